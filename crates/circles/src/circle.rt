@@ -1,6 +1,6 @@
 //! A circle of a digraph, as vertices in the order in which its arcs pass them.
 
-ghost use Rattle.std.specs.Prelude.{◌≡◌, ℕ, ◌<◌, ◌==◌, length, slice_index, nat_lt, IfOk};
+ghost use Rattle.std.specs.Prelude.{◌≡◌, ℕ, ◌<◌, length, slice_index, nat_lt, IfOk};
 ghost use Rattle.std.specs.List.{IsFirstBest};
 ghost use Rattle.circles.specs.Turn.{IsTurnedFrom};
 
@@ -22,20 +22,6 @@ impl Model for Circle {
 }
 
 impl Circle {
-    /// The number of vertices on the circle.
-    pub fn len(&self) -> usize
-        ensures { result ≡ length self.now }
-    {
-        self.members.len()
-    }
-
-    /// Whether no vertex is on it, which no circle that is found answers.
-    pub fn is_empty(&self) -> bool
-        ensures { result ≡ (length self.now == 0) }
-    {
-        self.members.is_empty()
-    }
-
     /// The vertices, in the order in which the arcs pass them.
     pub fn members(&self) -> &[u32]
         ensures { result.now ≡ self.now }

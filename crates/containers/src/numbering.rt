@@ -1,6 +1,6 @@
 //! Values numbered as first seen.
 
-ghost use Rattle.std.specs.Prelude.{◌≡◌, ◌↔◌, false, [], ◌∷◌, ◌++◌, length, not, position, slice_get, IsTrue, IfOk, IfSome, MatchOption, is_some, OnOk, OnErr};
+ghost use Rattle.std.specs.Prelude.{◌≡◌, false, [], ◌∷◌, ◌++◌, length, not, position, slice_get, IfOk, IfSome, MatchOption, is_some, OnOk, OnErr};
 ghost use Rattle.std.specs.List.{IsDistinct, position_or_len};
 ghost use Rattle.std.specs.Option.{option_copied};
 ghost use Rattle.std.specs.Set.{is_member};
@@ -52,13 +52,6 @@ impl<T: Eq + Hash> Numbering<T> {
         ensures { result ≡ length self.now }
     {
         self.values.len()
-    }
-
-    /// Whether no value has a number.
-    pub fn is_empty(&self) -> bool
-        ensures { IsTrue result ↔ (self.now ≡ []) }
-    {
-        self.as_slice().is_empty()
     }
 
     /// The value with the number `place`.

@@ -1,64 +1,28 @@
--- How many events there are, and the first of them from one on.
-use Rattle.std.proofs.Common.{◌≡◌, ℕ, zero, suc, ◌+◌, ◌-◌, ◌*◌, ◌/◌, ◌%◌, ◌^◌, ◌<◌, ◌≤◌, Bool, true, false, ◌&&◌, eqb, leb, List, [], ◌∷◌, ◌++◌, length, take, get_or, Some, refl, sym, ap, ◌⊎◌, inl, inr, le_refl, ◌∙◌, subst, add-one, arith, length-append, append_assoc}
+-- The first event from one on.
+use Rattle.std.proofs.Common.{◌≡◌, ℕ, zero, suc, ◌+◌, ◌-◌, ◌*◌, ◌/◌, ◌%◌, ◌^◌, ◌<◌, ◌≤◌, Bool, true, false, ◌&&◌, eqb, leb, List, [], ◌∷◌, ◌++◌, length, get_or, Some, refl, sym, ap, ◌⊎◌, inl, inr, le_refl, ◌∙◌, subst, add-one, arith, append_assoc}
 use Rattle.std.proofs.lemmas.Bool.{cases_eq, cases_lt, eq-eqb, le-leb, or_left, false≢true, and_right}
 use Rattle.std.proofs.lemmas.Nat.Bits.{bit_at-trailing_zeros, ones_shl, bit_at_mask_inside, bit_at_mask_below}
 use Rattle.std.proofs.lemmas.Nat.{and_le_l}
-use Rattle.std.proofs.lemmas.List.{take_more}
 use Rattle.std.proofs.Math.Pow.{shr_lt}
 use Rattle.std.specs.List.{find}
 use Rattle.std.specs.Int.{w64}
-use Rattle.std.specs.Int.Count.{ones, ones_in, ones_step, count_trailing_zeros}
+use Rattle.std.specs.Int.Count.{count_trailing_zeros}
 use Rattle.std.specs.Prelude.{◌==◌, bit_and}
 use Rattle.csp_base.specs.Events.{has}
 use Rattle.csp_base.specs.Blocks.{has_bit, word_at, word_events, AreBlocksFrom, events_of}
 use Rattle.csp_base.specs.Operations.{first_word, rest_after}
 use Rattle.csp_base.proofs.Rising.{RisesFrom, has_below, find_from_member, find_from_none}
-use Rattle.csp_base.proofs.BlockMembers.{AreBlocksFrom-weaken, word_at_below, word_at_first, has-events_of_at, has-events_of, RisesFrom-events_of, has_bit-zero, length-blocks}
+use Rattle.csp_base.proofs.BlockMembers.{AreBlocksFrom-weaken, word_at_below, word_at_first, has-events_of_at, has-events_of, RisesFrom-events_of, has_bit-zero}
 use Rattle.csp_base.proofs.MergeSteps.{first_word-word_at, has_bit-and, word_at-lt, AreBlocksFrom-rest_after, word_at-rest_after}
-use Rattle.csp_base.proofs.Places.{AreBlocksFrom-take}
-use Rattle.csp_base.proofs.Words.{length-word_events}
 
--- ---- how many
+-- ---- halves of words, and lists of blocks
 
 pub half_lt : (n w : ℕ) → w < 2 ^ suc n → w / 2 < 2 ^ n
 half_lt n w l = shr_lt n 1 (subst (λ k. w < 2 ^ k) (sym (add-one n)) l)
 
-ones_in-ones : (n w : ℕ) → w < 2 ^ n → ones_in n w ≡ ones w
-unfolding ones_in ones
-ones_in-ones zero w l = ap (ones_in 0) (let z : w ≡ 0 = omega arith in z) ∙ ap ones (let z : 0 ≡ w = omega arith in z)
-ones_in-ones (suc n) w l = ap (λ d. w % 2 + d) (ones_in-ones n (w / 2) (half_lt n w l)) ∙ sym (ones_step w)
-
 pub events_of-append : (ps qs : List (ℕ × ℕ)) → events_of (ps ++ qs) ≡ events_of ps ++ events_of qs
 events_of-append [] qs = refl
 events_of-append (p ∷ ps) qs = ap (λ xs. word_events 64 (64 * p.0) p.1 ++ xs) (events_of-append ps qs) ∙ sym (append_assoc (word_events 64 (64 * p.0) p.1) (events_of ps) (events_of qs))
-
-ones_in-le : (n w : ℕ) → ones_in n w ≤ n
-unfolding ones_in
-ones_in-le zero w = le_refl 0
-ones_in-le (suc n) w = let h = ones_in-le n (w / 2) in omega arith
-
-length-events_of-le : (ps : List (ℕ × ℕ)) → length (events_of ps) ≤ 64 * length ps
-length-events_of-le [] = omega arith
-length-events_of-le (p ∷ ps) =
-    let h = length-events_of-le ps in
-    let g = ones_in-le 64 p.1 in
-    omega (arith, length-append (word_events 64 (64 * p.0) p.1) (events_of ps), length-word_events 64 (64 * p.0) p.1)
-
-word_below : (n : ℕ) (ps : List (ℕ × ℕ)) (i : ℕ) (d : ℕ × ℕ) → AreBlocksFrom n ps → i < length ps → (get_or ps i d).1 < 2 ^ 64
-word_below n [] i d r l = absurd (omega arith)
-word_below n (p ∷ ps) zero d r l = r.3
-word_below n (p ∷ ps) (suc i) d r l = word_below (p.0 + 1) ps i d r.4 (omega arith)
-
-pub count_more : (ps : List (ℕ × ℕ)) (i : ℕ) (d : ℕ × ℕ) → AreBlocksFrom 0 ps → i < length ps → length (events_of (take (i + 1) ps)) ≡ length (events_of (take i ps)) + ones (get_or ps i d).1
-count_more ps i d r l =
-    let q : ℕ × ℕ = get_or ps i d in
-    ap (λ qs. length (events_of qs)) (take_more ps i d l)
-    ∙ ap length (events_of-append (take i ps) (q ∷ []))
-    ∙ length-append (events_of (take i ps)) (events_of (q ∷ []))
-    ∙ ap (λ n. length (events_of (take i ps)) + n) (length-append (word_events 64 (64 * q.0) q.1) [] ∙ (let e = length-word_events 64 (64 * q.0) q.1 in let f = ones_in-ones 64 q.1 (word_below 0 ps i d r l) in omega arith))
-
-pub count_fits : (ps : List (ℕ × ℕ)) (i : ℕ) → AreBlocksFrom 0 ps → length (events_of (take i ps)) ≤ 64 * 2 ^ 26
-count_fits ps i r = let h = length-blocks 0 (take i ps) (AreBlocksFrom-take 0 ps i r) in let g = length-events_of-le (take i ps) in omega arith
 
 -- ---- the first from a number on
 

@@ -1,8 +1,7 @@
--- The events of one word: its members are its bits, and there are as many as its ones.
-use Rattle.std.proofs.Common.{◌≡◌, ℕ, zero, suc, ◌+◌, ◌/◌, ◌%◌, ◌<◌, ◌≤◌, Bool, true, false, cond, eqb, List, [], ◌∷◌, length, refl, sym, ap, le_refl, ◌∙◌, subst, arith}
+-- The events of one word: its members are its bits.
+use Rattle.std.proofs.Common.{◌≡◌, ℕ, zero, suc, ◌+◌, ◌/◌, ◌<◌, ◌≤◌, Bool, true, false, cond, eqb, List, [], ◌∷◌, refl, sym, ap, le_refl, ◌∙◌, subst, arith}
 use Rattle.std.proofs.lemmas.Bool.{eq-eqb, ne_eqb}
-use Rattle.std.proofs.lemmas.Nat.Bits.{bit_at_lowest, bit_at-suc}
-use Rattle.std.specs.Int.Count.{ones_in}
+use Rattle.std.proofs.lemmas.Nat.Bits.{bit_at-suc}
 use Rattle.std.specs.Prelude.{◌==◌}
 use Rattle.csp_base.specs.Events.{has}
 use Rattle.csp_base.specs.Blocks.{has_bit, word_events}
@@ -54,26 +53,6 @@ has-word_events (suc n) from w (suc k) l =
     let place : from + suc k ≡ (from + 1) + k = omega arith in
     rw (word_events-step n from w) (later_of_word (has_bit w 0) from (from + suc k) (word_events n (from + 1) (w / 2)) (omega arith)
     ∙ ap (has (word_events n (from + 1) (w / 2))) place ∙ has-word_events n (from + 1) (w / 2) k (omega arith) ∙ sym (has_bit-suc w k))
-
-length_of_word : (b : Bool) (from : ℕ) (rest : List ℕ) → length (cond b (from ∷ rest) rest) ≡ cond b 1 0 + length rest
-length_of_word true from rest = omega arith
-length_of_word false from rest = omega arith
-
-digit_count : (d : ℕ) → d < 2 → cond (eqb d 1) 1 0 ≡ d
-digit_count zero l = refl
-digit_count (suc zero) l = refl
-digit_count (suc (suc d)) l = absurd (omega arith)
-
-bit_count : (w : ℕ) → cond (has_bit w 0) 1 0 ≡ w % 2
-bit_count w = rw (bit_at_lowest w) (digit_count (w % 2) (omega arith))
-
-pub length-word_events : (n from w : ℕ) → length (word_events n from w) ≡ ones_in n w
-unfolding word_events ones_in
-length-word_events zero from w = refl
-length-word_events (suc n) from w =
-    length_of_word (has_bit w 0) from (word_events n (from + 1) (w / 2))
-    ∙ ap (λ d. d + length (word_events n (from + 1) (w / 2))) (bit_count w)
-    ∙ ap (λ d. w % 2 + d) (length-word_events n (from + 1) (w / 2))
 
 pub word_events-zero : (n from : ℕ) → word_events n from 0 ≡ []
 unfolding word_events

@@ -1,6 +1,6 @@
 //! Blocks of 64 events: the work of event sets, over slices and vectors of blocks.
 
-ghost use Rattle.std.specs.Prelude.{◌≡◌, ◌==◌, ◌||◌, nat_eq, nat_le, ℕ, ◌+◌, ◌≤◌, length, take, drop, true, false, IfOk, OnOk, OnErr};
+ghost use Rattle.std.specs.Prelude.{◌≡◌, ◌==◌, ◌||◌, nat_eq, nat_le, ℕ, ◌≤◌, length, take, drop, true, false, IfOk, OnOk, OnErr};
 ghost use Rattle.std.specs.Bool.{OnTrue, OnFalse};
 ghost use Rattle.std.specs.Cmp.Lexicographic.{pointwise};
 ghost use Rattle.std.specs.List.{find};
@@ -181,18 +181,6 @@ pub(crate) fn contains(blocks: &[(u32, u64)], event: u32) -> bool
     let number = event / 64;
     let word = word_at_front(blocks_from(blocks, number), number);
     (word >> (event % 64)) & 1 == 1
-}
-
-/// How many events there are.
-pub(crate) fn count(blocks: &[(u32, u64)]) -> usize
-    requires { AreBlocks blocks.now }
-    ensures { result ≡ length (events_of blocks.now) }
-{
-    let mut total = 0;
-    for block in blocks {
-        total += block.1.count_ones() as usize;
-    }
-    total
 }
 
 /// The first event of all.

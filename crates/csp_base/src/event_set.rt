@@ -1,7 +1,7 @@
 //! Events and sets of events. A set is kept as blocks of 64 events, and contracts see the strictly rising list of its
 //! members.
 
-ghost use Rattle.std.specs.Prelude.{◌≡◌, ◌↔◌, ◌||◌, ◌&&◌, ◌+◌, ◌*◌, ◌<◌, Some, not, nat_eq, nat_le, refl, ℕ, List, [], length, IsTrue, IfOk, OnOk, OnErr};
+ghost use Rattle.std.specs.Prelude.{◌≡◌, ◌↔◌, ◌||◌, ◌&&◌, ◌+◌, ◌*◌, ◌<◌, Some, not, nat_eq, nat_le, refl, ℕ, List, [], IsTrue, IfOk, OnOk, OnErr};
 ghost use Rattle.std.proofs.Common.{rules};
 ghost use Rattle.std.specs.Cmp.Lexicographic.{pointwise, slice_cmp, nat_list_cmp_total, texts_ties, texts_po, bytes_decides};
 ghost use Rattle.std.specs.Cmp.Rules.{comparing};
@@ -49,7 +49,6 @@ impl Drop for EventSet {
 
 impl Model for EventSet {
     ghost use Rattle.std.specs.Prelude.{List, ℕ};
-    ghost use Rattle.std.specs.Ordering.{nat_cmp};
     ghost use Rattle.csp_base.specs.Blocks.{AreBlocks, events_of};
 
     ghost Value = { List ℕ };
@@ -86,14 +85,6 @@ impl EventSet {
     {
         let blocks = blocks::collected(alloc, events)?;
         Ok(EventSet { blocks })
-    }
-
-    /// How many events there are.
-    pub fn len(&self) -> usize
-        ensures count { result ≡ length self.now }
-        ensures rising { IsStrictlyIncreasing self.now }
-    {
-        blocks::count(&self.blocks)
     }
 
     /// Whether there are none.

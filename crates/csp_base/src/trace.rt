@@ -1,6 +1,6 @@
 //! Traces: lists of events in the order in which they happened.
 
-ghost use Rattle.std.specs.Prelude.{◌≡◌, ◌↔◌, List, [], ◌∷◌, ◌++◌, length, slice_get, IsTrue, IfOk, OnOk, OnErr, nat_eq};
+ghost use Rattle.std.specs.Prelude.{◌≡◌, List, [], ◌∷◌, ◌++◌, length, IfOk, OnOk, OnErr, nat_eq};
 ghost use Rattle.std.proofs.Common.{rules};
 ghost use Rattle.std.specs.Cmp.Lexicographic.{pointwise, bytes_decides};
 ghost use Rattle.std.specs.Cmp.Rules.{comparing};
@@ -59,20 +59,6 @@ impl Trace {
         self.events.len()
     }
 
-    /// Whether there are none.
-    pub fn is_empty(&self) -> bool
-        ensures { IsTrue result ↔ (self.now ≡ []) }
-    {
-        self.events.is_empty()
-    }
-
-    /// The event at a place, counted from 0.
-    pub fn get(&self, place: usize) -> Option<Event>
-        ensures { result ≡ slice_get self.now place }
-    {
-        self.events.as_slice().get(place).copied()
-    }
-
     /// Adds an event at the end. An error changes nothing.
     pub fn push(&mut self, event: Event) -> Result<(), NoMemory>
         ensures ok { OnOk result (self.new ≡ self.old ++ event ∷ []) }
@@ -80,13 +66,6 @@ impl Trace {
     {
         self.events.push(event)?;
         Ok(())
-    }
-
-    /// A second trace of the same events.
-    pub fn try_clone(&self, alloc: Global) -> Result<Self, NoMemory>
-        ensures { IfOk result (λ copy. copy ≡ self.now) }
-    {
-        Trace::from_slice(alloc, self.as_slice())
     }
 }
 

@@ -49,7 +49,7 @@ impl Tokens {
     {
         self.tokens.push(token)?;
         if let Err(fault) = self.places.push(at) {
-            let_go(self.tokens.pop());
+            drop(self.tokens.pop());
             return Err(fault);
         }
         Ok(())
@@ -105,9 +105,6 @@ impl Tokens {
         }
     }
 }
-
-// Ends the value here, and not where it would be ended among other things.
-fn let_go<T: Drop>(_value: T) {}
 
 // The items and then more of them.
 fn joined_items<T: Drop>(items: Items<T>, more: Items<T>) -> Result<Items<T>, NoMemory>

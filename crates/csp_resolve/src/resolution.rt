@@ -107,7 +107,7 @@ fn with_events(
     match put_events(meanings, decls, &mut content) {
         Ok(()) => Ok(content),
         Err(fault) => {
-            let_go(content);
+            drop(content);
             Err(fault)
         }
     }
@@ -138,6 +138,3 @@ fn expect_few(content: &Content) -> Result<(), NoMemory>
     short(content.consts.len())?;
     short(content.defs.len()).map(|_count| ())
 }
-
-// Ends a value.
-fn let_go<T: Drop>(_value: T) {}

@@ -4,7 +4,7 @@ ghost use Rattle.std.specs.Prelude.{◌≡◌, ◌+◌, ◌-◌, max, map};
 ghost use Rattle.csp_text.specs.Depth.{capped, field_depth, gen_depth, greatest_of_pairs, part_depth, tree_depth};
 ghost use Rattle.csp_base.specs.Lists.{greatest};
 
-use crate::tree::{EventTree, FieldTree, GenTree, PartTree, Tree};
+use crate::tree::{FieldTree, GenTree, PartTree, Tree};
 
 // The greater of two depths.
 fn greater(a: u32, b: u32) -> u32

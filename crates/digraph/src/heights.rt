@@ -1,6 +1,6 @@
 //! A number for each vertex of a digraph.
 
-ghost use Rattle.std.specs.Prelude.{◌≡◌, ◌==◌, ◌<◌, ℕ, length, slice_index};
+ghost use Rattle.std.specs.Prelude.{◌≡◌, ◌<◌, ℕ, length, slice_index};
 
 use std::marker::Model;
 
@@ -30,20 +30,6 @@ impl Heights {
         ensures { result ≡ numbers.items }
     {
         Heights { numbers }
-    }
-
-    /// The number of vertices.
-    pub fn len(&self) -> usize
-        ensures { result ≡ length self.now }
-    {
-        self.numbers.len()
-    }
-
-    /// Whether there is no vertex.
-    pub fn is_empty(&self) -> bool
-        ensures { result ≡ (length self.now == 0) }
-    {
-        self.numbers.is_empty()
     }
 
     /// The height of `v`.

@@ -50,13 +50,6 @@ impl Rows {
         self.rows.len()
     }
 
-    /// Whether there is no vertex.
-    pub fn is_empty(&self) -> bool
-        ensures { result ≡ (length self.now == 0) }
-    {
-        self.rows.is_empty()
-    }
-
     /// The targets of the arcs that leave `v`, in the order in which the arcs were added.
     pub fn targets(&self, v: u32) -> &[u32]
         requires { v < length self.now }

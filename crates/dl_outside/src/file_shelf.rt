@@ -22,7 +22,6 @@ pub struct FileShelf<'a, R> {
 }
 
 impl<'a, R> Model for FileShelf<'a, R> {
-    ghost use Rattle.dl_outside.specs.Count.{one_more};
     ghost use Rattle.dl_outside.specs.FileShelf.{FileCounts};
 
     ghost Value = { FileCounts };

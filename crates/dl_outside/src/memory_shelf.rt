@@ -1,15 +1,14 @@
 //! A shelf in memory, some of whose loads can be made to fail.
 
 ghost use Rattle.std.specs.Prelude.{◌≡◌, ◌+◌, ◌<◌, ◌≤◌, ◌↔◌, [], Some, OnOk, OnErr, IsTrue};
-ghost use Rattle.std.specs.Option.{option_copied};
 ghost use Rattle.dl_outside.specs.Count.{HasRisen};
 ghost use Rattle.dl_outside.specs.FaultPlan.{new_plan, fails_next, after_call};
 ghost use Rattle.dl_outside.specs.Load.{LoadAnswers};
-ghost use Rattle.dl_outside.specs.Texts.{text_of, PutsText};
+ghost use Rattle.dl_outside.specs.Texts.{PutsText};
 
 use crate::fault_plan::PlannedFaults;
 use crate::shelf::{LoadFault, Shelf};
-use crate::texts::{NamedText, copy_text, find_text, put_text};
+use crate::texts::{NamedText, copy_text, put_text};
 use csp_base::{Bytes, NoMemory};
 use std::alloc::Global;
 use std::marker::Model;
@@ -48,13 +47,6 @@ impl MemoryShelf {
     {
         let alloc = *self.texts.allocator();
         put_text(alloc, &mut self.texts, name, bytes)
-    }
-
-    /// The text of this name.
-    pub fn text(&self, name: &[u8]) -> Option<&[u8]>
-        ensures { option_copied result ≡ text_of self.now.texts name.now }
-    {
-        find_text(&self.texts, name)
     }
 }
 

@@ -1,12 +1,11 @@
 //! A shelf in memory whose loads never fail.
 
 ghost use Rattle.std.specs.Prelude.{◌≡◌, [], Some, OnOk, OnErr};
-ghost use Rattle.std.specs.Option.{option_copied};
 ghost use Rattle.dl_outside.specs.Load.{AnswersTold};
-ghost use Rattle.dl_outside.specs.Texts.{text_of, PutsText};
+ghost use Rattle.dl_outside.specs.Texts.{PutsText};
 
 use crate::shelf::{LoadFault, Shelf};
-use crate::texts::{NamedText, copy_text, find_text, put_text};
+use crate::texts::{NamedText, copy_text, put_text};
 use csp_base::{Bytes, NoMemory};
 use std::alloc::Global;
 use std::marker::Model;
@@ -43,13 +42,6 @@ impl SureShelf {
     {
         let alloc = *self.texts.allocator();
         put_text(alloc, &mut self.texts, name, bytes)
-    }
-
-    /// The text of this name.
-    pub fn text(&self, name: &[u8]) -> Option<&[u8]>
-        ensures { option_copied result ≡ text_of self.now name.now }
-    {
-        find_text(&self.texts, name)
     }
 }
 

@@ -8,7 +8,7 @@ ghost use Rattle.std.specs.List.{position_or_len};
 ghost use Rattle.containers.specs.Members.{with_new};
 
 use containers::{Items, Numbering};
-use csp_base::{Event, NoMemory};
+use csp_base::NoMemory;
 use csp_tables::NormNode;
 use std::alloc::Global;
 

@@ -79,7 +79,7 @@ fn add_channel(
     match sets_at(all, made.len()) {
         Some(sets) => add_filled(alloc, made, first, channel, sets),
         None => {
-            let_go(channel);
+            drop(channel);
             Ok(first)
         }
     }
@@ -101,7 +101,7 @@ fn add_filled(
     match copy_sets(alloc, sets) {
         Ok(fields) => push_filled(made, first, channel, fields).map(|()| next),
         Err(error) => {
-            let_go(channel);
+            drop(channel);
             Err(error)
         }
     }
@@ -121,6 +121,3 @@ fn push_filled(
     made.push(channel)?;
     Ok(())
 }
-
-// Ends a value.
-fn let_go<T: Drop>(_value: T) {}

@@ -5,7 +5,7 @@ ghost use Rattle.csp_program.specs.EventTable as meant;
 
 use crate::rows::rows;
 use containers::Items;
-use csp_atoms::{Atom, AtomSet};
+use csp_atoms::Atom;
 use csp_base::NoMemory;
 use csp_program::{Channel, EventInfo};
 use name_tables::declared::next;

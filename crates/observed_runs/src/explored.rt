@@ -36,14 +36,6 @@ impl Explored {
         Explored { pairs, origins }
     }
 
-    /// How many pairs there are.
-    pub fn len(&self) -> usize
-        ensures count { result ≡ length self.now.pairs }
-        ensures some { 0 < length self.now.pairs }
-    {
-        self.pairs.len()
-    }
-
     /// The pairs of a node and a state.
     pub fn pairs(&self) -> &[(u32, u32)]
         ensures { result.now ≡ self.now.pairs }

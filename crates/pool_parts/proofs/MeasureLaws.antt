@@ -94,13 +94,6 @@ expr_parts m e f d n s is rolls depth size h g =
     let w = expr_measures e f d is rolls in
     (whole m.depth n (expr_depth e) (form_depth d) w.0 depth h, whole m.size s (expr_size e) (form_size d) w.1 size g)
 
--- and of a process
-pub proc_parts : (m : Measure) (p q : Proc) (d : Proc-F Proc) (n s : ℕ) → p ≡ q → roll-Proc d ≡ q → proc_form_depth d ≡ 1 + n → proc_form_size d ≡ 1 + s → m.depth ≡ capped n → m.size ≡ capped s
-    → (capped (1 + m.depth) ≡ capped (proc_depth p)) × (capped (1 + m.size) ≡ capped (proc_size p))
-proc_parts m p q d n s is rolls depth size h g =
-    let w = proc_measures p q d is rolls in
-    (whole m.depth n (proc_depth p) (proc_form_depth d) w.0 depth h, whole m.size s (proc_size p) (proc_form_size d) w.1 size g)
-
 -- of an expression with a list of expressions, and of one over another, as they are read
 pub expr_list : (m : Measure) (e f : Expr) (d : Expr-F Expr Gen EventPart) (xs es : List Expr) → xs ≡ es → e ≡ f → roll-Expr d ≡ f
     → form_depth d ≡ 1 + greatest (map expr_depth es) → form_size d ≡ 1 + total (map expr_size es)
@@ -112,19 +105,7 @@ pub expr_over : (m : Measure) (e f : Expr) (d : Expr-F Expr Gen EventPart) (x a 
     → m.depth ≡ capped (expr_depth x) → m.size ≡ capped (expr_size x) → (capped (1 + m.depth) ≡ capped (expr_depth e)) × (capped (1 + m.size) ≡ capped (expr_size e))
 expr_over m e f d x a read is rolls depth size h g = expr_parts m e f d (expr_depth a) (expr_size a) is rolls depth size (h ∙ ap (λ (y : Expr). capped (expr_depth y)) read) (g ∙ ap (λ (y : Expr). capped (expr_size y)) read)
 
--- of a choice, as its processes are read
-pub proc_list : (m : Measure) (p q : Proc) (d : Proc-F Proc) (xs ps : List Proc) → xs ≡ ps → p ≡ q → roll-Proc d ≡ q
-    → proc_form_depth d ≡ 1 + greatest (map proc_depth ps) → proc_form_size d ≡ 1 + total (map proc_size ps)
-    → m.depth ≡ capped (greatest (map proc_depth xs)) → m.size ≡ capped (total (map proc_size xs)) → (capped (1 + m.depth) ≡ capped (proc_depth p)) × (capped (1 + m.size) ≡ capped (proc_size p))
-proc_list m p q d xs ps read is rolls depth size h g =
-    proc_parts m p q d (greatest (map proc_depth ps)) (total (map proc_size ps)) is rolls depth size (h ∙ ap (λ (ys : List Proc). capped (greatest (map proc_depth ys))) read) (g ∙ ap (λ (ys : List Proc). capped (total (map proc_size ys))) read)
-
 -- of an expression with parts of two kinds
 pub expr_both : (m : Measure) (e f : Expr) (d : Expr-F Expr Gen EventPart) (n s r : ℕ) → e ≡ f → roll-Expr d ≡ f → form_depth d ≡ 1 + n → form_size d ≡ 1 + s + r → m.depth ≡ capped n → m.size ≡ capped (s + r)
     → (capped (1 + m.depth) ≡ capped (expr_depth e)) × (capped (1 + m.size) ≡ capped (expr_size e))
 expr_both m e f d n s r is rolls depth size h g = expr_parts m e f d n (s + r) is rolls depth (size ∙ two_sums s r) h g
-
--- of a process with parts of two kinds
-pub proc_both : (m : Measure) (p q : Proc) (d : Proc-F Proc) (n s r : ℕ) → p ≡ q → roll-Proc d ≡ q → proc_form_depth d ≡ 1 + n → proc_form_size d ≡ 1 + s + r → m.depth ≡ capped n → m.size ≡ capped (s + r)
-    → (capped (1 + m.depth) ≡ capped (proc_depth p)) × (capped (1 + m.size) ≡ capped (proc_size p))
-proc_both m p q d n s r is rolls depth size h g = proc_parts m p q d n (s + r) is rolls depth (size ∙ two_sums s r) h g

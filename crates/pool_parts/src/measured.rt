@@ -1,14 +1,14 @@
 //! What expressions and processes measure.
 
 ghost use Rattle.std.specs.Prelude.{◌≡◌, ◌+◌, max, map};
-ghost use Rattle.csp_program.specs.Depth.{expr_depth, gen_depth, part_depth, pair_depth, field_depth, proc_depth};
-ghost use Rattle.csp_program.specs.Size.{elements_of, expr_size, gen_size, part_size, pair_size, field_size, proc_size};
+ghost use Rattle.csp_program.specs.Depth.{expr_depth, gen_depth, part_depth, pair_depth, field_depth};
+ghost use Rattle.csp_program.specs.Size.{elements_of, expr_size, gen_size, part_size, pair_size, field_size};
 ghost use Rattle.pool_parts.specs.Counting.{capped};
 ghost use Rattle.csp_base.specs.Lists.{greatest, total};
 
 use crate::measure::{Measure, counted, elements, node, nothing, together};
 use containers::{Boxed, Items};
-use csp_program::{EventPart, Expr, Field, Gen, Proc, Value};
+use csp_program::{EventPart, Expr, Field, Gen, Value};
 
 // The elements of the sets of a value.
 fn of_value(value: &Value) -> Measure
@@ -180,87 +180,6 @@ pub fn of_pairs(pairs: &[(EventPart, EventPart)]) -> Measure
     let mut all = nothing();
     for pair in pairs {
         all = together(all, of_pair(pair));
-    }
-    all
-}
-
-/// What a process measures.
-#[cycle(of_proc)]
-pub fn of_proc(proc: &Proc) -> Measure
-    ensures depth { result.depth ≡ capped (proc_depth proc.now) }
-    ensures size { result.size ≡ capped (proc_size proc.now) }
-{
-    node(of_parts_of_proc(proc))
-}
-
-// What the parts of a process measure together.
-#[cycle(of_proc)]
-fn of_parts_of_proc(proc: &Proc) -> Measure
-    ensures { (capped (1 + result.depth) ≡ capped (proc_depth proc.now)) × (capped (1 + result.size) ≡ capped (proc_size proc.now)) }
-{
-    match proc {
-        Proc::Stop => nothing(),
-        Proc::Prefix(_, fields, p) => of_prefix(fields, p),
-        Proc::Guard(c, p) => of_under(c, p),
-        Proc::If(c, p, q) => together(of_expr(c), of_two(p, q)),
-        Proc::External(procs) => of_procs(procs.as_slice()),
-        Proc::Internal(procs) => of_procs(procs.as_slice()),
-        Proc::EachExternal(_, set, p) => of_under(set, p),
-        Proc::EachInternal(_, set, p) => of_under(set, p),
-        Proc::Hide(p, set) => of_under(set, p),
-        Proc::Rename(p, pairs, gens) => of_renaming(p, pairs, gens),
-        Proc::Call(_, args) => of_exprs(args.as_slice()),
-        Proc::Skip => nothing(),
-        Proc::Seq(p, q) => of_two(p, q),
-        Proc::Ended => nothing(),
-    }
-}
-
-// What a process measures together with the expression over it.
-#[cycle(of_proc)]
-fn of_under(expr: &Expr, p: &Boxed<Proc>) -> Measure
-    ensures depth { result.depth ≡ capped (max (expr_depth expr.now) (proc_depth p.now)) }
-    ensures size { result.size ≡ capped (expr_size expr.now + proc_size p.now) }
-{
-    together(of_expr(expr), of_proc(p.get()))
-}
-
-// What two processes measure together.
-#[cycle(of_proc)]
-fn of_two(p: &Boxed<Proc>, q: &Boxed<Proc>) -> Measure
-    ensures depth { result.depth ≡ capped (max (proc_depth p.now) (proc_depth q.now)) }
-    ensures size { result.size ≡ capped (proc_size p.now + proc_size q.now) }
-{
-    together(of_proc(p.get()), of_proc(q.get()))
-}
-
-// What the parts of a prefix measure together.
-#[cycle(of_proc)]
-fn of_prefix(fields: &Items<Field>, p: &Boxed<Proc>) -> Measure
-    ensures depth { result.depth ≡ capped (max (greatest (map field_depth fields.now)) (proc_depth p.now)) }
-    ensures size { result.size ≡ capped (total (map field_size fields.now) + proc_size p.now) }
-{
-    together(of_fields(fields.as_slice()), of_proc(p.get()))
-}
-
-// What the parts of a renaming measure together.
-#[cycle(of_proc)]
-fn of_renaming(p: &Boxed<Proc>, pairs: &Items<(EventPart, EventPart)>, gens: &Items<Gen>) -> Measure
-    ensures depth { result.depth ≡ capped (max (proc_depth p.now) (max (greatest (map pair_depth pairs.now)) (greatest (map gen_depth gens.now)))) }
-    ensures size { result.size ≡ capped (proc_size p.now + total (map pair_size pairs.now) + total (map gen_size gens.now)) }
-{
-    let parts = together(of_pairs(pairs.as_slice()), of_gens(gens.as_slice()));
-    together(of_proc(p.get()), parts)
-}
-
-#[cycle(of_proc)]
-fn of_procs(procs: &[Proc]) -> Measure
-    ensures depth { result.depth ≡ capped (greatest (map proc_depth procs.now)) }
-    ensures size { result.size ≡ capped (total (map proc_size procs.now)) }
-{
-    let mut all = nothing();
-    for proc in procs {
-        all = together(all, of_proc(proc));
     }
     all
 }

@@ -1,5 +1,8 @@
 //! A pool of terms, in which each process stands once, with its depth, which is how far its parts are nested, and its size, which is how many parts
 //! it has, the elements of sets that were put in among them.
+
+
+//! A pool of terms, in which each stands once, with its depth and its size.
 #![tactic(auto)]
 
 mod below;
@@ -14,10 +17,8 @@ mod own_parts;
 pub mod pool;
 mod put;
 mod substitute;
-pub mod terms;
 mod under;
 
 pub use node::Node;
 pub use pool::Pool;
 pub use pool_parts::ProcId;
-pub use terms::{term_depth, term_size};

@@ -1,6 +1,6 @@
 //! A pool of processes: each stands in it once, and its sub-processes stand at smaller places.
 
-ghost use Rattle.std.specs.Prelude.{◌≡◌, ◌↔◌, IsTrue, ◌<◌, [], true, length, slice_get, IfOk, OnErr, Some};
+ghost use Rattle.std.specs.Prelude.{◌≡◌, ◌<◌, [], true, length, slice_get, IfOk, OnErr, Some};
 ghost use Rattle.csp_program.specs.Depth.{proc_depth};
 ghost use Rattle.csp_program.specs.Size.{proc_size};
 ghost use Rattle.csp_program.specs.Substitution.{proc_with};
@@ -129,17 +129,6 @@ impl Pool {
         ensures { ProcLow result (tree_at self.now id) }
     {
         least_at(self.leasts.as_slice(), id)
-    }
-
-    /// Whether the processes at two places are one process.
-    pub fn same(&self, left: ProcId, right: ProcId) -> bool
-        requires left { left.0 < length self.now }
-        requires right { right.0 < length self.now }
-        ensures { IsTrue result ↔ (tree_at self.now left ≡ tree_at self.now right) }
-    {
-        // Its contract says that no process stands at two places.
-        let _ = self.len();
-        left.0 == right.0
     }
 
     /// The place of the process that the node is with the processes at its places. A new one goes to the end; for one that is known no memory is needed.

@@ -1,5 +1,0 @@
-use Rattle.csp_base.proofs.Sets.{set_increases}
-use Rattle.csp_base.proofs.event_set.EventSet.len.Goals as goal
-
-pub returns-clause-rising : goal.returns-clause-rising
-returns-clause-rising c = set_increases _ _ c.self.invariant c.self.view_is
