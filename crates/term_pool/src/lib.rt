@@ -1,8 +1,5 @@
 //! A pool of terms, in which each process stands once, with its depth, which is how far its parts are nested, and its size, which is how many parts
 //! it has, the elements of sets that were put in among them.
-
-
-//! A pool of terms, in which each stands once, with its depth and its size.
 #![tactic(auto)]
 
 mod below;
