@@ -17,7 +17,7 @@ use Rattle.digraph.specs.Walk.{Walk}
 use Rattle.local_tables.specs.Component.{AreSteps, AreTerms, HasList}
 use Rattle.local_tables.specs.LocalTable.{IsLocalTable}
 use Rattle.local_tables.specs.declared.local_table.LocalTable.{LocalTable}
-use Rattle.local_tables.specs.declared.local_table.Room.{Room}
+use Rattle.local_tables.specs.Room.{Room}
 use Rattle.local_tables.proofs.Excluding.{excluded}
 use Rattle.net_sound.proofs.Heights.{heights_are_exact}
 use Rattle.net_sound.proofs.Numbered.{stands}

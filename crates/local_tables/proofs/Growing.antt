@@ -22,7 +22,7 @@ use Rattle.pool_parts.specs.declared.place.ProcId.{ProcId}
 use Rattle.local_tables.specs.Component.{AreSteps, AreTerms}
 use Rattle.local_tables.specs.Progress.{AreFound, AreLed, ArePart, HasMoreTerms, IsAdded, IsFitting, IsSoFar, IsWithin, Origin, Steps, counted_size, label_of, terms_at}
 use Rattle.local_tables.specs.declared.found.Found.{Found}
-use Rattle.local_tables.specs.declared.local_table.Room.{Room}
+use Rattle.local_tables.specs.Room.{Room}
 use Rattle.local_tables.proofs.Labels.{reached_on}
 use Rattle.local_tables.proofs.Lists.{inside_still, once_push, terms_kept, total_push, under_map}
 use Rattle.csp_base.proofs.Lists.{push_cases, map_push, slice_get_last}

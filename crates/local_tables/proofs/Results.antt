@@ -10,7 +10,7 @@ use Rattle.process_steps.specs.StepList.{steps_of}
 use Rattle.value_operators.specs.declared.fault.EvalFault.{EvalFault}
 use Rattle.value_operators.specs.declared.fault.EvalFault.TheVariants as evaluation
 use Rattle.local_tables.specs.Faults.{Lacks, Reaches, valueless}
-use Rattle.local_tables.specs.declared.local_table.Room.{Room}
+use Rattle.local_tables.specs.Room.{Room}
 
 pub err_is : {T E : Type 0} (r : Result T E) (e : E) (P : E → Type 0) → IsErrAnd r (λ z. z ≡ e) → P e → IfErr r P
 err_is (Ok x) e P is h = tt

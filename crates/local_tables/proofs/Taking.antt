@@ -21,7 +21,7 @@ use Rattle.local_tables.specs.Component.{AreSteps, HasList, step_count}
 use Rattle.local_tables.specs.Progress.{AreFollowed, AreFound, AreTaken, ComesFrom, HasMore, HasMoreTerms, HasStepMore, IsAt, IsFollowed, IsInside, IsSoFar, IsTaken, IsUpTo, IsWithin, LeadsTo, LeadsToTerm, Origin, Steps, process_label, terms_at}
 use Rattle.local_tables.specs.Faults.{CanEnd}
 use Rattle.local_tables.specs.declared.found.Found.{Found}
-use Rattle.local_tables.specs.declared.local_table.Room.{Room}
+use Rattle.local_tables.specs.Room.{Room}
 use Rattle.local_tables.proofs.Growing.{found_kept, in_table_more, same_step}
 use Rattle.local_tables.proofs.Labels.{component_step, inside_of, label_is, no_tick, process_step, step_is, step_stands}
 use Rattle.local_tables.proofs.Lists.{map_at, nothing_at, once_push, one_at, terms_kept, under_map}

@@ -6,7 +6,7 @@ use Rattle.csp_tables.specs.Network.{Component}
 use Rattle.local_tables.specs.Faults.{LacksTable}
 use Rattle.local_tables.specs.LocalTable.{IsLocalTable}
 use Rattle.local_tables.specs.declared.local_table.LocalTable.{LocalTable}
-use Rattle.local_tables.specs.declared.local_table.Room.{Room}
+use Rattle.local_tables.specs.Room.{Room}
 use Rattle.process_steps.specs.declared.component_fault.ComponentFault.{ComponentFault}
 
 abbrev pub FaultsExcludeTables : Type 0

@@ -3,3 +3,4 @@ pub mod Faults
 pub mod Laws
 pub mod LocalTable
 pub mod Progress
+pub mod Room

@@ -10,7 +10,7 @@ use Rattle.csp_tables.specs.RawTable.{IsTableOf}
 use Rattle.process_steps.specs.ComponentStep.{ProcessStep, Ticks}
 use Rattle.local_tables.specs.Component.{HasList, step_count}
 use Rattle.local_tables.specs.declared.local_table.LocalTable.{LocalTable}
-use Rattle.local_tables.specs.declared.local_table.Room.{Room}
+use Rattle.local_tables.specs.Room.{Room}
 use Rattle.csp_base.specs.Lists.{total}
 
 -- The steps of the term are there, it cannot end, and it is not too deep.

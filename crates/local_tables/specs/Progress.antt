@@ -21,7 +21,7 @@ use Rattle.pool_parts.specs.Counting.{capped}
 use Rattle.pool_parts.specs.declared.place.ProcId.{ProcId}
 use Rattle.local_tables.specs.Component.{AreSteps, AreTerms, HasList, step_count}
 use Rattle.local_tables.specs.declared.found.Found.{Found}
-use Rattle.local_tables.specs.declared.local_table.Room.{Room}
+use Rattle.local_tables.specs.Room.{Room}
 use Rattle.csp_base.specs.Lists.{total}
 
 -- the number of a term, with the event of a step from it, if it has one

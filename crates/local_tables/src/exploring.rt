@@ -36,7 +36,6 @@ pub fn explore(
     alphabet: &EventSet,
     room: Room,
 ) -> Result<LocalTable, Unexplored>
-    requires nodes { room.nodes < 4294967295 }
     ensures table { IfOk result (IsLocalTable program.now (component alphabet.now start.now) room) }
     ensures fault { IfErr result (Lacks program.now (component alphabet.now start.now) room) }
 {
@@ -52,7 +51,6 @@ pub fn explore(
 
 // The table of the task's component.
 fn table_of(alloc: Global, task: &Task<'_>) -> Result<LocalTable, Unexplored>
-    requires room { task.now.room.nodes < 4294967295 }
     ensures table { IfOk result (IsLocalTable task.now.program.now (component task.now.alphabet.now task.now.start.now) task.now.room) }
     ensures fault { IfErr result (Lacks task.now.program.now (component task.now.alphabet.now task.now.start.now) task.now.room) }
 {
@@ -64,7 +62,6 @@ fn table_of(alloc: Global, task: &Task<'_>) -> Result<LocalTable, Unexplored>
 
 // The same, from where nothing is found yet.
 fn explored(alloc: Global, task: &Task<'_>, found: &mut Found) -> Result<LocalTable, Unexplored>
-    requires room { task.now.room.nodes < 4294967295 }
     requires pool { found.old.pool ≡ [] }
     requires terms { found.old.terms ≡ [] }
     requires origins { found.old.origins.items ≡ [] }
@@ -73,8 +70,9 @@ fn explored(alloc: Global, task: &Task<'_>, found: &mut Found) -> Result<LocalTa
     ensures fault { IfErr result (Lacks task.now.program.now (component task.now.alphabet.now task.now.start.now) task.now.room) }
 {
     fill(alloc, task, found)?;
-    let room = task.room;
-    Ok(finished(alloc, found, room))
+    // Its contract says that sizes within the room are below where they stop.
+    let _ = task.room.nodes();
+    Ok(finished(alloc, found, task.room))
 }
 
 // The table, once all terms are followed.
@@ -85,20 +83,19 @@ fn finished(alloc: Global, found: &mut Found, room: Room) -> LocalTable
     ensures nodes { result.used.nodes ≡ found.old.nodes }
     ensures steps { result.used.steps ≡ step_count found.old.table }
 {
+    // Their contracts say that what is used of the room fits in it.
+    let _ = room.nodes();
+    let _ = room.steps();
     let steps = found.table.silent().len() + found.table.steps().len();
     let table = mem::replace(&mut found.table, RawTable::new(alloc));
     LocalTable {
         table,
-        used: Room {
-            nodes: found.nodes as u32,
-            steps: steps as u32,
-        },
+        used: Room::new(found.nodes as u32, steps as u32),
     }
 }
 
 // Follows the first term, and each that is found.
 fn fill(alloc: Global, task: &Task<'_>, found: &mut Found) -> Result<(), Unexplored>
-    requires room { task.now.room.nodes < 4294967295 }
     requires pool { found.old.pool ≡ [] }
     requires terms { found.old.terms ≡ [] }
     requires origins { found.old.origins.items ≡ [] }
@@ -118,7 +115,6 @@ fn follow_all(
     found: &mut Found,
     evaluated: &mut Evaluated,
 ) -> Result<(), Unexplored>
-    requires room { task.now.room.nodes < 4294967295 }
     requires fits { Fits task.now.program.now found.old.pool evaluated.old }
     requires up_to { IsUpTo task.now.program.now (component task.now.alphabet.now task.now.start.now) task.now.room found.old 0 }
     ensures up_to { OnOk result (IsUpTo task.now.program.now (component task.now.alphabet.now task.now.start.now) task.now.room found.new found.new.table.count) }
@@ -140,7 +136,6 @@ fn follow(
     evaluated: &mut Evaluated,
     at: u32,
 ) -> Result<(), Unexplored>
-    requires room { task.now.room.nodes < 4294967295 }
     requires here { at < length found.old.terms }
     requires fits { Fits task.now.program.now found.old.pool evaluated.old }
     requires up_to { IsUpTo task.now.program.now (component task.now.alphabet.now task.now.start.now) task.now.room found.old at }
@@ -155,7 +150,6 @@ fn follow(
 
 // Takes the steps of the term with the number `at` into the table.
 fn take_all(task: &Task<'_>, found: &mut Found, at: u32, steps: &[StepTo]) -> Result<(), Unexplored>
-    requires room { task.now.room.nodes < 4294967295 }
     requires at { IsAt task.now.program.now (component task.now.alphabet.now task.now.start.now) task.now.room found.old at steps.now 0 }
     ensures pool { OnOk result (found.new.pool ≡ found.old.pool) }
     ensures up_to { OnOk result (IsUpTo task.now.program.now (component task.now.alphabet.now task.now.start.now) task.now.room found.new (at + 1)) }
@@ -175,7 +169,6 @@ fn take(
     steps: &[StepTo],
     place: usize,
 ) -> Result<(), Unexplored>
-    requires room { task.now.room.nodes < 4294967295 }
     requires inside { place < length steps.now }
     requires at { IsAt task.now.program.now (component task.now.alphabet.now task.now.start.now) task.now.room found.old at steps.now place }
     ensures pool { OnOk result (found.new.pool ≡ found.old.pool) }
@@ -206,7 +199,6 @@ fn lead(
     event: Option<Event>,
     to: ProcId,
 ) -> Result<(), Unexplored>
-    requires room { task.now.room.nodes < 4294967295 }
     requires so_far { IsSoFar task.now.program.now (component task.now.alphabet.now task.now.start.now) found.old }
     requires within { IsWithin task.now.room found.old }
     requires step { Steps task.now.program.now (component task.now.alphabet.now task.now.start.now) found.old from (label_of event) to }
@@ -228,7 +220,7 @@ fn lead(
 fn passes(room: &Room, table: &RawTable) -> bool
     ensures { IsTrue result ↔ (room.now.steps < step_count table.now) }
 {
-    table.silent().len() + table.steps().len() > room.steps as usize
+    table.silent().len() + table.steps().len() > room.steps() as usize
 }
 
 // Adds a silent step, or one by the event.

@@ -83,7 +83,6 @@ pub(crate) fn term_number(
     event: &Option<Event>,
     to: ProcId,
 ) -> Result<u32, Unexplored>
-    requires room { task.now.room.nodes < 4294967295 }
     requires so_far { IsSoFar task.now.program.now (component task.now.alphabet.now task.now.start.now) found.old }
     requires within { IsWithin task.now.room found.old }
     requires step { Steps task.now.program.now (component task.now.alphabet.now task.now.start.now) found.old from (label_of event.now) to }
@@ -107,7 +106,6 @@ fn admit(
     event: &Option<Event>,
     to: ProcId,
 ) -> Result<u32, Unexplored>
-    requires room { task.now.room.nodes < 4294967295 }
     requires so_far { IsSoFar task.now.program.now (component task.now.alphabet.now task.now.start.now) found.old }
     requires within { IsWithin task.now.room found.old }
     requires step { Steps task.now.program.now (component task.now.alphabet.now task.now.start.now) found.old from (label_of event.now) to }
@@ -118,6 +116,8 @@ fn admit(
     ensures within { OnOk result (IsWithin task.now.room found.new) }
     ensures fault { IfErr result (Lacks task.now.program.now (component task.now.alphabet.now task.now.start.now) task.now.room) }
 {
+    // Its contract says that sizes within the room are below where they stop.
+    let _ = task.room.nodes();
     let number = add(found, (from, *event), to)?;
     check(task, found, to)?;
     Ok(number)
@@ -157,7 +157,7 @@ fn check(task: &Task<'_>, found: &Found, newest: ProcId) -> Result<(), Unexplore
     if depth > MOST_TERM_DEPTH {
         return Err(Unexplored::Refused(ComponentFault::TermDepth));
     }
-    if found.nodes > u64::from(task.room.nodes) {
+    if found.nodes > u64::from(task.room.nodes()) {
         return Err(Unexplored::Refused(ComponentFault::TermTotal));
     }
     Ok(())

@@ -5,7 +5,7 @@ use Rattle.csp_program.specs.declared.processes.Proc.{Proc}
 use Rattle.csp_program.specs.declared.programs.Content.{Content}
 use Rattle.csp_tables.specs.Network.{Component}
 use Rattle.csp_tables.specs.SilentBound.{IsSilentBound}
-use Rattle.local_tables.specs.declared.local_table.Room.{Room}
+use Rattle.local_tables.specs.Room.{Room}
 use Rattle.net_sound.specs.Heights.{HaveHeights, sum_of_greatest}
 use Rattle.net_sound.proofs.Heights.{heights_add_up}
 use Rattle.process_steps.specs.ComponentStep.{ProcessStep}

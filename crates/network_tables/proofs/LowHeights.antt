@@ -9,7 +9,7 @@ use Rattle.csp_tables.specs.Network.{Component}
 use Rattle.csp_tables.specs.Path.{SilentStep}
 use Rattle.csp_tables.specs.RawTable.{RawStep}
 use Rattle.digraph.specs.Walk.{AreHeights, Walk}
-use Rattle.local_tables.specs.declared.local_table.Room.{Room}
+use Rattle.local_tables.specs.Room.{Room}
 use Rattle.net_sound.specs.Heights.{sum_of_greatest}
 use Rattle.network_tables.specs.Tables.{AreTablesOf, AreTablesWithin, IsTableWithin, room_after, whole_room}
 use Rattle.network_tables.specs.declared.component_tables.ComponentTable.{ComponentTable}

@@ -5,7 +5,7 @@ use Rattle.std.proofs.lemmas.Option.{none-some, same_Some, slice_get-get_or}
 use Rattle.csp_program.specs.declared.processes.Proc.{Proc}
 use Rattle.csp_program.specs.declared.programs.Content.{Content}
 use Rattle.csp_tables.specs.Network.{Component}
-use Rattle.local_tables.specs.declared.local_table.Room.{Room}
+use Rattle.local_tables.specs.Room.{Room}
 use Rattle.network_tables.specs.Faults.{HasFault, IsFirst, TellsHere, TellsTable, at_part}
 use Rattle.network_tables.specs.declared.fault.Untabled.{Untabled}
 use Rattle.local_tables.specs.declared.fault.Unexplored.{Unexplored}

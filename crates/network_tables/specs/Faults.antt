@@ -11,7 +11,7 @@ use Rattle.local_tables.specs.LocalTable.{IsLocalTable}
 use Rattle.local_tables.specs.declared.local_table.LocalTable.{LocalTable}
 use Rattle.local_tables.specs.declared.fault.Unexplored.{Unexplored}
 use Rattle.local_tables.specs.declared.fault.Unexplored.TheVariants as unexplored
-use Rattle.local_tables.specs.declared.local_table.Room.{Room}
+use Rattle.local_tables.specs.Room.{Room}
 use Rattle.network_tables.specs.Tables.{AreTablesOf, room_left, whole_room}
 use Rattle.network_tables.specs.declared.fault.Untabled.{Untabled}
 use Rattle.network_tables.specs.declared.fault.Untabled.TheVariants as untabled

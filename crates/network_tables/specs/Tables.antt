@@ -5,7 +5,7 @@ use Rattle.csp_program.specs.declared.processes.Proc.{Proc}
 use Rattle.csp_program.specs.declared.programs.Content.{Content}
 use Rattle.csp_tables.specs.Network.{Component}
 use Rattle.local_tables.specs.LocalTable.{IsLocalTable}
-use Rattle.local_tables.specs.declared.local_table.Room.{Room}
+use Rattle.local_tables.specs.Room.{Room}
 use Rattle.net_sound.specs.Heights.{AreSilentHeights}
 use Rattle.network_tables.specs.declared.component_tables.ComponentTable.{ComponentTable}
 

@@ -39,10 +39,7 @@ impl Drop for ComponentTable {
 fn whole() -> Room
     ensures { result ≡ whole_room }
 {
-    Room {
-        nodes: MOST_NODES,
-        steps: MOST_STEPS,
-    }
+    Room::new(MOST_NODES, MOST_STEPS)
 }
 
 // The room that is left after some is used.
@@ -51,10 +48,7 @@ fn after(room: Room, used: Room) -> Room
     requires steps { used.steps ≤ room.steps }
     ensures { result ≡ room_after room used }
 {
-    Room {
-        nodes: room.nodes - used.nodes,
-        steps: room.steps - used.steps,
-    }
+    Room::new(room.nodes() - used.nodes(), room.steps() - used.steps())
 }
 
 // A table with its silent heights.
@@ -79,7 +73,6 @@ fn table_within(
     seat: &Seat,
     room: Room,
 ) -> Result<ComponentTable, Unexplored>
-    requires nodes { room.nodes < 4294967295 }
     ensures table { IfOk result (IsTableWithin program.now room seat.now) }
     ensures fault { IfErr result (TellsHere program.now room seat.now) }
 {

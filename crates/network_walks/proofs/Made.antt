@@ -5,7 +5,7 @@ use Rattle.csp_program.specs.declared.processes.Proc.{Proc}
 use Rattle.csp_program.specs.declared.programs.Content.{Content}
 use Rattle.csp_tables.specs.Label.Label.{visible}
 use Rattle.csp_tables.specs.Network.{Component}
-use Rattle.local_tables.specs.declared.local_table.Room.{Room}
+use Rattle.local_tables.specs.Room.{Room}
 use Rattle.network_tables.proofs.Rows.{as_many}
 use Rattle.network_tables.specs.Tables.{AreTablesOf, AreTablesWithin, HasTable, room_after, whole_room}
 use Rattle.network_tables.specs.declared.component_tables.ComponentTable.{ComponentTable}

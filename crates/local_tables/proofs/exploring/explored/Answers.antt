@@ -10,4 +10,4 @@ finished-requires-clause-steps c = c.in_ok-fill.ensures.up_to.within.steps
 
 pub returns-clause-table : goal.returns-clause-table
 returns-clause-table c =
-    local_table c.args.task.now.program.now (component c.args.task.now.alphabet.now c.args.task.now.start.now) c.args.task.now.room c.fill.new.found c.finished.result c.in_ok-fill.ensures.up_to c.requires.room c.finished.ensures.table c.finished.ensures.nodes c.finished.ensures.steps
+    local_table c.args.task.now.program.now (component c.args.task.now.alphabet.now c.args.task.now.start.now) c.args.task.now.room c.fill.new.found c.finished.result c.in_ok-fill.ensures.up_to c.nodes.ensures.few c.finished.ensures.table c.finished.ensures.nodes c.finished.ensures.steps

@@ -6,7 +6,7 @@ use Rattle.local_tables.proofs.found.admit.Goals as goal
 pub add-requires-clause-nodes : goal.add-requires-clause-nodes
 add-requires-clause-nodes c =
     let a : c.args.found.now.nodes ≤ c.args.task.now.room.nodes = c.requires.within.nodes in
-    let b : c.args.task.now.room.nodes < 4294967295 = c.requires.room in
+    let b : c.args.task.now.room.nodes < 4294967295 = c.nodes.ensures.few in
     omega arith
 
 pub check-requires-clause-so_far : goal.check-requires-clause-so_far
