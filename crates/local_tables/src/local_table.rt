@@ -20,6 +20,8 @@ impl Model for Room {
 
     ghost view = { λ r. record { nodes = r.nodes; steps = r.steps } };
 
+    ghost inverse = { λ room. record { nodes = room.nodes; steps = room.steps } };
+
     ghost invariant = { λ r. r.nodes < 4294967295 };
 }
 

@@ -43,10 +43,10 @@ fn whole() -> Room
 }
 
 // The room that is left after some is used.
-fn after(room: Room, used: Room) -> Room
-    requires nodes { used.nodes ≤ room.nodes }
-    requires steps { used.steps ≤ room.steps }
-    ensures { result ≡ room_after room used }
+fn after(room: Room, used: &Room) -> Room
+    requires nodes { used.now.nodes ≤ room.nodes }
+    requires steps { used.now.steps ≤ room.steps }
+    ensures { result ≡ room_after room used.now }
 {
     Room::new(room.nodes() - used.nodes(), room.steps() - used.steps())
 }
@@ -114,7 +114,7 @@ pub fn tables(
     for (part, seat) in seats.iter().enumerate() {
         match table_within(alloc, program, seat, room) {
             Ok(table) => {
-                room = after(room, table.local.used);
+                room = after(room, &table.local.used);
                 add(&mut made, table)?;
             }
             Err(fault) => return Err(untabled(part as u32, fault)),

@@ -26,12 +26,14 @@ returns-in_err-steps-clause-fault c =
     let reached = c.requires.up_to.so_far.part.reached.reached c.args.at (tree_at found.pool id) (map_at (tree_at found.pool) found.terms c.args.at id (there c.as_slice.result.now found.terms c.args.at c.as_slice.ensures.value c.requires.here)) in
     err_is c.from_residual.result (valueless c.in_err-steps.field-0.0) (Lacks p d room) c.from_residual.ensures.1 (lacks_value p d room (tree_at found.pool id) c.steps_in.result c.in_err-steps.field-0.0 c.in_err-steps.was reached c.steps_in.ensures.fault)
 
-pub take_all-requires-clause-at : goal.take_all-requires-clause-at
-take_all-requires-clause-at c =
+pub take_all-requires : goal.take_all-requires
+take_all-requires c =
     let p = c.args.task.now.program.now in
     let d = component c.args.task.now.alphabet.now c.args.task.now.start.now in
     let found = c.args.found.now in
     let id : ProcId = slice_index_or c.as_slice.result.now c.args.at (record { 0 = 0 }) in
-    subst (λ (steps : List StepTo). IsAt p d c.args.task.now.room (record found { pool = c.steps_in.new.pool }) c.args.at steps 0) (sym c.as_slice-2.ensures)
-    (begin_at p d c.args.task.now.room found (record found { pool = c.steps_in.new.pool }) c.args.at c.in_ok-steps.steps id c.requires.up_to c.in_ok-steps.ensures.front refl refl refl refl
-    (there c.as_slice.result.now found.terms c.args.at c.as_slice.ensures.value c.requires.here) c.in_ok-steps.ensures.steps)
+    record {
+      at = subst (λ (steps : List StepTo). IsAt p d c.args.task.now.room (record found { pool = c.steps_in.new.pool }) c.args.at steps 0) (sym c.as_slice-2.ensures)
+          (begin_at p d c.args.task.now.room found (record found { pool = c.steps_in.new.pool }) c.args.at c.in_ok-steps.steps id c.requires.up_to c.in_ok-steps.ensures.front refl refl refl refl
+          (there c.as_slice.result.now found.terms c.args.at c.as_slice.ensures.value c.requires.here) c.in_ok-steps.ensures.steps);
+    }
