@@ -16,9 +16,9 @@ use Rattle.script_names.specs.declared.kinds.Kind.{Kind}
 use Rattle.script_names.specs.Names.{Name, Entities, first_of}
 use Rattle.script_names.specs.Typed.{Scope, bindings, exprs, under, with, named, number_of, all_bind, parts_bind, channel_number, definition_number}
 use Rattle.script_names.specs.Typed as typed
-use Rattle.typed_trees.specs.Tokens.{tokens, all_tokens, parts_tokens}
+use Rattle.script_sizes.specs.BindingTokens.{tokens, all_tokens, parts_tokens}
 use Rattle.typed_trees.specs.Words.{tree_read, gen_read, part_read, expr_of, exprs_of, gen_of, gen_scope, gens_of, gens_scope, part_of, parts_of}
-use Rattle.typed_trees.proofs.TokenForms.{tokens-Num, tokens-True, tokens-False, tokens-Name, tokens-Call, tokens-Dot, tokens-Neg, tokens-Not, tokens-Binary, tokens-Display, tokens-Range, tokens-SetOp}
+use Rattle.script_sizes.proofs.TokenForms.{tokens-Num, tokens-True, tokens-False, tokens-Name, tokens-Call, tokens-Dot, tokens-Neg, tokens-Not, tokens-Binary, tokens-Display, tokens-Range, tokens-SetOp}
 use Rattle.typed_trees.proofs.Rolls.{tree_rolls, gen_rolls, part_rolls}
 use Rattle.typed_trees.proofs.SameTokens.{same_tree, same_gen, same_part}
 

@@ -1,4 +1,3 @@
-pub mod TokenForms
 pub mod Rolls
 pub mod SameTokens
 pub mod Scopes

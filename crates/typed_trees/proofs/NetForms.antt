@@ -14,9 +14,9 @@ use Rattle.script_names.specs.declared.kinds.Kind.{Kind}
 use Rattle.script_names.specs.Faults.{is_network}
 use Rattle.script_names.specs.Names.{Name, Entities, first_of, sense_in}
 use Rattle.script_names.specs.Typed.{network_of_layer, networked_of_layer, proc_of_layer, Scope, with, names_of, definition_number, reading_of_layer}
-use Rattle.typed_trees.specs.Tokens.{tokens}
+use Rattle.script_sizes.specs.BindingTokens.{tokens}
 use Rattle.typed_trees.specs.Words.{tree_read, expr_of, exprs_of, proc_of, net_of, networked_in}
-use Rattle.typed_trees.proofs.TokenForms.{tokens-Name, tokens-Call, tokens-If, tokens-Parallel, tokens-EachParallel}
+use Rattle.script_sizes.proofs.TokenForms.{tokens-Name, tokens-Call, tokens-If, tokens-Parallel, tokens-EachParallel}
 use Rattle.typed_trees.proofs.Rolls.{layer_read, tree_rolls}
 use Rattle.typed_trees.proofs.SameTokens.{same_tree}
 use Rattle.typed_trees.proofs.ExprForms.{exprs_are}

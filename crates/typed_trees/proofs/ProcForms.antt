@@ -15,9 +15,9 @@ use Rattle.script_names.specs.declared.kinds.Kind.{Kind}
 use Rattle.script_names.specs.Names.{Name, Entities, first_of}
 use Rattle.script_names.specs.Typed.{Scope, bindings, bindings_bind, pairs_bind, procs, under, with, head_of, number_of, definition_number}
 use Rattle.script_names.specs.Typed as typed
-use Rattle.typed_trees.specs.Tokens.{tokens, fields_tokens, pairs_tokens}
+use Rattle.script_sizes.specs.BindingTokens.{tokens, fields_tokens, pairs_tokens}
 use Rattle.typed_trees.specs.Words.{tree_read, field_read, part_read, expr_of, exprs_of, field_of, field_scope, fields_of, fields_scope, set_of, gens_of, gens_scope, part_of, pairs_of, proc_of, procs_of}
-use Rattle.typed_trees.proofs.TokenForms.{tokens-Call}
+use Rattle.script_sizes.proofs.TokenForms.{tokens-Call}
 use Rattle.typed_trees.proofs.Rolls.{event_read, tree_rolls, field_rolls, event_rolls}
 use Rattle.typed_trees.proofs.SameTokens.{same_tree, same_field, same_part}
 use Rattle.typed_trees.proofs.ExprForms.{exprs_are, gens_are, gens_under}

@@ -13,10 +13,10 @@ use Rattle.csp_program.specs.declared.processes.Field.{Field}
 use Rattle.script_names.specs.declared.kinds.Kind.{Kind}
 use Rattle.script_names.specs.Names.{Entities, first_of}
 use Rattle.script_names.specs.Typed.{Binding, Front, Reading, all_bind, bindings_bind, parts_bind, pairs_bind, binds_of_layer, field_of_layer, gen_of_layer}
-use Rattle.typed_trees.specs.Tokens.{total_of_pairs, tokens, field_tokens, gen_tokens, event_tokens, part_tokens, tokens_of_layer, field_tokens_of_layer, gen_tokens_of_layer}
+use Rattle.script_sizes.specs.BindingTokens.{total_of_pairs, tokens, field_tokens, gen_tokens, event_tokens, part_tokens, tokens_of_layer, field_tokens_of_layer, gen_tokens_of_layer}
 use Rattle.typed_trees.specs.Words.{tree_read, field_read, gen_read, part_read}
 use Rattle.typed_trees.proofs.Rolls.{event_read, layer_read, tree_rolls, field_rolls, gen_rolls, event_rolls, part_rolls}
-use Rattle.typed_trees.proofs.TokenForms.{tree_counts, field_counts, gen_counts, event_counts, part_counts}
+use Rattle.script_sizes.proofs.TokenForms.{tree_counts, field_counts, gen_counts, event_counts, part_counts}
 use Rattle.csp_base.specs.Lists.{total}
 
 module _ (es : Entities) (ks : List Kind) where

@@ -16,7 +16,7 @@ use Rattle.script_names.specs.declared.kinds.Kind.{Kind}
 use Rattle.script_names.specs.Names.{Entities, first_of}
 use Rattle.script_names.specs.Typed.{Binding, Front, Reading, Scope, reading, field_of_layer, gen_of_layer, reading_of_layer, event_of_layer, part_of_layer}
 use Rattle.script_names.specs.Typed as typed
-use Rattle.typed_trees.specs.Tokens.{tokens, field_tokens, gen_tokens, part_tokens}
+use Rattle.script_sizes.specs.BindingTokens.{tokens, field_tokens, gen_tokens, part_tokens}
 
 module _ (es : Entities) (ks : List Kind) where
   abbrev pub tree_read : Tree → Reading

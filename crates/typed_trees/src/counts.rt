@@ -2,7 +2,7 @@
 
 ghost use Rattle.std.specs.Prelude.{◌≡◌, ℕ, ◌+◌, IfOk};
 ghost use Rattle.csp_text.specs.Depth.{capped};
-ghost use Rattle.typed_trees.specs.Tokens.{all_tokens, field_tokens, fields_tokens, gen_tokens, gens_tokens, part_tokens, parts_tokens, pairs_tokens, tokens};
+ghost use Rattle.script_sizes.specs.BindingTokens.{all_tokens, field_tokens, fields_tokens, gen_tokens, gens_tokens, part_tokens, parts_tokens, pairs_tokens, tokens};
 
 use containers::Boxed;
 use csp_base::NoMemory;
@@ -29,7 +29,7 @@ pub(crate) fn after(number: u32, count: u32) -> Result<u32, NoMemory>
 }
 
 /// The number of a tree's binding tokens.
-#[tactic(auto, using(crate::proofs::TokenForms::token_forms))]
+#[tactic(auto, using(script_sizes::proofs::TokenForms::token_forms))]
 #[cycle(count)]
 pub(crate) fn count_tree(tree: &Tree) -> u32
     ensures { result ≡ capped (tokens tree.now) }
@@ -95,7 +95,7 @@ fn count_fields(fields: &[FieldTree]) -> u32
     count
 }
 
-#[tactic(auto, using(crate::proofs::TokenForms::field_tokens_forms))]
+#[tactic(auto, using(script_sizes::proofs::TokenForms::field_tokens_forms))]
 #[cycle(count)]
 fn count_field(field: &FieldTree) -> u32
     ensures { result ≡ capped (field_tokens field.now) }
@@ -121,7 +121,7 @@ fn count_gens(gens: &[GenTree]) -> u32
     count
 }
 
-#[tactic(auto, using(crate::proofs::TokenForms::gen_tokens_forms))]
+#[tactic(auto, using(script_sizes::proofs::TokenForms::gen_tokens_forms))]
 #[cycle(count)]
 fn count_gen(generator: &GenTree) -> u32
     ensures { result ≡ capped (gen_tokens generator.now) }
@@ -132,7 +132,7 @@ fn count_gen(generator: &GenTree) -> u32
     }
 }
 
-#[tactic(auto, using(crate::proofs::TokenForms::part_tokens_forms))]
+#[tactic(auto, using(script_sizes::proofs::TokenForms::part_tokens_forms))]
 #[cycle(count)]
 fn count_front(part: &PartTree) -> u32
     ensures { result ≡ capped (part_tokens part.now) }

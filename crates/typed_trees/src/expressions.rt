@@ -3,7 +3,7 @@
 ghost use Rattle.std.specs.Prelude.{◌≡◌, ℕ, ◌+◌, pos, IfOk, OnOk};
 ghost use Rattle.csp_text.specs.Depth.{capped};
 ghost use Rattle.script_names.specs.Typed.{with};
-ghost use Rattle.typed_trees.specs.Tokens.{all_tokens, gen_tokens, gens_tokens, part_tokens, parts_tokens, tokens};
+ghost use Rattle.script_sizes.specs.BindingTokens.{all_tokens, gen_tokens, gens_tokens, part_tokens, parts_tokens, tokens};
 ghost use Rattle.typed_trees.specs.Words.{expr_of, exprs_of, gen_of, gen_scope, gens_of, gens_scope, part_of, parts_of};
 ghost use Rattle.typed_trees.specs.Scopes.{Keeps};
 
@@ -218,7 +218,7 @@ fn numbered(
 }
 
 // A generator. Its name is bound afterwards.
-#[tactic(auto, using(crate::proofs::TokenForms::gen_tokens_forms, crate::proofs::ExprForms::gen_forms, crate::proofs::Scopes::scope_laws))]
+#[tactic(auto, using(script_sizes::proofs::TokenForms::gen_tokens_forms, crate::proofs::ExprForms::gen_forms, crate::proofs::Scopes::scope_laws))]
 #[cycle(typed_expr)]
 fn generator(
     meanings: &Meanings<'_>,
@@ -284,7 +284,7 @@ pub(crate) fn generators_after(
 }
 
 /// The front of an event.
-#[tactic(auto, using(crate::proofs::TokenForms::part_tokens_forms, crate::proofs::ExprForms::part_forms))]
+#[tactic(auto, using(script_sizes::proofs::TokenForms::part_tokens_forms, crate::proofs::ExprForms::part_forms))]
 #[cycle(typed_expr)]
 pub(crate) fn front(
     meanings: &Meanings<'_>,

@@ -5,7 +5,7 @@ ghost use Rattle.script_names.specs.Faults as faults;
 ghost use Rattle.script_names.specs.Names.{first_of};
 ghost use Rattle.script_names.specs.Typed.{with};
 ghost use Rattle.script_names.specs.Typed as typed;
-ghost use Rattle.typed_trees.specs.Tokens.{all_tokens, tokens};
+ghost use Rattle.script_sizes.specs.BindingTokens.{all_tokens, tokens};
 ghost use Rattle.typed_trees.specs.Words.{expr_of, exprs_of, net_of, networked_in, proc_of};
 
 use crate::binders::{Binders, leave};

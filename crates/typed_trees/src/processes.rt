@@ -3,7 +3,7 @@
 ghost use Rattle.std.specs.Prelude.{◌≡◌, ◌+◌, IfOk, OnOk};
 ghost use Rattle.script_names.specs.Typed.{with};
 ghost use Rattle.typed_trees.specs.Scopes.{Keeps};
-ghost use Rattle.typed_trees.specs.Tokens.{all_tokens, field_tokens, fields_tokens, gens_tokens, pairs_tokens, part_tokens, set_tokens, tokens};
+ghost use Rattle.script_sizes.specs.BindingTokens.{all_tokens, field_tokens, fields_tokens, gens_tokens, pairs_tokens, part_tokens, set_tokens, tokens};
 ghost use Rattle.typed_trees.specs.Words.{expr_of, field_of, field_scope, fields_of, fields_scope, gens_of, gens_scope, pairs_of, part_of, proc_of, procs_of, set_of};
 
 use crate::binders::{Binders, leave, take_number};

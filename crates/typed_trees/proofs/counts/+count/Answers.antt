@@ -1,5 +1,5 @@
 use Rattle.std.proofs.Common.{arith}
-use Rattle.typed_trees.proofs.TokenForms.{token_forms}
+use Rattle.script_sizes.proofs.TokenForms.{token_forms}
 use Rattle.typed_trees.proofs.counts.+count.Goals as goal
 
 pub count_tree-returns-in-Stop : goal.count_tree-returns-in-Stop

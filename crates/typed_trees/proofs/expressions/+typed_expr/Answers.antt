@@ -1,9 +1,9 @@
 use Rattle.std.proofs.Common.{◌≡◌, ℕ, ◌+◌, Result, Ok, Err, OnOk, take, ap, ◌∙◌, arith}
 use Rattle.typed_trees.proofs.ExprForms.{expr_of-If, expr_of-Comp, expr_of-Product, gen_of-From, gen_scope-From}
 use Rattle.typed_trees.proofs.OtherForms.{expr_of-other}
-use Rattle.typed_trees.proofs.TokenForms.{tokens-If, tokens-Comp, tokens-Product, gen_tokens-From}
+use Rattle.script_sizes.proofs.TokenForms.{tokens-If, tokens-Comp, tokens-Product, gen_tokens-From}
 use Rattle.typed_trees.proofs.Scopes.{carried, keeps_longer}
-use Rattle.typed_trees.specs.Tokens.{all_tokens, gens_tokens, parts_tokens}
+use Rattle.script_sizes.specs.BindingTokens.{all_tokens, gens_tokens, parts_tokens}
 use Rattle.typed_trees.specs.Words.{gens_of, gens_scope}
 use Rattle.typed_trees.proofs.expressions.+typed_expr.Goals as goal
 

@@ -3,7 +3,7 @@ use denote.Param.Weighed as weighed
 use Rattle.csp_text.proofs.tree.GenTree.TheLaws as generator
 use Rattle.csp_text.proofs.tree.Tree.TheLaws.{the_size}
 use Rattle.typed_trees.specs.Scopes.{Keeps}
-use Rattle.typed_trees.specs.Tokens.{all_tokens, gens_tokens, parts_tokens}
+use Rattle.script_sizes.specs.BindingTokens.{all_tokens, gens_tokens, parts_tokens}
 use Rattle.typed_trees.specs.Words.{exprs_of, gens_of, gens_scope, parts_of}
 use Rattle.typed_trees.proofs.expressions.+typed_expr.Given as goal
 

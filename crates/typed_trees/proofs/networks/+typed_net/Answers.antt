@@ -1,6 +1,6 @@
 use Rattle.std.proofs.Common.{refl, arith}
 use Rattle.typed_trees.proofs.NetForms.{net_of-Name, net_of-Call, net_of-If, net_of-Parallel, net_of-EachParallel}
-use Rattle.typed_trees.proofs.TokenForms.{tokens-Name, tokens-Call, tokens-If, tokens-Parallel, tokens-EachParallel}
+use Rattle.script_sizes.proofs.TokenForms.{tokens-Name, tokens-Call, tokens-If, tokens-Parallel, tokens-EachParallel}
 use Rattle.typed_trees.proofs.OtherForms.{net_of-other}
 use Rattle.typed_trees.proofs.Scopes.{carried, left_again}
 use Rattle.typed_trees.proofs.networks.+typed_net.Goals as goal

@@ -2,7 +2,7 @@ use Rattle.std.proofs.Common.{◌≡◌, take, refl, ◌∙◌, arith}
 use Rattle.typed_trees.proofs.OtherForms.{proc_of-other}
 use Rattle.typed_trees.proofs.ProcForms.{proc_of-EachExternal, proc_of-EachInternal, proc_of-External, proc_of-Guard, proc_of-Hide, proc_of-If, proc_of-Internal, proc_of-Name, proc_of-Prefix, proc_of-Rename, proc_of-Seq, proc_of-Skip, proc_of-Stop}
 use Rattle.typed_trees.proofs.Scopes.{carried, left_again}
-use Rattle.typed_trees.proofs.TokenForms.{tokens-EachExternal, tokens-EachInternal, tokens-External, tokens-Guard, tokens-Hide, tokens-If, tokens-Internal, tokens-Name, tokens-Prefix, tokens-Rename, tokens-Seq, tokens-Skip, tokens-Stop}
+use Rattle.script_sizes.proofs.TokenForms.{tokens-EachExternal, tokens-EachInternal, tokens-External, tokens-Guard, tokens-Hide, tokens-If, tokens-Internal, tokens-Name, tokens-Prefix, tokens-Rename, tokens-Seq, tokens-Skip, tokens-Stop}
 use Rattle.typed_trees.proofs.processes.+typed_proc.Goals as goal
 
 pub for_each-returns-clause-scope : goal.for_each-returns-clause-scope

@@ -1,6 +1,6 @@
 use Rattle.std.proofs.Common.{◌≡◌, ◌+◌, ◌*◌, ◌++◌, drop, max}
 use Rattle.csp_text.proofs.tree.Tree.TheLaws.{the_size}
-use Rattle.typed_trees.specs.Tokens.{all_tokens}
+use Rattle.script_sizes.specs.BindingTokens.{all_tokens}
 use Rattle.typed_trees.specs.Words.{procs_of}
 use Rattle.typed_trees.proofs.processes.+typed_proc.Given as goal
 

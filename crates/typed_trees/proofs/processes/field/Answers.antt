@@ -1,7 +1,7 @@
 use Rattle.std.proofs.Common.{arith}
 use Rattle.typed_trees.proofs.ProcForms.{field_forms}
 use Rattle.typed_trees.proofs.Scopes.{scope_laws}
-use Rattle.typed_trees.proofs.TokenForms.{field_tokens_forms}
+use Rattle.script_sizes.proofs.TokenForms.{field_tokens_forms}
 use Rattle.typed_trees.proofs.processes.field.Goals as goal
 
 pub returns-in-Dot-clause-made : goal.returns-in-Dot-clause-made

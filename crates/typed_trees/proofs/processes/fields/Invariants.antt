@@ -1,6 +1,6 @@
 use Rattle.std.proofs.Common.{◌≡◌, ◌+◌, ◌++◌, drop}
 use Rattle.typed_trees.specs.Scopes.{Keeps}
-use Rattle.typed_trees.specs.Tokens.{fields_tokens}
+use Rattle.script_sizes.specs.BindingTokens.{fields_tokens}
 use Rattle.typed_trees.specs.Words.{fields_of, fields_scope}
 use Rattle.typed_trees.proofs.processes.fields.Given as goal
 

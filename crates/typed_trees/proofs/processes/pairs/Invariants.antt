@@ -1,5 +1,5 @@
 use Rattle.std.proofs.Common.{◌≡◌, ◌+◌, ◌++◌, drop}
-use Rattle.typed_trees.specs.Tokens.{pairs_tokens}
+use Rattle.script_sizes.specs.BindingTokens.{pairs_tokens}
 use Rattle.typed_trees.specs.Words.{pairs_of}
 use Rattle.typed_trees.proofs.processes.pairs.Given as goal
 

@@ -1,5 +1,5 @@
 use Rattle.std.proofs.Common.{take, ◌∙◌, arith}
-use Rattle.typed_trees.specs.Tokens.{pairs_tokens}
+use Rattle.script_sizes.specs.BindingTokens.{pairs_tokens}
 use Rattle.typed_trees.proofs.Scopes.{carried}
 use Rattle.typed_trees.proofs.processes.sides_under.Goals as goal
 

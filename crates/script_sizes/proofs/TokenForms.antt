@@ -13,8 +13,7 @@ use Rattle.csp_text.specs.declared.tree.GenTree.TheVariants as generator
 use Rattle.csp_text.specs.declared.tree.PartTree.{PartTree}
 use Rattle.csp_text.specs.declared.tree.Tree.{Tree}
 use Rattle.csp_text.specs.declared.tree.Tree.TheVariants as tree
-use Rattle.script_names.specs.Names.{Name}
-use Rattle.typed_trees.specs.Tokens.{total_of_pairs, tokens, field_tokens, set_tokens, gen_tokens, event_tokens, part_tokens, tokens_of_layer, field_tokens_of_layer, gen_tokens_of_layer, event_tokens_of_layer, part_tokens_of_layer, all_tokens, fields_tokens, gens_tokens, parts_tokens, pairs_tokens}
+use Rattle.script_sizes.specs.BindingTokens.{total_of_pairs, tokens, field_tokens, set_tokens, gen_tokens, event_tokens, part_tokens, tokens_of_layer, field_tokens_of_layer, gen_tokens_of_layer, event_tokens_of_layer, part_tokens_of_layer, all_tokens, fields_tokens, gens_tokens, parts_tokens, pairs_tokens}
 use Rattle.csp_base.specs.Lists.{total}
 
 pub all_are : (ts : List Tree) → total (map tokens ts) ≡ all_tokens ts
@@ -74,11 +73,11 @@ field_tokens-Dot a = ap field_tokens (sym (field.rolls-Dot a)) ∙ field_counts 
 pub field_tokens-Output : (a : Tree) → field_tokens (field.Output a) ≡ tokens a
 field_tokens-Output a = ap field_tokens (sym (field.rolls-Output a)) ∙ field_counts (FieldTree-F.Output a)
 
-pub field_tokens-Input : (x : Name) (o : Option Tree) → field_tokens (field.Input x o) ≡ 1 + set_tokens o
+pub field_tokens-Input : (x : List ℕ) (o : Option Tree) → field_tokens (field.Input x o) ≡ 1 + set_tokens o
 field_tokens-Input x None = ap field_tokens (sym (field.rolls-Input x None)) ∙ field_counts (FieldTree-F.Input x None)
 field_tokens-Input x (Some s) = ap field_tokens (sym (field.rolls-Input x (Some s))) ∙ field_counts (FieldTree-F.Input x (Some s))
 
-pub gen_tokens-From : (x : Name) (s : Tree) → gen_tokens (generator.From x s) ≡ 1 + tokens s
+pub gen_tokens-From : (x : List ℕ) (s : Tree) → gen_tokens (generator.From x s) ≡ 1 + tokens s
 gen_tokens-From x s = ap gen_tokens (sym (generator.rolls-From x s)) ∙ gen_counts (GenTree-F.From x s)
 
 pub gen_tokens-Cond : (c : Tree) → gen_tokens (generator.Cond c) ≡ tokens c
@@ -93,13 +92,13 @@ tokens-True = ap tokens (sym tree.rolls-True) ∙ tree_counts Tree-F.True
 pub tokens-False : tokens tree.False ≡ 0
 tokens-False = ap tokens (sym tree.rolls-False) ∙ tree_counts Tree-F.False
 
-pub tokens-Name : (x : Name) → tokens (tree.Name x) ≡ 0
+pub tokens-Name : (x : List ℕ) → tokens (tree.Name x) ≡ 0
 tokens-Name x = ap tokens (sym (tree.rolls-Name x)) ∙ tree_counts (Tree-F.Name x)
 
-pub tokens-Call : (f : Name) (args : List Tree) → tokens (tree.Call f args) ≡ all_tokens args
+pub tokens-Call : (f : List ℕ) (args : List Tree) → tokens (tree.Call f args) ≡ all_tokens args
 tokens-Call f args = ap tokens (sym (tree.rolls-Call f args)) ∙ tree_counts (Tree-F.Call f args) ∙ (λ i. all_are args i)
 
-pub tokens-Dot : (c : Name) (fields : List Tree) → tokens (tree.Dot c fields) ≡ all_tokens fields
+pub tokens-Dot : (c : List ℕ) (fields : List Tree) → tokens (tree.Dot c fields) ≡ all_tokens fields
 tokens-Dot c fields = ap tokens (sym (tree.rolls-Dot c fields)) ∙ tree_counts (Tree-F.«Tree::Dot» c fields) ∙ (λ i. all_are fields i)
 
 pub tokens-Neg : (a : Tree) → tokens (tree.Neg a) ≡ tokens a
@@ -150,16 +149,16 @@ tokens-External ps = ap tokens (sym (tree.rolls-External ps)) ∙ tree_counts (T
 pub tokens-Internal : (ps : List Tree) → tokens (tree.Internal ps) ≡ all_tokens ps
 tokens-Internal ps = ap tokens (sym (tree.rolls-Internal ps)) ∙ tree_counts (Tree-F.Internal ps) ∙ (λ i. all_are ps i)
 
-pub tokens-EachExternal : (x : Name) (s : Tree) (p : Tree) → tokens (tree.EachExternal x s p) ≡ 1 + tokens s + tokens p
+pub tokens-EachExternal : (x : List ℕ) (s : Tree) (p : Tree) → tokens (tree.EachExternal x s p) ≡ 1 + tokens s + tokens p
 tokens-EachExternal x s p = ap tokens (sym (tree.rolls-EachExternal x s p)) ∙ tree_counts (Tree-F.EachExternal x s p)
 
-pub tokens-EachInternal : (x : Name) (s : Tree) (p : Tree) → tokens (tree.EachInternal x s p) ≡ 1 + tokens s + tokens p
+pub tokens-EachInternal : (x : List ℕ) (s : Tree) (p : Tree) → tokens (tree.EachInternal x s p) ≡ 1 + tokens s + tokens p
 tokens-EachInternal x s p = ap tokens (sym (tree.rolls-EachInternal x s p)) ∙ tree_counts (Tree-F.EachInternal x s p)
 
 pub tokens-Parallel : (p : Tree) (a : Tree) (b : Tree) (q : Tree) → tokens (tree.Parallel p a b q) ≡ tokens p + tokens a + tokens b + tokens q
 tokens-Parallel p a b q = ap tokens (sym (tree.rolls-Parallel p a b q)) ∙ tree_counts (Tree-F.Parallel p a b q)
 
-pub tokens-EachParallel : (x : Name) (s : Tree) (a : Tree) (p : Tree) → tokens (tree.EachParallel x s a p) ≡ 1 + tokens s + tokens a + tokens p
+pub tokens-EachParallel : (x : List ℕ) (s : Tree) (a : Tree) (p : Tree) → tokens (tree.EachParallel x s a p) ≡ 1 + tokens s + tokens a + tokens p
 tokens-EachParallel x s a p = ap tokens (sym (tree.rolls-EachParallel x s a p)) ∙ tree_counts (Tree-F.EachParallel x s a p)
 
 pub tokens-Seq : (p : Tree) (q : Tree) → tokens (tree.Seq p q) ≡ tokens p + tokens q

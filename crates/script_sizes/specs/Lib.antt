@@ -1,0 +1,2 @@
+pub mod BindingTokens
+pub mod Size
