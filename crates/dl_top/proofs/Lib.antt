@@ -1,5 +1,6 @@
 pub mod Completing
 pub mod Judging
+pub mod Lengths
 pub mod Loading
 pub mod Matching
 pub mod Pairs

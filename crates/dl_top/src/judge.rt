@@ -1,11 +1,13 @@
 //! The answer to the text of a script.
 
-ghost use Rattle.std.specs.Prelude.{◌≡◌, IfErr, IfOk};
+ghost use Rattle.std.specs.Prelude.{◌≡◌, ◌≤◌, IfErr, IfOk, length};
 ghost use Rattle.command_words.specs.declared.request.Job.TheVariants.{Check};
 ghost use Rattle.csp_tables.specs.declared.rule.Rule.{Rule as RuleValue};
 ghost use Rattle.network_stages.specs.Networks.{network_at};
 ghost use Rattle.report.specs.Report.{report_text, status};
 ghost use Rattle.report.specs.Stops.{Answers, Tells};
+ghost use Rattle.script_sizes.specs.Size.{AreSmall};
+ghost use Rattle.dl_limits.specs.declared.TheConstants.{MOST_BYTES};
 ghost use Rattle.dl_top.specs.Complete.{SpellsPassing};
 ghost use Rattle.dl_top.specs.Judgement.{HasNetwork, HasNoScript, ScriptDecides, SpellsNoNetwork, SpellsOnlyScript, TextCallsFor, TextsCompare};
 ghost use Rattle.dl_top.specs.Printing.{SpecificationSpellsNoNetwork, no_script};
@@ -35,8 +37,10 @@ fn unread(fault: ParseFault) -> Stop<Refusal>
     }
 }
 
-// The only script that a text spells, or that it spells none.
+// The only script that a text spells, which is small, or that it spells none.
 fn spell_script(alloc: Global, text: &[u8]) -> Result<Script, Stop<Refusal>>
+    requires { length text.now ≤ MOST_BYTES }
+    ensures small { IfOk result (λ script. AreSmall script.decls) }
     ensures ok { IfOk result (SpellsOnlyScript text.now) }
     ensures told { IfErr result (Tells (HasNoScript text.now)) }
 {
@@ -51,6 +55,7 @@ fn spell_script(alloc: Global, text: &[u8]) -> Result<Script, Stop<Refusal>>
 
 // What a script decides, with which this is to be done.
 fn decided(alloc: Global, job: &Job, script: &Script) -> Result<Done, Stop<Answer>>
+    requires { AreSmall script.now.decls }
     ensures { Answers (ScriptDecides job.now script.now) result }
 {
     match job {
@@ -67,6 +72,7 @@ fn decided(alloc: Global, job: &Job, script: &Script) -> Result<Done, Stop<Answe
 
 // The walk from the text of a script to its answer.
 fn text_decided(alloc: Global, job: &Job, text: &[u8]) -> Result<Done, Stop<Answer>>
+    requires { length text.now ≤ MOST_BYTES }
     ensures { Answers (TextCallsFor text.now job.now) result }
 {
     let script = spell_script(alloc, text)?;
@@ -75,13 +81,16 @@ fn text_decided(alloc: Global, job: &Job, text: &[u8]) -> Result<Done, Stop<Answ
 
 // The answer to which that walk comes.
 fn called_for(alloc: Global, job: &Job, text: &[u8]) -> Result<Answer, NoMemory>
+    requires { length text.now ≤ MOST_BYTES }
     ensures { IfOk result (TextCallsFor text.now job.now) }
 {
     finished(text_decided(alloc, job, text))
 }
 
-/// The answer that the text of a script calls for, with which this is to be done: what `dl_main` reports of a text that it loaded.
+/// The answer that the text of a script calls for, with which this is to be done: what `dl_main` reports of a text that it loaded. The text has at most
+/// `MOST_BYTES` bytes (a longer one is refused where it is loaded).
 pub fn judge(alloc: Global, job: &Job, text: &[u8]) -> Result<Answer, NoMemory>
+    requires { length text.now ≤ MOST_BYTES }
     ensures answer { IfOk result (TextCallsFor text.now job.now) }
 
     // The theorem: where a script is judged with status 0, its text spells exactly one network, which is free of deadlock.
@@ -95,6 +104,7 @@ pub fn judge(alloc: Global, job: &Job, text: &[u8]) -> Result<Answer, NoMemory>
 
 // The network of the script that a text spells.
 fn spell(alloc: Global, text: &[u8]) -> Result<Spelled, Stop<Refusal>>
+    requires { length text.now ≤ MOST_BYTES }
     ensures ok { IfOk result (λ network. HasNetwork text.now (network_at network)) }
     ensures told { IfErr result (Tells (SpellsNoNetwork text.now)) }
 {
@@ -104,6 +114,7 @@ fn spell(alloc: Global, text: &[u8]) -> Result<Spelled, Stop<Refusal>>
 
 // The network of the specification that a text spells.
 fn spell_specification(alloc: Global, text: &[u8]) -> Result<Spelled, Stop<Answer>>
+    requires { length text.now ≤ MOST_BYTES }
     ensures ok { IfOk result (λ network. HasNetwork text.now (network_at network)) }
     ensures told { IfErr result (Tells (SpecificationSpellsNoNetwork text.now)) }
 {
@@ -115,6 +126,8 @@ fn spell_specification(alloc: Global, text: &[u8]) -> Result<Spelled, Stop<Answe
 
 // The walk from the texts of a script and its specification to their answer.
 fn compared_texts(alloc: Global, text: &[u8], specification: &[u8]) -> Result<Done, Stop<Answer>>
+    requires text { length text.now ≤ MOST_BYTES }
+    requires specification { length specification.now ≤ MOST_BYTES }
     ensures { Answers (TextsCompare text.now specification.now) result }
 {
     let network = spell(alloc, text)?;
@@ -122,8 +135,10 @@ fn compared_texts(alloc: Global, text: &[u8], specification: &[u8]) -> Result<Do
     compared(alloc, &network, &specified)
 }
 
-/// The answer that the texts of a script and of its specification call for.
+/// The answer that the texts of a script and of its specification call for. Each has at most `MOST_BYTES` bytes.
 pub fn judge_pair(alloc: Global, text: &[u8], specification: &[u8]) -> Result<Answer, NoMemory>
+    requires text { length text.now ≤ MOST_BYTES }
+    requires specification { length specification.now ≤ MOST_BYTES }
     ensures { IfOk result (TextsCompare text.now specification.now) }
 {
     finished(compared_texts(alloc, text, specification))

@@ -1,6 +1,6 @@
 //! From the words to the reply: the script is loaded, or made for a trial, and judged.
 
-ghost use Rattle.std.specs.Prelude.{◌≡◌, ◌≤◌, [], None, Some, IfOk};
+ghost use Rattle.std.specs.Prelude.{◌≡◌, ◌≤◌, [], None, Some, IfOk, length};
 ghost use Rattle.command_words.specs.declared.request.Job.TheVariants.{Check};
 ghost use Rattle.command_words.specs.declared.request.Request.TheVariants as asking;
 ghost use Rattle.command_words.specs.Request.{NamesNoScript, names};
@@ -43,6 +43,7 @@ fn unloaded(side: Side, fault: LoadFault) -> Result<Reply, NoMemory>
 
 // The reply that the text of a script calls for.
 fn replied(alloc: Global, trial: Option<Trial>, job: &Job, text: &[u8]) -> Result<Reply, NoMemory>
+    requires { length text.now ≤ MOST_BYTES }
     ensures { IfOk result (λ reply. (reply.trial ≡ trial) × TextCallsFor text.now job.now reply.answer) }
 {
     match judge(alloc, job, text) {
@@ -85,6 +86,8 @@ fn scripted<S: Shelf>(
 
 // The reply for which the texts of a script and its specification call.
 fn compared_reply(alloc: Global, text: &[u8], specification: &[u8]) -> Result<Reply, NoMemory>
+    requires text { length text.now ≤ MOST_BYTES }
+    requires specification { length specification.now ≤ MOST_BYTES }
     ensures { IfOk result (λ reply. (reply.trial ≡ None) × TextsCompare text.now specification.now reply.answer) }
 {
     let answer = judge_pair(alloc, text, specification)?;
@@ -117,6 +120,7 @@ fn against<S: Shelf>(
     specification: &[u8],
     shelf: &mut S,
 ) -> Result<Reply, NoMemory>
+    requires { length text.now ≤ MOST_BYTES }
     ensures cause { IfOk result (AnswersLast (S.texts shelf.old)
         (shelf_signs (S.faults shelf.old) (S.faults shelf.new) (S.taken shelf.old) (S.taken shelf.new)) specification.now (TextsCompare text.now)) }
     ensures texts_stay { S.texts shelf.new ≡ S.texts shelf.old }

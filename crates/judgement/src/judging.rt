@@ -6,6 +6,7 @@ ghost use Rattle.network_stages.specs.Networks.{components_at, network_at};
 ghost use Rattle.process_steps.specs.ComponentStep.{ProcessStep};
 ghost use Rattle.report.specs.Stops.{Answers};
 ghost use Rattle.judgement.specs.Judged.{IsJudged, RuleDecides};
+ghost use Rattle.script_sizes.specs.Size.{AreSmall};
 
 use crate::rules::{noted, ranked};
 use csp_tables::Rule;
@@ -35,8 +36,9 @@ fn ruled(
     Ok(deadlock_free(rule, tables, shaped, &ranking))
 }
 
-/// The answer to a script that is judged by a rule.
+/// The answer to a script that is judged by a rule. It holds no more than a text within the limit spells.
 pub fn judged(alloc: Global, rule: Rule, script: &Script) -> Result<Done, Stop<Answer>>
+    requires { AreSmall script.now.decls }
     ensures { Answers (IsJudged script.now rule) result }
 {
     let network = spell_network(alloc, script)?;

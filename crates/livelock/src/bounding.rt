@@ -6,6 +6,7 @@ ghost use Rattle.report.specs.Stops.{Answers};
 ghost use Rattle.report.specs.declared.answer.Done.TheVariants as done;
 ghost use Rattle.livelock.specs.Bounded.{IsBounded, OrderDecides};
 ghost use Rattle.livelock.specs.Stopping.{TellsFault};
+ghost use Rattle.script_sizes.specs.Size.{AreSmall};
 
 use crate::named::{expression_named, hidden_set};
 use containers::Items;
@@ -62,8 +63,10 @@ fn bound_with(alloc: Global, tabled: &Tabled<'_>, events: &EventSet) -> Result<D
     }
 }
 
-/// The bound on the hidden events of a script's network, where the events of the set with this name are hidden.
+/// The bound on the hidden events of a script's network, where the events of the set with this name are hidden. The script holds no more than a text
+/// within the limit spells.
 pub fn bounded(alloc: Global, script: &Script, name: &[u8]) -> Result<Done, Stop<Answer>>
+    requires { AreSmall script.now.decls }
     ensures { Answers (IsBounded script.now name.now) result }
 {
     let network = spell_network(alloc, script)?;

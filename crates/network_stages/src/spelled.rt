@@ -6,6 +6,7 @@ ghost use Rattle.network_trees.specs.NetworkOf.{network_of};
 ghost use Rattle.report.specs.Stops.{Tells};
 ghost use Rattle.network_stages.specs.Networks.{IsNetworkOf, components_at, network_at, tree_at};
 ghost use Rattle.network_stages.specs.Stages.{HasNoNetwork, SpellsNone};
+ghost use Rattle.script_sizes.specs.Size.{AreSmall};
 
 use crate::telling::network_told;
 use containers::Boxed;
@@ -94,8 +95,9 @@ fn seated(alloc: Global, program: Boxed<Program>) -> Result<Spelled, Stop<Refusa
     }
 }
 
-/// The network of a script, or why it has none.
+/// The network of a script that holds no more than a text within the limit spells, or why it has none.
 pub fn spell_network(alloc: Global, script: &Script) -> Result<Spelled, Stop<Refusal>>
+    requires { AreSmall script.now.decls }
     ensures ok { IfOk result (λ made. IsNetworkOf script.now (network_at made)) }
     ensures told { IfErr result (Tells (HasNoNetwork script.now)) }
 {

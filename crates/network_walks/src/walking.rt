@@ -7,6 +7,7 @@ ghost use Rattle.numbered_walks.specs.Walks.{IsWalkOf};
 ghost use Rattle.report.specs.Stops.{Answers};
 ghost use Rattle.network_walks.specs.Tabled.{numbered};
 ghost use Rattle.network_walks.specs.Walked.{IsWalked, walk_answer};
+ghost use Rattle.script_sizes.specs.Size.{AreSmall};
 
 use crate::movers::movers;
 use crate::printed::printed_moves;
@@ -44,8 +45,9 @@ fn told(is_stuck: bool, moves: Items<PrintedMove>) -> Result<Done, Stop<Answer>>
     }
 }
 
-/// The answer to a script of which a walk is asked, with this seed and so many steps.
+/// The answer to a script of which a walk is asked, with this seed and so many steps. It holds no more than a text within the limit spells.
 pub fn walked(alloc: Global, script: &Script, seed: u32, steps: u32) -> Result<Done, Stop<Answer>>
+    requires { AreSmall script.now.decls }
     ensures { Answers (IsWalked script.now seed steps) result }
 {
     let network = spell_network(alloc, script)?;

@@ -5,6 +5,7 @@ ghost use Rattle.dl_limits.specs.declared.TheConstants.{MOST_COMPONENTS};
 ghost use Rattle.network_stages.specs.Networks.{components_at};
 ghost use Rattle.report.specs.Stops.{Answers, Tells};
 ghost use Rattle.tabulation.specs.Tabulated.{HasNoComponent, IsTabulated};
+ghost use Rattle.script_sizes.specs.Size.{AreSmall};
 
 use crate::printed::printed_nodes;
 use csp_text::Script;
@@ -30,7 +31,9 @@ fn seat_at(network: &Spelled, index: u32) -> Result<&Seat, Stop<Refusal>>
 }
 
 /// The answer to a script of which the normal table of the component with the number `index` is asked. The component has the whole room for itself.
+/// The script holds no more than a text within the limit spells.
 pub fn tabulated(alloc: Global, script: &Script, index: u32) -> Result<Done, Stop<Answer>>
+    requires { AreSmall script.now.decls }
     ensures { Answers (IsTabulated script.now index) result }
 {
     let network = spell_network(alloc, script)?;

@@ -1,0 +1,36 @@
+-- The text of a trial has at most as many bytes as a script may have.
+use Rattle.std.proofs.Common.{◌≡◌, ◌≤◌, ◌<◌, ◌+◌, ◌^◌, ℕ, List, ◌++◌, ◌∷◌, [], length, codes, sym, ap, subst, ◌∙◌, arith}
+use Rattle.std.proofs.lemmas.Fmt.{length-decimal-le}
+use Rattle.std.proofs.lemmas.List.{length-append}
+use Rattle.std.specs.Fmt.{decimal}
+use Rattle.command_words.specs.declared.request.Trial.{Trial}
+use Rattle.dl_limits.specs.declared.TheConstants.{MOST_BYTES}
+use Rattle.net_maker.specs.Families.{lines_of}
+use Rattle.net_maker.specs.declared.families.Family.{Family}
+use Rattle.net_maker.specs.declared.families.Family.TheVariants.{Chain, Forks, Mesh}
+use Rattle.dl_top.specs.Reply.{trial_text}
+
+-- the lines of each family are few
+lines_are_short : (f : Family) → length (lines_of f) ≤ 1000
+lines_are_short Forks = omega arith
+lines_are_short Chain = omega arith
+lines_are_short Mesh = omega arith
+
+digits_are_short : (n : ℕ) → n < 2 ^ 32 → length (decimal n) ≤ 10
+digits_are_short n small = let less : n < 10 ^ 10 = omega arith in let far : n < 2 ^ 64 = omega arith in length-decimal-le 10 n (omega arith) less far
+
+-- the first line and the others
+long : (digits lines : List ℕ) → length (((codes "N = " ++ digits) ++ 10 ∷ []) ++ lines) ≡ 4 + length digits + 1 + length lines
+long digits lines =
+    length-append ((codes "N = " ++ digits) ++ 10 ∷ []) lines
+    ∙ ap (λ n. n + length lines) (length-append (codes "N = " ++ digits) (10 ∷ []) ∙ ap (λ n. n + 1) (length-append (codes "N = ") digits))
+
+within : (whole digits lines : ℕ) → whole ≡ 4 + digits + 1 + lines → digits ≤ 10 → lines ≤ 1000 → whole ≤ MOST_BYTES
+within whole digits lines is few few_lines = omega arith
+
+-- the text of a trial
+pub trial_is_short : (trial : Trial) (text : List ℕ) → text ≡ trial_text trial → trial.size < 2 ^ 32 → length text ≤ MOST_BYTES
+trial_is_short trial text same small =
+    subst (λ (t : List ℕ). length t ≤ MOST_BYTES) (sym same)
+    (within (length (trial_text trial)) (length (decimal trial.size)) (length (lines_of trial.family)) (long (decimal trial.size) (lines_of trial.family))
+    (digits_are_short trial.size small) (lines_are_short trial.family))
