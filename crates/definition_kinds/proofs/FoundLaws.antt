@@ -54,7 +54,7 @@ pub rows-length : (xs : List (Vec End Global)) → length (rows xs) ≡ length x
 rows-length [] = refl
 rows-length (x ∷ xs) = ap suc (rows-length xs)
 
-firsts-length : (xs : List (List End)) → length (first_ends xs) ≡ length xs
+pub firsts-length : (xs : List (List End)) → length (first_ends xs) ≡ length xs
 firsts-length [] = refl
 firsts-length (x ∷ xs) = ap suc (firsts-length xs)
 

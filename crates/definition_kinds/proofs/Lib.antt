@@ -2,3 +2,4 @@ pub mod LeadingLaws
 pub mod SourceLaws
 pub mod ArcLaws
 pub mod FoundLaws
+pub mod SizeLaws

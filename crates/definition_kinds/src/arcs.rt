@@ -1,15 +1,15 @@
 //! Where bodies end as a digraph, in which arcs are turned round: an arc leads to a definition from each definition that it ends at a use of, and from
 //! one vertex more where it has the end that is looked for.
 
-ghost use Rattle.std.specs.Prelude.{◌≡◌, ℕ, ◌+◌, ◌<◌, ◌&&◌, ◌||◌, nat_eq, [], length, replicate, slice_get, IfOk, OnOk};
+ghost use Rattle.std.specs.Prelude.{◌≡◌, ℕ, ◌+◌, ◌<◌, ◌≤◌, ◌&&◌, ◌||◌, nat_eq, [], length, replicate, slice_get, IfOk, OnOk};
 ghost use Rattle.definition_kinds.specs.Sources as meant;
 ghost use Rattle.digraph.specs.Digraph.{has_arc};
+ghost use Rattle.dl_limits.specs.declared.TheConstants.{MOST_BYTES};
 ghost use Rattle.name_tables.specs.Ends.{rows};
 ghost use Rattle.script_names.specs.Kinds.{ends_at};
 
 use csp_base::NoMemory;
 use digraph::Rows;
-use name_tables::declared::next;
 use script_names::End;
 use std::alloc::Global;
 
@@ -71,9 +71,10 @@ fn add_ends(rows: &mut Rows, count: u32, target: End, d: u32, ends: &[End]) -> R
 
 // So many vertices and one more, without an arc.
 fn no_arcs(alloc: Global, count: u32) -> Result<Rows, NoMemory>
+    requires { count ≤ MOST_BYTES }
     ensures { IfOk result (λ made. made ≡ replicate (count + 1) []) }
 {
-    Rows::new(alloc, next(count)?)
+    Rows::new(alloc, count + 1)
 }
 
 /// The digraph of these definitions. The vertex `count`, which is their number, stands for the end that is looked for.
@@ -83,7 +84,8 @@ pub fn turned_round(
     count: u32,
     target: End,
 ) -> Result<Rows, NoMemory>
-    requires { length all.now ≡ count }
+    requires count { length all.now ≡ count }
+    requires few { count ≤ MOST_BYTES }
     ensures len { IfOk result (λ made. length made ≡ count + 1) }
     ensures arcs { IfOk result (λ made. (v w : ℕ) → has_arc made v w ≡ meant.some_from count target v (ends_at (slice_get (rows all.now) w))) }
 {

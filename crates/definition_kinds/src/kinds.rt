@@ -1,19 +1,20 @@
 //! What the definitions of a script are.
 
-ghost use Rattle.std.specs.Prelude.{◌≡◌, IfOk};
+ghost use Rattle.std.specs.Prelude.{◌≡◌, ◌≤◌, length, IfOk};
 ghost use Rattle.definition_kinds.specs.Found.{AreFound, IsFound};
 ghost use Rattle.definition_kinds.specs.Found as meant;
 ghost use Rattle.definition_kinds.specs.Sources.{AreLeading};
+ghost use Rattle.dl_limits.specs.declared.TheConstants.{MOST_BYTES};
 ghost use Rattle.name_tables.specs.Ends.{rows};
 ghost use Rattle.name_tables.specs.Firsts.{SameFirsts};
 ghost use Rattle.script_names.specs.Kinds.{AreKinds, AreKindsOf, first_ends as firsts_of};
 ghost use Rattle.script_names.specs.Names.{declared};
+ghost use Rattle.script_sizes.specs.Size.{size};
 
 use crate::leading::{first_ends, is_marked, leading};
 use csp_base::NoMemory;
 use csp_text::Decl;
 use name_tables::Dictionary;
-use name_tables::declared::short;
 use name_tables::ends::ends_of_all;
 use script_names::{Class, End, Kind};
 use std::alloc::Global;
@@ -41,7 +42,8 @@ impl Drop for Found {
 
 /// What each definition of a script is, where `names` are its declared names.
 pub fn kinds_of(alloc: Global, decls: &[Decl], names: &Dictionary) -> Result<Vec<Kind>, NoMemory>
-    requires { SameFirsts names.now (declared decls.now) }
+    requires names { SameFirsts names.now (declared decls.now) }
+    requires few { size decls.now ≤ MOST_BYTES }
     ensures { IfOk result (λ kinds. AreKinds decls.now kinds.items) }
 {
     let all = ends_of_all(alloc, names, decls)?;
@@ -51,6 +53,7 @@ pub fn kinds_of(alloc: Global, decls: &[Decl], names: &Dictionary) -> Result<Vec
 
 // What definitions with these ends are.
 fn kinds_among(alloc: Global, all: &[Vec<End>]) -> Result<Vec<Kind>, NoMemory>
+    requires { length all.now ≤ MOST_BYTES }
     ensures { IfOk result (λ kinds. AreKindsOf (rows all.now) kinds.items) }
 {
     let found = found_among(alloc, all)?;
@@ -60,6 +63,7 @@ fn kinds_among(alloc: Global, all: &[Vec<End>]) -> Result<Vec<Kind>, NoMemory>
 
 // What is found of definitions with these ends.
 fn found_among(alloc: Global, all: &[Vec<End>]) -> Result<Found, NoMemory>
+    requires { length all.now ≤ MOST_BYTES }
     ensures { IfOk result (IsFound (rows all.now)) }
 {
     let (data, nothing) = classes_among(alloc, all)?;
@@ -73,6 +77,7 @@ fn found_among(alloc: Global, all: &[Vec<End>]) -> Result<Found, NoMemory>
 
 // Which definitions with these ends are data, and which end at a name without a meaning.
 fn classes_among(alloc: Global, all: &[Vec<End>]) -> Result<(Vec<bool>, Vec<bool>), NoMemory>
+    requires { length all.now ≤ MOST_BYTES }
     ensures data { IfOk result (λ marks. AreLeading End.Data (firsts_of (rows all.now)) marks.0.items) }
     ensures nothing { IfOk result (λ marks. AreLeading End.Nothing (firsts_of (rows all.now)) marks.1.items) }
 {
@@ -83,10 +88,11 @@ fn classes_among(alloc: Global, all: &[Vec<End>]) -> Result<(Vec<bool>, Vec<bool
 
 // What so many definitions are.
 fn kinds_found(alloc: Global, found: &Found, count: usize) -> Result<Vec<Kind>, NoMemory>
+    requires { count ≤ MOST_BYTES }
     ensures { IfOk result (λ kinds. AreFound found.now count kinds.items) }
 {
     let mut kinds = Vec::new(alloc);
-    for d in 0..short(count)? {
+    for d in 0..count as u32 {
         kinds.push(kind_found(found, d))?;
     }
     Ok(kinds)

@@ -1,9 +1,10 @@
 //! The definitions from which following ends leads to an end that is looked for.
 
-ghost use Rattle.std.specs.Prelude.{◌≡◌, ◌<◌, ℕ, true, [], ◌∷◌, ◌++◌, length, take, IfOk, OnOk};
+ghost use Rattle.std.specs.Prelude.{◌≡◌, ◌<◌, ◌≤◌, ℕ, true, [], ◌∷◌, ◌++◌, length, take, IfOk, OnOk};
 ghost use Rattle.csp_base.specs.Members.{has};
 ghost use Rattle.definition_kinds.specs.Sources as sources;
 ghost use Rattle.definition_kinds.specs.Sources.{AreLeading, AreReached, is_last};
+ghost use Rattle.dl_limits.specs.declared.TheConstants.{MOST_BYTES};
 ghost use Rattle.name_tables.specs.Ends.{rows};
 ghost use Rattle.script_names.specs.Kinds as meant;
 
@@ -11,16 +12,16 @@ use crate::arcs::turned_round;
 use containers::Numbering;
 use csp_base::NoMemory;
 use digraph::reachable_from;
-use name_tables::declared::short;
 use script_names::End;
 use std::alloc::Global;
 
 /// For each definition whether it leads to `target`, which is data, a parallel or no meaning.
 pub fn leading(alloc: Global, all: &[Vec<End>], target: End) -> Result<Vec<bool>, NoMemory>
-    requires { is_last target target ≡ true }
+    requires last { is_last target target ≡ true }
+    requires few { length all.now ≤ MOST_BYTES }
     ensures { IfOk result (λ marks. AreLeading target (rows all.now) marks.items) }
 {
-    let count = short(all.len())?;
+    let count = all.len() as u32;
     let found = reached(alloc, all, count, target)?;
     let marks = marks_of(alloc, &found, count)?;
     Ok(marks)
@@ -34,6 +35,7 @@ fn reached(
     target: End,
 ) -> Result<Numbering<u32>, NoMemory>
     requires count { length all.now ≡ count }
+    requires few { count ≤ MOST_BYTES }
     requires last { is_last target target ≡ true }
     ensures { IfOk result (AreReached target (rows all.now)) }
 {

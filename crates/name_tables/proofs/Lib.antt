@@ -2,3 +2,4 @@ pub mod NameLemmas
 pub mod SpellingLemmas
 pub mod ScopeLemmas
 pub mod DeclaredLemmas
+pub mod SizeLaws

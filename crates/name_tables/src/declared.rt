@@ -1,9 +1,11 @@
 //! The dictionary of a script.
 
-ghost use Rattle.std.specs.Prelude.{◌≡◌, ◌+◌, [], ◌∷◌, ◌++◌, length, IfOk, OnOk};
+ghost use Rattle.std.specs.Prelude.{◌≡◌, ◌+◌, ◌<◌, ◌≤◌, [], ◌∷◌, ◌++◌, length, IfOk, OnOk};
+ghost use Rattle.dl_limits.specs.declared.TheConstants.{MOST_BYTES};
 ghost use Rattle.script_names.specs.Names.{channels_from, constants_from, counted, declared, declares};
+ghost use Rattle.script_sizes.specs.Size.{declaration_size, size};
 ghost use Rattle.name_tables.specs.Firsts.{SameFirsts};
-ghost use Rattle.name_tables.specs.Counted.{counts};
+ghost use Rattle.name_tables.specs.Counted.{counts, total};
 
 use crate::dictionary::Dictionary;
 use csp_base::{Name, NoMemory};
@@ -22,28 +24,9 @@ pub struct Numbers {
     pub definitions: u32,
 }
 
-/// The number after `n`, which is refused like want of memory where its type has none.
-pub fn next(n: u32) -> Result<u32, NoMemory>
-    ensures { IfOk result (λ next. next ≡ n + 1) }
-{
-    match n.checked_add(1) {
-        Some(next) => Ok(next),
-        None => Err(NoMemory),
-    }
-}
-
-/// A length as a number of 32 bits, which is refused like want of memory where it has more.
-pub fn short(len: usize) -> Result<u32, NoMemory>
-    ensures { IfOk result (λ n. n ≡ len) }
-{
-    match u32::try_from(len) {
-        Ok(n) => Ok(n),
-        Err(_) => Err(NoMemory),
-    }
-}
-
 /// The declared names of declarations with what their first declarations make them.
 pub fn dictionary_of(alloc: Global, decls: &[Decl]) -> Result<Dictionary, NoMemory>
+    requires { size decls.now ≤ MOST_BYTES }
     ensures { IfOk result (λ names. SameFirsts names (declared decls.now)) }
 {
     let mut names = Dictionary::new(alloc);
@@ -53,6 +36,7 @@ pub fn dictionary_of(alloc: Global, decls: &[Decl]) -> Result<Dictionary, NoMemo
 
 // Declares what declarations declare, the first numbers being 0.
 fn declare_all(alloc: Global, names: &mut Dictionary, decls: &[Decl]) -> Result<(), NoMemory>
+    requires { size decls.now ≤ MOST_BYTES }
     ensures { OnOk result (SameFirsts names.new (names.old ++ declared decls.now)) }
 {
     let mut numbers = Numbers {
@@ -73,12 +57,13 @@ fn declare(
     numbers: &mut Numbers,
     decl: &Decl,
 ) -> Result<(), NoMemory>
+    requires { total (counts numbers.old) + declaration_size decl.now ≤ MOST_BYTES }
     ensures names { OnOk result (SameFirsts names.new (names.old ++ declares (counts numbers.old) decl.now)) }
     ensures numbers { OnOk result (counts numbers.new ≡ counted (counts numbers.old) decl.now) }
 {
     match decl {
         Decl::Channel(xs, types) => {
-            let fields = short(types.len())?;
+            let fields = types.len() as u32;
             declare_channels(alloc, names, numbers, xs.as_slice(), fields)
         }
         Decl::Datatype(x, ks) => declare_datatype(alloc, names, numbers, x, ks.as_slice()),
@@ -89,13 +74,14 @@ fn declare(
 }
 
 // The number of one more definition, which is counted.
-fn take_definition(numbers: &mut Numbers) -> Result<u32, NoMemory>
-    ensures number { IfOk result (λ d. d ≡ numbers.old.definitions) }
-    ensures numbers { OnOk result (numbers.new ≡ record numbers.old { definitions = numbers.old.definitions + 1 }) }
+fn take_definition(numbers: &mut Numbers) -> u32
+    requires { numbers.old.definitions < MOST_BYTES }
+    ensures number { result ≡ numbers.old.definitions }
+    ensures numbers { numbers.new ≡ record numbers.old { definitions = numbers.old.definitions + 1 } }
 {
     let d = numbers.definitions;
-    numbers.definitions = next(d)?;
-    Ok(d)
+    numbers.definitions = d + 1;
+    d
 }
 
 // Declares a set by its name.
@@ -105,10 +91,11 @@ fn declare_set(
     numbers: &mut Numbers,
     x: &Name,
 ) -> Result<(), NoMemory>
+    requires { numbers.old.definitions < MOST_BYTES }
     ensures names { OnOk result (SameFirsts names.new (names.old ++ (x.now, Entity.Set numbers.old.definitions) ∷ [])) }
     ensures numbers { OnOk result (numbers.new ≡ record numbers.old { definitions = numbers.old.definitions + 1 }) }
 {
-    let d = take_definition(numbers)?;
+    let d = take_definition(numbers);
     names.declare(x, alloc, Entity::Set(d))
 }
 
@@ -120,12 +107,13 @@ fn declare_definition(
     x: &Name,
     params: usize,
 ) -> Result<(), NoMemory>
+    requires definitions { numbers.old.definitions < MOST_BYTES }
+    requires params { params ≤ MOST_BYTES }
     ensures names { OnOk result (SameFirsts names.new (names.old ++ (x.now, Entity.Definition numbers.old.definitions params) ∷ [])) }
     ensures numbers { OnOk result (numbers.new ≡ record numbers.old { definitions = numbers.old.definitions + 1 }) }
 {
-    let d = take_definition(numbers)?;
-    let params = short(params)?;
-    names.declare(x, alloc, Entity::Definition(d, params))
+    let d = take_definition(numbers);
+    names.declare(x, alloc, Entity::Definition(d, params as u32))
 }
 
 // Declares a datatype and its constants.
@@ -136,6 +124,8 @@ fn declare_datatype(
     x: &Name,
     ks: &[Name],
 ) -> Result<(), NoMemory>
+    requires definitions { numbers.old.definitions < MOST_BYTES }
+    requires constants { numbers.old.constants + length ks.now ≤ MOST_BYTES }
     ensures names { OnOk result (SameFirsts names.new (names.old ++ (x.now, Entity.Set numbers.old.definitions) ∷ constants_from numbers.old.constants ks.now)) }
     ensures numbers { OnOk result (numbers.new ≡ record numbers.old { definitions = numbers.old.definitions + 1; constants = numbers.old.constants + length ks.now }) }
 {
@@ -152,12 +142,13 @@ fn declare_channels(
     xs: &[Name],
     fields: u32,
 ) -> Result<(), NoMemory>
+    requires { numbers.old.channels + length xs.now ≤ MOST_BYTES }
     ensures names { OnOk result (SameFirsts names.new (names.old ++ channels_from numbers.old.channels fields xs.now)) }
     ensures numbers { OnOk result (numbers.new ≡ record numbers.old { channels = numbers.old.channels + length xs.now }) }
 {
     for x in xs {
         names.declare(x, alloc, Entity::Channel(numbers.channels, fields))?;
-        numbers.channels = next(numbers.channels)?;
+        numbers.channels += 1;
     }
     Ok(())
 }
@@ -169,12 +160,13 @@ fn declare_constants(
     numbers: &mut Numbers,
     xs: &[Name],
 ) -> Result<(), NoMemory>
+    requires { numbers.old.constants + length xs.now ≤ MOST_BYTES }
     ensures names { OnOk result (SameFirsts names.new (names.old ++ constants_from numbers.old.constants xs.now)) }
     ensures numbers { OnOk result (numbers.new ≡ record numbers.old { constants = numbers.old.constants + length xs.now }) }
 {
     for x in xs {
         names.declare(x, alloc, Entity::Constant(numbers.constants))?;
-        numbers.constants = next(numbers.constants)?;
+        numbers.constants += 1;
     }
     Ok(())
 }

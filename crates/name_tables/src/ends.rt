@@ -1,11 +1,13 @@
 //! Where bodies end.
 
-ghost use Rattle.std.specs.Prelude.{◌≡◌, List, [], ◌∷◌, ◌++◌, IfOk, OnOk};
+ghost use Rattle.std.specs.Prelude.{◌≡◌, ◌≤◌, List, [], ◌∷◌, ◌++◌, length, IfOk, OnOk};
 ghost use Rattle.std.specs.List.{flat_map};
+ghost use Rattle.dl_limits.specs.declared.TheConstants.{MOST_BYTES};
 ghost use Rattle.script_names.specs.Contents.{parameters};
 ghost use Rattle.script_names.specs.Kinds as meant;
 ghost use Rattle.script_names.specs.Names.{first_of, sense_in};
 ghost use Rattle.script_names.specs.Typed.{names_of};
+ghost use Rattle.script_sizes.specs.Size.{declaration_size, size};
 ghost use Rattle.name_tables.specs.Ends.{rows};
 
 use crate::dictionary::Dictionary;
@@ -108,6 +110,7 @@ pub fn ends_of_all(
     names: &Dictionary,
     decls: &[Decl],
 ) -> Result<Vec<Vec<End>>, NoMemory>
+    requires { size decls.now ≤ MOST_BYTES }
     ensures { IfOk result (λ all. rows all.items ≡ flat_map (meant.body_ends (first_of names.now)) decls.now) }
 {
     let mut all = Vec::new(alloc);
@@ -122,6 +125,7 @@ fn add_bodies(
     all: &mut Vec<Vec<End>>,
     decls: &[Decl],
 ) -> Result<(), NoMemory>
+    requires { size decls.now ≤ MOST_BYTES }
     ensures { OnOk result (rows all.new.items ≡ rows all.old.items ++ flat_map (meant.body_ends (first_of names.now)) decls.now) }
 {
     for decl in decls {
@@ -137,6 +141,7 @@ fn add_body(
     all: &mut Vec<Vec<End>>,
     decl: &Decl,
 ) -> Result<(), NoMemory>
+    requires { declaration_size decl.now ≤ MOST_BYTES }
     ensures { OnOk result (rows all.new.items ≡ rows all.old.items ++ meant.body_ends (first_of names.now) decl.now) }
 {
     match decl {
@@ -164,6 +169,7 @@ fn ends_under(
     params: &[Name],
     tree: &Tree,
 ) -> Result<Vec<End>, NoMemory>
+    requires { length params.now ≤ MOST_BYTES }
     ensures { IfOk result (λ ends. ends.items ≡ meant.ends (first_of names.now) params.now tree.now) }
 {
     let mut scope = Scope::new(alloc);
@@ -196,12 +202,13 @@ fn data_ends(alloc: Global) -> Result<Vec<End>, NoMemory>
 
 /// Binds names, numbered from 0 on.
 pub fn bind_all(scope: &mut Scope, xs: &[Name]) -> Result<(), NoMemory>
+    requires { length xs.now ≤ MOST_BYTES }
     ensures { OnOk result (scope.new ≡ scope.old ++ parameters 0 xs.now) }
 {
     let mut n = 0;
     for x in xs {
         scope.bind(x, n)?;
-        n = crate::declared::next(n)?;
+        n += 1;
     }
     Ok(())
 }

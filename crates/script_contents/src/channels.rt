@@ -1,11 +1,14 @@
 //! The channels and the constants of a script.
 
-ghost use Rattle.std.specs.Prelude.{◌≡◌, [], None, ◌++◌, map, IfOk, OnOk};
+ghost use Rattle.std.specs.Prelude.{◌≡◌, ◌≤◌, [], None, ◌++◌, map, IfOk, OnOk};
 ghost use Rattle.std.specs.List.{flat_map};
+ghost use Rattle.dl_limits.specs.declared.TheConstants.{MOST_BYTES};
 ghost use Rattle.script_names.specs.Contents as meant;
 ghost use Rattle.script_names.specs.Names.{Name, first_of};
 ghost use Rattle.script_names.specs.Typed.{exprs, reading};
 ghost use Rattle.script_contents.specs.Plain.{constants_in, plain_channel};
+ghost use Rattle.script_sizes.specs.BindingTokens.{all_tokens};
+ghost use Rattle.script_sizes.specs.Size.{declaration_size, size};
 
 use containers::Items;
 use csp_base::{Name, NoMemory};
@@ -18,6 +21,7 @@ use typed_trees::typed_exprs;
 
 /// The types of a channel's fields.
 pub fn types_of(meanings: &Meanings<'_>, types: &[Tree]) -> Result<Items<Expr>, NoMemory>
+    requires { all_tokens types.now ≤ MOST_BYTES }
     ensures { IfOk result (λ typed. typed ≡ exprs (map (reading (first_of meanings.now.names.now) meanings.now.kinds.now) types.now) [] 0) }
 {
     let mut scope = Scope::new(meanings.alloc);
@@ -31,6 +35,7 @@ pub fn channels_and_constants(
     meanings: &Meanings<'_>,
     decls: &[Decl],
 ) -> Result<(Items<Channel>, Items<Name>), NoMemory>
+    requires { size decls.now ≤ MOST_BYTES }
     ensures channels { IfOk result (λ made. made.0 ≡ flat_map (meant.channels_of (first_of meanings.now.names.now) meanings.now.kinds.now) decls.now) }
     ensures constants { IfOk result (λ made. made.1 ≡ flat_map constants_in decls.now) }
 {
@@ -41,6 +46,7 @@ pub fn channels_and_constants(
 
 // The channels of a script.
 fn channels(meanings: &Meanings<'_>, decls: &[Decl]) -> Result<Items<Channel>, NoMemory>
+    requires { size decls.now ≤ MOST_BYTES }
     ensures { IfOk result (λ made. made ≡ flat_map (meant.channels_of (first_of meanings.now.names.now) meanings.now.kinds.now) decls.now) }
 {
     let mut made = Items::new(meanings.alloc);
@@ -56,6 +62,7 @@ fn add_channels(
     made: &mut Items<Channel>,
     decl: &Decl,
 ) -> Result<(), NoMemory>
+    requires { declaration_size decl.now ≤ MOST_BYTES }
     ensures { OnOk result (made.new ≡ made.old ++ meant.channels_of (first_of meanings.now.names.now) meanings.now.kinds.now decl.now) }
 {
     match decl {

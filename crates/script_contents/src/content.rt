@@ -1,10 +1,13 @@
 //! What a script puts into its program.
 
-ghost use Rattle.std.specs.Prelude.{◌≡◌, Some, [], IfOk};
+ghost use Rattle.std.specs.Prelude.{◌≡◌, ◌≤◌, Some, [], IfOk};
+ghost use Rattle.dl_limits.specs.declared.TheConstants.{MOST_BYTES};
 ghost use Rattle.name_tables.specs.Firsts.{SameFirsts};
 ghost use Rattle.script_names.specs.Contents as meant;
 ghost use Rattle.script_names.specs.Names.{declared, first_of, none_yet};
 ghost use Rattle.script_names.specs.Typed.{reading};
+ghost use Rattle.script_sizes.specs.BindingTokens.{tokens};
+ghost use Rattle.script_sizes.specs.Size.{size};
 
 use crate::channels::channels_and_constants;
 use crate::definitions::definitions;
@@ -24,6 +27,7 @@ pub fn plain_content(
 ) -> Result<Content, NoMemory>
     requires names { SameFirsts meanings.now.names.now (declared decls.now) }
     requires root { meant.first_assertion decls.now ≡ Some root.now }
+    requires few { size decls.now ≤ MOST_BYTES }
     ensures { IfOk result (λ content. content ≡ meant.plain_content decls.now meanings.now.kinds.now) }
 {
     let (channels, consts) = channels_and_constants(meanings, decls)?;
@@ -46,6 +50,8 @@ fn definitions_and_root(
     decls: &[Decl],
     root: &Tree,
 ) -> Result<(Items<Def>, Net), NoMemory>
+    requires few { size decls.now ≤ MOST_BYTES }
+    requires root { tokens root.now ≤ MOST_BYTES }
     ensures definitions { IfOk result (λ made. made.0 ≡ meant.definitions_from (first_of meanings.now.names.now) meanings.now.kinds.now none_yet decls.now) }
     ensures root { IfOk result (λ made. made.1 ≡ (reading (first_of meanings.now.names.now) meanings.now.kinds.now root.now).net [] 0) }
 {
@@ -56,6 +62,7 @@ fn definitions_and_root(
 
 // The network that is asserted.
 fn asserted(meanings: &Meanings<'_>, root: &Tree) -> Result<Net, NoMemory>
+    requires { tokens root.now ≤ MOST_BYTES }
     ensures { IfOk result (λ net. net ≡ (reading (first_of meanings.now.names.now) meanings.now.kinds.now root.now).net [] 0) }
 {
     let mut scope = Scope::new(meanings.alloc);

@@ -1,19 +1,22 @@
 //! The definitions of a script.
 
-ghost use Rattle.std.specs.Prelude.{◌≡◌, ◌+◌, ◌++◌, length, slice_get, IfOk, OnOk};
-ghost use Rattle.name_tables.specs.Counted.{counts};
+ghost use Rattle.std.specs.Prelude.{◌≡◌, ◌+◌, ◌≤◌, ◌++◌, length, slice_get, IfOk, OnOk};
+ghost use Rattle.dl_limits.specs.declared.TheConstants.{MOST_BYTES};
+ghost use Rattle.name_tables.specs.Counted.{counts, total};
 ghost use Rattle.script_contents.specs.Plain.{body_at, datatype_of, definition_at, nametype_of, process_body};
 ghost use Rattle.script_names.specs.Contents as meant;
 ghost use Rattle.script_names.specs.Faults.{kind_class, kind_network};
 ghost use Rattle.script_names.specs.Names.{counted, first_of, none_yet};
 ghost use Rattle.script_names.specs.Typed.{reading};
 ghost use Rattle.script_names.specs.declared.kinds.Kind.{Kind};
+ghost use Rattle.script_sizes.specs.BindingTokens.{tokens};
+ghost use Rattle.script_sizes.specs.Size.{declaration_size, size};
 
 use containers::Items;
 use csp_base::{Name, NoMemory};
 use csp_program::{Body, Def};
 use csp_text::{Decl, Tree};
-use name_tables::declared::{Numbers, next, short};
+use name_tables::declared::Numbers;
 use name_tables::ends::bind_all;
 use name_tables::{Meanings, Scope};
 use script_names::{Class, Kind};
@@ -22,6 +25,7 @@ use typed_trees::{typed_expr, typed_net, typed_proc};
 
 /// The definitions of a script.
 pub fn definitions(meanings: &Meanings<'_>, decls: &[Decl]) -> Result<Items<Def>, NoMemory>
+    requires { size decls.now ≤ MOST_BYTES }
     ensures { IfOk result (λ made. made ≡ meant.definitions_from (first_of meanings.now.names.now) meanings.now.kinds.now none_yet decls.now) }
 {
     let mut made = Items::new(meanings.alloc);
@@ -32,47 +36,33 @@ pub fn definitions(meanings: &Meanings<'_>, decls: &[Decl]) -> Result<Items<Def>
     };
     for decl in decls {
         add_definition(meanings, &mut made, numbers, decl)?;
-        numbers = count(numbers, decl)?;
+        numbers = count(numbers, decl);
     }
     Ok(made)
 }
 
 // The numbers after a declaration.
-fn count(numbers: Numbers, decl: &Decl) -> Result<Numbers, NoMemory>
-    ensures { IfOk result (λ after. counts after ≡ counted (counts numbers) decl.now) }
+fn count(numbers: Numbers, decl: &Decl) -> Numbers
+    requires { total (counts numbers) + declaration_size decl.now ≤ MOST_BYTES }
+    ensures { counts result ≡ counted (counts numbers) decl.now }
 {
     match decl {
-        Decl::Channel(xs, _) => sum(numbers.channels, xs.len()).map(|channels| Numbers {
-            channels,
+        Decl::Channel(xs, _) => Numbers {
+            channels: numbers.channels + xs.len() as u32,
             constants: numbers.constants,
             definitions: numbers.definitions,
-        }),
-        Decl::Datatype(_, ks) => {
-            let constants = sum(numbers.constants, ks.len())?;
-            next(numbers.definitions).map(|definitions| Numbers {
-                channels: numbers.channels,
-                constants,
-                definitions,
-            })
-        }
-        Decl::Nametype(_, _) | Decl::Define(_, _, _) => {
-            next(numbers.definitions).map(|definitions| Numbers {
-                channels: numbers.channels,
-                constants: numbers.constants,
-                definitions,
-            })
-        }
-        Decl::Assert(_) | Decl::Roles(_) | Decl::Resource(_) => Ok(numbers),
-    }
-}
-
-// The sum, which is refused like want of memory where its type has none.
-fn sum(n: u32, m: usize) -> Result<u32, NoMemory>
-    ensures { IfOk result (λ sum. sum ≡ n + m) }
-{
-    match n.checked_add(short(m)?) {
-        Some(sum) => Ok(sum),
-        None => Err(NoMemory),
+        },
+        Decl::Datatype(_, ks) => Numbers {
+            channels: numbers.channels,
+            constants: numbers.constants + ks.len() as u32,
+            definitions: numbers.definitions + 1,
+        },
+        Decl::Nametype(_, _) | Decl::Define(_, _, _) => Numbers {
+            channels: numbers.channels,
+            constants: numbers.constants,
+            definitions: numbers.definitions + 1,
+        },
+        Decl::Assert(_) | Decl::Roles(_) | Decl::Resource(_) => numbers,
     }
 }
 
@@ -83,6 +73,7 @@ fn add_definition(
     numbers: Numbers,
     decl: &Decl,
 ) -> Result<(), NoMemory>
+    requires { total (counts numbers) + declaration_size decl.now ≤ MOST_BYTES }
     ensures { OnOk result (made.new ≡ made.old ++ meant.defined (first_of meanings.now.names.now) meanings.now.kinds.now (counts numbers) decl.now) }
 {
     match decl {
@@ -106,6 +97,7 @@ fn define(
     params: &[Name],
     tree: &Tree,
 ) -> Result<Def, NoMemory>
+    requires { length params.now + tokens tree.now ≤ MOST_BYTES }
     ensures { IfOk result (λ def. def ≡ definition_at (first_of meanings.now.names.now) meanings.now.kinds.now d x.now params.now tree.now) }
 {
     let name = x.try_clone(meanings.alloc)?;
@@ -119,12 +111,12 @@ fn define(
 
 // The body of the definition with the number `d`, which has these parameters.
 fn body_of(meanings: &Meanings<'_>, d: u32, params: &[Name], tree: &Tree) -> Result<Body, NoMemory>
+    requires { length params.now + tokens tree.now ≤ MOST_BYTES }
     ensures { IfOk result (λ body. body ≡ body_at (first_of meanings.now.names.now) meanings.now.kinds.now d tree.now (length params.now) (meant.parameters 0 params.now)) }
 {
-    let n = short(params.len())?;
     let mut scope = Scope::new(meanings.alloc);
     bind_all(&mut scope, params)?;
-    body_under(meanings, d, &mut scope, n, tree)
+    body_under(meanings, d, &mut scope, params.len() as u32, tree)
 }
 
 // The body of the definition with the number `d`, whose first binding token has the number `n`.
@@ -135,6 +127,7 @@ fn body_under(
     n: u32,
     tree: &Tree,
 ) -> Result<Body, NoMemory>
+    requires { n + tokens tree.now ≤ MOST_BYTES }
     ensures { IfOk result (λ body. body ≡ body_at (first_of meanings.now.names.now) meanings.now.kinds.now d tree.now n scope.old) }
 {
     let mut next = n;
@@ -153,6 +146,7 @@ fn process_under(
     n: u32,
     tree: &Tree,
 ) -> Result<Body, NoMemory>
+    requires { n + tokens tree.now ≤ MOST_BYTES }
     ensures { IfOk result (λ body. body ≡ process_body network (reading (first_of meanings.now.names.now) meanings.now.kinds.now tree.now) n scope.old) }
 {
     let mut next = n;
@@ -179,6 +173,7 @@ fn kind_at(kinds: &[Kind], d: u32) -> Kind
 
 // A nametype.
 fn nametype(meanings: &Meanings<'_>, x: &Name, tree: &Tree) -> Result<Def, NoMemory>
+    requires { tokens tree.now ≤ MOST_BYTES }
     ensures { IfOk result (λ def. def ≡ nametype_of (first_of meanings.now.names.now) meanings.now.kinds.now x.now tree.now) }
 {
     let alloc = meanings.alloc;
@@ -194,6 +189,7 @@ fn nametype(meanings: &Meanings<'_>, x: &Name, tree: &Tree) -> Result<Def, NoMem
 
 // A datatype of so many constants, the first of which has the number `first`.
 fn datatype(alloc: Global, x: &Name, first: u32, count: usize) -> Result<Def, NoMemory>
+    requires { first + count ≤ MOST_BYTES }
     ensures { IfOk result (λ def. def ≡ datatype_of x.now first count) }
 {
     let name = x.try_clone(alloc)?;
@@ -206,13 +202,14 @@ fn datatype(alloc: Global, x: &Name, first: u32, count: usize) -> Result<Def, No
 
 // The numbers from `first` on, so many of them.
 fn numbers_from(alloc: Global, first: u32, count: usize) -> Result<Items<u32>, NoMemory>
+    requires { first + count ≤ MOST_BYTES }
     ensures { IfOk result (λ made. made ≡ meant.numbers_from first count) }
 {
     let mut made = Items::new(alloc);
     let mut number = first;
     for _place in 0..count {
         made.push(number)?;
-        number = next(number)?;
+        number += 1;
     }
     Ok(made)
 }

@@ -1,11 +1,23 @@
-use Rattle.std.proofs.Common.{List, ap, ◌∙◌, subst}
+use Rattle.std.proofs.Common.{◌≡◌, ◌≤◌, List, length, ap, ◌∙◌, subst, arith}
+use Rattle.std.specs.List.{flat_map}
 use Rattle.script_names.specs.declared.kinds.End.{End}
-use Rattle.script_names.specs.Kinds.{AreKindsOf}
+use Rattle.script_names.specs.Kinds.{AreKindsOf, body_ends}
+use Rattle.script_names.specs.Names.{first_of}
+use Rattle.script_sizes.specs.Size.{size}
 use Rattle.name_tables.specs.Ends.{rows}
-use Rattle.definition_kinds.proofs.FoundLaws.{same_ends}
+use Rattle.definition_kinds.proofs.FoundLaws.{rows-length, same_ends}
+use Rattle.definition_kinds.proofs.SizeLaws.{few_definitions}
 use Rattle.definition_kinds.proofs.kinds.kinds_of.Goals as goal
+
+pub kinds_among-requires : goal.kinds_among-requires
+kinds_among-requires c =
+    let bodies = flat_map (body_ends (first_of c.args.names.now)) c.args.decls.now in
+    let one_each : length (rows c.as_slice.result.now) ≡ length bodies = ap length (ap rows c.as_slice.ensures.value ∙ c.in_ok-all.ensures) in
+    let shown : length (rows c.as_slice.result.now) ≡ length c.as_slice.result.now = rows-length c.as_slice.result.now in
+    let few : length bodies ≤ size c.args.decls.now = few_definitions (first_of c.args.names.now) c.args.decls.now in
+    omega (arith, c.requires.few)
 
 pub returns : goal.returns
 returns c =
     subst (λ (es : List (List End)). AreKindsOf es c.in_ok-kinds.kinds.items)
-    (ap rows c.as_slice.ensures.value ∙ c.in_ok-all.ensures ∙ same_ends c.args.names.now c.args.decls.now c.requires) c.in_ok-kinds.ensures
+    (ap rows c.as_slice.ensures.value ∙ c.in_ok-all.ensures ∙ same_ends c.args.names.now c.args.decls.now c.requires.names) c.in_ok-kinds.ensures

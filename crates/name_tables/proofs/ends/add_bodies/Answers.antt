@@ -1,10 +1,19 @@
-use Rattle.std.proofs.Common.{◌++◌, arith}
+use Rattle.std.proofs.Common.{◌++◌, ◌≤◌, arith}
 use Rattle.std.specs.List.{flat_map}
+use Rattle.dl_limits.specs.declared.TheConstants.{MOST_BYTES}
 use Rattle.script_names.specs.Kinds.{body_ends}
 use Rattle.script_names.specs.Names.{first_of}
+use Rattle.script_sizes.specs.Size.{declaration_size, size}
 use Rattle.name_tables.specs.Ends.{rows}
 use Rattle.name_tables.proofs.DeclaredLemmas.{flat_end, flat_step}
+use Rattle.name_tables.proofs.SizeLaws.{size_at}
 use Rattle.name_tables.proofs.ends.add_bodies.Goals as goal
+
+pub add_body-requires : goal.add_body-requires
+add_body-requires c =
+    let few : size c.args.decls.now ≤ MOST_BYTES = c.requires in
+    let part : declaration_size c.decl-item.result ≤ size c.args.decls.now = size_at c.args.decls.now c.loop-decl.decl-index c.decl-item.result c.loop-decl-test.true c.decl-item.is in
+    omega arith
 
 pub loop-decl-preserved : goal.loop-decl-preserved
 loop-decl-preserved c =

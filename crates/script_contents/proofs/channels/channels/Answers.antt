@@ -1,9 +1,16 @@
-use Rattle.std.proofs.Common.{arith}
+use Rattle.std.proofs.Common.{◌≤◌, arith}
 use Rattle.std.specs.List.{flat_map}
 use Rattle.script_names.specs.Contents.{channels_of}
 use Rattle.script_names.specs.Names.{first_of}
+use Rattle.script_sizes.specs.Size.{declaration_size, size}
 use Rattle.name_tables.proofs.DeclaredLemmas.{flat_end, flat_step}
+use Rattle.name_tables.proofs.SizeLaws.{size_at}
 use Rattle.script_contents.proofs.channels.channels.Goals as goal
+
+pub add_channels-requires : goal.add_channels-requires
+add_channels-requires c =
+    let part : declaration_size c.decl-item.result ≤ size c.args.decls.now = size_at c.args.decls.now c.loop-decl.decl-index c.decl-item.result c.loop-decl-test.true c.decl-item.is in
+    omega (arith, c.requires)
 
 pub loop-decl-preserved : goal.loop-decl-preserved
 loop-decl-preserved c =

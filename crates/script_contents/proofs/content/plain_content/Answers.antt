@@ -1,5 +1,14 @@
+use Rattle.std.proofs.Common.{◌≤◌, arith}
+use Rattle.script_sizes.specs.BindingTokens.{tokens}
+use Rattle.script_sizes.specs.Size.{size}
 use Rattle.script_contents.proofs.ContentLaws.{content_is}
+use Rattle.script_contents.proofs.SizeLaws.{root_tokens}
 use Rattle.script_contents.proofs.content.plain_content.Goals as goal
+
+pub definitions_and_root-requires-clause-root : goal.definitions_and_root-requires-clause-root
+definitions_and_root-requires-clause-root c =
+    let part : tokens c.args.root.now ≤ size c.args.decls.now = root_tokens c.args.decls.now c.args.root.now c.requires.root in
+    omega (arith, c.requires.few)
 
 pub returns : goal.returns
 returns c =
