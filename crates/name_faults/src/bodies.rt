@@ -1,10 +1,13 @@
 //! How deep the bodies of definitions reach.
 
-ghost use Rattle.std.specs.Prelude.{◌≡◌, [], ◌∷◌, ◌++◌, map, length, slice_get, IfOk, OnOk};
+ghost use Rattle.std.specs.Prelude.{◌≡◌, ◌+◌, ◌≤◌, [], ◌∷◌, ◌++◌, map, length, slice_get, IfOk, OnOk};
+ghost use Rattle.csp_text.specs.Depth.{tree_depth};
+ghost use Rattle.dl_limits.specs.declared.TheConstants.{MOST_TREE_DEPTH};
 ghost use Rattle.script_names.specs.Faults.{kind_class};
 ghost use Rattle.script_names.specs.Names.{first_of};
 ghost use Rattle.script_names.specs.Says.{tree_says};
 ghost use Rattle.script_names.specs.Told.{bodies_from, body_place, expanded_body};
+ghost use Rattle.script_sizes.specs.Size.{declaration_depth, depth};
 ghost use Rattle.name_notes.specs.Found as found;
 
 use crate::places;
@@ -18,6 +21,7 @@ use std::alloc::Global;
 
 /// How deep the body of each definition reaches, as far as it is expanded where the definition is used.
 pub(crate) fn bodies_of(meanings: &Meanings<'_>, decls: &[Decl]) -> Result<Items<Body>, NoMemory>
+    requires { depth decls.now ≤ MOST_TREE_DEPTH }
     ensures { IfOk result (λ bodies. bodies ≡ map found.body_of (bodies_from (first_of meanings.now.names.now) meanings.now.kinds.now 0 decls.now)) }
 {
     let mut bodies = Items::new(meanings.alloc);
@@ -29,6 +33,7 @@ pub(crate) fn bodies_of(meanings: &Meanings<'_>, decls: &[Decl]) -> Result<Items
 
 // Adds how deep the body of a definition reaches.
 fn add_body(meanings: &Meanings<'_>, bodies: &mut Items<Body>, decl: &Decl) -> Result<(), NoMemory>
+    requires { declaration_depth decl.now ≤ MOST_TREE_DEPTH }
     ensures { OnOk result (bodies.new ≡ bodies.old ++ map found.body_of (bodies_from (first_of meanings.now.names.now) meanings.now.kinds.now (length bodies.old) (decl.now ∷ []))) }
 {
     match decl {
@@ -51,6 +56,7 @@ fn expanded_body(
     params: &[Name],
     tree: &Tree,
 ) -> Result<Body, NoMemory>
+    requires { tree_depth tree.now ≤ MOST_TREE_DEPTH }
     ensures { IfOk result (λ body. body ≡ found.body_of (expanded_body (first_of meanings.now.names.now) meanings.now.kinds.now (kind_class (slice_get meanings.now.kinds.now d)) (tree_says (first_of meanings.now.names.now) tree.now (body_place (slice_get meanings.now.kinds.now d)) params.now))) }
 {
     match places::class_at(meanings.kinds, d) {
@@ -82,6 +88,7 @@ fn body_at(
     place: Place,
     tree: &Tree,
 ) -> Result<Body, NoMemory>
+    requires { place.level + tree_depth tree.now ≤ MOST_TREE_DEPTH + 1 }
     ensures { IfOk result (λ body. body ≡ found.body_of (tree_says (first_of meanings.now.names.now) tree.now place params.now)) }
 {
     let mut notes = Notes::new(meanings.alloc);

@@ -1,6 +1,10 @@
 //! What is noted of a declaration.
 
-ghost use Rattle.std.specs.Prelude.{◌≡◌, [], ◌∷◌, ◌++◌, OnOk, IfOk};
+ghost use Rattle.std.specs.Prelude.{◌≡◌, ◌+◌, ◌≤◌, [], ◌∷◌, ◌++◌, map, OnOk, IfOk};
+ghost use Rattle.csp_base.specs.Lists.{greatest};
+ghost use Rattle.csp_text.specs.Depth.{tree_depth};
+ghost use Rattle.dl_limits.specs.declared.TheConstants.{MOST_TREE_DEPTH};
+ghost use Rattle.script_sizes.specs.Size.{declaration_depth};
 ghost use Rattle.script_names.specs.declared.kinds.Use.TheVariants as how;
 ghost use Rattle.script_names.specs.Names.{first_of, is_among, sense_in};
 ghost use Rattle.script_names.specs.Says.{tree_says};
@@ -26,6 +30,7 @@ pub(crate) fn note_decl(
     notes: &mut Notes,
     decl: &Decl,
 ) -> Result<(), NoMemory>
+    requires { declaration_depth decl.now ≤ MOST_TREE_DEPTH }
     ensures notes { OnOk result (notes.new ≡ heard_all (first_of meanings.now.names.now) meanings.now.kinds.now notes.old (says_after (first_of meanings.now.names.now) meanings.now.kinds.now known.old decl.now)) }
     ensures declared { OnOk result (SameNames known.new.declared (known.old.declared ++ names_in decl.now)) }
     ensures roles { OnOk result (SameNames known.new.roles (known.old.roles ++ with_roles decl.now)) }
@@ -77,6 +82,7 @@ fn note_channel(
     xs: &[Name],
     types: &[Tree],
 ) -> Result<(), NoMemory>
+    requires { greatest (map tree_depth types.now) ≤ MOST_TREE_DEPTH }
     ensures notes { OnOk result (notes.new ≡ heard_all (first_of meanings.now.names.now) meanings.now.kinds.now (declared_heard declared.old notes.old xs.now) (types_say (first_of meanings.now.names.now) meanings.now.kinds.now types.now)) }
     ensures declared { OnOk result (SameNames declared.new (declared.old ++ xs.now)) }
 {
@@ -107,6 +113,7 @@ fn note_nametype(
     x: &Name,
     tree: &Tree,
 ) -> Result<(), NoMemory>
+    requires { tree_depth tree.now ≤ MOST_TREE_DEPTH }
     ensures notes { OnOk result (notes.new ≡ heard_all (first_of meanings.now.names.now) meanings.now.kinds.now (again_heard notes.old x.now (is_among declared.old x.now)) (tree_says (first_of meanings.now.names.now) tree.now data_place [])) }
     ensures declared { OnOk result (SameNames declared.new (declared.old ++ x.now ∷ [])) }
 {
@@ -124,6 +131,7 @@ fn note_definition(
     params: &[Name],
     tree: &Tree,
 ) -> Result<(), NoMemory>
+    requires { place.level + tree_depth tree.now ≤ MOST_TREE_DEPTH + 1 }
     ensures notes { OnOk result (notes.new ≡ heard_all (first_of meanings.now.names.now) meanings.now.kinds.now (parameters_heard (first_of meanings.now.names.now) [] (again_heard notes.old x.now (is_among declared.old x.now)) params.now) (tree_says (first_of meanings.now.names.now) tree.now place params.now)) }
     ensures declared { OnOk result (SameNames declared.new (declared.old ++ x.now ∷ [])) }
 {
@@ -226,6 +234,7 @@ fn note_each(
 
 // Notes the types of a channel.
 fn note_types(meanings: &Meanings<'_>, notes: &mut Notes, types: &[Tree]) -> Result<(), NoMemory>
+    requires { greatest (map tree_depth types.now) ≤ MOST_TREE_DEPTH }
     ensures { OnOk result (notes.new ≡ heard_all (first_of meanings.now.names.now) meanings.now.kinds.now notes.old (types_say (first_of meanings.now.names.now) meanings.now.kinds.now types.now)) }
 {
     for tree in types {

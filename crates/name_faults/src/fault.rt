@@ -1,10 +1,11 @@
 //! The name fault of a script.
 
-ghost use Rattle.std.specs.Prelude.{◌≡◌, [], Some, map, slice_index, nat_lt, IfOk, OnOk};
-ghost use Rattle.dl_limits.specs.declared.TheConstants.{MOST_DATA_DEPTH};
+ghost use Rattle.std.specs.Prelude.{◌≡◌, ◌≤◌, [], Some, map, slice_index, nat_lt, IfOk, OnOk};
+ghost use Rattle.dl_limits.specs.declared.TheConstants.{MOST_DATA_DEPTH, MOST_TREE_DEPTH};
 ghost use Rattle.script_names.specs.Names.{declared, first_of};
 ghost use Rattle.script_names.specs.Told as meant;
 ghost use Rattle.name_tables.specs.Firsts.{SameFirsts};
+ghost use Rattle.script_sizes.specs.Size.{AreSmall, declaration_depth};
 ghost use Rattle.name_notes.specs.Found.{body_of};
 ghost use Rattle.name_faults.specs.Depths.{AreDepths};
 ghost use Rattle.name_faults.specs.Known.{IsNext, deep_at, fault_after, fault_from, nothing_known, told};
@@ -25,6 +26,7 @@ use script_names::{Class, Kind, ResolveFault};
 #[tactic(auto, using(crate::proofs::DepthLemmas::depths_along, crate::proofs::KnownLemmas::whole_fault))]
 pub fn name_fault(meanings: &Meanings<'_>, decls: &[Decl]) -> Result<Option<ResolveFault>, NoMemory>
     requires names { SameFirsts meanings.now.names.now (declared decls.now) }
+    requires small { AreSmall decls.now }
     ensures { IfOk result (λ fault. fault ≡ meant.name_fault decls.now meanings.now.kinds.now) }
 {
     let bodies = bodies_of(meanings, decls)?;
@@ -40,6 +42,7 @@ fn first_fault(
     depths: &[u32],
 ) -> Result<Option<ResolveFault>, NoMemory>
     requires names { SameFirsts meanings.now.names.now (declared decls.now) }
+    requires small { AreSmall decls.now }
     requires depths { AreDepths 801 (map body_of (meant.bodies_from (first_of meanings.now.names.now) meanings.now.kinds.now 0 decls.now)) depths.now }
     ensures { IfOk result (λ fault. fault ≡ fault_from decls.now meanings.now.kinds.now [] decls.now) }
 {
@@ -58,13 +61,14 @@ fn first_after(
 ) -> Result<Option<ResolveFault>, NoMemory>
     requires known { known.old ≡ nothing_known }
     requires names { SameFirsts meanings.now.names.now (declared decls.now) }
+    requires small { AreSmall decls.now }
     requires depths { AreDepths 801 (map body_of (meant.bodies_from (first_of meanings.now.names.now) meanings.now.kinds.now 0 decls.now)) depths.now }
     ensures { IfOk result (λ fault. fault ≡ fault_from decls.now meanings.now.kinds.now [] decls.now) }
 {
     for decl in decls {
         match fault_in(meanings, depths, known, decl)? {
             Some(fault) => return Ok(Some(fault)),
-            None => known.count(decl)?,
+            None => known.count(decl),
         }
     }
     Ok(None)
@@ -78,6 +82,7 @@ fn fault_in(
     known: &mut Known,
     decl: &Decl,
 ) -> Result<Option<ResolveFault>, NoMemory>
+    requires { declaration_depth decl.now ≤ MOST_TREE_DEPTH }
     ensures told { IfOk result (λ fault. fault ≡ fault_after (first_of meanings.now.names.now) meanings.now.kinds.now depths.now known.old decl.now) }
     ensures known { OnOk result (IsNext known.old decl.now known.new) }
 {

@@ -1,12 +1,11 @@
 //! What is known of the declarations that were passed.
 
-ghost use Rattle.std.specs.Prelude.{◌≡◌, ◌+◌, OnOk};
+ghost use Rattle.std.specs.Prelude.{◌≡◌, ◌+◌, ◌<◌};
+ghost use Rattle.dl_limits.specs.declared.TheConstants.{MOST_BYTES};
 ghost use Rattle.name_faults.specs.Known.{nothing_known, defines};
 
-use csp_base::NoMemory;
 use csp_text::Decl;
 use name_tables::NameSet;
-use name_tables::declared::next;
 use std::alloc::Global;
 
 /// What is known of the declarations that were passed.
@@ -38,17 +37,18 @@ impl Known {
         }
     }
 
-    /// Counts a declaration. A number that passes its type's end is answered like want of memory.
-    pub(crate) fn count(&mut self, decl: &Decl) -> Result<(), NoMemory>
-        ensures { OnOk result (self.new ≡ record self.old { declarations = self.old.declarations + 1; definitions = self.old.definitions + defines decl.now }) }
+    /// Counts a declaration.
+    pub(crate) fn count(&mut self, decl: &Decl)
+        requires declarations { self.old.declarations < MOST_BYTES }
+        requires definitions { self.old.definitions < MOST_BYTES }
+        ensures { self.new ≡ record self.old { declarations = self.old.declarations + 1; definitions = self.old.definitions + defines decl.now } }
     {
-        self.declarations = next(self.declarations)?;
+        self.declarations += 1;
         match decl {
             Decl::Define(_, _, _) | Decl::Nametype(_, _) | Decl::Datatype(_, _) => {
-                self.definitions = next(self.definitions)?;
-                Ok(())
+                self.definitions += 1;
             }
-            Decl::Channel(_, _) | Decl::Assert(_) | Decl::Roles(_) | Decl::Resource(_) => Ok(()),
+            Decl::Channel(_, _) | Decl::Assert(_) | Decl::Roles(_) | Decl::Resource(_) => {}
         }
     }
 }

@@ -39,7 +39,8 @@ fn need_of(class: Class) -> Need
 
 /// The place of the body of a definition.
 pub(crate) fn body_place(kinds: &[Kind], d: usize) -> Place
-    ensures { result ≡ meant.body_place (slice_get kinds.now d) }
+    ensures place { result ≡ meant.body_place (slice_get kinds.now d) }
+    ensures level { result.level ≡ 1 }
 {
     match kinds.get(d) {
         Some(kind) => whole(need_of(kind.class), kind.network),

@@ -2,3 +2,4 @@ pub mod Binders
 pub mod ToldEquations
 pub mod WalkSteps
 pub mod HeardLemmas
+pub mod Deepest

@@ -1,10 +1,9 @@
 //! The places in what stands at a place.
 
-ghost use Rattle.std.specs.Prelude.{◌≡◌, IfOk};
+ghost use Rattle.std.specs.Prelude.{◌≡◌, ◌≤◌};
+ghost use Rattle.dl_limits.specs.declared.TheConstants.{MOST_TREE_DEPTH};
 ghost use Rattle.script_names.specs.Says as meant;
 
-use csp_base::NoMemory;
-use name_tables::declared::next;
 use script_names::{Need, Place};
 
 /// A place, and the places in what stands there, by what is needed in them.
@@ -22,30 +21,31 @@ pub(crate) struct Places {
     pub(crate) part: Place,
 }
 
-/// The places in what stands at a place. A level that passes its type's end is answered like want of memory.
-pub(crate) fn places_in(place: Place) -> Result<Places, NoMemory>
-    ensures here { IfOk result (λ places. places.here ≡ place) }
-    ensures data { IfOk result (λ places. places.data ≡ meant.data_in place) }
-    ensures process { IfOk result (λ places. places.process ≡ meant.process_in place) }
-    ensures network { IfOk result (λ places. places.network ≡ meant.network_in place) }
-    ensures part { IfOk result (λ places. places.part ≡ meant.part_in place) }
+/// The places in what stands at a place.
+pub(crate) fn places_in(place: Place) -> Places
+    requires { place.level ≤ MOST_TREE_DEPTH }
+    ensures here { result.here ≡ place }
+    ensures data { result.data ≡ meant.data_in place }
+    ensures process { result.process ≡ meant.process_in place }
+    ensures network { result.network ≡ meant.network_in place }
+    ensures part { result.part ≡ meant.part_in place }
 {
-    let level = next(place.level)?;
-    Ok(Places {
+    let level = place.level + 1;
+    Places {
         here: place,
         data: at(Need::Data, false, level),
         process: at(Need::Process, false, level),
         network: at(Need::Process, true, level),
         part: at(place.need, place.network, level),
-    })
+    }
 }
 
-/// The place for data in what stands at a place. A level that passes its type's end is answered like want of memory.
-pub(crate) fn data_in(place: Place) -> Result<Place, NoMemory>
-    ensures { IfOk result (λ inner. inner ≡ meant.data_in place) }
+/// The place for data in what stands at a place.
+pub(crate) fn data_in(place: Place) -> Place
+    requires { place.level ≤ MOST_TREE_DEPTH }
+    ensures { result ≡ meant.data_in place }
 {
-    let level = next(place.level)?;
-    Ok(at(Need::Data, false, level))
+    at(Need::Data, false, place.level + 1)
 }
 
 // The place on a level.

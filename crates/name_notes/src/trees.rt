@@ -1,6 +1,8 @@
 //! What a tree says, noted.
 
-ghost use Rattle.std.specs.Prelude.{◌≡◌, ◌++◌, OnOk};
+ghost use Rattle.std.specs.Prelude.{◌≡◌, ◌+◌, ◌≤◌, ◌++◌, OnOk};
+ghost use Rattle.csp_text.specs.Depth.{tree_depth};
+ghost use Rattle.dl_limits.specs.declared.TheConstants.{MOST_TREE_DEPTH};
 ghost use Rattle.script_names.specs.Names.{first_of};
 ghost use Rattle.script_names.specs.Says.{tree_says};
 ghost use Rattle.name_notes.specs.Heard.{heard_all};
@@ -21,6 +23,7 @@ pub fn note_tree(
     place: Place,
     tree: &Tree,
 ) -> Result<(), NoMemory>
+    requires { place.level + tree_depth tree.now ≤ MOST_TREE_DEPTH + 1 }
     ensures { OnOk result (notes.new ≡ heard_all (first_of meanings.now.names.now) meanings.now.kinds.now notes.old (tree_says (first_of meanings.now.names.now) tree.now place params.now)) }
 {
     let mut bound = BoundNames::new(meanings.alloc);
@@ -37,6 +40,7 @@ fn note_under(
     place: Place,
     tree: &Tree,
 ) -> Result<(), NoMemory>
+    requires { place.level + tree_depth tree.now ≤ MOST_TREE_DEPTH + 1 }
     ensures { OnOk result (notes.new ≡ heard_all (first_of meanings.now.names.now) meanings.now.kinds.now notes.old (tree_says (first_of meanings.now.names.now) tree.now place (bound.old ++ params.now))) }
 {
     bind_all(bound, params)?;

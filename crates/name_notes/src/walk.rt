@@ -1,8 +1,11 @@
 //! A walk over a tree that notes what it says at its names and forms, in the order of their tokens.
 
-ghost use Rattle.std.specs.Prelude.{◌≡◌, ◌+◌, [], ◌∷◌, ◌++◌, ◌||◌, false, length, OnOk};
+ghost use Rattle.std.specs.Prelude.{◌≡◌, ◌+◌, ◌≤◌, [], ◌∷◌, ◌++◌, ◌||◌, false, length, map, OnOk};
 ghost use Rattle.std.specs.List.{flat_map};
 ghost use Rattle.csp_text.specs.declared.tree.FieldTree.TheViews.{out-EventTree, out-PartTree};
+ghost use Rattle.csp_text.specs.Depth.{field_depth, gen_depth, greatest_of_pairs, part_depth, tree_depth};
+ghost use Rattle.csp_base.specs.Lists.{greatest};
+ghost use Rattle.dl_limits.specs.declared.TheConstants.{MOST_TREE_DEPTH};
 ghost use Rattle.script_names.specs.Faults.{is_constant};
 ghost use Rattle.script_names.specs.Names.{first_of, sense_in};
 ghost use Rattle.name_notes.specs.Heard.{again_heard, form_heard, parallel_heard, use_heard};
@@ -28,10 +31,11 @@ pub(crate) fn walk(
     place: Place,
     tree: &Tree,
 ) -> Result<(), NoMemory>
+    requires { place.level + tree_depth tree.now ≤ MOST_TREE_DEPTH + 1 }
     ensures notes { OnOk result (notes.new ≡ tree_told (first_of meanings.now.names.now) meanings.now.kinds.now tree.now place bound.old notes.old) }
     ensures bound { OnOk result (bound.new ≡ bound.old) }
 {
-    let places = places_in(place)?;
+    let places = places_in(place);
     let (data, process) = (places.data, places.process);
     let (datum, action) = (form_of(Class::Data, place), form_of(Class::Process, place));
     match tree {
@@ -78,6 +82,7 @@ fn walk_call(
     f: &Name,
     args: &Items<Tree>,
 ) -> Result<(), NoMemory>
+    requires { places.data.level + greatest (map tree_depth args.now) ≤ MOST_TREE_DEPTH + 1 }
     ensures notes { OnOk result (notes.new ≡ trees_told (first_of meanings.now.names.now) meanings.now.kinds.now args.now places.data bound.old (use_heard meanings.now.kinds.now notes.old f.now (sense_in (first_of meanings.now.names.now) bound.old f.now) (Use.Called (length args.now) places.here))) }
     ensures bound { OnOk result (bound.new ≡ bound.old) }
 {
@@ -96,6 +101,7 @@ fn walk_dot(
     c: &Name,
     fields: &Items<Tree>,
 ) -> Result<(), NoMemory>
+    requires { places.data.level + greatest (map tree_depth fields.now) ≤ MOST_TREE_DEPTH + 1 }
     ensures notes { OnOk result (notes.new ≡ trees_told (first_of meanings.now.names.now) meanings.now.kinds.now fields.now places.data bound.old (use_heard meanings.now.kinds.now (form_heard notes.old Class.Data places.here) c.now (sense_in (first_of meanings.now.names.now) bound.old c.now) (Use.Dotted (length fields.now)))) }
     ensures bound { OnOk result (bound.new ≡ bound.old) }
 {
@@ -114,6 +120,7 @@ fn walk_operand(
     places: Places,
     a: &Boxed<Tree>,
 ) -> Result<(), NoMemory>
+    requires { places.data.level + tree_depth a.now ≤ MOST_TREE_DEPTH + 1 }
     ensures notes { OnOk result (notes.new ≡ tree_told (first_of meanings.now.names.now) meanings.now.kinds.now a.now places.data bound.old (form_heard notes.old Class.Data places.here)) }
     ensures bound { OnOk result (bound.new ≡ bound.old) }
 {
@@ -133,6 +140,8 @@ fn walk_two(
     second: Place,
     b: &Boxed<Tree>,
 ) -> Result<(), NoMemory>
+    requires first { first.level + tree_depth a.now ≤ MOST_TREE_DEPTH + 1 }
+    requires second { second.level + tree_depth b.now ≤ MOST_TREE_DEPTH + 1 }
     ensures notes { OnOk result (notes.new ≡ tree_told (first_of meanings.now.names.now) meanings.now.kinds.now b.now second bound.old (tree_told (first_of meanings.now.names.now) meanings.now.kinds.now a.now first bound.old (form_heard notes.old form.class form.place))) }
     ensures bound { OnOk result (bound.new ≡ bound.old) }
 {
@@ -151,6 +160,8 @@ fn walk_both(
     second: Place,
     b: &Boxed<Tree>,
 ) -> Result<(), NoMemory>
+    requires first { first.level + tree_depth a.now ≤ MOST_TREE_DEPTH + 1 }
+    requires second { second.level + tree_depth b.now ≤ MOST_TREE_DEPTH + 1 }
     ensures notes { OnOk result (notes.new ≡ tree_told (first_of meanings.now.names.now) meanings.now.kinds.now b.now second bound.old (tree_told (first_of meanings.now.names.now) meanings.now.kinds.now a.now first bound.old notes.old)) }
     ensures bound { OnOk result (bound.new ≡ bound.old) }
 {
@@ -168,6 +179,7 @@ fn walk_list(
     inner: Place,
     items: &Items<Tree>,
 ) -> Result<(), NoMemory>
+    requires { inner.level + greatest (map tree_depth items.now) ≤ MOST_TREE_DEPTH + 1 }
     ensures notes { OnOk result (notes.new ≡ trees_told (first_of meanings.now.names.now) meanings.now.kinds.now items.now inner bound.old (form_heard notes.old form.class form.place)) }
     ensures bound { OnOk result (bound.new ≡ bound.old) }
 {
@@ -186,6 +198,9 @@ fn walk_choice(
     a: &Boxed<Tree>,
     b: &Boxed<Tree>,
 ) -> Result<(), NoMemory>
+    requires condition { places.data.level + tree_depth c.now ≤ MOST_TREE_DEPTH + 1 }
+    requires first { places.part.level + tree_depth a.now ≤ MOST_TREE_DEPTH + 1 }
+    requires second { places.part.level + tree_depth b.now ≤ MOST_TREE_DEPTH + 1 }
     ensures notes { OnOk result (notes.new ≡ tree_told (first_of meanings.now.names.now) meanings.now.kinds.now b.now places.part bound.old (tree_told (first_of meanings.now.names.now) meanings.now.kinds.now a.now places.part bound.old (tree_told (first_of meanings.now.names.now) meanings.now.kinds.now c.now places.data bound.old notes.old))) }
     ensures bound { OnOk result (bound.new ≡ bound.old) }
 {
@@ -203,6 +218,7 @@ fn walk_all_under(
     items: &Items<Tree>,
     gens: &Items<GenTree>,
 ) -> Result<(), NoMemory>
+    requires { place.level + greatest (map tree_depth items.now) ≤ MOST_TREE_DEPTH + 1 }
     ensures notes { OnOk result (notes.new ≡ trees_told (first_of meanings.now.names.now) meanings.now.kinds.now items.now place (bound.old ++ flat_map gen_names gens.now) notes.old) }
     ensures bound { OnOk result (bound.new ≡ bound.old) }
 {
@@ -223,6 +239,7 @@ fn walk_parts_under(
     parts: &Items<PartTree>,
     gens: &Items<GenTree>,
 ) -> Result<(), NoMemory>
+    requires { place.level + greatest (map part_depth parts.now) ≤ MOST_TREE_DEPTH }
     ensures notes { OnOk result (notes.new ≡ parts_told (first_of meanings.now.names.now) meanings.now.kinds.now parts.now place (bound.old ++ flat_map gen_names gens.now) notes.old) }
     ensures bound { OnOk result (bound.new ≡ bound.old) }
 {
@@ -243,6 +260,7 @@ fn walk_pairs_under(
     pairs: &Items<(PartTree, PartTree)>,
     gens: &Items<GenTree>,
 ) -> Result<(), NoMemory>
+    requires { place.level + greatest_of_pairs (map (λ pair. (part_depth pair.0, part_depth pair.1)) pairs.now) ≤ MOST_TREE_DEPTH }
     ensures notes { OnOk result (notes.new ≡ pairs_told (first_of meanings.now.names.now) meanings.now.kinds.now pairs.now place (bound.old ++ flat_map gen_names gens.now) notes.old) }
     ensures bound { OnOk result (bound.new ≡ bound.old) }
 {
@@ -263,6 +281,8 @@ fn walk_comprehension(
     items: &Items<Tree>,
     gens: &Items<GenTree>,
 ) -> Result<(), NoMemory>
+    requires items { places.data.level + greatest (map tree_depth items.now) ≤ MOST_TREE_DEPTH + 1 }
+    requires gens { places.here.level + greatest (map gen_depth gens.now) ≤ MOST_TREE_DEPTH }
     ensures notes { OnOk result (notes.new ≡ gens_told (first_of meanings.now.names.now) meanings.now.kinds.now gens.now places.here bound.old (trees_told (first_of meanings.now.names.now) meanings.now.kinds.now items.now places.data (bound.old ++ flat_map gen_names gens.now) (form_heard notes.old Class.Data places.here))) }
     ensures bound { OnOk result (bound.new ≡ bound.old) }
 {
@@ -281,6 +301,8 @@ fn walk_product(
     parts: &Items<PartTree>,
     gens: &Items<GenTree>,
 ) -> Result<(), NoMemory>
+    requires parts { place.level + greatest (map part_depth parts.now) ≤ MOST_TREE_DEPTH }
+    requires gens { place.level + greatest (map gen_depth gens.now) ≤ MOST_TREE_DEPTH }
     ensures notes { OnOk result (notes.new ≡ gens_told (first_of meanings.now.names.now) meanings.now.kinds.now gens.now place bound.old (parts_told (first_of meanings.now.names.now) meanings.now.kinds.now parts.now place (bound.old ++ flat_map gen_names gens.now) (form_heard notes.old Class.Data place))) }
     ensures bound { OnOk result (bound.new ≡ bound.old) }
 {
@@ -299,6 +321,8 @@ fn walk_prefix(
     event: &EventTree,
     p: &Boxed<Tree>,
 ) -> Result<(), NoMemory>
+    requires fields { places.here.level + greatest (map field_depth (out-EventTree event.now).fields) ≤ MOST_TREE_DEPTH }
+    requires process { places.process.level + tree_depth p.now ≤ MOST_TREE_DEPTH + 1 }
     ensures notes { OnOk result (notes.new ≡ tree_told (first_of meanings.now.names.now) meanings.now.kinds.now p.now places.process (bound.old ++ flat_map field_names (out-EventTree event.now).fields) (fields_told (first_of meanings.now.names.now) meanings.now.kinds.now (out-EventTree event.now).fields places.here bound.old (use_heard meanings.now.kinds.now (form_heard notes.old Class.Process places.here) (out-EventTree event.now).name (sense_in (first_of meanings.now.names.now) bound.old (out-EventTree event.now).name) (Use.Heads (length (out-EventTree event.now).fields))))) }
     ensures bound { OnOk result (bound.new ≡ bound.old) }
 {
@@ -327,6 +351,7 @@ fn walk_event(
     c: &Name,
     fields: &Items<FieldTree>,
 ) -> Result<(), NoMemory>
+    requires { place.level + greatest (map field_depth fields.now) ≤ MOST_TREE_DEPTH }
     ensures notes { OnOk result (notes.new ≡ fields_told (first_of meanings.now.names.now) meanings.now.kinds.now fields.now place bound.old (use_heard meanings.now.kinds.now notes.old c.now (sense_in (first_of meanings.now.names.now) bound.old c.now) (Use.Heads (length fields.now)))) }
     ensures bound { OnOk result (bound.new ≡ bound.old ++ flat_map field_names fields.now) }
 {
@@ -346,6 +371,8 @@ fn walk_for_each(
     s: &Boxed<Tree>,
     p: &Boxed<Tree>,
 ) -> Result<(), NoMemory>
+    requires set { places.data.level + tree_depth s.now ≤ MOST_TREE_DEPTH + 1 }
+    requires process { places.process.level + tree_depth p.now ≤ MOST_TREE_DEPTH + 1 }
     ensures notes { OnOk result (notes.new ≡ tree_told (first_of meanings.now.names.now) meanings.now.kinds.now p.now places.process (bound.old ++ x.now ∷ []) (tree_told (first_of meanings.now.names.now) meanings.now.kinds.now s.now places.data bound.old (again_heard (form_heard notes.old Class.Process places.here) x.now (false || is_constant (first_of meanings.now.names.now x.now))))) }
     ensures bound { OnOk result (bound.new ≡ bound.old) }
 {
@@ -369,6 +396,10 @@ fn walk_parallel(
     b: &Boxed<Tree>,
     q: &Boxed<Tree>,
 ) -> Result<(), NoMemory>
+    requires left { places.network.level + tree_depth p.now ≤ MOST_TREE_DEPTH + 1 }
+    requires left_events { places.data.level + tree_depth a.now ≤ MOST_TREE_DEPTH + 1 }
+    requires right_events { places.data.level + tree_depth b.now ≤ MOST_TREE_DEPTH + 1 }
+    requires right { places.network.level + tree_depth q.now ≤ MOST_TREE_DEPTH + 1 }
     ensures notes { OnOk result (notes.new ≡ tree_told (first_of meanings.now.names.now) meanings.now.kinds.now q.now places.network bound.old (tree_told (first_of meanings.now.names.now) meanings.now.kinds.now b.now places.data bound.old (tree_told (first_of meanings.now.names.now) meanings.now.kinds.now a.now places.data bound.old (tree_told (first_of meanings.now.names.now) meanings.now.kinds.now p.now places.network bound.old (parallel_heard notes.old places.here))))) }
     ensures bound { OnOk result (bound.new ≡ bound.old) }
 {
@@ -389,6 +420,9 @@ fn walk_each_parallel(
     a: &Boxed<Tree>,
     p: &Boxed<Tree>,
 ) -> Result<(), NoMemory>
+    requires set { places.data.level + tree_depth s.now ≤ MOST_TREE_DEPTH + 1 }
+    requires events { places.data.level + tree_depth a.now ≤ MOST_TREE_DEPTH + 1 }
+    requires process { places.network.level + tree_depth p.now ≤ MOST_TREE_DEPTH + 1 }
     ensures notes { OnOk result (notes.new ≡ tree_told (first_of meanings.now.names.now) meanings.now.kinds.now p.now places.network (bound.old ++ x.now ∷ []) (tree_told (first_of meanings.now.names.now) meanings.now.kinds.now a.now places.data (bound.old ++ x.now ∷ []) (tree_told (first_of meanings.now.names.now) meanings.now.kinds.now s.now places.data bound.old (again_heard (parallel_heard notes.old places.here) x.now (false || is_constant (first_of meanings.now.names.now x.now)))))) }
     ensures bound { OnOk result (bound.new ≡ bound.old) }
 {
@@ -411,6 +445,9 @@ fn walk_renaming(
     gens: &Items<GenTree>,
     p: &Boxed<Tree>,
 ) -> Result<(), NoMemory>
+    requires pairs { places.here.level + greatest_of_pairs (map (λ pair. (part_depth pair.0, part_depth pair.1)) pairs.now) ≤ MOST_TREE_DEPTH }
+    requires gens { places.here.level + greatest (map gen_depth gens.now) ≤ MOST_TREE_DEPTH }
+    requires process { places.process.level + tree_depth p.now ≤ MOST_TREE_DEPTH + 1 }
     ensures notes { OnOk result (notes.new ≡ gens_told (first_of meanings.now.names.now) meanings.now.kinds.now gens.now places.here bound.old (pairs_told (first_of meanings.now.names.now) meanings.now.kinds.now pairs.now places.here (bound.old ++ flat_map gen_names gens.now) (tree_told (first_of meanings.now.names.now) meanings.now.kinds.now p.now places.process bound.old (form_heard notes.old Class.Process places.here)))) }
     ensures bound { OnOk result (bound.new ≡ bound.old) }
 {
@@ -429,6 +466,7 @@ fn walk_all(
     place: Place,
     trees: &[Tree],
 ) -> Result<(), NoMemory>
+    requires { place.level + greatest (map tree_depth trees.now) ≤ MOST_TREE_DEPTH + 1 }
     ensures notes { OnOk result (notes.new ≡ trees_told (first_of meanings.now.names.now) meanings.now.kinds.now trees.now place bound.old notes.old) }
     ensures bound { OnOk result (bound.new ≡ bound.old) }
 {
@@ -447,6 +485,7 @@ fn walk_fields(
     place: Place,
     fields: &[FieldTree],
 ) -> Result<(), NoMemory>
+    requires { place.level + greatest (map field_depth fields.now) ≤ MOST_TREE_DEPTH }
     ensures notes { OnOk result (notes.new ≡ fields_told (first_of meanings.now.names.now) meanings.now.kinds.now fields.now place bound.old notes.old) }
     ensures bound { OnOk result (bound.new ≡ bound.old ++ flat_map field_names fields.now) }
 {
@@ -466,10 +505,11 @@ fn walk_field(
     place: Place,
     field: &FieldTree,
 ) -> Result<(), NoMemory>
+    requires { place.level + field_depth field.now ≤ MOST_TREE_DEPTH }
     ensures notes { OnOk result (notes.new ≡ field_told (first_of meanings.now.names.now) meanings.now.kinds.now field.now place bound.old notes.old) }
     ensures bound { OnOk result (bound.new ≡ bound.old ++ field_names field.now) }
 {
-    let data = data_in(place)?;
+    let data = data_in(place);
     match field {
         FieldTree::Dot(tree) => walk(meanings, notes, bound, data, tree),
         FieldTree::Output(tree) => walk(meanings, notes, bound, data, tree),
@@ -490,6 +530,7 @@ fn walk_binder(
     x: &Name,
     set: &Tree,
 ) -> Result<(), NoMemory>
+    requires { place.level + tree_depth set.now ≤ MOST_TREE_DEPTH + 1 }
     ensures notes { OnOk result (notes.new ≡ tree_told (first_of meanings.now.names.now) meanings.now.kinds.now set.now place bound.old (again_heard notes.old x.now (false || is_constant (first_of meanings.now.names.now x.now)))) }
     ensures bound { OnOk result (bound.new ≡ bound.old ++ x.now ∷ []) }
 {
@@ -507,6 +548,7 @@ fn walk_gens(
     place: Place,
     gens: &[GenTree],
 ) -> Result<(), NoMemory>
+    requires { place.level + greatest (map gen_depth gens.now) ≤ MOST_TREE_DEPTH }
     ensures notes { OnOk result (notes.new ≡ gens_told (first_of meanings.now.names.now) meanings.now.kinds.now gens.now place bound.old notes.old) }
     ensures bound { OnOk result (bound.new ≡ bound.old) }
 {
@@ -528,10 +570,11 @@ fn walk_gen(
     place: Place,
     generator: &GenTree,
 ) -> Result<(), NoMemory>
+    requires { place.level + gen_depth generator.now ≤ MOST_TREE_DEPTH }
     ensures notes { OnOk result (notes.new ≡ gen_told (first_of meanings.now.names.now) meanings.now.kinds.now generator.now place bound.old notes.old) }
     ensures bound { OnOk result (bound.new ≡ bound.old ++ gen_names generator.now) }
 {
-    let data = data_in(place)?;
+    let data = data_in(place);
     match generator {
         GenTree::From(x, set) => walk_binder(meanings, notes, bound, data, x, set),
         GenTree::Cond(condition) => walk(meanings, notes, bound, data, condition),
@@ -547,6 +590,7 @@ fn walk_parts(
     place: Place,
     parts: &[PartTree],
 ) -> Result<(), NoMemory>
+    requires { place.level + greatest (map part_depth parts.now) ≤ MOST_TREE_DEPTH }
     ensures notes { OnOk result (notes.new ≡ parts_told (first_of meanings.now.names.now) meanings.now.kinds.now parts.now place bound.old notes.old) }
     ensures bound { OnOk result (bound.new ≡ bound.old) }
 {
@@ -566,10 +610,11 @@ fn walk_part(
     place: Place,
     part: &PartTree,
 ) -> Result<(), NoMemory>
+    requires { place.level + part_depth part.now ≤ MOST_TREE_DEPTH }
     ensures notes { OnOk result (notes.new ≡ part_told (first_of meanings.now.names.now) meanings.now.kinds.now part.now place bound.old notes.old) }
     ensures bound { OnOk result (bound.new ≡ bound.old) }
 {
-    let data = data_in(place)?;
+    let data = data_in(place);
     let how = Use::Begins(part.fields.len());
     note_name(meanings, notes, bound, &part.name, how)?;
     walk_all(meanings, notes, bound, data, part.fields.as_slice())
@@ -584,6 +629,7 @@ fn walk_pairs(
     place: Place,
     pairs: &[(PartTree, PartTree)],
 ) -> Result<(), NoMemory>
+    requires { place.level + greatest_of_pairs (map (λ pair. (part_depth pair.0, part_depth pair.1)) pairs.now) ≤ MOST_TREE_DEPTH }
     ensures notes { OnOk result (notes.new ≡ pairs_told (first_of meanings.now.names.now) meanings.now.kinds.now pairs.now place bound.old notes.old) }
     ensures bound { OnOk result (bound.new ≡ bound.old) }
 {
@@ -604,6 +650,8 @@ fn walk_pair(
     old: &PartTree,
     new: &PartTree,
 ) -> Result<(), NoMemory>
+    requires old { place.level + part_depth old.now ≤ MOST_TREE_DEPTH }
+    requires new { place.level + part_depth new.now ≤ MOST_TREE_DEPTH }
     ensures notes { OnOk result (notes.new ≡ pair_told (first_of meanings.now.names.now) meanings.now.kinds.now (old.now, new.now) place bound.old notes.old) }
     ensures bound { OnOk result (bound.new ≡ bound.old) }
 {

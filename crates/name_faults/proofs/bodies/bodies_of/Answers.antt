@@ -1,10 +1,17 @@
-use Rattle.std.proofs.Common.{◌++◌, ◌∙◌, ◌+◌, ap, drop, length, map, sym}
+use Rattle.std.proofs.Common.{◌++◌, ◌∙◌, ◌+◌, ◌≤◌, ap, arith, drop, length, map, sym}
 use Rattle.csp_base.proofs.Lists.{drop_read}
 use Rattle.script_names.specs.Names.{first_of}
 use Rattle.script_names.specs.Told.{bodies_from}
 use Rattle.name_notes.specs.Found.{body_of}
+use Rattle.script_sizes.specs.Size.{declaration_depth, depth}
 use Rattle.name_faults.proofs.KnownLemmas.{bodies_on}
+use Rattle.name_faults.proofs.Small.{in_declarations}
 use Rattle.name_faults.proofs.bodies.bodies_of.Goals as goal
+
+pub add_body-requires : goal.add_body-requires
+add_body-requires c =
+    let fits : declaration_depth c.decl-item.result ≤ depth c.args.decls.now = in_declarations c.args.decls.now c.loop-decl.decl-index c.decl-item.result c.loop-decl-test.true c.decl-item.is in
+    omega arith
 
 pub loop-decl-preserved : goal.loop-decl-preserved
 loop-decl-preserved c =

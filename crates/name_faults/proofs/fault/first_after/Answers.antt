@@ -1,14 +1,29 @@
-use Rattle.std.proofs.Common.{◌≡◌, List, [], take, refl, sym, subst, arith}
+use Rattle.std.proofs.Common.{◌≡◌, ◌≤◌, List, [], take, refl, sym, subst, arith}
 use Rattle.csp_text.specs.declared.script.Decl.{Decl}
 use Rattle.script_names.specs.Names.{first_of, meanings_of}
 use Rattle.name_faults.specs.Known.{IsKnown, fault_from}
 use Rattle.name_faults.proofs.KnownLemmas.{deep_so, next_known, none_told, nothing_is_known, passed, told_here}
+use Rattle.name_faults.proofs.Small.{declarations_fit, definitions_fit, in_declarations}
 use Rattle.name_faults.proofs.fault.first_after.Goals as goal
 use Rattle.csp_base.proofs.Lists.{take_read}
+use Rattle.dl_limits.specs.declared.TheConstants.{MOST_BYTES}
+use Rattle.script_sizes.specs.Size.{declaration_depth, depth}
 use Rattle.name_tables.proofs.NameLemmas.{same_meanings}
 
 pub loop-decl-init : goal.loop-decl-init
 loop-decl-init c = record { known = nothing_is_known c.args.known.now c.requires.known; so_far = refl }
+
+pub fault_in-requires : goal.fault_in-requires
+fault_in-requires c =
+    let fits : declaration_depth c.decl-item.result ≤ depth c.args.decls.now = in_declarations c.args.decls.now c.loop-decl.decl-index c.decl-item.result c.loop-decl-test.true c.decl-item.is in
+    let shallow = c.requires.small.shallow in
+    omega arith
+
+pub count-requires : goal.count-requires
+count-requires c = record {
+  declarations = declarations_fit c.args.decls.now c.loop-decl.decl-index MOST_BYTES c.loop-decl.known c.fault_in.new.known c.decl-item.result c.loop-decl-test.true c.requires.small.few c.loop-decl.invariant.known c.in_ok-fault.ensures.known;
+  definitions = definitions_fit c.args.decls.now c.loop-decl.decl-index MOST_BYTES c.loop-decl.known c.fault_in.new.known c.decl-item.result c.loop-decl-test.true c.requires.small.few c.loop-decl.invariant.known c.in_ok-fault.ensures.known;
+}
 
 pub returns-in-Some : goal.returns-in-Some
 returns-in-Some c =
@@ -29,7 +44,7 @@ loop-decl-preserved c =
     record {
       known = subst (λ (ds : List Decl). IsKnown ds c.count.new.self) (sym (take_read decls c.loop-decl.decl-index c.decl-item.result c.loop-decl-test.true c.decl-item.is))
           (next_known (take c.loop-decl.decl-index decls) c.loop-decl.known c.fault_in.new.known c.decl-item.result c.count.new.self c.loop-decl.invariant.known
-          c.in_ok-fault.ensures.known c.in_ok-count-in-None.ensures);
+          c.in_ok-fault.ensures.known c.count.ensures);
       so_far = passed decls kinds m same c.args.depths.now (deep_so decls kinds m same c.args.depths.now c.requires.depths)
           c.loop-decl.decl-index c.loop-decl.known c.decl-item.result c.in_ok-fault.field-0 (fault_from decls kinds [] decls)
           c.loop-decl-test.true c.decl-item.is c.loop-decl.invariant.known c.loop-decl.invariant.so_far c.in-None.is c.in_ok-fault.ensures.told;

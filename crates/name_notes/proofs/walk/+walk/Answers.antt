@@ -1,9 +1,18 @@
-use Rattle.std.proofs.Common.{◌++◌, refl, ◌∙◌, arith}
+use Rattle.std.proofs.Common.{◌≡◌, ℕ, ◌+◌, ◌*◌, ◌++◌, ◌<◌, ◌≤◌, map, max, refl, ◌∙◌, arith}
 use Rattle.std.proofs.lemmas.List.{append-nil}
 use Rattle.std.specs.List.{flat_map}
+use denote.Param.Weighed.{most}
+use Rattle.csp_base.specs.Lists.{greatest}
+use Rattle.csp_text.proofs.tree.FieldTree.TheLaws as field
+use Rattle.csp_text.proofs.tree.GenTree.TheLaws as generator
+use Rattle.csp_text.proofs.tree.PartTree.TheLaws as part
+use Rattle.csp_text.proofs.tree.Tree.TheLaws as tree
+use Rattle.csp_text.specs.declared.tree.PartTree.{PartTree}
+use Rattle.csp_text.specs.Depth.{field_depth, gen_depth, greatest_of_pairs, part_depth, tree_depth}
 use Rattle.script_names.specs.Names.{first_of}
 use Rattle.name_notes.specs.Told.{field_names, field_told, fields_told, gen_names, gen_told, gens_told, pair_told, pairs_told, part_told, parts_told, tree_told, trees_told}
 use Rattle.name_notes.proofs.Binders.{field_names-Dot, field_names-Output, gen_names-Cond, restored}
+use Rattle.name_notes.proofs.Deepest.{in_list, in_most, in_pairs}
 use Rattle.name_notes.proofs.ToldEquations.{fields_told-first, gens_told-first, pairs_told-first, parts_told-first, told_forms, trees_told-first}
 use Rattle.name_notes.proofs.WalkSteps.{told_end, told_step}
 use Rattle.name_tables.proofs.DeclaredLemmas.{flat_end, flat_step}
@@ -172,3 +181,49 @@ walk-returns-in-Hide-clause-notes t c = grind (arith, told_forms)
 
 pub walk-returns-in-Rename-clause-notes : goal.walk-returns-in-Rename-clause-notes
 walk-returns-in-Rename-clause-notes t c = grind (arith, told_forms)
+
+-- nothing in a list is larger than the largest, or deeper than the deepest
+pub walk_all-walk-requires : goal.walk_all-walk-requires
+walk_all-walk-requires t c =
+    let items = c.args.trees.now in
+    let item = c.tree-item.result in
+    let smaller : tree.the_size item ≤ most (λ x. tree.the_size x) items = in_most (λ x. tree.the_size x) items c.loop-tree.tree-index item c.loop-tree-test.true c.tree-item.is in
+    let fits : tree_depth item ≤ greatest (map tree_depth items) = in_list tree_depth items c.loop-tree.tree-index item c.loop-tree-test.true c.tree-item.is in
+    (omega arith, omega arith)
+
+pub walk_fields-walk_field-requires : goal.walk_fields-walk_field-requires
+walk_fields-walk_field-requires t c =
+    let items = c.args.fields.now in
+    let item = c.field-item.result in
+    let smaller : field.the_size item ≤ most (λ x. field.the_size x) items = in_most (λ x. field.the_size x) items c.loop-field.field-index item c.loop-field-test.true c.field-item.is in
+    let fits : field_depth item ≤ greatest (map field_depth items) = in_list field_depth items c.loop-field.field-index item c.loop-field-test.true c.field-item.is in
+    (omega arith, omega arith)
+
+pub walk_gens-walk_gen-requires : goal.walk_gens-walk_gen-requires
+walk_gens-walk_gen-requires t c =
+    let items = c.args.gens.now in
+    let item = c.generator-item.result in
+    let smaller : generator.the_size item ≤ most (λ x. generator.the_size x) items = in_most (λ x. generator.the_size x) items c.loop-generator.generator-index item c.loop-generator-test.true c.generator-item.is in
+    let fits : gen_depth item ≤ greatest (map gen_depth items) = in_list gen_depth items c.loop-generator.generator-index item c.loop-generator-test.true c.generator-item.is in
+    (omega arith, omega arith)
+
+pub walk_parts-walk_part-requires : goal.walk_parts-walk_part-requires
+walk_parts-walk_part-requires t c =
+    let items = c.args.parts.now in
+    let item = c.part-item.result in
+    let smaller : part.the_size item ≤ most (λ x. part.the_size x) items = in_most (λ x. part.the_size x) items c.loop-part.part-index item c.loop-part-test.true c.part-item.is in
+    let fits : part_depth item ≤ greatest (map part_depth items) = in_list part_depth items c.loop-part.part-index item c.loop-part-test.true c.part-item.is in
+    (omega arith, omega arith)
+
+pair_is_less : (old new all t : ℕ) → max old (max new 0) ≤ all → 6 * all + 2 ≡ t → 6 * max old new + 1 < t
+pair_is_less old new all t smaller is = omega arith
+
+pub walk_pairs-walk_pair-requires : goal.walk_pairs-walk_pair-requires
+walk_pairs-walk_pair-requires t c =
+    let pairs = c.args.pairs.now in
+    let pair = c.pair-item.result in
+    let sizes : PartTree × PartTree → ℕ = λ pair. max (part.the_size pair.0) (max (part.the_size pair.1) 0) in
+    let depths : PartTree × PartTree → ℕ × ℕ = λ pair. (part_depth pair.0, part_depth pair.1) in
+    let smaller = in_most sizes pairs c.loop-pair.pair-index pair c.loop-pair-test.true c.pair-item.is in
+    let fits : max (part_depth pair.0) (part_depth pair.1) ≤ greatest_of_pairs (map depths pairs) = in_pairs depths pairs c.loop-pair.pair-index pair c.loop-pair-test.true c.pair-item.is in
+    (pair_is_less (part.the_size pair.0) (part.the_size pair.1) (most sizes pairs) t smaller c.decreases, (omega arith, omega arith))
