@@ -1,10 +1,9 @@
 //! What names stand for at the places of trees.
 
-ghost use Rattle.std.specs.Prelude.{◌≡◌, ◌+◌, take, IfOk, OnOk};
+ghost use Rattle.std.specs.Prelude.{◌≡◌, ◌+◌, ◌<◌, take};
+ghost use Rattle.dl_limits.specs.declared.TheConstants.{MOST_BYTES};
 
-use csp_base::NoMemory;
 use name_tables::Scope;
-use name_tables::declared::next;
 
 /// The bound names at a place, and the number of the next binding token.
 #[derive(Drop)]
@@ -16,14 +15,15 @@ pub(crate) struct Binders {
 }
 
 /// Gives out the number of the next binding token.
-pub(crate) fn take_number(binders: &mut Binders) -> Result<u32, NoMemory>
-    ensures number { IfOk result (λ n. n ≡ binders.old.next) }
-    ensures next { OnOk result (binders.new.next ≡ binders.old.next + 1) }
-    ensures scope { OnOk result (binders.new.scope ≡ binders.old.scope) }
+pub(crate) fn take_number(binders: &mut Binders) -> u32
+    requires { binders.old.next < MOST_BYTES }
+    ensures number { result ≡ binders.old.next }
+    ensures next { binders.new.next ≡ binders.old.next + 1 }
+    ensures scope { binders.new.scope ≡ binders.old.scope }
 {
     let number = binders.next;
-    binders.next = next(number)?;
-    Ok(number)
+    binders.next += 1;
+    number
 }
 
 /// Leaves the first `kept` bound names alone.

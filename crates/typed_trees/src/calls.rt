@@ -1,11 +1,12 @@
 //! Trees as what they stand for, once each of their names has its meaning.
 
-ghost use Rattle.std.specs.Prelude.{◌≡◌, ◌+◌, map, IfOk, OnOk};
+ghost use Rattle.std.specs.Prelude.{◌≡◌, ◌+◌, ◌≤◌, map, IfOk, OnOk};
+ghost use Rattle.dl_limits.specs.declared.TheConstants.{MOST_BYTES};
 ghost use Rattle.script_names.specs.Names.{first_of};
 ghost use Rattle.script_names.specs.Typed.{all_bind, exprs, reading};
+ghost use Rattle.script_sizes.specs.BindingTokens.{all_tokens, tokens};
 
 use crate::binders::Binders;
-use crate::counts::{after, count_tree};
 use crate::expressions::{expression, expressions};
 use crate::networks::network;
 use crate::processes::process;
@@ -43,6 +44,7 @@ pub fn typed_expr(
     next: &mut u32,
     tree: &Tree,
 ) -> Result<Expr, NoMemory>
+    requires { next.old + tokens tree.now ≤ MOST_BYTES }
     ensures made { IfOk result (λ made. made ≡ (reading (first_of meanings.now.names.now) meanings.now.kinds.now tree.now).expr scope.old next.old) }
     ensures next { OnOk result (next.new ≡ next.old + (reading (first_of meanings.now.names.now) meanings.now.kinds.now tree.now).binds) }
     ensures scope { OnOk result (scope.new ≡ scope.old) }
@@ -60,6 +62,7 @@ pub fn typed_exprs(
     next: &mut u32,
     trees: &[Tree],
 ) -> Result<Items<Expr>, NoMemory>
+    requires { next.old + all_tokens trees.now ≤ MOST_BYTES }
     ensures made { IfOk result (λ made. made ≡ exprs (map (reading (first_of meanings.now.names.now) meanings.now.kinds.now) trees.now) scope.old next.old) }
     ensures next { OnOk result (next.new ≡ next.old + all_bind (map (reading (first_of meanings.now.names.now) meanings.now.kinds.now) trees.now)) }
     ensures scope { OnOk result (scope.new ≡ scope.old) }
@@ -78,6 +81,7 @@ pub fn typed_proc(
     next: &mut u32,
     tree: &Tree,
 ) -> Result<Proc, NoMemory>
+    requires { next.old + tokens tree.now ≤ MOST_BYTES }
     ensures made { IfOk result (λ made. made ≡ (reading (first_of meanings.now.names.now) meanings.now.kinds.now tree.now).proc scope.old next.old) }
     ensures next { OnOk result (next.new ≡ next.old + (reading (first_of meanings.now.names.now) meanings.now.kinds.now tree.now).binds) }
     ensures scope { OnOk result (scope.new ≡ scope.old) }
@@ -97,6 +101,7 @@ pub fn typed_net(
     next: &mut u32,
     tree: &Tree,
 ) -> Result<Net, NoMemory>
+    requires { next.old + tokens tree.now ≤ MOST_BYTES }
     ensures made { IfOk result (λ made. made ≡ (reading (first_of meanings.now.names.now) meanings.now.kinds.now tree.now).net scope.old next.old) }
     ensures next { OnOk result (next.new ≡ next.old + (reading (first_of meanings.now.names.now) meanings.now.kinds.now tree.now).binds) }
     ensures scope { OnOk result (scope.new ≡ scope.old) }

@@ -1,38 +1,18 @@
-//! How many binding tokens trees have. A count that would pass its type's end stays there.
+//! How many binding tokens trees have.
 
-ghost use Rattle.std.specs.Prelude.{◌≡◌, ℕ, ◌+◌, IfOk};
-ghost use Rattle.csp_text.specs.Depth.{capped};
+ghost use Rattle.std.specs.Prelude.{◌≡◌, ◌+◌, ◌≤◌};
+ghost use Rattle.dl_limits.specs.declared.TheConstants.{MOST_BYTES};
 ghost use Rattle.script_sizes.specs.BindingTokens.{all_tokens, field_tokens, fields_tokens, gen_tokens, gens_tokens, part_tokens, parts_tokens, pairs_tokens, tokens};
 
 use containers::Boxed;
-use csp_base::NoMemory;
 use csp_text::{FieldTree, GenTree, PartTree, Tree};
 
-// Both counts together.
-fn sum(left: u32, right: u32) -> u32
-    ensures { result ≡ capped (left + right) }
-{
-    left.saturating_add(right)
-}
-
-/// The number that is `count` after `number`. A count at its type's end is refused like want of memory.
-pub(crate) fn after(number: u32, count: u32) -> Result<u32, NoMemory>
-    ensures { IfOk result (λ next. (tokens : ℕ) → count ≡ capped tokens → next ≡ number + tokens) }
-{
-    if count == u32::MAX {
-        return Err(NoMemory);
-    }
-    match number.checked_add(count) {
-        Some(next) => Ok(next),
-        None => Err(NoMemory),
-    }
-}
-
 /// The number of a tree's binding tokens.
-#[tactic(auto, using(script_sizes::proofs::TokenForms::token_forms))]
+#[tactic(auto, using(csp_text::specs::declared::tree::Tree::the_lemmas, script_sizes::proofs::TokenForms::token_forms))]
 #[cycle(count)]
 pub(crate) fn count_tree(tree: &Tree) -> u32
-    ensures { result ≡ capped (tokens tree.now) }
+    requires { tokens tree.now ≤ MOST_BYTES }
+    ensures { result ≡ tokens tree.now }
 {
     match tree {
         Tree::Stop | Tree::Skip | Tree::Num(_) | Tree::True | Tree::False | Tree::Name(_) => 0,
@@ -48,63 +28,66 @@ pub(crate) fn count_tree(tree: &Tree) -> u32
         | Tree::Guard(a, b)
         | Tree::Seq(a, b)
         | Tree::Hide(a, b) => count_two(a, b),
-        Tree::EachExternal(_, a, b) | Tree::EachInternal(_, a, b) => sum(1, count_two(a, b)),
-        Tree::If(a, b, c) => sum(count_two(a, b), count_tree(c.get())),
-        Tree::EachParallel(_, a, b, c) => sum(sum(1, count_two(a, b)), count_tree(c.get())),
-        Tree::Comp(items, gens) => sum(count_trees(items.as_slice()), count_gens(gens.as_slice())),
+        Tree::EachExternal(_, a, b) | Tree::EachInternal(_, a, b) => 1 + count_two(a, b),
+        Tree::If(a, b, c) => count_two(a, b) + count_tree(c.get()),
+        Tree::EachParallel(_, a, b, c) => 1 + count_two(a, b) + count_tree(c.get()),
+        Tree::Comp(items, gens) => count_trees(items.as_slice()) + count_gens(gens.as_slice()),
         Tree::Product(parts, gens) => {
-            sum(count_parts(parts.as_slice()), count_gens(gens.as_slice()))
+            count_parts(parts.as_slice()) + count_gens(gens.as_slice())
         }
-        Tree::Prefix(event, p) => sum(count_fields(event.fields.as_slice()), count_tree(p.get())),
-        Tree::Parallel(p, a, b, q) => sum(count_two(p, a), count_two(b, q)),
-        Tree::Rename(p, pairs, gens) => sum(
-            sum(count_tree(p.get()), count_pairs(pairs.as_slice())),
-            count_gens(gens.as_slice()),
-        ),
+        Tree::Prefix(event, p) => count_fields(event.fields.as_slice()) + count_tree(p.get()),
+        Tree::Parallel(p, a, b, q) => count_two(p, a) + count_two(b, q),
+        Tree::Rename(p, pairs, gens) => count_tree(p.get())
+            + count_pairs(pairs.as_slice())
+            + count_gens(gens.as_slice()),
     }
 }
 
 // The same of two trees.
 #[cycle(count)]
 fn count_two(a: &Boxed<Tree>, b: &Boxed<Tree>) -> u32
-    ensures { result ≡ capped (tokens a.now + tokens b.now) }
+    requires { tokens a.now + tokens b.now ≤ MOST_BYTES }
+    ensures { result ≡ tokens a.now + tokens b.now }
 {
-    sum(count_tree(a.get()), count_tree(b.get()))
+    count_tree(a.get()) + count_tree(b.get())
 }
 
 /// The number of some trees' binding tokens.
 #[cycle(count)]
 pub(crate) fn count_trees(trees: &[Tree]) -> u32
-    ensures { result ≡ capped (all_tokens trees.now) }
+    requires { all_tokens trees.now ≤ MOST_BYTES }
+    ensures { result ≡ all_tokens trees.now }
 {
     let mut count = 0;
     for tree in trees {
-        count = sum(count, count_tree(tree));
+        count += count_tree(tree);
     }
     count
 }
 
 #[cycle(count)]
 fn count_fields(fields: &[FieldTree]) -> u32
-    ensures { result ≡ capped (fields_tokens fields.now) }
+    requires { fields_tokens fields.now ≤ MOST_BYTES }
+    ensures { result ≡ fields_tokens fields.now }
 {
     let mut count = 0;
     for field in fields {
-        count = sum(count, count_field(field));
+        count += count_field(field);
     }
     count
 }
 
-#[tactic(auto, using(script_sizes::proofs::TokenForms::field_tokens_forms))]
+#[tactic(auto, using(csp_text::specs::declared::tree::Tree::the_lemmas, script_sizes::proofs::TokenForms::field_tokens_forms))]
 #[cycle(count)]
 fn count_field(field: &FieldTree) -> u32
-    ensures { result ≡ capped (field_tokens field.now) }
+    requires { field_tokens field.now ≤ MOST_BYTES }
+    ensures { result ≡ field_tokens field.now }
 {
     match field {
         FieldTree::Dot(a) => count_tree(a),
         FieldTree::Output(a) => count_tree(a),
         FieldTree::Input(_, set) => match set {
-            Some(set) => sum(1, count_tree(set)),
+            Some(set) => 1 + count_tree(set),
             None => 1,
         },
     }
@@ -112,30 +95,33 @@ fn count_field(field: &FieldTree) -> u32
 
 #[cycle(count)]
 fn count_gens(gens: &[GenTree]) -> u32
-    ensures { result ≡ capped (gens_tokens gens.now) }
+    requires { gens_tokens gens.now ≤ MOST_BYTES }
+    ensures { result ≡ gens_tokens gens.now }
 {
     let mut count = 0;
     for generator in gens {
-        count = sum(count, count_gen(generator));
+        count += count_gen(generator);
     }
     count
 }
 
-#[tactic(auto, using(script_sizes::proofs::TokenForms::gen_tokens_forms))]
+#[tactic(auto, using(csp_text::specs::declared::tree::Tree::the_lemmas, script_sizes::proofs::TokenForms::gen_tokens_forms))]
 #[cycle(count)]
 fn count_gen(generator: &GenTree) -> u32
-    ensures { result ≡ capped (gen_tokens generator.now) }
+    requires { gen_tokens generator.now ≤ MOST_BYTES }
+    ensures { result ≡ gen_tokens generator.now }
 {
     match generator {
-        GenTree::From(_, set) => sum(1, count_tree(set)),
+        GenTree::From(_, set) => 1 + count_tree(set),
         GenTree::Cond(condition) => count_tree(condition),
     }
 }
 
-#[tactic(auto, using(script_sizes::proofs::TokenForms::part_tokens_forms))]
+#[tactic(auto, using(csp_text::specs::declared::tree::Tree::the_lemmas, script_sizes::proofs::TokenForms::part_tokens_forms))]
 #[cycle(count)]
 fn count_front(part: &PartTree) -> u32
-    ensures { result ≡ capped (part_tokens part.now) }
+    requires { part_tokens part.now ≤ MOST_BYTES }
+    ensures { result ≡ part_tokens part.now }
 {
     count_trees(part.fields.as_slice())
 }
@@ -143,11 +129,12 @@ fn count_front(part: &PartTree) -> u32
 /// The number of the binding tokens of events' fronts.
 #[cycle(count)]
 pub(crate) fn count_parts(parts: &[PartTree]) -> u32
-    ensures { result ≡ capped (parts_tokens parts.now) }
+    requires { parts_tokens parts.now ≤ MOST_BYTES }
+    ensures { result ≡ parts_tokens parts.now }
 {
     let mut count = 0;
     for part in parts {
-        count = sum(count, count_front(part));
+        count += count_front(part);
     }
     count
 }
@@ -155,11 +142,12 @@ pub(crate) fn count_parts(parts: &[PartTree]) -> u32
 /// The number of the binding tokens of a renaming's pairs.
 #[cycle(count)]
 pub(crate) fn count_pairs(pairs: &[(PartTree, PartTree)]) -> u32
-    ensures { result ≡ capped (pairs_tokens pairs.now) }
+    requires { pairs_tokens pairs.now ≤ MOST_BYTES }
+    ensures { result ≡ pairs_tokens pairs.now }
 {
     let mut count = 0;
     for pair in pairs {
-        count = sum(count, sum(count_front(&pair.0), count_front(&pair.1)));
+        count += count_front(&pair.0) + count_front(&pair.1);
     }
     count
 }

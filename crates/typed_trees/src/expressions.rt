@@ -1,14 +1,14 @@
 //! Trees as expressions.
 
-ghost use Rattle.std.specs.Prelude.{◌≡◌, ℕ, ◌+◌, pos, IfOk, OnOk};
-ghost use Rattle.csp_text.specs.Depth.{capped};
+ghost use Rattle.std.specs.Prelude.{◌≡◌, ◌+◌, ◌≤◌, pos, IfOk, OnOk};
+ghost use Rattle.dl_limits.specs.declared.TheConstants.{MOST_BYTES};
 ghost use Rattle.script_names.specs.Typed.{with};
 ghost use Rattle.script_sizes.specs.BindingTokens.{all_tokens, gen_tokens, gens_tokens, part_tokens, parts_tokens, tokens};
 ghost use Rattle.typed_trees.specs.Words.{expr_of, exprs_of, gen_of, gen_scope, gens_of, gens_scope, part_of, parts_of};
 ghost use Rattle.typed_trees.specs.Scopes.{Keeps};
 
 use crate::binders::{Binders, leave, take_number};
-use crate::counts::{after, count_parts, count_tree, count_trees};
+use crate::counts::{count_parts, count_tree, count_trees};
 use crate::names::{channel_number, definition_number, name};
 use containers::{Boxed, Items};
 use csp_base::{Name, NoMemory};
@@ -17,13 +17,14 @@ use csp_text::{GenTree, PartTree, Tree};
 use name_tables::Meanings;
 
 // What stands for a process where an expression is needed, which it never is in a script without faults.
-fn no_expression(binders: &mut Binders, tree: &Tree) -> Result<Expr, NoMemory>
-    ensures made { IfOk result (λ made. made ≡ Expr.Num (pos 0)) }
-    ensures next { OnOk result (binders.new.next ≡ binders.old.next + tokens tree.now) }
-    ensures scope { OnOk result (binders.new.scope ≡ binders.old.scope) }
+fn no_expression(binders: &mut Binders, tree: &Tree) -> Expr
+    requires { binders.old.next + tokens tree.now ≤ MOST_BYTES }
+    ensures made { result ≡ Expr.Num (pos 0) }
+    ensures next { binders.new.next ≡ binders.old.next + tokens tree.now }
+    ensures scope { binders.new.scope ≡ binders.old.scope }
 {
-    binders.next = after(binders.next, count_tree(tree))?;
-    Ok(Expr::Num(0))
+    binders.next += count_tree(tree);
+    Expr::Num(0)
 }
 
 /// A tree as an expression.
@@ -34,6 +35,7 @@ pub(crate) fn expression(
     binders: &mut Binders,
     tree: &Tree,
 ) -> Result<Expr, NoMemory>
+    requires { binders.old.next + tokens tree.now ≤ MOST_BYTES }
     ensures made { IfOk result (λ made. made ≡ expr_of meanings.now.names.now meanings.now.kinds.now tree.now binders.old.scope binders.old.next) }
     ensures next { OnOk result (binders.new.next ≡ binders.old.next + tokens tree.now) }
     ensures scope { OnOk result (binders.new.scope ≡ binders.old.scope) }
@@ -66,7 +68,7 @@ pub(crate) fn expression(
         Tree::SetOp(op, a, b) => {
             two(meanings, binders, a, b).map(|(a, b)| Expr::SetOp(*op, a, b))
         }
-        _ => no_expression(binders, tree),
+        _ => Ok(no_expression(binders, tree)),
     }
 }
 
@@ -78,6 +80,7 @@ pub(crate) fn two(
     a: &Boxed<Tree>,
     b: &Boxed<Tree>,
 ) -> Result<(Boxed<Expr>, Boxed<Expr>), NoMemory>
+    requires { binders.old.next + tokens a.now + tokens b.now ≤ MOST_BYTES }
     ensures first { IfOk result (λ made. made.0 ≡ expr_of meanings.now.names.now meanings.now.kinds.now a.now binders.old.scope binders.old.next) }
     ensures second { IfOk result (λ made. made.1 ≡ expr_of meanings.now.names.now meanings.now.kinds.now b.now binders.old.scope (binders.old.next + tokens a.now)) }
     ensures next { OnOk result (binders.new.next ≡ binders.old.next + tokens a.now + tokens b.now) }
@@ -97,6 +100,7 @@ fn choice(
     a: &Boxed<Tree>,
     b: &Boxed<Tree>,
 ) -> Result<Expr, NoMemory>
+    requires { binders.old.next + tokens c.now + tokens a.now + tokens b.now ≤ MOST_BYTES }
     ensures made { IfOk result (λ made. made ≡ Expr.If (expr_of meanings.now.names.now meanings.now.kinds.now c.now binders.old.scope binders.old.next) (expr_of meanings.now.names.now meanings.now.kinds.now a.now binders.old.scope (binders.old.next + tokens c.now)) (expr_of meanings.now.names.now meanings.now.kinds.now b.now binders.old.scope (binders.old.next + tokens c.now + tokens a.now))) }
     ensures next { OnOk result (binders.new.next ≡ binders.old.next + tokens c.now + tokens a.now + tokens b.now) }
     ensures scope { OnOk result (binders.new.scope ≡ binders.old.scope) }
@@ -113,6 +117,7 @@ fn comprehension(
     items: &Items<Tree>,
     gens: &Items<GenTree>,
 ) -> Result<Expr, NoMemory>
+    requires { binders.old.next + all_tokens items.now + gens_tokens gens.now ≤ MOST_BYTES }
     ensures made { IfOk result (λ made. made ≡ Expr.Comp (exprs_of meanings.now.names.now meanings.now.kinds.now items.now (gens_scope meanings.now.names.now meanings.now.kinds.now gens.now binders.old.scope (binders.old.next + all_tokens items.now)) binders.old.next) (gens_of meanings.now.names.now meanings.now.kinds.now gens.now binders.old.scope (binders.old.next + all_tokens items.now))) }
     ensures next { OnOk result (binders.new.next ≡ binders.old.next + all_tokens items.now + gens_tokens gens.now) }
     ensures scope { OnOk result (binders.new.scope ≡ binders.old.scope) }
@@ -135,6 +140,7 @@ fn product(
     parts: &Items<PartTree>,
     gens: &Items<GenTree>,
 ) -> Result<Expr, NoMemory>
+    requires { binders.old.next + parts_tokens parts.now + gens_tokens gens.now ≤ MOST_BYTES }
     ensures made { IfOk result (λ made. made ≡ Expr.Product (parts_of meanings.now.names.now meanings.now.kinds.now parts.now (gens_scope meanings.now.names.now meanings.now.kinds.now gens.now binders.old.scope (binders.old.next + parts_tokens parts.now)) binders.old.next) (gens_of meanings.now.names.now meanings.now.kinds.now gens.now binders.old.scope (binders.old.next + parts_tokens parts.now))) }
     ensures next { OnOk result (binders.new.next ≡ binders.old.next + parts_tokens parts.now + gens_tokens gens.now) }
     ensures scope { OnOk result (binders.new.scope ≡ binders.old.scope) }
@@ -156,6 +162,7 @@ pub(crate) fn boxed(
     binders: &mut Binders,
     tree: &Tree,
 ) -> Result<Boxed<Expr>, NoMemory>
+    requires { binders.old.next + tokens tree.now ≤ MOST_BYTES }
     ensures made { IfOk result (λ made. made ≡ expr_of meanings.now.names.now meanings.now.kinds.now tree.now binders.old.scope binders.old.next) }
     ensures next { OnOk result (binders.new.next ≡ binders.old.next + tokens tree.now) }
     ensures scope { OnOk result (binders.new.scope ≡ binders.old.scope) }
@@ -171,6 +178,7 @@ pub(crate) fn expressions(
     binders: &mut Binders,
     trees: &[Tree],
 ) -> Result<Items<Expr>, NoMemory>
+    requires { binders.old.next + all_tokens trees.now ≤ MOST_BYTES }
     ensures made { IfOk result (λ made. made ≡ exprs_of meanings.now.names.now meanings.now.kinds.now trees.now binders.old.scope binders.old.next) }
     ensures next { OnOk result (binders.new.next ≡ binders.old.next + all_tokens trees.now) }
     ensures scope { OnOk result (binders.new.scope ≡ binders.old.scope) }
@@ -190,6 +198,7 @@ pub(crate) fn bind_over(
     x: &Name,
     set: &Tree,
 ) -> Result<(u32, Boxed<Expr>), NoMemory>
+    requires { binders.old.next + 1 + tokens set.now ≤ MOST_BYTES }
     ensures number { IfOk result (λ made. made.0 ≡ binders.old.next) }
     ensures set { IfOk result (λ made. made.1 ≡ expr_of meanings.now.names.now meanings.now.kinds.now set.now binders.old.scope (binders.old.next + 1)) }
     ensures next { OnOk result (binders.new.next ≡ binders.old.next + 1 + tokens set.now) }
@@ -207,12 +216,13 @@ fn numbered(
     binders: &mut Binders,
     set: &Tree,
 ) -> Result<(u32, Boxed<Expr>), NoMemory>
+    requires { binders.old.next + 1 + tokens set.now ≤ MOST_BYTES }
     ensures number { IfOk result (λ made. made.0 ≡ binders.old.next) }
     ensures set { IfOk result (λ made. made.1 ≡ expr_of meanings.now.names.now meanings.now.kinds.now set.now binders.old.scope (binders.old.next + 1)) }
     ensures next { OnOk result (binders.new.next ≡ binders.old.next + 1 + tokens set.now) }
     ensures scope { OnOk result (binders.new.scope ≡ binders.old.scope) }
 {
-    let number = take_number(binders)?;
+    let number = take_number(binders);
     let set = boxed(meanings, binders, set)?;
     Ok((number, set))
 }
@@ -225,6 +235,7 @@ fn generator(
     binders: &mut Binders,
     tree: &GenTree,
 ) -> Result<Gen, NoMemory>
+    requires { binders.old.next + gen_tokens tree.now ≤ MOST_BYTES }
     ensures made { IfOk result (λ made. made ≡ gen_of meanings.now.names.now meanings.now.kinds.now tree.now binders.old.scope binders.old.next) }
     ensures next { OnOk result (binders.new.next ≡ binders.old.next + gen_tokens tree.now) }
     ensures scope { OnOk result (binders.new.scope ≡ gen_scope meanings.now.names.now meanings.now.kinds.now tree.now binders.old.scope binders.old.next) }
@@ -249,6 +260,7 @@ pub(crate) fn generators(
     binders: &mut Binders,
     trees: &[GenTree],
 ) -> Result<Items<Gen>, NoMemory>
+    requires { binders.old.next + gens_tokens trees.now ≤ MOST_BYTES }
     ensures made { IfOk result (λ made. made ≡ gens_of meanings.now.names.now meanings.now.kinds.now trees.now binders.old.scope binders.old.next) }
     ensures next { OnOk result (binders.new.next ≡ binders.old.next + gens_tokens trees.now) }
     ensures scope { OnOk result (binders.new.scope ≡ gens_scope meanings.now.names.now meanings.now.kinds.now trees.now binders.old.scope binders.old.next) }
@@ -269,14 +281,15 @@ pub(crate) fn generators_after(
     count: u32,
     trees: &[GenTree],
 ) -> Result<(Items<Gen>, u32), NoMemory>
-    ensures made { IfOk result (λ made. (n : ℕ) → count ≡ capped n → made.0 ≡ gens_of meanings.now.names.now meanings.now.kinds.now trees.now binders.old.scope (binders.old.next + n)) }
-    ensures last { IfOk result (λ made. (n : ℕ) → count ≡ capped n → made.1 ≡ binders.old.next + n + gens_tokens trees.now) }
+    requires { binders.old.next + count + gens_tokens trees.now ≤ MOST_BYTES }
+    ensures made { IfOk result (λ made. made.0 ≡ gens_of meanings.now.names.now meanings.now.kinds.now trees.now binders.old.scope (binders.old.next + count)) }
+    ensures last { IfOk result (λ made. made.1 ≡ binders.old.next + count + gens_tokens trees.now) }
     ensures next { OnOk result (binders.new.next ≡ binders.old.next) }
-    ensures scope { OnOk result ((n : ℕ) → count ≡ capped n → binders.new.scope ≡ gens_scope meanings.now.names.now meanings.now.kinds.now trees.now binders.old.scope (binders.old.next + n)) }
+    ensures scope { OnOk result (binders.new.scope ≡ gens_scope meanings.now.names.now meanings.now.kinds.now trees.now binders.old.scope (binders.old.next + count)) }
     ensures keeps { OnOk result (Keeps binders.old.scope binders.new.scope) }
 {
     let first = binders.next;
-    binders.next = after(first, count)?;
+    binders.next += count;
     let gens = generators(meanings, binders, trees)?;
     let last = binders.next;
     binders.next = first;
@@ -291,6 +304,7 @@ pub(crate) fn front(
     binders: &mut Binders,
     part: &PartTree,
 ) -> Result<EventPart, NoMemory>
+    requires { binders.old.next + part_tokens part.now ≤ MOST_BYTES }
     ensures made { IfOk result (λ made. made ≡ part_of meanings.now.names.now meanings.now.kinds.now part.now binders.old.scope binders.old.next) }
     ensures next { OnOk result (binders.new.next ≡ binders.old.next + part_tokens part.now) }
     ensures scope { OnOk result (binders.new.scope ≡ binders.old.scope) }
@@ -309,6 +323,7 @@ fn fronts(
     binders: &mut Binders,
     parts: &[PartTree],
 ) -> Result<Items<EventPart>, NoMemory>
+    requires { binders.old.next + parts_tokens parts.now ≤ MOST_BYTES }
     ensures made { IfOk result (λ made. made ≡ parts_of meanings.now.names.now meanings.now.kinds.now parts.now binders.old.scope binders.old.next) }
     ensures next { OnOk result (binders.new.next ≡ binders.old.next + parts_tokens parts.now) }
     ensures scope { OnOk result (binders.new.scope ≡ binders.old.scope) }

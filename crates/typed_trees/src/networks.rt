@@ -1,6 +1,7 @@
 //! Trees as networks.
 
-ghost use Rattle.std.specs.Prelude.{◌≡◌, ◌+◌, IfOk, OnOk};
+ghost use Rattle.std.specs.Prelude.{◌≡◌, ◌+◌, ◌≤◌, IfOk, OnOk};
+ghost use Rattle.dl_limits.specs.declared.TheConstants.{MOST_BYTES};
 ghost use Rattle.script_names.specs.Faults as faults;
 ghost use Rattle.script_names.specs.Names.{first_of};
 ghost use Rattle.script_names.specs.Typed.{with};
@@ -64,6 +65,7 @@ pub(crate) fn network(
     binders: &mut Binders,
     tree: &Tree,
 ) -> Result<Net, NoMemory>
+    requires { binders.old.next + tokens tree.now ≤ MOST_BYTES }
     ensures made { IfOk result (λ made. made ≡ net_of meanings.now.names.now meanings.now.kinds.now tree.now binders.old.scope binders.old.next) }
     ensures next { OnOk result (binders.new.next ≡ binders.old.next + tokens tree.now) }
     ensures scope { OnOk result (binders.new.scope ≡ binders.old.scope) }
@@ -91,6 +93,7 @@ fn call(
     f: &Name,
     args: &Items<Tree>,
 ) -> Result<Net, NoMemory>
+    requires { binders.old.next + all_tokens args.now ≤ MOST_BYTES }
     ensures made { IfOk result (λ made. made ≡ Net.Call (typed.definition_number (first_of meanings.now.names.now f.now)) (exprs_of meanings.now.names.now meanings.now.kinds.now args.now binders.old.scope binders.old.next)) }
     ensures next { OnOk result (binders.new.next ≡ binders.old.next + all_tokens args.now) }
     ensures scope { OnOk result (binders.new.scope ≡ binders.old.scope) }
@@ -108,6 +111,7 @@ fn choice(
     p: &Boxed<Tree>,
     q: &Boxed<Tree>,
 ) -> Result<Net, NoMemory>
+    requires { binders.old.next + tokens c.now + tokens p.now + tokens q.now ≤ MOST_BYTES }
     ensures made { IfOk result (λ made. made ≡ Net.If (expr_of meanings.now.names.now meanings.now.kinds.now c.now binders.old.scope binders.old.next) (net_of meanings.now.names.now meanings.now.kinds.now p.now binders.old.scope (binders.old.next + tokens c.now)) (net_of meanings.now.names.now meanings.now.kinds.now q.now binders.old.scope (binders.old.next + tokens c.now + tokens p.now))) }
     ensures next { OnOk result (binders.new.next ≡ binders.old.next + tokens c.now + tokens p.now + tokens q.now) }
     ensures scope { OnOk result (binders.new.scope ≡ binders.old.scope) }
@@ -127,6 +131,7 @@ fn pair(
     b: &Boxed<Tree>,
     q: &Boxed<Tree>,
 ) -> Result<Net, NoMemory>
+    requires { binders.old.next + tokens p.now + tokens a.now + tokens b.now + tokens q.now ≤ MOST_BYTES }
     ensures made { IfOk result (λ made. made ≡ Net.Pair (net_of meanings.now.names.now meanings.now.kinds.now p.now binders.old.scope binders.old.next) (expr_of meanings.now.names.now meanings.now.kinds.now a.now binders.old.scope (binders.old.next + tokens p.now)) (expr_of meanings.now.names.now meanings.now.kinds.now b.now binders.old.scope (binders.old.next + tokens p.now + tokens a.now)) (net_of meanings.now.names.now meanings.now.kinds.now q.now binders.old.scope (binders.old.next + tokens p.now + tokens a.now + tokens b.now))) }
     ensures next { OnOk result (binders.new.next ≡ binders.old.next + tokens p.now + tokens a.now + tokens b.now + tokens q.now) }
     ensures scope { OnOk result (binders.new.scope ≡ binders.old.scope) }
@@ -146,6 +151,7 @@ fn each(
     a: &Boxed<Tree>,
     p: &Boxed<Tree>,
 ) -> Result<Net, NoMemory>
+    requires { binders.old.next + 1 + tokens set.now + tokens a.now + tokens p.now ≤ MOST_BYTES }
     ensures made { IfOk result (λ made. made ≡ Net.Each binders.old.next (expr_of meanings.now.names.now meanings.now.kinds.now set.now binders.old.scope (binders.old.next + 1)) (expr_of meanings.now.names.now meanings.now.kinds.now a.now (with binders.old.scope x.now binders.old.next) (binders.old.next + 1 + tokens set.now)) (net_of meanings.now.names.now meanings.now.kinds.now p.now (with binders.old.scope x.now binders.old.next) (binders.old.next + 1 + tokens set.now + tokens a.now))) }
     ensures next { OnOk result (binders.new.next ≡ binders.old.next + 1 + tokens set.now + tokens a.now + tokens p.now) }
     ensures scope { OnOk result (binders.new.scope ≡ binders.old.scope) }
@@ -165,6 +171,7 @@ fn sets_over(
     set: &Boxed<Tree>,
     a: &Boxed<Tree>,
 ) -> Result<(u32, Boxed<Expr>, Boxed<Expr>), NoMemory>
+    requires { binders.old.next + 1 + tokens set.now + tokens a.now ≤ MOST_BYTES }
     ensures number { IfOk result (λ made. made.0 ≡ binders.old.next) }
     ensures set { IfOk result (λ made. made.1 ≡ expr_of meanings.now.names.now meanings.now.kinds.now set.now binders.old.scope (binders.old.next + 1)) }
     ensures alphabet { IfOk result (λ made. made.2 ≡ expr_of meanings.now.names.now meanings.now.kinds.now a.now (with binders.old.scope x.now binders.old.next) (binders.old.next + 1 + tokens set.now)) }
@@ -178,6 +185,7 @@ fn sets_over(
 
 // A tree as a component.
 fn leaf(meanings: &Meanings<'_>, binders: &mut Binders, tree: &Tree) -> Result<Net, NoMemory>
+    requires { binders.old.next + tokens tree.now ≤ MOST_BYTES }
     ensures made { IfOk result (λ made. made ≡ Net.Leaf (proc_of meanings.now.names.now meanings.now.kinds.now tree.now binders.old.scope binders.old.next)) }
     ensures next { OnOk result (binders.new.next ≡ binders.old.next + tokens tree.now) }
     ensures scope { OnOk result (binders.new.scope ≡ binders.old.scope) }
@@ -192,6 +200,7 @@ fn boxed(
     binders: &mut Binders,
     tree: &Boxed<Tree>,
 ) -> Result<Boxed<Net>, NoMemory>
+    requires { binders.old.next + tokens tree.now ≤ MOST_BYTES }
     ensures made { IfOk result (λ made. made ≡ net_of meanings.now.names.now meanings.now.kinds.now tree.now binders.old.scope binders.old.next) }
     ensures next { OnOk result (binders.new.next ≡ binders.old.next + tokens tree.now) }
     ensures scope { OnOk result (binders.new.scope ≡ binders.old.scope) }

@@ -1,13 +1,14 @@
 //! Trees as processes.
 
-ghost use Rattle.std.specs.Prelude.{◌≡◌, ◌+◌, IfOk, OnOk};
+ghost use Rattle.std.specs.Prelude.{◌≡◌, ◌+◌, ◌≤◌, IfOk, OnOk};
+ghost use Rattle.dl_limits.specs.declared.TheConstants.{MOST_BYTES};
 ghost use Rattle.script_names.specs.Typed.{with};
 ghost use Rattle.typed_trees.specs.Scopes.{Keeps};
 ghost use Rattle.script_sizes.specs.BindingTokens.{all_tokens, field_tokens, fields_tokens, gens_tokens, pairs_tokens, part_tokens, set_tokens, tokens};
 ghost use Rattle.typed_trees.specs.Words.{expr_of, field_of, field_scope, fields_of, fields_scope, gens_of, gens_scope, pairs_of, part_of, proc_of, procs_of, set_of};
 
 use crate::binders::{Binders, leave, take_number};
-use crate::counts::{after, count_pairs, count_tree};
+use crate::counts::{count_pairs, count_tree};
 use crate::expressions::{
     bind_over, boxed as boxed_expr, expression, expressions, front, generators_after,
 };
@@ -24,6 +25,7 @@ fn input_set(
     binders: &mut Binders,
     set: &Option<Tree>,
 ) -> Result<Option<Boxed<Expr>>, NoMemory>
+    requires { binders.old.next + set_tokens set.now ≤ MOST_BYTES }
     ensures made { IfOk result (λ made. made ≡ set_of meanings.now.names.now meanings.now.kinds.now set.now binders.old.scope binders.old.next) }
     ensures next { OnOk result (binders.new.next ≡ binders.old.next + set_tokens set.now) }
     ensures scope { OnOk result (binders.new.scope ≡ binders.old.scope) }
@@ -51,6 +53,7 @@ fn input(
     x: &Name,
     set: &Option<Tree>,
 ) -> Result<Field, NoMemory>
+    requires { binders.old.next + 1 + set_tokens set.now ≤ MOST_BYTES }
     ensures made { IfOk result (λ made. made ≡ Field.Get binders.old.next (set_of meanings.now.names.now meanings.now.kinds.now set.now binders.old.scope (binders.old.next + 1))) }
     ensures next { OnOk result (binders.new.next ≡ binders.old.next + 1 + set_tokens set.now) }
     ensures scope { OnOk result (binders.new.scope ≡ with binders.old.scope x.now binders.old.next) }
@@ -66,12 +69,13 @@ fn numbered_set(
     binders: &mut Binders,
     set: &Option<Tree>,
 ) -> Result<(u32, Option<Boxed<Expr>>), NoMemory>
+    requires { binders.old.next + 1 + set_tokens set.now ≤ MOST_BYTES }
     ensures number { IfOk result (λ made. made.0 ≡ binders.old.next) }
     ensures set { IfOk result (λ made. made.1 ≡ set_of meanings.now.names.now meanings.now.kinds.now set.now binders.old.scope (binders.old.next + 1)) }
     ensures next { OnOk result (binders.new.next ≡ binders.old.next + 1 + set_tokens set.now) }
     ensures scope { OnOk result (binders.new.scope ≡ binders.old.scope) }
 {
-    let number = take_number(binders)?;
+    let number = take_number(binders);
     let set = input_set(meanings, binders, set)?;
     Ok((number, set))
 }
@@ -82,6 +86,7 @@ fn field(
     binders: &mut Binders,
     tree: &FieldTree,
 ) -> Result<Field, NoMemory>
+    requires { binders.old.next + field_tokens tree.now ≤ MOST_BYTES }
     ensures made { IfOk result (λ made. made ≡ field_of meanings.now.names.now meanings.now.kinds.now tree.now binders.old.scope binders.old.next) }
     ensures next { OnOk result (binders.new.next ≡ binders.old.next + field_tokens tree.now) }
     ensures scope { OnOk result (binders.new.scope ≡ field_scope meanings.now.names.now meanings.now.kinds.now tree.now binders.old.scope binders.old.next) }
@@ -102,6 +107,7 @@ fn fields(
     binders: &mut Binders,
     trees: &[FieldTree],
 ) -> Result<Items<Field>, NoMemory>
+    requires { binders.old.next + fields_tokens trees.now ≤ MOST_BYTES }
     ensures made { IfOk result (λ made. made ≡ fields_of meanings.now.names.now meanings.now.kinds.now trees.now binders.old.scope binders.old.next) }
     ensures next { OnOk result (binders.new.next ≡ binders.old.next + fields_tokens trees.now) }
     ensures scope { OnOk result (binders.new.scope ≡ fields_scope meanings.now.names.now meanings.now.kinds.now trees.now binders.old.scope binders.old.next) }
@@ -120,6 +126,7 @@ fn pairs(
     binders: &mut Binders,
     trees: &[(PartTree, PartTree)],
 ) -> Result<Items<(EventPart, EventPart)>, NoMemory>
+    requires { binders.old.next + pairs_tokens trees.now ≤ MOST_BYTES }
     ensures made { IfOk result (λ made. made ≡ pairs_of meanings.now.names.now meanings.now.kinds.now trees.now binders.old.scope binders.old.next) }
     ensures next { OnOk result (binders.new.next ≡ binders.old.next + pairs_tokens trees.now) }
     ensures scope { OnOk result (binders.new.scope ≡ binders.old.scope) }
@@ -137,6 +144,7 @@ fn pair(
     binders: &mut Binders,
     tree: &(PartTree, PartTree),
 ) -> Result<(EventPart, EventPart), NoMemory>
+    requires { binders.old.next + part_tokens tree.now.0 + part_tokens tree.now.1 ≤ MOST_BYTES }
     ensures old { IfOk result (λ made. made.0 ≡ part_of meanings.now.names.now meanings.now.kinds.now tree.now.0 binders.old.scope binders.old.next) }
     ensures new { IfOk result (λ made. made.1 ≡ part_of meanings.now.names.now meanings.now.kinds.now tree.now.1 binders.old.scope (binders.old.next + part_tokens tree.now.0)) }
     ensures next { OnOk result (binders.new.next ≡ binders.old.next + part_tokens tree.now.0 + part_tokens tree.now.1) }
@@ -148,13 +156,14 @@ fn pair(
 }
 
 // What stands for data where a process is needed, which it never is in a script without faults.
-fn no_process(binders: &mut Binders, tree: &Tree) -> Result<Proc, NoMemory>
-    ensures made { IfOk result (λ made. made ≡ Proc.Stop) }
-    ensures next { OnOk result (binders.new.next ≡ binders.old.next + tokens tree.now) }
-    ensures scope { OnOk result (binders.new.scope ≡ binders.old.scope) }
+fn no_process(binders: &mut Binders, tree: &Tree) -> Proc
+    requires { binders.old.next + tokens tree.now ≤ MOST_BYTES }
+    ensures made { result ≡ Proc.Stop }
+    ensures next { binders.new.next ≡ binders.old.next + tokens tree.now }
+    ensures scope { binders.new.scope ≡ binders.old.scope }
 {
-    binders.next = after(binders.next, count_tree(tree))?;
-    Ok(Proc::Stop)
+    binders.next += count_tree(tree);
+    Proc::Stop
 }
 
 /// A tree as a process.
@@ -164,6 +173,7 @@ pub(crate) fn process(
     binders: &mut Binders,
     tree: &Tree,
 ) -> Result<Proc, NoMemory>
+    requires { binders.old.next + tokens tree.now ≤ MOST_BYTES }
     ensures made { IfOk result (λ made. made ≡ proc_of meanings.now.names.now meanings.now.kinds.now tree.now binders.old.scope binders.old.next) }
     ensures next { OnOk result (binders.new.next ≡ binders.old.next + tokens tree.now) }
     ensures scope { OnOk result (binders.new.scope ≡ binders.old.scope) }
@@ -194,7 +204,7 @@ pub(crate) fn process(
         Tree::Seq(p, q) => sequence(meanings, binders, p, q),
         Tree::Hide(p, set) => hiding(meanings, binders, p, set),
         Tree::Rename(p, sides, gens) => renaming(meanings, binders, p, sides, gens),
-        _ => no_process(binders, tree),
+        _ => Ok(no_process(binders, tree)),
     }
 }
 
@@ -206,6 +216,7 @@ fn call(
     f: &Name,
     args: &Items<Tree>,
 ) -> Result<Proc, NoMemory>
+    requires { binders.old.next + tokens (Tree.Call f.now args.now) ≤ MOST_BYTES }
     ensures made { IfOk result (λ made. made ≡ proc_of meanings.now.names.now meanings.now.kinds.now (Tree.Call f.now args.now) binders.old.scope binders.old.next) }
     ensures next { OnOk result (binders.new.next ≡ binders.old.next + tokens (Tree.Call f.now args.now)) }
     ensures scope { OnOk result (binders.new.scope ≡ binders.old.scope) }
@@ -223,6 +234,7 @@ fn choice(
     p: &Boxed<Tree>,
     q: &Boxed<Tree>,
 ) -> Result<Proc, NoMemory>
+    requires { binders.old.next + tokens (Tree.If c.now p.now q.now) ≤ MOST_BYTES }
     ensures made { IfOk result (λ made. made ≡ proc_of meanings.now.names.now meanings.now.kinds.now (Tree.If c.now p.now q.now) binders.old.scope binders.old.next) }
     ensures next { OnOk result (binders.new.next ≡ binders.old.next + tokens (Tree.If c.now p.now q.now)) }
     ensures scope { OnOk result (binders.new.scope ≡ binders.old.scope) }
@@ -239,6 +251,7 @@ fn prefix(
     event: &EventTree,
     p: &Boxed<Tree>,
 ) -> Result<Proc, NoMemory>
+    requires { binders.old.next + tokens (Tree.Prefix event.now p.now) ≤ MOST_BYTES }
     ensures made { IfOk result (λ made. made ≡ proc_of meanings.now.names.now meanings.now.kinds.now (Tree.Prefix event.now p.now) binders.old.scope binders.old.next) }
     ensures next { OnOk result (binders.new.next ≡ binders.old.next + tokens (Tree.Prefix event.now p.now)) }
     ensures scope { OnOk result (binders.new.scope ≡ binders.old.scope) }
@@ -259,6 +272,7 @@ fn guard(
     c: &Boxed<Tree>,
     p: &Boxed<Tree>,
 ) -> Result<Proc, NoMemory>
+    requires { binders.old.next + tokens (Tree.Guard c.now p.now) ≤ MOST_BYTES }
     ensures made { IfOk result (λ made. made ≡ proc_of meanings.now.names.now meanings.now.kinds.now (Tree.Guard c.now p.now) binders.old.scope binders.old.next) }
     ensures next { OnOk result (binders.new.next ≡ binders.old.next + tokens (Tree.Guard c.now p.now)) }
     ensures scope { OnOk result (binders.new.scope ≡ binders.old.scope) }
@@ -276,6 +290,7 @@ fn for_each(
     set: &Boxed<Tree>,
     p: &Boxed<Tree>,
 ) -> Result<(u32, Boxed<Expr>, Boxed<Proc>), NoMemory>
+    requires { binders.old.next + 1 + tokens set.now + tokens p.now ≤ MOST_BYTES }
     ensures number { IfOk result (λ made. made.0 ≡ binders.old.next) }
     ensures set { IfOk result (λ made. made.1 ≡ expr_of meanings.now.names.now meanings.now.kinds.now set.now binders.old.scope (binders.old.next + 1)) }
     ensures process { IfOk result (λ made. made.2 ≡ proc_of meanings.now.names.now meanings.now.kinds.now p.now (with binders.old.scope x.now binders.old.next) (binders.old.next + 1 + tokens set.now)) }
@@ -297,6 +312,7 @@ fn sequence(
     p: &Boxed<Tree>,
     q: &Boxed<Tree>,
 ) -> Result<Proc, NoMemory>
+    requires { binders.old.next + tokens (Tree.Seq p.now q.now) ≤ MOST_BYTES }
     ensures made { IfOk result (λ made. made ≡ proc_of meanings.now.names.now meanings.now.kinds.now (Tree.Seq p.now q.now) binders.old.scope binders.old.next) }
     ensures next { OnOk result (binders.new.next ≡ binders.old.next + tokens (Tree.Seq p.now q.now)) }
     ensures scope { OnOk result (binders.new.scope ≡ binders.old.scope) }
@@ -312,6 +328,7 @@ fn hiding(
     p: &Boxed<Tree>,
     set: &Boxed<Tree>,
 ) -> Result<Proc, NoMemory>
+    requires { binders.old.next + tokens (Tree.Hide p.now set.now) ≤ MOST_BYTES }
     ensures made { IfOk result (λ made. made ≡ proc_of meanings.now.names.now meanings.now.kinds.now (Tree.Hide p.now set.now) binders.old.scope binders.old.next) }
     ensures next { OnOk result (binders.new.next ≡ binders.old.next + tokens (Tree.Hide p.now set.now)) }
     ensures scope { OnOk result (binders.new.scope ≡ binders.old.scope) }
@@ -327,6 +344,7 @@ fn sides_under(
     sides: &Items<(PartTree, PartTree)>,
     gens: &Items<GenTree>,
 ) -> Result<(Items<(EventPart, EventPart)>, Items<Gen>), NoMemory>
+    requires { binders.old.next + pairs_tokens sides.now + gens_tokens gens.now ≤ MOST_BYTES }
     ensures sides { IfOk result (λ made. made.0 ≡ pairs_of meanings.now.names.now meanings.now.kinds.now sides.now (gens_scope meanings.now.names.now meanings.now.kinds.now gens.now binders.old.scope (binders.old.next + pairs_tokens sides.now)) binders.old.next) }
     ensures gens { IfOk result (λ made. made.1 ≡ gens_of meanings.now.names.now meanings.now.kinds.now gens.now binders.old.scope (binders.old.next + pairs_tokens sides.now)) }
     ensures next { OnOk result (binders.new.next ≡ binders.old.next + pairs_tokens sides.now + gens_tokens gens.now) }
@@ -350,6 +368,7 @@ fn renaming(
     sides: &Items<(PartTree, PartTree)>,
     gens: &Items<GenTree>,
 ) -> Result<Proc, NoMemory>
+    requires { binders.old.next + tokens (Tree.Rename p.now sides.now gens.now) ≤ MOST_BYTES }
     ensures made { IfOk result (λ made. made ≡ proc_of meanings.now.names.now meanings.now.kinds.now (Tree.Rename p.now sides.now gens.now) binders.old.scope binders.old.next) }
     ensures next { OnOk result (binders.new.next ≡ binders.old.next + tokens (Tree.Rename p.now sides.now gens.now)) }
     ensures scope { OnOk result (binders.new.scope ≡ binders.old.scope) }
@@ -366,6 +385,7 @@ fn two(
     p: &Boxed<Tree>,
     q: &Boxed<Tree>,
 ) -> Result<(Boxed<Proc>, Boxed<Proc>), NoMemory>
+    requires { binders.old.next + tokens p.now + tokens q.now ≤ MOST_BYTES }
     ensures first { IfOk result (λ made. made.0 ≡ proc_of meanings.now.names.now meanings.now.kinds.now p.now binders.old.scope binders.old.next) }
     ensures second { IfOk result (λ made. made.1 ≡ proc_of meanings.now.names.now meanings.now.kinds.now q.now binders.old.scope (binders.old.next + tokens p.now)) }
     ensures next { OnOk result (binders.new.next ≡ binders.old.next + tokens p.now + tokens q.now) }
@@ -383,6 +403,7 @@ fn boxed(
     binders: &mut Binders,
     tree: &Boxed<Tree>,
 ) -> Result<Boxed<Proc>, NoMemory>
+    requires { binders.old.next + tokens tree.now ≤ MOST_BYTES }
     ensures made { IfOk result (λ made. made ≡ proc_of meanings.now.names.now meanings.now.kinds.now tree.now binders.old.scope binders.old.next) }
     ensures next { OnOk result (binders.new.next ≡ binders.old.next + tokens tree.now) }
     ensures scope { OnOk result (binders.new.scope ≡ binders.old.scope) }
@@ -398,6 +419,7 @@ fn processes(
     binders: &mut Binders,
     trees: &[Tree],
 ) -> Result<Items<Proc>, NoMemory>
+    requires { binders.old.next + all_tokens trees.now ≤ MOST_BYTES }
     ensures made { IfOk result (λ made. made ≡ procs_of meanings.now.names.now meanings.now.kinds.now trees.now binders.old.scope binders.old.next) }
     ensures next { OnOk result (binders.new.next ≡ binders.old.next + all_tokens trees.now) }
     ensures scope { OnOk result (binders.new.scope ≡ binders.old.scope) }

@@ -1,39 +1,23 @@
-use Rattle.std.proofs.Common.{◌≡◌, ◌≤◌, ◌+◌, ◌*◌, drop, max}
+use Rattle.std.proofs.Common.{◌≡◌, ◌+◌, ◌*◌, drop, max}
 use Rattle.csp_text.proofs.tree.Tree.TheLaws.{the_size}
-use Rattle.csp_text.specs.Depth.{capped}
 use Rattle.script_sizes.specs.BindingTokens.{all_tokens, fields_tokens, gens_tokens, parts_tokens, pairs_tokens}
 use Rattle.typed_trees.proofs.counts.+count.Given as goal
 
 -- what is counted so far and what is left are as many as all
 abbrev pub invariant-count_trees-loop-tree : goal.invariant-count_trees-loop-tree
-invariant-count_trees-loop-tree l = record {
-  within : l.count ≤ 4294967295;
-  so_far : capped (l.count + all_tokens (drop l.tree-index l.trees)) ≡ capped (all_tokens l.trees);
-}
+invariant-count_trees-loop-tree l = l.count + all_tokens (drop l.tree-index l.trees) ≡ all_tokens l.trees
 
 abbrev pub invariant-count_fields-loop-field : goal.invariant-count_fields-loop-field
-invariant-count_fields-loop-field l = record {
-  within : l.count ≤ 4294967295;
-  so_far : capped (l.count + fields_tokens (drop l.field-index l.fields)) ≡ capped (fields_tokens l.fields);
-}
+invariant-count_fields-loop-field l = l.count + fields_tokens (drop l.field-index l.fields) ≡ fields_tokens l.fields
 
 abbrev pub invariant-count_gens-loop-generator : goal.invariant-count_gens-loop-generator
-invariant-count_gens-loop-generator l = record {
-  within : l.count ≤ 4294967295;
-  so_far : capped (l.count + gens_tokens (drop l.generator-index l.gens)) ≡ capped (gens_tokens l.gens);
-}
+invariant-count_gens-loop-generator l = l.count + gens_tokens (drop l.generator-index l.gens) ≡ gens_tokens l.gens
 
 abbrev pub invariant-count_parts-loop-part : goal.invariant-count_parts-loop-part
-invariant-count_parts-loop-part l = record {
-  within : l.count ≤ 4294967295;
-  so_far : capped (l.count + parts_tokens (drop l.part-index l.parts)) ≡ capped (parts_tokens l.parts);
-}
+invariant-count_parts-loop-part l = l.count + parts_tokens (drop l.part-index l.parts) ≡ parts_tokens l.parts
 
 abbrev pub invariant-count_pairs-loop-pair : goal.invariant-count_pairs-loop-pair
-invariant-count_pairs-loop-pair l = record {
-  within : l.count ≤ 4294967295;
-  so_far : capped (l.count + pairs_tokens (drop l.pair-index l.pairs)) ≡ capped (pairs_tokens l.pairs);
-}
+invariant-count_pairs-loop-pair l = l.count + pairs_tokens (drop l.pair-index l.pairs) ≡ pairs_tokens l.pairs
 
 -- how deep what is left is, two for each level: a list comes above what stands in it
 abbrev pub decreases-count_tree : goal.decreases-count_tree

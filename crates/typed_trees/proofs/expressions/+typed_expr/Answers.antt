@@ -1,10 +1,9 @@
-use Rattle.std.proofs.Common.{◌≡◌, ℕ, ◌+◌, Result, Ok, Err, OnOk, take, ap, ◌∙◌, arith}
+use Rattle.std.proofs.Common.{◌≡◌, ℕ, ◌+◌, Result, Ok, Err, OnOk, take, ◌∙◌, arith}
+use Rattle.csp_text.specs.declared.tree.Tree.{the_lemmas}
 use Rattle.typed_trees.proofs.ExprForms.{expr_of-If, expr_of-Comp, expr_of-Product, gen_of-From, gen_scope-From}
 use Rattle.typed_trees.proofs.OtherForms.{expr_of-other}
-use Rattle.script_sizes.proofs.TokenForms.{tokens-If, tokens-Comp, tokens-Product, gen_tokens-From}
+use Rattle.script_sizes.proofs.TokenForms.{tokens-Binary, tokens-Call, tokens-Comp, tokens-Display, tokens-Dot, tokens-If, tokens-Neg, tokens-Not, tokens-Product, tokens-Range, tokens-SetOp, gen_tokens-Cond, gen_tokens-From, part_tokens-is}
 use Rattle.typed_trees.proofs.Scopes.{carried, keeps_longer}
-use Rattle.script_sizes.specs.BindingTokens.{all_tokens, gens_tokens, parts_tokens}
-use Rattle.typed_trees.specs.Words.{gens_of, gens_scope}
 use Rattle.typed_trees.proofs.expressions.+typed_expr.Goals as goal
 
 -- two numbers, and three, that are added one after another
@@ -62,47 +61,10 @@ expression-returns-in-If t c = record {
   scope = c.choice.ensures.scope;
 }
 
-pub generators_after-returns-clause-made : goal.generators_after-returns-clause-made
-generators_after-returns-clause-made t c = λ n is. c.in_ok-gens.ensures.made ∙ ap (gens_of c.args.meanings.now.names.now c.args.meanings.now.kinds.now c.args.trees.now c.args.binders.now.scope) (c.in_ok-binders.ensures n is)
-
-pub generators_after-returns-clause-last : goal.generators_after-returns-clause-last
-generators_after-returns-clause-last t c = λ n is. c.in_ok-gens.ensures.next ∙ ap (λ k. k + gens_tokens c.args.trees.now) (c.in_ok-binders.ensures n is)
-
-pub generators_after-returns-clause-scope : goal.generators_after-returns-clause-scope
-generators_after-returns-clause-scope t c = λ n is. c.in_ok-gens.ensures.scope ∙ ap (gens_scope c.args.meanings.now.names.now c.args.meanings.now.kinds.now c.args.trees.now c.args.binders.now.scope) (c.in_ok-binders.ensures n is)
-
-pub comprehension-returns-clause-made : goal.comprehension-returns-clause-made
-comprehension-returns-clause-made t c =
-    let gens = c.in_ok-gens.ensures.made (all_tokens c.as_slice-items.result.now) c.count_trees-count.ensures in
-    let last = c.in_ok-gens.ensures.last (all_tokens c.as_slice-items.result.now) c.count_trees-count.ensures in
-    let scope = c.in_ok-gens.ensures.scope (all_tokens c.as_slice-items.result.now) c.count_trees-count.ensures in
-    grind (arith, gens, last, scope)
-
-pub comprehension-returns-clause-next : goal.comprehension-returns-clause-next
-comprehension-returns-clause-next t c =
-    let gens = c.in_ok-gens.ensures.made (all_tokens c.as_slice-items.result.now) c.count_trees-count.ensures in
-    let last = c.in_ok-gens.ensures.last (all_tokens c.as_slice-items.result.now) c.count_trees-count.ensures in
-    let scope = c.in_ok-gens.ensures.scope (all_tokens c.as_slice-items.result.now) c.count_trees-count.ensures in
-    grind (arith, gens, last, scope)
-
 pub comprehension-returns-clause-scope : goal.comprehension-returns-clause-scope
 comprehension-returns-clause-scope t c =
     carried c.expressions-made.result c.map.result c.map.ensures.variant
     (λ same. c.leave.ensures.scope ∙ (λ i. take (c.len-kept.ensures i) (same i)) ∙ c.in_ok-gens.ensures.keeps) c.expressions-made.ensures.scope
-
-pub product-returns-clause-made : goal.product-returns-clause-made
-product-returns-clause-made t c =
-    let gens = c.in_ok-gens.ensures.made (parts_tokens c.as_slice-parts.result.now) c.count_parts-count.ensures in
-    let last = c.in_ok-gens.ensures.last (parts_tokens c.as_slice-parts.result.now) c.count_parts-count.ensures in
-    let scope = c.in_ok-gens.ensures.scope (parts_tokens c.as_slice-parts.result.now) c.count_parts-count.ensures in
-    grind (arith, gens, last, scope)
-
-pub product-returns-clause-next : goal.product-returns-clause-next
-product-returns-clause-next t c =
-    let gens = c.in_ok-gens.ensures.made (parts_tokens c.as_slice-parts.result.now) c.count_parts-count.ensures in
-    let last = c.in_ok-gens.ensures.last (parts_tokens c.as_slice-parts.result.now) c.count_parts-count.ensures in
-    let scope = c.in_ok-gens.ensures.scope (parts_tokens c.as_slice-parts.result.now) c.count_parts-count.ensures in
-    grind (arith, gens, last, scope)
 
 pub product-returns-clause-scope : goal.product-returns-clause-scope
 product-returns-clause-scope t c =
@@ -120,3 +82,45 @@ generator-returns-in-From-clause-scope t c = grind (arith, gen_scope-From)
 
 pub generator-returns-in-From-clause-keeps : goal.generator-returns-in-From-clause-keeps
 generator-returns-in-From-clause-keeps t c = grind (arith, keeps_longer)
+
+pub expression-boxed-requires : goal.expression-boxed-requires
+expression-boxed-requires t c = grind (arith, the_lemmas, tokens-Neg)
+
+pub expression-boxed-requires-in-Not : goal.expression-boxed-requires-in-Not
+expression-boxed-requires-in-Not t c = grind (arith, the_lemmas, tokens-Not)
+
+pub expression-choice-requires : goal.expression-choice-requires
+expression-choice-requires t c = grind (arith, the_lemmas, tokens-If)
+
+pub expression-comprehension-requires : goal.expression-comprehension-requires
+expression-comprehension-requires t c = grind (arith, the_lemmas, tokens-Comp)
+
+pub expression-expressions-requires : goal.expression-expressions-requires
+expression-expressions-requires t c = grind (arith, the_lemmas, tokens-Call)
+
+pub expression-expressions-requires-in-Dot : goal.expression-expressions-requires-in-Dot
+expression-expressions-requires-in-Dot t c = grind (arith, the_lemmas, tokens-Dot)
+
+pub expression-expressions-requires-in-Display : goal.expression-expressions-requires-in-Display
+expression-expressions-requires-in-Display t c = grind (arith, the_lemmas, tokens-Display)
+
+pub expression-product-requires : goal.expression-product-requires
+expression-product-requires t c = grind (arith, the_lemmas, tokens-Product)
+
+pub expression-two-requires : goal.expression-two-requires
+expression-two-requires t c = grind (arith, the_lemmas, tokens-Binary)
+
+pub expression-two-requires-in-Range : goal.expression-two-requires-in-Range
+expression-two-requires-in-Range t c = grind (arith, the_lemmas, tokens-Range)
+
+pub expression-two-requires-in-SetOp : goal.expression-two-requires-in-SetOp
+expression-two-requires-in-SetOp t c = grind (arith, the_lemmas, tokens-SetOp)
+
+pub generator-bind_over-requires : goal.generator-bind_over-requires
+generator-bind_over-requires t c = grind (arith, the_lemmas, gen_tokens-From)
+
+pub generator-expression-requires : goal.generator-expression-requires
+generator-expression-requires t c = grind (arith, the_lemmas, gen_tokens-Cond)
+
+pub front-expressions-requires : goal.front-expressions-requires
+front-expressions-requires t c = grind (arith, the_lemmas, part_tokens-is)

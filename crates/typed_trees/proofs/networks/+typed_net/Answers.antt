@@ -1,4 +1,5 @@
 use Rattle.std.proofs.Common.{refl, arith}
+use Rattle.csp_text.specs.declared.tree.Tree.{the_lemmas}
 use Rattle.typed_trees.proofs.NetForms.{net_of-Name, net_of-Call, net_of-If, net_of-Parallel, net_of-EachParallel}
 use Rattle.script_sizes.proofs.TokenForms.{tokens-Name, tokens-Call, tokens-If, tokens-Parallel, tokens-EachParallel}
 use Rattle.typed_trees.proofs.OtherForms.{net_of-other}
@@ -54,3 +55,12 @@ network-returns-in-EachParallel-clause-made t c = grind (arith, net_of-EachParal
 
 pub network-returns-in-EachParallel-clause-next : goal.network-returns-in-EachParallel-clause-next
 network-returns-in-EachParallel-clause-next t c = grind (arith, tokens-EachParallel)
+
+pub network-choice-requires : goal.network-choice-requires
+network-choice-requires t c = grind (arith, the_lemmas, tokens-If)
+
+pub network-pair-requires : goal.network-pair-requires
+network-pair-requires t c = grind (arith, the_lemmas, tokens-Parallel)
+
+pub network-each-requires : goal.network-each-requires
+network-each-requires t c = grind (arith, the_lemmas, tokens-EachParallel)

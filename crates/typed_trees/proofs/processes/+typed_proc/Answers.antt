@@ -1,4 +1,5 @@
 use Rattle.std.proofs.Common.{◌≡◌, take, refl, ◌∙◌, arith}
+use Rattle.csp_text.specs.declared.tree.Tree.{the_lemmas}
 use Rattle.typed_trees.proofs.OtherForms.{proc_of-other}
 use Rattle.typed_trees.proofs.ProcForms.{proc_of-EachExternal, proc_of-EachInternal, proc_of-External, proc_of-Guard, proc_of-Hide, proc_of-If, proc_of-Internal, proc_of-Name, proc_of-Prefix, proc_of-Rename, proc_of-Seq, proc_of-Skip, proc_of-Stop}
 use Rattle.typed_trees.proofs.Scopes.{carried, left_again}
@@ -165,3 +166,48 @@ process-returns-in-EachInternal-clause-made t c = grind (arith, proc_of-EachInte
 
 pub process-returns-in-EachInternal-clause-next : goal.process-returns-in-EachInternal-clause-next
 process-returns-in-EachInternal-clause-next t c = grind (arith, tokens-EachInternal)
+
+pub process-processes-requires : goal.process-processes-requires
+process-processes-requires t c = grind (arith, the_lemmas, tokens-External)
+
+pub process-processes-requires-in-Internal : goal.process-processes-requires-in-Internal
+process-processes-requires-in-Internal t c = grind (arith, the_lemmas, tokens-Internal)
+
+pub process-for_each-requires : goal.process-for_each-requires
+process-for_each-requires t c = grind (arith, the_lemmas, tokens-EachExternal)
+
+pub process-for_each-requires-in-EachInternal : goal.process-for_each-requires-in-EachInternal
+process-for_each-requires-in-EachInternal t c = grind (arith, the_lemmas, tokens-EachInternal)
+
+pub choice-boxed-requires : goal.choice-boxed-requires
+choice-boxed-requires t c = grind (arith, tokens-If)
+
+pub choice-two-requires : goal.choice-two-requires
+choice-two-requires t c = grind (arith, the_lemmas, tokens-If)
+
+pub prefix-fields-requires : goal.prefix-fields-requires
+prefix-fields-requires t c = grind (arith, tokens-Prefix)
+
+pub prefix-boxed-requires : goal.prefix-boxed-requires
+prefix-boxed-requires t c = grind (arith, the_lemmas, tokens-Prefix)
+
+pub guard-boxed-requires : goal.guard-boxed-requires
+guard-boxed-requires t c = grind (arith, tokens-Guard)
+
+pub guard-boxed-requires-2 : goal.guard-boxed-requires-2
+guard-boxed-requires-2 t c = grind (arith, the_lemmas, tokens-Guard)
+
+pub sequence-two-requires : goal.sequence-two-requires
+sequence-two-requires t c = grind (arith, the_lemmas, tokens-Seq)
+
+pub hiding-boxed-requires : goal.hiding-boxed-requires
+hiding-boxed-requires t c = grind (arith, the_lemmas, tokens-Hide)
+
+pub hiding-boxed-requires-2 : goal.hiding-boxed-requires-2
+hiding-boxed-requires-2 t c = grind (arith, tokens-Hide)
+
+pub renaming-boxed-requires : goal.renaming-boxed-requires
+renaming-boxed-requires t c = grind (arith, the_lemmas, tokens-Rename)
+
+pub renaming-sides_under-requires : goal.renaming-sides_under-requires
+renaming-sides_under-requires t c = grind (arith, tokens-Rename)

@@ -27,3 +27,9 @@ returns-in-Input-clause-scope c = grind (arith, field_forms)
 
 pub returns-in-Input-clause-keeps : goal.returns-in-Input-clause-keeps
 returns-in-Input-clause-keeps c = grind (arith, scope_laws)
+
+pub expression-requires : goal.expression-requires
+expression-requires c = grind (arith, field_tokens_forms)
+
+pub input-requires : goal.input-requires
+input-requires c = grind (arith, field_tokens_forms)
