@@ -1,3 +1,4 @@
 pub mod Fault
 pub mod Places
+pub mod Sizes
 pub mod Spells

@@ -10,4 +10,4 @@ mod parser;
 mod types;
 
 pub use fault::ParseFault;
-pub use parser::{each_text_spells_one_script, parse, read};
+pub use parser::{each_text_spells_one_script, parse, read, spelled_scripts_are_small};

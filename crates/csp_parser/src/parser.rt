@@ -1,12 +1,15 @@
 //! Scripts, of tokens and of texts.
 
-ghost use Rattle.std.specs.Prelude.{◌≡◌, IfOk, IfErr};
+ghost use Rattle.std.specs.Prelude.{◌≡◌, ◌≤◌, IfOk, IfErr, length};
 ghost use Rattle.csp_grammar.specs.Declarations.{ScriptText};
 ghost use Rattle.csp_lexer.specs.Placed.{tokens_of};
 ghost use Rattle.csp_parser.specs.Fault.{IfNoScript};
 ghost use Rattle.csp_parser.specs.Places.{IsPlaceIn, IsPlaceOf, place_before};
+ghost use Rattle.csp_parser.specs.Sizes.{SpelledScriptsAreSmall};
 ghost use Rattle.csp_parser.specs.Spells.{EachTextSpellsOneScript, Spells};
 ghost use Rattle.csp_text.specs.declared.script.Script.{Script};
+ghost use Rattle.dl_limits.specs.declared.TheConstants.{MOST_BYTES};
+ghost use Rattle.script_sizes.specs.Size.{AreSmall};
 
 use crate::declarations::declarations;
 use crate::fault::ParseFault;
@@ -50,8 +53,13 @@ pub fn parse(alloc: Global, tokens: &Tokens) -> Result<Script, ParseFault>
 ///
 /// The fault, but for want of memory, is that it spells none within the limits of nesting, and tells a place: where the first piece begins that is no
 /// token, or else the place of the token at which reading stopped, or that of the text's end.
+///
+/// What a text of at most `MOST_BYTES` spells is small: 32 bits number all that it declares.
 pub fn read(alloc: Global, text: &[u8]) -> Result<Script, ParseFault>
     ensures found { IfOk result (λ script. Spells text.now script) }
+
+    // A text within the limit spells no more names, parameters, types and binding tokens than it has bytes, and no deep tree: callers number them.
+    ensures small { IfOk result (λ script. length text.now ≤ MOST_BYTES → AreSmall script.decls) }
 
     // The fault, but for want of memory, is that the text spells no script. Its place is the one where the first piece begins that is no token;
     // where there is none, the place of a token or of the text's end.
@@ -68,4 +76,9 @@ pub fn read(alloc: Global, text: &[u8]) -> Result<Script, ParseFault>
 /// No text spells two scripts.
 pub fn each_text_spells_one_script()
     ensures { EachTextSpellsOneScript }
+{}
+
+/// The scripts that texts of at most `MOST_BYTES` spell are small.
+pub fn spelled_scripts_are_small()
+    ensures { SpelledScriptsAreSmall }
 {}

@@ -1,3 +1,4 @@
 pub mod SetsLaws
 pub mod AnswerLaws
 pub mod ResolvedLaws
+pub mod Few

@@ -57,18 +57,18 @@ module _ (p : Content) (types_of : List Tree → List Expr) where
   sets_end decls k i sets whole at_end so_far =
       so_far ∙ ap (λ rest. sets_with sets (channel_sets p types_of k rest)) (drop_of_length-le decls at_end) ∙ ap Ok (append-nil sets)
 
-  module _ (decls : List Decl) (i k next : ℕ) (d : Decl) (within : i < length decls) (is : d ≡ get_or decls i d) (next_is : next ≡ k + 1)
+  module _ (decls : List Decl) (i k : ℕ) (d : Decl) (within : i < length decls) (is : d ≡ get_or decls i d)
       (sets : Sets) (whole : Answer Sets) (so_far : whole ≡ sets_with sets (channel_sets p types_of k (drop i decls))) where
     at_first : whole ≡ sets_with sets (with_first (sets_of p types_of k d) (channel_sets p types_of (k + 1) (drop (i + 1) decls)))
     at_first = so_far ∙ ap (λ rest. sets_with sets (channel_sets p types_of k rest)) (drop_read decls i d within is)
         ∙ ap (sets_with sets) (first_then k d (drop (i + 1) decls))
 
-    pub sets_step : (own new : Sets) → sets_of p types_of k d ≡ Ok own → new ≡ sets ++ own → whole ≡ sets_with new (channel_sets p types_of next (drop (i + 1) decls))
+    pub sets_step : (own new : Sets) → sets_of p types_of k d ≡ Ok own → new ≡ sets ++ own → whole ≡ sets_with new (channel_sets p types_of (k + 1) (drop (i + 1) decls))
     sets_step own new found grown =
         at_first
         ∙ ap (λ o. sets_with sets (with_first o (channel_sets p types_of (k + 1) (drop (i + 1) decls)))) found
         ∙ moved sets own (channel_sets p types_of (k + 1) (drop (i + 1) decls))
-        ∙ (λ j. sets_with (sym grown j) (channel_sets p types_of (sym next_is j) (drop (i + 1) decls)))
+        ∙ ap (λ s. sets_with s (channel_sets p types_of (k + 1) (drop (i + 1) decls))) (sym grown)
 
     pub sets_stop : (f : ResolveFault) → sets_of p types_of k d ≡ Err f → whole ≡ Err f
     sets_stop f none = at_first ∙ ap (λ o. sets_with sets (with_first o (channel_sets p types_of (k + 1) (drop (i + 1) decls)))) none

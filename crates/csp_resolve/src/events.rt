@@ -1,13 +1,15 @@
 //! The field sets of a script's channels, and its event table.
 
-ghost use Rattle.std.specs.Prelude.{◌≡◌, IsTrue, List, [], ◌∷◌, ◌++◌, map, IfOk, OnOk};
+ghost use Rattle.std.specs.Prelude.{◌≡◌, ◌≤◌, IsTrue, List, [], ◌∷◌, ◌++◌, length, map, IfOk, OnOk};
 ghost use Rattle.csp_program.specs.InOrder.{lacks_sets};
 ghost use Rattle.csp_program.specs.Lists.{all_true};
 ghost use Rattle.csp_resolve.specs.Answers.{Answers, Grows, sets_of, types_read};
+ghost use Rattle.dl_limits.specs.declared.TheConstants.{MOST_BYTES};
 ghost use Rattle.event_tables.specs.declared.sets.SharedSets.{SharedSets};
 ghost use Rattle.event_tables.specs.Spread.{spread};
 ghost use Rattle.script_names.specs.Names.{first_of};
 ghost use Rattle.script_names.specs.Resolved as meant;
+ghost use Rattle.script_sizes.specs.Size.{declaration_size, size};
 ghost use Rattle.csp_atoms.specs.declared.atom.Atom.{Atom};
 
 use containers::Items;
@@ -19,7 +21,6 @@ use csp_values::EvalFault;
 use dl_limits::MOST_EVENTS;
 use event_tables::{SharedSets, event_count, field_sets, fill_events};
 use name_tables::Meanings;
-use name_tables::declared::next;
 use script_contents::types_of;
 use script_names::{ResolveFault, Unresolved};
 use std::alloc::Global;
@@ -30,14 +31,15 @@ pub fn channel_sets(
     content: &Content,
     decls: &[Decl],
 ) -> Result<Vec<SharedSets>, Unresolved>
-    requires { IsTrue (all_true (map lacks_sets content.now.channels)) }
+    requires few { size decls.now ≤ MOST_BYTES }
+    requires plain { IsTrue (all_true (map lacks_sets content.now.channels)) }
     ensures { Answers (λ shared. spread shared.items) result (meant.channel_sets content.now (types_read (first_of meanings.now.names.now) meanings.now.kinds.now) 0 decls.now) }
 {
     let mut shared = Vec::new(meanings.alloc);
     let mut i: u32 = 0;
     for decl in decls {
         add_sets(meanings, content, &mut shared, i, decl)?;
-        i = next(i)?;
+        i += 1;
     }
     Ok(shared)
 }
@@ -50,7 +52,8 @@ fn add_sets(
     i: u32,
     decl: &Decl,
 ) -> Result<(), Unresolved>
-    requires { IsTrue (all_true (map lacks_sets content.now.channels)) }
+    requires few { declaration_size decl.now ≤ MOST_BYTES }
+    requires plain { IsTrue (all_true (map lacks_sets content.now.channels)) }
     ensures { Grows result shared.old.items shared.new.items (sets_of content.now (types_read (first_of meanings.now.names.now) meanings.now.kinds.now) i decl.now) }
 {
     match decl {
@@ -118,6 +121,7 @@ pub fn fill_table(
     content: &mut Content,
     shared: &[SharedSets],
 ) -> Result<(), Unresolved>
+    requires { length content.old.channels ≤ MOST_BYTES }
     ensures { Answers (λ (done : Unit {0}). content.new) result (meant.with_table content.old (spread shared.now)) }
 {
     let count = event_count(shared);

@@ -1,17 +1,18 @@
 //! The program of a script.
 
-ghost use Rattle.std.specs.Prelude.{◌≡◌, IsTrue, Some, map, IfOk, OnOk};
+ghost use Rattle.std.specs.Prelude.{◌≡◌, ◌≤◌, IsTrue, Some, length, map, IfOk};
 ghost use Rattle.std.specs.Option.{option_copied};
 ghost use Rattle.csp_program.specs.declared.programs.Content.{Content};
 ghost use Rattle.csp_program.specs.InOrder.{IsInOrder, lacks_sets};
 ghost use Rattle.csp_program.specs.Lists.{all_true};
 ghost use Rattle.csp_resolve.specs.Answers.{Answers, types_read};
+ghost use Rattle.dl_limits.specs.declared.TheConstants.{MOST_BYTES};
 ghost use Rattle.name_tables.specs.Firsts.{SameFirsts};
-ghost use Rattle.resolved_laws.specs.Laws.{HasFew};
 ghost use Rattle.script_names.specs.Contents as contents;
 ghost use Rattle.script_names.specs.Names.{declared, first_of};
 ghost use Rattle.script_names.specs.Resolved as meant;
 ghost use Rattle.script_names.specs.Resolved.{and_next};
+ghost use Rattle.script_sizes.specs.Size.{AreSmall, size};
 
 use crate::events::{channel_sets, fill_table};
 use containers::Boxed;
@@ -20,7 +21,6 @@ use csp_program::{Content, Program};
 use csp_text::{Decl, Script, Tree};
 use definition_kinds::kinds_of;
 use name_faults::name_fault;
-use name_tables::declared::short;
 use name_tables::{Dictionary, Meanings, dictionary_of};
 use resolved_laws::programs_are_in_order;
 use script_contents::plain_content;
@@ -35,8 +35,10 @@ fn boxed(alloc: Global, program: Program) -> Result<Boxed<Program>, NoMemory>
 }
 
 /// The program of a script. A fault is told exactly where the script has no program, and it is the first in this order: no deadlock assertion, a name
-/// fault, a type of a channel without a value that fits, too many events.
+/// fault, a type of a channel without a value that fits, too many events. The script is small, as each is that a text within the limit spells: 32 bits
+/// number all that it declares.
 pub fn resolve(alloc: Global, script: &Script) -> Result<Boxed<Program>, Unresolved>
+    requires small { AreSmall script.now.decls }
     ensures { meant.Resolves script.now result }
 {
     let names = dictionary_of(alloc, script.decls.as_slice())?;
@@ -47,7 +49,8 @@ pub fn resolve(alloc: Global, script: &Script) -> Result<Boxed<Program>, Unresol
 
 // What the program of a script holds whose names stand for what `names` says.
 fn content_of(alloc: Global, script: &Script, names: &Dictionary) -> Result<Content, Unresolved>
-    requires { SameFirsts names.now (declared script.now.decls) }
+    requires small { AreSmall script.now.decls }
+    requires names { SameFirsts names.now (declared script.now.decls) }
     ensures resolves { meant.Resolves script.now result }
     ensures in_order { IfOk result IsInOrder }
 {
@@ -65,9 +68,9 @@ fn content_of(alloc: Global, script: &Script, names: &Dictionary) -> Result<Cont
 
 // What the program of declarations holds whose names and definitions mean what `meanings` says.
 fn resolved(meanings: &Meanings<'_>, decls: &[Decl]) -> Result<Content, Unresolved>
+    requires small { AreSmall decls.now }
     requires names { SameFirsts meanings.now.names.now (declared decls.now) }
-    ensures answer { Answers (λ (p : Content). p) result (meant.resolved decls.now meanings.now.kinds.now) }
-    ensures few { OnOk result (HasFew (contents.plain_content decls.now meanings.now.kinds.now)) }
+    ensures { Answers (λ (p : Content). p) result (meant.resolved decls.now meanings.now.kinds.now) }
 {
     let Some(root) = first_assertion(decls) else {
         return Err(Unresolved::Refused(ResolveFault::NoAssert));
@@ -99,10 +102,11 @@ fn with_events(
     decls: &[Decl],
     mut content: Content,
 ) -> Result<Content, Unresolved>
-    requires { IsTrue (all_true (map lacks_sets content.channels)) }
-    ensures answer { Answers (λ (p : Content). p) result
+    requires few { size decls.now ≤ MOST_BYTES }
+    requires channels { length content.channels ≤ MOST_BYTES }
+    requires plain { IsTrue (all_true (map lacks_sets content.channels)) }
+    ensures { Answers (λ (p : Content). p) result
         (and_next (meant.channel_sets content (types_read (first_of meanings.now.names.now) meanings.now.kinds.now) 0 decls.now) (λ all. meant.with_table content all)) }
-    ensures few { OnOk result (HasFew content) }
 {
     match put_events(meanings, decls, &mut content) {
         Ok(()) => Ok(content),
@@ -119,22 +123,13 @@ fn put_events(
     decls: &[Decl],
     content: &mut Content,
 ) -> Result<(), Unresolved>
-    requires { IsTrue (all_true (map lacks_sets content.old.channels)) }
-    ensures answer { Answers (λ (done : Unit {0}). content.new) result
+    requires few { size decls.now ≤ MOST_BYTES }
+    requires channels { length content.old.channels ≤ MOST_BYTES }
+    requires plain { IsTrue (all_true (map lacks_sets content.old.channels)) }
+    ensures { Answers (λ (done : Unit {0}). content.new) result
         (and_next (meant.channel_sets content.old (types_read (first_of meanings.now.names.now) meanings.now.kinds.now) 0 decls.now) (λ all. meant.with_table content.old all)) }
-    ensures few { OnOk result (HasFew content.old) }
 {
-    expect_few(content)?;
     let shared = channel_sets(meanings, content, decls)?;
     fill_table(meanings.alloc, content, shared.as_slice())?;
     Ok(())
-}
-
-// More channels, constants or definitions than numbers of 32 bits are refused like want of memory.
-fn expect_few(content: &Content) -> Result<(), NoMemory>
-    ensures { OnOk result (HasFew content.now) }
-{
-    short(content.channels.len())?;
-    short(content.consts.len())?;
-    short(content.defs.len()).map(|_count| ())
 }

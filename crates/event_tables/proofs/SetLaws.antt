@@ -1,5 +1,5 @@
 -- Field sets, one after another.
-use Rattle.std.proofs.Common.{◌≡◌, ℕ, zero, suc, ◌+◌, ◌<◌, ◌≤◌, List, [], ◌∷◌, ◌++◌, length, drop, get_or, replicate, refl, sym, ap, ◌∙◌, append_assoc, add-one}
+use Rattle.std.proofs.Common.{◌≡◌, ℕ, zero, suc, ◌+◌, ◌<◌, ◌≤◌, List, [], ◌∷◌, ◌++◌, length, drop, get_or, replicate, refl, sym, ap, ◌∙◌, append_assoc, add-one, subst, arith}
 use Rattle.std.specs.Prelude.{Option, Some, None, Result, Ok, Err, IfOk, OnOk, slice_get}
 use Rattle.std.specs.Borrow.{Bor}
 use Rattle.std.specs.Option.{option_copied}
@@ -102,11 +102,11 @@ lent_at (one ∷ all) zero = refl
 lent_at (one ∷ all) (suc c) = lent_at all c
 
 -- the events of one more channel
-pub table_step : (new events whole : List EventInfo) (c next i : ℕ) (channels : List Channel) (channel : Channel) → i < length channels → channel ≡ get_or channels i channel
-    → next ≡ c + 1 → new ≡ events ++ channel_events c channel.fields → events ++ events_from_channel c (drop i channels) ≡ whole
-    → new ++ events_from_channel next (drop (i + 1) channels) ≡ whole
-table_step new events whole c next i channels channel within is next_is new_is so_far =
-    (λ j. new_is j ++ events_from_channel (next_is j) (drop (i + 1) channels))
+pub table_step : (new events whole : List EventInfo) (c i : ℕ) (channels : List Channel) (channel : Channel) → i < length channels → channel ≡ get_or channels i channel
+    → new ≡ events ++ channel_events c channel.fields → events ++ events_from_channel c (drop i channels) ≡ whole
+    → new ++ events_from_channel (c + 1) (drop (i + 1) channels) ≡ whole
+table_step new events whole c i channels channel within is new_is so_far =
+    (λ j. new_is j ++ events_from_channel (c + 1) (drop (i + 1) channels))
     ∙ append_assoc events (channel_events c channel.fields) (events_from_channel (c + 1) (drop (i + 1) channels))
     ∙ ap (λ rest. events ++ events_from_channel c rest) (sym (drop_read channels i channel within is))
     ∙ so_far
@@ -120,6 +120,18 @@ drop_none [] zero at = refl
 drop_none [] (suc n) at = refl
 drop_none (y ∷ ys) zero at = absurd (cc)
 drop_none (y ∷ ys) (suc n) at = drop_none ys n at
+
+-- channels that have their field sets are no more than there were
+no_more_channels : (first : ℕ) (channels : List Channel) (all : List (List (List Atom))) → length (with_sets first channels all) ≤ length channels
+no_more_channels first [] all = omega arith
+no_more_channels first (channel ∷ channels) [] = omega arith
+no_more_channels first (channel ∷ channels) (sets ∷ all) = omega (arith, no_more_channels (first + row_count sets) channels all)
+
+pub filled_few : (limit : ℕ) (old channels made : List Channel) (all : List (List (List Atom))) → length old ≤ limit → channels ≡ old → made ≡ with_sets 0 channels all → length made ≤ limit
+filled_few limit old channels made all few same is =
+    let made_few : length made ≤ length channels = subst (λ l. length l ≤ length channels) (sym is) (no_more_channels 0 channels all) in
+    let channels_few : length channels ≤ limit = subst (λ l. length l ≤ limit) (sym same) few in
+    omega arith
 
 none_left : (first : ℕ) (channels : List Channel) → with_sets first channels [] ≡ []
 none_left first [] = refl

@@ -3,6 +3,7 @@
 ghost use Rattle.std.specs.Prelude.{◌≡◌, ◌+◌, ◌<◌, ◌≤◌, ◌^◌, [], ◌∷◌, ◌++◌, Some, List, drop, length, IfOk, OnOk};
 ghost use Rattle.csp_program.specs.EventNumber.{row_count};
 ghost use Rattle.csp_program.specs.declared.programs.Channel.{Channel};
+ghost use Rattle.dl_limits.specs.declared.TheConstants.{MOST_BYTES};
 ghost use Rattle.event_tables.specs.Spread.{events_left, lent, spread};
 ghost use Rattle.script_names.specs.Resolved as meant;
 
@@ -22,7 +23,8 @@ pub fn fill_events(
     content: &mut Content,
     shared: &[SharedSets],
 ) -> Result<(), NoMemory>
-    requires { meant.all_events (spread shared.now) < 2 ^ 32 }
+    requires channels { length content.old.channels ≤ MOST_BYTES }
+    requires events { meant.all_events (spread shared.now) < 2 ^ 32 }
     ensures { OnOk result (content.new ≡ meant.with_events content.old (meant.with_sets 0 content.old.channels (spread shared.now))) }
 {
     let channels = replace(&mut content.channels, Items::new(alloc));

@@ -1,25 +1,27 @@
 //! The event table of channels.
 
-ghost use Rattle.std.specs.Prelude.{◌≡◌, ◌++◌, map, IfOk, OnOk};
+ghost use Rattle.std.specs.Prelude.{◌≡◌, ◌≤◌, ◌++◌, length, map, IfOk, OnOk};
 ghost use Rattle.csp_program.specs.EventTable as meant;
+ghost use Rattle.dl_limits.specs.declared.TheConstants.{MOST_BYTES};
 
 use crate::rows::rows;
 use containers::Items;
 use csp_atoms::Atom;
 use csp_base::NoMemory;
 use csp_program::{Channel, EventInfo};
-use name_tables::declared::next;
 use std::alloc::Global;
 
-/// The event table of channels: in their order, and for each the values of its fields in rising order, the first field slowest.
+/// The event table of channels: in their order, and for each the values of its fields in rising order, the first field slowest. There are no more channels
+/// than 32 bits number.
 pub fn event_table(alloc: Global, channels: &[Channel]) -> Result<Items<EventInfo>, NoMemory>
+    requires { length channels.now ≤ MOST_BYTES }
     ensures { IfOk result (λ events. events ≡ meant.event_table channels.now) }
 {
     let mut events = Items::new(alloc);
     let mut c: u32 = 0;
     for channel in channels {
         add_channel(alloc, &mut events, c, channel)?;
-        c = next(c)?;
+        c += 1;
     }
     Ok(events)
 }
