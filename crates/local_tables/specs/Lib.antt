@@ -4,3 +4,4 @@ pub mod Laws
 pub mod LocalTable
 pub mod Progress
 pub mod Room
+pub mod RowOrder

@@ -22,6 +22,7 @@ use Rattle.pool_parts.specs.declared.place.ProcId.{ProcId}
 use Rattle.local_tables.specs.Component.{AreSteps, AreTerms, HasList, step_count}
 use Rattle.local_tables.specs.declared.found.Found.{Found}
 use Rattle.local_tables.specs.Room.{Room}
+use Rattle.local_tables.specs.RowOrder.{IsInside}
 use Rattle.csp_base.specs.Lists.{total}
 
 -- the number of a term, with the event of a step from it, if it has one
@@ -35,11 +36,6 @@ label_of (Some e) = visible e
 abbrev pub process_label : Label → ProcessLabel
 process_label silent = Silent
 process_label (visible e) = Visible e
-
--- the label is silent, or an event of the alphabet
-abbrev pub IsInside : List ℕ → Label → Type 0
-IsInside alphabet silent = Unit {0}
-IsInside alphabet (visible e) = IsTrue (has alphabet e)
 
 -- the size of a term, whose counting stops at 4,294,967,295
 abbrev pub counted_size : Proc → ℕ
