@@ -4,4 +4,3 @@ pub mod Laws
 pub mod LocalTable
 pub mod Progress
 pub mod Room
-pub mod RowOrder

@@ -5,14 +5,15 @@ use Rattle.csp_program.specs.Depth.{proc_depth}
 use Rattle.csp_program.specs.Size.{proc_size}
 use Rattle.csp_program.specs.declared.processes.Proc.{Proc}
 use Rattle.csp_program.specs.declared.programs.Content.{Content}
+use Rattle.csp_steps.specs.Order.{AreTargets}
 use Rattle.csp_tables.specs.Label.{Label}
 use Rattle.csp_tables.specs.Network.{Component}
-use Rattle.csp_tables.specs.RawTable.{IsTableOf}
+use Rattle.csp_tables.specs.RawTable.{IsTableOf, RawTable}
+use Rattle.csp_tables.specs.RowOrder.{targets_in}
 use Rattle.process_steps.specs.ComponentStep.{ProcessStep, Ticks}
-use Rattle.local_tables.specs.Component.{HasList, step_count}
+use Rattle.local_tables.specs.Component.{HasList, IsInside, step_count}
 use Rattle.local_tables.specs.declared.local_table.LocalTable.{LocalTable}
 use Rattle.local_tables.specs.Room.{Room}
-use Rattle.local_tables.specs.RowOrder.{IsInOrder, IsInside}
 use Rattle.csp_base.specs.Lists.{total}
 
 -- The steps of the term are there, it cannot end, and it is not too deep.
@@ -20,6 +21,12 @@ pub record IsFit (p : Content) (x : Proc) : Type 0 where
   pub list : HasList p x
   pub goes_on : Ticks p x → ⊥
   pub shallow : proc_depth x ≤ MOST_TERM_DEPTH
+
+-- By the label, the table leads from m to the terms to which x goes, in the same order.
+pub record IsInOrder (p : Content) (terms : List Proc) (raw : RawTable) (m : ℕ) (x : Proc) (l : Label) : Type 0 where
+  pub targets : List Proc
+  pub are : AreTargets p x l targets
+  pub same : map (λ n. slice_get terms n) (targets_in raw m l) ≡ map (λ t. Some t) targets
 
 -- The terms and steps are exactly those of the component, and each term is fit. They are within the limits and the room, and the room that they
 -- take is told. The steps of a term by a label are in the order of its list of steps.

@@ -19,10 +19,9 @@ use Rattle.process_steps.specs.declared.label.Label.TheVariants.{Silent, Visible
 use Rattle.term_pool.specs.Trees.{tree_at}
 use Rattle.pool_parts.specs.Counting.{capped}
 use Rattle.pool_parts.specs.declared.place.ProcId.{ProcId}
-use Rattle.local_tables.specs.Component.{AreSteps, AreTerms, HasList, step_count}
+use Rattle.local_tables.specs.Component.{AreSteps, AreTerms, HasList, IsInside, step_count}
 use Rattle.local_tables.specs.declared.found.Found.{Found}
 use Rattle.local_tables.specs.Room.{Room}
-use Rattle.local_tables.specs.RowOrder.{IsInside}
 use Rattle.csp_base.specs.Lists.{total}
 
 -- the number of a term, with the event of a step from it, if it has one
