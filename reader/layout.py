@@ -1,0 +1,73 @@
+"""The components of the network that a script asserts, from left to right: how each is called, and its alphabet.
+
+This serves the reader of reports alone, and it proves nothing."""
+import collections
+
+from script import NoScript, Parser
+
+# How a component is written, as far as it is a name or a call; the name that an annotation may speak of, with the values of its arguments; its alphabet.
+# `chosen` where an `if` stands between the network and the name: to the program such a component is called by no name, so no annotation speaks of it.
+Component = collections.namedtuple("Component", "call name values alphabet chosen")
+# A network within a network: its alphabet as it is written, and which components it has.
+Operand = collections.namedtuple("Operand", "alphabet first end")
+MOST_COMPONENTS = 512
+
+
+class Layout:
+    """The components of the asserted network, and the networks within it."""
+
+    def __init__(self, script):
+        self.script, self.components, self.operands = script, [], []
+        if not script.asserted:
+            raise NoScript("nothing is asserted")
+        self.walk(Parser(script.asserted).tree(), {}, None)
+
+    def is_network(self, name, seen=()):
+        if name in seen or name not in self.script.definitions:
+            return False
+        return self.holds_parallel(self.script.body_of(name)[1], (*seen, name))
+
+    def holds_parallel(self, tree, seen=()):
+        if tree[0] in ("pair", "each"):
+            return True
+        if tree[0] == "if":
+            return self.holds_parallel(tree[2], seen) or self.holds_parallel(tree[3], seen)
+        return tree[0] in ("name", "call") and self.is_network(tree[1], seen)
+
+    def walk(self, tree, bound, alphabet):
+        script = self.script
+        script.count()
+        if len(self.components) > MOST_COMPONENTS:
+            raise NoScript("too many components")
+        if not self.holds_parallel(tree):
+            self.components.append(self.component(tree, bound, alphabet))
+            return
+        first = len(self.components)
+        if tree[0] == "pair":
+            self.walk(tree[1], bound, script.value(tree[2], bound))
+            self.walk(tree[4], bound, script.value(tree[3], bound))
+        elif tree[0] == "each":
+            for value in sorted(script.value(tree[2], bound)):
+                inner = {**bound, tree[1]: value}
+                self.walk(tree[4], inner, script.value(tree[3], inner))
+        elif tree[0] == "if":
+            self.walk(tree[2] if script.value(tree[1], bound) else tree[3], bound, alphabet)
+            return
+        else:
+            parameters, body = script.body_of(tree[1])
+            arguments = [script.value(item, bound) for item in (tree[2] if tree[0] == "call" else [])]
+            self.walk(body, dict(zip(parameters, arguments)), alphabet)
+            return
+        if alphabet is not None:
+            self.operands.append(Operand(alphabet, first, len(self.components)))
+
+    def component(self, tree, bound, alphabet):
+        script, chosen = self.script, tree[0] == "if"
+        while tree[0] == "if":
+            tree = tree[2] if script.value(tree[1], bound) else tree[3]
+        if tree[0] == "name":
+            return Component(tree[1], tree[1], [], alphabet, chosen)
+        if tree[0] == "call":
+            values = [script.value(item, bound) for item in tree[2]]
+            return Component(f"{tree[1]}({', '.join(script.text(value) for value in values)})", tree[1], values, alphabet, chosen)
+        return Component(None, None, [], alphabet, chosen)
