@@ -29,14 +29,14 @@ class Network:
         shown = ask(program, ["show", self.file], quiet=True)
         self.shown = text_of(shown).splitlines() if shown.status == 0 else []
         self.lines = lines_of(self.source, self.shown)
-        self.script, self.components, self.operands, self.tables = None, [], [], {}
+        self.script, self.components, self.operands, self.tables, self.fault = None, [], [], {}, None
         self.kept_alphabets, self.kept_owners, self.kept_links = {}, None, None
         try:
             self.script = Script(self.shown)
             layout = Layout(self.script)
             self.components, self.operands = layout.components, layout.operands
-        except NOT_FOLLOWED:
-            pass
+        except NOT_FOLLOWED as fault:
+            self.fault = fault
         self.count = self.counted()
         if self.count != len(self.components):
             self.components, self.operands = [], []

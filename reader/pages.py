@@ -19,8 +19,10 @@ def page_named(name):
     return None
 
 
-def section(told):
-    """The name of the page of answers, and what its section says of what is told; nothing where there is none."""
+def section(number, keys=()):
+    """The name of the page of answers, and what its section on a number or a status says; nothing where there is none.
+
+    Where the section has parts (headings of the third level, bullets) for several conditions, only those of these keys are kept, as far as there are any."""
     page = page_named("ANSWERS.md")
     if not page:
         return None, None
@@ -28,10 +30,42 @@ def section(told):
     for line in page.read_text().splitlines():
         if line.startswith("## "):
             head = line[3:]
-            inside = head == told.number or head.split()[0] == told.number
+            inside = head == number or head.split()[0] == number
         elif inside:
             kept.append(line)
-    return page.name, "\n".join(kept).strip("\n")
+    return page.name, "\n".join(bullets_for(parts_for(kept, keys), keys)).strip("\n")
+
+
+def fits(text, keys):
+    return any(re.search(rf"(?<!\w){re.escape(key)}(?!\w)", text) for key in keys)
+
+
+def parts_for(lines, keys):
+    """The lines before the first heading of the third level, and of the parts behind such headings those of the keys."""
+    parts = [[]]
+    for line in lines:
+        if line.startswith("### "):
+            parts.append([])
+        parts[-1].append(line)
+    chosen = [part for part in parts[1:] if fits(part[0], keys)] or parts[1:]
+    return [line for part in [parts[0], *chosen] for line in (part if len(chosen) != 1 or not part[:1] or not part[0].startswith("### ") else part[1:])]
+
+
+def bullets_for(lines, keys):
+    """The lines without the bullets of other keys, where one of the keys has a bullet. A bullet's key stands before its first comma or colon."""
+    bullets, kept, bullet = [], [], None
+    for line in lines:
+        if line.startswith("- "):
+            bullet = [line]
+            bullets.append(bullet)
+            kept.append(bullet)
+        elif bullet and line.startswith("  ") and line.strip() and not line.startswith("    "):
+            bullet.append(line)
+        else:
+            bullet = None
+            kept.append([line])
+    chosen = [bullet for bullet in bullets if fits(re.split("[,:]", bullet[0])[0], keys)]
+    return [line for part in kept if not chosen or not any(part is bullet for bullet in bullets) or any(part is bullet for bullet in chosen) for line in part]
 
 
 def table_rows():
