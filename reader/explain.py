@@ -53,14 +53,14 @@ def explain_report(program, words):
 
 def explanation(told, network=None, specification=None):
     """The lines that are told of a report: of the network of its script, and for `conform` also that of the specification."""
-    here = here_of(told, network, specification)
-    if told.specification:
-        network = specification
-    here = about_comments(network, told) + here
-    found = (["", "In this script:"] if here else []) + here + about_page(told, keys_of(told, network))
-    if network and told.status in (1, 2) and told.command != "run":
-        found += about_place(network, told) + about_language(network, told) + about_network(network, told)
-    return found
+    named = specification if told.specification else network
+    refused = bool(named and told.status in (1, 2) and told.command != "run")
+    here = about_comments(named, told)
+    here += about_place(named, told) if refused else []
+    here += here_of(told, network, specification)
+    here += about_language(named, told) if refused else []
+    found = (["", "In this script:"] if here else []) + here + about_page(told, keys_of(told, named))
+    return found + (about_network(named, told) if refused else [])
 
 
 def here_of(told, network, specification):
@@ -127,9 +127,24 @@ def about_place(network, told):
 
 def about_language(network, told):
     """The rows of the page on the language that may be about what is refused."""
-    line = network.source.split("\n")[told.place[0] - 1 : told.place[0]] if told.place else []
-    kept = language_rows(told, signs_of(line))
+    kept = language_rows(told, signs_of(lines_near(network, told.place)), network)
     return ["", "LANGUAGE.md, as you know it and as it is written here:", "", *kept] if kept else []
+
+
+def lines_near(network, place):
+    """The line of a slip; and where the slip is at its beginning the declaration before it, in which something was left open."""
+    if not place:
+        return []
+    lines, row, column = network.source.split("\n"), *place
+    near = lines[row - 1 : row]
+    if not near or near[0][: column - 1].strip():
+        return near
+    before = []
+    for line in reversed(lines[: row - 1]):
+        before += [line] if line.strip() and not re.match(r"\s*--(?!@)", line) else []
+        if re.match(r"\S[^=]*=(?!=)|--@", line):
+            break
+    return [" ".join(reversed(before)), *near]
 
 
 def about_network(network, told):

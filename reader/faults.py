@@ -148,7 +148,7 @@ def uses_in(tree):
     if tree[0] == "call":
         return [("call", tree[1], len(tree[2])), *uses_in(tree[2])]
     if tree[0] in ("dot", "prefix"):
-        return [(tree[0], tree[1], len(tree[2])), *uses_in(tree[2]), *uses_in(tree[3:])]
+        return [(tree[0], tree[1], len(tree[2])), *uses_in(tree[2]), *uses_in(list(tree[3:]))]
     if tree[0] == "production":
         return [use for _, fields in tree[1] for use in uses_in(fields)] + uses_in(tree[2])
     if tree[0] == "rename":
@@ -159,11 +159,19 @@ def uses_in(tree):
 # what grows, and what ends
 
 
+def terms_told(network, told):
+    """The terms of the component that is told, or nothing."""
+    part = told.components[0]
+    return terms_of(network.script, network.components[part]) if part < len(network.components) else None
+
+
 def about_growth(network, told):
-    """The definitions that are used with the most different arguments, and which parameters make them so."""
-    terms = terms_of(network.script, network.components[told.components[0]]) if told.components[0] < len(network.components) else None
+    """10, 11, 13: the definitions that are used with the most different arguments, and which parameters make them so."""
+    terms = terms_told(network, told)
     if not terms:
         return []
+    if told.line.endswith("depth over 800"):
+        return about_piles(network, terms)
     found = []
     for name, values in sorted(terms.uses.items(), key=lambda item: -len(item[1]))[:3]:
         parameters = network.script.definitions[name][0]
@@ -176,6 +184,39 @@ def about_growth(network, told):
     return ["", "What this component comes to, as its definitions read:", *found] if found else []
 
 
+def about_piles(network, terms):
+    """10: definitions that use themselves without an event, or within what is then written round them again and again."""
+    script, found = network.script, []
+    for name in terms.uses:
+        way = unguarded(script, name)
+        if way:
+            return ["", f"Uses without an event before them: {' uses '.join(way)}"]
+        for form, tree in wrapped_in(script.body_of(name)[1]):
+            if any(name in reached(script, other) for _, other, _ in uses_in(tree)):
+                found.append(f"{name} uses itself within {form}: {network.place(script.names[name])}: {network.text(script.names[name])[0].strip()}")
+    return ["", *found] if found else []
+
+
+def wrapped_in(tree):
+    """What stands within a hiding, a renaming, or before a `;`."""
+    if not isinstance(tree, (list, tuple)):
+        return []
+    forms = {"hide": "a hiding", "rename": "a renaming", "then": "what stands before a `;`"}
+    own = [(forms[tree[0]], tree[1])] if tree and isinstance(tree[0], str) and tree[0] in forms and isinstance(tree, tuple) else []
+    return own + [found for part in tree for found in wrapped_in(part)]
+
+
+def reached(script, name):
+    """The definitions that a name leads to, itself among them."""
+    seen, todo = {name}, [name]
+    for one in todo:
+        for _, other, _ in uses_in(script.body_of(one)[1]) if one in script.definitions else ():
+            if other not in seen:
+                seen.add(other)
+                todo.append(other)
+    return seen
+
+
 def span(script, column):
     """What values there are, in short."""
     if all(type(value) is int for value in column):
@@ -186,7 +227,7 @@ def span(script, column):
 
 def about_end(network, told):
     """The definitions of a component in which SKIP stands."""
-    terms = terms_of(network.script, network.components[told.components[0]]) if told.components[0] < len(network.components) else None
+    terms = terms_told(network, told)
     found = []
     for name in terms.uses if terms else ():
         if holds(network.script.body_of(name)[1], "skip"):
@@ -203,7 +244,7 @@ def holds(tree, form):
 
 def about_silence(network, told):
     """A component that goes round in silence: definitions that use one another without an event, or events that are hidden."""
-    terms = terms_of(network.script, network.components[told.components[0]]) if told.components[0] < len(network.components) else None
+    terms = terms_told(network, told)
     found = []
     for name in terms.uses if terms else ():
         way = unguarded(network.script, name)

@@ -37,8 +37,9 @@ class Network:
             self.components, self.operands = layout.components, layout.operands
         except NOT_FOLLOWED as fault:
             self.fault = fault
-        self.count = self.counted()
-        if self.count != len(self.components):
+        counted = self.counted()
+        self.count = counted or len(self.components)
+        if counted and counted != len(self.components):
             self.components, self.operands = [], []
 
     def read(self):
@@ -58,7 +59,7 @@ class Network:
         return content
 
     def counted(self):
-        """How many components there are, by the program; 0 where it refuses the network."""
+        """How many components there are, by the program; 0 where it refuses the network, and then it is the own count that stands."""
         if not self.shown:
             return 0
         if self.table(0):

@@ -63,9 +63,9 @@ def about_order(network, told):
         return []
     who, own = network.short(part), rounds.at[event]
     found = ["", f"{who} has {len(rounds.links)} links, and a round of it is one event on each, in one order. After {trace_text(trace)}:"]
-    reasons = reason_of(rounds, trace, event)[1]
+    way, reasons = reason_of(rounds, trace, event)
     found += [f"  {reason}" for reason in reasons or [f"{event} is of link {rounds.link(own)}, with {rounds.neighbour(own)}"]]
-    return found + orders_of(rounds)
+    return found + (orders_of(rounds) if way == "order" else [])
 
 
 def reason_of(rounds, trace, event):
