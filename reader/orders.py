@@ -153,11 +153,11 @@ def order_lines(network, part, link, following):
     if not table:
         return []
     events = [set(network.shared(*sorted(ends))) for ends in (link, following)]
-    for trace in Rounds(network, part).reached.values():
-        for place, event in enumerate(trace):
-            if event in events[1] and any(before in events[0] for before in trace[:place]):
-                first = next(before for before in trace if before in events[0])
-                return [f"      it does {first} before {event}"]
+    for (node, _), trace in Rounds(network, part).reached.items():
+        first = next((before for before in trace if before in events[0]), None)
+        later = [event for event, _ in table.nodes[node].steps if event in events[1]]
+        if first and later:
+            return [f"      it does {first} before {later[0]}"]
     return []
 
 
