@@ -7,7 +7,7 @@ from network import KINDS, NOT_FOLLOWED, Network
 from orders import about_circle, about_ends, about_order, cause_of, way_of
 from pages import language_rows, section, signs_of
 from parts import about_links, about_part, about_stop
-from refusals import ABOUT as REFUSALS, about_components_differ, about_events_differ
+from refusals import ABOUT as REFUSALS, about_components_differ, about_events_differ, declaration_before
 from reports import ask, table_of, told_by
 from roles import about_clients, about_roles, answers_of
 from runs import about_run, about_tries
@@ -152,12 +152,7 @@ def lines_near(network, place):
     near = lines[row - 1 : row]
     if not near or near[0][: column - 1].strip():
         return near
-    before = []
-    for line in reversed(lines[: row - 1]):
-        before += [line] if line.strip() and not re.match(r"\s*--(?!@)", line) else []
-        if re.match(r"\S[^=]*=(?!=)|--@", line):
-            break
-    return [" ".join(reversed(before)), *near]
+    return [" ".join(declaration_before(lines[: row - 1])), *near]
 
 
 def about_network(network, told):

@@ -13,11 +13,11 @@ MOST_SECONDS = 3
 
 def about_run(network, told):
     walk = Walk(network, told.steps)
-    found = folded(network, walk)
+    found = folded(network, walk, told.stuck)
     return found + (about_standstill(network, walk) if told.stuck else about_movers(network, walk))
 
 
-def folded(network, walk):
+def folded(network, walk, stuck):
     """The events of a run in their order, with who does each; silent steps are counted."""
     lines, silent = [], 0
     for step in walk.steps:
@@ -29,8 +29,9 @@ def folded(network, walk):
         silent = 0
     lines += [f"  {silent} silent"] if silent else []
     head = f"The run has {len(walk.events)} events and {walk.silent()} silent steps"
-    if len(lines) > LAST_EVENTS:
-        return ["", f"{head}; its last {LAST_EVENTS} lines, silent steps counted:", *lines[-LAST_EVENTS:]]
+    most = LAST_EVENTS if stuck else LAST_EVENTS // 4
+    if len(lines) > most:
+        return ["", f"{head}; its last {most} lines, silent steps counted:", *lines[-most:]]
     return ["", f"{head}, which are counted here:", *lines]
 
 
