@@ -16,7 +16,7 @@ Noted = collections.namedtuple("Noted", "name meaning events")
 KINDS = {"client-server": "roles", "resource": "resource"}
 MEANINGS = {"roles": ("requests made", "answers got", "requests taken", "answers given"), "resource": ("acquire", "release")}
 MOST_BYTES = 1_048_576
-NOT_FOLLOWED = (NoScript, ValueError, TypeError, KeyError, IndexError, RecursionError)
+NOT_FOLLOWED = (NoScript, ValueError, TypeError, AttributeError, KeyError, IndexError, RecursionError, StopIteration)
 
 
 class Network:
@@ -148,7 +148,7 @@ class Network:
                 parameters, body = self.script.body_of(name)
                 events = self.script.value(body, dict(zip(parameters, component.values)))
                 sets.append(Noted(name, meaning, self.script.texts(events)))
-        except (*NOT_FOLLOWED, AttributeError):
+        except NOT_FOLLOWED:
             return []
         return sets
 

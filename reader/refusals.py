@@ -258,7 +258,7 @@ def about_events_differ(network, specification, told):
     """41: the two events at the number that is told."""
     try:
         first, second = (one.script.all_events() for one in (network, specification))
-    except (*NOT_FOLLOWED, AttributeError):
+    except NOT_FOLLOWED:
         return []
     number = int(told.line.split()[-1])
     texts = [one.script.text(events[number]) if number < len(events) else "nothing more" for one, events in ((network, first), (specification, second))]
