@@ -20,7 +20,7 @@ def about_value(network, told):
     found, seen = [], set()
     for fault in faults:
         key = written(fault.tree), fault.uses[0][0] if fault.uses else None
-        if key not in seen and len(seen) < 6:
+        if key not in seen and len(seen) < 3:
             seen.add(key)
             found += fault_lines(network, fault)
     return found
