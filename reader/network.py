@@ -2,7 +2,7 @@
 
 All that the program can tell is asked of it (`show`, `table`), each thing once. How components are called, and alphabets, stand in no report: they are
 evaluated from what `show` prints, and where that can't be followed the tables alone are gone by. It proves nothing."""
-import collections, pathlib, re, tempfile
+import collections, pathlib, re, tempfile, time
 
 from layout import Layout
 from reports import ask, events_of, table_of, text_of
@@ -26,7 +26,10 @@ class Network:
         self.program, self.room, self.file = program, None, file
         self.content = self.read()
         self.source = self.content.decode(errors="replace")
+        began = time.monotonic()
         shown = ask(program, ["show", self.file], quiet=True)
+        # unproved sources take a minute for each answer, so that nothing is asked then that can be done without
+        self.is_slow = time.monotonic() - began > 10
         self.shown = text_of(shown).splitlines() if shown.status == 0 else []
         self.lines = lines_of(self.source, self.shown)
         self.script, self.components, self.operands, self.tables, self.fault = None, [], [], {}, None

@@ -90,6 +90,8 @@ def about_movers(network, walk):
 def about_tries(network):
     """Whether a few runs come to a standstill, where a network is not proved."""
     began, tried = time.monotonic(), 0
+    if network.is_slow:
+        return []
     for seed in range(SEEDS):
         words = ["run", network.file, str(seed), str(STEPS)]
         told = told_by(words, ask(network.program, words, quiet=True))
