@@ -1,245 +1,197 @@
-"""The components of the network that a script asserts: how each is called, and its alphabet, from what `show` prints.
+"""The model of a network, from which texts, pictures and the page are made: its components with names, alphabets and tables, its links, and its annotations.
 
-This serves the reader of reports alone, and it proves nothing. Where it can't follow a script it says so, and the reader goes by the tables."""
-import collections
+All that the program can tell is asked of it (`show`, `table`), each thing once. How components are called, and alphabets, stand in no report: they are
+evaluated from what `show` prints, and where that can't be followed the tables alone are gone by. It proves nothing."""
+import collections, pathlib, re, tempfile, time
 
-from script import NoScript, Parser
+from layout import Layout
+from reports import ask, events_of, table_of, text_of
+from script import NoScript, lines_of
+from values import Script
 
-Const = collections.namedtuple("Const", "order name")
-Event = collections.namedtuple("Event", "channel fields")
-Component = collections.namedtuple("Component", "call name values alphabet")
-# A network within a network: its alphabet as it is written, and which components it has.
-Operand = collections.namedtuple("Operand", "alphabet first end")
-MOST_STEPS = 1_000_000
+# Two components, the left one first, and the events that both have in their alphabets.
+Link = collections.namedtuple("Link", "left right events")
+# A set of a component's annotation: the name that the script gives it, what it holds, and its events.
+Noted = collections.namedtuple("Noted", "name meaning events")
+KINDS = {"client-server": "roles", "resource": "resource"}
+MEANINGS = {"roles": ("requests made", "answers got", "requests taken", "answers given"), "resource": ("acquire", "release")}
+MOST_BYTES = 1_048_576
+NOT_FOLLOWED = (NoScript, ValueError, TypeError, AttributeError, KeyError, IndexError, RecursionError, StopIteration)
 
 
-class Script:
-    """The declarations that `show` printed, by name."""
+class Network:
+    """A script, and the network that it asserts. Components are counted from 0; events are texts, as reports have them."""
 
-    def __init__(self, shown):
-        self.shown = shown
-        self.channels, self.consts, self.datatypes, self.names, self.definitions = {}, {}, {}, {}, {}
-        self.notes, self.asserted, self.parsed, self.types, self.steps = [], None, {}, {}, 0
-        for number, line in enumerate(shown):
-            self.declare(number, line)
+    def __init__(self, program, file):
+        self.program, self.room, self.file = program, None, file
+        self.content = self.read()
+        self.source = self.content.decode(errors="replace")
+        began = time.monotonic()
+        shown = ask(program, ["show", self.file], quiet=True)
+        # unproved sources take a minute for each answer, so that nothing is asked then that can be done without
+        self.is_slow = time.monotonic() - began > 10
+        self.shown = text_of(shown).splitlines() if shown.status == 0 else []
+        self.lines = lines_of(self.source, self.shown)
+        self.script, self.components, self.operands, self.tables, self.fault = None, [], [], {}, None
+        self.kept_alphabets, self.kept_owners, self.kept_links = {}, None, None
+        try:
+            self.script = Script(self.shown)
+            layout = Layout(self.script)
+            self.components, self.operands = layout.components, layout.operands
+        except NOT_FOLLOWED as fault:
+            self.fault = fault
+        counted = self.counted()
+        self.count = counted or len(self.components)
+        if counted and counted != len(self.components):
+            self.components, self.operands = [], []
 
-    def declare(self, number, line):
-        if line.startswith("--@"):
-            self.notes.append(line.split()[1:])
-        elif line.startswith("channel "):
-            names, _, types = line[8:].partition(" : ")
-            for name in names.split(" , "):
-                self.channels[name] = (len(self.channels), types)
-        elif line.startswith("datatype "):
-            name, _, constants = line[9:].partition(" = ")
-            members = []
-            for constant in constants.split(" | "):
-                self.consts[constant] = Const(len(self.consts), constant)
-                members.append(self.consts[constant])
-            self.datatypes[name] = frozenset(members)
-        elif line.startswith("assert "):
-            self.asserted = self.asserted or line[7:].rsplit(" : [ deadlock free ]", 1)[0]
-        else:
-            head, _, body = (line[9:] if line.startswith("nametype ") else line).partition(" = ")
-            name, _, parameters = head.partition(" ( ")
-            self.names[name] = number
-            self.definitions[name] = ([p for p in parameters.split(" )")[0].split(" , ") if p], body)
+    def read(self):
+        """The bytes of the script, which are read once and kept in a file of its own: a pipe gives them only once, and all that is asked is asked of one text."""
+        try:
+            with open(self.file, "rb") as opened:
+                content = opened.read(MOST_BYTES + 1)
+        except (OSError, ValueError):
+            return b""
+        self.room = tempfile.TemporaryDirectory()
+        self.file = str(pathlib.Path(self.room.name) / "script.csp")
+        pathlib.Path(self.file).write_bytes(content)
+        return content
 
-    def body_of(self, name):
-        """The parameters and the tree of a definition."""
-        if name not in self.parsed:
-            if name not in self.definitions:
-                raise NoScript(name)
-            parameters, body = self.definitions[name]
-            self.parsed[name] = (parameters, Parser(body).tree())
-        return self.parsed[name]
+    def counted(self):
+        """How many components there are, by the program; 0 where it refuses the network, and then it is the own count that stands."""
+        if not self.shown:
+            return 0
+        if self.table(0):
+            return self.table(0).count
+        lines = text_of(ask(self.program, ["table", self.file, "999999"], quiet=True)).splitlines()
+        found = re.match(r"35 there are (\d+) components", lines[1]) if len(lines) > 1 else None
+        return int(found[1]) if found else 0
 
-    def fields_of(self, channel):
-        """The sets of values of a channel's fields."""
-        if channel not in self.types:
-            types, sets = self.channels[channel][1], []
-            if types:
-                parser = Parser(types)
-                sets.append(parser.atom())
-                while parser.peek() == ".":
-                    parser.take()
-                    sets.append(parser.atom())
-            self.types[channel] = [sorted(self.value(tree, {})) for tree in sets]
-        return self.types[channel]
+    # components
 
-    def count(self):
-        self.steps += 1
-        if self.steps > MOST_STEPS:
-            raise NoScript("too long")
+    def name(self, part):
+        """`FORK(3)`, or nothing where the component has no name or none is known."""
+        return self.components[part].call if part < len(self.components) else None
 
-    # values
+    def called(self, part):
+        """`component 3, FORK(3)`, as far as it is known."""
+        own = self.name(part)
+        return f"component {part}" + (f", {own}" if own else "")
 
-    def value(self, tree, bound):
-        self.count()
-        form = tree[0]
-        if form in ("number", "truth"):
-            return tree[1]
-        if form == "name":
-            return self.named(tree[1], bound)
-        if form == "call":
-            parameters, body = self.body_of(tree[1])
-            return self.value(body, dict(zip(parameters, [self.value(item, bound) for item in tree[2]])))
-        if form == "dot":
-            return self.event(tree[1], [self.value(field, bound) for field in tree[2]])
-        if form == "if":
-            return self.value(tree[2] if self.value(tree[1], bound) else tree[3], bound)
-        if form == "display":
-            return frozenset(self.value(item, bound) for item in tree[1])
-        if form == "range":
-            return frozenset(range(self.value(tree[1], bound), self.value(tree[2], bound) + 1))
-        if form == "those":
-            return frozenset(self.value(item, inner) for inner in self.bindings(tree[2], bound) for item in tree[1])
-        if form == "production":
-            return frozenset(event for inner in self.bindings(tree[2], bound) for part in tree[1] for event in self.events_from(part, inner))
-        if form in ("union", "inter", "diff"):
-            first, second = self.value(tree[1], bound), self.value(tree[2], bound)
-            return first | second if form == "union" else first & second if form == "inter" else first - second
-        return self.computed(tree, bound)
+    def short(self, part):
+        """`FORK(3)`, or `component 3`."""
+        return self.name(part) or f"component {part}"
 
-    def computed(self, tree, bound):
-        form, first = tree[0], self.value(tree[1], bound)
-        if form == "not":
-            return not first
-        if len(tree) == 2:
-            return -first
-        if form in ("and", "or"):
-            return self.value(tree[2], bound) if first == (form == "and") else first
-        second = self.value(tree[2], bound)
-        if form in ("/", "%") and second < 1:
-            raise NoScript("division")
-        made = {"==": first == second, "!=": first != second} if form in ("==", "!=") else None
-        if made:
-            return made[form]
-        if form in ("<", "<=", ">", ">="):
-            return {"<": first < second, "<=": first <= second, ">": first > second, ">=": first >= second}[form]
-        return {"+": lambda: first + second, "-": lambda: first - second, "*": lambda: first * second, "/": lambda: first // second, "%": lambda: first % second}[form]()
+    def table(self, part):
+        """The table of a component, or nothing where it has none."""
+        if part not in self.tables:
+            self.tables[part] = table_of(ask(self.program, ["table", self.file, str(part)], quiet=True))
+        return self.tables[part]
 
-    def named(self, name, bound):
-        if name in bound:
-            return bound[name]
-        if name in self.consts:
-            return self.consts[name]
-        if name in self.datatypes:
-            return self.datatypes[name]
-        if name in self.channels:
-            return self.event(name, [])
-        return self.value(self.body_of(name)[1], {})
+    def does(self, part):
+        """The events that a component can do at all, as its table first has them."""
+        table = self.table(part)
+        return events_of(table) if table else []
 
-    def event(self, channel, values):
-        if channel not in self.channels:
-            raise NoScript(channel)
-        fields = self.fields_of(channel)
-        if len(values) != len(fields) or any(value not in field for value, field in zip(values, fields)):
-            raise NoScript(channel)
-        return Event(self.channels[channel][0], tuple(values))
+    def alphabet(self, part):
+        """The alphabet where it is known, else the events of the table."""
+        if part not in self.kept_alphabets:
+            known = part < len(self.components) and self.components[part].alphabet is not None
+            self.kept_alphabets[part] = self.script.texts(self.components[part].alphabet) if known else self.does(part)
+        return self.kept_alphabets[part]
 
-    def events_from(self, part, bound):
-        channel, trees = part
-        begun = [self.value(tree, bound) for tree in trees]
-        fields = self.fields_of(channel)
-        made = [tuple(begun)]
-        for field in fields[len(begun) :]:
-            made = [values + (value,) for values in made for value in field]
-            self.steps += len(made)
-            self.count()
-        return [self.event(channel, list(values)) for values in made]
+    def owners(self, event):
+        """The components that have the event in their alphabet."""
+        if self.kept_owners is None:
+            self.kept_owners = {}
+            for part in range(self.count):
+                for own in self.alphabet(part):
+                    self.kept_owners.setdefault(own, []).append(part)
+        return self.kept_owners.get(event, [])
 
-    def bindings(self, generators, bound):
-        if not generators:
-            yield bound
-            return
-        first, rest = generators[0], generators[1:]
-        if first[0] == "where":
-            if self.value(first[1], bound):
-                yield from self.bindings(rest, bound)
-            return
-        for value in sorted(self.value(first[2], bound)):
-            self.count()
-            yield from self.bindings(rest, {**bound, first[1]: value})
+    # links
 
-    # the network
+    def shared(self, one, other):
+        """The events that two components have in common, in the order of the first."""
+        with_other = set(self.alphabet(other))
+        return [event for event in self.alphabet(one) if event in with_other]
 
-    def is_network(self, name, seen=()):
-        if name in seen or name not in self.definitions:
-            return False
-        return self.holds_parallel(self.body_of(name)[1], (*seen, name))
+    def links(self):
+        """All links, in the order of their ends."""
+        if self.kept_links is None:
+            found = {}
+            for part in range(self.count):
+                for event in self.alphabet(part):
+                    for other in self.owners(event):
+                        if other > part:
+                            found.setdefault((part, other), []).append(event)
+            self.kept_links = [Link(left, right, found[left, right]) for left, right in sorted(found)]
+        return self.kept_links
 
-    def holds_parallel(self, tree, seen=()):
-        if tree[0] in ("pair", "each"):
-            return True
-        if tree[0] == "if":
-            return self.holds_parallel(tree[2], seen) or self.holds_parallel(tree[3], seen)
-        return tree[0] in ("name", "call") and self.is_network(tree[1], seen)
+    def links_of(self, part):
+        """The links of a component."""
+        return [link for link in self.links() if part in (link.left, link.right)]
 
-    def components(self):
-        """The components from left to right, and the networks within the network."""
-        found, operands = [], []
-        self.walk(Parser(self.asserted).tree(), {}, None, found, operands)
-        return found, operands
+    # annotations
 
-    def walk(self, tree, bound, alphabet, found, operands):
-        self.count()
-        if len(found) > 512:
-            raise NoScript("too many components")
-        if not self.holds_parallel(tree):
-            found.append(self.component(tree, bound, alphabet))
-            return
-        first = len(found)
-        if tree[0] == "pair":
-            self.walk(tree[1], bound, self.value(tree[2], bound), found, operands)
-            self.walk(tree[4], bound, self.value(tree[3], bound), found, operands)
-        elif tree[0] == "each":
-            for value in sorted(self.value(tree[2], bound)):
-                inner = {**bound, tree[1]: value}
-                self.walk(tree[4], inner, self.value(tree[3], inner), found, operands)
-        elif tree[0] == "if":
-            self.walk(tree[2] if self.value(tree[1], bound) else tree[3], bound, alphabet, found, operands)
-            return
-        else:
-            parameters, body = self.body_of(tree[1])
-            arguments = [self.value(item, bound) for item in (tree[2] if tree[0] == "call" else [])]
-            self.walk(body, dict(zip(parameters, arguments)), alphabet, found, operands)
-            return
-        if alphabet is not None:
-            operands.append(Operand(alphabet, first, len(found)))
-
-    def component(self, tree, bound, alphabet):
-        while tree[0] == "if":
-            tree = tree[2] if self.value(tree[1], bound) else tree[3]
-        if tree[0] == "name":
-            return Component(tree[1], tree[1], [], alphabet)
-        if tree[0] == "call":
-            values = [self.value(item, bound) for item in tree[2]]
-            return Component(f"{tree[1]}({', '.join(self.text(value) for value in values)})", tree[1], values, alphabet)
-        return Component(None, None, [], alphabet)
-
-    def noted(self, component, kind):
-        """The sets of a component's annotation of this kind: (name, events), or nothing where it has none."""
-        for note in self.notes:
+    def sets(self, part, kind):
+        """The sets of a component's annotation of this kind (`roles` or `resource`): four or two, or none where it has no annotation."""
+        component = self.components[part] if part < len(self.components) else None
+        if not component or not component.name or component.chosen:
+            return []
+        for note in self.script.notes:
             if note[0] == kind and note[1] == component.name:
-                sets = []
-                for name in note[2:]:
-                    parameters, body = self.body_of(name)
-                    sets.append((name, self.value(body, dict(zip(parameters, component.values)))))
-                return sets
+                return self.noted(note, component, kind)
         return []
 
-    def text(self, value):
-        """A value as a script writes it."""
-        if isinstance(value, bool):
-            return "true" if value else "false"
-        if isinstance(value, Const):
-            return value.name
-        if isinstance(value, Event):
-            return ".".join([list(self.channels)[value.channel], *(self.text(field) for field in value.fields)])
-        if isinstance(value, frozenset):
-            return "{" + ", ".join(self.text(item) for item in sorted(value)) + "}"
-        return f"({value})" if value < 0 else str(value)
+    def noted(self, note, component, kind):
+        sets = []
+        try:
+            for name, meaning in zip(note[2:], MEANINGS[kind]):
+                parameters, body = self.script.body_of(name)
+                events = self.script.value(body, dict(zip(parameters, component.values)))
+                sets.append(Noted(name, meaning, self.script.texts(events)))
+        except NOT_FOLLOWED:
+            return []
+        return sets
 
-    def texts(self, events):
-        return [self.text(event) for event in sorted(events)]
+    def direction(self, one, other, rule):
+        """Of a link: (client, server) by `client-server`, (user, resource) by `resource`; nothing where the annotations don't say it."""
+        kind, shared = KINDS.get(rule), set(self.shared(one, other))
+        if not kind or not shared:
+            return None
+        if kind == "resource":
+            resources = [part for part in (one, other) if self.sets(part, kind)]
+            return None if len(resources) != 1 else (one, other) if resources == [other] else (other, one)
+        for client, server in ((one, other), (other, one)):
+            asks, serves = self.sets(client, kind), self.sets(server, kind)
+            if asks and serves and shared <= set(asks[0].events + asks[1].events) and shared <= set(serves[2].events + serves[3].events):
+                return client, server
+        return None
+
+    # the text
+
+    def defined(self, part):
+        """The number of the declaration that a component is called by, or nothing."""
+        own = self.components[part].name if part < len(self.components) else None
+        return self.script.names.get(own) if own else None
+
+    def line(self, declaration):
+        """The line of the source on which a declaration begins, or nothing."""
+        return self.lines[declaration] if declaration < len(self.lines) else None
+
+    def place(self, declaration):
+        """`declaration 4, line 12`."""
+        line = self.line(declaration)
+        return f"declaration {declaration}" + (f", line {line}" if line else "")
+
+    def text(self, declaration):
+        """A declaration as the source has it, where its place is known, else as `show` prints it."""
+        if declaration >= len(self.lines):
+            return [self.shown[declaration]]
+        written = self.source.split("\n")
+        end = self.lines[declaration + 1] if declaration + 1 < len(self.lines) else len(written) + 1
+        kept = written[self.lines[declaration] - 1 : max(end - 1, self.lines[declaration])]
+        while len(kept) > 1 and (not kept[-1].strip() or re.match(r"\s*--(?!@)|\s*assert\b", kept[-1])):
+            kept.pop()
+        return [line.rstrip() for line in kept]
