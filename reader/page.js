@@ -52,7 +52,7 @@ function about(part) {
 function plainNetwork(parts) {
   const places = new Map(parts.map((part, place) => [part, place]));
   const inside = data.links.filter(([one, other]) => places.has(one) && places.has(other));
-  const withLabels = inside.length <= data.most.labelled;
+  const withLabels = inside.length <= 8 || (inside.length <= data.most.labelled && inside.length === parts.length);
   const nodes = parts.map((part) => {
     const title = data.parts[part].title;
     return { name: part, lines: [title, "at node 0"], shape: "box", w: Math.max(96, title.length * 8.2 + 24), h: 46 };

@@ -363,12 +363,12 @@ def explained(facts, linker):
 
 def page_of(facts, walks, report, name):
     """The whole page as text."""
-    linker = Linker({facts.call(part): part for part in range(facts.network.count)}, facts.network.source.count("\n") + 1)
+    script = Script(facts.network.source, declared_lines(facts.network), facts.told.place[0] if facts.told.place else 0)
+    linker = Linker({facts.call(part): part for part in range(facts.network.count)}, len(script.lines))
     drawn, numbers = machines(facts)
     head, meaning, findings = explained(facts, linker)
     style = (HOME / "page.css").read_text()
     code = "\n".join((HOME / file).read_text() for file in CODE)
-    script = Script(facts.network.source, declared_lines(facts.network))
     pieces = {
         "name": escaped(name), "rule": escaped(facts.rule), "style": style, "code": code, "style_sum": hashed(style), "code_sum": hashed(code),
         "verdict": verdict_html(facts, walks, linker), "report": linker.html(text_of(report).rstrip("\n")), "section": meaning, "section_head": escaped(head),

@@ -188,7 +188,7 @@ function ringOf(count, edges) {
 }
 
 function placedInRing(nodes, order) {
-  const wide = Math.max(...nodes.map((node) => node.w)) + 70, round = Math.max(150, (order.length * wide) / (2 * Math.PI));
+  const wide = Math.max(...nodes.map((node) => node.w)) + 110, round = Math.max(150, (order.length * wide) / (2 * Math.PI));
   order.forEach((node, place) => {
     const angle = (2 * Math.PI * place) / order.length - Math.PI / 2;
     [nodes[node].x, nodes[node].y] = [round * Math.cos(angle), round * 0.75 * Math.sin(angle)];

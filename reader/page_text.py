@@ -27,10 +27,10 @@ def escaped(text):
 class Script:
     """The lines of a script as HTML: comments, reserved words, and names that lead to where they are declared."""
 
-    def __init__(self, source, declared):
-        # CR LF is one end of a line
+    def __init__(self, source, declared, least=0):
+        # CR LF is one end of a line; what is behind the last end is a line where a place in it is told
         self.lines = source.replace("\r\n", "\n").split("\n")
-        if self.lines and not self.lines[-1]:
+        if not self.lines[-1] and len(self.lines) > least:
             self.lines.pop()
         self.declared = declared if len(self.lines) <= MOST_LINKED_LINES else {}
         self.depth = 0
