@@ -9,7 +9,7 @@ const view = { selected: data.culprits[0] || 0, walk: null, zoom: null, parts: d
 const at = (id) => document.getElementById(id);
 const firstPicture = document.querySelector("#picture svg");
 const canStep = data.parts.length > 0 && data.parts.every((part) => part.table);
-const MOST_BUTTONS = 60, MOST_WAITS = 12;
+const MOST_BUTTONS = 60, MOST_WAITS = 12, MOST_OFFERS = 12;
 
 function el(tag, attributes, ...children) {
   const made = document.createElement(tag);
@@ -313,7 +313,7 @@ function choiceRow(part) {
   const picked = network.picks.get(part);
   const button = (place, text) => el("button", { type: "button", "aria-pressed": String((picked === undefined ? null : picked) === place), "data-pick": place === null ? "open" : place, on: () => pick(part, place) }, text);
   return el("div", { class: "offer", role: "group", "aria-label": `What ${call(part)} settles on`, "data-part": part }, el("span", {}, `${data.parts[part].title} settles on`), button(null, "anything"),
-    ...network.choices(part).slice(0, 12).map((offer, place) => button(place, eventSet(offer))));
+    ...network.choices(part).slice(0, MOST_OFFERS).map((offer, place) => button(place, eventSet(offer))), network.choices(part).length > MOST_OFFERS ? `and ${network.choices(part).length - MOST_OFFERS} more` : "");
 }
 
 function showChoices(possible) {
@@ -385,10 +385,16 @@ function showStandstill(isStill) {
   if (ring.length) view.wait = new Map(ring.map((part, place) => [part, [ring[(place + 1) % ring.length]]]));
 }
 
+function pickedText({ chosen, before }) {
+  if (chosen.length > 1) return `${chosen.length} components settle`;
+  const [part, place] = chosen[0];
+  return `${call(part)}: ${place === null ? "anything" : eventSet(network.components[part].nodes[before[0][1]].accepts[place])}`;
+}
+
 function showTrail() {
   const steps = network.history, first = Math.max(0, steps.length - 80);
   const items = steps.slice(first).map((step, place) => {
-    const text = step.event === undefined ? `${call(step.part)}: ${step.place === null ? "anything" : eventSet(network.components[step.part].nodes[step.before[0][1]].accepts[step.place])}` : event(step.event);
+    const text = step.event === undefined ? pickedText(step) : event(step.event);
     const number = first + place + 1;
     return el("li", {}, el("button", { type: "button", class: step.event === undefined ? "event picked" : "event", title: `back to after step ${number}`, "aria-label": `step ${number}, ${text}: back to after it`, on: () => backTo(number) }, text));
   });
@@ -436,11 +442,11 @@ function take(step) {
 function settle() {
   if (!view.walk || !view.walk.isStuck || !view.walk.isOver()) return;
   const chosen = network.standstill();
-  if (chosen) chosen.forEach((place, part) => network.pick(part, place));
+  if (chosen && chosen.size) network.pick(chosen);
 }
 
 function pick(part, place) {
-  network.pick(part, place);
+  network.pick(new Map([[part, place]]));
   view.moved = new Set();
   show();
 }
@@ -455,7 +461,7 @@ function back() {
   // what was settled at the end of a run goes with its last step
   const isSettled = view.walk && view.walk.isStuck && view.walk.isOver();
   let last = undo();
-  while (isSettled && last && last.event === undefined && network.history.length) last = undo();
+  if (isSettled && last && last.event === undefined && network.history.length) last = undo();
   const before = network.history[network.history.length - 1];
   view.moved = new Set(before && before.event !== undefined ? network.owners[before.event] : []);
   if (last) show();
@@ -490,7 +496,7 @@ function toEnd() {
 function findStandstill() {
   const chosen = network.standstill();
   if (!chosen) return (at("found").textContent = "None was found in this state.");
-  chosen.forEach((place, part) => network.pick(part, place));
+  network.pick(chosen);
   view.moved = new Set();
   show();
   at("standstill").scrollIntoView({ block: "nearest" });
@@ -564,6 +570,7 @@ function connect() {
 function begin() {
   at("show-keys").addEventListener("click", () => at("keys").showModal());
   at("close-keys").addEventListener("click", () => at("keys").close());
+  if (innerWidth >= 1080) document.querySelector("#verdict details.meaning")?.setAttribute("open", "");
   const marked = document.querySelector(".script .marked");
   if (marked) marked.parentElement.scrollTop = marked.offsetTop - marked.parentElement.offsetTop - 60;
   if (!data.parts.length) return;

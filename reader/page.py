@@ -4,11 +4,12 @@ The page is a picture of what the program reports: of `check`, `table` and `run`
 import base64, collections, concurrent.futures, hashlib, json, pathlib, re, sys
 
 import picture
-from explain import RULES, about_language, about_network, about_place
-from network import Network
+from explain import ABOUT, RULES, about_comments, about_language, about_network, about_place, keys_of
+from network import NOT_FOLLOWED, Network
 from page_text import Linker, Script, escaped, findings_html, page_html, places_html, written_html
 from pages import section
 from reports import ask, steps_of, text_of, told_by
+from uses import Uses, held_while
 
 HOME = pathlib.Path(__file__).resolve().parent
 CODE = ("page_steps.js", "page_picture.js", "page.js")
@@ -107,34 +108,14 @@ class Facts:
 
 def crossings(network, circle):
     """Of a circle of resources: users that hold one of it and may want the next, with the events that lead there."""
-    found = []
+    uses, found = Uses(network), []
     for holds, wants in zip(circle, circle[1:] + circle[:1]):
-        sets = network.sets(holds, "resource"), network.sets(wants, "resource")
-        if not all(sets):
-            return []
-        users = [part for part in dict.fromkeys(part for event in sets[0][0].events for part in network.owners(event)) if part != holds]
-        ways = [(user, way) for user in users for way in [crossing(network.table(user), sets[0], set(sets[1][0].events) & set(network.alphabet(user)))] if way is not None]
+        users = [part for part in range(network.count) if part not in circle and network.shared(part, holds) and network.shared(part, wants)]
+        ways = [(user, way) for user in users for way in [held_while(network, uses, user, holds, wants)] if way is not None]
         if ways:
             user, way = min(ways, key=lambda pair: len(pair[1]))
             found.append({"user": user, "holds": holds, "wants": wants, "trace": way})
     return found
-
-
-def crossing(table, held, wanted):
-    """A shortest trace after which a user holds a resource and may wait for what is wanted; nothing where there is none."""
-    if not table or not wanted:
-        return None
-    taken, given = set(held[0].events), set(held[1].events)
-    todo, seen = [(0, False, [])], {(0, False)}
-    for at, holding, trace in todo:
-        if holding and any(set(offer) & wanted for offer in table.nodes[at].accepts):
-            return trace
-        for event, to in table.nodes[at].steps:
-            state = to, event in taken or (holding and event not in given)
-            if state not in seen:
-                seen.add(state)
-                todo.append((*state, [*trace, event]))
-    return None
 
 
 # walks
@@ -232,26 +213,12 @@ def hashed(text):
 
 
 def named_circle(facts):
-    """The circle by names: what is said of it, and its pieces."""
-    told, call = facts.told, facts.call
-    ring = [call(part) for part in facts.culprits]
-    if told.number == "27" and ring:
-        return "Each is a client of the next:", [" → ".join([*ring[:12], f"… ({len(ring)} in all)" if len(ring) > 12 else ring[0]])]
-    if told.number == "29" and facts.crossed:
-        return "Each of these users may hold one and want the next:", [f"{call(each['user'])} holds {call(each['holds'])} and wants {call(each['wants'])}" for each in facts.crossed]
-    if told.number == "29" and ring:
-        return "Each is held by somebody who wants the next:", [" → ".join([*ring[:12], f"… ({len(ring)} in all)" if len(ring) > 12 else ring[0]])]
-    if told.number == "24":
-        return "Each of these links comes before the next for somebody, and the last before the first:", [f"{call(one)} – {call(other)}" for one, other in told.links]
-    return None
-
-
-def circle_html(circle, linker):
-    said, pieces = circle
-    if len(pieces) == 1:
-        return f'<p class="named">{escaped(said)} {linker.html(pieces[0])}</p>'
-    items = [linker.html(piece) for piece in pieces[:12]] + ([f"and {len(pieces) - 12} more"] if len(pieces) > 12 else [])
-    return f'<div class="named"><p>{escaped(said)}</p><ul>{"".join(f"<li>{item}</li>" for item in items)}</ul></div>'
+    """A circle by names, in one line."""
+    ring = [facts.call(part) for part in facts.culprits]
+    said = {"27": "Each is a client of the next:", "29": "Each is held by a user that may want the next:"}.get(facts.told.number)
+    if not said or not ring:
+        return ""
+    return f"{said} " + " → ".join([*ring[:12], f"… ({len(ring)} in all)" if len(ring) > 12 else ring[0]])
 
 
 def headline(facts):
@@ -277,17 +244,19 @@ def headline(facts):
 VERDICTS = {0: ("proved", "deadlock-free"), 1: ("open", "not proved"), 2: ("refused", "refused")}
 
 
-def verdict_html(facts, walks, linker):
+def verdict_html(facts, walks, report, linker):
     sort, word = VERDICTS.get(facts.told.status, ("refused", facts.told.number.lower()))
     made = [f'<p class="verdict"><strong class="badge {sort}">{word}</strong> <span class="headline">{linker.html(headline(facts))}</span></p>']
+    if facts.told.status == 0:
+        made.append(f'<p class="legend">{escaped(", ".join(text_of(report).splitlines()[2:]))}</p>')
     circle = named_circle(facts)
     if circle:
-        made.append(circle_html(circle, linker))
+        made.append(f'<p class="named">{linker.html(circle)}</p>')
     stuck = [walk for walk in walks if walk["stuck"]]
     if stuck:
         walk = stuck[0]
         made.append(
-            f'<p class="real"><strong>It does deadlock.</strong> The run of seed {walk["seed"]} is stuck after {counted(len(walk["events"]), "event")}. '
+            f'<p class="real"><strong>It can deadlock.</strong> The run of seed {walk["seed"]} is stuck after {counted(len(walk["events"]), "event")}. '
             f'<button type="button" id="to-standstill">Step through it</button></p>'
         )
     elif facts.told.status == 1 and walks:
@@ -344,21 +313,33 @@ def filled(template, pieces):
 
 
 def explained(facts, linker):
-    """What is told beside the report: (the page's name, its section, what is named of the script and the network)."""
+    """What is told beside the report: (what is so in this script, the components and links that are named, the page's name, its section)."""
     told, network = facts.told, facts.network
-    page, text = section(told)
-    found = []
+    page, text = section(told.number, keys_of(told, network))
+    head = f"{page} on {told.number if told.number.isdigit() else told.number.lower()}" if page else ""
+    here, named = [findings_html(about_comments(network, told), linker)], []
     if told.status in (1, 2):
         rows = [row.removeprefix("  ") for row in about_language(network, told)[3:]]
-        language = written_html("As you know it, and as it is written here", rows) if rows else ""
-        found = [places_html(about_place(network, told)), language, findings_html(about_network(network, told), linker)]
-    found = [each for each in found if each]
-    if found:
-        # a circle is told by its names and its picture already
-        open_at_first = "" if told.circle else " open"
-        found = [f'<details class="explanation"{open_at_first}><summary>What it names</summary><div class="findings">', *found, "</div></details>"]
-    head = f"{page} on {told.number if told.number.isdigit() else told.number.lower()}" if page else ""
-    return head, page_html(text or ""), "\n".join(found)
+        here.append(places_html(about_place(network, told)))
+        here.append(findings_html(culprit_lines(network, told), linker))
+        here.append(written_html("As you know it, and as it is written here", rows) if rows else "")
+        named = [findings_html(about_network(network, told), linker)]
+    return "\n".join(each for each in here if each), "\n".join(each for each in named if each), head, page_html(text or "")
+
+
+def culprit_lines(network, told):
+    """What the answer is about in this script, as far as it can be followed."""
+    try:
+        return ABOUT[told.number](network, told) if told.number in ABOUT else []
+    except NOT_FOLLOWED:
+        return []
+
+
+def folded_html(sort, head, inside):
+    """A part of the page that opens by a click, or nothing where nothing is in it."""
+    if not inside:
+        return ""
+    return f'<details class="explanation {sort}"><summary>{escaped(head)}</summary>{inside}</details>'
 
 
 def page_of(facts, walks, report, name):
@@ -366,13 +347,15 @@ def page_of(facts, walks, report, name):
     script = Script(facts.network.source, declared_lines(facts.network), facts.told.place[0] if facts.told.place else 0)
     linker = Linker({facts.call(part): part for part in range(facts.network.count)}, len(script.lines))
     drawn, numbers = machines(facts)
-    head, meaning, findings = explained(facts, linker)
+    here, named, head, meaning = explained(facts, linker)
+    folded = [folded_html("meaning", f"What this answer means: {head}", meaning and f'<div class="page">{meaning}</div>')]
+    folded.append(folded_html("parts", "Components and links that are named", named and f'<div class="findings">{named}</div>'))
     style = (HOME / "page.css").read_text()
     code = "\n".join((HOME / file).read_text() for file in CODE)
     pieces = {
         "name": escaped(name), "rule": escaped(facts.rule), "style": style, "code": code, "style_sum": hashed(style), "code_sum": hashed(code),
-        "verdict": verdict_html(facts, walks, linker), "report": linker.html(text_of(report).rstrip("\n")), "section": meaning, "section_head": escaped(head),
-        "findings": findings, "picture": network_picture(facts) or "", "script": script.rows(marked_lines(facts)),
+        "verdict": verdict_html(facts, walks, report, linker), "report": linker.html(text_of(report).rstrip("\n")),
+        "here": f'<div class="findings here">{here}</div>' if here else "", "folded": "\n".join(folded), "picture": network_picture(facts) or "", "script": script.rows(marked_lines(facts)),
         "templates": "\n".join(f'<template id="machine-{number}">{text}</template>' for number, text in enumerate(drawn) if text),
         "data": in_script(page_data(facts, walks, numbers)), "status": str(facts.told.status),
     }

@@ -73,11 +73,13 @@ class Network {
     return true;
   }
 
-  /** Picks an acceptance for a component, or none (null). */
-  pick(part, place) {
-    this.history.push({ part, place, before: [[part, this.at[part], this.picks.get(part)]] });
-    if (place === null) this.picks.delete(part);
-    else this.picks.set(part, place);
+  /** Picks an acceptance for each of some components, or none (null): one step, that can be taken back. */
+  pick(chosen) {
+    this.history.push({ chosen: [...chosen], before: [...chosen.keys()].map((part) => [part, this.at[part], this.picks.get(part)]) });
+    for (const [part, place] of chosen) {
+      if (place === null) this.picks.delete(part);
+      else this.picks.set(part, place);
+    }
   }
 
   /** One step back; gives what is undone. */
