@@ -9,7 +9,7 @@ const view = { selected: data.culprits[0] || 0, walk: null, zoom: null, parts: d
 const at = (id) => document.getElementById(id);
 const firstPicture = document.querySelector("#picture svg");
 const canStep = data.parts.length > 0 && data.parts.every((part) => part.table);
-const MOST_BUTTONS = 60, MOST_WAITS = 12, MOST_OFFERS = 12;
+const MOST_BUTTONS = 40, MANY_EVENTS = 24, MOST_WAITS = 12, MOST_OFFERS = 12, NEAR_NODES = 14;
 
 function el(tag, attributes, ...children) {
   const made = document.createElement(tag);
@@ -240,14 +240,30 @@ function showPart() {
   showNodes(part);
 }
 
-/** The ways of a table: events by the two nodes between which they lead. */
-function waysOf(part) {
-  const ways = new Map();
-  network.components[part].nodes.forEach((node, from) => node.steps.forEach((to, step) => {
-    const key = `${from}-${to}`;
-    if (!ways.has(key)) ways.set(key, { from, to, events: [] });
-    ways.get(key).events.push(step);
-  }));
+/** The nodes of a table that are drawn: all of them, or those that are next to where it stands. */
+function drawnNodes(part) {
+  const nodes = network.components[part].nodes;
+  if (nodes.length <= data.most.nodes && new Set(nodes.flatMap((node, from) => [...node.steps.values()].map((to) => `${from}-${to}`))).size <= data.most.ways) return [...nodes.keys()];
+  const kept = [network.at[part]];
+  for (const from of kept) {
+    for (const to of nodes[from].steps.values()) {
+      if (!kept.includes(to) && kept.length < NEAR_NODES) kept.push(to);
+    }
+  }
+  return kept;
+}
+
+/** The ways between nodes of a table: events by the two nodes between which they lead. */
+function waysOf(part, drawn) {
+  const ways = new Map(), within = new Set(drawn);
+  for (const from of drawn) {
+    network.components[part].nodes[from].steps.forEach((to, step) => {
+      const key = `${from}-${to}`;
+      if (!within.has(to)) return;
+      if (!ways.has(key)) ways.set(key, { from, to, events: [] });
+      ways.get(key).events.push(step);
+    });
+  }
   return ways;
 }
 
@@ -255,24 +271,16 @@ function sortOf(node) {
   return !node.accepts ? "circle" : node.accepts.some((offer) => offer.length === 0) ? "doublecircle" : "box";
 }
 
-function plainMachine(part, ways) {
-  const nodes = network.components[part].nodes.map((node, number) => ({ name: number, lines: [String(number)], shape: sortOf(node), w: 36, h: 36 }));
-  const edges = [...ways.values()].map((way) => ({ ...way, directed: true, lines: eventLines(way.events.map(event)) }));
+function plainMachine(part, drawn, ways) {
+  const all = network.components[part].nodes, place = new Map(drawn.map((number, at) => [number, at]));
+  const nodes = drawn.map((number) => ({ name: number, lines: [String(number)], shape: sortOf(all[number]), w: Math.max(36, String(number).length * 10 + 12), h: 36 }));
+  const edges = [...ways.values()].map((way) => ({ from: place.get(way.from), to: place.get(way.to), directed: true, lines: eventLines(way.events.map(event)) }));
   const long = Math.max(0, ...edges.flatMap((edge) => edge.lines.map((line) => line.length)));
   return plainPicture(nodes, edges, { across: true, roots: [0], gap: { main: Math.max(70, long * 7.5), side: 64 } });
 }
 
-function showMachine(part, told) {
-  const ways = waysOf(part), nodes = network.components[part].nodes, number = data.machines[part];
-  const isSmall = nodes.length <= data.most.nodes && ways.size <= data.most.ways;
-  at("machine").hidden = !isSmall;
-  at("machine").classList.toggle("unseen", !data.parts[part].table);
-  at("machine-legend").hidden = at("node-list").hidden = !data.parts[part].table;
-  at("node-list").open = at("node-list").open || !isSmall;
-  const boxes = nodes.some((node) => node.accepts);
-  at("machine-legend").textContent = (isSmall ? "Blue is where it stands, and what can happen there now." : "This table is too large for a picture.") + (boxes ? " In a square node it may settle on less than all that it can do; with a double ring, on nothing at all." : "");
-  if (!isSmall) return;
-  const picture = number === undefined ? plainMachine(part, ways) : at(`machine-${number}`).content.firstElementChild.cloneNode(true);
+/** What the page's picture of a table has at its lines, and how it is coloured at the moment. */
+function markMachine(picture, part, ways, told) {
   const possible = new Set(network.possible()), marks = new Set(told.map((each) => each.node));
   for (const edge of picture.querySelectorAll(".edge[data-from]")) {
     const way = ways.get(`${edge.dataset.from}-${edge.dataset.to}`);
@@ -285,11 +293,24 @@ function showMachine(part, told) {
     node.classList.toggle("now", Number(node.dataset.node) === network.at[part]);
     node.classList.toggle("culprit", marks.has(Number(node.dataset.node)));
   }
+}
+
+function showMachine(part, told) {
+  const nodes = network.components[part].nodes, number = data.machines[part];
+  at("machine").hidden = at("machine-legend").hidden = at("node-list").hidden = !data.parts[part].table;
+  if (!data.parts[part].table) return;
+  const drawn = drawnNodes(part), ways = waysOf(part, drawn);
+  const picture = number === undefined ? plainMachine(part, drawn, ways) : at(`machine-${number}`).content.firstElementChild.cloneNode(true);
+  markMachine(picture, part, ways, told);
   picture.setAttribute("role", "img");
   picture.setAttribute("aria-label", `The table of ${data.parts[part].title} as a state machine, now at node ${network.at[part]}`);
   at("machine").replaceChildren(picture);
   scaled(picture, firstScale(picture, at("machine")));
   toMiddle(at("machine"), picture.querySelector(".node.now"));
+  const says = ["Blue is where it stands, and what can happen there now."];
+  if (drawn.length < nodes.length) says.push(`Drawn are ${drawn.length} of ${nodes.length} nodes, from there on.`);
+  if (drawn.some((each) => nodes[each].accepts)) says.push("In a square node it may settle on less than all that it can do; with a double ring, on nothing at all.");
+  at("machine-legend").textContent = says.join(" ");
 }
 
 function showNodes(part) {
@@ -339,31 +360,44 @@ function possibleInOrder() {
   return along !== undefined && possible.includes(along) ? [along, ...possible.filter((step) => step !== along)] : possible;
 }
 
-function showPossible(possible) {
-  const along = view.walk ? view.walk.next() : undefined;
+/** The possible events that are shown: where there are many, those that have what is looked for in their names. */
+function shownEvents() {
+  const possible = possibleInOrder(), wanted = at("event-filter").value.trim().toLowerCase();
+  at("event-find").hidden = possible.length <= MANY_EVENTS;
+  return possible.length <= MANY_EVENTS || !wanted ? possible : possible.filter((step) => event(step).toLowerCase().includes(wanted));
+}
+
+function showPossible() {
+  const along = view.walk ? view.walk.next() : undefined, possible = shownEvents();
   const buttons = possible.slice(0, MOST_BUTTONS).map((step, place) => eventButton(step, place, along));
-  const more = possible.length > MOST_BUTTONS ? [el("p", {}, `and ${possible.length - MOST_BUTTONS} more: open a component to see its own.`)] : [];
+  const more = possible.length > MOST_BUTTONS ? [el("p", {}, `and ${possible.length - MOST_BUTTONS} more`)] : [];
   at("possible").replaceChildren(...(possible.length ? [el("div", { class: "group" }, el("p", {}, "Take one of the events that are possible:"), el("div", { class: "events" }, ...buttons), ...more)] : []));
 }
 
-/** Components of which each waits for the next, and the last for the first. */
-function circleOf(wait) {
-  for (const start of wait.keys()) {
-    const before = new Map([[start, null]]), todo = [start];
-    for (const part of todo) {
-      for (const other of wait.get(part) || []) {
-        if (other === start && part !== start) {
-          const ring = [];
-          for (let each = part; each !== null; each = before.get(each)) ring.unshift(each);
-          if (ring.length > 2 || todo.length > data.parts.length - 1) return ring;
-        } else if (!before.has(other)) {
-          before.set(other, part);
-          todo.push(other);
-        }
+/** A shortest way from a component back to it, along what is waited for. */
+function ringFrom(start, wait) {
+  const before = new Map([[start, null]]), todo = [start];
+  for (const part of todo) {
+    for (const other of wait.get(part)) {
+      if (other === start) {
+        const ring = [];
+        for (let each = part; each !== null; each = before.get(each)) ring.unshift(each);
+        return ring;
+      }
+      if (!before.has(other)) {
+        before.set(other, part);
+        todo.push(other);
       }
     }
   }
   return [];
+}
+
+/** Components of which each waits for the next, and the last for the first: three or more where there are such, else two, else none. */
+function circleOf(wait) {
+  const rings = [...wait.keys()].map((start) => ringFrom(start, wait)).filter((ring) => ring.length);
+  const long = rings.filter((ring) => ring.length > 2);
+  return (long.length ? long : rings).sort((one, other) => one.length - other.length)[0] || [];
 }
 
 function waitLine(part) {
@@ -411,9 +445,9 @@ function stateText(possible) {
 }
 
 function show() {
-  const possible = possibleInOrder();
+  const possible = network.possible();
   const isStill = canStep && possible.length === 0;
-  showPossible(possible);
+  showPossible();
   showChoices(possible);
   showStandstill(isStill);
   showTrail();
@@ -536,9 +570,9 @@ function pressed(press) {
   // arrows move what is scrolled, where that has the focus
   if (press.key.startsWith("Arrow") && press.target.closest(".picture-room, .table-room")) return;
   const place = /^[1-9]$/.test(press.key) ? Number(press.key) - 1 : -1;
-  const possible = place >= 0 ? possibleInOrder() : [];
+  const possible = place >= 0 && canStep ? shownEvents() : [];
   if (place >= 0 && place < possible.length) take(possible[place]);
-  else if (KEYS[press.key]) KEYS[press.key]();
+  else if (KEYS[press.key] && (canStep || "/?".includes(press.key))) KEYS[press.key]();
   else return;
   press.preventDefault();
 }
@@ -558,6 +592,7 @@ function connect() {
   at("walk-choice").addEventListener("change", () => follow(walks[at("walk-choice").value] || null));
   at("part-choice").addEventListener("change", () => select(Number(at("part-choice").value)));
   at("part-filter").addEventListener("input", showParts);
+  at("event-filter").addEventListener("input", showPossible);
   at("all-parts").addEventListener("toggle", showParts);
   at("node-list").addEventListener("toggle", () => showNodes(view.selected));
   at("to-standstill")?.addEventListener("click", () => {

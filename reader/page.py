@@ -1,14 +1,14 @@
 """Makes the page on a script: one HTML file that needs nothing from outside, with the verdict, the network, tables, the script, and steps of the network.
 
 The page is a picture of what the program reports: of `check`, `table` and `run`. It proves nothing."""
-import base64, collections, concurrent.futures, hashlib, json, pathlib, re, sys
+import base64, collections, concurrent.futures, hashlib, json, pathlib, re, sys, time
 
 import picture
 from explain import ABOUT, RULES, about_comments, about_language, about_network, about_place, keys_of
 from network import NOT_FOLLOWED, Network
 from page_text import Linker, Script, escaped, findings_html, page_html, places_html, written_html
 from pages import section
-from reports import ask, steps_of, text_of, told_by
+from reports import ask, text_of, told_by
 from uses import Uses, held_while
 
 HOME = pathlib.Path(__file__).resolve().parent
@@ -18,7 +18,7 @@ MOST_PARTS, MOST_LABELLED, MOST_NODES, MOST_WAYS = 60, 24, 40, 120
 MOST_MACHINES = 48
 MOST_STEPS = 600_000
 SEEDS, LONG, SHOWN_STEPS = 20, 10_000, 200
-MOST_WALKS = 4
+MOST_WALKS, MOST_SECONDS = 4, 15
 JOBS = 4
 
 
@@ -121,30 +121,31 @@ def crossings(network, circle):
 # walks
 
 
-def walks_of(program, file, events):
-    """Runs of the network by some seeds: the shortest that are stuck, else one that goes on."""
+def tried(program, file):
+    """Runs by the first seeds, as many as there is time for: (seed, whether it is stuck, its steps)."""
+    began = time.monotonic()
 
     def walk(seed):
-        report = ask(program, ["run", file, str(seed), str(LONG)], quiet=True)
-        return (seed, report.status, steps_of(text_of(report).splitlines()[1:-1])) if report.status in (0, 1) else None
+        if time.monotonic() - began > MOST_SECONDS:
+            return None
+        words = ["run", file, str(seed), str(LONG)]
+        told = told_by(words, ask(program, words, quiet=True))
+        return (seed, told.stuck, told.steps) if told.status in (0, 1) else None
 
-    # the first seed tells how long the others take
-    found = [walk(0)]
-    if found[0] is None:
-        return []
-    found += [made for made in in_parallel(walk, range(1, SEEDS)) if made]
+    return [made for made in in_parallel(walk, range(SEEDS)) if made]
+
+
+def walks_of(runs, events):
+    """Of runs the shortest that are stuck, else the front of one that goes on."""
     made, known = [], set()
-    for seed, status, steps in sorted(found, key=lambda each: len(each[2])):
-        names = [step.event for step in steps if step.event is not None]
-        own = tuple(names)
-        if status == 1 and own not in known and len(made) < MOST_WALKS and all(name in events for name in names):
-            known.add(own)
-            made.append({"name": f"seed {seed}: stuck after {counted(len(names), 'event')}", "events": [events[name] for name in names], "stuck": True, "seed": seed, "steps": len(steps)})
-    if not made:
-        seed, _, steps = found[0]
-        names = [step.event for step in steps[:SHOWN_STEPS] if step.event is not None]
-        if names and all(name in events for name in names):
-            made.append({"name": f"seed {seed}: {counted(len(names), 'event')}, and it goes on", "events": [events[name] for name in names], "stuck": False, "seed": seed, "steps": len(steps)})
+    stuck = sorted((run for run in runs if run[1]), key=lambda run: (len(run[2]), run[0]))
+    for seed, is_stuck, steps in stuck or runs[:1]:
+        names = tuple(step.event for step in (steps if is_stuck else steps[:SHOWN_STEPS]) if step.event is not None)
+        if names in known or len(made) == MOST_WALKS or not all(name in events for name in names):
+            continue
+        known.add(names)
+        how = f"stuck after {counted(len(names), 'event')}" if is_stuck else f"{counted(len(names), 'event')}, and it goes on"
+        made.append({"name": f"seed {seed}: {how}", "events": [events[name] for name in names], "stuck": is_stuck, "seed": seed})
     return made
 
 
@@ -260,7 +261,7 @@ def verdict_html(facts, walks, report, linker):
             f'<button type="button" id="to-standstill">Step through it</button></p>'
         )
     elif facts.told.status == 1 and walks:
-        made.append(f'<p class="real">None of the runs of seeds 0 to {SEEDS - 1} was stuck within {LONG:,} steps. That proves nothing.</p>')
+        made.append(f'<p class="real">{counted(facts.tries, "run")} of {LONG:,} steps, by the first seeds, went on. That proves nothing.</p>')
     if not facts.has_tables:
         made.append(f"<p>The tables have {facts.size:,} steps in all, more than a page holds: so there are no tables and no steps here.</p>")
     return "\n".join(made)
@@ -364,7 +365,8 @@ def page_of(facts, walks, report, name):
 
 def command(program, words):
     """`--page RULE SCRIPT FILE.html`: writes the page on a script, and passes the report of `check` and its status on."""
-    if len(words) != 3 or words[0] not in RULES:
+    # a name that is no page's may be that of a script, which must not be written over
+    if len(words) != 3 or words[0] not in RULES or not words[2].endswith((".html", ".htm")):
         return None
     rule, script, file = words
     network = Network(program, script)
@@ -373,7 +375,8 @@ def command(program, words):
     sys.stdout.buffer.write(report.sent)
     sys.stdout.flush()
     facts = Facts(network, told_by(asked, report), rule)
-    walks = walks_of(program, network.file, facts.events) if facts.has_steps else []
+    runs = tried(program, network.file) if facts.has_steps else []
+    facts.tries, walks = len(runs), walks_of(runs, facts.events)
     pathlib.Path(file).write_text(page_of(facts, walks, report, pathlib.Path(script).name), encoding="utf-8")
     print(f"dlcheck: the page is {file}", file=sys.stderr)
     return report.status
