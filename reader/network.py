@@ -2,7 +2,7 @@
 
 All that the program can tell is asked of it (`show`, `table`), each thing once. How components are called, and alphabets, stand in no report: they are
 evaluated from what `show` prints, and where that can't be followed the tables alone are gone by. It proves nothing."""
-import collections, os, pathlib, re, stat, tempfile
+import collections, pathlib, re, tempfile
 
 from layout import Layout
 from reports import ask, events_of, table_of, text_of
@@ -43,19 +43,15 @@ class Network:
             self.components, self.operands = [], []
 
     def read(self):
-        """The bytes of the script. What is no plain file (a pipe, a terminal) gives them once, so it is kept in a file of its own."""
+        """The bytes of the script, which are read once and kept in a file of its own: a pipe gives them only once, and all that is asked is asked of one text."""
         try:
-            kind = os.stat(self.file).st_mode
-            if stat.S_ISDIR(kind):
-                return b""
             with open(self.file, "rb") as opened:
                 content = opened.read(MOST_BYTES + 1)
         except (OSError, ValueError):
             return b""
-        if not stat.S_ISREG(kind):
-            self.room = tempfile.TemporaryDirectory()
-            self.file = str(pathlib.Path(self.room.name) / "script.csp")
-            pathlib.Path(self.file).write_bytes(content)
+        self.room = tempfile.TemporaryDirectory()
+        self.file = str(pathlib.Path(self.room.name) / "script.csp")
+        pathlib.Path(self.file).write_bytes(content)
         return content
 
     def counted(self):

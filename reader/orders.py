@@ -2,7 +2,10 @@
 import collections
 
 from reports import node_after
-from texts import listed, trace_text
+from texts import MOST_NAMED, listed, trace_text
+
+
+MOST_PAIRS = 200_000
 
 
 class Rounds:
@@ -98,7 +101,8 @@ def at_once(rounds, trace, event):
     if not others:
         return []
     number, events = min(others.items())
-    return [f"links {rounds.link(min(own, number))} and {rounds.link(max(own, number))} are possible at once: {event} (with {rounds.neighbour(own)}) and {listed(events)} (with {rounds.neighbour(number)})"]
+    links = f"links {rounds.link(min(own, number))} and {rounds.link(max(own, number))} are possible at once"
+    return [f"{links}: {event} (with {rounds.neighbour(own)}) and {listed(events)} (with {rounds.neighbour(number)})"]
 
 
 def used_before(rounds, trace, event):
@@ -138,12 +142,13 @@ def orders_of(rounds):
 def about_circle(network, told):
     """24: the links in their order, with what each comes before, and for whom."""
     found = ["", "The links of the circle, in its order:"]
-    for place, (one, other) in enumerate(told.links):
+    for place, (one, other) in enumerate(told.links[:MOST_NAMED]):
         following = told.links[(place + 1) % len(told.links)]
         between = [part for part in (one, other) if part in following]
         found.append(f"  {one} - {other}, {network.short(one)} with {network.short(other)}: {listed(network.shared(one, other), 8)}")
         found.append(f"    comes before {following[0]} - {following[1]}" + (f" for {network.short(between[0])}" if between else ""))
         found += order_lines(network, between[0], (one, other), following) if between else []
+    found += [f"  and so on, {len(told.links)} links in all"] if len(told.links) > MOST_NAMED else []
     return found + ["  To break the circle, let one of them take its two links the other way round."]
 
 
@@ -170,10 +175,66 @@ def about_ends(network, told):
         found += short_ends(network, part, shared, told.traces.get(part, []))
     cause = cause_of(network, told)
     if cause == "several":
-        found.append(f"  {', '.join(network.short(part) for part in collectors(network, left, right))} does one event with each of several before the next with any of them: it collects.")
+        who = ", ".join(network.short(part) for part in collectors(network, left, right))
+        found.append(f"  {who} does one event with each of several before the next with any of them: it collects.")
     elif cause == "handshake":
         found.append("  The link has different events at different moments: one goes there, the other comes back.")
-    return found
+    return found + missed(network, left, right, set(shared))
+
+
+def missed(network, left, right, shared):
+    """Whether the two, taken alone, can come to wait past each other on their link, and after what."""
+    found = past_each_other(network.table(left), network.table(right), shared)
+    if found is None:
+        return []
+    if not found:
+        return ["  Taken alone, the two never wait past each other on this link; the rule can't see that."]
+    trace, first, second = found
+    ends = f"{network.short(left)} waits for {listed(first, 8)} and {network.short(right)} for {listed(second, 8)}"
+    return [f"  They can wait past each other: after {trace_text(trace)} {ends}"]
+
+
+def past_each_other(left, right, shared):
+    """A shortest trace of two tables, which do the shared events together, and an offer of each on the link alone so that these do not meet; `()` where there
+    is none, nothing where it can't be told."""
+    if not left or not right:
+        return None
+    seen, todo = {(0, 0): None}, collections.deque([(0, 0)])
+    while todo:
+        nodes = todo.popleft()
+        offers = [[offer for offer in table.nodes[node].accepts if offer and set(offer) <= shared] for table, node in zip((left, right), nodes)]
+        for first in offers[0]:
+            for second in offers[1]:
+                if not set(first) & set(second):
+                    return way_to(seen, nodes), first, second
+        for event, following in joint_steps(left.nodes[nodes[0]], right.nodes[nodes[1]], nodes, shared):
+            if following not in seen:
+                seen[following] = (nodes, event)
+                todo.append(following)
+        if len(seen) > MOST_PAIRS:
+            return None
+    return ()
+
+
+def joint_steps(left, right, nodes, shared):
+    """The steps of two nodes together: (event, nodes)."""
+    other = dict(right.steps)
+    for event, to in left.steps:
+        if event not in shared:
+            yield event, (to, nodes[1])
+        elif event in other:
+            yield event, (to, other[event])
+    for event, to in right.steps:
+        if event not in shared:
+            yield event, (nodes[0], to)
+
+
+def way_to(seen, nodes):
+    trace = []
+    while seen[nodes] is not None:
+        nodes, event = seen[nodes]
+        trace.append(event)
+    return trace[::-1]
 
 
 def short_ends(network, part, shared, trace):
@@ -191,9 +252,11 @@ def short_ends(network, part, shared, trace):
 
 
 def cause_of(network, told):
-    """25: `choose` where an end could do what it doesn't wait for, `several` where one collects from several, else `handshake`."""
+    """25: `choose` where the ends may wait past each other, or one could do what it doesn't wait for; `several` where one collects from several; else `handshake`."""
     left, right = told.links[0]
     shared = set(network.shared(left, right))
+    if past_each_other(network.table(left), network.table(right), shared):
+        return "choose"
     for part in (left, right):
         table = network.table(part)
         node = node_after(table, told.traces.get(part, [])) if table else None
