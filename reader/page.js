@@ -137,6 +137,7 @@ function showLegend() {
   if (view.parts.length < data.parts.length) says.push(`${view.parts.length} of ${data.parts.length} components: ${view.ranFirst ? "those of the answer, and what is about them" : `what is about ${call(view.selected)}`}. The others are in the list below.`);
   else says.push(`${counted(data.parts.length, "component")}, ${counted(data.links.length, "link")}.`);
   if (directed) says.push(document.body.dataset.rule === "resource" ? "An arrow goes from a user to a resource." : "An arrow goes from a client to its server.");
+  if (!data.known) says.push("How components are called and their alphabets could not be read from the script, so an event counts as theirs where their tables have it.");
   if (culprits.size) says.push(data.culprits.length > 1 ? "Red is what the answer names." : "Red is the component that the answer names.");
   at("legend").textContent = says.join(" ");
 }

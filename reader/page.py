@@ -4,10 +4,9 @@ The page is a picture of what the program reports: of `check`, `table` and `run`
 import base64, collections, concurrent.futures, hashlib, json, pathlib, re, sys, time
 
 import picture
-from explain import ABOUT, RULES, about_comments, about_language, about_network, about_place, keys_of
+from explain import ABOUT, RULES, about_comments, about_language, about_network, about_page, about_place, keys_of
 from network import NOT_FOLLOWED, Network
 from page_text import Linker, Script, escaped, findings_html, page_html, places_html, written_html
-from pages import section
 from reports import ask, text_of, told_by
 from uses import Uses, held_while
 
@@ -18,7 +17,7 @@ MOST_PARTS, MOST_LABELLED, MOST_NODES, MOST_WAYS = 60, 24, 40, 120
 MOST_MACHINES = 48
 MOST_STEPS = 600_000
 SEEDS, LONG, SHOWN_STEPS = 20, 10_000, 200
-MOST_WALKS, MOST_SECONDS = 4, 15
+MOST_WALKS, ENOUGH_STUCK, MOST_SECONDS = 4, 8, 15
 JOBS = 4
 
 
@@ -121,18 +120,20 @@ def crossings(network, circle):
 # walks
 
 
-def tried(program, file):
-    """Runs by the first seeds, as many as there is time for: (seed, whether it is stuck, its steps)."""
-    began = time.monotonic()
+def tried(program, file, is_proved):
+    """Runs by the first seeds, as many as there is time for: (seed, whether it is stuck, its steps). Of what is proved a single short one."""
+    began, made = time.monotonic(), []
 
     def walk(seed):
-        if time.monotonic() - began > MOST_SECONDS:
-            return None
-        words = ["run", file, str(seed), str(LONG)]
+        words = ["run", file, str(seed), str(SHOWN_STEPS if is_proved else LONG)]
         told = told_by(words, ask(program, words, quiet=True))
         return (seed, told.stuck, told.steps) if told.status in (0, 1) else None
 
-    return [made for made in in_parallel(walk, range(SEEDS)) if made]
+    for first in range(0, 1 if is_proved else SEEDS, JOBS):
+        made += [run for run in in_parallel(walk, range(first, 1 if is_proved else first + JOBS)) if run]
+        if time.monotonic() - began > MOST_SECONDS or sum(run[1] for run in made) >= ENOUGH_STUCK:
+            break
+    return made
 
 
 def walks_of(runs, events):
@@ -228,7 +229,7 @@ def headline(facts):
     if told.status == 0:
         return "No state in which nothing can happen is ever reached."
     if told.number == "Status 5":
-        return "Memory ran out."
+        return "Memory ran out"
     text = re.sub(r"^\d+ ", "", told.line) or told.number
     for part in facts.culprits:
         text = re.sub(rf"\bcomponent {part}\b", lambda _, own=part: facts.call(own), text)
@@ -239,7 +240,7 @@ def headline(facts):
         text = re.sub(r"alphabets [\d ]+$", "the alphabets of " + ", ".join(facts.call(part) for part in facts.culprits), text)
     if facts.told.circle:
         text = re.sub(r"( \d+)+$", "", text)
-    return text[:1].upper() + text[1:] + "."
+    return text[:1].upper() + text[1:]
 
 
 VERDICTS = {0: ("proved", "deadlock-free"), 1: ("open", "not proved"), 2: ("refused", "refused")}
@@ -299,7 +300,7 @@ def page_data(facts, walks, numbers):
     """What the page's script works with."""
     network, told = facts.network, facts.told
     return {
-        "events": list(facts.events), "parts": facts.parts, "machines": numbers,
+        "known": bool(network.components), "events": list(facts.events), "parts": facts.parts, "machines": numbers,
         "links": [[one, other, int(directed), [facts.events[event] for event in events]] for one, other, directed, events in facts.links],
         "culprits": facts.culprits, "marked": facts.marked_links(), "view": facts.view(), "walks": walks,
         "traces": [[part, [facts.events[event] for event in trace]] for part, trace in told.traces.items() if part < network.count and all(event in facts.events for event in trace)],
@@ -314,18 +315,19 @@ def filled(template, pieces):
 
 
 def explained(facts, linker):
-    """What is told beside the report: (what is so in this script, the components and links that are named, the page's name, its section)."""
+    """What is told beside the report: (what is so in this script, the components and links that are named, the section's head, the section).
+
+    Runs are left out: the page has its own."""
     told, network = facts.told, facts.network
-    page, text = section(told.number, keys_of(told, network))
-    head = f"{page} on {told.number if told.number.isdigit() else told.number.lower()}" if page else ""
+    head, text = about_page(told, keys_of(told, network))
     here, named = [findings_html(about_comments(network, told), linker)], []
     if told.status in (1, 2):
-        rows = [row.removeprefix("  ") for row in about_language(network, told)[3:]]
+        rows = [row.removeprefix("  ") for row in about_language(network, told)[3:] if row.strip()]
         here.append(places_html(about_place(network, told)))
         here.append(findings_html(culprit_lines(network, told), linker))
         here.append(written_html("As you know it, and as it is written here", rows) if rows else "")
         named = [findings_html(about_network(network, told), linker)]
-    return "\n".join(each for each in here if each), "\n".join(each for each in named if each), head, page_html(text or "")
+    return "\n".join(each for each in here if each), "\n".join(each for each in named if each), head.rstrip(":."), page_html(text)
 
 
 def culprit_lines(network, told):
@@ -375,7 +377,7 @@ def command(program, words):
     sys.stdout.buffer.write(report.sent)
     sys.stdout.flush()
     facts = Facts(network, told_by(asked, report), rule)
-    runs = tried(program, network.file) if facts.has_steps else []
+    runs = tried(program, network.file, report.status == 0) if facts.has_steps else []
     facts.tries, walks = len(runs), walks_of(runs, facts.events)
     pathlib.Path(file).write_text(page_of(facts, walks, report, pathlib.Path(script).name), encoding="utf-8")
     print(f"dlcheck: the page is {file}", file=sys.stderr)
