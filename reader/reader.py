@@ -5,19 +5,21 @@ It proves nothing. It asks the program, and passes its report and its status on 
   --explain RULE SCRIPT, or a command's words   the report, then what the page says of it, and the components and links that it names
   --explain SCRIPT                              all components with their events, and all links
   --draw SCRIPT INDEX                           a component's table, for Graphviz
-  --draw SCRIPT                                 the components and links, for Graphviz"""
+  --draw SCRIPT                                 the components and links, for Graphviz
+  --annotate roles SCRIPT, or resource SCRIPT   the script with annotations and the sets that they need, as the components' tables suggest them"""
 import pathlib, sys
 
 sys.dont_write_bytecode = True
 sys.path.insert(0, str(pathlib.Path(__file__).resolve().parent))
-import draw, explain
+import annotate, draw, explain
 
 # A word, and what it does: a function of the program and of the words behind it. It gives the status, or nothing where the words are none of its own.
 COMMANDS = {
     "--explain": explain.command,
     "--draw": draw.command,
+    "--annotate": annotate.command,
 }
-USAGE = """usage: --explain RULE SCRIPT | --explain SCRIPT | --draw SCRIPT INDEX | --draw SCRIPT
+USAGE = """usage: --explain RULE SCRIPT | --explain SCRIPT | --draw SCRIPT INDEX | --draw SCRIPT | --annotate roles|resource SCRIPT
        --explain check RULE SCRIPT | run SCRIPT SEED STEPS | livelock SCRIPT SET | conform SCRIPT SPEC | trial FAMILY N | table SCRIPT INDEX | show SCRIPT"""
 
 
