@@ -13,6 +13,7 @@ from uses import Uses
 
 TOP_LINE = "read from the components' tables by a program beside dlcheck. It proves nothing: judge what it prints by `check {}`"
 RULE = {kind: rule for rule, kind in KINDS.items()}
+MOST_LINKS = 4
 # What stands behind a definition's name in the names of its sets.
 ENDINGS = {"roles": ("ASKS", "GETS", "TAKES", "GIVES"), "resource": ("ACQUIRE", "RELEASE")}
 
@@ -29,23 +30,48 @@ def told(*lines):
 # what the sets hold
 
 
-def looked_at(network):
-    """What no annotation mends: an event of three components, components that no annotation can name, and calls that are alike."""
+def looked_at(network, kind):
+    """What no annotation mends: an event of three components, a component that can stop, and an annotation that is there and is wrong by itself."""
     for part in range(network.count):
         for event in network.alphabet(part):
             if len(network.owners(event)) > 2:
                 raise NoAnnotation(f"{event} is in the alphabets of {', '.join(network.called(owner) for owner in network.owners(event)[:MOST_NAMED])} (20): no rule takes it")
+        if any([] in node.accepts for node in network.table(part).nodes):
+            raise NoAnnotation(f"{network.called(part)} can stop (21): no rule takes it")
+        wrong = wrong_sets(network, part, kind)
+        if wrong:
+            raise NoAnnotation(f"{network.called(part)}, has an annotation that {wrong}: take it out, or mend it")
+
+
+def wrong_sets(network, part, kind):
+    """What is wrong with the sets of a component's annotation, if it has one."""
+    component = network.components[part]
+    if component.chosen or not any(note[0] == kind and note[1] == component.name for note in network.script.notes):
+        return None
+    sets = network.sets(part, kind)
+    if not sets:
+        return "has no value"
+    shared = [event for link in network.links_of(part) for event in link.events]
+    counts = collections.Counter(event for noted in sets for event in noted.events)
+    for events, what in (
+        ([event for event in shared if not counts[event]], "lacks"),
+        ([event for event in counts if counts[event] > 1], "holds twice"),
+        ([event for event in counts if event not in shared], "holds, though nobody shares it,"),
+    ):
+        if events:
+            return f"{what} {listed(sorted(events))}"
+    return None
 
 
 def unnamed(network, parts):
     """Lines on components that are no call of a definition where they stand in the network."""
+    chosen = [part for part in parts if network.components[part].chosen]
+    bare = [part for part in parts if not network.components[part].chosen and not network.components[part].name]
     lines = []
-    for part in parts:
-        component = network.components[part]
-        if component.chosen:
-            lines.append(f"component {part} is an `if` where it stands in the network, so no annotation speaks of it: name the `if` by a definition, as NODE(k) = if .. then .. else .., and call that")
-        elif not component.name:
-            lines.append(f"component {part} is written out where it stands in the network, so no annotation speaks of it: name it by a definition, and call that")
+    if chosen:
+        lines.append(f"annotations don't speak of an `if`, as component {listed([str(part) for part in chosen])} is where it stands in the network: name it by a definition, and call that")
+    if bare:
+        lines.append(f"annotations don't speak of a process without a name, as component {listed([str(part) for part in bare])} is where it stands in the network: name it by a definition, and call that")
     return lines
 
 
@@ -79,13 +105,13 @@ def without_roles(network, found):
     """Lines on the links that have no reading, each with why."""
     bare, clash = found.untold()
     lines = []
-    for place, faults in bare[:MOST_NAMED]:
+    for place, faults in bare[:MOST_LINKS]:
         link = found.links[place]
         lines.append(f"link {link.left} - {link.right}, {network.short(link.left)} with {network.short(link.right)}, has no reading: {listed(link.events)}")
         for reading, fault in faults:
-            lines.append(f"  {asked(network, reading)}: {fault.condition}, {fault.what}" if reading else f"  requests and answers in turn: {fault.condition}, {fault.what}")
-    if len(bare) > MOST_NAMED:
-        lines.append(f"and {len(bare) - MOST_NAMED} more links")
+            lines.append(f"  {asked(network, reading)}: {fault.condition}, {fault.what}" if reading else f"  requests and answers in turns: {fault.condition}, {fault.what}")
+    if len(bare) > MOST_LINKS:
+        lines.append(f"and {len(bare) - MOST_LINKS} more links")
     if clash:
         part, places, fault = clash
         others = [network.short(found.other(part, place)) for place in places]
@@ -257,7 +283,11 @@ def annotate(program, kind, script):
         told("this program can't follow the network of the script")
         return 70
     try:
-        looked_at(network)
+        looked_at(network, kind)
+        if not network.links():
+            told("no two components share an event, so no annotation is needed")
+            sys.stdout.buffer.write(network.content)
+            return 0
         sets, lines, fits = roles_of(network) if kind == "roles" else uses_of(network)
         proposal = Proposal(network, kind, sets)
     except NoAnnotation as fault:

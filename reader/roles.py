@@ -97,6 +97,7 @@ class Roles:
                 else:
                     self.readings[place].append(reading)
         self.readings[place].sort(key=lambda reading: self.dislike(place, reading))
+        self.faults[place].sort(key=lambda kept: self.dislike(place, kept[0]) if kept[0] else (-1, False))
 
     def ends(self, place):
         link = self.links[place]
@@ -124,8 +125,8 @@ class Roles:
             for odd in (0, 1):
                 if event in self.turns[part, place].possible[odd]:
                     turns = self.turns[part, place]
-                    told.setdefault(odd, f"{self.network.short(part)} can do it after {turns.trace(turns.possible[odd][event])}")
-        return Fault("S3", f"{event} comes first and second in turn: {told[0]}, and {told[1]}")
+                    told.setdefault(odd, f"of {self.network.short(part)} after {turns.trace(turns.possible[odd][event])}")
+        return Fault("S3", f"{event} would be both: it is possible {told[0]}, and {told[1]}")
 
     def server_fault(self, place, reading):
         """Whether the server is choosy about these requests, or takes them while it owes an answer."""
@@ -162,14 +163,20 @@ class Roles:
         return "at its start" if trace == "<>" else f"after {trace}"
 
     def dislike(self, place, reading):
-        """How unnatural a reading is: answers are natural; a server works before it answers, and waits for others where it waits for requests."""
-        events, seen = set(self.links[place].events), 0 if reading.answers else 8
+        """How unnatural a reading is: answers are natural; a client chooses when it asks, a server waits for others too and works before it answers."""
+        seen = 0 if reading.answers else 8
         for part, weight in ((reading.client, 1), (reading.server, -1)):
-            table, turns = self.network.table(part), self.turns[part, place]
-            works = any(event not in events for node in turns.open_nodes() for event, _ in table.nodes[node].steps)
-            waits = any(offer & reading.requests and offer - events for _, offer in self.waits[part])
-            seen += weight * ((2 if works and reading.answers else 0) + (2 if waits else 0))
+            works, waits, chooses = self.manner(part, place, reading)
+            seen += weight * ((2 if works and reading.answers else 0) + (2 if waits else 0) - (2 if chooses else 0))
         return seen, reading.client > reading.server
+
+    def manner(self, part, place, reading):
+        """Of an end: whether it does something else between request and answer, waits for others beside the requests, and may refuse one that is possible."""
+        events, table = set(self.links[place].events), self.network.table(part)
+        works = any(event not in events for node in self.turns[part, place].open_nodes() for event, _ in table.nodes[node].steps)
+        waits = any(offer & reading.requests and offer - events for _, offer in self.waits[part])
+        chooses = any(not offer >= {event for event, _ in table.nodes[node].steps if event in reading.requests} for node, offer in self.waits[part])
+        return works, waits, chooses
 
     # a reading for each link
 
@@ -179,16 +186,24 @@ class Roles:
 
     def choice(self):
         """A reading for each link, by place, and whether nobody is a client of itself by others; nothing where there is no choice."""
-        alone = [[{place: reading} for reading in self.readings[place]] for place in range(len(self.links))]
+        if not all(self.readings.values()):
+            return None
         for acyclic in (True, False):
-            for variables in (self.alike(), alone):
-                try:
-                    found = Search(variables, self.takes, acyclic).solve() if variables is not None else None
-                except TooLong:
-                    found = None
+            for variables in (self.alike(), self.alone(range(len(self.links)))):
+                found = self.solved(variables, acyclic)
                 if found is not None:
                     return {place: reading for candidate in found for place, reading in candidate.items()}, acyclic
         return None
+
+    def solved(self, variables, acyclic):
+        try:
+            return Search(variables, self.takes, acyclic).solve() if variables is not None else None
+        except TooLong:
+            return None
+
+    def alone(self, places):
+        """Each reading of each of these links as a candidate by itself."""
+        return [[{place: reading} for reading in self.readings[place]] for place in places]
 
     def alike(self):
         """Candidates for links of one shape together, so that the same end of each asks."""
@@ -233,7 +248,7 @@ class Roles:
             return [(place, self.faults[place]) for place in bare], None
         for part in range(self.network.count):
             own = [place for place in range(len(self.links)) if part in self.ends(place)[0]]
-            if Search([[{place: reading} for reading in self.readings[place]] for place in own], self.takes, False).solve() is None:
+            if self.solved(self.alone(own), False) is None:
                 return [], self.clash(part, own)
         return [], None
 
@@ -241,8 +256,7 @@ class Roles:
         """Two links of a component that have no readings together, with what it waits for on one and not on the other."""
         for place in places:
             for other in places[places.index(place) + 1 :]:
-                pair = [[{at: reading} for reading in self.readings[at]] for at in (place, other)]
-                if Search(pair, self.takes, False).solve() is None:
+                if self.solved(self.alone([place, other]), False) is None:
                     return part, [place, other], self.apart(part, place, other)
         return part, places, None
 

@@ -12,6 +12,7 @@ Term = collections.namedtuple("Term", "cost text values")
 # Some events of a channel: the fields that are written, the generators, the condition under which, and of each call which events they are.
 Piece = collections.namedtuple("Piece", "cost head generators guard events")
 MOST_TERMS = 6
+MOST_LISTED = 8
 DATA = {"name", "call", "dot", "if", "display", "range", "those", "production", "union", "inter", "diff", "not", *BINARY}
 MOST_EVALUATED = 20_000
 NO_VALUE = (NoScript, ValueError, TypeError, KeyError, IndexError, RecursionError, AttributeError)
@@ -238,6 +239,8 @@ class Finder:
                 return None
             found.append(best[2])
             left = [rest - events for rest, events in zip(left, best[2].events)]
+        if len(found) > 1 and len(wanted) == 1 and len(wanted[0]) <= MOST_LISTED:
+            return [Piece(1, (self.script.text(Event(channel, fields)), False), (), None, [{fields}]) for fields in sorted(wanted[0])]
         return found
 
     def patterns(self, channel, wanted, at, seed):

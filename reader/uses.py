@@ -84,7 +84,7 @@ class Uses:
     def holding_fault(self, part, held, use):
         name = self.network.short(part)
         if self.network.components[part].chosen or not self.network.name(part):
-            return Fault("U1", f"{name} is called by no name of a definition at its place in the network")
+            return Fault("U1", f"{name} is no call of a definition where it stands in the network: name it by one, and call that")
         both = sorted(use.acquire & use.release)
         if both:
             free, taken = (held.trace(held.possible[way][both[0]]) if both[0] in held.possible[way] else "" for way in (False, True))
