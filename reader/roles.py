@@ -264,7 +264,7 @@ class Roles:
         for one in self.readings[place]:
             for two in self.readings[other]:
                 if one.server == two.server == part:
-                    for node, offer in sorted(self.takes(one) ^ self.takes(two), key=lambda wait: wait[0]):
+                    for node, offer in sorted(self.takes(one) ^ self.takes(two), key=lambda wait: (wait[0], sorted(wait[1]))):
                         missing = sorted((one.requests | two.requests) - offer)
                         return Fault("S4", f"{self.network.short(part)} {self.after(part, node)} waits for {listed(sorted(offer))} and not for {listed(missing)}")
         return None
