@@ -5,11 +5,11 @@ import collections, concurrent.futures, os, pathlib, sys, tempfile
 
 from network import KINDS, Network
 from reports import ask, text_of
-from roles import Roles
+from find_roles import Roles
 from script import NoScript, tokens_of
-from sets import NO_VALUE, Finder, evaluated
+from set_expressions import NO_VALUE, Finder, evaluated
 from texts import MOST_NAMED, listed
-from uses import Uses
+from find_resources import Uses
 
 TOP_LINE = "read from the components' tables by a program beside dlcheck. It proves nothing: judge what it prints by `check {}`"
 RULE = {kind: rule for rule, kind in KINDS.items()}

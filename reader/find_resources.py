@@ -4,7 +4,7 @@ the components' tables.
 It proves nothing: whether an annotation meets the rule is told by `check`."""
 import collections
 
-from roles import Fault, Turns, circle_of
+from find_roles import Fault, Turns, circle_of
 from texts import listed
 
 # The events that acquire a resource, and those that release it.
