@@ -1,15 +1,30 @@
 """What is told beside a report: what the page says of it, and what it names of the script and the network. It proves nothing."""
-import sys
+import re, sys
 
-from network import KINDS, Network
+from comparing import about_outside, about_refusal
+from hidden import about_bound, about_hidden, about_no_order, about_no_set
+from network import KINDS, NOT_FOLLOWED, Network
+from orders import about_circle, about_ends, about_order, cause_of, way_of
 from pages import language_rows, section, signs_of
-from parts import about_links, about_part
+from parts import about_links, about_part, about_stop
+from refusals import ABOUT as REFUSALS, about_components_differ, about_events_differ
 from reports import ask, table_of, told_by
+from roles import about_clients, about_roles, answers_of
+from runs import about_run, about_tries
 from texts import MOST_NAMED, TOP_LINE, indented, say
+from uses import about_resources, about_uses
 
 # The words of each command: how many there are, and which are scripts.
 COMMANDS = {"check": (3, (2,)), "table": (3, (1,)), "show": (2, (1,)), "run": (4, (1,)), "livelock": (3, (1,)), "conform": (3, (1, 2)), "trial": (3, ())}
 RULES = ("cyclic", "client-server", "resource")
+# What is told of the answer with a number: a function of the network and of what the report tells; of two networks for the second.
+ABOUT = {
+    **REFUSALS, "21": about_stop, "23": about_order, "24": about_circle, "25": about_ends, "26": about_roles, "27": about_clients, "28": about_uses, "29": about_resources,
+    "37": about_no_set, "38": about_bound, "39": about_no_order,
+}
+COMPARED = {"41": about_events_differ, "42": about_components_differ, "43": about_outside, "44": about_refusal}
+# The word by which the page's section heads the part that is meant.
+KEYS = {"23": way_of, "25": cause_of, "27": answers_of}
 
 
 def command(program, words):
@@ -38,22 +53,62 @@ def explain_report(program, words):
 
 def explanation(told, network=None, specification=None):
     """The lines that are told of a report: of the network of its script, and for `conform` also that of the specification."""
-    found = about_page(told)
-    if told.specification:
-        network = specification
-    if network and told.status in (1, 2):
-        found += about_place(network, told) + about_language(network, told) + about_network(network, told)
-    return found
+    named = specification if told.specification else network
+    refused = bool(named and told.status in (1, 2) and told.command != "run")
+    here = about_comments(named, told)
+    here += about_place(named, told) if refused else []
+    here += here_of(told, network, specification)
+    here += about_language(named, told) if refused else []
+    found = (["", "In this script:"] if here else []) + here + about_page(told, keys_of(told, named))
+    return found + (about_network(named, told) if refused else [])
 
 
-def about_page(told):
+def here_of(told, network, specification):
+    """What is told of this script alone: the culprit, and by what."""
+    if not network:
+        return []
+    if told.number in COMPARED:
+        return COMPARED[told.number](network, specification, told)
+    network = specification if told.specification else network
+    if told.command == "run" and told.status in (0, 1):
+        return about_run(network, told)
+    if told.command == "livelock" and told.status == 0:
+        return about_hidden(network, told)
+    try:
+        found = ABOUT[told.number](network, told) if told.number in ABOUT else []
+    except NOT_FOLLOWED:
+        found = []
+    return found + (about_tries(network) if told.rule and told.status == 1 else [])
+
+
+def keys_of(told, network):
+    """Which parts of the page's section are about what is told."""
+    if told.number.startswith("Status"):
+        return [told.command]
+    if told.number in KEYS and network:
+        return [key for key in [KEYS[told.number](network, told)] if key]
+    if told.number == "10":
+        return [told.line.split()[-1]]
+    return [key for key in (told.condition, told.kind) if key]
+
+
+def about_page(told, keys):
     """What the page of answers says."""
-    name, text = section(told)
+    name, text = section(told.number, keys)
     if not name:
         return ["", "The page docs/ANSWERS.md is not beside this program."]
     if not text:
         return ["", f"{name} has no section on {told.number}."]
     return ["", f"{name} on {told.number if told.number.isdigit() else told.number.lower()}:", "", indented(text)]
+
+
+def about_comments(network, told):
+    """Comments that look like annotations."""
+    found = []
+    for number, line in enumerate(network.source.split("\n") if network and told.rule in KINDS else [], 1):
+        if re.match(r"\s*--+\s*@?\s*(roles?|resources?|clients?|servers?|users?)\b(?=.*[A-Z])", line, re.I) and not re.match(r"\s*--@[ \t\r]*(roles|resource)\b", line):
+            found += ["", f"Line {number} is a comment, and no annotation, which begins with --@ roles or --@ resource: {line.strip()}"]
+    return found
 
 
 def about_place(network, told):
@@ -72,9 +127,24 @@ def about_place(network, told):
 
 def about_language(network, told):
     """The rows of the page on the language that may be about what is refused."""
-    line = network.source.split("\n")[told.place[0] - 1 : told.place[0]] if told.place else []
-    kept = language_rows(told, signs_of(line))
+    kept = language_rows(told, signs_of(lines_near(network, told.place)), network)
     return ["", "LANGUAGE.md, as you know it and as it is written here:", "", *kept] if kept else []
+
+
+def lines_near(network, place):
+    """The line of a slip; and where the slip is at its beginning the declaration before it, in which something was left open."""
+    if not place:
+        return []
+    lines, row, column = network.source.split("\n"), *place
+    near = lines[row - 1 : row]
+    if not near or near[0][: column - 1].strip():
+        return near
+    before = []
+    for line in reversed(lines[: row - 1]):
+        before += [line] if line.strip() and not re.match(r"\s*--(?!@)", line) else []
+        if re.match(r"\S[^=]*=(?!=)|--@", line):
+            break
+    return [" ".join(reversed(before)), *near]
 
 
 def about_network(network, told):
@@ -84,11 +154,10 @@ def about_network(network, told):
         found += about_part(network, part, told)
     if len(told.components) > MOST_NAMED:
         found += ["", f"and {len(told.components) - MOST_NAMED} more components"]
-    head = "The links of the circle, in its order:" if told.circle else "The link:" if told.number == "25" else "Its links:"
-    links = told.links
     if told.number in ("23", "26", "28"):
         links = [(link.left, link.right) for link in network.links_of(told.components[0])]
-    return found + about_links(network, links[:MOST_NAMED], head)
+        return found + about_links(network, links[:MOST_NAMED], "Its links:")
+    return found + about_links(network, told.links if told.number == "25" else [], "The link:")
 
 
 def explain_script(program, script):

@@ -3,11 +3,14 @@
 This serves the reader of reports alone, and it proves nothing."""
 import collections
 
-from script import NoScript, Parser
+from script import NoScript
+from trees import Parser
+from values import NoValue
 
-# How a component is written, as far as it is a name or a call; the name that an annotation may speak of, with the values of its arguments; its alphabet.
-# `chosen` where an `if` stands between the network and the name: to the program such a component is called by no name, so no annotation speaks of it.
-Component = collections.namedtuple("Component", "call name values alphabet chosen")
+# How a component is written, as far as it is a name or a call; that name, with the values of its arguments; its alphabet; its tree with the values of the
+# names that are bound. `chosen` where an `if` stands between the network and the name: to the program such a component is called by no name, so that no
+# annotation speaks of it.
+Component = collections.namedtuple("Component", "call name values alphabet chosen tree bound")
 # A network within a network: its alphabet as it is written, and which components it has.
 Operand = collections.namedtuple("Operand", "alphabet first end")
 MOST_COMPONENTS = 512
@@ -44,30 +47,44 @@ class Layout:
             return
         first = len(self.components)
         if tree[0] == "pair":
-            self.walk(tree[1], bound, script.value(tree[2], bound))
-            self.walk(tree[4], bound, script.value(tree[3], bound))
+            self.walk(tree[1], bound, script.set_of(tree[2], bound))
+            self.walk(tree[4], bound, script.set_of(tree[3], bound))
         elif tree[0] == "each":
-            for value in sorted(script.value(tree[2], bound)):
-                inner = {**bound, tree[1]: value}
-                self.walk(tree[4], inner, script.value(tree[3], inner))
+            for value in sorted(script.set_of(tree[2], bound)):
+                self.operand(tree, {**bound, tree[1]: value})
         elif tree[0] == "if":
-            self.walk(tree[2] if script.value(tree[1], bound) else tree[3], bound, alphabet)
+            self.walk(tree[2] if script.truth(tree[1], bound) else tree[3], bound, alphabet)
             return
         else:
-            parameters, body = script.body_of(tree[1])
-            arguments = [script.value(item, bound) for item in (tree[2] if tree[0] == "call" else [])]
-            self.walk(body, dict(zip(parameters, arguments)), alphabet)
+            self.enter(tree, bound, alphabet)
             return
         if alphabet is not None:
             self.operands.append(Operand(alphabet, first, len(self.components)))
 
+    def operand(self, tree, inner):
+        """One operand of a replicated parallel; a fault in it is told with the value of its name."""
+        try:
+            self.walk(tree[4], inner, self.script.set_of(tree[3], inner))
+        except NoValue as fault:
+            fault.bound = {tree[1]: inner[tree[1]]} | fault.bound
+            raise
+
+    def enter(self, tree, bound, alphabet):
+        """The network that a definition spells; a fault in it is told with its use."""
+        parameters, body = self.script.body_of(tree[1])
+        arguments = [self.script.value(item, bound) for item in (tree[2] if tree[0] == "call" else [])]
+        try:
+            self.walk(body, dict(zip(parameters, arguments)), alphabet)
+        except NoValue as fault:
+            fault.found_in(tree[1], arguments, dict(zip(parameters, arguments)))
+            raise
+
     def component(self, tree, bound, alphabet):
-        script, chosen = self.script, tree[0] == "if"
+        script, whole = self.script, tree
         while tree[0] == "if":
-            tree = tree[2] if script.value(tree[1], bound) else tree[3]
-        if tree[0] == "name":
-            return Component(tree[1], tree[1], [], alphabet, chosen)
-        if tree[0] == "call":
-            values = [script.value(item, bound) for item in tree[2]]
-            return Component(f"{tree[1]}({', '.join(script.text(value) for value in values)})", tree[1], values, alphabet, chosen)
-        return Component(None, None, [], alphabet, chosen)
+            tree = tree[2] if script.truth(tree[1], bound) else tree[3]
+        chosen = whole[0] == "if"
+        if tree[0] not in ("name", "call"):
+            return Component(None, None, [], alphabet, chosen, whole, bound)
+        values = [script.value(item, bound) for item in (tree[2] if tree[0] == "call" else [])]
+        return Component(script.use(tree[1], values), tree[1], values, alphabet, chosen, whole, bound)

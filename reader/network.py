@@ -29,16 +29,17 @@ class Network:
         shown = ask(program, ["show", self.file], quiet=True)
         self.shown = text_of(shown).splitlines() if shown.status == 0 else []
         self.lines = lines_of(self.source, self.shown)
-        self.script, self.components, self.operands, self.tables = None, [], [], {}
+        self.script, self.components, self.operands, self.tables, self.fault = None, [], [], {}, None
         self.kept_alphabets, self.kept_owners, self.kept_links = {}, None, None
         try:
             self.script = Script(self.shown)
             layout = Layout(self.script)
             self.components, self.operands = layout.components, layout.operands
-        except NOT_FOLLOWED:
-            pass
-        self.count = self.counted()
-        if self.count != len(self.components):
+        except NOT_FOLLOWED as fault:
+            self.fault = fault
+        counted = self.counted()
+        self.count = counted or len(self.components)
+        if counted and counted != len(self.components):
             self.components, self.operands = [], []
 
     def read(self):
@@ -58,7 +59,7 @@ class Network:
         return content
 
     def counted(self):
-        """How many components there are, by the program; 0 where it refuses the network."""
+        """How many components there are, by the program; 0 where it refuses the network, and then it is the own count that stands."""
         if not self.shown:
             return 0
         if self.table(0):

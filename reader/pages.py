@@ -4,9 +4,10 @@ import pathlib, re
 # What in a line of the source leads to a row of the page on the language, by the row's first word or words.
 SIGNS = (
     (r"\|\|\|", "interleaving"), (r"\[\|.*\|>", "interrupt"), (r"\[\|", "parallel over"), (r"<->", "linked parallel"), (r"\blet\b|\bwithin\b", "local definitions"),
-    (r"^\s*\w+\([^)]*\b\d+\b[^)]*\)\s*=", "definitions by cases"), (r"<\s*>|<\w+(,\s*\w+)*>|\^|#", "sequences"), (r"\?_", "an input"), (r"\?\w+\.", "several fields"),
-    (r"datatype.*\.", "fields in a datatype"), (r"\b(union|inter|diff)\(.*\bif\b", "an if within"), (r"/\\|\[>", "interrupt"), (r"\(\s*\w+\s*,\s*\w+\s*\)\s*\)", "tuples"), (r"\{-", "negative numbers"),
-    (r"\binclude\b|\bprint\b", "files and print"), (r"[^\x00-\x7f]", "signs that are no ASCII"), (r"\[\].*\|~\||\|~\|.*\[\]", "mixed choices"), (r"\].*\[.*\|\|", "three in one"),
+    (r"^\s*\w+\([^)]*\b\d+\b[^)]*\)\s*=", "definitions by cases"), (r"<\s*>|<\w+(,\s*\w+)*>|\^|#", "sequences"), (r"\?_", "an input that doesn't"), (r"\?\w+\.", "several fields"),
+    (r"datatype.*\.", "fields in a datatype"), (r"\b(union|inter|diff)\([^()]*,?\s*if\b", "an if within"), (r"/\\|\[>", "interrupt"), (r"\(\s*\w+\s*,\s*\w+\s*\)\s*\)", "tuples"),
+    (r"\{-", "negative numbers"), (r"\binclude\b|\bprint\b", "files and print"), (r"[^\x00-\x7f]", "signs that are no ASCII"), (r"\[\].*\|~\||\|~\|.*\[\]", "mixed choices"),
+    (r"\]\s*[\w()]+\s*\[[^\]]*\|\|", "three in one"), (r"(\[|\|\|)\s*if\b", "an if as an alphabet"), (r"^(?!.*--@)(?=.*\bif\b)(?!.*\belse\b)", "an if without else"), (r"--@", "an annotation:"),
 )
 
 
@@ -19,8 +20,10 @@ def page_named(name):
     return None
 
 
-def section(told):
-    """The name of the page of answers, and what its section says of what is told; nothing where there is none."""
+def section(number, keys=()):
+    """The name of the page of answers, and what its section on a number or a status says; nothing where there is none.
+
+    Where the section has parts (headings of the third level, bullets) for several conditions, only those of these keys are kept, as far as there are any."""
     page = page_named("ANSWERS.md")
     if not page:
         return None, None
@@ -28,10 +31,42 @@ def section(told):
     for line in page.read_text().splitlines():
         if line.startswith("## "):
             head = line[3:]
-            inside = head == told.number or head.split()[0] == told.number
+            inside = head == number or head.split()[0] == number
         elif inside:
             kept.append(line)
-    return page.name, "\n".join(kept).strip("\n")
+    return page.name, "\n".join(bullets_for(parts_for(kept, keys), keys)).strip("\n")
+
+
+def fits(text, keys):
+    return any(re.search(rf"(?<!\w){re.escape(key)}(?!\w)", text) for key in keys)
+
+
+def parts_for(lines, keys):
+    """The lines before the first heading of the third level, and of the parts behind such headings those of the keys."""
+    parts = [[]]
+    for line in lines:
+        if line.startswith("### "):
+            parts.append([])
+        parts[-1].append(line)
+    chosen = [part for part in parts[1:] if fits(part[0], keys)] or parts[1:]
+    return [line for part in [parts[0], *chosen] for line in (part if len(chosen) != 1 or not part[:1] or not part[0].startswith("### ") else part[1:])]
+
+
+def bullets_for(lines, keys):
+    """The lines without the bullets of other keys, where one of the keys has a bullet. A bullet's key stands before its first comma or colon."""
+    bullets, kept, bullet = [], [], None
+    for line in lines:
+        if line.startswith("- "):
+            bullet = [line]
+            bullets.append(bullet)
+            kept.append(bullet)
+        elif bullet and line.startswith("  ") and line.strip() and not line.startswith("    "):
+            bullet.append(line)
+        else:
+            bullet = None
+            kept.append([line])
+    chosen = [bullet for bullet in bullets if fits(re.split("[,:]", bullet[0])[0], keys)]
+    return [line for part in kept if not chosen or not any(part is bullet for bullet in bullets) or any(part is bullet for bullet in chosen) for line in part]
 
 
 def table_rows():
@@ -48,20 +83,42 @@ def signs_of(lines):
     return [word for line in lines for sign, word in SIGNS if re.search(sign, line)]
 
 
-def language_rows(told, signs):
+# What the rows of a number are about beyond it: the first words of the group, and a test of what is told and of the network.
+ONLY_WHERE = (
+    ("definitions by cases", lambda told, network: False),
+    ("the same with a name", lambda told, network: told.event not in network.script.consts),
+    ("an input of one constant", lambda told, network: told.event in network.script.consts),
+    ("a channel with data", lambda told, network: heads_of_parameters(network, told.declaration)),
+    ("fields that are left out", lambda told, network: told.event in network.script.channels),
+    ("hiding round a network", lambda told, network: re.search(r"[\\]", network.shown[told.declaration])),
+    ("hiding or renaming round", lambda told, network: told.line.endswith("800")),
+    ("; and SKIP", lambda told, network: True),
+)
+
+
+def heads_of_parameters(network, declaration):
+    """Whether a definition sends or takes by a name that is one of its parameters."""
+    head, _, body = network.shown[declaration].partition(" = ")
+    return any(re.search(rf"(?<!\w){re.escape(name)} [.!?]", body) for name in re.findall(r"\w+", head)[1:])
+
+
+def is_about(group, told, signs, network, at):
+    """Whether a group of rows may be about what is refused."""
+    about = group[0][3:]
+    if not any(row[at:].startswith(told.number + " ") for row in group[1:]):
+        return False
+    if told.number == "1":
+        return any(about.startswith(word) for word in signs)
+    if told.number == "4":
+        return any(re.search(rf"\b{re.escape(told.event)}\b", row[:at]) for row in group[1:])
+    tests = [test for words, test in ONLY_WHERE if about.startswith(words)]
+    return not tests or bool(tests[0](told, network))
+
+
+def language_rows(told, signs, network):
     """The rows of the table that may be about what is refused."""
     head, groups = table_rows()
-    if told.number not in ("1", "4", "5", "6", "7", "8", "10", "14", "19") or not groups:
+    if told.number not in ("1", "4", "5", "6", "7", "8", "10", "14", "19") or not groups or not network.script:
         return []
-    at, kept = head.index("told"), []
-    for group in groups:
-        about = group[0][3:]
-        if told.number == "1":
-            fits = any(about.startswith(word) for word in signs)
-        elif told.number == "4":
-            fits = any(re.search(rf"\b{re.escape(told.event)}\b", row[:at]) for row in group[1:])
-        else:
-            fits = any(row[at:].startswith(told.number + " ") for row in group[1:])
-        if fits and any(row[at:].startswith(told.number + " ") for row in group[1:]):
-            kept += ["  " + row for row in group]
-    return kept
+    at = head.index("told")
+    return ["  " + row for group in groups if is_about(group, told, signs, network, at) for row in group]

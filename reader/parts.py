@@ -2,7 +2,7 @@
 import pathlib, tempfile
 
 from reports import ask, node_after, table_of
-from texts import MOST_NAMED, listed
+from texts import MOST_NAMED, listed, trace_text
 
 INDENT = "  "
 
@@ -24,9 +24,6 @@ def about_part(network, part, told):
         found.append(f"  has in its alphabet and never does: {listed(idle)}")
     if part in told.traces:
         found += stand(network, part, told.traces[part])
-        if told.number == "21":
-            blocked = blocked_events(network, part, told.traces[part])
-            found += [f"    would go on by {listed(blocked)}: not in its alphabet, so blocked"] if blocked else []
     return found
 
 
@@ -53,6 +50,22 @@ def stand(network, part, trace):
     for offer in table.nodes[node].accepts[:MOST_NAMED]:
         found.append(f"    may wait for {listed(offer)}" if offer else "    may wait for nothing at all: it stops")
     return found
+
+
+def about_stop(network, told):
+    """21: what the component would go on by."""
+    part = told.components[0]
+    trace, who = told.traces[part], network.short(part)
+    blocked = blocked_events(network, part, trace)
+    if blocked:
+        owners = [network.short(other) for event in blocked for other in network.owners(event)]
+        also = f" (it is in that of {', '.join(dict.fromkeys(owners))})" if owners else ""
+        return ["", f"{who} after {trace_text(trace)} would go on by {listed(blocked)}: not in its alphabet{also}, so blocked. Put it there, or do something else here."]
+    table = network.table(part)
+    node = node_after(table, trace) if table else None
+    able = [event for event, _ in table.nodes[node].steps] if node is not None else []
+    how = f"may choose to offer nothing, and else can do {listed(able)}" if able else "offers nothing: STOP, guards that are false, or a choice over an empty set"
+    return ["", f"{who} after {trace_text(trace)} {how}."]
 
 
 def blocked_events(network, part, trace):

@@ -63,7 +63,7 @@ class Told:
     `number` is that of the answer (`"24"`), or `"Status 0"` and so on where there is none. `components` are those that are named, in the order of the report:
     the culprit first, or a circle in its order where `circle` is set. `traces` has the events after which something is so, by component."""
 
-    command: str
+    words: list
     status: int
     number: str
     line: str = ""
@@ -78,6 +78,15 @@ class Told:
     site: str = None  # of a value fault: declaration, network, component, annotation, hidden set
     specification: bool = False  # it is the specification of `conform` that is refused
     steps: list = dataclasses.field(default_factory=list)  # of a run
+
+    @property
+    def command(self):
+        return self.words[0]
+
+    @property
+    def rule(self):
+        """The rule of `check`, or nothing."""
+        return self.words[1] if self.words[:1] == ["check"] else None
 
     @property
     def circle(self):
@@ -121,7 +130,7 @@ PATTERNS = (
 def told_by(words, report):
     """What the report of these words tells."""
     lines = text_of(report).splitlines()
-    told = Told(words[0] if words else "", report.status, f"Status {report.status}")
+    told = Told(words, report.status, f"Status {report.status}")
     if told.command == "run" and report.status in (0, 1):
         told.steps = steps_of(lines[1:-1])
         return told

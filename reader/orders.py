@@ -1,0 +1,214 @@
+"""What breaks the rule `cyclic` (C1, the order, C2), read from the tables of the components. It proves nothing."""
+import collections
+
+from reports import node_after
+from texts import listed, trace_text
+
+
+class Rounds:
+    """The shared events of a component, as it comes to them: at which link each lies, and at which place of the round it is possible."""
+
+    def __init__(self, network, part):
+        self.network, self.part, self.table = network, part, network.table(part)
+        self.links = network.links_of(part)
+        self.at = {event: number for number, link in enumerate(self.links) for event in link.events}
+        self.reached = self.walk()
+
+    def walk(self):
+        """Every (node, place of the round) with a shortest trace to it, in the order of these traces."""
+        found = {(0, 0): []}
+        todo = collections.deque(found)
+        while todo:
+            node, place = todo.popleft()
+            for event, to in self.table.nodes[node].steps:
+                following = (to, (place + (event in self.at)) % max(len(self.links), 1))
+                if following not in found:
+                    found[following] = [*found[node, place], event]
+                    todo.append(following)
+        return found
+
+    def places(self):
+        """Each place of the round with its links: of each link an event and a trace after which it is possible there."""
+        found = [{} for _ in self.links]
+        for (node, place), trace in self.reached.items():
+            for event, _ in self.table.nodes[node].steps:
+                if event in self.at:
+                    found[place].setdefault(self.at[event], (event, trace))
+        return found
+
+    def place_after(self, trace):
+        return sum(event in self.at for event in trace) % max(len(self.links), 1)
+
+    def round_of(self, trace):
+        """The shared events of the round that is under way after a trace."""
+        shared = [event for event in trace if event in self.at]
+        return shared[len(shared) - self.place_after(trace) :]
+
+    def link(self, number):
+        link = self.links[number]
+        return f"{link.left} - {link.right}"
+
+    def neighbour(self, number):
+        link = self.links[number]
+        return self.network.short(link.right if link.left == self.part else link.left)
+
+
+def about_order(network, told):
+    """23: which part of a fixed order the event breaks, and by what."""
+    part, event = told.components[0], told.event
+    if not network.table(part):
+        return []
+    rounds, trace = Rounds(network, part), told.traces[part]
+    if event not in rounds.at:
+        return []
+    who, own = network.short(part), rounds.at[event]
+    found = ["", f"{who} has {len(rounds.links)} links, and a round of it is one event on each, in one order. After {trace_text(trace)}:"]
+    way, reasons = reason_of(rounds, trace, event)
+    found += [f"  {reason}" for reason in reasons or [f"{event} is of link {rounds.link(own)}, with {rounds.neighbour(own)}"]]
+    return found + (orders_of(rounds) if way == "order" else [])
+
+
+def reason_of(rounds, trace, event):
+    """Which way of breaking the order it is, by the page's word for it, and the reasons."""
+    for way, find in (("once", at_once), ("Twice", used_before), ("order", elsewhere)):
+        reasons = find(rounds, trace, event)
+        if reasons:
+            return way, reasons
+    return None, []
+
+
+def way_of(network, told):
+    """23: the page's word for the way in which the order is broken, or nothing."""
+    part = told.components[0]
+    if not network.table(part):
+        return None
+    rounds = Rounds(network, part)
+    return reason_of(rounds, told.traces[part], told.event)[0] if told.event in rounds.at else None
+
+
+def at_once(rounds, trace, event):
+    """Events of two links are possible at one moment."""
+    node, own = node_after(rounds.table, trace), rounds.at[event]
+    if node is None:
+        return []
+    others = {}
+    for other, _ in rounds.table.nodes[node].steps:
+        if other in rounds.at and rounds.at[other] != own:
+            others.setdefault(rounds.at[other], []).append(other)
+    if not others:
+        return []
+    number, events = min(others.items())
+    return [f"links {rounds.link(min(own, number))} and {rounds.link(max(own, number))} are possible at once: {event} (with {rounds.neighbour(own)}) and {listed(events)} (with {rounds.neighbour(number)})"]
+
+
+def used_before(rounds, trace, event):
+    """The link was used in this round."""
+    own = rounds.at[event]
+    before = [other for other in rounds.round_of(trace) if rounds.at[other] == own]
+    if not before:
+        return []
+    left = [number for number in range(len(rounds.links)) if number not in {rounds.at[other] for other in rounds.round_of(trace)}]
+    reasons = [f"{event} is of link {rounds.link(own)}, which {before[-1]} used in this round"]
+    return reasons + ([f"not used in it: {', '.join(f'link {rounds.link(number)}, with {rounds.neighbour(number)}' for number in left)}"] if left else [])
+
+
+def elsewhere(rounds, trace, event):
+    """At this place of the round another link stands after another trace, or the link stands at another place."""
+    own, place = rounds.at[event], rounds.place_after(trace)
+    for number, (other, run) in rounds.places()[place].items():
+        if number != own and len(run) <= len(trace):
+            return [f"{event} is of link {rounds.link(own)}, as event {place + 1} of a round; after {trace_text(run)} event {place + 1} is {other}, of link {rounds.link(number)}"]
+    for later, links in enumerate(rounds.places()):
+        if later != place and own in links and len(links[own][1]) <= len(trace):
+            other, run = links[own]
+            return [f"{event} is of link {rounds.link(own)}, as event {place + 1} of a round; after {trace_text(run)} {other} of this link is event {later + 1}"]
+    return []
+
+
+def orders_of(rounds):
+    """What the component is seen to do at each place of its round, where that fits in a few lines."""
+    if not 1 < len(rounds.links) <= 8:
+        return []
+    found = ["  what it can do as event 1, 2 .. of a round:"]
+    for place, links in enumerate(rounds.places()):
+        found.append(f"    {place + 1}: " + ("; ".join(f"{event} on {rounds.link(number)}" for number, (event, _) in sorted(links.items())) or "nothing"))
+    return found
+
+
+def about_circle(network, told):
+    """24: the links in their order, with what each comes before, and for whom."""
+    found = ["", "The links of the circle, in its order:"]
+    for place, (one, other) in enumerate(told.links):
+        following = told.links[(place + 1) % len(told.links)]
+        between = [part for part in (one, other) if part in following]
+        found.append(f"  {one} - {other}, {network.short(one)} with {network.short(other)}: {listed(network.shared(one, other), 8)}")
+        found.append(f"    comes before {following[0]} - {following[1]}" + (f" for {network.short(between[0])}" if between else ""))
+        found += order_lines(network, between[0], (one, other), following) if between else []
+    return found + ["  To break the circle, let one of them take its two links the other way round."]
+
+
+def order_lines(network, part, link, following):
+    """The events by which a component comes to the one link before the other."""
+    table = network.table(part)
+    if not table:
+        return []
+    events = [set(network.shared(*sorted(ends))) for ends in (link, following)]
+    for (node, _), trace in Rounds(network, part).reached.items():
+        first = next((before for before in trace if before in events[0]), None)
+        later = [event for event, _ in table.nodes[node].steps if event in events[1]]
+        if first and later:
+            return [f"      it does {first} before {later[0]}"]
+    return []
+
+
+def about_ends(network, told):
+    """25: what each end may wait for on the link, and what it lacks; and which of three causes that has."""
+    (left, right), found = told.links[0], []
+    shared = network.shared(left, right)
+    found = ["", f"Link {left} - {right} has {listed(shared)}. When it is its turn, neither end waits for all of them:"]
+    for part in (left, right):
+        found += short_ends(network, part, shared, told.traces.get(part, []))
+    cause = cause_of(network, told)
+    if cause == "several":
+        found.append(f"  {', '.join(network.short(part) for part in collectors(network, left, right))} does one event with each of several before the next with any of them: it collects.")
+    elif cause == "handshake":
+        found.append("  The link has different events at different moments: one goes there, the other comes back.")
+    return found
+
+
+def short_ends(network, part, shared, trace):
+    table = network.table(part)
+    node = node_after(table, trace) if table else None
+    if node is None:
+        return []
+    for offer in table.nodes[node].accepts:
+        have, lack = [event for event in shared if event in offer], [event for event in shared if event not in offer]
+        if have and lack:
+            able = [event for event in lack if event in dict(table.nodes[node].steps)]
+            more = f"; {listed(able, 8)} it can do there too, but chooses" if able else ""
+            return [f"  {network.short(part)} after {trace_text(trace)} may wait for {listed(have, 8)}, and not for {listed(lack, 8)}{more}"]
+    return []
+
+
+def cause_of(network, told):
+    """25: `choose` where an end could do what it doesn't wait for, `several` where one collects from several, else `handshake`."""
+    left, right = told.links[0]
+    shared = set(network.shared(left, right))
+    for part in (left, right):
+        table = network.table(part)
+        node = node_after(table, told.traces.get(part, [])) if table else None
+        if node is not None and shared <= {event for event, _ in table.nodes[node].steps}:
+            return "choose"
+    return "several" if collectors(network, left, right) else "handshake"
+
+
+def collectors(network, *ends):
+    """The ends that have two links or more on which different events come at different moments."""
+    found = []
+    for part in ends:
+        table = network.table(part)
+        links = [set(link.events) for link in network.links_of(part)]
+        phased = [events for events in links if table and any(own and own != events for own in (events & {event for event, _ in node.steps} for node in table.nodes))]
+        if len(phased) > 1:
+            found.append(part)
+    return found
