@@ -4,7 +4,8 @@ Patterns of events, whose fields are parameters, what is computed of them, or al
 events. What no pattern covers is listed call by call. It proves nothing; what is found is evaluated again by whoever asks."""
 import collections, itertools
 
-from script import BINARY, NoScript, Parser
+from script import NoScript
+from trees import BINARY, Parser
 from values import Const, Event
 
 # An expression and what it is worth at each call; `cost` is how far from plain it is.
