@@ -12,7 +12,8 @@ def about_outside(network, specification, told):
     if node is None:
         return []
     able = [event for event, _ in table.nodes[node].steps]
-    found = ["", f"{network.short(part)} after {trace_text(trace[:-1])} can do {trace[-1]}; {specification.short(part)} of the specification, at its node {node}, can do {listed(able)}."]
+    own, other = network.short(part), specification.short(part)
+    found = ["", f"{own} after {trace_text(trace[:-1])} can do {trace[-1]}; {other} of the specification, at its node {node}, can do {listed(able)}."]
     return found + definitions(network, specification, part)
 
 

@@ -1,5 +1,5 @@
 """What is told beside a report: what the page says of it, and what it names of the script and the network. It proves nothing."""
-import re, sys
+import collections, re, sys
 
 from comparing import about_outside, about_refusal
 from hidden import about_bound, about_hidden, about_no_order, about_no_set
@@ -51,16 +51,26 @@ def explain_report(program, words):
     return report.status
 
 
+# What is told of a report: the culprit and by what, in this script; how the page's section is headed, and what it says; the components and links that are named.
+Explained = collections.namedtuple("Explained", "here head page named")
+
+
 def explanation(told, network=None, specification=None):
     """The lines that are told of a report: of the network of its script, and for `conform` also that of the specification."""
+    parts = explained(told, network, specification)
+    page = ["", parts.head, *(["", indented(parts.page)] if parts.page else [])]
+    return (["", "In this script:", *parts.here] if parts.here else []) + page + parts.named
+
+
+def explained(told, network=None, specification=None):
+    """The parts of an explanation: lists of lines, and for the page's section its text as it stands there."""
     named = specification if told.specification else network
     refused = bool(named and told.status in (1, 2) and told.command != "run")
     here = about_comments(named, told)
     here += about_place(named, told) if refused else []
     here += here_of(told, network, specification)
     here += about_language(named, told) if refused else []
-    found = (["", "In this script:"] if here else []) + here + about_page(told, keys_of(told, named))
-    return found + (about_network(named, told) if refused else [])
+    return Explained(here, *about_page(told, keys_of(told, named)), about_network(named, told) if refused else [])
 
 
 def here_of(told, network, specification):
@@ -93,20 +103,23 @@ def keys_of(told, network):
 
 
 def about_page(told, keys):
-    """What the page of answers says."""
+    """How what the page of answers says is headed, and what it says."""
     name, text = section(told.number, keys)
     if not name:
-        return ["", "The page docs/ANSWERS.md is not beside this program."]
-    if not text:
-        return ["", f"{name} has no section on {told.number}."]
-    return ["", f"{name} on {told.number if told.number.isdigit() else told.number.lower()}:", "", indented(text)]
+        return "The page docs/ANSWERS.md is not beside this program.", ""
+    number = told.number if told.number.isdigit() else told.number.lower()
+    return (f"{name} on {number}:", text) if text else (f"{name} has no section on {number}.", "")
 
 
 def about_comments(network, told):
-    """Comments that look like annotations."""
+    """Comments that look like annotations: `--@ role P A B C D`, `-- @ roles ..`."""
     found = []
-    for number, line in enumerate(network.source.split("\n") if network and told.rule in KINDS else [], 1):
-        if re.match(r"\s*--+\s*@?\s*(roles?|resources?|clients?|servers?|users?)\b(?=.*[A-Z])", line, re.I) and not re.match(r"\s*--@[ \t\r]*(roles|resource)\b", line):
+    for number, line in enumerate(network.source.split("\n") if network and network.script and told.rule in KINDS else [], 1):
+        match = re.match(r"\s*--\s*(@?)\s*(\w*)(.*)", line)
+        if not match or re.match(r"\s*--@[ \t\r]*(roles|resource)[ \t\r]", line):
+            continue
+        names = [word for word in match[3].split() if word in network.script.definitions]
+        if match[1] or (re.match(r"roles?$|resources?$", match[2], re.I) and len(names) > 1):
             found += ["", f"Line {number} is a comment, and no annotation, which begins with --@ roles or --@ resource: {line.strip()}"]
     return found
 

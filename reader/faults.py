@@ -116,7 +116,7 @@ def count_lines(network, form, name, parts):
     declared = network.place(script.names[name]) if name in script.names else ""
     if name in script.channels:
         fields = len(script.field_trees(name))
-        if fields != parts and form != "production":
+        if parts > fields or (parts < fields and form != "part"):
             return [f"{name} has {counted(fields, 'field')} ({declared}: {network.text(script.names[name])[0].strip()}) and stands here with {parts}"]
     elif name in script.definitions:
         parameters = len(script.definitions[name][0])
@@ -150,10 +150,15 @@ def uses_in(tree):
     if tree[0] in ("dot", "prefix"):
         return [(tree[0], tree[1], len(tree[2])), *uses_in(tree[2]), *uses_in(list(tree[3:]))]
     if tree[0] == "production":
-        return [use for _, fields in tree[1] for use in uses_in(fields)] + uses_in(tree[2])
+        return parts_in(tree[1]) + uses_in(tree[2])
     if tree[0] == "rename":
-        return uses_in(tree[1]) + [use for pair in tree[2] for _, fields in pair for use in uses_in(fields)] + uses_in(tree[3])
+        return uses_in(tree[1]) + [use for pair in tree[2] for use in parts_in(pair)] + uses_in(tree[3])
     return [use for part in tree[1:] if isinstance(part, (list, tuple)) for use in uses_in(part)]
+
+
+def parts_in(parts):
+    """The uses in the parts of a production or a renaming, where fields may be left out."""
+    return [use for name, fields in parts for use in [("part", name, len(fields)), *uses_in(fields)]]
 
 
 # what grows, and what ends
@@ -170,9 +175,9 @@ def about_growth(network, told):
     terms = terms_told(network, told)
     if not terms:
         return []
-    if told.line.endswith("depth over 800"):
-        return about_piles(network, terms)
-    found = []
+    found = about_piles(network, terms) if told.number == "10" and not told.line.endswith("terms") else []
+    if found:
+        return found
     for name, values in sorted(terms.uses.items(), key=lambda item: -len(item[1]))[:3]:
         parameters = network.script.definitions[name][0]
         if len(values) < 2:

@@ -4,7 +4,7 @@ This serves the reader of reports alone, and it proves nothing."""
 import collections
 
 from script import NoScript
-from trees import Parser
+from trees import Parser, written
 from values import NoValue
 
 # How a component is written, as far as it is a name or a call; that name, with the values of its arguments; its alphabet; its tree with the values of the
@@ -86,5 +86,9 @@ class Layout:
         chosen = whole[0] == "if"
         if tree[0] not in ("name", "call"):
             return Component(None, None, [], alphabet, chosen, whole, bound)
-        values = [script.value(item, bound) for item in (tree[2] if tree[0] == "call" else [])]
+        try:
+            values = [script.value(item, bound) for item in (tree[2] if tree[0] == "call" else [])]
+        except NoValue:
+            # the program meets this fault in the component, and so do its terms
+            return Component(written(tree), tree[1], [], alphabet, chosen, whole, bound)
         return Component(script.use(tree[1], values), tree[1], values, alphabet, chosen, whole, bound)

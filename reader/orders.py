@@ -2,7 +2,7 @@
 import collections
 
 from reports import node_after
-from texts import listed, trace_text
+from texts import MOST_NAMED, listed, trace_text
 
 
 class Rounds:
@@ -98,7 +98,8 @@ def at_once(rounds, trace, event):
     if not others:
         return []
     number, events = min(others.items())
-    return [f"links {rounds.link(min(own, number))} and {rounds.link(max(own, number))} are possible at once: {event} (with {rounds.neighbour(own)}) and {listed(events)} (with {rounds.neighbour(number)})"]
+    links = f"links {rounds.link(min(own, number))} and {rounds.link(max(own, number))} are possible at once"
+    return [f"{links}: {event} (with {rounds.neighbour(own)}) and {listed(events)} (with {rounds.neighbour(number)})"]
 
 
 def used_before(rounds, trace, event):
@@ -138,12 +139,13 @@ def orders_of(rounds):
 def about_circle(network, told):
     """24: the links in their order, with what each comes before, and for whom."""
     found = ["", "The links of the circle, in its order:"]
-    for place, (one, other) in enumerate(told.links):
+    for place, (one, other) in enumerate(told.links[:MOST_NAMED]):
         following = told.links[(place + 1) % len(told.links)]
         between = [part for part in (one, other) if part in following]
         found.append(f"  {one} - {other}, {network.short(one)} with {network.short(other)}: {listed(network.shared(one, other), 8)}")
         found.append(f"    comes before {following[0]} - {following[1]}" + (f" for {network.short(between[0])}" if between else ""))
         found += order_lines(network, between[0], (one, other), following) if between else []
+    found += [f"  and so on, {len(told.links)} links in all"] if len(told.links) > MOST_NAMED else []
     return found + ["  To break the circle, let one of them take its two links the other way round."]
 
 
@@ -170,7 +172,8 @@ def about_ends(network, told):
         found += short_ends(network, part, shared, told.traces.get(part, []))
     cause = cause_of(network, told)
     if cause == "several":
-        found.append(f"  {', '.join(network.short(part) for part in collectors(network, left, right))} does one event with each of several before the next with any of them: it collects.")
+        who = ", ".join(network.short(part) for part in collectors(network, left, right))
+        found.append(f"  {who} does one event with each of several before the next with any of them: it collects.")
     elif cause == "handshake":
         found.append("  The link has different events at different moments: one goes there, the other comes back.")
     return found

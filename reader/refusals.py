@@ -1,10 +1,9 @@
 """What a refusal names in the script: names, assertions, alphabets, sizes. It proves nothing."""
 import difflib, re
 
-from faults import about_count, about_end, about_growth, about_silence, about_value, holds, openly, uses_in
+from faults import about_count, about_end, about_growth, about_silence, about_value, holds, uses_in
 from layout import Layout
 from network import NOT_FOLLOWED
-from reports import ask, text_of
 from texts import MOST_NAMED, listed
 from trees import Parser, written
 

@@ -28,7 +28,8 @@ class Roles:
 
     def is_client(self, client, server, shared):
         asks, serves = self.sets(client), self.sets(server)
-        return all((event in asks[0]) == (event in serves[2]) and (event in asks[1]) == (event in serves[3]) and event not in asks[2] | asks[3] | serves[0] | serves[1] for event in shared)
+        besides = asks[2] | asks[3] | serves[0] | serves[1]
+        return all((event in asks[0]) == (event in serves[2]) and (event in asks[1]) == (event in serves[3]) and event not in besides for event in shared)
 
     def client_of(self, link):
         """The client of a link, or nothing where the ends don't agree."""
@@ -204,8 +205,9 @@ def untaken(network, roles, part, trace):
         answers = [event for event in link.events if event in roles.sets(part)[1]]
         for offer in offers_after(network, part, trace)[0]:
             missing = [event for event in answers if event not in offer]
+            asked = f"it has asked {network.short(other_end(link, part))} by {roles.open_by(link, trace)}"
             if missing:
-                found.append(f"  where it waits for {listed(offer, 12)}, it has asked {network.short(other_end(link, part))} by {roles.open_by(link, trace)} and doesn't take the answers {listed(missing, 12)}")
+                found.append(f"  where it waits for {listed(offer, 12)}, {asked} and doesn't take the answers {listed(missing, 12)}")
     return ["", f"{network.short(part)} after {trace_text(trace)}:", *found] if found else []
 
 
@@ -245,10 +247,13 @@ def cuts(network, roles, parts):
     for place, part in enumerate(parts):
         before, after = parts[place - 1], parts[(place + 1) % len(parts)]
         trace = owing(network, roles, part, before, after)
+        who, client, server = (network.short(one) for one in (part, before, after))
         if trace is None:
-            found.append(f"  {network.short(part)} never asks {network.short(after)} while it owes {network.short(before)} an answer: as two components, one that is asked and one that asks, it would cut the circle")
+            split = "as two components, one that is asked and one that asks, it would cut the circle"
+            found.append(f"  {who} never asks {server} while it owes {client} an answer: {split}")
         elif trace:
-            found.append(f"  {network.short(part)} after {trace_text(trace[:-1])} owes {network.short(before)} an answer and may ask {network.short(after)} by {trace[-1]}: to cut here, it must answer before it asks, or without asking")
+            cut = "to cut here, it must answer before it asks, or without asking"
+            found.append(f"  {who} after {trace_text(trace[:-1])} owes {client} an answer and may ask {server} by {trace[-1]}: {cut}")
     return found
 
 

@@ -9,7 +9,6 @@ LAST_EVENTS = 40
 SEEDS = 20
 STEPS = 1000
 MOST_SECONDS = 3
-# Each of the first events of a run is told with its silent steps; of all events of a long run, the last ones.
 
 
 def about_run(network, told):
@@ -43,10 +42,10 @@ def about_standstill(network, walk):
     found = ["", "Stuck. Where each component stands, what it waits for, and of whom:"]
     circle = stand.circle()
     first = circle + [part for part in range(network.count) if part not in circle]
-    for part in sorted(first[: max(MOST_NAMED, len(circle))]):
+    for part in sorted(first[:MOST_NAMED]):
         found.append(f"  {network.called(part)}, at node {walk.nodes[part]}{after_last(walk, part)}: {waiting(network, stand, part)}")
-    if network.count > max(MOST_NAMED, len(circle)):
-        found.append(f"  and {network.count - max(MOST_NAMED, len(circle))} more components")
+    if network.count > MOST_NAMED:
+        found.append(f"  and {network.count - MOST_NAMED} more components")
     if not stand.settled:
         found.append("  (which of several sets a component waits for, the tables don't tell; the first is taken)")
     return found + circle_lines(network, stand, circle)
@@ -71,10 +70,10 @@ def circle_lines(network, stand, circle):
     if not circle:
         return []
     found = ["", "A circle of waiting:"]
-    for part, other in zip(circle, circle[1:] + circle[:1]):
+    for part, other in list(zip(circle, circle[1:] + circle[:1]))[:MOST_NAMED]:
         events = [event for event, others in stand.waits(part) if other in others]
         found.append(f"  {network.short(part)} waits for {network.short(other)}: {listed(events, 6)}")
-    return found
+    return found + ([f"  and so on, {len(circle)} components in all"] if len(circle) > MOST_NAMED else [])
 
 
 def about_movers(network, walk):
