@@ -198,7 +198,8 @@ class Proposal:
             elif wanted[calls.index(call)] != events:
                 other = parts[[tuple(self.network.components[part].values) for part in parts].index(call)]
                 raise NoAnnotation(f"{self.network.called(other)} and {self.network.called(part)} are the same call and need other sets: give {name} a parameter that tells them apart")
-        parameters = self.script.body_of(name)[0]
+        # a parameter that hides a declared name would hide it in the sets too
+        parameters = [self.free_name(own) if own in self.taken else own for own in self.script.body_of(name)[0]]
         finder = Finder(self.script, parameters, calls)
         lines, names = [], []
         for place, ending in enumerate(ENDINGS[self.kind]):

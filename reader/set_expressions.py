@@ -297,13 +297,20 @@ class Finder:
                 cost += term.cost
                 continue
             own = next(bound)
-            over = self.ranging(own, ranges[number], fields[number], known)
+            over = self.whole(own, name, number, ranges[number], known) or self.ranging(own, ranges[number], fields[number], known)
             if over is None:
                 return None
             head.append(own)
             generators.append(over.text)
             cost += 2 + over.cost
         return Piece(cost + (last < len(chosen)), (".".join(head), last < len(chosen)), tuple(generators), guard.text if guard else None, events)
+
+    def whole(self, own, channel, number, ranges, known):
+        """A generator over the set that the channel's declaration names for a field, where all of it is wanted; else nothing."""
+        written, every = self.script.field_trees(channel)[number], frozenset(self.script.fields_of(channel)[number])
+        if written[0] != "name" or any(ranges[place] != every for place in known):
+            return None
+        return Term(1, f"{own} <- {written[1]}", ())
 
     def ranging(self, name, ranges, field, known):
         """A generator for a bound name over what it ranges over at each call."""
