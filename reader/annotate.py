@@ -5,9 +5,9 @@ import collections, concurrent.futures, os, pathlib, sys, tempfile
 
 from network import KINDS, Network
 from reports import ask, text_of
-from find_roles import Roles
+from find_roles import Roles, named_events
 from script import NoScript, tokens_of
-from set_expressions import NO_VALUE, Finder, evaluated
+from set_expressions import NO_VALUE, Finder, has_values
 from texts import MOST_NAMED, listed
 from find_resources import Uses
 
@@ -176,7 +176,7 @@ class Proposal:
     def __init__(self, network, kind, sets):
         self.network, self.kind, self.script = network, kind, network.script
         self.taken = set(self.script.definitions) | set(self.script.channels) | set(self.script.consts) | set(self.script.datatypes)
-        self.texts = {part: {self.script.text(event): event for event in network.components[part].alphabet} for part in range(network.count)}
+        self.texts = [named_events(network, part) for part in range(network.count)]
         self.added, self.empty = {}, {}
         self.noted = {note[1] for note in self.script.notes if note[0] == kind}
         named = collections.defaultdict(list)
@@ -208,7 +208,7 @@ class Proposal:
             if not found:
                 found = self.free_name(f"{name}_{ending}" if any(column) else f"NONE{len(parameters) or ''}")
                 text = finder.expression(column)
-                if text is None or any(evaluated(self.script, text, parameters, call) != events for call, events in zip(calls, column)):
+                if text is None or not has_values(self.script, text, parameters, calls, column):
                     raise NoAnnotation(f"no expression was found for the sets of {name}, which are told apart by a parameter that can't be compared")
                 lines.append(f"{found}({','.join(parameters)}) = {text}" if parameters else f"{found} = {text}")
                 if not any(column):
@@ -280,7 +280,7 @@ def annotate(program, kind, script):
         sys.stdout.buffer.write(refusal.sent)
         return refusal.status
     told(TOP_LINE.format(RULE[kind]))
-    if not network.components:
+    if not network.components or (network.count > 1 and any(component.alphabet is None for component in network.components)):
         told("this program can't follow the network of the script")
         return 70
     try:

@@ -35,6 +35,11 @@ def circle_of(after):
     return best
 
 
+def named_events(network, part):
+    """The events of a component's alphabet by their texts."""
+    return {network.script.text(event): event for event in network.components[part].alphabet}
+
+
 class Turns:
     """A component's table beside the count of a link's events so far, even or odd."""
 
@@ -71,13 +76,14 @@ class Roles:
     def __init__(self, network):
         self.network = network
         self.links = network.links()
-        self.turns, self.readings, self.faults = {}, {}, {}
+        self.turns, self.readings, self.faults, self.chief = {}, {}, {}, {}
         shared = [{event for link in network.links_of(part) for event in link.events} for part in range(network.count)]
         # where a component waits for shared events alone: the place in its table and the events
         self.waits = [
             [(node, frozenset(offer)) for node, at in enumerate(network.table(part).nodes) for offer in at.accepts if offer and shared[part].issuperset(offer)]
             for part in range(network.count)
         ]
+        self.events = [named_events(network, part) for part in range(network.count)]
         for place, link in enumerate(self.links):
             for part in (link.left, link.right):
                 self.turns[part, place] = Turns(network.table(part), set(link.events))
@@ -222,15 +228,30 @@ class Roles:
         return variables if all(variables) else None
 
     def shape(self, part, place):
-        """How a link's events look from one end: the definition, and which of its parameters stand in which field."""
+        """How a link's events look from one end: the definition, and in which fields its parameters stand."""
         component = self.network.components[part]
         if not component.name or component.chosen:
             return (str(part),)
         seen = set()
-        for event in component.alphabet:
-            if self.network.script.text(event) in set(self.links[place].events):
-                seen.add((event.channel, tuple(tuple(i for i, value in enumerate(component.values) if value == field) for field in event.fields)))
+        for text in self.links[place].events:
+            event = self.events[part][text]
+            chief = self.chief_parameters(component.name, event.channel)
+            seen.add((event.channel, tuple(at is not None and component.values[at] == field for at, field in zip(chief, event.fields))))
         return (component.name, *sorted(seen))
+
+    def chief_parameters(self, name, channel):
+        """For each field of a channel the parameter of a definition that is found there most often among all its calls."""
+        if (name, channel) not in self.chief:
+            counts = collections.defaultdict(collections.Counter)
+            fields = 0
+            for component in self.network.components:
+                if component.name == name and not component.chosen:
+                    own = [event.fields for event in component.alphabet if event.channel == channel]
+                    fields = max([fields, *map(len, own)])
+                    for field in range(fields):
+                        counts[field].update(at for at, value in enumerate(component.values) if any(event[field] == value for event in own))
+            self.chief[name, channel] = [min(counts[field], key=lambda at: (-counts[field][at], at), default=None) for field in range(fields)]
+        return self.chief[name, channel]
 
     def circle(self, chosen):
         """Components each of which asks the next, the last the first; nothing where there are none."""

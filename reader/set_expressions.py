@@ -2,7 +2,7 @@
 
 Patterns of events, whose fields are parameters, what is computed of them, or all values of a set, are taken together until they give each call exactly its
 events. What no pattern covers is listed call by call. It proves nothing; what is found is evaluated again by whoever asks."""
-import collections, itertools
+import collections, functools, itertools
 
 from script import NoScript
 from trees import BINARY, Parser
@@ -56,6 +56,11 @@ def is_number(value):
     return isinstance(value, int) and not isinstance(value, bool)
 
 
+def both(one, two):
+    """Two conditions at once, with parentheses as the reader's own trees need them."""
+    return f"({one}) and ({two})"
+
+
 class Terms:
     """What can be said of the parameters of a process, with its value at each of the calls."""
 
@@ -97,12 +102,15 @@ class Terms:
                             Term(6 + step, f"(({name}+{span - step})%{span})", [(v - step) % span for v in column]),
                         ]
                 self.fields += [Term(6, f"({top}-{name})", [top - v for v in column]) for top in {span - 1, span}]
-                self.fields += [Term(7, f"({name}/2)", [v // 2 for v in column]), Term(7, f"({name}%2)", [v % 2 for v in column]), Term(7, f"({name}*2)", [v * 2 for v in column])]
+                self.fields += [Term(7, f"({name}/2)", [v // 2 for v in column]), Term(7, f"({name}%2)", [v % 2 for v in column]), Term(7, f"(2*{name})", [v * 2 for v in column])]
+                # the nodes below one of a tree, and the one above
+                self.fields += [Term(7 + step, f"((2*{name})+{step})", [v * 2 + step for v in column]) for step in (1, 2)]
+                self.fields.append(Term(9, f"(({name}-1)/2)", [(v - 1) // 2 for v in column]))
         numbers = [place for place in range(len(self.parameters)) if all(is_number(value) for value in self.column(place))]
         for one, two in itertools.permutations(numbers, 2):
             left, right, wide = self.column(one), self.column(two), max(self.column(two)) + 1
             names = self.parameters[one], self.parameters[two]
-            self.fields.append(Term(8, f"({names[0]}*{wide}+{names[1]})", [a * wide + b for a, b in zip(left, right)]))
+            self.fields.append(Term(8, f"(({names[0]}*{wide})+{names[1]})", [a * wide + b for a, b in zip(left, right)]))
             if one < two:
                 self.fields.append(Term(7, f"({names[0]}+{names[1]})", [a + b for a, b in zip(left, right)]))
             self.fields.append(Term(7, f"({names[0]}-{names[1]})", [a - b for a, b in zip(left, right)]))
@@ -154,12 +162,12 @@ class Terms:
                 if is_number(value):
                     plain += [Term(4, f"{name} < {text}", [v < value for v in column]), Term(4, f"{name} > {text}", [v > value for v in column])]
             if all(is_number(value) for value in column):
-                plain += [Term(5, f"{name}%2 == {odd}", [v % 2 == odd for v in column]) for odd in (0, 1)]
-        plain += self.guards
+                plain += [Term(5, f"({name}%2) == {odd}", [v % 2 == odd for v in column]) for odd in (0, 1)]
+        plain = [*self.guards, *plain]
         self.guards = plain
         if len(plain) <= 60:
             for one, two in itertools.combinations(plain, 2):
-                self.guards = self.guards + [Term(one.cost + two.cost, f"{one.text} and {two.text}", [a and b for a, b in zip(one.values, two.values)])]
+                self.guards = self.guards + [Term(one.cost + two.cost, both(one.text, two.text), [a and b for a, b in zip(one.values, two.values)])]
 
     def exactly(self, at):
         """The condition that this call meets alone, or nothing where its parameters can't be compared."""
@@ -170,7 +178,7 @@ class Terms:
                     return None
                 continue
             parts.append(f"{name} == {self.written(value)}")
-        return Term(9, " and ".join(parts), [place == at for place in range(len(self.calls))])
+        return Term(9, functools.reduce(both, parts), [place == at for place in range(len(self.calls))]) if parts else None
 
     def written(self, value):
         text = self.script.text(value)
@@ -357,7 +365,14 @@ class Finder:
         return texts[0]
 
 
-def evaluated(script, text, parameters, call):
-    """The value of an expression as it is printed."""
-    script.steps = 0
-    return script.value(Parser(text).tree(), dict(zip(parameters, call)))
+def has_values(script, text, parameters, calls, wanted):
+    """Whether an expression, as it is printed, has the wanted value at each call."""
+    try:
+        tree = Parser(text).tree()
+        for call, events in zip(calls, wanted):
+            script.steps = 0
+            if script.value(tree, dict(zip(parameters, call))) != events:
+                return False
+    except NO_VALUE:
+        return False
+    return True
