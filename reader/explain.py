@@ -7,7 +7,7 @@ from network import KINDS, NOT_FOLLOWED, Network
 from orders import about_circle, about_ends, about_order, cause_of, way_of
 from pages import language_rows, section, signs_of
 from parts import about_links, about_part, about_stop
-from refusals import ABOUT as REFUSALS, about_components_differ, about_events_differ
+from refusals import ABOUT as REFUSALS, about_components_differ, about_events_differ, declaration_before
 from reports import ask, table_of, told_by
 from roles import about_clients, about_roles, answers_of
 from runs import about_run, about_tries
@@ -69,8 +69,8 @@ def explained(told, network=None, specification=None):
     here = about_comments(named, told)
     here += about_place(named, told) if refused else []
     here += here_of(told, network, specification)
-    here += about_language(named, told) if refused else []
-    return Explained(here, *about_page(told, keys_of(told, named)), about_network(named, told) if refused else [])
+    here += attempt(about_language, named, told) if refused else []
+    return Explained(here, *about_page(told, attempt(keys_of, told, named)), attempt(about_network, named, told) if refused else [])
 
 
 def here_of(told, network, specification):
@@ -78,17 +78,22 @@ def here_of(told, network, specification):
     if not network:
         return []
     if told.number in COMPARED:
-        return COMPARED[told.number](network, specification, told)
+        return attempt(COMPARED[told.number], network, specification, told)
     network = specification if told.specification else network
     if told.command == "run" and told.status in (0, 1):
-        return about_run(network, told)
+        return attempt(about_run, network, told)
     if told.command == "livelock" and told.status == 0:
-        return about_hidden(network, told)
+        return attempt(about_hidden, network, told)
+    found = attempt(ABOUT[told.number], network, told) if told.number in ABOUT else []
+    return found + (attempt(about_tries, network) if told.rule and told.status == 1 else [])
+
+
+def attempt(function, *arguments):
+    """What a function tells, or nothing where it can't follow the script: then the report and the page stand alone."""
     try:
-        found = ABOUT[told.number](network, told) if told.number in ABOUT else []
+        return function(*arguments)
     except NOT_FOLLOWED:
-        found = []
-    return found + (about_tries(network) if told.rule and told.status == 1 else [])
+        return []
 
 
 def keys_of(told, network):
@@ -152,12 +157,7 @@ def lines_near(network, place):
     near = lines[row - 1 : row]
     if not near or near[0][: column - 1].strip():
         return near
-    before = []
-    for line in reversed(lines[: row - 1]):
-        before += [line] if line.strip() and not re.match(r"\s*--(?!@)", line) else []
-        if re.match(r"\S[^=]*=(?!=)|--@", line):
-            break
-    return [" ".join(reversed(before)), *near]
+    return [" ".join(declaration_before(lines[: row - 1])), *near]
 
 
 def about_network(network, told):

@@ -3,7 +3,7 @@ from layout import Layout
 from network import NOT_FOLLOWED
 from script import NoScript
 from terms import terms_of
-from texts import MOST_NAMED, listed
+from texts import MOST_NAMED, counted, listed
 from trees import Parser, written
 from values import Event, NoValue
 
@@ -20,7 +20,7 @@ def about_value(network, told):
     found, seen = [], set()
     for fault in faults:
         key = written(fault.tree), fault.uses[0][0] if fault.uses else None
-        if key not in seen and len(seen) < 6:
+        if key not in seen and len(seen) < 3:
             seen.add(key)
             found += fault_lines(network, fault)
     return found
@@ -117,11 +117,11 @@ def count_lines(network, form, name, parts):
     if name in script.channels:
         fields = len(script.field_trees(name))
         if parts > fields or (parts < fields and form != "part"):
-            return [f"{name} has {counted(fields, 'field')} ({declared}: {network.text(script.names[name])[0].strip()}) and stands here with {parts}"]
+            return [f"{name} has {counted(fields or 'no', 'field')} ({declared}: {network.text(script.names[name])[0].strip()}) and stands here with {parts}"]
     elif name in script.definitions:
         parameters = len(script.definitions[name][0])
         if parameters != parts:
-            return [f"{name} has {counted(parameters, 'parameter')} ({declared}: {network.text(script.names[name])[0].strip()}) and is called here with {parts}"]
+            return [f"{name} has {counted(parameters or 'no', 'parameter')} ({declared}: {network.text(script.names[name])[0].strip()}) and is called here with {parts}"]
     return []
 
 
@@ -130,11 +130,7 @@ def annotation_counts(script, words):
         return []
     wanted = len(script.definitions[words[1]][0])
     own = [(name, len(script.definitions[name][0])) for name in words[2:] if name in script.definitions]
-    return ["", *(f"{name} has {counted(have, 'parameter')}, and {words[1]}, which it is a set of, has {wanted}" for name, have in dict.fromkeys(own) if have != wanted)]
-
-
-def counted(number, what):
-    return f"{number or 'no'} {what}{'' if number == 1 else 's'}"
+    return ["", *(f"{name} has {counted(have or 'no', 'parameter')}, and {words[1]}, which it is a set of, has {wanted}" for name, have in dict.fromkeys(own) if have != wanted)]
 
 
 def uses_in(tree):

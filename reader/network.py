@@ -2,7 +2,7 @@
 
 All that the program can tell is asked of it (`show`, `table`), each thing once. How components are called, and alphabets, stand in no report: they are
 evaluated from what `show` prints, and where that can't be followed the tables alone are gone by. It proves nothing."""
-import collections, os, pathlib, re, stat, tempfile
+import collections, pathlib, re, tempfile
 
 from layout import Layout
 from reports import ask, events_of, table_of, text_of
@@ -16,7 +16,7 @@ Noted = collections.namedtuple("Noted", "name meaning events")
 KINDS = {"client-server": "roles", "resource": "resource"}
 MEANINGS = {"roles": ("requests made", "answers got", "requests taken", "answers given"), "resource": ("acquire", "release")}
 MOST_BYTES = 1_048_576
-NOT_FOLLOWED = (NoScript, ValueError, TypeError, KeyError, IndexError, RecursionError)
+NOT_FOLLOWED = (NoScript, ValueError, TypeError, AttributeError, KeyError, IndexError, RecursionError, StopIteration)
 
 
 class Network:
@@ -43,19 +43,15 @@ class Network:
             self.components, self.operands = [], []
 
     def read(self):
-        """The bytes of the script. What is no plain file (a pipe, a terminal) gives them once, so it is kept in a file of its own."""
+        """The bytes of the script, which are read once and kept in a file of its own: a pipe gives them only once, and all that is asked is asked of one text."""
         try:
-            kind = os.stat(self.file).st_mode
-            if stat.S_ISDIR(kind):
-                return b""
             with open(self.file, "rb") as opened:
                 content = opened.read(MOST_BYTES + 1)
         except (OSError, ValueError):
             return b""
-        if not stat.S_ISREG(kind):
-            self.room = tempfile.TemporaryDirectory()
-            self.file = str(pathlib.Path(self.room.name) / "script.csp")
-            pathlib.Path(self.file).write_bytes(content)
+        self.room = tempfile.TemporaryDirectory()
+        self.file = str(pathlib.Path(self.room.name) / "script.csp")
+        pathlib.Path(self.file).write_bytes(content)
         return content
 
     def counted(self):
@@ -152,7 +148,7 @@ class Network:
                 parameters, body = self.script.body_of(name)
                 events = self.script.value(body, dict(zip(parameters, component.values)))
                 sets.append(Noted(name, meaning, self.script.texts(events)))
-        except (*NOT_FOLLOWED, AttributeError):
+        except NOT_FOLLOWED:
             return []
         return sets
 

@@ -5,6 +5,9 @@ from reports import node_after
 from texts import MOST_NAMED, listed, trace_text
 
 
+MOST_PAIRS = 200_000
+
+
 class Rounds:
     """The shared events of a component, as it comes to them: at which link each lies, and at which place of the round it is possible."""
 
@@ -176,7 +179,62 @@ def about_ends(network, told):
         found.append(f"  {who} does one event with each of several before the next with any of them: it collects.")
     elif cause == "handshake":
         found.append("  The link has different events at different moments: one goes there, the other comes back.")
-    return found
+    return found + missed(network, left, right, set(shared))
+
+
+def missed(network, left, right, shared):
+    """Whether the two, taken alone, can come to wait past each other on their link, and after what."""
+    found = past_each_other(network.table(left), network.table(right), shared)
+    if found is None:
+        return []
+    if not found:
+        return ["  Taken alone, the two never wait past each other on this link; the rule can't see that."]
+    trace, first, second = found
+    ends = f"{network.short(left)} waits for {listed(first, 8)} and {network.short(right)} for {listed(second, 8)}"
+    return [f"  They can wait past each other: after {trace_text(trace)} {ends}"]
+
+
+def past_each_other(left, right, shared):
+    """A shortest trace of two tables, which do the shared events together, and an offer of each on the link alone so that these do not meet; `()` where there
+    is none, nothing where it can't be told."""
+    if not left or not right:
+        return None
+    seen, todo = {(0, 0): None}, collections.deque([(0, 0)])
+    while todo:
+        nodes = todo.popleft()
+        offers = [[offer for offer in table.nodes[node].accepts if offer and set(offer) <= shared] for table, node in zip((left, right), nodes)]
+        for first in offers[0]:
+            for second in offers[1]:
+                if not set(first) & set(second):
+                    return way_to(seen, nodes), first, second
+        for event, following in joint_steps(left.nodes[nodes[0]], right.nodes[nodes[1]], nodes, shared):
+            if following not in seen:
+                seen[following] = (nodes, event)
+                todo.append(following)
+        if len(seen) > MOST_PAIRS:
+            return None
+    return ()
+
+
+def joint_steps(left, right, nodes, shared):
+    """The steps of two nodes together: (event, nodes)."""
+    other = dict(right.steps)
+    for event, to in left.steps:
+        if event not in shared:
+            yield event, (to, nodes[1])
+        elif event in other:
+            yield event, (to, other[event])
+    for event, to in right.steps:
+        if event not in shared:
+            yield event, (nodes[0], to)
+
+
+def way_to(seen, nodes):
+    trace = []
+    while seen[nodes] is not None:
+        nodes, event = seen[nodes]
+        trace.append(event)
+    return trace[::-1]
 
 
 def short_ends(network, part, shared, trace):
@@ -194,9 +252,11 @@ def short_ends(network, part, shared, trace):
 
 
 def cause_of(network, told):
-    """25: `choose` where an end could do what it doesn't wait for, `several` where one collects from several, else `handshake`."""
+    """25: `choose` where the ends may wait past each other, or one could do what it doesn't wait for; `several` where one collects from several; else `handshake`."""
     left, right = told.links[0]
     shared = set(network.shared(left, right))
+    if past_each_other(network.table(left), network.table(right), shared):
+        return "choose"
     for part in (left, right):
         table = network.table(part)
         node = node_after(table, told.traces.get(part, [])) if table else None

@@ -3,7 +3,7 @@ import pathlib, re
 
 # What in a line of the source leads to a row of the page on the language, by the row's first word or words.
 SIGNS = (
-    (r"\|\|\|", "interleaving"), (r"\[\|.*\|>", "interrupt"), (r"\[\|", "parallel over"), (r"<->", "linked parallel"), (r"\blet\b|\bwithin\b", "local definitions"),
+    (r"\|\|\|", "interleaving"), (r"\[\|.*\|>", "interrupt"), (r"\[\|(?!.*\|>)", "parallel over"), (r"<->", "linked parallel"), (r"\blet\b|\bwithin\b", "local definitions"),
     (r"^\s*\w+\([^)]*\b\d+\b[^)]*\)\s*=", "definitions by cases"), (r"<\s*>|<\w+(,\s*\w+)*>|\^|#", "sequences"), (r"\?_", "an input that doesn't"), (r"\?\w+\.", "several fields"),
     (r"datatype.*\.", "fields in a datatype"), (r"\b(union|inter|diff)\([^()]*,?\s*if\b", "an if within"), (r"/\\|\[>", "interrupt"), (r"\(\s*\w+\s*,\s*\w+\s*\)\s*\)", "tuples"),
     (r"\{-", "negative numbers"), (r"\binclude\b|\bprint\b", "files and print"), (r"[^\x00-\x7f]", "signs that are no ASCII"), (r"\[\].*\|~\||\|~\|.*\[\]", "mixed choices"),

@@ -7,6 +7,8 @@ from network import NOT_FOLLOWED
 from texts import MOST_NAMED, listed
 from trees import Parser, written
 
+# Words that are reserved and stand for nothing here.
+UNUSED = ("external", "lambda", "module", "subtype", "timed", "transparent")
 ASSERTION = re.compile(r"^\s*assert\b(.*)$")
 
 
@@ -37,6 +39,37 @@ def is_process(script, name, seen=()):
     if tree[0] in ("name", "call"):
         return tree[1] in script.definitions and tree[1] not in seen and is_process(script, tree[1], (*seen, name))
     return tree[0] in ("stop", "skip", "prefix", "choice", "over", "then", "guard", "hide", "rename", "pair", "each")
+
+
+def declaration_before(lines):
+    """The lines of the last declaration that begins in these, without comments."""
+    found = []
+    for line in reversed(lines):
+        found += [line] if line.strip() and not re.match(r"\s*--(?!@)", line) else []
+        if re.match(r"\S[^=]*=(?!=)|--@|(channel|assert)\b", line):
+            break
+    return found[::-1]
+
+
+def about_slip(network, told):
+    """1: a reserved word, or brackets that are not closed."""
+    lines, (row, column) = network.source.split("\n"), told.place
+    if row > len(lines):
+        return []
+    front = lines[row - 1].encode(errors="replace")[: column - 1].decode(errors="replace")
+    word = re.match(r"\w*", lines[row - 1][len(front) :])[0]
+    if word in UNUSED:
+        return ["", f"{word} is a reserved word, and no name."]
+    end = row - 1 if not front.strip() else next((place for place in range(row, len(lines)) if not re.match(r"\s+\S", lines[place])), len(lines))
+    # of forms of CSPm that are not taken, `[>` and `[|A|>` open what nothing closes, and `{-` is a comment
+    text = re.sub(r"--(?!@).*|\{-(.|\n)*|\[[>|]|\|[\]>]", "", "\n".join(declaration_before(lines[:end])))
+    counts = [(opens, text.count(opens), closes, text.count(closes)) for opens, closes in ("()", "{}", "[]")]
+    found = [f"  {opens} stands there {counted}, and {closes} {closed}" for opens, many, closes, few in counts if many != few for counted, closed in [(times(many), times(few))]]
+    return ["", "In the declaration of this place brackets are not closed, or not opened:", *found] if found else []
+
+
+def times(number):
+    return {0: "never", 1: "once", 2: "twice"}.get(number, f"{number} times")
 
 
 def about_assertions(network, told):
@@ -225,7 +258,7 @@ def about_events_differ(network, specification, told):
     """41: the two events at the number that is told."""
     try:
         first, second = (one.script.all_events() for one in (network, specification))
-    except (*NOT_FOLLOWED, AttributeError):
+    except NOT_FOLLOWED:
         return []
     number = int(told.line.split()[-1])
     texts = [one.script.text(events[number]) if number < len(events) else "nothing more" for one, events in ((network, first), (specification, second))]
@@ -249,7 +282,7 @@ def about_components_differ(network, specification, told):
 
 
 ABOUT = {
-    "2": about_value, "3": about_assertions, "4": about_unknown, "5": about_twice, "6": about_kinds, "7": about_count, "8": about_parallel, "9": about_events,
+    "1": about_slip, "2": about_value, "3": about_assertions, "4": about_unknown, "5": about_twice, "6": about_kinds, "7": about_count, "8": about_parallel, "9": about_events,
     "10": about_growth, "11": about_growth, "12": about_silence, "13": about_growth, "14": about_nesting, "15": about_empty, "19": about_end, "20": about_owners,
     "33": about_depth, "34": about_network_depth, "35": about_index, "36": about_length,
 }

@@ -3,7 +3,7 @@ import collections
 
 from network import MEANINGS
 from reports import node_after
-from texts import listed, trace_text
+from texts import MOST_NAMED, listed, trace_text
 
 KIND = "roles"
 
@@ -219,7 +219,7 @@ def about_clients(network, told):
     roles, parts = Roles(network), told.components
     found = ["", "The circle, each a client of the next:"]
     silent = []
-    for client, server in zip(parts, parts[1:] + parts[:1]):
+    for client, server in list(zip(parts, parts[1:] + parts[:1]))[:MOST_NAMED]:
         link = next((one for one in network.links() if {one.left, one.right} == {client, server}), None)
         if not link:
             return []
@@ -228,7 +228,8 @@ def about_clients(network, told):
         silent += [] if answers else [link]
         how = f"and gets {listed(answers, 6)}" if answers else "without an answer"
         found.append(f"  {client} - {server}, {network.short(client)} asks {network.short(server)} by {listed(asks, 6)}, {how}")
-    if len(silent) == len(parts):
+    found += [f"  and so on, {len(parts)} components in all"] if len(parts) > MOST_NAMED else []
+    if len(silent) == min(len(parts), MOST_NAMED):
         return found + ["  No link of it has answers: it is a ring in which things are handed on. Where fewer are under way than there is room for, it can't be stuck, which this rule",
                         "  doesn't see: look whether `cyclic` fits, or let them go down a line and not round."]
     return found + cuts(network, roles, parts)
@@ -244,12 +245,12 @@ def answers_of(network, told):
 def cuts(network, roles, parts):
     """Where the circle can be cut: of each component whether it asks the next while it owes an answer to the one before."""
     found = []
-    for place, part in enumerate(parts):
+    for place, part in enumerate(parts[:MOST_NAMED]):
         before, after = parts[place - 1], parts[(place + 1) % len(parts)]
         trace = owing(network, roles, part, before, after)
         who, client, server = (network.short(one) for one in (part, before, after))
         if trace is None:
-            split = "as two components, one that is asked and one that asks, it would cut the circle"
+            split = "it may be two components, one that is asked and one that asks, which cuts the circle"
             found.append(f"  {who} never asks {server} while it owes {client} an answer: {split}")
         elif trace:
             cut = "to cut here, it must answer before it asks, or without asking"

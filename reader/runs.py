@@ -2,7 +2,7 @@
 import collections, time
 
 from reports import ask, told_by
-from texts import MOST_NAMED, listed
+from texts import MOST_NAMED, counted, listed
 from walks import Standstill, Walk
 
 LAST_EVENTS = 40
@@ -13,11 +13,11 @@ MOST_SECONDS = 3
 
 def about_run(network, told):
     walk = Walk(network, told.steps)
-    found = folded(network, walk)
+    found = folded(network, walk, told.stuck)
     return found + (about_standstill(network, walk) if told.stuck else about_movers(network, walk))
 
 
-def folded(network, walk):
+def folded(network, walk, stuck):
     """The events of a run in their order, with who does each; silent steps are counted."""
     lines, silent = [], 0
     for step in walk.steps:
@@ -28,9 +28,10 @@ def folded(network, walk):
         lines.append(f"  {step.event}  ({who})" + (f", {silent} silent before it" if silent else ""))
         silent = 0
     lines += [f"  {silent} silent"] if silent else []
-    head = f"The run has {len(walk.events)} events and {walk.silent()} silent steps"
-    if len(lines) > LAST_EVENTS:
-        return ["", f"{head}; its last {LAST_EVENTS} lines, silent steps counted:", *lines[-LAST_EVENTS:]]
+    head = f"The run has {counted(len(walk.events), 'event')} and {counted(walk.silent(), 'silent step')}"
+    most = LAST_EVENTS if stuck else LAST_EVENTS // 4
+    if len(lines) > most:
+        return ["", f"{head}; its last {most} lines, silent steps counted:", *lines[-most:]]
     return ["", f"{head}, which are counted here:", *lines]
 
 
@@ -99,7 +100,8 @@ def about_tries(network):
             return ["", f"It can be stuck: `run SCRIPT {seed} {STEPS}` is after {len(told.steps)} steps (`--explain run SCRIPT {seed} {STEPS}` tells who waits for whom).", *circle_of(network, told)]
         if time.monotonic() - began > MOST_SECONDS:
             break
-    return ["", f"{tried} run{'s' if tried > 1 else ''} of {STEPS} steps (seed{'s 0 to' if tried > 1 else ''} {tried - 1}) went on, which proves nothing."]
+    seeds = f"seeds 0 to {tried - 1}" if tried > 1 else "seed 0"
+    return ["", f"{counted(tried, 'run')} of {STEPS} steps ({seeds}) went on, which proves nothing."]
 
 
 def circle_of(network, told):

@@ -2,7 +2,7 @@
 import collections
 
 from roles import annotation_lines, offers_after, other_end, unannotated
-from texts import listed, trace_text
+from texts import MOST_NAMED, listed, trace_text
 
 KIND = "resource"
 
@@ -114,7 +114,7 @@ def about_resources(network, told):
     """29: for each resource of the circle a user that holds it and may want the next, and after what."""
     uses, parts = Uses(network), told.components
     found = ["", "The circle: each resource is held while the next is wanted."]
-    for one, other in zip(parts, parts[1:] + parts[:1]):
+    for one, other in list(zip(parts, parts[1:] + parts[:1]))[:MOST_NAMED]:
         users = [part for part in range(network.count) if part not in parts and network.shared(part, one) and network.shared(part, other)]
         lines = []
         for user in users:
