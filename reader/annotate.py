@@ -94,10 +94,10 @@ def roles_of(network):
     lines = [
         f"  {network.short(reading.client)} asks {network.short(reading.server)}: {in_order(network, reading.client, reading.requests)}; "
         + (f"is answered: {in_order(network, reading.client, reading.answers)}" if reading.answers else "without answers")
-        for reading in chosen.values()
+        for _, reading in sorted(chosen.items())
     ]
     if not acyclic:
-        lines.append(f"clients in a circle: {', '.join(network.called(part) for part in found.circle(chosen))}; so `check` answers 27")
+        lines.append(f"clients in a circle: {listed([network.called(part) for part in found.circle(chosen)])}; so `check` answers 27")
     return sets, lines, acyclic
 
 
@@ -145,7 +145,7 @@ def uses_of(network):
     ]
     circle = found.circle(resources)
     if circle:
-        lines.append(f"resources in a circle: {', '.join(network.called(part) for part in circle)}; so `check` answers 29")
+        lines.append(f"resources in a circle: {listed([network.called(part) for part in circle])}; so `check` answers 29")
     return sets, lines, not circle
 
 
