@@ -4,7 +4,7 @@ from network import NOT_FOLLOWED
 from script import NoScript
 from terms import terms_of
 from texts import MOST_NAMED, counted, listed
-from trees import Parser, written
+from trees import Parser, operand, written
 from values import Event, NoValue
 
 
@@ -103,9 +103,11 @@ def about_count(network, told):
         return annotation_counts(script, line.split()[1:])
     body = line[7:].rsplit(" : [ deadlock free ]", 1)[0] if line.startswith("assert ") else line.partition(" = ")[2]
     try:
-        for form, name, parts in uses_in(Parser(body).tree()):
+        tree = Parser(body).tree()
+        for form, name, parts in uses_in(tree):
             if name == told.event:
                 found += count_lines(network, form, name, parts)
+        found += renaming_lines(script, tree) if told.event in script.channels else []
     except NoScript:
         return []
     return ["", *dict.fromkeys(found)] if found else []
@@ -123,6 +125,19 @@ def count_lines(network, form, name, parts):
         if parameters != parts:
             return [f"{name} has {counted(parameters or 'no', 'parameter')} ({declared}: {network.text(script.names[name])[0].strip()}) and is called here with {parts}"]
     return []
+
+
+def renaming_lines(script, tree):
+    """The sides of a renaming that leave different numbers of fields out."""
+    if not isinstance(tree, (list, tuple)):
+        return []
+    found = []
+    for old, new in tree[2] if isinstance(tree, tuple) and tree and tree[0] == "rename" else ():
+        out = [len(script.field_trees(name)) - len(fields) for name, fields in (old, new) if name in script.channels]
+        if len(out) == 2 and out[0] != out[1]:
+            texts = [".".join([name, *(operand(field) for field in fields)]) for name, fields in (old, new)]
+            found.append(f"{texts[0]} <- {texts[1]}: {texts[0]} leaves {counted(out[0] or 'no', 'field')} out, and {texts[1]} {out[1] or 'none'}")
+    return found + [line for part in tree for line in renaming_lines(script, part)]
 
 
 def annotation_counts(script, words):
