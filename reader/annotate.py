@@ -24,7 +24,7 @@ class NoAnnotation(Exception):
 
 def told(*lines):
     for line in lines:
-        print(f"dlcheck-reader: {line}" if not line.startswith(" ") else line, file=sys.stderr)
+        print(f"dlcheck: {line}" if not line.startswith(" ") else line, file=sys.stderr)
 
 
 # what the sets hold
