@@ -1,0 +1,2 @@
+" Scripts of dlcheck
+autocmd BufNewFile,BufRead *.csp setfiletype csp
