@@ -15,6 +15,7 @@ pub mod Ranking
 pub mod RawForm
 pub mod RawTable
 pub mod Roles
+pub mod RowOrder
 pub mod Shape
 pub mod ShapeOf
 pub mod SilentBound

@@ -1,7 +1,8 @@
 pub mod Agreements
-pub mod Choices
+pub mod Draws
 pub mod Numbered
 pub mod Numbers
 pub mod Options
+pub mod Rows
 pub mod Steps
 pub mod Walks

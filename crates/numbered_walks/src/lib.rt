@@ -3,11 +3,12 @@
 #![tactic(auto)]
 
 mod agreement;
-mod choices;
+mod draws;
 mod mover;
 mod moves;
 mod numbers;
 mod owners;
+mod rows;
 mod standing;
 mod walking;
 
