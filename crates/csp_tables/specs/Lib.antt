@@ -14,6 +14,7 @@ pub mod Path
 pub mod Ranking
 pub mod RawForm
 pub mod RawTable
+pub mod RowOrder
 pub mod Roles
 pub mod RowOrder
 pub mod Shape

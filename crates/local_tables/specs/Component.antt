@@ -1,8 +1,10 @@
 -- A component of a program, and what stands for it: terms that it reaches by itself, and steps of these.
-use Rattle.std.specs.Prelude.{◌≡◌, ℕ, ◌+◌, Ok, Some, List, length, slice_get}
+use Rattle.std.specs.Prelude.{◌≡◌, ℕ, ◌+◌, IsTrue, Ok, Some, List, length, slice_get}
+use Rattle.csp_base.specs.Members.{has}
 use Rattle.csp_program.specs.declared.processes.Proc.{Proc}
 use Rattle.csp_program.specs.declared.programs.Content.{Content}
 use Rattle.csp_tables.specs.Label.{Label}
+use Rattle.csp_tables.specs.Label.Label.{silent, visible}
 use Rattle.csp_tables.specs.Path.{Reached}
 use Rattle.csp_tables.specs.Network.{Component, ComponentStep}
 use Rattle.csp_tables.specs.RawTable.{IsStepOf, RawStep, RawTable, standing_at}
@@ -11,6 +13,11 @@ use Rattle.csp_base.specs.Lists.{EachOnce}
 
 abbrev pub component : List ℕ → Proc → Component Proc
 component alphabet term = record { alphabet = alphabet; term = term }
+
+-- the label is silent, or an event of the alphabet
+abbrev pub IsInside : List ℕ → Label → Type 0
+IsInside alphabet silent = Unit {0}
+IsInside alphabet (visible e) = IsTrue (has alphabet e)
 
 -- the term has a list of steps
 abbrev pub HasList : Content → Proc → Type 0

@@ -5,10 +5,13 @@ use Rattle.csp_program.specs.Depth.{proc_depth}
 use Rattle.csp_program.specs.Size.{proc_size}
 use Rattle.csp_program.specs.declared.processes.Proc.{Proc}
 use Rattle.csp_program.specs.declared.programs.Content.{Content}
+use Rattle.csp_steps.specs.Order.{AreTargets}
+use Rattle.csp_tables.specs.Label.{Label}
 use Rattle.csp_tables.specs.Network.{Component}
-use Rattle.csp_tables.specs.RawTable.{IsTableOf}
+use Rattle.csp_tables.specs.RawTable.{IsTableOf, RawTable}
+use Rattle.csp_tables.specs.RowOrder.{targets_in}
 use Rattle.process_steps.specs.ComponentStep.{ProcessStep, Ticks}
-use Rattle.local_tables.specs.Component.{HasList, step_count}
+use Rattle.local_tables.specs.Component.{HasList, IsInside, step_count}
 use Rattle.local_tables.specs.declared.local_table.LocalTable.{LocalTable}
 use Rattle.local_tables.specs.Room.{Room}
 use Rattle.csp_base.specs.Lists.{total}
@@ -19,8 +22,14 @@ pub record IsFit (p : Content) (x : Proc) : Type 0 where
   pub goes_on : Ticks p x → ⊥
   pub shallow : proc_depth x ≤ MOST_TERM_DEPTH
 
+-- By the label, the table leads from m to the terms to which x goes, in the same order.
+pub record IsInOrder (p : Content) (terms : List Proc) (raw : RawTable) (m : ℕ) (x : Proc) (l : Label) : Type 0 where
+  pub targets : List Proc
+  pub are : AreTargets p x l targets
+  pub same : map (λ n. slice_get terms n) (targets_in raw m l) ≡ map (λ t. Some t) targets
+
 -- The terms and steps are exactly those of the component, and each term is fit. They are within the limits and the room, and the room that they
--- take is told.
+-- take is told. The steps of a term by a label are in the order of its list of steps.
 pub record IsLocalTable (p : Content) (c : Component Proc) (room : Room) (made : LocalTable) : Type 0 where
   pub terms : List Proc
   pub table : IsTableOf (ProcessStep p) c terms made.table
@@ -30,3 +39,4 @@ pub record IsLocalTable (p : Content) (c : Component Proc) (room : Room) (made :
   pub steps : step_count made.table ≡ made.used.steps
   pub room_for_nodes : made.used.nodes ≤ room.nodes
   pub room_for_steps : made.used.steps ≤ room.steps
+  pub order : (m : ℕ) (x : Proc) (l : Label) → slice_get terms m ≡ Some x → IsInside c.alphabet l → IsInOrder p terms made.table m x l

@@ -19,7 +19,7 @@ use Rattle.process_steps.specs.declared.label.Label.TheVariants.{Silent, Visible
 use Rattle.term_pool.specs.Trees.{tree_at}
 use Rattle.pool_parts.specs.Counting.{capped}
 use Rattle.pool_parts.specs.declared.place.ProcId.{ProcId}
-use Rattle.local_tables.specs.Component.{AreSteps, AreTerms, HasList, step_count}
+use Rattle.local_tables.specs.Component.{AreSteps, AreTerms, HasList, IsInside, step_count}
 use Rattle.local_tables.specs.declared.found.Found.{Found}
 use Rattle.local_tables.specs.Room.{Room}
 use Rattle.csp_base.specs.Lists.{total}
@@ -35,11 +35,6 @@ label_of (Some e) = visible e
 abbrev pub process_label : Label → ProcessLabel
 process_label silent = Silent
 process_label (visible e) = Visible e
-
--- the label is silent, or an event of the alphabet
-abbrev pub IsInside : List ℕ → Label → Type 0
-IsInside alphabet silent = Unit {0}
-IsInside alphabet (visible e) = IsTrue (has alphabet e)
 
 -- the size of a term, whose counting stops at 4,294,967,295
 abbrev pub counted_size : Proc → ℕ
