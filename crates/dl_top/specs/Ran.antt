@@ -8,7 +8,8 @@ use Rattle.csp_tables.specs.Path.{Path}
 use Rattle.dl_outside.specs.declared.texts.NamedText.{NamedText}
 use Rattle.dl_outside.specs.Write.{GrowsBy}
 use Rattle.network_stages.specs.Networks.{IsLive, Network}
-use Rattle.network_walks.specs.Moves.{IsStuck, label}
+use Rattle.network_walks.specs.Moves.{IsStuck}
+use Rattle.numbered_walks.specs.Draws.{label}
 use Rattle.network_walks.specs.Walked.{IsNetworkWalk, printed_move}
 use Rattle.numbered_walks.specs.declared.moves.Move.{Move}
 use Rattle.process_steps.specs.ComponentStep.{ProcessStep}
