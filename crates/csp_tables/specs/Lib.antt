@@ -16,7 +16,6 @@ pub mod RawForm
 pub mod RawTable
 pub mod RowOrder
 pub mod Roles
-pub mod RowOrder
 pub mod Shape
 pub mod ShapeOf
 pub mod SilentBound

@@ -1,8 +1,8 @@
 pub mod Agreeing
-pub mod Carrying
-pub mod Choosing
+pub mod Drawing
 pub mod Longer
 pub mod Offering
 pub mod Optioning
 pub mod Owning
+pub mod Rowing
 pub mod Stepping

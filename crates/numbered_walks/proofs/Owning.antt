@@ -9,8 +9,7 @@ use Rattle.counted_marks.specs.Marks.{mark_count, marked, places_from}
 use Rattle.csp_base.proofs.Lists.{map_push, take_read}
 use Rattle.csp_base.proofs.Rising.{RisesFrom, has_below, rises_from_increasing}
 use Rattle.csp_base.specs.Members.{has}
-use Rattle.numbered_walks.specs.Agreements.{AreOwnerRows, owner_count, owner_marks}
-use Rattle.numbered_walks.specs.Choices.{bit}
+use Rattle.numbered_walks.specs.Agreements.{AreOwnerRows, bit, owner_count, owner_marks}
 use Rattle.numbered_walks.specs.Numbered.{Numbered, has_owner}
 
 -- ---- a number above the events of sets

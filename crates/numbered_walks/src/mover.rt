@@ -12,8 +12,7 @@ ghost use Rattle.numbered_walks.specs.Numbered.{Can, OwnsItsSteps};
 ghost use Rattle.numbered_walks.specs.Rows.{targets};
 
 use crate::draws::{Drawn, drawn_by, drawn_silently};
-use crate::rows::{silent_rows, step_rows, steps_by};
-use acceptances::event_sets;
+use crate::rows::{offer_sets, silent_rows, step_rows, steps_by};
 use containers::Items;
 use csp_base::{Event, EventSet, NoMemory};
 use csp_tables::RawTable;
@@ -68,7 +67,7 @@ impl<'a> Mover<'a> {
         let _count = table.count();
         let silent = silent_rows(alloc, table)?;
         let steps = step_rows(alloc, table)?;
-        let offers = event_sets(alloc, table)?;
+        let offers = offer_sets(alloc, table)?;
         Ok(Mover {
             alphabet,
             table,
@@ -106,7 +105,8 @@ impl<'a> Mover<'a> {
     // The targets of the silent steps from a term, in their order.
     fn silent_targets(&self, term: u32) -> &[u32]
         requires { term < self.now.table.count }
-        ensures { result.now ≡ targets_in self.now.table term silent }
+        ensures value { result.now ≡ targets_in self.now.table term silent }
+        ensures form { HasRawForm self.now.table }
     {
         let _ = &self.steps;
         let _ = &self.offers;
@@ -118,7 +118,8 @@ impl<'a> Mover<'a> {
     // The steps from a term by an event, in their order.
     fn steps_by(&self, term: u32, event: Event) -> &[(Event, u32)]
         requires { term < self.now.table.count }
-        ensures { targets result.now ≡ targets_in self.now.table term (visible event) }
+        ensures value { targets result.now ≡ targets_in self.now.table term (visible event) }
+        ensures form { HasRawForm self.now.table }
     {
         let _ = &self.silent;
         let _ = &self.offers;

@@ -1,4 +1,4 @@
-use Rattle.std.proofs.Common.{◌≡◌, ◌+◌, ◌<◌, ℕ, List, get_or, length, refl, sym, ap, subst, ◌∙◌, arith}
+use Rattle.std.proofs.Common.{◌+◌, ◌<◌, ℕ, List, get_or, length, refl, sym, ap, subst, ◌∙◌, arith}
 use Rattle.csp_base.specs.Members.{has}
 use Rattle.numbered_walks.proofs.Agreeing.{all_left, fewer_left, none_left, offered_more, room_left, this_listed}
 use Rattle.numbered_walks.specs.Agreements.{bit}

@@ -1,4 +1,4 @@
-use Rattle.std.proofs.Common.{◌≡◌, ◌+◌, ◌≤◌, ℕ, List, get_or, refl, sym, ap, ◌∙◌, arith}
+use Rattle.std.proofs.Common.{◌+◌, ◌≤◌, ℕ, List, get_or, refl, sym, ap, ◌∙◌, arith}
 use Rattle.csp_base.specs.Members.{has}
 use Rattle.numbered_walks.proofs.Agreeing.{all_left, fewer_left, none_left, some_left, some_within, withdrawn_more}
 use Rattle.numbered_walks.specs.Agreements.{bit}
