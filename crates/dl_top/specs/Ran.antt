@@ -25,7 +25,7 @@ abbrev pub run_status : Bool → ℕ
 run_status true = 1
 run_status false = 0
 
--- The moves, which numbers after the seed choose, are the labels of a run of the network. They are as many as asked for, or the state after them has no
+-- The moves are those of the walk that the seed fixes, and the labels of a run of the network. They are as many as asked for, or the state after them has no
 -- step. The run is stuck exactly where that state has none, and then the network is live for no bound.
 pub record IsRun (network : Network) (seed steps : ℕ) (moves : List Move) (is_stuck : Bool) : Type 0 where
   pub walk : IsNetworkWalk network seed steps moves is_stuck

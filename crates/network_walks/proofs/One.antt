@@ -10,7 +10,6 @@ use Rattle.csp_steps.proofs.Firsts.{firsts_one}
 use Rattle.csp_steps.specs.Order.{AreFirstsAfter, AreTargets, goals}
 use Rattle.csp_tables.specs.Label.{Label}
 use Rattle.csp_tables.specs.Network.{Component, NetworkStep, Tree, leaves}
-use Rattle.csp_tables.specs.WellNested.{WellNested}
 use Rattle.numbered_walks.specs.Draws.{IsDrawn, label, takes_part}
 use Rattle.numbered_walks.specs.Numbers.{first_draw, next_number, place_among}
 use Rattle.numbered_walks.specs.Options.{AreOptions, IsBefore}
@@ -163,7 +162,7 @@ module _ {T : Type 0} (Step : T → Label → T → Type 0) (Targets : T → Lab
       record { moves_same = ap₂ (λ (a : Move) (l : List Move). a ∷ l) same rest.moves_same; last_same = rest.last_same }
 
   pub the_walk_is_one : TheWalkIsOne Step Targets
-  the_walk_is_one seed steps t moves others b c nested walk other =
+  the_walk_is_one seed steps t moves others b c walk other =
       let r = one_walk steps seed (first_draw seed) walk.drawn other.drawn t walk.last other.last moves others walk.walk other.walk walk.count other.count in
       record {
         moves_same = r.moves_same;

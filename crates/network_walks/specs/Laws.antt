@@ -37,5 +37,5 @@ pub record AreOneWalk {S : Type 0} (moves others : List Move) (is_stuck also_stu
 
 abbrev pub TheWalkIsOne : {T : Type 0} → (T → Label → T → Type 0) → (T → Label → List T → Type 0) → Type 0
 TheWalkIsOne {T} Step Targets =
-    (seed steps : ℕ) (t : Tree T) (moves others : List Move) (b c : Bool) → WellNested t
+    (seed steps : ℕ) (t : Tree T) (moves others : List Move) (b c : Bool)
     → (walk : IsWalkOf (Has Step) (Goes Step Targets) seed steps t moves b) → (other : IsWalkOf (Has Step) (Goes Step Targets) seed steps t others c) → AreOneWalk moves others b c walk.last other.last

@@ -1,6 +1,6 @@
 //! What the lines of a report are made of.
 
-ghost use Rattle.std.specs.Prelude.{◌≡◌, ◌++◌, ◌∷◌, [], IfOk, OnOk, codes};
+ghost use Rattle.std.specs.Prelude.{◌≡◌, ◌++◌, ◌+◌, ◌<◌, ◌∷◌, [], IfOk, OnOk, codes};
 ghost use Rattle.std.specs.List.{flat_map};
 ghost use Rattle.std.specs.Fmt.{decimal, signed_decimal};
 ghost use Rattle.report.specs.Lines.{comma_list, numbers_text};
@@ -36,12 +36,14 @@ fn push_digit(report: &mut Bytes, digit: u8) -> Result<(), NoMemory>
 }
 
 // Adds a number, digit after digit.
+#[tactic(auto, using(std::proofs::lemmas::Fmt::decimal_digit, std::proofs::lemmas::Fmt::decimal_step))]
 fn push_number(report: &mut Bytes, number: u64) -> Result<(), NoMemory>
     ensures { OnOk result (report.new ≡ report.old ++ decimal number) }
 {
-    if number >= 10 {
-        push_number(report, number / 10)?;
+    if number < 10 {
+        return push_digit(report, number as u8);
     }
+    push_number(report, number / 10)?;
     push_digit(report, (number % 10) as u8)
 }
 
@@ -51,8 +53,9 @@ pub(crate) fn push_signed(report: &mut Bytes, number: i64) -> Result<(), NoMemor
 {
     if number < 0 {
         report.push(b'-')?;
+        return push_number(report, number.unsigned_abs());
     }
-    push_number(report, number.unsigned_abs())
+    push_number(report, number as u64)
 }
 
 // Adds a number, with a blank before it.
