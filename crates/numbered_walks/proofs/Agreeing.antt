@@ -3,7 +3,7 @@ use Rattle.std.proofs.Common.{◌≡◌, ℕ, zero, suc, ◌+◌, ◌-◌, ◌<�
 use Rattle.std.specs.List.Sorted.{IsStrictlyIncreasing}
 use Rattle.std.proofs.lemmas.Bool.{cases_eq, eq-eqb, ne_eqb, or_left, or_right}
 use Rattle.std.proofs.lemmas.List.{get_or-set_other, get_or-set_same}
-use Rattle.counted_marks.proofs.Counting.{none_at}
+use Rattle.numbered_walks.proofs.Counting.{none_at}
 use Rattle.csp_base.proofs.Rising.{RisesFrom, has_below, rises_from_increasing}
 use Rattle.csp_base.specs.Members.{has}
 use Rattle.numbered_walks.specs.Agreements.{bit, is_agreed}

@@ -6,7 +6,7 @@ use Rattle.std.proofs.lemmas.Option.{none-some, same_Some}
 use Rattle.std.proofs.lemmas.List.{length-map}
 use Rattle.acceptances.proofs.Terms.{test_by_stable, unstable_by_step}
 use Rattle.acceptances.specs.OfferTests.{is_unstable}
-use Rattle.counted_marks.specs.Marks.{marked, places_from}
+use Rattle.numbered_walks.specs.Marks.{marked, places_from}
 use Rattle.csp_base.specs.Members.{has}
 use Rattle.csp_tables.specs.Label.{Label}
 use Rattle.csp_tables.specs.Label.Label.{silent, visible}

@@ -7,8 +7,8 @@ use Rattle.std.proofs.lemmas.List.Folds.{list_any_more}
 use Rattle.std.proofs.lemmas.Option.{none-some, same_Some}
 use Rattle.acceptances.proofs.Terms.{offers_by_test, unstable_by_step}
 use Rattle.acceptances.specs.OfferTests.{can_do, is_unstable}
-use Rattle.counted_marks.proofs.Places.{marked_is, place_of_mark, places_rise, mark_within}
-use Rattle.counted_marks.specs.Marks.{marked, places_from}
+use Rattle.numbered_walks.proofs.Places.{marked_is, place_of_mark, places_rise, mark_within}
+use Rattle.numbered_walks.specs.Marks.{marked, places_from}
 use Rattle.csp_base.proofs.Booleans.{same_tests, or_unless}
 use Rattle.csp_base.specs.Members.{has}
 use Rattle.csp_tables.proofs.Listed.{passing}
@@ -16,7 +16,7 @@ use Rattle.csp_tables.specs.Label.Label.{silent, visible}
 use Rattle.csp_tables.specs.RawTable.{RawStep, RawTable}
 use Rattle.numbered_walks.proofs.Agreeing.{some_within}
 use Rattle.numbered_walks.proofs.Drawing.{all_drawn, one_drawn}
-use Rattle.counted_marks.proofs.Counting.{none_at}
+use Rattle.numbered_walks.proofs.Counting.{none_at}
 use Rattle.numbered_walks.proofs.Offering.{agreed_can, at_most_all, can_agreed, count_set, front_most, one_first, one_of_all, owner_counts}
 use Rattle.numbered_walks.specs.Agreements.{AreOwnerRows, IsAgreement, IsStanding, bit, component_at, is_agreed, offer_count, owner_count, owner_marks}
 use Rattle.numbered_walks.specs.Numbered.{AllCan, AllDo, AllDraw, Can, Goes, Has, Numbered, OneCan, OwnsItsSteps, first_terms, has_owner}

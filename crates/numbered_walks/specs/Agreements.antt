@@ -1,7 +1,7 @@
 -- Which events all of their owners offer, by counting. (For private contracts: no public one cites this.)
 use Rattle.std.specs.Prelude.{◌≡◌, ℕ, ◌+◌, ◌<◌, ◌≤◌, ◌^◌, nat_eq, Bool, true, false, not, ◌&&◌, List, [], ◌∷◌, length, map, slice_index, slice_index_or}
 use Rattle.acceptances.specs.OfferTests.{can_do, is_unstable}
-use Rattle.counted_marks.specs.Marks.{marked}
+use Rattle.numbered_walks.specs.Marks.{marked}
 use Rattle.csp_base.specs.Members.{has}
 use Rattle.numbered_walks.specs.Numbered.{Numbered, OwnsItsSteps}
 use Rattle.numbered_walks.specs.declared.agreement.Agreement.{Agreement}

@@ -1,5 +1,7 @@
 pub mod Agreements
+pub mod Blocks
 pub mod Draws
+pub mod Marks
 pub mod Numbered
 pub mod Numbers
 pub mod Options

@@ -1,6 +1,6 @@
 -- What the steps of a walk do to where components stand. (For private contracts: no public one cites this.)
 use Rattle.std.specs.Prelude.{◌≡◌, ℕ, Bool, List, [], ◌∷◌, ◌++◌, map, slice_index, slice_set}
-use Rattle.counted_marks.specs.Marks.{marked}
+use Rattle.numbered_walks.specs.Marks.{marked}
 use Rattle.csp_tables.specs.Label.{Label}
 use Rattle.csp_tables.specs.RawTable.{RawStep}
 use Rattle.csp_tables.specs.RowOrder.{targets_in}

@@ -5,8 +5,8 @@ ghost use Rattle.dl_limits.specs.declared.TheConstants.{MOST_COMPONENTS};
 ghost use Rattle.csp_base.specs.Members.{has};
 ghost use Rattle.numbered_walks.specs.Agreements.{IsAgreement, bit, is_agreed};
 
+use crate::marks::CountedMarks;
 use containers::Items;
-use counted_marks::CountedMarks;
 use csp_base::{Event, EventSet, NoMemory};
 use std::alloc::Global;
 

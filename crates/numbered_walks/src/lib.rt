@@ -4,6 +4,7 @@
 
 mod agreement;
 mod draws;
+mod marks;
 mod mover;
 mod moves;
 mod numbers;

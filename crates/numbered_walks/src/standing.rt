@@ -2,7 +2,7 @@
 
 ghost use Rattle.std.specs.Prelude.{◌≡◌, ◌+◌, ◌≤◌, ◌<◌, ◌^◌, ◌↔◌, ℕ, false, IfNone, IfOk, IfSome, IsTrue, OnOk, Some, length, slice_get, slice_index, slice_index_or, slice_set};
 ghost use Rattle.acceptances.specs.OfferTests.{is_unstable};
-ghost use Rattle.counted_marks.specs.Marks.{mark_count, marked};
+ghost use Rattle.numbered_walks.specs.Marks.{mark_count, marked};
 ghost use Rattle.csp_tables.specs.Label.Label.{silent, visible};
 ghost use Rattle.dl_limits.specs.declared.TheConstants.{MOST_COMPONENTS};
 ghost use Rattle.numbered_walks.specs.Agreements.{AreOwnerRows, IsAgreement, IsStanding, bit, component_at, offer_count, owner_count, owner_marks};
@@ -14,11 +14,11 @@ ghost use Rattle.numbered_walks.specs.Walks.{Chooses, HasNone};
 
 use crate::agreement::{Agreement, agreed_events, exchange, no_offers, offer_all};
 use crate::draws::Drawn;
+use crate::marks::CountedMarks;
 use crate::mover::Mover;
 use crate::moves::Move;
 use crate::numbers::place_among;
 use containers::Items;
-use counted_marks::CountedMarks;
 use csp_base::{Event, NoMemory};
 use std::alloc::Global;
 

@@ -1,6 +1,6 @@
 use Rattle.std.proofs.Common.{◌≡◌, ◌+◌, ◌*◌, take}
-use Rattle.counted_marks.specs.Marks.{mark_count}
-use Rattle.counted_marks.proofs.marks.block_of.Given as goal
+use Rattle.numbered_walks.specs.Marks.{mark_count}
+use Rattle.numbered_walks.proofs.marks.block_of.Given as goal
 
 abbrev pub invariant-loop-count : goal.invariant-loop-count
 invariant-loop-count l = record {

@@ -1,6 +1,6 @@
 use Rattle.std.proofs.Common.{◌+◌, ◌/◌, arith, sym}
-use Rattle.counted_marks.proofs.Counting.{block_to, none_counted, none_marked}
-use Rattle.counted_marks.proofs.marks.CountedMarks.new.Goals as goal
+use Rattle.numbered_walks.proofs.Counting.{block_to, none_counted, none_marked}
+use Rattle.numbered_walks.proofs.marks.CountedMarks.new.Goals as goal
 
 pub invariant_of-result : goal.invariant_of-result
 invariant_of-result c =

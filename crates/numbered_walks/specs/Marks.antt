@@ -1,4 +1,4 @@
--- Marks: for each number below a bound whether it is marked. The marked numbers in rising order.
+-- Marks: for each number below a bound whether it is marked. The marked numbers in rising order. (For private contracts: no public one cites this.)
 use Rattle.std.specs.Prelude.{ℕ, ◌+◌, Bool, true, false, List, [], ◌∷◌}
 
 -- the places of the marks, of which the first has the place k

@@ -1,6 +1,6 @@
-use Rattle.counted_marks.proofs.Counting.{found_mark, passed_mark, passed_none}
-use Rattle.counted_marks.proofs.marks.nth_from.Goals as goal
-use Rattle.counted_marks.proofs.marks.nth_from.Goals.{then-marks-number+else-left-eq0, else-marks-number}
+use Rattle.numbered_walks.proofs.Counting.{found_mark, passed_mark, passed_none}
+use Rattle.numbered_walks.proofs.marks.nth_from.Goals as goal
+use Rattle.numbered_walks.proofs.marks.nth_from.Goals.{then-marks-number+else-left-eq0, else-marks-number}
 
 pub returns-then-left-eq0-clause-marked : goal.returns-then-left-eq0-clause-marked
 returns-then-left-eq0-clause-marked c = found_mark c.args.marks.now c.loop-number.number c.loop-number.left _ c.loop-number-test.true c.if-marks-number.true c.if-left-eq0.true c.loop-number.invariant

@@ -3,8 +3,8 @@ use Rattle.std.proofs.Common.{◌≡◌, ℕ, zero, suc, ◌+◌, ◌*◌, ◌-�
 use Rattle.std.proofs.lemmas.List.{get_or_default, take_all, get_or-set_other, get_or-set_same, length-set, length-replicate}
 use Rattle.std.proofs.lemmas.Bool.{cases_eq, cases_lt}
 use Rattle.std.proofs.Math.Bool.{beq}
-use Rattle.counted_marks.specs.Blocks.{AreBlockCounts}
-use Rattle.counted_marks.specs.Marks.{mark_count, marked, places_from}
+use Rattle.numbered_walks.specs.Blocks.{AreBlockCounts}
+use Rattle.numbered_walks.specs.Marks.{mark_count, marked, places_from}
 
 -- 1 where the number is below the other, else 0
 pub below : ℕ → ℕ → ℕ

@@ -2,8 +2,8 @@
 use Rattle.std.proofs.Common.{◌≡◌, ℕ, zero, suc, ◌+◌, ◌<◌, ◌≤◌, Bool, true, false, List, [], ◌∷◌, Some, length, take, get_or, slice_get, refl, ap, subst, ◌∙◌, arith}
 use Rattle.std.proofs.lemmas.Option.{none-some, same_Some}
 use Rattle.std.proofs.lemmas.Bool.{false≢true}
-use Rattle.counted_marks.specs.Marks.{mark_count, marked, places_from}
-use Rattle.counted_marks.proofs.Counting.{nth_place}
+use Rattle.numbered_walks.specs.Marks.{mark_count, marked, places_from}
+use Rattle.numbered_walks.proofs.Counting.{nth_place}
 
 pub as_many : (k : ℕ) (ms : List Bool) → length (places_from k ms) ≡ mark_count ms
 as_many k [] = refl

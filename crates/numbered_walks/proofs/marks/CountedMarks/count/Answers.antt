@@ -1,6 +1,6 @@
 use Rattle.std.proofs.Common.{arith}
-use Rattle.counted_marks.proofs.Counting.{at_most}
-use Rattle.counted_marks.proofs.marks.CountedMarks.count.Goals as goal
+use Rattle.numbered_walks.proofs.Counting.{at_most}
+use Rattle.numbered_walks.proofs.marks.CountedMarks.count.Goals as goal
 
 pub returns-clause-few : goal.returns-clause-few
 returns-clause-few c =

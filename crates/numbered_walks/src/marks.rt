@@ -1,8 +1,8 @@
 //! Marks with counts.
 
 ghost use Rattle.std.specs.Prelude.{◌≡◌, ◌+◌, ◌*◌, ◌<◌, ◌^◌, Bool, Some, false, length, replicate, slice_get, slice_set, take, IfOk};
-ghost use Rattle.counted_marks.specs.Blocks.{AreBlockCounts};
-ghost use Rattle.counted_marks.specs.Marks.{mark_count, marked};
+ghost use Rattle.numbered_walks.specs.Blocks.{AreBlockCounts};
+ghost use Rattle.numbered_walks.specs.Marks.{mark_count, marked};
 
 use std::alloc::{AllocError, Global};
 use std::marker::Model;
@@ -11,7 +11,7 @@ use std::marker::Model;
 const BLOCK: usize = 64;
 
 /// For each number below a bound whether it is marked. Contracts see it as the marks.
-pub struct CountedMarks {
+pub(crate) struct CountedMarks {
     marks: Vec<bool>,
     counts: Vec<usize>,
     total: usize,
@@ -30,8 +30,8 @@ impl Drop for CountedMarks {
 
 impl Model for CountedMarks {
     ghost use Rattle.std.specs.Prelude.{◌≡◌, Bool, List};
-    ghost use Rattle.counted_marks.specs.Blocks.{AreBlockCounts};
-    ghost use Rattle.counted_marks.specs.Marks.{mark_count};
+    ghost use Rattle.numbered_walks.specs.Blocks.{AreBlockCounts};
+    ghost use Rattle.numbered_walks.specs.Marks.{mark_count};
 
     ghost Value = { List Bool };
 
@@ -42,7 +42,7 @@ impl Model for CountedMarks {
 
 impl CountedMarks {
     /// Marks for the numbers below `bound`, none of them set.
-    pub fn new(alloc: Global, bound: usize) -> Result<CountedMarks, AllocError>
+    pub(crate) fn new(alloc: Global, bound: usize) -> Result<CountedMarks, AllocError>
         ensures { IfOk result (λ made. made ≡ replicate bound false) }
     {
         let marks = vec![in alloc; false; bound]?;
@@ -55,7 +55,7 @@ impl CountedMarks {
     }
 
     /// How many numbers are marked.
-    pub fn count(&self) -> usize
+    pub(crate) fn count(&self) -> usize
         ensures count { result ≡ mark_count self.now }
         ensures few { result < 2 ^ 63 }
     {
@@ -65,7 +65,7 @@ impl CountedMarks {
     }
 
     /// Marks a number, or takes its mark away.
-    pub fn set(&mut self, number: usize, mark: bool)
+    pub(crate) fn set(&mut self, number: usize, mark: bool)
         requires { number < length self.old }
         ensures { self.new ≡ slice_set self.old number mark }
     {
@@ -83,7 +83,7 @@ impl CountedMarks {
     }
 
     /// The marked number in the place `place` of their rising order, counted from 0.
-    pub fn nth(&self, place: usize) -> usize
+    pub(crate) fn nth(&self, place: usize) -> usize
         requires { place < mark_count self.now }
         ensures marked { slice_get (marked self.now) place ≡ Some result }
         ensures within { result < length self.now }

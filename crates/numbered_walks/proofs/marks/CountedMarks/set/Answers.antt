@@ -1,6 +1,6 @@
 use Rattle.std.proofs.Common.{◌<◌, length, List, Bool, arith, sym, subst, ◌∙◌}
-use Rattle.counted_marks.proofs.Counting.{few_in_all, few_in_block, marked_so, read_count, read_mark, set_one, some_here, some_in_all, unmarked_so, unset_one}
-use Rattle.counted_marks.proofs.marks.CountedMarks.set.Goals as goal
+use Rattle.numbered_walks.proofs.Counting.{few_in_all, few_in_block, marked_so, read_count, read_mark, set_one, some_here, some_in_all, unmarked_so, unset_one}
+use Rattle.numbered_walks.proofs.marks.CountedMarks.set.Goals as goal
 
 pub overflow_add-index_mut : goal.overflow_add-index_mut
 overflow_add-index_mut c =
