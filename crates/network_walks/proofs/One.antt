@@ -35,7 +35,7 @@ not_both (move.Silent i) (move.Event e) one other = other
 not_both (move.Event d) (move.Silent j) one other = one
 not_both (move.Event d) (move.Event e) one other = absurd (let less : d < e = one in let more : e < d = other in omega (arith, less, more))
 
-InTurn : List Move → Type 0
+abbrev InTurn : List Move → Type 0
 InTurn ms = (j k : ℕ) (m n : Move) → j < k → slice_get ms j ≡ Some m → slice_get ms k ≡ Some n → IsBefore m n
 
 in_turn_after : (m : Move) (ms : List Move) → InTurn (m ∷ ms) → InTurn ms

@@ -1,5 +1,5 @@
 -- A step keeps the shape of a network, and of two networks of one shape with the same components each is the other.
-use Rattle.std.proofs.Common.{◌≡◌, ℕ, suc, inl, inr, Bool, MatchBool, List, [], ◌∷◌, ◌++◌, length, refl, sym, ap, ap₂, subst, ◌∙◌, arith}
+use Rattle.std.proofs.Common.{◌≡◌, ℕ, suc, ◌+◌, inl, inr, Bool, MatchBool, List, [], ◌∷◌, ◌++◌, length, length-append, refl, sym, ap, ap₂, subst, ◌∙◌, arith}
 use Rattle.std.proofs.lemmas.Bool.{MatchBool-at_false, MatchBool-at_true, cases_Bool}
 use Rattle.csp_base.specs.Members.{has}
 use Rattle.csp_tables.specs.Label.{Label}
@@ -32,7 +32,8 @@ mutual
   pub step_shape : {T : Type 0} (Step : T → Label → T → Type 0) (t : Tree T) (l : Label) (u : Tree T) → NetworkStep Step t l u → HaveShape t u
   step_shape Step (leaf c) l (leaf d) step = tt
   step_shape Step (leaf c) l (parallel qs) step = absurd step
-  step_shape Step (parallel os) l (leaf d) step = absurd step
+  step_shape Step (parallel os) silent (leaf d) step = absurd step
+  step_shape Step (parallel os) (visible e) (leaf d) step = absurd step
   step_shape Step (parallel os) silent (parallel qs) step = silent_shape Step os qs step
   step_shape Step (parallel os) (visible e) (parallel qs) step = visible_shape Step e os qs step.1
 
@@ -72,11 +73,11 @@ mutual
 
 -- two lists that are put together from parts of the same lengths
 module _ {X : Type 0} where
-  first_of : (d : X) → List X → X
+  abbrev first_of : (d : X) → List X → X
   first_of d [] = d
   first_of d (x ∷ xs) = x
 
-  rest_of : List X → List X
+  abbrev rest_of : List X → List X
   rest_of [] = []
   rest_of (x ∷ xs) = xs
 
