@@ -1,5 +1,5 @@
--- The steps of a process, each once, from those of the processes below, each once: only what stands in a list counts, and not how often.
-use Rattle.std.proofs.Common.{◌≡◌, ◌⊎◌, inl, inr, ℕ, ◌<◌, true, Some, Ok, Err, List, [], ◌∷◌, ◌++◌, map, length, refl, ap, sym, ◌∙◌, subst}
+-- The steps of a process, each where it first stands, from those of the processes below: of a list only the firsts count.
+use Rattle.std.proofs.Common.{◌≡◌, ◌⊎◌, inl, inr, ℕ, ◌<◌, true, Some, Ok, Err, List, [], ◌∷◌, map, length, refl, ap, sym, ◌∙◌, subst}
 use Rattle.std.proofs.lemmas.Bool.{and_from, lt-ltb}
 use Rattle.std.specs.Prelude.{IfOk, IfSome, nat_lt, OnOk, Option, Result}
 use Rattle.std.specs.Result.{IsErrAnd}
@@ -11,76 +11,48 @@ use Rattle.csp_program.specs.declared.processes.Proc.{Proc}
 use Rattle.csp_program.specs.declared.processes.Proc.TheOpen.{Proc-F}
 use Rattle.csp_program.specs.declared.processes.Proc.TheViews.{out-Proc}
 use Rattle.csp_program.specs.declared.programs.Content.{Content}
-use Rattle.process_steps.proofs.Members.{Among, at_place, from_joined, from_map, in_either, in_joined, in_left, in_map, in_right, placed}
+use Rattle.process_steps.proofs.Members.{Among, placed}
 use Rattle.process_steps.specs.Needed.{events_in}
 use Rattle.process_steps.specs.Renaming.{renaming_in}
 use Rattle.process_steps.specs.StepList.{Move, in_hiding, in_renaming, in_sequence, steps_of}
 use Rattle.value_operators.specs.declared.fault.EvalFault.{EvalFault}
 use Rattle.value_operators.specs.declared.fault.EvalFault.TheVariants as fault
-use Rattle.csp_steps.specs.Computed.{all_within, around, around_layer, AreEach, GivesEach, GivesLook, GivesMoves, IsListing}
+use Rattle.csp_steps.specs.Computed.{all_within, around, around_layer, AreAdded, AreEach, GivesEach, GivesLook, GivesMoves, IsListing}
 use Rattle.csp_steps.specs.Listed.{AreStepsOf, FaultIs, seen}
-use Rattle.csp_steps.specs.Once.{AreJoined, HaveSame, IsOnce}
+use Rattle.csp_steps.specs.Order.{AreFirsts, AreFirstsAfter}
 use Rattle.csp_steps.specs.declared.step.StepTo.{StepTo}
-use Rattle.csp_steps.proofs.Places.{within_of}
+use Rattle.csp_steps.proofs.Firsts.{firsts_back, firsts_map, joined_firsts, map_firsts, stands_either, stands_none}
+use Rattle.csp_steps.proofs.Places.{standing, within_of}
+use Rattle.term_pool.specs.Pooled.{AreDifferent}
+use Rattle.term_pool.specs.Trees.{tree_at}
 
--- ---- lists with the same members
+-- ---- lists with the same firsts
 
--- what stands in the first list stands in the second
-abbrev pub Inside : {X : Type 0} → List X → List X → Type 0
-Inside {X = X} xs ys = (x : X) → Among xs x → Among ys x
+-- the firsts of the second list are those of the first
+abbrev pub SameFirsts : {X : Type 0} → List X → List X → Type 0
+SameFirsts {X = X} xs ys = (zs : List X) → AreFirsts ys zs → AreFirsts xs zs
 
-forth : {X : Type 0} (xs ys : List X) → HaveSame xs ys → Inside xs ys
-forth xs ys h x m = let at = h.there x (placed xs x m) in at_place ys at.0 x at.1
+same_same : {X : Type 0} (xs : List X) → SameFirsts xs xs
+same_same xs zs h = h
 
-over : {X : Type 0} (xs ys : List X) → HaveSame xs ys → Inside ys xs
-over xs ys h x m = let at = h.back x (placed ys x m) in at_place xs at.0 x at.1
-
-pub both_inside : {X : Type 0} (xs ys : List X) → Inside xs ys → Inside ys xs → HaveSame xs ys
-both_inside xs ys f g = record {
-  there = λ x h. placed ys x (f x (at_place xs h.0 x h.1));
-  back = λ x h. placed xs x (g x (at_place ys h.0 x h.1));
-}
-
-pub same_same : {X : Type 0} (xs : List X) → HaveSame xs xs
-same_same xs = record { there = λ x h. h; back = λ x h. h }
-
-pub same_then : {X : Type 0} (xs ys zs : List X) → HaveSame xs ys → HaveSame ys zs → HaveSame xs zs
-same_then xs ys zs h g = record { there = λ x m. g.there x (h.there x m); back = λ x m. h.back x (g.back x m) }
-
-inside_map : {X Y : Type 0} (f : X → Y) (xs ys : List X) → Inside xs ys → Inside (map f xs) (map f ys)
-inside_map f xs ys h y m =
-    let from = from_map f xs y m in
-    subst (λ z. Among (map f ys) z) from.made (in_map f ys from.source (h from.source from.among))
-
-pub same_map : {X Y : Type 0} (f : X → Y) (xs ys : List X) → HaveSame xs ys → HaveSame (map f xs) (map f ys)
-same_map f xs ys h = both_inside (map f xs) (map f ys) (inside_map f xs ys (forth xs ys h)) (inside_map f ys xs (over xs ys h))
-
-inside_joined : {X Y : Type 0} (f : X → List Y) (xs ys : List X) → Inside xs ys → Inside (joined (map f xs)) (joined (map f ys))
-inside_joined f xs ys h y m =
-    let from = from_joined f xs y m in
-    in_joined f ys from.source y (h from.source from.among) from.made
-
-same_joined : {X Y : Type 0} (f : X → List Y) (xs ys : List X) → HaveSame xs ys → HaveSame (joined (map f xs)) (joined (map f ys))
-same_joined f xs ys h = both_inside (joined (map f xs)) (joined (map f ys)) (inside_joined f xs ys (forth xs ys h)) (inside_joined f ys xs (over xs ys h))
-
--- ---- outcomes with the same members
+-- ---- outcomes with the same firsts
 
 abbrev pub Alike : Outcome (List Move) → Outcome (List Move) → Type 0
-Alike (Ok xs) (Ok ys) = HaveSame xs ys
+Alike (Ok xs) (Ok ys) = SameFirsts xs ys
 Alike (Ok xs) (Err k) = ⊥
 Alike (Err k) (Ok ys) = ⊥
 Alike (Err k) (Err j) = k ≡ j
 
-then_alike : {A : Type 0} (o : Outcome A) (f g : A → List Move) → ((a : A) → HaveSame (f a) (g a)) → Alike (and_then o (λ a. Ok (f a))) (and_then o (λ a. Ok (g a)))
+then_alike : {A : Type 0} (o : Outcome A) (f g : A → List Move) → ((a : A) → SameFirsts (f a) (g a)) → Alike (and_then o (λ a. Ok (f a))) (and_then o (λ a. Ok (g a)))
 then_alike (Ok a) f g h = h a
 then_alike (Err k) f g h = refl
 
-layer_alike : (p : Content) (d : Proc-F Proc) (xs ys : List Move) → HaveSame xs ys → Alike (around_layer p d xs) (around_layer p d ys)
+layer_alike : (p : Content) (d : Proc-F Proc) (xs ys : List Move) → AreFirsts xs ys → Alike (around_layer p d xs) (around_layer p d ys)
 layer_alike p (Proc-F.Hide q s) xs ys h =
-    then_alike (events_in p s) (λ hidden. map (λ m. in_hiding s hidden m.0 m.1) xs) (λ hidden. map (λ m. in_hiding s hidden m.0 m.1) ys) (λ hidden. same_map (λ m. in_hiding s hidden m.0 m.1) xs ys h)
+    then_alike (events_in p s) (λ hidden. map (λ m. in_hiding s hidden m.0 m.1) xs) (λ hidden. map (λ m. in_hiding s hidden m.0 m.1) ys) (λ hidden zs g. map_firsts (λ m. in_hiding s hidden m.0 m.1) xs ys [] zs h g)
 layer_alike p (Proc-F.Rename q pairs gens) xs ys h =
-    then_alike (renaming_in p pairs gens) (λ renamed. joined (map (λ m. in_renaming pairs gens renamed m.0 m.1) xs)) (λ renamed. joined (map (λ m. in_renaming pairs gens renamed m.0 m.1) ys)) (λ renamed. same_joined (λ m. in_renaming pairs gens renamed m.0 m.1) xs ys h)
-layer_alike p (Proc-F.Seq q r) xs ys h = same_map (λ m. in_sequence r m.0 m.1) xs ys h
+    then_alike (renaming_in p pairs gens) (λ renamed. joined (map (λ m. in_renaming pairs gens renamed m.0 m.1) xs)) (λ renamed. joined (map (λ m. in_renaming pairs gens renamed m.0 m.1) ys)) (λ renamed zs g. joined_firsts (λ m. in_renaming pairs gens renamed m.0 m.1) xs [] ys [] zs h (λ x s. absurd (stands_none x s)) g)
+layer_alike p (Proc-F.Seq q r) xs ys h = λ zs g. map_firsts (λ m. in_sequence r m.0 m.1) xs ys [] zs h g
 layer_alike p Proc-F.Stop xs ys h = same_same []
 layer_alike p (Proc-F.Prefix hd fields q) xs ys h = same_same []
 layer_alike p (Proc-F.Guard c q) xs ys h = same_same []
@@ -93,7 +65,7 @@ layer_alike p (Proc-F.Call d args) xs ys h = same_same []
 layer_alike p Proc-F.Skip xs ys h = same_same []
 layer_alike p Proc-F.Ended xs ys h = same_same []
 
-pub around_alike : (p : Content) (t : Proc) (xs ys : List Move) → HaveSame xs ys → Alike (around p t xs) (around p t ys)
+pub around_alike : (p : Content) (t : Proc) (xs ys : List Move) → AreFirsts xs ys → Alike (around p t xs) (around p t ys)
 around_alike p t xs ys h = layer_alike p (out-Proc t) xs ys h
 
 alike_fault : (o u : Outcome (List Move)) (k : ValueKind) → Alike o u → u ≡ Err k → o ≡ Err k
@@ -105,12 +77,12 @@ alike_fault (Err j) (Err i) k h e = ap (λ n. Err n) h ∙ e
 pub record IsAlike (o : Outcome (List Move)) (ys : List Move) : Type 0 where
   pub moves : List Move
   pub has : o ≡ Ok moves
-  pub same : HaveSame moves ys
+  pub same : SameFirsts moves ys
 
 alike_list : (o u : Outcome (List Move)) (ys : List Move) → Alike o u → u ≡ Ok ys → IsAlike o ys
 alike_list (Ok xs) (Ok zs) ys h e =
     let same : zs ≡ ys = cc in
-    record { moves = xs; has = refl; same = subst (λ us. HaveSame xs us) same h }
+    record { moves = xs; has = refl; same = subst (λ us. SameFirsts xs us) same h }
 alike_list (Ok xs) (Err k) ys h e = absurd h
 alike_list (Err k) (Ok zs) ys h e = absurd h
 alike_list (Err k) (Err j) ys h e = cc
@@ -121,59 +93,58 @@ every_within : (count : ℕ) (steps : List StepTo) → ((s : StepTo) → Among s
 every_within count [] f = refl
 every_within count (s ∷ steps) f = and_from (nat_lt s.to.0 count) (all_within count steps) (lt-ltb s.to.0 count (f s (inl refl))) (every_within count steps (λ r m. f r (inr m)))
 
-pub once_within : (count : ℕ) (steps made : List StepTo) → all_within count steps ≡ true → HaveSame steps made → all_within count made ≡ true
-once_within count steps made h same = every_within count made (λ s m. let at = placed steps s (over steps made same s m) in within_of count steps at.0 s h at.1)
+pub once_within : (count : ℕ) (steps made : List StepTo) → all_within count steps ≡ true → AreFirsts steps made → all_within count made ≡ true
+once_within count steps made h once = every_within count made (λ s m. let at = firsts_back steps [] made once s (placed made s m) in within_of count steps at.0 s h at.1)
 
-pub joined_within : (count : ℕ) (xs ys zs : List StepTo) → AreJoined xs ys zs → all_within count xs ≡ true → all_within count ys ≡ true → all_within count zs ≡ true
-joined_within count xs ys zs joined h g = every_within count zs (λ s m. let at = placed zs s m in one s (joined.only s at))
+pub added_within : (count : ℕ) (old steps new : List StepTo) → AreAdded old steps new → all_within count old ≡ true → all_within count steps ≡ true → all_within count new ≡ true
+added_within count old steps new added h g =
+    every_within count new (λ s m. one s (stands_either old added.more s (subst (λ ss. StandsIn ss s) added.grown (placed new s m))))
   where
-    one : (s : StepTo) → StandsIn xs s ⊎ StandsIn ys s → s.to.0 < count
-    one s (inl m) = within_of count xs m.0 s h m.1
-    one s (inr m) = within_of count ys m.0 s g m.1
+    one : (s : StepTo) → StandsIn old s ⊎ StandsIn added.more s → s.to.0 < count
+    one s (inl m) = within_of count old m.0 s h m.1
+    one s (inr m) = let at = firsts_back steps old added.more added.firsts s m in within_of count steps at.0 s g at.1
 
--- what is added to a list is added to what it is seen as
-pub same_joining : {X Y : Type 0} (f : X → Y) (us vs : List Y) (xs ys zs : List X) → AreJoined xs ys zs → HaveSame us (map f xs) → HaveSame vs (map f ys) → HaveSame (us ++ vs) (map f zs)
-same_joining f us vs xs ys zs joined h g =
-    both_inside (us ++ vs) (map f zs)
-    (λ y m. forward y (in_either us vs y m))
-    (λ y m. let from = from_map f zs y m in subst (λ z. Among (us ++ vs) z) from.made (backward from.source (joined.only from.source (placed zs from.source from.among))))
-  where
-    forward : (y : _) → Among us y ⊎ Among vs y → Among (map f zs) y
-    forward y (inl m) = inside_map f xs zs (λ x k. let at = joined.first x (placed xs x k) in at_place zs at.0 x at.1) y (forth us (map f xs) h y m)
-    forward y (inr m) = inside_map f ys zs (λ x k. let at = joined.second x (placed ys x k) in at_place zs at.0 x at.1) y (forth vs (map f ys) g y m)
+-- ---- steps that differ are seen to differ, since no process stands at two places
 
-    backward : (x : _) → StandsIn xs x ⊎ StandsIn ys x → Among (us ++ vs) (f x)
-    backward x (inl m) = in_left us vs (f x) (over us (map f xs) h (f x) (in_map f xs x (at_place xs m.0 x m.1)))
-    backward x (inr m) = in_right us vs (f x) (over vs (map f ys) g (f x) (in_map f ys x (at_place ys m.0 x m.1)))
+seen_apart : (trees : List Proc) → AreDifferent trees → (a b : StepTo) → a.to.0 < length trees → b.to.0 < length trees → seen trees a ≡ seen trees b → a ≡ b
+seen_apart trees different a b here there e =
+    let place : a.to.0 ≡ b.to.0 =
+    different a.to.0 b.to.0 (tree_at trees a.to) (standing trees a.to here) (standing trees b.to there ∙ ap (λ (m : Move). Some m.1) (sym e)) in
+    λ i. record { label = ap (λ (m : Move). m.0) e i; to = record { 0 = place i } }
 
-once_each : (trees : List Proc) (steps made : List StepTo) (o u : Outcome (List Move)) → Alike o u → IsListing trees steps u → IsOnce steps made → AreEach trees made o
-once_each trees steps made o u alike h once =
+pub seen_firsts : (trees : List Proc) → AreDifferent trees → (steps old more : List StepTo) → all_within (length trees) steps ≡ true → all_within (length trees) old ≡ true
+    → AreFirstsAfter steps old more → AreFirstsAfter (map (seen trees) steps) (map (seen trees) old) (map (seen trees) more)
+seen_firsts trees different steps old more h g firsts =
+    firsts_map (seen trees) (λ (s : StepTo). s.to.0 < length trees) (seen_apart trees different) steps old more
+    (λ s m. within_of (length trees) steps m.0 s h m.1) (λ s m. within_of (length trees) old m.0 s g m.1) firsts
+
+once_each : (trees : List Proc) → AreDifferent trees → (steps made : List StepTo) (o u : Outcome (List Move)) → Alike o u → IsListing trees steps u → AreFirsts steps made → AreEach trees made o
+once_each trees different steps made o u alike h once =
     let is = alike_list o u (map (seen trees) steps) alike h.same in
     record {
       moves = is.moves;
       has = is.has;
-      within = once_within (length trees) steps made h.within once.same;
-      same = same_then is.moves (map (seen trees) steps) (map (seen trees) made) is.same (same_map (seen trees) steps made once.same);
-      once = once.once;
+      within = once_within (length trees) steps made h.within once;
+      firsts = is.same (map (seen trees) made) (seen_firsts trees different steps [] made h.within refl once);
     }
 
-pub these_each : (trees : List Proc) (steps made : List StepTo) (o : Outcome (List Move)) → IsListing trees steps o → IsOnce steps made → AreEach trees made o
-these_each trees steps made o h once = once_each trees steps made o (Ok (map (seen trees) steps)) (alike o h.same) (record { same = refl; within = h.within }) once
+pub these_each : (trees : List Proc) → AreDifferent trees → (steps made : List StepTo) (o : Outcome (List Move)) → IsListing trees steps o → AreFirsts steps made → AreEach trees made o
+these_each trees different steps made o h once = once_each trees different steps made o (Ok (map (seen trees) steps)) (alike o h.same) (record { same = refl; within = h.within }) once
   where
     alike : (u : Outcome (List Move)) → u ≡ Ok (map (seen trees) steps) → Alike u (Ok (map (seen trees) steps))
     alike u e = subst (λ v. Alike v (Ok (map (seen trees) steps))) (sym e) (same_same (map (seen trees) steps))
 
 -- what is made of the steps of the process below by an operator round it
 module _ (p : Content) (t u : Proc) (whole : Outcome (List Move)) (moves : List Move) (mid trees : List Proc) (below slice : List StepTo)
-    (is : whole ≡ around p t moves) (alike : HaveSame moves (map (seen mid) below)) (e : slice ≡ below) (same : u ≡ t) where
+    (is : whole ≡ around p t moves) (alike : AreFirsts moves (map (seen mid) below)) (e : slice ≡ below) (same : u ≡ t) where
   made_alike : Alike whole (around p u (map (seen mid) slice))
   made_alike =
       subst (λ o. Alike o (around p u (map (seen mid) slice))) (sym is)
       (subst (λ (v : Proc). Alike (around p t moves) (around p v (map (seen mid) slice))) (sym same)
-      (around_alike p t moves (map (seen mid) slice) (subst (λ ss. HaveSame moves (map (seen mid) ss)) (sym e) alike)))
+      (around_alike p t moves (map (seen mid) slice) (subst (λ ss. AreFirsts moves (map (seen mid) ss)) (sym e) alike)))
 
-  pub around_each : (steps made : List StepTo) → IsListing trees steps (around p u (map (seen mid) slice)) → IsOnce steps made → AreEach trees made whole
-  around_each steps made h once = once_each trees steps made whole (around p u (map (seen mid) slice)) made_alike h once
+  pub around_each : AreDifferent trees → (steps made : List StepTo) → IsListing trees steps (around p u (map (seen mid) slice)) → AreFirsts steps made → AreEach trees made whole
+  around_each different steps made h once = once_each trees different steps made whole (around p u (map (seen mid) slice)) made_alike h once
 
   around_gone : (f : EvalFault) → GivesMoves trees (Err f) (around p u (map (seen mid) slice)) → GivesEach trees (Err f) whole
   around_gone fault.NoMemory h = tt
@@ -224,8 +195,7 @@ each_steps p trees t (Ok steps) h = record {
   moves = h.moves;
   has = h.has;
   within = λ k s g. within_of (length trees) steps k s h.within g;
-  same = λ l u. (h.same.there (l, u), h.same.back (l, u));
-  once = h.once;
+  firsts = h.firsts;
 }
 each_steps p trees t (Err f) h = tt
 

@@ -1,7 +1,7 @@
 -- The steps of an operand of a choice.
 use Rattle.std.proofs.Common.{◌≡◌, ℕ, ◌+◌, ◌<◌, ◌≤◌, true, nat_lt, zero, suc, Ok, Err, Some, List, [], ◌∷◌, ◌++◌, map, length, get_or, slice_get, slice_set, take, drop, refl, ap, sym, ◌∙◌, subst, arith}
 use Rattle.std.proofs.lemmas.Bool.{lt-ltb, and_from}
-use Rattle.std.proofs.lemmas.List.{get_or-map, length-map, map-set, take_all}
+use Rattle.std.proofs.lemmas.List.{get_or-map, length-map, map-append, map-set, take_all}
 use Rattle.std.proofs.lemmas.Option.{slice_get_within}
 use Rattle.std.specs.Cmp.{first_so, second_so}
 use Rattle.csp_program.specs.Depth.{proc_depth}
@@ -15,15 +15,17 @@ use Rattle.csp_program.specs.declared.programs.Content.{Content}
 use Rattle.process_steps.specs.Step.{each_put}
 use Rattle.process_steps.specs.StepList.{Move, in_choice, steps_of, steps_of_choice}
 use Rattle.term_pool.proofs.PutLemmas.{at}
-use Rattle.term_pool.specs.Pooled.{IsFront}
+use Rattle.term_pool.specs.Pooled.{AreDifferent, IsFront}
 use Rattle.term_pool.specs.Trees.{all_below, tree_at}
 use Rattle.pool_parts.specs.declared.place.ProcId.{ProcId}
-use Rattle.csp_steps.specs.Computed.{all_within, AreAt, AreEach, AreMoves, IsMove}
+use Rattle.csp_steps.specs.Computed.{all_within, AreAdded, AreAt, AreEach, AreMoves, IsMove}
 use Rattle.csp_steps.specs.Listed.{seen}
-use Rattle.csp_steps.specs.Once.{AreJoined, HaveSame, IsOnce}
+use Rattle.csp_steps.specs.Order.{AreFirsts, AreFirstsAfter}
+use Rattle.csp_steps.specs.Order.AreFirstsAfter.{none}
 use Rattle.csp_steps.specs.declared.step.StepTo.{StepTo}
 use Rattle.step_values.proofs.Lists.{left, left_all, left_end, left_fault, left_next}
-use Rattle.csp_steps.proofs.Alike.{joined_within, once_within, same_joining, same_map, same_same, same_then}
+use Rattle.csp_steps.proofs.Alike.{added_within, seen_firsts}
+use Rattle.csp_steps.proofs.Firsts.{firsts_append, map_firsts}
 use Rattle.csp_steps.proofs.Places.{all_within_stay, at_stay, below_at, front_both, one_place, seen_stay, still_within, tree_stays, trees_stay}
 use Rattle.csp_base.proofs.Lists.{take_read, map_push}
 use Rattle.csp_base.specs.Lists.{greatest}
@@ -36,24 +38,23 @@ pub record IsChoiceSoFar (p : Content) (qs trees : List Proc) (numbered : List S
   pub moves : List Move
   pub rest : steps_of_choice p (steps_of p) qs ≡ left (of_operand p qs) (λ ms. ms) moves i (drop i qs)
   pub within : all_within (length trees) numbered ≡ true
-  pub same : HaveSame moves (map (seen trees) numbered)
+  pub firsts : AreFirsts moves (map (seen trees) numbered)
 
 pub choice_begin : (p : Content) (qs trees : List Proc) (numbered : List StepTo) → numbered ≡ [] → IsChoiceSoFar p qs trees numbered 0
 choice_begin p qs trees numbered e = subst (λ (ss : List StepTo). IsChoiceSoFar p qs trees ss 0) (sym e) (record {
   moves = [];
   rest = left_all (of_operand p qs) 0 qs;
   within = refl;
-  same = same_same [];
+  firsts = none [];
 })
 
-pub choice_end : (p : Content) (qs trees : List Proc) (numbered made : List StepTo) (i : ℕ) → length qs ≤ i → IsChoiceSoFar p qs trees numbered i → IsOnce numbered made → AreEach trees made (steps_of_choice p (steps_of p) qs)
-choice_end p qs trees numbered made i past h once = record {
+pub choice_end : (p : Content) (qs trees : List Proc) (numbered made : List StepTo) (i : ℕ) → length qs ≤ i → IsChoiceSoFar p qs trees numbered i → made ≡ numbered → AreEach trees made (steps_of_choice p (steps_of p) qs)
+choice_end p qs trees numbered made i past h is = subst (λ (ss : List StepTo). AreEach trees ss (steps_of_choice p (steps_of p) qs)) (sym is) (record {
   moves = h.moves;
   has = h.rest ∙ left_end (of_operand p qs) (λ ms. ms) refl (λ xs ys. refl) h.moves qs i i past;
-  within = once_within (length trees) numbered made h.within once.same;
-  same = same_then h.moves (map (seen trees) numbered) (map (seen trees) made) h.same (same_map (seen trees) numbered made once.same);
-  once = once.once;
-}
+  within = h.within;
+  firsts = h.firsts;
+})
 
 -- the processes with one more value put in
 module _ (old mid new : List Proc) (f : IsFront old mid) (g : IsFront mid new) (id : ProcId) (within : id.0 < length old) where
@@ -120,11 +121,14 @@ module _ (p : Content) (old mid now new : List Proc) (f : IsFront old mid) (g : 
   -- what stands once the operands before the next one are there
   pub operand_next : (numbered : List StepTo) → IsChoiceSoFar p qs mid numbered k → (found made more : List StepTo) → AreEach now found (steps_of p (tree_at mid id))
       → (slice : List StepTo) → slice ≡ found → IsFront now new → AreMoves new made (map (λ m. in_choice (map (tree_at now) ids) k m.0 m.1) (map (seen now) slice))
-      → (added : List StepTo) → added ≡ made → AreJoined numbered added more → IsChoiceSoFar p qs new more (k + 1)
-  operand_next numbered h found made more each slice alike front moves added is_made joined =
+      → (added : List StepTo) → added ≡ made → AreDifferent new → AreAdded numbered added more → IsChoiceSoFar p qs new more (k + 1)
+  operand_next numbered h found made more each slice alike front moves added is_made different joined =
       let trees_are : map (tree_at now) ids ≡ qs = trees_stay old now (front_both old mid now f g) ids below in
       let whole : IsFront mid new = front_both mid now new g front in
       let here : map (seen new) numbered ≡ map (seen mid) numbered = seen_stay mid new whole numbered h.within in
+      let still = all_within_stay mid new whole numbered h.within in
+      let inside = ap (all_within (length new)) is_made ∙ moves.within in
+      let grown : map (seen new) more ≡ map (seen new) numbered ++ map (seen new) joined.more = ap (map (seen new)) joined.grown ∙ map-append (seen new) numbered joined.more in
       let mine : map (seen new) added ≡ map (λ m. in_choice qs k m.0 m.1) (map (seen now) found) =
       ap (map (seen new)) is_made ∙ (moves.same ∙ (λ i. map (λ m. in_choice (trees_are i) k m.0 m.1) (map (seen now) (alike i)))) in
       record {
@@ -133,10 +137,12 @@ module _ (p : Content) (old mid now new : List Proc) (f : IsFront old mid) (g : 
             left_next (of_operand p qs) (λ ms. ms) refl (λ xs ys. refl) h.moves (h.moves ++ map (λ m. in_choice qs k m.0 m.1) each.moves) qs k k (tree_at old id) (omega (arith, lt, length-map ids (tree_at old))) at_place
             (ap (λ (o : Outcome (List Move)). and_then (and_then o (λ ms. Ok (map (λ m. in_choice qs k m.0 m.1) ms))) (λ ys. Ok (h.moves ++ ys)))
             (ap (steps_of p) (sym (tree_stays old mid f id id_within)) ∙ each.has));
-        within = joined_within (length new) numbered added more joined (all_within_stay mid new whole numbered h.within) (ap (all_within (length new)) is_made ∙ moves.within);
-        same = same_joining (seen new) h.moves (map (λ m. in_choice qs k m.0 m.1) each.moves) numbered added more joined
-            (subst (λ ms. HaveSame h.moves ms) (sym here) h.same)
-            (subst (λ ms. HaveSame (map (λ m. in_choice qs k m.0 m.1) each.moves) ms) (sym mine) (same_map (λ m. in_choice qs k m.0 m.1) each.moves (map (seen now) found) each.same));
+        within = added_within (length new) numbered added more joined still inside;
+        firsts = subst (λ ms. AreFirsts (h.moves ++ map (λ m. in_choice qs k m.0 m.1) each.moves) ms) (sym grown)
+            (firsts_append h.moves (map (λ m. in_choice qs k m.0 m.1) each.moves) [] (map (seen new) numbered) (map (seen new) joined.more)
+            (subst (λ ms. AreFirsts h.moves ms) (sym here) h.firsts)
+            (map_firsts (λ m. in_choice qs k m.0 m.1) each.moves (map (seen now) found) (map (seen new) numbered) (map (seen new) joined.more) each.firsts
+            (subst (λ ms. AreFirstsAfter ms (map (seen new) numbered) (map (seen new) joined.more)) mine (seen_firsts new different added numbered joined.more inside still joined.firsts))));
       }
 
   -- an operand is no deeper than the deepest

@@ -3,6 +3,7 @@ pub mod Choosing
 pub mod Computing
 pub mod Doubles
 pub mod Entering
+pub mod Firsts
 pub mod Forms
 pub mod Looking
 pub mod Noting
@@ -10,5 +11,6 @@ pub mod Numbered
 pub mod Own
 pub mod Places
 pub mod Rounds
+pub mod Targets
 pub mod Under
 pub mod Walking

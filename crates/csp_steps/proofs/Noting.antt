@@ -21,7 +21,7 @@ use Rattle.term_pool.specs.Pooled.{IsFront}
 use Rattle.term_pool.specs.Trees.{tree_at}
 use Rattle.pool_parts.specs.declared.place.ProcId.{ProcId}
 use Rattle.csp_steps.specs.Computed.{AreEach}
-use Rattle.csp_steps.specs.Once.{HaveSame}
+use Rattle.csp_steps.specs.Order.{AreFirsts}
 use Rattle.csp_steps.specs.Evaluated.{body_of, AreBodies, AreNoted, AreStepped, Fits, HasMoreNumbers, HasValue, Hides, IsNumbered, LeadOn, Renames, StandsAs, hidden_by, renamed_by}
 use Rattle.csp_steps.specs.declared.evaluated.Evaluated.{Evaluated}
 use Rattle.csp_steps.specs.declared.step.StepTo.{StepTo}
@@ -87,8 +87,7 @@ each_stay old new front steps o h = record {
   moves = h.moves;
   has = h.has;
   within = all_within_stay old new front steps h.within;
-  same = subst (λ (ms : List Move). HaveSame h.moves ms) (sym (seen_stay old new front steps h.within)) h.same;
-  once = h.once;
+  firsts = subst (λ (ms : List Move). AreFirsts h.moves ms) (sym (seen_stay old new front steps h.within)) h.firsts;
 }
 
 stepped_stay : {S : Type 0} (p : Content) (old new : List Proc) → IsFront old new → (lists : List (List StepTo)) (stepped : HashMap ℕ ℕ S) → AreStepped p old lists stepped → AreStepped p new lists stepped

@@ -25,7 +25,7 @@ use Rattle.process_steps.specs.StepList.{Move}
 use Rattle.process_steps.specs.declared.label.Label.TheVariants.{Visible}
 use Rattle.value_laws.proofs.RowNumbers.{field_found, length-rows, to_rows}
 use Rattle.value_laws.specs.Numbers.{field_place, found_place}
-use Rattle.csp_steps.specs.Computed.{Way, event_move, nth_event}
+use Rattle.csp_steps.specs.Computed.{event_move, nth_event}
 use Rattle.csp_steps.specs.Walked.{number_with, ways_by_number}
 
 no_place : (o : Option ℕ) (why : ValueKind) → found_place o ≡ Err why → (o ≡ None) × (OutsideChannel ≡ why)

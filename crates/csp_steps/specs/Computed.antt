@@ -23,8 +23,8 @@ use Rattle.process_steps.specs.declared.label.Label.TheVariants.{Silent, Visible
 use Rattle.pool_parts.specs.declared.place.ProcId.{ProcId}
 use Rattle.value_operators.specs.declared.fault.EvalFault.{EvalFault}
 use Rattle.value_operators.specs.declared.fault.EvalFault.TheVariants as fault
-use Rattle.csp_base.specs.Lists.{EachOnce, greatest}
-use Rattle.csp_steps.specs.Once.{HaveSame}
+use Rattle.csp_base.specs.Lists.{greatest}
+use Rattle.csp_steps.specs.Order.{AreFirsts, AreFirstsAfter}
 
 -- whether each of the steps leads to one of the first so many places
 abbrev pub all_within : ℕ → List StepTo → Bool
@@ -47,18 +47,23 @@ GivesMoves trees (Ok steps) outcome = IsListing trees steps outcome
 GivesMoves trees (Err fault.NoMemory) outcome = Unit {0}
 GivesMoves trees (Err (fault.Value kind)) outcome = outcome ≡ Err kind
 
--- These are exactly the moves of the outcome, each once, at places of the list.
+-- These are exactly the moves of the outcome, each where it first stands, at places of the list.
 pub record AreEach (trees : List Proc) (steps : List StepTo) (outcome : Outcome (List Move)) : Type 0 where
   pub moves : List Move
   pub has : outcome ≡ Ok moves
   pub within : all_within (length trees) steps ≡ true
-  pub same : HaveSame moves (map (seen trees) steps)
-  pub once : EachOnce steps
+  pub firsts : AreFirsts moves (map (seen trees) steps)
 
 abbrev pub GivesEach : List Proc → Result (List StepTo) EvalFault → Outcome (List Move) → Type 0
 GivesEach trees (Ok steps) outcome = AreEach trees steps outcome
 GivesEach trees (Err fault.NoMemory) outcome = Unit {0}
 GivesEach trees (Err (fault.Value kind)) outcome = outcome ≡ Err kind
+
+-- Each of the steps that isn't among the old ones comes to their end, where it first stands.
+pub record AreAdded (old steps new : List StepTo) : Type 0 where
+  pub more : List StepTo
+  pub grown : new ≡ old ++ more
+  pub firsts : AreFirstsAfter steps old more
 
 -- the outcome is the process at the place
 pub record IsPlaceOf (trees : List Proc) (id : ProcId) (outcome : Outcome Proc) : Type 0 where

@@ -70,7 +70,7 @@ Renames p d images = KeepsOutcome images (renamed_by p d)
 abbrev pub AreBodies : {S : Type 0} → Content → List Proc → HashMap ℕ ℕ S → Type 0
 AreBodies p trees bodies = (d q : ℕ) → get nat_eq bodies d ≡ Some q → StandsAs trees q (λ t. body_of (slice_get p.defs d) ≡ Some t)
 
--- at each place that has a number stands a process with these steps, each once
+-- at each place that has a number stands a process with these steps, each where it first stands
 abbrev pub AreStepped : {S : Type 0} → Content → List Proc → List (List StepTo) → HashMap ℕ ℕ S → Type 0
 AreStepped p trees lists numbers = (q k : ℕ) → get nat_eq numbers q ≡ Some k → HasValue lists k (λ steps. StandsAs trees q (λ t. AreEach trees steps (steps_of p t)))
 

@@ -1,12 +1,12 @@
 -- The steps of a process of a pool: labels, and the places of the processes after them.
-use Rattle.std.specs.Prelude.{◌≡◌, ◌↔◌, ◌<◌, ℕ, Result, Some, Ok, Err, List, map, length, slice_get}
-use Rattle.process_steps.specs.StepList.{ListsMove, Move, steps_of}
+use Rattle.std.specs.Prelude.{◌≡◌, ◌<◌, ℕ, Result, Some, Ok, Err, List, map, length, slice_get}
+use Rattle.process_steps.specs.StepList.{Move, steps_of}
 use Rattle.term_pool.specs.Trees.{tree_at}
 use Rattle.csp_program.specs.Outcome.{Outcome}
 use Rattle.csp_program.specs.declared.processes.Proc.{Proc}
 use Rattle.csp_program.specs.declared.programs.Content.{Content}
+use Rattle.csp_steps.specs.Order.{AreFirsts}
 use Rattle.csp_steps.specs.declared.step.StepTo.{StepTo}
-use Rattle.process_steps.specs.declared.label.Label.{Label}
 use Rattle.value_operators.specs.declared.fault.EvalFault.{EvalFault}
 use Rattle.value_operators.specs.declared.fault.EvalFault.TheVariants as fault
 
@@ -14,13 +14,12 @@ use Rattle.value_operators.specs.declared.fault.EvalFault.TheVariants as fault
 abbrev pub seen : List Proc → StepTo → Move
 seen trees s = (s.label, tree_at trees s.to)
 
--- These are exactly the steps of the process, each once, at places of the list.
+-- These are exactly the steps of the process, each once, in the order in which they first stand in its list, at places of the pool.
 pub record AreStepsOf (p : Content) (trees : List Proc) (t : Proc) (steps : List StepTo) : Type 0 where
   pub moves : List Move
   pub has : steps_of p t ≡ Ok moves
   pub within : (k : ℕ) (s : StepTo) → slice_get steps k ≡ Some s → s.to.0 < length trees
-  pub same : (l : Label) (u : Proc) → ListsMove moves l u ↔ ListsMove (map (seen trees) steps) l u
-  pub once : (i j : ℕ) (s : StepTo) → slice_get steps i ≡ Some s → slice_get steps j ≡ Some s → i ≡ j
+  pub firsts : AreFirsts moves (map (seen trees) steps)
 
 -- a fault of kind Value is the one that the outcome is; want of memory is free
 abbrev pub FaultIs : {A B : Type 0} → Result A EvalFault → Outcome B → Type 0

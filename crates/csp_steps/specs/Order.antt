@@ -1,5 +1,5 @@
 -- The processes to which a process goes by a label, in the order in which its list of steps has them.
-use Rattle.std.specs.Prelude.{◌≡◌, ℕ, nat_eq, Bool, true, false, if◌then◌else◌, Ok, List, [], ◌∷◌}
+use Rattle.std.specs.Prelude.{◌≡◌, nat_eq, Bool, true, false, if◌then◌else◌, Ok, List, [], ◌∷◌}
 use Rattle.csp_base.specs.Lists.{StandsIn}
 use Rattle.csp_program.specs.declared.processes.Proc.{Proc}
 use Rattle.csp_program.specs.declared.programs.Content.{Content}

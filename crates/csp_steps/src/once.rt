@@ -1,7 +1,8 @@
-//! Each step once.
+//! Each step once, where it first stands.
 
-ghost use Rattle.std.specs.Prelude.{IfOk, OnOk};
-ghost use Rattle.csp_steps.specs.Once.{IsOnce, AreJoined};
+ghost use Rattle.std.specs.Prelude.{◌≡◌, IfOk, OnOk};
+ghost use Rattle.csp_steps.specs.Computed.{AreAdded};
+ghost use Rattle.csp_steps.specs.Order.{AreFirsts};
 
 use crate::step::StepTo;
 use containers::{Items, Numbering};
@@ -10,7 +11,7 @@ use std::alloc::Global;
 
 /// Adds steps to others, each of which stands once.
 pub(crate) fn add_each(numbered: &mut Numbering<StepTo>, steps: &[StepTo]) -> Result<(), NoMemory>
-    ensures { OnOk result (AreJoined numbered.old steps.now numbered.new) }
+    ensures { OnOk result (AreAdded numbered.old steps.now numbered.new) }
 {
     for step in steps {
         numbered.number(*step)?;
@@ -23,14 +24,14 @@ pub(crate) fn numbered_steps(
     alloc: Global,
     numbered: &Numbering<StepTo>,
 ) -> Result<Items<StepTo>, NoMemory>
-    ensures { IfOk result (λ made. IsOnce numbered.now made) }
+    ensures { IfOk result (λ made. made ≡ numbered.now) }
 {
     Items::from_slice(alloc, numbered.as_slice())
 }
 
-/// The steps of the list, each once.
+/// The steps of the list, each once, where it first stands.
 pub(crate) fn once(alloc: Global, steps: Items<StepTo>) -> Result<Items<StepTo>, NoMemory>
-    ensures { IfOk result (λ made. IsOnce steps made) }
+    ensures { IfOk result (λ made. AreFirsts steps made) }
 {
     if steps.len() < 2 {
         return Ok(steps);

@@ -20,7 +20,7 @@ use csp_values::EvalFault;
 use std::alloc::Global;
 use term_pool::{Pool, ProcId};
 
-// The steps of the process at a place, each once.
+// The steps of the process at a place, each once, where it first stands.
 #[cycle(steps_at)]
 fn steps_at(
     alloc: Global,
@@ -41,6 +41,8 @@ fn steps_at(
     let found = look_at(alloc, program, pool, evaluated, id)?;
     match found {
         Look::Steps(steps) => {
+            // Its contract says that no process stands at two places.
+            let _ = pool.len();
             let steps = once(alloc, steps)?;
             Ok(steps)
         }
@@ -53,6 +55,8 @@ fn steps_at(
         Look::Around(below) => {
             let below = steps_at(alloc, program, pool, evaluated, below)?;
             let steps = around(alloc, program, pool, evaluated, id, below.as_slice())?;
+            // Its contract says that no process stands at two places.
+            let _ = pool.len();
             let steps = once(alloc, steps)?;
             keep_steps(alloc, evaluated, id, steps.as_slice())?;
             Ok(steps)
@@ -60,7 +64,7 @@ fn steps_at(
     }
 }
 
-// The steps of the choice between the processes at the places, each once.
+// The steps of the choice between the processes at the places, each once, where it first stands.
 #[cycle(steps_at)]
 fn steps_of_operands(
     alloc: Global,
@@ -79,13 +83,15 @@ fn steps_of_operands(
     for (index, id) in ids.iter().enumerate() {
         let below = steps_at(alloc, program, pool, evaluated, *id)?;
         let made = of_operand(alloc, pool, ids, index, below.as_slice())?;
+        // Its contract says that no process stands at two places.
+        let _ = pool.len();
         add_each(&mut numbered, made.as_slice())?;
     }
     let steps = numbered_steps(alloc, &numbered)?;
     Ok(steps)
 }
 
-/// The steps of the process at a place of the pool, each once. The processes after them are put into the pool, and what is evaluated of hidings and
+/// The steps of the process at a place of the pool, each once, in the order of its list of steps. The processes after them are put into the pool, and what is evaluated of hidings and
 /// renamings on the way is kept in `evaluated`, so that no later step evaluates it again. A fault of kind `Value` comes only where
 /// the process has no list of steps for want of a value, with the kind of the first value that there isn't.
 pub fn steps_in(

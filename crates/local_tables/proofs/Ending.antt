@@ -11,7 +11,7 @@ use Rattle.process_steps.specs.ComponentStep.{ProcessStep}
 use Rattle.pool_parts.specs.Counting.{capped}
 use Rattle.term_pool.specs.Trees.{tree_at}
 use Rattle.local_tables.specs.Component.{step_count}
-use Rattle.local_tables.specs.LocalTable.{IsLocalTable}
+use Rattle.local_tables.specs.LocalTable.{IsInOrder, IsLocalTable}
 use Rattle.local_tables.specs.Progress.{AreFollowed, ArePart, IsUpTo, Origin, counted_size, terms_at}
 use Rattle.local_tables.specs.declared.found.Found.{Found}
 use Rattle.local_tables.specs.declared.local_table.LocalTable.{LocalTable}
@@ -84,4 +84,8 @@ local_table p c room found made up small table nodes steps =
       steps = ap step_count table ∙ sym steps;
       room_for_nodes = omega arith;
       room_for_steps = let fits : step_count found.table ≤ room.steps = up.within.steps in omega arith;
+      order = λ m x l h inside'.
+          let before : m < length (terms_at found.pool found.terms) = slice_get_within terms m x h in
+          let f = up.followed.before m (let less : m < found.table.count = omega arith in less) in
+          subst (λ (r : RawTable). IsInOrder p terms r m x l) (sym table) (f.order x l h inside');
     }

@@ -4,6 +4,7 @@ use Rattle.std.specs.Prelude.{slice_get, Some}
 use Rattle.csp_program.specs.Depth.{proc_depth}
 use Rattle.csp_program.specs.declared.processes.Proc.{Proc}
 use Rattle.csp_program.specs.declared.programs.Content.{Content}
+use Rattle.csp_steps.proofs.Targets.{listed_back, listed_there}
 use Rattle.csp_steps.specs.Listed.{AreStepsOf, seen}
 use Rattle.csp_steps.specs.declared.step.StepTo.{StepTo}
 use Rattle.csp_tables.specs.Label.{Label}
@@ -21,7 +22,8 @@ use Rattle.process_steps.specs.StepList.{Move, steps_of}
 use Rattle.process_steps.specs.declared.label.Label.{Label as ProcessLabel}
 use Rattle.process_steps.specs.declared.label.Label.TheVariants.{Tick}
 use Rattle.term_pool.specs.Trees.{tree_at}
-use Rattle.local_tables.specs.Progress.{IsInside, process_label}
+use Rattle.local_tables.specs.Component.{IsInside}
+use Rattle.local_tables.specs.Progress.{process_label}
 use Rattle.local_tables.proofs.Lists.{map_at, under_map}
 
 pub label_is : (l k : Label) → process_label l ≡ process_label k → l ≡ k
@@ -54,7 +56,7 @@ lists_are p t moves h l u = ((λ g. sound_within p (proc_depth t) t moves h l u 
 
 module _ (p : Content) (trees : List Proc) (t : Proc) (steps : List StepTo) (are : AreStepsOf p trees t steps) where
   pub step_is : (k : ℕ) (s : StepTo) → slice_get steps k ≡ Some s → Step p t s.label (tree_at trees s.to)
-  step_is k s h = (lists_are p t are.moves are.has s.label (tree_at trees s.to)).0 ((are.same s.label (tree_at trees s.to)).1 (k, map_at (seen trees) steps k s h))
+  step_is k s h = (lists_are p t are.moves are.has s.label (tree_at trees s.to)).0 (listed_back p trees t steps are s.label (tree_at trees s.to) (k, map_at (seen trees) steps k s h))
 
   -- a step stands among the listed ones
   pub record Stands (l : ProcessLabel) (u : Proc) : Type 0 where
@@ -66,7 +68,7 @@ module _ (p : Content) (trees : List Proc) (t : Proc) (steps : List StepTo) (are
 
   pub step_stands : (l : ProcessLabel) (u : Proc) → Step p t l u → Stands l u
   step_stands l u s =
-      let listed = (are.same l u).0 ((lists_are p t are.moves are.has l u).1 s) in
+      let listed = listed_there p trees t steps are l u ((lists_are p t are.moves are.has l u).1 s) in
       let under = under_map (seen trees) steps listed.0 (l, u) listed.1 in
       record { place = listed.0; step = under.element; at = under.at; label = ap (λ (m : Move). m.0) under.is; tree = ap (λ (m : Move). m.1) under.is }
 

@@ -1,6 +1,7 @@
 pub mod Lists
 pub mod Labels
 pub mod Results
+pub mod Rows
 pub mod Growing
 pub mod Taking
 pub mod Walking

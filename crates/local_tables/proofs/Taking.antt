@@ -1,31 +1,36 @@
 -- The steps of one term, taken one after another.
-use Rattle.std.proofs.Common.{◌≡◌, ℕ, ◌+◌, ◌<◌, ◌≤◌, ◌⊎◌, Some, List, [], ◌∷◌, ◌++◌, length, refl, sym, ap, subst, ◌∙◌, arith, inl, inr, append-nil}
-use Rattle.std.specs.Prelude.{slice_get}
+use Rattle.std.proofs.Common.{◌≡◌, ℕ, ◌+◌, ◌<◌, ◌≤◌, ◌⊎◌, false, true, Some, List, [], ◌∷◌, ◌++◌, length, refl, sym, ap, subst, ◌∙◌, arith, inl, inr, append-nil}
+use Rattle.std.specs.Prelude.{map, slice_get, take}
 use Rattle.std.proofs.lemmas.Bool.{cases_lt}
 use Rattle.std.proofs.lemmas.Option.{slice_get_within}
 use Rattle.csp_program.specs.declared.processes.Proc.{Proc}
 use Rattle.csp_program.specs.declared.programs.Content.{Content}
-use Rattle.csp_steps.specs.Listed.{AreStepsOf}
+use Rattle.csp_steps.proofs.Targets.{firsts_goals, listed_once}
+use Rattle.csp_steps.specs.Listed.{AreStepsOf, seen}
+use Rattle.csp_steps.specs.Order.{goals, is_by}
 use Rattle.csp_steps.specs.declared.step.StepTo.{StepTo}
 use Rattle.csp_tables.specs.Label.{Label}
 use Rattle.csp_tables.specs.Label.Label.{silent, visible}
 use Rattle.csp_tables.specs.Network.{Component, ComponentStep}
 use Rattle.csp_tables.specs.RawTable.{IsInTable, IsStepOf, RawStep, RawTable, standing_at}
+use Rattle.csp_tables.specs.RowOrder.{targets_in}
 use Rattle.process_steps.specs.ComponentStep.{ProcessStep, Ticks}
 use Rattle.process_steps.specs.Step.{Step}
 use Rattle.process_steps.specs.declared.label.Label.TheVariants.{Tick}
 use Rattle.term_pool.specs.Pooled.{IsFront}
 use Rattle.term_pool.specs.Trees.{tree_at}
 use Rattle.pool_parts.specs.declared.place.ProcId.{ProcId}
-use Rattle.local_tables.specs.Component.{AreSteps, HasList, step_count}
-use Rattle.local_tables.specs.Progress.{AreFollowed, AreFound, AreTaken, ComesFrom, HasMore, HasMoreTerms, HasStepMore, IsAt, IsFollowed, IsInside, IsSoFar, IsTaken, IsUpTo, IsWithin, LeadsTo, LeadsToTerm, Origin, Steps, process_label, terms_at}
+use Rattle.local_tables.specs.Component.{AreSteps, HasList, IsInside, step_count}
+use Rattle.local_tables.specs.LocalTable.{IsInOrder}
+use Rattle.local_tables.specs.Progress.{AreFollowed, AreFound, AreTaken, ComesFrom, HasMore, HasMoreTerms, HasStepMore, IsAt, IsFollowed, IsRow, IsSoFar, IsTaken, IsUpTo, IsWithin, LeadsTo, LeadsToTerm, Origin, Steps, process_label, terms_at}
 use Rattle.local_tables.specs.Faults.{CanEnd}
 use Rattle.local_tables.specs.declared.found.Found.{Found}
 use Rattle.local_tables.specs.Room.{Room}
 use Rattle.local_tables.proofs.Growing.{found_kept, in_table_more, same_step}
 use Rattle.local_tables.proofs.Labels.{component_step, inside_of, label_is, no_tick, process_step, step_is, step_stands}
 use Rattle.local_tables.proofs.Lists.{map_at, nothing_at, once_push, one_at, terms_kept, under_map}
-use Rattle.std.proofs.lemmas.List.{map-append}
+use Rattle.local_tables.proofs.Rows.{goals_more, goals_stay, row_end, row_kept, row_more, row_none, row_same, row_stays, same_or_not, seen_next}
+use Rattle.std.proofs.lemmas.List.{map-append, take_all}
 use Rattle.csp_base.proofs.Lists.{push_cases, slice_get_last, slice_get_some}
 use Rattle.containers.proofs.MembersLemmas.{slice_get-append_left}
 use Rattle.csp_base.specs.Lists.{EachOnce}
@@ -96,11 +101,14 @@ module _ (p : Content) (c : Component Proc) where
     sizes = found.sizes;
   }
 
-  pub followed_more : (terms more : List Proc) (old new : RawTable) (k : ℕ) → k < length terms → ((m n : ℕ) (l : Label) → RawStep old m l n → RawStep new m l n) → IsFollowed p c terms old k → IsFollowed p c (terms ++ more) new k
-  followed_more terms more old new k inside kept f = record {
+  pub followed_more : (terms more : List Proc) (old new : RawTable) (k : ℕ) → k < length terms → ((m n : ℕ) (l : Label) → RawStep old m l n → RawStep new m l n) → ((l : Label) → targets_in new k l ≡ targets_in old k l)
+      → IsFollowed p c terms old k → IsFollowed p c (terms ++ more) new k
+  followed_more terms more old new k inside kept same f = record {
     list = λ x h. f.list x (before x h);
     goes_on = λ x h. f.goes_on x (before x h);
     complete = λ x l d h s. in_table_more terms more old new k l d (λ n. kept k n l) (f.complete x l d (before x h) s);
+    order = λ x l h inside. let o = f.order x l (before x h) inside in
+        record { targets = o.targets; are = o.are; same = ap (map (λ n. slice_get (terms ++ more) n)) (same l) ∙ row_kept terms more (targets_in old k l) o.targets o.same };
   }
     where
       before : (x : Proc) → slice_get (terms ++ more) k ≡ Some x → slice_get terms k ≡ Some x
@@ -120,6 +128,8 @@ module _ (p : Content) (c : Component Proc) where
         here = subst (λ zs. slice_get zs at ≡ Some (tree_at old id)) (sym same) (map_at (tree_at old) ids at id there);
         list = list;
         taken = λ j s h g. absurd (omega arith);
+        order = λ l inside.
+            ap (map (λ n. slice_get (terms_at new ids) n)) (row_none raw at l (λ n s. let less : at < at = f.sources at n l s in omega arith));
       }
 
   module _ (trees : List Proc) (ids : List ProcId) (raw : RawTable) (at : ℕ) (steps : List StepTo) (i : ℕ) (are : AreTaken p c trees ids raw at steps i) (s : StepTo) (now : slice_get steps i ≡ Some s) where
@@ -132,13 +142,15 @@ module _ (p : Content) (c : Component Proc) where
     taken_on : (more : List ProcId) (new : RawTable)
         → ((m n : ℕ) (k : Label) → RawStep raw m k n → RawStep new m k n)
         → ((m n : ℕ) (k : Label) → RawStep new m k n → RawStep raw m k n ⊎ ((m ≡ at) × ComesFrom (ids ++ more) steps (i + 1) k n))
+        → ((m : ℕ) (k : Label) → m < at → targets_in new m k ≡ targets_in raw m k)
+        → ((k : Label) → IsInside c.alphabet k → IsRow (terms_at trees (ids ++ more)) (targets_in new at k) (goals k (map (seen trees) (take i steps) ++ seen trees s ∷ [])))
         → IsTaken c.alphabet (ids ++ more) new at s
         → AreTaken p c trees (ids ++ more) new at steps (i + 1)
-    taken_on more new kept only this =
+    taken_on more new kept only others row this =
         let terms : terms_at trees (ids ++ more) ≡ terms_at trees ids ++ terms_at trees more = map-append (tree_at trees) ids more in
         let inside : at < length (terms_at trees ids) = slice_get_within (terms_at trees ids) at are.term are.here in
         record {
-          before = λ k h. subst (λ zs. IsFollowed p c zs new k) (sym terms) (followed_more (terms_at trees ids) (terms_at trees more) raw new k (omega arith) kept (are.before k h));
+          before = λ k h. subst (λ zs. IsFollowed p c zs new k) (sym terms) (followed_more (terms_at trees ids) (terms_at trees more) raw new k (omega arith) kept (λ l. others k l h) (are.before k h));
           sources = λ m n l x. elim (only m n l x) as (λ _. (m < at) ⊎ ((m ≡ at) × ComesFrom (ids ++ more) steps (i + 1) l n)) [
             | inl old ↦ elim (are.sources m n l old) as (λ _. (m < at) ⊎ ((m ≡ at) × ComesFrom (ids ++ more) steps (i + 1) l n)) [
               | inl less ↦ inl less
@@ -157,14 +169,38 @@ module _ (p : Content) (c : Component Proc) where
                 let is : j ≡ i = omega arith in
                 subst (λ z. IsTaken c.alphabet (ids ++ more) new at z) (one_at steps i s x now (subst (λ z. slice_get steps z ≡ Some x) is g)) this
           ];
+          order = λ k inside'. row k inside' ∙ ap (λ moves. map (λ t. Some t) (goals k moves)) (sym (seen_next trees steps i s now));
         }
+
+    -- the row is as it was, with more terms
+    row_before : (more : List ProcId) (k : Label) → IsInside c.alphabet k → IsRow (terms_at trees (ids ++ more)) (targets_in raw at k) (goals k (map (seen trees) (take i steps)))
+    row_before more k inside =
+        subst (λ zs. IsRow zs (targets_in raw at k) (goals k (map (seen trees) (take i steps)))) (sym (map-append (tree_at trees) ids more))
+        (row_kept (terms_at trees ids) (terms_at trees more) (targets_in raw at k) (goals k (map (seen trees) (take i steps))) (are.order k inside))
+
+    -- the step is none by this label
+    row_other : (more : List ProcId) (new : RawTable) (k : Label) → IsInside c.alphabet k → is_by k s.label ≡ false → targets_in new at k ≡ targets_in raw at k
+        → IsRow (terms_at trees (ids ++ more)) (targets_in new at k) (goals k (map (seen trees) (take i steps) ++ seen trees s ∷ []))
+    row_other more new k inside other same =
+        ap (map (λ n. slice_get (terms_at trees (ids ++ more)) n)) same ∙ row_before more k inside ∙
+        ap (map (λ t. Some t)) (sym (goals_stay k (map (seen trees) (take i steps)) (seen trees s) other))
+
+    -- it is one, to the term with this number
+    row_this : (more : List ProcId) (new : RawTable) (k : Label) (number : ℕ) → IsInside c.alphabet k → is_by k s.label ≡ true → targets_in new at k ≡ targets_in raw at k ++ number ∷ [] → slice_get (ids ++ more) number ≡ Some s.to
+        → IsRow (terms_at trees (ids ++ more)) (targets_in new at k) (goals k (map (seen trees) (take i steps) ++ seen trees s ∷ []))
+    row_this more new k number inside this grown listed =
+        ap (map (λ n. slice_get (terms_at trees (ids ++ more)) n)) grown ∙
+        row_end (terms_at trees (ids ++ more)) (targets_in raw at k) (goals k (map (seen trees) (take i steps))) number (tree_at trees s.to) (row_before more k inside) (map_at (tree_at trees) (ids ++ more) number s.to listed) ∙
+        ap (map (λ t. Some t)) (sym (goals_more k (map (seen trees) (take i steps)) (seen trees s) this))
 
     -- the step is in the table now
     pub taken_led : (more : List ProcId) (new : RawTable) (l : Label) (number : ℕ) → s.label ≡ process_label l → slice_get (ids ++ more) number ≡ Some s.to → RawStep new at l number
         → ((m n : ℕ) (k : Label) → RawStep raw m k n → RawStep new m k n)
         → ((m n : ℕ) (k : Label) → RawStep new m k n → RawStep raw m k n ⊎ ((m ≡ at) × (k ≡ l) × (n ≡ number)))
+        → targets_in new at l ≡ targets_in raw at l ++ number ∷ []
+        → ((m : ℕ) (k : Label) → (m ≡ at → k ≡ l → ⊥) → targets_in new m k ≡ targets_in raw m k)
         → AreTaken p c trees (ids ++ more) new at steps (i + 1)
-    taken_led more new l number label listed step kept only = taken_on more new kept
+    taken_led more new l number label listed step kept only row others = taken_on more new kept
         (λ m n k x. elim (only m n k x) as (λ _. RawStep raw m k n ⊎ ((m ≡ at) × ComesFrom (ids ++ more) steps (i + 1) k n)) [
           | inl old ↦ inl old
           | inr last ↦ inr (
@@ -178,6 +214,11 @@ module _ (p : Content) (c : Component Proc) where
             },
           )
         ])
+        (λ m k less. others m k (λ is. absurd (omega arith)))
+        (λ k inside. elim (same_or_not k l) as (λ _. IsRow (terms_at trees (ids ++ more)) (targets_in new at k) (goals k (map (seen trees) (take i steps) ++ seen trees s ∷ []))) [
+          | inl same ↦ row_this more new k number inside (ap (is_by k) label ∙ same.1) (subst (λ (z : Label). targets_in new at z ≡ targets_in raw at z ++ number ∷ []) (sym same.0) row) listed
+          | inr other ↦ row_other more new k inside (ap (is_by k) label ∙ other.1) (others at k (λ is. other.0))
+        ])
         (record {
           leads = λ k is inside. subst (λ (z : Label). LeadsTo (ids ++ more) new at z s.to) (label_is l k (sym label ∙ is)) (record { number = number; listed = listed; step = step });
           goes_on = λ is. no_tick l (sym label ∙ is);
@@ -186,7 +227,12 @@ module _ (p : Content) (c : Component Proc) where
     -- its event is outside of the alphabet
     pub taken_outside : (l : Label) → s.label ≡ process_label l → (IsInside c.alphabet l → ⊥) → AreTaken p c trees ids raw at steps (i + 1)
     taken_outside l label outside = subst (λ zs. AreTaken p c trees zs raw at steps (i + 1)) (append-nil ids)
-        (taken_on [] raw (λ m n k x. x) (λ m n k x. inl x) (record {
+        (taken_on [] raw (λ m n k x. x) (λ m n k x. inl x) (λ m k less. refl)
+        (λ k inside. elim (same_or_not k l) as (λ _. IsRow (terms_at trees (ids ++ [])) (targets_in raw at k) (goals k (map (seen trees) (take i steps) ++ seen trees s ∷ []))) [
+          | inl same ↦ absurd (outside (subst (λ (z : Label). IsInside c.alphabet z) same.0 inside))
+          | inr other ↦ row_other [] raw k inside (ap (is_by k) label ∙ other.1) refl
+        ])
+        (record {
           leads = λ k is inside. absurd (outside (subst (λ (z : Label). IsInside c.alphabet z) (sym (label_is l k (sym label ∙ is))) inside));
           goes_on = λ is. no_tick l (sym label ∙ is);
         }))
@@ -200,7 +246,7 @@ module _ (p : Content) (c : Component Proc) where
               let f = from.1 in
               let to : f.id ≡ s.to = one_at ids n f.id s.to f.number there in
               let is : slice_get steps f.place ≡ Some s = f.step ∙ ap (λ z. Some (record { label = process_label l; to = z })) to ∙ ap (λ z. Some (record { label = z; to = s.to })) (sym label) in
-              let same : f.place ≡ i = are.list.once f.place i s is now in
+              let same : f.place ≡ i = listed_once p trees are.term steps are.list f.place i s is now in
               let less : f.place < i = f.before in
               absurd (omega arith)
         ]
@@ -250,6 +296,11 @@ module _ (p : Content) (c : Component Proc) where
         list = λ x h. subst (λ z. HasList p z) (is_term x h) (are.list.moves, are.list.has);
         goes_on = λ x h ticks. no_end (subst (λ z. Ticks p z) (sym (is_term x h)) ticks);
         complete = λ x l d h step. every l d (subst (λ z. ComponentStep (ProcessStep p) (standing_at c z) l d) (sym (is_term x h)) step);
+        order = λ x l h inside. subst (λ z. IsInOrder p (terms_at trees ids) raw at z l) (is_term x h) (record {
+          targets = goals l (map (seen trees) steps);
+          are = record { moves = are.list.moves; has = are.list.has; firsts = firsts_goals l are.list.moves [] (map (seen trees) steps) are.list.firsts };
+          same = are.order l inside ∙ ap (λ ss. map (λ t. Some t) (goals l (map (seen trees) ss))) (take_all i steps all);
+        });
       }
 
 -- ---- the same of what was found
@@ -286,6 +337,8 @@ module _ (p : Content) (c : Component Proc) (old mid : Found) (from : ℕ) (l : 
       | inl before ↦ inl (same_step old.table mid.table m n k more.silent more.steps before)
       | inr last ↦ inr last
     ];
+    row = row_more mid.table new.table from number l added ∙ ap (λ ns. ns ++ number ∷ []) (row_same old.table mid.table from l more.silent more.steps);
+    others = λ m k other. row_stays mid.table new.table from number l added m k other ∙ row_same old.table mid.table m k more.silent more.steps;
   }
 
 module _ (p : Content) (c : Component Proc) (room : Room) (found : Found) (at : ℕ) (steps : List StepTo) (i : ℕ) (are : IsAt p c room found at steps i) (s z : StepTo) (now : slice_get steps i ≡ Some s) (too : slice_get steps i ≡ Some z) where
@@ -313,7 +366,7 @@ module _ (p : Content) (c : Component Proc) (room : Room) (found : Found) (at : 
     taken = subst (λ trees. AreTaken p c trees new.terms new.table at steps (i + 1)) (sym more.pool) (subst (λ ids. AreTaken p c found.pool ids new.table at steps (i + 1)) (sym more.terms)
         (taken_led p c found.pool found.terms found.table at steps i are.taken s now more.more new.table l more.number label
         (subst (λ ids. slice_get ids more.number ≡ Some s.to) more.terms (more.listed ∙ ap (λ (x : StepTo). Some x.to) (sym both)))
-        more.step more.kept more.only));
+        more.step more.kept more.only more.row more.others));
   }
 
   pub at_tick : (trace : List ℕ) → s.label ≡ Tick → LeadsToTerm p c (terms_at found.pool found.terms) trace at → CanEnd p c trace

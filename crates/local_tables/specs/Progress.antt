@@ -1,17 +1,18 @@
 -- What stands while a component is explored. (No public contract cites this.)
-use Rattle.std.specs.Prelude.{◌≡◌, ◌⊎◌, ℕ, ◌+◌, ◌<◌, ◌≤◌, IsTrue, Option, Some, None, List, [], ◌∷◌, ◌++◌, length, map, slice_get}
+use Rattle.std.specs.Prelude.{◌≡◌, ◌⊎◌, ℕ, ◌+◌, ◌<◌, ◌≤◌, Option, Some, None, List, [], ◌∷◌, ◌++◌, length, map, slice_get, take}
 use Rattle.dl_limits.specs.declared.TheConstants.{MOST_TERMS, MOST_TERM_DEPTH}
-use Rattle.csp_base.specs.Members.{has}
 use Rattle.csp_program.specs.Depth.{proc_depth}
 use Rattle.csp_program.specs.Size.{proc_size}
 use Rattle.csp_program.specs.declared.processes.Proc.{Proc}
 use Rattle.csp_program.specs.declared.programs.Content.{Content}
-use Rattle.csp_steps.specs.Listed.{AreStepsOf}
+use Rattle.csp_steps.specs.Listed.{AreStepsOf, seen}
+use Rattle.csp_steps.specs.Order.{goals}
 use Rattle.csp_steps.specs.declared.step.StepTo.{StepTo}
 use Rattle.csp_tables.specs.Label.{Label}
 use Rattle.csp_tables.specs.Label.Label.{silent, visible}
 use Rattle.csp_tables.specs.Network.{Component, ComponentStep}
 use Rattle.csp_tables.specs.RawTable.{IsInTable, IsStepOf, RawStep, RawTable, standing_at}
+use Rattle.csp_tables.specs.RowOrder.{targets_in}
 use Rattle.csp_tables.specs.Trace.{After}
 use Rattle.process_steps.specs.ComponentStep.{ProcessStep, Ticks}
 use Rattle.process_steps.specs.declared.label.Label.{Label as ProcessLabel}
@@ -20,6 +21,7 @@ use Rattle.term_pool.specs.Trees.{tree_at}
 use Rattle.pool_parts.specs.Counting.{capped}
 use Rattle.pool_parts.specs.declared.place.ProcId.{ProcId}
 use Rattle.local_tables.specs.Component.{AreSteps, AreTerms, HasList, IsInside, step_count}
+use Rattle.local_tables.specs.LocalTable.{IsInOrder}
 use Rattle.local_tables.specs.declared.found.Found.{Found}
 use Rattle.local_tables.specs.Room.{Room}
 use Rattle.csp_base.specs.Lists.{total}
@@ -79,6 +81,7 @@ pub record IsFollowed (p : Content) (c : Component Proc) (terms : List Proc) (ra
   pub list : (x : Proc) → slice_get terms k ≡ Some x → HasList p x
   pub goes_on : (x : Proc) → slice_get terms k ≡ Some x → Ticks p x → ⊥
   pub complete : (x : Proc) (l : Label) (d : Component Proc) → slice_get terms k ≡ Some x → ComponentStep (ProcessStep p) (standing_at c x) l d → IsInTable terms raw k l d
+  pub order : (x : Proc) (l : Label) → slice_get terms k ≡ Some x → IsInside c.alphabet l → IsInOrder p terms raw k x l
 
 -- The terms before the number `at` are followed, and no others.
 pub record AreFollowed (p : Content) (c : Component Proc) (terms : List Proc) (raw : RawTable) (at : ℕ) : Type 0 where
@@ -109,6 +112,10 @@ pub record IsTaken (alphabet : List ℕ) (ids : List ProcId) (raw : RawTable) (m
   pub leads : (l : Label) → s.label ≡ process_label l → IsInside alphabet l → LeadsTo ids raw m l s.to
   pub goes_on : s.label ≡ Tick → ⊥
 
+-- the terms with these numbers
+abbrev pub IsRow : List Proc → List ℕ → List Proc → Type 0
+IsRow terms numbers targets = map (λ n. slice_get terms n) numbers ≡ map (λ t. Some t) targets
+
 -- The terms before the number `at` are followed, and of the steps of that term the first i are taken.
 pub record AreTaken (p : Content) (c : Component Proc) (trees : List Proc) (ids : List ProcId) (raw : RawTable) (at : ℕ) (steps : List StepTo) (i : ℕ) : Type 0 where
   pub before : (k : ℕ) → k < at → IsFollowed p c (terms_at trees ids) raw k
@@ -117,6 +124,7 @@ pub record AreTaken (p : Content) (c : Component Proc) (trees : List Proc) (ids 
   pub here : slice_get (terms_at trees ids) at ≡ Some term
   pub list : AreStepsOf p trees term steps
   pub taken : (j : ℕ) (s : StepTo) → j < i → slice_get steps j ≡ Some s → IsTaken c.alphabet ids raw at s
+  pub order : (l : Label) → IsInside c.alphabet l → IsRow (terms_at trees ids) (targets_in raw at l) (goals l (map (seen trees) (take i steps)))
 
 pub record IsAt (p : Content) (c : Component Proc) (room : Room) (found : Found) (at : ℕ) (steps : List StepTo) (i : ℕ) : Type 0 where
   pub so_far : IsSoFar p c found
@@ -169,6 +177,8 @@ pub record HasMore (old new : Found) (from : ℕ) (l : Label) (to : ProcId) : Ty
   pub step : RawStep new.table from l number
   pub kept : (m n : ℕ) (k : Label) → RawStep old.table m k n → RawStep new.table m k n
   pub only : (m n : ℕ) (k : Label) → RawStep new.table m k n → RawStep old.table m k n ⊎ ((m ≡ from) × (k ≡ l) × (n ≡ number))
+  pub row : targets_in new.table from l ≡ targets_in old.table from l ++ number ∷ []
+  pub others : (m : ℕ) (k : Label) → (m ≡ from → k ≡ l → ⊥) → targets_in new.table m k ≡ targets_in old.table m k
 
 -- the trace leads to the term with this number
 pub record LeadsToTerm (p : Content) (c : Component Proc) (terms : List Proc) (trace : List ℕ) (n : ℕ) : Type 0 where

@@ -17,7 +17,7 @@ steps_at-returns-in_err-found-clause-steps t c =
 
 pub steps_at-returns-in_ok-steps-in-Steps-clause-steps : goal.steps_at-returns-in_ok-steps-in-Steps-clause-steps
 steps_at-returns-in_ok-steps-in-Steps-clause-steps t c =
-    these_each c.look_at.new.pool c.in-Steps.steps c.in_ok-steps-in-Steps.steps (steps_of c.args.program.now (tree_at c.args.pool.now c.args.id))
+    these_each c.look_at.new.pool c.len.ensures.different c.in-Steps.steps c.in_ok-steps-in-Steps.steps (steps_of c.args.program.now (tree_at c.args.pool.now c.args.id))
     (these c.args.program.now c.look_at.new.pool (tree_at c.args.pool.now c.args.id) c.in_ok-found.found c.in_ok-found.ensures.look c.in-Steps.steps c.in-Steps.is) c.in_ok-steps-in-Steps.ensures
 
 pub steps_at-steps_at-requires : goal.steps_at-steps_at-requires
@@ -72,7 +72,7 @@ steps_of_operands-loop-index-preserved t c = record {
   so_far = operand_next c.args.program.now c.args.pool.now c.loop-index.pool c.steps_at.new.pool c.of_operand.new.pool c.loop-index.invariant.front c.in_ok-below.ensures.front c.args.ids.now c.requires.within
       c.loop-index.index (id_or c.args.ids.now c.loop-index.index) (omega arith) (at_any c.args.ids.now c.loop-index.index (record { 0 = 0 }) (id_or c.args.ids.now c.loop-index.index) (omega arith))
       c.loop-index.numbered c.loop-index.invariant.so_far c.in_ok-below.below c.in_ok-made.made c.add_each.new.numbered c.in_ok-below.ensures.steps c.as_slice.result.now c.as_slice.ensures c.in_ok-made.ensures.front c.in_ok-made.ensures.steps
-      c.as_slice-in-loop-index.result.now c.as_slice-in-loop-index.ensures c.in_ok-add_each.ensures;
+      c.as_slice-in-loop-index.result.now c.as_slice-in-loop-index.ensures c.len.ensures.different c.in_ok-add_each.ensures;
 }
 
 pub steps_of_operands-returns-clause-steps : goal.steps_of_operands-returns-clause-steps
@@ -98,7 +98,7 @@ steps_at-returns-in_err-steps-in-Around-clause-steps t c =
     let each = c.in_ok-below-in-Around.ensures.steps in
     around_passed c.args.program.now (tree_at c.args.pool.now c.args.id) (tree_at c.steps_at-in-Around.new.pool c.args.id) (steps_of c.args.program.now (tree_at c.args.pool.now c.args.id)) each.moves
     c.steps_at-in-Around.new.pool c.around.new.pool c.in_ok-below-in-Around.below c.as_slice-in-Around.result.now
-    (around_is c.args.program.now c.look_at.new.pool c.in-Around.below (tree_at c.args.pool.now c.args.id) each.moves is each.has) each.same c.as_slice-in-Around.ensures
+    (around_is c.args.program.now c.look_at.new.pool c.in-Around.below (tree_at c.args.pool.now c.args.id) each.moves is each.has) each.firsts c.as_slice-in-Around.ensures
     (tree_stays c.args.pool.now c.steps_at-in-Around.new.pool
     (front_both c.args.pool.now c.look_at.new.pool c.steps_at-in-Around.new.pool c.in_ok-found.ensures.front c.in_ok-below-in-Around.ensures.front) c.args.id c.requires.within)
     _ _ c.from_residual-in_err-steps-in-Around.ensures.1 c.in_err-steps-in-Around.ensures.steps
@@ -109,10 +109,10 @@ steps_at-returns-in_ok-keep_steps-in-Around-clause-steps t c =
     let each = c.in_ok-below-in-Around.ensures.steps in
     around_each c.args.program.now (tree_at c.args.pool.now c.args.id) (tree_at c.steps_at-in-Around.new.pool c.args.id) (steps_of c.args.program.now (tree_at c.args.pool.now c.args.id)) each.moves
     c.steps_at-in-Around.new.pool c.around.new.pool c.in_ok-below-in-Around.below c.as_slice-in-Around.result.now
-    (around_is c.args.program.now c.look_at.new.pool c.in-Around.below (tree_at c.args.pool.now c.args.id) each.moves is each.has) each.same c.as_slice-in-Around.ensures
+    (around_is c.args.program.now c.look_at.new.pool c.in-Around.below (tree_at c.args.pool.now c.args.id) each.moves is each.has) each.firsts c.as_slice-in-Around.ensures
     (tree_stays c.args.pool.now c.steps_at-in-Around.new.pool
     (front_both c.args.pool.now c.look_at.new.pool c.steps_at-in-Around.new.pool c.in_ok-found.ensures.front c.in_ok-below-in-Around.ensures.front) c.args.id c.requires.within)
-    c.in_ok-steps-in-Around.steps c.in_ok-steps-in-Around-2.steps c.in_ok-steps-in-Around.ensures.steps c.in_ok-steps-in-Around-2.ensures
+    c.len-in-Around.ensures.different c.in_ok-steps-in-Around.steps c.in_ok-steps-in-Around-2.steps c.in_ok-steps-in-Around.ensures.steps c.in_ok-steps-in-Around-2.ensures
 
 pub steps_at-returns-in-Some-clause-steps : goal.steps_at-returns-in-Some-clause-steps
 steps_at-returns-in-Some-clause-steps t c =
@@ -154,9 +154,9 @@ steps_at-returns-in_ok-keep_steps-in-Around-clause-fits t c =
     let front = front_both c.args.pool.now c.steps_at-in-Around.new.pool c.around.new.pool deep c.in_ok-steps-in-Around.ensures.front in
     let steps = around_each c.args.program.now (tree_at c.args.pool.now c.args.id) (tree_at c.steps_at-in-Around.new.pool c.args.id) (steps_of c.args.program.now (tree_at c.args.pool.now c.args.id)) below.moves
     c.steps_at-in-Around.new.pool c.around.new.pool c.in_ok-below-in-Around.below c.as_slice-in-Around.result.now
-    (around_is c.args.program.now c.look_at.new.pool c.in-Around.below (tree_at c.args.pool.now c.args.id) below.moves is below.has) below.same c.as_slice-in-Around.ensures
+    (around_is c.args.program.now c.look_at.new.pool c.in-Around.below (tree_at c.args.pool.now c.args.id) below.moves is below.has) below.firsts c.as_slice-in-Around.ensures
     (tree_stays c.args.pool.now c.steps_at-in-Around.new.pool deep c.args.id c.requires.within)
-    c.in_ok-steps-in-Around.steps c.in_ok-steps-in-Around-2.steps c.in_ok-steps-in-Around.ensures.steps c.in_ok-steps-in-Around-2.ensures in
+    c.len-in-Around.ensures.different c.in_ok-steps-in-Around.steps c.in_ok-steps-in-Around-2.steps c.in_ok-steps-in-Around.ensures.steps c.in_ok-steps-in-Around-2.ensures in
     let each = choice_each c.around.new.pool c.in_ok-steps-in-Around-2.steps c.as_slice-in-Around-2.result.now (steps_of c.args.program.now (tree_at c.args.pool.now c.args.id)) _
     (steps_of c.args.program.now (tree_at c.around.new.pool c.args.id)) refl c.as_slice-in-Around-2.ensures
     (ap (steps_of c.args.program.now) (tree_stays c.args.pool.now c.around.new.pool front c.args.id c.requires.within)) steps in
