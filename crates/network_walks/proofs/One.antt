@@ -4,10 +4,6 @@ use Rattle.std.proofs.lemmas.Bool.{MatchBool-at_false, MatchBool-at_true, cases_
 use Rattle.std.proofs.lemmas.Option.{none-some, same_Some}
 use Rattle.csp_base.proofs.Booleans.{same_tests}
 use Rattle.csp_base.specs.Lists.{StandsIn}
-use Rattle.csp_program.specs.declared.processes.Proc.{Proc}
-use Rattle.csp_program.specs.declared.programs.Content.{Content}
-use Rattle.csp_steps.proofs.Firsts.{firsts_one}
-use Rattle.csp_steps.specs.Order.{AreFirstsAfter, AreTargets, goals}
 use Rattle.csp_tables.specs.Label.{Label}
 use Rattle.csp_tables.specs.Network.{Component, NetworkStep, Tree, leaves}
 use Rattle.numbered_walks.specs.Draws.{IsDrawn, label, takes_part}
@@ -16,8 +12,6 @@ use Rattle.numbered_walks.specs.Options.{AreOptions, IsBefore}
 use Rattle.numbered_walks.specs.Walks.{Chooses, HasNone, IsWalk, IsWalkOf}
 use Rattle.numbered_walks.specs.declared.moves.Move.{Move}
 use Rattle.numbered_walks.specs.declared.moves.Move.TheVariants as move
-use Rattle.csp_program.specs.Outcome.{Outcome}
-use Rattle.process_steps.specs.StepList.{Move as ProcessMove, steps_of}
 use Rattle.network_walks.specs.Draws.{AreDrawn, DrawsTarget}
 use Rattle.network_walks.specs.Laws.{AreOneWalk, TheWalkIsOne}
 use Rattle.network_walks.specs.Moves.{Goes, Has}
@@ -171,12 +165,3 @@ module _ {T : Type 0} (Step : T → Label → T → Type 0) (Targets : T → Lab
             (λ h. walk.stuck.1 (subst (λ (u : Tree T). HasNone (Has Step u)) (sym r.last_same) (other.stuck.0 h)));
         last_same = r.last_same;
       }
-
--- ---- the targets of a process are one list
-same_ok : (r : Outcome (List ProcessMove)) (ms ns : List ProcessMove) → r ≡ Ok ms → r ≡ Ok ns → ms ≡ ns
-same_ok r ms ns one other = cc
-
-pub targets_one : (p : Content) (x : Proc) (l : Label) (ts us : List Proc) → AreTargets p x l ts → AreTargets p x l us → ts ≡ us
-targets_one p x l ts us one other =
-    let same : one.moves ≡ other.moves = same_ok (steps_of p x) one.moves other.moves one.has other.has in
-    firsts_one (goals l other.moves) [] ts us (subst (λ (ms : List ProcessMove). AreFirstsAfter (goals l ms) [] ts) same one.firsts) other.firsts
