@@ -21,11 +21,7 @@ fn push_constant(content: &Content, text: &mut Bytes, constant: u32) -> Result<(
 }
 
 // Adds a field.
-fn push_field(
-    content: &Content,
-    text: &mut Bytes,
-    field: &Atom,
-) -> Result<(), NoMemory>
+fn push_field(content: &Content, text: &mut Bytes, field: &Atom) -> Result<(), NoMemory>
     ensures { OnOk result (text.new ≡ text.old ++ field_text content.now field.now) }
 {
     text.push(b'.')?;
@@ -37,11 +33,7 @@ fn push_field(
 }
 
 // Adds fields.
-fn push_fields(
-    content: &Content,
-    text: &mut Bytes,
-    fields: &[Atom],
-) -> Result<(), NoMemory>
+fn push_fields(content: &Content, text: &mut Bytes, fields: &[Atom]) -> Result<(), NoMemory>
     ensures { OnOk result (text.new ≡ text.old ++ flat_map (field_text content.now) fields.now) }
 {
     for field in fields {

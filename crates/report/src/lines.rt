@@ -139,10 +139,7 @@ fn push_parts(report: &mut Bytes, parts: &[Part<'_>]) -> Result<(), NoMemory>
 }
 
 // Adds a line of these parts.
-pub(crate) fn push_line(
-    report: &mut Bytes,
-    parts: &[Part<'_>],
-) -> Result<(), NoMemory>
+pub(crate) fn push_line(report: &mut Bytes, parts: &[Part<'_>]) -> Result<(), NoMemory>
     ensures { OnOk result (report.new ≡ report.old ++ line (parts_text parts.now)) }
 {
     push_parts(report, parts)?;

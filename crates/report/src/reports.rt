@@ -41,11 +41,7 @@ fn one_line(alloc: Global, text: &[u8]) -> Result<Bytes, NoMemory>
 }
 
 // Adds the line of an event of a node.
-fn push_step(
-    report: &mut Bytes,
-    node: u64,
-    step: &(Bytes, u32),
-) -> Result<(), NoMemory>
+fn push_step(report: &mut Bytes, node: u64, step: &(Bytes, u32)) -> Result<(), NoMemory>
     ensures { OnOk result (report.new ≡ report.old ++ next_text node step.now) }
 {
     push_line(
@@ -61,11 +57,7 @@ fn push_step(
 }
 
 // Adds the line of an acceptance of a node.
-fn push_offer(
-    report: &mut Bytes,
-    node: u64,
-    events: &Items<Bytes>,
-) -> Result<(), NoMemory>
+fn push_offer(report: &mut Bytes, node: u64, events: &Items<Bytes>) -> Result<(), NoMemory>
     ensures { OnOk result (report.new ≡ report.old ++ accept_text node events.now) }
 {
     push_line(
@@ -79,11 +71,7 @@ fn push_offer(
 }
 
 // Adds a line for each event of a node.
-fn push_next(
-    report: &mut Bytes,
-    node: u64,
-    steps: &[(Bytes, u32)],
-) -> Result<(), NoMemory>
+fn push_next(report: &mut Bytes, node: u64, steps: &[(Bytes, u32)]) -> Result<(), NoMemory>
     ensures { OnOk result (report.new ≡ report.old ++ flat_map (next_text node) steps.now) }
 {
     for step in steps {
@@ -93,11 +81,7 @@ fn push_next(
 }
 
 // Adds a line for each acceptance of a node.
-fn push_accept(
-    report: &mut Bytes,
-    node: u64,
-    sets: &[Items<Bytes>],
-) -> Result<(), NoMemory>
+fn push_accept(report: &mut Bytes, node: u64, sets: &[Items<Bytes>]) -> Result<(), NoMemory>
     ensures { OnOk result (report.new ≡ report.old ++ flat_map (accept_text node) sets.now) }
 {
     for set in sets {
@@ -107,11 +91,7 @@ fn push_accept(
 }
 
 // Adds the lines of a node.
-fn push_node(
-    report: &mut Bytes,
-    number: u64,
-    node: &PrintedNode,
-) -> Result<(), NoMemory>
+fn push_node(report: &mut Bytes, number: u64, node: &PrintedNode) -> Result<(), NoMemory>
     ensures { OnOk result (report.new ≡ report.old ++ node_text number node.now) }
 {
     push_next(report, number, node.next.as_slice())?;

@@ -149,11 +149,7 @@ fn no_full_end(alloc: Global, left: u32, right: u32) -> Result<Bytes, NoMemory>
 }
 
 // Adds the line of an end of the link.
-fn push_after(
-    report: &mut Bytes,
-    component: u32,
-    trace: &[Bytes],
-) -> Result<(), NoMemory>
+fn push_after(report: &mut Bytes, component: u32, trace: &[Bytes]) -> Result<(), NoMemory>
     ensures { OnOk result (report.new ≡ report.old ++ line (after_text component trace.now)) }
 {
     push_line(
