@@ -2,6 +2,7 @@
 use Rattle.std.proofs.Common.{◌≡◌, ◌≤◌, ℕ, Bool, true, false, List, Option, None, map, inl, inr, refl, sym, ap, subst, ◌∙◌, arith}
 use Rattle.command_words.specs.Request.{AsksForLivelock, AsksForRun}
 use Rattle.command_words.specs.declared.request.Job.TheVariants.{Livelock, Run}
+use Rattle.csp_steps.specs.Order.{AreTargets}
 use Rattle.csp_text.specs.declared.script.Script.{Script}
 use Rattle.csp_tables.specs.WellNested.{WellNested}
 use Rattle.dl_outside.specs.declared.texts.NamedText.{NamedText}
@@ -12,9 +13,10 @@ use Rattle.network_stages.specs.Networks.{IsNetworkOf, Network}
 use Rattle.network_trees.proofs.InOrder.{network_is_tree}
 use Rattle.network_walks.proofs.Runs.{no_move_means_stuck, stays_nested, stuck_walks_refute_live, walks_are_runs}
 use Rattle.network_walks.proofs.Status.{walked_cases}
-use Rattle.network_walks.specs.Moves.{label}
 use Rattle.network_walks.specs.Walked.{IsNetworkWalk, printed_move, walk_answer}
 use Rattle.network_walks.specs.Whole.{IsWalkedWhole}
+use Rattle.numbered_walks.specs.Draws.{label}
+use Rattle.numbered_walks.specs.Numbers.{first_draw}
 use Rattle.numbered_walks.specs.declared.moves.Move.{Move}
 use Rattle.process_steps.specs.ComponentStep.{ProcessStep}
 use Rattle.report.proofs.Points.{refused_or}
@@ -65,14 +67,15 @@ nested script network is = (network_is_tree network.program network.tree is.tree
 is_run : (network : Network) (seed steps : ℕ) (moves : List Move) (b : Bool) → WellNested network.tree → IsNetworkWalk network seed steps moves b → IsRun network seed steps moves b
 is_run network seed steps moves b nested walk =
     let Step = ProcessStep network.program in
-    let path = walks_are_runs Step seed network.tree walk.last moves walk.walk in
+    let Targets = AreTargets network.program in
+    let path = walks_are_runs Step Targets seed (first_draw seed) walk.drawn network.tree walk.last moves walk.walk in
     let none = no_move_means_stuck Step walk.last (stays_nested Step network.tree walk.last (map label moves) nested path) in
     record {
       walk = walk;
       path = path;
       count = elim walk.count [ inl as_many ↦ inl as_many | inr fewer ↦ inr (fewer.0, none.0 fewer.1) ];
       stuck = (λ h. none.0 (walk.stuck.0 h), λ h. walk.stuck.1 (none.1 h));
-      dead = λ h bound. stuck_walks_refute_live Step seed steps bound network.tree moves nested (subst (λ (x : Bool). IsNetworkWalk network seed steps moves x) h walk);
+      dead = λ h bound. stuck_walks_refute_live Step Targets seed steps bound network.tree moves nested (subst (λ (x : Bool). IsNetworkWalk network seed steps moves x) h walk);
     }
 
 -- a run that decides with this status

@@ -8,7 +8,8 @@ use Rattle.csp_tables.specs.Path.{Path}
 use Rattle.dl_outside.specs.declared.texts.NamedText.{NamedText}
 use Rattle.dl_outside.specs.Write.{GrowsBy}
 use Rattle.network_stages.specs.Networks.{IsLive, Network}
-use Rattle.network_walks.specs.Moves.{IsStuck, label}
+use Rattle.network_walks.specs.Moves.{IsStuck}
+use Rattle.numbered_walks.specs.Draws.{label}
 use Rattle.network_walks.specs.Walked.{IsNetworkWalk, printed_move}
 use Rattle.numbered_walks.specs.declared.moves.Move.{Move}
 use Rattle.process_steps.specs.ComponentStep.{ProcessStep}
@@ -24,7 +25,7 @@ abbrev pub run_status : Bool → ℕ
 run_status true = 1
 run_status false = 0
 
--- The moves, which numbers after the seed choose, are the labels of a run of the network. They are as many as asked for, or the state after them has no
+-- The moves are those of the walk that the seed fixes, and the labels of a run of the network. They are as many as asked for, or the state after them has no
 -- step. The run is stuck exactly where that state has none, and then the network is live for no bound.
 pub record IsRun (network : Network) (seed steps : ℕ) (moves : List Move) (is_stuck : Bool) : Type 0 where
   pub walk : IsNetworkWalk network seed steps moves is_stuck

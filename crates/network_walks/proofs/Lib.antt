@@ -2,7 +2,10 @@ pub mod Carried
 pub mod Likewise
 pub mod Made
 pub mod Numbers
+pub mod One
+pub mod Ordered
 pub mod Rows
 pub mod Runs
+pub mod Shapes
 pub mod Status
 pub mod Telling

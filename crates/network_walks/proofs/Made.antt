@@ -3,6 +3,7 @@ use Rattle.std.proofs.Common.{◌≡◌, ℕ, zero, suc, ◌+◌, ◌<◌, ◌�
 use Rattle.std.proofs.lemmas.List.{take_all}
 use Rattle.csp_program.specs.declared.processes.Proc.{Proc}
 use Rattle.csp_program.specs.declared.programs.Content.{Content}
+use Rattle.csp_steps.specs.Order.{AreTargets}
 use Rattle.csp_tables.specs.Label.Label.{visible}
 use Rattle.csp_tables.specs.Network.{Component}
 use Rattle.local_tables.specs.Room.{Room}
@@ -12,6 +13,7 @@ use Rattle.network_tables.specs.declared.component_tables.ComponentTable.{Compon
 use Rattle.numbered_walks.specs.Numbered.{Numbered, OwnsItsSteps}
 use Rattle.process_steps.specs.ComponentStep.{ProcessStep}
 use Rattle.network_walks.specs.Tabled.{numbered, one_numbered}
+use Rattle.network_walks.proofs.Ordered.{AllInOrder}
 use Rattle.network_walks.proofs.Rows.{Row, components, numbered_rows}
 
 -- the steps of a component's table are by events of its alphabet
@@ -63,6 +65,15 @@ module _ (p : Content) where
   rows_are_numbered room [] [] are = refl
   rows_are_numbered room (c ∷ cs) (t ∷ ts) are = ap (λ (ns : List Numbered). one_numbered c t ∷ ns) (rows_are_numbered (room_after room t.local.used) cs ts are.1)
   rows_are_numbered room _ _ are = absurd are
+
+  pub rows_in_order : (room : Room) (cs : List (Component Proc)) (ts : List ComponentTable) (are : AreTablesWithin p room cs ts) → AllInOrder (ProcessStep p) (AreTargets p) (rows_of room cs ts are)
+  unfolding rows_of
+  rows_in_order room [] [] are = tt
+  rows_in_order room (c ∷ cs) (t ∷ ts) are = (
+    λ m x l at inside. let o = are.0.table.order m x l at inside in record { targets = o.targets; are = o.are; same = o.same },
+    rows_in_order (room_after room t.local.used) cs ts are.1,
+  )
+  rows_in_order room _ _ are = absurd are
 
 -- ---- as they are read
 pub tables_read : (p q : Content) (cs ds : List (Component Proc)) (ts us : List ComponentTable) → q ≡ p → ds ≡ cs → us ≡ ts → AreTablesOf p cs ts → AreTablesOf q ds us

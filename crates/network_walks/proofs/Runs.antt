@@ -8,11 +8,12 @@ use Rattle.csp_tables.specs.Network.{Component, ComponentStep, NetworkStep, Tree
 use Rattle.csp_tables.specs.Path.{Path}
 use Rattle.csp_tables.specs.WellNested.{WellNested}
 use Rattle.net_sound.proofs.Flattening.{forth, kept}
-use Rattle.numbered_walks.specs.Numbers.{next_number}
+use Rattle.numbered_walks.specs.Draws.{label}
+use Rattle.numbered_walks.specs.Numbers.{first_draw, next_number}
 use Rattle.numbered_walks.specs.declared.moves.Move.{Move}
 use Rattle.numbered_walks.specs.declared.moves.Move.TheVariants as move
 use Rattle.network_walks.specs.Laws.{NoMoveMeansStuck, StuckIsNotLive, StuckWalksRefuteLive, WalksAreRuns}
-use Rattle.network_walks.specs.Moves.{Takes, label}
+use Rattle.network_walks.specs.Moves.{Takes}
 
 module _ {T : Type 0} (Step : T → Label → T → Type 0) where
   -- ---- one component of a list moves
@@ -56,10 +57,6 @@ module _ {T : Type 0} (Step : T → Label → T → Type 0) where
   )
 
   -- ---- walks
-  pub walks_are_runs : WalksAreRuns Step
-  walks_are_runs number t u [] walk = walk
-  walks_are_runs number t u (m ∷ ms) walk = (walk.0, step_of t m walk.0 walk.2, walks_are_runs (next_number number) walk.0 u ms walk.3)
-
   pub stuck_is_not_live : StuckIsNotLive Step
   stuck_is_not_live t u bound reached stuck live =
       let moves = live.moves u reached (λ v step. stuck silent v step) in
@@ -70,8 +67,13 @@ module _ {T : Type 0} (Step : T → Label → T → Type 0) where
   stays_nested t u [] nested path = subst WellNested path nested
   stays_nested t u (l ∷ ls) nested path = stays_nested path.0 u ls (kept Step t l path.0 nested path.1) path.2
 
-  pub stuck_walks_refute_live : StuckWalksRefuteLive Step
-  stuck_walks_refute_live seed steps bound t moves nested walk live =
-      let path = walks_are_runs seed t walk.last moves walk.walk in
-      let stuck = (no_move_means_stuck walk.last (stays_nested t walk.last (map label moves) nested path)).0 (walk.stuck.0 refl) in
-      stuck_is_not_live t walk.last bound (map label moves, path) stuck live
+  module _ (Targets : T → Label → List T → Type 0) where
+    pub walks_are_runs : WalksAreRuns Step Targets
+    walks_are_runs x y z t u [] walk = walk.0
+    walks_are_runs x y z t u (m ∷ ms) walk = (walk.0, step_of t m walk.0 walk.3.takes, walks_are_runs (next_number x) walk.1 z walk.0 u ms walk.4)
+
+    pub stuck_walks_refute_live : StuckWalksRefuteLive Step Targets
+    stuck_walks_refute_live seed steps bound t moves nested walk live =
+        let path = walks_are_runs seed (first_draw seed) walk.drawn t walk.last moves walk.walk in
+        let stuck = (no_move_means_stuck walk.last (stays_nested t walk.last (map label moves) nested path)).0 (walk.stuck.0 refl) in
+        stuck_is_not_live t walk.last bound (map label moves, path) stuck live

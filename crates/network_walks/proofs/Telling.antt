@@ -3,6 +3,7 @@ use Rattle.std.proofs.Common.{◌≡◌, ℕ, Bool, List, Result, Ok, Err, map, 
 use Rattle.std.specs.Result.{IsErrAnd}
 use Rattle.csp_program.specs.declared.processes.Proc.{Proc}
 use Rattle.csp_program.specs.declared.programs.Content.{Content}
+use Rattle.csp_steps.specs.Order.{AreTargets}
 use Rattle.csp_tables.specs.Network.{Component}
 use Rattle.csp_text.specs.declared.script.Script.{Script}
 use Rattle.network_stages.proofs.Exits.{at_refusal}
@@ -12,7 +13,7 @@ use Rattle.network_stages.specs.Tables.{Tables}
 use Rattle.network_tables.specs.Tables.{AreTablesOf, whole_room}
 use Rattle.network_tables.specs.declared.component_tables.ComponentTable.{ComponentTable}
 use Rattle.network_trees.proofs.InOrder.{network_is_tree}
-use Rattle.numbered_walks.specs.Numbered.{Has as HasByNumber, Numbered, Takes as TakesByNumber, first_terms}
+use Rattle.numbered_walks.specs.Numbered.{Goes as GoesByNumber, Has as HasByNumber, Numbered, first_terms}
 use Rattle.numbered_walks.specs.Walks.{IsWalkOf}
 use Rattle.numbered_walks.specs.declared.moves.Move.{Move}
 use Rattle.process_steps.specs.ComponentStep.{ProcessStep}
@@ -29,12 +30,12 @@ use Rattle.report.specs.declared.stop.Stop.{Stop}
 use Rattle.network_walks.specs.Tabled.{numbered}
 use Rattle.network_walks.specs.Walked.{IsNetworkWalk, IsWalked, TellsWalk, printed_move, walk_answer}
 use Rattle.network_walks.proofs.Carried.{carried, stand_first}
-use Rattle.network_walks.proofs.Made.{rows_are_numbered, rows_have_components, rows_of}
+use Rattle.network_walks.proofs.Made.{rows_are_numbered, rows_have_components, rows_in_order, rows_of}
 use Rattle.network_walks.proofs.Rows.{Stand, numbered_rows}
 
 -- the walk by the numbers of terms
 abbrev pub IsWalkBy : List Numbered → ℕ → ℕ → List Move → Bool → Type 0
-IsWalkBy ns seed steps moves is_stuck = IsWalkOf (HasByNumber ns) (TakesByNumber ns) seed steps (first_terms ns) moves is_stuck
+IsWalkBy ns seed steps moves is_stuck = IsWalkOf (HasByNumber ns) (GoesByNumber ns) seed steps (first_terms ns) moves is_stuck
 
 module _ (s : Script) (seed steps : ℕ) where
   -- the walk by numbers is one of the network
@@ -44,8 +45,8 @@ module _ (s : Script) (seed steps : ℕ) where
       let rows = rows_of p whole_room (components_at p) ts are in
       let ns = numbered_rows (ProcessStep p) rows in
       let by : IsWalkBy ns seed steps moves is_stuck = subst (λ (ms : List Numbered). IsWalkBy ms seed steps moves is_stuck) (sym (rows_are_numbered p whole_room (components_at p) ts are)) walk in
-      let first = subst (λ (cs : List (Component Proc)). Stand (ProcessStep p) rows cs (first_terms ns)) (rows_have_components p whole_room (components_at p) ts are) (stand_first (ProcessStep p) rows rows) in
-      carried (ProcessStep p) rows seed steps (first_terms ns) (tree_at p) moves is_stuck (record { nested = (network_is_tree p (tree_at p) is.tree).0.nesting; stand = first }) by
+      let first = subst (λ (cs : List (Component Proc)). Stand (ProcessStep p) rows cs (first_terms ns)) (rows_have_components p whole_room (components_at p) ts are) (stand_first (ProcessStep p) rows) in
+      carried (ProcessStep p) (AreTargets p) rows (rows_in_order p whole_room (components_at p) ts are) seed steps (first_terms ns) (tree_at p) moves is_stuck (record { nested = (network_is_tree p (tree_at p) is.tree).0.nesting; stand = first }) by
 
   module _ (r : Result Done (Stop Answer)) where
     pub at_network : (why : Stop Refusal) → IsErrAnd r (λ t. t ≡ refused side.Script why) → Tells (HasNoNetwork s) why → Answers (IsWalked s seed steps) r

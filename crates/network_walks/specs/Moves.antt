@@ -1,15 +1,11 @@
 -- What a network of components takes by a move, over any step relation of terms.
-use Rattle.std.specs.Prelude.{◌≡◌, ℕ, Some, slice_get, slice_set}
+use Rattle.std.specs.Prelude.{◌≡◌, ℕ, Some, List, slice_get, slice_set}
 use Rattle.csp_tables.specs.Label.{Label}
 use Rattle.csp_tables.specs.Label.Label.{silent, visible}
 use Rattle.csp_tables.specs.Network.{Component, ComponentStep, NetworkStep, Tree, leaves}
+use Rattle.network_walks.specs.Draws.{AreDrawn}
 use Rattle.numbered_walks.specs.declared.moves.Move.{Move}
 use Rattle.numbered_walks.specs.declared.moves.Move.TheVariants as move
-
--- the label of a move
-abbrev pub label : Move → Label
-label (move.Silent i) = silent
-label (move.Event e) = visible e
 
 module _ {T : Type 0} (Step : T → Label → T → Type 0) where
   -- a silent step of the network, by which the component in this place moves, and the others stay
@@ -33,3 +29,9 @@ module _ {T : Type 0} (Step : T → Label → T → Type 0) where
   -- it has no step
   abbrev pub IsStuck : Tree T → Type 0
   IsStuck t = (l : Label) (u : Tree T) → NetworkStep Step t l u → ⊥
+
+module _ {T : Type 0} (Step : T → Label → T → Type 0) (Targets : T → Label → List T → Type 0) where
+  -- the network to which a move leads by the numbers after y, of which z is the last that is drawn
+  pub record Goes (t : Tree T) (y : ℕ) (m : Move) (u : Tree T) (z : ℕ) : Type 0 where
+    pub takes : Takes Step t m u
+    pub draws : AreDrawn Targets m 0 y (leaves t) (leaves u) z

@@ -1,6 +1,7 @@
 -- The answer to a script of which a walk is asked: the points at which it is refused, in their order, and then the walk.
 use Rattle.std.specs.Prelude.{◌≡◌, ℕ, Bool, true, false, List, map}
 use Rattle.csp_program.specs.declared.programs.Content.{Content}
+use Rattle.csp_steps.specs.Order.{AreTargets}
 use Rattle.csp_tables.specs.Network.{leaves}
 use Rattle.csp_text.specs.declared.script.Script.{Script}
 use Rattle.network_stages.specs.Networks.{IsNetworkOf, Network}
@@ -18,11 +19,13 @@ use Rattle.report.specs.declared.answer.Done.TheVariants as done
 use Rattle.report.specs.declared.answer.PrintedMove.{PrintedMove}
 use Rattle.report.specs.declared.answer.PrintedMove.TheVariants as printed
 use Rattle.report.specs.declared.answer.Side.TheVariants as side
-use Rattle.network_walks.specs.Moves.{Has, Takes}
+use Rattle.network_walks.specs.Moves.{Goes, Has}
 
--- the walk of a network from a seed: so many steps, or fewer where none is left
+-- the walk of a network from a seed: so many steps, or fewer where none is left. A component that can go to several processes by a label has them in the order
+-- of its list of steps
 abbrev pub IsNetworkWalk : Network → ℕ → ℕ → List Move → Bool → Type 0
-IsNetworkWalk network seed steps moves is_stuck = IsWalkOf (Has (ProcessStep network.program)) (Takes (ProcessStep network.program)) seed steps network.tree moves is_stuck
+IsNetworkWalk network seed steps moves is_stuck =
+    IsWalkOf (Has (ProcessStep network.program)) (Goes (ProcessStep network.program) (AreTargets network.program)) seed steps network.tree moves is_stuck
 
 -- a move with its event as a text
 abbrev pub printed_move : Content → Move → PrintedMove

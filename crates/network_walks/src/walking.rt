@@ -2,7 +2,7 @@
 
 ghost use Rattle.std.specs.Prelude.{◌≡◌, ◌≤◌, IfOk, length};
 ghost use Rattle.dl_limits.specs.declared.TheConstants.{MOST_COMPONENTS};
-ghost use Rattle.numbered_walks.specs.Numbered.{Has, Takes, first_terms};
+ghost use Rattle.numbered_walks.specs.Numbered.{Goes, Has, first_terms};
 ghost use Rattle.numbered_walks.specs.Walks.{IsWalkOf};
 ghost use Rattle.report.specs.Stops.{Answers};
 ghost use Rattle.network_walks.specs.Tabled.{numbered};
@@ -27,7 +27,7 @@ fn walk_by_tables(
     steps: u32,
 ) -> Result<Walk, NoMemory>
     requires { length tabled.now.components ≤ MOST_COMPONENTS }
-    ensures { IfOk result (λ made. IsWalkOf (Has (numbered tabled.now.components tabled.now.tables)) (Takes (numbered tabled.now.components tabled.now.tables)) seed steps (first_terms (numbered tabled.now.components tabled.now.tables)) made.moves.items made.is_stuck) }
+    ensures { IfOk result (λ made. IsWalkOf (Has (numbered tabled.now.components tabled.now.tables)) (Goes (numbered tabled.now.components tabled.now.tables)) seed steps (first_terms (numbered tabled.now.components tabled.now.tables)) made.moves.items made.is_stuck) }
 {
     let movers = movers(alloc, tabled.program(), tabled.seats(), tabled.tables())?;
     let made = walk(alloc, movers.as_slice(), seed, steps)?;

@@ -1,11 +1,12 @@
 -- What is counted of events, while components offer more or fewer.
-use Rattle.std.proofs.Common.{◌≡◌, ℕ, zero, suc, ◌+◌, ◌-◌, ◌<◌, ◌≤◌, inl, inr, Bool, false, nat_eq, List, [], ◌∷◌, length, replicate, take, set, get_or, refl, sym, ap, subst, ◌∙◌, arith}
-use Rattle.std.proofs.lemmas.Bool.{cases_eq, eq-eqb, ne_eqb}
+use Rattle.std.proofs.Common.{◌≡◌, ℕ, zero, suc, ◌+◌, ◌-◌, ◌<◌, ◌≤◌, inl, inr, Bool, true, false, not, ◌&&◌, ◌||◌, nat_eq, IsTrue, List, [], ◌∷◌, length, replicate, set, get_or, refl, sym, ap, subst, ◌∙◌, arith}
+use Rattle.std.specs.List.Sorted.{IsStrictlyIncreasing}
+use Rattle.std.proofs.lemmas.Bool.{cases_eq, eq-eqb, ne_eqb, or_left, or_right}
 use Rattle.std.proofs.lemmas.List.{get_or-set_other, get_or-set_same}
-use Rattle.numbered_walks.proofs.Choosing.{one_here, steps_more, steps_within}
-use Rattle.counted_marks.proofs.Counting.{none_at}
-use Rattle.numbered_walks.specs.Agreements.{is_agreed}
-use Rattle.numbered_walks.specs.Choices.{bit, steps_by}
+use Rattle.numbered_walks.proofs.Counting.{none_at}
+use Rattle.csp_base.proofs.Rising.{RisesFrom, has_below, rises_from_increasing}
+use Rattle.csp_base.specs.Members.{has}
+use Rattle.numbered_walks.specs.Agreements.{bit, is_agreed}
 
 -- what is not 0 is within
 pub some_within : (xs : List ℕ) (i : ℕ) → 1 ≤ get_or xs i 0 → i < length xs
@@ -26,52 +27,97 @@ no_marks owners offering agreed n e none unmarked =
 pub changed_at : (xs : List ℕ) (i v e : ℕ) → i < length xs → e ≡ i → get_or (set xs i v) e 0 ≡ v
 changed_at xs i v e within same = subst (λ k. get_or (set xs i v) k 0 ≡ v) (sym same) (get_or-set_same xs i v 0 within)
 
-module _ (steps : List (ℕ × ℕ)) (k : ℕ) (x : ℕ × ℕ) (below : k < length steps) (is : x ≡ get_or steps k x) where
-  this_more : (e : ℕ) → e ≡ x.0 → steps_by e (take (k + 1) steps) ≡ steps_by e (take k steps) + 1
-  this_more e same = let more = steps_more e steps k x below is in let one : bit (nat_eq e x.0) ≡ 1 = ap bit (eq-eqb e x.0 same) in omega (arith, more, one)
+-- ---- events that are still to be counted
+pub record AreLeft (events left : List ℕ) : Type 0 where
+  pub least : ℕ
+  pub rises : RisesFrom least left
+  pub within : (e : ℕ) → IsTrue (has left e) → IsTrue (has events e)
 
-  other_more : (e : ℕ) → (e ≡ x.0 → ⊥) → steps_by e (take (k + 1) steps) ≡ steps_by e (take k steps)
-  other_more e other = let more = steps_more e steps k x below is in let none : bit (nat_eq e x.0) ≡ 0 = ap bit (ne_eqb e x.0 other) in omega (arith, more, none)
+pub all_left : (events left : List ℕ) → left ≡ events → IsStrictlyIncreasing events → AreLeft events left
+all_left events left is rising = record {
+  least = 0;
+  rises = rises_from_increasing left (subst IsStrictlyIncreasing (sym is) rising);
+  within = λ e h. sym (ap (λ (xs : List ℕ). has xs e) is) ∙ h;
+}
 
-  pub here_within : steps_by x.0 (take k steps) + 1 ≤ steps_by x.0 steps
-  here_within = let some = steps_within x.0 steps k x below is in let one = one_here x.0 in omega (arith, some, one)
+module _ (events left rest : List ℕ) (x : ℕ) (is : left ≡ x ∷ rest) (are : AreLeft events left) where
+  rest_rises : RisesFrom (x + 1) rest
+  rest_rises = (subst (RisesFrom are.least) is are.rises).1
 
-  pub offered_more : (old now new : List ℕ) → x.0 < length now → ((e : ℕ) → get_or now e 0 ≡ get_or old e 0 + steps_by e (take k steps)) → new ≡ set now x.0 (get_or now x.0 0 + 1)
-      → (e : ℕ) → get_or new e 0 ≡ get_or old e 0 + steps_by e (take (k + 1) steps)
+  here_left : (e : ℕ) → e ≡ x → bit (has left e) ≡ 1
+  here_left e same = ap bit (ap (λ (xs : List ℕ). has xs e) is ∙ or_left (nat_eq x e) (has rest e) (eq-eqb x e (sym same)))
+
+  here_gone : (e : ℕ) → e ≡ x → bit (has rest e) ≡ 0
+  here_gone e same = ap bit (ap (has rest) same ∙ has_below (x + 1) rest x rest_rises (omega arith))
+
+  others_left : (e : ℕ) → (e ≡ x → ⊥) → bit (has left e) ≡ bit (has rest e)
+  others_left e other = ap bit (ap (λ (xs : List ℕ). has xs e) is ∙ ap (λ (b : Bool). b || has rest e) (ne_eqb x e (λ p. other (sym p))))
+
+  pub this_listed : IsTrue (has events x)
+  this_listed = are.within x (ap (λ (xs : List ℕ). has xs x) is ∙ or_left (nat_eq x x) (has rest x) (eq-eqb x x refl))
+
+  pub fewer_left : AreLeft events rest
+  fewer_left = record {
+    least = x + 1;
+    rises = rest_rises;
+    within = λ e h. are.within e (ap (λ (xs : List ℕ). has xs e) is ∙ or_right (nat_eq x e) (has rest e) h);
+  }
+
+  pub offered_more : (old now new : List ℕ) → x < length now → ((e : ℕ) → get_or now e 0 + bit (has left e) ≡ get_or old e 0 + bit (has events e)) → new ≡ set now x (get_or now x 0 + 1)
+      → (e : ℕ) → get_or new e 0 + bit (has rest e) ≡ get_or old e 0 + bit (has events e)
   offered_more old now new within before grown e =
-      let read : get_or new e 0 ≡ get_or (set now x.0 (get_or now x.0 0 + 1)) e 0 = ap (λ (ns : List ℕ). get_or ns e 0) grown in
-      let here = before e in
-      elim (cases_eq e x.0) as (λ _. get_or new e 0 ≡ get_or old e 0 + steps_by e (take (k + 1) steps)) [
+      let read : get_or new e 0 ≡ get_or (set now x (get_or now x 0 + 1)) e 0 = ap (λ (ns : List ℕ). get_or ns e 0) grown in
+      let was = before e in
+      elim (cases_eq e x) as (λ _. get_or new e 0 + bit (has rest e) ≡ get_or old e 0 + bit (has events e)) [
         | inl same ↦
-            let changed = changed_at now x.0 (get_or now x.0 0 + 1) e within same in
-            let more = this_more e same in
-            let at : get_or now x.0 0 ≡ get_or now e 0 = ap (λ j. get_or now j 0) (sym same) in
-            omega (arith, read, changed, more, at, here)
+            let changed = changed_at now x (get_or now x 0 + 1) e within same in
+            let at : get_or now x 0 ≡ get_or now e 0 = ap (λ j. get_or now j 0) (sym same) in
+            let one = here_left e same in
+            let none = here_gone e same in
+            omega (arith, read, changed, at, was, one, none)
         | inr other ↦
-            let kept = get_or-set_other now x.0 e (get_or now x.0 0 + 1) 0 other in
-            let more = other_more e other in
-            omega (arith, read, kept, more, here)
+            let kept = get_or-set_other now x e (get_or now x 0 + 1) 0 other in
+            let alike = others_left e other in
+            omega (arith, read, kept, was, alike)
       ]
 
-  pub withdrawn_more : (old now new : List ℕ) → x.0 < length now → 1 ≤ get_or now x.0 0 → ((e : ℕ) → get_or now e 0 + steps_by e (take k steps) ≡ get_or old e 0) → new ≡ set now x.0 (get_or now x.0 0 - 1)
-      → (e : ℕ) → get_or new e 0 + steps_by e (take (k + 1) steps) ≡ get_or old e 0
+  pub withdrawn_more : (old now new : List ℕ) → x < length now → 1 ≤ get_or now x 0 → ((e : ℕ) → get_or now e 0 + bit (has events e) ≡ get_or old e 0 + bit (has left e)) → new ≡ set now x (get_or now x 0 - 1)
+      → (e : ℕ) → get_or new e 0 + bit (has events e) ≡ get_or old e 0 + bit (has rest e)
   withdrawn_more old now new within some before grown e =
-      let read : get_or new e 0 ≡ get_or (set now x.0 (get_or now x.0 0 - 1)) e 0 = ap (λ (ns : List ℕ). get_or ns e 0) grown in
-      let here = before e in
-      elim (cases_eq e x.0) as (λ _. get_or new e 0 + steps_by e (take (k + 1) steps) ≡ get_or old e 0) [
+      let read : get_or new e 0 ≡ get_or (set now x (get_or now x 0 - 1)) e 0 = ap (λ (ns : List ℕ). get_or ns e 0) grown in
+      let was = before e in
+      elim (cases_eq e x) as (λ _. get_or new e 0 + bit (has events e) ≡ get_or old e 0 + bit (has rest e)) [
         | inl same ↦
-            let changed = changed_at now x.0 (get_or now x.0 0 - 1) e within same in
-            let more = this_more e same in
-            let at : get_or now x.0 0 ≡ get_or now e 0 = ap (λ j. get_or now j 0) (sym same) in
-            omega (arith, read, changed, more, at, here, some)
+            let changed = changed_at now x (get_or now x 0 - 1) e within same in
+            let at : get_or now x 0 ≡ get_or now e 0 = ap (λ j. get_or now j 0) (sym same) in
+            let one = here_left e same in
+            let none = here_gone e same in
+            omega (arith, read, changed, at, was, one, none, some)
         | inr other ↦
-            let kept = get_or-set_other now x.0 e (get_or now x.0 0 - 1) 0 other in
-            let more = other_more e other in
-            omega (arith, read, kept, more, here)
+            let kept = get_or-set_other now x e (get_or now x 0 - 1) 0 other in
+            let alike = others_left e other in
+            omega (arith, read, kept, was, alike)
       ]
 
-  pub some_left : (old now : List ℕ) → ((e : ℕ) → steps_by e steps ≤ get_or old e 0) → ((e : ℕ) → get_or now e 0 + steps_by e (take k steps) ≡ get_or old e 0) → 1 ≤ get_or now x.0 0
-  some_left old now enough before = let here = here_within in let all = enough x.0 in let so_far = before x.0 in omega (arith, here, all, so_far)
+  pub some_left : (old now : List ℕ) → ((e : ℕ) → bit (has events e) ≤ get_or old e 0) → ((e : ℕ) → get_or now e 0 + bit (has events e) ≡ get_or old e 0 + bit (has left e)) → 1 ≤ get_or now x 0
+  some_left old now enough before = let all = enough x in let so_far = before x in let one = here_left x refl in omega (arith, all, so_far, one)
 
-  pub room_left : (old now : List ℕ) (most : ℕ) → ((e : ℕ) → get_or old e 0 + steps_by e steps ≤ most) → ((e : ℕ) → get_or now e 0 ≡ get_or old e 0 + steps_by e (take k steps)) → get_or now x.0 0 < most
-  room_left old now most room before = let here = here_within in let all = room x.0 in let so_far = before x.0 in omega (arith, here, all, so_far)
+  pub room_left : (old now : List ℕ) (most : ℕ) → ((e : ℕ) → get_or old e 0 + bit (has events e) ≤ most) → ((e : ℕ) → get_or now e 0 + bit (has left e) ≡ get_or old e 0 + bit (has events e)) → get_or now x 0 < most
+  room_left old now most room before = let all = room x in let so_far = before x in let one = here_left x refl in omega (arith, all, so_far, one)
+
+-- none are left
+pub none_left : (left : List ℕ) (e : ℕ) → left ≡ [] → bit (has left e) ≡ 0
+none_left left e is = ap (λ (xs : List ℕ). bit (has xs e)) is
+
+-- ---- some events for others
+-- of those that are in one of two sets alone
+pub taken_apart : (a b : Bool) → bit a + bit (b && not a) ≡ bit b + bit (a && not b)
+taken_apart true true = refl
+taken_apart true false = refl
+taken_apart false true = refl
+taken_apart false false = refl
+
+pub fewer_apart : (a b : Bool) → bit (a && not b) ≤ bit a
+fewer_apart true true = omega arith
+fewer_apart true false = omega arith
+fewer_apart false b = omega arith

@@ -1,8 +1,10 @@
 pub mod Agreeing
-pub mod Carrying
-pub mod Choosing
+pub mod Counting
+pub mod Drawing
 pub mod Longer
 pub mod Offering
 pub mod Optioning
 pub mod Owning
+pub mod Places
+pub mod Rowing
 pub mod Stepping

@@ -5,11 +5,11 @@ use Rattle.numbered_walks.specs.Steps.{number_after}
 use Rattle.numbered_walks.specs.Walks.{Chooses, IsWalk}
 use Rattle.numbered_walks.specs.declared.moves.Move.{Move}
 
-module _ {S : Type 0} (Has : S → Move → Type 0) (Takes : S → Move → S → Type 0) where
-  pub one_more_step : (number : ℕ) (s t u : S) (ms : List Move) (m : Move) → IsWalk Has Takes number s ms t → Chooses (Has t) (next_number (number_after number ms)) m → Takes t m u → IsWalk Has Takes number s (ms ++ m ∷ []) u
-  one_more_step number s t u [] m walk chooses takes =
-      (u, subst (λ (x : S). Chooses (Has x) (next_number number) m) (sym walk) chooses, subst (λ (x : S). Takes x m u) (sym walk) takes, refl)
-  one_more_step number s t u (n ∷ ms) m walk chooses takes = (walk.0, walk.1, walk.2, one_more_step (next_number number) walk.0 t u ms m walk.3 chooses takes)
+module _ {S : Type 0} (Has : S → Move → Type 0) (Goes : S → ℕ → Move → S → ℕ → Type 0) where
+  pub one_more_step : (x y : ℕ) (s t u : S) (w z : ℕ) (ms : List Move) (m : Move) → IsWalk Has Goes x y s ms t w → Chooses (Has t) (next_number (number_after x ms)) m → Goes t w m u z → IsWalk Has Goes x y s (ms ++ m ∷ []) u z
+  one_more_step x y s t u w z [] m walk chooses goes =
+      (u, z, subst (λ (v : S). Chooses (Has v) (next_number x) m) (sym walk.0) chooses, subst (λ (v : S). Goes v y m u z) (sym walk.0) (subst (λ n. Goes t n m u z) (sym walk.1) goes), (refl, refl))
+  one_more_step x y s t u w z (n ∷ ms) m walk chooses goes = (walk.0, walk.1, walk.2, walk.3, one_more_step (next_number x) walk.1 walk.0 t u w z ms m walk.4 chooses goes)
 
 pub number_push : (number : ℕ) (ms : List Move) (m : Move) → number_after number (ms ++ m ∷ []) ≡ next_number (number_after number ms)
 number_push number [] m = refl

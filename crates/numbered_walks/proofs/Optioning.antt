@@ -3,8 +3,8 @@ use Rattle.std.proofs.Common.{◌≡◌, ◌↔◌, ℕ, zero, suc, ◌+◌, ◌
 use Rattle.std.proofs.lemmas.Option.{none-some, same_Some}
 use Rattle.std.proofs.lemmas.List.{length-append, length-map}
 use Rattle.containers.proofs.MembersLemmas.{slice_get-append_left}
-use Rattle.counted_marks.proofs.Places.{as_many, marked_is, place_of_mark, places_rise}
-use Rattle.counted_marks.specs.Marks.{mark_count, marked}
+use Rattle.numbered_walks.proofs.Places.{as_many, marked_is, place_of_mark, places_rise}
+use Rattle.numbered_walks.specs.Marks.{mark_count, marked}
 use Rattle.csp_base.specs.Lists.{StandsIn}
 use Rattle.numbered_walks.specs.Options.{AreOptions, IsBefore}
 use Rattle.numbered_walks.specs.Steps.{options}

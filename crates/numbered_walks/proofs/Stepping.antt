@@ -1,26 +1,26 @@
 -- Components that move, one after another.
-use Rattle.std.proofs.Common.{◌≡◌, ◌↔◌, ℕ, zero, suc, ◌+◌, ◌<◌, ◌≤◌, inl, inr, Bool, true, false, ◌||◌, nat_eq, IsTrue, MatchBool, List, [], ◌∷◌, length, replicate, take, set, get_or, slice_get, Some, refl, sym, ap, subst, ◌∙◌, arith}
+use Rattle.std.proofs.Common.{◌≡◌, ◌↔◌, ℕ, zero, suc, ◌+◌, ◌<◌, ◌≤◌, inl, inr, Bool, true, false, ◌||◌, nat_eq, IsTrue, MatchBool, List, [], ◌∷◌, length, replicate, take, set, get_or, slice_get, Some, Result, Ok, Err, refl, sym, ap, subst, ◌∙◌, arith}
+use Rattle.std.specs.Result.{OnOk}
 use Rattle.std.proofs.lemmas.Bool.{cases_Bool, cases_eq, eq-eqb, eqb-true, false≢true, ne_eqb, or_cases, or_left, or_right}
 use Rattle.std.proofs.lemmas.List.{get_or-set_other, get_or-set_same, length-replicate, length-set, length-take}
 use Rattle.std.proofs.lemmas.List.Folds.{list_any_more}
 use Rattle.std.proofs.lemmas.Option.{none-some, same_Some}
 use Rattle.acceptances.proofs.Terms.{offers_by_test, unstable_by_step}
 use Rattle.acceptances.specs.OfferTests.{can_do, is_unstable}
-use Rattle.counted_marks.proofs.Places.{marked_is, place_of_mark, places_rise, mark_within}
-use Rattle.counted_marks.specs.Marks.{marked, places_from}
+use Rattle.numbered_walks.proofs.Places.{marked_is, place_of_mark, places_rise, mark_within}
+use Rattle.numbered_walks.specs.Marks.{marked, places_from}
 use Rattle.csp_base.proofs.Booleans.{same_tests, or_unless}
 use Rattle.csp_base.specs.Members.{has}
 use Rattle.csp_tables.proofs.Listed.{passing}
 use Rattle.csp_tables.specs.Label.Label.{silent, visible}
 use Rattle.csp_tables.specs.RawTable.{RawStep, RawTable}
 use Rattle.numbered_walks.proofs.Agreeing.{some_within}
-use Rattle.counted_marks.proofs.Counting.{none_at}
+use Rattle.numbered_walks.proofs.Drawing.{all_drawn, one_drawn}
+use Rattle.numbered_walks.proofs.Counting.{none_at}
 use Rattle.numbered_walks.proofs.Offering.{agreed_can, at_most_all, can_agreed, count_set, front_most, one_first, one_of_all, owner_counts}
-use Rattle.numbered_walks.specs.Agreements.{AreOwnerRows, IsAgreement, IsStanding, component_at, is_agreed, offer_count, owner_count, owner_marks}
-use Rattle.numbered_walks.specs.Choices.{AreChoicesOf, bit, steps_by}
-use Rattle.numbered_walks.specs.Numbered.{AllCan, AllDo, Can, Has, Numbered, OneCan, OneDoes, OwnsItsSteps, first_terms, has_owner}
-use Rattle.numbered_walks.specs.Steps.{Does}
-use Rattle.numbered_walks.specs.declared.agreement.Agreement.{Agreement}
+use Rattle.numbered_walks.specs.Agreements.{AreOwnerRows, IsAgreement, IsStanding, bit, component_at, is_agreed, offer_count, owner_count, owner_marks}
+use Rattle.numbered_walks.specs.Numbered.{AllCan, AllDo, AllDraw, Can, Goes, Has, Numbered, OneCan, OwnsItsSteps, first_terms, has_owner}
+use Rattle.numbered_walks.specs.Steps.{AllGo, Does}
 use Rattle.numbered_walks.specs.declared.moves.Move.TheVariants as move
 use Rattle.numbered_walks.specs.declared.standing.Standing.{Standing}
 
@@ -106,12 +106,11 @@ module _ (cs : List Numbered) (s : Standing) (is : IsStanding cs s) (i : ℕ) (b
   place_stands = let same = is.one_each in omega (arith, same, below)
 
   -- it offers no more than is counted
-  pub offered : (row : List (ℕ × ℕ)) → AreChoicesOf table x row → (e : ℕ) → steps_by e row ≤ get_or s.agreement.offering.items e 0
-  offered row are e =
+  pub offered : (e : ℕ) → bit (can_do table x e) ≤ get_or s.agreement.offering.items e 0
+  offered e =
       let one = one_of_all e cs s.terms.items i below is.one_each in
-      let once = are.once e in
       let count = is.offering e in
-      omega (arith, one, once, count)
+      omega (arith, one, count)
 
   -- what it offers is an event of its own
   pub offers_within : (y e : ℕ) → IsTrue (can_do table y e) → e < length s.agreement.owners.items
@@ -121,26 +120,23 @@ module _ (cs : List Numbered) (s : Standing) (is : IsStanding cs s) (i : ℕ) (b
       let count = is.owners e in
       some_within s.agreement.owners.items e (omega (arith, own, count))
 
-  -- the counts without it
-  abbrev IsWithout : Agreement → Type 0
-  IsWithout mid = (e : ℕ) → get_or mid.offering.items e 0 + bit (can_do table x e) ≡ get_or s.agreement.offering.items e 0
-
-  pub without : (row : List (ℕ × ℕ)) (mid : Agreement) → AreChoicesOf table x row → ((e : ℕ) → get_or mid.offering.items e 0 + steps_by e row ≡ get_or s.agreement.offering.items e 0) → IsWithout mid
-  without row mid are fewer e = let once = are.once e in let less = fewer e in omega (arith, once, less)
-
-  counts_there : (mid : Agreement) (y e : ℕ) → IsWithout mid → get_or mid.offering.items e 0 + bit (can_do table y e) ≡ offer_count e cs (set s.terms.items i y)
-  counts_there mid y e less =
+  -- what is counted with the events of the new term in place of the old one's
+  counts_there : (y e n : ℕ) → n + bit (can_do table x e) ≡ get_or s.agreement.offering.items e 0 + bit (can_do table y e) → n ≡ offer_count e cs (set s.terms.items i y)
+  counts_there y e n exchanged =
       let change = count_set e cs s.terms.items i y below is.one_each in
       let count = is.offering e in
-      let here = less e in
-      omega (arith, change, count, here)
+      omega (arith, change, count, exchanged)
 
-  pub room_there : (mid : Agreement) (y e most : ℕ) → IsWithout mid → length cs ≤ most → get_or mid.offering.items e 0 + bit (can_do table y e) ≤ most
-  room_there mid y e most less few = let there = counts_there mid y e less in let all = at_most_all e cs (set s.terms.items i y) in omega (arith, there, all, few)
+  pub room_there : (y e most : ℕ) → length cs ≤ most → get_or s.agreement.offering.items e 0 + bit (can_do table y e) ≤ most + bit (can_do table x e)
+  room_there y e most few =
+      let change = count_set e cs s.terms.items i y below is.one_each in
+      let count = is.offering e in
+      let all = at_most_all e cs (set s.terms.items i y) in
+      omega (arith, change, count, all, few)
 
-  pub put_there : (t : Standing) (mid : Agreement) (y : ℕ) → IsWithout mid → y < table.count → t.terms.items ≡ set s.terms.items i y → t.restless ≡ set s.restless i (is_unstable table y) → IsAgreement t.agreement
-      → t.agreement.owners.items ≡ s.agreement.owners.items → ((e : ℕ) → get_or t.agreement.offering.items e 0 ≡ get_or mid.offering.items e 0 + bit (can_do table y e)) → IsStanding cs t
-  put_there t mid y less within terms restless form owners offering = record {
+  pub put_there : (t : Standing) (y : ℕ) → y < table.count → t.terms.items ≡ set s.terms.items i y → t.restless ≡ set s.restless i (is_unstable table y) → IsAgreement t.agreement
+      → t.agreement.owners.items ≡ s.agreement.owners.items → ((e : ℕ) → get_or t.agreement.offering.items e 0 + bit (can_do table x e) ≡ get_or s.agreement.offering.items e 0 + bit (can_do table y e)) → IsStanding cs t
+  put_there t y within terms restless form owners offering = record {
     one_each = ap length terms ∙ length-set s.terms.items i y ∙ is.one_each;
     within = λ j h. elim (cases_eq j i) as (λ _. get_or t.terms.items j 0 < (component_at cs j).table.count) [
       | inl same ↦ subst (λ k. get_or t.terms.items k 0 < (component_at cs k).table.count) (sym same) (subst (λ n. n < table.count) (sym (ap (λ (xs : List ℕ). get_or xs i 0) terms ∙ get_or-set_same s.terms.items i y 0 place_stands)) within)
@@ -157,9 +153,13 @@ module _ (cs : List Numbered) (s : Standing) (is : IsStanding cs s) (i : ℕ) (b
     ];
     agreement = form;
     owners = λ e. ap (λ (ns : List ℕ). get_or ns e 0) owners ∙ is.owners e;
-    offering = λ e. offering e ∙ counts_there mid y e less ∙ sym (ap (offer_count e cs) terms);
+    offering = λ e. counts_there y e (get_or t.agreement.offering.items e 0) (offering e) ∙ sym (ap (offer_count e cs) terms);
     small = subst (λ n. n ≤ 4294967296) (sym (ap length owners)) is.small;
   }
+
+-- the events of a set that is read for it
+pub offers_there : (cs : List Numbered) (i : ℕ) (d : Numbered) (n x : ℕ) (events : List ℕ) → component_at cs i ≡ d → n ≡ x → ((e : ℕ) → has events e ≡ can_do d.table n e) → (e : ℕ) → has events e ≡ can_do (component_at cs i).table x e
+offers_there cs i d n x events same term offers e = offers e ∙ ap (λ (c : Numbered). can_do c.table n e) (sym same) ∙ ap (λ m. can_do (component_at cs i).table m e) term
 
 -- ---- each owner of an event does it
 -- the components in these places have done the event, and the others stay
@@ -257,15 +257,25 @@ all_done e (c ∷ cs) (x ∷ xs) (y ∷ ys) same also done =
     turned false P h = sym h
 
 -- one component has moved silently
-pub one_does : (cs : List Numbered) (xs ys : List ℕ) (i : ℕ) → i < length cs → length xs ≡ length cs → Does cs i silent xs ys → OneDoes cs xs i ys
-one_does cs xs ys i below same does = record {
-  component = component_at cs i;
-  there = component_there cs i below;
-  term = get_or xs i 0;
-  at = term_there xs i (omega (arith, below, same));
-  next = does.0;
-  step = does.1;
-  others = does.2;
+pub one_does : (cs : List Numbered) (xs ys : List ℕ) (i y z : ℕ) → i < length cs → length xs ≡ length cs → Does cs i silent xs y ys z → Goes cs xs y (move.Silent i) ys z
+one_does cs xs ys i y z below same does = record {
+  takes = record {
+    component = component_at cs i;
+    there = component_there cs i below;
+    term = get_or xs i 0;
+    at = term_there xs i (omega (arith, below, same));
+    next = does.next;
+    step = does.step;
+    others = does.others;
+  };
+  draws = subst (λ (l : List ℕ). AllDraw (move.Silent i) 0 cs y xs l z) (sym does.others) (one_drawn i 0 i cs xs y does.next z (omega arith) below same does.drawn);
+}
+
+-- all owners have done an event
+pub all_go : (e : ℕ) (cs : List Numbered) (xs ys places : List ℕ) (y z : ℕ) → IsTrue (has_owner cs e) → length xs ≡ length cs → places ≡ marked (owner_marks e cs) → AllDo e cs xs ys → AllGo cs (visible e) places xs y ys z → Goes cs xs y (move.Event e) ys z
+all_go e cs xs ys places y z owned same are done gone = record {
+  takes = (owned, done);
+  draws = all_drawn e 0 cs xs ys y z same (subst (λ (l : List ℕ). AllGo cs (visible e) l xs y ys z) are gone);
 }
 
 pub one_within : (cs : List Numbered) (xs : List ℕ) (i : ℕ) → OneCan cs xs i → i < length cs
@@ -387,3 +397,8 @@ module _ (cs : List Numbered) (e : ℕ) (owners : List ℕ) (k : ℕ) (are : own
 
   pub owners_rise : (a b m n : ℕ) → a < b → slice_get owners a ≡ Some m → slice_get owners b ≡ Some n → m < n
   owners_rise = subst (λ (ps : List ℕ). (a b m n : ℕ) → a < b → slice_get ps a ≡ Some m → slice_get ps b ≡ Some n → m < n) (sym are) (places_rise 0 (owner_marks e cs))
+
+-- what two clauses say of a call that ended well
+pub both_ok : {X E : Type 0} (P Q : Type 0) (r : Result X E) → OnOk r P → OnOk r Q → OnOk r (P × Q)
+both_ok P Q (Ok x) p q = (p, q)
+both_ok P Q (Err e) p q = tt

@@ -1,7 +1,10 @@
 pub mod Agreements
-pub mod Choices
+pub mod Blocks
+pub mod Draws
+pub mod Marks
 pub mod Numbered
 pub mod Numbers
 pub mod Options
+pub mod Rows
 pub mod Steps
 pub mod Walks

@@ -1,10 +1,12 @@
 -- Components given by their alphabets and their numbered tables. A state is the list of the terms where they stand.
-use Rattle.std.specs.Prelude.{◌≡◌, ℕ, Bool, Some, List, [], ◌∷◌, IsTrue, MatchBool, slice_get, slice_set, map}
+use Rattle.std.specs.Prelude.{◌≡◌, ℕ, ◌+◌, Bool, Some, List, [], ◌∷◌, IsTrue, MatchBool, slice_get, slice_set, map}
 use Rattle.std.specs.List.{list_any}
 use Rattle.csp_base.specs.Members.{has}
 use Rattle.csp_tables.specs.Label.{Label}
 use Rattle.csp_tables.specs.Label.Label.{silent, visible}
 use Rattle.csp_tables.specs.RawTable.{RawStep, RawTable}
+use Rattle.csp_tables.specs.RowOrder.{targets_in}
+use Rattle.numbered_walks.specs.Draws.{IsDrawn, label, takes_part}
 use Rattle.numbered_walks.specs.declared.moves.Move.{Move}
 use Rattle.numbered_walks.specs.declared.moves.Move.TheVariants as move
 
@@ -64,6 +66,21 @@ Has cs xs (move.Event e) = IsTrue (has_owner cs e) × AllCan e cs xs
 abbrev pub Takes : List Numbered → List ℕ → Move → List ℕ → Type 0
 Takes cs xs (move.Silent i) ys = OneDoes cs xs i ys
 Takes cs xs (move.Event e) ys = IsTrue (has_owner cs e) × AllDo e cs xs ys
+
+-- one component takes part in a move, and goes where it is drawn, or stays
+abbrev pub OneDraws : Move → ℕ → Numbered → ℕ → ℕ → ℕ → ℕ → Type 0
+OneDraws m i c y x n z = MatchBool (takes_part m i c.alphabet) (IsDrawn (targets_in c.table x (label m)) y n z) ((x ≡ n) × (y ≡ z))
+
+-- so each component from the place i on, one after another
+abbrev pub AllDraw : Move → ℕ → List Numbered → ℕ → List ℕ → List ℕ → ℕ → Type 0
+AllDraw m i [] y [] [] z = y ≡ z
+AllDraw m i (c ∷ cs) y (x ∷ xs) (n ∷ ns) z = (w : ℕ) × OneDraws m i c y x n w × AllDraw m (i + 1) cs w xs ns z
+AllDraw m i cs y xs ns z = ⊥
+
+-- the state to which an option leads by the numbers after y, of which z is the last that is drawn
+pub record Goes (cs : List Numbered) (xs : List ℕ) (y : ℕ) (m : Move) (ys : List ℕ) (z : ℕ) : Type 0 where
+  pub takes : Takes cs xs m ys
+  pub draws : AllDraw m 0 cs y xs ys z
 
 -- each component at the first term of its table
 abbrev pub first_terms : List Numbered → List ℕ

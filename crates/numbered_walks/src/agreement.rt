@@ -1,14 +1,17 @@
 //! Which events all of their owners offer.
 
-ghost use Rattle.std.specs.Prelude.{◌≡◌, ◌+◌, ◌-◌, ◌≤◌, ◌<◌, ℕ, IfOk, length, map, replicate, slice_index, slice_set};
+ghost use Rattle.std.specs.Prelude.{◌≡◌, ◌+◌, ◌-◌, ◌≤◌, ◌<◌, ℕ, IfOk, IsTrue, OnOk, length, map, replicate, slice_index, slice_set};
 ghost use Rattle.dl_limits.specs.declared.TheConstants.{MOST_COMPONENTS};
-ghost use Rattle.numbered_walks.specs.Agreements.{IsAgreement, is_agreed};
-ghost use Rattle.numbered_walks.specs.Choices.{steps_by};
+ghost use Rattle.csp_base.specs.Members.{has};
+ghost use Rattle.numbered_walks.specs.Agreements.{IsAgreement, bit, is_agreed};
 
+use crate::marks::CountedMarks;
 use containers::Items;
-use counted_marks::CountedMarks;
-use csp_base::{Event, NoMemory};
+use csp_base::{Event, EventSet, NoMemory};
 use std::alloc::Global;
+
+/// So many blocks of events of two sets are gone through event by event.
+const FEW_BLOCKS: usize = 2;
 
 /// For each event how many components have it, and how many of them offer it now; marked are the events that all of them offer.
 pub(crate) struct Agreement {
@@ -101,29 +104,59 @@ fn withdraw(agreement: &mut Agreement, event: Event)
     mark(agreement, place);
 }
 
-/// Each event of the steps is offered by one component more.
-pub(crate) fn offer_all(agreement: &mut Agreement, steps: &[(Event, u32)])
+/// The component offers the events of `new` in place of those of `old`. Only the events of one of the two are counted, where there are many.
+pub(crate) fn exchange(
+    alloc: Global,
+    agreement: &mut Agreement,
+    old: &EventSet,
+    new: &EventSet,
+) -> Result<(), NoMemory>
     requires form { IsAgreement agreement.old }
-    requires within { (e : ℕ) → 1 ≤ steps_by e steps.now → e < length agreement.old.owners.items }
-    requires room { (e : ℕ) → slice_index agreement.old.offering.items e + steps_by e steps.now ≤ MOST_COMPONENTS }
+    requires within { (e : ℕ) → IsTrue (has new.now e) → e < length agreement.old.owners.items }
+    requires some { (e : ℕ) → bit (has old.now e) ≤ slice_index agreement.old.offering.items e }
+    requires room { (e : ℕ) → slice_index agreement.old.offering.items e + bit (has new.now e) ≤ MOST_COMPONENTS + bit (has old.now e) }
+    ensures form { OnOk result (IsAgreement agreement.new) }
+    ensures owners { OnOk result (agreement.new.owners.items ≡ agreement.old.owners.items) }
+    ensures offering { OnOk result ((e : ℕ) → slice_index agreement.new.offering.items e + bit (has old.now e) ≡ slice_index agreement.old.offering.items e + bit (has new.now e)) }
+{
+    if old == new {
+        return Ok(());
+    }
+    if old.blocks().len() + new.blocks().len() <= FEW_BLOCKS {
+        withdraw_all(agreement, old);
+        offer_all(agreement, new);
+        return Ok(());
+    }
+    let gone = old.diff(alloc, new)?;
+    let come = new.diff(alloc, old)?;
+    withdraw_all(agreement, &gone);
+    offer_all(agreement, &come);
+    Ok(())
+}
+
+/// Each of the events is offered by one component more.
+pub(crate) fn offer_all(agreement: &mut Agreement, events: &EventSet)
+    requires form { IsAgreement agreement.old }
+    requires within { (e : ℕ) → IsTrue (has events.now e) → e < length agreement.old.owners.items }
+    requires room { (e : ℕ) → slice_index agreement.old.offering.items e + bit (has events.now e) ≤ MOST_COMPONENTS }
     ensures form { IsAgreement agreement.new }
     ensures owners { agreement.new.owners.items ≡ agreement.old.owners.items }
-    ensures offering { (e : ℕ) → slice_index agreement.new.offering.items e ≡ slice_index agreement.old.offering.items e + steps_by e steps.now }
+    ensures offering { (e : ℕ) → slice_index agreement.new.offering.items e ≡ slice_index agreement.old.offering.items e + bit (has events.now e) }
 {
-    for (event, _) in steps {
-        offer(agreement, *event);
+    for event in events.iter() {
+        offer(agreement, event);
     }
 }
 
-/// Each event of the steps is offered by one component less.
-pub(crate) fn withdraw_all(agreement: &mut Agreement, steps: &[(Event, u32)])
+// Each of the events is offered by one component less.
+fn withdraw_all(agreement: &mut Agreement, events: &EventSet)
     requires form { IsAgreement agreement.old }
-    requires some { (e : ℕ) → steps_by e steps.now ≤ slice_index agreement.old.offering.items e }
+    requires some { (e : ℕ) → bit (has events.now e) ≤ slice_index agreement.old.offering.items e }
     ensures form { IsAgreement agreement.new }
     ensures owners { agreement.new.owners.items ≡ agreement.old.owners.items }
-    ensures offering { (e : ℕ) → slice_index agreement.new.offering.items e + steps_by e steps.now ≡ slice_index agreement.old.offering.items e }
+    ensures offering { (e : ℕ) → slice_index agreement.new.offering.items e + bit (has events.now e) ≡ slice_index agreement.old.offering.items e }
 {
-    for (event, _) in steps {
-        withdraw(agreement, *event);
+    for event in events.iter() {
+        withdraw(agreement, event);
     }
 }

@@ -3,11 +3,13 @@
 #![tactic(auto)]
 
 mod agreement;
-mod choices;
+mod draws;
+mod marks;
 mod mover;
 mod moves;
 mod numbers;
 mod owners;
+mod rows;
 mod standing;
 mod walking;
 

@@ -1,29 +1,31 @@
 //! A component that moves: its alphabet, and the steps of its table term by term.
 
-ghost use Rattle.std.specs.Prelude.{◌≡◌, ◌<◌, IfNone, IfOk, IfSome, IsTrue};
-ghost use Rattle.acceptances.specs.OfferTests.{is_unstable};
+ghost use Rattle.std.specs.Prelude.{◌≡◌, ◌<◌, ℕ, IfOk};
+ghost use Rattle.acceptances.specs.OfferTests.{can_do, is_unstable};
+ghost use Rattle.csp_base.specs.Members.{has};
 ghost use Rattle.csp_tables.specs.Label.Label.{silent, visible};
 ghost use Rattle.csp_tables.specs.RawForm.{HasRawForm};
 ghost use Rattle.csp_tables.specs.RawTable.{RawStep};
-ghost use Rattle.term_sets.specs.Moves.{has_move};
-ghost use Rattle.numbered_walks.specs.Choices.{AreChoicesOf, steps_by};
+ghost use Rattle.csp_tables.specs.RowOrder.{targets_in};
+ghost use Rattle.numbered_walks.specs.Draws.{IsDrawn};
 ghost use Rattle.numbered_walks.specs.Numbered.{Can, OwnsItsSteps};
+ghost use Rattle.numbered_walks.specs.Rows.{targets};
 
-use crate::choices::choices;
+use crate::draws::{Drawn, drawn_by, drawn_silently};
+use crate::rows::{offer_sets, silent_rows, step_rows, steps_by};
 use containers::Items;
 use csp_base::{Event, EventSet, NoMemory};
 use csp_tables::RawTable;
-use digraph::Rows;
 use std::alloc::Global;
 use std::marker::Model;
-use tau_order::silent_rows;
 
 /// A component given by its alphabet and its table, with its steps sorted out term by term. Contracts see it as these two.
 pub struct Mover<'a> {
     alphabet: &'a EventSet,
     table: &'a RawTable,
-    silent: Rows,
-    choices: Vec<Items<(Event, u32)>>,
+    silent: Vec<Items<u32>>,
+    steps: Vec<Items<(Event, u32)>>,
+    offers: Vec<EventSet>,
 }
 
 // By hand, so that a crate that ends one calls this and proves no end of its own.
@@ -33,22 +35,23 @@ impl<'a> Drop for Mover<'a> {
             alphabet: _alphabet,
             table: _table,
             silent: _silent,
-            choices: _choices,
+            steps: _steps,
+            offers: _offers,
         } = self;
     }
 }
 
 impl<'a> Model for Mover<'a> {
     ghost use Rattle.csp_tables.specs.RawForm.{HasRawForm};
-    ghost use Rattle.tau_order.specs.SilentRows.{AreSilentRows};
-    ghost use Rattle.numbered_walks.specs.Choices.{AreChoices};
+    ghost use Rattle.acceptances.specs.OfferTests.{AreOffers};
+    ghost use Rattle.numbered_walks.specs.Rows.{AreSilentRows, AreStepRows};
     ghost use Rattle.numbered_walks.specs.Numbered.{Numbered, OwnsItsSteps};
 
     ghost Value = { Numbered };
 
     ghost view = { λ m. record { alphabet = m.alphabet.now; table = m.table.now } };
 
-    ghost invariant = { λ m. HasRawForm m.table.now × OwnsItsSteps m.alphabet.now m.table.now × AreSilentRows m.table.now m.silent × AreChoices m.table.now m.choices.items };
+    ghost invariant = { λ m. HasRawForm m.table.now × OwnsItsSteps m.alphabet.now m.table.now × AreSilentRows m.table.now m.silent.items × AreStepRows m.table.now m.steps.items × AreOffers m.table.now m.offers.items };
 }
 
 impl<'a> Mover<'a> {
@@ -63,12 +66,14 @@ impl<'a> Mover<'a> {
     {
         let _count = table.count();
         let silent = silent_rows(alloc, table)?;
-        let choices = choices(alloc, table)?;
+        let steps = step_rows(alloc, table)?;
+        let offers = offer_sets(alloc, table)?;
         Ok(Mover {
             alphabet,
             table,
             silent,
-            choices,
+            steps,
+            offers,
         })
     }
 
@@ -79,22 +84,48 @@ impl<'a> Mover<'a> {
         ensures own { OwnsItsSteps self.now.alphabet self.now.table }
     {
         let _ = &self.silent;
-        let _ = &self.choices;
+        let _ = &self.steps;
+        let _ = &self.offers;
         let _ = self.table;
         self.alphabet
     }
 
-    // The term to which a silent step leads from a term, the first that is listed.
-    pub(crate) fn silent_target(&self, term: u32) -> Option<u32>
+    // The events that it offers at a term.
+    pub(crate) fn offers(&self, term: u32) -> &EventSet
         requires { term < self.now.table.count }
-        ensures step { IfSome result (RawStep self.now.table term silent) }
-        ensures within { IfSome result (λ to. to < self.now.table.count) }
-        ensures none { IfNone result (Can silent self.now term → ⊥) }
+        ensures offers { (e : ℕ) → has result.now e ≡ can_do self.now.table term e }
     {
-        match self.silent.targets(term) {
-            [] => None,
-            [to, ..] => Some(*to),
-        }
+        let _ = &self.silent;
+        let _ = &self.steps;
+        let _ = self.table;
+        let _ = self.alphabet;
+        &self.offers[term as usize]
+    }
+
+    // The targets of the silent steps from a term, in their order.
+    fn silent_targets(&self, term: u32) -> &[u32]
+        requires { term < self.now.table.count }
+        ensures value { result.now ≡ targets_in self.now.table term silent }
+        ensures form { HasRawForm self.now.table }
+    {
+        let _ = &self.steps;
+        let _ = &self.offers;
+        let _ = self.table;
+        let _ = self.alphabet;
+        self.silent[term as usize].as_slice()
+    }
+
+    // The steps from a term by an event, in their order.
+    fn steps_by(&self, term: u32, event: Event) -> &[(Event, u32)]
+        requires { term < self.now.table.count }
+        ensures value { targets result.now ≡ targets_in self.now.table term (visible event) }
+        ensures form { HasRawForm self.now.table }
+    {
+        let _ = &self.silent;
+        let _ = &self.offers;
+        let _ = self.table;
+        let _ = self.alphabet;
+        steps_by(self.steps[term as usize].as_slice(), event)
     }
 
     // Whether a silent step leads from a term.
@@ -102,47 +133,28 @@ impl<'a> Mover<'a> {
         requires { term < self.now.table.count }
         ensures { result ≡ is_unstable self.now.table term }
     {
-        match self.silent_target(term) {
-            Some(_to) => true,
-            None => false,
-        }
+        !self.silent_targets(term).is_empty()
     }
 
-    // One step of a term by each of its events.
-    pub(crate) fn choices(&self, term: u32) -> &[(Event, u32)]
-        requires { term < self.now.table.count }
-        ensures choices { AreChoicesOf self.now.table term result.now }
-        ensures form { HasRawForm self.now.table }
+    // Where it goes silently from a term, by the numbers after this one.
+    pub(crate) fn draw_silently(&self, term: u32, number: u32) -> Drawn
+        requires term { term < self.now.table.count }
+        requires can { Can silent self.now term }
+        ensures drawn { IsDrawn (targets_in self.now.table term silent) number result.to result.number }
+        ensures step { RawStep self.now.table term silent result.to }
+        ensures within { result.to < self.now.table.count }
     {
-        let _ = &self.silent;
-        let _ = self.table;
-        let _ = self.alphabet;
-        self.choices[term as usize].as_slice()
+        drawn_silently(self.silent_targets(term), number)
     }
 
-    // The term to which a step by the event leads from a term.
-    pub(crate) fn target(&self, term: u32, event: Event) -> Option<u32>
-        requires { term < self.now.table.count }
-        ensures step { IfSome result (RawStep self.now.table term (visible event)) }
-        ensures within { IfSome result (λ to. to < self.now.table.count) }
-        ensures none { IfNone result (Can (visible event) self.now term → ⊥) }
+    // Where it goes by an event from a term, by the numbers after this one.
+    pub(crate) fn draw_by(&self, term: u32, event: Event, number: u32) -> Drawn
+        requires term { term < self.now.table.count }
+        requires can { Can (visible event) self.now term }
+        ensures drawn { IsDrawn (targets_in self.now.table term (visible event)) number result.to result.number }
+        ensures step { RawStep self.now.table term (visible event) result.to }
+        ensures within { result.to < self.now.table.count }
     {
-        match target_by(self.choices(term), event) {
-            Some(to) => Some(to),
-            None => None,
-        }
+        drawn_by(self.steps_by(term, event), number)
     }
-}
-
-// The target of the first of the steps that is by the event.
-fn target_by(steps: &[(Event, u32)], event: Event) -> Option<u32>
-    ensures step { IfSome result (λ to. IsTrue (has_move steps.now event to)) }
-    ensures none { IfNone result (steps_by event steps.now ≡ 0) }
-{
-    for (other, to) in steps {
-        if other.0 == event.0 {
-            return Some(*to);
-        }
-    }
-    None
 }

@@ -1,30 +1,31 @@
 //! Where the components stand, and what they can do there.
 
-ghost use Rattle.std.specs.Prelude.{◌≡◌, ◌+◌, ◌≤◌, ◌<◌, ◌^◌, ◌↔◌, ℕ, false, IfNone, IfOk, IfSome, IsTrue, Some, length, slice_get, slice_index, slice_index_or, slice_set};
+ghost use Rattle.std.specs.Prelude.{◌≡◌, ◌+◌, ◌≤◌, ◌<◌, ◌^◌, ◌↔◌, ℕ, false, IfNone, IfOk, IfSome, IsTrue, OnOk, Some, length, slice_get, slice_index, slice_index_or, slice_set};
 ghost use Rattle.acceptances.specs.OfferTests.{is_unstable};
-ghost use Rattle.counted_marks.specs.Marks.{mark_count, marked};
+ghost use Rattle.numbered_walks.specs.Marks.{mark_count, marked};
 ghost use Rattle.csp_tables.specs.Label.Label.{silent, visible};
 ghost use Rattle.dl_limits.specs.declared.TheConstants.{MOST_COMPONENTS};
-ghost use Rattle.numbered_walks.specs.Agreements.{AreOwnerRows, IsAgreement, IsStanding, component_at, offer_count, owner_count, owner_marks};
-ghost use Rattle.numbered_walks.specs.Choices.{bit};
+ghost use Rattle.numbered_walks.specs.Agreements.{AreOwnerRows, IsAgreement, IsStanding, bit, component_at, offer_count, owner_count, owner_marks};
 ghost use Rattle.acceptances.specs.OfferTests.{can_do};
-ghost use Rattle.numbered_walks.specs.Numbered.{AllCan, AllDo, Can, Has, OwnsItsSteps, Takes, first_terms};
+ghost use Rattle.numbered_walks.specs.Numbered.{AllCan, AllDo, Can, Goes, Has, OwnsItsSteps, first_terms};
 ghost use Rattle.numbered_walks.specs.Numbers.{place_among};
-ghost use Rattle.numbered_walks.specs.Steps.{Does, options};
+ghost use Rattle.numbered_walks.specs.Steps.{AllGo, Does, options};
 ghost use Rattle.numbered_walks.specs.Walks.{Chooses, HasNone};
 
-use crate::agreement::{Agreement, agreed_events, no_offers, offer_all, withdraw_all};
+use crate::agreement::{Agreement, agreed_events, exchange, no_offers, offer_all};
+use crate::draws::Drawn;
+use crate::marks::CountedMarks;
 use crate::mover::Mover;
 use crate::moves::Move;
 use crate::numbers::place_among;
 use containers::Items;
-use counted_marks::CountedMarks;
 use csp_base::{Event, NoMemory};
 use std::alloc::Global;
 
-/// The term of each component, which components have a silent step, and which events are offered by all of their owners.
+/// The term of each component, the number that was drawn last, which components have a silent step, and which events are offered by all of their owners.
 pub(crate) struct Standing {
     terms: Vec<u32>,
+    drawn: u32,
     restless: CountedMarks,
     agreement: Agreement,
 }
@@ -34,13 +35,14 @@ impl Drop for Standing {
     fn drop(self) {
         let Standing {
             terms: _terms,
+            drawn: _drawn,
             restless: _restless,
             agreement: _agreement,
         } = self;
     }
 }
 
-// Marks whether a component has a silent step, now that it stands at this term, and counts what it offers there.
+// Marks whether a component has a silent step at its first term, and counts what it offers there.
 fn enter(
     restless: &mut CountedMarks,
     agreement: &mut Agreement,
@@ -59,7 +61,7 @@ fn enter(
     ensures offering { (e : ℕ) → slice_index agreement.new.offering.items e ≡ slice_index agreement.old.offering.items e + bit (can_do mover.now.table term e) }
 {
     restless.set(place, mover.is_restless(term));
-    offer_all(agreement, mover.choices(term));
+    offer_all(agreement, mover.offers(term));
 }
 
 // Each component enters its first term.
@@ -88,12 +90,14 @@ pub(crate) fn first_standing(
     alloc: Global,
     movers: &[Mover<'_>],
     owners: &[Items<u32>],
+    drawn: u32,
 ) -> Result<Standing, NoMemory>
     requires few { length movers.now ≤ MOST_COMPONENTS }
     requires owners { AreOwnerRows movers.now owners.now }
     requires small { length owners.now ≤ 2 ^ 32 }
     ensures form { IfOk result (IsStanding movers.now) }
     ensures first { IfOk result (λ made. made.terms.items ≡ first_terms movers.now) }
+    ensures drawn { IfOk result (λ made. made.drawn ≡ drawn) }
 {
     let terms = vec![in alloc; 0; movers.len()]?;
     let mut restless = CountedMarks::new(alloc, movers.len())?;
@@ -101,6 +105,7 @@ pub(crate) fn first_standing(
     enter_all(&mut restless, &mut agreement, movers);
     Ok(Standing {
         terms,
+        drawn,
         restless,
         agreement,
     })
@@ -153,88 +158,133 @@ pub(crate) fn chosen(movers: &[Mover<'_>], standing: &Standing, number: u32) -> 
 }
 
 // Puts a component to another term of its table.
-fn put(movers: &[Mover<'_>], standing: &mut Standing, place: usize, to: u32)
+fn put(
+    alloc: Global,
+    movers: &[Mover<'_>],
+    standing: &mut Standing,
+    place: usize,
+    to: u32,
+) -> Result<(), NoMemory>
     requires form { IsStanding movers.now standing.old }
     requires few { length movers.now ≤ MOST_COMPONENTS }
     requires place { place < length movers.now }
     requires to { to < (component_at movers.now place).table.count }
-    ensures form { IsStanding movers.now standing.new }
-    ensures moved { standing.new.terms.items ≡ slice_set standing.old.terms.items place to }
+    ensures form { OnOk result (IsStanding movers.now standing.new) }
+    ensures moved { OnOk result (standing.new.terms.items ≡ slice_set standing.old.terms.items place to) }
+    ensures drawn { OnOk result (standing.new.drawn ≡ standing.old.drawn) }
 {
     let mover = &movers[place];
-    withdraw_all(
+    let from = standing.terms[place];
+    exchange(
+        alloc,
         &mut standing.agreement,
-        mover.choices(standing.terms[place]),
-    );
-    enter(
-        &mut standing.restless,
-        &mut standing.agreement,
-        mover,
-        place,
-        to,
-    );
+        mover.offers(from),
+        mover.offers(to),
+    )?;
+    standing.restless.set(place, mover.is_restless(to));
     standing.terms[place] = to;
+    Ok(())
+}
+
+// A component goes to the term that is drawn.
+fn go_to(
+    alloc: Global,
+    movers: &[Mover<'_>],
+    standing: &mut Standing,
+    place: usize,
+    drawn: Drawn,
+) -> Result<(), NoMemory>
+    requires form { IsStanding movers.now standing.old }
+    requires few { length movers.now ≤ MOST_COMPONENTS }
+    requires place { place < length movers.now }
+    requires to { drawn.to < (component_at movers.now place).table.count }
+    ensures form { OnOk result (IsStanding movers.now standing.new) }
+    ensures moved { OnOk result (standing.new.terms.items ≡ slice_set standing.old.terms.items place drawn.to) }
+    ensures drawn { OnOk result (standing.new.drawn ≡ drawn.number) }
+{
+    put(alloc, movers, standing, place, drawn.to)?;
+    standing.drawn = drawn.number;
+    Ok(())
 }
 
 // One component moves by a silent step.
-fn move_silently(movers: &[Mover<'_>], standing: &mut Standing, place: usize)
+fn move_silently(
+    alloc: Global,
+    movers: &[Mover<'_>],
+    standing: &mut Standing,
+    place: usize,
+) -> Result<(), NoMemory>
     requires form { IsStanding movers.now standing.old }
     requires few { length movers.now ≤ MOST_COMPONENTS }
     requires place { place < length movers.now }
     requires can { Can silent (component_at movers.now place) (slice_index standing.old.terms.items place) }
-    ensures form { IsStanding movers.now standing.new }
-    ensures does { Does movers.now place silent standing.old.terms.items standing.new.terms.items }
+    ensures form { OnOk result (IsStanding movers.now standing.new) }
+    ensures does { OnOk result (Does movers.now place silent standing.old.terms.items standing.old.drawn standing.new.terms.items standing.new.drawn) }
 {
-    if let Some(to) = movers[place].silent_target(standing.terms[place]) {
-        put(movers, standing, place, to);
-    }
+    let drawn = movers[place].draw_silently(standing.terms[place], standing.drawn);
+    go_to(alloc, movers, standing, place, drawn)
 }
 
 // One component does an event.
-fn do_event(movers: &[Mover<'_>], standing: &mut Standing, place: usize, event: Event)
+fn do_event(
+    alloc: Global,
+    movers: &[Mover<'_>],
+    standing: &mut Standing,
+    place: usize,
+    event: Event,
+) -> Result<(), NoMemory>
     requires form { IsStanding movers.now standing.old }
     requires few { length movers.now ≤ MOST_COMPONENTS }
     requires place { place < length movers.now }
     requires can { Can (visible event) (component_at movers.now place) (slice_index standing.old.terms.items place) }
-    ensures form { IsStanding movers.now standing.new }
-    ensures does { Does movers.now place (visible event) standing.old.terms.items standing.new.terms.items }
+    ensures form { OnOk result (IsStanding movers.now standing.new) }
+    ensures does { OnOk result (Does movers.now place (visible event) standing.old.terms.items standing.old.drawn standing.new.terms.items standing.new.drawn) }
 {
-    if let Some(to) = movers[place].target(standing.terms[place], event) {
-        put(movers, standing, place, to);
-    }
+    let drawn = movers[place].draw_by(standing.terms[place], event, standing.drawn);
+    go_to(alloc, movers, standing, place, drawn)
 }
 
 // Each owner of an event does it.
-fn do_together(movers: &[Mover<'_>], owners: &[u32], standing: &mut Standing, event: Event)
+fn do_together(
+    alloc: Global,
+    movers: &[Mover<'_>],
+    owners: &[u32],
+    standing: &mut Standing,
+    event: Event,
+) -> Result<(), NoMemory>
     requires form { IsStanding movers.now standing.old }
     requires few { length movers.now ≤ MOST_COMPONENTS }
     requires owners { owners.now ≡ marked (owner_marks event movers.now) }
     requires can { AllCan event movers.now standing.old.terms.items }
-    ensures form { IsStanding movers.now standing.new }
-    ensures done { AllDo event movers.now standing.old.terms.items standing.new.terms.items }
+    ensures form { OnOk result (IsStanding movers.now standing.new) }
+    ensures done { OnOk result (AllDo event movers.now standing.old.terms.items standing.new.terms.items) }
+    ensures gone { OnOk result (AllGo movers.now (visible event) owners.now standing.old.terms.items standing.old.drawn standing.new.terms.items standing.new.drawn) }
 {
     for place in owners {
-        do_event(movers, standing, *place as usize, event);
+        do_event(alloc, movers, standing, *place as usize, event)?;
     }
+    Ok(())
 }
 
 /// Takes an option.
 pub(crate) fn take(
+    alloc: Global,
     movers: &[Mover<'_>],
     owners: &[Items<u32>],
     standing: &mut Standing,
     option: &Move,
-)
+) -> Result<(), NoMemory>
     requires form { IsStanding movers.now standing.old }
     requires few { length movers.now ≤ MOST_COMPONENTS }
     requires owners { AreOwnerRows movers.now owners.now }
     requires has { Has movers.now standing.old.terms.items option.now }
-    ensures form { IsStanding movers.now standing.new }
-    ensures takes { Takes movers.now standing.old.terms.items option.now standing.new.terms.items }
+    ensures form { OnOk result (IsStanding movers.now standing.new) }
+    ensures goes { OnOk result (Goes movers.now standing.old.terms.items standing.old.drawn option.now standing.new.terms.items standing.new.drawn) }
 {
     match option {
-        Move::Silent(place) => move_silently(movers, standing, *place as usize),
+        Move::Silent(place) => move_silently(alloc, movers, standing, *place as usize),
         Move::Event(event) => do_together(
+            alloc,
             movers,
             owners[event.0 as usize].as_slice(),
             standing,

@@ -1,14 +1,15 @@
 //! One walk.
 
-ghost use Rattle.std.specs.Prelude.{◌≡◌, ◌⊎◌, ◌≤◌, ◌<◌, IfNone, IfOk, IfSome, OnOk, length};
+ghost use Rattle.std.specs.Prelude.{◌≡◌, ◌⊎◌, ◌≤◌, ◌<◌, IfOk, MatchOption, OnOk, length};
 ghost use Rattle.dl_limits.specs.declared.TheConstants.{MOST_COMPONENTS};
 ghost use Rattle.numbered_walks.specs.Agreements.{AreOwnerRows, IsStanding};
-ghost use Rattle.numbered_walks.specs.Numbered.{Has, Takes, first_terms};
-ghost use Rattle.numbered_walks.specs.Walks.{Chooses, HasNone, IsWalk, IsWalkOf};
+ghost use Rattle.numbered_walks.specs.Numbered.{Goes, Has, first_terms};
+ghost use Rattle.numbered_walks.specs.Walks.{HasNone, IsWalk, IsWalkOf};
+ghost use Rattle.numbered_walks.specs.Steps.{IsAtEnd, IsStep};
 
 use crate::mover::Mover;
 use crate::moves::{Move, Walk};
-use crate::numbers::next_number;
+use crate::numbers::{first_draw, next_number};
 use crate::owners::owner_rows;
 use crate::standing::{Standing, chosen, first_standing, is_stuck, take};
 use containers::Items;
@@ -17,25 +18,23 @@ use std::alloc::Global;
 
 // Takes the option that a number chooses, if there is one.
 fn step(
+    alloc: Global,
     movers: &[Mover<'_>],
     owners: &[Items<u32>],
     standing: &mut Standing,
     number: u32,
-) -> Option<Move>
+) -> Result<Option<Move>, NoMemory>
     requires form { IsStanding movers.now standing.old }
     requires few { length movers.now ≤ MOST_COMPONENTS }
     requires owners { AreOwnerRows movers.now owners.now }
-    ensures form { IsStanding movers.now standing.new }
-    ensures chosen { IfSome result (Chooses (Has movers.now standing.old.terms.items) number) }
-    ensures takes { IfSome result (λ option. Takes movers.now standing.old.terms.items option standing.new.terms.items) }
-    ensures stays { IfNone result (standing.new.terms.items ≡ standing.old.terms.items) }
-    ensures none { IfNone result (HasNone (Has movers.now standing.new.terms.items)) }
+    ensures form { OnOk result (IsStanding movers.now standing.new) }
+    ensures steps { IfOk result (λ option. MatchOption option (IsAtEnd movers.now standing.old standing.new) (IsStep movers.now number standing.old standing.new)) }
 {
     match chosen(movers, standing, number) {
-        None => None,
+        None => Ok(None),
         Some(option) => {
-            take(movers, owners, standing, &option);
-            Some(option)
+            take(alloc, movers, owners, standing, &option)?;
+            Ok(Some(option))
         }
     }
 }
@@ -53,14 +52,14 @@ fn go(
     requires few { length movers.now ≤ MOST_COMPONENTS }
     requires owners { AreOwnerRows movers.now owners.now }
     ensures form { OnOk result (IsStanding movers.now standing.new) }
-    ensures walk { IfOk result (λ moves. IsWalk (Has movers.now) (Takes movers.now) seed standing.old.terms.items moves.items standing.new.terms.items) }
+    ensures walk { IfOk result (λ moves. IsWalk (Has movers.now) (Goes movers.now) seed standing.old.drawn standing.old.terms.items moves.items standing.new.terms.items standing.new.drawn) }
     ensures count { IfOk result (λ moves. (length moves.items ≡ steps) ⊎ ((length moves.items < steps) × HasNone (Has movers.now standing.new.terms.items))) }
 {
     let mut moves = Vec::new(alloc);
     let mut number = seed;
     for _ in 0..steps {
         number = next_number(number);
-        let Some(option) = step(movers, owners, standing, number) else {
+        let Some(option) = step(alloc, movers, owners, standing, number)? else {
             return Ok(moves);
         };
         moves.push(option)?;
@@ -69,13 +68,13 @@ fn go(
 }
 
 /// One walk of the components, which begin at the first terms of their tables: as many steps as are asked for, fewer where none is left. The numbers
-/// after the seed choose each step.
+/// after the seed choose each step, and a second sequence of numbers the targets among which it leaves a choice.
 pub fn walk(alloc: Global, movers: &[Mover<'_>], seed: u32, steps: u32) -> Result<Walk, NoMemory>
     requires { length movers.now ≤ MOST_COMPONENTS }
-    ensures { IfOk result (λ made. IsWalkOf (Has movers.now) (Takes movers.now) seed steps (first_terms movers.now) made.moves.items made.is_stuck) }
+    ensures { IfOk result (λ made. IsWalkOf (Has movers.now) (Goes movers.now) seed steps (first_terms movers.now) made.moves.items made.is_stuck) }
 {
     let owners = owner_rows(alloc, movers)?;
-    let mut standing = first_standing(alloc, movers, &owners)?;
+    let mut standing = first_standing(alloc, movers, &owners, first_draw(seed))?;
     let moves = go(alloc, movers, &owners, &mut standing, seed, steps)?;
     let is_stuck = is_stuck(movers, &standing);
     Ok(Walk { moves, is_stuck })

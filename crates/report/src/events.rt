@@ -21,33 +21,23 @@ fn push_constant(content: &Content, text: &mut Bytes, constant: u32) -> Result<(
 }
 
 // Adds a field.
-fn push_field(
-    alloc: Global,
-    content: &Content,
-    text: &mut Bytes,
-    field: &Atom,
-) -> Result<(), NoMemory>
+fn push_field(content: &Content, text: &mut Bytes, field: &Atom) -> Result<(), NoMemory>
     ensures { OnOk result (text.new ≡ text.old ++ field_text content.now field.now) }
 {
     text.push(b'.')?;
     match field {
-        Atom::Num(number) => push_signed(alloc, text, *number),
+        Atom::Num(number) => push_signed(text, *number),
         Atom::Const(constant) => push_constant(content, text, *constant),
         Atom::Truth(_) | Atom::Event(_) => Ok(()),
     }
 }
 
 // Adds fields.
-fn push_fields(
-    alloc: Global,
-    content: &Content,
-    text: &mut Bytes,
-    fields: &[Atom],
-) -> Result<(), NoMemory>
+fn push_fields(content: &Content, text: &mut Bytes, fields: &[Atom]) -> Result<(), NoMemory>
     ensures { OnOk result (text.new ≡ text.old ++ flat_map (field_text content.now) fields.now) }
 {
     for field in fields {
-        push_field(alloc, content, text, field)?;
+        push_field(content, text, field)?;
     }
     Ok(())
 }
@@ -67,7 +57,7 @@ fn info_text(alloc: Global, content: &Content, info: &EventInfo) -> Result<Bytes
     ensures { IfOk result (λ text. text ≡ channel_name (slice_get content.now.channels info.now.channel) ++ flat_map (field_text content.now) info.now.fields) }
 {
     let mut text = named(alloc, content, info.channel)?;
-    push_fields(alloc, content, &mut text, info.fields.as_slice())?;
+    push_fields(content, &mut text, info.fields.as_slice())?;
     Ok(text)
 }
 

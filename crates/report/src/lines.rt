@@ -1,6 +1,6 @@
 //! What the lines of a report are made of.
 
-ghost use Rattle.std.specs.Prelude.{◌≡◌, ◌++◌, ◌∷◌, [], IfOk, OnOk, codes};
+ghost use Rattle.std.specs.Prelude.{◌≡◌, ◌++◌, ◌+◌, ◌<◌, ◌∷◌, [], IfOk, OnOk, codes};
 ghost use Rattle.std.specs.List.{flat_map};
 ghost use Rattle.std.specs.Fmt.{decimal, signed_decimal};
 ghost use Rattle.report.specs.Lines.{comma_list, numbers_text};
@@ -27,36 +27,51 @@ pub(crate) enum Part<'a> {
     Set(&'a [Bytes]),
 }
 
-// Adds a number.
-fn push_number(alloc: Global, report: &mut Bytes, number: u64) -> Result<(), NoMemory>
+// Adds a digit.
+fn push_digit(report: &mut Bytes, digit: u8) -> Result<(), NoMemory>
+    requires { digit < 10 }
+    ensures { OnOk result (report.new ≡ report.old ++ (48 + digit) ∷ []) }
+{
+    report.push(b'0' + digit)
+}
+
+// Adds a number, digit after digit.
+#[tactic(auto, using(std::proofs::lemmas::Fmt::decimal_digit, std::proofs::lemmas::Fmt::decimal_step))]
+fn push_number(report: &mut Bytes, number: u64) -> Result<(), NoMemory>
     ensures { OnOk result (report.new ≡ report.old ++ decimal number) }
 {
-    let number = format!(in alloc; "{number}")?;
-    report.extend_from_slice(number.as_bytes())
+    if number < 10 {
+        return push_digit(report, number as u8);
+    }
+    push_number(report, number / 10)?;
+    push_digit(report, (number % 10) as u8)
 }
 
 // Adds a number, with its sign where it is below 0.
-pub(crate) fn push_signed(alloc: Global, report: &mut Bytes, number: i64) -> Result<(), NoMemory>
+pub(crate) fn push_signed(report: &mut Bytes, number: i64) -> Result<(), NoMemory>
     ensures { OnOk result (report.new ≡ report.old ++ signed_decimal number) }
 {
-    let number = format!(in alloc; "{number}")?;
-    report.extend_from_slice(number.as_bytes())
+    if number < 0 {
+        report.push(b'-')?;
+        return push_number(report, number.unsigned_abs());
+    }
+    push_number(report, number as u64)
 }
 
 // Adds a number, with a blank before it.
-fn push_apart(alloc: Global, report: &mut Bytes, number: &u32) -> Result<(), NoMemory>
+fn push_apart(report: &mut Bytes, number: &u32) -> Result<(), NoMemory>
     ensures { OnOk result (report.new ≡ report.old ++ (codes " " ++ decimal number.now)) }
 {
     report.push(b' ')?;
-    push_number(alloc, report, u64::from(*number))
+    push_number(report, u64::from(*number))
 }
 
 // Adds numbers, with a blank before each.
-fn push_numbers(alloc: Global, report: &mut Bytes, numbers: &[u32]) -> Result<(), NoMemory>
+fn push_numbers(report: &mut Bytes, numbers: &[u32]) -> Result<(), NoMemory>
     ensures { OnOk result (report.new ≡ report.old ++ numbers_text numbers.now) }
 {
     for number in numbers {
-        push_apart(alloc, report, number)?;
+        push_apart(report, number)?;
     }
     Ok(())
 }
@@ -100,38 +115,34 @@ fn push_enclosed(report: &mut Bytes, first: u8, texts: &[Bytes], last: u8) -> Re
 }
 
 // Adds a part.
-fn push_part(alloc: Global, report: &mut Bytes, part: &Part<'_>) -> Result<(), NoMemory>
+fn push_part(report: &mut Bytes, part: &Part<'_>) -> Result<(), NoMemory>
     ensures { OnOk result (report.new ≡ report.old ++ part_text part.now) }
 {
     match part {
         Part::Text(text) => report.extend_from_slice(text),
-        Part::Number(number) => push_number(alloc, report, *number),
-        Part::Signed(number) => push_signed(alloc, report, *number),
-        Part::Numbers(numbers) => push_numbers(alloc, report, numbers),
+        Part::Number(number) => push_number(report, *number),
+        Part::Signed(number) => push_signed(report, *number),
+        Part::Numbers(numbers) => push_numbers(report, numbers),
         Part::Trace(events) => push_enclosed(report, b'<', events, b'>'),
         Part::Set(events) => push_enclosed(report, b'{', events, b'}'),
     }
 }
 
 // Adds parts, one after another.
-fn push_parts(alloc: Global, report: &mut Bytes, parts: &[Part<'_>]) -> Result<(), NoMemory>
+fn push_parts(report: &mut Bytes, parts: &[Part<'_>]) -> Result<(), NoMemory>
     ensures { OnOk result (report.new ≡ report.old ++ flat_map part_text parts.now) }
 {
     for part in parts {
-        push_part(alloc, report, part)?;
+        push_part(report, part)?;
     }
     Ok(())
 }
 
 // Adds a line of these parts.
-pub(crate) fn push_line(
-    alloc: Global,
-    report: &mut Bytes,
-    parts: &[Part<'_>],
-) -> Result<(), NoMemory>
+pub(crate) fn push_line(report: &mut Bytes, parts: &[Part<'_>]) -> Result<(), NoMemory>
     ensures { OnOk result (report.new ≡ report.old ++ line (parts_text parts.now)) }
 {
-    push_parts(alloc, report, parts)?;
+    push_parts(report, parts)?;
     report.push(b'\n')?;
     Ok(())
 }
@@ -142,7 +153,7 @@ pub(crate) fn written(alloc: Global, parts: &[Part<'_>]) -> Result<Bytes, NoMemo
     ensures { IfOk result (λ made. made ≡ parts_text parts.now) }
 {
     let mut made = Bytes::new(alloc);
-    push_parts(alloc, &mut made, parts)?;
+    push_parts(&mut made, parts)?;
     Ok(made)
 }
 
@@ -151,6 +162,6 @@ pub(crate) fn written_line(alloc: Global, parts: &[Part<'_>]) -> Result<Bytes, N
     ensures { IfOk result (λ made. made ≡ line (parts_text parts.now)) }
 {
     let mut made = Bytes::new(alloc);
-    push_line(alloc, &mut made, parts)?;
+    push_line(&mut made, parts)?;
     Ok(made)
 }

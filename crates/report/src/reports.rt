@@ -41,16 +41,10 @@ fn one_line(alloc: Global, text: &[u8]) -> Result<Bytes, NoMemory>
 }
 
 // Adds the line of an event of a node.
-fn push_step(
-    alloc: Global,
-    report: &mut Bytes,
-    node: u64,
-    step: &(Bytes, u32),
-) -> Result<(), NoMemory>
+fn push_step(report: &mut Bytes, node: u64, step: &(Bytes, u32)) -> Result<(), NoMemory>
     ensures { OnOk result (report.new ≡ report.old ++ next_text node step.now) }
 {
     push_line(
-        alloc,
         report,
         &[
             Part::Number(node),
@@ -63,16 +57,10 @@ fn push_step(
 }
 
 // Adds the line of an acceptance of a node.
-fn push_offer(
-    alloc: Global,
-    report: &mut Bytes,
-    node: u64,
-    events: &Items<Bytes>,
-) -> Result<(), NoMemory>
+fn push_offer(report: &mut Bytes, node: u64, events: &Items<Bytes>) -> Result<(), NoMemory>
     ensures { OnOk result (report.new ≡ report.old ++ accept_text node events.now) }
 {
     push_line(
-        alloc,
         report,
         &[
             Part::Number(node),
@@ -83,54 +71,39 @@ fn push_offer(
 }
 
 // Adds a line for each event of a node.
-fn push_next(
-    alloc: Global,
-    report: &mut Bytes,
-    node: u64,
-    steps: &[(Bytes, u32)],
-) -> Result<(), NoMemory>
+fn push_next(report: &mut Bytes, node: u64, steps: &[(Bytes, u32)]) -> Result<(), NoMemory>
     ensures { OnOk result (report.new ≡ report.old ++ flat_map (next_text node) steps.now) }
 {
     for step in steps {
-        push_step(alloc, report, node, step)?;
+        push_step(report, node, step)?;
     }
     Ok(())
 }
 
 // Adds a line for each acceptance of a node.
-fn push_accept(
-    alloc: Global,
-    report: &mut Bytes,
-    node: u64,
-    sets: &[Items<Bytes>],
-) -> Result<(), NoMemory>
+fn push_accept(report: &mut Bytes, node: u64, sets: &[Items<Bytes>]) -> Result<(), NoMemory>
     ensures { OnOk result (report.new ≡ report.old ++ flat_map (accept_text node) sets.now) }
 {
     for set in sets {
-        push_offer(alloc, report, node, set)?;
+        push_offer(report, node, set)?;
     }
     Ok(())
 }
 
 // Adds the lines of a node.
-fn push_node(
-    alloc: Global,
-    report: &mut Bytes,
-    number: u64,
-    node: &PrintedNode,
-) -> Result<(), NoMemory>
+fn push_node(report: &mut Bytes, number: u64, node: &PrintedNode) -> Result<(), NoMemory>
     ensures { OnOk result (report.new ≡ report.old ++ node_text number node.now) }
 {
-    push_next(alloc, report, number, node.next.as_slice())?;
-    push_accept(alloc, report, number, node.accept.as_slice())
+    push_next(report, number, node.next.as_slice())?;
+    push_accept(report, number, node.accept.as_slice())
 }
 
 // Adds the lines of nodes.
-fn push_nodes(alloc: Global, report: &mut Bytes, nodes: &[PrintedNode]) -> Result<(), NoMemory>
+fn push_nodes(report: &mut Bytes, nodes: &[PrintedNode]) -> Result<(), NoMemory>
     ensures { OnOk result (report.new ≡ report.old ++ nodes_text 0 nodes.now) }
 {
     for (number, node) in nodes.iter().enumerate() {
-        push_node(alloc, report, number as u64, node)?;
+        push_node(report, number as u64, node)?;
     }
     Ok(())
 }
@@ -163,7 +136,7 @@ fn table(
     ensures { IfOk result (λ made. made ≡ table_text component count nodes.now) }
 {
     let mut made = table_head(alloc, component, count, nodes.len())?;
-    push_nodes(alloc, &mut made, nodes)?;
+    push_nodes(&mut made, nodes)?;
     Ok(made)
 }
 

@@ -12,12 +12,11 @@ use csp_base::{Bytes, NoMemory};
 use std::alloc::Global;
 
 // Adds the line of a step.
-fn push_move(alloc: Global, report: &mut Bytes, step: &PrintedMove) -> Result<(), NoMemory>
+fn push_move(report: &mut Bytes, step: &PrintedMove) -> Result<(), NoMemory>
     ensures { OnOk result (report.new ≡ report.old ++ move_text step.now) }
 {
     match step {
         PrintedMove::Silent(component) => push_line(
-            alloc,
             report,
             &[
                 Part::Text(b"component "),
@@ -25,16 +24,16 @@ fn push_move(alloc: Global, report: &mut Bytes, step: &PrintedMove) -> Result<()
                 Part::Text(b" silent"),
             ],
         ),
-        PrintedMove::Event(event) => push_line(alloc, report, &[Part::Text(event.as_slice())]),
+        PrintedMove::Event(event) => push_line(report, &[Part::Text(event.as_slice())]),
     }
 }
 
 // Adds a line for each step.
-fn push_moves(alloc: Global, report: &mut Bytes, moves: &[PrintedMove]) -> Result<(), NoMemory>
+fn push_moves(report: &mut Bytes, moves: &[PrintedMove]) -> Result<(), NoMemory>
     ensures { OnOk result (report.new ≡ report.old ++ flat_map move_text moves.now) }
 {
     for step in moves {
-        push_move(alloc, report, step)?;
+        push_move(report, step)?;
     }
     Ok(())
 }
@@ -59,7 +58,7 @@ pub(crate) fn run(alloc: Global, moves: &[PrintedMove], last: &[u8]) -> Result<B
     ensures { IfOk result (λ made. made ≡ run_text moves.now last.now) }
 {
     let mut made = head(alloc, moves.len())?;
-    push_moves(alloc, &mut made, moves)?;
-    push_line(alloc, &mut made, &[Part::Text(last)])?;
+    push_moves(&mut made, moves)?;
+    push_line(&mut made, &[Part::Text(last)])?;
     Ok(made)
 }

@@ -98,11 +98,10 @@ fn outside<'a>(alloc: Global, component: u32, trace: &'a [Bytes]) -> Result<Byte
 }
 
 // Adds the line of a link.
-fn push_link(alloc: Global, report: &mut Bytes, link: &(u32, u32)) -> Result<(), NoMemory>
+fn push_link(report: &mut Bytes, link: &(u32, u32)) -> Result<(), NoMemory>
     ensures { OnOk result (report.new ≡ report.old ++ line (link_text link.now)) }
 {
     push_line(
-        alloc,
         report,
         &[
             Part::Text(b"link "),
@@ -114,11 +113,11 @@ fn push_link(alloc: Global, report: &mut Bytes, link: &(u32, u32)) -> Result<(),
 }
 
 // Adds a line for each link.
-fn push_links(alloc: Global, report: &mut Bytes, links: &[(u32, u32)]) -> Result<(), NoMemory>
+fn push_links(report: &mut Bytes, links: &[(u32, u32)]) -> Result<(), NoMemory>
     ensures { OnOk result (report.new ≡ report.old ++ flat_map (λ link. line (link_text link)) links.now) }
 {
     for link in links {
-        push_link(alloc, report, link)?;
+        push_link(report, link)?;
     }
     Ok(())
 }
@@ -128,7 +127,7 @@ fn links_circle(alloc: Global, links: &[(u32, u32)]) -> Result<Bytes, NoMemory>
     ensures { IfOk result (λ made. made ≡ line (codes "24 links in a circle") ++ flat_map (λ link. line (link_text link)) links.now) }
 {
     let mut made = Bytes::from_slice(alloc, b"24 links in a circle\n")?;
-    push_links(alloc, &mut made, links)?;
+    push_links(&mut made, links)?;
     Ok(made)
 }
 
@@ -150,16 +149,10 @@ fn no_full_end(alloc: Global, left: u32, right: u32) -> Result<Bytes, NoMemory>
 }
 
 // Adds the line of an end of the link.
-fn push_after(
-    alloc: Global,
-    report: &mut Bytes,
-    component: u32,
-    trace: &[Bytes],
-) -> Result<(), NoMemory>
+fn push_after(report: &mut Bytes, component: u32, trace: &[Bytes]) -> Result<(), NoMemory>
     ensures { OnOk result (report.new ≡ report.old ++ line (after_text component trace.now)) }
 {
     push_line(
-        alloc,
         report,
         &[
             Part::Text(b"component "),
@@ -183,8 +176,8 @@ fn both_ends(
         ++ line (after_text left left_trace.now) ++ line (after_text right right_trace.now)) }
 {
     let mut made = no_full_end(alloc, left, right)?;
-    push_after(alloc, &mut made, left, left_trace)?;
-    push_after(alloc, &mut made, right, right_trace)?;
+    push_after(&mut made, left, left_trace)?;
+    push_after(&mut made, right, right_trace)?;
     Ok(made)
 }
 

@@ -1,5 +1,5 @@
 use Rattle.std.proofs.Common.{◌≡◌, ℕ, List, Bool, Some, length, slice_get, ap, subst, ◌∙◌, arith}
-use Rattle.counted_marks.specs.Marks.{mark_count}
+use Rattle.numbered_walks.specs.Marks.{mark_count}
 use Rattle.numbered_walks.proofs.Optioning.{has_at, none_counted, option_count, options_are}
 use Rattle.numbered_walks.proofs.Stepping.{event_marks, silent_marks}
 use Rattle.numbered_walks.specs.Numbered.{Has}

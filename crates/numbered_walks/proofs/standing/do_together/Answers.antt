@@ -1,11 +1,14 @@
-use Rattle.std.proofs.Common.{◌≡◌, ◌<◌, ℕ, Bool, List, get_or, length, MatchBool, refl, sym, ap, subst, ◌∙◌}
-use Rattle.std.proofs.lemmas.List.{take_all}
+use Rattle.std.proofs.Common.{◌≡◌, ◌<◌, ℕ, Bool, List, get_or, length, take, MatchBool, refl, sym, ap, subst, ◌∙◌}
+use Rattle.std.proofs.lemmas.List.{get_or_default, take_all}
+use Rattle.csp_base.proofs.Lists.{take_read}
 use Rattle.csp_base.specs.Members.{has}
 use Rattle.csp_tables.specs.Label.Label.{visible}
 use Rattle.csp_tables.specs.RawTable.{RawStep}
+use Rattle.numbered_walks.proofs.Drawing.{one_more_goes}
 use Rattle.numbered_walks.proofs.Stepping.{all_done, one_done, owner_can, owner_has, owner_within, owners_have, owners_rise, still_there}
 use Rattle.numbered_walks.specs.Agreements.{component_at}
 use Rattle.numbered_walks.specs.Numbered.{Can}
+use Rattle.numbered_walks.specs.Steps.{AllGo}
 use Rattle.numbered_walks.proofs.standing.do_together.Goals as goal
 
 pub do_event-requires-clause-place : goal.do_event-requires-clause-place
@@ -20,14 +23,27 @@ do_event-requires-clause-can c =
 
 pub loop-place-preserved : goal.loop-place-preserved
 loop-place-preserved c =
+    let place = get_or c.args.owners.now c.loop-place.place-index 0 in
+    let does = c.in_ok-do_event.ensures.does in
     let within = owner_within c.args.movers.now c.args.event c.args.owners.now c.loop-place.place-index c.requires.owners c.loop-place-test.true in
-    let stands : (get_or c.args.owners.now c.loop-place.place-index 0) < length c.loop-place.standing.terms.items = subst (λ n. (get_or c.args.owners.now c.loop-place.place-index 0) < n) (sym c.loop-place.invariant.form.one_each) within in
+    let stands : place < length c.loop-place.standing.terms.items = subst (λ n. place < n) (sym c.loop-place.invariant.form.one_each) within in
     record {
-      form = c.do_event.ensures.form;
+      form = c.in_ok-do_event.ensures.form;
       done =
-          one_done c.args.movers.now c.args.event c.args.owners.now c.args.standing.now.terms.items c.loop-place.standing.terms.items c.do_event.new.standing.terms.items c.loop-place.place-index (get_or c.args.owners.now c.loop-place.place-index 0) c.loop-place-test.true refl (owners_rise c.args.movers.now c.args.event c.args.owners.now c.loop-place.place-index c.requires.owners c.loop-place-test.true) c.loop-place.invariant.done within stands c.do_event.ensures.does.0
-          c.do_event.ensures.does.1 c.do_event.ensures.does.2;
+          one_done c.args.movers.now c.args.event c.args.owners.now c.args.standing.now.terms.items c.loop-place.standing.terms.items c.do_event.new.standing.terms.items c.loop-place.place-index place
+          c.loop-place-test.true refl (owners_rise c.args.movers.now c.args.event c.args.owners.now c.loop-place.place-index c.requires.owners c.loop-place-test.true) c.loop-place.invariant.done within stands
+          does.next does.step does.others;
+      gone =
+          subst (λ (ps : List ℕ). AllGo c.args.movers.now (visible c.args.event) ps c.args.standing.now.terms.items c.args.standing.now.drawn c.do_event.new.standing.terms.items c.do_event.new.standing.drawn)
+          (sym (take_read c.args.owners.now c.loop-place.place-index place c.loop-place-test.true (sym (get_or_default c.args.owners.now c.loop-place.place-index place 0 c.loop-place-test.true))))
+          (one_more_goes c.args.movers.now (visible c.args.event) (take c.loop-place.place-index c.args.owners.now) place does.next c.args.standing.now.terms.items c.loop-place.standing.terms.items
+          c.do_event.new.standing.terms.items c.args.standing.now.drawn c.loop-place.standing.drawn c.do_event.new.standing.drawn c.loop-place.invariant.gone does.drawn does.others);
     }
+
+pub returns-clause-gone : goal.returns-clause-gone
+returns-clause-gone c =
+    subst (λ (ps : List ℕ). AllGo c.args.movers.now (visible c.args.event) ps c.args.standing.now.terms.items c.args.standing.now.drawn c.loop-place.standing.terms.items c.loop-place.standing.drawn)
+    (take_all c.loop-place.place-index c.args.owners.now c.loop-place-test.false) c.loop-place.invariant.gone
 
 pub returns-clause-done : goal.returns-clause-done
 returns-clause-done c =

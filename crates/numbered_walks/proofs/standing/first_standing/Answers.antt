@@ -11,7 +11,7 @@ enter_all-requires-clause-owners c = owner_counts_are c.args.movers.now c.args.o
 
 pub returns-clause-form : goal.returns-clause-form
 returns-clause-form c =
-    let made : Standing = record { terms = c.in_ok-terms.terms; restless = c.enter_all.new.restless; agreement = c.enter_all.new.agreement } in
+    let made : Standing = record { terms = c.in_ok-terms.terms; drawn = c.args.drawn; restless = c.enter_all.new.restless; agreement = c.enter_all.new.agreement } in
     let counts : (e : ℕ) → get_or c.enter_all.new.agreement.owners.items e 0 ≡ owner_count e c.args.movers.now =
     λ e.
     ap (λ (ns : List ℕ). get_or ns e 0) c.enter_all.ensures.owners

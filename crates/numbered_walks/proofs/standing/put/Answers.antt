@@ -1,41 +1,53 @@
-use Rattle.std.proofs.Common.{◌≡◌, ◌<◌, ◌+◌, ◌≤◌, ℕ, List, IsTrue, get_or, set, length, sym, ap, subst, refl, ◌∙◌}
+use Rattle.std.proofs.Common.{◌≡◌, ◌≤◌, Bool, get_or, set, refl, sym, ap, subst, ◌∙◌, arith}
 use Rattle.std.proofs.lemmas.List.{get_or_default}
-use Rattle.acceptances.specs.OfferTests.{can_do, is_unstable}
-use Rattle.numbered_walks.proofs.Stepping.{component_read, offered, offers_within, place_stands, put_there, room_there, without}
-use Rattle.numbered_walks.specs.Choices.{AreChoicesOf, bit}
+use Rattle.acceptances.specs.OfferTests.{is_unstable}
+use Rattle.numbered_walks.proofs.Stepping.{component_read, offered, offers_there, offers_within, place_stands, put_there, room_there}
+use Rattle.numbered_walks.specs.Agreements.{bit}
 use Rattle.numbered_walks.specs.Numbered.{Numbered}
 use Rattle.numbered_walks.proofs.standing.put.Goals as goal
 
-pub withdraw_all-requires-clause-some : goal.withdraw_all-requires-clause-some
-withdraw_all-requires-clause-some c =
-    let same = component_read c.args.movers.now c.args.place c.index-movers-place.result c.requires.place c.index-movers-place.is in
-    let term : c.index.result.now ≡ get_or c.args.standing.now.terms.items c.args.place 0 = c.index.ensures ∙ get_or_default c.args.standing.now.terms.items c.args.place c.index.result.now 0 (place_stands c.args.movers.now c.args.standing.now c.requires.form c.args.place c.requires.place) in
-    offered c.args.movers.now c.args.standing.now c.requires.form c.args.place c.requires.place c.choices.result.now
-    (subst (λ (d : Numbered). AreChoicesOf d.table (get_or c.args.standing.now.terms.items c.args.place 0) c.choices.result.now) (sym same)
-    (subst (λ (n : ℕ). AreChoicesOf c.index-movers-place.result.table n c.choices.result.now) term c.choices.ensures.choices))
+pub exchange-requires-clause-within : goal.exchange-requires-clause-within
+exchange-requires-clause-within c e h =
+    let cs = c.args.movers.now in
+    let s = c.args.standing.now in
+    let form = c.requires.form in
+    let same = component_read cs c.args.place c.index-movers-place.result c.requires.place c.index-movers-place.is in
+    let new = offers_there cs c.args.place c.index-movers-place.result c.args.to c.args.to c.offers-2.result.now same refl c.offers-2.ensures.offers in
+    offers_within cs s form c.args.place c.requires.place c.args.to e (sym (new e) ∙ h)
 
-pub enter-requires-clause-within : goal.enter-requires-clause-within
-enter-requires-clause-within c e does =
-    let same = component_read c.args.movers.now c.args.place c.index-movers-place.result c.requires.place c.index-movers-place.is in
-    subst (λ (ns : List ℕ). e < length ns) (sym c.withdraw_all.ensures.owners)
-    (offers_within c.args.movers.now c.args.standing.now c.requires.form c.args.place c.requires.place c.args.to e (subst (λ (d : Numbered). IsTrue (can_do d.table c.args.to e)) (sym same) does))
+pub exchange-requires-clause-some : goal.exchange-requires-clause-some
+exchange-requires-clause-some c e =
+    let cs = c.args.movers.now in
+    let s = c.args.standing.now in
+    let form = c.requires.form in
+    let same = component_read cs c.args.place c.index-movers-place.result c.requires.place c.index-movers-place.is in
+    let term : c.index-from.result.now ≡ get_or s.terms.items c.args.place 0 = c.index-from.ensures ∙ get_or_default s.terms.items c.args.place c.index-from.result.now 0 (place_stands cs s form c.args.place c.requires.place) in
+    let old = offers_there cs c.args.place c.index-movers-place.result c.index-from.result.now (get_or s.terms.items c.args.place 0) c.offers.result.now same term c.offers.ensures.offers in
+    subst (λ (b : Bool). bit b ≤ get_or s.agreement.offering.items e 0) (sym (old e)) (offered cs s form c.args.place c.requires.place e)
 
-pub enter-requires-clause-room : goal.enter-requires-clause-room
-enter-requires-clause-room c e =
-    let same = component_read c.args.movers.now c.args.place c.index-movers-place.result c.requires.place c.index-movers-place.is in
-    let term : c.index.result.now ≡ get_or c.args.standing.now.terms.items c.args.place 0 = c.index.ensures ∙ get_or_default c.args.standing.now.terms.items c.args.place c.index.result.now 0 (place_stands c.args.movers.now c.args.standing.now c.requires.form c.args.place c.requires.place) in
-    let row = subst (λ (d : Numbered). AreChoicesOf d.table (get_or c.args.standing.now.terms.items c.args.place 0) c.choices.result.now) (sym same)
-    (subst (λ (n : ℕ). AreChoicesOf c.index-movers-place.result.table n c.choices.result.now) term c.choices.ensures.choices) in
-    subst (λ (d : Numbered). get_or c.withdraw_all.new.agreement.offering.items e 0 + bit (can_do d.table c.args.to e) ≤ 512) same
-    (room_there c.args.movers.now c.args.standing.now c.requires.form c.args.place c.requires.place c.withdraw_all.new.agreement c.args.to e 512 (without c.args.movers.now c.args.standing.now c.requires.form c.args.place c.requires.place c.choices.result.now c.withdraw_all.new.agreement row c.withdraw_all.ensures.offering) c.requires.few)
+pub exchange-requires-clause-room : goal.exchange-requires-clause-room
+exchange-requires-clause-room c e =
+    let cs = c.args.movers.now in
+    let s = c.args.standing.now in
+    let form = c.requires.form in
+    let same = component_read cs c.args.place c.index-movers-place.result c.requires.place c.index-movers-place.is in
+    let term : c.index-from.result.now ≡ get_or s.terms.items c.args.place 0 = c.index-from.ensures ∙ get_or_default s.terms.items c.args.place c.index-from.result.now 0 (place_stands cs s form c.args.place c.requires.place) in
+    let old = offers_there cs c.args.place c.index-movers-place.result c.index-from.result.now (get_or s.terms.items c.args.place 0) c.offers.result.now same term c.offers.ensures.offers in
+    let new = offers_there cs c.args.place c.index-movers-place.result c.args.to c.args.to c.offers-2.result.now same refl c.offers-2.ensures.offers in
+    let room = room_there cs s form c.args.place c.requires.place c.args.to e 512 c.requires.few in
+    let old_bit = ap bit (old e) in
+    let new_bit = ap bit (new e) in
+    omega (arith, room, old_bit, new_bit)
 
 pub returns-clause-form : goal.returns-clause-form
 returns-clause-form c =
-    let same = component_read c.args.movers.now c.args.place c.index-movers-place.result c.requires.place c.index-movers-place.is in
-    let term : c.index.result.now ≡ get_or c.args.standing.now.terms.items c.args.place 0 = c.index.ensures ∙ get_or_default c.args.standing.now.terms.items c.args.place c.index.result.now 0 (place_stands c.args.movers.now c.args.standing.now c.requires.form c.args.place c.requires.place) in
-    let row = subst (λ (d : Numbered). AreChoicesOf d.table (get_or c.args.standing.now.terms.items c.args.place 0) c.choices.result.now) (sym same)
-    (subst (λ (n : ℕ). AreChoicesOf c.index-movers-place.result.table n c.choices.result.now) term c.choices.ensures.choices) in
-    put_there c.args.movers.now c.args.standing.now c.requires.form c.args.place c.requires.place _ c.withdraw_all.new.agreement c.args.to (without c.args.movers.now c.args.standing.now c.requires.form c.args.place c.requires.place c.choices.result.now c.withdraw_all.new.agreement row c.withdraw_all.ensures.offering) c.requires.to refl
-    (c.enter.ensures.restless ∙ ap (λ (d : Numbered). set c.args.standing.now.restless c.args.place (is_unstable d.table c.args.to)) (sym same)) c.enter.ensures.form
-    (c.enter.ensures.owners ∙ c.withdraw_all.ensures.owners)
-    (λ e. c.enter.ensures.offering e ∙ ap (λ (d : Numbered). get_or c.withdraw_all.new.agreement.offering.items e 0 + bit (can_do d.table c.args.to e)) (sym same))
+    let cs = c.args.movers.now in
+    let s = c.args.standing.now in
+    let form = c.requires.form in
+    let same = component_read cs c.args.place c.index-movers-place.result c.requires.place c.index-movers-place.is in
+    let term : c.index-from.result.now ≡ get_or s.terms.items c.args.place 0 = c.index-from.ensures ∙ get_or_default s.terms.items c.args.place c.index-from.result.now 0 (place_stands cs s form c.args.place c.requires.place) in
+    let old = offers_there cs c.args.place c.index-movers-place.result c.index-from.result.now (get_or s.terms.items c.args.place 0) c.offers.result.now same term c.offers.ensures.offers in
+    let new = offers_there cs c.args.place c.index-movers-place.result c.args.to c.args.to c.offers-2.result.now same refl c.offers-2.ensures.offers in
+    put_there cs s form c.args.place c.requires.place _ c.args.to c.requires.to refl
+    (c.set.ensures ∙ ap (set s.restless c.args.place) (c.is_restless.ensures ∙ ap (λ (d : Numbered). is_unstable d.table c.args.to) (sym same))) c.in_ok-exchange.ensures.form c.in_ok-exchange.ensures.owners
+    (λ e. let all = c.in_ok-exchange.ensures.offering e in let old_bit = ap bit (old e) in let new_bit = ap bit (new e) in omega (arith, all, old_bit, new_bit))

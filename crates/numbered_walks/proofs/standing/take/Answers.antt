@@ -1,8 +1,10 @@
-use Rattle.std.proofs.Common.{◌<◌, ℕ, [], length, sym, subst, ◌∙◌}
+use Rattle.std.proofs.Common.{◌<◌, ℕ, [], IsTrue, length, sym, subst, ◌∙◌}
 use Rattle.std.proofs.lemmas.List.{get_or_default}
-use Rattle.numbered_walks.proofs.Stepping.{one_does, one_within, row_there}
-use Rattle.numbered_walks.specs.Numbered.{Has, Takes}
+use Rattle.std.proofs.lemmas.Result.{on_ok_weaker}
+use Rattle.numbered_walks.proofs.Stepping.{all_go, both_ok, one_does, one_within, row_there}
+use Rattle.numbered_walks.specs.Numbered.{Goes, Has, has_owner}
 use Rattle.numbered_walks.specs.declared.moves.Move.{Move}
+use Rattle.numbered_walks.specs.declared.moves.Move.TheVariants as move
 use Rattle.numbered_walks.proofs.standing.take.Goals as goal
 
 pub bounds-owners-event-inside : goal.bounds-owners-event-inside
@@ -16,9 +18,26 @@ do_together-requires-clause-owners c =
     let below = subst (λ (n : ℕ). n < length c.args.owners.now) (sym c.event.view_is) (row_there c.args.movers.now c.args.owners.now c.in-Event.event c.requires.owners has_it.0) in
     c.as_slice.ensures ∙ c.index-owners-event.is ∙ get_or_default c.args.owners.now c.event.inside.0 c.index-owners-event.result [] below ∙ c.requires.owners c.event.inside.0
 
-pub returns-in-Silent-clause-takes : goal.returns-in-Silent-clause-takes
-returns-in-Silent-clause-takes c =
+pub returns-in-Silent-clause-goes : goal.returns-in-Silent-clause-goes
+returns-in-Silent-clause-goes c =
     let has_it = subst (λ (m : Move). Has c.args.movers.now c.args.standing.now.terms.items m) c.in-Silent.is c.requires.has in
-    subst (λ (m : Move). Takes c.args.movers.now c.args.standing.now.terms.items m c.move_silently.new.standing.terms.items) (sym c.in-Silent.is)
-    (one_does c.args.movers.now c.args.standing.now.terms.items c.move_silently.new.standing.terms.items c.in-Silent.place (one_within c.args.movers.now c.args.standing.now.terms.items c.in-Silent.place has_it)
-    c.requires.form.one_each c.move_silently.ensures.does)
+    let new = c.move_silently.new.standing in
+    on_ok_weaker c.move_silently.result
+    (λ does. subst (λ (m : Move). Goes c.args.movers.now c.args.standing.now.terms.items c.args.standing.now.drawn m new.terms.items new.drawn) (sym c.in-Silent.is)
+    (one_does c.args.movers.now c.args.standing.now.terms.items new.terms.items c.in-Silent.place c.args.standing.now.drawn new.drawn
+    (one_within c.args.movers.now c.args.standing.now.terms.items c.in-Silent.place has_it) c.requires.form.one_each does)) c.move_silently.ensures.does
+
+pub returns-in-Event-clause-goes : goal.returns-in-Event-clause-goes
+returns-in-Event-clause-goes c =
+    let cs = c.args.movers.now in
+    let old = c.args.standing.now in
+    let new = c.do_together.new.standing in
+    let e = c.event.inside.0 in
+    let owned : IsTrue (has_owner cs e) = subst (λ n. IsTrue (has_owner cs n)) (sym c.event.view_is) (subst (λ (m : Move). Has cs old.terms.items m) c.in-Event.is c.requires.has).0 in
+    let below = row_there cs c.args.owners.now e c.requires.owners owned in
+    let places = c.as_slice.ensures ∙ c.index-owners-event.is ∙ get_or_default c.args.owners.now e c.index-owners-event.result [] below ∙ c.requires.owners e in
+    on_ok_weaker c.do_together.result
+    (λ both. subst (λ (m : Move). Goes cs old.terms.items old.drawn m new.terms.items new.drawn) (sym c.in-Event.is)
+    (subst (λ n. Goes cs old.terms.items old.drawn (move.Event n) new.terms.items new.drawn) c.event.view_is
+    (all_go e cs old.terms.items new.terms.items c.as_slice.result.now old.drawn new.drawn owned c.requires.form.one_each places both.0 both.1)))
+    (both_ok _ _ c.do_together.result c.do_together.ensures.done c.do_together.ensures.gone)

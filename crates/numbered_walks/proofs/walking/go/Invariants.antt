@@ -1,6 +1,6 @@
 use Rattle.std.proofs.Common.{◌≡◌, length}
 use Rattle.numbered_walks.specs.Agreements.{IsStanding}
-use Rattle.numbered_walks.specs.Numbered.{Has, Takes}
+use Rattle.numbered_walks.specs.Numbered.{Goes, Has}
 use Rattle.numbered_walks.specs.Steps.{number_after}
 use Rattle.numbered_walks.specs.Walks.{IsWalk}
 use Rattle.numbered_walks.proofs.walking.go.Given as goal
@@ -8,7 +8,7 @@ use Rattle.numbered_walks.proofs.walking.go.Given as goal
 abbrev pub invariant-loop : goal.invariant-loop
 invariant-loop l = record {
   form : IsStanding l.movers l.standing;
-  walk : IsWalk (Has l.movers) (Takes l.movers) l.seed l.initial.standing.terms.items l.moves.items l.standing.terms.items;
+  walk : IsWalk (Has l.movers) (Goes l.movers) l.seed l.initial.standing.drawn l.initial.standing.terms.items l.moves.items l.standing.terms.items l.standing.drawn;
   count : length l.moves.items ≡ l.counter;
   number : l.number ≡ number_after l.seed l.moves.items;
 }

@@ -1,6 +1,0 @@
-use Rattle.std.proofs.Common.{◌≡◌, ◌+◌, take}
-use Rattle.counted_marks.specs.Marks.{mark_count}
-use Rattle.counted_marks.proofs.marks.nth_from.Given as goal
-
-abbrev pub invariant-loop-number : goal.invariant-loop-number
-invariant-loop-number l = mark_count (take l.number l.marks) + l.left ≡ mark_count (take l.from l.marks) + l.initial.left
