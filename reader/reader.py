@@ -6,20 +6,23 @@ It proves nothing. It asks the program, and passes its report and its status on 
   --explain SCRIPT                              all components with their events, and all links
   --draw SCRIPT INDEX                           a component's table, for Graphviz
   --draw SCRIPT                                 the components and links, for Graphviz
-  --annotate roles SCRIPT, or resource SCRIPT   the script with annotations and the sets that they need, as the components' tables suggest them"""
+  --annotate roles SCRIPT, or resource SCRIPT   the script with annotations and the sets that they need, as the components' tables suggest them
+  --page RULE SCRIPT FILE.html                  the same in one file for a browser, with pictures, the script and steps"""
 import pathlib, sys
 
 sys.dont_write_bytecode = True
 sys.path.insert(0, str(pathlib.Path(__file__).resolve().parent))
-import annotate, draw, explain
+import annotate, draw, explain, page
 
 # A word, and what it does: a function of the program and of the words behind it. It gives the status, or nothing where the words are none of its own.
 COMMANDS = {
     "--explain": explain.command,
     "--draw": draw.command,
     "--annotate": annotate.command,
+    "--page": page.command,
 }
-USAGE = """usage: --explain RULE SCRIPT | --explain SCRIPT | --draw SCRIPT INDEX | --draw SCRIPT | --annotate roles|resource SCRIPT
+USAGE = """usage: --explain RULE SCRIPT | --explain SCRIPT | --draw SCRIPT INDEX | --draw SCRIPT | --page RULE SCRIPT FILE.html
+       --annotate roles SCRIPT | --annotate resource SCRIPT
        --explain check RULE SCRIPT | run SCRIPT SEED STEPS | livelock SCRIPT SET | conform SCRIPT SPEC | trial FAMILY N | table SCRIPT INDEX | show SCRIPT"""
 
 
