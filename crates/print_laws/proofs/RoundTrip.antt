@@ -1,5 +1,5 @@
 -- The printed text of a script that a text spells spells it too.
-use Rattle.std.proofs.Common.{◌≡◌, ℕ, zero, suc, Bool, false, List, ◌∷◌, length, refl, sym, subst, arith}
+use Rattle.std.proofs.Common.{◌≡◌, ℕ, zero, suc, false, List, ◌∷◌, length, refl, sym, subst, arith}
 use Rattle.std.specs.Prelude.{Ok, Result, if◌then◌else◌}
 use Rattle.csp_base.specs.declared.place.Place.{Place}
 use Rattle.csp_text.specs.declared.token.Token.{Token}
