@@ -1,4 +1,3 @@
-pub mod AnnotationsLemmas
 pub mod CommentsLemmas
 pub mod CutSoFar
 pub mod FormsLemmas

@@ -4,9 +4,10 @@ use Rattle.std.proofs.lemmas.Bool.{and_parts, eqb-true, false≢true}
 use Rattle.std.proofs.lemmas.List.{length-append}
 use Rattle.std.proofs.lemmas.Bool.Decides.{nat_tests}
 use Rattle.std.specs.Prelude.{Option, Some, None, IfSome, find, nat_eq, nat_le, nat_lt}
-use Rattle.std.specs.List.{slice_get, starts_with}
+use Rattle.std.specs.List.{position_or_len, slice_get, starts_with}
+use Rattle.std.specs.Str.{bytes_eq}
 use Rattle.csp_text.specs.declared.token.Symbol.{Symbol}
-use Rattle.csp_text.specs.declared.token.Symbol.TheVariants.{Arrow, ExternalChoice, InternalChoice, Parallel, OpenRename, CloseRename, OpenProduct, CloseProduct, LeftArrow, DotDot, Dot, Bang, Question, Colon, At, Defines, Equal, NotEqual, Less, LessEqual, Greater, GreaterEqual, Plus, Minus, Star, Slash, Percent, OpenParen, CloseParen, OpenBrace, CloseBrace, OpenBracket, CloseBracket, Comma, Ampersand, Bar, Backslash, Semicolon}
+use Rattle.csp_text.specs.declared.token.Symbol.TheVariants.{Arrow}
 use Rattle.csp_text.specs.Written.{symbol_text}
 use Rattle.csp_lexer.specs.Symbols.{IsFront, IsLongest, longest_symbol, symbols}
 
@@ -20,45 +21,15 @@ unfolding falls
 all_fall = refl
 
 -- each symbol has its place in the list
+abbrev place_of : Symbol → ℕ
+place_of s = position_or_len (λ other. bytes_eq (symbol_text other) (symbol_text s)) symbols
+
+stands : (s : Symbol) → slice_get symbols (place_of s) ≡ Some s
+stands Arrow = refl
+stands _ = refl
+
 place : (s : Symbol) → (i : ℕ) × (slice_get symbols i ≡ Some s)
-place Arrow = (1, refl)
-place ExternalChoice = (3, refl)
-place InternalChoice = (0, refl)
-place Parallel = (4, refl)
-place OpenRename = (5, refl)
-place CloseRename = (6, refl)
-place OpenProduct = (7, refl)
-place CloseProduct = (8, refl)
-place LeftArrow = (9, refl)
-place DotDot = (2, refl)
-place Dot = (15, refl)
-place Bang = (20, refl)
-place Question = (24, refl)
-place Colon = (25, refl)
-place At = (26, refl)
-place Defines = (14, refl)
-place Equal = (10, refl)
-place NotEqual = (11, refl)
-place Less = (21, refl)
-place LessEqual = (12, refl)
-place Greater = (22, refl)
-place GreaterEqual = (13, refl)
-place Plus = (27, refl)
-place Minus = (23, refl)
-place Star = (28, refl)
-place Slash = (29, refl)
-place Percent = (30, refl)
-place OpenParen = (31, refl)
-place CloseParen = (32, refl)
-place OpenBrace = (16, refl)
-place CloseBrace = (33, refl)
-place OpenBracket = (18, refl)
-place CloseBracket = (19, refl)
-place Comma = (34, refl)
-place Ampersand = (35, refl)
-place Bar = (17, refl)
-place Backslash = (36, refl)
-place Semicolon = (37, refl)
+place s = (place_of s, stands s)
 
 first_falls : (n : ℕ) (s : Symbol) (rest : List Symbol) → falls n (s ∷ rest) ≡ true
     → (0 < length (symbol_text s)) × (length (symbol_text s) ≤ n) × (falls (length (symbol_text s)) rest ≡ true)
@@ -161,3 +132,9 @@ found_longest text None is = λ s front. let there = place s in none_found (λ s
 found_longest text (Some symbol) is =
     let found = longest_found (λ s. starts_with nat_eq text (symbol_text s)) 3 symbols symbol all_fall (sym is) in
     (passed_front text (symbol_text symbol) found.0, λ s front. let there = place s in found.1 there.0 s there.1 (front_tested text (symbol_text s) front))
+
+-- the first of the symbols that begin with the first byte
+pub in_front : (text : List ℕ) (first : ℕ) (rest : List ℕ) (few : List Symbol) → text ≡ first ∷ rest
+    → ((rest : List ℕ) → longest_symbol (first ∷ rest) ≡ find (λ symbol. starts_with nat_eq (first ∷ rest) (symbol_text symbol)) few)
+    → find (λ symbol. starts_with nat_eq text (symbol_text symbol)) few ≡ longest_symbol text
+in_front text first rest few is same = subst (λ t. find (λ symbol. starts_with nat_eq t (symbol_text symbol)) few ≡ longest_symbol t) (sym is) (sym (same rest))

@@ -5,12 +5,10 @@ use Rattle.std.specs.List.{starts_with}
 use Rattle.std.specs.Option.{option_map_or}
 use Rattle.std.specs.Str.{bytes_eq}
 use Rattle.csp_base.specs.declared.place.Place.{Place}
-use Rattle.csp_text.specs.declared.token.Symbol.{Symbol}
 use Rattle.csp_text.specs.declared.token.Symbol.TheVariants.{Colon, OpenParen, CloseParen, OpenBracket, CloseBracket}
 use Rattle.csp_text.specs.declared.token.Word.TheVariants.{Assert}
 use Rattle.csp_text.specs.declared.token.Token.{Token}
-use Rattle.csp_text.specs.declared.token.Token.TheVariants as token
-use Rattle.csp_text.specs.Written.{symbol_text}
+use Rattle.csp_text.specs.declared.token.Token.TheVariants.{Name, Symbol, Word}
 use Rattle.csp_lexer.specs.Annotations.{is_space}
 use Rattle.csp_lexer.specs.Cutting.{cut}
 use Rattle.csp_lexer.specs.Pieces.{Piece, nothing, one_at}
@@ -32,59 +30,34 @@ unfoldable pub line_front : Place → List ℕ → Option Piece
 line_front at [] = None
 line_front at (b ∷ text) = if is_space b then Some (nothing text) else one_at at (b ∷ text) (token_at true (b ∷ text))
 
--- tests of one token
-abbrev pub is_symbol : Symbol → Token → Bool
-is_symbol symbol (token.Symbol other) = bytes_eq (symbol_text other) (symbol_text symbol)
-is_symbol _ _ = false
+-- what closes `[ deadlock free`: `]`, or `[ F ] ]` with the model F or FD
+unfoldable pub is_closed : List Token → Bool
+is_closed (Symbol CloseBracket ∷ []) = true
+is_closed (Symbol OpenBracket ∷ Name model ∷ Symbol CloseBracket ∷ Symbol CloseBracket ∷ []) = bytes_eq model (codes "F") || bytes_eq model (codes "FD")
+is_closed _ = false
 
-abbrev pub is_the_name : List ℕ → Token → Bool
-is_the_name bytes (token.Name name) = bytes_eq name bytes
-is_the_name _ _ = false
-
-abbrev pub is_some_name : Token → Bool
-is_some_name (token.Name name) = true
-is_some_name _ = false
-
--- there are as many tokens as tests, and each passes its own
-unfoldable pub fit : List (Token → Bool) → List Token → Bool
-fit [] [] = true
-fit (test ∷ tests) (t ∷ tokens) = test t && fit tests tokens
-fit _ _ = false
-
--- `: [ deadlock free ]`, or `: [ deadlock free [ F ] ]` with the model F or FD
-abbrev pub deadlock_free : List (Token → Bool) → List (Token → Bool)
-deadlock_free more =
-    is_symbol Colon ∷ is_symbol OpenBracket ∷ is_the_name (codes "deadlock") ∷ is_the_name (codes "free") ∷ more
-
-abbrev pub closed : List (Token → Bool)
-closed = is_symbol CloseBracket ∷ []
-
-abbrev pub in_model : List ℕ → List (Token → Bool)
-in_model model = is_symbol OpenBracket ∷ is_the_name model ∷ is_symbol CloseBracket ∷ closed
-
-abbrev pub is_deadlock_free : List Token → Bool
-is_deadlock_free tokens =
-    fit (deadlock_free closed) tokens
-    || fit (deadlock_free (in_model (codes "F"))) tokens
-    || fit (deadlock_free (in_model (codes "FD"))) tokens
+-- `: [ deadlock free ]`, with a model or without
+unfoldable pub is_deadlock_free : List Token → Bool
+is_deadlock_free (Symbol Colon ∷ Symbol OpenBracket ∷ Name deadlock ∷ Name free ∷ tokens) =
+    bytes_eq deadlock (codes "deadlock") && bytes_eq free (codes "free") && is_closed tokens
+is_deadlock_free _ = false
 
 -- what follows once so many open parentheses are closed
 unfoldable pub after_closing : ℕ → List Token → Option (List Token)
 after_closing zero tokens = Some tokens
 after_closing (suc n) [] = None
-after_closing (suc n) (t ∷ tokens) =
-    if is_symbol OpenParen t then after_closing (suc (suc n)) tokens
-    else if is_symbol CloseParen t then after_closing n tokens
-    else after_closing (suc n) tokens
+after_closing (suc n) (Symbol OpenParen ∷ tokens) = after_closing (suc (suc n)) tokens
+after_closing (suc n) (Symbol CloseParen ∷ tokens) = after_closing n tokens
+after_closing (suc n) (_ ∷ tokens) = after_closing (suc n) tokens
 
 -- what follows a name, and its arguments where it has some
 unfoldable pub after_arguments : List Token → Option (List Token)
-after_arguments [] = Some []
-after_arguments (t ∷ tokens) = if is_symbol OpenParen t then after_closing 1 tokens else Some (t ∷ tokens)
+after_arguments (Symbol OpenParen ∷ tokens) = after_closing 1 tokens
+after_arguments tokens = Some tokens
 
 unfoldable pub after_call : List Token → Option (List Token)
-after_call [] = None
-after_call (t ∷ tokens) = if is_some_name t then after_arguments tokens else None
+after_call (Name name ∷ tokens) = after_arguments tokens
+after_call _ = None
 
 -- a name, which may have arguments, is asserted to be free of deadlock
 unfoldable pub is_deadlock_assertion : List Token → Bool
@@ -94,7 +67,7 @@ is_deadlock_assertion tokens = option_map_or is_deadlock_free (after_call tokens
 abbrev pub asserted : Place → List ℕ → Result PlacedTokens Place → Piece
 asserted at rest (Ok line) =
     if is_deadlock_assertion (tokens_of line.placed)
-    then record { placed = (token.Word Assert, at) ∷ line.placed; rest = rest }
+    then record { placed = (Word Assert, at) ∷ line.placed; rest = rest }
     else nothing rest
 asserted at rest (Err fault) = nothing rest
 

@@ -1,6 +1,5 @@
 -- Classes of bytes, for private contracts.
 use Rattle.std.specs.Prelude.{ℕ, Bool, not, nat_eq}
-use Rattle.csp_lexer.specs.Annotations.{is_space}
 use Rattle.csp_lexer.specs.Tokens.{is_digit}
 use Rattle.csp_lexer.specs.Words.{is_name_byte, is_prime}
 use Rattle.csp_lexer.specs.declared.classes.Class.{Class}
@@ -8,8 +7,6 @@ use Rattle.csp_lexer.specs.declared.classes.Class.TheVariants as class
 
 -- the test of a byte of the class
 abbrev pub is_of : Class → ℕ → Bool
-is_of class.Space b = is_space b
-is_of class.WordOfLine b = not (is_space b)
 is_of class.Name b = is_name_byte b
 is_of class.Prime b = is_prime b
 is_of class.Digit b = is_digit b

@@ -9,10 +9,6 @@ ghost use Rattle.csp_lexer.specs.Words.{is_letter, is_name_byte};
 /// A class of bytes.
 #[derive(Clone, Copy)]
 pub enum Class {
-    /// What divides the words of a line.
-    Space,
-    /// What the words of a line are made of.
-    WordOfLine,
     /// Letters, digits and underscores.
     Name,
     /// The prime.
@@ -49,8 +45,6 @@ fn is_of(class: Class, b: u8) -> bool
     ensures { result ≡ is_of class b }
 {
     match class {
-        Class::Space => is_space(b),
-        Class::WordOfLine => !is_space(b),
         Class::Name => is_name_byte(b),
         Class::Prime => b == b'\'',
         Class::Digit => matches!(b, b'0'..=b'9'),

@@ -10,7 +10,7 @@ use Rattle.std.specs.Str.{bytes_eq}
 use Rattle.csp_base.specs.declared.place.Place.{Place}
 use Rattle.csp_text.specs.declared.token.Symbol.{Symbol}
 use Rattle.csp_text.specs.declared.token.Token.{Token}
-use Rattle.csp_lexer.specs.Annotations.{after_word, first_word, is_space, line_piece, marked_piece, resource, roles}
+use Rattle.csp_lexer.specs.Annotations.{is_space, line_piece, marked_piece, resource, roles, words_of}
 use Rattle.csp_lexer.specs.Assertions.{assertion, asserted, cut_line, is_deadlock_assertion, line_front, rest_len}
 use Rattle.csp_lexer.specs.Comments.{after_comments, line_len}
 use Rattle.csp_lexer.specs.Cutting.{added, before, cut, then_cut}
@@ -132,11 +132,12 @@ before_fits : (at : Place) (rest : List ℕ) (t : Option Token) (n : ℕ) → 1 
 before_fits at rest None n small = tt
 before_fits at rest (Some t) n small = small
 
-marked_fits : (at : Place) (words rest : List ℕ) (n : ℕ) → 1 + length rest ≤ n → Fits n (marked_piece at words rest)
+marked_fits : (at : Place) (words : List (List ℕ)) (rest : List ℕ) (n : ℕ) → 1 + length rest ≤ n → Fits n (marked_piece at words rest)
 unfolding marked_piece
-marked_fits at words rest n small =
-    either (Fits n) (bytes_eq (first_word words) (codes "roles")) _ _ (λ one. before_fits at rest (roles (after_word words)) n small)
-    (λ other. either (Fits n) (bytes_eq (first_word words) (codes "resource")) _ _ (λ one. before_fits at rest (resource (after_word words)) n small) (λ other. omega arith))
+marked_fits at [] rest n small = omega arith
+marked_fits at (word ∷ names) rest n small =
+    either (Fits n) (bytes_eq word (codes "roles")) _ _ (λ one. before_fits at rest (roles names) n small)
+    (λ other. either (Fits n) (bytes_eq word (codes "resource")) _ _ (λ one. before_fits at rest (resource names) n small) (λ other. omega arith))
 
 mark_has_byte : (line : List ℕ) → starts_with nat_eq line (codes "--@") ≡ true → 0 < length line
 mark_has_byte [] marked = absurd (false≢true marked)
@@ -145,7 +146,7 @@ mark_has_byte (b ∷ line) marked = omega arith
 piece_fits : (at : Place) (line rest : List ℕ) (n : ℕ) → length line + length rest ≤ n → Fits n (line_piece at line rest)
 unfolding line_piece
 piece_fits at line rest n small =
-    either (Fits n) (starts_with nat_eq line (codes "--@")) _ _ (λ marked. marked_fits at (drop 3 line) rest n (omega (arith, mark_has_byte line marked))) (λ other. omega arith)
+    either (Fits n) (starts_with nat_eq line (codes "--@")) _ _ (λ marked. marked_fits at (words_of (drop 3 line)) rest n (omega (arith, mark_has_byte line marked))) (λ other. omega arith)
 
 -- PIECES
 

@@ -1,23 +1,24 @@
 -- The line of an annotation is found as its token.
 use Rattle.std.proofs.Common.{◌≡◌, ℕ, suc, ◌+◌, ◌<◌, Bool, true, false, List, [], ◌∷◌, ◌++◌, length, take, drop, codes, refl, ap, ◌∙◌, length-append, arith}
-use Rattle.std.proofs.lemmas.Bool.{cond-true, cond-false, false≢true, and_from}
+use Rattle.std.proofs.lemmas.Bool.{cond-true, cond-false, false≢true, not-true, and_from}
 use Rattle.std.proofs.lemmas.List.Folds.{list_all-append}
 use Rattle.std.proofs.Math.Seq.{take-append_seam, drop-append_seam}
-use Rattle.std.specs.Prelude.{Some, cond, nat_eq, not}
-use Rattle.std.specs.List.{list_all, prefix_len}
+use Rattle.std.specs.Prelude.{Some, None, cond, nat_eq, nat_lt, not}
+use Rattle.std.specs.List.{filter, list_all, onto_first, prefix_len, slice_split}
 use Rattle.csp_base.specs.declared.place.Place.{Place}
 use Rattle.csp_text.specs.declared.token.Token.TheVariants as token
 use Rattle.csp_text.specs.declared.token.ResourceNames.{ResourceNames}
 use Rattle.csp_text.specs.declared.token.RolesNames.{RolesNames}
-use Rattle.csp_lexer.specs.Annotations.{after_spaces, after_word, first_word, is_space, line_comment, line_piece, marked_piece, next_name, resource, roles}
+use Rattle.csp_lexer.specs.Annotations.{is_space, line_comment, line_piece, marked_piece, resource, roles, words_of}
 use Rattle.csp_lexer.specs.Comments.{line_len}
 use Rattle.csp_lexer.specs.Front.{front}
-use Rattle.csp_lexer.specs.Pieces.{one}
-use Rattle.csp_lexer.specs.Words.{is_name}
+use Rattle.csp_lexer.specs.Pieces.{one, one_before}
+use Rattle.csp_lexer.specs.Words.{is_foreign, is_name, reserved_word, word_len, word_rest_len}
 use Rattle.script_printer.specs.TokenText.{spaced_names, token_text}
 use Rattle.print_laws.specs.Fits.{AreResource, AreRoles, IsName}
 use Rattle.print_laws.proofs.Cuts.{Stands}
-use Rattle.print_laws.proofs.Names.{begins_with_letter, name_parts, no_empty_name, letter_no_space}
+use Rattle.print_laws.proofs.FoundTokens.{AreNames}
+use Rattle.print_laws.proofs.Names.{name_parts}
 use Rattle.print_laws.proofs.Quiet.{is_word_byte, name_bytes, weaker}
 use Rattle.csp_base.proofs.Booleans.{and_first, and_second}
 use Rattle.print_laws.proofs.Tokens.{piece_is}
@@ -44,58 +45,57 @@ word_byte_no_space b h = grind (arith)
 word_byte_no_feed : (b : ℕ) → is_word_byte b ≡ true → not_feed b ≡ true
 word_byte_no_feed b h = grind (arith)
 
--- a name behind a space
+-- names behind spaces
 
-spaces_before : (x z : List ℕ) → IsName x → after_spaces (32 ∷ x ++ z) ≡ x ++ z
-unfolding after_spaces
-spaces_before [] z h = absurd (no_empty_name h)
-spaces_before (c ∷ y) z h =
-    let none : is_space c ≡ false = letter_no_space c (begins_with_letter c y (name_parts (c ∷ y) h).whole) in
-    ap (λ n. drop (1 + n) (32 ∷ c ∷ y ++ z)) (cond-false (is_space c) (1 + prefix_len is_space (y ++ z)) 0 none)
+no_space : (x : List ℕ) → IsName x → list_all not_space x ≡ true
+no_space x h = weaker is_word_byte not_space word_byte_no_space x (name_bytes x h)
 
-name_len : (x z : List ℕ) → IsName x → prefix_len not_space z ≡ 0 → prefix_len not_space (x ++ z) ≡ length x
-name_len x z h e =
-    let passes = prefix_passes not_space x z (weaker is_word_byte not_space word_byte_no_space x (name_bytes x h)) in
-    omega (arith, passes, e)
+first_part : (x z : List ℕ) → list_all not_space x ≡ true → slice_split is_space (x ++ 32 ∷ z) ≡ x ∷ slice_split is_space z
+first_part [] z h = refl
+first_part (c ∷ x) z h =
+    cond-false _ _ _ (not-true (is_space c) (and_first (not_space c) (list_all not_space x) h))
+    ∙ ap (onto_first c) (first_part x z (and_second (not_space c) (list_all not_space x) h))
 
-word_is : (x z : List ℕ) → IsName x → prefix_len not_space z ≡ 0 → first_word (32 ∷ x ++ z) ≡ x
-unfolding first_word
-word_is x z h e =
-    ap (λ l. take (prefix_len not_space l) l) (spaces_before x z h) ∙ ap (λ n. take n (x ++ z)) (name_len x z h e) ∙ take-append_seam x z
+last_part : (x : List ℕ) → list_all not_space x ≡ true → slice_split is_space (x ++ []) ≡ x ∷ []
+last_part [] h = refl
+last_part (c ∷ x) h =
+    cond-false _ _ _ (not-true (is_space c) (and_first (not_space c) (list_all not_space x) h))
+    ∙ ap (onto_first c) (last_part x (and_second (not_space c) (list_all not_space x) h))
 
-behind_is : (x z : List ℕ) → IsName x → prefix_len not_space z ≡ 0 → after_word (32 ∷ x ++ z) ≡ z
-unfolding after_word
-behind_is x z h e =
-    ap (λ l. drop (prefix_len not_space l) l) (spaces_before x z h) ∙ ap (λ n. drop n (x ++ z)) (name_len x z h e) ∙ drop-append_seam x z
+abbrev has_byte : List ℕ → Bool
+has_byte word = nat_lt 0 (length word)
 
-next_is : (x z : List ℕ) → IsName x → prefix_len not_space z ≡ 0 → next_name (32 ∷ x ++ z) ≡ Some (x, z)
-unfolding next_name
-next_is x z h e =
-    let named : is_name (first_word (32 ∷ x ++ z)) ≡ true = ap is_name (word_is x z h e) ∙ h in
-    cond-true _ _ _ named ∙ (λ i. Some (word_is x z h e i, behind_is x z h e i))
+words_are : (names : List (List ℕ)) → AreNames names → words_of (spaced_names names) ≡ names
+unfolding words_of
+words_are [] h = refl
+words_are (x ∷ []) h = ap (filter has_byte) (last_part x (no_space x h.0)) ∙ cond-true _ _ _ (name_parts x h.0).long
+words_are (x ∷ y ∷ names) h =
+    ap (filter has_byte) (first_part x (y ++ spaced_names names) (no_space x h.0))
+    ∙ cond-true _ _ _ (name_parts x h.0).long
+    ∙ ap (λ l. x ∷ l) (words_are (y ∷ names) h.1)
 
-names_begin : (xs : List (List ℕ)) → prefix_len not_space (spaced_names xs) ≡ 0
-names_begin [] = refl
-names_begin (x ∷ xs) = refl
+all_names : (names : List (List ℕ)) → AreNames names → list_all is_name names ≡ true
+all_names [] h = refl
+all_names (x ∷ names) h = and_from _ _ h.0 (all_names names h.1)
 
-pub name_next : (x : List ℕ) (xs : List (List ℕ)) → IsName x → next_name (spaced_names (x ∷ xs)) ≡ Some (x, spaced_names xs)
-name_next x xs h = next_is x (spaced_names xs) h (names_begin xs)
+roles_names : (names : RolesNames) → AreRoles names → AreNames (names.process ∷ names.creq ∷ names.cack ∷ names.sreq ∷ names.sack ∷ [])
+roles_names names h = (h.process, (h.creq, (h.cack, (h.sreq, (h.sack, tt)))))
 
-roles_are : (names : RolesNames) → AreRoles names → roles (spaced_names (names.process ∷ names.creq ∷ names.cack ∷ names.sreq ∷ names.sack ∷ [])) ≡ Some (token.Roles names)
+resource_names : (names : ResourceNames) → AreResource names → AreNames (names.process ∷ names.acquire ∷ names.release ∷ [])
+resource_names names h = (h.process, (h.acquire, (h.release, tt)))
+
+roles_are : (names : RolesNames) → AreRoles names → roles (names.process ∷ names.creq ∷ names.cack ∷ names.sreq ∷ names.sack ∷ []) ≡ Some (token.Roles names)
 unfolding roles
 roles_are names h =
-    rw (name_next names.process (names.creq ∷ names.cack ∷ names.sreq ∷ names.sack ∷ []) h.process)
-    (rw (name_next names.creq (names.cack ∷ names.sreq ∷ names.sack ∷ []) h.creq)
-    (rw (name_next names.cack (names.sreq ∷ names.sack ∷ []) h.cack)
-    (rw (name_next names.sreq (names.sack ∷ []) h.sreq)
-    (rw (name_next names.sack [] h.sack) refl))))
+    cond-true _ _ None (all_names (names.process ∷ names.creq ∷ names.cack ∷ names.sreq ∷ names.sack ∷ []) (roles_names names h))
 
-resource_are : (names : ResourceNames) → AreResource names → resource (spaced_names (names.process ∷ names.acquire ∷ names.release ∷ [])) ≡ Some (token.Resource names)
+resource_are : (names : ResourceNames) → AreResource names → resource (names.process ∷ names.acquire ∷ names.release ∷ []) ≡ Some (token.Resource names)
 unfolding resource
-resource_are names h =
-    rw (name_next names.process (names.acquire ∷ names.release ∷ []) h.process)
-    (rw (name_next names.acquire (names.release ∷ []) h.acquire)
-    (rw (name_next names.release [] h.release) refl))
+resource_are names h = cond-true _ _ None (all_names (names.process ∷ names.acquire ∷ names.release ∷ []) (resource_names names h))
+
+marks_are_names : IsName (codes "roles") × IsName (codes "resource")
+unfolding is_name word_len word_rest_len reserved_word is_foreign
+marks_are_names = (refl, refl)
 
 -- the line of it
 
@@ -123,12 +123,18 @@ comment_is x rest at h =
     ∙ (λ i. line_piece at (take-append_seam x (10 ∷ rest) i) (drop-append_seam x (10 ∷ rest) i))
 
 roles_piece : (names : RolesNames) (at : Place) (rest : List ℕ) → AreRoles names → line_piece at (token_text (token.Roles names)) rest ≡ Some (one (token.Roles names) at rest)
-unfolding line_piece marked_piece first_word after_word after_spaces
-roles_piece names at rest h = rw (roles_are names h) refl
+unfolding line_piece marked_piece
+roles_piece names at rest h =
+    ap (λ words. marked_piece at words rest)
+    (words_are (codes "roles" ∷ names.process ∷ names.creq ∷ names.cack ∷ names.sreq ∷ names.sack ∷ []) (marks_are_names.0, roles_names names h))
+    ∙ ap (one_before at rest) (roles_are names h)
 
 resource_piece : (names : ResourceNames) (at : Place) (rest : List ℕ) → AreResource names → line_piece at (token_text (token.Resource names)) rest ≡ Some (one (token.Resource names) at rest)
-unfolding line_piece marked_piece first_word after_word after_spaces
-resource_piece names at rest h = rw (resource_are names h) refl
+unfolding line_piece marked_piece
+resource_piece names at rest h =
+    ap (λ words. marked_piece at words rest)
+    (words_are (codes "resource" ∷ names.process ∷ names.acquire ∷ names.release ∷ []) (marks_are_names.1, resource_names names h))
+    ∙ ap (one_before at rest) (resource_are names h)
 
 roles_front : (names : RolesNames) (at : Place) (rest : List ℕ) → front at (token_text (token.Roles names) ++ rest) ≡ line_comment at (token_text (token.Roles names) ++ rest)
 unfolding front

@@ -13,7 +13,7 @@ use Rattle.csp_text.specs.declared.tree.Tree.{Tree}
 use Rattle.csp_text.specs.declared.tree.Tree.TheVariants as tree
 use Rattle.csp_text.specs.declared.script.Decl.{Decl}
 use Rattle.csp_text.specs.declared.script.Decl.TheVariants as decl
-use Rattle.csp_lexer.specs.Assertions.{after_arguments, after_call, after_closing, asserted, assertion, cut_line, fit, is_deadlock_assertion, line_front, rest_len}
+use Rattle.csp_lexer.specs.Assertions.{after_arguments, after_call, after_closing, asserted, assertion, cut_line, is_closed, is_deadlock_assertion, is_deadlock_free, line_front, rest_len}
 use Rattle.csp_lexer.specs.Front.{begins_assertion, front}
 use Rattle.csp_lexer.specs.Pieces.{Piece}
 use Rattle.csp_lexer.specs.Placed.{PlacedTokens}
@@ -206,7 +206,7 @@ cuts_assertion t ts rest us f' f h c =
 -- an asserted name
 
 name_is_assertion : (x : List ℕ) → is_deadlock_assertion (Name x ∷ deadlock_free_tokens) ≡ true
-unfolding is_deadlock_assertion after_call after_arguments fit
+unfolding is_deadlock_assertion after_call after_arguments is_deadlock_free is_closed
 name_is_assertion x = refl
 
 cuts_asserted_name : (x : List ℕ) (rest : List ℕ) (us : List Token) → IsName x → Cuts front rest us →
@@ -244,7 +244,7 @@ behind_items : (rest : List Token) → Every FitsLine rest → OnLine (Some rest
 behind_items rest f = record { fits = (refl, f); closes = last_close_passed rest ∙ nothing_open rest }
 
 call_is_assertion : (x : List ℕ) (ts : List Token) → after_closing 1 ts ≡ Some deadlock_free_tokens → is_deadlock_assertion (Name x ∷ Symbol OpenParen ∷ ts) ≡ true
-unfolding is_deadlock_assertion after_call after_arguments fit
+unfolding is_deadlock_assertion after_call after_arguments is_deadlock_free is_closed
 call_is_assertion x ts h = rw h refl
 
 cuts_asserted_call : (x : List ℕ) (items : List Tree) (rest : List ℕ) (us : List Token) → IsName x → MadeTrees FitsLine items → Cuts front rest us →

@@ -1,6 +1,6 @@
 -- The tokens that the lexer finds are well formed, and stand in lines.
-use Rattle.std.proofs.Common.{◌≡◌, ℕ, zero, suc, Bool, true, false, ◌&&◌, ◌||◌, List, [], ◌∷◌, ◌++◌, length, take, drop, codes, refl, sym, ◌∙◌, subst}
-use Rattle.std.proofs.lemmas.Bool.{false≢true}
+use Rattle.std.proofs.Common.{◌≡◌, ℕ, zero, suc, Bool, true, false, List, [], ◌∷◌, ◌++◌, length, take, drop, codes, refl, sym, ◌∙◌, subst}
+use Rattle.std.proofs.lemmas.Bool.{and_parts, false≢true}
 use Rattle.std.proofs.lemmas.List.{map-append}
 use Rattle.std.specs.Prelude.{Option, Some, None, Result, Ok, Err, nat_eq, if◌then◌else◌, slice_index}
 use Rattle.std.specs.List.{starts_with}
@@ -9,11 +9,10 @@ use Rattle.std.specs.Str.{bytes_eq}
 use Rattle.csp_base.specs.declared.place.Place.{Place}
 use Rattle.csp_text.specs.declared.token.Token.{Token}
 use Rattle.csp_text.specs.declared.token.Token.TheVariants as token
-use Rattle.csp_text.specs.declared.token.Word.{Word}
 use Rattle.csp_text.specs.declared.token.Word.TheVariants as word
 use Rattle.csp_text.specs.declared.token.Symbol.TheVariants as symbol
-use Rattle.csp_lexer.specs.Annotations.{after_word, first_word, is_space, line_comment, line_piece, marked_piece, resource, roles}
-use Rattle.csp_lexer.specs.Assertions.{after_arguments, after_call, after_closing, asserted, assertion, closed, cut_line, deadlock_free, fit, in_model, is_deadlock_assertion, is_deadlock_free, is_some_name, is_symbol, line_front, rest_len}
+use Rattle.csp_lexer.specs.Annotations.{is_space, line_comment, line_piece, marked_piece, resource, roles, words_of}
+use Rattle.csp_lexer.specs.Assertions.{after_arguments, after_call, after_closing, asserted, assertion, cut_line, is_closed, is_deadlock_assertion, is_deadlock_free, line_front, rest_len}
 use Rattle.csp_lexer.specs.Comments.{after_comments, line_len}
 use Rattle.csp_lexer.specs.Cutting.{added, before, cut, then_cut}
 use Rattle.csp_lexer.specs.Front.{begins_assertion, front, is_blank, assertion_or_token}
@@ -88,99 +87,52 @@ nothing_left x e = cc
 same_left : {X : Type 0} (x y : X) → ◌≡◌ {A = Option X} (Some x) (Some y) → x ≡ y
 same_left x y e = cc
 
-outside_part : (k : ℕ) (l tail later : List Token) → after_closing k l ≡ Some tail → ((k : ℕ) → after_closing (suc k) l ≡ Some tail → Lines (position.within k) (l ++ later)) →
-    Lines position.outside (tail ++ later) → Lines (position.closed k) (l ++ later)
+nothing_closes : (l tail : List Token) → after_closing 0 l ≡ Some tail → l ≡ tail
 unfolding after_closing
-outside_part zero l tail later h more out = subst (λ x. Lines position.outside (x ++ later)) (sym (same_left l tail h)) out
-outside_part (suc k) l tail later h more out = more k h
-
-argument_step : (a b : Bool) (k : ℕ) (l tail later : List Token) →
-    (if a then after_closing (suc (suc k)) l else if b then after_closing k l else after_closing (suc k) l) ≡ Some tail →
-    ((k : ℕ) → after_closing (suc k) l ≡ Some tail → Lines (position.within k) (l ++ later)) → Lines position.outside (tail ++ later) →
-    Lines (if a then position.within (suc k) else if b then position.closed k else position.within k) (l ++ later)
-argument_step true b k l tail later h more out = more (suc k) h
-argument_step false true k l tail later h more out = outside_part k l tail later h more out
-argument_step false false k l tail later h more out = more k h
+nothing_closes l tail h = same_left l tail h
 
 -- up to the parenthesis that closes the arguments
 arguments_lines : (k : ℕ) (l tail later : List Token) → Every FitsLine l → after_closing (suc k) l ≡ Some tail → Lines position.outside (tail ++ later) → Lines (position.within k) (l ++ later)
 unfolding after_closing Lines
 arguments_lines k [] tail later f h out = absurd (nothing_left tail h)
-arguments_lines k (t ∷ l) tail later f h out =
-    (f.0, argument_step (is_symbol symbol.OpenParen t) (is_symbol symbol.CloseParen t) k l tail later h (λ k h. arguments_lines k l tail later f.1 h out) out)
+arguments_lines k (token.Symbol symbol.OpenParen ∷ l) tail later f h out = (f.0, arguments_lines (suc k) l tail later f.1 h out)
+arguments_lines zero (token.Symbol symbol.CloseParen ∷ l) tail later f h out = (f.0, subst (λ x. Lines position.outside (x ++ later)) (sym (nothing_closes l tail h)) out)
+arguments_lines (suc k) (token.Symbol symbol.CloseParen ∷ l) tail later f h out = (f.0, arguments_lines k l tail later f.1 h out)
+arguments_lines k (t ∷ l) tail later f h out = (f.0, arguments_lines k l tail later f.1 h out)
 
 -- the tokens behind the arguments
 
-both_true : (t u : Bool) → (t && u) ≡ true → (t ≡ true) × (u ≡ true)
-both_true true u h = (refl, h)
-both_true false u h = absurd (false≢true h)
-
-one_of : (t u : Bool) → (t || u) ≡ true → (X : Type 0) → (t ≡ true → X) → (u ≡ true → X) → X
-one_of true u h X p q = p refl
-one_of false u h X p q = q h
-
-rejects_assert : (test : Token → Bool) (t : Token) → ((w : Word) → test (token.Word w) ≡ false) → test t ≡ true → is_assert t ≡ false
-rejects_assert test (token.Word w) r h = absurd (false≢true (sym (r w) ∙ h))
-rejects_assert test _ r h = refl
-
--- tests that no reserved word passes
-abbrev Rejects : List (Token → Bool) → Type 0
-Rejects [] = Unit {0}
-Rejects (test ∷ tests) = ((w : Word) → test (token.Word w) ≡ false) × Rejects tests
-
-fit_no_assert : (tests : List (Token → Bool)) (ts : List Token) → Rejects tests → fit tests ts ≡ true → Every (λ t. is_assert t ≡ false) ts
-unfolding fit
-fit_no_assert [] [] r h = tt
-fit_no_assert [] (t ∷ ts) r h = absurd (false≢true h)
-fit_no_assert (test ∷ tests) [] r h = absurd (false≢true h)
-fit_no_assert (test ∷ tests) (t ∷ ts) r h =
-    let p = both_true (test t) (fit tests ts) h in
-    (rejects_assert test t r.0 p.0, fit_no_assert tests ts r.1 p.1)
-
-rejects_closed : Rejects (deadlock_free closed)
-rejects_closed = ((λ w. refl), ((λ w. refl), ((λ w. refl), ((λ w. refl), ((λ w. refl), tt)))))
-
-rejects_model : (model : List ℕ) → Rejects (deadlock_free (in_model model))
-rejects_model model = ((λ w. refl), ((λ w. refl), ((λ w. refl), ((λ w. refl), ((λ w. refl), ((λ w. refl), ((λ w. refl), ((λ w. refl), tt))))))))
+closed_no_assert : (ts : List Token) → is_closed ts ≡ true → Every (λ t. is_assert t ≡ false) ts
+unfolding is_closed
+closed_no_assert (token.Symbol symbol.CloseBracket ∷ []) h = (refl, tt)
+closed_no_assert (token.Symbol symbol.OpenBracket ∷ token.Name model ∷ token.Symbol symbol.CloseBracket ∷ token.Symbol symbol.CloseBracket ∷ []) h = (refl, (refl, (refl, (refl, tt))))
+closed_no_assert _ h = absurd (false≢true h)
 
 deadlock_no_assert : (ts : List Token) → is_deadlock_free ts ≡ true → Every (λ t. is_assert t ≡ false) ts
-deadlock_no_assert ts h =
-    one_of (fit (deadlock_free closed) ts || fit (deadlock_free (in_model (codes "F"))) ts) (fit (deadlock_free (in_model (codes "FD"))) ts) h _
-    (λ k. one_of (fit (deadlock_free closed) ts) (fit (deadlock_free (in_model (codes "F"))) ts) k _
-    (fit_no_assert (deadlock_free closed) ts rejects_closed) (fit_no_assert (deadlock_free (in_model (codes "F"))) ts (rejects_model (codes "F"))))
-    (fit_no_assert (deadlock_free (in_model (codes "FD"))) ts (rejects_model (codes "FD")))
+unfolding is_deadlock_free
+deadlock_no_assert (token.Symbol symbol.Colon ∷ token.Symbol symbol.OpenBracket ∷ token.Name deadlock ∷ token.Name free ∷ ts) h =
+    (refl, (refl, (refl, (refl, closed_no_assert ts (and_parts _ _ h).1))))
+deadlock_no_assert _ h = absurd (false≢true h)
 
 nothing_is_free : is_deadlock_free [] ≡ true → ⊥
-unfolding fit
+unfolding is_deadlock_free
 nothing_is_free h = false≢true h
-
-named_by : (b : Bool) (o : Option (List Token)) → option_map_or is_deadlock_free (if b then o else None) false ≡ true → option_map_or is_deadlock_free o false ≡ true
-named_by true o h = h
-named_by false o h = absurd (false≢true h)
-
-name_first : (b : Bool) (o : Option (List Token)) → option_map_or is_deadlock_free (if b then o else None) false ≡ true → b ≡ true
-name_first true o h = refl
-name_first false o h = absurd (false≢true h)
 
 closed_lines : (o : Option (List Token)) (us later : List Token) → Every FitsLine us → after_closing 1 us ≡ o → option_map_or is_deadlock_free o false ≡ true → Lines position.outside later →
     Lines (position.within 0) (us ++ later)
 closed_lines None us later f e h l = absurd (false≢true h)
 closed_lines (Some tail) us later f e h l = arguments_lines 0 us tail later f e (quiet_lines tail later (deadlock_no_assert tail h) l)
 
-behind_name_lines : (b : Bool) (u : Token) (us later : List Token) → Every FitsLine us → option_map_or is_deadlock_free (if b then after_closing 1 us else Some (u ∷ us)) false ≡ true →
-    Lines position.outside later → Lines (if b then position.within 0 else position.outside) (us ++ later)
-behind_name_lines true u us later f h l = closed_lines (after_closing 1 us) us later f refl h l
-behind_name_lines false u us later f h l = quiet_lines us later (deadlock_no_assert (u ∷ us) h).1 l
-
 name_lines : (ts later : List Token) → Every FitsLine ts → option_map_or is_deadlock_free (after_arguments ts) false ≡ true → Lines position.outside later → Lines position.behind-name (ts ++ later)
 unfolding after_arguments Lines
 name_lines [] later f h l = absurd (nothing_is_free h)
-name_lines (u ∷ us) later f h l = behind_name_lines (is_symbol symbol.OpenParen u) u us later f.1 h l
+name_lines (token.Symbol symbol.OpenParen ∷ us) later f h l = closed_lines (after_closing 1 us) us later f.1 refl h l
+name_lines (u ∷ us) later f h l = quiet_lines us later (deadlock_no_assert (u ∷ us) h).1 l
 
 word_lines : (ts later : List Token) → Every FitsLine ts → is_deadlock_assertion ts ≡ true → Lines position.outside later → Lines position.behind-word (ts ++ later)
 unfolding is_deadlock_assertion after_call Lines
-word_lines [] later f h l = absurd (false≢true h)
-word_lines (t ∷ ts) later f h l = (name_first (is_some_name t) (after_arguments ts) h, name_lines ts later f.1 (named_by (is_some_name t) (after_arguments ts) h) l)
+word_lines (token.Name x ∷ ts) later f h l = name_lines ts later f.1 h l
+word_lines _ later f h l = absurd (false≢true h)
 
 -- pieces
 
@@ -243,19 +195,20 @@ one_at_fits : (at : Place) (text : List ℕ) (o : Option (Token × ℕ)) → beg
 one_at_fits at text None h p = tt
 one_at_fits at text (Some found) h p = one_fits found.0 p.fits (not_asserted (is_assert found.0) (begins_assertion text) p.asserts h)
 
-marked_fits : (at : Place) (words rest : List ℕ) → Of Fitting (marked_piece at words rest)
+marked_fits : (at : Place) (words : List (List ℕ)) (rest : List ℕ) → Of Fitting (marked_piece at words rest)
 unfolding marked_piece
-marked_fits at words rest =
-    of_if Fitting (bytes_eq (first_word words) (codes "roles")) (one_before at rest (roles (after_word words)))
-    (if bytes_eq (first_word words) (codes "resource") then one_before at rest (resource (after_word words)) else Some (nothing rest))
-    (λ h. one_before_fits at rest (roles (after_word words)) (roles_fit (after_word words)))
-    (λ h. of_if Fitting (bytes_eq (first_word words) (codes "resource")) (one_before at rest (resource (after_word words))) (Some (nothing rest))
-    (λ k. one_before_fits at rest (resource (after_word words)) (resource_fits (after_word words))) (λ k. nothing_fits))
+marked_fits at [] rest = nothing_fits
+marked_fits at (word ∷ names) rest =
+    of_if Fitting (bytes_eq word (codes "roles")) (one_before at rest (roles names))
+    (if bytes_eq word (codes "resource") then one_before at rest (resource names) else Some (nothing rest))
+    (λ h. one_before_fits at rest (roles names) (roles_fit names))
+    (λ h. of_if Fitting (bytes_eq word (codes "resource")) (one_before at rest (resource names)) (Some (nothing rest))
+    (λ k. one_before_fits at rest (resource names) (resource_fits names)) (λ k. nothing_fits))
 
 comment_fits : (at : Place) (line rest : List ℕ) → Of Fitting (line_piece at line rest)
 unfolding line_piece
 comment_fits at line rest =
-    of_if Fitting (starts_with nat_eq line (codes "--@")) (marked_piece at (drop 3 line) rest) (Some (nothing rest)) (λ h. marked_fits at (drop 3 line) rest) (λ h. nothing_fits)
+    of_if Fitting (starts_with nat_eq line (codes "--@")) (marked_piece at (words_of (drop 3 line)) rest) (Some (nothing rest)) (λ h. marked_fits at (words_of (drop 3 line)) rest) (λ h. nothing_fits)
 
 abbrev third : Place → List ℕ → Option Piece
 third at text = if starts_with nat_eq text (codes "{-") then nothing_before (after_comments 1 (drop 2 text)) else assertion_or_token at text

@@ -3,9 +3,10 @@ use Rattle.std.proofs.Common.{◌≡◌, ℕ, suc, ◌+◌, ◌≤◌, Bool, tru
 use Rattle.std.proofs.lemmas.Bool.{cond-true, cond-false, false≢true}
 use Rattle.std.proofs.lemmas.List.{length-drop, length-take-le}
 use Rattle.std.proofs.lemmas.List.Sums.{prefix_len-le-length}
-use Rattle.std.specs.Prelude.{Option, Some, None, cond, find, nat_eq, nat_le, nat_lt, not, is_none, if◌then◌else◌, option_and_then}
+use Rattle.std.specs.Prelude.{Option, Some, None, cond, find, nat_eq, nat_le, nat_lt, not, is_none, if◌then◌else◌}
 use Rattle.std.specs.List.{list_all, prefix_len, starts_with}
 use Rattle.std.specs.Str.{bytes_eq}
+use Rattle.csp_base.proofs.Booleans.{and_first, and_second}
 use Rattle.csp_text.specs.declared.token.Token.{Token}
 use Rattle.csp_text.specs.declared.token.Token.TheVariants as token
 use Rattle.csp_text.specs.declared.token.Word.{Word}
@@ -13,7 +14,7 @@ use Rattle.csp_text.specs.declared.token.Word.TheVariants as word
 use Rattle.csp_text.specs.declared.token.Symbol.{Symbol}
 use Rattle.csp_text.specs.declared.token.Symbol.TheVariants as symbol
 use Rattle.csp_text.specs.Written.{symbol_text, word_text}
-use Rattle.csp_lexer.specs.Annotations.{after_word, first_word, is_space, next_name, resource, roles}
+use Rattle.csp_lexer.specs.Annotations.{resource, roles}
 use Rattle.csp_lexer.specs.Front.{begins_assertion}
 use Rattle.csp_lexer.specs.Symbols.{longest_symbol, symbol_at, symbols}
 use Rattle.csp_lexer.specs.Tokens.{continued, digits_len, number_token, symbol_with_len, token_at, with_len}
@@ -30,10 +31,6 @@ Of P (Some x) = P x
 pub of_if : {A : Type 0} (P : A → Type 0) (b : Bool) (x y : Option A) → (b ≡ true → Of P x) → (b ≡ false → Of P y) → Of P (if b then x else y)
 of_if P true x y p q = p refl
 of_if P false x y p q = q refl
-
-of_then : {A B : Type 0} (Q : A → Type 0) (P : B → Type 0) (f : A → Option B) (o : Option A) → Of Q o → ((a : A) → Q a → Of P (f a)) → Of P (option_and_then f o)
-of_then Q P f None q p = tt
-of_then Q P f (Some a) q p = p a q
 
 -- the front of a list that passes a test
 
@@ -260,31 +257,29 @@ line_token_fits text =
 
 -- annotations
 
-abbrev IsNext : List ℕ × List ℕ → Type 0
-IsNext next = IsName next.0
+-- words that are names
+abbrev pub AreNames : List (List ℕ) → Type 0
+AreNames [] = Unit {0}
+AreNames (word ∷ words) = IsName word × AreNames words
 
-next_is_name : (bytes : List ℕ) → Of IsNext (next_name bytes)
-unfolding next_name
-next_is_name bytes = of_if IsNext (is_name (first_word bytes)) (Some (first_word bytes, after_word bytes)) None (λ h. h) (λ h. tt)
+are_names : (words : List (List ℕ)) → list_all is_name words ≡ true → AreNames words
+are_names [] h = tt
+are_names (word ∷ words) h = (and_first (is_name word) (list_all is_name words) h, are_names words (and_second (is_name word) (list_all is_name words) h))
 
 -- a token that fits and begins no assertion
 abbrev pub IsQuietToken : Token → Type 0
 IsQuietToken t = Fits t × (is_assert t ≡ false)
 
-pub roles_fit : (bytes : List ℕ) → Of IsQuietToken (roles bytes)
+pub roles_fit : (words : List (List ℕ)) → Of IsQuietToken (roles words)
 unfolding roles
-roles_fit bytes =
-    of_then IsNext IsQuietToken _ (next_name bytes) (next_is_name bytes) λ process p.
-    of_then IsNext IsQuietToken _ (next_name process.1) (next_is_name process.1) λ creq q.
-    of_then IsNext IsQuietToken _ (next_name creq.1) (next_is_name creq.1) λ cack r.
-    of_then IsNext IsQuietToken _ (next_name cack.1) (next_is_name cack.1) λ sreq s.
-    of_then IsNext IsQuietToken _ (next_name sreq.1) (next_is_name sreq.1) λ sack u.
-    of_if IsQuietToken (list_all is_space sack.1) _ None (λ h. (record { process = p; creq = q; cack = r; sreq = s; sack = u }, refl)) (λ h. tt)
+roles_fit (process ∷ creq ∷ cack ∷ sreq ∷ sack ∷ []) =
+    of_if IsQuietToken (list_all is_name (process ∷ creq ∷ cack ∷ sreq ∷ sack ∷ [])) _ None
+    (λ h. let n = are_names (process ∷ creq ∷ cack ∷ sreq ∷ sack ∷ []) h in (record { process = n.0; creq = n.1.0; cack = n.1.1.0; sreq = n.1.1.1.0; sack = n.1.1.1.1.0 }, refl)) (λ h. tt)
+roles_fit _ = tt
 
-pub resource_fits : (bytes : List ℕ) → Of IsQuietToken (resource bytes)
+pub resource_fits : (words : List (List ℕ)) → Of IsQuietToken (resource words)
 unfolding resource
-resource_fits bytes =
-    of_then IsNext IsQuietToken _ (next_name bytes) (next_is_name bytes) λ process p.
-    of_then IsNext IsQuietToken _ (next_name process.1) (next_is_name process.1) λ acquire q.
-    of_then IsNext IsQuietToken _ (next_name acquire.1) (next_is_name acquire.1) λ release r.
-    of_if IsQuietToken (list_all is_space release.1) _ None (λ h. (record { process = p; acquire = q; release = r }, refl)) (λ h. tt)
+resource_fits (process ∷ acquire ∷ release ∷ []) =
+    of_if IsQuietToken (list_all is_name (process ∷ acquire ∷ release ∷ [])) _ None
+    (λ h. let n = are_names (process ∷ acquire ∷ release ∷ []) h in (record { process = n.0; acquire = n.1.0; release = n.1.1.0 }, refl)) (λ h. tt)
+resource_fits _ = tt

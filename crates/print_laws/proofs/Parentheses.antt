@@ -1,27 +1,25 @@
 -- Tokens that are no parentheses leave open what is open.
-use Rattle.std.proofs.Common.{◌≡◌, ℕ, suc, true, false, List, ◌∷◌, refl, sym, ap, ◌∙◌}
-use Rattle.std.proofs.lemmas.Bool.{cond-false, false≢true}
+use Rattle.std.proofs.Common.{◌≡◌, ℕ, suc, true, false, List, ◌∷◌, refl, sym, ap}
+use Rattle.std.proofs.lemmas.Bool.{false≢true}
 use Rattle.std.specs.Prelude.{not}
 use Rattle.csp_text.specs.declared.token.Token.{Token}
 use Rattle.csp_text.specs.declared.token.Token.TheVariants as token
 use Rattle.csp_text.specs.declared.token.Symbol.TheVariants as symbol
-use Rattle.csp_lexer.specs.Assertions.{after_closing, is_symbol}
+use Rattle.csp_lexer.specs.Assertions.{after_closing}
 use Rattle.print_laws.specs.Fits.{Fits, FitsLine}
+use Rattle.print_laws.specs.Lines.{behind}
+use Rattle.print_laws.specs.Lines as position
 use Rattle.print_laws.proofs.Plain.{Plain}
 use Rattle.print_laws.proofs.Held.{is_other, is_own}
 use Rattle.print_laws.proofs.Walk.{is_special}
 
-pub record IsNone (t : Token) : Type 0 where
-  pub no_open : is_symbol symbol.OpenParen t ≡ false
-  pub no_close : is_symbol symbol.CloseParen t ≡ false
-
 true≢false : true ≡ false → ⊥
 true≢false e = false≢true (sym e)
 
-pub no_parenthesis : (t : Token) → is_special t ≡ false → IsNone t
-no_parenthesis (token.Symbol symbol.OpenParen) e = absurd (true≢false e)
-no_parenthesis (token.Symbol symbol.CloseParen) e = absurd (true≢false e)
-no_parenthesis _ e = record { no_open = refl; no_close = refl }
+pub behind_other : (k : ℕ) (t : Token) → is_special t ≡ false → behind k t ≡ position.within k
+behind_other k (token.Symbol symbol.OpenParen) e = absurd (true≢false e)
+behind_other k (token.Symbol symbol.CloseParen) e = absurd (true≢false e)
+behind_other k _ e = refl
 
 pub own_none : (t : Token) → is_own t ≡ true → is_special t ≡ false
 own_none (token.Word w) e = absurd (false≢true e)
@@ -59,9 +57,9 @@ other_plain _ e = absurd (false≢true e)
 
 pub passed_over : (k : ℕ) (t : Token) (ts : List Token) → is_special t ≡ false → after_closing (suc k) (t ∷ ts) ≡ after_closing (suc k) ts
 unfolding after_closing
-passed_over k t ts e =
-    let n = no_parenthesis t e in
-    cond-false _ _ _ n.no_open ∙ cond-false _ _ _ n.no_close
+passed_over k (token.Symbol symbol.OpenParen) ts e = absurd (true≢false e)
+passed_over k (token.Symbol symbol.CloseParen) ts e = absurd (true≢false e)
+passed_over k _ ts e = refl
 
 pub open_passed : (k : ℕ) (ts : List Token) → after_closing (suc k) (token.Symbol symbol.OpenParen ∷ ts) ≡ after_closing (suc (suc k)) ts
 unfolding after_closing

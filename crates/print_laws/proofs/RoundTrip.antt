@@ -1,5 +1,5 @@
 -- The printed text of a script that a text spells spells it too.
-use Rattle.std.proofs.Common.{◌≡◌, ℕ, zero, suc, Bool, false, List, ◌∷◌, length, refl, sym, subst, arith}
+use Rattle.std.proofs.Common.{◌≡◌, ℕ, zero, suc, false, List, ◌∷◌, length, refl, sym, subst, arith}
 use Rattle.std.specs.Prelude.{Ok, Result, if◌then◌else◌}
 use Rattle.csp_base.specs.declared.place.Place.{Place}
 use Rattle.csp_text.specs.declared.token.Token.{Token}
@@ -8,7 +8,6 @@ use Rattle.csp_text.specs.declared.token.Word.TheVariants as word
 use Rattle.csp_text.specs.declared.token.Symbol.TheVariants as symbol
 use Rattle.csp_text.specs.declared.script.Script.{Script}
 use Rattle.csp_text.specs.declared.script.Decl.{Decl}
-use Rattle.csp_lexer.specs.Assertions.{is_symbol}
 use Rattle.csp_lexer.specs.Front.{front}
 use Rattle.csp_lexer.specs.Lexed.{lexed}
 use Rattle.csp_lexer.specs.Placed.{PlacedTokens, tokens_of}
@@ -24,7 +23,7 @@ use Rattle.print_laws.specs.Made.{MadeDecls}
 use Rattle.print_laws.proofs.CutScripts.{cuts_decls}
 use Rattle.print_laws.proofs.Cuts.{Cuts}
 use Rattle.print_laws.proofs.FoundLines.{WellFormed, found_fits}
-use Rattle.print_laws.proofs.Parentheses.{no_parenthesis}
+use Rattle.print_laws.proofs.Parentheses.{behind_other}
 use Rattle.print_laws.proofs.ScriptTexts.{declarations_text}
 use Rattle.print_laws.proofs.Walk.{is_special}
 use Rattle.print_laws.proofs.WalkScripts.{walk_declarations}
@@ -56,14 +55,9 @@ closes : (k : ℕ) (ts : List Token) → Outside (suc k) (token.Symbol symbol.Cl
 unfolding Lines
 closes k ts s = (s.0.1, s.1)
 
-stays : (a b : Bool) (k : ℕ) (ts : List Token) → a ≡ false → b ≡ false → Lines (if a then position.within (suc k) else if b then position.closed k else position.within k) ts → Lines (position.within k) ts
-stays a b k ts e f l = subst (λ b. Lines (if b then position.closed k else position.within k) ts) f (subst (λ a. Lines (if a then position.within (suc k) else if b then position.closed k else position.within k) ts) e l)
-
 line_step : (k : ℕ) (t : Token) (ts : List Token) → is_special t ≡ false → Within k (t ∷ ts) → FitsLine t × Within k ts
 unfolding Lines
-line_step k t ts e s =
-    let n = no_parenthesis t e in
-    (s.1.0, (s.0.1, stays (is_symbol symbol.OpenParen t) (is_symbol symbol.CloseParen t) k ts n.no_open n.no_close s.1.1))
+line_step k t ts e s = (s.1.0, (s.0.1, subst (λ p. Lines p ts) (behind_other k t e) s.1.1))
 
 line_opens : (k : ℕ) (ts : List Token) → Within k (token.Symbol symbol.OpenParen ∷ ts) → Within (suc k) ts
 unfolding Lines
@@ -75,11 +69,11 @@ line_closes k ts s = (s.0.1, s.1.1)
 
 named : (x : List ℕ) (ts : List Token) → Outside zero (token.Word word.Assert ∷ token.Name x ∷ token.Symbol symbol.Colon ∷ ts) → IsName x × Outside zero ts
 unfolding Lines
-named x ts s = (s.0.1.0, (s.0.1.1.1, s.1.1))
+named x ts s = (s.0.1.0, (s.0.1.1.1, s.1))
 
 enters : (x : List ℕ) (ts : List Token) → Outside zero (token.Word word.Assert ∷ token.Name x ∷ token.Symbol symbol.OpenParen ∷ ts) → IsName x × Within zero ts
 unfolding Lines
-enters x ts s = (s.0.1.0, (s.0.1.1.1, s.1.1))
+enters x ts s = (s.0.1.0, (s.0.1.1.1, s.1))
 
 leaves : (ts : List Token) → Within zero (token.Symbol symbol.CloseParen ∷ ts) → Outside zero ts
 unfolding Lines

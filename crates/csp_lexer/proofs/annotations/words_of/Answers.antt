@@ -1,0 +1,15 @@
+use Rattle.std.proofs.Common.{length, rules, tests}
+use Rattle.std.proofs.lemmas.Iterator.Consumers.{YieldsList-at, YieldsList-from_filter, map_from_collect}
+use Rattle.std.proofs.lemmas.Iterator.Splits.{YieldsList-from_slice_split}
+use Rattle.std.specs.Prelude.{nat_lt}
+use Rattle.csp_lexer.specs.Annotations.{is_space, words_of}
+use Rattle.csp_lexer.proofs.annotations.words_of.Goals as goal
+
+pub returns : goal.returns
+unfolding words_of
+returns c =
+    map_from_collect _ c.collect.ensures.ran
+    (YieldsList-from_filter _ (λ word. nat_lt 0 (length word))
+    (YieldsList-at c.filter.ensures.source
+    (YieldsList-from_slice_split _ is_space _ c.split.ensures.rest c.split.ensures.done c.split.ensures.closure (λ x b q k. search (rules, tests))))
+    c.filter.ensures.closure (λ x b q k. search (rules, tests)))
