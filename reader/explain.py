@@ -69,8 +69,8 @@ def explained(told, network=None, specification=None):
     here = about_comments(named, told)
     here += about_place(named, told) if refused else []
     here += here_of(told, network, specification)
-    here += about_language(named, told) if refused else []
-    return Explained(here, *about_page(told, keys_of(told, named)), about_network(named, told) if refused else [])
+    here += attempt(about_language, named, told) if refused else []
+    return Explained(here, *about_page(told, attempt(keys_of, told, named)), attempt(about_network, named, told) if refused else [])
 
 
 def here_of(told, network, specification):
@@ -78,17 +78,22 @@ def here_of(told, network, specification):
     if not network:
         return []
     if told.number in COMPARED:
-        return COMPARED[told.number](network, specification, told)
+        return attempt(COMPARED[told.number], network, specification, told)
     network = specification if told.specification else network
     if told.command == "run" and told.status in (0, 1):
-        return about_run(network, told)
+        return attempt(about_run, network, told)
     if told.command == "livelock" and told.status == 0:
-        return about_hidden(network, told)
+        return attempt(about_hidden, network, told)
+    found = attempt(ABOUT[told.number], network, told) if told.number in ABOUT else []
+    return found + (attempt(about_tries, network) if told.rule and told.status == 1 else [])
+
+
+def attempt(function, *arguments):
+    """What a function tells, or nothing where it can't follow the script: then the report and the page stand alone."""
     try:
-        found = ABOUT[told.number](network, told) if told.number in ABOUT else []
+        return function(*arguments)
     except NOT_FOLLOWED:
-        found = []
-    return found + (about_tries(network) if told.rule and told.status == 1 else [])
+        return []
 
 
 def keys_of(told, network):

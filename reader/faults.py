@@ -3,8 +3,8 @@ from layout import Layout
 from network import NOT_FOLLOWED
 from script import NoScript
 from terms import terms_of
-from texts import MOST_NAMED, listed
-from trees import Parser, written
+from texts import MOST_NAMED, counted, listed
+from trees import Parser, operand, written
 from values import Event, NoValue
 
 
@@ -20,7 +20,7 @@ def about_value(network, told):
     found, seen = [], set()
     for fault in faults:
         key = written(fault.tree), fault.uses[0][0] if fault.uses else None
-        if key not in seen and len(seen) < 6:
+        if key not in seen and len(seen) < 3:
             seen.add(key)
             found += fault_lines(network, fault)
     return found
@@ -103,9 +103,11 @@ def about_count(network, told):
         return annotation_counts(script, line.split()[1:])
     body = line[7:].rsplit(" : [ deadlock free ]", 1)[0] if line.startswith("assert ") else line.partition(" = ")[2]
     try:
-        for form, name, parts in uses_in(Parser(body).tree()):
+        tree = Parser(body).tree()
+        for form, name, parts in uses_in(tree):
             if name == told.event:
                 found += count_lines(network, form, name, parts)
+        found += renaming_lines(script, tree) if told.event in script.channels else []
     except NoScript:
         return []
     return ["", *dict.fromkeys(found)] if found else []
@@ -117,12 +119,25 @@ def count_lines(network, form, name, parts):
     if name in script.channels:
         fields = len(script.field_trees(name))
         if parts > fields or (parts < fields and form != "part"):
-            return [f"{name} has {counted(fields, 'field')} ({declared}: {network.text(script.names[name])[0].strip()}) and stands here with {parts}"]
+            return [f"{name} has {counted(fields or 'no', 'field')} ({declared}: {network.text(script.names[name])[0].strip()}) and stands here with {parts}"]
     elif name in script.definitions:
         parameters = len(script.definitions[name][0])
         if parameters != parts:
-            return [f"{name} has {counted(parameters, 'parameter')} ({declared}: {network.text(script.names[name])[0].strip()}) and is called here with {parts}"]
+            return [f"{name} has {counted(parameters or 'no', 'parameter')} ({declared}: {network.text(script.names[name])[0].strip()}) and is called here with {parts}"]
     return []
+
+
+def renaming_lines(script, tree):
+    """The sides of a renaming that leave different numbers of fields out."""
+    if not isinstance(tree, (list, tuple)):
+        return []
+    found = []
+    for old, new in tree[2] if isinstance(tree, tuple) and tree and tree[0] == "rename" else ():
+        out = [len(script.field_trees(name)) - len(fields) for name, fields in (old, new) if name in script.channels]
+        if len(out) == 2 and out[0] != out[1]:
+            texts = [".".join([name, *(operand(field) for field in fields)]) for name, fields in (old, new)]
+            found.append(f"{texts[0]} <- {texts[1]}: {texts[0]} leaves {counted(out[0] or 'no', 'field')} out, and {texts[1]} {out[1] or 'none'}")
+    return found + [line for part in tree for line in renaming_lines(script, part)]
 
 
 def annotation_counts(script, words):
@@ -130,11 +145,7 @@ def annotation_counts(script, words):
         return []
     wanted = len(script.definitions[words[1]][0])
     own = [(name, len(script.definitions[name][0])) for name in words[2:] if name in script.definitions]
-    return ["", *(f"{name} has {counted(have, 'parameter')}, and {words[1]}, which it is a set of, has {wanted}" for name, have in dict.fromkeys(own) if have != wanted)]
-
-
-def counted(number, what):
-    return f"{number or 'no'} {what}{'' if number == 1 else 's'}"
+    return ["", *(f"{name} has {counted(have or 'no', 'parameter')}, and {words[1]}, which it is a set of, has {wanted}" for name, have in dict.fromkeys(own) if have != wanted)]
 
 
 def uses_in(tree):

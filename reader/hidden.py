@@ -8,7 +8,7 @@ def hidden_events(network, name):
     """The events of the hidden set, as texts in their order; nothing where they can't be told."""
     try:
         return network.script.texts(network.script.set_of(("name", name), {}))
-    except (*NOT_FOLLOWED, AttributeError):
+    except NOT_FOLLOWED:
         return None
 
 

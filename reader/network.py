@@ -2,7 +2,7 @@
 
 All that the program can tell is asked of it (`show`, `table`), each thing once. How components are called, and alphabets, stand in no report: they are
 evaluated from what `show` prints, and where that can't be followed the tables alone are gone by. It proves nothing."""
-import collections, pathlib, re, tempfile
+import collections, pathlib, re, tempfile, time
 
 from layout import Layout
 from reports import ask, events_of, table_of, text_of
@@ -16,7 +16,7 @@ Noted = collections.namedtuple("Noted", "name meaning events")
 KINDS = {"client-server": "roles", "resource": "resource"}
 MEANINGS = {"roles": ("requests made", "answers got", "requests taken", "answers given"), "resource": ("acquire", "release")}
 MOST_BYTES = 1_048_576
-NOT_FOLLOWED = (NoScript, ValueError, TypeError, KeyError, IndexError, RecursionError)
+NOT_FOLLOWED = (NoScript, ValueError, TypeError, AttributeError, KeyError, IndexError, RecursionError, StopIteration)
 
 
 class Network:
@@ -26,7 +26,10 @@ class Network:
         self.program, self.room, self.file = program, None, file
         self.content = self.read()
         self.source = self.content.decode(errors="replace")
+        began = time.monotonic()
         shown = ask(program, ["show", self.file], quiet=True)
+        # unproved sources take a minute for each answer, so that nothing is asked then that can be done without
+        self.is_slow = time.monotonic() - began > 10
         self.shown = text_of(shown).splitlines() if shown.status == 0 else []
         self.lines = lines_of(self.source, self.shown)
         self.script, self.components, self.operands, self.tables, self.fault = None, [], [], {}, None
@@ -148,7 +151,7 @@ class Network:
                 parameters, body = self.script.body_of(name)
                 events = self.script.value(body, dict(zip(parameters, component.values)))
                 sets.append(Noted(name, meaning, self.script.texts(events)))
-        except (*NOT_FOLLOWED, AttributeError):
+        except NOT_FOLLOWED:
             return []
         return sets
 

@@ -86,10 +86,10 @@ def signs_of(lines):
 # What the rows of a number are about beyond it: the first words of the group, and a test of what is told and of the network.
 ONLY_WHERE = (
     ("definitions by cases", lambda told, network: False),
-    ("the same with a name", lambda told, network: told.event not in network.script.consts),
+    ("the same with a name", lambda told, network: len([line for line in network.shown if re.match(rf"{re.escape(told.event)} (= |\( )", line)]) > 1),
     ("an input of one constant", lambda told, network: told.event in network.script.consts),
     ("a channel with data", lambda told, network: heads_of_parameters(network, told.declaration)),
-    ("fields that are left out", lambda told, network: told.event in network.script.channels),
+    ("fields that are left out", lambda told, network: told.event in network.script.channels and "[[" not in network.shown[told.declaration]),
     ("hiding round a network", lambda told, network: re.search(r"[\\]", network.shown[told.declaration])),
     ("hiding or renaming round", lambda told, network: told.line.endswith("800")),
     ("; and SKIP", lambda told, network: True),
@@ -110,7 +110,8 @@ def is_about(group, told, signs, network, at):
     if told.number == "1":
         return any(about.startswith(word) for word in signs)
     if told.number == "4":
-        return any(re.search(rf"\b{re.escape(told.event)}\b", row[:at]) for row in group[1:])
+        # a name of one letter stands there for any
+        return len(told.event) > 1 and any(re.search(rf"\b{re.escape(told.event)}\b", row[:at]) for row in group[1:])
     tests = [test for words, test in ONLY_WHERE if about.startswith(words)]
     return not tests or bool(tests[0](told, network))
 

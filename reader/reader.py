@@ -41,5 +41,5 @@ if __name__ == "__main__":
     except BrokenPipeError:
         sys.exit(4)
     except OSError as fault:
-        print(f"dlcheck-reader: {fault}", file=sys.stderr)
+        print(f"dlcheck: {fault}", file=sys.stderr)
         sys.exit(70)

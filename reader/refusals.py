@@ -107,14 +107,16 @@ def about_unknown(network, told):
 
 
 def about_twice(network, told):
-    """5: all declarations of the name."""
-    found = []
+    """5: all declarations of the name; of two annotations these alone."""
+    found, annotated = [], network.shown[told.declaration].startswith("--@")
     for number, line in enumerate(network.shown):
         head = line.partition(" : " if line.startswith("channel ") else " = ")[0]
         names = line.partition(" = ")[2].split(" | ") + head.split() if line.startswith("datatype ") else re.findall(r"[A-Za-z]\w*'*", head)
         bound = re.findall(r"(?:\?|\[\]|\|~\||\|\||\||,) ([A-Za-z]\w*'*) (?::|<-|->|\?|!|\.)", line.partition(" = ")[2])
-        if line.startswith("--@"):
-            names = line.split()[2:3]
+        if line.startswith("--@") or annotated:
+            names = line.split()[2:3] if line.startswith("--@") else []
+        if line.startswith("assert "):
+            names = []
         if told.event in names or (told.event in network.script.consts and told.event in bound):
             found.append(f"  {network.place(number)}: {network.text(number)[0].strip()}")
     return ["", f"{told.event} stands in these declarations:", *found] if found else []
@@ -258,7 +260,7 @@ def about_events_differ(network, specification, told):
     """41: the two events at the number that is told."""
     try:
         first, second = (one.script.all_events() for one in (network, specification))
-    except (*NOT_FOLLOWED, AttributeError):
+    except NOT_FOLLOWED:
         return []
     number = int(told.line.split()[-1])
     texts = [one.script.text(events[number]) if number < len(events) else "nothing more" for one, events in ((network, first), (specification, second))]

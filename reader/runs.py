@@ -2,7 +2,7 @@
 import collections, time
 
 from reports import ask, told_by
-from texts import MOST_NAMED, listed
+from texts import MOST_NAMED, counted, listed
 from walks import Standstill, Walk
 
 LAST_EVENTS = 40
@@ -28,7 +28,7 @@ def folded(network, walk, stuck):
         lines.append(f"  {step.event}  ({who})" + (f", {silent} silent before it" if silent else ""))
         silent = 0
     lines += [f"  {silent} silent"] if silent else []
-    head = f"The run has {len(walk.events)} events and {walk.silent()} silent steps"
+    head = f"The run has {counted(len(walk.events), 'event')} and {counted(walk.silent(), 'silent step')}"
     most = LAST_EVENTS if stuck else LAST_EVENTS // 4
     if len(lines) > most:
         return ["", f"{head}; its last {most} lines, silent steps counted:", *lines[-most:]]
@@ -90,6 +90,8 @@ def about_movers(network, walk):
 def about_tries(network):
     """Whether a few runs come to a standstill, where a network is not proved."""
     began, tried = time.monotonic(), 0
+    if network.is_slow:
+        return []
     for seed in range(SEEDS):
         words = ["run", network.file, str(seed), str(STEPS)]
         told = told_by(words, ask(network.program, words, quiet=True))
@@ -100,7 +102,8 @@ def about_tries(network):
             return ["", f"It can be stuck: `run SCRIPT {seed} {STEPS}` is after {len(told.steps)} steps (`--explain run SCRIPT {seed} {STEPS}` tells who waits for whom).", *circle_of(network, told)]
         if time.monotonic() - began > MOST_SECONDS:
             break
-    return ["", f"{tried} run{'s' if tried > 1 else ''} of {STEPS} steps (seed{'s 0 to' if tried > 1 else ''} {tried - 1}) went on, which proves nothing."]
+    seeds = f"seeds 0 to {tried - 1}" if tried > 1 else "seed 0"
+    return ["", f"{counted(tried, 'run')} of {STEPS} steps ({seeds}) went on, which proves nothing."]
 
 
 def circle_of(network, told):

@@ -118,5 +118,5 @@ def terms_of(script, component):
     """The terms of a component, or nothing where they can't be followed."""
     try:
         return Terms(script, component)
-    except (NoScript, ValueError, TypeError, KeyError, IndexError, RecursionError):
+    except (NoScript, ValueError, TypeError, AttributeError, KeyError, IndexError, RecursionError):
         return None

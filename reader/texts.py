@@ -10,6 +10,11 @@ def listed(events, most=MOST_NAMED):
     return ", ".join(events[:most]) + (f" and {len(events) - most} more" if len(events) > most else "")
 
 
+def counted(number, what):
+    """`1 event`, `2 events`."""
+    return f"{number} {what}{'' if number == 1 else 's'}"
+
+
 def trace_text(events, most=MOST_NAMED):
     """`<a, b>`, of a long trace its end."""
     kept = events[-most:]
