@@ -76,6 +76,7 @@ module _ (p : Content) where
       steps = other.steps;
       room_for_nodes = omega arith;
       room_for_steps = omega arith;
+      order = other.order;
     }
 
     no_more_nodes : a.used.nodes ≤ b.used.nodes
