@@ -1,8 +1,6 @@
 pub mod Assertions
-pub mod Faults
-pub mod Lists
+pub mod DeclarationSteps
 pub mod ScriptSizes
 pub mod Scripts
-pub mod Steps
 pub mod TokenCounts
 pub mod TreeTokens

@@ -1,5 +1,5 @@
 -- What the reading of the declarations says of the script.
-use Rattle.std.proofs.Common.{◌≡◌, Some, None, List, sym, subst, ◌∙◌}
+use Rattle.std.proofs.Common.{◌≡◌, ℕ, Option, Some, None, List, Err, sym, subst, ◌∙◌}
 use Rattle.std.specs.Prelude.{Result, Ok}
 use Rattle.csp_base.specs.declared.place.Place.{Place}
 use Rattle.csp_text.specs.declared.token.Token.{Token}
@@ -8,6 +8,11 @@ use Rattle.csp_text.specs.declared.script.Script.{Script}
 use Rattle.csp_grammar.specs.Declarations.{DeclarationsText, ScriptText}
 use Rattle.csp_lexer.specs.Placed.{PlacedTokens, tokens_of}
 use Rattle.csp_parser.specs.Spells.{EachTextSpellsOneScript}
+use Rattle.tree_parser.proofs.SoFar.{Comes}
+use Rattle.tree_parser.specs.Reads.{Reads}
+use Rattle.tree_reading.specs.Limited.{Limited}
+use Rattle.tree_reading.specs.declared.fault.ReadFault.{ReadFault}
+use Rattle.tree_reading.specs.declared.fault.ReadFault.TheVariants as fault
 use Rattle.tree_reading.specs.Settled.{Settles}
 use Rattle.tree_reading.proofs.Unique.{one_script, settled_nothing, settled_script}
 
@@ -23,6 +28,14 @@ is_only tokens {ts} {ds} e r other p = one_script tokens (record { decls = ds })
 -- where the reading comes to nothing, nothing is spelled
 pub is_none : (tokens : List Token) {ts : List Token} → ts ≡ tokens → Settles (λ L. L.declarations ts) None → (s : Script) → ScriptText tokens s → ⊥
 is_none tokens {ts} e r s p = settled_nothing ts s r (subst (λ us. ScriptText us s) (sym e) p)
+
+-- what is read from so many calls on, the reading settles on
+pub settled : {A : Type 0} {n : ℕ} {F : Limited → Option A} {o : Option A} → Comes n F o → Settles F o
+settled {n = n} c = record { enough = n; settles = c }
+
+-- where a fault says that no text is in front, the reading comes to nothing
+pub nothing_read : {A : Type 0} {n : ℕ} {F : Limited → Option A} (f : ReadFault) (left : ℕ) → f ≡ fault.NoText left → Reads {A = A} {B = A} (Err f) (λ a. a) n F → Settles F None
+nothing_read {A} {n} {F} f left e c = record { enough = n; settles = subst (λ g. Reads {A = A} {B = A} (Err g) (λ a. a) n F) e c }
 
 same_tokens : (a b : PlacedTokens) → ◌≡◌ {A = Result PlacedTokens Place} (Ok a) (Ok b) → a ≡ b
 same_tokens a b e = cc

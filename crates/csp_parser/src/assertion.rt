@@ -1,26 +1,26 @@
 //! Assertions of deadlock freedom.
 
-ghost use Rattle.std.specs.Prelude.{◌≡◌, ◌<◌, ◌≤◌, length, IfOk, Some, None};
-ghost use Rattle.tree_reading.specs.Limited.{read_asserted, read_assertion};
+ghost use Rattle.std.specs.Prelude.{◌≡◌, ◌<◌, ◌≤◌, ◌+◌, ◌*◌, length, IfOk};
 ghost use Rattle.csp_grammar.specs.Tokens.{is_text};
+ghost use Rattle.tree_parser.specs.Reads.{Reads};
 ghost use Rattle.tree_reading.specs.Asserted.{deadlock_free, ending, is_model, model, name_that};
-ghost use Rattle.tree_reading.specs.Answers.{IfNoText};
-ghost use Rattle.tree_reading.specs.Settled.{Settles};
+ghost use Rattle.tree_reading.specs.Gives.{Gives};
+ghost use Rattle.tree_reading.specs.Limited.{read_asserted, read_assertion};
 
-use crate::names::expect;
 use crate::types::WHOLE;
 use csp_base::Name;
-use csp_text::{Decl, Symbol, Token, Tree};
+use csp_text::{Decl, Symbol, Token};
 use std::alloc::Global;
-use tree_parser::{Read, ReadFault, atom};
-use tree_reading::fault::stopped;
-use tree_reading::look::{named, skip};
+use tree_parser::atom;
+use tree_reading::deep::DeepTree;
+use tree_reading::fault::{ReadFault, stopped};
+use tree_reading::look::{expect, named, skip};
+use tree_reading::read::{Read, Reading};
 
 // The name or the call that is asserted: an atom that begins with a name.
-fn asserted<'t>(alloc: Global, tokens: &'t [Token]) -> Result<Read<'t, Tree>, ReadFault>
-    ensures read { IfOk result (λ r. Settles (λ L. read_asserted L tokens.now) (Some (r.part, r.rest.now))) }
+fn asserted<'t>(alloc: Global, tokens: &'t [Token]) -> Reading<'t, DeepTree>
+    ensures reads { Reads result (λ r. (r.part, r.rest.now)) (8 * length tokens.now + 1) (λ L. read_asserted L tokens.now) }
     ensures shorter { IfOk result (λ r. length r.rest.now < length tokens.now) }
-    ensures none { IfNoText result (Settles (λ L. read_asserted L tokens.now) None) }
 {
     match named(tokens) {
         Some(_) => atom(alloc, WHOLE, tokens),
@@ -45,10 +45,9 @@ fn is_model(name: &Name) -> bool
 
 // What follows the name of a model, which has to stand at the front.
 #[tactic(auto, using(crate::proofs::Assertions::passing, crate::proofs::Assertions::unnamed, crate::proofs::Assertions::not_passing))]
-fn model_name(tokens: &[Token]) -> Result<&[Token], ReadFault>
-    ensures found { IfOk result (λ rest. name_that is_model tokens.now ≡ Some rest.now) }
+fn expect_model(tokens: &[Token]) -> Result<&[Token], ReadFault>
+    ensures same { Gives result (λ rest. rest.now) (name_that is_model tokens.now) }
     ensures shorter { IfOk result (λ rest. length rest.now < length tokens.now) }
-    ensures none { IfNoText result (name_that is_model tokens.now ≡ None) }
 {
     match named(tokens) {
         Some((found, rest)) => {
@@ -64,14 +63,14 @@ fn model_name(tokens: &[Token]) -> Result<&[Token], ReadFault>
 
 // What follows the model of an assertion, or follows nothing where no model is given.
 fn model(tokens: &[Token]) -> Result<&[Token], ReadFault>
-    ensures found { IfOk result (λ rest. model tokens.now ≡ Some rest.now) }
+    ensures same { Gives result (λ rest. rest.now) (model tokens.now) }
     ensures shorter { IfOk result (λ rest. length rest.now ≤ length tokens.now) }
-    ensures none { IfNoText result (model tokens.now ≡ None) }
 {
     match skip(tokens, Symbol::OpenBracket) {
         Some(inside) => {
-            let behind = model_name(inside)?;
-            expect(behind, Symbol::CloseBracket)
+            let behind = expect_model(inside)?;
+            let rest = expect(behind, Symbol::CloseBracket)?;
+            Ok(rest)
         }
         None => Ok(tokens),
     }
@@ -79,10 +78,9 @@ fn model(tokens: &[Token]) -> Result<&[Token], ReadFault>
 
 // What follows these bytes, which have to stand at the front as a name.
 #[tactic(auto, using(crate::proofs::Assertions::passing, crate::proofs::Assertions::unnamed, crate::proofs::Assertions::not_passing))]
-fn expect_name<'t>(tokens: &'t [Token], bytes: &[u8]) -> Result<&'t [Token], ReadFault>
-    ensures found { IfOk result (λ rest. name_that (λ x. is_text x bytes.now) tokens.now ≡ Some rest.now) }
+fn expect_written<'t>(tokens: &'t [Token], bytes: &[u8]) -> Result<&'t [Token], ReadFault>
+    ensures same { Gives result (λ rest. rest.now) (name_that (λ x. is_text x bytes.now) tokens.now) }
     ensures shorter { IfOk result (λ rest. length rest.now < length tokens.now) }
-    ensures none { IfNoText result (name_that (λ x. is_text x bytes.now) tokens.now ≡ None) }
 {
     match named(tokens) {
         Some((found, rest)) => {
@@ -98,43 +96,37 @@ fn expect_name<'t>(tokens: &'t [Token], bytes: &[u8]) -> Result<&'t [Token], Rea
 
 // What follows `deadlock free`, with what stands before it in an assertion.
 fn deadlock_free(tokens: &[Token]) -> Result<&[Token], ReadFault>
-    ensures found { IfOk result (λ rest. deadlock_free tokens.now ≡ Some rest.now) }
+    ensures same { Gives result (λ rest. rest.now) (deadlock_free tokens.now) }
     ensures shorter { IfOk result (λ rest. length rest.now < length tokens.now) }
-    ensures none { IfNoText result (deadlock_free tokens.now ≡ None) }
 {
-    expect(tokens, Symbol::Colon)
-        .and_then(|rest| expect(rest, Symbol::OpenBracket))
-        .and_then(|rest| expect_name(rest, b"deadlock"))
-        .and_then(|rest| expect_name(rest, b"free"))
+    let behind = expect(tokens, Symbol::Colon)?;
+    let opened = expect(behind, Symbol::OpenBracket)?;
+    let deadlock = expect_written(opened, b"deadlock")?;
+    let free = expect_written(deadlock, b"free")?;
+    Ok(free)
 }
 
 // What follows the rest of an assertion, behind its process.
 #[tactic(auto, unfolding(tree_reading::specs::Asserted::ending))]
 fn ending(tokens: &[Token]) -> Result<&[Token], ReadFault>
-    ensures found { IfOk result (λ rest. ending tokens.now ≡ Some rest.now) }
+    ensures same { Gives result (λ rest. rest.now) (ending tokens.now) }
     ensures shorter { IfOk result (λ rest. length rest.now < length tokens.now) }
-    ensures none { IfNoText result (ending tokens.now ≡ None) }
 {
     let behind = deadlock_free(tokens)?;
     let closed = model(behind)?;
-    expect(closed, Symbol::CloseBracket)
+    let rest = expect(closed, Symbol::CloseBracket)?;
+    Ok(rest)
 }
 
 // The assertion behind `assert`.
-pub(crate) fn assertion<'t>(alloc: Global, tokens: &'t [Token]) -> Result<Read<'t, Decl>, ReadFault>
-    ensures read { IfOk result (λ r. Settles (λ L. read_assertion L tokens.now) (Some (r.part, r.rest.now))) }
+pub(crate) fn assertion<'t>(alloc: Global, tokens: &'t [Token]) -> Reading<'t, Decl>
+    ensures reads { Reads result (λ r. (r.part, r.rest.now)) (8 * length tokens.now + 1) (λ L. read_assertion L tokens.now) }
     ensures shorter { IfOk result (λ r. length r.rest.now < length tokens.now) }
-    ensures none { IfNoText result (Settles (λ L. read_assertion L tokens.now) None) }
 {
     let process = asserted(alloc, tokens)?;
-    match ending(process.rest) {
-        Ok(rest) => Ok(Read {
-            part: Decl::Assert(process.part),
-            rest,
-        }),
-        Err(fault) => {
-            drop(process.part);
-            Err(fault)
-        }
-    }
+    let rest = ending(process.rest)?;
+    Ok(Read {
+        part: Decl::Assert(process.part.unboxed().into_inner()),
+        rest,
+    })
 }

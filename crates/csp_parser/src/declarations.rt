@@ -1,13 +1,12 @@
 //! The declarations of a script.
 
-ghost use Rattle.std.specs.Prelude.{◌≡◌, ◌<◌, List, [], ◌∷◌, ◌++◌, length, IfOk, Some, None};
+ghost use Rattle.std.specs.Prelude.{◌≡◌, ◌<◌, ◌+◌, ◌*◌, List, length, IfOk, Some};
 ghost use Rattle.csp_text.specs.declared.script.Decl.{Decl as DeclValue};
 ghost use Rattle.csp_text.specs.declared.script.Decl.TheVariants as decl;
 ghost use Rattle.csp_text.specs.declared.token.Token.{Token as TokenValue};
+ghost use Rattle.tree_parser.specs.Reads.{Reads};
 ghost use Rattle.tree_reading.specs.Gives.{Gives};
 ghost use Rattle.tree_reading.specs.Limited.{read_declaration, read_word_declaration};
-ghost use Rattle.tree_reading.specs.Answers.{IfNoText};
-ghost use Rattle.tree_reading.specs.Settled.{Settles};
 
 use crate::assertion::assertion;
 use crate::declared::{channel, datatype, definition, nametype};
@@ -15,8 +14,8 @@ use containers::{Boxed, Items};
 use csp_base::{Name, NoMemory};
 use csp_text::{Decl, ResourceNames, RolesNames, Token, Word};
 use std::alloc::Global;
-use tree_parser::{Read, ReadFault};
-use tree_reading::fault::stopped;
+use tree_reading::fault::{ReadFault, stopped};
+use tree_reading::read::{Read, Reading};
 
 // Copies of two names.
 fn copy_pair(alloc: Global, a: &Name, b: &Name) -> Result<(Name, Name), NoMemory>
@@ -55,11 +54,7 @@ fn copy_resource(alloc: Global, names: &ResourceNames) -> Result<ResourceNames, 
 }
 
 // The annotation of these names, and what follows it.
-fn roles<'t>(
-    alloc: Global,
-    names: &Boxed<RolesNames>,
-    rest: &'t [Token],
-) -> Result<Read<'t, Decl>, ReadFault>
+fn roles<'t>(alloc: Global, names: &Boxed<RolesNames>, rest: &'t [Token]) -> Reading<'t, Decl>
     ensures { Gives {B = DeclValue × List TokenValue} result (λ r. (r.part, r.rest.now)) (Some (decl.Roles names.now, rest.now)) }
 {
     let part = Decl::Roles(copy_roles(alloc, names.get())?);
@@ -67,11 +62,7 @@ fn roles<'t>(
 }
 
 // The annotation of these names, and what follows it.
-fn resource<'t>(
-    alloc: Global,
-    names: &Boxed<ResourceNames>,
-    rest: &'t [Token],
-) -> Result<Read<'t, Decl>, ReadFault>
+fn resource<'t>(alloc: Global, names: &Boxed<ResourceNames>, rest: &'t [Token]) -> Reading<'t, Decl>
     ensures { Gives {B = DeclValue × List TokenValue} result (λ r. (r.part, r.rest.now)) (Some (decl.Resource names.now, rest.now)) }
 {
     let part = Decl::Resource(copy_resource(alloc, names.get())?);
@@ -84,10 +75,9 @@ fn word_declaration<'t>(
     word: Word,
     all: &'t [Token],
     tokens: &'t [Token],
-) -> Result<Read<'t, Decl>, ReadFault>
-    ensures read { IfOk result (λ r. Settles (λ L. read_word_declaration L word tokens.now) (Some (r.part, r.rest.now))) }
+) -> Reading<'t, Decl>
+    ensures reads { Reads result (λ r. (r.part, r.rest.now)) (8 * length tokens.now + 1) (λ L. read_word_declaration L word tokens.now) }
     ensures shorter { IfOk result (λ r. length r.rest.now < length tokens.now) }
-    ensures none { IfNoText result (Settles (λ L. read_word_declaration L word tokens.now) None) }
 {
     match word {
         Word::Channel => channel(alloc, tokens),
@@ -99,10 +89,9 @@ fn word_declaration<'t>(
 }
 
 // The declaration at the front.
-fn declaration<'t>(alloc: Global, tokens: &'t [Token]) -> Result<Read<'t, Decl>, ReadFault>
-    ensures read { IfOk result (λ r. Settles (λ L. read_declaration L tokens.now) (Some (r.part, r.rest.now))) }
+fn declaration<'t>(alloc: Global, tokens: &'t [Token]) -> Reading<'t, Decl>
+    ensures reads { Reads result (λ r. (r.part, r.rest.now)) (8 * length tokens.now) (λ L. read_declaration L tokens.now) }
     ensures shorter { IfOk result (λ r. length r.rest.now < length tokens.now) }
-    ensures none { IfNoText result (Settles (λ L. read_declaration L tokens.now) None) }
 {
     let Some((first, rest)) = tokens.split_first() else {
         return Err(stopped(tokens));
@@ -116,30 +105,19 @@ fn declaration<'t>(alloc: Global, tokens: &'t [Token]) -> Result<Read<'t, Decl>,
     }
 }
 
-// Adds the declaration at the front, and gives what follows it.
-fn push_declaration<'t>(
-    alloc: Global,
-    decls: &mut Items<Decl>,
-    tokens: &'t [Token],
-) -> Result<&'t [Token], ReadFault>
-    ensures read { IfOk result (λ rest. (d : DeclValue) × Settles (λ L. read_declaration L tokens.now) (Some (d, rest.now)) × (decls.new ≡ decls.old ++ d ∷ [])) }
-    ensures shorter { IfOk result (λ rest. length rest.now < length tokens.now) }
-    ensures none { IfNoText result (Settles (λ L. read_declaration L tokens.now) None) }
-{
-    let found = declaration(alloc, tokens)?;
-    decls.push(found.part)?;
-    Ok(found.rest)
-}
-
 // The declarations that the tokens are, one after another.
 pub(crate) fn declarations(alloc: Global, tokens: &[Token]) -> Result<Items<Decl>, ReadFault>
-    ensures read { IfOk result (λ decls. Settles (λ L. L.declarations tokens.now) (Some decls)) }
-    ensures none { IfNoText result (Settles (λ L. L.declarations tokens.now) None) }
+    ensures reads { Reads result (λ decls. decls) (8 * length tokens.now + 1) (λ L. L.declarations tokens.now) }
 {
     let mut decls = Items::new(alloc);
     let mut rest = tokens;
     while !rest.is_empty() {
-        rest = push_declaration(alloc, &mut decls, rest)?;
+        let found = match declaration(alloc, rest) {
+            Ok(found) => found,
+            Err(fault) => return Err(fault),
+        };
+        decls.push(found.part)?;
+        rest = found.rest;
     }
     Ok(decls)
 }

@@ -1,9 +1,4 @@
-pub mod Answering
-pub mod Combining
+pub mod Counted
+pub mod Depths
 pub mod ListSteps
-pub mod OperandSteps
-pub mod PlainSteps
-pub mod ProcessSteps
-pub mod Steps
-pub mod Then
-pub mod Turns
+pub mod SoFar

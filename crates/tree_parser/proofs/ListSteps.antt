@@ -1,141 +1,238 @@
--- Steps behind operators, parts and generators come to what the reader of the grammar makes of them.
-use Rattle.std.proofs.Common.{◌≡◌, ℕ, Some, List, [], ◌∷◌, ◌++◌, refl, ap, subst}
+-- Lists, one item after another.
+use Rattle.std.proofs.Common.{◌≡◌, ℕ, suc, Bool, true, false, if◌then◌else◌, ◌+◌, ◌*◌, ◌-◌, ◌<◌, ◌≤◌, Option, Some, None, List, [], ◌∷◌, ◌++◌, length, Ok, Err, refl, sym, ap, subst, ◌∙◌, append_assoc, arith}
+use Rattle.std.specs.Prelude.{Result}
 use Rattle.csp_text.specs.declared.token.Token.{Token}
+use Rattle.csp_text.specs.declared.token.Symbol.{Symbol}
 use Rattle.csp_text.specs.declared.token.Symbol.TheVariants as symbol
 use Rattle.csp_text.specs.declared.tree.Tree.{Tree}
-use Rattle.csp_text.specs.declared.tree.Tree.TheVariants as tree
-use Rattle.csp_text.specs.declared.tree.PartTree.{PartTree}
-use Rattle.csp_text.specs.declared.tree.GenTree.{GenTree}
-use Rattle.csp_text.specs.declared.tree.GenTree.TheVariants as generator
-use Rattle.csp_grammar.specs.Grammar.{part_tree}
-use Rattle.csp_grammar.specs.Reader.{and_then, dotted_tree}
+use Rattle.csp_grammar.specs.Reader.{Reading, and_then, case}
 use Rattle.csp_grammar.specs.Tokens.{skip}
-use Rattle.tree_reading.specs.Limited.{read_conditions, read_part, read_with}
-use Rattle.tree_reading.specs.Nesting.{around, bracketed}
-use Rattle.tree_reading.specs.Starts.{named}
+use Rattle.tree_reading.specs.Bindings.{Found, at_least, last_item, of_process}
+use Rattle.tree_reading.specs.Nesting.{sure}
+use Rattle.tree_reading.specs.Starts.{chain_symbol}
+use Rattle.tree_reading.specs.declared.look.Chain.{Chain}
+use Rattle.csp_text.specs.declared.tree.FieldTree.{FieldTree}
+use Rattle.tree_reading.specs.Limited.{Limited, limited, next_limited, read_field}
+use Rattle.tree_reading.specs.declared.fault.ReadFault.{ReadFault}
+use Rattle.tree_reading.specs.declared.fault.ReadFault.TheVariants as fault
 use Rattle.tree_reading.specs.declared.limits.Limits.{Limits}
 use Rattle.tree_reading.specs.declared.read.Binding.{Binding}
 use Rattle.tree_reading.specs.declared.read.Binding.TheVariants as binding
-use Rattle.parser_expression_steps.specs.Moved.{FoundTree}
-use Rattle.parser_expression_steps.specs.declared.form.Form.TheVariants as form
-use Rattle.parser_expression_steps.specs.declared.form.GeneratorsOf.{GeneratorsOf}
-use Rattle.parser_expression_steps.specs.declared.form.GeneratorsOf.TheVariants as generators_of
-use Rattle.parser_expression_steps.specs.declared.form.PartOf.{PartOf}
-use Rattle.parser_expression_steps.specs.declared.form.PartOf.TheVariants as part_of
-use Rattle.parser_expression_steps.specs.declared.form.Renaming.{Renaming}
-use Rattle.parser_expression_steps.specs.declared.frame.ListFrame.{ListFrame}
-use Rattle.parser_expression_steps.specs.declared.frame.ListFrame.TheVariants as waiting
-use Rattle.tree_reading.specs.declared.look.Sign.{Sign}
-use Rattle.tree_reading.specs.declared.look.Sign.TheVariants as sign
-use Rattle.tree_reading.specs.Starts.{sign_behind}
-use Rattle.parser_expression_steps.specs.Expressions.{move_operators, move_sign, renaming_of}
-use Rattle.parser_expression_steps.specs.Lists.{end_generators, end_pair, end_part, end_product_part, move_conditions, move_dots, move_generator, move_generators, move_part, resume_list, with_pair}
-use Rattle.tree_parser.proofs.Combining.{StepGives, by_case, by_found, by_look, split}
-use Rattle.tree_parser.specs.Meaning.{ConditionsEnd, FormGives, GeneratorsEnd, ListGives, PairEnd, PartEnd, generators_after, parts_after, with_pairs}
-use Rattle.tree_parser.specs.Then.{Outcome, Then}
-use Rattle.tree_parser.proofs.Then.{assoc, change, done, later, put}
+use Rattle.tree_parser.specs.Reads.{Reads, read_operand}
+use Rattle.tree_parser.proofs.Counted.{counted}
+use Rattle.tree_parser.proofs.SoFar.{ChoicesSoFar, Comes, SoFar, ItemsSoFar, behind, behind_choices, behind_items}
 
-append_one : {A : Type 0} (xs : List A) (x : A) (ys : List A) → (xs ++ x ∷ []) ++ ys ≡ xs ++ x ∷ ys
-append_one [] x ys = refl
-append_one (y ∷ xs) x ys = ap (λ zs. y ∷ zs) (append_one xs x ys)
+-- one call more
+pub later : {A : Type 0} (F : Limited → Option A) (n m : ℕ) (o : Option A) → Comes n (λ L. F (next_limited L)) o → suc n ≤ m → Comes m F o
+later F n m o c le f h = let some : 1 ≤ f = omega arith in let less : n ≤ f - 1 = omega arith in ap F (counted f some) ∙ c (f - 1) less
 
-append_none : {A : Type 0} (xs : List A) → xs ≡ xs ++ []
-append_none [] = refl
-append_none (y ∷ xs) = ap (λ zs. y ∷ zs) (append_none xs)
+-- nothing of a list is read
+behind_none : {A : Type 0} (o : Reading (List A)) → behind [] o ≡ o
+behind_none None = refl
+behind_none (Some q) = refl
 
-pub one_longer : {A : Type 0} (P : List A → Type 0) (xs : List A) (x : A) (ys : List A) → P ((xs ++ x ∷ []) ++ ys) → P (xs ++ x ∷ ys)
-one_longer P xs x ys h = subst P (append_one xs x ys) h
+pub nothing_read : {A : Type 0} (n : ℕ) (F : Limited → Reading (List A)) → SoFar n F [] n F
+nothing_read n F = record { goes_on = λ o c f le. c f le ∙ sym (behind_none o) }
 
-pub no_longer : {A : Type 0} (P : List A → Type 0) (xs : List A) → P xs → P (xs ++ [])
-no_longer P xs h = subst P (append_none xs) h
+behind_one : {A : Type 0} (done : List A) (a : A) (o : Reading (List A)) → behind done (behind (a ∷ []) o) ≡ behind (done ++ a ∷ []) o
+behind_one done a None = refl
+behind_one done a (Some q) = ap (λ x. Some (x, q.1)) (sym (append_assoc done (a ∷ []) q.0))
 
-module _ (K : FoundTree → Outcome → Type 0) (s : Outcome) where
-  -- a part that is read, whatever it belongs to
-  part_read : (m : Limits) (ts : List Token) (N : PartTree × List Token → Outcome → Type 0) →
-      Then (λ L. named ts) (λ c. Then (λ L. L.dots m c.1) (λ q s. N (part_tree c.0 q.0, q.1) s)) s → Then (λ L. read_part L m ts) N s
-  part_read m ts N h = assoc _ (change (λ c k. put _ k) h)
+-- one more in front of what is left
+pub one_more : {A : Type 0} {n m k : ℕ} {F G H : Limited → Reading (List A)} {done new : List A} (a : A) → SoFar n F done m G → new ≡ done ++ a ∷ [] →
+    ((o : Reading (List A)) → Comes k H o → Comes m G (behind (a ∷ []) o)) → SoFar n F new k H
+one_more {A} {n} {m} {k} {F} {G} {H} {done} {new} a s e go = record {
+  goes_on = λ o c f le. s.goes_on (behind (a ∷ []) o) (go o c) f le ∙ behind_one done a o ∙ ap (λ d. behind d o) (sym e);
+}
 
-  parts_read : (m : Limits) (before : List PartTree) (ts : List Token) → FormGives (form.Part (part_of.Product before)) m ts K s →
-      Then (λ L. L.parts m ts) (λ q s. ConditionsEnd m (generators_of.Product (before ++ q.0)) q.1 K s) s
-  parts_read m before ts h = later (assoc _ (part_read m ts _ h))
+-- LISTS WITH A SIGN BETWEEN THEIR ITEMS
 
-  pub pairs_read : (m : Limits) (r : Renaming) (ts : List Token) → FormGives (form.Part (part_of.Old r)) m ts K s →
-      Then (λ L. L.pairs m ts) (λ q s. ConditionsEnd m (generators_of.Renaming (with_pairs r q.0)) q.1 K s) s
-  pairs_read m r ts h = later (assoc _ (assoc _ (part_read m ts _ h)))
+abbrev pub listed : {A : Type 0} → Symbol → Reading A → (List Token → Reading (List A)) → Reading (List A)
+listed sign one more = and_then one λ p. case (skip sign p.1) (λ us. and_then (more us) λ q. Some (p.0 ∷ q.0, q.1)) (λ _. Some (p.0 ∷ [], p.1))
 
-  pub product_read : (m : Limits) (ts : List Token) → FormGives (form.Part (part_of.Product [])) m ts K s →
-      Then {A = Tree × List Token} (λ L. and_then (L.parts m ts) λ p. and_then (read_conditions L m p.1) λ q. and_then (skip symbol.CloseProduct q.1) λ us. Some (tree.Product p.0 q.0, us)) (λ q. K (binding.Atom, q.0, q.1)) s
-  product_read m ts h = assoc _ (change (λ q k. assoc _ k) (parts_read m [] ts h))
+-- a list whose reader asks for one item and then for the rest
+module _ {A : Type 0} (sign : Symbol) (one : Limited → List Token → Reading A) (list : Limited → List Token → Reading (List A))
+    (unfolds : (L : Limited) (ts : List Token) → list (next_limited L) ts ≡ listed sign (one L ts) (list L)) where
+  stepped : (ts : List Token) (n m : ℕ) (o : Reading (List A)) → ((f : ℕ) → n ≤ f → listed sign (one (limited f) ts) (list (limited f)) ≡ o) → suc n ≤ m → Comes m (λ L. list L ts) o
+  stepped ts n m o c le = later (λ L. list L ts) n m o (λ f h. unfolds (limited f) ts ∙ c f h) le
 
--- a tree with the renaming behind it, and what follows
-renaming_read : (K : FoundTree → Outcome → Type 0) (s : Outcome) (l : Limits) (level : Binding) (t : Tree) (m : Limits) (ts : List Token) →
-    FormGives (form.Part (part_of.Old (renaming_of l level t))) m ts K s →
-    Then {A = Tree × List Token} (λ L. and_then (L.pairs m ts) λ p. and_then (read_conditions L m p.1) λ q. and_then (skip symbol.CloseRename q.1) λ vs. Some (tree.Rename t p.0 q.0, vs))
-    (λ q. Then (λ L. L.operators l level binding.Renaming q.0 q.1) K) s
-renaming_read K s l level t m ts h = assoc _ (change (λ q k. assoc _ k) (pairs_read K s m (renaming_of l level t) ts h))
+  pub next_item : {n p m k : ℕ} {F : Limited → Reading (List A)} {done new : List A} {a : A} {ts us vs : List Token} → SoFar n F done m (λ L. list L ts) → new ≡ done ++ a ∷ [] →
+      Comes p (λ L. one L ts) (Some (a, us)) → skip sign us ≡ Some vs → suc p ≤ m → suc k ≤ m → SoFar n F new k (λ L. list L vs)
+  next_item {n} {p} {m} {k} {F} {done} {new} {a} {ts} {us} {vs} s e c is low less = one_more a s e λ o h.
+      stepped ts (m - 1) m (behind (a ∷ []) o) (λ f le.
+      let fp : p ≤ f = omega arith in let fk : k ≤ f = omega arith in
+      ap (λ x. listed sign x (list (limited f))) (c f fp)
+      ∙ ap (λ x. case x (λ ws. behind (a ∷ []) (list (limited f) ws)) (λ _. Some (a ∷ [], us))) is
+      ∙ ap (behind (a ∷ [])) (h f fk)) (omega arith)
 
-sign_step : (K : FoundTree → Outcome → Type 0) (s : Outcome) (l : Limits) (level : Binding) (t : Tree) (g : Sign) (ts : List Token) → StepGives (move_sign l level t g ts) K s →
-    Then (λ L. read_with L l t g ts) (λ p. Then (λ L. L.operators l level p.0 p.1 p.2) K) s
-sign_step K s l level t (sign.Operator op k) ts h = by_look K (around l t) _ _ h (λ e h. put _ h)
-sign_step K s l level t sign.Renaming ts h = by_look K (around l t) _ _ (split K s (around l t) _ _ h) (λ e h. put _ (by_look K (bracketed e) _ _ h (λ m h. renaming_read K s l level t m ts h)))
+  pub last_item_read : {n p m : ℕ} {F : Limited → Reading (List A)} {done new : List A} {a : A} {ts us : List Token} → SoFar n F done m (λ L. list L ts) → new ≡ done ++ a ∷ [] →
+      Comes p (λ L. one L ts) (Some (a, us)) → skip sign us ≡ None → suc p ≤ m → Comes n F (Some (new, us))
+  last_item_read {n} {p} {m} {F} {done} {new} {a} {ts} {us} s e c is low = λ g lg.
+      s.goes_on (Some (a ∷ [], us)) (stepped ts p m (Some (a ∷ [], us)) (λ f le.
+      ap (λ x. listed sign x (list (limited f))) (c f le) ∙ ap (λ x. case x (λ ws. behind (a ∷ []) (list (limited f) ws)) (λ _. Some (a ∷ [], us))) is) low) g lg
+      ∙ ap (λ d. Some (d, us)) (sym e)
 
-pub operators_step : (K : FoundTree → Outcome → Type 0) (s : Outcome) (l : Limits) (level k : Binding) (t : Tree) (ts : List Token) → StepGives (move_operators l level k t ts) K s →
-    Then (λ L. L.operators l level k t ts) K s
-operators_step K s l level k t ts h = later (by_case K (sign_behind level k ts) _ _ _ _ h (λ g h. assoc _ (sign_step K s l level t g.0 g.1 h)) (λ h. done h))
+  pub item_missing : {B C : Type 0} {n p m : ℕ} {F : Limited → Reading (List A)} {done : List A} {ts : List Token} (seen : B → A × List Token) (shown : C → List A × List Token) (r : ReadFault) →
+      SoFar n F done m (λ L. list L ts) → Reads (Err r) seen p (λ L. one L ts) → suc p ≤ m → Reads (Err r) shown n F
+  item_missing seen shown fault.NoMemory s c low = λ g lg. tt
+  item_missing {n = n} {p = p} {m = m} {ts = ts} seen shown (fault.NoText left) s c low = s.goes_on None (stepped ts p m None (λ f le. ap (λ x. listed sign x (list (limited f))) (c f le)) low)
 
-generators_end : (K : FoundTree → Outcome → Type 0) (s : Outcome) (of : GeneratorsOf) (gens : List GenTree) (ts : List Token) → StepGives (end_generators of gens ts) K s →
-    GeneratorsEnd of gens ts K s
-generators_end K s (generators_of.Comprehension items) gens ts h = by_look K (skip symbol.CloseBrace ts) _ _ h (λ us h. done h)
-generators_end K s (generators_of.Product parts) gens ts h = by_look K (skip symbol.CloseProduct ts) _ _ h (λ us h. done h)
-generators_end K s (generators_of.Renaming r) gens ts h =
-    by_look K (skip symbol.CloseRename ts) _ _ h (λ us h. done (operators_step K s r.limits r.level binding.Renaming (tree.Rename r.left r.pairs gens) us h))
+-- FIELDS WITH A DOT BEFORE EACH
 
-conditions_end : (K : FoundTree → Outcome → Type 0) (s : Outcome) (m : Limits) (of : GeneratorsOf) (ts : List Token) → StepGives (move_conditions m of ts) K s →
-    ConditionsEnd m of ts K s
-conditions_end K s m of ts h = by_case K (skip symbol.Bar ts) _ _ _ _ h (λ us h. h) (λ h. done (generators_end K s of [] ts h))
+no_more : {A : Type 0} (done : List A) → done ++ [] ≡ done
+no_more [] = refl
+no_more (a ∷ done) = ap (λ d. a ∷ d) (no_more done)
 
-pub generators_step : (K : FoundTree → Outcome → Type 0) (s : Outcome) (m : Limits) (of : GeneratorsOf) (gens : List GenTree) (ts : List Token) →
-    StepGives (move_generators m of gens ts) K s → FormGives (form.Generators of gens) m ts K s
-generators_step K s m of gens ts h =
-    later (assoc _ (by_case K (named ts) _ _ _ _ h (λ x h. by_case K (skip symbol.LeftArrow x.1) _ _ _ _ h (λ us h. put _ h) (λ h. put _ h)) (λ h. put _ h)))
+pub dot : {n p m k : ℕ} {F : Limited → Reading (List Tree)} {done new : List Tree} {b : Binding} {a : Tree} {l : Limits} {ts us vs : List Token} → SoFar n F done m (λ L. L.dots l ts) → new ≡ done ++ a ∷ [] →
+    skip symbol.Dot ts ≡ Some us → Comes p (λ L. L.expression l binding.Sum us) (Some (b, a, vs)) → suc p ≤ m → suc k ≤ m → SoFar n F new k (λ L. L.dots l vs)
+dot {n} {p} {m} {k} {F} {done} {new} {b} {a} {l} {ts} {us} {vs} s e is c low less = one_more a s e λ o h.
+    later (λ L. L.dots l ts) (m - 1) m (behind (a ∷ []) o) (λ f le.
+    let fp : p ≤ f = omega arith in let fk : k ≤ f = omega arith in
+    ap (λ x. case x (λ ws. and_then ((limited f).expression l binding.Sum ws) λ q. behind (q.1 ∷ []) ((limited f).dots l q.2)) (λ _. Some ([], ts))) is
+    ∙ ap (λ x. and_then x λ q. behind (q.1 ∷ []) ((limited f).dots l q.2)) (c f fp)
+    ∙ ap (behind (a ∷ [])) (h f fk)) (omega arith)
 
-pub generator_step : (K : FoundTree → Outcome → Type 0) (s : Outcome) (m : Limits) (of : GeneratorsOf) (gens : List GenTree) (g : GenTree) (ts : List Token) →
-    StepGives (move_generator m of (gens ++ g ∷ []) ts) K s → Then (λ L. generators_after L m (g, ts)) (λ q s. GeneratorsEnd of (gens ++ q.0) q.1 K s) s
-generator_step K s m of gens g ts h =
-    by_case K (skip symbol.Comma ts) _ _ _ _ h (λ us h. put _ (change (λ q k. one_longer (λ xs. GeneratorsEnd of xs q.1 K s) gens g q.0 k) h)) (λ h. done (generators_end K s of (gens ++ g ∷ []) ts h))
+pub no_dot : {n m : ℕ} {F : Limited → Reading (List Tree)} {done : List Tree} {l : Limits} {ts : List Token} → SoFar n F done m (λ L. L.dots l ts) → skip symbol.Dot ts ≡ None → 1 ≤ m → Comes n F (Some (done, ts))
+no_dot {n} {m} {F} {done} {l} {ts} s is some = λ g lg.
+    s.goes_on (Some ([], ts)) (later (λ L. L.dots l ts) 0 m (Some ([], ts)) (λ f le.
+    ap (λ x. case x (λ ws. and_then ((limited f).expression l binding.Sum ws) λ q. behind (q.1 ∷ []) ((limited f).dots l q.2)) (λ _. Some ([], ts))) is) some) g lg
+    ∙ ap (λ d. Some (d, ts)) (no_more done)
 
-product_end : (K : FoundTree → Outcome → Type 0) (s : Outcome) (m : Limits) (before : List PartTree) (part : PartTree) (ts : List Token) → StepGives (end_product_part m before part ts) K s →
-    Then (λ L. parts_after L m (part, ts)) (λ q s. ConditionsEnd m (generators_of.Product (before ++ q.0)) q.1 K s) s
-product_end K s m before part ts h =
-    by_case K (skip symbol.Comma ts) _ _ _ _ h
-    (λ us h. put _ (change (λ q k. one_longer (λ xs. ConditionsEnd m (generators_of.Product xs) q.1 K s) before part q.0 k) (parts_read K s m (before ++ part ∷ []) us h)))
-    (λ h. done (conditions_end K s m (generators_of.Product (before ++ part ∷ [])) ts h))
+pub dot_fails : {B C : Type 0} {n p m : ℕ} {F : Limited → Reading (List Tree)} {done : List Tree} {l : Limits} {ts us : List Token} (seen : B → Binding × Tree × List Token) (shown : C → List Tree × List Token) (r : ReadFault) →
+    SoFar n F done m (λ L. L.dots l ts) → skip symbol.Dot ts ≡ Some us → Reads (Err r) seen p (λ L. L.expression l binding.Sum us) → suc p ≤ m → Reads (Err r) shown n F
+dot_fails seen shown fault.NoMemory s is c low = λ g lg. tt
+dot_fails {p = p} {m = m} {l = l} {ts = ts} seen shown (fault.NoText left) s is c low = s.goes_on None (later (λ L. L.dots l ts) p m None (λ f le.
+    ap (λ x. case x (λ ws. and_then ((limited f).expression l binding.Sum ws) λ q. behind (q.1 ∷ []) ((limited f).dots l q.2)) (λ _. Some ([], ts))) is
+    ∙ ap (λ x. and_then x λ q. behind (q.1 ∷ []) ((limited f).dots l q.2)) (c f le)) low)
 
-pair_end : (K : FoundTree → Outcome → Type 0) (s : Outcome) (m : Limits) (r : Renaming) (old new : PartTree) (ts : List Token) → StepGives (end_pair m r old new ts) K s →
-    PairEnd m r ((old, new), ts) K s
-pair_end K s m r old new ts h =
-    by_case K (skip symbol.Comma ts) _ _ _ _ h
-    (λ us h. put _ (change (λ q k. one_longer (λ xs. ConditionsEnd m (generators_of.Renaming (record { limits = r.limits; level = r.level; left = r.left; pairs = xs })) q.1 K s) r.pairs (old, new) q.0 k)
-    (pairs_read K s m (with_pair r old new) us h)))
-    (λ h. done (conditions_end K s m (generators_of.Renaming (with_pair r old new)) ts h))
+-- ITEMS
 
-part_end : (K : FoundTree → Outcome → Type 0) (s : Outcome) (m : Limits) (of : PartOf) (c : List ℕ) (fields : List Tree) (ts : List Token) → StepGives (end_part m of c fields ts) K s →
-    PartEnd m of c fields ts K s
-part_end K s m part_of.Item c fields ts h = by_look K (dotted_tree c fields) _ _ h (λ t h. done h)
-part_end K s m (part_of.Product before) c fields ts h = product_end K s m before (part_tree c fields) ts h
-part_end K s m (part_of.Old r) c fields ts h = by_look K (skip symbol.LeftArrow ts) _ _ h (λ us h. put _ (part_read K s m us _ h))
-part_end K s m (part_of.New r old) c fields ts h = pair_end K s m r old (part_tree c fields) ts h
+items_none : (o : Found (List Tree)) → behind_items [] o ≡ o
+items_none None = refl
+items_none (Some q) = refl
 
-pub dots_step : (K : FoundTree → Outcome → Type 0) (s : Outcome) (m : Limits) (of : PartOf) (c : List ℕ) (fields : List Tree) (ts : List Token) → StepGives (move_dots m of c fields ts) K s →
-    Then (λ L. L.dots m ts) (λ q s. PartEnd m of c (fields ++ q.0) q.1 K s) s
-dots_step K s m of c fields ts h =
-    later (by_case K (skip symbol.Dot ts) _ _ _ _ h (λ us h. assoc _ (change (λ p k. put _ k) h)) (λ h. done (no_longer (λ xs. PartEnd m of c xs ts K s) fields (part_end K s m of c fields ts h))))
+pub nothing_found : (n : ℕ) (F : Limited → Found (List Tree)) → ItemsSoFar n F [] n F
+nothing_found n F = record { goes_on = λ o c f le. c f le ∙ sym (items_none o) }
 
-pub part_step : (K : FoundTree → Outcome → Type 0) (s : Outcome) (m : Limits) (of : PartOf) (ts : List Token) → StepGives (move_part m of ts) K s → FormGives (form.Part of) m ts K s
-part_step K s m of ts h = by_found K (named ts) _ h (λ c h. dots_step K s m of c.0 [] c.1 h)
+dotted_last : (done : List Tree) (a : Tree) (k : Binding) → last_item done binding.Dotted ≡ last_item (done ++ a ∷ []) k
+dotted_last [] a k = refl
+dotted_last (b ∷ done) a k = refl
 
-pub list_resumed : (K : FoundTree → Outcome → Type 0) (s : Outcome) (w : ListFrame) (p : FoundTree) → StepGives (resume_list w p.1 p.2) K s → ListGives w p K s
-list_resumed K s (waiting.Dot m of c fields) p h =
-    change (λ q k. one_longer (λ xs. PartEnd m of c xs q.1 K s) fields p.1 q.0 k) (dots_step K s m of c (fields ++ p.1 ∷ []) p.2 h)
-list_resumed K s (waiting.Source m of gens x) p h = generator_step K s m of gens (generator.From x p.1) p.2 h
-list_resumed K s (waiting.Condition m of gens) p h = generator_step K s m of gens (generator.Cond p.1) p.2 h
+items_one : (done : List Tree) (a : Tree) (o : Found (List Tree)) → behind_items done (behind_items (a ∷ []) o) ≡ behind_items (done ++ a ∷ []) o
+items_one done a None = refl
+items_one done a (Some q) = ap (λ x. Some (last_item done binding.Dotted, x, q.2)) (sym (append_assoc done (a ∷ []) q.1)) ∙ ap (λ k. Some (k, (done ++ a ∷ []) ++ q.1, q.2)) (dotted_last done a q.0)
+
+abbrev pub items_behind : Option (Binding × Tree × List Token) → (List Token → Found (List Tree)) → Found (List Tree)
+items_behind one more = and_then one λ p. case (skip symbol.Comma p.2) (λ us. behind_items (p.1 ∷ []) (more us)) (λ _. Some (p.0, p.1 ∷ [], p.2))
+
+module _ (one : Limited → List Token → Found Tree) (l : Limits) (unfolds : (L : Limited) (ts : List Token) → (next_limited L).items l ts ≡ items_behind (one L ts) (L.items l)) where
+  items_stepped : (ts : List Token) (n m : ℕ) (o : Found (List Tree)) → ((f : ℕ) → n ≤ f → items_behind (one (limited f) ts) ((limited f).items l) ≡ o) → suc n ≤ m → Comes m (λ L. L.items l ts) o
+  items_stepped ts n m o c le = later (λ L. L.items l ts) n m o (λ f h. unfolds (limited f) ts ∙ c f h) le
+
+  pub more_items : {n p m k : ℕ} {F : Limited → Found (List Tree)} {done new : List Tree} {b : Binding} {a : Tree} {ts us vs : List Token} → ItemsSoFar n F done m (λ L. L.items l ts) → new ≡ done ++ a ∷ [] →
+      Comes p (λ L. one L ts) (Some (b, a, us)) → skip symbol.Comma us ≡ Some vs → suc p ≤ m → suc k ≤ m → ItemsSoFar n F new k (λ L. L.items l vs)
+  more_items {n} {p} {m} {k} {F} {done} {new} {b} {a} {ts} {us} {vs} s e c is low less = record {
+    goes_on = λ o h g lg. s.goes_on (behind_items (a ∷ []) o)
+        (items_stepped ts (m - 1) m (behind_items (a ∷ []) o) (λ f le.
+        let fp : p ≤ f = omega arith in let fk : k ≤ f = omega arith in
+        ap (λ x. items_behind x ((limited f).items l)) (c f fp)
+        ∙ ap (λ x. case x (λ ws. behind_items (a ∷ []) ((limited f).items l ws)) (λ _. Some (b, a ∷ [], us))) is
+        ∙ ap (behind_items (a ∷ [])) (h f fk)) (omega arith)) g lg ∙ items_one done a o ∙ ap (λ d. behind_items d o) (sym e);
+  }
+
+  pub last_of_items : {n p m : ℕ} {F : Limited → Found (List Tree)} {done new : List Tree} {b k : Binding} {a : Tree} {ts us : List Token} → ItemsSoFar n F done m (λ L. L.items l ts) → new ≡ done ++ a ∷ [] → k ≡ last_item done b →
+      Comes p (λ L. one L ts) (Some (b, a, us)) → skip symbol.Comma us ≡ None → suc p ≤ m → Comes n F (Some (k, new, us))
+  last_of_items {n} {p} {m} {F} {done} {new} {b} {k} {a} {ts} {us} s e kb c is low = λ g lg.
+      s.goes_on (Some (b, a ∷ [], us)) (items_stepped ts p m (Some (b, a ∷ [], us)) (λ f le.
+      ap (λ x. items_behind x ((limited f).items l)) (c f le) ∙ ap (λ x. case x (λ ws. behind_items (a ∷ []) ((limited f).items l ws)) (λ _. Some (b, a ∷ [], us))) is) low) g lg
+      ∙ ap (λ d. Some (last_item done b, d, us)) (sym e) ∙ ap (λ x. Some (x, new, us)) (sym kb)
+
+  pub items_stop : {B C : Type 0} {n p m : ℕ} {F : Limited → Found (List Tree)} {done : List Tree} {ts : List Token} (seen : B → Binding × Tree × List Token) (shown : C → Binding × List Tree × List Token) (r : ReadFault) →
+      ItemsSoFar n F done m (λ L. L.items l ts) → Reads (Err r) seen p (λ L. one L ts) → suc p ≤ m → Reads (Err r) shown n F
+  items_stop seen shown fault.NoMemory s c low = λ g lg. tt
+  items_stop {n = n} {p = p} {m = m} {ts = ts} seen shown (fault.NoText left) s c low = s.goes_on None (items_stepped ts p m None (λ f le. ap (λ x. items_behind x ((limited f).items l)) (c f le)) low)
+
+-- FIELDS OF AN EVENT
+
+pub field : {n p m k : ℕ} {F : Limited → Reading (List FieldTree)} {done new : List FieldTree} {a : FieldTree} {d e : Bool} {l : Limits} {ts vs : List Token} {x : Option (FieldTree × Bool × List Token)} → SoFar n F done m (λ L. L.fields l d ts) → new ≡ done ++ a ∷ [] →
+    Comes p (λ L. read_field L l d ts) (Some x) → x ≡ Some (a, e, vs) → suc p ≤ m → suc k ≤ m → SoFar n F new k (λ L. L.fields l e vs)
+field {n} {p} {m} {k} {F} {done} {new} {a} {d} {e} {l} {ts} {vs} {x} s is c there low less = one_more a s is λ o h.
+    later (λ L. L.fields l d ts) (m - 1) m (behind (a ∷ []) o) (λ f le.
+    let fp : p ≤ f = omega arith in let fk : k ≤ f = omega arith in
+    ap (λ x. and_then x λ o. case o (λ q. behind (q.0 ∷ []) ((limited f).fields l q.1 q.2)) (λ _. Some ([], ts))) (c f fp ∙ ap (λ y. Some y) there)
+    ∙ ap (behind (a ∷ [])) (h f fk)) (omega arith)
+
+pub no_field : {n p m : ℕ} {F : Limited → Reading (List FieldTree)} {done : List FieldTree} {d : Bool} {l : Limits} {ts : List Token} {x : Option (FieldTree × Bool × List Token)} → SoFar n F done m (λ L. L.fields l d ts) →
+    Comes p (λ L. read_field L l d ts) (Some x) → x ≡ None → suc p ≤ m → Comes n F (Some (done, ts))
+no_field {n} {p} {m} {F} {done} {d} {l} {ts} {x} s c there low = λ g lg.
+    s.goes_on (Some ([], ts)) (later (λ L. L.fields l d ts) p m (Some ([], ts)) (λ f le.
+    ap (λ x. and_then x λ o. case o (λ q. behind (q.0 ∷ []) ((limited f).fields l q.1 q.2)) (λ _. Some ([], ts))) (c f le ∙ ap (λ y. Some y) there)) low) g lg
+    ∙ ap (λ x. Some (x, ts)) (no_more done)
+
+pub field_fails : {B C : Type 0} {n p m : ℕ} {F : Limited → Reading (List FieldTree)} {done : List FieldTree} {d : Bool} {l : Limits} {ts : List Token} (seen : B → Option (FieldTree × Bool × List Token)) (shown : C → List FieldTree × List Token) (r : ReadFault) →
+    SoFar n F done m (λ L. L.fields l d ts) → Reads (Err r) seen p (λ L. read_field L l d ts) → suc p ≤ m → Reads (Err r) shown n F
+field_fails seen shown fault.NoMemory s c low = λ g lg. tt
+field_fails {p = p} {m = m} {d = d} {l = l} {ts = ts} seen shown (fault.NoText left) s c low = s.goes_on None (later (λ L. L.fields l d ts) p m None (λ f le.
+    ap (λ x. and_then x λ o. case o (λ q. behind (q.0 ∷ []) ((limited f).fields l q.1 q.2)) (λ _. Some ([], ts))) (c f le)) low)
+
+-- OPERANDS OF A CHOICE
+
+choices_one : (done : List Tree) (a : Tree) (o : Found (List Tree)) → behind_choices done (behind_choices (a ∷ []) o) ≡ behind_choices (done ++ a ∷ []) o
+choices_one done a None = refl
+choices_one done a (Some q) = ap (λ x. Some (q.0, x, q.2)) (sym (append_assoc done (a ∷ []) q.1))
+
+-- a choice goes on with what its reader gives behind this operand
+abbrev pub choices_behind : (List Token → Found (List Tree)) → Option (Binding × Tree × Bool × List Token) → Found (List Tree)
+choices_behind more o = and_then o λ q. if q.2 then behind_choices (q.1 ∷ []) (more q.3) else Some (q.0, q.1 ∷ [], q.3)
+
+module _ (more : List Token → Found (List Tree)) (b : Binding) (a : Tree) (us : List Token) where
+  gone_on : (ok : Bool) (vs : List Token) → and_then (sure ok) (λ _. behind_choices (a ∷ []) (more vs)) ≡ choices_behind more (and_then (sure ok) λ _. Some (b, a, true, vs))
+  gone_on false vs = refl
+  gone_on true vs = refl
+
+  behind_operand : (o : Option (List Token)) → case o (λ vs. and_then (sure (at_least binding.Closed b)) λ _. behind_choices (a ∷ []) (more vs)) (λ _. Some (of_process b, a ∷ [], us))
+      ≡ choices_behind more (case o (λ vs. and_then (sure (at_least binding.Closed b)) λ _. Some (b, a, true, vs)) (λ _. Some (of_process b, a, false, us)))
+  behind_operand None = refl
+  behind_operand (Some vs) = gone_on (at_least binding.Closed b) vs
+
+  open_operand : (ok : Bool) (o : Option (List Token)) →
+      and_then (sure ok) (λ _. case o (λ vs. and_then (sure (at_least binding.Closed b)) λ _. behind_choices (a ∷ []) (more vs)) (λ _. Some (of_process b, a ∷ [], us)))
+      ≡ choices_behind more (and_then (sure ok) λ _. case o (λ vs. and_then (sure (at_least binding.Closed b)) λ _. Some (b, a, true, vs)) (λ _. Some (of_process b, a, false, us)))
+  open_operand false o = refl
+  open_operand true o = behind_operand o
+
+whole_operand : (more : List Token → Found (List Tree)) (chain : Chain) (o : Found Tree) →
+    and_then o (λ p. and_then (sure (at_least binding.Open p.0)) λ _. case (skip (chain_symbol chain) p.2) (λ vs. and_then (sure (at_least binding.Closed p.0)) λ _. behind_choices (p.1 ∷ []) (more vs)) (λ _. Some (of_process p.0, p.1 ∷ [], p.2)))
+    ≡ choices_behind more (and_then o λ p. and_then (sure (at_least binding.Open p.0)) λ _. case (skip (chain_symbol chain) p.2) (λ vs. and_then (sure (at_least binding.Closed p.0)) λ _. Some (p.0, p.1, true, vs)) (λ _. Some (of_process p.0, p.1, false, p.2)))
+whole_operand more chain None = refl
+whole_operand more chain (Some p) = open_operand more p.0 p.1 p.2 (at_least binding.Open p.0) (skip (chain_symbol chain) p.2)
+
+choices_unfold : (L : Limited) (l : Limits) (chain : Chain) (ts : List Token) → (next_limited L).choices l chain ts ≡ choices_behind (L.choices l chain) (read_operand L l chain ts)
+choices_unfold L l chain ts = whole_operand (L.choices l chain) chain (L.sequence l ts)
+
+choices_stepped : (l : Limits) (chain : Chain) (ts : List Token) (n m : ℕ) (o : Found (List Tree)) → ((f : ℕ) → n ≤ f → choices_behind ((limited f).choices l chain) (read_operand (limited f) l chain ts) ≡ o) → suc n ≤ m → Comes m (λ L. L.choices l chain ts) o
+choices_stepped l chain ts n m o c le = later (λ L. L.choices l chain ts) n m o (λ f h. choices_unfold (limited f) l chain ts ∙ c f h) le
+
+pub first_chosen : (n : ℕ) (left : Tree) (new : List Tree) (F : Limited → Found (List Tree)) → new ≡ left ∷ [] → ChoicesSoFar n (λ L. and_then (F L) λ q. Some (q.0, left ∷ q.1, q.2)) new n F
+first_chosen n left new F e = record { goes_on = λ o c f le. ap (λ x. and_then x λ q. Some (q.0, left ∷ q.1, q.2)) (c f le) ∙ ap (λ d. behind_choices d o) (sym e) }
+
+pub chosen_more : {n p m k : ℕ} {F : Limited → Found (List Tree)} {done new : List Tree} {b : Binding} {a : Tree} {l : Limits} {chain : Chain} {ts vs : List Token} {y : Bool} → ChoicesSoFar n F done m (λ L. L.choices l chain ts) → new ≡ done ++ a ∷ [] →
+    Comes p (λ L. read_operand L l chain ts) (Some (b, a, y, vs)) → y ≡ true → suc p ≤ m → suc k ≤ m → ChoicesSoFar n F new k (λ L. L.choices l chain vs)
+chosen_more {n} {p} {m} {k} {F} {done} {new} {b} {a} {l} {chain} {ts} {vs} {y} s e c is low less = record {
+  goes_on = λ o h g lg. s.goes_on (behind_choices (a ∷ []) o)
+      (choices_stepped l chain ts (m - 1) m (behind_choices (a ∷ []) o) (λ f le.
+      let fp : p ≤ f = omega arith in let fk : k ≤ f = omega arith in
+      ap (choices_behind ((limited f).choices l chain)) (c f fp ∙ ap (λ z. Some (b, a, z, vs)) is) ∙ ap (behind_choices (a ∷ [])) (h f fk)) (omega arith)) g lg
+      ∙ choices_one done a o ∙ ap (λ d. behind_choices d o) (sym e);
+}
+
+pub chosen_last : {n p m : ℕ} {F : Limited → Found (List Tree)} {done new : List Tree} {b : Binding} {a : Tree} {l : Limits} {chain : Chain} {ts vs : List Token} {y : Bool} → ChoicesSoFar n F done m (λ L. L.choices l chain ts) → new ≡ done ++ a ∷ [] →
+    Comes p (λ L. read_operand L l chain ts) (Some (b, a, y, vs)) → y ≡ false → suc p ≤ m → Comes n F (Some (b, new, vs))
+chosen_last {n} {p} {m} {F} {done} {new} {b} {a} {l} {chain} {ts} {vs} {y} s e c is low = λ g lg.
+    s.goes_on (Some (b, a ∷ [], vs)) (choices_stepped l chain ts p m (Some (b, a ∷ [], vs)) (λ f le. ap (choices_behind ((limited f).choices l chain)) (c f le ∙ ap (λ z. Some (b, a, z, vs)) is)) low) g lg
+    ∙ ap (λ d. Some (b, d, vs)) (sym e)
+
+pub choice_fails : {B C : Type 0} {n p m : ℕ} {F : Limited → Found (List Tree)} {done : List Tree} {l : Limits} {chain : Chain} {ts : List Token} (seen : B → Binding × Tree × Bool × List Token) (shown : C → Binding × List Tree × List Token) (r : ReadFault) →
+    ChoicesSoFar n F done m (λ L. L.choices l chain ts) → Reads (Err r) seen p (λ L. read_operand L l chain ts) → suc p ≤ m → Reads (Err r) shown n F
+choice_fails seen shown fault.NoMemory s c low = λ g lg. tt
+choice_fails {p = p} {m = m} {l = l} {chain = chain} {ts = ts} seen shown (fault.NoText left) s c low = s.goes_on None (choices_stepped l chain ts p m None (λ f le. ap (choices_behind ((limited f).choices l chain)) (c f le)) low)

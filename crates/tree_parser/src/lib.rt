@@ -1,9 +1,15 @@
-//! The parser of trees: what the tokens at the front are, within limits of nesting. What waits for a part that is being read stands on a stack of its
-//! own, so that the depth of a tree costs no stack of the program.
+//! The parser of trees: what the tokens at the front are, within limits of nesting. It descends as the reader in the definitions does: one function reads
+//! what one of its definitions reads.
 #![tactic(auto)]
 
-mod calls;
-mod reading;
+mod atoms;
+mod events;
+mod expected;
+mod expressions;
+mod lists;
+mod nodes;
+mod processes;
 
-pub use calls::{atom, tree};
+pub use atoms::atom;
+pub use processes::tree;
 pub use tree_reading::{Limits, Read, ReadFault};

@@ -1,4 +1,5 @@
 pub mod Complete
+pub mod Deepest
 pub mod DotFields
 pub mod Fitting
 pub mod Follow

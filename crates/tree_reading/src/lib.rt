@@ -1,11 +1,11 @@
 //! The reading of trees within limits: looks at tokens, limits and nodes.
 #![tactic(auto)]
 
+pub mod deep;
 pub mod fault;
 pub mod laws;
 pub mod limits;
 pub mod look;
-pub mod nodes;
 pub mod read;
 
 pub use fault::ReadFault;

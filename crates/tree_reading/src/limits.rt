@@ -5,8 +5,9 @@ ghost use Rattle.csp_text.specs.Depth.{tree_depth};
 ghost use Rattle.tree_reading.specs.Gives.{Gives};
 ghost use Rattle.tree_reading.specs.Nesting.{around, bracketed, inside, opened};
 
+use crate::deep::DeepTree;
 use crate::fault::{ReadFault, stopped};
-use csp_text::{Token, Tree, depth};
+use csp_text::Token;
 
 /// How much may still be nested.
 #[derive(Clone, Copy)]
@@ -53,14 +54,14 @@ impl Limits {
     }
 
     // Whether the tree is no deeper than it may be.
-    fn has_room(self, tree: &Tree) -> bool
+    fn has_room(self, tree: &DeepTree) -> bool
         ensures { result ≡ nat_le (tree_depth tree.now) self.depth }
     {
-        depth(tree) <= u32::from(self.depth)
+        tree.depth() <= u32::from(self.depth)
     }
 
     /// The limits of the parts of a node with this tree as its first part, in front of the tokens.
-    pub fn around(self, tree: &Tree, tokens: &[Token]) -> Result<Limits, ReadFault>
+    pub fn around(self, tree: &DeepTree, tokens: &[Token]) -> Result<Limits, ReadFault>
         ensures { Gives result (λ inner. inner) (around self tree.now) }
     {
         let inner = self.inside(tokens)?;

@@ -5,6 +5,7 @@ ghost use Rattle.tree_reading.specs.Gives.{Gives};
 ghost use Rattle.tree_reading.specs.Bindings.{at_least, last_item, left_operand, number, of_process, tighter};
 ghost use Rattle.tree_reading.specs.Nesting.{sure};
 
+use crate::deep::Deep;
 use crate::fault::{ReadFault, stopped};
 use containers::Items;
 use csp_text::{Token, Tree};
@@ -28,6 +29,12 @@ pub struct BoundRead<'t, T> {
     /// The tokens behind it.
     pub rest: &'t [Token],
 }
+
+/// What a reading answers.
+pub type Reading<'t, T> = Result<Read<'t, T>, ReadFault>;
+
+/// The same with how tightly it is bound.
+pub type BoundReading<'t, T> = Result<BoundRead<'t, T>, ReadFault>;
 
 /// How tightly a tree is bound: what may stand beside it with no parentheses.
 #[derive(Clone, Copy)]
@@ -139,10 +146,10 @@ impl Binding {
 }
 
 /// The binding of a list of items that ends with one bound like this, behind these.
-pub fn last_item(before: &Items<Tree>, binding: Binding) -> Binding
+pub fn last_item(before: &Deep<Items<Tree>>, binding: Binding) -> Binding
     ensures { result ≡ last_item before.now binding }
 {
-    if before.is_empty() {
+    if before.get().is_empty() {
         binding
     } else {
         Binding::Dotted

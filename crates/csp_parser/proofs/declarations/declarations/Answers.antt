@@ -1,19 +1,16 @@
-use Rattle.csp_parser.proofs.Faults.{passed}
-use Rattle.csp_parser.proofs.Lists.{declarations_begin, declarations_end, declarations_more, declarations_stop, is_empty, not_empty}
+use Rattle.std.proofs.Common.{length, arith}
+use Rattle.csp_parser.proofs.DeclarationSteps.{at_end, at_start, one_more, stops}
 use Rattle.csp_parser.proofs.declarations.declarations.Goals as goal
 
-pub loop-rest-init : goal.loop-rest-init
-loop-rest-init c = declarations_begin c.new-decls.ensures
+pub loop-found-init : goal.loop-found-init
+loop-found-init c = at_start _ c.args.tokens.now _ c.new-decls.ensures
 
-pub returns-in_err-rest-clause-none : goal.returns-in_err-rest-clause-none
-returns-in_err-rest-clause-none c =
-    passed _ _ _ _ c.from_residual.ensures.1 c.in_err-rest.ensures.none (λ e. declarations_stop c.loop-rest.rest.now c.loop-rest.invariant (not_empty c.loop-rest.rest.now c.loop-rest-test.ensures) e)
+pub returns-in-Err-clause-reads : goal.returns-in-Err-clause-reads
+returns-in-Err-clause-reads c = stops _ _ c.in-Err.fault c.loop-found.rest.now c.loop-found-test.ensures c.loop-found.invariant c.in-Err.ensures.reads (omega arith)
 
-pub loop-rest-smaller : goal.loop-rest-smaller
-loop-rest-smaller c = c.in_ok-rest.ensures.shorter
+pub loop-found-preserved : goal.loop-found-preserved
+loop-found-preserved c =
+    one_more c.loop-found.rest.now c.loop-found-test.ensures c.loop-found.invariant c.in_ok-push.ensures.ok c.in-Ok.ensures.reads (omega arith) (omega (arith, c.in-Ok.ensures.shorter))
 
-pub loop-rest-preserved : goal.loop-rest-preserved
-loop-rest-preserved c = declarations_more c.loop-rest.rest.now c.loop-rest.invariant (not_empty c.loop-rest.rest.now c.loop-rest-test.ensures) c.in_ok-rest.ensures.read.1 c.in_ok-rest.ensures.read.2
-
-pub returns-clause-read : goal.returns-clause-read
-returns-clause-read c = declarations_end c.loop-rest.rest.now c.loop-rest.invariant (is_empty c.loop-rest.rest.now c.loop-rest-test.ensures)
+pub returns-clause-reads : goal.returns-clause-reads
+returns-clause-reads c = at_end c.loop-found.rest.now c.loop-found-test.ensures (omega arith) c.loop-found.invariant

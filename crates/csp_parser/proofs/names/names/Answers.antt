@@ -1,35 +1,19 @@
-use Rattle.std.proofs.Common.{◌<◌, ◌≤◌, length, sym, arith}
-use Rattle.csp_parser.proofs.Faults.{passed}
-use Rattle.csp_parser.proofs.Lists.{names_begin, names_end, names_more, names_stop}
+use Rattle.std.proofs.Common.{◌∷◌, [], ◌++◌, refl, sym, arith}
+use Rattle.tree_parser.proofs.ListSteps.{item_missing, last_item_read, next_item}
+use Rattle.tree_reading.specs.Starts.{named}
 use Rattle.csp_parser.proofs.names.names.Goals as goal
 
-pub loop-part-init : goal.loop-part-init
-loop-part-init c = (names_begin c.new-part.ensures, omega arith)
+pub returns-in-Err-clause-reads : goal.returns-in-Err-clause-reads
+returns-in-Err-clause-reads c =
+    item_missing c.args.sign (λ L ts. named ts) (λ L ts. L.names c.args.sign ts) (λ L ts. refl) {p = 0} _ _ c.in-Err.fault c.loop-found.invariant.0 (λ f le. c.in-Err.ensures.same) (omega arith)
 
-pub returns-in_err-behind-clause-none : goal.returns-in_err-behind-clause-none
-returns-in_err-behind-clause-none c = passed _ _ _ _ c.from_residual.ensures.1 c.in_err-behind.ensures.none (λ e. names_stop c.loop-part.invariant.0 e)
+pub loop-found-preserved : goal.loop-found-preserved
+loop-found-preserved c = (
+  next_item c.args.sign (λ L ts. named ts) (λ L ts. L.names c.args.sign ts) (λ L ts. refl) {p = 0} c.loop-found.invariant.0 c.in_ok-push.ensures.ok (λ f le. c.in-Ok.ensures.same) (sym c.in-Some.ensures.same)
+      (omega arith) (omega (arith, c.in-Some.ensures.shorter, c.in-Ok.ensures.shorter)),
+  omega (arith, c.in-Some.ensures.shorter, c.in-Ok.ensures.shorter, c.loop-found.invariant.1),
+)
 
-pub returns-in_default-clause-read : goal.returns-in_default-clause-read
-returns-in_default-clause-read c = names_end c.loop-part.invariant.0 c.in_ok-behind.ensures.found.1 (sym c.in_default.ensures.same) c.in_ok-behind.ensures.found.2
-
-pub returns-in_default-clause-shorter : goal.returns-in_default-clause-shorter
-returns-in_default-clause-shorter c =
-    let a : length c.in_ok-behind.behind.now < length c.loop-part.rest.now = c.in_ok-behind.ensures.shorter in
-    let b : length c.loop-part.rest.now ≤ length c.args.tokens.now = c.loop-part.invariant.1 in
-    let d : length c.in_ok-behind.behind.now < length c.args.tokens.now = omega arith in
-    d
-
-pub loop-part-smaller : goal.loop-part-smaller
-loop-part-smaller c =
-    let a : length c.in_ok-behind.behind.now < length c.loop-part.rest.now = c.in_ok-behind.ensures.shorter in
-    let b : length c.in-Some.next.now < length c.in_ok-behind.behind.now = c.in-Some.ensures.shorter in
-    let d : length c.in-Some.next.now < length c.loop-part.rest.now = omega arith in
-    d
-
-pub loop-part-preserved : goal.loop-part-preserved
-loop-part-preserved c =
-    let a : length c.in_ok-behind.behind.now < length c.loop-part.rest.now = c.in_ok-behind.ensures.shorter in
-    let b : length c.in-Some.next.now < length c.in_ok-behind.behind.now = c.in-Some.ensures.shorter in
-    let e : length c.loop-part.rest.now ≤ length c.args.tokens.now = c.loop-part.invariant.1 in
-    let d : length c.in-Some.next.now ≤ length c.args.tokens.now = omega arith in
-    (names_more c.loop-part.invariant.0 c.in_ok-behind.ensures.found.1 (sym c.in-Some.ensures.same) c.in_ok-behind.ensures.found.2, d)
+pub returns-in-None-clause-reads : goal.returns-in-None-clause-reads
+returns-in-None-clause-reads c =
+    last_item_read c.args.sign (λ L ts. named ts) (λ L ts. L.names c.args.sign ts) (λ L ts. refl) {p = 0} c.loop-found.invariant.0 c.in_ok-push.ensures.ok (λ f le. c.in-Ok.ensures.same) (sym c.in-None.ensures.same) (omega arith)

@@ -1,9 +1,9 @@
-use Rattle.std.proofs.Common.{◌≤◌, length}
-use Rattle.csp_parser.proofs.Lists.{TypesSoFar}
+use Rattle.std.proofs.Common.{◌≤◌, ◌+◌, ◌*◌, length}
+use Rattle.tree_parser.proofs.SoFar.{SoFar}
 use Rattle.csp_parser.proofs.types.types.Given as goal
 
-abbrev pub invariant-loop-part : goal.invariant-loop-part
-invariant-loop-part l = TypesSoFar l.tokens l.part l.rest × (length l.rest ≤ length l.tokens)
+abbrev pub invariant-loop-found : goal.invariant-loop-found
+invariant-loop-found l = SoFar (8 * length l.tokens + 2) (λ L. L.types l.tokens) l.all (8 * length l.rest + 2) (λ L. L.types l.rest) × (length l.rest ≤ length l.tokens)
 
-abbrev pub decreases-loop-part : goal.decreases-loop-part
-decreases-loop-part l = length l.rest
+abbrev pub decreases-loop-found : goal.decreases-loop-found
+decreases-loop-found l = length l.rest

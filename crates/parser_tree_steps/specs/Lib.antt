@@ -1,3 +1,0 @@
-pub mod Machine
-pub mod Processes
-pub mod Replicated

@@ -1,0 +1,8 @@
+use Rattle.std.proofs.Common.{sym, ap, ◌∙◌}
+use Rattle.csp_text.specs.Depth.{capped}
+use Rattle.tree_reading.specs.Starts.{dot_fields}
+use Rattle.tree_parser.proofs.Depths.{of_dots}
+use Rattle.tree_parser.proofs.expected.expect_dotted.Goals as goal
+
+pub new-requires : goal.new-requires
+new-requires c = c.depth-depth.ensures ∙ ap capped (sym (of_dots c.args.fields c.in_ok-trees.trees (ap dot_fields (sym c.into_inner.ensures) ∙ c.in_ok-trees.ensures)))

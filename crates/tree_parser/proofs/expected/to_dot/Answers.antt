@@ -1,0 +1,7 @@
+use Rattle.std.proofs.Common.{sym, ap, ◌∙◌}
+use Rattle.tree_reading.specs.Starts.{dot_field}
+use Rattle.tree_reading.proofs.DotFields.{dot_is}
+use Rattle.tree_parser.proofs.expected.to_dot.Goals as goal
+
+pub returns-in-Dot : goal.returns-in-Dot
+returns-in-Dot c = sym (ap dot_field c.in-Dot.is ∙ dot_is c.in-Dot.tree)

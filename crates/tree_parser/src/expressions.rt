@@ -1,0 +1,165 @@
+//! Expressions, with the renamings behind operands.
+
+ghost use Rattle.std.specs.Prelude.{◌≤◌, ◌<◌, ◌+◌, ◌*◌, length, IfOk};
+ghost use Rattle.tree_reading.specs.Limited.{read_complement, read_negative, read_renaming, read_with};
+ghost use Rattle.tree_parser.specs.Reads.{Reads};
+
+use crate::atoms::atom;
+use crate::lists::{conditions, pairs};
+use crate::nodes;
+use csp_text::{Symbol, Token, Word};
+use std::alloc::Global;
+use tree_reading::deep::DeepTree;
+use tree_reading::limits::Limits;
+use tree_reading::look::{Sign, expect, sign_behind, skip, skip_word};
+use tree_reading::read::{Binding, BoundRead, BoundReading, Read, Reading};
+
+// What stands behind `not`.
+#[cycle(reading)]
+fn complement<'t>(
+    alloc: Global,
+    limits: Limits,
+    level: Binding,
+    tokens: &'t [Token],
+) -> BoundReading<'t, DeepTree>
+    ensures reads { Reads result (λ r. (r.binding, r.part, r.rest.now)) (8 * length tokens.now + 2) (λ L. read_complement L limits level tokens.now) }
+    ensures shorter { IfOk result (λ r. length r.rest.now < length tokens.now) }
+{
+    Binding::Complement.expect(level, tokens)?;
+    let inner = limits.inside(tokens)?;
+    let operand = expression(alloc, inner, Binding::Complement, tokens)?;
+    let node = nodes::complement(alloc, operand.part)?;
+    operators(
+        alloc,
+        limits,
+        level,
+        Binding::Complement,
+        node,
+        operand.rest,
+    )
+}
+
+// What stands behind a minus.
+#[cycle(reading)]
+fn negative<'t>(
+    alloc: Global,
+    limits: Limits,
+    level: Binding,
+    tokens: &'t [Token],
+) -> BoundReading<'t, DeepTree>
+    ensures reads { Reads result (λ r. (r.binding, r.part, r.rest.now)) (8 * length tokens.now + 2) (λ L. read_negative L limits level tokens.now) }
+    ensures shorter { IfOk result (λ r. length r.rest.now < length tokens.now) }
+{
+    Binding::Negative.expect(level, tokens)?;
+    let inner = limits.inside(tokens)?;
+    let operand = expression(alloc, inner, Binding::Negative, tokens)?;
+    let node = nodes::negative(alloc, operand.part)?;
+    operators(alloc, limits, level, Binding::Negative, node, operand.rest)
+}
+
+// An expression whose operators outside brackets bind as tightly as the level, or tighter.
+#[cycle(reading)]
+#[tactic(auto, using(crate::proofs::Counted::expression_counted))]
+pub(crate) fn expression<'t>(
+    alloc: Global,
+    limits: Limits,
+    level: Binding,
+    tokens: &'t [Token],
+) -> BoundReading<'t, DeepTree>
+    ensures reads { Reads result (λ r. (r.binding, r.part, r.rest.now)) (8 * length tokens.now + 2) (λ L. L.expression limits level tokens.now) }
+    ensures shorter { IfOk result (λ r. length r.rest.now < length tokens.now) }
+{
+    if let Some(rest) = skip_word(tokens, Word::Not) {
+        return complement(alloc, limits, level, rest);
+    }
+    if let Some(rest) = skip(tokens, Symbol::Minus) {
+        return negative(alloc, limits, level, rest);
+    }
+    let first = atom(alloc, limits, tokens)?;
+    operators(alloc, limits, level, Binding::Atom, first.part, first.rest)
+}
+
+// The pairs of a renaming of this tree.
+#[cycle(reading)]
+fn renaming<'t>(
+    alloc: Global,
+    limits: Limits,
+    left: DeepTree,
+    tokens: &'t [Token],
+) -> Reading<'t, DeepTree>
+    ensures reads { Reads result (λ r. (r.part, r.rest.now)) (8 * length tokens.now + 1) (λ L. read_renaming L limits left tokens.now) }
+    ensures shorter { IfOk result (λ r. length r.rest.now < length tokens.now) }
+{
+    let inner = limits.bracketed(tokens)?;
+    let found = pairs(alloc, inner, tokens)?;
+    let generators = conditions(alloc, inner, found.rest)?;
+    let rest = expect(generators.rest, Symbol::CloseRename)?;
+    let part = nodes::renaming(alloc, left, found.part, generators.part)?;
+    Ok(Read { part, rest })
+}
+
+// A tree with the sign behind it and what that takes to its right.
+#[cycle(reading)]
+fn with<'t>(
+    alloc: Global,
+    limits: Limits,
+    left: DeepTree,
+    sign: Sign,
+    tokens: &'t [Token],
+) -> BoundReading<'t, DeepTree>
+    ensures reads { Reads result (λ r. (r.binding, r.part, r.rest.now)) (8 * length tokens.now + 2) (λ L. read_with L limits left sign tokens.now) }
+    ensures shorter { IfOk result (λ r. length r.rest.now < length tokens.now) }
+{
+    let inner = limits.around(&left, tokens)?;
+    match sign {
+        Sign::Operator(op, binding) => {
+            let right = expression(alloc, inner, binding.tighter(), tokens)?;
+            let part = nodes::binary(alloc, op, left, right.part)?;
+            Ok(BoundRead {
+                binding,
+                part,
+                rest: right.rest,
+            })
+        }
+        Sign::Renaming => {
+            let renamed = renaming(alloc, inner, left, tokens)?;
+            Ok(BoundRead {
+                binding: Binding::Renaming,
+                part: renamed.part,
+                rest: renamed.rest,
+            })
+        }
+    }
+}
+
+// The operators behind an operand.
+#[cycle(reading)]
+#[tactic(auto, using(crate::proofs::Counted::operators_counted))]
+fn operators<'t>(
+    alloc: Global,
+    limits: Limits,
+    level: Binding,
+    binding: Binding,
+    left: DeepTree,
+    tokens: &'t [Token],
+) -> BoundReading<'t, DeepTree>
+    ensures reads { Reads result (λ r. (r.binding, r.part, r.rest.now)) (8 * length tokens.now + 1) (λ L. L.operators limits level binding left tokens.now) }
+    ensures shorter { IfOk result (λ r. length r.rest.now ≤ length tokens.now) }
+{
+    let Some((sign, behind)) = sign_behind(level, binding, tokens) else {
+        return Ok(BoundRead {
+            binding,
+            part: left,
+            rest: tokens,
+        });
+    };
+    let longer = with(alloc, limits, left, sign, behind)?;
+    operators(
+        alloc,
+        limits,
+        level,
+        longer.binding,
+        longer.part,
+        longer.rest,
+    )
+}

@@ -1,0 +1,348 @@
+//! Nodes of trees, from their parts.
+
+ghost use Rattle.std.specs.Prelude.{◌≡◌, IfOk, None, Some};
+ghost use Rattle.csp_grammar.specs.Grammar.{choice_of, event_tree, part_tree};
+ghost use Rattle.tree_reading.specs.Starts.{choice, each_tree};
+
+use containers::{Boxed, Items};
+use csp_base::{BinOp, Name, NoMemory, SetOp};
+use csp_text::{EventTree, FieldTree, GenTree, PartTree, Tree, depth};
+use std::alloc::Global;
+use tree_reading::deep::{Deep, DeepTree, greater};
+use tree_reading::look::Chain;
+
+pub(crate) fn leaf(alloc: Global, tree: Tree) -> Result<DeepTree, NoMemory>
+    ensures { IfOk result (λ t. t ≡ tree) }
+{
+    let depth = depth(&tree);
+    let boxed = Boxed::new(alloc, tree)?;
+    Ok(Deep::new(boxed, depth))
+}
+
+pub(crate) fn negative(alloc: Global, a: DeepTree) -> Result<DeepTree, NoMemory>
+    ensures { IfOk result (λ t. t ≡ Tree.Neg a) }
+{
+    let below = a.depth();
+    let tree = Boxed::new(alloc, Tree::Neg(a.into_inner()))?;
+    Ok(Deep::around(tree, below))
+}
+
+pub(crate) fn complement(alloc: Global, a: DeepTree) -> Result<DeepTree, NoMemory>
+    ensures { IfOk result (λ t. t ≡ Tree.Not a) }
+{
+    let below = a.depth();
+    let tree = Boxed::new(alloc, Tree::Not(a.into_inner()))?;
+    Ok(Deep::around(tree, below))
+}
+
+pub(crate) fn binary(
+    alloc: Global,
+    op: BinOp,
+    a: DeepTree,
+    b: DeepTree,
+) -> Result<DeepTree, NoMemory>
+    ensures { IfOk result (λ t. t ≡ Tree.Binary op a b) }
+{
+    let below = greater(a.depth(), b.depth());
+    let tree = Boxed::new(alloc, Tree::Binary(op, a.into_inner(), b.into_inner()))?;
+    Ok(Deep::around(tree, below))
+}
+
+pub(crate) fn set_operation(
+    alloc: Global,
+    op: SetOp,
+    a: DeepTree,
+    b: DeepTree,
+) -> Result<DeepTree, NoMemory>
+    ensures { IfOk result (λ t. t ≡ Tree.SetOp op a b) }
+{
+    let below = greater(a.depth(), b.depth());
+    let tree = Boxed::new(alloc, Tree::SetOp(op, a.into_inner(), b.into_inner()))?;
+    Ok(Deep::around(tree, below))
+}
+
+pub(crate) fn call(
+    alloc: Global,
+    name: Name,
+    items: Deep<Items<Tree>>,
+) -> Result<DeepTree, NoMemory>
+    ensures { IfOk result (λ t. t ≡ Tree.Call name items) }
+{
+    let below = items.depth();
+    let tree = Boxed::new(alloc, Tree::Call(name, items.into_inner()))?;
+    Ok(Deep::around(tree, below))
+}
+
+pub(crate) fn dotted(
+    alloc: Global,
+    name: Name,
+    fields: Deep<Items<Tree>>,
+) -> Result<DeepTree, NoMemory>
+    ensures { IfOk result (λ t. t ≡ Tree.Dot name fields) }
+{
+    let below = fields.depth();
+    let tree = Boxed::new(alloc, Tree::Dot(name, fields.into_inner()))?;
+    Ok(Deep::around(tree, below))
+}
+
+pub(crate) fn range(alloc: Global, a: DeepTree, b: DeepTree) -> Result<DeepTree, NoMemory>
+    ensures { IfOk result (λ t. t ≡ Tree.Range a b) }
+{
+    let below = greater(a.depth(), b.depth());
+    let tree = Boxed::new(alloc, Tree::Range(a.into_inner(), b.into_inner()))?;
+    Ok(Deep::around(tree, below))
+}
+
+pub(crate) fn display(alloc: Global, items: Deep<Items<Tree>>) -> Result<DeepTree, NoMemory>
+    ensures { IfOk result (λ t. t ≡ Tree.Display items) }
+{
+    let below = items.depth();
+    let tree = Boxed::new(alloc, Tree::Display(items.into_inner()))?;
+    Ok(Deep::around(tree, below))
+}
+
+pub(crate) fn comprehension(
+    alloc: Global,
+    items: Deep<Items<Tree>>,
+    generators: Deep<Items<GenTree>>,
+) -> Result<DeepTree, NoMemory>
+    ensures { IfOk result (λ t. t ≡ Tree.Comp items generators) }
+{
+    let below = greater(items.depth(), generators.depth());
+    let node = Tree::Comp(items.into_inner(), generators.into_inner());
+    let tree = Boxed::new(alloc, node)?;
+    Ok(Deep::around(tree, below))
+}
+
+pub(crate) fn product(
+    alloc: Global,
+    parts: Deep<Items<PartTree>>,
+    generators: Deep<Items<GenTree>>,
+) -> Result<DeepTree, NoMemory>
+    ensures { IfOk result (λ t. t ≡ Tree.Product parts generators) }
+{
+    let below = greater(parts.depth(), generators.depth());
+    let node = Tree::Product(parts.into_inner(), generators.into_inner());
+    let tree = Boxed::new(alloc, node)?;
+    Ok(Deep::around(tree, below))
+}
+
+pub(crate) fn renaming(
+    alloc: Global,
+    p: DeepTree,
+    pairs: Deep<Items<(PartTree, PartTree)>>,
+    generators: Deep<Items<GenTree>>,
+) -> Result<DeepTree, NoMemory>
+    ensures { IfOk result (λ t. t ≡ Tree.Rename p pairs generators) }
+{
+    let below = greater(p.depth(), greater(pairs.depth(), generators.depth()));
+    let node = Tree::Rename(p.into_inner(), pairs.into_inner(), generators.into_inner());
+    let tree = Boxed::new(alloc, node)?;
+    Ok(Deep::around(tree, below))
+}
+
+#[tactic(auto, using(crate::proofs::Depths::of_prefix))]
+pub(crate) fn prefix(
+    alloc: Global,
+    name: Name,
+    fields: Deep<Items<FieldTree>>,
+    process: DeepTree,
+) -> Result<DeepTree, NoMemory>
+    ensures { IfOk result (λ t. t ≡ Tree.Prefix (event_tree name fields) process) }
+{
+    let below = greater(fields.depth(), process.depth());
+    let event = EventTree {
+        name,
+        fields: fields.into_inner(),
+    };
+    let tree = Boxed::new(alloc, Tree::Prefix(event, process.into_inner()))?;
+    Ok(Deep::around(tree, below))
+}
+
+pub(crate) fn conditional(
+    alloc: Global,
+    condition: DeepTree,
+    a: DeepTree,
+    b: DeepTree,
+) -> Result<DeepTree, NoMemory>
+    ensures { IfOk result (λ t. t ≡ Tree.If condition a b) }
+{
+    let below = greater(condition.depth(), greater(a.depth(), b.depth()));
+    let node = Tree::If(condition.into_inner(), a.into_inner(), b.into_inner());
+    let tree = Boxed::new(alloc, node)?;
+    Ok(Deep::around(tree, below))
+}
+
+pub(crate) fn guard(alloc: Global, a: DeepTree, p: DeepTree) -> Result<DeepTree, NoMemory>
+    ensures { IfOk result (λ t. t ≡ Tree.Guard a p) }
+{
+    let below = greater(a.depth(), p.depth());
+    let tree = Boxed::new(alloc, Tree::Guard(a.into_inner(), p.into_inner()))?;
+    Ok(Deep::around(tree, below))
+}
+
+pub(crate) fn seq(alloc: Global, p: DeepTree, q: DeepTree) -> Result<DeepTree, NoMemory>
+    ensures { IfOk result (λ t. t ≡ Tree.Seq p q) }
+{
+    let below = greater(p.depth(), q.depth());
+    let tree = Boxed::new(alloc, Tree::Seq(p.into_inner(), q.into_inner()))?;
+    Ok(Deep::around(tree, below))
+}
+
+pub(crate) fn hide(alloc: Global, p: DeepTree, a: DeepTree) -> Result<DeepTree, NoMemory>
+    ensures { IfOk result (λ t. t ≡ Tree.Hide p a) }
+{
+    let below = greater(p.depth(), a.depth());
+    let tree = Boxed::new(alloc, Tree::Hide(p.into_inner(), a.into_inner()))?;
+    Ok(Deep::around(tree, below))
+}
+
+// A chain of processes with the sign of a choice between them.
+pub(crate) fn chosen(
+    alloc: Global,
+    chain: Chain,
+    operands: Deep<Items<Tree>>,
+) -> Result<DeepTree, NoMemory>
+    ensures { IfOk result (λ t. t ≡ choice_of (choice chain) operands) }
+{
+    let below = operands.depth();
+    let operands = operands.into_inner();
+    match chain {
+        Chain::External => {
+            let tree = Boxed::new(alloc, Tree::External(operands))?;
+            Ok(Deep::around(tree, below))
+        }
+        Chain::Internal => {
+            let tree = Boxed::new(alloc, Tree::Internal(operands))?;
+            Ok(Deep::around(tree, below))
+        }
+    }
+}
+
+pub(crate) fn each(
+    alloc: Global,
+    chain: Chain,
+    name: Name,
+    set: DeepTree,
+    p: DeepTree,
+) -> Result<DeepTree, NoMemory>
+    ensures { IfOk result (λ t. t ≡ each_tree chain name set p) }
+{
+    let below = greater(set.depth(), p.depth());
+    let set = set.into_inner();
+    let p = p.into_inner();
+    match chain {
+        Chain::External => {
+            let tree = Boxed::new(alloc, Tree::EachExternal(name, set, p))?;
+            Ok(Deep::around(tree, below))
+        }
+        Chain::Internal => {
+            let tree = Boxed::new(alloc, Tree::EachInternal(name, set, p))?;
+            Ok(Deep::around(tree, below))
+        }
+    }
+}
+
+pub(crate) fn each_parallel(
+    alloc: Global,
+    name: Name,
+    set: DeepTree,
+    alphabet: DeepTree,
+    process: DeepTree,
+) -> Result<DeepTree, NoMemory>
+    ensures { IfOk result (λ t. t ≡ Tree.EachParallel name set alphabet process) }
+{
+    let below = greater(set.depth(), greater(alphabet.depth(), process.depth()));
+    let node = Tree::EachParallel(
+        name,
+        set.into_inner(),
+        alphabet.into_inner(),
+        process.into_inner(),
+    );
+    let tree = Boxed::new(alloc, node)?;
+    Ok(Deep::around(tree, below))
+}
+
+pub(crate) fn parallel(
+    alloc: Global,
+    p: DeepTree,
+    a: DeepTree,
+    b: DeepTree,
+    q: DeepTree,
+) -> Result<DeepTree, NoMemory>
+    ensures { IfOk result (λ t. t ≡ Tree.Parallel p a b q) }
+{
+    let left = greater(p.depth(), a.depth());
+    let below = greater(left, greater(b.depth(), q.depth()));
+    let node = Tree::Parallel(
+        p.into_inner(),
+        a.into_inner(),
+        b.into_inner(),
+        q.into_inner(),
+    );
+    let tree = Boxed::new(alloc, node)?;
+    Ok(Deep::around(tree, below))
+}
+
+pub(crate) fn part(name: Name, fields: Deep<Items<Tree>>) -> Deep<PartTree>
+    ensures { result ≡ part_tree name fields }
+{
+    let depth = fields.depth();
+    let part = PartTree {
+        name,
+        fields: fields.into_inner(),
+    };
+    Deep::new(part, depth)
+}
+
+pub(crate) fn pair(old: Deep<PartTree>, new: Deep<PartTree>) -> Deep<(PartTree, PartTree)>
+    ensures { result ≡ (old, new) }
+{
+    let depth = greater(old.depth(), new.depth());
+    Deep::new((old.into_inner(), new.into_inner()), depth)
+}
+
+pub(crate) fn source(name: Name, set: DeepTree) -> Deep<GenTree>
+    ensures { result ≡ GenTree.From name set }
+{
+    let depth = set.depth();
+    Deep::new(GenTree::From(name, set.into_inner().into_inner()), depth)
+}
+
+pub(crate) fn condition(test: DeepTree) -> Deep<GenTree>
+    ensures { result ≡ GenTree.Cond test }
+{
+    let depth = test.depth();
+    Deep::new(GenTree::Cond(test.into_inner().into_inner()), depth)
+}
+
+pub(crate) fn dot(value: DeepTree) -> Deep<FieldTree>
+    ensures { result ≡ FieldTree.Dot value }
+{
+    let depth = value.depth();
+    Deep::new(FieldTree::Dot(value.into_inner().into_inner()), depth)
+}
+
+pub(crate) fn output(value: DeepTree) -> Deep<FieldTree>
+    ensures { result ≡ FieldTree.Output value }
+{
+    let depth = value.depth();
+    Deep::new(FieldTree::Output(value.into_inner().into_inner()), depth)
+}
+
+pub(crate) fn input(name: Name) -> Deep<FieldTree>
+    ensures { result ≡ FieldTree.Input name None }
+{
+    Deep::new(FieldTree::Input(name, None), 0)
+}
+
+#[tactic(auto, using(crate::proofs::Depths::of_input))]
+pub(crate) fn input_within(name: Name, set: DeepTree) -> Deep<FieldTree>
+    ensures { result ≡ FieldTree.Input name (Some set) }
+{
+    let depth = set.depth();
+    Deep::new(
+        FieldTree::Input(name, Some(set.into_inner().into_inner())),
+        depth,
+    )
+}

@@ -1,9 +1,0 @@
-use Rattle.std.proofs.Common.{◌≡◌, length}
-use Rattle.std.specs.Vec.Iter.{into_iter_items, into_iter_len}
-use Rattle.tree_reading.specs.Starts.{dot_fields}
-use Rattle.tree_reading.proofs.DotFields.{dots_with}
-use Rattle.tree_reading.proofs.nodes.expect_dots.Given as goal
-
--- the fields that are left are still to be looked at
-abbrev pub invariant-loop-field : goal.invariant-loop-field
-invariant-loop-field l = (dot_fields l.fn.fields ≡ dots_with l.trees (into_iter_items l.field-iterator)) × (into_iter_len l.field-iterator ≡ length (into_iter_items l.field-iterator))

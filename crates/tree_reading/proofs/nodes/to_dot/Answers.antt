@@ -1,7 +1,0 @@
-use Rattle.std.proofs.Common.{sym, ap, ◌∙◌}
-use Rattle.tree_reading.specs.Starts.{dot_field}
-use Rattle.tree_reading.proofs.DotFields.{dot_is}
-use Rattle.tree_reading.proofs.nodes.to_dot.Goals as goal
-
-pub returns-in-Dot : goal.returns-in-Dot
-returns-in-Dot c = sym (ap dot_field c.in-Dot.is ∙ dot_is c.in-Dot.tree)
