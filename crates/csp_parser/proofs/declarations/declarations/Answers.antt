@@ -1,4 +1,4 @@
-use Rattle.std.proofs.Common.{length, arith}
+use Rattle.std.proofs.Common.{arith}
 use Rattle.csp_parser.proofs.DeclarationSteps.{at_end, at_start, one_more, stops}
 use Rattle.csp_parser.proofs.declarations.declarations.Goals as goal
 

@@ -1,4 +1,4 @@
-use Rattle.std.proofs.Common.{◌≤◌, ◌+◌, ◌*◌, length}
+use Rattle.std.proofs.Common.{◌+◌, ◌*◌, length}
 use Rattle.csp_parser.proofs.DeclarationSteps.{DeclarationsSoFar}
 use Rattle.csp_parser.proofs.declarations.declarations.Given as goal
 
