@@ -1,12 +1,14 @@
 -- Tables of components, one after another.
-use Rattle.std.proofs.Common.{◌≡◌, ℕ, zero, suc, ◌+◌, ◌<◌, ◌≤◌, ◌-◌, List, [], ◌∷◌, ◌++◌, length, take, get_or, slice_get, Some, refl, sym, ap, subst, ◌∙◌, add-one, arith}
+use Rattle.std.proofs.Common.{◌≡◌, ℕ, zero, suc, ◌+◌, ◌<◌, ◌≤◌, ◌-◌, List, [], ◌∷◌, ◌++◌, length, take, get_or, slice_get, Some, Result, Ok, Err, IfErr, refl, sym, ap, subst, ◌∙◌, add-one, arith, inr}
 use Rattle.std.proofs.Math.Seq.{take-suc}
 use Rattle.std.proofs.lemmas.Option.{none-some, same_Some, slice_get-get_or}
 use Rattle.csp_program.specs.declared.processes.Proc.{Proc}
 use Rattle.csp_program.specs.declared.programs.Content.{Content}
 use Rattle.csp_tables.specs.Network.{Component}
+use Rattle.local_tables.specs.LocalTable.{IsLocalTable}
+use Rattle.local_tables.specs.declared.local_table.LocalTable.{LocalTable}
 use Rattle.local_tables.specs.Room.{Room}
-use Rattle.network_tables.specs.Faults.{HasFault, IsFirst, TellsHere, TellsTable, at_part}
+use Rattle.network_tables.specs.Faults.{HasFault, IsFirst, TellsHere, TellsRound, TellsTable, at_part}
 use Rattle.network_tables.specs.declared.fault.Untabled.{Untabled}
 use Rattle.local_tables.specs.declared.fault.Unexplored.{Unexplored}
 use Rattle.local_tables.specs.declared.fault.Unexplored.TheVariants as unexplored
@@ -94,3 +96,14 @@ module _ (p : Content) (seats : List (Component Proc)) where
   -- all seats have their tables
   pub all_made : (made : List ComponentTable) (i : ℕ) (room : Room) → AreMade p seats made i room → length seats ≤ i → AreTablesOf p seats made
   all_made made i room are at_end = subst (λ cs. AreTablesOf p cs made) (take_all i seats at_end) are.so_far
+
+module _ (p : Content) where
+  -- a component whose table goes round
+  goes_round : (room : Room) (c : Component Proc) (made : LocalTable) (f : Unexplored) → IsLocalTable p c room made → TellsRound made f → TellsHere p room c f
+  goes_round room c made unexplored.NoMemory table round = tt
+  goes_round room c made (unexplored.Refused f) table round = inr (round.0, record { made = made; table = table; circle = round.1.0; round = round.1.1 })
+
+  pub round_there : {A : Type 0} (room : Room) (c d : Component Proc) (made : LocalTable) (result : Result A Unexplored) → d ≡ c → IsLocalTable p d room made → IfErr result (TellsRound made)
+      → IfErr result (TellsHere p room c)
+  round_there room c d made (Ok a) same table round = tt
+  round_there room c d made (Err f) same table round = goes_round room c made f (subst (λ (x : Component Proc). IsLocalTable p x room made) same table) round

@@ -1,4 +1,4 @@
-use Rattle.std.proofs.Common.{◌∷◌, [], ◌++◌, refl, sym, arith}
+use Rattle.std.proofs.Common.{refl, sym, arith}
 use Rattle.tree_parser.proofs.ListSteps.{item_missing, last_item_read, next_item}
 use Rattle.tree_reading.specs.Starts.{named}
 use Rattle.csp_parser.proofs.names.names.Goals as goal
