@@ -62,16 +62,20 @@ pub record LinksAreOrdered (shape : Shape) : Type 0 where
 abbrev pub acceptance_at : Part → ℕ → ℕ → List ℕ
 acceptance_at p n k = get_or (node_at p.table n).accept k []
 
--- A shape is well formed where its tables have their form, each node is reached, each event of an acceptance is possible at
--- its node, and the links and the vocabulary are those of the parts.
-pub record IsWellFormed (shape : Shape) : Type 0 where
+-- There are 1 to 512 parts, and the links and the vocabulary are those of their alphabets.
+pub record IsLinked (shape : Shape) : Type 0 where
   pub least : 1 ≤ length shape.parts
   pub most : length shape.parts ≤ MOST_COMPONENTS
-  pub form : HaveForm shape.parts
-  pub few : (i n : ℕ) → i < length shape.parts → length (node_at (part_at shape.parts i).table n).accept ≤ MOST_TERMS
-  pub possible : (i n k e : ℕ) → i < length shape.parts → IsTrue (has (acceptance_at (part_at shape.parts i) n k) e) → IsTrue (is_possible (node_at (part_at shape.parts i).table n).next e)
-  pub reached : (i n : ℕ) → i < length shape.parts → n < length (part_at shape.parts i).table → IsReached (part_at shape.parts i).table n
   pub links : (l : ℕ) → l < length shape.links → JoinsTwo shape.parts (link_at shape l)
   pub all_links : (i j : ℕ) → i < j → j < length shape.parts → Meet (part_at shape.parts i).alphabet (part_at shape.parts j).alphabet → AreJoined shape i j
   pub links_rise : LinksRise shape
   pub vocabulary : (e : ℕ) → IsTrue (has shape.vocabulary e) ↔ (2 ≤ sharers (alphabets_of shape.parts) e)
+
+-- A shape is well formed where its tables have their form, each node is reached, each event of an acceptance is possible at
+-- its node, and the links and the vocabulary are those of the parts.
+pub record IsWellFormed (shape : Shape) : Type 0 where
+  pub linked : IsLinked shape
+  pub form : HaveForm shape.parts
+  pub few : (i n : ℕ) → i < length shape.parts → length (node_at (part_at shape.parts i).table n).accept ≤ MOST_TERMS
+  pub possible : (i n k e : ℕ) → i < length shape.parts → IsTrue (has (acceptance_at (part_at shape.parts i) n k) e) → IsTrue (is_possible (node_at (part_at shape.parts i).table n).next e)
+  pub reached : (i n : ℕ) → i < length shape.parts → n < length (part_at shape.parts i).table → IsReached (part_at shape.parts i).table n

@@ -1,12 +1,12 @@
 -- The shape of a network of components: each part is a component's alphabet with its normal table.
-use Rattle.std.specs.Prelude.{◌≡◌, ◌↔◌, ℕ, List, [], ◌∷◌, Some, slice_get}
-use Rattle.dl_limits.specs.declared.TheConstants.{MOST_TERMS}
+use Rattle.std.specs.Prelude.{◌≡◌, ◌↔◌, ◌<◌, ◌≤◌, ℕ, List, [], ◌∷◌, Some, length, slice_get}
+use Rattle.dl_limits.specs.declared.TheConstants.{MOST_SETS, MOST_TERMS}
 use Rattle.csp_tables.specs.Label.{Label}
 use Rattle.csp_tables.specs.Network.{Component, ComponentStep, Tree, leaves}
 use Rattle.csp_tables.specs.Trace.{IsBusy}
-use Rattle.csp_tables.specs.Part.{Part}
+use Rattle.csp_tables.specs.Part.{Part, part_at}
 use Rattle.csp_tables.specs.NormalTable.{IsNormalTable}
-use Rattle.csp_tables.specs.Shape.{Shape, IsWellFormed}
+use Rattle.csp_tables.specs.Shape.{Shape, IsLinked}
 use Rattle.csp_tables.specs.Standing.{IsBusyShape}
 
 -- the component's alphabet and its normal table, with at most 16,384 acceptances at a node
@@ -21,9 +21,10 @@ ArePartsOf Step [] (p ∷ ps) = ⊥
 ArePartsOf Step (c ∷ cs) [] = ⊥
 ArePartsOf Step (c ∷ cs) (p ∷ ps) = IsPartOf Step c p × ArePartsOf Step cs ps
 
--- The parts are those of the network's components. By its form, links and vocabulary are those of their alphabets.
+-- The parts are those of the network's components, with at most 2,048 nodes each, and the links and the vocabulary are those of their alphabets.
 pub record IsShapeOf {T : Type 0} (Step : T → Label → T → Type 0) (tree : Tree T) (shape : Shape) : Type 0 where
-  pub form : IsWellFormed shape
+  pub linked : IsLinked shape
+  pub nodes : (i : ℕ) → i < length shape.parts → length (part_at shape.parts i).table ≤ MOST_SETS
   pub parts : ArePartsOf Step (leaves tree) shape.parts
 
 -- no component is ever empty-handed

@@ -44,6 +44,13 @@ impl PartRanks {
     {
         self.ranks.as_slice()
     }
+
+    /// For each node the laps of its events, each 0 or 1.
+    pub fn laps(&self) -> &[Vec<u8>]
+        ensures { map (λ row. row.items) result.now ≡ self.now.laps }
+    {
+        self.laps.as_slice()
+    }
 }
 
 /// Ranks and laps for each component of a network, and the scale by which a difference of laps weighs against ranks.
@@ -76,6 +83,13 @@ impl Ranking {
         ensures { result ≡ record { scale = scale; parts = parts.items } }
     {
         Ranking { scale, parts }
+    }
+
+    /// The scale.
+    pub fn scale(&self) -> i64
+        ensures { result ≡ self.now.scale }
+    {
+        self.scale
     }
 
     /// The ranks and laps of each component, in order.

@@ -66,7 +66,7 @@ module _ (p : Content) (c : Component Proc) where
     pub ends : Ticks p term
 
 -- It has no table within the room, for this reason. (That its table goes round, or leads to too many sets, is told where there is one.)
-abbrev pub LacksTable : Content → Component Proc → Room → ComponentFault (List ℕ) → Type 0
+abbrev pub LacksTable : Content → Component Proc → Room → ComponentFault → Type 0
 LacksTable p c room (fault.Value kind) = LacksValue p c kind
 LacksTable p c room fault.TermCount = HasManyTerms p c
 LacksTable p c room fault.TermDepth = HasDeepTerm p c

@@ -10,4 +10,4 @@ use Rattle.local_tables.specs.Room.{Room}
 use Rattle.process_steps.specs.declared.component_fault.ComponentFault.{ComponentFault}
 
 abbrev pub FaultsExcludeTables : Type 0
-FaultsExcludeTables = (p : Content) (c : Component Proc) (room : Room) (made : LocalTable) (fault : ComponentFault (List ℕ)) → IsLocalTable p c room made → LacksTable p c room fault → ⊥
+FaultsExcludeTables = (p : Content) (c : Component Proc) (room : Room) (made : LocalTable) (fault : ComponentFault) → IsLocalTable p c room made → LacksTable p c room fault → ⊥

@@ -1,6 +1,6 @@
 //! Why a component is not explored.
 
-use csp_base::{NoMemory, Trace};
+use csp_base::NoMemory;
 use csp_values::EvalFault;
 use process_steps::ComponentFault;
 
@@ -10,7 +10,7 @@ pub enum Unexplored {
     /// Memory ran out.
     NoMemory,
     /// It has none, for this reason.
-    Refused(ComponentFault<Trace>),
+    Refused(ComponentFault),
 }
 
 impl From<NoMemory> for Unexplored {

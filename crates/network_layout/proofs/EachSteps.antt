@@ -58,7 +58,7 @@ one_before : (o : Walked (Operands Proc)) (so_far : Operands Proc) (a : List ℕ
 one_before (Ok os) so_far a t = ap (λ all. Ok all) (sym (before-last so_far a t os))
 one_before (Err f) so_far a t = refl
 
-same_fault : {A B C : Type 0} (o : Outcome A) (g : A → Walked B) (h : A → Walked C) (f : LayoutFault ℕ) → ((a : A) → g a ≡ Err f → h a ≡ Err f)
+same_fault : {A B C : Type 0} (o : Outcome A) (g : A → Walked B) (h : A → Walked C) (f : LayoutFault) → ((a : A) → g a ≡ Err f → h a ≡ Err f)
     → with_value o g ≡ Err f → with_value o h ≡ Err f
 same_fault (Ok a) g h f passes is = passes a is
 same_fault (Err why) g h f passes is = cc
@@ -71,7 +71,7 @@ module _ (p : Content) (levels x : ℕ) (a : Expr) (n : Net) where
   pub each_begin : (vs : List Atom) (old : List (Component Proc)) (events : List ℕ) → events ≡ [] → EachSoFar (each p levels x a n vs (length old)) (each p levels x a n vs) old old events
   each_begin vs old events is = record { so_far = none; split = nothing_before (each p levels x a n vs (length old)); seats = sym (append-nil old); together = is }
 
-  one_fault : (v : Atom) (vs : List Atom) (k : ℕ) (f : LayoutFault ℕ) → one_operand p levels k x a n v ≡ Err f → each p levels x a n (v ∷ vs) k ≡ Err f
+  one_fault : (v : Atom) (vs : List Atom) (k : ℕ) (f : LayoutFault) → one_operand p levels k x a n v ≡ Err f → each p levels x a n (v ∷ vs) k ≡ Err f
   unfolding one_operand each
   one_fault v vs k f is =
       same_fault (events_in p (expr_with x (One v) a)) (λ alphabet. operand_walked p levels k alphabet (net_with x (One v) n))
@@ -93,7 +93,7 @@ module _ (p : Content) (levels x : ℕ) (a : Expr) (n : Net) where
             first_made p levels k found.value (net_with x (One v) n) (each p levels x a n vs) tree found.rest;
       }
 
-  pub each_fault : (vs : List Atom) (i : ℕ) (v : Atom) (old new : List (Component Proc)) (events : List ℕ) (f : LayoutFault ℕ)
+  pub each_fault : (vs : List Atom) (i : ℕ) (v : Atom) (old new : List (Component Proc)) (events : List ℕ) (f : LayoutFault)
       → EachSoFar (each p levels x a n vs (length old)) (each p levels x a n (drop i vs)) old new events → i < length vs → v ≡ get_or vs i v → one_operand p levels (length new) x a n v ≡ Err f
       → operands_each p levels (length old) x a n vs ≡ Err f
   unfolding operands_each each

@@ -122,7 +122,7 @@ pub one_lacks : (p : Content) (levels k x : ℕ) (a : Expr) (n : Net) (v : Atom)
     → and_then {B = List ℕ × Net} (events_in p (expr_with x (One v) a)) (λ events. Ok (events, net_with x (One v) n)) ≡ Err why → one_operand p levels k x a n v ≡ Err (fault.Value why)
 one_lacks p levels k x a n v why is = one_is p levels k x a n v ∙ ap (λ (o : Outcome (List ℕ × Net)). with_value o (λ part. operand_walked p levels k part.0 part.1)) is
 
-pub operand_fault : (p : Content) (levels k : ℕ) (alphabet : List ℕ) (n : Net) (f : LayoutFault ℕ) → tree_within p levels k alphabet n ≡ Err f → operand_walked p levels k alphabet n ≡ Err f
+pub operand_fault : (p : Content) (levels k : ℕ) (alphabet : List ℕ) (n : Net) (f : LayoutFault) → tree_within p levels k alphabet n ≡ Err f → operand_walked p levels k alphabet n ≡ Err f
 unfolding operand_walked
 operand_fault p levels k alphabet n f is = ap (λ o. goes_on o (nested k alphabet)) is
 

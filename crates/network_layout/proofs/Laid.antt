@@ -76,7 +76,7 @@ operand_differs r f p levels alphabet n old new events first end is laid begins 
 
 -- ---- an operand before others
 
-pub first_fault : (p : Content) (levels k : ℕ) (alphabet : List ℕ) (n : Net) (others : ℕ → Walked (Operands Proc)) (f : LayoutFault ℕ)
+pub first_fault : (p : Content) (levels k : ℕ) (alphabet : List ℕ) (n : Net) (others : ℕ → Walked (Operands Proc)) (f : LayoutFault)
     → operand_walked p levels k alphabet n ≡ Err f → operand_first p (tree_within p levels) k alphabet n others ≡ Err f
 unfolding operand_walked
 first_fault p levels k alphabet n others f is =
@@ -95,7 +95,7 @@ module _ (p : Content) (levels : ℕ) (left : List ℕ) (n : Net) (right : List 
   second : ℕ → Walked (Operands Proc)
   second j = operand_first p (tree_within p levels) j right m (λ _. Ok none)
 
-  pub pair_fault : (k : ℕ) (f : LayoutFault ℕ) → operand_walked p levels k left n ≡ Err f → two p levels k left n right m ≡ Err f
+  pub pair_fault : (k : ℕ) (f : LayoutFault) → operand_walked p levels k left n ≡ Err f → two p levels k left n right m ≡ Err f
   unfolding two second
   pair_fault k f is = ap (side_by_side p (tree_within p levels)) (first_fault p levels k left n second f is)
 
@@ -104,7 +104,7 @@ module _ (p : Content) (levels : ℕ) (left : List ℕ) (n : Net) (right : List 
   unfolding two second
   pair_first k tree is = ap (side_by_side p (tree_within p levels)) (first_made p levels k left n second tree is)
 
-  pub pair_second_fault : (old mid : List (Component Proc)) (events : List ℕ) (f : LayoutFault ℕ) → IsLaid (operand_walked p levels (length old) left n) old mid events
+  pub pair_second_fault : (old mid : List (Component Proc)) (events : List ℕ) (f : LayoutFault) → IsLaid (operand_walked p levels (length old) left n) old mid events
       → operand_walked p levels (length mid) right m ≡ Err f → two p levels (length old) left n right m ≡ Err f
   unfolding second
   pair_second_fault old mid events f laid is =

@@ -16,7 +16,7 @@ use Rattle.value_operators.specs.Gives.{Gives}
 use Rattle.value_operators.specs.declared.fault.EvalFault.{EvalFault}
 use Rattle.value_operators.specs.declared.fault.EvalFault.TheVariants as evaluation
 
-pub fails_on : {A B : Type 0} (u : Unlaid) (part : Walked A) (whole : Walked B) → Fails u part → ((f : LayoutFault ℕ) → part ≡ Err f → whole ≡ Err f) → Fails u whole
+pub fails_on : {A B : Type 0} (u : Unlaid) (part : Walked A) (whole : Walked B) → Fails u part → ((f : LayoutFault) → part ≡ Err f → whole ≡ Err f) → Fails u whole
 fails_on unlaid.NoMemory part whole h passes = tt
 fails_on (unlaid.Refused f) part whole h passes = passes f h
 
@@ -37,7 +37,7 @@ value_passed r e part whole old new is h passes = lays_fault r (valueless e) who
 
 -- the fault of a walk below
 pub walk_passed : (r : Result (List ℕ) Unlaid) (f : Unlaid) (part whole : Walked (Tree Proc)) (old new : List (Component Proc))
-    → IsErrAnd r (λ y. y ≡ f) → Fails f part → ((g : LayoutFault ℕ) → part ≡ Err g → whole ≡ Err g) → Lays r whole old new
+    → IsErrAnd r (λ y. y ≡ f) → Fails f part → ((g : LayoutFault) → part ≡ Err g → whole ≡ Err g) → Lays r whole old new
 walk_passed r f part whole old new is h passes = lays_fault r f whole old new is (fails_on f part whole h passes)
 
 pub same : (r : Result (List ℕ) Unlaid) (whole part : Walked (Tree Proc)) (old new : List (Component Proc)) → whole ≡ part → Lays r part old new → Lays r whole old new

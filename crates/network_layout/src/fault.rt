@@ -1,6 +1,6 @@
 //! Why no layout is made.
 
-use csp_base::{Event, NoMemory};
+use csp_base::NoMemory;
 use network_trees::LayoutFault;
 use value_operators::EvalFault;
 
@@ -10,7 +10,7 @@ pub enum Unlaid {
     /// Memory ran out.
     NoMemory,
     /// The program spells no network.
-    Refused(LayoutFault<Event>),
+    Refused(LayoutFault),
 }
 
 impl From<NoMemory> for Unlaid {

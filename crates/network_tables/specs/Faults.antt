@@ -35,7 +35,7 @@ pub record GoesRound (p : Content) (room : Room) (c : Component Proc) : Type 0 w
   pub round : IsCircle (SilentStep (RawStep made.table)) circle
 
 -- the component has no table, or goes round
-abbrev pub HasFault : Content → ComponentFault (List ℕ) → Room → Component Proc → Type 0
+abbrev pub HasFault : Content → ComponentFault → Room → Component Proc → Type 0
 HasFault p f room c = LacksTable p c room f ⊎ ((f ≡ fault.Diverges) × GoesRound p room c)
 
 abbrev pub TellsTable : Content → List (Component Proc) → Untabled → Type 0

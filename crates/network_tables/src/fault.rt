@@ -1,6 +1,6 @@
 //! Why the components of a network have no tables.
 
-use csp_base::{NoMemory, Trace};
+use csp_base::NoMemory;
 use process_steps::ComponentFault;
 
 /// Why no tables are made of the components of a network.
@@ -13,7 +13,7 @@ pub enum Untabled {
         /// The first such component, counted from 0.
         part: u32,
         /// Why.
-        fault: ComponentFault<Trace>,
+        fault: ComponentFault,
     },
 }
 

@@ -25,6 +25,6 @@ had (Ok a) next b h = record { value = a; is = refl; rest = h }
 had (Err k) next b h = absurd cc
 
 -- a choice that comes to a value instead of a fault
-pub chosen : {A : Type 0} (b : Bool) (a c : A) (f : LayoutFault ℕ) → ◌≡◌ {A = Walked A} (if b then Ok a else Err f) (Ok c) → (b ≡ true) × (a ≡ c)
+pub chosen : {A : Type 0} (b : Bool) (a c : A) (f : LayoutFault) → ◌≡◌ {A = Walked A} (if b then Ok a else Err f) (Ok c) → (b ≡ true) × (a ≡ c)
 chosen true a c f h = (refl, cc)
 chosen false a c f h = absurd cc

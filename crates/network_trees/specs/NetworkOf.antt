@@ -35,7 +35,7 @@ use Rattle.network_trees.specs.declared.fault.LayoutFault.TheVariants as fault
 
 -- what a walk comes to: what it made, or the first fault that it met
 abbrev pub Walked : Type 0 → Type 0
-Walked A = Result A (LayoutFault ℕ)
+Walked A = Result A LayoutFault
 
 -- the next step, unless there was a fault
 abbrev pub goes_on : {A B : Type 0} → Walked A → (A → Walked B) → Walked B

@@ -1,9 +1,10 @@
 //! Why a program spells no network.
 
+use csp_base::Event;
 use csp_program::ValueKind;
 
-/// The first fault that the walk of a network meets. `E` tells an event: by its number, or by its text.
-pub enum LayoutFault<E> {
+/// The first fault that the walk of a network meets.
+pub enum LayoutFault {
     /// A value is needed that there isn't (2).
     Value {
         /// The kind of fault.
@@ -16,7 +17,7 @@ pub enum LayoutFault<E> {
         /// How many components it has.
         count: u32,
         /// The least event that only one of the two has.
-        event: E,
+        event: Event,
     },
     /// The network has no components (15).
     EmptyNetwork,
@@ -27,7 +28,7 @@ pub enum LayoutFault<E> {
 }
 
 // By hand, so that a crate that ends one calls this and proves no end of its own.
-impl<E: Drop> Drop for LayoutFault<E> {
+impl Drop for LayoutFault {
     fn drop(self) {
         match self {
             LayoutFault::Value { kind: _kind } => {}

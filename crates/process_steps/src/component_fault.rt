@@ -1,9 +1,10 @@
 //! Why a component has no normal table.
 
+use csp_base::Trace;
 use csp_program::ValueKind;
 
-/// Why a component of a network has no normal table within the limits. `T` tells how it comes to its end.
-pub enum ComponentFault<T> {
+/// Why a component of a network has no normal table within the limits.
+pub enum ComponentFault {
     /// A term that it reaches has no steps for want of a value (2).
     Value {
         /// Why there is none.
@@ -24,12 +25,12 @@ pub enum ComponentFault<T> {
     /// It can end (19).
     Terminates {
         /// Events after which it can.
-        trace: T,
+        trace: Trace,
     },
 }
 
 // By hand, so that a crate that ends one calls this and proves no end of its own.
-impl<T: Drop> Drop for ComponentFault<T> {
+impl Drop for ComponentFault {
     fn drop(self) {
         match self {
             ComponentFault::Value { kind: _kind } => {}
