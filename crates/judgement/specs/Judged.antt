@@ -7,7 +7,7 @@ use Rattle.csp_tables.specs.declared.rule.Rule.{Rule}
 use Rattle.network_stages.specs.Networks.{HasSilentBound, IsLive, Network}
 use Rattle.network_stages.specs.Shapes.{IsApart}
 use Rattle.network_stages.specs.Stages.{CanStop, HasNoParts, HasNoTables, HasParts, HasTables, ShareEvent, StaysBusy}
-use Rattle.report.specs.Points.{RefusedOr, UnprovedOr}
+use Rattle.report.specs.Points.{RefusedOr, UnprovedOr, UnprovedUnless}
 use Rattle.report.specs.declared.answer.Done.TheVariants as done
 use Rattle.report.specs.declared.answer.Side.TheVariants as side
 use Rattle.report.specs.declared.answer.Verdict.{Verdict}
@@ -35,5 +35,4 @@ IsJudged network rule =
     RefusedOr side.Script (HasNoTables network) (HasTables network) (λ tables.
     RefusedOr side.Script (HasNoParts network) (HasParts network) (λ parts.
     UnprovedOr (ShareEvent network) (IsApart network) (λ shape.
-    UnprovedOr (CanStop network) (λ (busy : Unit {0}). StaysBusy network) (λ busy.
-    RuleDecides network rule shape))))
+    UnprovedUnless (CanStop network) (StaysBusy network) (RuleDecides network rule shape))))

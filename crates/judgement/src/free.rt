@@ -11,12 +11,7 @@ use network_stages::Shaped;
 use report::Done;
 
 // That the network with this shape and this silent bound is free of deadlock, by a rule with its ranking.
-pub(crate) fn deadlock_free(
-    rule: Rule,
-    bound: u32,
-    shaped: &Shaped<'_>,
-    ranking: &Ranking,
-) -> Done
+pub(crate) fn deadlock_free(rule: Rule, bound: u32, shaped: &Shaped<'_>, ranking: &Ranking) -> Done
     ensures { result ≡ done.DeadlockFree rule (length (leaves shaped.now.network.tree)) (node_count shaped.now.shape.parts) bound (greatest_rank ranking.now) }
 {
     Done::DeadlockFree {

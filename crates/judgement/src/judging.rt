@@ -14,12 +14,7 @@ use report::{Done, Stop, Verdict};
 use std::alloc::Global;
 
 // What the rule says of a busy network with this silent bound.
-fn ruled(
-    alloc: Global,
-    rule: Rule,
-    bound: u32,
-    shaped: &Shaped<'_>,
-) -> Result<Done, Stop<Verdict>>
+fn ruled(alloc: Global, rule: Rule, bound: u32, shaped: &Shaped<'_>) -> Result<Done, Stop<Verdict>>
     requires busy { StaysBusy shaped.now.network }
     requires bound { HasSilentBound shaped.now.network bound }
     ensures { Answers (RuleDecides shaped.now.network rule shaped.now.shape) result }

@@ -96,10 +96,7 @@ pub(crate) fn tables_from(
 }
 
 /// The tables of the components of a network, or why one has none.
-pub fn make_tables<'a>(
-    alloc: Global,
-    network: &'a Spelled,
-) -> Result<Tabled<'a>, Stop<Refusal>>
+pub fn make_tables<'a>(alloc: Global, network: &'a Spelled) -> Result<Tabled<'a>, Stop<Refusal>>
     ensures network { IfOk result (λ made. made.network ≡ network.now) }
     ensures tables { IfOk result (λ made. HasTables network.now made.tables) }
     ensures told { IfErr result (Tells (HasNoTables network.now)) }
