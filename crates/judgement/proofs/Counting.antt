@@ -7,7 +7,7 @@ use Rattle.csp_tables.specs.Form.{HaveForm}
 use Rattle.csp_tables.specs.Part.{Part}
 use Rattle.csp_tables.specs.Ranking.{PartRanks}
 use Rattle.csp_tables.specs.Shape.{IsWellFormed, Shape}
-use Rattle.free_answers.specs.Counts.{greatest_from, node_count}
+use Rattle.judgement.specs.Counts.{greatest_from, node_count}
 use Rattle.csp_base.proofs.Lists.{flat_map_push}
 use Rattle.csp_program.specs.Value.{natural}
 
