@@ -5,7 +5,7 @@ ghost use Rattle.std.specs.Option.{option_copied};
 ghost use Rattle.dl_outside.specs.Count.{HasRisen};
 ghost use Rattle.dl_outside.specs.FaultPlan.{new_plan, fails_next, after_call};
 ghost use Rattle.dl_outside.specs.Load.{AnswersTold};
-ghost use Rattle.dl_outside.specs.Texts.{PutsText, text_of};
+ghost use Rattle.dl_outside.specs.Texts.{IsTextOf, PutsText, text_of};
 
 use crate::fault_plan::PlannedFaults;
 use crate::shelf::{LoadFault, Shelf};
@@ -63,7 +63,7 @@ impl Shelf for MemoryShelf {
 
     ghost counts = { λ s. record { faults = s.plan.faults; taken = 0 } };
 
-    ghost gives = { λ old _ name text. text_of old.texts name ≡ Some text };
+    ghost gives = { λ old new name text. IsTextOf old.texts new.texts name text };
 
     fn load(&mut self, alloc: Global, name: &[u8], limit: u32) -> Result<Bytes, LoadFault>
         ensures answer { AnswersTold self.old.texts name.now limit

@@ -3,7 +3,7 @@
 ghost use Rattle.std.specs.Prelude.{◌≡◌, [], Some, OnOk, OnErr};
 ghost use Rattle.std.specs.Option.{option_copied};
 ghost use Rattle.dl_outside.specs.Load.{AnswersTold};
-ghost use Rattle.dl_outside.specs.Texts.{PutsText, text_of};
+ghost use Rattle.dl_outside.specs.Texts.{IsTextOf, PutsText, text_of};
 
 use crate::shelf::{LoadFault, Shelf};
 use crate::texts::{NamedText, copy_text, find_text, put_text};
@@ -59,7 +59,7 @@ impl Shelf for SureShelf {
 
     ghost counts = { λ _. record { faults = 0; taken = 0 } };
 
-    ghost gives = { λ old _ name text. text_of old name ≡ Some text };
+    ghost gives = { IsTextOf };
 
     fn load(&mut self, alloc: Global, name: &[u8], limit: u32) -> Result<Bytes, LoadFault>
         ensures answer { AnswersTold self.old name.now limit ⊥ result }
