@@ -142,8 +142,12 @@ module _ {S : Type 0} (texts : S → Option (List NamedText)) (counts : S → Co
   quiet_loads s old new (n ∷ ns) Then a is still (inr (t, between, load, rest)) =
       let here = load.never_fall.faults in
       let later = never_falls texts counts gives side.Specification between new ns (λ ts. Then (t ∷ ts)) a rest in
-      inr (t, tt, quiet_load (texts old) held (counts old) (counts between) n (Ok t) is (λ rose. still (rises_first _ _ _ later rose)) load.answers,
-      quiet_loads side.Specification between new ns (λ ts. Then (t ∷ ts)) a (load.texts_stay ∙ is) (λ rose. still (rises_later _ _ _ here rose)) rest)
+      inr (
+        t,
+        tt,
+        quiet_load (texts old) held (counts old) (counts between) n (Ok t) is (λ rose. still (rises_first _ _ _ later rose)) load.answers,
+        quiet_loads side.Specification between new ns (λ ts. Then (t ∷ ts)) a (load.texts_stay ∙ is) (λ rose. still (rises_later _ _ _ here rose)) rest,
+      )
 
   pub quiet_gives : (words : List (List ℕ)) (old new : S) (reply : Reply) → texts old ≡ Some held → ¬ HasRisen (counts old).faults (counts new).faults
       → MayGive (IsLoad texts counts gives) words old new reply → CallsFor held words reply

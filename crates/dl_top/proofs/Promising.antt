@@ -32,7 +32,7 @@ use Rattle.network_walks.specs.Whole.{IsWalkedWhole}
 use Rattle.numbered_walks.specs.Draws.{label}
 use Rattle.numbered_walks.specs.Numbers.{first_draw}
 use Rattle.numbered_walks.specs.declared.moves.Move.{Move}
-use Rattle.print_laws.specs.Laws.{PrintedTextSpellsNoOther, PrintedTextSpellsTheScript}
+use Rattle.print_laws.proofs.RoundTrip.{no_other, printed_spells}
 use Rattle.process_steps.specs.ComponentStep.{ProcessStep}
 use Rattle.report.specs.Report.{report_text, run_text, status, verdict_status, verdict_text}
 use Rattle.report.specs.declared.answer.Answer.{Answer}
@@ -206,23 +206,22 @@ text_stuck text seed steps a calls is = text_ran text seed steps true a calls is
 -- ---- scripts that are shown
 
 -- the printed text of a script that a text spells
-printed_again : (text : List ℕ) (script : Script) → PrintedTextSpellsTheScript → PrintedTextSpellsNoOther → SpellsOnlyScript text script
-    → SpellsOnlyScript (script_text script) script
-printed_again text script same other spells =
+printed_again : (text : List ℕ) (script : Script) → SpellsOnlyScript text script → SpellsOnlyScript (script_text script) script
+printed_again text script spells =
     let first = spells.spelled in
-    let again = same text first.found script first.cut first.spelled in
+    let again = printed_spells text first.found script first.cut first.spelled in
     record {
       spelled = record { found = again.0; cut = again.1; spelled = again.2 };
-      only = λ t spelled. other text first.found script first.cut first.spelled spelled.found t spelled.cut spelled.spelled;
+      only = λ t spelled. no_other text first.found script first.cut first.spelled spelled.found t spelled.cut spelled.spelled;
     }
 
-pub text_shown : PrintedTextSpellsTheScript → PrintedTextSpellsNoOther → (text : List ℕ) (a : Answer) → TextIsShown text a → status a ≡ 0 → SpellsShown text (report_text a)
-text_shown same other text a (inl none) zero = absurd (let no : 2 ≡ 0 = sym (ap status none.told) ∙ zero in cc)
-text_shown same other text a (inr (script, spells, is)) zero = record {
+pub text_shown : (text : List ℕ) (a : Answer) → TextIsShown text a → status a ≡ 0 → SpellsShown text (report_text a)
+text_shown text a (inl none) zero = absurd (let no : 2 ≡ 0 = sym (ap status none.told) ∙ zero in cc)
+text_shown text a (inr (script, spells, is)) zero = record {
   script = script;
   spells = spells;
   is = ap report_text is;
-  again = subst (λ (t : List ℕ). SpellsOnlyScript t script) (sym (ap report_text is)) (printed_again text script same other spells);
+  again = subst (λ (t : List ℕ). SpellsOnlyScript t script) (sym (ap report_text is)) (printed_again text script spells);
 }
 
 -- ---- two texts
@@ -253,15 +252,15 @@ texts_conform text specification a (inr (network, spells, inr (specified, specif
 
 -- ---- all requests
 
-pub keeps : PrintedTextSpellsTheScript → PrintedTextSpellsNoOther → (r : Request) (texts : List (List ℕ)) (a : Answer) → TextsCallFor r texts a → status a ≡ 0 → Promised r texts (report_text a)
-keeps same other (request.Show name) (text ∷ []) a calls zero = text_shown same other text a calls zero
-keeps same other (request.Script (Check rule) name) (text ∷ []) a calls zero = text_ranked text rule a calls zero
-keeps same other (request.Script (Table i) name) (text ∷ []) a calls zero = text_told text i a calls zero
-keeps same other (request.Script (Run seed steps) name) (text ∷ []) a calls zero = text_goes_on text seed steps a calls zero
-keeps same other (request.Script (Livelock set) name) (text ∷ []) a calls zero = text_bounded text set a calls zero
-keeps same other (request.Trial trial) [] a calls zero = text_ranked (trial_text trial) (rule_of trial.family) a calls zero
-keeps same other (request.Conform script specification) (text ∷ next ∷ []) a calls zero = texts_conform text next a calls zero
-keeps same other r texts a calls zero = absurd calls
+pub keeps : (r : Request) (texts : List (List ℕ)) (a : Answer) → TextsCallFor r texts a → status a ≡ 0 → Promised r texts (report_text a)
+keeps (request.Show name) (text ∷ []) a calls zero = text_shown text a calls zero
+keeps (request.Script (Check rule) name) (text ∷ []) a calls zero = text_ranked text rule a calls zero
+keeps (request.Script (Table i) name) (text ∷ []) a calls zero = text_told text i a calls zero
+keeps (request.Script (Run seed steps) name) (text ∷ []) a calls zero = text_goes_on text seed steps a calls zero
+keeps (request.Script (Livelock set) name) (text ∷ []) a calls zero = text_bounded text set a calls zero
+keeps (request.Trial trial) [] a calls zero = text_ranked (trial_text trial) (rule_of trial.family) a calls zero
+keeps (request.Conform script specification) (text ∷ next ∷ []) a calls zero = texts_conform text next a calls zero
+keeps r texts a calls zero = absurd calls
 
 pub keeps_free : (rule : Rule) (name : List ℕ) (texts : List (List ℕ)) (a : Answer) → TextsCallFor (request.Script (Check rule) name) texts a → status a ≡ 0
     → IsFree (request.Script (Check rule) name) texts (report_text a)
@@ -276,6 +275,12 @@ pub keeps_stuck : (seed steps : ℕ) (name : List ℕ) (texts : List (List ℕ))
     → IsStuckRun (request.Script (Run seed steps) name) texts (report_text a)
 keeps_stuck seed steps name (text ∷ []) a calls is = text_stuck text seed steps a calls is
 keeps_stuck seed steps name texts a calls is = absurd calls
+
+-- what holds of the answer to a text with a job holds of the answer where the job is known
+pub of_job : {E : Type 0} (text : List ℕ) (job : Job) (made : Result Answer E) (Q : Answer → Type 0) → IfOk made (TextCallsFor text job)
+    → ((a : Answer) → ({other : Job} → job ≡ other → TextCallsFor text other a) → Q a) → IfOk made Q
+of_job text job (Err e) Q calls holds = tt
+of_job text job (Ok a) Q calls holds = holds a (λ same. subst (λ (j : Job). TextCallsFor text j a) same calls)
 
 -- ---- completeness
 

@@ -21,11 +21,10 @@ use comparison::compared;
 use csp_base::NoMemory;
 use csp_parser::{ParseFault, each_text_spells_one_script, read};
 use csp_text::Script;
-use judgement::{each_script_has_one_network, judged};
+use judgement::judged;
 use livelock::bounded;
 use network_stages::{Spelled, spell_network};
 use network_walks::walked;
-use print_laws::printed_text_spells_the_script;
 use report::{Answer, Done, Side, Stop, TextFault, Verdict, ended, finished};
 use script_printer::print_script;
 use std::alloc::Global;
@@ -66,7 +65,6 @@ fn spell(alloc: Global, side: Side, text: &[u8]) -> Result<Spelled, Stop<Answer>
     ensures told { IfErr result (Tells (SpellsNoNetwork side text.now)) }
 {
     let script = spell_script(alloc, side, text)?;
-    each_script_has_one_network();
     spell_network(alloc, side, &script)
 }
 
@@ -152,7 +150,6 @@ pub fn show(alloc: Global, text: &[u8]) -> Result<Answer, NoMemory>
     // And so it comes wherever the text spells a script.
     ensures complete { IfOk result (λ answer. (script : ScriptValue) → Spells text.now script → status answer ≡ 0) }
 {
-    printed_text_spells_the_script();
     ended(text_shown(alloc, text))
 }
 
