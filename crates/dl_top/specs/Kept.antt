@@ -11,8 +11,7 @@ HaveGiven gives old new [] [] = new ≡ old
 HaveGiven {S} gives old new (name ∷ names) (text ∷ texts) = (between : S) × gives old between name text × HaveGiven gives between new names texts
 HaveGiven gives old new _ _ = ⊥
 
--- The words ask for this request. The loads of the texts that it names gave these, for which the report keeps the promise. The sink, where it tells, grew by
--- exactly the report, after the line that names a trial.
+-- The words ask for this request, and the loads of its texts gave these. The sink, where it tells, grew by exactly the report, which keeps the promise.
 pub record Kept {S : Type 0} (Promise : Request → List (List ℕ) → List ℕ → Type 0) (gives : S → S → List ℕ → List ℕ → Type 0) (old new : S) (words : List (List ℕ)) (sent_before sent_after : Option (List ℕ)) : Type 0 where
   pub request : Request
   pub asked : Asks words request

@@ -14,9 +14,8 @@ use Rattle.dl_top.specs.Judgement.{SpellsOnlyNetwork}
 use Rattle.dl_top.specs.Reply.{rule_of, trial_text}
 
 -- The text spells exactly one network. From every state that some run of the network reaches, at most `bound` silent steps follow one another, and
--- a state without a silent step has an event; and `bound` is exactly the network's silent bound. No term that a component reaches can end or lacks a
--- value that its steps need. `nodes` is the number of classes into which the traces of the components fall where those with the same future are one
--- class. The report prints the rule, the number of components and these numbers, and a greatest rank.
+-- a state without a silent step has an event; and `bound` is exactly its silent bound. No term that a component reaches can end or lacks a value that its
+-- steps need. `nodes` counts the components' classes of traces with the same future. The report prints these numbers, and a greatest rank.
 pub record SpellsDeadlockFree (text : List ℕ) (rule : Rule) (report : List ℕ) : Type 0 where
   pub network : Network
   pub spells : SpellsOnlyNetwork text network
