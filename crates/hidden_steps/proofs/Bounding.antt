@@ -1,5 +1,5 @@
 -- The bounds of the taken components, by induction over the order.
-use Rattle.std.proofs.Common.{◌≡◌, ◌≤◌, ◌<◌, ◌+◌, ◌*◌, ℕ, zero, suc, inl, inr, List, [], ◌∷◌, Some, slice_get, length, Bool, true, false, ◌&&◌, ◌||◌, not, nat_eq, IsTrue, if◌then◌else◌, refl, sym, ap, ap₂, subst, ◌∙◌, arith}
+use Rattle.std.proofs.Common.{◌≡◌, ◌≤◌, ◌+◌, ◌*◌, ℕ, zero, suc, inl, inr, List, [], ◌∷◌, Some, slice_get, length, Bool, true, false, ◌&&◌, ◌||◌, not, nat_eq, IsTrue, if◌then◌else◌, refl, sym, ap, ap₂, subst, ◌∙◌, arith}
 use Rattle.std.proofs.Math.Nat.{mul-le-mul_left}
 use Rattle.std.proofs.lemmas.Bool.{cases_Bool, cond-true, cond-false, false≢true, or_left, or_right}
 use Rattle.std.proofs.lemmas.Bool.Decides.{nat_tests}
@@ -8,6 +8,7 @@ use Rattle.std.proofs.lemmas.Option.{none-some, same_Some}
 use Rattle.digraph.specs.Walk.{Walk}
 use Rattle.csp_base.specs.Members.{has}
 use Rattle.csp_base.proofs.Listed.{any_of}
+use Rattle.csp_base.proofs.Lists.{slice_get_some}
 use Rattle.csp_tables.specs.Flat.{in_some_component, FlatStep}
 use Rattle.csp_tables.specs.Label.{Label}
 use Rattle.csp_tables.specs.Label.Label.{silent, visible}
@@ -21,7 +22,7 @@ use Rattle.net_sound.proofs.Flattening.{forth, kept}
 use Rattle.net_sound.proofs.Local.{AllAfter, all_after, run_forth, run_kept}
 use Rattle.net_sound.proofs.Soundness.{path_alphabet}
 use Rattle.hidden_steps.specs.Bounded.{HiddenStep, HiddenStepsAreBounded}
-use Rattle.hidden_steps.specs.Order.{AllAreTaken, AreTaken, IsAmong, IsNext, Taken, hidden_bound, is_passed, share_hidden, shared_bounds}
+use Rattle.hidden_steps.specs.Order.{AreTaken, IsAmong, IsNext, IsOrder, Taken, bound_over, hidden_bound, is_passed, share_hidden, shared_bounds}
 use Rattle.hidden_steps.proofs.Counting.{count, count_all, count_le, count_le_sum, count_none, one, Each}
 use Rattle.hidden_steps.proofs.Moves.{Along, AllAlong, AreMoves, Move, has_moves, moves_along}
 use Rattle.hidden_steps.proofs.Moves.Move.{event, quiet}
@@ -79,12 +80,6 @@ three own product bound h k = omega arith
 
 as_many_alphabets : {T : Type 0} (cs ds : List (Component T)) → alphabets cs ≡ alphabets ds → length cs ≡ length ds
 as_many_alphabets cs ds h = sym (length-map cs (λ c. c.alphabet)) ∙ ap length h ∙ length-map ds (λ c. c.alphabet)
-
--- there is one in each place of a list
-there : {X : Type 0} (xs : List X) (i : ℕ) → i < length xs → (x : X) × (slice_get xs i ≡ Some x)
-there [] i h = absurd (omega arith)
-there (x ∷ xs) zero h = (x, refl)
-there (x ∷ xs) (suc i) h = there xs i (omega arith)
 
 -- a component that has the event
 owner : {T : Type 0} (cs : List (Component T)) (e : ℕ) → IsTrue (in_some_component cs e) → (i : ℕ) × (c : Component T) × (slice_get cs i ≡ Some c) × (has c.alphabet e ≡ true)
@@ -146,26 +141,26 @@ foreign_le hidden a (t ∷ ts) ms h =
 
 -- ---- the bounds hold
 
-abbrev AllBounded : List Taken → List Move → Type 0
-AllBounded [] ms = Unit {0}
-AllBounded (t ∷ ts) ms = (count (is_own t.part t.alphabet ts) ms ≤ t.bound) × AllBounded ts ms
+abbrev AllBounded : List ℕ → List Taken → List Move → Type 0
+AllBounded hidden [] ms = Unit {0}
+AllBounded hidden (t ∷ ts) ms = (count (is_own t.part t.alphabet ts) ms ≤ bound_over hidden ts t) × AllBounded hidden ts ms
 
 if_le : (b : Bool) (m n : ℕ) → m ≤ n → (if b then m else 0) ≤ (if b then n else 0)
 if_le true m n h = h
 if_le false m n h = omega arith
 
-shared_le : (hidden a : List ℕ) (ts : List Taken) (ms : List Move) → AllBounded ts ms → shared_own hidden a ts ms ≤ shared_bounds hidden a ts
+shared_le : (hidden a : List ℕ) (ts : List Taken) (ms : List Move) → AllBounded hidden ts ms → shared_own hidden a ts ms ≤ shared_bounds hidden a ts
 shared_le hidden a [] ms h = omega arith
 shared_le hidden a (t ∷ ts) ms h =
-    sums _ _ _ _ (if_le (share_hidden hidden a t.alphabet) (count (is_own t.part t.alphabet ts) ms) t.bound h.0) (shared_le hidden a ts ms h.1)
+    sums _ _ _ _ (if_le (share_hidden hidden a t.alphabet) (count (is_own t.part t.alphabet ts) ms) (bound_over hidden ts t) h.0) (shared_le hidden a ts ms h.1)
 
 abbrev total_own : List Taken → List Move → ℕ
 total_own [] ms = 0
 total_own (t ∷ ts) ms = count (is_own t.part t.alphabet ts) ms + total_own ts ms
 
-total_le : (ts : List Taken) (ms : List Move) → AllBounded ts ms → total_own ts ms ≤ hidden_bound ts
-total_le [] ms h = omega arith
-total_le (t ∷ ts) ms h = sums _ _ _ _ h.0 (total_le ts ms h.1)
+total_le : (hidden : List ℕ) (ts : List Taken) (ms : List Move) → AllBounded hidden ts ms → total_own ts ms ≤ hidden_bound hidden ts
+total_le hidden [] ms h = omega arith
+total_le hidden (t ∷ ts) ms h = sums _ _ _ _ h.0 (total_le hidden ts ms h.1)
 
 -- where the component with a number stands in the run
 record Stands {T : Type 0} (Step : T → Label → T → Type 0) (start : Component T) (i : ℕ) (ms : List Move) : Type 0 where
@@ -189,7 +184,7 @@ stands Step s k (x ∷ cs) (u ∷ us) (v ∷ vs) ms (suc i) c a l h =
 
 module _ {T : Type 0} (Step : T → Label → T → Type 0) (hidden s : List ℕ) (cs us vs : List (Component T)) (ms : List Move)
     (after : AllAfter Step s cs us) (along : AllAlong Step 0 us ms vs) (hides : AreHidden hidden ms) where
-  one_bounded : (t : Taken) (ts : List Taken) → IsNext Step hidden cs ts t → AllBounded ts ms → count (is_own t.part t.alphabet ts) ms ≤ t.bound
+  one_bounded : (t : Taken) (ts : List Taken) → IsNext Step hidden cs ts t → AllBounded hidden ts ms → count (is_own t.part t.alphabet ts) ms ≤ bound_over hidden ts t
   one_bounded t ts next h =
       let at = stands Step s 0 cs us vs ms t.part next.component after along next.at in
       let number : 0 + t.part ≡ t.part = omega arith in
@@ -201,10 +196,9 @@ module _ {T : Type 0} (Step : T → Label → T → Type 0) (hidden s : List ℕ
       let foreign : count (is_foreign t.alphabet ts) ms ≤ shared_own hidden t.alphabet ts ms = foreign_le hidden t.alphabet ts ms hides in
       let shared : shared_own hidden t.alphabet ts ms ≤ shared_bounds hidden t.alphabet ts = shared_le hidden t.alphabet ts ms h in
       let whole : t.height * suc (count (is_foreign t.alphabet ts) ms) ≤ t.height * suc (shared_bounds hidden t.alphabet ts) = mul-le-mul_left t.height (omega arith) in
-      let bound : t.bound ≡ t.height * suc (shared_bounds hidden t.alphabet ts) = next.bound in
-      subst (λ n. count (is_own t.part t.alphabet ts) ms ≤ n) (sym bound) (three _ _ _ mine whole)
+      three _ _ _ mine whole
 
-  all_bounded : (ts : List Taken) → AreTaken Step hidden cs ts → AllBounded ts ms
+  all_bounded : (ts : List Taken) → AreTaken Step hidden cs ts → AllBounded hidden ts ms
   all_bounded [] a = tt
   all_bounded (t ∷ ts) a = let rest = all_bounded ts a.1 in (one_bounded t ts a.0 rest, rest)
 
@@ -250,14 +244,14 @@ module _ {T : Type 0} (Step : T → Label → T → Type 0) (hidden : List ℕ) 
       or_left (has t.alphabet e) (is_passed ts e) (ap (λ al. has al e) (sym (ap (λ (x : Component T). x.alphabet) is ∙ a.0.alphabet)) ∙ h)
   passed e i c (t ∷ ts) at h a (inr later) = or_right (has t.alphabet e) (is_passed ts e) (passed e i c ts at h a.1 later)
 
-  all_taken : (ts : List Taken) (ms : List Move) → AreTaken Step hidden cs ts → AllAreTaken Step hidden cs ts → AreMoves hidden cs ms → Each (λ m. is_taken ts m ≡ true) ms
-  all_taken ts [] a all are = tt
-  all_taken ts (quiet j ∷ ms) a all are =
-      let c = there cs j are.0 in
-      (quiet_taken j ts (all j c.0 c.1), all_taken ts ms a all are.1)
-  all_taken ts (event e ∷ ms) a all are =
+  all_taken : (ts : List Taken) (ms : List Move) → IsOrder Step hidden cs ts → AreMoves hidden cs ms → Each (λ m. is_taken ts m ≡ true) ms
+  all_taken ts [] is are = tt
+  all_taken ts (quiet j ∷ ms) is are =
+      let c = slice_get_some cs j are.0 in
+      (quiet_taken j ts (is.all j c.0 c.1), all_taken ts ms is are.1)
+  all_taken ts (event e ∷ ms) is are =
       let o = owner cs e are.1 in
-      (event_taken e ts (passed e o.0 o.1 ts o.2 o.3 a (all o.0 o.1 o.2)), all_taken ts ms a all are.2)
+      (event_taken e ts (passed e o.0 o.1 ts o.2 o.3 is.taken (is.all o.0 o.1 o.2)), all_taken ts ms is are.2)
 
 -- ---- the network
 
@@ -279,16 +273,16 @@ walk_forth Step hidden (suc n) t u w h =
     ]
 
 pub hidden_steps_are_bounded : {T : Type 0} (Step : T → Label → T → Type 0) → HiddenStepsAreBounded Step
-hidden_steps_are_bounded Step tree u v hidden taken n w are all r h =
+hidden_steps_are_bounded Step tree u v hidden order n w is r h =
     let run = run_forth Step r.0 tree u w r.1 in
     let nested = run_kept Step r.0 tree u w r.1 in
     let after = all_after Step r.0 (leaves tree) (leaves u) run in
     let m = has_moves Step hidden n (leaves u) (leaves v) (walk_forth Step hidden n u v nested h) in
     let back : alphabets (leaves u) ≡ alphabets (leaves tree) = sym (path_alphabets Step r.0 (leaves tree) (leaves u) run) in
     let moves = moves_along hidden (leaves u) (leaves tree) m.moves (as_many_alphabets (leaves u) (leaves tree) back) (λ e. same_some (leaves u) (leaves tree) e back) m.are in
-    let bounded = all_bounded Step hidden (visible_events r.0) (leaves tree) (leaves u) (leaves v) m.moves after m.along (hidden_moves hidden (leaves tree) m.moves moves) taken are in
-    let most : length m.moves ≤ count (is_taken taken) m.moves = count_all (is_taken taken) m.moves (all_taken Step hidden (leaves tree) taken m.moves are all moves) in
-    let own : count (is_taken taken) m.moves ≤ total_own taken m.moves = taken_le taken m.moves in
-    let total : total_own taken m.moves ≤ hidden_bound taken = total_le taken m.moves bounded in
+    let bounded = all_bounded Step hidden (visible_events r.0) (leaves tree) (leaves u) (leaves v) m.moves after m.along (hidden_moves hidden (leaves tree) m.moves moves) order is.taken in
+    let most : length m.moves ≤ count (is_taken order) m.moves = count_all (is_taken order) m.moves (all_taken Step hidden (leaves tree) order m.moves is moves) in
+    let own : count (is_taken order) m.moves ≤ total_own order m.moves = taken_le order m.moves in
+    let total : total_own order m.moves ≤ hidden_bound hidden order = total_le hidden order m.moves bounded in
     let many : length m.moves ≡ n = m.count in
     omega arith
