@@ -1,2 +1,2 @@
+pub mod Exits
 pub mod Status
-pub mod Walk

@@ -1,4 +1,3 @@
 pub mod Named
 pub mod Bounded
-pub mod Whole
 pub mod Stopping

@@ -1,4 +1,4 @@
-//! A bound on the hidden events of a script's network.
+//! A bound on the hidden events of a network.
 #![tactic(auto)]
 
 mod bounding;
