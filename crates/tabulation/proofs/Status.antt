@@ -1,5 +1,5 @@
 -- A tabulation is refused, or the table is shown; and it is shown where nothing speaks against it.
-use Rattle.std.proofs.Common.{◌≡◌, ◌×◌, ℕ, Some, [], ◌∷◌, slice_get, sym, subst, arith}
+use Rattle.std.proofs.Common.{◌≡◌, ℕ, Some, slice_get, sym, subst, ◌∙◌, arith}
 use Rattle.std.proofs.lemmas.Option.{same_Some, slice_get_within}
 use Rattle.csp_program.specs.declared.processes.Proc.{Proc}
 use Rattle.csp_tables.specs.Network.{Component, leaves}

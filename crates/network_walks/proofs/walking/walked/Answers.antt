@@ -1,15 +1,15 @@
 use Rattle.std.proofs.Common.{rules}
-use Rattle.report.proofs.Points.{exits, goes_on}
+use Rattle.report.proofs.Points.{at_refusal, at_want, goes_on}
 use Rattle.network_walks.specs.Walked.{IsWalked}
 use Rattle.network_walks.proofs.Telling.{tells_walk}
 use Rattle.network_walks.proofs.walking.walked.Goals as goal
 
 pub returns-in_err-tabled : goal.returns-in_err-tabled
 unfolding IsWalked
-returns-in_err-tabled c = search (rules, exits)
+returns-in_err-tabled c = search (rules, at_refusal, at_want)
 
 pub returns-in_err-made : goal.returns-in_err-made
-returns-in_err-made c = search (rules, exits)
+returns-in_err-made c = search (rules, at_refusal, at_want)
 
 pub returns : goal.returns
 unfolding IsWalked

@@ -1,16 +1,16 @@
 use Rattle.std.proofs.Common.{rules}
-use Rattle.report.proofs.Points.{exits, goes_on}
+use Rattle.report.proofs.Points.{at_refusal, at_want, goes_on}
 use Rattle.report.specs.Points.Point.{passed}
 use Rattle.tabulation.specs.Tabulated.{IsTabulated}
 use Rattle.tabulation.proofs.tabulating.tabulated.Goals as goal
 
 pub returns-in_err-chosen : goal.returns-in_err-chosen
 unfolding IsTabulated
-returns-in_err-chosen c = search (rules, exits)
+returns-in_err-chosen c = search (rules, at_refusal, at_want)
 
 pub returns-in_err-part : goal.returns-in_err-part
 unfolding IsTabulated
-returns-in_err-part c = goes_on _ _ _ _ _ c.in_ok-chosen.ensures.there _ (search (rules, exits))
+returns-in_err-part c = goes_on _ _ _ _ _ c.in_ok-chosen.ensures.there _ (search (rules, at_refusal, at_want))
 
 pub returns : goal.returns
 unfolding IsTabulated
