@@ -1,7 +1,7 @@
+pub mod Busy
 pub mod Networks
+pub mod Rows
 pub mod Sets
 pub mod Shapes
-pub mod Shortfalls
 pub mod Stages
-pub mod Tables
-pub mod Tells
+pub mod Views
