@@ -9,6 +9,7 @@ use Rattle.hidden_bounds.specs.Found.{PassesAt}
 use Rattle.hidden_bounds.specs.Sums.{AreBounds, IsNextSum, bound_at, sum_before}
 use Rattle.hidden_bounds.specs.Taking.{AreWithin, alphabet_at, taken_in}
 use Rattle.hidden_bounds.specs.declared.ordering.Placed.{Placed}
+use Rattle.hidden_bounds.proofs.Passing.{bound_grows, passes_grows}
 use Rattle.hidden_bounds.proofs.Taken.{next_taken, shares_of, taken_split}
 
 if_le : (b : Bool) (n : ℕ) → (if b then n else 0) ≤ n
@@ -21,16 +22,6 @@ sums a b c d h k = omega arith
 shared_le : (hidden a : List ℕ) (ts : List Taken) → shared_bounds hidden a ts ≤ hidden_bound hidden ts
 shared_le hidden a [] = omega arith
 shared_le hidden a (t ∷ ts) = sums _ (bound_over hidden ts t) _ (hidden_bound hidden ts) (if_le (share_hidden hidden a t.alphabet) (bound_over hidden ts t)) (shared_le hidden a ts)
-
--- more components, more bounds
-bound_grows : (hidden : List ℕ) (later ts : List Taken) → hidden_bound hidden ts ≤ hidden_bound hidden (later ++ ts)
-bound_grows hidden [] ts = omega arith
-bound_grows hidden (t ∷ later) ts = let rest : hidden_bound hidden ts ≤ hidden_bound hidden (later ++ ts) = bound_grows hidden later ts in omega arith
-
--- where the limit is passed stays
-passes_grows : (hidden : List ℕ) (later ts : List Taken) (part : ℕ) → PassesAt hidden ts part → PassesAt hidden (later ++ ts) part
-passes_grows hidden [] ts part passes = passes
-passes_grows hidden (t ∷ later) ts part passes = inr (passes_grows hidden later ts part passes)
 
 pub within_read : (count : ℕ) (order : List Placed) (k : ℕ) (d : Placed) → AreWithin count order → k < length order → (get_or order k d).part < count
 within_read count order k d within below = within k (get_or order k d) (slice_get-get_or order k d below)

@@ -38,6 +38,7 @@ impl Drop for HiddenBound {
 }
 
 /// Why no bound is told.
+#[derive(Drop)]
 pub enum LoopFault {
     /// Memory ran out.
     NoMemory,
@@ -51,17 +52,6 @@ pub enum LoopFault {
         /// The component in the order at which they first do.
         part: u32,
     },
-}
-
-// By hand, so that a crate that ends one calls this and proves no end of its own.
-impl Drop for LoopFault {
-    fn drop(self) {
-        match self {
-            LoopFault::NoMemory => {}
-            LoopFault::NoOrder { parts: _parts } => {}
-            LoopFault::BoundLimit { part: _part } => {}
-        }
-    }
 }
 
 impl From<NoMemory> for LoopFault {

@@ -1,5 +1,6 @@
 -- A rule with what a script notes for it of each component: what it comes to for a network.
 use Rattle.std.specs.Prelude.{◌≡◌, Ok}
+use Rattle.csp_program.specs.Outcome.{Outcome, and_then}
 use Rattle.csp_tables.specs.Network.{leaves}
 use Rattle.csp_tables.specs.Ranking.{Ranking}
 use Rattle.csp_tables.specs.Shape.{Shape}
@@ -21,12 +22,14 @@ use Rattle.report.specs.declared.answer.Refusal.{Refusal}
 use Rattle.report.specs.declared.answer.Shortfall.{Shortfall}
 use Rattle.judgement.specs.Told.{TellsNoted, TellsRule}
 
--- the program notes this for the rule of the network's components
+-- the rule with what the program notes for it of the network's components
+abbrev pub notes_of : Network → Rule → Outcome NotedRule
+notes_of network Cyclic = Ok noted.Cyclic
+notes_of network ClientServer = and_then (all_outcomes (component_roles network.program) (leaves network.tree)) (λ roles. Ok (noted.ClientServer roles))
+notes_of network Resource = and_then (all_outcomes (component_uses network.program) (leaves network.tree)) (λ uses. Ok (noted.Resource uses))
+
 abbrev pub Notes : Network → Rule → NotedRule → Type 0
-Notes network Cyclic noted.Cyclic = Unit {0}
-Notes network ClientServer (noted.ClientServer roles) = all_outcomes (component_roles network.program) (leaves network.tree) ≡ Ok roles
-Notes network Resource (noted.Resource uses) = all_outcomes (component_uses network.program) (leaves network.tree) ≡ Ok uses
-Notes _ _ _ = ⊥
+Notes network rule noted = notes_of network rule ≡ Ok noted
 
 -- an annotated set of a component has no value
 abbrev pub HasUntold : Network → Rule → Refusal → Type 0

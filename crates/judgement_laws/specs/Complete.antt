@@ -1,5 +1,5 @@
 -- When a network passes a check. (That it is spelled holds the limits of scripts and of networks; that its components have tables, those of components.)
-use Rattle.std.specs.Prelude.{◌≡◌, List}
+use Rattle.std.specs.Prelude.{◌≡◌, ◌↔◌, List}
 use Rattle.csp_tables.specs.Network.{leaves}
 use Rattle.csp_tables.specs.Part.{TripleDisjoint}
 use Rattle.csp_tables.specs.declared.rule.Rule.{Rule}
@@ -35,6 +35,6 @@ EachScriptHasOneStatus =
     (script : Script) (network other : Network) (rule : Rule) (v w : Verdict) → IsNetworkOf script network → IsNetworkOf script other → IsJudged network rule v → IsJudged other rule w
     → verdict_status v ≡ verdict_status w
 
--- the verdict on a network that passes has the status 0
-abbrev pub JudgementIsComplete : Type 0
-JudgementIsComplete = (network : Network) (rule : Rule) (v : Verdict) → Passes network rule → IsJudged network rule v → verdict_status v ≡ 0
+-- the verdict on a network has the status 0 exactly where the network passes
+abbrev pub JudgementIsExact : Type 0
+JudgementIsExact = (network : Network) (rule : Rule) (v : Verdict) → IsJudged network rule v → (verdict_status v ≡ 0) ↔ Passes network rule

@@ -1,2 +1,3 @@
-pub mod Exits
-pub mod Status
+pub mod Agreeing
+pub mod Deciding
+pub mod Whole

@@ -1,5 +1,4 @@
 -- How it is told that a set has no value, and that there is no bound. (For private contracts: no public one cites this.)
-use Rattle.std.specs.Prelude.{◌≡◌}
 use Rattle.hidden_bounds.specs.declared.bounding.LoopFault.{LoopFault}
 use Rattle.hidden_bounds.specs.declared.bounding.LoopFault.TheVariants as fault
 use Rattle.report.specs.declared.answer.Refusal.{Refusal}
@@ -19,7 +18,7 @@ stop_without_value value.NoMemory = stop.NoMemory
 stop_without_value (value.Value kind) = stop.Told (refusal.Value kind site.HiddenSet)
 
 -- how a fault of the bound is told
-abbrev pub TellsFault : LoopFault → Verdict → Type 0
-TellsFault fault.NoMemory v = ⊥
-TellsFault (fault.NoOrder parts) v = v ≡ verdict.NotProved (shortfall.NoOrder parts)
-TellsFault (fault.BoundLimit part) v = v ≡ verdict.Refused side.Script (refusal.BoundLimit part)
+abbrev pub stop_of_fault : LoopFault → Stop Verdict
+stop_of_fault fault.NoMemory = stop.NoMemory
+stop_of_fault (fault.NoOrder parts) = stop.Told (verdict.NotProved (shortfall.NoOrder parts))
+stop_of_fault (fault.BoundLimit part) = stop.Told (verdict.Refused side.Script (refusal.BoundLimit part))

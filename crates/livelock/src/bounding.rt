@@ -2,13 +2,12 @@
 
 ghost use Rattle.std.specs.Prelude.{◌≡◌, ◌<◌, ◌^◌, length};
 ghost use Rattle.csp_tables.specs.Network.{leaves};
-ghost use Rattle.report.specs.Stops.{Answers, Tells};
+ghost use Rattle.report.specs.Stops.{Answers};
 ghost use Rattle.report.specs.declared.answer.Done.TheVariants as done;
 ghost use Rattle.livelock.specs.Bounded.{IsBounded, OrderDecides};
-ghost use Rattle.livelock.specs.Stopping.{TellsFault};
+ghost use Rattle.livelock.specs.Stopping.{stop_of_fault};
 
-use crate::named::hidden_events;
-use containers::Items;
+use crate::named::{expression_named, hidden_set};
 use csp_base::EventSet;
 use hidden_bounds::{LoopFault, livelock};
 use network_stages::{Spelled, Tabled, make_tables};
@@ -16,18 +15,17 @@ use report::{Done, Refusal, Shortfall, Side, Stop, Verdict};
 use std::alloc::Global;
 
 // How it is told why no bound is printed.
-fn no_bound(alloc: Global, fault: &LoopFault) -> Stop<Verdict>
-    ensures { Tells (TellsFault fault.now) result }
+fn no_bound(fault: LoopFault) -> Stop<Verdict>
+    ensures { result ≡ stop_of_fault fault }
 {
     match fault {
         LoopFault::NoMemory => Stop::NoMemory,
-        LoopFault::NoOrder { parts } => match Items::from_slice(alloc, parts.as_slice()) {
-            Ok(components) => Stop::Told(Verdict::NotProved(Shortfall::NoOrder { components })),
-            Err(_) => Stop::NoMemory,
-        },
+        LoopFault::NoOrder { parts } => {
+            Stop::Told(Verdict::NotProved(Shortfall::NoOrder { components: parts }))
+        }
         LoopFault::BoundLimit { part } => Stop::Told(Verdict::Refused(
             Side::Script,
-            Refusal::BoundLimit { component: *part },
+            Refusal::BoundLimit { component: part },
         )),
     }
 }
@@ -44,11 +42,7 @@ fn livelock_free(network: &Spelled, bound: u64) -> Done
 }
 
 // The bound of a network with these events hidden, or why none is told.
-fn bound_with(
-    alloc: Global,
-    tabled: &Tabled<'_>,
-    events: &EventSet,
-) -> Result<Done, Stop<Verdict>>
+fn bound_with(alloc: Global, tabled: &Tabled<'_>, events: &EventSet) -> Result<Done, Stop<Verdict>>
     ensures { Answers (OrderDecides tabled.now.network events.now) result }
 {
     let network = tabled.network();
@@ -60,7 +54,7 @@ fn bound_with(
         events,
     ) {
         Ok(found) => Ok(livelock_free(network, found.bound)),
-        Err(fault) => Err(no_bound(alloc, &fault)),
+        Err(fault) => Err(no_bound(fault)),
     }
 }
 
@@ -68,7 +62,8 @@ fn bound_with(
 pub fn bounded(alloc: Global, network: &Spelled, name: &[u8]) -> Result<Done, Stop<Verdict>>
     ensures { Answers (IsBounded network.now name.now) result }
 {
-    let events = hidden_events(alloc, network.program(), name)?;
+    let expr = expression_named(network.program(), name)?;
+    let events = hidden_set(alloc, network.program(), expr)?;
     let tabled = make_tables(alloc, network)?;
     bound_with(alloc, &tabled, &events)
 }

@@ -2,6 +2,8 @@
 #![tactic(auto)]
 
 mod bounding;
+mod laws;
 mod named;
 
 pub use bounding::bounded;
+pub use laws::verdicts_agree;

@@ -1,12 +1,12 @@
 //! The set of events that a name stands for.
 
-ghost use Rattle.std.specs.Prelude.{◌≡◌, IfErr, IfOk};
+ghost use Rattle.std.specs.Prelude.{◌≡◌, IfErr, IfOk, Ok, Some};
 ghost use Rattle.std.specs.List.{find};
 ghost use Rattle.std.specs.Option.{option_copied};
+ghost use Rattle.process_steps.specs.Needed.{events_in as meant_events};
 ghost use Rattle.report.specs.Stops.{Tells};
-ghost use Rattle.livelock.specs.Bounded.{NamesNoSet};
+ghost use Rattle.livelock.specs.Bounded.{LacksValue, NamesNoSet};
 ghost use Rattle.livelock.specs.Named as meant;
-ghost use Rattle.livelock.specs.Named.{IsSetNamed};
 ghost use Rattle.livelock.specs.Stopping.{stop_without_value};
 
 use csp_base::EventSet;
@@ -53,7 +53,36 @@ fn data_among<'a>(defs: &'a [Def], name: &[u8]) -> Option<&'a Expr>
     }
 }
 
-// How it is told that a set has no value.
+/// The expression of the first definition of data without parameters that has the name, or that there is none.
+pub(crate) fn expression_named<'a>(
+    program: &'a Program,
+    name: &[u8],
+) -> Result<&'a Expr, Stop<Refusal>>
+    ensures ok { IfOk result (λ expr. meant.data_named program.now name.now ≡ Some expr.now) }
+    ensures told { IfErr result (Tells (NamesNoSet program.now name.now)) }
+{
+    match data_among(program.content().defs.as_slice(), name) {
+        Some(expr) => Ok(expr),
+        None => Err(Stop::Told(Refusal::NoSet)),
+    }
+}
+
+/// The events of the set that an expression is worth, or why it is worth none.
+pub(crate) fn hidden_set(
+    alloc: Global,
+    program: &Program,
+    expr: &Expr,
+) -> Result<EventSet, Stop<Refusal>>
+    ensures ok { IfOk result (λ events. meant_events program.now expr.now ≡ Ok events) }
+    ensures told { IfErr result (Tells (LacksValue program.now expr.now)) }
+{
+    match events_in(alloc, program, expr) {
+        Ok(events) => Ok(events),
+        Err(fault) => Err(valueless(fault)),
+    }
+}
+
+// How it is told that the set has no value.
 fn valueless(fault: EvalFault) -> Stop<Refusal>
     ensures { result ≡ stop_without_value fault }
 {
@@ -63,23 +92,5 @@ fn valueless(fault: EvalFault) -> Stop<Refusal>
             kind,
             site: Site::HiddenSet,
         }),
-    }
-}
-
-/// The events of the set that a name stands for, or why it stands for none.
-pub(crate) fn hidden_events(
-    alloc: Global,
-    program: &Program,
-    name: &[u8],
-) -> Result<EventSet, Stop<Refusal>>
-    ensures set { IfOk result (IsSetNamed program.now name.now) }
-    ensures told { IfErr result (Tells (NamesNoSet program.now name.now)) }
-{
-    match data_among(program.content().defs.as_slice(), name) {
-        Some(expr) => match events_in(alloc, program, expr) {
-            Ok(events) => Ok(events),
-            Err(fault) => Err(valueless(fault)),
-        },
-        None => Err(Stop::Told(Refusal::NoSet)),
     }
 }

@@ -72,7 +72,7 @@ impl Spelled {
         ensures seats { result.now ≡ leaves self.now.tree }
         ensures few { length result.now ≤ MOST_COMPONENTS }
     {
-        self.layout().seats()
+        self.layout.seats()
     }
 
     /// The program alone.
