@@ -1,12 +1,16 @@
 //! The verdict on a network and its specification.
 
-ghost use Rattle.report.specs.Stops.{Answers};
-ghost use Rattle.comparison.specs.Compared.{IsCompared};
+ghost use Rattle.std.specs.Prelude.{◌≡◌, List, IfErr, IfOk, OnOk};
+ghost use Rattle.network_stages.specs.Networks.{HasSilentBound};
+ghost use Rattle.network_stages.specs.Stages.{HasParts, HasTables};
+ghost use Rattle.network_tables.specs.declared.component_tables.ComponentTable.{ComponentTable};
+ghost use Rattle.report.specs.Stops.{Answers, Tells};
+ghost use Rattle.comparison.specs.Compared.{IsCompared, PartsOr};
 
 use crate::alphabets::check_alphabets;
 use crate::conforming::check_components;
 use crate::events::check_events;
-use network_stages::{Spelled, make_parts, make_tables};
+use network_stages::{Parted, Spelled, make_parts, make_tables};
 use report::{Done, Side, Stop, Verdict, refused};
 use std::alloc::Global;
 
@@ -20,19 +24,32 @@ pub fn compared(
 {
     check_events(alloc, network.program(), specified.program())?;
     check_alphabets(network.layout(), specified.layout())?;
-    let tabled = make_tables(alloc, network)?;
-    let parted = make_parts(alloc, &tabled)?;
-    let others = match make_tables(alloc, specified) {
-        Ok(others) => others,
-        Err(stop) => return Err(refused(Side::Specification, stop)),
-    };
-    let others = match make_parts(alloc, &others) {
-        Ok(others) => others,
-        Err(stop) => return Err(refused(Side::Specification, stop)),
-    };
+    let (parted, bound) = parts_of(alloc, Side::Script, network)?;
+    let (others, _) = parts_of(alloc, Side::Specification, specified)?;
     check_components(alloc, &parted, &others)?;
     Ok(Done::Conforms {
         components: network.seats().len() as u32,
-        bound: tabled.silent_bound(),
+        bound,
     })
+}
+
+// The parts of the network of this side, and its silent bound.
+fn parts_of<'a>(
+    alloc: Global,
+    side: Side,
+    network: &'a Spelled,
+) -> Result<(Parted<'a>, u32), Stop<Verdict>>
+    ensures network { IfOk result (λ made. made.0.network ≡ network.now) }
+    ensures tables { OnOk result ((tables : List ComponentTable) × HasTables network.now tables) }
+    ensures parts { IfOk result (λ made. HasParts network.now made.0.parts) }
+    ensures bound { IfOk result (λ made. HasSilentBound network.now made.1) }
+    ensures told { IfErr result (Tells (PartsOr side network.now (λ v. ⊥))) }
+{
+    match make_tables(alloc, network) {
+        Ok(tabled) => match make_parts(alloc, &tabled) {
+            Ok(parted) => Ok((parted, tabled.silent_bound())),
+            Err(stop) => Err(refused(side, stop)),
+        },
+        Err(stop) => Err(refused(side, stop)),
+    }
 }
