@@ -1,16 +1,17 @@
 -- What texts call for keeps the promise of its status; and where the texts are such, the status is 0.
 use Rattle.std.proofs.Common.{◌≡◌, ◌≤◌, ℕ, Bool, true, false, List, [], ◌∷◌, Some, Result, Ok, Err, IfOk, inl, inr, map, refl, sym, ap, subst, ◌∙◌, arith}
+use Rattle.std.proofs.lemmas.Option.{slice_get_within}
 use Rattle.command_words.specs.declared.request.Job.{Job}
 use Rattle.command_words.specs.declared.request.Job.TheVariants.{Check, Livelock, Run, Table}
 use Rattle.command_words.specs.declared.request.Request.{Request}
 use Rattle.command_words.specs.declared.request.Request.TheVariants as request
 use Rattle.command_words.specs.declared.request.Trial.{Trial}
-use Rattle.comparison.proofs.Cases.{IsComparedWhole, compared_cases}
-use Rattle.comparison.proofs.Complete.{comparison_completes}
-use Rattle.comparison.specs.Compared.{IsCompared}
+use Rattle.comparison.proofs.Matching.{compared_cases, comparison_is_exact}
+use Rattle.comparison.specs.Compared.{IsCompared, IsConforming}
 use Rattle.comparison.specs.Complete.{Matches}
 use Rattle.csp_steps.specs.Order.{AreTargets}
-use Rattle.csp_tables.specs.Network.{leaves}
+use Rattle.csp_program.specs.declared.processes.Proc.{Proc}
+use Rattle.csp_tables.specs.Network.{Component, leaves}
 use Rattle.csp_tables.specs.WellNested.{WellNested}
 use Rattle.csp_tables.specs.declared.rule.Rule.{Rule}
 use Rattle.csp_text.specs.declared.script.Script.{Script}
@@ -18,33 +19,38 @@ use Rattle.judgement.specs.Counts.{greatest_rank, node_count}
 use Rattle.judgement.specs.Judged.{IsJudged}
 use Rattle.judgement_laws.proofs.Complete.{complete}
 use Rattle.judgement_laws.proofs.Networks.{faults_exclude_networks}
-use Rattle.judgement_laws.proofs.Tables.{all_go_on}
+use Rattle.judgement_laws.proofs.Tables.{all_go_on, faults_exclude_tables}
 use Rattle.judgement_laws.proofs.Whole.{IsJudgedWhole, classes, goes_on, has_greatest_rank, judged_whole, passes}
 use Rattle.judgement_laws.specs.Complete.{Passes}
-use Rattle.livelock.proofs.Status.{bounded_cases}
+use Rattle.livelock.proofs.Agreeing.{bounds_are_told}
+use Rattle.livelock.proofs.Whole.{bounded_cases}
 use Rattle.livelock.specs.Bounded.{IsBounded}
 use Rattle.network_stages.specs.Networks.{IsNetworkOf, Network}
+use Rattle.network_stages.specs.Sets.{HaveFewSets}
+use Rattle.network_stages.specs.Stages.{HasNoPart, HasTables}
+use Rattle.network_tables.specs.declared.component_tables.ComponentTable.{ComponentTable}
 use Rattle.network_trees.proofs.InOrder.{network_is_tree}
 use Rattle.network_walks.proofs.Runs.{no_move_means_stuck, stays_nested, stuck_walks_refute_live, walks_are_runs}
-use Rattle.network_walks.proofs.Status.{walked_cases}
-use Rattle.network_walks.specs.Walked.{IsNetworkWalk, IsWalked, walk_verdict}
-use Rattle.network_walks.specs.Whole.{IsWalkedWhole}
+use Rattle.network_walks.specs.Walked.{IsNetworkWalk, IsWalked, TellsWalk, walk_verdict}
 use Rattle.numbered_walks.specs.Draws.{label}
 use Rattle.numbered_walks.specs.Numbers.{first_draw}
 use Rattle.numbered_walks.specs.declared.moves.Move.{Move}
+use Rattle.report.proofs.Points.{refused_or}
 use Rattle.print_laws.proofs.RoundTrip.{no_other, printed_spells}
 use Rattle.process_steps.specs.ComponentStep.{ProcessStep}
 use Rattle.report.specs.Report.{report_text, run_text, status, verdict_status, verdict_text}
 use Rattle.report.specs.declared.answer.Answer.{Answer}
+use Rattle.report.specs.declared.answer.Refusal.{Refusal}
 use Rattle.report.specs.declared.answer.Side.{Side}
 use Rattle.report.specs.declared.answer.Side.TheVariants as side
 use Rattle.report.specs.declared.answer.Verdict.{Verdict}
 use Rattle.report.specs.declared.answer.Verdict.TheVariants as verdict
 use Rattle.script_printer.specs.PrintedScript.{script_text}
-use Rattle.tabulation.proofs.Status.{tabulated_cases}
+use Rattle.network_tables.specs.Tables.{AreTablesOf}
+use Rattle.tabulation.proofs.Status.{tabulated_cases, tabulated_is_complete}
 use Rattle.tabulation.specs.Tabulated.{IsTabulated}
 use Rattle.dl_top.specs.Cause.{TextsCallFor}
-use Rattle.dl_top.specs.Complete.{Passing, SpellMatching, SpellsPassing}
+use Rattle.dl_top.specs.Complete.{Passing, SpellMatching, SpellsPassing, SpellsTabled, SpellsWithinBound}
 use Rattle.dl_top.specs.Judgement.{IsDecided, NetworkDecides, NetworkOr, SpellsNetwork, SpellsNoNetwork, SpellsOnlyNetwork, SpellsOnlyScript, TextCallsFor, TextIsShown, TextsCompare}
 use Rattle.dl_top.specs.Promised.{IsStuckRun, Promised, SpellsBounded, SpellsConforming, SpellsShown, SpellsTable, TellsRank}
 use Rattle.dl_top.specs.Proved.{IsFree, SpellsDeadlockFree}
@@ -120,7 +126,7 @@ text_told text i =
 pub text_bounded : (text name : List ℕ) (a : Answer) → TextCallsFor text (Livelock name) a → status a ≡ 0 → SpellsBounded text name (report_text a)
 text_bounded text name =
     decided text (λ network. IsBounded network name) (SpellsBounded text name) 0 (omega arith) (λ network v spells bounded.
-    bounded_cases network name (λ w. verdict_status w ≡ 0 → SpellsBounded text name (verdict_text network.program w)) (λ r zero. absurd (let no : 2 ≡ 0 = zero in cc))
+    bounded_cases network name (λ w. verdict_status w ≡ 0 → SpellsBounded text name (verdict_text network.program w)) spells.spelled.is.tree (λ r zero. absurd (let no : 2 ≡ 0 = zero in cc))
     (λ s zero. absurd (let no : 1 ≡ 0 = zero in cc))
     (λ w whole zero. record {
       network = network;
@@ -129,7 +135,7 @@ text_bounded text name =
       events = whole.events;
       set = whole.set;
       bound = whole.bound;
-      most = whole.most;
+      bounds = whole.bounds;
       is = ap (verdict_text network.program) whole.is;
     }) v bounded)
 
@@ -177,25 +183,25 @@ is_run network seed steps moves b nested walk =
       dead = λ h bound. stuck_walks_refute_live Step Targets seed steps bound network.tree moves nested (subst (λ (x : Bool). IsNetworkWalk network seed steps moves x) h walk);
     }
 
-spells_run : (text : List ℕ) (seed steps : ℕ) (b : Bool) (network : Network) (v : Verdict) → SpellsOnlyNetwork text network → IsWalkedWhole network seed steps v → verdict_status v ≡ run_status b
-    → SpellsRun text seed steps b (verdict_text network.program v)
-spells_run text seed steps b network v spells whole is =
-    let tells = whole.tells in
+spells_run : (text : List ℕ) (seed steps : ℕ) (b : Bool) (network : Network) (tables : List ComponentTable) (v : Verdict) → SpellsOnlyNetwork text network → HasTables network tables
+    → TellsWalk network seed steps v → verdict_status v ≡ run_status b → SpellsRun text seed steps b (verdict_text network.program v)
+spells_run text seed steps b network tables v spells are tells is =
     let end : tells.is_stuck ≡ b = same_end tells.is_stuck b (sym (walk_status tells.is_stuck tells.moves) ∙ sym (ap verdict_status tells.is) ∙ is) in
     record {
       network = network;
       spells = spells;
-      lasting = all_go_on network.program (leaves network.tree) whole.tables whole.are;
+      lasting = all_go_on network.program (leaves network.tree) tables are;
       moves = tells.moves;
       run = is_run network seed steps tells.moves b (nested network text spells) (subst (λ (x : Bool). IsNetworkWalk network seed steps tells.moves x) end tells.walk);
       is = ap (verdict_text network.program) tells.is ∙ walk_text network tells.is_stuck tells.moves ∙ ap (λ (x : Bool). run_text network.program tells.moves (last_line x)) end;
     }
 
 text_ran : (text : List ℕ) (seed steps : ℕ) (b : Bool) (a : Answer) → TextCallsFor text (Run seed steps) a → status a ≡ run_status b → SpellsRun text seed steps b (report_text a)
+unfolding IsWalked
 text_ran text seed steps b =
     decided text (λ network. IsWalked network seed steps) (SpellsRun text seed steps b) (run_status b) (few b) (λ network v spells walked.
-    walked_cases network seed steps (λ w. verdict_status w ≡ run_status b → SpellsRun text seed steps b (verdict_text network.program w)) (λ r is. absurd (no_refusal b is))
-    (λ w whole is. spells_run text seed steps b network w spells whole is) v walked)
+    refused_or _ _ _ _ (λ w. verdict_status w ≡ run_status b → SpellsRun text seed steps b (verdict_text network.program w)) (λ r is. absurd (no_refusal b is))
+    (λ tables w are tells is. spells_run text seed steps b network tables w spells are tells is) v walked)
 
 pub text_goes_on : (text : List ℕ) (seed steps : ℕ) (a : Answer) → TextCallsFor text (Run seed steps) a → status a ≡ 0 → SpellsRun text seed steps false (report_text a)
 text_goes_on text seed steps a calls is = text_ran text seed steps false a calls is
@@ -226,20 +232,20 @@ text_shown text a (inr (script, spells, is)) zero = record {
 
 -- ---- two texts
 
-conforming : (text specification : List ℕ) (network specified : Network) (v : Verdict) → SpellsOnlyNetwork text network → SpellsOnlyNetwork specification specified → IsComparedWhole network specified v
-    → SpellsConforming text specification (verdict_text network.program v)
-conforming text specification network specified v spells specifies whole = record {
+conforming : (text specification : List ℕ) (network specified : Network) (v : Verdict) → SpellsOnlyNetwork text network → SpellsOnlyNetwork specification specified → Matches network specified
+    → IsConforming network specified v → SpellsConforming text specification (verdict_text network.program v)
+conforming text specification network specified v spells specifies matches conforms = record {
   network = network;
   spells = spells;
   specified = specified;
   specifies = specifies;
-  matches = whole.matches;
-  lasting = all_go_on network.program (leaves network.tree) whole.matches.within.tables whole.matches.within.are;
-  specified_lasting = all_go_on specified.program (leaves specified.tree) whole.matches.specified_within.tables whole.matches.specified_within.are;
-  bound = whole.is.bound;
-  exact = whole.is.exact;
-  inherits = whole.is.inherits;
-  is = ap (verdict_text network.program) whole.is.is;
+  matches = matches;
+  lasting = all_go_on network.program (leaves network.tree) matches.within.tables matches.within.are;
+  specified_lasting = all_go_on specified.program (leaves specified.tree) matches.specified_within.tables matches.specified_within.are;
+  bound = conforms.bound;
+  exact = conforms.exact;
+  inherits = conforms.inherits;
+  is = ap (verdict_text network.program) conforms.is;
 }
 
 pub texts_conform : (text specification : List ℕ) (a : Answer) → TextsCompare text specification a → status a ≡ 0 → SpellsConforming text specification (report_text a)
@@ -247,8 +253,8 @@ texts_conform text specification a (inl none) zero = absurd (not_two 0 a (none_t
 texts_conform text specification a (inr (network, spells, inl none)) zero = absurd (not_two 0 a (none_two side.Specification specification a none) zero (omega arith))
 texts_conform text specification a (inr (network, spells, inr (specified, specifies, (v, compared, same)))) zero =
     subst (SpellsConforming text specification) (sym (ap report_text same))
-    (compared_cases network specified (λ w. verdict_status w ≡ 0 → SpellsConforming text specification (verdict_text network.program w)) (λ s r no. absurd (let z : 2 ≡ 0 = no in cc))
-    (λ s no. absurd (let z : 1 ≡ 0 = no in cc)) (λ w whole is. conforming text specification network specified w spells specifies whole) v compared (sym (ap status same) ∙ zero))
+    (compared_cases network specified (λ w. verdict_status w ≡ 0 → SpellsConforming text specification (verdict_text network.program w)) (λ s r never is. absurd (let no : 2 ≡ 0 = is in cc))
+    (λ s never is. absurd (let no : 1 ≡ 0 = is in cc)) (λ w matches conforms is. conforming text specification network specified w spells specifies matches conforms) v compared (sym (ap status same) ∙ zero))
 
 -- ---- all requests
 
@@ -301,8 +307,26 @@ texts_match text specification a matching (inr (network, spells, inl none)) = ab
 texts_match text specification a matching (inr (network, spells, inr (specified, specifies, (v, compared, same)))) =
     let first = spells.only matching.network matching.spelled in
     let second = specifies.only matching.specified matching.specified_spelled in
-    ap status same ∙ comparison_completes network specified v
-    (subst (λ (n : Network). Matches n specified) first (subst (λ (n : Network). Matches matching.network n) second matching.matches)) compared
+    ap status same ∙ (comparison_is_exact network specified v compared).1 (subst (λ (n : Network). Matches n specified) first (subst (λ (n : Network). Matches matching.network n) second matching.matches))
+
+-- a component that has a table and few sets has its part
+has_part : (network : Network) (i : ℕ) (c : Component Proc) (tables : List ComponentTable) → AreTablesOf network.program (c ∷ []) tables → HaveFewSets network.program (c ∷ []) → (r : Refusal)
+    → HasNoPart network.program i c r → ⊥
+has_part network i c tables are few r (inl none) = faults_exclude_tables network.program (c ∷ []) tables i r are none
+has_part network i c tables are few r (inr (others, there, (j, first, is))) = few j first.component (slice_get_within (c ∷ []) j first.component first.at) first.at first.many
+
+text_tabled : (text : List ℕ) (i : ℕ) (a : Answer) → SpellsTabled text i → TextCallsFor text (Table i) a → status a ≡ 0
+text_tabled text i a tabled (inl none) = absurd (spells_one side.Script text tabled.network a tabled.spelled none)
+text_tabled text i a tabled (inr (network, spells, (v, tabulated, same))) =
+    let here = subst (λ (n : Network). IsTabulated n i v) (sym (spells.only tabled.network tabled.spelled)) tabulated in
+    let whole = tabulated_is_complete tabled.network i tabled.component tabled.there (has_part tabled.network i tabled.component tabled.tables tabled.are tabled.few) v here in
+    ap status same ∙ ap verdict_status whole.is
+
+text_bounds : (text name : List ℕ) (a : Answer) → SpellsWithinBound text name → TextCallsFor text (Livelock name) a → status a ≡ 0
+text_bounds text name a within (inl none) = absurd (spells_one side.Script text within.network a within.spelled none)
+text_bounds text name a within (inr (network, spells, (v, bounded, same))) =
+    let here = subst (λ (n : Network). IsBounded n name v) (sym (spells.only within.network within.spelled)) bounded in
+    ap status same ∙ ap verdict_status (bounds_are_told within.network name within.bound v within.within here)
 
 pub shown_completes : (text : List ℕ) (a : Answer) (script : Script) → SpellsOnlyScript text script → TextIsShown text a → status a ≡ 0
 shown_completes text a script spells (inl none) = absurd (none.none script spells.spelled)
@@ -312,6 +336,8 @@ pub completes : (r : Request) (texts : List (List ℕ)) (a : Answer) → Passing
 completes (request.Show name) (text ∷ []) a passing (inl none) = absurd (none.none passing.0 passing.1)
 completes (request.Show name) (text ∷ []) a passing (inr (other, only, is)) = ap status is
 completes (request.Script (Check rule) name) (text ∷ []) a passing calls = text_completes text rule a passing calls
+completes (request.Script (Table i) name) (text ∷ []) a passing calls = text_tabled text i a passing calls
+completes (request.Script (Livelock set) name) (text ∷ []) a passing calls = text_bounds text set a passing calls
 completes (request.Trial trial) [] a passing calls = text_completes (trial_text trial) (rule_of trial.family) a passing calls
 completes (request.Conform script specification) (text ∷ next ∷ []) a passing calls = texts_match text next a passing calls
 completes r texts a passing calls = absurd passing

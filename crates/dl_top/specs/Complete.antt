@@ -1,18 +1,24 @@
 -- When a request is bound to end with status 0, unless a device fails or memory runs out.
-use Rattle.std.specs.Prelude.{◌≡◌, ◌≤◌, ℕ, List, [], ◌∷◌, Some, length}
+use Rattle.std.specs.Prelude.{◌≡◌, ◌≤◌, ℕ, List, [], ◌∷◌, Some, length, slice_get}
 use Rattle.dl_limits.specs.declared.TheConstants.{MOST_BYTES}
 use Rattle.command_words.specs.Request.{Asks, names}
 use Rattle.comparison.specs.Complete.{Matches}
-use Rattle.command_words.specs.declared.request.Job.TheVariants.{Check}
+use Rattle.command_words.specs.declared.request.Job.TheVariants.{Check, Livelock, Table}
 use Rattle.command_words.specs.declared.request.Request.{Request}
 use Rattle.command_words.specs.declared.request.Request.TheVariants as request
 use Rattle.csp_parser.specs.Spells.{Spells}
+use Rattle.csp_program.specs.declared.processes.Proc.{Proc}
+use Rattle.csp_tables.specs.Network.{Component, leaves}
 use Rattle.csp_tables.specs.declared.rule.Rule.{Rule}
 use Rattle.csp_text.specs.declared.script.Script.{Script}
 use Rattle.dl_outside.specs.declared.texts.NamedText.{NamedText}
 use Rattle.dl_outside.specs.Texts.{text_of}
 use Rattle.judgement_laws.specs.Complete.{Passes}
+use Rattle.livelock.specs.Complete.{IsWithinBound}
 use Rattle.network_stages.specs.Networks.{Network}
+use Rattle.network_stages.specs.Sets.{HaveFewSets}
+use Rattle.network_tables.specs.Tables.{AreTablesOf}
+use Rattle.network_tables.specs.declared.component_tables.ComponentTable.{ComponentTable}
 use Rattle.dl_top.specs.Judgement.{SpellsNetwork}
 use Rattle.dl_top.specs.Reply.{rule_of, trial_text}
 
@@ -30,10 +36,29 @@ pub record SpellMatching (text specification : List ℕ) : Type 0 where
   pub specified_spelled : SpellsNetwork specification specified
   pub matches : Matches network specified
 
--- what the texts of a request are then
+-- The text spells a network of which this is the component in the place i. The component has a table by itself, and its traces lead to few sets of terms.
+pub record SpellsTabled (text : List ℕ) (i : ℕ) : Type 0 where
+  pub network : Network
+  pub spelled : SpellsNetwork text network
+  pub component : Component Proc
+  pub there : slice_get (leaves network.tree) i ≡ Some component
+  pub tables : List ComponentTable
+  pub are : AreTablesOf network.program (component ∷ []) tables
+  pub few : HaveFewSets network.program (component ∷ [])
+
+-- the text spells a network of which the events of the set of this name have a bound, where they are hidden
+pub record SpellsWithinBound (text name : List ℕ) : Type 0 where
+  pub network : Network
+  pub spelled : SpellsNetwork text network
+  pub bound : ℕ
+  pub within : IsWithinBound network name bound
+
+-- what the texts of a request are then (a run ends with 0 or 1)
 abbrev pub Passing : Request → List (List ℕ) → Type 0
 Passing (request.Show name) (text ∷ []) = (script : Script) × Spells text script
 Passing (request.Script (Check rule) name) (text ∷ []) = SpellsPassing text rule
+Passing (request.Script (Table i) name) (text ∷ []) = SpellsTabled text i
+Passing (request.Script (Livelock set) name) (text ∷ []) = SpellsWithinBound text set
 Passing (request.Trial trial) [] = SpellsPassing (trial_text trial) (rule_of trial.family)
 Passing (request.Conform script specification) (text ∷ other ∷ []) = SpellMatching text other
 Passing _ _ = ⊥

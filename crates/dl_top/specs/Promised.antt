@@ -1,22 +1,20 @@
 -- What each command promises of the texts of its request and of its report.
-use Rattle.std.specs.Prelude.{◌≡◌, ◌≤◌, ℕ, Some, Bool, false, true, List, [], ◌∷◌, length, slice_get}
+use Rattle.std.specs.Prelude.{◌≡◌, ℕ, Some, Bool, false, true, List, [], ◌∷◌, length, slice_get}
 use Rattle.command_words.specs.declared.request.Job.TheVariants.{Check, Livelock, Run, Table}
 use Rattle.command_words.specs.declared.request.Request.{Request}
 use Rattle.command_words.specs.declared.request.Request.TheVariants as request
 use Rattle.comparison.specs.Complete.{Matches}
 use Rattle.csp_program.specs.declared.processes.Proc.{Proc}
-use Rattle.csp_tables.specs.Network.{Component, NetworkStep, Tree, leaves}
+use Rattle.csp_tables.specs.Network.{Component, leaves}
 use Rattle.csp_tables.specs.Part.{Part}
-use Rattle.csp_tables.specs.Path.{Reached}
 use Rattle.csp_tables.specs.ShapeOf.{IsPartOf}
 use Rattle.csp_tables.specs.declared.rule.Rule.{Rule}
 use Rattle.csp_text.specs.declared.script.Script.{Script}
-use Rattle.digraph.specs.Walk.{Walk}
-use Rattle.hidden_steps.specs.Bounded.{HiddenStep}
 use Rattle.judgement_laws.specs.Complete.{Passes}
 use Rattle.judgement_laws.specs.Lasting.{AllGoOn}
 use Rattle.judgement_laws.specs.Ranked.{HasGreatestRank}
 use Rattle.livelock.specs.Named.{IsSetNamed}
+use Rattle.livelock.specs.Whole.{BoundsHidden}
 use Rattle.network_stages.specs.Networks.{HasSilentBound, IsLive, Network}
 use Rattle.process_steps.specs.ComponentStep.{ProcessStep}
 use Rattle.report.specs.Report.{conforms_text, livelock_free_text, table_text}
@@ -59,8 +57,7 @@ pub record SpellsBounded (text name report : List ℕ) : Type 0 where
   pub events : List ℕ
   pub set : IsSetNamed network.program name events
   pub bound : ℕ
-  pub most : (s t : Tree Proc) (n : ℕ) → Reached (NetworkStep (ProcessStep network.program)) network.tree s
-      → Walk (HiddenStep (NetworkStep (ProcessStep network.program)) events) n s t → n ≤ bound
+  pub bounds : BoundsHidden network events bound
   pub is : report ≡ livelock_free_text (length (leaves network.tree)) bound
 
 -- Each of the two texts spells exactly one network, and the first network matches the second: both have the same events and alphabets, and each component of
