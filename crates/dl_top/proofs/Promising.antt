@@ -14,6 +14,7 @@ use Rattle.csp_program.specs.declared.processes.Proc.{Proc}
 use Rattle.csp_tables.specs.Network.{Component, leaves}
 use Rattle.csp_tables.specs.WellNested.{WellNested}
 use Rattle.csp_tables.specs.declared.rule.Rule.{Rule}
+use Rattle.csp_parser.specs.Spells.{Spells}
 use Rattle.csp_text.specs.declared.script.Script.{Script}
 use Rattle.judgement.specs.Counts.{greatest_rank, node_count}
 use Rattle.judgement.specs.Judged.{IsJudged}
@@ -50,7 +51,7 @@ use Rattle.network_tables.specs.Tables.{AreTablesOf}
 use Rattle.tabulation.proofs.Status.{tabulated_cases, tabulated_is_complete}
 use Rattle.tabulation.specs.Tabulated.{IsTabulated}
 use Rattle.dl_top.specs.Cause.{TextsCallFor}
-use Rattle.dl_top.specs.Complete.{Passing, SpellMatching, SpellsPassing, SpellsTabled, SpellsWithinBound}
+use Rattle.dl_top.specs.Complete.{Passing, SpellMatching, SpellsPassing, SpellsTabled, SpellsWithinBound, TextPasses}
 use Rattle.dl_top.specs.Judgement.{IsDecided, NetworkDecides, NetworkOr, SpellsNetwork, SpellsNoNetwork, SpellsOnlyNetwork, SpellsOnlyScript, TextCallsFor, TextIsShown, TextsCompare}
 use Rattle.dl_top.specs.Promised.{IsStuckRun, Promised, SpellsBounded, SpellsConforming, SpellsShown, SpellsTable, TellsRank}
 use Rattle.dl_top.specs.Proved.{IsFree, SpellsDeadlockFree}
@@ -296,7 +297,7 @@ spells_one s text network a spelled (inl none) = none.none spelled.script spelle
 spells_one s text network a spelled (inr (script, only, none)) =
     faults_exclude_networks s script network a (subst (λ (t : Script). IsNetworkOf t network) (only.only spelled.script spelled.spelled) spelled.is) none
 
-pub text_completes : (text : List ℕ) (rule : Rule) (a : Answer) → SpellsPassing text rule → TextCallsFor text (Check rule) a → status a ≡ 0
+text_completes : (text : List ℕ) (rule : Rule) (a : Answer) → SpellsPassing text rule → TextCallsFor text (Check rule) a → status a ≡ 0
 text_completes text rule a passing (inl none) = absurd (spells_one side.Script text passing.network a passing.spelled none)
 text_completes text rule a passing (inr (network, spells, (v, judged, same))) =
     ap status same ∙ complete network rule v (subst (λ (n : Network). Passes n rule) (spells.only passing.network passing.spelled) passing.passes) judged
@@ -328,16 +329,19 @@ text_bounds text name a within (inr (network, spells, (v, bounded, same))) =
     let here = subst (λ (n : Network). IsBounded n name v) (sym (spells.only within.network within.spelled)) bounded in
     ap status same ∙ ap verdict_status (bounds_are_told within.network name within.bound v within.within here)
 
-pub shown_completes : (text : List ℕ) (a : Answer) (script : Script) → SpellsOnlyScript text script → TextIsShown text a → status a ≡ 0
-shown_completes text a script spells (inl none) = absurd (none.none script spells.spelled)
-shown_completes text a script spells (inr (other, only, is)) = ap status is
+pub shown_completes : (text : List ℕ) (a : Answer) (script : Script) → Spells text script → TextIsShown text a → status a ≡ 0
+shown_completes text a script spelled (inl none) = absurd (none.none script spelled)
+shown_completes text a script spelled (inr (other, only, is)) = ap status is
+
+pub text_passes : (job : Job) (text : List ℕ) (a : Answer) → TextPasses job text → TextCallsFor text job a → status a ≡ 0
+text_passes (Check rule) text a passing calls = text_completes text rule a passing calls
+text_passes (Table i) text a passing calls = text_tabled text i a passing calls
+text_passes (Run seed steps) text a passing calls = absurd passing
+text_passes (Livelock set) text a passing calls = text_bounds text set a passing calls
 
 pub completes : (r : Request) (texts : List (List ℕ)) (a : Answer) → Passing r texts → TextsCallFor r texts a → status a ≡ 0
-completes (request.Show name) (text ∷ []) a passing (inl none) = absurd (none.none passing.0 passing.1)
-completes (request.Show name) (text ∷ []) a passing (inr (other, only, is)) = ap status is
-completes (request.Script (Check rule) name) (text ∷ []) a passing calls = text_completes text rule a passing calls
-completes (request.Script (Table i) name) (text ∷ []) a passing calls = text_tabled text i a passing calls
-completes (request.Script (Livelock set) name) (text ∷ []) a passing calls = text_bounds text set a passing calls
+completes (request.Show name) (text ∷ []) a (script, spelled) calls = shown_completes text a script spelled calls
+completes (request.Script job name) (text ∷ []) a passing calls = text_passes job text a passing calls
 completes (request.Trial trial) [] a passing calls = text_completes (trial_text trial) (rule_of trial.family) a passing calls
 completes (request.Conform script specification) (text ∷ next ∷ []) a passing calls = texts_match text next a passing calls
 completes r texts a passing calls = absurd passing

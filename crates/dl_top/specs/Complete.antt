@@ -3,7 +3,8 @@ use Rattle.std.specs.Prelude.{◌≡◌, ◌≤◌, ℕ, List, [], ◌∷◌, So
 use Rattle.dl_limits.specs.declared.TheConstants.{MOST_BYTES}
 use Rattle.command_words.specs.Request.{Asks, names}
 use Rattle.comparison.specs.Complete.{Matches}
-use Rattle.command_words.specs.declared.request.Job.TheVariants.{Check, Livelock, Table}
+use Rattle.command_words.specs.declared.request.Job.{Job}
+use Rattle.command_words.specs.declared.request.Job.TheVariants.{Check, Livelock, Run, Table}
 use Rattle.command_words.specs.declared.request.Request.{Request}
 use Rattle.command_words.specs.declared.request.Request.TheVariants as request
 use Rattle.csp_parser.specs.Spells.{Spells}
@@ -53,13 +54,18 @@ pub record SpellsWithinBound (text name : List ℕ) : Type 0 where
   pub bound : ℕ
   pub within : IsWithinBound network name bound
 
--- what the texts of a request are then (a run ends with 0 or 1)
+-- the text of a script then, with whose network this is to be done (a run ends with 0 or 1)
+abbrev pub TextPasses : Job → List ℕ → Type 0
+TextPasses (Check rule) text = SpellsPassing text rule
+TextPasses (Table i) text = SpellsTabled text i
+TextPasses (Run seed steps) text = ⊥
+TextPasses (Livelock set) text = SpellsWithinBound text set
+
+-- the texts of a request then
 abbrev pub Passing : Request → List (List ℕ) → Type 0
 Passing (request.Show name) (text ∷ []) = (script : Script) × Spells text script
-Passing (request.Script (Check rule) name) (text ∷ []) = SpellsPassing text rule
-Passing (request.Script (Table i) name) (text ∷ []) = SpellsTabled text i
-Passing (request.Script (Livelock set) name) (text ∷ []) = SpellsWithinBound text set
-Passing (request.Trial trial) [] = SpellsPassing (trial_text trial) (rule_of trial.family)
+Passing (request.Script job name) (text ∷ []) = TextPasses job text
+Passing (request.Trial trial) [] = TextPasses (Check (rule_of trial.family)) (trial_text trial)
 Passing (request.Conform script specification) (text ∷ other ∷ []) = SpellMatching text other
 Passing _ _ = ⊥
 

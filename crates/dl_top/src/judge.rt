@@ -9,7 +9,7 @@ ghost use Rattle.report.specs.Report.{report_text, status};
 ghost use Rattle.report.specs.Stops.{Answers, Ends, Tells};
 ghost use Rattle.script_sizes.specs.Size.{AreSmall};
 ghost use Rattle.dl_limits.specs.declared.TheConstants.{MOST_BYTES};
-ghost use Rattle.dl_top.specs.Complete.{SpellMatching, SpellsPassing};
+ghost use Rattle.dl_top.specs.Complete.{SpellMatching, TextPasses};
 ghost use Rattle.dl_top.specs.Judgement.{NetworkDecides, SpellsNoNetwork, SpellsNoScript, SpellsOnlyNetwork, SpellsOnlyScript, TextCallsFor, TextIsShown, TextsCompare};
 ghost use Rattle.dl_top.specs.Printing.{no_script};
 ghost use Rattle.dl_top.specs.Promised.{SpellsBounded, SpellsConforming, SpellsShown, SpellsTable, TellsRank};
@@ -112,10 +112,6 @@ pub fn judge(alloc: Global, job: &Job, text: &[u8]) -> Result<Answer, NoMemory>
     ensures ranked { IfOk result (λ answer. (rule : RuleValue) → job.now ≡ Check rule → status answer ≡ 0
         → TellsRank text.now rule (report_text answer)) }
 
-    // Completeness: a network within the limits that meets the rule is judged with status 0.
-    ensures complete { IfOk result (λ answer. (rule : RuleValue) → job.now ≡ Check rule
-        → SpellsPassing text.now rule → status answer ≡ 0) }
-
     // What the other commands promise.
     ensures told { IfOk result (λ answer. (i : ℕ) → job.now ≡ Table i → status answer ≡ 0
         → SpellsTable text.now i (report_text answer)) }
@@ -125,6 +121,10 @@ pub fn judge(alloc: Global, job: &Job, text: &[u8]) -> Result<Answer, NoMemory>
         → SpellsRun text.now seed steps true (report_text answer)) }
     ensures bounded { IfOk result (λ answer. (set : List ℕ) → job.now ≡ Livelock set → status answer ≡ 0
         → SpellsBounded text.now set (report_text answer)) }
+
+    // Completeness: the status is 0 wherever it may be, within the limits: where the network meets the rule, where the component has a table, where there is
+    // a bound.
+    ensures complete { IfOk result (λ answer. TextPasses job.now text.now → status answer ≡ 0) }
 {
     called_for(alloc, job, text)
 }

@@ -1,4 +1,5 @@
-use Rattle.dl_top.proofs.Promising.{of_job, text_bounded, text_completes, text_free, text_goes_on, text_ranked, text_stuck, text_told}
+use Rattle.std.proofs.lemmas.Result.{IfOk-weaker}
+use Rattle.dl_top.proofs.Promising.{of_job, text_bounded, text_free, text_goes_on, text_passes, text_ranked, text_stuck, text_told}
 use Rattle.dl_top.proofs.judge.judge.Goals as goal
 
 pub returns-clause-free : goal.returns-clause-free
@@ -8,7 +9,7 @@ pub returns-clause-ranked : goal.returns-clause-ranked
 returns-clause-ranked c = of_job c.args.text.now c.args.job.now c.called_for.result _ c.called_for.ensures (λ a is rule same. text_ranked c.args.text.now rule a (is same))
 
 pub returns-clause-complete : goal.returns-clause-complete
-returns-clause-complete c = of_job c.args.text.now c.args.job.now c.called_for.result _ c.called_for.ensures (λ a is rule same passing. text_completes c.args.text.now rule a passing (is same))
+returns-clause-complete c = IfOk-weaker c.called_for.result _ _ (λ a calls passing. text_passes c.args.job.now c.args.text.now a passing calls) c.called_for.ensures
 
 pub returns-clause-told : goal.returns-clause-told
 returns-clause-told c = of_job c.args.text.now c.args.job.now c.called_for.result _ c.called_for.ensures (λ a is i same. text_told c.args.text.now i a (is same))
