@@ -285,9 +285,9 @@ keeps_stuck seed steps name texts a calls is = absurd calls
 
 -- what holds of the answer to a text with a job holds of the answer where the job is known
 pub of_job : {E : Type 0} (text : List ℕ) (job : Job) (made : Result Answer E) (Q : Answer → Type 0) → IfOk made (TextCallsFor text job)
-    → ((a : Answer) → ({other : Job} → job ≡ other → TextCallsFor text other a) → Q a) → IfOk made Q
+    → ((a : Answer) → ((other : Job) → job ≡ other → TextCallsFor text other a) → Q a) → IfOk made Q
 of_job text job (Err e) Q calls holds = tt
-of_job text job (Ok a) Q calls holds = holds a (λ same. subst (λ (j : Job). TextCallsFor text j a) same calls)
+of_job text job (Ok a) Q calls holds = holds a (λ other same. subst (λ (j : Job). TextCallsFor text j a) same calls)
 
 -- ---- completeness
 
