@@ -30,7 +30,7 @@ meet_or_apart M N =
 -- an arc's server is a part
 server_within : (shape : Shape) (roles : List RoleSets) → IsWellFormed shape → (i j : ℕ) → Serves shape roles i j → j < length shape.parts
 server_within shape roles w i j a =
-    let t = w.links a.link a.joins.within in
+    let t = w.linked.links a.link a.joins.within in
     let order : (link_at shape a.link).left < (link_at shape a.link).right = t.ordered in
     let inside : (link_at shape a.link).right < length shape.parts = t.within in
     elim a.joins.ends [

@@ -83,7 +83,7 @@ module _ {T : Type 0} (Step : T → Label → T → Type 0) (cs : List (Componen
 
 pub outlines_agree : {T : Type 0} (Step : T → Label → T → Type 0) → OutlinesAgree Step
 outlines_agree Step tree shape is =
-    subst (λ (alphabets : List (List ℕ)). SameOutline shape (outline_of alphabets)) (same_alphabets Step (leaves tree) shape.parts is.parts) (shape_outline shape is.form)
+    subst (λ (alphabets : List (List ℕ)). SameOutline shape (outline_of alphabets)) (same_alphabets Step (leaves tree) shape.parts is.parts) (shape_outline shape is.linked)
 
 pub readings_agree : {T : Type 0} (Step : T → Label → T → Type 0) → ReadingsAgree Step
 readings_agree Step tree shape is =

@@ -230,7 +230,7 @@ ordered_ranks_fall shape uses number top ranking w triple uses_are rise positive
 -- what is held is a resource among the parts
 held_within : (shape : Shape) (uses : List UseSets) (m j : ℕ) → IsWellFormed shape → KeepUses shape uses → IsHeldWhile shape uses m j → (m < length shape.parts) × ((use_at uses m).resource ≡ true)
 held_within shape uses m j w a h =
-    let t = w.links h.link h.joins.within in
+    let t = w.linked.links h.link h.joins.within in
     let order : (link_at shape h.link).left < (link_at shape h.link).right = t.ordered in
     let inside : (link_at shape h.link).right < length shape.parts = t.within in
     let kind = turn_over (use_at uses h.user).resource (use_at uses m).resource (other_kind shape uses h.user m h.link a h.joins) ∙ ap not h.is_user in
