@@ -2,7 +2,8 @@
 use Rattle.std.proofs.Common.{◌≡◌, ℕ, List, inl, inr, refl}
 use Rattle.csp_tables.specs.Shape.{Shape}
 use Rattle.csp_tables.specs.Roles.{RoleSets, UseSets}
-use Rattle.design_rules.specs.Cyclic.{IsCyclic, MustPrecede}
+use Rattle.design_rules.specs.Cyclic.{KeepsPlaces, IsCyclic, MustPrecede}
+use Rattle.design_rules.specs.CyclicFaults.{BreaksOrder}
 use Rattle.design_rules.specs.ClientServer.{IsClientServer}
 use Rattle.design_rules.specs.ClientServerFaults.{BreaksRoles}
 use Rattle.design_rules.specs.Resource.{IsResource, IsHeldWhile}
@@ -15,9 +16,15 @@ use Rattle.design_rules.specs.declared.rule_fault.RuleFault.{RuleFault}
 use Rattle.design_rules.specs.declared.rule_fault.RuleFault.TheVariants.{NoMemory, NoOrder, NoWholeEnd, Broken, Circle}
 use Rattle.design_rules.proofs.Walks.{no_circle}
 
+-- where places are kept, nothing clashes
+clashing : (shape : Shape) (i : ℕ) (s : List ℕ) (e : ℕ) → KeepsPlaces shape i → BreaksOrder shape i s e → ⊥
+clashing shape i s e keeps b =
+    let same = keeps b.link b.other_link s b.other_run e b.other_event b.reaches b.other_reaches in
+    elim b.clash [ inl c ↦ c.0 (same.1 c.1) | inr c ↦ c.1 (same.0 c.0) ]
+
 cyclic_refuted : (shape : Shape) (fault : RuleFault) → IsCyclic shape → BreaksCyclic shape fault → fault ≡ NoMemory
 cyclic_refuted shape NoMemory rule told = refl
-cyclic_refuted shape (NoOrder i s e) rule told = absurd (rule.order i told.breaks.reaches.possible.runs.part s e told.breaks)
+cyclic_refuted shape (NoOrder i s e) rule told = absurd (clashing shape i s e (rule.order i told.breaks.reaches.possible.runs.part) told.breaks)
 cyclic_refuted shape (NoWholeEnd l s t) rule told = absurd (elim (rule.whole l told.within) [ inl left ↦ left s told.left | inr right ↦ right t told.right ])
 cyclic_refuted shape (Broken condition i s) rule told = absurd told
 cyclic_refuted shape (Circle links) rule told = absurd (no_circle (MustPrecede shape) rule.numbered.number rule.numbered.rise links told.circle.circle)

@@ -11,7 +11,9 @@ use Rattle.csp_tables.specs.Roles.{RoleSets, UseSets, use_at}
 use Rattle.digraph.proofs.WalkLaws.{same_least_circle}
 use Rattle.design_rules.specs.Agreement.{SameOutline, Agree}
 use Rattle.design_rules.specs.Behaviours.{Behaviours}
-use Rattle.design_rules.specs.CyclicRule.{place_after, ReachesLink, BreaksOrder, KeepsPlaces, AllKeepPlaces, MustPrecede, CanBeNumbered, FallsShort, IsWholeEnd, HasWholeEnd, IsCyclic}
+use Rattle.design_rules.specs.CyclicRule.{place_after, ReachesLink, KeepsPlaces, AllKeepPlaces, MustPrecede, CanBeNumbered, FallsShort, IsWholeEnd, HasWholeEnd, IsCyclic}
+use Rattle.design_rules.specs.CyclicRuleFaults.{BreaksOrder}
+use Rattle.design_rules.specs.CyclicNumbered.{IsFullEnd, IsNumberedCyclic}
 use Rattle.design_rules.specs.ClientServerRule.{is_acknowledgement, is_request, TakesTurns, ServesAll, TakesAnswers, Serves, KeepRoles, IsClientServer}
 use Rattle.design_rules.specs.ClientServerRuleFaults.{BreaksRoles}
 use Rattle.design_rules.specs.ResourceRule.{IsUsedInTurn, GrantsAll, UsesInTurn, KeepUses, acquires, IsHeldWhile, CanBeOrdered, IsResource}
@@ -24,7 +26,7 @@ use Rattle.design_rules.specs.declared.noted_rule.NotedRule.{NotedRule}
 use Rattle.design_rules.specs.declared.noted_rule.NotedRule.TheVariants.{Cyclic, ClientServer, Resource}
 use Rattle.design_rules.specs.declared.rule_fault.RuleFault.{RuleFault}
 use Rattle.design_rules.specs.declared.rule_fault.RuleFault.TheVariants.{NoMemory, NoOrder, NoWholeEnd, Broken, Circle}
-use Rattle.design_rules.proofs.Outlines.{turned_outline, on_links, on_parts, same_end, is_on, of_ends, joins, same_place_after, clash, client_on, same_open, same_held, same_holds, holder, have_clients, lacks_roles, lacks_client, no_circle, each_serves, have_kinds, lacks_kind}
+use Rattle.design_rules.proofs.Outlines.{turned_outline, on_links, on_parts, same_end, is_on, of_ends, joins, same_place_after, same_place, is_next, clash, client_on, same_open, same_held, same_holds, holder, have_clients, lacks_roles, lacks_client, no_circle, each_serves, have_kinds, lacks_kind}
 
 -- a network as a rule sees it: its outline, and what its components do
 pub record Seen : Type 1 where
@@ -64,7 +66,10 @@ breaks_order x y a i s e h = record {
 }
 
 keeps_places : (x y : Seen) → Alike x y → (i : ℕ) → KeepsPlaces x.shape x.does i → KeepsPlaces y.shape y.does i
-keeps_places x y a i keeps s e h = keeps s e (breaks_order y x (turned x y a) i s e h)
+keeps_places x y a i keeps l m s t e f p q =
+    let back = turned x y a in
+    let k = keeps l m s t e f (reaches y x back i l s e p) (reaches y x back i m t f q) in
+    (λ same. same_place x.shape y.shape a.outline i s t (k.0 same), λ place. k.1 (same_place y.shape x.shape back.outline i s t place))
 
 all_keep_places : (x y : Seen) → Alike x y → AllKeepPlaces x.shape x.does → AllKeepPlaces y.shape y.does
 all_keep_places x y a keeps i h = keeps_places x y a i (keeps i (on_parts y.shape x.shape (turned_outline x.shape y.shape a.outline) i h))
@@ -114,6 +119,25 @@ is_cyclic x y a h = record {
   numbered = can_be_numbered x y a h.numbered;
   whole = λ l below. has_whole_end x y a l (h.whole l (on_links y.shape x.shape (turned_outline x.shape y.shape a.outline) l below));
 }
+
+full_end : (x y : Seen) → Alike x y → (number : ℕ → ℕ) (l i : ℕ) → IsFullEnd x.shape x.does number l i → IsFullEnd y.shape y.does number l i
+full_end x y a number l i full s M accepts next e on =
+    let z = a.agree.accepts i s M accepts in
+    sym (z.members e) ∙ full s z.set z.accepts (is_next y.shape x.shape (turned x y a).outline number i s l next) e (a.outline.shared l e ∙ on)
+
+pub is_numbered : (x y : Seen) → Alike x y → IsNumberedCyclic x.shape x.does → IsNumberedCyclic y.shape y.does
+is_numbered x y a h =
+    let o = a.outline in
+    let back = (turned x y a).outline in
+    record {
+      number = h.number;
+      differ = λ i l m below other end other_end. h.differ i l m (on_links y.shape x.shape back l below) (on_links y.shape x.shape back m other) (same_end x.shape y.shape o i l ∙ end) (same_end x.shape y.shape o i m ∙ other_end);
+      order = λ i l s e possible on. is_next x.shape y.shape o h.number i s l (h.order i l s e ((a.agree.possible i s e).1 possible) (is_on y.shape x.shape back i l e on));
+      full = λ l below. of_ends x.shape y.shape o l (λ i j. IsFullEnd y.shape y.does h.number l i ⊎ IsFullEnd y.shape y.does h.number l j) (elim (h.full l (on_links y.shape x.shape back l below)) [
+        | inl left ↦ inl (full_end x y a h.number l (link_at x.shape l).left left)
+        | inr right ↦ inr (full_end x y a h.number l (link_at x.shape l).right right)
+      ]);
+    }
 
 breaks_cyclic : (x y : Seen) → Alike x y → (fault : RuleFault) → BreaksCyclicRule x.shape x.does fault → BreaksCyclicRule y.shape y.does fault
 breaks_cyclic x y a NoMemory h = tt

@@ -2,7 +2,11 @@
 use Rattle.std.specs.Prelude.{ℕ, List}
 use Rattle.csp_tables.specs.Shape.{Shape}
 use Rattle.design_rules.specs.ByTables.{by_tables}
+pub use Rattle.design_rules.specs.CyclicRuleFaults.{Clash}
 use Rattle.design_rules.specs.CyclicRuleFaults as rule
+
+abbrev pub BreaksOrder : Shape → ℕ → List ℕ → ℕ → Type 0
+BreaksOrder shape = rule.BreaksOrder shape (by_tables shape)
 
 abbrev pub HasNoOrder : Shape → ℕ → List ℕ → ℕ → Type 0
 HasNoOrder shape = rule.HasNoOrder shape (by_tables shape)

@@ -1,10 +1,27 @@
 -- What is told where a network is not cyclic: a component without an order, orders that disagree, or a link without a whole
 -- end. Of these the first that stands is told.
-use Rattle.std.specs.Prelude.{◌<◌, ℕ, List, length}
+use Rattle.std.specs.Prelude.{◌≡◌, ◌<◌, ◌≤◌, ◌⊎◌, ℕ, List, length}
 use Rattle.csp_tables.specs.Shape.{Shape, link_at}
 use Rattle.digraph.specs.Circle.{IsLeastCircle}
 use Rattle.design_rules.specs.Behaviours.{Behaviours}
-use Rattle.design_rules.specs.CyclicRule.{BreaksOrder, KeepsPlaces, AllKeepPlaces, MustPrecede, CanBeNumbered, FallsShort, HasWholeEnd}
+use Rattle.design_rules.specs.CyclicRule.{SamePlace, ReachesLink, KeepsPlaces, AllKeepPlaces, MustPrecede, CanBeNumbered, FallsShort, HasWholeEnd}
+
+-- An event on the link l after the trace s and one on the link m after the trace t clash: they lie on different links at the
+-- same place, or on the same link at different places.
+abbrev pub Clash : Shape → ℕ → ℕ → List ℕ → ℕ → List ℕ → Type 0
+Clash shape i l s m t = ((l ≡ m → ⊥) × SamePlace shape i s t) ⊎ ((l ≡ m) × (SamePlace shape i s t → ⊥))
+
+-- The component i has no order: the event e after the trace s clashes with one that is possible after a trace that is not longer.
+-- (So of two events that clash, the one after the longer trace is told.)
+pub record BreaksOrder (shape : Shape) (b : Behaviours) (i : ℕ) (s : List ℕ) (e : ℕ) : Type 0 where
+  pub link : ℕ
+  pub reaches : ReachesLink shape b i link s e
+  pub other_run : List ℕ
+  pub other_event : ℕ
+  pub other_link : ℕ
+  pub other_reaches : ReachesLink shape b i other_link other_run other_event
+  pub not_longer : length other_run ≤ length s
+  pub clash : Clash shape i link s other_link other_run
 
 -- The component i is the first that goes through its links in no fixed order: the event e after the trace s shows it.
 pub record HasNoOrder (shape : Shape) (b : Behaviours) (i : ℕ) (s : List ℕ) (e : ℕ) : Type 0 where

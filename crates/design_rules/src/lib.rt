@@ -7,7 +7,7 @@ mod rule_fault;
 
 ghost use Rattle.design_rules.specs.Agreement.{NetworkFaultsRefute, NetworksBreak, NetworksMeet, OutlinesAgree, ReadingsAgree};
 ghost use Rattle.design_rules.specs.ClientServerLaws.{ClientServerRanksFall};
-ghost use Rattle.design_rules.specs.CyclicLaws.{CyclicRanksFall, IsRuleByNumbers, NumberedRanksFall, PlacesAreOrders, ReachedRanksFall};
+ghost use Rattle.design_rules.specs.CyclicLaws.{CyclicRanksFall, IsRuleByNumbers, NetworksAreNumbered, NumberedRanksFall, PlacesAreOrders, ReachedRanksFall};
 ghost use Rattle.design_rules.specs.Example.{PairIsClientServer, RowIsCyclic, TwoUsersAreResource};
 ghost use Rattle.design_rules.specs.Live.{MetRulesMeanLive};
 ghost use Rattle.design_rules.specs.ResourceLaws.{OrderedRanksFall, ResourceRanksFall};
@@ -25,10 +25,11 @@ pub fn cyclic_ranks_fall()
     ensures reached { ReachedRanksFall }
 {}
 
-/// The cyclic rule can be said by numbers of the links, for one component and for a network.
-pub fn cyclic_rule_by_numbers()
+/// The cyclic rule can be said by numbers of the links: for one component, for a shape, and for a network by its own steps.
+pub fn cyclic_rule_by_numbers<S: Transitions>()
     ensures component { PlacesAreOrders }
-    ensures network { IsRuleByNumbers }
+    ensures shape { IsRuleByNumbers }
+    ensures network { NetworksAreNumbered S.step }
 {}
 
 /// The ranking of a client-server network falls.
