@@ -108,13 +108,13 @@ readings_agree Step tree shape is =
     }
 
 -- the network, as a rule sees it, by its shape and by itself
-abbrev by_shape : Shape → Seen
+abbrev pub by_shape : Shape → Seen
 by_shape shape = record { shape = shape; does = by_tables shape }
 
-abbrev by_itself : {T : Type 0} → (T → Label → T → Type 0) → Tree T → Seen
+abbrev pub by_itself : {T : Type 0} → (T → Label → T → Type 0) → Tree T → Seen
 by_itself Step tree = record { shape = outline (leaves tree); does = by_steps Step (leaves tree) (outline (leaves tree)).vocabulary }
 
-alike : {T : Type 0} (Step : T → Label → T → Type 0) (tree : Tree T) (shape : Shape) → IsShapeOf Step tree shape → Alike (by_shape shape) (by_itself Step tree)
+pub alike : {T : Type 0} (Step : T → Label → T → Type 0) (tree : Tree T) (shape : Shape) → IsShapeOf Step tree shape → Alike (by_shape shape) (by_itself Step tree)
 alike Step tree shape is = record { outline = outlines_agree Step tree shape is; agree = readings_agree Step tree shape is }
 
 pub networks_meet : {T : Type 0} (Step : T → Label → T → Type 0) → NetworksMeet Step

@@ -74,7 +74,7 @@ keeps_places x y a i keeps l m s t e f p q =
 all_keep_places : (x y : Seen) → Alike x y → AllKeepPlaces x.shape x.does → AllKeepPlaces y.shape y.does
 all_keep_places x y a keeps i h = keeps_places x y a i (keeps i (on_parts y.shape x.shape (turned_outline x.shape y.shape a.outline) i h))
 
-must_precede : (x y : Seen) → Alike x y → (l m : ℕ) → MustPrecede x.shape x.does l m → MustPrecede y.shape y.does l m
+pub must_precede : (x y : Seen) → Alike x y → (l m : ℕ) → MustPrecede x.shape x.does l m → MustPrecede y.shape y.does l m
 must_precede x y a l m h =
     let o = a.outline in
     record {
@@ -252,7 +252,7 @@ module _ (roles : List RoleSets) where
 -- ---- the rule of users and resources
 
 -- a set with the same members acquires the same resources
-acquires_same : (uses : List UseSets) (M N : List ℕ) (j : ℕ) → ((e : ℕ) → has N e ≡ has M e) → IsTrue (acquires uses M j) → IsTrue (acquires uses N j)
+pub acquires_same : (uses : List UseSets) (M N : List ℕ) (j : ℕ) → ((e : ℕ) → has N e ≡ has M e) → IsTrue (acquires uses M j) → IsTrue (acquires uses N j)
 acquires_same uses M N j members h =
     let p = and_parts (use_at uses j).resource (list_any (λ e. has (use_at uses j).acquire e) M) h in
     let e = any_member (λ e. has (use_at uses j).acquire e) M p.1 in
@@ -307,7 +307,7 @@ module _ (uses : List UseSets) where
     turns = λ i s. keeps_turns x y a i s (h.turns i s);
   }
 
-  held_while : (x y : Seen) → Alike x y → (m j : ℕ) → IsHeldWhile x.shape x.does uses m j → IsHeldWhile y.shape y.does uses m j
+  pub held_while : (x y : Seen) → Alike x y → (m j : ℕ) → IsHeldWhile x.shape x.does uses m j → IsHeldWhile y.shape y.does uses m j
   held_while x y a m j h =
       let o = a.outline in
       let z = a.agree.accepted h.user h.run h.acceptance h.accepts in

@@ -11,12 +11,13 @@ use Rattle.csp_tables.specs.Standing.{IsOn}
 use Rattle.csp_tables.specs.Ranking.{Ranking, Fits, part_ranks, rank_at}
 use Rattle.design_rules.specs.Counts.{above_all}
 use Rattle.design_rules.specs.Vertices.{IsVertex, OthersRankZero, lap_at}
-use Rattle.design_rules.specs.Cyclic.{links_of, MustPrecede}
+use Rattle.design_rules.specs.ByTables.{by_tables}
+use Rattle.design_rules.specs.Cyclic.{links_of}
 use Rattle.design_rules.specs.CyclicNumbered.{place_of}
+use Rattle.design_rules.specs.GreatestRank as rank
 
--- from a link to one that must come before it
 abbrev pub ComesAfter : Shape → ℕ → ℕ → Type 0
-ComesAfter shape m l = MustPrecede shape l m
+ComesAfter shape = rank.ComesAfter shape (by_tables shape)
 
 abbrev pub AreChainNumbers : Shape → (ℕ → ℕ) → Type 0
 AreChainNumbers shape number = (l : ℕ) → l < length shape.links → IsLongestWalk (ComesAfter shape) l (number l)
