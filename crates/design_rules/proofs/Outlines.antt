@@ -1,5 +1,5 @@
 -- What is said of an outline looks at members of sets alone, so it is the same of two outlines with the same alphabets, links and vocabulary.
-use Rattle.std.proofs.Common.{◌≡◌, ℕ, zero, suc, ◌+◌, ◌%◌, ◌<◌, inl, inr, List, [], ◌∷◌, length, Option, Some, None, Bool, not, ◌&&◌, ◌||◌, cond, nat_eq, nat_lt, refl, sym, ap, subst, ◌∙◌}
+use Rattle.std.proofs.Common.{◌≡◌, ℕ, zero, suc, ◌+◌, ◌%◌, ◌<◌, inl, inr, List, [], ◌∷◌, length, map, Option, Some, None, Bool, not, ◌&&◌, ◌||◌, cond, nat_eq, nat_lt, refl, sym, ap, subst, ◌∙◌}
 use Rattle.std.specs.List.{list_any}
 use Rattle.csp_base.specs.Members.{has}
 use Rattle.csp_base.proofs.Booleans.{same_tests}
@@ -17,7 +17,7 @@ use Rattle.design_rules.specs.ClientServerRuleFaults.{LacksRoles, LacksClient, H
 use Rattle.design_rules.specs.Counts.{count_below, count_in, is_odd}
 use Rattle.design_rules.specs.CyclicNumbered.{place_of, IsNext}
 use Rattle.design_rules.specs.CyclicRule.{links_of, place_after, SamePlace}
-use Rattle.design_rules.specs.CyclicRuleFaults.{Clash}
+use Rattle.design_rules.specs.CyclicRuleFaults.{Clash, ends_of}
 use Rattle.design_rules.specs.ResourceRule.{JoinsKinds, HasUses, HaveKinds, is_held, last_from, IsHolder, holds}
 use Rattle.design_rules.specs.ResourceRuleFaults.{HasKind, LacksKind}
 
@@ -63,6 +63,13 @@ module _ (x y : Shape) (o : SameOutline x y) where
 
   pub same_end : (i l : ℕ) → is_end x i l ≡ is_end y i l
   same_end i l = ap (λ n. nat_eq n i || nat_eq (link_at x l).right i) (o.left l) ∙ ap (λ n. nat_eq (link_at y l).left i || nat_eq n i) (o.right l)
+
+  pub same_ends : (l : ℕ) → ends_of x l ≡ ends_of y l
+  same_ends l = λ i. (o.left l i, o.right l i)
+
+  pub all_ends : (links : List ℕ) → map (ends_of x) links ≡ map (ends_of y) links
+  all_ends [] = refl
+  all_ends (l ∷ links) = let first = same_ends l in let rest = all_ends links in λ i. first i ∷ rest i
 
   pub is_on : (i l e : ℕ) → IsOn x i l e → IsOn y i l e
   is_on i l e h = record { within = on_links l h.within; end = sym (same_end i l) ∙ h.end; event = sym (o.shared l e) ∙ h.event }

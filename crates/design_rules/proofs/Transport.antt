@@ -25,8 +25,8 @@ use Rattle.design_rules.specs.declared.condition.Condition.TheVariants as condit
 use Rattle.design_rules.specs.declared.noted_rule.NotedRule.{NotedRule}
 use Rattle.design_rules.specs.declared.noted_rule.NotedRule.TheVariants.{Cyclic, ClientServer, Resource}
 use Rattle.design_rules.specs.declared.rule_fault.RuleFault.{RuleFault}
-use Rattle.design_rules.specs.declared.rule_fault.RuleFault.TheVariants.{NoMemory, NoOrder, NoWholeEnd, Broken, Circle}
-use Rattle.design_rules.proofs.Outlines.{turned_outline, on_links, on_parts, same_end, is_on, of_ends, joins, same_place_after, same_place, is_next, clash, client_on, same_open, same_held, same_holds, holder, have_clients, lacks_roles, lacks_client, no_circle, each_serves, have_kinds, lacks_kind}
+use Rattle.design_rules.specs.declared.rule_fault.RuleFault.TheVariants.{NoMemory, NoOrder, NoWholeEnd, Broken, LinksCircle, ClientsCircle, ResourcesCircle}
+use Rattle.design_rules.proofs.Outlines.{turned_outline, on_links, on_parts, same_end, same_ends, all_ends, is_on, of_ends, joins, same_place_after, same_place, is_next, clash, client_on, same_open, same_held, same_holds, holder, have_clients, lacks_roles, lacks_client, no_circle, each_serves, have_kinds, lacks_kind}
 
 -- a network as a rule sees it: its outline, and what its components do
 pub record Seen : Type 1 where
@@ -142,19 +142,25 @@ is_numbered x y a h =
 breaks_cyclic : (x y : Seen) → Alike x y → (fault : RuleFault) → BreaksCyclicRule x.shape x.does fault → BreaksCyclicRule y.shape y.does fault
 breaks_cyclic x y a NoMemory h = tt
 breaks_cyclic x y a (NoOrder i s e) h = record { breaks = breaks_order x y a i s e h.breaks; first = λ j less. keeps_places x y a j (h.first j less) }
-breaks_cyclic x y a (NoWholeEnd l s t) h = record {
+breaks_cyclic x y a (NoWholeEnd i j s t) h = record {
   order = all_keep_places x y a h.order;
   numbered = can_be_numbered x y a h.numbered;
-  within = on_links x.shape y.shape a.outline l h.within;
-  left = subst (λ i. FallsShort y.shape y.does l i s) (a.outline.left l) (falls_short x y a l (link_at x.shape l).left s h.left);
-  right = subst (λ i. FallsShort y.shape y.does l i t) (a.outline.right l) (falls_short x y a l (link_at x.shape l).right t h.right);
+  link = h.link;
+  within = on_links x.shape y.shape a.outline h.link h.within;
+  ends = sym (same_ends x.shape y.shape a.outline h.link) ∙ h.ends;
+  left = subst (λ k. FallsShort y.shape y.does h.link k s) (a.outline.left h.link) (falls_short x y a h.link (link_at x.shape h.link).left s h.left);
+  right = subst (λ k. FallsShort y.shape y.does h.link k t) (a.outline.right h.link) (falls_short x y a h.link (link_at x.shape h.link).right t h.right);
   first = λ m less. has_whole_end x y a m (h.first m less);
 }
-breaks_cyclic x y a (Broken which i s) h = absurd h
-breaks_cyclic x y a (Circle links) h = record {
+breaks_cyclic x y a (LinksCircle ends) h = record {
   order = all_keep_places x y a h.order;
-  circle = same_least_circle (MustPrecede x.shape x.does) (MustPrecede y.shape y.does) (must_precede x y a) links h.circle;
+  links = h.links;
+  circle = same_least_circle (MustPrecede x.shape x.does) (MustPrecede y.shape y.does) (must_precede x y a) h.links h.circle;
+  are = h.are ∙ all_ends x.shape y.shape a.outline h.links;
 }
+breaks_cyclic x y a (Broken which i s) h = absurd h
+breaks_cyclic x y a (ClientsCircle clients) h = absurd h
+breaks_cyclic x y a (ResourcesCircle resources) h = absurd h
 
 -- ---- components that break what is asked of each
 
@@ -242,12 +248,14 @@ module _ (roles : List RoleSets) where
   breaks_client_server : (x y : Seen) → Alike x y → (fault : RuleFault) → BreaksClientServerRule x.shape x.does roles fault → BreaksClientServerRule y.shape y.does roles fault
   breaks_client_server x y a NoMemory h = tt
   breaks_client_server x y a (NoOrder i s e) h = absurd h
-  breaks_client_server x y a (NoWholeEnd l s t) h = absurd h
+  breaks_client_server x y a (NoWholeEnd i j s t) h = absurd h
   breaks_client_server x y a (Broken which i s) h = breaks_roles x y a which i s h
-  breaks_client_server x y a (Circle clients) h = record {
+  breaks_client_server x y a (LinksCircle ends) h = absurd h
+  breaks_client_server x y a (ClientsCircle clients) h = record {
     keep_roles = keep_roles x y a h.keep_roles;
     circle = same_least_circle (Serves x.shape roles) (Serves y.shape roles) (each_serves x.shape y.shape a.outline roles) clients h.circle;
   }
+  breaks_client_server x y a (ResourcesCircle resources) h = absurd h
 
 -- ---- the rule of users and resources
 
@@ -359,9 +367,11 @@ module _ (uses : List UseSets) where
   breaks_resource : (x y : Seen) → Alike x y → (fault : RuleFault) → BreaksResourceRule x.shape x.does uses fault → BreaksResourceRule y.shape y.does uses fault
   breaks_resource x y a NoMemory h = tt
   breaks_resource x y a (NoOrder i s e) h = absurd h
-  breaks_resource x y a (NoWholeEnd l s t) h = absurd h
+  breaks_resource x y a (NoWholeEnd i j s t) h = absurd h
   breaks_resource x y a (Broken which i s) h = breaks_uses x y a which i s h
-  breaks_resource x y a (Circle resources) h = record {
+  breaks_resource x y a (LinksCircle ends) h = absurd h
+  breaks_resource x y a (ClientsCircle clients) h = absurd h
+  breaks_resource x y a (ResourcesCircle resources) h = record {
     keep_uses = keep_uses x y a h.keep_uses;
     circle = same_least_circle (IsHeldWhile x.shape x.does uses) (IsHeldWhile y.shape y.does uses) (held_while x y a) resources h.circle;
   }

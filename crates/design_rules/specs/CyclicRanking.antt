@@ -1,6 +1,7 @@
 -- The ranking of a cyclic network. The number of a link is the greatest number of links that must come before it in a chain;
 -- links that a component never reaches may share a number. The rank of an acceptance is the number of the link on which it
 -- lies. A component's lap ends with the event on its last link. The scale is above all numbers.
+-- (For the deciders' contracts and the proofs alone: what a reader needs of ranks stands in GreatestRank.)
 use Rattle.std.specs.Prelude.{◌≡◌, ◌<◌, ◌+◌, ℕ, pos, length, nat_eq, if◌then◌else◌, false, IsTrue}
 use Rattle.csp_base.specs.Members.{has}
 use Rattle.digraph.specs.Walk.{IsLongestWalk}

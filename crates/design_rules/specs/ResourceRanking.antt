@@ -1,6 +1,7 @@
 -- The ranking of a network of users and resources. The number of a resource is one more than the greatest number of resources
 -- that must be numbered below it in a chain. A free resource ranks above all. A held one, and a user that offers to acquire,
 -- rank the lower the higher the number is. There are no laps.
+-- (For the deciders' contracts and the proofs alone: what a reader needs of ranks stands in GreatestRank.)
 use Rattle.std.specs.Prelude.{◌≡◌, ◌<◌, ◌≤◌, ◌+◌, ◌-◌, ◌*◌, ℕ, ℤ, pos, List, true, false, IsTrue, length}
 use Rattle.csp_tables.specs.Table.{end_of}
 use Rattle.csp_tables.specs.Part.{part_at, IsNonEmpty}
