@@ -25,11 +25,7 @@ pub(crate) fn turned_ends(
 }
 
 // The two components of each link.
-fn all_ends(
-    alloc: Global,
-    shape: &Shape,
-    links: &[u32],
-) -> Result<Items<(u32, u32)>, NoMemory>
+fn all_ends(alloc: Global, shape: &Shape, links: &[u32]) -> Result<Items<(u32, u32)>, NoMemory>
     ensures { IfOk result (λ made. made ≡ map (ends_of shape.now) links.now) }
 {
     let mut made = Items::new(alloc);

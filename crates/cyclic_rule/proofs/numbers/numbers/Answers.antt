@@ -1,5 +1,6 @@
-use Rattle.std.proofs.Common.{◌<◌, ℕ, List, map, length, ap, inl, inr, refl, sym, subst, Err}
-use Rattle.std.specs.Prelude.{slice_index}
+use Rattle.std.proofs.Common.{◌≡◌, ◌<◌, ℕ, List, map, length, ap, inl, inr, refl, sym, subst, Err}
+use Rattle.std.specs.Prelude.{slice_index, IfOk}
+use Rattle.csp_tables.specs.Shape.{Shape}
 use Rattle.digraph.specs.Digraph.{HasArc}
 use Rattle.digraph.specs.Circle.{IsLeastCircle}
 use Rattle.design_rules.specs.Cyclic.{MustPrecede}
@@ -40,7 +41,8 @@ returns-in-Err-Circle-clause-fault c =
           (turned_least (HasArc c.in_ok-rows.rows) (MustPrecede shape) (λ m l arc. next_precedes shape c.args.orders.now c.shape-form.ensures.form c.requires.keep c.requires.orders l m (c.in_ok-rows.ensures.sound m l arc)) c.in-Err-Circle.circle it);
       are = refl;
     } in
-    elim (c.links_circle.ensures (map (ends_of shape) links) ?) as (λ _. BreaksCyclic shape c.links_circle.result) [
+    let told = subst (λ (z : Shape). IfOk c.turned_ends-links.result (λ made. made ≡ map (ends_of z) links)) c.shape-form.ensures.value c.turned_ends-links.ensures in
+    elim (c.links_circle.ensures (map (ends_of shape) links) told) as (λ _. BreaksCyclic shape c.links_circle.result) [
       | inl want ↦ subst (BreaksCyclic shape) (sym want) tt
       | inr is ↦ subst (BreaksCyclic shape) (sym is) disagree
     ]
