@@ -6,7 +6,7 @@ use Rattle.cyclic_conditions.proofs.whole.told.Goals as goal
 pub returns : goal.returns
 returns c =
     let shape = c.args.prepared.now in
-    let joins = c.shape-form.ensures.form.links c.args.link c.requires.link in
+    let joins = c.shape-form.ensures.form.linked.links c.args.link c.requires.link in
     let order : (link_at c.args.prepared.now c.args.link).left < (link_at c.args.prepared.now c.args.link).right = joins.ordered in
     let inside : (link_at c.args.prepared.now c.args.link).right < length c.args.prepared.now.parts = joins.within in
     let left : c.left.result ≡ (link_at c.args.prepared.now c.args.link).left = c.left.ensures.value ∙ ap (λ (k : Link). k.left) c.link-ends.ensures in
