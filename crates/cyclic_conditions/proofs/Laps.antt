@@ -20,7 +20,7 @@ use Rattle.design_rules.proofs.Runs.{possible_within, end_within}
 use Rattle.cyclic_conditions.specs.Told.{IsBrokenOrder}
 use Rattle.design_rules.specs.Rules.{BreaksCyclic}
 use Rattle.design_rules.specs.declared.rule_fault.RuleFault.{RuleFault}
-use Rattle.design_rules.specs.declared.rule_fault.RuleFault.TheVariants.{NoMemory, NoOrder, NoWholeEnd, Broken, Circle}
+use Rattle.design_rules.specs.declared.rule_fault.RuleFault.TheVariants.{NoMemory, NoOrder}
 use Rattle.design_rules.proofs.Places.{Keeping, IsAt, earlier, some_links, first_lap}
 use Rattle.observed_runs.specs.Observed.{observed, LeadsTo, pair_at}
 use Rattle.observed_runs.specs.Exploration.{IsExploration}
@@ -220,9 +220,7 @@ pair_place shape i pairs k x h = let r = x.explored.reached k h in place_below s
 pub breaks_there : (shape : Shape) (i : ℕ) (fault : RuleFault) → ((j : ℕ) → j < i → KeepsPlaces shape j) → IsBrokenOrder shape i fault → BreaksCyclic shape fault
 breaks_there shape i NoMemory keep b = tt
 breaks_there shape i (NoOrder part trace event) keep b = record { breaks = subst (λ j. BreaksOrder shape j trace event) (sym b.0) b.1; first = λ j h. keep j (let is : part ≡ i = b.0 in omega arith) }
-breaks_there shape i (NoWholeEnd link left right) keep b = absurd b
-breaks_there shape i (Broken condition part trace) keep b = absurd b
-breaks_there shape i (Circle links) keep b = absurd b
+breaks_there shape i _ keep b = absurd b
 
 -- one more order
 pub orders_more : (shape : Shape) (n : ℕ) (orders : List (List ℕ)) (order : List ℕ) (more : List (List ℕ)) → length orders ≡ n → ((i : ℕ) → i < n → IsOrder shape i (order_at orders i)) → IsOrder shape n order → more ≡ orders ++ order ∷ [] → (length more ≡ n + 1) × ((i : ℕ) → i < n + 1 → IsOrder shape i (order_at more i))
