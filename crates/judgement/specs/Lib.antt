@@ -1,4 +1,5 @@
+pub mod Counts
 pub mod Judged
 pub mod Laws
 pub mod Noted
-pub mod Tells
+pub mod Told

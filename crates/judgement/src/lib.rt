@@ -1,11 +1,13 @@
-//! The judgement of a script: from the script to the answer, through its network, the tables of its components and its shape.
+//! The judgement of a network by a rule: through the tables of its components and its shape to the verdict.
 #![tactic(auto)]
 
-mod ends;
+mod counts;
+mod deciding;
+mod free;
 mod judging;
 mod laws;
 mod rules;
-mod telling;
+mod told;
 
 pub use judging::judged;
 pub use laws::each_script_has_one_network;

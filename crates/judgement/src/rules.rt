@@ -1,18 +1,17 @@
 //! The rules, with what a script notes of each component.
 
-ghost use Rattle.std.specs.Prelude.{IfErr, IfOk};
-ghost use Rattle.design_rules.specs.Rules.{HasNotes};
-ghost use Rattle.network_stages.specs.Networks.{components_at};
+ghost use Rattle.std.specs.Prelude.{IfErr, IfOk, OnOk};
+ghost use Rattle.design_rules.specs.Rules.{HasNotes, Ranks};
 ghost use Rattle.report.specs.Stops.{Tells};
-ghost use Rattle.judgement.specs.Noted.{BreaksRule, HasUntold, IsRanked, Notes};
+ghost use Rattle.judgement.specs.Noted.{Breaks, HasUntold, Meets, Notes};
 
-use crate::telling::{noted_refusal, rule_shortfall};
+use crate::deciding::decided;
+use crate::told::{noted_refusal, rule_shortfall};
 use csp_tables::{Ranking, Rule};
 use design_rules::NotedRule;
 use network_layout::{roles_of, uses_of};
 use network_stages::{Shaped, Spelled};
-use report::{Refusal, Shortfall, Stop, stopped};
-use rule_decider::decided;
+use report::{Refusal, Shortfall, Stop};
 use std::alloc::Global;
 
 // The rule with what the script of the network notes for it.
@@ -21,18 +20,18 @@ pub(crate) fn noted(
     rule: Rule,
     network: &Spelled,
 ) -> Result<NotedRule, Stop<Refusal>>
-    ensures ok { IfOk result (Notes network.now (components_at network.now) rule) }
-    ensures told { IfErr result (Tells (HasUntold network.now (components_at network.now) rule)) }
+    ensures ok { IfOk result (Notes network.now rule) }
+    ensures told { IfErr result (Tells (HasUntold network.now rule)) }
 {
     match rule {
         Rule::Cyclic => Ok(NotedRule::Cyclic),
         Rule::ClientServer => match roles_of(alloc, network.program(), network.layout()) {
             Ok(roles) => Ok(NotedRule::ClientServer(roles)),
-            Err(fault) => Err(stopped(noted_refusal(fault))),
+            Err(fault) => Err(noted_refusal(fault)),
         },
         Rule::Resource => match uses_of(alloc, network.program(), network.layout()) {
             Ok(uses) => Ok(NotedRule::Resource(uses)),
-            Err(fault) => Err(stopped(noted_refusal(fault))),
+            Err(fault) => Err(noted_refusal(fault)),
         },
     }
 }
@@ -44,15 +43,13 @@ pub(crate) fn ranked(
     shaped: &Shaped<'_>,
 ) -> Result<Ranking, Stop<Shortfall>>
     requires { HasNotes rule.now shaped.now.shape }
-    ensures ok { IfOk result (IsRanked shaped.now.program (components_at shaped.now.program) rule.now shaped.now.shape) }
-    ensures told { IfErr result (Tells (BreaksRule shaped.now.program (components_at shaped.now.program) rule.now)) }
+    ensures met { OnOk result (Meets shaped.now.network rule.now) }
+    ensures ranks { IfOk result (Ranks rule.now shaped.now.shape) }
+    ensures told { IfErr result (Tells (Breaks shaped.now.network rule.now)) }
 {
     let shape = shaped.shape();
     match decided(alloc, rule, shape) {
         Ok(ranking) => Ok(ranking),
-        Err(fault) => {
-            let program = shaped.network().program();
-            Err(stopped(rule_shortfall(alloc, program, rule, shape, fault)))
-        }
+        Err(fault) => Err(rule_shortfall(fault)),
     }
 }

@@ -8,10 +8,12 @@ use Rattle.network_stages.specs.Networks.{IsNetworkOf, Network}
 use Rattle.network_stages.specs.Stages.{HasNoNetwork, HaveNoTables}
 use Rattle.network_tables.specs.Tables.{AreTablesOf}
 use Rattle.network_tables.specs.declared.component_tables.ComponentTable.{ComponentTable}
+use Rattle.report.specs.declared.answer.Answer.{Answer}
 use Rattle.report.specs.declared.answer.Refusal.{Refusal}
+use Rattle.report.specs.declared.answer.Side.{Side}
 
 abbrev pub FaultsExcludeNetworks : Type 0
-FaultsExcludeNetworks = (script : Script) (network : Network) (r : Refusal) → IsNetworkOf script network → HasNoNetwork script r → ⊥
+FaultsExcludeNetworks = (side : Side) (script : Script) (network : Network) (a : Answer) → IsNetworkOf script network → HasNoNetwork side script a → ⊥
 
 abbrev pub FaultsExcludeAllTables : Type 0
 FaultsExcludeAllTables =

@@ -1,7 +1,8 @@
+pub mod Busy
 pub mod Networks
+pub mod Rows
 pub mod Sets
 pub mod Shapes
-pub mod Shortfalls
 pub mod Stages
-pub mod Tables
-pub mod Tells
+pub mod TreeCode
+pub mod Views

@@ -17,10 +17,14 @@ pub record Network : Type 0 where
   pub program : Content
   pub tree : Tree Proc
 
+-- the network is the one that its program spells
+abbrev pub IsSpelled : Network → Type 0
+IsSpelled network = network_of network.program ≡ Ok network.tree
+
 -- the script has this network
 pub record IsNetworkOf (script : Script) (network : Network) : Type 0 where
   pub program : IsProgram script network.program
-  pub tree : network_of network.program ≡ Ok network.tree
+  pub tree : IsSpelled network
 
 -- From every state that some run reaches, at most `bound` silent steps follow one another, and a state without a silent step has an event.
 abbrev pub IsLive : Network → ℕ → Type 0
@@ -42,11 +46,7 @@ tree_at p = tree_in (network_of p)
 abbrev pub network_at : Content → Network
 network_at p = record { program = p; tree = tree_at p }
 
--- its components
-abbrev pub components_at : Content → List (Component Proc)
-components_at p = leaves (tree_at p)
-
 -- the program spells a network, with these components
 pub record AreSeatsOf (p : Content) (seats : List (Component Proc)) : Type 0 where
-  pub spelled : network_of p ≡ Ok (tree_at p)
-  pub are : seats ≡ components_at p
+  pub spelled : IsSpelled (network_at p)
+  pub are : seats ≡ leaves (tree_at p)

@@ -1,4 +1,4 @@
--- Components whose traces lead to too many sets of terms.
+-- Components whose traces lead to too many sets of terms, and the parts of those whose traces do not.
 use Rattle.std.specs.Prelude.{◌≡◌, ℕ, ◌+◌, ◌<◌, Some, List, length, slice_get}
 use Rattle.dl_limits.specs.declared.TheConstants.{MOST_SETS}
 use Rattle.csp_program.specs.declared.processes.Proc.{Proc}
@@ -8,8 +8,6 @@ use Rattle.csp_tables.specs.Part.{Part}
 use Rattle.csp_tables.specs.ShapeOf.{ArePartsOf}
 use Rattle.determinise.specs.ManySets.{ReachesSets}
 use Rattle.process_steps.specs.ComponentStep.{ProcessStep}
-use Rattle.determinise.specs.declared.fault.SetFault.{SetFault}
-use Rattle.determinise.specs.declared.fault.SetFault.TheVariants as fault
 
 -- traces of the component lead to more sets of terms than may be
 abbrev pub HasManySets : Content → Component Proc → Type 0
@@ -29,11 +27,6 @@ pub record IsFirstWithManySets (p : Content) (cs : List (Component Proc)) (i : �
   pub at : slice_get cs i ≡ Some component
   pub many : HasManySets p component
   pub earlier : HaveFewSetsBefore p i cs
-
--- that the component has (for a private call)
-abbrev pub TellsSets : Content → Component Proc → SetFault → Type 0
-TellsSets p c fault.NoMemory = Unit {0}
-TellsSets p c fault.SubsetLimit = HasManySets p c
 
 -- the components have few sets, and these are their parts
 pub record ArePartsBy (p : Content) (cs : List (Component Proc)) (parts : List Part) : Type 0 where

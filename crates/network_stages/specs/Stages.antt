@@ -1,52 +1,93 @@
--- Why a walk stops at each of its stages: the fault that is there, as it is told.
+-- What a network has at each stage of a walk, and what is told where it has it not: the fault that is there.
 use Rattle.std.specs.Prelude.{◌≡◌, ◌⊎◌, ℕ, ◌+◌, Err, List, [], ◌∷◌}
 use Rattle.csp_program.specs.declared.processes.Proc.{Proc}
 use Rattle.csp_program.specs.declared.programs.Content.{Content}
-use Rattle.csp_tables.specs.Network.{Component}
+use Rattle.csp_tables.specs.Network.{Component, leaves}
+use Rattle.csp_tables.specs.Part.{Part}
+use Rattle.csp_tables.specs.ShapeOf.{AreBusy}
 use Rattle.csp_text.specs.declared.script.Script.{Script}
-use Rattle.network_layout.specs.Triple.{IsTriple, alphabets}
-use Rattle.network_shape.specs.Stops.{StopsFirstIn}
+use Rattle.network_layout.specs.Triple.{SharesEvent, alphabets}
+use Rattle.network_layout.specs.declared.triple.TripleFault.{TripleFault}
+use Rattle.network_layout.specs.declared.triple.TripleFault.TheVariants as triple
 use Rattle.network_tables.specs.Faults.{HasFault, IsFirst}
+use Rattle.network_tables.specs.Tables.{AreTablesOf}
+use Rattle.network_tables.specs.declared.component_tables.ComponentTable.{ComponentTable}
 use Rattle.network_trees.specs.NetworkOf.{network_of}
 use Rattle.network_trees.specs.declared.fault.LayoutFault.{LayoutFault}
 use Rattle.process_steps.specs.ComponentStep.{ProcessStep}
 use Rattle.process_steps.specs.declared.component_fault.ComponentFault.{ComponentFault}
 use Rattle.process_steps.specs.declared.component_fault.ComponentFault.TheVariants as fault
-use Rattle.report.specs.EventText.{event_text}
+use Rattle.report.specs.declared.answer.Answer.{Answer}
+use Rattle.report.specs.declared.answer.Answer.TheVariants as answer
 use Rattle.report.specs.declared.answer.Refusal.{Refusal}
 use Rattle.report.specs.declared.answer.Refusal.TheVariants as refusal
 use Rattle.report.specs.declared.answer.Shortfall.{Shortfall}
 use Rattle.report.specs.declared.answer.Shortfall.TheVariants as shortfall
+use Rattle.report.specs.declared.answer.Side.{Side}
+use Rattle.report.specs.declared.answer.TextFault.TheVariants as text
+use Rattle.report.specs.declared.answer.Verdict.TheVariants as verdict
 use Rattle.script_names.specs.Resolved.{IsProgram, IsRefused}
 use Rattle.script_names.specs.declared.fault.ResolveFault.{ResolveFault}
-use Rattle.network_stages.specs.Sets.{IsFirstWithManySets}
-use Rattle.network_stages.specs.Tells.{component_told, network_told, texts}
+use Rattle.network_stages.specs.Busy.{StopsFirstIn}
+use Rattle.network_stages.specs.Networks.{Network}
+use Rattle.network_stages.specs.Sets.{ArePartsBy, IsFirstWithManySets}
 
--- the program spells no network
-abbrev pub SpellsNone : Content → Refusal → Type 0
-SpellsNone p r = (f : LayoutFault ℕ) × (network_of p ≡ Err f) × (r ≡ refusal.Network (network_told (event_text p) f))
+-- the program, of the text of this side, spells no network
+abbrev pub SpellsNone : Side → Content → Answer → Type 0
+SpellsNone side p a = (f : LayoutFault) × (network_of p ≡ Err f) × (a ≡ answer.Decided p (verdict.Refused side (refusal.Network f)))
 
--- the script has no program, or its program spells no network
-abbrev pub HasNoNetwork : Script → Refusal → Type 0
-HasNoNetwork script r =
-    ((f : ResolveFault) × IsRefused script f × (r ≡ refusal.NoProgram f))
-    ⊎ ((p : Content) × IsProgram script p × SpellsNone p r)
+-- the script, that of the text of this side, has no program, or its program spells no network
+abbrev pub HasNoNetwork : Side → Script → Answer → Type 0
+HasNoNetwork side script a =
+    ((f : ResolveFault) × IsRefused script f × (a ≡ answer.NoProgram side (text.Unresolved f)))
+    ⊎ ((p : Content) × IsProgram script p × SpellsNone side p a)
 
--- one of the components has no table; the first of them has the number n in its network
+-- ---- components of a program, of which the first has the number n in its network
+
+-- one of them has no table
 abbrev pub HaveNoTables : Content → ℕ → List (Component Proc) → Refusal → Type 0
-HaveNoTables p n cs r =
-    (i : ℕ) × (f : ComponentFault (List ℕ)) × IsFirst p cs i (HasFault p f) × (r ≡ refusal.Component (n + i) (component_told (texts p) f))
+HaveNoTables p n cs r = (i : ℕ) × (f : ComponentFault) × IsFirst p cs i (HasFault p f) × (r ≡ refusal.Component (n + i) f)
 
--- traces of one of the components lead to too many sets of terms; the first of them has the number n in its network
+-- traces of one of them lead to too many sets of terms
 abbrev pub HaveNoParts : Content → ℕ → List (Component Proc) → Refusal → Type 0
 HaveNoParts p n cs r = (i : ℕ) × IsFirstWithManySets p cs i × (r ≡ refusal.Component (n + i) fault.SubsetLimit)
 
--- an event is in the alphabets of three components
-abbrev pub ShareEvent : Content → List (Component Proc) → Shortfall → Type 0
-ShareEvent p cs s =
-    (e : ℕ) × (i : ℕ) × (j : ℕ) × (k : ℕ) × IsTriple (alphabets cs) e i j k
-    × (s ≡ shortfall.NotTripleDisjoint (event_text p e) (i ∷ j ∷ k ∷ []))
+-- a component alone, with the whole room for it, has no table, or its traces lead to too many sets of terms
+abbrev pub HasNoPart : Content → ℕ → Component Proc → Refusal → Type 0
+HasNoPart p n c r =
+    HaveNoTables p n (c ∷ []) r
+    ⊎ ((tables : List ComponentTable) × AreTablesOf p (c ∷ []) tables × HaveNoParts p n (c ∷ []) r)
 
--- a component can stop
-abbrev pub CanStop : Content → List (Component Proc) → Shortfall → Type 0
-CanStop p cs s = (i : ℕ) × (trace : List ℕ) × StopsFirstIn (ProcessStep p) cs i trace × (s ≡ shortfall.Stops i (texts p trace))
+-- ---- a network
+
+abbrev pub shared_by : TripleFault → Shortfall
+shared_by (triple.Shared e parts) = shortfall.NotTripleDisjoint e parts
+
+module _ (network : Network) where
+  -- each component has a table, within the room that those before it leave
+  abbrev pub HasTables : List ComponentTable → Type 0
+  HasTables tables = AreTablesOf network.program (leaves network.tree) tables
+
+  -- one has none
+  abbrev pub HasNoTables : Refusal → Type 0
+  HasNoTables r = HaveNoTables network.program 0 (leaves network.tree) r
+
+  -- each component has a normal table
+  abbrev pub HasParts : List Part → Type 0
+  HasParts parts = ArePartsBy network.program (leaves network.tree) parts
+
+  -- one has none
+  abbrev pub HasNoParts : Refusal → Type 0
+  HasNoParts r = HaveNoParts network.program 0 (leaves network.tree) r
+
+  -- an event is in the alphabets of three components
+  abbrev pub ShareEvent : Shortfall → Type 0
+  ShareEvent s = (f : TripleFault) × SharesEvent (alphabets (leaves network.tree)) f × (s ≡ shared_by f)
+
+  -- no component is ever empty-handed
+  abbrev pub StaysBusy : Type 0
+  StaysBusy = AreBusy (ProcessStep network.program) (leaves network.tree)
+
+  -- one can stop
+  abbrev pub CanStop : Shortfall → Type 0
+  CanStop s = (i : ℕ) × (trace : List ℕ) × StopsFirstIn (ProcessStep network.program) (leaves network.tree) i trace × (s ≡ shortfall.Stops i trace)

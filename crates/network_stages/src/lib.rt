@@ -1,16 +1,19 @@
-//! The stages of a walk from a script: the network that it spells, the tables of components, their parts, and the shape of the network. Each is made by
-//! one function, which else tells the fault that is there.
+//! The stages of a walk, each made from the one before: the network that a script spells, the tables of its components, their parts, and the shape of
+//! the network. What makes a stage else tells the fault that is there.
 #![tactic(auto)]
 
+mod busy;
+mod chosen;
+mod links;
 mod parts;
+mod rows;
 mod shapes;
 mod spelled;
 mod tabled;
-mod telling;
-mod texts;
 
-pub use parts::make_parts;
-pub use shapes::{Shaped, check_busy, make_shape};
+pub use busy::check_busy;
+pub use chosen::{Chosen, make_part};
+pub use parts::{Parted, make_parts};
+pub use shapes::{Shaped, make_shape};
 pub use spelled::{Spelled, spell_network};
 pub use tabled::{Tabled, make_tables};
-pub use texts::event_texts;

@@ -1,24 +1,23 @@
 //! A program that spells a network.
 
-ghost use Rattle.std.specs.Prelude.{◌≡◌, ◌≤◌, Err, IfErr, IfOk, Ok, length};
+ghost use Rattle.std.specs.Prelude.{◌≡◌, ◌≤◌, IfErr, IfNone, IfOk, IfSome, Some, length, slice_get};
 ghost use Rattle.dl_limits.specs.declared.TheConstants.{MOST_COMPONENTS};
-ghost use Rattle.network_trees.specs.NetworkOf.{network_of};
+ghost use Rattle.csp_tables.specs.Network.{leaves};
 ghost use Rattle.report.specs.Stops.{Tells};
-ghost use Rattle.network_stages.specs.Networks.{IsNetworkOf, components_at, network_at, tree_at};
+ghost use Rattle.network_stages.specs.Networks.{IsNetworkOf, IsSpelled, network_at};
 ghost use Rattle.network_stages.specs.Stages.{HasNoNetwork, SpellsNone};
 ghost use Rattle.script_sizes.specs.Size.{AreSmall};
 
-use crate::telling::network_told;
 use containers::Boxed;
 use csp_program::Program;
 use csp_resolve::{Unresolved, resolve};
 use csp_text::Script;
 use network_layout::{Layout, Seat, Unlaid, layout};
-use report::{Refusal, Stop};
+use report::{Answer, Refusal, Side, Stop, TextFault, Verdict};
 use std::alloc::Global;
 use std::marker::Model;
 
-/// A program that spells a network, with the components of the network. Contracts see it as the program.
+/// A program that spells a network, with the components of the network. Contracts see it as the network.
 pub struct Spelled {
     program: Boxed<Program>,
     layout: Layout,
@@ -39,14 +38,14 @@ impl Model for Spelled {
     ghost use Rattle.csp_program.specs.contracts.expressions.Expr as expression;
     ghost use Rattle.csp_program.specs.contracts.networks.Net as network;
     ghost use Rattle.csp_program.specs.contracts.processes.Proc as process;
-    ghost use Rattle.csp_program.specs.declared.programs.Content.{Content};
-    ghost use Rattle.network_stages.specs.Networks.{AreSeatsOf};
+    ghost use Rattle.network_stages.specs.Networks.{AreSeatsOf, Network, network_at};
+    ghost use Rattle.network_stages.specs.TreeCode.{tree_code};
 
-    ghost Value = { Content };
+    ghost Value = { Network };
 
-    ghost coded = { Prim.hlevel (codes, expression.the_row.coded, network.the_row.coded, process.the_row.coded) };
+    ghost coded = { Prim.hlevel (codes, tree_code, expression.the_row.coded, network.the_row.coded, process.the_row.coded) };
 
-    ghost view = { λ s. s.program };
+    ghost view = { λ s. network_at s.program };
 
     ghost invariant = { λ s. AreSeatsOf s.program s.layout };
 }
@@ -54,8 +53,8 @@ impl Model for Spelled {
 impl Spelled {
     /// The program.
     pub fn program(&self) -> &Program
-        ensures program { result.now ≡ self.now }
-        ensures spelled { network_of self.now ≡ Ok (tree_at self.now) }
+        ensures program { result.now ≡ self.now.program }
+        ensures spelled { IsSpelled self.now }
     {
         let _ = &self.layout;
         self.program.get()
@@ -63,8 +62,8 @@ impl Spelled {
 
     /// The components, from left to right.
     pub fn layout(&self) -> &Layout
-        ensures layout { result.now ≡ components_at self.now }
-        ensures spelled { network_of self.now ≡ Ok (tree_at self.now) }
+        ensures layout { result.now ≡ leaves self.now.tree }
+        ensures spelled { IsSpelled self.now }
     {
         let _ = &self.program;
         &self.layout
@@ -72,38 +71,51 @@ impl Spelled {
 
     /// The same as a list.
     pub fn seats(&self) -> &[Seat]
-        ensures seats { result.now ≡ components_at self.now }
+        ensures seats { result.now ≡ leaves self.now.tree }
         ensures few { length result.now ≤ MOST_COMPONENTS }
     {
         self.layout.seats()
     }
+
+    /// The program alone.
+    pub fn into_program(self) -> Boxed<Program>
+        ensures { result ≡ self.program }
+    {
+        let Spelled {
+            program,
+            layout: _layout,
+        } = self;
+        program
+    }
 }
 
-// The network of a program.
-fn seated(alloc: Global, program: Boxed<Program>) -> Result<Spelled, Stop<Refusal>>
-    ensures of { IfOk result (λ made. made ≡ program) }
-    ensures ok { IfOk result (λ made. network_of program ≡ Ok (tree_at program)) }
-    ensures told { IfErr result (Tells (SpellsNone program)) }
+// The network of a program, of the text of this side.
+fn seated(alloc: Global, side: Side, program: Boxed<Program>) -> Result<Spelled, Stop<Answer>>
+    ensures network { IfOk result (λ made. made ≡ network_at program) }
+    ensures spelled { IfOk result IsSpelled }
+    ensures told { IfErr result (Tells (SpellsNone side program)) }
 {
     match layout(alloc, program.get()) {
         Ok(layout) => Ok(Spelled { program, layout }),
         Err(Unlaid::NoMemory) => Err(Stop::NoMemory),
         Err(Unlaid::Refused(fault)) => {
-            let fault = network_told(alloc, program.get(), &fault)?;
-            Err(Stop::Told(Refusal::Network(fault)))
+            let verdict = Verdict::Refused(side, Refusal::Network(fault));
+            Err(Stop::Told(Answer::Decided(program, verdict)))
         }
     }
 }
 
-/// The network of a script that holds no more than a text within the limit spells, or why it has none.
-pub fn spell_network(alloc: Global, script: &Script) -> Result<Spelled, Stop<Refusal>>
+/// The network of a script that holds no more than a text within the limit spells, or why it has none: it is the script of the text of this side.
+pub fn spell_network(alloc: Global, side: Side, script: &Script) -> Result<Spelled, Stop<Answer>>
     requires { AreSmall script.now.decls }
-    ensures ok { IfOk result (λ made. IsNetworkOf script.now (network_at made)) }
-    ensures told { IfErr result (Tells (HasNoNetwork script.now)) }
+    ensures ok { IfOk result (IsNetworkOf script.now) }
+    ensures told { IfErr result (Tells (HasNoNetwork side script.now)) }
 {
     match resolve(alloc, script) {
-        Ok(program) => seated(alloc, program),
-        Err(Unresolved::Refused(fault)) => Err(Stop::Told(Refusal::NoProgram(fault))),
+        Ok(program) => seated(alloc, side, program),
+        Err(Unresolved::Refused(fault)) => {
+            Err(Stop::Told(Answer::NoProgram(side, TextFault::Unresolved(fault))))
+        }
         Err(Unresolved::NoMemory) => Err(Stop::NoMemory),
     }
 }

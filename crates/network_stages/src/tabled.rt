@@ -1,23 +1,23 @@
-//! Components of a program with their tables.
+//! A network with the tables of its components.
 
 ghost use Rattle.std.specs.Prelude.{◌≡◌, ◌≤◌, ◌+◌, IfErr, IfOk, length};
 ghost use Rattle.dl_limits.specs.declared.TheConstants.{MOST_COMPONENTS};
 ghost use Rattle.network_tables.specs.Tables.{AreTablesOf};
 ghost use Rattle.report.specs.Stops.{Tells};
-ghost use Rattle.network_stages.specs.Stages.{HaveNoTables};
+ghost use Rattle.network_stages.specs.Networks.{HasSilentBound};
+ghost use Rattle.network_stages.specs.Stages.{HasNoTables, HasTables, HaveNoTables};
 
-use crate::telling::component_told;
+use crate::spelled::Spelled;
 use csp_program::Program;
 use network_layout::Seat;
-use network_tables::{ComponentTable, Untabled, tables};
+use network_tables::{ComponentTable, Untabled, silent_bound, tables};
 use report::{Refusal, Stop};
 use std::alloc::Global;
 use std::marker::Model;
 
-/// Components of a program with their tables, each within the room that those before it leave. Contracts see it as these three.
+/// A network with the tables of its components, each within the room that those before it leave. Contracts see it as these two.
 pub struct Tabled<'a> {
-    program: &'a Program,
-    seats: &'a [Seat],
+    network: &'a Spelled,
     tables: Vec<ComponentTable>,
 }
 
@@ -25,82 +25,83 @@ pub struct Tabled<'a> {
 impl<'a> Drop for Tabled<'a> {
     fn drop(self) {
         let Tabled {
-            program: _program,
-            seats: _seats,
+            network: _network,
             tables: _tables,
         } = self;
     }
 }
 
 impl<'a> Model for Tabled<'a> {
-    ghost use Rattle.network_tables.specs.Tables.{AreTablesOf};
     ghost use Rattle.std.specs.Coded.{codes};
     ghost use Rattle.csp_program.specs.contracts.expressions.Expr as expression;
-    ghost use Rattle.csp_program.specs.contracts.networks.Net as network;
+    ghost use Rattle.csp_program.specs.contracts.networks.Net as net;
     ghost use Rattle.csp_program.specs.contracts.processes.Proc as process;
-    ghost use Rattle.network_stages.specs.Tables.{Tables};
+    ghost use Rattle.network_stages.specs.Stages.{HasTables};
+    ghost use Rattle.network_stages.specs.TreeCode.{tree_code};
+    ghost use Rattle.network_stages.specs.Views.{TabledNetwork};
 
-    ghost Value = { Tables };
+    ghost Value = { TabledNetwork };
 
-    ghost coded = { Prim.hlevel (codes, expression.the_row.coded, network.the_row.coded, process.the_row.coded) };
+    ghost coded = { Prim.hlevel (codes, tree_code, expression.the_row.coded, net.the_row.coded, process.the_row.coded) };
 
-    ghost view = { λ t. record { program = t.program.now; components = t.seats.now; tables = t.tables.items } };
+    ghost view = { λ t. record { network = t.network.now; tables = t.tables.items } };
 
-    ghost invariant = { λ t. AreTablesOf t.program.now t.seats.now t.tables.items };
+    ghost invariant = { λ t. HasTables t.network.now t.tables.items };
 }
 
 impl<'a> Tabled<'a> {
-    /// The program.
-    pub fn program(&self) -> &'a Program
-        ensures { result.now ≡ self.now.program }
+    /// The network.
+    pub fn network(&self) -> &'a Spelled
+        ensures { result.now ≡ self.now.network }
     {
-        self.program
+        self.network
     }
 
-    /// The components.
-    pub fn seats(&self) -> &'a [Seat]
-        ensures { result.now ≡ self.now.components }
-    {
-        self.seats
-    }
-
-    /// Their tables.
+    /// The tables of its components.
     pub fn tables(&self) -> &[ComponentTable]
         ensures tables { result.now ≡ self.now.tables }
-        ensures are { AreTablesOf self.now.program self.now.components self.now.tables }
+        ensures are { HasTables self.now.network self.now.tables }
     {
-        let _ = self.seats;
-        let _ = self.program;
+        let _ = self.network;
         self.tables.as_slice()
+    }
+
+    /// The silent bound of the network.
+    pub fn silent_bound(&self) -> u32
+        ensures { HasSilentBound self.now.network result }
+    {
+        let _seats = self.network.seats();
+        silent_bound(self.tables())
     }
 }
 
-/// The tables of components, of which the first has the number `first` in its network, or why one has none. They have the whole room.
-pub fn make_tables<'a>(
+// The tables of components of a program, of which the first has the number `first` in its network, or why one has none. They have the whole room.
+pub(crate) fn tables_from(
     alloc: Global,
-    program: &'a Program,
+    program: &Program,
     first: u32,
-    seats: &'a [Seat],
-) -> Result<Tabled<'a>, Stop<Refusal>>
+    seats: &[Seat],
+) -> Result<Vec<ComponentTable>, Stop<Refusal>>
     requires most { first + length seats.now ≤ MOST_COMPONENTS }
-    ensures program { IfOk result (λ made. made.program ≡ program.now) }
-    ensures components { IfOk result (λ made. made.components ≡ seats.now) }
-    ensures ok { IfOk result (λ made. AreTablesOf program.now seats.now made.tables) }
+    ensures tables { IfOk result (λ made. AreTablesOf program.now seats.now made.items) }
     ensures told { IfErr result (Tells (HaveNoTables program.now first seats.now)) }
 {
     match tables(alloc, program, seats) {
-        Ok(tables) => Ok(Tabled {
-            program,
-            seats,
-            tables,
-        }),
+        Ok(tables) => Ok(tables),
         Err(Untabled::NoMemory) => Err(Stop::NoMemory),
-        Err(Untabled::Refused { part, fault }) => {
-            let fault = component_told(alloc, program, &fault)?;
-            Err(Stop::Told(Refusal::Component {
-                component: first + part,
-                fault,
-            }))
-        }
+        Err(Untabled::Refused { part, fault }) => Err(Stop::Told(Refusal::Component {
+            component: first + part,
+            fault,
+        })),
     }
+}
+
+/// The tables of the components of a network, or why one has none.
+pub fn make_tables<'a>(alloc: Global, network: &'a Spelled) -> Result<Tabled<'a>, Stop<Refusal>>
+    ensures network { IfOk result (λ made. made.network ≡ network.now) }
+    ensures tables { IfOk result (λ made. HasTables network.now made.tables) }
+    ensures told { IfErr result (Tells (HasNoTables network.now)) }
+{
+    let tables = tables_from(alloc, network.program(), 0, network.seats())?;
+    Ok(Tabled { network, tables })
 }

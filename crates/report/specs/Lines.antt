@@ -2,19 +2,22 @@
 use Rattle.std.specs.Prelude.{ℕ, List, [], ◌∷◌, ◌++◌, codes}
 use Rattle.std.specs.List.{flat_map}
 use Rattle.std.specs.Fmt.{decimal}
+use Rattle.csp_program.specs.declared.programs.Content.{Content}
+use Rattle.report.specs.EventText.{event_text}
 
--- names with a comma and a blank between them
-abbrev pub comma_list : List (List ℕ) → List ℕ
-comma_list [] = []
-comma_list (x ∷ xs) = x ++ flat_map (λ y. codes ", " ++ y) xs
+module _ (p : Content) where
+  -- events with a comma and a blank between them
+  abbrev pub events_text : List ℕ → List ℕ
+  events_text [] = []
+  events_text (e ∷ es) = event_text p e ++ flat_map (λ e. codes ", " ++ event_text p e) es
 
--- a trace: events in their order
-abbrev pub trace_text : List (List ℕ) → List ℕ
-trace_text events = codes "<" ++ comma_list events ++ codes ">"
+  -- a trace: events in their order
+  abbrev pub trace_text : List ℕ → List ℕ
+  trace_text es = codes "<" ++ events_text es ++ codes ">"
 
--- a set of events
-abbrev pub set_text : List (List ℕ) → List ℕ
-set_text events = codes "{" ++ comma_list events ++ codes "}"
+  -- a set of events
+  abbrev pub set_text : List ℕ → List ℕ
+  set_text es = codes "{" ++ events_text es ++ codes "}"
 
 -- numbers, with a blank before each
 abbrev pub numbers_text : List ℕ → List ℕ

@@ -1,6 +1,7 @@
 -- The parts of a line, one after another. (No public contract cites this.)
 use Rattle.std.specs.Prelude.{ℕ, List, [], ◌∷◌, ◌++◌}
 use Rattle.std.specs.Fmt.{decimal, signed_decimal}
+use Rattle.report.specs.EventText.{event_text}
 use Rattle.report.specs.Lines.{numbers_text, set_text, trace_text}
 use Rattle.report.specs.declared.lines.Part.{Part}
 use Rattle.report.specs.declared.lines.Part.TheVariants as part
@@ -10,8 +11,9 @@ part_text (part.Text text) = text.now
 part_text (part.Number n) = decimal n
 part_text (part.Signed n) = signed_decimal n
 part_text (part.Numbers ns) = numbers_text ns.now
-part_text (part.Trace events) = trace_text events.now
-part_text (part.Set events) = set_text events.now
+part_text (part.Event p e) = event_text p.now e
+part_text (part.Trace p es) = trace_text p.now es.now
+part_text (part.Set p es) = set_text p.now es.now
 
 -- a text and parts after it
 abbrev pub text_and : List ℕ → List Part → List ℕ

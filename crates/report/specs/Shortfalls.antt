@@ -2,15 +2,14 @@
 use Rattle.std.specs.Prelude.{ℕ, List, ◌++◌, codes}
 use Rattle.std.specs.List.{flat_map}
 use Rattle.std.specs.Fmt.{decimal}
+use Rattle.csp_program.specs.declared.programs.Content.{Content}
 use Rattle.design_rules.specs.declared.condition.Condition.{Condition}
 use Rattle.design_rules.specs.declared.condition.Condition.TheVariants.{Roles, Clients, Turns, Service, Answers, Kinds, Holders, Grants, Uses}
+use Rattle.report.specs.EventText.{event_text}
 use Rattle.report.specs.Lines.{trace_text, numbers_text}
 use Rattle.report.specs.declared.answer.Shortfall.{Shortfall}
 use Rattle.report.specs.declared.answer.Shortfall.TheVariants as shortfall
 use Rattle.csp_base.specs.Texts.{line}
-
-abbrev pub after_text : ℕ → List (List ℕ) → List ℕ
-after_text i trace = codes "component " ++ decimal i ++ codes " after " ++ trace_text trace
 
 abbrev pub link_text : ℕ × ℕ → List ℕ
 link_text link = codes "link " ++ decimal link.0 ++ codes " " ++ decimal link.1
@@ -38,23 +37,28 @@ condition_name Holders = codes "U2"
 condition_name Grants = codes "U3"
 condition_name Uses = codes "U4"
 
--- a condition of a rule, with the component that breaks it
-abbrev pub condition_text : Condition → ℕ → List (List ℕ) → List ℕ
-condition_text k i trace =
-    condition_number k ++ codes " component " ++ decimal i ++ codes " breaks " ++ condition_name k ++ codes " after " ++ trace_text trace
+module _ (p : Content) where
+  abbrev pub after_text : ℕ → List ℕ → List ℕ
+  after_text i trace = codes "component " ++ decimal i ++ codes " after " ++ trace_text p trace
 
-abbrev pub shortfall_text : Shortfall → List ℕ
-shortfall_text (shortfall.NotTripleDisjoint event components) = line (codes "20 event " ++ event ++ codes " is in alphabets" ++ numbers_text components)
-shortfall_text (shortfall.Stops i trace) = line (codes "21 component " ++ decimal i ++ codes " can stop after " ++ trace_text trace)
-shortfall_text (shortfall.BreaksOrder i trace event) =
-    line (codes "23 component " ++ decimal i ++ codes " breaks C1 after " ++ trace_text trace ++ codes " by " ++ event)
-shortfall_text (shortfall.LinksCircle links) = line (codes "24 links in a circle") ++ flat_map (λ link. line (link_text link)) links
-shortfall_text (shortfall.NoFullEnd left right left_trace right_trace) =
-    line (codes "25 link " ++ decimal left ++ codes " " ++ decimal right ++ codes " has no full end")
-    ++ line (after_text left left_trace) ++ line (after_text right right_trace)
-shortfall_text (shortfall.Broken k i trace) = line (condition_text k i trace)
-shortfall_text (shortfall.ClientsCircle components) = line (codes "27 clients in a circle" ++ numbers_text components)
-shortfall_text (shortfall.ResourcesCircle components) = line (codes "29 resources in a circle" ++ numbers_text components)
-shortfall_text (shortfall.Outside i trace) = line (codes "43 component " ++ decimal i ++ codes " does " ++ trace_text trace ++ codes " outside its specification")
-shortfall_text (shortfall.Refuses i trace) = line (codes "44 component " ++ decimal i ++ codes " refuses too much after " ++ trace_text trace)
-shortfall_text (shortfall.NoOrder components) = line (codes "39 no order for components" ++ numbers_text components)
+  -- a condition of a rule, with the component that breaks it
+  abbrev pub condition_text : Condition → ℕ → List ℕ → List ℕ
+  condition_text k i trace =
+      condition_number k ++ codes " component " ++ decimal i ++ codes " breaks " ++ condition_name k ++ codes " after " ++ trace_text p trace
+
+  abbrev pub shortfall_text : Shortfall → List ℕ
+  shortfall_text (shortfall.NotTripleDisjoint e parts) =
+      line (codes "20 event " ++ event_text p e ++ codes " is in alphabets " ++ decimal parts.0 ++ codes " " ++ decimal parts.1 ++ codes " " ++ decimal parts.2)
+  shortfall_text (shortfall.Stops i trace) = line (codes "21 component " ++ decimal i ++ codes " can stop after " ++ trace_text p trace)
+  shortfall_text (shortfall.BreaksOrder i trace e) =
+      line (codes "23 component " ++ decimal i ++ codes " breaks C1 after " ++ trace_text p trace ++ codes " by " ++ event_text p e)
+  shortfall_text (shortfall.LinksCircle links) = line (codes "24 links in a circle") ++ flat_map (λ link. line (link_text link)) links
+  shortfall_text (shortfall.NoFullEnd left right left_trace right_trace) =
+      line (codes "25 link " ++ decimal left ++ codes " " ++ decimal right ++ codes " has no full end")
+      ++ line (after_text left left_trace) ++ line (after_text right right_trace)
+  shortfall_text (shortfall.Broken k i trace) = line (condition_text k i trace)
+  shortfall_text (shortfall.ClientsCircle components) = line (codes "27 clients in a circle" ++ numbers_text components)
+  shortfall_text (shortfall.ResourcesCircle components) = line (codes "29 resources in a circle" ++ numbers_text components)
+  shortfall_text (shortfall.Outside i trace) = line (codes "43 component " ++ decimal i ++ codes " does " ++ trace_text p trace ++ codes " outside its specification")
+  shortfall_text (shortfall.Refuses i trace) = line (codes "44 component " ++ decimal i ++ codes " refuses too much after " ++ trace_text p trace)
+  shortfall_text (shortfall.NoOrder components) = line (codes "39 no order for components" ++ numbers_text components)

@@ -1,11 +1,12 @@
-//! What a command is answered, with the values that its report prints. Components, declarations and nodes are numbered from 0.
+//! What a command is answered, with the values that its report prints. Components, declarations, nodes and events are numbered from 0.
 
-use containers::Items;
-use csp_base::{Bytes, Place};
-use csp_program::ValueKind;
-use csp_tables::Rule;
+use containers::{Boxed, Items};
+use csp_base::{Bytes, Event, Place, Trace};
+use csp_program::{Program, ValueKind};
+use csp_tables::{Part, Rule};
 use design_rules::Condition;
 use network_trees::LayoutFault;
+use numbered_walks::Move;
 use process_steps::ComponentFault;
 use script_names::ResolveFault;
 
@@ -31,15 +32,32 @@ pub enum Side {
     Specification,
 }
 
-/// Why a script or a specification is refused.
-pub enum Refusal {
+/// Why a text has no program.
+pub enum TextFault {
     /// It has more than 1,048,576 bytes (36).
     TooLong,
-    /// The text spells no script (1).
+    /// It spells no script (1).
     NoScript {
         /// Where its first piece begins that is no token; where there is none, the place of a token or of its end.
         at: Place,
     },
+    /// Its script has no program (2 to 9 and 33).
+    Unresolved(ResolveFault),
+}
+
+// By hand, so that a crate that ends one calls this and proves no end of its own.
+impl Drop for TextFault {
+    fn drop(self) {
+        match self {
+            TextFault::TooLong => {}
+            TextFault::NoScript { at: _at } => {}
+            TextFault::Unresolved(_fault) => {}
+        }
+    }
+}
+
+/// Why a program is refused.
+pub enum Refusal {
     /// A value is needed that there isn't (2), elsewhere than in the walk of the network or the steps of a component.
     Value {
         /// Why there is none.
@@ -47,16 +65,14 @@ pub enum Refusal {
         /// Where it is needed.
         site: Site,
     },
-    /// The script has no program (2 to 9 and 33).
-    NoProgram(ResolveFault),
     /// The program spells no network.
-    Network(LayoutFault<Bytes>),
+    Network(LayoutFault),
     /// A component has no normal table.
     Component {
         /// The component.
         component: u32,
         /// Why it has none.
-        fault: ComponentFault<Items<Bytes>>,
+        fault: ComponentFault,
     },
     /// No component has the number that was asked for (35).
     NoComponent {
@@ -86,13 +102,10 @@ pub enum Refusal {
 impl Drop for Refusal {
     fn drop(self) {
         match self {
-            Refusal::TooLong => {}
-            Refusal::NoScript { at: _at } => {}
             Refusal::Value {
                 kind: _kind,
                 site: _site,
             } => {}
-            Refusal::NoProgram(_fault) => {}
             Refusal::Network(_first) => {}
             Refusal::Component {
                 component: _component,
@@ -116,25 +129,25 @@ pub enum Shortfall {
     /// An event is in three alphabets (20).
     NotTripleDisjoint {
         /// The event.
-        event: Bytes,
+        event: Event,
         /// The components.
-        components: Items<u32>,
+        components: (u32, u32, u32),
     },
     /// A component can stop (21).
     Stops {
         /// The component.
         component: u32,
         /// Events after which it can.
-        trace: Items<Bytes>,
+        trace: Trace,
     },
     /// A component does not go round its links (23).
     BreaksOrder {
         /// The component.
         component: u32,
         /// Events after which it breaks the order.
-        trace: Items<Bytes>,
+        trace: Trace,
         /// The event by which it does.
-        event: Bytes,
+        event: Event,
     },
     /// Links of which each must come before the next, and the last one before the first (24).
     LinksCircle {
@@ -148,9 +161,9 @@ pub enum Shortfall {
         /// The right component.
         right: u32,
         /// Events after which the left one doesn't.
-        left_trace: Items<Bytes>,
+        left_trace: Trace,
         /// Events after which the right one doesn't.
-        right_trace: Items<Bytes>,
+        right_trace: Trace,
     },
     /// A condition of a rule is broken (26 clients and servers, 28 users and resources).
     Broken {
@@ -159,7 +172,7 @@ pub enum Shortfall {
         /// The component that breaks it.
         component: u32,
         /// Events after which it does.
-        trace: Items<Bytes>,
+        trace: Trace,
     },
     /// Components of which each is a client of the next, and the last one of the first (27).
     ClientsCircle {
@@ -176,14 +189,14 @@ pub enum Shortfall {
         /// The component.
         component: u32,
         /// What it does; without the last event its specification does it too.
-        trace: Items<Bytes>,
+        trace: Trace,
     },
     /// A component can come to offer less than its specification has to (44).
     Refuses {
         /// The component.
         component: u32,
         /// Events after which it can.
-        trace: Items<Bytes>,
+        trace: Trace,
     },
     /// No order of the components bounds the hidden events (39).
     NoOrder {
@@ -242,57 +255,16 @@ impl Drop for Shortfall {
     }
 }
 
-/// A node of a normal table, with its events as texts.
-pub struct PrintedNode {
-    /// Each event that is possible, with the node to which it leads.
-    pub next: Items<(Bytes, u32)>,
-    /// The acceptances.
-    pub accept: Items<Items<Bytes>>,
-}
-
-// By hand, so that a crate that ends one calls this and proves no end of its own.
-impl Drop for PrintedNode {
-    fn drop(self) {
-        let PrintedNode {
-            next: _next,
-            accept: _accept,
-        } = self;
-    }
-}
-
-/// A step of a run.
-pub enum PrintedMove {
-    /// A silent step of the component with this number.
-    Silent(u32),
-    /// An event.
-    Event(Bytes),
-}
-
-// By hand, so that a crate that ends one calls this and proves no end of its own.
-impl Drop for PrintedMove {
-    fn drop(self) {
-        match self {
-            PrintedMove::Silent(_component) => {}
-            PrintedMove::Event(_event) => {}
-        }
-    }
-}
-
-/// What a job answers that was done.
+/// What was asked of a network and is done.
 pub enum Done {
-    /// The script is shown.
-    Shown {
-        /// Its printed text.
-        text: Bytes,
-    },
     /// The normal table of a component.
     Table {
         /// The component.
         component: u32,
         /// How many components there are.
         count: u32,
-        /// Its nodes.
-        nodes: Items<PrintedNode>,
+        /// Its alphabet and its table.
+        part: Part,
     },
     /// The network is free of deadlock by the rule.
     DeadlockFree {
@@ -317,7 +289,7 @@ pub enum Done {
     /// The network was run for as many steps as were asked for, and can go on.
     Walked {
         /// The steps.
-        moves: Items<PrintedMove>,
+        moves: Items<Move>,
     },
     /// Hidden events of the network that follow one another are bounded.
     LivelockFree {
@@ -332,11 +304,10 @@ pub enum Done {
 impl Drop for Done {
     fn drop(self) {
         match self {
-            Done::Shown { text: _text } => {}
             Done::Table {
                 component: _component,
                 count: _count,
-                nodes: _nodes,
+                part: _part,
             } => {}
             Done::DeadlockFree {
                 rule: _rule,
@@ -358,6 +329,30 @@ impl Drop for Done {
     }
 }
 
+/// What is decided of a network. Events are those of its program.
+pub enum Verdict {
+    /// The program of this side is refused.
+    Refused(Side, Refusal),
+    /// The network is not proved.
+    NotProved(Shortfall),
+    /// The network ran into a state without a step, by these steps.
+    Stuck(Items<Move>),
+    /// What was asked for is done.
+    Done(Done),
+}
+
+// By hand, so that a crate that ends one calls this and proves no end of its own.
+impl Drop for Verdict {
+    fn drop(self) {
+        match self {
+            Verdict::Refused(_side, _refusal) => {}
+            Verdict::NotProved(_shortfall) => {}
+            Verdict::Stuck(_moves) => {}
+            Verdict::Done(_done) => {}
+        }
+    }
+}
+
 /// A fault of the shelf.
 #[derive(Clone, Copy)]
 pub enum OutsideFault {
@@ -373,14 +368,15 @@ pub enum Answer {
     Usage,
     /// The text of this side could not be had.
     Outside(Side, OutsideFault),
-    /// The text of this side is refused.
-    Refused(Side, Refusal),
-    /// The network is not proved.
-    NotProved(Shortfall),
-    /// The network ran into a state without a step, by these steps.
-    Stuck(Items<PrintedMove>),
-    /// What was asked for is done.
-    Done(Done),
+    /// The text of this side has no program.
+    NoProgram(Side, TextFault),
+    /// The script is shown.
+    Shown {
+        /// Its printed text.
+        text: Bytes,
+    },
+    /// What is decided of a network: events are those of this program.
+    Decided(Boxed<Program>, Verdict),
 }
 
 // By hand, so that a crate that ends one calls this and proves no end of its own.
@@ -389,10 +385,9 @@ impl Drop for Answer {
         match self {
             Answer::Usage => {}
             Answer::Outside(_side, _fault) => {}
-            Answer::Refused(_side, _refusal) => {}
-            Answer::NotProved(_first) => {}
-            Answer::Stuck(_moves) => {}
-            Answer::Done(_first) => {}
+            Answer::NoProgram(_side, _fault) => {}
+            Answer::Shown { text: _text } => {}
+            Answer::Decided(_program, _verdict) => {}
         }
     }
 }

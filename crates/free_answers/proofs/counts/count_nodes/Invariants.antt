@@ -1,6 +1,0 @@
-use Rattle.std.proofs.Common.{◌≡◌, take}
-use Rattle.free_answers.specs.Counts.{node_count}
-use Rattle.free_answers.proofs.counts.count_nodes.Given as goal
-
-abbrev pub invariant-loop-part : goal.invariant-loop-part
-invariant-loop-part l = l.count ≡ node_count (take l.part-index l.parts)

@@ -1,9 +1,0 @@
-use Rattle.std.proofs.Common.{◌≡◌, ◌-◌, ◌<◌, ◌≤◌, ℕ, length}
-use Rattle.network_shape.proofs.links.group_end.Given as goal
-use Rattle.observed_runs.specs.Observed.{pair_at}
-
-abbrev pub invariant-loop-end : goal.invariant-loop-end
-invariant-loop-end l = (l.start < l.end) × (l.end ≤ length l.row) × ((k : ℕ) → l.start ≤ k → k < l.end → (pair_at l.row k).0 ≡ (pair_at l.row l.start).0)
-
-abbrev pub decreases-loop-end : goal.decreases-loop-end
-decreases-loop-end l = length l.row - l.end

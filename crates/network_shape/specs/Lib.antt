@@ -1,4 +1,0 @@
-pub mod Made
-pub mod Parts
-pub mod Rows
-pub mod Stops
