@@ -13,7 +13,8 @@ use containers::Items;
 use csp_base::NoMemory;
 use design_rules::RuleFault;
 use digraph::{Fault, Heights, Rows, longest_walks};
-use shape_links::{SortedShape, circle_fault, turned};
+use crate::ends::{links_circle, turned_ends};
+use shape_links::SortedShape;
 use std::alloc::Global;
 
 // For each link the greatest number of links that must come before it in a chain.
@@ -33,7 +34,10 @@ pub(crate) fn numbers(
     let rows = chains(alloc, prepared, orders)?;
     match longest_walks(alloc, &rows) {
         Ok(heights) => Ok(heights),
-        Err(Fault::Circle(circle)) => Err(circle_fault(turned(alloc, circle.members()))),
+        Err(Fault::Circle(circle)) => {
+            let links = turned_ends(alloc, prepared.shape(), circle.members());
+            Err(links_circle(links))
+        }
         Err(Fault::NoMemory) => Err(RuleFault::NoMemory),
     }
 }

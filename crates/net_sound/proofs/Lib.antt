@@ -3,6 +3,7 @@ pub mod Example
 pub mod Finite
 pub mod FlatLists
 pub mod Flattening
+pub mod FormOfTables
 pub mod Heights
 pub mod Laps
 pub mod Local

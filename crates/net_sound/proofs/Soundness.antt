@@ -10,7 +10,6 @@ use Rattle.std.proofs.lemmas.Option.{get_or_from_slice_get, slice_get_within, no
 use Rattle.csp_base.specs.Members.{has}
 use Rattle.csp_tables.specs.Label.{Label}
 use Rattle.csp_tables.specs.Label.Label.{silent, visible}
-use Rattle.csp_tables.specs.Live.{Live}
 use Rattle.csp_tables.specs.Path.{Path, Stable}
 use Rattle.csp_tables.specs.Network.{Component, ComponentStep, Tree, NetworkStep, leaves}
 use Rattle.csp_tables.proofs.SilentPaths.{silent_path, path_silent}
@@ -22,7 +21,7 @@ use Rattle.csp_tables.specs.Behaviour.{OffersAcceptance, HasBehaviour, HaveBehav
 use Rattle.csp_tables.specs.Ranking.{Ranking}
 use Rattle.csp_tables.specs.GoodRanking.{IsGoodRanking}
 use Rattle.net_sound.specs.Projection.{ComesAlong, RunsAreTraces, RunsAreJoint, SilenceIsBounded}
-use Rattle.net_sound.specs.Soundness.{IsSound}
+use Rattle.net_sound.specs.Heart.{GoodRankingsMeanLive}
 use Rattle.net_sound.proofs.FlatLists.{alphabets, match_true, match_false, step_alphabet}
 use Rattle.net_sound.proofs.Flattening.{back}
 use Rattle.net_sound.proofs.Local.{AllAfter, all_after, shares, at_most, run_forth, run_kept}
@@ -173,8 +172,7 @@ flat_moves Step s cs ds ps ranking some triple good a st =
     let m = agreed_step Step s g.0 ds ps c.0 c.1 g.1 in
     (g.0, m.0, m.1)
 
-pub good_rankings_mean_live : {T : Type 0} (Step : T → Label → T → Type 0) (tree : Tree T) (bound : ℕ) (parts : List Part) (ranking : Ranking)
-    → IsSound Step tree bound → IsGoodRanking Step (leaves tree) parts ranking → Live (NetworkStep Step) tree bound
+pub good_rankings_mean_live : {T : Type 0} (Step : T → Label → T → Type 0) → GoodRankingsMeanLive Step
 good_rankings_mean_live Step tree bound parts ranking sound good = record {
   quiet = λ u v n r h. silence_is_bounded Step tree u v n bound sound.nested sound.silence r h;
   moves = λ u r stable.

@@ -1,5 +1,6 @@
 pub mod Example
 pub mod Flattening
+pub mod Heart
 pub mod Heights
 pub mod NoneStuck
 pub mod Normal

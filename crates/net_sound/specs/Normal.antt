@@ -12,7 +12,7 @@ use Rattle.csp_tables.specs.RawTable.{RawTable, RawStep, IsTableOf}
 use Rattle.csp_tables.specs.Table.{Node}
 use Rattle.csp_tables.specs.NormalTable.{IsNormalTable}
 use Rattle.csp_tables.specs.Behaviour.{HasBehaviour, HaveBehaviours}
-use Rattle.csp_tables.specs.Shape.{Shape}
+use Rattle.csp_tables.specs.Shape.{Shape, IsWellFormed}
 use Rattle.csp_tables.specs.ShapeOf.{IsShapeOf, AreBusy}
 
 -- the normal table of a component's numbered table is the component's
@@ -26,3 +26,7 @@ NormalTablesBehave {T} Step = (c : Component T) (most : ℕ) (table : List Node)
 -- so have the parts of the shape of such components
 abbrev pub ShapesBehave : {T : Type 0} → (T → Label → T → Type 0) → Type 0
 ShapesBehave {T} Step = (tree : Tree T) (shape : Shape) → IsShapeOf Step tree shape → AreBusy Step (leaves tree) → HaveBehaviours Step (leaves tree) shape.parts
+
+-- the shape of a network is well formed, since its tables are normal
+abbrev pub ShapesAreWellFormed : {T : Type 0} → (T → Label → T → Type 0) → Type 0
+ShapesAreWellFormed {T} Step = (tree : Tree T) (shape : Shape) → IsShapeOf Step tree shape → IsWellFormed shape

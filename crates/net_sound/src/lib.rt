@@ -3,11 +3,12 @@
 
 ghost use Rattle.csp_tables.specs.Label.{Label};
 ghost use Rattle.net_sound.specs.Flattening.{TreeStepsAreFlat, FlatStepsAreTreeSteps, StepsAreToldByLeaves, StepsKeepNesting, StepsKeepAlphabets};
+ghost use Rattle.net_sound.specs.Heart.{GoodRankingsMeanLive};
 ghost use Rattle.net_sound.specs.Heights.{HeightsAreExact, HeightsAddUp};
 ghost use Rattle.net_sound.specs.Example.{ExampleIsLive, ExampleIsStuck};
 ghost use Rattle.net_sound.specs.NoneStuck.{NoneIsStuck};
 ghost use Rattle.csp_tables.specs.ShapeOf.{ShapesAreBusy};
-ghost use Rattle.net_sound.specs.Normal.{NormalTablesCarryOver, NormalTablesBehave, ShapesBehave};
+ghost use Rattle.net_sound.specs.Normal.{NormalTablesCarryOver, NormalTablesBehave, ShapesBehave, ShapesAreWellFormed};
 ghost use Rattle.net_sound.specs.Projection.{RunsAreTraces, RunsAreJoint, SilenceIsBounded};
 
 /// A labelled transition system: the values of a type are its states.
@@ -54,6 +55,11 @@ pub fn normal_tables_behave<S: Transitions>()
     ensures all { ShapesBehave S.step }
 {}
 
+/// The shape of a network is well formed.
+pub fn shapes_are_well_formed<S: Transitions>()
+    ensures { ShapesAreWellFormed S.step }
+{}
+
 /// The shape of a network is busy exactly where its components are.
 pub fn shapes_are_busy<S: Transitions>()
     ensures { ShapesAreBusy S.step }
@@ -62,6 +68,11 @@ pub fn shapes_are_busy<S: Transitions>()
 /// Over tables alone: ranks that fall along ungranted requests leave no state in which no event is agreed.
 pub fn none_is_stuck()
     ensures { NoneIsStuck }
+{}
+
+/// A sound network with a good ranking over any tables is live.
+pub fn good_rankings_mean_live<S: Transitions>()
+    ensures { GoodRankingsMeanLive S.step }
 {}
 
 /// A network with a good ranking, and a network that is stuck, for which no ranking is good.
