@@ -19,7 +19,9 @@ pub(crate) enum Part<'a> {
     // A text.
     Text(&'a [u8]),
     // A number.
-    Number(u64),
+    Number(u32),
+    // A number that may be larger.
+    Count(u64),
     // A number, with its sign where it is below 0.
     Signed(i64),
     // Numbers, with a blank before each.
@@ -156,7 +158,8 @@ fn push_part(report: &mut Bytes, part: &Part<'_>) -> Result<(), NoMemory>
 {
     match part {
         Part::Text(text) => report.extend_from_slice(text),
-        Part::Number(number) => push_number(report, *number),
+        Part::Number(number) => push_number(report, u64::from(*number)),
+        Part::Count(count) => push_number(report, *count),
         Part::Signed(number) => push_signed(report, *number),
         Part::Numbers(numbers) => push_numbers(report, numbers),
         Part::Event(content, event) => push_event(report, content, *event),
@@ -175,23 +178,34 @@ fn push_parts(report: &mut Bytes, parts: &[Part<'_>]) -> Result<(), NoMemory>
     Ok(())
 }
 
+// Adds the text of these parts.
+#[tactic(auto, using(crate::proofs::PartsText::parts_all))]
+pub(crate) fn push_text(report: &mut Bytes, parts: &[Part<'_>]) -> Result<(), NoMemory>
+    ensures { OnOk result (report.new ≡ report.old ++ parts_text parts.now) }
+{
+    push_parts(report, parts)
+}
+
 // Adds a line of these parts.
 pub(crate) fn push_line(report: &mut Bytes, parts: &[Part<'_>]) -> Result<(), NoMemory>
     ensures { OnOk result (report.new ≡ report.old ++ line (parts_text parts.now)) }
 {
-    push_parts(report, parts)?;
-    report.push(b'\n')?;
-    Ok(())
+    push_text(report, parts)?;
+    report.push(b'\n')
 }
 
-// The text of these parts.
-#[tactic(auto, using(crate::proofs::PartsText::parts_all))]
-pub(crate) fn written(alloc: Global, parts: &[Part<'_>]) -> Result<Bytes, NoMemory>
-    ensures { IfOk result (λ made. made ≡ parts_text parts.now) }
+// Adds a text with a number after it.
+pub(crate) fn push_numbered(report: &mut Bytes, text: &[u8], number: u32) -> Result<(), NoMemory>
+    ensures { OnOk result (report.new ≡ report.old ++ (text.now ++ decimal number)) }
 {
-    let mut made = Bytes::new(alloc);
-    push_parts(&mut made, parts)?;
-    Ok(made)
+    push_text(report, &[Part::Text(text), Part::Number(number)])
+}
+
+// Adds the line of a text with a number after it.
+pub(crate) fn push_count(report: &mut Bytes, text: &[u8], count: u64) -> Result<(), NoMemory>
+    ensures { OnOk result (report.new ≡ report.old ++ line (text.now ++ decimal count)) }
+{
+    push_line(report, &[Part::Text(text), Part::Count(count)])
 }
 
 // The line of these parts.
@@ -208,19 +222,4 @@ pub(crate) fn one_line(alloc: Global, text: &[u8]) -> Result<Bytes, NoMemory>
     ensures { IfOk result (λ made. made ≡ line text.now) }
 {
     written_line(alloc, &[Part::Text(text)])
-}
-
-// Adds a text with a number after it.
-pub(crate) fn push_numbered(report: &mut Bytes, text: &[u8], number: u32) -> Result<(), NoMemory>
-    ensures { OnOk result (report.new ≡ report.old ++ (text.now ++ decimal number)) }
-{
-    report.extend_from_slice(text)?;
-    push_number(report, u64::from(number))
-}
-
-// Adds the line of a number.
-pub(crate) fn push_count(report: &mut Bytes, label: &[u8], number: u64) -> Result<(), NoMemory>
-    ensures { OnOk result (report.new ≡ report.old ++ line (label.now ++ decimal number)) }
-{
-    push_line(report, &[Part::Text(label), Part::Number(number)])
 }
