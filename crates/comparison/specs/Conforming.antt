@@ -3,26 +3,34 @@ use Rattle.std.specs.Prelude.{◌≡◌, ◌<◌, ◌⊎◌, ℕ, List, Some, sl
 use Rattle.csp_program.specs.declared.processes.Proc.{Proc}
 use Rattle.csp_tables.specs.Network.{Component, leaves}
 use Rattle.conformance.specs.Failing.{GoesOutside, RefusesTooMuch}
+use Rattle.conformance.specs.declared.fault.ConformFault.{ConformFault}
+use Rattle.conformance.specs.declared.fault.ConformFault.TheVariants as fault
 use Rattle.network_stages.specs.Networks.{Network}
-use Rattle.network_stages.specs.Tells.{texts}
 use Rattle.process_steps.specs.ComponentStep.{ProcessStep}
 use Rattle.refinement.specs.Conforms.{AllConform, Conforms}
 use Rattle.report.specs.declared.answer.Shortfall.{Shortfall}
 use Rattle.report.specs.declared.answer.Shortfall.TheVariants as shortfall
+use Rattle.report.specs.declared.stop.Stop.{Stop}
+use Rattle.report.specs.declared.stop.Stop.TheVariants as stop
 
 module _ (network specified : Network) where
+  -- each component before the place n conforms to the one in its place
+  abbrev pub ConformBefore : ℕ → Type 0
+  ConformBefore n =
+      (i : ℕ) (c d : Component Proc) → i < n → slice_get (leaves network.tree) i ≡ Some c → slice_get (leaves specified.tree) i ≡ Some d
+      → Conforms (ProcessStep network.program) (ProcessStep specified.program) c d
+
   -- c and d are the components with the number i, and each earlier one conforms
   pub record StandsFirst (i : ℕ) (c d : Component Proc) : Type 0 where
     pub here : slice_get (leaves network.tree) i ≡ Some c
     pub there : slice_get (leaves specified.tree) i ≡ Some d
-    pub earlier : (j : ℕ) (a b : Component Proc) → j < i → slice_get (leaves network.tree) j ≡ Some a → slice_get (leaves specified.tree) j ≡ Some b
-        → Conforms (ProcessStep network.program) (ProcessStep specified.program) a b
+    pub earlier : ConformBefore i
 
   -- after these events the component with the number i does what its specification does not, or refuses too much
   abbrev pub IsFault : ℕ → Component Proc → Component Proc → List ℕ → Shortfall → Type 0
   IsFault i c d trace s =
-      (GoesOutside (ProcessStep network.program) (ProcessStep specified.program) c d trace × (s ≡ shortfall.Outside i (texts network.program trace)))
-      ⊎ (RefusesTooMuch (ProcessStep network.program) (ProcessStep specified.program) c d trace × (s ≡ shortfall.Refuses i (texts network.program trace)))
+      (GoesOutside (ProcessStep network.program) (ProcessStep specified.program) c d trace × (s ≡ shortfall.Outside i trace))
+      ⊎ (RefusesTooMuch (ProcessStep network.program) (ProcessStep specified.program) c d trace × (s ≡ shortfall.Refuses i trace))
 
   -- a component does not conform: the first such one is told
   abbrev pub FailsToConform : Shortfall → Type 0
@@ -31,3 +39,9 @@ module _ (network specified : Network) where
   -- each component conforms to the one in its place
   abbrev pub ComponentsConform : Type 0
   ComponentsConform = AllConform (ProcessStep network.program) (ProcessStep specified.program) (leaves network.tree) (leaves specified.tree)
+
+-- how the fault of the component with the number i is told (for a private contract)
+abbrev pub failure : ℕ → ConformFault → Stop Shortfall
+failure i fault.NoMemory = stop.NoMemory
+failure i (fault.Outside trace) = stop.Told (shortfall.Outside i trace)
+failure i (fault.Refuses trace) = stop.Told (shortfall.Refuses i trace)

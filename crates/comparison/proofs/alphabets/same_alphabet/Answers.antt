@@ -1,7 +1,7 @@
 use Rattle.std.proofs.Common.{ap₂, nat_eq, ◌∙◌}
 use Rattle.std.specs.Cmp.Lexicographic.{pointwise}
 use Rattle.comparison.proofs.Lists.{alphabets_match}
-use Rattle.comparison.proofs.shapes.same_alphabet.Goals as goal
+use Rattle.comparison.proofs.alphabets.same_alphabet.Goals as goal
 
 pub returns : goal.returns
 returns c =

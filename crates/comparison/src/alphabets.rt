@@ -1,21 +1,22 @@
-//! Whether two networks have the same components, by their alphabets.
+//! Whether the components of two networks have the same alphabets.
 
 ghost use Rattle.std.specs.Prelude.{◌≡◌, ◌≤◌, ◌<◌, IfErr, IfNone, IfSome, MatchBool, OnOk, Some, length, slice_get};
 ghost use Rattle.dl_limits.specs.declared.TheConstants.{MOST_COMPONENTS};
 ghost use Rattle.network_layout.specs.Triple.{alphabets};
-ghost use Rattle.comparison.specs.Agreement.{DifferFirstAt, HaveOtherShape};
+ghost use Rattle.report.specs.Stops.{Tells};
+ghost use Rattle.comparison.specs.Agreement.{DifferFirstAt, HaveOtherAlphabets};
 
 use network_layout::{Layout, Seat};
-use report::Refusal;
+use report::{Refusal, Stop};
 
-/// Succeeds where both networks have as many components, with the same alphabets; else the least component is told that is in one network only or
-/// whose alphabets differ (42). It takes no memory.
-pub fn same_shape(layout: &Layout, other: &Layout) -> Result<(), Refusal>
+// That both networks have as many components, with the same alphabets; else the least component is told that is in one network only or whose alphabets
+// differ (42).
+pub(crate) fn check_alphabets(layout: &Layout, other: &Layout) -> Result<(), Stop<Refusal>>
     ensures same { OnOk result (alphabets layout.now ≡ alphabets other.now) }
-    ensures told { IfErr result (HaveOtherShape layout.now other.now) }
+    ensures told { IfErr result (Tells (HaveOtherAlphabets layout.now other.now)) }
 {
     match first_other(layout.seats(), other.seats()) {
-        Some(component) => Err(Refusal::DifferentComponents { component }),
+        Some(component) => Err(Stop::Told(Refusal::DifferentComponents { component })),
         None => Ok(()),
     }
 }

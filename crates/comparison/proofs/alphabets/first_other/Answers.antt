@@ -1,7 +1,7 @@
 use Rattle.std.proofs.Common.{arith}
 use Rattle.network_layout.specs.Triple.{alphabets}
 use Rattle.comparison.proofs.Lists.{as_many_alphabets, same_before}
-use Rattle.comparison.proofs.shapes.first_other.Goals as goal
+use Rattle.comparison.proofs.alphabets.first_other.Goals as goal
 
 pub returns-clause-same : goal.returns-clause-same
 returns-clause-same c =
