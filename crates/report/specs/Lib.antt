@@ -7,4 +7,3 @@ pub mod Sides
 pub mod Report
 pub mod Points
 pub mod Stops
-pub mod RuleFaults

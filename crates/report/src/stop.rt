@@ -5,7 +5,6 @@ ghost use Rattle.report.specs.Stops.{IsEnd, IsVerdict, refused};
 
 use crate::answer::{Done, Refusal, Shortfall, Side, Verdict};
 use csp_base::NoMemory;
-use design_rules::RuleFault;
 
 /// Why a step of a walk is not done.
 pub enum Stop<F> {
@@ -50,51 +49,6 @@ impl From<Stop<Shortfall>> for Stop<Verdict> {
             Stop::NoMemory => Stop::NoMemory,
             Stop::Told(shortfall) => Stop::Told(Verdict::NotProved(shortfall)),
         }
-    }
-}
-
-impl From<RuleFault> for Stop<Shortfall> {
-    ghost use Rattle.std.specs.Prelude.{◌≡◌};
-    ghost use Rattle.report.specs.RuleFaults.{rule_told};
-
-    ghost from_gives = { λ f s. s ≡ rule_told f };
-
-    fn from(fault: RuleFault) -> Stop<Shortfall> {
-        Stop::Told(match fault {
-            RuleFault::NoMemory => return Stop::NoMemory,
-            RuleFault::NoOrder { part, trace, event } => Shortfall::BreaksOrder {
-                component: part,
-                trace,
-                event,
-            },
-            RuleFault::NoWholeEnd {
-                left,
-                right,
-                left_trace,
-                right_trace,
-            } => Shortfall::NoFullEnd {
-                left,
-                right,
-                left_trace,
-                right_trace,
-            },
-            RuleFault::Broken {
-                condition,
-                part,
-                trace,
-            } => Shortfall::Broken {
-                condition,
-                component: part,
-                trace,
-            },
-            RuleFault::LinksCircle { links } => Shortfall::LinksCircle { links },
-            RuleFault::ClientsCircle { clients } => Shortfall::ClientsCircle {
-                components: clients,
-            },
-            RuleFault::ResourcesCircle { resources } => Shortfall::ResourcesCircle {
-                components: resources,
-            },
-        })
     }
 }
 
