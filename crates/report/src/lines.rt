@@ -4,7 +4,7 @@ ghost use Rattle.std.specs.Prelude.{◌≡◌, ◌++◌, ◌+◌, ◌<◌, ◌�
 ghost use Rattle.std.specs.List.{flat_map};
 ghost use Rattle.std.specs.Fmt.{decimal, signed_decimal};
 ghost use Rattle.report.specs.EventText.{event_text};
-ghost use Rattle.report.specs.Lines.{events_text, numbers_text, set_text, trace_text};
+ghost use Rattle.report.specs.Lines.{events_text, more_events_text, numbers_text, set_text, trace_text};
 ghost use Rattle.report.specs.Parts.{part_text, parts_text};
 ghost use Rattle.csp_base.specs.Texts.{line};
 
@@ -93,7 +93,7 @@ fn push_next(report: &mut Bytes, content: &Content, event: Event) -> Result<(), 
 
 // Adds events, with a comma and a blank before each.
 fn push_more(report: &mut Bytes, content: &Content, events: &[Event]) -> Result<(), NoMemory>
-    ensures { OnOk result (report.new ≡ report.old ++ flat_map (λ e. codes ", " ++ event_text content.now e) events.now) }
+    ensures { OnOk result (report.new ≡ report.old ++ more_events_text content.now events.now) }
 {
     for event in events {
         push_next(report, content, *event)?;
@@ -114,7 +114,7 @@ fn push_events(report: &mut Bytes, content: &Content, events: &[Event]) -> Resul
 
 // Adds the members that are left, with a comma and a blank before each.
 fn push_rest(report: &mut Bytes, content: &Content, members: Members<'_>) -> Result<(), NoMemory>
-    ensures { OnOk result (report.new ≡ report.old ++ flat_map (λ e. codes ", " ++ event_text content.now e) members.entry) }
+    ensures { OnOk result (report.new ≡ report.old ++ more_events_text content.now members.entry) }
 {
     for event in members {
         push_next(report, content, event)?;

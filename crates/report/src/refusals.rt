@@ -182,10 +182,20 @@ fn push_component_fault<'a>(
             push_between(report, b"10 component ", i, b" has more than 16384 terms")
         }
         ComponentFault::TermDepth => {
-            push_between(report, b"10 component ", i, b" has a term of depth over 800")
+            push_between(
+                report,
+                b"10 component ",
+                i,
+                b" has a term of depth over 800",
+            )
         }
         ComponentFault::TermTotal => {
-            push_between(report, b"10 component ", i, b" has terms that are too large")
+            push_between(
+                report,
+                b"10 component ",
+                i,
+                b" has terms that are too large",
+            )
         }
         ComponentFault::StepCount => {
             push_between(report, b"11 component ", i, b" has too many steps")
@@ -259,11 +269,7 @@ fn push_text_fault(report: &mut Bytes, side: Side, fault: &TextFault) -> Result<
 }
 
 // Adds why a program is refused.
-fn push_refusal(
-    report: &mut Bytes,
-    content: &Content,
-    refusal: &Refusal,
-) -> Result<(), NoMemory>
+fn push_refusal(report: &mut Bytes, content: &Content, refusal: &Refusal) -> Result<(), NoMemory>
     ensures { OnOk result (report.new ≡ report.old ++ refusal_text content.now refusal.now) }
 {
     match refusal {

@@ -55,7 +55,12 @@ fn head(alloc: Global, count: usize) -> Result<Bytes, NoMemory>
 }
 
 // The report of a run, with its last line.
-pub(crate) fn run(alloc: Global, content: &Content, moves: &[Move], last: &[u8]) -> Result<Bytes, NoMemory>
+pub(crate) fn run(
+    alloc: Global,
+    content: &Content,
+    moves: &[Move],
+    last: &[u8],
+) -> Result<Bytes, NoMemory>
     ensures { IfOk result (λ made. made ≡ run_text content.now moves.now last.now) }
 {
     let mut made = head(alloc, moves.len())?;

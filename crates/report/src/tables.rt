@@ -107,7 +107,8 @@ fn push_nodes(report: &mut Bytes, content: &Content, nodes: &[NormNode]) -> Resu
 
 // The first two lines of the report of a table.
 fn head(alloc: Global, component: u32, count: u32, nodes: usize) -> Result<Bytes, NoMemory>
-    ensures { IfOk result (λ made. made ≡ line (codes "component " ++ decimal component ++ codes " of " ++ decimal count) ++ line (codes "nodes " ++ decimal nodes)) }
+    ensures { IfOk result (λ made. made
+        ≡ line (codes "component " ++ decimal component ++ codes " of " ++ decimal count) ++ line (codes "nodes " ++ decimal nodes)) }
 {
     let mut made = written_line(
         alloc,

@@ -64,11 +64,7 @@ fn livelock_free(alloc: Global, components: u32, bound: u64) -> Result<Bytes, No
 }
 
 // The report of a network that is not proved.
-fn not_proved(
-    alloc: Global,
-    content: &Content,
-    shortfall: &Shortfall,
-) -> Result<Bytes, NoMemory>
+fn not_proved(alloc: Global, content: &Content, shortfall: &Shortfall) -> Result<Bytes, NoMemory>
     ensures { IfOk result (λ made. made ≡ line (codes "not proved") ++ shortfall_text content.now shortfall.now) }
 {
     let mut made = one_line(alloc, b"not proved")?;
