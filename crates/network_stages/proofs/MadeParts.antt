@@ -101,7 +101,7 @@ module _ (p : Content) (seats : List (Component Proc)) where
     -- the first component with many sets
     pub first_many : (made : List Part) (s : Stop Refusal) → AreMade p seats made i → Tells (λ r. HasManySets p c × (r ≡ refusal.Component i fault.SubsetLimit)) s → Tells (HaveNoParts p 0 seats) s
     first_many made stop.NoMemory are tells = tt
-    first_many made (stop.Told r) are tells = (i, record { component = c; at = here; many = tells.0; earlier = are.few }, tells.1)
+    first_many made (stop.Told r) are tells = (i, record { component = c; at = here; many = tells.0; earlier = are.few }, tells.1 ∙ ap (λ (k : ℕ). refusal.Component k fault.SubsetLimit) (let z : i ≡ 0 + i = omega arith in z))
 
   pub all_made : (made : List Part) (i : ℕ) → AreMade p seats made i → length seats ≤ i → ArePartsOf (ProcessStep p) seats made × HaveFewSets p seats
   all_made made i done at_end = (
