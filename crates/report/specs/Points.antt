@@ -7,9 +7,9 @@ use Rattle.report.specs.declared.answer.Verdict.{Verdict}
 use Rattle.report.specs.declared.answer.Verdict.TheVariants as verdict
 
 -- At a point of a walk a fault that is there is told; else the walk goes on with what is there.
-pub data Point {F X : Type 0} (Fails : F → Type 0) (Tells : F → Verdict → Type 0) (Is : X → Type 0) (Then : X → Verdict → Type 0) (v : Verdict) : Type 0 where
-  told : (f : F) → Fails f → Tells f v → Point Fails Tells Is Then v
-  passed : (x : X) → Is x → Then x v → Point Fails Tells Is Then v
+pub data Point {A F X : Type 0} (Fails : F → Type 0) (Tells : F → A → Type 0) (Is : X → Type 0) (Then : X → A → Type 0) (a : A) : Type 0 where
+  told : (f : F) → Fails f → Tells f a → Point Fails Tells Is Then a
+  passed : (x : X) → Is x → Then x a → Point Fails Tells Is Then a
 
 -- the fault is a refusal of the program of this side
 abbrev pub RefusedOr : {X : Type 0} → Side → (Refusal → Type 0) → (X → Type 0) → (X → Verdict → Type 0) → Verdict → Type 0
