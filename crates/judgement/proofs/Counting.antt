@@ -3,13 +3,11 @@ use Rattle.std.proofs.Common.{◌≡◌, ℕ, zero, suc, ◌+◌, ◌*◌, ◌<�
 use Rattle.std.specs.declared.alloc.Global.{Global}
 use Rattle.std.specs.List.{flat_map}
 use Rattle.std.proofs.Math.Seq.{take-suc}
-use Rattle.csp_tables.specs.Form.{HaveForm}
-use Rattle.csp_tables.specs.Part.{Part}
+use Rattle.csp_tables.specs.Part.{Part, part_at}
 use Rattle.csp_tables.specs.Ranking.{PartRanks}
-use Rattle.csp_tables.specs.Shape.{IsWellFormed, Shape}
-use Rattle.free_answers.specs.Counts.{greatest_from, node_count}
+use Rattle.design_rules.specs.RankCounts.{greatest_from, natural}
+use Rattle.judgement.specs.Counts.{node_count}
 use Rattle.csp_base.proofs.Lists.{flat_map_push}
-use Rattle.csp_program.specs.Value.{natural}
 
 one_more_part : (parts : List Part) (part : Part) → node_count (parts ++ part ∷ []) ≡ node_count parts + length part.table
 one_more_part [] part = omega arith
@@ -44,18 +42,15 @@ still_fits parts i part count within is so_far fits =
     let front = front_count parts (i + 1) in
     omega (arith, grown, front, fits)
 
-low_count : (parts : List Part) → HaveForm parts → node_count parts ≤ length parts * 2048
-low_count [] form = omega arith
-low_count (p ∷ parts) form =
-    let first : length p.table ≤ 2048 = form.0.most in
-    let rest = low_count parts form.1 in
+low_count : (parts : List Part) → ((i : ℕ) → i < length parts → length (part_at parts i).table ≤ 2048) → node_count parts ≤ length parts * 2048
+low_count [] nodes = omega arith
+low_count (p ∷ parts) nodes =
+    let first : length p.table ≤ 2048 = nodes 0 (omega arith) in
+    let rest = low_count parts (λ i below. nodes (suc i) (omega (arith, below))) in
     omega (arith, first, rest)
 
-pub few_nodes : (shape : Shape) → IsWellFormed shape → node_count shape.parts < 4294967296
-few_nodes shape form =
-    let few : length shape.parts ≤ 512 = form.most in
-    let low = low_count shape.parts form.form in
-    omega (arith, few, low)
+pub few_nodes : (parts : List Part) → length parts ≤ 512 → ((i : ℕ) → i < length parts → length (part_at parts i).table ≤ 2048) → node_count parts < 4294967296
+few_nodes parts few nodes = let low = low_count parts nodes in omega (arith, few, low)
 
 -- ---- ranks
 

@@ -1,6 +1,6 @@
-pub mod Broken
-pub mod Cases
-pub mod Free
+mod Broken
+mod Counting
+mod Free
 pub mod KindsUnique
+pub mod Notes
 pub mod OneNetwork
-pub mod Walk

@@ -10,7 +10,8 @@ use Rattle.csp_tables.specs.Part.{Part}
 use Rattle.csp_tables.specs.Shape.{Shape}
 use Rattle.csp_tables.specs.ShapeOf.{ArePartsOf, IsPartOf, IsShapeOf}
 use Rattle.design_rules.proofs.Runs.{end_within}
-use Rattle.free_answers.specs.Counts.{node_count}
+use Rattle.judgement.specs.Counts.{node_count}
+use Rattle.net_sound.proofs.FormOfTables.{shapes_are_well_formed}
 use Rattle.judgement_laws.specs.Classes.{HasClasses, HaveClasses}
 
 -- the members f k, f (k + 1) and so on, m of them
@@ -110,4 +111,4 @@ module _ {T : Type 0} (Step : T → Label → T → Type 0) where
 
   -- the nodes of the parts of a network's shape
   pub shape_has_classes : (tree : Tree T) (shape : Shape) → IsShapeOf Step tree shape → HaveClasses Step (leaves tree) (node_count shape.parts)
-  shape_has_classes tree shape is = parts_have_classes (leaves tree) shape.parts is.form.form is.parts
+  shape_has_classes tree shape is = parts_have_classes (leaves tree) shape.parts (shapes_are_well_formed Step tree shape is).form is.parts

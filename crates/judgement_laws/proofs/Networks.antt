@@ -10,8 +10,8 @@ apart : {A E : Type 0} (r s : Result A E) (a : A) (e : E) → r ≡ s → r ≡ 
 apart r s a e same ok err = let no : Ok a ≡ Err e = sym ok ∙ same ∙ err in cc
 
 pub faults_exclude_networks : FaultsExcludeNetworks
-faults_exclude_networks script network r is (inl (f, refused, tells)) =
+faults_exclude_networks side script network a is (inl (f, refused, tells)) =
     apart (resolved script.decls is.program.kinds) (resolved script.decls refused.kinds) network.program f
     (ap (resolved script.decls) (kinds_are_unique script.decls is.program.kinds refused.kinds is.program.are refused.are)) is.program.is refused.is
-faults_exclude_networks script network r is (inr (p, program, (f, fails, tells))) =
+faults_exclude_networks side script network a is (inr (p, program, (f, fails, tells))) =
     apart (network_of network.program) (network_of p) network.tree f (ap network_of (one_program script network.program p is.program program)) is.tree fails

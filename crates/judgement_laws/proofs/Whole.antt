@@ -1,87 +1,101 @@
--- What stands where a script is judged free of deadlock: all that the walk found on its way.
-use Rattle.std.proofs.Common.{List, refl}
+-- What stands where a network is judged free of deadlock: all that the walk found on its way.
+use Rattle.std.proofs.Common.{◌≡◌, List, refl, arith}
+use Rattle.std.specs.Prelude.{pos}
 use Rattle.csp_tables.specs.Network.{leaves}
-use Rattle.csp_tables.specs.Ranking.{Ranking}
 use Rattle.csp_tables.specs.Shape.{Shape}
-use Rattle.csp_tables.specs.ShapeOf.{IsShapeOf}
 use Rattle.csp_tables.specs.declared.rule.Rule.{Rule}
-use Rattle.csp_text.specs.declared.script.Script.{Script}
 use Rattle.design_rules.specs.declared.noted_rule.NotedRule.{NotedRule}
-use Rattle.free_answers.specs.Counts.{greatest_rank, node_count}
-use Rattle.network_stages.specs.Networks.{IsNetworkOf, Network}
-use Rattle.network_tables.specs.Tables.{AreTablesOf}
+use Rattle.judgement.specs.Counts.{node_count}
+use Rattle.judgement.specs.Judged.{IsDeadlockFree, IsJudged, RuleDecides}
+use Rattle.judgement.specs.Noted.{Meets, Notes}
+use Rattle.network_stages.specs.Networks.{Network}
+use Rattle.network_stages.specs.Shapes.{IsApart}
+use Rattle.network_stages.specs.Stages.{HasTables, StaysBusy}
+use Rattle.network_stages.specs.Sets.{HaveFewSets}
 use Rattle.network_tables.specs.declared.component_tables.ComponentTable.{ComponentTable}
 use Rattle.process_steps.specs.ComponentStep.{ProcessStep}
 use Rattle.report.proofs.Points.{refused_or, unproved_or}
-use Rattle.report.specs.declared.answer.Answer.{Answer}
-use Rattle.report.specs.declared.answer.Answer.TheVariants as answer
+use Rattle.report.specs.Report.{verdict_status}
 use Rattle.report.specs.declared.answer.Refusal.{Refusal}
 use Rattle.report.specs.declared.answer.Side.TheVariants as side
 use Rattle.report.specs.declared.answer.Shortfall.{Shortfall}
-use Rattle.judgement.specs.Judged.{IsDeadlockFree, IsJudged, RuleDecides}
-use Rattle.judgement.specs.Noted.{IsRanked, Notes}
+use Rattle.report.specs.declared.answer.Verdict.{Verdict}
+use Rattle.report.specs.declared.answer.Verdict.TheVariants as verdict
 use Rattle.judgement_laws.specs.Classes.{HaveClasses}
+use Rattle.judgement_laws.specs.Complete.{JudgementIsExact, Passes}
 use Rattle.judgement_laws.specs.Lasting.{AllGoOn}
 use Rattle.judgement_laws.specs.Ranked.{HasGreatestRank}
 use Rattle.judgement_laws.proofs.Classes.{shape_has_classes}
+use Rattle.judgement_laws.proofs.Complete.{complete}
 use Rattle.judgement_laws.proofs.Tables.{all_go_on}
 
-pub record IsJudgedWhole (script : Script) (rule : Rule) (a : Answer) : Type 0 where
-  pub network : Network
-  pub spelled : IsNetworkOf script network
+pub record IsJudgedWhole (network : Network) (rule : Rule) (v : Verdict) : Type 0 where
   pub tables : List ComponentTable
-  pub are : AreTablesOf network.program (leaves network.tree) tables
+  pub are : HasTables network tables
+  pub few : HaveFewSets network.program (leaves network.tree)
   pub shape : Shape
-  pub of : IsShapeOf (ProcessStep network.program) network.tree shape
+  pub apart : IsApart network shape
+  pub busy : StaysBusy network
   pub notes : NotedRule
-  pub noted : Notes network.program (leaves network.tree) rule notes
-  pub ranking : Ranking
-  pub ranked : IsRanked network.program (leaves network.tree) notes shape ranking
-  pub free : IsDeadlockFree network rule shape ranking a
+  pub noted : Notes network rule notes
+  pub meets : Meets network notes
+  pub free : IsDeadlockFree network rule notes shape v
 
--- What holds of each refusal, of each reason why a network is not proved, and where all was found, holds of the answer.
-pub judged_whole : (script : Script) (rule : Rule) (Q : Answer → Type 0) → ((r : Refusal) → Q (answer.Refused side.Script r)) → ((s : Shortfall) → Q (answer.NotProved s))
-    → ((a : Answer) → IsJudgedWhole script rule a → Q a) → (a : Answer) → IsJudged script rule a → Q a
+-- What holds of each refusal, of each reason why a network is not proved, and where all was found, holds of the verdict.
+pub judged_whole : (network : Network) (rule : Rule) (Q : Verdict → Type 0) → ((r : Refusal) → Q (verdict.Refused side.Script r)) → ((s : Shortfall) → Q (verdict.NotProved s))
+    → ((v : Verdict) → IsJudgedWhole network rule v → Q v) → (v : Verdict) → IsJudged network rule v → Q v
 unfolding IsJudged RuleDecides
-judged_whole script rule Q refused short whole =
-    refused_or _ _ _ _ Q refused (λ network a spelled.
+judged_whole network rule Q refused short whole =
     refused_or _ _ _ _ Q refused (λ tables b are.
     refused_or _ _ _ _ Q refused (λ parts c by.
     unproved_or _ _ _ Q short (λ shape d apart.
-    unproved_or _ _ _ Q short (λ busy e is_busy.
+    unproved_or _ _ _ Q short (λ unit e busy.
     refused_or _ _ _ _ Q refused (λ notes f noted.
-    unproved_or _ _ _ Q short (λ ranking g ranked free.
+    unproved_or _ _ _ Q short (λ unit' g meets free.
     whole g (record {
-      network = network;
-      spelled = spelled;
       tables = tables;
       are = are;
+      few = by.few;
       shape = shape;
-      of = apart.is;
+      apart = apart;
+      busy = busy;
       notes = notes;
       noted = noted;
-      ranking = ranking;
-      ranked = ranked;
+      meets = meets;
       free = free;
-    })) f) e) d) c) b) a)
+    })) f) e) d) c) b)
 
-module _ (script : Script) (rule : Rule) (a : Answer) (whole : IsJudgedWhole script rule a) where
-  -- no component ends or lacks a value
-  pub goes_on : AllGoOn whole.network.program (leaves whole.network.tree)
-  goes_on = all_go_on whole.network.program (leaves whole.network.tree) whole.tables whole.are
-
-  -- the nodes are the classes of traces
-  pub classes : HaveClasses (ProcessStep whole.network.program) (leaves whole.network.tree) (node_count whole.shape.parts)
-  classes = shape_has_classes (ProcessStep whole.network.program) whole.network.tree whole.shape whole.of
-
-  -- the rank is the rule's
-  pub has_greatest_rank : HasGreatestRank whole.network rule (greatest_rank whole.ranking)
-  has_greatest_rank = record {
+module _ (network : Network) (rule : Rule) (v : Verdict) (whole : IsJudgedWhole network rule v) where
+  -- the network passes
+  pub passes : Passes network rule
+  passes = record {
+    tables = whole.tables;
+    are = whole.are;
+    few = whole.few;
+    apart = whole.apart.apart;
+    busy = whole.busy;
     notes = whole.notes;
     noted = whole.noted;
-    shape = whole.shape;
-    of = whole.of;
-    ranking = whole.ranking;
-    ranks = whole.ranked.1;
-    greatest = refl;
+    meets = whole.meets;
   }
+
+  -- no component ends or lacks a value
+  pub goes_on : AllGoOn network.program (leaves network.tree)
+  goes_on = all_go_on network.program (leaves network.tree) whole.tables whole.are
+
+  -- the nodes are the classes of traces
+  pub classes : HaveClasses (ProcessStep network.program) (leaves network.tree) (node_count whole.shape.parts)
+  classes = shape_has_classes (ProcessStep network.program) network.tree whole.shape whole.apart.is
+
+  -- the rank is the rule's
+  pub has_greatest_rank : HasGreatestRank network rule (pos whole.free.rank)
+  has_greatest_rank = record { notes = whole.notes; are = whole.noted; number = whole.free.rank; greatest = whole.free.greatest; is = refl }
+
+-- a network whose verdict has the status 0 passes
+pub zero_passes : (network : Network) (rule : Rule) (v : Verdict) → IsJudged network rule v → verdict_status v ≡ 0 → Passes network rule
+zero_passes network rule v judged zero =
+    judged_whole network rule (λ w. verdict_status w ≡ 0 → Passes network rule) (λ r no. absurd (let z : ⊥ = omega (arith, no) in z)) (λ s no. absurd (let z : ⊥ = omega (arith, no) in z))
+    (λ w whole no. passes network rule w whole) v judged zero
+
+pub exact : JudgementIsExact
+exact network rule v judged = (zero_passes network rule v judged, λ passes. complete network rule v passes judged)

@@ -1,12 +1,12 @@
 -- When a network passes a check. (That it is spelled holds the limits of scripts and of networks; that its components have tables, those of components.)
-use Rattle.std.specs.Prelude.{◌≡◌, List}
+use Rattle.std.specs.Prelude.{◌≡◌, ◌↔◌, List}
 use Rattle.csp_tables.specs.Network.{leaves}
 use Rattle.csp_tables.specs.Part.{TripleDisjoint}
 use Rattle.csp_tables.specs.declared.rule.Rule.{Rule}
 use Rattle.csp_text.specs.declared.script.Script.{Script}
 use Rattle.design_rules.specs.declared.noted_rule.NotedRule.{NotedRule}
 use Rattle.judgement.specs.Judged.{IsJudged}
-use Rattle.judgement.specs.Noted.{MeetsRule, Notes}
+use Rattle.judgement.specs.Noted.{Meets, Notes}
 use Rattle.network_layout.specs.Triple.{alphabets}
 use Rattle.network_stages.specs.Networks.{IsNetworkOf, Network}
 use Rattle.network_stages.specs.Sets.{HaveFewSets}
@@ -26,7 +26,7 @@ pub record Passes (network : Network) (rule : Rule) : Type 0 where
   pub busy : StaysBusy network
   pub notes : NotedRule
   pub noted : Notes network rule notes
-  pub meets : MeetsRule network notes
+  pub meets : Meets network notes
 
 -- Two verdicts on the network of one script by one rule have the same status. (Where a definition leaves a choice, as of a trace, it is among verdicts of one
 -- status.)
@@ -35,6 +35,6 @@ EachScriptHasOneStatus =
     (script : Script) (network other : Network) (rule : Rule) (v w : Verdict) → IsNetworkOf script network → IsNetworkOf script other → IsJudged network rule v → IsJudged other rule w
     → verdict_status v ≡ verdict_status w
 
--- the verdict on a network that passes has the status 0
-abbrev pub JudgementIsComplete : Type 0
-JudgementIsComplete = (network : Network) (rule : Rule) (v : Verdict) → Passes network rule → IsJudged network rule v → verdict_status v ≡ 0
+-- the verdict on a network has the status 0 exactly where the network passes
+abbrev pub JudgementIsExact : Type 0
+JudgementIsExact = (network : Network) (rule : Rule) (v : Verdict) → IsJudged network rule v → (verdict_status v ≡ 0) ↔ Passes network rule

@@ -1,7 +1,7 @@
 //! Laws of networks of programs and of the answers about them: what a script decides, it decides alone; and why "deadlock-free" is true of programs.
 #![tactic(auto)]
 
-ghost use Rattle.judgement_laws.specs.Complete.{EachScriptHasOneStatus, JudgementIsComplete};
+ghost use Rattle.judgement_laws.specs.Complete.{EachScriptHasOneStatus, JudgementIsExact};
 ghost use Rattle.judgement_laws.specs.Heart.{GoodRankingsMeanLive};
 ghost use Rattle.judgement_laws.specs.Laws.{FaultsExcludeAllTables, FaultsExcludeNetworks};
 
@@ -16,12 +16,12 @@ pub fn faults_exclude_networks()
     ensures tables { FaultsExcludeAllTables }
 {}
 
-/// A script whose network is within the limits and meets the rule is answered with status 0.
-pub fn judgement_is_complete()
-    ensures { JudgementIsComplete }
+/// The verdict on a network has status 0 exactly where the network is within the limits and meets the rule.
+pub fn judgement_is_exact()
+    ensures { JudgementIsExact }
 {}
 
-/// All answers to a script by a rule have one status.
+/// All verdicts on the network of a script by a rule have one status.
 pub fn each_script_has_one_status()
     ensures { EachScriptHasOneStatus }
 {}

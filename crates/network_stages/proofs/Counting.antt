@@ -2,7 +2,7 @@
 use Rattle.std.proofs.Common.{◌≡◌, ℕ, zero, suc, ◌+◌, ◌*◌, ◌<◌, ◌≤◌, inl, inr, List, length, arith}
 use Rattle.csp_tables.specs.Part.{Part}
 use Rattle.csp_tables.specs.Shape.{Link, IsBelow}
-use Rattle.network_shape.specs.Rows.{link_in, AreLinksBefore}
+use Rattle.network_stages.specs.Rows.{link_in, AreLinksBefore}
 
 abbrev number : Link → ℕ
 number link = link.left * 512 + link.right

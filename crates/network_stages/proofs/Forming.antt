@@ -1,26 +1,16 @@
--- The shape that is made is well formed.
+-- The links and the vocabulary of parts are those of a shape.
 use Rattle.std.proofs.Common.{◌≡◌, ℕ, suc, ◌<◌, ◌≤◌, inl, inr, List, [], ◌∷◌, length, true, IsTrue, sym, subst, ◌∙◌, arith}
-use Rattle.std.specs.Prelude.{All}
 use Rattle.std.proofs.lemmas.Bool.{or_cases, false≢true}
 use Rattle.std.proofs.lemmas.List.Folds.{list_any_at}
 use Rattle.csp_base.specs.Members.{has}
 use Rattle.csp_tables.specs.Part.{Part, part_at, alphabets_of, sharers}
-use Rattle.csp_tables.specs.Form.{HaveForm}
-use Rattle.csp_tables.specs.Shape.{Link, IsWellFormed, LinksAreOrdered}
+use Rattle.csp_tables.specs.Shape.{Link, IsLinked, LinksAreOrdered}
 use Rattle.net_sound.proofs.Sharers.{at_two}
-use Rattle.network_shape.specs.Parts.{IsWellFormedPart}
-use Rattle.network_shape.specs.Rows.{row_at, AreRows, has_event, any_has_event, AreLinksBefore, IsVocabulary}
-use Rattle.network_shape.proofs.Sharing.{two_owners}
-use Rattle.network_shape.proofs.Linking.{pair_of, of_pair}
-use Rattle.network_shape.proofs.Counting.{few_links}
+use Rattle.network_stages.specs.Rows.{row_at, AreRows, has_event, any_has_event, AreLinksBefore, IsVocabulary}
+use Rattle.network_stages.proofs.Sharing.{two_owners}
+use Rattle.network_stages.proofs.Linking.{pair_of, of_pair}
+use Rattle.network_stages.proofs.Counting.{few_links}
 use Rattle.observed_runs.specs.Observed.{pair_at}
-
-abbrev no_part : Part
-no_part = record { alphabet = []; table = [] }
-
-have_form : (parts : List Part) → All IsWellFormedPart parts → HaveForm parts
-have_form [] all = tt
-have_form (p ∷ parts) all = ((all 0 no_part (omega arith)).form, have_form parts (λ k d less. all (suc k) d (omega arith)))
 
 -- ---- the vocabulary
 
@@ -73,16 +63,12 @@ ordered parts links vocabulary few a = record {
   links_rise = a.rise;
 }
 
-pub well_formed : (parts : List Part) (links : List Link) (vocabulary : List ℕ) → 1 ≤ length parts → length parts ≤ 512 → All IsWellFormedPart parts
+pub is_linked : (parts : List Part) (links : List Link) (vocabulary : List ℕ) → 1 ≤ length parts → length parts ≤ 512
     → AreLinksBefore parts (length parts) 0 links → IsVocabulary parts vocabulary
-    → IsWellFormed (record { parts = parts; links = links; vocabulary = vocabulary })
-well_formed parts links vocabulary least most form a is = record {
+    → IsLinked (record { parts = parts; links = links; vocabulary = vocabulary })
+is_linked parts links vocabulary least most a is = record {
   least = least;
   most = most;
-  form = have_form parts form;
-  few = λ i n h. (form i no_part h).few n;
-  possible = λ i n k e h x. (form i no_part h).possible n k e x;
-  reached = λ i n h less. (form i no_part h).reached n less;
   links = a.joins;
   all_links = λ i j order within meet.
       let l = a.all i j order within (inl (omega arith)) meet in

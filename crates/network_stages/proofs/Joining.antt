@@ -7,7 +7,7 @@ use Rattle.std.proofs.Math.Seq.{get_or-append_right}
 use Rattle.csp_base.specs.Members.{has}
 use Rattle.csp_tables.specs.Part.{Part, part_at, alphabets_of, sharers, TripleDisjoint}
 use Rattle.net_sound.proofs.Sharers.{at_three}
-use Rattle.network_shape.specs.Rows.{owner_of, AreOwners, row_at, is_part, joint, joints, IsSharedBy, IsInRow, IsRow, AreRows}
+use Rattle.network_stages.specs.Rows.{owner_of, AreOwners, row_at, is_part, joint, joints, IsSharedBy, IsInRow, IsRow, AreRows}
 use Rattle.observed_runs.specs.Observed.{pair_at}
 
 -- ---- owners

@@ -1,6 +1,12 @@
-pub mod Exits
-pub mod MadeParts
-pub mod MadeShape
-pub mod Networks
-pub mod SetsOfTables
-pub mod ToldFaults
+mod Counting
+mod Forming
+mod Joining
+mod Linking
+mod MadeParts
+mod Reading
+mod SetsOfTables
+pub mod Shaping
+mod Sharing
+mod Spelling
+mod Stopping
+mod TrueStops

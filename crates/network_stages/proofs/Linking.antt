@@ -8,7 +8,7 @@ use Rattle.std.proofs.Math.Seq.{get_or-append_seam}
 use Rattle.csp_base.specs.Members.{has}
 use Rattle.csp_tables.specs.Part.{Part, part_at, Meet}
 use Rattle.csp_tables.specs.Shape.{Link, JoinsTwo, IsBelow}
-use Rattle.network_shape.specs.Rows.{IsSharedBy, IsInRow, IsRow, has_event, link_in, IsLinked, Precedes, AreLinksBefore}
+use Rattle.network_stages.specs.Rows.{IsSharedBy, IsInRow, IsRow, has_event, link_in, HasLink, Precedes, AreLinksBefore}
 use Rattle.observed_runs.specs.Observed.{pair_at}
 
 -- ---- the events of pairs
@@ -69,7 +69,7 @@ pair_group row start end e k order within above below is =
 
 -- ---- links, one after another
 
-in_longer : (links : List Link) (link : Link) (l r : ℕ) → IsLinked links l r → IsLinked (links ++ link ∷ []) l r
+in_longer : (links : List Link) (link : Link) (l r : ℕ) → HasLink links l r → HasLink (links ++ link ∷ []) l r
 in_longer links link l r h =
     let at = get_or_append_left links (link ∷ []) (record { left = 0; right = 0; shared = [] }) h.place h.within in
     let less : h.place < length links = h.within in

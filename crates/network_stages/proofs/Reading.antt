@@ -6,8 +6,8 @@ use Rattle.csp_base.specs.Members.{has}
 use Rattle.csp_base.specs.Events.{with_member}
 use Rattle.csp_base.proofs.Rising.{has-with_member}
 use Rattle.csp_tables.specs.Part.{Part, part_at}
-use Rattle.network_shape.specs.Rows.{row_at, joints, AreOwners, AreRows, has_event}
-use Rattle.network_shape.proofs.Joining.{rows_more}
+use Rattle.network_stages.specs.Rows.{row_at, joints, AreOwners, AreRows, has_event}
+use Rattle.network_stages.proofs.Joining.{rows_more}
 use Rattle.observed_runs.specs.Observed.{pair_at}
 
 -- the part of a place, as it is read from a list

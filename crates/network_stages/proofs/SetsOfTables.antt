@@ -1,5 +1,5 @@
 -- Traces of a component lead to as many sets of terms as the same traces of its table: the table has exactly the component's terms, each under one number.
-use Rattle.std.proofs.Common.{◌≡◌, ℕ, List, [], Result, Ok, Err, IfErr, get_or, refl, sym, ap, subst, ◌∙◌}
+use Rattle.std.proofs.Common.{◌≡◌, ℕ, List, [], get_or, refl, sym, ap, subst, ◌∙◌}
 use Rattle.std.proofs.lemmas.Option.{same_Some}
 use Rattle.csp_program.specs.declared.processes.Proc.{Proc}
 use Rattle.csp_program.specs.declared.programs.Content.{Content}
@@ -9,14 +9,12 @@ use Rattle.csp_tables.specs.Path.{Path}
 use Rattle.csp_tables.specs.RawTable.{IsTableOf, RawStep, RawTable, standing_at}
 use Rattle.csp_tables.specs.Trace.{After}
 use Rattle.determinise.specs.ManySets.{ReachesSets}
-use Rattle.determinise.specs.declared.fault.SetFault.{SetFault}
-use Rattle.determinise.specs.declared.fault.SetFault.TheVariants as fault
 use Rattle.net_sound.proofs.Normal.{trace_down, trace_up}
 use Rattle.net_sound.proofs.Numbered.{run_down, run_up, stands}
 use Rattle.network_tables.specs.Tables.{HasTable}
 use Rattle.network_tables.specs.declared.component_tables.ComponentTable.{ComponentTable}
 use Rattle.process_steps.specs.ComponentStep.{ProcessStep}
-use Rattle.network_stages.specs.Sets.{HasManySets, TellsSets}
+use Rattle.network_stages.specs.Sets.{HasManySets}
 
 module _ {T : Type 0} (Step : T → Label → T → Type 0) (c : Component T) (terms : List T) (raw : RawTable) (t : IsTableOf Step c terms raw) where
   -- a state of the component after one trace, where the numbers after it are those after the other
@@ -66,13 +64,3 @@ few_sets p c t (room, has) few many = few (sets_of_table (ProcessStep p) c has.t
 -- one whose table has many has many
 pub many_sets : (p : Content) (c : Component Proc) (t : ComponentTable) → HasTable p c t → ReachesSets (RawStep t.local.table) 0 2049 → HasManySets p c
 many_sets p c t (room, has) many = sets_of_component (ProcessStep p) c has.table.terms t.local.table has.table.table 2049 many
-
--- what is told of the table is told of the component
-pub told_sets : (p : Content) (c : Component Proc) (t : ComponentTable) (f : SetFault) → HasTable p c t → (f ≡ fault.SubsetLimit → ReachesSets (RawStep t.local.table) 0 2049) → TellsSets p c f
-told_sets p c t fault.NoMemory has limit = tt
-told_sets p c t fault.SubsetLimit has limit = many_sets p c t has (limit refl)
-
-pub told_fault : {A : Type 0} (p : Content) (c : Component Proc) (t : ComponentTable) (r : Result A SetFault) → HasTable p c t
-    → (r ≡ Err fault.SubsetLimit → ReachesSets (RawStep t.local.table) 0 2049) → IfErr r (TellsSets p c)
-told_fault p c t (Ok a) has limit = tt
-told_fault p c t (Err f) has limit = told_sets p c t f has (λ is. limit (ap Err is))

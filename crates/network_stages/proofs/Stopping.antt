@@ -5,7 +5,7 @@ use Rattle.std.proofs.lemmas.List.{get_or_read}
 use Rattle.csp_base.specs.Members.{has}
 use Rattle.csp_tables.specs.Table.{Node, node_at, end_of}
 use Rattle.csp_tables.specs.Part.{Part, part_at, IsNonEmpty}
-use Rattle.network_shape.specs.Stops.{IsBusyPart, HasEmpty, StopsRefute}
+use Rattle.network_stages.specs.Busy.{IsBusyPart, HasEmpty}
 
 -- no acceptance of a node is empty
 abbrev pub AreNonEmpty : List (List ℕ) → Type 0
@@ -21,12 +21,6 @@ non_empty acceptances none k less = member (get_or acceptances k []) (λ empty. 
 
 pub busy_part : (p : Part) → ((n : ℕ) → AreNonEmpty (node_at p.table n).accept) → IsBusyPart p
 busy_part p all s k run less = all (end_of p.table 0 s) k less
-
--- a shape with a part that stops is not busy
-pub stops_refute : StopsRefute
-stops_refute shape i s stop busy =
-    let some = busy i s stop.stops.place stop.runs stop.stops.within in
-    false≢true (subst (λ (M : List ℕ). has M some.0 ≡ true) stop.stops.empty some.1)
 
 -- one more node
 pub nodes_more : (table nodes : List Node) (n : ℕ) (node : Node) (acceptances : List (List ℕ)) → nodes ≡ table → n < length nodes

@@ -1,34 +1,46 @@
 -- The first part of a network's shape that stops is the first component that does.
-use Rattle.std.proofs.Common.{◌∙◌, ℕ, List, [], sym, subst}
+use Rattle.std.proofs.Common.{◌∙◌, ℕ, List, [], refl, sym, subst}
 use Rattle.std.proofs.lemmas.Bool.{false≢true}
 use Rattle.csp_tables.specs.Label.{Label}
-use Rattle.csp_tables.specs.Network.{Component, ComponentStep, leaves}
+use Rattle.csp_tables.specs.Network.{Component, ComponentStep, Tree, leaves}
 use Rattle.csp_tables.specs.Trace.{IsAcceptance, IsBusy}
 use Rattle.csp_tables.specs.Table.{IsRun, acceptances_after}
 use Rattle.csp_tables.specs.Part.{Part, part_at}
-use Rattle.csp_tables.specs.ShapeOf.{IsPartOf}
+use Rattle.csp_tables.specs.Shape.{Shape}
+use Rattle.csp_tables.specs.ShapeOf.{IsPartOf, IsShapeOf}
 use Rattle.net_sound.proofs.Parts.{component_of, part_of}
-use Rattle.network_shape.specs.Stops.{IsBusyPart, HasEmpty, StopsAreTrue}
+use Rattle.process_steps.specs.ComponentStep.{ProcessStep}
+use Rattle.report.specs.Stops.{Tells}
+use Rattle.report.specs.declared.answer.Shortfall.{Shortfall}
+use Rattle.report.specs.declared.stop.Stop.{Stop}
+use Rattle.report.specs.declared.stop.Stop.TheVariants as stop
+use Rattle.network_stages.specs.Busy.{HasEmpty, IsBusyPart, PartCanStop, StopsFirst, StopsFirstIn}
+use Rattle.network_stages.specs.Networks.{Network}
+use Rattle.network_stages.specs.Stages.{CanStop}
 
--- an empty acceptance of a part after a run is one of its component after this trace
-stops : {T : Type 0} (Step : T → Label → T → Type 0) (c : Component T) (p : Part) (s : List ℕ) → IsPartOf Step c p → IsRun p.table s → HasEmpty (acceptances_after p.table s) → IsAcceptance (ComponentStep Step) c s []
-stops Step c p s is run empty =
-    subst (IsAcceptance (ComponentStep Step) c s) empty.empty (is.table.acceptances.sound s empty.place ((is.table.traces s).1 run) empty.within)
+module _ {T : Type 0} (Step : T → Label → T → Type 0) where
+  -- an empty acceptance of a part after a run is one of its component after this trace
+  stops : (c : Component T) (p : Part) (s : List ℕ) → IsPartOf Step c p → IsRun p.table s → HasEmpty (acceptances_after p.table s) → IsAcceptance (ComponentStep Step) c s []
+  stops c p s is run empty = subst (IsAcceptance (ComponentStep Step) c s) empty.empty (is.table.acceptances.sound s empty.place ((is.table.traces s).1 run) empty.within)
 
--- a component whose part is busy is busy
-busy_component : {T : Type 0} (Step : T → Label → T → Type 0) (c : Component T) (p : Part) → IsPartOf Step c p → IsBusyPart p → IsBusy (ComponentStep Step) c
-busy_component Step c p is busy s a =
-    let found = is.table.acceptances.complete s [] a in
-    let run = (is.table.traces s).0 (a.offer.state, a.offer.reached) in
-    let some = busy s found.place run found.within in
-    false≢true (sym (found.members some.0) ∙ some.1)
+  -- a component whose part is busy is busy
+  busy_component : (c : Component T) (p : Part) → IsPartOf Step c p → IsBusyPart p → IsBusy (ComponentStep Step) c
+  busy_component c p is busy s a =
+      let found = is.table.acceptances.complete s [] a in
+      let run = (is.table.traces s).0 (a.offer.state, a.offer.reached) in
+      let some = busy s found.place run found.within in
+      false≢true (sym (found.members some.0) ∙ some.1)
 
-pub stops_are_true : {T : Type 0} (Step : T → Label → T → Type 0) → StopsAreTrue Step
-stops_are_true Step tree shape i s is stop =
-    let c = component_of Step (leaves tree) shape.parts is.parts i stop.runs.part in
-    record {
-      component = c.component;
-      listed = c.listed;
-      stops = stops Step c.component (part_at shape.parts i) s c.part stop.runs.follows stop.stops;
-      first = λ j d before at. busy_component Step d (part_at shape.parts j) (part_of Step (leaves tree) shape.parts is.parts j d at) (stop.first j before);
-    }
+  stops_first : (tree : Tree T) (shape : Shape) (i : ℕ) (s : List ℕ) → IsShapeOf Step tree shape → StopsFirst shape i s → StopsFirstIn Step (leaves tree) i s
+  stops_first tree shape i s is stop =
+      let c = component_of Step (leaves tree) shape.parts is.parts i stop.runs.part in
+      record {
+        component = c.component;
+        listed = c.listed;
+        stops = stops c.component (part_at shape.parts i) s c.part stop.runs.follows stop.stops;
+        first = λ j d before at. busy_component d (part_at shape.parts j) (part_of Step (leaves tree) shape.parts is.parts j d at) (stop.first j before);
+      }
+
+pub can_stop : (network : Network) (shape : Shape) (s : Stop Shortfall) → IsShapeOf (ProcessStep network.program) network.tree shape → Tells (PartCanStop shape) s → Tells (CanStop network) s
+can_stop network shape stop.NoMemory is tells = tt
+can_stop network shape (stop.Told why) is (i, trace, first, same) = (i, trace, stops_first (ProcessStep network.program) network.tree shape i trace is first, same)

@@ -60,6 +60,17 @@ module _ (p : Content) where
       (subst (λ k. IsFirst p seats k (HasFault p f)) (sym (number ∙ count))
       (record { tables = made; earlier = so_far; component = c; at = at; has = subst (λ r. HasFault p f r c) left has }))
 
+module _ (p : Content) (seats : List (Component Proc)) (tables : List ComponentTable) (are : AreTablesOf p seats tables) where
+  -- the seat and the table in the same place
+  pub placed : (i : ℕ) (c : Component Proc) (t : ComponentTable) → i < length seats → c ≡ get_or seats i c → t ≡ get_or tables i t → HasTable p c t
+  placed i c t within is is' =
+      let many = as_many p whole_room seats tables are in
+      table_at p whole_room seats tables are i c t (slice_get-get_or seats i c within ∙ ap Some (sym is))
+      (slice_get-get_or tables i t (omega (arith, many, within)) ∙ ap Some (sym is'))
+
+  pub still_within : (i : ℕ) → i < length seats → i < length tables
+  still_within i within = let many = as_many p whole_room seats tables are in omega (arith, many, within)
+
 pub left_after : (room : Room) (ts : List ComponentTable) (t : ComponentTable) → room_left room (ts ++ t ∷ []) ≡ room_after (room_left room ts) t.local.used
 left_after room [] t = refl
 left_after room (u ∷ ts) t = left_after (room_after room u.local.used) ts t

@@ -10,6 +10,8 @@ pub mod reports;
 mod runs;
 mod shortfalls;
 mod stop;
+mod tables;
+mod verdicts;
 
 pub use answer::{
     Answer, Done, OutsideFault, Refusal, Shortfall, Side, Site, TextFault, Verdict,

@@ -1,17 +1,17 @@
-//! The lines of refusals.
+//! The lines that tell why a text has no program, or why a program is refused.
 
 ghost use Rattle.std.specs.Prelude.{◌≡◌, ◌+◌, ◌++◌, IfOk, codes};
 ghost use Rattle.std.specs.Fmt.{decimal};
 ghost use Rattle.report.specs.Lines.{trace_text};
 ghost use Rattle.report.specs.Sides.{side_name};
-ghost use Rattle.report.specs.Refusals.{component_text, kind_text, nesting_text, network_text, program_text, refusal_text, value_text};
+ghost use Rattle.report.specs.Report.{refused_text};
+ghost use Rattle.report.specs.Refusals.{component_text, kind_text, nesting_text, network_text, program_text, refusal_text, text_fault_text, value_text};
 
-use crate::answer::{Refusal, Side, Site};
-use crate::lines::{Part, written};
-use crate::printed::{kind_name, side_name, site};
-use containers::Items;
-use csp_base::{Bytes, NoMemory, Place};
-use csp_program::ValueKind;
+use crate::answer::{Refusal, Side, Site, TextFault};
+use crate::lines::{Part, written, written_line};
+use crate::printed::{kind_name, push_site, side_line, side_name};
+use csp_base::{Bytes, Event, NoMemory, Place};
+use csp_program::{Content, ValueKind};
 use network_trees::LayoutFault;
 use process_steps::ComponentFault;
 use script_names::ResolveFault;
@@ -21,20 +21,23 @@ use std::alloc::Global;
 fn value(alloc: Global, kind: ValueKind, at: Site) -> Result<Bytes, NoMemory>
     ensures { IfOk result (λ made. made ≡ value_text kind at) }
 {
-    let place = site(alloc, at)?;
-    written(
+    let mut made = written(
         alloc,
-        &[
-            Part::Text(b"2 value fault "),
-            Part::Text(kind_name(kind)),
-            Part::Text(place.as_slice()),
-        ],
-    )
+        &[Part::Text(b"2 value fault "), Part::Text(kind_name(kind))],
+    )?;
+    push_site(&mut made, at)?;
+    Ok(made)
 }
 
 // An operand that differs from its alphabet; after the first component it has `more`.
-fn differs(alloc: Global, first: u32, more: u32, event: &[u8]) -> Result<Bytes, NoMemory>
-    ensures { IfOk result (λ made. made ≡ nesting_text first (1 + more) event.now) }
+fn differs(
+    alloc: Global,
+    content: &Content,
+    first: u32,
+    more: u32,
+    event: Event,
+) -> Result<Bytes, NoMemory>
+    ensures { IfOk result (λ made. made ≡ nesting_text content.now first (1 + more) event) }
 {
     let last = u64::from(first) + u64::from(more);
     let made = written(
@@ -45,27 +48,33 @@ fn differs(alloc: Global, first: u32, more: u32, event: &[u8]) -> Result<Bytes, 
             Part::Text(b" to "),
             Part::Number(last),
             Part::Text(b" differ from their alphabet at "),
-            Part::Text(event),
+            Part::Event(content, event),
         ],
     )?;
     Ok(made)
 }
 
 // An operand that differs from its alphabet.
-fn nesting(alloc: Global, first: u32, count: u32, event: &[u8]) -> Result<Bytes, NoMemory>
-    ensures { IfOk result (λ made. made ≡ nesting_text first count event.now) }
+fn nesting(
+    alloc: Global,
+    content: &Content,
+    first: u32,
+    count: u32,
+    event: Event,
+) -> Result<Bytes, NoMemory>
+    ensures { IfOk result (λ made. made ≡ nesting_text content.now first count event) }
 {
     if count == 0 {
         return written(
             alloc,
             &[
                 Part::Text(b"14 an empty operand has "),
-                Part::Text(event),
+                Part::Event(content, event),
                 Part::Text(b" in its alphabet"),
             ],
         );
     }
-    differs(alloc, first, count - 1, event)
+    differs(alloc, content, first, count - 1, event)
 }
 
 // A name that is at fault in a declaration.
@@ -173,9 +182,14 @@ fn program(alloc: Global, fault: &ResolveFault) -> Result<Bytes, NoMemory>
 }
 
 // A component that can end.
-fn terminates(alloc: Global, component: u64, trace: &[Bytes]) -> Result<Bytes, NoMemory>
+fn terminates<'a>(
+    alloc: Global,
+    content: &'a Content,
+    component: u64,
+    trace: &'a [Event],
+) -> Result<Bytes, NoMemory>
     ensures { IfOk result (λ made. made
-        ≡ codes "19 component " ++ decimal component ++ codes " can terminate after " ++ trace_text trace.now) }
+        ≡ codes "19 component " ++ decimal component ++ codes " can terminate after " ++ trace_text content.now trace.now) }
 {
     written(
         alloc,
@@ -183,7 +197,7 @@ fn terminates(alloc: Global, component: u64, trace: &[Bytes]) -> Result<Bytes, N
             Part::Text(b"19 component "),
             Part::Number(component),
             Part::Text(b" can terminate after "),
-            Part::Trace(trace),
+            Part::Trace(content, trace),
         ],
     )
 }
@@ -191,10 +205,11 @@ fn terminates(alloc: Global, component: u64, trace: &[Bytes]) -> Result<Bytes, N
 // Why a component has no normal table.
 fn component(
     alloc: Global,
+    content: &Content,
     component: u32,
-    fault: &ComponentFault<Items<Bytes>>,
+    fault: &ComponentFault,
 ) -> Result<Bytes, NoMemory>
-    ensures { IfOk result (λ made. made ≡ component_text component fault.now) }
+    ensures { IfOk result (λ made. made ≡ component_text content.now component fault.now) }
 {
     let i = u64::from(component);
     match fault {
@@ -225,13 +240,13 @@ fn component(
             i,
             b" has more than 2048 sets of terms",
         ),
-        ComponentFault::Terminates { trace } => terminates(alloc, i, trace.as_slice()),
+        ComponentFault::Terminates { trace } => terminates(alloc, content, i, trace.as_slice()),
     }
 }
 
 // Why a program spells no network.
-fn network(alloc: Global, fault: &LayoutFault<Bytes>) -> Result<Bytes, NoMemory>
-    ensures { IfOk result (λ made. made ≡ network_text fault.now) }
+fn network(alloc: Global, content: &Content, fault: &LayoutFault) -> Result<Bytes, NoMemory>
+    ensures { IfOk result (λ made. made ≡ network_text content.now fault.now) }
 {
     match fault {
         LayoutFault::Value { kind } => value(alloc, *kind, Site::Network),
@@ -239,7 +254,7 @@ fn network(alloc: Global, fault: &LayoutFault<Bytes>) -> Result<Bytes, NoMemory>
             first,
             count,
             event,
-        } => nesting(alloc, *first, *count, event.as_slice()),
+        } => nesting(alloc, content, *first, *count, *event),
         LayoutFault::EmptyNetwork => Bytes::from_slice(alloc, b"15 the network has no components"),
         LayoutFault::ComponentLimit => Bytes::from_slice(alloc, b"16 more than 512 components"),
         LayoutFault::NetworkDepth => {
@@ -278,23 +293,39 @@ fn too_long(alloc: Global, side: Side) -> Result<Bytes, NoMemory>
     )
 }
 
-// The line of a refusal of this side, without its end.
-pub(crate) fn refusal_line(alloc: Global, side: Side, refusal: &Refusal) -> Result<Bytes, NoMemory>
-    ensures { IfOk result (λ made. made ≡ refusal_text side refusal.now) }
+// The line that tells why the text of this side has no program, without its end.
+pub(crate) fn text_fault_line(
+    alloc: Global,
+    side: Side,
+    fault: &TextFault,
+) -> Result<Bytes, NoMemory>
+    ensures { IfOk result (λ made. made ≡ text_fault_text side fault.now) }
+{
+    match fault {
+        TextFault::TooLong => too_long(alloc, side),
+        TextFault::NoScript { at } => no_script(alloc, at),
+        TextFault::Unresolved(fault) => program(alloc, fault),
+    }
+}
+
+// The line of a refusal, without its end.
+pub(crate) fn refusal_line(
+    alloc: Global,
+    content: &Content,
+    refusal: &Refusal,
+) -> Result<Bytes, NoMemory>
+    ensures { IfOk result (λ made. made ≡ refusal_text content.now refusal.now) }
 {
     match refusal {
-        Refusal::NoScript { at } => no_script(alloc, at),
         Refusal::Value { kind, site } => value(alloc, *kind, *site),
-        Refusal::NoProgram(fault) => program(alloc, fault),
-        Refusal::Network(fault) => network(alloc, fault),
+        Refusal::Network(fault) => network(alloc, content, fault),
         Refusal::Component {
             component: number,
             fault,
-        } => component(alloc, *number, fault),
+        } => component(alloc, content, *number, fault),
         Refusal::NoComponent { count } => {
             between(alloc, b"35 there are ", u64::from(*count), b" components")
         }
-        Refusal::TooLong => too_long(alloc, side),
         Refusal::DifferentEvents { number } => {
             numbered(alloc, b"41 the events differ at number ", *number)
         }
@@ -308,4 +339,18 @@ pub(crate) fn refusal_line(alloc: Global, side: Side, refusal: &Refusal) -> Resu
             *component,
         ),
     }
+}
+
+// The report where the text of this side is refused for this reason.
+pub(crate) fn refused(alloc: Global, side: Side, reason: &[u8]) -> Result<Bytes, NoMemory>
+    ensures { IfOk result (λ made. made ≡ refused_text side reason.now) }
+{
+    written_line(
+        alloc,
+        &[
+            Part::Text(b"refused\n"),
+            Part::Text(side_line(side)),
+            Part::Text(reason),
+        ],
+    )
 }

@@ -3,13 +3,15 @@
 ghost use Rattle.std.specs.Prelude.{◌≡◌, ◌++◌, IfOk, OnOk, codes};
 ghost use Rattle.std.specs.List.{flat_map};
 ghost use Rattle.std.specs.Fmt.{decimal};
+ghost use Rattle.report.specs.EventText.{event_text};
 ghost use Rattle.report.specs.Lines.{numbers_text, trace_text};
 ghost use Rattle.report.specs.Shortfalls.{after_text, condition_name, condition_number, condition_text, link_text, shortfall_text};
 ghost use Rattle.csp_base.specs.Texts.{line};
 
 use crate::answer::Shortfall;
 use crate::lines::{Part, push_line, written_line};
-use csp_base::{Bytes, NoMemory};
+use csp_base::{Bytes, Event, NoMemory};
+use csp_program::Content;
 use design_rules::Condition;
 use std::alloc::Global;
 
@@ -21,16 +23,27 @@ fn listed<'a>(alloc: Global, text: &'a [u8], components: &'a [u32]) -> Result<By
 }
 
 // The line of an event in several alphabets.
-fn shared<'a>(alloc: Global, event: &'a [u8], components: &'a [u32]) -> Result<Bytes, NoMemory>
-    ensures { IfOk result (λ made. made ≡ line (codes "20 event " ++ event.now ++ codes " is in alphabets" ++ numbers_text components.now)) }
+fn shared(
+    alloc: Global,
+    content: &Content,
+    event: Event,
+    components: (u32, u32, u32),
+) -> Result<Bytes, NoMemory>
+    ensures { IfOk result (λ made. made
+        ≡ line (codes "20 event " ++ event_text content.now event ++ codes " is in alphabets "
+            ++ decimal components.0 ++ codes " " ++ decimal components.1 ++ codes " " ++ decimal components.2)) }
 {
     written_line(
         alloc,
         &[
             Part::Text(b"20 event "),
-            Part::Text(event),
-            Part::Text(b" is in alphabets"),
-            Part::Numbers(components),
+            Part::Event(content, event),
+            Part::Text(b" is in alphabets "),
+            Part::Number(u64::from(components.0)),
+            Part::Text(b" "),
+            Part::Number(u64::from(components.1)),
+            Part::Text(b" "),
+            Part::Number(u64::from(components.2)),
         ],
     )
 }
@@ -38,12 +51,13 @@ fn shared<'a>(alloc: Global, event: &'a [u8], components: &'a [u32]) -> Result<B
 // A line of a component and a trace.
 fn after<'a>(
     alloc: Global,
+    content: &'a Content,
     before: &'a [u8],
     component: u32,
     between: &'a [u8],
-    trace: &'a [Bytes],
+    trace: &'a [Event],
 ) -> Result<Bytes, NoMemory>
-    ensures { IfOk result (λ made. made ≡ line (before.now ++ decimal component ++ between.now ++ trace_text trace.now)) }
+    ensures { IfOk result (λ made. made ≡ line (before.now ++ decimal component ++ between.now ++ trace_text content.now trace.now)) }
 {
     written_line(
         alloc,
@@ -51,7 +65,7 @@ fn after<'a>(
             Part::Text(before),
             Part::Number(u64::from(component)),
             Part::Text(between),
-            Part::Trace(trace),
+            Part::Trace(content, trace),
         ],
     )
 }
@@ -59,12 +73,13 @@ fn after<'a>(
 // The line of a component that does not go round its links.
 fn order<'a>(
     alloc: Global,
+    content: &'a Content,
     component: u32,
-    trace: &'a [Bytes],
-    event: &'a [u8],
+    trace: &'a [Event],
+    event: Event,
 ) -> Result<Bytes, NoMemory>
     ensures { IfOk result (λ made. made
-        ≡ line (codes "23 component " ++ decimal component ++ codes " breaks C1 after " ++ trace_text trace.now ++ codes " by " ++ event.now)) }
+        ≡ line (codes "23 component " ++ decimal component ++ codes " breaks C1 after " ++ trace_text content.now trace.now ++ codes " by " ++ event_text content.now event)) }
 {
     let made = written_line(
         alloc,
@@ -72,18 +87,23 @@ fn order<'a>(
             Part::Text(b"23 component "),
             Part::Number(u64::from(component)),
             Part::Text(b" breaks C1 after "),
-            Part::Trace(trace),
+            Part::Trace(content, trace),
             Part::Text(b" by "),
-            Part::Text(event),
+            Part::Event(content, event),
         ],
     )?;
     Ok(made)
 }
 
 // The line of a component that does what its specification does not.
-fn outside<'a>(alloc: Global, component: u32, trace: &'a [Bytes]) -> Result<Bytes, NoMemory>
+fn outside<'a>(
+    alloc: Global,
+    content: &'a Content,
+    component: u32,
+    trace: &'a [Event],
+) -> Result<Bytes, NoMemory>
     ensures { IfOk result (λ made. made
-        ≡ line (codes "43 component " ++ decimal component ++ codes " does " ++ trace_text trace.now ++ codes " outside its specification")) }
+        ≡ line (codes "43 component " ++ decimal component ++ codes " does " ++ trace_text content.now trace.now ++ codes " outside its specification")) }
 {
     written_line(
         alloc,
@@ -91,7 +111,7 @@ fn outside<'a>(alloc: Global, component: u32, trace: &'a [Bytes]) -> Result<Byte
             Part::Text(b"43 component "),
             Part::Number(u64::from(component)),
             Part::Text(b" does "),
-            Part::Trace(trace),
+            Part::Trace(content, trace),
             Part::Text(b" outside its specification"),
         ],
     )
@@ -149,8 +169,13 @@ fn no_full_end(alloc: Global, left: u32, right: u32) -> Result<Bytes, NoMemory>
 }
 
 // Adds the line of an end of the link.
-fn push_after(report: &mut Bytes, component: u32, trace: &[Bytes]) -> Result<(), NoMemory>
-    ensures { OnOk result (report.new ≡ report.old ++ line (after_text component trace.now)) }
+fn push_after<'a>(
+    report: &mut Bytes,
+    content: &'a Content,
+    component: u32,
+    trace: &'a [Event],
+) -> Result<(), NoMemory>
+    ensures { OnOk result (report.new ≡ report.old ++ line (after_text content.now component trace.now)) }
 {
     push_line(
         report,
@@ -158,7 +183,7 @@ fn push_after(report: &mut Bytes, component: u32, trace: &[Bytes]) -> Result<(),
             Part::Text(b"component "),
             Part::Number(u64::from(component)),
             Part::Text(b" after "),
-            Part::Trace(trace),
+            Part::Trace(content, trace),
         ],
     )
 }
@@ -166,18 +191,19 @@ fn push_after(report: &mut Bytes, component: u32, trace: &[Bytes]) -> Result<(),
 // The lines of a link that no end takes whole.
 fn both_ends(
     alloc: Global,
+    content: &Content,
     left: u32,
     right: u32,
-    left_trace: &[Bytes],
-    right_trace: &[Bytes],
+    left_trace: &[Event],
+    right_trace: &[Event],
 ) -> Result<Bytes, NoMemory>
     ensures { IfOk result (λ made. made
         ≡ line (codes "25 link " ++ decimal left ++ codes " " ++ decimal right ++ codes " has no full end")
-        ++ line (after_text left left_trace.now) ++ line (after_text right right_trace.now)) }
+        ++ line (after_text content.now left left_trace.now) ++ line (after_text content.now right right_trace.now)) }
 {
     let mut made = no_full_end(alloc, left, right)?;
-    push_after(&mut made, left, left_trace)?;
-    push_after(&mut made, right, right_trace)?;
+    push_after(&mut made, content, left, left_trace)?;
+    push_after(&mut made, content, right, right_trace)?;
     Ok(made)
 }
 
@@ -215,11 +241,12 @@ fn condition_name(condition: Condition) -> &'static [u8]
 // The line of a condition that a component breaks.
 fn broken<'a>(
     alloc: Global,
+    content: &'a Content,
     condition: Condition,
     component: u32,
-    trace: &'a [Bytes],
+    trace: &'a [Event],
 ) -> Result<Bytes, NoMemory>
-    ensures { IfOk result (λ made. made ≡ line (condition_text condition component trace.now)) }
+    ensures { IfOk result (λ made. made ≡ line (condition_text content.now condition component trace.now)) }
 {
     written_line(
         alloc,
@@ -230,21 +257,26 @@ fn broken<'a>(
             Part::Text(b" breaks "),
             Part::Text(condition_name(condition)),
             Part::Text(b" after "),
-            Part::Trace(trace),
+            Part::Trace(content, trace),
         ],
     )
 }
 
 // The lines of a shortfall.
-pub(crate) fn shortfall_lines(alloc: Global, shortfall: &Shortfall) -> Result<Bytes, NoMemory>
-    ensures { IfOk result (λ made. made ≡ shortfall_text shortfall.now) }
+pub(crate) fn shortfall_lines(
+    alloc: Global,
+    content: &Content,
+    shortfall: &Shortfall,
+) -> Result<Bytes, NoMemory>
+    ensures { IfOk result (λ made. made ≡ shortfall_text content.now shortfall.now) }
 {
     match shortfall {
         Shortfall::NotTripleDisjoint { event, components } => {
-            shared(alloc, event.as_slice(), components.as_slice())
+            shared(alloc, content, *event, *components)
         }
         Shortfall::Stops { component, trace } => after(
             alloc,
+            content,
             b"21 component ",
             *component,
             b" can stop after ",
@@ -254,7 +286,7 @@ pub(crate) fn shortfall_lines(alloc: Global, shortfall: &Shortfall) -> Result<By
             component,
             trace,
             event,
-        } => order(alloc, *component, trace.as_slice(), event.as_slice()),
+        } => order(alloc, content, *component, trace.as_slice(), *event),
         Shortfall::LinksCircle { links } => links_circle(alloc, links.as_slice()),
         Shortfall::NoFullEnd {
             left,
@@ -263,6 +295,7 @@ pub(crate) fn shortfall_lines(alloc: Global, shortfall: &Shortfall) -> Result<By
             right_trace,
         } => both_ends(
             alloc,
+            content,
             *left,
             *right,
             left_trace.as_slice(),
@@ -272,16 +305,17 @@ pub(crate) fn shortfall_lines(alloc: Global, shortfall: &Shortfall) -> Result<By
             condition,
             component,
             trace,
-        } => broken(alloc, *condition, *component, trace.as_slice()),
+        } => broken(alloc, content, *condition, *component, trace.as_slice()),
         Shortfall::ClientsCircle { components } => {
             listed(alloc, b"27 clients in a circle", components.as_slice())
         }
         Shortfall::ResourcesCircle { components } => {
             listed(alloc, b"29 resources in a circle", components.as_slice())
         }
-        Shortfall::Outside { component, trace } => outside(alloc, *component, trace.as_slice()),
+        Shortfall::Outside { component, trace } => outside(alloc, content, *component, trace.as_slice()),
         Shortfall::Refuses { component, trace } => after(
             alloc,
+            content,
             b"44 component ",
             *component,
             b" refuses too much after ",

@@ -1,8 +1,8 @@
 use Rattle.std.proofs.Common.{ap, ◌∙◌}
 use Rattle.std.proofs.lemmas.List.{take_all}
-use Rattle.free_answers.specs.Counts.{greatest_from}
-use Rattle.free_answers.proofs.Counting.{one_rank}
-use Rattle.free_answers.proofs.counts.greatest_in_row.Goals as goal
+use Rattle.design_rules.specs.RankCounts.{greatest_from}
+use Rattle.judgement.proofs.Counting.{one_rank}
+use Rattle.judgement.proofs.counts.greatest_in_row.Goals as goal
 
 pub larger-most-requires : goal.larger-most-requires
 larger-most-requires c = c.loop-rank.invariant.1

@@ -1,6 +1,6 @@
 use Rattle.std.proofs.Common.{◌≡◌, ◌<◌, take}
-use Rattle.free_answers.specs.Counts.{greatest_from}
-use Rattle.free_answers.proofs.counts.greatest_in_row.Given as goal
+use Rattle.design_rules.specs.RankCounts.{greatest_from}
+use Rattle.judgement.proofs.counts.greatest_in_row.Given as goal
 
 abbrev pub invariant-loop-rank : goal.invariant-loop-rank
 invariant-loop-rank l = (l.most ≡ greatest_from l.start (take l.rank-index l.row)) × (l.most < 9223372036854775808)

@@ -1,9 +1,9 @@
 use Rattle.std.proofs.Common.{ap, ◌∙◌, map}
 use Rattle.std.specs.List.{flat_map}
 use Rattle.std.proofs.lemmas.List.{take_all}
-use Rattle.free_answers.specs.Counts.{greatest_from}
-use Rattle.free_answers.proofs.Counting.{one_row}
-use Rattle.free_answers.proofs.counts.greatest_in_rows.Goals as goal
+use Rattle.design_rules.specs.RankCounts.{greatest_from}
+use Rattle.judgement.proofs.Counting.{one_row}
+use Rattle.judgement.proofs.counts.greatest_in_rows.Goals as goal
 
 pub greatest_in_row-most-requires : goal.greatest_in_row-most-requires
 greatest_in_row-most-requires c = c.loop-row.invariant.1

@@ -1,7 +1,7 @@
 use Rattle.std.proofs.Common.{◌≡◌, ◌<◌, map, take}
 use Rattle.std.specs.List.{flat_map}
-use Rattle.free_answers.specs.Counts.{greatest_from}
-use Rattle.free_answers.proofs.counts.greatest_in_rows.Given as goal
+use Rattle.design_rules.specs.RankCounts.{greatest_from}
+use Rattle.judgement.proofs.counts.greatest_in_rows.Given as goal
 
 abbrev pub invariant-loop-row : goal.invariant-loop-row
 invariant-loop-row l = (l.most ≡ greatest_from l.start (flat_map (λ row. row) (map (λ row. row.items) (take l.row-index l.rows)))) × (l.most < 9223372036854775808)

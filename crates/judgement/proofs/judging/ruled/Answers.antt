@@ -1,30 +1,43 @@
-use Rattle.std.proofs.Common.{Ok, subst}
-use Rattle.csp_program.specs.declared.programs.Content.{Content}
-use Rattle.network_stages.specs.Networks.{components_at}
+use Rattle.std.proofs.Common.{ap, rules, subst}
+use Rattle.design_rules.proofs.GreatestRanks.{rankings_have_greatest_rank}
+use Rattle.network_stages.specs.Networks.{Network}
+use Rattle.process_steps.specs.ComponentStep.{ProcessStep}
+use Rattle.report.proofs.Points.{exits}
+use Rattle.report.specs.Points.Point.{passed}
+use Rattle.report.specs.declared.answer.Verdict.TheVariants as verdict
+use Rattle.design_rules.specs.RankCounts.{greatest_rank}
+use Rattle.judgement.specs.Judged.{RuleDecides}
 use Rattle.judgement.specs.Noted.{Notes}
-use Rattle.judgement.proofs.Free.{has_notes}
-use Rattle.judgement.proofs.Walk.{at_free, at_notes, at_ranking, is_free}
+use Rattle.judgement.proofs.Free.{live}
+use Rattle.judgement.proofs.Notes.{has_notes}
 use Rattle.judgement.proofs.judging.ruled.Goals as goal
 
 pub ranked-requires : goal.ranked-requires
 ranked-requires c =
-    let p = c.args.shaped.now.program in
-    has_notes p (components_at p) c.args.rule c.in_ok-notes.notes c.args.shaped.now.shape
-    (subst (λ (q : Content). Notes q (components_at q) c.args.rule c.in_ok-notes.notes) c.network.ensures c.in_ok-notes.ensures.ok) c.shape-shape.ensures.is.network.is.parts
+    let network = c.args.shaped.now.network in
+    has_notes network c.args.rule c.in_ok-notes.notes c.args.shaped.now.shape
+    (subst (λ (n : Network). Notes n c.args.rule c.in_ok-notes.notes) c.network-network.ensures c.in_ok-notes.ensures.ok) c.shape-shape.ensures.apart.is.parts
 
 pub returns-in_err-notes : goal.returns-in_err-notes
-returns-in_err-notes c =
-    at_notes c.args.shaped.now.program c.args.rule c.args.shaped.now.shape c.from_residual.result c.network.result.now c.network.ensures _ c.from_residual.ensures.1 c.in_err-notes.ensures.told
+unfolding RuleDecides
+returns-in_err-notes c = search (rules, exits)
 
 pub returns-in_err-ranking : goal.returns-in_err-ranking
-returns-in_err-ranking c =
-    at_ranking c.args.shaped.now.program c.args.rule c.args.shaped.now.shape c.from_residual-in_err-ranking.result c.in_ok-notes.notes
-    (subst (λ (q : Content). Notes q (components_at q) c.args.rule c.in_ok-notes.notes) c.network.ensures c.in_ok-notes.ensures.ok) _
-    c.from_residual-in_err-ranking.ensures.1 c.in_err-ranking.ensures.told
+unfolding RuleDecides
+returns-in_err-ranking c = ?
 
 pub returns : goal.returns
+unfolding RuleDecides
 returns c =
-    let p = c.args.shaped.now.program in
-    at_free p c.args.rule c.args.shaped.now.shape (Ok c.deadlock_free.result) c.in_ok-notes.notes
-    (subst (λ (q : Content). Notes q (components_at q) c.args.rule c.in_ok-notes.notes) c.network.ensures c.in_ok-notes.ensures.ok) c.in_ok-ranking.ranking c.in_ok-ranking.ensures.ok
-    (is_free p c.args.shaped.now.shape c.shape-shape.ensures.is c.requires.busy c.args.rule c.in_ok-notes.notes c.in_ok-ranking.ranking c.deadlock_free.result c.in_ok-ranking.ensures.ok c.deadlock_free.ensures)
+    let network = c.args.shaped.now.network in
+    let apart = c.shape-shape.ensures.apart in
+    let notes = c.in_ok-notes.notes in
+    let ranking = c.in_ok-ranking.ranking in
+    passed notes (subst (λ (n : Network). Notes n c.args.rule notes) c.network-network.ensures c.in_ok-notes.ensures.ok) (passed tt c.in_ok-ranking.ensures.met (record {
+      bound = c.args.bound;
+      exact = c.requires.bound;
+      live = live network c.args.shaped.now.shape c.args.bound (search rules) apart c.requires.busy c.requires.bound notes ranking c.in_ok-ranking.ensures.met c.in_ok-ranking.ensures.ranks;
+      rank = greatest_rank ranking;
+      greatest = rankings_have_greatest_rank (ProcessStep network.program) network.tree c.args.shaped.now.shape apart.is notes ranking c.in_ok-ranking.ensures.ranks;
+      is = ap verdict.Done c.deadlock_free.ensures;
+    }))

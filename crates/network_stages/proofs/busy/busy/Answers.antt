@@ -3,9 +3,9 @@ use Rattle.csp_tables.specs.Form.{HasForm}
 use Rattle.csp_tables.specs.Part.{Part}
 use Rattle.csp_tables.specs.Table.{IsReached}
 use Rattle.net_sound.proofs.Within.{part_form}
-use Rattle.network_shape.proofs.Reading.{part_read}
-use Rattle.network_shape.proofs.Stopping.{parts_more}
-use Rattle.network_shape.proofs.stops.busy.Goals as goal
+use Rattle.network_stages.proofs.Reading.{part_read}
+use Rattle.network_stages.proofs.Stopping.{parts_more}
+use Rattle.network_stages.proofs.busy.busy.Goals as goal
 
 pub run_to_node-requires-clause-form : goal.run_to_node-requires-clause-form
 run_to_node-requires-clause-form c =

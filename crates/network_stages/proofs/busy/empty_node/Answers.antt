@@ -1,7 +1,7 @@
 use Rattle.std.proofs.Common.{◌∙◌}
 use Rattle.std.proofs.lemmas.Bool.{false≢true}
-use Rattle.network_shape.proofs.Stopping.{nodes_more}
-use Rattle.network_shape.proofs.stops.empty_node.Goals as goal
+use Rattle.network_stages.proofs.Stopping.{nodes_more}
+use Rattle.network_stages.proofs.busy.empty_node.Goals as goal
 
 pub loop-number-preserved : goal.loop-number-preserved
 loop-number-preserved c =

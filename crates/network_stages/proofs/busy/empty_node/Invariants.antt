@@ -1,7 +1,7 @@
 use Rattle.std.proofs.Common.{◌<◌, ℕ}
 use Rattle.csp_tables.specs.Table.{node_at}
-use Rattle.network_shape.proofs.Stopping.{AreNonEmpty}
-use Rattle.network_shape.proofs.stops.empty_node.Given as goal
+use Rattle.network_stages.proofs.Stopping.{AreNonEmpty}
+use Rattle.network_stages.proofs.busy.empty_node.Given as goal
 
 abbrev pub invariant-loop-number : goal.invariant-loop-number
 invariant-loop-number l = (n : ℕ) → n < l.number → AreNonEmpty (node_at l.part.table n).accept

@@ -1,8 +1,8 @@
 use Rattle.std.proofs.Common.{◌-◌, List, length}
 use Rattle.csp_tables.specs.Part.{Part}
-use Rattle.network_shape.specs.Rows.{AreLinksBefore, IsRow}
-use Rattle.network_shape.proofs.Linking.{AreLinksTo}
-use Rattle.network_shape.proofs.links.add_links.Given as goal
+use Rattle.network_stages.specs.Rows.{AreLinksBefore, IsRow}
+use Rattle.network_stages.proofs.Linking.{AreLinksTo}
+use Rattle.network_stages.proofs.links.add_links.Given as goal
 
 abbrev pub invariant-loop-start : goal.invariant-loop-start
 invariant-loop-start l = (parts : List Part) → IsRow parts (length parts) l.left l.row → AreLinksBefore parts l.left 0 l.initial.links.items → AreLinksTo parts l.left l.row l.start l.links.items

@@ -1,5 +1,5 @@
 use Rattle.std.proofs.Common.{◌≡◌, ◌-◌, ◌<◌, ◌≤◌, ℕ, length}
-use Rattle.network_shape.proofs.links.group_end.Given as goal
+use Rattle.network_stages.proofs.links.group_end.Given as goal
 use Rattle.observed_runs.specs.Observed.{pair_at}
 
 abbrev pub invariant-loop-end : goal.invariant-loop-end

@@ -1,5 +1,5 @@
-use Rattle.network_shape.proofs.Reading.{included_more}
-use Rattle.network_shape.proofs.links.include_all.Goals as goal
+use Rattle.network_stages.proofs.Reading.{included_more}
+use Rattle.network_stages.proofs.links.include_all.Goals as goal
 
 pub loop-event-preserved : goal.loop-event-preserved
 loop-event-preserved c =

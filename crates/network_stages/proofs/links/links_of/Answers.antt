@@ -1,7 +1,7 @@
 use Rattle.std.proofs.Common.{◌≡◌, ◌<◌, length, subst, arith}
-use Rattle.network_shape.specs.Rows.{IsRow}
-use Rattle.network_shape.proofs.Reading.{row_read}
-use Rattle.network_shape.proofs.links.links_of.Goals as goal
+use Rattle.network_stages.specs.Rows.{IsRow}
+use Rattle.network_stages.proofs.Reading.{row_read}
+use Rattle.network_stages.proofs.links.links_of.Goals as goal
 
 pub loop-left-preserved : goal.loop-left-preserved
 loop-left-preserved c parts are =

@@ -1,27 +1,20 @@
-use Rattle.std.proofs.Common.{refl}
-use Rattle.network_stages.proofs.MadeParts.{all_made, first_many, many_told, one_made, placed, still_within}
+use Rattle.network_tables.proofs.Rows.{placed, still_within}
+use Rattle.network_stages.proofs.MadeParts.{all_made, first_many, one_made}
 use Rattle.network_stages.proofs.parts.all_parts.Goals as goal
 
 pub bounds-tables-place : goal.bounds-tables-place
 bounds-tables-place c = still_within c.args.program.now c.args.seats.now c.args.tables.now c.requires.tables _ c.loop-place-test.true
 
 pub part_of-requires : goal.part_of-requires
-part_of-requires c = record {
-  table = placed c.args.program.now c.args.seats.now c.args.tables.now c.requires.tables _ _ _ c.loop-place-test.true c.index-seats-place.is c.index-tables-place.is;
-}
+part_of-requires c = placed c.args.program.now c.args.seats.now c.args.tables.now c.requires.tables _ _ _ c.loop-place-test.true c.index-seats-place.is c.index-tables-place.is
 
 pub loop-place-preserved : goal.loop-place-preserved
 loop-place-preserved c =
-    one_made c.args.program.now c.args.seats.now _ _ _ _ _ c.loop-place.invariant c.loop-place-test.true c.index-seats-place.is c.in-Ok.ensures.made c.in-Ok.ensures.form
-    c.in-Ok.ensures.few c.in_ok-add-in-Ok.ensures
+    one_made c.args.program.now c.args.seats.now _ _ c.loop-place-test.true c.index-seats-place.is _ _ _ c.loop-place.invariant c.in-Ok.ensures.part c.in-Ok.ensures.form c.in-Ok.ensures.few
+    c.in_ok-add-in-Ok.ensures
 
-pub returns-in-Err-SubsetLimit-clause-told : goal.returns-in-Err-SubsetLimit-clause-told
-returns-in-Err-SubsetLimit-clause-told c = (
-  c.loop-place.place,
-  first_many c.args.program.now c.args.seats.now _ _ c.loop-place-test.true c.index-seats-place.is c.loop-place.invariant.few
-      (many_told c.args.program.now c.index-seats-place.result c.part_of.result _ c.in-Err-SubsetLimit.is c.in-Err-SubsetLimit.field-0-is c.part_of.ensures.fault),
-  refl,
-)
+pub returns-in-Err-clause-told : goal.returns-in-Err-clause-told
+returns-in-Err-clause-told c = first_many c.args.program.now c.args.seats.now _ _ c.loop-place-test.true c.index-seats-place.is _ _ c.loop-place.invariant c.in-Err.ensures.told
 
 pub returns-clause-few : goal.returns-clause-few
 returns-clause-few c = (all_made c.args.program.now c.args.seats.now _ _ c.loop-place.invariant c.loop-place-test.false).1

@@ -1,21 +1,21 @@
-use Rattle.std.proofs.Common.{sym, ◌∙◌, subst}
-use Rattle.network_shape.specs.Parts.{HasEventsWithin}
-use Rattle.std.proofs.lemmas.Result.{IfOk-weaker}
-use Rattle.network_stages.proofs.MadeParts.{few_terms, stays_within}
-use Rattle.network_stages.proofs.SetsOfTables.{few_sets, told_fault}
+use Rattle.std.proofs.Common.{Err, ap, refl, ◌∙◌}
+use Rattle.network_stages.proofs.MadeParts.{is_part}
+use Rattle.network_stages.proofs.SetsOfTables.{few_sets, many_sets}
 use Rattle.network_stages.proofs.parts.part_of.Goals as goal
 
-pub part-requires-clause-events : goal.part-requires-clause-events
-part-requires-clause-events c =
-    subst (λ as'. HasEventsWithin c.args.table.now.local.table as') (sym (c.in_ok-alphabet.ensures ∙ c.alphabet.ensures))
-    (stays_within c.args.program.now c.args.seat.now c.args.table.now c.requires.table)
+pub returns-in-Ok-clause-part : goal.returns-in-Ok-clause-part
+returns-in-Ok-clause-part c =
+    (is_part c.args.program.now c.args.seat.now c.args.table.now c.in_ok-alphabet.alphabet c.in-Ok.normal c.new.result c.requires (c.in_ok-alphabet.ensures ∙ c.alphabet.ensures)
+    c.in-Ok.ensures.normal c.in-Ok.ensures.few c.new.ensures).0
 
-pub part-requires-clause-few : goal.part-requires-clause-few
-part-requires-clause-few c = few_terms c.args.program.now c.args.seat.now c.args.table.now c.requires.table
+pub returns-in-Ok-clause-form : goal.returns-in-Ok-clause-form
+returns-in-Ok-clause-form c =
+    (is_part c.args.program.now c.args.seat.now c.args.table.now c.in_ok-alphabet.alphabet c.in-Ok.normal c.new.result c.requires (c.in_ok-alphabet.ensures ∙ c.alphabet.ensures)
+    c.in-Ok.ensures.normal c.in-Ok.ensures.few c.new.ensures).1
 
-pub returns-clause-few : goal.returns-clause-few
-returns-clause-few c =
-    IfOk-weaker c.part.result _ _ (λ _ few. few_sets c.args.program.now c.args.seat.now c.args.table.now c.requires.table few) c.part.ensures.within_limit
+pub returns-in-Ok-clause-few : goal.returns-in-Ok-clause-few
+returns-in-Ok-clause-few c = few_sets c.args.program.now c.args.seat.now c.args.table.now c.requires c.in-Ok.ensures.within_limit
 
-pub returns-clause-fault : goal.returns-clause-fault
-returns-clause-fault c = told_fault c.args.program.now c.args.seat.now c.args.table.now c.part.result c.requires.table c.part.ensures.limit
+pub returns-clause-told : goal.returns-clause-told
+returns-clause-told c =
+    (many_sets c.args.program.now c.args.seat.now c.args.table.now c.requires (c.normalise.ensures.limit (c.in-Err-SubsetLimit.is ∙ ap Err c.in-Err-SubsetLimit.field-0-is)), refl)

@@ -1,6 +1,6 @@
 use Rattle.std.proofs.Common.{◌≡◌, ◌++◌, ℕ, length}
-use Rattle.network_shape.specs.Rows.{joints, row_at}
-use Rattle.network_shape.proofs.rows.join_all.Given as goal
+use Rattle.network_stages.specs.Rows.{joints, row_at}
+use Rattle.network_stages.proofs.rows.join_all.Given as goal
 
 abbrev pub invariant-loop-event : goal.invariant-loop-event
 invariant-loop-event l =

@@ -1,6 +1,6 @@
 use Rattle.std.proofs.Common.{length, sym, subst}
-use Rattle.network_shape.specs.Rows.{AreRows}
-use Rattle.network_shape.proofs.shaping.joined.Goals as goal
+use Rattle.network_stages.specs.Rows.{AreRows}
+use Rattle.network_stages.proofs.shapes.joined.Goals as goal
 
 pub returns-clause-links : goal.returns-clause-links
 returns-clause-links c = c.linked.ensures.links c.args.parts.now (subst (AreRows c.args.parts.now (length c.args.parts.now)) (sym c.deref.ensures.value) c.in_ok-rows.ensures)

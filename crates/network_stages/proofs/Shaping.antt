@@ -1,0 +1,41 @@
+-- The parts of a network's components, linked, are its shape.
+use Rattle.std.proofs.Common.{◌≡◌, ℕ, zero, suc, ◌<◌, ◌≤◌, List, [], ◌∷◌, length, refl, sym, ap, subst, ◌∙◌, arith}
+use Rattle.csp_program.specs.declared.processes.Proc.{Proc}
+use Rattle.csp_program.specs.declared.programs.Content.{Content}
+use Rattle.csp_tables.specs.Form.{HaveForm}
+use Rattle.csp_tables.specs.Network.{Component, leaves}
+use Rattle.csp_tables.specs.Part.{Part, TripleDisjoint, alphabets_of, part_at}
+use Rattle.csp_tables.specs.Shape.{IsLinked, Shape}
+use Rattle.csp_tables.specs.ShapeOf.{ArePartsOf}
+use Rattle.network_layout.specs.Triple.{alphabets}
+use Rattle.network_stages.specs.Networks.{Network}
+use Rattle.network_stages.specs.Shapes.{IsApart}
+use Rattle.network_stages.specs.Stages.{HasParts}
+use Rattle.process_steps.specs.ComponentStep.{ProcessStep}
+
+-- parts have the alphabets of their components
+same_alphabets : (p : Content) (cs : List (Component Proc)) (ps : List Part) → ArePartsOf (ProcessStep p) cs ps → alphabets cs ≡ alphabets_of ps
+same_alphabets p [] [] are = refl
+same_alphabets p [] (q ∷ ps) are = absurd are
+same_alphabets p (c ∷ cs) [] are = absurd are
+same_alphabets p (c ∷ cs) (q ∷ ps) are = ap (λ (al : List ℕ). al ∷ alphabets cs) are.0.alphabet ∙ ap (λ (als : List (List ℕ)). q.alphabet ∷ als) (same_alphabets p cs ps are.1)
+
+pub parts_apart : (p : Content) (cs : List (Component Proc)) (ps : List Part) → ArePartsOf (ProcessStep p) cs ps → TripleDisjoint (alphabets cs) → TripleDisjoint (alphabets_of ps)
+parts_apart p cs ps are apart = subst (λ (als : List (List ℕ)). TripleDisjoint als) (same_alphabets p cs ps are) apart
+
+-- tables that have their form have few nodes
+few_nodes : (ps : List Part) (i : ℕ) → HaveForm ps → i < length ps → length (part_at ps i).table ≤ 2048
+few_nodes [] i have below = absurd (omega arith)
+few_nodes (q ∷ ps) zero have below = have.0.most
+few_nodes (q ∷ ps) (suc i) have below = few_nodes ps i have.1 (omega (arith, below))
+
+pub is_apart : (network : Network) (ps : List Part) (shape : Shape) → HasParts network ps → HaveForm ps → TripleDisjoint (alphabets (leaves network.tree)) → shape.parts ≡ ps → IsLinked shape
+    → IsApart network shape
+is_apart network ps shape has form apart same linked = record {
+  apart = apart;
+  is = record {
+    linked = linked;
+    nodes = λ i below. few_nodes shape.parts i (subst HaveForm (sym same) form) below;
+    parts = subst (λ (qs : List Part). ArePartsOf (ProcessStep network.program) (leaves network.tree) qs) (sym same) has.are;
+  };
+}

@@ -1,0 +1,49 @@
+-- The network that a program spells, or that it spells none.
+use Rattle.std.proofs.Common.{◌≡◌, ◌+◌, ◌<◌, ◌≤◌, ◌^◌, ℕ, List, Ok, Some, inr, length, slice_get, ap, ◌∙◌, sym, arith}
+use Rattle.std.proofs.lemmas.Option.{slice_get_within}
+use Rattle.csp_program.specs.declared.processes.Proc.{Proc}
+use Rattle.csp_program.specs.declared.programs.Content.{Content}
+use Rattle.csp_tables.specs.Network.{Component, Tree, leaves}
+use Rattle.csp_text.specs.declared.script.Script.{Script}
+use Rattle.network_layout.specs.Lays.{AreSeats}
+use Rattle.network_trees.specs.NetworkOf.{network_of}
+use Rattle.network_trees.proofs.InOrder.{network_is_tree}
+use Rattle.report.specs.Stops.{Tells}
+use Rattle.report.specs.declared.answer.Answer.{Answer}
+use Rattle.report.specs.declared.answer.Side.{Side}
+use Rattle.report.specs.declared.stop.Stop.{Stop}
+use Rattle.report.specs.declared.stop.Stop.TheVariants as stop
+use Rattle.script_names.specs.Resolved.{IsProgram}
+use Rattle.network_stages.specs.Networks.{AreSeatsOf, IsSpelled, Network, tree_at, tree_in}
+use Rattle.network_stages.specs.Stages.{HasNoNetwork, SpellsNone}
+
+tree_is : (p : Content) (tree : Tree Proc) → network_of p ≡ Ok tree → tree_at p ≡ tree
+unfolding tree_at
+tree_is p tree spelled = ap tree_in spelled
+
+pub seats_of : (p : Content) (seats : List (Component Proc)) → AreSeats (network_of p) seats → AreSeatsOf p seats
+seats_of p seats laid =
+    let same = tree_is p laid.tree laid.spelled in
+    record {
+      spelled = laid.spelled ∙ ap Ok (sym same);
+      are = laid.whole ∙ ap leaves (sym same);
+    }
+
+-- a network has 1 to 512 components
+pub some_components : (network : Network) → IsSpelled network → 1 ≤ length (leaves network.tree)
+some_components network spelled = (network_is_tree network.program network.tree spelled).1
+
+pub few_components : (network : Network) → IsSpelled network → length (leaves network.tree) ≤ 512
+few_components network spelled =
+    let made = network_is_tree network.program network.tree spelled in
+    let few : 0 + length (leaves network.tree) ≤ 512 = made.0.few in
+    omega (arith, few)
+
+-- a script whose program spells no network has none
+pub has_no_network : (side : Side) (script : Script) (p : Content) (s : Stop Answer) → IsProgram script p → Tells (SpellsNone side p) s → Tells (HasNoNetwork side script) s
+has_no_network side script p stop.NoMemory is tells = tt
+has_no_network side script p (stop.Told a) is tells = inr (p, is, tells)
+
+-- the number of a component in a list of which the first has this number
+pub number_fits : (cs : List (Component Proc)) (first i : ℕ) (c : Component Proc) → first + length cs ≤ 512 → slice_get cs i ≡ Some c → first + i < 2 ^ 32
+number_fits cs first i c few at = let within = slice_get_within cs i c at in omega (arith, few, within)
