@@ -1,10 +1,9 @@
 -- Parts one after another.
-use Rattle.std.proofs.Common.{◌≡◌, ℕ, List, [], ◌∷◌, ◌++◌, refl, ap, sym, ◌∙◌, append_assoc}
+use Rattle.std.proofs.Common.{◌≡◌, ℕ, List, [], ◌∷◌, ◌++◌, refl, sym, ◌∙◌, append_assoc}
 use Rattle.std.specs.List.{flat_map}
 use Rattle.std.proofs.lemmas.List.{append-nil}
 use Rattle.report.specs.Parts.{part_text, parts_text, text_and}
 use Rattle.report.specs.declared.lines.Part.{Part}
-use Rattle.csp_base.specs.Texts.{line}
 
 after : (text : List ℕ) (ps : List Part) → text ++ flat_map part_text ps ≡ text_and text ps
 after text [] = append-nil text
@@ -13,6 +12,3 @@ after text (p ∷ ps) = sym (append_assoc text (part_text p) (flat_map part_text
 pub parts_all : (ps : List Part) → flat_map part_text ps ≡ parts_text ps
 parts_all [] = refl
 parts_all (p ∷ ps) = after (part_text p) ps
-
-pub line_added : (old : List ℕ) (ps : List Part) → (old ++ flat_map part_text ps) ++ (10 ∷ []) ≡ old ++ line (parts_text ps)
-line_added old ps = append_assoc old (flat_map part_text ps) (10 ∷ []) ∙ ap (λ text. old ++ line text) (parts_all ps)

@@ -2,16 +2,13 @@
 use Rattle.std.proofs.Common.{◌≡◌, Result, Ok, Err, refl, sym, subst}
 use Rattle.std.specs.Result.{IsErrAnd}
 use Rattle.std.proofs.lemmas.Result.{err_from_is_err_and}
-use Rattle.report.specs.Points.{Point, NoProgramOr, RefusedOr, UnprovedOr}
+use Rattle.report.specs.Points.{Point, RefusedOr, UnprovedOr}
 use Rattle.report.specs.Points.Point.{passed, told}
-use Rattle.report.specs.Stops.{Answers, Ends, Tells, refused, unproved}
-use Rattle.report.specs.declared.answer.Answer.{Answer}
-use Rattle.report.specs.declared.answer.Answer.TheVariants as answer
+use Rattle.report.specs.Stops.{Answers, Tells, refused, unproved}
 use Rattle.report.specs.declared.answer.Done.{Done}
 use Rattle.report.specs.declared.answer.Refusal.{Refusal}
 use Rattle.report.specs.declared.answer.Shortfall.{Shortfall}
 use Rattle.report.specs.declared.answer.Side.{Side}
-use Rattle.report.specs.declared.answer.TextFault.{TextFault}
 use Rattle.report.specs.declared.answer.Verdict.{Verdict}
 use Rattle.report.specs.declared.answer.Verdict.TheVariants as verdict
 use Rattle.report.specs.declared.stop.Stop.{Stop}
@@ -22,21 +19,11 @@ pub weaker : {A : Type 0} (P Q : A → Type 0) → ((a : A) → P a → Q a) →
 weaker P Q weak stop.NoMemory tells = tt
 weaker P Q weak (stop.Told a) tells = weak a tells
 
-module _ {A F X : Type 0} (Fails : F → Type 0) (Told : F → A → Type 0) (Is : X → Type 0) (Then : X → A → Type 0) (x : X) (is : Is x) where
-  -- the walk goes on, and stops later
-  pub stops_later : (s : Stop A) → Tells (Then x) s → Tells (Point Fails Told Is Then) s
-  stops_later s tells = weaker (Then x) (Point Fails Told Is Then) (λ a rest. passed x is rest) s tells
-
-  -- the walk goes on to its end
-  pub ends_later : (r : Result A (Stop A)) → Ends (Then x) r → Ends (Point Fails Told Is Then) r
-  ends_later (Ok a) ends = passed x is ends
-  ends_later (Err s) ends = stops_later s ends
-
 module _ {F X : Type 0} (Fails : F → Type 0) (Told : F → Verdict → Type 0) (Is : X → Type 0) (Then : X → Verdict → Type 0) (x : X) (is : Is x) where
-  -- a walk over networks goes on to its end
+  -- the walk goes on, and to its end
   pub goes_on : (r : Result Done (Stop Verdict)) → Answers (Then x) r → Answers (Point Fails Told Is Then) r
   goes_on (Ok what) answers = passed x is answers
-  goes_on (Err s) answers = stops_later Fails Told Is Then x is s answers
+  goes_on (Err s) answers = weaker (Then x) (Point Fails Told Is Then) (λ v rest. passed x is rest) s answers
 
 -- What a walk over networks answers that stops at a `?`: a step told why it stops, or memory ran out.
 module _ (r : Result Done (Stop Verdict)) where
@@ -60,7 +47,7 @@ module _ (r : Result Done (Stop Verdict)) where
   at_want Is exit = at_stop Is stop.NoMemory exit tt
 
 -- the exits of a walk over networks: `search (rules, exits)` closes them
-ruleset exits = (at_refusal, at_shortfall, at_want)
+pub ruleset exits = (at_refusal, at_shortfall, at_want)
 
 -- What holds of each fault, and of what follows, holds of the verdict.
 pub refused_or : {X : Type 0} (side : Side) (Fails : Refusal → Type 0) (Is : X → Type 0) (Then : X → Verdict → Type 0) (Q : Verdict → Type 0) → ((r : Refusal) → Q (verdict.Refused side r))
@@ -72,8 +59,3 @@ pub unproved_or : {X : Type 0} (Fails : Shortfall → Type 0) (Is : X → Type 0
     → ((x : X) (v : Verdict) → Is x → Then x v → Q v) → (v : Verdict) → UnprovedOr Fails Is Then v → Q v
 unproved_or Fails Is Then Q of rest v (told s fails same) = subst Q (sym same) (of s)
 unproved_or Fails Is Then Q of rest v (passed x is next) = rest x v is next
-
-pub no_program_or : {X : Type 0} (side : Side) (Fails : TextFault → Type 0) (Is : X → Type 0) (Then : X → Answer → Type 0) (Q : Answer → Type 0) → ((f : TextFault) → Q (answer.NoProgram side f))
-    → ((x : X) (a : Answer) → Is x → Then x a → Q a) → (a : Answer) → NoProgramOr side Fails Is Then a → Q a
-no_program_or side Fails Is Then Q of rest a (told f fails same) = subst Q (sym same) (of f)
-no_program_or side Fails Is Then Q of rest a (passed x is next) = rest x a is next

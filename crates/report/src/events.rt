@@ -61,11 +61,7 @@ fn push_info(text: &mut Bytes, content: &Content, info: &EventInfo) -> Result<()
 }
 
 // Adds the event with this number.
-pub(crate) fn push_event(
-    text: &mut Bytes,
-    content: &Content,
-    event: Event,
-) -> Result<(), NoMemory>
+pub(crate) fn push_event(text: &mut Bytes, content: &Content, event: Event) -> Result<(), NoMemory>
     ensures { OnOk result (text.new ≡ text.old ++ event_text content.now event) }
 {
     match content.events.get(event.0 as usize) {

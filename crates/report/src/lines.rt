@@ -4,7 +4,7 @@ ghost use Rattle.std.specs.Prelude.{◌≡◌, ◌++◌, ◌+◌, ◌<◌, ◌�
 ghost use Rattle.std.specs.List.{flat_map};
 ghost use Rattle.std.specs.Fmt.{decimal, signed_decimal};
 ghost use Rattle.report.specs.EventText.{event_text};
-ghost use Rattle.report.specs.Lines.{events_text, numbers_text, set_text, trace_text};
+ghost use Rattle.report.specs.Lines.{events_text, more_events_text, numbers_text, set_text, trace_text};
 ghost use Rattle.report.specs.Parts.{part_text, parts_text};
 ghost use Rattle.csp_base.specs.Texts.{line};
 
@@ -19,7 +19,9 @@ pub(crate) enum Part<'a> {
     // A text.
     Text(&'a [u8]),
     // A number.
-    Number(u64),
+    Number(u32),
+    // A number that may be larger.
+    Count(u64),
     // A number, with its sign where it is below 0.
     Signed(i64),
     // Numbers, with a blank before each.
@@ -91,7 +93,7 @@ fn push_next(report: &mut Bytes, content: &Content, event: Event) -> Result<(), 
 
 // Adds events, with a comma and a blank before each.
 fn push_more(report: &mut Bytes, content: &Content, events: &[Event]) -> Result<(), NoMemory>
-    ensures { OnOk result (report.new ≡ report.old ++ flat_map (λ e. codes ", " ++ event_text content.now e) events.now) }
+    ensures { OnOk result (report.new ≡ report.old ++ more_events_text content.now events.now) }
 {
     for event in events {
         push_next(report, content, *event)?;
@@ -112,7 +114,7 @@ fn push_events(report: &mut Bytes, content: &Content, events: &[Event]) -> Resul
 
 // Adds the members that are left, with a comma and a blank before each.
 fn push_rest(report: &mut Bytes, content: &Content, members: Members<'_>) -> Result<(), NoMemory>
-    ensures { OnOk result (report.new ≡ report.old ++ flat_map (λ e. codes ", " ++ event_text content.now e) members.entry) }
+    ensures { OnOk result (report.new ≡ report.old ++ more_events_text content.now members.entry) }
 {
     for event in members {
         push_next(report, content, event)?;
@@ -156,7 +158,8 @@ fn push_part(report: &mut Bytes, part: &Part<'_>) -> Result<(), NoMemory>
 {
     match part {
         Part::Text(text) => report.extend_from_slice(text),
-        Part::Number(number) => push_number(report, *number),
+        Part::Number(number) => push_number(report, u64::from(*number)),
+        Part::Count(count) => push_number(report, *count),
         Part::Signed(number) => push_signed(report, *number),
         Part::Numbers(numbers) => push_numbers(report, numbers),
         Part::Event(content, event) => push_event(report, content, *event),
@@ -175,23 +178,34 @@ fn push_parts(report: &mut Bytes, parts: &[Part<'_>]) -> Result<(), NoMemory>
     Ok(())
 }
 
+// Adds the text of these parts.
+#[tactic(auto, using(crate::proofs::PartsText::parts_all))]
+pub(crate) fn push_text(report: &mut Bytes, parts: &[Part<'_>]) -> Result<(), NoMemory>
+    ensures { OnOk result (report.new ≡ report.old ++ parts_text parts.now) }
+{
+    push_parts(report, parts)
+}
+
 // Adds a line of these parts.
 pub(crate) fn push_line(report: &mut Bytes, parts: &[Part<'_>]) -> Result<(), NoMemory>
     ensures { OnOk result (report.new ≡ report.old ++ line (parts_text parts.now)) }
 {
-    push_parts(report, parts)?;
-    report.push(b'\n')?;
-    Ok(())
+    push_text(report, parts)?;
+    report.push(b'\n')
 }
 
-// The text of these parts.
-#[tactic(auto, using(crate::proofs::PartsText::parts_all))]
-pub(crate) fn written(alloc: Global, parts: &[Part<'_>]) -> Result<Bytes, NoMemory>
-    ensures { IfOk result (λ made. made ≡ parts_text parts.now) }
+// Adds a text with a number after it.
+pub(crate) fn push_numbered(report: &mut Bytes, text: &[u8], number: u32) -> Result<(), NoMemory>
+    ensures { OnOk result (report.new ≡ report.old ++ (text.now ++ decimal number)) }
 {
-    let mut made = Bytes::new(alloc);
-    push_parts(&mut made, parts)?;
-    Ok(made)
+    push_text(report, &[Part::Text(text), Part::Number(number)])
+}
+
+// Adds the line of a text with a number after it.
+pub(crate) fn push_count(report: &mut Bytes, text: &[u8], count: u64) -> Result<(), NoMemory>
+    ensures { OnOk result (report.new ≡ report.old ++ line (text.now ++ decimal count)) }
+{
+    push_line(report, &[Part::Text(text), Part::Count(count)])
 }
 
 // The line of these parts.
@@ -208,19 +222,4 @@ pub(crate) fn one_line(alloc: Global, text: &[u8]) -> Result<Bytes, NoMemory>
     ensures { IfOk result (λ made. made ≡ line text.now) }
 {
     written_line(alloc, &[Part::Text(text)])
-}
-
-// Adds a text with a number after it.
-pub(crate) fn push_numbered(report: &mut Bytes, text: &[u8], number: u32) -> Result<(), NoMemory>
-    ensures { OnOk result (report.new ≡ report.old ++ (text.now ++ decimal number)) }
-{
-    report.extend_from_slice(text)?;
-    push_number(report, u64::from(number))
-}
-
-// Adds the line of a number.
-pub(crate) fn push_count(report: &mut Bytes, label: &[u8], number: u64) -> Result<(), NoMemory>
-    ensures { OnOk result (report.new ≡ report.old ++ line (label.now ++ decimal number)) }
-{
-    push_line(report, &[Part::Text(label), Part::Number(number)])
 }

@@ -7,7 +7,7 @@ ghost use Rattle.csp_base.specs.Texts.{line};
 use crate::answer::{Answer, OutsideFault, Side, Verdict};
 use crate::lines::{Part, one_line, written_line};
 use crate::printed::side_name;
-use crate::refusals::{refused, text_fault_line};
+use crate::refusals::unread;
 use crate::verdicts::verdict_report;
 use csp_base::{Bytes, NoMemory};
 use std::alloc::Global;
@@ -70,10 +70,7 @@ pub fn report_of(alloc: Global, answer: &Answer) -> Result<Bytes, NoMemory>
             b"usage: dlcheck check RULE SCRIPT | show SCRIPT | table SCRIPT INDEX | trial FAMILY N | run SCRIPT SEED STEPS | livelock SCRIPT SET | conform SCRIPT SPEC",
         ),
         Answer::Outside(side, fault) => outside(alloc, *side, *fault),
-        Answer::NoProgram(side, fault) => {
-            let reason = text_fault_line(alloc, *side, fault)?;
-            refused(alloc, *side, reason.as_slice())
-        }
+        Answer::NoProgram(side, fault) => unread(alloc, *side, fault),
         Answer::Shown { text } => text.try_clone(alloc),
         Answer::Decided(program, verdict) => {
             verdict_report(alloc, program.get().content(), verdict)

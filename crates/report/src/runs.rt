@@ -21,7 +21,7 @@ fn push_move(report: &mut Bytes, content: &Content, step: &Move) -> Result<(), N
             report,
             &[
                 Part::Text(b"component "),
-                Part::Number(u64::from(*component)),
+                Part::Number(*component),
                 Part::Text(b" silent"),
             ],
         ),
@@ -47,7 +47,7 @@ fn head(alloc: Global, count: usize) -> Result<Bytes, NoMemory>
         alloc,
         &[
             Part::Text(b"run of "),
-            Part::Number(count as u64),
+            Part::Count(count as u64),
             Part::Text(b" steps"),
         ],
     )?;
@@ -55,7 +55,12 @@ fn head(alloc: Global, count: usize) -> Result<Bytes, NoMemory>
 }
 
 // The report of a run, with its last line.
-pub(crate) fn run(alloc: Global, content: &Content, moves: &[Move], last: &[u8]) -> Result<Bytes, NoMemory>
+pub(crate) fn run(
+    alloc: Global,
+    content: &Content,
+    moves: &[Move],
+    last: &[u8],
+) -> Result<Bytes, NoMemory>
     ensures { IfOk result (λ made. made ≡ run_text content.now moves.now last.now) }
 {
     let mut made = head(alloc, moves.len())?;

@@ -24,11 +24,11 @@ fn push_step(
     push_line(
         report,
         &[
-            Part::Number(node),
+            Part::Count(node),
             Part::Text(b" "),
             Part::Event(content, step.0),
             Part::Text(b" -> "),
-            Part::Number(u64::from(step.1)),
+            Part::Number(step.1),
         ],
     )
 }
@@ -45,7 +45,7 @@ fn push_offer<'a>(
     push_line(
         report,
         &[
-            Part::Number(node),
+            Part::Count(node),
             Part::Text(b" accepts "),
             Part::Set(content, set),
         ],
@@ -107,15 +107,16 @@ fn push_nodes(report: &mut Bytes, content: &Content, nodes: &[NormNode]) -> Resu
 
 // The first two lines of the report of a table.
 fn head(alloc: Global, component: u32, count: u32, nodes: usize) -> Result<Bytes, NoMemory>
-    ensures { IfOk result (λ made. made ≡ line (codes "component " ++ decimal component ++ codes " of " ++ decimal count) ++ line (codes "nodes " ++ decimal nodes)) }
+    ensures { IfOk result (λ made. made
+        ≡ line (codes "component " ++ decimal component ++ codes " of " ++ decimal count) ++ line (codes "nodes " ++ decimal nodes)) }
 {
     let mut made = written_line(
         alloc,
         &[
             Part::Text(b"component "),
-            Part::Number(u64::from(component)),
+            Part::Number(component),
             Part::Text(b" of "),
-            Part::Number(u64::from(count)),
+            Part::Number(count),
         ],
     )?;
     push_count(&mut made, b"nodes ", nodes as u64)?;

@@ -6,11 +6,11 @@ ghost use Rattle.report.specs.Report.{conforms_text, deadlock_free_text, done_te
 ghost use Rattle.report.specs.Shortfalls.{shortfall_text};
 
 use crate::answer::{Done, Shortfall, Verdict};
-use crate::lines::{Part, one_line, push_count, push_line, written};
+use crate::lines::{Part, one_line, push_count, push_line};
 use crate::printed::rule_name;
-use crate::refusals::{refusal_line, refused};
+use crate::refusals::refused;
 use crate::runs::run;
-use crate::shortfalls::shortfall_lines;
+use crate::shortfalls::push_shortfall;
 use crate::tables::table;
 use csp_base::{Bytes, NoMemory};
 use csp_program::Content;
@@ -64,18 +64,12 @@ fn livelock_free(alloc: Global, components: u32, bound: u64) -> Result<Bytes, No
 }
 
 // The report of a network that is not proved.
-fn not_proved(
-    alloc: Global,
-    content: &Content,
-    shortfall: &Shortfall,
-) -> Result<Bytes, NoMemory>
+fn not_proved(alloc: Global, content: &Content, shortfall: &Shortfall) -> Result<Bytes, NoMemory>
     ensures { IfOk result (λ made. made ≡ line (codes "not proved") ++ shortfall_text content.now shortfall.now) }
 {
-    let reason = shortfall_lines(alloc, content, shortfall)?;
-    written(
-        alloc,
-        &[Part::Text(b"not proved\n"), Part::Text(reason.as_slice())],
-    )
+    let mut made = one_line(alloc, b"not proved")?;
+    push_shortfall(&mut made, content, shortfall)?;
+    Ok(made)
 }
 
 // The report of what was done.
@@ -110,10 +104,7 @@ pub(crate) fn verdict_report(
     ensures { IfOk result (λ report. report ≡ verdict_text content.now verdict.now) }
 {
     match verdict {
-        Verdict::Refused(side, refusal) => {
-            let reason = refusal_line(alloc, content, refusal)?;
-            refused(alloc, *side, reason.as_slice())
-        }
+        Verdict::Refused(side, refusal) => refused(alloc, content, *side, refusal),
         Verdict::NotProved(shortfall) => not_proved(alloc, content, shortfall),
         Verdict::Stuck(moves) => run(alloc, content, moves.as_slice(), b"stuck"),
         Verdict::Done(what) => done(alloc, content, what),
