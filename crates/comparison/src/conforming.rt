@@ -34,11 +34,7 @@ pub(crate) fn check_components(
 }
 
 // That each part conforms to the one in its place; else the first that does not, and why.
-fn check_parts(
-    alloc: Global,
-    parts: &[Part],
-    specified: &[Part],
-) -> Result<(), (u32, ConformFault)>
+fn check_parts(alloc: Global, parts: &[Part], specified: &[Part]) -> Result<(), (u32, ConformFault)>
     requires few { length parts.now ≤ MOST_COMPONENTS }
     requires as_many { length parts.now ≡ length specified.now }
     requires form { HaveForm parts.now }
