@@ -40,9 +40,9 @@ fn check_parts(alloc: Global, parts: &[Part], specified: &[Part]) -> Result<(), 
     requires form { HaveForm parts.now }
     requires specified_form { HaveForm specified.now }
     ensures conform { OnOk result (ConformBefore parts.now specified.now (length parts.now)) }
-    ensures within { IfErr result (λ told. told.0 < length parts.now) }
-    ensures earlier { IfErr result (λ told. ConformBefore parts.now specified.now told.0) }
-    ensures fails { IfErr result (λ told. Fails (part_at parts.now told.0).table (part_at specified.now told.0).table told.1) }
+    ensures within { IfErr result (λ f. f.0 < length parts.now) }
+    ensures earlier { IfErr result (λ f. ConformBefore parts.now specified.now f.0) }
+    ensures fails { IfErr result (λ f. Fails (part_at parts.now f.0).table (part_at specified.now f.0).table f.1) }
 {
     for place in 0..parts.len() {
         if let Err(fault) = conform_part(alloc, &parts[place], &specified[place]) {
