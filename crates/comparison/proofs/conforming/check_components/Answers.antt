@@ -1,40 +1,29 @@
-use Rattle.std.proofs.Common.{ap, arith, length, ◌∙◌}
+use Rattle.std.proofs.Common.{◌≡◌, length, ap, rules, arith, sym, subst}
 use Rattle.csp_tables.specs.Network.{leaves}
-use Rattle.network_stages.specs.Networks.{Network}
-use Rattle.comparison.proofs.Components.{all_conform, are_read, both_within, first_fails, have_form, one_more}
+use Rattle.net_sound.proofs.Parts.{one_part_each}
+use Rattle.network_stages.specs.Stages.{HasParts}
+use Rattle.process_steps.specs.ComponentStep.{ProcessStep}
+use Rattle.report.specs.Stops.{Tells}
+use Rattle.comparison.proofs.Components.{all_conform, as_many, first_fails}
+use Rattle.comparison.specs.Conforming.{FailsToConform}
 use Rattle.comparison.proofs.conforming.check_components.Goals as goal
 
-pub bounds-parts-place : goal.bounds-parts-place
-bounds-parts-place c =
-    (both_within c.args.network.now.network c.args.specified.now.network _ _ c.parts-parts.ensures.are c.parts-others.ensures.are c.requires _ _ _ c.network.ensures c.seats-place-end.ensures.seats c.loop-place-test.true _ _
-    c.parts-parts.ensures.parts c.parts-others.ensures.parts).0
+pub check_parts-requires-clause-few : goal.check_parts-requires-clause-few
+check_parts-requires-clause-few c =
+    let network = c.args.network.now.network in
+    let one_each = one_part_each (ProcessStep network.program) (leaves network.tree) c.args.network.now.parts c.parts.ensures.are.are in
+    let seats : length c.seats-seats.result.now ≡ length (leaves network.tree) = search rules in
+    omega (arith, one_each, seats, c.seats-seats.ensures.few, ap length c.parts.ensures.parts)
 
-pub bounds-others-place : goal.bounds-others-place
-bounds-others-place c =
-    (both_within c.args.network.now.network c.args.specified.now.network _ _ c.parts-parts.ensures.are c.parts-others.ensures.are c.requires _ _ _ c.network.ensures c.seats-place-end.ensures.seats c.loop-place-test.true _ _
-    c.parts-parts.ensures.parts c.parts-others.ensures.parts).1
+pub check_parts-requires-clause-as_many : goal.check_parts-requires-clause-as_many
+check_parts-requires-clause-as_many c =
+    as_many c.args.network.now.network c.args.specified.now.network _ _ (search rules) (search rules) c.requires
 
-pub conform_part-requires : goal.conform_part-requires
-conform_part-requires c =
-    let read = are_read c.args.network.now.network c.args.specified.now.network _ _ c.parts-parts.ensures.are c.parts-others.ensures.are c.requires _ _ _ c.network.ensures c.seats-place-end.ensures.seats c.loop-place-test.true _ _ _ _
-    c.parts-parts.ensures.parts c.parts-others.ensures.parts c.index-parts-place.is c.index-others-place.is in
-    let form = have_form c.args.network.now.network c.args.specified.now.network _ _ c.parts-parts.ensures.are c.parts-others.ensures.are c.requires _ _ _ read c.parts-parts.ensures.form c.parts-others.ensures.form in
-    record { form = form.0; specified_form = form.1 }
+pub returns-in-Ok-clause-conform : goal.returns-in-Ok-clause-conform
+returns-in-Ok-clause-conform c = all_conform c.args.network.now.network c.args.specified.now.network c.parts.result.now c.parts-2.result.now (search rules) (search rules) c.requires c.in-Ok.ensures.conform
 
 pub returns-in-Err-clause-told : goal.returns-in-Err-clause-told
 returns-in-Err-clause-told c =
-    let read = are_read c.args.network.now.network c.args.specified.now.network _ _ c.parts-parts.ensures.are c.parts-others.ensures.are c.requires _ _ _ c.network.ensures c.seats-place-end.ensures.seats c.loop-place-test.true _ _ _ _
-    c.parts-parts.ensures.parts c.parts-others.ensures.parts c.index-parts-place.is c.index-others-place.is in
-    first_fails c.args.network.now.network c.args.specified.now.network _ _ c.parts-parts.ensures.are c.parts-others.ensures.are c.requires _ _ _ read c.loop-place.invariant c.in-Err.fault c.in-Err.ensures.fails c.failure.result c.failure.ensures
-
-pub loop-place-preserved : goal.loop-place-preserved
-loop-place-preserved c =
-    let read = are_read c.args.network.now.network c.args.specified.now.network _ _ c.parts-parts.ensures.are c.parts-others.ensures.are c.requires _ _ _ c.network.ensures c.seats-place-end.ensures.seats c.loop-place-test.true _ _ _ _
-    c.parts-parts.ensures.parts c.parts-others.ensures.parts c.index-parts-place.is c.index-others-place.is in
-    one_more c.args.network.now.network c.args.specified.now.network _ _ c.parts-parts.ensures.are c.parts-others.ensures.are c.requires _ _ _ read c.loop-place.invariant c.in_default.ensures.conforms
-
-pub returns-clause-conform : goal.returns-clause-conform
-returns-clause-conform c =
-    let end = ap length (c.seats-place-end.ensures.seats ∙ ap (λ (n : Network). leaves n.tree) c.network.ensures) in
-    all_conform c.args.network.now.network c.args.specified.now.network _ _ c.parts-parts.ensures.are c.parts-others.ensures.are c.requires c.loop-place.place
-    (omega (arith, end, c.loop-place-test.false)) c.loop-place.invariant
+    subst (Tells (FailsToConform c.args.network.now.network c.args.specified.now.network)) (sym c.failure.ensures)
+    (first_fails c.args.network.now.network c.args.specified.now.network c.parts.result.now c.parts-2.result.now (search rules) (search rules) c.requires c.in-Err.place c.in-Err.fault
+    c.in-Err.ensures.within c.in-Err.ensures.earlier c.in-Err.ensures.fails)
