@@ -82,7 +82,7 @@ none_of A B C D e a b c d =
 pub one_side : (network : Network) (i l : ℕ) → IsLinked network → i < length network.shape.parts → Asks network i l → Grants network i l → ⊥
 one_side network i l linked h a g =
     let w = linked.form in
-    let some = (w.links l a.joins.within).some in
+    let some = (w.linked.links l a.joins.within).some in
     let own = link_within network.shape i l w a.joins.within (first_end network.shape i a.server l a.joins) some.0 some.1 in
     let shared = link_shared network.shape l w a.joins.within some.0 some.1 in
     let none : sharers ((role_at network.roles i).creq ∷ (role_at network.roles i).cack ∷ (role_at network.roles i).sreq ∷ (role_at network.roles i).sack ∷ []) some.0 ≡ 0 = none_of (role_at network.roles i).creq (role_at network.roles i).cack (role_at network.roles i).sreq (role_at network.roles i).sack some.0 (g.client.no_asking some.0 some.1).0 (g.client.no_asking some.0 some.1).1 (a.client.no_service some.0 some.1).0 (a.client.no_service some.0 some.1).1 in

@@ -22,12 +22,12 @@ module _ (shape : Shape) (roles : List RoleSets) (l : ℕ) (w : IsWellFormed sha
 
   pub left_role : (i : ℕ) (role : RoleSets) → i ≡ link.left → role ≡ get_or roles i role → role ≡ role_at roles (link_at shape l).left
   left_role i role e at =
-      let two = w.links l inside in
+      let two = w.linked.links l inside in
       role_read roles (link_at shape l).left role (omega (arith, count, two.ordered, two.within)) (at ∙ ap (λ k. get_or roles k role) (e ∙ ap (λ (k : Link). k.left) there))
 
   pub right_role : (i : ℕ) (role : RoleSets) → i ≡ link.right → role ≡ get_or roles i role → role ≡ role_at roles (link_at shape l).right
   right_role i role e at =
-      let two = w.links l inside in
+      let two = w.linked.links l inside in
       role_read roles (link_at shape l).right role (omega (arith, count, two.within)) (at ∙ ap (λ k. get_or roles k role) (e ∙ ap (λ (k : Link). k.right) there))
 
 -- what a test of three values says of the values that they were read from

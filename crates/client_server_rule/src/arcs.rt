@@ -1,6 +1,6 @@
 //! The longest walks from clients to servers, or a circle of clients.
 
-ghost use Rattle.std.specs.Prelude.{◌≡◌, ◌<◌, ◌⊎◌, ℕ, All, IfErr, IfOk, OnOk, length};
+ghost use Rattle.std.specs.Prelude.{◌≡◌, ◌<◌, ◌⊎◌, ℕ, List, All, IfErr, IfOk, OnOk, length};
 ghost use Rattle.design_rules.specs.ClientServer.{KeepRoles, Serves};
 ghost use Rattle.digraph.specs.Circle.{HasNoCircle};
 ghost use Rattle.digraph.specs.Digraph.{HasArc};
@@ -13,7 +13,6 @@ use containers::Items;
 use csp_base::NoMemory;
 use design_rules::RuleFault;
 use digraph::{Fault, Heights, Rows, longest_walks};
-use shape_links::circle_fault;
 use std::alloc::Global;
 
 // For each part the greatest number of arcs in a walk from it to servers.
@@ -28,9 +27,19 @@ pub(crate) fn heights(alloc: Global, network: &Network<'_>) -> Result<Heights, R
     match longest_walks(alloc, &rows) {
         Ok(heights) => Ok(heights),
         Err(Fault::Circle(circle)) => {
-            Err(circle_fault(Items::from_slice(alloc, circle.members())))
+            Err(clients_circle(Items::from_slice(alloc, circle.members())))
         }
         Err(Fault::NoMemory) => Err(RuleFault::NoMemory),
+    }
+}
+
+// The fault that tells a circle of clients, or that memory ran out.
+fn clients_circle(clients: Result<Items<u32>, NoMemory>) -> RuleFault
+    ensures { (circle : List ℕ) → IfOk clients (λ made. made ≡ circle) → (result ≡ RuleFault.NoMemory) ⊎ (result ≡ RuleFault.ClientsCircle circle) }
+{
+    match clients {
+        Ok(clients) => RuleFault::ClientsCircle { clients },
+        Err(_) => RuleFault::NoMemory,
     }
 }
 

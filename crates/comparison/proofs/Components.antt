@@ -1,7 +1,6 @@
 -- From the parts of two networks to their components: which conform, and which is the first that does not.
-use Rattle.std.proofs.Common.{◌≡◌, ℕ, suc, ◌<◌, ◌+◌, inl, inr, List, [], ◌∷◌, get_or, length, Some, refl, sym, ap, subst, ◌∙◌, arith}
+use Rattle.std.proofs.Common.{◌≡◌, ℕ, suc, ◌<◌, inl, inr, List, [], ◌∷◌, get_or, length, Some, refl, sym, ap, subst, ◌∙◌, arith}
 use Rattle.std.specs.Prelude.{slice_get}
-use Rattle.std.proofs.lemmas.Bool.{cases_lt}
 use Rattle.std.proofs.lemmas.List.{get_or_read}
 use Rattle.std.proofs.lemmas.Option.{same_Some, slice_get_within}
 use Rattle.conformance.specs.Conforming.{TableConforms}
@@ -11,10 +10,12 @@ use Rattle.conformance.specs.declared.fault.ConformFault.TheVariants as fault
 use Rattle.conformance.proofs.Telling.{tables_tell}
 use Rattle.csp_program.specs.declared.processes.Proc.{Proc}
 use Rattle.csp_program.specs.declared.programs.Content.{Content}
+use Rattle.csp_tables.specs.Form.{HasForm, HaveForm}
 use Rattle.csp_tables.specs.Network.{Component, leaves}
 use Rattle.csp_tables.specs.Part.{Part, part_at}
 use Rattle.csp_tables.specs.ShapeOf.{IsPartOf}
-use Rattle.net_sound.proofs.Parts.{component_of, one_part_each, part_of}
+use Rattle.net_sound.proofs.Parts.{component_of, one_part_each, part_of, part_within}
+use Rattle.net_sound.proofs.Within.{part_form}
 use Rattle.network_layout.specs.Triple.{alphabets}
 use Rattle.network_stages.specs.Networks.{HasSilentBound, IsLive, IsSpelled, Network}
 use Rattle.network_stages.specs.Stages.{HasParts}
@@ -44,46 +45,41 @@ fault_told network specified n c d p q part other stands (fault.Outside s) fails
 fault_told network specified n c d p q part other stands (fault.Refuses s) fails =
     (n, c, d, s, stands, inr ((tables_tell (ProcessStep network.program) (ProcessStep specified.program)).refuses c d p q s part other fails, refl))
 
--- the part in place n, as it is read from a list
-pub part_read : (ps items : List Part) (n : ℕ) (p : Part) → items ≡ ps → n < length ps → p ≡ get_or items n p → part_at ps n ≡ p
-part_read ps items n p is within at = sym (get_or_read ps n p within (at ∙ ap (λ (qs : List Part). get_or qs n p) is) (record { alphabet = []; table = [] }))
+-- a part that is read from parts that have the form of tables
+pub form_read : (ps : List Part) (n : ℕ) (p : Part) → HaveForm ps → n < length ps → p ≡ get_or ps n p → HasForm p
+form_read ps n p form within at = subst HasForm (sym (get_or_read ps n p within at (record { alphabet = []; table = [] }))) (part_form ps n within form)
 
 module _ (network specified : Network) (ps qs : List Part) (has : HasParts network ps) (others : HasParts specified qs)
     (same : alphabets (leaves network.tree) ≡ alphabets (leaves specified.tree)) where
-  pub as_many : (length ps ≡ length (leaves network.tree)) × (length qs ≡ length (leaves network.tree))
+  pub as_many : length ps ≡ length qs
   as_many =
       let a = one_part_each (ProcessStep network.program) (leaves network.tree) ps has.are in
       let b = one_part_each (ProcessStep specified.program) (leaves specified.tree) qs others.are in
       let c : length (alphabets (leaves network.tree)) ≡ length (alphabets (leaves specified.tree)) = ap length same in
-      (sym a, omega (arith, b, c, as_many_alphabets (leaves network.tree), as_many_alphabets (leaves specified.tree)))
+      omega (arith, a, b, c, as_many_alphabets (leaves network.tree), as_many_alphabets (leaves specified.tree))
 
-  pub all_conform : ConformBefore network specified (length (leaves network.tree)) → ComponentsConform network specified
-  all_conform before =
-      each_conforms network.program specified.program (leaves network.tree) (leaves specified.tree) same (λ k c d here there. before k c d (slice_get_within (leaves network.tree) k c here) here there)
+  one_conforms : (i : ℕ) (c d : Component Proc) → slice_get (leaves network.tree) i ≡ Some c → slice_get (leaves specified.tree) i ≡ Some d → TableConforms (part_at ps i).table (part_at qs i).table
+      → Conforms (ProcessStep network.program) (ProcessStep specified.program) c d
+  one_conforms i c d here there conforms =
+      let alphabet = same_Some c.alphabet d.alphabet (sym (alphabet_there (leaves network.tree) i c here) ∙ ap (λ (as' : List (List ℕ)). slice_get as' i) same ∙ alphabet_there (leaves specified.tree) i d there) in
+      (tables_tell (ProcessStep network.program) (ProcessStep specified.program)).conforms c d (part_at ps i) (part_at qs i)
+      (part_of (ProcessStep network.program) (leaves network.tree) ps has.are i c here) (part_of (ProcessStep specified.program) (leaves specified.tree) qs others.are i d there) alphabet conforms
 
-  -- the parts p and q in place n
-  module _ (n : ℕ) (p q : Part) (read : part_at ps n ≡ p) (other_read : part_at qs n ≡ q) (before : ConformBefore network specified n) where
-    -- where they conform as well, so do the components
-    pub one_more : TableConforms p.table q.table → ConformBefore network specified (n + 1)
-    one_more conforms i c d less here there = elim (cases_lt i n) [
-      | inl earlier ↦ before i c d earlier here there
-      | inr later ↦
-        let is : i ≡ n = omega (arith, less, later) in
-        let alphabet = same_Some c.alphabet d.alphabet (sym (alphabet_there (leaves network.tree) i c here) ∙ ap (λ (as' : List (List ℕ)). slice_get as' i) same ∙ alphabet_there (leaves specified.tree) i d there) in
-        (tables_tell (ProcessStep network.program) (ProcessStep specified.program)).conforms c d p q
-        (subst (IsPartOf (ProcessStep network.program) c) (ap (part_at ps) is ∙ read) (part_of (ProcessStep network.program) (leaves network.tree) ps has.are i c here))
-        (subst (IsPartOf (ProcessStep specified.program) d) (ap (part_at qs) is ∙ other_read) (part_of (ProcessStep specified.program) (leaves specified.tree) qs others.are i d there))
-        alphabet conforms
-    ]
+  pub all_conform : ConformBefore ps qs (length ps) → ComponentsConform network specified
+  all_conform conform =
+      each_conforms network.program specified.program (leaves network.tree) (leaves specified.tree) same
+      (λ i c d here there. one_conforms i c d here there (conform i (part_within (ProcessStep network.program) (leaves network.tree) ps has.are i c here)))
 
-    -- where they do not, they are those of the first component that does not
-    pub first_fails : n < length (leaves network.tree) → (f : ConformFault) → Fails p.table q.table f → Tells (FailsToConform network specified) (failure n f)
-    first_fails within f fails =
-        let here = component_of (ProcessStep network.program) (leaves network.tree) ps has.are n (omega (arith, within, as_many.0)) in
-        let there = component_of (ProcessStep specified.program) (leaves specified.tree) qs others.are n (omega (arith, within, as_many.1)) in
-        let stands : StandsFirst network specified n here.component there.component = record { here = here.listed; there = there.listed; earlier = before } in
-        fault_told network specified n here.component there.component p q (subst (IsPartOf (ProcessStep network.program) here.component) read here.part)
-        (subst (IsPartOf (ProcessStep specified.program) there.component) other_read there.part) stands f fails
+  -- the first part that does not conform is that of the first component
+  pub first_fails : (n : ℕ) (f : ConformFault) → n < length ps → ConformBefore ps qs n → Fails (part_at ps n).table (part_at qs n).table f → Tells (FailsToConform network specified) (failure n f)
+  first_fails n f within before fails =
+      let here = component_of (ProcessStep network.program) (leaves network.tree) ps has.are n within in
+      let there = component_of (ProcessStep specified.program) (leaves specified.tree) qs others.are n (omega (arith, within, as_many)) in
+      fault_told network specified n here.component there.component (part_at ps n) (part_at qs n) here.part there.part (record {
+        here = here.listed;
+        there = there.listed;
+        earlier = λ i c d less at other. one_conforms i c d at other (before i less);
+      }) f fails
 
 -- what a network inherits whose components conform
 pub inherits : (network specified : Network) → IsSpelled network → IsSpelled specified → (ps : List Part) → HasParts network ps → ComponentsConform network specified → (bound : ℕ)

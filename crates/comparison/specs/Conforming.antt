@@ -2,6 +2,8 @@
 use Rattle.std.specs.Prelude.{◌≡◌, ◌<◌, ◌⊎◌, ℕ, List, Some, slice_get}
 use Rattle.csp_program.specs.declared.processes.Proc.{Proc}
 use Rattle.csp_tables.specs.Network.{Component, leaves}
+use Rattle.csp_tables.specs.Part.{Part, part_at}
+use Rattle.conformance.specs.Conforming.{TableConforms}
 use Rattle.conformance.specs.Failing.{GoesOutside, RefusesTooMuch}
 use Rattle.conformance.specs.declared.fault.ConformFault.{ConformFault}
 use Rattle.conformance.specs.declared.fault.ConformFault.TheVariants as fault
@@ -14,17 +16,12 @@ use Rattle.report.specs.declared.stop.Stop.{Stop}
 use Rattle.report.specs.declared.stop.Stop.TheVariants as stop
 
 module _ (network specified : Network) where
-  -- each component before the place n conforms to the one in its place
-  abbrev pub ConformBefore : ℕ → Type 0
-  ConformBefore n =
-      (i : ℕ) (c d : Component Proc) → i < n → slice_get (leaves network.tree) i ≡ Some c → slice_get (leaves specified.tree) i ≡ Some d
-      → Conforms (ProcessStep network.program) (ProcessStep specified.program) c d
-
   -- c and d are the components with the number i, and each earlier one conforms
   pub record StandsFirst (i : ℕ) (c d : Component Proc) : Type 0 where
     pub here : slice_get (leaves network.tree) i ≡ Some c
     pub there : slice_get (leaves specified.tree) i ≡ Some d
-    pub earlier : ConformBefore i
+    pub earlier : (j : ℕ) (a b : Component Proc) → j < i → slice_get (leaves network.tree) j ≡ Some a → slice_get (leaves specified.tree) j ≡ Some b
+        → Conforms (ProcessStep network.program) (ProcessStep specified.program) a b
 
   -- after these events the component with the number i does what its specification does not, or refuses too much
   abbrev pub IsFault : ℕ → Component Proc → Component Proc → List ℕ → Shortfall → Type 0
@@ -40,7 +37,13 @@ module _ (network specified : Network) where
   abbrev pub ComponentsConform : Type 0
   ComponentsConform = AllConform (ProcessStep network.program) (ProcessStep specified.program) (leaves network.tree) (leaves specified.tree)
 
--- how the fault of the component with the number i is told (for a private contract)
+-- The rest is for private contracts.
+
+-- each part before the place n conforms to the one in its place
+abbrev pub ConformBefore : List Part → List Part → ℕ → Type 0
+ConformBefore ps qs n = (i : ℕ) → i < n → TableConforms (part_at ps i).table (part_at qs i).table
+
+-- how the fault of the component with the number i is told
 abbrev pub failure : ℕ → ConformFault → Stop Shortfall
 failure i fault.NoMemory = stop.NoMemory
 failure i (fault.Outside trace) = stop.Told (shortfall.Outside i trace)

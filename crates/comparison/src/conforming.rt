@@ -1,12 +1,17 @@
 //! Whether each component of a network conforms to the one in its place.
 
-ghost use Rattle.std.specs.Prelude.{◌≡◌, IfErr, OnOk};
+ghost use Rattle.std.specs.Prelude.{◌≡◌, ◌≤◌, ◌<◌, IfErr, OnOk, length};
+ghost use Rattle.dl_limits.specs.declared.TheConstants.{MOST_COMPONENTS};
+ghost use Rattle.conformance.specs.Told.{Fails};
+ghost use Rattle.csp_tables.specs.Form.{HaveForm};
 ghost use Rattle.csp_tables.specs.Network.{leaves};
+ghost use Rattle.csp_tables.specs.Part.{part_at};
 ghost use Rattle.network_layout.specs.Triple.{alphabets};
 ghost use Rattle.report.specs.Stops.{Tells};
-ghost use Rattle.comparison.specs.Conforming.{ComponentsConform, FailsToConform, failure};
+ghost use Rattle.comparison.specs.Conforming.{ComponentsConform, ConformBefore, FailsToConform, failure};
 
 use conformance::{ConformFault, conform_part};
+use csp_tables::Part;
 use network_stages::Parted;
 use report::{Shortfall, Stop};
 use std::alloc::Global;
@@ -21,11 +26,27 @@ pub(crate) fn check_components(
     ensures conform { OnOk result (ComponentsConform network.now.network specified.now.network) }
     ensures told { IfErr result (Tells (FailsToConform network.now.network specified.now.network)) }
 {
-    let parts = network.parts();
-    let others = specified.parts();
-    for place in 0..network.network().seats().len() {
-        if let Err(fault) = conform_part(alloc, &parts[place], &others[place]) {
-            return Err(failure(place as u32, fault));
+    let _seats = network.network().seats();
+    match check_parts(alloc, network.parts(), specified.parts()) {
+        Ok(()) => Ok(()),
+        Err((place, fault)) => Err(failure(place, fault)),
+    }
+}
+
+// That each part conforms to the one in its place; else the first that does not, and why.
+fn check_parts(alloc: Global, parts: &[Part], specified: &[Part]) -> Result<(), (u32, ConformFault)>
+    requires few { length parts.now ≤ MOST_COMPONENTS }
+    requires as_many { length parts.now ≡ length specified.now }
+    requires form { HaveForm parts.now }
+    requires specified_form { HaveForm specified.now }
+    ensures conform { OnOk result (ConformBefore parts.now specified.now (length parts.now)) }
+    ensures within { IfErr result (λ f. f.0 < length parts.now) }
+    ensures earlier { IfErr result (λ f. ConformBefore parts.now specified.now f.0) }
+    ensures fails { IfErr result (λ f. Fails (part_at parts.now f.0).table (part_at specified.now f.0).table f.1) }
+{
+    for place in 0..parts.len() {
+        if let Err(fault) = conform_part(alloc, &parts[place], &specified[place]) {
+            return Err((place as u32, fault));
         }
     }
     Ok(())

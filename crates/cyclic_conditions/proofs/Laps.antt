@@ -13,13 +13,14 @@ use Rattle.csp_tables.specs.Part.{part_at, alphabets_of, TripleDisjoint}
 use Rattle.csp_tables.specs.Shape.{Shape, LinksAreOrdered, is_end, IsWellFormed}
 use Rattle.net_sound.proofs.Within.{part_form}
 use Rattle.design_rules.specs.Counts.{count_in, count_below}
-use Rattle.design_rules.specs.Cyclic.{links_of, ReachesLink, place_after, Clash, BreaksOrder, KeepsPlaces}
+use Rattle.design_rules.specs.CyclicFaults.{BreaksOrder, Clash}
+use Rattle.design_rules.specs.Cyclic.{links_of, ReachesLink, place_after, KeepsPlaces}
 use Rattle.design_rules.proofs.Counts.{count_more, count_same, count_at_most}
 use Rattle.design_rules.proofs.Runs.{possible_within, end_within}
 use Rattle.cyclic_conditions.specs.Told.{IsBrokenOrder}
 use Rattle.design_rules.specs.Rules.{BreaksCyclic}
 use Rattle.design_rules.specs.declared.rule_fault.RuleFault.{RuleFault}
-use Rattle.design_rules.specs.declared.rule_fault.RuleFault.TheVariants.{NoMemory, NoOrder, NoWholeEnd, Broken, Circle}
+use Rattle.design_rules.specs.declared.rule_fault.RuleFault.TheVariants.{NoMemory, NoOrder}
 use Rattle.design_rules.proofs.Places.{Keeping, IsAt, earlier, some_links, first_lap}
 use Rattle.observed_runs.specs.Observed.{observed, LeadsTo, pair_at}
 use Rattle.observed_runs.specs.Exploration.{IsExploration}
@@ -131,13 +132,12 @@ module _ (shape : Shape) (i : ℕ) (pairs : List (ℕ × ℕ)) (firsts : List (O
       sym y.link ∙ (ap (λ (f : Fact). f.link) same ∙ z.link)
 
   pub keeps : KeepsPlaces shape i
-  keeps s e b =
-      let here = kept b.link s e b.reaches in
-      let there = kept b.other_link b.other_run b.other_event b.other_reaches in
-      elim b.clash [
-        | inl c ↦ c.0 (same_kept (place_after shape s % links_of shape i) b.link b.other_link here (subst (λ q. HasFirst firsts q b.other_link) (sym c.1) there))
-        | inr c ↦ c.1 (a.apart (place_after shape s % links_of shape i) (place_after shape b.other_run % links_of shape i) b.other_link (subst (HasFirst firsts (place_after shape s % links_of shape i)) c.0 here) there)
-      ]
+  keeps l m s t e f p r =
+      let here = kept l s e p in
+      let there = kept m t f r in (
+        λ same. a.apart (place_after shape s % links_of shape i) (place_after shape t % links_of shape i) m (subst (HasFirst firsts (place_after shape s % links_of shape i)) same here) there,
+        λ place. same_kept (place_after shape s % links_of shape i) l m here (subst (λ q. HasFirst firsts q m) (sym place) there),
+      )
 
   keeping : Keeping shape i
   keeping = record { form = x.form; keeps = keeps }
@@ -195,7 +195,7 @@ length-ends shape i (suc n) =
 
 -- a part without links
 pub keeps_none : (shape : Shape) (i : ℕ) → links_of shape i ≡ 0 → KeepsPlaces shape i
-keeps_none shape i none s e b = let some : 0 < links_of shape i = some_links shape i b.link b.reaches.on.within b.reaches.on.end in omega arith
+keeps_none shape i none l m s t e f a b = let some : 0 < links_of shape i = some_links shape i l a.on.within a.on.end in absurd (omega arith)
 
 pub order_none : (shape : Shape) (i : ℕ) → links_of shape i ≡ 0 → IsOrder shape i []
 order_none shape i none = record {
@@ -220,9 +220,7 @@ pair_place shape i pairs k x h = let r = x.explored.reached k h in place_below s
 pub breaks_there : (shape : Shape) (i : ℕ) (fault : RuleFault) → ((j : ℕ) → j < i → KeepsPlaces shape j) → IsBrokenOrder shape i fault → BreaksCyclic shape fault
 breaks_there shape i NoMemory keep b = tt
 breaks_there shape i (NoOrder part trace event) keep b = record { breaks = subst (λ j. BreaksOrder shape j trace event) (sym b.0) b.1; first = λ j h. keep j (let is : part ≡ i = b.0 in omega arith) }
-breaks_there shape i (NoWholeEnd link left right) keep b = absurd b
-breaks_there shape i (Broken condition part trace) keep b = absurd b
-breaks_there shape i (Circle links) keep b = absurd b
+breaks_there shape i _ keep b = absurd b
 
 -- one more order
 pub orders_more : (shape : Shape) (n : ℕ) (orders : List (List ℕ)) (order : List ℕ) (more : List (List ℕ)) → length orders ≡ n → ((i : ℕ) → i < n → IsOrder shape i (order_at orders i)) → IsOrder shape n order → more ≡ orders ++ order ∷ [] → (length more ≡ n + 1) × ((i : ℕ) → i < n + 1 → IsOrder shape i (order_at more i))

@@ -126,13 +126,19 @@ fn told(
 {
     let _form = prepared.shape();
     let ends = prepared.link(link);
-    let Ok(left) = run_to_node(alloc, prepared.component(ends.left()), left_node) else {
+    let (left, right) = (ends.left(), ends.right());
+    let Ok(left_trace) = run_to_node(alloc, prepared.component(left), left_node) else {
         return RuleFault::NoMemory;
     };
-    let Ok(right) = run_to_node(alloc, prepared.component(ends.right()), right_node) else {
+    let Ok(right_trace) = run_to_node(alloc, prepared.component(right), right_node) else {
         return RuleFault::NoMemory;
     };
-    RuleFault::NoWholeEnd { link, left, right }
+    RuleFault::NoWholeEnd {
+        left,
+        right,
+        left_trace,
+        right_trace,
+    }
 }
 
 // Marks for each link the ends that fall short, each with a node where it does.

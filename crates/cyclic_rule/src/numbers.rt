@@ -9,11 +9,12 @@ ghost use Rattle.cyclic_rule.specs.Chains.{IsNextAt, IsNextIn, IsRestAfter};
 ghost use Rattle.cyclic_conditions.specs.Orders.{AreOrders};
 ghost use Rattle.design_rules.specs.Rules.{BreaksCyclic};
 
+use crate::ends::{links_circle, turned_ends};
 use containers::Items;
 use csp_base::NoMemory;
 use design_rules::RuleFault;
 use digraph::{Fault, Heights, Rows, longest_walks};
-use shape_links::{SortedShape, circle_fault, turned};
+use shape_links::SortedShape;
 use std::alloc::Global;
 
 // For each link the greatest number of links that must come before it in a chain.
@@ -29,11 +30,14 @@ pub(crate) fn numbers(
     ensures rise { IfOk result (λ numbers. NumbersRise prepared.now (slice_index numbers)) }
     ensures fault { IfErr result (λ fault. BreaksCyclic prepared.now fault) }
 {
-    let _form = prepared.shape();
+    let form = prepared.shape();
     let rows = chains(alloc, prepared, orders)?;
     match longest_walks(alloc, &rows) {
         Ok(heights) => Ok(heights),
-        Err(Fault::Circle(circle)) => Err(circle_fault(turned(alloc, circle.members()))),
+        Err(Fault::Circle(circle)) => {
+            let links = turned_ends(alloc, form, circle.members());
+            Err(links_circle(links))
+        }
         Err(Fault::NoMemory) => Err(RuleFault::NoMemory),
     }
 }

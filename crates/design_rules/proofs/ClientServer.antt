@@ -20,7 +20,7 @@ use Rattle.design_rules.proofs.Walks.{Graph, falls, height_below}
 use Rattle.design_rules.proofs.Shapes.{turned, first_end, link_events, own_run, own_end, Side, Request, request}
 use Rattle.design_rules.proofs.Accepting.{at_place}
 
-meet_or_apart : (M N : List ℕ) → Meet M N ⊎ AreApart M N
+pub meet_or_apart : (M N : List ℕ) → Meet M N ⊎ AreApart M N
 meet_or_apart M N =
     elim (search_list (λ e. has N e ≡ true) (λ e. has N e ≡ false) (λ e. cases_Bool (has N e)) M) [
       | inl found ↦ inl (record { event = found.0; first = found.1; second = found.2 })
@@ -30,7 +30,7 @@ meet_or_apart M N =
 -- an arc's server is a part
 server_within : (shape : Shape) (roles : List RoleSets) → IsWellFormed shape → (i j : ℕ) → Serves shape roles i j → j < length shape.parts
 server_within shape roles w i j a =
-    let t = w.links a.link a.joins.within in
+    let t = w.linked.links a.link a.joins.within in
     let order : (link_at shape a.link).left < (link_at shape a.link).right = t.ordered in
     let inside : (link_at shape a.link).right < length shape.parts = t.within in
     elim a.joins.ends [
@@ -38,7 +38,7 @@ server_within shape roles w i j a =
       | inr e ↦ let f : (link_at shape a.link).left ≡ j = e.0 in omega arith
     ]
 
-graph : (shape : Shape) (roles : List RoleSets) (ranking : Ranking) → IsWellFormed shape → (r : IsClientServerRanking shape roles ranking) → Graph (Serves shape roles) r.height (length shape.parts)
+pub graph : (shape : Shape) (roles : List RoleSets) (ranking : Ranking) → IsWellFormed shape → (r : IsClientServerRanking shape roles ranking) → Graph (Serves shape roles) r.height (length shape.parts)
 graph shape roles ranking w r = record { within = server_within shape roles w; longest = r.heights }
 
 -- the rank of one side: twice the number of parts less the height, or the height

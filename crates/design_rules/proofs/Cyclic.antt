@@ -13,8 +13,9 @@ use Rattle.csp_tables.specs.Trace.{IsWithin}
 use Rattle.csp_tables.specs.Shape.{Shape, Joins, link_at, is_end, IsWellFormed}
 use Rattle.csp_tables.specs.Standing.{RunsTo, IsPossible, Accepts, accepted, IsOn}
 use Rattle.design_rules.specs.Cyclic.{links_of, IsWholeEnd, HasWholeEnd, place_after}
-use Rattle.design_rules.specs.CyclicNumbered.{IsNext, KeepsOrder, ReachedLinksDiffer}
-use Rattle.design_rules.specs.CyclicRanking.{place_of, AreCyclicRanks, ends_lap}
+use Rattle.design_rules.specs.ByTables.{by_tables}
+use Rattle.design_rules.specs.CyclicNumbered.{place_of, IsNext, KeepsOrder, ReachedLinksDiffer}
+use Rattle.design_rules.specs.CyclicRanking.{AreCyclicRanks, ends_lap}
 use Rattle.csp_tables.specs.Ranking.{Ranking, part_ranks, rank_after, laps_from}
 use Rattle.csp_tables.specs.Falls.{lead, Falls}
 use Rattle.net_sound.proofs.Within.{part_form}
@@ -116,8 +117,8 @@ balanced_none k p below =
 -- what is used of the rule
 pub record Ordered (shape : Shape) (number : ℕ → ℕ) : Type 0 where
   pub form : IsWellFormed shape
-  pub differ : ReachedLinksDiffer shape number
-  pub order : KeepsOrder shape number
+  pub differ : ReachedLinksDiffer shape (by_tables shape) number
+  pub order : KeepsOrder shape (by_tables shape) number
   pub whole : (l : ℕ) → l < length shape.links → HasWholeEnd shape l
 
 possible_at : (shape : Shape) (i : ℕ) (u : List ℕ) (e : ℕ) → i < length shape.parts → IsRun (part_at shape.parts i).table u → IsTrue (possible_after (part_at shape.parts i).table u e) → IsPossible shape i u e

@@ -6,15 +6,18 @@ use Rattle.std.specs.Ordering.{int_eq}
 use Rattle.csp_base.specs.Members.{has}
 use Rattle.csp_tables.specs.Table.{end_of}
 use Rattle.csp_tables.specs.Part.{part_at}
+use Rattle.csp_tables.specs.Trace.{IsWithin}
 use Rattle.csp_tables.specs.Shape.{Shape, link_at, is_end, acceptance_at}
 use Rattle.csp_tables.specs.Standing.{RunsTo}
 use Rattle.csp_tables.specs.Ranking.{Ranking, part_ranks, rank_at}
 use Rattle.design_rules.specs.Counts.{above_all}
 use Rattle.design_rules.specs.Vertices.{lap_at}
 use Rattle.design_rules.specs.Cyclic.{links_of, place_after}
-use Rattle.design_rules.specs.CyclicNumbered.{KeepsOrder, IsFullEnd, IsNumberedCyclic}
-use Rattle.design_rules.specs.CyclicRanking.{place_of, ends_lap, AreCyclicRanks}
+use Rattle.design_rules.specs.ByTables.{by_tables}
+use Rattle.design_rules.specs.CyclicNumbered.{place_of, KeepsOrder, IsFullEnd, IsNumberedCyclic}
+use Rattle.design_rules.specs.CyclicRanking.{ends_lap, AreCyclicRanks}
 use Rattle.design_rules.proofs.Counts.{count_push_more, count_push_same}
+use Rattle.design_rules.proofs.Accepting.{each_set}
 use Rattle.design_rules.proofs.Checks.{implies, implied, all_below, below_passes, all_in, member_passes, all_steps, step_passes, all_accepted, accepted_passes, observed}
 use Rattle.design_rules.proofs.RankCheck.{parts_fit, fits_is, ranks_equal, all_vertices, vertex_passes, others_zero, others_zero_is, lap_passes, no_hidden_laps, no_hidden_laps_is}
 
@@ -57,19 +60,22 @@ place_told shape number told c i s runs =
               ∙ sym (cond-false (has shape.vocabulary e) ((place_after shape u % links_of shape i + 1) % links_of shape i) (place_after shape u % links_of shape i) hidden)
         ]
 
-pub keeps_order : (shape : Shape) (number : ℕ → ℕ) (told : ℕ → ℕ → ℕ) → IsTestedCyclic shape number told → KeepsOrder shape number
+pub keeps_order : (shape : Shape) (number : ℕ → ℕ) (told : ℕ → ℕ → ℕ) → IsTestedCyclic shape number told → KeepsOrder shape (by_tables shape) number
 keeps_order shape number told c i l s e possible on =
     let own : on_own shape i l e ≡ true = and_from _ _ on.end on.event in
     eqb-true _ _ (implied _ _ (step_passes _ (part_at shape.parts i).table (end_of (part_at shape.parts i).table 0 s) e (below_passes _ (length shape.links) l (below_passes _ (length shape.parts) i c.order possible.runs.part) on.within) possible.next) own)
     ∙ sym (place_told shape number told c i s possible.runs)
 
-pub full_end : (shape : Shape) (number : ℕ → ℕ) (told : ℕ → ℕ → ℕ) → IsTestedCyclic shape number told → (l i : ℕ) → full_test shape number told l i ≡ true → IsFullEnd shape number l i
-full_end shape number told c l i h s k a next e on =
+pub full_end : (shape : Shape) (number : ℕ → ℕ) (told : ℕ → ℕ → ℕ) → IsTestedCyclic shape number told → (l i : ℕ) → full_test shape number told l i ≡ true → IsFullEnd shape (by_tables shape) number l i
+full_end shape number told c l i h s M a next =
+    each_set shape i s (IsWithin (link_at shape l).shared)
+    (λ k at e on.
     member_passes _ (link_at shape l).shared e
-    (implied _ _ (accepted_passes _ (part_at shape.parts i).table (end_of (part_at shape.parts i).table 0 s) k h a.listed) (eq-eqb _ _ (next ∙ place_told shape number told c i s a.runs)))
-    on
+    (implied _ _ (accepted_passes _ (part_at shape.parts i).table (end_of (part_at shape.parts i).table 0 s) k h at.listed) (eq-eqb _ _ (next ∙ place_told shape number told c i s at.runs)))
+    on)
+    M a
 
-abbrev pub numbered_cyclic : (shape : Shape) (number : ℕ → ℕ) (told : ℕ → ℕ → ℕ) → IsTestedCyclic shape number told → IsNumberedCyclic shape
+abbrev pub numbered_cyclic : (shape : Shape) (number : ℕ → ℕ) (told : ℕ → ℕ → ℕ) → IsTestedCyclic shape number told → IsNumberedCyclic shape (by_tables shape)
 numbered_cyclic shape number told c = record {
   number = number;
   differ = λ i l m _ _ _ _ ne same. ne (c.apart l m same);

@@ -8,11 +8,14 @@ use Rattle.digraph.specs.Walk.{Walk}
 use Rattle.csp_tables.specs.Table.{end_of}
 use Rattle.csp_tables.specs.Part.{part_at, Meet}
 use Rattle.csp_tables.specs.Shape.{Shape, is_end, link_at, IsWellFormed}
-use Rattle.csp_tables.specs.Standing.{IsPossible, accepted, IsBusyShape}
+use Rattle.csp_tables.specs.Standing.{IsPossible, Accepts, accepted, IsBusyShape}
+use Rattle.csp_tables.specs.Trace.{IsWithin}
 use Rattle.design_rules.specs.Cyclic.{KeepsPlaces, links_of, ReachesLink, place_after, AllKeepPlaces, NumbersRise, IsWholeEnd, HasWholeEnd, IsCyclic}
-use Rattle.design_rules.specs.CyclicNumbered.{LinksDiffer, KeepsOrder, IsFullEnd, HasFullEnds, HasOrder, IsNumberedCyclic}
-use Rattle.design_rules.specs.CyclicRanking.{place_of, AreChainNumbers, ComesAfter}
+use Rattle.design_rules.specs.ByTables.{by_tables}
+use Rattle.design_rules.specs.CyclicNumbered.{place_of, IsNext, LinksDiffer, KeepsOrder, IsFullEnd, HasFullEnds, HasOrder, IsNumberedCyclic}
+use Rattle.design_rules.specs.CyclicRanking.{AreChainNumbers, ComesAfter}
 use Rattle.design_rules.specs.CyclicLaws.{CyclicRanksFall, NumberedRanksFall, ReachedRanksFall, IsRuleByNumbers}
+use Rattle.design_rules.proofs.Accepting.{each_set}
 use Rattle.design_rules.proofs.Cyclic.{place_below, places_differ, earlier_place, Ordered, next_link, whole_has, ordered_ranks_fall}
 use Rattle.design_rules.proofs.Places.{Keeping, earlier, place_is, reached_differ}
 
@@ -43,8 +46,6 @@ chains_rise shape number chains l m before =
 pub cyclic_ranks_fall : CyclicRanksFall
 cyclic_ranks_fall shape ranking w rule r = ordered_ranks_fall shape r.number ranking (ordered shape r.number w rule.order (chains_rise shape r.number r.numbers) rule.whole) r.ranks
 
--- ---- faults
-
 -- ---- from the rule to numbers
 
 -- numbers that rise, made apart by the places of the links
@@ -71,8 +72,8 @@ right_end : (shape : Shape) (l : ℕ) → IsTrue (is_end shape (link_at shape l)
 right_end shape l = or_right (nat_eq (link_at shape l).left (link_at shape l).right) (nat_eq (link_at shape l).right (link_at shape l).right) (eq-eqb (link_at shape l).right (link_at shape l).right refl)
 
 -- where the link is next, an acceptance in the vocabulary meets it, so a whole end accepts all of it
-full : (shape : Shape) (number : ℕ → ℕ) (l i : ℕ) → IsBusyShape shape → Ordered shape number → LinksDiffer shape number → l < length shape.links → IsTrue (is_end shape i l) → IsWholeEnd shape l i → IsFullEnd shape number l i
-full shape number l i busy o differ h end whole s k a next =
+full_at : (shape : Shape) (number : ℕ → ℕ) (l i : ℕ) → IsBusyShape shape → Ordered shape number → LinksDiffer shape number → l < length shape.links → IsTrue (is_end shape i l) → IsWholeEnd shape l i → (s : List ℕ) (k : ℕ) → Accepts shape i s k → IsNext shape number i s l → IsWithin (link_at shape l).shared (accepted shape i s k)
+full_at shape number l i busy o differ h end whole s k a next =
     let f = busy i s k a.runs a.listed in
     let possible : IsPossible shape i s f.0 = record { runs = a.runs; next = o.form.possible i (end_of (part_at shape.parts i).table 0 s) k f.0 a.runs.part f.1 } in
     let x = next_link shape number i s f.0 o possible (a.shared f.0 f.1) in
@@ -83,7 +84,10 @@ full shape number l i busy o differ h end whole s k a next =
     ] in
     whole_has shape l i s k whole a (record { event = f.0; first = f.1; second = subst (λ m. IsTrue (has (link_at shape m).shared f.0)) same x.1.event })
 
-sound : (shape : Shape) → IsWellFormed shape → IsBusyShape shape → IsCyclic shape → IsNumberedCyclic shape
+full : (shape : Shape) (number : ℕ → ℕ) (l i : ℕ) → IsBusyShape shape → Ordered shape number → LinksDiffer shape number → l < length shape.links → IsTrue (is_end shape i l) → IsWholeEnd shape l i → IsFullEnd shape (by_tables shape) number l i
+full shape number l i busy o differ h end whole s M accepts next = each_set shape i s (IsWithin (link_at shape l).shared) (λ k a. full_at shape number l i busy o differ h end whole s k a next) M accepts
+
+sound : (shape : Shape) → IsWellFormed shape → IsBusyShape shape → IsCyclic shape → IsNumberedCyclic shape (by_tables shape)
 sound shape w busy rule =
     let number = apart_number shape rule.numbered.number in
     let differ = apart_differ shape rule.numbered.number in
@@ -101,20 +105,22 @@ sound shape w busy rule =
 -- ---- from numbers to the rule
 
 -- a part that keeps an order keeps places
-pub order_keeps : (shape : Shape) (i : ℕ) → HasOrder shape i → KeepsPlaces shape i
-order_keeps shape i rule s e b =
-    let here = rule.order b.link s e b.reaches.possible b.reaches.on in
-    let there = rule.order b.other_link b.other_run b.other_event b.other_reaches.possible b.other_reaches.on in
-    elim b.clash [
-      | inl c ↦ places_differ shape rule.number i b.link b.other_link b.reaches.on.within b.other_reaches.on.within b.reaches.on.end b.other_reaches.on.end (rule.differ b.link b.other_link b.reaches.on.within b.other_reaches.on.within b.reaches.on.end b.other_reaches.on.end c.0) (here ∙ c.1 ∙ sym there)
-      | inr c ↦ c.1 (sym here ∙ ap (place_of shape rule.number i) c.0 ∙ there)
-    ]
+pub order_keeps : (shape : Shape) (i : ℕ) → HasOrder shape (by_tables shape) i → KeepsPlaces shape i
+order_keeps shape i rule l m s t e f a b =
+    let here = rule.order l s e a.possible a.on in
+    let there = rule.order m t f b.possible b.on in (
+      λ same. sym here ∙ ap (place_of shape rule.number i) same ∙ there,
+      λ place. elim (cases_eq l m) [
+        | inl same ↦ same
+        | inr other ↦ absurd (places_differ shape rule.number i l m a.on.within b.on.within a.on.end b.on.end (rule.differ l m a.on.within b.on.within a.on.end b.on.end other) (here ∙ place ∙ sym there))
+      ],
+    )
 
-numbered_keep : (shape : Shape) (rule : IsNumberedCyclic shape) → AllKeepPlaces shape
+numbered_keep : (shape : Shape) (rule : IsNumberedCyclic shape (by_tables shape)) → AllKeepPlaces shape
 numbered_keep shape rule i h = order_keeps shape i (record { number = rule.number; differ = rule.differ i; order = rule.order i })
 
 -- a link of the part that would stand before one that is reached was reached
-pub numbered_rise : (shape : Shape) → IsWellFormed shape → (rule : IsNumberedCyclic shape) → NumbersRise shape rule.number
+pub numbered_rise : (shape : Shape) → IsWellFormed shape → (rule : IsNumberedCyclic shape (by_tables shape)) → NumbersRise shape rule.number
 numbered_rise shape w rule l m before =
     elim (cases_order (rule.number l) (rule.number m)) [
       | inl same ↦ absurd (rule.differ before.part l m before.reaches.on.within before.within before.reaches.on.end before.end distinct same)
@@ -141,23 +147,22 @@ numbered_rise shape w rule l m before =
         ]
 
 -- a full end is whole: an acceptance that meets the link has an event of it that is possible, so the link is next
-numbered_whole : (shape : Shape) (number : ℕ → ℕ) (l i : ℕ) → IsWellFormed shape → KeepsOrder shape number → l < length shape.links → IsTrue (is_end shape i l) → IsFullEnd shape number l i → IsWholeEnd shape l i
+numbered_whole : (shape : Shape) (number : ℕ → ℕ) (l i : ℕ) → IsWellFormed shape → KeepsOrder shape (by_tables shape) number → l < length shape.links → IsTrue (is_end shape i l) → IsFullEnd shape (by_tables shape) number l i → IsWholeEnd shape l i
 numbered_whole shape number l i w order h end full s short =
-    let k = short.accepts.place in
     let a = short.accepts.at in
-    let meets : Meet (accepted shape i s k) (link_at shape l).shared = subst (λ (M : List ℕ). Meet M (link_at shape l).shared) (sym short.accepts.is) short.meets in
-    let possible : IsPossible shape i s short.meets.event = record { runs = a.runs; next = w.possible i (end_of (part_at shape.parts i).table 0 s) k meets.event a.runs.part meets.first } in
+    let meets : Meet (accepted shape i s short.accepts.place) (link_at shape l).shared = subst (λ (M : List ℕ). Meet M (link_at shape l).shared) (sym short.accepts.is) short.meets in
+    let possible : IsPossible shape i s short.meets.event = record { runs = a.runs; next = w.possible i (end_of (part_at shape.parts i).table 0 s) short.accepts.place meets.event a.runs.part meets.first } in
     let next = order i l s short.meets.event possible (record { within = h; end = end; event = short.meets.second }) in
-    both_ways (has short.acceptance short.missing) short.lacks (subst (λ (M : List ℕ). IsTrue (has M short.missing)) short.accepts.is (full s k a next short.missing short.on))
+    both_ways (has short.acceptance short.missing) short.lacks (full s short.acceptance short.accepts next short.missing short.on)
 
-numbered_wholes : (shape : Shape) (number : ℕ → ℕ) → IsWellFormed shape → KeepsOrder shape number → HasFullEnds shape number → (l : ℕ) → l < length shape.links → HasWholeEnd shape l
+numbered_wholes : (shape : Shape) (number : ℕ → ℕ) → IsWellFormed shape → KeepsOrder shape (by_tables shape) number → HasFullEnds shape (by_tables shape) number → (l : ℕ) → l < length shape.links → HasWholeEnd shape l
 numbered_wholes shape number w order full l h =
     elim (full l h) [
       | inl left ↦ inl (numbered_whole shape number l (link_at shape l).left w order h (left_end shape l) left)
       | inr right ↦ inr (numbered_whole shape number l (link_at shape l).right w order h (right_end shape l) right)
     ]
 
-pub complete : (shape : Shape) → IsWellFormed shape → IsNumberedCyclic shape → IsCyclic shape
+pub complete : (shape : Shape) → IsWellFormed shape → IsNumberedCyclic shape (by_tables shape) → IsCyclic shape
 complete shape w rule = record { order = numbered_keep shape rule; numbered = record { number = rule.number; rise = numbered_rise shape w rule }; whole = numbered_wholes shape rule.number w rule.order rule.full }
 
 pub is_rule_by_numbers : IsRuleByNumbers

@@ -123,8 +123,6 @@ pub record Formed (shape : Shape) (runs : ℕ → ℕ → List ℕ) (link_of : �
 
 pub well_formed : (shape : Shape) (runs : ℕ → ℕ → List ℕ) (link_of : ℕ → ℕ → ℕ) → Formed shape runs link_of → IsWellFormed shape
 well_formed shape runs link_of f = record {
-  least = let h : 0 < length shape.parts = ltb-true 0 (length shape.parts) f.least in omega arith;
-  most = let h : length shape.parts < 513 = ltb-true (length shape.parts) 513 f.most in omega arith;
   form = have_form shape.parts f.form;
   few = λ i n h.
       elim (cases_lt n (length (part_at shape.parts i).table)) [
@@ -139,16 +137,20 @@ well_formed shape runs link_of f = record {
   reached = λ i n h less.
       let p = and_parts _ _ (below_passes _ (length (part_at shape.parts i).table) n (below_passes _ (length shape.parts) i f.reached h) less) in
       record { run = runs i n; follows = p.0; leads = eqb-true _ _ p.1 };
-  links = λ l h. joins_two shape l (below_passes (link_test shape) (length shape.links) l f.links h);
-  all_links = λ i j less h meet.
-      let p = and_parts _ _ (implied _ _ (member_passes _ (alphabet_at shape i) meet.event (below_passes _ j i (below_passes _ (length shape.parts) j f.all_links h) less) meet.first) meet.second) in
-      let q = and_parts _ _ p.1 in
-      record { link = link_of i j; within = ltb-true _ _ p.0; left = eqb-true _ _ q.0; right = eqb-true _ _ q.1 };
-  links_rise = λ l m less h. is_below shape l m (below_passes _ m l (below_passes _ (length shape.links) m f.links_rise h) less);
-  vocabulary = λ e. (
-    (λ h. let x : 1 < sharers (alphabets_of shape.parts) e = ltb-true 1 (sharers (alphabets_of shape.parts) e) (member_passes (λ y. nat_lt 1 (sharers (alphabets_of shape.parts) y)) shape.vocabulary e f.shared h) in omega arith),
-    (λ h. let s = sharer shape.parts e (omega arith) in implied _ _ (member_passes _ (alphabet_at shape s.place) e (below_passes _ (length shape.parts) s.place f.vocabulary s.within) s.owned) (lt-ltb 1 (sharers (alphabets_of shape.parts) e) (omega arith))),
-  );
+  linked = record {
+    least = let h : 0 < length shape.parts = ltb-true 0 (length shape.parts) f.least in omega arith;
+    most = let h : length shape.parts < 513 = ltb-true (length shape.parts) 513 f.most in omega arith;
+    links = λ l h. joins_two shape l (below_passes (link_test shape) (length shape.links) l f.links h);
+    all_links = λ i j less h meet.
+        let p = and_parts _ _ (implied _ _ (member_passes _ (alphabet_at shape i) meet.event (below_passes _ j i (below_passes _ (length shape.parts) j f.all_links h) less) meet.first) meet.second) in
+        let q = and_parts _ _ p.1 in
+        record { link = link_of i j; within = ltb-true _ _ p.0; left = eqb-true _ _ q.0; right = eqb-true _ _ q.1 };
+    links_rise = λ l m less h. is_below shape l m (below_passes _ m l (below_passes _ (length shape.links) m f.links_rise h) less);
+    vocabulary = λ e. (
+      (λ h. let x : 1 < sharers (alphabets_of shape.parts) e = ltb-true 1 (sharers (alphabets_of shape.parts) e) (member_passes (λ y. nat_lt 1 (sharers (alphabets_of shape.parts) y)) shape.vocabulary e f.shared h) in omega arith),
+      (λ h. let s = sharer shape.parts e (omega arith) in implied _ _ (member_passes _ (alphabet_at shape s.place) e (below_passes _ (length shape.parts) s.place f.vocabulary s.within) s.owned) (lt-ltb 1 (sharers (alphabets_of shape.parts) e) (omega arith))),
+    );
+  };
 }
   where
     nothing : (k e : ℕ) → has (get_or {A = List ℕ} [] k []) e ≡ true → ⊥

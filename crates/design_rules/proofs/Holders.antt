@@ -48,7 +48,7 @@ record OtherEnd (shape : Shape) (i l e : ℕ) : Type 0 where
 
 other_end : (shape : Shape) (i l e : ℕ) → IsWellFormed shape → IsOn shape i l e → OtherEnd shape i l e
 other_end shape i l e w on =
-    let t = w.links l on.within in
+    let t = w.linked.links l on.within in
     let order : (link_at shape l).left < (link_at shape l).right = t.ordered in
     let inside : (link_at shape l).right < length shape.parts = t.within in
     let both = (t.shared e).0 on.event in
@@ -77,12 +77,12 @@ one_link shape i l m e w triple h x y =
       | inl same ↦ same
       | inr ne ↦ absurd (let three : 3 ≤ sharers (alphabets_of shape.parts) e = at_three shape.parts e i a.part b.part h a.within b.within a.distinct b.distinct ne mine a.owned b.owned in omega arith)
     ] in
-    let s = same_ends (link_at shape l).left (link_at shape l).right (link_at shape m).left (link_at shape m).right i b.part (w.links l x.within).ordered (w.links m y.within).ordered (subst (λ q. ((link_at shape l).left ≡ i) × ((link_at shape l).right ≡ q) ⊎ ((link_at shape l).left ≡ q) × ((link_at shape l).right ≡ i)) p a.ends) b.ends in
+    let s = same_ends (link_at shape l).left (link_at shape l).right (link_at shape m).left (link_at shape m).right i b.part (w.linked.links l x.within).ordered (w.linked.links m y.within).ordered (subst (λ q. ((link_at shape l).left ≡ i) × ((link_at shape l).right ≡ q) ⊎ ((link_at shape l).left ≡ q) × ((link_at shape l).right ≡ i)) p a.ends) b.ends in
     elim (cases_order l m) [
       | inl same ↦ same
       | inr order ↦ elim order [
-        | inl less ↦ absurd (not_below shape l m s.0 s.1 (w.links_rise l m less y.within))
-        | inr more ↦ absurd (not_below shape m l (sym s.0) (sym s.1) (w.links_rise m l more x.within))
+        | inl less ↦ absurd (not_below shape l m s.0 s.1 (w.linked.links_rise l m less y.within))
+        | inr more ↦ absurd (not_below shape m l (sym s.0) (sym s.1) (w.linked.links_rise m l more x.within))
       ]
     ]
 

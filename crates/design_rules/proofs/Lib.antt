@@ -8,6 +8,8 @@ pub mod Cyclic
 pub mod CyclicCheck
 pub mod CyclicRule
 pub mod FormCheck
+pub mod GreatestNumbers
+pub mod GreatestRanks
 pub mod Holders
 pub mod Linking
 pub mod Live

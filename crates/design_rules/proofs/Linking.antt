@@ -11,7 +11,7 @@ use Rattle.csp_base.proofs.Rising.{has-append, has-filter, meets_of_from_member}
 use Rattle.csp_base.proofs.SetLaws.{has-inter_of}
 use Rattle.csp_tables.proofs.Runs.{sharers_other}
 use Rattle.csp_tables.specs.Part.{Part, part_at, alphabets_of, sharers, Meet}
-use Rattle.csp_tables.specs.Shape.{Link, Shape, IsBelow, link_at, IsWellFormed}
+use Rattle.csp_tables.specs.Shape.{Link, Shape, IsBelow, link_at, IsLinked}
 use Rattle.design_rules.specs.Agreement.{SameOutline}
 use Rattle.design_rules.specs.Outline.{link_between, links_with, links_from, vocabulary_of, outline_of}
 
@@ -318,7 +318,7 @@ of_vocabulary as' e h =
     leb-true 2 (sharers as' e)
     (and_parts (nat_le 2 (sharers as' e)) (has (flat_map (λ alphabet. alphabet) as') e) (sym (has-filter (λ x. nat_le 2 (sharers as' x)) (flat_map (λ alphabet. alphabet) as') e) ∙ h)).0
 
-module _ (shape : Shape) (w : IsWellFormed shape) where
+module _ (shape : Shape) (w : IsLinked shape) where
   shape_shares : (k : ℕ) → k < length shape.links → Shares (alphabet_in shape) (link_at shape k)
   shape_shares k h e =
       let j = w.links k h in

@@ -6,6 +6,7 @@ use Rattle.std.proofs.Math.Nat.{mod-le}
 use Rattle.csp_tables.specs.Shape.{Shape}
 use Rattle.net_sound.proofs.Finite.{below_suc}
 use Rattle.design_rules.specs.Cyclic.{links_of, ReachesLink, place_after, KeepsPlaces}
+use Rattle.design_rules.specs.ByTables.{by_tables}
 use Rattle.design_rules.specs.CyclicNumbered.{HasOrder}
 use Rattle.design_rules.specs.CyclicLaws.{PlacesAreOrders}
 use Rattle.design_rules.proofs.Places.{Keeping, some_links, one_place_of, first_lap, RiseAt, place_is}
@@ -85,7 +86,7 @@ rise shape i d g l m before same =
         omega arith
     higher low below most (never is) = omega arith
 
-order : (shape : Shape) (i : ℕ) → Known shape i (length shape.links) → Keeping shape i → HasOrder shape i
+order : (shape : Shape) (i : ℕ) → Known shape i (length shape.links) → Keeping shape i → HasOrder shape (by_tables shape) i
 order shape i d g = record {
   number = number shape i d;
   differ = λ l m h k _ _ ne same. ne (sym (mod-mul-add (key shape i d l) (length shape.links) l h) ∙ ap (λ n. n % length shape.links) same ∙ mod-mul-add (key shape i d m) (length shape.links) m k);

@@ -1,5 +1,5 @@
 -- What is said of an outline looks at members of sets alone, so it is the same of two outlines with the same alphabets, links and vocabulary.
-use Rattle.std.proofs.Common.{◌≡◌, ℕ, zero, suc, ◌+◌, ◌%◌, ◌<◌, inl, inr, List, [], ◌∷◌, length, Option, Some, None, Bool, not, ◌&&◌, ◌||◌, cond, nat_eq, refl, sym, ap, subst, ◌∙◌}
+use Rattle.std.proofs.Common.{◌≡◌, ℕ, zero, suc, ◌+◌, ◌%◌, ◌<◌, inl, inr, List, [], ◌∷◌, length, map, Option, Some, None, Bool, not, ◌&&◌, ◌||◌, cond, nat_eq, nat_lt, refl, sym, ap, subst, ◌∙◌}
 use Rattle.std.specs.List.{list_any}
 use Rattle.csp_base.specs.Members.{has}
 use Rattle.csp_base.proofs.Booleans.{same_tests}
@@ -15,7 +15,9 @@ use Rattle.design_rules.specs.Assigned.{PartShared}
 use Rattle.design_rules.specs.ClientServerRule.{HasRoles, IsClientOn, HasClient, has_acknowledgements, is_open, Serves}
 use Rattle.design_rules.specs.ClientServerRuleFaults.{LacksRoles, LacksClient, HaveClients}
 use Rattle.design_rules.specs.Counts.{count_below, count_in, is_odd}
-use Rattle.design_rules.specs.CyclicRule.{links_of, place_after, SamePlace, Clash}
+use Rattle.design_rules.specs.CyclicNumbered.{place_of, IsNext}
+use Rattle.design_rules.specs.CyclicRule.{links_of, place_after, SamePlace}
+use Rattle.design_rules.specs.CyclicRuleFaults.{Clash, ends_of}
 use Rattle.design_rules.specs.ResourceRule.{JoinsKinds, HasUses, HaveKinds, is_held, last_from, IsHolder, holds}
 use Rattle.design_rules.specs.ResourceRuleFaults.{HasKind, LacksKind}
 
@@ -62,6 +64,13 @@ module _ (x y : Shape) (o : SameOutline x y) where
   pub same_end : (i l : ℕ) → is_end x i l ≡ is_end y i l
   same_end i l = ap (λ n. nat_eq n i || nat_eq (link_at x l).right i) (o.left l) ∙ ap (λ n. nat_eq (link_at y l).left i || nat_eq n i) (o.right l)
 
+  pub same_ends : (l : ℕ) → ends_of x l ≡ ends_of y l
+  same_ends l = λ i. (o.left l i, o.right l i)
+
+  pub all_ends : (links : List ℕ) → map (ends_of x) links ≡ map (ends_of y) links
+  all_ends [] = refl
+  all_ends (l ∷ links) = let first = same_ends l in let rest = all_ends links in λ i. first i ∷ rest i
+
   pub is_on : (i l e : ℕ) → IsOn x i l e → IsOn y i l e
   is_on i l e h = record { within = on_links l h.within; end = sym (same_end i l) ∙ h.end; event = sym (o.shared l e) ∙ h.event }
 
@@ -84,8 +93,16 @@ module _ (x y : Shape) (o : SameOutline x y) where
   lap_place : (i : ℕ) (s : List ℕ) → place_after x s % links_of x i ≡ place_after y s % links_of y i
   lap_place i s = ap (λ n. n % links_of x i) (same_place_after s) ∙ ap (λ k. place_after y s % k) (same_count i)
 
-  same_place : (i : ℕ) (s t : List ℕ) → SamePlace x i s t → SamePlace y i s t
+  pub same_place : (i : ℕ) (s t : List ℕ) → SamePlace x i s t → SamePlace y i s t
   same_place i s t h = sym (lap_place i s) ∙ h ∙ lap_place i t
+
+  pub is_next : (number : ℕ → ℕ) (i : ℕ) (s : List ℕ) (l : ℕ) → IsNext x number i s l → IsNext y number i s l
+  is_next number i s l h = sym same_order ∙ h ∙ lap_place i s
+    where
+      same_order : place_of x number i l ≡ place_of y number i l
+      same_order =
+          count_same (λ m. is_end x i m && nat_lt (number m) (number l)) (λ m. is_end y i m && nat_lt (number m) (number l)) (λ m. ap (λ b. b && nat_lt (number m) (number l)) (same_end i m)) (length x.links)
+          ∙ ap (count_below (λ m. is_end y i m && nat_lt (number m) (number l))) o.links
 
   other_place : (i : ℕ) (s t : List ℕ) → SamePlace y i s t → SamePlace x i s t
   other_place i s t h = lap_place i s ∙ h ∙ sym (lap_place i t)

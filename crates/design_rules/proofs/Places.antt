@@ -11,8 +11,8 @@ use Rattle.csp_tables.specs.Shape.{Shape, is_end, IsWellFormed}
 use Rattle.csp_tables.specs.Standing.{RunsTo}
 use Rattle.net_sound.proofs.Within.{part_form}
 use Rattle.design_rules.specs.Counts.{count_below}
-use Rattle.design_rules.specs.Cyclic.{links_of, ReachesLink, place_after, SamePlace, Clash, KeepsPlaces, MustPrecede}
-use Rattle.design_rules.specs.CyclicRanking.{place_of}
+use Rattle.design_rules.specs.Cyclic.{links_of, ReachesLink, place_after, SamePlace, KeepsPlaces, MustPrecede}
+use Rattle.design_rules.specs.CyclicNumbered.{place_of}
 use Rattle.design_rules.proofs.Counts.{count_placed, count_strict, count_push_more, count_push_same}
 use Rattle.design_rules.proofs.Runs.{possible_after, run_induction, possible_within}
 use Rattle.design_rules.proofs.Shapes.{some_link}
@@ -22,31 +22,13 @@ pub record Keeping (shape : Shape) (i : ℕ) : Type 0 where
   pub form : IsWellFormed shape
   pub keeps : KeepsPlaces shape i
 
--- ---- events that do not clash
-
-flipped : (shape : Shape) (i l m : ℕ) (s t : List ℕ) → Clash shape i l s m t → Clash shape i m t l s
-flipped shape i l m s t (inl c) = inl ((λ same. c.0 (sym same)), sym c.1)
-flipped shape i l m s t (inr c) = inr (sym c.0, (λ same. c.1 (sym same)))
-
-no_clash : (shape : Shape) (i l m : ℕ) (s t : List ℕ) (e f : ℕ) → KeepsPlaces shape i → ReachesLink shape i l s e → ReachesLink shape i m t f → Clash shape i l s m t → ⊥
-no_clash shape i l m s t e f keeps a b clash =
-    elim (cases_lt (length s) (length t)) [
-      | inl less ↦ keeps t f (record { link = m; reaches = b; other_run = s; other_event = e; other_link = l; other_reaches = a; not_longer = omega arith; clash = flipped shape i l m s t clash })
-      | inr more ↦ keeps s e (record { link = l; reaches = a; other_run = t; other_event = f; other_link = m; other_reaches = b; not_longer = omega arith; clash = clash })
-    ]
-
 -- the same place has one link
 pub one_link_at : (shape : Shape) (i l m : ℕ) (s t : List ℕ) (e f : ℕ) → KeepsPlaces shape i → ReachesLink shape i l s e → ReachesLink shape i m t f → SamePlace shape i s t → l ≡ m
-one_link_at shape i l m s t e f keeps a b place =
-    elim (cases_eq l m) [ inl same ↦ same | inr other ↦ absurd (no_clash shape i l m s t e f keeps a b (inl (other, place))) ]
+one_link_at shape i l m s t e f keeps a b = (keeps l m s t e f a b).1
 
 -- the same link has one place
 pub one_place_of : (shape : Shape) (i l : ℕ) (s t : List ℕ) (e f : ℕ) → KeepsPlaces shape i → ReachesLink shape i l s e → ReachesLink shape i l t f → SamePlace shape i s t
-one_place_of shape i l s t e f keeps a b =
-    elim (cases_eq (place_after shape s % links_of shape i) (place_after shape t % links_of shape i)) [
-      | inl same ↦ same
-      | inr other ↦ absurd (no_clash shape i l l s t e f keeps a b (inr (refl, other)))
-    ]
+one_place_of shape i l s t e f keeps a b = (keeps l l s t e f a b).0 refl
 
 -- ---- earlier places
 

@@ -11,15 +11,20 @@ use Rattle.csp_tables.specs.Shape.{Shape}
 use Rattle.csp_tables.specs.ShapeOf.{ArePartsOf, IsShapeOf}
 use Rattle.csp_tables.specs.Standing.{RunsTo, IsPossible, Accepts, accepted}
 use Rattle.csp_tables.proofs.Runs.{run_push}
+use Rattle.net_sound.proofs.FormOfTables.{shapes_are_well_formed}
+use Rattle.net_sound.proofs.ShapeOf.{shapes_are_busy}
 use Rattle.net_sound.proofs.Parts.{component_of, part_of, part_within}
 use Rattle.design_rules.specs.Agreement.{SameOutline, AcceptsSame, OutlinesAgree, ReadingsAgree, NetworksMeet, NetworksBreak, NetworkFaultsRefute}
 use Rattle.design_rules.specs.Behaviours.{HasTrace, HasAcceptance, by_steps}
 use Rattle.design_rules.specs.ByTables.{AcceptsSet, by_tables}
 use Rattle.design_rules.proofs.Accepting.{at_place, set_shared}
 use Rattle.design_rules.proofs.Refuting.{faults_refute}
+use Rattle.design_rules.proofs.CyclicRule.{is_rule_by_numbers}
+use Rattle.design_rules.specs.CyclicLaws.{NetworksAreNumbered}
 use Rattle.design_rules.specs.Outline.{outline, outline_of}
+use Rattle.design_rules.specs.declared.noted_rule.NotedRule.TheVariants.{Cyclic}
 use Rattle.design_rules.proofs.Linking.{shape_outline}
-use Rattle.design_rules.proofs.Transport.{Seen, Alike, turned, meets, breaks}
+use Rattle.design_rules.proofs.Transport.{Seen, Alike, turned, is_numbered, meets, breaks}
 
 -- a run with one event more is a run, after which the event is possible
 run_pop : (table : List Node) (n : ℕ) (s : List ℕ) (e : ℕ) → is_run table n (s ++ e ∷ []) ≡ true → (is_run table n s ≡ true) × (is_possible (node_at table (end_of table n s)).next e ≡ true)
@@ -83,7 +88,7 @@ module _ {T : Type 0} (Step : T → Label → T → Type 0) (cs : List (Componen
 
 pub outlines_agree : {T : Type 0} (Step : T → Label → T → Type 0) → OutlinesAgree Step
 outlines_agree Step tree shape is =
-    subst (λ (alphabets : List (List ℕ)). SameOutline shape (outline_of alphabets)) (same_alphabets Step (leaves tree) shape.parts is.parts) (shape_outline shape is.form)
+    subst (λ (alphabets : List (List ℕ)). SameOutline shape (outline_of alphabets)) (same_alphabets Step (leaves tree) shape.parts is.parts) (shape_outline shape is.linked)
 
 pub readings_agree : {T : Type 0} (Step : T → Label → T → Type 0) → ReadingsAgree Step
 readings_agree Step tree shape is =
@@ -103,13 +108,13 @@ readings_agree Step tree shape is =
     }
 
 -- the network, as a rule sees it, by its shape and by itself
-abbrev by_shape : Shape → Seen
+abbrev pub by_shape : Shape → Seen
 by_shape shape = record { shape = shape; does = by_tables shape }
 
-abbrev by_itself : {T : Type 0} → (T → Label → T → Type 0) → Tree T → Seen
+abbrev pub by_itself : {T : Type 0} → (T → Label → T → Type 0) → Tree T → Seen
 by_itself Step tree = record { shape = outline (leaves tree); does = by_steps Step (leaves tree) (outline (leaves tree)).vocabulary }
 
-alike : {T : Type 0} (Step : T → Label → T → Type 0) (tree : Tree T) (shape : Shape) → IsShapeOf Step tree shape → Alike (by_shape shape) (by_itself Step tree)
+pub alike : {T : Type 0} (Step : T → Label → T → Type 0) (tree : Tree T) (shape : Shape) → IsShapeOf Step tree shape → Alike (by_shape shape) (by_itself Step tree)
 alike Step tree shape is = record { outline = outlines_agree Step tree shape is; agree = readings_agree Step tree shape is }
 
 pub networks_meet : {T : Type 0} (Step : T → Label → T → Type 0) → NetworksMeet Step
@@ -125,3 +130,12 @@ networks_break Step tree shape is rule fault =
 pub network_faults_refute : {T : Type 0} (Step : T → Label → T → Type 0) → NetworkFaultsRefute Step
 network_faults_refute Step tree shape is rule fault met broken =
     faults_refute rule shape fault ((networks_meet Step tree shape is rule).1 met) ((networks_break Step tree shape is rule fault).1 broken)
+
+pub networks_are_numbered : {T : Type 0} (Step : T → Label → T → Type 0) → NetworksAreNumbered Step
+networks_are_numbered Step tree shape is busy =
+    let a = alike Step tree shape is in
+    let form = shapes_are_well_formed Step tree shape is in
+    let meets = networks_meet Step tree shape is Cyclic in (
+      λ met. is_numbered (by_shape shape) (by_itself Step tree) a (is_rule_by_numbers.sound shape form ((shapes_are_busy Step tree shape is).1 busy) (meets.1 met)),
+      λ numbered. meets.0 (is_rule_by_numbers.complete shape form (is_numbered (by_itself Step tree) (by_shape shape) (turned (by_shape shape) (by_itself Step tree) a) numbered)),
+    )

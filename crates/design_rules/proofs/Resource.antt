@@ -26,14 +26,14 @@ use Rattle.design_rules.proofs.Accepting.{at_place}
 acquires_by : (uses : List UseSets) (M : List ℕ) (j e : ℕ) → (use_at uses j).resource ≡ true → IsTrue (has M e) → IsTrue (has (use_at uses j).acquire e) → IsTrue (acquires uses M j)
 acquires_by uses M j e r h a = and_from _ _ r (any_of (λ x. has (use_at uses j).acquire x) M e h a)
 
-acquired_resource : (uses : List UseSets) (M : List ℕ) (j : ℕ) → IsTrue (acquires uses M j) → (use_at uses j).resource ≡ true
+pub acquired_resource : (uses : List UseSets) (M : List ℕ) (j : ℕ) → IsTrue (acquires uses M j) → (use_at uses j).resource ≡ true
 acquired_resource uses M j h = (and_parts (use_at uses j).resource (list_any (λ x. has (use_at uses j).acquire x) M) h).0
 
-record LeastOf (test : ℕ → Bool) (number : ℕ → ℕ) (n : ℕ) : Type 0 where
-  place : ℕ
-  within : place < n
-  passes : IsTrue (test place)
-  least : (m : ℕ) → m < n → IsTrue (test m) → number place ≤ number m
+pub record LeastOf (test : ℕ → Bool) (number : ℕ → ℕ) (n : ℕ) : Type 0 where
+  pub place : ℕ
+  pub within : place < n
+  pub passes : IsTrue (test place)
+  pub least : (m : ℕ) → m < n → IsTrue (test m) → number place ≤ number m
 
 with_one_more : (test : ℕ → Bool) (number : ℕ → ℕ) (n : ℕ) → IsTrue (test n) → LeastOf test number n → LeastOf test number (suc n)
 with_one_more test number n t r =
@@ -42,7 +42,7 @@ with_one_more test number n t r =
       | inr more ↦ record { place = n; within = omega arith; passes = t; least = below_suc (λ m. IsTrue (test m) → number n ≤ number m) n (λ m h k. let le : number r.place ≤ number m = r.least m h k in omega arith) (λ _. omega arith) }
     ]
 
-least_of : (test : ℕ → Bool) (number : ℕ → ℕ) (n : ℕ) → LeastOf test number n ⊎ ((m : ℕ) → m < n → test m ≡ false)
+pub least_of : (test : ℕ → Bool) (number : ℕ → ℕ) (n : ℕ) → LeastOf test number n ⊎ ((m : ℕ) → m < n → test m ≡ false)
 least_of test number zero = inr (λ m h. absurd (omega arith))
 least_of test number (suc n) =
     elim (cases_Bool (test n)) [
@@ -230,7 +230,7 @@ ordered_ranks_fall shape uses number top ranking w triple uses_are rise positive
 -- what is held is a resource among the parts
 held_within : (shape : Shape) (uses : List UseSets) (m j : ℕ) → IsWellFormed shape → KeepUses shape uses → IsHeldWhile shape uses m j → (m < length shape.parts) × ((use_at uses m).resource ≡ true)
 held_within shape uses m j w a h =
-    let t = w.links h.link h.joins.within in
+    let t = w.linked.links h.link h.joins.within in
     let order : (link_at shape h.link).left < (link_at shape h.link).right = t.ordered in
     let inside : (link_at shape h.link).right < length shape.parts = t.within in
     let kind = turn_over (use_at uses h.user).resource (use_at uses m).resource (other_kind shape uses h.user m h.link a h.joins) ∙ ap not h.is_user in

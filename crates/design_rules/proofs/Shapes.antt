@@ -74,8 +74,8 @@ link_between shape i j e w h k ne x y =
     elim (cases_order i j) [
       | inl same ↦ absurd (ne same)
       | inr order ↦ elim order [
-        | inl less ↦ joined shape i j (w.all_links i j less k (record { event = e; first = x; second = y }))
-        | inr more ↦ let r = joined shape j i (w.all_links j i more h (record { event = e; first = y; second = x })) in (r.0, turned shape j i r.0 r.1)
+        | inl less ↦ joined shape i j (w.linked.all_links i j less k (record { event = e; first = x; second = y }))
+        | inr more ↦ let r = joined shape j i (w.linked.all_links j i more h (record { event = e; first = y; second = x })) in (r.0, turned shape j i r.0 r.1)
       ]
     ]
 
@@ -85,7 +85,7 @@ on_link shape i j l e w h x y = record {
   within = h.within;
   end = first_end shape i j l h;
   event =
-      let t = w.links l h.within in
+      let t = w.linked.links l h.within in
       elim h.ends [
         | inl k ↦ (t.shared e).1 (subst (λ a. IsTrue (has (part_at shape.parts a).alphabet e)) (sym k.0) x, subst (λ a. IsTrue (has (part_at shape.parts a).alphabet e)) (sym k.1) y)
         | inr k ↦ (t.shared e).1 (subst (λ a. IsTrue (has (part_at shape.parts a).alphabet e)) (sym k.0) y, subst (λ a. IsTrue (has (part_at shape.parts a).alphabet e)) (sym k.1) x)
@@ -94,7 +94,7 @@ on_link shape i j l e w h x y = record {
 
 pub link_within : (shape : Shape) (i l : ℕ) → IsWellFormed shape → l < length shape.links → IsTrue (is_end shape i l) → IsWithin (link_at shape l).shared (part_at shape.parts i).alphabet
 link_within shape i l w h end e x =
-    let both = ((w.links l h).shared e).0 x in
+    let both = ((w.linked.links l h).shared e).0 x in
     elim (or_cases (nat_eq (link_at shape l).left i) (nat_eq (link_at shape l).right i) end) [
       | inl k ↦ subst (λ a. IsTrue (has (part_at shape.parts a).alphabet e)) (eqb-true (link_at shape l).left i k) both.0
       | inr k ↦ subst (λ a. IsTrue (has (part_at shape.parts a).alphabet e)) (eqb-true (link_at shape l).right i k) both.1
@@ -102,16 +102,16 @@ link_within shape i l w h end e x =
 
 pub link_shared : (shape : Shape) (l : ℕ) → IsWellFormed shape → l < length shape.links → IsWithin (link_at shape l).shared shape.vocabulary
 link_shared shape l w h e x =
-    let t = w.links l h in
+    let t = w.linked.links l h in
     let both = (t.shared e).0 x in
     let order : (link_at shape l).left < (link_at shape l).right = t.ordered in
     let within : (link_at shape l).right < length shape.parts = t.within in
-    (w.vocabulary e).1 (at_two shape.parts e (link_at shape l).left (link_at shape l).right (omega arith) within (λ same. omega arith) both.0 both.1)
+    (w.linked.vocabulary e).1 (at_two shape.parts e (link_at shape l).left (link_at shape l).right (omega arith) within (λ same. omega arith) both.0 both.1)
 
 -- a shared event of a part is on a link of it
 pub some_link : (shape : Shape) (i e : ℕ) → IsWellFormed shape → i < length shape.parts → IsTrue (has (part_at shape.parts i).alphabet e) → IsTrue (has shape.vocabulary e) → (l : ℕ) × IsOn shape i l e
 some_link shape i e w h x v =
-    let o = another shape.parts i e h x ((w.vocabulary e).0 v) in
+    let o = another shape.parts i e h x ((w.linked.vocabulary e).0 v) in
     let l = link_between shape i o.place e w h o.within o.distinct x o.owned in
     (l.0, on_link shape i o.place l.0 e w l.1 x o.owned)
 
@@ -139,7 +139,7 @@ pub record Side (shape : Shape) (s : List ℕ) (i k : ℕ) : Type 0 where
 side : (shape : Shape) (s : List ℕ) (i k : ℕ) → IsWellFormed shape → i < length shape.parts → Stands (part_at shape.parts i) s k → IsShared (alphabets_of shape.parts) (acceptance (part_at shape.parts i) s k) → Side shape s i k
 side shape s i k w h st sh =
     let runs : RunsTo shape i (own_run shape s i) = record { part = h; follows = st.follows } in
-    let shared = λ (e : ℕ) (x : IsTrue (has (acceptance (part_at shape.parts i) s k) e)). (w.vocabulary e).1 (sh e x) in
+    let shared = λ (e : ℕ) (x : IsTrue (has (acceptance (part_at shape.parts i) s k) e)). (w.linked.vocabulary e).1 (sh e x) in
     record {
       part = h;
       runs = runs;

@@ -11,7 +11,9 @@ use Rattle.csp_tables.specs.Roles.{RoleSets, UseSets, use_at}
 use Rattle.digraph.proofs.WalkLaws.{same_least_circle}
 use Rattle.design_rules.specs.Agreement.{SameOutline, Agree}
 use Rattle.design_rules.specs.Behaviours.{Behaviours}
-use Rattle.design_rules.specs.CyclicRule.{place_after, ReachesLink, BreaksOrder, KeepsPlaces, AllKeepPlaces, MustPrecede, CanBeNumbered, FallsShort, IsWholeEnd, HasWholeEnd, IsCyclic}
+use Rattle.design_rules.specs.CyclicRule.{place_after, ReachesLink, KeepsPlaces, AllKeepPlaces, MustPrecede, CanBeNumbered, FallsShort, IsWholeEnd, HasWholeEnd, IsCyclic}
+use Rattle.design_rules.specs.CyclicRuleFaults.{BreaksOrder}
+use Rattle.design_rules.specs.CyclicNumbered.{IsFullEnd, IsNumberedCyclic}
 use Rattle.design_rules.specs.ClientServerRule.{is_acknowledgement, is_request, TakesTurns, ServesAll, TakesAnswers, Serves, KeepRoles, IsClientServer}
 use Rattle.design_rules.specs.ClientServerRuleFaults.{BreaksRoles}
 use Rattle.design_rules.specs.ResourceRule.{IsUsedInTurn, GrantsAll, UsesInTurn, KeepUses, acquires, IsHeldWhile, CanBeOrdered, IsResource}
@@ -23,8 +25,8 @@ use Rattle.design_rules.specs.declared.condition.Condition.TheVariants as condit
 use Rattle.design_rules.specs.declared.noted_rule.NotedRule.{NotedRule}
 use Rattle.design_rules.specs.declared.noted_rule.NotedRule.TheVariants.{Cyclic, ClientServer, Resource}
 use Rattle.design_rules.specs.declared.rule_fault.RuleFault.{RuleFault}
-use Rattle.design_rules.specs.declared.rule_fault.RuleFault.TheVariants.{NoMemory, NoOrder, NoWholeEnd, Broken, Circle}
-use Rattle.design_rules.proofs.Outlines.{turned_outline, on_links, on_parts, same_end, is_on, of_ends, joins, same_place_after, clash, client_on, same_open, same_held, same_holds, holder, have_clients, lacks_roles, lacks_client, no_circle, each_serves, have_kinds, lacks_kind}
+use Rattle.design_rules.specs.declared.rule_fault.RuleFault.TheVariants.{NoMemory, NoOrder, NoWholeEnd, Broken, LinksCircle, ClientsCircle, ResourcesCircle}
+use Rattle.design_rules.proofs.Outlines.{turned_outline, on_links, on_parts, same_end, same_ends, all_ends, is_on, of_ends, joins, same_place_after, same_place, is_next, clash, client_on, same_open, same_held, same_holds, holder, have_clients, lacks_roles, lacks_client, no_circle, each_serves, have_kinds, lacks_kind}
 
 -- a network as a rule sees it: its outline, and what its components do
 pub record Seen : Type 1 where
@@ -64,12 +66,15 @@ breaks_order x y a i s e h = record {
 }
 
 keeps_places : (x y : Seen) → Alike x y → (i : ℕ) → KeepsPlaces x.shape x.does i → KeepsPlaces y.shape y.does i
-keeps_places x y a i keeps s e h = keeps s e (breaks_order y x (turned x y a) i s e h)
+keeps_places x y a i keeps l m s t e f p q =
+    let back = turned x y a in
+    let k = keeps l m s t e f (reaches y x back i l s e p) (reaches y x back i m t f q) in
+    (λ same. same_place x.shape y.shape a.outline i s t (k.0 same), λ place. k.1 (same_place y.shape x.shape back.outline i s t place))
 
 all_keep_places : (x y : Seen) → Alike x y → AllKeepPlaces x.shape x.does → AllKeepPlaces y.shape y.does
 all_keep_places x y a keeps i h = keeps_places x y a i (keeps i (on_parts y.shape x.shape (turned_outline x.shape y.shape a.outline) i h))
 
-must_precede : (x y : Seen) → Alike x y → (l m : ℕ) → MustPrecede x.shape x.does l m → MustPrecede y.shape y.does l m
+pub must_precede : (x y : Seen) → Alike x y → (l m : ℕ) → MustPrecede x.shape x.does l m → MustPrecede y.shape y.does l m
 must_precede x y a l m h =
     let o = a.outline in
     record {
@@ -115,22 +120,47 @@ is_cyclic x y a h = record {
   whole = λ l below. has_whole_end x y a l (h.whole l (on_links y.shape x.shape (turned_outline x.shape y.shape a.outline) l below));
 }
 
+full_end : (x y : Seen) → Alike x y → (number : ℕ → ℕ) (l i : ℕ) → IsFullEnd x.shape x.does number l i → IsFullEnd y.shape y.does number l i
+full_end x y a number l i full s M accepts next e on =
+    let z = a.agree.accepts i s M accepts in
+    sym (z.members e) ∙ full s z.set z.accepts (is_next y.shape x.shape (turned x y a).outline number i s l next) e (a.outline.shared l e ∙ on)
+
+pub is_numbered : (x y : Seen) → Alike x y → IsNumberedCyclic x.shape x.does → IsNumberedCyclic y.shape y.does
+is_numbered x y a h =
+    let o = a.outline in
+    let back = (turned x y a).outline in
+    record {
+      number = h.number;
+      differ = λ i l m below other end other_end. h.differ i l m (on_links y.shape x.shape back l below) (on_links y.shape x.shape back m other) (same_end x.shape y.shape o i l ∙ end) (same_end x.shape y.shape o i m ∙ other_end);
+      order = λ i l s e possible on. is_next x.shape y.shape o h.number i s l (h.order i l s e ((a.agree.possible i s e).1 possible) (is_on y.shape x.shape back i l e on));
+      full = λ l below. of_ends x.shape y.shape o l (λ i j. IsFullEnd y.shape y.does h.number l i ⊎ IsFullEnd y.shape y.does h.number l j) (elim (h.full l (on_links y.shape x.shape back l below)) [
+        | inl left ↦ inl (full_end x y a h.number l (link_at x.shape l).left left)
+        | inr right ↦ inr (full_end x y a h.number l (link_at x.shape l).right right)
+      ]);
+    }
+
 breaks_cyclic : (x y : Seen) → Alike x y → (fault : RuleFault) → BreaksCyclicRule x.shape x.does fault → BreaksCyclicRule y.shape y.does fault
 breaks_cyclic x y a NoMemory h = tt
 breaks_cyclic x y a (NoOrder i s e) h = record { breaks = breaks_order x y a i s e h.breaks; first = λ j less. keeps_places x y a j (h.first j less) }
-breaks_cyclic x y a (NoWholeEnd l s t) h = record {
+breaks_cyclic x y a (NoWholeEnd i j s t) h = record {
   order = all_keep_places x y a h.order;
   numbered = can_be_numbered x y a h.numbered;
-  within = on_links x.shape y.shape a.outline l h.within;
-  left = subst (λ i. FallsShort y.shape y.does l i s) (a.outline.left l) (falls_short x y a l (link_at x.shape l).left s h.left);
-  right = subst (λ i. FallsShort y.shape y.does l i t) (a.outline.right l) (falls_short x y a l (link_at x.shape l).right t h.right);
+  link = h.link;
+  within = on_links x.shape y.shape a.outline h.link h.within;
+  ends = sym (same_ends x.shape y.shape a.outline h.link) ∙ h.ends;
+  left = subst (λ k. FallsShort y.shape y.does h.link k s) (a.outline.left h.link) (falls_short x y a h.link (link_at x.shape h.link).left s h.left);
+  right = subst (λ k. FallsShort y.shape y.does h.link k t) (a.outline.right h.link) (falls_short x y a h.link (link_at x.shape h.link).right t h.right);
   first = λ m less. has_whole_end x y a m (h.first m less);
 }
-breaks_cyclic x y a (Broken which i s) h = absurd h
-breaks_cyclic x y a (Circle links) h = record {
+breaks_cyclic x y a (LinksCircle ends) h = record {
   order = all_keep_places x y a h.order;
-  circle = same_least_circle (MustPrecede x.shape x.does) (MustPrecede y.shape y.does) (must_precede x y a) links h.circle;
+  links = h.links;
+  circle = same_least_circle (MustPrecede x.shape x.does) (MustPrecede y.shape y.does) (must_precede x y a) h.links h.circle;
+  are = h.are ∙ all_ends x.shape y.shape a.outline h.links;
 }
+breaks_cyclic x y a (Broken which i s) h = absurd h
+breaks_cyclic x y a (ClientsCircle clients) h = absurd h
+breaks_cyclic x y a (ResourcesCircle resources) h = absurd h
 
 -- ---- components that break what is asked of each
 
@@ -218,17 +248,19 @@ module _ (roles : List RoleSets) where
   breaks_client_server : (x y : Seen) → Alike x y → (fault : RuleFault) → BreaksClientServerRule x.shape x.does roles fault → BreaksClientServerRule y.shape y.does roles fault
   breaks_client_server x y a NoMemory h = tt
   breaks_client_server x y a (NoOrder i s e) h = absurd h
-  breaks_client_server x y a (NoWholeEnd l s t) h = absurd h
+  breaks_client_server x y a (NoWholeEnd i j s t) h = absurd h
   breaks_client_server x y a (Broken which i s) h = breaks_roles x y a which i s h
-  breaks_client_server x y a (Circle clients) h = record {
+  breaks_client_server x y a (LinksCircle ends) h = absurd h
+  breaks_client_server x y a (ClientsCircle clients) h = record {
     keep_roles = keep_roles x y a h.keep_roles;
     circle = same_least_circle (Serves x.shape roles) (Serves y.shape roles) (each_serves x.shape y.shape a.outline roles) clients h.circle;
   }
+  breaks_client_server x y a (ResourcesCircle resources) h = absurd h
 
 -- ---- the rule of users and resources
 
 -- a set with the same members acquires the same resources
-acquires_same : (uses : List UseSets) (M N : List ℕ) (j : ℕ) → ((e : ℕ) → has N e ≡ has M e) → IsTrue (acquires uses M j) → IsTrue (acquires uses N j)
+pub acquires_same : (uses : List UseSets) (M N : List ℕ) (j : ℕ) → ((e : ℕ) → has N e ≡ has M e) → IsTrue (acquires uses M j) → IsTrue (acquires uses N j)
 acquires_same uses M N j members h =
     let p = and_parts (use_at uses j).resource (list_any (λ e. has (use_at uses j).acquire e) M) h in
     let e = any_member (λ e. has (use_at uses j).acquire e) M p.1 in
@@ -283,7 +315,7 @@ module _ (uses : List UseSets) where
     turns = λ i s. keeps_turns x y a i s (h.turns i s);
   }
 
-  held_while : (x y : Seen) → Alike x y → (m j : ℕ) → IsHeldWhile x.shape x.does uses m j → IsHeldWhile y.shape y.does uses m j
+  pub held_while : (x y : Seen) → Alike x y → (m j : ℕ) → IsHeldWhile x.shape x.does uses m j → IsHeldWhile y.shape y.does uses m j
   held_while x y a m j h =
       let o = a.outline in
       let z = a.agree.accepted h.user h.run h.acceptance h.accepts in
@@ -335,9 +367,11 @@ module _ (uses : List UseSets) where
   breaks_resource : (x y : Seen) → Alike x y → (fault : RuleFault) → BreaksResourceRule x.shape x.does uses fault → BreaksResourceRule y.shape y.does uses fault
   breaks_resource x y a NoMemory h = tt
   breaks_resource x y a (NoOrder i s e) h = absurd h
-  breaks_resource x y a (NoWholeEnd l s t) h = absurd h
+  breaks_resource x y a (NoWholeEnd i j s t) h = absurd h
   breaks_resource x y a (Broken which i s) h = breaks_uses x y a which i s h
-  breaks_resource x y a (Circle resources) h = record {
+  breaks_resource x y a (LinksCircle ends) h = absurd h
+  breaks_resource x y a (ClientsCircle clients) h = absurd h
+  breaks_resource x y a (ResourcesCircle resources) h = record {
     keep_uses = keep_uses x y a h.keep_uses;
     circle = same_least_circle (IsHeldWhile x.shape x.does uses) (IsHeldWhile y.shape y.does uses) (held_while x y a) resources h.circle;
   }

@@ -1,6 +1,7 @@
 -- The ranking of a client-server network. A component's height is the greatest number of arcs in a walk from it to servers.
 -- Where the acceptance has requests to the component as a server, its rank is twice the number of components less the height;
 -- elsewhere the rank is the height. There are no laps.
+-- (For the deciders' contracts and the proofs alone: what a reader needs of ranks stands in GreatestRank.)
 use Rattle.std.specs.Prelude.{◌≡◌, ◌<◌, ◌*◌, ℕ, pos, ◌-ℤ◌, List, length}
 use Rattle.digraph.specs.Walk.{IsLongestWalk}
 use Rattle.csp_tables.specs.Part.{part_at, Meet, AreApart}

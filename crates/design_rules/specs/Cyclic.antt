@@ -2,14 +2,11 @@
 use Rattle.std.specs.Prelude.{ℕ, List}
 use Rattle.csp_tables.specs.Shape.{Shape}
 use Rattle.design_rules.specs.ByTables.{by_tables}
-pub use Rattle.design_rules.specs.CyclicRule.{links_of, place_after, SamePlace, Clash}
+pub use Rattle.design_rules.specs.CyclicRule.{links_of, place_after, SamePlace}
 use Rattle.design_rules.specs.CyclicRule as rule
 
 abbrev pub ReachesLink : Shape → ℕ → ℕ → List ℕ → ℕ → Type 0
 ReachesLink shape = rule.ReachesLink shape (by_tables shape)
-
-abbrev pub BreaksOrder : Shape → ℕ → List ℕ → ℕ → Type 0
-BreaksOrder shape = rule.BreaksOrder shape (by_tables shape)
 
 abbrev pub KeepsPlaces : Shape → ℕ → Type 0
 KeepsPlaces shape = rule.KeepsPlaces shape (by_tables shape)

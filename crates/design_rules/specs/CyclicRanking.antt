@@ -1,7 +1,8 @@
 -- The ranking of a cyclic network. The number of a link is the greatest number of links that must come before it in a chain;
 -- links that a component never reaches may share a number. The rank of an acceptance is the number of the link on which it
 -- lies. A component's lap ends with the event on its last link. The scale is above all numbers.
-use Rattle.std.specs.Prelude.{◌≡◌, ◌<◌, ◌+◌, ℕ, pos, length, ◌&&◌, nat_lt, nat_eq, if◌then◌else◌, false, IsTrue}
+-- (For the deciders' contracts and the proofs alone: what a reader needs of ranks stands in GreatestRank.)
+use Rattle.std.specs.Prelude.{◌≡◌, ◌<◌, ◌+◌, ℕ, pos, length, nat_eq, if◌then◌else◌, false, IsTrue}
 use Rattle.csp_base.specs.Members.{has}
 use Rattle.digraph.specs.Walk.{IsLongestWalk}
 use Rattle.csp_tables.specs.Table.{node_at, is_possible}
@@ -9,20 +10,18 @@ use Rattle.csp_tables.specs.Part.{part_at, Meet}
 use Rattle.csp_tables.specs.Shape.{Shape, is_end, link_at, acceptance_at}
 use Rattle.csp_tables.specs.Standing.{IsOn}
 use Rattle.csp_tables.specs.Ranking.{Ranking, Fits, part_ranks, rank_at}
-use Rattle.design_rules.specs.Counts.{count_below, above_all}
+use Rattle.design_rules.specs.Counts.{above_all}
 use Rattle.design_rules.specs.Vertices.{IsVertex, OthersRankZero, lap_at}
-use Rattle.design_rules.specs.Cyclic.{links_of, MustPrecede}
+use Rattle.design_rules.specs.ByTables.{by_tables}
+use Rattle.design_rules.specs.Cyclic.{links_of}
+use Rattle.design_rules.specs.CyclicNumbered.{place_of}
+use Rattle.design_rules.specs.GreatestRank as rank
 
--- from a link to one that must come before it
 abbrev pub ComesAfter : Shape → ℕ → ℕ → Type 0
-ComesAfter shape m l = MustPrecede shape l m
+ComesAfter shape = rank.ComesAfter shape (by_tables shape)
 
 abbrev pub AreChainNumbers : Shape → (ℕ → ℕ) → Type 0
 AreChainNumbers shape number = (l : ℕ) → l < length shape.links → IsLongestWalk (ComesAfter shape) l (number l)
-
--- how many links of the part i have a smaller number than the link l
-abbrev pub place_of : Shape → (ℕ → ℕ) → ℕ → ℕ → ℕ
-place_of shape number i l = count_below (λ m. is_end shape i m && nat_lt (number m) (number l)) (length shape.links)
 
 -- after the place p of k places comes the first one again
 abbrev pub ends_lap : ℕ → ℕ → ℕ

@@ -7,7 +7,7 @@
 -- places agree modulo k. The orders agree where the links of the network can be numbered so that they rise along each order.
 --
 -- The conditions read the alphabets, links and vocabulary of a shape, and none of its tables; what components do is told by a reading of them.
-use Rattle.std.specs.Prelude.{◌≡◌, ◌<◌, ◌≤◌, ◌%◌, ◌⊎◌, ℕ, List, IsTrue, false, length}
+use Rattle.std.specs.Prelude.{◌≡◌, ◌↔◌, ◌<◌, ◌%◌, ◌⊎◌, ℕ, List, IsTrue, false, length}
 use Rattle.csp_base.specs.Members.{has}
 use Rattle.csp_tables.specs.Part.{Meet}
 use Rattle.csp_tables.specs.Shape.{Shape, is_end, link_at}
@@ -32,26 +32,10 @@ place_after shape s = count_in shape.vocabulary s
 abbrev pub SamePlace : Shape → ℕ → List ℕ → List ℕ → Type 0
 SamePlace shape i s t = place_after shape s % links_of shape i ≡ place_after shape t % links_of shape i
 
--- An event on the link l after the trace s and one on the link m after the trace t clash: they lie on different links at the
--- same place, or on the same link at different places.
-abbrev pub Clash : Shape → ℕ → ℕ → List ℕ → ℕ → List ℕ → Type 0
-Clash shape i l s m t = ((l ≡ m → ⊥) × SamePlace shape i s t) ⊎ ((l ≡ m) × (SamePlace shape i s t → ⊥))
-
--- C1 is broken by the component i after the trace s: the shared event e is possible, and it clashes with one that is possible after
--- a trace that is not longer.
-pub record BreaksOrder (shape : Shape) (b : Behaviours) (i : ℕ) (s : List ℕ) (e : ℕ) : Type 0 where
-  pub link : ℕ
-  pub reaches : ReachesLink shape b i link s e
-  pub other_run : List ℕ
-  pub other_event : ℕ
-  pub other_link : ℕ
-  pub other_reaches : ReachesLink shape b i other_link other_run other_event
-  pub not_longer : length other_run ≤ length s
-  pub clash : Clash shape i link s other_link other_run
-
--- C1: the component goes through its links in a fixed order
+-- C1: the component goes through its links in a fixed order. What it reaches after two traces lies on one link exactly where it
+-- stands at the same place.
 abbrev pub KeepsPlaces : Shape → Behaviours → ℕ → Type 0
-KeepsPlaces shape b i = (s : List ℕ) (e : ℕ) → BreaksOrder shape b i s e → ⊥
+KeepsPlaces shape b i = (l m : ℕ) (s t : List ℕ) (e f : ℕ) → ReachesLink shape b i l s e → ReachesLink shape b i m t f → (l ≡ m) ↔ SamePlace shape i s t
 
 abbrev pub AllKeepPlaces : Shape → Behaviours → Type 0
 AllKeepPlaces shape b = (i : ℕ) → i < length shape.parts → KeepsPlaces shape b i

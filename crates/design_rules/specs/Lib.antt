@@ -18,9 +18,11 @@ pub mod CyclicRule
 pub mod CyclicRuleFaults
 pub mod Example
 pub mod FirstBroken
+pub mod GreatestRank
 pub mod Live
 pub mod NotedRules
 pub mod Outline
+pub mod RankCounts
 pub mod Resource
 pub mod ResourceFaults
 pub mod ResourceLaws

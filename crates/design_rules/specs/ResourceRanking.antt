@@ -1,8 +1,8 @@
 -- The ranking of a network of users and resources. The number of a resource is one more than the greatest number of resources
 -- that must be numbered below it in a chain. A free resource ranks above all. A held one, and a user that offers to acquire,
 -- rank the lower the higher the number is. There are no laps.
-use Rattle.std.specs.Prelude.{◌≡◌, ◌<◌, ◌≤◌, ◌+◌, ◌-◌, ◌*◌, ℕ, zero, suc, ℤ, pos, max, List, true, false, IsTrue, length, if◌then◌else◌}
-use Rattle.digraph.specs.Walk.{IsLongestWalk}
+-- (For the deciders' contracts and the proofs alone: what a reader needs of ranks stands in GreatestRank.)
+use Rattle.std.specs.Prelude.{◌≡◌, ◌<◌, ◌≤◌, ◌+◌, ◌-◌, ◌*◌, ℕ, ℤ, pos, List, true, false, IsTrue, length}
 use Rattle.csp_tables.specs.Table.{end_of}
 use Rattle.csp_tables.specs.Part.{part_at, IsNonEmpty}
 use Rattle.csp_tables.specs.Shape.{Shape}
@@ -10,25 +10,16 @@ use Rattle.csp_tables.specs.Standing.{Accepts, accepted}
 use Rattle.csp_tables.specs.Roles.{UseSets, use_at}
 use Rattle.csp_tables.specs.Ranking.{Ranking, Fits, part_ranks, rank_at}
 use Rattle.design_rules.specs.Vertices.{OthersRankZero, lap_at}
-use Rattle.design_rules.specs.Resource.{IsHeldWhile, acquires, is_held}
+use Rattle.design_rules.specs.ByTables.{by_tables}
+pub use Rattle.design_rules.specs.GreatestRank.{top_number}
+use Rattle.design_rules.specs.GreatestRank as rank
+use Rattle.design_rules.specs.Resource.{acquires, is_held}
 
--- from a resource to one that a user holds while it offers to acquire the first
 abbrev pub StandsAbove : Shape → List UseSets → ℕ → ℕ → Type 0
-StandsAbove shape uses j m = IsHeldWhile shape uses m j
-
--- n is one more than the longest chain below j
-pub record IsResourceNumber (shape : Shape) (uses : List UseSets) (j n : ℕ) : Type 0 where
-  pub below : ℕ
-  pub longest : IsLongestWalk (StandsAbove shape uses) j below
-  pub number : n ≡ below + 1
+StandsAbove shape = rank.StandsAbove shape (by_tables shape)
 
 abbrev pub AreResourceNumbers : Shape → List UseSets → (ℕ → ℕ) → Type 0
-AreResourceNumbers shape uses number = (j : ℕ) → j < length shape.parts → (use_at uses j).resource ≡ true → IsResourceNumber shape uses j (number j)
-
--- the greatest number of a resource among the first n parts, 0 if there is none
-abbrev pub top_number : List UseSets → (ℕ → ℕ) → ℕ → ℕ
-top_number uses number zero = 0
-top_number uses number (suc n) = max (if (use_at uses n).resource then number n else 0) (top_number uses number n)
+AreResourceNumbers shape = rank.AreResourceNumbers shape (by_tables shape)
 
 -- the rank, after a run s, of the acceptance in place k
 abbrev pub rank_there : Shape → Ranking → ℕ → List ℕ → ℕ → ℤ

@@ -7,9 +7,10 @@ mod rule_fault;
 
 ghost use Rattle.design_rules.specs.Agreement.{NetworkFaultsRefute, NetworksBreak, NetworksMeet, OutlinesAgree, ReadingsAgree};
 ghost use Rattle.design_rules.specs.ClientServerLaws.{ClientServerRanksFall};
-ghost use Rattle.design_rules.specs.CyclicLaws.{CyclicRanksFall, IsRuleByNumbers, NumberedRanksFall, PlacesAreOrders, ReachedRanksFall};
+ghost use Rattle.design_rules.specs.CyclicLaws.{CyclicRanksFall, IsRuleByNumbers, NetworksAreNumbered, NumberedRanksFall, PlacesAreOrders, ReachedRanksFall};
 ghost use Rattle.design_rules.specs.Example.{PairIsClientServer, RowIsCyclic, TwoUsersAreResource};
 ghost use Rattle.design_rules.specs.Live.{MetRulesMeanLive};
+ghost use Rattle.design_rules.specs.RankCounts.{RankingsHaveGreatestRank};
 ghost use Rattle.design_rules.specs.ResourceLaws.{OrderedRanksFall, ResourceRanksFall};
 ghost use Rattle.design_rules.specs.Rules.{FaultsRefute};
 
@@ -25,10 +26,11 @@ pub fn cyclic_ranks_fall()
     ensures reached { ReachedRanksFall }
 {}
 
-/// The cyclic rule can be said by numbers of the links, for one component and for a network.
-pub fn cyclic_rule_by_numbers()
+/// The cyclic rule can be said by numbers of the links: for one component, for a shape, and for a network by its own steps.
+pub fn cyclic_rule_by_numbers<S: Transitions>()
     ensures component { PlacesAreOrders }
-    ensures network { IsRuleByNumbers }
+    ensures shape { IsRuleByNumbers }
+    ensures network { NetworksAreNumbered S.step }
 {}
 
 /// The ranking of a client-server network falls.
@@ -55,6 +57,11 @@ pub fn rules_speak_of_networks<S: Transitions>()
     ensures met { NetworksMeet S.step }
     ensures broken { NetworksBreak S.step }
     ensures refuted { NetworkFaultsRefute S.step }
+{}
+
+/// The greatest number of the ranking that a rule gives to the shape of a network is the network's greatest rank by the rule.
+pub fn rankings_have_greatest_rank<S: Transitions>()
+    ensures { RankingsHaveGreatestRank S.step }
 {}
 
 /// A network whose shape meets one of the three rules is live, with its silent bound.

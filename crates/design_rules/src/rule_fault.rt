@@ -21,12 +21,14 @@ pub enum RuleFault {
     },
     /// On a link each end, after its trace, accepts some of the link's events and not all.
     NoWholeEnd {
-        /// The place of the link.
-        link: u32,
-        /// Events after which its left end falls short.
-        left: Trace,
-        /// Events after which its right end does.
-        right: Trace,
+        /// The place of the link's left component.
+        left: u32,
+        /// The place of its right component.
+        right: u32,
+        /// Events after which the left end falls short.
+        left_trace: Trace,
+        /// Events after which the right end does.
+        right_trace: Trace,
     },
     /// The least condition of the rule that is broken, the first component that breaks it, and a run after which it does.
     Broken {
@@ -37,11 +39,21 @@ pub enum RuleFault {
         /// Events after which the component breaks it; none for S1, S2 and U1.
         trace: Trace,
     },
-    /// Links that must come before one another, components that are clients of one another, or resources that are held while
-    /// the next are offered: each of the next one, and the last of the first.
-    Circle {
-        /// The places of the links, or of the components.
-        members: Items<u32>,
+    /// Links that must come before one another: each before the next one, and the last before the first.
+    LinksCircle {
+        /// The places of the two components of each link.
+        links: Items<(u32, u32)>,
+    },
+    /// Components that are clients of one another: each of the next one, and the last of the first.
+    ClientsCircle {
+        /// The places of the components.
+        clients: Items<u32>,
+    },
+    /// Resources that are held while others are offered for acquisition: each while the next one is, and the last while the
+    /// first is.
+    ResourcesCircle {
+        /// The places of the resources.
+        resources: Items<u32>,
     },
 }
 

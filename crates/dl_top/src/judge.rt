@@ -74,7 +74,7 @@ fn decided(alloc: Global, job: &Job, network: &Spelled) -> Result<Done, Stop<Ver
 {
     match job {
         Job::Check(rule) => judged(alloc, *rule, network),
-        Job::Table(index) => tabulated(alloc, network, *index),
+        Job::Table(index) => tabulated(alloc, *index, network),
         Job::Run { seed, steps } => walked(alloc, network, *seed, *steps),
         Job::Livelock(set) => bounded(alloc, network, set.as_slice()),
     }

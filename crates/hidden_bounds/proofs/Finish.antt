@@ -10,7 +10,7 @@ use Rattle.csp_base.proofs.Listed.{has_first}
 use Rattle.std.proofs.lemmas.Option.{none-some, slice_get_within}
 use Rattle.csp_tables.specs.Label.{Label}
 use Rattle.csp_tables.specs.Network.{Component}
-use Rattle.hidden_steps.specs.Order.{AreTaken, HasNoOrder, IsAmong, IsOrder, Taken, hidden_bound}
+use Rattle.hidden_steps.specs.Order.{AreTaken, HasNoOrder, IsAmong, IsOrder, hidden_bound}
 use Rattle.own_graphs.specs.Exact.{AreOpen}
 use Rattle.hidden_bounds.specs.Found.{IsBound, TellsLoop}
 use Rattle.hidden_bounds.specs.Standings.{IsSoFar, IsTakenAll, IsTakenFar, left_from, standing_at}

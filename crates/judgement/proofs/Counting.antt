@@ -5,9 +5,9 @@ use Rattle.std.specs.List.{flat_map}
 use Rattle.std.proofs.Math.Seq.{take-suc}
 use Rattle.csp_tables.specs.Part.{Part, part_at}
 use Rattle.csp_tables.specs.Ranking.{PartRanks}
-use Rattle.judgement.specs.Counts.{greatest_from, node_count}
+use Rattle.design_rules.specs.RankCounts.{greatest_from, natural}
+use Rattle.judgement.specs.Counts.{node_count}
 use Rattle.csp_base.proofs.Lists.{flat_map_push}
-use Rattle.csp_program.specs.Value.{natural}
 
 one_more_part : (parts : List Part) (part : Part) → node_count (parts ++ part ∷ []) ≡ node_count parts + length part.table
 one_more_part [] part = omega arith

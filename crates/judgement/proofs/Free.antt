@@ -1,11 +1,10 @@
 -- Where the shape of a network meets the rule, the network is free of deadlock: the theorem about ranks, at the steps of the network's program.
-use Rattle.std.proofs.Common.{◌≡◌, ℕ, length}
-use Rattle.csp_tables.specs.Network.{leaves}
+use Rattle.std.proofs.Common.{ℕ}
 use Rattle.csp_tables.specs.Ranking.{Ranking}
 use Rattle.csp_tables.specs.Shape.{Shape}
-use Rattle.csp_tables.specs.declared.rule.Rule.{Rule}
 use Rattle.design_rules.proofs.Live.{met_rules_mean_live}
 use Rattle.design_rules.proofs.Readings.{networks_meet}
+use Rattle.design_rules.specs.Rules.{Ranks}
 use Rattle.design_rules.specs.declared.noted_rule.NotedRule.{NotedRule}
 use Rattle.net_sound.proofs.FormOfTables.{shapes_are_well_formed}
 use Rattle.net_sound.proofs.ShapeOf.{shapes_behave}
@@ -15,13 +14,12 @@ use Rattle.network_stages.specs.Shapes.{IsApart}
 use Rattle.network_stages.specs.Stages.{StaysBusy}
 use Rattle.network_trees.proofs.InOrder.{network_is_tree}
 use Rattle.process_steps.specs.ComponentStep.{ProcessStep}
-use Rattle.judgement.specs.Noted.{IsRanked}
+use Rattle.judgement.specs.Noted.{Meets}
 
 pub live : (network : Network) (shape : Shape) (bound : ℕ) → IsSpelled network → IsApart network shape → StaysBusy network → HasSilentBound network bound
-    → (rule : NotedRule) (ranking : Ranking) → IsRanked network rule shape ranking → IsLive network bound
-live network shape bound spelled apart busy exact rule ranking ranked =
-    let Step = ProcessStep network.program in
+    → (rule : NotedRule) (ranking : Ranking) → Meets network rule → Ranks rule shape ranking → IsLive network bound
+live network shape bound spelled apart busy exact rule ranking meets ranks =
     let made = network_is_tree network.program network.tree spelled in
     let sound : IsSound (ProcessStep network.program) network.tree bound = record { some = made.1; nested = made.0.nesting; triple = apart.apart; silence = exact } in
     met_rules_mean_live (ProcessStep network.program) network.tree bound shape rule ranking sound (shapes_are_well_formed (ProcessStep network.program) network.tree shape apart.is)
-    (shapes_behave (ProcessStep network.program) network.tree shape apart.is busy) ((networks_meet (ProcessStep network.program) network.tree shape apart.is rule).1 ranked.0) ranked.1
+    (shapes_behave (ProcessStep network.program) network.tree shape apart.is busy) ((networks_meet (ProcessStep network.program) network.tree shape apart.is rule).1 meets) ranks

@@ -1,14 +1,11 @@
 -- A rule with what a script notes for it of each component: what it comes to for a network.
-use Rattle.std.specs.Prelude.{◌≡◌, Ok}
+use Rattle.std.specs.Prelude.{◌≡◌, ℕ, Ok}
 use Rattle.csp_program.specs.Outcome.{Outcome, and_then}
 use Rattle.csp_tables.specs.Network.{leaves}
-use Rattle.csp_tables.specs.Ranking.{Ranking}
-use Rattle.csp_tables.specs.Shape.{Shape}
 use Rattle.csp_tables.specs.declared.rule.Rule.{Rule}
 use Rattle.csp_tables.specs.declared.rule.Rule.TheVariants.{ClientServer, Cyclic, Resource}
+use Rattle.design_rules.specs.GreatestRank.{NetworkHasGreatestRank}
 use Rattle.design_rules.specs.NotedRules.{NetworkBreaks, NetworkMeets}
-use Rattle.design_rules.specs.Outline.{outline}
-use Rattle.design_rules.specs.Rules.{Ranks}
 use Rattle.design_rules.specs.declared.noted_rule.NotedRule.{NotedRule}
 use Rattle.design_rules.specs.declared.noted_rule.NotedRule.TheVariants as noted
 use Rattle.design_rules.specs.declared.rule_fault.RuleFault.{RuleFault}
@@ -38,14 +35,13 @@ HasUntold network ClientServer r = (f : NotedFault) × IsUntold (component_roles
 HasUntold network Resource r = (f : NotedFault) × IsUntold (component_uses network.program) (leaves network.tree) f × TellsNoted f r
 
 -- the network meets the rule
-abbrev pub MeetsRule : Network → NotedRule → Type 0
-MeetsRule network rule = NetworkMeets (ProcessStep network.program) (leaves network.tree) rule
+abbrev pub Meets : Network → NotedRule → Type 0
+Meets network rule = NetworkMeets (ProcessStep network.program) (leaves network.tree) rule
 
--- it does, and the rule gives its shape this ranking
-abbrev pub IsRanked : Network → NotedRule → Shape → Ranking → Type 0
-IsRanked network rule shape ranking = MeetsRule network rule × Ranks rule shape ranking
+-- it breaks the rule
+abbrev pub Breaks : Network → NotedRule → Shortfall → Type 0
+Breaks network rule s = (f : RuleFault) × NetworkBreaks (ProcessStep network.program) (leaves network.tree) rule f × TellsRule f s
 
--- the network breaks the rule
-abbrev pub BreaksRule : Network → NotedRule → Shortfall → Type 0
-BreaksRule network rule s =
-    (f : RuleFault) × NetworkBreaks (ProcessStep network.program) (leaves network.tree) rule f × TellsRule rule (outline (leaves network.tree)) f s
+-- its greatest rank by the rule
+abbrev pub HasGreatestRank : Network → NotedRule → ℕ → Type 0
+HasGreatestRank network rule rank = NetworkHasGreatestRank (ProcessStep network.program) (leaves network.tree) rule rank

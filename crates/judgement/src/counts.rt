@@ -1,9 +1,9 @@
 //! What the report of a network counts.
 
-ghost use Rattle.std.specs.Prelude.{◌≡◌, ◌+◌, ◌<◌, length, map, max};
+ghost use Rattle.std.specs.Prelude.{◌≡◌, ◌+◌, ◌<◌, length, map, max, pos};
 ghost use Rattle.std.specs.List.{flat_map};
-ghost use Rattle.judgement.specs.Counts.{greatest_from, greatest_rank, node_count};
-ghost use Rattle.csp_program.specs.Value.{natural};
+ghost use Rattle.design_rules.specs.RankCounts.{greatest_from, greatest_rank, natural};
+ghost use Rattle.judgement.specs.Counts.{node_count};
 
 use csp_tables::{Part, PartRanks, Ranking};
 
@@ -89,7 +89,7 @@ fn greatest_in_parts(start: u64, parts: &[PartRanks]) -> u64
 
 // The greatest rank of a ranking, 0 where there is none.
 pub(crate) fn greatest(ranking: &Ranking) -> i64
-    ensures { result ≡ greatest_rank ranking.now }
+    ensures { result ≡ pos (greatest_rank ranking.now) }
 {
     greatest_in_parts(0, ranking.parts()) as i64
 }

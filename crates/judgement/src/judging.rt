@@ -20,8 +20,9 @@ fn ruled(alloc: Global, rule: Rule, bound: u32, shaped: &Shaped<'_>) -> Result<D
     ensures { Answers (RuleDecides shaped.now.network rule shaped.now.shape) result }
 {
     let _shape = shaped.shape();
-    let _program = shaped.network().program();
-    let notes = noted(alloc, rule, shaped.network())?;
+    let network = shaped.network();
+    let _program = network.program();
+    let notes = noted(alloc, rule, network)?;
     let ranking = ranked(alloc, &notes, shaped)?;
     Ok(deadlock_free(rule, bound, shaped, &ranking))
 }

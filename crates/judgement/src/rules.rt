@@ -1,9 +1,9 @@
 //! The rules, with what a script notes of each component.
 
-ghost use Rattle.std.specs.Prelude.{IfErr, IfOk};
-ghost use Rattle.design_rules.specs.Rules.{HasNotes};
+ghost use Rattle.std.specs.Prelude.{IfErr, IfOk, OnOk};
+ghost use Rattle.design_rules.specs.Rules.{HasNotes, Ranks};
 ghost use Rattle.report.specs.Stops.{Tells};
-ghost use Rattle.judgement.specs.Noted.{BreaksRule, HasUntold, IsRanked, Notes};
+ghost use Rattle.judgement.specs.Noted.{Breaks, HasUntold, Meets, Notes};
 
 use crate::deciding::decided;
 use crate::told::{noted_refusal, rule_shortfall};
@@ -43,12 +43,13 @@ pub(crate) fn ranked(
     shaped: &Shaped<'_>,
 ) -> Result<Ranking, Stop<Shortfall>>
     requires { HasNotes rule.now shaped.now.shape }
-    ensures ok { IfOk result (IsRanked shaped.now.network rule.now shaped.now.shape) }
-    ensures told { IfErr result (Tells (BreaksRule shaped.now.network rule.now)) }
+    ensures met { OnOk result (Meets shaped.now.network rule.now) }
+    ensures ranks { IfOk result (Ranks rule.now shaped.now.shape) }
+    ensures told { IfErr result (Tells (Breaks shaped.now.network rule.now)) }
 {
     let shape = shaped.shape();
     match decided(alloc, rule, shape) {
         Ok(ranking) => Ok(ranking),
-        Err(fault) => Err(rule_shortfall(alloc, rule, shape, fault)),
+        Err(fault) => Err(rule_shortfall(fault)),
     }
 }

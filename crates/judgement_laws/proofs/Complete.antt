@@ -8,22 +8,22 @@ use Rattle.csp_tables.specs.Part.{TripleDisjoint, sharers}
 use Rattle.csp_tables.specs.Shape.{Shape}
 use Rattle.csp_tables.specs.declared.rule.Rule.{Rule}
 use Rattle.design_rules.proofs.Readings.{network_faults_refute}
-use Rattle.design_rules.specs.Outline.{outline}
 use Rattle.design_rules.specs.declared.noted_rule.NotedRule.{NotedRule}
 use Rattle.design_rules.specs.declared.rule_fault.RuleFault.{RuleFault}
 use Rattle.judgement.proofs.Notes.{all_told, same_ok}
 use Rattle.judgement.proofs.OneNetwork.{one_network}
 use Rattle.judgement.specs.Judged.{IsDeadlockFree, IsJudged, RuleDecides}
-use Rattle.judgement.specs.Noted.{BreaksRule, IsRanked, MeetsRule, Notes, notes_of}
+use Rattle.judgement.specs.Noted.{Breaks, Meets, Notes, notes_of}
 use Rattle.judgement.specs.Told.{TellsRule}
 use Rattle.network_layout.proofs.TripleLemmas.{length-holders}
 use Rattle.network_layout.specs.Triple.{alphabets, holders}
+use Rattle.network_layout.specs.declared.triple.TripleFault.TheVariants as triple
 use Rattle.network_stages.specs.Networks.{Network}
 use Rattle.network_stages.specs.Sets.{HaveFewSets}
 use Rattle.network_stages.specs.Shapes.{IsApart}
 use Rattle.network_stages.specs.Stages.{CanStop, HasNoParts, HasNoTables, ShareEvent, StaysBusy}
 use Rattle.process_steps.specs.ComponentStep.{ProcessStep}
-use Rattle.report.specs.Points.{Point, UnprovedOr}
+use Rattle.report.specs.Points.{Point, UnprovedUnless}
 use Rattle.report.specs.Points.Point.{passed, told}
 use Rattle.report.specs.Report.{verdict_status}
 use Rattle.report.specs.declared.answer.Refusal.{Refusal}
@@ -47,9 +47,9 @@ module _ (network : Network) where
   few_sets r few (i, first, is) = few i first.component (slice_get_within (leaves network.tree) i first.component first.at) first.at first.many
 
   none_shared : (s : Shortfall) → TripleDisjoint (alphabets (leaves network.tree)) → ShareEvent network s → ⊥
-  none_shared s apart (e, i, j, k, triple, is) =
+  none_shared s apart (triple.Shared e parts, first_three, is) =
       let all = alphabets (leaves network.tree) in
-      let many : length (take 3 (holders 0 (alphabets (leaves network.tree)) e)) ≡ 3 = ap length triple.first in
+      let many : length (take 3 (holders 0 (alphabets (leaves network.tree)) e)) ≡ 3 = ap length first_three.first in
       let taken : length (take 3 (holders 0 (alphabets (leaves network.tree)) e)) ≡ min 3 (length (holders 0 (alphabets (leaves network.tree)) e)) = length-take 3 (holders 0 all e) in
       let whole : length (holders 0 (alphabets (leaves network.tree)) e) ≡ sharers (alphabets (leaves network.tree)) e = length-holders 0 all e in
       let few : sharers (alphabets (leaves network.tree)) e ≤ 2 = apart e in
@@ -62,9 +62,9 @@ module _ (network : Network) where
   one_note : (rule : Rule) (m n : NotedRule) → Notes network rule m → Notes network rule n → m ≡ n
   one_note rule m n a b = same_ok (notes_of network rule) m n a b
 
-  not_broken : (notes : NotedRule) (shape : Shape) (s : Shortfall) → IsApart network shape → MeetsRule network notes → BreaksRule network notes s → ⊥
+  not_broken : (notes : NotedRule) (shape : Shape) (s : Shortfall) → IsApart network shape → Meets network notes → Breaks network notes s → ⊥
   not_broken notes shape s apart meets (f, breaks, tells) =
-      subst (λ (g : RuleFault). TellsRule notes (outline (leaves network.tree)) g s)
+      subst (λ (g : RuleFault). TellsRule g s)
       (network_faults_refute (ProcessStep network.program) network.tree shape apart.is notes f meets breaks) tells
 
 -- ---- a network that passes
@@ -78,8 +78,8 @@ complete network rule v passes judged =
     goes_past _ _ _ _ (verdict_status v ≡ 0) v (λ s. none_stops network s passes.busy) (λ unit busy judged4.
     goes_past _ _ _ _ (verdict_status v ≡ 0) v (λ r. all_told network rule passes.notes r passes.noted) (λ notes noted judged5.
     goes_past _ _ _ _ (verdict_status v ≡ 0) v (λ s. not_broken network notes shape s apart
-    (subst (λ (n : NotedRule). MeetsRule network n) (one_note network rule passes.notes notes passes.noted noted) passes.meets))
-    (λ ranking ranked free. ap verdict_status free.is) judged5) judged4) judged3) judged2) judged1) judged
+    (subst (λ (n : NotedRule). Meets network n) (one_note network rule passes.notes notes passes.noted noted) passes.meets))
+    (λ unit' meets free. ap verdict_status free.is) judged5) judged4) judged3) judged2) judged1) judged
 
 -- ---- two verdicts
 
@@ -105,10 +105,10 @@ module _ (network : Network) (rule : Rule) (v w : Verdict) where
       both_here _ _ _ _ _ _ 2 v w refused_two (λ r notes fails noted. all_told network rule notes r noted fails) (λ r notes fails noted. all_told network rule notes r noted fails)
       (λ notes others noted noted' next next'.
       both_here _ _ _ _ _ _ 1 v w unproved_one
-      (λ s ranking fails ranked. not_broken network notes shape s apart ranked.0 fails)
-      (λ s ranking fails ranked. not_broken network notes shape s apart ranked.0 fails)
-      (λ ranking ranking' ranked ranked' free free'. ap verdict_status free.is ∙ sym (ap verdict_status free'.is))
-      next (subst (λ (n : NotedRule). UnprovedOr (BreaksRule network n) (IsRanked network n other) (λ ranking. IsDeadlockFree network rule other ranking) w)
+      (λ s u fails meets. not_broken network notes shape s apart meets fails)
+      (λ s u fails meets. not_broken network notes shape s apart meets fails)
+      (λ u u' meets meets' free free'. ap verdict_status free.is ∙ sym (ap verdict_status free'.is))
+      next (subst (λ (n : NotedRule). UnprovedUnless (Breaks network n) (Meets network n) (IsDeadlockFree network rule n other) w)
       (sym (one_note network rule notes others noted noted')) next')) decides decides'
 
   one_status : IsJudged network rule v → IsJudged network rule w → verdict_status v ≡ verdict_status w

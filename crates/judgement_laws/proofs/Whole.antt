@@ -1,13 +1,13 @@
 -- What stands where a network is judged free of deadlock: all that the walk found on its way.
 use Rattle.std.proofs.Common.{◌≡◌, List, refl, arith}
+use Rattle.std.specs.Prelude.{pos}
 use Rattle.csp_tables.specs.Network.{leaves}
-use Rattle.csp_tables.specs.Ranking.{Ranking}
 use Rattle.csp_tables.specs.Shape.{Shape}
 use Rattle.csp_tables.specs.declared.rule.Rule.{Rule}
 use Rattle.design_rules.specs.declared.noted_rule.NotedRule.{NotedRule}
-use Rattle.judgement.specs.Counts.{greatest_rank, node_count}
+use Rattle.judgement.specs.Counts.{node_count}
 use Rattle.judgement.specs.Judged.{IsDeadlockFree, IsJudged, RuleDecides}
-use Rattle.judgement.specs.Noted.{IsRanked, Notes}
+use Rattle.judgement.specs.Noted.{Meets, Notes}
 use Rattle.network_stages.specs.Networks.{Network}
 use Rattle.network_stages.specs.Shapes.{IsApart}
 use Rattle.network_stages.specs.Stages.{HasTables, StaysBusy}
@@ -38,9 +38,8 @@ pub record IsJudgedWhole (network : Network) (rule : Rule) (v : Verdict) : Type 
   pub busy : StaysBusy network
   pub notes : NotedRule
   pub noted : Notes network rule notes
-  pub ranking : Ranking
-  pub ranked : IsRanked network notes shape ranking
-  pub free : IsDeadlockFree network rule shape ranking v
+  pub meets : Meets network notes
+  pub free : IsDeadlockFree network rule notes shape v
 
 -- What holds of each refusal, of each reason why a network is not proved, and where all was found, holds of the verdict.
 pub judged_whole : (network : Network) (rule : Rule) (Q : Verdict → Type 0) → ((r : Refusal) → Q (verdict.Refused side.Script r)) → ((s : Shortfall) → Q (verdict.NotProved s))
@@ -52,7 +51,7 @@ judged_whole network rule Q refused short whole =
     unproved_or _ _ _ Q short (λ shape d apart.
     unproved_or _ _ _ Q short (λ unit e busy.
     refused_or _ _ _ _ Q refused (λ notes f noted.
-    unproved_or _ _ _ Q short (λ ranking g ranked free.
+    unproved_or _ _ _ Q short (λ unit' g meets free.
     whole g (record {
       tables = tables;
       are = are;
@@ -62,8 +61,7 @@ judged_whole network rule Q refused short whole =
       busy = busy;
       notes = notes;
       noted = noted;
-      ranking = ranking;
-      ranked = ranked;
+      meets = meets;
       free = free;
     })) f) e) d) c) b)
 
@@ -78,7 +76,7 @@ module _ (network : Network) (rule : Rule) (v : Verdict) (whole : IsJudgedWhole 
     busy = whole.busy;
     notes = whole.notes;
     noted = whole.noted;
-    meets = whole.ranked.0;
+    meets = whole.meets;
   }
 
   -- no component ends or lacks a value
@@ -90,16 +88,8 @@ module _ (network : Network) (rule : Rule) (v : Verdict) (whole : IsJudgedWhole 
   classes = shape_has_classes (ProcessStep network.program) network.tree whole.shape whole.apart.is
 
   -- the rank is the rule's
-  pub has_greatest_rank : HasGreatestRank network rule (greatest_rank whole.ranking)
-  has_greatest_rank = record {
-    notes = whole.notes;
-    noted = whole.noted;
-    shape = whole.shape;
-    of = whole.apart.is;
-    ranking = whole.ranking;
-    ranks = whole.ranked.1;
-    greatest = refl;
-  }
+  pub has_greatest_rank : HasGreatestRank network rule (pos whole.free.rank)
+  has_greatest_rank = record { notes = whole.notes; are = whole.noted; number = whole.free.rank; greatest = whole.free.greatest; is = refl }
 
 -- a network whose verdict has the status 0 passes
 pub zero_passes : (network : Network) (rule : Rule) (v : Verdict) → IsJudged network rule v → verdict_status v ≡ 0 → Passes network rule

@@ -6,7 +6,7 @@ use Rattle.csp_tables.specs.declared.rule.Rule.{Rule}
 use Rattle.csp_text.specs.declared.script.Script.{Script}
 use Rattle.design_rules.specs.declared.noted_rule.NotedRule.{NotedRule}
 use Rattle.judgement.specs.Judged.{IsJudged}
-use Rattle.judgement.specs.Noted.{MeetsRule, Notes}
+use Rattle.judgement.specs.Noted.{Meets, Notes}
 use Rattle.network_layout.specs.Triple.{alphabets}
 use Rattle.network_stages.specs.Networks.{IsNetworkOf, Network}
 use Rattle.network_stages.specs.Sets.{HaveFewSets}
@@ -26,7 +26,7 @@ pub record Passes (network : Network) (rule : Rule) : Type 0 where
   pub busy : StaysBusy network
   pub notes : NotedRule
   pub noted : Notes network rule notes
-  pub meets : MeetsRule network notes
+  pub meets : Meets network notes
 
 -- Two verdicts on the network of one script by one rule have the same status. (Where a definition leaves a choice, as of a trace, it is among verdicts of one
 -- status.)

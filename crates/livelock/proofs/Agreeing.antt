@@ -1,16 +1,18 @@
 -- Two verdicts on one network, asked of one set: at each point of their walks a fault excludes what is there else, and what is there is one.
 use Rattle.std.proofs.Common.{◌≡◌, ℕ, Option, Some, None, Ok, Err, List, length, refl, sym, ap, subst, ◌∙◌}
 use Rattle.csp_program.specs.Outcome.{Outcome}
+use Rattle.csp_program.specs.declared.expressions.Expr.{Expr}
 use Rattle.csp_program.specs.declared.kinds.ValueKind.{ValueKind}
 use Rattle.csp_tables.specs.Network.{leaves}
 use Rattle.hidden_bounds.proofs.Passing.{passes_excludes, passes_once}
 use Rattle.hidden_steps.proofs.Agreeing.{no_order, one_order, one_rest}
+use Rattle.hidden_steps.specs.Order.{Taken}
 use Rattle.judgement_laws.proofs.Tables.{faults_exclude_tables}
 use Rattle.network_stages.specs.Networks.{Network}
 use Rattle.network_stages.specs.Stages.{HasNoTables, HasTables}
 use Rattle.process_steps.specs.ComponentStep.{ProcessStep}
 use Rattle.process_steps.specs.Needed.{events_in}
-use Rattle.report.specs.Points.{Point}
+use Rattle.report.specs.Points.{Point, RefusedOr}
 use Rattle.report.specs.Points.Point.{passed, told}
 use Rattle.report.specs.Report.{verdict_status}
 use Rattle.report.specs.declared.answer.Done.TheVariants as done
@@ -54,6 +56,16 @@ with_one : {X : Type 0} (Is : X → Type 0) (Then : X → Verdict → Type 0) (R
     → ((x : X) → Is x → Then x v → Then x w → R v w) → (x y : X) → Is x → Is y → Then x v → Then y w → R v w
 with_one Is Then R v w one rest x y is is' next next' = rest x is next (subst (λ z. Then z w) (sym (one x y is is')) next')
 
+-- what comes after each point
+abbrev BoundDecides : Network → List ℕ → List Taken → Verdict → Type 0
+BoundDecides network events order = RefusedOr side.Script (HasTooGreatBound events order) (IsBoundOf events order) (IsToldBound network)
+
+abbrev TablesDecide : Network → List ℕ → Verdict → Type 0
+TablesDecide network events = RefusedOr side.Script (HasNoTables network) (HasTables network) (λ tables. OrderDecides network events)
+
+abbrev ValueDecides : Network → Expr → Verdict → Type 0
+ValueDecides network expr = RefusedOr side.Script (LacksValue network.program expr) (λ events. events_in network.program expr ≡ Ok events) (TablesDecide network)
+
 -- what holds of equal verdicts
 module _ (R : Verdict → Verdict → Type 0) (same : (v : Verdict) → R v v) (network : Network) where
   equal : (v w : Verdict) → v ≡ w → R v w
@@ -63,11 +75,11 @@ module _ (R : Verdict → Verdict → Type 0) (same : (v : Verdict) → R v v) (
   unfolding OrderDecides
   orders_agree events v w =
       let cs = leaves network.tree in
-      at_point (LacksOrder network events) verdict.NotProved (HasOrder network events) _ R v w
+      at_point (LacksOrder network events) verdict.NotProved (HasOrder network events) (BoundDecides network events) R v w
       (λ s t a b. equal (verdict.NotProved s) (verdict.NotProved t) (ap verdict.NotProved (a.2 ∙ ap shortfall.NoOrder (one_rest (ProcessStep network.program) events cs a.0 b.0 a.1 b.1) ∙ sym b.2)))
       (λ s order a is. no_order (ProcessStep network.program) events cs a.0 order a.1 is)
-      (with_one (HasOrder network events) _ R v w (one_order (ProcessStep network.program) events cs) (λ order all.
-      at_point (HasTooGreatBound events order) (verdict.Refused side.Script) (IsBoundOf events order) _ R v w
+      (with_one (HasOrder network events) (BoundDecides network events) R v w (one_order (ProcessStep network.program) events cs) (λ order all.
+      at_point (HasTooGreatBound events order) (verdict.Refused side.Script) (IsBoundOf events order) (IsToldBound network) R v w
       (λ r t a b. equal (verdict.Refused side.Script r) (verdict.Refused side.Script t)
       (ap (verdict.Refused side.Script) (a.2 ∙ ap refusal.BoundLimit (passes_once events order a.0 b.0 a.1 b.1) ∙ sym b.2)))
       (λ r bound a is. passes_excludes events order a.0 bound a.1 is.0 is.1)
@@ -78,15 +90,15 @@ module _ (R : Verdict → Verdict → Type 0) (same : (v : Verdict) → R v v) (
     unfolding IsBounded
     verdicts_agree name v w =
         let p = network.program in
-        at_point (NamesNoSet p name) (verdict.Refused side.Script) (λ expr. data_named p name ≡ Some expr) _ R v w
+        at_point (NamesNoSet p name) (verdict.Refused side.Script) (λ expr. data_named p name ≡ Some expr) (ValueDecides network) R v w
         (λ r s a b. equal (verdict.Refused side.Script r) (verdict.Refused side.Script s) (ap (verdict.Refused side.Script) (a.1 ∙ sym b.1)))
         (λ r expr a is. none_or_some (data_named p name) expr a.0 is)
-        (with_one (λ expr. data_named p name ≡ Some expr) _ R v w (same_some (data_named p name)) (λ expr named.
-        at_point (LacksValue p expr) (verdict.Refused side.Script) (λ events. events_in p expr ≡ Ok events) _ R v w
+        (with_one (λ expr. data_named p name ≡ Some expr) (ValueDecides network) R v w (same_some (data_named p name)) (λ expr named.
+        at_point (LacksValue p expr) (verdict.Refused side.Script) (λ events. events_in p expr ≡ Ok events) (TablesDecide network) R v w
         (λ r s a b. equal (verdict.Refused side.Script r) (verdict.Refused side.Script s)
         (ap (verdict.Refused side.Script) (a.2 ∙ ap (λ kind. refusal.Value kind site.HiddenSet) (same_err (events_in p expr) a.0 b.0 a.1 b.1) ∙ sym b.2)))
         (λ r events a is. err_or_ok (events_in p expr) a.0 events a.1 is)
-        (with_one (λ events. events_in p expr ≡ Ok events) _ R v w (same_ok (events_in p expr)) (λ events value.
+        (with_one (λ events. events_in p expr ≡ Ok events) (TablesDecide network) R v w (same_ok (events_in p expr)) (λ events value.
         at_point (HasNoTables network) (verdict.Refused side.Script) (HasTables network) (λ tables. OrderDecides network events) R v w untabled
         (λ r tables fails are. faults_exclude_tables p (leaves network.tree) tables 0 r are fails)
         (λ tables others are are'. orders_agree events v w)))))

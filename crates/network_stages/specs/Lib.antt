@@ -4,4 +4,5 @@ pub mod Rows
 pub mod Sets
 pub mod Shapes
 pub mod Stages
+pub mod TreeCode
 pub mod Views

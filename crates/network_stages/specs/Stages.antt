@@ -6,7 +6,9 @@ use Rattle.csp_tables.specs.Network.{Component, leaves}
 use Rattle.csp_tables.specs.Part.{Part}
 use Rattle.csp_tables.specs.ShapeOf.{AreBusy}
 use Rattle.csp_text.specs.declared.script.Script.{Script}
-use Rattle.network_layout.specs.Triple.{IsTriple, alphabets}
+use Rattle.network_layout.specs.Triple.{SharesEvent, alphabets}
+use Rattle.network_layout.specs.declared.triple.TripleFault.{TripleFault}
+use Rattle.network_layout.specs.declared.triple.TripleFault.TheVariants as triple
 use Rattle.network_tables.specs.Faults.{HasFault, IsFirst}
 use Rattle.network_tables.specs.Tables.{AreTablesOf}
 use Rattle.network_tables.specs.declared.component_tables.ComponentTable.{ComponentTable}
@@ -58,6 +60,9 @@ HasNoPart p n c r =
 
 -- ---- a network
 
+abbrev pub shared_by : TripleFault → Shortfall
+shared_by (triple.Shared e parts) = shortfall.NotTripleDisjoint e parts
+
 module _ (network : Network) where
   -- each component has a table, within the room that those before it leave
   abbrev pub HasTables : List ComponentTable → Type 0
@@ -77,9 +82,7 @@ module _ (network : Network) where
 
   -- an event is in the alphabets of three components
   abbrev pub ShareEvent : Shortfall → Type 0
-  ShareEvent s =
-      (e : ℕ) × (i : ℕ) × (j : ℕ) × (k : ℕ) × IsTriple (alphabets (leaves network.tree)) e i j k
-      × (s ≡ shortfall.NotTripleDisjoint e (i, j, k))
+  ShareEvent s = (f : TripleFault) × SharesEvent (alphabets (leaves network.tree)) f × (s ≡ shared_by f)
 
   -- no component is ever empty-handed
   abbrev pub StaysBusy : Type 0

@@ -48,11 +48,12 @@ impl<'a> Model for Parted<'a> {
     ghost use Rattle.csp_program.specs.contracts.processes.Proc as process;
     ghost use Rattle.csp_tables.specs.Form.{HaveForm};
     ghost use Rattle.network_stages.specs.Stages.{HasParts};
+    ghost use Rattle.network_stages.specs.TreeCode.{tree_code};
     ghost use Rattle.network_stages.specs.Views.{PartedNetwork};
 
     ghost Value = { PartedNetwork };
 
-    ghost coded = { Prim.hlevel (codes, expression.the_row.coded, net.the_row.coded, process.the_row.coded) };
+    ghost coded = { Prim.hlevel (codes, tree_code, expression.the_row.coded, net.the_row.coded, process.the_row.coded) };
 
     ghost view = { λ s. record { network = s.network.now; parts = s.parts.items } };
 
@@ -79,9 +80,9 @@ impl<'a> Parted<'a> {
 
     // The parts alone.
     pub(crate) fn into_parts(self) -> Vec<Part>
-        ensures parts { result.items ≡ self.parts }
-        ensures are { HasParts self.network self.parts }
-        ensures form { HaveForm self.parts }
+        ensures parts { result.items ≡ self.entry.parts }
+        ensures are { HasParts self.entry.network self.entry.parts }
+        ensures form { HaveForm self.entry.parts }
     {
         let Parted {
             network: _network,

@@ -8,7 +8,7 @@ ghost use Rattle.report.specs.Stops.{Tells};
 ghost use Rattle.network_stages.specs.Networks.{IsSpelled};
 ghost use Rattle.network_stages.specs.Rows.{AreLinksBefore, IsVocabulary};
 ghost use Rattle.network_stages.specs.Shapes.{IsApart};
-ghost use Rattle.network_stages.specs.Stages.{ShareEvent};
+ghost use Rattle.network_stages.specs.Stages.{ShareEvent, shared_by};
 
 use crate::links::linked;
 use crate::parts::Parted;
@@ -43,11 +43,12 @@ impl<'a> Model for Shaped<'a> {
     ghost use Rattle.csp_program.specs.contracts.networks.Net as net;
     ghost use Rattle.csp_program.specs.contracts.processes.Proc as process;
     ghost use Rattle.network_stages.specs.Shapes.{IsApart};
+    ghost use Rattle.network_stages.specs.TreeCode.{tree_code};
     ghost use Rattle.network_stages.specs.Views.{ShapedNetwork};
 
     ghost Value = { ShapedNetwork };
 
-    ghost coded = { Prim.hlevel (codes, expression.the_row.coded, net.the_row.coded, process.the_row.coded) };
+    ghost coded = { Prim.hlevel (codes, tree_code, expression.the_row.coded, net.the_row.coded, process.the_row.coded) };
 
     ghost view = { λ s. record { network = s.network.now; shape = s.shape } };
 
@@ -97,11 +98,22 @@ fn shape_of(alloc: Global, parts: Vec<Part>) -> Result<Shape, NoMemory>
     Ok(Shape::new(parts, links, vocabulary))
 }
 
+// How it is told that an event is in three alphabets.
+fn shared(fault: TripleFault) -> Shortfall
+    ensures { result ≡ shared_by fault }
+{
+    let TripleFault::Shared { event, parts } = fault;
+    Shortfall::NotTripleDisjoint {
+        event,
+        components: parts,
+    }
+}
+
 /// A network of which no event is in three alphabets with its shape, from the parts of its components; or that an event is.
 pub fn make_shape<'a>(alloc: Global, parted: Parted<'a>) -> Result<Shaped<'a>, Stop<Shortfall>>
-    ensures network { IfOk result (λ made. made.network ≡ parted.network) }
-    ensures apart { IfOk result (λ made. IsApart parted.network made.shape) }
-    ensures told { IfErr result (Tells (ShareEvent parted.network)) }
+    ensures network { IfOk result (λ made. made.network ≡ parted.entry.network) }
+    ensures apart { IfOk result (λ made. IsApart parted.entry.network made.shape) }
+    ensures told { IfErr result (Tells (ShareEvent parted.entry.network)) }
 {
     let network = parted.network();
     match triple_disjoint(network.layout()) {
@@ -109,11 +121,6 @@ pub fn make_shape<'a>(alloc: Global, parted: Parted<'a>) -> Result<Shaped<'a>, S
             let shape = shape_of(alloc, parted.into_parts())?;
             Ok(Shaped { network, shape })
         }
-        Err(TripleFault::Shared { event, parts }) => {
-            Err(Stop::Told(Shortfall::NotTripleDisjoint {
-                event,
-                components: parts,
-            }))
-        }
+        Err(fault) => Err(Stop::Told(shared(fault))),
     }
 }

@@ -39,10 +39,11 @@ impl Model for Spelled {
     ghost use Rattle.csp_program.specs.contracts.networks.Net as network;
     ghost use Rattle.csp_program.specs.contracts.processes.Proc as process;
     ghost use Rattle.network_stages.specs.Networks.{AreSeatsOf, Network, network_at};
+    ghost use Rattle.network_stages.specs.TreeCode.{tree_code};
 
     ghost Value = { Network };
 
-    ghost coded = { Prim.hlevel (codes, expression.the_row.coded, network.the_row.coded, process.the_row.coded) };
+    ghost coded = { Prim.hlevel (codes, tree_code, expression.the_row.coded, network.the_row.coded, process.the_row.coded) };
 
     ghost view = { λ s. network_at s.program };
 
@@ -61,7 +62,8 @@ impl Spelled {
 
     /// The components, from left to right.
     pub fn layout(&self) -> &Layout
-        ensures { result.now ≡ leaves self.now.tree }
+        ensures layout { result.now ≡ leaves self.now.tree }
+        ensures spelled { IsSpelled self.now }
     {
         let _ = &self.program;
         &self.layout

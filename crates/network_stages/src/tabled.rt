@@ -37,11 +37,12 @@ impl<'a> Model for Tabled<'a> {
     ghost use Rattle.csp_program.specs.contracts.networks.Net as net;
     ghost use Rattle.csp_program.specs.contracts.processes.Proc as process;
     ghost use Rattle.network_stages.specs.Stages.{HasTables};
+    ghost use Rattle.network_stages.specs.TreeCode.{tree_code};
     ghost use Rattle.network_stages.specs.Views.{TabledNetwork};
 
     ghost Value = { TabledNetwork };
 
-    ghost coded = { Prim.hlevel (codes, expression.the_row.coded, net.the_row.coded, process.the_row.coded) };
+    ghost coded = { Prim.hlevel (codes, tree_code, expression.the_row.coded, net.the_row.coded, process.the_row.coded) };
 
     ghost view = { λ t. record { network = t.network.now; tables = t.tables.items } };
 
@@ -69,7 +70,8 @@ impl<'a> Tabled<'a> {
     pub fn silent_bound(&self) -> u32
         ensures { HasSilentBound self.now.network result }
     {
-        let _seats = self.network.seats();
+        let network = self.network();
+        let _seats = network.seats();
         silent_bound(self.tables())
     }
 }

@@ -1,55 +1,61 @@
 -- Walks and their points. A walk that stops at a point tells what the point tells; one that goes on answers what the rest answers.
-use Rattle.std.proofs.Common.{Result, Ok, Err, IfOk, refl, sym, subst}
+use Rattle.std.proofs.Common.{◌≡◌, Result, Ok, Err, refl, sym, subst}
+use Rattle.std.specs.Result.{IsErrAnd}
+use Rattle.std.proofs.lemmas.Result.{err_from_is_err_and}
 use Rattle.report.specs.Points.{Point, RefusedOr, UnprovedOr}
 use Rattle.report.specs.Points.Point.{passed, told}
-use Rattle.report.specs.Stops.{Answers, Tells, refused, stop_of, unproved}
-use Rattle.report.specs.declared.answer.Answer.{Answer}
-use Rattle.report.specs.declared.answer.Answer.TheVariants as answer
+use Rattle.report.specs.Stops.{Answers, Tells, refused, unproved}
 use Rattle.report.specs.declared.answer.Done.{Done}
 use Rattle.report.specs.declared.answer.Refusal.{Refusal}
 use Rattle.report.specs.declared.answer.Shortfall.{Shortfall}
 use Rattle.report.specs.declared.answer.Side.{Side}
+use Rattle.report.specs.declared.answer.Verdict.{Verdict}
+use Rattle.report.specs.declared.answer.Verdict.TheVariants as verdict
 use Rattle.report.specs.declared.stop.Stop.{Stop}
 use Rattle.report.specs.declared.stop.Stop.TheVariants as stop
 
--- a weaker answer
-pub weaker : (P Q : Answer → Type 0) → ((a : Answer) → P a → Q a) → (s : Stop Answer) → Tells P s → Tells Q s
+-- what is told says less
+pub weaker : {A : Type 0} (P Q : A → Type 0) → ((a : A) → P a → Q a) → (s : Stop A) → Tells P s → Tells Q s
 weaker P Q weak stop.NoMemory tells = tt
 weaker P Q weak (stop.Told a) tells = weak a tells
 
--- what a step is told to have, its stop tells
-pub tells_stop : {F E : Type 0} (Is : F → Type 0) (r : Result F E) → IfOk r Is → Tells Is (stop_of r)
-tells_stop Is (Ok f) is = is
-tells_stop Is (Err e) is = tt
-
--- a step refuses
-pub refuses : {X : Type 0} (side : Side) (Fails : Refusal → Type 0) (Is : X → Type 0) (Then : X → Answer → Type 0) (s : Stop Refusal) → Tells Fails s
-    → Tells (RefusedOr side Fails Is Then) (refused side s)
-refuses side Fails Is Then stop.NoMemory tells = tt
-refuses side Fails Is Then (stop.Told r) tells = told r tells refl
-
--- a step falls short
-pub falls_short : {X : Type 0} (Fails : Shortfall → Type 0) (Is : X → Type 0) (Then : X → Answer → Type 0) (s : Stop Shortfall) → Tells Fails s → Tells (UnprovedOr Fails Is Then) (unproved s)
-falls_short Fails Is Then stop.NoMemory tells = tt
-falls_short Fails Is Then (stop.Told r) tells = told r tells refl
-
-module _ {F X : Type 0} (Fails : F → Type 0) (Told : F → Answer → Type 0) (Is : X → Type 0) (Then : X → Answer → Type 0) (x : X) (is : Is x) where
-  -- the walk goes on, and stops later
-  pub stops_later : (s : Stop Answer) → Tells (Then x) s → Tells (Point Fails Told Is Then) s
-  stops_later s tells = weaker (Then x) (Point Fails Told Is Then) (λ a rest. passed x is rest) s tells
-
-  -- the walk goes on to its end
-  pub goes_on : (r : Result Done (Stop Answer)) → Answers (Then x) r → Answers (Point Fails Told Is Then) r
+module _ {F X : Type 0} (Fails : F → Type 0) (Told : F → Verdict → Type 0) (Is : X → Type 0) (Then : X → Verdict → Type 0) (x : X) (is : Is x) where
+  -- the walk goes on, and to its end
+  pub goes_on : (r : Result Done (Stop Verdict)) → Answers (Then x) r → Answers (Point Fails Told Is Then) r
   goes_on (Ok what) answers = passed x is answers
-  goes_on (Err s) answers = stops_later s answers
+  goes_on (Err s) answers = weaker (Then x) (Point Fails Told Is Then) (λ v rest. passed x is rest) s answers
 
--- What holds of each fault, and of what follows, holds of the answer.
-pub refused_or : {X : Type 0} (side : Side) (Fails : Refusal → Type 0) (Is : X → Type 0) (Then : X → Answer → Type 0) (Q : Answer → Type 0) → ((r : Refusal) → Q (answer.Refused side r))
-    → ((x : X) (a : Answer) → Is x → Then x a → Q a) → (a : Answer) → RefusedOr side Fails Is Then a → Q a
-refused_or side Fails Is Then Q of rest a (told r fails same) = subst Q (sym same) (of r)
-refused_or side Fails Is Then Q of rest a (passed x is next) = rest x a is next
+-- What a walk over networks answers that stops at a `?`: a step told why it stops, or memory ran out.
+module _ (r : Result Done (Stop Verdict)) where
+  -- the rest of the walk stopped
+  pub at_stop : (Is : Verdict → Type 0) (s : Stop Verdict) → IsErrAnd r (λ t. t ≡ s) → Tells Is s → Answers Is r
+  at_stop Is s exit tells =
+      let p = err_from_is_err_and r exit in
+      subst (Answers Is) (sym p.1) (subst (Tells Is) (sym p.2) tells)
 
-pub unproved_or : {X : Type 0} (Fails : Shortfall → Type 0) (Is : X → Type 0) (Then : X → Answer → Type 0) (Q : Answer → Type 0) → ((s : Shortfall) → Q (answer.NotProved s))
-    → ((x : X) (a : Answer) → Is x → Then x a → Q a) → (a : Answer) → UnprovedOr Fails Is Then a → Q a
-unproved_or Fails Is Then Q of rest a (told s fails same) = subst Q (sym same) (of s)
-unproved_or Fails Is Then Q of rest a (passed x is next) = rest x a is next
+  pub at_refusal : {X : Type 0} (side : Side) (Fails : Refusal → Type 0) (Is : X → Type 0) (Then : X → Verdict → Type 0) (s : Stop Refusal) → IsErrAnd r (λ t. t ≡ refused side s) → Tells Fails s
+      → Answers (RefusedOr side Fails Is Then) r
+  at_refusal side Fails Is Then stop.NoMemory exit tells = at_stop (RefusedOr side Fails Is Then) stop.NoMemory exit tt
+  at_refusal side Fails Is Then (stop.Told f) exit tells = at_stop (RefusedOr side Fails Is Then) (refused side (stop.Told f)) exit (told f tells refl)
+
+  pub at_shortfall : {X : Type 0} (Fails : Shortfall → Type 0) (Is : X → Type 0) (Then : X → Verdict → Type 0) (s : Stop Shortfall) → IsErrAnd r (λ t. t ≡ unproved s) → Tells Fails s
+      → Answers (UnprovedOr Fails Is Then) r
+  at_shortfall Fails Is Then stop.NoMemory exit tells = at_stop (UnprovedOr Fails Is Then) stop.NoMemory exit tt
+  at_shortfall Fails Is Then (stop.Told f) exit tells = at_stop (UnprovedOr Fails Is Then) (unproved (stop.Told f)) exit (told f tells refl)
+
+  pub at_want : (Is : Verdict → Type 0) → IsErrAnd r (λ t. t ≡ stop.NoMemory) → Answers Is r
+  at_want Is exit = at_stop Is stop.NoMemory exit tt
+
+-- the exits of a walk over networks: `search (rules, exits)` closes them
+pub ruleset exits = (at_refusal, at_shortfall, at_want)
+
+-- What holds of each fault, and of what follows, holds of the verdict.
+pub refused_or : {X : Type 0} (side : Side) (Fails : Refusal → Type 0) (Is : X → Type 0) (Then : X → Verdict → Type 0) (Q : Verdict → Type 0) → ((r : Refusal) → Q (verdict.Refused side r))
+    → ((x : X) (v : Verdict) → Is x → Then x v → Q v) → (v : Verdict) → RefusedOr side Fails Is Then v → Q v
+refused_or side Fails Is Then Q of rest v (told r fails same) = subst Q (sym same) (of r)
+refused_or side Fails Is Then Q of rest v (passed x is next) = rest x v is next
+
+pub unproved_or : {X : Type 0} (Fails : Shortfall → Type 0) (Is : X → Type 0) (Then : X → Verdict → Type 0) (Q : Verdict → Type 0) → ((s : Shortfall) → Q (verdict.NotProved s))
+    → ((x : X) (v : Verdict) → Is x → Then x v → Q v) → (v : Verdict) → UnprovedOr Fails Is Then v → Q v
+unproved_or Fails Is Then Q of rest v (told s fails same) = subst Q (sym same) (of s)
+unproved_or Fails Is Then Q of rest v (passed x is next) = rest x v is next

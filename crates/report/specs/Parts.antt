@@ -9,6 +9,7 @@ use Rattle.report.specs.declared.lines.Part.TheVariants as part
 abbrev pub part_text : Part → List ℕ
 part_text (part.Text text) = text.now
 part_text (part.Number n) = decimal n
+part_text (part.Count n) = decimal n
 part_text (part.Signed n) = signed_decimal n
 part_text (part.Numbers ns) = numbers_text ns.now
 part_text (part.Event p e) = event_text p.now e

@@ -1,11 +1,8 @@
 -- The points of a walk to an answer, one after another: the order in which faults are told is the order of the points.
 use Rattle.std.specs.Prelude.{◌≡◌}
-use Rattle.report.specs.declared.answer.Answer.{Answer}
-use Rattle.report.specs.declared.answer.Answer.TheVariants as answer
 use Rattle.report.specs.declared.answer.Refusal.{Refusal}
 use Rattle.report.specs.declared.answer.Shortfall.{Shortfall}
 use Rattle.report.specs.declared.answer.Side.{Side}
-use Rattle.report.specs.declared.answer.TextFault.{TextFault}
 use Rattle.report.specs.declared.answer.Verdict.{Verdict}
 use Rattle.report.specs.declared.answer.Verdict.TheVariants as verdict
 
@@ -13,10 +10,6 @@ use Rattle.report.specs.declared.answer.Verdict.TheVariants as verdict
 pub data Point {A F X : Type 0} (Fails : F → Type 0) (Tells : F → A → Type 0) (Is : X → Type 0) (Then : X → A → Type 0) (a : A) : Type 0 where
   told : (f : F) → Fails f → Tells f a → Point Fails Tells Is Then a
   passed : (x : X) → Is x → Then x a → Point Fails Tells Is Then a
-
--- the fault is why the text of this side has no program
-abbrev pub NoProgramOr : {X : Type 0} → Side → (TextFault → Type 0) → (X → Type 0) → (X → Answer → Type 0) → Answer → Type 0
-NoProgramOr side Fails Is Then a = Point Fails (λ f b. b ≡ answer.NoProgram side f) Is Then a
 
 -- the fault is a refusal of the program of this side
 abbrev pub RefusedOr : {X : Type 0} → Side → (Refusal → Type 0) → (X → Type 0) → (X → Verdict → Type 0) → Verdict → Type 0

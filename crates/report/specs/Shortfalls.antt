@@ -1,5 +1,5 @@
 -- The lines of each reason why a network is not proved.
-use Rattle.std.specs.Prelude.{ℕ, List, [], ◌∷◌, ◌++◌, codes}
+use Rattle.std.specs.Prelude.{ℕ, List, ◌++◌, codes}
 use Rattle.std.specs.List.{flat_map}
 use Rattle.std.specs.Fmt.{decimal}
 use Rattle.csp_program.specs.declared.programs.Content.{Content}
@@ -48,7 +48,7 @@ module _ (p : Content) where
 
   abbrev pub shortfall_text : Shortfall → List ℕ
   shortfall_text (shortfall.NotTripleDisjoint e parts) =
-      line (codes "20 event " ++ event_text p e ++ codes " is in alphabets" ++ numbers_text (parts.0 ∷ parts.1 ∷ parts.2 ∷ []))
+      line (codes "20 event " ++ event_text p e ++ codes " is in alphabets " ++ decimal parts.0 ++ codes " " ++ decimal parts.1 ++ codes " " ++ decimal parts.2)
   shortfall_text (shortfall.Stops i trace) = line (codes "21 component " ++ decimal i ++ codes " can stop after " ++ trace_text p trace)
   shortfall_text (shortfall.BreaksOrder i trace e) =
       line (codes "23 component " ++ decimal i ++ codes " breaks C1 after " ++ trace_text p trace ++ codes " by " ++ event_text p e)

@@ -3,11 +3,14 @@
 ghost use Rattle.std.specs.Prelude.{◌≡◌, ◌++◌, ◌+◌, ◌<◌, ◌∷◌, [], IfOk, OnOk, codes};
 ghost use Rattle.std.specs.List.{flat_map};
 ghost use Rattle.std.specs.Fmt.{decimal, signed_decimal};
-ghost use Rattle.report.specs.Lines.{comma_list, numbers_text};
+ghost use Rattle.report.specs.EventText.{event_text};
+ghost use Rattle.report.specs.Lines.{events_text, more_events_text, numbers_text, set_text, trace_text};
 ghost use Rattle.report.specs.Parts.{part_text, parts_text};
 ghost use Rattle.csp_base.specs.Texts.{line};
 
-use csp_base::{Bytes, NoMemory};
+use crate::events::push_event;
+use csp_base::{Bytes, Event, EventSet, Members, NoMemory};
+use csp_program::Content;
 use std::alloc::Global;
 
 // A part of a line.
@@ -16,15 +19,19 @@ pub(crate) enum Part<'a> {
     // A text.
     Text(&'a [u8]),
     // A number.
-    Number(u64),
+    Number(u32),
+    // A number that may be larger.
+    Count(u64),
     // A number, with its sign where it is below 0.
     Signed(i64),
     // Numbers, with a blank before each.
     Numbers(&'a [u32]),
-    // Events in their order.
-    Trace(&'a [Bytes]),
-    // A set of events.
-    Set(&'a [Bytes]),
+    // An event of a program.
+    Event(&'a Content, Event),
+    // Events of a program in their order.
+    Trace(&'a Content, &'a [Event]),
+    // A set of events of a program.
+    Set(&'a Content, &'a EventSet),
 }
 
 // Adds a digit.
@@ -76,42 +83,73 @@ fn push_numbers(report: &mut Bytes, numbers: &[u32]) -> Result<(), NoMemory>
     Ok(())
 }
 
-// Adds a text, with a comma and a blank before it.
-fn push_next(report: &mut Bytes, text: &Bytes) -> Result<(), NoMemory>
-    ensures { OnOk result (report.new ≡ report.old ++ (codes ", " ++ text.now)) }
+// Adds an event, with a comma and a blank before it.
+fn push_next(report: &mut Bytes, content: &Content, event: Event) -> Result<(), NoMemory>
+    ensures { OnOk result (report.new ≡ report.old ++ (codes ", " ++ event_text content.now event)) }
 {
     report.extend_from_slice(b", ")?;
-    report.extend_from_slice(text.as_slice())
+    push_event(report, content, event)
 }
 
-// Adds texts, with a comma and a blank before each.
-fn push_more(report: &mut Bytes, texts: &[Bytes]) -> Result<(), NoMemory>
-    ensures { OnOk result (report.new ≡ report.old ++ flat_map (λ text. codes ", " ++ text) texts.now) }
+// Adds events, with a comma and a blank before each.
+fn push_more(report: &mut Bytes, content: &Content, events: &[Event]) -> Result<(), NoMemory>
+    ensures { OnOk result (report.new ≡ report.old ++ more_events_text content.now events.now) }
 {
-    for text in texts {
-        push_next(report, text)?;
+    for event in events {
+        push_next(report, content, *event)?;
     }
     Ok(())
 }
 
-// Adds texts, with a comma and a blank between them.
-fn push_list(report: &mut Bytes, texts: &[Bytes]) -> Result<(), NoMemory>
-    ensures { OnOk result (report.new ≡ report.old ++ comma_list texts.now) }
+// Adds events, with a comma and a blank between them.
+fn push_events(report: &mut Bytes, content: &Content, events: &[Event]) -> Result<(), NoMemory>
+    ensures { OnOk result (report.new ≡ report.old ++ events_text content.now events.now) }
 {
-    let Some((first, more)) = texts.split_first() else {
+    let Some((first, more)) = events.split_first() else {
         return Ok(());
     };
-    report.extend_from_slice(first.as_slice())?;
-    push_more(report, more)
+    push_event(report, content, *first)?;
+    push_more(report, content, more)
 }
 
-// Adds texts, with a comma and a blank between them, between two bytes.
-fn push_enclosed(report: &mut Bytes, first: u8, texts: &[Bytes], last: u8) -> Result<(), NoMemory>
-    ensures { OnOk result (report.new ≡ report.old ++ (first ∷ (comma_list texts.now ++ last ∷ []))) }
+// Adds the members that are left, with a comma and a blank before each.
+fn push_rest(report: &mut Bytes, content: &Content, members: Members<'_>) -> Result<(), NoMemory>
+    ensures { OnOk result (report.new ≡ report.old ++ more_events_text content.now members.entry) }
 {
-    report.push(first)?;
-    push_list(report, texts)?;
-    report.push(last)
+    for event in members {
+        push_next(report, content, event)?;
+    }
+    Ok(())
+}
+
+// Adds the members of a set, with a comma and a blank between them.
+fn push_members(report: &mut Bytes, content: &Content, set: &EventSet) -> Result<(), NoMemory>
+    ensures { OnOk result (report.new ≡ report.old ++ events_text content.now set.now) }
+{
+    let mut members = set.iter();
+    let Some(first) = members.next() else {
+        return Ok(());
+    };
+    push_event(report, content, first)?;
+    push_rest(report, content, members)
+}
+
+// Adds a trace.
+fn push_trace(report: &mut Bytes, content: &Content, events: &[Event]) -> Result<(), NoMemory>
+    ensures { OnOk result (report.new ≡ report.old ++ trace_text content.now events.now) }
+{
+    report.push(b'<')?;
+    push_events(report, content, events)?;
+    report.push(b'>')
+}
+
+// Adds a set.
+fn push_set(report: &mut Bytes, content: &Content, set: &EventSet) -> Result<(), NoMemory>
+    ensures { OnOk result (report.new ≡ report.old ++ set_text content.now set.now) }
+{
+    report.push(b'{')?;
+    push_members(report, content, set)?;
+    report.push(b'}')
 }
 
 // Adds a part.
@@ -120,11 +158,13 @@ fn push_part(report: &mut Bytes, part: &Part<'_>) -> Result<(), NoMemory>
 {
     match part {
         Part::Text(text) => report.extend_from_slice(text),
-        Part::Number(number) => push_number(report, *number),
+        Part::Number(number) => push_number(report, u64::from(*number)),
+        Part::Count(count) => push_number(report, *count),
         Part::Signed(number) => push_signed(report, *number),
         Part::Numbers(numbers) => push_numbers(report, numbers),
-        Part::Trace(events) => push_enclosed(report, b'<', events, b'>'),
-        Part::Set(events) => push_enclosed(report, b'{', events, b'}'),
+        Part::Event(content, event) => push_event(report, content, *event),
+        Part::Trace(content, events) => push_trace(report, content, events),
+        Part::Set(content, set) => push_set(report, content, set),
     }
 }
 
@@ -138,23 +178,34 @@ fn push_parts(report: &mut Bytes, parts: &[Part<'_>]) -> Result<(), NoMemory>
     Ok(())
 }
 
+// Adds the text of these parts.
+#[tactic(auto, using(crate::proofs::PartsText::parts_all))]
+pub(crate) fn push_text(report: &mut Bytes, parts: &[Part<'_>]) -> Result<(), NoMemory>
+    ensures { OnOk result (report.new ≡ report.old ++ parts_text parts.now) }
+{
+    push_parts(report, parts)
+}
+
 // Adds a line of these parts.
 pub(crate) fn push_line(report: &mut Bytes, parts: &[Part<'_>]) -> Result<(), NoMemory>
     ensures { OnOk result (report.new ≡ report.old ++ line (parts_text parts.now)) }
 {
-    push_parts(report, parts)?;
-    report.push(b'\n')?;
-    Ok(())
+    push_text(report, parts)?;
+    report.push(b'\n')
 }
 
-// The text of these parts.
-#[tactic(auto, using(crate::proofs::PartsText::parts_all))]
-pub(crate) fn written(alloc: Global, parts: &[Part<'_>]) -> Result<Bytes, NoMemory>
-    ensures { IfOk result (λ made. made ≡ parts_text parts.now) }
+// Adds a text with a number after it.
+pub(crate) fn push_numbered(report: &mut Bytes, text: &[u8], number: u32) -> Result<(), NoMemory>
+    ensures { OnOk result (report.new ≡ report.old ++ (text.now ++ decimal number)) }
 {
-    let mut made = Bytes::new(alloc);
-    push_parts(&mut made, parts)?;
-    Ok(made)
+    push_text(report, &[Part::Text(text), Part::Number(number)])
+}
+
+// Adds the line of a text with a number after it.
+pub(crate) fn push_count(report: &mut Bytes, text: &[u8], count: u64) -> Result<(), NoMemory>
+    ensures { OnOk result (report.new ≡ report.old ++ line (text.now ++ decimal count)) }
+{
+    push_line(report, &[Part::Text(text), Part::Count(count)])
 }
 
 // The line of these parts.
@@ -164,4 +215,11 @@ pub(crate) fn written_line(alloc: Global, parts: &[Part<'_>]) -> Result<Bytes, N
     let mut made = Bytes::new(alloc);
     push_line(&mut made, parts)?;
     Ok(made)
+}
+
+// A line of one text.
+pub(crate) fn one_line(alloc: Global, text: &[u8]) -> Result<Bytes, NoMemory>
+    ensures { IfOk result (λ made. made ≡ line text.now) }
+{
+    written_line(alloc, &[Part::Text(text)])
 }

@@ -1,16 +1,15 @@
 //! How rules, sides, kinds of fault and sites are written.
 
-ghost use Rattle.std.specs.Prelude.{◌≡◌, IfOk};
+ghost use Rattle.std.specs.Prelude.{◌≡◌, ◌++◌, OnOk};
 ghost use Rattle.report.specs.Refusals.{kind_text, site_text};
 ghost use Rattle.report.specs.Report.{rule_text};
 ghost use Rattle.report.specs.Sides.{side_line, side_name};
 
 use crate::answer::{Side, Site};
-use crate::lines::{Part, written};
+use crate::lines::push_numbered;
 use csp_base::{Bytes, NoMemory};
 use csp_program::ValueKind;
 use csp_tables::Rule;
-use std::alloc::Global;
 
 /// The name of a rule, on a command line and in reports.
 pub fn rule_name(rule: Rule) -> &'static [u8]
@@ -57,23 +56,14 @@ pub(crate) fn kind_name(kind: ValueKind) -> &'static [u8]
     }
 }
 
-// Where a value is needed.
-pub(crate) fn site(alloc: Global, site: Site) -> Result<Bytes, NoMemory>
-    ensures { IfOk result (λ made. made ≡ site_text site) }
+// Adds where a value is needed.
+pub(crate) fn push_site(report: &mut Bytes, site: Site) -> Result<(), NoMemory>
+    ensures { OnOk result (report.new ≡ report.old ++ site_text site) }
 {
     match site {
-        Site::Network => Bytes::from_slice(alloc, b" in the network"),
-        Site::Component(i) => written(
-            alloc,
-            &[Part::Text(b" in component "), Part::Number(u64::from(i))],
-        ),
-        Site::Annotation(i) => written(
-            alloc,
-            &[
-                Part::Text(b" in the annotation of component "),
-                Part::Number(u64::from(i)),
-            ],
-        ),
-        Site::HiddenSet => Bytes::from_slice(alloc, b" in the hidden set"),
+        Site::Network => report.extend_from_slice(b" in the network"),
+        Site::Component(i) => push_numbered(report, b" in component ", i),
+        Site::Annotation(i) => push_numbered(report, b" in the annotation of component ", i),
+        Site::HiddenSet => report.extend_from_slice(b" in the hidden set"),
     }
 }

@@ -1,311 +1,331 @@
-//! The lines of refusals.
+//! The lines that tell why a text has no program, or why a program is refused.
 
-ghost use Rattle.std.specs.Prelude.{◌≡◌, ◌+◌, ◌++◌, IfOk, codes};
+ghost use Rattle.std.specs.Prelude.{◌≡◌, ◌+◌, ◌++◌, IfOk, OnOk, codes};
 ghost use Rattle.std.specs.Fmt.{decimal};
-ghost use Rattle.report.specs.Lines.{trace_text};
-ghost use Rattle.report.specs.Sides.{side_name};
-ghost use Rattle.report.specs.Refusals.{component_text, kind_text, nesting_text, network_text, program_text, refusal_text, value_text};
+ghost use Rattle.csp_base.specs.Texts.{line};
+ghost use Rattle.report.specs.Refusals.{component_text, nesting_text, network_text, program_text, refusal_text, text_fault_text, value_text};
+ghost use Rattle.report.specs.Report.{refused_text};
+ghost use Rattle.report.specs.Sides.{side_line};
 
-use crate::answer::{Refusal, Side, Site};
-use crate::lines::{Part, written};
-use crate::printed::{kind_name, side_name, site};
-use containers::Items;
-use csp_base::{Bytes, NoMemory, Place};
-use csp_program::ValueKind;
+use crate::answer::{Refusal, Side, Site, TextFault};
+use crate::lines::{Part, one_line, push_numbered, push_text};
+use crate::printed::{kind_name, push_site, side_line, side_name};
+use csp_base::{Bytes, Event, NoMemory};
+use csp_program::{Content, ValueKind};
 use network_trees::LayoutFault;
 use process_steps::ComponentFault;
 use script_names::ResolveFault;
 use std::alloc::Global;
 
-// A value that there isn't.
-fn value(alloc: Global, kind: ValueKind, at: Site) -> Result<Bytes, NoMemory>
-    ensures { IfOk result (λ made. made ≡ value_text kind at) }
+// Adds that there is no value.
+fn push_value(report: &mut Bytes, kind: ValueKind, at: Site) -> Result<(), NoMemory>
+    ensures { OnOk result (report.new ≡ report.old ++ value_text kind at) }
 {
-    let place = site(alloc, at)?;
-    written(
-        alloc,
+    let kind = kind_name(kind);
+    push_text(report, &[Part::Text(b"2 value fault "), Part::Text(kind)])?;
+    push_site(report, at)
+}
+
+// Adds that an operand differs from its alphabet; after the first component it has `more`.
+fn push_differing(
+    report: &mut Bytes,
+    content: &Content,
+    first: u32,
+    more: u32,
+    event: Event,
+) -> Result<(), NoMemory>
+    ensures { OnOk result (report.new ≡ report.old ++ nesting_text content.now first (1 + more) event) }
+{
+    let last = u64::from(first) + u64::from(more);
+    push_text(
+        report,
         &[
-            Part::Text(b"2 value fault "),
-            Part::Text(kind_name(kind)),
-            Part::Text(place.as_slice()),
+            Part::Text(b"14 components "),
+            Part::Number(first),
+            Part::Text(b" to "),
+            Part::Count(last),
+            Part::Text(b" differ from their alphabet at "),
+            Part::Event(content, event),
         ],
     )
 }
 
-// An operand that differs from its alphabet; after the first component it has `more`.
-fn differs(alloc: Global, first: u32, more: u32, event: &[u8]) -> Result<Bytes, NoMemory>
-    ensures { IfOk result (λ made. made ≡ nesting_text first (1 + more) event.now) }
-{
-    let last = u64::from(first) + u64::from(more);
-    let made = written(
-        alloc,
-        &[
-            Part::Text(b"14 components "),
-            Part::Number(u64::from(first)),
-            Part::Text(b" to "),
-            Part::Number(last),
-            Part::Text(b" differ from their alphabet at "),
-            Part::Text(event),
-        ],
-    )?;
-    Ok(made)
-}
-
-// An operand that differs from its alphabet.
-fn nesting(alloc: Global, first: u32, count: u32, event: &[u8]) -> Result<Bytes, NoMemory>
-    ensures { IfOk result (λ made. made ≡ nesting_text first count event.now) }
+// Adds that an operand differs from its alphabet.
+fn push_nesting(
+    report: &mut Bytes,
+    content: &Content,
+    first: u32,
+    count: u32,
+    event: Event,
+) -> Result<(), NoMemory>
+    ensures { OnOk result (report.new ≡ report.old ++ nesting_text content.now first count event) }
 {
     if count == 0 {
-        return written(
-            alloc,
+        return push_text(
+            report,
             &[
                 Part::Text(b"14 an empty operand has "),
-                Part::Text(event),
+                Part::Event(content, event),
                 Part::Text(b" in its alphabet"),
             ],
         );
     }
-    differs(alloc, first, count - 1, event)
+    push_differing(report, content, first, count - 1, event)
 }
 
-// A name that is at fault in a declaration.
-fn named<'a>(
-    alloc: Global,
+// Adds a name that is at fault in a declaration.
+fn push_name<'a>(
+    report: &mut Bytes,
     before: &'a [u8],
     name: &'a [u8],
     after: &'a [u8],
     inside: u32,
-) -> Result<Bytes, NoMemory>
-    ensures { IfOk result (λ made. made ≡ before.now ++ name.now ++ after.now ++ decimal inside) }
+) -> Result<(), NoMemory>
+    ensures { OnOk result (report.new ≡ report.old ++ (before.now ++ name.now ++ after.now ++ decimal inside)) }
 {
-    written(
-        alloc,
+    push_text(
+        report,
         &[
             Part::Text(before),
             Part::Text(name),
             Part::Text(after),
-            Part::Number(u64::from(inside)),
+            Part::Number(inside),
         ],
     )
 }
 
-// A text and a number.
-fn numbered(alloc: Global, before: &[u8], number: u32) -> Result<Bytes, NoMemory>
-    ensures { IfOk result (λ made. made ≡ before.now ++ decimal number) }
-{
-    written(
-        alloc,
-        &[Part::Text(before), Part::Number(u64::from(number))],
-    )
-}
-
-// A number between two texts.
-fn between<'a>(
-    alloc: Global,
-    before: &'a [u8],
-    number: u64,
-    after: &'a [u8],
-) -> Result<Bytes, NoMemory>
-    ensures { IfOk result (λ made. made ≡ before.now ++ decimal number ++ after.now) }
-{
-    written(
-        alloc,
-        &[Part::Text(before), Part::Number(number), Part::Text(after)],
-    )
-}
-
-// A value that there isn't in a declaration.
-fn valueless(alloc: Global, kind: ValueKind, inside: u32) -> Result<Bytes, NoMemory>
-    ensures { IfOk result (λ made. made ≡ codes "2 value fault " ++ kind_text kind ++ codes " in declaration " ++ decimal inside) }
-{
-    written(
-        alloc,
-        &[
-            Part::Text(b"2 value fault "),
-            Part::Text(kind_name(kind)),
-            Part::Text(b" in declaration "),
-            Part::Number(u64::from(inside)),
-        ],
-    )
-}
-
-// Why a script has no program.
-fn program(alloc: Global, fault: &ResolveFault) -> Result<Bytes, NoMemory>
-    ensures { IfOk result (λ made. made ≡ program_text fault.now) }
+// Adds why a script has no program.
+fn push_program_fault(report: &mut Bytes, fault: &ResolveFault) -> Result<(), NoMemory>
+    ensures { OnOk result (report.new ≡ report.old ++ program_text fault.now) }
 {
     match fault {
-        ResolveFault::NoAssert => Bytes::from_slice(alloc, b"3 no deadlock assertion"),
-        ResolveFault::Unknown { inside, name } => named(
-            alloc,
+        ResolveFault::NoAssert => report.extend_from_slice(b"3 no deadlock assertion"),
+        ResolveFault::Unknown { inside, name } => push_name(
+            report,
             b"4 unknown name ",
             name.as_slice(),
             b" in declaration ",
             *inside,
         ),
-        ResolveFault::Twice { inside, name } => named(
-            alloc,
+        ResolveFault::Twice { inside, name } => push_name(
+            report,
             b"5 name ",
             name.as_slice(),
             b" is declared twice in declaration ",
             *inside,
         ),
         ResolveFault::WrongKind { inside } => {
-            numbered(alloc, b"6 wrong kind in declaration ", *inside)
+            push_numbered(report, b"6 wrong kind in declaration ", *inside)
         }
-        ResolveFault::WrongCount { inside, name } => named(
-            alloc,
+        ResolveFault::WrongCount { inside, name } => push_name(
+            report,
             b"7 wrong count for ",
             name.as_slice(),
             b" in declaration ",
             *inside,
         ),
-        ResolveFault::ParallelInside { inside } => numbered(
-            alloc,
+        ResolveFault::ParallelInside { inside } => push_numbered(
+            report,
             b"8 parallel inside a component in declaration ",
             *inside,
         ),
-        ResolveFault::EventLimit { count } => between(alloc, b"9 there are ", *count, b" events"),
+        ResolveFault::EventLimit { count } => push_text(
+            report,
+            &[
+                Part::Text(b"9 there are "),
+                Part::Count(*count),
+                Part::Text(b" events"),
+            ],
+        ),
         ResolveFault::DataDepth { inside } => {
-            numbered(alloc, b"33 data too deep in declaration ", *inside)
+            push_numbered(report, b"33 data too deep in declaration ", *inside)
         }
-        ResolveFault::Value { inside, kind } => valueless(alloc, *kind, *inside),
+        ResolveFault::Value { inside, kind } => push_text(
+            report,
+            &[
+                Part::Text(b"2 value fault "),
+                Part::Text(kind_name(*kind)),
+                Part::Text(b" in declaration "),
+                Part::Number(*inside),
+            ],
+        ),
     }
 }
 
-// A component that can end.
-fn terminates(alloc: Global, component: u64, trace: &[Bytes]) -> Result<Bytes, NoMemory>
-    ensures { IfOk result (λ made. made
-        ≡ codes "19 component " ++ decimal component ++ codes " can terminate after " ++ trace_text trace.now) }
+// Adds a number between two texts.
+fn push_between<'a>(
+    report: &mut Bytes,
+    before: &'a [u8],
+    number: u32,
+    after: &'a [u8],
+) -> Result<(), NoMemory>
+    ensures { OnOk result (report.new ≡ report.old ++ (before.now ++ decimal number ++ after.now)) }
 {
-    written(
-        alloc,
-        &[
-            Part::Text(b"19 component "),
-            Part::Number(component),
-            Part::Text(b" can terminate after "),
-            Part::Trace(trace),
-        ],
+    push_text(
+        report,
+        &[Part::Text(before), Part::Number(number), Part::Text(after)],
     )
 }
 
-// Why a component has no normal table.
-fn component(
-    alloc: Global,
-    component: u32,
-    fault: &ComponentFault<Items<Bytes>>,
-) -> Result<Bytes, NoMemory>
-    ensures { IfOk result (λ made. made ≡ component_text component fault.now) }
+// Adds why a component has no normal table.
+fn push_component_fault<'a>(
+    report: &mut Bytes,
+    content: &'a Content,
+    i: u32,
+    fault: &'a ComponentFault,
+) -> Result<(), NoMemory>
+    ensures { OnOk result (report.new ≡ report.old ++ component_text content.now i fault.now) }
 {
-    let i = u64::from(component);
     match fault {
-        ComponentFault::Value { kind } => value(alloc, *kind, Site::Component(component)),
-        ComponentFault::TermCount => between(
-            alloc,
-            b"10 component ",
-            i,
-            b" has more than 16384 terms",
-        ),
-        ComponentFault::TermDepth => between(
-            alloc,
-            b"10 component ",
-            i,
-            b" has a term of depth over 800",
-        ),
-        ComponentFault::TermTotal => between(
-            alloc,
-            b"10 component ",
-            i,
-            b" has terms that are too large",
-        ),
-        ComponentFault::StepCount => between(alloc, b"11 component ", i, b" has too many steps"),
-        ComponentFault::Diverges => between(alloc, b"12 component ", i, b" diverges"),
-        ComponentFault::SubsetLimit => between(
-            alloc,
+        ComponentFault::Value { kind } => push_value(report, *kind, Site::Component(i)),
+        ComponentFault::TermCount => {
+            push_between(report, b"10 component ", i, b" has more than 16384 terms")
+        }
+        ComponentFault::TermDepth => {
+            push_between(
+                report,
+                b"10 component ",
+                i,
+                b" has a term of depth over 800",
+            )
+        }
+        ComponentFault::TermTotal => {
+            push_between(
+                report,
+                b"10 component ",
+                i,
+                b" has terms that are too large",
+            )
+        }
+        ComponentFault::StepCount => {
+            push_between(report, b"11 component ", i, b" has too many steps")
+        }
+        ComponentFault::Diverges => push_between(report, b"12 component ", i, b" diverges"),
+        ComponentFault::SubsetLimit => push_between(
+            report,
             b"13 component ",
             i,
             b" has more than 2048 sets of terms",
         ),
-        ComponentFault::Terminates { trace } => terminates(alloc, i, trace.as_slice()),
+        ComponentFault::Terminates { trace } => push_text(
+            report,
+            &[
+                Part::Text(b"19 component "),
+                Part::Number(i),
+                Part::Text(b" can terminate after "),
+                Part::Trace(content, trace.as_slice()),
+            ],
+        ),
     }
 }
 
-// Why a program spells no network.
-fn network(alloc: Global, fault: &LayoutFault<Bytes>) -> Result<Bytes, NoMemory>
-    ensures { IfOk result (λ made. made ≡ network_text fault.now) }
+// Adds why a program spells no network.
+fn push_network_fault(
+    report: &mut Bytes,
+    content: &Content,
+    fault: &LayoutFault,
+) -> Result<(), NoMemory>
+    ensures { OnOk result (report.new ≡ report.old ++ network_text content.now fault.now) }
 {
     match fault {
-        LayoutFault::Value { kind } => value(alloc, *kind, Site::Network),
+        LayoutFault::Value { kind } => push_value(report, *kind, Site::Network),
         LayoutFault::BadNesting {
             first,
             count,
             event,
-        } => nesting(alloc, *first, *count, event.as_slice()),
-        LayoutFault::EmptyNetwork => Bytes::from_slice(alloc, b"15 the network has no components"),
-        LayoutFault::ComponentLimit => Bytes::from_slice(alloc, b"16 more than 512 components"),
+        } => push_nesting(report, content, *first, *count, *event),
+        LayoutFault::EmptyNetwork => report.extend_from_slice(b"15 the network has no components"),
+        LayoutFault::ComponentLimit => report.extend_from_slice(b"16 more than 512 components"),
         LayoutFault::NetworkDepth => {
-            Bytes::from_slice(alloc, b"34 the network is nested deeper than 800")
+            report.extend_from_slice(b"34 the network is nested deeper than 800")
         }
     }
 }
 
-// A place where no script is found.
-fn no_script(alloc: Global, at: &Place) -> Result<Bytes, NoMemory>
-    ensures { IfOk result (λ made. made
-        ≡ codes "1 no script near line " ++ decimal at.now.line ++ codes " column " ++ decimal at.now.column) }
+// Adds why the text of this side has no program.
+fn push_text_fault(report: &mut Bytes, side: Side, fault: &TextFault) -> Result<(), NoMemory>
+    ensures { OnOk result (report.new ≡ report.old ++ text_fault_text side fault.now) }
 {
-    written(
-        alloc,
-        &[
-            Part::Text(b"1 no script near line "),
-            Part::Number(u64::from(at.line)),
-            Part::Text(b" column "),
-            Part::Number(u64::from(at.column)),
-        ],
-    )
+    match fault {
+        TextFault::TooLong => push_text(
+            report,
+            &[
+                Part::Text(b"36 "),
+                Part::Text(side_name(side)),
+                Part::Text(b" is too long"),
+            ],
+        ),
+        TextFault::NoScript { at } => push_text(
+            report,
+            &[
+                Part::Text(b"1 no script near line "),
+                Part::Number(at.line),
+                Part::Text(b" column "),
+                Part::Number(at.column),
+            ],
+        ),
+        TextFault::Unresolved(fault) => push_program_fault(report, fault),
+    }
 }
 
-// A text that is too long.
-fn too_long(alloc: Global, side: Side) -> Result<Bytes, NoMemory>
-    ensures { IfOk result (λ made. made ≡ codes "36 " ++ side_name side ++ codes " is too long") }
-{
-    written(
-        alloc,
-        &[
-            Part::Text(b"36 "),
-            Part::Text(side_name(side)),
-            Part::Text(b" is too long"),
-        ],
-    )
-}
-
-// The line of a refusal of this side, without its end.
-pub(crate) fn refusal_line(alloc: Global, side: Side, refusal: &Refusal) -> Result<Bytes, NoMemory>
-    ensures { IfOk result (λ made. made ≡ refusal_text side refusal.now) }
+// Adds why a program is refused.
+fn push_refusal(report: &mut Bytes, content: &Content, refusal: &Refusal) -> Result<(), NoMemory>
+    ensures { OnOk result (report.new ≡ report.old ++ refusal_text content.now refusal.now) }
 {
     match refusal {
-        Refusal::NoScript { at } => no_script(alloc, at),
-        Refusal::Value { kind, site } => value(alloc, *kind, *site),
-        Refusal::NoProgram(fault) => program(alloc, fault),
-        Refusal::Network(fault) => network(alloc, fault),
-        Refusal::Component {
-            component: number,
-            fault,
-        } => component(alloc, *number, fault),
-        Refusal::NoComponent { count } => {
-            between(alloc, b"35 there are ", u64::from(*count), b" components")
+        Refusal::Value { kind, site } => push_value(report, *kind, *site),
+        Refusal::Network(fault) => push_network_fault(report, content, fault),
+        Refusal::Component { component, fault } => {
+            push_component_fault(report, content, *component, fault)
         }
-        Refusal::TooLong => too_long(alloc, side),
+        Refusal::NoComponent { count } => {
+            push_between(report, b"35 there are ", *count, b" components")
+        }
         Refusal::DifferentEvents { number } => {
-            numbered(alloc, b"41 the events differ at number ", *number)
+            push_numbered(report, b"41 the events differ at number ", *number)
         }
         Refusal::DifferentComponents { component } => {
-            numbered(alloc, b"42 components differ at ", *component)
+            push_numbered(report, b"42 components differ at ", *component)
         }
-        Refusal::NoSet => Bytes::from_slice(alloc, b"37 no such set"),
-        Refusal::BoundLimit { component } => numbered(
-            alloc,
+        Refusal::NoSet => report.extend_from_slice(b"37 no such set"),
+        Refusal::BoundLimit { component } => push_numbered(
+            report,
             b"38 hidden bound passes 64 bits at component ",
             *component,
         ),
     }
+}
+
+// What stands before the reason for which the text of this side is refused.
+fn refused_head(alloc: Global, side: Side) -> Result<Bytes, NoMemory>
+    ensures { IfOk result (λ made. made ≡ line (codes "refused") ++ side_line side) }
+{
+    let mut made = one_line(alloc, b"refused")?;
+    made.extend_from_slice(side_line(side))?;
+    Ok(made)
+}
+
+// The report where the text of this side has no program.
+pub(crate) fn unread(alloc: Global, side: Side, fault: &TextFault) -> Result<Bytes, NoMemory>
+    ensures { IfOk result (λ made. made ≡ refused_text side (text_fault_text side fault.now)) }
+{
+    let mut made = refused_head(alloc, side)?;
+    push_text_fault(&mut made, side, fault)?;
+    made.push(b'\n')?;
+    Ok(made)
+}
+
+// The report where the program of this side is refused.
+pub(crate) fn refused(
+    alloc: Global,
+    content: &Content,
+    side: Side,
+    refusal: &Refusal,
+) -> Result<Bytes, NoMemory>
+    ensures { IfOk result (λ made. made ≡ refused_text side (refusal_text content.now refusal.now)) }
+{
+    let mut made = refused_head(alloc, side)?;
+    push_refusal(&mut made, content, refusal)?;
+    made.push(b'\n')?;
+    Ok(made)
 }

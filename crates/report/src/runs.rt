@@ -6,34 +6,35 @@ ghost use Rattle.std.specs.Fmt.{decimal};
 ghost use Rattle.csp_base.specs.Texts.{line};
 ghost use Rattle.report.specs.Report.{move_text, run_text};
 
-use crate::answer::PrintedMove;
 use crate::lines::{Part, push_line, written_line};
 use csp_base::{Bytes, NoMemory};
+use csp_program::Content;
+use numbered_walks::Move;
 use std::alloc::Global;
 
 // Adds the line of a step.
-fn push_move(report: &mut Bytes, step: &PrintedMove) -> Result<(), NoMemory>
-    ensures { OnOk result (report.new ≡ report.old ++ move_text step.now) }
+fn push_move(report: &mut Bytes, content: &Content, step: &Move) -> Result<(), NoMemory>
+    ensures { OnOk result (report.new ≡ report.old ++ move_text content.now step.now) }
 {
     match step {
-        PrintedMove::Silent(component) => push_line(
+        Move::Silent(component) => push_line(
             report,
             &[
                 Part::Text(b"component "),
-                Part::Number(u64::from(*component)),
+                Part::Number(*component),
                 Part::Text(b" silent"),
             ],
         ),
-        PrintedMove::Event(event) => push_line(report, &[Part::Text(event.as_slice())]),
+        Move::Event(event) => push_line(report, &[Part::Event(content, *event)]),
     }
 }
 
 // Adds a line for each step.
-fn push_moves(report: &mut Bytes, moves: &[PrintedMove]) -> Result<(), NoMemory>
-    ensures { OnOk result (report.new ≡ report.old ++ flat_map move_text moves.now) }
+fn push_moves(report: &mut Bytes, content: &Content, moves: &[Move]) -> Result<(), NoMemory>
+    ensures { OnOk result (report.new ≡ report.old ++ flat_map (move_text content.now) moves.now) }
 {
     for step in moves {
-        push_move(report, step)?;
+        push_move(report, content, step)?;
     }
     Ok(())
 }
@@ -46,7 +47,7 @@ fn head(alloc: Global, count: usize) -> Result<Bytes, NoMemory>
         alloc,
         &[
             Part::Text(b"run of "),
-            Part::Number(count as u64),
+            Part::Count(count as u64),
             Part::Text(b" steps"),
         ],
     )?;
@@ -54,11 +55,16 @@ fn head(alloc: Global, count: usize) -> Result<Bytes, NoMemory>
 }
 
 // The report of a run, with its last line.
-pub(crate) fn run(alloc: Global, moves: &[PrintedMove], last: &[u8]) -> Result<Bytes, NoMemory>
-    ensures { IfOk result (λ made. made ≡ run_text moves.now last.now) }
+pub(crate) fn run(
+    alloc: Global,
+    content: &Content,
+    moves: &[Move],
+    last: &[u8],
+) -> Result<Bytes, NoMemory>
+    ensures { IfOk result (λ made. made ≡ run_text content.now moves.now last.now) }
 {
     let mut made = head(alloc, moves.len())?;
-    push_moves(&mut made, moves)?;
+    push_moves(&mut made, content, moves)?;
     push_line(&mut made, &[Part::Text(last)])?;
     Ok(made)
 }

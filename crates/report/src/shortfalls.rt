@@ -1,101 +1,16 @@
 //! The lines that tell why a network is not proved.
 
-ghost use Rattle.std.specs.Prelude.{◌≡◌, ◌++◌, IfOk, OnOk, codes};
+ghost use Rattle.std.specs.Prelude.{◌≡◌, ◌++◌, OnOk, codes};
 ghost use Rattle.std.specs.List.{flat_map};
 ghost use Rattle.std.specs.Fmt.{decimal};
-ghost use Rattle.report.specs.Lines.{numbers_text, trace_text};
-ghost use Rattle.report.specs.Shortfalls.{after_text, condition_name, condition_number, condition_text, link_text, shortfall_text};
 ghost use Rattle.csp_base.specs.Texts.{line};
+ghost use Rattle.report.specs.Shortfalls.{after_text, condition_name, condition_number, link_text, shortfall_text};
 
 use crate::answer::Shortfall;
-use crate::lines::{Part, push_line, written_line};
-use csp_base::{Bytes, NoMemory};
+use crate::lines::{Part, push_line};
+use csp_base::{Bytes, Event, NoMemory};
+use csp_program::Content;
 use design_rules::Condition;
-use std::alloc::Global;
-
-// A line of a text and numbers.
-fn listed<'a>(alloc: Global, text: &'a [u8], components: &'a [u32]) -> Result<Bytes, NoMemory>
-    ensures { IfOk result (λ made. made ≡ line (text.now ++ numbers_text components.now)) }
-{
-    written_line(alloc, &[Part::Text(text), Part::Numbers(components)])
-}
-
-// The line of an event in several alphabets.
-fn shared<'a>(alloc: Global, event: &'a [u8], components: &'a [u32]) -> Result<Bytes, NoMemory>
-    ensures { IfOk result (λ made. made ≡ line (codes "20 event " ++ event.now ++ codes " is in alphabets" ++ numbers_text components.now)) }
-{
-    written_line(
-        alloc,
-        &[
-            Part::Text(b"20 event "),
-            Part::Text(event),
-            Part::Text(b" is in alphabets"),
-            Part::Numbers(components),
-        ],
-    )
-}
-
-// A line of a component and a trace.
-fn after<'a>(
-    alloc: Global,
-    before: &'a [u8],
-    component: u32,
-    between: &'a [u8],
-    trace: &'a [Bytes],
-) -> Result<Bytes, NoMemory>
-    ensures { IfOk result (λ made. made ≡ line (before.now ++ decimal component ++ between.now ++ trace_text trace.now)) }
-{
-    written_line(
-        alloc,
-        &[
-            Part::Text(before),
-            Part::Number(u64::from(component)),
-            Part::Text(between),
-            Part::Trace(trace),
-        ],
-    )
-}
-
-// The line of a component that does not go round its links.
-fn order<'a>(
-    alloc: Global,
-    component: u32,
-    trace: &'a [Bytes],
-    event: &'a [u8],
-) -> Result<Bytes, NoMemory>
-    ensures { IfOk result (λ made. made
-        ≡ line (codes "23 component " ++ decimal component ++ codes " breaks C1 after " ++ trace_text trace.now ++ codes " by " ++ event.now)) }
-{
-    let made = written_line(
-        alloc,
-        &[
-            Part::Text(b"23 component "),
-            Part::Number(u64::from(component)),
-            Part::Text(b" breaks C1 after "),
-            Part::Trace(trace),
-            Part::Text(b" by "),
-            Part::Text(event),
-        ],
-    )?;
-    Ok(made)
-}
-
-// The line of a component that does what its specification does not.
-fn outside<'a>(alloc: Global, component: u32, trace: &'a [Bytes]) -> Result<Bytes, NoMemory>
-    ensures { IfOk result (λ made. made
-        ≡ line (codes "43 component " ++ decimal component ++ codes " does " ++ trace_text trace.now ++ codes " outside its specification")) }
-{
-    written_line(
-        alloc,
-        &[
-            Part::Text(b"43 component "),
-            Part::Number(u64::from(component)),
-            Part::Text(b" does "),
-            Part::Trace(trace),
-            Part::Text(b" outside its specification"),
-        ],
-    )
-}
 
 // Adds the line of a link.
 fn push_link(report: &mut Bytes, link: &(u32, u32)) -> Result<(), NoMemory>
@@ -105,9 +20,9 @@ fn push_link(report: &mut Bytes, link: &(u32, u32)) -> Result<(), NoMemory>
         report,
         &[
             Part::Text(b"link "),
-            Part::Number(u64::from(link.0)),
+            Part::Number(link.0),
             Part::Text(b" "),
-            Part::Number(u64::from(link.1)),
+            Part::Number(link.1),
         ],
     )
 }
@@ -122,63 +37,50 @@ fn push_links(report: &mut Bytes, links: &[(u32, u32)]) -> Result<(), NoMemory>
     Ok(())
 }
 
-// The lines of links in a circle.
-fn links_circle(alloc: Global, links: &[(u32, u32)]) -> Result<Bytes, NoMemory>
-    ensures { IfOk result (λ made. made ≡ line (codes "24 links in a circle") ++ flat_map (λ link. line (link_text link)) links.now) }
+// Adds the lines of links in a circle.
+fn push_circle(report: &mut Bytes, links: &[(u32, u32)]) -> Result<(), NoMemory>
+    ensures { OnOk result (report.new ≡ report.old
+        ++ (line (codes "24 links in a circle") ++ flat_map (λ link. line (link_text link)) links.now)) }
 {
-    let mut made = Bytes::from_slice(alloc, b"24 links in a circle\n")?;
-    push_links(&mut made, links)?;
-    Ok(made)
+    push_line(report, &[Part::Text(b"24 links in a circle")])?;
+    push_links(report, links)
 }
 
-// The first line of a link that no end takes whole.
-fn no_full_end(alloc: Global, left: u32, right: u32) -> Result<Bytes, NoMemory>
-    ensures { IfOk result (λ made. made
-        ≡ line (codes "25 link " ++ decimal left ++ codes " " ++ decimal right ++ codes " has no full end")) }
+// Adds the first line of a link that no end takes whole.
+fn push_open_link(report: &mut Bytes, left: u32, right: u32) -> Result<(), NoMemory>
+    ensures { OnOk result (report.new ≡ report.old
+        ++ line (codes "25 link " ++ decimal left ++ codes " " ++ decimal right ++ codes " has no full end")) }
 {
-    written_line(
-        alloc,
+    push_line(
+        report,
         &[
             Part::Text(b"25 link "),
-            Part::Number(u64::from(left)),
+            Part::Number(left),
             Part::Text(b" "),
-            Part::Number(u64::from(right)),
+            Part::Number(right),
             Part::Text(b" has no full end"),
         ],
     )
 }
 
-// Adds the line of an end of the link.
-fn push_after(report: &mut Bytes, component: u32, trace: &[Bytes]) -> Result<(), NoMemory>
-    ensures { OnOk result (report.new ≡ report.old ++ line (after_text component trace.now)) }
+// Adds the line of an end of such a link.
+fn push_end<'a>(
+    report: &mut Bytes,
+    content: &'a Content,
+    component: u32,
+    trace: &'a [Event],
+) -> Result<(), NoMemory>
+    ensures { OnOk result (report.new ≡ report.old ++ line (after_text content.now component trace.now)) }
 {
     push_line(
         report,
         &[
             Part::Text(b"component "),
-            Part::Number(u64::from(component)),
+            Part::Number(component),
             Part::Text(b" after "),
-            Part::Trace(trace),
+            Part::Trace(content, trace),
         ],
     )
-}
-
-// The lines of a link that no end takes whole.
-fn both_ends(
-    alloc: Global,
-    left: u32,
-    right: u32,
-    left_trace: &[Bytes],
-    right_trace: &[Bytes],
-) -> Result<Bytes, NoMemory>
-    ensures { IfOk result (λ made. made
-        ≡ line (codes "25 link " ++ decimal left ++ codes " " ++ decimal right ++ codes " has no full end")
-        ++ line (after_text left left_trace.now) ++ line (after_text right right_trace.now)) }
-{
-    let mut made = no_full_end(alloc, left, right)?;
-    push_after(&mut made, left, left_trace)?;
-    push_after(&mut made, right, right_trace)?;
-    Ok(made)
 }
 
 // The number under which it is told that a condition is broken.
@@ -212,85 +114,118 @@ fn condition_name(condition: Condition) -> &'static [u8]
     }
 }
 
-// The line of a condition that a component breaks.
-fn broken<'a>(
-    alloc: Global,
-    condition: Condition,
-    component: u32,
-    trace: &'a [Bytes],
-) -> Result<Bytes, NoMemory>
-    ensures { IfOk result (λ made. made ≡ line (condition_text condition component trace.now)) }
-{
-    written_line(
-        alloc,
-        &[
-            Part::Text(condition_number(condition)),
-            Part::Text(b" component "),
-            Part::Number(u64::from(component)),
-            Part::Text(b" breaks "),
-            Part::Text(condition_name(condition)),
-            Part::Text(b" after "),
-            Part::Trace(trace),
-        ],
-    )
-}
-
-// The lines of a shortfall.
-pub(crate) fn shortfall_lines(alloc: Global, shortfall: &Shortfall) -> Result<Bytes, NoMemory>
-    ensures { IfOk result (λ made. made ≡ shortfall_text shortfall.now) }
+// Adds the lines of a shortfall.
+pub(crate) fn push_shortfall<'a>(
+    report: &mut Bytes,
+    content: &'a Content,
+    shortfall: &'a Shortfall,
+) -> Result<(), NoMemory>
+    ensures { OnOk result (report.new ≡ report.old ++ shortfall_text content.now shortfall.now) }
 {
     match shortfall {
-        Shortfall::NotTripleDisjoint { event, components } => {
-            shared(alloc, event.as_slice(), components.as_slice())
-        }
-        Shortfall::Stops { component, trace } => after(
-            alloc,
-            b"21 component ",
-            *component,
-            b" can stop after ",
-            trace.as_slice(),
+        Shortfall::NotTripleDisjoint { event, components } => push_line(
+            report,
+            &[
+                Part::Text(b"20 event "),
+                Part::Event(content, *event),
+                Part::Text(b" is in alphabets "),
+                Part::Number(components.0),
+                Part::Text(b" "),
+                Part::Number(components.1),
+                Part::Text(b" "),
+                Part::Number(components.2),
+            ],
+        ),
+        Shortfall::Stops { component, trace } => push_line(
+            report,
+            &[
+                Part::Text(b"21 component "),
+                Part::Number(*component),
+                Part::Text(b" can stop after "),
+                Part::Trace(content, trace.as_slice()),
+            ],
         ),
         Shortfall::BreaksOrder {
             component,
             trace,
             event,
-        } => order(alloc, *component, trace.as_slice(), event.as_slice()),
-        Shortfall::LinksCircle { links } => links_circle(alloc, links.as_slice()),
+        } => push_line(
+            report,
+            &[
+                Part::Text(b"23 component "),
+                Part::Number(*component),
+                Part::Text(b" breaks C1 after "),
+                Part::Trace(content, trace.as_slice()),
+                Part::Text(b" by "),
+                Part::Event(content, *event),
+            ],
+        ),
+        Shortfall::LinksCircle { links } => push_circle(report, links.as_slice()),
         Shortfall::NoFullEnd {
             left,
             right,
             left_trace,
             right_trace,
-        } => both_ends(
-            alloc,
-            *left,
-            *right,
-            left_trace.as_slice(),
-            right_trace.as_slice(),
-        ),
+        } => {
+            push_open_link(report, *left, *right)?;
+            push_end(report, content, *left, left_trace.as_slice())?;
+            push_end(report, content, *right, right_trace.as_slice())
+        }
         Shortfall::Broken {
             condition,
             component,
             trace,
-        } => broken(alloc, *condition, *component, trace.as_slice()),
-        Shortfall::ClientsCircle { components } => {
-            listed(alloc, b"27 clients in a circle", components.as_slice())
-        }
-        Shortfall::ResourcesCircle { components } => {
-            listed(alloc, b"29 resources in a circle", components.as_slice())
-        }
-        Shortfall::Outside { component, trace } => outside(alloc, *component, trace.as_slice()),
-        Shortfall::Refuses { component, trace } => after(
-            alloc,
-            b"44 component ",
-            *component,
-            b" refuses too much after ",
-            trace.as_slice(),
+        } => push_line(
+            report,
+            &[
+                Part::Text(condition_number(*condition)),
+                Part::Text(b" component "),
+                Part::Number(*component),
+                Part::Text(b" breaks "),
+                Part::Text(condition_name(*condition)),
+                Part::Text(b" after "),
+                Part::Trace(content, trace.as_slice()),
+            ],
         ),
-        Shortfall::NoOrder { components } => listed(
-            alloc,
-            b"39 no order for components",
-            components.as_slice(),
+        Shortfall::ClientsCircle { components } => push_line(
+            report,
+            &[
+                Part::Text(b"27 clients in a circle"),
+                Part::Numbers(components.as_slice()),
+            ],
+        ),
+        Shortfall::ResourcesCircle { components } => push_line(
+            report,
+            &[
+                Part::Text(b"29 resources in a circle"),
+                Part::Numbers(components.as_slice()),
+            ],
+        ),
+        Shortfall::Outside { component, trace } => push_line(
+            report,
+            &[
+                Part::Text(b"43 component "),
+                Part::Number(*component),
+                Part::Text(b" does "),
+                Part::Trace(content, trace.as_slice()),
+                Part::Text(b" outside its specification"),
+            ],
+        ),
+        Shortfall::Refuses { component, trace } => push_line(
+            report,
+            &[
+                Part::Text(b"44 component "),
+                Part::Number(*component),
+                Part::Text(b" refuses too much after "),
+                Part::Trace(content, trace.as_slice()),
+            ],
+        ),
+        Shortfall::NoOrder { components } => push_line(
+            report,
+            &[
+                Part::Text(b"39 no order for components"),
+                Part::Numbers(components.as_slice()),
+            ],
         ),
     }
 }

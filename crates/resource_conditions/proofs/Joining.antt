@@ -91,7 +91,7 @@ lacks_kind g a b part x y is h = record {
 pub have_kinds : (g : Setting) (a b part : ℕ) → IsWellFormed g.shape → IsFirstWithout (HasLinked g) (length g.shape.parts) a → IsFirstWithout (HasParted g) (length g.shape.parts) b → part ≡ min a b → length g.shape.parts ≤ part → KeepKinds g
 have_kinds g a b part w x y is h = record {
   linked = λ l below.
-      let t = w.links l below in
+      let t = w.linked.links l below in
       let order : (link_at g.shape l).left < (link_at g.shape l).right = t.ordered in
       let within : (link_at g.shape l).right < length g.shape.parts = t.within in
       x.before (link_at g.shape l).left (omega arith) l below refl;

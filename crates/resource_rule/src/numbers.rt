@@ -1,15 +1,17 @@
 //! The numbers of the resources: how many must be acquired before each, in a chain.
 
-ghost use Rattle.std.specs.Prelude.{◌≡◌, ◌<◌, ℕ, All, IfErr, IfOk, length};
+ghost use Rattle.std.specs.Prelude.{◌≡◌, ◌<◌, ◌⊎◌, ℕ, List, All, IfErr, IfOk, length};
 ghost use Rattle.design_rules.specs.Resource.{IsHeldWhile, KeepUses, ResourcesRise};
 ghost use Rattle.design_rules.specs.ResourceRanking.{AreResourceNumbers};
 ghost use Rattle.digraph.specs.Digraph.{HasArc};
 ghost use Rattle.rule_rankings.specs.ResourceRanks.{number_by};
 ghost use Rattle.resource_conditions.specs.Setting.{Breaks};
 
+use containers::Items;
+use csp_base::NoMemory;
 use design_rules::RuleFault;
 use digraph::{Fault, Heights, Rows, longest_walks};
-use shape_links::{Setting, circle_fault, turned};
+use shape_links::{Setting, turned};
 use std::alloc::Global;
 
 // For each resource the greatest number of resources that must be numbered below it in a chain.
@@ -31,7 +33,17 @@ pub(crate) fn numbers(
     let _form = setting.shape();
     match longest_walks(alloc, rows) {
         Ok(heights) => Ok(heights),
-        Err(Fault::Circle(circle)) => Err(circle_fault(turned(alloc, circle.members()))),
+        Err(Fault::Circle(circle)) => Err(resources_circle(turned(alloc, circle.members()))),
         Err(Fault::NoMemory) => Err(RuleFault::NoMemory),
+    }
+}
+
+// The fault that tells a circle of resources, or that memory ran out.
+fn resources_circle(resources: Result<Items<u32>, NoMemory>) -> RuleFault
+    ensures { (circle : List ℕ) → IfOk resources (λ made. made ≡ circle) → (result ≡ RuleFault.NoMemory) ⊎ (result ≡ RuleFault.ResourcesCircle circle) }
+{
+    match resources {
+        Ok(resources) => RuleFault::ResourcesCircle { resources },
+        Err(_) => RuleFault::NoMemory,
     }
 }

@@ -12,7 +12,8 @@ use Rattle.csp_tables.specs.Ranking.{Ranking, PartRanks, AtMostOne, LapsFit, ran
 use Rattle.design_rules.specs.Counts.{count_below, above_all}
 use Rattle.design_rules.specs.Vertices.{IsVertex}
 use Rattle.design_rules.specs.Cyclic.{links_of, ReachesLink, AllKeepPlaces, NumbersRise}
-use Rattle.design_rules.specs.CyclicRanking.{place_of, ends_lap, AreCyclicRanks}
+use Rattle.design_rules.specs.CyclicNumbered.{place_of}
+use Rattle.design_rules.specs.CyclicRanking.{ends_lap, AreCyclicRanks}
 use Rattle.design_rules.proofs.Counts.{count_mono}
 use Rattle.design_rules.proofs.RankCheck.{lap_absent}
 use Rattle.design_rules.proofs.Shapes.{link_shared}

@@ -30,7 +30,7 @@ owner_end shape i l e w triple h x o = record {
     | inr a ↦ elim (cases_eq (link_at shape l).right i) [
       | inl b ↦ or_right (nat_eq (link_at shape l).left i) (nat_eq (link_at shape l).right i) (eq-eqb (link_at shape l).right i b)
       | inr b ↦
-          let t = w.links l o.within in
+          let t = w.linked.links l o.within in
           let both = (t.shared e).0 o.event in
           let order : (link_at shape l).left < (link_at shape l).right = t.ordered in
           let within : (link_at shape l).right < length shape.parts = t.within in
@@ -43,7 +43,7 @@ owner_end shape i l e w triple h x o = record {
 -- an event has one link
 pub one_owner : (shape : Shape) (l m e : ℕ) → IsWellFormed shape → TripleDisjoint (alphabets_of shape.parts) → IsOwner shape l e → IsOwner shape m e → l ≡ m
 one_owner shape l m e w triple x y =
-    let t = w.links l x.within in
+    let t = w.linked.links l x.within in
     let mine = ((t.shared e).0 x.event).0 in
     let order : (link_at shape l).left < (link_at shape l).right = t.ordered in
     let within : (link_at shape l).right < length shape.parts = t.within in
@@ -53,7 +53,7 @@ one_owner shape l m e w triple x y =
 -- an event of the vocabulary has a link
 pub vocabulary_owner : (shape : Shape) (e : ℕ) → IsWellFormed shape → IsTrue (has shape.vocabulary e) → (l : ℕ) × IsOwner shape l e
 vocabulary_owner shape e w v =
-    let two = (w.vocabulary e).0 v in
+    let two = (w.linked.vocabulary e).0 v in
     let s = sharer shape.parts e (omega arith) in
     let l = some_link shape s.place e w s.within s.owned v in
     (l.0, record { within = l.1.within; event = l.1.event })

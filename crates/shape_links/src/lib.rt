@@ -1,5 +1,5 @@
 //! A shape, sorted out once: the links of each part, the link that has each event, and the steps that its runs have to follow;
-//! the same with its resources, and which of them an event acquires; and circles, passed the other way round and told.
+//! the same with its resources, and which of them an event acquires; and circles, passed the other way round.
 #![tactic(auto)]
 
 mod acquisition;
@@ -12,7 +12,7 @@ mod setting;
 mod steps;
 
 pub use acquisition::acquired;
-pub use circle::{circle_fault, turned};
+pub use circle::turned;
 pub use exploring::explored;
 pub use prepared::SortedShape;
 pub use setting::Setting;

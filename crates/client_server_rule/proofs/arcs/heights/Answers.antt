@@ -5,7 +5,7 @@ use Rattle.digraph.specs.Walk.{AreHeights}
 use Rattle.digraph.proofs.WalkLaws.{same_heights, same_no_circle, same_least_circle}
 use Rattle.design_rules.specs.ClientServer.{Serves}
 use Rattle.design_rules.specs.Rules.{BreaksClientServer}
-use Rattle.design_rules.specs.declared.rule_fault.RuleFault.TheVariants.{Circle}
+use Rattle.design_rules.specs.declared.rule_fault.RuleFault.TheVariants.{ClientsCircle}
 use Rattle.client_server_rule.proofs.arcs.heights.Goals as goal
 
 pub returns-in-Ok-clause-heights : goal.returns-in-Ok-clause-heights
@@ -22,12 +22,12 @@ returns-in-Err-Circle-clause-fault c =
     let shape = c.args.network.now.shape in
     let roles = c.args.network.now.roles in
     let it = c.in-Err-Circle.ensures.circle c.in-Err-Circle.circle (ap Err c.in-Err-Circle.field-0-is) in
-    let in_circle : BreaksClientServer shape roles (Circle c.members.result.now) = record {
+    let in_circle : BreaksClientServer shape roles (ClientsCircle c.members.result.now) = record {
       keep_roles = c.requires;
       circle = subst (IsLeastCircle (Serves c.args.network.now.shape c.args.network.now.roles)) (sym c.members.ensures)
           (same_least_circle (HasArc c.in_ok-rows.rows) (Serves c.args.network.now.shape c.args.network.now.roles) c.in_ok-rows.ensures.sound c.in-Err-Circle.circle it);
     } in
-    elim (c.circle_fault.ensures c.members.result.now c.from_slice.ensures) as (λ _. BreaksClientServer shape roles c.circle_fault.result) [
+    elim (c.clients_circle.ensures c.members.result.now c.from_slice.ensures) as (λ _. BreaksClientServer shape roles c.clients_circle.result) [
       | inl want ↦ subst (BreaksClientServer shape roles) (sym want) tt
       | inr is ↦ subst (BreaksClientServer shape roles) (sym is) in_circle
     ]

@@ -1,9 +1,9 @@
-use Rattle.std.proofs.Common.{rules, ap}
+use Rattle.std.proofs.Common.{rules}
 use Rattle.report.proofs.Points.{at_refusal, at_shortfall, goes_on}
-use Rattle.report.specs.declared.answer.Verdict.TheVariants as verdict
+use Rattle.report.specs.Points.Point.{passed}
 use Rattle.comparison.proofs.Components.{inherits}
 use Rattle.comparison.proofs.Walk.{at_parts, past_agreement, past_parts}
-use Rattle.comparison.specs.Compared.{ConformanceDecides, IsCompared}
+use Rattle.comparison.specs.Compared.{ConformanceDecides, IsCompared, PartsOr}
 use Rattle.comparison.specs.Conforming.{ComponentsConform}
 use Rattle.comparison.proofs.comparing.compared.Goals as goal
 
@@ -13,7 +13,7 @@ returns-in_err-check_events c = search (rules, at_refusal)
 
 pub returns-in_err-check_alphabets : goal.returns-in_err-check_alphabets
 unfolding IsCompared
-returns-in_err-check_alphabets c = goes_on _ _ _ _ tt (search rules) _ (search (rules, at_refusal))
+returns-in_err-check_alphabets c = goes_on _ _ _ _ (tt {0}) (search rules) _ (search (rules, at_refusal))
 
 pub returns-in_err-parted : goal.returns-in_err-parted
 returns-in_err-parted c = past_agreement _ _ _ (search rules) (search rules) (search (rules, at_parts))
@@ -32,13 +32,16 @@ returns-in_err-check_components c =
     (past_parts _ _ _ _ c.in_ok-others.ensures.tables.0 _ c.in_ok-others.ensures.tables.1 c.in_ok-others.ensures.parts (search (rules, at_shortfall))))
 
 pub returns : goal.returns
-unfolding ConformanceDecides
+unfolding IsCompared PartsOr ConformanceDecides
 returns c =
     let conform : ComponentsConform c.args.network.now c.args.specified.now = search rules in
-    past_agreement _ _ _ (search rules) (search rules) (past_parts _ _ _ _ c.in_ok-parted.ensures.tables.0 _ c.in_ok-parted.ensures.tables.1 c.in_ok-parted.ensures.parts
-    (past_parts _ _ _ _ c.in_ok-others.ensures.tables.0 _ c.in_ok-others.ensures.tables.1 c.in_ok-others.ensures.parts (goes_on _ _ _ _ tt conform _ (record {
+    passed (tt {0}) (search rules) (passed (tt {0}) (search rules)
+    (passed c.in_ok-parted.ensures.tables.0 c.in_ok-parted.ensures.tables.1 (passed c.in_ok-parted.parted.parts c.in_ok-parted.ensures.parts
+    (passed c.in_ok-others.ensures.tables.0 c.in_ok-others.ensures.tables.1 (passed c.in_ok-others.others.parts c.in_ok-others.ensures.parts
+    (passed (tt {0}) conform (record {
       bound = c.in_ok-parted.bound;
       exact = c.in_ok-parted.ensures.bound;
-      inherits = inherits c.args.network.now c.args.specified.now c.program.ensures.spelled c.program-2.ensures.spelled _ c.in_ok-parted.ensures.parts conform c.in_ok-parted.bound c.in_ok-parted.ensures.bound;
+      inherits = inherits c.args.network.now c.args.specified.now c.program.ensures.spelled c.program-2.ensures.spelled c.in_ok-parted.parted.parts c.in_ok-parted.ensures.parts conform
+          c.in_ok-parted.bound c.in_ok-parted.ensures.bound;
       is = search rules;
-    }))))
+    })))))))

@@ -20,7 +20,7 @@ pub returns-then-left-part-clause-marked : goal.returns-then-left-part-clause-ma
 returns-then-left-part-clause-marked c =
     let shape = c.args.prepared.now in
     let left : (link_at c.args.prepared.now c.args.link).left ≡ c.args.part = sym (c.left.ensures.value ∙ ap (λ (k : Link). k.left) c.link-ends.ensures) ∙ c.if-left-part.true in
-    let order : (link_at c.args.prepared.now c.args.link).left < (link_at c.args.prepared.now c.args.link).right = (c.shape-form.ensures.form.links c.args.link c.requires.link).ordered in
+    let order : (link_at c.args.prepared.now c.args.link).left < (link_at c.args.prepared.now c.args.link).right = (c.shape-form.ensures.form.linked.links c.args.link c.requires.link).ordered in
     record {
       at_left = λ h. mark_here c.args.left.now c.args.link c.args.node (subst (λ (n : ℕ). c.args.link < n) (sym c.requires.left) c.requires.link);
       at_right = λ h. absurd (omega arith);

@@ -1,5 +1,5 @@
 use Rattle.std.proofs.Common.{◌≡◌, ◌<◌, take}
-use Rattle.judgement.specs.Counts.{greatest_from}
+use Rattle.design_rules.specs.RankCounts.{greatest_from}
 use Rattle.judgement.proofs.counts.greatest_in_row.Given as goal
 
 abbrev pub invariant-loop-rank : goal.invariant-loop-rank

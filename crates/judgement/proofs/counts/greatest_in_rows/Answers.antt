@@ -1,7 +1,7 @@
 use Rattle.std.proofs.Common.{ap, ◌∙◌, map}
 use Rattle.std.specs.List.{flat_map}
 use Rattle.std.proofs.lemmas.List.{take_all}
-use Rattle.judgement.specs.Counts.{greatest_from}
+use Rattle.design_rules.specs.RankCounts.{greatest_from}
 use Rattle.judgement.proofs.Counting.{one_row}
 use Rattle.judgement.proofs.counts.greatest_in_rows.Goals as goal
 

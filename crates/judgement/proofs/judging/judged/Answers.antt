@@ -2,28 +2,28 @@ use Rattle.std.proofs.Common.{◌∙◌, rules, subst}
 use Rattle.network_stages.specs.Networks.{Network}
 use Rattle.network_stages.specs.Shapes.{IsApart}
 use Rattle.network_stages.specs.Stages.{HasParts, StaysBusy}
-use Rattle.report.proofs.Points.{at_refusal, at_shortfall, at_want, goes_on}
+use Rattle.report.proofs.Points.{exits, goes_on}
 use Rattle.report.specs.Stops.{Answers}
 use Rattle.judgement.specs.Judged.{IsJudged, RuleDecides}
 use Rattle.judgement.proofs.judging.judged.Goals as goal
 
 pub returns-in_err-tabled : goal.returns-in_err-tabled
 unfolding IsJudged
-returns-in_err-tabled c = search (rules, at_refusal)
+returns-in_err-tabled c = search (rules, exits)
 
 pub returns-in_err-parted : goal.returns-in_err-parted
 unfolding IsJudged
-returns-in_err-parted c = goes_on _ _ _ _ _ c.in_ok-tabled.ensures.tables _ (search (rules, at_refusal))
+returns-in_err-parted c = goes_on _ _ _ _ _ c.in_ok-tabled.ensures.tables _ (search (rules, exits))
 
 pub returns-in_err-shaped : goal.returns-in_err-shaped
 unfolding IsJudged
-returns-in_err-shaped c = goes_on _ _ _ _ _ c.in_ok-tabled.ensures.tables _ (goes_on _ _ _ _ c.in_ok-parted.parted.parts (search rules) _ (search (rules, at_shortfall)))
+returns-in_err-shaped c = goes_on _ _ _ _ _ c.in_ok-tabled.ensures.tables _ (goes_on _ _ _ _ c.in_ok-parted.parted.parts (search rules) _ (search (rules, exits)))
 
 pub returns-in_err-check_busy : goal.returns-in_err-check_busy
 unfolding IsJudged
 returns-in_err-check_busy c =
     goes_on _ _ _ _ _ c.in_ok-tabled.ensures.tables _ (goes_on _ _ _ _ c.in_ok-parted.parted.parts (search rules) _ (goes_on _ _ _ _ c.in_ok-shaped.shaped.shape (search rules) _
-    (search (rules, at_shortfall))))
+    (search (rules, exits))))
 
 pub returns : goal.returns
 unfolding IsJudged

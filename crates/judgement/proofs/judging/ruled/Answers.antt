@@ -1,8 +1,11 @@
 use Rattle.std.proofs.Common.{ap, rules, subst}
+use Rattle.design_rules.proofs.GreatestRanks.{rankings_have_greatest_rank}
 use Rattle.network_stages.specs.Networks.{Network}
-use Rattle.report.proofs.Points.{at_refusal, at_shortfall, at_want}
+use Rattle.process_steps.specs.ComponentStep.{ProcessStep}
+use Rattle.report.proofs.Points.{exits}
 use Rattle.report.specs.Points.Point.{passed}
 use Rattle.report.specs.declared.answer.Verdict.TheVariants as verdict
+use Rattle.design_rules.specs.RankCounts.{greatest_rank}
 use Rattle.judgement.specs.Judged.{RuleDecides}
 use Rattle.judgement.specs.Noted.{Notes}
 use Rattle.judgement.proofs.Free.{live}
@@ -13,24 +16,28 @@ pub ranked-requires : goal.ranked-requires
 ranked-requires c =
     let network = c.args.shaped.now.network in
     has_notes network c.args.rule c.in_ok-notes.notes c.args.shaped.now.shape
-    (subst (λ (n : Network). Notes n c.args.rule c.in_ok-notes.notes) c.network-2.ensures c.in_ok-notes.ensures.ok) c.shape-shape.ensures.apart.is.parts
+    (subst (λ (n : Network). Notes n c.args.rule c.in_ok-notes.notes) c.network-network.ensures c.in_ok-notes.ensures.ok) c.shape-shape.ensures.apart.is.parts
 
 pub returns-in_err-notes : goal.returns-in_err-notes
 unfolding RuleDecides
-returns-in_err-notes c = search (rules, at_refusal)
+returns-in_err-notes c = search (rules, exits)
 
 pub returns-in_err-ranking : goal.returns-in_err-ranking
 unfolding RuleDecides
-returns-in_err-ranking c = search (rules, at_shortfall)
+returns-in_err-ranking c = ?
 
 pub returns : goal.returns
 unfolding RuleDecides
 returns c =
     let network = c.args.shaped.now.network in
-    let noted = subst (λ (n : Network). Notes n c.args.rule c.in_ok-notes.notes) c.network-2.ensures c.in_ok-notes.ensures.ok in
-    passed c.in_ok-notes.notes noted (passed c.in_ok-ranking.ranking c.in_ok-ranking.ensures.ok (record {
+    let apart = c.shape-shape.ensures.apart in
+    let notes = c.in_ok-notes.notes in
+    let ranking = c.in_ok-ranking.ranking in
+    passed notes (subst (λ (n : Network). Notes n c.args.rule notes) c.network-network.ensures c.in_ok-notes.ensures.ok) (passed tt c.in_ok-ranking.ensures.met (record {
       bound = c.args.bound;
       exact = c.requires.bound;
-      live = live network c.args.shaped.now.shape c.args.bound (search rules) c.shape-shape.ensures.apart c.requires.busy c.requires.bound c.in_ok-notes.notes c.in_ok-ranking.ranking c.in_ok-ranking.ensures.ok;
+      live = live network c.args.shaped.now.shape c.args.bound (search rules) apart c.requires.busy c.requires.bound notes ranking c.in_ok-ranking.ensures.met c.in_ok-ranking.ensures.ranks;
+      rank = greatest_rank ranking;
+      greatest = rankings_have_greatest_rank (ProcessStep network.program) network.tree c.args.shaped.now.shape apart.is notes ranking c.in_ok-ranking.ensures.ranks;
       is = ap verdict.Done c.deadlock_free.ensures;
     }))

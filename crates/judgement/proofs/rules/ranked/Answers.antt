@@ -3,30 +3,34 @@ use Rattle.csp_tables.specs.Network.{leaves}
 use Rattle.csp_tables.specs.Part.{TripleDisjoint, alphabets_of}
 use Rattle.csp_tables.specs.Shape.{IsWellFormed, Shape}
 use Rattle.design_rules.proofs.Readings.{networks_meet}
-use Rattle.design_rules.specs.Rules.{HasNotes}
+use Rattle.design_rules.specs.Rules.{HasNotes, Ranks}
 use Rattle.net_sound.proofs.FormOfTables.{shapes_are_well_formed}
 use Rattle.network_stages.proofs.Shaping.{parts_apart}
 use Rattle.network_stages.specs.Shapes.{IsApart}
 use Rattle.process_steps.specs.ComponentStep.{ProcessStep}
-use Rattle.judgement.specs.Noted.{IsRanked}
 use Rattle.judgement.proofs.Broken.{network_broken}
 use Rattle.judgement.proofs.rules.ranked.Goals as goal
 
 pub decided-requires : goal.decided-requires
 decided-requires c =
     let network = c.args.shaped.now.network in
+    let apart = c.shape-shape.ensures.apart in
     record {
-      form = subst IsWellFormed (sym c.shape-shape.ensures.shape) (shapes_are_well_formed (ProcessStep network.program) network.tree c.args.shaped.now.shape c.shape-shape.ensures.apart.is);
-      apart = subst (λ (shape : Shape). TripleDisjoint (alphabets_of shape.parts)) (sym c.shape-shape.ensures.shape) (parts_apart network.program (leaves network.tree) c.args.shaped.now.shape.parts c.shape-shape.ensures.apart.is.parts c.shape-shape.ensures.apart.apart);
+      form = subst IsWellFormed (sym c.shape-shape.ensures.shape) (shapes_are_well_formed (ProcessStep network.program) network.tree c.args.shaped.now.shape apart.is);
+      apart =
+          subst (λ (shape : Shape). TripleDisjoint (alphabets_of shape.parts)) (sym c.shape-shape.ensures.shape)
+          (parts_apart network.program (leaves network.tree) c.args.shaped.now.shape.parts apart.is.parts apart.apart);
       notes = subst (HasNotes c.args.rule.now) (sym c.shape-shape.ensures.shape) c.requires;
     }
 
-pub returns-in-Ok-clause-ok : goal.returns-in-Ok-clause-ok
-returns-in-Ok-clause-ok c =
+pub returns-in-Ok-clause-met : goal.returns-in-Ok-clause-met
+returns-in-Ok-clause-met c =
     let network = c.args.shaped.now.network in
     let apart : IsApart network c.shape-shape.result.now = subst (IsApart network) (sym c.shape-shape.ensures.shape) c.shape-shape.ensures.apart in
-    subst (λ (shape : Shape). IsRanked network c.args.rule.now shape c.in-Ok.ranking) c.shape-shape.ensures.shape
-    ((networks_meet (ProcessStep network.program) network.tree c.shape-shape.result.now apart.is c.args.rule.now).0 c.in-Ok.ensures.met, c.in-Ok.ensures.ranking)
+    (networks_meet (ProcessStep network.program) network.tree c.shape-shape.result.now apart.is c.args.rule.now).0 c.in-Ok.ensures.met
+
+pub returns-in-Ok-clause-ranks : goal.returns-in-Ok-clause-ranks
+returns-in-Ok-clause-ranks c = subst (λ (shape : Shape). Ranks c.args.rule.now shape c.in-Ok.ranking) c.shape-shape.ensures.shape c.in-Ok.ensures.ranking
 
 pub returns-in-Err-clause-told : goal.returns-in-Err-clause-told
 returns-in-Err-clause-told c =

@@ -1,6 +1,6 @@
 use Rattle.std.proofs.Common.{rules, subst}
 use Rattle.network_stages.specs.Networks.{Network}
-use Rattle.report.proofs.Points.{at_refusal, at_shortfall, at_want, goes_on}
+use Rattle.report.proofs.Points.{at_refusal, goes_on}
 use Rattle.report.specs.Stops.{Answers}
 use Rattle.livelock.specs.Bounded.{IsBounded, OrderDecides}
 use Rattle.livelock.proofs.bounding.bounded.Goals as goal
@@ -11,14 +11,14 @@ returns-in_err-expr c = search (rules, at_refusal)
 
 pub returns-in_err-events : goal.returns-in_err-events
 unfolding IsBounded
-returns-in_err-events c = goes_on _ _ _ _ _ c.in_ok-expr.ensures.ok _ (search (rules, at_refusal))
+returns-in_err-events c = goes_on _ _ _ _ c.in_ok-expr.expr.now (search rules) _ (search (rules, at_refusal))
 
 pub returns-in_err-tabled : goal.returns-in_err-tabled
 unfolding IsBounded
-returns-in_err-tabled c = goes_on _ _ _ _ _ c.in_ok-expr.ensures.ok _ (goes_on _ _ _ _ _ c.in_ok-events.ensures.ok _ (search (rules, at_refusal)))
+returns-in_err-tabled c = goes_on _ _ _ _ c.in_ok-expr.expr.now (search rules) _ (goes_on _ _ _ _ c.in_ok-events.events (search rules) _ (search (rules, at_refusal)))
 
 pub returns : goal.returns
 unfolding IsBounded
 returns c =
-    goes_on _ _ _ _ _ c.in_ok-expr.ensures.ok _ (goes_on _ _ _ _ _ c.in_ok-events.ensures.ok _ (goes_on _ _ _ _ _ c.in_ok-tabled.ensures.tables _
+    goes_on _ _ _ _ c.in_ok-expr.expr.now (search rules) _ (goes_on _ _ _ _ c.in_ok-events.events (search rules) _ (goes_on _ _ _ _ _ c.in_ok-tabled.ensures.tables _
     (subst (λ (n : Network). Answers (OrderDecides n c.in_ok-events.events) c.bound_with.result) c.in_ok-tabled.ensures.network c.bound_with.ensures)))

@@ -16,6 +16,6 @@ returns-in-Ok-clause-form c =
 pub returns-in-Ok-clause-few : goal.returns-in-Ok-clause-few
 returns-in-Ok-clause-few c = few_sets c.args.program.now c.args.seat.now c.args.table.now c.requires c.in-Ok.ensures.within_limit
 
-pub returns-in-Err-SubsetLimit-clause-told : goal.returns-in-Err-SubsetLimit-clause-told
-returns-in-Err-SubsetLimit-clause-told c =
+pub returns-clause-told : goal.returns-clause-told
+returns-clause-told c =
     (many_sets c.args.program.now c.args.seat.now c.args.table.now c.requires (c.normalise.ensures.limit (c.in-Err-SubsetLimit.is ∙ ap Err c.in-Err-SubsetLimit.field-0-is)), refl)

@@ -8,7 +8,7 @@ use Rattle.design_rules.specs.ResourceRanking.{StandsAbove}
 use Rattle.shape_links.specs.Turned.{turned_circle}
 use Rattle.shape_links.proofs.Circles.{turned_least, circle_some}
 use Rattle.resource_conditions.specs.Setting.{Breaks}
-use Rattle.design_rules.specs.declared.rule_fault.RuleFault.TheVariants.{Circle}
+use Rattle.design_rules.specs.declared.rule_fault.RuleFault.TheVariants.{ResourcesCircle}
 use Rattle.resource_rule.proofs.numbers.numbers.Goals as goal
 
 pub returns-in-Ok-clause-numbers : goal.returns-in-Ok-clause-numbers
@@ -35,12 +35,12 @@ pub returns-in-Err-Circle-clause-fault : goal.returns-in-Err-Circle-clause-fault
 returns-in-Err-Circle-clause-fault c =
     let g = c.args.setting.now in
     let it = c.in-Err-Circle.ensures.circle c.in-Err-Circle.circle (ap Err c.in-Err-Circle.field-0-is) in
-    let in_circle : Breaks g (Circle (turned_circle c.members.result.now)) = record {
+    let in_circle : Breaks g (ResourcesCircle (turned_circle c.members.result.now)) = record {
       keep_uses = c.requires.keep;
       circle = subst (IsLeastCircle (IsHeldWhile g.shape g.uses)) (sym (ap turned_circle c.members.ensures))
           (turned_least (HasArc c.args.rows.now) (IsHeldWhile g.shape g.uses) (λ (x y : ℕ) arc. c.requires.sound x y arc) c.in-Err-Circle.circle it);
     } in
-    elim (c.circle_fault.ensures (turned_circle c.members.result.now) c.turned.ensures) as (λ _. Breaks g c.circle_fault.result) [
+    elim (c.resources_circle.ensures (turned_circle c.members.result.now) c.turned.ensures) as (λ _. Breaks g c.resources_circle.result) [
       | inl want ↦ subst (Breaks g) (sym want) tt
       | inr is ↦ subst (Breaks g) (sym is) in_circle
     ]

@@ -1,6 +1,6 @@
 use Rattle.std.proofs.Common.{◌≡◌, ◌++◌, take}
 use Rattle.report.specs.Report.{nodes_text}
-use Rattle.report.proofs.reports.push_nodes.Given as goal
+use Rattle.report.proofs.tables.push_nodes.Given as goal
 
 abbrev pub invariant-loop-number : goal.invariant-loop-number
-invariant-loop-number l = l.report ≡ l.fn.report ++ nodes_text 0 (take l.number l.nodes)
+invariant-loop-number l = l.report ≡ l.fn.report ++ nodes_text l.content 0 (take l.number l.nodes)

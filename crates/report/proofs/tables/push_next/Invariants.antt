@@ -1,7 +1,7 @@
 use Rattle.std.proofs.Common.{◌≡◌, ◌++◌, take}
 use Rattle.std.specs.List.{flat_map}
 use Rattle.report.specs.Report.{next_text}
-use Rattle.report.proofs.reports.push_next.Given as goal
+use Rattle.report.proofs.tables.push_next.Given as goal
 
 abbrev pub invariant-loop-step : goal.invariant-loop-step
-invariant-loop-step l = l.report ≡ l.fn.report ++ flat_map (next_text l.node) (take l.step-index l.steps)
+invariant-loop-step l = l.report ≡ l.fn.report ++ flat_map (next_text l.content l.node) (take l.step-index l.steps)

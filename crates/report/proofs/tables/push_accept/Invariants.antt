@@ -1,7 +1,7 @@
 use Rattle.std.proofs.Common.{◌≡◌, ◌++◌, take}
 use Rattle.std.specs.List.{flat_map}
 use Rattle.report.specs.Report.{accept_text}
-use Rattle.report.proofs.reports.push_accept.Given as goal
+use Rattle.report.proofs.tables.push_accept.Given as goal
 
 abbrev pub invariant-loop-set : goal.invariant-loop-set
-invariant-loop-set l = l.report ≡ l.fn.report ++ flat_map (accept_text l.node) (take l.set-index l.sets)
+invariant-loop-set l = l.report ≡ l.fn.report ++ flat_map (accept_text l.content l.node) (take l.set-index l.sets)

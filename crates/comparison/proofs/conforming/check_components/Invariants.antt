@@ -1,5 +1,0 @@
-use Rattle.comparison.specs.Conforming.{ConformBefore}
-use Rattle.comparison.proofs.conforming.check_components.Given as goal
-
-abbrev pub invariant-loop-place : goal.invariant-loop-place
-invariant-loop-place l = ConformBefore l.network.network l.specified.network l.place

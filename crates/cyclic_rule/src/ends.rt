@@ -1,0 +1,56 @@
+//! What a circle of links tells: the two components of each link.
+
+ghost use Rattle.std.specs.Prelude.{◌≡◌, ◌<◌, ◌⊎◌, ℕ, List, map, IfOk, length};
+ghost use Rattle.design_rules.specs.CyclicFaults.{ends_of};
+ghost use Rattle.shape_links.specs.Turned.{turned_circle};
+
+use containers::Items;
+use csp_base::NoMemory;
+use csp_tables::Shape;
+use design_rules::RuleFault;
+use shape_links::turned;
+use std::alloc::Global;
+
+// The two components of each link of the circle, passed the other way round.
+pub(crate) fn turned_ends(
+    alloc: Global,
+    shape: &Shape,
+    circle: &[u32],
+) -> Result<Items<(u32, u32)>, NoMemory>
+    requires { 0 < length circle.now }
+    ensures { IfOk result (λ made. made ≡ map (ends_of shape.now) (turned_circle circle.now)) }
+{
+    let links = turned(alloc, circle)?;
+    all_ends(alloc, shape, links.as_slice())
+}
+
+// The two components of each link.
+fn all_ends(alloc: Global, shape: &Shape, links: &[u32]) -> Result<Items<(u32, u32)>, NoMemory>
+    ensures { IfOk result (λ made. made ≡ map (ends_of shape.now) links.now) }
+{
+    let mut made = Items::new(alloc);
+    for link in links {
+        made.push(ends(shape, *link))?;
+    }
+    Ok(made)
+}
+
+// The two components of a link.
+fn ends(shape: &Shape, link: u32) -> (u32, u32)
+    ensures { result ≡ ends_of shape.now link }
+{
+    match shape.links().get(link as usize) {
+        Some(link) => (link.left(), link.right()),
+        None => (0, 0),
+    }
+}
+
+// The fault that tells a circle of links with these ends, or that memory ran out.
+pub(crate) fn links_circle(links: Result<Items<(u32, u32)>, NoMemory>) -> RuleFault
+    ensures { (ends : List (ℕ × ℕ)) → IfOk links (λ made. made ≡ ends) → (result ≡ RuleFault.NoMemory) ⊎ (result ≡ RuleFault.LinksCircle ends) }
+{
+    match links {
+        Ok(links) => RuleFault::LinksCircle { links },
+        Err(_) => RuleFault::NoMemory,
+    }
+}
