@@ -11,9 +11,8 @@ use Rattle.report.specs.Report.{report_text, status}
 use Rattle.report.specs.declared.answer.Answer.{Answer}
 use Rattle.report.specs.declared.answer.Side.TheVariants as side
 use Rattle.dl_top.proofs.Loading.{given, held_decide, only, quiet_gives, shelf_fault}
-use Rattle.dl_top.proofs.Promising.{completes}
 use Rattle.dl_top.specs.Cause.{CallsFor, IsLoad, LoadsHeld, MayGive, TextsCallFor}
-use Rattle.dl_top.specs.Complete.{AsksForPassing}
+use Rattle.dl_top.specs.Complete.{AsksForSuch}
 use Rattle.dl_top.specs.Ending.{Ends, EndsInShelfFault, EndsWhole, GrowsByFront, SinkSigns}
 use Rattle.dl_top.specs.Kept.{Kept}
 use Rattle.dl_top.specs.Printing.{Prints}
@@ -97,14 +96,15 @@ module _ {S : Type 0} (texts : S → Option (List NamedText)) (counts : S → Co
         | Some held ↦ λ is. (sent.0, quiet_gives texts counts gives held words old new sent.0 is shelf_still sent.1, sent.2, sent.3)
       ] refl
 
-passes : (texts : List NamedText) (words : List (List ℕ)) (sink : SinkSigns) (result : ℕ) → EndsWhole (CallsFor texts words) sink result → AsksForPassing texts words → result ≡ 0
-passes texts words sink result (reply, cause, grew, is) asks =
+-- and its status is as the texts have it
+ends_as : (Such : Request → List (List ℕ) → Type 0) (Is : ℕ → Type 0) → ((r : Request) (ts : List (List ℕ)) (a : Answer) → Such r ts → TextsCallFor r ts a → Is (status a)) → (texts : List NamedText)
+    (words : List (List ℕ)) (sink : SinkSigns) (result : ℕ) → EndsWhole (CallsFor texts words) sink result → AsksForSuch Such texts words → Is result
+ends_as Such Is status_is texts words sink result (reply, cause, grew, is) asks =
     let replies = only (LoadsHeld texts) words asks.request tt tt reply asks.asked cause in
-    is ∙ completes asks.request asks.given reply.answer asks.passing
-    (held_decide texts side.Script (names asks.request) asks.given (TextsCallFor asks.request) reply.answer asks.held replies.calls)
+    let decide = held_decide texts side.Script (names asks.request) asks.given (TextsCallFor asks.request) reply.answer asks.held replies.calls in
+    subst Is (sym is) (status_is asks.request asks.given reply.answer asks.such decide)
 
--- and its status is 0 where they are such
-pub settled_passes : (texts : Option (List NamedText)) (words : List (List ℕ)) (sink : SinkSigns) (result : ℕ) → IfSome texts (λ held. EndsWhole (CallsFor held words) sink result)
-    → IfSome texts (λ held. AsksForPassing held words → result ≡ 0)
-settled_passes None words sink result ends = tt
-settled_passes (Some texts) words sink result ends = passes texts words sink result ends
+pub settled_as : (Such : Request → List (List ℕ) → Type 0) (Is : ℕ → Type 0) → ((r : Request) (ts : List (List ℕ)) (a : Answer) → Such r ts → TextsCallFor r ts a → Is (status a)) → (texts : Option (List NamedText))
+    (words : List (List ℕ)) (sink : SinkSigns) (result : ℕ) → IfSome texts (λ held. EndsWhole (CallsFor held words) sink result) → IfSome texts (λ held. AsksForSuch Such held words → Is result)
+settled_as Such Is status_is None words sink result ends = tt
+settled_as Such Is status_is (Some texts) words sink result ends = ends_as Such Is status_is texts words sink result ends

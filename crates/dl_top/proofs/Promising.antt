@@ -40,6 +40,7 @@ use Rattle.numbered_walks.specs.declared.moves.Move.{Move}
 use Rattle.report.proofs.Points.{refused_or}
 use Rattle.print_laws.proofs.RoundTrip.{no_other, printed_spells}
 use Rattle.process_steps.specs.ComponentStep.{ProcessStep}
+use Rattle.report.specs.Points.Point.{passed, told}
 use Rattle.report.specs.Report.{report_text, run_text, status, verdict_status, verdict_text}
 use Rattle.report.specs.declared.answer.Answer.{Answer}
 use Rattle.report.specs.declared.answer.Refusal.{Refusal}
@@ -52,7 +53,7 @@ use Rattle.network_tables.specs.Tables.{AreTablesOf}
 use Rattle.tabulation.proofs.Status.{tabulated_cases, tabulated_is_complete}
 use Rattle.tabulation.specs.Tabulated.{IsTabulated}
 use Rattle.dl_top.specs.Cause.{TextsCallFor}
-use Rattle.dl_top.specs.Complete.{Passing, SpellMatching, SpellsPassing, SpellsTabled, SpellsWithinBound, TextPasses}
+use Rattle.dl_top.specs.Complete.{Passing, Running, SpellMatching, SpellsPassing, SpellsTabled, SpellsTables, SpellsWithinBound, TextPasses}
 use Rattle.dl_top.specs.Judgement.{IsDecided, NetworkDecides, NetworkOr, SpellsNetwork, SpellsNoNetwork, SpellsOnlyNetwork, SpellsOnlyScript, TextCallsFor, TextIsShown, TextsCompare}
 use Rattle.dl_top.specs.Promised.{IsStuckRun, Promised, SpellsBounded, SpellsConforming, SpellsShown, SpellsTable, TellsRank}
 use Rattle.dl_top.specs.Proved.{IsFree, SpellsDeadlockFree}
@@ -330,6 +331,21 @@ text_bounds text name a within (inr (network, spells, (v, bounded, same))) =
     let here = subst (λ (n : Network). IsBounded n name v) (sym (spells.only within.network within.spelled)) bounded in
     ap status same ∙ ap verdict_status (bounds_are_told within.network name within.bound v within.within here)
 
+walk_runs : (seed steps : ℕ) (network : Network) (v : Verdict) (tables : List ComponentTable) → HasTables network tables → IsWalked network seed steps v → verdict_status v ≤ 1
+unfolding IsWalked
+walk_runs seed steps network v tables are (told r fails same) = absurd (faults_exclude_tables network.program (leaves network.tree) tables 0 r are fails)
+walk_runs seed steps network v tables are (passed others these tells) =
+    let ends = ap verdict_status tells.is ∙ walk_status tells.is_stuck tells.moves in
+    let most = few tells.is_stuck in
+    omega (arith, ends, most)
+
+pub text_runs : (text : List ℕ) (seed steps : ℕ) (a : Answer) → SpellsTables text → TextCallsFor text (Run seed steps) a → status a ≤ 1
+text_runs text seed steps a runs (inl none) = absurd (spells_one side.Script text runs.network a runs.spelled none)
+text_runs text seed steps a runs (inr (network, spells, (v, walked, same))) =
+    let here = subst (λ (n : Network). IsWalked n seed steps v) (sym (spells.only runs.network runs.spelled)) walked in
+    let most = walk_runs seed steps runs.network v runs.tables runs.are here in
+    subst (λ n. n ≤ 1) (sym (ap status same)) most
+
 pub shown_completes : (text : List ℕ) (a : Answer) (script : Script) → Spells text script → TextIsShown text a → status a ≡ 0
 shown_completes text a script spelled (inl none) = absurd (none.none script spelled)
 shown_completes text a script spelled (inr (other, only, is)) = ap status is
@@ -346,6 +362,10 @@ completes (request.Script job name) (text ∷ []) a passing calls = text_passes 
 completes (request.Trial trial) [] a passing calls = text_completes (trial_text trial) (rule_of trial.family) a passing calls
 completes (request.Conform script specification) (text ∷ next ∷ []) a passing calls = texts_match text next a passing calls
 completes r texts a passing calls = absurd passing
+
+pub runs : (r : Request) (texts : List (List ℕ)) (a : Answer) → Running r texts → TextsCallFor r texts a → status a ≤ 1
+runs (request.Script (Run seed steps) name) (text ∷ []) a tables calls = text_runs text seed steps a tables calls
+runs r texts a running calls = absurd running
 
 -- ---- no text calls for an answer with status 4
 

@@ -1,4 +1,4 @@
--- When a request is bound to end with status 0, unless a device fails or memory runs out.
+-- When a request is bound to end with status 0, or a run with 0 or 1, unless a device fails or memory runs out.
 use Rattle.std.specs.Prelude.{◌≡◌, ◌≤◌, ℕ, List, [], ◌∷◌, Some, length, slice_get}
 use Rattle.dl_limits.specs.declared.TheConstants.{MOST_BYTES}
 use Rattle.command_words.specs.Request.{Asks, names}
@@ -18,6 +18,7 @@ use Rattle.judgement_laws.specs.Complete.{Passes}
 use Rattle.livelock.specs.Complete.{IsWithinBound}
 use Rattle.network_stages.specs.Networks.{Network}
 use Rattle.network_stages.specs.Sets.{HaveFewSets}
+use Rattle.network_stages.specs.Stages.{HasTables}
 use Rattle.network_tables.specs.Tables.{AreTablesOf}
 use Rattle.network_tables.specs.declared.component_tables.ComponentTable.{ComponentTable}
 use Rattle.dl_top.specs.Judgement.{SpellsNetwork}
@@ -54,7 +55,14 @@ pub record SpellsWithinBound (text name : List ℕ) : Type 0 where
   pub bound : ℕ
   pub within : IsWithinBound network name bound
 
--- the text of a script then, with whose network this is to be done (a run ends with 0 or 1)
+-- the text spells a network whose components have tables
+pub record SpellsTables (text : List ℕ) : Type 0 where
+  pub network : Network
+  pub spelled : SpellsNetwork text network
+  pub tables : List ComponentTable
+  pub are : HasTables network tables
+
+-- the text of a script then, with whose network this is to be done (of a run below)
 abbrev pub TextPasses : Job → List ℕ → Type 0
 TextPasses (Check rule) text = SpellsPassing text rule
 TextPasses (Table i) text = SpellsTabled text i
@@ -69,6 +77,11 @@ Passing (request.Trial trial) [] = TextPasses (Check (rule_of trial.family)) (tr
 Passing (request.Conform script specification) (text ∷ other ∷ []) = SpellMatching text other
 Passing _ _ = ⊥
 
+-- the text of a script whose network runs: that ends with 0 or 1
+abbrev pub Running : Request → List (List ℕ) → Type 0
+Running (request.Script (Run seed steps) name) (text ∷ []) = SpellsTables text
+Running _ _ = ⊥
+
 -- the shelf's texts hold these under the names, within the limit of a script
 abbrev pub HoldWithin : List NamedText → List (List ℕ) → List (List ℕ) → Type 0
 HoldWithin texts [] [] = Unit {0}
@@ -76,9 +89,9 @@ HoldWithin texts (name ∷ names) (text ∷ others) = (text_of texts name ≡ So
 HoldWithin texts _ _ = ⊥
 
 -- The words ask for such a request, and the shelf holds its texts.
-pub record AsksForPassing (texts : List NamedText) (words : List (List ℕ)) : Type 0 where
+pub record AsksForSuch (Such : Request → List (List ℕ) → Type 0) (texts : List NamedText) (words : List (List ℕ)) : Type 0 where
   pub request : Request
   pub asked : Asks words request
   pub given : List (List ℕ)
   pub held : HoldWithin texts (names request) given
-  pub passing : Passing request given
+  pub such : Such request given

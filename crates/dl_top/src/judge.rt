@@ -9,7 +9,7 @@ ghost use Rattle.report.specs.Report.{report_text, status};
 ghost use Rattle.report.specs.Stops.{Answers, Ends, Tells};
 ghost use Rattle.script_sizes.specs.Size.{AreSmall};
 ghost use Rattle.dl_limits.specs.declared.TheConstants.{MOST_BYTES};
-ghost use Rattle.dl_top.specs.Complete.{SpellMatching, TextPasses};
+ghost use Rattle.dl_top.specs.Complete.{SpellMatching, SpellsTables, TextPasses};
 ghost use Rattle.dl_top.specs.Judgement.{NetworkDecides, SpellsNoNetwork, SpellsNoScript, SpellsOnlyNetwork, SpellsOnlyScript, TextCallsFor, TextIsShown, TextsCompare};
 ghost use Rattle.dl_top.specs.Printing.{no_script};
 ghost use Rattle.dl_top.specs.Promised.{SpellsBounded, SpellsConforming, SpellsShown, SpellsTable, TellsRank};
@@ -123,8 +123,9 @@ pub fn judge(alloc: Global, job: &Job, text: &[u8]) -> Result<Answer, NoMemory>
         → SpellsBounded text.now set (report_text answer)) }
 
     // Completeness: the status is 0 wherever it may be, within the limits: where the network meets the rule, where the component has a table, where there is
-    // a bound.
+    // a bound. A run ends with 0 or 1.
     ensures complete { IfOk result (λ answer. TextPasses job.now text.now → status answer ≡ 0) }
+    ensures runs { IfOk result (λ answer. (seed steps : ℕ) → job.now ≡ Run seed steps → SpellsTables text.now → status answer ≤ 1) }
 {
     called_for(alloc, job, text)
 }

@@ -1,10 +1,10 @@
 //! The top call over devices in memory that never fail.
 
-ghost use Rattle.std.specs.Prelude.{◌≡◌, ◌≢◌, Some};
+ghost use Rattle.std.specs.Prelude.{◌≡◌, ◌≢◌, ◌≤◌, Some};
 ghost use Rattle.command_words.specs.Request.{AsksForCheck, AsksForConform, AsksForLivelock, AsksForRun, AsksForShow, AsksForTable, AsksForTrial, NamesNoScript};
 ghost use Rattle.dl_outside.specs.Texts.{IsTextOf};
 ghost use Rattle.dl_top.specs.Cause.{CallsFor, HoldsAllNamed};
-ghost use Rattle.dl_top.specs.Complete.{AsksForPassing};
+ghost use Rattle.dl_top.specs.Complete.{AsksForSuch, Passing, Running};
 ghost use Rattle.dl_top.specs.Ending.{Ends, EndsWhole, sink_signs};
 ghost use Rattle.dl_top.specs.Kept.{Kept};
 ghost use Rattle.dl_top.specs.Promised.{IsStuckRun, Promised};
@@ -38,7 +38,8 @@ pub fn dl_sure(alloc: Global, words: &Words, shelf: &mut SureShelf, out: &mut Su
         → Kept Promised IsTextOf shelf.old shelf.new words.now (Some out.old.sent) (Some out.new.sent) }
     ensures conformed { AsksForConform words.now → result ≡ 0
         → Kept Promised IsTextOf shelf.old shelf.new words.now (Some out.old.sent) (Some out.new.sent) }
-    ensures complete { result ≢ 5 → AsksForPassing shelf.old words.now → result ≡ 0 }
+    ensures complete { result ≢ 5 → AsksForSuch Passing shelf.old words.now → result ≡ 0 }
+    ensures runs { result ≢ 5 → AsksForSuch Running shelf.old words.now → result ≤ 1 }
     ensures ends { Ends (CallsFor shelf.old words.now) (sink_signs (Some out.old.sent) (Some out.new.sent) 0 0) result }
     ensures settled { result ≢ 5
         → EndsWhole (CallsFor shelf.old words.now) (sink_signs (Some out.old.sent) (Some out.new.sent) 0 0) result }

@@ -4,7 +4,7 @@ ghost use Rattle.std.specs.Prelude.{◌≡◌, ◌≢◌, ◌≤◌, IfSome};
 ghost use Rattle.dl_outside.specs.Count.{HasRisen, NeverFall};
 ghost use Rattle.command_words.specs.Request.{AsksForCheck, AsksForConform, AsksForLivelock, AsksForRun, AsksForShow, AsksForTable, AsksForTrial, NamesNoScript};
 ghost use Rattle.dl_top.specs.Cause.{CallsFor, IsLoad, MayGive};
-ghost use Rattle.dl_top.specs.Complete.{AsksForPassing};
+ghost use Rattle.dl_top.specs.Complete.{AsksForSuch, Passing, Running};
 ghost use Rattle.dl_top.specs.Ending.{Ends, EndsInShelfFault, EndsWhole, sink_signs};
 ghost use Rattle.dl_top.specs.Kept.{Kept};
 ghost use Rattle.dl_top.specs.Promised.{IsStuckRun, Promised};
@@ -82,10 +82,13 @@ pub fn dl_main<S: Shelf, O: Sink>(alloc: Global, words: &Words, shelf: &mut S, o
     ensures conformed { AsksForConform words.now → result ≡ 0
         → Kept Promised S.gives shelf.old shelf.new words.now (O.sent out.old) (O.sent out.new) }
 
-    // Completeness: status 0 comes wherever the texts are such that it may, within the limits, without a fault and with memory enough.
+    // Completeness: status 0 comes wherever the texts are such that it may, within the limits, without a fault and with memory enough; a run ends with 0 or 1.
     ensures complete { result ≢ 5 → ¬ HasRisen (S.counts shelf.old).faults (S.counts shelf.new).faults
         → ¬ HasRisen (O.faults out.old) (O.faults out.new)
-        → IfSome (S.texts shelf.old) (λ texts. AsksForPassing texts words.now → result ≡ 0) }
+        → IfSome (S.texts shelf.old) (λ texts. AsksForSuch Passing texts words.now → result ≡ 0) }
+    ensures runs { result ≢ 5 → ¬ HasRisen (S.counts shelf.old).faults (S.counts shelf.new).faults
+        → ¬ HasRisen (O.faults out.old) (O.faults out.new)
+        → IfSome (S.texts shelf.old) (λ texts. AsksForSuch Running texts words.now → result ≤ 1) }
 
     // Each reply has its cause. A front of a report is sent only where the sink has a fault or memory runs out.
     ensures ends { Ends (MayGive (IsLoad S.texts S.counts S.gives) words.now shelf.old shelf.new)

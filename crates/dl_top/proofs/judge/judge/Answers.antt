@@ -1,5 +1,5 @@
 use Rattle.std.proofs.lemmas.Result.{IfOk-weaker}
-use Rattle.dl_top.proofs.Promising.{of_job, text_bounded, text_free, text_goes_on, text_passes, text_ranked, text_stuck, text_told}
+use Rattle.dl_top.proofs.Promising.{of_job, text_bounded, text_free, text_goes_on, text_passes, text_ranked, text_runs, text_stuck, text_told}
 use Rattle.dl_top.proofs.judge.judge.Goals as goal
 
 pub returns-clause-free : goal.returns-clause-free
@@ -10,6 +10,9 @@ returns-clause-ranked c = of_job c.args.text.now c.args.job.now c.called_for.res
 
 pub returns-clause-complete : goal.returns-clause-complete
 returns-clause-complete c = IfOk-weaker c.called_for.result _ _ (λ a calls passing. text_passes c.args.job.now c.args.text.now a passing calls) c.called_for.ensures
+
+pub returns-clause-runs : goal.returns-clause-runs
+returns-clause-runs c = of_job c.args.text.now c.args.job.now c.called_for.result _ c.called_for.ensures (λ a is seed steps same tables. text_runs c.args.text.now seed steps a tables (is _ same))
 
 pub returns-clause-told : goal.returns-clause-told
 returns-clause-told c = of_job c.args.text.now c.args.job.now c.called_for.result _ c.called_for.ensures (λ a is i same. text_told c.args.text.now i a (is _ same))
