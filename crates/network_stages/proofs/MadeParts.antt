@@ -1,5 +1,5 @@
 -- Parts of components, one after another: each is the normal table of its component's table.
-use Rattle.std.proofs.Common.{◌≡◌, ◌⊎◌, inl, inr, ℕ, ◌+◌, ◌<◌, ◌≤◌, List, [], ◌∷◌, ◌++◌, length, take, get_or, slice_get, Some, refl, sym, ap, subst, ◌∙◌, add-one, arith}
+use Rattle.std.proofs.Common.{◌≡◌, inl, inr, ℕ, ◌+◌, ◌<◌, ◌≤◌, List, [], ◌∷◌, ◌++◌, length, take, get_or, slice_get, Some, refl, sym, ap, subst, ◌∙◌, add-one, arith}
 use Rattle.std.proofs.Math.Seq.{take-suc}
 use Rattle.std.proofs.lemmas.Bool.{cases_eq}
 use Rattle.std.proofs.lemmas.List.{take_all}
@@ -15,7 +15,7 @@ use Rattle.csp_tables.specs.ShapeOf.{ArePartsOf, IsPartOf}
 use Rattle.csp_tables.specs.Table.{Node}
 use Rattle.net_sound.proofs.FormOfTables.{table_has_form}
 use Rattle.net_sound.proofs.Normal.{normal_tables_carry_over}
-use Rattle.network_tables.specs.Tables.{HasTable}
+use Rattle.network_tables.specs.Tables.{AreTablesOf, HasTable}
 use Rattle.network_tables.specs.declared.component_tables.ComponentTable.{ComponentTable}
 use Rattle.process_steps.specs.ComponentStep.{ProcessStep}
 use Rattle.process_steps.specs.declared.component_fault.ComponentFault.TheVariants as fault
@@ -25,7 +25,7 @@ use Rattle.report.specs.declared.answer.Refusal.TheVariants as refusal
 use Rattle.report.specs.declared.stop.Stop.{Stop}
 use Rattle.report.specs.declared.stop.Stop.TheVariants as stop
 use Rattle.network_stages.specs.Sets.{HasManySets, HaveFewSets, HaveFewSetsBefore}
-use Rattle.network_stages.specs.Stages.{HaveNoParts}
+use Rattle.network_stages.specs.Stages.{HasNoPart, HaveNoParts}
 
 -- a table with at most so many acceptances at a node has at most more
 with_more : {S : Type 0} (Step : S → _ → S → Type 0) (start : S) (few most : ℕ) (table : List Node) → few ≤ most → IsNormalTable Step start few table → IsNormalTable Step start most table
@@ -108,3 +108,13 @@ module _ (p : Content) (seats : List (Component Proc)) where
     subst (λ (cs : List (Component Proc)). ArePartsOf (ProcessStep p) cs made) (take_all i seats at_end) done.parts,
     λ j c below at many. done.few j c (omega (arith, at_end, below)) at many,
   )
+
+-- a component alone, with its table, that has many sets
+pub no_part : (p : Content) (n : ℕ) (c : Component Proc) (cs : List (Component Proc)) (tables : List ComponentTable) (s : Stop Refusal) → cs ≡ c ∷ [] → AreTablesOf p cs tables
+    → Tells (λ r. HasManySets p c × (r ≡ refusal.Component n fault.SubsetLimit)) s → Tells (HasNoPart p n c) s
+no_part p n c cs tables stop.NoMemory one are tells = tt
+no_part p n c cs tables (stop.Told r) one are tells = inr (
+  tables,
+  subst (λ (ds : List (Component Proc)). AreTablesOf p ds tables) one are,
+  (0, record { component = c; at = refl; many = tells.0; earlier = λ j d below. absurd (let z : ⊥ = omega arith in z) }, tells.1 ∙ ap (λ (k : ℕ). refusal.Component k fault.SubsetLimit) (let z : n ≡ n + 0 = omega arith in z)),
+)

@@ -7,10 +7,12 @@ use Rattle.csp_tables.specs.Network.{Component, leaves}
 use Rattle.csp_tables.specs.Part.{Part, TripleDisjoint, alphabets_of, part_at}
 use Rattle.csp_tables.specs.Shape.{IsLinked, Shape}
 use Rattle.csp_tables.specs.ShapeOf.{ArePartsOf}
+use Rattle.net_sound.proofs.Parts.{one_part_each}
 use Rattle.network_layout.specs.Triple.{alphabets}
-use Rattle.network_stages.specs.Networks.{Network}
+use Rattle.network_stages.specs.Networks.{IsSpelled, Network}
 use Rattle.network_stages.specs.Shapes.{IsApart}
 use Rattle.network_stages.specs.Stages.{HasParts}
+use Rattle.network_stages.proofs.Spelling.{few_components}
 use Rattle.process_steps.specs.ComponentStep.{ProcessStep}
 
 -- parts have the alphabets of their components
@@ -22,6 +24,18 @@ same_alphabets p (c ∷ cs) (q ∷ ps) are = ap (λ (al : List ℕ). al ∷ alph
 
 pub parts_apart : (p : Content) (cs : List (Component Proc)) (ps : List Part) → ArePartsOf (ProcessStep p) cs ps → TripleDisjoint (alphabets cs) → TripleDisjoint (alphabets_of ps)
 parts_apart p cs ps are apart = subst (λ (als : List (List ℕ)). TripleDisjoint als) (same_alphabets p cs ps are) apart
+
+-- what was found of the layout of a network
+pub no_three : (network other : Network) (seats : List (Component Proc)) → other ≡ network → seats ≡ leaves other.tree → TripleDisjoint (alphabets seats) → TripleDisjoint (alphabets (leaves network.tree))
+no_three network other seats same laid apart =
+    subst (λ (n : Network). TripleDisjoint (alphabets (leaves n.tree))) same (subst (λ (cs : List (Component Proc)). TripleDisjoint (alphabets cs)) laid apart)
+
+-- there are at most 512 parts
+pub few_parts : (network : Network) (ps : List Part) → IsSpelled network → HasParts network ps → length ps ≤ 512
+few_parts network ps spelled has =
+    let few = few_components network spelled in
+    let many = one_part_each (ProcessStep network.program) (leaves network.tree) ps has.are in
+    omega (arith, few, many)
 
 -- tables that have their form have few nodes
 few_nodes : (ps : List Part) (i : ℕ) → HaveForm ps → i < length ps → length (part_at ps i).table ≤ 2048

@@ -1,5 +1,6 @@
 -- The first part of a network's shape that stops is the first component that does.
-use Rattle.std.proofs.Common.{◌∙◌, ℕ, List, [], refl, sym, subst}
+use Rattle.std.proofs.Common.{◌∙◌, ℕ, List, [], Result, Ok, Err, sym, subst}
+use Rattle.std.specs.Result.{OnOk}
 use Rattle.std.proofs.lemmas.Bool.{false≢true}
 use Rattle.csp_tables.specs.Label.{Label}
 use Rattle.csp_tables.specs.Network.{Component, ComponentStep, Tree, leaves}
@@ -8,6 +9,8 @@ use Rattle.csp_tables.specs.Table.{IsRun, acceptances_after}
 use Rattle.csp_tables.specs.Part.{Part, part_at}
 use Rattle.csp_tables.specs.Shape.{Shape}
 use Rattle.csp_tables.specs.ShapeOf.{IsPartOf, IsShapeOf}
+use Rattle.csp_tables.specs.Standing.{IsBusyShape}
+use Rattle.net_sound.proofs.ShapeOf.{shapes_are_busy}
 use Rattle.net_sound.proofs.Parts.{component_of, part_of}
 use Rattle.process_steps.specs.ComponentStep.{ProcessStep}
 use Rattle.report.specs.Stops.{Tells}
@@ -16,7 +19,7 @@ use Rattle.report.specs.declared.stop.Stop.{Stop}
 use Rattle.report.specs.declared.stop.Stop.TheVariants as stop
 use Rattle.network_stages.specs.Busy.{HasEmpty, IsBusyPart, PartCanStop, StopsFirst, StopsFirstIn}
 use Rattle.network_stages.specs.Networks.{Network}
-use Rattle.network_stages.specs.Stages.{CanStop}
+use Rattle.network_stages.specs.Stages.{CanStop, StaysBusy}
 
 module _ {T : Type 0} (Step : T → Label → T → Type 0) where
   -- an empty acceptance of a part after a run is one of its component after this trace
@@ -40,6 +43,10 @@ module _ {T : Type 0} (Step : T → Label → T → Type 0) where
         stops = stops c.component (part_at shape.parts i) s c.part stop.runs.follows stop.stops;
         first = λ j d before at. busy_component d (part_at shape.parts j) (part_of Step (leaves tree) shape.parts is.parts j d at) (stop.first j before);
       }
+
+pub stays_busy : {A E : Type 0} (network : Network) (shape : Shape) (r : Result A E) → IsShapeOf (ProcessStep network.program) network.tree shape → OnOk r (IsBusyShape shape) → OnOk r (StaysBusy network)
+stays_busy network shape (Ok a) is busy = (shapes_are_busy (ProcessStep network.program) network.tree shape is).0 busy
+stays_busy network shape (Err e) is busy = tt
 
 pub can_stop : (network : Network) (shape : Shape) (s : Stop Shortfall) → IsShapeOf (ProcessStep network.program) network.tree shape → Tells (PartCanStop shape) s → Tells (CanStop network) s
 can_stop network shape stop.NoMemory is tells = tt

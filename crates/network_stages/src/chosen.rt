@@ -79,12 +79,14 @@ pub fn make_part(alloc: Global, chosen: &Chosen<'_>) -> Result<Part, Stop<Refusa
 {
     let seats = slice::from_ref(chosen.seat);
     let tables = tables_from(alloc, chosen.program, chosen.number, seats)?;
-    let part = part_of(
+    match part_of(
         alloc,
         chosen.program,
         chosen.number,
         chosen.seat,
         &tables[0],
-    )?;
-    Ok(part)
+    ) {
+        Ok(part) => Ok(part),
+        Err(stop) => Err(stop),
+    }
 }

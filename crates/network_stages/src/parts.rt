@@ -80,9 +80,9 @@ impl<'a> Parted<'a> {
 
     // The parts alone.
     pub(crate) fn into_parts(self) -> Vec<Part>
-        ensures parts { result.items ≡ self.parts }
-        ensures are { HasParts self.network self.parts }
-        ensures form { HaveForm self.parts }
+        ensures parts { result.items ≡ self.entry.parts }
+        ensures are { HasParts self.entry.network self.entry.parts }
+        ensures form { HaveForm self.entry.parts }
     {
         let Parted {
             network: _network,

@@ -111,9 +111,9 @@ fn shared(fault: TripleFault) -> Shortfall
 
 /// A network of which no event is in three alphabets with its shape, from the parts of its components; or that an event is.
 pub fn make_shape<'a>(alloc: Global, parted: Parted<'a>) -> Result<Shaped<'a>, Stop<Shortfall>>
-    ensures network { IfOk result (λ made. made.network ≡ parted.network) }
-    ensures apart { IfOk result (λ made. IsApart parted.network made.shape) }
-    ensures told { IfErr result (Tells (ShareEvent parted.network)) }
+    ensures network { IfOk result (λ made. made.network ≡ parted.entry.network) }
+    ensures apart { IfOk result (λ made. IsApart parted.entry.network made.shape) }
+    ensures told { IfErr result (Tells (ShareEvent parted.entry.network)) }
 {
     let network = parted.network();
     match triple_disjoint(network.layout()) {

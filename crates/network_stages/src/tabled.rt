@@ -70,7 +70,8 @@ impl<'a> Tabled<'a> {
     pub fn silent_bound(&self) -> u32
         ensures { HasSilentBound self.now.network result }
     {
-        let _seats = self.network.seats();
+        let network = self.network();
+        let _seats = network.seats();
         silent_bound(self.tables())
     }
 }

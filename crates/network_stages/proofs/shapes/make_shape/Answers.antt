@@ -1,16 +1,30 @@
-use Rattle.std.proofs.Common.{◌≤◌, List, length, subst, ◌∙◌}
-use Rattle.csp_program.specs.declared.processes.Proc.{Proc}
-use Rattle.csp_tables.specs.Network.{Component, leaves}
+use Rattle.std.proofs.Common.{◌≤◌, List, length, sym, subst, ◌∙◌}
+use Rattle.csp_tables.specs.Network.{leaves}
 use Rattle.csp_tables.specs.Part.{Part, TripleDisjoint, alphabets_of}
-use Rattle.network_layout.specs.Triple.{alphabets}
-use Rattle.network_stages.proofs.Shaping.{is_apart, parts_apart}
+use Rattle.network_stages.specs.Networks.{IsSpelled, Network}
+use Rattle.network_stages.specs.Shapes.{IsApart}
+use Rattle.network_stages.proofs.Shaping.{few_parts, is_apart, no_three, parts_apart}
 use Rattle.network_stages.proofs.shapes.make_shape.Goals as goal
 
-pub shape_of-requires-clause-least : goal.shape_of-requires-clause-least
-shape_of-requires-clause-least c = ?
+pub shape_of-requires-in-Ok-clause-most : goal.shape_of-requires-in-Ok-clause-most
+shape_of-requires-in-Ok-clause-most c =
+    subst (λ (ps : List Part). length ps ≤ 512) (sym c.into_parts.ensures.parts) (few_parts c.args.parted.network _ (subst IsSpelled c.network-network.ensures c.layout.ensures.spelled) c.into_parts.ensures.are)
 
-pub shape_of-requires-clause-most : goal.shape_of-requires-clause-most
-shape_of-requires-clause-most c = ?
+pub shape_of-requires-in-Ok-clause-apart : goal.shape_of-requires-in-Ok-clause-apart
+shape_of-requires-in-Ok-clause-apart c =
+    let network = c.args.parted.network in
+    subst (λ (ps : List Part). TripleDisjoint (alphabets_of ps)) (sym c.into_parts.ensures.parts) (parts_apart network.program (leaves network.tree) _ c.into_parts.ensures.are.are
+    (no_three c.args.parted.network c.network-network.result.now c.layout.result.now c.network-network.ensures c.layout.ensures.layout c.in-Ok.ensures.ok))
 
-pub shape_of-requires-clause-apart : goal.shape_of-requires-clause-apart
-shape_of-requires-clause-apart c = ?
+pub returns-in-Ok-clause-apart : goal.returns-in-Ok-clause-apart
+returns-in-Ok-clause-apart c =
+    is_apart c.args.parted.network _ c.in_ok-shape-in-Ok.shape c.into_parts.ensures.are c.into_parts.ensures.form
+    (no_three c.args.parted.network c.network-network.result.now c.layout.result.now c.network-network.ensures c.layout.ensures.layout c.in-Ok.ensures.ok)
+    (c.in_ok-shape-in-Ok.ensures.parts ∙ c.into_parts.ensures.parts) c.in_ok-shape-in-Ok.ensures.linked
+
+pub invariant_of-result : goal.invariant_of-result
+invariant_of-result c =
+    subst (λ (n : Network). IsApart n c.in_ok-shape-in-Ok.shape) (sym c.network-network.ensures)
+    (is_apart c.args.parted.network _ c.in_ok-shape-in-Ok.shape c.into_parts.ensures.are c.into_parts.ensures.form
+    (no_three c.args.parted.network c.network-network.result.now c.layout.result.now c.network-network.ensures c.layout.ensures.layout c.in-Ok.ensures.ok)
+    (c.in_ok-shape-in-Ok.ensures.parts ∙ c.into_parts.ensures.parts) c.in_ok-shape-in-Ok.ensures.linked)

@@ -1,0 +1,18 @@
+use Rattle.std.proofs.Common.{◌≤◌, List, length, sym, subst}
+use Rattle.csp_program.specs.declared.processes.Proc.{Proc}
+use Rattle.csp_tables.specs.Network.{Component, leaves}
+use Rattle.network_stages.specs.Networks.{Network}
+use Rattle.network_stages.specs.Stages.{HasTables}
+use Rattle.network_tables.proofs.Rows.{few_tables}
+use Rattle.network_stages.proofs.tabled.Tabled.silent_bound.Goals as goal
+
+pub silent_bound-requires-clause-few : goal.silent_bound-requires-clause-few
+silent_bound-requires-clause-few c =
+    let network = c.args.self.now.network in
+    few_tables network.program (leaves network.tree) c.tables.result.now (subst (HasTables network) (sym c.tables.ensures.tables) c.tables.ensures.are)
+    (subst (λ (n : Network). length (leaves n.tree) ≤ 512) c.network-network.ensures (subst (λ (cs : List (Component Proc)). length cs ≤ 512) c.seats-seats.ensures.seats c.seats-seats.ensures.few))
+
+pub silent_bound-requires-clause-are : goal.silent_bound-requires-clause-are
+silent_bound-requires-clause-are c =
+    let network = c.args.self.now.network in
+    (network.program, leaves network.tree, subst (HasTables network) (sym c.tables.ensures.tables) c.tables.ensures.are)
