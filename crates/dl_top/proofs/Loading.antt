@@ -72,7 +72,7 @@ module _ {S : Type 0} (Loads : S → S → List ℕ → Result (List ℕ) LoadFa
   same_request old new r q result same ends = subst (λ (x : Request). Ends (Loaded Loads side.Script old new (names x) (TextsCallFor x)) result) (sym same) ends
 
   -- the reply to what the words ask for
-  pub gives : {E : Type 0} (words : List (List ℕ)) (found : Option Request) (r : Request) (old new : S) (trial : Option Trial) (walk : Result Answer (Stop Answer)) (a : Answer) → found ≡ Some r
+  pub gives : (words : List (List ℕ)) (found : Option Request) (r : Request) (old new : S) (trial : Option Trial) (walk : Result Answer (Stop Answer)) (a : Answer) → found ≡ Some r
       → IfSome found (Asks words) → trial ≡ trial_of r → Ends (Loaded Loads side.Script old new (names r) (TextsCallFor r)) walk → IsEnd walk a
       → MayGive Loads words old new (record { trial = trial; answer = a })
   gives words found r old new trial walk a is asked same ends end = inr (
@@ -182,7 +182,7 @@ module _ (texts : List NamedText) where
   -- where all texts are held, none is missing
   told_inside : (s : Side) (name : List ℕ) (f : LoadFault) (a : Answer) → (text : List ℕ) × (text_of texts name ≡ Some text) → LoadsHeld texts tt tt name (Err f) → TellsLoad s f a → IsInside a
   told_inside s name Missing a held load tells four = let no : None ≡ Some held.0 = sym load.0 ∙ held.1 in cc
-  told_inside s name TooLong a held load tells four = let no : 2 ≡ 4 = sym (ap status tells) ∙ four in cc
+  told_inside s name TooLong a held load tells four = let no : ◌≡◌ {A = ℕ} 2 4 = sym (ap status tells) ∙ four in cc
   told_inside s name Failed a held load tells four = absurd load
   told_inside s name NoMemory a held load tells four = absurd tells
 
@@ -193,7 +193,7 @@ module _ (texts : List NamedText) where
   loaded_inside s (n ∷ ns) Then a hold rest (inr (t, between, load, later)) = loaded_inside side.Specification ns (λ ts. Then (t ∷ ts)) a hold.1 (λ ts. rest (t ∷ ts)) later
 
   pub held_not_four : (words : List (List ℕ)) (reply : Reply) → HoldsAllNamed texts words → CallsFor texts words reply → reply_status reply ≡ 4 → ⊥
-  held_not_four words reply held (inl none) four = let no : 3 ≡ 4 = sym (ap reply_status none.1) ∙ four in cc
+  held_not_four words reply held (inl none) four = let no : ◌≡◌ {A = ℕ} 3 4 = sym (ap reply_status none.1) ∙ four in cc
   held_not_four words reply held (inr (r, asked, replies)) four =
       loaded_inside side.Script (names r) (TextsCallFor r) reply.answer (held r asked) (λ ts calls. inside r ts reply.answer calls) replies.calls four
 
@@ -201,14 +201,14 @@ module _ (texts : List NamedText) where
 
 -- status 4 is that of a fault outside
 outside : (a : Answer) → status a ≡ 4 → (s : Side) × (f : OutsideFault) × (a ≡ answer.Outside s f)
-outside answer.Usage four = absurd (let no : 3 ≡ 4 = four in cc)
+outside answer.Usage four = absurd (let no : ◌≡◌ {A = ℕ} 3 4 = four in cc)
 outside (answer.Outside s f) four = (s, f, refl)
-outside (answer.NoProgram s f) four = absurd (let no : 2 ≡ 4 = four in cc)
-outside (answer.Shown text) four = absurd (let no : 0 ≡ 4 = four in cc)
-outside (answer.Decided p (verdict.Refused s r)) four = absurd (let no : 2 ≡ 4 = four in cc)
-outside (answer.Decided p (verdict.NotProved s)) four = absurd (let no : 1 ≡ 4 = four in cc)
-outside (answer.Decided p (verdict.Stuck moves)) four = absurd (let no : 1 ≡ 4 = four in cc)
-outside (answer.Decided p (verdict.Done what)) four = absurd (let no : 0 ≡ 4 = four in cc)
+outside (answer.NoProgram s f) four = absurd (let no : ◌≡◌ {A = ℕ} 2 4 = four in cc)
+outside (answer.Shown text) four = absurd (let no : ◌≡◌ {A = ℕ} 0 4 = four in cc)
+outside (answer.Decided p (verdict.Refused s r)) four = absurd (let no : ◌≡◌ {A = ℕ} 2 4 = four in cc)
+outside (answer.Decided p (verdict.NotProved s)) four = absurd (let no : ◌≡◌ {A = ℕ} 1 4 = four in cc)
+outside (answer.Decided p (verdict.Stuck moves)) four = absurd (let no : ◌≡◌ {A = ℕ} 1 4 = four in cc)
+outside (answer.Decided p (verdict.Done what)) four = absurd (let no : ◌≡◌ {A = ℕ} 0 4 = four in cc)
 
 plain_is : (reply : Reply) (x : Answer) → reply.trial ≡ None → reply.answer ≡ x → reply ≡ plain x
 plain_is reply x none is =
@@ -225,7 +225,7 @@ no_trial Loads old new (request.Trial trial) reply replies four = absurd (inside
 
 pub shelf_fault : {S : Type 0} (Loads : S → S → List ℕ → Result (List ℕ) LoadFault → Type 0) (words : List (List ℕ)) (old new : S) (reply : Reply) → MayGive Loads words old new reply → reply_status reply ≡ 4
     → (s : Side) × (f : OutsideFault) × (reply ≡ plain (answer.Outside s f))
-shelf_fault Loads words old new reply (inl none) four = absurd (let no : 3 ≡ 4 = sym (ap reply_status none.1) ∙ four in cc)
+shelf_fault Loads words old new reply (inl none) four = absurd (let no : ◌≡◌ {A = ℕ} 3 4 = sym (ap reply_status none.1) ∙ four in cc)
 shelf_fault Loads words old new reply (inr (r, asked, replies)) four =
     let fault = outside reply.answer four in
     (fault.0, fault.1, plain_is reply (answer.Outside fault.0 fault.1) (no_trial Loads old new r reply replies four) fault.2)

@@ -56,10 +56,10 @@ still_whole Cause sink result memory still (inr (inl broken)) = absurd (still br
 still_whole Cause sink result memory still (inr (inr short)) = absurd (memory short.1)
 
 pub ends_weaker : (P Q : Reply → Type 0) → ((reply : Reply) → P reply → Q reply) → (sink : SinkSigns) (result : ℕ) → Ends P sink result → Ends Q sink result
-ends_weaker P Q weak sink result (inl (reply, cause, ends)) = inl (reply, weak reply cause, ends)
-ends_weaker P Q weak sink result (inr (inl (reply, cause, ends))) = inr (inl (reply, weak reply cause, ends))
+ends_weaker P Q weak sink result (inl (reply, cause, grew, is)) = inl (reply, weak reply cause, grew, is)
+ends_weaker P Q weak sink result (inr (inl (reply, cause, rose, grew, is))) = inr (inl (reply, weak reply cause, rose, grew, is))
 ends_weaker P Q weak sink result (inr (inr (inl nothing, five))) = inr (inr (inl nothing, five))
-ends_weaker P Q weak sink result (inr (inr (inr (reply, cause, ends), five))) = inr (inr (inr (reply, weak reply cause, ends), five))
+ends_weaker P Q weak sink result (inr (inr (inr (reply, cause, grew), five))) = inr (inr (inr (reply, weak reply cause, grew), five))
 
 -- a whole report with the status of an answer that the texts of a request call for
 module _ {S : Type 0} (texts : S → Option (List NamedText)) (counts : S → Counts) (gives : S → S → List ℕ → List ℕ → Type 0) (old new : S) (words : List (List ℕ)) (sink : SinkSigns) (result : ℕ)
@@ -85,7 +85,7 @@ module _ {S : Type 0} (texts : S → Option (List NamedText)) (counts : S → Co
   -- the whole line of a fault of the shelf
   pub in_shelf_fault : result ≡ 4 → ¬ sink.rose → EndsInShelfFault (MayGive (IsLoad texts counts gives) words old new) sink
   in_shelf_fault four still =
-      let sent = still_whole (MayGive (IsLoad texts counts gives) words old new) sink result (λ five. let no : 4 ≡ 5 = sym four ∙ five in cc) still ends in
+      let sent = still_whole (MayGive (IsLoad texts counts gives) words old new) sink result (λ five. let no : ◌≡◌ {A = ℕ} 4 5 = sym four ∙ five in cc) still ends in
       (sent.0, shelf_fault (IsLoad texts counts gives) words old new sent.0 sent.1 (sym sent.3 ∙ four), sent.1, sent.2)
 
   -- the reply is the one that the texts call for

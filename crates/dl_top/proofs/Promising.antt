@@ -285,9 +285,9 @@ keeps_stuck seed steps name texts a calls is = absurd calls
 
 -- what holds of the answer to a text with a job holds of the answer where the job is known
 pub of_job : {E : Type 0} (text : List ℕ) (job : Job) (made : Result Answer E) (Q : Answer → Type 0) → IfOk made (TextCallsFor text job)
-    → ((a : Answer) → ({other : Job} → job ≡ other → TextCallsFor text other a) → Q a) → IfOk made Q
+    → ((a : Answer) → ((other : Job) → job ≡ other → TextCallsFor text other a) → Q a) → IfOk made Q
 of_job text job (Err e) Q calls holds = tt
-of_job text job (Ok a) Q calls holds = holds a (λ same. subst (λ (j : Job). TextCallsFor text j a) same calls)
+of_job text job (Ok a) Q calls holds = holds a (λ other same. subst (λ (j : Job). TextCallsFor text j a) same calls)
 
 -- ---- completeness
 
@@ -349,10 +349,10 @@ completes r texts a passing calls = absurd passing
 -- ---- no text calls for an answer with status 4
 
 few_verdicts : (v : Verdict) → verdict_status v ≡ 4 → ⊥
-few_verdicts (verdict.Refused s r) four = let no : 2 ≡ 4 = four in cc
-few_verdicts (verdict.NotProved s) four = let no : 1 ≡ 4 = four in cc
-few_verdicts (verdict.Stuck moves) four = let no : 1 ≡ 4 = four in cc
-few_verdicts (verdict.Done what) four = let no : 0 ≡ 4 = four in cc
+few_verdicts (verdict.Refused s r) four = let no : ◌≡◌ {A = ℕ} 2 4 = four in cc
+few_verdicts (verdict.NotProved s) four = let no : ◌≡◌ {A = ℕ} 1 4 = four in cc
+few_verdicts (verdict.Stuck moves) four = let no : ◌≡◌ {A = ℕ} 1 4 = four in cc
+few_verdicts (verdict.Done what) four = let no : ◌≡◌ {A = ℕ} 0 4 = four in cc
 
 abbrev pub IsInside : Answer → Type 0
 IsInside a = status a ≡ 4 → ⊥
@@ -361,15 +361,15 @@ told_inside : (network : Network) (Decides : Verdict → Type 0) (a : Answer) �
 told_inside network Decides a (v, decides, same) four = few_verdicts v (sym (ap status same) ∙ four)
 
 network_inside : (s : Side) (text : List ℕ) (Then : Network → Answer → Type 0) → ((network : Network) (a : Answer) → Then network a → IsInside a) → (a : Answer) → NetworkOr s text Then a → IsInside a
-network_inside s text Then rest a (inl none) four = let no : 2 ≡ 4 = sym (none_two s text a none) ∙ four in cc
+network_inside s text Then rest a (inl none) four = let no : ◌≡◌ {A = ℕ} 2 4 = sym (none_two s text a none) ∙ four in cc
 network_inside s text Then rest a (inr (network, spells, then)) four = rest network a then four
 
 text_inside : (text : List ℕ) (job : Job) (a : Answer) → TextCallsFor text job a → IsInside a
 text_inside text job a calls = network_inside side.Script text _ (λ network. told_inside network (NetworkDecides job network)) a calls
 
 pub inside : (r : Request) (texts : List (List ℕ)) (a : Answer) → TextsCallFor r texts a → IsInside a
-inside (request.Show name) (text ∷ []) a (inl none) four = let no : 2 ≡ 4 = sym (ap status none.told) ∙ four in cc
-inside (request.Show name) (text ∷ []) a (inr (script, spells, is)) four = let no : 0 ≡ 4 = sym (ap status is) ∙ four in cc
+inside (request.Show name) (text ∷ []) a (inl none) four = let no : ◌≡◌ {A = ℕ} 2 4 = sym (ap status none.told) ∙ four in cc
+inside (request.Show name) (text ∷ []) a (inr (script, spells, is)) four = let no : ◌≡◌ {A = ℕ} 0 4 = sym (ap status is) ∙ four in cc
 inside (request.Script job name) (text ∷ []) a calls four = text_inside text job a calls four
 inside (request.Trial trial) [] a calls four = text_inside (trial_text trial) (Check (rule_of trial.family)) a calls four
 inside (request.Conform script specification) (text ∷ next ∷ []) a calls four =

@@ -47,10 +47,10 @@ module _ {S : Type 0} (Loads : S → S → List ℕ → Result (List ℕ) LoadFa
   -- Texts are loaded by their names, one after another. The first is of this side, each other the specification. A text that can't be loaded is told; else
   -- the texts decide.
   abbrev pub Loaded : Side → S → S → List (List ℕ) → (List (List ℕ) → Answer → Type 0) → Answer → Type 0
-  Loaded side old new [] Then answer = (new ≡ old) × Then [] answer
-  Loaded side old new (name ∷ names) Then answer =
-      ((fault : LoadFault) × Loads old new name (Err fault) × TellsLoad side fault answer)
-      ⊎ ((text : List ℕ) × (between : S) × Loads old between name (Ok text) × Loaded side.Specification between new names (λ others. Then (text ∷ others)) answer)
+  Loaded this old new [] Then answer = (new ≡ old) × Then [] answer
+  Loaded this old new (name ∷ more) Then answer =
+      ((fault : LoadFault) × Loads old new name (Err fault) × TellsLoad this fault answer)
+      ⊎ ((text : List ℕ) × (between : S) × Loads old between name (Ok text) × Loaded side.Specification between new more (λ others. Then (text ∷ others)) answer)
 
   -- the reply to a request
   pub record Replies (old new : S) (request : Request) (reply : Reply) : Type 0 where

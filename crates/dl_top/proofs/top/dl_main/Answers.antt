@@ -1,6 +1,7 @@
 use Rattle.std.proofs.Common.{arith}
 use Rattle.command_words.specs.declared.request.Job.TheVariants.{Check, Livelock, Run, Table}
 use Rattle.command_words.specs.declared.request.Request.TheVariants as request
+use Rattle.dl_top.specs.Ending.{sink_signs}
 use Rattle.dl_top.specs.Promised.{IsStuckRun, Promised}
 use Rattle.dl_top.specs.Proved.{IsFree}
 use Rattle.dl_top.proofs.Printing.{in_shelf_fault, kept, settled, settled_passes}
@@ -59,7 +60,8 @@ returns-clause-conformed g c (script, specification, asks) zero =
 
 pub returns-clause-complete : goal.returns-clause-complete
 returns-clause-complete g c memory shelf_still sink_still =
-    settled_passes (g.S.Shelf.texts c.args.shelf.now) c.args.words.now _ c.report_to.result
+    settled_passes (g.S.Shelf.texts c.args.shelf.now) c.args.words.now
+    (sink_signs (g.O.Sink.sent c.args.out.now) (g.O.Sink.sent c.report_to.new.out) (g.O.Sink.faults c.args.out.now) (g.O.Sink.faults c.report_to.new.out)) c.report_to.result
     (settled g.S.Shelf.texts g.S.Shelf.counts g.S.Shelf.gives c.args.shelf.now c.report_to.new.shelf c.args.words.now _ c.report_to.result c.report_to.ensures.ends memory shelf_still sink_still)
 
 pub returns-clause-shelf_fault : goal.returns-clause-shelf_fault
