@@ -1,5 +1,6 @@
 -- What texts call for keeps the promise of its status; and where the texts are such, the status is 0.
 use Rattle.std.proofs.Common.{◌≡◌, ◌≤◌, ℕ, Bool, true, false, List, [], ◌∷◌, Some, Result, Ok, Err, IfOk, inl, inr, map, refl, sym, ap, subst, ◌∙◌, arith}
+use Rattle.std.specs.Prelude.{pos}
 use Rattle.std.proofs.lemmas.Option.{slice_get_within}
 use Rattle.command_words.specs.declared.request.Job.{Job}
 use Rattle.command_words.specs.declared.request.Job.TheVariants.{Check, Livelock, Run, Table}
@@ -16,7 +17,7 @@ use Rattle.csp_tables.specs.WellNested.{WellNested}
 use Rattle.csp_tables.specs.declared.rule.Rule.{Rule}
 use Rattle.csp_parser.specs.Spells.{Spells}
 use Rattle.csp_text.specs.declared.script.Script.{Script}
-use Rattle.judgement.specs.Counts.{greatest_rank, node_count}
+use Rattle.judgement.specs.Counts.{node_count}
 use Rattle.judgement.specs.Judged.{IsJudged}
 use Rattle.judgement_laws.proofs.Complete.{complete}
 use Rattle.judgement_laws.proofs.Networks.{faults_exclude_networks}
@@ -90,7 +91,7 @@ ranked text rule network v spells whole = record {
     lasting = goes_on network rule v whole;
     nodes = node_count whole.shape.parts;
     classes = classes network rule v whole;
-    greatest_rank = greatest_rank whole.ranking;
+    greatest_rank = pos whole.free.rank;
     is = ap (verdict_text network.program) whole.free.is;
   };
   passes = passes network rule v whole;
