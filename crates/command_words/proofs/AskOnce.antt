@@ -4,9 +4,9 @@ use Rattle.net_maker.specs.Families.{greatest}
 use Rattle.net_maker.specs.declared.families.Family.{Family}
 use Rattle.net_maker.specs.declared.families.Family.TheVariants.{Chain, Forks, Mesh}
 use Rattle.command_words.specs.Request.{IsWithin, WordsAskOnce, written}
-use Rattle.command_words.specs.declared.request.Job.TheVariants.{Check, Livelock, Run, Show, Table}
+use Rattle.command_words.specs.declared.request.Job.TheVariants.{Check, Livelock, Run, Table}
 use Rattle.command_words.specs.declared.request.Request.{Request}
-use Rattle.command_words.specs.declared.request.Request.TheVariants.{Conform, Script, Trial as trial}
+use Rattle.command_words.specs.declared.request.Request.TheVariants.{Conform, Script, Show, Trial as trial}
 use Rattle.command_words.specs.declared.request.Trial.{Trial}
 use Rattle.command_words.proofs.Digits.{same_number}
 use Rattle.command_words.proofs.Names.{same_family, same_rule}
@@ -31,10 +31,10 @@ same_trial t u families sizes =
     first ∙ ap (λ (n : ℕ). record { family = u.family; size = n }) sizes
 
 one_request : (r s : Request) → IsWithin r → IsWithin s → written r ≡ written s → r ≡ s
+one_request (Show name) (Show more) a b is = ap Show (word 1 _ _ is)
 one_request (Script (Check rule) name) (Script (Check other) more) a b is =
     let rules : rule ≡ other = same_rule rule other (word 1 _ _ is) in
     let scripts : name ≡ more = word 2 _ _ is in cc
-one_request (Script Show name) (Script Show more) a b is = ap (Script Show) (word 1 _ _ is)
 one_request (Script (Table i) name) (Script (Table j) more) a b is =
     let indices : i ≡ j = same_number i j a b (word 2 _ _ is) in
     let scripts : name ≡ more = word 1 _ _ is in cc
@@ -54,8 +54,9 @@ one_request (trial t) (trial u) a b is =
 one_request (Conform script specification) (Conform more other) a b is =
     let scripts : script ≡ more = word 1 _ _ is in
     let specifications : specification ≡ other = word 2 _ _ is in cc
-one_request (trial t) (Script Show name) a b is = absurd (differ _ _ is (λ e. omega (arith, e)))
-one_request (Conform script specification) (Script Show name) a b is = absurd (differ _ _ is (λ e. omega (arith, e)))
+one_request (Show name) (Script (Check rule) more) a b is = absurd (differ _ _ is (λ e. omega (arith, e)))
+one_request (trial t) (Script (Check rule) name) a b is = absurd (differ _ _ is (λ e. omega (arith, e)))
+one_request (Conform script specification) (Script (Check rule) name) a b is = absurd (differ _ _ is (λ e. omega (arith, e)))
 one_request r s a b is = absurd (differ _ _ is (λ e. omega (arith, e)))
 
 pub words_ask_once : WordsAskOnce

@@ -4,16 +4,16 @@ use Rattle.std.specs.Fmt.{decimal}
 use Rattle.csp_tables.specs.declared.rule.Rule.{Rule}
 use Rattle.net_maker.specs.Families.{family_name, greatest, least}
 use Rattle.report.specs.Report.{rule_text}
-use Rattle.command_words.specs.declared.request.Job.TheVariants.{Check, Livelock, Run, Show, Table}
+use Rattle.command_words.specs.declared.request.Job.TheVariants.{Check, Livelock, Run, Table}
 use Rattle.command_words.specs.declared.request.Request.{Request}
 use Rattle.command_words.specs.declared.request.Request.TheVariants as request
 use Rattle.command_words.specs.declared.request.Trial.{Trial}
 
--- how a request is written: `check RULE SCRIPT`, `show SCRIPT`, `table SCRIPT INDEX`, `trial FAMILY N`, `run SCRIPT SEED STEPS`, `livelock SCRIPT SET` or
+-- how a request is written: `show SCRIPT`, `check RULE SCRIPT`, `table SCRIPT INDEX`, `trial FAMILY N`, `run SCRIPT SEED STEPS`, `livelock SCRIPT SET` or
 -- `conform SCRIPT SPEC`
 abbrev pub written : Request → List (List ℕ)
+written (request.Show name) = codes "show" ∷ name ∷ []
 written (request.Script (Check rule) name) = codes "check" ∷ rule_text rule ∷ name ∷ []
-written (request.Script Show name) = codes "show" ∷ name ∷ []
 written (request.Script (Table i) name) = codes "table" ∷ name ∷ decimal i ∷ []
 written (request.Script (Run seed steps) name) = codes "run" ∷ name ∷ decimal seed ∷ decimal steps ∷ []
 written (request.Script (Livelock set) name) = codes "livelock" ∷ name ∷ set ∷ []
@@ -22,8 +22,8 @@ written (request.Conform script specification) = codes "conform" ∷ script ∷ 
 
 -- an index, a seed and a number of steps have one to six digits, and a size is one that the family has
 abbrev pub IsWithin : Request → Type 0
+IsWithin (request.Show name) = Unit {0}
 IsWithin (request.Script (Check rule) name) = Unit {0}
-IsWithin (request.Script Show name) = Unit {0}
 IsWithin (request.Script (Table i) name) = i < 1000000
 IsWithin (request.Script (Run seed steps) name) = (seed < 1000000) × (steps < 1000000)
 IsWithin (request.Script (Livelock set) name) = Unit {0}
@@ -36,11 +36,14 @@ pub record Asks (words : List (List ℕ)) (request : Request) : Type 0 where
 
 -- the names of the scripts that a request is for
 abbrev pub names : Request → List (List ℕ)
+names (request.Show name) = name ∷ []
 names (request.Script job name) = name ∷ []
 names (request.Trial trial) = []
 names (request.Conform script specification) = script ∷ specification ∷ []
 
+-- the trial for which a request asks, if it does
 abbrev pub trial_of : Request → Option Trial
+trial_of (request.Show name) = None
 trial_of (request.Script job name) = None
 trial_of (request.Trial trial) = Some trial
 trial_of (request.Conform script specification) = None
@@ -59,7 +62,7 @@ AsksForCheck words = (rule : Rule) × (script : List ℕ) × Asks words (request
 
 -- The words ask for a script to be shown.
 abbrev pub AsksForShow : List (List ℕ) → Type 0
-AsksForShow words = (script : List ℕ) × Asks words (request.Script Show script)
+AsksForShow words = (script : List ℕ) × Asks words (request.Show script)
 
 -- The words ask for the table of a component.
 abbrev pub AsksForTable : List (List ℕ) → Type 0

@@ -6,10 +6,10 @@ ghost use Rattle.net_maker.specs.declared.families.Family.{Family as FamilyValue
 ghost use Rattle.net_maker.specs.Families.{family_name, greatest, least};
 ghost use Rattle.report.specs.Report.{rule_text};
 ghost use Rattle.command_words.specs.declared.request.Job.{Job as JobValue};
-ghost use Rattle.command_words.specs.declared.request.Job.TheVariants.{Check, Livelock, Run, Show, Table};
+ghost use Rattle.command_words.specs.declared.request.Job.TheVariants.{Check, Livelock, Run, Table};
 ghost use Rattle.command_words.specs.declared.request.Request.TheVariants as request;
 ghost use Rattle.command_words.specs.declared.request.Trial.{Trial as TrialValue};
-ghost use Rattle.command_words.specs.Request.{Asks, IsNoRequest, written};
+ghost use Rattle.command_words.specs.Request.{Asks, IsNoRequest, trial_of, written};
 ghost use Rattle.command_words.specs.Named.{IsNamed};
 
 use crate::numbers::spelled_number;
@@ -34,16 +34,14 @@ const LIVELOCK: &[u8] = b"livelock";
 
 const CONFORM: &[u8] = b"conform";
 
-/// What is to be done with a script.
+/// What is to be done with the network of a script.
 #[derive(Drop)]
 pub enum Job {
-    /// Its network is judged by a rule.
+    /// It is judged by a rule.
     Check(Rule),
-    /// It is printed again.
-    Show,
     /// The normal table of the component with this number is printed.
     Table(u32),
-    /// A run of its network is printed.
+    /// A run of it is printed.
     Run {
         /// The number that chooses the steps.
         seed: u32,
@@ -66,12 +64,26 @@ pub struct Trial {
 /// What the words ask for.
 #[derive(Drop)]
 pub enum Request {
-    /// A job is to be done with the script of this name.
+    /// The script of this name is to be printed again.
+    Show(Bytes),
+    /// A job is to be done with the network of the script of this name.
     Script(Job, Bytes),
     /// A network of a family is to be tried.
     Trial(Trial),
     /// The network of the script of the first name is held against that of the second, its specification.
     Conform(Bytes, Bytes),
+}
+
+impl Request {
+    /// The trial for which it asks, if it does.
+    pub fn trial(&self) -> Option<Trial>
+        ensures { result ≡ trial_of self.now }
+    {
+        match self {
+            Request::Trial(trial) => Some(*trial),
+            Request::Show(_) | Request::Script(_, _) | Request::Conform(_, _) => None,
+        }
+    }
 }
 
 // The rule of this name.
@@ -124,8 +136,8 @@ fn asked_check(words: &[Bytes]) -> Option<(Rule, &[u8])>
 
 // The script's name of the words `show SCRIPT`.
 fn asked_show(words: &[Bytes]) -> Option<&[u8]>
-    ensures asks { IfSome result (λ script. words.now ≡ written (request.Script Show script.now)) }
-    ensures none { IfNone result ((script : List ℕ) → words.now ≡ written (request.Script Show script) → ⊥) }
+    ensures asks { IfSome result (λ script. words.now ≡ written (request.Show script.now)) }
+    ensures none { IfNone result ((script : List ℕ) → words.now ≡ written (request.Show script) → ⊥) }
 {
     match words {
         [show, script] if show.as_slice() == SHOW => Some(script.as_slice()),
@@ -181,7 +193,7 @@ fn asked_livelock(words: &[Bytes]) -> Option<(&[u8], &[u8])>
     }
 }
 
-// What the words ask for a script, and the script's name.
+// What the words ask for the network of a script, and the script's name.
 fn asked_job(alloc: Global, words: &[Bytes]) -> Result<Option<(Job, &[u8])>, NoMemory>
     ensures asks { IfOk result (λ found. IfSome found (λ asked. Asks words.now (request.Script asked.0 asked.1.now))) }
     ensures none { IfOk result (λ found. IfNone found ((job : JobValue) (script : List ℕ) → Asks words.now (request.Script job script) → ⊥)) }
@@ -199,10 +211,7 @@ fn asked_job(alloc: Global, words: &[Bytes]) -> Result<Option<(Job, &[u8])>, NoM
         let set = Bytes::from_slice(alloc, set)?;
         return Ok(Some((Job::Livelock(set), script)));
     }
-    let Some(script) = asked_show(words) else {
-        return Ok(None);
-    };
-    Ok(Some((Job::Show, script)))
+    Ok(None)
 }
 
 // The trial of a family, where the family has the size.
@@ -273,6 +282,10 @@ pub fn asked(alloc: Global, words: &Words) -> Result<Option<Request>, NoMemory>
     let words = words.as_slice();
     if let Some(trial) = asked_trial(words) {
         return Ok(Some(Request::Trial(trial)));
+    }
+    if let Some(script) = asked_show(words) {
+        let name = Bytes::from_slice(alloc, script)?;
+        return Ok(Some(Request::Show(name)));
     }
     if let Some((script, specification)) = asked_conform(words) {
         let request = conform_of(alloc, script, specification)?;

@@ -1,37 +1,31 @@
 -- From the parts of two networks to their components: which conform, and which is the first that does not.
-use Rattle.std.proofs.Common.{◌≡◌, ℕ, suc, ◌<◌, inl, inr, List, [], ◌∷◌, length, Some, Ok, refl, sym, ap, ◌∙◌, arith}
+use Rattle.std.proofs.Common.{◌≡◌, ℕ, suc, ◌<◌, inl, inr, List, [], ◌∷◌, get_or, length, Some, refl, sym, ap, subst, ◌∙◌, arith}
 use Rattle.std.specs.Prelude.{slice_get}
-use Rattle.std.proofs.lemmas.Option.{same_Some}
+use Rattle.std.proofs.lemmas.List.{get_or_read}
+use Rattle.std.proofs.lemmas.Option.{same_Some, slice_get_within}
+use Rattle.conformance.specs.Conforming.{TableConforms}
+use Rattle.conformance.specs.Told.{Fails}
+use Rattle.conformance.specs.declared.fault.ConformFault.{ConformFault}
+use Rattle.conformance.specs.declared.fault.ConformFault.TheVariants as fault
+use Rattle.conformance.proofs.Telling.{tables_tell}
 use Rattle.csp_program.specs.declared.processes.Proc.{Proc}
 use Rattle.csp_program.specs.declared.programs.Content.{Content}
-use Rattle.csp_tables.specs.Live.{Live}
-use Rattle.csp_tables.specs.Network.{Component, NetworkStep, leaves}
+use Rattle.csp_tables.specs.Form.{HasForm, HaveForm}
+use Rattle.csp_tables.specs.Network.{Component, leaves}
 use Rattle.csp_tables.specs.Part.{Part, part_at}
-use Rattle.csp_tables.specs.ShapeOf.{ArePartsOf}
-use Rattle.csp_tables.specs.SilentBound.{IsSilentBound}
-use Rattle.conformance.specs.Conforming.{TableConforms}
-use Rattle.conformance.proofs.Telling.{tables_tell}
-use Rattle.net_sound.proofs.Parts.{component_of, part_of, part_within}
+use Rattle.csp_tables.specs.ShapeOf.{IsPartOf}
+use Rattle.net_sound.proofs.Parts.{component_of, one_part_each, part_of, part_within}
+use Rattle.net_sound.proofs.Within.{part_form}
 use Rattle.network_layout.specs.Triple.{alphabets}
-use Rattle.network_stages.specs.Networks.{Network, tree_at}
-use Rattle.network_trees.specs.NetworkOf.{network_of}
+use Rattle.network_stages.specs.Networks.{HasSilentBound, IsLive, IsSpelled, Network}
+use Rattle.network_stages.specs.Stages.{HasParts}
 use Rattle.network_trees.proofs.InOrder.{network_is_tree}
 use Rattle.process_steps.specs.ComponentStep.{ProcessStep}
 use Rattle.refinement.specs.Conforms.{AllConform, Conforms}
 use Rattle.refinement.proofs.Inheriting.{conforming_networks_are_live}
-use Rattle.report.specs.declared.answer.Shortfall.{Shortfall}
-use Rattle.comparison.specs.Conforming.{FailsToConform}
-use Rattle.comparison.specs.Walk.{PartFails, PartsConformBefore}
-use Rattle.comparison.proofs.Lists.{alphabet_there}
-
-module _ (p q : Content) (cs ds : List (Component Proc)) (ps qs : List Part) (are : ArePartsOf (ProcessStep p) cs ps) (others : ArePartsOf (ProcessStep q) ds qs) (same : alphabets cs ≡ alphabets ds) where
-  same_alphabet : (k : ℕ) (c d : Component Proc) → slice_get cs k ≡ Some c → slice_get ds k ≡ Some d → c.alphabet ≡ d.alphabet
-  same_alphabet k c d here there =
-      same_Some c.alphabet d.alphabet (sym (alphabet_there cs k c here) ∙ ap (λ (as' : List (List ℕ)). slice_get as' k) same ∙ alphabet_there ds k d there)
-
-  one_conforms : (k : ℕ) (c d : Component Proc) → slice_get cs k ≡ Some c → slice_get ds k ≡ Some d → TableConforms (part_at ps k).table (part_at qs k).table → Conforms (ProcessStep p) (ProcessStep q) c d
-  one_conforms k c d here there conforms =
-      (tables_tell (ProcessStep p) (ProcessStep q)).conforms c d (part_at ps k) (part_at qs k) (part_of (ProcessStep p) cs ps are k c here) (part_of (ProcessStep q) ds qs others k d there) (same_alphabet k c d here there) conforms
+use Rattle.report.specs.Stops.{Tells}
+use Rattle.comparison.specs.Conforming.{ComponentsConform, ConformBefore, FailsToConform, StandsFirst, failure}
+use Rattle.comparison.proofs.Lists.{alphabet_there, as_many_alphabets}
 
 -- component by component
 each_conforms : (p q : Content) (cs ds : List (Component Proc)) → alphabets cs ≡ alphabets ds
@@ -43,41 +37,53 @@ each_conforms p q (c ∷ cs) (d ∷ ds) same each =
     let rest : alphabets cs ≡ alphabets ds = (let whole : ◌≡◌ {A = List (List ℕ)} (c.alphabet ∷ alphabets cs) (d.alphabet ∷ alphabets ds) = same in cc) in
     (each 0 c d refl refl, each_conforms p q cs ds rest (λ k a b here there. each (suc k) a b here there))
 
-module _ (p q : Content) (cs ds : List (Component Proc)) (ps qs : List Part) (are : ArePartsOf (ProcessStep p) cs ps) (others : ArePartsOf (ProcessStep q) ds qs) (same : alphabets cs ≡ alphabets ds) where
-  pub all_conform : PartsConformBefore ps qs (length ps) → AllConform (ProcessStep p) (ProcessStep q) cs ds
-  all_conform conform = each_conforms p q cs ds same (λ k c d here there. one_conforms p q cs ds ps qs are others same k c d here there (conform k (part_within (ProcessStep p) cs ps are k c here)))
+fault_told : (network specified : Network) (n : ℕ) (c d : Component Proc) (p q : Part) → IsPartOf (ProcessStep network.program) c p → IsPartOf (ProcessStep specified.program) d q
+    → StandsFirst network specified n c d → (f : ConformFault) → Fails p.table q.table f → Tells (FailsToConform network specified) (failure n f)
+fault_told network specified n c d p q part other stands fault.NoMemory fails = tt
+fault_told network specified n c d p q part other stands (fault.Outside s) fails =
+    (n, c, d, s, stands, inl ((tables_tell (ProcessStep network.program) (ProcessStep specified.program)).outside c d p q s part other fails, refl))
+fault_told network specified n c d p q part other stands (fault.Refuses s) fails =
+    (n, c, d, s, stands, inr ((tables_tell (ProcessStep network.program) (ProcessStep specified.program)).refuses c d p q s part other fails, refl))
 
--- the first part that does not conform is that of the first component
-module _ (p q : Content) (network : Network) (specified : Network) where
-  pub part_fails : network.program ≡ p → (ps qs : List Part) → ArePartsOf (ProcessStep network.program) (leaves network.tree) ps → ArePartsOf (ProcessStep specified.program) (leaves specified.tree) qs
-      → alphabets (leaves network.tree) ≡ alphabets (leaves specified.tree) → length ps ≡ length qs → (s : Shortfall) → PartFails network.program ps qs s → FailsToConform network specified s
-  part_fails is ps qs are others same as_many s fails =
-      let P = ProcessStep network.program in
-      let Q = ProcessStep specified.program in
-      let cs = leaves network.tree in
-      let ds = leaves specified.tree in
-      let here = component_of P cs ps are fails.place fails.within in
-      let within : fails.place < length ps = fails.within in
-      let there = component_of Q ds qs others fails.place (omega (arith, as_many)) in
-      let tell = tables_tell P Q in (
-        fails.place,
-        here.component,
-        there.component,
-        fails.trace,
-        record {
-          here = here.listed;
-          there = there.listed;
-          earlier = λ j a b less at other. one_conforms network.program specified.program cs ds ps qs are others same j a b at other (fails.earlier j less);
-        },
-        elim fails.told [
-          | inl f ↦ inl (tell.outside here.component there.component (part_at ps fails.place) (part_at qs fails.place) fails.trace here.part there.part f.0, f.1)
-          | inr f ↦ inr (tell.refuses here.component there.component (part_at ps fails.place) (part_at qs fails.place) fails.trace here.part there.part f.0, f.1)
-        ],
-      )
+-- a part that is read from parts that have the form of tables
+pub form_read : (ps : List Part) (n : ℕ) (p : Part) → HaveForm ps → n < length ps → p ≡ get_or ps n p → HasForm p
+form_read ps n p form within at = subst HasForm (sym (get_or_read ps n p within at (record { alphabet = []; table = [] }))) (part_form ps n within form)
+
+module _ (network specified : Network) (ps qs : List Part) (has : HasParts network ps) (others : HasParts specified qs)
+    (same : alphabets (leaves network.tree) ≡ alphabets (leaves specified.tree)) where
+  pub as_many : length ps ≡ length qs
+  as_many =
+      let a = one_part_each (ProcessStep network.program) (leaves network.tree) ps has.are in
+      let b = one_part_each (ProcessStep specified.program) (leaves specified.tree) qs others.are in
+      let c : length (alphabets (leaves network.tree)) ≡ length (alphabets (leaves specified.tree)) = ap length same in
+      omega (arith, a, b, c, as_many_alphabets (leaves network.tree), as_many_alphabets (leaves specified.tree))
+
+  one_conforms : (i : ℕ) (c d : Component Proc) → slice_get (leaves network.tree) i ≡ Some c → slice_get (leaves specified.tree) i ≡ Some d → TableConforms (part_at ps i).table (part_at qs i).table
+      → Conforms (ProcessStep network.program) (ProcessStep specified.program) c d
+  one_conforms i c d here there conforms =
+      let alphabet = same_Some c.alphabet d.alphabet (sym (alphabet_there (leaves network.tree) i c here) ∙ ap (λ (as' : List (List ℕ)). slice_get as' i) same ∙ alphabet_there (leaves specified.tree) i d there) in
+      (tables_tell (ProcessStep network.program) (ProcessStep specified.program)).conforms c d (part_at ps i) (part_at qs i)
+      (part_of (ProcessStep network.program) (leaves network.tree) ps has.are i c here) (part_of (ProcessStep specified.program) (leaves specified.tree) qs others.are i d there) alphabet conforms
+
+  pub all_conform : ConformBefore ps qs (length ps) → ComponentsConform network specified
+  all_conform conform =
+      each_conforms network.program specified.program (leaves network.tree) (leaves specified.tree) same
+      (λ i c d here there. one_conforms i c d here there (conform i (part_within (ProcessStep network.program) (leaves network.tree) ps has.are i c here)))
+
+  -- the first part that does not conform is that of the first component
+  pub first_fails : (n : ℕ) (f : ConformFault) → n < length ps → ConformBefore ps qs n → Fails (part_at ps n).table (part_at qs n).table f → Tells (FailsToConform network specified) (failure n f)
+  first_fails n f within before fails =
+      let here = component_of (ProcessStep network.program) (leaves network.tree) ps has.are n within in
+      let there = component_of (ProcessStep specified.program) (leaves specified.tree) qs others.are n (omega (arith, within, as_many)) in
+      fault_told network specified n here.component there.component (part_at ps n) (part_at qs n) here.part there.part (record {
+        here = here.listed;
+        there = there.listed;
+        earlier = λ i c d less at other. one_conforms i c d at other (before i less);
+      }) f fails
 
 -- what a network inherits whose components conform
-pub inherits : (p q : Content) → network_of p ≡ Ok (tree_at p) → network_of q ≡ Ok (tree_at q) → (ps : List Part) → ArePartsOf (ProcessStep p) (leaves (tree_at p)) ps
-    → AllConform (ProcessStep p) (ProcessStep q) (leaves (tree_at p)) (leaves (tree_at q)) → (bound : ℕ) → IsSilentBound (ProcessStep p) (leaves (tree_at p)) bound
-    → (some : ℕ) → Live (NetworkStep (ProcessStep q)) (tree_at q) some → Live (NetworkStep (ProcessStep p)) (tree_at p) bound
-inherits p q spelled other ps are conform bound exact some live =
-    conforming_networks_are_live (ProcessStep p) (ProcessStep q) (tree_at p) (tree_at q) ps bound some (network_is_tree p (tree_at p) spelled).0.nesting (network_is_tree q (tree_at q) other).0.nesting are conform exact live
+pub inherits : (network specified : Network) → IsSpelled network → IsSpelled specified → (ps : List Part) → HasParts network ps → ComponentsConform network specified → (bound : ℕ)
+    → HasSilentBound network bound → (some : ℕ) → IsLive specified some → IsLive network bound
+inherits network specified spelled other ps has conform bound exact some live =
+    conforming_networks_are_live (ProcessStep network.program) (ProcessStep specified.program) network.tree specified.tree ps bound some
+    (network_is_tree network.program network.tree spelled).0.nesting (network_is_tree specified.program specified.tree other).0.nesting has.are conform exact live

@@ -1,5 +1,4 @@
-pub mod Cases
-pub mod Complete
 pub mod Components
 pub mod Lists
+pub mod Matching
 pub mod Walk

@@ -1,10 +1,11 @@
 -- Lists that agree or differ at some place.
-use Rattle.std.proofs.Common.{◌≡◌, ℕ, suc, zero, ◌<◌, ◌≤◌, inl, inr, List, [], ◌∷◌, length, Bool, true, false, MatchBool, nat_eq, Option, Some, None, refl, sym, ap, ap₂, ◌∙◌, arith}
+use Rattle.std.proofs.Common.{◌≡◌, ℕ, suc, ◌<◌, ◌≤◌, inl, inr, List, [], ◌∷◌, length, Bool, true, false, MatchBool, nat_eq, Option, Some, None, refl, sym, ap, ap₂, ◌∙◌, arith}
 use Rattle.std.specs.Prelude.{slice_get}
+use Rattle.std.specs.Option.{option_map}
 use Rattle.std.specs.Cmp.Lexicographic.{bytes_decides, pointwise}
 use Rattle.std.proofs.lemmas.Bool.{cases_lt, false≢true}
 use Rattle.std.proofs.lemmas.List.{length-map}
-use Rattle.std.proofs.lemmas.Option.{same_Some, slice_get_past}
+use Rattle.std.proofs.lemmas.Option.{same_Some, slice_get-map, slice_get_past}
 use Rattle.csp_program.specs.declared.processes.Proc.{Proc}
 use Rattle.csp_program.specs.declared.programs.Content.{Content}
 use Rattle.csp_tables.specs.Network.{Component}
@@ -36,9 +37,7 @@ pub as_many_alphabets : (cs : List (Component Proc)) → length (alphabets cs) �
 as_many_alphabets cs = length-map cs _
 
 pub alphabet_there : (cs : List (Component Proc)) (k : ℕ) (c : Component Proc) → slice_get cs k ≡ Some c → slice_get (alphabets cs) k ≡ Some c.alphabet
-alphabet_there [] k c at = absurd (let no : ◌≡◌ {A = Option (Component Proc)} None (Some c) = sym (slice_get_past [] k (omega arith)) ∙ at in cc)
-alphabet_there (d ∷ cs) zero c at = ap (λ (x : Component Proc). Some x.alphabet) (same_Some d c at)
-alphabet_there (d ∷ cs) (suc k) c at = alphabet_there cs k c at
+alphabet_there cs k c at = slice_get-map (λ (x : Component Proc). x.alphabet) cs k ∙ ap (option_map (λ (x : Component Proc). x.alphabet)) at
 
 -- whether two components that are there have the same alphabet
 pub alphabets_match : (cs ds : List (Component Proc)) (k : ℕ) (c d : Component Proc) (same : Bool) → slice_get cs k ≡ Some c → slice_get ds k ≡ Some d → same ≡ pointwise nat_eq c.alphabet d.alphabet

@@ -22,5 +22,5 @@ abbrev pub HaveOtherEvents : Content → Content → Refusal → Type 0
 HaveOtherEvents p q r = (n : ℕ) × DifferFirstAt (printed_events p) (printed_events q) n × (r ≡ refusal.DifferentEvents n)
 
 -- a component is in one network only, or the alphabets differ
-abbrev pub HaveOtherShape : List (Component Proc) → List (Component Proc) → Refusal → Type 0
-HaveOtherShape cs ds r = (i : ℕ) × DifferFirstAt (alphabets cs) (alphabets ds) i × (r ≡ refusal.DifferentComponents i)
+abbrev pub HaveOtherAlphabets : List (Component Proc) → List (Component Proc) → Refusal → Type 0
+HaveOtherAlphabets cs ds r = (i : ℕ) × DifferFirstAt (alphabets cs) (alphabets ds) i × (r ≡ refusal.DifferentComponents i)

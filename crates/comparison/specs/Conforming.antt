@@ -2,13 +2,18 @@
 use Rattle.std.specs.Prelude.{◌≡◌, ◌<◌, ◌⊎◌, ℕ, List, Some, slice_get}
 use Rattle.csp_program.specs.declared.processes.Proc.{Proc}
 use Rattle.csp_tables.specs.Network.{Component, leaves}
+use Rattle.csp_tables.specs.Part.{Part, part_at}
+use Rattle.conformance.specs.Conforming.{TableConforms}
 use Rattle.conformance.specs.Failing.{GoesOutside, RefusesTooMuch}
+use Rattle.conformance.specs.declared.fault.ConformFault.{ConformFault}
+use Rattle.conformance.specs.declared.fault.ConformFault.TheVariants as fault
 use Rattle.network_stages.specs.Networks.{Network}
-use Rattle.network_stages.specs.Tells.{texts}
 use Rattle.process_steps.specs.ComponentStep.{ProcessStep}
 use Rattle.refinement.specs.Conforms.{AllConform, Conforms}
 use Rattle.report.specs.declared.answer.Shortfall.{Shortfall}
 use Rattle.report.specs.declared.answer.Shortfall.TheVariants as shortfall
+use Rattle.report.specs.declared.stop.Stop.{Stop}
+use Rattle.report.specs.declared.stop.Stop.TheVariants as stop
 
 module _ (network specified : Network) where
   -- c and d are the components with the number i, and each earlier one conforms
@@ -21,8 +26,8 @@ module _ (network specified : Network) where
   -- after these events the component with the number i does what its specification does not, or refuses too much
   abbrev pub IsFault : ℕ → Component Proc → Component Proc → List ℕ → Shortfall → Type 0
   IsFault i c d trace s =
-      (GoesOutside (ProcessStep network.program) (ProcessStep specified.program) c d trace × (s ≡ shortfall.Outside i (texts network.program trace)))
-      ⊎ (RefusesTooMuch (ProcessStep network.program) (ProcessStep specified.program) c d trace × (s ≡ shortfall.Refuses i (texts network.program trace)))
+      (GoesOutside (ProcessStep network.program) (ProcessStep specified.program) c d trace × (s ≡ shortfall.Outside i trace))
+      ⊎ (RefusesTooMuch (ProcessStep network.program) (ProcessStep specified.program) c d trace × (s ≡ shortfall.Refuses i trace))
 
   -- a component does not conform: the first such one is told
   abbrev pub FailsToConform : Shortfall → Type 0
@@ -31,3 +36,15 @@ module _ (network specified : Network) where
   -- each component conforms to the one in its place
   abbrev pub ComponentsConform : Type 0
   ComponentsConform = AllConform (ProcessStep network.program) (ProcessStep specified.program) (leaves network.tree) (leaves specified.tree)
+
+-- The rest is for private contracts.
+
+-- each part before the place n conforms to the one in its place
+abbrev pub ConformBefore : List Part → List Part → ℕ → Type 0
+ConformBefore ps qs n = (i : ℕ) → i < n → TableConforms (part_at ps i).table (part_at qs i).table
+
+-- how the fault of the component with the number i is told
+abbrev pub failure : ℕ → ConformFault → Stop Shortfall
+failure i fault.NoMemory = stop.NoMemory
+failure i (fault.Outside trace) = stop.Told (shortfall.Outside i trace)
+failure i (fault.Refuses trace) = stop.Told (shortfall.Refuses i trace)

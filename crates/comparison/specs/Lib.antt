@@ -2,4 +2,3 @@ pub mod Agreement
 pub mod Compared
 pub mod Complete
 pub mod Conforming
-pub mod Walk

@@ -1,60 +1,64 @@
 //! Whether each component of a network conforms to the one in its place.
 
-ghost use Rattle.std.specs.Prelude.{◌≡◌, ◌≤◌, IfErr, IfOk, OnOk, length};
-ghost use Rattle.std.specs.List.{All};
+ghost use Rattle.std.specs.Prelude.{◌≡◌, ◌≤◌, ◌<◌, IfErr, OnOk, length};
 ghost use Rattle.dl_limits.specs.declared.TheConstants.{MOST_COMPONENTS};
-ghost use Rattle.network_shape.specs.Parts.{IsWellFormedPart};
+ghost use Rattle.conformance.specs.Told.{Fails};
+ghost use Rattle.csp_tables.specs.Form.{HaveForm};
+ghost use Rattle.csp_tables.specs.Network.{leaves};
+ghost use Rattle.csp_tables.specs.Part.{part_at};
+ghost use Rattle.network_layout.specs.Triple.{alphabets};
 ghost use Rattle.report.specs.Stops.{Tells};
-ghost use Rattle.comparison.specs.Walk.{PartFails, PartsConformBefore, TellsFault};
+ghost use Rattle.comparison.specs.Conforming.{ComponentsConform, ConformBefore, FailsToConform, failure};
 
 use conformance::{ConformFault, conform_part};
-use csp_base::NoMemory;
-use csp_program::Program;
 use csp_tables::Part;
-use network_stages::event_texts;
-use report::{Shortfall, Stop, stopped};
+use network_stages::Parted;
+use report::{Shortfall, Stop};
 use std::alloc::Global;
 
-// Succeeds where each part conforms to the one in its place; else the first that does not is told, with a trace.
-pub(crate) fn check_parts(
+// That each component conforms to the one in its place; else the first that does not is told, with a trace.
+pub(crate) fn check_components(
     alloc: Global,
-    program: &Program,
-    parts: &[Part],
-    specified: &[Part],
+    network: &Parted<'_>,
+    specified: &Parted<'_>,
 ) -> Result<(), Stop<Shortfall>>
+    requires { alphabets (leaves network.now.network.tree) ≡ alphabets (leaves specified.now.network.tree) }
+    ensures conform { OnOk result (ComponentsConform network.now.network specified.now.network) }
+    ensures told { IfErr result (Tells (FailsToConform network.now.network specified.now.network)) }
+{
+    let _seats = network.network().seats();
+    match check_parts(alloc, network.parts(), specified.parts()) {
+        Ok(()) => Ok(()),
+        Err((place, fault)) => Err(failure(place, fault)),
+    }
+}
+
+// That each part conforms to the one in its place; else the first that does not, and why.
+fn check_parts(alloc: Global, parts: &[Part], specified: &[Part]) -> Result<(), (u32, ConformFault)>
     requires few { length parts.now ≤ MOST_COMPONENTS }
     requires as_many { length parts.now ≡ length specified.now }
-    requires form { All IsWellFormedPart parts.now }
-    requires specified_form { All IsWellFormedPart specified.now }
-    ensures conform { OnOk result (PartsConformBefore parts.now specified.now (length parts.now)) }
-    ensures told { IfErr result (Tells (PartFails program.now parts.now specified.now)) }
+    requires form { HaveForm parts.now }
+    requires specified_form { HaveForm specified.now }
+    ensures conform { OnOk result (ConformBefore parts.now specified.now (length parts.now)) }
+    ensures within { IfErr result (λ f. f.0 < length parts.now) }
+    ensures earlier { IfErr result (λ f. ConformBefore parts.now specified.now f.0) }
+    ensures fails { IfErr result (λ f. Fails (part_at parts.now f.0).table (part_at specified.now f.0).table f.1) }
 {
     for place in 0..parts.len() {
         if let Err(fault) = conform_part(alloc, &parts[place], &specified[place]) {
-            return Err(stopped(failure(alloc, program, place as u32, fault)));
+            return Err((place as u32, fault));
         }
     }
     Ok(())
 }
 
 // How it is told that this component does not conform to its specification.
-fn failure(
-    alloc: Global,
-    program: &Program,
-    component: u32,
-    fault: ConformFault,
-) -> Result<Shortfall, NoMemory>
-    ensures { IfOk result (TellsFault program.now component fault) }
+fn failure(component: u32, fault: ConformFault) -> Stop<Shortfall>
+    ensures { result ≡ failure component fault }
 {
     match fault {
-        ConformFault::NoMemory => Err(NoMemory),
-        ConformFault::Outside { trace } => {
-            let trace = event_texts(alloc, program, trace.as_slice())?;
-            Ok(Shortfall::Outside { component, trace })
-        }
-        ConformFault::Refuses { trace } => {
-            let trace = event_texts(alloc, program, trace.as_slice())?;
-            Ok(Shortfall::Refuses { component, trace })
-        }
+        ConformFault::NoMemory => Stop::NoMemory,
+        ConformFault::Outside { trace } => Stop::Told(Shortfall::Outside { component, trace }),
+        ConformFault::Refuses { trace } => Stop::Told(Shortfall::Refuses { component, trace }),
     }
 }

@@ -9,8 +9,12 @@ use csp_program::Program;
 use report::{Refusal, Stop, event_text};
 use std::alloc::Global;
 
-/// Succeeds where both programs have the same list of printed events; else the least number at which the lists differ is told (41).
-pub fn same_events(alloc: Global, program: &Program, other: &Program) -> Result<(), Stop<Refusal>>
+// That both programs have the same list of printed events; else the least number at which the lists differ is told (41).
+pub(crate) fn check_events(
+    alloc: Global,
+    program: &Program,
+    other: &Program,
+) -> Result<(), Stop<Refusal>>
     ensures same { OnOk result (printed_events program.now ≡ printed_events other.now) }
     ensures told { IfErr result (Tells (HaveOtherEvents program.now other.now)) }
 {

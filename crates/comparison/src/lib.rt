@@ -2,11 +2,11 @@
 //! and what the network then inherits.
 #![tactic(auto)]
 
+mod alphabets;
 mod comparing;
 mod conforming;
 mod events;
-mod shapes;
+mod laws;
 
 pub use comparing::compared;
-pub use events::same_events;
-pub use shapes::same_shape;
+pub use laws::comparison_is_exact;

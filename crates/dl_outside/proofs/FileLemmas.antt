@@ -1,9 +1,10 @@
 -- What the shelf of files and the sink of the standard output answer is what a shelf and a sink may answer that tell nothing.
-use Rattle.std.proofs.Common.{ℕ, ◌+◌, ◌<◌, List, refl, arith}
+use Rattle.std.proofs.Common.{◌≡◌, ℕ, ◌+◌, ◌<◌, List, Option, IfOk, IfSome, length, refl, ap, ◌∙◌, arith}
 use Rattle.std.specs.Prelude.{Result, Ok, Err, None}
-use Rattle.dl_outside.specs.Count.{HasRisen}
+use Rattle.dl_outside.specs.Count.{Counts, HasRisen}
+use Rattle.std.specs.Str.{IsUtf8}
 use Rattle.dl_outside.specs.Load.{AnswersUntold}
-use Rattle.dl_outside.specs.FileShelf.{FileCounts, FileAnswers}
+use Rattle.dl_outside.specs.FileShelf.{FileAnswers, GaveFile}
 use Rattle.dl_outside.specs.StdSink.{PrintAnswers}
 use Rattle.dl_outside.specs.Write.{WriteAnswers}
 use Rattle.dl_outside.specs.declared.shelf.LoadFault.{LoadFault}
@@ -11,7 +12,7 @@ use Rattle.dl_outside.specs.declared.shelf.LoadFault.TheVariants.{Missing, TooLo
 use Rattle.dl_outside.specs.declared.sink.SinkFault.{SinkFault}
 use Rattle.dl_outside.specs.declared.sink.SinkFault.TheVariants.{Failed as PrintFailed, NoMemory as PrintNoMemory}
 
-pub file_answer : (old new : FileCounts) (limit : ℕ) (r : Result (List ℕ) LoadFault) → FileAnswers old new limit r → AnswersUntold limit (HasRisen old.faults new.faults) (old.taken + limit < new.taken) r
+pub file_answer : (old new : Counts) (limit : ℕ) (r : Result (List ℕ) LoadFault) → FileAnswers old new limit r → AnswersUntold limit (HasRisen old.faults new.faults) (old.taken + limit < new.taken) r
 file_answer old new limit (Ok bytes) is = is.0
 file_answer old new limit (Err Missing) is = omega arith
 file_answer old new limit (Err TooLong) is = is.0
@@ -22,3 +23,16 @@ pub print_answer : (piece : List ℕ) (old new : ℕ) (r : Result ℕ SinkFault)
 print_answer piece old new (Ok n) is = (refl, is.0, is.1)
 print_answer piece old new (Err PrintFailed) is = (refl, omega arith)
 print_answer piece old new (Err PrintNoMemory) is = absurd is
+
+-- ---- what a load gave
+
+pub gave_file : {F : Type 0} (remaining : F → Option (List ℕ)) (old mid new : Counts) (name : List ℕ) (limit : ℕ) (reader : F) (r : Result (List ℕ) LoadFault) → IsUtf8 name → mid.faults ≡ old.faults
+    → mid.taken ≡ old.taken → FileAnswers mid new limit r → IfOk r (λ text. IfSome (remaining reader) (λ bytes. text ≡ bytes)) → IfOk r (GaveFile remaining old new name)
+gave_file remaining old mid new name limit reader (Err f) named faults taken answers whole = tt
+gave_file remaining old mid new name limit reader (Ok text) named faults taken answers whole = record {
+  named = named;
+  reader = reader;
+  whole = whole;
+  counted = answers.1 ∙ ap (λ n. n + length text) taken;
+  unfailed = answers.2 ∙ faults;
+}

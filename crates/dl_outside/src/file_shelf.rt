@@ -1,9 +1,9 @@
 //! The shelf of the system's files. That a file holds what its reads give is trusted, and no part of any proof.
 
-ghost use Rattle.std.specs.Prelude.{◌≡◌, ◌≢◌, ◌≤◌, ◌⊎◌, length, None};
+ghost use Rattle.std.specs.Prelude.{◌≡◌, ◌≢◌, ◌≤◌, ◌⊎◌, ◌++◌, length, None, IfOk, IfSome, OnOk};
 ghost use Rattle.std.specs.Str.{IsUtf8};
 ghost use Rattle.dl_outside.specs.Count.{one_more};
-ghost use Rattle.dl_outside.specs.FileShelf.{OpenAnswers, ReadAnswers, FileAnswers};
+ghost use Rattle.dl_outside.specs.FileShelf.{FileAnswers, GaveFile, OpenAnswers, ReadAnswers, ReadsOn};
 
 use crate::count::raised;
 use crate::shelf::{LoadFault, Shelf};
@@ -22,9 +22,9 @@ pub struct FileShelf<'a, R> {
 }
 
 impl<'a, R> Model for FileShelf<'a, R> {
-    ghost use Rattle.dl_outside.specs.FileShelf.{FileCounts};
+    ghost use Rattle.dl_outside.specs.Count.{Counts};
 
-    ghost Value = { FileCounts };
+    ghost Value = { Counts };
 
     ghost view = { λ s. record { faults = s.fault_count; taken = s.taken_count } };
 }
@@ -43,6 +43,7 @@ impl<R> Drop for FileShelf<'_, R> {
 fn open_file<R: Files>(files: &R, name: &[u8], faults: &mut u64) -> Result<R::File, LoadFault>
     ensures answer { OpenAnswers faults.old faults.new result }
     ensures never_falls { faults.old ≤ faults.new }
+    ensures text { OnOk result (IsUtf8 name.now) }
     ensures no_text { ¬ (IsUtf8 name.now) → result ≡ Err LoadFault.Missing }
 {
     let Ok(path) = str::from_utf8(name) else {
@@ -88,6 +89,7 @@ fn read_piece<R: Read>(
 ) -> Result<usize, LoadFault>
     ensures answer { ReadAnswers (length text.old) (length text.new)
         (record { faults = faults.old; taken = taken.old }) (record { faults = faults.new; taken = taken.new }) result }
+    ensures reads { IfOk result (ReadsOn (R.remaining reader.old) (R.remaining reader.new) text.old text.new) }
     ensures never_falls { faults.old ≤ faults.new }
 {
     let mut piece = [0u8; 4096];
@@ -106,6 +108,7 @@ fn append(
 ) -> Result<usize, LoadFault>
     ensures answer { ReadAnswers (length text.old) (length text.new)
         (record { faults = faults.old; taken = taken.old }) (record { faults = faults.new; taken = taken.new }) result }
+    ensures appended { IfOk result (λ n. (text.new ≡ text.old ++ piece.now) × (n ≡ length piece.now)) }
     ensures never_falls { faults.old ≤ faults.new }
 {
     let Some(counted) = taken.checked_add(piece.len() as u64) else {
@@ -127,6 +130,7 @@ pub fn read_text<R: Read>(
 ) -> Result<Bytes, LoadFault>
     ensures answer { FileAnswers (record { faults = faults.old; taken = taken.old })
         (record { faults = faults.new; taken = taken.new }) limit result }
+    ensures whole { IfOk result (λ text. IfSome (R.remaining reader.old) (λ bytes. text ≡ bytes)) }
     ensures not_missing { result ≢ Err LoadFault.Missing }
     ensures faults_never_fall { faults.old ≤ faults.new }
     ensures taken_never_falls { taken.old ≤ taken.new }
@@ -156,11 +160,12 @@ impl<'a, R> FileShelf<'a, R> {
 impl<R: Files> Shelf for FileShelf<'_, R> {
     ghost texts = { λ _. None };
 
-    ghost faults = { λ s. s.faults };
+    ghost counts = { λ s. s };
 
-    ghost taken = { λ s. s.taken };
+    ghost gives = { λ old new name text. GaveFile R.File.remaining old new name text };
 
     fn load(&mut self, alloc: Global, name: &[u8], limit: u32) -> Result<Bytes, LoadFault>
+        ensures given { IfOk result (GaveFile R.File.remaining self.old self.new name.now) }
         ensures answer { FileAnswers self.old self.new limit result }
         ensures faults_never_fall { self.old.faults ≤ self.new.faults }
         ensures taken_never_falls { self.old.taken ≤ self.new.taken }

@@ -1,14 +1,15 @@
 //! A shelf in memory, some of whose loads can be made to fail.
 
-ghost use Rattle.std.specs.Prelude.{◌≡◌, ◌+◌, ◌<◌, ◌≤◌, ◌↔◌, [], Some, OnOk, OnErr, IsTrue};
+ghost use Rattle.std.specs.Prelude.{◌≡◌, ◌≤◌, ◌↔◌, [], Some, OnOk, OnErr, IsTrue};
+ghost use Rattle.std.specs.Option.{option_copied};
 ghost use Rattle.dl_outside.specs.Count.{HasRisen};
 ghost use Rattle.dl_outside.specs.FaultPlan.{new_plan, fails_next, after_call};
-ghost use Rattle.dl_outside.specs.Load.{LoadAnswers};
-ghost use Rattle.dl_outside.specs.Texts.{PutsText};
+ghost use Rattle.dl_outside.specs.Load.{AnswersTold};
+ghost use Rattle.dl_outside.specs.Texts.{IsTextOf, PutsText, text_of};
 
 use crate::fault_plan::PlannedFaults;
 use crate::shelf::{LoadFault, Shelf};
-use crate::texts::{NamedText, copy_text, put_text};
+use crate::texts::{NamedText, copy_text, find_text, put_text};
 use csp_base::{Bytes, NoMemory};
 use std::alloc::Global;
 use std::marker::Model;
@@ -48,18 +49,25 @@ impl MemoryShelf {
         let alloc = *self.texts.allocator();
         put_text(alloc, &mut self.texts, name, bytes)
     }
+
+    /// The text of this name.
+    pub fn text(&self, name: &[u8]) -> Option<&[u8]>
+        ensures { option_copied result ≡ text_of self.now.texts name.now }
+    {
+        find_text(&self.texts, name)
+    }
 }
 
 impl Shelf for MemoryShelf {
     ghost texts = { λ s. Some s.texts };
 
-    ghost faults = { λ s. s.plan.faults };
+    ghost counts = { λ s. record { faults = s.plan.faults; taken = 0 } };
 
-    ghost taken = { λ _. 0 };
+    ghost gives = { λ old new name text. IsTextOf old.texts new.texts name text };
 
     fn load(&mut self, alloc: Global, name: &[u8], limit: u32) -> Result<Bytes, LoadFault>
-        ensures answer { LoadAnswers (Some self.old.texts) name.now limit
-            (HasRisen self.old.plan.faults self.new.plan.faults) (0 + limit < 0) result }
+        ensures answer { AnswersTold self.old.texts name.now limit
+            (HasRisen self.old.plan.faults self.new.plan.faults) result }
         ensures texts_stay { self.new.texts ≡ self.old.texts }
         ensures faults_never_fall { self.old.plan.faults ≤ self.new.plan.faults }
         ensures planned { result ≡ Err LoadFault.Failed ↔ IsTrue (fails_next self.old.plan) }

@@ -1,7 +1,7 @@
-//! A shelf that hands out given strings, one after the other, and tells nothing of them.
+//! A shelf that hands out given strings, one after the other, and tells no texts before it hands them out.
 
 ghost use Rattle.std.specs.Prelude.{◌≡◌, ◌+◌, ◌≤◌, ◌∷◌, length, None, IfSome, IfNone};
-ghost use Rattle.dl_outside.specs.QuietShelf.{HasNoNext, QuietAnswers};
+ghost use Rattle.dl_outside.specs.QuietShelf.{HasNoNext, QuietAnswers, TurnsTo};
 
 use crate::count::raised;
 use crate::shelf::{LoadFault, Shelf};
@@ -55,9 +55,9 @@ impl QuietShelf {
 impl Shelf for QuietShelf {
     ghost texts = { λ _. None };
 
-    ghost faults = { λ s. s.faults };
+    ghost counts = { λ s. record { faults = s.faults; taken = s.taken } };
 
-    ghost taken = { λ s. s.taken };
+    ghost gives = { λ old new _ text. TurnsTo old new text };
 
     fn load(&mut self, _alloc: Global, _name: &[u8], limit: u32) -> Result<Bytes, LoadFault>
         ensures answer { QuietAnswers self.old self.new limit result }

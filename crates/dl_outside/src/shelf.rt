@@ -1,7 +1,7 @@
 //! What the checker asks of the place that scripts are loaded from.
 
-ghost use Rattle.std.specs.Prelude.{◌≡◌, ◌+◌, ◌<◌, ◌≤◌, ℕ, List, Option};
-ghost use Rattle.dl_outside.specs.Count.{HasRisen};
+ghost use Rattle.std.specs.Prelude.{◌≡◌, ℕ, IfOk, List, Option};
+ghost use Rattle.dl_outside.specs.Count.{Counts, NeverFall};
 ghost use Rattle.dl_outside.specs.Load.{LoadAnswers};
 ghost use Rattle.dl_outside.specs.declared.texts.NamedText.{NamedText};
 
@@ -41,18 +41,18 @@ pub trait Shelf {
     // The texts that it holds, where it tells them: of one name the first.
     ghost texts: { Self → Option (List NamedText) };
 
-    // How many faults it has had, up to the last value of a `u64`.
-    ghost faults: { Self → ℕ };
+    // How many faults it has had, up to the last value of a `u64`, and how many bytes its loads have taken. A shelf that
+    // tells its texts may leave these bytes at 0.
+    ghost counts: { Self → Counts };
 
-    // How many bytes its loads have taken. A shelf that tells its texts may leave it at 0.
-    ghost taken: { Self → ℕ };
+    // What a load gave: with the shelf before it and after it, of this name, this text.
+    ghost gives: { Self → Self → List ℕ → List ℕ → Type 0 };
 
     /// The text of this name, if it has at most `limit` bytes. The fault is `TooLong` where it has more, `Missing` where there is none, and `Failed`
     /// where it could not be looked for or read.
     fn load(&mut self, alloc: Global, name: &[u8], limit: u32) -> Result<Bytes, LoadFault>
-        ensures answer { LoadAnswers (texts self.old) name.now limit
-            (HasRisen (faults self.old) (faults self.new)) (taken self.old + limit < taken self.new) result }
+        ensures given { IfOk result (gives self.old self.new name.now) }
+        ensures answer { LoadAnswers (texts self.old) (counts self.old) (counts self.new) name.now limit result }
         ensures texts_stay { texts self.new ≡ texts self.old }
-        ensures faults_never_fall { faults self.old ≤ faults self.new }
-        ensures taken_never_falls { taken self.old ≤ taken self.new };
+        ensures never_fall { NeverFall (counts self.old) (counts self.new) };
 }

@@ -1,11 +1,12 @@
 //! A shelf in memory whose loads never fail.
 
 ghost use Rattle.std.specs.Prelude.{◌≡◌, [], Some, OnOk, OnErr};
+ghost use Rattle.std.specs.Option.{option_copied};
 ghost use Rattle.dl_outside.specs.Load.{AnswersTold};
-ghost use Rattle.dl_outside.specs.Texts.{PutsText};
+ghost use Rattle.dl_outside.specs.Texts.{IsTextOf, PutsText, text_of};
 
 use crate::shelf::{LoadFault, Shelf};
-use crate::texts::{NamedText, copy_text, put_text};
+use crate::texts::{NamedText, copy_text, find_text, put_text};
 use csp_base::{Bytes, NoMemory};
 use std::alloc::Global;
 use std::marker::Model;
@@ -43,15 +44,22 @@ impl SureShelf {
         let alloc = *self.texts.allocator();
         put_text(alloc, &mut self.texts, name, bytes)
     }
+
+    /// The text of this name.
+    pub fn text(&self, name: &[u8]) -> Option<&[u8]>
+        ensures { option_copied result ≡ text_of self.now name.now }
+    {
+        find_text(&self.texts, name)
+    }
 }
 
 // Its count of faults is 0 always.
 impl Shelf for SureShelf {
     ghost texts = { λ s. Some s };
 
-    ghost faults = { λ _. 0 };
+    ghost counts = { λ _. record { faults = 0; taken = 0 } };
 
-    ghost taken = { λ _. 0 };
+    ghost gives = { IsTextOf };
 
     fn load(&mut self, alloc: Global, name: &[u8], limit: u32) -> Result<Bytes, LoadFault>
         ensures answer { AnswersTold self.old name.now limit ⊥ result }

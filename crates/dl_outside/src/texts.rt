@@ -27,7 +27,7 @@ fn place_of(texts: &[NamedText], name: &[u8]) -> Option<usize>
 }
 
 /// The text of this name.
-fn find_text<'a>(texts: &'a [NamedText], name: &[u8]) -> Option<&'a [u8]>
+pub(crate) fn find_text<'a>(texts: &'a [NamedText], name: &[u8]) -> Option<&'a [u8]>
     ensures { option_copied result ≡ text_of texts.now name.now }
 {
     texts

@@ -1,77 +1,105 @@
--- What was read of a text decides what the text calls for, and with which status.
-use Rattle.std.proofs.Common.{◌≡◌, ℕ, Bool, true, false, List, Result, refl, sym, ap, subst, ◌∙◌}
+-- What was read of texts is what they call for.
+use Rattle.std.proofs.Common.{◌≡◌, ℕ, List, Result, IfErr, IfOk, inl, inr, refl, sym, ap, subst}
 use Rattle.std.specs.Result.{IsErrAnd}
-use Rattle.csp_text.specs.declared.script.Script.{Script}
+use Rattle.std.proofs.lemmas.Result.{IfErr-weaker, IfOk-weaker, err_from_is_err_and}
+use Rattle.command_words.specs.declared.request.Job.{Job}
+use Rattle.command_words.specs.declared.request.Job.TheVariants.{Livelock}
+use Rattle.comparison.specs.Compared.{IsCompared}
 use Rattle.csp_parser.specs.Fault.{IfNoScript}
 use Rattle.csp_parser.specs.declared.fault.ParseFault.{ParseFault}
 use Rattle.csp_parser.specs.declared.fault.ParseFault.TheVariants as fault
 use Rattle.csp_parser.specs.Places.{IsPlaceOf}
 use Rattle.csp_parser.specs.Spells.{EachTextSpellsOneScript, Spells}
-use Rattle.command_words.specs.declared.request.Job.{Job}
-use Rattle.command_words.specs.declared.request.Job.TheVariants.{Check, Livelock, Run, Show, Table}
-use Rattle.judgement.proofs.Cases.{judged_cases}
-use Rattle.livelock.proofs.Status.{bounded_cases}
+use Rattle.csp_program.specs.declared.programs.Content.{Content}
+use Rattle.csp_text.specs.declared.script.Script.{Script}
+use Rattle.judgement.proofs.OneNetwork.{one_network}
 use Rattle.livelock.specs.Bounded.{IsBounded}
-use Rattle.network_stages.proofs.Exits.{at_refusal}
-use Rattle.network_walks.proofs.Status.{walked_cases}
-use Rattle.network_walks.specs.Walked.{walk_answer}
-use Rattle.report.proofs.Points.{goes_on, refused_or}
-use Rattle.report.specs.Report.{status}
-use Rattle.report.specs.Stops.{Answers, Tells, refused}
+use Rattle.network_stages.specs.Networks.{IsNetworkOf, Network}
+use Rattle.network_stages.specs.Stages.{HasNoNetwork}
+use Rattle.report.proofs.Points.{weaker}
+use Rattle.report.specs.Stops.{Answers, Ends, Tells}
 use Rattle.report.specs.declared.answer.Answer.{Answer}
 use Rattle.report.specs.declared.answer.Answer.TheVariants as answer
 use Rattle.report.specs.declared.answer.Done.{Done}
-use Rattle.report.specs.declared.answer.PrintedMove.{PrintedMove}
-use Rattle.report.specs.declared.answer.Refusal.{Refusal}
+use Rattle.report.specs.declared.answer.Side.{Side}
 use Rattle.report.specs.declared.answer.Side.TheVariants as side
+use Rattle.report.specs.declared.answer.Verdict.{Verdict}
 use Rattle.report.specs.declared.stop.Stop.{Stop}
-use Rattle.tabulation.proofs.Status.{tabulated_cases}
-use Rattle.dl_top.specs.Judgement.{HasNoScript, ScriptDecides, SpellsOnlyScript, TextCallsFor}
+use Rattle.dl_top.proofs.Walks.{at_end}
+use Rattle.dl_top.specs.Judgement.{IsDecided, NetworkDecides, SpellsNoNetwork, SpellsNoScript, SpellsOnlyNetwork, SpellsOnlyScript, TextCallsFor, TextIsShown, TextsCompare}
 use Rattle.dl_top.specs.Printing.{no_script}
+
+-- ---- one text
 
 -- the script that was read is the only one
 pub only_script : (text : List ℕ) (s : Script) → Spells text s → EachTextSpellsOneScript → SpellsOnlyScript text s
 only_script text s spelled only = record { spelled = spelled; only = λ t other. only text t s other spelled }
 
-pub no_script_read : (text : List ℕ) (f : ParseFault) → IfNoScript f (λ at. (s : Script) → Spells text s → ⊥) → IfNoScript f (λ at. IsPlaceOf text at) → Tells (HasNoScript text) (no_script f)
-no_script_read text fault.NoMemory none place = tt
-no_script_read text (fault.NoScript at) none place = (at, none, place, refl)
+pub no_script_read : (side : Side) (text : List ℕ) (f : ParseFault) → IfNoScript f (λ at. (s : Script) → Spells text s → ⊥) → IfNoScript f (λ at. IsPlaceOf text at)
+    → Tells (SpellsNoScript side text) (no_script side f)
+no_script_read side text fault.NoMemory none place = tt
+no_script_read side text (fault.NoScript at) none place = record { none = none; at = at; place = place; told = refl }
 
--- what a script decides, the text that it was read of calls for
-pub script_decides : (text : List ℕ) (job : Job) (s : Script) (r : Result Done (Stop Answer)) → SpellsOnlyScript text s → Answers (ScriptDecides job s) r → Answers (TextCallsFor text job) r
-script_decides text job s r only decides = goes_on _ _ _ _ s only r decides
+-- the network of the only script is the only one
+only_network : (text : List ℕ) (script : Script) (network : Network) → SpellsOnlyScript text script → IsNetworkOf script network → SpellsOnlyNetwork text network
+only_network text script network spells is = record {
+  spelled = record { script = script; spelled = spells.spelled; is = is };
+  only = λ other there.
+      one_network script other network (subst (λ (s : Script). IsNetworkOf s other) (spells.only there.script there.spelled) there.is) is;
+}
+
+module _ (side : Side) (text : List ℕ) where
+  pub no_script_exit : {A : Type 0} (r : Result A (Stop Answer)) (why : Stop Answer) → IsErrAnd r (λ t. t ≡ why) → Tells (SpellsNoScript side text) why → IfErr r (Tells (SpellsNoNetwork side text))
+  no_script_exit r why exit tells =
+      let p = err_from_is_err_and r exit in
+      subst (λ (x : Result _ (Stop Answer)). IfErr x (Tells (SpellsNoNetwork side text))) (sym p.1)
+      (subst (Tells (SpellsNoNetwork side text)) (sym p.2) (weaker (SpellsNoScript side text) (SpellsNoNetwork side text) (λ a none. inl none) why tells))
+
+  module _ (script : Script) (only : SpellsOnlyScript text script) where
+    pub spelled : {E : Type 0} (made : Result Network E) → IfOk made (IsNetworkOf script) → IfOk made (SpellsOnlyNetwork text)
+    spelled made is = IfOk-weaker made (IsNetworkOf script) (SpellsOnlyNetwork text) (λ network. only_network text script network only) is
+
+    pub unspelled : {A : Type 0} (made : Result A (Stop Answer)) → IfErr made (Tells (HasNoNetwork side script)) → IfErr made (Tells (SpellsNoNetwork side text))
+    unspelled made tells =
+        IfErr-weaker made (Tells (HasNoNetwork side script)) (Tells (SpellsNoNetwork side text))
+        (weaker (HasNoNetwork side script) (SpellsNoNetwork side text) (λ a none. inr (script, only, none))) tells
+
+-- ---- what is decided
 
 -- the name of a set, read from a job
-pub set_decides : (job : Job) (s : Script) (set slice : List ℕ) (r : Result Done (Stop Answer)) → job ≡ Livelock set → slice ≡ set → Answers (IsBounded s slice) r → Answers (ScriptDecides job s) r
-set_decides job s set slice r is same bounded =
-    subst (λ (j : Job). Answers (ScriptDecides j s) r) (sym is) (subst (λ (name : List ℕ). Answers (IsBounded s name) r) same bounded)
+pub set_decides : (job : Job) (network : Network) (set slice : List ℕ) (r : Result Done (Stop Verdict)) → job ≡ Livelock set → slice ≡ set → Answers (IsBounded network slice) r
+    → Answers (NetworkDecides job network) r
+set_decides job network set slice r is same bounded =
+    subst (λ (j : Job). Answers (NetworkDecides j network) r) (sym is) (subst (λ (name : List ℕ). Answers (IsBounded network name) r) same bounded)
 
-pub at_script : (text : List ℕ) (job : Job) (r : Result Done (Stop Answer)) (why : Stop Refusal) → IsErrAnd r (λ t. t ≡ refused side.Script why) → Tells (HasNoScript text) why
-    → Answers (TextCallsFor text job) r
-at_script text job r why exit tells = at_refusal r _ _ _ _ why exit tells
+-- a verdict with the network's program
+told_with : (network : Network) (Decides : Verdict → Type 0) (v : Verdict) (program : Content) → program ≡ network.program → Decides v → IsDecided network Decides (answer.Decided program v)
+told_with network Decides v program same decides = (v, decides, ap (λ (p : Content). answer.Decided p v) same)
 
--- A text calls for no answer with status 4.
-clash : (a x : Answer) → a ≡ x → status a ≡ 4 → (status x ≡ 4 → ⊥) → ⊥
-clash a x is four never = never (sym (ap status is) ∙ four)
+module _ (text : List ℕ) (job : Job) where
+  pub at_network : (r : Result Answer (Stop Answer)) (why : Stop Answer) → IsErrAnd r (λ t. t ≡ why) → Tells (SpellsNoNetwork side.Script text) why → Ends (TextCallsFor text job) r
+  at_network r why exit tells = at_end (TextCallsFor text job) r why exit (weaker (SpellsNoNetwork side.Script text) (TextCallsFor text job) (λ a none. inl none) why tells)
 
-abbrev pub IsInside : Answer → Type 0
-IsInside a = status a ≡ 4 → ⊥
+  pub decides : (network : Network) (v : Verdict) (program : Content) → SpellsOnlyNetwork text network → program ≡ network.program → NetworkDecides job network v
+      → TextCallsFor text job (answer.Decided program v)
+  decides network v program spells same decided = inr (network, spells, told_with network (NetworkDecides job network) v program same decided)
 
-refused_inside : (r : Refusal) → IsInside (answer.Refused side.Script r)
-refused_inside r four = let no : 2 ≡ 4 = four in cc
+-- a script that is shown
+pub at_script : (text : List ℕ) (r : Result Answer (Stop Answer)) (why : Stop Answer) → IsErrAnd r (λ t. t ≡ why) → Tells (SpellsNoScript side.Script text) why → Ends (TextIsShown text) r
+at_script text r why exit tells = at_end (TextIsShown text) r why exit (weaker (SpellsNoScript side.Script text) (TextIsShown text) (λ a none. inl none) why tells)
 
-run_inside : (is_stuck : Bool) (moves : List PrintedMove) → IsInside (walk_answer is_stuck moves)
-run_inside true moves four = let no : 1 ≡ 4 = four in cc
-run_inside false moves four = let no : 0 ≡ 4 = four in cc
+-- two texts
+module _ (text specification : List ℕ) (r : Result Answer (Stop Answer)) where
+  pub at_script_network : (why : Stop Answer) → IsErrAnd r (λ t. t ≡ why) → Tells (SpellsNoNetwork side.Script text) why → Ends (TextsCompare text specification) r
+  at_script_network why exit tells = at_end (TextsCompare text specification) r why exit (weaker (SpellsNoNetwork side.Script text) (TextsCompare text specification) (λ a none. inl none) why tells)
 
-decided_inside : (job : Job) (s : Script) (a : Answer) → ScriptDecides job s a → IsInside a
-decided_inside (Check rule) s a judged =
-    judged_cases s rule IsInside refused_inside (λ why four. let no : 1 ≡ 4 = four in cc) (λ b free four. clash b _ free.free.is four (λ e. cc)) a judged
-decided_inside Show s a is = λ four. clash a _ is four (λ e. cc)
-decided_inside (Table i) s a tabulated = tabulated_cases s i IsInside refused_inside (λ b whole four. clash b _ whole.is four (λ e. cc)) a tabulated
-decided_inside (Run seed steps) s a walked = walked_cases s seed steps IsInside refused_inside (λ b whole four. clash b _ whole.tells.is four (run_inside whole.tells.is_stuck _)) a walked
-decided_inside (Livelock set) s a bounded =
-    bounded_cases s set IsInside refused_inside (λ why four. let no : 1 ≡ 4 = four in cc) (λ b whole four. clash b _ whole.is four (λ e. cc)) a bounded
+  pub at_specified_network : (network : Network) (why : Stop Answer) → SpellsOnlyNetwork text network → IsErrAnd r (λ t. t ≡ why) → Tells (SpellsNoNetwork side.Specification specification) why
+      → Ends (TextsCompare text specification) r
+  at_specified_network network why spells exit tells =
+      at_end (TextsCompare text specification) r why exit
+      (weaker (SpellsNoNetwork side.Specification specification) (TextsCompare text specification) (λ a none. inr (network, spells, inl none)) why tells)
 
-pub text_inside : (text : List ℕ) (job : Job) (a : Answer) → TextCallsFor text job a → IsInside a
-text_inside text job a calls = refused_or _ _ _ _ IsInside refused_inside (λ s b only decides. decided_inside job s b decides) a calls
+pub compares : (text specification : List ℕ) (network specified : Network) (v : Verdict) (program : Content) → SpellsOnlyNetwork text network → SpellsOnlyNetwork specification specified
+    → program ≡ network.program → IsCompared network specified v → TextsCompare text specification (answer.Decided program v)
+compares text specification network specified v program spells specifies same compared =
+    inr (network, spells, inr (specified, specifies, told_with network (IsCompared network specified) v program same compared))

@@ -1,10 +1,7 @@
-pub mod Completing
 pub mod Judging
 pub mod Lengths
 pub mod Loading
-pub mod Matching
-pub mod Pairs
 pub mod Printing
-pub mod Proving
+pub mod Promising
 pub mod Sending
-pub mod Running
+pub mod Walks

@@ -1,113 +1,214 @@
--- Texts that are loaded, and the reply for which they call.
-use Rattle.std.proofs.Common.{◌≡◌, ◌≤◌, ℕ, List, [], ◌∷◌, Option, None, Some, Result, Ok, Err, IfNone, IfOk, IfSome, inl, inr, refl, sym, ap, subst, ◌∙◌}
-use Rattle.command_words.specs.Request.{Asks, IsNoRequest, names}
+-- Texts that are loaded one after another, and the reply for which they call.
+use Rattle.std.proofs.Common.{◌≡◌, ◌≤◌, ℕ, List, [], ◌∷◌, Option, None, Some, Result, Ok, Err, IfNone, IfOk, IfSome, inl, inr, refl, sym, ap, subst, ◌∙◌, arith}
+use Rattle.std.specs.Prelude.{length}
+use Rattle.std.specs.Result.{IsErrAnd}
+use Rattle.std.proofs.lemmas.Option.{same_Some}
+use Rattle.command_words.specs.Request.{Asks, IsNoRequest, names, trial_of}
 use Rattle.command_words.proofs.AskOnce.{words_ask_once}
-use Rattle.command_words.specs.declared.request.Job.{Job}
-use Rattle.command_words.specs.declared.request.Job.TheVariants.{Check}
 use Rattle.command_words.specs.declared.request.Request.{Request}
 use Rattle.command_words.specs.declared.request.Request.TheVariants as request
 use Rattle.command_words.specs.declared.request.Trial.{Trial}
+use Rattle.dl_limits.specs.declared.TheConstants.{MOST_BYTES}
+use Rattle.dl_outside.specs.Count.{Counts, HasRisen, NeverFall}
+use Rattle.dl_outside.specs.Load.{AnswersTold, LoadAnswers}
+use Rattle.dl_outside.specs.Texts.{text_of}
 use Rattle.dl_outside.specs.declared.shelf.LoadFault.{LoadFault}
 use Rattle.dl_outside.specs.declared.shelf.LoadFault.TheVariants.{Missing, TooLong, Failed, NoMemory}
 use Rattle.dl_outside.specs.declared.texts.NamedText.{NamedText}
-use Rattle.report.specs.Points.Point.{passed, told}
+use Rattle.report.proofs.Points.{weaker}
 use Rattle.report.specs.Report.{status}
+use Rattle.report.specs.Stops.{Ends, IsEnd, Tells}
 use Rattle.report.specs.declared.answer.Answer.{Answer}
 use Rattle.report.specs.declared.answer.Answer.TheVariants as answer
 use Rattle.report.specs.declared.answer.OutsideFault.{OutsideFault}
 use Rattle.report.specs.declared.answer.Side.{Side}
 use Rattle.report.specs.declared.answer.Side.TheVariants as side
-use Rattle.dl_top.proofs.Judging.{IsInside, text_inside}
-use Rattle.dl_top.proofs.Pairs.{HeldBoth, held_both, held_pair_inside, is_text, tells_more}
-use Rattle.dl_top.specs.Cause.{CallsFor, HoldsAll, HoldsAllNamed, Loaded, MayGive, Replies, ShelfSigns, TellsLoad, TextsCallFor, loads, quiet}
-use Rattle.dl_top.specs.Judgement.{TextCallsFor}
-use Rattle.dl_top.specs.Proved.{IsTextOf}
-use Rattle.dl_top.specs.Reply.{plain, reply_status, rule_of, trial_text}
+use Rattle.report.specs.declared.answer.Verdict.TheVariants as verdict
+use Rattle.report.specs.declared.stop.Stop.{Stop}
+use Rattle.dl_top.proofs.Promising.{IsInside, inside}
+use Rattle.dl_top.proofs.Walks.{at_end, is_end}
+use Rattle.dl_top.specs.Cause.{CallsFor, HoldsAll, HoldsAllNamed, IsLoad, Loaded, LoadsHeld, MayGive, Replies, TellsLoad, TextsCallFor}
+use Rattle.dl_top.specs.Complete.{HoldWithin}
+use Rattle.dl_top.specs.Kept.{HaveGiven}
+use Rattle.dl_top.specs.Printing.{IsUnloaded}
+use Rattle.dl_top.specs.Reply.{plain, reply_status}
 use Rattle.dl_top.specs.declared.reply.Reply.{Reply}
 
--- a text that was loaded
-pub loaded : {E : Type 0} (texts : Option (List NamedText)) (signs : ShelfSigns) (job : Job) (name text slice : List ℕ) (made : Result Reply E) → loads texts signs name (Ok text) → slice ≡ text
-    → IfOk made (λ reply. (reply.trial ≡ None) × TextCallsFor slice job reply.answer) → IfOk made (Replies texts signs (request.Script job name))
-loaded texts signs job name text slice (Err e) load same calls = tt
-loaded texts signs job name text slice (Ok reply) load same calls =
-    record { trial = calls.0; calls = passed text load (subst (λ (t : List ℕ). TextCallsFor t job reply.answer) same calls.1) }
+-- ---- one load
 
--- one that was not
-pub unloaded : {E : Type 0} (texts : Option (List NamedText)) (signs : ShelfSigns) (job : Job) (name : List ℕ) (f : LoadFault) (made : Result Reply E) → loads texts signs name (Err f)
-    → IfOk made (λ reply. (reply.trial ≡ None) × TellsLoad side.Script f reply.answer) → IfOk made (Replies texts signs (request.Script job name))
-unloaded texts signs job name f (Err e) load tells = tt
-unloaded texts signs job name f (Ok reply) load tells = record { trial = tells.0; calls = told f load tells.1 }
+pub load_is_short : (texts : Option (List NamedText)) (old new : Counts) (name text : List ℕ) → LoadAnswers texts old new name MOST_BYTES (Ok text) → length text ≤ MOST_BYTES
+load_is_short None old new name text load = load
+load_is_short (Some held) old new name text load = load.1
 
--- the reply to a request
-pub script_replies : {E : Type 0} (texts : Option (List NamedText)) (signs : ShelfSigns) (r : Request) (job : Job) (name slice : List ℕ) (made : Result Reply E) → r ≡ request.Script job name → slice ≡ name
-    → IfOk made (Replies texts signs (request.Script job slice)) → IfOk made (Replies texts signs r)
-script_replies texts signs r job name slice made is same replies =
-    subst (λ (q : Request). IfOk made (Replies texts signs q)) (sym is) (subst (λ (n : List ℕ). IfOk made (Replies texts signs (request.Script job n))) same replies)
+pub unloaded : (Load : Result (List ℕ) LoadFault → Type 0) (s : Side) (f : LoadFault) (why : Stop Answer) → Load (Err f) → Tells (TellsLoad s f) why → Tells (IsUnloaded Load s) why
+unloaded Load s f why load tells = weaker (TellsLoad s f) (IsUnloaded Load s) (λ a is. (f, load, is)) why tells
 
-trial_is : {E : Type 0} (texts : Option (List NamedText)) (signs : ShelfSigns) (trial : Trial) (made : Result Reply E)
-    → IfOk made (λ reply. (reply.trial ≡ Some trial) × TextCallsFor (trial_text trial) (Check (rule_of trial.family)) reply.answer) → IfOk made (Replies texts signs (request.Trial trial))
-trial_is texts signs trial (Err e) replies = tt
-trial_is texts signs trial (Ok reply) replies = record { trial = replies.0; calls = replies.1 }
+-- a text that can't be loaded has a status of more than 1
+tells_more : (s : Side) (f : LoadFault) (a : Answer) → TellsLoad s f a → status a ≤ 1 → ⊥
+tells_more s Missing a is few = let four : status a ≡ 4 = ap status is in omega (arith, four, few)
+tells_more s TooLong a is few = let two : status a ≡ 2 = ap status is in omega (arith, two, few)
+tells_more s Failed a is few = let four : status a ≡ 4 = ap status is in omega (arith, four, few)
+tells_more s NoMemory a is few = is
 
-pub trial_replies : {E : Type 0} (texts : Option (List NamedText)) (signs : ShelfSigns) (r : Request) (trial : Trial) (made : Result Reply E) → r ≡ request.Trial trial
-    → IfOk made (λ reply. (reply.trial ≡ Some trial) × TextCallsFor (trial_text trial) (Check (rule_of trial.family)) reply.answer) → IfOk made (Replies texts signs r)
-trial_replies texts signs r trial made is replies = subst (λ (q : Request). IfOk made (Replies texts signs q)) (sym is) (trial_is texts signs trial made replies)
+-- ---- loads of any shelf
 
-pub names_one : (r : Request) (job : Job) (name : List ℕ) → r ≡ request.Script job name → names r ≡ [] → ⊥
-names_one r job name is none = let no : name ∷ [] ≡ [] = sym (ap names is) ∙ none in cc
+module _ {S : Type 0} (Loads : S → S → List ℕ → Result (List ℕ) LoadFault → Type 0) where
+  -- the first of the texts is not loaded
+  pub at_load : (s : Side) (old new : S) (name : List ℕ) (more : List (List ℕ)) (Then : List (List ℕ) → Answer → Type 0) (r : Result Answer (Stop Answer)) (why : Stop Answer)
+      → IsErrAnd r (λ t. t ≡ why) → Tells (IsUnloaded (Loads old new name) s) why → Ends (Loaded Loads s old new (name ∷ more) Then) r
+  at_load s old new name more Then r why exit tells =
+      at_end (Loaded Loads s old new (name ∷ more) Then) r why exit (weaker (IsUnloaded (Loads old new name) s) (Loaded Loads s old new (name ∷ more) Then) (λ a is. inl is) why tells)
 
--- the reply to what the words ask for
-pub asks : (words : List (List ℕ)) (found : Option Request) (r : Request) → found ≡ Some r → IfSome found (Asks words) → Asks words r
-asks words found r is asked = subst (λ (o : Option Request). IfSome o (Asks words)) is asked
+  -- the second is not
+  pub at_second : (old between new : S) (first second text : List ℕ) (Then : List (List ℕ) → Answer → Type 0) (r : Result Answer (Stop Answer)) (why : Stop Answer) → Loads old between first (Ok text)
+      → IsErrAnd r (λ t. t ≡ why) → Tells (IsUnloaded (Loads between new second) side.Specification) why → Ends (Loaded Loads side.Script old new (first ∷ second ∷ []) Then) r
+  at_second old between new first second text Then r why load exit tells =
+      at_end (Loaded Loads side.Script old new (first ∷ second ∷ []) Then) r why exit
+      (weaker (IsUnloaded (Loads between new second) side.Specification) (Loaded Loads side.Script old new (first ∷ second ∷ []) Then) (λ a is. inr (text, between, load, inl is)) why tells)
 
-pub gives : {E : Type 0} (texts : Option (List NamedText)) (signs : ShelfSigns) (words : List (List ℕ)) (r : Request) (made : Result Reply E) → Asks words r
-    → IfOk made (Replies texts signs r) → IfOk made (MayGive texts words signs)
-gives texts signs words r (Err e) asked replies = tt
-gives texts signs words r (Ok reply) asked replies = inr (r, asked, replies)
+  -- a request that is read
+  pub same_request : (old new : S) (r q : Request) (result : Result Answer (Stop Answer)) → r ≡ q → Ends (Loaded Loads side.Script old new (names q) (TextsCallFor q)) result
+      → Ends (Loaded Loads side.Script old new (names r) (TextsCallFor r)) result
+  same_request old new r q result same ends = subst (λ (x : Request). Ends (Loaded Loads side.Script old new (names x) (TextsCallFor x)) result) (sym same) ends
 
-pub gives_usage : (texts : Option (List NamedText)) (signs : ShelfSigns) (words : List (List ℕ)) (found : Option Request) (reply : Reply) → found ≡ None
-    → IfNone found (IsNoRequest words) → reply ≡ plain answer.Usage → MayGive texts words signs reply
-gives_usage texts signs words found reply is none same = inl (subst (λ (o : Option Request). IfNone o (IsNoRequest words)) is none, same)
+  -- the reply to what the words ask for
+  pub gives : (words : List (List ℕ)) (found : Option Request) (r : Request) (old new : S) (trial : Option Trial) (walk : Result Answer (Stop Answer)) (a : Answer) → found ≡ Some r
+      → IfSome found (Asks words) → trial ≡ trial_of r → Ends (Loaded Loads side.Script old new (names r) (TextsCallFor r)) walk → IsEnd walk a
+      → MayGive Loads words old new (record { trial = trial; answer = a })
+  gives words found r old new trial walk a is asked same ends end = inr (
+    r,
+    subst (λ (o : Option Request). IfSome o (Asks words)) is asked,
+    record { trial = same; calls = is_end (Loaded Loads side.Script old new (names r) (TextsCallFor r)) walk a ends end },
+  )
 
--- ---- what the words ask for is the only request
+  pub gives_usage : (words : List (List ℕ)) (found : Option Request) (old new : S) → found ≡ None → IfNone found (IsNoRequest words) → MayGive Loads words old new (plain answer.Usage)
+  gives_usage words found old new is none = inl (subst (λ (o : Option Request). IfNone o (IsNoRequest words)) is none, refl)
 
-pub only : (texts : Option (List NamedText)) (signs : ShelfSigns) (words : List (List ℕ)) (r : Request) (reply : Reply) → Asks words r → MayGive texts words signs reply → Replies texts signs r reply
-only texts signs words r reply asked (inl none) = absurd (none.0 r asked)
-only texts signs words r reply asked (inr (s, asked', replies)) = subst (λ (q : Request). Replies texts signs q reply) (words_ask_once words s r asked' asked) replies
+  -- what the words ask for is the only request
+  pub only : (words : List (List ℕ)) (r : Request) (old new : S) (reply : Reply) → Asks words r → MayGive Loads words old new reply → Replies Loads old new r reply
+  only words r old new reply asked (inl none) = absurd (none.0 r asked)
+  only words r old new reply asked (inr (s, asked', replies)) = subst (λ (q : Request). Replies Loads old new q reply) (words_ask_once words s r asked' asked) replies
 
--- the text of a name, which decides with status 0 or 1
-pub record Held (texts : Option (List NamedText)) (name : List ℕ) (job : Job) (a : Answer) : Type 0 where
-  pub text : List ℕ
-  pub held : IsTextOf texts name text
-  pub calls : TextCallsFor text job a
+pub names_none : (r q : Request) → r ≡ q → (names q ≡ [] → ⊥) → names r ≡ [] → ⊥
+names_none r q same never none = never (sym (ap names same) ∙ none)
 
-held_text : (texts : Option (List NamedText)) (signs : ShelfSigns) (name : List ℕ) (job : Job) (a : Answer)
-    → Loaded side.Script texts signs (name ∷ []) (TextsCallFor (request.Script job name)) a → status a ≤ 1 → Held texts name job a
-held_text texts signs name job a (told f load tells) few = absurd (tells_more side.Script f a tells few)
-held_text texts signs name job a (passed text load calls) few = record { text = text; held = is_text texts signs name text load; calls = calls }
+-- ---- loads of a shelf that says what they gave
 
-pub held_script : (texts : Option (List NamedText)) (words : List (List ℕ)) (signs : ShelfSigns) (job : Job) (name : List ℕ) (reply : Reply) → Asks words (request.Script job name)
-    → MayGive texts words signs reply → reply_status reply ≤ 1 → (reply.trial ≡ None) × Held texts name job reply.answer
-held_script texts words signs job name reply asked given few =
-    let replies = only texts signs words (request.Script job name) reply asked given in
-    (replies.trial, held_text texts signs name job reply.answer replies.calls few)
+module _ {S : Type 0} (texts : S → Option (List NamedText)) (counts : S → Counts) (gives : S → S → List ℕ → List ℕ → Type 0) where
+  -- where the texts decide, they are those that the loads gave
+  pub given : (s : Side) (old new : S) (ns : List (List ℕ)) (Then : List (List ℕ) → Answer → Type 0) (a : Answer) → Loaded (IsLoad texts counts gives) s old new ns Then a → status a ≤ 1
+      → (ts : List (List ℕ)) × HaveGiven gives old new ns ts × Then ts a
+  given s old new [] Then a (same, then) few = ([], same, then)
+  given s old new (n ∷ ns) Then a (inl (f, load, tells)) few = absurd (tells_more s f a tells few)
+  given s old new (n ∷ ns) Then a (inr (t, between, load, rest)) few =
+      let later = given side.Specification between new ns (λ ts. Then (t ∷ ts)) a rest few in
+      (t ∷ later.0, (between, load.given, later.1), later.2)
 
-pub held_scripts : (texts : Option (List NamedText)) (words : List (List ℕ)) (signs : ShelfSigns) (script specification : List ℕ) (reply : Reply) → Asks words (request.Conform script specification)
-    → MayGive texts words signs reply → reply_status reply ≡ 0 → (reply.trial ≡ None) × HeldBoth texts script specification reply.answer
-held_scripts texts words signs script specification reply asked given zero =
-    let replies = only texts signs words (request.Conform script specification) reply asked given in
-    (replies.trial, held_both texts signs script specification reply.answer replies.calls zero)
+  -- no count falls
+  never_falls : (s : Side) (old new : S) (ns : List (List ℕ)) (Then : List (List ℕ) → Answer → Type 0) (a : Answer) → Loaded (IsLoad texts counts gives) s old new ns Then a
+      → (counts old).faults ≤ (counts new).faults
+  never_falls s old new [] Then a (same, then) = subst (λ (x : S). (counts old).faults ≤ (counts x).faults) (sym same) (omega arith)
+  never_falls s old new (n ∷ ns) Then a (inl (f, load, tells)) = load.never_fall.faults
+  never_falls s old new (n ∷ ns) Then a (inr (t, between, load, rest)) =
+      let here = load.never_fall.faults in
+      let later = never_falls side.Specification between new ns (λ ts. Then (t ∷ ts)) a rest in
+      omega (arith, here, later)
+
+-- a load in which no count rose
+quiet_told : (held : List NamedText) (name : List ℕ) (rose : Type 0) (r : Result (List ℕ) LoadFault) → ¬ rose → AnswersTold held name MOST_BYTES rose r → AnswersTold held name MOST_BYTES ⊥ r
+quiet_told held name rose (Ok text) still load = (load.0, load.1, λ no. no)
+quiet_told held name rose (Err Missing) still load = (load.0, λ no. no)
+quiet_told held name rose (Err TooLong) still load = (load.0, λ no. no)
+quiet_told held name rose (Err Failed) still load = absurd (still load)
+quiet_told held name rose (Err NoMemory) still load = tt
+
+quiet_load : (texts : Option (List NamedText)) (held : List NamedText) (old new : Counts) (name : List ℕ) (r : Result (List ℕ) LoadFault) → texts ≡ Some held → ¬ HasRisen old.faults new.faults
+    → LoadAnswers texts old new name MOST_BYTES r → LoadsHeld held tt tt name r
+quiet_load texts held old new name r is still load =
+    quiet_told held name (HasRisen old.faults new.faults) r still (subst (λ (o : Option (List NamedText)). LoadAnswers o old new name MOST_BYTES r) is load)
+
+rises_first : (a b c : ℕ) → b ≤ c → HasRisen a b → HasRisen a c
+rises_first a b c le rose = omega arith
+
+rises_later : (a b c : ℕ) → a ≤ b → HasRisen b c → HasRisen a c
+rises_later a b c le rose = omega arith
+
+module _ {S : Type 0} (texts : S → Option (List NamedText)) (counts : S → Counts) (gives : S → S → List ℕ → List ℕ → Type 0) (held : List NamedText) where
+  -- where no count rose, the texts are those that the shelf holds
+  quiet_loads : (s : Side) (old new : S) (ns : List (List ℕ)) (Then : List (List ℕ) → Answer → Type 0) (a : Answer) → texts old ≡ Some held → ¬ HasRisen (counts old).faults (counts new).faults
+      → Loaded (IsLoad texts counts gives) s old new ns Then a → Loaded (LoadsHeld held) s tt tt ns Then a
+  quiet_loads s old new [] Then a is still (same, then) = (refl, then)
+  quiet_loads s old new (n ∷ ns) Then a is still (inl (f, load, tells)) = inl (f, quiet_load (texts old) held (counts old) (counts new) n (Err f) is still load.answers, tells)
+  quiet_loads s old new (n ∷ ns) Then a is still (inr (t, between, load, rest)) =
+      let here = load.never_fall.faults in
+      let later = never_falls texts counts gives side.Specification between new ns (λ ts. Then (t ∷ ts)) a rest in
+      inr (
+        t,
+        tt,
+        quiet_load (texts old) held (counts old) (counts between) n (Ok t) is (λ rose. still (rises_first _ _ _ later rose)) load.answers,
+        quiet_loads side.Specification between new ns (λ ts. Then (t ∷ ts)) a (load.texts_stay ∙ is) (λ rose. still (rises_later _ _ _ here rose)) rest,
+      )
+
+  pub quiet_gives : (words : List (List ℕ)) (old new : S) (reply : Reply) → texts old ≡ Some held → ¬ HasRisen (counts old).faults (counts new).faults
+      → MayGive (IsLoad texts counts gives) words old new reply → CallsFor held words reply
+  quiet_gives words old new reply is still (inl none) = inl none
+  quiet_gives words old new reply is still (inr (r, asked, replies)) =
+      inr (r, asked, record { trial = replies.trial; calls = quiet_loads side.Script old new (names r) (TextsCallFor r) reply.answer is still replies.calls })
+
+-- ---- texts that are held
+
+module _ (texts : List NamedText) where
+  -- a text that is held within the limit is loaded
+  never_told : (s : Side) (name text : List ℕ) (f : LoadFault) (a : Answer) → text_of texts name ≡ Some text → length text ≤ MOST_BYTES → LoadsHeld texts tt tt name (Err f) → TellsLoad s f a → ⊥
+  never_told s name text Missing a held within load tells = let no : None ≡ Some text = sym load.0 ∙ held in cc
+  never_told s name text TooLong a held within load tells =
+      let long = load.0 in
+      let same : long.0 ≡ text = same_Some long.0 text (sym long.1 ∙ held) in
+      let few : length long.0 ≤ MOST_BYTES = subst (λ (t : List ℕ). length t ≤ MOST_BYTES) (sym same) within in
+      let many = long.2 in
+      omega (arith, few, many)
+  never_told s name text Failed a held within load tells = load
+  never_told s name text NoMemory a held within load tells = tells
+
+  -- the texts that are held within the limit decide
+  pub held_decide : (s : Side) (ns ts : List (List ℕ)) (Then : List (List ℕ) → Answer → Type 0) (a : Answer) → HoldWithin texts ns ts → Loaded (LoadsHeld texts) s tt tt ns Then a → Then ts a
+  held_decide s [] [] Then a hold (same, then) = then
+  held_decide s (n ∷ ns) (t ∷ ts) Then a (here, within, hold) (inl (f, load, tells)) = absurd (never_told s n t f a here within load tells)
+  held_decide s (n ∷ ns) (t ∷ ts) Then a (here, within, hold) (inr (u, between, load, rest)) =
+      subst (λ (x : List ℕ). Then (x ∷ ts) a) (same_Some u t (sym load.0 ∙ here)) (held_decide side.Specification ns ts (λ more. Then (u ∷ more)) a hold rest)
+  held_decide s [] (t ∷ ts) Then a hold loaded = absurd hold
+  held_decide s (n ∷ ns) [] Then a hold loaded = absurd hold
+
+  -- where all texts are held, none is missing
+  told_inside : (s : Side) (name : List ℕ) (f : LoadFault) (a : Answer) → (text : List ℕ) × (text_of texts name ≡ Some text) → LoadsHeld texts tt tt name (Err f) → TellsLoad s f a → IsInside a
+  told_inside s name Missing a held load tells four = let no : None ≡ Some held.0 = sym load.0 ∙ held.1 in cc
+  told_inside s name TooLong a held load tells four = let no : ◌≡◌ {A = ℕ} 2 4 = sym (ap status tells) ∙ four in cc
+  told_inside s name Failed a held load tells four = absurd load
+  told_inside s name NoMemory a held load tells four = absurd tells
+
+  loaded_inside : (s : Side) (ns : List (List ℕ)) (Then : List (List ℕ) → Answer → Type 0) (a : Answer) → HoldsAll texts ns → ((ts : List (List ℕ)) → Then ts a → IsInside a)
+      → Loaded (LoadsHeld texts) s tt tt ns Then a → IsInside a
+  loaded_inside s [] Then a hold rest (same, then) = rest [] then
+  loaded_inside s (n ∷ ns) Then a hold rest (inl (f, load, tells)) = told_inside s n f a hold.0 load tells
+  loaded_inside s (n ∷ ns) Then a hold rest (inr (t, between, load, later)) = loaded_inside side.Specification ns (λ ts. Then (t ∷ ts)) a hold.1 (λ ts. rest (t ∷ ts)) later
+
+  pub held_not_four : (words : List (List ℕ)) (reply : Reply) → HoldsAllNamed texts words → CallsFor texts words reply → reply_status reply ≡ 4 → ⊥
+  held_not_four words reply held (inl none) four = let no : ◌≡◌ {A = ℕ} 3 4 = sym (ap reply_status none.1) ∙ four in cc
+  held_not_four words reply held (inr (r, asked, replies)) four =
+      loaded_inside side.Script (names r) (TextsCallFor r) reply.answer (held r asked) (λ ts calls. inside r ts reply.answer calls) replies.calls four
 
 -- ---- faults outside
 
 -- status 4 is that of a fault outside
 outside : (a : Answer) → status a ≡ 4 → (s : Side) × (f : OutsideFault) × (a ≡ answer.Outside s f)
-outside answer.Usage four = absurd (let no : 3 ≡ 4 = four in cc)
+outside answer.Usage four = absurd (let no : ◌≡◌ {A = ℕ} 3 4 = four in cc)
 outside (answer.Outside s f) four = (s, f, refl)
-outside (answer.Refused s r) four = absurd (let no : 2 ≡ 4 = four in cc)
-outside (answer.NotProved s) four = absurd (let no : 1 ≡ 4 = four in cc)
-outside (answer.Stuck moves) four = absurd (let no : 1 ≡ 4 = four in cc)
-outside (answer.Done what) four = absurd (let no : 0 ≡ 4 = four in cc)
+outside (answer.NoProgram s f) four = absurd (let no : ◌≡◌ {A = ℕ} 2 4 = four in cc)
+outside (answer.Shown text) four = absurd (let no : ◌≡◌ {A = ℕ} 0 4 = four in cc)
+outside (answer.Decided p (verdict.Refused s r)) four = absurd (let no : ◌≡◌ {A = ℕ} 2 4 = four in cc)
+outside (answer.Decided p (verdict.NotProved s)) four = absurd (let no : ◌≡◌ {A = ℕ} 1 4 = four in cc)
+outside (answer.Decided p (verdict.Stuck moves)) four = absurd (let no : ◌≡◌ {A = ℕ} 1 4 = four in cc)
+outside (answer.Decided p (verdict.Done what)) four = absurd (let no : ◌≡◌ {A = ℕ} 0 4 = four in cc)
 
 plain_is : (reply : Reply) (x : Answer) → reply.trial ≡ None → reply.answer ≡ x → reply ≡ plain x
 plain_is reply x none is =
@@ -115,62 +216,16 @@ plain_is reply x none is =
     let answers : record { trial = None; answer = reply.answer } ≡ plain x = ap (λ (a : Answer). record { trial = None; answer = a }) is in
     trials ∙ answers
 
-replies_fault : (texts : Option (List NamedText)) (signs : ShelfSigns) (r : Request) (reply : Reply) → Replies texts signs r reply → reply_status reply ≡ 4
+-- a trial loads nothing
+no_trial : {S : Type 0} (Loads : S → S → List ℕ → Result (List ℕ) LoadFault → Type 0) (old new : S) (r : Request) (reply : Reply) → Replies Loads old new r reply → reply_status reply ≡ 4 → reply.trial ≡ None
+no_trial Loads old new (request.Show name) reply replies four = replies.trial
+no_trial Loads old new (request.Script job name) reply replies four = replies.trial
+no_trial Loads old new (request.Conform script specification) reply replies four = replies.trial
+no_trial Loads old new (request.Trial trial) reply replies four = absurd (inside (request.Trial trial) [] reply.answer replies.calls.1 four)
+
+pub shelf_fault : {S : Type 0} (Loads : S → S → List ℕ → Result (List ℕ) LoadFault → Type 0) (words : List (List ℕ)) (old new : S) (reply : Reply) → MayGive Loads words old new reply → reply_status reply ≡ 4
     → (s : Side) × (f : OutsideFault) × (reply ≡ plain (answer.Outside s f))
-replies_fault texts signs (request.Script job name) reply replies four =
+shelf_fault Loads words old new reply (inl none) four = absurd (let no : ◌≡◌ {A = ℕ} 3 4 = sym (ap reply_status none.1) ∙ four in cc)
+shelf_fault Loads words old new reply (inr (r, asked, replies)) four =
     let fault = outside reply.answer four in
-    (fault.0, fault.1, plain_is reply (answer.Outside fault.0 fault.1) replies.trial fault.2)
-replies_fault texts signs (request.Conform script specification) reply replies four =
-    let fault = outside reply.answer four in
-    (fault.0, fault.1, plain_is reply (answer.Outside fault.0 fault.1) replies.trial fault.2)
-replies_fault texts signs (request.Trial trial) reply replies four = absurd (text_inside (trial_text trial) (Check (rule_of trial.family)) reply.answer replies.calls four)
-
-pub shelf_fault : (texts : Option (List NamedText)) (signs : ShelfSigns) (words : List (List ℕ)) (reply : Reply) → MayGive texts words signs reply → reply_status reply ≡ 4
-    → (s : Side) × (f : OutsideFault) × (reply ≡ plain (answer.Outside s f))
-shelf_fault texts signs words reply (inl none) four = absurd (let no : 3 ≡ 4 = sym (ap reply_status none.1) ∙ four in cc)
-shelf_fault texts signs words reply (inr (r, asked, replies)) four = replies_fault texts signs r reply replies four
-
--- where a text is held, it is no fault of the shelf
-held_text_inside : (texts : List NamedText) (job : Job) (name : List ℕ) (a : Answer) → HoldsAll texts (name ∷ [])
-    → Loaded side.Script (Some texts) quiet (name ∷ []) (TextsCallFor (request.Script job name)) a → IsInside a
-held_text_inside texts job name a held (told Missing load tells) four = let no : None ≡ Some held.0.0 = sym load.0 ∙ held.0.1 in cc
-held_text_inside texts job name a held (told TooLong load tells) four = let no : 2 ≡ 4 = sym (ap status tells) ∙ four in cc
-held_text_inside texts job name a held (told Failed load tells) four = absurd load
-held_text_inside texts job name a held (told NoMemory load tells) four = absurd tells
-held_text_inside texts job name a held (passed text load calls) four = text_inside text job a calls four
-
-replies_inside : (texts : List NamedText) (r : Request) (reply : Reply) → HoldsAll texts (names r) → Replies (Some texts) quiet r reply → IsInside reply.answer
-replies_inside texts (request.Script job name) reply held replies four = held_text_inside texts job name reply.answer held replies.calls four
-replies_inside texts (request.Conform script specification) reply held replies four = held_pair_inside texts script specification reply.answer held replies.calls four
-replies_inside texts (request.Trial trial) reply held replies four = text_inside (trial_text trial) (Check (rule_of trial.family)) reply.answer replies.calls four
-
-pub held_not_four : (texts : List NamedText) (words : List (List ℕ)) (reply : Reply) → HoldsAllNamed texts words → CallsFor texts words reply → reply_status reply ≡ 4 → ⊥
-held_not_four texts words reply held (inl none) four = let no : 3 ≡ 4 = sym (ap reply_status none.1) ∙ four in cc
-held_not_four texts words reply held (inr (r, asked, replies)) four = replies_inside texts r reply (held r asked) replies four
-
--- ---- where no count rose, the reply is the one that the texts call for
-
-quiet_load : (texts : List NamedText) (signs : ShelfSigns) (name : List ℕ) (answered : Result (List ℕ) LoadFault) → ¬ signs.rose → loads (Some texts) signs name answered
-    → loads (Some texts) quiet name answered
-quiet_load texts signs name (Ok text) still load = (load.0, load.1, λ no. no)
-quiet_load texts signs name (Err Missing) still load = (load.0, λ no. no)
-quiet_load texts signs name (Err TooLong) still load = (load.0, λ no. no)
-quiet_load texts signs name (Err Failed) still load = absurd (still load)
-quiet_load texts signs name (Err NoMemory) still load = tt
-
-quiet_loads : (texts : List NamedText) (signs : ShelfSigns) → ¬ signs.rose → (s : Side) (ns : List (List ℕ)) (Then : List (List ℕ) → Answer → Type 0) (a : Answer)
-    → Loaded s (Some texts) signs ns Then a → Loaded s (Some texts) quiet ns Then a
-quiet_loads texts signs still s [] Then a calls = calls
-quiet_loads texts signs still s (name ∷ []) Then a (told f load tells) = told f (quiet_load texts signs name (Err f) still load) tells
-quiet_loads texts signs still s (name ∷ []) Then a (passed text load calls) = passed text (quiet_load texts signs name (Ok text) still load) calls
-quiet_loads texts signs still s (name ∷ next ∷ ns) Then a (told f load tells) = told f (quiet_load texts signs name (Err f) still load) tells
-quiet_loads texts signs still s (name ∷ next ∷ ns) Then a (passed text load calls) =
-    passed text load (quiet_loads texts signs still side.Specification (next ∷ ns) (λ others. Then (text ∷ others)) a calls)
-
-pub quiet_gives : (texts : List NamedText) (words : List (List ℕ)) (signs : ShelfSigns) (reply : Reply) → ¬ signs.rose → MayGive (Some texts) words signs reply → CallsFor texts words reply
-quiet_gives texts words signs reply still (inl none) = inl none
-quiet_gives texts words signs reply still (inr (r, asked, replies)) = inr (
-  r,
-  asked,
-  record { trial = replies.trial; calls = quiet_loads texts signs still side.Script (names r) (TextsCallFor r) reply.answer replies.calls },
-)
+    (fault.0, fault.1, plain_is reply (answer.Outside fault.0 fault.1) (no_trial Loads old new r reply replies four) fault.2)

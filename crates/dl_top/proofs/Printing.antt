@@ -1,12 +1,23 @@
 -- What is printed of a reply, and how a call ends that sends it.
-use Rattle.std.proofs.Common.{◌≡◌, ℕ, List, Option, None, Some, Result, Ok, Err, IfOk, IfSome, inl, inr, refl, sym, ◌∙◌, subst}
+use Rattle.std.proofs.Common.{◌≡◌, ◌≢◌, ◌≤◌, ℕ, List, ◌++◌, Option, None, Some, Result, Ok, Err, IfOk, IfSome, inl, inr, refl, sym, ◌∙◌, ap, subst, arith}
+use Rattle.command_words.specs.Request.{Asks, names, trial_of}
+use Rattle.command_words.specs.declared.request.Request.{Request}
+use Rattle.command_words.specs.declared.request.Trial.{Trial}
+use Rattle.dl_outside.specs.Count.{Counts, HasRisen}
 use Rattle.dl_outside.specs.Write.{GrowsBy}
+use Rattle.dl_outside.specs.declared.shelf.LoadFault.{LoadFault}
 use Rattle.dl_outside.specs.declared.texts.NamedText.{NamedText}
-use Rattle.dl_top.proofs.Loading.{quiet_gives, shelf_fault}
-use Rattle.dl_top.specs.Cause.{CallsFor, MayGive, ShelfSigns}
+use Rattle.report.specs.Report.{report_text, status}
+use Rattle.report.specs.declared.answer.Answer.{Answer}
+use Rattle.report.specs.declared.answer.Side.TheVariants as side
+use Rattle.dl_top.proofs.Loading.{given, held_decide, only, quiet_gives, shelf_fault}
+use Rattle.dl_top.proofs.Promising.{completes}
+use Rattle.dl_top.specs.Cause.{CallsFor, IsLoad, LoadsHeld, MayGive, TextsCallFor}
+use Rattle.dl_top.specs.Complete.{AsksForPassing}
 use Rattle.dl_top.specs.Ending.{Ends, EndsInShelfFault, EndsWhole, GrowsByFront, SinkSigns}
+use Rattle.dl_top.specs.Kept.{Kept}
 use Rattle.dl_top.specs.Printing.{Prints}
-use Rattle.dl_top.specs.Reply.{reply_status, reply_text}
+use Rattle.dl_top.specs.Reply.{heading_text, reply_status, reply_text}
 use Rattle.dl_top.specs.declared.reply.Printed.{Printed}
 use Rattle.dl_top.specs.declared.reply.Reply.{Reply}
 
@@ -15,15 +26,14 @@ pub prints : {E : Type 0} (Cause : Reply → Type 0) (reply : Reply) (made : Res
 prints Cause reply (Ok printed) cause text status = record { reply = reply; cause = cause; text = text; status = status }
 prints Cause reply (Err e) cause text status = tt
 
-module _ (Cause : Reply → Type 0) (sink : SinkSigns) (printed : Printed) (is : Prints Cause printed) (slice : List ℕ) (read : slice ≡ printed.text) where
-  pub whole : GrowsBy sink.old sink.new slice → GrowsBy sink.old sink.new (reply_text is.reply)
-  whole grew = subst (λ (sent : List ℕ). GrowsBy sink.old sink.new sent) (read ∙ is.text) grew
+-- ---- how a call ends that sends what was printed
 
+module _ (Cause : Reply → Type 0) (sink : SinkSigns) (printed : Printed) (is : Prints Cause printed) (slice : List ℕ) (read : slice ≡ printed.text) where
   front : GrowsByFront sink.old sink.new slice → GrowsByFront sink.old sink.new (reply_text is.reply)
   front grew = subst (λ (sent : List ℕ). GrowsByFront sink.old sink.new sent) (read ∙ is.text) grew
 
   pub ends_whole : GrowsBy sink.old sink.new slice → Ends Cause sink printed.status
-  ends_whole grew = inl (is.reply, is.cause, whole grew, is.status)
+  ends_whole grew = inl (is.reply, is.cause, subst (λ (sent : List ℕ). GrowsBy sink.old sink.new sent) (read ∙ is.text) grew, is.status)
 
   pub ends_broken : sink.rose → GrowsByFront sink.old sink.new slice → Ends Cause sink 4
   ends_broken rose grew = inr (inl (is.reply, is.cause, rose, front grew, refl))
@@ -31,16 +41,70 @@ module _ (Cause : Reply → Type 0) (sink : SinkSigns) (printed : Printed) (is :
   pub ends_short : GrowsByFront sink.old sink.new slice → Ends Cause sink 5
   ends_short grew = inr (inr (inr (is.reply, is.cause, front grew), refl))
 
--- the whole line of a fault of the shelf
-pub ends_in_shelf_fault : (texts : Option (List NamedText)) (words : List (List ℕ)) (signs : ShelfSigns) (sink : SinkSigns) (printed : Printed)
-    (is : Prints (MayGive texts words signs) printed) (slice : List ℕ) → slice ≡ printed.text → GrowsBy sink.old sink.new slice → printed.status ≡ 4
-    → EndsInShelfFault (MayGive texts words signs) sink
-ends_in_shelf_fault texts words signs sink printed is slice read grew four =
-    (is.reply, shelf_fault texts signs words is.reply is.cause (sym is.status ∙ four), is.cause, whole (MayGive texts words signs) sink printed is slice read grew)
+-- ---- the other clauses, from how the call ended
 
--- Where no count rose, and the whole report was sent, it is that of the reply for which the texts call.
-pub settled : (texts : Option (List NamedText)) (words : List (List ℕ)) (signs : ShelfSigns) (sink : SinkSigns) (printed : Printed) (is : Prints (MayGive texts words signs) printed)
-    (slice : List ℕ) → slice ≡ printed.text → GrowsBy sink.old sink.new slice → ¬ signs.rose → IfSome texts (λ held. EndsWhole (CallsFor held words) sink printed.status)
-settled None words signs sink printed is slice read grew quiet = tt
-settled (Some texts) words signs sink printed is slice read grew quiet =
-    (is.reply, quiet_gives texts words signs is.reply quiet is.cause, whole (MayGive (Some texts) words signs) sink printed is slice read grew, is.status)
+-- a smaller status than 4 is that of a whole report
+whole : (Cause : Reply → Type 0) (sink : SinkSigns) (result : ℕ) → result ≤ 3 → Ends Cause sink result → EndsWhole Cause sink result
+whole Cause sink result few (inl ends) = ends
+whole Cause sink result few (inr (inl broken)) = let four = broken.4 in absurd (omega (arith, few, four))
+whole Cause sink result few (inr (inr short)) = let five = short.1 in absurd (omega (arith, few, five))
+
+-- so is any without a fault of the sink and with memory enough
+still_whole : (Cause : Reply → Type 0) (sink : SinkSigns) (result : ℕ) → result ≢ 5 → ¬ sink.rose → Ends Cause sink result → EndsWhole Cause sink result
+still_whole Cause sink result memory still (inl ends) = ends
+still_whole Cause sink result memory still (inr (inl broken)) = absurd (still broken.2)
+still_whole Cause sink result memory still (inr (inr short)) = absurd (memory short.1)
+
+pub ends_weaker : (P Q : Reply → Type 0) → ((reply : Reply) → P reply → Q reply) → (sink : SinkSigns) (result : ℕ) → Ends P sink result → Ends Q sink result
+ends_weaker P Q weak sink result (inl (reply, cause, grew, is)) = inl (reply, weak reply cause, grew, is)
+ends_weaker P Q weak sink result (inr (inl (reply, cause, rose, grew, is))) = inr (inl (reply, weak reply cause, rose, grew, is))
+ends_weaker P Q weak sink result (inr (inr (inl nothing, five))) = inr (inr (inl nothing, five))
+ends_weaker P Q weak sink result (inr (inr (inr (reply, cause, grew), five))) = inr (inr (inr (reply, weak reply cause, grew), five))
+
+-- a whole report with the status of an answer that the texts of a request call for
+module _ {S : Type 0} (texts : S → Option (List NamedText)) (counts : S → Counts) (gives : S → S → List ℕ → List ℕ → Type 0) (old new : S) (words : List (List ℕ)) (sink : SinkSigns) (result : ℕ)
+    (ends : Ends (MayGive (IsLoad texts counts gives) words old new) sink result) where
+  pub kept : (Promise : Request → List (List ℕ) → List ℕ → Type 0) (n : ℕ) → n ≤ 1 → (r : Request) → ((ts : List (List ℕ)) (a : Answer) → TextsCallFor r ts a → status a ≡ n → Promise r ts (report_text a))
+      → Asks words r → result ≡ n → Kept Promise gives old new words sink.old sink.new
+  kept Promise n few r keeps asked is =
+      let sent = whole (MayGive (IsLoad texts counts gives) words old new) sink result (omega (arith, few, is)) ends in
+      let reply = sent.0 in
+      let replies = only (IsLoad texts counts gives) words r old new reply asked sent.1 in
+      let ended : reply_status reply ≡ n = sym sent.3 ∙ is in
+      let there = given texts counts gives side.Script old new (names r) (TextsCallFor r) reply.answer replies.calls (omega (arith, few, ended)) in
+      record {
+        request = r;
+        asked = asked;
+        texts = there.0;
+        given = there.1;
+        report = report_text reply.answer;
+        promise = keeps there.0 reply.answer there.2 ended;
+        printed = subst (λ (t : Option Trial). GrowsBy sink.old sink.new (heading_text t ++ report_text reply.answer)) replies.trial sent.2;
+      }
+
+  -- the whole line of a fault of the shelf
+  pub in_shelf_fault : result ≡ 4 → ¬ sink.rose → EndsInShelfFault (MayGive (IsLoad texts counts gives) words old new) sink
+  in_shelf_fault four still =
+      let sent = still_whole (MayGive (IsLoad texts counts gives) words old new) sink result (λ five. let no : ◌≡◌ {A = ℕ} 4 5 = sym four ∙ five in cc) still ends in
+      (sent.0, shelf_fault (IsLoad texts counts gives) words old new sent.0 sent.1 (sym sent.3 ∙ four), sent.1, sent.2)
+
+  -- the reply is the one that the texts call for
+  pub settled : result ≢ 5 → ¬ HasRisen (counts old).faults (counts new).faults → ¬ sink.rose → IfSome (texts old) (λ held. EndsWhole (CallsFor held words) sink result)
+  settled memory shelf_still sink_still =
+      let sent = still_whole (MayGive (IsLoad texts counts gives) words old new) sink result memory sink_still ends in
+      elim (texts old) as (λ o. texts old ≡ o → IfSome o (λ held. EndsWhole (CallsFor held words) sink result)) [
+        | None ↦ λ is. tt
+        | Some held ↦ λ is. (sent.0, quiet_gives texts counts gives held words old new sent.0 is shelf_still sent.1, sent.2, sent.3)
+      ] refl
+
+passes : (texts : List NamedText) (words : List (List ℕ)) (sink : SinkSigns) (result : ℕ) → EndsWhole (CallsFor texts words) sink result → AsksForPassing texts words → result ≡ 0
+passes texts words sink result (reply, cause, grew, is) asks =
+    let replies = only (LoadsHeld texts) words asks.request tt tt reply asks.asked cause in
+    is ∙ completes asks.request asks.given reply.answer asks.passing
+    (held_decide texts side.Script (names asks.request) asks.given (TextsCallFor asks.request) reply.answer asks.held replies.calls)
+
+-- and its status is 0 where they are such
+pub settled_passes : (texts : Option (List NamedText)) (words : List (List ℕ)) (sink : SinkSigns) (result : ℕ) → IfSome texts (λ held. EndsWhole (CallsFor held words) sink result)
+    → IfSome texts (λ held. AsksForPassing held words → result ≡ 0)
+settled_passes None words sink result ends = tt
+settled_passes (Some texts) words sink result ends = passes texts words sink result ends

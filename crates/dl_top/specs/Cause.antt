@@ -1,86 +1,73 @@
--- Which reply comes when: what the words ask for, the texts that it is for, and then what these call for.
-use Rattle.std.specs.Prelude.{◌≡◌, ◌⊎◌, ℕ, ◌+◌, ◌<◌, List, [], ◌∷◌, Option, Some, Result, Ok, Err}
+-- Which reply comes when: what the words ask for, the loads of the texts that it is for, and then what these texts call for.
+use Rattle.std.specs.Prelude.{◌≡◌, ◌⊎◌, ℕ, IfOk, List, [], ◌∷◌, Option, Some, Result, Ok, Err}
 use Rattle.dl_limits.specs.declared.TheConstants.{MOST_BYTES}
 use Rattle.dl_outside.specs.declared.shelf.LoadFault.{LoadFault}
 use Rattle.dl_outside.specs.declared.shelf.LoadFault.TheVariants as load
 use Rattle.dl_outside.specs.declared.texts.NamedText.{NamedText}
-use Rattle.dl_outside.specs.Count.{HasRisen}
-use Rattle.dl_outside.specs.Load.{LoadAnswers}
+use Rattle.dl_outside.specs.Count.{Counts, NeverFall}
+use Rattle.dl_outside.specs.Load.{AnswersTold, LoadAnswers}
 use Rattle.dl_outside.specs.Texts.{text_of}
 use Rattle.command_words.specs.declared.request.Job.TheVariants.{Check}
 use Rattle.command_words.specs.declared.request.Request.{Request}
 use Rattle.command_words.specs.declared.request.Request.TheVariants as request
 use Rattle.command_words.specs.Request.{Asks, IsNoRequest, names, trial_of}
-use Rattle.report.specs.Points.{Point}
 use Rattle.report.specs.declared.answer.Answer.{Answer}
-use Rattle.report.specs.declared.answer.Answer.TheVariants.{Outside, Refused, Usage}
+use Rattle.report.specs.declared.answer.Answer.TheVariants.{NoProgram, Outside, Usage}
 use Rattle.report.specs.declared.answer.OutsideFault.TheVariants.{NotFound, NotRead}
-use Rattle.report.specs.declared.answer.Refusal.TheVariants.{TooLong}
 use Rattle.report.specs.declared.answer.Side.{Side}
 use Rattle.report.specs.declared.answer.Side.TheVariants as side
-use Rattle.dl_top.specs.Judgement.{TextCallsFor, TextsCompare}
+use Rattle.report.specs.declared.answer.TextFault.TheVariants.{TooLong}
+use Rattle.dl_top.specs.Judgement.{TextCallsFor, TextIsShown, TextsCompare}
 use Rattle.dl_top.specs.Reply.{plain, rule_of, trial_text}
 use Rattle.dl_top.specs.declared.reply.Reply.{Reply}
+
+-- What a shelf owes at a load: `texts`, `counts` and `gives` are what it tells.
+pub record IsLoad {S : Type 0} (texts : S → Option (List NamedText)) (counts : S → Counts) (gives : S → S → List ℕ → List ℕ → Type 0) (old new : S) (name : List ℕ) (result : Result (List ℕ) LoadFault) : Type 0 where
+  pub answers : LoadAnswers (texts old) (counts old) (counts new) name MOST_BYTES result
+  pub given : IfOk result (gives old new name)
+  pub texts_stay : texts new ≡ texts old
+  pub never_fall : NeverFall (counts old) (counts new)
 
 -- how it is told that the text of this side can't be loaded
 abbrev pub TellsLoad : Side → LoadFault → Answer → Type 0
 TellsLoad side load.Missing answer = answer ≡ Outside side NotFound
-TellsLoad side load.TooLong answer = answer ≡ Refused side TooLong
+TellsLoad side load.TooLong answer = answer ≡ NoProgram side TooLong
 TellsLoad side load.Failed answer = answer ≡ Outside side NotRead
 TellsLoad side load.NoMemory answer = ⊥
 
--- What the shelf did in the call: whether its count of faults rose, and whether it took more bytes than the limit of a script.
-pub record ShelfSigns : Type 1 where
-  pub rose : Type 0
-  pub took_more : Type 0
-
--- What its two counts tell of a call: the faults before and after it, and the bytes taken before and after it.
-abbrev pub shelf_signs : (faults_before faults_after taken_before taken_after : ℕ) → ShelfSigns
-shelf_signs faults_before faults_after taken_before taken_after = record {
-  rose = HasRisen faults_before faults_after;
-  took_more = taken_before + MOST_BYTES < taken_after;
-}
-
--- nothing rose
-abbrev pub quiet : ShelfSigns
-quiet = record { rose = ⊥; took_more = ⊥ }
-
--- what a load of a name may give, where the shelf holds these texts or tells none
-abbrev pub loads : Option (List NamedText) → ShelfSigns → List ℕ → Result (List ℕ) LoadFault → Type 0
-loads texts signs name = LoadAnswers texts name MOST_BYTES signs.rose signs.took_more
-
--- Texts are loaded by their names, one after another. The first is of this side, each other the specification. A text that can't be loaded is told; else
--- the texts decide. What rose in the call rose at the last of its loads.
-abbrev pub Loaded : Side → Option (List NamedText) → ShelfSigns → List (List ℕ) → (List (List ℕ) → Answer → Type 0) → Answer → Type 0
-Loaded first texts signs [] Then = Then []
-Loaded first texts signs (name ∷ []) Then =
-    Point (λ f. loads texts signs name (Err f)) (TellsLoad first) (λ text. loads texts signs name (Ok text)) (λ text. Then (text ∷ []))
-Loaded first texts signs (name ∷ next ∷ more) Then =
-    Point (λ f. loads texts signs name (Err f)) (TellsLoad first) (λ text. loads texts quiet name (Ok text)) (λ text.
-    Loaded side.Specification texts signs (next ∷ more) (λ others. Then (text ∷ others)))
-
 -- what the texts of a request call for
 abbrev pub TextsCallFor : Request → List (List ℕ) → Answer → Type 0
+TextsCallFor (request.Show name) (text ∷ []) answer = TextIsShown text answer
 TextsCallFor (request.Script job name) (text ∷ []) answer = TextCallsFor text job answer
 TextsCallFor (request.Trial trial) [] answer = TextCallsFor (trial_text trial) (Check (rule_of trial.family)) answer
 TextsCallFor (request.Conform script specification) (text ∷ other ∷ []) answer = TextsCompare text other answer
 TextsCallFor _ _ answer = ⊥
 
--- the reply to a request
-pub record Replies (texts : Option (List NamedText)) (signs : ShelfSigns) (request : Request) (reply : Reply) : Type 0 where
-  pub trial : reply.trial ≡ trial_of request
-  pub calls : Loaded side.Script texts signs (names request) (TextsCallFor request) reply.answer
+module _ {S : Type 0} (Loads : S → S → List ℕ → Result (List ℕ) LoadFault → Type 0) where
+  -- Texts are loaded by their names, one after another. The first is of this side, each other the specification. A text that can't be loaded is told; else
+  -- the texts decide.
+  abbrev pub Loaded : Side → S → S → List (List ℕ) → (List (List ℕ) → Answer → Type 0) → Answer → Type 0
+  Loaded this old new [] Then answer = (new ≡ old) × Then [] answer
+  Loaded this old new (name ∷ more) Then answer =
+      ((fault : LoadFault) × Loads old new name (Err fault) × TellsLoad this fault answer)
+      ⊎ ((text : List ℕ) × (between : S) × Loads old between name (Ok text) × Loaded side.Specification between new more (λ others. Then (text ∷ others)) answer)
 
--- The causes of a reply to words: they are no command, or ask for something. A fault of the shelf shows in its counts. Where the shelf tells no texts, any
--- other answer is what some texts call for.
-abbrev pub MayGive : Option (List NamedText) → List (List ℕ) → ShelfSigns → Reply → Type 0
-MayGive texts words signs reply =
-    (IsNoRequest words × (reply ≡ plain Usage))
-    ⊎ ((request : Request) × Asks words request × Replies texts signs request reply)
+  -- the reply to a request
+  pub record Replies (old new : S) (request : Request) (reply : Reply) : Type 0 where
+    pub trial : reply.trial ≡ trial_of request
+    pub calls : Loaded side.Script old new (names request) (TextsCallFor request) reply.answer
+
+  -- The causes of a reply to words: they are no command, or ask for something.
+  abbrev pub MayGive : List (List ℕ) → S → S → Reply → Type 0
+  MayGive words old new reply = (IsNoRequest words × (reply ≡ plain Usage)) ⊎ ((request : Request) × Asks words request × Replies old new request reply)
+
+-- a load of these texts without a fault of their shelf
+abbrev pub LoadsHeld : List NamedText → Unit {0} → Unit {0} → List ℕ → Result (List ℕ) LoadFault → Type 0
+LoadsHeld texts old new name result = AnswersTold texts name MOST_BYTES ⊥ result
 
 -- Where the shelf holds these texts and neither it nor the sink has a fault, this is the reply.
 abbrev pub CallsFor : List NamedText → List (List ℕ) → Reply → Type 0
-CallsFor texts words reply = MayGive (Some texts) words quiet reply
+CallsFor texts words reply = MayGive (LoadsHeld texts) words tt tt reply
 
 -- The texts hold those of all names, and every one that the words name.
 abbrev pub HoldsAll : List NamedText → List (List ℕ) → Type 0

@@ -1,4 +1,4 @@
--- The answer that the text of a script calls for.
+-- The answer for which texts call: why one of them spells no network, or what is decided of the networks that they spell.
 use Rattle.std.specs.Prelude.{◌≡◌, ◌⊎◌, ℕ, List}
 use Rattle.csp_base.specs.declared.place.Place.{Place}
 use Rattle.csp_text.specs.declared.script.Script.{Script}
@@ -13,14 +13,18 @@ use Rattle.tabulation.specs.Tabulated.{IsTabulated}
 use Rattle.network_stages.specs.Networks.{IsNetworkOf, Network}
 use Rattle.network_stages.specs.Stages.{HasNoNetwork}
 use Rattle.command_words.specs.declared.request.Job.{Job}
-use Rattle.command_words.specs.declared.request.Job.TheVariants.{Check, Livelock, Run, Show, Table}
-use Rattle.report.specs.Points.{RefusedOr}
+use Rattle.command_words.specs.declared.request.Job.TheVariants.{Check, Livelock, Run, Table}
 use Rattle.report.specs.declared.answer.Answer.{Answer}
-use Rattle.report.specs.declared.answer.Answer.TheVariants.{Done}
-use Rattle.report.specs.declared.answer.Done.TheVariants.{Shown}
-use Rattle.report.specs.declared.answer.Refusal.{Refusal}
-use Rattle.report.specs.declared.answer.Refusal.TheVariants.{NoScript}
+use Rattle.report.specs.declared.answer.Answer.TheVariants.{Decided, NoProgram, Shown}
+use Rattle.report.specs.declared.answer.Side.{Side}
 use Rattle.report.specs.declared.answer.Side.TheVariants as side
+use Rattle.report.specs.declared.answer.TextFault.TheVariants.{NoScript}
+use Rattle.report.specs.declared.answer.Verdict.{Verdict}
+
+-- The text spells this script and no other.
+pub record SpellsOnlyScript (text : List ℕ) (script : Script) : Type 0 where
+  pub spelled : Spells text script
+  pub only : (other : Script) → Spells text other → other ≡ script
 
 -- The text spells the network: the network of a script that it spells.
 pub record SpellsNetwork (text : List ℕ) (network : Network) : Type 0 where
@@ -28,40 +32,48 @@ pub record SpellsNetwork (text : List ℕ) (network : Network) : Type 0 where
   pub spelled : Spells text script
   pub is : IsNetworkOf script network
 
--- The text spells this script and no other.
-pub record SpellsOnlyScript (text : List ℕ) (script : Script) : Type 0 where
-  pub spelled : Spells text script
-  pub only : (other : Script) → Spells text other → other ≡ script
+-- The text spells this network and no other.
+pub record SpellsOnlyNetwork (text : List ℕ) (network : Network) : Type 0 where
+  pub spelled : SpellsNetwork text network
+  pub only : (other : Network) → SpellsNetwork text other → other ≡ network
 
--- The text spells no script; told is the place of its first piece that is no token, or that of a token or its end.
-abbrev pub HasNoScript : List ℕ → Refusal → Type 0
-HasNoScript text refusal = (at : Place) × ((script : Script) → Spells text script → ⊥) × IsPlaceOf text at × (refusal ≡ NoScript at)
+-- The text of this side spells no script; told is the place of its first piece that is no token, or that of a token or its end.
+pub record SpellsNoScript (side : Side) (text : List ℕ) (answer : Answer) : Type 0 where
+  pub none : (script : Script) → Spells text script → ⊥
+  pub at : Place
+  pub place : IsPlaceOf text at
+  pub told : answer ≡ NoProgram side (NoScript at)
 
--- what a script decides with which this is to be done, whatever text spells it
-abbrev pub ScriptDecides : Job → Script → Answer → Type 0
-ScriptDecides (Check rule) script answer = IsJudged script rule answer
-ScriptDecides Show script answer = answer ≡ Done (Shown (script_text script))
-ScriptDecides (Table i) script answer = IsTabulated script i answer
-ScriptDecides (Run seed steps) script answer = IsWalked script seed steps answer
-ScriptDecides (Livelock set) script answer = IsBounded script set answer
+-- The text of this side spells no script, or exactly one, which has no network; that is told.
+abbrev pub SpellsNoNetwork : Side → List ℕ → Answer → Type 0
+SpellsNoNetwork side text answer = SpellsNoScript side text answer ⊎ ((script : Script) × SpellsOnlyScript text script × HasNoNetwork side script answer)
 
--- A text is refused where it spells no script; else it spells exactly one, which decides.
+-- The text of this side spells no network, which is told; or exactly one, with which the answer comes.
+abbrev pub NetworkOr : Side → List ℕ → (Network → Answer → Type 0) → Answer → Type 0
+NetworkOr side text Then answer = SpellsNoNetwork side text answer ⊎ ((network : Network) × SpellsOnlyNetwork text network × Then network answer)
+
+-- there is such a verdict on the network, and it is told with the program of that
+abbrev pub IsDecided : Network → (Verdict → Type 0) → Answer → Type 0
+IsDecided network Decides answer = (verdict : Verdict) × Decides verdict × (answer ≡ Decided network.program verdict)
+
+-- what a network decides with which this is to be done
+abbrev pub NetworkDecides : Job → Network → Verdict → Type 0
+NetworkDecides (Check rule) network = IsJudged network rule
+NetworkDecides (Table i) network = IsTabulated network i
+NetworkDecides (Run seed steps) network = IsWalked network seed steps
+NetworkDecides (Livelock set) network = IsBounded network set
+
+-- the text of a script with which this is to be done
 abbrev pub TextCallsFor : List ℕ → Job → Answer → Type 0
-TextCallsFor text job answer = RefusedOr side.Script (HasNoScript text) (SpellsOnlyScript text) (ScriptDecides job) answer
+TextCallsFor text job answer = NetworkOr side.Script text (λ network. IsDecided network (NetworkDecides job network)) answer
 
--- the only script that the text spells has this network
-pub record HasNetwork (text : List ℕ) (network : Network) : Type 0 where
-  pub script : Script
-  pub only : SpellsOnlyScript text script
-  pub is : IsNetworkOf script network
+-- the text of a script that is to be shown
+abbrev pub TextIsShown : List ℕ → Answer → Type 0
+TextIsShown text answer = SpellsNoScript side.Script text answer ⊎ ((script : Script) × SpellsOnlyScript text script × (answer ≡ Shown (script_text script)))
 
--- the text spells no script, or the only script that it spells has no network
-abbrev pub SpellsNoNetwork : List ℕ → Refusal → Type 0
-SpellsNoNetwork text refusal = HasNoScript text refusal ⊎ ((script : Script) × SpellsOnlyScript text script × HasNoNetwork script refusal)
-
--- The text of a script, and then that of its specification, is refused where it spells no network; else these networks decide.
-unfoldable pub TextsCompare : List ℕ → List ℕ → Answer → Type 0
-TextsCompare text specification =
-    RefusedOr side.Script (SpellsNoNetwork text) (HasNetwork text) (λ network.
-    RefusedOr side.Specification (SpellsNoNetwork specification) (HasNetwork specification) (λ specified.
-    IsCompared network specified))
+-- the text of a script, and then that of its specification
+abbrev pub TextsCompare : List ℕ → List ℕ → Answer → Type 0
+TextsCompare text specification answer =
+    NetworkOr side.Script text (λ network.
+    NetworkOr side.Specification specification (λ specified.
+    IsDecided network (IsCompared network specified))) answer

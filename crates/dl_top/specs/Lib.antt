@@ -2,9 +2,9 @@ pub mod Cause
 pub mod Complete
 pub mod Ending
 pub mod Judgement
+pub mod Kept
 pub mod Printing
+pub mod Promised
 pub mod Proved
-pub mod Ranked
-pub mod Reply
-pub mod Bounded
 pub mod Ran
+pub mod Reply

@@ -1,17 +1,20 @@
-//! The answer to the text of a script.
+//! The answer to the text of a script, or to two texts.
 
-ghost use Rattle.std.specs.Prelude.{◌≡◌, ◌≤◌, IfErr, IfOk, length};
-ghost use Rattle.command_words.specs.declared.request.Job.TheVariants.{Check};
+ghost use Rattle.std.specs.Prelude.{◌≡◌, ◌≤◌, IfErr, IfOk, List, ℕ, false, length, true};
+ghost use Rattle.command_words.specs.declared.request.Job.TheVariants.{Check, Livelock, Run, Table};
+ghost use Rattle.csp_parser.specs.Spells.{Spells};
 ghost use Rattle.csp_tables.specs.declared.rule.Rule.{Rule as RuleValue};
-ghost use Rattle.network_stages.specs.Networks.{network_at};
+ghost use Rattle.csp_text.specs.declared.script.Script.{Script as ScriptValue};
 ghost use Rattle.report.specs.Report.{report_text, status};
-ghost use Rattle.report.specs.Stops.{Answers, Tells};
+ghost use Rattle.report.specs.Stops.{Answers, Ends, Tells};
 ghost use Rattle.script_sizes.specs.Size.{AreSmall};
 ghost use Rattle.dl_limits.specs.declared.TheConstants.{MOST_BYTES};
-ghost use Rattle.dl_top.specs.Complete.{SpellsPassing};
-ghost use Rattle.dl_top.specs.Judgement.{HasNetwork, HasNoScript, ScriptDecides, SpellsNoNetwork, SpellsOnlyScript, TextCallsFor, TextsCompare};
-ghost use Rattle.dl_top.specs.Printing.{SpecificationSpellsNoNetwork, no_script};
+ghost use Rattle.dl_top.specs.Complete.{SpellMatching, TextPasses};
+ghost use Rattle.dl_top.specs.Judgement.{NetworkDecides, SpellsNoNetwork, SpellsNoScript, SpellsOnlyNetwork, SpellsOnlyScript, TextCallsFor, TextIsShown, TextsCompare};
+ghost use Rattle.dl_top.specs.Printing.{no_script};
+ghost use Rattle.dl_top.specs.Promised.{SpellsBounded, SpellsConforming, SpellsShown, SpellsTable, TellsRank};
 ghost use Rattle.dl_top.specs.Proved.{SpellsDeadlockFree};
+ghost use Rattle.dl_top.specs.Ran.{SpellsRun};
 
 use command_words::Job;
 use comparison::compared;
@@ -22,61 +25,69 @@ use judgement::judged;
 use livelock::bounded;
 use network_stages::{Spelled, spell_network};
 use network_walks::walked;
-use report::{Answer, Done, Refusal, Side, Stop, finished, refused};
+use report::{Answer, Done, Side, Stop, TextFault, Verdict, ended, finished};
 use script_printer::print_script;
 use std::alloc::Global;
 use tabulation::tabulated;
 
-// Why a walk stops at a text that is no script.
-fn unread(fault: ParseFault) -> Stop<Refusal>
-    ensures { result ≡ no_script fault }
+// Why a walk stops at a text of this side that is no script.
+fn unread(side: Side, fault: ParseFault) -> Stop<Answer>
+    ensures { result ≡ no_script side fault }
 {
     match fault {
-        ParseFault::NoScript { at } => Stop::Told(Refusal::NoScript { at }),
+        ParseFault::NoScript { at } => {
+            Stop::Told(Answer::NoProgram(side, TextFault::NoScript { at }))
+        }
         ParseFault::NoMemory => Stop::NoMemory,
     }
 }
 
-// The only script that a text spells, which is small, or that it spells none.
-fn spell_script(alloc: Global, text: &[u8]) -> Result<Script, Stop<Refusal>>
+// The only script that the text of this side spells, which is small, or that it spells none.
+fn spell_script(alloc: Global, side: Side, text: &[u8]) -> Result<Script, Stop<Answer>>
     requires { length text.now ≤ MOST_BYTES }
     ensures small { IfOk result (λ script. AreSmall script.decls) }
     ensures ok { IfOk result (SpellsOnlyScript text.now) }
-    ensures told { IfErr result (Tells (HasNoScript text.now)) }
+    ensures told { IfErr result (Tells (SpellsNoScript side text.now)) }
 {
     match read(alloc, text) {
         Ok(script) => {
             each_text_spells_one_script();
             Ok(script)
         }
-        Err(fault) => Err(unread(fault)),
+        Err(fault) => Err(unread(side, fault)),
     }
 }
 
-// What a script decides, with which this is to be done.
-fn decided(alloc: Global, job: &Job, script: &Script) -> Result<Done, Stop<Answer>>
-    requires { AreSmall script.now.decls }
-    ensures { Answers (ScriptDecides job.now script.now) result }
+// The only network that the text of this side spells, or why it spells none.
+fn spell(alloc: Global, side: Side, text: &[u8]) -> Result<Spelled, Stop<Answer>>
+    requires { length text.now ≤ MOST_BYTES }
+    ensures ok { IfOk result (SpellsOnlyNetwork text.now) }
+    ensures told { IfErr result (Tells (SpellsNoNetwork side text.now)) }
+{
+    let script = spell_script(alloc, side, text)?;
+    spell_network(alloc, side, &script)
+}
+
+// What a network decides with which this is to be done.
+fn decided(alloc: Global, job: &Job, network: &Spelled) -> Result<Done, Stop<Verdict>>
+    ensures { Answers (NetworkDecides job.now network.now) result }
 {
     match job {
-        Job::Check(rule) => judged(alloc, *rule, script),
-        Job::Table(index) => tabulated(alloc, script, *index),
-        Job::Run { seed, steps } => walked(alloc, script, *seed, *steps),
-        Job::Livelock(set) => bounded(alloc, script, set.as_slice()),
-        Job::Show => {
-            let text = print_script(alloc, script)?;
-            Ok(Done::Shown { text })
-        }
+        Job::Check(rule) => judged(alloc, *rule, network),
+        Job::Table(index) => tabulated(alloc, *index, network),
+        Job::Run { seed, steps } => walked(alloc, network, *seed, *steps),
+        Job::Livelock(set) => bounded(alloc, network, set.as_slice()),
     }
 }
 
-// The walk from the text of a script to its answer.
-fn text_decided(alloc: Global, job: &Job, text: &[u8]) -> Result<Done, Stop<Answer>>
+// The walk from the text of a script to the answer.
+fn text_decided(alloc: Global, job: &Job, text: &[u8]) -> Result<Answer, Stop<Answer>>
     requires { length text.now ≤ MOST_BYTES }
-    ensures { Answers (TextCallsFor text.now job.now) result }
+    ensures { Ends (TextCallsFor text.now job.now) result }
 {
-    let script = spell_script(alloc, text)?;
-    decided(alloc, job, &script)
+    let network = spell(alloc, Side::Script, text)?;
+    let verdict = finished(decided(alloc, job, &network))?;
+    Ok(Answer::Decided(network.into_program(), verdict))
 }
 
 // The answer to which that walk comes.
@@ -84,62 +95,88 @@ fn called_for(alloc: Global, job: &Job, text: &[u8]) -> Result<Answer, NoMemory>
     requires { length text.now ≤ MOST_BYTES }
     ensures { IfOk result (TextCallsFor text.now job.now) }
 {
-    finished(text_decided(alloc, job, text))
+    ended(text_decided(alloc, job, text))
 }
 
-/// The answer that the text of a script calls for, with which this is to be done: what `dl_main` reports of a text that it loaded. The text has at most
-/// `MOST_BYTES` bytes (a longer one is refused where it is loaded).
+/// The answer that the text of a script calls for, with whose network this is to be done: what `dl_main` reports of a text that it loaded. The text has at
+/// most `MOST_BYTES` bytes (a longer one is refused where it is loaded).
 pub fn judge(alloc: Global, job: &Job, text: &[u8]) -> Result<Answer, NoMemory>
     requires { length text.now ≤ MOST_BYTES }
     ensures answer { IfOk result (TextCallsFor text.now job.now) }
 
     // The theorem: where a script is judged with status 0, its text spells exactly one network, which is free of deadlock.
-    ensures free { IfOk result (λ answer. (rule : RuleValue) → job.now ≡ Check rule → status answer ≡ 0 → SpellsDeadlockFree text.now rule (report_text answer)) }
+    ensures free { IfOk result (λ answer. (rule : RuleValue) → job.now ≡ Check rule → status answer ≡ 0
+        → SpellsDeadlockFree text.now rule (report_text answer)) }
 
-    // Completeness: a network within the limits that meets the rule is judged with status 0.
-    ensures complete { IfOk result (λ answer. (rule : RuleValue) → job.now ≡ Check rule → SpellsPassing text.now rule → status answer ≡ 0) }
+    // The network meets the rule, and the greatest rank in the report is its own by the rule.
+    ensures ranked { IfOk result (λ answer. (rule : RuleValue) → job.now ≡ Check rule → status answer ≡ 0
+        → TellsRank text.now rule (report_text answer)) }
+
+    // What the other commands promise.
+    ensures told { IfOk result (λ answer. (i : ℕ) → job.now ≡ Table i → status answer ≡ 0
+        → SpellsTable text.now i (report_text answer)) }
+    ensures ran { IfOk result (λ answer. (seed steps : ℕ) → job.now ≡ Run seed steps → status answer ≡ 0
+        → SpellsRun text.now seed steps false (report_text answer)) }
+    ensures stuck { IfOk result (λ answer. (seed steps : ℕ) → job.now ≡ Run seed steps → status answer ≡ 1
+        → SpellsRun text.now seed steps true (report_text answer)) }
+    ensures bounded { IfOk result (λ answer. (set : List ℕ) → job.now ≡ Livelock set → status answer ≡ 0
+        → SpellsBounded text.now set (report_text answer)) }
+
+    // Completeness: the status is 0 wherever it may be, within the limits: where the network meets the rule, where the component has a table, where there is
+    // a bound.
+    ensures complete { IfOk result (λ answer. TextPasses job.now text.now → status answer ≡ 0) }
 {
     called_for(alloc, job, text)
 }
 
-// The network of the script that a text spells.
-fn spell(alloc: Global, text: &[u8]) -> Result<Spelled, Stop<Refusal>>
+// The walk from the text of a script to its printed text.
+fn text_shown(alloc: Global, text: &[u8]) -> Result<Answer, Stop<Answer>>
     requires { length text.now ≤ MOST_BYTES }
-    ensures ok { IfOk result (λ network. HasNetwork text.now (network_at network)) }
-    ensures told { IfErr result (Tells (SpellsNoNetwork text.now)) }
+    ensures { Ends (TextIsShown text.now) result }
 {
-    let script = spell_script(alloc, text)?;
-    spell_network(alloc, &script)
+    let script = spell_script(alloc, Side::Script, text)?;
+    let text = print_script(alloc, &script)?;
+    Ok(Answer::Shown { text })
 }
 
-// The network of the specification that a text spells.
-fn spell_specification(alloc: Global, text: &[u8]) -> Result<Spelled, Stop<Answer>>
+/// The answer to the text of a script that is to be shown. It has at most `MOST_BYTES` bytes.
+pub fn show(alloc: Global, text: &[u8]) -> Result<Answer, NoMemory>
     requires { length text.now ≤ MOST_BYTES }
-    ensures ok { IfOk result (λ network. HasNetwork text.now (network_at network)) }
-    ensures told { IfErr result (Tells (SpecificationSpellsNoNetwork text.now)) }
+    ensures answer { IfOk result (TextIsShown text.now) }
+
+    // With status 0 the text spells exactly one script, and the report is the printed text of that, which spells it again and no other.
+    ensures shown { IfOk result (λ answer. status answer ≡ 0 → SpellsShown text.now (report_text answer)) }
+
+    // And so it comes wherever the text spells a script.
+    ensures complete { IfOk result (λ answer. (script : ScriptValue) → Spells text.now script → status answer ≡ 0) }
 {
-    match spell(alloc, text) {
-        Ok(network) => Ok(network),
-        Err(stop) => Err(refused(Side::Specification, stop)),
-    }
+    ended(text_shown(alloc, text))
 }
 
-// The walk from the texts of a script and its specification to their answer.
-fn compared_texts(alloc: Global, text: &[u8], specification: &[u8]) -> Result<Done, Stop<Answer>>
+// The walk from the texts of a script and its specification to the answer.
+fn compared_texts(alloc: Global, text: &[u8], specification: &[u8]) -> Result<Answer, Stop<Answer>>
     requires text { length text.now ≤ MOST_BYTES }
     requires specification { length specification.now ≤ MOST_BYTES }
-    ensures { Answers (TextsCompare text.now specification.now) result }
+    ensures { Ends (TextsCompare text.now specification.now) result }
 {
-    let network = spell(alloc, text)?;
-    let specified = spell_specification(alloc, specification)?;
-    compared(alloc, &network, &specified)
+    let network = spell(alloc, Side::Script, text)?;
+    let specified = spell(alloc, Side::Specification, specification)?;
+    let verdict = finished(compared(alloc, &network, &specified))?;
+    Ok(Answer::Decided(network.into_program(), verdict))
 }
 
 /// The answer that the texts of a script and of its specification call for. Each has at most `MOST_BYTES` bytes.
 pub fn judge_pair(alloc: Global, text: &[u8], specification: &[u8]) -> Result<Answer, NoMemory>
     requires text { length text.now ≤ MOST_BYTES }
     requires specification { length specification.now ≤ MOST_BYTES }
-    ensures { IfOk result (TextsCompare text.now specification.now) }
+    ensures answer { IfOk result (TextsCompare text.now specification.now) }
+
+    // With status 0 the network of the script matches that of the specification, and is live where that is.
+    ensures conformed { IfOk result (λ answer. status answer ≡ 0
+        → SpellsConforming text.now specification.now (report_text answer)) }
+
+    // And so it comes wherever both networks are within the limits and match.
+    ensures matching { IfOk result (λ answer. SpellMatching text.now specification.now → status answer ≡ 0) }
 {
-    finished(compared_texts(alloc, text, specification))
+    ended(compared_texts(alloc, text, specification))
 }

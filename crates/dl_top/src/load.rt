@@ -1,150 +1,130 @@
-//! From the words to the reply: the script is loaded, or made for a trial, and judged.
+//! From the words to the reply: texts are loaded, or made for a trial, and judged.
 
-ghost use Rattle.std.specs.Prelude.{◌≡◌, ◌≤◌, [], None, Some, IfOk, length};
-ghost use Rattle.command_words.specs.declared.request.Job.TheVariants.{Check};
+ghost use Rattle.std.specs.Prelude.{◌≡◌, ◌≤◌, ◌∷◌, [], Err, IfErr, IfOk, Ok, OnOk, length};
 ghost use Rattle.command_words.specs.declared.request.Request.TheVariants as asking;
+ghost use Rattle.command_words.specs.declared.request.Trial.{Trial as TrialValue};
 ghost use Rattle.command_words.specs.Request.{NamesNoScript, names};
-ghost use Rattle.dl_top.specs.Cause.{MayGive, Replies, TellsLoad, shelf_signs};
-ghost use Rattle.dl_top.specs.Judgement.{TextCallsFor, TextsCompare};
-ghost use Rattle.dl_top.specs.Printing.{AnswersLast, Prints};
-ghost use Rattle.dl_top.specs.Reply.{rule_of as family_rule, trial_text};
+ghost use Rattle.dl_limits.specs.declared.TheConstants.{MOST_BYTES};
+ghost use Rattle.dl_outside.specs.Count.{NeverFall};
+ghost use Rattle.dl_outside.specs.declared.shelf.LoadFault.{LoadFault as FaultValue};
+ghost use Rattle.report.specs.Stops.{Ends, Tells};
+ghost use Rattle.report.specs.declared.answer.Side.TheVariants as side;
+ghost use Rattle.dl_top.specs.Cause.{IsLoad, Loaded, MayGive, TellsLoad, TextsCallFor};
+ghost use Rattle.dl_top.specs.Printing.{IsUnloaded, Prints};
 
-use crate::judge::{judge, judge_pair};
+use crate::judge::{judge, judge_pair, show};
 use crate::reply::{Printed, Reply, print, rule_of};
 use command_words::{Job, Request, Trial, Words, asked};
-use csp_base::NoMemory;
+use csp_base::{Bytes, NoMemory};
 use dl_limits::MOST_BYTES;
 use dl_outside::{LoadFault, Shelf};
 use net_maker::family_script;
-use report::{Answer, OutsideFault, Refusal, Side};
+use report::{Answer, OutsideFault, Side, Stop, TextFault, ended};
 use std::alloc::Global;
 
-// An answer that is of no trial.
-fn plain(answer: Answer) -> Reply
-    ensures { result ≡ record { trial = None; answer = answer } }
-{
-    Reply {
-        trial: None,
-        answer,
-    }
-}
-
-// The reply where the text of this side can't be loaded.
-fn unloaded(side: Side, fault: LoadFault) -> Result<Reply, NoMemory>
-    ensures { IfOk result (λ reply. (reply.trial ≡ None) × TellsLoad side fault reply.answer) }
+// How it is told that the text of this side can't be loaded.
+fn unloaded(side: Side, fault: LoadFault) -> Stop<Answer>
+    ensures { Tells (TellsLoad side fault) result }
 {
     match fault {
-        LoadFault::Missing => Ok(plain(Answer::Outside(side, OutsideFault::NotFound))),
-        LoadFault::TooLong => Ok(plain(Answer::Refused(side, Refusal::TooLong))),
-        LoadFault::Failed => Ok(plain(Answer::Outside(side, OutsideFault::NotRead))),
-        LoadFault::NoMemory => Err(NoMemory),
+        LoadFault::Missing => Stop::Told(Answer::Outside(side, OutsideFault::NotFound)),
+        LoadFault::TooLong => Stop::Told(Answer::NoProgram(side, TextFault::TooLong)),
+        LoadFault::Failed => Stop::Told(Answer::Outside(side, OutsideFault::NotRead)),
+        LoadFault::NoMemory => Stop::NoMemory,
     }
 }
 
-// The reply that the text of a script calls for.
-fn replied(alloc: Global, trial: Option<Trial>, job: &Job, text: &[u8]) -> Result<Reply, NoMemory>
-    requires { length text.now ≤ MOST_BYTES }
-    ensures { IfOk result (λ reply. (reply.trial ≡ trial) × TextCallsFor text.now job.now reply.answer) }
+// The text of this side, which has this name.
+fn load<S: Shelf>(
+    alloc: Global,
+    side: Side,
+    name: &[u8],
+    shelf: &mut S,
+) -> Result<Bytes, Stop<Answer>>
+    ensures ok { IfOk result (λ text. IsLoad S.texts S.counts S.gives shelf.old shelf.new name.now (Ok text)) }
+    ensures short { IfOk result (λ text. length text ≤ MOST_BYTES) }
+    ensures told { IfErr result (Tells (IsUnloaded (IsLoad S.texts S.counts S.gives shelf.old shelf.new name.now) side)) }
+    ensures texts_stay { S.texts shelf.new ≡ S.texts shelf.old }
+    ensures never_fall { NeverFall (S.counts shelf.old) (S.counts shelf.new) }
 {
-    match judge(alloc, job, text) {
-        Ok(answer) => Ok(Reply { trial, answer }),
-        Err(fault) => Err(fault),
+    match shelf.load(alloc, name, MOST_BYTES) {
+        Ok(text) => Ok(text),
+        Err(fault) => Err(unloaded(side, fault)),
     }
 }
 
-// The reply to a trial.
-fn tried(alloc: Global, trial: Trial) -> Result<Reply, NoMemory>
-    ensures { IfOk result (λ reply. (reply.trial ≡ Some trial) × TextCallsFor (trial_text trial) (Check (family_rule trial.family)) reply.answer) }
+// The answer to a request to show the script of this name.
+fn shown<S: Shelf>(alloc: Global, name: &[u8], shelf: &mut S) -> Result<Answer, Stop<Answer>>
+    ensures calls { Ends (Loaded (IsLoad S.texts S.counts S.gives) side.Script shelf.old shelf.new
+        (name.now ∷ []) (TextsCallFor (asking.Show name.now))) result }
+    ensures texts_stay { S.texts shelf.new ≡ S.texts shelf.old }
+    ensures never_fall { NeverFall (S.counts shelf.old) (S.counts shelf.new) }
 {
-    let text = family_script(alloc, trial.family, trial.size)?;
-    replied(
-        alloc,
-        Some(trial),
-        &Job::Check(rule_of(trial.family)),
-        text.as_slice(),
-    )
+    let text = load(alloc, Side::Script, name, shelf)?;
+    let answer = show(alloc, text.as_slice())?;
+    Ok(answer)
 }
 
-// The reply to a request for the script of this name.
+// The answer to a request to do this with the network of the script of this name.
 fn scripted<S: Shelf>(
     alloc: Global,
     job: &Job,
     name: &[u8],
     shelf: &mut S,
-) -> Result<Reply, NoMemory>
-    ensures cause { IfOk result (Replies (S.texts shelf.old)
-        (shelf_signs (S.faults shelf.old) (S.faults shelf.new) (S.taken shelf.old) (S.taken shelf.new)) (asking.Script job.now name.now)) }
+) -> Result<Answer, Stop<Answer>>
+    ensures calls { Ends (Loaded (IsLoad S.texts S.counts S.gives) side.Script shelf.old shelf.new
+        (name.now ∷ []) (TextsCallFor (asking.Script job.now name.now))) result }
     ensures texts_stay { S.texts shelf.new ≡ S.texts shelf.old }
-    ensures faults_never_fall { S.faults shelf.old ≤ S.faults shelf.new }
-    ensures taken_never_falls { S.taken shelf.old ≤ S.taken shelf.new }
+    ensures never_fall { NeverFall (S.counts shelf.old) (S.counts shelf.new) }
 {
-    match shelf.load(alloc, name, MOST_BYTES) {
-        Ok(text) => replied(alloc, None, job, text.as_slice()),
-        Err(fault) => unloaded(Side::Script, fault),
-    }
+    let text = load(alloc, Side::Script, name, shelf)?;
+    let answer = judge(alloc, job, text.as_slice())?;
+    Ok(answer)
 }
 
-// The reply for which the texts of a script and its specification call.
-fn compared_reply(alloc: Global, text: &[u8], specification: &[u8]) -> Result<Reply, NoMemory>
-    requires text { length text.now ≤ MOST_BYTES }
-    requires specification { length specification.now ≤ MOST_BYTES }
-    ensures { IfOk result (λ reply. (reply.trial ≡ None) × TextsCompare text.now specification.now reply.answer) }
-{
-    let answer = judge_pair(alloc, text, specification)?;
-    Ok(plain(answer))
-}
-
-// The reply to a request for the script of the first name and the specification of the second.
+// The answer to a request to hold the script of the first name against the specification of the second.
 fn conforming<S: Shelf>(
     alloc: Global,
     script: &[u8],
     specification: &[u8],
     shelf: &mut S,
-) -> Result<Reply, NoMemory>
-    ensures cause { IfOk result (Replies (S.texts shelf.old)
-        (shelf_signs (S.faults shelf.old) (S.faults shelf.new) (S.taken shelf.old) (S.taken shelf.new)) (asking.Conform script.now specification.now)) }
+) -> Result<Answer, Stop<Answer>>
+    ensures calls { Ends (Loaded (IsLoad S.texts S.counts S.gives) side.Script shelf.old shelf.new
+        (script.now ∷ specification.now ∷ []) (TextsCallFor (asking.Conform script.now specification.now))) result }
     ensures texts_stay { S.texts shelf.new ≡ S.texts shelf.old }
-    ensures faults_never_fall { S.faults shelf.old ≤ S.faults shelf.new }
-    ensures taken_never_falls { S.taken shelf.old ≤ S.taken shelf.new }
+    ensures never_fall { NeverFall (S.counts shelf.old) (S.counts shelf.new) }
 {
-    match shelf.load(alloc, script, MOST_BYTES) {
-        Ok(text) => against(alloc, text.as_slice(), specification, shelf),
-        Err(fault) => unloaded(Side::Script, fault),
-    }
+    let text = load(alloc, Side::Script, script, shelf)?;
+    let other = load(alloc, Side::Specification, specification, shelf)?;
+    let answer = judge_pair(alloc, text.as_slice(), other.as_slice())?;
+    Ok(answer)
 }
 
-// The same, where the text of the script is there.
-fn against<S: Shelf>(
+// The answer to a trial.
+fn tried(alloc: Global, trial: Trial) -> Result<Answer, Stop<Answer>>
+    ensures { Ends (TextsCallFor (asking.Trial trial) []) result }
+{
+    let text = family_script(alloc, trial.family, trial.size)?;
+    let answer = judge(alloc, &Job::Check(rule_of(trial.family)), text.as_slice())?;
+    Ok(answer)
+}
+
+// The answer to a request. Nothing is loaded where it names no script.
+fn answered<S: Shelf>(
     alloc: Global,
-    text: &[u8],
-    specification: &[u8],
+    request: &Request,
     shelf: &mut S,
-) -> Result<Reply, NoMemory>
-    requires { length text.now ≤ MOST_BYTES }
-    ensures cause { IfOk result (AnswersLast (S.texts shelf.old)
-        (shelf_signs (S.faults shelf.old) (S.faults shelf.new) (S.taken shelf.old) (S.taken shelf.new)) specification.now (TextsCompare text.now)) }
+) -> Result<Answer, Stop<Answer>>
+    ensures calls { Ends (Loaded (IsLoad S.texts S.counts S.gives) side.Script shelf.old shelf.new
+        (names request.now) (TextsCallFor request.now)) result }
+    ensures untouched { names request.now ≡ [] → shelf.new ≡ shelf.old }
     ensures texts_stay { S.texts shelf.new ≡ S.texts shelf.old }
-    ensures faults_never_fall { S.faults shelf.old ≤ S.faults shelf.new }
-    ensures taken_never_falls { S.taken shelf.old ≤ S.taken shelf.new }
-{
-    match shelf.load(alloc, specification, MOST_BYTES) {
-        Ok(other) => compared_reply(alloc, text, other.as_slice()),
-        Err(fault) => unloaded(Side::Specification, fault),
-    }
-}
-
-// The reply to a request. Nothing is loaded where it names no script.
-fn requested<S: Shelf>(alloc: Global, request: Request, shelf: &mut S) -> Result<Reply, NoMemory>
-    ensures cause { IfOk result (Replies (S.texts shelf.old)
-        (shelf_signs (S.faults shelf.old) (S.faults shelf.new) (S.taken shelf.old) (S.taken shelf.new)) request) }
-    ensures untouched { names request ≡ [] → shelf.new ≡ shelf.old }
-    ensures texts_stay { S.texts shelf.new ≡ S.texts shelf.old }
-    ensures faults_never_fall { S.faults shelf.old ≤ S.faults shelf.new }
-    ensures taken_never_falls { S.taken shelf.old ≤ S.taken shelf.new }
+    ensures never_fall { NeverFall (S.counts shelf.old) (S.counts shelf.new) }
 {
     match request {
-        Request::Trial(trial) => tried(alloc, trial),
-        Request::Script(job, name) => scripted(alloc, &job, name.as_slice(), shelf),
+        Request::Show(name) => shown(alloc, name.as_slice(), shelf),
+        Request::Script(job, name) => scripted(alloc, job, name.as_slice(), shelf),
+        Request::Trial(trial) => tried(alloc, *trial),
         Request::Conform(script, specification) => {
             conforming(alloc, script.as_slice(), specification.as_slice(), shelf)
         }
@@ -153,17 +133,22 @@ fn requested<S: Shelf>(alloc: Global, request: Request, shelf: &mut S) -> Result
 
 // The reply to the words. Nothing is loaded where they name no script.
 fn reply_to<S: Shelf>(alloc: Global, words: &Words, shelf: &mut S) -> Result<Reply, NoMemory>
-    ensures cause { IfOk result (MayGive (S.texts shelf.old) words.now
-        (shelf_signs (S.faults shelf.old) (S.faults shelf.new) (S.taken shelf.old) (S.taken shelf.new))) }
+    ensures cause { IfOk result (MayGive (IsLoad S.texts S.counts S.gives) words.now shelf.old shelf.new) }
     ensures untouched { NamesNoScript words.now → shelf.new ≡ shelf.old }
     ensures texts_stay { S.texts shelf.new ≡ S.texts shelf.old }
-    ensures faults_never_fall { S.faults shelf.old ≤ S.faults shelf.new }
-    ensures taken_never_falls { S.taken shelf.old ≤ S.taken shelf.new }
+    ensures never_fall { NeverFall (S.counts shelf.old) (S.counts shelf.new) }
 {
     let found = asked(alloc, words)?;
-    match found {
-        None => Ok(plain(Answer::Usage)),
-        Some(request) => requested(alloc, request, shelf),
+    let Some(request) = found else {
+        return Ok(Reply {
+            trial: None,
+            answer: Answer::Usage,
+        });
+    };
+    let trial = request.trial();
+    match ended(answered(alloc, &request, shelf)) {
+        Ok(answer) => Ok(Reply { trial, answer }),
+        Err(error) => Err(error),
     }
 }
 
@@ -173,15 +158,13 @@ pub(crate) fn printed_reply<S: Shelf>(
     words: &Words,
     shelf: &mut S,
 ) -> Result<Printed, NoMemory>
-    ensures prints { IfOk result (Prints (MayGive (S.texts shelf.old) words.now
-        (shelf_signs (S.faults shelf.old) (S.faults shelf.new) (S.taken shelf.old) (S.taken shelf.new)))) }
+    ensures prints { IfOk result (Prints (MayGive (IsLoad S.texts S.counts S.gives) words.now shelf.old shelf.new)) }
     ensures untouched { NamesNoScript words.now → shelf.new ≡ shelf.old }
     ensures texts_stay { S.texts shelf.new ≡ S.texts shelf.old }
-    ensures faults_never_fall { S.faults shelf.old ≤ S.faults shelf.new }
-    ensures taken_never_falls { S.taken shelf.old ≤ S.taken shelf.new }
+    ensures never_fall { NeverFall (S.counts shelf.old) (S.counts shelf.new) }
 {
     match reply_to(alloc, words, shelf) {
         Ok(reply) => print(alloc, &reply),
-        Err(fault) => Err(fault),
+        Err(error) => Err(error),
     }
 }

@@ -10,12 +10,12 @@ use Rattle.csp_base.proofs.Listed.{has_first}
 use Rattle.std.proofs.lemmas.Option.{none-some, slice_get_within}
 use Rattle.csp_tables.specs.Label.{Label}
 use Rattle.csp_tables.specs.Network.{Component}
-use Rattle.hidden_steps.specs.Order.{AreTaken, IsAmong, Taken, hidden_bound}
+use Rattle.hidden_steps.specs.Order.{AreTaken, HasNoOrder, IsAmong, IsOrder, hidden_bound}
 use Rattle.own_graphs.specs.Exact.{AreOpen}
-use Rattle.hidden_bounds.specs.Found.{HasNoOrder, IsBound, TellsLoop}
+use Rattle.hidden_bounds.specs.Found.{IsBound, TellsLoop}
 use Rattle.hidden_bounds.specs.Standings.{IsSoFar, IsTakenAll, IsTakenFar, left_from, standing_at}
 use Rattle.hidden_bounds.specs.Sums.{TellsSum}
-use Rattle.hidden_bounds.specs.Taking.{IsOrder, taken_in}
+use Rattle.hidden_bounds.specs.Taking.{taken_in}
 use Rattle.hidden_bounds.specs.declared.bounding.HiddenBound.{HiddenBound}
 use Rattle.hidden_bounds.specs.declared.bounding.LoopFault.{LoopFault}
 use Rattle.hidden_bounds.specs.declared.bounding.LoopFault.TheVariants as fault
@@ -24,7 +24,7 @@ use Rattle.hidden_bounds.specs.declared.standings.Standing.{Standing}
 use Rattle.hidden_bounds.specs.declared.standings.Standing.TheVariants as standing
 use Rattle.hidden_bounds.proofs.Known.{none_is_free}
 use Rattle.hidden_bounds.proofs.Left.{left_increases, listed_at, stands_at}
-use Rattle.hidden_bounds.proofs.Taken.{none_taken}
+use Rattle.hidden_bounds.proofs.Taken.{as_told, none_taken}
 
 by_taken : (s : Standing) (P : Type 0) → (s ≡ standing.Taken → P) → (s ≢ standing.Taken → P) → P
 by_taken standing.Unknown P f g = g (λ h. cc)
@@ -46,21 +46,21 @@ first_of (p ∷ rest) some = (p, has_first p rest)
 
 module _ {T : Type 0} (Step : T → Label → T → Type 0) (hidden : List ℕ) (cs : List (Component T)) where
   -- the fault of a sum
-  sum_told : (order : List Placed) (f : LoopFault) → IsOrder Step hidden cs order → TellsSum hidden cs order f → TellsLoop Step hidden cs f
+  sum_told : (order : List Placed) (f : LoopFault) → IsOrder Step hidden cs (taken_in cs order) → TellsSum hidden cs order f → TellsLoop Step hidden cs f
   sum_told order fault.NoMemory all tells = tt
   sum_told order (fault.NoOrder parts) all tells = absurd tells
-  sum_told order (fault.BoundLimit part) all tells = record { order = order; all = all; passes = tells }
+  sum_told order (fault.BoundLimit part) all tells = record { order = taken_in cs order; is = all; passes = tells }
 
   -- before the first is taken
   pub nothing_taken : (left : List ℕ) (n : ℕ) → left ≡ hidden → n ≡ length cs → IsSoFar Step hidden cs [] left (replicate n standing.Unknown)
   nothing_taken left n is many =
       let unknown : (i : ℕ) → standing_at (replicate n standing.Unknown) i ≡ standing.Unknown = λ i. all_unknown n i in
       record {
-        taken = subst (AreTaken Step hidden cs) (sym (none_taken hidden cs)) tt;
+        taken = subst (AreTaken Step hidden cs) (sym (none_taken cs)) tt;
         within = λ k p at. absurd (none-some p at);
-        open_ = subst (λ ts. AreOpen hidden ts left) (sym (none_taken hidden cs)) (λ e. ap (λ (es : List ℕ). has es e) is ∙ no_passed (has hidden e));
+        open_ = subst (λ ts. AreOpen hidden ts left) (sym (none_taken cs)) (λ e. ap (λ (es : List ℕ). has es e) is ∙ no_passed (has hidden e));
         one_each = length-replicate n standing.Unknown ∙ many;
-        marked = λ i among. absurd (subst (IsAmong i) (none_taken hidden cs) among);
+        marked = λ i among. absurd (subst (IsAmong i) (none_taken cs) among);
         among = λ i h. let no : standing.Unknown ≡ standing.Taken = sym (unknown i) ∙ h in absurd (cc no);
         round = λ i c at h. let no : standing.Unknown ≡ standing.Round = sym (unknown i) ∙ h in absurd (cc no);
       }
@@ -79,7 +79,7 @@ module _ {T : Type 0} (Step : T → Label → T → Type 0) (hidden : List ℕ) 
         within = so_far.within;
         none_free = none_is_free Step hidden cs order all.left ss so_far all.known;
         each = λ i within.
-            by_taken (standing_at ss i) (IsAmong i (taken_in hidden cs order) ⊎ IsTrue (has (left_from 0 ss) i)) (λ is. inl (so_far.among i is))
+            by_taken (standing_at ss i) (IsAmong i (taken_in cs order) ⊎ IsTrue (has (left_from 0 ss) i)) (λ is. inl (so_far.among i is))
             (λ waits. inr (ap (has (left_from 0 ss)) (omega arith) ∙ listed_at 0 ss i (subst (λ n. i < n) (sym so_far.one_each) within) waits));
         left = λ i listed.
             let r = stands_at 0 ss i listed in
@@ -89,10 +89,10 @@ module _ {T : Type 0} (Step : T → Label → T → Type 0) (hidden : List ℕ) 
       }
 
   module _ (order : List Placed) (parts : List ℕ) (far : IsTakenFar Step hidden cs order parts) where
-    pub all_are_taken : parts ≡ [] → IsOrder Step hidden cs order
+    pub all_are_taken : parts ≡ [] → IsOrder Step hidden cs (taken_in cs order)
     all_are_taken none = record {
       taken = far.taken;
-      all = λ i c at. elim (far.each i (slice_get_within cs i c at)) as (λ _. IsAmong i (taken_in hidden cs order)) [
+      all = λ i c at. elim (far.each i (slice_get_within cs i c at)) as (λ _. IsAmong i (taken_in cs order)) [
         | inl among ↦ among
         | inr listed ↦ let no : false ≡ true = ap (λ (xs : List ℕ). has xs i) (sym none) ∙ listed in absurd (false≢true no)
       ];
@@ -100,7 +100,7 @@ module _ {T : Type 0} (Step : T → Label → T → Type 0) (hidden : List ℕ) 
 
     pub some_are_left : (empty : Bool) → IsTrue empty ↔ (parts ≡ []) → empty ≡ false → HasNoOrder Step hidden cs parts
     some_are_left empty is filled = record {
-      taken = taken_in hidden cs order;
+      taken = taken_in cs order;
       are = far.taken;
       none_free = far.none_free;
       left = λ i. (far.left i, λ both. elim (far.each i both.0) as (λ _. IsTrue (has parts i)) [ inl among ↦ absurd (both.1 among) | inr listed ↦ listed ]);
@@ -110,10 +110,12 @@ module _ {T : Type 0} (Step : T → Label → T → Type 0) (hidden : List ℕ) 
 
   -- a bound that is told, and a fault
   pub bound_told : (order : List Placed) (parts : List ℕ) (found : HiddenBound) (empty : Bool) → IsTakenFar Step hidden cs order parts → IsTrue empty ↔ (parts ≡ []) → empty ≡ true → found.order ≡ order
-      → found.bound ≡ hidden_bound (taken_in hidden cs order) → IsBound Step hidden cs found
+      → found.bound ≡ hidden_bound hidden (taken_in cs order) → IsBound Step hidden cs found
   bound_told order parts found empty far is none same sum_is = record {
-    order = subst (IsOrder Step hidden cs) (sym same) (all_are_taken order parts far (is.0 none));
-    bound = sum_is ∙ ap (λ (o : List Placed). hidden_bound (taken_in hidden cs o)) (sym same);
+    order = taken_in cs order;
+    is = all_are_taken order parts far (is.0 none);
+    told = same ∙ as_told cs order;
+    bound = sum_is;
   }
 
   pub fault_told : {A : Type 0} (r : Result A LoopFault) (order : List Placed) (parts : List ℕ) (f : LoopFault) (empty : Bool) → IsErrAnd r (λ t. t ≡ f) → IsTakenFar Step hidden cs order parts

@@ -13,7 +13,7 @@ use Rattle.csp_tables.specs.Network.{Component}
 use Rattle.hidden_steps.specs.Order.{AreTaken, GoesRound, IsAmong, IsNext, Taken, is_passed}
 use Rattle.own_graphs.specs.Exact.{AreOpen}
 use Rattle.hidden_bounds.specs.Standings.{AreKnown, AreReopened, IsLeastFree, IsSoFar, StayKnown, one_waiting, reopened_to, standing_at, waiting}
-use Rattle.hidden_bounds.specs.Taking.{alphabet_at, alphabet_of, placed_after, taken_in}
+use Rattle.hidden_bounds.specs.Taking.{alphabet_at, alphabet_of, taken_at, taken_in}
 use Rattle.hidden_bounds.specs.declared.ordering.Placed.{Placed}
 use Rattle.hidden_bounds.specs.declared.standings.Standing.{Standing}
 use Rattle.hidden_bounds.specs.declared.standings.Standing.TheVariants as standing
@@ -105,11 +105,11 @@ then_known a b c h k = record { known = λ i x. k.known i (h.known i x); waits =
 module _ {T : Type 0} (Step : T → Label → T → Type 0) (hidden : List ℕ) (cs : List (Component T)) (order : List Placed) (left : List ℕ) (ss : List Standing)
     (so_far : IsSoFar Step hidden cs order left ss) where
   -- a component of which something is known is taken or goes round
-  pub known_other : (j : ℕ) (d : Component T) → slice_get cs j ≡ Some d → standing_at ss j ≢ standing.Unknown → IsAmong j (taken_in hidden cs order) ⊎ GoesRound Step hidden (taken_in hidden cs order) d
-  known_other j d there known = by_standing (standing_at ss j) (IsAmong j (taken_in hidden cs order) ⊎ GoesRound Step hidden (taken_in hidden cs order) d) known
+  pub known_other : (j : ℕ) (d : Component T) → slice_get cs j ≡ Some d → standing_at ss j ≢ standing.Unknown → IsAmong j (taken_in cs order) ⊎ GoesRound Step hidden (taken_in cs order) d
+  known_other j d there known = by_standing (standing_at ss j) (IsAmong j (taken_in cs order) ⊎ GoesRound Step hidden (taken_in cs order) d) known
       (λ is. inr (so_far.round j d there is)) (λ is. inl (so_far.among j is))
 
-  pub one_round : (i : ℕ) (c : Component T) → i < length ss → standing_at ss i ≡ standing.Unknown → slice_get cs i ≡ Some c → GoesRound Step hidden (taken_in hidden cs order) c
+  pub one_round : (i : ℕ) (c : Component T) → i < length ss → standing_at ss i ≡ standing.Unknown → slice_get cs i ≡ Some c → GoesRound Step hidden (taken_in cs order) c
       → IsSoFar Step hidden cs order left (set ss i standing.Round)
   one_round i c within unknown at round = record {
     taken = so_far.taken;
@@ -129,7 +129,7 @@ module _ {T : Type 0} (Step : T → Label → T → Type 0) (hidden : List ℕ) 
       | inr other ↦ so_far.among j (sym (get_or-set_other ss i j standing.Round standing.Unknown other) ∙ is)
     ];
     round = λ j d there is. elim (cases_eq j i) [
-      | inl here ↦ subst (GoesRound Step hidden (taken_in hidden cs order)) (same_Some c d (sym at ∙ ap (slice_get cs) (sym here) ∙ there)) round
+      | inl here ↦ subst (GoesRound Step hidden (taken_in cs order)) (same_Some c d (sym at ∙ ap (slice_get cs) (sym here) ∙ there)) round
       | inr other ↦ so_far.round j d there (sym (get_or-set_other ss i j standing.Round standing.Unknown other) ∙ is)
     ];
   }
@@ -140,10 +140,10 @@ module _ {T : Type 0} (Step : T → Label → T → Type 0) (hidden : List ℕ) 
       (left_is : rest ≡ diff_of left (alphabet_at cs p.part)) (as_many : length after ≡ length ss)
       (reopened : AreReopened cs (inter_of hidden (alphabet_at cs p.part)) (set ss p.part standing.Taken) after) where
     abbrev before : List Taken
-    before = taken_in hidden cs order
+    before = taken_in cs order
 
-    now : taken_in hidden cs (order ++ p ∷ []) ≡ placed_after hidden cs before p ∷ before
-    now = one_taken hidden cs order p
+    now : taken_in cs (order ++ p ∷ []) ≡ taken_at cs p ∷ before
+    now = one_taken cs order p
 
     here : p.part < length ss
     here = subst (λ n. p.part < n) (sym so_far.one_each) least.within
@@ -159,30 +159,29 @@ module _ {T : Type 0} (Step : T → Label → T → Type 0) (hidden : List ℕ) 
         reopened j (subst (λ n. j < n) (sym (length-set ss p.part standing.Taken)) within)
         ∙ ap (λ s. reopened_to s (meets_of (alphabet_at cs j) (inter_of hidden (alphabet_at cs p.part)))) (get_or-set_other ss p.part j standing.Taken standing.Unknown other)
 
-    next : (c : Component T) → slice_get cs p.part ≡ Some c → IsNext Step hidden cs before (placed_after hidden cs before p)
+    next : (c : Component T) → slice_get cs p.part ≡ Some c → IsNext Step hidden cs before (taken_at cs p)
     next c at = record {
       component = c;
       at = at;
       alphabet = ap alphabet_of (sym at);
       height = least.free.height c at;
-      bound = refl;
       new = λ among.
           let no : standing.Unknown ≡ standing.Taken = sym least.free.waits ∙ so_far.marked p.part among in
           cc no;
-      least = λ j d below there. known_other j d there (least.least j below);
+      least = λ j below d there. known_other j d there (least.least j below);
     }
 
     -- what was said of the list with one more, of the one before
-    moved : (P : List Taken → Type 0) → P (placed_after hidden cs before p ∷ before) → P (taken_in hidden cs (order ++ p ∷ []))
+    moved : (P : List Taken → Type 0) → P (taken_at cs p ∷ before) → P (taken_in cs (order ++ p ∷ []))
     moved P h = subst P (sym now) h
 
-    back : (P : List Taken → Type 0) → P (taken_in hidden cs (order ++ p ∷ [])) → P (placed_after hidden cs before p ∷ before)
+    back : (P : List Taken → Type 0) → P (taken_in cs (order ++ p ∷ [])) → P (taken_at cs p ∷ before)
     back P h = subst P now h
 
     not_part : (j : ℕ) → standing_at ss j ≢ standing.Unknown → j ≢ p.part
     not_part j known same = known (ap (standing_at ss) same ∙ least.free.waits)
 
-    marked_now : (j : ℕ) → IsAmong j (placed_after hidden cs before p ∷ before) → standing_at after j ≡ standing.Taken
+    marked_now : (j : ℕ) → IsAmong j (taken_at cs p ∷ before) → standing_at after j ≡ standing.Taken
     marked_now j (inl same) = ap (standing_at after) (sym same) ∙ at_part
     marked_now j (inr among) =
         let was : standing_at ss j ≡ standing.Taken = so_far.marked j among in
@@ -192,23 +191,23 @@ module _ {T : Type 0} (Step : T → Label → T → Type 0) (hidden : List ℕ) 
     within_ss : (j : ℕ) → standing_at after j ≢ standing.Unknown → j < length ss
     within_ss j known = subst (λ n. j < n) as_many (known_within after j known)
 
-    among_now : (j : ℕ) → standing_at after j ≡ standing.Taken → IsAmong j (placed_after hidden cs before p ∷ before)
-    among_now j is = elim (cases_eq j p.part) as (λ _. IsAmong j (placed_after hidden cs before p ∷ before)) [
+    among_now : (j : ℕ) → standing_at after j ≡ standing.Taken → IsAmong j (taken_at cs p ∷ before)
+    among_now j is = elim (cases_eq j p.part) as (λ _. IsAmong j (taken_at cs p ∷ before)) [
       | inl same ↦ inl (sym same)
       | inr other ↦
           let known : standing_at after j ≢ standing.Unknown = λ no. taken_unknown (sym is ∙ no) in
           inr (so_far.among j (reopened_taken (standing_at ss j) _ (sym (at_other j other (within_ss j known)) ∙ is)))
     ]
 
-    round_now : (j : ℕ) (d : Component T) → slice_get cs j ≡ Some d → standing_at after j ≡ standing.Round → GoesRound Step hidden (placed_after hidden cs before p ∷ before) d
+    round_now : (j : ℕ) (d : Component T) → slice_get cs j ≡ Some d → standing_at after j ≡ standing.Round → GoesRound Step hidden (taken_at cs p ∷ before) d
     round_now j d there is =
         let other : j ≢ p.part = λ same. taken_round (sym at_part ∙ ap (standing_at after) (sym same) ∙ is) in
         let known : standing_at after j ≢ standing.Unknown = λ no. round_unknown (sym is ∙ no) in
         let was = reopened_round (standing_at ss j) _ (sym (at_other j other (within_ss j known)) ∙ is) in
         let apart : meets_of d.alphabet (inter_of hidden (alphabet_at cs p.part)) ≡ false = ap (λ a. meets_of a (inter_of hidden (alphabet_at cs p.part))) (ap alphabet_of (sym there)) ∙ was.1 in
-        round_kept Step hidden before (placed_after hidden cs before p) d apart (so_far.round j d there was.0)
+        round_kept Step hidden before (taken_at cs p) d apart (so_far.round j d there was.0)
 
-    open_now : AreOpen hidden (placed_after hidden cs before p ∷ before) rest
+    open_now : AreOpen hidden (taken_at cs p ∷ before) rest
     open_now e =
         ap (λ (es : List ℕ). has es e) left_is ∙ has-diff_of left (alphabet_at cs p.part) e ∙ ap (λ b. b && not (has (alphabet_at cs p.part) e)) (so_far.open_ e)
         ∙ and_not_or (has hidden e) (is_passed before e) (has (alphabet_at cs p.part) e)
@@ -234,7 +233,7 @@ module _ {T : Type 0} (Step : T → Label → T → Type 0) (hidden : List ℕ) 
         omega arith
 
   -- the end: where something is known of each component, those that are not taken go round
-  pub none_is_free : AreKnown ss → (i : ℕ) (c : Component T) → slice_get cs i ≡ Some c → IsAmong i (taken_in hidden cs order) ⊎ GoesRound Step hidden (taken_in hidden cs order) c
+  pub none_is_free : AreKnown ss → (i : ℕ) (c : Component T) → slice_get cs i ≡ Some c → IsAmong i (taken_in cs order) ⊎ GoesRound Step hidden (taken_in cs order) c
   none_is_free known i c at =
       let within : i < length cs = slice_get_within cs i c at in
       known_other i c at (known i (subst (λ n. i < n) (sym so_far.one_each) within))

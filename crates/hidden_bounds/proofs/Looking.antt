@@ -41,7 +41,7 @@ module _ (p : Content) (hidden : List ℕ) (cs : List (Component Proc)) (ts : Li
       height = λ c at.
           let own = subst (λ (x : ComponentTable). IsOwnHeight x.local.table left height) (sym is) read in
           let has = has_table i c t inside at is in
-          own_heights_are_exact (ProcessStep p) hidden left (taken_in hidden cs order) c has.1.table.terms t.local.table height so_far.open_ has.1.table.table own;
+          own_heights_are_exact (ProcessStep p) hidden left (taken_in cs order) c has.1.table.terms t.local.table height so_far.open_ has.1.table.table own;
     }
 
     pub is_round : GoesRoundItself (get_or ts i t).local.table left → IsSoFar (ProcessStep p) hidden cs order left (set ss i standing.Round)
@@ -50,4 +50,4 @@ module _ (p : Content) (hidden : List ℕ) (cs : List (Component Proc)) (ts : Li
         let c = slice_get_some cs i inside in
         let has = has_table i c.0 t inside c.1 is in
         one_round (ProcessStep p) hidden cs order left ss so_far i c.0 within unknown c.1
-        (own_circles_are_exact (ProcessStep p) hidden left (taken_in hidden cs order) c.0 has.1.table.terms t.local.table so_far.open_ has.1.table.table own)
+        (own_circles_are_exact (ProcessStep p) hidden left (taken_in cs order) c.0 has.1.table.terms t.local.table so_far.open_ has.1.table.table own)

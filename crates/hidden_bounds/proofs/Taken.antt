@@ -1,9 +1,9 @@
 -- Components that are taken one after another: one more, and what stays as it was.
-use Rattle.std.proofs.Common.{◌≡◌, ◌≢◌, ℕ, zero, suc, ◌+◌, ◌<◌, true, false, ◌&&◌, List, [], ◌∷◌, ◌++◌, length, take, get_or, add-one, refl, sym, ap, ap₂, ◌∙◌, inl, inr}
+use Rattle.std.proofs.Common.{◌≡◌, ℕ, zero, suc, ◌+◌, ◌<◌, true, false, ◌&&◌, List, [], ◌∷◌, ◌++◌, length, take, drop, map, reverse, get_or, add-one, refl, sym, ap, ap₂, ◌∙◌, inl, inr}
 use Rattle.std.specs.Cmp.{first_so, second_so}
 use Rattle.std.proofs.Math.Seq.{take-suc}
 use Rattle.std.proofs.lemmas.Bool.{cases_Bool, false≢true, or_from}
-use Rattle.std.proofs.lemmas.List.Sums.{fold_push}
+use Rattle.std.proofs.lemmas.List.{map-append, reverse-append, reverse-reverse, take-append-drop}
 use Rattle.csp_base.specs.Events.{inter_of, meets_of}
 use Rattle.csp_base.specs.Members.{has}
 use Rattle.csp_base.proofs.Booleans.{same_tests}
@@ -17,25 +17,42 @@ use Rattle.digraph.specs.Walk.{Walk}
 use Rattle.hidden_steps.specs.Order.{GoesRound, OwnStep, Taken, is_passed, share_hidden}
 use Rattle.net_sound.proofs.FlatLists.{step_alphabet}
 use Rattle.net_sound.proofs.Soundness.{path_alphabet}
-use Rattle.hidden_bounds.specs.Taking.{placed_after, taken_in, with_placed}
+use Rattle.hidden_bounds.specs.Found.{placed}
+use Rattle.hidden_bounds.specs.Taking.{taken_at, taken_in}
 use Rattle.hidden_bounds.specs.declared.ordering.Placed.{Placed}
 
 -- ---- one more
 
-module _ {T : Type 0} (hidden : List ℕ) (cs : List (Component T)) where
-  pub none_taken : taken_in hidden cs [] ≡ []
+module _ {T : Type 0} (cs : List (Component T)) where
+  pub none_taken : taken_in cs [] ≡ []
   unfolding taken_in
   none_taken = refl
 
-  pub one_taken : (order : List Placed) (p : Placed) → taken_in hidden cs (order ++ p ∷ []) ≡ placed_after hidden cs (taken_in hidden cs order) p ∷ taken_in hidden cs order
+  pub one_taken : (order : List Placed) (p : Placed) → taken_in cs (order ++ p ∷ []) ≡ taken_at cs p ∷ taken_in cs order
   unfolding taken_in
-  one_taken order p = fold_push (with_placed hidden cs) [] order p
+  one_taken order p = ap (map (taken_at cs)) (reverse-append order (p ∷ []))
 
   pub next_taken : (order : List Placed) (k : ℕ) (d : Placed) → k < length order
-      → taken_in hidden cs (take (k + 1) order) ≡ placed_after hidden cs (taken_in hidden cs (take k order)) (get_or order k d) ∷ taken_in hidden cs (take k order)
+      → taken_in cs (take (k + 1) order) ≡ taken_at cs (get_or order k d) ∷ taken_in cs (take k order)
   next_taken order k d within =
       let grown : take k order ++ get_or order k d ∷ [] ≡ take (k + 1) order = rw (add-one) (sym (take-suc order k d within)) in
-      ap (taken_in hidden cs) (sym grown) ∙ one_taken (take k order) (get_or order k d)
+      ap (taken_in cs) (sym grown) ∙ one_taken (take k order) (get_or order k d)
+
+  -- those of the first places, and those taken after them
+  pub taken_split : (k : ℕ) (order : List Placed) → taken_in cs order ≡ taken_in cs (drop k order) ++ taken_in cs (take k order)
+  unfolding taken_in
+  taken_split k order =
+      ap (λ xs. map (taken_at cs) (reverse xs)) (sym (take-append-drop k order)) ∙ ap (map (taken_at cs)) (reverse-append (take k order) (drop k order))
+      ∙ map-append (taken_at cs) (reverse (drop k order)) (reverse (take k order))
+
+  as_placed : (xs : List Placed) → map placed (map (taken_at cs) xs) ≡ xs
+  as_placed [] = refl
+  as_placed (x ∷ xs) = ap (λ ys. x ∷ ys) (as_placed xs)
+
+  -- told from the first one on, they are the list
+  pub as_told : (order : List Placed) → order ≡ reverse (map placed (taken_in cs order))
+  unfolding taken_in
+  as_told order = sym (ap reverse (as_placed (reverse order)) ∙ reverse-reverse order)
 
 -- ---- hidden events in common
 

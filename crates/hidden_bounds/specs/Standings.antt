@@ -71,18 +71,18 @@ AreReopened cs events old new = (i : ℕ) → i < length old → standing_at new
 module _ {T : Type 0} (Step : T → Label → T → Type 0) (hidden : List ℕ) (cs : List (Component T)) where
   -- components were taken in this order, these hidden events are left, and what is known is true
   pub record IsSoFar (order : List Placed) (left : List ℕ) (standings : List Standing) : Type 0 where
-    pub taken : AreTaken Step hidden cs (taken_in hidden cs order)
+    pub taken : AreTaken Step hidden cs (taken_in cs order)
     pub within : AreWithin (length cs) order
-    pub open_ : AreOpen hidden (taken_in hidden cs order) left
+    pub open_ : AreOpen hidden (taken_in cs order) left
     pub one_each : length standings ≡ length cs
-    pub marked : (i : ℕ) → IsAmong i (taken_in hidden cs order) → standing_at standings i ≡ standing.Taken
-    pub among : (i : ℕ) → standing_at standings i ≡ standing.Taken → IsAmong i (taken_in hidden cs order)
-    pub round : (i : ℕ) (c : Component T) → slice_get cs i ≡ Some c → standing_at standings i ≡ standing.Round → GoesRound Step hidden (taken_in hidden cs order) c
+    pub marked : (i : ℕ) → IsAmong i (taken_in cs order) → standing_at standings i ≡ standing.Taken
+    pub among : (i : ℕ) → standing_at standings i ≡ standing.Taken → IsAmong i (taken_in cs order)
+    pub round : (i : ℕ) (c : Component T) → slice_get cs i ≡ Some c → standing_at standings i ≡ standing.Round → GoesRound Step hidden (taken_in cs order) c
 
   -- the component with the number i is free over those that were taken in this order, which was not known
   pub record IsFreeHere (order : List Placed) (standings : List Standing) (i n : ℕ) : Type 0 where
     pub waits : standing_at standings i ≡ standing.Unknown
-    pub height : (c : Component T) → slice_get cs i ≡ Some c → IsHeight Step hidden (taken_in hidden cs order) c n
+    pub height : (c : Component T) → slice_get cs i ≡ Some c → IsHeight Step hidden (taken_in cs order) c n
 
   -- it is the least one
   pub record IsLeastFree (order : List Placed) (standings : List Standing) (p : Placed) : Type 0 where
@@ -98,9 +98,9 @@ module _ {T : Type 0} (Step : T → Label → T → Type 0) (hidden : List ℕ) 
 
   -- Components are taken in this order as long as one is free, and those are left.
   pub record IsTakenFar (order : List Placed) (parts : List ℕ) : Type 0 where
-    pub taken : AreTaken Step hidden cs (taken_in hidden cs order)
+    pub taken : AreTaken Step hidden cs (taken_in cs order)
     pub within : AreWithin (length cs) order
-    pub none_free : (i : ℕ) (c : Component T) → slice_get cs i ≡ Some c → IsAmong i (taken_in hidden cs order) ⊎ GoesRound Step hidden (taken_in hidden cs order) c
-    pub each : (i : ℕ) → i < length cs → IsAmong i (taken_in hidden cs order) ⊎ IsTrue (has parts i)
-    pub left : (i : ℕ) → IsTrue (has parts i) → (i < length cs) × (IsAmong i (taken_in hidden cs order) → ⊥)
+    pub none_free : (i : ℕ) (c : Component T) → slice_get cs i ≡ Some c → IsAmong i (taken_in cs order) ⊎ GoesRound Step hidden (taken_in cs order) c
+    pub each : (i : ℕ) → i < length cs → IsAmong i (taken_in cs order) ⊎ IsTrue (has parts i)
+    pub left : (i : ℕ) → IsTrue (has parts i) → (i < length cs) × (IsAmong i (taken_in cs order) → ⊥)
     pub rising : IsStrictlyIncreasing parts

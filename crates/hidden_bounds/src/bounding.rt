@@ -38,6 +38,7 @@ impl Drop for HiddenBound {
 }
 
 /// Why no bound is told.
+#[derive(Drop)]
 pub enum LoopFault {
     /// Memory ran out.
     NoMemory,
@@ -51,17 +52,6 @@ pub enum LoopFault {
         /// The component in the order at which they first do.
         part: u32,
     },
-}
-
-// By hand, so that a crate that ends one calls this and proves no end of its own.
-impl Drop for LoopFault {
-    fn drop(self) {
-        match self {
-            LoopFault::NoMemory => {}
-            LoopFault::NoOrder { parts: _parts } => {}
-            LoopFault::BoundLimit { part: _part } => {}
-        }
-    }
 }
 
 impl From<NoMemory> for LoopFault {
@@ -94,7 +84,7 @@ fn shared_bounds(
     requires fewer { length bounds.now ≤ length order.now }
     requires bounds { AreBounds scope.now.hidden.now scope.now.seats.now order.now bounds.now }
     requires fits { sum_before scope.now.hidden.now scope.now.seats.now order.now (length bounds.now) < 2 ^ 64 }
-    ensures { IfOk result (λ total. total ≡ meant.shared_bounds scope.now.hidden.now (alphabet_at scope.now.seats.now part) (taken_in scope.now.hidden.now scope.now.seats.now (take (length bounds.now) order.now))) }
+    ensures { IfOk result (λ total. total ≡ meant.shared_bounds scope.now.hidden.now (alphabet_at scope.now.seats.now part) (taken_in scope.now.seats.now (take (length bounds.now) order.now))) }
 {
     let events = hidden_of(scope, part)?;
     let mut total = 0;
@@ -139,7 +129,7 @@ fn next_sum(
     requires bounds { AreBounds scope.now.hidden.now scope.now.seats.now order.now bounds.now }
     requires total { total ≡ sum_before scope.now.hidden.now scope.now.seats.now order.now (length bounds.now) }
     ensures some { IfOk result (λ found. IfSome found (λ made. IsNextSum scope.now.hidden.now scope.now.seats.now order.now (length bounds.now) made.0 made.1)) }
-    ensures none { IfOk result (λ found. IfNone found ((p : PlacedValue) → slice_get order.now (length bounds.now) ≡ Some p → PassesAt scope.now.hidden.now scope.now.seats.now order.now p.part)) }
+    ensures none { IfOk result (λ found. IfNone found ((p : PlacedValue) → slice_get order.now (length bounds.now) ≡ Some p → PassesAt scope.now.hidden.now (taken_in scope.now.seats.now order.now) p.part)) }
 {
     let placed = order[bounds.len()];
     let shared = shared_bounds(scope, order, bounds, placed.part)?;
@@ -160,7 +150,7 @@ fn add(bounds: &mut Vec<u64>, bound: u64) -> Result<(), NoMemory>
 // The bounds of all components in their order, added up.
 fn add_up(scope: &Scope<'_>, order: &[Placed]) -> Result<u64, LoopFault>
     requires within { AreWithin (length scope.now.seats.now) order.now }
-    ensures total { IfOk result (λ total. total ≡ meant.hidden_bound (taken_in scope.now.hidden.now scope.now.seats.now order.now)) }
+    ensures total { IfOk result (λ total. total ≡ meant.hidden_bound scope.now.hidden.now (taken_in scope.now.seats.now order.now)) }
     ensures told { IfErr result (TellsSum scope.now.hidden.now scope.now.seats.now order.now) }
 {
     let mut bounds = Vec::new(scope.alloc);

@@ -1,5 +1,5 @@
 -- The bounds of the taken components, by induction over the order.
-use Rattle.std.proofs.Common.{◌≡◌, ◌≤◌, ◌<◌, ◌+◌, ◌*◌, ℕ, zero, suc, inl, inr, List, [], ◌∷◌, Some, slice_get, length, Bool, true, false, ◌&&◌, ◌||◌, not, nat_eq, IsTrue, if◌then◌else◌, refl, sym, ap, ap₂, subst, ◌∙◌, arith}
+use Rattle.std.proofs.Common.{◌≡◌, ◌≤◌, ◌+◌, ◌*◌, ℕ, zero, suc, inl, inr, List, [], ◌∷◌, Some, slice_get, length, Bool, true, false, ◌&&◌, ◌||◌, not, nat_eq, IsTrue, if◌then◌else◌, refl, sym, ap, subst, ◌∙◌, arith}
 use Rattle.std.proofs.Math.Nat.{mul-le-mul_left}
 use Rattle.std.proofs.lemmas.Bool.{cases_Bool, cond-true, cond-false, false≢true, or_left, or_right}
 use Rattle.std.proofs.lemmas.Bool.Decides.{nat_tests}
@@ -7,7 +7,9 @@ use Rattle.std.proofs.lemmas.List.{length-map}
 use Rattle.std.proofs.lemmas.Option.{none-some, same_Some}
 use Rattle.digraph.specs.Walk.{Walk}
 use Rattle.csp_base.specs.Members.{has}
+use Rattle.csp_base.proofs.Booleans.{and_false, is_and}
 use Rattle.csp_base.proofs.Listed.{any_of}
+use Rattle.csp_base.proofs.Lists.{slice_get_some}
 use Rattle.csp_tables.specs.Flat.{in_some_component, FlatStep}
 use Rattle.csp_tables.specs.Label.{Label}
 use Rattle.csp_tables.specs.Label.Label.{silent, visible}
@@ -21,17 +23,13 @@ use Rattle.net_sound.proofs.Flattening.{forth, kept}
 use Rattle.net_sound.proofs.Local.{AllAfter, all_after, run_forth, run_kept}
 use Rattle.net_sound.proofs.Soundness.{path_alphabet}
 use Rattle.hidden_steps.specs.Bounded.{HiddenStep, HiddenStepsAreBounded}
-use Rattle.hidden_steps.specs.Order.{AllAreTaken, AreTaken, IsAmong, IsNext, Taken, hidden_bound, is_passed, share_hidden, shared_bounds}
+use Rattle.hidden_steps.specs.Order.{AreTaken, IsAmong, IsNext, IsOrder, Taken, bound_over, hidden_bound, is_passed, share_hidden, shared_bounds}
 use Rattle.hidden_steps.proofs.Counting.{count, count_all, count_le, count_le_sum, count_none, one, Each}
 use Rattle.hidden_steps.proofs.Moves.{Along, AllAlong, AreMoves, Move, has_moves, moves_along}
 use Rattle.hidden_steps.proofs.Moves.Move.{event, quiet}
 use Rattle.hidden_steps.proofs.Own.{AreHidden, Walked, is_foreign, is_own, own_moves}
 
 -- ---- tests
-
-and_false : (x : Bool) → x && false ≡ false
-and_false true = refl
-and_false false = refl
 
 split_parts : (x y z : Bool) → one (x && (y || z)) ≤ one (y && not z) + one (x && z)
 split_parts true true true = omega arith
@@ -53,9 +51,6 @@ or_parts true true = omega arith
 or_parts true false = omega arith
 or_parts false y = omega arith
 
-both_true : (x y : Bool) → x ≡ true → y ≡ true → x && y ≡ true
-both_true x y h k = ap₂ (λ a b. a && b) h k
-
 first_true : (y z : Bool) → y || z ≡ true → z ≡ false → y ≡ true
 first_true true z h k = refl
 first_true false z h k = absurd (false≢true (sym k ∙ h))
@@ -66,25 +61,13 @@ second_true false z h k = h
 
 -- ---- sums
 
-added_up : (x y own rest more : ℕ) → x ≤ own + rest → y ≡ own → rest ≤ more → x ≤ y + more
-added_up x y own rest more h e k = omega arith
-
-sums : (a b c d : ℕ) → a ≤ b → c ≤ d → a + c ≤ b + d
-sums a b c d h k = omega arith
-
-three : (own product bound : ℕ) → 0 + own ≤ product → product ≤ bound → own ≤ bound
-three own product bound h k = omega arith
+added_up : (x own rest bound more : ℕ) → x ≤ own + rest → own ≤ bound → rest ≤ more → x ≤ bound + more
+added_up x own rest bound more h k l = omega arith
 
 -- ---- components
 
 as_many_alphabets : {T : Type 0} (cs ds : List (Component T)) → alphabets cs ≡ alphabets ds → length cs ≡ length ds
 as_many_alphabets cs ds h = sym (length-map cs (λ c. c.alphabet)) ∙ ap length h ∙ length-map ds (λ c. c.alphabet)
-
--- there is one in each place of a list
-there : {X : Type 0} (xs : List X) (i : ℕ) → i < length xs → (x : X) × (slice_get xs i ≡ Some x)
-there [] i h = absurd (omega arith)
-there (x ∷ xs) zero h = (x, refl)
-there (x ∷ xs) (suc i) h = there xs i (omega arith)
 
 -- a component that has the event
 owner : {T : Type 0} (cs : List (Component T)) (e : ℕ) → IsTrue (in_some_component cs e) → (i : ℕ) × (c : Component T) × (slice_get cs i ≡ Some c) × (has c.alphabet e ≡ true)
@@ -99,11 +82,6 @@ owner (c ∷ cs) e h =
 
 -- ---- shared moves
 
--- how many moves belong to those taken that share a hidden event with the alphabet
-abbrev shared_own : List ℕ → List ℕ → List Taken → List Move → ℕ
-shared_own hidden a [] ms = 0
-shared_own hidden a (t ∷ ts) ms = (if share_hidden hidden a t.alphabet then count (is_own t.part t.alphabet ts) ms else 0) + shared_own hidden a ts ms
-
 -- a hidden event of both is shared
 not_shared : (hidden a b : List ℕ) (e : ℕ) → IsTrue (has hidden e) → share_hidden hidden a b ≡ false → has a e && has b e ≡ false
 not_shared hidden a b e h apart =
@@ -117,10 +95,10 @@ none_foreign a [] = tt
 none_foreign a (quiet j ∷ ms) = (refl, none_foreign a ms)
 none_foreign a (event e ∷ ms) = (and_false (has a e), none_foreign a ms)
 
-each_split : (i : ℕ) (a : List ℕ) (t : Taken) (ts : List Taken) (ms : List Move) → Each (λ m. one (is_foreign a (t ∷ ts) m) ≤ one (is_own t.part t.alphabet ts m) + one (is_foreign a ts m)) ms
-each_split i a t ts [] = tt
-each_split i a t ts (quiet j ∷ ms) = (omega arith, each_split i a t ts ms)
-each_split i a t ts (event e ∷ ms) = (split_parts (has a e) (has t.alphabet e) (is_passed ts e), each_split i a t ts ms)
+each_split : (a : List ℕ) (t : Taken) (ts : List Taken) (ms : List Move) → Each (λ m. one (is_foreign a (t ∷ ts) m) ≤ one (is_own t.part t.alphabet ts m) + one (is_foreign a ts m)) ms
+each_split a t ts [] = tt
+each_split a t ts (quiet j ∷ ms) = (omega arith, each_split a t ts ms)
+each_split a t ts (event e ∷ ms) = (split_parts (has a e) (has t.alphabet e) (is_passed ts e), each_split a t ts ms)
 
 each_apart : (hidden a : List ℕ) (t : Taken) (ts : List Taken) (ms : List Move) → share_hidden hidden a t.alphabet ≡ false → AreHidden hidden ms → Each (λ m. one (is_foreign a (t ∷ ts) m) ≤ one (is_foreign a ts m)) ms
 each_apart hidden a t ts [] apart h = tt
@@ -128,44 +106,31 @@ each_apart hidden a t ts (quiet j ∷ ms) apart h = (omega arith, each_apart hid
 each_apart hidden a t ts (event e ∷ ms) apart h =
     (apart_parts (has a e) (has t.alphabet e) (is_passed ts e) (not_shared hidden a t.alphabet e h.0 apart), each_apart hidden a t ts ms apart h.1)
 
-foreign_le : (hidden a : List ℕ) (ts : List Taken) (ms : List Move) → AreHidden hidden ms → count (is_foreign a ts) ms ≤ shared_own hidden a ts ms
-foreign_le hidden a [] ms h = let none : count (is_foreign a []) ms ≡ 0 = count_none (is_foreign a []) ms (none_foreign a ms) in omega arith
-foreign_le hidden a (t ∷ ts) ms h =
-    let rest : count (is_foreign a ts) ms ≤ shared_own hidden a ts ms = foreign_le hidden a ts ms h in
+-- each taken component has at most as many moves as its bound says
+abbrev AllBounded : List ℕ → List Taken → List Move → Type 0
+AllBounded hidden [] ms = Unit {0}
+AllBounded hidden (t ∷ ts) ms = (count (is_own t.part t.alphabet ts) ms ≤ bound_over hidden ts t) × AllBounded hidden ts ms
+
+-- so the moves that one of them takes part in are no more than those bounds that it shares
+foreign_le : (hidden a : List ℕ) (ts : List Taken) (ms : List Move) → AreHidden hidden ms → AllBounded hidden ts ms → count (is_foreign a ts) ms ≤ shared_bounds hidden a ts
+foreign_le hidden a [] ms h k = let none : count (is_foreign a []) ms ≡ 0 = count_none (is_foreign a []) ms (none_foreign a ms) in omega arith
+foreign_le hidden a (t ∷ ts) ms h k =
+    let rest : count (is_foreign a ts) ms ≤ shared_bounds hidden a ts = foreign_le hidden a ts ms h k.1 in
     elim (cases_Bool (share_hidden hidden a t.alphabet)) [
       | inl shares ↦
-          let here : count (is_foreign a (t ∷ ts)) ms ≤ count (is_own t.part t.alphabet ts) ms + count (is_foreign a ts) ms = count_le_sum (is_foreign a (t ∷ ts)) (is_own t.part t.alphabet ts) (is_foreign a ts) ms (each_split 0 a t ts ms) in
-          let is : (if share_hidden hidden a t.alphabet then count (is_own t.part t.alphabet ts) ms else 0) ≡ count (is_own t.part t.alphabet ts) ms = cond-true (share_hidden hidden a t.alphabet) (count (is_own t.part t.alphabet ts) ms) 0 shares in
-          added_up (count (is_foreign a (t ∷ ts)) ms) _ (count (is_own t.part t.alphabet ts) ms) (count (is_foreign a ts) ms) (shared_own hidden a ts ms) here is rest
+          let here : count (is_foreign a (t ∷ ts)) ms ≤ count (is_own t.part t.alphabet ts) ms + count (is_foreign a ts) ms = count_le_sum (is_foreign a (t ∷ ts)) (is_own t.part t.alphabet ts) (is_foreign a ts) ms (each_split a t ts ms) in
+          let is : (if share_hidden hidden a t.alphabet then bound_over hidden ts t else 0) ≡ bound_over hidden ts t = cond-true (share_hidden hidden a t.alphabet) (bound_over hidden ts t) 0 shares in
+          subst (λ n. count (is_foreign a (t ∷ ts)) ms ≤ n + shared_bounds hidden a ts) (sym is)
+          (added_up (count (is_foreign a (t ∷ ts)) ms) (count (is_own t.part t.alphabet ts) ms) (count (is_foreign a ts) ms) (bound_over hidden ts t) (shared_bounds hidden a ts) here k.0 rest)
       | inr none ↦
           let here : count (is_foreign a (t ∷ ts)) ms ≤ count (is_foreign a ts) ms = count_le (is_foreign a (t ∷ ts)) (is_foreign a ts) ms (each_apart hidden a t ts ms none h) in
-          let more : count (is_foreign a (t ∷ ts)) ms ≤ 0 + count (is_foreign a ts) ms = omega arith in
-          let is : (if share_hidden hidden a t.alphabet then count (is_own t.part t.alphabet ts) ms else 0) ≡ 0 = cond-false (share_hidden hidden a t.alphabet) (count (is_own t.part t.alphabet ts) ms) 0 none in
-          added_up (count (is_foreign a (t ∷ ts)) ms) _ 0 (count (is_foreign a ts) ms) (shared_own hidden a ts ms) more is rest
+          let less : count (is_foreign a (t ∷ ts)) ms ≤ 0 + count (is_foreign a ts) ms = omega arith in
+          let is : (if share_hidden hidden a t.alphabet then bound_over hidden ts t else 0) ≡ 0 = cond-false (share_hidden hidden a t.alphabet) (bound_over hidden ts t) 0 none in
+          subst (λ n. count (is_foreign a (t ∷ ts)) ms ≤ n + shared_bounds hidden a ts) (sym is)
+          (added_up (count (is_foreign a (t ∷ ts)) ms) 0 (count (is_foreign a ts) ms) 0 (shared_bounds hidden a ts) less (omega arith) rest)
     ]
 
 -- ---- the bounds hold
-
-abbrev AllBounded : List Taken → List Move → Type 0
-AllBounded [] ms = Unit {0}
-AllBounded (t ∷ ts) ms = (count (is_own t.part t.alphabet ts) ms ≤ t.bound) × AllBounded ts ms
-
-if_le : (b : Bool) (m n : ℕ) → m ≤ n → (if b then m else 0) ≤ (if b then n else 0)
-if_le true m n h = h
-if_le false m n h = omega arith
-
-shared_le : (hidden a : List ℕ) (ts : List Taken) (ms : List Move) → AllBounded ts ms → shared_own hidden a ts ms ≤ shared_bounds hidden a ts
-shared_le hidden a [] ms h = omega arith
-shared_le hidden a (t ∷ ts) ms h =
-    sums _ _ _ _ (if_le (share_hidden hidden a t.alphabet) (count (is_own t.part t.alphabet ts) ms) t.bound h.0) (shared_le hidden a ts ms h.1)
-
-abbrev total_own : List Taken → List Move → ℕ
-total_own [] ms = 0
-total_own (t ∷ ts) ms = count (is_own t.part t.alphabet ts) ms + total_own ts ms
-
-total_le : (ts : List Taken) (ms : List Move) → AllBounded ts ms → total_own ts ms ≤ hidden_bound ts
-total_le [] ms h = omega arith
-total_le (t ∷ ts) ms h = sums _ _ _ _ h.0 (total_le ts ms h.1)
 
 -- where the component with a number stands in the run
 record Stands {T : Type 0} (Step : T → Label → T → Type 0) (start : Component T) (i : ℕ) (ms : List Move) : Type 0 where
@@ -189,7 +154,7 @@ stands Step s k (x ∷ cs) (u ∷ us) (v ∷ vs) ms (suc i) c a l h =
 
 module _ {T : Type 0} (Step : T → Label → T → Type 0) (hidden s : List ℕ) (cs us vs : List (Component T)) (ms : List Move)
     (after : AllAfter Step s cs us) (along : AllAlong Step 0 us ms vs) (hides : AreHidden hidden ms) where
-  one_bounded : (t : Taken) (ts : List Taken) → IsNext Step hidden cs ts t → AllBounded ts ms → count (is_own t.part t.alphabet ts) ms ≤ t.bound
+  one_bounded : (t : Taken) (ts : List Taken) → IsNext Step hidden cs ts t → AllBounded hidden ts ms → count (is_own t.part t.alphabet ts) ms ≤ bound_over hidden ts t
   one_bounded t ts next h =
       let at = stands Step s 0 cs us vs ms t.part next.component after along next.at in
       let number : 0 + t.part ≡ t.part = omega arith in
@@ -198,13 +163,11 @@ module _ {T : Type 0} (Step : T → Label → T → Type 0) (hidden s : List ℕ
       let walked : Walked Step hidden ts next.component t.height next.height.most 0 at.from at.from = record { began = at.reached; walk = refl; now = at.reached } in
       let own = own_moves Step hidden ts next.component t.height next.height.most t.part ms 0 at.from at.from at.to walked hides goes in
       let mine : 0 + count (is_own t.part t.alphabet ts) ms ≤ t.height * suc (count (is_foreign t.alphabet ts) ms) = subst (λ a. 0 + count (is_own t.part a ts) ms ≤ t.height * suc (count (is_foreign a ts) ms)) same own in
-      let foreign : count (is_foreign t.alphabet ts) ms ≤ shared_own hidden t.alphabet ts ms = foreign_le hidden t.alphabet ts ms hides in
-      let shared : shared_own hidden t.alphabet ts ms ≤ shared_bounds hidden t.alphabet ts = shared_le hidden t.alphabet ts ms h in
-      let whole : t.height * suc (count (is_foreign t.alphabet ts) ms) ≤ t.height * suc (shared_bounds hidden t.alphabet ts) = mul-le-mul_left t.height (omega arith) in
-      let bound : t.bound ≡ t.height * suc (shared_bounds hidden t.alphabet ts) = next.bound in
-      subst (λ n. count (is_own t.part t.alphabet ts) ms ≤ n) (sym bound) (three _ _ _ mine whole)
+      let foreign : count (is_foreign t.alphabet ts) ms ≤ shared_bounds hidden t.alphabet ts = foreign_le hidden t.alphabet ts ms hides h in
+      let whole : t.height * suc (count (is_foreign t.alphabet ts) ms) ≤ bound_over hidden ts t = mul-le-mul_left t.height (omega arith) in
+      omega (arith, mine, whole)
 
-  all_bounded : (ts : List Taken) → AreTaken Step hidden cs ts → AllBounded ts ms
+  all_bounded : (ts : List Taken) → AreTaken Step hidden cs ts → AllBounded hidden ts ms
   all_bounded [] a = tt
   all_bounded (t ∷ ts) a = let rest = all_bounded ts a.1 in (one_bounded t ts a.0 rest, rest)
 
@@ -222,12 +185,11 @@ none_taken : (ms : List Move) → Each (λ m. is_taken [] m ≡ false) ms
 none_taken [] = tt
 none_taken (m ∷ ms) = (refl, none_taken ms)
 
-taken_le : (ts : List Taken) (ms : List Move) → count (is_taken ts) ms ≤ total_own ts ms
-taken_le [] ms = let none : count (is_taken []) ms ≡ 0 = count_none (is_taken []) ms (none_taken ms) in omega arith
-taken_le (t ∷ ts) ms =
-    let here : count (is_taken (t ∷ ts)) ms ≤ count (is_own t.part t.alphabet ts) ms + count (is_taken ts) ms = count_le_sum (is_taken (t ∷ ts)) (is_own t.part t.alphabet ts) (is_taken ts) ms (each_or t ts ms) in
-    let rest : count (is_taken ts) ms ≤ total_own ts ms = taken_le ts ms in
-    omega arith
+taken_le : (hidden : List ℕ) (ts : List Taken) (ms : List Move) → AllBounded hidden ts ms → count (is_taken ts) ms ≤ hidden_bound hidden ts
+taken_le hidden [] ms h = let none : count (is_taken []) ms ≡ 0 = count_none (is_taken []) ms (none_taken ms) in omega arith
+taken_le hidden (t ∷ ts) ms h =
+    added_up (count (is_taken (t ∷ ts)) ms) (count (is_own t.part t.alphabet ts) ms) (count (is_taken ts) ms) (bound_over hidden ts t) (hidden_bound hidden ts)
+    (count_le_sum (is_taken (t ∷ ts)) (is_own t.part t.alphabet ts) (is_taken ts) ms (each_or t ts ms)) h.0 (taken_le hidden ts ms h.1)
 
 quiet_taken : (j : ℕ) (ts : List Taken) → IsAmong j ts → is_taken ts (quiet j) ≡ true
 quiet_taken j [] h = absurd h
@@ -239,7 +201,7 @@ event_taken e [] h = absurd (false≢true h)
 event_taken e (t ∷ ts) h =
     elim (cases_Bool (is_passed ts e)) [
       | inl later ↦ or_right (has t.alphabet e && not (is_passed ts e)) (is_taken ts (event e)) (event_taken e ts later)
-      | inr none ↦ or_left (has t.alphabet e && not (is_passed ts e)) (is_taken ts (event e)) (both_true (has t.alphabet e) (not (is_passed ts e)) (first_true (has t.alphabet e) (is_passed ts e) h none) (ap not none))
+      | inr none ↦ or_left (has t.alphabet e && not (is_passed ts e)) (is_taken ts (event e)) (is_and (has t.alphabet e) (not (is_passed ts e)) (first_true (has t.alphabet e) (is_passed ts e) h none) (ap not none))
     ]
 
 module _ {T : Type 0} (Step : T → Label → T → Type 0) (hidden : List ℕ) (cs : List (Component T)) where
@@ -250,14 +212,14 @@ module _ {T : Type 0} (Step : T → Label → T → Type 0) (hidden : List ℕ) 
       or_left (has t.alphabet e) (is_passed ts e) (ap (λ al. has al e) (sym (ap (λ (x : Component T). x.alphabet) is ∙ a.0.alphabet)) ∙ h)
   passed e i c (t ∷ ts) at h a (inr later) = or_right (has t.alphabet e) (is_passed ts e) (passed e i c ts at h a.1 later)
 
-  all_taken : (ts : List Taken) (ms : List Move) → AreTaken Step hidden cs ts → AllAreTaken Step hidden cs ts → AreMoves hidden cs ms → Each (λ m. is_taken ts m ≡ true) ms
-  all_taken ts [] a all are = tt
-  all_taken ts (quiet j ∷ ms) a all are =
-      let c = there cs j are.0 in
-      (quiet_taken j ts (all j c.0 c.1), all_taken ts ms a all are.1)
-  all_taken ts (event e ∷ ms) a all are =
+  all_taken : (ts : List Taken) (ms : List Move) → IsOrder Step hidden cs ts → AreMoves hidden cs ms → Each (λ m. is_taken ts m ≡ true) ms
+  all_taken ts [] is are = tt
+  all_taken ts (quiet j ∷ ms) is are =
+      let c = slice_get_some cs j are.0 in
+      (quiet_taken j ts (is.all j c.0 c.1), all_taken ts ms is are.1)
+  all_taken ts (event e ∷ ms) is are =
       let o = owner cs e are.1 in
-      (event_taken e ts (passed e o.0 o.1 ts o.2 o.3 a (all o.0 o.1 o.2)), all_taken ts ms a all are.2)
+      (event_taken e ts (passed e o.0 o.1 ts o.2 o.3 is.taken (is.all o.0 o.1 o.2)), all_taken ts ms is are.2)
 
 -- ---- the network
 
@@ -279,16 +241,15 @@ walk_forth Step hidden (suc n) t u w h =
     ]
 
 pub hidden_steps_are_bounded : {T : Type 0} (Step : T → Label → T → Type 0) → HiddenStepsAreBounded Step
-hidden_steps_are_bounded Step tree u v hidden taken n w are all r h =
+hidden_steps_are_bounded Step tree u v hidden order n w is r h =
     let run = run_forth Step r.0 tree u w r.1 in
     let nested = run_kept Step r.0 tree u w r.1 in
     let after = all_after Step r.0 (leaves tree) (leaves u) run in
     let m = has_moves Step hidden n (leaves u) (leaves v) (walk_forth Step hidden n u v nested h) in
     let back : alphabets (leaves u) ≡ alphabets (leaves tree) = sym (path_alphabets Step r.0 (leaves tree) (leaves u) run) in
     let moves = moves_along hidden (leaves u) (leaves tree) m.moves (as_many_alphabets (leaves u) (leaves tree) back) (λ e. same_some (leaves u) (leaves tree) e back) m.are in
-    let bounded = all_bounded Step hidden (visible_events r.0) (leaves tree) (leaves u) (leaves v) m.moves after m.along (hidden_moves hidden (leaves tree) m.moves moves) taken are in
-    let most : length m.moves ≤ count (is_taken taken) m.moves = count_all (is_taken taken) m.moves (all_taken Step hidden (leaves tree) taken m.moves are all moves) in
-    let own : count (is_taken taken) m.moves ≤ total_own taken m.moves = taken_le taken m.moves in
-    let total : total_own taken m.moves ≤ hidden_bound taken = total_le taken m.moves bounded in
+    let bounded = all_bounded Step hidden (visible_events r.0) (leaves tree) (leaves u) (leaves v) m.moves after m.along (hidden_moves hidden (leaves tree) m.moves moves) order is.taken in
+    let most : length m.moves ≤ count (is_taken order) m.moves = count_all (is_taken order) m.moves (all_taken Step hidden (leaves tree) order m.moves is moves) in
+    let total : count (is_taken order) m.moves ≤ hidden_bound hidden order = taken_le hidden order m.moves bounded in
     let many : length m.moves ≡ n = m.count in
     omega arith

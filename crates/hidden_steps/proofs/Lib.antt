@@ -1,4 +1,5 @@
 pub mod Moves
-pub mod Own
 pub mod Counting
+pub mod Own
+pub mod Agreeing
 pub mod Bounding

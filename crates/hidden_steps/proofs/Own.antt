@@ -1,6 +1,7 @@
 -- The moves of a component's own: silent ones, and events that none of the taken components has. Between two shared ones it walks its own graph.
-use Rattle.std.proofs.Common.{◌≡◌, ◌≤◌, ◌+◌, ◌*◌, ℕ, zero, suc, inl, inr, List, [], ◌∷◌, ◌++◌, Bool, false, ◌&&◌, not, nat_eq, IsTrue, refl, sym, ap, ap₂, subst, arith}
+use Rattle.std.proofs.Common.{◌≡◌, ◌≤◌, ◌+◌, ◌*◌, ℕ, suc, inl, inr, List, [], ◌∷◌, ◌++◌, Bool, false, ◌&&◌, not, nat_eq, IsTrue, refl, sym, ap, ap₂, subst, arith}
 use Rattle.std.proofs.lemmas.Bool.{cases_Bool}
+use Rattle.digraph.proofs.WalkLaws.{Walk-arc}
 use Rattle.digraph.specs.Walk.{Walk}
 use Rattle.csp_base.specs.Members.{has}
 use Rattle.csp_tables.specs.Label.{Label}
@@ -27,10 +28,6 @@ abbrev pub AreHidden : List ℕ → List Move → Type 0
 AreHidden hidden [] = Unit {0}
 AreHidden hidden (quiet j ∷ ms) = AreHidden hidden ms
 AreHidden hidden (event e ∷ ms) = IsTrue (has hidden e) × AreHidden hidden ms
-
-walk_then : {V : Type 0} (Arc : V → V → Type 0) (n : ℕ) (x y z : V) → Walk Arc n x y → Arc y z → Walk Arc (suc n) x z
-walk_then Arc zero x y z h k = (z, subst (λ w. Arc w z) (sym h) k, refl)
-walk_then Arc (suc n) x y z h k = (h.0, h.1, walk_then Arc n h.0 y z h.2 k)
 
 path_then : {S : Type 0} (Step : S → Label → S → Type 0) (ls : List Label) (s t u : S) (l : Label) → Path Step s ls t → Step t l u → Path Step s (ls ++ l ∷ []) u
 path_then Step [] s t u l h k = (u, subst (λ w. Step w l u) (sym h) k, refl)
@@ -69,7 +66,7 @@ module _ {T : Type 0} (Step : T → Label → T → Type 0) (hidden : List ℕ) 
       elim (by_test (nat_eq i j) a.1) [
         | inl h ↦
             let same : c.alphabet ≡ a.0.alphabet = step_alphabet Step c silent a.0 h.1 in
-            let next : Walked (suc k) s a.0 = record { began = w.began; walk = walk_then (OwnStep Step hidden taken) k s c a.0 w.walk (inl h.1); now = reached_then (ComponentStep Step) start c a.0 silent w.now h.1 } in
+            let next : Walked (suc k) s a.0 = record { began = w.began; walk = Walk-arc (OwnStep Step hidden taken) k s c a.0 w.walk (inl h.1); now = reached_then (ComponentStep Step) start c a.0 silent w.now h.1 } in
             let rest : suc k + count (is_own i a.0.alphabet taken) ms ≤ height * suc (count (is_foreign a.0.alphabet taken) ms) = own_moves i ms (suc k) s a.0 d next hides a.2 in
             let there : suc k + count (is_own i c.alphabet taken) ms ≤ height * suc (count (is_foreign c.alphabet taken) ms) = subst (λ al. suc k + count (is_own i al taken) ms ≤ height * suc (count (is_foreign al taken) ms)) (sym same) rest in
             own_step height k (count (is_own i c.alphabet taken) ms) (count (is_foreign c.alphabet taken) ms) _ _ there (ap one h.0) refl
@@ -93,7 +90,7 @@ module _ {T : Type 0} (Step : T → Label → T → Type 0) (hidden : List ℕ) 
                   shared_step height k (count (is_own i c.alphabet taken) ms) (count (is_foreign c.alphabet taken) ms) _ _ here there mine foreign
               | inr free ↦
                   let step : OwnEvent Step hidden taken c a.0 = record { event = e; hides = hides.0; own = free; step = h.1 } in
-                  let next : Walked (suc k) s a.0 = record { began = w.began; walk = walk_then (OwnStep Step hidden taken) k s c a.0 w.walk (inr step); now = now } in
+                  let next : Walked (suc k) s a.0 = record { began = w.began; walk = Walk-arc (OwnStep Step hidden taken) k s c a.0 w.walk (inr step); now = now } in
                   let rest : suc k + count (is_own i a.0.alphabet taken) ms ≤ height * suc (count (is_foreign a.0.alphabet taken) ms) = own_moves i ms (suc k) s a.0 d next hides.1 a.2 in
                   let there : suc k + count (is_own i c.alphabet taken) ms ≤ height * suc (count (is_foreign c.alphabet taken) ms) = subst (λ al. suc k + count (is_own i al taken) ms ≤ height * suc (count (is_foreign al taken) ms)) (sym same) rest in
                   let mine : one (has c.alphabet e && not (is_passed taken e)) ≡ 1 = ap₂ (λ b p. one (b && not p)) h.0 free in

@@ -11,11 +11,13 @@ use Rattle.csp_tables.specs.Label.Label.{silent, visible}
 use Rattle.csp_tables.specs.Network.{NetworkStep, Tree, leaves}
 use Rattle.csp_tables.specs.Path.{Reached}
 use Rattle.csp_tables.specs.WellNested.{WellNested}
-use Rattle.hidden_steps.specs.Order.{AllAreTaken, AreTaken, Taken, hidden_bound}
+use Rattle.hidden_steps.specs.Order.{IsOrder, Taken, hidden_bound}
 
 -- a step that is silent or by a hidden event
 abbrev pub HiddenStep : {S : Type 0} → (S → Label → S → Type 0) → List ℕ → S → S → Type 0
 HiddenStep Step hidden s t = Step s silent t ⊎ ((e : ℕ) × IsTrue (has hidden e) × Step s (visible e) t)
 
 abbrev pub HiddenStepsAreBounded : {T : Type 0} → (T → Label → T → Type 0) → Type 0
-HiddenStepsAreBounded {T} Step = (tree u v : Tree T) (hidden : List ℕ) (taken : List Taken) (n : ℕ) → WellNested tree → AreTaken Step hidden (leaves tree) taken → AllAreTaken Step hidden (leaves tree) taken → Reached (NetworkStep Step) tree u → Walk (HiddenStep (NetworkStep Step) hidden) n u v → n ≤ hidden_bound taken
+HiddenStepsAreBounded {T} Step =
+    (tree u v : Tree T) (hidden : List ℕ) (order : List Taken) (n : ℕ) → WellNested tree → IsOrder Step hidden (leaves tree) order
+    → Reached (NetworkStep Step) tree u → Walk (HiddenStep (NetworkStep Step) hidden) n u v → n ≤ hidden_bound hidden order

@@ -1,10 +1,13 @@
--- An order of the components of a network in which hidden events are bounded. Components are taken one after another. The own graph of a component
--- over those taken has the states that it reaches by itself, and its steps that are silent or by a hidden event which none of the taken ones has in its
--- alphabet. A component is free where its own graph has no circle; each time the least free one is taken. Its height is the greatest number of steps of a
--- walk in its own graph, and its bound that height, once and once more for each of the bounds of those taken before with which it shares a
--- hidden event.
-use Rattle.std.specs.Prelude.{◌≡◌, ◌<◌, ◌≤◌, ◌+◌, ◌*◌, ◌⊎◌, ℕ, suc, List, [], ◌∷◌, Bool, ◌&&◌, false, IsTrue, Some, if◌then◌else◌, slice_get}
+-- An order of the components of a network in which hidden events are bounded.
+--
+-- Components are taken one after another. An order is the list of those that are taken, the last one in front: behind each stand those that were taken
+-- before it. The own graph of a component over them has the states that it reaches by itself, and its steps that are silent or by a hidden event that none
+-- of them has in its alphabet. A component is free where its own graph has no circle; each time the least free one is taken. Its height is the greatest
+-- number of steps of a walk in its own graph, and its bound that height, once and once more for each of the bounds of those taken before it with which it
+-- shares a hidden event.
+use Rattle.std.specs.Prelude.{◌≡◌, ◌<◌, ◌≤◌, ◌+◌, ◌*◌, ◌⊎◌, ◌↔◌, ℕ, suc, List, [], ◌∷◌, Bool, ◌&&◌, false, IsTrue, Some, if◌then◌else◌, length, slice_get}
 use Rattle.std.specs.List.{list_any}
+use Rattle.std.specs.List.Sorted.{IsStrictlyIncreasing}
 use Rattle.digraph.specs.Walk.{Walk}
 use Rattle.csp_base.specs.Members.{has}
 use Rattle.csp_tables.specs.Label.{Label}
@@ -12,12 +15,11 @@ use Rattle.csp_tables.specs.Label.Label.{silent, visible}
 use Rattle.csp_tables.specs.Network.{Component, ComponentStep}
 use Rattle.csp_tables.specs.Path.{Reached}
 
--- a component that is taken: its number and its alphabet, its height, and its bound
+-- a component that is taken: its number, its alphabet, and its height
 pub record Taken : Type 0 where
   pub part : ℕ
   pub alphabet : List ℕ
   pub height : ℕ
-  pub bound : ℕ
 
 -- whether the event is in the alphabet of one of the taken components
 abbrev pub is_passed : List Taken → ℕ → Bool
@@ -30,12 +32,16 @@ share_hidden hidden a b = list_any (λ e. has a e && has b e) hidden
 -- what the bounds add up to of those taken that share a hidden event with the alphabet
 abbrev pub shared_bounds : List ℕ → List ℕ → List Taken → ℕ
 shared_bounds hidden alphabet [] = 0
-shared_bounds hidden alphabet (t ∷ ts) = (if share_hidden hidden alphabet t.alphabet then t.bound else 0) + shared_bounds hidden alphabet ts
+shared_bounds hidden alphabet (t ∷ ts) = (if share_hidden hidden alphabet t.alphabet then t.height * suc (shared_bounds hidden t.alphabet ts) else 0) + shared_bounds hidden alphabet ts
+
+-- the bound of a component over those taken before it
+abbrev pub bound_over : List ℕ → List Taken → Taken → ℕ
+bound_over hidden ts t = t.height * suc (shared_bounds hidden t.alphabet ts)
 
 -- what all bounds add up to
-abbrev pub hidden_bound : List Taken → ℕ
-hidden_bound [] = 0
-hidden_bound (t ∷ ts) = t.bound + hidden_bound ts
+abbrev pub hidden_bound : List ℕ → List Taken → ℕ
+hidden_bound hidden [] = 0
+hidden_bound hidden (t ∷ ts) = bound_over hidden ts t + hidden_bound hidden ts
 
 -- the component with this number is taken
 abbrev pub IsAmong : ℕ → List Taken → Type 0
@@ -66,21 +72,35 @@ module _ {T : Type 0} (Step : T → Label → T → Type 0) (hidden : List ℕ) 
     pub more : ℕ
     pub round : Walk (OwnStep taken) (suc more) state state
 
-  -- t is the least free component over those taken, with its height and its bound
-  pub record IsNext (cs : List (Component T)) (taken : List Taken) (t : Taken) : Type 0 where
-    pub component : Component T
-    pub at : slice_get cs t.part ≡ Some component
-    pub alphabet : component.alphabet ≡ t.alphabet
-    pub height : IsHeight taken component t.height
-    pub bound : t.bound ≡ t.height * suc (shared_bounds hidden t.alphabet taken)
-    pub new : IsAmong t.part taken → ⊥
-    pub least : (j : ℕ) (d : Component T) → j < t.part → slice_get cs j ≡ Some d → IsAmong j taken ⊎ GoesRound taken d
+  module _ (cs : List (Component T)) where
+    -- the component with this number is taken, or its own graph has a circle
+    abbrev pub IsNotFree : List Taken → ℕ → Type 0
+    IsNotFree taken i = (c : Component T) → slice_get cs i ≡ Some c → IsAmong i taken ⊎ GoesRound taken c
 
-  -- the components were taken in this order, the last one in front
-  abbrev pub AreTaken : List (Component T) → List Taken → Type 0
-  AreTaken cs [] = Unit {0}
-  AreTaken cs (t ∷ ts) = IsNext cs ts t × AreTaken cs ts
+    -- t is the least free component over those taken, with its height
+    pub record IsNext (taken : List Taken) (t : Taken) : Type 0 where
+      pub component : Component T
+      pub at : slice_get cs t.part ≡ Some component
+      pub alphabet : component.alphabet ≡ t.alphabet
+      pub height : IsHeight taken component t.height
+      pub new : IsAmong t.part taken → ⊥
+      pub least : (j : ℕ) → j < t.part → IsNotFree taken j
 
-  -- each component is taken
-  abbrev pub AllAreTaken : List (Component T) → List Taken → Type 0
-  AllAreTaken cs taken = (i : ℕ) (c : Component T) → slice_get cs i ≡ Some c → IsAmong i taken
+    -- each was the least free one over those behind it
+    abbrev pub AreTaken : List Taken → Type 0
+    AreTaken [] = Unit {0}
+    AreTaken (t ∷ ts) = IsNext ts t × AreTaken ts
+
+    -- all components are taken
+    pub record IsOrder (order : List Taken) : Type 0 where
+      pub taken : AreTaken order
+      pub all : (i : ℕ) (c : Component T) → slice_get cs i ≡ Some c → IsAmong i order
+
+    -- Some components are taken, none of the others is free over them, and these are the others, rising.
+    pub record HasNoOrder (parts : List ℕ) : Type 0 where
+      pub taken : List Taken
+      pub are : AreTaken taken
+      pub none_free : (i : ℕ) → IsNotFree taken i
+      pub left : (i : ℕ) → IsTrue (has parts i) ↔ ((i < length cs) × (IsAmong i taken → ⊥))
+      pub rising : IsStrictlyIncreasing parts
+      pub some : (i : ℕ) × IsTrue (has parts i)

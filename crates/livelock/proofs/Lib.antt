@@ -1,2 +1,3 @@
-pub mod Status
-pub mod Walk
+pub mod Agreeing
+pub mod Deciding
+pub mod Whole

@@ -1,4 +1,5 @@
 pub mod Named
 pub mod Bounded
 pub mod Whole
+pub mod Complete
 pub mod Stopping

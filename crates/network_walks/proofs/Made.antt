@@ -1,5 +1,5 @@
 -- Components with their tables, one after another, as a walk by numbers sees them.
-use Rattle.std.proofs.Common.{◌≡◌, ℕ, zero, suc, ◌+◌, ◌<◌, ◌≤◌, List, [], ◌∷◌, ◌++◌, length, take, get_or, refl, sym, ap, ap₂, subst, ◌∙◌, add-one, arith}
+use Rattle.std.proofs.Common.{◌≡◌, ℕ, zero, suc, ◌+◌, ◌<◌, ◌≤◌, List, [], ◌∷◌, ◌++◌, length, take, get_or, refl, sym, ap, ap₂, ◌∙◌, add-one, arith}
 use Rattle.std.proofs.lemmas.List.{take_all}
 use Rattle.csp_program.specs.declared.processes.Proc.{Proc}
 use Rattle.csp_program.specs.declared.programs.Content.{Content}
@@ -74,18 +74,3 @@ module _ (p : Content) where
     rows_in_order (room_after room t.local.used) cs ts are.1,
   )
   rows_in_order room _ _ are = absurd are
-
--- ---- as they are read
-pub tables_read : (p q : Content) (cs ds : List (Component Proc)) (ts us : List ComponentTable) → q ≡ p → ds ≡ cs → us ≡ ts → AreTablesOf p cs ts → AreTablesOf q ds us
-tables_read p q cs ds ts us program seats tables are =
-    subst (λ (x : Content). AreTablesOf x ds us) (sym program) (subst (λ (as' : List (Component Proc)). AreTablesOf p as' us) (sym seats) (subst (λ (bs : List ComponentTable). AreTablesOf p cs bs) (sym tables) are))
-
-pub few_seats : (cs ds : List (Component Proc)) → ds ≡ cs → length cs ≤ 512 → length ds ≤ 512
-few_seats cs ds seats few = let same = ap length seats in omega (arith, same, few)
-
-pub few_numbered : (ns : List Numbered) (cs ds : List (Component Proc)) (us : List ComponentTable) → ns ≡ numbered ds us → ds ≡ cs → length cs ≤ 512 → length ns ≤ 512
-few_numbered ns cs ds us made seats few =
-    let all = as_few ds us in
-    let same = ap length made in
-    let less = few_seats cs ds seats few in
-    omega (arith, all, same, less)

@@ -1,5 +1,6 @@
 -- A step keeps the shape of a network, and of two networks of one shape with the same components each is the other.
-use Rattle.std.proofs.Common.{◌≡◌, ℕ, suc, ◌+◌, inl, inr, Bool, MatchBool, List, [], ◌∷◌, ◌++◌, length, length-append, refl, sym, ap, ap₂, subst, ◌∙◌, arith}
+use Rattle.std.proofs.Common.{◌≡◌, ℕ, ◌+◌, inl, inr, MatchBool, List, [], ◌∷◌, ◌++◌, length, take, drop, length-append, refl, sym, ap, ap₂, subst, ◌∙◌}
+use Rattle.std.proofs.Math.Seq.{drop-append_seam, take-append_seam}
 use Rattle.std.proofs.lemmas.Bool.{MatchBool-at_false, MatchBool-at_true, cases_Bool}
 use Rattle.csp_base.specs.Members.{has}
 use Rattle.csp_tables.specs.Label.{Label}
@@ -72,30 +73,16 @@ mutual
       length-append (leaves t) (leaves_of_operands os) ∙ ap₂ (λ m n. m + n) (shape_count t u shape.1) (shapes_count os qs shape.2) ∙ sym (length-append (leaves u) (leaves_of_operands qs))
 
 -- two lists that are put together from parts of the same lengths
-module _ {X : Type 0} where
-  abbrev first_of : (d : X) → List X → X
-  first_of d [] = d
-  first_of d (x ∷ xs) = x
+module _ {X : Type 0} (xs ys us vs : List X) (count : length xs ≡ length ys) (same : xs ++ us ≡ ys ++ vs) where
+  fronts : xs ≡ ys
+  fronts = sym (take-append_seam xs us) ∙ ap₂ (λ n (l : List X). take n l) count same ∙ take-append_seam ys vs
 
-  abbrev rest_of : List X → List X
-  rest_of [] = []
-  rest_of (x ∷ xs) = xs
-
-  fronts : (xs ys us vs : List X) → length xs ≡ length ys → xs ++ us ≡ ys ++ vs → xs ≡ ys
-  fronts [] [] us vs count same = refl
-  fronts [] (y ∷ ys) us vs count same = absurd (omega (arith, count))
-  fronts (x ∷ xs) [] us vs count same = absurd (omega (arith, count))
-  fronts (x ∷ xs) (y ∷ ys) us vs count same = ap₂ (λ (z : X) (zs : List X). z ∷ zs) (ap (first_of x) same) (fronts xs ys us vs (omega (arith, count)) (ap rest_of same))
-
-  backs : (xs ys us vs : List X) → length xs ≡ length ys → xs ++ us ≡ ys ++ vs → us ≡ vs
-  backs [] [] us vs count same = same
-  backs [] (y ∷ ys) us vs count same = absurd (omega (arith, count))
-  backs (x ∷ xs) [] us vs count same = absurd (omega (arith, count))
-  backs (x ∷ xs) (y ∷ ys) us vs count same = backs xs ys us vs (omega (arith, count)) (ap rest_of same)
+  backs : us ≡ vs
+  backs = sym (drop-append_seam xs us) ∙ ap₂ (λ n (l : List X). drop n l) count same ∙ drop-append_seam ys vs
 
 mutual
   pub same_network : {T : Type 0} (t u v : Tree T) → HaveShape t u → HaveShape t v → leaves u ≡ leaves v → u ≡ v
-  same_network (leaf c) (leaf d) (leaf e) shape other same = ap leaf (ap (first_of d) same)
+  same_network (leaf c) (leaf d) (leaf e) shape other same = ap leaf (let one : d ≡ e = cc in one)
   same_network (leaf c) (leaf d) (parallel qs) shape other same = absurd other
   same_network (leaf c) (parallel os) v shape other same = absurd shape
   same_network (parallel os) (leaf d) v shape other same = absurd shape

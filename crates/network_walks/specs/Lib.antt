@@ -3,4 +3,3 @@ pub mod Laws
 pub mod Moves
 pub mod Tabled
 pub mod Walked
-pub mod Whole

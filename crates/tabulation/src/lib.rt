@@ -1,7 +1,6 @@
-//! The normal table of one component of a script's network, with its events as texts.
+//! The normal table of one component of a network.
 #![tactic(auto)]
 
-mod printed;
 mod tabulating;
 
 pub use tabulating::tabulated;

@@ -1,28 +1,47 @@
-use Rattle.std.proofs.Common.{sym, ap, ◌∙◌}
-use Rattle.network_stages.specs.Networks.{network_at}
-use Rattle.comparison.specs.Agreement.{printed_events}
-use Rattle.comparison.proofs.Walk.{at_events, at_parts, at_shape, other_events_here}
+use Rattle.std.proofs.Common.{rules}
+use Rattle.report.proofs.Points.{at_refusal, at_shortfall, goes_on}
+use Rattle.report.specs.Points.Point.{passed}
+use Rattle.comparison.proofs.Components.{inherits}
+use Rattle.comparison.proofs.Walk.{at_parts, past_agreement, past_parts}
+use Rattle.comparison.specs.Compared.{ConformanceDecides, IsCompared, PartsOr}
+use Rattle.comparison.specs.Conforming.{ComponentsConform}
 use Rattle.comparison.proofs.comparing.compared.Goals as goal
 
-pub returns-in_err-same_events : goal.returns-in_err-same_events
-returns-in_err-same_events c =
-    let p = c.args.network.now in
-    let q = c.args.specified.now in
-    at_events (network_at p) (network_at q) c.from_residual.result _ c.from_residual.ensures.1
-    (other_events_here p q c.program.result.now c.program-2.result.now _ c.program.ensures.program c.program-2.ensures.program c.in_err-same_events.ensures.told)
+pub returns-in_err-check_events : goal.returns-in_err-check_events
+unfolding IsCompared
+returns-in_err-check_events c = search (rules, at_refusal)
 
-pub returns-in_err-check_shape : goal.returns-in_err-check_shape
-returns-in_err-check_shape c =
-    let p = c.args.network.now in
-    let q = c.args.specified.now in
-    at_shape (network_at p) (network_at q) c.from_residual-in_err-check_shape.result
-    (sym (ap printed_events c.program.ensures.program) ∙ c.in_ok-same_events.ensures.same ∙ ap printed_events c.program-2.ensures.program)
-    _ c.from_residual-in_err-check_shape.ensures.1 c.in_err-check_shape.ensures.told
+pub returns-in_err-check_alphabets : goal.returns-in_err-check_alphabets
+unfolding IsCompared
+returns-in_err-check_alphabets c = goes_on _ _ _ _ (tt {0}) (search rules) _ (search (rules, at_refusal))
+
+pub returns-in_err-parted : goal.returns-in_err-parted
+returns-in_err-parted c = past_agreement _ _ _ (search rules) (search rules) (search (rules, at_parts))
+
+pub returns-in_err-others : goal.returns-in_err-others
+returns-in_err-others c =
+    past_agreement _ _ _ (search rules) (search rules) (past_parts _ _ _ _ c.in_ok-parted.ensures.tables.0 _ c.in_ok-parted.ensures.tables.1 c.in_ok-parted.ensures.parts (search (rules, at_parts)))
+
+pub check_components-requires : goal.check_components-requires
+check_components-requires c = search rules
+
+pub returns-in_err-check_components : goal.returns-in_err-check_components
+unfolding ConformanceDecides
+returns-in_err-check_components c =
+    past_agreement _ _ _ (search rules) (search rules) (past_parts _ _ _ _ c.in_ok-parted.ensures.tables.0 _ c.in_ok-parted.ensures.tables.1 c.in_ok-parted.ensures.parts
+    (past_parts _ _ _ _ c.in_ok-others.ensures.tables.0 _ c.in_ok-others.ensures.tables.1 c.in_ok-others.ensures.parts (search (rules, at_shortfall))))
 
 pub returns : goal.returns
+unfolding IsCompared PartsOr ConformanceDecides
 returns c =
-    let p = c.args.network.now in
-    let q = c.args.specified.now in
-    at_parts (network_at p) (network_at q) c.conform.result
-    (sym (ap printed_events c.program.ensures.program) ∙ c.in_ok-same_events.ensures.same ∙ ap printed_events c.program-2.ensures.program)
-    c.in_ok-check_shape.ensures.same c.conform.ensures
+    let conform : ComponentsConform c.args.network.now c.args.specified.now = search rules in
+    passed (tt {0}) (search rules) (passed (tt {0}) (search rules)
+    (passed c.in_ok-parted.ensures.tables.0 c.in_ok-parted.ensures.tables.1 (passed c.in_ok-parted.parted.parts c.in_ok-parted.ensures.parts
+    (passed c.in_ok-others.ensures.tables.0 c.in_ok-others.ensures.tables.1 (passed c.in_ok-others.others.parts c.in_ok-others.ensures.parts
+    (passed (tt {0}) conform (record {
+      bound = c.in_ok-parted.bound;
+      exact = c.in_ok-parted.ensures.bound;
+      inherits = inherits c.args.network.now c.args.specified.now c.program.ensures.spelled c.program-2.ensures.spelled c.in_ok-parted.parted.parts c.in_ok-parted.ensures.parts conform
+          c.in_ok-parted.bound c.in_ok-parted.ensures.bound;
+      is = search rules;
+    })))))))

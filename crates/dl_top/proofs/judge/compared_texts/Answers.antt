@@ -1,5 +1,7 @@
-use Rattle.network_stages.specs.Networks.{network_at}
-use Rattle.dl_top.proofs.Pairs.{at_compared, at_script_network, at_specified_network}
+use Rattle.comparison.specs.Compared.{IsCompared}
+use Rattle.dl_top.proofs.Judging.{at_script_network, at_specified_network, compares}
+use Rattle.dl_top.proofs.Walks.{at_short, is_verdict}
+use Rattle.dl_top.specs.Judgement.{TextsCompare}
 use Rattle.dl_top.proofs.judge.compared_texts.Goals as goal
 
 pub returns-in_err-network : goal.returns-in_err-network
@@ -7,8 +9,15 @@ returns-in_err-network c = at_script_network c.args.text.now c.args.specificatio
 
 pub returns-in_err-specified : goal.returns-in_err-specified
 returns-in_err-specified c =
-    at_specified_network c.args.text.now c.args.specification.now c.from_residual-in_err-specified.result (network_at c.in_ok-network.network) c.in_ok-network.ensures.ok _ c.from_residual-in_err-specified.ensures.1 c.in_err-specified.ensures.told
+    at_specified_network c.args.text.now c.args.specification.now c.from_residual-in_err-specified.result c.in_ok-network.network _ c.in_ok-network.ensures.ok c.from_residual-in_err-specified.ensures.1
+    c.in_err-specified.ensures.told
+
+pub returns-in_err-verdict : goal.returns-in_err-verdict
+returns-in_err-verdict c = at_short (TextsCompare c.args.text.now c.args.specification.now) c.from_residual-in_err-verdict.result c.from_residual-in_err-verdict.ensures.1
 
 pub returns : goal.returns
 returns c =
-    at_compared c.args.text.now c.args.specification.now c.compared.result (network_at c.in_ok-network.network) c.in_ok-network.ensures.ok (network_at c.in_ok-specified.specified) c.in_ok-specified.ensures.ok c.compared.ensures
+    let network = c.in_ok-network.network in
+    let specified = c.in_ok-specified.specified in
+    compares c.args.text.now c.args.specification.now network specified c.in_ok-verdict.verdict c.into_program.result c.in_ok-network.ensures.ok c.in_ok-specified.ensures.ok c.into_program.ensures
+    (is_verdict (IsCompared network specified) c.compared.result c.in_ok-verdict.verdict c.compared.ensures c.in_ok-verdict.ensures)

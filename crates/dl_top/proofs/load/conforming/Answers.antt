@@ -1,16 +1,32 @@
-use Rattle.dl_top.specs.Cause.{shelf_signs}
-use Rattle.dl_top.proofs.Pairs.{both_loaded, first_unloaded}
+use Rattle.std.proofs.Common.{List, [], ◌∷◌, inr, refl, subst, ℕ}
+use Rattle.command_words.specs.declared.request.Request.TheVariants as request
+use Rattle.report.specs.declared.answer.Side.TheVariants as side
+use Rattle.dl_top.proofs.Loading.{at_load, at_second}
+use Rattle.dl_top.proofs.Walks.{at_short}
+use Rattle.dl_top.specs.Cause.{IsLoad, Loaded, TextsCallFor}
+use Rattle.dl_top.specs.Judgement.{TextsCompare}
 use Rattle.dl_top.proofs.load.conforming.Goals as goal
 
-pub returns-in-Ok-clause-cause : goal.returns-in-Ok-clause-cause
-returns-in-Ok-clause-cause g c =
+pub returns-in_err-text-clause-calls : goal.returns-in_err-text-clause-calls
+returns-in_err-text-clause-calls g c =
     let shelf = g.S.Shelf in
-    both_loaded (shelf.texts c.args.shelf.now) (shelf.texts c.load.new.self) (shelf.faults c.args.shelf.now) (shelf.faults c.load.new.self) (shelf.faults c.against.new.shelf)
-    (shelf.taken c.args.shelf.now) (shelf.taken c.load.new.self) (shelf.taken c.against.new.shelf) c.load.ensures.faults_never_fall c.load.ensures.taken_never_falls
-    c.args.script.now c.args.specification.now c.in-Ok.text c.as_slice.result.now c.against.result c.load.ensures.texts_stay c.in-Ok.ensures.answer c.as_slice.ensures c.against.ensures.cause
+    at_load (IsLoad shelf.texts shelf.counts shelf.gives) side.Script c.args.shelf.now c.load.new.shelf c.args.script.now (c.args.specification.now ∷ [])
+    (TextsCallFor (request.Conform c.args.script.now c.args.specification.now)) c.from_residual.result _ c.from_residual.ensures.1 c.in_err-text.ensures.told
 
-pub returns-in-Err-clause-cause : goal.returns-in-Err-clause-cause
-returns-in-Err-clause-cause g c =
+pub returns-in_err-other-clause-calls : goal.returns-in_err-other-clause-calls
+returns-in_err-other-clause-calls g c =
     let shelf = g.S.Shelf in
-    first_unloaded (shelf.texts c.args.shelf.now) (shelf_signs (shelf.faults c.args.shelf.now) (shelf.faults c.load.new.self) (shelf.taken c.args.shelf.now) (shelf.taken c.load.new.self))
-    c.args.script.now c.args.specification.now c.in-Err.fault c.unloaded.result c.in-Err.ensures.answer c.unloaded.ensures
+    at_second (IsLoad shelf.texts shelf.counts shelf.gives) c.args.shelf.now c.load.new.shelf c.load-2.new.shelf c.args.script.now c.args.specification.now c.in_ok-text.text
+    (TextsCallFor (request.Conform c.args.script.now c.args.specification.now)) c.from_residual-in_err-other.result _ c.in_ok-text.ensures.ok c.from_residual-in_err-other.ensures.1 c.in_err-other.ensures.told
+
+pub returns-in_err-answer-clause-calls : goal.returns-in_err-answer-clause-calls
+returns-in_err-answer-clause-calls g c =
+    let shelf = g.S.Shelf in
+    at_short (Loaded (IsLoad shelf.texts shelf.counts shelf.gives) side.Script c.args.shelf.now c.load-2.new.shelf (c.args.script.now ∷ c.args.specification.now ∷ [])
+    (TextsCallFor (request.Conform c.args.script.now c.args.specification.now))) c.from_residual-in_err-answer.result c.from_residual-in_err-answer.ensures.1
+
+pub returns-clause-calls : goal.returns-clause-calls
+returns-clause-calls g c =
+    let first = subst (λ (t : List ℕ). TextsCompare t c.as_slice-2.result.now c.in_ok-answer.answer) c.as_slice.ensures c.in_ok-answer.ensures.answer in
+    let both = subst (λ (t : List ℕ). TextsCompare c.in_ok-text.text t c.in_ok-answer.answer) c.as_slice-2.ensures first in
+    inr (c.in_ok-text.text, c.load.new.shelf, c.in_ok-text.ensures.ok, inr (c.in_ok-other.other, c.load-2.new.shelf, c.in_ok-other.ensures.ok, (refl, both)))

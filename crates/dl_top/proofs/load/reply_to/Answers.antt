@@ -1,16 +1,14 @@
-use Rattle.dl_top.specs.Cause.{shelf_signs}
-use Rattle.dl_top.proofs.Loading.{asks, gives, gives_usage}
+use Rattle.dl_top.proofs.Loading.{gives, gives_usage}
+use Rattle.dl_top.specs.Cause.{IsLoad}
 use Rattle.dl_top.proofs.load.reply_to.Goals as goal
 
-pub returns-in-None-clause-cause : goal.returns-in-None-clause-cause
-returns-in-None-clause-cause g c = gives_usage _ _ c.args.words.now c.in_ok-found.found c.plain.result c.in-None.is c.in_ok-found.ensures.none c.plain.ensures
-
-pub returns-in-Some-clause-cause : goal.returns-in-Some-clause-cause
-returns-in-Some-clause-cause g c =
+pub returns-in_default-clause-cause : goal.returns-in_default-clause-cause
+returns-in_default-clause-cause g c =
     let shelf = g.S.Shelf in
-    gives (shelf.texts c.args.shelf.now) (shelf_signs (shelf.faults c.args.shelf.now) (shelf.faults c.requested.new.shelf) (shelf.taken c.args.shelf.now) (shelf.taken c.requested.new.shelf))
-    c.args.words.now c.in-Some.request c.requested.result (asks c.args.words.now c.in_ok-found.found c.in-Some.request c.in-Some.is c.in_ok-found.ensures.asks) c.requested.ensures.cause
+    gives_usage (IsLoad shelf.texts shelf.counts shelf.gives) c.args.words.now c.in_ok-found.found c.args.shelf.now c.args.shelf.now c.in_default.is c.in_ok-found.ensures.none
 
-pub returns-in-Some-clause-untouched : goal.returns-in-Some-clause-untouched
-returns-in-Some-clause-untouched g c none =
-    c.requested.ensures.untouched (none c.in-Some.request (asks c.args.words.now c.in_ok-found.found c.in-Some.request c.in-Some.is c.in_ok-found.ensures.asks))
+pub returns-in-Ok-clause-cause : goal.returns-in-Ok-clause-cause
+returns-in-Ok-clause-cause g c =
+    let shelf = g.S.Shelf in
+    gives (IsLoad shelf.texts shelf.counts shelf.gives) c.args.words.now c.in_ok-found.found c.in-Some.request c.args.shelf.now c.answered.new.shelf c.trial-trial.result c.answered.result c.in-Ok.answer
+    c.in-Some.is c.in_ok-found.ensures.asks c.trial-trial.ensures c.answered.ensures.calls c.in-Ok.ensures

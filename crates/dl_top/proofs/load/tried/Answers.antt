@@ -1,17 +1,25 @@
-use Rattle.std.proofs.Common.{◌≡◌, ℕ, List, IfOk, Some, subst, ◌∙◌, arith}
+use Rattle.std.proofs.Common.{List, [], ℕ, subst, ◌∙◌, arith}
 use Rattle.command_words.specs.declared.request.Job.TheVariants.{Check}
+use Rattle.command_words.specs.declared.request.Request.TheVariants as request
 use Rattle.csp_tables.specs.declared.rule.Rule.{Rule}
+use Rattle.dl_top.proofs.Lengths.{trial_is_short}
+use Rattle.dl_top.proofs.Walks.{at_short}
+use Rattle.dl_top.specs.Cause.{TextsCallFor}
 use Rattle.dl_top.specs.Judgement.{TextCallsFor}
 use Rattle.dl_top.specs.Reply.{trial_text}
-use Rattle.dl_top.specs.declared.reply.Reply.{Reply}
-use Rattle.dl_top.proofs.Lengths.{trial_is_short}
 use Rattle.dl_top.proofs.load.tried.Goals as goal
 
-pub replied-requires : goal.replied-requires
-replied-requires c = trial_is_short c.args.trial c.as_slice.result.now (c.as_slice.ensures ∙ c.in_ok-text.ensures) (omega arith)
+pub judge-requires : goal.judge-requires
+judge-requires c = trial_is_short c.args.trial c.as_slice.result.now (c.as_slice.ensures ∙ c.in_ok-text.ensures) (omega arith)
+
+pub returns-in_err-text : goal.returns-in_err-text
+returns-in_err-text c = at_short (TextsCallFor (request.Trial c.args.trial) []) c.from_residual.result c.from_residual.ensures.1
+
+pub returns-in_err-answer : goal.returns-in_err-answer
+returns-in_err-answer c = at_short (TextsCallFor (request.Trial c.args.trial) []) c.from_residual-in_err-answer.result c.from_residual-in_err-answer.ensures.1
 
 pub returns : goal.returns
 returns c =
-    subst (λ (r : Rule). IfOk c.replied.result (λ (reply : Reply). (reply.trial ≡ Some c.args.trial) × TextCallsFor (trial_text c.args.trial) (Check r) reply.answer)) c.rule_of.ensures
-    (subst (λ (t : List ℕ). IfOk c.replied.result (λ (reply : Reply). (reply.trial ≡ Some c.args.trial) × TextCallsFor t (Check c.rule_of.result) reply.answer))
-    (c.as_slice.ensures ∙ c.in_ok-text.ensures) c.replied.ensures)
+    let answer = c.in_ok-answer.answer in
+    let read = subst (λ (t : List ℕ). TextCallsFor t (Check c.rule_of.result) answer) (c.as_slice.ensures ∙ c.in_ok-text.ensures) c.in_ok-answer.ensures.answer in
+    subst (λ (r : Rule). TextCallsFor (trial_text c.args.trial) (Check r) answer) c.rule_of.ensures read

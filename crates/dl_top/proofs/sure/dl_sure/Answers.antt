@@ -1,6 +1,7 @@
-use Rattle.std.proofs.Common.{◌≡◌, ◌≢◌, ℕ, sym, ◌∙◌, arith}
+use Rattle.std.proofs.Common.{◌≡◌, ◌≢◌, ℕ, refl, sym, ◌∙◌, arith}
 use Rattle.dl_outside.specs.Count.{HasRisen}
-use Rattle.dl_top.proofs.Loading.{held_not_four}
+use Rattle.dl_top.proofs.Loading.{held_not_four, quiet_gives}
+use Rattle.dl_top.proofs.Printing.{ends_weaker}
 use Rattle.dl_top.proofs.sure.dl_sure.Goals as goal
 
 -- a count that stays 0 hasn't risen
@@ -9,6 +10,10 @@ quiet risen = absurd (omega arith)
 
 not_five : (n : ℕ) → n ≡ 4 → n ≢ 5
 not_five n four five = absurd (omega arith)
+
+pub returns-clause-ends : goal.returns-clause-ends
+returns-clause-ends c =
+    ends_weaker _ _ (λ reply. quiet_gives _ _ _ c.args.shelf.now c.args.words.now c.args.shelf.now c.dl_main.new.shelf reply refl quiet) _ c.dl_main.result c.dl_main.ensures.ends
 
 pub returns-clause-held : goal.returns-clause-held
 returns-clause-held c held four =

@@ -1,131 +1,71 @@
-use Rattle.std.proofs.Common.{Err, false, true, ap, ◌∙◌}
-use Rattle.dl_top.specs.Cause.{MayGive, shelf_signs}
+use Rattle.std.proofs.Common.{arith}
+use Rattle.command_words.specs.declared.request.Job.TheVariants.{Check, Livelock, Run, Table}
+use Rattle.command_words.specs.declared.request.Request.TheVariants as request
 use Rattle.dl_top.specs.Ending.{sink_signs}
-use Rattle.dl_top.proofs.Printing.{ends_broken, ends_in_shelf_fault, ends_short, ends_whole, settled}
-use Rattle.dl_top.proofs.Completing.{completes}
-use Rattle.dl_top.proofs.Matching.{matching_completes}
-use Rattle.dl_top.proofs.Proving.{conformed, proved, ranked, shown, told, tried, tried_ranked}
-use Rattle.dl_top.proofs.Running.{bounded, ran}
+use Rattle.dl_top.specs.Promised.{IsStuckRun, Promised}
+use Rattle.dl_top.specs.Proved.{IsFree}
+use Rattle.dl_top.proofs.Printing.{in_shelf_fault, kept, settled, settled_passes}
+use Rattle.dl_top.proofs.Promising.{keeps, keeps_free, keeps_stuck, keeps_tried}
 use Rattle.dl_top.proofs.top.dl_main.Goals as goal
 
-pub returns-in-Ok-send-clause-proved : goal.returns-in-Ok-send-clause-proved
-returns-in-Ok-send-clause-proved g c asks zero =
-    let shelf = g.S.Shelf in
-    let sink = g.O.Sink in
-    proved (shelf.texts c.args.shelf.now) c.args.words.now (shelf_signs (shelf.faults c.args.shelf.now) (shelf.faults c.printed_reply.new.shelf) (shelf.taken c.args.shelf.now) (shelf.taken c.printed_reply.new.shelf))
-    (sink.sent c.args.out.now) (sink.sent c.send.new.out) c.in-Ok.printed c.in-Ok.ensures.prints c.as_slice.result.now c.as_slice.ensures c.in-Ok-send.ensures.ok zero asks
+pub returns-clause-proved : goal.returns-clause-proved
+returns-clause-proved g c (rule, name, asks) zero =
+    kept g.S.Shelf.texts g.S.Shelf.counts g.S.Shelf.gives c.args.shelf.now c.report_to.new.shelf c.args.words.now _ c.report_to.result c.report_to.ensures.ends
+    IsFree 0 (omega arith) (request.Script (Check rule) name) (keeps_free rule name) asks zero
 
-pub returns-in-Ok-send-clause-tried : goal.returns-in-Ok-send-clause-tried
-returns-in-Ok-send-clause-tried g c asks zero =
-    let shelf = g.S.Shelf in
-    let sink = g.O.Sink in
-    tried (shelf.texts c.args.shelf.now) c.args.words.now (shelf_signs (shelf.faults c.args.shelf.now) (shelf.faults c.printed_reply.new.shelf) (shelf.taken c.args.shelf.now) (shelf.taken c.printed_reply.new.shelf))
-    (sink.sent c.args.out.now) (sink.sent c.send.new.out) c.in-Ok.printed c.in-Ok.ensures.prints c.as_slice.result.now c.as_slice.ensures c.in-Ok-send.ensures.ok zero asks
+pub returns-clause-tried : goal.returns-clause-tried
+returns-clause-tried g c (trial, asks) zero =
+    kept g.S.Shelf.texts g.S.Shelf.counts g.S.Shelf.gives c.args.shelf.now c.report_to.new.shelf c.args.words.now _ c.report_to.result c.report_to.ensures.ends
+    IsFree 0 (omega arith) (request.Trial trial) (keeps_tried trial) asks zero
 
-pub returns-in-Ok-send-clause-told : goal.returns-in-Ok-send-clause-told
-returns-in-Ok-send-clause-told g c asks zero =
-    let shelf = g.S.Shelf in
-    let sink = g.O.Sink in
-    told (shelf.texts c.args.shelf.now) c.args.words.now (shelf_signs (shelf.faults c.args.shelf.now) (shelf.faults c.printed_reply.new.shelf) (shelf.taken c.args.shelf.now) (shelf.taken c.printed_reply.new.shelf))
-    (sink.sent c.args.out.now) (sink.sent c.send.new.out) c.in-Ok.printed c.in-Ok.ensures.prints c.as_slice.result.now c.as_slice.ensures c.in-Ok-send.ensures.ok zero asks
+pub returns-clause-ranked : goal.returns-clause-ranked
+returns-clause-ranked g c (rule, name, asks) zero =
+    kept g.S.Shelf.texts g.S.Shelf.counts g.S.Shelf.gives c.args.shelf.now c.report_to.new.shelf c.args.words.now _ c.report_to.result c.report_to.ensures.ends
+    Promised 0 (omega arith) (request.Script (Check rule) name) (keeps (request.Script (Check rule) name)) asks zero
 
-pub returns-in-Ok-send-clause-ran : goal.returns-in-Ok-send-clause-ran
-returns-in-Ok-send-clause-ran g c asks is =
-    let shelf = g.S.Shelf in
-    let sink = g.O.Sink in
-    ran (shelf.texts c.args.shelf.now) c.args.words.now (shelf_signs (shelf.faults c.args.shelf.now) (shelf.faults c.printed_reply.new.shelf) (shelf.taken c.args.shelf.now) (shelf.taken c.printed_reply.new.shelf))
-    (sink.sent c.args.out.now) (sink.sent c.send.new.out) c.in-Ok.printed c.in-Ok.ensures.prints c.as_slice.result.now c.as_slice.ensures c.in-Ok-send.ensures.ok false is asks
+pub returns-clause-tried_ranked : goal.returns-clause-tried_ranked
+returns-clause-tried_ranked g c (trial, asks) zero =
+    kept g.S.Shelf.texts g.S.Shelf.counts g.S.Shelf.gives c.args.shelf.now c.report_to.new.shelf c.args.words.now _ c.report_to.result c.report_to.ensures.ends
+    Promised 0 (omega arith) (request.Trial trial) (keeps (request.Trial trial)) asks zero
 
-pub returns-in-Ok-send-clause-stuck : goal.returns-in-Ok-send-clause-stuck
-returns-in-Ok-send-clause-stuck g c asks is =
-    let shelf = g.S.Shelf in
-    let sink = g.O.Sink in
-    ran (shelf.texts c.args.shelf.now) c.args.words.now (shelf_signs (shelf.faults c.args.shelf.now) (shelf.faults c.printed_reply.new.shelf) (shelf.taken c.args.shelf.now) (shelf.taken c.printed_reply.new.shelf))
-    (sink.sent c.args.out.now) (sink.sent c.send.new.out) c.in-Ok.printed c.in-Ok.ensures.prints c.as_slice.result.now c.as_slice.ensures c.in-Ok-send.ensures.ok true is asks
+pub returns-clause-shown : goal.returns-clause-shown
+returns-clause-shown g c (name, asks) zero =
+    kept g.S.Shelf.texts g.S.Shelf.counts g.S.Shelf.gives c.args.shelf.now c.report_to.new.shelf c.args.words.now _ c.report_to.result c.report_to.ensures.ends
+    Promised 0 (omega arith) (request.Show name) (keeps (request.Show name)) asks zero
 
-pub returns-in-Ok-send-clause-bounded : goal.returns-in-Ok-send-clause-bounded
-returns-in-Ok-send-clause-bounded g c asks is =
-    let shelf = g.S.Shelf in
-    let sink = g.O.Sink in
-    bounded (shelf.texts c.args.shelf.now) c.args.words.now (shelf_signs (shelf.faults c.args.shelf.now) (shelf.faults c.printed_reply.new.shelf) (shelf.taken c.args.shelf.now) (shelf.taken c.printed_reply.new.shelf))
-    (sink.sent c.args.out.now) (sink.sent c.send.new.out) c.in-Ok.printed c.in-Ok.ensures.prints c.as_slice.result.now c.as_slice.ensures c.in-Ok-send.ensures.ok is asks
+pub returns-clause-told : goal.returns-clause-told
+returns-clause-told g c (i, name, asks) zero =
+    kept g.S.Shelf.texts g.S.Shelf.counts g.S.Shelf.gives c.args.shelf.now c.report_to.new.shelf c.args.words.now _ c.report_to.result c.report_to.ensures.ends
+    Promised 0 (omega arith) (request.Script (Table i) name) (keeps (request.Script (Table i) name)) asks zero
 
-pub returns-in-Ok-send-clause-conformed : goal.returns-in-Ok-send-clause-conformed
-returns-in-Ok-send-clause-conformed g c asks zero =
-    let shelf = g.S.Shelf in
-    let sink = g.O.Sink in
-    conformed (shelf.texts c.args.shelf.now) c.args.words.now (shelf_signs (shelf.faults c.args.shelf.now) (shelf.faults c.printed_reply.new.shelf) (shelf.taken c.args.shelf.now) (shelf.taken c.printed_reply.new.shelf))
-    (sink.sent c.args.out.now) (sink.sent c.send.new.out) c.in-Ok.printed c.in-Ok.ensures.prints c.as_slice.result.now c.as_slice.ensures c.in-Ok-send.ensures.ok zero asks
+pub returns-clause-ran : goal.returns-clause-ran
+returns-clause-ran g c (seed, steps, name, asks) zero =
+    kept g.S.Shelf.texts g.S.Shelf.counts g.S.Shelf.gives c.args.shelf.now c.report_to.new.shelf c.args.words.now _ c.report_to.result c.report_to.ensures.ends
+    Promised 0 (omega arith) (request.Script (Run seed steps) name) (keeps (request.Script (Run seed steps) name)) asks zero
 
-pub returns-in-Ok-send-clause-shown : goal.returns-in-Ok-send-clause-shown
-returns-in-Ok-send-clause-shown g c asks zero =
-    let shelf = g.S.Shelf in
-    let sink = g.O.Sink in
-    shown (shelf.texts c.args.shelf.now) c.args.words.now (shelf_signs (shelf.faults c.args.shelf.now) (shelf.faults c.printed_reply.new.shelf) (shelf.taken c.args.shelf.now) (shelf.taken c.printed_reply.new.shelf))
-    (sink.sent c.args.out.now) (sink.sent c.send.new.out) c.in-Ok.printed c.in-Ok.ensures.prints c.as_slice.result.now c.as_slice.ensures c.in-Ok-send.ensures.ok zero c.printed_text_spells_the_script.ensures.same c.printed_text_spells_the_script.ensures.only asks
+pub returns-clause-stuck : goal.returns-clause-stuck
+returns-clause-stuck g c (seed, steps, name, asks) one =
+    kept g.S.Shelf.texts g.S.Shelf.counts g.S.Shelf.gives c.args.shelf.now c.report_to.new.shelf c.args.words.now _ c.report_to.result c.report_to.ensures.ends
+    IsStuckRun 1 (omega arith) (request.Script (Run seed steps) name) (keeps_stuck seed steps name) asks one
 
-pub returns-in-Ok-send-clause-ranked : goal.returns-in-Ok-send-clause-ranked
-returns-in-Ok-send-clause-ranked g c asks zero =
-    let shelf = g.S.Shelf in
-    let sink = g.O.Sink in
-    ranked (shelf.texts c.args.shelf.now) c.args.words.now (shelf_signs (shelf.faults c.args.shelf.now) (shelf.faults c.printed_reply.new.shelf) (shelf.taken c.args.shelf.now) (shelf.taken c.printed_reply.new.shelf))
-    (sink.sent c.args.out.now) (sink.sent c.send.new.out) c.in-Ok.printed c.in-Ok.ensures.prints c.as_slice.result.now c.as_slice.ensures c.in-Ok-send.ensures.ok zero asks
+pub returns-clause-bounded : goal.returns-clause-bounded
+returns-clause-bounded g c (set, name, asks) zero =
+    kept g.S.Shelf.texts g.S.Shelf.counts g.S.Shelf.gives c.args.shelf.now c.report_to.new.shelf c.args.words.now _ c.report_to.result c.report_to.ensures.ends
+    Promised 0 (omega arith) (request.Script (Livelock set) name) (keeps (request.Script (Livelock set) name)) asks zero
 
-pub returns-in-Ok-send-clause-tried_ranked : goal.returns-in-Ok-send-clause-tried_ranked
-returns-in-Ok-send-clause-tried_ranked g c asks zero =
-    let shelf = g.S.Shelf in
-    let sink = g.O.Sink in
-    tried_ranked (shelf.texts c.args.shelf.now) c.args.words.now (shelf_signs (shelf.faults c.args.shelf.now) (shelf.faults c.printed_reply.new.shelf) (shelf.taken c.args.shelf.now) (shelf.taken c.printed_reply.new.shelf))
-    (sink.sent c.args.out.now) (sink.sent c.send.new.out) c.in-Ok.printed c.in-Ok.ensures.prints c.as_slice.result.now c.as_slice.ensures c.in-Ok-send.ensures.ok zero asks
+pub returns-clause-conformed : goal.returns-clause-conformed
+returns-clause-conformed g c (script, specification, asks) zero =
+    kept g.S.Shelf.texts g.S.Shelf.counts g.S.Shelf.gives c.args.shelf.now c.report_to.new.shelf c.args.words.now _ c.report_to.result c.report_to.ensures.ends
+    Promised 0 (omega arith) (request.Conform script specification) (keeps (request.Conform script specification)) asks zero
 
-pub returns-in-Ok-send-clause-complete : goal.returns-in-Ok-send-clause-complete
-returns-in-Ok-send-clause-complete g c memory shelf_quiet sink_quiet =
-    let shelf = g.S.Shelf in
-    let sink = g.O.Sink in
-    completes (shelf.texts c.args.shelf.now) c.args.words.now (sink_signs (sink.sent c.args.out.now) (sink.sent c.send.new.out) (sink.faults c.args.out.now) (sink.faults c.send.new.out)) c.in-Ok.printed.status
-    (settled (shelf.texts c.args.shelf.now) c.args.words.now (shelf_signs (shelf.faults c.args.shelf.now) (shelf.faults c.printed_reply.new.shelf) (shelf.taken c.args.shelf.now) (shelf.taken c.printed_reply.new.shelf))
-    (sink_signs (sink.sent c.args.out.now) (sink.sent c.send.new.out) (sink.faults c.args.out.now) (sink.faults c.send.new.out)) c.in-Ok.printed c.in-Ok.ensures.prints c.as_slice.result.now c.as_slice.ensures c.in-Ok-send.ensures.ok shelf_quiet)
+pub returns-clause-complete : goal.returns-clause-complete
+returns-clause-complete g c memory shelf_still sink_still =
+    settled_passes (g.S.Shelf.texts c.args.shelf.now) c.args.words.now
+    (sink_signs (g.O.Sink.sent c.args.out.now) (g.O.Sink.sent c.report_to.new.out) (g.O.Sink.faults c.args.out.now) (g.O.Sink.faults c.report_to.new.out)) c.report_to.result
+    (settled g.S.Shelf.texts g.S.Shelf.counts g.S.Shelf.gives c.args.shelf.now c.report_to.new.shelf c.args.words.now _ c.report_to.result c.report_to.ensures.ends memory shelf_still sink_still)
 
-pub returns-in-Ok-send-clause-matching : goal.returns-in-Ok-send-clause-matching
-returns-in-Ok-send-clause-matching g c memory shelf_quiet sink_quiet =
-    let shelf = g.S.Shelf in
-    let sink = g.O.Sink in
-    matching_completes (shelf.texts c.args.shelf.now) c.args.words.now (sink_signs (sink.sent c.args.out.now) (sink.sent c.send.new.out) (sink.faults c.args.out.now) (sink.faults c.send.new.out)) c.in-Ok.printed.status
-    (settled (shelf.texts c.args.shelf.now) c.args.words.now (shelf_signs (shelf.faults c.args.shelf.now) (shelf.faults c.printed_reply.new.shelf) (shelf.taken c.args.shelf.now) (shelf.taken c.printed_reply.new.shelf))
-    (sink_signs (sink.sent c.args.out.now) (sink.sent c.send.new.out) (sink.faults c.args.out.now) (sink.faults c.send.new.out)) c.in-Ok.printed c.in-Ok.ensures.prints c.as_slice.result.now c.as_slice.ensures c.in-Ok-send.ensures.ok shelf_quiet)
+pub returns-clause-shelf_fault : goal.returns-clause-shelf_fault
+returns-clause-shelf_fault g c four still = in_shelf_fault g.S.Shelf.texts g.S.Shelf.counts g.S.Shelf.gives c.args.shelf.now c.report_to.new.shelf c.args.words.now _ c.report_to.result c.report_to.ensures.ends four still
 
-pub returns-in-Ok-send-clause-settled : goal.returns-in-Ok-send-clause-settled
-returns-in-Ok-send-clause-settled g c memory shelf_quiet sink_quiet =
-    let shelf = g.S.Shelf in
-    let sink = g.O.Sink in
-    settled (shelf.texts c.args.shelf.now) c.args.words.now (shelf_signs (shelf.faults c.args.shelf.now) (shelf.faults c.printed_reply.new.shelf) (shelf.taken c.args.shelf.now) (shelf.taken c.printed_reply.new.shelf))
-    (sink_signs (sink.sent c.args.out.now) (sink.sent c.send.new.out) (sink.faults c.args.out.now) (sink.faults c.send.new.out)) c.in-Ok.printed c.in-Ok.ensures.prints c.as_slice.result.now c.as_slice.ensures c.in-Ok-send.ensures.ok shelf_quiet
-
-pub returns-in-Ok-send-clause-ends : goal.returns-in-Ok-send-clause-ends
-returns-in-Ok-send-clause-ends g c =
-    let shelf = g.S.Shelf in
-    let sink = g.O.Sink in
-    ends_whole (MayGive (shelf.texts c.args.shelf.now) c.args.words.now (shelf_signs (shelf.faults c.args.shelf.now) (shelf.faults c.printed_reply.new.shelf) (shelf.taken c.args.shelf.now) (shelf.taken c.printed_reply.new.shelf)))
-    (sink_signs (sink.sent c.args.out.now) (sink.sent c.send.new.out) (sink.faults c.args.out.now) (sink.faults c.send.new.out)) c.in-Ok.printed c.in-Ok.ensures.prints c.as_slice.result.now c.as_slice.ensures c.in-Ok-send.ensures.ok
-
-pub returns-in-Ok-send-clause-shelf_fault : goal.returns-in-Ok-send-clause-shelf_fault
-returns-in-Ok-send-clause-shelf_fault g c four quiet =
-    let shelf = g.S.Shelf in
-    let sink = g.O.Sink in
-    ends_in_shelf_fault (shelf.texts c.args.shelf.now) c.args.words.now (shelf_signs (shelf.faults c.args.shelf.now) (shelf.faults c.printed_reply.new.shelf) (shelf.taken c.args.shelf.now) (shelf.taken c.printed_reply.new.shelf))
-    (sink_signs (sink.sent c.args.out.now) (sink.sent c.send.new.out) (sink.faults c.args.out.now) (sink.faults c.send.new.out)) c.in-Ok.printed c.in-Ok.ensures.prints c.as_slice.result.now c.as_slice.ensures c.in-Ok-send.ensures.ok four
-
-pub returns-in-Err-Failed-clause-ends : goal.returns-in-Err-Failed-clause-ends
-returns-in-Err-Failed-clause-ends g c =
-    let shelf = g.S.Shelf in
-    let sink = g.O.Sink in
-    ends_broken (MayGive (shelf.texts c.args.shelf.now) c.args.words.now (shelf_signs (shelf.faults c.args.shelf.now) (shelf.faults c.printed_reply.new.shelf) (shelf.taken c.args.shelf.now) (shelf.taken c.printed_reply.new.shelf)))
-    (sink_signs (sink.sent c.args.out.now) (sink.sent c.send.new.out) (sink.faults c.args.out.now) (sink.faults c.send.new.out)) c.in-Ok.printed c.in-Ok.ensures.prints c.as_slice.result.now c.as_slice.ensures
-    (c.send.ensures.failed (c.in-Err-Failed.is ∙ ap Err c.in-Err-Failed.field-0-is)) c.in-Err-Failed.ensures.err
-
-pub returns-clause-ends : goal.returns-clause-ends
-returns-clause-ends g c =
-    let shelf = g.S.Shelf in
-    let sink = g.O.Sink in
-    ends_short (MayGive (shelf.texts c.args.shelf.now) c.args.words.now (shelf_signs (shelf.faults c.args.shelf.now) (shelf.faults c.printed_reply.new.shelf) (shelf.taken c.args.shelf.now) (shelf.taken c.printed_reply.new.shelf)))
-    (sink_signs (sink.sent c.args.out.now) (sink.sent c.send.new.out) (sink.faults c.args.out.now) (sink.faults c.send.new.out)) c.in-Ok.printed c.in-Ok.ensures.prints c.as_slice.result.now c.as_slice.ensures c.in-Err-NoMemory.ensures.err
+pub returns-clause-settled : goal.returns-clause-settled
+returns-clause-settled g c memory shelf_still sink_still = settled g.S.Shelf.texts g.S.Shelf.counts g.S.Shelf.gives c.args.shelf.now c.report_to.new.shelf c.args.words.now _ c.report_to.result c.report_to.ensures.ends memory shelf_still sink_still

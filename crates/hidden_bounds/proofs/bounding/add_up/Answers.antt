@@ -9,5 +9,5 @@ loop-place-init c =
     record {
       as_many = ap length none;
       bounds = λ k p below at. absurd (let few : length c.new-bounds.result.items ≡ 0 = ap length none in omega (arith, few, below));
-      total = ap hidden_bound (sym (none_taken c.args.scope.now.hidden.now c.args.scope.now.seats.now));
+      total = ap (hidden_bound c.args.scope.now.hidden.now) (sym (none_taken c.args.scope.now.seats.now));
     }

@@ -23,7 +23,7 @@ returns-in_err-bound-clause-told c =
 pub returns-clause-bound : goal.returns-clause-bound
 returns-clause-bound c =
     let far = subst (IsTakenFar (ProcessStep c.args.program.now) c.args.hidden.now c.args.seats.now c.in_ok-order.order.items) (sym c.from_vec-parts.ensures) c.in_ok-order.ensures in
-    let sum_is : c.in_ok-bound.bound ≡ hidden_bound (taken_in c.args.hidden.now c.args.seats.now c.in_ok-order.order.items) =
-    c.in_ok-bound.ensures.total ∙ ap (λ (o : List Placed). hidden_bound (taken_in c.args.hidden.now c.args.seats.now o)) c.as_slice.ensures.value in
+    let sum_is : c.in_ok-bound.bound ≡ hidden_bound c.args.hidden.now (taken_in c.args.seats.now c.in_ok-order.order.items) =
+    c.in_ok-bound.ensures.total ∙ ap (λ (o : List Placed). hidden_bound c.args.hidden.now (taken_in c.args.seats.now o)) c.as_slice.ensures.value in
     bound_told (ProcessStep c.args.program.now) c.args.hidden.now c.args.seats.now c.in_ok-order.order.items c.from_vec-parts.result
     (record { order = c.from_vec.result; bound = c.in_ok-bound.bound }) c.is_empty.result far c.is_empty.ensures c.if-not-is_empty.false c.from_vec.ensures sum_is

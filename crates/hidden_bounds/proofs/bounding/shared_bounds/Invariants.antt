@@ -4,4 +4,4 @@ use Rattle.hidden_bounds.specs.Taking.{alphabet_at, taken_in}
 use Rattle.hidden_bounds.proofs.bounding.shared_bounds.Given as goal
 
 abbrev pub invariant-loop-place : goal.invariant-loop-place
-invariant-loop-place l = l.total ≡ shared_bounds l.scope.hidden.now (alphabet_at l.scope.seats.now l.part) (taken_in l.scope.hidden.now l.scope.seats.now (take l.place l.order))
+invariant-loop-place l = l.total ≡ shared_bounds l.scope.hidden.now (alphabet_at l.scope.seats.now l.part) (taken_in l.scope.seats.now (take l.place l.order))

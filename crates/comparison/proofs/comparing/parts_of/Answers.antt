@@ -1,0 +1,17 @@
+use Rattle.std.proofs.Common.{Err, subst}
+use Rattle.network_stages.specs.Networks.{Network}
+use Rattle.network_stages.specs.Stages.{HasNoParts}
+use Rattle.report.proofs.Points.{at_refusal, goes_on}
+use Rattle.report.specs.Stops.{Tells}
+use Rattle.comparison.specs.Compared.{PartsOr}
+use Rattle.comparison.proofs.comparing.parts_of.Goals as goal
+
+pub returns-in-Ok-clause-told : goal.returns-in-Ok-clause-told
+unfolding PartsOr
+returns-in-Ok-clause-told c =
+    goes_on _ _ _ _ c.in-Ok.tabled.tables c.in-Ok.ensures.tables (Err c.refused.result) (at_refusal (Err c.refused.result) c.args.side _ _ _ _ c.refused.ensures
+    (subst (λ (n : Network). Tells (HasNoParts n) c.in-Err-make_parts.stop) c.in-Ok.ensures.network c.in-Err-make_parts.ensures.told))
+
+pub returns-clause-told : goal.returns-clause-told
+unfolding PartsOr
+returns-clause-told c = at_refusal (Err c.refused-in-Err.result) c.args.side _ _ _ _ c.refused-in-Err.ensures c.in-Err.ensures.told

@@ -1,0 +1,29 @@
+use Rattle.std.proofs.Common.{◌≡◌, length, ap, rules, arith, sym, subst}
+use Rattle.csp_tables.specs.Network.{leaves}
+use Rattle.net_sound.proofs.Parts.{one_part_each}
+use Rattle.network_stages.specs.Stages.{HasParts}
+use Rattle.process_steps.specs.ComponentStep.{ProcessStep}
+use Rattle.report.specs.Stops.{Tells}
+use Rattle.comparison.proofs.Components.{all_conform, as_many, first_fails}
+use Rattle.comparison.specs.Conforming.{FailsToConform}
+use Rattle.comparison.proofs.conforming.check_components.Goals as goal
+
+pub check_parts-requires-clause-few : goal.check_parts-requires-clause-few
+check_parts-requires-clause-few c =
+    let network = c.args.network.now.network in
+    let one_each = one_part_each (ProcessStep network.program) (leaves network.tree) c.args.network.now.parts c.parts.ensures.are.are in
+    let seats : length c.seats-seats.result.now ≡ length (leaves network.tree) = search rules in
+    omega (arith, one_each, seats, c.seats-seats.ensures.few, ap length c.parts.ensures.parts)
+
+pub check_parts-requires-clause-as_many : goal.check_parts-requires-clause-as_many
+check_parts-requires-clause-as_many c =
+    as_many c.args.network.now.network c.args.specified.now.network _ _ (search rules) (search rules) c.requires
+
+pub returns-in-Ok-clause-conform : goal.returns-in-Ok-clause-conform
+returns-in-Ok-clause-conform c = all_conform c.args.network.now.network c.args.specified.now.network c.parts.result.now c.parts-2.result.now (search rules) (search rules) c.requires c.in-Ok.ensures.conform
+
+pub returns-in-Err-clause-told : goal.returns-in-Err-clause-told
+returns-in-Err-clause-told c =
+    subst (Tells (FailsToConform c.args.network.now.network c.args.specified.now.network)) (sym c.failure.ensures)
+    (first_fails c.args.network.now.network c.args.specified.now.network c.parts.result.now c.parts-2.result.now (search rules) (search rules) c.requires c.in-Err.place c.in-Err.fault
+    c.in-Err.ensures.within c.in-Err.ensures.earlier c.in-Err.ensures.fails)

@@ -1,0 +1,38 @@
+use Rattle.std.proofs.Common.{◌≡◌, List, [], ◌∷◌, ℕ, refl, sym, ap, ap₂, ◌∙◌}
+use Rattle.command_words.specs.declared.request.Request.TheVariants as request
+use Rattle.dl_top.proofs.Loading.{names_none, same_request}
+use Rattle.dl_top.proofs.Walks.{ends_weaker}
+use Rattle.dl_top.specs.Cause.{IsLoad, Loaded, TextsCallFor}
+use Rattle.dl_top.proofs.load.answered.Goals as goal
+
+pub returns-in-Show-clause-calls : goal.returns-in-Show-clause-calls
+returns-in-Show-clause-calls g c =
+    let shelf = g.S.Shelf in
+    same_request (IsLoad shelf.texts shelf.counts shelf.gives) c.args.shelf.now c.shown.new.shelf c.args.request.now _ c.shown.result (c.in-Show.is ∙ ap request.Show (sym c.as_slice.ensures)) c.shown.ensures.calls
+
+pub returns-in-Show-clause-untouched : goal.returns-in-Show-clause-untouched
+returns-in-Show-clause-untouched g c none = absurd (names_none c.args.request.now _ c.in-Show.is (λ no. cc) none)
+
+pub returns-in-Script-clause-calls : goal.returns-in-Script-clause-calls
+returns-in-Script-clause-calls g c =
+    let shelf = g.S.Shelf in
+    same_request (IsLoad shelf.texts shelf.counts shelf.gives) c.args.shelf.now c.scripted.new.shelf c.args.request.now _ c.scripted.result
+    (c.in-Script.is ∙ ap (request.Script c.in-Script.job) (sym c.as_slice-in-Script.ensures)) c.scripted.ensures.calls
+
+pub returns-in-Script-clause-untouched : goal.returns-in-Script-clause-untouched
+returns-in-Script-clause-untouched g c none = absurd (names_none c.args.request.now _ c.in-Script.is (λ no. cc) none)
+
+pub returns-in-Trial-clause-calls : goal.returns-in-Trial-clause-calls
+returns-in-Trial-clause-calls g c =
+    let shelf = g.S.Shelf in
+    same_request (IsLoad shelf.texts shelf.counts shelf.gives) c.args.shelf.now c.args.shelf.now c.args.request.now (request.Trial c.in-Trial.trial) c.tried.result c.in-Trial.is
+    (ends_weaker _ _ (λ a calls. (refl, calls)) c.tried.result c.tried.ensures)
+
+pub returns-in-Conform-clause-calls : goal.returns-in-Conform-clause-calls
+returns-in-Conform-clause-calls g c =
+    let shelf = g.S.Shelf in
+    same_request (IsLoad shelf.texts shelf.counts shelf.gives) c.args.shelf.now c.conforming.new.shelf c.args.request.now _ c.conforming.result
+    (c.in-Conform.is ∙ ap₂ request.Conform (sym c.as_slice-in-Conform.ensures) (sym c.as_slice-in-Conform-2.ensures)) c.conforming.ensures.calls
+
+pub returns-in-Conform-clause-untouched : goal.returns-in-Conform-clause-untouched
+returns-in-Conform-clause-untouched g c none = absurd (names_none c.args.request.now _ c.in-Conform.is (λ no. cc) none)

@@ -1,0 +1,30 @@
+-- A bound that is found, and a fault, as they are told.
+use Rattle.std.proofs.Common.{◌≡◌, ◌<◌, ◌^◌, ℕ, List, length, refl, ap}
+use Rattle.csp_tables.specs.Network.{leaves}
+use Rattle.hidden_bounds.specs.Found.{IsBound, TellsLoop}
+use Rattle.hidden_bounds.specs.declared.bounding.HiddenBound.{HiddenBound}
+use Rattle.hidden_bounds.specs.declared.bounding.LoopFault.{LoopFault}
+use Rattle.hidden_bounds.specs.declared.bounding.LoopFault.TheVariants as fault
+use Rattle.network_stages.specs.Networks.{Network}
+use Rattle.process_steps.specs.ComponentStep.{ProcessStep}
+use Rattle.report.specs.Points.Point.{passed, told}
+use Rattle.report.specs.Stops.{Tells}
+use Rattle.report.specs.declared.answer.Done.{Done}
+use Rattle.report.specs.declared.answer.Done.TheVariants as done
+use Rattle.report.specs.declared.answer.Refusal.TheVariants as refusal
+use Rattle.report.specs.declared.answer.Shortfall.TheVariants as shortfall
+use Rattle.report.specs.declared.answer.Verdict.TheVariants as verdict
+use Rattle.livelock.specs.Bounded.{OrderDecides}
+use Rattle.livelock.specs.Stopping.{stop_of_fault}
+
+module _ (network : Network) (events : List ℕ) where
+  pub bound_decides : (found : HiddenBound) → IsBound (ProcessStep network.program) events (leaves network.tree) found → found.bound < 2 ^ 64
+      → (what : Done) → what ≡ done.LivelockFree (length (leaves network.tree)) found.bound → OrderDecides network events (verdict.Done what)
+  unfolding OrderDecides
+  bound_decides found is fits what same = passed is.order is.is (passed found.bound (is.bound, fits) (ap verdict.Done same))
+
+  pub fault_decides : (f : LoopFault) → TellsLoop (ProcessStep network.program) events (leaves network.tree) f → Tells (OrderDecides network events) (stop_of_fault f)
+  unfolding OrderDecides
+  fault_decides fault.NoMemory tells = tt
+  fault_decides (fault.NoOrder parts) tells = told (shortfall.NoOrder parts) (parts, tells, refl) refl
+  fault_decides (fault.BoundLimit part) tells = passed tells.order tells.is (told (refusal.BoundLimit part) (part, tells.passes, refl) refl)
