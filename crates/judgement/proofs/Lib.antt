@@ -1,6 +1,6 @@
 mod Broken
 mod Counting
-mod Free
+mod Living
 pub mod KindsUnique
 pub mod Notes
 pub mod OneNetwork

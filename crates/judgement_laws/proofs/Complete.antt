@@ -1,5 +1,5 @@
 -- Where a network passes, no point of its judgement can tell a fault. And two verdicts on one network have one status.
-use Rattle.std.proofs.Common.{◌≡◌, ◌≤◌, ℕ, List, [], ◌∷◌, length, take, sym, ap, subst, ◌∙◌, arith}
+use Rattle.std.proofs.Common.{◌≡◌, ◌≤◌, ℕ, length, take, sym, ap, subst, ◌∙◌, arith}
 use Rattle.std.specs.Prelude.{min}
 use Rattle.std.proofs.lemmas.List.{length-take}
 use Rattle.std.proofs.lemmas.Option.{slice_get_within}
@@ -21,7 +21,7 @@ use Rattle.network_layout.specs.declared.triple.TripleFault.TheVariants as tripl
 use Rattle.network_stages.specs.Networks.{Network}
 use Rattle.network_stages.specs.Sets.{HaveFewSets}
 use Rattle.network_stages.specs.Shapes.{IsApart}
-use Rattle.network_stages.specs.Stages.{CanStop, HasNoParts, HasNoTables, ShareEvent, StaysBusy}
+use Rattle.network_stages.specs.Stages.{CanStop, HasNoParts, ShareEvent, StaysBusy}
 use Rattle.process_steps.specs.ComponentStep.{ProcessStep}
 use Rattle.report.specs.Points.{Point, UnprovedUnless}
 use Rattle.report.specs.Points.Point.{passed, told}

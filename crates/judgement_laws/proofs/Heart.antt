@@ -1,5 +1,5 @@
 -- The theorem about rankings, at the steps of a program.
-use Rattle.std.proofs.Common.{◌≡◌, List, refl}
+use Rattle.std.proofs.Common.{refl}
 use Rattle.csp_tables.specs.GoodRanking.{IsGoodRanking}
 use Rattle.csp_tables.specs.Network.{leaves}
 use Rattle.net_sound.proofs.Flattening.{flat_steps_are_tree_steps, tree_steps_are_flat}

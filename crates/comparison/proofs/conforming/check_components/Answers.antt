@@ -1,7 +1,6 @@
 use Rattle.std.proofs.Common.{◌≡◌, length, ap, rules, arith, sym, subst}
 use Rattle.csp_tables.specs.Network.{leaves}
 use Rattle.net_sound.proofs.Parts.{one_part_each}
-use Rattle.network_stages.specs.Stages.{HasParts}
 use Rattle.process_steps.specs.ComponentStep.{ProcessStep}
 use Rattle.report.specs.Stops.{Tells}
 use Rattle.comparison.proofs.Components.{all_conform, as_many, first_fails}

@@ -1,4 +1,4 @@
-use Rattle.std.proofs.Common.{List, length, ◌<◌, subst, sym, ap, ◌∙◌}
+use Rattle.std.proofs.Common.{List, ◌<◌, subst, sym, ap, ◌∙◌}
 use Rattle.csp_tables.specs.Part.{Part}
 use Rattle.judgement.specs.Counts.{node_count}
 use Rattle.judgement.proofs.Counting.{few_nodes}

@@ -1,7 +1,6 @@
 use Rattle.std.proofs.Common.{◌∙◌, rules, subst}
 use Rattle.network_stages.specs.Networks.{Network}
-use Rattle.network_stages.specs.Shapes.{IsApart}
-use Rattle.network_stages.specs.Stages.{HasParts, StaysBusy}
+use Rattle.network_stages.specs.Stages.{StaysBusy}
 use Rattle.report.proofs.Points.{exits, goes_on}
 use Rattle.report.specs.Stops.{Answers}
 use Rattle.judgement.specs.Judged.{IsJudged, RuleDecides}

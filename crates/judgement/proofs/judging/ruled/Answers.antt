@@ -2,13 +2,15 @@ use Rattle.std.proofs.Common.{ap, rules, subst}
 use Rattle.design_rules.proofs.GreatestRanks.{rankings_have_greatest_rank}
 use Rattle.network_stages.specs.Networks.{Network}
 use Rattle.process_steps.specs.ComponentStep.{ProcessStep}
-use Rattle.report.proofs.Points.{exits}
+use Rattle.report.proofs.Points.{at_refusal, at_shortfall, goes_on}
 use Rattle.report.specs.Points.Point.{passed}
+use Rattle.report.specs.Stops.{Tells}
+use Rattle.report.specs.declared.answer.Side.TheVariants as side
 use Rattle.report.specs.declared.answer.Verdict.TheVariants as verdict
 use Rattle.design_rules.specs.RankCounts.{greatest_rank}
 use Rattle.judgement.specs.Judged.{RuleDecides}
-use Rattle.judgement.specs.Noted.{Notes}
-use Rattle.judgement.proofs.Free.{live}
+use Rattle.judgement.specs.Noted.{HasUntold, Notes}
+use Rattle.judgement.proofs.Living.{live}
 use Rattle.judgement.proofs.Notes.{has_notes}
 use Rattle.judgement.proofs.judging.ruled.Goals as goal
 
@@ -20,11 +22,15 @@ ranked-requires c =
 
 pub returns-in_err-notes : goal.returns-in_err-notes
 unfolding RuleDecides
-returns-in_err-notes c = search (rules, exits)
+returns-in_err-notes c =
+    at_refusal c.from_residual.result side.Script _ _ _ _ c.from_residual.ensures.1
+    (subst (λ (n : Network). Tells (HasUntold n c.args.rule) c.in_err-notes.field-0.0) c.network-network.ensures c.in_err-notes.ensures.told)
 
 pub returns-in_err-ranking : goal.returns-in_err-ranking
 unfolding RuleDecides
-returns-in_err-ranking c = ?
+returns-in_err-ranking c =
+    goes_on _ _ _ _ c.in_ok-notes.notes (subst (λ (n : Network). Notes n c.args.rule c.in_ok-notes.notes) c.network-network.ensures c.in_ok-notes.ensures.ok) _
+    (at_shortfall c.from_residual-in_err-ranking.result _ _ _ _ c.from_residual-in_err-ranking.ensures.1 c.in_err-ranking.ensures.told)
 
 pub returns : goal.returns
 unfolding RuleDecides

@@ -9,7 +9,7 @@ unfolding IsWalked
 returns-in_err-tabled c = search (rules, at_refusal, at_want)
 
 pub returns-in_err-made : goal.returns-in_err-made
-returns-in_err-made c = search (rules, at_refusal, at_want)
+returns-in_err-made c = search (rules, at_want)
 
 pub returns : goal.returns
 unfolding IsWalked
