@@ -6,7 +6,7 @@ use Rattle.csp_tables.specs.Part.{Part}
 use Rattle.network_layout.specs.Triple.{alphabets}
 use Rattle.network_stages.specs.Networks.{Network}
 use Rattle.network_stages.specs.Stages.{HasParts, HasTables}
-use Rattle.network_tables.specs.declared.component_tables.ComponentTable.{ComponentTable}
+use Rattle.network_stages.specs.declared.component_tables.ComponentTable.{ComponentTable}
 use Rattle.report.proofs.Points.{at_stop, goes_on, weaker}
 use Rattle.report.specs.Points.Point.{passed, told}
 use Rattle.report.specs.Stops.{Answers, Tells}

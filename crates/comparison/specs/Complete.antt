@@ -6,7 +6,7 @@ use Rattle.network_layout.specs.Triple.{alphabets}
 use Rattle.network_stages.specs.Networks.{Network}
 use Rattle.network_stages.specs.Sets.{HaveFewSets}
 use Rattle.network_stages.specs.Stages.{HasTables}
-use Rattle.network_tables.specs.declared.component_tables.ComponentTable.{ComponentTable}
+use Rattle.network_stages.specs.declared.component_tables.ComponentTable.{ComponentTable}
 use Rattle.report.specs.Report.{verdict_status}
 use Rattle.report.specs.declared.answer.Verdict.{Verdict}
 use Rattle.comparison.specs.Agreement.{printed_events}

@@ -3,7 +3,7 @@
 ghost use Rattle.std.specs.Prelude.{◌≡◌, List, IfErr, IfOk, OnOk};
 ghost use Rattle.network_stages.specs.Networks.{HasSilentBound};
 ghost use Rattle.network_stages.specs.Stages.{HasParts, HasTables};
-ghost use Rattle.network_tables.specs.declared.component_tables.ComponentTable.{ComponentTable};
+ghost use Rattle.network_stages.specs.declared.component_tables.ComponentTable.{ComponentTable};
 ghost use Rattle.report.specs.Stops.{Answers, Tells};
 ghost use Rattle.comparison.specs.Compared.{IsCompared, PartsOr};
 

@@ -30,7 +30,7 @@ use Rattle.livelock.specs.Bounded.{IsBounded}
 use Rattle.network_stages.specs.Networks.{IsNetworkOf, Network}
 use Rattle.network_stages.specs.Sets.{HaveFewSets}
 use Rattle.network_stages.specs.Stages.{HasNoPart, HasTables}
-use Rattle.network_tables.specs.declared.component_tables.ComponentTable.{ComponentTable}
+use Rattle.network_stages.specs.declared.component_tables.ComponentTable.{ComponentTable}
 use Rattle.network_trees.proofs.InOrder.{network_is_tree}
 use Rattle.network_walks.proofs.Runs.{no_move_means_stuck, stays_nested, stuck_walks_refute_live, walks_are_runs}
 use Rattle.network_walks.specs.Walked.{IsNetworkWalk, IsWalked, TellsWalk, walk_verdict}
@@ -49,7 +49,7 @@ use Rattle.report.specs.declared.answer.Side.TheVariants as side
 use Rattle.report.specs.declared.answer.Verdict.{Verdict}
 use Rattle.report.specs.declared.answer.Verdict.TheVariants as verdict
 use Rattle.script_printer.specs.PrintedScript.{script_text}
-use Rattle.network_tables.specs.Tables.{AreTablesOf}
+use Rattle.network_stages.specs.Tables.{AreTablesOf}
 use Rattle.tabulation.proofs.Status.{tabulated_cases, tabulated_is_complete}
 use Rattle.tabulation.specs.Tabulated.{IsTabulated}
 use Rattle.dl_top.specs.Cause.{TextsCallFor}

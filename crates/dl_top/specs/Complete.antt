@@ -19,8 +19,8 @@ use Rattle.livelock.specs.Complete.{IsWithinBound}
 use Rattle.network_stages.specs.Networks.{Network}
 use Rattle.network_stages.specs.Sets.{HaveFewSets}
 use Rattle.network_stages.specs.Stages.{HasTables}
-use Rattle.network_tables.specs.Tables.{AreTablesOf}
-use Rattle.network_tables.specs.declared.component_tables.ComponentTable.{ComponentTable}
+use Rattle.network_stages.specs.Tables.{AreTablesOf}
+use Rattle.network_stages.specs.declared.component_tables.ComponentTable.{ComponentTable}
 use Rattle.dl_top.specs.Judgement.{SpellsNetwork}
 use Rattle.dl_top.specs.Reply.{rule_of, trial_text}
 

@@ -6,9 +6,9 @@ use Rattle.csp_base.proofs.Lists.{slice_get_some}
 use Rattle.csp_program.specs.declared.processes.Proc.{Proc}
 use Rattle.csp_program.specs.declared.programs.Content.{Content}
 use Rattle.csp_tables.specs.Network.{Component}
-use Rattle.network_tables.specs.Tables.{AreTablesOf, HasTable, whole_room}
-use Rattle.network_tables.specs.declared.component_tables.ComponentTable.{ComponentTable}
-use Rattle.network_tables.proofs.Rows.{as_many, table_at}
+use Rattle.network_stages.specs.Tables.{AreTablesOf, HasTable, whole_room}
+use Rattle.network_stages.specs.declared.component_tables.ComponentTable.{ComponentTable}
+use Rattle.network_stages.proofs.Tabling.{as_many, table_at}
 use Rattle.process_steps.specs.ComponentStep.{ProcessStep}
 use Rattle.own_graphs.specs.Own.{GoesRoundItself, IsOwnHeight}
 use Rattle.own_graphs.proofs.Carried.{own_circles_are_exact, own_heights_are_exact}

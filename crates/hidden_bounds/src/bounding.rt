@@ -3,7 +3,7 @@
 ghost use Rattle.std.specs.Prelude.{◌≡◌, ◌≤◌, ◌<◌, ◌+◌, ◌*◌, ◌^◌, ◌++◌, ◌∷◌, [], suc, length, take, slice_get, if◌then◌else◌, IfErr, IfNone, IfOk, IfSome, OnOk, Some};
 ghost use Rattle.dl_limits.specs.declared.TheConstants.{MOST_COMPONENTS};
 ghost use Rattle.hidden_steps.specs.Order as meant;
-ghost use Rattle.network_tables.specs.Tables.{AreTablesOf};
+ghost use Rattle.network_stages.specs.Tables.{AreTablesOf};
 ghost use Rattle.process_steps.specs.ComponentStep.{ProcessStep};
 ghost use Rattle.hidden_bounds.specs.Found.{IsBound, PassesAt, TellsLoop};
 ghost use Rattle.hidden_bounds.specs.Sums.{AreBounds, IsNextSum, TellsSum, sum_before};
@@ -16,7 +16,7 @@ use containers::Items;
 use csp_base::{EventSet, NoMemory};
 use csp_program::Program;
 use network_layout::Seat;
-use network_tables::ComponentTable;
+use network_stages::ComponentTable;
 use std::alloc::Global;
 
 /// A network in which hidden events are bounded.

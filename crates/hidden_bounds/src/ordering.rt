@@ -2,7 +2,7 @@
 
 ghost use Rattle.std.specs.Prelude.{◌≡◌, ◌≤◌, ◌<◌, ◌+◌, true, false, length, IfNone, IfOk, IfSome, OnOk};
 ghost use Rattle.dl_limits.specs.declared.TheConstants.{MOST_COMPONENTS};
-ghost use Rattle.network_tables.specs.Tables.{AreTablesOf};
+ghost use Rattle.network_stages.specs.Tables.{AreTablesOf};
 ghost use Rattle.process_steps.specs.ComponentStep.{ProcessStep};
 ghost use Rattle.hidden_bounds.specs.Standings.{AreKnown, AreReopened, IsFreeHere, IsKnown, IsLeastFree, IsSoFar, IsTakenAll, IsTakenFar, StayKnown, one_more, waiting};
 

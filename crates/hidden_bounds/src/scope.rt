@@ -7,7 +7,7 @@ ghost use Rattle.hidden_bounds.specs.Taking.{alphabet_at};
 use csp_base::{EventSet, NoMemory};
 use csp_program::Program;
 use network_layout::Seat;
-use network_tables::ComponentTable;
+use network_stages::ComponentTable;
 use std::alloc::Global;
 
 // What each function here reads: where memory comes from, the program, components, tables, hidden events.

@@ -9,7 +9,7 @@ use Rattle.net_sound.proofs.ShapeOf.{shapes_behave}
 use Rattle.net_sound.proofs.Soundness.{good_rankings_mean_live}
 use Rattle.net_sound.specs.Soundness.{IsSound}
 use Rattle.network_stages.specs.Networks.{HasSilentBound, IsSpelled, Network}
-use Rattle.network_tables.proofs.HeightSums.{bound_is}
+use Rattle.network_stages.proofs.HeightSums.{bound_is}
 use Rattle.network_trees.proofs.InOrder.{network_is_tree}
 use Rattle.process_steps.specs.ComponentStep.{ProcessStep}
 use Rattle.judgement_laws.specs.Heart.{GoodRankingsMeanLive, IsFlat, bound_of}

@@ -22,8 +22,8 @@ use Rattle.local_tables.proofs.Excluding.{excluded}
 use Rattle.net_sound.proofs.Heights.{heights_are_exact}
 use Rattle.net_sound.proofs.Numbered.{stands}
 use Rattle.net_sound.proofs.Soundness.{path_alphabet}
-use Rattle.network_tables.specs.Tables.{AreTablesOf, AreTablesWithin, HasTable, IsTableWithin, room_after, room_left, whole_room}
-use Rattle.network_tables.specs.declared.component_tables.ComponentTable.{ComponentTable}
+use Rattle.network_stages.specs.Tables.{AreTablesOf, AreTablesWithin, HasTable, IsTableWithin, room_after, room_left, whole_room}
+use Rattle.network_stages.specs.declared.component_tables.ComponentTable.{ComponentTable}
 use Rattle.process_steps.specs.declared.component_fault.ComponentFault.TheVariants as fault
 use Rattle.process_steps.specs.ComponentStep.{ProcessStep}
 use Rattle.process_steps.specs.StepList.{Move, steps_of}

@@ -12,7 +12,7 @@ use Rattle.network_stages.specs.Networks.{Network}
 use Rattle.network_stages.specs.Shapes.{IsApart}
 use Rattle.network_stages.specs.Stages.{HasTables, StaysBusy}
 use Rattle.network_stages.specs.Sets.{HaveFewSets}
-use Rattle.network_tables.specs.declared.component_tables.ComponentTable.{ComponentTable}
+use Rattle.network_stages.specs.declared.component_tables.ComponentTable.{ComponentTable}
 use Rattle.process_steps.specs.ComponentStep.{ProcessStep}
 use Rattle.report.proofs.Points.{refused_or, unproved_or}
 use Rattle.report.specs.Report.{verdict_status}

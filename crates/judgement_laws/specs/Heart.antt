@@ -14,7 +14,7 @@ use Rattle.net_sound.specs.Heights.{sum_of_greatest}
 use Rattle.network_stages.specs.Networks.{HasSilentBound, IsLive, IsSpelled, Network}
 use Rattle.network_stages.specs.Shapes.{IsApart}
 use Rattle.network_stages.specs.Stages.{HasTables, StaysBusy}
-use Rattle.network_tables.specs.declared.component_tables.ComponentTable.{ComponentTable}
+use Rattle.network_stages.specs.declared.component_tables.ComponentTable.{ComponentTable}
 use Rattle.process_steps.specs.ComponentStep.{ProcessStep}
 
 -- the sum of the greatest silent heights

@@ -6,8 +6,8 @@ use Rattle.csp_tables.specs.Network.{Component}
 use Rattle.csp_text.specs.declared.script.Script.{Script}
 use Rattle.network_stages.specs.Networks.{IsNetworkOf, Network}
 use Rattle.network_stages.specs.Stages.{HasNoNetwork, HaveNoTables}
-use Rattle.network_tables.specs.Tables.{AreTablesOf}
-use Rattle.network_tables.specs.declared.component_tables.ComponentTable.{ComponentTable}
+use Rattle.network_stages.specs.Tables.{AreTablesOf}
+use Rattle.network_stages.specs.declared.component_tables.ComponentTable.{ComponentTable}
 use Rattle.report.specs.declared.answer.Answer.{Answer}
 use Rattle.report.specs.declared.answer.Refusal.{Refusal}
 use Rattle.report.specs.declared.answer.Side.{Side}

@@ -3,7 +3,7 @@ use Rattle.std.specs.Prelude.{◌≡◌, ℕ, List}
 use Rattle.hidden_steps.specs.Order.{Taken}
 use Rattle.network_stages.specs.Networks.{Network}
 use Rattle.network_stages.specs.Stages.{HasTables}
-use Rattle.network_tables.specs.declared.component_tables.ComponentTable.{ComponentTable}
+use Rattle.network_stages.specs.declared.component_tables.ComponentTable.{ComponentTable}
 use Rattle.report.specs.Report.{verdict_status}
 use Rattle.report.specs.declared.answer.Verdict.{Verdict}
 use Rattle.livelock.specs.Bounded.{HasOrder, IsBoundOf, IsBounded, IsToldBound}

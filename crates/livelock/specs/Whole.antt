@@ -7,7 +7,7 @@ use Rattle.csp_tables.specs.Path.{Reached}
 use Rattle.hidden_steps.specs.Bounded.{HiddenStep}
 use Rattle.network_stages.specs.Networks.{Network}
 use Rattle.network_stages.specs.Stages.{HasTables}
-use Rattle.network_tables.specs.declared.component_tables.ComponentTable.{ComponentTable}
+use Rattle.network_stages.specs.declared.component_tables.ComponentTable.{ComponentTable}
 use Rattle.process_steps.specs.ComponentStep.{ProcessStep}
 use Rattle.report.specs.declared.answer.Verdict.{Verdict}
 use Rattle.livelock.specs.Bounded.{IsToldBound}

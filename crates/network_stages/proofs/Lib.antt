@@ -5,8 +5,11 @@ mod Linking
 mod MadeParts
 mod Reading
 mod SetsOfTables
-pub mod Shaping
 mod Sharing
 mod Spelling
 mod Stopping
 mod TrueStops
+pub mod HeightSums
+pub mod LowHeights
+pub mod Shaping
+pub mod Tabling

@@ -15,8 +15,8 @@ use Rattle.csp_tables.specs.ShapeOf.{ArePartsOf, IsPartOf}
 use Rattle.csp_tables.specs.Table.{Node}
 use Rattle.net_sound.proofs.FormOfTables.{table_has_form}
 use Rattle.net_sound.proofs.Normal.{normal_tables_carry_over}
-use Rattle.network_tables.specs.Tables.{AreTablesOf, HasTable}
-use Rattle.network_tables.specs.declared.component_tables.ComponentTable.{ComponentTable}
+use Rattle.network_stages.specs.Tables.{AreTablesOf, HasTable}
+use Rattle.network_stages.specs.declared.component_tables.ComponentTable.{ComponentTable}
 use Rattle.process_steps.specs.ComponentStep.{ProcessStep}
 use Rattle.process_steps.specs.declared.component_fault.ComponentFault.TheVariants as fault
 use Rattle.report.specs.Stops.{Tells}

@@ -11,8 +11,8 @@ use Rattle.csp_tables.specs.Trace.{After}
 use Rattle.determinise.specs.ManySets.{ReachesSets}
 use Rattle.net_sound.proofs.Normal.{trace_down, trace_up}
 use Rattle.net_sound.proofs.Numbered.{run_down, run_up, stands}
-use Rattle.network_tables.specs.Tables.{HasTable}
-use Rattle.network_tables.specs.declared.component_tables.ComponentTable.{ComponentTable}
+use Rattle.network_stages.specs.Tables.{HasTable}
+use Rattle.network_stages.specs.declared.component_tables.ComponentTable.{ComponentTable}
 use Rattle.process_steps.specs.ComponentStep.{ProcessStep}
 use Rattle.network_stages.specs.Sets.{HasManySets}
 

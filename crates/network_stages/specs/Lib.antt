@@ -1,8 +1,10 @@
 pub mod Busy
+pub mod Faults
 pub mod Networks
 pub mod Rows
 pub mod Sets
 pub mod Shapes
 pub mod Stages
+pub mod Tables
 pub mod TreeCode
 pub mod Views

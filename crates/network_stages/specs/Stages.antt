@@ -9,9 +9,9 @@ use Rattle.csp_text.specs.declared.script.Script.{Script}
 use Rattle.network_layout.specs.Triple.{SharesEvent, alphabets}
 use Rattle.network_layout.specs.declared.triple.TripleFault.{TripleFault}
 use Rattle.network_layout.specs.declared.triple.TripleFault.TheVariants as triple
-use Rattle.network_tables.specs.Faults.{HasFault, IsFirst}
-use Rattle.network_tables.specs.Tables.{AreTablesOf}
-use Rattle.network_tables.specs.declared.component_tables.ComponentTable.{ComponentTable}
+use Rattle.network_stages.specs.Faults.{HasFault, IsFirst}
+use Rattle.network_stages.specs.Tables.{AreTablesOf}
+use Rattle.network_stages.specs.declared.component_tables.ComponentTable.{ComponentTable}
 use Rattle.network_trees.specs.NetworkOf.{network_of}
 use Rattle.network_trees.specs.declared.fault.LayoutFault.{LayoutFault}
 use Rattle.process_steps.specs.ComponentStep.{ProcessStep}

@@ -5,7 +5,7 @@ use Rattle.csp_program.specs.declared.programs.Content.{Content}
 use Rattle.csp_tables.specs.Network.{Component}
 use Rattle.csp_tables.specs.Part.{Part}
 use Rattle.csp_tables.specs.Shape.{Shape}
-use Rattle.network_tables.specs.declared.component_tables.ComponentTable.{ComponentTable}
+use Rattle.network_stages.specs.declared.component_tables.ComponentTable.{ComponentTable}
 use Rattle.network_stages.specs.Networks.{Network}
 
 -- the tables of its components

@@ -6,9 +6,9 @@ ghost use Rattle.report.specs.Stops.{Tells};
 ghost use Rattle.network_stages.specs.Sets.{ArePartsBy};
 ghost use Rattle.network_stages.specs.Stages.{HasNoPart};
 
+use crate::component_tables::tables_from;
 use crate::parts::part_of;
 use crate::spelled::Spelled;
-use crate::tabled::tables_from;
 use csp_program::Program;
 use csp_tables::Part;
 use network_layout::Seat;

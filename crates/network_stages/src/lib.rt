@@ -2,8 +2,10 @@
 //! the network. What makes a stage else tells the fault that is there.
 #![tactic(auto)]
 
+mod bound;
 mod busy;
 mod chosen;
+mod component_tables;
 mod links;
 mod parts;
 mod rows;
@@ -13,6 +15,7 @@ mod tabled;
 
 pub use busy::check_busy;
 pub use chosen::{Chosen, make_part};
+pub use component_tables::ComponentTable;
 pub use parts::{Parted, make_parts};
 pub use shapes::{Shaped, make_shape};
 pub use spelled::{Spelled, spell_network};

@@ -4,7 +4,7 @@ ghost use Rattle.std.specs.Prelude.{◌≡◌, ◌≤◌, ◌<◌, ◌++◌, ◌
 ghost use Rattle.dl_limits.specs.declared.TheConstants.{MOST_COMPONENTS};
 ghost use Rattle.csp_tables.specs.Form.{HasForm, HaveForm};
 ghost use Rattle.csp_tables.specs.ShapeOf.{ArePartsOf, IsPartOf};
-ghost use Rattle.network_tables.specs.Tables.{AreTablesOf, HasTable};
+ghost use Rattle.network_stages.specs.Tables.{AreTablesOf, HasTable};
 ghost use Rattle.process_steps.specs.ComponentStep.{ProcessStep};
 ghost use Rattle.process_steps.specs.declared.component_fault.ComponentFault.TheVariants.{SubsetLimit};
 ghost use Rattle.report.specs.Stops.{Tells};
@@ -12,13 +12,13 @@ ghost use Rattle.report.specs.declared.answer.Refusal.TheVariants as refusal;
 ghost use Rattle.network_stages.specs.Sets.{HasManySets, HaveFewSets};
 ghost use Rattle.network_stages.specs.Stages.{HasNoParts, HasParts, HaveNoParts};
 
+use crate::component_tables::ComponentTable;
 use crate::spelled::Spelled;
 use crate::tabled::Tabled;
 use csp_base::NoMemory;
 use csp_program::Program;
 use csp_tables::Part;
 use network_layout::Seat;
-use network_tables::ComponentTable;
 use normal_form::{SetFault, normalise};
 use process_steps::ComponentFault;
 use report::{Refusal, Stop};

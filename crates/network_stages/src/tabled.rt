@@ -2,15 +2,16 @@
 
 ghost use Rattle.std.specs.Prelude.{◌≡◌, ◌≤◌, ◌+◌, IfErr, IfOk, length};
 ghost use Rattle.dl_limits.specs.declared.TheConstants.{MOST_COMPONENTS};
-ghost use Rattle.network_tables.specs.Tables.{AreTablesOf};
+ghost use Rattle.network_stages.specs.Tables.{AreTablesOf};
 ghost use Rattle.report.specs.Stops.{Tells};
 ghost use Rattle.network_stages.specs.Networks.{HasSilentBound};
 ghost use Rattle.network_stages.specs.Stages.{HasNoTables, HasTables, HaveNoTables};
 
+use crate::bound::silent_bound;
+use crate::component_tables::{ComponentTable, tables_from};
 use crate::spelled::Spelled;
 use csp_program::Program;
 use network_layout::Seat;
-use network_tables::{ComponentTable, Untabled, silent_bound, tables};
 use report::{Refusal, Stop};
 use std::alloc::Global;
 use std::marker::Model;
@@ -73,27 +74,6 @@ impl<'a> Tabled<'a> {
         let network = self.network();
         let _seats = network.seats();
         silent_bound(self.tables())
-    }
-}
-
-// The tables of components of a program, of which the first has the number `first` in its network, or why one has none. They have the whole room.
-pub(crate) fn tables_from(
-    alloc: Global,
-    program: &Program,
-    first: u32,
-    seats: &[Seat],
-) -> Result<Vec<ComponentTable>, Stop<Refusal>>
-    requires most { first + length seats.now ≤ MOST_COMPONENTS }
-    ensures tables { IfOk result (λ made. AreTablesOf program.now seats.now made.items) }
-    ensures told { IfErr result (Tells (HaveNoTables program.now first seats.now)) }
-{
-    match tables(alloc, program, seats) {
-        Ok(tables) => Ok(tables),
-        Err(Untabled::NoMemory) => Err(Stop::NoMemory),
-        Err(Untabled::Refused { part, fault }) => Err(Stop::Told(Refusal::Component {
-            component: first + part,
-            fault,
-        })),
     }
 }
 

@@ -7,9 +7,9 @@ use Rattle.csp_steps.specs.Order.{AreTargets}
 use Rattle.csp_tables.specs.Label.Label.{visible}
 use Rattle.csp_tables.specs.Network.{Component}
 use Rattle.local_tables.specs.Room.{Room}
-use Rattle.network_tables.proofs.Rows.{as_many}
-use Rattle.network_tables.specs.Tables.{AreTablesOf, AreTablesWithin, HasTable, room_after, whole_room}
-use Rattle.network_tables.specs.declared.component_tables.ComponentTable.{ComponentTable}
+use Rattle.network_stages.proofs.Tabling.{as_many}
+use Rattle.network_stages.specs.Tables.{AreTablesOf, AreTablesWithin, HasTable, room_after, whole_room}
+use Rattle.network_stages.specs.declared.component_tables.ComponentTable.{ComponentTable}
 use Rattle.numbered_walks.specs.Numbered.{Numbered, OwnsItsSteps}
 use Rattle.process_steps.specs.ComponentStep.{ProcessStep}
 use Rattle.network_walks.specs.Tabled.{numbered, one_numbered}

@@ -5,8 +5,8 @@ use Rattle.csp_steps.specs.Order.{AreTargets}
 use Rattle.csp_tables.specs.Network.{Component, leaves}
 use Rattle.network_stages.specs.Networks.{IsSpelled, Network}
 use Rattle.network_stages.specs.Stages.{HasTables}
-use Rattle.network_tables.specs.Tables.{whole_room}
-use Rattle.network_tables.specs.declared.component_tables.ComponentTable.{ComponentTable}
+use Rattle.network_stages.specs.Tables.{whole_room}
+use Rattle.network_stages.specs.declared.component_tables.ComponentTable.{ComponentTable}
 use Rattle.network_trees.proofs.InOrder.{network_is_tree}
 use Rattle.numbered_walks.specs.Numbered.{Goes, Has, Numbered, first_terms}
 use Rattle.numbered_walks.specs.Walks.{IsWalkOf}

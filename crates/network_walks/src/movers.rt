@@ -2,13 +2,13 @@
 
 ghost use Rattle.std.specs.Prelude.{◌≡◌, ◌≤◌, ◌++◌, ◌∷◌, [], IfOk, OnOk, length};
 ghost use Rattle.dl_limits.specs.declared.TheConstants.{MOST_COMPONENTS};
-ghost use Rattle.network_tables.specs.Tables.{AreTablesOf, HasTable};
+ghost use Rattle.network_stages.specs.Tables.{AreTablesOf, HasTable};
 ghost use Rattle.network_walks.specs.Tabled.{numbered, one_numbered};
 
 use csp_base::NoMemory;
 use csp_program::Program;
 use network_layout::Seat;
-use network_tables::ComponentTable;
+use network_stages::ComponentTable;
 use numbered_walks::Mover;
 use std::alloc::Global;
 

@@ -1,4 +1,4 @@
-use Rattle.network_tables.proofs.Rows.{placed, still_within}
+use Rattle.network_stages.proofs.Tabling.{placed, still_within}
 use Rattle.network_stages.proofs.MadeParts.{all_made, first_many, one_made}
 use Rattle.network_stages.proofs.parts.all_parts.Goals as goal
 

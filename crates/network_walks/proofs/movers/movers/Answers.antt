@@ -1,4 +1,4 @@
-use Rattle.network_tables.proofs.Rows.{placed, still_within}
+use Rattle.network_stages.proofs.Tabling.{placed, still_within}
 use Rattle.network_walks.proofs.Made.{all_made, one_made}
 use Rattle.network_walks.proofs.movers.movers.Goals as goal
 

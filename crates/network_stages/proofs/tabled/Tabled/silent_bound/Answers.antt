@@ -3,7 +3,7 @@ use Rattle.csp_program.specs.declared.processes.Proc.{Proc}
 use Rattle.csp_tables.specs.Network.{Component, leaves}
 use Rattle.network_stages.specs.Networks.{Network}
 use Rattle.network_stages.specs.Stages.{HasTables}
-use Rattle.network_tables.proofs.Rows.{few_tables}
+use Rattle.network_stages.proofs.Tabling.{few_tables}
 use Rattle.network_stages.proofs.tabled.Tabled.silent_bound.Goals as goal
 
 pub silent_bound-requires-clause-few : goal.silent_bound-requires-clause-few

@@ -11,9 +11,9 @@ use Rattle.csp_tables.specs.RawTable.{RawStep}
 use Rattle.digraph.specs.Walk.{AreHeights, Walk}
 use Rattle.local_tables.specs.Room.{Room}
 use Rattle.net_sound.specs.Heights.{sum_of_greatest}
-use Rattle.network_tables.specs.Tables.{AreTablesOf, AreTablesWithin, IsTableWithin, room_after, whole_room}
-use Rattle.network_tables.specs.declared.component_tables.ComponentTable.{ComponentTable}
-use Rattle.network_tables.proofs.HeightSums.{all_heights, one_sum}
+use Rattle.network_stages.specs.Tables.{AreTablesOf, AreTablesWithin, IsTableWithin, room_after, whole_room}
+use Rattle.network_stages.specs.declared.component_tables.ComponentTable.{ComponentTable}
+use Rattle.network_stages.proofs.HeightSums.{all_heights, one_sum}
 use Rattle.csp_base.specs.Lists.{greatest}
 
 -- how many of the numbers are below m

@@ -1,5 +1,5 @@
 use Rattle.std.proofs.Common.{◌≡◌, take}
-use Rattle.network_tables.proofs.bound.greatest_of.Given as goal
+use Rattle.network_stages.proofs.bound.greatest_of.Given as goal
 use Rattle.csp_base.specs.Lists.{greatest}
 
 abbrev pub invariant-loop-number : goal.invariant-loop-number

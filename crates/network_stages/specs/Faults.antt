@@ -12,12 +12,14 @@ use Rattle.local_tables.specs.declared.local_table.LocalTable.{LocalTable}
 use Rattle.local_tables.specs.declared.fault.Unexplored.{Unexplored}
 use Rattle.local_tables.specs.declared.fault.Unexplored.TheVariants as unexplored
 use Rattle.local_tables.specs.Room.{Room}
-use Rattle.network_tables.specs.Tables.{AreTablesOf, room_left, whole_room}
-use Rattle.network_tables.specs.declared.fault.Untabled.{Untabled}
-use Rattle.network_tables.specs.declared.fault.Untabled.TheVariants as untabled
-use Rattle.network_tables.specs.declared.component_tables.ComponentTable.{ComponentTable}
+use Rattle.network_stages.specs.Tables.{AreTablesOf, room_left, whole_room}
+use Rattle.network_stages.specs.declared.component_tables.ComponentTable.{ComponentTable}
 use Rattle.process_steps.specs.declared.component_fault.ComponentFault.{ComponentFault}
 use Rattle.process_steps.specs.declared.component_fault.ComponentFault.TheVariants as fault
+use Rattle.report.specs.declared.answer.Refusal.{Refusal}
+use Rattle.report.specs.declared.answer.Refusal.TheVariants as refusal
+use Rattle.report.specs.declared.stop.Stop.{Stop}
+use Rattle.report.specs.declared.stop.Stop.TheVariants as stop
 
 -- The components before the one with the number i have tables, and this holds of that one and of the room that is left.
 pub record IsFirst (p : Content) (cs : List (Component Proc)) (i : ℕ) (Has : Room → Component Proc → Type 0) : Type 0 where
@@ -38,10 +40,6 @@ pub record GoesRound (p : Content) (room : Room) (c : Component Proc) : Type 0 w
 abbrev pub HasFault : Content → ComponentFault → Room → Component Proc → Type 0
 HasFault p f room c = LacksTable p c room f ⊎ ((f ≡ fault.Diverges) × GoesRound p room c)
 
-abbrev pub TellsTable : Content → List (Component Proc) → Untabled → Type 0
-TellsTable p cs untabled.NoMemory = Unit {0}
-TellsTable p cs (untabled.Refused i f) = IsFirst p cs i (HasFault p f)
-
 -- What a fault tells of a component within a room. (No public contract cites the rest.)
 abbrev pub TellsHere : Content → Room → Component Proc → Unexplored → Type 0
 TellsHere p room c unexplored.NoMemory = Unit {0}
@@ -52,7 +50,7 @@ abbrev pub TellsRound : LocalTable → Unexplored → Type 0
 TellsRound made unexplored.NoMemory = Unit {0}
 TellsRound made (unexplored.Refused f) = (f ≡ fault.Diverges) × ((circle : List ℕ) × IsCircle (SilentStep (RawStep made.table)) circle)
 
--- a fault of the component with the number i
-abbrev pub at_part : ℕ → Unexplored → Untabled
-at_part i unexplored.NoMemory = untabled.NoMemory
-at_part i (unexplored.Refused f) = untabled.Refused i f
+-- how a fault of the component with the number i is told
+abbrev pub at_component : ℕ → Unexplored → Stop Refusal
+at_component i unexplored.NoMemory = stop.NoMemory
+at_component i (unexplored.Refused f) = stop.Told (refusal.Component i f)

@@ -9,8 +9,8 @@ use Rattle.local_tables.specs.Room.{Room}
 use Rattle.net_sound.specs.Heights.{HaveHeights, sum_of_greatest}
 use Rattle.net_sound.proofs.Heights.{heights_add_up}
 use Rattle.process_steps.specs.ComponentStep.{ProcessStep}
-use Rattle.network_tables.specs.Tables.{AreTablesOf, AreTablesWithin, room_after, whole_room}
-use Rattle.network_tables.specs.declared.component_tables.ComponentTable.{ComponentTable}
+use Rattle.network_stages.specs.Tables.{AreTablesOf, AreTablesWithin, room_after, whole_room}
+use Rattle.network_stages.specs.declared.component_tables.ComponentTable.{ComponentTable}
 use Rattle.csp_base.specs.Lists.{greatest}
 
 abbrev pub all_heights : List ComponentTable → List (List ℕ)

@@ -1,5 +1,5 @@
-use Rattle.network_tables.proofs.Rows.{round_there}
-use Rattle.network_tables.proofs.component_tables.table_within.Goals as goal
+use Rattle.network_stages.proofs.Tabling.{round_there}
+use Rattle.network_stages.proofs.component_tables.table_within.Goals as goal
 
 pub returns-clause-fault : goal.returns-clause-fault
 returns-clause-fault c =

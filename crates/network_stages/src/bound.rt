@@ -8,7 +8,7 @@ ghost use Rattle.csp_tables.specs.Network.{Component};
 ghost use Rattle.csp_tables.specs.SilentBound.{IsSilentBound};
 ghost use Rattle.net_sound.specs.Heights.{sum_of_greatest};
 ghost use Rattle.process_steps.specs.ComponentStep.{ProcessStep};
-ghost use Rattle.network_tables.specs.Tables.{AreTablesOf};
+ghost use Rattle.network_stages.specs.Tables.{AreTablesOf};
 ghost use Rattle.csp_base.specs.Lists.{greatest};
 
 use crate::component_tables::ComponentTable;
@@ -52,8 +52,8 @@ fn sum(tables: &[ComponentTable]) -> u32
     bound
 }
 
-/// The silent bound of the network whose components have these tables: the sum over the components of the greatest number of silent steps in a row.
-pub fn silent_bound(tables: &[ComponentTable]) -> u32
+// The silent bound of the network whose components have these tables: the sum over the components of the greatest number of silent steps in a row.
+pub(crate) fn silent_bound(tables: &[ComponentTable]) -> u32
     requires few { length tables.now ≤ MOST_COMPONENTS }
     requires are { (p : Content) × (cs : List (Component Proc)) × AreTablesOf p cs tables.now }
     ensures { (p : Content) (cs : List (Component Proc)) → AreTablesOf p cs tables.now → IsSilentBound (ProcessStep p) cs result }

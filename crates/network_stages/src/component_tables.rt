@@ -1,12 +1,13 @@
 //! The tables of the components, one after another.
 
-ghost use Rattle.std.specs.Prelude.{◌≡◌, ◌≤◌, ◌<◌, ◌++◌, ◌∷◌, [], IfErr, IfOk, OnOk, length};
+ghost use Rattle.std.specs.Prelude.{◌≡◌, ◌≤◌, ◌<◌, ◌+◌, ◌++◌, ◌∷◌, [], IfErr, IfOk, OnOk, length};
 ghost use Rattle.dl_limits.specs.declared.TheConstants.{MOST_COMPONENTS};
 ghost use Rattle.net_sound.specs.Heights.{AreSilentHeights};
-ghost use Rattle.network_tables.specs.Faults.{TellsHere, TellsRound, TellsTable, at_part};
-ghost use Rattle.network_tables.specs.Tables.{AreTablesOf, IsTableWithin, room_after, whole_room};
+ghost use Rattle.report.specs.Stops.{Tells};
+ghost use Rattle.network_stages.specs.Stages.{HaveNoTables};
+ghost use Rattle.network_stages.specs.Faults.{TellsHere, TellsRound, at_component};
+ghost use Rattle.network_stages.specs.Tables.{AreTablesOf, IsTableWithin, room_after, whole_room};
 
-use crate::fault::Untabled;
 use csp_base::NoMemory;
 use csp_program::Program;
 use digraph::Heights;
@@ -14,6 +15,7 @@ use dl_limits::{MOST_NODES, MOST_STEPS};
 use local_tables::{LocalTable, Room, Unexplored, explore};
 use network_layout::Seat;
 use process_steps::ComponentFault;
+use report::{Refusal, Stop};
 use std::alloc::Global;
 use tau_order::{HeightFault, heights};
 
@@ -80,13 +82,13 @@ fn table_within(
     with_heights(alloc, local)
 }
 
-// Why no tables are made, where this component has none.
-fn untabled(part: u32, fault: Unexplored) -> Untabled
-    ensures { result ≡ at_part part fault }
+// How it is told that the component with this number has no table.
+fn untabled(component: u32, fault: Unexplored) -> Stop<Refusal>
+    ensures { result ≡ at_component component fault }
 {
     match fault {
-        Unexplored::NoMemory => Untabled::NoMemory,
-        Unexplored::Refused(fault) => Untabled::Refused { part, fault },
+        Unexplored::NoMemory => Stop::NoMemory,
+        Unexplored::Refused(fault) => Stop::Told(Refusal::Component { component, fault }),
     }
 }
 
@@ -98,16 +100,17 @@ fn add(made: &mut Vec<ComponentTable>, table: ComponentTable) -> Result<(), NoMe
     Ok(())
 }
 
-/// The table of each component of the program's network. The room of a component is 8,388,608 for the sizes of its terms and 1,048,576 for its steps,
-/// less what those before it take. The first component that has no table, or goes round in silent steps, is told.
-pub fn tables(
+// The tables of components of a program, of which the first has the number `first` in its network. The room of a component is 8,388,608 for the sizes of
+// its terms and 1,048,576 for its steps, less what those before it take. The first component that has no table, or goes round in silent steps, is told.
+pub(crate) fn tables_from(
     alloc: Global,
     program: &Program,
+    first: u32,
     seats: &[Seat],
-) -> Result<Vec<ComponentTable>, Untabled>
-    requires most { length seats.now ≤ MOST_COMPONENTS }
+) -> Result<Vec<ComponentTable>, Stop<Refusal>>
+    requires most { first + length seats.now ≤ MOST_COMPONENTS }
     ensures tables { IfOk result (λ tables. AreTablesOf program.now seats.now tables.items) }
-    ensures fault { IfErr result (TellsTable program.now seats.now) }
+    ensures told { IfErr result (Tells (HaveNoTables program.now first seats.now)) }
 {
     let mut made = Vec::new(alloc);
     let mut room = whole();
@@ -117,7 +120,7 @@ pub fn tables(
                 room = after(room, &table.local.used);
                 add(&mut made, table)?;
             }
-            Err(fault) => return Err(untabled(part as u32, fault)),
+            Err(fault) => return Err(untabled(first + part as u32, fault)),
         }
     }
     Ok(made)

@@ -7,7 +7,7 @@ use Rattle.csp_tables.specs.Network.{Component}
 use Rattle.local_tables.specs.LocalTable.{IsLocalTable}
 use Rattle.local_tables.specs.Room.{Room}
 use Rattle.net_sound.specs.Heights.{AreSilentHeights}
-use Rattle.network_tables.specs.declared.component_tables.ComponentTable.{ComponentTable}
+use Rattle.network_stages.specs.declared.component_tables.ComponentTable.{ComponentTable}
 
 -- the room of all components together
 abbrev pub whole_room : Room

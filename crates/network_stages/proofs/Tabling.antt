@@ -8,12 +8,15 @@ use Rattle.csp_tables.specs.Network.{Component}
 use Rattle.local_tables.specs.LocalTable.{IsLocalTable}
 use Rattle.local_tables.specs.declared.local_table.LocalTable.{LocalTable}
 use Rattle.local_tables.specs.Room.{Room}
-use Rattle.network_tables.specs.Faults.{HasFault, IsFirst, TellsHere, TellsRound, TellsTable, at_part}
-use Rattle.network_tables.specs.declared.fault.Untabled.{Untabled}
+use Rattle.network_stages.specs.Faults.{HasFault, TellsHere, TellsRound, at_component}
+use Rattle.network_stages.specs.Stages.{HaveNoTables}
+use Rattle.report.specs.Stops.{Tells}
+use Rattle.report.specs.declared.answer.Refusal.{Refusal}
+use Rattle.report.specs.declared.stop.Stop.{Stop}
 use Rattle.local_tables.specs.declared.fault.Unexplored.{Unexplored}
 use Rattle.local_tables.specs.declared.fault.Unexplored.TheVariants as unexplored
-use Rattle.network_tables.specs.Tables.{AreTablesOf, AreTablesWithin, HasTable, IsTableWithin, room_after, room_left, whole_room}
-use Rattle.network_tables.specs.declared.component_tables.ComponentTable.{ComponentTable}
+use Rattle.network_stages.specs.Tables.{AreTablesOf, AreTablesWithin, HasTable, IsTableWithin, room_after, room_left, whole_room}
+use Rattle.network_stages.specs.declared.component_tables.ComponentTable.{ComponentTable}
 use Rattle.std.proofs.lemmas.List.{length_push, take_all}
 
 module _ (p : Content) where
@@ -51,14 +54,14 @@ module _ (p : Content) where
       subst (λ cs. AreTablesOf p cs (made ++ t ∷ [])) grown (one_more whole_room (take i seats) made c t so_far (subst (λ r. IsTableWithin p r c t) left one))
 
   -- a fault is that of the first component that has one
-  pub first_fault : (seats : List (Component Proc)) (made : List ComponentTable) (i n : ℕ) (c : Component Proc) (room : Room) (u : Unexplored) (told : Untabled) → i < length seats
-      → c ≡ get_or seats i c → AreTablesOf p (take i seats) made → room ≡ room_left whole_room made → length made ≡ i → n ≡ length made → TellsHere p room c u → told ≡ at_part n u → TellsTable p seats told
-  first_fault seats made i n c room unexplored.NoMemory told within is so_far left count number has tells = subst (TellsTable p seats) (sym tells) tt
-  first_fault seats made i n c room (unexplored.Refused f) told within is so_far left count number has tells =
+  pub first_fault : (seats : List (Component Proc)) (made : List ComponentTable) (i first : ℕ) (c : Component Proc) (room : Room) (u : Unexplored) (told : Stop Refusal) → i < length seats
+      → c ≡ get_or seats i c → AreTablesOf p (take i seats) made → room ≡ room_left whole_room made → TellsHere p room c u → told ≡ at_component (first + i) u
+      → Tells (HaveNoTables p first seats) told
+  first_fault seats made i first c room unexplored.NoMemory told within is so_far left has tells = subst (Tells (HaveNoTables p first seats)) (sym tells) tt
+  first_fault seats made i first c room (unexplored.Refused f) told within is so_far left has tells =
       let at : slice_get seats i ≡ Some c = slice_get-get_or seats i c within ∙ ap Some (sym is) in
-      subst (TellsTable p seats) (sym tells)
-      (subst (λ k. IsFirst p seats k (HasFault p f)) (sym (number ∙ count))
-      (record { tables = made; earlier = so_far; component = c; at = at; has = subst (λ r. HasFault p f r c) left has }))
+      subst (Tells (HaveNoTables p first seats)) (sym tells)
+      (i, (f, (record { tables = made; earlier = so_far; component = c; at = at; has = subst (λ r. HasFault p f r c) left has }, refl)))
 
 module _ (p : Content) (seats : List (Component Proc)) (tables : List ComponentTable) (are : AreTablesOf p seats tables) where
   -- the seat and the table in the same place

@@ -1,3 +1,0 @@
-pub mod HeightSums
-pub mod LowHeights
-pub mod Rows
