@@ -72,9 +72,6 @@ pub record AreMade (p : Content) (seats : List (Component Proc)) (made : List Pa
   pub few : HaveFewSetsBefore p i seats
 
 module _ (p : Content) (seats : List (Component Proc)) where
-  pub none_made : AreMade p seats [] 0
-  none_made = record { parts = tt; form = tt; few = λ j t below. absurd (let z : ⊥ = omega arith in z) }
-
   module _ (i : ℕ) (c : Component Proc) (within : i < length seats) (is : c ≡ get_or seats i c) where
     here : slice_get seats i ≡ Some c
     here = slice_get-get_or seats i c within ∙ ap Some (sym is)

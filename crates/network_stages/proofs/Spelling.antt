@@ -1,6 +1,5 @@
 -- The network that a program spells, or that it spells none.
-use Rattle.std.proofs.Common.{◌≡◌, ◌+◌, ◌<◌, ◌≤◌, ◌^◌, ℕ, List, Ok, Some, inr, length, slice_get, ap, ◌∙◌, sym, arith}
-use Rattle.std.proofs.lemmas.Option.{slice_get_within}
+use Rattle.std.proofs.Common.{◌≡◌, ◌+◌, ◌≤◌, List, Ok, inr, length, ap, ◌∙◌, sym, arith}
 use Rattle.csp_program.specs.declared.processes.Proc.{Proc}
 use Rattle.csp_program.specs.declared.programs.Content.{Content}
 use Rattle.csp_tables.specs.Network.{Component, Tree, leaves}
@@ -29,10 +28,7 @@ seats_of p seats laid =
       are = laid.whole ∙ ap leaves (sym same);
     }
 
--- a network has 1 to 512 components
-pub some_components : (network : Network) → IsSpelled network → 1 ≤ length (leaves network.tree)
-some_components network spelled = (network_is_tree network.program network.tree spelled).1
-
+-- a network has at most 512 components
 pub few_components : (network : Network) → IsSpelled network → length (leaves network.tree) ≤ 512
 few_components network spelled =
     let made = network_is_tree network.program network.tree spelled in
@@ -43,7 +39,3 @@ few_components network spelled =
 pub has_no_network : (side : Side) (script : Script) (p : Content) (s : Stop Answer) → IsProgram script p → Tells (SpellsNone side p) s → Tells (HasNoNetwork side script) s
 has_no_network side script p stop.NoMemory is tells = tt
 has_no_network side script p (stop.Told a) is tells = inr (p, is, tells)
-
--- the number of a component in a list of which the first has this number
-pub number_fits : (cs : List (Component Proc)) (first i : ℕ) (c : Component Proc) → first + length cs ≤ 512 → slice_get cs i ≡ Some c → first + i < 2 ^ 32
-number_fits cs first i c few at = let within = slice_get_within cs i c at in omega (arith, few, within)
