@@ -1,5 +1,5 @@
 -- Texts that are loaded one after another, and the reply for which they call.
-use Rattle.std.proofs.Common.{◌≡◌, ◌≤◌, ℕ, List, [], ◌∷◌, Option, None, Some, Result, Ok, Err, IfNone, IfOk, IfSome, inl, inr, refl, sym, ap, subst, ◌∙◌, arith}
+use Rattle.std.proofs.Common.{◌≡◌, ◌≤◌, ℕ, List, [], ◌∷◌, Option, None, Some, Result, Ok, Err, IfNone, IfSome, inl, inr, refl, sym, ap, subst, ◌∙◌, arith}
 use Rattle.std.specs.Prelude.{length}
 use Rattle.std.specs.Result.{IsErrAnd}
 use Rattle.std.proofs.lemmas.Option.{same_Some}
@@ -9,7 +9,7 @@ use Rattle.command_words.specs.declared.request.Request.{Request}
 use Rattle.command_words.specs.declared.request.Request.TheVariants as request
 use Rattle.command_words.specs.declared.request.Trial.{Trial}
 use Rattle.dl_limits.specs.declared.TheConstants.{MOST_BYTES}
-use Rattle.dl_outside.specs.Count.{Counts, HasRisen, NeverFall}
+use Rattle.dl_outside.specs.Count.{Counts, HasRisen}
 use Rattle.dl_outside.specs.Load.{AnswersTold, LoadAnswers}
 use Rattle.dl_outside.specs.Texts.{text_of}
 use Rattle.dl_outside.specs.declared.shelf.LoadFault.{LoadFault}

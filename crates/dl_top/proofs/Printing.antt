@@ -1,11 +1,10 @@
 -- What is printed of a reply, and how a call ends that sends it.
-use Rattle.std.proofs.Common.{◌≡◌, ◌≢◌, ◌≤◌, ℕ, List, ◌++◌, Option, None, Some, Result, Ok, Err, IfOk, IfSome, inl, inr, refl, sym, ◌∙◌, ap, subst, arith}
-use Rattle.command_words.specs.Request.{Asks, names, trial_of}
+use Rattle.std.proofs.Common.{◌≡◌, ◌≢◌, ◌≤◌, ℕ, List, ◌++◌, Option, None, Some, Result, Ok, Err, IfOk, IfSome, inl, inr, refl, sym, ◌∙◌, subst, arith}
+use Rattle.command_words.specs.Request.{Asks, names}
 use Rattle.command_words.specs.declared.request.Request.{Request}
 use Rattle.command_words.specs.declared.request.Trial.{Trial}
 use Rattle.dl_outside.specs.Count.{Counts, HasRisen}
 use Rattle.dl_outside.specs.Write.{GrowsBy}
-use Rattle.dl_outside.specs.declared.shelf.LoadFault.{LoadFault}
 use Rattle.dl_outside.specs.declared.texts.NamedText.{NamedText}
 use Rattle.report.specs.Report.{report_text, status}
 use Rattle.report.specs.declared.answer.Answer.{Answer}

@@ -1,5 +1,5 @@
 -- What texts call for keeps the promise of its status; and where the texts are such, the status is 0.
-use Rattle.std.proofs.Common.{◌≡◌, ◌≤◌, ℕ, Bool, true, false, List, [], ◌∷◌, Some, Result, Ok, Err, IfOk, inl, inr, map, refl, sym, ap, subst, ◌∙◌, arith}
+use Rattle.std.proofs.Common.{◌≡◌, ◌≤◌, ℕ, Bool, true, false, List, [], ◌∷◌, Result, Ok, Err, IfOk, inl, inr, map, refl, sym, ap, subst, ◌∙◌, arith}
 use Rattle.std.specs.Prelude.{pos}
 use Rattle.std.proofs.lemmas.Option.{slice_get_within}
 use Rattle.command_words.specs.declared.request.Job.{Job}
@@ -144,7 +144,7 @@ text_bounded text name =
 
 -- ---- runs
 
-run_status : Bool → ℕ
+abbrev run_status : Bool → ℕ
 run_status true = 1
 run_status false = 0
 
@@ -315,8 +315,8 @@ texts_match text specification a matching (inr (network, spells, inr (specified,
 -- a component that has a table and few sets has its part
 has_part : (network : Network) (i : ℕ) (c : Component Proc) (tables : List ComponentTable) → AreTablesOf network.program (c ∷ []) tables → HaveFewSets network.program (c ∷ []) → (r : Refusal)
     → HasNoPart network.program i c r → ⊥
-has_part network i c tables are few r (inl none) = faults_exclude_tables network.program (c ∷ []) tables i r are none
-has_part network i c tables are few r (inr (others, there, (j, first, is))) = few j first.component (slice_get_within (c ∷ []) j first.component first.at) first.at first.many
+has_part network i c tables are small r (inl none) = faults_exclude_tables network.program (c ∷ []) tables i r are none
+has_part network i c tables are small r (inr (others, there, (j, first, is))) = small j first.component (slice_get_within (c ∷ []) j first.component first.at) first.at first.many
 
 text_tabled : (text : List ℕ) (i : ℕ) (a : Answer) → SpellsTabled text i → TextCallsFor text (Table i) a → status a ≡ 0
 text_tabled text i a tabled (inl none) = absurd (spells_one side.Script text tabled.network a tabled.spelled none)

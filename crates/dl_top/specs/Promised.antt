@@ -1,5 +1,5 @@
 -- What each command promises of the texts of its request and of its report.
-use Rattle.std.specs.Prelude.{◌≡◌, ℕ, Some, Bool, false, true, List, [], ◌∷◌, length, slice_get}
+use Rattle.std.specs.Prelude.{◌≡◌, ℕ, Some, false, true, List, [], ◌∷◌, length, slice_get}
 use Rattle.command_words.specs.declared.request.Job.TheVariants.{Check, Livelock, Run, Table}
 use Rattle.command_words.specs.declared.request.Request.{Request}
 use Rattle.command_words.specs.declared.request.Request.TheVariants as request
