@@ -61,7 +61,7 @@ module _ (p : Content) where
   first_fault seats made i first c room (unexplored.Refused f) told within is so_far left has tells =
       let at : slice_get seats i ≡ Some c = slice_get-get_or seats i c within ∙ ap Some (sym is) in
       subst (Tells (HaveNoTables p first seats)) (sym tells)
-      (i, (f, (record { tables = made; earlier = so_far; component = c; at = at; has = subst (λ r. HasFault p f r c) left has }, refl)))
+      (i, f, record { tables = made; earlier = so_far; component = c; at = at; has = subst (λ r. HasFault p f r c) left has }, refl)
 
 module _ (p : Content) (seats : List (Component Proc)) (tables : List ComponentTable) (are : AreTablesOf p seats tables) where
   -- the seat and the table in the same place
