@@ -60,29 +60,13 @@ NamesNoScript words = (request : Request) → Asks words request → names reque
 abbrev pub AsksForCheck : List (List ℕ) → Type 0
 AsksForCheck words = (rule : Rule) × (script : List ℕ) × Asks words (request.Script (Check rule) script)
 
--- The words ask for a script to be shown.
-abbrev pub AsksForShow : List (List ℕ) → Type 0
-AsksForShow words = (script : List ℕ) × Asks words (request.Show script)
-
--- The words ask for the table of a component.
-abbrev pub AsksForTable : List (List ℕ) → Type 0
-AsksForTable words = (i : ℕ) × (script : List ℕ) × Asks words (request.Script (Table i) script)
-
 -- The words ask for a run of a script's network.
 abbrev pub AsksForRun : List (List ℕ) → Type 0
 AsksForRun words = (seed steps : ℕ) × (script : List ℕ) × Asks words (request.Script (Run seed steps) script)
 
--- The words ask for a bound on the hidden events of a script's network.
-abbrev pub AsksForLivelock : List (List ℕ) → Type 0
-AsksForLivelock words = (set : List ℕ) × (script : List ℕ) × Asks words (request.Script (Livelock set) script)
-
 -- The words ask for a trial.
 abbrev pub AsksForTrial : List (List ℕ) → Type 0
 AsksForTrial words = (trial : Trial) × Asks words (request.Trial trial)
-
--- The words ask for a script to be held against its specification.
-abbrev pub AsksForConform : List (List ℕ) → Type 0
-AsksForConform words = (script : List ℕ) × (specification : List ℕ) × Asks words (request.Conform script specification)
 
 -- Words ask for one request at most.
 abbrev pub WordsAskOnce : Type 0

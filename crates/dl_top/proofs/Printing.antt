@@ -1,5 +1,5 @@
 -- What is printed of a reply, and how a call ends that sends it.
-use Rattle.std.proofs.Common.{◌≡◌, ◌≢◌, ◌≤◌, ℕ, List, ◌++◌, Option, None, Some, Result, Ok, Err, IfOk, IfSome, inl, inr, refl, sym, ◌∙◌, subst, arith}
+use Rattle.std.proofs.Common.{◌≡◌, ◌≢◌, ◌≤◌, ℕ, List, ◌++◌, Option, None, Some, Result, Ok, Err, IfOk, IfSome, ap, inl, inr, refl, sym, ◌∙◌, subst, arith}
 use Rattle.command_words.specs.Request.{Asks, names}
 use Rattle.command_words.specs.declared.request.Request.{Request}
 use Rattle.command_words.specs.declared.request.Trial.{Trial}
@@ -79,6 +79,20 @@ module _ {S : Type 0} (texts : S → Option (List NamedText)) (counts : S → Co
         promise = keeps there.0 reply.answer there.2 ended;
         printed = subst (λ (t : Option Trial). GrowsBy sink.old sink.new (heading_text t ++ report_text reply.answer)) replies.trial sent.2;
       }
+
+  of_cause : (Promise : Request → List (List ℕ) → List ℕ → Type 0) (n : ℕ) → n ≤ 1
+      → ((r : Request) (ts : List (List ℕ)) (a : Answer) → TextsCallFor r ts a → status a ≡ n → Promise r ts (report_text a)) → result ≡ n
+      → (reply : Reply) → reply_status reply ≡ n → MayGive (IsLoad texts counts gives) words old new reply → Kept Promise gives old new words sink.old sink.new
+  of_cause Promise n few keeps is reply ended (inl (none, usage)) = let three : 3 ≡ n = sym (ap reply_status usage) ∙ ended in absurd (omega (arith, few, three))
+  of_cause Promise n few keeps is reply ended (inr (r, asks, replies)) = kept Promise n few r (keeps r) asks is
+
+  -- the same, whatever is asked for: the words ask for something
+  pub kept_all : (Promise : Request → List (List ℕ) → List ℕ → Type 0) (n : ℕ) → n ≤ 1
+      → ((r : Request) (ts : List (List ℕ)) (a : Answer) → TextsCallFor r ts a → status a ≡ n → Promise r ts (report_text a)) → result ≡ n
+      → Kept Promise gives old new words sink.old sink.new
+  kept_all Promise n few keeps is =
+      let sent = whole (MayGive (IsLoad texts counts gives) words old new) sink result (omega (arith, few, is)) ends in
+      of_cause Promise n few keeps is sent.0 (sym sent.3 ∙ is) sent.1
 
   -- the whole line of a fault of the shelf
   pub in_shelf_fault : result ≡ 4 → ¬ sink.rose → EndsInShelfFault (MayGive (IsLoad texts counts gives) words old new) sink

@@ -55,7 +55,7 @@ use Rattle.tabulation.specs.Tabulated.{IsTabulated}
 use Rattle.dl_top.specs.Cause.{TextsCallFor}
 use Rattle.dl_top.specs.Complete.{Passing, Running, SpellMatching, SpellsPassing, SpellsTabled, SpellsTables, SpellsWithinBound, TextPasses}
 use Rattle.dl_top.specs.Judgement.{IsDecided, NetworkDecides, NetworkOr, SpellsNetwork, SpellsNoNetwork, SpellsOnlyNetwork, SpellsOnlyScript, TextCallsFor, TextIsShown, TextsCompare}
-use Rattle.dl_top.specs.Promised.{IsStuckRun, Promised, SpellsBounded, SpellsConforming, SpellsShown, SpellsTable, TellsRank}
+use Rattle.dl_top.specs.Promised.{IsStuckRun, JobPromised, Promised, SpellsBounded, SpellsConforming, SpellsShown, SpellsTable, TellsRank}
 use Rattle.dl_top.specs.Proved.{IsFree, SpellsDeadlockFree}
 use Rattle.dl_top.specs.Ran.{IsRun, SpellsRun, last_line}
 use Rattle.dl_top.specs.Reply.{rule_of, trial_text}
@@ -261,12 +261,15 @@ texts_conform text specification a (inr (network, spells, inr (specified, specif
 
 -- ---- all requests
 
+pub keeps_job : (job : Job) (text : List ℕ) (a : Answer) → TextCallsFor text job a → status a ≡ 0 → JobPromised job text (report_text a)
+keeps_job (Check rule) text a calls zero = text_ranked text rule a calls zero
+keeps_job (Table i) text a calls zero = text_told text i a calls zero
+keeps_job (Run seed steps) text a calls zero = text_goes_on text seed steps a calls zero
+keeps_job (Livelock set) text a calls zero = text_bounded text set a calls zero
+
 pub keeps : (r : Request) (texts : List (List ℕ)) (a : Answer) → TextsCallFor r texts a → status a ≡ 0 → Promised r texts (report_text a)
 keeps (request.Show name) (text ∷ []) a calls zero = text_shown text a calls zero
-keeps (request.Script (Check rule) name) (text ∷ []) a calls zero = text_ranked text rule a calls zero
-keeps (request.Script (Table i) name) (text ∷ []) a calls zero = text_told text i a calls zero
-keeps (request.Script (Run seed steps) name) (text ∷ []) a calls zero = text_goes_on text seed steps a calls zero
-keeps (request.Script (Livelock set) name) (text ∷ []) a calls zero = text_bounded text set a calls zero
+keeps (request.Script job name) (text ∷ []) a calls zero = keeps_job job text a calls zero
 keeps (request.Trial trial) [] a calls zero = text_ranked (trial_text trial) (rule_of trial.family) a calls zero
 keeps (request.Conform script specification) (text ∷ next ∷ []) a calls zero = texts_conform text next a calls zero
 keeps r texts a calls zero = absurd calls

@@ -1,5 +1,6 @@
 -- What each command promises of the texts of its request and of its report.
 use Rattle.std.specs.Prelude.{◌≡◌, ℕ, Some, false, true, List, [], ◌∷◌, length, slice_get}
+use Rattle.command_words.specs.declared.request.Job.{Job}
 use Rattle.command_words.specs.declared.request.Job.TheVariants.{Check, Livelock, Run, Table}
 use Rattle.command_words.specs.declared.request.Request.{Request}
 use Rattle.command_words.specs.declared.request.Request.TheVariants as request
@@ -76,14 +77,18 @@ pub record SpellsConforming (text specification report : List ℕ) : Type 0 wher
   pub inherits : (some : ℕ) → IsLive specified some → IsLive network bound
   pub is : report ≡ conforms_text (length (leaves network.tree)) bound
 
--- what status 0 promises of a request, with the texts that were handed over for it and the report
+-- what status 0 promises of the text of a script with whose network this is to be done, and of the report
+abbrev pub JobPromised : Job → List ℕ → List ℕ → Type 0
+JobPromised (Check rule) text report = TellsRank text rule report
+JobPromised (Table i) text report = SpellsTable text i report
+JobPromised (Run seed steps) text report = SpellsRun text seed steps false report
+JobPromised (Livelock set) text report = SpellsBounded text set report
+
+-- what it promises of a request, with the texts that were handed over for it and the report
 abbrev pub Promised : Request → List (List ℕ) → List ℕ → Type 0
 Promised (request.Show name) (text ∷ []) report = SpellsShown text report
-Promised (request.Script (Check rule) name) (text ∷ []) report = TellsRank text rule report
-Promised (request.Script (Table i) name) (text ∷ []) report = SpellsTable text i report
-Promised (request.Script (Run seed steps) name) (text ∷ []) report = SpellsRun text seed steps false report
-Promised (request.Script (Livelock set) name) (text ∷ []) report = SpellsBounded text set report
-Promised (request.Trial trial) [] report = TellsRank (trial_text trial) (rule_of trial.family) report
+Promised (request.Script job name) (text ∷ []) report = JobPromised job text report
+Promised (request.Trial trial) [] report = JobPromised (Check (rule_of trial.family)) (trial_text trial) report
 Promised (request.Conform script specification) (text ∷ other ∷ []) report = SpellsConforming text other report
 Promised _ _ report = ⊥
 

@@ -1,7 +1,7 @@
 //! The answer to the text of a script, or to two texts.
 
-ghost use Rattle.std.specs.Prelude.{◌≡◌, ◌≤◌, IfErr, IfOk, List, ℕ, false, length, true};
-ghost use Rattle.command_words.specs.declared.request.Job.TheVariants.{Check, Livelock, Run, Table};
+ghost use Rattle.std.specs.Prelude.{◌≡◌, ◌≤◌, IfErr, IfOk, ℕ, length, true};
+ghost use Rattle.command_words.specs.declared.request.Job.TheVariants.{Check, Run};
 ghost use Rattle.csp_parser.specs.Spells.{Spells};
 ghost use Rattle.csp_tables.specs.declared.rule.Rule.{Rule as RuleValue};
 ghost use Rattle.csp_text.specs.declared.script.Script.{Script as ScriptValue};
@@ -12,7 +12,7 @@ ghost use Rattle.dl_limits.specs.declared.TheConstants.{MOST_BYTES};
 ghost use Rattle.dl_top.specs.Complete.{SpellMatching, SpellsTables, TextPasses};
 ghost use Rattle.dl_top.specs.Judgement.{NetworkDecides, SpellsNoNetwork, SpellsNoScript, SpellsOnlyNetwork, SpellsOnlyScript, TextCallsFor, TextIsShown, TextsCompare};
 ghost use Rattle.dl_top.specs.Printing.{no_script};
-ghost use Rattle.dl_top.specs.Promised.{SpellsBounded, SpellsConforming, SpellsShown, SpellsTable, TellsRank};
+ghost use Rattle.dl_top.specs.Promised.{JobPromised, SpellsConforming, SpellsShown};
 ghost use Rattle.dl_top.specs.Proved.{SpellsDeadlockFree};
 ghost use Rattle.dl_top.specs.Ran.{SpellsRun};
 
@@ -108,22 +108,14 @@ pub fn judge(alloc: Global, job: &Job, text: &[u8]) -> Result<Answer, NoMemory>
     ensures free { IfOk result (λ answer. (rule : RuleValue) → job.now ≡ Check rule → status answer ≡ 0
         → SpellsDeadlockFree text.now rule (report_text answer)) }
 
-    // The network meets the rule, and the greatest rank in the report is its own by the rule.
-    ensures ranked { IfOk result (λ answer. (rule : RuleValue) → job.now ≡ Check rule → status answer ≡ 0
-        → TellsRank text.now rule (report_text answer)) }
+    // With status 0 the text and the report are as the table `JobPromised` has it for what is to be done.
+    ensures promised { IfOk result (λ answer. status answer ≡ 0 → JobPromised job.now text.now (report_text answer)) }
 
-    // What the other commands promise.
-    ensures told { IfOk result (λ answer. (i : ℕ) → job.now ≡ Table i → status answer ≡ 0
-        → SpellsTable text.now i (report_text answer)) }
-    ensures ran { IfOk result (λ answer. (seed steps : ℕ) → job.now ≡ Run seed steps → status answer ≡ 0
-        → SpellsRun text.now seed steps false (report_text answer)) }
+    // A run ends with status 1 exactly where it is stuck.
     ensures stuck { IfOk result (λ answer. (seed steps : ℕ) → job.now ≡ Run seed steps → status answer ≡ 1
         → SpellsRun text.now seed steps true (report_text answer)) }
-    ensures bounded { IfOk result (λ answer. (set : List ℕ) → job.now ≡ Livelock set → status answer ≡ 0
-        → SpellsBounded text.now set (report_text answer)) }
 
-    // Completeness: the status is 0 wherever it may be, within the limits: where the network meets the rule, where the component has a table, where there is
-    // a bound. A run ends with 0 or 1.
+    // Completeness: status 0 comes wherever the text is such that it may. A run ends with 0 or 1 wherever the components have tables.
     ensures complete { IfOk result (λ answer. TextPasses job.now text.now → status answer ≡ 0) }
     ensures runs { IfOk result (λ answer. (seed steps : ℕ) → job.now ≡ Run seed steps → SpellsTables text.now → status answer ≤ 1) }
 {

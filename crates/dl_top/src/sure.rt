@@ -1,7 +1,7 @@
 //! The top call over devices in memory that never fail.
 
 ghost use Rattle.std.specs.Prelude.{◌≡◌, ◌≢◌, ◌≤◌, Some};
-ghost use Rattle.command_words.specs.Request.{AsksForCheck, AsksForConform, AsksForLivelock, AsksForRun, AsksForShow, AsksForTable, AsksForTrial, NamesNoScript};
+ghost use Rattle.command_words.specs.Request.{AsksForCheck, AsksForRun, AsksForTrial, NamesNoScript};
 ghost use Rattle.dl_outside.specs.Texts.{IsTextOf};
 ghost use Rattle.dl_top.specs.Cause.{CallsFor, HoldsAllNamed};
 ghost use Rattle.dl_top.specs.Complete.{AsksForSuch, Passing, Running};
@@ -22,22 +22,10 @@ pub fn dl_sure(alloc: Global, words: &Words, shelf: &mut SureShelf, out: &mut Su
         → Kept IsFree IsTextOf shelf.old shelf.new words.now (Some out.old.sent) (Some out.new.sent) }
     ensures tried { AsksForTrial words.now → result ≡ 0
         → Kept IsFree IsTextOf shelf.old shelf.new words.now (Some out.old.sent) (Some out.new.sent) }
-    ensures ranked { AsksForCheck words.now → result ≡ 0
-        → Kept Promised IsTextOf shelf.old shelf.new words.now (Some out.old.sent) (Some out.new.sent) }
-    ensures tried_ranked { AsksForTrial words.now → result ≡ 0
-        → Kept Promised IsTextOf shelf.old shelf.new words.now (Some out.old.sent) (Some out.new.sent) }
-    ensures shown { AsksForShow words.now → result ≡ 0
-        → Kept Promised IsTextOf shelf.old shelf.new words.now (Some out.old.sent) (Some out.new.sent) }
-    ensures told { AsksForTable words.now → result ≡ 0
-        → Kept Promised IsTextOf shelf.old shelf.new words.now (Some out.old.sent) (Some out.new.sent) }
-    ensures ran { AsksForRun words.now → result ≡ 0
+    ensures promised { result ≡ 0
         → Kept Promised IsTextOf shelf.old shelf.new words.now (Some out.old.sent) (Some out.new.sent) }
     ensures stuck { AsksForRun words.now → result ≡ 1
         → Kept IsStuckRun IsTextOf shelf.old shelf.new words.now (Some out.old.sent) (Some out.new.sent) }
-    ensures bounded { AsksForLivelock words.now → result ≡ 0
-        → Kept Promised IsTextOf shelf.old shelf.new words.now (Some out.old.sent) (Some out.new.sent) }
-    ensures conformed { AsksForConform words.now → result ≡ 0
-        → Kept Promised IsTextOf shelf.old shelf.new words.now (Some out.old.sent) (Some out.new.sent) }
     ensures complete { result ≢ 5 → AsksForSuch Passing shelf.old words.now → result ≡ 0 }
     ensures runs { result ≢ 5 → AsksForSuch Running shelf.old words.now → result ≤ 1 }
     ensures ends { Ends (CallsFor shelf.old words.now) (sink_signs (Some out.old.sent) (Some out.new.sent) 0 0) result }

@@ -2,7 +2,7 @@
 
 ghost use Rattle.std.specs.Prelude.{◌≡◌, ◌≢◌, ◌≤◌, IfSome};
 ghost use Rattle.dl_outside.specs.Count.{HasRisen, NeverFall};
-ghost use Rattle.command_words.specs.Request.{AsksForCheck, AsksForConform, AsksForLivelock, AsksForRun, AsksForShow, AsksForTable, AsksForTrial, NamesNoScript};
+ghost use Rattle.command_words.specs.Request.{AsksForCheck, AsksForRun, AsksForTrial, NamesNoScript};
 ghost use Rattle.dl_top.specs.Cause.{CallsFor, IsLoad, MayGive};
 ghost use Rattle.dl_top.specs.Complete.{AsksForSuch, Passing, Running};
 ghost use Rattle.dl_top.specs.Ending.{Ends, EndsInShelfFault, EndsWhole, sink_signs};
@@ -52,35 +52,13 @@ pub fn dl_main<S: Shelf, O: Sink>(alloc: Global, words: &Words, shelf: &mut S, o
     ensures tried { AsksForTrial words.now → result ≡ 0
         → Kept IsFree S.gives shelf.old shelf.new words.now (O.sent out.old) (O.sent out.new) }
 
-    // The network meets the rule, and the greatest rank in the report is that of the rule's ranking of it; in a trial too.
-    ensures ranked { AsksForCheck words.now → result ≡ 0
-        → Kept Promised S.gives shelf.old shelf.new words.now (O.sent out.old) (O.sent out.new) }
-    ensures tried_ranked { AsksForTrial words.now → result ≡ 0
-        → Kept Promised S.gives shelf.old shelf.new words.now (O.sent out.old) (O.sent out.new) }
+    // Each command: status 0 promises of the texts that were handed over, and of the report, what stands for the command in the table `Promised`. Of a judgement
+    // it says that the network meets the rule, and that the greatest rank in the report is its own by the rule.
+    ensures promised { result ≡ 0 → Kept Promised S.gives shelf.old shelf.new words.now (O.sent out.old) (O.sent out.new) }
 
-    // Where a script is shown with status 0, its text spells exactly one script, and what was sent is the printed text of that, which
-    // spells it again and no other.
-    ensures shown { AsksForShow words.now → result ≡ 0
-        → Kept Promised S.gives shelf.old shelf.new words.now (O.sent out.old) (O.sent out.new) }
-
-    // Where the table of a component is printed with status 0, it is exactly the component's normal table.
-    ensures told { AsksForTable words.now → result ≡ 0
-        → Kept Promised S.gives shelf.old shelf.new words.now (O.sent out.old) (O.sent out.new) }
-
-    // Where a run ends with status 0 or 1, what was printed is the run of the network that the seed fixes, as long as was asked for or up to a state without
-    // a step. The status is 1 exactly where that state has none, and then the network is live for no bound.
-    ensures ran { AsksForRun words.now → result ≡ 0
-        → Kept Promised S.gives shelf.old shelf.new words.now (O.sent out.old) (O.sent out.new) }
+    // A run ends with status 1 exactly where it is stuck: the state after the printed steps has no step, and the network is live for no bound.
     ensures stuck { AsksForRun words.now → result ≡ 1
         → Kept IsStuckRun S.gives shelf.old shelf.new words.now (O.sent out.old) (O.sent out.new) }
-
-    // Where hidden events are bounded with status 0, at most so many steps of the network in a row are silent or by one of them.
-    ensures bounded { AsksForLivelock words.now → result ≡ 0
-        → Kept Promised S.gives shelf.old shelf.new words.now (O.sent out.old) (O.sent out.new) }
-
-    // Where a script is held against its specification with status 0, its network matches that of the specification, and if that is live, so is the network.
-    ensures conformed { AsksForConform words.now → result ≡ 0
-        → Kept Promised S.gives shelf.old shelf.new words.now (O.sent out.old) (O.sent out.new) }
 
     // Completeness: status 0 comes wherever the texts are such that it may, within the limits, without a fault and with memory enough; a run ends with 0 or 1.
     ensures complete { result ≢ 5 → ¬ HasRisen (S.counts shelf.old).faults (S.counts shelf.new).faults
