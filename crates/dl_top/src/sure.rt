@@ -5,7 +5,7 @@ ghost use Rattle.command_words.specs.Request.{AsksForCheck, AsksForRun, AsksForT
 ghost use Rattle.dl_outside.specs.Texts.{IsTextOf};
 ghost use Rattle.dl_top.specs.Cause.{CallsFor, HoldsAllNamed};
 ghost use Rattle.dl_top.specs.Complete.{AsksForSuch, Passing, Running};
-ghost use Rattle.dl_top.specs.Ending.{Ends, EndsWhole, sink_signs};
+ghost use Rattle.dl_top.specs.Ending.{Ends, EndsInShelfFault, EndsWhole, sink_signs};
 ghost use Rattle.dl_top.specs.Kept.{Kept};
 ghost use Rattle.dl_top.specs.Promised.{IsStuckRun, Promised};
 ghost use Rattle.dl_top.specs.Proved.{IsFree};
@@ -29,6 +29,8 @@ pub fn dl_sure(alloc: Global, words: &Words, shelf: &mut SureShelf, out: &mut Su
     ensures complete { result ≢ 5 → AsksForSuch Passing shelf.old words.now → result ≡ 0 }
     ensures runs { result ≢ 5 → AsksForSuch Running shelf.old words.now → result ≤ 1 }
     ensures ends { Ends (CallsFor shelf.old words.now) (sink_signs (Some out.old.sent) (Some out.new.sent) 0 0) result }
+    ensures shelf_fault { result ≡ 4
+        → EndsInShelfFault (CallsFor shelf.old words.now) (sink_signs (Some out.old.sent) (Some out.new.sent) 0 0) }
     ensures settled { result ≢ 5
         → EndsWhole (CallsFor shelf.old words.now) (sink_signs (Some out.old.sent) (Some out.new.sent) 0 0) result }
     ensures held { HoldsAllNamed shelf.old words.now → result ≢ 4 }

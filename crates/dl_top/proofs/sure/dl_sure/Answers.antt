@@ -15,6 +15,11 @@ pub returns-clause-ends : goal.returns-clause-ends
 returns-clause-ends c =
     ends_weaker _ _ (λ reply. quiet_gives _ _ _ c.args.shelf.now c.args.words.now c.args.shelf.now c.dl_main.new.shelf reply refl quiet) _ c.dl_main.result c.dl_main.ensures.ends
 
+pub returns-clause-shelf_fault : goal.returns-clause-shelf_fault
+returns-clause-shelf_fault c four =
+    let ended = c.dl_main.ensures.shelf_fault four quiet in
+    (ended.0, ended.1, quiet_gives _ _ _ c.args.shelf.now c.args.words.now c.args.shelf.now c.dl_main.new.shelf ended.0 refl quiet ended.2, ended.3)
+
 pub returns-clause-held : goal.returns-clause-held
 returns-clause-held c held four =
     let settled = c.dl_main.ensures.settled (not_five _ four) quiet quiet in
