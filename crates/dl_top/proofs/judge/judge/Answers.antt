@@ -16,4 +16,3 @@ returns-clause-runs c = of_job c.args.text.now c.args.job.now c.called_for.resul
 
 pub returns-clause-stuck : goal.returns-clause-stuck
 returns-clause-stuck c = of_job c.args.text.now c.args.job.now c.called_for.result _ c.called_for.ensures (λ a is seed steps same. text_stuck c.args.text.now seed steps a (is _ same))
-
