@@ -1,4 +1,5 @@
 pub mod Exact
+pub mod Keyed
 pub mod Members
 pub mod Shown
 pub mod formers

@@ -4,11 +4,13 @@
 mod boxed;
 mod exact;
 mod items;
+mod key;
 mod numbering;
 mod rows;
 
 pub use boxed::Boxed;
 pub use exact::Exact;
 pub use items::Items;
+pub use key::Key;
 pub use numbering::Numbering;
 pub use rows::{empty_rows, push_at};

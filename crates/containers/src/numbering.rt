@@ -6,27 +6,28 @@ ghost use Rattle.std.specs.Option.{option_copied};
 ghost use Rattle.std.specs.Set.{is_member};
 ghost use Rattle.containers.specs.Members.{with_new};
 
-use crate::Exact;
+use crate::{Exact, Key};
 use indexmap::IndexSet;
 use std::alloc::{AllocError, Global};
-use std::hash::Hash;
+use std::hash::{BuildHasher, BuildHasherDefault, FoldHasher, Hash};
 use std::marker::Model;
 
 /// Values numbered from 0 on in the order in which they are first seen.
 ///
-/// Contracts see it as the list of its values, in which no value stands twice. A value is found by its hash.
-pub struct Numbering<T: Eq + Hash> {
-    values: IndexSet<T>,
+/// Contracts see it as the list of its values, in which no value stands twice. A value is found by its hash: under a key where a script chooses the
+/// values, else under a seed that is fixed.
+pub struct Numbering<T: Eq + Hash, S: BuildHasher = BuildHasherDefault<FoldHasher>> {
+    values: IndexSet<T, S>,
 }
 
 // By hand, so that a crate that ends one calls this and proves no end of its own.
-impl<T: Eq + Hash + Drop> Drop for Numbering<T> {
+impl<T: Eq + Hash + Drop, S: BuildHasher + Drop> Drop for Numbering<T, S> {
     fn drop(self) {
         let Numbering { values: _values } = self;
     }
 }
 
-impl<T: Eq + Hash> Model for Numbering<T> {
+impl<T: Eq + Hash, S: BuildHasher> Model for Numbering<T, S> {
     ghost use Rattle.std.specs.Prelude.{List};
     ghost use Rattle.std.specs.Coded.{coded_list};
 
@@ -46,7 +47,20 @@ impl<T: Eq + Hash> Numbering<T> {
             values: IndexSet::new(alloc),
         }
     }
+}
 
+impl<T: Eq + Hash> Numbering<T, Key> {
+    /// No value has a number. Values are found by their hashes under this key.
+    pub fn under(alloc: Global, key: Key) -> Numbering<T, Key>
+        ensures { result ≡ [] }
+    {
+        Numbering {
+            values: IndexSet::with_hasher(alloc, key),
+        }
+    }
+}
+
+impl<T: Eq + Hash, S: BuildHasher> Numbering<T, S> {
     /// How many values have a number.
     pub fn len(&self) -> usize
         ensures { result ≡ length self.now }
@@ -70,7 +84,7 @@ impl<T: Eq + Hash> Numbering<T> {
     }
 }
 
-impl<T: Exact + Hash + Drop> Numbering<T> {
+impl<T: Exact + Hash + Drop, S: BuildHasher> Numbering<T, S> {
     /// The number of `x`, if it has one.
     pub fn find(&self, x: &T) -> Option<usize>
         ensures first { result ≡ position (T.eq x.now) self.now }
@@ -116,7 +130,7 @@ impl<T: Exact + Hash + Drop> Numbering<T> {
 }
 
 // The place of x among the values.
-fn find_in<T: Exact + Hash>(values: &IndexSet<T>, x: &T) -> Option<usize>
+fn find_in<T: Exact + Hash, S: BuildHasher>(values: &IndexSet<T, S>, x: &T) -> Option<usize>
     ensures first { result ≡ position (T.eq x.now) values.now.keys }
     ensures found { IfSome result (λ place. slice_get values.now.keys place ≡ Some x.now) }
     ensures known { is_some result ≡ is_member T.eq values.now.keys x.now }
@@ -128,8 +142,8 @@ fn find_in<T: Exact + Hash>(values: &IndexSet<T>, x: &T) -> Option<usize>
 }
 
 // The place of x among the values, at whose end it goes where it is new, and whether it is.
-fn number_in<T: Exact + Hash + Drop>(
-    values: &mut IndexSet<T>,
+fn number_in<T: Exact + Hash + Drop, S: BuildHasher>(
+    values: &mut IndexSet<T, S>,
     x: T,
 ) -> Result<(usize, bool), AllocError>
     ensures list { OnOk result (values.new.keys ≡ with_new T.eq values.old.keys x) }

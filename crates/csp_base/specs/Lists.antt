@@ -1,5 +1,10 @@
--- What is said of lists: the greatest number and the sum, what stands in a list, and that nothing stands in it twice.
-use Rattle.std.specs.Prelude.{◌≡◌, ℕ, ◌+◌, max, Some, List, [], ◌∷◌, slice_get}
+-- What is said of numbers and lists: an integer from 0 on, the greatest number and the sum, what stands in a list, and that nothing stands in it twice.
+use Rattle.std.specs.Prelude.{◌≡◌, ℕ, ℤ, pos, negsuc, ◌+◌, max, Some, List, [], ◌∷◌, slice_get}
+
+-- an integer as a natural number, 0 for one below 0
+abbrev pub natural : ℤ → ℕ
+natural (pos n) = n
+natural (negsuc n) = 0
 
 -- the greatest number of a list, 0 for none
 abbrev pub greatest : List ℕ → ℕ

@@ -4,6 +4,7 @@
 -- arguments; the number of uses that may still be entered goes down by one with each. Bound names have their values in an environment.
 use Rattle.std.specs.Prelude.{ℕ, zero, suc, ◌+◌, ◌-◌, ◌*◌, ◌/◌, ◌%◌, ℤ, pos, negsuc, neg_ℤ, ◌+ℤ◌, ◌-ℤ◌, ◌*ℤ◌, int_lt, int_le, Bool, true, false, not, ◌&&◌, ◌||◌, is_none, nat_eq, nat_lt, if◌then◌else◌, Option, Some, None, Ok, Err, List, [], ◌∷◌, map, length, slice_get}
 use Rattle.dl_limits.specs.declared.TheConstants.{GREATEST_NUMBER, MOST_BINDINGS}
+use Rattle.csp_base.specs.Lists.{natural}
 use Rattle.csp_atoms.specs.Order.{same, same_kind}
 use Rattle.csp_atoms.specs.Sets.{alike, diff_of, has_atom, inter_of, union_of}
 use Rattle.csp_program.specs.Atoms.{added, all_added, limited, numbers_from}
@@ -121,10 +122,6 @@ abbrev pub set_binary : SetOp → List Atom → List Atom → Outcome (List Atom
 set_binary set_op.Union xs ys = if alike xs ys then limited (union_of xs ys) else Err Kind
 set_binary set_op.Inter xs ys = limited (inter_of xs ys)
 set_binary set_op.Diff xs ys = limited (diff_of xs ys)
-
-abbrev pub natural : ℤ → ℕ
-natural (pos n) = n
-natural (negsuc n) = 0
 
 -- all numbers from m to n, none if m is above n
 abbrev pub range : ℤ → ℤ → Outcome (List Atom)

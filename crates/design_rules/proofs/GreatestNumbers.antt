@@ -3,7 +3,8 @@ use Rattle.std.proofs.Common.{◌≡◌, ℕ, zero, suc, ◌≤◌, ◌⊎◌, i
 use Rattle.std.proofs.lemmas.Bool.{cases_lt}
 use Rattle.std.specs.List.{flat_map}
 use Rattle.csp_tables.specs.Ranking.{PartRanks, Ranking, part_ranks, rank_at}
-use Rattle.design_rules.specs.RankCounts.{natural, greatest_from, greatest_rank}
+use Rattle.csp_base.specs.Lists.{natural}
+use Rattle.design_rules.specs.RankCounts.{greatest_from, greatest_rank}
 
 greatest_append : (m : ℕ) (xs ys : List ℤ) → greatest_from m (xs ++ ys) ≡ greatest_from (greatest_from m xs) ys
 greatest_append m [] ys = refl

@@ -27,7 +27,8 @@ use Rattle.design_rules.specs.ClientServerRanking.{IsClientServerRanking}
 use Rattle.design_rules.specs.CyclicRanking.{IsCyclicRanking}
 use Rattle.design_rules.specs.GreatestRank.{ComesAfter, StandsAbove, top_number, RanksByNumber, RanksAs, HasRank, IsGreatestRank}
 use Rattle.design_rules.specs.GreatestRank.RanksByNumber.{free, held, acquiring, idle}
-use Rattle.design_rules.specs.RankCounts.{natural, greatest_rank, RankingsHaveGreatestRank}
+use Rattle.csp_base.specs.Lists.{natural}
+use Rattle.design_rules.specs.RankCounts.{greatest_rank, RankingsHaveGreatestRank}
 use Rattle.design_rules.specs.ResourceRanking.{rank_there, AcceptsSome, AreResourceRanks, IsResourceRanking}
 use Rattle.design_rules.specs.ResourceRule.{acquires, is_held}
 use Rattle.design_rules.specs.Rules.{Ranks}

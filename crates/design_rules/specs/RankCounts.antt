@@ -1,6 +1,7 @@
 -- The greatest number of a ranking, as it is counted over the tables of a shape; it is the network's greatest rank.
-use Rattle.std.specs.Prelude.{ℕ, ℤ, pos, negsuc, max, List, [], ◌∷◌}
+use Rattle.std.specs.Prelude.{ℕ, ℤ, max, List, [], ◌∷◌}
 use Rattle.std.specs.List.{flat_map}
+use Rattle.csp_base.specs.Lists.{natural}
 use Rattle.csp_tables.specs.Label.{Label}
 use Rattle.csp_tables.specs.Network.{Tree, leaves}
 use Rattle.csp_tables.specs.Ranking.{Ranking}
@@ -10,12 +11,7 @@ use Rattle.design_rules.specs.GreatestRank.{NetworkHasGreatestRank}
 use Rattle.design_rules.specs.Rules.{Ranks}
 use Rattle.design_rules.specs.declared.noted_rule.NotedRule.{NotedRule}
 
--- a rank as a number: no rank that a rule gives is below 0
-abbrev pub natural : ℤ → ℕ
-natural (pos n) = n
-natural (negsuc n) = 0
-
--- the greatest of the number m and these
+-- the greatest of the number m and these; no rank that a rule gives is below 0
 abbrev pub greatest_from : ℕ → List ℤ → ℕ
 greatest_from m [] = m
 greatest_from m (r ∷ rs) = greatest_from (max m (natural r)) rs

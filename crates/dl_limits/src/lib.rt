@@ -7,7 +7,7 @@ pub const MOST_BYTES: u32 = 1_048_576;
 /// The most brackets that are open at a place of a script (1).
 pub const MOST_BRACKETS: u16 = 400;
 
-/// The greatest depth of a tree of a script (1).
+/// The greatest depth of a tree of a script (1). Printing takes at most two brackets for each node, so twice the depth is at most the brackets.
 pub const MOST_TREE_DEPTH: u16 = 200;
 
 /// The greatest number that a script may write, and the greatest and, with a minus, the least that it may compute (1 where it is written, else 2).

@@ -5,7 +5,8 @@ use Rattle.std.specs.List.{flat_map}
 use Rattle.std.proofs.Math.Seq.{take-suc}
 use Rattle.csp_tables.specs.Part.{Part, part_at}
 use Rattle.csp_tables.specs.Ranking.{PartRanks}
-use Rattle.design_rules.specs.RankCounts.{greatest_from, natural}
+use Rattle.csp_base.specs.Lists.{natural}
+use Rattle.design_rules.specs.RankCounts.{greatest_from}
 use Rattle.judgement.specs.Counts.{node_count}
 use Rattle.csp_base.proofs.Lists.{flat_map_push}
 

@@ -2,7 +2,8 @@
 
 ghost use Rattle.std.specs.Prelude.{◌≡◌, ◌+◌, ◌<◌, length, map, max, pos};
 ghost use Rattle.std.specs.List.{flat_map};
-ghost use Rattle.design_rules.specs.RankCounts.{greatest_from, greatest_rank, natural};
+ghost use Rattle.csp_base.specs.Lists.{natural};
+ghost use Rattle.design_rules.specs.RankCounts.{greatest_from, greatest_rank};
 ghost use Rattle.judgement.specs.Counts.{node_count};
 
 use csp_tables::{Part, PartRanks, Ranking};

@@ -10,7 +10,8 @@ use Rattle.csp_atoms.specs.declared.atom.Atom.TheVariants as atom
 use Rattle.csp_program.specs.Atoms.{added, all_added, limited, numbers_from}
 use Rattle.value_laws.specs.Numbers.{events_from}
 use Rattle.csp_program.specs.Outcome.{Outcome, and_then}
-use Rattle.csp_program.specs.Value.{range, natural}
+use Rattle.csp_base.specs.Lists.{natural}
+use Rattle.csp_program.specs.Value.{range}
 use Rattle.csp_program.specs.declared.kinds.ValueKind.{ValueKind}
 use Rattle.csp_program.specs.declared.kinds.ValueKind.TheVariants.{Kind, SetLimit}
 use Rattle.value_operators.specs.Gives.{Gives}
