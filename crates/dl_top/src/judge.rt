@@ -19,8 +19,8 @@ ghost use Rattle.dl_top.specs.Ran.{SpellsRun};
 use command_words::Job;
 use comparison::compared;
 use csp_base::NoMemory;
-use csp_parser::{ParseFault, each_text_spells_one_script, read};
-use csp_text::Script;
+use csp_parser::{each_text_spells_one_script, read};
+use csp_text::{Script, TextFault};
 use judgement::judged;
 use livelock::bounded;
 use network_stages::{Spelled, spell_network};
@@ -31,14 +31,14 @@ use std::alloc::Global;
 use tabulation::tabulated;
 
 // Why a walk stops at a text of this side that is no script.
-fn unread(side: Side, fault: ParseFault) -> Stop<Answer>
+fn unread(side: Side, fault: TextFault) -> Stop<Answer>
     ensures { result ≡ no_script side fault }
 {
     match fault {
-        ParseFault::NoScript { at } => {
+        TextFault::NoScript { at } => {
             Stop::Told(Answer::NoProgram(side, TextFault::NoScript { at }))
         }
-        ParseFault::NoMemory => Stop::NoMemory,
+        TextFault::NoMemory => Stop::NoMemory,
     }
 }
 
