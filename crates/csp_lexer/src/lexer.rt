@@ -18,7 +18,7 @@ use crate::places::{beginning, behind_all};
 use crate::tokens::Tokens;
 use crate::words::word_len;
 use csp_base::{NoMemory, Place};
-use csp_text::TextFault;
+use csp_text::ParseFault;
 use std::alloc::Global;
 
 // Whether the byte has no meaning between tokens.
@@ -98,7 +98,7 @@ fn pass_piece<'a>(
 }
 
 // Passes the whole text. The result is the place of its end.
-fn pass_all(alloc: Global, text: &[u8], found: &mut Tokens) -> Result<Place, TextFault>
+fn pass_all(alloc: Global, text: &[u8], found: &mut Tokens) -> Result<Place, ParseFault>
     requires { found.old.placed ≡ [] }
     ensures found { IfOk result (λ end. lexed text.now ≡ Ok (record { placed = found.new.placed; end = end })) }
     ensures none { IfErr result (λ fault. IfNoScript fault (λ at. lexed text.now ≡ Err at)) }
@@ -107,7 +107,7 @@ fn pass_all(alloc: Global, text: &[u8], found: &mut Tokens) -> Result<Place, Tex
     let mut rest = text;
     while !rest.is_empty() {
         let Some(left) = pass_piece(alloc, rest, at, found)? else {
-            return Err(TextFault::NoScript { at });
+            return Err(ParseFault::NoScript { at });
         };
         at = behind_all(at, &rest[..rest.len() - left.len()]);
         rest = left;
@@ -116,7 +116,7 @@ fn pass_all(alloc: Global, text: &[u8], found: &mut Tokens) -> Result<Place, Tex
 }
 
 /// The tokens of the text with their places, or the place where it is no script.
-pub fn lex(alloc: Global, text: &[u8]) -> Result<Tokens, TextFault>
+pub fn lex(alloc: Global, text: &[u8]) -> Result<Tokens, ParseFault>
     // What is found are the tokens of the text.
     ensures found { IfOk result (λ found. lexed text.now ≡ Ok found) }
 

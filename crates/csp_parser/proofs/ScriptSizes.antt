@@ -17,7 +17,7 @@ use Rattle.csp_text.specs.declared.token.Token.{Token}
 use Rattle.csp_text.specs.declared.tree.Tree.{Tree}
 use Rattle.dl_limits.specs.declared.TheConstants.{MOST_BYTES, MOST_TREE_DEPTH}
 use Rattle.csp_parser.specs.Sizes.{SpelledScriptsAreSmall}
-use Rattle.csp_text.specs.declared.fault.TextFault.{TextFault}
+use Rattle.csp_text.specs.declared.fault.ParseFault.{ParseFault}
 use Rattle.csp_parser.proofs.TokenCounts.{no_more_than_bytes}
 use Rattle.csp_parser.proofs.TreeTokens.{atom_tokens, items_tokens, tree_tokens}
 use Rattle.script_sizes.specs.BindingTokens.{all_tokens, tokens}
@@ -98,6 +98,6 @@ spelled_small text script s within =
     record { few = at_most (size script.decls) (length text) MOST_BYTES fits within; shallow = declarations_shallow s.spelled }
 
 -- what the script owes that was read of the tokens of a text
-pub read_small : (text : List ℕ) (found : PlacedTokens) (r : Result Script TextFault) → lexed text ≡ Ok found → IfOk r (λ script. ScriptText (tokens_of found.placed) script)
+pub read_small : (text : List ℕ) (found : PlacedTokens) (r : Result Script ParseFault) → lexed text ≡ Ok found → IfOk r (λ script. ScriptText (tokens_of found.placed) script)
     → IfOk r (λ script. length text ≤ MOST_BYTES → AreSmall script.decls)
 read_small text found r cut spelled = IfOk-weaker r _ _ (λ script s. spelled_small text script (record { found = found; cut = cut; spelled = s })) spelled

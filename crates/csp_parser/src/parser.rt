@@ -14,7 +14,7 @@ ghost use Rattle.script_sizes.specs.Size.{AreSmall};
 use crate::declarations::declarations;
 use csp_base::Place;
 use csp_lexer::{Tokens, lex};
-use csp_text::{Script, TextFault};
+use csp_text::{ParseFault, Script};
 use std::alloc::Global;
 use tree_parser::ReadFault;
 
@@ -30,7 +30,7 @@ fn place_before(tokens: &Tokens, left: usize) -> Place
 ///
 /// The fault, but for want of memory, is that they are none within the limits of nesting: 400 open brackets, and a
 /// depth of 200. It tells the place of the token at which reading stopped, or that of the text's end.
-pub fn parse(alloc: Global, tokens: &Tokens) -> Result<Script, TextFault>
+pub fn parse(alloc: Global, tokens: &Tokens) -> Result<Script, ParseFault>
     // What is found is spelled, and nothing else is.
     ensures found { IfOk result (λ script. ScriptText (tokens_of tokens.now.placed) script) }
     ensures only { IfOk result
@@ -43,8 +43,8 @@ pub fn parse(alloc: Global, tokens: &Tokens) -> Result<Script, TextFault>
 {
     match declarations(alloc, tokens.as_slice()) {
         Ok(decls) => Ok(Script { decls }),
-        Err(ReadFault::NoMemory) => Err(TextFault::NoMemory),
-        Err(ReadFault::NoText { left }) => Err(TextFault::NoScript {
+        Err(ReadFault::NoMemory) => Err(ParseFault::NoMemory),
+        Err(ReadFault::NoText { left }) => Err(ParseFault::NoScript {
             at: place_before(tokens, left),
         }),
     }
@@ -56,7 +56,7 @@ pub fn parse(alloc: Global, tokens: &Tokens) -> Result<Script, TextFault>
 /// first piece begins that is no token, or else that of the token at which reading stopped, or of the text's end.
 ///
 /// What a text of at most `MOST_BYTES` spells is small: 32 bits number all that it declares.
-pub fn read(alloc: Global, text: &[u8]) -> Result<Script, TextFault>
+pub fn read(alloc: Global, text: &[u8]) -> Result<Script, ParseFault>
     ensures found { IfOk result (λ script. Spells text.now script) }
 
     // A text within the limit spells no more names, parameters, types and binding tokens than it has bytes, and no deep

@@ -6,8 +6,8 @@ use Rattle.command_words.specs.declared.request.Job.{Job}
 use Rattle.command_words.specs.declared.request.Job.TheVariants.{Livelock}
 use Rattle.comparison.specs.Compared.{IsCompared}
 use Rattle.csp_text.specs.Fault.{IfNoScript}
-use Rattle.csp_text.specs.declared.fault.TextFault.{TextFault}
-use Rattle.csp_text.specs.declared.fault.TextFault.TheVariants as fault
+use Rattle.csp_text.specs.declared.fault.ParseFault.{ParseFault}
+use Rattle.csp_text.specs.declared.fault.ParseFault.TheVariants as fault
 use Rattle.csp_parser.specs.Places.{IsPlaceOf}
 use Rattle.csp_parser.specs.Spells.{EachTextSpellsOneScript, Spells}
 use Rattle.csp_program.specs.declared.programs.Content.{Content}
@@ -35,7 +35,7 @@ use Rattle.dl_top.specs.Printing.{no_script}
 pub only_script : (text : List ℕ) (s : Script) → Spells text s → EachTextSpellsOneScript → SpellsOnlyScript text s
 only_script text s spelled only = record { spelled = spelled; only = λ t other. only text t s other spelled }
 
-pub no_script_read : (side : Side) (text : List ℕ) (f : TextFault) → IfNoScript f (λ at. (s : Script) → Spells text s → ⊥) → IfNoScript f (λ at. IsPlaceOf text at)
+pub no_script_read : (side : Side) (text : List ℕ) (f : ParseFault) → IfNoScript f (λ at. (s : Script) → Spells text s → ⊥) → IfNoScript f (λ at. IsPlaceOf text at)
     → Tells (SpellsNoScript side text) (no_script side f)
 no_script_read side text fault.NoMemory none place = tt
 no_script_read side text (fault.NoScript at) none place = record { none = none; at = at; place = place; told = refl }

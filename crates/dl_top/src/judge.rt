@@ -20,7 +20,7 @@ use command_words::Job;
 use comparison::compared;
 use csp_base::NoMemory;
 use csp_parser::{each_text_spells_one_script, read};
-use csp_text::{Script, TextFault};
+use csp_text::{ParseFault, Script};
 use judgement::judged;
 use livelock::bounded;
 use network_stages::{Spelled, spell_network};
@@ -31,14 +31,14 @@ use std::alloc::Global;
 use tabulation::tabulated;
 
 // Why a walk stops at a text of this side that is no script.
-fn unread(side: Side, fault: TextFault) -> Stop<Answer>
+fn unread(side: Side, fault: ParseFault) -> Stop<Answer>
     ensures { result ≡ no_script side fault }
 {
     match fault {
-        TextFault::NoScript { at } => {
+        ParseFault::NoScript { at } => {
             Stop::Told(Answer::NoProgram(side, TextFault::NoScript { at }))
         }
-        TextFault::NoMemory => Stop::NoMemory,
+        ParseFault::NoMemory => Stop::NoMemory,
     }
 }
 
