@@ -5,7 +5,6 @@ mod annotations;
 mod assertions;
 mod classes;
 mod comments;
-pub mod fault;
 mod forms;
 mod lexer;
 mod line;
@@ -15,6 +14,5 @@ mod symbols;
 pub mod tokens;
 mod words;
 
-pub use fault::LexFault;
 pub use lexer::lex;
 pub use tokens::Tokens;

@@ -1,5 +1,5 @@
-//! The parser of trees: what the tokens at the front are, within limits of nesting. It descends as the reader in the definitions does: one function reads
-//! what one of its definitions reads.
+//! The parser of trees: what the tokens at the front are, within limits of nesting. It descends as the reader in the
+//! definitions does: one function reads what one of its definitions reads.
 #![tactic(auto)]
 
 mod atoms;
