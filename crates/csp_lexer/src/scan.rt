@@ -54,7 +54,8 @@ pub(crate) fn pass_one<'a>(
     rest: &'a [u8],
     found: &mut Tokens,
 ) -> Result<Option<&'a [u8]>, NoMemory>
-    ensures passed { IfOk result (λ left. Passed (one_before at rest.now token) found.old found.new (option_copied left)) }
+    ensures passed { IfOk result (λ left.
+        Passed (one_before at rest.now token) found.old found.new (option_copied left)) }
     ensures same { IfOk result (λ left. IfSome left (λ left. left.now ≡ rest.now)) }
 {
     let Some(token) = token else {
@@ -74,7 +75,8 @@ fn pass_symbol<'a>(
 ) -> Result<Option<&'a [u8]>, NoMemory>
     requires has_byte { 0 < length (symbol_text symbol) }
     requires within { length (symbol_text symbol) ≤ length text.now }
-    ensures passed { IfOk result (λ left. Passed (one_at at text.now (symbol_with_len (Some symbol))) found.old found.new (option_copied left)) }
+    ensures passed { IfOk result (λ left.
+        Passed (one_at at text.now (symbol_with_len (Some symbol))) found.old found.new (option_copied left)) }
     ensures shorter { IfOk result (λ left. IfSome left (λ left. length left.now < length text.now)) }
 {
     found.push(Token::Symbol(symbol), at)?;
@@ -90,7 +92,8 @@ pub(crate) fn pass_token<'a>(
     at: Place,
     found: &mut Tokens,
 ) -> Result<Option<&'a [u8]>, NoMemory>
-    ensures passed { IfOk result (λ left. Passed (one_at at text.now (token_at on_line text.now)) found.old found.new (option_copied left)) }
+    ensures passed { IfOk result (λ left.
+        Passed (one_at at text.now (token_at on_line text.now)) found.old found.new (option_copied left)) }
     ensures shorter { IfOk result (λ left. IfSome left (λ left. length left.now < length text.now)) }
 {
     let word = word_len(text);

@@ -112,7 +112,8 @@ fn symbol_in_front(text: &[u8]) -> Option<Symbol>
 fn longest_symbol(text: &[u8]) -> Option<Symbol>
     ensures value { result ≡ longest_symbol text.now }
     ensures longest { IsLongest text.now result }
-    ensures within { IfSome result (λ symbol. (0 < length (symbol_text symbol)) × (length (symbol_text symbol) ≤ length text.now)) }
+    ensures within { IfSome result (λ symbol.
+        (0 < length (symbol_text symbol)) × (length (symbol_text symbol) ≤ length text.now)) }
 {
     symbol_in_front(text)
 }
@@ -121,7 +122,8 @@ fn longest_symbol(text: &[u8]) -> Option<Symbol>
 #[tactic(auto, unfolding(crate::specs::Symbols::symbol_at))]
 pub(crate) fn symbol_at(on_line: bool, text: &[u8]) -> Option<Symbol>
     ensures value { result ≡ symbol_at on_line text.now }
-    ensures within { IfSome result (λ symbol. (0 < length (symbol_text symbol)) × (length (symbol_text symbol) ≤ length text.now)) }
+    ensures within { IfSome result (λ symbol.
+        (0 < length (symbol_text symbol)) × (length (symbol_text symbol) ≤ length text.now)) }
 {
     if on_line {
         if text.starts_with(b"[") {
