@@ -9,7 +9,6 @@ mod annotations;
 mod assertions;
 mod classes;
 mod comments;
-pub mod fault;
 mod forms;
 mod lexer;
 mod line;
@@ -19,6 +18,5 @@ mod symbols;
 pub mod tokens;
 mod words;
 
-pub use fault::LexFault;
 pub use lexer::lex;
 pub use tokens::Tokens;
