@@ -31,7 +31,7 @@ pub(crate) fn body_of(alloc: Global, list: &[Occurrence<&Name>]) -> Result<Body,
 }
 
 // The greatest level.
-#[tactic(auto, using(crate::proofs::Bodies::level_later))]
+#[tactic(auto, using(crate::proofs::BodyLemmas::level_later))]
 fn greatest_level(list: &[Occurrence<&Name>]) -> u32
     ensures { result ≡ meant.greatest_level (map seen list.now) }
 {
@@ -65,7 +65,7 @@ fn level_of(said: &Occurrence<&Name>) -> u32
 }
 
 // The definitions that are used.
-#[tactic(auto, using(crate::proofs::Bodies::uses_later))]
+#[tactic(auto, using(crate::proofs::BodyLemmas::uses_later))]
 fn uses_of(alloc: Global, list: &[Occurrence<&Name>]) -> Result<Items<(u32, u32)>, NoMemory>
     ensures { IfOk result (λ uses. uses ≡ flat_map meant.use_of (map seen list.now)) }
 {

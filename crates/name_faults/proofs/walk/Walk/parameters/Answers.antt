@@ -2,7 +2,7 @@ use Rattle.std.proofs.Common.{[], ◌∷◌, ◌∙◌, ap}
 use Rattle.script_names.specs.declared.occurrence.Occurrence.TheVariants.{Binds}
 use Rattle.name_faults.specs.Walked.{after}
 use Rattle.name_faults.proofs.KnownLemmas.{each_step, names_step}
-use Rattle.name_faults.proofs.declarations.Walk.parameters.Goals as goal
+use Rattle.name_faults.proofs.walk.Walk.parameters.Goals as goal
 
 pub loop-x-preserved : goal.loop-x-preserved
 loop-x-preserved c = record {

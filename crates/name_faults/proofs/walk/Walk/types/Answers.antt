@@ -7,7 +7,7 @@ use Rattle.script_names.specs.Says.{tree_says}
 use Rattle.name_faults.specs.Walked.{Walked, after}
 use Rattle.name_faults.proofs.Deepest.{in_list}
 use Rattle.name_faults.proofs.KnownLemmas.{types_step}
-use Rattle.name_faults.proofs.declarations.Walk.types.Goals as goal
+use Rattle.name_faults.proofs.walk.Walk.types.Goals as goal
 
 pub body-requires : goal.body-requires
 body-requires c =

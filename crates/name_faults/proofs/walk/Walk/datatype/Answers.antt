@@ -4,7 +4,7 @@ use Rattle.script_names.specs.Names.{is_among}
 use Rattle.script_names.specs.Told.{declared_after}
 use Rattle.name_faults.specs.Walked.{after}
 use Rattle.name_faults.proofs.KnownLemmas.{each_same}
-use Rattle.name_faults.proofs.declarations.Walk.datatype.Goals as goal
+use Rattle.name_faults.proofs.walk.Walk.datatype.Goals as goal
 
 pub returns-clause-said : goal.returns-clause-said
 returns-clause-said c =

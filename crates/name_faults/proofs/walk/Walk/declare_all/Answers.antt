@@ -1,6 +1,6 @@
 use Rattle.script_names.specs.declared.occurrence.Occurrence.TheVariants.{Declares}
 use Rattle.name_faults.proofs.KnownLemmas.{each_step, names_step}
-use Rattle.name_faults.proofs.declarations.Walk.declare_all.Goals as goal
+use Rattle.name_faults.proofs.walk.Walk.declare_all.Goals as goal
 
 pub loop-x-preserved : goal.loop-x-preserved
 loop-x-preserved c = record {

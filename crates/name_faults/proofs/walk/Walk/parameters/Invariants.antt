@@ -2,7 +2,7 @@ use Rattle.std.proofs.Common.{◌≡◌, [], take}
 use Rattle.script_names.specs.Told.{parameters_after}
 use Rattle.name_tables.specs.Firsts.{SameNames}
 use Rattle.name_faults.specs.Walked.{after}
-use Rattle.name_faults.proofs.declarations.Walk.parameters.Given as goal
+use Rattle.name_faults.proofs.walk.Walk.parameters.Given as goal
 
 abbrev pub invariant-loop-x : goal.invariant-loop-x
 invariant-loop-x l = record {
