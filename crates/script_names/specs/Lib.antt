@@ -1,6 +1,5 @@
 pub mod Names
 pub mod Kinds
-pub mod Occurrence
 pub mod Says
 pub mod Faults
 pub mod Depth
