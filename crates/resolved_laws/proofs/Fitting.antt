@@ -23,8 +23,8 @@ use Rattle.script_names.specs.Faults.{clashes, is_network, kind_class, kind_netw
 use Rattle.script_names.specs.Names.{Name, Meanings, sense_of}
 use Rattle.script_names.specs.Occurrence.{uses}
 use Rattle.script_names.specs.Typed.{definition_number}
-use Rattle.resolved_laws.proofs.Faultless.{IsFine}
-use Rattle.resolved_laws.proofs.ScopeNames.{NameIs, is_bound, is_free}
+use Rattle.typed_laws.proofs.Faultless.{IsFine}
+use Rattle.typed_laws.proofs.ScopeNames.{NameIs, is_bound, is_free}
 use Rattle.resolved_laws.proofs.Booleans.{two}
 use Rattle.std.proofs.Math.Bool.{or-false}
 use Rattle.csp_base.proofs.Booleans.{is_and}

@@ -1,0 +1,9 @@
+pub mod Formed
+pub mod Making
+pub mod Faultless
+pub mod ScopeNames
+pub mod Classes
+pub mod Passing
+pub mod Senses
+pub mod Deep
+pub mod ExprsAre
