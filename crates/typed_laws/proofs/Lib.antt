@@ -7,3 +7,5 @@ pub mod Passing
 pub mod Senses
 pub mod Deep
 pub mod ExprsAre
+pub mod ProcsAre
+pub mod NetsAre
