@@ -5,7 +5,10 @@ pub mod ScopeNames
 pub mod Classes
 pub mod Passing
 pub mod Senses
+pub mod DefUses
+pub mod Uses
 pub mod Deep
 pub mod ExprsAre
 pub mod ProcsAre
 pub mod NetsAre
+pub mod Typable
