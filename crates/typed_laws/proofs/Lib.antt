@@ -12,3 +12,5 @@ pub mod ExprsAre
 pub mod ProcsAre
 pub mod NetsAre
 pub mod Typable
+pub mod DeclPasses
+pub mod ScriptKinds
