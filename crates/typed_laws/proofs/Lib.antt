@@ -15,3 +15,4 @@ pub mod Typable
 pub mod DeclPasses
 pub mod ScriptKinds
 pub mod OnceLaws
+pub mod Back
