@@ -7,3 +7,4 @@ pub mod Passing
 pub mod Senses
 pub mod Deep
 pub mod ExprsAre
+pub mod Declared
