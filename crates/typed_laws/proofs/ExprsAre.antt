@@ -4,7 +4,7 @@ use Rattle.std.specs.Prelude.{max}
 use Rattle.std.proofs.lemmas.List.{length-map}
 use Rattle.csp_base.specs.Lists.{greatest}
 use Rattle.csp_text.specs.declared.tree.FieldTree.{FieldTree}
-use Rattle.csp_text.specs.declared.tree.FieldTree.TheFolds.{fold-roll-GenTree, fold-roll-PartTree, fold-roll-Tree, map-GenTree}
+use Rattle.csp_text.specs.declared.tree.FieldTree.TheFolds.{fold-roll-GenTree, fold-roll-PartTree, fold-roll-Tree}
 use Rattle.csp_text.specs.declared.tree.FieldTree.TheOpen.{GenTree-F, Tree-F}
 use Rattle.csp_text.specs.declared.tree.FieldTree.TheViews.{roll-GenTree, roll-Tree}
 use Rattle.csp_text.specs.declared.tree.EventTree.{EventTree}
@@ -39,21 +39,21 @@ use Rattle.script_names.specs.Typed.{Binding, Front, Reading, all_bind, bindings
 use Rattle.script_names.specs.Typing.{AreExprs, AreFronts, AreGens, IsExpr, IsFront, Means, event_part, part_tree}
 use Rattle.script_names.specs.Typing as t
 use Rattle.typed_laws.proofs.Deep.{above, below_form, deepest_append, expr_layer, gen_layer, none_below, one_below, part_layer, two_below}
-use Rattle.typed_laws.proofs.Making.{gen_reading, gen_says, part_reading, part_tree_says, reading_layer, says_layer, field_says, event_says, field_reading, event_reading}
+use Rattle.typed_laws.proofs.Making.{gen_reading, gen_reading_layer, gen_says, gen_says_layer, part_reading, part_tree_says, reading_layer, says_layer}
 use Rattle.typed_laws.proofs.Passing.{AllPass, Passes, data_at, form_passes, join, join_three, use_passes}
 use Rattle.typed_laws.proofs.ScopeNames.{names_with}
 use Rattle.typed_laws.proofs.Senses.{bind_passes, bound_is, bound_passes, call_passes, constant_passes, definition_passes, dotted_passes, event_passes, means_is, set_passes}
 
-add_next : (n a b i k : ℕ) → n + a ≡ i → i + b ≡ k → n + (a + b) ≡ k
+pub add_next : (n a b i k : ℕ) → n + a ≡ i → i + b ≡ k → n + (a + b) ≡ k
 add_next n a b i k h g = omega arith
 
-add_three : (n a b c i j k : ℕ) → n + a ≡ i → i + b ≡ j → j + c ≡ k → n + (a + b + c) ≡ k
+pub add_three : (n a b c i j k : ℕ) → n + a ≡ i → i + b ≡ j → j + c ≡ k → n + (a + b + c) ≡ k
 add_three n a b c i j k h g l = omega arith
 
 pub one_next : (n a i : ℕ) → (n + 1) + a ≡ i → n + (1 + a) ≡ i
 one_next n a i h = omega arith
 
-none_next : (n : ℕ) → n + 0 ≡ n
+pub none_next : (n : ℕ) → n + 0 ≡ n
 none_next n = omega arith
 
 some_more : (d k : ℕ) → d ≡ 1 + k → 0 < d
@@ -134,14 +134,13 @@ module _ (m : Meanings) (ks : List Kind) where
       h))
 
   gen_tree_layer : (P : Binder → Binding Gen → Type 0) (d : GenTree-F FieldTree GenTree Tree EventTree PartTree) {a : GenTree} → roll-GenTree d ≡ a
-      → P (gen_says_of_layer m (map-GenTree FieldTree GenTree Tree EventTree PartTree Binder Binder Said (Fields Binder) (Fields Said) (field_says m ks) (gen_says m ks) (tree_says m) (event_says m ks) (part_tree_says m ks) d))
-      (gen_of_layer m ks (map-GenTree FieldTree GenTree Tree EventTree PartTree (Binding Field) (Binding Gen) Reading (Front (Binding Field)) (Front Reading) (field_reading m ks) (gen_reading m ks) (reading m ks) (event_reading m ks) (part_reading m ks) d))
+      → P (gen_says_layer m ks d) (gen_reading_layer m ks d)
       → P (gen_says m ks a) (gen_reading m ks a)
   gen_tree_layer P d is h =
       subst (λ z. P (gen_says m ks z) (gen_reading m ks z)) is
       (subst (λ z. P z (gen_reading m ks (roll-GenTree d)))
       (sym (fold-roll-GenTree Binder Binder Said (Fields Binder) (Fields Said) (field_says_of_layer m) (gen_says_of_layer m) (tree_says_of_layer m) (event_says_of_layer m) (part_says_of_layer m) d))
-      (subst (λ z. P _ z)
+      (subst (P (gen_says_layer m ks d))
       (sym (fold-roll-GenTree (Binding Field) (Binding Gen) Reading (Front (Binding Field)) (Front Reading) (field_of_layer m ks) (gen_of_layer m ks) (reading_of_layer m ks) (event_of_layer m ks) (part_of_layer m ks) d))
       h))
 
@@ -397,6 +396,6 @@ module _ (m : Meanings) (ks : List Kind) where
         record {
           value = λ j. w.value j ∷ (ap (parts m ks (map (part_reading m ks) ts) scope) w.next ∙ v.value) j;
           next = add_next _ _ _ _ _ w.next v.next;
-          passes = λ place. join m ks _ _ (w.passes place) (v.passes place);
-          deep = λ f place. two_below f place.level _ _ _ _ (w.deep f place) (v.deep f place);
+          passes = λ place. join m ks (part_says m (part_tree_says m ks a) place (names_of scope)) _ (w.passes place) (v.passes place);
+          deep = λ f place. two_below f place.level (part_says m (part_tree_says m ks a) place (names_of scope)) _ _ _ (w.deep f place) (v.deep f place);
         }

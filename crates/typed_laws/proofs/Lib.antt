@@ -7,4 +7,6 @@ pub mod Passing
 pub mod Senses
 pub mod Deep
 pub mod ExprsAre
+pub mod ProcsAre
+pub mod NetsAre
 pub mod Declared

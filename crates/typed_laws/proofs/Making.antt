@@ -133,20 +133,33 @@ module _ (m : Meanings) (ks : List Kind) where
       (λ i names. sym (fold-roll-Tree (Unit {0}) (Unit {0}) (List End) (Unit {0}) (Unit {0}) (λ field. tt) (λ gen. tt) (ends_of_layer m names) (λ event. tt)
       (λ part. tt) d) i) (subst (λ t. Reads m ks t (says_layer d) (reading_layer d) (ends_layer d)) (sym is) h))
 
+  abbrev pub field_says_layer : FieldTree-F FieldTree GenTree Tree EventTree PartTree → Binder
+  field_says_layer d = field_says_of_layer m (map-FieldTree FieldTree GenTree Tree EventTree PartTree Binder Binder Said (Fields Binder) (Fields Said)
+      field_says gen_says (tree_says m) event_says part_tree_says d)
+
+  abbrev pub field_reading_layer : FieldTree-F FieldTree GenTree Tree EventTree PartTree → Binding Field
+  field_reading_layer d = field_of_layer m ks
+      (map-FieldTree FieldTree GenTree Tree EventTree PartTree (Binding Field) (Binding Gen) Reading (Front (Binding Field)) (Front Reading)
+      field_reading gen_reading (reading m ks) event_reading part_reading d)
+
+  abbrev pub gen_says_layer : GenTree-F FieldTree GenTree Tree EventTree PartTree → Binder
+  gen_says_layer d = gen_says_of_layer m (map-GenTree FieldTree GenTree Tree EventTree PartTree Binder Binder Said (Fields Binder) (Fields Said)
+      field_says gen_says (tree_says m) event_says part_tree_says d)
+
+  abbrev pub gen_reading_layer : GenTree-F FieldTree GenTree Tree EventTree PartTree → Binding Gen
+  gen_reading_layer d = gen_of_layer m ks
+      (map-GenTree FieldTree GenTree Tree EventTree PartTree (Binding Field) (Binding Gen) Reading (Front (Binding Field)) (Front Reading)
+      field_reading gen_reading (reading m ks) event_reading part_reading d)
+
   rolled_field : (d : FieldTree-F FieldTree GenTree Tree EventTree PartTree)
       {t : FieldTree} → roll-FieldTree d ≡ t
-      → FieldRead m ks t (field_says_of_layer m (map-FieldTree FieldTree GenTree Tree EventTree PartTree Binder Binder Said (Fields Binder) (Fields Said)
-      field_says gen_says (tree_says m) event_says part_tree_says d))
-      (field_of_layer m ks (map-FieldTree FieldTree GenTree Tree EventTree PartTree (Binding Field) (Binding Gen) Reading (Front (Binding Field))
-      (Front Reading) field_reading gen_reading (reading m ks) event_reading part_reading d))
+      → FieldRead m ks t (field_says_layer d) (field_reading_layer d)
       → ReadField (roll-FieldTree d)
   rolled_field d is h =
       equal_read (FieldRead m ks (roll-FieldTree d))
       (fold-roll-FieldTree Binder Binder Said (Fields Binder) (Fields Said) (field_says_of_layer m) (gen_says_of_layer m) (tree_says_of_layer m) (event_says_of_layer m) (part_says_of_layer m) d)
       (fold-roll-FieldTree (Binding Field) (Binding Gen) Reading (Front (Binding Field)) (Front Reading) (field_of_layer m ks) (gen_of_layer m ks) (reading_of_layer m ks) (event_of_layer m ks) (part_of_layer m ks) d)
-      (subst (λ t. FieldRead m ks t (field_says_of_layer m (map-FieldTree FieldTree GenTree Tree EventTree PartTree Binder Binder Said (Fields Binder)
-      (Fields Said) field_says gen_says (tree_says m) event_says part_tree_says d)) (field_of_layer m ks (map-FieldTree FieldTree GenTree Tree EventTree PartTree
-      (Binding Field) (Binding Gen) Reading (Front (Binding Field)) (Front Reading) field_reading gen_reading (reading m ks) event_reading part_reading d))) (sym is) h)
+      (subst (λ t. FieldRead m ks t (field_says_layer d) (field_reading_layer d)) (sym is) h)
 
   field_layer : (y : FieldTree-F (Known ReadField) (Known ReadGen) (Known ReadTree) (Known ReadEvent) (Known ReadPart)) → ReadField
       (roll-FieldTree (map-FieldTree (Known ReadField) (Known ReadGen) (Known ReadTree) (Known ReadEvent) (Known ReadPart) FieldTree GenTree Tree EventTree PartTree
@@ -158,18 +171,13 @@ module _ (m : Meanings) (ks : List Kind) where
 
   rolled_gen : (d : GenTree-F FieldTree GenTree Tree EventTree PartTree)
       {t : GenTree} → roll-GenTree d ≡ t
-      → GenRead m ks t (gen_says_of_layer m (map-GenTree FieldTree GenTree Tree EventTree PartTree Binder Binder Said (Fields Binder) (Fields Said) field_says
-      gen_says (tree_says m) event_says part_tree_says d))
-      (gen_of_layer m ks (map-GenTree FieldTree GenTree Tree EventTree PartTree (Binding Field) (Binding Gen) Reading (Front (Binding Field)) (Front Reading)
-      field_reading gen_reading (reading m ks) event_reading part_reading d))
+      → GenRead m ks t (gen_says_layer d) (gen_reading_layer d)
       → ReadGen (roll-GenTree d)
   rolled_gen d is h =
       equal_read (GenRead m ks (roll-GenTree d))
       (fold-roll-GenTree Binder Binder Said (Fields Binder) (Fields Said) (field_says_of_layer m) (gen_says_of_layer m) (tree_says_of_layer m) (event_says_of_layer m) (part_says_of_layer m) d)
       (fold-roll-GenTree (Binding Field) (Binding Gen) Reading (Front (Binding Field)) (Front Reading) (field_of_layer m ks) (gen_of_layer m ks) (reading_of_layer m ks) (event_of_layer m ks) (part_of_layer m ks) d)
-      (subst (λ t. GenRead m ks t (gen_says_of_layer m (map-GenTree FieldTree GenTree Tree EventTree PartTree Binder Binder Said (Fields Binder) (Fields Said)
-      field_says gen_says (tree_says m) event_says part_tree_says d)) (gen_of_layer m ks (map-GenTree FieldTree GenTree Tree EventTree PartTree (Binding Field)
-      (Binding Gen) Reading (Front (Binding Field)) (Front Reading) field_reading gen_reading (reading m ks) event_reading part_reading d))) (sym is) h)
+      (subst (λ t. GenRead m ks t (gen_says_layer d) (gen_reading_layer d)) (sym is) h)
 
   gen_layer : (y : GenTree-F (Known ReadField) (Known ReadGen) (Known ReadTree) (Known ReadEvent) (Known ReadPart)) → ReadGen
       (roll-GenTree (map-GenTree (Known ReadField) (Known ReadGen) (Known ReadTree) (Known ReadEvent) (Known ReadPart) FieldTree GenTree Tree EventTree PartTree
