@@ -1,8 +1,10 @@
 -- What it means that a program is in order: every number in it is in range; each use has the class and the number of arguments or fields that its
--- declaration asks; sets rise and are of one kind; each body is closed but for its parameters; no definition of data reaches itself; and the event
--- table is that of the channels, each of which keeps the number of its first event, or empty while no channel has its field sets.
+-- declaration asks; sets rise and are of one kind; each body is closed but for its parameters; within a definition no number is bound twice; no
+-- definition of data reaches itself; and the event table is that of the channels, each of which keeps the number of its first event, or empty while
+-- no channel has its field sets.
 use Rattle.std.specs.Prelude.{◌≡◌, ◌⊎◌, ℕ, ◌-◌, ◌<◌, ◌^◌, Bool, true, false, ◌&&◌, nat_eq, nat_lt, nat_le, is_none, is_some, IsTrue, Option, Some, None, List, [], ◌∷◌, map, length, slice_get}
 use Rattle.csp_atoms.specs.Sets.{is_set}
+use Rattle.csp_program.specs.Bound.{def_bound, exprs_bound, net_bound}
 use Rattle.csp_program.specs.EventNumber.{KeepFirsts}
 use Rattle.csp_program.specs.EventTable.{event_table}
 use Rattle.csp_program.specs.Free.{Names, IsClosed, expr_free, proc_free, net_free}
@@ -32,6 +34,7 @@ use Rattle.csp_program.specs.declared.programs.Content.{Content}
 use Rattle.csp_program.specs.declared.programs.Def.{Def}
 use Rattle.csp_program.specs.declared.programs.ResourceNote.{ResourceNote}
 use Rattle.csp_program.specs.declared.programs.RolesNote.{RolesNote}
+use Rattle.csp_base.specs.Lists.{EachOnce}
 use Rattle.csp_base.specs.Members.{has}
 
 -- The classes of definitions.
@@ -267,6 +270,11 @@ pub record IsInOrder (p : Content) : Type 0 where
   pub closed_types : AllClosedTypes p.channels
   pub closed_bodies : AllClosedBodies p.defs
   pub closed_root : IsClosed (net_free p.root)
+  -- Within a definition, in the root and in the types of a channel no number is bound twice, so that no bound name hides another. What puts an
+  -- expression with free names into a body would have to number them anew, lest one be captured; what is put in here are values, which have none.
+  pub bound_once : (d : ℕ) (def : Def) → slice_get p.defs d ≡ Some def → EachOnce (def_bound def)
+  pub root_bound_once : EachOnce (net_bound p.root)
+  pub types_bound_once : (c : ℕ) (channel : Channel) → slice_get p.channels c ≡ Some channel → EachOnce (exprs_bound channel.types)
   -- no definition of data reaches itself
   pub no_circle : (n : ℕ) → Reaches p.defs n n → ⊥
   -- events are numbered by their places

@@ -1,4 +1,5 @@
 pub mod Atoms
+pub mod Bound
 pub mod Depth
 pub mod EventNumber
 pub mod EventTable

@@ -6,7 +6,7 @@ ghost use Rattle.csp_program.specs.InOrder.{IsInOrder};
 use crate::expressions::Expr;
 use crate::networks::Net;
 use crate::processes::Proc;
-use containers::Items;
+use containers::{Items, Key};
 use csp_atoms::{Atom, AtomSet};
 use csp_base::Name;
 use std::marker::Model;
@@ -163,12 +163,16 @@ impl Drop for Content {
 /// A program that is in order: what it holds fits together.
 pub struct Program {
     content: Content,
+    key: Key,
 }
 
 // By hand, so that a crate that ends one calls this and proves no end of its own.
 impl Drop for Program {
     fn drop(self) {
-        let Program { content: _content } = self;
+        let Program {
+            content: _content,
+            key: _key,
+        } = self;
     }
 }
 
@@ -191,12 +195,17 @@ impl Model for Program {
 }
 
 impl Program {
-    /// The program that holds `content`.
-    pub fn new(content: Content) -> Program
+    /// The program that holds `content`. What is made of it is found by hashes under this key.
+    pub fn new(content: Content, key: Key) -> Program
         requires in_order { IsInOrder content }
         ensures { result ≡ content }
     {
-        Program { content }
+        Program { content, key }
+    }
+
+    /// The key under which what is made of the program is found by its hash.
+    pub fn key(&self) -> Key {
+        self.key
     }
 
     /// What the program holds.

@@ -54,7 +54,7 @@ fn table_of(alloc: Global, task: &Task<'_>) -> Result<LocalTable, Unexplored>
     ensures table { IfOk result (IsLocalTable task.now.program.now (component task.now.alphabet.now task.now.start.now) task.now.room) }
     ensures fault { IfErr result (Lacks task.now.program.now (component task.now.alphabet.now task.now.start.now) task.now.room) }
 {
-    let mut found = Found::new(alloc);
+    let mut found = Found::new(alloc, task.program.key());
     let table = explored(alloc, task, &mut found);
     drop(found);
     table

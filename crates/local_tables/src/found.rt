@@ -9,7 +9,7 @@ ghost use Rattle.local_tables.specs.Faults.{Lacks};
 
 use crate::fault::Unexplored;
 use crate::local_table::Room;
-use containers::Numbering;
+use containers::{Key, Numbering};
 use csp_base::{Event, EventSet, NoMemory};
 use csp_program::{Proc, Program};
 use csp_tables::RawTable;
@@ -39,15 +39,15 @@ pub(crate) struct Found {
 }
 
 impl Found {
-    // Nothing yet.
-    pub(crate) fn new(alloc: Global) -> Found
+    // Nothing yet. Terms are found by their hashes under this key.
+    pub(crate) fn new(alloc: Global, key: Key) -> Found
         ensures pool { result.pool ≡ [] }
         ensures terms { result.terms ≡ [] }
         ensures origins { result.origins.items ≡ [] }
         ensures table { result.table ≡ record { silent = []; steps = []; count = 1 } }
     {
         Found {
-            pool: Pool::new(alloc),
+            pool: Pool::new(alloc, key),
             terms: Numbering::new(alloc),
             origins: Vec::new(alloc),
             table: RawTable::new(alloc),

@@ -7,7 +7,7 @@ ghost use Rattle.pool_parts.specs.declared.store.Note.{Note};
 ghost use Rattle.csp_base.specs.Lists.{EachOnce};
 
 use crate::measure::Measure;
-use containers::{Exact, Items, Numbering};
+use containers::{Exact, Items, Key, Numbering};
 use csp_base::NoMemory;
 use std::alloc::Global;
 use std::hash::Hash;
@@ -48,7 +48,7 @@ pub struct Note {
 ///
 /// Contracts see the list of the parts.
 pub struct Store<T: Part> {
-    parts: Numbering<T>,
+    parts: Numbering<T, Key>,
     notes: Items<Note>,
     // the number that was told last: the same part is often asked for again
     latest: usize,
@@ -80,12 +80,12 @@ impl<T: Part> Model for Store<T> {
 }
 
 impl<T: Part> Store<T> {
-    /// No parts. It takes no memory yet.
-    pub fn new(alloc: Global) -> Store<T>
+    /// No parts. They are found by their hashes under this key. It takes no memory yet.
+    pub fn new(alloc: Global, key: Key) -> Store<T>
         ensures { result ≡ [] }
     {
         Store {
-            parts: Numbering::new(alloc),
+            parts: Numbering::under(alloc, key),
             notes: Items::new(alloc),
             latest: 0,
         }
@@ -148,7 +148,7 @@ impl<T: Part> Store<T> {
 }
 
 // The parts in the order of their numbers. Its contract says that none stands twice.
-fn slice_of<T: Part>(parts: &Numbering<T>) -> &[T]
+fn slice_of<T: Part>(parts: &Numbering<T, Key>) -> &[T]
     ensures value { result.now ≡ parts.now }
     ensures once { EachOnce parts.now }
 {
@@ -166,7 +166,7 @@ fn note_of<T: Part>(part: &T) -> Note
 }
 
 // What is noted of the part with the number `place`, or is to be.
-fn note_at<T: Part>(parts: &Numbering<T>, notes: &Items<Note>, place: usize) -> Note
+fn note_at<T: Part>(parts: &Numbering<T, Key>, notes: &Items<Note>, place: usize) -> Note
     requires noted { AreNoted T.depth T.size T.low notes.now parts.now }
     requires within { place < length parts.now }
     ensures { (other : T) → IsNote T.depth T.size T.low (slice_index_or parts.now place other) result }
@@ -178,7 +178,7 @@ fn note_at<T: Part>(parts: &Numbering<T>, notes: &Items<Note>, place: usize) -> 
 }
 
 // Notes what is to be noted of the first part of which nothing is. Where memory fails it notes nothing.
-fn note_next<T: Part>(parts: &Numbering<T>, notes: &mut Items<Note>)
+fn note_next<T: Part>(parts: &Numbering<T, Key>, notes: &mut Items<Note>)
     requires noted { AreNoted T.depth T.size T.low notes.old parts.now }
     ensures noted { AreNoted T.depth T.size T.low notes.new parts.now }
 {
@@ -190,7 +190,7 @@ fn note_next<T: Part>(parts: &Numbering<T>, notes: &mut Items<Note>)
 }
 
 // Whether the part stands at a place.
-fn is_at<T: Part>(parts: &Numbering<T>, place: usize, part: &T) -> bool
+fn is_at<T: Part>(parts: &Numbering<T, Key>, place: usize, part: &T) -> bool
     ensures { IsTrue result → slice_get parts.now place ≡ Some part.now }
 {
     match parts.get(place) {
@@ -200,7 +200,7 @@ fn is_at<T: Part>(parts: &Numbering<T>, place: usize, part: &T) -> bool
 }
 
 // The number of the part, if it has one: `latest` is looked at first.
-fn find_in<T: Part>(parts: &Numbering<T>, latest: usize, part: &T) -> Option<usize>
+fn find_in<T: Part>(parts: &Numbering<T, Key>, latest: usize, part: &T) -> Option<usize>
     ensures { MatchOption result (IsAbsent parts.now part.now) (λ place. slice_get parts.now place ≡ Some part.now) }
 {
     if is_at(parts, latest, part) {
@@ -211,7 +211,7 @@ fn find_in<T: Part>(parts: &Numbering<T>, latest: usize, part: &T) -> Option<usi
 
 // The number of the part, of which a copy is kept where it is new.
 fn keep_in<T: Part>(
-    parts: &mut Numbering<T>,
+    parts: &mut Numbering<T, Key>,
     notes: &mut Items<Note>,
     latest: usize,
     alloc: Global,
@@ -233,7 +233,7 @@ fn keep_in<T: Part>(
 
 // The number of a part that was made, which is kept itself where it is new.
 fn keep_made_in<T: Part>(
-    parts: &mut Numbering<T>,
+    parts: &mut Numbering<T, Key>,
     notes: &mut Items<Note>,
     made: Result<T, NoMemory>,
 ) -> Result<usize, NoMemory>
@@ -251,7 +251,7 @@ fn keep_made_in<T: Part>(
 
 // The number of the part, which is kept itself where it is new.
 fn keep_own_in<T: Part>(
-    parts: &mut Numbering<T>,
+    parts: &mut Numbering<T, Key>,
     notes: &mut Items<Note>,
     part: T,
 ) -> Result<usize, NoMemory>
@@ -268,7 +268,7 @@ fn keep_own_in<T: Part>(
 }
 
 // The number of the part, which is the next one where it is new.
-fn number<T: Part>(parts: &mut Numbering<T>, part: T) -> Result<usize, NoMemory>
+fn number<T: Part>(parts: &mut Numbering<T, Key>, part: T) -> Result<usize, NoMemory>
     ensures place { IfOk result (λ place. slice_get parts.new place ≡ Some part) }
     ensures start { IsStart parts.old parts.new }
     ensures once { EachOnce parts.new }

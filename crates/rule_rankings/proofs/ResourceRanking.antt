@@ -3,6 +3,7 @@ use Rattle.std.proofs.Common.{◌≡◌, ℕ, suc, ◌+◌, ◌-◌, ◌*◌, �
 use Rattle.std.specs.List.{list_any}
 use Rattle.std.proofs.lemmas.Bool.{cases_lt, cond-true, cond-false, and_parts, and_from, or_cases, or_left, or_right, both_ways, false≢true}
 use Rattle.std.proofs.lemmas.List.{get_or_past}
+use Rattle.dl_limits.specs.declared.TheConstants.{MOST_COMPONENTS}
 use Rattle.csp_base.specs.Members.{has}
 use Rattle.csp_tables.specs.Table.{node_at, end_of}
 use Rattle.csp_tables.specs.Part.{part_at, IsNonEmpty, AreApart}
@@ -26,23 +27,23 @@ use Rattle.design_rules.proofs.Resource.{below_top}
 -- ---- the greatest number
 
 -- each number is small
-pub small_number : (heights : List ℕ) (count : ℕ) → count ≤ 512 → ((k d : ℕ) → k < length heights → get_or heights k d < count) → (j : ℕ) → number_by heights j ≤ 512
+pub small_number : (heights : List ℕ) (count : ℕ) → count ≤ MOST_COMPONENTS → ((k d : ℕ) → k < length heights → get_or heights k d < count) → (j : ℕ) → number_by heights j ≤ MOST_COMPONENTS
 small_number heights count few below j = elim (cases_lt j (length heights)) [
   | inl within ↦ let h : get_or heights j 0 < count = below j 0 within in omega arith
   | inr past ↦ let none : get_or heights j 0 ≡ 0 = get_or_past heights j 0 past in omega arith
 ]
 
-cond_small : (b : Bool) (n : ℕ) → n ≤ 512 → cond b n 0 ≤ 512
+cond_small : (b : Bool) (n : ℕ) → n ≤ MOST_COMPONENTS → cond b n 0 ≤ MOST_COMPONENTS
 cond_small true n h = h
 cond_small false n h = omega arith
 
 -- one part more
-pub top_next : (uses : List UseSets) (heights : List ℕ) (n top number new : ℕ) → top ≡ top_number uses (number_by heights) n → top ≤ 512 → number_by heights n ≤ 512 → number ≡ cond (use_at uses n).resource (number_by heights n) 0 → new ≡ max number top → (new ≡ top_number uses (number_by heights) (n + 1)) × (new ≤ 512)
+pub top_next : (uses : List UseSets) (heights : List ℕ) (n top number new : ℕ) → top ≡ top_number uses (number_by heights) n → top ≤ MOST_COMPONENTS → number_by heights n ≤ MOST_COMPONENTS → number ≡ cond (use_at uses n).resource (number_by heights n) 0 → new ≡ max number top → (new ≡ top_number uses (number_by heights) (n + 1)) × (new ≤ MOST_COMPONENTS)
 top_next uses heights n top number new is few small at next =
-    let own : number ≤ 512 = subst (λ k. k ≤ 512) (sym at) (cond_small (use_at uses n).resource (number_by heights n) small) in
+    let own : number ≤ MOST_COMPONENTS = subst (λ k. k ≤ MOST_COMPONENTS) (sym at) (cond_small (use_at uses n).resource (number_by heights n) small) in
     (next ∙ ap (λ k. max k top) at ∙ ap (max (cond (use_at uses n).resource (number_by heights n) 0)) is ∙ ap (top_number uses (number_by heights)) (let e : suc n ≡ n + 1 = omega arith in e), omega arith)
 
-pub have_top : (g : Setting) (heights : List ℕ) (n top : ℕ) → length heights ≡ length g.shape.parts → n ≡ length g.shape.parts → top ≡ top_number g.uses (number_by heights) n → top ≤ 512 → ((j : ℕ) → number_by heights j ≤ 512) → HaveTop g heights top
+pub have_top : (g : Setting) (heights : List ℕ) (n top : ℕ) → length heights ≡ length g.shape.parts → n ≡ length g.shape.parts → top ≡ top_number g.uses (number_by heights) n → top ≤ MOST_COMPONENTS → ((j : ℕ) → number_by heights j ≤ MOST_COMPONENTS) → HaveTop g heights top
 have_top g heights n top count all is few small =
     let at : top ≡ top_number g.uses (number_by heights) (length g.shape.parts) = is ∙ ap (top_number g.uses (number_by heights)) all in
     record {

@@ -1,5 +1,6 @@
 -- The ranks and laps of a part. (No rule's decider cites this.)
 use Rattle.std.specs.Prelude.{◌≡◌, ◌<◌, ◌≤◌, ◌⊎◌, ◌+◌, ◌-◌, ◌*◌, ℕ, ℤ, pos, List, [], false, IsTrue, length, slice_index}
+use Rattle.dl_limits.specs.declared.TheConstants.{MOST_COMPONENTS}
 use Rattle.csp_tables.specs.Part.{part_at, IsNonEmpty, AreApart}
 use Rattle.csp_tables.specs.Table.{Node, no_node}
 use Rattle.csp_tables.specs.Trace.{IsWithin}
@@ -41,5 +42,5 @@ pub record HaveTop (g : Setting) (heights : List ℕ) (top : ℕ) : Type 0 where
   pub count : length heights ≡ length g.shape.parts
   pub is : top ≡ top_number g.uses (number_by heights) (length g.shape.parts)
   pub above : (j : ℕ) → j < length g.shape.parts → IsResourcePart g j → number_by heights j ≤ top
-  pub few : top ≤ 512
-  pub small : (j : ℕ) → number_by heights j ≤ 512
+  pub few : top ≤ MOST_COMPONENTS
+  pub small : (j : ℕ) → number_by heights j ≤ MOST_COMPONENTS

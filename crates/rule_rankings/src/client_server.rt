@@ -1,6 +1,7 @@
 //! The ranking of a network of clients and servers.
 
 ghost use Rattle.std.specs.Prelude.{◌≡◌, ◌<◌, ◌≤◌, ◌*◌, [], All, pos, IfOk, length, map, slice_index};
+ghost use Rattle.dl_limits.specs.declared.TheConstants.{MOST_COMPONENTS};
 ghost use Rattle.csp_tables.specs.Roles.{role_at};
 ghost use Rattle.design_rules.specs.ClientServer.{Serves};
 ghost use Rattle.design_rules.specs.ClientServerRanking.{IsClientServerRanking};
@@ -77,7 +78,7 @@ fn requests_of(roles: &[RoleSets], part: u32) -> &EventSet
 // The ranks of a part of the shape, by its height.
 fn levels_of(shape: &Shape, heights: &Heights, part: u32) -> Levels
     requires part { part < length heights.now }
-    requires few { length shape.now.parts ≤ 512 }
+    requires few { length shape.now.parts ≤ MOST_COMPONENTS }
     requires below { slice_index heights.now part < length shape.now.parts }
     ensures serving { result.serving ≡ serving_rank (length shape.now.parts) (slice_index heights.now part) }
     ensures asking { result.asking ≡ pos (slice_index heights.now part) }

@@ -1,6 +1,7 @@
 //! The ranking of a network of users and resources.
 
 ghost use Rattle.std.specs.Prelude.{◌≡◌, ◌<◌, ◌≤◌, ◌⊎◌, ◌+◌, ◌-◌, ◌*◌, if◌then◌else◌, [], ℕ, true, pos, min, All, IfOk, length, map};
+ghost use Rattle.dl_limits.specs.declared.TheConstants.{MOST_COMPONENTS};
 ghost use Rattle.csp_tables.specs.Roles.{use_at};
 ghost use Rattle.design_rules.specs.Resource.{KeepUses};
 ghost use Rattle.design_rules.specs.ResourceRanking.{AreResourceRanks, top_number};
@@ -63,7 +64,7 @@ fn smaller(a: u32, b: u32) -> u32
 fn number_if(setting: &Setting<'_>, heights: &Heights, part: u32) -> u32
     requires part { part < length setting.now.shape.parts }
     requires count { length heights.now ≡ length setting.now.shape.parts }
-    requires small { number_by heights.now part ≤ 512 }
+    requires small { number_by heights.now part ≤ MOST_COMPONENTS }
     ensures { result ≡ (if (use_at setting.now.uses part).resource then number_by heights.now part else 0) }
 {
     if setting.uses(part).is_resource() {
@@ -75,7 +76,7 @@ fn number_if(setting: &Setting<'_>, heights: &Heights, part: u32) -> u32
 // The number of a part.
 fn number(heights: &Heights, part: u32) -> u32
     requires part { part < length heights.now }
-    requires small { number_by heights.now part ≤ 512 }
+    requires small { number_by heights.now part ≤ MOST_COMPONENTS }
     ensures { result ≡ number_by heights.now part }
 {
     heights.of(part) + 1
@@ -169,7 +170,7 @@ fn rank_of(setting: &Setting<'_>, heights: &Heights, top: u32, part: u32, set: &
 
 // The rank of a user that acquires this least number, 0 where it acquires none.
 fn user_rank(top: u32, least: u32) -> i64
-    requires { top ≤ 512 }
+    requires { top ≤ MOST_COMPONENTS }
     ensures some { least ≤ top → result ≡ pos (2 * (top - least) + 2) }
     ensures none { top < least → result ≡ pos 0 }
 {
@@ -181,7 +182,7 @@ fn user_rank(top: u32, least: u32) -> i64
 
 // Twice the height, and more.
 fn rank(height: u32, more: u32) -> i64
-    requires height { height ≤ 512 }
+    requires height { height ≤ MOST_COMPONENTS }
     requires more { more ≤ 2 }
     ensures { result ≡ pos (2 * height + more) }
 {
@@ -205,7 +206,7 @@ fn least_acquired(setting: &Setting<'_>, heights: &Heights, top: u32, set: &Even
 fn with_event(setting: &Setting<'_>, heights: &Heights, least: u32, event: Event) -> u32
     requires kinds { KeepKinds setting.now }
     requires count { length heights.now ≡ length setting.now.shape.parts }
-    requires small { (j : ℕ) → number_by heights.now j ≤ 512 }
+    requires small { (j : ℕ) → number_by heights.now j ≤ MOST_COMPONENTS }
     ensures less { result ≤ least }
     ensures below { (j : ℕ) → is_acquired_by setting.now j event ≡ true → result ≤ number_by heights.now j }
     ensures attained { (result ≡ least) ⊎ ((j : ℕ) × (j < length setting.now.shape.parts) × (is_acquired_by setting.now j event ≡ true) × (number_by heights.now j ≡ result)) }

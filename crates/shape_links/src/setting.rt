@@ -1,6 +1,7 @@
 //! A shape with its resources.
 
 ghost use Rattle.std.specs.Prelude.{◌≡◌, ◌<◌, ◌≤◌, ℕ, Some, IfOk, length};
+ghost use Rattle.dl_limits.specs.declared.TheConstants.{MOST_COMPONENTS};
 ghost use Rattle.csp_tables.specs.Part.{TripleDisjoint, alphabets_of, part_at};
 ghost use Rattle.csp_tables.specs.Roles.{use_at};
 ghost use Rattle.csp_tables.specs.Shape.{IsWellFormed, link_at};
@@ -76,7 +77,7 @@ impl<'a> Setting<'a> {
     /// How many parts there are.
     pub fn count(&self) -> u32
         ensures value { result ≡ length self.now.shape.parts }
-        ensures few { result ≤ 512 }
+        ensures few { result ≤ MOST_COMPONENTS }
     {
         self.shape().parts().len() as u32
     }

@@ -15,7 +15,7 @@ use crate::entry::Entry;
 use crate::node::Node;
 use crate::node_measures::of_entry;
 use crate::own_parts::{OwnParts, keep_node, parts_once};
-use containers::{Items, Numbering};
+use containers::{Items, Key, Numbering};
 use csp_base::NoMemory;
 use pool_parts::{Measure, ProcId};
 use std::alloc::Global;
@@ -24,7 +24,7 @@ use substitution::Values;
 /// The entry at a place.
 pub(crate) fn entry_at(
     parts: &OwnParts,
-    entries: &Numbering<Entry>,
+    entries: &Numbering<Entry, Key>,
     measures: &Items<Measure>,
     id: ProcId,
 ) -> Entry
@@ -40,7 +40,7 @@ pub(crate) fn entry_at(
 // The place of an entry, which is the next one where it is new. Where there is no memory for its measure, it is taken out again.
 fn put_entry(
     parts: &OwnParts,
-    entries: &mut Numbering<Entry>,
+    entries: &mut Numbering<Entry, Key>,
     measures: &mut Items<Measure>,
     entry: Entry,
 ) -> Result<ProcId, NoMemory>
@@ -68,7 +68,7 @@ fn put_entry(
 /// The place of the process that the node is.
 pub(crate) fn put_in(
     parts: &mut OwnParts,
-    entries: &mut Numbering<Entry>,
+    entries: &mut Numbering<Entry, Key>,
     measures: &mut Items<Measure>,
     alloc: Global,
     node: Node<'_>,
@@ -88,7 +88,7 @@ pub(crate) fn put_in(
 /// The place of the process at `id` with that at `below` in place of its first sub-process.
 pub(crate) fn put_first_in(
     parts: &mut OwnParts,
-    entries: &mut Numbering<Entry>,
+    entries: &mut Numbering<Entry, Key>,
     measures: &mut Items<Measure>,
     alloc: Global,
     id: ProcId,
@@ -110,7 +110,7 @@ pub(crate) fn put_first_in(
 /// The place of what the process at `id` becomes with the values in place of the names, where `ids` are the places of what its sub-processes become.
 pub(crate) fn put_made_in(
     parts: &mut OwnParts,
-    entries: &mut Numbering<Entry>,
+    entries: &mut Numbering<Entry, Key>,
     measures: &mut Items<Measure>,
     alloc: Global,
     id: ProcId,

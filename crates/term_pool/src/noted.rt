@@ -7,13 +7,13 @@ use crate::entry::Entry;
 use crate::kept::entry_at;
 use crate::node_least::least_of_entry;
 use crate::own_parts::OwnParts;
-use containers::{Items, Numbering};
+use containers::{Items, Key, Numbering};
 use pool_parts::{Measure, ProcId};
 
 /// Keeps the number of the first place that has none. Where memory fails it keeps none.
 pub(crate) fn note_least(
     parts: &OwnParts,
-    entries: &Numbering<Entry>,
+    entries: &Numbering<Entry, Key>,
     measures: &Items<Measure>,
     leasts: &mut Items<u32>,
 )

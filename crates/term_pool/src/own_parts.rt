@@ -7,7 +7,7 @@ ghost use Rattle.csp_base.specs.Lists.{StandsIn};
 
 use crate::entry::Entry;
 use crate::node::Node;
-use containers::Items;
+use containers::{Items, Key};
 use csp_base::NoMemory;
 use csp_program::{EventPart, Expr, Field, Gen, Head};
 use pool_parts::{ProcId, Store};
@@ -46,18 +46,18 @@ impl Drop for OwnParts {
     }
 }
 
-/// No parts. They take no memory yet.
-pub(crate) fn no_parts(alloc: Global) -> OwnParts
+/// No parts. They are found by their hashes under this key, and take no memory yet.
+pub(crate) fn no_parts(alloc: Global, key: Key) -> OwnParts
     ensures { result ≡ record { heads = []; fields = []; exprs = []; arguments = []; pairs = []; gens = []; choices = [] } }
 {
     OwnParts {
-        heads: Store::new(alloc),
-        fields: Store::new(alloc),
-        exprs: Store::new(alloc),
-        arguments: Store::new(alloc),
-        pairs: Store::new(alloc),
-        gens: Store::new(alloc),
-        choices: Store::new(alloc),
+        heads: Store::new(alloc, key),
+        fields: Store::new(alloc, key),
+        exprs: Store::new(alloc, key),
+        arguments: Store::new(alloc, key),
+        pairs: Store::new(alloc, key),
+        gens: Store::new(alloc, key),
+        choices: Store::new(alloc, key),
     }
 }
 

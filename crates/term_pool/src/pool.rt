@@ -22,7 +22,7 @@ use crate::noted::note_least;
 use crate::own_parts::{OwnParts, no_parts, node_at};
 use crate::put::put_tree;
 use crate::substitute::substitute_at;
-use containers::{Items, Numbering};
+use containers::{Items, Key, Numbering};
 use csp_base::NoMemory;
 use csp_program::{Proc, Value};
 use pool_parts::{Measure, ProcId};
@@ -38,7 +38,7 @@ use substitution::Values;
 pub struct Pool {
     alloc: Global,
     parts: OwnParts,
-    entries: Numbering<Entry>,
+    entries: Numbering<Entry, Key>,
     measures: Items<Measure>,
     leasts: Items<u32>,
 }
@@ -74,14 +74,14 @@ impl Model for Pool {
 }
 
 impl Pool {
-    /// No processes. It takes no memory yet.
-    pub fn new(alloc: Global) -> Pool
+    /// No processes. Nodes and their parts are found by their hashes under this key. It takes no memory yet.
+    pub fn new(alloc: Global, key: Key) -> Pool
         ensures { result ≡ [] }
     {
         Pool {
             alloc,
-            parts: no_parts(alloc),
-            entries: Numbering::new(alloc),
+            parts: no_parts(alloc, key),
+            entries: Numbering::under(alloc, key),
             measures: Items::new(alloc),
             leasts: Items::new(alloc),
         }

@@ -16,3 +16,4 @@ pub mod DeclPasses
 pub mod ScriptKinds
 pub mod OnceLaws
 pub mod Back
+pub mod Declared

@@ -5,6 +5,7 @@ use Rattle.std.proofs.lemmas.Bool.{false≢true, lt-ltb, or_cases}
 use Rattle.std.proofs.lemmas.Int.{ints}
 use Rattle.std.proofs.lemmas.List.{length-map}
 use Rattle.std.proofs.lemmas.Option.{slice_get_within}
+use Rattle.csp_base.specs.Lists.{natural}
 use Rattle.csp_atoms.specs.Order.{same_kind}
 use Rattle.csp_atoms.specs.Sets.{AllAbove, AllOfKind, IsAtomSet, IsRising, alike, diff_of, has_atom, inter_of, is_set, union_of}
 use Rattle.csp_atoms.proofs.ListLaws.{one_kind}
@@ -193,7 +194,7 @@ module _ (p : Content) where
 
   fine_range : (m n : ℤ) → FineSet (meant.range m n)
   fine_range m n =
-      let k = meant.natural (n -ℤ m +ℤ pos 1) in
+      let k = natural (n -ℤ m +ℤ pos 1) in
       fine_limited (numbers_from m k) (all_numbers m k, (rising_numbers m k, one_kind 0 (numbers_from m k) (kind_numbers m k)))
 
   fine_as_set : (v : Value) → IsTrue (value_in_order p v) → FineSet (as_set v)

@@ -1,4 +1,5 @@
 use Rattle.std.proofs.Common.{◌≡◌, ◌≤◌}
+use Rattle.dl_limits.specs.declared.TheConstants.{MOST_COMPONENTS}
 use Rattle.design_rules.specs.ResourceRanking.{top_number}
 use Rattle.rule_rankings.specs.ResourceRanks.{number_by}
 use Rattle.rule_rankings.proofs.resource.top.Given as goal
@@ -6,5 +7,5 @@ use Rattle.rule_rankings.proofs.resource.top.Given as goal
 abbrev pub invariant-loop-part : goal.invariant-loop-part
 invariant-loop-part l = record {
   is : l.top ≡ top_number l.setting.uses (number_by l.heights) l.part;
-  few : l.top ≤ 512;
+  few : l.top ≤ MOST_COMPONENTS;
 }
