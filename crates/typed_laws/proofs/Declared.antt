@@ -53,8 +53,8 @@ module _ (m : Meanings) (ks : List Kind) where
   abbrev pub types_of : List Tree → List Expr
   types_of types = exprs (map (reading m ks) types) [] 0
 
-  -- the functions give this content and these field sets
-  pub record ContentIs (whole : Content) (n : Counts) (decls : List Decl) (p : Content) (all : List (List (List Atom))) : Type 0 where
+  -- the functions give this content
+  pub record ContentIs (n : Counts) (decls : List Decl) (p : Content) : Type 0 where
     pub events : [] ≡ p.events
     pub channels : flat_map (channels_of m ks) decls ≡ p.channels
     pub consts : flat_map (constants_of m ks) decls ≡ p.consts
@@ -62,7 +62,6 @@ module _ (m : Meanings) (ks : List Kind) where
     pub roles : flat_map (roles_of m ks) decls ≡ p.roles
     pub resources : flat_map (resources_of m ks) decls ≡ p.resources
     pub root : root_of m ks (first_assertion decls) ≡ p.root
-    pub sets : (i : ℕ) → channel_sets whole types_of i decls ≡ Ok all
 
   -- what a definition defines whose kind is this
   abbrev defined_as : Name → List Name → Tree → Option Kind → Def
@@ -72,13 +71,12 @@ module _ (m : Meanings) (ks : List Kind) where
     body = body_of m ks (kind_class kind) (kind_network kind) (reading m ks t) (length params) (parameters 0 params);
   }
 
-  pub content_is : {whole : Content} {n : Counts} {decls : List Decl} {p : Content} {sets : List (List (List Atom))}
-      → Declares m ks whole n decls p sets → ContentIs whole n decls p sets
+  pub content_is : {whole : Content} {HasSets : List Expr → List (List Atom) → Type 0} {n : Counts} {decls : List Decl} {p : Content} {sets : List (List (List Atom))}
+      → Declares m ks whole HasSets n decls p sets → ContentIs n decls p
   content_is d.nothing = record
-      { events = refl; channels = refl; consts = refl; defs = refl; roles = refl; resources = refl; root = refl; sets = λ i. refl }
-  content_is {whole} (d.channels {xs = xs} {types = types} {sets = sets} {decls = decls} typed fits rest) =
+      { events = refl; channels = refl; consts = refl; defs = refl; roles = refl; resources = refl; root = refl }
+  content_is (d.channels {xs = xs} typed fits rest) =
       let w = (exprs_are m ks typed).value in let v = content_is rest in
-      let before = λ (i : ℕ) (s : List (List Atom)). and_next (channel_sets whole types_of (i + 1) decls) (λ all. Ok (replicate (length xs) s ++ all)) in
       record {
         events = v.events;
         channels = λ j. map (λ x. record { name = x; types = w j; fields = None; first = 0 }) xs ++ v.channels j;
@@ -87,8 +85,6 @@ module _ (m : Meanings) (ks : List Kind) where
         roles = v.roles;
         resources = v.resources;
         root = v.root;
-        sets = λ i. ap (λ es. and_next (told_in i (field_sets whole es)) (before i)) w ∙ ap (λ o. and_next (told_in i o) (before i)) fits
-            ∙ ap (λ o. and_next o (λ all. Ok (replicate (length xs) sets ++ all))) (v.sets (i + 1));
       }
   content_is (d.datatype {n = n} {x = x} {cs = cs} rest) =
       let v = content_is rest in
@@ -100,7 +96,6 @@ module _ (m : Meanings) (ks : List Kind) where
         roles = v.roles;
         resources = v.resources;
         root = v.root;
-        sets = λ i. v.sets (i + 1);
       }
   content_is (d.nametype {x = x} h deep rest) =
       let w = (expr_is m ks h).value in let v = content_is rest in
@@ -112,7 +107,6 @@ module _ (m : Meanings) (ks : List Kind) where
         roles = v.roles;
         resources = v.resources;
         root = v.root;
-        sets = λ i. v.sets (i + 1);
       }
   content_is (d.data_definition {n = n} {x = x} {params = params} {t = t} {decls = decls} ps is h deep rest) =
       let w = (expr_is m ks h).value in let v = content_is rest in
@@ -125,7 +119,6 @@ module _ (m : Meanings) (ks : List Kind) where
         roles = v.roles;
         resources = v.resources;
         root = v.root;
-        sets = λ i. v.sets (i + 1);
       }
   content_is (d.process_definition {n = n} {x = x} {params = params} {t = t} {decls = decls} ps is h rest) =
       let w = (proc_is m ks h).value in let v = content_is rest in
@@ -138,7 +131,6 @@ module _ (m : Meanings) (ks : List Kind) where
         roles = v.roles;
         resources = v.resources;
         root = v.root;
-        sets = λ i. v.sets (i + 1);
       }
   content_is (d.network_definition {n = n} {x = x} {params = params} {t = t} {decls = decls} ps is h rest) =
       let w = (net_is m ks h).value in let v = content_is rest in
@@ -151,7 +143,6 @@ module _ (m : Meanings) (ks : List Kind) where
         roles = v.roles;
         resources = v.resources;
         root = v.root;
-        sets = λ i. v.sets (i + 1);
       }
   content_is (d.assertion h rest) =
       let v = content_is rest in
@@ -163,7 +154,6 @@ module _ (m : Meanings) (ks : List Kind) where
         roles = v.roles;
         resources = v.resources;
         root = (net_is m ks h).value;
-        sets = λ i. v.sets (i + 1);
       }
   content_is (d.roles process creq cack sreq sack rest) =
       let v = content_is rest in
@@ -181,7 +171,6 @@ module _ (m : Meanings) (ks : List Kind) where
         } ∷ v.roles j;
         resources = v.resources;
         root = v.root;
-        sets = λ i. v.sets (i + 1);
       }
   content_is (d.resource process acquire release rest) =
       let v = content_is rest in
@@ -197,16 +186,32 @@ module _ (m : Meanings) (ks : List Kind) where
           release = definition_number (release.means j);
         } ∷ v.resources j;
         root = v.root;
-        sets = λ i. v.sets (i + 1);
       }
+
+  -- and these field sets
+  pub sets_are : {whole : Content} {n : Counts} {decls : List Decl} {p : Content} {all : List (List (List Atom))}
+      → Declares m ks whole (λ types sets. field_sets whole types ≡ Ok sets) n decls p all → (i : ℕ) → channel_sets whole types_of i decls ≡ Ok all
+  sets_are d.nothing i = refl
+  sets_are {whole} (d.channels {xs = xs} {sets = sets} {decls = decls} typed fits rest) i =
+      let before = λ (s : List (List Atom)). and_next (channel_sets whole types_of (i + 1) decls) (λ all. Ok (replicate (length xs) s ++ all)) in
+      ap (λ es. and_next (told_in i (field_sets whole es)) before) (exprs_are m ks typed).value ∙ ap (λ o. and_next (told_in i o) before) fits
+      ∙ ap (λ o. and_next o (λ all. Ok (replicate (length xs) sets ++ all))) (sets_are rest (i + 1))
+  sets_are (d.datatype rest) i = sets_are rest (i + 1)
+  sets_are (d.nametype h deep rest) i = sets_are rest (i + 1)
+  sets_are (d.data_definition ps is h deep rest) i = sets_are rest (i + 1)
+  sets_are (d.process_definition ps is h rest) i = sets_are rest (i + 1)
+  sets_are (d.network_definition ps is h rest) i = sets_are rest (i + 1)
+  sets_are (d.assertion h rest) i = sets_are rest (i + 1)
+  sets_are (d.roles process creq cack sreq sack rest) i = sets_are rest (i + 1)
+  sets_are (d.resource process acquire release rest) i = sets_are rest (i + 1)
 
   -- what a body says that is expanded where it is used, by the kind of its definition
   abbrev body_says : List Name → Tree → Option Kind → List Occurrence
   body_says params t kind = expanded_body m ks (kind_class kind) (tree_says m t (body_place kind) params)
 
   -- what bodies say reaches as deep as the bodies are
-  pub bodies_are : {whole : Content} {n : Counts} {decls : List Decl} {p : Content} {sets : List (List (List Atom))}
-      → Declares m ks whole n decls p sets → (f : ℕ → ℕ) (i : ℕ)
+  pub bodies_are : {whole : Content} {HasSets : List Expr → List (List Atom) → Type 0} {n : Counts} {decls : List Decl} {p : Content} {sets : List (List (List Atom))}
+      → Declares m ks whole HasSets n decls p sets → (f : ℕ → ℕ) (i : ℕ)
       → deepest f (said_by (slice_get (bodies_from m ks n.definitions decls) i)) ≡ depth_at f (slice_get p.defs i)
   bodies_are d.nothing f i = refl
   bodies_are (d.channels typed fits rest) f i = bodies_are rest f i

@@ -9,7 +9,6 @@ use Rattle.std.proofs.lemmas.List.Folds.{list_any-append}
 use Rattle.std.proofs.lemmas.Slice.Eq.{slice_eq-Decides}
 use Rattle.csp_base.proofs.Booleans.{or_first_false, or_second_false}
 use Rattle.csp_base.specs.Lists.{EachOnce, StandsIn}
-use Rattle.csp_program.specs.declared.programs.Content.{Content}
 use Rattle.csp_text.specs.declared.script.Decl.{Decl}
 use Rattle.csp_text.specs.declared.script.Decl.TheVariants as decl
 use Rattle.script_names.specs.declared.kinds.Entity.{Entity}
@@ -200,8 +199,8 @@ module _ (m : Meanings) (ks : List Kind) where
       subst (λ z. MayBind m ks z) e (constant_free m ks x (or_parts (is_among before x) (is_constant (m x)) x h.0.once).1)
   parameters_free before (x ∷ xs) h (suc k) y g = parameters_free (before ++ x ∷ []) xs h.1 k y g
 
-  pub are_parameters : (whole : Content) (xs : List Name) → AllPass m ks (parameters_after [] xs) → AreParameters m ks whole xs
-  are_parameters whole xs h = record { once = fresh_once [] xs (parameters_fresh [] xs h); free = λ x at. parameters_free [] xs h at.0 x at.1 }
+  pub are_parameters : (xs : List Name) → AllPass m ks (parameters_after [] xs) → AreParameters m ks xs
+  are_parameters xs h = record { once = fresh_once [] xs (parameters_fresh [] xs h); free = λ x at. parameters_free [] xs h at.0 x at.1 }
 
   parameters_from : (before xs : List Name) → FreshFrom before xs → ((k : ℕ) (y : Name) → slice_get xs k ≡ Some y → MayBind m ks y)
       → AllPass m ks (parameters_after before xs)
@@ -214,5 +213,5 @@ module _ (m : Meanings) (ks : List Kind) where
     parameters_from (before ++ x ∷ []) xs h.1 (λ k y g. free (suc k) y g),
   )
 
-  pub parameters_pass : (whole : Content) (xs : List Name) → AreParameters m ks whole xs → AllPass m ks (parameters_after [] xs)
-  parameters_pass whole xs h = parameters_from [] xs (once_fresh [] xs h.once (λ k y g. refl)) (λ k y g. h.free y (k, g))
+  pub parameters_pass : (xs : List Name) → AreParameters m ks xs → AllPass m ks (parameters_after [] xs)
+  parameters_pass xs h = parameters_from [] xs (once_fresh [] xs h.once (λ k y g. refl)) (λ k y g. h.free y (k, g))
