@@ -17,3 +17,4 @@ pub mod ScriptKinds
 pub mod OnceLaws
 pub mod Back
 pub mod Declared
+pub mod Programs
