@@ -28,7 +28,7 @@ use Rattle.script_names.specs.Says.{Binder, Fields, Said, all_say, in_turn, part
 use Rattle.script_names.specs.Says as says
 use Rattle.script_names.specs.Typed.{Binding, Front, Reading, Scope, all_bind, bindings, channel_number, definition_number, exprs, named, names_of, part, parts, parts_bind, under}
 use Rattle.typed_laws.proofs.Faultless.{AllFine, IsFine, fine_two, fine_three}
-use Rattle.resolved_laws.proofs.Fitting.{data_at}
+use Rattle.typed_laws.proofs.Passing.{data_at}
 use Rattle.typed_laws.proofs.Formed.{Ends, Reads, AllRead, GenRead, GensRead, PartRead, PartsRead}
 use Rattle.typed_laws.proofs.Formed as f
 use Rattle.typed_laws.proofs.ScopeNames.{renamed, NameIs, gen_names, gens_names, is_bound, is_free, name_is}

@@ -27,7 +27,9 @@ use Rattle.script_names.specs.Says.{Binder, Fields, Said, all_say, in_turn, pair
 use Rattle.script_names.specs.Says as says
 use Rattle.script_names.specs.Typed.{Binding, Front, Reading, Scope, all_bind, bindings, bindings_bind, channel_number, definition_number, exprs, head_of, names_of, number_of, pairs, pairs_bind, part, parts, parts_bind, procs, under, with}
 use Rattle.typed_laws.proofs.Faultless.{AllFine, IsFine, fine_two, fine_three, fine_four}
-use Rattle.resolved_laws.proofs.Fitting.{AllFit, alone, called, data_at, process_at, use_datum, use_network, use_process}
+use Rattle.resolved_laws.proofs.Fitting.{AllFit, use_datum, use_network, use_process}
+use Rattle.typed_laws.proofs.DefUses.{alone, called}
+use Rattle.typed_laws.proofs.Passing.{data_at, process_at}
 use Rattle.typed_laws.proofs.Formed.{Ends, Reads, AllRead, FieldRead, FieldsRead, GenRead, GensRead, PartRead, PartsRead, PairsRead}
 use Rattle.typed_laws.proofs.Formed as f
 use Rattle.typed_laws.proofs.ScopeNames.{renamed, field_names, fields_names, gen_names, gens_names, name_is, names_with}
@@ -63,7 +65,7 @@ module _ (p : Content) (m : Meanings) (ks : List Kind) (fits : AllFit p ks m) wh
       → IsTrue (takes is_datum (length (map (expr_in_order p) (exprs rs scope n))) (slice_get p.defs (definition_number (m x))))
   data_call {ss} {rs} x h scope n b l fine =
       subst (λ k. IsTrue (takes is_datum k (slice_get p.defs (definition_number (m x))))) (count_order h scope n)
-      (use_datum p ks (m x) (sense_in m (names_of scope) x) (length ss) b l (fits.fit x) (called p ks (name_is m scope x) (length ss) (data_at b l) fine))
+      (use_datum p ks (m x) (sense_in m (names_of scope) x) (length ss) b l (fits.fit x) (called ks (name_is m scope x) (length ss) (data_at b l) fine))
 
   process_call : {ts : List Tree} {ss : List Said} {rs : List Reading} (x : Name) → AllRead m ks ts ss rs → (scope : Scope) (n : ℕ) (b : Bool) (l : ℕ)
       → (b && is_network ks (sense_in m (names_of scope) x)) ≡ false
@@ -71,7 +73,7 @@ module _ (p : Content) (m : Meanings) (ks : List Kind) (fits : AllFit p ks m) wh
       → IsTrue (takes is_process (length (exprs rs scope n)) (slice_get p.defs (definition_number (m x))))
   process_call {ss} {rs} x h scope n b l is fine =
       subst (λ k. IsTrue (takes is_process k (slice_get p.defs (definition_number (m x))))) (count_exprs h scope n)
-      (use_process p ks (m x) (sense_in m (names_of scope) x) (length ss) b l (fits.fit x) (called p ks (name_is m scope x) (length ss) (process_at b l) fine)
+      (use_process p ks (m x) (sense_in m (names_of scope) x) (length ss) b l (fits.fit x) (called ks (name_is m scope x) (length ss) (process_at b l) fine)
       is)
 
   network_call : {ts : List Tree} {ss : List Said} {rs : List Reading} (x : Name) → AllRead m ks ts ss rs → (scope : Scope) (n : ℕ) (l : ℕ)
@@ -81,19 +83,19 @@ module _ (p : Content) (m : Meanings) (ks : List Kind) (fits : AllFit p ks m) wh
   network_call {ss} {rs} x h scope n l is fine =
       subst (λ k. IsTrue (takes order.is_network k (slice_get p.defs (definition_number (m x))))) (count_exprs h scope n)
       (use_network p ks (m x) (sense_in m (names_of scope) x) (length ss) true l (fits.fit x)
-      (called p ks (name_is m scope x) (length ss) (process_at true l) fine) is)
+      (called ks (name_is m scope x) (length ss) (process_at true l) fine) is)
 
   process_name : (x : Name) (scope : Scope) (b : Bool) (l : ℕ) → (b && is_network ks (sense_in m (names_of scope) x)) ≡ false
       → IsFine ks (uses x (sense_in m (names_of scope) x) (how.Alone (process_at b l))) → IsTrue
       (takes is_process 0 (slice_get p.defs (definition_number (m x))))
   process_name x scope b l is fine =
-      use_process p ks (m x) (sense_in m (names_of scope) x) 0 b l (fits.fit x) (alone p ks (name_is m scope x) b l fine) is
+      use_process p ks (m x) (sense_in m (names_of scope) x) 0 b l (fits.fit x) (alone ks (name_is m scope x) b l fine) is
 
   network_name : (x : Name) (scope : Scope) (l : ℕ) → is_network ks (sense_in m (names_of scope) x) ≡ true
       → IsFine ks (uses x (sense_in m (names_of scope) x) (how.Alone (process_at true l))) → IsTrue
       (takes order.is_network 0 (slice_get p.defs (definition_number (m x))))
   network_name x scope l is fine =
-      use_network p ks (m x) (sense_in m (names_of scope) x) 0 true l (fits.fit x) (alone p ks (name_is m scope x) true l fine) is
+      use_network p ks (m x) (sense_in m (names_of scope) x) 0 true l (fits.fit x) (alone ks (name_is m scope x) true l fine) is
 
   if_proc : (c : Expr) (t u : Proc) → IsTrue (expr_in_order p c) → IsTrue (proc_in_order p t) → IsTrue (proc_in_order p u)
       → IsTrue (proc_in_order p (proc.If c t u))

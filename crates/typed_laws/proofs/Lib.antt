@@ -5,8 +5,15 @@ pub mod ScopeNames
 pub mod Classes
 pub mod Passing
 pub mod Senses
+pub mod DefUses
+pub mod Uses
 pub mod Deep
 pub mod ExprsAre
 pub mod ProcsAre
 pub mod NetsAre
+pub mod Typable
+pub mod DeclPasses
+pub mod ScriptKinds
 pub mod Declared
+pub mod OnceSaid
+pub mod Forward

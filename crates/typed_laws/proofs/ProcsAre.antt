@@ -40,7 +40,7 @@ use Rattle.typed_laws.proofs.ExprsAre.{add_next, add_three, begins_passes, expr_
 use Rattle.typed_laws.proofs.Making.{event_reading, event_says, field_reading, field_reading_layer, field_says, field_says_layer, gen_reading, gen_says, part_reading, part_tree_says}
 use Rattle.typed_laws.proofs.Passing.{AllPass, Passes, data_at, form_passes, join, join_three, process_at, use_passes}
 use Rattle.typed_laws.proofs.ScopeNames.{names_with}
-use Rattle.typed_laws.proofs.Senses.{bind_passes, bound_is, call_passes, definition_passes, means_is, same_count}
+use Rattle.typed_laws.proofs.Senses.{bind_passes, bound_is, call_passes, definition_passes, means_is, none_of_count}
 
 add_one_two : (n a b i k : ℕ) → (n + 1) + a ≡ i → i + b ≡ k → n + (1 + a + b) ≡ k
 add_one_two n a b i k h g = omega arith
@@ -116,8 +116,8 @@ module _ (m : Meanings) (ks : List Kind) where
       }))
 
   head_passes : (x : Name) (c n k : ℕ) → k ≡ n → Passes m ks (uses x (sense.Declared (entity.Channel c n)) (how.Heads k))
-  head_passes x c n zero same = record { fine = record { known = refl; kind = refl; count = same_count n zero x same; inside = refl }; once = refl }
-  head_passes x c n (suc k) same = record { fine = record { known = refl; kind = refl; count = same_count n (suc k) x same; inside = refl }; once = refl }
+  head_passes x c n zero same = record { fine = record { known = refl; kind = refl; count = none_of_count n zero x same; inside = refl }; once = refl }
+  head_passes x c n (suc k) same = record { fine = record { known = refl; kind = refl; count = none_of_count n (suc k) x same; inside = refl }; once = refl }
 
   bound_head_passes : (x : Name) → Passes m ks (uses x sense.Bound (how.Heads 0))
   bound_head_passes x = record { fine = record { known = refl; kind = refl; count = refl; inside = refl }; once = refl }

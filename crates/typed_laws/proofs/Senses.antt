@@ -29,8 +29,8 @@ free_sense : {m : Meanings} {x : Name} {o : Option ℕ} {s : Sense} → NameIs m
 free_sense (is_bound k) h = absurd (cc)
 free_sense is_free h = refl
 
-pub same_count : (n k : ℕ) (x : Name) → k ≡ n → when (not (nat_eq n k)) x ≡ None
-same_count n k x h = ap (λ b. when (not b) x) (eq-eqb n k (sym h))
+pub none_of_count : (n k : ℕ) (x : Name) → k ≡ n → when (not (nat_eq n k)) x ≡ None
+none_of_count n k x h = ap (λ b. when (not b) x) (eq-eqb n k (sym h))
 
 no_constant : (e : Option Entity) → ((k : ℕ) → e ≡ Some (entity.Constant k) → ⊥) → is_constant e ≡ false
 no_constant (Some (entity.Constant k)) h = absurd (h k refl)
@@ -81,11 +81,11 @@ module _ (m : Meanings) (ks : List Kind) where
     fine = record {
       known = refl;
       kind = ap (λ o. clashes ks (kind_class o) place.need) is ∙ fits;
-      count = same_count n k x same;
+      count = none_of_count n k x same;
       inside = ap (λ o. kind_network o && not place.network) is ∙ inside;
     };
     once = refl;
   }
 
   pub dotted_passes : (x : Name) (c n k : ℕ) → k ≡ n → Passes m ks (uses x (sense.Declared (entity.Channel c n)) (how.Dotted k))
-  dotted_passes x c n k same = record { fine = record { known = refl; kind = refl; count = same_count n k x same; inside = refl }; once = refl }
+  dotted_passes x c n k same = record { fine = record { known = refl; kind = refl; count = none_of_count n k x same; inside = refl }; once = refl }
