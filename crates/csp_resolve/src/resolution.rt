@@ -15,7 +15,7 @@ ghost use Rattle.script_names.specs.Resolved.{and_next};
 ghost use Rattle.script_sizes.specs.Size.{AreSmall, size};
 
 use crate::events::{channel_sets, fill_table};
-use containers::Boxed;
+use containers::{Boxed, Key};
 use csp_base::NoMemory;
 use csp_program::{Content, Program};
 use csp_text::{Decl, Script, Tree};
@@ -36,12 +36,12 @@ fn boxed(alloc: Global, program: Program) -> Result<Boxed<Program>, NoMemory>
 
 /// The program of a script. A fault is told exactly where the script has no program, and it is the first in this order: no deadlock assertion, a name
 /// fault, a type of a channel without a value that fits, too many events. The script is small, as each is that a text within the limit spells: 32 bits
-/// number all that it declares.
-pub fn resolve(alloc: Global, script: &Script) -> Result<Boxed<Program>, Unresolved>
+/// number all that it declares. Names are found under this key, which the text of the script makes.
+pub fn resolve(alloc: Global, key: Key, script: &Script) -> Result<Boxed<Program>, Unresolved>
     requires small { AreSmall script.now.decls }
     ensures { meant.Resolves script.now result }
 {
-    let names = dictionary_of(alloc, script.decls.as_slice())?;
+    let names = dictionary_of(alloc, key, script.decls.as_slice())?;
     let content = content_of(alloc, script, &names)?;
     let program = boxed(alloc, Program::new(content))?;
     Ok(program)

@@ -18,6 +18,7 @@ ghost use Rattle.dl_top.specs.Ran.{SpellsRun};
 
 use command_words::Job;
 use comparison::compared;
+use containers::Key;
 use csp_base::NoMemory;
 use csp_parser::{each_text_spells_one_script, read};
 use csp_text::{ParseFault, Script};
@@ -65,7 +66,7 @@ fn spell(alloc: Global, side: Side, text: &[u8]) -> Result<Spelled, Stop<Answer>
     ensures told { IfErr result (Tells (SpellsNoNetwork side text.now)) }
 {
     let script = spell_script(alloc, side, text)?;
-    spell_network(alloc, side, &script)
+    spell_network(alloc, Key::of(text), side, &script)
 }
 
 // What a network decides with which this is to be done.

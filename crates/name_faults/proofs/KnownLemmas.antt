@@ -1,74 +1,80 @@
 -- What is known of declarations, and what one says after them.
-use Rattle.std.proofs.Common.{◌≡◌, ℕ, ◌+◌, ◌<◌, ◌≤◌, Bool, ◌&&◌, ◌||◌, Option, Some, None, List, [], ◌∷◌, ◌++◌, length, map, take, drop, get_or, slice_get, slice_index, nat_lt, refl, sym, ap, ◌∙◌, append_assoc, subst, arith}
+use Rattle.std.proofs.Common.{◌≡◌, ℕ, ◌+◌, ◌<◌, ◌≤◌, Bool, ◌&&◌, Option, Some, None, List, [], ◌∷◌, ◌++◌, length, map, take, drop, get_or, slice_get, slice_index, nat_lt, refl, sym, ap, ◌∙◌, append_assoc, subst, arith}
 use Rattle.std.proofs.Math.ListN.{drop_of_length-le}
 use Rattle.std.proofs.lemmas.List.{append-nil, map-append, length_push}
 use Rattle.std.specs.List.{flat_map}
+use Rattle.dl_limits.specs.declared.TheConstants.{MOST_DATA_DEPTH}
 use Rattle.csp_text.specs.declared.script.Decl.{Decl}
 use Rattle.csp_text.specs.declared.script.Decl.TheVariants as decl
 use Rattle.csp_text.specs.declared.tree.Tree.{Tree}
 use Rattle.script_names.specs.declared.fault.ResolveFault.{ResolveFault}
 use Rattle.script_names.specs.declared.kinds.Kind.{Kind}
-use Rattle.script_names.specs.Faults.{is_constant, kind_class}
+use Rattle.script_names.specs.declared.occurrence.Occurrence.{Occurrence}
+use Rattle.script_names.specs.declared.occurrence.Occurrence.TheVariants.{Declares}
+use Rattle.script_names.specs.Faults.{kind_class}
 use Rattle.script_names.specs.Names.{Name, Meanings, Entities, Counts, channels_from, constants_from, counted, declared_from, declares as declares_of, is_among, meanings_of, none_yet}
-use Rattle.script_names.specs.Occurrence.{Occurrence, declares}
 use Rattle.script_names.specs.Says.{tree_says}
-use Rattle.script_names.specs.Told.{annotation_says, bodies_from, body_place, counts_of, data_place, decl_says, declared_after, fault_in, first_fault, first_there, is_data, is_deep, name_fault, names_declared, next_definition, parameters_after, too_deep, types_say, with_roles, with_uses}
+use Rattle.script_names.specs.Told.{annotation_says, bodies_from, body_place, counts_of, data_place, decl_says, declared_after, each_after, fault_in, fault_of, first_fault, first_there, is_data, is_deep, name_fault, names_declared, next_definition, parameters_after, too_deep, types_say, with_roles, with_uses}
 use Rattle.name_tables.specs.Firsts.{SameNames}
 use Rattle.name_tables.proofs.NameLemmas.{same_names-append}
-use Rattle.name_notes.specs.declared.notes.Notes.{Notes}
-use Rattle.name_notes.specs.declared.notes.Body.{Body}
-use Rattle.name_notes.specs.declared.notes.Findings.{Findings}
-use Rattle.name_notes.specs.Found.{body_of, findings_of}
-use Rattle.name_notes.specs.Heard.{again_heard, heard_all}
-use Rattle.name_notes.proofs.ToldEquations.{heard_all-append}
+use Rattle.name_faults.specs.declared.body.Body.{Body}
 use Rattle.name_faults.specs.declared.known.Known.{Known}
-use Rattle.name_faults.specs.Depths.{AreDepths}
+use Rattle.name_faults.specs.Bodies.{body_of}
+use Rattle.name_faults.specs.Depths.{AreWithin}
+use Rattle.name_faults.specs.Known.{IsKnown, IsNext, deep_at, defines, fault_after, fault_from, names_in, nothing_known, says_after}
+use Rattle.name_faults.specs.Walked.{Walked, after}
 use Rattle.name_faults.proofs.DepthLemmas.{over_depth}
-use Rattle.name_faults.specs.Known.{IsKnown, IsNext, declared_heard, deep_at, defines, fault_after, fault_from, names_heard, names_in, nothing_known, parameters_heard, says_after, told}
 use Rattle.csp_base.proofs.Lists.{drop_read, take_read, flat_map_push}
 
--- names that are declared after the same ones
-declared_same : (xs ys zs : List Name) → SameNames xs ys → declared_after xs zs ≡ declared_after ys zs
-declared_same xs ys [] same = refl
-declared_same xs ys (z ∷ zs) same = λ i. declares z (same z i) ∷ declared_same (xs ++ z ∷ []) (ys ++ z ∷ []) zs (same_names-append xs ys (z ∷ []) same) i
+-- what is said of names after the same ones, and of one more
+module _ (says : Name → Bool → Occurrence Name) where
+  pub each_same : (xs ys zs : List Name) → SameNames xs ys → each_after says xs zs ≡ each_after says ys zs
+  each_same xs ys [] same = refl
+  each_same xs ys (z ∷ zs) same = λ i. says z (same z i) ∷ each_same (xs ++ z ∷ []) (ys ++ z ∷ []) zs (same_names-append xs ys (z ∷ []) same) i
+
+  each_push : (before xs : List Name) (x : Name) → each_after says before (xs ++ x ∷ []) ≡ each_after says before xs ++ says x (is_among (before ++ xs) x) ∷ []
+  each_push before [] x = ap (λ ys. says x (is_among ys x) ∷ []) (sym (append-nil before))
+  each_push before (y ∷ xs) x =
+      ap (λ os. says y (is_among before y) ∷ os)
+      (each_push (before ++ y ∷ []) xs x
+      ∙ ap (λ ys. each_after says (before ++ y ∷ []) xs ++ says x (is_among ys x) ∷ []) (append_assoc before (y ∷ []) xs))
+
+  pub each_step : (start w new : Walked) (before seen : List Name) (i : ℕ) (xs : List Name) (x : Name) → i < length xs → x ≡ get_or xs i x
+      → SameNames seen (before ++ take i xs) → w ≡ after start (each_after says before (take i xs)) → new ≡ after w (says x (is_among seen x) ∷ [])
+      → new ≡ after start (each_after says before (take (i + 1) xs))
+  each_step start w new before seen i xs x within is same so_far now =
+      now
+      ∙ (λ j. after (so_far j) (says x (same x j) ∷ []))
+      ∙ ap (λ os. record start { list = os })
+      (append_assoc start.list (each_after says before (take i xs)) (says x (is_among (before ++ take i xs) x) ∷ [])
+      ∙ ap (λ os. start.list ++ os) (sym (each_push before (take i xs) x) ∙ ap (each_after says before) (sym (take_read xs i x within is))))
 
 module _ (m : Meanings) (kinds : List Kind) where
-  pub declared_is : (before : List Name) (n : Notes) (xs : List Name) → heard_all m kinds n (declared_after before xs) ≡ declared_heard before n xs
-  declared_is before n [] = refl
-  declared_is before n (x ∷ xs) = declared_is (before ++ x ∷ []) (again_heard n x (is_among before x)) xs
-
-  pub parameters_are : (before : List Name) (n : Notes) (xs : List Name) → heard_all m kinds n (parameters_after before xs) ≡ parameters_heard m before n xs
-  parameters_are before n [] = refl
-  parameters_are before n (x ∷ xs) = parameters_are (before ++ x ∷ []) (again_heard n x (is_among before x || is_constant (m x))) xs
-
-  pub heard_append : (n : Notes) (os ps : List Occurrence) → heard_all m kinds n (os ++ ps) ≡ heard_all m kinds (heard_all m kinds n os) ps
-  heard_append = heard_all-append m kinds
-
   says_is : (earlier : List Decl) (k : Known) (d : Decl) → IsKnown earlier k → says_after m kinds k d ≡ decl_says m kinds earlier d
-  says_is earlier k (decl.Channel xs types) known = ap (λ os. os ++ types_say m kinds types) (declared_same k.declared (names_declared earlier) xs known.declared)
-  says_is earlier k (decl.Datatype x ks) known = declared_same k.declared (names_declared earlier) (x ∷ ks) known.declared
+  says_is earlier k (decl.Channel xs types) known = ap (λ os. os ++ types_say m types) (each_same Declares k.declared (names_declared earlier) xs known.declared)
+  says_is earlier k (decl.Datatype x ks) known = each_same Declares k.declared (names_declared earlier) (x ∷ ks) known.declared
   says_is earlier k (decl.Nametype x t) known =
-      ap (λ os. os ++ tree_says m t data_place []) (declared_same k.declared (names_declared earlier) (x ∷ []) known.declared)
+      ap (λ os. os ++ tree_says m t data_place []) (each_same Declares k.declared (names_declared earlier) (x ∷ []) known.declared)
   says_is earlier k (decl.Define x params t) known =
-      ap (λ os. os ++ (parameters_after [] params ++ tree_says m t (body_place (slice_get kinds k.definitions)) params)) (declared_same k.declared (names_declared earlier) (x ∷ []) known.declared)
+      ap (λ os. os ++ (parameters_after [] params ++ tree_says m t (body_place (slice_get kinds k.definitions)) params))
+      (each_same Declares k.declared (names_declared earlier) (x ∷ []) known.declared)
       ∙ ap (λ n. declared_after (names_declared earlier) (x ∷ []) ++ (parameters_after [] params ++ tree_says m t (body_place (slice_get kinds n)) params)) known.definitions
   says_is earlier k (decl.Assert t) known = refl
   says_is earlier k (decl.Roles names) known =
-      ap (λ b. annotation_says m kinds b names.process (names.creq ∷ names.cack ∷ names.sreq ∷ names.sack ∷ [])) (known.roles names.process)
+      ap (λ b. annotation_says m b names.process (names.creq ∷ names.cack ∷ names.sreq ∷ names.sack ∷ [])) (known.roles names.process)
   says_is earlier k (decl.Resource names) known =
-      ap (λ b. annotation_says m kinds b names.process (names.acquire ∷ names.release ∷ [])) (known.uses names.process)
-
-pub ruleset heard_names = (declared_is, parameters_are, heard_append)
+      ap (λ b. annotation_says m b names.process (names.acquire ∷ names.release ∷ [])) (known.uses names.process)
 
 -- types of a channel: one more
-pub types_step : (m : Meanings) (kinds : List Kind) (start n new : Notes) (i : ℕ) (ts : List Tree) (t : Tree) → i < length ts → t ≡ get_or ts i t
-    → n ≡ heard_all m kinds start (types_say m kinds (take i ts)) → new ≡ heard_all m kinds n (tree_says m t data_place [])
-    → new ≡ heard_all m kinds start (types_say m kinds (take (i + 1) ts))
-types_step m kinds start n new i ts t within is so_far now =
+pub types_step : (m : Meanings) (start w new : Walked) (i : ℕ) (ts : List Tree) (t : Tree) → i < length ts → t ≡ get_or ts i t
+    → w ≡ after start (types_say m (take i ts)) → new ≡ after w (tree_says m t data_place []) → new ≡ after start (types_say m (take (i + 1) ts))
+types_step m start w new i ts t within is so_far now =
     now
-    ∙ ap (λ k. heard_all m kinds k (tree_says m t data_place [])) so_far
-    ∙ sym (heard_all-append m kinds start (types_say m kinds (take i ts)) (tree_says m t data_place []))
-    ∙ ap (heard_all m kinds start) (sym (flat_map_push (λ u. tree_says m u data_place []) (take i ts) t) ∙ ap (types_say m kinds) (sym (take_read ts i t within is)))
+    ∙ ap (λ v. after v (tree_says m t data_place [])) so_far
+    ∙ ap (λ os. record start { list = os })
+    (append_assoc start.list (types_say m (take i ts)) (tree_says m t data_place [])
+    ∙ ap (λ os. start.list ++ os)
+    (sym (flat_map_push (λ u. tree_says m u data_place []) (take i ts) t) ∙ ap (types_say m) (sym (take_read ts i t within is))))
 
 -- one more declaration
 names_of-append : (es fs : Entities) → map (λ e. e.0) (es ++ fs) ≡ map (λ e. e.0) es ++ map (λ e. e.0) fs
@@ -140,7 +146,7 @@ nothing_is_known k is = record {
 }
 
 -- the fault of a declaration
-module _ (kinds : List Kind) (bodies : List (List Occurrence)) (depths : List ℕ) (same : (n : ℕ) → is_deep kinds bodies n ≡ nat_lt 800 (slice_index depths n)) where
+module _ (kinds : List Kind) (bodies : List (List (Occurrence Name))) (depths : List ℕ) (same : (n : ℕ) → is_deep kinds bodies n ≡ nat_lt MOST_DATA_DEPTH (slice_index depths n)) where
   deep_is : (n : ℕ) (d : Decl) → too_deep kinds bodies n d ≡ deep_at kinds depths n d
   deep_is n (decl.Channel xs types) = refl
   deep_is n (decl.Datatype x ks) = refl
@@ -161,16 +167,16 @@ none_first : (p q : Option ResolveFault) → None ≡ p → first_there (p ∷ q
 none_first p q h = ap (λ o. first_there (o ∷ q ∷ [])) (sym h) ∙ only_one q
 
 module _ (script : List Decl) (kinds : List Kind) (m : Meanings) (same : m ≡ meanings_of script) (depths : List ℕ)
-    (deep : (n : ℕ) → is_deep kinds (bodies_from (meanings_of script) kinds 0 script) n ≡ nat_lt 800 (slice_index depths n)) where
+    (deep : (n : ℕ) → is_deep kinds (bodies_from (meanings_of script) kinds 0 script) n ≡ nat_lt MOST_DATA_DEPTH (slice_index depths n)) where
   fault_is : (earlier : List Decl) (k : Known) (d : Decl) → IsKnown earlier k → fault_after m kinds depths k d ≡ fault_in script kinds earlier d
   fault_is earlier k d known =
-      let found : List Occurrence → Findings = λ os. findings_of (meanings_of script) kinds os in
-      let says : List Occurrence = decl_says (meanings_of script) kinds earlier d in
+      let says : List (Occurrence Name) = decl_says (meanings_of script) kinds earlier d in
       ap (λ (n : Meanings). fault_after n kinds depths k d) same
-      ∙ ap (λ os. told k.declarations (found os) (deep_at kinds depths k.definitions d)) (says_is (meanings_of script) kinds earlier k d known)
-      ∙ ap (λ i. told i (found says) (deep_at kinds depths k.definitions d)) known.declarations
-      ∙ ap (λ n. told (length earlier) (found says) (deep_at kinds depths n d)) known.definitions
-      ∙ ap (λ b. told (length earlier) (found says) b) (sym (deep_is kinds (bodies_from (meanings_of script) kinds 0 script) depths deep (next_definition earlier) d))
+      ∙ ap (λ os. fault_of (meanings_of script) kinds k.declarations os (deep_at kinds depths k.definitions d)) (says_is (meanings_of script) kinds earlier k d known)
+      ∙ ap (λ i. fault_of (meanings_of script) kinds i says (deep_at kinds depths k.definitions d)) known.declarations
+      ∙ ap (λ n. fault_of (meanings_of script) kinds (length earlier) says (deep_at kinds depths n d)) known.definitions
+      ∙ ap (fault_of (meanings_of script) kinds (length earlier) says)
+      (sym (deep_is kinds (bodies_from (meanings_of script) kinds 0 script) depths deep (next_definition earlier) d))
 
   -- the declaration has a fault, and none before has
   pub told_here : (i : ℕ) (k : Known) (d : Decl) (o : Option ResolveFault) (f : ResolveFault) (whole : Option ResolveFault) → i < length script → d ≡ get_or script i d → IsKnown (take i script) k
@@ -203,12 +209,13 @@ pub whole_fault : (script : List Decl) (kinds : List Kind) → fault_from script
 unfolding fault_from
 whole_fault script kinds = refl
 
--- depths are over 800 where those of the definition are
-pub deep_so : (script : List Decl) (kinds : List Kind) (m : Meanings) (same : m ≡ meanings_of script) (depths : List ℕ) → AreDepths 801 (map body_of (bodies_from m kinds 0 script)) depths
-    → (n : ℕ) → is_deep kinds (bodies_from (meanings_of script) kinds 0 script) n ≡ nat_lt 800 (slice_index depths n)
+-- depths are over the most where those of the definition are
+pub deep_so : (script : List Decl) (kinds : List Kind) (m : Meanings) (same : m ≡ meanings_of script) (depths : List ℕ)
+    → AreWithin (MOST_DATA_DEPTH + 1) (MOST_DATA_DEPTH + 1) (map body_of (bodies_from m kinds 0 script)) depths
+    → (n : ℕ) → is_deep kinds (bodies_from (meanings_of script) kinds 0 script) n ≡ nat_lt MOST_DATA_DEPTH (slice_index depths n)
 deep_so script kinds m same depths are n =
-    over_depth 801 (bodies_from (meanings_of script) kinds 0 script) depths n
-    (subst (λ (k : Meanings). AreDepths 801 (map body_of (bodies_from k kinds 0 script)) depths) same are)
+    over_depth MOST_DATA_DEPTH (MOST_DATA_DEPTH + 1) (bodies_from (meanings_of script) kinds 0 script) depths n
+    (subst (λ (k : Meanings). AreWithin (MOST_DATA_DEPTH + 1) (MOST_DATA_DEPTH + 1) (map body_of (bodies_from k kinds 0 script)) depths) same are)
 
 -- the bodies of a declaration come before those of the declarations after it
 one_first : (old : List Body) (b : Body) (after : ℕ → List Body) → (old ++ b ∷ []) ++ after (length (old ++ b ∷ [])) ≡ old ++ b ∷ after (length old + 1)
@@ -233,31 +240,7 @@ module _ (m : Meanings) (kinds : List Kind) (rest : List Decl) (old : List Body)
   bodies_on (decl.Roles names) = no_first old after
   bodies_on (decl.Resource names) = no_first old after
 
--- loops over names: the same after the same names, and one more
-module _ (again : Name → Bool → Bool) where
-  pub heard_same : (xs ys zs : List Name) (n : Notes) → SameNames xs ys → names_heard again xs n zs ≡ names_heard again ys n zs
-  heard_same xs ys [] n same = refl
-  heard_same xs ys (z ∷ zs) n same =
-      ap (λ b. names_heard again (xs ++ z ∷ []) (again_heard n z (again z b)) zs) (same z)
-      ∙ heard_same (xs ++ z ∷ []) (ys ++ z ∷ []) zs (again_heard n z (again z (is_among ys z))) (same_names-append xs ys (z ∷ []) same)
-
-  heard_push : (before : List Name) (n : Notes) (xs : List Name) (x : Name)
-      → names_heard again before n (xs ++ x ∷ []) ≡ again_heard (names_heard again before n xs) x (again x (is_among (before ++ xs) x))
-  heard_push before n [] x = ap (λ ys. again_heard n x (again x (is_among ys x))) (sym (append-nil before))
-  heard_push before n (y ∷ xs) x =
-      let next = again_heard n y (again y (is_among before y)) in
-      heard_push (before ++ y ∷ []) next xs x
-      ∙ ap (λ ys. again_heard (names_heard again (before ++ y ∷ []) next xs) x (again x (is_among ys x))) (append_assoc before (y ∷ []) xs)
-
-  pub heard_step : (before seen : List Name) (start n new : Notes) (i : ℕ) (xs : List Name) (x : Name) → i < length xs → x ≡ get_or xs i x
-      → SameNames seen (before ++ take i xs) → n ≡ names_heard again before start (take i xs) → new ≡ again_heard n x (again x (is_among seen x))
-      → new ≡ names_heard again before start (take (i + 1) xs)
-  heard_step before seen start n new i xs x within is same so_far now =
-      now
-      ∙ (λ j. again_heard (so_far j) x (again x (same x j)))
-      ∙ sym (heard_push before start (take i xs) x)
-      ∙ ap (λ ys. names_heard again before start ys) (sym (take_read xs i x within is))
-
+-- names are known besides: one more
 pub names_step : (before seen after : List Name) (i : ℕ) (xs : List Name) (x : Name) → i < length xs → x ≡ get_or xs i x → SameNames after (seen ++ x ∷ [])
     → SameNames seen (before ++ take i xs) → SameNames after (before ++ take (i + 1) xs)
 names_step before seen after i xs x within is now same =

@@ -1,6 +1,6 @@
--- The depths of definitions over what was noted of their bodies. It serves the contracts of the rounds.
+-- The depths of definitions over the bodies that code keeps. It serves the contracts of this crate.
 use Rattle.std.specs.Prelude.{◌≡◌, ℕ, zero, suc, ◌+◌, max, min, Option, Some, None, List, [], ◌∷◌, slice_get, slice_index}
-use Rattle.name_notes.specs.declared.notes.Body.{Body}
+use Rattle.name_faults.specs.declared.body.Body.{Body}
 
 -- how deep uses reach
 abbrev pub deepest_use : (ℕ → ℕ) → List (ℕ × ℕ) → ℕ
@@ -20,6 +20,6 @@ unfoldable pub within : ℕ → List Body → ℕ → ℕ
 within zero bodies d = 0
 within (suc n) bodies d = deepest_if (within n bodies) (slice_get bodies d)
 
--- These are the depths of all definitions, as far as 801.
-unfoldable pub AreDepths : ℕ → List Body → List ℕ → Type 0
-AreDepths n bodies depths = (d : ℕ) → slice_index depths d ≡ min (within n bodies d) 801
+-- These are the depths of all definitions, as far as the limit, where so many uses may be entered.
+unfoldable pub AreWithin : ℕ → ℕ → List Body → List ℕ → Type 0
+AreWithin limit n bodies depths = (d : ℕ) → slice_index depths d ≡ min (within n bodies d) limit

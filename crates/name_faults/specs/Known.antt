@@ -1,25 +1,19 @@
 -- What is known of the declarations that were passed, and what a declaration says after them. It serves the contracts of this crate.
-use Rattle.std.specs.Prelude.{◌≡◌, ℕ, Bool, false, ◌&&◌, ◌||◌, nat_lt, Option, List, [], ◌∷◌, ◌++◌, length, slice_get, slice_index}
+use Rattle.std.specs.Prelude.{◌≡◌, ℕ, Bool, false, ◌&&◌, nat_lt, Option, List, [], ◌∷◌, ◌++◌, length, slice_get, slice_index}
 use Rattle.std.specs.List.{flat_map}
-use Rattle.std.specs.Option.{option_map}
 use Rattle.dl_limits.specs.declared.TheConstants.{MOST_DATA_DEPTH}
 use Rattle.csp_text.specs.declared.script.Decl.{Decl}
 use Rattle.csp_text.specs.declared.script.Decl.TheVariants as decl
 use Rattle.csp_text.specs.declared.token.ResourceNames.{ResourceNames}
 use Rattle.csp_text.specs.declared.token.RolesNames.{RolesNames}
 use Rattle.script_names.specs.declared.fault.ResolveFault.{ResolveFault}
-use Rattle.script_names.specs.declared.fault.ResolveFault.TheVariants as fault
 use Rattle.script_names.specs.declared.kinds.Kind.{Kind}
-use Rattle.script_names.specs.Faults.{is_constant, kind_class}
+use Rattle.script_names.specs.declared.occurrence.Occurrence.{Occurrence}
+use Rattle.script_names.specs.Faults.{kind_class}
 use Rattle.script_names.specs.Names.{Name, Meanings, is_among}
-use Rattle.script_names.specs.Occurrence.{Occurrence}
 use Rattle.script_names.specs.Says.{tree_says}
-use Rattle.script_names.specs.Told.{annotation_says, body_place, data_place, declared_after, first_there, is_data, names_declared, first_fault, next_definition, parameters_after, root_place, types_say, when_any, with_roles, with_uses}
+use Rattle.script_names.specs.Told.{annotation_says, body_place, data_place, declared_after, fault_of, first_fault, is_data, names_declared, next_definition, parameters_after, root_place, types_say, with_roles, with_uses}
 use Rattle.name_tables.specs.Firsts.{SameNames}
-use Rattle.name_notes.specs.declared.notes.Findings.{Findings}
-use Rattle.name_notes.specs.declared.notes.Notes.{Notes}
-use Rattle.name_notes.specs.Found.{findings_of}
-use Rattle.name_notes.specs.Heard.{again_heard}
 use Rattle.name_faults.specs.declared.known.Known.{Known}
 
 abbrev pub nothing_known : Known
@@ -56,39 +50,27 @@ pub record IsNext (k : Known) (d : Decl) (new : Known) : Type 0 where
   pub roles : SameNames new.roles (k.roles ++ with_roles d)
   pub uses : SameNames new.uses (k.uses ++ with_uses d)
 
--- what is noted after names that come after others, where `again` says which of them may not come: those that stand before, or others besides
-abbrev pub names_heard : (Name → Bool → Bool) → List Name → Notes → List Name → Notes
-names_heard again before n [] = n
-names_heard again before n (x ∷ xs) = names_heard again (before ++ x ∷ []) (again_heard n x (again x (is_among before x))) xs
-
--- after names that are declared
-abbrev pub declared_heard : List Name → Notes → List Name → Notes
-declared_heard = names_heard (λ x known. known)
-
--- and after parameters
-abbrev pub parameters_heard : Meanings → List Name → Notes → List Name → Notes
-parameters_heard meanings = names_heard (λ x known. known || is_constant (meanings x))
-
-module _ (meanings : Meanings) (kinds : List Kind) where
+module _ (meanings : Meanings) where
   -- what an annotation of roles says, after those of these processes
-  abbrev pub roles_said : List Name → RolesNames → List Occurrence
+  abbrev pub roles_said : List Name → RolesNames → List (Occurrence Name)
   roles_said before names =
-      annotation_says meanings kinds (is_among before names.process) names.process (names.creq ∷ names.cack ∷ names.sreq ∷ names.sack ∷ [])
+      annotation_says meanings (is_among before names.process) names.process (names.creq ∷ names.cack ∷ names.sreq ∷ names.sack ∷ [])
 
   -- and one of a resource
-  abbrev pub resource_said : List Name → ResourceNames → List Occurrence
-  resource_said before names = annotation_says meanings kinds (is_among before names.process) names.process (names.acquire ∷ names.release ∷ [])
+  abbrev pub resource_said : List Name → ResourceNames → List (Occurrence Name)
+  resource_said before names = annotation_says meanings (is_among before names.process) names.process (names.acquire ∷ names.release ∷ [])
 
+module _ (meanings : Meanings) (kinds : List Kind) where
   -- what a declaration says after those that are known
-  abbrev pub says_after : Known → Decl → List Occurrence
-  says_after k (decl.Channel xs types) = declared_after k.declared xs ++ types_say meanings kinds types
+  abbrev pub says_after : Known → Decl → List (Occurrence Name)
+  says_after k (decl.Channel xs types) = declared_after k.declared xs ++ types_say meanings types
   says_after k (decl.Datatype x ks) = declared_after k.declared (x ∷ ks)
   says_after k (decl.Nametype x t) = declared_after k.declared (x ∷ []) ++ tree_says meanings t data_place []
   says_after k (decl.Define x params t) =
       declared_after k.declared (x ∷ []) ++ (parameters_after [] params ++ tree_says meanings t (body_place (slice_get kinds k.definitions)) params)
   says_after k (decl.Assert t) = tree_says meanings t root_place []
-  says_after k (decl.Roles names) = roles_said k.roles names
-  says_after k (decl.Resource names) = resource_said k.uses names
+  says_after k (decl.Roles names) = roles_said meanings k.roles names
+  says_after k (decl.Resource names) = resource_said meanings k.uses names
 
 -- whether a declaration is a definition of data with the number n that is over MOST_DATA_DEPTH deep
 abbrev pub deep_at : List Kind → List ℕ → ℕ → Decl → Bool
@@ -96,21 +78,10 @@ deep_at kinds depths n (decl.Define x params t) = is_data (kind_class (slice_get
 deep_at kinds depths n (decl.Nametype x t) = nat_lt MOST_DATA_DEPTH (slice_index depths n)
 deep_at kinds depths n _ = false
 
--- the fault of the declaration with the number i in which this was found
-abbrev pub told : ℕ → Findings → Bool → Option ResolveFault
-told i found deep = first_there (
-    option_map (λ x. fault.Unknown i x) found.unknown
-    ∷ option_map (λ x. fault.Twice i x) found.twice
-    ∷ when_any found.wrong_kind (fault.WrongKind i)
-    ∷ option_map (λ x. fault.WrongCount i x) found.wrong_count
-    ∷ when_any found.inside (fault.ParallelInside i)
-    ∷ when_any deep (fault.DataDepth i)
-    ∷ [])
-
 -- the fault of a declaration after those that are known
 abbrev pub fault_after : Meanings → List Kind → List ℕ → Known → Decl → Option ResolveFault
 fault_after meanings kinds depths k d =
-    told k.declarations (findings_of meanings kinds (says_after meanings kinds k d)) (deep_at kinds depths k.definitions d)
+    fault_of meanings kinds k.declarations (says_after meanings kinds k d) (deep_at kinds depths k.definitions d)
 
 -- the first fault of the declarations of a script from some on
 unfoldable pub fault_from : List Decl → List Kind → List Decl → List Decl → Option ResolveFault

@@ -1,2 +1,4 @@
-pub mod Known
+pub mod Walked
+pub mod Bodies
 pub mod Depths
+pub mod Known

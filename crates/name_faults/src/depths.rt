@@ -1,22 +1,19 @@
-//! The depths of definitions with all of their uses expanded, as far as 801: round by round, each use one level further.
+//! The depths of definitions with all of their uses expanded, as far as a limit: in rounds, each use one level further.
 
 ghost use Rattle.std.specs.Prelude.{◌≡◌, ◌+◌, ◌↔◌, min, max, map, slice_index, IsTrue, IfOk};
-ghost use Rattle.name_faults.specs.Depths.{AreDepths, deepest_of};
+ghost use Rattle.name_faults.specs.Depths.{AreWithin, deepest_of};
 
+use crate::body::Body;
 use csp_base::NoMemory;
-use name_notes::Body;
 use std::alloc::Global;
 
-// How many uses may be entered one inside another, and where counting stops.
-const ROUNDS: u32 = 801;
-
-/// The depth of each definition, as far as 801.
-pub(crate) fn depths_of(alloc: Global, bodies: &[Body]) -> Result<Vec<u32>, NoMemory>
-    ensures { IfOk result (λ depths. AreDepths 801 bodies.now depths.items) }
+/// The depth of each definition as far as the limit, with as many uses entered, one inside another, as it says.
+pub(crate) fn depths_of(alloc: Global, bodies: &[Body], limit: u32) -> Result<Vec<u32>, NoMemory>
+    ensures { IfOk result (λ depths. AreWithin limit limit bodies.now depths.items) }
 {
     let mut depths = Vec::new(alloc);
-    for _round in 0..ROUNDS {
-        let next = next_round(alloc, bodies, depths.as_slice())?;
+    for _round in 0..limit {
+        let next = next_round(alloc, bodies, depths.as_slice(), limit)?;
         if same(next.as_slice(), depths.as_slice()) {
             return Ok(depths);
         }
@@ -33,34 +30,40 @@ fn same(a: &[u32], b: &[u32]) -> bool
 }
 
 // The depths with one use more that may be entered.
-fn next_round(alloc: Global, bodies: &[Body], depths: &[u32]) -> Result<Vec<u32>, NoMemory>
-    ensures { IfOk result (λ next. next.items ≡ map (λ body. min (deepest_of (λ d. slice_index depths.now d) body) 801) bodies.now) }
+fn next_round(
+    alloc: Global,
+    bodies: &[Body],
+    depths: &[u32],
+    limit: u32,
+) -> Result<Vec<u32>, NoMemory>
+    ensures { IfOk result (λ next.
+        next.items ≡ map (λ body. min (deepest_of (λ d. slice_index depths.now d) body) limit) bodies.now) }
 {
     let mut next = Vec::new(alloc);
     for body in bodies {
-        next.push(depth_of(body, depths))?;
+        next.push(depth_of(body, depths, limit))?;
     }
     Ok(next)
 }
 
 // The depth of a body where what it uses has these depths.
-fn depth_of(body: &Body, depths: &[u32]) -> u32
-    ensures { result ≡ min (deepest_of (λ d. slice_index depths.now d) body.now) 801 }
+fn depth_of(body: &Body, depths: &[u32], limit: u32) -> u32
+    ensures { result ≡ min (deepest_of (λ d. slice_index depths.now d) body.now) limit }
 {
-    let mut deepest = capped(body.level);
+    let mut deepest = capped(body.level, limit);
     for (d, level) in body.uses.as_slice() {
-        deepest = greater(deepest, below(depths, *d, *level));
+        deepest = greater(deepest, below(depths, *d, *level, limit));
     }
     deepest
 }
 
 // How deep the use of a definition reaches.
-fn below(depths: &[u32], d: u32, level: u32) -> u32
-    ensures { result ≡ min (level + slice_index depths.now d) 801 }
+fn below(depths: &[u32], d: u32, level: u32, limit: u32) -> u32
+    ensures { result ≡ min (level + slice_index depths.now d) limit }
 {
     match depths.get(d as usize) {
-        Some(depth) => capped(level.saturating_add(*depth)),
-        None => capped(level),
+        Some(depth) => capped(level.saturating_add(*depth), limit),
+        None => capped(level, limit),
     }
 }
 
@@ -72,8 +75,8 @@ fn greater(a: u32, b: u32) -> u32
 }
 
 // A depth as far as it is counted.
-fn capped(depth: u32) -> u32
-    ensures { result ≡ min depth 801 }
+fn capped(depth: u32, limit: u32) -> u32
+    ensures { result ≡ min depth limit }
 {
-    if depth < ROUNDS { depth } else { ROUNDS }
+    if depth < limit { depth } else { limit }
 }

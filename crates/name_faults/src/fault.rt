@@ -1,72 +1,83 @@
 //! The name fault of a script.
 
-ghost use Rattle.std.specs.Prelude.{◌≡◌, ◌≤◌, [], Some, map, slice_index, nat_lt, IfOk, OnOk};
+ghost use Rattle.std.specs.Prelude.{◌≡◌, ◌+◌, ◌≤◌, [], map, slice_index, nat_lt, IfOk, OnOk};
 ghost use Rattle.dl_limits.specs.declared.TheConstants.{MOST_DATA_DEPTH, MOST_TREE_DEPTH};
 ghost use Rattle.script_names.specs.Names.{declared, first_of};
 ghost use Rattle.script_names.specs.Told as meant;
 ghost use Rattle.name_tables.specs.Firsts.{SameFirsts};
 ghost use Rattle.script_sizes.specs.Size.{AreSmall, declaration_depth};
-ghost use Rattle.name_notes.specs.Found.{body_of};
-ghost use Rattle.name_faults.specs.Depths.{AreDepths};
-ghost use Rattle.name_faults.specs.Known.{IsNext, deep_at, fault_after, fault_from, nothing_known, told};
+ghost use Rattle.name_faults.specs.Bodies.{bodies_after};
+ghost use Rattle.name_faults.specs.Depths.{AreWithin};
+ghost use Rattle.name_faults.specs.Known.{IsNext, deep_at, fault_after, fault_from, nothing_known};
+ghost use Rattle.name_faults.specs.Walked.{seen};
 
 use crate::bodies::bodies_of;
-use crate::declarations::note_decl;
 use crate::depths::depths_of;
 use crate::known::Known;
 use crate::places;
-use csp_base::NoMemory;
+use crate::scan::{is_any_inside, is_any_wrong_kind, repeated_name, unknown_name, wrong_count};
+use crate::walk::Walk;
+use csp_base::{Name, NoMemory};
 use csp_text::Decl;
 use dl_limits::MOST_DATA_DEPTH;
-use name_notes::{Findings, Notes};
 use name_tables::Meanings;
-use script_names::{Class, Kind, ResolveFault};
+use script_names::{Class, Kind, Occurrence, ResolveFault};
 
 /// The name fault of a script with these declarations, whose names and definitions mean what `meanings` says.
 #[tactic(auto, using(crate::proofs::DepthLemmas::depths_along, crate::proofs::KnownLemmas::whole_fault))]
-pub fn name_fault(meanings: &Meanings<'_>, decls: &[Decl]) -> Result<Option<ResolveFault>, NoMemory>
+pub fn name_fault<'a>(
+    meanings: &Meanings<'a>,
+    decls: &'a [Decl],
+) -> Result<Option<ResolveFault>, NoMemory>
     requires names { SameFirsts meanings.now.names.now (declared decls.now) }
     requires small { AreSmall decls.now }
     ensures { IfOk result (λ fault. fault ≡ meant.name_fault decls.now meanings.now.kinds.now) }
 {
-    let bodies = bodies_of(meanings, decls)?;
-    let depths = depths_of(meanings.alloc, bodies.as_slice())?;
-    let fault = first_fault(meanings, decls, depths.as_slice())?;
+    let mut walk = Walk::new(meanings.alloc, meanings.names);
+    let bodies = bodies_of(meanings, &mut walk, decls)?;
+    let depths = depths_of(meanings.alloc, bodies.as_slice(), MOST_DATA_DEPTH + 1)?;
+    let fault = first_fault(meanings, &mut walk, decls, depths.as_slice())?;
     Ok(fault)
 }
 
 // The first fault of the declarations.
-fn first_fault(
+fn first_fault<'a>(
     meanings: &Meanings<'_>,
-    decls: &[Decl],
+    walk: &mut Walk<'a>,
+    decls: &'a [Decl],
     depths: &[u32],
 ) -> Result<Option<ResolveFault>, NoMemory>
+    requires walk { walk.old.names ≡ meanings.now.names.now }
     requires names { SameFirsts meanings.now.names.now (declared decls.now) }
     requires small { AreSmall decls.now }
-    requires depths { AreDepths 801 (map body_of (meant.bodies_from (first_of meanings.now.names.now) meanings.now.kinds.now 0 decls.now)) depths.now }
+    requires depths { AreWithin (MOST_DATA_DEPTH + 1) (MOST_DATA_DEPTH + 1)
+        (bodies_after meanings.now 0 decls.now) depths.now }
     ensures { IfOk result (λ fault. fault ≡ fault_from decls.now meanings.now.kinds.now [] decls.now) }
 {
-    let mut known = Known::new(meanings.alloc);
-    let fault = first_after(meanings, decls, depths, &mut known);
+    let mut known = Known::new(meanings.alloc, meanings.names.key());
+    let fault = first_after(meanings, walk, decls, depths, &mut known);
     drop(known);
     fault
 }
 
 // The first fault of the declarations, of which none is known yet.
-fn first_after(
+fn first_after<'a>(
     meanings: &Meanings<'_>,
-    decls: &[Decl],
+    walk: &mut Walk<'a>,
+    decls: &'a [Decl],
     depths: &[u32],
     known: &mut Known,
 ) -> Result<Option<ResolveFault>, NoMemory>
     requires known { known.old ≡ nothing_known }
+    requires walk { walk.old.names ≡ meanings.now.names.now }
     requires names { SameFirsts meanings.now.names.now (declared decls.now) }
     requires small { AreSmall decls.now }
-    requires depths { AreDepths 801 (map body_of (meant.bodies_from (first_of meanings.now.names.now) meanings.now.kinds.now 0 decls.now)) depths.now }
+    requires depths { AreWithin (MOST_DATA_DEPTH + 1) (MOST_DATA_DEPTH + 1)
+        (bodies_after meanings.now 0 decls.now) depths.now }
     ensures { IfOk result (λ fault. fault ≡ fault_from decls.now meanings.now.kinds.now [] decls.now) }
 {
     for decl in decls {
-        match fault_in(meanings, depths, known, decl)? {
+        match fault_in(meanings, walk, depths, known, decl)? {
             Some(fault) => return Ok(Some(fault)),
             None => known.count(decl),
         }
@@ -75,31 +86,28 @@ fn first_after(
 }
 
 // The fault of a declaration that comes after those that are known.
-#[tactic(auto, using(name_notes::proofs::HeardLemmas::findings_heard))]
-fn fault_in(
+fn fault_in<'a>(
     meanings: &Meanings<'_>,
+    walk: &mut Walk<'a>,
     depths: &[u32],
     known: &mut Known,
-    decl: &Decl,
+    decl: &'a Decl,
 ) -> Result<Option<ResolveFault>, NoMemory>
-    requires { declaration_depth decl.now ≤ MOST_TREE_DEPTH }
-    ensures told { IfOk result (λ fault. fault ≡ fault_after (first_of meanings.now.names.now) meanings.now.kinds.now depths.now known.old decl.now) }
+    requires names { walk.old.names ≡ meanings.now.names.now }
+    requires depth { declaration_depth decl.now ≤ MOST_TREE_DEPTH }
+    ensures told { IfOk result (λ fault.
+        fault ≡ fault_after (first_of meanings.now.names.now) meanings.now.kinds.now depths.now known.old decl.now) }
     ensures known { OnOk result (IsNext known.old decl.now known.new) }
+    ensures names { OnOk result (walk.new.names ≡ meanings.now.names.now) }
 {
-    let mut notes = Notes::new(meanings.alloc);
-    match note_decl(meanings, known, &mut notes, decl) {
-        Ok(()) => {
-            let deep = is_deep(meanings.kinds, depths, known.definitions, decl);
-            Ok(fault_of(known.declarations, notes.into_findings(), deep))
-        }
-        Err(fault) => {
-            drop(notes);
-            Err(fault)
-        }
-    }
+    walk.clear();
+    walk.declaration(meanings.alloc, meanings.kinds, known, decl)?;
+    let deep = is_deep(meanings.kinds, depths, known.definitions, decl);
+    let fault = fault_of(meanings, known.declarations, walk.said(), deep)?;
+    Ok(fault)
 }
 
-// Whether a declaration is a definition of data with the number d that is over 800 deep.
+// Whether a declaration is a definition of data with the number d that is deeper than may be.
 fn is_deep(kinds: &[Kind], depths: &[u32], d: u32, decl: &Decl) -> bool
     ensures { result ≡ deep_at kinds.now depths.now d decl.now }
 {
@@ -117,7 +125,7 @@ fn is_deep(kinds: &[Kind], depths: &[u32], d: u32, decl: &Decl) -> bool
     }
 }
 
-// Whether a definition is over 800 deep.
+// Whether a definition is deeper than may be.
 fn is_over(depths: &[u32], d: u32) -> bool
     ensures { result ≡ nat_lt MOST_DATA_DEPTH (slice_index depths.now d) }
 {
@@ -127,34 +135,36 @@ fn is_over(depths: &[u32], d: u32) -> bool
     }
 }
 
-// The fault of the declaration with the number i, from what was found.
-fn fault_of(i: u32, findings: Findings, deep: bool) -> Option<ResolveFault>
-    ensures { result ≡ told i findings deep }
+// The fault of the declaration with the number i that says this.
+fn fault_of(
+    meanings: &Meanings<'_>,
+    i: u32,
+    said: &[Occurrence<&Name>],
+    deep: bool,
+) -> Result<Option<ResolveFault>, NoMemory>
+    ensures { IfOk result (λ fault.
+        fault ≡ meant.fault_of (first_of meanings.now.names.now) meanings.now.kinds.now i (map seen said.now) deep) }
 {
-    let Findings {
-        unknown,
-        twice,
-        wrong_kind,
-        wrong_count,
-        inside,
-    } = findings;
-    if let Some(name) = unknown {
-        return Some(ResolveFault::Unknown { inside: i, name });
+    if let Some(name) = unknown_name(said) {
+        let name = name.try_clone(meanings.alloc)?;
+        return Ok(Some(ResolveFault::Unknown { inside: i, name }));
     }
-    if let Some(name) = twice {
-        return Some(ResolveFault::Twice { inside: i, name });
+    if let Some(name) = repeated_name(meanings.names, said) {
+        let name = name.try_clone(meanings.alloc)?;
+        return Ok(Some(ResolveFault::Twice { inside: i, name }));
     }
-    if wrong_kind {
-        return Some(ResolveFault::WrongKind { inside: i });
+    if is_any_wrong_kind(meanings.kinds, said) {
+        return Ok(Some(ResolveFault::WrongKind { inside: i }));
     }
-    if let Some(name) = wrong_count {
-        return Some(ResolveFault::WrongCount { inside: i, name });
+    if let Some(name) = wrong_count(said) {
+        let name = name.try_clone(meanings.alloc)?;
+        return Ok(Some(ResolveFault::WrongCount { inside: i, name }));
     }
-    if inside {
-        return Some(ResolveFault::ParallelInside { inside: i });
+    if is_any_inside(meanings.kinds, said) {
+        return Ok(Some(ResolveFault::ParallelInside { inside: i }));
     }
     if deep {
-        return Some(ResolveFault::DataDepth { inside: i });
+        return Ok(Some(ResolveFault::DataDepth { inside: i }));
     }
-    None
+    Ok(None)
 }

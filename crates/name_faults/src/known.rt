@@ -4,6 +4,7 @@ ghost use Rattle.std.specs.Prelude.{◌≡◌, ◌+◌, ◌<◌};
 ghost use Rattle.dl_limits.specs.declared.TheConstants.{MOST_BYTES};
 ghost use Rattle.name_faults.specs.Known.{nothing_known, defines};
 
+use containers::Key;
 use csp_text::Decl;
 use name_tables::NameSet;
 use std::alloc::Global;
@@ -24,16 +25,16 @@ pub(crate) struct Known {
 }
 
 impl Known {
-    /// No declaration was passed.
-    pub(crate) fn new(alloc: Global) -> Known
+    /// No declaration was passed. Names are found under this key.
+    pub(crate) fn new(alloc: Global, key: Key) -> Known
         ensures { result ≡ nothing_known }
     {
         Known {
             declarations: 0,
             definitions: 0,
-            declared: NameSet::new(alloc),
-            roles: NameSet::new(alloc),
-            uses: NameSet::new(alloc),
+            declared: NameSet::new(alloc, key),
+            roles: NameSet::new(alloc, key),
+            uses: NameSet::new(alloc, key),
         }
     }
 
@@ -41,7 +42,10 @@ impl Known {
     pub(crate) fn count(&mut self, decl: &Decl)
         requires declarations { self.old.declarations < MOST_BYTES }
         requires definitions { self.old.definitions < MOST_BYTES }
-        ensures { self.new ≡ record self.old { declarations = self.old.declarations + 1; definitions = self.old.definitions + defines decl.now } }
+        ensures { self.new ≡ record self.old {
+          declarations = self.old.declarations + 1;
+          definitions = self.old.definitions + defines decl.now;
+        } }
     {
         self.declarations += 1;
         match decl {

@@ -1,7 +1,8 @@
 -- Names and lists of them.
-use Rattle.std.proofs.Common.{◌≡◌, Bool, true, false, cond, ◌||◌, nat_eq, List, [], ◌∷◌, ◌++◌, Option, Some, None, is_some, refl, sym, ◌∙◌, ap}
+use Rattle.std.proofs.Common.{◌≡◌, Bool, true, false, cond, if◌then◌else◌, ◌||◌, nat_eq, List, [], ◌∷◌, ◌++◌, Option, Some, None, is_some, refl, sym, ◌∙◌, ap}
 use Rattle.std.proofs.lemmas.Bool.{eqb-true, eq-eqb, and_from}
 use Rattle.std.specs.Cmp.Lexicographic.{pointwise}
+use Rattle.std.specs.List.{list_any}
 use Rattle.containers.specs.Exact.{IsExact-pointwise}
 use Rattle.csp_text.specs.declared.script.Decl.{Decl}
 use Rattle.script_names.specs.Names.{Name, Entities, declared, first_of, is_among, meanings_of, same_name}
@@ -65,3 +66,23 @@ none_there None h = refl
 
 pub same_meanings : (script : List Decl) (es : Entities) → SameFirsts es (declared script) → first_of es ≡ meanings_of script
 same_meanings script es same = λ i x. same x i
+
+-- a set with one more name
+pub among_longer : (old new : List Name) (x : Name) → new ≡ (if list_any (same_name x) old then old else old ++ x ∷ []) → SameNames new (old ++ x ∷ [])
+among_longer old new x is y = ap (λ zs. is_among zs y) is ∙ by (list_any (same_name x) old) refl
+  where
+    known : (a : Bool) → a ≡ true → a ≡ (a || (true || false))
+    known true e = refl
+    known false e = cc
+
+    other : (a : Bool) → a ≡ (a || (false || false))
+    other true = refl
+    other false = refl
+
+    twice : list_any (same_name x) old ≡ true → (b : Bool) → same_name y x ≡ b → is_among old y ≡ (is_among old y || (b || false))
+    twice there true e = known (is_among old y) (ap (is_among old) (same_exact y x e) ∙ there)
+    twice there false e = other (is_among old y)
+
+    by : (b : Bool) → list_any (same_name x) old ≡ b → is_among (if b then old else old ++ x ∷ []) y ≡ is_among (old ++ x ∷ []) y
+    by true h = twice h (same_name y x) refl ∙ sym (is_among-append old (x ∷ []) y)
+    by false h = refl

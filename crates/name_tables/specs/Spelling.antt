@@ -1,4 +1,4 @@
--- Maps and sets in which names are found by their bytes.
+-- Maps in which bound names are found by their bytes.
 use Rattle.std.specs.Prelude.{ℕ, Option, List, Vec, map}
 use Rattle.std.specs.Ordering.{nat_cmp}
 use Rattle.std.specs.BTreeMap.{BTreeMap, get_by}
@@ -9,12 +9,6 @@ use Rattle.script_names.specs.Names.{Name}
 -- a name's bytes, as they are kept
 abbrev pub Spelling : Type 0
 Spelling = Vec ℕ Global
-
-abbrev pub spelled : List Spelling → List Name
-spelled keys = map (λ k. k.items) keys
-
-abbrev pub spelled_entries : {X : Type 0} → List (Spelling × X) → List (Name × X)
-spelled_entries entries = map (λ e. (e.0.items, e.1)) entries
 
 -- what the map has for the name x
 abbrev pub at_name : {X : Type 0} → BTreeMap Spelling X → Name → Option X

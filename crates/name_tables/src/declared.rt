@@ -8,6 +8,7 @@ ghost use Rattle.name_tables.specs.Firsts.{SameFirsts};
 ghost use Rattle.name_tables.specs.Counted.{counts, total};
 
 use crate::dictionary::Dictionary;
+use containers::Key;
 use csp_base::{Name, NoMemory};
 use csp_text::Decl;
 use script_names::Entity;
@@ -24,12 +25,12 @@ pub struct Numbers {
     pub definitions: u32,
 }
 
-/// The declared names of declarations with what their first declarations make them.
-pub fn dictionary_of(alloc: Global, decls: &[Decl]) -> Result<Dictionary, NoMemory>
+/// The declared names of declarations with what their first declarations make them. Names are found under this key.
+pub fn dictionary_of(alloc: Global, key: Key, decls: &[Decl]) -> Result<Dictionary, NoMemory>
     requires { size decls.now ≤ MOST_BYTES }
     ensures { IfOk result (λ names. SameFirsts names (declared decls.now)) }
 {
-    let mut names = Dictionary::new(alloc);
+    let mut names = Dictionary::new(alloc, key);
     declare_all(alloc, &mut names, decls)?;
     Ok(names)
 }

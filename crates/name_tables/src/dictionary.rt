@@ -2,40 +2,45 @@
 
 ghost use Rattle.std.specs.Prelude.{◌≡◌, false, [], ◌∷◌, ◌++◌, is_some, OnOk};
 ghost use Rattle.name_tables.specs.Firsts.{SameFirsts};
-ghost use Rattle.name_tables.specs.Spelling.{spelled_entries};
 ghost use Rattle.script_names.specs.Names.{first_of};
 
-use crate::numbers::spelling_of;
+use containers::Key;
 use csp_base::{Name, NoMemory};
+use indexmap::IndexMap;
 use script_names::Entity;
 use std::alloc::Global;
-use std::collections::BTreeMap;
 use std::marker::Model;
 
-/// Declared names with what their first declarations make them. A name is found by its place in the order of names, so that no choice of names makes
-/// that slow.
+/// Declared names with what their first declarations make them. A name is found by its hash under a key that the whole script makes, so that no choice of
+/// names makes that slow.
 #[derive(Drop)]
 pub struct Dictionary {
-    entities: BTreeMap<Vec<u8>, Entity>,
+    key: Key,
+    entities: IndexMap<Name, Entity, Key>,
 }
 
 impl Model for Dictionary {
     ghost use Rattle.script_names.specs.Names.{Entities};
-    ghost use Rattle.name_tables.specs.Spelling.{spelled_entries};
 
     ghost Value = { Entities };
 
-    ghost view = { λ d. spelled_entries d.entities.entries };
+    ghost view = { λ d. d.entities.entries };
 }
 
 impl Dictionary {
-    /// No name is declared.
-    pub fn new(alloc: Global) -> Dictionary
+    /// No name is declared. Names are found under this key.
+    pub fn new(alloc: Global, key: Key) -> Dictionary
         ensures { result ≡ [] }
     {
         Dictionary {
-            entities: BTreeMap::new(alloc),
+            key,
+            entities: IndexMap::with_hasher(alloc, key),
         }
+    }
+
+    /// The key under which names are found.
+    pub fn key(&self) -> Key {
+        self.key
     }
 
     /// What the first declaration of the name makes it, if there is one.
@@ -54,37 +59,37 @@ impl Dictionary {
 }
 
 // What the map has for the name.
-fn found_in(entities: &BTreeMap<Vec<u8>, Entity>, name: &Name) -> Option<Entity>
-    ensures { result ≡ first_of (spelled_entries entities.now.entries) name.now }
+fn found_in(entities: &IndexMap<Name, Entity, Key>, name: &Name) -> Option<Entity>
+    ensures { result ≡ first_of entities.now.entries name.now }
 {
-    entities.get(name.as_slice()).copied()
+    entities.get(name).copied()
 }
 
 // One more declaration, which changes nothing where the name is there already.
 fn declare_in(
     alloc: Global,
-    entities: &mut BTreeMap<Vec<u8>, Entity>,
+    entities: &mut IndexMap<Name, Entity, Key>,
     name: &Name,
     entity: Entity,
 ) -> Result<(), NoMemory>
-    ensures { OnOk result (SameFirsts (spelled_entries entities.new.entries) (spelled_entries entities.old.entries ++ (name.now, entity) ∷ [])) }
+    ensures { OnOk result (SameFirsts entities.new.entries (entities.old.entries ++ (name.now, entity) ∷ [])) }
 {
     if found_in(entities, name).is_some() {
         return Ok(());
     }
-    let spelling = spelling_of(alloc, name)?;
-    put_new(entities, spelling, entity)
+    let name = name.try_clone(alloc)?;
+    put_new(entities, name, entity)
 }
 
 // Puts a name in that is not there.
 fn put_new(
-    entities: &mut BTreeMap<Vec<u8>, Entity>,
-    spelling: Vec<u8>,
+    entities: &mut IndexMap<Name, Entity, Key>,
+    name: Name,
     entity: Entity,
 ) -> Result<(), NoMemory>
-    requires { is_some (first_of (spelled_entries entities.old.entries) spelling.items) ≡ false }
-    ensures { OnOk result (SameFirsts (spelled_entries entities.new.entries) (spelled_entries entities.old.entries ++ (spelling.items, entity) ∷ [])) }
+    requires { is_some (first_of entities.old.entries name) ≡ false }
+    ensures { OnOk result (entities.new.entries ≡ entities.old.entries ++ (name, entity) ∷ []) }
 {
-    entities.insert(spelling, entity)?;
+    entities.insert(name, entity)?;
     Ok(())
 }

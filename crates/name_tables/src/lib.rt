@@ -1,4 +1,4 @@
-//! What the names of a script stand for: declared names, bound names, and where the bodies of definitions end. Names are found by their order.
+//! What the names of a script stand for: declared names, bound names, and where the bodies of definitions end.
 #![tactic(auto)]
 
 pub mod declared;

@@ -8,7 +8,7 @@ ghost use Rattle.network_stages.specs.Networks.{IsNetworkOf, IsSpelled, network_
 ghost use Rattle.network_stages.specs.Stages.{HasNoNetwork, SpellsNone};
 ghost use Rattle.script_sizes.specs.Size.{AreSmall};
 
-use containers::Boxed;
+use containers::{Boxed, Key};
 use csp_program::Program;
 use csp_resolve::{Unresolved, resolve};
 use csp_text::Script;
@@ -105,13 +105,19 @@ fn seated(alloc: Global, side: Side, program: Boxed<Program>) -> Result<Spelled,
     }
 }
 
-/// The network of a script that holds no more than a text within the limit spells, or why it has none: it is the script of the text of this side.
-pub fn spell_network(alloc: Global, side: Side, script: &Script) -> Result<Spelled, Stop<Answer>>
+/// The network of a script that holds no more than a text within the limit spells, or why it has none: it is the script of the text of this side. Names are
+/// found under this key, which the text makes.
+pub fn spell_network(
+    alloc: Global,
+    key: Key,
+    side: Side,
+    script: &Script,
+) -> Result<Spelled, Stop<Answer>>
     requires { AreSmall script.now.decls }
     ensures ok { IfOk result (IsNetworkOf script.now) }
     ensures told { IfErr result (Tells (HasNoNetwork side script.now)) }
 {
-    match resolve(alloc, script) {
+    match resolve(alloc, key, script) {
         Ok(program) => seated(alloc, side, program),
         Err(Unresolved::Refused(fault)) => {
             Err(Stop::Told(Answer::NoProgram(side, TextFault::Unresolved(fault))))

@@ -14,7 +14,7 @@ use Rattle.script_names.specs.Contents.{body_of, definitions_from, parameters}
 use Rattle.script_names.specs.Depth.{deepest, depth_within, said_by}
 use Rattle.script_names.specs.Faults.{kind_class, kind_network}
 use Rattle.script_names.specs.Names.{Counts, Meanings, counted, meanings_of, none_yet}
-use Rattle.script_names.specs.Occurrence.{Occurrence}
+use Rattle.script_names.specs.declared.occurrence.Occurrence.{Occurrence}
 use Rattle.script_names.specs.Says.{Said, tree_says}
 use Rattle.script_names.specs.Told.{bodies_from, body_place, counts_of, data_place, declared_after, expanded_body, first_fault, is_data, is_deep, names_declared, need_of, next_definition, parameters_after}
 use Rattle.script_names.specs.Typed.{Reading, Scope, names_of, reading}
@@ -42,7 +42,7 @@ circle_chain defs n r zero = tt
 circle_chain defs n r (suc k) = reach_chain defs n n r k (circle_chain defs n r k)
 
 -- what a definition uses is below it
-pub record IsUsed (f : ℕ → ℕ) (os : List Occurrence) (deep : Bool) (j : ℕ) : Type 0 where
+pub record IsUsed (f : ℕ → ℕ) (os : List (Occurrence Name)) (deep : Bool) (j : ℕ) : Type 0 where
   pub below : f j < deepest f os
   pub shallow : deep ≡ false
 
@@ -66,17 +66,17 @@ module _ (script : List Decl) (ks : List Kind) where
   abbrev m : Meanings
   m = meanings_of script
 
-  abbrev bodies : List (List Occurrence)
+  abbrev bodies : List (List (Occurrence Name))
   bodies = bodies_from m ks 0 script
 
   -- the definition with this number among those of the rest
   abbrev Used : (ℕ → ℕ) → Counts → List Decl → ℕ → ℕ → Type 0
   Used f n rest i j = IsUsed f (said_by (slice_get (bodies_from m ks n.definitions rest) i)) (is_deep ks bodies (n.definitions + i)) j
 
-  one_on : (f : ℕ → ℕ) (n i j : ℕ) (os : List Occurrence) → IsUsed f os (is_deep ks bodies (n + 1 + i)) j → IsUsed f os (is_deep ks bodies (n + suc i)) j
+  one_on : (f : ℕ → ℕ) (n i j : ℕ) (os : List (Occurrence Name)) → IsUsed f os (is_deep ks bodies (n + 1 + i)) j → IsUsed f os (is_deep ks bodies (n + suc i)) j
   one_on f n i j os h = let e : n + 1 + i ≡ n + suc i = omega arith in subst (λ z. IsUsed f os (is_deep ks bodies z) j) e h
 
-  at_first : (f : ℕ → ℕ) (n j : ℕ) (os : List Occurrence) → IsUsed f os (is_deep ks bodies n) j → IsUsed f os (is_deep ks bodies (n + 0)) j
+  at_first : (f : ℕ → ℕ) (n j : ℕ) (os : List (Occurrence Name)) → IsUsed f os (is_deep ks bodies n) j → IsUsed f os (is_deep ks bodies (n + 0)) j
   at_first f n j os h = let e : n ≡ n + 0 = omega arith in subst (λ z. IsUsed f os (is_deep ks bodies z) j) e h
 
   used : (f : ℕ → ℕ) (earlier rest : List Decl) (n : Counts) → counts_of none_yet earlier ≡ n → first_fault script ks earlier rest ≡ None → (i j : ℕ)

@@ -21,7 +21,7 @@ use Rattle.script_names.specs.declared.kinds.Sense.TheVariants as sense
 use Rattle.script_names.specs.declared.kinds.Use.TheVariants as how
 use Rattle.script_names.specs.Faults.{clashes, is_network, kind_class, kind_network, takes_other, when}
 use Rattle.script_names.specs.Names.{Name, Meanings, sense_of}
-use Rattle.script_names.specs.Occurrence.{uses}
+use Rattle.script_names.specs.declared.occurrence.Occurrence.TheVariants.{Uses}
 use Rattle.script_names.specs.Typed.{definition_number}
 use Rattle.typed_laws.proofs.DefUses.{IsDefUse}
 use Rattle.typed_laws.proofs.Passing.{data_at, process_at}
@@ -64,21 +64,21 @@ module _ (p : Content) (ks : List Kind) where
   pub record AllFit (m : Meanings) : Type 0 where
     pub fit : (x : Name) → Fits (m x)
 
-  has_process : (d n : ℕ) (c : Class) (network : Bool) → IsTrue (takes (is_body_of c network) n (slice_get p.defs d)) → clashes ks c need.Process ≡ false
+  has_process : (d n : ℕ) (c : Class) (network : Bool) → IsTrue (takes (is_body_of c network) n (slice_get p.defs d)) → clashes c need.Process ≡ false
       → network ≡ false
       → IsTrue (takes is_process n (slice_get p.defs d))
   has_process d n class.Process false h g k = h
   has_process d n class.Unknown network h g k = absurd (takes_none n (slice_get p.defs d) h)
   has_process d n _ _ h g k = absurd (cc)
 
-  has_network : (d n : ℕ) (c : Class) (network : Bool) → IsTrue (takes (is_body_of c network) n (slice_get p.defs d)) → clashes ks c need.Process ≡ false
+  has_network : (d n : ℕ) (c : Class) (network : Bool) → IsTrue (takes (is_body_of c network) n (slice_get p.defs d)) → clashes c need.Process ≡ false
       → network ≡ true
       → IsTrue (takes order.is_network n (slice_get p.defs d))
   has_network d n class.Process true h g k = h
   has_network d n class.Unknown network h g k = absurd (takes_none n (slice_get p.defs d) h)
   has_network d n _ _ h g k = absurd (cc)
 
-  pub has_datum : (d n : ℕ) (c : Class) (network : Bool) → IsTrue (takes (is_body_of c network) n (slice_get p.defs d)) → clashes ks c need.Data ≡ false
+  pub has_datum : (d n : ℕ) (c : Class) (network : Bool) → IsTrue (takes (is_body_of c network) n (slice_get p.defs d)) → clashes c need.Data ≡ false
       → IsTrue (takes is_datum n (slice_get p.defs d))
   has_datum d n class.Data network h g = h
   has_datum d n class.Process network h g = absurd (cc)
@@ -96,7 +96,7 @@ module _ (p : Content) (ks : List Kind) where
       (component_body network def.body (two (is_body_of class.Process network def.body) (nat_eq (length def.params) n) h).0)
       (two (is_body_of class.Process network def.body) (nat_eq (length def.params) n) h).1
 
-  pub has_component : (d n : ℕ) (c : Class) (network : Bool) → IsTrue (takes (is_body_of c network) n (slice_get p.defs d)) → clashes ks c need.Process ≡ false
+  pub has_component : (d n : ℕ) (c : Class) (network : Bool) → IsTrue (takes (is_body_of c network) n (slice_get p.defs d)) → clashes c need.Process ≡ false
       → IsTrue (takes is_component n (slice_get p.defs d))
   has_component d n class.Data network h g = absurd (cc)
   has_component d n class.Process network h g = takes_component network n (slice_get p.defs d) h

@@ -23,7 +23,8 @@ use Rattle.script_names.specs.declared.kinds.Sense.{Sense}
 use Rattle.script_names.specs.declared.kinds.Use.TheVariants as how
 use Rattle.script_names.specs.Depth.{deepest, reach}
 use Rattle.script_names.specs.Names.{Name, Meanings, sense_in, sense_of}
-use Rattle.script_names.specs.Occurrence.{Occurrence, uses, form, parallel}
+use Rattle.script_names.specs.declared.occurrence.Occurrence.{Occurrence}
+use Rattle.script_names.specs.declared.occurrence.Occurrence.TheVariants.{Uses, Form, Parallel}
 use Rattle.script_names.specs.Says.{Binder, Fields, Said, all_say, in_turn, part_says}
 use Rattle.script_names.specs.Says as says
 use Rattle.script_names.specs.Typed.{Binding, Front, Reading, Scope, all_bind, bindings, channel_number, definition_number, exprs, named, names_of, part, parts, parts_bind, under}
@@ -53,29 +54,29 @@ deep_first k a b c h g = elim (lt_max k a b g) [ inl l ↦ above_first k a c l |
 
 module _ (depth : ℕ → ℕ) where
   -- each of these definitions is said, and what says it reaches below it
-  pub record IsBelow (names : Names) (os : List Occurrence) : Type 0 where
+  pub record IsBelow (names : Names) (os : List (Occurrence Name)) : Type 0 where
     pub at : (d : ℕ) → IsTrue (names d) → depth d < deepest depth os
 
-  deep_left : (k : ℕ) (os ps : List Occurrence) → k < deepest depth os → k < deepest depth (os ++ ps)
+  deep_left : (k : ℕ) (os ps : List (Occurrence Name)) → k < deepest depth os → k < deepest depth (os ++ ps)
   deep_left k [] ps h = absurd (omega (arith, h))
   deep_left k (o ∷ os) ps h = deep_first k (reach depth o) (deepest depth os) (deepest depth (os ++ ps)) (deep_left k os ps) h
 
-  deep_right : (k : ℕ) (os ps : List Occurrence) → k < deepest depth ps → k < deepest depth (os ++ ps)
+  deep_right : (k : ℕ) (os ps : List (Occurrence Name)) → k < deepest depth ps → k < deepest depth (os ++ ps)
   deep_right k [] ps h = h
   deep_right k (o ∷ os) ps h = above_second k (reach depth o) (deepest depth (os ++ ps)) (deep_right k os ps h)
 
-  nowhere_below : (os : List Occurrence) → IsBelow nowhere os
+  nowhere_below : (os : List (Occurrence Name)) → IsBelow nowhere os
   nowhere_below os = record { at = λ d t. absurd (false≢true t) }
 
-  either_below : {a b : Names} (os ps : List Occurrence) → IsBelow a os → IsBelow b ps → IsBelow (either a b) (os ++ ps)
+  either_below : {a b : Names} (os ps : List (Occurrence Name)) → IsBelow a os → IsBelow b ps → IsBelow (either a b) (os ++ ps)
   either_below {a} {b} os ps h g = record {
     at = λ d t. elim (or_cases (a d) (b d) t) [ inl l ↦ deep_left (depth d) os ps (h.at d l) | inr r ↦ deep_right (depth d) os ps (g.at d r) ];
   }
 
-  later_below : {a : Names} {os : List Occurrence} (o : Occurrence) → IsBelow a os → IsBelow a (o ∷ os)
+  later_below : {a : Names} {os : List (Occurrence Name)} (o : Occurrence Name) → IsBelow a os → IsBelow a (o ∷ os)
   later_below {a} {os} o h = record { at = λ d t. above_second (depth d) (reach depth o) (deepest depth os) (h.at d t) }
 
-  first_below : {b : Names} {os : List Occurrence} (d : ℕ) (o : Occurrence) → depth d < reach depth o → IsBelow b os
+  first_below : {b : Names} {os : List (Occurrence Name)} (d : ℕ) (o : Occurrence Name) → depth d < reach depth o → IsBelow b os
       → IsBelow (either (λ n. nat_eq d n) b) (o ∷ os)
   first_below {b} {os} d o l h = record {
     at = λ k t. elim (or_cases (nat_eq d k) (b k) t) [
@@ -84,24 +85,24 @@ module _ (depth : ℕ → ℕ) where
     ];
   }
 
-  one_below : (d : ℕ) (o : Occurrence) → depth d < reach depth o → IsBelow (λ n. nat_eq d n) (o ∷ [])
+  one_below : (d : ℕ) (o : Occurrence Name) → depth d < reach depth o → IsBelow (λ n. nat_eq d n) (o ∷ [])
   one_below d o l = record { at = λ k t. above_first (depth k) (reach depth o) (deepest depth []) (subst (λ z. depth z < reach depth o) (eqb-true d k t) l) }
 
   -- ---- one layer
 
-  expr_below : {os : List Occurrence} (d : Expr-F Expr Gen EventPart) {e : Expr} → roll-Expr d ≡ e
+  expr_below : {os : List (Occurrence Name)} (d : Expr-F Expr Gen EventPart) {e : Expr} → roll-Expr d ≡ e
       → IsBelow (expr_uses_of_layer (map-Expr Expr Gen EventPart Names Names Names expr_uses gen_uses part_uses d)) os → IsBelow (expr_uses e) os
   expr_below {os} d is h =
       subst (λ z. IsBelow (expr_uses z) os) is
       (subst (λ z. IsBelow z os) (sym (fold-roll-Expr Names Names Names expr_uses_of_layer gen_uses_of_layer part_uses_of_layer d)) h)
 
-  gen_below : {os : List Occurrence} (d : Gen-F Expr Gen EventPart) {g : Gen} → roll-Gen d ≡ g
+  gen_below : {os : List (Occurrence Name)} (d : Gen-F Expr Gen EventPart) {g : Gen} → roll-Gen d ≡ g
       → IsBelow (gen_uses_of_layer (map-Gen Expr Gen EventPart Names Names Names expr_uses gen_uses part_uses d)) os → IsBelow (gen_uses g) os
   gen_below {os} d is h =
       subst (λ z. IsBelow (gen_uses z) os) is
       (subst (λ z. IsBelow z os) (sym (fold-roll-Gen Names Names Names expr_uses_of_layer gen_uses_of_layer part_uses_of_layer d)) h)
 
-  part_below : {os : List Occurrence} (c : ℕ) (es : List Expr) → IsBelow (any_of (map expr_uses es)) os
+  part_below : {os : List (Occurrence Name)} (c : ℕ) (es : List Expr) → IsBelow (any_of (map expr_uses es)) os
       → IsBelow (part_uses (roll-EventPart (record { channel = c; fields = es }))) os
   part_below {os} c es h =
       subst (λ z. IsBelow z os)
@@ -113,30 +114,30 @@ module _ (depth : ℕ → ℕ) where
   under_level k l h = omega arith
 
   alone_below : (x : Name) (e : Option Entity) (b : Bool) (l : ℕ) → 0 < l → IsBelow (expr_uses (named None e))
-      (uses x (sense_of e) (how.Alone (data_at b l)) ∷ [])
+      (Uses x (sense_of e) (how.Alone (data_at b l)) ∷ [])
   alone_below x None b l h = expr_below _ (expr.rolls-Num _) (nowhere_below _)
   alone_below x (Some (entity.Channel c n)) b l h = expr_below _ (expr.rolls-Event _ _) (nowhere_below _)
   alone_below x (Some (entity.Constant k)) b l h = expr_below _ (expr.rolls-Const _) (nowhere_below _)
   alone_below x (Some (entity.Definition d n)) b l h =
-      expr_below _ (expr.rolls-Call _ _) (first_below d (uses x (sense_of (Some (entity.Definition d n))) (how.Alone (data_at b l))) (under_level (depth d) l h) (nowhere_below []))
+      expr_below _ (expr.rolls-Call _ _) (first_below d (Uses x (sense_of (Some (entity.Definition d n))) (how.Alone (data_at b l))) (under_level (depth d) l h) (nowhere_below []))
   alone_below x (Some (entity.Set d)) b l h =
-      expr_below _ (expr.rolls-SetName _) (one_below d (uses x (sense_of (Some (entity.Set d))) (how.Alone (data_at b l))) (under_level (depth d) l h))
+      expr_below _ (expr.rolls-SetName _) (one_below d (Uses x (sense_of (Some (entity.Set d))) (how.Alone (data_at b l))) (under_level (depth d) l h))
 
   named_below : {m : Meanings} {x : Name} {o : Option ℕ} {s : Sense} → NameIs m x o s → (b : Bool) (l : ℕ) → 0 < l
-      → IsBelow (expr_uses (named o (m x))) (uses x s (how.Alone (data_at b l)) ∷ [])
+      → IsBelow (expr_uses (named o (m x))) (Uses x s (how.Alone (data_at b l)) ∷ [])
   named_below (is_bound k) b l h = expr_below _ (expr.rolls-Bound _) (nowhere_below _)
   named_below {m} {x} is_free b l h = alone_below x (m x) b l h
 
   module _ (ks : List Kind) where
-    called_entity : (x : Name) (e : Option Entity) (k : ℕ) (b : Bool) (l : ℕ) → 0 < l → IsFine ks (uses x (sense_of e) (how.Called k (data_at b l)))
-        → depth (definition_number e) < reach depth (uses x (sense_of e) (how.Called k (data_at b l)))
+    called_entity : (x : Name) (e : Option Entity) (k : ℕ) (b : Bool) (l : ℕ) → 0 < l → IsFine ks (Uses x (sense_of e) (how.Called k (data_at b l)))
+        → depth (definition_number e) < reach depth (Uses x (sense_of e) (how.Called k (data_at b l)))
     called_entity x None k b l h fine = absurd (let g = fine.known in cc)
     called_entity x (Some (entity.Definition d n)) k b l h fine = under_level (depth d) l h
     called_entity x _ k b l h fine = absurd (let g = fine.kind in cc)
 
     called_below : {m : Meanings} {x : Name} {o : Option ℕ} {s : Sense} → NameIs m x o s → (k : ℕ) (b : Bool) (l : ℕ) → 0 < l
-        → IsFine ks (uses x s (how.Called k (data_at b l)))
-        → depth (definition_number (m x)) < reach depth (uses x s (how.Called k (data_at b l)))
+        → IsFine ks (Uses x s (how.Called k (data_at b l)))
+        → depth (definition_number (m x)) < reach depth (Uses x s (how.Called k (data_at b l)))
     called_below (is_bound i) k b l h fine = absurd (let g = fine.kind in cc)
     called_below {m} {x} is_free k b l h fine = called_entity x (m x) k b l h fine
 
@@ -149,13 +150,13 @@ module _ (depth : ℕ → ℕ) where
     of_data : (rest : Said) (r : Reading)
         → ((scope : Scope) (n : ℕ) (b : Bool) (l : ℕ) → 0 < l → AllFine ks (rest (data_at b l) (names_of scope))
         → IsBelow (expr_uses (r.expr scope n)) (rest (data_at b l) (names_of scope)))
-        → Leads (λ place names. form class.Data place ∷ rest place names) r
-    of_data rest r h = record { expr = λ scope n b l z fine. later_below (form class.Data (data_at b l)) (h scope n b l z fine.1) }
+        → Leads (λ place names. Form class.Data place ∷ rest place names) r
+    of_data rest r h = record { expr = λ scope n b l z fine. later_below (Form class.Data (data_at b l)) (h scope n b l z fine.1) }
 
-    of_process : (rest : Said) (r : Reading) → Leads (λ place names. form class.Process place ∷ rest place names) r
+    of_process : (rest : Said) (r : Reading) → Leads (λ place names. Form class.Process place ∷ rest place names) r
     of_process rest r = record { expr = λ scope n b l z fine. absurd (let g = fine.0.kind in cc) }
 
-    of_network : (rest : Said) (r : Reading) → Leads (λ place names. parallel place ∷ rest place names) r
+    of_network : (rest : Said) (r : Reading) → Leads (λ place names. Parallel place ∷ rest place names) r
     of_network rest r = record { expr = λ scope n b l z fine. absurd (let g = fine.0.kind in cc) }
 
     more : (l : ℕ) → 0 < l + 1
@@ -174,7 +175,7 @@ module _ (depth : ℕ → ℕ) where
         leads (f.name x) = record { expr = λ scope n b l z fine. named_below (name_is m scope x) b l z }
         leads (f.call x {args = ss} {args' = args} h) = record {
           expr = λ scope n b l z fine.
-              expr_below _ (expr.rolls-Call _ _) (first_below (definition_number (m x)) (uses x (sense_in m (names_of scope) x) (how.Called (length ss) (data_at b l)))
+              expr_below _ (expr.rolls-Call _ _) (first_below (definition_number (m x)) (Uses x (sense_in m (names_of scope) x) (how.Called (length ss) (data_at b l)))
               (called_below (name_is m scope x) (length ss) b l z fine.0)
               (exprs_lead h scope n false (l + 1) (more l) fine.1));
         }

@@ -33,7 +33,7 @@ use Rattle.script_names.specs.declared.kinds.Sense.TheVariants as sense
 use Rattle.script_names.specs.declared.kinds.Use.TheVariants as how
 use Rattle.script_names.specs.Faults.{when, wrong_count}
 use Rattle.script_names.specs.Names.{Name, Meanings, sense_of}
-use Rattle.script_names.specs.Occurrence.{uses, form, parallel}
+use Rattle.script_names.specs.declared.occurrence.Occurrence.TheVariants.{Uses, Form, Parallel}
 use Rattle.script_names.specs.Says.{Said}
 use Rattle.script_names.specs.Typed.{Reading, Scope, channel_number, head_of, named, names_of}
 use Rattle.typed_laws.proofs.Faultless.{AllFine, IsFine}
@@ -97,7 +97,7 @@ module _ (p : Content) (ks : List Kind) where
 
   pub of_data : (rest : Said) (binds : ℕ) (e : Scope → ℕ → Expr) (q : Scope → ℕ → Proc) (k : Scope → ℕ → Net) (networked : Scope → Bool)
       → ((scope : Scope) (n : ℕ) (b : Bool) (l : ℕ) → AllFine ks (rest (data_at b l) (names_of scope)) → IsTrue (expr_in_order p (e scope n)))
-      → Ordered (λ place names. form class.Data place ∷ rest place names) (record { binds = binds; expr = e; proc = q; net = k; networked = networked })
+      → Ordered (λ place names. Form class.Data place ∷ rest place names) (record { binds = binds; expr = e; proc = q; net = k; networked = networked })
   of_data rest binds e q k networked h = record {
     expr = λ scope n b l fine. h scope n b l fine.1;
     proc = λ scope n b l is fine. absurd (let g = fine.0.kind in cc);
@@ -106,7 +106,7 @@ module _ (p : Content) (ks : List Kind) where
 
   pub of_process : (rest : Said) (binds : ℕ) (e : Scope → ℕ → Expr) (q : Scope → ℕ → Proc)
       → ((scope : Scope) (n : ℕ) (b : Bool) (l : ℕ) → AllFine ks (rest (process_at b l) (names_of scope)) → IsTrue (proc_in_order p (q scope n)))
-      → Ordered (λ place names. form class.Process place ∷ rest place names)
+      → Ordered (λ place names. Form class.Process place ∷ rest place names)
       (record { binds = binds; expr = e; proc = q; net = λ scope n. net.Leaf (q scope n); networked = λ scope. false })
   of_process rest binds e q h = record {
     expr = λ scope n b l fine. absurd (let g = fine.0.kind in cc);
@@ -116,7 +116,7 @@ module _ (p : Content) (ks : List Kind) where
 
   pub of_network : (rest : Said) (binds : ℕ) (e : Scope → ℕ → Expr) (q : Scope → ℕ → Proc) (k : Scope → ℕ → Net)
       → ((scope : Scope) (n l : ℕ) → AllFine ks (rest (process_at true l) (names_of scope)) → IsTrue (net_in_order p (k scope n)))
-      → Ordered (λ place names. parallel place ∷ rest place names) (record { binds = binds; expr = e; proc = q; net = k; networked = λ scope. true })
+      → Ordered (λ place names. Parallel place ∷ rest place names) (record { binds = binds; expr = e; proc = q; net = k; networked = λ scope. true })
   of_network rest binds e q k h = record {
     expr = λ scope n b l fine. absurd (let g = fine.0.kind in cc);
     proc = λ scope n b l is fine. absurd (not_both b is fine.0.inside);
@@ -148,7 +148,7 @@ module _ (p : Content) (ks : List Kind) where
   at_least n k (Some channel) h g = fits_under n k (length channel.types) h g
 
   -- an expression that is a name alone
-  alone_expr : (x : Name) (e : Option Entity) (b : Bool) (l : ℕ) → Fits p ks e → IsFine ks (uses x (sense_of e) (how.Alone (data_at b l)))
+  alone_expr : (x : Name) (e : Option Entity) (b : Bool) (l : ℕ) → Fits p ks e → IsFine ks (Uses x (sense_of e) (how.Alone (data_at b l)))
       → IsTrue (expr_in_order p (named None e))
   alone_expr x None b l h fine = absurd (let g = fine.known in cc)
   alone_expr x (Some (entity.Channel c n)) b l h fine =
@@ -166,45 +166,45 @@ module _ (p : Content) (ks : List Kind) where
   alone_expr x (Some (entity.Set d)) b l h fine = expr_order _ (expr.rolls-SetName _) h
 
   pub named_expr : {m : Meanings} {x : Name} {o : Option ℕ} {s : Sense} → NameIs m x o s → AllFit p ks m → (b : Bool) (l : ℕ)
-      → IsFine ks (uses x s (how.Alone (data_at b l)))
+      → IsFine ks (Uses x s (how.Alone (data_at b l)))
       → IsTrue (expr_in_order p (named o (m x)))
   named_expr (is_bound k) fits b l fine = expr_order _ (expr.rolls-Bound _) refl
   named_expr {m} {x} is_free fits b l fine = alone_expr x (m x) b l (fits.fit x) fine
 
   -- the channel of an event with all of its fields
-  event_entity : (x : Name) (e : Option Entity) (k : ℕ) → Fits p ks e → IsFine ks (uses x (sense_of e) (how.Dotted k))
+  event_entity : (x : Name) (e : Option Entity) (k : ℕ) → Fits p ks e → IsFine ks (Uses x (sense_of e) (how.Dotted k))
       → IsTrue (with_fields (λ i. nat_eq i k) (slice_get p.channels (channel_number e)))
   event_entity x None k h fine = absurd (let g = fine.known in cc)
   event_entity x (Some (entity.Channel c n)) k h fine = with_count n k (slice_get p.channels c) (same_count n k (when_none (not (nat_eq n k)) x fine.count)) h
   event_entity x _ k h fine = absurd (let g = fine.kind in cc)
 
-  pub event_order : {m : Meanings} {x : Name} {o : Option ℕ} {s : Sense} → NameIs m x o s → AllFit p ks m → (k : ℕ) → IsFine ks (uses x s (how.Dotted k))
+  pub event_order : {m : Meanings} {x : Name} {o : Option ℕ} {s : Sense} → NameIs m x o s → AllFit p ks m → (k : ℕ) → IsFine ks (Uses x s (how.Dotted k))
       → IsTrue (with_fields (λ i. nat_eq i k) (slice_get p.channels (channel_number (m x))))
   event_order (is_bound k) fits n fine = absurd (let g = fine.kind in cc)
   event_order {m} {x} is_free fits n fine = event_entity x (m x) n (fits.fit x) fine
 
   -- the head of a prefix
-  head_entity : (x : Name) (e : Option Entity) (k : ℕ) → Fits p ks e → IsFine ks (uses x (sense_of e) (how.Heads k))
+  head_entity : (x : Name) (e : Option Entity) (k : ℕ) → Fits p ks e → IsFine ks (Uses x (sense_of e) (how.Heads k))
       → IsTrue (with_fields (λ i. nat_eq i k) (slice_get p.channels (channel_number e)))
   head_entity x None k h fine = absurd (let g = fine.known in cc)
   head_entity x (Some (entity.Channel c n)) k h fine = with_count n k (slice_get p.channels c) (same_count n k (when_none (not (nat_eq n k)) x fine.count)) h
   head_entity x _ zero h fine = absurd (let g = fine.kind in cc)
   head_entity x _ (suc k) h fine = absurd (let g = fine.kind in cc)
 
-  pub head_order : {m : Meanings} {x : Name} {o : Option ℕ} {s : Sense} → NameIs m x o s → AllFit p ks m → (k : ℕ) → IsFine ks (uses x s (how.Heads k))
+  pub head_order : {m : Meanings} {x : Name} {o : Option ℕ} {s : Sense} → NameIs m x o s → AllFit p ks m → (k : ℕ) → IsFine ks (Uses x s (how.Heads k))
       → IsTrue (head_in_order p (head_of o (m x)) k)
   head_order (is_bound k) fits zero fine = refl
   head_order (is_bound k) fits (suc n) fine = absurd (let g = fine.kind in cc)
   head_order {m} {x} is_free fits n fine = head_entity x (m x) n (fits.fit x) fine
 
   -- the front of an event
-  front_entity : (x : Name) (e : Option Entity) (k : ℕ) → Fits p ks e → IsFine ks (uses x (sense_of e) (how.Begins k))
+  front_entity : (x : Name) (e : Option Entity) (k : ℕ) → Fits p ks e → IsFine ks (Uses x (sense_of e) (how.Begins k))
       → IsTrue (with_fields (nat_le k) (slice_get p.channels (channel_number e)))
   front_entity x None k h fine = absurd (let g = fine.known in cc)
   front_entity x (Some (entity.Channel c n)) k h fine = at_least n k (slice_get p.channels c) (when_none (nat_lt n k) x fine.count) h
   front_entity x _ k h fine = absurd (let g = fine.kind in cc)
 
-  pub front_order : {m : Meanings} {x : Name} {o : Option ℕ} {s : Sense} → NameIs m x o s → AllFit p ks m → (k : ℕ) → IsFine ks (uses x s (how.Begins k))
+  pub front_order : {m : Meanings} {x : Name} {o : Option ℕ} {s : Sense} → NameIs m x o s → AllFit p ks m → (k : ℕ) → IsFine ks (Uses x s (how.Begins k))
       → IsTrue (with_fields (nat_le k) (slice_get p.channels (channel_number (m x))))
   front_order (is_bound k) fits n fine = absurd (let g = fine.kind in cc)
   front_order {m} {x} is_free fits n fine = front_entity x (m x) n (fits.fit x) fine
@@ -214,9 +214,9 @@ module _ (p : Content) (ks : List Kind) where
   count_is n None h = absurd (false≢true h)
   count_is n (Some channel) h = eqb-true (length channel.types) n h
 
-  renamed_entity : (x y : Name) (e e' : Option Entity) (k k' : ℕ) → Fits p ks e → Fits p ks e' → IsFine ks (uses x (sense_of e) (how.Begins k))
-      → IsFine ks (uses y (sense_of e') (how.Begins k'))
-      → wrong_count (uses x (sense_of e) (how.Renamed k (sense_of e') k')) ≡ None
+  renamed_entity : (x y : Name) (e e' : Option Entity) (k k' : ℕ) → Fits p ks e → Fits p ks e' → IsFine ks (Uses x (sense_of e) (how.Begins k))
+      → IsFine ks (Uses y (sense_of e') (how.Begins k'))
+      → wrong_count (Uses x (sense_of e) (how.Renamed k (sense_of e') k')) ≡ None
       → field_count (slice_get p.channels (channel_number e)) - k ≡ field_count (slice_get p.channels (channel_number e')) - k'
   renamed_entity x y (Some (entity.Channel i n)) (Some (entity.Channel j n')) k k' h g a b c =
       ap (λ z. z - k) (count_is n (slice_get p.channels i) h) ∙
@@ -231,8 +231,8 @@ module _ (p : Content) (ks : List Kind) where
   renamed_entity x y _ e' k k' h g a b c = absurd (let z = a.kind in cc)
 
   pub renamed_order : {m : Meanings} {x y : Name} {o o' : Option ℕ} {s s' : Sense} → NameIs m x o s → NameIs m y o' s' → AllFit p ks m → (k k' : ℕ)
-      → IsFine ks (uses x s (how.Begins k))
-      → IsFine ks (uses y s' (how.Begins k')) → wrong_count (uses x s (how.Renamed k s' k')) ≡ None
+      → IsFine ks (Uses x s (how.Begins k))
+      → IsFine ks (Uses y s' (how.Begins k')) → wrong_count (Uses x s (how.Renamed k s' k')) ≡ None
       → field_count (slice_get p.channels (channel_number (m x))) - k ≡ field_count (slice_get p.channels (channel_number (m y))) - k'
   renamed_order (is_bound i) v fits k k' a b c = absurd (let z = a.kind in cc)
   renamed_order is_free (is_bound i) fits k k' a b c = absurd (let z = b.kind in cc)

@@ -22,7 +22,7 @@ use Rattle.script_names.specs.declared.kinds.Place.{Place}
 use Rattle.script_names.specs.declared.kinds.Use.TheVariants as how
 use Rattle.script_names.specs.Faults.{is_network}
 use Rattle.script_names.specs.Names.{Name, Meanings, sense_in}
-use Rattle.script_names.specs.Occurrence.{uses}
+use Rattle.script_names.specs.declared.occurrence.Occurrence.TheVariants.{Uses}
 use Rattle.script_names.specs.Says.{Binder, Fields, Said, all_say, in_turn, pair_says, part_says}
 use Rattle.script_names.specs.Says as says
 use Rattle.script_names.specs.Typed.{Binding, Front, Reading, Scope, all_bind, bindings, bindings_bind, channel_number, definition_number, exprs, head_of, names_of, number_of, pairs, pairs_bind, part, parts, parts_bind, procs, under, with}
@@ -69,7 +69,7 @@ module _ (p : Content) (m : Meanings) (ks : List Kind) (fits : AllFit p ks m) wh
 
   process_call : {ts : List Tree} {ss : List Said} {rs : List Reading} (x : Name) → AllRead m ks ts ss rs → (scope : Scope) (n : ℕ) (b : Bool) (l : ℕ)
       → (b && is_network ks (sense_in m (names_of scope) x)) ≡ false
-      → IsFine ks (uses x (sense_in m (names_of scope) x) (how.Called (length ss) (process_at b l)))
+      → IsFine ks (Uses x (sense_in m (names_of scope) x) (how.Called (length ss) (process_at b l)))
       → IsTrue (takes is_process (length (exprs rs scope n)) (slice_get p.defs (definition_number (m x))))
   process_call {ss} {rs} x h scope n b l is fine =
       subst (λ k. IsTrue (takes is_process k (slice_get p.defs (definition_number (m x))))) (count_exprs h scope n)
@@ -78,7 +78,7 @@ module _ (p : Content) (m : Meanings) (ks : List Kind) (fits : AllFit p ks m) wh
 
   network_call : {ts : List Tree} {ss : List Said} {rs : List Reading} (x : Name) → AllRead m ks ts ss rs → (scope : Scope) (n : ℕ) (l : ℕ)
       → is_network ks (sense_in m (names_of scope) x) ≡ true
-      → IsFine ks (uses x (sense_in m (names_of scope) x) (how.Called (length ss) (process_at true l)))
+      → IsFine ks (Uses x (sense_in m (names_of scope) x) (how.Called (length ss) (process_at true l)))
       → IsTrue (takes order.is_network (length (exprs rs scope n)) (slice_get p.defs (definition_number (m x))))
   network_call {ss} {rs} x h scope n l is fine =
       subst (λ k. IsTrue (takes order.is_network k (slice_get p.defs (definition_number (m x))))) (count_exprs h scope n)
@@ -86,13 +86,13 @@ module _ (p : Content) (m : Meanings) (ks : List Kind) (fits : AllFit p ks m) wh
       (called ks (name_is m scope x) (length ss) (process_at true l) fine) is)
 
   process_name : (x : Name) (scope : Scope) (b : Bool) (l : ℕ) → (b && is_network ks (sense_in m (names_of scope) x)) ≡ false
-      → IsFine ks (uses x (sense_in m (names_of scope) x) (how.Alone (process_at b l))) → IsTrue
+      → IsFine ks (Uses x (sense_in m (names_of scope) x) (how.Alone (process_at b l))) → IsTrue
       (takes is_process 0 (slice_get p.defs (definition_number (m x))))
   process_name x scope b l is fine =
       use_process p ks (m x) (sense_in m (names_of scope) x) 0 b l (fits.fit x) (alone ks (name_is m scope x) b l fine) is
 
   network_name : (x : Name) (scope : Scope) (l : ℕ) → is_network ks (sense_in m (names_of scope) x) ≡ true
-      → IsFine ks (uses x (sense_in m (names_of scope) x) (how.Alone (process_at true l))) → IsTrue
+      → IsFine ks (Uses x (sense_in m (names_of scope) x) (how.Alone (process_at true l))) → IsTrue
       (takes order.is_network 0 (slice_get p.defs (definition_number (m x))))
   network_name x scope l is fine =
       use_network p ks (m x) (sense_in m (names_of scope) x) 0 true l (fits.fit x) (alone ks (name_is m scope x) true l fine) is

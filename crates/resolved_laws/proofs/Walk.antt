@@ -23,7 +23,7 @@ use Rattle.script_names.specs.declared.kinds.Use.TheVariants as how
 use Rattle.script_names.specs.Contents.{body_of, channels_of, constants_of, definitions_from, first_assertion, numbers_from, parameters, resources_of, roles_of, root_of}
 use Rattle.script_names.specs.Faults.{kind_class, kind_network}
 use Rattle.script_names.specs.Names.{Counts, Meanings, Name, counted, meanings_of, none_yet, sense_in, sense_of}
-use Rattle.script_names.specs.Occurrence.{uses}
+use Rattle.script_names.specs.declared.occurrence.Occurrence.TheVariants.{Uses}
 use Rattle.script_names.specs.Says.{Said, tree_says}
 use Rattle.script_names.specs.Told.{body_place, counts_of, data_place, declared_after, first_fault, names_declared, need_of, next_definition, parameters_after, types_say}
 use Rattle.script_names.specs.Typed.{Reading, Scope, definition_number, exprs, names_of, reading}
@@ -62,7 +62,7 @@ takes_count of_class n (Some def) h = sym (eqb-true (length def.params) n (two (
 module _ (p : Content) (ks : List Kind) where
   -- ---- annotations
 
-  note_entity : (x : Name) (e : Option Entity) → Fits p ks e → IsFine ks (uses x (sense_of e) how.Annotated) → IsTrue (note_fits p (definition_number e))
+  note_entity : (x : Name) (e : Option Entity) → Fits p ks e → IsFine ks (Uses x (sense_of e) how.Annotated) → IsTrue (note_fits p (definition_number e))
   note_entity x None h fine = absurd (let g = fine.known in cc)
   note_entity x (Some (entity.Definition d n)) h fine =
       subst (λ k. IsTrue (takes is_component k (slice_get p.defs d)))
@@ -70,8 +70,8 @@ module _ (p : Content) (ks : List Kind) where
       (has_component p ks d n (kind_class (slice_get ks d)) (kind_network (slice_get ks d)) h fine.kind)
   note_entity x _ h fine = absurd (let g = fine.kind in cc)
 
-  set_entity : (x y : Name) (e e' : Option Entity) → Fits p ks e → Fits p ks e' → IsFine ks (uses x (sense_of e) how.Annotated)
-      → IsFine ks (uses y (sense_of e') (how.Annotates (sense_of e)))
+  set_entity : (x y : Name) (e e' : Option Entity) → Fits p ks e → Fits p ks e' → IsFine ks (Uses x (sense_of e) how.Annotated)
+      → IsFine ks (Uses y (sense_of e') (how.Annotates (sense_of e)))
       → IsTrue (set_fits p (definition_number e) (definition_number e'))
   set_entity x y None e' h g fine fine' = absurd (let z = fine.known in cc)
   set_entity x y (Some (entity.Definition d n)) None h g fine fine' = absurd (let z = fine'.known in cc)
@@ -97,12 +97,12 @@ module _ (script : List Decl) (ks : List Kind) (p : Content) (fits : AllFit p ks
   abbrev m : Meanings
   m = meanings_of script
 
-  types_order : (types : List Tree) (n : ℕ) → AllFine ks (types_say m ks types) → IsTrue
+  types_order : (types : List Tree) (n : ℕ) → AllFine ks (types_say m types) → IsTrue
       (all_true (map (expr_in_order p) (exprs (map (reading m ks) types) [] n)))
   types_order [] n fine = refl
   types_order (t ∷ types) n fine =
-      and ((ordered p m ks fits (made m ks t)).expr [] n false 1 (fine_left ks (tree_says m t data_place []) (types_say m ks types) fine))
-      (types_order types (n + (reading m ks t).binds) (fine_right ks (tree_says m t data_place []) (types_say m ks types) fine))
+      and ((ordered p m ks fits (made m ks t)).expr [] n false 1 (fine_left ks (tree_says m t data_place []) (types_say m types) fine))
+      (types_order types (n + (reading m ks t).binds) (fine_right ks (tree_says m t data_place []) (types_say m types) fine))
 
   -- the types of a channel are in order
   abbrev pub have_order : Channel → Bool
@@ -116,7 +116,7 @@ module _ (script : List Decl) (ks : List Kind) (p : Content) (fits : AllFit p ks
   channel_order : (earlier : List Decl) (d : Decl) (rest : List Decl) → first_fault script ks earlier (d ∷ rest) ≡ None
       → IsTrue (all_true (map have_order (channels_of m ks d)))
   channel_order earlier (decl.Channel xs types) rest h =
-      same_types xs types (types_order types 0 (fine_right ks (declared_after (names_declared earlier) xs) (types_say m ks types)
+      same_types xs types (types_order types 0 (fine_right ks (declared_after (names_declared earlier) xs) (types_say m types)
       (first_faultless script ks earlier (decl.Channel xs types) rest h).fine))
   channel_order earlier _ rest h = refl
 
@@ -161,8 +161,8 @@ module _ (script : List Decl) (ks : List Kind) (p : Content) (fits : AllFit p ks
   defs_order earlier (d ∷ rest) n is h hd hk =
       defs_order (earlier ++ d ∷ []) rest (counted n d) (counted_on earlier d n is) (rest_faultless script ks earlier d rest h) hd hk
 
-  set_order : (process set : Name) → IsFine ks (uses process (sense_in m [] process) how.Annotated)
-      → IsFine ks (uses set (sense_in m [] set) (how.Annotates (sense_in m [] process)))
+  set_order : (process set : Name) → IsFine ks (Uses process (sense_in m [] process) how.Annotated)
+      → IsFine ks (Uses set (sense_in m [] set) (how.Annotates (sense_in m [] process)))
       → IsTrue (set_fits p (definition_number (m process)) (definition_number (m set)))
   set_order process set h g = set_entity p ks process set (m process) (m set) (fits.fit process) (fits.fit set) h g
 

@@ -5,7 +5,9 @@ use Rattle.script_names.specs.declared.kinds.Sense.{Sense}
 use Rattle.script_names.specs.declared.kinds.Use.TheVariants as how
 use Rattle.std.specs.Prelude.{ℕ, zero, suc, ◌+◌, max, Option, Some, None, List, [], ◌∷◌, slice_get}
 use Rattle.script_names.specs.declared.kinds.Entity.TheVariants as entity
-use Rattle.script_names.specs.Occurrence.{Occurrence, uses, form, parallel}
+use Rattle.script_names.specs.Names.{Name}
+use Rattle.script_names.specs.declared.occurrence.Occurrence.{Occurrence}
+use Rattle.script_names.specs.declared.occurrence.Occurrence.TheVariants.{Uses, Form, Parallel}
 
 module _ (depth_of : ℕ → ℕ) where
   -- how deep what a name stands for reaches below its use
@@ -15,24 +17,24 @@ module _ (depth_of : ℕ → ℕ) where
   below _ = 0
 
   -- how deep a form or a use reaches
-  abbrev pub reach : Occurrence → ℕ
-  reach (form c place) = place.level
-  reach (parallel place) = place.level
-  reach (uses x s (how.Alone place)) = place.level + below s
-  reach (uses x s (how.Called n place)) = place.level + below s
+  abbrev pub reach : Occurrence Name → ℕ
+  reach (Form c place) = place.level
+  reach (Parallel place) = place.level
+  reach (Uses x s (how.Alone place)) = place.level + below s
+  reach (Uses x s (how.Called n place)) = place.level + below s
   reach _ = 0
 
   -- how deep a body reaches that says this
-  abbrev pub deepest : List Occurrence → ℕ
+  abbrev pub deepest : List (Occurrence Name) → ℕ
   deepest [] = 0
   deepest (o ∷ os) = max (reach o) (deepest os)
 
-abbrev pub said_by : Option (List Occurrence) → List Occurrence
+abbrev pub said_by : Option (List (Occurrence Name)) → List (Occurrence Name)
 said_by None = []
 said_by (Some os) = os
 
 -- The depth of the definition with the number d, where so many uses may still be entered, one inside another. `bodies` has what the body of each
 -- definition says that is expanded where it is used.
-abbrev pub depth_within : ℕ → List (List Occurrence) → ℕ → ℕ
+abbrev pub depth_within : ℕ → List (List (Occurrence Name)) → ℕ → ℕ
 depth_within zero bodies d = 0
 depth_within (suc n) bodies d = deepest (depth_within n bodies) (said_by (slice_get bodies d))

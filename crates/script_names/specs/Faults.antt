@@ -3,6 +3,7 @@ use Rattle.script_names.specs.declared.kinds.Sense.TheVariants as sense
 use Rattle.script_names.specs.declared.kinds.Sense.{Sense}
 use Rattle.script_names.specs.declared.kinds.Need.TheVariants as need
 use Rattle.script_names.specs.declared.kinds.Need.{Need}
+use Rattle.script_names.specs.declared.kinds.Use.{Use}
 use Rattle.script_names.specs.declared.kinds.Use.TheVariants as how
 use Rattle.std.specs.Prelude.{ℕ, zero, suc, ◌-◌, Bool, true, false, not, ◌&&◌, ◌||◌, nat_eq, nat_lt, if◌then◌else◌, Option, Some, None, List, slice_get}
 use Rattle.script_names.specs.declared.kinds.Class.{Class}
@@ -11,7 +12,8 @@ use Rattle.script_names.specs.declared.kinds.Entity.{Entity}
 use Rattle.script_names.specs.declared.kinds.Entity.TheVariants as entity
 use Rattle.script_names.specs.declared.kinds.Kind.{Kind}
 use Rattle.script_names.specs.Names.{Name, Meanings}
-use Rattle.script_names.specs.Occurrence.{Occurrence, declares, binds, notes, uses, form, parallel}
+use Rattle.script_names.specs.declared.occurrence.Occurrence.{Occurrence}
+use Rattle.script_names.specs.declared.occurrence.Occurrence.TheVariants.{Declares, Binds, Notes, Uses, Form, Parallel}
 
 abbrev pub is_bound : Sense → Bool
 is_bound sense.Bound = true
@@ -31,8 +33,8 @@ is_definition (sense.Declared (entity.Definition d n)) = true
 is_definition _ = false
 
 -- A name is neither bound nor declared.
-abbrev pub unknown_name : Occurrence → Option Name
-unknown_name (uses x sense.Unknown how) = Some x
+abbrev pub unknown_name : Occurrence Name → Option Name
+unknown_name (Uses x sense.Unknown how) = Some x
 unknown_name _ = None
 
 abbrev pub when : Bool → Name → Option Name
@@ -40,10 +42,10 @@ when b x = if b then Some x else None
 
 module _ (meanings : Meanings) where
   -- A name was declared before, a parameter repeats, a bound name is a constant, or a process was annotated before by an annotation of the kind.
-  abbrev pub repeated_name : Occurrence → Option Name
-  repeated_name (declares x before) = when before x
-  repeated_name (binds x repeats) = when (repeats || is_constant (meanings x)) x
-  repeated_name (notes x before) = when before x
+  abbrev pub repeated_name : Occurrence Name → Option Name
+  repeated_name (Declares x before) = when before x
+  repeated_name (Binds x repeats) = when (repeats || is_constant (meanings x)) x
+  repeated_name (Notes x before) = when before x
   repeated_name _ = None
 
 -- the class of a definition, and whether it is a network definition
@@ -54,6 +56,12 @@ kind_class (Some kind) = kind.class
 abbrev pub kind_network : Option Kind → Bool
 kind_network None = false
 kind_network (Some kind) = kind.network
+
+-- a process stands where data is needed, or the reverse
+abbrev pub clashes : Class → Need → Bool
+clashes class.Process need.Data = true
+clashes class.Data need.Process = true
+clashes _ _ = false
 
 module _ (kinds : List Kind) where
   -- the class of what a name stands for
@@ -66,32 +74,26 @@ module _ (kinds : List Kind) where
   is_network (sense.Declared (entity.Definition d n)) = kind_network (slice_get kinds d)
   is_network _ = false
 
-  -- a process stands where data is needed, or the reverse
-  abbrev pub clashes : Class → Need → Bool
-  clashes class.Process need.Data = true
-  clashes class.Data need.Process = true
-  clashes _ _ = false
-
   -- What stands at a place is not of the kind that is needed there.
-  abbrev pub is_wrong_kind : Occurrence → Bool
-  is_wrong_kind (form c place) = clashes c place.need
-  is_wrong_kind (parallel place) = clashes class.Process place.need
-  is_wrong_kind (uses x s (how.Alone place)) = clashes (class_of s) place.need
-  is_wrong_kind (uses x s (how.Called n place)) = not (is_definition s) || clashes (class_of s) place.need
-  is_wrong_kind (uses x s (how.Dotted n)) = not (is_channel s)
-  is_wrong_kind (uses x s (how.Heads zero)) = not (is_channel s || is_bound s)
-  is_wrong_kind (uses x s (how.Heads (suc n))) = not (is_channel s)
-  is_wrong_kind (uses x s (how.Begins n)) = not (is_channel s)
-  is_wrong_kind (uses x s (how.Renamed n new m)) = false
-  is_wrong_kind (uses x s how.Annotated) = not (is_definition s) || clashes (class_of s) need.Process
-  is_wrong_kind (uses x s (how.Annotates process)) = not (is_definition s) || clashes (class_of s) need.Data
+  abbrev pub is_wrong_kind : Occurrence Name → Bool
+  is_wrong_kind (Form c place) = clashes c place.need
+  is_wrong_kind (Parallel place) = clashes class.Process place.need
+  is_wrong_kind (Uses x s (how.Alone place)) = clashes (class_of s) place.need
+  is_wrong_kind (Uses x s (how.Called n place)) = not (is_definition s) || clashes (class_of s) place.need
+  is_wrong_kind (Uses x s (how.Dotted n)) = not (is_channel s)
+  is_wrong_kind (Uses x s (how.Heads zero)) = not (is_channel s || is_bound s)
+  is_wrong_kind (Uses x s (how.Heads (suc n))) = not (is_channel s)
+  is_wrong_kind (Uses x s (how.Begins n)) = not (is_channel s)
+  is_wrong_kind (Uses x s (how.Renamed n new m)) = false
+  is_wrong_kind (Uses x s how.Annotated) = not (is_definition s) || clashes (class_of s) need.Process
+  is_wrong_kind (Uses x s (how.Annotates process)) = not (is_definition s) || clashes (class_of s) need.Data
   is_wrong_kind _ = false
 
   -- A parallel or the use of a network definition stands outside the network positions.
-  abbrev pub is_inside : Occurrence → Bool
-  is_inside (parallel place) = not place.network
-  is_inside (uses x s (how.Alone place)) = is_network s && not place.network
-  is_inside (uses x s (how.Called n place)) = is_network s && not place.network
+  abbrev pub is_inside : Occurrence Name → Bool
+  is_inside (Parallel place) = not place.network
+  is_inside (Uses x s (how.Alone place)) = is_network s && not place.network
+  is_inside (Uses x s (how.Called n place)) = is_network s && not place.network
   is_inside _ = false
 
 -- the number of parameters of a definition, and of fields of a channel
@@ -119,12 +121,16 @@ take_other (sense.Declared (entity.Definition d n)) s = takes_other s n
 take_other _ s = false
 
 -- A call, an event, a renaming pair or an annotated set has the wrong number of arguments, fields or parameters.
-abbrev pub wrong_count : Occurrence → Option Name
-wrong_count (uses x s (how.Alone place)) = when (takes_other s 0 || has_other s 0) x
-wrong_count (uses x s (how.Called n place)) = when (takes_other s n) x
-wrong_count (uses x s (how.Dotted n)) = when (has_other s n) x
-wrong_count (uses x s (how.Heads n)) = when (has_other s n) x
-wrong_count (uses x s (how.Begins n)) = when (has_fewer s n) x
-wrong_count (uses x s (how.Renamed n new m)) = when (leave_other s n new m) x
-wrong_count (uses x s (how.Annotates process)) = when (take_other process s) x
+abbrev pub is_wrong_count : Sense → Use → Bool
+is_wrong_count s (how.Alone place) = takes_other s 0 || has_other s 0
+is_wrong_count s (how.Called n place) = takes_other s n
+is_wrong_count s (how.Dotted n) = has_other s n
+is_wrong_count s (how.Heads n) = has_other s n
+is_wrong_count s (how.Begins n) = has_fewer s n
+is_wrong_count s (how.Renamed n new m) = leave_other s n new m
+is_wrong_count s how.Annotated = false
+is_wrong_count s (how.Annotates process) = take_other process s
+
+abbrev pub wrong_count : Occurrence Name → Option Name
+wrong_count (Uses x s how) = when (is_wrong_count s how) x
 wrong_count _ = None

@@ -7,7 +7,6 @@ pub mod FieldSets
 pub mod Declaring
 pub mod Program
 pub mod Kinds
-pub mod Occurrence
 pub mod Says
 pub mod Faults
 pub mod Depth

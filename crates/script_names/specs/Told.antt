@@ -19,19 +19,23 @@ use Rattle.script_names.specs.Depth.{depth_within}
 use Rattle.script_names.specs.Faults.{unknown_name, repeated_name, is_wrong_kind, wrong_count, is_inside, kind_class, kind_network}
 use Rattle.script_names.specs.Names.{Name, Meanings, Counts, counted, none_yet, sense_in, is_among, meanings_of}
 pub use Rattle.script_names.specs.Names.{names_declared}
-use Rattle.script_names.specs.Occurrence.{Occurrence, declares, binds, notes, uses}
 pub use Rattle.script_names.specs.Once.{with_roles, with_uses}
+use Rattle.script_names.specs.declared.occurrence.Occurrence.{Occurrence}
+use Rattle.script_names.specs.declared.occurrence.Occurrence.TheVariants.{Declares, Binds, Notes, Uses}
 use Rattle.script_names.specs.Says.{tree_says}
 
+-- what is said of names one after another: of each, whether it stands before
+abbrev pub each_after : (Name → Bool → Occurrence Name) → List Name → List Name → List (Occurrence Name)
+each_after says before [] = []
+each_after says before (x ∷ xs) = says x (is_among before x) ∷ each_after says (before ++ x ∷ []) xs
+
 -- the names are declared after these
-abbrev pub declared_after : List Name → List Name → List Occurrence
-declared_after before [] = []
-declared_after before (x ∷ xs) = declares x (is_among before x) ∷ declared_after (before ++ x ∷ []) xs
+abbrev pub declared_after : List Name → List Name → List (Occurrence Name)
+declared_after = each_after Declares
 
 -- the parameters are bound after these
-abbrev pub parameters_after : List Name → List Name → List Occurrence
-parameters_after before [] = []
-parameters_after before (x ∷ xs) = binds x (is_among before x) ∷ parameters_after (before ++ x ∷ []) xs
+abbrev pub parameters_after : List Name → List Name → List (Occurrence Name)
+parameters_after = each_after Binds
 
 -- a body must be of the class of its definition, if it has one
 abbrev pub need_of : Class → Need
@@ -59,19 +63,20 @@ counts_of n (decl ∷ decls) = counts_of (counted n decl) decls
 abbrev pub next_definition : List Decl → ℕ
 next_definition decls = (counts_of none_yet decls).definitions
 
-module _ (meanings : Meanings) (kinds : List Kind) where
-  abbrev pub types_say : List Tree → List Occurrence
+module _ (meanings : Meanings) where
+  abbrev pub types_say : List Tree → List (Occurrence Name)
   types_say types = flat_map (λ t. tree_says meanings t data_place []) types
 
   -- an annotation of a process by these sets
-  abbrev pub annotation_says : Bool → Name → List Name → List Occurrence
+  abbrev pub annotation_says : Bool → Name → List Name → List (Occurrence Name)
   annotation_says before process sets =
-      notes process before ∷ uses process (sense_in meanings [] process) how.Annotated
-      ∷ map (λ set. uses set (sense_in meanings [] set) (how.Annotates (sense_in meanings [] process))) sets
+      Notes process before ∷ Uses process (sense_in meanings [] process) how.Annotated
+      ∷ map (λ set. Uses set (sense_in meanings [] set) (how.Annotates (sense_in meanings [] process))) sets
 
+module _ (meanings : Meanings) (kinds : List Kind) where
   -- what a declaration says that stands after these others
-  abbrev pub decl_says : List Decl → Decl → List Occurrence
-  decl_says earlier (decl.Channel xs types) = declared_after (names_declared earlier) xs ++ types_say types
+  abbrev pub decl_says : List Decl → Decl → List (Occurrence Name)
+  decl_says earlier (decl.Channel xs types) = declared_after (names_declared earlier) xs ++ types_say meanings types
   decl_says earlier (decl.Datatype x ks) = declared_after (names_declared earlier) (x ∷ ks)
   decl_says earlier (decl.Nametype x t) = declared_after (names_declared earlier) (x ∷ []) ++ tree_says meanings t data_place []
   decl_says earlier (decl.Define x params t) =
@@ -79,16 +84,16 @@ module _ (meanings : Meanings) (kinds : List Kind) where
       ++ tree_says meanings t (body_place (slice_get kinds (next_definition earlier))) params)
   decl_says earlier (decl.Assert t) = tree_says meanings t root_place []
   decl_says earlier (decl.Roles names) =
-      annotation_says (is_among (flat_map with_roles earlier) names.process) names.process (names.creq ∷ names.cack ∷ names.sreq ∷ names.sack ∷ [])
+      annotation_says meanings (is_among (flat_map with_roles earlier) names.process) names.process (names.creq ∷ names.cack ∷ names.sreq ∷ names.sack ∷ [])
   decl_says earlier (decl.Resource names) =
-      annotation_says (is_among (flat_map with_uses earlier) names.process) names.process (names.acquire ∷ names.release ∷ [])
+      annotation_says meanings (is_among (flat_map with_uses earlier) names.process) names.process (names.acquire ∷ names.release ∷ [])
 
   -- what the bodies of definitions say that are expanded where they are used: those of data, and those without a class
-  abbrev pub expanded_body : Class → List Occurrence → List Occurrence
+  abbrev pub expanded_body : Class → List (Occurrence Name) → List (Occurrence Name)
   expanded_body class.Process os = []
   expanded_body _ os = os
 
-  abbrev pub bodies_from : ℕ → List Decl → List (List Occurrence)
+  abbrev pub bodies_from : ℕ → List Decl → List (List (Occurrence Name))
   bodies_from d [] = []
   bodies_from d (decl.Define x params t ∷ decls) =
       expanded_body (kind_class (slice_get kinds d)) (tree_says meanings t (body_place (slice_get kinds d)) params) ∷ bodies_from (d + 1) decls
@@ -103,7 +108,7 @@ first_there (Some a ∷ rest) = Some a
 first_there (None ∷ rest) = first_there rest
 
 -- the first name that a test of occurrences finds
-abbrev pub first_name : (Occurrence → Option Name) → List Occurrence → Option Name
+abbrev pub first_name : (Occurrence Name → Option Name) → List (Occurrence Name) → Option Name
 first_name test os = first_there (map test os)
 
 abbrev pub when_any : Bool → ResolveFault → Option ResolveFault
@@ -111,7 +116,7 @@ when_any b f = if b then Some f else None
 
 -- a definition of data is deeper than may be with all of its uses expanded, or without an end: with one use more entered one inside another it is too deep
 -- in either case
-abbrev pub is_deep : List Kind → List (List Occurrence) → ℕ → Bool
+abbrev pub is_deep : List Kind → List (List (Occurrence Name)) → ℕ → Bool
 is_deep kinds bodies d = nat_lt MOST_DATA_DEPTH (depth_within (MOST_DATA_DEPTH + 1) bodies d)
 
 abbrev pub is_data : Class → Bool
@@ -119,27 +124,28 @@ is_data class.Data = true
 is_data _ = false
 
 -- whether a declaration is the definition of data with the number d, and too deep
-abbrev pub too_deep : List Kind → List (List Occurrence) → ℕ → Decl → Bool
+abbrev pub too_deep : List Kind → List (List (Occurrence Name)) → ℕ → Decl → Bool
 too_deep kinds bodies d (decl.Define x params t) = is_data (kind_class (slice_get kinds d)) && is_deep kinds bodies d
 too_deep kinds bodies d (decl.Nametype x t) = is_deep kinds bodies d
 too_deep kinds bodies d _ = false
 
-module _ (script : List Decl) (kinds : List Kind) where
-  -- the fault of the declaration with the number i that says this
-  abbrev pub fault_of : ℕ → List Occurrence → Bool → Option ResolveFault
+-- the fault of the declaration with the number i that says this
+module _ (meanings : Meanings) (kinds : List Kind) where
+  abbrev pub fault_of : ℕ → List (Occurrence Name) → Bool → Option ResolveFault
   fault_of i os deep = first_there (
       option_map (λ x. fault.Unknown i x) (first_name unknown_name os)
-      ∷ option_map (λ x. fault.Twice i x) (first_name (repeated_name (meanings_of script)) os)
+      ∷ option_map (λ x. fault.Twice i x) (first_name (repeated_name meanings) os)
       ∷ when_any (list_any (is_wrong_kind kinds) os) (fault.WrongKind i)
       ∷ option_map (λ x. fault.WrongCount i x) (first_name wrong_count os)
       ∷ when_any (list_any (is_inside kinds) os) (fault.ParallelInside i)
       ∷ when_any deep (fault.DataDepth i)
       ∷ [])
 
+module _ (script : List Decl) (kinds : List Kind) where
   -- the fault of a declaration that stands after these others
   abbrev pub fault_in : List Decl → Decl → Option ResolveFault
   fault_in earlier d =
-      fault_of (length earlier) (decl_says (meanings_of script) kinds earlier d)
+      fault_of (meanings_of script) kinds (length earlier) (decl_says (meanings_of script) kinds earlier d)
       (too_deep kinds (bodies_from (meanings_of script) kinds 0 script) (next_definition earlier) d)
 
   -- the first fault of declarations that stand after these others

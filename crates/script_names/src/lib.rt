@@ -3,6 +3,8 @@
 
 pub mod fault;
 pub mod kinds;
+pub mod occurrence;
 
 pub use fault::{ResolveFault, Unresolved};
 pub use kinds::{Class, End, Entity, Kind, Need, Place, Sense, Use};
+pub use occurrence::Occurrence;

@@ -28,7 +28,7 @@ use Rattle.script_names.specs.Faults.{clashes, kind_class, kind_network, take_ot
 use Rattle.script_names.specs.FieldSets.{field_sets}
 use Rattle.script_names.specs.Kinds.{body_ends, script_ends}
 use Rattle.script_names.specs.Names.{Counts, Meanings, Name, counted, meanings_of, none_yet, sense_in, sense_of}
-use Rattle.script_names.specs.Occurrence.{uses}
+use Rattle.script_names.specs.declared.occurrence.Occurrence.TheVariants.{Uses}
 use Rattle.script_names.specs.Resolved.{Answer, and_next, channel_sets, told_in}
 use Rattle.script_names.specs.Says.{tree_says}
 use Rattle.script_names.specs.Scopes.{Scope, names_of, numbers_from, parameters}
@@ -123,27 +123,27 @@ module _ (m : Meanings) (ks : List Kind) where
     pub is : e ≡ Some (entity.Definition (definition_number e) params)
     pub holds : IsAnnotated m ks x (definition_number e) params
 
-  annotated_kind : (x : Name) (n k : ℕ) → m x ≡ Some (entity.Definition n k) → KindIs ks n → clashes ks (kind_class (slice_get ks n)) need.Process ≡ false
+  annotated_kind : (x : Name) (n k : ℕ) → m x ≡ Some (entity.Definition n k) → KindIs ks n → clashes (kind_class (slice_get ks n)) need.Process ≡ false
       → IsAnnotated m ks x n k
-  annotated_kind x n k is (of_data at) h = absurd (let g = ap (λ o. clashes ks (kind_class o) need.Process) (sym at) ∙ h in cc)
+  annotated_kind x n k is (of_data at) h = absurd (let g = ap (λ o. clashes (kind_class o) need.Process) (sym at) ∙ h in cc)
   annotated_kind x n k is (of_process at) h = record { means = is; network = false; process = at }
   annotated_kind x n k is (of_network at) h = record { means = is; network = true; process = at }
 
-  annotated : HaveKinds m ks → (x : Name) (e : Option Entity) → m x ≡ e → Passes m ks (uses x (sense_of e) how.Annotated) → Annotated x e
+  annotated : HaveKinds m ks → (x : Name) (e : Option Entity) → m x ≡ e → Passes m ks (Uses x (sense_of e) how.Annotated) → Annotated x e
   annotated kinds x None is h = absurd (let g = h.fine.known in cc)
   annotated kinds x (Some (entity.Definition n k)) is h = record { params = k; is = refl; holds = annotated_kind x n k is (kinds.at x n k is) h.fine.kind }
   annotated kinds x (Some (entity.Channel c n)) is h = absurd (let g = h.fine.kind in cc)
   annotated kinds x (Some (entity.Constant c)) is h = absurd (let g = h.fine.kind in cc)
   annotated kinds x (Some (entity.Set c)) is h = absurd (let g = h.fine.kind in cc)
 
-  set_kind : (x : Name) (n k : ℕ) → m x ≡ Some (entity.Definition n k) → KindIs ks n → clashes ks (kind_class (slice_get ks n)) need.Data ≡ false
+  set_kind : (x : Name) (n k : ℕ) → m x ≡ Some (entity.Definition n k) → KindIs ks n → clashes (kind_class (slice_get ks n)) need.Data ≡ false
       → IsEventSet m ks x n k
   set_kind x n k is (of_data at) h = record { means = is; set = at }
-  set_kind x n k is (of_process at) h = absurd (let g = ap (λ o. clashes ks (kind_class o) need.Data) (sym at) ∙ h in cc)
-  set_kind x n k is (of_network at) h = absurd (let g = ap (λ o. clashes ks (kind_class o) need.Data) (sym at) ∙ h in cc)
+  set_kind x n k is (of_process at) h = absurd (let g = ap (λ o. clashes (kind_class o) need.Data) (sym at) ∙ h in cc)
+  set_kind x n k is (of_network at) h = absurd (let g = ap (λ o. clashes (kind_class o) need.Data) (sym at) ∙ h in cc)
 
   event_set_entity : HaveKinds m ks → (y : Name) (e : Option Entity) (n k : ℕ) → m y ≡ e
-      → Passes m ks (uses y (sense_of e) (how.Annotates (sense.Declared (entity.Definition n k)))) → IsEventSet m ks y (definition_number e) k
+      → Passes m ks (Uses y (sense_of e) (how.Annotates (sense.Declared (entity.Definition n k)))) → IsEventSet m ks y (definition_number e) k
   event_set_entity kinds y None n k is h = absurd (let g = h.fine.known in cc)
   event_set_entity kinds y (Some (entity.Definition n' k')) n k is h =
       let same : k' ≡ k = same_count k' k (when_none (not (nat_eq k' k)) y h.fine.count) in
@@ -152,11 +152,11 @@ module _ (m : Meanings) (ks : List Kind) where
   event_set_entity kinds y (Some (entity.Constant c)) n k is h = absurd (let g = h.fine.kind in cc)
   event_set_entity kinds y (Some (entity.Set c)) n k is h = absurd (let g = h.fine.kind in cc)
 
-  event_set : HaveKinds m ks → (x y : Name) (a : Annotated x (m x)) → Passes m ks (uses y (sense_in m [] y) (how.Annotates (sense_in m [] x)))
+  event_set : HaveKinds m ks → (x y : Name) (a : Annotated x (m x)) → Passes m ks (Uses y (sense_in m [] y) (how.Annotates (sense_in m [] x)))
       → IsEventSet m ks y (definition_number (m y)) a.params
   event_set kinds x y a h =
       event_set_entity kinds y (m y) (definition_number (m x)) a.params refl
-      (subst (λ z. Passes m ks (uses y (sense_of (m y)) (how.Annotates (sense_of z)))) a.is h)
+      (subst (λ z. Passes m ks (Uses y (sense_of (m y)) (how.Annotates (sense_of z)))) a.is h)
 
 -- ---- one declaration after another
 
@@ -182,11 +182,11 @@ module _ (script : List Decl) (ks : List Kind) (kinds : HaveKinds (meanings_of s
   abbrev types_of : List Tree → List Expr
   types_of types = exprs (map (reading m ks) types) [] 0
 
-  types_typed : (types : List Tree) (n : ℕ) → AllPass m ks (types_say m ks types)
+  types_typed : (types : List Tree) (n : ℕ) → AllPass m ks (types_say m types)
       → AreExprs m ks [] n types (exprs (map (reading m ks) types) [] n) (n + all_bind (map (reading m ks) types))
   types_typed [] n h = subst (λ k. AreExprs m ks [] n [] [] k) (no_end n) t.no_exprs
   types_typed (a ∷ types) n h =
-      let w = pass_two m ks (tree_says m a data_place []) (types_say m ks types) h in
+      let w = pass_two m ks (tree_says m a data_place []) (types_say m types) h in
       subst (λ k. AreExprs m ks [] n (a ∷ types) (exprs (map (reading m ks) (a ∷ types)) [] n) k)
       (two_ends n (reading m ks a).binds (all_bind (map (reading m ks) types)))
       (t.more_exprs ((typable m ks kinds (made m ks a)).expr [] n false 1 w.0) (types_typed types (n + (reading m ks a).binds) w.1))
@@ -236,7 +236,7 @@ module _ (script : List Decl) (ks : List Kind) (kinds : HaveKinds (meanings_of s
       → SetsFor HasSets types_of rest all → Declares m ks whole HasSets n rest (piece n rest) all
   declares earlier [] n all is fits h found = subst (λ z. Declares m ks whole HasSets n [] (piece n []) z) found d.nothing
   declares earlier (decl.Channel xs types ∷ rest) n all is fits h found =
-      let w = pass_two m ks (declared_after (names_declared earlier) xs) (types_say m ks types) h.0.passes in
+      let w = pass_two m ks (declared_after (names_declared earlier) xs) (types_say m types) h.0.passes in
       subst (λ z. Declares m ks whole HasSets n (decl.Channel xs types ∷ rest) (piece n (decl.Channel xs types ∷ rest)) z) found.4
       (d.channels (types_typed types 0 w.1) found.2
       (declares (earlier ++ decl.Channel xs types ∷ []) rest (counted n (decl.Channel xs types)) found.1

@@ -18,7 +18,7 @@ use Rattle.script_names.specs.declared.kinds.Use.TheVariants as how
 use Rattle.script_names.specs.Kinds.{AreKindsOf, HasClass, LeadsTo, body_ends, end_of_call, end_of_name, ends_at, first_ends}
 use Rattle.script_names.specs.Kinds.LeadsTo.{here, beyond}
 use Rattle.script_names.specs.Names.{Name, Meanings, meanings_of}
-use Rattle.script_names.specs.Occurrence.{uses}
+use Rattle.script_names.specs.declared.occurrence.Occurrence.TheVariants.{Uses}
 use Rattle.script_names.specs.Says.{Said, tree_says}
 use Rattle.script_names.specs.Told.{body_place, declared_after, first_fault, names_declared, next_definition, parameters_after}
 use Rattle.script_names.specs.Typed.{Reading}
@@ -44,12 +44,12 @@ known_append [] gs h g = g
 known_append (e ∷ es) gs h g = (h.0, known_append es gs h.1 g)
 
 module _ (ks : List Kind) where
-  name_known : (x : Name) (s : Sense) (place : Place) → IsFine ks (uses x s (how.Alone place)) → IsKnown (end_of_name s)
+  name_known : (x : Name) (s : Sense) (place : Place) → IsFine ks (Uses x s (how.Alone place)) → IsKnown (end_of_name s)
   name_known x sense.Unknown place h = absurd (let g = h.known in cc)
   name_known x (sense.Declared (entity.Channel c n)) place h = tt
   name_known x _ place h = tt
 
-  call_known : (x : Name) (s : Sense) (n : ℕ) (place : Place) → IsFine ks (uses x s (how.Called n place)) → IsKnown (end_of_call s)
+  call_known : (x : Name) (s : Sense) (n : ℕ) (place : Place) → IsFine ks (Uses x s (how.Called n place)) → IsKnown (end_of_call s)
   call_known x (sense.Declared (entity.Definition d k)) n place h = tt
   call_known x sense.Unknown n place h = absurd (let g = h.known in cc)
   call_known x _ n place h = absurd (let g = h.kind in cc)

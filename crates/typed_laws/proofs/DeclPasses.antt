@@ -7,7 +7,7 @@ use Rattle.script_names.specs.declared.fault.ResolveFault.TheVariants as fault
 use Rattle.script_names.specs.declared.kinds.Kind.{Kind}
 use Rattle.script_names.specs.Faults.{unknown_name, repeated_name, is_wrong_kind, wrong_count, is_inside}
 use Rattle.script_names.specs.Names.{Counts, Meanings, Name, counted, meanings_of, none_yet}
-use Rattle.script_names.specs.Occurrence.{Occurrence}
+use Rattle.script_names.specs.declared.occurrence.Occurrence.{Occurrence}
 use Rattle.script_names.specs.Told.{bodies_from, counts_of, decl_says, fault_in, fault_of, first_fault, first_name, first_there, next_definition, too_deep, when_any}
 use Rattle.typed_laws.proofs.Faultless.{AllFine, first_faultless, none_first, none_later, none_of_map, rest_faultless}
 use Rattle.typed_laws.proofs.Passing.{AllPass, Passes}
@@ -29,17 +29,17 @@ or_is false b h g = g
 or_is true b h g = absurd (cc)
 
 module _ (m : Meanings) (ks : List Kind) where
-  no_name : (test : Occurrence → Option Name) → ((o : Occurrence) → Passes m ks o → test o ≡ None) → (os : List Occurrence) → AllPass m ks os
+  no_name : (test : Occurrence Name → Option Name) → ((o : Occurrence Name) → Passes m ks o → test o ≡ None) → (os : List (Occurrence Name)) → AllPass m ks os
       → first_name test os ≡ None
   no_name test f [] h = refl
   no_name test f (o ∷ os) h = first_is (test o) (map test os) (f o h.0) (no_name test f os h.1)
 
-  none_any : (test : Occurrence → Bool) → ((o : Occurrence) → Passes m ks o → test o ≡ false) → (os : List Occurrence) → AllPass m ks os
+  none_any : (test : Occurrence Name → Bool) → ((o : Occurrence Name) → Passes m ks o → test o ≡ false) → (os : List (Occurrence Name)) → AllPass m ks os
       → list_any test os ≡ false
   none_any test f [] h = refl
   none_any test f (o ∷ os) h = or_is (test o) (list_any test os) (f o h.0) (none_any test f os h.1)
 
-  with_once : (os : List Occurrence) → AllFine ks os → first_name (repeated_name m) os ≡ None → AllPass m ks os
+  with_once : (os : List (Occurrence Name)) → AllFine ks os → first_name (repeated_name m) os ≡ None → AllPass m ks os
   with_once [] h g = tt
   with_once (o ∷ os) h g = (
     record { fine = h.0; once = none_first (repeated_name m o) (map (repeated_name m) os) g },
@@ -51,13 +51,13 @@ module _ (script : List Decl) (ks : List Kind) where
   m = meanings_of script
 
   -- the second of the cases of a declaration
-  once_none : (i : ℕ) (os : List Occurrence) (deep : Bool) → fault_of script ks i os deep ≡ None → first_name (repeated_name m) os ≡ None
+  once_none : (i : ℕ) (os : List (Occurrence Name)) (deep : Bool) → fault_of m ks i os deep ≡ None → first_name (repeated_name m) os ≡ None
   once_none i os deep h =
       none_of_map (λ x. fault.Twice i x) (first_name (repeated_name m) os)
       (none_first (option_map (λ x. fault.Twice i x) (first_name (repeated_name m) os)) _
       (none_later (option_map (λ x. fault.Unknown i x) (first_name unknown_name os)) _ h))
 
-  passes_none : (i : ℕ) (os : List Occurrence) (deep : Bool) → AllPass m ks os → deep ≡ false → fault_of script ks i os deep ≡ None
+  passes_none : (i : ℕ) (os : List (Occurrence Name)) (deep : Bool) → AllPass m ks os → deep ≡ false → fault_of m ks i os deep ≡ None
   passes_none i os deep h shallow j = first_there (
       option_map (λ x. fault.Unknown i x) (no_name m ks unknown_name (λ o p. p.fine.known) os h j)
       ∷ option_map (λ x. fault.Twice i x) (no_name m ks (repeated_name m) (λ o p. p.once) os h j)

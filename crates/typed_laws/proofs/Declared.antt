@@ -25,7 +25,7 @@ use Rattle.script_names.specs.Depth.{deepest, depth_within, said_by}
 use Rattle.script_names.specs.Faults.{kind_class, kind_network}
 use Rattle.script_names.specs.FieldSets.{field_sets}
 use Rattle.script_names.specs.Names.{Counts, Meanings, Name, counted}
-use Rattle.script_names.specs.Occurrence.{Occurrence}
+use Rattle.script_names.specs.declared.occurrence.Occurrence.{Occurrence}
 use Rattle.script_names.specs.Resolved.{and_next, channel_sets, told_in}
 use Rattle.script_names.specs.Scopes.{Scope, names_of, numbers_from, parameters}
 use Rattle.script_names.specs.Told.{bodies_from, body_place, data_place, expanded_body}
@@ -42,7 +42,7 @@ none_more : (n : ℕ) → 0 + n ≡ n
 none_more n = omega arith
 
 -- depths agree by uses where they agree in each body
-pub depths_agree : (bodies : List (List Occurrence)) (defs : List Def)
+pub depths_agree : (bodies : List (List (Occurrence Name))) (defs : List Def)
     → ((f : ℕ → ℕ) (i : ℕ) → deepest f (said_by (slice_get bodies i)) ≡ depth_at f (slice_get defs i))
     → (k i : ℕ) → depth_within k bodies i ≡ definition_depth k defs i
 depths_agree bodies defs same zero i = refl
@@ -206,7 +206,7 @@ module _ (m : Meanings) (ks : List Kind) where
   sets_are (d.resource process acquire release rest) i = sets_are rest (i + 1)
 
   -- what a body says that is expanded where it is used, by the kind of its definition
-  abbrev body_says : List Name → Tree → Option Kind → List Occurrence
+  abbrev body_says : List Name → Tree → Option Kind → List (Occurrence Name)
   body_says params t kind = expanded_body m ks (kind_class kind) (tree_says m t (body_place kind) params)
 
   -- what bodies say reaches as deep as the bodies are

@@ -11,13 +11,13 @@ use Rattle.csp_program.specs.declared.expressions.Gen.{Gen}
 use Rattle.csp_base.specs.Lists.{greatest}
 use Rattle.script_names.specs.DataDepth.{expanded_depth, expanded_depth_of_layer, gen_expanded_depth, part_expanded_depth}
 use Rattle.script_names.specs.Depth.{deepest, reach}
-use Rattle.script_names.specs.Occurrence.{Occurrence}
+use Rattle.script_names.specs.declared.occurrence.Occurrence.{Occurrence}
 use Rattle.script_names.specs.Typing.{event_part}
 
 max_assoc : (a b c : ℕ) → max a (max b c) ≡ max (max a b) c
 max_assoc a b c = omega arith
 
-pub deepest_append : (f : ℕ → ℕ) (os ps : List Occurrence) → deepest f (os ++ ps) ≡ max (deepest f os) (deepest f ps)
+pub deepest_append : (f : ℕ → ℕ) (os ps : List (Occurrence Name)) → deepest f (os ++ ps) ≡ max (deepest f os) (deepest f ps)
 deepest_append f [] ps = omega arith
 deepest_append f (o ∷ os) ps =
     ap (max (reach f o)) (deepest_append f os ps) ∙ max_assoc (reach f o) (deepest f os) (deepest f ps)
@@ -49,7 +49,7 @@ none_below k = omega arith
 pub one_below : (k x d : ℕ) → x ≡ k + d → max k x ≡ k + d
 one_below k x d h = omega arith
 
-pub two_below : (f : ℕ → ℕ) (k : ℕ) (os ps : List Occurrence) (d e : ℕ) → max k (deepest f os) ≡ k + d → max k (deepest f ps) ≡ k + e
+pub two_below : (f : ℕ → ℕ) (k : ℕ) (os ps : List (Occurrence Name)) (d e : ℕ) → max k (deepest f os) ≡ k + d → max k (deepest f ps) ≡ k + e
     → max k (deepest f (os ++ ps)) ≡ k + max d e
 two_below f k os ps d e h g =
     let same : deepest f (os ++ ps) ≡ max (deepest f os) (deepest f ps) = deepest_append f os ps in omega arith

@@ -31,7 +31,7 @@ use Rattle.script_names.specs.DataDepth.{expanded_depth, gen_expanded_depth, par
 use Rattle.script_names.specs.Depth.{below, deepest}
 use Rattle.script_names.specs.Faults.{when}
 use Rattle.script_names.specs.Names.{Meanings, Name, sense_in}
-use Rattle.script_names.specs.Occurrence.{binds, form, uses}
+use Rattle.script_names.specs.declared.occurrence.Occurrence.TheVariants.{Binds, Form, Uses}
 use Rattle.script_names.specs.Says.{Binder, Fields, Said, all_say, event_says_of_layer, field_says_of_layer, gen_says_of_layer, in_turn, part_says, part_says_of_layer, tree_says, tree_says_of_layer}
 use Rattle.script_names.specs.Says as says
 use Rattle.script_names.specs.Scopes.{Scope, names_of, number_of, with}
@@ -117,7 +117,7 @@ module _ (m : Meanings) (ks : List Kind) where
     pub deep : (f : ℕ → ℕ) (place : Place) → max place.level (deepest f (all_say (map (part_says m) ss) place (names_of scope)))
         ≡ place.level + greatest (map (part_expanded_depth f) es)
 
-  pub begins_passes : (x : Name) (c n k left : ℕ) → k + left ≡ n → Passes m ks (uses x (sense.Declared (entity.Channel c n)) (how.Begins k))
+  pub begins_passes : (x : Name) (c n k left : ℕ) → k + left ≡ n → Passes m ks (Uses x (sense.Declared (entity.Channel c n)) (how.Begins k))
   begins_passes x c n k left h =
       record { fine = record { known = refl; kind = refl; count = ap (λ b. when b x) (some_left k left n h); inside = refl }; once = refl }
 
@@ -156,11 +156,11 @@ module _ (m : Meanings) (ks : List Kind) where
 
   -- ---- forms of data
 
-  -- a form above parts
+  -- a Form above parts
   form_is : (rest : Said) (r : Reading) (scope : Scope) (n : ℕ) (e : Expr) (k : ℕ) (d : (ℕ → ℕ) → ℕ) → r.expr scope n ≡ e → n + r.binds ≡ k
       → ((b : Bool) (l : ℕ) → AllPass m ks (rest (data_at b l) (names_of scope)))
       → ((f : ℕ → ℕ) (b : Bool) (l : ℕ) → max (l + 1) (deepest f (rest (data_at b (l + 1)) (names_of scope))) ≡ (l + 1) + d f)
-      → ((f : ℕ → ℕ) → expanded_depth f e ≡ 1 + d f) → ExprIs (λ place names. form class.Data place ∷ rest place names) r scope n e k
+      → ((f : ℕ → ℕ) → expanded_depth f e ≡ 1 + d f) → ExprIs (λ place names. Form class.Data place ∷ rest place names) r scope n e k
   form_is rest r scope n e k d value next passes deep depth = record {
     value = value;
     next = next;
@@ -169,16 +169,16 @@ module _ (m : Meanings) (ks : List Kind) where
     some = λ f. some_more (expanded_depth f e) (d f) (depth f);
   }
 
-  -- a form without parts
+  -- a Form without parts
   leaf_is : (r : Reading) (scope : Scope) (n : ℕ) (e : Expr) → r.expr scope n ≡ e → r.binds ≡ 0 → ((f : ℕ → ℕ) → expanded_depth f e ≡ 1 + 0)
-      → ExprIs (λ place names. form class.Data place ∷ []) r scope n e n
+      → ExprIs (λ place names. Form class.Data place ∷ []) r scope n e n
   leaf_is r scope n e value none depth =
       form_is (λ place names. []) r scope n e n (λ f. 0) value (ap (λ z. n + z) none ∙ none_next n) (λ b l. tt) (λ f b l. none_below (l + 1)) depth
 
   -- a name alone
   alone_is : (r : Reading) (scope : Scope) (n : ℕ) (x : Name) (z : Sense) (e : Expr) → sense_in m (names_of scope) x ≡ z → r.expr scope n ≡ e → r.binds ≡ 0
-      → ((b : Bool) (l : ℕ) → Passes m ks (uses x z (how.Alone (data_at b l)))) → ((f : ℕ → ℕ) → expanded_depth f e ≡ 1 + below f z)
-      → ExprIs (λ place names. uses x (sense_in m names x) (how.Alone place) ∷ []) r scope n e n
+      → ((b : Bool) (l : ℕ) → Passes m ks (Uses x z (how.Alone (data_at b l)))) → ((f : ℕ → ℕ) → expanded_depth f e ≡ 1 + below f z)
+      → ExprIs (λ place names. Uses x (sense_in m names x) (how.Alone place) ∷ []) r scope n e n
   alone_is r scope n x z e is value none passes depth = record {
     value = value;
     next = ap (λ y. n + y) none ∙ none_next n;
@@ -350,7 +350,7 @@ module _ (m : Meanings) (ks : List Kind) where
           next = add_next _ _ _ _ _ (one_next _ _ _ w.next) v.next;
           passes = λ place. (bind_passes m ks x free, join m ks _ _ (w.passes false (place.level + 1))
               (subst (λ z. AllPass m ks (in_turn (map (gen_says m ks) ts) place z)) (names_with scope x n) (v.passes place)));
-          deep = λ f place. two_below f place.level (binds x false ∷ tree_says m a (data_at false (place.level + 1)) (names_of scope)) _ _ _
+          deep = λ f place. two_below f place.level (Binds x false ∷ tree_says m a (data_at false (place.level + 1)) (names_of scope)) _ _ _
               (one_below _ _ _ (zero_or _ ∙ w.deep f false place.level ∙ ap (λ z. place.level + z) (sym (gen_layer f (Gen-F.From n e) (gen_of.rolls-From _ _)))))
               (subst (λ z. max place.level (deepest f (in_turn (map (gen_says m ks) ts) place z)) ≡ place.level + greatest (map (gen_expanded_depth f) gs))
               (names_with scope x n) (v.deep f place));

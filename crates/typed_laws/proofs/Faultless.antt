@@ -6,37 +6,37 @@ use Rattle.script_names.specs.declared.fault.ResolveFault.{ResolveFault}
 use Rattle.script_names.specs.declared.fault.ResolveFault.TheVariants as fault
 use Rattle.script_names.specs.declared.kinds.Kind.{Kind}
 use Rattle.script_names.specs.Faults.{unknown_name, repeated_name, is_wrong_kind, wrong_count, is_inside}
-use Rattle.script_names.specs.Names.{meanings_of}
-use Rattle.script_names.specs.Occurrence.{Occurrence}
+use Rattle.script_names.specs.Names.{Name, meanings_of}
+use Rattle.script_names.specs.declared.occurrence.Occurrence.{Occurrence}
 use Rattle.script_names.specs.Told.{bodies_from, decl_says, fault_in, fault_of, first_fault, first_name, first_there, next_definition, too_deep, when_any}
 use Rattle.csp_base.proofs.Booleans.{or_first_false, or_second_false}
 
 -- an occurrence that is not at fault
-pub record IsFine (ks : List Kind) (o : Occurrence) : Type 0 where
+pub record IsFine (ks : List Kind) (o : Occurrence Name) : Type 0 where
   pub known : unknown_name o ≡ None
   pub kind : is_wrong_kind ks o ≡ false
   pub count : wrong_count o ≡ None
   pub inside : is_inside ks o ≡ false
 
-abbrev pub AllFine : List Kind → List Occurrence → Type 0
+abbrev pub AllFine : List Kind → List (Occurrence Name) → Type 0
 AllFine ks [] = Unit {0}
 AllFine ks (o ∷ os) = IsFine ks o × AllFine ks os
 
-pub fine_left : (ks : List Kind) (os ps : List Occurrence) → AllFine ks (os ++ ps) → AllFine ks os
+pub fine_left : (ks : List Kind) (os ps : List (Occurrence Name)) → AllFine ks (os ++ ps) → AllFine ks os
 fine_left ks [] ps h = tt
 fine_left ks (o ∷ os) ps h = (h.0, fine_left ks os ps h.1)
 
-pub fine_right : (ks : List Kind) (os ps : List Occurrence) → AllFine ks (os ++ ps) → AllFine ks ps
+pub fine_right : (ks : List Kind) (os ps : List (Occurrence Name)) → AllFine ks (os ++ ps) → AllFine ks ps
 fine_right ks [] ps h = h
 fine_right ks (o ∷ os) ps h = fine_right ks os ps h.1
 
-pub fine_two : (ks : List Kind) (os ps : List Occurrence) → AllFine ks (os ++ ps) → AllFine ks os × AllFine ks ps
+pub fine_two : (ks : List Kind) (os ps : List (Occurrence Name)) → AllFine ks (os ++ ps) → AllFine ks os × AllFine ks ps
 fine_two ks os ps h = (fine_left ks os ps h, fine_right ks os ps h)
 
-pub fine_three : (ks : List Kind) (os ps qs : List Occurrence) → AllFine ks (os ++ (ps ++ qs)) → AllFine ks os × AllFine ks ps × AllFine ks qs
+pub fine_three : (ks : List Kind) (os ps qs : List (Occurrence Name)) → AllFine ks (os ++ (ps ++ qs)) → AllFine ks os × AllFine ks ps × AllFine ks qs
 fine_three ks os ps qs h = let w = fine_two ks ps qs (fine_right ks os (ps ++ qs) h) in (fine_left ks os (ps ++ qs) h, w.0, w.1)
 
-pub fine_four : (ks : List Kind) (os ps qs rs : List Occurrence) → AllFine ks (os ++ (ps ++ (qs ++ rs)))
+pub fine_four : (ks : List Kind) (os ps qs rs : List (Occurrence Name)) → AllFine ks (os ++ (ps ++ (qs ++ rs)))
     → AllFine ks os × AllFine ks ps × AllFine ks qs × AllFine ks rs
 fine_four ks os ps qs rs h = let w = fine_three ks ps qs rs (fine_right ks os (ps ++ (qs ++ rs)) h) in (fine_left ks os (ps ++ (qs ++ rs)) h, w.0, w.1, w.2)
 
@@ -56,7 +56,7 @@ pub none_of_when : (b : Bool) (f : ResolveFault) → when_any b f ≡ None → b
 none_of_when true f h = absurd (cc)
 none_of_when false f h = refl
 
-pub all_fine : (ks : List Kind) (os : List Occurrence) → first_name unknown_name os ≡ None → list_any (is_wrong_kind ks) os ≡ false
+pub all_fine : (ks : List Kind) (os : List (Occurrence Name)) → first_name unknown_name os ≡ None → list_any (is_wrong_kind ks) os ≡ false
     → first_name wrong_count os ≡ None → list_any (is_inside ks) os ≡ false
     → AllFine ks os
 all_fine ks [] h g k l = tt
@@ -71,12 +71,12 @@ all_fine ks (o ∷ os) h g k l = (
       (none_later (wrong_count o) (map wrong_count os) k) (or_second_false (is_inside ks o) (list_any (is_inside ks) os) l),
 )
 
-pub record IsFaultless (ks : List Kind) (os : List Occurrence) (deep : Bool) : Type 0 where
+pub record IsFaultless (ks : List Kind) (os : List (Occurrence Name)) (deep : Bool) : Type 0 where
   pub fine : AllFine ks os
   pub shallow : deep ≡ false
 
 -- the six cases of a declaration, one after another
-faultless : (ks : List Kind) (os : List Occurrence) (deep : Bool) (a b c d e f : Option ResolveFault) → first_there (a ∷ b ∷ c ∷ d ∷ e ∷ f ∷ []) ≡ None
+faultless : (ks : List Kind) (os : List (Occurrence Name)) (deep : Bool) (a b c d e f : Option ResolveFault) → first_there (a ∷ b ∷ c ∷ d ∷ e ∷ f ∷ []) ≡ None
     → (a ≡ None → first_name unknown_name os ≡ None) → (c ≡ None → list_any (is_wrong_kind ks) os ≡ false) → (d ≡ None → first_name wrong_count os ≡ None)
     → (e ≡ None → list_any (is_inside ks) os ≡ false) → (f ≡ None → deep ≡ false) → IsFaultless ks os deep
 faultless ks os deep None None None None None None h ua uc ud ue uf = record
@@ -89,7 +89,7 @@ module _ (script : List Decl) (ks : List Kind) where
   DeclFaultless earlier d =
       IsFaultless ks (decl_says (meanings_of script) ks earlier d) (too_deep ks (bodies_from (meanings_of script) ks 0 script) (next_definition earlier) d)
 
-  fault_none : (i : ℕ) (os : List Occurrence) (deep : Bool) → fault_of script ks i os deep ≡ None → IsFaultless ks os deep
+  fault_none : (i : ℕ) (os : List (Occurrence Name)) (deep : Bool) → fault_of (meanings_of script) ks i os deep ≡ None → IsFaultless ks os deep
   fault_none i os deep h =
       faultless ks os deep (option_map (λ x. fault.Unknown i x) (first_name unknown_name os))
       (option_map (λ x. fault.Twice i x) (first_name (repeated_name (meanings_of script)) os))

@@ -19,7 +19,8 @@ use Rattle.script_names.specs.Declaring.{Declares, IsAnnotated, IsEventSet}
 use Rattle.script_names.specs.Declaring as d
 use Rattle.script_names.specs.Faults.{clashes, kind_class}
 use Rattle.script_names.specs.Names.{Counts, Meanings, Name, counted, meanings_of, names_declared, none_yet, sense_in, sense_of}
-use Rattle.script_names.specs.Occurrence.{Occurrence, uses}
+use Rattle.script_names.specs.declared.occurrence.Occurrence.{Occurrence}
+use Rattle.script_names.specs.declared.occurrence.Occurrence.TheVariants.{Uses}
 use Rattle.script_names.specs.Says.{tree_says}
 use Rattle.script_names.specs.Scopes.{names_of, parameters}
 use Rattle.script_names.specs.Told.{body_place, bodies_from, counts_of, data_place, declared_after, is_data, is_deep, next_definition, too_deep, types_say}
@@ -42,26 +43,26 @@ and_false false b h = refl
 module _ (m : Meanings) (ks : List Kind) where
   -- ---- what declarations say beside what stands once
 
-  types_pass : {n k : ℕ} {types : List Tree} {es : List Expr} → AreExprs m ks [] n types es k → AllPass m ks (types_say m ks types)
+  types_pass : {n k : ℕ} {types : List Tree} {es : List Expr} → AreExprs m ks [] n types es k → AllPass m ks (types_say m types)
   types_pass t.no_exprs = tt
   types_pass (t.more_exprs h g) = join m ks _ _ ((expr_is m ks h).passes false 1) (types_pass g)
 
   -- the process of an annotation
-  process_passes : (x : Name) (e k : ℕ) → IsAnnotated m ks x e k → Passes m ks (uses x (sense_in m [] x) how.Annotated)
+  process_passes : (x : Name) (e k : ℕ) → IsAnnotated m ks x e k → Passes m ks (Uses x (sense_in m [] x) how.Annotated)
   process_passes x e k h =
       use_passes m ks x (sense_of (m x)) (sense.Declared (entity.Definition e k)) how.Annotated (ap sense_of h.means) (record {
-        fine = record { known = refl; kind = ap (λ o. clashes ks (kind_class o) need.Process) h.process; count = refl; inside = refl };
+        fine = record { known = refl; kind = ap (λ o. clashes (kind_class o) need.Process) h.process; count = refl; inside = refl };
         once = refl;
       })
 
   -- a set of an annotation
   set_passes : (x y : Name) (e a k : ℕ) → IsAnnotated m ks x e k → IsEventSet m ks y a k
-      → Passes m ks (uses y (sense_in m [] y) (how.Annotates (sense_in m [] x)))
+      → Passes m ks (Uses y (sense_in m [] y) (how.Annotates (sense_in m [] x)))
   set_passes x y e a k h g =
-      subst (λ s. Passes m ks (uses y (sense_in m [] y) (how.Annotates s))) (sym (ap sense_of h.means))
+      subst (λ s. Passes m ks (Uses y (sense_in m [] y) (how.Annotates s))) (sym (ap sense_of h.means))
       (use_passes m ks y (sense_of (m y)) (sense.Declared (entity.Definition a k)) (how.Annotates (sense.Declared (entity.Definition e k))) (ap sense_of g.means)
       (record {
-        fine = record { known = refl; kind = ap (λ o. clashes ks (kind_class o) need.Data) g.set; count = none_of_count k k y refl; inside = refl };
+        fine = record { known = refl; kind = ap (λ o. clashes (kind_class o) need.Data) g.set; count = none_of_count k k y refl; inside = refl };
         once = refl;
       }))
 
@@ -69,7 +70,7 @@ module _ (script : List Decl) (ks : List Kind) where
   abbrev m : Meanings
   m = meanings_of script
 
-  abbrev bodies : List (List Occurrence)
+  abbrev bodies : List (List (Occurrence Name))
   bodies = bodies_from m ks 0 script
 
   -- the body of a definition whose kind is this

@@ -22,7 +22,7 @@ use Rattle.script_names.specs.declared.kinds.Kind.{Kind}
 use Rattle.script_names.specs.declared.kinds.Place.{Place}
 use Rattle.script_names.specs.Faults.{is_network, kind_network}
 use Rattle.script_names.specs.Names.{Meanings, Name}
-use Rattle.script_names.specs.Occurrence.{parallel}
+use Rattle.script_names.specs.declared.occurrence.Occurrence.TheVariants.{Parallel}
 use Rattle.script_names.specs.Says.{Said, tree_says}
 use Rattle.script_names.specs.Scopes.{Scope, names_of, with}
 use Rattle.script_names.specs.Typed.{Binding, Front, Layer, Reading, definition_number, exprs, net_of_layer, network_of_layer, networked_of_layer, proc_of_layer, reading}
@@ -53,7 +53,7 @@ module _ (m : Meanings) (ks : List Kind) where
     pub joined : r.networked scope ≡ true
     pub passes : (l : ℕ) → AllPass m ks (s (process_at true l) (names_of scope))
 
-  parallel_passes : (l : ℕ) → Passes m ks (parallel (process_at true l))
+  parallel_passes : (l : ℕ) → Passes m ks (Parallel (process_at true l))
   parallel_passes l = record { fine = record { known = refl; kind = refl; count = refl; inside = refl }; once = refl }
 
   leaf_layer : (d : Layer m ks) (scope : Scope) (n : ℕ) → networked_of_layer m ks d scope ≡ false

@@ -29,7 +29,7 @@ use Rattle.script_names.specs.declared.kinds.Sense.TheVariants as sense
 use Rattle.script_names.specs.declared.kinds.Use.TheVariants as how
 use Rattle.script_names.specs.Faults.{is_network, kind_network, leave_other, when}
 use Rattle.script_names.specs.Names.{Meanings, Name, sense_in}
-use Rattle.script_names.specs.Occurrence.{binds, form, uses}
+use Rattle.script_names.specs.declared.occurrence.Occurrence.TheVariants.{Binds, Form, Uses}
 use Rattle.script_names.specs.Says.{Binder, Fields, Said, all_say, event_says_of_layer, field_says_of_layer, gen_says_of_layer, in_turn, pair_says, part_says, part_says_of_layer, tree_says, tree_says_of_layer}
 use Rattle.script_names.specs.Says as says
 use Rattle.script_names.specs.Scopes.{Scope, names_of, number_of, with}
@@ -101,9 +101,9 @@ module _ (m : Meanings) (ks : List Kind) where
       h)
 
   renamed_passes : (x : Name) (s z : Sense) (c n c' n' k k' left : ℕ) → s ≡ sense.Declared (entity.Channel c n)
-      → z ≡ sense.Declared (entity.Channel c' n') → k + left ≡ n → k' + left ≡ n' → Passes m ks (uses x s (how.Renamed k z k'))
+      → z ≡ sense.Declared (entity.Channel c' n') → k + left ≡ n → k' + left ≡ n' → Passes m ks (Uses x s (how.Renamed k z k'))
   renamed_passes x s z c n c' n' k k' left h h' g g' =
-      subst (λ y. Passes m ks (uses x y (how.Renamed k z k'))) (sym h) (subst (λ y. Passes m ks (uses x (sense.Declared (entity.Channel c n)) (how.Renamed k y k'))) (sym h')
+      subst (λ y. Passes m ks (Uses x y (how.Renamed k z k'))) (sym h) (subst (λ y. Passes m ks (Uses x (sense.Declared (entity.Channel c n)) (how.Renamed k y k'))) (sym h')
       (record {
         fine = record {
           known = refl;
@@ -115,17 +115,17 @@ module _ (m : Meanings) (ks : List Kind) where
         once = refl;
       }))
 
-  head_passes : (x : Name) (c n k : ℕ) → k ≡ n → Passes m ks (uses x (sense.Declared (entity.Channel c n)) (how.Heads k))
+  head_passes : (x : Name) (c n k : ℕ) → k ≡ n → Passes m ks (Uses x (sense.Declared (entity.Channel c n)) (how.Heads k))
   head_passes x c n zero same = record { fine = record { known = refl; kind = refl; count = none_of_count n zero x same; inside = refl }; once = refl }
   head_passes x c n (suc k) same = record { fine = record { known = refl; kind = refl; count = none_of_count n (suc k) x same; inside = refl }; once = refl }
 
-  bound_head_passes : (x : Name) → Passes m ks (uses x sense.Bound (how.Heads 0))
+  bound_head_passes : (x : Name) → Passes m ks (Uses x sense.Bound (how.Heads 0))
   bound_head_passes x = record { fine = record { known = refl; kind = refl; count = refl; inside = refl }; once = refl }
 
-  -- a form above parts
+  -- a Form above parts
   form_is : (rest : Said) (r : Reading) (scope : Scope) (n : ℕ) (q : Proc) (k : ℕ) → r.proc scope n ≡ q → n + r.binds ≡ k → r.networked scope ≡ false
       → ((b : Bool) (l : ℕ) → AllPass m ks (rest (process_at b l) (names_of scope)))
-      → ProcIs (λ place names. form class.Process place ∷ rest place names) r scope n q k
+      → ProcIs (λ place names. Form class.Process place ∷ rest place names) r scope n q k
   form_is rest r scope n q k value next leaf passes = record {
     value = value;
     next = next;

@@ -22,7 +22,7 @@ use Rattle.script_names.specs.Faults.{when}
 use Rattle.script_names.specs.FieldSets.{field_sets}
 use Rattle.script_names.specs.Kinds.{AreKinds, script_ends}
 use Rattle.script_names.specs.Names.{Meanings, Name, is_among, meanings_of, names_declared, none_yet}
-use Rattle.script_names.specs.Occurrence.{notes}
+use Rattle.script_names.specs.declared.occurrence.Occurrence.TheVariants.{Notes}
 use Rattle.script_names.specs.Once.{AreOnce, with_roles, with_uses}
 use Rattle.script_names.specs.Program.{IsProgram, all_events, with_events, with_sets}
 use Rattle.script_names.specs.Resolved.{Answer, and_next, channel_sets, resolved, types_of, with_names, with_root, with_table}
@@ -62,7 +62,7 @@ module _ (script : List Decl) (ks : List Kind) where
   names_once : (earlier rest : List Decl) → EachPasses script ks earlier rest → EachFresh names_of_decl earlier rest
   names_once earlier [] h = tt
   names_once earlier (decl.Channel xs types ∷ rest) h =
-      (fresh_names earlier xs (pass_two m ks (declared_after (names_declared earlier) xs) (types_say m ks types) h.0.passes).0,
+      (fresh_names earlier xs (pass_two m ks (declared_after (names_declared earlier) xs) (types_say m types) h.0.passes).0,
       names_once (earlier ++ decl.Channel xs types ∷ []) rest h.1)
   names_once earlier (decl.Datatype x cs ∷ rest) h = (fresh_names earlier (x ∷ cs) h.0.passes, names_once (earlier ++ decl.Datatype x cs ∷ []) rest h.1)
   names_once earlier (decl.Nametype x a ∷ rest) h =
@@ -206,7 +206,7 @@ not_deep : (limit a b : ℕ) → a ≡ b → b ≤ limit → nat_lt limit a ≡ 
 not_deep limit a b e h = grind arith
 
 module _ (m : Meanings) (ks : List Kind) where
-  note_passes : (x : Name) (b : Bool) → b ≡ false → Passes m ks (notes x b)
+  note_passes : (x : Name) (b : Bool) → b ≡ false → Passes m ks (Notes x b)
   note_passes x b h = record { fine = record { known = refl; kind = refl; count = refl; inside = refl }; once = ap (λ z. when z x) h }
 
   names_said : (earlier : List Decl) (xs : List Name) → FreshFrom (flat_map names_of_decl earlier) xs → AllPass m ks (declared_after (names_declared earlier) xs)

@@ -22,7 +22,7 @@ use Rattle.script_names.specs.Faults.{clashes, kind_class, kind_network}
 use Rattle.script_names.specs.Kinds.{AreKinds, AreKindsOf, LeadsTo, body_ends, end_of_call, end_of_name, ends, ends_at, script_ends}
 use Rattle.script_names.specs.Kinds.LeadsTo.{here, beyond}
 use Rattle.script_names.specs.Names.{Counts, Entities, Meanings, Name, channels_from, constants_from, counted, declared_from, meanings_of, none_yet, same_name}
-use Rattle.script_names.specs.Occurrence.{uses}
+use Rattle.script_names.specs.declared.occurrence.Occurrence.TheVariants.{Uses}
 use Rattle.script_names.specs.Says.{Said, tree_says}
 use Rattle.script_names.specs.Told.{body_place, counts_of, declared_after, name_fault, names_declared, need_of, next_definition, parameters_after}
 use Rattle.script_names.specs.Typed.{Reading}
@@ -66,7 +66,7 @@ leads_within : {target : End} {all : List (List End)} {d : ℕ} → LeadsTo targ
 leads_within {target} {all} (here d k g) = ends_some all d k target (slice_get all d) refl g
 leads_within {target} {all} (beyond d k next g l) = ends_some all d k (end.Use next) (slice_get all d) refl g
 
-data_class : (ks : List Kind) (c : Class) → IsClass c → clashes ks c need.Data ≡ false → c ≡ class.Data
+data_class : (ks : List Kind) (c : Class) → IsClass c → clashes c need.Data ≡ false → c ≡ class.Data
 data_class ks class.Data h g = refl
 data_class ks class.Process h g = absurd (cc)
 data_class ks class.Unknown h g = absurd h
@@ -133,7 +133,7 @@ module _ (bound : ℕ) where
 module _ (ks : List Kind) where
   -- an end of a body of data: of data, or the use of what is no process
   abbrev IsDataEnd : End → Type 0
-  IsDataEnd (end.Use d) = clashes ks (kind_class (slice_get ks d)) need.Data ≡ false
+  IsDataEnd (end.Use d) = clashes (kind_class (slice_get ks d)) need.Data ≡ false
   IsDataEnd end.Process = ⊥
   IsDataEnd end.Parallel = ⊥
   IsDataEnd _ = Unit {0}
@@ -146,11 +146,11 @@ module _ (ks : List Kind) where
   data_append [] gs h g = g
   data_append (e ∷ es) gs h g = (h.0, data_append es gs h.1 g)
 
-  name_end : (x : Name) (s : Sense) (b : Bool) (l : ℕ) → IsFine ks (uses x s (how.Alone (data_at b l))) → IsDataEnd (end_of_name s)
+  name_end : (x : Name) (s : Sense) (b : Bool) (l : ℕ) → IsFine ks (Uses x s (how.Alone (data_at b l))) → IsDataEnd (end_of_name s)
   name_end x (sense.Declared (entity.Definition d n)) b l h = h.kind
   name_end x _ b l h = tt
 
-  call_end : (x : Name) (s : Sense) (n : ℕ) (b : Bool) (l : ℕ) → IsFine ks (uses x s (how.Called n (data_at b l))) → IsDataEnd (end_of_call s)
+  call_end : (x : Name) (s : Sense) (n : ℕ) (b : Bool) (l : ℕ) → IsFine ks (Uses x s (how.Called n (data_at b l))) → IsDataEnd (end_of_call s)
   call_end x (sense.Declared (entity.Definition d k)) n b l h = h.kind
   call_end x _ n b l h = tt
 

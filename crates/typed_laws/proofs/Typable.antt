@@ -26,7 +26,7 @@ use Rattle.script_names.specs.declared.kinds.Sense.TheVariants as sense
 use Rattle.script_names.specs.declared.kinds.Use.TheVariants as how
 use Rattle.script_names.specs.Faults.{is_network}
 use Rattle.script_names.specs.Names.{Meanings, Name, sense_in}
-use Rattle.script_names.specs.Occurrence.{form, parallel, uses}
+use Rattle.script_names.specs.declared.occurrence.Occurrence.TheVariants.{Form, Parallel, Uses}
 use Rattle.script_names.specs.Says.{Binder, Fields, Said, all_say, in_turn, pair_says, part_says}
 use Rattle.script_names.specs.Says as says
 use Rattle.script_names.specs.Scopes.{Scope, names_of, number_of, with}
@@ -80,7 +80,7 @@ no_place true false h g k = cc
 no_place false s h g k = cc
 
 module _ (m : Meanings) (ks : List Kind) (kinds : HaveKinds m ks) where
-  -- a tree of the form of expressions, of processes and of networks, at a place that asks for one
+  -- a tree of the Form of expressions, of processes and of networks, at a place that asks for one
   pub record Typable (a : Tree) (s : Said) (r : Reading) : Type 0 where
     pub expr : (scope : Scope) (n : ℕ) (b : Bool) (l : ℕ) → AllPass m ks (s (data_at b l) (names_of scope)) → IsExpr m ks scope n a (r.expr scope n) (n + r.binds)
     pub proc : (scope : Scope) (n : ℕ) (b : Bool) (l : ℕ) → (b && r.networked scope) ≡ false → AllPass m ks (s (process_at b l) (names_of scope))
@@ -134,7 +134,7 @@ module _ (m : Meanings) (ks : List Kind) (kinds : HaveKinds m ks) where
   -- forms that are of data, of a process or of a network alone
   of_data : (a : Tree) (rest : Said) (r : Reading) → (leaf : (scope : Scope) (n : ℕ) → r.networked scope ≡ false → r.net scope n ≡ net.Leaf (r.proc scope n)) → ((scope : Scope) → r.networked scope ≡ false)
       → ((scope : Scope) (n : ℕ) (b : Bool) (l : ℕ) → AllPass m ks (rest (data_at b l) (names_of scope)) → IsExpr m ks scope n a (r.expr scope n) (n + r.binds))
-      → Typable a (λ place names. form class.Data place ∷ rest place names) r
+      → Typable a (λ place names. Form class.Data place ∷ rest place names) r
   of_data a rest r leaf single h = record {
     expr = λ scope n b l pass. h scope n b l pass.1;
     proc = λ scope n b l is pass. absurd (let g = pass.0.fine.kind in cc);
@@ -144,7 +144,7 @@ module _ (m : Meanings) (ks : List Kind) (kinds : HaveKinds m ks) where
 
   of_process : (a : Tree) (rest : Said) (r : Reading) → (leaf : (scope : Scope) (n : ℕ) → r.networked scope ≡ false → r.net scope n ≡ net.Leaf (r.proc scope n)) → ((scope : Scope) → r.networked scope ≡ false)
       → ((scope : Scope) (n : ℕ) (b : Bool) (l : ℕ) → AllPass m ks (rest (process_at b l) (names_of scope)) → IsProc m ks scope n a (r.proc scope n) (n + r.binds))
-      → Typable a (λ place names. form class.Process place ∷ rest place names) r
+      → Typable a (λ place names. Form class.Process place ∷ rest place names) r
   of_process a rest r leaf single h = record {
     expr = λ scope n b l pass. absurd (let g = pass.0.fine.kind in cc);
     proc = λ scope n b l is pass. h scope n b l pass.1;
@@ -154,7 +154,7 @@ module _ (m : Meanings) (ks : List Kind) (kinds : HaveKinds m ks) where
 
   of_network : (a : Tree) (rest : Said) (r : Reading) → ((scope : Scope) → r.networked scope ≡ true)
       → ((scope : Scope) (n l : ℕ) → AllPass m ks (rest (process_at true l) (names_of scope)) → IsComposition m ks scope n a (r.net scope n) (n + r.binds))
-      → Typable a (λ place names. parallel place ∷ rest place names) r
+      → Typable a (λ place names. Parallel place ∷ rest place names) r
   of_network a rest r joined h = record {
     expr = λ scope n b l pass. absurd (let g = pass.0.fine.kind in cc);
     proc = λ scope n b l is pass. absurd (no_place b (r.networked scope) (joined scope) is pass.0.fine.inside);
@@ -189,7 +189,7 @@ module _ (m : Meanings) (ks : List Kind) (kinds : HaveKinds m ks) where
 
   -- a prefix with its head
   prefix_typed : (x : Name) {ts : List FieldTree} {bs : List Binder} {fs : List (Binding Field)} → FieldsRead m ks ts bs fs → (scope : Scope) (n : ℕ)
-      {o : Option ℕ} {s : Sense} → NameIs m x o s → number_of scope x ≡ o → Passes m ks (uses x s (how.Heads (length bs))) → {inner : Scope} {i k : ℕ}
+      {o : Option ℕ} {s : Sense} → NameIs m x o s → number_of scope x ≡ o → Passes m ks (Uses x s (how.Heads (length bs))) → {inner : Scope} {i k : ℕ}
       {p : Tree} {q : Proc} → AreFields m ks scope n ts (bindings fs scope n) inner i → IsProc m ks inner i p q k
       → IsProc m ks scope n (tree.Prefix (event_tree x ts) p) (proc.Prefix (head_of o (m x)) (bindings fs scope n) q) k
   prefix_typed x f.no_fields scope n (is_bound b) is pass t.no_fields h = t.bound_prefix is h

@@ -1,8 +1,7 @@
-use Rattle.std.proofs.Common.{◌++◌, ◌∙◌, ◌+◌, ◌≤◌, ap, arith, drop, length, map, sym}
+use Rattle.std.proofs.Common.{◌++◌, ◌∙◌, ◌+◌, ◌≤◌, ap, arith, drop, length, sym}
 use Rattle.csp_base.proofs.Lists.{drop_read}
 use Rattle.script_names.specs.Names.{first_of}
-use Rattle.script_names.specs.Told.{bodies_from}
-use Rattle.name_notes.specs.Found.{body_of}
+use Rattle.name_faults.specs.Bodies.{bodies_after}
 use Rattle.script_sizes.specs.Size.{declaration_depth, depth}
 use Rattle.name_faults.proofs.KnownLemmas.{bodies_on}
 use Rattle.name_faults.proofs.Small.{in_declarations}
@@ -11,15 +10,17 @@ use Rattle.name_faults.proofs.bodies.bodies_of.Goals as goal
 pub add_body-requires : goal.add_body-requires
 add_body-requires c =
     let fits : declaration_depth c.decl-item.result ≤ depth c.args.decls.now = in_declarations c.args.decls.now c.loop-decl.decl-index c.decl-item.result c.loop-decl-test.true c.decl-item.is in
-    omega arith
+    record { names = c.loop-decl.invariant.names; depth = omega arith }
 
 pub loop-decl-preserved : goal.loop-decl-preserved
 loop-decl-preserved c =
-    let m = first_of c.args.meanings.now.names.now in
-    let kinds = c.args.meanings.now.kinds.now in
+    let m = c.args.meanings.now in
     let old = c.loop-decl.bodies in
     let rest = drop (c.loop-decl.decl-index + 1) c.args.decls.now in
-    ap (λ bs. bs ++ map body_of (bodies_from m kinds (length bs) rest)) c.in_ok-add_body.ensures
-    ∙ bodies_on m kinds rest old c.decl-item.result
-    ∙ ap (λ ds. old ++ map body_of (bodies_from m kinds (length old) ds)) (sym (drop_read _ _ _ c.loop-decl-test.true c.decl-item.is))
-    ∙ c.loop-decl.invariant
+    record {
+      bodies = ap (λ bs. bs ++ bodies_after m (length bs) rest) c.in_ok-add_body.ensures.bodies
+          ∙ bodies_on (first_of m.names.now) m.kinds.now rest old c.decl-item.result
+          ∙ ap (λ ds. old ++ bodies_after m (length old) ds) (sym (drop_read _ _ _ c.loop-decl-test.true c.decl-item.is))
+          ∙ c.loop-decl.invariant.bodies;
+      names = c.in_ok-add_body.ensures.names;
+    }

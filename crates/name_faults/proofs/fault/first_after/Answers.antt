@@ -11,13 +11,13 @@ use Rattle.script_sizes.specs.Size.{declaration_depth, depth}
 use Rattle.name_tables.proofs.NameLemmas.{same_meanings}
 
 pub loop-decl-init : goal.loop-decl-init
-loop-decl-init c = record { known = nothing_is_known c.args.known.now c.requires.known; so_far = refl }
+loop-decl-init c = record { names = c.requires.walk; known = nothing_is_known c.args.known.now c.requires.known; so_far = refl }
 
 pub fault_in-requires : goal.fault_in-requires
 fault_in-requires c =
     let fits : declaration_depth c.decl-item.result ≤ depth c.args.decls.now = in_declarations c.args.decls.now c.loop-decl.decl-index c.decl-item.result c.loop-decl-test.true c.decl-item.is in
     let shallow = c.requires.small.shallow in
-    omega arith
+    record { names = c.loop-decl.invariant.names; depth = omega arith }
 
 pub count-requires : goal.count-requires
 count-requires c = record {
@@ -42,6 +42,7 @@ loop-decl-preserved c =
     let m = first_of c.args.meanings.now.names.now in
     let same : m ≡ meanings_of decls = same_meanings decls c.args.meanings.now.names.now c.requires.names in
     record {
+      names = c.in_ok-fault.ensures.names;
       known = subst (λ (ds : List Decl). IsKnown ds c.count.new.self) (sym (take_read decls c.loop-decl.decl-index c.decl-item.result c.loop-decl-test.true c.decl-item.is))
           (next_known (take c.loop-decl.decl-index decls) c.loop-decl.known c.fault_in.new.known c.decl-item.result c.count.new.self c.loop-decl.invariant.known
           c.in_ok-fault.ensures.known c.count.ensures);

@@ -1,5 +1,11 @@
-use Rattle.name_tables.proofs.SpellingLemmas.{firsts_longer}
+use Rattle.std.proofs.Common.{◌∙◌, nat_eq}
+use Rattle.std.specs.Cmp.Lexicographic.{pointwise}
+use Rattle.indexmap.proofs.CallerLemmas.{insert_entry-new}
+use Rattle.script_names.specs.Names.{first_of}
+use Rattle.name_tables.proofs.NameLemmas.{none_there}
 use Rattle.name_tables.proofs.dictionary.put_new.Goals as goal
 
 pub returns : goal.returns
-returns c = firsts_longer c.args.entities.now c.insert.new.self c.args.spelling c.args.entity c.requires c.in_ok-insert.ensures.updates
+returns c =
+    c.in_ok-insert.ensures.entries
+    ∙ insert_entry-new (pointwise nat_eq) c.args.entities.now c.args.name c.args.entity (none_there (first_of c.args.entities.now.entries c.args.name) c.requires)

@@ -1,10 +1,9 @@
 use Rattle.std.proofs.Common.{[], ◌∷◌, ◌++◌, subst, OnOk}
 use Rattle.script_names.specs.Names.{Entities}
 use Rattle.name_tables.specs.Firsts.{SameFirsts}
-use Rattle.name_tables.specs.Spelling.{spelled_entries}
 use Rattle.name_tables.proofs.dictionary.Dictionary.declare.Goals as goal
 
 pub returns : goal.returns
 returns c =
-    let with_one : Entities → Type 0 = λ es. OnOk c.declare_in.result (SameFirsts (spelled_entries c.declare_in.new.entities.entries) (es ++ (c.args.name.now, c.args.entity) ∷ [])) in
+    let with_one : Entities → Type 0 = λ es. OnOk c.declare_in.result (SameFirsts c.declare_in.new.entities.entries (es ++ (c.args.name.now, c.args.entity) ∷ [])) in
     subst with_one c.self.view_is c.declare_in.ensures

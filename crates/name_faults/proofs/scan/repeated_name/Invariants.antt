@@ -1,0 +1,9 @@
+use Rattle.std.proofs.Common.{◌≡◌, drop, map}
+use Rattle.script_names.specs.Faults.{repeated_name}
+use Rattle.script_names.specs.Names.{first_of}
+use Rattle.script_names.specs.Told.{first_name}
+use Rattle.name_faults.specs.Walked.{seen}
+use Rattle.name_faults.proofs.scan.repeated_name.Given as goal
+
+abbrev pub invariant-loop-said : goal.invariant-loop-said
+invariant-loop-said l = first_name (repeated_name (first_of l.names)) (map seen (drop l.said-index l.list)) ≡ first_name (repeated_name (first_of l.names)) (map seen l.list)

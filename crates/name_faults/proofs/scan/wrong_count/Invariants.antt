@@ -1,0 +1,8 @@
+use Rattle.std.proofs.Common.{◌≡◌, drop, map}
+use Rattle.script_names.specs.Faults.{wrong_count}
+use Rattle.script_names.specs.Told.{first_name}
+use Rattle.name_faults.specs.Walked.{seen}
+use Rattle.name_faults.proofs.scan.wrong_count.Given as goal
+
+abbrev pub invariant-loop-said : goal.invariant-loop-said
+invariant-loop-said l = first_name wrong_count (map seen (drop l.said-index l.list)) ≡ first_name wrong_count (map seen l.list)

@@ -1,0 +1,8 @@
+use Rattle.std.proofs.Common.{◌≡◌, take}
+use Rattle.script_names.specs.Names.{first_of}
+use Rattle.script_names.specs.Told.{types_say}
+use Rattle.name_faults.specs.Walked.{after}
+use Rattle.name_faults.proofs.walk.Walk.types.Given as goal
+
+abbrev pub invariant-loop-tree : goal.invariant-loop-tree
+invariant-loop-tree l = l.self ≡ after l.initial.self (types_say (first_of l.initial.self.names) (take l.tree-index l.types))
