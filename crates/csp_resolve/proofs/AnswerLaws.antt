@@ -13,7 +13,9 @@ use Rattle.script_names.specs.declared.fault.Unresolved.{Unresolved}
 use Rattle.script_names.specs.declared.fault.Unresolved.TheVariants as unresolved
 use Rattle.script_names.specs.declared.kinds.Kind.{Kind}
 use Rattle.script_names.specs.Kinds.{AreKinds}
-use Rattle.script_names.specs.Resolved.{Answer, IsProgram, Resolves, resolved}
+use Rattle.script_names.specs.Program.{IsProgram}
+use Rattle.script_names.specs.Resolved.{Answer, Resolves, resolved}
+use Rattle.typed_laws.proofs.Programs.{faultless_is_program}
 
 -- an error is owed where the whole has each fault of the part
 pub err_from : {A B C D : Type 0} (shown : A → B) (also : C → D) (f : Unresolved) (part : Answer B) (whole : Answer D)
@@ -39,11 +41,8 @@ refused_from script decls kinds f is are owed =
 
 pub program_is : (script : Script) (decls : List Decl) (kinds : List Kind) (p q : Content) → decls ≡ script.decls → AreKinds decls kinds → resolved decls kinds ≡ Ok p → q ≡ p
     → IsProgram script q
-program_is script decls kinds p q is are answer same = record {
-  kinds = kinds;
-  are = subst (λ ds. AreKinds ds kinds) is are;
-  is = ap (λ ds. resolved ds kinds) (sym is) ∙ answer ∙ ap Ok (sym same);
-}
+program_is script decls kinds p q is are answer same =
+    faultless_is_program script kinds q (subst (λ ds. AreKinds ds kinds) is are) (ap (λ ds. resolved ds kinds) (sym is) ∙ answer ∙ ap Ok (sym same))
 
 -- the exit of a `?`
 pub passed : {A B C D : Type 0} (r : Result C Unresolved) (f : Unresolved) (shown : A → B) (also : C → D) (part : Answer B) (whole : Answer D)

@@ -5,7 +5,9 @@ use Rattle.csp_program.specs.declared.programs.Content.{Content}
 use Rattle.csp_tables.specs.Network.{Tree}
 use Rattle.csp_text.specs.declared.script.Script.{Script}
 use Rattle.network_trees.specs.NetworkOf.{Walked, network_of}
-use Rattle.script_names.specs.Resolved.{Answer, IsProgram, resolved}
+use Rattle.script_names.specs.Program.{IsProgram}
+use Rattle.script_names.specs.Resolved.{Answer, resolved}
+use Rattle.typed_laws.proofs.Programs.{program_resolves}
 use Rattle.judgement.specs.Laws.{EachScriptHasOneNetwork}
 use Rattle.judgement.proofs.KindsUnique.{kinds_are_unique}
 
@@ -18,7 +20,7 @@ same_tree t u x y e is other = cc
 pub one_program : (script : Script) (p q : Content) → IsProgram script p → IsProgram script q → p ≡ q
 one_program script p q a b =
     same_ok p q (resolved script.decls a.kinds) (resolved script.decls b.kinds)
-    (ap (resolved script.decls) (kinds_are_unique script.decls a.kinds b.kinds a.are b.are)) a.is b.is
+    (ap (resolved script.decls) (kinds_are_unique script.decls a.kinds b.kinds a.are b.are)) (program_resolves script p a) (program_resolves script q b)
 
 pub one_network : EachScriptHasOneNetwork
 one_network script network other a b =

@@ -12,7 +12,7 @@ use Rattle.report.specs.declared.answer.Answer.{Answer}
 use Rattle.report.specs.declared.answer.Side.{Side}
 use Rattle.report.specs.declared.stop.Stop.{Stop}
 use Rattle.report.specs.declared.stop.Stop.TheVariants as stop
-use Rattle.script_names.specs.Resolved.{IsProgram}
+use Rattle.script_names.specs.Program.{IsProgram}
 use Rattle.network_stages.specs.Networks.{AreSeatsOf, IsSpelled, Network, tree_at, tree_in}
 use Rattle.network_stages.specs.Stages.{HasNoNetwork, SpellsNone}
 

@@ -10,7 +10,7 @@ use Rattle.csp_tables.specs.SilentBound.{IsSilentBound}
 use Rattle.csp_text.specs.declared.script.Script.{Script}
 use Rattle.network_trees.specs.NetworkOf.{Walked, network_of}
 use Rattle.process_steps.specs.ComponentStep.{ProcessStep}
-use Rattle.script_names.specs.Resolved.{IsProgram}
+use Rattle.script_names.specs.Program.{IsProgram}
 
 -- a network: its components begin with processes over the program
 pub record Network : Type 0 where

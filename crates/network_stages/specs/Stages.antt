@@ -26,7 +26,8 @@ use Rattle.report.specs.declared.answer.Shortfall.TheVariants as shortfall
 use Rattle.report.specs.declared.answer.Side.{Side}
 use Rattle.report.specs.declared.answer.TextFault.TheVariants as text
 use Rattle.report.specs.declared.answer.Verdict.TheVariants as verdict
-use Rattle.script_names.specs.Resolved.{IsProgram, IsRefused}
+use Rattle.script_names.specs.Program.{IsProgram}
+use Rattle.script_names.specs.Resolved.{IsRefused}
 use Rattle.script_names.specs.declared.fault.ResolveFault.{ResolveFault}
 use Rattle.network_stages.specs.Busy.{StopsFirstIn}
 use Rattle.network_stages.specs.Networks.{Network}

@@ -24,7 +24,7 @@ use Rattle.script_names.specs.Names.{Counts, Meanings, Name, counted, meanings_o
 use Rattle.script_names.specs.Told.{name_fault}
 use Rattle.resolved_laws.specs.Laws.{PlainIsInOrder}
 use Rattle.resolved_laws.proofs.Circle.{no_circle}
-use Rattle.resolved_laws.proofs.Classes.{EachKnown, IsClass, has_class, script_known}
+use Rattle.typed_laws.proofs.Classes.{EachKnown, IsClass, has_class, script_known}
 use Rattle.resolved_laws.proofs.ClosedContent.{channels_closed, defs_closed, root_closed}
 use Rattle.resolved_laws.proofs.Fitting.{AllFit}
 use Rattle.resolved_laws.proofs.Places.{EachFrom, HasChannel, HasConst, HoldsAll, IsDefAt, all_fit, each_map, each_place}

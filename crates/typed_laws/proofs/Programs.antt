@@ -1,0 +1,265 @@
+-- A script has a program by the rules of typing exactly where the functions give it.
+use Rattle.std.proofs.Common.{◌≡◌, ℕ, zero, suc, ◌+◌, ◌≤◌, Bool, true, false, nat_le, nat_lt, IsTrue, Option, Some, None, Ok, Err, List, [], ◌∷◌, ◌++◌, length, map, refl, sym, ◌∙◌, ap, subst, arith}
+use Rattle.std.specs.Prelude.{if◌then◌else◌, slice_get}
+use Rattle.std.specs.List.{flat_map}
+use Rattle.dl_limits.specs.declared.TheConstants.{MOST_DATA_DEPTH, MOST_EVENTS}
+use Rattle.csp_atoms.specs.declared.atom.Atom.{Atom}
+use Rattle.csp_base.specs.Lists.{StandsIn}
+use Rattle.csp_text.specs.declared.script.Decl.{Decl}
+use Rattle.csp_text.specs.declared.script.Decl.TheVariants as decl
+use Rattle.csp_text.specs.declared.script.Script.{Script}
+use Rattle.csp_text.specs.declared.tree.Tree.{Tree}
+use Rattle.csp_program.specs.declared.expressions.Expr.{Expr}
+use Rattle.csp_program.specs.declared.programs.Content.{Content}
+use Rattle.csp_program.specs.declared.programs.Def.{Def}
+use Rattle.script_names.specs.declared.fault.ResolveFault.{ResolveFault}
+use Rattle.script_names.specs.declared.kinds.Kind.{Kind}
+use Rattle.script_names.specs.Contents.{first_assertion, plain_content}
+use Rattle.script_names.specs.DataDepth.{IsShallow, definition_depth}
+use Rattle.script_names.specs.Declaring.{Declares, nothing_yet}
+use Rattle.script_names.specs.Depth.{depth_within}
+use Rattle.script_names.specs.Faults.{when}
+use Rattle.script_names.specs.FieldSets.{field_sets}
+use Rattle.script_names.specs.Kinds.{AreKinds, script_ends}
+use Rattle.script_names.specs.Names.{Meanings, Name, is_among, meanings_of, names_declared, none_yet}
+use Rattle.script_names.specs.declared.occurrence.Occurrence.TheVariants.{Notes}
+use Rattle.script_names.specs.Once.{AreOnce, with_roles, with_uses}
+use Rattle.script_names.specs.Program.{IsProgram, all_events, with_events, with_sets}
+use Rattle.script_names.specs.Resolved.{Answer, and_next, channel_sets, resolved, types_of, with_names, with_root, with_table}
+use Rattle.script_names.specs.Says.{tree_says}
+use Rattle.script_names.specs.Told.{bodies_from, body_place, data_place, declared_after, is_deep, name_fault, next_definition, parameters_after, types_say}
+use Rattle.typed_laws.proofs.Back.{SetsFor, any_sets, declares, sets_for, sets_for_any}
+use Rattle.typed_laws.proofs.Declared.{bodies_are, content_is, depths_agree, sets_are}
+use Rattle.typed_laws.proofs.DeclPasses.{EachPasses, each_passes, no_fault}
+use Rattle.typed_laws.proofs.DefUses.{when_none}
+use Rattle.typed_laws.proofs.Forward.{passes_each}
+use Rattle.typed_laws.proofs.OnceLaws.{EachFresh, FreshFrom, are_once, declared_fresh, fresh_declared, names_are, names_of_decl, once_names, once_roles, once_uses}
+use Rattle.typed_laws.proofs.OnceSaid.{EachOnceSaid}
+use Rattle.typed_laws.proofs.Passing.{AllPass, Passes, pass_three, pass_two}
+use Rattle.typed_laws.proofs.ScriptKinds.{have_kinds, kind_is}
+use Rattle.typed_laws.proofs.Uses.{HaveKinds, KindIs}
+
+none_more : (n : ℕ) → 0 + n ≡ n
+none_more n = omega arith
+
+no_depth : (limit : ℕ) → 0 ≤ limit
+no_depth limit = omega arith
+
+at_most : (limit n : ℕ) → IsTrue (nat_le n limit) → n ≤ limit
+at_most limit n h = grind arith
+
+-- a depth that is not above the limit
+not_above : (limit a b : ℕ) → a ≡ b → nat_lt limit a ≡ false → b ≤ limit
+not_above limit a b e h = grind arith
+
+module _ (script : List Decl) (ks : List Kind) where
+  abbrev m : Meanings
+  m = meanings_of script
+
+  fresh_names : (earlier : List Decl) (xs : List Name) → AllPass m ks (declared_after (names_declared earlier) xs) → FreshFrom (flat_map names_of_decl earlier) xs
+  fresh_names earlier xs h = subst (λ z. FreshFrom z xs) (names_are earlier) (declared_fresh m ks (names_declared earlier) xs h)
+
+  names_once : (earlier rest : List Decl) → EachPasses script ks earlier rest → EachFresh names_of_decl earlier rest
+  names_once earlier [] h = tt
+  names_once earlier (decl.Channel xs types ∷ rest) h =
+      (fresh_names earlier xs (pass_two m ks (declared_after (names_declared earlier) xs) (types_say m types) h.0.passes).0,
+      names_once (earlier ++ decl.Channel xs types ∷ []) rest h.1)
+  names_once earlier (decl.Datatype x cs ∷ rest) h = (fresh_names earlier (x ∷ cs) h.0.passes, names_once (earlier ++ decl.Datatype x cs ∷ []) rest h.1)
+  names_once earlier (decl.Nametype x a ∷ rest) h =
+      (fresh_names earlier (x ∷ []) (pass_two m ks (declared_after (names_declared earlier) (x ∷ [])) (tree_says m a data_place []) h.0.passes).0,
+      names_once (earlier ++ decl.Nametype x a ∷ []) rest h.1)
+  names_once earlier (decl.Define x params a ∷ rest) h =
+      (fresh_names earlier (x ∷ []) (pass_three m ks (declared_after (names_declared earlier) (x ∷ [])) (parameters_after [] params)
+      (tree_says m a (body_place (slice_get ks (next_definition earlier))) params) h.0.passes).0,
+      names_once (earlier ++ decl.Define x params a ∷ []) rest h.1)
+  names_once earlier (decl.Assert a ∷ rest) h = (tt, names_once (earlier ++ decl.Assert a ∷ []) rest h.1)
+  names_once earlier (decl.Roles names ∷ rest) h = (tt, names_once (earlier ++ decl.Roles names ∷ []) rest h.1)
+  names_once earlier (decl.Resource names ∷ rest) h = (tt, names_once (earlier ++ decl.Resource names ∷ []) rest h.1)
+
+  roles_once : (earlier rest : List Decl) → EachPasses script ks earlier rest → EachFresh with_roles earlier rest
+  roles_once earlier [] h = tt
+  roles_once earlier (decl.Roles names ∷ rest) h =
+      ((when_none (is_among (flat_map with_roles earlier) names.process) names.process h.0.passes.0.once, tt), roles_once (earlier ++ decl.Roles names ∷ []) rest h.1)
+  roles_once earlier (d ∷ rest) h = (tt, roles_once (earlier ++ d ∷ []) rest h.1)
+
+  uses_once : (earlier rest : List Decl) → EachPasses script ks earlier rest → EachFresh with_uses earlier rest
+  uses_once earlier [] h = tt
+  uses_once earlier (decl.Resource names ∷ rest) h =
+      ((when_none (is_among (flat_map with_uses earlier) names.process) names.process h.0.passes.0.once, tt), uses_once (earlier ++ decl.Resource names ∷ []) rest h.1)
+  uses_once earlier (d ∷ rest) h = (tt, uses_once (earlier ++ d ∷ []) rest h.1)
+
+  abbrev plain : Content
+  plain = plain_content script ks
+
+  module _ (are : AreKinds script ks) (none : name_fault script ks ≡ None) where
+    abbrev passes : EachPasses script ks [] script
+    passes = each_passes script ks [] script none
+
+    pub once : AreOnce script
+    once = are_once script (names_once [] script passes) (roles_once [] script passes) (uses_once [] script passes)
+
+    -- what is put in where no definition is too deep, because none is there
+    pub first : Declares m ks nothing_yet (λ types sets. Unit {0}) none_yet script plain (any_sets script)
+    first = declares script ks (have_kinds script ks are none) (kind_is script ks are none) nothing_yet (λ types sets. Unit {0})
+        (λ n deep. no_depth MOST_DATA_DEPTH) [] script none_yet (any_sets script) refl (none_more (length (script_ends script))) passes
+        (sets_for_any (types_of script ks) script)
+
+    pub shallow : (n : ℕ) → is_deep ks (bodies_from m ks 0 script) n ≡ false → IsShallow plain n
+    shallow n h =
+        not_above MOST_DATA_DEPTH (depth_within (MOST_DATA_DEPTH + 1) (bodies_from m ks 0 script) n) (definition_depth (MOST_DATA_DEPTH + 1) plain.defs n)
+        (depths_agree (bodies_from m ks 0 script) plain.defs (bodies_are m ks first) (MOST_DATA_DEPTH + 1) n) h
+
+    -- the declarations of a faultless script put the plain content into the program
+    pub puts : (HasSets : List Expr → List (List Atom) → Type 0) (all : List (List (List Atom))) → SetsFor HasSets (types_of script ks) script all
+        → Declares m ks plain HasSets none_yet script plain all
+    puts HasSets all found =
+        declares script ks (have_kinds script ks are none) (kind_is script ks are none) plain HasSets shallow [] script none_yet all refl
+        (none_more (length (script_ends script))) passes found
+
+-- ---- the answer
+
+asserted : (decls : List Decl) (a : Tree) → first_assertion decls ≡ Some a → StandsIn decls (decl.Assert a)
+asserted [] a h = absurd (cc)
+asserted (decl.Assert b ∷ decls) a h = let e : b ≡ a = cc in (0, ap (λ z. Some (decl.Assert z)) e)
+asserted (decl.Channel xs types ∷ decls) a h = let w = asserted decls a h in (suc w.0, w.1)
+asserted (decl.Datatype x cs ∷ decls) a h = let w = asserted decls a h in (suc w.0, w.1)
+asserted (decl.Nametype x t ∷ decls) a h = let w = asserted decls a h in (suc w.0, w.1)
+asserted (decl.Define x params t ∷ decls) a h = let w = asserted decls a h in (suc w.0, w.1)
+asserted (decl.Roles names ∷ decls) a h = let w = asserted decls a h in (suc w.0, w.1)
+asserted (decl.Resource names ∷ decls) a h = let w = asserted decls a h in (suc w.0, w.1)
+
+-- the parts of an answer that is a program
+pub record Parts (script : List Decl) (ks : List Kind) (p : Content) : Type 0 where
+  pub root : Tree
+  pub asserted : first_assertion script ≡ Some root
+  pub none : name_fault script ks ≡ None
+  pub sets : List (List (List Atom))
+  pub found : channel_sets (plain_content script ks) (types_of script ks) 0 script ≡ Ok sets
+  pub few : all_events sets ≤ MOST_EVENTS
+  pub is : p ≡ with_events (plain_content script ks) (with_sets 0 (plain_content script ks).channels sets)
+
+if_few : (b : Bool) (q p : Content) (f : ResolveFault) → (if b then Ok q else Err f) ≡ Ok p → IsTrue b × (p ≡ q)
+if_few true q p f h = (refl, cc)
+if_few false q p f h = absurd (cc)
+
+module _ (script : List Decl) (ks : List Kind) (p : Content) where
+  tabled : (root : Tree) → first_assertion script ≡ Some root → name_fault script ks ≡ None → (o : Answer (List (List (List Atom))))
+      → channel_sets (plain_content script ks) (types_of script ks) 0 script ≡ o → and_next o (λ all. with_table (plain_content script ks) all) ≡ Ok p
+      → Parts script ks p
+  tabled root at none (Ok sets) found h =
+      let w = if_few (nat_le (all_events sets) MOST_EVENTS) (with_events (plain_content script ks) (with_sets 0 (plain_content script ks).channels sets)) p _ h in
+      record { root = root; asserted = at; none = none; sets = sets; found = found; few = at_most MOST_EVENTS (all_events sets) w.0; is = w.1 }
+  tabled root at none (Err f) found h = absurd (cc)
+
+  named : (root : Tree) → first_assertion script ≡ Some root → (o : Option ResolveFault) → name_fault script ks ≡ o → with_names script ks o ≡ Ok p → Parts script ks p
+  named root at (Some f) none h = absurd (cc)
+  named root at None none h = tabled root at none (channel_sets (plain_content script ks) (types_of script ks) 0 script) refl h
+
+  rooted : (o : Option Tree) → first_assertion script ≡ o → with_root script ks o ≡ Ok p → Parts script ks p
+  rooted None at h = absurd (cc)
+  rooted (Some root) at h = named root at (name_fault script ks) refl h
+
+  pub parts : resolved script ks ≡ Ok p → Parts script ks p
+  parts h = rooted (first_assertion script) refl h
+
+pub faultless_is_program : (script : Script) (ks : List Kind) (p : Content) → AreKinds script.decls ks → resolved script.decls ks ≡ Ok p → IsProgram script p
+faultless_is_program script ks p are h =
+    let w = parts script.decls ks p h in
+    record {
+      kinds = ks;
+      are = are;
+      asserted = (w.root, asserted script.decls w.root w.asserted);
+      once = once script.decls ks are w.none;
+      plain = plain_content script.decls ks;
+      sets = w.sets;
+      declared = puts script.decls ks are w.none (λ types sets. field_sets (plain_content script.decls ks) types ≡ Ok sets) w.sets
+          (sets_for (plain_content script.decls ks) (types_of script.decls ks) 0 script.decls w.sets w.found);
+      few = w.few;
+      is = w.is;
+    }
+
+-- ---- back
+
+some_asserted : (decls : List Decl) (k : ℕ) (a : Tree) → slice_get decls k ≡ Some (decl.Assert a) → (b : Tree) × (first_assertion decls ≡ Some b)
+some_asserted [] k a h = absurd (cc)
+some_asserted (decl.Assert b ∷ decls) k a h = (b, refl)
+some_asserted (decl.Channel xs types ∷ decls) zero a h = absurd (cc)
+some_asserted (decl.Channel xs types ∷ decls) (suc k) a h = some_asserted decls k a h
+some_asserted (decl.Datatype x cs ∷ decls) zero a h = absurd (cc)
+some_asserted (decl.Datatype x cs ∷ decls) (suc k) a h = some_asserted decls k a h
+some_asserted (decl.Nametype x t ∷ decls) zero a h = absurd (cc)
+some_asserted (decl.Nametype x t ∷ decls) (suc k) a h = some_asserted decls k a h
+some_asserted (decl.Define x params t ∷ decls) zero a h = absurd (cc)
+some_asserted (decl.Define x params t ∷ decls) (suc k) a h = some_asserted decls k a h
+some_asserted (decl.Roles names ∷ decls) zero a h = absurd (cc)
+some_asserted (decl.Roles names ∷ decls) (suc k) a h = some_asserted decls k a h
+some_asserted (decl.Resource names ∷ decls) zero a h = absurd (cc)
+some_asserted (decl.Resource names ∷ decls) (suc k) a h = some_asserted decls k a h
+
+if_true : (b : Bool) (x y : Answer Content) → b ≡ true → (if b then x else y) ≡ x
+if_true b x y h = ap (λ z. if z then x else y) h
+
+few_events : (limit n : ℕ) → n ≤ limit → nat_le n limit ≡ true
+few_events limit n h = grind arith
+
+not_deep : (limit a b : ℕ) → a ≡ b → b ≤ limit → nat_lt limit a ≡ false
+not_deep limit a b e h = grind arith
+
+module _ (m : Meanings) (ks : List Kind) where
+  note_passes : (x : Name) (b : Bool) → b ≡ false → Passes m ks (Notes x b)
+  note_passes x b h = record { fine = record { known = refl; kind = refl; count = refl; inside = refl }; once = ap (λ z. when z x) h }
+
+  names_said : (earlier : List Decl) (xs : List Name) → FreshFrom (flat_map names_of_decl earlier) xs → AllPass m ks (declared_after (names_declared earlier) xs)
+  names_said earlier xs h = fresh_declared m ks (names_declared earlier) xs (subst (λ z. FreshFrom z xs) (sym (names_are earlier)) h)
+
+  each_said : (earlier rest : List Decl) → EachFresh names_of_decl earlier rest → EachFresh with_roles earlier rest → EachFresh with_uses earlier rest
+      → EachOnceSaid m ks earlier rest
+  each_said earlier [] h g k = tt
+  each_said earlier (decl.Channel xs types ∷ rest) h g k =
+      (names_said earlier xs h.0, each_said (earlier ++ decl.Channel xs types ∷ []) rest h.1 g.1 k.1)
+  each_said earlier (decl.Datatype x cs ∷ rest) h g k =
+      (names_said earlier (x ∷ cs) h.0, each_said (earlier ++ decl.Datatype x cs ∷ []) rest h.1 g.1 k.1)
+  each_said earlier (decl.Nametype x a ∷ rest) h g k =
+      (names_said earlier (x ∷ []) h.0, each_said (earlier ++ decl.Nametype x a ∷ []) rest h.1 g.1 k.1)
+  each_said earlier (decl.Define x params a ∷ rest) h g k =
+      (names_said earlier (x ∷ []) h.0, each_said (earlier ++ decl.Define x params a ∷ []) rest h.1 g.1 k.1)
+  each_said earlier (decl.Assert a ∷ rest) h g k = (tt, each_said (earlier ++ decl.Assert a ∷ []) rest h.1 g.1 k.1)
+  each_said earlier (decl.Roles names ∷ rest) h g k =
+      ((note_passes names.process _ g.0.0, tt), each_said (earlier ++ decl.Roles names ∷ []) rest h.1 g.1 k.1)
+  each_said earlier (decl.Resource names ∷ rest) h g k =
+      ((note_passes names.process _ k.0.0, tt), each_said (earlier ++ decl.Resource names ∷ []) rest h.1 g.1 k.1)
+
+module _ (script : Script) (p : Content) (h : IsProgram script p) where
+  abbrev decls : List Decl
+  decls = script.decls
+
+  faultless : name_fault decls h.kinds ≡ None
+  faultless = no_fault decls h.kinds [] decls (passes_each decls h.kinds h.declared [] refl
+      (each_said (meanings_of decls) h.kinds [] decls (once_names decls h.once) (once_roles decls h.once) (once_uses decls h.once))
+      (λ i low. not_deep MOST_DATA_DEPTH (depth_within (MOST_DATA_DEPTH + 1) (bodies_from (meanings_of decls) h.kinds 0 decls) i)
+      (definition_depth (MOST_DATA_DEPTH + 1) h.plain.defs i)
+      (depths_agree (bodies_from (meanings_of decls) h.kinds 0 decls) h.plain.defs (bodies_are (meanings_of decls) h.kinds h.declared) (MOST_DATA_DEPTH + 1) i) low))
+
+  same_content : plain_content decls h.kinds ≡ h.plain
+  same_content =
+      let v = content_is (meanings_of decls) h.kinds h.declared in
+      λ i. record {
+        events = v.events i;
+        channels = v.channels i;
+        consts = v.consts i;
+        defs = v.defs i;
+        roles = v.roles i;
+        resources = v.resources i;
+        root = v.root i;
+      }
+
+  abbrev tail : Content → Answer Content
+  tail q = and_next (channel_sets q (types_of decls h.kinds) 0 decls) (λ all. with_table q all)
+
+  pub program_resolves : resolved decls h.kinds ≡ Ok p
+  program_resolves =
+      let root = some_asserted decls h.asserted.1.0 h.asserted.0 h.asserted.1.1 in
+      ap (with_root decls h.kinds) root.1 ∙ ap (with_names decls h.kinds) faultless ∙ ap tail same_content
+      ∙ ap (λ o. and_next o (λ all. with_table h.plain all)) (sets_are (meanings_of decls) h.kinds h.declared 0)
+      ∙ if_true (nat_le (all_events h.sets) MOST_EVENTS) _ _ (few_events MOST_EVENTS (all_events h.sets) h.few)
+      ∙ ap Ok (sym h.is)
