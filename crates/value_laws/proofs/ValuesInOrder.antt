@@ -35,6 +35,7 @@ use Rattle.csp_atoms.specs.declared.atom.Atom.{Atom}
 use Rattle.csp_atoms.specs.declared.atom.Atom.TheVariants as atom
 use Rattle.csp_atoms.specs.declared.value.Value.{Value}
 use Rattle.csp_atoms.specs.declared.value.Value.TheVariants.{One, Many}
+use Rattle.csp_base.specs.Lists.{natural}
 use Rattle.csp_base.specs.declared.operators.BinOp.{BinOp}
 use Rattle.csp_base.specs.declared.operators.BinOp.TheVariants as op
 use Rattle.csp_base.specs.declared.operators.SetOp.{SetOp}
@@ -193,7 +194,7 @@ module _ (p : Content) where
 
   fine_range : (m n : ℤ) → FineSet (meant.range m n)
   fine_range m n =
-      let k = meant.natural (n -ℤ m +ℤ pos 1) in
+      let k = natural (n -ℤ m +ℤ pos 1) in
       fine_limited (numbers_from m k) (all_numbers m k, (rising_numbers m k, one_kind 0 (numbers_from m k) (kind_numbers m k)))
 
   fine_as_set : (v : Value) → IsTrue (value_in_order p v) → FineSet (as_set v)
