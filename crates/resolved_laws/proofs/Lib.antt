@@ -13,6 +13,8 @@ mod Places
 mod Walk
 mod Circle
 mod ClosedContent
+mod Turns
+mod BoundOnce
 pub mod Whole
 mod Sets
 mod Tabled

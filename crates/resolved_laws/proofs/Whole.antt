@@ -5,6 +5,9 @@ use Rattle.std.specs.Prelude.{slice_get}
 use Rattle.std.specs.List.{flat_map}
 use Rattle.std.proofs.lemmas.Bool.{eq-eqb, lt-ltb}
 use Rattle.std.proofs.lemmas.Option.{slice_get_within}
+use Rattle.csp_base.specs.Lists.{EachOnce}
+use Rattle.csp_program.proofs.Forms.{Every}
+use Rattle.csp_program.specs.Bound.{exprs_bound}
 use Rattle.csp_program.specs.EventNumber.{KeepFirsts, event_count, first_event}
 use Rattle.csp_program.specs.InOrder.{AllClosed, AllClosedTypes, IsEventTable, IsInOrder, channel_in_order, expr_in_order, lacks_sets, sets_in_order, with_fields}
 use Rattle.csp_program.specs.Lists.{all_true}
@@ -23,6 +26,7 @@ use Rattle.script_names.specs.Kinds.{AreKinds, AreKindsOf, body_ends, script_end
 use Rattle.script_names.specs.Names.{Counts, Meanings, Name, counted, meanings_of, none_yet}
 use Rattle.script_names.specs.Told.{name_fault}
 use Rattle.resolved_laws.specs.Laws.{PlainIsInOrder}
+use Rattle.resolved_laws.proofs.BoundOnce.{DefOnce, TypesOnce, at_place, channels_once, defs_once, root_once}
 use Rattle.resolved_laws.proofs.Circle.{no_circle}
 use Rattle.resolved_laws.proofs.Classes.{EachKnown, IsClass, has_class, script_known}
 use Rattle.resolved_laws.proofs.ClosedContent.{channels_closed, defs_closed, root_closed}
@@ -52,6 +56,11 @@ same_closed : (cs ds : List Channel) → SameTypes cs ds → AllClosedTypes ds �
 same_closed [] [] h g = tt
 same_closed (c ∷ cs) (d ∷ ds) h g = (subst AllClosed (sym h.0) g.0, same_closed cs ds h.1 g.1)
 same_closed _ _ h g = absurd h
+
+same_once : (cs ds : List Channel) → SameTypes cs ds → Every TypesOnce ds → Every TypesOnce cs
+same_once [] [] h g = tt
+same_once (c ∷ cs) (d ∷ ds) h g = (subst (λ z. EachOnce (exprs_bound z)) (sym h.0) g.0, same_once cs ds h.1 g.1)
+same_once _ _ h g = absurd h
 
 -- one definition for each body
 one_each : (m : Meanings) (ks : List Kind) (n : Counts) (decls : List Decl) → length (definitions_from m ks n decls) ≡ length (flat_map (body_ends m) decls)
@@ -143,6 +152,9 @@ module _ (decls : List Decl) (ks : List Kind) (are : AreKinds decls ks) (none : 
     closed_types = same_closed cs (flat_map (channels_of m ks) decls) same (channels_closed m ks decls);
     closed_bodies = defs_closed m ks none_yet decls;
     closed_root = root_closed m ks (first_assertion decls);
+    bound_once = at_place DefOnce q.defs (defs_once m ks none_yet decls);
+    root_bound_once = root_once m ks (first_assertion decls);
+    types_bound_once = at_place TypesOnce cs (same_once cs (flat_map (channels_of m ks) decls) same (channels_once m ks decls));
     no_circle = no_circle decls ks none;
     table = table;
     firsts = firsts;
