@@ -18,9 +18,9 @@ use Rattle.script_names.specs.Occurrence.{Occurrence}
 use Rattle.script_names.specs.Says.{Said, tree_says}
 use Rattle.script_names.specs.Told.{bodies_from, body_place, counts_of, data_place, declared_after, expanded_body, first_fault, is_data, is_deep, names_declared, need_of, next_definition, parameters_after}
 use Rattle.script_names.specs.Typed.{Reading, Scope, names_of, reading}
-use Rattle.resolved_laws.proofs.Faultless.{AllFine, fine_three, fine_two, first_faultless, rest_faultless}
+use Rattle.typed_laws.proofs.Faultless.{AllFine, fine_three, fine_two, first_faultless, rest_faultless}
 use Rattle.resolved_laws.proofs.Leading.{Leads, leads}
-use Rattle.resolved_laws.proofs.Making.{made}
+use Rattle.typed_laws.proofs.Making.{made}
 use Rattle.resolved_laws.proofs.Walk.{counted_on}
 use Rattle.script_names.proofs.Scopes.{names_of-parameters}
 

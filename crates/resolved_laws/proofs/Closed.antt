@@ -24,14 +24,18 @@ use Rattle.csp_program.specs.declared.processes.Proc.TheFolds.{fold-roll-Proc, m
 use Rattle.csp_program.specs.declared.processes.Proc.TheOpen.{Proc-F}
 use Rattle.csp_program.specs.declared.processes.Proc.TheViews.{roll-Proc}
 use Rattle.csp_program.specs.declared.processes.Proc.TheVariants as proc
+use Rattle.csp_text.specs.declared.tree.Tree.{Tree}
+use Rattle.csp_text.specs.declared.tree.FieldTree.{FieldTree}
+use Rattle.csp_text.specs.declared.tree.GenTree.{GenTree}
+use Rattle.csp_text.specs.declared.tree.PartTree.{PartTree}
 use Rattle.script_names.specs.declared.kinds.Entity.{Entity}
 use Rattle.script_names.specs.declared.kinds.Entity.TheVariants as entity
 use Rattle.script_names.specs.declared.kinds.Kind.{Kind}
 use Rattle.script_names.specs.Names.{Name, Meanings, same_name}
 use Rattle.script_names.specs.Says.{Binder, Fields, Said}
 use Rattle.script_names.specs.Typed.{Binding, Front, Reading, Scope, all_bind, bindings, bindings_bind, channel_number, definition_number, exprs, head_of, named, no_expr, number_of, or_else, pairs, pairs_bind, part, parts, parts_bind, procs, under, with}
-use Rattle.resolved_laws.proofs.Formed.{Ends, Reads, AllRead, FieldRead, FieldsRead, GenRead, GensRead, PartRead, PartsRead, PairsRead}
-use Rattle.resolved_laws.proofs.Formed as f
+use Rattle.typed_laws.proofs.Formed.{Ends, Reads, AllRead, FieldRead, FieldsRead, GenRead, GensRead, PartRead, PartsRead, PairsRead}
+use Rattle.typed_laws.proofs.Formed as f
 use Rattle.csp_base.proofs.Booleans.{is_or_first, is_or_second}
 use Rattle.csp_base.specs.Members.{has}
 
@@ -222,7 +226,7 @@ net_call_within d es scope h = net_within _ (net.rolls-Call _ _) h
 
 module _ (m : Meanings) (ks : List Kind) where
   mutual
-    pub closed : {s : Said} {r : Reading} {e : Ends} → Reads m ks s r e → Closed r
+    pub closed : {t : Tree} {s : Said} {r : Reading} {e : Ends} → Reads m ks t s r e → Closed r
     closed (f.num k) = of_data _ _ (λ scope n. expr_within _ (expr.rolls-Num _) (nowhere_within scope))
     closed f.truth = of_data _ _ (λ scope n. expr_within _ (expr.rolls-Truth _) (nowhere_within scope))
     closed f.falsehood = of_data _ _ (λ scope n. expr_within _ (expr.rolls-Truth _) (nowhere_within scope))
@@ -291,44 +295,44 @@ module _ (m : Meanings) (ks : List Kind) where
         (any_of (map pair_free (pairs m ks fronts (under gens scope (n + p.binds + pairs_bind fronts)) (n + p.binds))))
         (pairs_within g (under gens scope (n + p.binds + pairs_bind fronts)) (n + p.binds)))))
 
-    exprs_within : {ss : List Said} {rs : List Reading} → AllRead m ks ss rs → (scope : Scope) (n : ℕ) → IsWithin (any_of (map expr_free (exprs rs scope n))) scope
+    exprs_within : {ts : List Tree} {ss : List Said} {rs : List Reading} → AllRead m ks ts ss rs → (scope : Scope) (n : ℕ) → IsWithin (any_of (map expr_free (exprs rs scope n))) scope
     exprs_within f.no_trees scope n = nowhere_within scope
     exprs_within (f.more_trees {r = r} h hs) scope n = either_within ((closed h).expr scope n) (exprs_within hs scope (n + r.binds))
 
-    procs_within : {ss : List Said} {rs : List Reading} → AllRead m ks ss rs → (scope : Scope) (n : ℕ) → IsWithin (any_of (map proc_free (procs rs scope n))) scope
+    procs_within : {ts : List Tree} {ss : List Said} {rs : List Reading} → AllRead m ks ts ss rs → (scope : Scope) (n : ℕ) → IsWithin (any_of (map proc_free (procs rs scope n))) scope
     procs_within f.no_trees scope n = nowhere_within scope
     procs_within (f.more_trees {r = r} h hs) scope n = either_within ((closed h).proc scope n) (procs_within hs scope (n + r.binds))
 
-    field_closed : {b : Binder} {g : Binding Field} → FieldRead m ks b g → ClosedField g
+    field_closed : {t : FieldTree} {b : Binder} {g : Binding Field} → FieldRead m ks t b g → ClosedField g
     field_closed (f.dot {a' = a} h) = put_closed a (closed h)
     field_closed (f.output {a' = a} h) = put_closed a (closed h)
     field_closed (f.input x) = λ scope n fields inner w. apart_within x n w
     field_closed (f.input_from x h) = λ scope n fields inner w. either_within ((closed h).expr scope (n + 1)) (apart_within x n w)
 
-    fields_within : {bs : List Binder} {gs : List (Binding Field)} → FieldsRead m ks bs gs → (scope : Scope) (n : ℕ) (inner : Names) → IsWithin inner (under gs scope n)
+    fields_within : {ts : List FieldTree} {bs : List Binder} {gs : List (Binding Field)} → FieldsRead m ks ts bs gs → (scope : Scope) (n : ℕ) (inner : Names) → IsWithin inner (under gs scope n)
         → IsWithin (before (bindings gs scope n) inner) scope
     fields_within f.no_fields scope n inner w = w
     fields_within (f.more_fields {f = g} {fs = gs} h hs) scope n inner w =
         field_closed h scope n (bindings gs (g.after scope n) (n + g.binds)) inner (fields_within hs (g.after scope n) (n + g.binds) inner w)
 
-    gen_closed : {b : Binder} {g : Binding Gen} → GenRead m ks b g → ClosedGen g
+    gen_closed : {t : GenTree} {b : Binder} {g : Binding Gen} → GenRead m ks t b g → ClosedGen g
     gen_closed (f.from x {a' = a} h) = λ scope n gens inner w. gen_from x n (a.expr scope (n + 1)) scope gens inner ((closed h).expr scope (n + 1)) w
     gen_closed (f.condition {a' = a} h) = λ scope n gens inner w. gen_condition (a.expr scope n) scope gens inner ((closed h).expr scope n) w
 
-    gens_within : {bs : List Binder} {gs : List (Binding Gen)} → GensRead m ks bs gs → (scope : Scope) (n : ℕ) (inner : Names) → IsWithin inner (under gs scope n)
+    gens_within : {ts : List GenTree} {bs : List Binder} {gs : List (Binding Gen)} → GensRead m ks ts bs gs → (scope : Scope) (n : ℕ) (inner : Names) → IsWithin inner (under gs scope n)
         → IsWithin (free.under (map gen_binding (bindings gs scope n)) inner) scope
     gens_within f.no_gens scope n inner w = w
     gens_within (f.more_gens {g = g} {gs = gs} h hs) scope n inner w =
         gen_closed h scope n (map gen_binding (bindings gs (g.after scope n) (n + g.binds))) inner (gens_within hs (g.after scope n) (n + g.binds) inner w)
 
-    part_closed : {s : Fields Said} {r : Front Reading} → PartRead m ks s r → (scope : Scope) (n : ℕ) → IsWithin (part_free (part m ks r scope n)) scope
+    part_closed : {t : PartTree} {s : Fields Said} {r : Front Reading} → PartRead m ks t s r → (scope : Scope) (n : ℕ) → IsWithin (part_free (part m ks r scope n)) scope
     part_closed (f.front_with x {rs = rs} h) scope n = part_within (channel_number (m x)) (exprs rs scope n) (exprs_within h scope n)
 
-    parts_within : {ss : List (Fields Said)} {rs : List (Front Reading)} → PartsRead m ks ss rs → (scope : Scope) (n : ℕ) → IsWithin (any_of (map part_free (parts m ks rs scope n))) scope
+    parts_within : {ts : List PartTree} {ss : List (Fields Said)} {rs : List (Front Reading)} → PartsRead m ks ts ss rs → (scope : Scope) (n : ℕ) → IsWithin (any_of (map part_free (parts m ks rs scope n))) scope
     parts_within f.no_parts scope n = nowhere_within scope
     parts_within (f.more_parts {r = r} h hs) scope n = either_within (part_closed h scope n) (parts_within hs scope (n + all_bind r.fields))
 
-    pairs_within : {ss : List (Fields Said × Fields Said)} {rs : List (Front Reading × Front Reading)} → PairsRead m ks ss rs → (scope : Scope) (n : ℕ)
+    pairs_within : {ts : List (PartTree × PartTree)} {ss : List (Fields Said × Fields Said)} {rs : List (Front Reading × Front Reading)} → PairsRead m ks ts ss rs → (scope : Scope) (n : ℕ)
         → IsWithin (any_of (map pair_free (pairs m ks rs scope n))) scope
     pairs_within f.no_pairs scope n = nowhere_within scope
     pairs_within (f.more_pairs {r = r} {r' = r'} h g hs) scope n =

@@ -19,7 +19,7 @@ use Rattle.script_names.specs.Faults.{kind_class, kind_network}
 use Rattle.script_names.specs.Names.{Counts, Meanings, Name, counted}
 use Rattle.script_names.specs.Typed.{Reading, Scope, exprs, reading}
 use Rattle.resolved_laws.proofs.Closed.{Closed, IsWithin, closed, leaf_stop, numbers_of}
-use Rattle.resolved_laws.proofs.Making.{made}
+use Rattle.typed_laws.proofs.Making.{made}
 use Rattle.csp_base.specs.Members.{has}
 
 nothing_free : (free : Names) → IsWithin free [] → IsClosed free

@@ -23,8 +23,8 @@ use Rattle.script_names.specs.Faults.{clashes, is_network, kind_class, kind_netw
 use Rattle.script_names.specs.Names.{Name, Meanings, sense_of}
 use Rattle.script_names.specs.Occurrence.{uses}
 use Rattle.script_names.specs.Typed.{definition_number}
-use Rattle.resolved_laws.proofs.Faultless.{IsFine}
-use Rattle.resolved_laws.proofs.ScopeNames.{NameIs, is_bound, is_free}
+use Rattle.typed_laws.proofs.DefUses.{IsDefUse}
+use Rattle.typed_laws.proofs.Passing.{data_at, process_at}
 use Rattle.resolved_laws.proofs.Booleans.{two}
 use Rattle.std.proofs.Math.Bool.{or-false}
 use Rattle.csp_base.proofs.Booleans.{is_and}
@@ -35,20 +35,6 @@ is_body_of class.Data network b = is_datum b
 is_body_of class.Process true b = order.is_network b
 is_body_of class.Process false b = is_process b
 is_body_of class.Unknown network b = false
-
-abbrev pub data_at : Bool → ℕ → Place
-data_at network level = record { need = need.Data; network = network; level = level }
-
-abbrev pub process_at : Bool → ℕ → Place
-process_at network level = record { need = need.Process; network = network; level = level }
-
--- nothing is told of a name, so the test of it fails
-pub when_none : (b : Bool) (x : Name) → when b x ≡ None → b ≡ false
-when_none true x h = absurd (cc)
-when_none false x h = refl
-
-pub same_count : (n k : ℕ) → not (nat_eq n k) ≡ false → n ≡ k
-same_count n k h = eqb-true n k (not-false (nat_eq n k) h)
 
 no_network : (b k : Bool) → (b && k) ≡ false → (k && not b) ≡ false → k ≡ false
 no_network true k h g = h
@@ -116,50 +102,6 @@ module _ (p : Content) (ks : List Kind) where
   has_component d n class.Process network h g = takes_component network n (slice_get p.defs d) h
   has_component d n class.Unknown network h g = absurd (takes_none n (slice_get p.defs d) h)
 
-  -- a name is used as that of a definition with so many parameters
-  pub record IsDefUse (e : Option Entity) (s : Sense) (n : ℕ) (place : Place) : Type 0 where
-    pub number : ℕ
-    pub is : e ≡ Some (entity.Definition number n)
-    pub class : clashes ks (kind_class (slice_get ks number)) place.need ≡ false
-    pub inside : (kind_network (slice_get ks number) && not place.network) ≡ false
-    pub network : is_network ks s ≡ kind_network (slice_get ks number)
-
-  -- with its number of parameters from a fault that was not told
-  def_use : (x : Name) (d n k : ℕ) (place : Place) → when (takes_other (sense.Declared (entity.Definition d n)) k) x ≡ None
-      → clashes ks (kind_class (slice_get ks d)) place.need ≡ false
-      → (kind_network (slice_get ks d) && not place.network) ≡ false → IsDefUse (Some (entity.Definition d n)) (sense.Declared (entity.Definition d n)) k place
-  def_use x d n k place count class inside = record {
-    number = d;
-    is = ap (λ i. Some (entity.Definition d i)) (same_count n k (when_none (not (nat_eq n k)) x count));
-    class = class;
-    inside = inside;
-    network = refl;
-  }
-
-  called_entity : (x : Name) (e : Option Entity) (k : ℕ) (place : Place) → IsFine ks (uses x (sense_of e) (how.Called k place))
-      → IsDefUse e (sense_of e) k place
-  called_entity x None k place h = absurd (let g = h.known in cc)
-  called_entity x (Some (entity.Definition d n)) k place h = def_use x d n k place h.count h.kind h.inside
-  called_entity x _ k place h = absurd (let g = h.kind in cc)
-
-  alone_entity : (x : Name) (e : Option Entity) (network : Bool) (level : ℕ) → IsFine ks (uses x (sense_of e) (how.Alone (process_at network level)))
-      → IsDefUse e (sense_of e) 0 (process_at network level)
-  alone_entity x None b l h = absurd (let g = h.known in cc)
-  alone_entity x (Some (entity.Definition d n)) b l h =
-      def_use x d n 0 (process_at b l) (ap (λ t. when t x) (sym (or-false (not (nat_eq n 0)))) ∙ h.count) h.kind h.inside
-  alone_entity x _ b l h = absurd (let g = h.kind in cc)
-
-  pub called : {m : Meanings} {x : Name} {o : Option ℕ} {s : Sense} → NameIs m x o s → (k : ℕ) (place : Place) → IsFine ks (uses x s (how.Called k place))
-      → IsDefUse (m x) s k place
-  called (is_bound k) n place h = absurd (let g = h.kind in cc)
-  called {m} {x} is_free n place h = called_entity x (m x) n place h
-
-  pub alone : {m : Meanings} {x : Name} {o : Option ℕ} {s : Sense} → NameIs m x o s → (network : Bool) (level : ℕ)
-      → IsFine ks (uses x s (how.Alone (process_at network level)))
-      → IsDefUse (m x) s 0 (process_at network level)
-  alone (is_bound k) b l h = absurd (let g = h.kind in cc)
-  alone {m} {x} is_free b l h = alone_entity x (m x) b l h
-
   -- the definition that is used
   def_fits : (e : Option Entity) (d n : ℕ) → Fits e → e ≡ Some (entity.Definition d n) → HasDef d n
   def_fits e d n h is = subst Fits is h
@@ -167,21 +109,21 @@ module _ (p : Content) (ks : List Kind) where
   number_is : (e : Option Entity) (d n : ℕ) → e ≡ Some (entity.Definition d n) → d ≡ definition_number e
   number_is e d n is = ap definition_number (sym is)
 
-  pub use_process : (e : Option Entity) (s : Sense) (n : ℕ) (b : Bool) (l : ℕ) → Fits e → IsDefUse e s n (process_at b l) → (b && is_network ks s) ≡ false
+  pub use_process : (e : Option Entity) (s : Sense) (n : ℕ) (b : Bool) (l : ℕ) → Fits e → IsDefUse ks e s n (process_at b l) → (b && is_network ks s) ≡ false
       → IsTrue (takes is_process n (slice_get p.defs (definition_number e)))
   use_process e s n b l h u g =
       subst (λ d. IsTrue (takes is_process n (slice_get p.defs d))) (number_is e u.number n u.is)
       (has_process u.number n (kind_class (slice_get ks u.number)) (kind_network (slice_get ks u.number)) (def_fits e u.number n h u.is) u.class
       (no_network b (kind_network (slice_get ks u.number)) (ap (λ t. b && t) (sym u.network) ∙ g) u.inside))
 
-  pub use_network : (e : Option Entity) (s : Sense) (n : ℕ) (b : Bool) (l : ℕ) → Fits e → IsDefUse e s n (process_at b l) → is_network ks s ≡ true
+  pub use_network : (e : Option Entity) (s : Sense) (n : ℕ) (b : Bool) (l : ℕ) → Fits e → IsDefUse ks e s n (process_at b l) → is_network ks s ≡ true
       → IsTrue (takes order.is_network n (slice_get p.defs (definition_number e)))
   use_network e s n b l h u g =
       subst (λ d. IsTrue (takes order.is_network n (slice_get p.defs d))) (number_is e u.number n u.is)
       (has_network u.number n (kind_class (slice_get ks u.number)) (kind_network (slice_get ks u.number)) (def_fits e u.number n h u.is) u.class
       (sym u.network ∙ g))
 
-  pub use_datum : (e : Option Entity) (s : Sense) (n : ℕ) (b : Bool) (l : ℕ) → Fits e → IsDefUse e s n (data_at b l)
+  pub use_datum : (e : Option Entity) (s : Sense) (n : ℕ) (b : Bool) (l : ℕ) → Fits e → IsDefUse ks e s n (data_at b l)
       → IsTrue (takes is_datum n (slice_get p.defs (definition_number e)))
   use_datum e s n b l h u =
       subst (λ d. IsTrue (takes is_datum n (slice_get p.defs d))) (number_is e u.number n u.is)

@@ -11,6 +11,9 @@ use Rattle.csp_program.specs.declared.expressions.Expr.TheViews.{roll-Expr, roll
 use Rattle.csp_program.specs.declared.expressions.Expr.TheVariants as expr
 use Rattle.csp_program.specs.declared.expressions.Gen.{Gen}
 use Rattle.csp_program.specs.declared.expressions.Gen.TheVariants as generator
+use Rattle.csp_text.specs.declared.tree.Tree.{Tree}
+use Rattle.csp_text.specs.declared.tree.GenTree.{GenTree}
+use Rattle.csp_text.specs.declared.tree.PartTree.{PartTree}
 use Rattle.script_names.specs.declared.kinds.Class.TheVariants as class
 use Rattle.script_names.specs.declared.kinds.Entity.{Entity}
 use Rattle.script_names.specs.declared.kinds.Entity.TheVariants as entity
@@ -24,11 +27,11 @@ use Rattle.script_names.specs.Occurrence.{Occurrence, uses, form, parallel}
 use Rattle.script_names.specs.Says.{Binder, Fields, Said, all_say, in_turn, part_says}
 use Rattle.script_names.specs.Says as says
 use Rattle.script_names.specs.Typed.{Binding, Front, Reading, Scope, all_bind, bindings, channel_number, definition_number, exprs, named, names_of, part, parts, parts_bind, under}
-use Rattle.resolved_laws.proofs.Faultless.{AllFine, IsFine, fine_two, fine_three}
-use Rattle.resolved_laws.proofs.Fitting.{data_at}
-use Rattle.resolved_laws.proofs.Formed.{Ends, Reads, AllRead, GenRead, GensRead, PartRead, PartsRead}
-use Rattle.resolved_laws.proofs.Formed as f
-use Rattle.resolved_laws.proofs.ScopeNames.{renamed, NameIs, gen_names, gens_names, is_bound, is_free, name_is}
+use Rattle.typed_laws.proofs.Faultless.{AllFine, IsFine, fine_two, fine_three}
+use Rattle.typed_laws.proofs.Passing.{data_at}
+use Rattle.typed_laws.proofs.Formed.{Ends, Reads, AllRead, GenRead, GensRead, PartRead, PartsRead}
+use Rattle.typed_laws.proofs.Formed as f
+use Rattle.typed_laws.proofs.ScopeNames.{renamed, NameIs, gen_names, gens_names, is_bound, is_free, name_is}
 use Rattle.csp_program.proofs.UsesWithin.{gen_uses, part_uses}
 
 above_first : (k a b : ℕ) → k < a → k < max a b
@@ -164,7 +167,7 @@ module _ (depth : ℕ → ℕ) where
 
     module _ (m : Meanings) where
       mutual
-        pub leads : {s : Said} {r : Reading} {e : Ends} → Reads m ks s r e → Leads s r
+        pub leads : {t : Tree} {s : Said} {r : Reading} {e : Ends} → Reads m ks t s r e → Leads s r
         leads (f.num k) = of_data _ _ (λ scope n b l z fine. expr_below _ (expr.rolls-Num _) (nowhere_below _))
         leads f.truth = of_data _ _ (λ scope n b l z fine. expr_below _ (expr.rolls-Truth _) (nowhere_below _))
         leads f.falsehood = of_data _ _ (λ scope n b l z fine. expr_below _ (expr.rolls-Truth _) (nowhere_below _))
@@ -220,21 +223,21 @@ module _ (depth : ℕ → ℕ) where
         leads (f.each_parallel x h g k) = of_network _ _
         leads _ = of_process _ _
 
-        exprs_lead : {ss : List Said} {rs : List Reading} → AllRead m ks ss rs → (scope : Scope) (n : ℕ) (b : Bool) (l : ℕ) → 0 < l
+        exprs_lead : {ts : List Tree} {ss : List Said} {rs : List Reading} → AllRead m ks ts ss rs → (scope : Scope) (n : ℕ) (b : Bool) (l : ℕ) → 0 < l
             → AllFine ks (all_say ss (data_at b l) (names_of scope))
             → IsBelow (any_of (map expr_uses (exprs rs scope n))) (all_say ss (data_at b l) (names_of scope))
         exprs_lead f.no_trees scope n b l z fine = nowhere_below []
         exprs_lead (f.more_trees {r = r} h hs) scope n b l z fine =
             let w = fine_two ks _ _ fine in either_below _ _ ((leads h).expr scope n b l z w.0) (exprs_lead hs scope (n + r.binds) b l z w.1)
 
-        gen_lead : {b : Binder} {g : Binding Gen} → GenRead m ks b g → (scope : Scope) (n : ℕ) (place : Place) → AllFine ks (b.says place (names_of scope))
+        gen_lead : {t : GenTree} {b : Binder} {g : Binding Gen} → GenRead m ks t b g → (scope : Scope) (n : ℕ) (place : Place) → AllFine ks (b.says place (names_of scope))
             → IsBelow (gen_uses (g.here scope n)) (b.says place (names_of scope))
         gen_lead (f.from x h) scope n place fine = gen_below _ (generator.rolls-From _ _)
             (later_below _ ((leads h).expr scope (n + 1) false (place.level + 1) (more place.level) fine.1))
         gen_lead (f.condition h) scope n place fine = gen_below _ (generator.rolls-Cond _)
             ((leads h).expr scope n false (place.level + 1) (more place.level) fine)
 
-        gens_lead : {bs : List Binder} {gs : List (Binding Gen)} → GensRead m ks bs gs → (scope : Scope) (n : ℕ) (place : Place)
+        gens_lead : {ts : List GenTree} {bs : List Binder} {gs : List (Binding Gen)} → GensRead m ks ts bs gs → (scope : Scope) (n : ℕ) (place : Place)
             → AllFine ks (in_turn bs place (names_of scope))
             → IsBelow (any_of (map gen_uses (bindings gs scope n))) (in_turn bs place (names_of scope))
         gens_lead f.no_gens scope n place fine = nowhere_below []
@@ -245,13 +248,13 @@ module _ (depth : ℕ → ℕ) where
             (gens_lead hs (g.after scope n) (n + g.binds) place (renamed ks (in_turn bs) place (names_of scope ++ b.names) (g.after scope n)
             (gen_names m ks h scope n) w.1)))
 
-        part_lead : {s : Fields Said} {r : Front Reading} → PartRead m ks s r → (scope : Scope) (n : ℕ) (place : Place)
+        part_lead : {t : PartTree} {s : Fields Said} {r : Front Reading} → PartRead m ks t s r → (scope : Scope) (n : ℕ) (place : Place)
             → AllFine ks (part_says m s place (names_of scope))
             → IsBelow (part_uses (part m ks r scope n)) (part_says m s place (names_of scope))
         part_lead (f.front_with x {rs = rs} h) scope n place fine =
             part_below (channel_number (m x)) (exprs rs scope n) (later_below _ (exprs_lead h scope n false (place.level + 1) (more place.level) fine.1))
 
-        parts_lead : {ss : List (Fields Said)} {rs : List (Front Reading)} → PartsRead m ks ss rs → (scope : Scope) (n : ℕ) (place : Place)
+        parts_lead : {ts : List PartTree} {ss : List (Fields Said)} {rs : List (Front Reading)} → PartsRead m ks ts ss rs → (scope : Scope) (n : ℕ) (place : Place)
             → AllFine ks (all_say (map (part_says m) ss) place (names_of scope))
             → IsBelow (any_of (map part_uses (parts m ks rs scope n))) (all_say (map (part_says m) ss) place (names_of scope))
         parts_lead f.no_parts scope n place fine = nowhere_below []

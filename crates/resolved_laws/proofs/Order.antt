@@ -36,9 +36,11 @@ use Rattle.script_names.specs.Names.{Name, Meanings, sense_of}
 use Rattle.script_names.specs.Occurrence.{uses, form, parallel}
 use Rattle.script_names.specs.Says.{Said}
 use Rattle.script_names.specs.Typed.{Reading, Scope, channel_number, head_of, named, names_of}
-use Rattle.resolved_laws.proofs.Faultless.{AllFine, IsFine}
-use Rattle.resolved_laws.proofs.Fitting.{AllFit, Fits, data_at, process_at, same_count, use_datum, when_none}
-use Rattle.resolved_laws.proofs.ScopeNames.{NameIs, is_bound, is_free}
+use Rattle.typed_laws.proofs.Faultless.{AllFine, IsFine}
+use Rattle.resolved_laws.proofs.Fitting.{AllFit, Fits, use_datum}
+use Rattle.typed_laws.proofs.DefUses.{same_count, when_none}
+use Rattle.typed_laws.proofs.Passing.{data_at, process_at}
+use Rattle.typed_laws.proofs.ScopeNames.{NameIs, is_bound, is_free}
 use Rattle.resolved_laws.proofs.Booleans.{and}
 use Rattle.std.proofs.Math.Bool.{or-false}
 use Rattle.csp_base.proofs.Booleans.{is_and, or_second_false}

@@ -19,7 +19,7 @@ use Rattle.script_names.specs.Contents.{body_of, channels_of, constants_of, defi
 use Rattle.script_names.specs.Faults.{kind_class, kind_network}
 use Rattle.script_names.specs.Names.{Counts, Entities, Meanings, Name, channels_from, constants_from, counted, declared_from, meanings_of, none_yet, same_name}
 use Rattle.script_names.specs.Typed.{Reading, Scope, exprs, reading}
-use Rattle.resolved_laws.proofs.Classes.{IsClass}
+use Rattle.typed_laws.proofs.Classes.{IsClass}
 use Rattle.resolved_laws.proofs.Fitting.{AllFit, EntityFits, Fits, is_body_of}
 use Rattle.csp_base.proofs.Booleans.{is_and}
 

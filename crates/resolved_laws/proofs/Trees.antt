@@ -13,6 +13,10 @@ use Rattle.csp_program.specs.declared.processes.Field.{Field}
 use Rattle.csp_program.specs.declared.processes.Proc.{Proc}
 use Rattle.csp_program.specs.declared.processes.Proc.TheVariants as proc
 use Rattle.csp_program.specs.declared.programs.Content.{Content}
+use Rattle.csp_text.specs.declared.tree.Tree.{Tree}
+use Rattle.csp_text.specs.declared.tree.FieldTree.{FieldTree}
+use Rattle.csp_text.specs.declared.tree.GenTree.{GenTree}
+use Rattle.csp_text.specs.declared.tree.PartTree.{PartTree}
 use Rattle.script_names.specs.declared.kinds.Kind.{Kind}
 use Rattle.script_names.specs.declared.kinds.Place.{Place}
 use Rattle.script_names.specs.declared.kinds.Use.TheVariants as how
@@ -22,11 +26,13 @@ use Rattle.script_names.specs.Occurrence.{uses}
 use Rattle.script_names.specs.Says.{Binder, Fields, Said, all_say, in_turn, pair_says, part_says}
 use Rattle.script_names.specs.Says as says
 use Rattle.script_names.specs.Typed.{Binding, Front, Reading, Scope, all_bind, bindings, bindings_bind, channel_number, definition_number, exprs, head_of, names_of, number_of, pairs, pairs_bind, part, parts, parts_bind, procs, under, with}
-use Rattle.resolved_laws.proofs.Faultless.{AllFine, IsFine, fine_two, fine_three, fine_four}
-use Rattle.resolved_laws.proofs.Fitting.{AllFit, alone, called, data_at, process_at, use_datum, use_network, use_process}
-use Rattle.resolved_laws.proofs.Formed.{Ends, Reads, AllRead, FieldRead, FieldsRead, GenRead, GensRead, PartRead, PartsRead, PairsRead}
-use Rattle.resolved_laws.proofs.Formed as f
-use Rattle.resolved_laws.proofs.ScopeNames.{renamed, field_names, fields_names, gen_names, gens_names, name_is, names_with}
+use Rattle.typed_laws.proofs.Faultless.{AllFine, IsFine, fine_two, fine_three, fine_four}
+use Rattle.resolved_laws.proofs.Fitting.{AllFit, use_datum, use_network, use_process}
+use Rattle.typed_laws.proofs.DefUses.{alone, called}
+use Rattle.typed_laws.proofs.Passing.{data_at, process_at}
+use Rattle.typed_laws.proofs.Formed.{Ends, Reads, AllRead, FieldRead, FieldsRead, GenRead, GensRead, PartRead, PartsRead, PairsRead}
+use Rattle.typed_laws.proofs.Formed as f
+use Rattle.typed_laws.proofs.ScopeNames.{renamed, field_names, fields_names, gen_names, gens_names, name_is, names_with}
 use Rattle.resolved_laws.proofs.Order.{Ordered, call_order, event_order, expr_order, front_order, gen_order, head_order, if_order, leaf_order, named_expr, net_call_order, net_order, of_data, of_network, of_process, renamed_order, sides_order, part_order, proc_order}
 use Rattle.resolved_laws.proofs.Booleans.{and}
 use Rattle.csp_base.proofs.Booleans.{or_first_false, or_second_false}
@@ -40,63 +46,63 @@ and_right_false true s t h = or_second_false s t h
 and_right_false false s t h = refl
 
 module _ (p : Content) (m : Meanings) (ks : List Kind) (fits : AllFit p ks m) where
-  count_exprs : {ss : List Said} {rs : List Reading} → AllRead m ks ss rs → (scope : Scope) (n : ℕ) → length ss ≡ length (exprs rs scope n)
+  count_exprs : {ts : List Tree} {ss : List Said} {rs : List Reading} → AllRead m ks ts ss rs → (scope : Scope) (n : ℕ) → length ss ≡ length (exprs rs scope n)
   count_exprs f.no_trees scope n = refl
   count_exprs (f.more_trees {r = r} h hs) scope n = ap (λ k. suc k) (count_exprs hs scope (n + r.binds))
 
-  count_order : {ss : List Said} {rs : List Reading} → AllRead m ks ss rs → (scope : Scope) (n : ℕ)
+  count_order : {ts : List Tree} {ss : List Said} {rs : List Reading} → AllRead m ks ts ss rs → (scope : Scope) (n : ℕ)
       → length ss ≡ length (map (expr_in_order p) (exprs rs scope n))
   count_order f.no_trees scope n = refl
   count_order (f.more_trees {r = r} h hs) scope n = ap (λ k. suc k) (count_order hs scope (n + r.binds))
 
-  count_fields : {bs : List Binder} {gs : List (Binding Field)} → FieldsRead m ks bs gs → (scope : Scope) (n : ℕ) → length bs ≡ length (bindings gs scope n)
+  count_fields : {ts : List FieldTree} {bs : List Binder} {gs : List (Binding Field)} → FieldsRead m ks ts bs gs → (scope : Scope) (n : ℕ) → length bs ≡ length (bindings gs scope n)
   count_fields f.no_fields scope n = refl
   count_fields (f.more_fields {f = g} h hs) scope n = ap (λ k. suc k) (count_fields hs (g.after scope n) (n + g.binds))
 
   -- uses in each role
-  data_call : {ss : List Said} {rs : List Reading} (x : Name) → AllRead m ks ss rs → (scope : Scope) (n : ℕ) (b : Bool) (l : ℕ)
+  data_call : {ts : List Tree} {ss : List Said} {rs : List Reading} (x : Name) → AllRead m ks ts ss rs → (scope : Scope) (n : ℕ) (b : Bool) (l : ℕ)
       → IsFine ks (uses x (sense_in m (names_of scope) x) (how.Called (length ss) (data_at b l)))
       → IsTrue (takes is_datum (length (map (expr_in_order p) (exprs rs scope n))) (slice_get p.defs (definition_number (m x))))
   data_call {ss} {rs} x h scope n b l fine =
       subst (λ k. IsTrue (takes is_datum k (slice_get p.defs (definition_number (m x))))) (count_order h scope n)
-      (use_datum p ks (m x) (sense_in m (names_of scope) x) (length ss) b l (fits.fit x) (called p ks (name_is m scope x) (length ss) (data_at b l) fine))
+      (use_datum p ks (m x) (sense_in m (names_of scope) x) (length ss) b l (fits.fit x) (called ks (name_is m scope x) (length ss) (data_at b l) fine))
 
-  process_call : {ss : List Said} {rs : List Reading} (x : Name) → AllRead m ks ss rs → (scope : Scope) (n : ℕ) (b : Bool) (l : ℕ)
+  process_call : {ts : List Tree} {ss : List Said} {rs : List Reading} (x : Name) → AllRead m ks ts ss rs → (scope : Scope) (n : ℕ) (b : Bool) (l : ℕ)
       → (b && is_network ks (sense_in m (names_of scope) x)) ≡ false
       → IsFine ks (uses x (sense_in m (names_of scope) x) (how.Called (length ss) (process_at b l)))
       → IsTrue (takes is_process (length (exprs rs scope n)) (slice_get p.defs (definition_number (m x))))
   process_call {ss} {rs} x h scope n b l is fine =
       subst (λ k. IsTrue (takes is_process k (slice_get p.defs (definition_number (m x))))) (count_exprs h scope n)
-      (use_process p ks (m x) (sense_in m (names_of scope) x) (length ss) b l (fits.fit x) (called p ks (name_is m scope x) (length ss) (process_at b l) fine)
+      (use_process p ks (m x) (sense_in m (names_of scope) x) (length ss) b l (fits.fit x) (called ks (name_is m scope x) (length ss) (process_at b l) fine)
       is)
 
-  network_call : {ss : List Said} {rs : List Reading} (x : Name) → AllRead m ks ss rs → (scope : Scope) (n : ℕ) (l : ℕ)
+  network_call : {ts : List Tree} {ss : List Said} {rs : List Reading} (x : Name) → AllRead m ks ts ss rs → (scope : Scope) (n : ℕ) (l : ℕ)
       → is_network ks (sense_in m (names_of scope) x) ≡ true
       → IsFine ks (uses x (sense_in m (names_of scope) x) (how.Called (length ss) (process_at true l)))
       → IsTrue (takes order.is_network (length (exprs rs scope n)) (slice_get p.defs (definition_number (m x))))
   network_call {ss} {rs} x h scope n l is fine =
       subst (λ k. IsTrue (takes order.is_network k (slice_get p.defs (definition_number (m x))))) (count_exprs h scope n)
       (use_network p ks (m x) (sense_in m (names_of scope) x) (length ss) true l (fits.fit x)
-      (called p ks (name_is m scope x) (length ss) (process_at true l) fine) is)
+      (called ks (name_is m scope x) (length ss) (process_at true l) fine) is)
 
   process_name : (x : Name) (scope : Scope) (b : Bool) (l : ℕ) → (b && is_network ks (sense_in m (names_of scope) x)) ≡ false
       → IsFine ks (uses x (sense_in m (names_of scope) x) (how.Alone (process_at b l))) → IsTrue
       (takes is_process 0 (slice_get p.defs (definition_number (m x))))
   process_name x scope b l is fine =
-      use_process p ks (m x) (sense_in m (names_of scope) x) 0 b l (fits.fit x) (alone p ks (name_is m scope x) b l fine) is
+      use_process p ks (m x) (sense_in m (names_of scope) x) 0 b l (fits.fit x) (alone ks (name_is m scope x) b l fine) is
 
   network_name : (x : Name) (scope : Scope) (l : ℕ) → is_network ks (sense_in m (names_of scope) x) ≡ true
       → IsFine ks (uses x (sense_in m (names_of scope) x) (how.Alone (process_at true l))) → IsTrue
       (takes order.is_network 0 (slice_get p.defs (definition_number (m x))))
   network_name x scope l is fine =
-      use_network p ks (m x) (sense_in m (names_of scope) x) 0 true l (fits.fit x) (alone p ks (name_is m scope x) true l fine) is
+      use_network p ks (m x) (sense_in m (names_of scope) x) 0 true l (fits.fit x) (alone ks (name_is m scope x) true l fine) is
 
   if_proc : (c : Expr) (t u : Proc) → IsTrue (expr_in_order p c) → IsTrue (proc_in_order p t) → IsTrue (proc_in_order p u)
       → IsTrue (proc_in_order p (proc.If c t u))
   if_proc c t u h g k = proc_order p ks _ (proc.rolls-If _ _ _) (and h (and g k))
 
   -- the two sides of a renaming leave the same number of fields
-  sides : {s s' : Fields Said} {r r' : Front Reading} → PartRead m ks s r → PartRead m ks s' r' → (scope : Scope) (n k : ℕ) (place : Place)
+  sides : {t t' : PartTree} {s s' : Fields Said} {r r' : Front Reading} → PartRead m ks t s r → PartRead m ks t' s' r' → (scope : Scope) (n k : ℕ) (place : Place)
       → IsFine ks (uses s.name (sense_in m (names_of scope) s.name) (how.Renamed (length s.fields) (sense_in m (names_of scope) s'.name) (length s'.fields)))
       → AllFine ks (part_says m s place (names_of scope)) → AllFine ks (part_says m s' place (names_of scope))
       → IsTrue (nat_eq (fields_left p (part m ks r scope n)) (fields_left p (part m ks r' scope k)))
@@ -106,7 +112,7 @@ module _ (p : Content) (m : Meanings) (ks : List Kind) (fits : AllFit p ks m) wh
       (renamed_order p ks (name_is m scope x) (name_is m scope y) fits (length ss) (length ss') a.0 b.0 fine.count)
 
   mutual
-    pub ordered : {s : Said} {r : Reading} {e : Ends} → Reads m ks s r e → Ordered p ks s r
+    pub ordered : {t : Tree} {s : Said} {r : Reading} {e : Ends} → Reads m ks t s r e → Ordered p ks s r
     ordered (f.num k) = of_data p ks _ _ _ _ _ _ (λ scope n b l fine. expr_order p ks _ (expr.rolls-Num _) refl)
     ordered f.truth = of_data p ks _ _ _ _ _ _ (λ scope n b l fine. expr_order p ks _ (expr.rolls-Truth _) refl)
     ordered f.falsehood = of_data p ks _ _ _ _ _ _ (λ scope n b l fine. expr_order p ks _ (expr.rolls-Truth _) refl)
@@ -236,28 +242,28 @@ module _ (p : Content) (m : Meanings) (ks : List Kind) (fits : AllFit p ks m) wh
         (gens_names m ks k scope (n + t.binds + pairs_bind fronts)) w.1))
         (gens_ordered k scope (n + t.binds + pairs_bind fronts) (process_at b l) w.2))))
 
-    exprs_ordered : {ss : List Said} {rs : List Reading} → AllRead m ks ss rs → (scope : Scope) (n : ℕ) (b : Bool) (l : ℕ)
+    exprs_ordered : {ts : List Tree} {ss : List Said} {rs : List Reading} → AllRead m ks ts ss rs → (scope : Scope) (n : ℕ) (b : Bool) (l : ℕ)
         → AllFine ks (all_say ss (data_at b l) (names_of scope))
         → IsTrue (all_true (map (expr_in_order p) (exprs rs scope n)))
     exprs_ordered f.no_trees scope n b l fine = refl
     exprs_ordered (f.more_trees {r = r} h hs) scope n b l fine =
         let w = fine_two ks _ _ fine in and ((ordered h).expr scope n b l w.0) (exprs_ordered hs scope (n + r.binds) b l w.1)
 
-    procs_ordered : {ss : List Said} {rs : List Reading} → AllRead m ks ss rs → (scope : Scope) (n l : ℕ)
+    procs_ordered : {ts : List Tree} {ss : List Said} {rs : List Reading} → AllRead m ks ts ss rs → (scope : Scope) (n l : ℕ)
         → AllFine ks (all_say ss (process_at false l) (names_of scope))
         → IsTrue (all_true (map (proc_in_order p) (procs rs scope n)))
     procs_ordered f.no_trees scope n l fine = refl
     procs_ordered (f.more_trees {r = r} h hs) scope n l fine =
         let w = fine_two ks _ _ fine in and ((ordered h).proc scope n false l refl w.0) (procs_ordered hs scope (n + r.binds) l w.1)
 
-    field_ordered : {b : Binder} {g : Binding Field} → FieldRead m ks b g → (scope : Scope) (n : ℕ) (place : Place)
+    field_ordered : {t : FieldTree} {b : Binder} {g : Binding Field} → FieldRead m ks t b g → (scope : Scope) (n : ℕ) (place : Place)
         → AllFine ks (b.says place (names_of scope)) → IsTrue (field_in_order p (g.here scope n))
     field_ordered (f.dot h) scope n place fine = (ordered h).expr scope n false (place.level + 1) fine
     field_ordered (f.output h) scope n place fine = (ordered h).expr scope n false (place.level + 1) fine
     field_ordered (f.input x) scope n place fine = refl
     field_ordered (f.input_from x h) scope n place fine = (ordered h).expr scope (n + 1) false (place.level + 1) fine.1
 
-    fields_ordered : {bs : List Binder} {gs : List (Binding Field)} → FieldsRead m ks bs gs → (scope : Scope) (n : ℕ) (place : Place)
+    fields_ordered : {ts : List FieldTree} {bs : List Binder} {gs : List (Binding Field)} → FieldsRead m ks ts bs gs → (scope : Scope) (n : ℕ) (place : Place)
         → AllFine ks (in_turn bs place (names_of scope))
         → IsTrue (all_true (map (field_in_order p) (bindings gs scope n)))
     fields_ordered f.no_fields scope n place fine = refl
@@ -267,12 +273,12 @@ module _ (p : Content) (m : Meanings) (ks : List Kind) (fits : AllFit p ks m) wh
         (fields_ordered hs (g.after scope n) (n + g.binds) place (renamed ks (in_turn bs) place (names_of scope ++ b.names) (g.after scope n)
         (field_names m ks h scope n) w.1))
 
-    gen_ordered : {b : Binder} {g : Binding Gen} → GenRead m ks b g → (scope : Scope) (n : ℕ) (place : Place) → AllFine ks (b.says place (names_of scope))
+    gen_ordered : {t : GenTree} {b : Binder} {g : Binding Gen} → GenRead m ks t b g → (scope : Scope) (n : ℕ) (place : Place) → AllFine ks (b.says place (names_of scope))
         → IsTrue (gen_in_order p (g.here scope n))
     gen_ordered (f.from x h) scope n place fine = gen_order p ks _ (generator.rolls-From _ _) ((ordered h).expr scope (n + 1) false (place.level + 1) fine.1)
     gen_ordered (f.condition h) scope n place fine = gen_order p ks _ (generator.rolls-Cond _) ((ordered h).expr scope n false (place.level + 1) fine)
 
-    gens_ordered : {bs : List Binder} {gs : List (Binding Gen)} → GensRead m ks bs gs → (scope : Scope) (n : ℕ) (place : Place)
+    gens_ordered : {ts : List GenTree} {bs : List Binder} {gs : List (Binding Gen)} → GensRead m ks ts bs gs → (scope : Scope) (n : ℕ) (place : Place)
         → AllFine ks (in_turn bs place (names_of scope))
         → IsTrue (all_true (map (gen_in_order p) (bindings gs scope n)))
     gens_ordered f.no_gens scope n place fine = refl
@@ -282,7 +288,7 @@ module _ (p : Content) (m : Meanings) (ks : List Kind) (fits : AllFit p ks m) wh
         (gens_ordered hs (g.after scope n) (n + g.binds) place (renamed ks (in_turn bs) place (names_of scope ++ b.names) (g.after scope n)
         (gen_names m ks h scope n) w.1))
 
-    part_ordered : {s : Fields Said} {r : Front Reading} → PartRead m ks s r → (scope : Scope) (n : ℕ) (place : Place)
+    part_ordered : {t : PartTree} {s : Fields Said} {r : Front Reading} → PartRead m ks t s r → (scope : Scope) (n : ℕ) (place : Place)
         → AllFine ks (part_says m s place (names_of scope))
         → IsTrue (part_in_order p (part m ks r scope n))
     part_ordered (f.front_with x {ss = ss} {rs = rs} h) scope n place fine =
@@ -291,7 +297,7 @@ module _ (p : Content) (m : Meanings) (ks : List Kind) (fits : AllFit p ks m) wh
         (front_order p ks (name_is m scope x) fits (length ss) fine.0))
         (exprs_ordered h scope n false (place.level + 1) fine.1)
 
-    parts_ordered : {ss : List (Fields Said)} {rs : List (Front Reading)} → PartsRead m ks ss rs → (scope : Scope) (n : ℕ) (place : Place)
+    parts_ordered : {ts : List PartTree} {ss : List (Fields Said)} {rs : List (Front Reading)} → PartsRead m ks ts ss rs → (scope : Scope) (n : ℕ) (place : Place)
         → AllFine ks (all_say (map (part_says m) ss) place (names_of scope))
         → IsTrue (all_true (map (part_in_order p) (parts m ks rs scope n)))
     parts_ordered f.no_parts scope n place fine = refl
@@ -299,7 +305,7 @@ module _ (p : Content) (m : Meanings) (ks : List Kind) (fits : AllFit p ks m) wh
         let w = fine_two ks (part_says m s place (names_of scope)) (all_say (map (part_says m) ss) place (names_of scope)) fine in
         and (part_ordered h scope n place w.0) (parts_ordered hs scope (n + all_bind r.fields) place w.1)
 
-    pairs_ordered : {ss : List (Fields Said × Fields Said)} {rs : List (Front Reading × Front Reading)} → PairsRead m ks ss rs
+    pairs_ordered : {ts : List (PartTree × PartTree)} {ss : List (Fields Said × Fields Said)} {rs : List (Front Reading × Front Reading)} → PairsRead m ks ts ss rs
         → (scope : Scope) (n : ℕ) (place : Place)
         → AllFine ks (all_say (map (pair_says m) ss) place (names_of scope)) → IsTrue (all_true (map (pair_in_order p) (pairs m ks rs scope n)))
     pairs_ordered f.no_pairs scope n place fine = refl

@@ -27,10 +27,11 @@ use Rattle.script_names.specs.Occurrence.{uses}
 use Rattle.script_names.specs.Says.{Said, tree_says}
 use Rattle.script_names.specs.Told.{body_place, counts_of, data_place, declared_after, first_fault, names_declared, need_of, next_definition, parameters_after, types_say}
 use Rattle.script_names.specs.Typed.{Reading, Scope, definition_number, exprs, names_of, reading}
-use Rattle.resolved_laws.proofs.Classes.{IsClass}
-use Rattle.resolved_laws.proofs.Faultless.{AllFine, IsFine, fine_left, fine_right, fine_three, fine_two, first_faultless, rest_faultless}
-use Rattle.resolved_laws.proofs.Fitting.{AllFit, Fits, has_component, has_datum, is_body_of, same_count, when_none}
-use Rattle.resolved_laws.proofs.Making.{made}
+use Rattle.typed_laws.proofs.Classes.{IsClass}
+use Rattle.typed_laws.proofs.Faultless.{AllFine, IsFine, fine_left, fine_right, fine_three, fine_two, first_faultless, rest_faultless}
+use Rattle.resolved_laws.proofs.Fitting.{AllFit, Fits, has_component, has_datum, is_body_of}
+use Rattle.typed_laws.proofs.DefUses.{same_count, when_none}
+use Rattle.typed_laws.proofs.Making.{made}
 use Rattle.resolved_laws.proofs.Order.{Ordered, leaf_order, proc_order}
 use Rattle.resolved_laws.proofs.Places.{EachFrom, HasConst, IsDefAt, each_later}
 use Rattle.resolved_laws.proofs.Trees.{ordered}

@@ -28,7 +28,7 @@ use Rattle.script_names.specs.Told.{name_fault}
 use Rattle.resolved_laws.specs.Laws.{PlainIsInOrder}
 use Rattle.resolved_laws.proofs.BoundOnce.{DefOnce, TypesOnce, at_place, channels_once, defs_once, root_once}
 use Rattle.resolved_laws.proofs.Circle.{no_circle}
-use Rattle.resolved_laws.proofs.Classes.{EachKnown, IsClass, has_class, script_known}
+use Rattle.typed_laws.proofs.Classes.{EachKnown, IsClass, has_class, script_known}
 use Rattle.resolved_laws.proofs.ClosedContent.{channels_closed, defs_closed, root_closed}
 use Rattle.resolved_laws.proofs.Fitting.{AllFit}
 use Rattle.resolved_laws.proofs.Places.{EachFrom, HasChannel, HasConst, HoldsAll, IsDefAt, all_fit, each_map, each_place}

@@ -1,5 +1,5 @@
 -- What a script's declarations put into its program, while its channels have no field sets yet.
-use Rattle.std.specs.Prelude.{ℕ, zero, suc, ◌+◌, Bool, Option, Some, None, List, [], ◌∷◌, ◌++◌, length, map, slice_get, if◌then◌else◌}
+use Rattle.std.specs.Prelude.{ℕ, Bool, Option, Some, None, List, [], ◌∷◌, ◌++◌, length, map, slice_get, if◌then◌else◌}
 use Rattle.std.specs.List.{flat_map}
 use Rattle.csp_text.specs.declared.script.Decl.{Decl}
 use Rattle.csp_text.specs.declared.script.Decl.TheVariants as decl
@@ -19,17 +19,9 @@ use Rattle.script_names.specs.declared.kinds.Class.TheVariants as class
 use Rattle.script_names.specs.declared.kinds.Kind.{Kind}
 use Rattle.script_names.specs.Faults.{kind_class, kind_network}
 use Rattle.script_names.specs.Names.{Name, Meanings, Counts, counted, none_yet, meanings_of}
-use Rattle.script_names.specs.Typed.{Reading, Scope, exprs, reading, definition_number}
-
--- the numbers from n on, so many of them
-abbrev pub numbers_from : ℕ → ℕ → List ℕ
-numbers_from n zero = []
-numbers_from n (suc k) = n ∷ numbers_from (n + 1) k
-
--- the parameters of a definition, numbered from n on
-abbrev pub parameters : ℕ → List Name → Scope
-parameters n [] = []
-parameters n (x ∷ xs) = (x, n) ∷ parameters (n + 1) xs
+pub use Rattle.script_names.specs.Scopes.{numbers_from, parameters}
+use Rattle.script_names.specs.Scopes.{Scope}
+use Rattle.script_names.specs.Typed.{Reading, exprs, reading, definition_number}
 
 -- the first name that is asserted
 abbrev pub first_assertion : List Decl → Option Tree

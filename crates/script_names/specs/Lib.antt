@@ -1,4 +1,11 @@
 pub mod Names
+pub mod Once
+pub mod Scopes
+pub mod Typing
+pub mod DataDepth
+pub mod FieldSets
+pub mod Declaring
+pub mod Program
 pub mod Kinds
 pub mod Occurrence
 pub mod Says

@@ -2,7 +2,7 @@
 -- Channels, constants and definitions are numbered from 0 in the order of their declarations; nametypes and datatypes are definitions too.
 use Rattle.script_names.specs.declared.kinds.Sense.TheVariants as sense
 use Rattle.script_names.specs.declared.kinds.Sense.{Sense}
-use Rattle.std.specs.Prelude.{ℕ, ◌+◌, Bool, nat_eq, if◌then◌else◌, Option, Some, None, List, [], ◌∷◌, ◌++◌, length}
+use Rattle.std.specs.Prelude.{ℕ, ◌+◌, Bool, nat_eq, if◌then◌else◌, Option, Some, None, List, [], ◌∷◌, ◌++◌, length, map}
 use Rattle.std.specs.Cmp.Lexicographic.{pointwise}
 use Rattle.std.specs.Map.{lookup}
 use Rattle.std.specs.Set.{is_member}
@@ -66,6 +66,9 @@ none_yet = record { channels = 0; constants = 0; definitions = 0 }
 -- the declared names of a script
 abbrev pub declared : List Decl → Entities
 declared decls = declared_from none_yet decls
+
+abbrev pub names_declared : List Decl → List Name
+names_declared decls = map (λ e. e.0) (declared decls)
 
 -- what the first declaration of a name makes it
 abbrev pub first_of : Entities → Name → Option Entity

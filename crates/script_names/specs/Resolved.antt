@@ -1,18 +1,10 @@
 -- The program of a script, or why it has none. In this order: no deadlock assertion is in the script; a declaration has a name fault; the type of a
 -- channel's field has no value that fits; there are too many events.
-use Rattle.std.specs.Prelude.{◌≡◌, ℕ, ◌+◌, ◌-◌, ◌^◌, min, Bool, true, false, nat_le, if◌then◌else◌, Option, Some, None, Result, Ok, Err, List, [], ◌∷◌, ◌++◌, length, sum, map, replicate}
+use Rattle.std.specs.Prelude.{◌≡◌, ℕ, ◌+◌, ◌-◌, ◌^◌, min, nat_le, if◌then◌else◌, Option, Some, None, Result, Ok, Err, List, [], ◌∷◌, ◌++◌, length, map, replicate}
 use Rattle.dl_limits.specs.declared.TheConstants.{MOST_EVENTS}
 use Rattle.csp_atoms.specs.declared.atom.Atom.{Atom}
-use Rattle.csp_atoms.specs.declared.atom.Atom.TheVariants as atom
-use Rattle.csp_atoms.specs.declared.value.Value.{Value}
-use Rattle.csp_program.specs.EventNumber.{row_count}
-use Rattle.csp_program.specs.EventTable.{event_table}
-use Rattle.csp_program.specs.Lists.{all_true}
-use Rattle.csp_program.specs.Outcome.{Outcome, and_then}
-use Rattle.csp_program.specs.Value.{as_set, value_of}
+use Rattle.csp_program.specs.Outcome.{Outcome}
 use Rattle.csp_program.specs.declared.expressions.Expr.{Expr}
-use Rattle.csp_program.specs.declared.kinds.ValueKind.TheVariants.{Kind}
-use Rattle.csp_program.specs.declared.programs.Channel.{Channel}
 use Rattle.csp_program.specs.declared.programs.Content.{Content}
 use Rattle.csp_text.specs.declared.script.Decl.{Decl}
 use Rattle.csp_text.specs.declared.script.Decl.TheVariants as decl
@@ -24,8 +16,10 @@ use Rattle.script_names.specs.declared.fault.Unresolved.{Unresolved}
 use Rattle.script_names.specs.declared.fault.Unresolved.TheVariants as unresolved
 use Rattle.script_names.specs.declared.kinds.Kind.{Kind as DefinitionKind}
 use Rattle.script_names.specs.Contents.{first_assertion, plain_content}
+pub use Rattle.script_names.specs.FieldSets.{field_set, field_sets, may_be_field}
 use Rattle.script_names.specs.Kinds.{AreKinds}
 use Rattle.script_names.specs.Names.{meanings_of}
+pub use Rattle.script_names.specs.Program.{IsProgram, all_events, with_events, with_sets}
 use Rattle.script_names.specs.Told.{name_fault}
 use Rattle.script_names.specs.Typed.{exprs, reading}
 
@@ -36,22 +30,6 @@ Answer A = Result A ResolveFault
 abbrev pub and_next : {A B : Type 0} → Answer A → (A → Answer B) → Answer B
 and_next (Ok a) next = next a
 and_next (Err f) next = Err f
-
--- numbers and constants may be values of a field
-abbrev pub may_be_field : Atom → Bool
-may_be_field (atom.Num n) = true
-may_be_field (atom.Const k) = true
-may_be_field _ = false
-
--- a set of numbers or of constants is needed
-abbrev pub field_set : Value → Outcome (List Atom)
-field_set v = and_then (as_set v) (λ atoms. if all_true (map may_be_field atoms) then Ok atoms else Err Kind)
-
--- the field sets of a channel of these types, from the left
-abbrev pub field_sets : Content → List Expr → Outcome (List (List Atom))
-field_sets p [] = Ok []
-field_sets p (t ∷ types) =
-    and_then (value_of p t) (λ v. and_then (field_set v) (λ set. and_then (field_sets p types) (λ sets. Ok (set ∷ sets))))
 
 -- told in the declaration with the number i
 abbrev pub told_in : {A : Type 0} → ℕ → Outcome A → Answer A
@@ -65,21 +43,6 @@ channel_sets p types_of i (decl.Channel xs types ∷ decls) =
     and_next (told_in i (field_sets p (types_of types))) (λ sets.
     and_next (channel_sets p types_of (i + 1) decls) (λ rest. Ok (replicate (length xs) sets ++ rest)))
 channel_sets p types_of i (_ ∷ decls) = channel_sets p types_of (i + 1) decls
-
--- the channels with their field sets, where there are so many events before them
-abbrev pub with_sets : ℕ → List Channel → List (List (List Atom)) → List Channel
-with_sets first [] all = []
-with_sets first (channel ∷ channels) [] = []
-with_sets first (channel ∷ channels) (sets ∷ all) =
-    record channel { fields = Some sets; first = first } ∷ with_sets (first + row_count sets) channels all
-
--- how many events the channels with these field sets have
-abbrev pub all_events : List (List (List Atom)) → ℕ
-all_events all = sum (map row_count all)
-
--- with the event table of these channels
-abbrev pub with_events : Content → List Channel → Content
-with_events p channels = record p { channels = channels; events = event_table channels }
 
 -- at most 16,384 events; counting stops at the end of 64 bits
 abbrev pub with_table : Content → List (List (List Atom)) → Answer Content
@@ -103,12 +66,6 @@ module _ (decls : List Decl) (kinds : List DefinitionKind) where
   -- the program of a script whose definitions are of these kinds
   abbrev pub resolved : Answer Content
   resolved = with_root (first_assertion decls)
-
--- the program of a script
-pub record IsProgram (script : Script) (p : Content) : Type 0 where
-  pub kinds : List DefinitionKind
-  pub are : AreKinds script.decls kinds
-  pub is : resolved script.decls kinds ≡ Ok p
 
 -- why a script has none
 pub record IsRefused (script : Script) (f : ResolveFault) : Type 0 where

@@ -17,8 +17,10 @@ use Rattle.script_names.specs.declared.kinds.Class.TheVariants as class
 use Rattle.script_names.specs.declared.kinds.Kind.{Kind}
 use Rattle.script_names.specs.Depth.{depth_within}
 use Rattle.script_names.specs.Faults.{unknown_name, repeated_name, is_wrong_kind, wrong_count, is_inside, kind_class, kind_network}
-use Rattle.script_names.specs.Names.{Name, Meanings, Counts, counted, none_yet, declared, sense_in, is_among, meanings_of}
+use Rattle.script_names.specs.Names.{Name, Meanings, Counts, counted, none_yet, sense_in, is_among, meanings_of}
+pub use Rattle.script_names.specs.Names.{names_declared}
 use Rattle.script_names.specs.Occurrence.{Occurrence, declares, binds, notes, uses}
+pub use Rattle.script_names.specs.Once.{with_roles, with_uses}
 use Rattle.script_names.specs.Says.{tree_says}
 
 -- the names are declared after these
@@ -49,9 +51,6 @@ data_place = record { need = need.Data; network = false; level = 1 }
 abbrev pub root_place : Place
 root_place = record { need = need.Process; network = true; level = 1 }
 
-abbrev pub names_declared : List Decl → List Name
-names_declared decls = map (λ e. e.0) (declared decls)
-
 abbrev pub counts_of : Counts → List Decl → Counts
 counts_of n [] = n
 counts_of n (decl ∷ decls) = counts_of (counted n decl) decls
@@ -59,15 +58,6 @@ counts_of n (decl ∷ decls) = counts_of (counted n decl) decls
 -- the number of the next definition after these declarations
 abbrev pub next_definition : List Decl → ℕ
 next_definition decls = (counts_of none_yet decls).definitions
-
--- the processes with an annotation of roles, and those with one of a resource
-abbrev pub with_roles : Decl → List Name
-with_roles (decl.Roles names) = names.process ∷ []
-with_roles _ = []
-
-abbrev pub with_uses : Decl → List Name
-with_uses (decl.Resource names) = names.process ∷ []
-with_uses _ = []
 
 module _ (meanings : Meanings) (kinds : List Kind) where
   abbrev pub types_say : List Tree → List Occurrence

@@ -1,7 +1,7 @@
 -- Trees as expressions, processes and networks, once each of their names has its meaning. Bound names are numbered in the order of their binding
 -- tokens: a tree whose first binding token has the number n binds the numbers from n on. A tree of which a name has no meaning at its place is
 -- given some expression or process; no faultless script has one.
-use Rattle.std.specs.Prelude.{ℕ, ◌+◌, pos, Bool, true, false, ◌||◌, if◌then◌else◌, Option, Some, None, List, [], ◌∷◌, ◌++◌, map}
+use Rattle.std.specs.Prelude.{ℕ, ◌+◌, pos, Bool, true, false, ◌||◌, if◌then◌else◌, Option, Some, None, List, [], ◌∷◌}
 use Rattle.csp_text.specs.declared.tree.FieldTree.TheFolds.{fold-Tree}
 use Rattle.csp_text.specs.declared.tree.FieldTree.TheOpen.{FieldTree-F, GenTree-F, Tree-F, EventTree-F, PartTree-F}
 use Rattle.csp_text.specs.declared.tree.Tree.{Tree}
@@ -23,23 +23,8 @@ use Rattle.script_names.specs.declared.kinds.Entity.{Entity}
 use Rattle.script_names.specs.declared.kinds.Entity.TheVariants as entity
 use Rattle.script_names.specs.declared.kinds.Kind.{Kind}
 use Rattle.script_names.specs.Faults.{is_network}
-use Rattle.script_names.specs.Names.{Name, Meanings, same_name, sense_in}
-
--- the bound names at a place with their numbers, in the order in which they were bound
-abbrev pub Scope : Type 0
-Scope = List (Name × ℕ)
-
-abbrev pub or_else : Option ℕ → Option ℕ → Option ℕ
-or_else (Some n) other = Some n
-or_else None other = other
-
--- the number of a bound name: that of the last one of this spelling
-abbrev pub number_of : Scope → Name → Option ℕ
-number_of [] x = None
-number_of (b ∷ scope) x = or_else (number_of scope x) (if same_name x b.0 then Some b.1 else None)
-
-abbrev pub names_of : Scope → List Name
-names_of scope = map (λ b. b.0) scope
+use Rattle.script_names.specs.Names.{Name, Meanings, sense_in}
+pub use Rattle.script_names.specs.Scopes.{Scope, names_of, number_of, or_else, with}
 
 -- what is no expression, process or channel of a faultless script
 abbrev pub no_expr : Expr
@@ -121,10 +106,6 @@ parts_bind (part ∷ parts) = all_bind part.fields + parts_bind parts
 abbrev pub pairs_bind : List (Front Reading × Front Reading) → ℕ
 pairs_bind [] = 0
 pairs_bind (pair ∷ pairs) = all_bind pair.0.fields + all_bind pair.1.fields + pairs_bind pairs
-
--- with one more bound name
-abbrev pub with : Scope → Name → ℕ → Scope
-with scope x n = scope ++ (x, n) ∷ []
 
 module _ (meanings : Meanings) (kinds : List Kind) where
   -- the front of an event

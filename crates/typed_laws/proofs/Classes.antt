@@ -4,6 +4,7 @@ use Rattle.std.specs.Prelude.{slice_get}
 use Rattle.std.specs.List.{flat_map}
 use Rattle.csp_text.specs.declared.script.Decl.{Decl}
 use Rattle.csp_text.specs.declared.script.Decl.TheVariants as decl
+use Rattle.csp_text.specs.declared.tree.Tree.{Tree}
 use Rattle.script_names.specs.declared.kinds.Class.{Class}
 use Rattle.script_names.specs.declared.kinds.Class.TheVariants as class
 use Rattle.script_names.specs.declared.kinds.End.{End}
@@ -21,10 +22,10 @@ use Rattle.script_names.specs.Occurrence.{uses}
 use Rattle.script_names.specs.Says.{Said, tree_says}
 use Rattle.script_names.specs.Told.{body_place, declared_after, first_fault, names_declared, next_definition, parameters_after}
 use Rattle.script_names.specs.Typed.{Reading}
-use Rattle.resolved_laws.proofs.Faultless.{AllFine, IsFine, fine_three, first_faultless, rest_faultless}
-use Rattle.resolved_laws.proofs.Formed.{Ends, Reads}
-use Rattle.resolved_laws.proofs.Formed as f
-use Rattle.resolved_laws.proofs.Making.{made}
+use Rattle.typed_laws.proofs.Faultless.{AllFine, IsFine, fine_three, first_faultless, rest_faultless}
+use Rattle.typed_laws.proofs.Formed.{Ends, Reads}
+use Rattle.typed_laws.proofs.Formed as f
+use Rattle.typed_laws.proofs.Making.{made}
 
 abbrev pub IsKnown : End → Type 0
 IsKnown end.Nothing = ⊥
@@ -54,7 +55,7 @@ module _ (ks : List Kind) where
   call_known x _ n place h = absurd (let g = h.kind in cc)
 
   module _ (m : Meanings) where
-    known : {s : Said} {r : Reading} {e : Ends} → Reads m ks s r e → (place : Place) (names : List Name) → AllFine ks (s place names) → AllKnown (e names)
+    known : {t : Tree} {s : Said} {r : Reading} {e : Ends} → Reads m ks t s r e → (place : Place) (names : List Name) → AllFine ks (s place names) → AllKnown (e names)
     known (f.name x) place names h = (name_known x _ place h.0, tt)
     known (f.call x {args = ss} g) place names h = (call_known x _ (length ss) place h.0, tt)
     known (f.either_part {p'' = e} {q'' = e'} g k j) place names h =

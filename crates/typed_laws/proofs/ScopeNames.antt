@@ -3,6 +3,8 @@ use Rattle.std.proofs.Common.{◌≡◌, ℕ, ◌+◌, Bool, true, false, ◌||�
 use Rattle.std.specs.Prelude.{if◌then◌else◌}
 use Rattle.csp_program.specs.declared.expressions.Gen.{Gen}
 use Rattle.csp_program.specs.declared.processes.Field.{Field}
+use Rattle.csp_text.specs.declared.tree.FieldTree.{FieldTree}
+use Rattle.csp_text.specs.declared.tree.GenTree.{GenTree}
 use Rattle.script_names.specs.declared.kinds.Kind.{Kind}
 use Rattle.script_names.specs.declared.kinds.Sense.{Sense}
 use Rattle.script_names.specs.declared.kinds.Sense.TheVariants as sense
@@ -10,9 +12,9 @@ use Rattle.script_names.specs.Names.{Name, Meanings, is_among, same_name, sense_
 use Rattle.script_names.specs.Says.{Binder, Said}
 use Rattle.script_names.specs.Says as says
 use Rattle.script_names.specs.Typed.{Binding, Scope, names_of, number_of, or_else, under, with}
-use Rattle.resolved_laws.proofs.Formed.{FieldRead, FieldsRead, GenRead, GensRead}
-use Rattle.resolved_laws.proofs.Formed as f
-use Rattle.resolved_laws.proofs.Faultless.{AllFine}
+use Rattle.typed_laws.proofs.Formed.{FieldRead, FieldsRead, GenRead, GensRead}
+use Rattle.typed_laws.proofs.Formed as f
+use Rattle.typed_laws.proofs.Faultless.{AllFine}
 use Rattle.script_names.specs.declared.kinds.Place.{Place}
 
 pub names_with : (scope : Scope) (x : Name) (n : ℕ) → names_of (with scope x n) ≡ names_of scope ++ x ∷ []
@@ -20,23 +22,23 @@ names_with [] x n = refl
 names_with (b ∷ scope) x n = ap (λ l. b.0 ∷ l) (names_with scope x n)
 
 module _ (m : Meanings) (ks : List Kind) where
-  pub field_names : {b : Binder} {g : Binding Field} → FieldRead m ks b g → (scope : Scope) (n : ℕ) → names_of (g.after scope n) ≡ names_of scope ++ b.names
+  pub field_names : {t : FieldTree} {b : Binder} {g : Binding Field} → FieldRead m ks t b g → (scope : Scope) (n : ℕ) → names_of (g.after scope n) ≡ names_of scope ++ b.names
   field_names (f.dot h) scope n = sym (append-nil (names_of scope))
   field_names (f.output h) scope n = sym (append-nil (names_of scope))
   field_names (f.input x) scope n = names_with scope x n
   field_names (f.input_from x h) scope n = names_with scope x n
 
-  pub gen_names : {b : Binder} {g : Binding Gen} → GenRead m ks b g → (scope : Scope) (n : ℕ) → names_of (g.after scope n) ≡ names_of scope ++ b.names
+  pub gen_names : {t : GenTree} {b : Binder} {g : Binding Gen} → GenRead m ks t b g → (scope : Scope) (n : ℕ) → names_of (g.after scope n) ≡ names_of scope ++ b.names
   gen_names (f.from x h) scope n = names_with scope x n
   gen_names (f.condition h) scope n = sym (append-nil (names_of scope))
 
-  pub fields_names : {bs : List Binder} {gs : List (Binding Field)} → FieldsRead m ks bs gs → (scope : Scope) (n : ℕ)
+  pub fields_names : {ts : List FieldTree} {bs : List Binder} {gs : List (Binding Field)} → FieldsRead m ks ts bs gs → (scope : Scope) (n : ℕ)
       → names_of (under gs scope n) ≡ says.under bs (names_of scope)
   fields_names f.no_fields scope n = refl
   fields_names (f.more_fields {f = g} {bs = bs} h hs) scope n =
       fields_names hs (g.after scope n) (n + g.binds) ∙ ap (says.under bs) (field_names h scope n)
 
-  pub gens_names : {bs : List Binder} {gs : List (Binding Gen)} → GensRead m ks bs gs → (scope : Scope) (n : ℕ)
+  pub gens_names : {ts : List GenTree} {bs : List Binder} {gs : List (Binding Gen)} → GensRead m ks ts bs gs → (scope : Scope) (n : ℕ)
       → names_of (under gs scope n) ≡ says.under bs (names_of scope)
   gens_names f.no_gens scope n = refl
   gens_names (f.more_gens {g = g} {bs = bs} h hs) scope n =

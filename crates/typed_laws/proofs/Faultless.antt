@@ -40,23 +40,23 @@ pub fine_four : (ks : List Kind) (os ps qs rs : List Occurrence) → AllFine ks 
     → AllFine ks os × AllFine ks ps × AllFine ks qs × AllFine ks rs
 fine_four ks os ps qs rs h = let w = fine_three ks ps qs rs (fine_right ks os (ps ++ (qs ++ rs)) h) in (fine_left ks os (ps ++ (qs ++ rs)) h, w.0, w.1, w.2)
 
-none_first : {A : Type 0} (o : Option A) (os : List (Option A)) → first_there (o ∷ os) ≡ None → o ≡ None
+pub none_first : {A : Type 0} (o : Option A) (os : List (Option A)) → first_there (o ∷ os) ≡ None → o ≡ None
 none_first None os h = refl
 none_first (Some a) os h = h
 
-none_later : {A : Type 0} (o : Option A) (os : List (Option A)) → first_there (o ∷ os) ≡ None → first_there os ≡ None
+pub none_later : {A : Type 0} (o : Option A) (os : List (Option A)) → first_there (o ∷ os) ≡ None → first_there os ≡ None
 none_later None os h = h
 none_later (Some a) os h = absurd (cc)
 
-none_of_map : {A B : Type 0} (f : A → B) (o : Option A) → option_map f o ≡ None → o ≡ None
+pub none_of_map : {A B : Type 0} (f : A → B) (o : Option A) → option_map f o ≡ None → o ≡ None
 none_of_map f None h = refl
 none_of_map f (Some a) h = absurd (cc)
 
-none_of_when : (b : Bool) (f : ResolveFault) → when_any b f ≡ None → b ≡ false
+pub none_of_when : (b : Bool) (f : ResolveFault) → when_any b f ≡ None → b ≡ false
 none_of_when true f h = absurd (cc)
 none_of_when false f h = refl
 
-all_fine : (ks : List Kind) (os : List Occurrence) → first_name unknown_name os ≡ None → list_any (is_wrong_kind ks) os ≡ false
+pub all_fine : (ks : List Kind) (os : List Occurrence) → first_name unknown_name os ≡ None → list_any (is_wrong_kind ks) os ≡ false
     → first_name wrong_count os ≡ None → list_any (is_inside ks) os ≡ false
     → AllFine ks os
 all_fine ks [] h g k l = tt

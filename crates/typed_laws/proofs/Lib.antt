@@ -1,0 +1,16 @@
+pub mod Formed
+pub mod Making
+pub mod Faultless
+pub mod ScopeNames
+pub mod Classes
+pub mod Passing
+pub mod Senses
+pub mod DefUses
+pub mod Uses
+pub mod Deep
+pub mod ExprsAre
+pub mod ProcsAre
+pub mod NetsAre
+pub mod Typable
+pub mod DeclPasses
+pub mod ScriptKinds

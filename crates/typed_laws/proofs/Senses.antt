@@ -1,0 +1,91 @@
+-- What names stand for where rules of typing hold of them, and that their uses pass.
+use Rattle.std.proofs.Common.{◌≡◌, ℕ, ◌+◌, Bool, true, false, not, ◌&&◌, ◌||◌, nat_eq, nat_lt, Option, Some, None, List, refl, sym, ◌∙◌, ap}
+use Rattle.std.specs.Prelude.{slice_get}
+use Rattle.std.proofs.lemmas.Bool.{eq-eqb}
+use Rattle.script_names.specs.declared.kinds.Class.{Class}
+use Rattle.script_names.specs.declared.kinds.Class.TheVariants as class
+use Rattle.script_names.specs.declared.kinds.Entity.{Entity}
+use Rattle.script_names.specs.declared.kinds.Entity.TheVariants as entity
+use Rattle.script_names.specs.declared.kinds.Kind.{Kind}
+use Rattle.script_names.specs.declared.kinds.Need.{Need}
+use Rattle.script_names.specs.declared.kinds.Need.TheVariants as need
+use Rattle.script_names.specs.declared.kinds.Place.{Place}
+use Rattle.script_names.specs.declared.kinds.Sense.{Sense}
+use Rattle.script_names.specs.declared.kinds.Sense.TheVariants as sense
+use Rattle.script_names.specs.declared.kinds.Use.TheVariants as how
+use Rattle.script_names.specs.Faults.{clashes, is_constant, kind_class, kind_network, when}
+use Rattle.script_names.specs.Names.{Meanings, Name, sense_in, sense_of}
+use Rattle.script_names.specs.Occurrence.{binds, uses}
+use Rattle.script_names.specs.Scopes.{Scope, names_of, number_of}
+use Rattle.script_names.specs.Typing.{MayBind, Means}
+use Rattle.typed_laws.proofs.Passing.{Passes, data_at, process_at}
+use Rattle.typed_laws.proofs.ScopeNames.{NameIs, is_bound, is_free, name_is}
+
+bound_sense : {m : Meanings} {x : Name} {o : Option ℕ} {s : Sense} → NameIs m x o s → (b : ℕ) → o ≡ Some b → s ≡ sense.Bound
+bound_sense (is_bound k) b h = refl
+bound_sense is_free b h = absurd (cc)
+
+free_sense : {m : Meanings} {x : Name} {o : Option ℕ} {s : Sense} → NameIs m x o s → o ≡ None → s ≡ sense_of (m x)
+free_sense (is_bound k) h = absurd (cc)
+free_sense is_free h = refl
+
+pub none_of_count : (n k : ℕ) (x : Name) → k ≡ n → when (not (nat_eq n k)) x ≡ None
+none_of_count n k x h = ap (λ b. when (not b) x) (eq-eqb n k (sym h))
+
+no_constant : (e : Option Entity) → ((k : ℕ) → e ≡ Some (entity.Constant k) → ⊥) → is_constant e ≡ false
+no_constant (Some (entity.Constant k)) h = absurd (h k refl)
+no_constant (Some (entity.Channel c n)) h = refl
+no_constant (Some (entity.Definition d n)) h = refl
+no_constant (Some (entity.Set d)) h = refl
+no_constant None h = refl
+
+module _ (m : Meanings) (ks : List Kind) where
+  pub bound_is : (scope : Scope) (x : Name) (b : ℕ) → number_of scope x ≡ Some b → sense_in m (names_of scope) x ≡ sense.Bound
+  bound_is scope x b h = bound_sense (name_is m scope x) b h
+
+  pub means_is : (scope : Scope) (x : Name) (e : Entity) → Means m ks scope x e → sense_in m (names_of scope) x ≡ sense.Declared e
+  means_is scope x e h = free_sense (name_is m scope x) h.0 ∙ ap sense_of h.1
+
+  pub bind_passes : (x : Name) → MayBind m ks x → Passes m ks (binds x false)
+  bind_passes x h =
+      record { fine = record { known = refl; kind = refl; count = refl; inside = refl }; once = ap (λ b. when b x) (no_constant (m x) h) }
+
+  pub bound_passes : (x : Name) (b : Bool) (l : ℕ) → Passes m ks (uses x sense.Bound (how.Alone (data_at b l)))
+  bound_passes x b l = record { fine = record { known = refl; kind = refl; count = refl; inside = refl }; once = refl }
+
+  pub event_passes : (x : Name) (c : ℕ) (b : Bool) (l : ℕ) → Passes m ks (uses x (sense.Declared (entity.Channel c 0)) (how.Alone (data_at b l)))
+  event_passes x c b l = record { fine = record { known = refl; kind = refl; count = refl; inside = refl }; once = refl }
+
+  pub constant_passes : (x : Name) (k : ℕ) (b : Bool) (l : ℕ) → Passes m ks (uses x (sense.Declared (entity.Constant k)) (how.Alone (data_at b l)))
+  constant_passes x k b l = record { fine = record { known = refl; kind = refl; count = refl; inside = refl }; once = refl }
+
+  pub set_passes : (x : Name) (d : ℕ) (b : Bool) (l : ℕ) → Passes m ks (uses x (sense.Declared (entity.Set d)) (how.Alone (data_at b l)))
+  set_passes x d b l = record { fine = record { known = refl; kind = refl; count = refl; inside = refl }; once = refl }
+
+  -- the use of a definition of this kind
+  pub definition_passes : (x : Name) (d : ℕ) (kind : Kind) (place : Place) → slice_get ks d ≡ Some kind → clashes ks kind.class place.need ≡ false
+      → (kind.network && not place.network) ≡ false → Passes m ks (uses x (sense.Declared (entity.Definition d 0)) (how.Alone place))
+  definition_passes x d kind place is fits inside = record {
+    fine = record {
+      known = refl;
+      kind = ap (λ o. clashes ks (kind_class o) place.need) is ∙ fits;
+      count = refl;
+      inside = ap (λ o. kind_network o && not place.network) is ∙ inside;
+    };
+    once = refl;
+  }
+
+  pub call_passes : (x : Name) (d n k : ℕ) (kind : Kind) (place : Place) → slice_get ks d ≡ Some kind → clashes ks kind.class place.need ≡ false
+      → (kind.network && not place.network) ≡ false → k ≡ n → Passes m ks (uses x (sense.Declared (entity.Definition d n)) (how.Called k place))
+  call_passes x d n k kind place is fits inside same = record {
+    fine = record {
+      known = refl;
+      kind = ap (λ o. clashes ks (kind_class o) place.need) is ∙ fits;
+      count = none_of_count n k x same;
+      inside = ap (λ o. kind_network o && not place.network) is ∙ inside;
+    };
+    once = refl;
+  }
+
+  pub dotted_passes : (x : Name) (c n k : ℕ) → k ≡ n → Passes m ks (uses x (sense.Declared (entity.Channel c n)) (how.Dotted k))
+  dotted_passes x c n k same = record { fine = record { known = refl; kind = refl; count = none_of_count n k x same; inside = refl }; once = refl }

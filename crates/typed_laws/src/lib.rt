@@ -1,0 +1,2 @@
+//! The laws of trees by their forms.
+#![tactic(auto)]
