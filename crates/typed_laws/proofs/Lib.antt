@@ -14,3 +14,4 @@ pub mod NetsAre
 pub mod Typable
 pub mod DeclPasses
 pub mod ScriptKinds
+pub mod Puts
