@@ -15,3 +15,5 @@ pub mod Typable
 pub mod DeclPasses
 pub mod ScriptKinds
 pub mod Puts
+pub mod Putting
+pub mod Typed

@@ -11,13 +11,13 @@ use Rattle.csp_program.specs.declared.processes.Proc.{Proc}
 use Rattle.csp_program.specs.declared.programs.Body.TheVariants as body
 use Rattle.csp_program.specs.declared.programs.Content.{Content}
 use Rattle.script_names.specs.declared.kinds.Kind.{Kind}
-use Rattle.script_names.specs.DataDepth.{IsShallow}
 use Rattle.script_names.specs.Declaring.{IsAnnotated, IsEventSet, channels_of_types, nothing_yet}
 use Rattle.script_names.specs.Names.{Name, Meanings, Counts, counted}
 use Rattle.script_names.specs.Scopes.{numbers_from, parameters}
 use Rattle.script_names.specs.Typing.{AreExprs, IsData, IsExpr, IsNet, IsNetwork, IsProc, IsProcess}
 
-module _ (m : Meanings) (ks : List Kind) (whole : Content) where
+-- `Low d` is what is asked of the depth of a definition of data with the number d
+module _ (m : Meanings) (ks : List Kind) (whole : Content) (Low : ℕ → Type 0) where
   pub data Puts : Counts → List Decl → Content → Type 0 where
     nothing : {n : Counts} → Puts n [] nothing_yet
     channels : {n : Counts} {k : ℕ} {xs : List Name} {types : List Tree} {es : List Expr} {decls : List Decl} {p : Content} →
@@ -29,10 +29,10 @@ module _ (m : Meanings) (ks : List Kind) (whole : Content) where
           defs = record { name = x; params = []; body = body.Datatype (numbers_from n.constants (length cs)) } ∷ p.defs;
         })
     nametype : {n : Counts} {k : ℕ} {x : Name} {t : Tree} {e : Expr} {decls : List Decl} {p : Content} →
-        IsExpr m ks [] 0 t e k → IsShallow whole n.definitions → Puts (counted n (decl.Nametype x t)) decls p →
+        IsExpr m ks [] 0 t e k → Low n.definitions → Puts (counted n (decl.Nametype x t)) decls p →
         Puts n (decl.Nametype x t ∷ decls) (record p { defs = record { name = x; params = []; body = body.Nametype e } ∷ p.defs })
     data_definition : {n : Counts} {k : ℕ} {x : Name} {params : List Name} {t : Tree} {e : Expr} {decls : List Decl} {p : Content} →
-        IsData m ks n.definitions → IsExpr m ks (parameters 0 params) (length params) t e k → IsShallow whole n.definitions →
+        IsData m ks n.definitions → IsExpr m ks (parameters 0 params) (length params) t e k → Low n.definitions →
         Puts (counted n (decl.Define x params t)) decls p →
         Puts n (decl.Define x params t ∷ decls)
         (record p { defs = record { name = x; params = numbers_from 0 (length params); body = body.Datum e } ∷ p.defs })

@@ -245,7 +245,7 @@ module _ (script : List Decl) (ks : List Kind) where
     no_network d kind at c true is = absurd (leads_nowhere ((are.each d kind at).network.0 is) (ap kind_class at ∙ c))
     no_network d kind at c false is = is
 
-    kind_is : (d : ℕ) → d < length all → KindIs ks d
+    pub kind_is : (d : ℕ) → d < length all → KindIs ks d
     kind_is d h =
         let one : length ks ≡ length all = are.one_each in
         let found = kind_at ks d (omega (arith, h, one)) in
