@@ -1,5 +1,5 @@
 -- No words ask for two things: the first word tells which request it is, and the others what it is for.
-use Rattle.std.proofs.Common.{◌≡◌, ℕ, ◌+◌, ◌≤◌, List, [], get_or, sym, ap, ◌∙◌, arith}
+use Rattle.std.proofs.Common.{◌≡◌, ℕ, ◌+◌, ◌<◌, List, [], get_or, sym, ap, ◌∙◌, arith}
 use Rattle.net_maker.specs.Families.{greatest}
 use Rattle.net_maker.specs.declared.families.Family.{Family}
 use Rattle.net_maker.specs.declared.families.Family.TheVariants.{Chain, Forks, Mesh}
@@ -20,7 +20,7 @@ differ : (xs ys : List (List ℕ)) → xs ≡ ys
     → (get_or (get_or xs 0 []) 1 0 + get_or (get_or xs 0 []) 2 0 ≡ get_or (get_or ys 0 []) 1 0 + get_or (get_or ys 0 []) 2 0 → ⊥) → ⊥
 differ xs ys is never = never (ap (λ (words : List (List ℕ)). get_or (get_or words 0 []) 1 0 + get_or (get_or words 0 []) 2 0) is)
 
-pub few : (f : Family) → greatest f ≤ 512
+pub few : (f : Family) → greatest f < 1000000
 few Forks = omega arith
 few Chain = omega arith
 few Mesh = omega arith

@@ -1,4 +1,7 @@
 //! The words of a command line, and what they ask for.
+//!
+//! A request holds the name of its script, so that in clauses it is plain data, with one way to write it. A number is one to six digits, with no
+//! leading zero.
 #![tactic(auto)]
 
 mod laws;

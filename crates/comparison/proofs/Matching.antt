@@ -4,8 +4,8 @@ use Rattle.std.proofs.lemmas.Option.{none-some, same_Some, slice_get_within}
 use Rattle.conformance.proofs.Telling.{faults_refute}
 use Rattle.csp_tables.specs.Label.{Label}
 use Rattle.csp_tables.specs.Network.{Component, leaves}
-use Rattle.judgement_laws.proofs.Tables.{faults_exclude_tables}
 use Rattle.network_layout.specs.Triple.{alphabets}
+use Rattle.network_stages.proofs.Excluded.{faults_exclude_tables}
 use Rattle.network_stages.specs.Networks.{Network}
 use Rattle.network_stages.specs.Sets.{HaveFewSets}
 use Rattle.network_stages.specs.Stages.{HasNoParts}

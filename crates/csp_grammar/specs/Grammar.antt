@@ -3,7 +3,7 @@
 -- same of their kind of tree. In each, n is the number of brackets that may still be opened: a text within a bracket has one fewer.
 --
 -- A closed form may have something to its right. An open one (`if`, and the replicated forms) reaches as far right as it can, so it stands only at
--- the right end. Parentheses leave no trace in the tree.
+-- the right end, and what ends with one is open too. Parentheses leave no trace in the tree.
 use Rattle.std.specs.Prelude.{ℕ, suc, Bool, true, false, Some, None, List, [], ◌∷◌}
 use Rattle.csp_text.specs.declared.token.Token.{Token}
 use Rattle.csp_text.specs.declared.token.Token.TheVariants.{Name, Num, Word, Symbol}
@@ -42,26 +42,25 @@ event_tree c fields = roll-EventTree (record { name = c; fields = fields })
 abbrev pub part_tree : List ℕ → List Tree → PartTree
 part_tree c fields = roll-PartTree (record { name = c; fields = fields })
 
+-- Whether something may follow a form on its right.
+pub data Reach : Type 0 where
+  closed : Reach
+  opened : Reach
+
 mutual
   -- A tree: a dotted event, a process or an expression, or two processes in parallel.
   pub data TreeText : ℕ → List Token → Tree → List Token → Type 0 where
     tree-dotted : {n : ℕ} {ts : List Token} {t : Tree} {r : List Token} → DottedText n ts t r → TreeText n ts t r
-    tree-side : {n : ℕ} {ts : List Token} {t : Tree} {r : List Token} → SideText n ts t r → TreeText n ts t r
-    tree-parallel : {n : ℕ} {ts : List Token} {p : Tree} {us : List Token} {a : Tree} {vs : List Token} {b : Tree} {ws : List Token} {q : Tree} {r : List Token} →
-        ClosedSideText (suc n) ts p (Symbol OpenBracket ∷ us) → AtomText n us a (Symbol Parallel ∷ vs) → AtomText n vs b (Symbol CloseBracket ∷ ws) →
-        SideText (suc n) ws q r → TreeText (suc n) ts (tree.Parallel p a b q) r
+    tree-side : {n : ℕ} {e : Reach} {ts : List Token} {t : Tree} {r : List Token} → SideText n e ts t r → TreeText n ts t r
+    tree-parallel : {n : ℕ} {e : Reach} {ts : List Token} {p : Tree} {us : List Token} {a : Tree} {vs : List Token} {b : Tree} {ws : List Token} {q : Tree} {r : List Token} →
+        SideText (suc n) closed ts p (Symbol OpenBracket ∷ us) → AtomText n us a (Symbol Parallel ∷ vs) → AtomText n vs b (Symbol CloseBracket ∷ ws) →
+        SideText (suc n) e ws q r → TreeText (suc n) ts (tree.Parallel p a b q) r
 
-  -- A process or an expression that stands alone, or on the right of a parallel: open forms too.
-  pub data SideText : ℕ → List Token → Tree → List Token → Type 0 where
-    side-closed : {n : ℕ} {ts : List Token} {t : Tree} {r : List Token} → ClosedSideText n ts t r → SideText n ts t r
-    side-sequence : {n : ℕ} {ts : List Token} {t : Tree} {r : List Token} → OpenSequenceText n ts t r → SideText n ts t r
-    side-choice : {n : ℕ} {ts : List Token} {ps : List Tree} {r : List Token} → (c : Choice) → OpenChoiceText n c ts ps r → SideText n ts (choice_of c ps) r
-
-  -- A process or an expression that something may follow. A chain is of one choice: a mixed one needs parentheses.
-  pub data ClosedSideText : ℕ → List Token → Tree → List Token → Type 0 where
-    closed-side-sequence : {n : ℕ} {ts : List Token} {t : Tree} {r : List Token} → ClosedSequenceText n ts t r → ClosedSideText n ts t r
-    closed-side-choice : {n : ℕ} {ts : List Token} {ps : List Tree} {r : List Token} → (c : Choice) → ClosedChoiceText n c ts ps r → ClosedSideText n ts (choice_of c ps) r
-    closed-side-hiding : {n : ℕ} {ts : List Token} {t : Tree} {r : List Token} → HidingText n ts t r → ClosedSideText n ts t r
+  -- A process or an expression that stands alone or beside a parallel. A chain is of one choice: a mixed one needs parentheses.
+  pub data SideText : ℕ → Reach → List Token → Tree → List Token → Type 0 where
+    side-sequence : {n : ℕ} {e : Reach} {ts : List Token} {t : Tree} {r : List Token} → SequenceText n e ts t r → SideText n e ts t r
+    side-choice : {n : ℕ} {e : Reach} {ts : List Token} {ps : List Tree} {r : List Token} → (c : Choice) → ChoiceText n e c ts ps r → SideText n e ts (choice_of c ps) r
+    side-hiding : {n : ℕ} {ts : List Token} {t : Tree} {r : List Token} → HidingText n ts t r → SideText n closed ts t r
 
   -- P \ A \ B: a chain of hidings nests from the left.
   pub data HidingText : ℕ → List Token → Tree → List Token → Type 0 where
@@ -70,47 +69,27 @@ mutual
     hiding-more : {n : ℕ} {ts : List Token} {p : Tree} {us : List Token} {a : Tree} {r : List Token} →
         HidingText n ts p (Symbol Backslash ∷ us) → AtomText n us a r → HidingText n ts (tree.Hide p a) r
 
-  -- P [] Q [] R: two operands or more, all closed.
-  pub data ClosedChoiceText : ℕ → Choice → List Token → List Tree → List Token → Type 0 where
-    closed-choice-two : {n : ℕ} {c : Choice} {ts : List Token} {p : Tree} {us : List Token} {q : Tree} {r : List Token} →
-        ClosedSequenceText n ts p (choice_sign c ∷ us) → ClosedSequenceText n us q r → ClosedChoiceText n c ts (p ∷ q ∷ []) r
-    closed-choice-more : {n : ℕ} {c : Choice} {ts : List Token} {p : Tree} {us : List Token} {ps : List Tree} {r : List Token} →
-        ClosedSequenceText n ts p (choice_sign c ∷ us) → ClosedChoiceText n c us ps r → ClosedChoiceText n c ts (p ∷ ps) r
-
-  -- The same with an open form as the last operand.
-  pub data OpenChoiceText : ℕ → Choice → List Token → List Tree → List Token → Type 0 where
-    open-choice-two : {n : ℕ} {c : Choice} {ts : List Token} {p : Tree} {us : List Token} {q : Tree} {r : List Token} →
-        ClosedSequenceText n ts p (choice_sign c ∷ us) → OpenSequenceText n us q r → OpenChoiceText n c ts (p ∷ q ∷ []) r
-    open-choice-more : {n : ℕ} {c : Choice} {ts : List Token} {p : Tree} {us : List Token} {ps : List Tree} {r : List Token} →
-        ClosedSequenceText n ts p (choice_sign c ∷ us) → OpenChoiceText n c us ps r → OpenChoiceText n c ts (p ∷ ps) r
+  -- P [] Q [] R: two operands or more, all closed but for the last one.
+  pub data ChoiceText : ℕ → Reach → Choice → List Token → List Tree → List Token → Type 0 where
+    choice-two : {n : ℕ} {e : Reach} {c : Choice} {ts : List Token} {p : Tree} {us : List Token} {q : Tree} {r : List Token} →
+        SequenceText n closed ts p (choice_sign c ∷ us) → SequenceText n e us q r → ChoiceText n e c ts (p ∷ q ∷ []) r
+    choice-more : {n : ℕ} {e : Reach} {c : Choice} {ts : List Token} {p : Tree} {us : List Token} {ps : List Tree} {r : List Token} →
+        SequenceText n closed ts p (choice_sign c ∷ us) → ChoiceText n e c us ps r → ChoiceText n e c ts (p ∷ ps) r
 
   -- P ; Q ; R nests from the right.
-  pub data ClosedSequenceText : ℕ → List Token → Tree → List Token → Type 0 where
-    closed-sequence-one : {n : ℕ} {ts : List Token} {t : Tree} {r : List Token} → ClosedPrefixText n ts t r → ClosedSequenceText n ts t r
-    closed-sequence-more : {n : ℕ} {ts : List Token} {p : Tree} {us : List Token} {q : Tree} {r : List Token} →
-        ClosedPrefixText n ts p (Symbol Semicolon ∷ us) → ClosedSequenceText n us q r → ClosedSequenceText n ts (tree.Seq p q) r
+  pub data SequenceText : ℕ → Reach → List Token → Tree → List Token → Type 0 where
+    sequence-one : {n : ℕ} {e : Reach} {ts : List Token} {t : Tree} {r : List Token} → PrefixText n e ts t r → SequenceText n e ts t r
+    sequence-more : {n : ℕ} {e : Reach} {ts : List Token} {p : Tree} {us : List Token} {q : Tree} {r : List Token} →
+        PrefixText n closed ts p (Symbol Semicolon ∷ us) → SequenceText n e us q r → SequenceText n e ts (tree.Seq p q) r
 
-  -- The same with an open form at the right end.
-  pub data OpenSequenceText : ℕ → List Token → Tree → List Token → Type 0 where
-    open-sequence-one : {n : ℕ} {ts : List Token} {t : Tree} {r : List Token} → OpenPrefixText n ts t r → OpenSequenceText n ts t r
-    open-sequence-more : {n : ℕ} {ts : List Token} {p : Tree} {us : List Token} {q : Tree} {r : List Token} →
-        ClosedPrefixText n ts p (Symbol Semicolon ∷ us) → OpenSequenceText n us q r → OpenSequenceText n ts (tree.Seq p q) r
-
-  -- Prefixes and guards before an expression.
-  pub data ClosedPrefixText : ℕ → List Token → Tree → List Token → Type 0 where
-    closed-prefix-event : {n : ℕ} {ts : List Token} {e : EventTree} {us : List Token} {p : Tree} {r : List Token} →
-        EventText n ts e (Symbol Arrow ∷ us) → ClosedPrefixText n us p r → ClosedPrefixText n ts (tree.Prefix e p) r
-    closed-prefix-guard : {n : ℕ} {ts : List Token} {c : Tree} {us : List Token} {p : Tree} {r : List Token} →
-        ExpressionText n disjunction ts c (Symbol Ampersand ∷ us) → ClosedPrefixText n us p r → ClosedPrefixText n ts (tree.Guard c p) r
-    closed-prefix-expression : {n : ℕ} {ts : List Token} {t : Tree} {r : List Token} → ExpressionText n disjunction ts t r → ClosedPrefixText n ts t r
-
-  -- Prefixes and guards before an open form.
-  pub data OpenPrefixText : ℕ → List Token → Tree → List Token → Type 0 where
-    open-prefix-event : {n : ℕ} {ts : List Token} {e : EventTree} {us : List Token} {p : Tree} {r : List Token} →
-        EventText n ts e (Symbol Arrow ∷ us) → OpenPrefixText n us p r → OpenPrefixText n ts (tree.Prefix e p) r
-    open-prefix-guard : {n : ℕ} {ts : List Token} {c : Tree} {us : List Token} {p : Tree} {r : List Token} →
-        ExpressionText n disjunction ts c (Symbol Ampersand ∷ us) → OpenPrefixText n us p r → OpenPrefixText n ts (tree.Guard c p) r
-    open-prefix-open-form : {n : ℕ} {ts : List Token} {t : Tree} {r : List Token} → OpenText n ts t r → OpenPrefixText n ts t r
+  -- Prefixes and guards before an expression or an open form.
+  pub data PrefixText : ℕ → Reach → List Token → Tree → List Token → Type 0 where
+    prefix-event : {n : ℕ} {e : Reach} {ts : List Token} {event : EventTree} {us : List Token} {p : Tree} {r : List Token} →
+        EventText n ts event (Symbol Arrow ∷ us) → PrefixText n e us p r → PrefixText n e ts (tree.Prefix event p) r
+    prefix-guard : {n : ℕ} {e : Reach} {ts : List Token} {c : Tree} {us : List Token} {p : Tree} {r : List Token} →
+        ExpressionText n disjunction ts c (Symbol Ampersand ∷ us) → PrefixText n e us p r → PrefixText n e ts (tree.Guard c p) r
+    prefix-expression : {n : ℕ} {ts : List Token} {t : Tree} {r : List Token} → ExpressionText n disjunction ts t r → PrefixText n closed ts t r
+    prefix-open-form : {n : ℕ} {ts : List Token} {t : Tree} {r : List Token} → OpenText n ts t r → PrefixText n opened ts t r
 
   -- if c then P else Q, [] x:S @ P, |~| x:S @ P and || x:S @ [A] P
   pub data OpenText : ℕ → List Token → Tree → List Token → Type 0 where

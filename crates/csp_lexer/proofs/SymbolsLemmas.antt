@@ -4,12 +4,11 @@ use Rattle.std.proofs.lemmas.Bool.{and_parts, eqb-true, false≢true}
 use Rattle.std.proofs.lemmas.List.{length-append}
 use Rattle.std.proofs.lemmas.Bool.Decides.{nat_tests}
 use Rattle.std.specs.Prelude.{Option, Some, None, IfSome, find, nat_eq, nat_le, nat_lt}
-use Rattle.std.specs.List.{position_or_len, slice_get, starts_with}
-use Rattle.std.specs.Str.{bytes_eq}
+use Rattle.std.specs.List.{slice_get, starts_with}
 use Rattle.csp_text.specs.declared.token.Symbol.{Symbol}
-use Rattle.csp_text.specs.declared.token.Symbol.TheVariants.{Arrow}
-use Rattle.csp_text.specs.Written.{symbol_text}
-use Rattle.csp_lexer.specs.Symbols.{IsFront, IsLongest, longest_symbol, symbols}
+use Rattle.csp_text.specs.Written.{symbol_text, symbols}
+use Rattle.csp_text.proofs.WrittenAlike.{symbol_place, symbol_stands}
+use Rattle.csp_lexer.specs.Symbols.{IsFront, IsLongest, longest_symbol}
 
 -- the spellings of these symbols are never empty and never longer than the one before, the first never longer than n
 falls : ℕ → List Symbol → Bool
@@ -21,15 +20,8 @@ unfolding falls
 all_fall = refl
 
 -- each symbol has its place in the list
-abbrev place_of : Symbol → ℕ
-place_of s = position_or_len (λ other. bytes_eq (symbol_text other) (symbol_text s)) symbols
-
-stands : (s : Symbol) → slice_get symbols (place_of s) ≡ Some s
-stands Arrow = refl
-stands _ = refl
-
 place : (s : Symbol) → (i : ℕ) × (slice_get symbols i ≡ Some s)
-place s = (place_of s, stands s)
+place s = (symbol_place s, symbol_stands s)
 
 first_falls : (n : ℕ) (s : Symbol) (rest : List Symbol) → falls n (s ∷ rest) ≡ true
     → (0 < length (symbol_text s)) × (length (symbol_text s) ≤ n) × (falls (length (symbol_text s)) rest ≡ true)

@@ -1,8 +1,6 @@
 -- The tokens of a text, or the place at which it is no script.
 use Rattle.std.specs.Prelude.{ℕ, List, length, Result}
 use Rattle.csp_base.specs.declared.place.Place.{Place}
-use Rattle.csp_lexer.specs.declared.fault.LexFault.{LexFault}
-use Rattle.csp_lexer.specs.declared.fault.LexFault.TheVariants.{NoMemory, NoScript}
 use Rattle.csp_lexer.specs.Cutting.{cut}
 use Rattle.csp_lexer.specs.Front.{front}
 use Rattle.csp_lexer.specs.Placed.{PlacedTokens}
@@ -12,8 +10,3 @@ use Rattle.csp_lexer.specs.Places.{beginning}
 -- blank, comment, skipped assertion, annotation or token.
 abbrev pub lexed : List ℕ → Result PlacedTokens Place
 lexed text = cut front (length text) beginning text
-
--- the fact about its place, where the fault is that the text is no script
-abbrev pub IfNoScript : LexFault → (Place → Type 0) → Type 0
-IfNoScript NoMemory P = Unit {0}
-IfNoScript (NoScript at) P = P at

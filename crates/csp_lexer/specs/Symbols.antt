@@ -1,18 +1,9 @@
 -- Symbols of a text: the longest one that fits.
-use Rattle.std.specs.Prelude.{◌≡◌, ◌≤◌, ℕ, Bool, nat_eq, if◌then◌else◌, List, [], ◌∷◌, ◌++◌, length, codes, find, Option, Some, None}
+use Rattle.std.specs.Prelude.{◌≡◌, ◌≤◌, ℕ, Bool, nat_eq, if◌then◌else◌, List, ◌++◌, length, codes, find, Option, Some, None}
 use Rattle.std.specs.List.{starts_with}
 use Rattle.csp_text.specs.declared.token.Symbol.{Symbol}
-use Rattle.csp_text.specs.declared.token.Symbol.TheVariants.{Arrow, ExternalChoice, InternalChoice, Parallel, OpenRename, CloseRename, OpenProduct, CloseProduct, LeftArrow, DotDot, Dot, Bang, Question, Colon, At, Defines, Equal, NotEqual, Less, LessEqual, Greater, GreaterEqual, Plus, Minus, Star, Slash, Percent, OpenParen, CloseParen, OpenBrace, CloseBrace, OpenBracket, CloseBracket, Comma, Ampersand, Bar, Backslash, Semicolon}
-use Rattle.csp_text.specs.Written.{symbol_text}
-
--- all symbols, longer ones first
-abbrev pub symbols : List Symbol
-symbols =
-    InternalChoice ∷ Arrow ∷ DotDot ∷ ExternalChoice ∷ Parallel ∷ OpenRename ∷ CloseRename ∷ OpenProduct ∷ CloseProduct ∷ LeftArrow
-    ∷ Equal ∷ NotEqual ∷ LessEqual ∷ GreaterEqual
-    ∷ Defines ∷ Dot ∷ OpenBrace ∷ Bar ∷ OpenBracket ∷ CloseBracket ∷ Bang ∷ Less ∷ Greater ∷ Minus
-    ∷ Question ∷ Colon ∷ At ∷ Plus ∷ Star ∷ Slash ∷ Percent ∷ OpenParen ∷ CloseParen ∷ CloseBrace ∷ Comma ∷ Ampersand
-    ∷ Backslash ∷ Semicolon ∷ []
+use Rattle.csp_text.specs.declared.token.Symbol.TheVariants.{OpenBracket, CloseBracket}
+use Rattle.csp_text.specs.Written.{symbol_text, symbols}
 
 -- the longest symbol that the text begins with
 unfoldable pub longest_symbol : List ℕ → Option Symbol

@@ -3,10 +3,9 @@ use Rattle.std.specs.Prelude.{ℕ, ◌+◌, Bool, not, ◌&&◌, ◌||◌, nat_l
 use Rattle.std.specs.List.{list_any, prefix_len}
 use Rattle.std.specs.Str.{bytes_eq}
 use Rattle.csp_text.specs.declared.token.Word.{Word}
-use Rattle.csp_text.specs.declared.token.Word.TheVariants.{And, Assert, Channel, Datatype, Diff, Else, False, If, Inter, Nametype, Not, Or, Then, True, Union, Stop, Skip}
 use Rattle.csp_text.specs.declared.token.Token.{Token}
 use Rattle.csp_text.specs.declared.token.Token.TheVariants as token
-use Rattle.csp_text.specs.Written.{word_text}
+use Rattle.csp_text.specs.Written.{word_text, words}
 
 -- a letter, A to Z or a to z
 abbrev pub is_letter : ℕ → Bool
@@ -28,12 +27,6 @@ word_rest_len text = prefix_len is_name_byte text + prefix_len is_prime (drop (p
 unfoldable pub word_len : List ℕ → ℕ
 word_len [] = 0
 word_len (b ∷ text) = if is_letter b then 1 + word_rest_len text else 0
-
--- the words that the language reserves
-abbrev pub words : List Word
-words =
-    And ∷ Assert ∷ Channel ∷ Datatype ∷ Diff ∷ Else ∷ False ∷ If ∷ Inter ∷ Nametype ∷ Not ∷ Or ∷ Then ∷ True ∷ Union
-    ∷ Stop ∷ Skip ∷ []
 
 -- the reserved word that is written so
 unfoldable pub reserved_word : List ℕ → Option Word

@@ -5,19 +5,20 @@ ghost use Rattle.std.specs.List.{starts_with};
 ghost use Rattle.std.specs.Option.{option_copied};
 ghost use Rattle.csp_lexer.specs.Front.{begins_assertion, front, is_blank, assertion_or_token};
 ghost use Rattle.csp_lexer.specs.Annotations.{line_comment};
-ghost use Rattle.csp_lexer.specs.Lexed.{IfNoScript, lexed};
+ghost use Rattle.csp_lexer.specs.Lexed.{lexed};
 ghost use Rattle.csp_lexer.specs.Passed.{Passed};
+ghost use Rattle.csp_text.specs.Fault.{IfNoScript};
 
 use crate::annotations::pass_line;
 use crate::assertions::pass_assertion;
 use crate::classes::is_space;
 use crate::comments::{after_comment, line_len};
-use crate::fault::LexFault;
 use crate::line::pass_token;
 use crate::places::{beginning, behind_all};
 use crate::tokens::Tokens;
 use crate::words::word_len;
 use csp_base::{NoMemory, Place};
+use csp_text::ParseFault;
 use std::alloc::Global;
 
 // Whether the byte has no meaning between tokens.
@@ -97,7 +98,7 @@ fn pass_piece<'a>(
 }
 
 // Passes the whole text. The result is the place of its end.
-fn pass_all(alloc: Global, text: &[u8], found: &mut Tokens) -> Result<Place, LexFault>
+fn pass_all(alloc: Global, text: &[u8], found: &mut Tokens) -> Result<Place, ParseFault>
     requires { found.old.placed ≡ [] }
     ensures found { IfOk result (λ end. lexed text.now ≡ Ok (record { placed = found.new.placed; end = end })) }
     ensures none { IfErr result (λ fault. IfNoScript fault (λ at. lexed text.now ≡ Err at)) }
@@ -106,7 +107,7 @@ fn pass_all(alloc: Global, text: &[u8], found: &mut Tokens) -> Result<Place, Lex
     let mut rest = text;
     while !rest.is_empty() {
         let Some(left) = pass_piece(alloc, rest, at, found)? else {
-            return Err(LexFault::NoScript { at });
+            return Err(ParseFault::NoScript { at });
         };
         at = behind_all(at, &rest[..rest.len() - left.len()]);
         rest = left;
@@ -115,7 +116,7 @@ fn pass_all(alloc: Global, text: &[u8], found: &mut Tokens) -> Result<Place, Lex
 }
 
 /// The tokens of the text with their places, or the place where it is no script.
-pub fn lex(alloc: Global, text: &[u8]) -> Result<Tokens, LexFault>
+pub fn lex(alloc: Global, text: &[u8]) -> Result<Tokens, ParseFault>
     // What is found are the tokens of the text.
     ensures found { IfOk result (λ found. lexed text.now ≡ Ok found) }
 

@@ -1,11 +1,14 @@
 //! The lexer: the tokens of a text, with their places.
+//!
+//! A text is cut from the left, so it has one cut at most. A comment is looked for only where a piece begins: `a<--1` is `<-`, `-`, `1`. In the
+//! rest of an assertion's line the first `--` or `{-` ends it, whatever the symbols; `assert` is a token there, and each `[` and `]` is one by
+//! itself. The place of an annotation is that of its `--`. Lines and columns stop at the end of their type.
 #![tactic(auto)]
 
 mod annotations;
 mod assertions;
 mod classes;
 mod comments;
-pub mod fault;
 mod forms;
 mod lexer;
 mod line;
@@ -15,6 +18,5 @@ mod symbols;
 pub mod tokens;
 mod words;
 
-pub use fault::LexFault;
 pub use lexer::lex;
 pub use tokens::Tokens;

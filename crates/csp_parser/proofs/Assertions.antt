@@ -1,10 +1,8 @@
 -- Assertions, step by step.
-use Rattle.std.proofs.Common.{◌≡◌, Bool, true, false, Some, None, List, [], refl, ap, ◌∙◌}
-use Rattle.std.specs.Prelude.{ℕ, nat_eq, ◌&&◌, ◌∷◌}
-use Rattle.std.specs.Cmp.Lexicographic.{pointwise}
+use Rattle.std.proofs.Common.{◌≡◌, Bool, true, false, Some, None, List, ap, ◌∙◌}
+use Rattle.std.specs.Prelude.{ℕ}
 use Rattle.csp_text.specs.declared.token.Token.{Token}
 use Rattle.csp_grammar.specs.Reader.{and_then}
-use Rattle.csp_grammar.specs.Tokens.{is_text}
 use Rattle.tree_reading.specs.Asserted.{name_that}
 use Rattle.tree_reading.specs.Nesting.{sure}
 use Rattle.tree_reading.specs.Starts.{named}
@@ -19,9 +17,3 @@ not_passing P ts {us} {x} e h = ap (λ o. and_then o λ y. and_then (sure (P y.0
 
 pub unnamed : (P : List ℕ → Bool) (ts : List Token) → named ts ≡ None → name_that P ts ≡ None
 unnamed P ts e = ap (λ o. and_then o λ y. and_then (sure (P y.0)) λ _. Some y.1) e
-
-pub same_text : (xs ys : List ℕ) → pointwise nat_eq xs ys ≡ is_text xs ys
-same_text [] [] = refl
-same_text [] (y ∷ ys) = refl
-same_text (x ∷ xs) [] = refl
-same_text (x ∷ xs) (y ∷ ys) = ap (λ b. nat_eq x y && b) (same_text xs ys)

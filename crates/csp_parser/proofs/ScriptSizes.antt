@@ -17,7 +17,7 @@ use Rattle.csp_text.specs.declared.token.Token.{Token}
 use Rattle.csp_text.specs.declared.tree.Tree.{Tree}
 use Rattle.dl_limits.specs.declared.TheConstants.{MOST_BYTES, MOST_TREE_DEPTH}
 use Rattle.csp_parser.specs.Sizes.{SpelledScriptsAreSmall}
-use Rattle.csp_parser.specs.declared.fault.ParseFault.{ParseFault}
+use Rattle.csp_text.specs.declared.fault.ParseFault.{ParseFault}
 use Rattle.csp_parser.proofs.TokenCounts.{no_more_than_bytes}
 use Rattle.csp_parser.proofs.TreeTokens.{atom_tokens, items_tokens, tree_tokens}
 use Rattle.script_sizes.specs.BindingTokens.{all_tokens, tokens}

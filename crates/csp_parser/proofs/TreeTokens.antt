@@ -8,7 +8,7 @@ use Rattle.csp_text.specs.declared.tree.GenTree.{GenTree}
 use Rattle.csp_text.specs.declared.tree.PartTree.{PartTree}
 use Rattle.csp_text.specs.declared.tree.Tree.{Tree}
 use Rattle.csp_text.specs.declared.tree.Tree.TheVariants as tree
-use Rattle.csp_grammar.specs.Grammar.{Choice, choice_of, event_tree, part_tree, TreeText, SideText, ClosedSideText, HidingText, ClosedChoiceText, OpenChoiceText, ClosedSequenceText, OpenSequenceText, ClosedPrefixText, OpenPrefixText, OpenText, EventText, FieldsText, DottedText, DotsText, ExpressionText, PairsText, PartText, PartsText, ConditionsText, GensText, GenText, ItemText, ItemsText, AtomText}
+use Rattle.csp_grammar.specs.Grammar.{Choice, choice_of, event_tree, part_tree, TreeText, Reach, SideText, HidingText, ChoiceText, SequenceText, PrefixText, OpenText, EventText, FieldsText, DottedText, DotsText, ExpressionText, PairsText, PartText, PartsText, ConditionsText, GensText, GenText, ItemText, ItemsText, AtomText}
 use Rattle.csp_grammar.specs.Grammar as g
 use Rattle.csp_grammar.specs.Grammar.Choice.{external, internal}
 use Rattle.csp_grammar.specs.Precedence.{Level}
@@ -22,8 +22,8 @@ choice_tokens internal ps = tokens-Internal ps
 event_fields : (c : List ℕ) (fs : List FieldTree) → fields_tokens (out-EventTree (event_tree c fs)).fields ≡ fields_tokens fs
 event_fields c fs = ap (λ e. fields_tokens e.fields) (out-roll-EventTree (record { name = c; fields = fs }))
 
-prefix_tokens : (c : List ℕ) (fs : List FieldTree) (p : Tree) → tokens (tree.Prefix (event_tree c fs) p) ≡ fields_tokens fs + tokens p
-prefix_tokens c fs p = tokens-Prefix (event_tree c fs) p ∙ ap (λ n. n + tokens p) (event_fields c fs)
+prefixed_tokens : (c : List ℕ) (fs : List FieldTree) (p : Tree) → tokens (tree.Prefix (event_tree c fs) p) ≡ fields_tokens fs + tokens p
+prefixed_tokens c fs p = tokens-Prefix (event_tree c fs) p ∙ ap (λ n. n + tokens p) (event_fields c fs)
 
 part_fields : (c : List ℕ) (fields : List Tree) → part_tokens (part_tree c fields) ≡ all_tokens fields
 part_fields c fields = part_tokens-is (part_tree c fields) ∙ ap (λ p. all_tokens p.fields) (out-roll-PartTree (record { name = c; fields = fields }))
@@ -33,47 +33,30 @@ mutual
   tree_tokens (g.tree-dotted d) = dotted_tokens d
   tree_tokens (g.tree-side p) = side_tokens p
   tree_tokens (g.tree-parallel {p = p'} {a = a'} {b = b'} {q = q'} p a b q) =
-      omega (arith, tokens-Parallel p' a' b' q', closed_side_tokens p, atom_tokens a, atom_tokens b, side_tokens q)
+      omega (arith, tokens-Parallel p' a' b' q', side_tokens p, atom_tokens a, atom_tokens b, side_tokens q)
 
-  side_tokens : {n : ℕ} {ts : List Token} {t : Tree} {r : List Token} → SideText n ts t r → 1 + tokens t + length r ≤ length ts
-  side_tokens (g.side-closed p) = closed_side_tokens p
-  side_tokens (g.side-sequence p) = open_sequence_tokens p
-  side_tokens (g.side-choice {ps = ps'} c ps) = omega (arith, choice_tokens c ps', open_choice_tokens ps)
-
-  closed_side_tokens : {n : ℕ} {ts : List Token} {t : Tree} {r : List Token} → ClosedSideText n ts t r → 1 + tokens t + length r ≤ length ts
-  closed_side_tokens (g.closed-side-sequence p) = closed_sequence_tokens p
-  closed_side_tokens (g.closed-side-choice {ps = ps'} c ps) = omega (arith, choice_tokens c ps', closed_choice_tokens ps)
-  closed_side_tokens (g.closed-side-hiding p) = hiding_tokens p
+  side_tokens : {n : ℕ} {e : Reach} {ts : List Token} {t : Tree} {r : List Token} → SideText n e ts t r → 1 + tokens t + length r ≤ length ts
+  side_tokens (g.side-sequence p) = sequence_tokens p
+  side_tokens (g.side-choice {ps = ps'} c ps) = omega (arith, choice_tokens c ps', choices_tokens ps)
+  side_tokens (g.side-hiding p) = hiding_tokens p
 
   hiding_tokens : {n : ℕ} {ts : List Token} {t : Tree} {r : List Token} → HidingText n ts t r → 1 + tokens t + length r ≤ length ts
   hiding_tokens (g.hiding-one {p = p'} {a = a'} p a) = omega (arith, tokens-Hide p' a', expression_tokens p, atom_tokens a)
   hiding_tokens (g.hiding-more {p = p'} {a = a'} p a) = omega (arith, tokens-Hide p' a', hiding_tokens p, atom_tokens a)
 
-  closed_choice_tokens : {n : ℕ} {c : Choice} {ts : List Token} {ps : List Tree} {r : List Token} → ClosedChoiceText n c ts ps r → 1 + all_tokens ps + length r ≤ length ts
-  closed_choice_tokens (g.closed-choice-two p q) = omega (arith, closed_sequence_tokens p, closed_sequence_tokens q)
-  closed_choice_tokens (g.closed-choice-more p ps) = omega (arith, closed_sequence_tokens p, closed_choice_tokens ps)
+  choices_tokens : {n : ℕ} {e : Reach} {c : Choice} {ts : List Token} {ps : List Tree} {r : List Token} → ChoiceText n e c ts ps r → 1 + all_tokens ps + length r ≤ length ts
+  choices_tokens (g.choice-two p q) = omega (arith, sequence_tokens p, sequence_tokens q)
+  choices_tokens (g.choice-more p ps) = omega (arith, sequence_tokens p, choices_tokens ps)
 
-  open_choice_tokens : {n : ℕ} {c : Choice} {ts : List Token} {ps : List Tree} {r : List Token} → OpenChoiceText n c ts ps r → 1 + all_tokens ps + length r ≤ length ts
-  open_choice_tokens (g.open-choice-two p q) = omega (arith, closed_sequence_tokens p, open_sequence_tokens q)
-  open_choice_tokens (g.open-choice-more p ps) = omega (arith, closed_sequence_tokens p, open_choice_tokens ps)
+  sequence_tokens : {n : ℕ} {e : Reach} {ts : List Token} {t : Tree} {r : List Token} → SequenceText n e ts t r → 1 + tokens t + length r ≤ length ts
+  sequence_tokens (g.sequence-one p) = prefix_tokens p
+  sequence_tokens (g.sequence-more {p = p'} {q = q'} p q) = omega (arith, tokens-Seq p' q', prefix_tokens p, sequence_tokens q)
 
-  closed_sequence_tokens : {n : ℕ} {ts : List Token} {t : Tree} {r : List Token} → ClosedSequenceText n ts t r → 1 + tokens t + length r ≤ length ts
-  closed_sequence_tokens (g.closed-sequence-one p) = closed_prefix_tokens p
-  closed_sequence_tokens (g.closed-sequence-more {p = p'} {q = q'} p q) = omega (arith, tokens-Seq p' q', closed_prefix_tokens p, closed_sequence_tokens q)
-
-  open_sequence_tokens : {n : ℕ} {ts : List Token} {t : Tree} {r : List Token} → OpenSequenceText n ts t r → 1 + tokens t + length r ≤ length ts
-  open_sequence_tokens (g.open-sequence-one p) = open_prefix_tokens p
-  open_sequence_tokens (g.open-sequence-more {p = p'} {q = q'} p q) = omega (arith, tokens-Seq p' q', closed_prefix_tokens p, open_sequence_tokens q)
-
-  closed_prefix_tokens : {n : ℕ} {ts : List Token} {t : Tree} {r : List Token} → ClosedPrefixText n ts t r → 1 + tokens t + length r ≤ length ts
-  closed_prefix_tokens (g.closed-prefix-event {p = p'} (g.event-fields {c = c'} {fs = fs'} fs) p) = omega (arith, prefix_tokens c' fs' p', fields_are_tokens fs, closed_prefix_tokens p)
-  closed_prefix_tokens (g.closed-prefix-guard {c = c'} {p = p'} c p) = omega (arith, tokens-Guard c' p', expression_tokens c, closed_prefix_tokens p)
-  closed_prefix_tokens (g.closed-prefix-expression e) = expression_tokens e
-
-  open_prefix_tokens : {n : ℕ} {ts : List Token} {t : Tree} {r : List Token} → OpenPrefixText n ts t r → 1 + tokens t + length r ≤ length ts
-  open_prefix_tokens (g.open-prefix-event {p = p'} (g.event-fields {c = c'} {fs = fs'} fs) p) = omega (arith, prefix_tokens c' fs' p', fields_are_tokens fs, open_prefix_tokens p)
-  open_prefix_tokens (g.open-prefix-guard {c = c'} {p = p'} c p) = omega (arith, tokens-Guard c' p', expression_tokens c, open_prefix_tokens p)
-  open_prefix_tokens (g.open-prefix-open-form p) = open_tokens p
+  prefix_tokens : {n : ℕ} {e : Reach} {ts : List Token} {t : Tree} {r : List Token} → PrefixText n e ts t r → 1 + tokens t + length r ≤ length ts
+  prefix_tokens (g.prefix-event {p = p'} (g.event-fields {c = c'} {fs = fs'} fs) p) = omega (arith, prefixed_tokens c' fs' p', fields_are_tokens fs, prefix_tokens p)
+  prefix_tokens (g.prefix-guard {c = c'} {p = p'} c p) = omega (arith, tokens-Guard c' p', expression_tokens c, prefix_tokens p)
+  prefix_tokens (g.prefix-expression e) = expression_tokens e
+  prefix_tokens (g.prefix-open-form p) = open_tokens p
 
   open_tokens : {n : ℕ} {ts : List Token} {t : Tree} {r : List Token} → OpenText n ts t r → 1 + tokens t + length r ≤ length ts
   open_tokens (g.open-if-then-else {c = c'} {p = p'} {q = q'} c p q) = omega (arith, tokens-If c' p' q', expression_tokens c, tree_tokens p, tree_tokens q)

@@ -1,4 +1,3 @@
-pub mod Fault
 pub mod Places
 pub mod Sizes
 pub mod Spells

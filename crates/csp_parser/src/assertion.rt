@@ -1,8 +1,8 @@
 //! Assertions of deadlock freedom.
 
 ghost use Rattle.std.specs.Prelude.{◌≡◌, ◌<◌, ◌≤◌, ◌+◌, ◌*◌, length, IfOk};
-ghost use Rattle.csp_grammar.specs.Tokens.{is_text};
-ghost use Rattle.tree_parser.specs.Reads.{Reads};
+ghost use Rattle.std.specs.Str.{bytes_eq};
+ghost use Rattle.tree_parser.specs.Reads.{Reads, part_read};
 ghost use Rattle.tree_reading.specs.Asserted.{deadlock_free, ending, is_model, model, name_that};
 ghost use Rattle.tree_reading.specs.Gives.{Gives};
 ghost use Rattle.tree_reading.specs.Limited.{read_asserted, read_assertion};
@@ -19,7 +19,7 @@ use tree_reading::read::{Read, Reading};
 
 // The name or the call that is asserted: an atom that begins with a name.
 fn asserted<'t>(alloc: Global, tokens: &'t [Token]) -> Reading<'t, DeepTree>
-    ensures reads { Reads result (λ r. (r.part, r.rest.now)) (8 * length tokens.now + 1) (λ L. read_asserted L tokens.now) }
+    ensures reads { Reads result part_read (8 * length tokens.now + 1) (λ L. read_asserted L tokens.now) }
     ensures shorter { IfOk result (λ r. length r.rest.now < length tokens.now) }
 {
     match named(tokens) {
@@ -29,9 +29,8 @@ fn asserted<'t>(alloc: Global, tokens: &'t [Token]) -> Reading<'t, DeepTree>
 }
 
 // Whether the name is written with these bytes.
-#[tactic(auto, using(crate::proofs::Assertions::same_text))]
 fn is_written(name: &Name, bytes: &[u8]) -> bool
-    ensures { result ≡ is_text name.now bytes.now }
+    ensures { result ≡ bytes_eq name.now bytes.now }
 {
     name.as_slice() == bytes
 }
@@ -79,7 +78,7 @@ fn model(tokens: &[Token]) -> Result<&[Token], ReadFault>
 // What follows these bytes, which have to stand at the front as a name.
 #[tactic(auto, using(crate::proofs::Assertions::passing, crate::proofs::Assertions::unnamed, crate::proofs::Assertions::not_passing))]
 fn expect_written<'t>(tokens: &'t [Token], bytes: &[u8]) -> Result<&'t [Token], ReadFault>
-    ensures same { Gives result (λ rest. rest.now) (name_that (λ x. is_text x bytes.now) tokens.now) }
+    ensures same { Gives result (λ rest. rest.now) (name_that (λ x. bytes_eq x bytes.now) tokens.now) }
     ensures shorter { IfOk result (λ rest. length rest.now < length tokens.now) }
 {
     match named(tokens) {
@@ -120,7 +119,7 @@ fn ending(tokens: &[Token]) -> Result<&[Token], ReadFault>
 
 // The assertion behind `assert`.
 pub(crate) fn assertion<'t>(alloc: Global, tokens: &'t [Token]) -> Reading<'t, Decl>
-    ensures reads { Reads result (λ r. (r.part, r.rest.now)) (8 * length tokens.now + 1) (λ L. read_assertion L tokens.now) }
+    ensures reads { Reads result part_read (8 * length tokens.now + 1) (λ L. read_assertion L tokens.now) }
     ensures shorter { IfOk result (λ r. length r.rest.now < length tokens.now) }
 {
     let process = asserted(alloc, tokens)?;

@@ -4,7 +4,7 @@ ghost use Rattle.std.specs.Prelude.{◌≡◌, ◌<◌, ◌+◌, ◌*◌, List, 
 ghost use Rattle.csp_text.specs.declared.script.Decl.{Decl as DeclValue};
 ghost use Rattle.csp_text.specs.declared.script.Decl.TheVariants as decl;
 ghost use Rattle.csp_text.specs.declared.token.Token.{Token as TokenValue};
-ghost use Rattle.tree_parser.specs.Reads.{Reads};
+ghost use Rattle.tree_parser.specs.Reads.{Reads, part_read};
 ghost use Rattle.tree_reading.specs.Gives.{Gives};
 ghost use Rattle.tree_reading.specs.Limited.{read_declaration, read_word_declaration};
 
@@ -55,7 +55,7 @@ fn copy_resource(alloc: Global, names: &ResourceNames) -> Result<ResourceNames, 
 
 // The annotation of these names, and what follows it.
 fn roles<'t>(alloc: Global, names: &Boxed<RolesNames>, rest: &'t [Token]) -> Reading<'t, Decl>
-    ensures { Gives {B = DeclValue × List TokenValue} result (λ r. (r.part, r.rest.now)) (Some (decl.Roles names.now, rest.now)) }
+    ensures { Gives {B = DeclValue × List TokenValue} result part_read (Some (decl.Roles names.now, rest.now)) }
 {
     let part = Decl::Roles(copy_roles(alloc, names.get())?);
     Ok(Read { part, rest })
@@ -63,7 +63,7 @@ fn roles<'t>(alloc: Global, names: &Boxed<RolesNames>, rest: &'t [Token]) -> Rea
 
 // The annotation of these names, and what follows it.
 fn resource<'t>(alloc: Global, names: &Boxed<ResourceNames>, rest: &'t [Token]) -> Reading<'t, Decl>
-    ensures { Gives {B = DeclValue × List TokenValue} result (λ r. (r.part, r.rest.now)) (Some (decl.Resource names.now, rest.now)) }
+    ensures { Gives {B = DeclValue × List TokenValue} result part_read (Some (decl.Resource names.now, rest.now)) }
 {
     let part = Decl::Resource(copy_resource(alloc, names.get())?);
     Ok(Read { part, rest })
@@ -76,7 +76,7 @@ fn word_declaration<'t>(
     all: &'t [Token],
     tokens: &'t [Token],
 ) -> Reading<'t, Decl>
-    ensures reads { Reads result (λ r. (r.part, r.rest.now)) (8 * length tokens.now + 1) (λ L. read_word_declaration L word tokens.now) }
+    ensures reads { Reads result part_read (8 * length tokens.now + 1) (λ L. read_word_declaration L word tokens.now) }
     ensures shorter { IfOk result (λ r. length r.rest.now < length tokens.now) }
 {
     match word {
@@ -90,7 +90,7 @@ fn word_declaration<'t>(
 
 // The declaration at the front.
 fn declaration<'t>(alloc: Global, tokens: &'t [Token]) -> Reading<'t, Decl>
-    ensures reads { Reads result (λ r. (r.part, r.rest.now)) (8 * length tokens.now) (λ L. read_declaration L tokens.now) }
+    ensures reads { Reads result part_read (8 * length tokens.now) (λ L. read_declaration L tokens.now) }
     ensures shorter { IfOk result (λ r. length r.rest.now < length tokens.now) }
 {
     let Some((first, rest)) = tokens.split_first() else {

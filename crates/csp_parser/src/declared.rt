@@ -1,7 +1,7 @@
 //! Declarations of channels, types and processes.
 
 ghost use Rattle.std.specs.Prelude.{◌<◌, ◌+◌, ◌*◌, length, IfOk};
-ghost use Rattle.tree_parser.specs.Reads.{Reads};
+ghost use Rattle.tree_parser.specs.Reads.{Reads, part_read};
 ghost use Rattle.tree_reading.specs.Limited.{read_channel, read_datatype, read_definition, read_nametype};
 
 use crate::names::{names, parameters};
@@ -16,7 +16,7 @@ use tree_reading::read::{Read, Reading};
 
 // The channels behind `channel`, with the types of their fields.
 pub(crate) fn channel<'t>(alloc: Global, tokens: &'t [Token]) -> Reading<'t, Decl>
-    ensures reads { Reads result (λ r. (r.part, r.rest.now)) (8 * length tokens.now + 1) (λ L. read_channel L tokens.now) }
+    ensures reads { Reads result part_read (8 * length tokens.now + 1) (λ L. read_channel L tokens.now) }
     ensures shorter { IfOk result (λ r. length r.rest.now < length tokens.now) }
 {
     let channels = names(alloc, Symbol::Comma, tokens)?;
@@ -37,7 +37,7 @@ pub(crate) fn channel<'t>(alloc: Global, tokens: &'t [Token]) -> Reading<'t, Dec
 
 // The name of a type and its values, behind `datatype`.
 pub(crate) fn datatype<'t>(alloc: Global, tokens: &'t [Token]) -> Reading<'t, Decl>
-    ensures reads { Reads result (λ r. (r.part, r.rest.now)) (8 * length tokens.now + 1) (λ L. read_datatype L tokens.now) }
+    ensures reads { Reads result part_read (8 * length tokens.now + 1) (λ L. read_datatype L tokens.now) }
     ensures shorter { IfOk result (λ r. length r.rest.now < length tokens.now) }
 {
     let (name, behind) = expect_name(alloc, tokens)?;
@@ -51,7 +51,7 @@ pub(crate) fn datatype<'t>(alloc: Global, tokens: &'t [Token]) -> Reading<'t, De
 
 // The name of a set and the set, behind `nametype`.
 pub(crate) fn nametype<'t>(alloc: Global, tokens: &'t [Token]) -> Reading<'t, Decl>
-    ensures reads { Reads result (λ r. (r.part, r.rest.now)) (8 * length tokens.now + 1) (λ L. read_nametype L tokens.now) }
+    ensures reads { Reads result part_read (8 * length tokens.now + 1) (λ L. read_nametype L tokens.now) }
     ensures shorter { IfOk result (λ r. length r.rest.now < length tokens.now) }
 {
     let (name, behind) = expect_name(alloc, tokens)?;
@@ -69,7 +69,7 @@ pub(crate) fn definition<'t>(
     defined: &Name,
     tokens: &'t [Token],
 ) -> Reading<'t, Decl>
-    ensures reads { Reads result (λ r. (r.part, r.rest.now)) (8 * length tokens.now + 1) (λ L. read_definition L defined.now tokens.now) }
+    ensures reads { Reads result part_read (8 * length tokens.now + 1) (λ L. read_definition L defined.now tokens.now) }
     ensures shorter { IfOk result (λ r. length r.rest.now < length tokens.now) }
 {
     let name = defined.try_clone(alloc)?;

@@ -4,10 +4,8 @@
 mod assertion;
 mod declarations;
 mod declared;
-pub mod fault;
 mod names;
 mod parser;
 mod types;
 
-pub use fault::ParseFault;
 pub use parser::{each_text_spells_one_script, parse, read, spelled_scripts_are_small};

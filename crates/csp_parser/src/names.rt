@@ -1,7 +1,7 @@
 //! Lists of names.
 
 ghost use Rattle.std.specs.Prelude.{◌<◌, ◌≤◌, ◌+◌, ◌*◌, length, IfOk};
-ghost use Rattle.tree_parser.specs.Reads.{Reads};
+ghost use Rattle.tree_parser.specs.Reads.{Reads, part_read};
 ghost use Rattle.tree_reading.specs.Limited.{read_parameters};
 
 use containers::Items;
@@ -17,7 +17,7 @@ pub(crate) fn names<'t>(
     sign: Symbol,
     tokens: &'t [Token],
 ) -> Reading<'t, Items<Name>>
-    ensures reads { Reads result (λ r. (r.part, r.rest.now)) (8 * length tokens.now + 1) (λ L. L.names sign tokens.now) }
+    ensures reads { Reads result part_read (8 * length tokens.now + 1) (λ L. L.names sign tokens.now) }
     ensures shorter { IfOk result (λ r. length r.rest.now < length tokens.now) }
 {
     let mut all = Items::new(alloc);
@@ -43,7 +43,7 @@ pub(crate) fn names<'t>(
 
 // The parameters of a definition: names in parentheses, or nothing.
 pub(crate) fn parameters<'t>(alloc: Global, tokens: &'t [Token]) -> Reading<'t, Items<Name>>
-    ensures reads { Reads result (λ r. (r.part, r.rest.now)) (8 * length tokens.now) (λ L. read_parameters L tokens.now) }
+    ensures reads { Reads result part_read (8 * length tokens.now) (λ L. read_parameters L tokens.now) }
     ensures shorter { IfOk result (λ r. length r.rest.now ≤ length tokens.now) }
 {
     let Some(inside) = skip(tokens, Symbol::OpenParen) else {

@@ -3,19 +3,18 @@
 ghost use Rattle.std.specs.Prelude.{◌≡◌, ◌≤◌, IfOk, IfErr, length};
 ghost use Rattle.csp_grammar.specs.Declarations.{ScriptText};
 ghost use Rattle.csp_lexer.specs.Placed.{tokens_of};
-ghost use Rattle.csp_parser.specs.Fault.{IfNoScript};
 ghost use Rattle.csp_parser.specs.Places.{IsPlaceIn, IsPlaceOf, place_before};
 ghost use Rattle.csp_parser.specs.Sizes.{SpelledScriptsAreSmall};
 ghost use Rattle.csp_parser.specs.Spells.{EachTextSpellsOneScript, Spells};
+ghost use Rattle.csp_text.specs.Fault.{IfNoScript};
 ghost use Rattle.csp_text.specs.declared.script.Script.{Script};
 ghost use Rattle.dl_limits.specs.declared.TheConstants.{MOST_BYTES};
 ghost use Rattle.script_sizes.specs.Size.{AreSmall};
 
 use crate::declarations::declarations;
-use crate::fault::ParseFault;
 use csp_base::Place;
-use csp_lexer::{LexFault, Tokens, lex};
-use csp_text::Script;
+use csp_lexer::{Tokens, lex};
+use csp_text::{ParseFault, Script};
 use std::alloc::Global;
 use tree_parser::ReadFault;
 
@@ -29,15 +28,17 @@ fn place_before(tokens: &Tokens, left: usize) -> Place
 
 /// The script that the tokens are.
 ///
-/// The fault, but for want of memory, is that they are none within the limits of nesting: 400 open brackets, and a depth of 200. It
-/// tells the place of the token at which reading stopped, or that of the text's end.
+/// The fault, but for want of memory, is that they are none within the limits of nesting: 400 open brackets, and a
+/// depth of 200. It tells the place of the token at which reading stopped, or that of the text's end.
 pub fn parse(alloc: Global, tokens: &Tokens) -> Result<Script, ParseFault>
     // What is found is spelled, and nothing else is.
     ensures found { IfOk result (λ script. ScriptText (tokens_of tokens.now.placed) script) }
-    ensures only { IfOk result (λ script. (other : Script) → ScriptText (tokens_of tokens.now.placed) other → script ≡ other) }
+    ensures only { IfOk result
+        (λ script. (other : Script) → ScriptText (tokens_of tokens.now.placed) other → script ≡ other) }
 
     // The fault is that no script is spelled.
-    ensures none { IfErr result (λ fault. IfNoScript fault (λ at. (script : Script) → ScriptText (tokens_of tokens.now.placed) script → ⊥)) }
+    ensures none { IfErr result
+        (λ fault. IfNoScript fault (λ at. (script : Script) → ScriptText (tokens_of tokens.now.placed) script → ⊥)) }
     ensures place { IfErr result (λ fault. IfNoScript fault (λ at. IsPlaceIn tokens.now at)) }
 {
     match declarations(alloc, tokens.as_slice()) {
@@ -51,25 +52,25 @@ pub fn parse(alloc: Global, tokens: &Tokens) -> Result<Script, ParseFault>
 
 /// The script that the text spells.
 ///
-/// The fault, but for want of memory, is that it spells none within the limits of nesting, and tells a place: where the first piece begins that is no
-/// token, or else the place of the token at which reading stopped, or that of the text's end.
+/// The fault, but for want of memory, is that it spells none within the limits of nesting. It tells a place: where the
+/// first piece begins that is no token, or else that of the token at which reading stopped, or of the text's end.
 ///
 /// What a text of at most `MOST_BYTES` spells is small: 32 bits number all that it declares.
 pub fn read(alloc: Global, text: &[u8]) -> Result<Script, ParseFault>
     ensures found { IfOk result (λ script. Spells text.now script) }
 
-    // A text within the limit spells no more names, parameters, types and binding tokens than it has bytes, and no deep tree: callers number them.
+    // A text within the limit spells no more names, parameters, types and binding tokens than it has bytes, and no deep
+    // tree: callers number them.
     ensures small { IfOk result (λ script. length text.now ≤ MOST_BYTES → AreSmall script.decls) }
 
-    // The fault, but for want of memory, is that the text spells no script. Its place is the one where the first piece begins that is no token;
-    // where there is none, the place of a token or of the text's end.
+    // The fault, but for want of memory, is that the text spells no script. Its place is the one where the first piece
+    // begins that is no token; where there is none, the place of a token or of the text's end.
     ensures none { IfErr result (λ fault. IfNoScript fault (λ at. (script : Script) → Spells text.now script → ⊥)) }
     ensures place { IfErr result (λ fault. IfNoScript fault (λ at. IsPlaceOf text.now at)) }
 {
     match lex(alloc, text) {
         Ok(tokens) => parse(alloc, &tokens),
-        Err(LexFault::NoMemory) => Err(ParseFault::NoMemory),
-        Err(LexFault::NoScript { at }) => Err(ParseFault::NoScript { at }),
+        Err(fault) => Err(fault),
     }
 }
 

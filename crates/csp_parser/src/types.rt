@@ -1,7 +1,7 @@
 //! The types of a channel's fields.
 
 ghost use Rattle.std.specs.Prelude.{◌<◌, ◌+◌, ◌*◌, length, IfOk};
-ghost use Rattle.tree_parser.specs.Reads.{Reads};
+ghost use Rattle.tree_parser.specs.Reads.{Reads, part_read};
 
 use containers::Items;
 use csp_text::{Symbol, Token, Tree};
@@ -19,7 +19,7 @@ pub(crate) const WHOLE: Limits = Limits {
 
 // One type or more, with dots between them.
 pub(crate) fn types<'t>(alloc: Global, tokens: &'t [Token]) -> Reading<'t, Items<Tree>>
-    ensures reads { Reads result (λ r. (r.part, r.rest.now)) (8 * length tokens.now + 2) (λ L. L.types tokens.now) }
+    ensures reads { Reads result part_read (8 * length tokens.now + 2) (λ L. L.types tokens.now) }
     ensures shorter { IfOk result (λ r. length r.rest.now < length tokens.now) }
 {
     let mut all = Items::new(alloc);

@@ -1,1 +1,1 @@
-pub mod DepthLemmas
+pub mod WrittenAlike

@@ -1,2 +1,4 @@
 pub mod Depth
+pub mod Fault
+pub mod Parts
 pub mod Written

@@ -1,5 +1,6 @@
--- How the reserved words and the symbols of the language are written.
-use Rattle.std.specs.Prelude.{ℕ, List, [], ◌∷◌, codes}
+-- The reserved words and the symbols of the language, and how each is written.
+use Rattle.std.specs.Prelude.{ℕ, Bool, List, [], ◌∷◌, codes}
+use Rattle.std.specs.Str.{bytes_eq}
 use Rattle.csp_base.specs.declared.operators.SetOp.{SetOp}
 use Rattle.csp_base.specs.declared.operators.SetOp.TheVariants as set_op
 use Rattle.csp_text.specs.declared.token.Token.{Token}
@@ -67,6 +68,28 @@ symbol_text Ampersand = codes "&"
 symbol_text Bar = codes "|"
 symbol_text Backslash = 92 ∷ []
 symbol_text Semicolon = codes ";"
+
+-- the words that the language reserves
+abbrev pub words : List Word
+words =
+    And ∷ Assert ∷ Channel ∷ Datatype ∷ Diff ∷ Else ∷ False ∷ If ∷ Inter ∷ Nametype ∷ Not ∷ Or ∷ Then ∷ True ∷ Union
+    ∷ Stop ∷ Skip ∷ []
+
+-- all symbols, longer ones first
+abbrev pub symbols : List Symbol
+symbols =
+    InternalChoice ∷ Arrow ∷ DotDot ∷ ExternalChoice ∷ Parallel ∷ OpenRename ∷ CloseRename ∷ OpenProduct ∷ CloseProduct ∷ LeftArrow
+    ∷ Equal ∷ NotEqual ∷ LessEqual ∷ GreaterEqual
+    ∷ Defines ∷ Dot ∷ OpenBrace ∷ Bar ∷ OpenBracket ∷ CloseBracket ∷ Bang ∷ Less ∷ Greater ∷ Minus
+    ∷ Question ∷ Colon ∷ At ∷ Plus ∷ Star ∷ Slash ∷ Percent ∷ OpenParen ∷ CloseParen ∷ CloseBrace ∷ Comma ∷ Ampersand
+    ∷ Backslash ∷ Semicolon ∷ []
+
+-- whether two words, and two symbols, are one: those that are written alike
+abbrev pub same_word : Word → Word → Bool
+same_word w v = bytes_eq (word_text w) (word_text v)
+
+abbrev pub same_symbol : Symbol → Symbol → Bool
+same_symbol s u = bytes_eq (symbol_text s) (symbol_text u)
 
 -- the word of an operation on two sets
 abbrev pub set_op_word : SetOp → Token

@@ -1,13 +1,13 @@
-//! The parts of a script's text: its tokens, and the trees that they spell.
+//! The parts of a script's text: its tokens, the trees that they spell, and why a text is no script.
 #![tactic(auto)]
 
-pub mod depths;
+pub mod fault;
 pub mod script;
 pub mod token;
 pub mod tree;
 pub mod written;
 
-pub use depths::depth;
+pub use fault::ParseFault;
 pub use script::{Decl, Script};
 pub use token::{ResourceNames, RolesNames, Symbol, Token, Word};
 pub use tree::{EventTree, FieldTree, GenTree, PartTree, Tree};

@@ -83,122 +83,67 @@ impl Drop for ResourceNames {
     }
 }
 
-/// The reserved words of the language.
+/// The reserved words of the language. `word_text` says how each is written.
 #[derive(Clone, Copy, PartialEq, Eq)]
 pub enum Word {
-    /// `and`
     And,
-    /// `assert`
     Assert,
-    /// `channel`
     Channel,
-    /// `datatype`
     Datatype,
-    /// `diff`
     Diff,
-    /// `else`
     Else,
-    /// `false`
     False,
-    /// `if`
     If,
-    /// `inter`
     Inter,
-    /// `nametype`
     Nametype,
-    /// `not`
     Not,
-    /// `or`
     Or,
-    /// `then`
     Then,
-    /// `true`
     True,
-    /// `union`
     Union,
-    /// `STOP`
     Stop,
-    /// `SKIP`
     Skip,
 }
 
-/// The symbols of the language.
+/// The symbols of the language. `symbol_text` says how each is written.
 #[derive(Clone, Copy, PartialEq, Eq)]
 pub enum Symbol {
-    /// `->`
     Arrow,
-    /// `[]`
     ExternalChoice,
-    /// `|~|`
     InternalChoice,
-    /// `||`
     Parallel,
-    /// `[[`
     OpenRename,
-    /// `]]`
     CloseRename,
-    /// `{|`
     OpenProduct,
-    /// `|}`
     CloseProduct,
-    /// `<-`
     LeftArrow,
-    /// `..`
     DotDot,
-    /// `.`
     Dot,
-    /// `!`
     Bang,
-    /// `?`
     Question,
-    /// `:`
     Colon,
-    /// `@`
     At,
-    /// `=`
     Defines,
-    /// `==`
     Equal,
-    /// `!=`
     NotEqual,
-    /// `<`
     Less,
-    /// `<=`
     LessEqual,
-    /// `>`
     Greater,
-    /// `>=`
     GreaterEqual,
-    /// `+`
     Plus,
-    /// `-`
     Minus,
-    /// `*`
     Star,
-    /// `/`
     Slash,
-    /// `%`
     Percent,
-    /// `(`
     OpenParen,
-    /// `)`
     CloseParen,
-    /// `{`
     OpenBrace,
-    /// `}`
     CloseBrace,
-    /// `[`
     OpenBracket,
-    /// `]`
     CloseBracket,
-    /// `,`
     Comma,
-    /// `&`
     Ampersand,
-    /// `|`
     Bar,
-    /// `\`
     Backslash,
-    /// `;`
     Semicolon,
 }

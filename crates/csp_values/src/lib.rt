@@ -1,4 +1,7 @@
 //! The value of an expression of a program, or the first fault that its evaluation meets.
+//!
+//! The value of an expression is defined for every content of a program. So `eval_in` evaluates the types of channels while the program is put
+//! together. Generators are walked by a loop, with a frame for each that is entered and one list of bound names.
 #![tactic(auto)]
 
 mod evaluation;

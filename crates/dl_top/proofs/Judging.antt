@@ -5,9 +5,9 @@ use Rattle.std.proofs.lemmas.Result.{IfErr-weaker, IfOk-weaker, err_from_is_err_
 use Rattle.command_words.specs.declared.request.Job.{Job}
 use Rattle.command_words.specs.declared.request.Job.TheVariants.{Livelock}
 use Rattle.comparison.specs.Compared.{IsCompared}
-use Rattle.csp_parser.specs.Fault.{IfNoScript}
-use Rattle.csp_parser.specs.declared.fault.ParseFault.{ParseFault}
-use Rattle.csp_parser.specs.declared.fault.ParseFault.TheVariants as fault
+use Rattle.csp_text.specs.Fault.{IfNoScript}
+use Rattle.csp_text.specs.declared.fault.ParseFault.{ParseFault}
+use Rattle.csp_text.specs.declared.fault.ParseFault.TheVariants as fault
 use Rattle.csp_parser.specs.Places.{IsPlaceOf}
 use Rattle.csp_parser.specs.Spells.{EachTextSpellsOneScript, Spells}
 use Rattle.csp_program.specs.declared.programs.Content.{Content}

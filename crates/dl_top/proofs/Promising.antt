@@ -21,12 +21,13 @@ use Rattle.judgement.specs.Counts.{node_count}
 use Rattle.judgement.specs.Judged.{IsJudged}
 use Rattle.judgement_laws.proofs.Complete.{complete}
 use Rattle.judgement_laws.proofs.Networks.{faults_exclude_networks}
-use Rattle.judgement_laws.proofs.Tables.{all_go_on, faults_exclude_tables}
+use Rattle.judgement_laws.proofs.Tables.{all_go_on}
 use Rattle.judgement_laws.proofs.Whole.{IsJudgedWhole, classes, goes_on, has_greatest_rank, judged_whole, passes}
 use Rattle.judgement_laws.specs.Complete.{Passes}
 use Rattle.livelock.proofs.Agreeing.{bounds_are_told}
 use Rattle.livelock.proofs.Whole.{bounded_cases}
 use Rattle.livelock.specs.Bounded.{IsBounded}
+use Rattle.network_stages.proofs.Excluded.{faults_exclude_tables}
 use Rattle.network_stages.specs.Networks.{IsNetworkOf, Network}
 use Rattle.network_stages.specs.Sets.{HaveFewSets}
 use Rattle.network_stages.specs.Stages.{HasNoPart, HasTables}

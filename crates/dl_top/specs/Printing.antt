@@ -1,7 +1,7 @@
 -- What was printed of a reply, and how a fault of a text is told. (For private contracts: no public one cites this.)
 use Rattle.std.specs.Prelude.{◌≡◌, ℕ, List, Result, Err}
-use Rattle.csp_parser.specs.declared.fault.ParseFault.{ParseFault}
-use Rattle.csp_parser.specs.declared.fault.ParseFault.TheVariants as fault
+use Rattle.csp_text.specs.declared.fault.ParseFault.{ParseFault}
+use Rattle.csp_text.specs.declared.fault.ParseFault.TheVariants as fault
 use Rattle.dl_outside.specs.declared.shelf.LoadFault.{LoadFault}
 use Rattle.report.specs.declared.answer.Answer.{Answer}
 use Rattle.report.specs.declared.answer.Answer.TheVariants as answer

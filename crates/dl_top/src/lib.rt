@@ -1,4 +1,8 @@
 //! The top call: words in, a report out, and an exit status; with the theorem about the answer 0.
+//!
+//! Promises speak of texts and reports (`Promised`), and one record ties them to a call (`Kept`). What a load gave the shelf says itself (`gives`):
+//! of a text in memory that text, of a file what its reads gave. A front of a report is sent where the sink fails or memory runs out, never
+//! otherwise. Status 5 is merged with nothing. A trial is the reply of `check` with a line before it; it loads nothing.
 #![tactic(auto)]
 
 pub mod judge;

@@ -1,4 +1,7 @@
 //! The field sets of channels, and the event table that they make.
+//!
+//! A declaration's types are evaluated once, whatever number of channels it names, and their sets are lent to its channels. Events are counted from
+//! the sizes of sets before any is made.
 #![tactic(auto)]
 
 mod counts;

@@ -1,11 +1,12 @@
 -- Counting over lists of parts and of ranks, from the front.
-use Rattle.std.proofs.Common.{◌≡◌, ℕ, zero, suc, ◌+◌, ◌*◌, ◌<◌, ◌≤◌, ℤ, max, List, [], ◌∷◌, ◌++◌, Vec, length, map, take, get_or, refl, sym, ap, ◌∙◌, add-one, arith}
+use Rattle.std.proofs.Common.{◌≡◌, ℕ, zero, suc, ◌+◌, ◌*◌, ◌^◌, ◌<◌, ◌≤◌, ℤ, max, List, [], ◌∷◌, ◌++◌, Vec, length, map, take, get_or, refl, sym, ap, ◌∙◌, add-one, arith}
 use Rattle.std.specs.declared.alloc.Global.{Global}
 use Rattle.std.specs.List.{flat_map}
 use Rattle.std.proofs.Math.Seq.{take-suc}
 use Rattle.csp_tables.specs.Part.{Part, part_at}
 use Rattle.csp_tables.specs.Ranking.{PartRanks}
 use Rattle.csp_base.specs.Lists.{natural}
+use Rattle.dl_limits.specs.declared.TheConstants.{MOST_COMPONENTS, MOST_SETS}
 use Rattle.design_rules.specs.RankCounts.{greatest_from}
 use Rattle.judgement.specs.Counts.{node_count}
 use Rattle.csp_base.proofs.Lists.{flat_map_push}
@@ -37,20 +38,21 @@ front_count (p ∷ parts) zero = omega arith
 front_count (p ∷ parts) (suc n) = let rest = front_count parts n in omega (arith, rest)
 
 pub still_fits : (parts : List Part) (i : ℕ) (part : Part) (count : ℕ) → i < length parts → part ≡ get_or parts i part → count ≡ node_count (take i parts)
-    → node_count parts < 4294967296 → count + length part.table < 4294967296
+    → node_count parts < 2 ^ 32 → count + length part.table < 2 ^ 32
 still_fits parts i part count within is so_far fits =
     let grown = one_count parts i part count (count + length part.table) within is so_far refl in
     let front = front_count parts (i + 1) in
     omega (arith, grown, front, fits)
 
-low_count : (parts : List Part) → ((i : ℕ) → i < length parts → length (part_at parts i).table ≤ 2048) → node_count parts ≤ length parts * 2048
+low_count : (parts : List Part) → ((i : ℕ) → i < length parts → length (part_at parts i).table ≤ MOST_SETS) → node_count parts ≤ length parts * MOST_SETS
 low_count [] nodes = omega arith
 low_count (p ∷ parts) nodes =
-    let first : length p.table ≤ 2048 = nodes 0 (omega arith) in
+    let first : length p.table ≤ MOST_SETS = nodes 0 (omega arith) in
     let rest = low_count parts (λ i below. nodes (suc i) (omega (arith, below))) in
     omega (arith, first, rest)
 
-pub few_nodes : (parts : List Part) → length parts ≤ 512 → ((i : ℕ) → i < length parts → length (part_at parts i).table ≤ 2048) → node_count parts < 4294967296
+pub few_nodes : (parts : List Part) → length parts ≤ MOST_COMPONENTS → ((i : ℕ) → i < length parts → length (part_at parts i).table ≤ MOST_SETS)
+    → node_count parts < 2 ^ 32
 few_nodes parts few nodes = let low = low_count parts nodes in omega (arith, few, low)
 
 -- ---- ranks

@@ -1,4 +1,6 @@
 //! The judgement of a network by a rule: through the tables of its components and its shape to the verdict.
+//!
+//! Counts of the report fit their types in every network within the limits, which is proved.
 #![tactic(auto)]
 
 mod counts;

@@ -18,6 +18,7 @@ use Rattle.judgement.specs.Told.{TellsRule}
 use Rattle.network_layout.proofs.TripleLemmas.{length-holders}
 use Rattle.network_layout.specs.Triple.{alphabets, holders}
 use Rattle.network_layout.specs.declared.triple.TripleFault.TheVariants as triple
+use Rattle.network_stages.proofs.Excluded.{faults_exclude_tables}
 use Rattle.network_stages.specs.Networks.{Network}
 use Rattle.network_stages.specs.Sets.{HaveFewSets}
 use Rattle.network_stages.specs.Shapes.{IsApart}
@@ -32,7 +33,6 @@ use Rattle.report.specs.declared.answer.Side.TheVariants as side
 use Rattle.report.specs.declared.answer.Verdict.{Verdict}
 use Rattle.report.specs.declared.answer.Verdict.TheVariants as verdict
 use Rattle.judgement_laws.specs.Complete.{EachScriptHasOneStatus, Passes}
-use Rattle.judgement_laws.proofs.Tables.{faults_exclude_tables}
 
 -- what holds at a point where no fault is told
 pub goes_past : {A F X : Type 0} (Fails : F → Type 0) (Tells : F → A → Type 0) (Is : X → Type 0) (Then : X → A → Type 0) (Q : Type 0) (a : A) → ((f : F) → Fails f → ⊥)

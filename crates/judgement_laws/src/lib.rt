@@ -3,17 +3,16 @@
 
 ghost use Rattle.judgement_laws.specs.Complete.{EachScriptHasOneStatus, JudgementIsExact};
 ghost use Rattle.judgement_laws.specs.Heart.{GoodRankingsMeanLive};
-ghost use Rattle.judgement_laws.specs.Laws.{FaultsExcludeAllTables, FaultsExcludeNetworks};
+ghost use Rattle.judgement_laws.specs.Laws.{FaultsExcludeNetworks};
 
 /// A network of a program over whose tables a ranking falls is live, with its silent bound, and its steps are those of its components.
 pub fn good_rankings_mean_live()
     ensures { GoodRankingsMeanLive }
 {}
 
-/// No script that has a network, and no components that have tables, have what a refusal tells of them.
+/// No script that has a network has what a refusal tells of it.
 pub fn faults_exclude_networks()
-    ensures network { FaultsExcludeNetworks }
-    ensures tables { FaultsExcludeAllTables }
+    ensures { FaultsExcludeNetworks }
 {}
 
 /// The verdict on a network has status 0 exactly where the network is within the limits and meets the rule.

@@ -7,7 +7,7 @@ use Rattle.csp_tables.specs.Network.{leaves}
 use Rattle.hidden_bounds.proofs.Passing.{passes_excludes, passes_once}
 use Rattle.hidden_steps.proofs.Agreeing.{no_order, one_order, one_rest}
 use Rattle.hidden_steps.specs.Order.{Taken}
-use Rattle.judgement_laws.proofs.Tables.{faults_exclude_tables}
+use Rattle.network_stages.proofs.Excluded.{faults_exclude_tables}
 use Rattle.network_stages.specs.Networks.{Network}
 use Rattle.network_stages.specs.Stages.{HasNoTables, HasTables}
 use Rattle.process_steps.specs.ComponentStep.{ProcessStep}

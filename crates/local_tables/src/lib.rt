@@ -1,4 +1,7 @@
 //! The table of a component: the terms that it reaches by itself, numbered as they are first seen, and their steps.
+//!
+//! Each component has a pool of its own, which is let go with it: a table keeps numbers, and its terms stand in its contract alone. A room for
+//! sizes is below 4,294,967,295, at which the measure of a term stops.
 #![tactic(auto)]
 
 ghost use Rattle.local_tables.specs.Laws.{FaultsExcludeTables};

@@ -1,9 +1,10 @@
 -- Scripts of networks of any size. The first line of each says the size.
-use Rattle.std.specs.Prelude.{ℕ, List, [], ◌++◌, codes}
+use Rattle.std.specs.Prelude.{ℕ, ◌/◌, List, [], ◌++◌, codes}
 use Rattle.std.specs.Fmt.{decimal}
 use Rattle.net_maker.specs.declared.families.Family.{Family}
 use Rattle.net_maker.specs.declared.families.Family.TheVariants.{Forks, Chain, Mesh}
 use Rattle.csp_base.specs.Texts.{line}
+use Rattle.dl_limits.specs.declared.TheConstants.{MOST_COMPONENTS}
 
 -- Dining philosophers round a table, of whom one takes the forks in the other order (Dijkstra 1971). Forks are resources.
 abbrev pub forks : List ℕ
@@ -66,13 +67,14 @@ family_name Forks = codes "forks"
 family_name Chain = codes "chain"
 family_name Mesh = codes "mesh"
 
--- the least and the greatest size
+-- The least and the greatest size. N philosophers with their forks are 2 * N components, a row is N, and a mesh N * N; one more would be more
+-- than MOST_COMPONENTS.
 abbrev pub least : Family → ℕ
 least Forks = 2
 least Chain = 1
 least Mesh = 1
 
 abbrev pub greatest : Family → ℕ
-greatest Forks = 256
-greatest Chain = 512
+greatest Forks = MOST_COMPONENTS / 2
+greatest Chain = MOST_COMPONENTS
 greatest Mesh = 22

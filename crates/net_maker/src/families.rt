@@ -6,6 +6,7 @@ ghost use Rattle.net_maker.specs.Families.{family_name, family_text, greatest, l
 ghost use Rattle.csp_base.specs.Texts.{line};
 
 use csp_base::{Bytes, NoMemory};
+use dl_limits::MOST_COMPONENTS;
 use std::alloc::Global;
 
 // The lines of the philosophers after the first one.
@@ -52,11 +53,11 @@ assert MESH :[deadlock free]\n";
 /// A family of scripts.
 #[derive(Clone, Copy)]
 pub enum Family {
-    /// Philosophers and their forks, 2 to 256 of each.
+    /// Philosophers and their forks, two or more of each.
     Forks,
-    /// A row of clients and servers, 1 to 512 of them.
+    /// A row of clients and servers.
     Chain,
-    /// A square mesh of cells, 1 to 22 in each row.
+    /// A square mesh of cells, of which the size is one row.
     Mesh,
 }
 
@@ -81,13 +82,13 @@ pub fn least_size(family: Family) -> u32
     }
 }
 
-/// The greatest size of a family.
+/// The greatest size of a family: one more would make more than MOST_COMPONENTS components.
 pub fn greatest_size(family: Family) -> u32
     ensures { result ≡ greatest family }
 {
     match family {
-        Family::Forks => 256,
-        Family::Chain => 512,
+        Family::Forks => MOST_COMPONENTS as u32 / 2,
+        Family::Chain => MOST_COMPONENTS as u32,
         Family::Mesh => 22,
     }
 }

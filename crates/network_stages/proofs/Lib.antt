@@ -9,6 +9,7 @@ mod Sharing
 mod Spelling
 mod Stopping
 mod TrueStops
+pub mod Excluded
 pub mod HeightSums
 pub mod LowHeights
 pub mod Shaping

@@ -1,5 +1,6 @@
 pub mod Busy
 pub mod Faults
+pub mod Laws
 pub mod Networks
 pub mod Rows
 pub mod Sets

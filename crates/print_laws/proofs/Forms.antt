@@ -17,8 +17,9 @@ use Rattle.csp_base.specs.declared.operators.BinOp.{BinOp}
 use Rattle.csp_base.specs.declared.operators.BinOp.TheVariants as op
 use Rattle.csp_base.specs.declared.operators.SetOp.{SetOp}
 use Rattle.csp_base.specs.declared.operators.SetOp.TheVariants as set_op
-use Rattle.csp_grammar.specs.Grammar.{TreeText, ClosedPrefixText, ClosedSequenceText, OpenText, DottedText, ExpressionText, ItemText, AtomText}
+use Rattle.csp_grammar.specs.Grammar.{TreeText, PrefixText, SequenceText, OpenText, DottedText, ExpressionText, ItemText, AtomText}
 use Rattle.csp_grammar.specs.Grammar as g
+use Rattle.csp_grammar.specs.Grammar.Reach.{closed}
 use Rattle.csp_grammar.specs.Precedence as table
 use Rattle.csp_grammar.specs.Precedence.IsNext.{disjunction-conjunction, conjunction-negation, sum-product, product-minus}
 use Rattle.csp_grammar.specs.Precedence.Level.{disjunction, conjunction, negation, comparison, sum, product, minus}
@@ -31,20 +32,20 @@ use Rattle.print_laws.proofs.Onto as onto
 use Rattle.tree_reading.proofs.Meaning.{at_level, from_level}
 use Rattle.tree_reading.proofs.NodeDepths as depths
 
-pub as_prefix : {n : ℕ} {ts : List Token} {t : Tree} {r : List Token} → AtomText n ts t r → ClosedPrefixText n ts t r
-as_prefix a = g.closed-prefix-expression (at_level disjunction a)
+pub as_prefix : {n : ℕ} {ts : List Token} {t : Tree} {r : List Token} → AtomText n ts t r → PrefixText n closed ts t r
+as_prefix a = g.prefix-expression (at_level disjunction a)
 
-pub as_sequence : {n : ℕ} {ts : List Token} {t : Tree} {r : List Token} → AtomText n ts t r → ClosedSequenceText n ts t r
-as_sequence a = g.closed-sequence-one (as_prefix a)
+pub as_sequence : {n : ℕ} {ts : List Token} {t : Tree} {r : List Token} → AtomText n ts t r → SequenceText n closed ts t r
+as_sequence a = g.sequence-one (as_prefix a)
 
-pub prefix_tree : {n : ℕ} {ts : List Token} {t : Tree} {r : List Token} → ClosedPrefixText n ts t r → TreeText n ts t r
-prefix_tree p = g.tree-side (g.side-closed (g.closed-side-sequence (g.closed-sequence-one p)))
+pub prefix_tree : {n : ℕ} {ts : List Token} {t : Tree} {r : List Token} → PrefixText n closed ts t r → TreeText n ts t r
+prefix_tree p = g.tree-side (g.side-sequence (g.sequence-one p))
 
 pub expression_tree : {n : ℕ} {ts : List Token} {t : Tree} {r : List Token} → ExpressionText n disjunction ts t r → TreeText n ts t r
-expression_tree e = prefix_tree (g.closed-prefix-expression e)
+expression_tree e = prefix_tree (g.prefix-expression e)
 
 pub open_tree : {n : ℕ} {ts : List Token} {t : Tree} {r : List Token} → OpenText n ts t r → TreeText n ts t r
-open_tree o = g.tree-side (g.side-sequence (g.open-sequence-one (g.open-prefix-open-form o)))
+open_tree o = g.tree-side (g.side-sequence (g.sequence-one (g.prefix-open-form o)))
 
 -- two operands with an operator between them
 

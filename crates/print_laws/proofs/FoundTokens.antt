@@ -13,12 +13,12 @@ use Rattle.csp_text.specs.declared.token.Word.{Word}
 use Rattle.csp_text.specs.declared.token.Word.TheVariants as word
 use Rattle.csp_text.specs.declared.token.Symbol.{Symbol}
 use Rattle.csp_text.specs.declared.token.Symbol.TheVariants as symbol
-use Rattle.csp_text.specs.Written.{symbol_text, word_text}
+use Rattle.csp_text.specs.Written.{symbol_text, symbols, word_text, words}
 use Rattle.csp_lexer.specs.Annotations.{resource, roles}
 use Rattle.csp_lexer.specs.Front.{begins_assertion}
-use Rattle.csp_lexer.specs.Symbols.{longest_symbol, symbol_at, symbols}
+use Rattle.csp_lexer.specs.Symbols.{longest_symbol, symbol_at}
 use Rattle.csp_lexer.specs.Tokens.{continued, digits_len, number_token, symbol_with_len, token_at, with_len}
-use Rattle.csp_lexer.specs.Words.{is_foreign, is_letter, is_name, is_name_byte, is_prime, reserved_word, word_len, word_or_name, word_rest_len, word_token, words}
+use Rattle.csp_lexer.specs.Words.{is_foreign, is_letter, is_name, is_name_byte, is_prime, reserved_word, word_len, word_or_name, word_rest_len, word_token}
 use Rattle.print_laws.specs.Fits.{Fits, FitsLine, IsName, is_single}
 use Rattle.print_laws.specs.Lines.{is_assert}
 use Rattle.print_laws.proofs.Quiet.{word_len_is, word_rest_more, word_rest_primes}

@@ -58,24 +58,8 @@ form_onto (Tree-F.Rename p pairs gs) r = operand_tokens p ++ (Symbol OpenRename 
 form_onto d r = form_tokens d ++ r
 
 over_rest : (d : Tree-F FieldTree GenTree Tree EventTree PartTree) (r : List Token) → form_tokens d ++ r ≡ form_onto d r
-over_rest (Tree-F.Call x items) r = simp append_assoc
-over_rest (Tree-F.Binary op a b) r = simp append_assoc
-over_rest (Tree-F.If c p q) r = simp append_assoc
-over_rest (Tree-F.Display items) r = simp append_assoc
-over_rest (Tree-F.Range a b) r = simp append_assoc
-over_rest (Tree-F.Comp items gs) r = simp append_assoc
-over_rest (Tree-F.Product parts gs) r = simp append_assoc
-over_rest (Tree-F.SetOp op a b) r = simp append_assoc
-over_rest (Tree-F.Prefix event p) r = simp append_assoc
-over_rest (Tree-F.Guard c p) r = simp append_assoc
-over_rest (Tree-F.EachExternal x s p) r = simp append_assoc
-over_rest (Tree-F.EachInternal x s p) r = simp append_assoc
-over_rest (Tree-F.Parallel p a b q) r = simp append_assoc
-over_rest (Tree-F.EachParallel x s a p) r = simp append_assoc
-over_rest (Tree-F.Seq p q) r = simp append_assoc
-over_rest (Tree-F.Hide p s) r = simp append_assoc
-over_rest (Tree-F.Rename p pairs gs) r = simp append_assoc
-over_rest _ r = refl
+over_rest Tree-F.Stop r = refl
+over_rest _ r = first_of (simp append_assoc, cc)
 
 pub onto : (d : Tree-F FieldTree GenTree Tree EventTree PartTree) {t : Tree} → roll-Tree d ≡ t → (r : List Token) → printed_tokens t ++ r ≡ form_onto d r
 onto d is r = ap (λ l. l ++ r) (equation.tokens_of d is) ∙ over_rest d r

@@ -12,8 +12,9 @@ use Rattle.csp_text.specs.declared.tree.FieldTree.{FieldTree}
 use Rattle.csp_text.specs.declared.tree.FieldTree.TheVariants as field
 use Rattle.csp_text.specs.declared.tree.GenTree.{GenTree}
 use Rattle.csp_text.specs.declared.tree.GenTree.TheVariants as generator
-use Rattle.csp_grammar.specs.Grammar.{Choice, choice_sign, choice_of, event_tree, part_tree, TreeText, ClosedChoiceText, DottedText, DotsText, FieldsText, PairsText, PartText, PartsText, ConditionsText, GensText, GenText, ItemsText}
+use Rattle.csp_grammar.specs.Grammar.{Choice, choice_sign, choice_of, event_tree, part_tree, TreeText, ChoiceText, DottedText, DotsText, FieldsText, PairsText, PartText, PartsText, ConditionsText, GensText, GenText, ItemsText}
 use Rattle.csp_grammar.specs.Grammar as g
+use Rattle.csp_grammar.specs.Grammar.Reach.{closed}
 use Rattle.csp_grammar.specs.Precedence.Level.{disjunction, negation, sum, minus, renaming}
 use Rattle.script_printer.specs.PrintedTree.{conditions, dotted, field_tokens, gen_tokens, item_tokens, operand_tokens, part_tokens, renamed_tokens, separated}
 use Rattle.print_laws.specs.Made.{MadeTree, MadeTrees, MadeDots, MadeFields, MadePart, MadeParts, MadePairs, MadeGen, MadeGens, MadeConditions}
@@ -31,7 +32,7 @@ pub record TextedTrees (ts : List Tree) : Type 0 where
   pub filled : 0 < length ts
   pub items : (n : ℕ) (r : List Token) → 2 * greatest (map tree_depth ts) ≤ n → ItemsText n (separated item_tokens (Symbol Comma) ts ++ r) ts r
   pub chain : (c : Choice) (n : ℕ) (p : Tree) (r : List Token) → Texted p → 2 * tree_depth p ≤ n → 2 * greatest (map tree_depth ts) ≤ n →
-      ClosedChoiceText n c (operand_tokens p ++ (choice_sign c ∷ (separated operand_tokens (choice_sign c) ts ++ r))) (p ∷ ts) r
+      ChoiceText n closed c (operand_tokens p ++ (choice_sign c ∷ (separated operand_tokens (choice_sign c) ts ++ r))) (p ∷ ts) r
 
 pub record TextedDots (ts : List Tree) : Type 0 where
   pub dots : (n : ℕ) (r : List Token) → 2 * greatest (map tree_depth ts) ≤ n → DotsText n (dotted operand_tokens ts ++ r) ts r
@@ -62,8 +63,8 @@ one_tree t p = record {
   filled = omega arith;
   items = λ n r h. subst (λ l. ItemsText n l (t ∷ []) r) (sym (onto.separated_one item_tokens (Symbol Comma) t r)) (g.items-one (p.item n r (omega arith)));
   chain = λ c n q r q' hq h.
-      subst (λ l. ClosedChoiceText n c (operand_tokens q ++ (choice_sign c ∷ l)) (q ∷ t ∷ []) r) (sym (onto.separated_one operand_tokens (choice_sign c) t r))
-      (g.closed-choice-two (as_sequence (q'.operand n _ hq)) (as_sequence (p.operand n r (omega arith))));
+      subst (λ l. ChoiceText n closed c (operand_tokens q ++ (choice_sign c ∷ l)) (q ∷ t ∷ []) r) (sym (onto.separated_one operand_tokens (choice_sign c) t r))
+      (g.choice-two (as_sequence (q'.operand n _ hq)) (as_sequence (p.operand n r (omega arith))));
 }
 
 more_trees : (t : Tree) (ts : List Tree) → Texted t → TextedTrees ts → TextedTrees (t ∷ ts)
@@ -74,8 +75,8 @@ more_trees t (u ∷ us) p ps = record {
       subst (λ l. ItemsText n l (t ∷ u ∷ us) r) (sym (onto.separated_more item_tokens (Symbol Comma) t u us r))
       (g.items-more (p.item n _ (omega arith)) (ps.items n r (omega arith)));
   chain = λ c n q r q' hq h.
-      subst (λ l. ClosedChoiceText n c (operand_tokens q ++ (choice_sign c ∷ l)) (q ∷ t ∷ u ∷ us) r) (sym (onto.separated_more operand_tokens (choice_sign c) t u us r))
-      (g.closed-choice-more (as_sequence (q'.operand n _ hq)) (ps.chain c n t r p (omega arith) (omega arith)));
+      subst (λ l. ChoiceText n closed c (operand_tokens q ++ (choice_sign c ∷ l)) (q ∷ t ∷ u ∷ us) r) (sym (onto.separated_more operand_tokens (choice_sign c) t u us r))
+      (g.choice-more (as_sequence (q'.operand n _ hq)) (ps.chain c n t r p (omega arith) (omega arith)));
 }
 
 one_part : (c : PartTree) → TextedPart c → TextedParts (c ∷ [])
@@ -127,10 +128,10 @@ a_choice : (c : Choice) (p : Tree) (ps : List Tree) → Texted p → TextedTrees
 a_choice c p [] p' ps' = absurd (let h : 0 < 0 = ps'.filled in omega arith)
 a_choice g.external p (q ∷ qs) p' ps' = compound_form _ (tree.rolls-External (p ∷ q ∷ qs)) refl (λ n r h.
     subst (λ l. TreeText n l (tree.External (p ∷ q ∷ qs)) r) (sym (onto.separated_more operand_tokens (Symbol ExternalChoice) p q qs r))
-    (g.tree-side (g.side-closed (g.closed-side-choice g.external (ps'.chain g.external n p r p' (omega arith) (omega arith))))))
+    (g.tree-side (g.side-choice g.external (ps'.chain g.external n p r p' (omega arith) (omega arith)))))
 a_choice g.internal p (q ∷ qs) p' ps' = compound_form _ (tree.rolls-Internal (p ∷ q ∷ qs)) refl (λ n r h.
     subst (λ l. TreeText n l (tree.Internal (p ∷ q ∷ qs)) r) (sym (onto.separated_more operand_tokens (Symbol InternalChoice) p q qs r))
-    (g.tree-side (g.side-closed (g.closed-side-choice g.internal (ps'.chain g.internal n p r p' (omega arith) (omega arith))))))
+    (g.tree-side (g.side-choice g.internal (ps'.chain g.internal n p r p' (omega arith) (omega arith)))))
 
 mutual
   pub texted : {P : Token → Type 0} {t : Tree} → MadeTree P t → Texted t
@@ -165,23 +166,23 @@ mutual
   texted (m.made-prefix {c = c} {fs = fs} {p = p} x fs' p') = compound_form _ (tree.rolls-Prefix (event_tree c fs) p) refl (λ n r h.
       let d = depths.depth-event c fs in
       subst (λ l. TreeText n l (tree.Prefix (event_tree c fs) p) r) (sym (onto.onto-event c fs _))
-      (prefix_tree (g.closed-prefix-event (g.event-fields ((texted_fields fs').fields n _ (omega arith))) (as_prefix ((texted p').operand n r (omega arith))))))
+      (prefix_tree (g.prefix-event (g.event-fields ((texted_fields fs').fields n _ (omega arith))) (as_prefix ((texted p').operand n r (omega arith))))))
   texted (m.made-guard {c = c} {p = p} c' p') = compound_form _ (tree.rolls-Guard c p) refl (λ n r h.
-      prefix_tree (g.closed-prefix-guard (at_level disjunction ((texted c').operand n _ (omega arith))) (as_prefix ((texted p').operand n r (omega arith)))))
+      prefix_tree (g.prefix-guard (at_level disjunction ((texted c').operand n _ (omega arith))) (as_prefix ((texted p').operand n r (omega arith)))))
   texted (m.made-choice {p = p} {ps = ps} c x p' ps') = a_choice c p ps (texted p') (texted_trees ps')
   texted (m.made-each-external {x = x} {s = s} {p = p} y z s' p') = compound_form _ (tree.rolls-EachExternal x s p) refl (λ n r h.
       open_tree (g.open-external ((texted s').operand n _ (omega arith)) ((texted p').bare n r (omega arith))))
   texted (m.made-each-internal {x = x} {s = s} {p = p} y z s' p') = compound_form _ (tree.rolls-EachInternal x s p) refl (λ n r h.
       open_tree (g.open-internal ((texted s').operand n _ (omega arith)) ((texted p').bare n r (omega arith))))
   texted (m.made-parallel {p = p} {a = a} {b = b} {q = q} p' a' b' q') = bracket_form _ (tree.rolls-Parallel p a b q) refl (λ n r h.
-      g.tree-parallel (g.closed-side-sequence (as_sequence ((texted p').operand (suc n) _ (omega arith)))) ((texted a').operand n _ (omega arith)) ((texted b').operand n _ (omega arith))
-      (g.side-closed (g.closed-side-sequence (as_sequence ((texted q').operand (suc n) r (omega arith))))))
+      g.tree-parallel (g.side-sequence (as_sequence ((texted p').operand (suc n) _ (omega arith)))) ((texted a').operand n _ (omega arith)) ((texted b').operand n _ (omega arith))
+      (g.side-sequence (as_sequence ((texted q').operand (suc n) r (omega arith)))))
   texted (m.made-each-parallel {x = x} {s = s} {a = a} {p = p} z s' a' p') = bracket_form _ (tree.rolls-EachParallel x s a p) refl (λ n r h.
       open_tree (g.open-parallel ((texted s').operand (suc n) _ (omega arith)) ((texted a').operand n _ (omega arith)) ((texted p').bare (suc n) r (omega arith))))
   texted (m.made-sequence {p = p} {q = q} p' q') = compound_form _ (tree.rolls-Seq p q) refl (λ n r h.
-      g.tree-side (g.side-closed (g.closed-side-sequence (g.closed-sequence-more (as_prefix ((texted p').operand n _ (omega arith))) (as_sequence ((texted q').operand n r (omega arith)))))))
+      g.tree-side (g.side-sequence (g.sequence-more (as_prefix ((texted p').operand n _ (omega arith))) (as_sequence ((texted q').operand n r (omega arith))))))
   texted (m.made-hiding {p = p} {s = s} p' s') = compound_form _ (tree.rolls-Hide p s) refl (λ n r h.
-      g.tree-side (g.side-closed (g.closed-side-hiding (g.hiding-one (at_level renaming ((texted p').operand n _ (omega arith))) ((texted s').operand n r (omega arith))))))
+      g.tree-side (g.side-hiding (g.hiding-one (at_level renaming ((texted p').operand n _ (omega arith))) ((texted s').operand n r (omega arith)))))
   texted (m.made-renaming {p = p} {pairs = pairs} {gs = gs} x y p' pairs' gs') = bracket_form _ (tree.rolls-Rename p pairs gs) refl (λ n r h.
       expression_tree (from_level renaming (g.expression-rename (at_level renaming ((texted p').operand (suc n) _ (omega arith))) ((texted_pairs pairs').pairs n _ (omega arith)) ((texted_conditions gs').conditions n _ (omega arith)))))
 

@@ -12,7 +12,7 @@ use Rattle.csp_base.specs.declared.operators.SetOp.TheVariants as set_op
 use Rattle.csp_text.specs.declared.tree.PartTree.{PartTree}
 use Rattle.csp_text.specs.declared.tree.FieldTree.{FieldTree}
 use Rattle.csp_text.specs.declared.tree.GenTree.{GenTree}
-use Rattle.csp_grammar.specs.Grammar.{Choice, choice_of, choice_sign, TreeText, SideText, ClosedSideText, HidingText, ClosedChoiceText, OpenChoiceText, ClosedSequenceText, OpenSequenceText, ClosedPrefixText, OpenPrefixText, OpenText, FieldsText, DottedText, DotsText, ExpressionText, PairsText, PartText, PartsText, ConditionsText, GensText, GenText, ItemText, ItemsText, AtomText}
+use Rattle.csp_grammar.specs.Grammar.{Choice, choice_of, choice_sign, TreeText, Reach, SideText, HidingText, ChoiceText, SequenceText, PrefixText, OpenText, FieldsText, DottedText, DotsText, ExpressionText, PairsText, PartText, PartsText, ConditionsText, GensText, GenText, ItemText, ItemsText, AtomText}
 use Rattle.csp_grammar.specs.Grammar as g
 use Rattle.csp_grammar.specs.Precedence.{Level, IsLeftOperator, IsComparison}
 use Rattle.csp_grammar.specs.Precedence as table
@@ -76,65 +76,41 @@ module _ (P : Token → Type 0) (S : ℕ → List Token → Type 0)
     walk_tree (g.tree-dotted d) s = walk_dotted d s
     walk_tree (g.tree-side p) s = walk_side p s
     walk_tree (g.tree-parallel p a b q) s =
-        let p' = walk_closed_side p s in
+        let p' = walk_side p s in
         let a' = walk_atom a (past refl p'.1) in
         let b' = walk_atom b (past refl a'.1) in
         let q' = walk_side q (past refl b'.1) in
         (m.made-parallel p'.0 a'.0 b'.0 q'.0, q'.1)
 
-    walk_side : {n : ℕ} {ts : List Token} {t : Tree} {r : List Token} {k : ℕ} → SideText n ts t r → S k ts → MadeTree P t × S k r
-    walk_side (g.side-closed p) s = walk_closed_side p s
-    walk_side (g.side-sequence p) s = walk_open_sequence p s
-    walk_side (g.side-choice c ps) s = let ps' = walk_open_choice ps s in (ps'.0.0, ps'.1)
-
-    walk_closed_side : {n : ℕ} {ts : List Token} {t : Tree} {r : List Token} {k : ℕ} → ClosedSideText n ts t r → S k ts → MadeTree P t × S k r
-    walk_closed_side (g.closed-side-sequence p) s = walk_closed_sequence p s
-    walk_closed_side (g.closed-side-choice c ps) s = let ps' = walk_closed_choice ps s in (ps'.0.0, ps'.1)
-    walk_closed_side (g.closed-side-hiding h) s = walk_hiding h s
+    walk_side : {n : ℕ} {e : Reach} {ts : List Token} {t : Tree} {r : List Token} {k : ℕ} → SideText n e ts t r → S k ts → MadeTree P t × S k r
+    walk_side (g.side-sequence p) s = walk_sequence p s
+    walk_side (g.side-choice c ps) s = let ps' = walk_choice ps s in (ps'.0.0, ps'.1)
+    walk_side (g.side-hiding h) s = walk_hiding h s
 
     walk_hiding : {n : ℕ} {ts : List Token} {t : Tree} {r : List Token} {k : ℕ} → HidingText n ts t r → S k ts → MadeTree P t × S k r
     walk_hiding (g.hiding-one p a) s = two (walk_expression p s) (λ s. walk_atom a (past refl s)) m.made-hiding
     walk_hiding (g.hiding-more p a) s = two (walk_hiding p s) (λ s. walk_atom a (past refl s)) m.made-hiding
 
-    walk_closed_choice : {n : ℕ} {c : Choice} {ts : List Token} {ps : List Tree} {r : List Token} {k : ℕ} → ClosedChoiceText n c ts ps r → S k ts → (MadeTree P (choice_of c ps) × MadeTrees P ps) × S k r
-    walk_closed_choice {c = c} (g.closed-choice-two p q) s =
-        let p' = walk_closed_sequence p s in
-        let q' = walk_closed_sequence q (past (choice_plain c) p'.1) in
+    walk_choice : {n : ℕ} {e : Reach} {c : Choice} {ts : List Token} {ps : List Tree} {r : List Token} {k : ℕ} → ChoiceText n e c ts ps r → S k ts → (MadeTree P (choice_of c ps) × MadeTrees P ps) × S k r
+    walk_choice {c = c} (g.choice-two p q) s =
+        let p' = walk_sequence p s in
+        let q' = walk_sequence q (past (choice_plain c) p'.1) in
         ((m.made-choice c (has (choice_plain c) p'.1) p'.0 (m.made-one q'.0), m.made-more p'.0 (m.made-one q'.0)), q'.1)
-    walk_closed_choice {c = c} (g.closed-choice-more p ps) s =
-        let p' = walk_closed_sequence p s in
-        let ps' = walk_closed_choice ps (past (choice_plain c) p'.1) in
+    walk_choice {c = c} (g.choice-more p ps) s =
+        let p' = walk_sequence p s in
+        let ps' = walk_choice ps (past (choice_plain c) p'.1) in
         ((m.made-choice c (has (choice_plain c) p'.1) p'.0 ps'.0.1, m.made-more p'.0 ps'.0.1), ps'.1)
 
-    walk_open_choice : {n : ℕ} {c : Choice} {ts : List Token} {ps : List Tree} {r : List Token} {k : ℕ} → OpenChoiceText n c ts ps r → S k ts → (MadeTree P (choice_of c ps) × MadeTrees P ps) × S k r
-    walk_open_choice {c = c} (g.open-choice-two p q) s =
-        let p' = walk_closed_sequence p s in
-        let q' = walk_open_sequence q (past (choice_plain c) p'.1) in
-        ((m.made-choice c (has (choice_plain c) p'.1) p'.0 (m.made-one q'.0), m.made-more p'.0 (m.made-one q'.0)), q'.1)
-    walk_open_choice {c = c} (g.open-choice-more p ps) s =
-        let p' = walk_closed_sequence p s in
-        let ps' = walk_open_choice ps (past (choice_plain c) p'.1) in
-        ((m.made-choice c (has (choice_plain c) p'.1) p'.0 ps'.0.1, m.made-more p'.0 ps'.0.1), ps'.1)
+    walk_sequence : {n : ℕ} {e : Reach} {ts : List Token} {t : Tree} {r : List Token} {k : ℕ} → SequenceText n e ts t r → S k ts → MadeTree P t × S k r
+    walk_sequence (g.sequence-one p) s = walk_prefix p s
+    walk_sequence (g.sequence-more p q) s = two (walk_prefix p s) (λ s. walk_sequence q (past refl s)) m.made-sequence
 
-    walk_closed_sequence : {n : ℕ} {ts : List Token} {t : Tree} {r : List Token} {k : ℕ} → ClosedSequenceText n ts t r → S k ts → MadeTree P t × S k r
-    walk_closed_sequence (g.closed-sequence-one p) s = walk_closed_prefix p s
-    walk_closed_sequence (g.closed-sequence-more p q) s = two (walk_closed_prefix p s) (λ s. walk_closed_sequence q (past refl s)) m.made-sequence
-
-    walk_open_sequence : {n : ℕ} {ts : List Token} {t : Tree} {r : List Token} {k : ℕ} → OpenSequenceText n ts t r → S k ts → MadeTree P t × S k r
-    walk_open_sequence (g.open-sequence-one p) s = walk_open_prefix p s
-    walk_open_sequence (g.open-sequence-more p q) s = two (walk_closed_prefix p s) (λ s. walk_open_sequence q (past refl s)) m.made-sequence
-
-    walk_closed_prefix : {n : ℕ} {ts : List Token} {t : Tree} {r : List Token} {k : ℕ} → ClosedPrefixText n ts t r → S k ts → MadeTree P t × S k r
-    walk_closed_prefix (g.closed-prefix-event (g.event-fields fs) p) s =
-        two (walk_fields fs (past refl s)) (λ s. walk_closed_prefix p (past refl s)) (m.made-prefix (has refl s))
-    walk_closed_prefix (g.closed-prefix-guard c p) s = two (walk_expression c s) (λ s. walk_closed_prefix p (past refl s)) m.made-guard
-    walk_closed_prefix (g.closed-prefix-expression e) s = walk_expression e s
-
-    walk_open_prefix : {n : ℕ} {ts : List Token} {t : Tree} {r : List Token} {k : ℕ} → OpenPrefixText n ts t r → S k ts → MadeTree P t × S k r
-    walk_open_prefix (g.open-prefix-event (g.event-fields fs) p) s =
-        two (walk_fields fs (past refl s)) (λ s. walk_open_prefix p (past refl s)) (m.made-prefix (has refl s))
-    walk_open_prefix (g.open-prefix-guard c p) s = two (walk_expression c s) (λ s. walk_open_prefix p (past refl s)) m.made-guard
-    walk_open_prefix (g.open-prefix-open-form p) s = walk_open p s
+    walk_prefix : {n : ℕ} {e : Reach} {ts : List Token} {t : Tree} {r : List Token} {k : ℕ} → PrefixText n e ts t r → S k ts → MadeTree P t × S k r
+    walk_prefix (g.prefix-event (g.event-fields fs) p) s =
+        two (walk_fields fs (past refl s)) (λ s. walk_prefix p (past refl s)) (m.made-prefix (has refl s))
+    walk_prefix (g.prefix-guard c p) s = two (walk_expression c s) (λ s. walk_prefix p (past refl s)) m.made-guard
+    walk_prefix (g.prefix-expression e) s = walk_expression e s
+    walk_prefix (g.prefix-open-form p) s = walk_open p s
 
     walk_open : {n : ℕ} {ts : List Token} {t : Tree} {r : List Token} {k : ℕ} → OpenText n ts t r → S k ts → MadeTree P t × S k r
     walk_open (g.open-if-then-else c p q) s = three (walk_expression c (past refl s)) (λ s. walk_tree p (past refl s)) (λ s. walk_tree q (past refl s)) m.made-if

@@ -4,6 +4,7 @@ use Rattle.std.specs.Fmt.{decimal}
 use Rattle.csp_program.specs.declared.kinds.ValueKind.{ValueKind}
 use Rattle.csp_program.specs.declared.kinds.ValueKind.TheVariants as kind
 use Rattle.csp_program.specs.declared.programs.Content.{Content}
+use Rattle.dl_limits.specs.declared.TheConstants.{MOST_COMPONENTS, MOST_NETWORK_DEPTH, MOST_SETS, MOST_TERM_DEPTH, MOST_TERMS}
 use Rattle.network_trees.specs.declared.fault.LayoutFault.{LayoutFault}
 use Rattle.network_trees.specs.declared.fault.LayoutFault.TheVariants as network
 use Rattle.process_steps.specs.declared.component_fault.ComponentFault.{ComponentFault}
@@ -67,20 +68,20 @@ module _ (p : Content) where
   -- why the component with the number i has no normal table
   abbrev pub component_text : ℕ → ComponentFault → List ℕ
   component_text i (table.Value k) = value_text k (site.Component i)
-  component_text i table.TermCount = codes "10 component " ++ decimal i ++ codes " has more than 16384 terms"
-  component_text i table.TermDepth = codes "10 component " ++ decimal i ++ codes " has a term of depth over 800"
+  component_text i table.TermCount = codes "10 component " ++ decimal i ++ codes " has more than " ++ decimal MOST_TERMS ++ codes " terms"
+  component_text i table.TermDepth = codes "10 component " ++ decimal i ++ codes " has a term of depth over " ++ decimal MOST_TERM_DEPTH
   component_text i table.TermTotal = codes "10 component " ++ decimal i ++ codes " has terms that are too large"
   component_text i table.StepCount = codes "11 component " ++ decimal i ++ codes " has too many steps"
   component_text i table.Diverges = codes "12 component " ++ decimal i ++ codes " diverges"
-  component_text i table.SubsetLimit = codes "13 component " ++ decimal i ++ codes " has more than 2048 sets of terms"
+  component_text i table.SubsetLimit = codes "13 component " ++ decimal i ++ codes " has more than " ++ decimal MOST_SETS ++ codes " sets of terms"
   component_text i (table.Terminates trace) = codes "19 component " ++ decimal i ++ codes " can terminate after " ++ trace_text p trace
 
   abbrev pub network_text : LayoutFault → List ℕ
   network_text (network.Value k) = value_text k site.Network
   network_text (network.BadNesting first count e) = nesting_text first count e
   network_text network.EmptyNetwork = codes "15 the network has no components"
-  network_text network.ComponentLimit = codes "16 more than 512 components"
-  network_text network.NetworkDepth = codes "34 the network is nested deeper than 800"
+  network_text network.ComponentLimit = codes "16 more than " ++ decimal MOST_COMPONENTS ++ codes " components"
+  network_text network.NetworkDepth = codes "34 the network is nested deeper than " ++ decimal MOST_NETWORK_DEPTH
 
   -- why a program is refused
   abbrev pub refusal_text : Refusal → List ℕ

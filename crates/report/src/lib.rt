@@ -1,4 +1,8 @@
 //! What a command is answered, and the printed report of each answer.
+//!
+//! The status goes by the outer word of an answer, or of its verdict; so a run that is stuck is a verdict of its own, with the status of what is
+//! not proved. A refusal and a fault outside tell of which text they are (`Side`). An answer owns the program whose numbers its verdict speaks of,
+//! so events stay numbers up to the report.
 #![tactic(auto)]
 
 pub mod answer;

@@ -12,6 +12,7 @@ use crate::lines::{Part, one_line, push_numbered, push_text};
 use crate::printed::{kind_name, push_site, side_line, side_name};
 use csp_base::{Bytes, Event, NoMemory};
 use csp_program::{Content, ValueKind};
+use dl_limits::{MOST_COMPONENTS, MOST_NETWORK_DEPTH, MOST_SETS, MOST_TERM_DEPTH, MOST_TERMS};
 use network_trees::LayoutFault;
 use process_steps::ComponentFault;
 use script_names::ResolveFault;
@@ -167,6 +168,28 @@ fn push_between<'a>(
     )
 }
 
+// Adds, between two texts, that a component has more than so many.
+fn push_many<'a>(
+    report: &mut Bytes,
+    before: &'a [u8],
+    i: u32,
+    most: usize,
+    after: &'a [u8],
+) -> Result<(), NoMemory>
+    ensures { OnOk result (report.new ≡ report.old ++ (before.now ++ decimal i ++ codes " has more than " ++ decimal most ++ after.now)) }
+{
+    push_text(
+        report,
+        &[
+            Part::Text(before),
+            Part::Number(i),
+            Part::Text(b" has more than "),
+            Part::Count(most as u64),
+            Part::Text(after),
+        ],
+    )
+}
+
 // Adds why a component has no normal table.
 fn push_component_fault<'a>(
     report: &mut Bytes,
@@ -178,17 +201,16 @@ fn push_component_fault<'a>(
 {
     match fault {
         ComponentFault::Value { kind } => push_value(report, *kind, Site::Component(i)),
-        ComponentFault::TermCount => {
-            push_between(report, b"10 component ", i, b" has more than 16384 terms")
-        }
-        ComponentFault::TermDepth => {
-            push_between(
-                report,
-                b"10 component ",
-                i,
-                b" has a term of depth over 800",
-            )
-        }
+        ComponentFault::TermCount => push_many(report, b"10 component ", i, MOST_TERMS, b" terms"),
+        ComponentFault::TermDepth => push_text(
+            report,
+            &[
+                Part::Text(b"10 component "),
+                Part::Number(i),
+                Part::Text(b" has a term of depth over "),
+                Part::Number(MOST_TERM_DEPTH),
+            ],
+        ),
         ComponentFault::TermTotal => {
             push_between(
                 report,
@@ -201,12 +223,9 @@ fn push_component_fault<'a>(
             push_between(report, b"11 component ", i, b" has too many steps")
         }
         ComponentFault::Diverges => push_between(report, b"12 component ", i, b" diverges"),
-        ComponentFault::SubsetLimit => push_between(
-            report,
-            b"13 component ",
-            i,
-            b" has more than 2048 sets of terms",
-        ),
+        ComponentFault::SubsetLimit => {
+            push_many(report, b"13 component ", i, MOST_SETS, b" sets of terms")
+        }
         ComponentFault::Terminates { trace } => push_text(
             report,
             &[
@@ -235,9 +254,20 @@ fn push_network_fault(
             event,
         } => push_nesting(report, content, *first, *count, *event),
         LayoutFault::EmptyNetwork => report.extend_from_slice(b"15 the network has no components"),
-        LayoutFault::ComponentLimit => report.extend_from_slice(b"16 more than 512 components"),
+        LayoutFault::ComponentLimit => push_text(
+            report,
+            &[
+                Part::Text(b"16 more than "),
+                Part::Count(MOST_COMPONENTS as u64),
+                Part::Text(b" components"),
+            ],
+        ),
         LayoutFault::NetworkDepth => {
-            report.extend_from_slice(b"34 the network is nested deeper than 800")
+            push_numbered(
+                report,
+                b"34 the network is nested deeper than ",
+                MOST_NETWORK_DEPTH,
+            )
         }
     }
 }

@@ -13,6 +13,7 @@ use Rattle.csp_program.specs.InOrder.{AllClosed, IsClosedBody, body_free, body_i
 use Rattle.csp_program.specs.InOrder as order
 use Rattle.csp_program.specs.Lists.{all_true}
 use Rattle.csp_program.specs.Uses.{body_uses}
+use Rattle.csp_atoms.specs.declared.atom.Atom.{Atom}
 use Rattle.csp_program.specs.declared.expressions.Expr.{Expr}
 use Rattle.csp_program.specs.declared.programs.Body.{Body}
 use Rattle.csp_program.specs.declared.programs.Body.TheVariants as body
@@ -24,14 +25,13 @@ use Rattle.script_names.specs.declared.kinds.Class.TheVariants as class
 use Rattle.script_names.specs.declared.kinds.Entity.TheVariants as entity
 use Rattle.script_names.specs.declared.kinds.Kind.{Kind}
 use Rattle.script_names.specs.DataDepth.{IsShallow}
-use Rattle.script_names.specs.Declaring.{IsAnnotated, IsEventSet, channels_of_types}
+use Rattle.script_names.specs.Declaring.{Declares, IsAnnotated, IsEventSet, channels_of_types}
+use Rattle.script_names.specs.Declaring as d
 use Rattle.script_names.specs.Names.{Counts, Meanings, Name}
 use Rattle.script_names.specs.Scopes.{numbers_from, parameters}
 use Rattle.resolved_laws.proofs.Booleans.{and, two}
 use Rattle.resolved_laws.proofs.Declared.{Fits}
 use Rattle.resolved_laws.proofs.InTurn.{InTurn, Rises, each_once, joins, none}
-use Rattle.typed_laws.proofs.Puts.{Puts}
-use Rattle.typed_laws.proofs.Puts as puts
 use Rattle.resolved_laws.proofs.TypedExprs.{expr_sound, exprs_sound}
 use Rattle.resolved_laws.proofs.TypedProcs.{NetSound, leaf_sound, net_sound, proc_sound, stop_sound}
 use Rattle.resolved_laws.proofs.Within.{IsWithin, numbers_of}
@@ -109,19 +109,20 @@ module _ (m : Meanings) (ks : List Kind) (p whole : Content) (fits : Fits m ks p
 
   -- ---- annotations
 
-  component_of : (x : Name) (d k : ℕ) (b : Bool) → m x ≡ Some (entity.Definition d k) → slice_get ks d ≡ Some (record { class = class.Process; network = b })
+  component_of : (x : Name) (d k : ℕ) (b : Bool) → m x ≡ Some (entity.Definition d k)
+      → slice_get ks d ≡ Some (record { class = class.Process; network = b })
       → IsTrue (takes is_component k (slice_get p.defs d))
   component_of x d k true is kind = takes_component order.is_network network_component k (slice_get p.defs d) (fits.network x d k is kind)
   component_of x d k false is kind = takes_component is_process process_component k (slice_get p.defs d) (fits.process x d k is kind)
 
   -- the process of an annotation has as many parameters as it says
-  note_count : {x : Name} {d k : ℕ} → IsAnnotated m ks whole x d k → k ≡ param_count (slice_get p.defs d)
+  note_count : {x : Name} {d k : ℕ} → IsAnnotated m ks x d k → k ≡ param_count (slice_get p.defs d)
   note_count {x} {d} {k} h = takes_count is_component k (slice_get p.defs d) (component_of x d k h.network h.means h.process)
 
-  note_sound : {x : Name} {d k : ℕ} → IsAnnotated m ks whole x d k → IsTrue (note_fits p d)
+  note_sound : {x : Name} {d k : ℕ} → IsAnnotated m ks x d k → IsTrue (note_fits p d)
   note_sound {x} {d} {k} h = subst (λ i. IsTrue (takes is_component i (slice_get p.defs d))) (note_count h) (component_of x d k h.network h.means h.process)
 
-  set_sound : {x y : Name} {d a k : ℕ} → IsAnnotated m ks whole x d k → IsEventSet m ks whole y a k → IsTrue (set_fits p d a)
+  set_sound : {x y : Name} {d a k : ℕ} → IsAnnotated m ks x d k → IsEventSet m ks y a k → IsTrue (set_fits p d a)
   set_sound {x} {y} {d} {a} {k} h g = subst (λ i. IsTrue (takes is_datum i (slice_get p.defs a))) (note_count h) (fits.datum y a k g.means g.set)
 
   -- ---- declarations
@@ -139,9 +140,10 @@ module _ (m : Meanings) (ks : List Kind) (p whole : Content) (fits : Fits m ks p
   channels_sound [] es rest h g = g
   channels_sound (x ∷ xs) es rest h g = (record { order = h.order; closed = h.closed; once = h.once }, channels_sound xs es rest h g)
 
-  pub content_sound : {n : Counts} {decls : List Decl} {q : Content} → Puts m ks whole (IsShallow whole) n decls q → n.constants + length q.consts ≡ length p.consts → Sound n q
-  content_sound puts.nothing h = record { channels = tt; defs = tt; roles = refl; resources = refl; last = 0; root = leaf_sound m ks p fits (stop_sound m ks p fits) }
-  content_sound (puts.channels {xs = xs} {es = es} {p = q} g l) h =
+  pub content_sound : {HasSets : List Expr → List (List Atom) → Type 0} {n : Counts} {decls : List Decl} {q : Content} {all : List (List (List Atom))}
+      → Declares m ks whole HasSets n decls q all → n.constants + length q.consts ≡ length p.consts → Sound n q
+  content_sound d.nothing h = record { channels = tt; defs = tt; roles = refl; resources = refl; last = 0; root = leaf_sound m ks p fits (stop_sound m ks p fits) }
+  content_sound (d.channels {xs = xs} {es = es} {p = q} g found l) h =
       let w = exprs_sound m ks p fits g in let v = content_sound l h in record {
         channels = channels_sound xs es q.channels (record { order = w.order; closed = all_closed es w.free; once = each_once w.turn }) v.channels;
         defs = v.defs;
@@ -150,7 +152,7 @@ module _ (m : Meanings) (ks : List Kind) (p whole : Content) (fits : Fits m ks p
         last = v.last;
         root = v.root;
       }
-  content_sound {n} (puts.datatype {x = x} {cs = cs} {p = q} l) h =
+  content_sound {n} (d.datatype {x = x} {cs = cs} {p = q} l) h =
       let e : length (cs ++ q.consts) ≡ length cs + length q.consts = length-append cs q.consts in
       let e' : n.constants + (length cs + length q.consts) ≡ length p.consts = ap (λ i. n.constants + i) (sym e) ∙ h in
       let v = content_sound l (omega (arith, e')) in record {
@@ -169,7 +171,7 @@ module _ (m : Meanings) (ks : List Kind) (p whole : Content) (fits : Fits m ks p
         last = v.last;
         root = v.root;
       }
-  content_sound {n} (puts.nametype {k = k} {x = x} {e = e} g s l) h =
+  content_sound {n} (d.nametype {m = k} {x = x} {e = e} g s l) h =
       let w = expr_sound m ks p fits g in let v = content_sound l h in record {
         channels = v.channels;
         defs = (def_sound n.definitions x [] (body.Nametype e) k (and refl w.order) w.free w.turn (λ j t. s), v.defs);
@@ -178,7 +180,7 @@ module _ (m : Meanings) (ks : List Kind) (p whole : Content) (fits : Fits m ks p
         last = v.last;
         root = v.root;
       }
-  content_sound {n} (puts.data_definition {k = k} {x = x} {params = xs} {e = e} is g s l) h =
+  content_sound {n} (d.data_definition {m = k} {x = x} {params = xs} {e = e} ps is g s l) h =
       let w = expr_sound m ks p fits g in let v = content_sound l h in record {
         channels = v.channels;
         defs = (def_sound n.definitions x xs (body.Datum e) k w.order w.free w.turn (λ j t. s), v.defs);
@@ -187,7 +189,7 @@ module _ (m : Meanings) (ks : List Kind) (p whole : Content) (fits : Fits m ks p
         last = v.last;
         root = v.root;
       }
-  content_sound {n} (puts.process_definition {k = k} {x = x} {params = xs} {q = r} is g l) h =
+  content_sound {n} (d.process_definition {m = k} {x = x} {params = xs} {q = r} ps is g l) h =
       let w = proc_sound m ks p fits g in let v = content_sound l h in record {
         channels = v.channels;
         defs = (def_sound n.definitions x xs (body.Process r) k w.order w.free w.turn (λ j t. absurd (false≢true t)), v.defs);
@@ -196,7 +198,7 @@ module _ (m : Meanings) (ks : List Kind) (p whole : Content) (fits : Fits m ks p
         last = v.last;
         root = v.root;
       }
-  content_sound {n} (puts.network_definition {k = k} {x = x} {params = xs} {w = r} is g l) h =
+  content_sound {n} (d.network_definition {m = k} {x = x} {params = xs} {w = r} ps is g l) h =
       let w = net_sound m ks p fits g in let v = content_sound l h in record {
         channels = v.channels;
         defs = (def_sound n.definitions x xs (body.Network r) k w.order w.free w.turn (λ j t. absurd (false≢true t)), v.defs);
@@ -205,19 +207,19 @@ module _ (m : Meanings) (ks : List Kind) (p whole : Content) (fits : Fits m ks p
         last = v.last;
         root = v.root;
       }
-  content_sound (puts.assertion {k = k} g l) h =
+  content_sound (d.assertion {m = k} g l) h =
       let v = content_sound l h in
       record { channels = v.channels; defs = v.defs; roles = v.roles; resources = v.resources; last = k; root = net_sound m ks p fits g }
-  content_sound (puts.roles a b c d e l) h =
+  content_sound (d.roles a b c e f l) h =
       let v = content_sound l h in record {
         channels = v.channels;
         defs = v.defs;
-        roles = and (and (note_sound a) (and (set_sound a b) (and (set_sound a c) (and (set_sound a d) (set_sound a e))))) v.roles;
+        roles = and (and (note_sound a) (and (set_sound a b) (and (set_sound a c) (and (set_sound a e) (set_sound a f))))) v.roles;
         resources = v.resources;
         last = v.last;
         root = v.root;
       }
-  content_sound (puts.resource a b c l) h =
+  content_sound (d.resource a b c l) h =
       let v = content_sound l h in record {
         channels = v.channels;
         defs = v.defs;

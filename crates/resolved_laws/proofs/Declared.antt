@@ -23,7 +23,8 @@ fewer : (k left n j : ℕ) → k + left ≡ n → IsTrue (nat_eq j n) → IsTrue
 fewer k left n j e h = let i : j ≡ n = eqb-true j n h in grind arith
 
 -- a front of so many fields, and what it leaves
-pub at_most : (k left n : ℕ) (channel : Option Channel) → k + left ≡ n → IsTrue (with_fields (λ i. nat_eq i n) channel) → IsTrue (with_fields (nat_le k) channel)
+pub at_most : (k left n : ℕ) (channel : Option Channel) → k + left ≡ n → IsTrue (with_fields (λ i. nat_eq i n) channel)
+    → IsTrue (with_fields (nat_le k) channel)
 at_most k left n None e h = absurd (false≢true h)
 at_most k left n (Some channel) e h = fewer k left n (length channel.types) e h
 

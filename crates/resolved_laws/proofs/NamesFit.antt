@@ -6,6 +6,7 @@ use Rattle.std.proofs.lemmas.Bool.{eq-eqb, lt-ltb}
 use Rattle.std.proofs.lemmas.List.{length-append}
 use Rattle.csp_program.specs.InOrder.{is_datum, is_process, is_set_name, takes, with_fields}
 use Rattle.csp_program.specs.InOrder as order
+use Rattle.csp_atoms.specs.declared.atom.Atom.{Atom}
 use Rattle.csp_program.specs.declared.expressions.Expr.{Expr}
 use Rattle.csp_program.specs.declared.programs.Body.{Body}
 use Rattle.csp_program.specs.declared.programs.Body.TheVariants as body
@@ -19,7 +20,8 @@ use Rattle.script_names.specs.declared.kinds.Class.TheVariants as class
 use Rattle.script_names.specs.declared.kinds.Entity.{Entity}
 use Rattle.script_names.specs.declared.kinds.Entity.TheVariants as entity
 use Rattle.script_names.specs.declared.kinds.Kind.{Kind}
-use Rattle.script_names.specs.Declaring.{channels_of_types}
+use Rattle.script_names.specs.Declaring.{Declares, channels_of_types}
+use Rattle.script_names.specs.Declaring as d
 use Rattle.script_names.specs.Faults.{kind_class, kind_network}
 use Rattle.script_names.specs.Names.{Counts, Entities, Meanings, Name, channels_from, constants_from, counted, declared_from, meanings_of, none_yet, same_name}
 use Rattle.script_names.specs.Scopes.{numbers_from}
@@ -27,8 +29,6 @@ use Rattle.script_names.specs.Typing.{AreExprs, IsData, IsNetwork, IsProcess}
 use Rattle.script_names.specs.Typing as t
 use Rattle.resolved_laws.proofs.Booleans.{and}
 use Rattle.resolved_laws.proofs.Declared.{Fits}
-use Rattle.typed_laws.proofs.Puts.{Puts}
-use Rattle.typed_laws.proofs.Puts as puts
 
 -- the rest of a list stands in it from the place n on
 abbrev pub StandsFrom : {X : Type 0} → List X → ℕ → List X → Type 0
@@ -129,14 +129,15 @@ module _ (m : Meanings) (ks : List Kind) (p : Content) where
     network = λ g. h;
   }
 
-  module _ (whole : Content) (Low : ℕ → Type 0) where
-    entities_fit : {n : Counts} {decls : List Decl} {q : Content} → Puts m ks whole Low n decls q → HoldsFrom n q → AllFit (declared_from n decls)
-    entities_fit puts.nothing h = tt
-    entities_fit {n} (puts.channels {xs = xs} {types = types} {es = es} {decls = decls} {p = q} g l) h =
+  module _ (whole : Content) (HasSets : List Expr → List (List Atom) → Type 0) where
+    entities_fit : {n : Counts} {decls : List Decl} {q : Content} {all : List (List (List Atom))}
+        → Declares m ks whole HasSets n decls q all → HoldsFrom n q → AllFit (declared_from n decls)
+    entities_fit d.nothing h = tt
+    entities_fit {n} (d.channels {xs = xs} {types = types} {es = es} {decls = decls} {p = q} g found l) h =
         let w = channels_fit n.channels (length types) xs es q.channels (count_exprs g) h.channels in
         append_fit (channels_from n.channels (length types) xs) (declared_from (counted n (decl.Channel xs types)) decls) w.0
         (entities_fit l (record { channels = w.1; consts = h.consts; defs = h.defs }))
-    entities_fit {n} (puts.datatype {x = x} {cs = cs} {decls = decls} {p = q} l) h =
+    entities_fit {n} (d.datatype {x = x} {cs = cs} {decls = decls} {p = q} l) h =
         let def : Def = record { name = x; params = []; body = body.Datatype (numbers_from n.constants (length cs)) } in
         let e : length (cs ++ q.consts) ≡ length cs + length q.consts = length-append cs q.consts in
         let e' : n.constants + (length cs + length q.consts) ≡ length p.consts = ap (λ i. n.constants + i) (sym e) ∙ h.consts in
@@ -146,32 +147,32 @@ module _ (m : Meanings) (ks : List Kind) (p : Content) where
               (constants_fit n.constants cs (length q.consts) e')
               (entities_fit l (record { channels = h.channels; consts = e''; defs = stands_on p.defs n.definitions def q.defs h.defs })),
         )
-    entities_fit {n} (puts.nametype {x = x} {e = e} {p = q} g s l) h =
+    entities_fit {n} (d.nametype {x = x} {e = e} {p = q} g s l) h =
         let def : Def = record { name = x; params = []; body = body.Nametype e } in (
           takes_so is_set_name n.definitions 0 def (stands_here p.defs n.definitions def q.defs h.defs) refl refl,
           entities_fit l (record { channels = h.channels; consts = h.consts; defs = stands_on p.defs n.definitions def q.defs h.defs }),
         )
-    entities_fit {n} (puts.data_definition {x = x} {params = params} {e = e} {p = q} is g s l) h =
+    entities_fit {n} (d.data_definition {x = x} {params = params} {e = e} {p = q} ps is g s l) h =
         let def : Def = record { name = x; params = numbers_from 0 (length params); body = body.Datum e } in (
           datum_fits n.definitions (length params) is (takes_so is_datum n.definitions (length params) def
               (stands_here p.defs n.definitions def q.defs h.defs) refl (length_numbers 0 (length params))),
           entities_fit l (record { channels = h.channels; consts = h.consts; defs = stands_on p.defs n.definitions def q.defs h.defs }),
         )
-    entities_fit {n} (puts.process_definition {x = x} {params = params} {q = r} {p = q} is g l) h =
+    entities_fit {n} (d.process_definition {x = x} {params = params} {q = r} {p = q} ps is g l) h =
         let def : Def = record { name = x; params = numbers_from 0 (length params); body = body.Process r } in (
           process_fits n.definitions (length params) is (takes_so is_process n.definitions (length params) def
               (stands_here p.defs n.definitions def q.defs h.defs) refl (length_numbers 0 (length params))),
           entities_fit l (record { channels = h.channels; consts = h.consts; defs = stands_on p.defs n.definitions def q.defs h.defs }),
         )
-    entities_fit {n} (puts.network_definition {x = x} {params = params} {w = r} {p = q} is g l) h =
+    entities_fit {n} (d.network_definition {x = x} {params = params} {w = r} {p = q} ps is g l) h =
         let def : Def = record { name = x; params = numbers_from 0 (length params); body = body.Network r } in (
           network_fits n.definitions (length params) is (takes_so order.is_network n.definitions (length params) def
               (stands_here p.defs n.definitions def q.defs h.defs) refl (length_numbers 0 (length params))),
           entities_fit l (record { channels = h.channels; consts = h.consts; defs = stands_on p.defs n.definitions def q.defs h.defs }),
         )
-    entities_fit (puts.assertion g l) h = entities_fit l (record { channels = h.channels; consts = h.consts; defs = h.defs })
-    entities_fit (puts.roles a b c d e l) h = entities_fit l (record { channels = h.channels; consts = h.consts; defs = h.defs })
-    entities_fit (puts.resource a b c l) h = entities_fit l (record { channels = h.channels; consts = h.consts; defs = h.defs })
+    entities_fit (d.assertion g l) h = entities_fit l (record { channels = h.channels; consts = h.consts; defs = h.defs })
+    entities_fit (d.roles a b c e f l) h = entities_fit l (record { channels = h.channels; consts = h.consts; defs = h.defs })
+    entities_fit (d.resource a b c l) h = entities_fit l (record { channels = h.channels; consts = h.consts; defs = h.defs })
 
   abbrev Found : Option Entity → Type 0
   Found None = Unit {0}
@@ -185,11 +186,13 @@ module _ (m : Meanings) (ks : List Kind) (p : Content) where
   found test [] h = tt
   found test (e ∷ es) h = found_or (test e.0) e.1 (lookup test es) h.0 (found test es h.1)
 
-pub names_fit : (decls : List Decl) (ks : List Kind) (whole : Content) (Low : ℕ → Type 0) (p q : Content) → Puts (meanings_of decls) ks whole Low none_yet decls q
+pub names_fit : (decls : List Decl) (ks : List Kind) (whole : Content) (HasSets : List Expr → List (List Atom) → Type 0) (p q : Content)
+    (sets : List (List (List Atom)))
+    → Declares (meanings_of decls) ks whole HasSets none_yet decls q sets
     → HoldsFrom (meanings_of decls) ks p none_yet q → Fits (meanings_of decls) ks p
-names_fit decls ks whole Low p q l h =
+names_fit decls ks whole HasSets p q sets l h =
     let m = meanings_of decls in
-    let all = entities_fit m ks p whole Low l h in
+    let all = entities_fit m ks p whole HasSets l h in
     let at : (x : Name) (e : Entity) → m x ≡ Some e → EntityFits m ks p e =
     λ x e is. subst (Found m ks p) is (found m ks p (λ y. same_name x y) (declared_from none_yet decls) all) in record {
       channel = λ x c n is. at x (entity.Channel c n) is;

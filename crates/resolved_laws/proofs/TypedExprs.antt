@@ -98,7 +98,8 @@ module _ (m : Meanings) (ks : List Kind) (p : Content) (fits : Fits m ks p) wher
             (record { channel = c; fields = es }))) w.free;
         turn = subst (λ z. InTurn n z k) (sym (fold-roll-EventPart Bound Bound Bound expr_bound_of_layer gen_bound_of_layer part_bound_of_layer
             (record { channel = c; fields = es }))) w.turn;
-        leaves = subst (λ z. field_count (slice_get p.channels z.channel) - length z.fields ≡ left) (sym (out-roll-EventPart (record { channel = c; fields = es })))
+        leaves = subst (λ z. field_count (slice_get p.channels z.channel) - length z.fields ≡ left)
+            (sym (out-roll-EventPart (record { channel = c; fields = es })))
             (leaves (length es) left fields (slice_get p.channels c) e has);
       }
 

@@ -21,7 +21,9 @@ use Rattle.dl_limits.specs.declared.TheConstants.{MOST_DATA_DEPTH}
 use Rattle.script_names.specs.declared.kinds.Kind.{Kind}
 use Rattle.script_names.specs.Contents.{channels_of, plain_content}
 use Rattle.script_names.specs.DataDepth.{IsShallow}
+use Rattle.script_names.specs.Kinds.{AreKinds}
 use Rattle.script_names.specs.Names.{Meanings, Name, meanings_of, none_yet}
+use Rattle.script_names.specs.Told.{name_fault}
 use Rattle.resolved_laws.specs.Laws.{PlainIsInOrder}
 use Rattle.resolved_laws.proofs.Booleans.{and, two}
 use Rattle.resolved_laws.proofs.ContentSound.{ChannelSound, DefsSound, Sound, content_sound, nothing_free}
@@ -29,8 +31,11 @@ use Rattle.resolved_laws.proofs.Declared.{Fits}
 use Rattle.resolved_laws.proofs.InTurn.{each_once}
 use Rattle.resolved_laws.proofs.NamesFit.{ChannelsFrom, HoldsFrom, StandsFrom, names_fit}
 use Rattle.resolved_laws.proofs.NoCircle.{none_reaches_itself}
-use Rattle.typed_laws.proofs.Puts.{Puts}
-use Rattle.typed_laws.proofs.Typed.{plain_is_put}
+use Rattle.script_names.specs.Declaring.{Declares}
+use Rattle.typed_laws.proofs.Back.{any_sets, sets_for_any}
+use Rattle.typed_laws.proofs.Declared.{types_of}
+use Rattle.typed_laws.proofs.Programs.{puts}
+use Rattle.csp_atoms.specs.declared.atom.Atom.{Atom}
 use Rattle.csp_base.proofs.Booleans.{is_and}
 
 -- channels of the same types
@@ -53,7 +58,8 @@ same_itself (c ∷ cs) = (refl, same_itself cs)
 abbrev pub with_channels : Content → List Channel → List EventInfo → Content
 with_channels q cs es = record q { channels = cs; events = es }
 
-module _ (decls : List Decl) (ks : List Kind) (q : Content) (puts : Puts (meanings_of decls) ks q (IsShallow q) none_yet decls q) (cs : List Channel)
+module _ (decls : List Decl) (ks : List Kind) (q : Content) (all : List (List (List Atom)))
+    (declared : Declares (meanings_of decls) ks q (λ types sets. Unit {0}) none_yet decls q all) (cs : List Channel)
     (es : List EventInfo) (same : SameTypes cs q.channels) where
   abbrev m : Meanings
   m = meanings_of decls
@@ -78,10 +84,10 @@ module _ (decls : List Decl) (ks : List Kind) (q : Content) (puts : Puts (meanin
   holds = record { channels = here cs 0 cs q.channels same (from_first cs) refl; consts = omega arith; defs = from_first q.defs }
 
   fits : Fits m ks p
-  fits = names_fit decls ks q (IsShallow q) p q puts holds
+  fits = names_fit decls ks q (λ types sets. Unit {0}) p q all declared holds
 
   sound : Sound m ks p q fits none_yet q
-  sound = content_sound m ks p q fits puts (omega arith)
+  sound = content_sound m ks p q fits declared (omega arith)
 
   -- ---- channels
 
@@ -206,10 +212,17 @@ plain_first [] i c h g = absurd (cc)
 plain_first (d ∷ cs) zero c h g = let e : d ≡ c = cc in ap (λ (z : Channel). z.first) (sym e) ∙ h.1
 plain_first (d ∷ cs) (suc i) c h g = plain_first cs i c h.2 g
 
+-- the declarations of a faultless script put the plain content into the program, by the rules of typing
+pub plain_declares : (decls : List Decl) (ks : List Kind) → AreKinds decls ks → name_fault decls ks ≡ None
+    → Declares (meanings_of decls) ks (plain_content decls ks) (λ types sets. Unit {0}) none_yet decls (plain_content decls ks) (any_sets decls)
+plain_declares decls ks are none =
+    puts decls ks are none (λ types sets. Unit {0}) (any_sets decls) (sets_for_any (types_of (meanings_of decls) ks) decls)
+
 pub plain_is_in_order : PlainIsInOrder
 plain_is_in_order decls ks are none few =
     let cs = flat_map (channels_of (meanings_of decls) ks) decls in
     let plain : ArePlain cs = channels_plain (meanings_of decls) ks decls in
-    in_order decls ks (plain_content decls ks) (plain_is_put decls ks are none) cs [] (same_itself cs) (omega arith) few.channels few.consts few.defs
+    in_order decls ks (plain_content decls ks) (any_sets decls) (plain_declares decls ks are none) cs [] (same_itself cs) (omega arith) few.channels few.consts
+    few.defs
     (plain_sets (plain_content decls ks) cs plain)
     (inr (plain_lack cs plain, refl)) (λ i c g. plain_first cs i c plain g ∙ sym (no_events cs i plain))

@@ -1,7 +1,7 @@
 -- What declarations put into a program while its channels have no field sets, and the field sets of its channels: one rule for each declaration.
 -- `Declares n decls p sets` says that these declarations put p into the program, and that its channels have these field sets. Channels, constants
 -- and definitions were declared before them as often as n says. `whole` is what all declarations put into the program: in it types are evaluated
--- and uses expanded.
+-- and uses expanded. `HasSets types sets` says which field sets a channel of these types has.
 use Rattle.std.specs.Prelude.{◌≡◌, ℕ, Bool, false, Option, Some, None, Ok, List, [], ◌∷◌, ◌++◌, length, map, replicate, slice_get}
 use Rattle.csp_atoms.specs.declared.atom.Atom.{Atom}
 use Rattle.csp_base.specs.Lists.{EachOnce, StandsIn}
@@ -22,7 +22,6 @@ use Rattle.script_names.specs.declared.kinds.Class.TheVariants as class
 use Rattle.script_names.specs.declared.kinds.Entity.TheVariants as entity
 use Rattle.script_names.specs.declared.kinds.Kind.{Kind}
 use Rattle.script_names.specs.DataDepth.{IsShallow}
-use Rattle.script_names.specs.FieldSets.{field_sets}
 use Rattle.script_names.specs.Names.{Name, Meanings, Counts, counted}
 use Rattle.script_names.specs.Scopes.{numbers_from, parameters}
 use Rattle.script_names.specs.Typing.{AreExprs, IsData, IsExpr, IsNet, IsNetwork, IsProc, IsProcess, MayBind}
@@ -34,7 +33,7 @@ nothing_yet = record { events = []; channels = []; consts = []; defs = []; roles
 abbrev pub channels_of_types : List Name → List Expr → List Channel
 channels_of_types xs types = map (λ x. record { name = x; types = types; fields = None; first = 0 }) xs
 
-module _ (meanings : Meanings) (kinds : List Kind) (whole : Content) where
+module _ (meanings : Meanings) (kinds : List Kind) where
   -- the names of parameters: distinct, and none is a constant
   pub record AreParameters (xs : List Name) : Type 0 where
     pub once : EachOnce xs
@@ -51,10 +50,11 @@ module _ (meanings : Meanings) (kinds : List Kind) (whole : Content) where
     pub means : meanings x ≡ Some (entity.Definition d params)
     pub set : IsData meanings kinds d
 
+module _ (meanings : Meanings) (kinds : List Kind) (whole : Content) (HasSets : List Expr → List (List Atom) → Type 0) where
   pub data Declares : Counts → List Decl → Content → List (List (List Atom)) → Type 0 where
     nothing : {n : Counts} → Declares n [] nothing_yet []
     channels : {n : Counts} {m : ℕ} {xs : List Name} {types : List Tree} {es : List Expr} {sets : List (List Atom)} {decls : List Decl} {p : Content}
-        {all : List (List (List Atom))} → AreExprs meanings kinds [] 0 types es m → field_sets whole es ≡ Ok sets →
+        {all : List (List (List Atom))} → AreExprs meanings kinds [] 0 types es m → HasSets es sets →
         Declares (counted n (decl.Channel xs types)) decls p all →
         Declares n (decl.Channel xs types ∷ decls) (record p { channels = channels_of_types xs es ++ p.channels }) (replicate (length xs) sets ++ all)
     datatype : {n : Counts} {x : Name} {cs : List Name} {decls : List Decl} {p : Content} {all : List (List (List Atom))} →
@@ -67,18 +67,18 @@ module _ (meanings : Meanings) (kinds : List Kind) (whole : Content) where
         IsExpr meanings kinds [] 0 t e m → IsShallow whole n.definitions → Declares (counted n (decl.Nametype x t)) decls p all →
         Declares n (decl.Nametype x t ∷ decls) (record p { defs = record { name = x; params = []; body = body.Nametype e } ∷ p.defs }) all
     data_definition : {n : Counts} {m : ℕ} {x : Name} {params : List Name} {t : Tree} {e : Expr} {decls : List Decl} {p : Content}
-        {all : List (List (List Atom))} → AreParameters params → IsData meanings kinds n.definitions →
+        {all : List (List (List Atom))} → AreParameters meanings kinds params → IsData meanings kinds n.definitions →
         IsExpr meanings kinds (parameters 0 params) (length params) t e m → IsShallow whole n.definitions →
         Declares (counted n (decl.Define x params t)) decls p all →
         Declares n (decl.Define x params t ∷ decls)
         (record p { defs = record { name = x; params = numbers_from 0 (length params); body = body.Datum e } ∷ p.defs }) all
     process_definition : {n : Counts} {m : ℕ} {x : Name} {params : List Name} {t : Tree} {q : Proc} {decls : List Decl} {p : Content}
-        {all : List (List (List Atom))} → AreParameters params → IsProcess meanings kinds n.definitions →
+        {all : List (List (List Atom))} → AreParameters meanings kinds params → IsProcess meanings kinds n.definitions →
         IsProc meanings kinds (parameters 0 params) (length params) t q m → Declares (counted n (decl.Define x params t)) decls p all →
         Declares n (decl.Define x params t ∷ decls)
         (record p { defs = record { name = x; params = numbers_from 0 (length params); body = body.Process q } ∷ p.defs }) all
     network_definition : {n : Counts} {m : ℕ} {x : Name} {params : List Name} {t : Tree} {w : Net} {decls : List Decl} {p : Content}
-        {all : List (List (List Atom))} → AreParameters params → IsNetwork meanings kinds n.definitions →
+        {all : List (List (List Atom))} → AreParameters meanings kinds params → IsNetwork meanings kinds n.definitions →
         IsNet meanings kinds (parameters 0 params) (length params) t w m → Declares (counted n (decl.Define x params t)) decls p all →
         Declares n (decl.Define x params t ∷ decls)
         (record p { defs = record { name = x; params = numbers_from 0 (length params); body = body.Network w } ∷ p.defs }) all
@@ -86,9 +86,9 @@ module _ (meanings : Meanings) (kinds : List Kind) (whole : Content) where
     assertion : {n : Counts} {m : ℕ} {t : Tree} {w : Net} {decls : List Decl} {p : Content} {all : List (List (List Atom))} →
         IsNet meanings kinds [] 0 t w m → Declares n decls p all → Declares n (decl.Assert t ∷ decls) (record p { root = w }) all
     roles : {n : Counts} {names : RolesNames} {d a b c e k : ℕ} {decls : List Decl} {p : Content} {all : List (List (List Atom))} →
-        IsAnnotated names.process d k → IsEventSet names.creq a k → IsEventSet names.cack b k → IsEventSet names.sreq c k →
-        IsEventSet names.sack e k → Declares n decls p all →
+        IsAnnotated meanings kinds names.process d k → IsEventSet meanings kinds names.creq a k → IsEventSet meanings kinds names.cack b k → IsEventSet meanings kinds names.sreq c k →
+        IsEventSet meanings kinds names.sack e k → Declares n decls p all →
         Declares n (decl.Roles names ∷ decls) (record p { roles = record { process = d; creq = a; cack = b; sreq = c; sack = e } ∷ p.roles }) all
     resource : {n : Counts} {names : ResourceNames} {d a b k : ℕ} {decls : List Decl} {p : Content} {all : List (List (List Atom))} →
-        IsAnnotated names.process d k → IsEventSet names.acquire a k → IsEventSet names.release b k → Declares n decls p all →
+        IsAnnotated meanings kinds names.process d k → IsEventSet meanings kinds names.acquire a k → IsEventSet meanings kinds names.release b k → Declares n decls p all →
         Declares n (decl.Resource names ∷ decls) (record p { resources = record { process = d; acquire = a; release = b } ∷ p.resources }) all

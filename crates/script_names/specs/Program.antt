@@ -1,5 +1,5 @@
 -- The program of a script.
-use Rattle.std.specs.Prelude.{◌≡◌, ℕ, ◌+◌, ◌≤◌, Some, List, [], ◌∷◌, sum, map}
+use Rattle.std.specs.Prelude.{◌≡◌, ℕ, ◌+◌, ◌≤◌, Some, Ok, List, [], ◌∷◌, sum, map}
 use Rattle.dl_limits.specs.declared.TheConstants.{MOST_EVENTS}
 use Rattle.csp_atoms.specs.declared.atom.Atom.{Atom}
 use Rattle.csp_base.specs.Lists.{StandsIn}
@@ -13,6 +13,7 @@ use Rattle.csp_text.specs.declared.script.Script.{Script}
 use Rattle.csp_text.specs.declared.tree.Tree.{Tree}
 use Rattle.script_names.specs.declared.kinds.Kind.{Kind}
 use Rattle.script_names.specs.Declaring.{Declares}
+use Rattle.script_names.specs.FieldSets.{field_sets}
 use Rattle.script_names.specs.Kinds.{AreKinds}
 use Rattle.script_names.specs.Names.{meanings_of, none_yet}
 use Rattle.script_names.specs.Once.{AreOnce}
@@ -41,6 +42,6 @@ pub record IsProgram (script : Script) (p : Content) : Type 0 where
   pub once : AreOnce script.decls
   pub plain : Content
   pub sets : List (List (List Atom))
-  pub declared : Declares (meanings_of script.decls) kinds plain none_yet script.decls plain sets
+  pub declared : Declares (meanings_of script.decls) kinds plain (λ types sets. field_sets plain types ≡ Ok sets) none_yet script.decls plain sets
   pub few : all_events sets ≤ MOST_EVENTS
   pub is : p ≡ with_events plain (with_sets 0 plain.channels sets)

@@ -1,4 +1,7 @@
 //! The printed text of a script: one declaration a line, one space between tokens, and parentheses where an operand is no atom.
+//!
+//! What is printed is what the tree holds: comments, skipped assertions and the model of an assertion leave no trace. An operand of depth d opens
+//! at most 2d brackets, so printing keeps within the limits.
 #![tactic(auto)]
 
 mod lines;

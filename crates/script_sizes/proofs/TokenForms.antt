@@ -1,5 +1,5 @@
 -- How many binding tokens each form of a tree has.
-use Rattle.std.proofs.Common.{◌≡◌, ℕ, ◌+◌, Option, Some, None, List, [], ◌∷◌, map, refl, ap, sym, ◌∙◌}
+use Rattle.std.proofs.Common.{◌≡◌, ℕ, ◌+◌, Option, Some, None, List, map, ap, sym, ◌∙◌, arith}
 use Rattle.csp_base.specs.declared.operators.BinOp.{BinOp}
 use Rattle.csp_base.specs.declared.operators.SetOp.{SetOp}
 use Rattle.csp_text.specs.declared.tree.FieldTree.{FieldTree}
@@ -13,28 +13,7 @@ use Rattle.csp_text.specs.declared.tree.GenTree.TheVariants as generator
 use Rattle.csp_text.specs.declared.tree.PartTree.{PartTree}
 use Rattle.csp_text.specs.declared.tree.Tree.{Tree}
 use Rattle.csp_text.specs.declared.tree.Tree.TheVariants as tree
-use Rattle.script_sizes.specs.BindingTokens.{total_of_pairs, tokens, field_tokens, set_tokens, gen_tokens, event_tokens, part_tokens, tokens_of_layer, field_tokens_of_layer, gen_tokens_of_layer, event_tokens_of_layer, part_tokens_of_layer, all_tokens, fields_tokens, gens_tokens, parts_tokens, pairs_tokens}
-use Rattle.csp_base.specs.Lists.{total}
-
-pub all_are : (ts : List Tree) → total (map tokens ts) ≡ all_tokens ts
-all_are [] = refl
-all_are (t ∷ ts) = λ i. tokens t + all_are ts i
-
-pub fields_are : (fs : List FieldTree) → total (map field_tokens fs) ≡ fields_tokens fs
-fields_are [] = refl
-fields_are (f ∷ fs) = λ i. field_tokens f + fields_are fs i
-
-pub gens_are : (gs : List GenTree) → total (map gen_tokens gs) ≡ gens_tokens gs
-gens_are [] = refl
-gens_are (g ∷ gs) = λ i. gen_tokens g + gens_are gs i
-
-pub parts_are : (ps : List PartTree) → total (map part_tokens ps) ≡ parts_tokens ps
-parts_are [] = refl
-parts_are (p ∷ ps) = λ i. part_tokens p + parts_are ps i
-
-pub pairs_are : (ps : List (PartTree × PartTree)) → total_of_pairs (map (λ p. (part_tokens p.0, part_tokens p.1)) ps) ≡ pairs_tokens ps
-pairs_are [] = refl
-pairs_are (p ∷ ps) = λ i. part_tokens p.0 + part_tokens p.1 + pairs_are ps i
+use Rattle.script_sizes.specs.BindingTokens.{tokens, field_tokens, set_tokens, gen_tokens, event_tokens, part_tokens, tokens_of_layer, field_tokens_of_layer, gen_tokens_of_layer, event_tokens_of_layer, part_tokens_of_layer, all_tokens, fields_tokens, gens_tokens, parts_tokens, pairs_tokens}
 
 pub tree_counts : (d : Tree-F FieldTree GenTree Tree EventTree PartTree) → tokens (roll-Tree d)
     ≡ tokens_of_layer (map-Tree FieldTree GenTree Tree EventTree PartTree ℕ ℕ ℕ ℕ ℕ field_tokens gen_tokens tokens event_tokens part_tokens d)
@@ -61,11 +40,16 @@ pub part_counts : (d : PartTree-F FieldTree GenTree Tree EventTree PartTree) →
 unfolding tokens field_tokens gen_tokens event_tokens part_tokens
 part_counts d = fold-roll-PartTree ℕ ℕ ℕ ℕ ℕ field_tokens_of_layer gen_tokens_of_layer tokens_of_layer event_tokens_of_layer part_tokens_of_layer d
 
+-- the same where it is known what tree, field or generator the layer makes
+counts : (d : Tree-F FieldTree GenTree Tree EventTree PartTree) {t : Tree} → roll-Tree d ≡ t → tokens t
+    ≡ tokens_of_layer (map-Tree FieldTree GenTree Tree EventTree PartTree ℕ ℕ ℕ ℕ ℕ field_tokens gen_tokens tokens event_tokens part_tokens d)
+counts d e = ap tokens (sym e) ∙ tree_counts d
+
 pub event_tokens-is : (e : EventTree) → event_tokens e ≡ fields_tokens (out-EventTree e).fields
-event_tokens-is e = ap event_tokens (sym (roll-out-EventTree e)) ∙ event_counts (out-EventTree e) ∙ fields_are (out-EventTree e).fields
+event_tokens-is e = ap event_tokens (sym (roll-out-EventTree e)) ∙ event_counts (out-EventTree e)
 
 pub part_tokens-is : (p : PartTree) → part_tokens p ≡ all_tokens (out-PartTree p).fields
-part_tokens-is p = ap part_tokens (sym (roll-out-PartTree p)) ∙ part_counts (out-PartTree p) ∙ all_are (out-PartTree p).fields
+part_tokens-is p = ap part_tokens (sym (roll-out-PartTree p)) ∙ part_counts (out-PartTree p)
 
 pub field_tokens-Dot : (a : Tree) → field_tokens (field.Dot a) ≡ tokens a
 field_tokens-Dot a = ap field_tokens (sym (field.rolls-Dot a)) ∙ field_counts (FieldTree-F.«FieldTree::Dot» a)
@@ -84,95 +68,89 @@ pub gen_tokens-Cond : (c : Tree) → gen_tokens (generator.Cond c) ≡ tokens c
 gen_tokens-Cond c = ap gen_tokens (sym (generator.rolls-Cond c)) ∙ gen_counts (GenTree-F.Cond c)
 
 pub tokens-Num : (k : ℕ) → tokens (tree.Num k) ≡ 0
-tokens-Num k = ap tokens (sym (tree.rolls-Num k)) ∙ tree_counts (Tree-F.Num k)
+tokens-Num k = counts _ (tree.rolls-Num k)
 
 pub tokens-True : tokens tree.True ≡ 0
-tokens-True = ap tokens (sym tree.rolls-True) ∙ tree_counts Tree-F.True
+tokens-True = counts _ tree.rolls-True
 
 pub tokens-False : tokens tree.False ≡ 0
-tokens-False = ap tokens (sym tree.rolls-False) ∙ tree_counts Tree-F.False
+tokens-False = counts _ tree.rolls-False
 
 pub tokens-Name : (x : List ℕ) → tokens (tree.Name x) ≡ 0
-tokens-Name x = ap tokens (sym (tree.rolls-Name x)) ∙ tree_counts (Tree-F.Name x)
+tokens-Name x = counts _ (tree.rolls-Name x)
 
 pub tokens-Call : (f : List ℕ) (args : List Tree) → tokens (tree.Call f args) ≡ all_tokens args
-tokens-Call f args = ap tokens (sym (tree.rolls-Call f args)) ∙ tree_counts (Tree-F.Call f args) ∙ (λ i. all_are args i)
+tokens-Call f args = counts _ (tree.rolls-Call f args)
 
 pub tokens-Dot : (c : List ℕ) (fields : List Tree) → tokens (tree.Dot c fields) ≡ all_tokens fields
-tokens-Dot c fields = ap tokens (sym (tree.rolls-Dot c fields)) ∙ tree_counts (Tree-F.«Tree::Dot» c fields) ∙ (λ i. all_are fields i)
+tokens-Dot c fields = counts _ (tree.rolls-Dot c fields)
 
 pub tokens-Neg : (a : Tree) → tokens (tree.Neg a) ≡ tokens a
-tokens-Neg a = ap tokens (sym (tree.rolls-Neg a)) ∙ tree_counts (Tree-F.Neg a)
+tokens-Neg a = counts _ (tree.rolls-Neg a)
 
 pub tokens-Not : (a : Tree) → tokens (tree.Not a) ≡ tokens a
-tokens-Not a = ap tokens (sym (tree.rolls-Not a)) ∙ tree_counts (Tree-F.Not a)
+tokens-Not a = counts _ (tree.rolls-Not a)
 
 pub tokens-Binary : (op : BinOp) (a : Tree) (b : Tree) → tokens (tree.Binary op a b) ≡ tokens a + tokens b
-tokens-Binary op a b = ap tokens (sym (tree.rolls-Binary op a b)) ∙ tree_counts (Tree-F.Binary op a b)
+tokens-Binary op a b = counts _ (tree.rolls-Binary op a b)
 
 pub tokens-If : (c : Tree) (a : Tree) (b : Tree) → tokens (tree.If c a b) ≡ tokens c + tokens a + tokens b
-tokens-If c a b = ap tokens (sym (tree.rolls-If c a b)) ∙ tree_counts (Tree-F.If c a b)
+tokens-If c a b = omega (arith, counts _ (tree.rolls-If c a b))
 
 pub tokens-Display : (items : List Tree) → tokens (tree.Display items) ≡ all_tokens items
-tokens-Display items = ap tokens (sym (tree.rolls-Display items)) ∙ tree_counts (Tree-F.Display items) ∙ (λ i. all_are items i)
+tokens-Display items = counts _ (tree.rolls-Display items)
 
 pub tokens-Range : (a : Tree) (b : Tree) → tokens (tree.Range a b) ≡ tokens a + tokens b
-tokens-Range a b = ap tokens (sym (tree.rolls-Range a b)) ∙ tree_counts (Tree-F.Range a b)
+tokens-Range a b = counts _ (tree.rolls-Range a b)
 
 pub tokens-Comp : (items : List Tree) (gens : List GenTree) → tokens (tree.Comp items gens) ≡ all_tokens items + gens_tokens gens
-tokens-Comp items gens = ap tokens (sym (tree.rolls-Comp items gens)) ∙ tree_counts (Tree-F.Comp items gens) ∙ (λ i. all_are items i + gens_are gens i)
+tokens-Comp items gens = counts _ (tree.rolls-Comp items gens)
 
 pub tokens-Product : (fronts : List PartTree) (gens : List GenTree) → tokens (tree.Product fronts gens) ≡ parts_tokens fronts + gens_tokens gens
-tokens-Product fronts gens =
-    ap tokens (sym (tree.rolls-Product fronts gens))
-    ∙ tree_counts (Tree-F.Product fronts gens)
-    ∙ (λ i. parts_are fronts i + gens_are gens i)
+tokens-Product fronts gens = counts _ (tree.rolls-Product fronts gens)
 
 pub tokens-SetOp : (op : SetOp) (a : Tree) (b : Tree) → tokens (tree.SetOp op a b) ≡ tokens a + tokens b
-tokens-SetOp op a b = ap tokens (sym (tree.rolls-SetOp op a b)) ∙ tree_counts (Tree-F.SetOp op a b)
+tokens-SetOp op a b = counts _ (tree.rolls-SetOp op a b)
 
 pub tokens-Stop : tokens tree.Stop ≡ 0
-tokens-Stop = ap tokens (sym tree.rolls-Stop) ∙ tree_counts Tree-F.Stop
+tokens-Stop = counts _ tree.rolls-Stop
 
 pub tokens-Skip : tokens tree.Skip ≡ 0
-tokens-Skip = ap tokens (sym tree.rolls-Skip) ∙ tree_counts Tree-F.Skip
+tokens-Skip = counts _ tree.rolls-Skip
 
 pub tokens-Prefix : (event : EventTree) (p : Tree) → tokens (tree.Prefix event p) ≡ fields_tokens (out-EventTree event).fields + tokens p
-tokens-Prefix event p = ap tokens (sym (tree.rolls-Prefix event p)) ∙ tree_counts (Tree-F.Prefix event p) ∙ (λ i. event_tokens-is event i + tokens p)
+tokens-Prefix event p = counts _ (tree.rolls-Prefix event p) ∙ (λ i. event_tokens-is event i + tokens p)
 
 pub tokens-Guard : (c : Tree) (p : Tree) → tokens (tree.Guard c p) ≡ tokens c + tokens p
-tokens-Guard c p = ap tokens (sym (tree.rolls-Guard c p)) ∙ tree_counts (Tree-F.Guard c p)
+tokens-Guard c p = counts _ (tree.rolls-Guard c p)
 
 pub tokens-External : (ps : List Tree) → tokens (tree.External ps) ≡ all_tokens ps
-tokens-External ps = ap tokens (sym (tree.rolls-External ps)) ∙ tree_counts (Tree-F.External ps) ∙ (λ i. all_are ps i)
+tokens-External ps = counts _ (tree.rolls-External ps)
 
 pub tokens-Internal : (ps : List Tree) → tokens (tree.Internal ps) ≡ all_tokens ps
-tokens-Internal ps = ap tokens (sym (tree.rolls-Internal ps)) ∙ tree_counts (Tree-F.Internal ps) ∙ (λ i. all_are ps i)
+tokens-Internal ps = counts _ (tree.rolls-Internal ps)
 
 pub tokens-EachExternal : (x : List ℕ) (s : Tree) (p : Tree) → tokens (tree.EachExternal x s p) ≡ 1 + tokens s + tokens p
-tokens-EachExternal x s p = ap tokens (sym (tree.rolls-EachExternal x s p)) ∙ tree_counts (Tree-F.EachExternal x s p)
+tokens-EachExternal x s p = counts _ (tree.rolls-EachExternal x s p)
 
 pub tokens-EachInternal : (x : List ℕ) (s : Tree) (p : Tree) → tokens (tree.EachInternal x s p) ≡ 1 + tokens s + tokens p
-tokens-EachInternal x s p = ap tokens (sym (tree.rolls-EachInternal x s p)) ∙ tree_counts (Tree-F.EachInternal x s p)
+tokens-EachInternal x s p = counts _ (tree.rolls-EachInternal x s p)
 
 pub tokens-Parallel : (p : Tree) (a : Tree) (b : Tree) (q : Tree) → tokens (tree.Parallel p a b q) ≡ tokens p + tokens a + tokens b + tokens q
-tokens-Parallel p a b q = ap tokens (sym (tree.rolls-Parallel p a b q)) ∙ tree_counts (Tree-F.Parallel p a b q)
+tokens-Parallel p a b q = omega (arith, counts _ (tree.rolls-Parallel p a b q))
 
 pub tokens-EachParallel : (x : List ℕ) (s : Tree) (a : Tree) (p : Tree) → tokens (tree.EachParallel x s a p) ≡ 1 + tokens s + tokens a + tokens p
-tokens-EachParallel x s a p = ap tokens (sym (tree.rolls-EachParallel x s a p)) ∙ tree_counts (Tree-F.EachParallel x s a p)
+tokens-EachParallel x s a p = omega (arith, counts _ (tree.rolls-EachParallel x s a p))
 
 pub tokens-Seq : (p : Tree) (q : Tree) → tokens (tree.Seq p q) ≡ tokens p + tokens q
-tokens-Seq p q = ap tokens (sym (tree.rolls-Seq p q)) ∙ tree_counts (Tree-F.Seq p q)
+tokens-Seq p q = counts _ (tree.rolls-Seq p q)
 
 pub tokens-Hide : (p : Tree) (s : Tree) → tokens (tree.Hide p s) ≡ tokens p + tokens s
-tokens-Hide p s = ap tokens (sym (tree.rolls-Hide p s)) ∙ tree_counts (Tree-F.Hide p s)
+tokens-Hide p s = counts _ (tree.rolls-Hide p s)
 
 pub tokens-Rename : (p : Tree) (fronts : List (PartTree × PartTree)) (gens : List GenTree)
     → tokens (tree.Rename p fronts gens) ≡ tokens p + pairs_tokens fronts + gens_tokens gens
-tokens-Rename p fronts gens =
-    ap tokens (sym (tree.rolls-Rename p fronts gens))
-    ∙ tree_counts (Tree-F.Rename p fronts gens)
-    ∙ (λ i. tokens p + pairs_are fronts i + gens_are gens i)
+tokens-Rename p fronts gens = omega (arith, counts _ (tree.rolls-Rename p fronts gens))
 
 pub ruleset part_tokens_forms = (part_tokens-is)
 

@@ -1,4 +1,6 @@
 //! The values that the steps of processes need, computed: conditions, sets, arguments, heads of prefixes and renamings.
+//!
+//! A renaming is read binding by binding: the old side first, then all values of the new side, then each new event.
 #![tactic(auto)]
 
 pub mod heads;

@@ -12,7 +12,6 @@ use Rattle.csp_text.specs.declared.tree.PartTree.{PartTree}
 use Rattle.csp_text.specs.declared.tree.Tree.{Tree}
 use Rattle.csp_text.specs.declared.tree.FieldTree.TheVariants as field
 use Rattle.csp_text.specs.declared.tree.Tree.TheVariants as tree
-use Rattle.csp_text.proofs.DepthLemmas.{rename_depth}
 use Rattle.csp_grammar.specs.Grammar.{event_tree}
 use Rattle.csp_grammar.specs.Reader.{and_then, with_first}
 use Rattle.tree_reading.proofs.NodeDepths.{depth-event, of_field, of_tree}
@@ -23,10 +22,15 @@ pub of_pairs : (pairs : List (PartTree × PartTree)) → greatest (map (λ pair.
 of_pairs [] = refl
 of_pairs (pair ∷ pairs) = ap (max (max (part_depth pair.0) (part_depth pair.1))) (of_pairs pairs)
 
+-- one more than the deepest of three
+pub one_more_than_three : (p q g p' q' g' rest all r whole : ℕ) → p' ≡ capped p → q' ≡ capped q → g' ≡ capped g → rest ≡ max q' g' → all ≡ max p' rest
+    → r ≡ capped (all + 1) → whole ≡ 1 + max p (max q g) → r ≡ capped whole
+one_more_than_three p q g p' q' g' rest all r whole p_is q_is g_is rest_is all_is r_is whole_is = omega arith
+
 -- a renaming
 pub of_renaming : (p : Tree) (pairs : List (PartTree × PartTree)) (gens : List GenTree) →
     tree_depth (tree.Rename p pairs gens) ≡ 1 + max (tree_depth p) (max (greatest (map (λ pair. max (part_depth pair.0) (part_depth pair.1)) pairs)) (greatest (map gen_depth gens)))
-of_renaming p pairs gens = rename_depth p pairs gens ∙ ap (λ n. 1 + max (tree_depth p) (max n (greatest (map gen_depth gens)))) (sym (of_pairs pairs))
+of_renaming p pairs gens = of_tree _ (tree.rolls-Rename p pairs gens) ∙ ap (λ n. 1 + max (tree_depth p) (max n (greatest (map gen_depth gens)))) (sym (of_pairs pairs))
 
 -- a prefix
 pub of_prefix : (c : List ℕ) (fields : List FieldTree) (p : Tree) → tree_depth (tree.Prefix (event_tree c fields) p) ≡ 1 + max (greatest (map field_depth fields)) (tree_depth p)
@@ -35,12 +39,6 @@ of_prefix c fields p = of_tree _ (tree.rolls-Prefix (event_tree c fields) p) ∙
 -- an input with its set
 pub of_input : (x : List ℕ) (s : Tree) → field_depth (field.Input x (Some s)) ≡ tree_depth s
 of_input x s = of_field _ (field.rolls-Input x (Some s))
-
--- the one item of a list is as deep as the list
-pub of_only : (items rest : List Tree) (last : Tree) (depth : ℕ) → depth ≡ capped (greatest (map tree_depth items)) → items ≡ rest ++ last ∷ [] → rest ≡ [] → depth ≡ capped (tree_depth last)
-of_only items rest last depth e is none =
-    let one : greatest (map tree_depth items) ≡ max (tree_depth last) 0 = ap (λ xs. greatest (map tree_depth xs)) (is ∙ ap (λ xs. xs ++ last ∷ []) none) in
-    omega arith
 
 same : {A : Type 0} {a b : A} → Some a ≡ Some b → a ≡ b
 same e = cc

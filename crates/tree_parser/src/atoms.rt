@@ -2,7 +2,7 @@
 
 ghost use Rattle.std.specs.Prelude.{◌≤◌, ◌<◌, ◌+◌, ◌*◌, length, IfOk};
 ghost use Rattle.tree_reading.specs.Limited.{read_atom_rest, read_call, read_comprehension, read_filled, read_parentheses, read_product, read_range, read_set, read_set_operator};
-ghost use Rattle.tree_parser.specs.Reads.{Reads};
+ghost use Rattle.tree_parser.specs.Reads.{Reads, part_read};
 
 use crate::expected::expect_only;
 use crate::expressions::expression;
@@ -19,8 +19,13 @@ use tree_reading::look::{AtomStart, atom_start, expect, skip};
 use tree_reading::read::{Binding, Read, Reading};
 
 // A leaf, which is read.
-fn leaf<'t>(alloc: Global, limits: Limits, tree: Tree, tokens: &'t [Token]) -> Reading<'t, DeepTree>
-    ensures reads { Reads result (λ r. (r.part, r.rest.now)) 0 (λ L. read_atom_rest L limits (AtomStart.Leaf tree) tokens.now) }
+fn leaf<'t>(
+    alloc: Global,
+    limits: Limits,
+    tree: Deep<Tree>,
+    tokens: &'t [Token],
+) -> Reading<'t, DeepTree>
+    ensures reads { Reads result part_read 0 (λ L. read_atom_rest L limits (AtomStart.Leaf tree) tokens.now) }
     ensures shorter { IfOk result (λ r. length r.rest.now ≤ length tokens.now) }
 {
     let part = nodes::leaf(alloc, tree)?;
@@ -31,7 +36,7 @@ fn leaf<'t>(alloc: Global, limits: Limits, tree: Tree, tokens: &'t [Token]) -> R
 // What stands behind the parenthesis of a call.
 #[cycle(reading)]
 fn call<'t>(alloc: Global, limits: Limits, name: Name, tokens: &'t [Token]) -> Reading<'t, DeepTree>
-    ensures reads { Reads result (λ r. (r.part, r.rest.now)) (8 * length tokens.now + 3) (λ L. read_call L limits name tokens.now) }
+    ensures reads { Reads result part_read (8 * length tokens.now + 3) (λ L. read_call L limits name tokens.now) }
     ensures shorter { IfOk result (λ r. length r.rest.now < length tokens.now) }
 {
     let found = items(alloc, limits, tokens)?;
@@ -48,7 +53,7 @@ fn set_operator<'t>(
     op: SetOp,
     tokens: &'t [Token],
 ) -> Reading<'t, DeepTree>
-    ensures reads { Reads result (λ r. (r.part, r.rest.now)) (8 * length tokens.now) (λ L. read_set_operator L limits op tokens.now) }
+    ensures reads { Reads result part_read (8 * length tokens.now) (λ L. read_set_operator L limits op tokens.now) }
     ensures shorter { IfOk result (λ r. length r.rest.now < length tokens.now) }
 {
     let opened = expect(tokens, Symbol::OpenParen)?;
@@ -69,7 +74,8 @@ fn range<'t>(
     items: Deep<Items<Tree>>,
     tokens: &'t [Token],
 ) -> Reading<'t, DeepTree>
-    ensures reads { Reads result (λ r. (r.part, r.rest.now)) (8 * length tokens.now + 2) (λ L. read_range L limits binding items tokens.now) }
+    ensures reads { Reads result part_read (8 * length tokens.now + 2)
+        (λ L. read_range L limits binding items tokens.now) }
     ensures shorter { IfOk result (λ r. length r.rest.now < length tokens.now) }
 {
     binding.expect(Binding::Sum, tokens)?;
@@ -88,7 +94,8 @@ fn comprehension<'t>(
     items: Deep<Items<Tree>>,
     tokens: &'t [Token],
 ) -> Reading<'t, DeepTree>
-    ensures reads { Reads result (λ r. (r.part, r.rest.now)) (8 * length tokens.now + 3) (λ L. read_comprehension L limits items tokens.now) }
+    ensures reads { Reads result part_read (8 * length tokens.now + 3)
+        (λ L. read_comprehension L limits items tokens.now) }
     ensures shorter { IfOk result (λ r. length r.rest.now < length tokens.now) }
 {
     let found = gens(alloc, limits, tokens)?;
@@ -100,7 +107,7 @@ fn comprehension<'t>(
 // What stands behind the brace of a set with items.
 #[cycle(reading)]
 fn filled<'t>(alloc: Global, limits: Limits, tokens: &'t [Token]) -> Reading<'t, DeepTree>
-    ensures reads { Reads result (λ r. (r.part, r.rest.now)) (8 * length tokens.now + 3) (λ L. read_filled L limits tokens.now) }
+    ensures reads { Reads result part_read (8 * length tokens.now + 3) (λ L. read_filled L limits tokens.now) }
     ensures shorter { IfOk result (λ r. length r.rest.now < length tokens.now) }
 {
     let found = items(alloc, limits, tokens)?;
@@ -118,7 +125,7 @@ fn filled<'t>(alloc: Global, limits: Limits, tokens: &'t [Token]) -> Reading<'t,
 // What stands behind the brace of a set.
 #[cycle(reading)]
 fn set<'t>(alloc: Global, limits: Limits, tokens: &'t [Token]) -> Reading<'t, DeepTree>
-    ensures reads { Reads result (λ r. (r.part, r.rest.now)) (8 * length tokens.now + 3) (λ L. read_set L limits tokens.now) }
+    ensures reads { Reads result part_read (8 * length tokens.now + 3) (λ L. read_set L limits tokens.now) }
     ensures shorter { IfOk result (λ r. length r.rest.now < length tokens.now) }
 {
     match skip(tokens, Symbol::CloseBrace) {
@@ -133,7 +140,7 @@ fn set<'t>(alloc: Global, limits: Limits, tokens: &'t [Token]) -> Reading<'t, De
 // What stands behind the bracket of a production.
 #[cycle(reading)]
 fn product<'t>(alloc: Global, limits: Limits, tokens: &'t [Token]) -> Reading<'t, DeepTree>
-    ensures reads { Reads result (λ r. (r.part, r.rest.now)) (8 * length tokens.now + 1) (λ L. read_product L limits tokens.now) }
+    ensures reads { Reads result part_read (8 * length tokens.now + 1) (λ L. read_product L limits tokens.now) }
     ensures shorter { IfOk result (λ r. length r.rest.now < length tokens.now) }
 {
     let found = parts(alloc, limits, tokens)?;
@@ -146,7 +153,7 @@ fn product<'t>(alloc: Global, limits: Limits, tokens: &'t [Token]) -> Reading<'t
 // The tree in parentheses, behind the first of them.
 #[cycle(reading)]
 fn parentheses<'t>(alloc: Global, limits: Limits, tokens: &'t [Token]) -> Reading<'t, DeepTree>
-    ensures reads { Reads result (λ r. (r.part, r.rest.now)) (8 * length tokens.now + 5) (λ L. read_parentheses L limits tokens.now) }
+    ensures reads { Reads result part_read (8 * length tokens.now + 5) (λ L. read_parentheses L limits tokens.now) }
     ensures shorter { IfOk result (λ r. length r.rest.now < length tokens.now) }
 {
     let inner = tree(alloc, limits, tokens)?;
@@ -165,7 +172,7 @@ fn atom_rest<'t>(
     start: AtomStart,
     tokens: &'t [Token],
 ) -> Reading<'t, DeepTree>
-    ensures reads { Reads result (λ r. (r.part, r.rest.now)) (8 * length tokens.now + 5) (λ L. read_atom_rest L limits start tokens.now) }
+    ensures reads { Reads result part_read (8 * length tokens.now + 5) (λ L. read_atom_rest L limits start tokens.now) }
     ensures shorter { IfOk result (λ r. length r.rest.now ≤ length tokens.now) }
 {
     match start {
@@ -197,7 +204,7 @@ fn atom_rest<'t>(
 #[cycle(reading)]
 #[tactic(auto, using(crate::proofs::Counted::atom_counted))]
 pub fn atom<'t>(alloc: Global, limits: Limits, tokens: &'t [Token]) -> Reading<'t, DeepTree>
-    ensures reads { Reads result (λ r. (r.part, r.rest.now)) (8 * length tokens.now + 1) (λ L. L.atom limits tokens.now) }
+    ensures reads { Reads result part_read (8 * length tokens.now + 1) (λ L. L.atom limits tokens.now) }
     ensures shorter { IfOk result (λ r. length r.rest.now < length tokens.now) }
 {
     let (start, rest) = atom_start(alloc, tokens)?;

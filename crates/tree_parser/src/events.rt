@@ -2,7 +2,7 @@
 
 ghost use Rattle.std.specs.Prelude.{◌≤◌, ◌<◌, ◌+◌, ◌*◌, length, IfOk, IfSome};
 ghost use Rattle.tree_reading.specs.Limited.{read_event, read_field, read_input, read_prefixed};
-ghost use Rattle.tree_parser.specs.Reads.{Reads, field_read, next_field};
+ghost use Rattle.tree_parser.specs.Reads.{Reads, bound_read, field_read, next_field, part_read};
 
 use crate::atoms::atom;
 use crate::expected::expect_dotted;
@@ -88,7 +88,7 @@ fn fields<'t>(
     dot: bool,
     tokens: &'t [Token],
 ) -> Reading<'t, Deep<Items<FieldTree>>>
-    ensures reads { Reads result (λ r. (r.part, r.rest.now)) (8 * length tokens.now + 1) (λ L. L.fields limits dot tokens.now) }
+    ensures reads { Reads result part_read (8 * length tokens.now + 1) (λ L. L.fields limits dot tokens.now) }
     ensures shorter { IfOk result (λ r. length r.rest.now ≤ length tokens.now) }
 {
     let mut all = Deep::none(alloc);
@@ -120,7 +120,8 @@ fn prefixed<'t>(
     fields: Deep<Items<FieldTree>>,
     tokens: &'t [Token],
 ) -> BoundReading<'t, DeepTree>
-    ensures reads { Reads result (λ r. (r.binding, r.part, r.rest.now)) (8 * length tokens.now + 3) (λ L. read_prefixed L limits name fields tokens.now) }
+    ensures reads { Reads result bound_read (8 * length tokens.now + 3)
+        (λ L. read_prefixed L limits name fields tokens.now) }
     ensures shorter { IfOk result (λ r. length r.rest.now < length tokens.now) }
 {
     let process = prefix(alloc, limits, tokens)?;
@@ -140,7 +141,7 @@ pub(crate) fn event<'t>(
     limits: Limits,
     tokens: &'t [Token],
 ) -> BoundReading<'t, DeepTree>
-    ensures reads { Reads result (λ r. (r.binding, r.part, r.rest.now)) (8 * length tokens.now) (λ L. read_event L limits tokens.now) }
+    ensures reads { Reads result bound_read (8 * length tokens.now) (λ L. read_event L limits tokens.now) }
     ensures shorter { IfOk result (λ r. length r.rest.now < length tokens.now) }
 {
     let inner = limits.inside(tokens)?;

@@ -2,7 +2,7 @@
 
 ghost use Rattle.std.specs.Prelude.{◌≤◌, ◌<◌, ◌+◌, ◌*◌, length, IfOk};
 ghost use Rattle.tree_reading.specs.Limited.{read_complement, read_negative, read_renaming, read_with};
-ghost use Rattle.tree_parser.specs.Reads.{Reads};
+ghost use Rattle.tree_parser.specs.Reads.{Reads, bound_read, part_read};
 
 use crate::atoms::atom;
 use crate::lists::{conditions, pairs};
@@ -22,7 +22,8 @@ fn complement<'t>(
     level: Binding,
     tokens: &'t [Token],
 ) -> BoundReading<'t, DeepTree>
-    ensures reads { Reads result (λ r. (r.binding, r.part, r.rest.now)) (8 * length tokens.now + 2) (λ L. read_complement L limits level tokens.now) }
+    ensures reads { Reads result bound_read (8 * length tokens.now + 2)
+        (λ L. read_complement L limits level tokens.now) }
     ensures shorter { IfOk result (λ r. length r.rest.now < length tokens.now) }
 {
     Binding::Complement.expect(level, tokens)?;
@@ -47,7 +48,7 @@ fn negative<'t>(
     level: Binding,
     tokens: &'t [Token],
 ) -> BoundReading<'t, DeepTree>
-    ensures reads { Reads result (λ r. (r.binding, r.part, r.rest.now)) (8 * length tokens.now + 2) (λ L. read_negative L limits level tokens.now) }
+    ensures reads { Reads result bound_read (8 * length tokens.now + 2) (λ L. read_negative L limits level tokens.now) }
     ensures shorter { IfOk result (λ r. length r.rest.now < length tokens.now) }
 {
     Binding::Negative.expect(level, tokens)?;
@@ -66,7 +67,7 @@ pub(crate) fn expression<'t>(
     level: Binding,
     tokens: &'t [Token],
 ) -> BoundReading<'t, DeepTree>
-    ensures reads { Reads result (λ r. (r.binding, r.part, r.rest.now)) (8 * length tokens.now + 2) (λ L. L.expression limits level tokens.now) }
+    ensures reads { Reads result bound_read (8 * length tokens.now + 2) (λ L. L.expression limits level tokens.now) }
     ensures shorter { IfOk result (λ r. length r.rest.now < length tokens.now) }
 {
     if let Some(rest) = skip_word(tokens, Word::Not) {
@@ -87,7 +88,7 @@ fn renaming<'t>(
     left: DeepTree,
     tokens: &'t [Token],
 ) -> Reading<'t, DeepTree>
-    ensures reads { Reads result (λ r. (r.part, r.rest.now)) (8 * length tokens.now + 1) (λ L. read_renaming L limits left tokens.now) }
+    ensures reads { Reads result part_read (8 * length tokens.now + 1) (λ L. read_renaming L limits left tokens.now) }
     ensures shorter { IfOk result (λ r. length r.rest.now < length tokens.now) }
 {
     let inner = limits.bracketed(tokens)?;
@@ -107,7 +108,7 @@ fn with<'t>(
     sign: Sign,
     tokens: &'t [Token],
 ) -> BoundReading<'t, DeepTree>
-    ensures reads { Reads result (λ r. (r.binding, r.part, r.rest.now)) (8 * length tokens.now + 2) (λ L. read_with L limits left sign tokens.now) }
+    ensures reads { Reads result bound_read (8 * length tokens.now + 2) (λ L. read_with L limits left sign tokens.now) }
     ensures shorter { IfOk result (λ r. length r.rest.now < length tokens.now) }
 {
     let inner = limits.around(&left, tokens)?;
@@ -143,7 +144,8 @@ fn operators<'t>(
     left: DeepTree,
     tokens: &'t [Token],
 ) -> BoundReading<'t, DeepTree>
-    ensures reads { Reads result (λ r. (r.binding, r.part, r.rest.now)) (8 * length tokens.now + 1) (λ L. L.operators limits level binding left tokens.now) }
+    ensures reads { Reads result bound_read (8 * length tokens.now + 1)
+        (λ L. L.operators limits level binding left tokens.now) }
     ensures shorter { IfOk result (λ r. length r.rest.now ≤ length tokens.now) }
 {
     let Some((sign, behind)) = sign_behind(level, binding, tokens) else {

@@ -2,7 +2,7 @@
 
 ghost use Rattle.std.specs.Prelude.{◌≤◌, ◌<◌, ◌+◌, ◌*◌, length, IfOk};
 ghost use Rattle.tree_reading.specs.Limited.{read_condition, read_conditions, read_dotted, read_gen, read_item, read_pair, read_part, read_source};
-ghost use Rattle.tree_parser.specs.Reads.{Reads};
+ghost use Rattle.tree_parser.specs.Reads.{Reads, bound_read, part_read};
 
 use crate::atoms::atom;
 use crate::expected::expect_fields;
@@ -20,7 +20,7 @@ use tree_reading::read::{Binding, BoundRead, BoundReading, Read, Reading, last_i
 // A dotted event.
 #[cycle(reading)]
 fn dotted<'t>(alloc: Global, limits: Limits, tokens: &'t [Token]) -> BoundReading<'t, DeepTree>
-    ensures reads { Reads result (λ r. (r.binding, r.part, r.rest.now)) (8 * length tokens.now) (λ L. read_dotted L limits tokens.now) }
+    ensures reads { Reads result bound_read (8 * length tokens.now) (λ L. read_dotted L limits tokens.now) }
     ensures shorter { IfOk result (λ r. length r.rest.now < length tokens.now) }
 {
     let inner = limits.inside(tokens)?;
@@ -41,7 +41,7 @@ pub(crate) fn item<'t>(
     limits: Limits,
     tokens: &'t [Token],
 ) -> BoundReading<'t, DeepTree>
-    ensures reads { Reads result (λ r. (r.binding, r.part, r.rest.now)) (8 * length tokens.now + 2) (λ L. read_item L limits tokens.now) }
+    ensures reads { Reads result bound_read (8 * length tokens.now + 2) (λ L. read_item L limits tokens.now) }
     ensures shorter { IfOk result (λ r. length r.rest.now < length tokens.now) }
 {
     if begins_event(tokens) {
@@ -57,7 +57,7 @@ pub(crate) fn items<'t>(
     limits: Limits,
     tokens: &'t [Token],
 ) -> BoundReading<'t, Deep<Items<Tree>>>
-    ensures reads { Reads result (λ r. (r.binding, r.part, r.rest.now)) (8 * length tokens.now + 3) (λ L. L.items limits tokens.now) }
+    ensures reads { Reads result bound_read (8 * length tokens.now + 3) (λ L. L.items limits tokens.now) }
     ensures shorter { IfOk result (λ r. length r.rest.now < length tokens.now) }
 {
     let mut items = Deep::none(alloc);
@@ -85,7 +85,7 @@ pub(crate) fn items<'t>(
 // Fields with a dot before each.
 #[cycle(reading)]
 fn dots<'t>(alloc: Global, limits: Limits, tokens: &'t [Token]) -> Reading<'t, Deep<Items<Tree>>>
-    ensures reads { Reads result (λ r. (r.part, r.rest.now)) (8 * length tokens.now + 1) (λ L. L.dots limits tokens.now) }
+    ensures reads { Reads result part_read (8 * length tokens.now + 1) (λ L. L.dots limits tokens.now) }
     ensures shorter { IfOk result (λ r. length r.rest.now ≤ length tokens.now) }
 {
     let mut fields = Deep::none(alloc);
@@ -104,7 +104,7 @@ fn dots<'t>(alloc: Global, limits: Limits, tokens: &'t [Token]) -> Reading<'t, D
 // A name with fields that have a dot.
 #[cycle(reading)]
 fn part<'t>(alloc: Global, limits: Limits, tokens: &'t [Token]) -> Reading<'t, Deep<PartTree>>
-    ensures reads { Reads result (λ r. (r.part, r.rest.now)) (8 * length tokens.now) (λ L. read_part L limits tokens.now) }
+    ensures reads { Reads result part_read (8 * length tokens.now) (λ L. read_part L limits tokens.now) }
     ensures shorter { IfOk result (λ r. length r.rest.now < length tokens.now) }
 {
     let (name, rest) = expect_name(alloc, tokens)?;
@@ -122,7 +122,7 @@ pub(crate) fn parts<'t>(
     limits: Limits,
     tokens: &'t [Token],
 ) -> Reading<'t, Deep<Items<PartTree>>>
-    ensures reads { Reads result (λ r. (r.part, r.rest.now)) (8 * length tokens.now + 1) (λ L. L.parts limits tokens.now) }
+    ensures reads { Reads result part_read (8 * length tokens.now + 1) (λ L. L.parts limits tokens.now) }
     ensures shorter { IfOk result (λ r. length r.rest.now < length tokens.now) }
 {
     let mut all = Deep::none(alloc);
@@ -152,7 +152,7 @@ fn pair<'t>(
     limits: Limits,
     tokens: &'t [Token],
 ) -> Reading<'t, Deep<(PartTree, PartTree)>>
-    ensures reads { Reads result (λ r. (r.part, r.rest.now)) (8 * length tokens.now) (λ L. read_pair L limits tokens.now) }
+    ensures reads { Reads result part_read (8 * length tokens.now) (λ L. read_pair L limits tokens.now) }
     ensures shorter { IfOk result (λ r. length r.rest.now < length tokens.now) }
 {
     let old = part(alloc, limits, tokens)?;
@@ -171,7 +171,7 @@ pub(crate) fn pairs<'t>(
     limits: Limits,
     tokens: &'t [Token],
 ) -> Reading<'t, Deep<Items<(PartTree, PartTree)>>>
-    ensures reads { Reads result (λ r. (r.part, r.rest.now)) (8 * length tokens.now + 1) (λ L. L.pairs limits tokens.now) }
+    ensures reads { Reads result part_read (8 * length tokens.now + 1) (λ L. L.pairs limits tokens.now) }
     ensures shorter { IfOk result (λ r. length r.rest.now < length tokens.now) }
 {
     let mut all = Deep::none(alloc);
@@ -202,7 +202,7 @@ fn source<'t>(
     name: &Name,
     tokens: &'t [Token],
 ) -> Reading<'t, Deep<GenTree>>
-    ensures reads { Reads result (λ r. (r.part, r.rest.now)) (8 * length tokens.now + 1) (λ L. read_source L limits name.now tokens.now) }
+    ensures reads { Reads result part_read (8 * length tokens.now + 1) (λ L. read_source L limits name.now tokens.now) }
     ensures shorter { IfOk result (λ r. length r.rest.now < length tokens.now) }
 {
     let name = name.try_clone(alloc)?;
@@ -216,7 +216,7 @@ fn source<'t>(
 // A condition among generators.
 #[cycle(reading)]
 fn condition<'t>(alloc: Global, limits: Limits, tokens: &'t [Token]) -> Reading<'t, Deep<GenTree>>
-    ensures reads { Reads result (λ r. (r.part, r.rest.now)) (8 * length tokens.now + 2) (λ L. read_condition L limits tokens.now) }
+    ensures reads { Reads result part_read (8 * length tokens.now + 2) (λ L. read_condition L limits tokens.now) }
     ensures shorter { IfOk result (λ r. length r.rest.now < length tokens.now) }
 {
     let test = expression(alloc, limits, Binding::Disjunction, tokens)?;
@@ -229,7 +229,7 @@ fn condition<'t>(alloc: Global, limits: Limits, tokens: &'t [Token]) -> Reading<
 // A generator or a condition.
 #[cycle(reading)]
 fn generator<'t>(alloc: Global, limits: Limits, tokens: &'t [Token]) -> Reading<'t, Deep<GenTree>>
-    ensures reads { Reads result (λ r. (r.part, r.rest.now)) (8 * length tokens.now + 2) (λ L. read_gen L limits tokens.now) }
+    ensures reads { Reads result part_read (8 * length tokens.now + 2) (λ L. read_gen L limits tokens.now) }
     ensures shorter { IfOk result (λ r. length r.rest.now < length tokens.now) }
 {
     let Some((name, arrow)) = named(tokens) else {
@@ -248,7 +248,7 @@ pub(crate) fn gens<'t>(
     limits: Limits,
     tokens: &'t [Token],
 ) -> Reading<'t, Deep<Items<GenTree>>>
-    ensures reads { Reads result (λ r. (r.part, r.rest.now)) (8 * length tokens.now + 3) (λ L. L.gens limits tokens.now) }
+    ensures reads { Reads result part_read (8 * length tokens.now + 3) (λ L. L.gens limits tokens.now) }
     ensures shorter { IfOk result (λ r. length r.rest.now < length tokens.now) }
 {
     let mut all = Deep::none(alloc);
@@ -278,7 +278,7 @@ pub(crate) fn conditions<'t>(
     limits: Limits,
     tokens: &'t [Token],
 ) -> Reading<'t, Deep<Items<GenTree>>>
-    ensures reads { Reads result (λ r. (r.part, r.rest.now)) (8 * length tokens.now) (λ L. read_conditions L limits tokens.now) }
+    ensures reads { Reads result part_read (8 * length tokens.now) (λ L. read_conditions L limits tokens.now) }
     ensures shorter { IfOk result (λ r. length r.rest.now ≤ length tokens.now) }
 {
     match skip(tokens, Symbol::Bar) {

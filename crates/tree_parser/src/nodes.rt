@@ -1,21 +1,31 @@
 //! Nodes of trees, from their parts.
 
-ghost use Rattle.std.specs.Prelude.{◌≡◌, IfOk, None, Some};
+ghost use Rattle.std.specs.Prelude.{◌≡◌, ◌+◌, IfOk, None, Some};
+ghost use Rattle.csp_text.specs.Depth.{capped, tree_depth};
 ghost use Rattle.csp_grammar.specs.Grammar.{choice_of, event_tree, part_tree};
 ghost use Rattle.tree_reading.specs.Starts.{choice, each_tree};
 
 use containers::{Boxed, Items};
 use csp_base::{BinOp, Name, NoMemory, SetOp};
-use csp_text::{EventTree, FieldTree, GenTree, PartTree, Tree, depth};
+use csp_text::{EventTree, FieldTree, GenTree, PartTree, Tree};
 use std::alloc::Global;
 use tree_reading::deep::{Deep, DeepTree, greater};
 use tree_reading::look::Chain;
 
-pub(crate) fn leaf(alloc: Global, tree: Tree) -> Result<DeepTree, NoMemory>
+// A tree around parts of which the deepest has this depth.
+fn around(alloc: Global, tree: Tree, below: u32) -> Result<DeepTree, NoMemory>
+    requires { capped (below + 1) ≡ capped (tree_depth tree) }
     ensures { IfOk result (λ t. t ≡ tree) }
 {
-    let depth = depth(&tree);
-    let boxed = Boxed::new(alloc, tree)?;
+    let tree = Boxed::new(alloc, tree)?;
+    Ok(Deep::around(tree, below))
+}
+
+pub(crate) fn leaf(alloc: Global, tree: Deep<Tree>) -> Result<DeepTree, NoMemory>
+    ensures { IfOk result (λ t. t ≡ tree) }
+{
+    let depth = tree.depth();
+    let boxed = Boxed::new(alloc, tree.into_inner())?;
     Ok(Deep::new(boxed, depth))
 }
 
@@ -23,16 +33,14 @@ pub(crate) fn negative(alloc: Global, a: DeepTree) -> Result<DeepTree, NoMemory>
     ensures { IfOk result (λ t. t ≡ Tree.Neg a) }
 {
     let below = a.depth();
-    let tree = Boxed::new(alloc, Tree::Neg(a.into_inner()))?;
-    Ok(Deep::around(tree, below))
+    around(alloc, Tree::Neg(a.into_inner()), below)
 }
 
 pub(crate) fn complement(alloc: Global, a: DeepTree) -> Result<DeepTree, NoMemory>
     ensures { IfOk result (λ t. t ≡ Tree.Not a) }
 {
     let below = a.depth();
-    let tree = Boxed::new(alloc, Tree::Not(a.into_inner()))?;
-    Ok(Deep::around(tree, below))
+    around(alloc, Tree::Not(a.into_inner()), below)
 }
 
 pub(crate) fn binary(
@@ -44,8 +52,11 @@ pub(crate) fn binary(
     ensures { IfOk result (λ t. t ≡ Tree.Binary op a b) }
 {
     let below = greater(a.depth(), b.depth());
-    let tree = Boxed::new(alloc, Tree::Binary(op, a.into_inner(), b.into_inner()))?;
-    Ok(Deep::around(tree, below))
+    around(
+        alloc,
+        Tree::Binary(op, a.into_inner(), b.into_inner()),
+        below,
+    )
 }
 
 pub(crate) fn set_operation(
@@ -57,8 +68,11 @@ pub(crate) fn set_operation(
     ensures { IfOk result (λ t. t ≡ Tree.SetOp op a b) }
 {
     let below = greater(a.depth(), b.depth());
-    let tree = Boxed::new(alloc, Tree::SetOp(op, a.into_inner(), b.into_inner()))?;
-    Ok(Deep::around(tree, below))
+    around(
+        alloc,
+        Tree::SetOp(op, a.into_inner(), b.into_inner()),
+        below,
+    )
 }
 
 pub(crate) fn call(
@@ -69,8 +83,7 @@ pub(crate) fn call(
     ensures { IfOk result (λ t. t ≡ Tree.Call name items) }
 {
     let below = items.depth();
-    let tree = Boxed::new(alloc, Tree::Call(name, items.into_inner()))?;
-    Ok(Deep::around(tree, below))
+    around(alloc, Tree::Call(name, items.into_inner()), below)
 }
 
 pub(crate) fn dotted(
@@ -81,24 +94,21 @@ pub(crate) fn dotted(
     ensures { IfOk result (λ t. t ≡ Tree.Dot name fields) }
 {
     let below = fields.depth();
-    let tree = Boxed::new(alloc, Tree::Dot(name, fields.into_inner()))?;
-    Ok(Deep::around(tree, below))
+    around(alloc, Tree::Dot(name, fields.into_inner()), below)
 }
 
 pub(crate) fn range(alloc: Global, a: DeepTree, b: DeepTree) -> Result<DeepTree, NoMemory>
     ensures { IfOk result (λ t. t ≡ Tree.Range a b) }
 {
     let below = greater(a.depth(), b.depth());
-    let tree = Boxed::new(alloc, Tree::Range(a.into_inner(), b.into_inner()))?;
-    Ok(Deep::around(tree, below))
+    around(alloc, Tree::Range(a.into_inner(), b.into_inner()), below)
 }
 
 pub(crate) fn display(alloc: Global, items: Deep<Items<Tree>>) -> Result<DeepTree, NoMemory>
     ensures { IfOk result (λ t. t ≡ Tree.Display items) }
 {
     let below = items.depth();
-    let tree = Boxed::new(alloc, Tree::Display(items.into_inner()))?;
-    Ok(Deep::around(tree, below))
+    around(alloc, Tree::Display(items.into_inner()), below)
 }
 
 pub(crate) fn comprehension(
@@ -110,8 +120,7 @@ pub(crate) fn comprehension(
 {
     let below = greater(items.depth(), generators.depth());
     let node = Tree::Comp(items.into_inner(), generators.into_inner());
-    let tree = Boxed::new(alloc, node)?;
-    Ok(Deep::around(tree, below))
+    around(alloc, node, below)
 }
 
 pub(crate) fn product(
@@ -123,8 +132,7 @@ pub(crate) fn product(
 {
     let below = greater(parts.depth(), generators.depth());
     let node = Tree::Product(parts.into_inner(), generators.into_inner());
-    let tree = Boxed::new(alloc, node)?;
-    Ok(Deep::around(tree, below))
+    around(alloc, node, below)
 }
 
 pub(crate) fn renaming(
@@ -137,8 +145,7 @@ pub(crate) fn renaming(
 {
     let below = greater(p.depth(), greater(pairs.depth(), generators.depth()));
     let node = Tree::Rename(p.into_inner(), pairs.into_inner(), generators.into_inner());
-    let tree = Boxed::new(alloc, node)?;
-    Ok(Deep::around(tree, below))
+    around(alloc, node, below)
 }
 
 #[tactic(auto, using(crate::proofs::Depths::of_prefix))]
@@ -155,8 +162,7 @@ pub(crate) fn prefix(
         name,
         fields: fields.into_inner(),
     };
-    let tree = Boxed::new(alloc, Tree::Prefix(event, process.into_inner()))?;
-    Ok(Deep::around(tree, below))
+    around(alloc, Tree::Prefix(event, process.into_inner()), below)
 }
 
 pub(crate) fn conditional(
@@ -169,32 +175,28 @@ pub(crate) fn conditional(
 {
     let below = greater(condition.depth(), greater(a.depth(), b.depth()));
     let node = Tree::If(condition.into_inner(), a.into_inner(), b.into_inner());
-    let tree = Boxed::new(alloc, node)?;
-    Ok(Deep::around(tree, below))
+    around(alloc, node, below)
 }
 
 pub(crate) fn guard(alloc: Global, a: DeepTree, p: DeepTree) -> Result<DeepTree, NoMemory>
     ensures { IfOk result (λ t. t ≡ Tree.Guard a p) }
 {
     let below = greater(a.depth(), p.depth());
-    let tree = Boxed::new(alloc, Tree::Guard(a.into_inner(), p.into_inner()))?;
-    Ok(Deep::around(tree, below))
+    around(alloc, Tree::Guard(a.into_inner(), p.into_inner()), below)
 }
 
 pub(crate) fn seq(alloc: Global, p: DeepTree, q: DeepTree) -> Result<DeepTree, NoMemory>
     ensures { IfOk result (λ t. t ≡ Tree.Seq p q) }
 {
     let below = greater(p.depth(), q.depth());
-    let tree = Boxed::new(alloc, Tree::Seq(p.into_inner(), q.into_inner()))?;
-    Ok(Deep::around(tree, below))
+    around(alloc, Tree::Seq(p.into_inner(), q.into_inner()), below)
 }
 
 pub(crate) fn hide(alloc: Global, p: DeepTree, a: DeepTree) -> Result<DeepTree, NoMemory>
     ensures { IfOk result (λ t. t ≡ Tree.Hide p a) }
 {
     let below = greater(p.depth(), a.depth());
-    let tree = Boxed::new(alloc, Tree::Hide(p.into_inner(), a.into_inner()))?;
-    Ok(Deep::around(tree, below))
+    around(alloc, Tree::Hide(p.into_inner(), a.into_inner()), below)
 }
 
 // A chain of processes with the sign of a choice between them.
@@ -208,14 +210,8 @@ pub(crate) fn chosen(
     let below = operands.depth();
     let operands = operands.into_inner();
     match chain {
-        Chain::External => {
-            let tree = Boxed::new(alloc, Tree::External(operands))?;
-            Ok(Deep::around(tree, below))
-        }
-        Chain::Internal => {
-            let tree = Boxed::new(alloc, Tree::Internal(operands))?;
-            Ok(Deep::around(tree, below))
-        }
+        Chain::External => around(alloc, Tree::External(operands), below),
+        Chain::Internal => around(alloc, Tree::Internal(operands), below),
     }
 }
 
@@ -232,14 +228,8 @@ pub(crate) fn each(
     let set = set.into_inner();
     let p = p.into_inner();
     match chain {
-        Chain::External => {
-            let tree = Boxed::new(alloc, Tree::EachExternal(name, set, p))?;
-            Ok(Deep::around(tree, below))
-        }
-        Chain::Internal => {
-            let tree = Boxed::new(alloc, Tree::EachInternal(name, set, p))?;
-            Ok(Deep::around(tree, below))
-        }
+        Chain::External => around(alloc, Tree::EachExternal(name, set, p), below),
+        Chain::Internal => around(alloc, Tree::EachInternal(name, set, p), below),
     }
 }
 
@@ -259,8 +249,7 @@ pub(crate) fn each_parallel(
         alphabet.into_inner(),
         process.into_inner(),
     );
-    let tree = Boxed::new(alloc, node)?;
-    Ok(Deep::around(tree, below))
+    around(alloc, node, below)
 }
 
 pub(crate) fn parallel(
@@ -280,8 +269,7 @@ pub(crate) fn parallel(
         b.into_inner(),
         q.into_inner(),
     );
-    let tree = Boxed::new(alloc, node)?;
-    Ok(Deep::around(tree, below))
+    around(alloc, node, below)
 }
 
 pub(crate) fn part(name: Name, fields: Deep<Items<Tree>>) -> Deep<PartTree>

@@ -2,7 +2,7 @@
 
 ghost use Rattle.std.specs.Prelude.{◌≤◌, ◌<◌, ◌+◌, ◌*◌, length, IfOk};
 ghost use Rattle.tree_reading.specs.Limited.{read_binder, read_branches, read_chain, read_each, read_each_parallel, read_followed, read_guard, read_guarded, read_hiding, read_if, read_opened, read_parallel, read_side};
-ghost use Rattle.tree_parser.specs.Reads.{Reads, operand_read, read_operand, read_operands};
+ghost use Rattle.tree_parser.specs.Reads.{Reads, bound_read, operand_read, part_read, read_operand, read_operands};
 
 use crate::atoms::atom;
 use crate::events::event;
@@ -28,7 +28,8 @@ fn branches<'t>(
     condition: DeepTree,
     tokens: &'t [Token],
 ) -> BoundReading<'t, DeepTree>
-    ensures reads { Reads result (λ r. (r.binding, r.part, r.rest.now)) (8 * length tokens.now + 5) (λ L. read_branches L limits condition tokens.now) }
+    ensures reads { Reads result bound_read (8 * length tokens.now + 5)
+        (λ L. read_branches L limits condition tokens.now) }
     ensures shorter { IfOk result (λ r. length r.rest.now < length tokens.now) }
 {
     let first = tree(alloc, limits, tokens)?;
@@ -45,7 +46,7 @@ fn branches<'t>(
 // What stands behind `if`.
 #[cycle(reading)]
 fn conditional<'t>(alloc: Global, limits: Limits, tokens: &'t [Token]) -> BoundReading<'t, DeepTree>
-    ensures reads { Reads result (λ r. (r.binding, r.part, r.rest.now)) (8 * length tokens.now + 2) (λ L. read_if L limits tokens.now) }
+    ensures reads { Reads result bound_read (8 * length tokens.now + 2) (λ L. read_if L limits tokens.now) }
     ensures shorter { IfOk result (λ r. length r.rest.now < length tokens.now) }
 {
     let inner = limits.inside(tokens)?;
@@ -57,7 +58,8 @@ fn conditional<'t>(alloc: Global, limits: Limits, tokens: &'t [Token]) -> BoundR
 // The name, the set and `@` of a replicated form.
 #[cycle(reading)]
 fn binder<'t>(alloc: Global, limits: Limits, tokens: &'t [Token]) -> Reading<'t, (Name, DeepTree)>
-    ensures reads { Reads result (λ r. (r.part.0, r.part.1, r.rest.now)) (8 * length tokens.now) (λ L. read_binder L limits tokens.now) }
+    ensures reads { Reads result (λ r. (r.part.0, r.part.1, r.rest.now)) (8 * length tokens.now)
+        (λ L. read_binder L limits tokens.now) }
     ensures shorter { IfOk result (λ r. length r.rest.now < length tokens.now) }
 {
     let (name, colon) = expect_name(alloc, tokens)?;
@@ -78,7 +80,7 @@ fn each<'t>(
     chain: Chain,
     tokens: &'t [Token],
 ) -> BoundReading<'t, DeepTree>
-    ensures reads { Reads result (λ r. (r.binding, r.part, r.rest.now)) (8 * length tokens.now) (λ L. read_each L limits chain tokens.now) }
+    ensures reads { Reads result bound_read (8 * length tokens.now) (λ L. read_each L limits chain tokens.now) }
     ensures shorter { IfOk result (λ r. length r.rest.now < length tokens.now) }
 {
     let inner = limits.inside(tokens)?;
@@ -100,7 +102,7 @@ fn each_parallel<'t>(
     limits: Limits,
     tokens: &'t [Token],
 ) -> BoundReading<'t, DeepTree>
-    ensures reads { Reads result (λ r. (r.binding, r.part, r.rest.now)) (8 * length tokens.now) (λ L. read_each_parallel L limits tokens.now) }
+    ensures reads { Reads result bound_read (8 * length tokens.now) (λ L. read_each_parallel L limits tokens.now) }
     ensures shorter { IfOk result (λ r. length r.rest.now < length tokens.now) }
 {
     let inner = limits.inside(tokens)?;
@@ -127,7 +129,8 @@ fn guarded<'t>(
     condition: DeepTree,
     tokens: &'t [Token],
 ) -> BoundReading<'t, DeepTree>
-    ensures reads { Reads result (λ r. (r.binding, r.part, r.rest.now)) (8 * length tokens.now + 3) (λ L. read_guarded L limits condition tokens.now) }
+    ensures reads { Reads result bound_read (8 * length tokens.now + 3)
+        (λ L. read_guarded L limits condition tokens.now) }
     ensures shorter { IfOk result (λ r. length r.rest.now < length tokens.now) }
 {
     let process = prefix(alloc, limits, tokens)?;
@@ -143,7 +146,7 @@ fn guarded<'t>(
 // A guard, or an expression.
 #[cycle(reading)]
 fn guard<'t>(alloc: Global, limits: Limits, tokens: &'t [Token]) -> BoundReading<'t, DeepTree>
-    ensures reads { Reads result (λ r. (r.binding, r.part, r.rest.now)) (8 * length tokens.now + 2) (λ L. read_guard L limits tokens.now) }
+    ensures reads { Reads result bound_read (8 * length tokens.now + 2) (λ L. read_guard L limits tokens.now) }
     ensures shorter { IfOk result (λ r. length r.rest.now < length tokens.now) }
 {
     let condition = expression(alloc, limits, Binding::Disjunction, tokens)?;
@@ -164,7 +167,7 @@ fn opened<'t>(
     start: PrefixStart,
     tokens: &'t [Token],
 ) -> BoundReading<'t, DeepTree>
-    ensures reads { Reads result (λ r. (r.binding, r.part, r.rest.now)) (8 * length tokens.now + 2) (λ L. read_opened L limits start tokens.now) }
+    ensures reads { Reads result bound_read (8 * length tokens.now + 2) (λ L. read_opened L limits start tokens.now) }
     ensures shorter { IfOk result (λ r. length r.rest.now < length tokens.now) }
 {
     match start {
@@ -184,7 +187,7 @@ pub(crate) fn prefix<'t>(
     limits: Limits,
     tokens: &'t [Token],
 ) -> BoundReading<'t, DeepTree>
-    ensures reads { Reads result (λ r. (r.binding, r.part, r.rest.now)) (8 * length tokens.now + 3) (λ L. L.prefix limits tokens.now) }
+    ensures reads { Reads result bound_read (8 * length tokens.now + 3) (λ L. L.prefix limits tokens.now) }
     ensures shorter { IfOk result (λ r. length r.rest.now < length tokens.now) }
 {
     let (start, rest) = prefix_start(tokens);
@@ -199,7 +202,7 @@ fn followed<'t>(
     left: DeepTree,
     tokens: &'t [Token],
 ) -> BoundReading<'t, DeepTree>
-    ensures reads { Reads result (λ r. (r.binding, r.part, r.rest.now)) (8 * length tokens.now + 4) (λ L. read_followed L limits left tokens.now) }
+    ensures reads { Reads result bound_read (8 * length tokens.now + 4) (λ L. read_followed L limits left tokens.now) }
     ensures shorter { IfOk result (λ r. length r.rest.now < length tokens.now) }
 {
     let process = sequence(alloc, limits, tokens)?;
@@ -216,7 +219,7 @@ fn followed<'t>(
 #[cycle(reading)]
 #[tactic(auto, using(crate::proofs::Counted::sequence_counted))]
 fn sequence<'t>(alloc: Global, limits: Limits, tokens: &'t [Token]) -> BoundReading<'t, DeepTree>
-    ensures reads { Reads result (λ r. (r.binding, r.part, r.rest.now)) (8 * length tokens.now + 4) (λ L. L.sequence limits tokens.now) }
+    ensures reads { Reads result bound_read (8 * length tokens.now + 4) (λ L. L.sequence limits tokens.now) }
     ensures shorter { IfOk result (λ r. length r.rest.now < length tokens.now) }
 {
     let first = prefix(alloc, limits, tokens)?;
@@ -238,7 +241,7 @@ fn hiding<'t>(
     left: DeepTree,
     tokens: &'t [Token],
 ) -> Reading<'t, DeepTree>
-    ensures reads { Reads result (λ r. (r.part, r.rest.now)) (8 * length tokens.now + 1) (λ L. read_hiding L limits left tokens.now) }
+    ensures reads { Reads result part_read (8 * length tokens.now + 1) (λ L. read_hiding L limits left tokens.now) }
     ensures shorter { IfOk result (λ r. length r.rest.now < length tokens.now) }
 {
     let inner = limits.around(&left, tokens)?;
@@ -259,7 +262,7 @@ fn hidings<'t>(
     left: DeepTree,
     tokens: &'t [Token],
 ) -> BoundReading<'t, DeepTree>
-    ensures reads { Reads result (λ r. (r.binding, r.part, r.rest.now)) (8 * length tokens.now + 1) (λ L. L.hidings limits left tokens.now) }
+    ensures reads { Reads result bound_read (8 * length tokens.now + 1) (λ L. L.hidings limits left tokens.now) }
     ensures shorter { IfOk result (λ r. length r.rest.now ≤ length tokens.now) }
 {
     match skip(tokens, Symbol::Backslash) {
@@ -283,7 +286,8 @@ fn operand<'t>(
     chain: Chain,
     tokens: &'t [Token],
 ) -> Result<(BoundRead<'t, DeepTree>, bool), ReadFault>
-    ensures reads { Reads result operand_read (8 * length tokens.now + 4) (λ L. read_operand L limits chain tokens.now) }
+    ensures reads { Reads result operand_read (8 * length tokens.now + 4)
+        (λ L. read_operand L limits chain tokens.now) }
     ensures shorter { IfOk result (λ r. length r.0.rest.now < length tokens.now) }
 {
     let operand = sequence(alloc, limits, tokens)?;
@@ -320,7 +324,8 @@ fn choices<'t>(
     left: DeepTree,
     tokens: &'t [Token],
 ) -> BoundReading<'t, Deep<Items<Tree>>>
-    ensures reads { Reads result (λ r. (r.binding, r.part, r.rest.now)) (8 * length tokens.now + 5) (λ L. read_operands L limits chain left tokens.now) }
+    ensures reads { Reads result bound_read (8 * length tokens.now + 5)
+        (λ L. read_operands L limits chain left tokens.now) }
     ensures shorter { IfOk result (λ r. length r.rest.now < length tokens.now) }
 {
     let mut operands = Deep::none(alloc);
@@ -354,7 +359,8 @@ fn chain<'t>(
     chain: Chain,
     tokens: &'t [Token],
 ) -> BoundReading<'t, DeepTree>
-    ensures reads { Reads result (λ r. (r.binding, r.part, r.rest.now)) (8 * length tokens.now + 5) (λ L. read_chain L limits binding left chain tokens.now) }
+    ensures reads { Reads result bound_read (8 * length tokens.now + 5)
+        (λ L. read_chain L limits binding left chain tokens.now) }
     ensures shorter { IfOk result (λ r. length r.rest.now < length tokens.now) }
 {
     binding.expect(Binding::Closed, tokens)?;
@@ -371,7 +377,7 @@ fn chain<'t>(
 // A side of a parallel, or a tree without one.
 #[cycle(reading)]
 fn side<'t>(alloc: Global, limits: Limits, tokens: &'t [Token]) -> BoundReading<'t, DeepTree>
-    ensures reads { Reads result (λ r. (r.binding, r.part, r.rest.now)) (8 * length tokens.now + 4) (λ L. read_side L limits tokens.now) }
+    ensures reads { Reads result bound_read (8 * length tokens.now + 4) (λ L. read_side L limits tokens.now) }
     ensures shorter { IfOk result (λ r. length r.rest.now < length tokens.now) }
 {
     let first = sequence(alloc, limits, tokens)?;
@@ -395,7 +401,7 @@ fn parallel<'t>(
     left: DeepTree,
     tokens: &'t [Token],
 ) -> Reading<'t, DeepTree>
-    ensures reads { Reads result (λ r. (r.part, r.rest.now)) (8 * length tokens.now + 1) (λ L. read_parallel L limits left tokens.now) }
+    ensures reads { Reads result part_read (8 * length tokens.now + 1) (λ L. read_parallel L limits left tokens.now) }
     ensures shorter { IfOk result (λ r. length r.rest.now < length tokens.now) }
 {
     let below = limits.bracketed(tokens)?;
@@ -416,7 +422,7 @@ fn parallel<'t>(
 #[cycle(reading)]
 #[tactic(auto, using(crate::proofs::Counted::tree_counted))]
 pub fn tree<'t>(alloc: Global, limits: Limits, tokens: &'t [Token]) -> Reading<'t, DeepTree>
-    ensures reads { Reads result (λ r. (r.part, r.rest.now)) (8 * length tokens.now + 5) (λ L. L.tree limits tokens.now) }
+    ensures reads { Reads result part_read (8 * length tokens.now + 5) (λ L. L.tree limits tokens.now) }
     ensures shorter { IfOk result (λ r. length r.rest.now < length tokens.now) }
 {
     let left = side(alloc, limits, tokens)?;

@@ -14,8 +14,9 @@ use Rattle.csp_base.specs.declared.operators.SetOp.TheVariants as set_op
 use Rattle.csp_text.specs.declared.tree.FieldTree.{FieldTree}
 use Rattle.csp_text.specs.declared.tree.GenTree.{GenTree}
 use Rattle.csp_text.specs.declared.tree.PartTree.{PartTree}
-use Rattle.csp_grammar.specs.Grammar.{Choice, choice_of, event_tree, TreeText, SideText, ClosedSideText, HidingText, ClosedChoiceText, OpenChoiceText, ClosedSequenceText, OpenSequenceText, ClosedPrefixText, OpenPrefixText, OpenText, FieldsText, DotsText, ExpressionText, PairsText, PartText, PartsText, ConditionsText, GensText, GenText, ItemText, ItemsText, AtomText}
+use Rattle.csp_grammar.specs.Grammar.{Choice, choice_of, event_tree, TreeText, Reach, SideText, HidingText, ChoiceText, SequenceText, PrefixText, OpenText, FieldsText, DotsText, ExpressionText, PairsText, PartText, PartsText, ConditionsText, GensText, GenText, ItemText, ItemsText, AtomText}
 use Rattle.csp_grammar.specs.Grammar as g
+use Rattle.csp_grammar.specs.Grammar.Reach.{closed, opened}
 use Rattle.csp_grammar.specs.Precedence.{Level, IsLeftOperator, IsComparison}
 use Rattle.csp_grammar.specs.Precedence as table
 use Rattle.csp_grammar.specs.Reader.{and_then, dotted_tree}
@@ -31,10 +32,40 @@ use Rattle.tree_reading.proofs.Gives.{Gives}
 use Rattle.tree_reading.proofs.Follow.{Stops, more, not_symbol, EndsFields, stops_no_event, stops_ten}
 use Rattle.tree_reading.proofs.Levels.{Reads, follow, next_follow, pairs_depth, read_at, read_tighter, read_left, read_compare, read_negated, read_negative, read_rename, read_operand}
 use Rattle.tree_reading.proofs.NodeDepths as depths
-use Rattle.tree_reading.proofs.Parts.{Bounded, chain_of, chosen_depth, looser, one_of_two, still_closed, dots_begin, fields_begin, fields_no_colon, dots_more, AreDots, no_dots, more_dots, conditions_begin, into_guard, prefix_alone, sequence_alone, side_alone, tree_alone, choice_stops, last_choice, more_choices, side_of_choices, bound_alone}
+use Rattle.tree_reading.proofs.Parts.{Bounded, chain_of, chosen_depth, one_of_two, still_closed, dots_begin, fields_begin, fields_no_colon, dots_more, AreDots, no_dots, more_dots, conditions_begin, into_guard, prefix_alone, sequence_alone, side_alone, tree_alone, choice_stops, last_choice, more_choices, side_of_choices, bound_alone}
+use Rattle.tree_reading.proofs.Tests.{at_least_open}
 use Rattle.tree_reading.proofs.Starts.{no_event, no_arrow, plain, atom_operand, items_no_brace}
 use Rattle.csp_base.specs.Lists.{greatest}
 use Rattle.csp_text.specs.Written.{set_op_word}
+
+-- how tightly a form is bound at least, and how tightly what follows it may bind at most: an open form ends only where nothing goes on with it
+abbrev least : Reach → Binding
+least closed = bound.Closed
+least opened = bound.Open
+
+abbrev stop : Reach → ℕ → ℕ
+stop closed k = k
+stop opened k = 6
+
+until : (e : Reach) (k : ℕ) (r : List Token) → nat_le 6 k ≡ true → Stops (stop e k) r → Stops k r
+until closed k r h s = s
+until opened k r h s = more 6 k r h s
+
+next_stop : (e : Reach) (j k : ℕ) (r : List Token) → nat_le j k ≡ true → Stops (stop e j) r → Stops (stop e k) r
+next_stop closed j k r h s = more j k r h s
+next_stop opened j k r h s = s
+
+from_six : (e : Reach) (k : ℕ) (r : List Token) → nat_le 6 k ≡ true → Stops 6 r → Stops (stop e k) r
+from_six closed k r h s = more 6 k r h s
+from_six opened k r h s = s
+
+tight_one : (e : Reach) (k : Binding) → nat_le (number (least e)) (number k) ≡ true → nat_le 1 (number k) ≡ true
+tight_one closed k h = one_of_two k h
+tight_one opened k h = h
+
+still : (e : Reach) (k : Binding) → nat_le (number (least e)) (number k) ≡ true → nat_le (number (least e)) (number (of_process k)) ≡ true
+still closed k h = still_closed k h
+still opened k h = at_least_open k
 
 arrow_ends : (us : List Token) → EndsFields (token.Symbol symbol.Arrow ∷ us)
 arrow_ends us = record { no_dot = refl; no_bang = refl; no_question = refl; no_colon = refl; event = refl }
@@ -96,47 +127,32 @@ mutual
       tree_alone s (side_alone (more 6 7 r refl s) (sequence_alone (more 6 8 r refl s)
       (later (inner _ d _ (depths.of_tree _ (tree.rolls-Dot c (a' ∷ others))) fits (bind _ fields.gives (not_there _ _ (not_symbol symbol.Arrow 6 r refl s)
       (look _ (ap (λ o. and_then o λ fs. dotted_tree c fs) fields.dots) now)))))))
-  tree_read (g.tree-side p) d fits s = tree_alone s (side_read p d fits s).gives
-  tree_read {r = r} (g.tree-parallel {p = p'} {a = a'} {b = b'} {q = q'} p a b q) d fits s =
+  tree_read {r = r} (g.tree-side {e = e} p) d fits s = tree_alone s (side_read p d fits (from_six e 7 r refl s)).gives
+  tree_read {r = r} (g.tree-parallel {e = e} {p = p'} {a = a'} {b = b'} {q = q'} p a b q) d fits s =
       let is = depths.of_tree _ (tree.rolls-Parallel p' a' b' q') in
       let within : max (max (tree_depth p') (tree_depth a')) (max (tree_depth b') (tree_depth q')) ≤ less d = parts d is fits in
       let before : max (tree_depth p') (tree_depth a') ≤ less d = left _ _ within in
       let after : max (tree_depth b') (tree_depth q') ≤ less d = right _ _ within in
-      let front = closed_side_read p d (up d (left _ _ before)) refl in
-      let back = side_read q (less d) (right _ _ after) s in
+      let front = side_read p d (up d (left _ _ before)) refl in
+      let back = side_read q (less d) (right _ _ after) (from_six e 7 r refl s) in
       later (bind _ front.gives (granted _ front.tight (about d p' _ is (first_of_four (tree_depth p') (tree_depth a') (tree_depth b') (tree_depth q')) fits
-      (bind _ (atom_read a (less d) (right _ _ before) refl) (bind _ (atom_read b (less d) (left _ _ after) refl) (bind _ back.gives (granted _ back.tight now)))))))
+      (bind _ (atom_read a (less d) (right _ _ before) refl) (bind _ (atom_read b (less d) (left _ _ after) refl) (bind _ back.gives (granted _ (tight_one e back.k back.tight) now)))))))
 
-  pub side_read : {n : ℕ} {ts : List Token} {t : Tree} {r : List Token} → SideText n ts t r → (d : ℕ) → tree_depth t ≤ d → Stops 6 r → Bounded bound.Open (λ L. read_side L (limits n d) ts) t r
-  side_read {r = r} (g.side-closed p) d fits s = looser bound.Closed bound.Open refl (closed_side_read p d fits (more 6 7 r refl s))
-  side_read {r = r} (g.side-sequence p) d fits s = record { k = bound.Open; tight = refl; gives = side_alone (more 6 7 r refl s) (open_sequence_read p d fits s) }
-  side_read {r = r} (g.side-choice c (g.open-choice-two {p = p'} {us = us} {q = q'} p q)) d fits s = record {
-    k = bound.Open;
-    tight = refl;
-    gives = side_of_choices c fits (closed_sequence_read p d (first_fits c p' (q' ∷ []) d fits) (choice_stops c us))
-        (last_choice c refl (more 6 7 r refl s) (open_sequence_read q (less d) (left _ 0 (rest_fit c p' (q' ∷ []) d fits)) s));
-  }
-  side_read (g.side-choice c (g.open-choice-more {p = p'} {us = us} {ps = ps'} p ps)) d fits s = record {
-    k = bound.Open;
-    tight = refl;
-    gives = side_of_choices c fits (closed_sequence_read p d (first_fits c p' ps' d fits) (choice_stops c us)) (open_choices_read ps (less d) (rest_fit c p' ps' d fits) s);
-  }
-
-  pub closed_side_read : {n : ℕ} {ts : List Token} {t : Tree} {r : List Token} → ClosedSideText n ts t r → (d : ℕ) → tree_depth t ≤ d → Stops 7 r → Bounded bound.Closed (λ L. read_side L (limits n d) ts) t r
-  closed_side_read {r = r} (g.closed-side-sequence p) d fits s =
-      let p' = closed_sequence_read p d fits (more 7 8 r refl s) in
-      record { k = p'.k; tight = p'.tight; gives = side_alone s p'.gives }
-  closed_side_read {r = r} (g.closed-side-choice c (g.closed-choice-two {p = p'} {us = us} {q = q'} p q)) d fits s =
-      let back = closed_sequence_read q (less d) (left _ 0 (rest_fit c p' (q' ∷ []) d fits)) (more 7 8 r refl s) in
+  pub side_read : {n : ℕ} {e : Reach} {ts : List Token} {t : Tree} {r : List Token} → SideText n e ts t r → (d : ℕ) → tree_depth t ≤ d → Stops (stop e 7) r → Bounded (least e) (λ L. read_side L (limits n d) ts) t r
+  side_read {e = e} {r = r} (g.side-sequence p) d fits s =
+      let p' = sequence_read p d fits (next_stop e 7 8 r refl s) in
+      record { k = p'.k; tight = p'.tight; gives = side_alone (until e 7 r refl s) p'.gives }
+  side_read {e = e} {r = r} (g.side-choice c (g.choice-two {p = p'} {us = us} {q = q'} p q)) d fits s =
+      let back = sequence_read q (less d) (left _ 0 (rest_fit c p' (q' ∷ []) d fits)) (next_stop e 7 8 r refl s) in
       record {
         k = of_process back.k;
-        tight = still_closed back.k back.tight;
-        gives = side_of_choices c fits (closed_sequence_read p d (first_fits c p' (q' ∷ []) d fits) (choice_stops c us)) (last_choice c (one_of_two back.k back.tight) s back.gives);
+        tight = still e back.k back.tight;
+        gives = side_of_choices c fits (sequence_read p d (first_fits c p' (q' ∷ []) d fits) (choice_stops c us)) (last_choice c (tight_one e back.k back.tight) (until e 7 r refl s) back.gives);
       }
-  closed_side_read (g.closed-side-choice c (g.closed-choice-more {p = p'} {us = us} {ps = ps'} p ps)) d fits s =
-      let back = closed_choices_read ps (less d) (rest_fit c p' ps' d fits) s in
-      record { k = back.k; tight = back.tight; gives = side_of_choices c fits (closed_sequence_read p d (first_fits c p' ps' d fits) (choice_stops c us)) back.gives }
-  closed_side_read {r = r} (g.closed-side-hiding p) d fits s =
+  side_read (g.side-choice c (g.choice-more {p = p'} {us = us} {ps = ps'} p ps)) d fits s =
+      let back = choices_read ps (less d) (rest_fit c p' ps' d fits) s in
+      record { k = back.k; tight = back.tight; gives = side_of_choices c fits (sequence_read p d (first_fits c p' ps' d fits) (choice_stops c us)) back.gives }
+  side_read {r = r} (g.side-hiding p) d fits s =
       record { k = bound.Closed; tight = refl; gives = hiding_read p d fits (more 7 20 r refl s) _ (later (not_there _ _ (not_symbol symbol.Backslash 7 r refl s) now)) }
 
   hiding_read : {n : ℕ} {ts : List Token} {t : Tree} {r : List Token} → HidingText n ts t r → (d : ℕ) → tree_depth t ≤ d → Stops 20 r →
@@ -151,82 +167,57 @@ mutual
       hiding_read p d (up d (left _ _ within)) refl x (later (bind _ (about d p' _ (depths.of_tree _ (tree.rolls-Hide p' a')) (first_part (tree_depth p') (tree_depth a')) fits
       (bind _ (atom_read a (less d) (right _ _ within) s) now)) h))
 
-  closed_choices_read : {n : ℕ} {c : Choice} {ts : List Token} {ps : List Tree} {r : List Token} → ClosedChoiceText n c ts ps r → (d : ℕ) → greatest (map tree_depth ps) ≤ d → Stops 7 r →
-      Bounded bound.Closed (λ L. L.choices (limits n d) (chain_of c) ts) ps r
-  closed_choices_read {c = c} {r = r} (g.closed-choice-two {us = us} p q) d fits s =
-      let back = closed_sequence_read q d (left _ 0 (right _ _ fits)) (more 7 8 r refl s) in
+  choices_read : {n : ℕ} {e : Reach} {c : Choice} {ts : List Token} {ps : List Tree} {r : List Token} → ChoiceText n e c ts ps r → (d : ℕ) → greatest (map tree_depth ps) ≤ d → Stops (stop e 7) r →
+      Bounded (least e) (λ L. L.choices (limits n d) (chain_of c) ts) ps r
+  choices_read {e = e} {c = c} {r = r} (g.choice-two {us = us} p q) d fits s =
+      let back = sequence_read q d (left _ 0 (right _ _ fits)) (next_stop e 7 8 r refl s) in
       record {
         k = of_process back.k;
-        tight = still_closed back.k back.tight;
-        gives = more_choices c (closed_sequence_read p d (left _ _ fits) (choice_stops c us)) (last_choice c (one_of_two back.k back.tight) s back.gives);
+        tight = still e back.k back.tight;
+        gives = more_choices c (sequence_read p d (left _ _ fits) (choice_stops c us)) (last_choice c (tight_one e back.k back.tight) (until e 7 r refl s) back.gives);
       }
-  closed_choices_read {c = c} (g.closed-choice-more {us = us} p ps) d fits s =
-      let back = closed_choices_read ps d (right _ _ fits) s in
-      record { k = back.k; tight = back.tight; gives = more_choices c (closed_sequence_read p d (left _ _ fits) (choice_stops c us)) back.gives }
+  choices_read {c = c} (g.choice-more {us = us} p ps) d fits s =
+      let back = choices_read ps d (right _ _ fits) s in
+      record { k = back.k; tight = back.tight; gives = more_choices c (sequence_read p d (left _ _ fits) (choice_stops c us)) back.gives }
 
-  open_choices_read : {n : ℕ} {c : Choice} {ts : List Token} {ps : List Tree} {r : List Token} → OpenChoiceText n c ts ps r → (d : ℕ) → greatest (map tree_depth ps) ≤ d → Stops 6 r →
-      Gives (λ L. L.choices (limits n d) (chain_of c) ts) (bound.Open, ps, r)
-  open_choices_read {c = c} {r = r} (g.open-choice-two {us = us} p q) d fits s =
-      more_choices c (closed_sequence_read p d (left _ _ fits) (choice_stops c us)) (last_choice c refl (more 6 7 r refl s) (open_sequence_read q d (left _ 0 (right _ _ fits)) s))
-  open_choices_read {c = c} (g.open-choice-more {us = us} p ps) d fits s =
-      more_choices c (closed_sequence_read p d (left _ _ fits) (choice_stops c us)) (open_choices_read ps d (right _ _ fits) s)
-
-  pub closed_sequence_read : {n : ℕ} {ts : List Token} {t : Tree} {r : List Token} → ClosedSequenceText n ts t r → (d : ℕ) → tree_depth t ≤ d → Stops 8 r → Bounded bound.Closed (λ L. L.sequence (limits n d) ts) t r
-  closed_sequence_read {r = r} (g.closed-sequence-one p) d fits s =
-      let p' = closed_prefix_read p d fits (more 8 9 r refl s) in
-      record { k = p'.k; tight = p'.tight; gives = sequence_alone s p'.gives }
-  closed_sequence_read (g.closed-sequence-more {p = p'} {q = q'} p q) d fits s =
+  pub sequence_read : {n : ℕ} {e : Reach} {ts : List Token} {t : Tree} {r : List Token} → SequenceText n e ts t r → (d : ℕ) → tree_depth t ≤ d → Stops (stop e 8) r → Bounded (least e) (λ L. L.sequence (limits n d) ts) t r
+  sequence_read {e = e} {r = r} (g.sequence-one p) d fits s =
+      let p' = prefix_read p d fits (next_stop e 8 9 r refl s) in
+      record { k = p'.k; tight = p'.tight; gives = sequence_alone (until e 8 r refl s) p'.gives }
+  sequence_read {e = e} (g.sequence-more {p = p'} {q = q'} p q) d fits s =
       let within : max (tree_depth p') (tree_depth q') ≤ less d = parts d (depths.of_tree _ (tree.rolls-Seq p' q')) fits in
-      let front = closed_prefix_read p d (up d (left _ _ within)) refl in
-      let back = closed_sequence_read q (less d) (right _ _ within) s in
+      let front = prefix_read p d (up d (left _ _ within)) refl in
+      let back = sequence_read q (less d) (right _ _ within) s in
       record {
         k = of_process back.k;
-        tight = still_closed back.k back.tight;
+        tight = still e back.k back.tight;
         gives = later (bind _ front.gives (granted _ front.tight (about d p' _ (depths.of_tree _ (tree.rolls-Seq p' q')) (first_part (tree_depth p') (tree_depth q')) fits
-            (bind _ back.gives (granted _ (one_of_two back.k back.tight) now)))));
+            (bind _ back.gives (granted _ (tight_one e back.k back.tight) now)))));
       }
 
-  open_sequence_read : {n : ℕ} {ts : List Token} {t : Tree} {r : List Token} → OpenSequenceText n ts t r → (d : ℕ) → tree_depth t ≤ d → Stops 6 r → Gives (λ L. L.sequence (limits n d) ts) (bound.Open, t, r)
-  open_sequence_read {r = r} (g.open-sequence-one p) d fits s = sequence_alone (more 6 8 r refl s) (open_prefix_read p d fits s)
-  open_sequence_read (g.open-sequence-more {p = p'} {q = q'} p q) d fits s =
-      let within : max (tree_depth p') (tree_depth q') ≤ less d = parts d (depths.of_tree _ (tree.rolls-Seq p' q')) fits in
-      let front = closed_prefix_read p d (up d (left _ _ within)) refl in
-      later (bind _ front.gives (granted _ front.tight (about d p' _ (depths.of_tree _ (tree.rolls-Seq p' q')) (first_part (tree_depth p') (tree_depth q')) fits
-      (bind _ (open_sequence_read q (less d) (right _ _ within) s) now))))
-
-  closed_prefix_read : {n : ℕ} {ts : List Token} {t : Tree} {r : List Token} → ClosedPrefixText n ts t r → (d : ℕ) → tree_depth t ≤ d → Stops 9 r → Bounded bound.Closed (λ L. L.prefix (limits n d) ts) t r
-  closed_prefix_read (g.closed-prefix-event {us = us} {p = p'} (g.event-fields {c = c} {fs = fs'} fs) p) d fits s =
+  prefix_read : {n : ℕ} {e : Reach} {ts : List Token} {t : Tree} {r : List Token} → PrefixText n e ts t r → (d : ℕ) → tree_depth t ≤ d → Stops (stop e 9) r → Bounded (least e) (λ L. L.prefix (limits n d) ts) t r
+  prefix_read {e = e} (g.prefix-event {us = us} {p = p'} (g.event-fields {c = c} {fs = fs'} fs) p) d fits s =
       let within : max (greatest (map field_depth fs')) (tree_depth p') ≤ less d = parts d (prefix_depth c fs' p') fits in
-      let back = closed_prefix_read p (less d) (right _ _ within) s in
+      let back = prefix_read p (less d) (right _ _ within) s in
       record {
         k = of_process back.k;
-        tight = still_closed back.k back.tight;
+        tight = still e back.k back.tight;
         gives = later (bind _ (first _ _ (fields_begin fs refl) now) (inner _ d _ (prefix_depth c fs' p') fits
-            (bind _ (fields_read fs (less d) (left _ _ within) (arrow_ends us)) (bind _ back.gives (granted _ (one_of_two back.k back.tight) now)))));
+            (bind _ (fields_read fs (less d) (left _ _ within) (arrow_ends us)) (bind _ back.gives (granted _ (tight_one e back.k back.tight) now)))));
       }
-  closed_prefix_read (g.closed-prefix-guard {c = c'} {p = p'} c p) d fits s =
+  prefix_read {e = e} (g.prefix-guard {c = c'} {p = p'} c p) d fits s =
       let within : max (tree_depth c') (tree_depth p') ≤ less d = parts d (depths.of_tree _ (tree.rolls-Guard c' p')) fits in
-      let back = closed_prefix_read p (less d) (right _ _ within) s in
+      let back = prefix_read p (less d) (right _ _ within) s in
       record {
         k = of_process back.k;
-        tight = still_closed back.k back.tight;
+        tight = still e back.k back.tight;
         gives = into_guard (no_event c refl) (plain c) (bind _ (read_at (expression_read c d (up d (left _ _ within)) refl) bound.Disjunction refl refl)
-            (about d c' _ (depths.of_tree _ (tree.rolls-Guard c' p')) (first_part (tree_depth c') (tree_depth p')) fits (bind _ back.gives (granted _ (one_of_two back.k back.tight) now))));
+            (about d c' _ (depths.of_tree _ (tree.rolls-Guard c' p')) (first_part (tree_depth c') (tree_depth p')) fits (bind _ back.gives (granted _ (tight_one e back.k back.tight) now))));
       }
-  closed_prefix_read {r = r} (g.closed-prefix-expression e) d fits s =
+  prefix_read {r = r} (g.prefix-expression e) d fits s =
       let p' = prefix_alone refl (no_event e (stops_no_event r s)) (plain e) (expression_read e d fits (more 9 12 r refl s)) s in
       record { k = p'.k; tight = from_eleven p'.k p'.tight; gives = p'.gives }
-
-  open_prefix_read : {n : ℕ} {ts : List Token} {t : Tree} {r : List Token} → OpenPrefixText n ts t r → (d : ℕ) → tree_depth t ≤ d → Stops 6 r → Gives (λ L. L.prefix (limits n d) ts) (bound.Open, t, r)
-  open_prefix_read (g.open-prefix-event {us = us} {p = p'} (g.event-fields {c = c} {fs = fs'} fs) p) d fits s =
-      let within : max (greatest (map field_depth fs')) (tree_depth p') ≤ less d = parts d (prefix_depth c fs' p') fits in
-      later (bind _ (first _ _ (fields_begin fs refl) now) (inner _ d _ (prefix_depth c fs' p') fits
-      (bind _ (fields_read fs (less d) (left _ _ within) (arrow_ends us)) (bind _ (open_prefix_read p (less d) (right _ _ within) s) now))))
-  open_prefix_read (g.open-prefix-guard {c = c'} {p = p'} c p) d fits s =
-      let within : max (tree_depth c') (tree_depth p') ≤ less d = parts d (depths.of_tree _ (tree.rolls-Guard c' p')) fits in
-      into_guard (no_event c refl) (plain c) (bind _ (read_at (expression_read c d (up d (left _ _ within)) refl) bound.Disjunction refl refl)
-      (about d c' _ (depths.of_tree _ (tree.rolls-Guard c' p')) (first_part (tree_depth c') (tree_depth p')) fits (bind _ (open_prefix_read p (less d) (right _ _ within) s) now)))
-  open_prefix_read (g.open-prefix-open-form p) d fits s = open_read p d fits s
+  prefix_read (g.prefix-open-form p) d fits s = record { k = bound.Open; tight = refl; gives = open_read p d fits s }
 
   open_read : {n : ℕ} {ts : List Token} {t : Tree} {r : List Token} → OpenText n ts t r → (d : ℕ) → tree_depth t ≤ d → Stops 6 r → Gives (λ L. L.prefix (limits n d) ts) (bound.Open, t, r)
   open_read (g.open-if-then-else {c = c'} {p = p'} {q = q'} c p q) d fits s =

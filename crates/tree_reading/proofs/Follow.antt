@@ -4,7 +4,11 @@ use Rattle.csp_text.specs.declared.token.Token.{Token}
 use Rattle.csp_text.specs.declared.token.Token.TheVariants as token
 use Rattle.csp_text.specs.declared.token.Symbol.{Symbol}
 use Rattle.csp_text.specs.declared.token.Symbol.TheVariants as symbol
-use Rattle.csp_grammar.specs.Tokens.{begins, skip, symbol_binding, symbol_place}
+use Rattle.csp_text.specs.Written.{same_symbol}
+use Rattle.csp_text.proofs.WrittenAlike.{symbol_is}
+use Rattle.csp_grammar.specs.Tokens.{begins, skip, symbol_binding}
+use Rattle.std.proofs.lemmas.Bool.{false_from_ne_true}
+use Rattle.std.proofs.lemmas.Bool.Decides.{nat_tests}
 
 -- the rest does not begin with a token that binds as tightly as the number, or tighter
 abbrev pub Stops : ℕ → List Token → Type 0
@@ -16,8 +20,12 @@ below_stops k r h = grind (arith)
 pub more : (j k : ℕ) (r : List Token) → nat_le j k ≡ true → Stops j r → Stops k r
 more j k r h s = grind (arith)
 
-other : (b c p q : ℕ) → nat_lt b c ≡ true → (nat_eq b c && nat_eq p q) ≡ false
-other b c p q h = grind (arith)
+not_equal : (b c : ℕ) → nat_lt b c ≡ true → b ≡ c → ⊥
+not_equal b c h e = grind (arith, nat_tests)
+
+-- a symbol that binds less tightly is another one
+other : (u s : Symbol) → nat_lt (symbol_binding u) (symbol_binding s) ≡ true → same_symbol u s ≡ false
+other u s h = false_from_ne_true (same_symbol u s) (λ same. not_equal (symbol_binding u) (symbol_binding s) h (ap symbol_binding (symbol_is u s same)))
 
 lower : (a k b : ℕ) → nat_lt a k ≡ true → nat_le k b ≡ true → nat_lt a b ≡ true
 lower a k b h le = grind (arith)
@@ -25,7 +33,7 @@ lower a k b h le = grind (arith)
 -- a symbol that binds as tightly as the number does not stand at the front
 pub not_symbol : (s : Symbol) (k : ℕ) (r : List Token) → nat_le k (symbol_binding s) ≡ true → Stops k r → skip s r ≡ None
 not_symbol s k (token.Symbol u ∷ r) le h =
-    ap (λ b. if b then Some r else None) (other (symbol_binding u) (symbol_binding s) (symbol_place u) (symbol_place s) (lower (symbol_binding u) k (symbol_binding s) h le))
+    ap (λ b. if b then Some r else None) (other u s (lower (symbol_binding u) k (symbol_binding s) h le))
 not_symbol s k _ le h = refl
 
 no_ten : (b : ℕ) → nat_lt b 9 ≡ true → nat_eq b 10 ≡ false

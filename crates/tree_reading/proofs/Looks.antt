@@ -1,5 +1,5 @@
 -- What a look at the tokens tells, where something is there.
-use Rattle.std.proofs.Common.{◌≡◌, ℕ, zero, suc, Bool, true, false, ◌&&◌, nat_eq, if◌then◌else◌, Option, Some, None, List, [], ◌∷◌, refl, sym, ap, ◌∙◌, arith}
+use Rattle.std.proofs.Common.{◌≡◌, ℕ, Bool, true, false, if◌then◌else◌, Option, Some, None, List, [], ◌∷◌, refl, ap}
 use Rattle.csp_text.specs.declared.token.Token.{Token}
 use Rattle.csp_text.specs.declared.token.Token.TheVariants as token
 use Rattle.csp_text.specs.declared.token.Word.{Word}
@@ -11,7 +11,9 @@ use Rattle.csp_grammar.specs.Grammar.{choice_sign}
 use Rattle.csp_grammar.specs.Precedence.{Level, IsLeftOperator, IsComparison}
 use Rattle.csp_grammar.specs.Precedence as table
 use Rattle.csp_grammar.specs.Precedence.Level.{disjunction, conjunction, negation, comparison, sum, product, minus, renaming}
-use Rattle.csp_grammar.specs.Tokens.{symbol_place, symbol_binding, word_place, is_symbol, skip, skip_word, is_text}
+use Rattle.csp_text.specs.Written.{same_symbol, same_word}
+use Rattle.csp_text.proofs.WrittenAlike.{symbol_is, word_is}
+use Rattle.csp_grammar.specs.Tokens.{skip, skip_word}
 use Rattle.tree_reading.specs.Starts.{choice, chain_symbol, first_chain, may_follow, named, sign_behind, symbol_sign, token_sign, word_sign}
 use Rattle.tree_reading.specs.declared.look.Chain.{Chain}
 use Rattle.tree_reading.specs.declared.look.Chain.TheVariants as chain
@@ -21,54 +23,19 @@ use Rattle.tree_reading.specs.declared.read.Binding.{Binding}
 use Rattle.tree_reading.specs.declared.read.Binding.TheVariants as binding
 use Rattle.tree_reading.proofs.Holds.{Holds, by_case, by_then}
 use Rattle.tree_reading.proofs.Holds.Holds.{none, some}
-use Rattle.std.proofs.lemmas.Option.{same_Some}
-use Rattle.csp_base.proofs.Booleans.{and_first, and_second}
-
-symbols : List Symbol
-symbols = symbol.Arrow ∷ symbol.ExternalChoice ∷ symbol.InternalChoice ∷ symbol.Parallel ∷ symbol.OpenRename ∷ symbol.CloseRename ∷ symbol.OpenProduct ∷ symbol.CloseProduct ∷ symbol.LeftArrow ∷ symbol.DotDot ∷ symbol.Dot ∷ symbol.Bang ∷ symbol.Question ∷ symbol.Colon ∷ symbol.At ∷ symbol.Defines ∷ symbol.Equal ∷ symbol.NotEqual ∷ symbol.Less ∷ symbol.LessEqual ∷ symbol.Greater ∷ symbol.GreaterEqual ∷ symbol.Plus ∷ symbol.Minus ∷ symbol.Star ∷ symbol.Slash ∷ symbol.Percent ∷ symbol.OpenParen ∷ symbol.CloseParen ∷ symbol.OpenBrace ∷ symbol.CloseBrace ∷ symbol.OpenBracket ∷ symbol.CloseBracket ∷ symbol.Comma ∷ symbol.Ampersand ∷ symbol.Bar ∷ symbol.Backslash ∷ symbol.Semicolon ∷ []
-
-words : List Word
-words = word.And ∷ word.Assert ∷ word.Channel ∷ word.Datatype ∷ word.Diff ∷ word.Else ∷ word.False ∷ word.If ∷ word.Inter ∷ word.Nametype ∷ word.Not ∷ word.Or ∷ word.Then ∷ word.True ∷ word.Union ∷ word.Stop ∷ word.Skip ∷ []
-
--- the element at a place of a list
-abbrev at : {A : Type 0} → List A → ℕ → Option A
-at [] n = None
-at (x ∷ xs) zero = Some x
-at (x ∷ xs) (suc n) = at xs n
-
-symbol_at : (s : Symbol) → at symbols (symbol_place s) ≡ Some s
-unfolding symbols
-symbol_at symbol.Arrow = refl
-symbol_at _ = refl
-
-word_at : (w : Word) → at words (word_place w) ≡ Some w
-unfolding words
-word_at word.And = refl
-word_at _ = refl
-
-second_half : (b : Bool) (p q : ℕ) → (b && nat_eq p q) ≡ true → p ≡ q
-second_half b p q h = grind (arith)
-
-eq_places : (p q : ℕ) → nat_eq p q ≡ true → p ≡ q
-eq_places p q h = grind (arith)
-
-symbol_same : (s u : Symbol) → is_symbol s u ≡ true → u ≡ s
-symbol_same s u h =
-    same_Some u s (sym (symbol_at u) ∙ ap (at symbols) (second_half (nat_eq (symbol_binding u) (symbol_binding s)) (symbol_place u) (symbol_place s) h) ∙ symbol_at s)
-
-word_same : (w u : Word) → nat_eq (word_place u) (word_place w) ≡ true → u ≡ w
-word_same w u h = same_Some u w (sym (word_at u) ∙ ap (at words) (eq_places (word_place u) (word_place w) h) ∙ word_at w)
+use Rattle.std.proofs.lemmas.Slice.Eq.{bytes_eq-Decides}
+use Rattle.std.specs.Str.{bytes_eq}
 
 when_true : {A : Type 0} {P : A → Type 0} (b : Bool) (x : A) → (b ≡ true → P x) → Holds P (if b then Some x else None)
 when_true false x f = none
 when_true true x f = some (f refl)
 
 pub skips : (s : Symbol) (ts : List Token) → Holds (λ us. ts ≡ token.Symbol s ∷ us) (skip s ts)
-skips s (token.Symbol u ∷ ts) = when_true (is_symbol s u) ts (λ h. ap (λ v. token.Symbol v ∷ ts) (symbol_same s u h))
+skips s (token.Symbol u ∷ ts) = when_true (same_symbol u s) ts (λ h. ap (λ v. token.Symbol v ∷ ts) (symbol_is u s h))
 skips s _ = none
 
 pub skips_word : (w : Word) (ts : List Token) → Holds (λ us. ts ≡ token.Word w ∷ us) (skip_word w ts)
-skips_word w (token.Word u ∷ ts) = when_true (nat_eq (word_place u) (word_place w)) ts (λ h. ap (λ v. token.Word v ∷ ts) (word_same w u h))
+skips_word w (token.Word u ∷ ts) = when_true (same_word u w) ts (λ h. ap (λ v. token.Word v ∷ ts) (word_is u w h))
 skips_word w _ = none
 
 pub names : (ts : List Token) → Holds (λ x. ts ≡ token.Name x.0 ∷ x.1) (named ts)
@@ -139,17 +106,5 @@ pub skips_chain : (c : Chain) (ts : List Token) → Holds (λ us. ts ≡ choice_
 skips_chain chain.External ts = skips symbol.ExternalChoice ts
 skips_chain chain.Internal ts = skips symbol.InternalChoice ts
 
-impossible : false ≡ true → ⊥
-impossible h = grind (arith)
-
-elim_false : {A : Type 0} → false ≡ true → A
-elim_false h = absurd (impossible h)
-
-pair : (x y : ℕ) (xs ys : List ℕ) → nat_eq x y ≡ true → xs ≡ ys → ◌≡◌ {A = List ℕ} (x ∷ xs) (y ∷ ys)
-pair x y xs ys h e = ap (λ z. z ∷ xs) (eq_places x y h) ∙ ap (λ zs. y ∷ zs) e
-
-pub texts : (xs ys : List ℕ) → is_text xs ys ≡ true → xs ≡ ys
-texts [] [] h = refl
-texts [] (y ∷ ys) h = elim_false h
-texts (x ∷ xs) [] h = elim_false h
-texts (x ∷ xs) (y ∷ ys) h = pair x y xs ys (and_first (nat_eq x y) (is_text xs ys) h) (texts xs ys (and_second (nat_eq x y) (is_text xs ys) h))
+pub texts : (xs ys : List ℕ) → bytes_eq xs ys ≡ true → xs ≡ ys
+texts xs ys = (bytes_eq-Decides xs ys).0

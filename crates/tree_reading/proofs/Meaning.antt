@@ -5,8 +5,9 @@ use Rattle.csp_text.specs.declared.token.Token.{Token}
 use Rattle.csp_text.specs.declared.token.Symbol.{Symbol}
 use Rattle.csp_text.specs.declared.tree.Tree.{Tree}
 use Rattle.csp_grammar.specs.Declarations.{NamesText, TypesText, DeclarationsText}
-use Rattle.csp_grammar.specs.Grammar.{Choice, choice_sign, TreeText, SideText, ClosedSideText, HidingText, ClosedChoiceText, OpenChoiceText, ClosedSequenceText, OpenSequenceText, ClosedPrefixText, OpenPrefixText, FieldsText, DottedText, DotsText, ExpressionText, PairsText, PartsText, GensText, ItemText, ItemsText, AtomText}
+use Rattle.csp_grammar.specs.Grammar.{Choice, choice_sign, TreeText, Reach, SideText, HidingText, ChoiceText, SequenceText, PrefixText, FieldsText, DottedText, DotsText, ExpressionText, PairsText, PartsText, GensText, ItemText, ItemsText, AtomText}
 use Rattle.csp_grammar.specs.Grammar as g
+use Rattle.csp_grammar.specs.Grammar.Reach.{closed, opened}
 use Rattle.csp_grammar.specs.Precedence.{Level}
 use Rattle.csp_grammar.specs.Precedence as table
 use Rattle.csp_grammar.specs.Precedence.Level.{disjunction, conjunction, negation, comparison, sum, product, minus, renaming}
@@ -16,6 +17,7 @@ use Rattle.tree_reading.specs.Nesting.{limits}
 use Rattle.tree_reading.specs.Starts.{choice}
 use Rattle.tree_reading.specs.declared.look.Chain.{Chain}
 use Rattle.tree_reading.specs.declared.read.Binding.{Binding}
+use Rattle.tree_reading.specs.declared.read.Binding.TheVariants as bound
 use Rattle.tree_reading.proofs.Holds.{Holds}
 use Rattle.tree_reading.proofs.Levels.{pairs_depth, tightness}
 use Rattle.csp_base.specs.Lists.{greatest}
@@ -29,31 +31,32 @@ pub record ExpressionRead (n d : ℕ) (m : Binding) (ts : List Token) (p : Bindi
   pub is : Expressions n (number p.0) ts p.1 p.2
   pub fits : tree_depth p.1 ≤ d
 
+-- whether something may follow what is bound like this
+abbrev pub reach : Binding → Reach
+reach bound.Open = opened
+reach _ = closed
+
 pub record PrefixRead (n d : ℕ) (ts : List Token) (p : Binding × Tree × List Token) : Type 0 where
   pub dotted : number p.0 ≡ 0 → DottedText n ts p.1 p.2
-  pub opened : number p.0 ≡ 1 → OpenPrefixText n ts p.1 p.2
-  pub closed : 2 ≤ number p.0 → ClosedPrefixText n ts p.1 p.2
+  pub process : 1 ≤ number p.0 → PrefixText n (reach p.0) ts p.1 p.2
   pub is : Expressions n (number p.0) ts p.1 p.2
   pub fits : tree_depth p.1 ≤ d
 
 pub record SequenceRead (n d : ℕ) (ts : List Token) (p : Binding × Tree × List Token) : Type 0 where
   pub dotted : number p.0 ≡ 0 → DottedText n ts p.1 p.2
-  pub opened : number p.0 ≡ 1 → OpenSequenceText n ts p.1 p.2
-  pub closed : 2 ≤ number p.0 → ClosedSequenceText n ts p.1 p.2
+  pub process : 1 ≤ number p.0 → SequenceText n (reach p.0) ts p.1 p.2
   pub is : Expressions n (number p.0) ts p.1 p.2
   pub fits : tree_depth p.1 ≤ d
 
 pub record SideRead (n d : ℕ) (ts : List Token) (p : Binding × Tree × List Token) : Type 0 where
   pub dotted : number p.0 ≡ 0 → DottedText n ts p.1 p.2
-  pub opened : number p.0 ≡ 1 → SideText n ts p.1 p.2
-  pub closed : 2 ≤ number p.0 → ClosedSideText n ts p.1 p.2
+  pub process : 1 ≤ number p.0 → SideText n (reach p.0) ts p.1 p.2
   pub fits : tree_depth p.1 ≤ d
 
 -- the operands behind the first one
 pub record ChoicesRead (n d : ℕ) (c : Choice) (ts : List Token) (p : Binding × List Tree × List Token) : Type 0 where
   pub bound : 1 ≤ number p.0
-  pub opened : (us : List Token) (q : Tree) → ClosedSequenceText n us q (choice_sign c ∷ ts) → number p.0 ≡ 1 → OpenChoiceText n c us (q ∷ p.1) p.2
-  pub closed : (us : List Token) (q : Tree) → ClosedSequenceText n us q (choice_sign c ∷ ts) → 2 ≤ number p.0 → ClosedChoiceText n c us (q ∷ p.1) p.2
+  pub process : (us : List Token) (q : Tree) → SequenceText n closed us q (choice_sign c ∷ ts) → ChoiceText n (reach p.0) c us (q ∷ p.1) p.2
   pub fit : greatest (map tree_depth p.1) ≤ d
 
 -- what hidings begin with: a renaming or an atom, or a hiding

@@ -3,7 +3,7 @@ use Rattle.std.proofs.Common.{◌≡◌, ℕ, ◌<◌, false, nat_le, List, map,
 use Rattle.csp_text.specs.Depth.{event_depth, event_layer_depth, field_depth, field_layer_depth, gen_depth, gen_layer_depth, part_depth, part_layer_depth, tree_depth, tree_layer_depth}
 use Rattle.csp_text.specs.declared.tree.FieldTree.TheFolds.{map-Tree, map-FieldTree, map-GenTree, fold-roll-Tree, fold-roll-FieldTree, fold-roll-GenTree, fold-roll-EventTree, fold-roll-PartTree, fold_out-Tree}
 use Rattle.csp_text.specs.declared.tree.FieldTree.TheOpen.{Tree-F, FieldTree-F, GenTree-F}
-use Rattle.csp_text.specs.declared.tree.FieldTree.TheViews.{roll-FieldTree, roll-GenTree, roll-Tree}
+use Rattle.csp_text.specs.declared.tree.FieldTree.TheViews.{roll-FieldTree, roll-GenTree, roll-Tree, out-Tree}
 use Rattle.csp_text.specs.declared.tree.FieldTree.{FieldTree}
 use Rattle.csp_text.specs.declared.tree.GenTree.{GenTree}
 use Rattle.csp_text.specs.declared.tree.EventTree.{EventTree}
@@ -34,17 +34,13 @@ depth-part c fields = fold-roll-PartTree ℕ ℕ ℕ ℕ ℕ field_layer_depth g
 pub depth-event : (c : List ℕ) (fields : List FieldTree) → event_depth (event_tree c fields) ≡ greatest (map field_depth fields)
 depth-event c fields = fold-roll-EventTree ℕ ℕ ℕ ℕ ℕ field_layer_depth gen_layer_depth tree_layer_depth event_layer_depth part_layer_depth (record { name = c; fields = fields })
 
-layer_positive : (x : Tree-F ℕ ℕ ℕ ℕ ℕ) → 0 < tree_layer_depth x
-layer_positive Tree-F.Stop = omega arith
-layer_positive _ = omega arith
-
 -- no tree has depth 0
 pub deep : (d : Tree-F FieldTree GenTree Tree EventTree PartTree) → 0 < layer_depth d
-deep d = layer_positive _
+deep d = omega arith
 
 not_below : (n : ℕ) → 0 < n → nat_le n 0 ≡ false
 not_below n h = grind (arith)
 
 pub positive : (t : Tree) → nat_le (tree_depth t) 0 ≡ false
 positive t =
-    ap (λ n. nat_le n 0) (fold_out-Tree ℕ ℕ ℕ ℕ ℕ field_layer_depth gen_layer_depth tree_layer_depth event_layer_depth part_layer_depth t) ∙ not_below _ (layer_positive _)
+    ap (λ n. nat_le n 0) (fold_out-Tree ℕ ℕ ℕ ℕ ℕ field_layer_depth gen_layer_depth tree_layer_depth event_layer_depth part_layer_depth t) ∙ not_below (layer_depth (out-Tree t)) (deep (out-Tree t))

@@ -44,10 +44,6 @@ pub record Bounded {A : Type 0} (least : Binding) (F : Limited → Found A) (a :
 trans : (a b c : ℕ) → nat_le a b ≡ true → nat_le b c ≡ true → nat_le a c ≡ true
 trans a b c h k = grind (arith)
 
-pub looser : {A : Type 0} {F : Limited → Found A} {a : A} {r : List Token} (least less : Binding) →
-    nat_le (number less) (number least) ≡ true → Bounded least F a r → Bounded less F a r
-looser least less le b = record { k = b.k; tight = trans (number less) (number least) (number b.k) le b.tight; gives = b.gives }
-
 pub one_of_two : (k : Binding) → nat_le 2 (number k) ≡ true → nat_le 1 (number k) ≡ true
 one_of_two k h = trans 1 2 (number k) refl h
 

@@ -7,8 +7,9 @@ use Rattle.csp_text.specs.declared.token.Symbol.TheVariants.{ExternalChoice, Int
 use Rattle.csp_text.specs.declared.tree.Tree.{Tree}
 use Rattle.csp_text.specs.declared.tree.Tree.TheVariants as tree
 use Rattle.csp_grammar.specs.Examples.{prefix_tokens, plain_prefix}
-use Rattle.csp_grammar.specs.Grammar.{ClosedSequenceText, ClosedSideText}
+use Rattle.csp_grammar.specs.Grammar.{SequenceText, SideText}
 use Rattle.csp_grammar.specs.Grammar as g
+use Rattle.csp_grammar.specs.Grammar.Reach.{closed}
 use Rattle.csp_grammar.specs.Grammar.Choice.{external}
 use Rattle.csp_grammar.specs.Tokens.{skip}
 use Rattle.csp_grammar.proofs.Examples.{process}
@@ -16,7 +17,7 @@ use Rattle.tree_reading.specs.Laws.{alphabets_between, MixedChoiceHasNoTree, NoD
 use Rattle.tree_reading.specs.Limited.{limited}
 use Rattle.tree_reading.specs.Nesting.{limits}
 use Rattle.tree_reading.specs.Settled.{Settles}
-use Rattle.tree_reading.proofs.Complete.{atom_read, closed_sequence_read, closed_side_read, first_fits, first_of_four, rest_fit, tree_read}
+use Rattle.tree_reading.proofs.Complete.{atom_read, sequence_read, side_read, first_fits, first_of_four, rest_fit, tree_read}
 use Rattle.tree_reading.proofs.Fitting.{about, first_part, left, less, parts, right, second_part, up}
 use Rattle.tree_reading.proofs.Follow.{Stops}
 use Rattle.tree_reading.proofs.Gives.{Gives}
@@ -37,19 +38,19 @@ none_read : {n d : ℕ} {ts : List Token} {t : Tree} → Settles (λ L. L.tree (
 none_read {t = t} s h = none-some (t, []) (one_answer s h)
 
 -- p [] q, with a rest that goes on with neither
-choice_read : (n d : ℕ) (p q : Tree) {ts us : List Token} (sign : Token) (r : List Token) → tree_depth (tree.External (p ∷ q ∷ [])) ≤ d → ClosedSequenceText n ts p (Symbol ExternalChoice ∷ us) →
-    ClosedSequenceText n us q (sign ∷ r) → Stops 8 (sign ∷ r) → skip ExternalChoice (sign ∷ r) ≡ None → skip OpenBracket (sign ∷ r) ≡ None →
+choice_read : (n d : ℕ) (p q : Tree) {ts us : List Token} (sign : Token) (r : List Token) → tree_depth (tree.External (p ∷ q ∷ [])) ≤ d → SequenceText n closed ts p (Symbol ExternalChoice ∷ us) →
+    SequenceText n closed us q (sign ∷ r) → Stops 8 (sign ∷ r) → skip ExternalChoice (sign ∷ r) ≡ None → skip OpenBracket (sign ∷ r) ≡ None →
     Gives (λ L. L.tree (limits n d) ts) (tree.External (p ∷ q ∷ []), sign ∷ r)
 choice_read n d p q sign r fits first second s not_choice not_bracket =
-    let one = closed_sequence_read first d (first_fits external p (q ∷ []) d fits) refl in
-    let two = closed_sequence_read second (less d) (left _ 0 (rest_fit external p (q ∷ []) d fits)) s in
+    let one = sequence_read first d (first_fits external p (q ∷ []) d fits) refl in
+    let two = sequence_read second (less d) (left _ 0 (rest_fit external p (q ∷ []) d fits)) s in
     later (bind _ (side_of_choices external fits one (later (bind _ two.gives (granted _ (one_of_two two.k two.tight) (not_there _ _ not_choice now))))) (not_there _ _ not_bracket now))
 
-prefixed : {n : ℕ} {a p : List ℕ} {r : List Token} → ClosedSequenceText n (prefix_tokens a p r) (plain_prefix a (tree.Name p)) r
-prefixed = g.closed-sequence-one (g.closed-prefix-event (g.event-fields g.fields-none) (process g.atom-name))
+prefixed : {n : ℕ} {a p : List ℕ} {r : List Token} → SequenceText n closed (prefix_tokens a p r) (plain_prefix a (tree.Name p)) r
+prefixed = g.sequence-one (g.prefix-event (g.event-fields g.fields-none) (process g.atom-name))
 
-named : {n : ℕ} {p : List ℕ} {r : List Token} → ClosedSequenceText n (Name p ∷ r) (tree.Name p) r
-named = g.closed-sequence-one (process g.atom-name)
+named : {n : ℕ} {p : List ℕ} {r : List Token} → SequenceText n closed (Name p ∷ r) (tree.Name p) r
+named = g.sequence-one (process g.atom-name)
 
 pub mixed : MixedChoiceHasNoTree
 mixed n a p t h =
@@ -64,8 +65,8 @@ hiding n a p q t h =
     not_all (choice_read n (max (tree_depth t) front) (tree.Name p) (tree.Name q) (Symbol Backslash) (Name a ∷ []) (second_part (tree_depth t) front) named named refl refl refl)
     (tree_read h (max (tree_depth t) front) (first_part (tree_depth t) front) refl)
 
-side : {n : ℕ} {p : List ℕ} {r : List Token} → ClosedSideText n (Name p ∷ r) (tree.Name p) r
-side = g.closed-side-sequence named
+side : {n : ℕ} {p : List ℕ} {r : List Token} → SideText n closed (Name p ∷ r) (tree.Name p) r
+side = g.side-sequence named
 
 both_parallel : (n d : ℕ) (a b p q : List ℕ) (r : List Token) → tree_depth (tree.Parallel (tree.Name p) (tree.Name a) (tree.Name b) (tree.Name q)) ≤ d → Stops 7 r →
     Gives (λ L. L.tree (limits (suc n) d) (Name p ∷ alphabets_between a b (Name q ∷ r))) (tree.Parallel (tree.Name p) (tree.Name a) (tree.Name b) (tree.Name q), r)
@@ -74,8 +75,8 @@ both_parallel n d a b p q r fits s =
     let within : max (max (tree_depth (tree.Name p)) (tree_depth (tree.Name a))) (max (tree_depth (tree.Name b)) (tree_depth (tree.Name q))) ≤ less d = parts d is fits in
     let before : max (tree_depth (tree.Name p)) (tree_depth (tree.Name a)) ≤ less d = left _ _ within in
     let after : max (tree_depth (tree.Name b)) (tree_depth (tree.Name q)) ≤ less d = right _ _ within in
-    let front = closed_side_read side d (up d (left _ _ before)) refl in
-    let back = closed_side_read side (less d) (right _ _ after) s in
+    let front = side_read side d (up d (left _ _ before)) refl in
+    let back = side_read side (less d) (right _ _ after) s in
     later (bind _ front.gives (granted _ front.tight (about d (tree.Name p) _ is
     (first_of_four (tree_depth (tree.Name p)) (tree_depth (tree.Name a)) (tree_depth (tree.Name b)) (tree_depth (tree.Name q))) fits
     (bind _ (atom_read g.atom-name (less d) (right _ _ before) refl) (bind _ (atom_read g.atom-name (less d) (left _ _ after) refl)
@@ -87,7 +88,7 @@ no_bracket d a b p r q fits =
     let is = depths.of_tree _ (tree.rolls-Parallel (tree.Name p) (tree.Name a) (tree.Name b) q) in
     let within : max (max (tree_depth (tree.Name p)) (tree_depth (tree.Name a))) (max (tree_depth (tree.Name b)) (tree_depth q)) ≤ less d = parts d is fits in
     let before : max (tree_depth (tree.Name p)) (tree_depth (tree.Name a)) ≤ less d = left _ _ within in
-    let front = closed_side_read side d (up d (left _ _ before)) refl in
+    let front = side_read side d (up d (left _ _ before)) refl in
     later (bind _ front.gives (granted _ front.tight (about d (tree.Name p) _ is
     (first_of_four (tree_depth (tree.Name p)) (tree_depth (tree.Name a)) (tree_depth (tree.Name b)) (tree_depth q)) fits now)))
 

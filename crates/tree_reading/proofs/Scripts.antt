@@ -10,8 +10,11 @@ use Rattle.csp_text.specs.declared.script.Decl.{Decl}
 use Rattle.csp_grammar.specs.Declarations.{NamesText, TypesText, ParametersText, AssertedText, ModelText, DeclarationText, DeclarationsText}
 use Rattle.csp_grammar.specs.Declarations as d
 use Rattle.csp_grammar.specs.Grammar as g
+use Rattle.dl_limits.specs.declared.TheConstants.{MOST_TREE_DEPTH}
 use Rattle.csp_grammar.specs.Reader.{and_then, case}
-use Rattle.csp_grammar.specs.Tokens.{skip, symbol_binding, symbol_place, first_token}
+use Rattle.csp_text.specs.Written.{symbol_text}
+use Rattle.csp_grammar.specs.Tokens.{skip, first_token}
+use Rattle.std.proofs.lemmas.Slice.Eq.{bytes_eq-Decides}
 use Rattle.tree_reading.specs.Asserted.{ending, is_model, model, name_that}
 use Rattle.tree_reading.specs.Limited.{read_parameters, read_asserted, read_declaration}
 use Rattle.tree_reading.proofs.Complete.{tree_read, atom_read}
@@ -24,27 +27,24 @@ pub record IsApart (r : List Token) : Type 0 where
   pub stops : Stops 1 r
   pub no_symbol : (s : Symbol) → skip s r ≡ None
 
-both_same : (a b : ℕ) → (nat_eq a a && nat_eq b b) ≡ true
-both_same a b = grind (arith)
-
 skipped : (s : Symbol) (ts : List Token) → skip s (token.Symbol s ∷ ts) ≡ Some ts
-skipped s ts = ap (λ b. if b then Some ts else None) (both_same (symbol_binding s) (symbol_place s))
+skipped s ts = ap (λ b. if b then Some ts else None) ((bytes_eq-Decides (symbol_text s) (symbol_text s)).1 refl)
 
 names_read : {s : Symbol} {ts : List Token} {xs : List (List ℕ)} {r : List Token} → NamesText s ts xs r → skip s r ≡ None → Gives (λ L. L.names s ts) (xs, r)
 names_read d.one e = later (not_there _ _ e now)
 names_read {s = s} (d.more {ts = ts} names) e = later (there _ _ (skipped s ts) (bind _ (names_read names e) now))
 
 types_read : {ts : List Token} {types : List Tree} {r : List Token} → TypesText ts types r → IsApart r → Gives (λ L. L.types ts) (types, r)
-types_read {r = r} (d.one a h) e = later (bind _ (atom_read a 200 h (more 1 20 r refl e.stops)) (not_there _ _ (e.no_symbol symbol.Dot) now))
-types_read (d.more a h types) e = later (bind _ (atom_read a 200 h refl) (bind _ (types_read types e) now))
+types_read {r = r} (d.one a h) e = later (bind _ (atom_read a MOST_TREE_DEPTH h (more 1 20 r refl e.stops)) (not_there _ _ (e.no_symbol symbol.Dot) now))
+types_read (d.more a h types) e = later (bind _ (atom_read a MOST_TREE_DEPTH h refl) (bind _ (types_read types e) now))
 
 parameters_read : {ts : List Token} {xs : List (List ℕ)} {r : List Token} → ParametersText ts xs r → skip symbol.OpenParen r ≡ None → Gives (λ L. read_parameters L ts) (xs, r)
 parameters_read d.none e = not_there _ _ e now
 parameters_read (d.some names) e = bind _ (names_read names refl) now
 
-asserted_read : {ts : List Token} {t : Tree} {r : List Token} → AssertedText ts t r → tree_depth t ≤ 200 → Stops 20 r → Gives (λ L. read_asserted L ts) (t, r)
-asserted_read d.name h s = atom_read g.atom-name 200 h s
-asserted_read (d.call items) h s = atom_read (g.atom-call items) 200 h s
+asserted_read : {ts : List Token} {t : Tree} {r : List Token} → AssertedText ts t r → tree_depth t ≤ MOST_TREE_DEPTH → Stops 20 r → Gives (λ L. read_asserted L ts) (t, r)
+asserted_read d.name h s = atom_read g.atom-name MOST_TREE_DEPTH h s
+asserted_read (d.call items) h s = atom_read (g.atom-call items) MOST_TREE_DEPTH h s
 
 model_read : {ts r : List Token} → ModelText ts r → skip symbol.OpenBracket r ≡ None → model ts ≡ Some r
 model_read {ts = ts} d.none e = ap (λ o. case o (λ us. and_then (name_that is_model us) λ vs. skip symbol.CloseBracket vs) (λ _. Some ts)) e
@@ -60,8 +60,8 @@ declaration_read : {ts : List Token} {x : Decl} {r : List Token} → Declaration
 declaration_read (d.channel names) e = bind _ (names_read names (e.no_symbol symbol.Comma)) (not_there _ _ (e.no_symbol symbol.Colon) now)
 declaration_read (d.channel-of names types) e = bind _ (names_read names refl) (bind _ (types_read types e) now)
 declaration_read (d.datatype names) e = bind _ (names_read names (e.no_symbol symbol.Bar)) now
-declaration_read {r = r} (d.nametype a h) e = bind _ (atom_read a 200 h (more 1 20 r refl e.stops)) now
-declaration_read {r = r} (d.define parameters p h) e = bind _ (parameters_read parameters refl) (bind _ (tree_read p 200 h (more 1 6 r refl e.stops)) now)
+declaration_read {r = r} (d.nametype a h) e = bind _ (atom_read a MOST_TREE_DEPTH h (more 1 20 r refl e.stops)) now
+declaration_read {r = r} (d.define parameters p h) e = bind _ (parameters_read parameters refl) (bind _ (tree_read p MOST_TREE_DEPTH h (more 1 6 r refl e.stops)) now)
 declaration_read (d.assertion asserted h m) e = bind _ (asserted_read asserted h refl) (look _ (ending_read m) now)
 declaration_read d.roles e = now
 declaration_read d.resource e = now

@@ -30,19 +30,11 @@ bind {A} {B} {F} {a} {o} K s t = record {
   settles = λ f le. ap (λ x. and_then x (K (limited f))) (s.settles f (omega arith)) ∙ t.settles f (omega arith);
 }
 
--- nothing comes of a reading that settles on nothing
-pub bind_none : {A B : Type 0} {F : Limited → Option A} (K : Limited → A → Option B) → Settles F None → Settles (λ L. and_then (F L) (K L)) None
-bind_none {A} {B} {F} K s = record { enough = s.enough; settles = λ f le. ap (λ x. and_then x (K (limited f))) (s.settles f le) }
-
 -- LOOKS AND TESTS
 
 -- what is there in a look at the tokens
 pub look : {A B : Type 0} {x : Option A} {a : A} {o : Option B} (K : Limited → A → Option B) → x ≡ Some a → Settles (λ L. K L a) o → Settles (λ L. and_then x (K L)) o
 look {A} {B} {x} {a} {o} K e s = record { enough = s.enough; settles = λ f le. ap (λ y. and_then y (K (limited f))) e ∙ s.settles f le }
-
--- and nothing comes of one that shows nothing
-pub look_none : {A B : Type 0} {x : Option A} (K : Limited → A → Option B) → x ≡ None → Settles (λ L. and_then x (K L)) None
-look_none {A} {B} {x} K e = record { enough = 0; settles = λ f le. ap (λ y. and_then y (K (limited f))) e }
 
 pub there : {A B : Type 0} {x : Option A} {a : A} {o : Option B} (K : Limited → A → Option B) (N : Limited → Unit {0} → Option B) →
     x ≡ Some a → Settles (λ L. K L a) o → Settles (λ L. case x (K L) (N L)) o

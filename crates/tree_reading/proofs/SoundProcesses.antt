@@ -1,5 +1,5 @@
 -- What is read of processes, the grammar has.
-use Rattle.std.proofs.Common.{◌≡◌, inl, inr, ℕ, suc, ◌+◌, ◌≤◌, max, Bool, true, nat_le, Option, Some, None, List, ◌∷◌, map, refl, sym, ap, subst, ◌∙◌, arith}
+use Rattle.std.proofs.Common.{◌≡◌, inl, inr, ℕ, suc, ◌+◌, ◌≤◌, max, Bool, true, nat_le, Option, Some, None, List, [], ◌∷◌, map, refl, sym, ap, subst, ◌∙◌, arith}
 use Rattle.csp_text.specs.Depth.{field_depth, tree_depth}
 use Rattle.csp_text.specs.declared.token.Token.{Token}
 use Rattle.csp_text.specs.declared.token.Token.TheVariants.{Name, Word, Symbol}
@@ -9,8 +9,9 @@ use Rattle.csp_text.specs.declared.tree.Tree.{Tree}
 use Rattle.csp_text.specs.declared.tree.Tree.TheVariants as tree
 use Rattle.csp_text.specs.declared.tree.FieldTree.{FieldTree}
 use Rattle.csp_text.specs.declared.tree.FieldTree.TheVariants as field
-use Rattle.csp_grammar.specs.Grammar.{choice_sign, event_tree, TreeText, SideText, ClosedSideText, HidingText, ClosedSequenceText, OpenSequenceText, ClosedPrefixText, OpenPrefixText, OpenText, EventText, FieldsText, DottedText, DotsText, ExpressionText, AtomText}
+use Rattle.csp_grammar.specs.Grammar.{choice_sign, event_tree, TreeText, Reach, SideText, HidingText, ChoiceText, SequenceText, PrefixText, OpenText, EventText, FieldsText, DottedText, DotsText, ExpressionText, AtomText}
 use Rattle.csp_grammar.specs.Grammar as g
+use Rattle.csp_grammar.specs.Grammar.Reach.{closed}
 use Rattle.csp_grammar.specs.Precedence.Level.{disjunction, renaming, sum}
 use Rattle.csp_grammar.specs.Reader.{begins_event, with_first}
 use Rattle.tree_reading.specs.Bindings.{at_least, number, of_process}
@@ -27,20 +28,15 @@ use Rattle.tree_reading.proofs.Fitting.{both, node, through}
 use Rattle.tree_reading.proofs.Holds.{Holds, by_then, by_case, by_sure, by_if, by_bracketed, by_inside, by_around, is_le, itself, mapped}
 use Rattle.tree_reading.proofs.Holds.Holds.{some}
 use Rattle.tree_reading.proofs.Looks as look
-use Rattle.tree_reading.proofs.Meaning.{Sound, Expressions, PrefixRead, SequenceRead, SideRead, ChoicesRead, Hideable, HiddenRead, HidingsRead, not_so_tight, loosen}
+use Rattle.tree_reading.proofs.Meaning.{Sound, Expressions, reach, PrefixRead, SequenceRead, SideRead, ChoicesRead, Hideable, HiddenRead, HidingsRead, not_so_tight, loosen}
 use Rattle.tree_reading.proofs.Meaning.Hideable.{bare, hidden}
 use Rattle.tree_reading.proofs.NodeDepths as depths
 use Rattle.tree_reading.proofs.Parts.{chosen_depth}
 use Rattle.tree_reading.proofs.SoundExpressions.{alone, dotted_read}
-use Rattle.tree_reading.proofs.Tests.{open_one, closed_two, one_or_two, not_zero, at_least_one, none_or_more}
+use Rattle.tree_reading.proofs.Tests.{at_least_one, closed_reach, one_or_two, none_or_more, not_zero, same_reach}
 use Rattle.std.proofs.lemmas.Option.{none-some, same_Some}
+use Rattle.std.proofs.lemmas.Bool.Decides.{nat_tests}
 use Rattle.csp_base.specs.Lists.{greatest}
-
-not_one : {A : Type 0} (k : ℕ) → 2 ≤ k → k ≡ 1 → A
-not_one k h e = absurd (omega arith)
-
-not_two : {A : Type 0} (k : ℕ) → k ≡ 1 → 2 ≤ k → A
-not_two k e h = absurd (omega arith)
 
 wide : (k : ℕ) → 11 ≤ k → 2 ≤ k
 wide k h = omega arith
@@ -51,23 +47,31 @@ positive k h = omega arith
 two : (k : ℕ) → k ≡ 2 → 2 ≤ k
 two k e = omega arith
 
--- a process whose last part is open or closed
-prefixed : {n d : ℕ} {ts : List Token} {t : Tree} {r : List Token} (k : Binding) → nat_le 1 (number k) ≡ true →
-    (number k ≡ 1 → OpenPrefixText n ts t r) → (2 ≤ number k → ClosedPrefixText n ts t r) → tree_depth t ≤ d → PrefixRead n d ts (of_process k, t, r)
-prefixed k h opened closed fits = record {
+is_test : (k : ℕ) → 2 ≤ k → nat_le 2 k ≡ true
+is_test k h = grind (arith, nat_tests)
+
+-- what nothing may be missing behind
+closed_of : (P : Reach → Type 0) (k : Binding) → nat_le 2 (number k) ≡ true → (1 ≤ number k → P (reach k)) → P closed
+closed_of P k h process = subst P (closed_reach k h) (process (at_least_one (number k) h))
+
+reached : (P : Reach → Type 0) (k : Binding) → 2 ≤ number k → P closed → P (reach k)
+reached P k h process = subst P (sym (closed_reach k (is_test (number k) h))) process
+
+-- a process that ends with one bound like this
+prefixed : {n d : ℕ} {ts : List Token} {t : Tree} {r : List Token} (k : Binding) → nat_le 1 (number k) ≡ true → PrefixText n (reach k) ts t r → tree_depth t ≤ d →
+    PrefixRead n d ts (of_process k, t, r)
+prefixed {n} {d} {ts} {t} {r} k h process fits = record {
   dotted = λ z. not_zero (number (of_process k)) (one_or_two k).0 z;
-  opened = λ z. opened (open_one k h z);
-  closed = λ z. closed (closed_two k z);
+  process = λ z. subst (λ e. PrefixText n e ts t r) (same_reach k h) process;
   is = λ l le. not_so_tight l (number (of_process k)) (one_or_two k).1 le;
   fits = fits;
 }
 
-sequenced : {n d : ℕ} {ts : List Token} {t : Tree} {r : List Token} (k : Binding) → nat_le 1 (number k) ≡ true →
-    (number k ≡ 1 → OpenSequenceText n ts t r) → (2 ≤ number k → ClosedSequenceText n ts t r) → tree_depth t ≤ d → SequenceRead n d ts (of_process k, t, r)
-sequenced k h opened closed fits = record {
+sequenced : {n d : ℕ} {ts : List Token} {t : Tree} {r : List Token} (k : Binding) → nat_le 1 (number k) ≡ true → SequenceText n (reach k) ts t r → tree_depth t ≤ d →
+    SequenceRead n d ts (of_process k, t, r)
+sequenced {n} {d} {ts} {t} {r} k h process fits = record {
   dotted = λ z. not_zero (number (of_process k)) (one_or_two k).0 z;
-  opened = λ z. opened (open_one k h z);
-  closed = λ z. closed (closed_two k z);
+  process = λ z. subst (λ e. SequenceText n e ts t r) (same_reach k h) process;
   is = λ l le. not_so_tight l (number (of_process k)) (one_or_two k).1 le;
   fits = fits;
 }
@@ -75,8 +79,7 @@ sequenced k h opened closed fits = record {
 is_open : {n d : ℕ} {ts : List Token} {t : Tree} {r : List Token} → OpenText n ts t r → tree_depth t ≤ d → PrefixRead n d ts (bound.Open, t, r)
 is_open o fits = record {
   dotted = λ z. not_zero 1 (omega arith) z;
-  opened = λ z. g.open-prefix-open-form o;
-  closed = λ z. not_two 1 refl z;
+  process = λ z. g.prefix-open-form o;
   is = λ l le. not_so_tight l 1 (omega arith) le;
   fits = fits;
 }
@@ -84,17 +87,15 @@ is_open o fits = record {
 is_dotted : {n d : ℕ} {ts : List Token} {t : Tree} {r : List Token} → DottedText n ts t r → tree_depth t ≤ d → PrefixRead n d ts (bound.Dotted, t, r)
 is_dotted x fits = record {
   dotted = λ z. x;
-  opened = λ z. absurd (omega arith);
-  closed = λ z. absurd (omega arith);
+  process = λ z. absurd (omega arith);
   is = λ l le. not_so_tight l 0 (omega arith) le;
   fits = fits;
 }
 
 is_expression : {n d : ℕ} {ts : List Token} (p : Binding × Tree × List Token) → 11 ≤ number p.0 → Expressions n (number p.0) ts p.1 p.2 → tree_depth p.1 ≤ d → PrefixRead n d ts p
-is_expression p h e fits = record {
+is_expression {n} {d} {ts} p h e fits = record {
   dotted = λ z. not_zero (number p.0) (positive (number p.0) (wide (number p.0) h)) z;
-  opened = λ z. not_one (number p.0) (wide (number p.0) h) z;
-  closed = λ z. g.closed-prefix-expression (e disjunction h);
+  process = λ z. reached (λ x. PrefixText n x ts p.1 p.2) p.0 (wide (number p.0) h) (g.prefix-expression (e disjunction h));
   is = e;
   fits = fits;
 }
@@ -103,30 +104,26 @@ hide : {n : ℕ} {ts : List Token} {t : Tree} {us : List Token} {a : Tree} {r : 
 hide (bare e) a = g.hiding-one e a
 hide (hidden h) a = g.hiding-more h a
 
-hidden_side : {n : ℕ} {ts : List Token} {t : Tree} {r : List Token} → Hideable n ts t r → ClosedSideText n ts t r
-hidden_side (bare e) = g.closed-side-sequence (g.closed-sequence-one (g.closed-prefix-expression (loosen renaming e disjunction (omega arith))))
-hidden_side (hidden h) = g.closed-side-hiding h
+hidden_side : {n : ℕ} {ts : List Token} {t : Tree} {r : List Token} → Hideable n ts t r → SideText n closed ts t r
+hidden_side (bare e) = g.side-sequence (g.sequence-one (g.prefix-expression (loosen renaming e disjunction (omega arith))))
+hidden_side (hidden h) = g.side-hiding h
 
 is_hidden : {n d : ℕ} {ts : List Token} (p : Binding × Tree × List Token) → HiddenRead n d ts p → SideRead n d ts p
-is_hidden p h = record {
+is_hidden {n} {d} {ts} p h = record {
   dotted = λ z. not_zero (number p.0) (positive (number p.0) (two (number p.0) h.bound)) z;
-  opened = λ z. not_one (number p.0) (two (number p.0) h.bound) z;
-  closed = λ z. hidden_side h.is;
+  process = λ z. reached (λ e. SideText n e ts p.1 p.2) p.0 (two (number p.0) h.bound) (hidden_side h.is);
   fits = h.fits;
 }
 
-side_of : {n d : ℕ} {ts : List Token} (p : Binding × Tree × List Token) → 1 ≤ number p.0 → SideRead n d ts p → SideText n ts p.1 p.2
-side_of p h s = elim (at_least_one (number p.0) h) [ inl e ↦ s.opened e | inr le ↦ g.side-closed (s.closed le) ]
-
 tree_of : {n d : ℕ} {ts : List Token} (p : Binding × Tree × List Token) → SideRead n d ts p → TreeText n ts p.1 p.2
-tree_of p s = elim (none_or_more (number p.0)) [ inl e ↦ g.tree-dotted (s.dotted e) | inr le ↦ g.tree-side (side_of p le s) ]
+tree_of p s = elim (none_or_more (number p.0)) [ inl e ↦ g.tree-dotted (s.dotted e) | inr le ↦ g.tree-side (s.process le) ]
 
-paralleled : {n m : ℕ} {ts : List Token} {p : Tree} {us : List Token} {a : Tree} {vs : List Token} {b : Tree} {ws : List Token} {q : Tree} {r : List Token} → n ≡ suc m →
-    ClosedSideText n ts p (Symbol symbol.OpenBracket ∷ us) → AtomText m us a (Symbol symbol.Parallel ∷ vs) → AtomText m vs b (Symbol symbol.CloseBracket ∷ ws) →
-    SideText n ws q r → TreeText n ts (tree.Parallel p a b q) r
-paralleled {n} {m} {ts} {p} {us} {a} {vs} {b} {ws} {q} {r} e front x y back =
-    subst (λ z. TreeText z ts (tree.Parallel p a b q) r) (sym e)
-    (g.tree-parallel (subst (λ z. ClosedSideText z ts p (Symbol symbol.OpenBracket ∷ us)) e front) x y (subst (λ z. SideText z ws q r) e back))
+paralleled : {n m : ℕ} {e : Reach} {ts : List Token} {p : Tree} {us : List Token} {a : Tree} {vs : List Token} {b : Tree} {ws : List Token} {q : Tree} {r : List Token} → n ≡ suc m →
+    SideText n closed ts p (Symbol symbol.OpenBracket ∷ us) → AtomText m us a (Symbol symbol.Parallel ∷ vs) → AtomText m vs b (Symbol symbol.CloseBracket ∷ ws) →
+    SideText n e ws q r → TreeText n ts (tree.Parallel p a b q) r
+paralleled {n} {m} {e} {ts} {p} {us} {a} {vs} {b} {ws} {q} {r} is front x y back =
+    subst (λ z. TreeText z ts (tree.Parallel p a b q) r) (sym is)
+    (g.tree-parallel (subst (λ z. SideText z closed ts p (Symbol symbol.OpenBracket ∷ us)) is front) x y (subst (λ z. SideText z e ws q r) is back))
 
 each_parallel_of : {n m : ℕ} {x : List ℕ} {ts : List Token} {s : Tree} {us : List Token} {a : Tree} {vs : List Token} {p : Tree} {r : List Token} → n ≡ suc m →
     AtomText n ts s (Symbol symbol.At ∷ Symbol symbol.OpenBracket ∷ us) → AtomText m us a (Symbol symbol.CloseBracket ∷ vs) → TreeText n vs p r →
@@ -180,7 +177,7 @@ module _ (L : Limited) (S : Sound L) where
       greatest (map field_depth fs) ≤ e → Holds (PrefixRead n d ts) (read_prefixed L (limits n e) c fs us)
   prefixed_event n d e ts c fs us deep front fits =
       by_then _ (S.prefix n e us) λ p pr. by_sure (at_least bound.Open p.0) _ λ h.
-      some (prefixed p.0 h (λ z. g.open-prefix-event front (pr.opened z)) (λ z. g.closed-prefix-event front (pr.closed z)) (node (prefix_depth c fs p.1) deep (both fits pr.fits)))
+      some (prefixed p.0 h (g.prefix-event front (pr.process (is_le 1 (number p.0) h))) (node (prefix_depth c fs p.1) deep (both fits pr.fits)))
 
   event : (n d : ℕ) (ts : List Token) → Holds (PrefixRead n d ts) (read_event L (limits n d) ts)
   event n d ts =
@@ -226,7 +223,7 @@ module _ (L : Limited) (S : Sound L) where
       Holds (PrefixRead n d ts) (read_guarded L (limits n e) c us)
   guarded n d e ts c us deep front fits =
       by_then _ (S.prefix n e us) λ q pr. by_sure (at_least bound.Open q.0) _ λ h.
-      some (prefixed q.0 h (λ z. g.open-prefix-guard front (pr.opened z)) (λ z. g.closed-prefix-guard front (pr.closed z)) (node (depths.of_tree _ (tree.rolls-Guard c q.1)) deep (both fits pr.fits)))
+      some (prefixed q.0 h (g.prefix-guard front (pr.process (is_le 1 (number q.0) h))) (node (depths.of_tree _ (tree.rolls-Guard c q.1)) deep (both fits pr.fits)))
 
   guard : (n d : ℕ) (ts : List Token) → Holds (PrefixRead n d ts) (read_guard L (limits n d) ts)
   guard n d ts =
@@ -245,21 +242,20 @@ module _ (L : Limited) (S : Sound L) where
   pub prefix : (n d : ℕ) (ts : List Token) → Holds (PrefixRead n d ts) (read_prefix L (limits n d) ts)
   prefix n d ts = by_then {Q = λ s. Holds (PrefixRead n d ts) (read_opened L (limits n d) s.0 s.1)} _ (by_if (begins_event ts) _ _ (some (event n d ts)) (form n d ts)) λ s h. h
 
-  followed : (n d e : ℕ) (ts : List Token) (t : Tree) (us : List Token) → d ≡ suc e → ClosedPrefixText n ts t (Symbol symbol.Semicolon ∷ us) → tree_depth t ≤ e →
+  followed : (n d e : ℕ) (ts : List Token) (t : Tree) (us : List Token) → d ≡ suc e → PrefixText n closed ts t (Symbol symbol.Semicolon ∷ us) → tree_depth t ≤ e →
       Holds (SequenceRead n d ts) (read_followed L (limits n e) t us)
   followed n d e ts t us deep front fits =
       by_then _ (S.sequence n e us) λ q sq. by_sure (at_least bound.Open q.0) _ λ h.
-      some (sequenced q.0 h (λ z. g.open-sequence-more front (sq.opened z)) (λ z. g.closed-sequence-more front (sq.closed z)) (node (depths.of_tree _ (tree.rolls-Seq t q.1)) deep (both fits sq.fits)))
+      some (sequenced q.0 h (g.sequence-more front (sq.process (is_le 1 (number q.0) h))) (node (depths.of_tree _ (tree.rolls-Seq t q.1)) deep (both fits sq.fits)))
 
   pub sequence : (n d : ℕ) (ts : List Token) → Holds (SequenceRead n d ts) (read_sequence L (limits n d) ts)
   sequence n d ts =
       by_then _ (S.prefix n d ts) λ p pr.
       by_case _ _ (look.skips symbol.Semicolon p.2)
-      (λ us f. by_sure (at_least bound.Closed p.0) _ λ h. by_around n d p.1 _ λ e deep fits. followed n d e ts p.1 us deep (subst (λ z. ClosedPrefixText n ts p.1 z) f (pr.closed (is_le 2 (number p.0) h))) fits)
+      (λ us f. by_sure (at_least bound.Closed p.0) _ λ h. by_around n d p.1 _ λ e deep fits. followed n d e ts p.1 us deep (subst (λ z. PrefixText n closed ts p.1 z) f (closed_of (λ e. PrefixText n e ts p.1 p.2) p.0 h pr.process)) fits)
       (some (record {
         dotted = pr.dotted;
-        opened = λ z. g.open-sequence-one (pr.opened z);
-        closed = λ z. g.closed-sequence-one (pr.closed z);
+        process = λ z. g.sequence-one (pr.process z);
         is = pr.is;
         fits = pr.fits;
       }))
@@ -269,17 +265,15 @@ module _ (L : Limited) (S : Sound L) where
       by_then _ (S.sequence n d ts) λ p sq. by_sure (at_least bound.Open p.0) _ λ h.
       by_case _ _ (look.skips_chain c p.2)
       (λ us e. by_sure (at_least bound.Closed p.0) _ λ h'. by_then _ (S.choices n d c us) λ q ch.
-      let front : ClosedSequenceText n ts p.1 (choice_sign (choice c) ∷ us) = subst (λ z. ClosedSequenceText n ts p.1 z) e (sq.closed (is_le 2 (number p.0) h')) in
+      let front : SequenceText n closed ts p.1 (choice_sign (choice c) ∷ us) = subst (λ z. SequenceText n closed ts p.1 z) e (closed_of (λ e. SequenceText n e ts p.1 p.2) p.0 h' sq.process) in
       some (record {
         bound = ch.bound;
-        opened = λ vs a before z. g.open-choice-more before (ch.opened ts p.1 front z);
-        closed = λ vs a before z. g.closed-choice-more before (ch.closed ts p.1 front z);
+        process = λ vs a before. g.choice-more before (ch.process ts p.1 front);
         fit = both sq.fits ch.fit;
       }))
       (some (record {
         bound = (one_or_two p.0).0;
-        opened = λ vs a before z. g.open-choice-two before (sq.opened (open_one p.0 h z));
-        closed = λ vs a before z. g.closed-choice-two before (sq.closed (closed_two p.0 z));
+        process = λ vs a before. subst (λ e. ChoiceText n e (choice c) vs (a ∷ p.1 ∷ []) p.2) (same_reach p.0 h) (g.choice-two before (sq.process (is_le 1 (number p.0) h)));
         fit = alone (tree_depth p.1) sq.fits;
       }))
 
@@ -295,37 +289,35 @@ module _ (L : Limited) (S : Sound L) where
       mapped (λ x f vs before fits. f vs (hidden (h.0 vs (subst (λ z. Hideable n vs t z) e before))) h.1) (S.hidings n d p.0 p.1))
       (some (λ vs h fits. record { bound = refl; is = h; fits = fits }))
 
-  chained : (n d : ℕ) (ts : List Token) (k : Binding) (t : Tree) (c : Chain) (us : List Token) → (2 ≤ number k → ClosedSequenceText n ts t (choice_sign (choice c) ∷ us)) →
-      Holds (SideRead n d ts) (read_chain L (limits n d) k t c us)
+  chained : (n d : ℕ) (ts : List Token) (k : Binding) (t : Tree) (c : Chain) (us : List Token) →
+      (nat_le 2 (number k) ≡ true → SequenceText n closed ts t (choice_sign (choice c) ∷ us)) → Holds (SideRead n d ts) (read_chain L (limits n d) k t c us)
   chained n d ts k t c us front =
       by_sure (at_least bound.Closed k) _ λ h. by_around n d t _ λ e deep fits. by_then _ (S.choices n e c us) λ q ch.
       some (record {
         dotted = λ z. not_zero (number q.0) ch.bound z;
-        opened = λ z. g.side-choice (choice c) (ch.opened ts t (front (is_le 2 (number k) h)) z);
-        closed = λ z. g.closed-side-choice (choice c) (ch.closed ts t (front (is_le 2 (number k) h)) z);
+        process = λ z. g.side-choice (choice c) (ch.process ts t (front h));
         fits = node (chosen_depth (choice c) t q.1) deep (both fits ch.fit);
       })
 
   side : (n d : ℕ) (ts : List Token) → Holds (SideRead n d ts) (read_side L (limits n d) ts)
   side n d ts =
       by_then _ (S.sequence n d ts) λ p sq.
-      by_case _ _ (look.chains p.2) (λ c e. chained n d ts p.0 p.1 c.0 c.1 (λ le. subst (λ z. ClosedSequenceText n ts p.1 z) e (sq.closed le)))
+      by_case _ _ (look.chains p.2) (λ c e. chained n d ts p.0 p.1 c.0 c.1 (λ h. subst (λ z. SequenceText n closed ts p.1 z) e (closed_of (λ x. SequenceText n x ts p.1 p.2) p.0 h sq.process)))
       (by_case _ _ (look.skips symbol.Backslash p.2)
       (λ us e. by_sure (at_least bound.Renaming p.0) _ λ h. mapped (λ x f. is_hidden x (f ts (bare (sq.is renaming (is_le 18 (number p.0) h))) sq.fits)) (S.hidings n d p.1 p.2))
       (some (record {
         dotted = sq.dotted;
-        opened = λ z. g.side-sequence (sq.opened z);
-        closed = λ z. g.closed-side-sequence (sq.closed z);
+        process = λ z. g.side-sequence (sq.process z);
         fits = sq.fits;
       })))
 
-  parallel : (n d e : ℕ) (us : List Token) (t : Tree) (ts : List Token) → d ≡ suc e → ClosedSideText n us t (Symbol symbol.OpenBracket ∷ ts) → tree_depth t ≤ e →
+  parallel : (n d e : ℕ) (us : List Token) (t : Tree) (ts : List Token) → d ≡ suc e → SideText n closed us t (Symbol symbol.OpenBracket ∷ ts) → tree_depth t ≤ e →
       Holds (λ p. TreeText n us p.0 p.1 × (tree_depth p.0 ≤ d)) (read_parallel L (limits n e) t ts)
   parallel n d e us t ts deep front fits =
       by_bracketed n e _ λ m en. by_then _ (S.atom m e ts) λ a at. by_then _ (look.skips symbol.Parallel a.1) λ vs ev. by_then _ (S.atom m e vs) λ b bt. by_then _ (look.skips symbol.CloseBracket b.1) λ ws f.
       by_then _ (side n e ws) λ q sr. by_sure (at_least bound.Open q.0) _ λ h.
       some (
-        paralleled en front (subst (λ z. AtomText m ts a.0 z) ev at.0) (subst (λ z. AtomText m vs b.0 z) f bt.0) (side_of q (is_le 1 (number q.0) h) sr),
+        paralleled en front (subst (λ z. AtomText m ts a.0 z) ev at.0) (subst (λ z. AtomText m vs b.0 z) f bt.0) (sr.process (is_le 1 (number q.0) h)),
         node (depths.of_tree _ (tree.rolls-Parallel t a.0 b.0 q.1)) deep (both (both fits at.1) (both bt.1 sr.fits)),
       )
 
@@ -334,5 +326,5 @@ module _ (L : Limited) (S : Sound L) where
       by_then _ (side n d ts) λ p sr.
       by_case _ _ (look.skips symbol.OpenBracket p.2)
       (λ us e. by_sure (at_least bound.Closed p.0) _ λ h. by_around n d p.1 _ λ e' deep fits.
-      parallel n d e' ts p.1 us deep (subst (λ z. ClosedSideText n ts p.1 z) e (sr.closed (is_le 2 (number p.0) h))) fits)
+      parallel n d e' ts p.1 us deep (subst (λ z. SideText n closed ts p.1 z) e (closed_of (λ x. SideText n x ts p.1 p.2) p.0 h sr.process)) fits)
       (some (tree_of p sr, sr.fits))

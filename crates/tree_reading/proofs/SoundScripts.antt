@@ -1,5 +1,5 @@
 -- What is read of declarations, the grammar has; and so of all that the readers read.
-use Rattle.std.proofs.Common.{◌≡◌, ◌⊎◌, inl, inr, ℕ, zero, suc, ◌≤◌, Bool, true, false, ◌||◌, Some, List, [], ◌∷◌, codes, refl, sym, ap, subst, ◌∙◌, arith}
+use Rattle.std.proofs.Common.{◌≡◌, ◌⊎◌, inl, inr, ℕ, zero, suc, ◌-◌, ◌≤◌, Bool, true, false, ◌||◌, Some, List, [], ◌∷◌, codes, refl, sym, ap, subst, ◌∙◌, arith}
 use Rattle.csp_text.specs.Depth.{tree_depth}
 use Rattle.csp_base.specs.declared.operators.SetOp.TheVariants as set_op
 use Rattle.csp_text.specs.declared.token.Token.{Token}
@@ -16,7 +16,8 @@ use Rattle.csp_grammar.specs.Declarations.{NamesText, TypesText, ParametersText,
 use Rattle.csp_grammar.specs.Declarations as d
 use Rattle.csp_grammar.specs.Grammar.{TreeText, ItemsText, AtomText}
 use Rattle.csp_grammar.specs.Grammar as g
-use Rattle.csp_grammar.specs.Tokens.{is_text}
+use Rattle.dl_limits.specs.declared.TheConstants.{MOST_BRACKETS, MOST_TREE_DEPTH}
+use Rattle.std.specs.Str.{bytes_eq}
 use Rattle.tree_reading.specs.Asserted.{deadlock_free, ending, is_model, model, name_that}
 use Rattle.tree_reading.specs.Limited.{Limited, limited, next_limited, nothing_limited, read_names, read_types, read_channel, read_datatype, read_nametype, read_parameters, read_definition, read_asserted, read_assertion, read_word_declaration, read_declaration, read_declarations}
 use Rattle.tree_reading.specs.Nesting.{limits}
@@ -35,27 +36,17 @@ either false c h = inr h
 
 -- AN ASSERTION
 
-one_less : (n : ℕ) → suc n ≡ 400 → n ≡ 399
+one_less : (n : ℕ) → suc n ≡ MOST_BRACKETS → n ≡ MOST_BRACKETS - 1
 one_less n e = omega arith
 
 -- an atom that begins with a name is what may be asserted
-asserted_of : {n : ℕ} {us : List Token} {t : Tree} {r : List Token} {y : List ℕ × List Token} → n ≡ 400 → AtomText n us t r → named us ≡ Some y → AssertedText us t r
-asserted_of {y = y} e g.atom-stop f = absurd (none-some y f)
-asserted_of {y = y} e g.atom-skip f = absurd (none-some y f)
-asserted_of {y = y} e g.atom-truth f = absurd (none-some y f)
-asserted_of {y = y} e g.atom-falsehood f = absurd (none-some y f)
-asserted_of {y = y} e g.atom-number f = absurd (none-some y f)
+asserted_of : {n : ℕ} {us : List Token} {t : Tree} {r : List Token} {y : List ℕ × List Token} → n ≡ MOST_BRACKETS → AtomText n us t r → named us ≡ Some y → AssertedText us t r
 asserted_of e g.atom-name f = d.name
 asserted_of {r = r} e (g.atom-call {n = n} {ts = ts} {items = items'} items) f = d.call (subst (λ z. ItemsText z ts items' (token.Symbol symbol.CloseParen ∷ r)) (one_less n e) items)
-asserted_of {y = y} e (g.atom-parentheses t) f = absurd (none-some y f)
-asserted_of {y = y} e g.atom-empty f = absurd (none-some y f)
-asserted_of {y = y} e (g.atom-display items) f = absurd (none-some y f)
-asserted_of {y = y} e (g.atom-range a b) f = absurd (none-some y f)
-asserted_of {y = y} e (g.atom-comprehension items gs) f = absurd (none-some y f)
-asserted_of {y = y} e (g.atom-production cs gs) f = absurd (none-some y f)
 asserted_of {y = y} e (g.atom-set-operator {op = set_op.Union} a b) f = absurd (none-some y f)
 asserted_of {y = y} e (g.atom-set-operator {op = set_op.Inter} a b) f = absurd (none-some y f)
 asserted_of {y = y} e (g.atom-set-operator {op = set_op.Diff} a b) f = absurd (none-some y f)
+asserted_of {y = y} e _ f = absurd (none-some y f)
 
 bracketed : (m : List ℕ) (r : List Token) → (m ≡ codes "F") ⊎ (m ≡ codes "FD") → ModelText (token.Symbol symbol.OpenBracket ∷ Name m ∷ token.Symbol symbol.CloseBracket ∷ r) r
 bracketed m r h = elim h [
@@ -64,7 +55,7 @@ bracketed m r h = elim h [
 ]
 
 named_model : (m : List ℕ) → is_model m ≡ true → (m ≡ codes "F") ⊎ (m ≡ codes "FD")
-named_model m h = elim (either (is_text m (codes "F")) (is_text m (codes "FD")) h) [ inl e ↦ inl (look.texts m (codes "F") e) | inr e ↦ inr (look.texts m (codes "FD") e) ]
+named_model m h = elim (either (bytes_eq m (codes "F")) (bytes_eq m (codes "FD")) h) [ inl e ↦ inl (look.texts m (codes "F") e) | inr e ↦ inr (look.texts m (codes "FD") e) ]
 
 -- the name that passes the test
 a_name : (P : List ℕ → Bool) (ts : List Token) → Holds (λ us. (x : List ℕ) × (ts ≡ Name x ∷ us) × (P x ≡ true)) (name_that P ts)
@@ -88,8 +79,8 @@ middle ts us vs ws xs x y a b c e f h =
 freedom : (ts : List Token) → Holds (λ us. ts ≡ token.Symbol symbol.Colon ∷ token.Symbol symbol.OpenBracket ∷ Name (codes "deadlock") ∷ Name (codes "free") ∷ us) (deadlock_free ts)
 freedom ts =
     by_then _ (look.skips symbol.Colon ts) λ us e. by_then _ (look.skips symbol.OpenBracket us) λ vs f.
-    by_then _ (a_name (λ x. is_text x (codes "deadlock")) vs) λ ws x.
-    mapped (λ xs y. middle ts us vs ws xs x.0 y.0 e f x.1 (look.texts x.0 (codes "deadlock") x.2) y.1 (look.texts y.0 (codes "free") y.2)) (a_name (λ x. is_text x (codes "free")) ws)
+    by_then _ (a_name (λ x. bytes_eq x (codes "deadlock")) vs) λ ws x.
+    mapped (λ xs y. middle ts us vs ws xs x.0 y.0 e f x.1 (look.texts x.0 (codes "deadlock") x.2) y.1 (look.texts y.0 (codes "free") y.2)) (a_name (λ x. bytes_eq x (codes "free")) ws)
 
 -- the rest of an assertion
 record Ends (ts zs : List Token) : Type 0 where
@@ -113,9 +104,9 @@ module _ (L : Limited) (S : Sound L) where
 
   types : (ts : List Token) → Holds (λ p. TypesText ts p.0 p.1) (read_types L ts)
   types ts =
-      by_then _ (S.atom 400 200 ts) λ p a.
+      by_then _ (S.atom MOST_BRACKETS MOST_TREE_DEPTH ts) λ p a.
       by_case _ _ (look.skips symbol.Dot p.1)
-      (λ us e. by_then _ (S.types us) λ q more. some (d.more (subst (λ z. AtomText 400 ts p.0 z) e a.0) a.1 more))
+      (λ us e. by_then _ (S.types us) λ q more. some (d.more (subst (λ z. AtomText MOST_BRACKETS ts p.0 z) e a.0) a.1 more))
       (some (d.one a.0 a.1))
 
   channel : (ts : List Token) → Holds (λ p. DeclarationText (Word word.Channel ∷ ts) p.0 p.1) (read_channel L ts)
@@ -132,7 +123,7 @@ module _ (L : Limited) (S : Sound L) where
 
   nametype : (ts : List Token) → Holds (λ p. DeclarationText (Word word.Nametype ∷ ts) p.0 p.1) (read_nametype L ts)
   nametype ts =
-      by_then _ (look.names ts) λ x e. by_then _ (look.skips symbol.Defines x.1) λ us f. by_then _ (S.atom 400 200 us) λ p a.
+      by_then _ (look.names ts) λ x e. by_then _ (look.skips symbol.Defines x.1) λ us f. by_then _ (S.atom MOST_BRACKETS MOST_TREE_DEPTH us) λ p a.
       some (subst (λ z. DeclarationText (Word word.Nametype ∷ z) (decl.Nametype x.0 p.0) p.1) (sym (e ∙ ap (λ z. Name x.0 ∷ z) f)) (d.nametype a.0 a.1))
 
   parameters : (ts : List Token) → Holds (λ p. ParametersText ts p.0 p.1) (read_parameters L ts)
@@ -144,12 +135,12 @@ module _ (L : Limited) (S : Sound L) where
 
   definition : (f : List ℕ) (ts : List Token) → Holds (λ p. DeclarationText (Name f ∷ ts) p.0 p.1) (read_definition L f ts)
   definition f ts =
-      by_then _ (parameters ts) λ p xs. by_then _ (look.skips symbol.Defines p.1) λ us e. by_then _ (S.tree 400 200 us) λ q t.
+      by_then _ (parameters ts) λ p xs. by_then _ (look.skips symbol.Defines p.1) λ us e. by_then _ (S.tree MOST_BRACKETS MOST_TREE_DEPTH us) λ q t.
       some (d.define (subst (λ z. ParametersText ts p.0 z) e xs) t.0 t.1)
 
-  asserted : (ts : List Token) → Holds (λ p. AssertedText ts p.0 p.1 × (tree_depth p.0 ≤ 200)) (read_asserted L ts)
+  asserted : (ts : List Token) → Holds (λ p. AssertedText ts p.0 p.1 × (tree_depth p.0 ≤ MOST_TREE_DEPTH)) (read_asserted L ts)
   asserted ts =
-      by_then _ (itself (named ts)) λ x e. mapped (λ p a. (asserted_of refl a.0 e, a.1)) (S.atom 400 200 ts)
+      by_then _ (itself (named ts)) λ x e. mapped (λ p a. (asserted_of refl a.0 e, a.1)) (S.atom MOST_BRACKETS MOST_TREE_DEPTH ts)
 
   assertion : (ts : List Token) → Holds (λ p. DeclarationText (Word word.Assert ∷ ts) p.0 p.1) (read_assertion L ts)
   assertion ts =
@@ -226,6 +217,3 @@ script_sound f ts ds e = of_read ds ((sound f).declarations ts) e
 
 pub tree_sound : (n d : ℕ) (ts : List Token) (t : Tree) (r : List Token) (f : ℕ) → (limited f).tree (limits n d) ts ≡ Some (t, r) → TreeText n ts t r × (tree_depth t ≤ d)
 tree_sound n d ts t r f e = of_read (t, r) ((sound f).tree n d ts) e
-
-pub atom_sound : (n d : ℕ) (ts : List Token) (t : Tree) (r : List Token) (f : ℕ) → (limited f).atom (limits n d) ts ≡ Some (t, r) → AtomText n ts t r × (tree_depth t ≤ d)
-atom_sound n d ts t r f e = of_read (t, r) ((sound f).atom n d ts) e

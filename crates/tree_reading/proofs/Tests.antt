@@ -3,7 +3,9 @@ use Rattle.std.proofs.Common.{◌≡◌, ◌⊎◌, inl, inr, ℕ, zero, suc, �
 use Rattle.tree_reading.specs.Bindings.{number, of_process}
 use Rattle.tree_reading.specs.declared.read.Binding.{Binding}
 use Rattle.tree_reading.specs.declared.read.Binding.TheVariants as bound
-use Rattle.tree_reading.proofs.Holds.{is_le}
+use Rattle.tree_reading.proofs.Meaning.{reach}
+use Rattle.std.proofs.lemmas.Bool.Decides.{nat_tests}
+use Rattle.csp_grammar.specs.Grammar.Reach.{closed}
 
 bool_of : (b : Bool) → (b ≡ true) ⊎ (b ≡ false)
 bool_of true = inl refl
@@ -14,21 +16,6 @@ is_two k h = ap (λ b. number (if b then bound.Closed else bound.Open)) h
 
 is_one : (k : Binding) → nat_le 2 (number k) ≡ false → number (of_process k) ≡ 1
 is_one k h = ap (λ b. number (if b then bound.Closed else bound.Open)) h
-
-less_than_two : (k : ℕ) → nat_le 1 k ≡ true → nat_le 2 k ≡ false → k ≡ 1
-less_than_two k h e = grind (arith)
-
-apart : (c : ℕ) → c ≡ 2 → c ≡ 1 → ⊥
-apart c e f = omega arith
-
-apart_le : (c : ℕ) → c ≡ 1 → 2 ≤ c → ⊥
-apart_le c e f = omega arith
-
-pub open_one : (k : Binding) → nat_le 1 (number k) ≡ true → number (of_process k) ≡ 1 → number k ≡ 1
-open_one k h e = elim (bool_of (nat_le 2 (number k))) [ inl t ↦ absurd (apart (number (of_process k)) (is_two k t) e) | inr f ↦ less_than_two (number k) h f ]
-
-pub closed_two : (k : Binding) → 2 ≤ number (of_process k) → 2 ≤ number k
-closed_two k h = elim (bool_of (nat_le 2 (number k))) [ inl t ↦ is_le 2 (number k) t | inr f ↦ absurd (apart_le (number (of_process k)) (is_one k f) h) ]
 
 from_two : (c : ℕ) → c ≡ 2 → (1 ≤ c) × (c ≤ 2)
 from_two c e = (omega arith, omega arith)
@@ -45,11 +32,23 @@ absurd_zero k h e = omega arith
 pub not_zero : {A : Type 0} (k : ℕ) → 1 ≤ k → k ≡ 0 → A
 not_zero k h e = absurd (absurd_zero k h e)
 
--- one, or more
-pub at_least_one : (k : ℕ) → 1 ≤ k → (k ≡ 1) ⊎ (2 ≤ k)
-at_least_one zero h = absurd (omega arith)
-at_least_one (suc zero) h = inl refl
-at_least_one (suc (suc k)) h = inr (omega arith)
+-- what becomes of a process is bound as what it ends with is, and something may follow where that is closed
+pub same_reach : (k : Binding) → nat_le 1 (number k) ≡ true → reach k ≡ reach (of_process k)
+same_reach bound.Dotted h = absurd cc
+same_reach bound.Open h = refl
+same_reach _ h = refl
+
+pub closed_reach : (k : Binding) → nat_le 2 (number k) ≡ true → reach k ≡ closed
+closed_reach bound.Dotted h = absurd cc
+closed_reach bound.Open h = absurd cc
+closed_reach _ h = refl
+
+pub at_least_one : (k : ℕ) → nat_le 2 k ≡ true → 1 ≤ k
+at_least_one k h = grind (arith, nat_tests)
+
+pub at_least_open : (k : Binding) → nat_le 1 (number (of_process k)) ≡ true
+at_least_open bound.Dotted = refl
+at_least_open _ = refl
 
 -- none, or one and more
 pub none_or_more : (k : ℕ) → (k ≡ 0) ⊎ (1 ≤ k)

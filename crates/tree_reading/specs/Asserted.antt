@@ -1,9 +1,10 @@
 -- What stands behind the process of an assertion.
 use Rattle.std.specs.Prelude.{ℕ, Bool, ◌||◌, Option, Some, List, codes}
+use Rattle.std.specs.Str.{bytes_eq}
 use Rattle.csp_text.specs.declared.token.Token.{Token}
 use Rattle.csp_text.specs.declared.token.Symbol.TheVariants.{Colon, OpenBracket, CloseBracket}
 use Rattle.csp_grammar.specs.Reader.{and_then, case}
-use Rattle.csp_grammar.specs.Tokens.{is_text, skip}
+use Rattle.csp_grammar.specs.Tokens.{skip}
 use Rattle.tree_reading.specs.Nesting.{sure}
 use Rattle.tree_reading.specs.Starts.{named}
 
@@ -15,11 +16,11 @@ name_that passes ts = and_then (named ts) λ x. and_then (sure (passes x.0)) λ 
 abbrev pub deadlock_free : List Token → Option (List Token)
 deadlock_free ts =
     and_then (skip Colon ts) λ us. and_then (skip OpenBracket us) λ vs.
-    and_then (name_that (λ x. is_text x (codes "deadlock")) vs) λ ws. name_that (λ x. is_text x (codes "free")) ws
+    and_then (name_that (λ x. bytes_eq x (codes "deadlock")) vs) λ ws. name_that (λ x. bytes_eq x (codes "free")) ws
 
 -- the models: failures, and failures with divergences
 abbrev pub is_model : List ℕ → Bool
-is_model x = is_text x (codes "F") || is_text x (codes "FD")
+is_model x = bytes_eq x (codes "F") || bytes_eq x (codes "FD")
 
 -- what follows a model in brackets, or nothing where no bracket stands
 abbrev pub model : List Token → Option (List Token)

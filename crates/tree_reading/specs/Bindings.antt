@@ -44,18 +44,8 @@ tighter Atom = Atom
 
 -- how tightly the left operand of an operator has to be bound: comparisons do not associate
 abbrev pub left_operand : Binding → Binding
-left_operand Dotted = Dotted
-left_operand Open = Open
-left_operand Closed = Closed
-left_operand Disjunction = Disjunction
-left_operand Conjunction = Conjunction
-left_operand Complement = Complement
 left_operand Comparison = Sum
-left_operand Sum = Sum
-left_operand Product = Product
-left_operand Negative = Negative
-left_operand Renaming = Renaming
-left_operand Atom = Atom
+left_operand k = k
 
 -- how tightly a process is bound that ends with one bound like this
 abbrev pub of_process : Binding → Binding

@@ -1,4 +1,3 @@
-pub mod Answers
 pub mod Asserted
 pub mod Bindings
 pub mod Gives

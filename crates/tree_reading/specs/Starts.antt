@@ -1,5 +1,5 @@
 -- What the first tokens of a text say of what is to be read.
-use Rattle.std.specs.Prelude.{ℕ, Bool, false, ◌&&◌, if◌then◌else◌, nat_eq, Option, Some, None, List, [], ◌∷◌}
+use Rattle.std.specs.Prelude.{ℕ, Bool, false, ◌&&◌, if◌then◌else◌, Option, Some, None, List, [], ◌∷◌}
 use Rattle.csp_text.specs.declared.token.Token.{Token}
 use Rattle.csp_text.specs.declared.token.Token.TheVariants as token
 use Rattle.csp_text.specs.declared.token.Word.{Word}
@@ -16,10 +16,11 @@ use Rattle.csp_text.specs.declared.tree.FieldTree.TheViews.{out-FieldTree}
 use Rattle.csp_text.specs.declared.tree.GenTree.{GenTree}
 use Rattle.csp_text.specs.declared.tree.EventTree.{EventTree}
 use Rattle.csp_text.specs.declared.tree.PartTree.{PartTree}
+use Rattle.csp_text.specs.Written.{same_symbol, same_word}
 use Rattle.csp_grammar.specs.Grammar.{Choice}
 use Rattle.csp_grammar.specs.Grammar.Choice.{external, internal}
 use Rattle.csp_grammar.specs.Reader.{Reading, and_then, case, begins_event, dotted_tree, with_first}
-use Rattle.csp_grammar.specs.Tokens.{is_symbol, skip, skip_word, word_place}
+use Rattle.csp_grammar.specs.Tokens.{skip, skip_word}
 use Rattle.tree_reading.specs.Bindings.{at_least, left_operand}
 use Rattle.tree_reading.specs.declared.look.Chain.{Chain}
 use Rattle.tree_reading.specs.declared.look.Chain.TheVariants as chain
@@ -34,31 +35,18 @@ use Rattle.tree_reading.specs.declared.read.Binding.TheVariants as binding
 
 -- whether a token is the symbol
 abbrev pub is_symbol_token : Symbol → Token → Bool
-is_symbol_token s (token.Symbol u) = is_symbol s u
-is_symbol_token s (token.Word _) = false
-is_symbol_token s (token.Name _) = false
-is_symbol_token s (token.Num _) = false
-is_symbol_token s (token.Roles _) = false
-is_symbol_token s (token.Resource _) = false
+is_symbol_token s (token.Symbol u) = same_symbol u s
+is_symbol_token s _ = false
 
 -- whether a token is the word
 abbrev pub is_word_token : Word → Token → Bool
-is_word_token w (token.Word u) = nat_eq (word_place u) (word_place w)
-is_word_token w (token.Symbol _) = false
-is_word_token w (token.Name _) = false
-is_word_token w (token.Num _) = false
-is_word_token w (token.Roles _) = false
-is_word_token w (token.Resource _) = false
+is_word_token w (token.Word u) = same_word u w
+is_word_token w _ = false
 
 -- the name at the front
 abbrev pub named : List Token → Reading (List ℕ)
-named [] = None
 named (token.Name x ∷ ts) = Some (x, ts)
-named (token.Word _ ∷ ts) = None
-named (token.Symbol _ ∷ ts) = None
-named (token.Num _ ∷ ts) = None
-named (token.Roles _ ∷ ts) = None
-named (token.Resource _ ∷ ts) = None
+named _ = None
 
 -- a choice as the grammar names it
 abbrev pub choice : Chain → Choice
@@ -81,8 +69,7 @@ each_tree chain.Internal x s p = tree.EachInternal x s p
 -- the tree of a field with a dot
 abbrev pub layer_dot : FieldTree-F FieldTree GenTree Tree EventTree PartTree → Option Tree
 layer_dot (FieldTree-F.«FieldTree::Dot» a) = Some a
-layer_dot (FieldTree-F.Output a) = None
-layer_dot (FieldTree-F.Input x s) = None
+layer_dot _ = None
 
 abbrev pub dot_field : FieldTree → Option Tree
 dot_field f = layer_dot (out-FieldTree f)
@@ -126,10 +113,7 @@ word_sign _ = None
 abbrev pub token_sign : Token → Option Sign
 token_sign (token.Symbol s) = symbol_sign s
 token_sign (token.Word w) = word_sign w
-token_sign (token.Name _) = None
-token_sign (token.Num _) = None
-token_sign (token.Roles _) = None
-token_sign (token.Resource _) = None
+token_sign _ = None
 
 -- whether a sign of the level or a tighter one goes on with an operand that is bound as k says
 abbrev pub may_follow : Binding → Binding → Sign → Bool
@@ -162,9 +146,7 @@ abbrev pub token_start : Token → Option AtomStart
 token_start (token.Num k) = Some (start.Leaf (tree.Num k))
 token_start (token.Word w) = word_start w
 token_start (token.Symbol s) = symbol_start s
-token_start (token.Name _) = None
-token_start (token.Roles _) = None
-token_start (token.Resource _) = None
+token_start _ = None
 
 abbrev pub other_start : List Token → Option (AtomStart × List Token)
 other_start [] = None

@@ -98,6 +98,16 @@ impl<T: Nested> Deep<T> {
     }
 }
 
+impl Deep<Tree> {
+    /// A tree that has no parts.
+    pub fn leaf(tree: Tree) -> Deep<Tree>
+        requires { tree_depth tree ≡ 1 }
+        ensures { result ≡ tree }
+    {
+        Deep::new(tree, 1)
+    }
+}
+
 /// A tree with its depth.
 pub type DeepTree = Deep<Boxed<Tree>>;
 

@@ -1,4 +1,6 @@
 //! The reading of trees within limits: looks at tokens, limits and nodes.
+//!
+//! What is read keeps its depth beside it (`Deep`). So a tree that turns out to be the first part of a node is not walked again.
 #![tactic(auto)]
 
 pub mod deep;

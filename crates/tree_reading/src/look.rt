@@ -8,6 +8,7 @@ ghost use Rattle.tree_reading.specs.Gives.{Gives};
 ghost use Rattle.tree_reading.specs.Bindings.{left_operand};
 ghost use Rattle.tree_reading.specs.Starts.{atom_start, chain_symbol, first_chain, form_start, is_symbol_token, is_word_token, may_follow, named, other_start, prefix_start, sign_behind, sign_binding, symbol_sign, token_sign, token_start, symbol_start, word_sign, word_start};
 
+use crate::deep::Deep;
 use crate::fault::{ReadFault, stopped};
 use crate::read::Binding;
 use csp_base::{BinOp, Name, SetOp};
@@ -36,7 +37,7 @@ pub enum Sign {
 #[derive(Drop)]
 pub enum AtomStart {
     /// The whole of it.
-    Leaf(Tree),
+    Leaf(Deep<Tree>),
     /// `f(`
     Call(Name),
     /// The word of an operator on sets.
@@ -292,10 +293,10 @@ fn word_start(word: Word) -> Option<AtomStart>
     ensures { result ≡ word_start word }
 {
     match word {
-        Word::Stop => Some(AtomStart::Leaf(Tree::Stop)),
-        Word::Skip => Some(AtomStart::Leaf(Tree::Skip)),
-        Word::True => Some(AtomStart::Leaf(Tree::True)),
-        Word::False => Some(AtomStart::Leaf(Tree::False)),
+        Word::Stop => Some(AtomStart::Leaf(Deep::leaf(Tree::Stop))),
+        Word::Skip => Some(AtomStart::Leaf(Deep::leaf(Tree::Skip))),
+        Word::True => Some(AtomStart::Leaf(Deep::leaf(Tree::True))),
+        Word::False => Some(AtomStart::Leaf(Deep::leaf(Tree::False))),
         Word::Union => Some(AtomStart::SetOperator(SetOp::Union)),
         Word::Inter => Some(AtomStart::SetOperator(SetOp::Inter)),
         Word::Diff => Some(AtomStart::SetOperator(SetOp::Diff)),
@@ -320,7 +321,7 @@ fn token_start(token: &Token) -> Option<AtomStart>
     ensures { result ≡ token_start token.now }
 {
     match token {
-        Token::Num(number) => Some(AtomStart::Leaf(Tree::Num(*number))),
+        Token::Num(number) => Some(AtomStart::Leaf(Deep::leaf(Tree::Num(*number)))),
         Token::Word(word) => word_start(*word),
         Token::Symbol(symbol) => symbol_start(*symbol),
         _ => None,
@@ -352,7 +353,7 @@ pub fn atom_start(alloc: Global, tokens: &[Token]) -> Result<(AtomStart, &[Token
     let name = name.try_clone(alloc)?;
     match skip(rest, Symbol::OpenParen) {
         Some(behind) => Ok((AtomStart::Call(name), behind)),
-        None => Ok((AtomStart::Leaf(Tree::Name(name)), rest)),
+        None => Ok((AtomStart::Leaf(Deep::leaf(Tree::Name(name))), rest)),
     }
 }
 

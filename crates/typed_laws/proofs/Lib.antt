@@ -14,6 +14,7 @@ pub mod NetsAre
 pub mod Typable
 pub mod DeclPasses
 pub mod ScriptKinds
-pub mod Puts
-pub mod Putting
-pub mod Typed
+pub mod OnceLaws
+pub mod Back
+pub mod Declared
+pub mod Programs

@@ -32,7 +32,7 @@ free_sense is_free h = refl
 pub none_of_count : (n k : ℕ) (x : Name) → k ≡ n → when (not (nat_eq n k)) x ≡ None
 none_of_count n k x h = ap (λ b. when (not b) x) (eq-eqb n k (sym h))
 
-no_constant : (e : Option Entity) → ((k : ℕ) → e ≡ Some (entity.Constant k) → ⊥) → is_constant e ≡ false
+pub no_constant : (e : Option Entity) → ((k : ℕ) → e ≡ Some (entity.Constant k) → ⊥) → is_constant e ≡ false
 no_constant (Some (entity.Constant k)) h = absurd (h k refl)
 no_constant (Some (entity.Channel c n)) h = refl
 no_constant (Some (entity.Definition d n)) h = refl

@@ -1,5 +1,5 @@
 -- The binding tokens of a tree are as many whatever its names mean.
-use Rattle.std.proofs.Common.{◌≡◌, ℕ, ◌+◌, Some, None, List, [], ◌∷◌, map, refl, ap, sym, ◌∙◌, subst}
+use Rattle.std.proofs.Common.{◌≡◌, ℕ, ◌+◌, Some, None, List, [], ◌∷◌, map, refl, ap, sym, ◌∙◌, subst, arith}
 use Rattle.csp_text.specs.declared.tree.FieldTree.{FieldTree}
 use Rattle.csp_text.specs.declared.tree.FieldTree.TheFolds.{map-FieldTree, map-GenTree, map-Tree, map-EventTree, map-PartTree, ind-FieldTree, ind-GenTree, ind-Tree, ind-PartTree}
 use Rattle.csp_text.specs.declared.tree.FieldTree.TheOpen.{FieldTree-F, GenTree-F, Tree-F, EventTree-F, PartTree-F}
@@ -85,7 +85,7 @@ module _ (es : Entities) (ks : List Kind) where
   layer (Tree-F.Neg a) = λ i. a.1 i
   layer (Tree-F.Not a) = λ i. a.1 i
   layer (Tree-F.Binary op a b) = λ i. a.1 i + b.1 i
-  layer (Tree-F.If c a b) = λ i. c.1 i + a.1 i + b.1 i
+  layer (Tree-F.If c a b) = omega (arith, c.1, a.1, b.1)
   layer (Tree-F.Display items) = λ i. trees_same items i
   layer (Tree-F.Range a b) = λ i. a.1 i + b.1 i
   layer (Tree-F.Comp items gens) = λ i. trees_same items i + gens_same gens i
@@ -97,11 +97,11 @@ module _ (es : Entities) (ks : List Kind) where
   layer (Tree-F.Internal ps) = λ i. trees_same ps i
   layer (Tree-F.EachExternal x s p) = λ i. 1 + s.1 i + p.1 i
   layer (Tree-F.EachInternal x s p) = λ i. 1 + s.1 i + p.1 i
-  layer (Tree-F.Parallel p a b q) = λ i. p.1 i + a.1 i + b.1 i + q.1 i
+  layer (Tree-F.Parallel p a b q) = omega (arith, p.1, a.1, b.1, q.1)
   layer (Tree-F.EachParallel x s a p) = λ i. 1 + s.1 i + a.1 i + p.1 i
   layer (Tree-F.Seq p q) = λ i. p.1 i + q.1 i
   layer (Tree-F.Hide p s) = λ i. p.1 i + s.1 i
-  layer (Tree-F.Rename p fronts gens) = λ i. p.1 i + pairs_same fronts i + gens_same gens i
+  layer (Tree-F.Rename p fronts gens) = omega (arith, p.1, pairs_same fronts, gens_same gens)
   layer _ = refl
 
   tree_step : (z : Tree-F FieldTree GenTree Tree EventTree PartTree) (y : Tree-F KnownField KnownGen KnownTree KnownEvent KnownPart) → bare y ≡ z

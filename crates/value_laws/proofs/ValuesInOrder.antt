@@ -5,6 +5,7 @@ use Rattle.std.proofs.lemmas.Bool.{false≢true, lt-ltb, or_cases}
 use Rattle.std.proofs.lemmas.Int.{ints}
 use Rattle.std.proofs.lemmas.List.{length-map}
 use Rattle.std.proofs.lemmas.Option.{slice_get_within}
+use Rattle.csp_base.specs.Lists.{natural}
 use Rattle.csp_atoms.specs.Order.{same_kind}
 use Rattle.csp_atoms.specs.Sets.{AllAbove, AllOfKind, IsAtomSet, IsRising, alike, diff_of, has_atom, inter_of, is_set, union_of}
 use Rattle.csp_atoms.proofs.ListLaws.{one_kind}

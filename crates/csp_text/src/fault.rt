@@ -3,7 +3,7 @@
 use csp_base::{NoMemory, Place};
 
 /// Why there is no script, or none was found.
-#[derive(Drop)]
+#[derive(Clone, Copy, Drop)]
 pub enum ParseFault {
     /// Memory ran out.
     NoMemory,
@@ -13,7 +13,7 @@ pub enum ParseFault {
 
 impl From<NoMemory> for ParseFault {
     ghost use Rattle.std.specs.Prelude.{◌≡◌};
-    ghost use Rattle.csp_parser.specs.declared.fault.ParseFault.TheVariants.{NoMemory};
+    ghost use Rattle.csp_text.specs.declared.fault.ParseFault.TheVariants.{NoMemory};
 
     ghost from_gives = { λ _ fault. fault ≡ NoMemory };
 
