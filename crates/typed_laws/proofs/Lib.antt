@@ -17,4 +17,6 @@ pub mod ScriptKinds
 pub mod OnceLaws
 pub mod Back
 pub mod Declared
+pub mod OnceSaid
+pub mod Forward
 pub mod Programs

@@ -1,4 +1,4 @@
--- A faultless script has a program by the rules of typing: the one that the functions give.
+-- A script has a program by the rules of typing exactly where the functions give it.
 use Rattle.std.proofs.Common.{◌≡◌, ℕ, zero, suc, ◌+◌, ◌≤◌, Bool, true, false, nat_le, nat_lt, IsTrue, Option, Some, None, Ok, Err, List, [], ◌∷◌, ◌++◌, length, map, refl, sym, ◌∙◌, ap, subst, arith}
 use Rattle.std.specs.Prelude.{if◌then◌else◌, slice_get}
 use Rattle.std.specs.List.{flat_map}
@@ -18,20 +18,24 @@ use Rattle.script_names.specs.Contents.{first_assertion, plain_content}
 use Rattle.script_names.specs.DataDepth.{IsShallow, definition_depth}
 use Rattle.script_names.specs.Declaring.{Declares, nothing_yet}
 use Rattle.script_names.specs.Depth.{depth_within}
+use Rattle.script_names.specs.Faults.{when}
 use Rattle.script_names.specs.FieldSets.{field_sets}
 use Rattle.script_names.specs.Kinds.{AreKinds, script_ends}
 use Rattle.script_names.specs.Names.{Meanings, Name, is_among, meanings_of, names_declared, none_yet}
+use Rattle.script_names.specs.Occurrence.{notes}
 use Rattle.script_names.specs.Once.{AreOnce, with_roles, with_uses}
 use Rattle.script_names.specs.Program.{IsProgram, all_events, with_events, with_sets}
 use Rattle.script_names.specs.Resolved.{Answer, and_next, channel_sets, resolved, types_of, with_names, with_root, with_table}
 use Rattle.script_names.specs.Says.{tree_says}
 use Rattle.script_names.specs.Told.{bodies_from, body_place, data_place, declared_after, is_deep, name_fault, next_definition, parameters_after, types_say}
 use Rattle.typed_laws.proofs.Back.{SetsFor, any_sets, declares, sets_for, sets_for_any}
-use Rattle.typed_laws.proofs.Declared.{bodies_are, depths_agree}
-use Rattle.typed_laws.proofs.DeclPasses.{EachPasses, each_passes}
+use Rattle.typed_laws.proofs.Declared.{bodies_are, content_is, depths_agree, sets_are}
+use Rattle.typed_laws.proofs.DeclPasses.{EachPasses, each_passes, no_fault}
 use Rattle.typed_laws.proofs.DefUses.{when_none}
-use Rattle.typed_laws.proofs.OnceLaws.{EachFresh, FreshFrom, are_once, declared_fresh, names_are, names_of_decl}
-use Rattle.typed_laws.proofs.Passing.{AllPass, pass_three, pass_two}
+use Rattle.typed_laws.proofs.Forward.{passes_each}
+use Rattle.typed_laws.proofs.OnceLaws.{EachFresh, FreshFrom, are_once, declared_fresh, fresh_declared, names_are, names_of_decl, once_names, once_roles, once_uses}
+use Rattle.typed_laws.proofs.OnceSaid.{EachOnceSaid}
+use Rattle.typed_laws.proofs.Passing.{AllPass, Passes, pass_three, pass_two}
 use Rattle.typed_laws.proofs.ScriptKinds.{have_kinds, kind_is}
 use Rattle.typed_laws.proofs.Uses.{HaveKinds, KindIs}
 
@@ -173,3 +177,89 @@ faultless_is_program script ks p are h =
       few = w.few;
       is = w.is;
     }
+
+-- ---- back
+
+some_asserted : (decls : List Decl) (k : ℕ) (a : Tree) → slice_get decls k ≡ Some (decl.Assert a) → (b : Tree) × (first_assertion decls ≡ Some b)
+some_asserted [] k a h = absurd (cc)
+some_asserted (decl.Assert b ∷ decls) k a h = (b, refl)
+some_asserted (decl.Channel xs types ∷ decls) zero a h = absurd (cc)
+some_asserted (decl.Channel xs types ∷ decls) (suc k) a h = some_asserted decls k a h
+some_asserted (decl.Datatype x cs ∷ decls) zero a h = absurd (cc)
+some_asserted (decl.Datatype x cs ∷ decls) (suc k) a h = some_asserted decls k a h
+some_asserted (decl.Nametype x t ∷ decls) zero a h = absurd (cc)
+some_asserted (decl.Nametype x t ∷ decls) (suc k) a h = some_asserted decls k a h
+some_asserted (decl.Define x params t ∷ decls) zero a h = absurd (cc)
+some_asserted (decl.Define x params t ∷ decls) (suc k) a h = some_asserted decls k a h
+some_asserted (decl.Roles names ∷ decls) zero a h = absurd (cc)
+some_asserted (decl.Roles names ∷ decls) (suc k) a h = some_asserted decls k a h
+some_asserted (decl.Resource names ∷ decls) zero a h = absurd (cc)
+some_asserted (decl.Resource names ∷ decls) (suc k) a h = some_asserted decls k a h
+
+if_true : (b : Bool) (x y : Answer Content) → b ≡ true → (if b then x else y) ≡ x
+if_true b x y h = ap (λ z. if z then x else y) h
+
+few_events : (limit n : ℕ) → n ≤ limit → nat_le n limit ≡ true
+few_events limit n h = grind arith
+
+not_deep : (limit a b : ℕ) → a ≡ b → b ≤ limit → nat_lt limit a ≡ false
+not_deep limit a b e h = grind arith
+
+module _ (m : Meanings) (ks : List Kind) where
+  note_passes : (x : Name) (b : Bool) → b ≡ false → Passes m ks (notes x b)
+  note_passes x b h = record { fine = record { known = refl; kind = refl; count = refl; inside = refl }; once = ap (λ z. when z x) h }
+
+  names_said : (earlier : List Decl) (xs : List Name) → FreshFrom (flat_map names_of_decl earlier) xs → AllPass m ks (declared_after (names_declared earlier) xs)
+  names_said earlier xs h = fresh_declared m ks (names_declared earlier) xs (subst (λ z. FreshFrom z xs) (sym (names_are earlier)) h)
+
+  each_said : (earlier rest : List Decl) → EachFresh names_of_decl earlier rest → EachFresh with_roles earlier rest → EachFresh with_uses earlier rest
+      → EachOnceSaid m ks earlier rest
+  each_said earlier [] h g k = tt
+  each_said earlier (decl.Channel xs types ∷ rest) h g k =
+      (names_said earlier xs h.0, each_said (earlier ++ decl.Channel xs types ∷ []) rest h.1 g.1 k.1)
+  each_said earlier (decl.Datatype x cs ∷ rest) h g k =
+      (names_said earlier (x ∷ cs) h.0, each_said (earlier ++ decl.Datatype x cs ∷ []) rest h.1 g.1 k.1)
+  each_said earlier (decl.Nametype x a ∷ rest) h g k =
+      (names_said earlier (x ∷ []) h.0, each_said (earlier ++ decl.Nametype x a ∷ []) rest h.1 g.1 k.1)
+  each_said earlier (decl.Define x params a ∷ rest) h g k =
+      (names_said earlier (x ∷ []) h.0, each_said (earlier ++ decl.Define x params a ∷ []) rest h.1 g.1 k.1)
+  each_said earlier (decl.Assert a ∷ rest) h g k = (tt, each_said (earlier ++ decl.Assert a ∷ []) rest h.1 g.1 k.1)
+  each_said earlier (decl.Roles names ∷ rest) h g k =
+      ((note_passes names.process _ g.0.0, tt), each_said (earlier ++ decl.Roles names ∷ []) rest h.1 g.1 k.1)
+  each_said earlier (decl.Resource names ∷ rest) h g k =
+      ((note_passes names.process _ k.0.0, tt), each_said (earlier ++ decl.Resource names ∷ []) rest h.1 g.1 k.1)
+
+module _ (script : Script) (p : Content) (h : IsProgram script p) where
+  abbrev decls : List Decl
+  decls = script.decls
+
+  faultless : name_fault decls h.kinds ≡ None
+  faultless = no_fault decls h.kinds [] decls (passes_each decls h.kinds h.declared [] refl
+      (each_said (meanings_of decls) h.kinds [] decls (once_names decls h.once) (once_roles decls h.once) (once_uses decls h.once))
+      (λ i low. not_deep MOST_DATA_DEPTH (depth_within (MOST_DATA_DEPTH + 1) (bodies_from (meanings_of decls) h.kinds 0 decls) i)
+      (definition_depth (MOST_DATA_DEPTH + 1) h.plain.defs i)
+      (depths_agree (bodies_from (meanings_of decls) h.kinds 0 decls) h.plain.defs (bodies_are (meanings_of decls) h.kinds h.declared) (MOST_DATA_DEPTH + 1) i) low))
+
+  same_content : plain_content decls h.kinds ≡ h.plain
+  same_content =
+      let v = content_is (meanings_of decls) h.kinds h.declared in
+      λ i. record {
+        events = v.events i;
+        channels = v.channels i;
+        consts = v.consts i;
+        defs = v.defs i;
+        roles = v.roles i;
+        resources = v.resources i;
+        root = v.root i;
+      }
+
+  abbrev tail : Content → Answer Content
+  tail q = and_next (channel_sets q (types_of decls h.kinds) 0 decls) (λ all. with_table q all)
+
+  pub program_resolves : resolved decls h.kinds ≡ Ok p
+  program_resolves =
+      let root = some_asserted decls h.asserted.1.0 h.asserted.0 h.asserted.1.1 in
+      ap (with_root decls h.kinds) root.1 ∙ ap (with_names decls h.kinds) faultless ∙ ap tail same_content
+      ∙ ap (λ o. and_next o (λ all. with_table h.plain all)) (sets_are (meanings_of decls) h.kinds h.declared 0)
+      ∙ if_true (nat_le (all_events h.sets) MOST_EVENTS) _ _ (few_events MOST_EVENTS (all_events h.sets) h.few)
+      ∙ ap Ok (sym h.is)

@@ -1,0 +1,147 @@
+-- Where declarations are put into a program by the rules, all that they say passes, and no definition of data is too deep.
+use Rattle.std.proofs.Common.{◌≡◌, ℕ, ◌+◌, ◌<◌, ◌≤◌, Bool, true, false, not, ◌&&◌, nat_eq, nat_lt, Some, None, List, [], ◌∷◌, ◌++◌, length, refl, sym, ◌∙◌, ap, subst, arith}
+use Rattle.std.specs.Prelude.{slice_get}
+use Rattle.csp_atoms.specs.declared.atom.Atom.{Atom}
+use Rattle.csp_text.specs.declared.script.Decl.{Decl}
+use Rattle.csp_text.specs.declared.script.Decl.TheVariants as decl
+use Rattle.csp_text.specs.declared.tree.Tree.{Tree}
+use Rattle.csp_program.specs.declared.expressions.Expr.{Expr}
+use Rattle.csp_program.specs.declared.programs.Content.{Content}
+use Rattle.dl_limits.specs.declared.TheConstants.{MOST_DATA_DEPTH}
+use Rattle.script_names.specs.declared.kinds.Class.TheVariants as class
+use Rattle.script_names.specs.declared.kinds.Entity.TheVariants as entity
+use Rattle.script_names.specs.declared.kinds.Kind.{Kind}
+use Rattle.script_names.specs.declared.kinds.Need.TheVariants as need
+use Rattle.script_names.specs.declared.kinds.Sense.TheVariants as sense
+use Rattle.script_names.specs.declared.kinds.Use.TheVariants as how
+use Rattle.script_names.specs.DataDepth.{IsShallow}
+use Rattle.script_names.specs.Declaring.{Declares, IsAnnotated, IsEventSet}
+use Rattle.script_names.specs.Declaring as d
+use Rattle.script_names.specs.Faults.{clashes, kind_class}
+use Rattle.script_names.specs.Names.{Counts, Meanings, Name, counted, meanings_of, names_declared, none_yet, sense_in, sense_of}
+use Rattle.script_names.specs.Occurrence.{Occurrence, uses}
+use Rattle.script_names.specs.Says.{tree_says}
+use Rattle.script_names.specs.Scopes.{names_of, parameters}
+use Rattle.script_names.specs.Told.{body_place, bodies_from, counts_of, data_place, declared_after, is_data, is_deep, next_definition, too_deep, types_say}
+use Rattle.script_names.specs.Typing.{AreExprs}
+use Rattle.script_names.specs.Typing as t
+use Rattle.script_names.proofs.Scopes.{names_of-parameters}
+use Rattle.typed_laws.proofs.DeclPasses.{DeclPasses, EachPasses, counted_on}
+use Rattle.typed_laws.proofs.ExprsAre.{expr_is}
+use Rattle.typed_laws.proofs.NetsAre.{net_is}
+use Rattle.typed_laws.proofs.OnceLaws.{parameters_pass}
+use Rattle.typed_laws.proofs.OnceSaid.{EachOnceSaid}
+use Rattle.typed_laws.proofs.Passing.{AllPass, Passes, data_at, join, process_at, use_passes}
+use Rattle.typed_laws.proofs.ProcsAre.{proc_is}
+use Rattle.typed_laws.proofs.Senses.{none_of_count}
+
+and_false : (a b : Bool) → b ≡ false → (a && b) ≡ false
+and_false true b h = h
+and_false false b h = refl
+
+module _ (m : Meanings) (ks : List Kind) where
+  -- ---- what declarations say beside what stands once
+
+  types_pass : {n k : ℕ} {types : List Tree} {es : List Expr} → AreExprs m ks [] n types es k → AllPass m ks (types_say m ks types)
+  types_pass t.no_exprs = tt
+  types_pass (t.more_exprs h g) = join m ks _ _ ((expr_is m ks h).passes false 1) (types_pass g)
+
+  -- the process of an annotation
+  process_passes : (x : Name) (e k : ℕ) → IsAnnotated m ks x e k → Passes m ks (uses x (sense_in m [] x) how.Annotated)
+  process_passes x e k h =
+      use_passes m ks x (sense_of (m x)) (sense.Declared (entity.Definition e k)) how.Annotated (ap sense_of h.means) (record {
+        fine = record { known = refl; kind = ap (λ o. clashes ks (kind_class o) need.Process) h.process; count = refl; inside = refl };
+        once = refl;
+      })
+
+  -- a set of an annotation
+  set_passes : (x y : Name) (e a k : ℕ) → IsAnnotated m ks x e k → IsEventSet m ks y a k
+      → Passes m ks (uses y (sense_in m [] y) (how.Annotates (sense_in m [] x)))
+  set_passes x y e a k h g =
+      subst (λ s. Passes m ks (uses y (sense_in m [] y) (how.Annotates s))) (sym (ap sense_of h.means))
+      (use_passes m ks y (sense_of (m y)) (sense.Declared (entity.Definition a k)) (how.Annotates (sense.Declared (entity.Definition e k))) (ap sense_of g.means)
+      (record {
+        fine = record { known = refl; kind = ap (λ o. clashes ks (kind_class o) need.Data) g.set; count = none_of_count k k y refl; inside = refl };
+        once = refl;
+      }))
+
+module _ (script : List Decl) (ks : List Kind) where
+  abbrev m : Meanings
+  m = meanings_of script
+
+  abbrev bodies : List (List Occurrence)
+  bodies = bodies_from m ks 0 script
+
+  -- the body of a definition whose kind is this
+  body_passes : (earlier : List Decl) (n : Counts) (params : List Name) (a : Tree) (kind : Kind) → counts_of none_yet earlier ≡ n
+      → slice_get ks n.definitions ≡ Some kind → AllPass m ks (tree_says m a (body_place (Some kind)) (names_of (parameters 0 params)))
+      → AllPass m ks (tree_says m a (body_place (slice_get ks (next_definition earlier))) params)
+  body_passes earlier n params a kind at is h =
+      subst (λ c. AllPass m ks (tree_says m a (body_place (slice_get ks c.definitions)) params)) (sym at)
+      (subst (λ o. AllPass m ks (tree_says m a (body_place o) params)) (sym is)
+      (subst (λ names. AllPass m ks (tree_says m a (body_place (Some kind)) names)) (names_of-parameters 0 params) h))
+
+  -- a definition of a process is no deep definition of data
+  process_shallow : (earlier : List Decl) (n : Counts) (x : Name) (params : List Name) (a : Tree) (network : Bool) → counts_of none_yet earlier ≡ n
+      → slice_get ks n.definitions ≡ Some (record { class = class.Process; network = network })
+      → too_deep ks bodies (next_definition earlier) (decl.Define x params a) ≡ false
+  process_shallow earlier n x params a network at is =
+      ap (λ c. is_data (kind_class (slice_get ks c.definitions)) && is_deep ks bodies c.definitions) at
+      ∙ ap (λ o. is_data (kind_class o) && is_deep ks bodies n.definitions) is
+
+  pub passes_each : {whole : Content} {HasSets : List Expr → List (List Atom) → Type 0} {n : Counts} {decls : List Decl} {p : Content} {sets : List (List (List Atom))}
+      → Declares m ks whole HasSets n decls p sets → (earlier : List Decl) → counts_of none_yet earlier ≡ n → EachOnceSaid m ks earlier decls
+      → ((i : ℕ) → IsShallow whole i → is_deep ks bodies i ≡ false) → EachPasses script ks earlier decls
+  passes_each d.nothing earlier at once deep = tt
+  passes_each {n = n} (d.channels typed fits rest) earlier at once deep =
+      (record { passes = join m ks _ _ once.0 (types_pass m ks typed); shallow = refl }, passes_each rest _ (counted_on earlier _ n at) once.1 deep)
+  passes_each {n = n} (d.datatype rest) earlier at once deep =
+      (record { passes = once.0; shallow = refl }, passes_each rest _ (counted_on earlier _ n at) once.1 deep)
+  passes_each {n = n} (d.nametype {x = x} h shallow rest) earlier at once deep = (
+    record {
+      passes = join m ks (declared_after (names_declared earlier) (x ∷ [])) _ once.0 ((expr_is m ks h).passes false 1);
+      shallow = ap (λ c. is_deep ks bodies c.definitions) at ∙ deep n.definitions shallow;
+    },
+    passes_each rest _ (counted_on earlier _ n at) once.1 deep,
+  )
+  passes_each {n = n} (d.data_definition {x = x} {params = params} {t = a} ps is h shallow rest) earlier at once deep = (
+    record {
+      passes = join m ks (declared_after (names_declared earlier) (x ∷ [])) _ once.0
+          (join m ks _ _ (parameters_pass m ks params ps) (body_passes earlier n params a _ at is ((expr_is m ks h).passes false 1)));
+      shallow = and_false _ _ (ap (λ c. is_deep ks bodies c.definitions) at ∙ deep n.definitions shallow);
+    },
+    passes_each rest _ (counted_on earlier _ n at) once.1 deep,
+  )
+  passes_each {n = n} (d.process_definition {x = x} {params = params} {t = a} ps is h rest) earlier at once deep = (
+    record {
+      passes = join m ks (declared_after (names_declared earlier) (x ∷ [])) _ once.0
+          (join m ks _ _ (parameters_pass m ks params ps) (body_passes earlier n params a _ at is ((proc_is m ks h).passes false 1)));
+      shallow = process_shallow earlier n x params a false at is;
+    },
+    passes_each rest _ (counted_on earlier _ n at) once.1 deep,
+  )
+  passes_each {n = n} (d.network_definition {x = x} {params = params} {t = a} ps is h rest) earlier at once deep = (
+    record {
+      passes = join m ks (declared_after (names_declared earlier) (x ∷ [])) _ once.0
+          (join m ks _ _ (parameters_pass m ks params ps) (body_passes earlier n params a _ at is ((net_is m ks h).passes 1)));
+      shallow = process_shallow earlier n x params a true at is;
+    },
+    passes_each rest _ (counted_on earlier _ n at) once.1 deep,
+  )
+  passes_each {n = n} (d.assertion h rest) earlier at once deep =
+      (record { passes = (net_is m ks h).passes 1; shallow = refl }, passes_each rest _ (counted_on earlier _ n at) once.1 deep)
+  passes_each {n = n} (d.roles process creq cack sreq sack rest) earlier at once deep = (
+    record {
+      passes = (once.0.0, (process_passes m ks _ _ _ process, (set_passes m ks _ _ _ _ _ process creq, (set_passes m ks _ _ _ _ _ process cack,
+          (set_passes m ks _ _ _ _ _ process sreq, (set_passes m ks _ _ _ _ _ process sack, tt))))));
+      shallow = refl;
+    },
+    passes_each rest _ (counted_on earlier _ n at) once.1 deep,
+  )
+  passes_each {n = n} (d.resource process acquire release rest) earlier at once deep = (
+    record {
+      passes = (once.0.0, (process_passes m ks _ _ _ process, (set_passes m ks _ _ _ _ _ process acquire, (set_passes m ks _ _ _ _ _ process release, tt))));
+      shallow = refl;
+    },
+    passes_each rest _ (counted_on earlier _ n at) once.1 deep,
+  )
