@@ -253,7 +253,7 @@ module _ (script : List Decl) (ks : List Kind) (kinds : HaveKinds (meanings_of s
       (counted_on earlier (decl.Nametype x a) n is) (one_less n.definitions (length (flat_map (body_ends m) rest)) (length (script_ends script)) fits) h.1 found)
   declares earlier (decl.Define x params a ∷ rest) n all is fits h found =
       let w = pass_three m ks (declared_after (names_declared earlier) (x ∷ [])) (parameters_after [] params)
-          (tree_says m a (body_place (slice_get ks (next_definition earlier))) params) h.0.passes in
+      (tree_says m a (body_place (slice_get ks (next_definition earlier))) params) h.0.passes in
       let at : next_definition earlier ≡ n.definitions = ap (λ (z : Counts). z.definitions) is in
       defined n x params a rest all
       (known n.definitions (some_less n.definitions (length (flat_map (body_ends m) rest)) (length (script_ends script)) fits)) w.1

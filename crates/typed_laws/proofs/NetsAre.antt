@@ -98,9 +98,11 @@ module _ (m : Meanings) (ks : List Kind) where
           value = joined_layer (read_in (Tree-F.Call x args)) scope n joined ∙ (λ i. net.Call (ap definition_number h.1 i) (w.value i));
           next = w.next;
           joined = joined;
-          passes = λ l. (use_passes m ks x _ _ _ (means_is m ks scope x (entity.Definition d (length args)) h)
-              (call_passes m ks x d (length args) (length (map (tree_says m) args)) _ (process_at true l) is refl refl (length-map args (tree_says m))),
-              w.passes false (l + 1));
+          passes = λ l. (
+            use_passes m ks x _ _ _ (means_is m ks scope x (entity.Definition d (length args)) h)
+                (call_passes m ks x d (length args) (length (map (tree_says m) args)) _ (process_at true l) is refl refl (length-map args (tree_says m))),
+            w.passes false (l + 1),
+          );
         })
     composition_is {scope} {n} {k} (t.if_first {c = c} {p = a} {q = b} {e = e} {v = v} {w = w} h h' h'') =
         let u = expr_is m ks h in let y = composition_is h' in let z = net_is h'' in
@@ -140,7 +142,13 @@ module _ (m : Meanings) (ks : List Kind) where
               ((ap (λ i. (reading m ks b).net (with scope x n) (i + (reading m ks c).binds)) u.next ∙ ap ((reading m ks b).net (with scope x n)) y.next ∙ z.value) j);
           next = add_one_three _ _ _ _ _ _ _ u.next y.next z.next;
           joined = refl;
-          passes = λ l. (parallel_passes l, (bind_passes m ks x free, join_three m ks _ _ _ (u.passes false (l + 1))
-              (subst (λ i. AllPass m ks (tree_says m c (data_at false (l + 1)) i)) (names_with scope x n) (y.passes false (l + 1)))
-              (subst (λ i. AllPass m ks (tree_says m b (process_at true (l + 1)) i)) (names_with scope x n) (z.passes (l + 1)))));
+          passes = λ l. (
+            parallel_passes l,
+            (
+              bind_passes m ks x free,
+              join_three m ks _ _ _ (u.passes false (l + 1))
+                  (subst (λ i. AllPass m ks (tree_says m c (data_at false (l + 1)) i)) (names_with scope x n) (y.passes false (l + 1)))
+                  (subst (λ i. AllPass m ks (tree_says m b (process_at true (l + 1)) i)) (names_with scope x n) (z.passes (l + 1))),
+            ),
+          );
         })

@@ -61,17 +61,20 @@ module _ (script : List Decl) (ks : List Kind) where
 
   names_once : (earlier rest : List Decl) → EachPasses script ks earlier rest → EachFresh names_of_decl earlier rest
   names_once earlier [] h = tt
-  names_once earlier (decl.Channel xs types ∷ rest) h =
-      (fresh_names earlier xs (pass_two m ks (declared_after (names_declared earlier) xs) (types_say m types) h.0.passes).0,
-      names_once (earlier ++ decl.Channel xs types ∷ []) rest h.1)
+  names_once earlier (decl.Channel xs types ∷ rest) h = (
+    fresh_names earlier xs (pass_two m ks (declared_after (names_declared earlier) xs) (types_say m types) h.0.passes).0,
+    names_once (earlier ++ decl.Channel xs types ∷ []) rest h.1,
+  )
   names_once earlier (decl.Datatype x cs ∷ rest) h = (fresh_names earlier (x ∷ cs) h.0.passes, names_once (earlier ++ decl.Datatype x cs ∷ []) rest h.1)
-  names_once earlier (decl.Nametype x a ∷ rest) h =
-      (fresh_names earlier (x ∷ []) (pass_two m ks (declared_after (names_declared earlier) (x ∷ [])) (tree_says m a data_place []) h.0.passes).0,
-      names_once (earlier ++ decl.Nametype x a ∷ []) rest h.1)
-  names_once earlier (decl.Define x params a ∷ rest) h =
-      (fresh_names earlier (x ∷ []) (pass_three m ks (declared_after (names_declared earlier) (x ∷ [])) (parameters_after [] params)
-      (tree_says m a (body_place (slice_get ks (next_definition earlier))) params) h.0.passes).0,
-      names_once (earlier ++ decl.Define x params a ∷ []) rest h.1)
+  names_once earlier (decl.Nametype x a ∷ rest) h = (
+    fresh_names earlier (x ∷ []) (pass_two m ks (declared_after (names_declared earlier) (x ∷ [])) (tree_says m a data_place []) h.0.passes).0,
+    names_once (earlier ++ decl.Nametype x a ∷ []) rest h.1,
+  )
+  names_once earlier (decl.Define x params a ∷ rest) h = (
+    fresh_names earlier (x ∷ []) (pass_three m ks (declared_after (names_declared earlier) (x ∷ [])) (parameters_after [] params)
+        (tree_says m a (body_place (slice_get ks (next_definition earlier))) params) h.0.passes).0,
+    names_once (earlier ++ decl.Define x params a ∷ []) rest h.1,
+  )
   names_once earlier (decl.Assert a ∷ rest) h = (tt, names_once (earlier ++ decl.Assert a ∷ []) rest h.1)
   names_once earlier (decl.Roles names ∷ rest) h = (tt, names_once (earlier ++ decl.Roles names ∷ []) rest h.1)
   names_once earlier (decl.Resource names ∷ rest) h = (tt, names_once (earlier ++ decl.Resource names ∷ []) rest h.1)
