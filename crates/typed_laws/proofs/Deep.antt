@@ -11,6 +11,7 @@ use Rattle.csp_program.specs.declared.expressions.Gen.{Gen}
 use Rattle.csp_base.specs.Lists.{greatest}
 use Rattle.script_names.specs.DataDepth.{expanded_depth, expanded_depth_of_layer, gen_expanded_depth, part_expanded_depth}
 use Rattle.script_names.specs.Depth.{deepest, reach}
+use Rattle.script_names.specs.Names.{Name}
 use Rattle.script_names.specs.declared.occurrence.Occurrence.{Occurrence}
 use Rattle.script_names.specs.Typing.{event_part}
 
