@@ -124,9 +124,3 @@ found_longest text None is = λ s front. let there = place s in none_found (λ s
 found_longest text (Some symbol) is =
     let found = longest_found (λ s. starts_with nat_eq text (symbol_text s)) 3 symbols symbol all_fall (sym is) in
     (passed_front text (symbol_text symbol) found.0, λ s front. let there = place s in found.1 there.0 s there.1 (front_tested text (symbol_text s) front))
-
--- the first of the symbols that begin with the first byte
-pub in_front : (text : List ℕ) (first : ℕ) (rest : List ℕ) (few : List Symbol) → text ≡ first ∷ rest
-    → ((rest : List ℕ) → longest_symbol (first ∷ rest) ≡ find (λ symbol. starts_with nat_eq (first ∷ rest) (symbol_text symbol)) few)
-    → find (λ symbol. starts_with nat_eq text (symbol_text symbol)) few ≡ longest_symbol text
-in_front text first rest few is same = subst (λ t. find (λ symbol. starts_with nat_eq t (symbol_text symbol)) few ≡ longest_symbol t) (sym is) (sym (same rest))

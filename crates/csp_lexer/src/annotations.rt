@@ -9,6 +9,7 @@ ghost use Rattle.csp_lexer.specs.Pieces.{one_before};
 ghost use Rattle.csp_lexer.specs.Words.{is_name};
 
 use crate::classes::is_space;
+use crate::scan::pass_one;
 use crate::tokens::Tokens;
 use crate::words::is_name;
 use containers::Boxed;
@@ -68,23 +69,6 @@ fn resource(alloc: Global, words: &[&[u8]]) -> Result<Option<Token>, NoMemory>
         }
         _ => Ok(None),
     }
-}
-
-// Adds the token, if there is one, and leaves the rest.
-fn pass_one<'a>(
-    token: Option<Token>,
-    at: Place,
-    rest: &'a [u8],
-    found: &mut Tokens,
-) -> Result<Option<&'a [u8]>, NoMemory>
-    ensures passed { IfOk result (λ left. Passed (one_before at rest.now token) found.old found.new (option_copied left)) }
-    ensures same { IfOk result (λ left. IfSome left (λ left. left.now ≡ rest.now)) }
-{
-    let Some(token) = token else {
-        return Ok(None);
-    };
-    found.push(token, at)?;
-    Ok(Some(rest))
 }
 
 // Passes a line comment that begins with `--@` and these words, which may be an annotation.

@@ -13,8 +13,8 @@ use crate::annotations::pass_line;
 use crate::assertions::pass_assertion;
 use crate::classes::is_space;
 use crate::comments::{after_comment, line_len};
-use crate::line::pass_token;
 use crate::places::{beginning, behind_all};
+use crate::scan::pass_token;
 use crate::tokens::Tokens;
 use crate::words::word_len;
 use csp_base::{NoMemory, Place};
@@ -29,11 +29,14 @@ fn is_blank(b: u8) -> bool
 }
 
 // Whether the text's first word is `assert`.
-#[tactic(auto, unfolding(crate::specs::Front::begins_assertion))]
+#[tactic(auto, using(crate::proofs::WordsLemmas::not_asserted), unfolding(crate::specs::Front::begins_assertion))]
 fn begins_assertion(text: &[u8]) -> bool
     ensures value { result ≡ begins_assertion text.now }
     ensures long { IsTrue result → 6 ≤ length text.now }
 {
+    if !text.starts_with(b"as") {
+        return false;
+    }
     let len = word_len(text);
     let word = &text[..len];
     word == b"assert".as_slice()

@@ -4,13 +4,11 @@ ghost use Rattle.std.specs.Prelude.{◌≡◌, ◌<◌, ◌≤◌, [], length, I
 ghost use Rattle.std.specs.Option.{option_copied};
 ghost use Rattle.csp_lexer.specs.Assertions.{cut_line, ends_line, line_front, rest_len};
 ghost use Rattle.csp_lexer.specs.Passed.{Passed};
-ghost use Rattle.csp_lexer.specs.Pieces.{one_at};
-ghost use Rattle.csp_lexer.specs.Tokens.{token_at};
 ghost use Rattle.csp_base.specs.declared.place.Place.{Place as PlaceValue};
 
 use crate::classes::is_space;
 use crate::places::behind_all;
-use crate::scan::token_at;
+use crate::scan::pass_token;
 use crate::tokens::Tokens;
 use csp_base::{NoMemory, Place};
 use std::alloc::Global;
@@ -35,24 +33,6 @@ pub(crate) fn rest_len(text: &[u8]) -> usize
         len += 1;
     }
     len
-}
-
-// Passes the token at the front of the text.
-pub(crate) fn pass_token<'a>(
-    alloc: Global,
-    on_line: bool,
-    text: &'a [u8],
-    at: Place,
-    found: &mut Tokens,
-) -> Result<Option<&'a [u8]>, NoMemory>
-    ensures passed { IfOk result (λ left. Passed (one_at at text.now (token_at on_line text.now)) found.old found.new (option_copied left)) }
-    ensures shorter { IfOk result (λ left. IfSome left (λ left. length left.now < length text.now)) }
-{
-    let Some((token, len)) = token_at(alloc, on_line, text)? else {
-        return Ok(None);
-    };
-    found.push(token, at)?;
-    Ok(Some(&text[len..]))
 }
 
 // Passes the blank or the token at the front of the rest of an assertion's line.

@@ -1,14 +1,19 @@
-//! The token at the front of a text.
+//! The token at the front of a text, which is passed.
 
-ghost use Rattle.std.specs.Prelude.{◌≡◌, ◌+◌, ◌-◌, ◌*◌, ◌<◌, ◌≤◌, length, IfOk, IfSome};
-ghost use Rattle.csp_lexer.specs.Tokens.{number_token, token_at, with_len};
+ghost use Rattle.std.specs.Prelude.{◌≡◌, ◌+◌, ◌-◌, ◌*◌, ◌<◌, ◌≤◌, length, IfOk, IfSome, Some};
+ghost use Rattle.std.specs.Option.{option_copied};
+ghost use Rattle.csp_lexer.specs.Passed.{Passed};
+ghost use Rattle.csp_lexer.specs.Pieces.{one_at, one_before};
+ghost use Rattle.csp_lexer.specs.Tokens.{number_token, symbol_with_len, token_at};
+ghost use Rattle.csp_text.specs.Written.{symbol_text};
 ghost use Rattle.csp_lexer.specs.Words.{word_token};
 
 use crate::classes::{Class, bytes_of};
 use crate::symbols::symbol_at;
-use crate::words::{is_foreign, reserved_word, word_len};
-use csp_base::{Name, NoMemory};
-use csp_text::{Token, symbol_text};
+use crate::tokens::Tokens;
+use crate::words::{is_foreign, is_plain, reserved_word, word_len};
+use csp_base::{Name, NoMemory, Place};
+use csp_text::{Symbol, Token, symbol_text};
 use dl_limits::GREATEST_NUMBER;
 use std::alloc::Global;
 
@@ -30,50 +35,79 @@ fn number_token(digits: &[u8]) -> Option<Token>
 fn word_token(alloc: Global, word: &[u8]) -> Result<Option<Token>, NoMemory>
     ensures { IfOk result (λ found. found ≡ word_token word.now) }
 {
-    if let Some(reserved) = reserved_word(word) {
-        return Ok(Some(Token::Word(reserved)));
-    }
-    if is_foreign(word) {
-        return Ok(None);
+    if !is_plain(word) {
+        if let Some(reserved) = reserved_word(word) {
+            return Ok(Some(Token::Word(reserved)));
+        }
+        if is_foreign(word) {
+            return Ok(None);
+        }
     }
     let name = Name::from_slice(alloc, word)?;
     Ok(Some(Token::Name(name)))
 }
 
-// The token that the text begins with, and how many bytes it takes; on the line of an assertion or elsewhere.
-#[tactic(auto, unfolding(crate::specs::Tokens::token_at, crate::specs::Tokens::digits_len))]
-pub(crate) fn token_at(
+// Adds the token, if there is one, and leaves the rest.
+pub(crate) fn pass_one<'a>(
+    token: Option<Token>,
+    at: Place,
+    rest: &'a [u8],
+    found: &mut Tokens,
+) -> Result<Option<&'a [u8]>, NoMemory>
+    ensures passed { IfOk result (λ left.
+        Passed (one_before at rest.now token) found.old found.new (option_copied left)) }
+    ensures same { IfOk result (λ left. IfSome left (λ left. left.now ≡ rest.now)) }
+{
+    let Some(token) = token else {
+        return Ok(None);
+    };
+    found.push(token, at)?;
+    Ok(Some(rest))
+}
+
+// Adds the symbol, which the text begins with, and leaves what follows it.
+#[tactic(auto, using(std::proofs::lemmas::List::take_rest))]
+fn pass_symbol<'a>(
+    symbol: Symbol,
+    at: Place,
+    text: &'a [u8],
+    found: &mut Tokens,
+) -> Result<Option<&'a [u8]>, NoMemory>
+    requires has_byte { 0 < length (symbol_text symbol) }
+    requires within { length (symbol_text symbol) ≤ length text.now }
+    ensures passed { IfOk result (λ left.
+        Passed (one_at at text.now (symbol_with_len (Some symbol))) found.old found.new (option_copied left)) }
+    ensures shorter { IfOk result (λ left. IfSome left (λ left. length left.now < length text.now)) }
+{
+    found.push(Token::Symbol(symbol), at)?;
+    Ok(Some(&text[symbol_text(symbol).len()..]))
+}
+
+// Passes the token at the front of the text, on the line of an assertion or elsewhere.
+#[tactic(auto, using(std::proofs::lemmas::List::take_rest, crate::proofs::PieceLemmas::one_with_len), unfolding(crate::specs::Tokens::token_at, crate::specs::Tokens::digits_len))]
+pub(crate) fn pass_token<'a>(
     alloc: Global,
     on_line: bool,
-    text: &[u8],
-) -> Result<Option<(Token, usize)>, NoMemory>
-    ensures value { IfOk result (λ found. found ≡ token_at on_line text.now) }
-    ensures within { IfOk result (λ found. IfSome found (λ x. (0 < x.1) × (x.1 ≤ length text.now))) }
+    text: &'a [u8],
+    at: Place,
+    found: &mut Tokens,
+) -> Result<Option<&'a [u8]>, NoMemory>
+    ensures passed { IfOk result (λ left.
+        Passed (one_at at text.now (token_at on_line text.now)) found.old found.new (option_copied left)) }
+    ensures shorter { IfOk result (λ left. IfSome left (λ left. length left.now < length text.now)) }
 {
     let word = word_len(text);
     if 0 < word {
-        let found = word_token(alloc, &text[..word])?;
-        return Ok(with_len(word, found));
+        let token = word_token(alloc, &text[..word])?;
+        return pass_one(token, at, &text[word..], found);
     }
     let digits = bytes_of(Class::Digit, text);
     if 0 < digits {
-        return Ok(with_len(digits, number_token(&text[..digits])));
+        let token = number_token(&text[..digits]);
+        return pass_one(token, at, &text[digits..], found);
     }
     match symbol_at(on_line, text) {
-        Some(symbol) => {
-            let len = symbol_text(symbol).len();
-            Ok(Some((Token::Symbol(symbol), len)))
-        }
+        Some(symbol) => pass_symbol(symbol, at, text, found),
         None => Ok(None),
-    }
-}
-
-// A token with its length.
-fn with_len(len: usize, found: Option<Token>) -> Option<(Token, usize)>
-    ensures { result ≡ with_len len found }
-{
-    match found {
-        Some(token) => Some((token, len)),
-        None => None,
     }
 }

@@ -55,7 +55,7 @@ fn may_begin_word(first: u8, second: u8) -> bool
 }
 
 // Whether two bytes at the front tell that the word is a name, as they mostly do: no reserved word is shorter.
-fn is_plain(word: &[u8]) -> bool
+pub(crate) fn is_plain(word: &[u8]) -> bool
     ensures reserved { IsTrue result → reserved_word word.now ≡ None }
     ensures foreign { IsTrue result → is_foreign word.now ≡ false }
 {

@@ -28,8 +28,8 @@ fn place_before(tokens: &Tokens, left: usize) -> Place
 
 /// The script that the tokens are.
 ///
-/// The fault, but for want of memory, is that they are none within the limits of nesting: 400 open brackets, and a
-/// depth of 200. It tells the place of the token at which reading stopped, or that of the text's end.
+/// The fault, but for want of memory, is that they are none within the limits of nesting: `MOST_BRACKETS` open
+/// brackets, and the depth `MOST_TREE_DEPTH`. It tells the place of the token at which reading stopped, or of the end.
 pub fn parse(alloc: Global, tokens: &Tokens) -> Result<Script, ParseFault>
     // What is found is spelled, and nothing else is.
     ensures found { IfOk result (λ script. ScriptText (tokens_of tokens.now.placed) script) }

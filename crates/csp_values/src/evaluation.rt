@@ -2,6 +2,7 @@
 
 ghost use Rattle.std.specs.Prelude.{◌≡◌, Ok, Some, [], length, map};
 ghost use Rattle.csp_atoms.specs.declared.atom.Atom.TheVariants as atom;
+ghost use Rattle.csp_atoms.specs.declared.value.Value.TheVariants as value;
 ghost use Rattle.csp_program.specs.Atoms.{added, all_added};
 ghost use Rattle.csp_program.specs.Outcome.{and_then};
 ghost use Rattle.csp_program.specs.Value.{as_atom, as_set, binary, value_of};
@@ -23,6 +24,7 @@ use csp_program::{Body, Content, Def, EventPart, Expr, Gen, Program, ValueKind};
 use dl_limits::MOST_BINDINGS;
 use std::alloc::Global;
 use value_operators::EvalFault;
+use value_operators::growing::GrowingSet;
 use value_operators::names::{Names, copied, named, names_in};
 use value_operators::numbers::{
     count_with, each_of, event_at, field_sets, lack_sets, place_in, with_field,
@@ -64,6 +66,18 @@ struct Yield<'a> {
     parts: &'a [EventPart],
 }
 
+// What evaluation of a whole expression goes by: no more uses are entered, one inside another, than there are definitions.
+fn whole_scope<'a>(alloc: Global, content: &'a Fitting<'a>) -> Scope<'a>
+    ensures content { result.content.now ≡ content.now }
+    ensures uses { result.uses ≡ length content.now.defs }
+{
+    Scope {
+        alloc,
+        content,
+        uses: content.content().defs.len(),
+    }
+}
+
 /// The value of an expression of a program. A fault of kind `Value` comes exactly where it has none, with the kind of the first fault from the left.
 pub fn eval(alloc: Global, program: &Program, expr: &Expr) -> Result<Value, EvalFault>
     ensures { Gives result (value_of program.now expr.now) }
@@ -83,11 +97,7 @@ pub fn eval_in(alloc: Global, content: &Content, expr: &Expr) -> Result<Value, E
 fn eval_fitting(alloc: Global, content: &Fitting<'_>, expr: &Expr) -> Result<Value, EvalFault>
     ensures { Gives result (value_of content.now expr.now) }
 {
-    let scope = Scope {
-        alloc,
-        content,
-        uses: content.content().defs.len(),
-    };
+    let scope = whole_scope(alloc, content);
     let names = Names {
         params: &[],
         args: &[],
@@ -115,11 +125,7 @@ pub fn eval_under(
     ensures { Gives result (worth program.now (length program.now.defs) (with_bound bound.now []) expr.now) }
 {
     let content = Fitting::of(program);
-    let scope = Scope {
-        alloc,
-        content: &content,
-        uses: program.content().defs.len(),
-    };
+    let scope = whole_scope(alloc, &content);
     let names = Names {
         params: &[],
         args: &[],
@@ -139,11 +145,7 @@ pub fn eval_all_under(
     ensures { Gives result (worths program.now (length program.now.defs) (with_bound bound.now []) exprs.now) }
 {
     let content = Fitting::of(program);
-    let scope = Scope {
-        alloc,
-        content: &content,
-        uses: program.content().defs.len(),
-    };
+    let scope = whole_scope(alloc, &content);
     let names = Names {
         params: &[],
         args: &[],
@@ -166,11 +168,7 @@ pub fn front_under(
     ensures { Gives result (front_worth program.now (length program.now.defs) (with_bound bound.now []) channel fields.now) }
 {
     let content = Fitting::of(program);
-    let scope = Scope {
-        alloc,
-        content: &content,
-        uses: program.content().defs.len(),
-    };
+    let scope = whole_scope(alloc, &content);
     let names = Names {
         params: &[],
         args: &[],
@@ -191,11 +189,7 @@ pub fn binding_under(
     ensures { GivesBinding result (course_under program.now gens.now walk.old) (course_under program.now gens.now walk.new) [] [] walk.new }
 {
     let content = Fitting::of(program);
-    let scope = Scope {
-        alloc,
-        content: &content,
-        uses: program.content().defs.len(),
-    };
+    let scope = whole_scope(alloc, &content);
     let names = Names {
         params: &[],
         args: &[],
@@ -260,6 +254,14 @@ fn set_value(alloc: Global, op: SetOp, left: AtomSet, right: AtomSet) -> Result<
     ensures { Gives result (meant.many (meant.set_binary op left right)) }
 {
     let atoms = combined(alloc, op, &left, &right)?;
+    Ok(Value::Many(atoms))
+}
+
+// A set that has grown, as a value.
+fn grown_value(alloc: Global, atoms: GrowingSet) -> Result<Value, EvalFault>
+    ensures { Gives result (Ok (value.Many atoms)) }
+{
+    let atoms = atoms.into_set(alloc)?;
     Ok(Value::Many(atoms))
 }
 
@@ -408,8 +410,8 @@ fn eval_event(
 fn eval_display(scope: &Scope<'_>, names: &Names<'_>, items: &[Expr]) -> Result<Value, EvalFault>
     ensures { Gives result (form.a_set (with_items scope.now.content.now scope.now.uses (env_in names.now) items.now [])) }
 {
-    let atoms = add_items(scope, names, items, AtomSet::new(scope.alloc))?;
-    Ok(Value::Many(atoms))
+    let atoms = add_items(scope, names, items, GrowingSet::new(scope.alloc))?;
+    grown_value(scope.alloc, atoms)
 }
 
 // The set of the numbers from `a` to `b`.
@@ -467,11 +469,11 @@ fn eval_comprehension(
 {
     let start = Tally {
         bindings: 0,
-        atoms: AtomSet::new(scope.alloc),
+        atoms: GrowingSet::new(scope.alloc),
     };
     let yields = Yield { items, parts };
     let Tally { bindings: _, atoms } = gather_all(scope, names, gens, &yields, start)?;
-    Ok(Value::Many(atoms))
+    grown_value(scope.alloc, atoms)
 }
 
 // The values of expressions, from the left.
@@ -537,8 +539,8 @@ fn add_items(
     scope: &Scope<'_>,
     names: &Names<'_>,
     items: &[Expr],
-    atoms: AtomSet,
-) -> Result<AtomSet, EvalFault>
+    atoms: GrowingSet,
+) -> Result<GrowingSet, EvalFault>
     ensures { Gives result (with_items scope.now.content.now scope.now.uses (env_in names.now) items.now atoms) }
 {
     let mut atoms = atoms;
@@ -554,12 +556,12 @@ fn add_item(
     scope: &Scope<'_>,
     names: &Names<'_>,
     item: &Expr,
-    atoms: AtomSet,
-) -> Result<AtomSet, EvalFault>
+    atoms: GrowingSet,
+) -> Result<GrowingSet, EvalFault>
     ensures { Gives result (and_then (worth scope.now.content.now scope.now.uses (env_in names.now) item.now) (λ v. and_then (as_atom v) (λ a. added atoms a))) }
 {
     let value = eval_expr(scope, names, item)?;
-    with_item(atoms, &value)
+    with_item(scope.alloc, atoms, &value)
 }
 
 // The number of fields among all choices of values of these sets, each counted `each` times. Counting stops at the end of 64 bits.
@@ -640,8 +642,8 @@ fn add_fronts(
     scope: &Scope<'_>,
     names: &Names<'_>,
     parts: &[EventPart],
-    atoms: AtomSet,
-) -> Result<AtomSet, EvalFault>
+    atoms: GrowingSet,
+) -> Result<GrowingSet, EvalFault>
     ensures { Gives result (with_fronts scope.now.content.now scope.now.uses (env_in names.now) parts.now atoms) }
 {
     let mut atoms = atoms;
@@ -657,14 +659,14 @@ fn add_front(
     scope: &Scope<'_>,
     names: &Names<'_>,
     part: &EventPart,
-    atoms: AtomSet,
-) -> Result<AtomSet, EvalFault>
+    atoms: GrowingSet,
+) -> Result<GrowingSet, EvalFault>
     ensures { Gives result (with_front scope.now.content.now scope.now.uses (env_in names.now) part.now atoms) }
 {
     let channels = scope.content.channels();
     let first = eval_front(scope, names, part.channel, part.fields.as_slice())?;
     let count = count_with(channels, part.channel, part.fields.len());
-    with_events(atoms, first, count)
+    with_events(scope.alloc, atoms, first, count)
 }
 
 // One more binding, and what it adds.

@@ -1,6 +1,6 @@
 //! What a list of generators has gathered.
 
-use csp_atoms::AtomSet;
+use value_operators::growing::GrowingSet;
 
 /// What a list of generators has gathered.
 #[derive(Drop)]
@@ -8,5 +8,5 @@ pub struct Tally {
     /// How many bindings there were.
     pub bindings: u32,
     /// What they added.
-    pub atoms: AtomSet,
+    pub atoms: GrowingSet,
 }

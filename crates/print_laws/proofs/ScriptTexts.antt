@@ -1,6 +1,7 @@
 -- A script is spelled by its printed tokens.
-use Rattle.std.proofs.Common.{◌≡◌, ℕ, ◌+◌, ◌-◌, ◌*◌, ◌≤◌, List, [], ◌∷◌, ◌++◌, sym, subst, append_assoc, arith}
+use Rattle.std.proofs.Common.{◌≡◌, ℕ, ◌+◌, ◌-◌, ◌*◌, ◌≤◌, List, [], ◌∷◌, ◌++◌, map, sym, subst, append_assoc, arith}
 use Rattle.std.specs.Prelude.{flat_map}
+use Rattle.csp_base.specs.Lists.{greatest}
 use Rattle.csp_text.specs.Depth.{tree_depth}
 use Rattle.csp_text.specs.declared.token.Token.{Token}
 use Rattle.csp_text.specs.declared.token.Token.TheVariants.{Name, Word, Symbol}
@@ -24,15 +25,15 @@ use Rattle.print_laws.proofs.Forms.{Texted}
 use Rattle.print_laws.proofs.Texts.{texted, texted_trees}
 use Rattle.tree_reading.proofs.NodeDepths as depths
 
--- what is no deeper than a tree may be has room for its brackets, and its parts for theirs
 twice : (depth most brackets : ℕ) → depth ≤ most → 2 * most ≤ brackets → 2 * depth ≤ brackets
 twice depth most brackets fits room = omega arith
 
+-- what is no deeper than a tree may be has room for its brackets, and its parts for theirs
 has_room : {depth : ℕ} → depth ≤ MOST_TREE_DEPTH → 2 * depth ≤ MOST_BRACKETS
 has_room {depth} fits = twice depth MOST_TREE_DEPTH MOST_BRACKETS fits trees_fit
 
-room_inside : {depth below most : ℕ} → depth ≡ 1 + below → 2 * depth ≤ most → 2 * below ≤ most - 1
-room_inside {depth} {below} {most} is room = omega arith
+room_inside : {depth most : ℕ} (below : ℕ) → depth ≡ 1 + below → 2 * depth ≤ most → 2 * below ≤ most - 1
+room_inside {depth} {most} below is room = omega arith
 
 -- a name by itself
 abbrev pub name_alone : List ℕ → List Token
@@ -119,7 +120,7 @@ asserted_call : {Q : Token → Type 0} (x : List ℕ) (items : List Tree) → Ma
     AssertedText (printed_tokens (tree.Call x items) ++ r) (tree.Call x items) r
 asserted_call x items p d r =
     subst (λ l. AssertedText l (tree.Call x items) r) (sym (onto.onto _ (tree.rolls-Call x items) r))
-    (g.call ((texted_trees p).items (MOST_BRACKETS - 1) (Symbol CloseParen ∷ r) (room_inside (depths.of_tree _ (tree.rolls-Call x items)) (has_room d))))
+    (g.call ((texted_trees p).items (MOST_BRACKETS - 1) (Symbol CloseParen ∷ r) (room_inside (greatest (map tree_depth items)) (depths.of_tree _ (tree.rolls-Call x items)) (has_room d))))
 
 declaration_text : {P Q : Token → Type 0} {d : Decl} → MadeDecl P Q d → (r : List Token) → DeclarationText (decl_tokens d ++ r) d r
 declaration_text (m.made-channel {cs = cs} p) r = channel_text cs p r

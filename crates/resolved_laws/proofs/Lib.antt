@@ -1,13 +1,13 @@
 mod Booleans
-mod Closed
-mod Fitting
-mod Order
-mod Trees
-mod Leading
-mod Places
-mod Walk
-mod Circle
-mod ClosedContent
+mod Within
+mod InTurn
+mod Declared
+mod TypedExprs
+mod TypedProcs
+mod UsesBelow
+mod NoCircle
+mod NamesFit
+mod ContentSound
 pub mod Whole
 mod Sets
 mod Tabled

@@ -17,9 +17,10 @@ use Rattle.script_names.specs.Kinds.{AreKinds}
 use Rattle.script_names.specs.Names.{meanings_of}
 use Rattle.script_names.specs.Resolved.{all_events, and_next, channel_sets, types_of, with_events, with_names, with_root, with_sets, with_table}
 use Rattle.script_names.specs.Told.{name_fault}
+use Rattle.typed_laws.proofs.Back.{any_sets}
 use Rattle.resolved_laws.specs.Laws.{HasFew, ResolvedIsInOrder}
 use Rattle.resolved_laws.proofs.Sets.{HaveSets, IsNext, count_events, firsts_kept, have_all, have_sets, next_ok, ok_same, sets_in_place, sets_same}
-use Rattle.resolved_laws.proofs.Whole.{SameTypes, in_order, plain_is_in_order, same_length, with_channels}
+use Rattle.resolved_laws.proofs.Whole.{SameTypes, in_order, plain_declares, plain_is_in_order, same_length, with_channels}
 
 if_ok : (b : Bool) (q p : Content) (f : ResolveFault) → (if b then Ok q else Err f) ≡ Ok p → IsTrue b × (q ≡ p)
 if_ok true q p f h = (refl, ok_same h)
@@ -68,9 +69,9 @@ module _ (decls : List Decl) (ks : List Kind) (are : AreKinds decls ks) (none : 
   first_kept : (i : ℕ) (c : Channel) → slice_get filled i ≡ Some c → c.first ≡ first_event filled i
   first_kept i c h = let e : 0 + first_event filled i ≡ first_event filled i = omega arith in firsts_kept (plain_content decls ks) 0 cs all have i c h ∙ e
 
-  pub tabled_in_order : IsInOrder (with_channels decls ks filled (event_table filled))
+  pub tabled_in_order : IsInOrder (with_channels (plain_content decls ks) filled (event_table filled))
   tabled_in_order =
-      in_order decls ks are none filled (event_table filled) same
+      in_order decls ks (plain_content decls ks) (any_sets decls) (plain_declares decls ks are none) filled (event_table filled) same
       (few_enough (length (event_table filled)) (all_events all) (count_events (plain_content decls ks) 0 0 cs all have) enough)
       (subst (λ k. k < 2 ^ 32) (sym (same_length filled cs same)) few.channels) few.consts few.defs
       (sets_in_place (plain_content decls ks) 0 cs all have)

@@ -1,13 +1,15 @@
--- A program that holds what the declarations of a faultless script put into it is in order, whichever event table and field sets it has, as far as
--- those are in order.
+-- A program that holds what typed declarations put into it is in order, whichever event table and field sets it has, as far as those are in order.
 use Rattle.std.proofs.Common.{◌≡◌, ℕ, zero, suc, ◌+◌, ◌<◌, ◌^◌, nat_eq, IsTrue, Some, None, List, [], ◌∷◌, ◌++◌, length, map, refl, sym, ◌∙◌, ap, subst, inr, is_none, arith}
 use Rattle.std.specs.Prelude.{slice_get}
 use Rattle.std.specs.List.{flat_map}
-use Rattle.std.proofs.lemmas.Bool.{eq-eqb, lt-ltb}
-use Rattle.std.proofs.lemmas.Option.{slice_get_within}
+use Rattle.std.proofs.lemmas.Bool.{eq-eqb, false≢true}
+use Rattle.csp_base.specs.Lists.{EachOnce}
+use Rattle.csp_program.proofs.Forms.{Every}
+use Rattle.csp_program.specs.Bound.{def_bound, exprs_bound}
 use Rattle.csp_program.specs.EventNumber.{KeepFirsts, event_count, first_event}
-use Rattle.csp_program.specs.InOrder.{AllClosed, AllClosedTypes, IsEventTable, IsInOrder, channel_in_order, expr_in_order, lacks_sets, sets_in_order, with_fields}
+use Rattle.csp_program.specs.InOrder.{AllClosed, AllClosedBodies, AllClosedTypes, IsEventTable, IsInOrder, channel_in_order, def_in_order, expr_in_order, lacks_sets, sets_in_order, with_fields}
 use Rattle.csp_program.specs.Lists.{all_true}
+use Rattle.csp_program.specs.Uses.{def_uses}
 use Rattle.csp_program.specs.declared.programs.Channel.{Channel}
 use Rattle.csp_program.specs.declared.programs.Content.{Content}
 use Rattle.csp_program.specs.declared.programs.Def.{Def}
@@ -15,21 +17,25 @@ use Rattle.csp_program.specs.declared.programs.EventInfo.{EventInfo}
 use Rattle.csp_text.specs.declared.script.Decl.{Decl}
 use Rattle.csp_text.specs.declared.script.Decl.TheVariants as decl
 use Rattle.csp_text.specs.declared.tree.Tree.{Tree}
-use Rattle.script_names.specs.declared.kinds.End.{End}
+use Rattle.dl_limits.specs.declared.TheConstants.{MOST_DATA_DEPTH}
 use Rattle.script_names.specs.declared.kinds.Kind.{Kind}
-use Rattle.script_names.specs.Contents.{channels_of, definitions_from, first_assertion, plain_content}
-use Rattle.script_names.specs.Faults.{kind_class}
-use Rattle.script_names.specs.Kinds.{AreKinds, AreKindsOf, body_ends, script_ends}
-use Rattle.script_names.specs.Names.{Counts, Meanings, Name, counted, meanings_of, none_yet}
+use Rattle.script_names.specs.Contents.{channels_of, plain_content}
+use Rattle.script_names.specs.DataDepth.{IsShallow}
+use Rattle.script_names.specs.Kinds.{AreKinds}
+use Rattle.script_names.specs.Names.{Meanings, Name, meanings_of, none_yet}
 use Rattle.script_names.specs.Told.{name_fault}
 use Rattle.resolved_laws.specs.Laws.{PlainIsInOrder}
-use Rattle.resolved_laws.proofs.Circle.{no_circle}
-use Rattle.typed_laws.proofs.Classes.{EachKnown, IsClass, has_class, script_known}
-use Rattle.resolved_laws.proofs.ClosedContent.{channels_closed, defs_closed, root_closed}
-use Rattle.resolved_laws.proofs.Fitting.{AllFit}
-use Rattle.resolved_laws.proofs.Places.{EachFrom, HasChannel, HasConst, HoldsAll, IsDefAt, all_fit, each_map, each_place}
-use Rattle.resolved_laws.proofs.Walk.{channels_order, defs_order, have_order, resources_order, roles_order, root_order}
 use Rattle.resolved_laws.proofs.Booleans.{and, two}
+use Rattle.resolved_laws.proofs.ContentSound.{ChannelSound, DefsSound, Sound, content_sound, nothing_free}
+use Rattle.resolved_laws.proofs.Declared.{Fits}
+use Rattle.resolved_laws.proofs.InTurn.{each_once}
+use Rattle.resolved_laws.proofs.NamesFit.{ChannelsFrom, HoldsFrom, StandsFrom, names_fit}
+use Rattle.resolved_laws.proofs.NoCircle.{none_reaches_itself}
+use Rattle.script_names.specs.Declaring.{Declares}
+use Rattle.typed_laws.proofs.Back.{any_sets, sets_for_any}
+use Rattle.typed_laws.proofs.Declared.{types_of}
+use Rattle.typed_laws.proofs.Programs.{puts}
+use Rattle.csp_atoms.specs.declared.atom.Atom.{Atom}
 use Rattle.csp_base.proofs.Booleans.{is_and}
 
 -- channels of the same types
@@ -48,102 +54,118 @@ pub same_itself : (cs : List Channel) → SameTypes cs cs
 same_itself [] = tt
 same_itself (c ∷ cs) = (refl, same_itself cs)
 
-same_closed : (cs ds : List Channel) → SameTypes cs ds → AllClosedTypes ds → AllClosedTypes cs
-same_closed [] [] h g = tt
-same_closed (c ∷ cs) (d ∷ ds) h g = (subst AllClosed (sym h.0) g.0, same_closed cs ds h.1 g.1)
-same_closed _ _ h g = absurd h
-
--- one definition for each body
-one_each : (m : Meanings) (ks : List Kind) (n : Counts) (decls : List Decl) → length (definitions_from m ks n decls) ≡ length (flat_map (body_ends m) decls)
-one_each m ks n [] = refl
-one_each m ks n (decl.Define x params t ∷ decls) = ap (λ k. suc k) (one_each m ks (counted n (decl.Define x params t)) decls)
-one_each m ks n (decl.Nametype x t ∷ decls) = ap (λ k. suc k) (one_each m ks (counted n (decl.Nametype x t)) decls)
-one_each m ks n (decl.Datatype x cs ∷ decls) = ap (λ k. suc k) (one_each m ks (counted n (decl.Datatype x cs)) decls)
-one_each m ks n (d ∷ decls) = one_each m ks (counted n d) decls
-
-kind_at : (ks : List Kind) (d : ℕ) → d < length ks → (kind : Kind) × (slice_get ks d ≡ Some kind)
-kind_at [] d h = absurd (omega arith)
-kind_at (kind ∷ ks) zero h = (kind, refl)
-kind_at (kind ∷ ks) (suc d) h = kind_at ks d (omega arith)
-
-class_at : (all : List (List End)) (ks : List Kind) (d : ℕ) → EachKnown all → AreKindsOf all ks → d < length ks → IsClass (kind_class (slice_get ks d))
-class_at all ks d known are h =
-    let found = kind_at ks d h in
-    subst (λ o. IsClass (kind_class o)) (sym found.1) (has_class all ks d found.0 known are found.1)
-
 -- the program of these declarations with these channels and events
-abbrev pub with_channels : List Decl → List Kind → List Channel → List EventInfo → Content
-with_channels decls ks cs es = record (plain_content decls ks) { channels = cs; events = es }
+abbrev pub with_channels : Content → List Channel → List EventInfo → Content
+with_channels q cs es = record q { channels = cs; events = es }
 
-module _ (decls : List Decl) (ks : List Kind) (are : AreKinds decls ks) (none : name_fault decls ks ≡ None) (cs : List Channel) (es : List EventInfo)
-    (same : SameTypes cs (flat_map (channels_of (meanings_of decls) ks) decls)) where
+module _ (decls : List Decl) (ks : List Kind) (q : Content) (all : List (List (List Atom)))
+    (declared : Declares (meanings_of decls) ks q (λ types sets. Unit {0}) none_yet decls q all) (cs : List Channel)
+    (es : List EventInfo) (same : SameTypes cs q.channels) where
   abbrev m : Meanings
   m = meanings_of decls
 
-  abbrev q : Content
-  q = with_channels decls ks cs es
+  abbrev p : Content
+  p = with_channels q cs es
 
-  channels_have : (n : ℕ) (xs ys : List Channel) → SameTypes xs ys → EachFrom (HasChannel q m ks) n xs → EachFrom (HasChannel q m ks) n ys
-  channels_have n [] [] s h = tt
-  channels_have n (x ∷ xs) (y ∷ ys) s h =
-      (subst (λ z. IsTrue (with_fields (λ k. nat_eq k (length z)) (slice_get cs n))) s.0 h.0, channels_have (n + 1) xs ys s.1 h.1)
-  channels_have n _ _ s h = absurd s
+  here : (all : List Channel) (n : ℕ) (xs ys : List Channel) → SameTypes xs ys → StandsFrom all n xs → all ≡ cs → ChannelsFrom m ks p n ys
+  here all n [] [] s h is = tt
+  here all n (x ∷ xs) (y ∷ ys) s h is =
+      let e : n ≡ n + 0 = omega arith in
+      let at : slice_get cs n ≡ Some x = ap (λ l. slice_get l n) (sym is) ∙ (ap (slice_get all) e ∙ h 0) in (
+        subst (λ o. IsTrue (with_fields (λ k. nat_eq k (length y.types)) o)) (sym at) (eq-eqb (length x.types) (length y.types) (ap (λ l. length l) s.0)),
+        here all (n + 1) xs ys s.1 (λ i. let e' : n + 1 + i ≡ n + suc i = omega arith in ap (slice_get all) e' ∙ h (suc i)) is,
+      )
+  here all n _ _ s h is = absurd s
 
-  channel_at : (i : ℕ) (c : Channel) → slice_get cs i ≡ Some c → HasChannel q m ks i c
-  channel_at i c h = subst (λ o. IsTrue (with_fields (λ k. nat_eq k (length c.types)) o)) (sym h) (eq-eqb (length c.types) (length c.types) refl)
+  from_first : {X : Type 0} (xs : List X) → StandsFrom xs 0 xs
+  from_first xs i = let e : 0 + i ≡ i = omega arith in ap (slice_get xs) e
 
-  const_at : (i : ℕ) (x : Name) → slice_get q.consts i ≡ Some x → HasConst q m ks i x
-  const_at i x h = lt-ltb i (length q.consts) (slice_get_within q.consts i x h)
+  holds : HoldsFrom m ks p none_yet q
+  holds = record { channels = here cs 0 cs q.channels same (from_first cs) refl; consts = omega arith; defs = from_first q.defs }
 
-  def_at : (d : ℕ) (def : Def) → slice_get q.defs d ≡ Some def → IsDefAt q m ks d def
-  def_at d def h =
-      let within : d < length q.defs = slice_get_within q.defs d def h in
-      let count : length q.defs ≡ length (script_ends decls) = one_each m ks none_yet decls in
-      let kinds : length ks ≡ length (script_ends decls) = are.one_each in
-      record { at = h; class = class_at (script_ends decls) ks d (script_known decls ks [] decls none) are (omega (arith, within, count, kinds)) }
+  fits : Fits m ks p
+  fits = names_fit decls ks q (λ types sets. Unit {0}) p q all declared holds
 
-  numbered : {X : Type 0} (xs : List X) → EachFrom (λ i x. slice_get xs i ≡ Some x) 0 xs
-  numbered xs = each_place (slice_get xs) 0 xs (λ i. let e : 0 + i ≡ i = omega arith in ap (slice_get xs) e)
+  sound : Sound m ks p q fits none_yet q
+  sound = content_sound m ks p q fits declared (omega arith)
 
-  pub holds : HoldsAll q m ks decls
-  holds = record {
-    channels = channels_have 0 cs (flat_map (channels_of m ks) decls) same
-        (each_map (λ i c. slice_get cs i ≡ Some c) (HasChannel q m ks) channel_at 0 cs (numbered cs));
-    consts = each_map (λ i x. slice_get q.consts i ≡ Some x) (HasConst q m ks) const_at 0 q.consts (numbered q.consts);
-    defs = each_map (λ d def. slice_get q.defs d ≡ Some def) (IsDefAt q m ks) def_at 0 q.defs (numbered q.defs);
-  }
+  -- ---- channels
 
-  pub fits : AllFit q ks m
-  fits = all_fit q decls ks holds
+  abbrev TypesSound : Channel → Type 0
+  TypesSound = ChannelSound m ks p q fits
 
-  -- the types of the channels are in order, and so are their field sets
-  types_and_sets : (xs ys : List Channel) → SameTypes xs ys → IsTrue (all_true (map (have_order decls ks q fits) ys))
-      → IsTrue (all_true (map (λ c. sets_in_order q (length c.types) c.fields) xs))
-      → IsTrue (all_true (map (channel_in_order q) xs))
-  types_and_sets [] [] s h g = refl
-  types_and_sets (x ∷ xs) (y ∷ ys) s h g =
-      let h' = two (all_true (map (expr_in_order q) y.types)) (all_true (map (have_order decls ks q fits) ys)) h in
-      let g' = two (sets_in_order q (length x.types) x.fields) (all_true (map (λ c. sets_in_order q (length c.types) c.fields) xs)) g in
-      and (and (subst (λ z. IsTrue (all_true (map (expr_in_order q) z))) (sym s.0) h'.0) g'.0) (types_and_sets xs ys s.1 h'.1 g'.1)
-  types_and_sets _ _ s h g = absurd s
+  same_sound : (xs ys : List Channel) → SameTypes xs ys → Every TypesSound ys → Every TypesSound xs
+  same_sound [] [] s h = tt
+  same_sound (x ∷ xs) (y ∷ ys) s h = (
+    record {
+      order = subst (λ z. IsTrue (all_true (map (expr_in_order p) z))) (sym s.0) h.0.order;
+      closed = subst AllClosed (sym s.0) h.0.closed;
+      once = subst (λ z. EachOnce (exprs_bound z)) (sym s.0) h.0.once;
+    },
+    same_sound xs ys s.1 h.1,
+  )
+  same_sound _ _ s h = absurd s
+
+  channels_used : (xs : List Channel) → Every TypesSound xs → IsTrue (all_true (map (λ c. sets_in_order p (length c.types) c.fields) xs))
+      → IsTrue (all_true (map (channel_in_order p) xs))
+  channels_used [] h g = refl
+  channels_used (x ∷ xs) h g =
+      let w = two (sets_in_order p (length x.types) x.fields) (all_true (map (λ c. sets_in_order p (length c.types) c.fields) xs)) g in
+      and (and h.0.order w.0) (channels_used xs h.1 w.1)
+
+  types_closed : (xs : List Channel) → Every TypesSound xs → AllClosedTypes xs
+  types_closed [] h = tt
+  types_closed (x ∷ xs) h = (h.0.closed, types_closed xs h.1)
+
+  types_once : (xs : List Channel) → Every TypesSound xs → (i : ℕ) (c : Channel) → slice_get xs i ≡ Some c → EachOnce (exprs_bound c.types)
+  types_once [] h i c at = absurd (cc)
+  types_once (x ∷ xs) h zero c at = let e : x ≡ c = cc in subst (λ z. EachOnce (exprs_bound z.types)) e h.0.once
+  types_once (x ∷ xs) h (suc i) c at = types_once xs h.1 i c at
+
+  -- ---- definitions
+
+  abbrev AreSound : ℕ → List Def → Type 0
+  AreSound = DefsSound m ks p q fits
+
+  defs_used : (n : ℕ) (defs : List Def) → AreSound n defs → IsTrue (all_true (map (def_in_order p) defs))
+  defs_used n [] h = refl
+  defs_used n (def ∷ defs) h = and h.0.order (defs_used (n + 1) defs h.1)
+
+  bodies_closed : (n : ℕ) (defs : List Def) → AreSound n defs → AllClosedBodies defs
+  bodies_closed n [] h = tt
+  bodies_closed n (def ∷ defs) h = (h.0.closed, bodies_closed (n + 1) defs h.1)
+
+  defs_once : (n : ℕ) (defs : List Def) → AreSound n defs → (i : ℕ) (def : Def) → slice_get defs i ≡ Some def → EachOnce (def_bound def)
+  defs_once n [] h i def at = absurd (cc)
+  defs_once n (d ∷ defs) h zero def at = let e : d ≡ def = cc in subst (λ z. EachOnce (def_bound z)) e h.0.once
+  defs_once n (d ∷ defs) h (suc i) def at = defs_once (n + 1) defs h.1 i def at
+
+  defs_shallow : (n : ℕ) (defs : List Def) → AreSound n defs → (i j : ℕ) → IsTrue (def_uses (slice_get defs i) j) → IsShallow q (n + i)
+  defs_shallow n [] h i j t = absurd (false≢true t)
+  defs_shallow n (d ∷ defs) h zero j t = let e : n ≡ n + 0 = omega arith in subst (IsShallow q) e (h.0.shallow j t)
+  defs_shallow n (d ∷ defs) h (suc i) j t =
+      let e : n + 1 + i ≡ n + suc i = omega arith in subst (IsShallow q) e (defs_shallow (n + 1) defs h.1 i j t)
 
   pub in_order : length es < 2 ^ 32 → length cs < 2 ^ 32 → length q.consts < 2 ^ 32 → length q.defs < 2 ^ 32
-      → IsTrue (all_true (map (λ c. sets_in_order q (length c.types) c.fields) cs))
-      → IsEventTable q → KeepFirsts cs → IsInOrder q
+      → IsTrue (all_true (map (λ c. sets_in_order p (length c.types) c.fields) cs)) → IsEventTable p → KeepFirsts cs → IsInOrder p
   in_order events channels consts defs sets table firsts = record {
     few_events = events;
     few_channels = channels;
     few_consts = consts;
     few_defs = defs;
-    channels_used = types_and_sets cs (flat_map (channels_of m ks) decls) same (channels_order decls ks q fits [] decls none) sets;
-    defs_used = defs_order decls ks q fits [] decls none_yet refl none (holds.defs) (holds.consts);
-    roles_used = roles_order decls ks q fits [] decls none;
-    resources_used = resources_order decls ks q fits [] decls none;
-    root_used = root_order decls ks q fits [] decls none;
-    closed_types = same_closed cs (flat_map (channels_of m ks) decls) same (channels_closed m ks decls);
-    closed_bodies = defs_closed m ks none_yet decls;
-    closed_root = root_closed m ks (first_assertion decls);
-    no_circle = no_circle decls ks none;
+    channels_used = channels_used cs (same_sound cs q.channels same sound.channels) sets;
+    defs_used = defs_used 0 q.defs sound.defs;
+    roles_used = sound.roles;
+    resources_used = sound.resources;
+    root_used = sound.root.order;
+    closed_types = types_closed cs (same_sound cs q.channels same sound.channels);
+    closed_bodies = bodies_closed 0 q.defs sound.defs;
+    closed_root = nothing_free _ sound.root.free;
+    bound_once = defs_once 0 q.defs sound.defs;
+    root_bound_once = each_once sound.root.turn;
+    types_bound_once = types_once cs (same_sound cs q.channels same sound.channels);
+    no_circle = none_reaches_itself q.defs MOST_DATA_DEPTH
+        (λ i j t. let e : 0 + i ≡ i = omega arith in subst (IsShallow q) e (defs_shallow 0 q.defs sound.defs i j t));
     table = table;
     firsts = firsts;
   }
@@ -190,9 +212,17 @@ plain_first [] i c h g = absurd (cc)
 plain_first (d ∷ cs) zero c h g = let e : d ≡ c = cc in ap (λ (z : Channel). z.first) (sym e) ∙ h.1
 plain_first (d ∷ cs) (suc i) c h g = plain_first cs i c h.2 g
 
+-- the declarations of a faultless script put the plain content into the program, by the rules of typing
+pub plain_declares : (decls : List Decl) (ks : List Kind) → AreKinds decls ks → name_fault decls ks ≡ None
+    → Declares (meanings_of decls) ks (plain_content decls ks) (λ types sets. Unit {0}) none_yet decls (plain_content decls ks) (any_sets decls)
+plain_declares decls ks are none =
+    puts decls ks are none (λ types sets. Unit {0}) (any_sets decls) (sets_for_any (types_of (meanings_of decls) ks) decls)
+
 pub plain_is_in_order : PlainIsInOrder
 plain_is_in_order decls ks are none few =
     let cs = flat_map (channels_of (meanings_of decls) ks) decls in
     let plain : ArePlain cs = channels_plain (meanings_of decls) ks decls in
-    in_order decls ks are none cs [] (same_itself cs) (omega arith) few.channels few.consts few.defs (plain_sets (plain_content decls ks) cs plain)
+    in_order decls ks (plain_content decls ks) (any_sets decls) (plain_declares decls ks are none) cs [] (same_itself cs) (omega arith) few.channels few.consts
+    few.defs
+    (plain_sets (plain_content decls ks) cs plain)
     (inr (plain_lack cs plain, refl)) (λ i c g. plain_first cs i c plain g ∙ sym (no_events cs i plain))

@@ -13,12 +13,22 @@ use csp_text::{Symbol, Word, symbol_text, word_text};
 // What stands between two tokens.
 const SPACE: u8 = b' ';
 
+// Adds some bytes, of which there is mostly one.
+fn put_bytes(text: &mut Bytes, bytes: &[u8]) -> Result<(), NoMemory>
+    ensures { OnOk result (text.new ≡ text.old ++ bytes.now) }
+{
+    match bytes {
+        [byte] => text.push(*byte),
+        _ => text.extend_from_slice(bytes),
+    }
+}
+
 // Adds a space and some bytes.
 fn put(text: &mut Bytes, bytes: &[u8]) -> Result<(), NoMemory>
     ensures { OnOk result (text.new ≡ text.old ++ 32 ∷ bytes.now) }
 {
     text.push(SPACE)?;
-    text.extend_from_slice(bytes)
+    put_bytes(text, bytes)
 }
 
 // Adds a symbol.

@@ -1,4 +1,3 @@
-<<<<<<< HEAD
 //! The parser of trees: what the tokens at the front are, within limits of nesting. It descends as the reader in the definitions does: one function reads
 //! what one of its definitions reads.
 //!
@@ -6,10 +5,6 @@
 //! call one another so often: a multiple of the tokens that are left, with a rank that orders functions which call one another on the same tokens.
 //! Lists are read by loops and take no stack. What was read is boxed at once, and nodes are made outside of the circle of functions: a function
 //! that may stop owes the end of each tree that it owns, and a box ends by one call.
-=======
-//! The parser of trees: what the tokens at the front are, within limits of nesting. It descends as the reader in the
-//! definitions does: one function reads what one of its definitions reads.
->>>>>>> 6e1e79d25583ee67058bda7e5811d92d825d89f6
 #![tactic(auto)]
 
 mod atoms;

@@ -1,5 +1,5 @@
 -- The depth of a list with one more item.
-use Rattle.std.proofs.Common.{◌≡◌, ℕ, ◌+◌, max, List, [], ◌∷◌, ◌++◌, map, ap, ◌∙◌, arith}
+use Rattle.std.proofs.Common.{◌≡◌, ℕ, max, List, [], ◌∷◌, ◌++◌, map, ap, ◌∙◌, arith}
 use Rattle.csp_base.specs.Lists.{greatest}
 use Rattle.csp_text.specs.Depth.{capped}
 

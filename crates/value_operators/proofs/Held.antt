@@ -121,7 +121,7 @@ still_has : (xs : List Atom) (a z : Atom) → has_atom xs a ≡ true → (b : Bo
 still_has xs a z has true is = sym (ap (has_atom xs) (sym (same_exact a z is)) ∙ has)
 still_has xs a z has false is = refl
 
-with_member : (xs : List Atom) (a : Atom) → IsRising xs → has_atom xs a ≡ true → with_atom xs a ≡ xs
+pub with_member : (xs : List Atom) (a : Atom) → IsRising xs → has_atom xs a ≡ true → with_atom xs a ≡ xs
 with_member xs a rise has = same_set (with_atom xs a) xs (IsRising-with_atom a xs rise) rise (λ z. has-with_atom xs a z ∙ still_has xs a z has (same a z) refl)
 
 kind_of_member : (k : ℕ) (xs : List Atom) (a : Atom) → AllOfKind k xs → has_atom xs a ≡ true → kind_of a ≡ k

@@ -1,5 +1,6 @@
 pub mod EventSteps
 pub mod Faults
+pub mod GrowingLaws
 pub mod Held
 pub mod NameLaws
 pub mod SetSteps

@@ -2,3 +2,4 @@ pub mod Env
 pub mod Forms
 pub mod Gives
 pub mod Operands
+pub mod Parted

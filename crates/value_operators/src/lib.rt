@@ -4,6 +4,7 @@
 #![tactic(auto)]
 
 pub mod fault;
+pub mod growing;
 pub mod names;
 pub mod numbers;
 pub mod operators;

@@ -1,6 +1,6 @@
 //! Sets that grow while an expression is evaluated.
 
-ghost use Rattle.std.specs.Prelude.{◌≡◌, ℕ, ◌+◌, ◌<◌, ◌≤◌, ◌^◌, Ok, Some, [], map, pos, ◌+ℤ◌, ◌-ℤ◌, ◌≤ℤ◌, ◌<ℤ◌, IsTrue, MatchOption};
+ghost use Rattle.std.specs.Prelude.{◌≡◌, ℕ, ◌+◌, ◌<◌, ◌≤◌, ◌^◌, Ok, Some, [], map, pos, ◌+ℤ◌, ◌-ℤ◌, ◌≤ℤ◌, ◌<ℤ◌, IfOk, IsTrue, MatchOption};
 ghost use Rattle.dl_limits.specs.declared.TheConstants.{MOST_ELEMENTS};
 ghost use Rattle.csp_atoms.specs.Sets.{place_of};
 ghost use Rattle.csp_atoms.specs.declared.atom.Atom.TheVariants as atom;
@@ -12,9 +12,10 @@ ghost use Rattle.value_laws.specs.Numbers.{events_from};
 ghost use Rattle.value_operators.specs.Gives.{Gives};
 
 use crate::fault::EvalFault;
+use crate::growing::GrowingSet;
 use crate::operators::to_atom;
 use csp_atoms::{Atom, AtomSet, AtomSetError, Value};
-use csp_base::{Event, SetOp};
+use csp_base::{Event, NoMemory, SetOp};
 use csp_program::ValueKind;
 use dl_limits::MOST_ELEMENTS;
 use std::alloc::Global;
@@ -26,6 +27,9 @@ const KIND: EvalFault = EvalFault::Value {
 const SET_LIMIT: EvalFault = EvalFault::Value {
     kind: ValueKind::SetLimit,
 };
+
+// From so many events on, a set is put into one part before they are looked up in it.
+const MANY_EVENTS: u32 = 8;
 
 // The set, unless it has too many elements.
 fn within_limit(atoms: AtomSet) -> Result<AtomSet, EvalFault>
@@ -50,11 +54,11 @@ fn with_one_more(mut atoms: AtomSet, one: Atom) -> Result<AtomSet, EvalFault>
 
 /// The set with the atom that a value is. A set, or an atom of another kind than the set's, has the fault `Kind`; more than 16,384 elements have the
 /// fault `SetLimit`.
-pub fn with_item(atoms: AtomSet, item: &Value) -> Result<AtomSet, EvalFault>
+pub fn with_item(alloc: Global, atoms: GrowingSet, item: &Value) -> Result<GrowingSet, EvalFault>
     ensures { Gives result (and_then (as_atom item.now) (λ a. added atoms a)) }
 {
     let one = to_atom(item)?;
-    with_one_more(atoms, one)
+    atoms.with(alloc, one)
 }
 
 /// The set of constants. More than 16,384 different ones have the fault `SetLimit`.
@@ -105,21 +109,61 @@ fn holds_events(atoms: &AtomSet, first: u32, count: u32) -> bool
     stands_after(atoms, lowest, highest, u64::from(count - 1))
 }
 
-/// The set with the events from `first` on, so many of them. Atoms of another kind in it have the fault `Kind`, and more than 16,384 elements the
-/// fault `SetLimit`.
-pub fn with_events(atoms: AtomSet, first: u32, count: u32) -> Result<AtomSet, EvalFault>
+// Whether a set that is in one part holds the events from `first` on, so many of them.
+fn holds(atoms: &GrowingSet, first: u32, count: u32) -> bool
+    requires { first + count < 2 ^ 32 }
+    ensures { IsTrue result → all_added atoms.now (events_from first count) ≡ Ok atoms.now }
+{
+    match atoms.in_one_part() {
+        Some(atoms) => holds_events(atoms, first, count),
+        None => false,
+    }
+}
+
+// The set, in one part where many events come.
+fn ready(alloc: Global, atoms: GrowingSet, count: u32) -> Result<GrowingSet, NoMemory>
+    ensures { IfOk result (λ same. same ≡ atoms) }
+{
+    if count < MANY_EVENTS {
+        return Ok(atoms);
+    }
+    atoms.settled(alloc)
+}
+
+// The set with the events from `first` on, so many of them.
+fn add_events(
+    alloc: Global,
+    atoms: GrowingSet,
+    first: u32,
+    count: u32,
+) -> Result<GrowingSet, EvalFault>
     requires { first + count < 2 ^ 32 }
     ensures { Gives result (all_added atoms (events_from first count)) }
 {
-    if holds_events(&atoms, first, count) {
+    if holds(&atoms, first, count) {
         return Ok(atoms);
     }
     let mut atoms = atoms;
     for place in 0..count {
         let one = event(first, place);
-        atoms = with_one_more(atoms, one)?;
+        atoms = atoms.with(alloc, one)?;
     }
     Ok(atoms)
+}
+
+/// The set with the events from `first` on, so many of them. Atoms of another kind in it have the fault `Kind`, and more than 16,384 elements the
+/// fault `SetLimit`.
+pub fn with_events(
+    alloc: Global,
+    atoms: GrowingSet,
+    first: u32,
+    count: u32,
+) -> Result<GrowingSet, EvalFault>
+    requires { first + count < 2 ^ 32 }
+    ensures { Gives result (all_added atoms (events_from first count)) }
+{
+    let atoms = ready(alloc, atoms, count)?;
+    add_events(alloc, atoms, first, count)
 }
 
 // The atoms of either set.

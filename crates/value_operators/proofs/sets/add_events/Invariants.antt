@@ -1,7 +1,7 @@
 use Rattle.std.proofs.Common.{◌≡◌, ◌+◌, ◌-◌}
 use Rattle.csp_program.specs.Atoms.{all_added}
 use Rattle.value_laws.specs.Numbers.{events_from}
-use Rattle.value_operators.proofs.sets.with_events.Given as goal
+use Rattle.value_operators.proofs.sets.add_events.Given as goal
 
 -- what is left is still to be added
 abbrev pub invariant-loop-place : goal.invariant-loop-place

@@ -1,7 +1,7 @@
 use Rattle.value_operators.proofs.Faults.{passed}
 use Rattle.value_operators.proofs.SetSteps.{events_left, list_fault, list_next}
 use Rattle.std.proofs.Common.{arith}
-use Rattle.value_operators.proofs.sets.with_events.Goals as goal
+use Rattle.value_operators.proofs.sets.add_events.Goals as goal
 
 pub returns-in_err-atoms : goal.returns-in_err-atoms
 returns-in_err-atoms c =
