@@ -1,5 +1,5 @@
 -- Where a tree is an expression by the rules of typing, it is read as that expression, it passes, and it reaches as deep as the expression is.
-use Rattle.std.proofs.Common.{◌≡◌, ℕ, ◌+◌, ◌-◌, ◌<◌, pos, Bool, true, false, nat_lt, Option, Some, None, List, [], ◌∷◌, ◌++◌, length, map, refl, sym, ◌∙◌, ap, subst, append-nil, arith}
+use Rattle.std.proofs.Common.{◌≡◌, ℕ, ◌+◌, ◌<◌, pos, Bool, true, false, nat_lt, None, List, [], ◌∷◌, length, map, refl, sym, ◌∙◌, ap, subst, append-nil, arith}
 use Rattle.std.specs.Prelude.{max}
 use Rattle.std.proofs.lemmas.List.{length-map}
 use Rattle.csp_base.specs.Lists.{greatest}
@@ -34,11 +34,11 @@ use Rattle.script_names.specs.Names.{Meanings, Name, sense_in}
 use Rattle.script_names.specs.declared.occurrence.Occurrence.TheVariants.{Binds, Form, Uses}
 use Rattle.script_names.specs.Says.{Binder, Fields, Said, all_say, event_says_of_layer, field_says_of_layer, gen_says_of_layer, in_turn, part_says, part_says_of_layer, tree_says, tree_says_of_layer}
 use Rattle.script_names.specs.Says as says
-use Rattle.script_names.specs.Scopes.{Scope, names_of, number_of, with}
+use Rattle.script_names.specs.Scopes.{Scope, names_of, with}
 use Rattle.script_names.specs.Typed.{Binding, Front, Reading, all_bind, bindings, bindings_bind, channel_number, definition_number, event_of_layer, exprs, field_of_layer, gen_of_layer, named, part, part_of_layer, parts, parts_bind, reading, reading_of_layer, under}
 use Rattle.script_names.specs.Typing.{AreExprs, AreFronts, AreGens, IsExpr, IsFront, Means, event_part, part_tree}
 use Rattle.script_names.specs.Typing as t
-use Rattle.typed_laws.proofs.Deep.{above, below_form, deepest_append, expr_layer, gen_layer, none_below, one_below, part_layer, two_below}
+use Rattle.typed_laws.proofs.Deep.{above, below_form, expr_layer, gen_layer, none_below, one_below, part_layer, two_below}
 use Rattle.typed_laws.proofs.Making.{gen_reading, gen_reading_layer, gen_says, gen_says_layer, part_reading, part_tree_says, reading_layer, says_layer}
 use Rattle.typed_laws.proofs.Passing.{AllPass, Passes, data_at, form_passes, join, join_three, use_passes}
 use Rattle.typed_laws.proofs.ScopeNames.{names_with}
@@ -224,9 +224,11 @@ module _ (m : Meanings) (ks : List Kind) where
         tree_layer (λ s r. ExprIs s r scope n (expr.Call d es) k) (Tree-F.Call x args) (tree.rolls-Call _ _) (record {
           value = λ i. expr.Call (ap definition_number h.1 i) (w.value i);
           next = w.next;
-          passes = λ b l. (use_passes m ks x _ _ _ (means_is m ks scope x (entity.Definition d (length args)) h)
-              (call_passes m ks x d (length args) (length (map (tree_says m) args)) _ (data_at b l) is refl refl (length-map args (tree_says m))),
-              w.passes false (l + 1));
+          passes = λ b l. (
+            use_passes m ks x _ _ _ (means_is m ks scope x (entity.Definition d (length args)) h)
+                (call_passes m ks x d (length args) (length (map (tree_says m) args)) _ (data_at b l) is refl refl (length-map args (tree_says m))),
+            w.passes false (l + 1),
+          );
           deep = λ f b l. ap (λ z. max (l + 1 + below f z) (deepest f (all_say (map (tree_says m) args) (data_at false (l + 1 + 1)) (names_of scope))))
               (means_is m ks scope x (entity.Definition d (length args)) h)
               ∙ call_deep l (f d) (deepest f (all_say (map (tree_says m) args) (data_at false (l + 1 + 1)) (names_of scope)))
@@ -239,8 +241,11 @@ module _ (m : Meanings) (ks : List Kind) where
         tree_layer (λ s r. ExprIs s r scope n (expr.Event c es) k) (Tree-F.«Tree::Dot» x fields) (tree.rolls-Dot _ _)
         (form_is _ _ scope n (expr.Event c es) k (λ f. greatest (map (expanded_depth f) es))
         (λ i. expr.Event (ap channel_number h.1 i) (w.value i)) w.next
-        (λ b l. (use_passes m ks x _ _ _ (means_is m ks scope x (entity.Channel c (length fields)) h)
-        (dotted_passes m ks x c (length fields) (length (map (tree_says m) fields)) (length-map fields (tree_says m))), w.passes false (l + 1)))
+        (λ b l. (
+          use_passes m ks x _ _ _ (means_is m ks scope x (entity.Channel c (length fields)) h)
+              (dotted_passes m ks x c (length fields) (length (map (tree_says m) fields)) (length-map fields (tree_says m))),
+          w.passes false (l + 1),
+        ))
         (λ f b l. ap (max (l + 1)) (zero_or (deepest f (all_say (map (tree_says m) fields) (data_at false (l + 1 + 1)) (names_of scope)))) ∙ w.deep f false (l + 1))
         (λ f. expr_layer f (Expr-F.Event c es) (expr.rolls-Event _ _)))
     expr_is {scope} {n} {k} (t.negative {a = a} {e = e} h) =
@@ -348,8 +353,11 @@ module _ (m : Meanings) (ks : List Kind) where
           after = ap (under (map (gen_reading m ks) ts) (with scope x n)) (one_next _ _ _ w.next) ∙ v.after;
           names = ap (says.under (map (gen_says m ks) ts)) (sym (names_with scope x n)) ∙ v.names;
           next = add_next _ _ _ _ _ (one_next _ _ _ w.next) v.next;
-          passes = λ place. (bind_passes m ks x free, join m ks _ _ (w.passes false (place.level + 1))
-              (subst (λ z. AllPass m ks (in_turn (map (gen_says m ks) ts) place z)) (names_with scope x n) (v.passes place)));
+          passes = λ place. (
+            bind_passes m ks x free,
+            join m ks _ _ (w.passes false (place.level + 1))
+                (subst (λ z. AllPass m ks (in_turn (map (gen_says m ks) ts) place z)) (names_with scope x n) (v.passes place)),
+          );
           deep = λ f place. two_below f place.level (Binds x false ∷ tree_says m a (data_at false (place.level + 1)) (names_of scope)) _ _ _
               (one_below _ _ _ (zero_or _ ∙ w.deep f false place.level ∙ ap (λ z. place.level + z) (sym (gen_layer f (Gen-F.From n e) (gen_of.rolls-From _ _)))))
               (subst (λ z. max place.level (deepest f (in_turn (map (gen_says m ks) ts) place z)) ≡ place.level + greatest (map (gen_expanded_depth f) gs))
@@ -382,9 +390,11 @@ module _ (m : Meanings) (ks : List Kind) where
           fields = fields;
           means = means_is m ks scope x (entity.Channel c fields) h;
           count = ap (λ z. z + left) (length-map items (tree_says m)) ∙ count;
-          passes = λ place. (use_passes m ks x _ _ _ (means_is m ks scope x (entity.Channel c fields) h)
-              (begins_passes x c fields (length (map (tree_says m) items)) left (ap (λ z. z + left) (length-map items (tree_says m)) ∙ count)),
-              w.passes false (place.level + 1));
+          passes = λ place. (
+            use_passes m ks x _ _ _ (means_is m ks scope x (entity.Channel c fields) h)
+                (begins_passes x c fields (length (map (tree_says m) items)) left (ap (λ z. z + left) (length-map items (tree_says m)) ∙ count)),
+            w.passes false (place.level + 1),
+          );
           deep = λ f place. ap (max place.level) (zero_or _) ∙ w.deep f false place.level ∙ ap (λ z. place.level + z) (sym (part_layer f c es));
         })
 

@@ -1,5 +1,5 @@
 -- Where a tree is a process by the rules of typing, it is read as that process and passes.
-use Rattle.std.proofs.Common.{◌≡◌, ℕ, zero, suc, ◌+◌, ◌-◌, Bool, true, false, not, ◌&&◌, ◌||◌, nat_eq, nat_lt, Some, None, List, [], ◌∷◌, ◌++◌, length, map, refl, sym, ◌∙◌, ap, subst, append-nil, arith}
+use Rattle.std.proofs.Common.{◌≡◌, ℕ, zero, suc, ◌+◌, ◌-◌, Bool, true, false, not, ◌||◌, nat_eq, nat_lt, Some, None, List, [], ◌∷◌, length, map, refl, sym, ◌∙◌, ap, subst, append-nil, arith}
 use Rattle.std.proofs.lemmas.Bool.{eq-eqb}
 use Rattle.std.proofs.lemmas.List.{length-map}
 use Rattle.csp_text.specs.declared.tree.EventTree.{EventTree}
@@ -13,7 +13,6 @@ use Rattle.csp_text.specs.declared.tree.PartTree.{PartTree}
 use Rattle.csp_text.specs.declared.tree.Tree.{Tree}
 use Rattle.csp_text.specs.declared.tree.Tree.TheVariants as tree
 use Rattle.csp_program.specs.declared.expressions.EventPart.{EventPart}
-use Rattle.csp_program.specs.declared.expressions.Expr.{Expr}
 use Rattle.csp_program.specs.declared.expressions.Gen.{Gen}
 use Rattle.csp_program.specs.declared.processes.Field.{Field}
 use Rattle.csp_program.specs.declared.processes.Field.TheVariants as field
@@ -27,18 +26,18 @@ use Rattle.script_names.specs.declared.kinds.Place.{Place}
 use Rattle.script_names.specs.declared.kinds.Sense.{Sense}
 use Rattle.script_names.specs.declared.kinds.Sense.TheVariants as sense
 use Rattle.script_names.specs.declared.kinds.Use.TheVariants as how
-use Rattle.script_names.specs.Faults.{is_network, kind_network, leave_other, when}
-use Rattle.script_names.specs.Names.{Meanings, Name, sense_in}
-use Rattle.script_names.specs.declared.occurrence.Occurrence.TheVariants.{Binds, Form, Uses}
+use Rattle.script_names.specs.Faults.{is_network, kind_network, when}
+use Rattle.script_names.specs.Names.{Meanings, Name}
+use Rattle.script_names.specs.declared.occurrence.Occurrence.TheVariants.{Form, Uses}
 use Rattle.script_names.specs.Says.{Binder, Fields, Said, all_say, event_says_of_layer, field_says_of_layer, gen_says_of_layer, in_turn, pair_says, part_says, part_says_of_layer, tree_says, tree_says_of_layer}
 use Rattle.script_names.specs.Says as says
-use Rattle.script_names.specs.Scopes.{Scope, names_of, number_of, with}
-use Rattle.script_names.specs.Typed.{Binding, Front, Reading, all_bind, bindings, bindings_bind, definition_number, channel_number, event_of_layer, exprs, field_of_layer, gen_of_layer, head_of, pairs, pairs_bind, part, part_of_layer, procs, reading, reading_of_layer, under}
+use Rattle.script_names.specs.Scopes.{Scope, names_of, with}
+use Rattle.script_names.specs.Typed.{Binding, Front, Reading, all_bind, bindings, bindings_bind, definition_number, channel_number, event_of_layer, field_of_layer, gen_of_layer, head_of, pairs, pairs_bind, part, part_of_layer, procs, reading, reading_of_layer, under}
 use Rattle.script_names.specs.Typing.{AreFields, ArePairs, AreProcs, IsProc, event_tree}
 use Rattle.script_names.specs.Typing as t
-use Rattle.typed_laws.proofs.ExprsAre.{add_next, add_three, begins_passes, expr_is, exprs_are, front_is, gens_are, none_next, one_next, tree_layer}
-use Rattle.typed_laws.proofs.Making.{event_reading, event_says, field_reading, field_reading_layer, field_says, field_says_layer, gen_reading, gen_says, part_reading, part_tree_says}
-use Rattle.typed_laws.proofs.Passing.{AllPass, Passes, data_at, form_passes, join, join_three, process_at, use_passes}
+use Rattle.typed_laws.proofs.ExprsAre.{add_next, add_three, expr_is, exprs_are, front_is, gens_are, none_next, one_next, tree_layer}
+use Rattle.typed_laws.proofs.Making.{event_reading, event_says, field_reading, field_reading_layer, field_says, field_says_layer, gen_reading, part_reading, part_tree_says}
+use Rattle.typed_laws.proofs.Passing.{AllPass, Passes, form_passes, join, join_three, process_at, use_passes}
 use Rattle.typed_laws.proofs.ScopeNames.{names_with}
 use Rattle.typed_laws.proofs.Senses.{bind_passes, bound_is, call_passes, definition_passes, means_is, none_of_count}
 
@@ -166,8 +165,10 @@ module _ (m : Meanings) (ks : List Kind) where
         after = v.after;
         names = ap (says.under (map (field_says m ks) ts)) (sym (names_with scope x n)) ∙ v.names;
         next = add_next _ _ _ _ _ refl v.next;
-        passes = λ place. (bind_passes m ks x free,
-            subst (λ z. AllPass m ks (in_turn (map (field_says m ks) ts) place z)) (names_with scope x n) (v.passes place));
+        passes = λ place. (
+          bind_passes m ks x free,
+          subst (λ z. AllPass m ks (in_turn (map (field_says m ks) ts) place z)) (names_with scope x n) (v.passes place),
+        );
       })
   fields_are {scope} {inner} {n} {k} (t.input_from {x = x} {s = a} {e = e} {ts = ts} {fs = fs} free h h') =
       let w = expr_is m ks h in let v = fields_are h' in
@@ -177,8 +178,11 @@ module _ (m : Meanings) (ks : List Kind) where
         after = ap (under (map (field_reading m ks) ts) (with scope x n)) (one_next _ _ _ w.next) ∙ v.after;
         names = ap (says.under (map (field_says m ks) ts)) (sym (names_with scope x n)) ∙ v.names;
         next = add_next _ _ _ _ _ (one_next _ _ _ w.next) v.next;
-        passes = λ place. (bind_passes m ks x free, join m ks _ _ (w.passes false (place.level + 1))
-            (subst (λ z. AllPass m ks (in_turn (map (field_says m ks) ts) place z)) (names_with scope x n) (v.passes place)));
+        passes = λ place. (
+          bind_passes m ks x free,
+          join m ks _ _ (w.passes false (place.level + 1))
+              (subst (λ z. AllPass m ks (in_turn (map (field_says m ks) ts) place z)) (names_with scope x n) (v.passes place)),
+        );
       })
 
   pub pairs_are : {scope : Scope} {n k : ℕ} {ts : List (PartTree × PartTree)} {fs : List (EventPart × EventPart)} → ArePairs m ks scope n ts fs k
@@ -191,11 +195,12 @@ module _ (m : Meanings) (ks : List Kind) where
         value = λ j. (u.value j, (ap (part m ks (part_reading m ks b) scope) u.next ∙ w.value) j)
             ∷ (ap (λ z. pairs m ks rest scope (z + all_bind (part_reading m ks b).fields)) u.next ∙ ap (pairs m ks rest scope) w.next ∙ v.value) j;
         next = add_three _ _ _ _ _ _ _ u.next w.next v.next;
-        passes = λ place. join m ks (pair_says m (part_tree_says m ks a, part_tree_says m ks b) place (names_of scope)) _
-            (renamed_passes (part_tree_says m ks a).name _ _ u.channel u.fields w.channel w.fields (length (part_tree_says m ks a).fields)
-            (length (part_tree_says m ks b).fields) left u.means w.means u.count w.count,
-            join m ks (part_says m (part_tree_says m ks a) place (names_of scope)) (part_says m (part_tree_says m ks b) place (names_of scope))
-            (u.passes place) (w.passes place)) (v.passes place);
+        passes = λ place. join m ks (pair_says m (part_tree_says m ks a, part_tree_says m ks b) place (names_of scope)) _ (
+          renamed_passes (part_tree_says m ks a).name _ _ u.channel u.fields w.channel w.fields (length (part_tree_says m ks a).fields)
+              (length (part_tree_says m ks b).fields) left u.means w.means u.count w.count,
+          join m ks (part_says m (part_tree_says m ks a) place (names_of scope)) (part_says m (part_tree_says m ks b) place (names_of scope))
+              (u.passes place) (w.passes place),
+        ) (v.passes place);
       }
 
   mutual
@@ -217,9 +222,11 @@ module _ (m : Meanings) (ks : List Kind) where
           value = λ i. proc.Call (ap definition_number h.1 i) (w.value i);
           next = w.next;
           leaf = ap (is_network ks) (means_is m ks scope x (entity.Definition d (length args)) h) ∙ ap kind_network is;
-          passes = λ b l. (use_passes m ks x _ _ _ (means_is m ks scope x (entity.Definition d (length args)) h)
-              (call_passes m ks x d (length args) (length (map (tree_says m) args)) _ (process_at b l) is refl refl (length-map args (tree_says m))),
-              w.passes false (l + 1));
+          passes = λ b l. (
+            use_passes m ks x _ _ _ (means_is m ks scope x (entity.Definition d (length args)) h)
+                (call_passes m ks x d (length args) (length (map (tree_says m) args)) _ (process_at b l) is refl refl (length-map args (tree_says m))),
+            w.passes false (l + 1),
+          );
         })
     proc_is {scope} {n} {k} (t.proc_if {c = c} {p = a} {q = b} {e = e} {r = p} {s = q} h h' h'') =
         let u = expr_is m ks h in let w = proc_is h' in let v = proc_is h'' in
@@ -239,9 +246,11 @@ module _ (m : Meanings) (ks : List Kind) where
         (λ j. proc.Prefix ((ap (λ o. head_of o (m x)) h.0 ∙ ap (λ e. head.Channel (channel_number e)) h.1) j) (w.value j)
         ((ap (λ z. (reading m ks a).proc z (n + bindings_bind (map (field_reading m ks) ts))) w.after ∙ ap ((reading m ks a).proc _) w.next ∙ v.value) j))
         (add_next _ _ _ _ _ w.next v.next) refl
-        (λ b l. (use_passes m ks x _ _ _ (means_is m ks scope x (entity.Channel c (length ts)) h)
-        (head_passes x c (length ts) (length (map (field_says m ks) ts)) (length-map ts (field_says m ks))),
-        join m ks _ _ (w.passes (process_at b l)) (subst (λ z. AllPass m ks (tree_says m a (process_at false (l + 1)) z)) (sym w.names) (v.passes false (l + 1)))))))
+        (λ b l. (
+          use_passes m ks x _ _ _ (means_is m ks scope x (entity.Channel c (length ts)) h)
+              (head_passes x c (length ts) (length (map (field_says m ks) ts)) (length-map ts (field_says m ks))),
+          join m ks _ _ (w.passes (process_at b l)) (subst (λ z. AllPass m ks (tree_says m a (process_at false (l + 1)) z)) (sym w.names) (v.passes false (l + 1))),
+        ))))
     proc_is {scope} {n} {k} (t.bound_prefix {b = b} {x = x} {p = a} {q = q} h h') =
         let v = proc_is h' in
         tree_layer m ks (λ s r. ProcIs s r scope n (proc.Prefix (head.Bound b) [] q) k) (Tree-F.Prefix (event_tree x []) a) (tree.rolls-Prefix _ _)
@@ -268,14 +277,20 @@ module _ (m : Meanings) (ks : List Kind) where
         let w = expr_is m ks h in let v = proc_is h' in
         tree_layer m ks (λ s r. ProcIs s r scope n (proc.EachExternal n e q) k) (Tree-F.EachExternal x a b) (tree.rolls-EachExternal _ _ _)
         (form_is _ _ scope n (proc.EachExternal n e q) k (λ j. proc.EachExternal n (w.value j) ((ap ((reading m ks b).proc (with scope x n)) w.next ∙ v.value) j))
-        (add_one_two _ _ _ _ _ w.next v.next) refl (λ z l. (bind_passes m ks x free, join m ks _ _ (w.passes false (l + 1))
-        (subst (λ y. AllPass m ks (tree_says m b (process_at false (l + 1)) y)) (names_with scope x n) (v.passes false (l + 1))))))
+        (add_one_two _ _ _ _ _ w.next v.next) refl (λ z l. (
+          bind_passes m ks x free,
+          join m ks _ _ (w.passes false (l + 1))
+              (subst (λ y. AllPass m ks (tree_says m b (process_at false (l + 1)) y)) (names_with scope x n) (v.passes false (l + 1))),
+        )))
     proc_is {scope} {n} {k} (t.each_internal {x = x} {s = a} {p = b} {e = e} {q = q} free h h') =
         let w = expr_is m ks h in let v = proc_is h' in
         tree_layer m ks (λ s r. ProcIs s r scope n (proc.EachInternal n e q) k) (Tree-F.EachInternal x a b) (tree.rolls-EachInternal _ _ _)
         (form_is _ _ scope n (proc.EachInternal n e q) k (λ j. proc.EachInternal n (w.value j) ((ap ((reading m ks b).proc (with scope x n)) w.next ∙ v.value) j))
-        (add_one_two _ _ _ _ _ w.next v.next) refl (λ z l. (bind_passes m ks x free, join m ks _ _ (w.passes false (l + 1))
-        (subst (λ y. AllPass m ks (tree_says m b (process_at false (l + 1)) y)) (names_with scope x n) (v.passes false (l + 1))))))
+        (add_one_two _ _ _ _ _ w.next v.next) refl (λ z l. (
+          bind_passes m ks x free,
+          join m ks _ _ (w.passes false (l + 1))
+              (subst (λ y. AllPass m ks (tree_says m b (process_at false (l + 1)) y)) (names_with scope x n) (v.passes false (l + 1))),
+        )))
     proc_is {scope} {n} {k} (t.sequence {p = a} {q = b} {r = p} {s = q} h h') =
         let w = proc_is h in let v = proc_is h' in
         tree_layer m ks (λ s r. ProcIs s r scope n (proc.Seq p q) k) (Tree-F.Seq a b) (tree.rolls-Seq _ _)

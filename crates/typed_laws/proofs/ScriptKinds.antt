@@ -19,14 +19,14 @@ use Rattle.script_names.specs.declared.kinds.Sense.{Sense}
 use Rattle.script_names.specs.declared.kinds.Sense.TheVariants as sense
 use Rattle.script_names.specs.declared.kinds.Use.TheVariants as how
 use Rattle.script_names.specs.Faults.{clashes, kind_class, kind_network}
-use Rattle.script_names.specs.Kinds.{AreKinds, AreKindsOf, LeadsTo, body_ends, end_of_call, end_of_name, ends, ends_at, script_ends}
+use Rattle.script_names.specs.Kinds.{AreKinds, LeadsTo, body_ends, end_of_call, end_of_name, ends, ends_at, script_ends}
 use Rattle.script_names.specs.Kinds.LeadsTo.{here, beyond}
 use Rattle.script_names.specs.Names.{Counts, Entities, Meanings, Name, channels_from, constants_from, counted, declared_from, meanings_of, none_yet, same_name}
 use Rattle.script_names.specs.declared.occurrence.Occurrence.TheVariants.{Uses}
 use Rattle.script_names.specs.Says.{Said, tree_says}
 use Rattle.script_names.specs.Told.{body_place, counts_of, declared_after, name_fault, names_declared, need_of, next_definition, parameters_after}
 use Rattle.script_names.specs.Typed.{Reading}
-use Rattle.typed_laws.proofs.Classes.{EachKnown, IsClass, has_class, script_known}
+use Rattle.typed_laws.proofs.Classes.{IsClass, has_class, script_known}
 use Rattle.typed_laws.proofs.DeclPasses.{EachPasses, counted_on, each_passes}
 use Rattle.typed_laws.proofs.Faultless.{AllFine, IsFine, fine_three}
 use Rattle.typed_laws.proofs.Formed.{Ends, Reads}
@@ -110,14 +110,17 @@ module _ (bound : ℕ) where
   declared_below m n [] h = tt
   declared_below m n (decl.Channel xs types ∷ decls) h =
       below_append (channels_from n.channels (length types) xs) _ (channels_below n.channels (length types) xs) (declared_below m (counted n (decl.Channel xs types)) decls h)
-  declared_below m n (decl.Datatype x cs ∷ decls) h =
-      (tt, below_append (constants_from n.constants cs) _ (constants_below n.constants cs)
-      (declared_below m (counted n (decl.Datatype x cs)) decls (one_less n.definitions (length (flat_map (body_ends m) decls)) bound h)))
+  declared_below m n (decl.Datatype x cs ∷ decls) h = (
+    tt,
+    below_append (constants_from n.constants cs) _ (constants_below n.constants cs)
+        (declared_below m (counted n (decl.Datatype x cs)) decls (one_less n.definitions (length (flat_map (body_ends m) decls)) bound h)),
+  )
   declared_below m n (decl.Nametype x t ∷ decls) h =
       (tt, declared_below m (counted n (decl.Nametype x t)) decls (one_less n.definitions (length (flat_map (body_ends m) decls)) bound h))
-  declared_below m n (decl.Define x params t ∷ decls) h =
-      (some_less n.definitions (length (flat_map (body_ends m) decls)) bound h,
-      declared_below m (counted n (decl.Define x params t)) decls (one_less n.definitions (length (flat_map (body_ends m) decls)) bound h))
+  declared_below m n (decl.Define x params t ∷ decls) h = (
+    some_less n.definitions (length (flat_map (body_ends m) decls)) bound h,
+    declared_below m (counted n (decl.Define x params t)) decls (one_less n.definitions (length (flat_map (body_ends m) decls)) bound h),
+  )
   declared_below m n (_ ∷ decls) h = declared_below m n decls h
 
   found_or : (b : Bool) (e : Entity) (rest : Option Entity) → Below e → FoundBelow rest → FoundBelow (cond b (Some e) rest)
@@ -195,7 +198,7 @@ module _ (script : List Decl) (ks : List Kind) where
   ends_from earlier [] n is h i c = tt
   ends_from earlier (decl.Define x params t ∷ rest) n is h zero c =
       let w = pass_three m ks (declared_after (names_declared earlier) (x ∷ [])) (parameters_after [] params)
-          (tree_says m t (body_place (slice_get ks (next_definition earlier))) params) h.0.passes in
+      (tree_says m t (body_place (slice_get ks (next_definition earlier))) params) h.0.passes in
       let same : next_definition earlier ≡ n.definitions + 0 = ap (λ (z : Counts). z.definitions) is ∙ no_more n.definitions in
       body_data t params (kind_class (slice_get ks (next_definition earlier))) (kind_network (slice_get ks (next_definition earlier)))
       (ap (λ z. kind_class (slice_get ks z)) same ∙ c) w.2
