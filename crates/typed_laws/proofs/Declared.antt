@@ -1,5 +1,5 @@
 -- What the rules of declarations put into a program is what the functions give: the content, the field sets, and how deep the bodies reach.
-use Rattle.std.proofs.Common.{◌≡◌, ℕ, zero, suc, ◌+◌, ◌<◌, Bool, true, false, Option, Some, None, Ok, List, [], ◌∷◌, ◌++◌, length, map, replicate, refl, sym, ◌∙◌, ap, subst, arith}
+use Rattle.std.proofs.Common.{◌≡◌, ℕ, zero, suc, ◌+◌, false, Option, None, Ok, List, [], ◌∷◌, ◌++◌, length, map, replicate, refl, sym, ◌∙◌, ap, arith}
 use Rattle.std.specs.Prelude.{slice_get}
 use Rattle.std.specs.List.{flat_map}
 use Rattle.csp_atoms.specs.declared.atom.Atom.{Atom}
@@ -7,18 +7,12 @@ use Rattle.csp_text.specs.declared.script.Decl.{Decl}
 use Rattle.csp_text.specs.declared.script.Decl.TheVariants as decl
 use Rattle.csp_text.specs.declared.tree.Tree.{Tree}
 use Rattle.csp_program.specs.declared.expressions.Expr.{Expr}
-use Rattle.csp_program.specs.declared.networks.Net.{Net}
-use Rattle.csp_program.specs.declared.processes.Proc.{Proc}
 use Rattle.csp_program.specs.declared.programs.Body.TheVariants as body
-use Rattle.csp_program.specs.declared.programs.Channel.{Channel}
 use Rattle.csp_program.specs.declared.programs.Content.{Content}
 use Rattle.csp_program.specs.declared.programs.Def.{Def}
-use Rattle.csp_program.specs.declared.programs.ResourceNote.{ResourceNote}
-use Rattle.csp_program.specs.declared.programs.RolesNote.{RolesNote}
-use Rattle.script_names.specs.declared.kinds.Class.{Class}
 use Rattle.script_names.specs.declared.kinds.Kind.{Kind}
 use Rattle.script_names.specs.Contents.{body_of, channels_of, constants_of, definitions_from, first_assertion, resources_of, roles_of, root_of}
-use Rattle.script_names.specs.DataDepth.{body_depth, definition_depth, depth_at, expanded_depth}
+use Rattle.script_names.specs.DataDepth.{definition_depth, depth_at}
 use Rattle.script_names.specs.Declaring.{Declares}
 use Rattle.script_names.specs.Declaring as d
 use Rattle.script_names.specs.Depth.{deepest, depth_within, said_by}
@@ -27,16 +21,15 @@ use Rattle.script_names.specs.FieldSets.{field_sets}
 use Rattle.script_names.specs.Names.{Counts, Meanings, Name, counted}
 use Rattle.script_names.specs.declared.occurrence.Occurrence.{Occurrence}
 use Rattle.script_names.specs.Resolved.{and_next, channel_sets, told_in}
-use Rattle.script_names.specs.Scopes.{Scope, names_of, numbers_from, parameters}
-use Rattle.script_names.specs.Told.{bodies_from, body_place, data_place, expanded_body}
+use Rattle.script_names.specs.Scopes.{numbers_from, parameters}
+use Rattle.script_names.specs.Told.{bodies_from, body_place, expanded_body}
 use Rattle.script_names.specs.Typed.{definition_number, exprs, reading}
-use Rattle.script_names.specs.Typing.{IsNet, IsProc}
 use Rattle.script_names.proofs.Scopes.{names_of-parameters}
 use Rattle.script_names.specs.Says.{tree_says}
-use Rattle.typed_laws.proofs.ExprsAre.{ExprIs, ExprsAre, expr_is, exprs_are}
-use Rattle.typed_laws.proofs.NetsAre.{NetIs, net_is}
+use Rattle.typed_laws.proofs.ExprsAre.{expr_is, exprs_are}
+use Rattle.typed_laws.proofs.NetsAre.{net_is}
 use Rattle.typed_laws.proofs.Passing.{data_at}
-use Rattle.typed_laws.proofs.ProcsAre.{ProcIs, proc_is}
+use Rattle.typed_laws.proofs.ProcsAre.{proc_is}
 
 none_more : (n : ℕ) → 0 + n ≡ n
 none_more n = omega arith

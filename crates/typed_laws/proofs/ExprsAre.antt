@@ -1,5 +1,5 @@
 -- Where a tree is an expression by the rules of typing, it is read as that expression, it passes, and it reaches as deep as the expression is.
-use Rattle.std.proofs.Common.{◌≡◌, ℕ, ◌+◌, ◌-◌, ◌<◌, pos, Bool, true, false, nat_lt, Option, Some, None, List, [], ◌∷◌, ◌++◌, length, map, refl, sym, ◌∙◌, ap, subst, append-nil, arith}
+use Rattle.std.proofs.Common.{◌≡◌, ℕ, ◌+◌, ◌<◌, pos, Bool, true, false, nat_lt, None, List, [], ◌∷◌, length, map, refl, sym, ◌∙◌, ap, subst, append-nil, arith}
 use Rattle.std.specs.Prelude.{max}
 use Rattle.std.proofs.lemmas.List.{length-map}
 use Rattle.csp_base.specs.Lists.{greatest}
@@ -34,11 +34,11 @@ use Rattle.script_names.specs.Names.{Meanings, Name, sense_in}
 use Rattle.script_names.specs.declared.occurrence.Occurrence.TheVariants.{Binds, Form, Uses}
 use Rattle.script_names.specs.Says.{Binder, Fields, Said, all_say, event_says_of_layer, field_says_of_layer, gen_says_of_layer, in_turn, part_says, part_says_of_layer, tree_says, tree_says_of_layer}
 use Rattle.script_names.specs.Says as says
-use Rattle.script_names.specs.Scopes.{Scope, names_of, number_of, with}
+use Rattle.script_names.specs.Scopes.{Scope, names_of, with}
 use Rattle.script_names.specs.Typed.{Binding, Front, Reading, all_bind, bindings, bindings_bind, channel_number, definition_number, event_of_layer, exprs, field_of_layer, gen_of_layer, named, part, part_of_layer, parts, parts_bind, reading, reading_of_layer, under}
 use Rattle.script_names.specs.Typing.{AreExprs, AreFronts, AreGens, IsExpr, IsFront, Means, event_part, part_tree}
 use Rattle.script_names.specs.Typing as t
-use Rattle.typed_laws.proofs.Deep.{above, below_form, deepest_append, expr_layer, gen_layer, none_below, one_below, part_layer, two_below}
+use Rattle.typed_laws.proofs.Deep.{above, below_form, expr_layer, gen_layer, none_below, one_below, part_layer, two_below}
 use Rattle.typed_laws.proofs.Making.{gen_reading, gen_reading_layer, gen_says, gen_says_layer, part_reading, part_tree_says, reading_layer, says_layer}
 use Rattle.typed_laws.proofs.Passing.{AllPass, Passes, data_at, form_passes, join, join_three, use_passes}
 use Rattle.typed_laws.proofs.ScopeNames.{names_with}

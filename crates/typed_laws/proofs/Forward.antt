@@ -1,5 +1,5 @@
 -- Where declarations are put into a program by the rules, all that they say passes, and no definition of data is too deep.
-use Rattle.std.proofs.Common.{◌≡◌, ℕ, ◌+◌, ◌<◌, ◌≤◌, Bool, true, false, not, ◌&&◌, nat_eq, nat_lt, Some, None, List, [], ◌∷◌, ◌++◌, length, refl, sym, ◌∙◌, ap, subst, arith}
+use Rattle.std.proofs.Common.{◌≡◌, ℕ, Bool, true, false, ◌&&◌, Some, List, [], ◌∷◌, refl, sym, ◌∙◌, ap, subst}
 use Rattle.std.specs.Prelude.{slice_get}
 use Rattle.csp_atoms.specs.declared.atom.Atom.{Atom}
 use Rattle.csp_text.specs.declared.script.Decl.{Decl}
@@ -7,7 +7,6 @@ use Rattle.csp_text.specs.declared.script.Decl.TheVariants as decl
 use Rattle.csp_text.specs.declared.tree.Tree.{Tree}
 use Rattle.csp_program.specs.declared.expressions.Expr.{Expr}
 use Rattle.csp_program.specs.declared.programs.Content.{Content}
-use Rattle.dl_limits.specs.declared.TheConstants.{MOST_DATA_DEPTH}
 use Rattle.script_names.specs.declared.kinds.Class.TheVariants as class
 use Rattle.script_names.specs.declared.kinds.Entity.TheVariants as entity
 use Rattle.script_names.specs.declared.kinds.Kind.{Kind}
@@ -18,21 +17,21 @@ use Rattle.script_names.specs.DataDepth.{IsShallow}
 use Rattle.script_names.specs.Declaring.{Declares, IsAnnotated, IsEventSet}
 use Rattle.script_names.specs.Declaring as d
 use Rattle.script_names.specs.Faults.{clashes, kind_class}
-use Rattle.script_names.specs.Names.{Counts, Meanings, Name, counted, meanings_of, names_declared, none_yet, sense_in, sense_of}
+use Rattle.script_names.specs.Names.{Counts, Meanings, Name, meanings_of, names_declared, none_yet, sense_in, sense_of}
 use Rattle.script_names.specs.declared.occurrence.Occurrence.{Occurrence}
 use Rattle.script_names.specs.declared.occurrence.Occurrence.TheVariants.{Uses}
 use Rattle.script_names.specs.Says.{tree_says}
 use Rattle.script_names.specs.Scopes.{names_of, parameters}
-use Rattle.script_names.specs.Told.{body_place, bodies_from, counts_of, data_place, declared_after, is_data, is_deep, next_definition, too_deep, types_say}
+use Rattle.script_names.specs.Told.{body_place, bodies_from, counts_of, declared_after, is_data, is_deep, next_definition, too_deep, types_say}
 use Rattle.script_names.specs.Typing.{AreExprs}
 use Rattle.script_names.specs.Typing as t
 use Rattle.script_names.proofs.Scopes.{names_of-parameters}
-use Rattle.typed_laws.proofs.DeclPasses.{DeclPasses, EachPasses, counted_on}
+use Rattle.typed_laws.proofs.DeclPasses.{EachPasses, counted_on}
 use Rattle.typed_laws.proofs.ExprsAre.{expr_is}
 use Rattle.typed_laws.proofs.NetsAre.{net_is}
 use Rattle.typed_laws.proofs.OnceLaws.{parameters_pass}
 use Rattle.typed_laws.proofs.OnceSaid.{EachOnceSaid}
-use Rattle.typed_laws.proofs.Passing.{AllPass, Passes, data_at, join, process_at, use_passes}
+use Rattle.typed_laws.proofs.Passing.{AllPass, Passes, join, use_passes}
 use Rattle.typed_laws.proofs.ProcsAre.{proc_is}
 use Rattle.typed_laws.proofs.Senses.{none_of_count}
 

@@ -1,5 +1,5 @@
 -- Where a tree is a network by the rules of typing, it is read as that network and passes at a network position.
-use Rattle.std.proofs.Common.{◌≡◌, ℕ, ◌+◌, Bool, true, false, ◌||◌, Some, None, List, [], ◌∷◌, ◌++◌, length, map, refl, sym, ◌∙◌, ap, subst, arith}
+use Rattle.std.proofs.Common.{◌≡◌, ℕ, ◌+◌, true, false, ◌||◌, List, [], length, map, refl, ◌∙◌, ap, subst, arith}
 use Rattle.std.specs.Prelude.{if◌then◌else◌}
 use Rattle.std.proofs.lemmas.List.{length-map}
 use Rattle.csp_text.specs.declared.tree.EventTree.{EventTree}
@@ -11,7 +11,6 @@ use Rattle.csp_text.specs.declared.tree.GenTree.{GenTree}
 use Rattle.csp_text.specs.declared.tree.PartTree.{PartTree}
 use Rattle.csp_text.specs.declared.tree.Tree.{Tree}
 use Rattle.csp_text.specs.declared.tree.Tree.TheVariants as tree
-use Rattle.csp_program.specs.declared.expressions.Expr.{Expr}
 use Rattle.csp_program.specs.declared.expressions.Gen.{Gen}
 use Rattle.csp_program.specs.declared.networks.Net.{Net}
 use Rattle.csp_program.specs.declared.networks.Net.TheVariants as net
@@ -19,19 +18,18 @@ use Rattle.csp_program.specs.declared.processes.Field.{Field}
 use Rattle.csp_program.specs.declared.processes.Proc.{Proc}
 use Rattle.script_names.specs.declared.kinds.Entity.TheVariants as entity
 use Rattle.script_names.specs.declared.kinds.Kind.{Kind}
-use Rattle.script_names.specs.declared.kinds.Place.{Place}
 use Rattle.script_names.specs.Faults.{is_network, kind_network}
-use Rattle.script_names.specs.Names.{Meanings, Name}
+use Rattle.script_names.specs.Names.{Meanings}
 use Rattle.script_names.specs.declared.occurrence.Occurrence.TheVariants.{Parallel}
 use Rattle.script_names.specs.Says.{Said, tree_says}
 use Rattle.script_names.specs.Scopes.{Scope, names_of, with}
-use Rattle.script_names.specs.Typed.{Binding, Front, Layer, Reading, definition_number, exprs, net_of_layer, network_of_layer, networked_of_layer, proc_of_layer, reading}
+use Rattle.script_names.specs.Typed.{Binding, Front, Layer, Reading, definition_number, net_of_layer, network_of_layer, networked_of_layer, proc_of_layer, reading}
 use Rattle.script_names.specs.Typing.{IsComposition, IsNet}
 use Rattle.script_names.specs.Typing as t
-use Rattle.typed_laws.proofs.ExprsAre.{add_next, add_three, expr_is, exprs_are, none_next, tree_layer}
+use Rattle.typed_laws.proofs.ExprsAre.{add_three, expr_is, exprs_are, none_next, tree_layer}
 use Rattle.typed_laws.proofs.Making.{event_reading, field_reading, gen_reading, part_reading}
-use Rattle.typed_laws.proofs.Passing.{AllPass, Passes, data_at, join, join_three, join_four, process_at, use_passes}
-use Rattle.typed_laws.proofs.ProcsAre.{ProcIs, proc_is}
+use Rattle.typed_laws.proofs.Passing.{AllPass, Passes, data_at, join_three, join_four, process_at, use_passes}
+use Rattle.typed_laws.proofs.ProcsAre.{proc_is}
 use Rattle.typed_laws.proofs.ScopeNames.{names_with}
 use Rattle.typed_laws.proofs.Senses.{bind_passes, call_passes, definition_passes, means_is}
 

@@ -1,6 +1,6 @@
 -- Names that are declared, bound or annotated once: what passes of their occurrences, both ways.
 use Rattle.std.proofs.Common.{◌≡◌, ℕ, zero, suc, ◌+◌, Bool, true, false, ◌||◌, Some, None, List, [], ◌∷◌, ◌++◌, length, map, refl, sym, ◌∙◌, ap, subst, append_assoc, append-nil}
-use Rattle.std.specs.Prelude.{nat_eq, slice_get}
+use Rattle.std.specs.Prelude.{slice_get}
 use Rattle.std.specs.Bool.{Decides}
 use Rattle.std.specs.List.{flat_map}
 use Rattle.std.proofs.lemmas.Bool.Decides.{Decides-eqb}
@@ -8,7 +8,7 @@ use Rattle.std.proofs.lemmas.List.{map-append}
 use Rattle.std.proofs.lemmas.List.Folds.{list_any-append}
 use Rattle.std.proofs.lemmas.Slice.Eq.{slice_eq-Decides}
 use Rattle.csp_base.proofs.Booleans.{or_first_false, or_second_false}
-use Rattle.csp_base.specs.Lists.{EachOnce, StandsIn}
+use Rattle.csp_base.specs.Lists.{EachOnce}
 use Rattle.csp_text.specs.declared.script.Decl.{Decl}
 use Rattle.csp_text.specs.declared.script.Decl.TheVariants as decl
 use Rattle.script_names.specs.declared.kinds.Entity.{Entity}
@@ -20,7 +20,7 @@ use Rattle.script_names.specs.Once.{AreOnce, with_roles, with_uses}
 use Rattle.script_names.specs.Told.{declared_after, parameters_after}
 use Rattle.script_names.specs.Typing.{MayBind}
 use Rattle.typed_laws.proofs.DefUses.{when_none}
-use Rattle.typed_laws.proofs.Passing.{AllPass, Passes}
+use Rattle.typed_laws.proofs.Passing.{AllPass}
 use Rattle.typed_laws.proofs.Senses.{no_constant}
 
 same_decides : (x y : Name) → Decides (same_name x y) (x ≡ y)

@@ -4,7 +4,7 @@ use Rattle.std.specs.List.{flat_map}
 use Rattle.csp_text.specs.declared.script.Decl.{Decl}
 use Rattle.csp_text.specs.declared.script.Decl.TheVariants as decl
 use Rattle.script_names.specs.declared.kinds.Kind.{Kind}
-use Rattle.script_names.specs.Names.{Meanings, is_among, names_declared}
+use Rattle.script_names.specs.Names.{Meanings, Name, is_among, names_declared}
 use Rattle.script_names.specs.declared.occurrence.Occurrence.{Occurrence}
 use Rattle.script_names.specs.declared.occurrence.Occurrence.TheVariants.{Notes}
 use Rattle.script_names.specs.Once.{with_roles, with_uses}

@@ -1,6 +1,5 @@
 -- Occurrences of which no fault is told.
-use Rattle.std.proofs.Common.{◌≡◌, ℕ, ◌+◌, Bool, false, None, List, [], ◌∷◌, ◌++◌, refl, sym, ◌∙◌, ap, subst}
-use Rattle.std.specs.Prelude.{max}
+use Rattle.std.proofs.Common.{◌≡◌, ℕ, Bool, false, None, List, [], ◌∷◌, ◌++◌, refl, sym, subst}
 use Rattle.script_names.specs.declared.kinds.Class.{Class}
 use Rattle.script_names.specs.declared.kinds.Kind.{Kind}
 use Rattle.script_names.specs.declared.kinds.Need.TheVariants as need
@@ -10,7 +9,7 @@ use Rattle.script_names.specs.declared.kinds.Use.{Use}
 use Rattle.script_names.specs.Faults.{clashes, repeated_name}
 use Rattle.script_names.specs.Names.{Meanings, Name}
 use Rattle.script_names.specs.declared.occurrence.Occurrence.{Occurrence}
-use Rattle.script_names.specs.declared.occurrence.Occurrence.TheVariants.{Form, Parallel, Uses}
+use Rattle.script_names.specs.declared.occurrence.Occurrence.TheVariants.{Form, Uses}
 use Rattle.typed_laws.proofs.Faultless.{AllFine, IsFine}
 
 abbrev pub data_at : Bool → ℕ → Place

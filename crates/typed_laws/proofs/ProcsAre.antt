@@ -1,5 +1,5 @@
 -- Where a tree is a process by the rules of typing, it is read as that process and passes.
-use Rattle.std.proofs.Common.{◌≡◌, ℕ, zero, suc, ◌+◌, ◌-◌, Bool, true, false, not, ◌&&◌, ◌||◌, nat_eq, nat_lt, Some, None, List, [], ◌∷◌, ◌++◌, length, map, refl, sym, ◌∙◌, ap, subst, append-nil, arith}
+use Rattle.std.proofs.Common.{◌≡◌, ℕ, zero, suc, ◌+◌, ◌-◌, Bool, true, false, not, ◌||◌, nat_eq, nat_lt, Some, None, List, [], ◌∷◌, length, map, refl, sym, ◌∙◌, ap, subst, append-nil, arith}
 use Rattle.std.proofs.lemmas.Bool.{eq-eqb}
 use Rattle.std.proofs.lemmas.List.{length-map}
 use Rattle.csp_text.specs.declared.tree.EventTree.{EventTree}
@@ -13,7 +13,6 @@ use Rattle.csp_text.specs.declared.tree.PartTree.{PartTree}
 use Rattle.csp_text.specs.declared.tree.Tree.{Tree}
 use Rattle.csp_text.specs.declared.tree.Tree.TheVariants as tree
 use Rattle.csp_program.specs.declared.expressions.EventPart.{EventPart}
-use Rattle.csp_program.specs.declared.expressions.Expr.{Expr}
 use Rattle.csp_program.specs.declared.expressions.Gen.{Gen}
 use Rattle.csp_program.specs.declared.processes.Field.{Field}
 use Rattle.csp_program.specs.declared.processes.Field.TheVariants as field
@@ -27,18 +26,18 @@ use Rattle.script_names.specs.declared.kinds.Place.{Place}
 use Rattle.script_names.specs.declared.kinds.Sense.{Sense}
 use Rattle.script_names.specs.declared.kinds.Sense.TheVariants as sense
 use Rattle.script_names.specs.declared.kinds.Use.TheVariants as how
-use Rattle.script_names.specs.Faults.{is_network, kind_network, leave_other, when}
-use Rattle.script_names.specs.Names.{Meanings, Name, sense_in}
-use Rattle.script_names.specs.declared.occurrence.Occurrence.TheVariants.{Binds, Form, Uses}
+use Rattle.script_names.specs.Faults.{is_network, kind_network, when}
+use Rattle.script_names.specs.Names.{Meanings, Name}
+use Rattle.script_names.specs.declared.occurrence.Occurrence.TheVariants.{Form, Uses}
 use Rattle.script_names.specs.Says.{Binder, Fields, Said, all_say, event_says_of_layer, field_says_of_layer, gen_says_of_layer, in_turn, pair_says, part_says, part_says_of_layer, tree_says, tree_says_of_layer}
 use Rattle.script_names.specs.Says as says
-use Rattle.script_names.specs.Scopes.{Scope, names_of, number_of, with}
-use Rattle.script_names.specs.Typed.{Binding, Front, Reading, all_bind, bindings, bindings_bind, definition_number, channel_number, event_of_layer, exprs, field_of_layer, gen_of_layer, head_of, pairs, pairs_bind, part, part_of_layer, procs, reading, reading_of_layer, under}
+use Rattle.script_names.specs.Scopes.{Scope, names_of, with}
+use Rattle.script_names.specs.Typed.{Binding, Front, Reading, all_bind, bindings, bindings_bind, definition_number, channel_number, event_of_layer, field_of_layer, gen_of_layer, head_of, pairs, pairs_bind, part, part_of_layer, procs, reading, reading_of_layer, under}
 use Rattle.script_names.specs.Typing.{AreFields, ArePairs, AreProcs, IsProc, event_tree}
 use Rattle.script_names.specs.Typing as t
-use Rattle.typed_laws.proofs.ExprsAre.{add_next, add_three, begins_passes, expr_is, exprs_are, front_is, gens_are, none_next, one_next, tree_layer}
-use Rattle.typed_laws.proofs.Making.{event_reading, event_says, field_reading, field_reading_layer, field_says, field_says_layer, gen_reading, gen_says, part_reading, part_tree_says}
-use Rattle.typed_laws.proofs.Passing.{AllPass, Passes, data_at, form_passes, join, join_three, process_at, use_passes}
+use Rattle.typed_laws.proofs.ExprsAre.{add_next, add_three, expr_is, exprs_are, front_is, gens_are, none_next, one_next, tree_layer}
+use Rattle.typed_laws.proofs.Making.{event_reading, event_says, field_reading, field_reading_layer, field_says, field_says_layer, gen_reading, part_reading, part_tree_says}
+use Rattle.typed_laws.proofs.Passing.{AllPass, Passes, form_passes, join, join_three, process_at, use_passes}
 use Rattle.typed_laws.proofs.ScopeNames.{names_with}
 use Rattle.typed_laws.proofs.Senses.{bind_passes, bound_is, call_passes, definition_passes, means_is, none_of_count}
 

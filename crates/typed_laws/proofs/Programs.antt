@@ -1,5 +1,5 @@
 -- A script has a program by the rules of typing exactly where the functions give it.
-use Rattle.std.proofs.Common.{◌≡◌, ℕ, zero, suc, ◌+◌, ◌≤◌, Bool, true, false, nat_le, nat_lt, IsTrue, Option, Some, None, Ok, Err, List, [], ◌∷◌, ◌++◌, length, map, refl, sym, ◌∙◌, ap, subst, arith}
+use Rattle.std.proofs.Common.{◌≡◌, ℕ, zero, suc, ◌+◌, ◌≤◌, Bool, true, false, nat_le, nat_lt, IsTrue, Option, Some, None, Ok, Err, List, [], ◌∷◌, ◌++◌, length, refl, sym, ◌∙◌, ap, subst, arith}
 use Rattle.std.specs.Prelude.{if◌then◌else◌, slice_get}
 use Rattle.std.specs.List.{flat_map}
 use Rattle.dl_limits.specs.declared.TheConstants.{MOST_DATA_DEPTH, MOST_EVENTS}
@@ -11,7 +11,6 @@ use Rattle.csp_text.specs.declared.script.Script.{Script}
 use Rattle.csp_text.specs.declared.tree.Tree.{Tree}
 use Rattle.csp_program.specs.declared.expressions.Expr.{Expr}
 use Rattle.csp_program.specs.declared.programs.Content.{Content}
-use Rattle.csp_program.specs.declared.programs.Def.{Def}
 use Rattle.script_names.specs.declared.fault.ResolveFault.{ResolveFault}
 use Rattle.script_names.specs.declared.kinds.Kind.{Kind}
 use Rattle.script_names.specs.Contents.{first_assertion, plain_content}
@@ -37,7 +36,6 @@ use Rattle.typed_laws.proofs.OnceLaws.{EachFresh, FreshFrom, are_once, declared_
 use Rattle.typed_laws.proofs.OnceSaid.{EachOnceSaid}
 use Rattle.typed_laws.proofs.Passing.{AllPass, Passes, pass_three, pass_two}
 use Rattle.typed_laws.proofs.ScriptKinds.{have_kinds, kind_is}
-use Rattle.typed_laws.proofs.Uses.{HaveKinds, KindIs}
 
 none_more : (n : ℕ) → 0 + n ≡ n
 none_more n = omega arith

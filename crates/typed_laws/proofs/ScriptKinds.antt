@@ -19,14 +19,14 @@ use Rattle.script_names.specs.declared.kinds.Sense.{Sense}
 use Rattle.script_names.specs.declared.kinds.Sense.TheVariants as sense
 use Rattle.script_names.specs.declared.kinds.Use.TheVariants as how
 use Rattle.script_names.specs.Faults.{clashes, kind_class, kind_network}
-use Rattle.script_names.specs.Kinds.{AreKinds, AreKindsOf, LeadsTo, body_ends, end_of_call, end_of_name, ends, ends_at, script_ends}
+use Rattle.script_names.specs.Kinds.{AreKinds, LeadsTo, body_ends, end_of_call, end_of_name, ends, ends_at, script_ends}
 use Rattle.script_names.specs.Kinds.LeadsTo.{here, beyond}
 use Rattle.script_names.specs.Names.{Counts, Entities, Meanings, Name, channels_from, constants_from, counted, declared_from, meanings_of, none_yet, same_name}
 use Rattle.script_names.specs.declared.occurrence.Occurrence.TheVariants.{Uses}
 use Rattle.script_names.specs.Says.{Said, tree_says}
 use Rattle.script_names.specs.Told.{body_place, counts_of, declared_after, name_fault, names_declared, need_of, next_definition, parameters_after}
 use Rattle.script_names.specs.Typed.{Reading}
-use Rattle.typed_laws.proofs.Classes.{EachKnown, IsClass, has_class, script_known}
+use Rattle.typed_laws.proofs.Classes.{IsClass, has_class, script_known}
 use Rattle.typed_laws.proofs.DeclPasses.{EachPasses, counted_on, each_passes}
 use Rattle.typed_laws.proofs.Faultless.{AllFine, IsFine, fine_three}
 use Rattle.typed_laws.proofs.Formed.{Ends, Reads}

@@ -1,14 +1,10 @@
 -- What names stand for where rules of typing hold of them, and that their uses pass.
-use Rattle.std.proofs.Common.{◌≡◌, ℕ, ◌+◌, Bool, true, false, not, ◌&&◌, ◌||◌, nat_eq, nat_lt, Option, Some, None, List, refl, sym, ◌∙◌, ap}
+use Rattle.std.proofs.Common.{◌≡◌, ℕ, Bool, false, not, ◌&&◌, nat_eq, Option, Some, None, List, refl, sym, ◌∙◌, ap}
 use Rattle.std.specs.Prelude.{slice_get}
 use Rattle.std.proofs.lemmas.Bool.{eq-eqb}
-use Rattle.script_names.specs.declared.kinds.Class.{Class}
-use Rattle.script_names.specs.declared.kinds.Class.TheVariants as class
 use Rattle.script_names.specs.declared.kinds.Entity.{Entity}
 use Rattle.script_names.specs.declared.kinds.Entity.TheVariants as entity
 use Rattle.script_names.specs.declared.kinds.Kind.{Kind}
-use Rattle.script_names.specs.declared.kinds.Need.{Need}
-use Rattle.script_names.specs.declared.kinds.Need.TheVariants as need
 use Rattle.script_names.specs.declared.kinds.Place.{Place}
 use Rattle.script_names.specs.declared.kinds.Sense.{Sense}
 use Rattle.script_names.specs.declared.kinds.Sense.TheVariants as sense
@@ -18,7 +14,7 @@ use Rattle.script_names.specs.Names.{Meanings, Name, sense_in, sense_of}
 use Rattle.script_names.specs.declared.occurrence.Occurrence.TheVariants.{Binds, Uses}
 use Rattle.script_names.specs.Scopes.{Scope, names_of, number_of}
 use Rattle.script_names.specs.Typing.{MayBind, Means}
-use Rattle.typed_laws.proofs.Passing.{Passes, data_at, process_at}
+use Rattle.typed_laws.proofs.Passing.{Passes, data_at}
 use Rattle.typed_laws.proofs.ScopeNames.{NameIs, is_bound, is_free, name_is}
 
 bound_sense : {m : Meanings} {x : Name} {o : Option ℕ} {s : Sense} → NameIs m x o s → (b : ℕ) → o ≡ Some b → s ≡ sense.Bound

@@ -1,5 +1,5 @@
 -- A tree that passes is an expression, a process or a network by the rules of typing: the one that it is read as.
-use Rattle.std.proofs.Common.{◌≡◌, ℕ, zero, suc, ◌+◌, ◌-◌, ◌≤◌, Bool, true, false, not, ◌&&◌, ◌||◌, Option, Some, None, List, [], ◌∷◌, ◌++◌, length, map, refl, sym, ◌∙◌, ap, subst, append-nil, arith}
+use Rattle.std.proofs.Common.{◌≡◌, ℕ, suc, ◌+◌, ◌-◌, ◌≤◌, Bool, true, false, not, ◌&&◌, ◌||◌, Option, Some, List, [], ◌∷◌, ◌++◌, length, map, refl, sym, ◌∙◌, ap, subst, append-nil, arith}
 use Rattle.std.specs.Prelude.{if◌then◌else◌}
 use Rattle.csp_text.specs.declared.tree.FieldTree.{FieldTree}
 use Rattle.csp_text.specs.declared.tree.GenTree.{GenTree}
@@ -24,7 +24,6 @@ use Rattle.script_names.specs.declared.kinds.Place.{Place}
 use Rattle.script_names.specs.declared.kinds.Sense.{Sense}
 use Rattle.script_names.specs.declared.kinds.Sense.TheVariants as sense
 use Rattle.script_names.specs.declared.kinds.Use.TheVariants as how
-use Rattle.script_names.specs.Faults.{is_network}
 use Rattle.script_names.specs.Names.{Meanings, Name, sense_in}
 use Rattle.script_names.specs.declared.occurrence.Occurrence.TheVariants.{Form, Parallel, Uses}
 use Rattle.script_names.specs.Says.{Binder, Fields, Said, all_say, in_turn, pair_says, part_says}
@@ -33,12 +32,12 @@ use Rattle.script_names.specs.Scopes.{Scope, names_of, number_of, with}
 use Rattle.script_names.specs.Typed.{Binding, Front, Reading, all_bind, bindings, bindings_bind, channel_number, definition_number, exprs, head_of, pairs, pairs_bind, part, parts, parts_bind, procs, under}
 use Rattle.script_names.specs.Typing.{AreExprs, AreFields, AreFronts, AreGens, ArePairs, AreProcs, IsComposition, IsExpr, IsFront, IsNet, IsProc, Means, event_part, event_tree, part_tree}
 use Rattle.script_names.specs.Typing as t
-use Rattle.typed_laws.proofs.DefUses.{IsDefUse, alone, called}
+use Rattle.typed_laws.proofs.DefUses.{alone, called}
 use Rattle.typed_laws.proofs.Formed.{Ends, Reads, AllRead, FieldRead, FieldsRead, EventRead, GenRead, GensRead, PartRead, PartsRead, PairsRead}
 use Rattle.typed_laws.proofs.Formed as f
 use Rattle.typed_laws.proofs.Passing.{AllPass, Passes, data_at, pass_four, pass_three, pass_two, process_at}
-use Rattle.typed_laws.proofs.ScopeNames.{field_names, fields_names, gen_names, gens_names, name_is, names_with, NameIs, is_bound, is_free}
-use Rattle.typed_laws.proofs.Uses.{HaveKinds, IsChannelUse, alone_free, begins_use, bound_head, called_free, data_of, dotted_use, free_head, may_bind, name_expr, network_of, process_of, same_left}
+use Rattle.typed_laws.proofs.ScopeNames.{fields_names, gens_names, name_is, names_with, NameIs, is_bound, is_free}
+use Rattle.typed_laws.proofs.Uses.{HaveKinds, alone_free, begins_use, bound_head, called_free, data_of, dotted_use, free_head, may_bind, name_expr, network_of, process_of, same_left}
 
 two_ends : (n a b : ℕ) → (n + a) + b ≡ n + (a + b)
 two_ends n a b = omega arith

@@ -1,5 +1,5 @@
 -- Names whose uses pass are what a rule of typing asks for.
-use Rattle.std.proofs.Common.{◌≡◌, ℕ, zero, suc, ◌+◌, ◌-◌, ◌≤◌, Bool, true, false, not, ◌&&◌, ◌||◌, nat_eq, nat_lt, Option, Some, None, List, refl, sym, ◌∙◌, ap, subst, arith}
+use Rattle.std.proofs.Common.{◌≡◌, ℕ, zero, suc, ◌-◌, ◌≤◌, Bool, true, false, not, ◌&&◌, ◌||◌, nat_eq, nat_lt, Option, Some, None, List, refl, sym, ◌∙◌, ap, arith}
 use Rattle.std.specs.Prelude.{slice_get}
 use Rattle.std.proofs.lemmas.Bool.{eqb-true}
 use Rattle.csp_text.specs.declared.tree.Tree.TheVariants as tree
@@ -12,11 +12,11 @@ use Rattle.script_names.specs.declared.kinds.Place.{Place}
 use Rattle.script_names.specs.declared.kinds.Sense.{Sense}
 use Rattle.script_names.specs.declared.kinds.Sense.TheVariants as sense
 use Rattle.script_names.specs.declared.kinds.Use.TheVariants as how
-use Rattle.script_names.specs.Faults.{clashes, has_fewer, has_other, is_constant, is_network, kind_class, kind_network, leave_other, takes_other, when}
-use Rattle.script_names.specs.Names.{Meanings, Name, sense_in, sense_of}
+use Rattle.script_names.specs.Faults.{clashes, is_constant, is_network, kind_class, kind_network, leave_other, when}
+use Rattle.script_names.specs.Names.{Meanings, Name, sense_of}
 use Rattle.script_names.specs.declared.occurrence.Occurrence.TheVariants.{Binds, Uses}
-use Rattle.script_names.specs.Scopes.{Scope, names_of, number_of}
-use Rattle.script_names.specs.Typed.{definition_number, named}
+use Rattle.script_names.specs.Scopes.{Scope, number_of}
+use Rattle.script_names.specs.Typed.{named}
 use Rattle.script_names.specs.Typing.{IsData, IsExpr, IsNetwork, IsProcess, MayBind, Means}
 use Rattle.script_names.specs.Typing as t
 use Rattle.typed_laws.proofs.DefUses.{IsDefUse, same_count, when_none}
