@@ -225,20 +225,20 @@ no_first : (old : List Body) (after : ℕ → List Body) → (old ++ []) ++ afte
 no_first old after = ap (λ bs. bs ++ after (length bs)) (append-nil old)
 
 module _ (m : Meanings) (kinds : List Kind) (rest : List Decl) (old : List Body) where
-  abbrev after : ℕ → List Body
-  after n = map body_of (bodies_from m kinds n rest)
+  abbrev later : ℕ → List Body
+  later n = map body_of (bodies_from m kinds n rest)
 
   abbrev so_far_with : Decl → List Body
   so_far_with d = old ++ map body_of (bodies_from m kinds (length old) (d ∷ []))
 
-  pub bodies_on : (d : Decl) → so_far_with d ++ after (length (so_far_with d)) ≡ old ++ map body_of (bodies_from m kinds (length old) (d ∷ rest))
-  bodies_on (decl.Channel xs types) = no_first old after
-  bodies_on (decl.Datatype x ks) = one_first old _ after
-  bodies_on (decl.Nametype x t) = one_first old _ after
-  bodies_on (decl.Define x params t) = one_first old _ after
-  bodies_on (decl.Assert t) = no_first old after
-  bodies_on (decl.Roles names) = no_first old after
-  bodies_on (decl.Resource names) = no_first old after
+  pub bodies_on : (d : Decl) → so_far_with d ++ later (length (so_far_with d)) ≡ old ++ map body_of (bodies_from m kinds (length old) (d ∷ rest))
+  bodies_on (decl.Channel xs types) = no_first old later
+  bodies_on (decl.Datatype x ks) = one_first old _ later
+  bodies_on (decl.Nametype x t) = one_first old _ later
+  bodies_on (decl.Define x params t) = one_first old _ later
+  bodies_on (decl.Assert t) = no_first old later
+  bodies_on (decl.Roles names) = no_first old later
+  bodies_on (decl.Resource names) = no_first old later
 
 -- names are known besides: one more
 pub names_step : (before seen after : List Name) (i : ℕ) (xs : List Name) (x : Name) → i < length xs → x ≡ get_or xs i x → SameNames after (seen ++ x ∷ [])

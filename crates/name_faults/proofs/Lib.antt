@@ -6,4 +6,3 @@ pub mod BodyLemmas
 pub mod DepthLemmas
 pub mod KnownLemmas
 pub mod Small
-pub mod ToldLemmas
