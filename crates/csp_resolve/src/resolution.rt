@@ -43,7 +43,7 @@ pub fn resolve(alloc: Global, key: Key, script: &Script) -> Result<Boxed<Program
 {
     let names = dictionary_of(alloc, key, script.decls.as_slice())?;
     let content = content_of(alloc, script, &names)?;
-    let program = boxed(alloc, Program::new(content))?;
+    let program = boxed(alloc, Program::new(content, key))?;
     Ok(program)
 }
 
