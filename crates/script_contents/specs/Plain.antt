@@ -14,8 +14,9 @@ use Rattle.script_names.specs.Contents.{body_of, channels_of, constants_of, defi
 use Rattle.script_names.specs.Faults.{kind_class, kind_network}
 use Rattle.script_names.specs.Names.{Counts, Name, first_of}
 use Rattle.script_names.specs.Names as names
-use Rattle.script_names.specs.Typed.{Reading, Scope, reading}
+use Rattle.script_names.specs.Typed.{Reading, reading}
 use Rattle.name_tables.specs.declared.meanings.Meanings.{Meanings}
+use Rattle.typed_trees.specs.Walked.{Walked, read_at}
 
 -- a channel that has no field sets yet
 abbrev pub plain_channel : Name → List Expr → Channel
@@ -39,22 +40,23 @@ defined_by m n d = defined (first_of m.names.now) m.kinds.now n d
 abbrev pub definitions_by : Meanings → Counts → List Decl → List Def
 definitions_by m n decls = definitions_from (first_of m.names.now) m.kinds.now n decls
 
--- a body of a definition of this kind
-abbrev pub body_by : Kind → Reading → ℕ → Scope → Body
-body_by kind r n scope = body_of (λ x. None) [] kind.class kind.network r n scope
+-- a tree as the body of a definition of this kind, where a walk stands, and as that of a process or of a network definition
+abbrev pub body_at : Walked → Kind → Tree → Body
+body_at w kind t = body_of (λ x. None) [] kind.class kind.network (read_at w t) w.next w.scope
+
+abbrev pub process_at : Walked → Bool → Tree → Body
+process_at w network t =
+    if network then body.Network ((read_at w t).net w.scope w.next) else body.Process ((read_at w t).proc w.scope w.next)
 
 -- the definition with the number d
 abbrev pub definition_at : Meanings → ℕ → Name → List Name → Tree → Def
 definition_at m d x params t = record {
   name = x;
   params = numbers_from 0 (length params);
-  body = body_of (first_of m.names.now) m.kinds.now (kind_class (slice_get m.kinds.now d)) (kind_network (slice_get m.kinds.now d))
+  body = body_of (first_of m.names.now) m.kinds.now
+      (kind_class (slice_get m.kinds.now d)) (kind_network (slice_get m.kinds.now d))
       (read_by m t) (length params) (parameters 0 params);
 }
-
--- the body of a process or of a network definition
-abbrev pub process_body : Bool → Reading → ℕ → Scope → Body
-process_body network r n scope = if network then body.Network (r.net scope n) else body.Process (r.proc scope n)
 
 -- a nametype
 abbrev pub nametype_of : Meanings → Name → Tree → Def

@@ -19,8 +19,8 @@ use csp_text::{Decl, Tree};
 use name_tables::{Meanings, Scope};
 use typed_trees::Walk;
 
-/// What the declarations of a script put into its program, whose asserted network is `root`, while its channels have no field sets
-/// yet.
+/// What the declarations of a script put into its program, whose asserted network is `root`, while its channels have no
+/// field sets yet.
 pub fn plain_content(
     meanings: &Meanings<'_>,
     decls: &[Decl],

@@ -3,14 +3,12 @@
 ghost use Rattle.std.specs.Prelude.{◌≡◌, ◌+◌, ◌≤◌, ◌++◌, length, slice_get, IfOk, OnOk};
 ghost use Rattle.dl_limits.specs.declared.TheConstants.{MOST_BYTES};
 ghost use Rattle.name_tables.specs.Counted.{counts, total};
-ghost use Rattle.script_contents.specs.Plain.{body_by, datatype_of, defined_by, definition_at, definitions_by, nametype_of};
-ghost use Rattle.script_contents.specs.Plain as plain;
+ghost use Rattle.script_contents.specs.Plain.{body_at, datatype_of, defined_by, definition_at, definitions_by, nametype_of, process_at};
 ghost use Rattle.script_names.specs.Contents as meant;
 ghost use Rattle.script_names.specs.Faults.{kind_class, kind_network};
 ghost use Rattle.script_names.specs.Names.{counted, none_yet};
 ghost use Rattle.script_sizes.specs.BindingTokens.{tokens};
 ghost use Rattle.script_sizes.specs.Size.{declaration_size, size};
-ghost use Rattle.typed_trees.specs.Walked.{read_at};
 
 use containers::Items;
 use csp_base::{Name, NoMemory};
@@ -115,7 +113,7 @@ fn define(
 // The body of a definition of this kind.
 fn body(walk: &mut Walk<'_>, kind: Kind, tree: &Tree) -> Result<Body, NoMemory>
     requires { walk.old.next + tokens tree.now ≤ MOST_BYTES }
-    ensures { IfOk result (λ body. body ≡ body_by kind (read_at walk.old tree.now) walk.old.next walk.old.scope) }
+    ensures { IfOk result (λ body. body ≡ body_at walk.old kind tree.now) }
 {
     match kind.class {
         Class::Data => walk.typed_expr(tree).map(Body::Datum),
@@ -126,7 +124,7 @@ fn body(walk: &mut Walk<'_>, kind: Kind, tree: &Tree) -> Result<Body, NoMemory>
 // The body of a process or of a network definition.
 fn process_body(walk: &mut Walk<'_>, network: bool, tree: &Tree) -> Result<Body, NoMemory>
     requires { walk.old.next + tokens tree.now ≤ MOST_BYTES }
-    ensures { IfOk result (λ body. body ≡ plain.process_body network (read_at walk.old tree.now) walk.old.next walk.old.scope) }
+    ensures { IfOk result (λ body. body ≡ process_at walk.old network tree.now) }
 {
     if network {
         return walk.typed_net(tree).map(Body::Network);

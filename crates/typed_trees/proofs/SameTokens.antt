@@ -174,5 +174,3 @@ module _ (es : Entities) (ks : List Kind) where
 
   pub same_part : (p : PartTree) → SamePart p
   same_part = ind-PartTree SameField SameGen SameTree SameEvent SamePart field_step gen_step tree_step event_step part_step
-
-pub ruleset tokens_bind = (same_tree)

@@ -1,5 +1,5 @@
--- Where a walk over trees stands: what names are declared as, what the definitions are, which names are bound there with their numbers, and
--- the number of the next binding token.
+-- Where a walk over trees stands: what names are declared as, what the definitions are, which names are bound there
+-- with their numbers, and the number of the next binding token.
 use Rattle.std.specs.Prelude.{ℕ, ◌+◌, List}
 use Rattle.csp_text.specs.declared.tree.Tree.{Tree}
 use Rattle.script_names.specs.declared.kinds.Kind.{Kind}
@@ -11,6 +11,9 @@ pub record Walked : Type 0 where
   pub kinds : List Kind
   pub scope : Scope
   pub next : ℕ
+
+abbrev pub standing : Entities → List Kind → Scope → ℕ → Walked
+standing names kinds scope next = record { names = names; kinds = kinds; scope = scope; next = next }
 
 -- so many binding tokens on
 abbrev pub past : Walked → ℕ → Walked

@@ -1,5 +1,6 @@
--- What trees and their parts are where a walk stands, and where it stands behind them, in words that proofs keep closed: Typed.antt says the same
--- by one fold. Lists are taken from the left. This serves the contracts of private functions.
+-- What trees and their parts are where a walk stands, and where it stands behind them, in words that proofs keep
+-- closed: Typed.antt says the same by one fold. Lists are taken from the left. This serves the contracts of private
+-- functions.
 use Rattle.std.specs.Prelude.{ℕ, ◌+◌, Bool, Option, Some, None, List, [], ◌∷◌}
 use Rattle.csp_text.specs.declared.tree.FieldTree.TheFolds.{fold-GenTree, fold-PartTree}
 use Rattle.csp_text.specs.declared.tree.FieldTree.{FieldTree, fold-FieldTree}
@@ -13,10 +14,11 @@ use Rattle.csp_program.specs.declared.networks.Net.{Net}
 use Rattle.csp_program.specs.declared.processes.Field.{Field}
 use Rattle.csp_program.specs.declared.processes.Proc.{Proc}
 use Rattle.script_names.specs.declared.kinds.Kind.{Kind}
-use Rattle.script_names.specs.Names.{Entities, Name, first_of}
-use Rattle.script_names.specs.Typed.{Binding, Front, Reading, Scope, field_of_layer, gen_of_layer, reading_of_layer, event_of_layer, part_of_layer, with}
+use Rattle.script_names.specs.Faults.{is_network}
+use Rattle.script_names.specs.Names.{Entities, Name, first_of, sense_in}
+use Rattle.script_names.specs.Typed.{Binding, Front, Reading, Scope, field_of_layer, gen_of_layer, reading_of_layer, event_of_layer, names_of, part_of_layer, with}
 use Rattle.script_names.specs.Typed as typed
-use Rattle.script_sizes.specs.BindingTokens.{tokens, field_tokens, fields_tokens, gen_tokens, gens_tokens, part_tokens}
+use Rattle.script_sizes.specs.BindingTokens.{tokens, field_tokens, fields_tokens, gen_tokens, gens_tokens, pairs_tokens, part_tokens}
 use Rattle.typed_trees.specs.Walked.{Walked, past, read_at}
 
 module _ (es : Entities) (ks : List Kind) where
@@ -91,7 +93,8 @@ parts_at w (p ∷ ps) = part_at w p ∷ parts_at (past w (part_tokens p)) ps
 abbrev pub pairs_at : Walked → List (PartTree × PartTree) → List (EventPart × EventPart)
 pairs_at w [] = []
 pairs_at w (p ∷ ps) =
-    (part_at w p.0, part_at (past w (part_tokens p.0)) p.1) ∷ pairs_at (past (past w (part_tokens p.0)) (part_tokens p.1)) ps
+    (part_at w p.0, part_at (past w (part_tokens p.0)) p.1)
+    ∷ pairs_at (past (past w (part_tokens p.0)) (part_tokens p.1)) ps
 
 abbrev pub fields_at : Walked → List FieldTree → List Field
 fields_at w [] = []
@@ -118,3 +121,11 @@ after_gens w gs = record w { scope = gens_scope w gs; next = w.next + gens_token
 -- under generators whose tokens come after so many others
 abbrev pub under_gens : Walked → ℕ → List GenTree → Walked
 under_gens w count gs = record w { scope = gens_scope (past w count) gs }
+
+-- the pairs of a renaming, under its generators
+abbrev pub sides_at : Walked → List (PartTree × PartTree) → List GenTree → List (EventPart × EventPart)
+sides_at w sides gens = pairs_at (under_gens w (pairs_tokens sides) gens) sides
+
+-- whether a name stands for a network definition
+abbrev pub names_network : Walked → Name → Bool
+names_network w x = is_network w.kinds (sense_in (first_of w.names) (names_of w.scope) x)

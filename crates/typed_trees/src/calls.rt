@@ -14,7 +14,7 @@ use csp_text::Tree;
 
 impl<'a> Walk<'a> {
     /// A tree as an expression. Its binding tokens have the numbers from the next one on.
-    #[tactic(auto, using(crate::proofs::SameTokens::tokens_bind), unfolding(crate::specs::Words::expr_at))]
+    #[tactic(auto, unfolding(crate::specs::Words::expr_at))]
     pub fn typed_expr(&mut self, tree: &Tree) -> Result<Expr, NoMemory>
         requires { self.old.next + tokens tree.now ≤ MOST_BYTES }
         ensures made { IfOk result (λ made. made ≡ (read_at self.old tree.now).expr self.old.scope self.old.next) }
@@ -24,17 +24,17 @@ impl<'a> Walk<'a> {
     }
 
     /// Trees as expressions, numbered one after another.
-    #[tactic(auto, using(crate::proofs::SameTokens::tokens_bind, crate::proofs::ExprForms::expr_lists))]
+    #[tactic(auto, using(crate::proofs::ExprForms::expr_lists))]
     pub fn typed_exprs(&mut self, trees: &[Tree]) -> Result<Items<Expr>, NoMemory>
         requires { self.old.next + all_tokens trees.now ≤ MOST_BYTES }
-        ensures made { IfOk result (λ made. made ≡ exprs (map (read_at self.old) trees.now) self.old.scope self.old.next) }
+        ensures made { IfOk result (λ xs. xs ≡ exprs (map (read_at self.old) trees.now) self.old.scope self.old.next) }
         ensures walk { OnOk result (self.new ≡ past self.old (all_bind (map (read_at self.old) trees.now))) }
     {
         self.expressions(trees)
     }
 
     /// A tree as a process. Its binding tokens have the numbers from the next one on.
-    #[tactic(auto, using(crate::proofs::SameTokens::tokens_bind), unfolding(crate::specs::Words::proc_at))]
+    #[tactic(auto, unfolding(crate::specs::Words::proc_at))]
     pub fn typed_proc(&mut self, tree: &Tree) -> Result<Proc, NoMemory>
         requires { self.old.next + tokens tree.now ≤ MOST_BYTES }
         ensures made { IfOk result (λ made. made ≡ (read_at self.old tree.now).proc self.old.scope self.old.next) }
@@ -43,9 +43,9 @@ impl<'a> Walk<'a> {
         self.process(tree)
     }
 
-    /// A tree as a network. Its binding tokens have the numbers from the next one on. One that holds no parallel and no use of a network
-    /// definition is a component.
-    #[tactic(auto, using(crate::proofs::SameTokens::tokens_bind), unfolding(crate::specs::Words::net_at))]
+    /// A tree as a network. Its binding tokens have the numbers from the next one on. One that holds no parallel and no
+    /// use of a network definition is a component.
+    #[tactic(auto, unfolding(crate::specs::Words::net_at))]
     pub fn typed_net(&mut self, tree: &Tree) -> Result<Net, NoMemory>
         requires { self.old.next + tokens tree.now ≤ MOST_BYTES }
         ensures made { IfOk result (λ made. made ≡ (read_at self.old tree.now).net self.old.scope self.old.next) }

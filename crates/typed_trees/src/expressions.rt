@@ -196,8 +196,8 @@ impl<'a> Walk<'a> {
         Ok(made)
     }
 
-    /// Generators whose tokens come after so many others: the generators, and the number of the token after theirs. The walk goes on
-    /// before the others, under the names that the generators bind.
+    /// Generators whose tokens come after so many others: the generators, and the number of the token after theirs.
+    /// The walk goes on before the others, under the names that the generators bind.
     #[cycle(typed_expr)]
     pub(crate) fn generators_after(
         &mut self,

@@ -4,7 +4,7 @@ ghost use Rattle.std.specs.Prelude.{◌≡◌, ◌+◌, ◌≤◌, IfOk, OnOk};
 ghost use Rattle.dl_limits.specs.declared.TheConstants.{MOST_BYTES};
 ghost use Rattle.script_sizes.specs.BindingTokens.{all_tokens, field_tokens, fields_tokens, gens_tokens, pairs_tokens, part_tokens, set_tokens, tokens};
 ghost use Rattle.typed_trees.specs.Walked.{past};
-ghost use Rattle.typed_trees.specs.Words.{after_field, after_fields, bound, expr_at, field_at, fields_at, gens_at, pairs_at, part_at, proc_at, procs_at, set_at, under_gens};
+ghost use Rattle.typed_trees.specs.Words.{after_field, after_fields, bound, expr_at, field_at, fields_at, gens_at, pairs_at, part_at, proc_at, procs_at, set_at, sides_at};
 
 use crate::counts::count_pairs;
 use crate::walk::Walk;
@@ -256,7 +256,7 @@ impl<'a> Walk<'a> {
         gens: &Items<GenTree>,
     ) -> Result<(Items<(EventPart, EventPart)>, Items<Gen>), NoMemory>
         requires { self.old.next + pairs_tokens sides.now + gens_tokens gens.now ≤ MOST_BYTES }
-        ensures sides { IfOk result (λ made. made.0 ≡ pairs_at (under_gens self.old (pairs_tokens sides.now) gens.now) sides.now) }
+        ensures sides { IfOk result (λ made. made.0 ≡ sides_at self.old sides.now gens.now) }
         ensures gens { IfOk result (λ made. made.1 ≡ gens_at (past self.old (pairs_tokens sides.now)) gens.now) }
         ensures walk { OnOk result (self.new ≡ past self.old (pairs_tokens sides.now + gens_tokens gens.now)) }
     {

@@ -2,12 +2,12 @@
 
 ghost use Rattle.std.specs.Prelude.{◌≡◌, ◌+◌, ◌<◌, ◌≤◌, ◌++◌, ◌∷◌, [], length, take, OnOk};
 ghost use Rattle.dl_limits.specs.declared.TheConstants.{MOST_BYTES};
-ghost use Rattle.script_names.specs.Faults as faults;
-ghost use Rattle.script_names.specs.Names.{first_of, sense_in};
-ghost use Rattle.script_names.specs.Typed.{names_of, number_of};
+ghost use Rattle.script_names.specs.Names.{first_of};
+ghost use Rattle.script_names.specs.Typed.{number_of};
 ghost use Rattle.script_names.specs.Typed as typed;
 ghost use Rattle.script_sizes.specs.BindingTokens.{tokens};
-ghost use Rattle.typed_trees.specs.Walked.{past};
+ghost use Rattle.typed_trees.specs.Walked.{past, standing};
+ghost use Rattle.typed_trees.specs.Words as words;
 
 use crate::counts::count_tree;
 use crate::names::{channel_number, definition_number, head_of, is_network, named};
@@ -52,7 +52,7 @@ impl<'a> Model for Walk<'a> {
 impl<'a> Walk<'a> {
     /// Under these bound names, before the binding token of this number.
     pub fn new(meanings: &Meanings<'a>, scope: Scope, next: u32) -> Walk<'a>
-        ensures { result ≡ record { names = meanings.now.names.now; kinds = meanings.now.kinds.now; scope = scope; next = next } }
+        ensures { result ≡ standing meanings.now.names.now meanings.now.kinds.now scope next }
     {
         Walk {
             alloc: meanings.alloc,
@@ -98,7 +98,7 @@ impl<'a> Walk<'a> {
 
     /// Whether a name stands for a network definition.
     pub(crate) fn names_network(&self, x: &Name) -> bool
-        ensures { result ≡ faults.is_network self.now.kinds (sense_in (first_of self.now.names) (names_of self.now.scope) x.now) }
+        ensures { result ≡ words.names_network self.now x.now }
     {
         is_network(
             self.kinds,

@@ -34,7 +34,8 @@ invariant-fronts-loop-part l = record {
   next : l.self.next + parts_tokens (drop l.part-index l.parts) ≡ l.initial.self.next + parts_tokens l.parts;
 }
 
--- how deep what is left is, four for each level: a list or a tree on the heap comes above what stands in it, two trees above one, and a form above those
+-- how deep what is left is, four for each level: a list or a tree on the heap comes above what stands in it, two trees
+-- above one, and a form above those
 abbrev pub decreases-expression : goal.decreases-expression
 decreases-expression l = 4 * the_size l.tree.now
 

@@ -2,7 +2,8 @@ use Rattle.std.proofs.Common.{◌+◌, ◌*◌, max}
 use Rattle.csp_text.proofs.tree.Tree.TheLaws.{the_size}
 use Rattle.typed_trees.proofs.walk.Walk.+typed_net.Given as goal
 
--- how deep what is left is, three for each level: a tree on the heap comes above what stands in it, and a form above that
+-- how deep what is left is, three for each level: a tree on the heap comes above what stands in it, and a form above
+-- that
 abbrev pub decreases-network : goal.decreases-network
 decreases-network l = 3 * the_size l.tree.now
 

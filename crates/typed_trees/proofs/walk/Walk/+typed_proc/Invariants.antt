@@ -14,7 +14,8 @@ invariant-processes-loop-tree l = record {
   next : l.self.next + all_tokens (drop l.tree-index l.trees) ≡ l.initial.self.next + all_tokens l.trees;
 }
 
--- how deep what is left is, four for each level: a list or a tree on the heap comes above what stands in it, and a form above those
+-- how deep what is left is, four for each level: a list or a tree on the heap comes above what stands in it, and a form
+-- above those
 abbrev pub decreases-process : goal.decreases-process
 decreases-process l = 4 * the_size l.tree.now
 
