@@ -10,10 +10,13 @@ use Rattle.csp_program.specs.declared.programs.Def.{Def}
 use Rattle.csp_program.specs.declared.programs.ResourceNote.{ResourceNote}
 use Rattle.csp_program.specs.declared.programs.RolesNote.{RolesNote}
 use Rattle.script_names.specs.declared.kinds.Kind.{Kind}
-use Rattle.script_names.specs.Contents.{body_of, constants_of, numbers_from, parameters, resources_of, roles_of}
+use Rattle.script_names.specs.Contents.{body_of, channels_of, constants_of, defined, definitions_from, numbers_from, parameters, resources_of, roles_of}
 use Rattle.script_names.specs.Faults.{kind_class, kind_network}
-use Rattle.script_names.specs.Names.{Name, Meanings}
-use Rattle.script_names.specs.Typed.{Reading, Scope, reading}
+use Rattle.script_names.specs.Names.{Counts, Name, first_of}
+use Rattle.script_names.specs.Names as names
+use Rattle.script_names.specs.Typed.{Reading, reading}
+use Rattle.name_tables.specs.declared.meanings.Meanings.{Meanings}
+use Rattle.typed_trees.specs.Walked.{Walked, read_at}
 
 -- a channel that has no field sets yet
 abbrev pub plain_channel : Name → List Expr → Channel
@@ -23,30 +26,49 @@ plain_channel x types = record { name = x; types = types; fields = None; first =
 abbrev pub constants_in : Decl → List Name
 constants_in d = constants_of (λ x. None) [] d
 
--- the body of the definition with the number d, under a scope
-abbrev pub body_at : Meanings → List Kind → ℕ → Tree → ℕ → Scope → Body
-body_at meanings kinds d t n scope = body_of meanings kinds (kind_class (slice_get kinds d)) (kind_network (slice_get kinds d)) (reading meanings kinds t) n scope
+-- what a tree is, by what names mean
+abbrev pub read_by : Meanings → Tree → Reading
+read_by m t = reading (first_of m.names.now) m.kinds.now t
+
+-- the channels of a declaration, what it defines after so many of each kind, and what all of them define
+abbrev pub channels_by : Meanings → Decl → List Channel
+channels_by m d = channels_of (first_of m.names.now) m.kinds.now d
+
+abbrev pub defined_by : Meanings → Counts → Decl → List Def
+defined_by m n d = defined (first_of m.names.now) m.kinds.now n d
+
+abbrev pub definitions_by : Meanings → Counts → List Decl → List Def
+definitions_by m n decls = definitions_from (first_of m.names.now) m.kinds.now n decls
+
+-- a tree as the body of a definition of this kind, where a walk stands, and as that of a process or of a network definition
+abbrev pub body_at : Walked → Kind → Tree → Body
+body_at w kind t = body_of (λ x. None) [] kind.class kind.network (read_at w t) w.next w.scope
+
+abbrev pub process_at : Walked → Bool → Tree → Body
+process_at w network t =
+    if network then body.Network ((read_at w t).net w.scope w.next) else body.Process ((read_at w t).proc w.scope w.next)
 
 -- the definition with the number d
-abbrev pub definition_at : Meanings → List Kind → ℕ → Name → List Name → Tree → Def
-definition_at meanings kinds d x params t =
-    record { name = x; params = numbers_from 0 (length params); body = body_at meanings kinds d t (length params) (parameters 0 params) }
-
--- the body of a process or of a network definition
-abbrev pub process_body : Bool → Reading → ℕ → Scope → Body
-process_body network r n scope = if network then body.Network (r.net scope n) else body.Process (r.proc scope n)
+abbrev pub definition_at : Meanings → ℕ → Name → List Name → Tree → Def
+definition_at m d x params t = record {
+  name = x;
+  params = numbers_from 0 (length params);
+  body = body_of (first_of m.names.now) m.kinds.now
+      (kind_class (slice_get m.kinds.now d)) (kind_network (slice_get m.kinds.now d))
+      (read_by m t) (length params) (parameters 0 params);
+}
 
 -- a nametype
-abbrev pub nametype_of : Meanings → List Kind → Name → Tree → Def
-nametype_of meanings kinds x t = record { name = x; params = []; body = body.Nametype ((reading meanings kinds t).expr [] 0) }
+abbrev pub nametype_of : Meanings → Name → Tree → Def
+nametype_of m x t = record { name = x; params = []; body = body.Nametype ((read_by m t).expr [] 0) }
 
 -- a datatype of so many constants
 abbrev pub datatype_of : Name → ℕ → ℕ → Def
 datatype_of x first count = record { name = x; params = []; body = body.Datatype (numbers_from first count) }
 
 -- the annotations of a declaration, whatever definitions are
-abbrev pub roles_in : Meanings → Decl → List RolesNote
+abbrev pub roles_in : names.Meanings → Decl → List RolesNote
 roles_in meanings d = roles_of meanings [] d
 
-abbrev pub resources_in : Meanings → Decl → List ResourceNote
+abbrev pub resources_in : names.Meanings → Decl → List ResourceNote
 resources_in meanings d = resources_of meanings [] d

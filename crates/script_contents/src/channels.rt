@@ -3,10 +3,9 @@
 ghost use Rattle.std.specs.Prelude.{◌≡◌, ◌≤◌, [], None, ◌++◌, map, IfOk, OnOk};
 ghost use Rattle.std.specs.List.{flat_map};
 ghost use Rattle.dl_limits.specs.declared.TheConstants.{MOST_BYTES};
-ghost use Rattle.script_names.specs.Contents as meant;
-ghost use Rattle.script_names.specs.Names.{Name, first_of};
-ghost use Rattle.script_names.specs.Typed.{exprs, reading};
-ghost use Rattle.script_contents.specs.Plain.{constants_in, plain_channel};
+ghost use Rattle.script_names.specs.Names.{Name};
+ghost use Rattle.script_names.specs.Typed.{exprs};
+ghost use Rattle.script_contents.specs.Plain.{channels_by, constants_in, plain_channel, read_by};
 ghost use Rattle.script_sizes.specs.BindingTokens.{all_tokens};
 ghost use Rattle.script_sizes.specs.Size.{declaration_size, size};
 
@@ -17,16 +16,15 @@ use csp_program::{Channel, Expr};
 use csp_text::{Decl, Tree};
 use name_tables::{Meanings, Scope};
 use std::alloc::Global;
-use typed_trees::typed_exprs;
+use typed_trees::Walk;
 
 /// The types of a channel's fields.
 pub fn types_of(meanings: &Meanings<'_>, types: &[Tree]) -> Result<Items<Expr>, NoMemory>
     requires { all_tokens types.now ≤ MOST_BYTES }
-    ensures { IfOk result (λ typed. typed ≡ exprs (map (reading (first_of meanings.now.names.now) meanings.now.kinds.now) types.now) [] 0) }
+    ensures { IfOk result (λ typed. typed ≡ exprs (map (read_by meanings.now) types.now) [] 0) }
 {
-    let mut scope = Scope::new(meanings.alloc);
-    let mut next: u32 = 0;
-    let typed = typed_exprs(meanings, &mut scope, &mut next, types)?;
+    let mut walk = Walk::new(meanings, Scope::new(meanings.alloc), 0);
+    let typed = walk.typed_exprs(types)?;
     Ok(typed)
 }
 
@@ -36,7 +34,7 @@ pub fn channels_and_constants(
     decls: &[Decl],
 ) -> Result<(Items<Channel>, Items<Name>), NoMemory>
     requires { size decls.now ≤ MOST_BYTES }
-    ensures channels { IfOk result (λ made. made.0 ≡ flat_map (meant.channels_of (first_of meanings.now.names.now) meanings.now.kinds.now) decls.now) }
+    ensures channels { IfOk result (λ made. made.0 ≡ flat_map (channels_by meanings.now) decls.now) }
     ensures constants { IfOk result (λ made. made.1 ≡ flat_map constants_in decls.now) }
 {
     let channels = channels(meanings, decls)?;
@@ -47,7 +45,7 @@ pub fn channels_and_constants(
 // The channels of a script.
 fn channels(meanings: &Meanings<'_>, decls: &[Decl]) -> Result<Items<Channel>, NoMemory>
     requires { size decls.now ≤ MOST_BYTES }
-    ensures { IfOk result (λ made. made ≡ flat_map (meant.channels_of (first_of meanings.now.names.now) meanings.now.kinds.now) decls.now) }
+    ensures { IfOk result (λ made. made ≡ flat_map (channels_by meanings.now) decls.now) }
 {
     let mut made = Items::new(meanings.alloc);
     for decl in decls {
@@ -63,7 +61,7 @@ fn add_channels(
     decl: &Decl,
 ) -> Result<(), NoMemory>
     requires { declaration_size decl.now ≤ MOST_BYTES }
-    ensures { OnOk result (made.new ≡ made.old ++ meant.channels_of (first_of meanings.now.names.now) meanings.now.kinds.now decl.now) }
+    ensures { OnOk result (made.new ≡ made.old ++ channels_by meanings.now decl.now) }
 {
     match decl {
         Decl::Channel(xs, types) => {

@@ -4,8 +4,8 @@ ghost use Rattle.std.specs.Prelude.{◌≡◌, ◌≤◌, Some, [], IfOk};
 ghost use Rattle.dl_limits.specs.declared.TheConstants.{MOST_BYTES};
 ghost use Rattle.name_tables.specs.Firsts.{SameFirsts};
 ghost use Rattle.script_names.specs.Contents as meant;
-ghost use Rattle.script_names.specs.Names.{declared, first_of, none_yet};
-ghost use Rattle.script_names.specs.Typed.{reading};
+ghost use Rattle.script_names.specs.Names.{declared, none_yet};
+ghost use Rattle.script_contents.specs.Plain.{definitions_by, read_by};
 ghost use Rattle.script_sizes.specs.BindingTokens.{tokens};
 ghost use Rattle.script_sizes.specs.Size.{size};
 
@@ -17,9 +17,10 @@ use csp_base::NoMemory;
 use csp_program::{Content, Def, Net};
 use csp_text::{Decl, Tree};
 use name_tables::{Meanings, Scope};
-use typed_trees::typed_net;
+use typed_trees::Walk;
 
-/// What the declarations of a script put into its program, whose asserted network is `root`, while its channels have no field sets yet.
+/// What the declarations of a script put into its program, whose asserted network is `root`, while its channels have no
+/// field sets yet.
 pub fn plain_content(
     meanings: &Meanings<'_>,
     decls: &[Decl],
@@ -52,8 +53,8 @@ fn definitions_and_root(
 ) -> Result<(Items<Def>, Net), NoMemory>
     requires few { size decls.now ≤ MOST_BYTES }
     requires root { tokens root.now ≤ MOST_BYTES }
-    ensures definitions { IfOk result (λ made. made.0 ≡ meant.definitions_from (first_of meanings.now.names.now) meanings.now.kinds.now none_yet decls.now) }
-    ensures root { IfOk result (λ made. made.1 ≡ (reading (first_of meanings.now.names.now) meanings.now.kinds.now root.now).net [] 0) }
+    ensures definitions { IfOk result (λ made. made.0 ≡ definitions_by meanings.now none_yet decls.now) }
+    ensures root { IfOk result (λ made. made.1 ≡ (read_by meanings.now root.now).net [] 0) }
 {
     let defs = definitions(meanings, decls)?;
     let root = asserted(meanings, root)?;
@@ -63,10 +64,9 @@ fn definitions_and_root(
 // The network that is asserted.
 fn asserted(meanings: &Meanings<'_>, root: &Tree) -> Result<Net, NoMemory>
     requires { tokens root.now ≤ MOST_BYTES }
-    ensures { IfOk result (λ net. net ≡ (reading (first_of meanings.now.names.now) meanings.now.kinds.now root.now).net [] 0) }
+    ensures { IfOk result (λ net. net ≡ (read_by meanings.now root.now).net [] 0) }
 {
-    let mut scope = Scope::new(meanings.alloc);
-    let mut next: u32 = 0;
-    let net = typed_net(meanings, &mut scope, &mut next, root)?;
+    let mut walk = Walk::new(meanings, Scope::new(meanings.alloc), 0);
+    let net = walk.typed_net(root)?;
     Ok(net)
 }

@@ -3,12 +3,10 @@
 ghost use Rattle.std.specs.Prelude.{◌≡◌, ◌+◌, ◌≤◌, ◌++◌, length, slice_get, IfOk, OnOk};
 ghost use Rattle.dl_limits.specs.declared.TheConstants.{MOST_BYTES};
 ghost use Rattle.name_tables.specs.Counted.{counts, total};
-ghost use Rattle.script_contents.specs.Plain.{body_at, datatype_of, definition_at, nametype_of, process_body};
+ghost use Rattle.script_contents.specs.Plain.{body_at, datatype_of, defined_by, definition_at, definitions_by, nametype_of, process_at};
 ghost use Rattle.script_names.specs.Contents as meant;
 ghost use Rattle.script_names.specs.Faults.{kind_class, kind_network};
-ghost use Rattle.script_names.specs.Names.{counted, first_of, none_yet};
-ghost use Rattle.script_names.specs.Typed.{reading};
-ghost use Rattle.script_names.specs.declared.kinds.Kind.{Kind};
+ghost use Rattle.script_names.specs.Names.{counted, none_yet};
 ghost use Rattle.script_sizes.specs.BindingTokens.{tokens};
 ghost use Rattle.script_sizes.specs.Size.{declaration_size, size};
 
@@ -21,12 +19,12 @@ use name_tables::ends::bind_all;
 use name_tables::{Meanings, Scope};
 use script_names::{Class, Kind};
 use std::alloc::Global;
-use typed_trees::{typed_expr, typed_net, typed_proc};
+use typed_trees::Walk;
 
 /// The definitions of a script.
 pub fn definitions(meanings: &Meanings<'_>, decls: &[Decl]) -> Result<Items<Def>, NoMemory>
     requires { size decls.now ≤ MOST_BYTES }
-    ensures { IfOk result (λ made. made ≡ meant.definitions_from (first_of meanings.now.names.now) meanings.now.kinds.now none_yet decls.now) }
+    ensures { IfOk result (λ made. made ≡ definitions_by meanings.now none_yet decls.now) }
 {
     let mut made = Items::new(meanings.alloc);
     let mut numbers = Numbers {
@@ -74,7 +72,7 @@ fn add_definition(
     decl: &Decl,
 ) -> Result<(), NoMemory>
     requires { total (counts numbers) + declaration_size decl.now ≤ MOST_BYTES }
-    ensures { OnOk result (made.new ≡ made.old ++ meant.defined (first_of meanings.now.names.now) meanings.now.kinds.now (counts numbers) decl.now) }
+    ensures { OnOk result (made.new ≡ made.old ++ defined_by meanings.now (counts numbers) decl.now) }
 {
     match decl {
         Decl::Define(x, params, tree) => {
@@ -98,63 +96,40 @@ fn define(
     tree: &Tree,
 ) -> Result<Def, NoMemory>
     requires { length params.now + tokens tree.now ≤ MOST_BYTES }
-    ensures { IfOk result (λ def. def ≡ definition_at (first_of meanings.now.names.now) meanings.now.kinds.now d x.now params.now tree.now) }
+    ensures { IfOk result (λ def. def ≡ definition_at meanings.now d x.now params.now tree.now) }
 {
     let name = x.try_clone(meanings.alloc)?;
     let numbers = numbers_from(meanings.alloc, 0, params.len())?;
-    body_of(meanings, d, params, tree).map(|body| Def {
+    let mut scope = Scope::new(meanings.alloc);
+    bind_all(&mut scope, params)?;
+    let mut walk = Walk::new(meanings, scope, params.len() as u32);
+    body(&mut walk, kind_at(meanings.kinds, d), tree).map(|body| Def {
         name,
         params: numbers,
         body,
     })
 }
 
-// The body of the definition with the number `d`, which has these parameters.
-fn body_of(meanings: &Meanings<'_>, d: u32, params: &[Name], tree: &Tree) -> Result<Body, NoMemory>
-    requires { length params.now + tokens tree.now ≤ MOST_BYTES }
-    ensures { IfOk result (λ body. body ≡ body_at (first_of meanings.now.names.now) meanings.now.kinds.now d tree.now (length params.now) (meant.parameters 0 params.now)) }
+// The body of a definition of this kind.
+fn body(walk: &mut Walk<'_>, kind: Kind, tree: &Tree) -> Result<Body, NoMemory>
+    requires { walk.old.next + tokens tree.now ≤ MOST_BYTES }
+    ensures { IfOk result (λ body. body ≡ body_at walk.old kind tree.now) }
 {
-    let mut scope = Scope::new(meanings.alloc);
-    bind_all(&mut scope, params)?;
-    body_under(meanings, d, &mut scope, params.len() as u32, tree)
-}
-
-// The body of the definition with the number `d`, whose first binding token has the number `n`.
-fn body_under(
-    meanings: &Meanings<'_>,
-    d: u32,
-    scope: &mut Scope,
-    n: u32,
-    tree: &Tree,
-) -> Result<Body, NoMemory>
-    requires { n + tokens tree.now ≤ MOST_BYTES }
-    ensures { IfOk result (λ body. body ≡ body_at (first_of meanings.now.names.now) meanings.now.kinds.now d tree.now n scope.old) }
-{
-    let mut next = n;
-    let kind = kind_at(meanings.kinds, d);
     match kind.class {
-        Class::Data => typed_expr(meanings, scope, &mut next, tree).map(Body::Datum),
-        Class::Process | Class::Unknown => { process_under(meanings, kind.network, scope, n, tree) }
+        Class::Data => walk.typed_expr(tree).map(Body::Datum),
+        Class::Process | Class::Unknown => process_body(walk, kind.network, tree),
     }
 }
 
 // The body of a process or of a network definition.
-fn process_under(
-    meanings: &Meanings<'_>,
-    network: bool,
-    scope: &mut Scope,
-    n: u32,
-    tree: &Tree,
-) -> Result<Body, NoMemory>
-    requires { n + tokens tree.now ≤ MOST_BYTES }
-    ensures { IfOk result (λ body. body ≡ process_body network (reading (first_of meanings.now.names.now) meanings.now.kinds.now tree.now) n scope.old) }
+fn process_body(walk: &mut Walk<'_>, network: bool, tree: &Tree) -> Result<Body, NoMemory>
+    requires { walk.old.next + tokens tree.now ≤ MOST_BYTES }
+    ensures { IfOk result (λ body. body ≡ process_at walk.old network tree.now) }
 {
-    let mut next = n;
     if network {
-        typed_net(meanings, scope, &mut next, tree).map(Body::Network)
-    } else {
-        typed_proc(meanings, scope, &mut next, tree).map(Body::Process)
+        return walk.typed_net(tree).map(Body::Network);
     }
+    walk.typed_proc(tree).map(Body::Process)
 }
 
 // What the definition with the number `d` is.
@@ -174,13 +149,12 @@ fn kind_at(kinds: &[Kind], d: u32) -> Kind
 // A nametype.
 fn nametype(meanings: &Meanings<'_>, x: &Name, tree: &Tree) -> Result<Def, NoMemory>
     requires { tokens tree.now ≤ MOST_BYTES }
-    ensures { IfOk result (λ def. def ≡ nametype_of (first_of meanings.now.names.now) meanings.now.kinds.now x.now tree.now) }
+    ensures { IfOk result (λ def. def ≡ nametype_of meanings.now x.now tree.now) }
 {
     let alloc = meanings.alloc;
     let name = x.try_clone(alloc)?;
-    let mut scope = Scope::new(alloc);
-    let mut next: u32 = 0;
-    typed_expr(meanings, &mut scope, &mut next, tree).map(|expr| Def {
+    let mut walk = Walk::new(meanings, Scope::new(alloc), 0);
+    walk.typed_expr(tree).map(|expr| Def {
         name,
         params: Items::new(alloc),
         body: Body::Nametype(expr),

@@ -1,179 +1,162 @@
--- What each form of a tree is as an expression.
-use Rattle.std.proofs.Common.{◌≡◌, ℕ, ◌+◌, pos, true, false, List, [], ◌∷◌, map, refl, ap, sym, ◌∙◌}
+-- What each form of a tree is as an expression, by the equations that are made of the folds.
+use Rattle.std.proofs.Common.{◌≡◌, ℕ, ◌+◌, pos, true, false, List, [], ◌∷◌, map, refl, ap, sym, ◌∙◌, rules}
 use Rattle.csp_base.specs.declared.operators.BinOp.{BinOp}
 use Rattle.csp_base.specs.declared.operators.SetOp.{SetOp}
-use Rattle.csp_text.specs.declared.tree.FieldTree.TheOpen.{GenTree-F, Tree-F}
-use Rattle.csp_text.specs.declared.tree.FieldTree.TheViews.{out-PartTree, roll-out-PartTree}
+use Rattle.csp_text.specs.declared.tree.FieldTree.TheViews.{out-PartTree}
 use Rattle.csp_text.specs.declared.tree.GenTree.{GenTree}
 use Rattle.csp_text.specs.declared.tree.GenTree.TheVariants as gentree
 use Rattle.csp_text.specs.declared.tree.PartTree.{PartTree}
-use Rattle.csp_text.specs.declared.tree.Tree.{Tree}
+use Rattle.csp_text.specs.declared.tree.PartTree.{the_lemmas as part_lemmas}
+use Rattle.csp_text.specs.declared.tree.Tree.{Tree, the_lemmas}
 use Rattle.csp_text.specs.declared.tree.Tree.TheVariants as tree
 use Rattle.csp_program.specs.declared.expressions.Expr.TheVariants as expr
 use Rattle.csp_program.specs.declared.expressions.Expr.TheViews.{roll-EventPart}
 use Rattle.csp_program.specs.declared.expressions.Gen.TheVariants as generator
-use Rattle.script_names.specs.declared.kinds.Kind.{Kind}
-use Rattle.script_names.specs.Names.{Name, Entities, first_of}
-use Rattle.script_names.specs.Typed.{Scope, bindings, exprs, under, with, named, number_of, all_bind, parts_bind, channel_number, definition_number}
+use Rattle.script_names.specs.Names.{Name, first_of}
+use Rattle.script_names.specs.Typed.{bindings, exprs, under, with, named, number_of, all_bind, parts_bind, channel_number, definition_number}
 use Rattle.script_names.specs.Typed as typed
 use Rattle.script_sizes.specs.BindingTokens.{tokens, all_tokens, parts_tokens}
-use Rattle.typed_trees.specs.Words.{tree_read, gen_read, part_read, expr_of, exprs_of, gen_of, gen_scope, gens_of, gens_scope, part_of, parts_of}
-use Rattle.script_sizes.proofs.TokenForms.{tokens-Num, tokens-True, tokens-False, tokens-Name, tokens-Call, tokens-Dot, tokens-Neg, tokens-Not, tokens-Binary, tokens-Display, tokens-Range, tokens-SetOp}
-use Rattle.typed_trees.proofs.Rolls.{tree_rolls, gen_rolls, part_rolls}
+use Rattle.typed_trees.specs.Walked.{Walked, past, read_at}
+use Rattle.typed_trees.specs.Words.{gen_read, part_read, expr_at, exprs_at, gen_at, gen_scope, gens_at, gens_scope, part_at, parts_at, under_gens}
 use Rattle.typed_trees.proofs.SameTokens.{same_tree, same_gen, same_part}
 
-module _ (es : Entities) (ks : List Kind) where
-  pub trees_bind : (ts : List Tree) → all_bind (map (tree_read es ks) ts) ≡ all_tokens ts
-  trees_bind [] = refl
-  trees_bind (t ∷ ts) = λ i. same_tree es ks t i + trees_bind ts i
+pub trees_bind : (w : Walked) (ts : List Tree) → all_bind (map (read_at w) ts) ≡ all_tokens ts
+trees_bind w [] = refl
+trees_bind w (t ∷ ts) = λ i. same_tree w.names w.kinds t i + trees_bind w ts i
 
-  pub fronts_bind : (ps : List PartTree) → parts_bind (map (part_read es ks) ps) ≡ parts_tokens ps
-  fronts_bind [] = refl
-  fronts_bind (p ∷ ps) = λ i. same_part es ks p i + fronts_bind ps i
+pub fronts_bind : (w : Walked) (ps : List PartTree) → parts_bind (map (part_read w.names w.kinds) ps) ≡ parts_tokens ps
+fronts_bind w [] = refl
+fronts_bind w (p ∷ ps) = λ i. same_part w.names w.kinds p i + fronts_bind w ps i
 
-  pub exprs_are : (ts : List Tree) (s : Scope) (n : ℕ) → exprs (map (tree_read es ks) ts) s n ≡ exprs_of es ks ts s n
-  unfolding expr_of
-  exprs_are [] s n = refl
-  exprs_are (t ∷ ts) s n = λ i. expr_of es ks t s n ∷ exprs_are ts s (n + same_tree es ks t i) i
+pub exprs_are : (w : Walked) (ts : List Tree) → exprs (map (read_at w) ts) w.scope w.next ≡ exprs_at w ts
+unfolding expr_at
+exprs_are w [] = refl
+exprs_are w (t ∷ ts) = λ i. expr_at w t ∷ exprs_are (past w (same_tree w.names w.kinds t i)) ts i
 
-  pub gens_are : (gs : List GenTree) (s : Scope) (n : ℕ) → bindings (map (gen_read es ks) gs) s n ≡ gens_of es ks gs s n
-  unfolding gen_of gen_scope
-  gens_are [] s n = refl
-  gens_are (g ∷ gs) s n = λ i. gen_of es ks g s n ∷ gens_are gs (gen_scope es ks g s n) (n + same_gen es ks g i) i
+pub gens_are : (w : Walked) (gs : List GenTree) → bindings (map (gen_read w.names w.kinds) gs) w.scope w.next ≡ gens_at w gs
+unfolding gen_at gen_scope
+gens_are w [] = refl
+gens_are w (g ∷ gs) =
+    λ i. gen_at w g ∷ gens_are (record w { scope = gen_scope w g; next = w.next + same_gen w.names w.kinds g i }) gs i
 
-  pub gens_under : (gs : List GenTree) (s : Scope) (n : ℕ) → under (map (gen_read es ks) gs) s n ≡ gens_scope es ks gs s n
+pub gens_under : (w : Walked) (gs : List GenTree) → under (map (gen_read w.names w.kinds) gs) w.scope w.next ≡ gens_scope w gs
+unfolding gen_scope
+gens_under w [] = refl
+gens_under w (g ∷ gs) = λ i. gens_under (record w { scope = gen_scope w g; next = w.next + same_gen w.names w.kinds g i }) gs i
+
+pub parts_are : (w : Walked) (ps : List PartTree)
+    → typed.parts (first_of w.names) w.kinds (map (part_read w.names w.kinds) ps) w.scope w.next ≡ parts_at w ps
+unfolding part_at
+parts_are w [] = refl
+parts_are w (p ∷ ps) = λ i. part_at w p ∷ parts_are (past w (same_part w.names w.kinds p i)) ps i
+
+module _ (w : Walked) where
+  pub part-is : (p : PartTree) → part_at w p
+      ≡ roll-EventPart (record { channel = channel_number (first_of w.names (out-PartTree p).name); fields = exprs_at w (out-PartTree p).fields })
+  unfolding part_at
+  part-is p = search (rules, the_lemmas, part_lemmas, exprs_are w (out-PartTree p).fields)
+
+  pub gen-From : (x : Name) (t : Tree) → gen_at w (gentree.From x t) ≡ generator.From w.next (expr_at (past w 1) t)
+  unfolding gen_at expr_at
+  gen-From x t = search (rules, the_lemmas)
+
+  pub gen-Cond : (t : Tree) → gen_at w (gentree.Cond t) ≡ generator.Cond (expr_at w t)
+  unfolding gen_at expr_at
+  gen-Cond t = search (rules, the_lemmas)
+
+  pub gen_scope-From : (x : Name) (t : Tree) → gen_scope w (gentree.From x t) ≡ with w.scope x w.next
   unfolding gen_scope
-  gens_under [] s n = refl
-  gens_under (g ∷ gs) s n = λ i. gens_under gs (gen_scope es ks g s n) (n + same_gen es ks g i) i
+  gen_scope-From x t = search (rules, the_lemmas)
 
-  pub parts_are : (ps : List PartTree) (s : Scope) (n : ℕ) → typed.parts (first_of es) ks (map (part_read es ks) ps) s n ≡ parts_of es ks ps s n
-  unfolding part_of
-  parts_are [] s n = refl
-  parts_are (p ∷ ps) s n = λ i. part_of es ks p s n ∷ parts_are ps s (n + same_part es ks p i) i
-
-  pub part_of-is : (p : PartTree) (s : Scope) (n : ℕ)
-      → part_of es ks p s n ≡ roll-EventPart (record { channel = channel_number (first_of es (out-PartTree p).name); fields = exprs_of es ks (out-PartTree p).fields s n })
-  unfolding part_of
-  part_of-is p s n =
-      ap (λ q. typed.part (first_of es) ks (part_read es ks q) s n) (sym (roll-out-PartTree p))
-      ∙ ap (λ f. typed.part (first_of es) ks f s n) (part_rolls es ks (out-PartTree p))
-      ∙ (λ i. roll-EventPart (record { channel = channel_number (first_of es (out-PartTree p).name); fields = exprs_are (out-PartTree p).fields s n i }))
-
-  pub gen_of-From : (x : Name) (t : Tree) (s : Scope) (n : ℕ) → gen_of es ks (gentree.From x t) s n ≡ generator.From n (expr_of es ks t s (n + 1))
-  unfolding gen_of expr_of
-  gen_of-From x t s n = ap (λ g. (gen_read es ks g).here s n) (sym (gentree.rolls-From x t)) ∙ ap (λ b. b.here s n) (gen_rolls es ks (GenTree-F.From x t))
-
-  pub gen_of-Cond : (t : Tree) (s : Scope) (n : ℕ) → gen_of es ks (gentree.Cond t) s n ≡ generator.Cond (expr_of es ks t s n)
-  unfolding gen_of expr_of
-  gen_of-Cond t s n = ap (λ g. (gen_read es ks g).here s n) (sym (gentree.rolls-Cond t)) ∙ ap (λ b. b.here s n) (gen_rolls es ks (GenTree-F.Cond t))
-
-  pub gen_scope-From : (x : Name) (t : Tree) (s : Scope) (n : ℕ) → gen_scope es ks (gentree.From x t) s n ≡ with s x n
+  pub gen_scope-Cond : (t : Tree) → gen_scope w (gentree.Cond t) ≡ w.scope
   unfolding gen_scope
-  gen_scope-From x t s n = ap (λ g. (gen_read es ks g).after s n) (sym (gentree.rolls-From x t)) ∙ ap (λ b. b.after s n) (gen_rolls es ks (GenTree-F.From x t))
+  gen_scope-Cond t = search (rules, the_lemmas)
 
-  pub gen_scope-Cond : (t : Tree) (s : Scope) (n : ℕ) → gen_scope es ks (gentree.Cond t) s n ≡ s
-  unfolding gen_scope
-  gen_scope-Cond t s n = ap (λ g. (gen_read es ks g).after s n) (sym (gentree.rolls-Cond t)) ∙ ap (λ b. b.after s n) (gen_rolls es ks (GenTree-F.Cond t))
+  pub expr-Num : (k : ℕ) → expr_at w (tree.Num k) ≡ expr.Num (pos k)
+  unfolding expr_at
+  expr-Num k = search (rules, the_lemmas)
 
-  pub expr_of-Num : (k : ℕ) (s : Scope) (n : ℕ) → expr_of es ks (tree.Num k) s n ≡ expr.Num (pos k)
-  unfolding expr_of
-  expr_of-Num k s n = ap (λ t. (tree_read es ks t).expr s n) (sym (tree.rolls-Num k)) ∙ ap (λ r. r.expr s n) (tree_rolls es ks (Tree-F.Num k))
+  pub expr-True : expr_at w tree.True ≡ expr.Truth true
+  unfolding expr_at
+  expr-True = search (rules, the_lemmas)
 
-  pub expr_of-True : (s : Scope) (n : ℕ) → expr_of es ks tree.True s n ≡ expr.Truth true
-  unfolding expr_of
-  expr_of-True s n = ap (λ t. (tree_read es ks t).expr s n) (sym tree.rolls-True) ∙ ap (λ r. r.expr s n) (tree_rolls es ks Tree-F.True)
+  pub expr-False : expr_at w tree.False ≡ expr.Truth false
+  unfolding expr_at
+  expr-False = search (rules, the_lemmas)
 
-  pub expr_of-False : (s : Scope) (n : ℕ) → expr_of es ks tree.False s n ≡ expr.Truth false
-  unfolding expr_of
-  expr_of-False s n = ap (λ t. (tree_read es ks t).expr s n) (sym tree.rolls-False) ∙ ap (λ r. r.expr s n) (tree_rolls es ks Tree-F.False)
+  pub expr-Name : (x : Name) → expr_at w (tree.Name x) ≡ named (number_of w.scope x) (first_of w.names x)
+  unfolding expr_at
+  expr-Name x = search (rules, the_lemmas)
 
-  pub expr_of-Name : (x : Name) (s : Scope) (n : ℕ) → expr_of es ks (tree.Name x) s n ≡ named (number_of s x) (first_of es x)
-  unfolding expr_of
-  expr_of-Name x s n = ap (λ t. (tree_read es ks t).expr s n) (sym (tree.rolls-Name x)) ∙ ap (λ r. r.expr s n) (tree_rolls es ks (Tree-F.Name x))
+  pub expr-Call : (f : Name) (args : List Tree)
+      → expr_at w (tree.Call f args) ≡ expr.Call (definition_number (first_of w.names f)) (exprs_at w args)
+  unfolding expr_at
+  expr-Call f args = search (rules, the_lemmas, exprs_are w args)
 
-  pub expr_of-Call : (f : Name) (args : List Tree) (s : Scope) (n : ℕ)
-      → expr_of es ks (tree.Call f args) s n ≡ expr.Call (definition_number (first_of es f)) (exprs_of es ks args s n)
-  unfolding expr_of
-  expr_of-Call f args s n =
-      ap (λ t. (tree_read es ks t).expr s n) (sym (tree.rolls-Call f args))
-      ∙ ap (λ r. r.expr s n) (tree_rolls es ks (Tree-F.Call f args))
-      ∙ (λ i. expr.Call (definition_number (first_of es f)) (exprs_are args s n i))
+  pub expr-Dot : (c : Name) (fields : List Tree)
+      → expr_at w (tree.Dot c fields) ≡ expr.Event (channel_number (first_of w.names c)) (exprs_at w fields)
+  unfolding expr_at
+  expr-Dot c fields = search (rules, the_lemmas, exprs_are w fields)
 
-  pub expr_of-Dot : (c : Name) (fields : List Tree) (s : Scope) (n : ℕ)
-      → expr_of es ks (tree.Dot c fields) s n ≡ expr.Event (channel_number (first_of es c)) (exprs_of es ks fields s n)
-  unfolding expr_of
-  expr_of-Dot c fields s n =
-      ap (λ t. (tree_read es ks t).expr s n) (sym (tree.rolls-Dot c fields))
-      ∙ ap (λ r. r.expr s n) (tree_rolls es ks (Tree-F.«Tree::Dot» c fields))
-      ∙ (λ i. expr.Event (channel_number (first_of es c)) (exprs_are fields s n i))
+  pub expr-Neg : (a : Tree) → expr_at w (tree.Neg a) ≡ expr.Neg (expr_at w a)
+  unfolding expr_at
+  expr-Neg a = search (rules, the_lemmas)
 
-  pub expr_of-Neg : (a : Tree) (s : Scope) (n : ℕ) → expr_of es ks (tree.Neg a) s n ≡ expr.Neg (expr_of es ks a s n)
-  unfolding expr_of
-  expr_of-Neg a s n = ap (λ t. (tree_read es ks t).expr s n) (sym (tree.rolls-Neg a)) ∙ ap (λ r. r.expr s n) (tree_rolls es ks (Tree-F.Neg a))
+  pub expr-Not : (a : Tree) → expr_at w (tree.Not a) ≡ expr.Not (expr_at w a)
+  unfolding expr_at
+  expr-Not a = search (rules, the_lemmas)
 
-  pub expr_of-Not : (a : Tree) (s : Scope) (n : ℕ) → expr_of es ks (tree.Not a) s n ≡ expr.Not (expr_of es ks a s n)
-  unfolding expr_of
-  expr_of-Not a s n = ap (λ t. (tree_read es ks t).expr s n) (sym (tree.rolls-Not a)) ∙ ap (λ r. r.expr s n) (tree_rolls es ks (Tree-F.Not a))
+  pub expr-Binary : (op : BinOp) (a b : Tree)
+      → expr_at w (tree.Binary op a b) ≡ expr.Binary op (expr_at w a) (expr_at (past w (tokens a)) b)
+  unfolding expr_at
+  expr-Binary op a b = search (rules, the_lemmas, same_tree w.names w.kinds a)
 
-  pub expr_of-Binary : (op : BinOp) (a : Tree) (b : Tree) (s : Scope) (n : ℕ)
-      → expr_of es ks (tree.Binary op a b) s n ≡ expr.Binary op (expr_of es ks a s n) (expr_of es ks b s (n + tokens a))
-  unfolding expr_of
-  expr_of-Binary op a b s n =
-      ap (λ t. (tree_read es ks t).expr s n) (sym (tree.rolls-Binary op a b))
-      ∙ ap (λ r. r.expr s n) (tree_rolls es ks (Tree-F.Binary op a b))
-      ∙ (λ i. expr.Binary op (expr_of es ks a s n) (expr_of es ks b s (n + same_tree es ks a i)))
+  pub expr-If : (c a b : Tree)
+      → expr_at w (tree.If c a b) ≡ expr.If (expr_at w c) (expr_at (past w (tokens c)) a) (expr_at (past (past w (tokens c)) (tokens a)) b)
+  unfolding expr_at
+  expr-If c a b = search (rules, the_lemmas, same_tree w.names w.kinds c, same_tree w.names w.kinds a)
 
-  pub expr_of-If : (c : Tree) (a : Tree) (b : Tree) (s : Scope) (n : ℕ)
-      → expr_of es ks (tree.If c a b) s n ≡ expr.If (expr_of es ks c s n) (expr_of es ks a s (n + tokens c)) (expr_of es ks b s (n + tokens c + tokens a))
-  unfolding expr_of
-  expr_of-If c a b s n =
-      ap (λ t. (tree_read es ks t).expr s n) (sym (tree.rolls-If c a b))
-      ∙ ap (λ r. r.expr s n) (tree_rolls es ks (Tree-F.If c a b))
-      ∙ (λ i. expr.If (expr_of es ks c s n) (expr_of es ks a s (n + same_tree es ks c i)) (expr_of es ks b s (n + same_tree es ks c i + same_tree es ks a i)))
+  pub expr-Display : (items : List Tree) → expr_at w (tree.Display items) ≡ expr.Display (exprs_at w items)
+  unfolding expr_at
+  expr-Display items = search (rules, the_lemmas, exprs_are w items)
 
-  pub expr_of-Display : (items : List Tree) (s : Scope) (n : ℕ) → expr_of es ks (tree.Display items) s n ≡ expr.Display (exprs_of es ks items s n)
-  unfolding expr_of
-  expr_of-Display items s n =
-      ap (λ t. (tree_read es ks t).expr s n) (sym (tree.rolls-Display items))
-      ∙ ap (λ r. r.expr s n) (tree_rolls es ks (Tree-F.Display items))
-      ∙ (λ i. expr.Display (exprs_are items s n i))
+  pub expr-Range : (a b : Tree) → expr_at w (tree.Range a b) ≡ expr.Range (expr_at w a) (expr_at (past w (tokens a)) b)
+  unfolding expr_at
+  expr-Range a b = search (rules, the_lemmas, same_tree w.names w.kinds a)
 
-  pub expr_of-Range : (a : Tree) (b : Tree) (s : Scope) (n : ℕ)
-      → expr_of es ks (tree.Range a b) s n ≡ expr.Range (expr_of es ks a s n) (expr_of es ks b s (n + tokens a))
-  unfolding expr_of
-  expr_of-Range a b s n =
-      ap (λ t. (tree_read es ks t).expr s n) (sym (tree.rolls-Range a b))
-      ∙ ap (λ r. r.expr s n) (tree_rolls es ks (Tree-F.Range a b))
-      ∙ (λ i. expr.Range (expr_of es ks a s n) (expr_of es ks b s (n + same_tree es ks a i)))
+  pub expr-SetOp : (op : SetOp) (a b : Tree)
+      → expr_at w (tree.SetOp op a b) ≡ expr.SetOp op (expr_at w a) (expr_at (past w (tokens a)) b)
+  unfolding expr_at
+  expr-SetOp op a b = search (rules, the_lemmas, same_tree w.names w.kinds a)
 
-  pub expr_of-Comp : (items : List Tree) (gens : List GenTree) (s : Scope) (n : ℕ)
-      → expr_of es ks (tree.Comp items gens) s n
-      ≡ expr.Comp (exprs_of es ks items (gens_scope es ks gens s (n + all_tokens items)) n) (gens_of es ks gens s (n + all_tokens items))
-  unfolding expr_of
-  expr_of-Comp items gens s n =
-      ap (λ t. (tree_read es ks t).expr s n) (sym (tree.rolls-Comp items gens))
-      ∙ ap (λ r. r.expr s n) (tree_rolls es ks (Tree-F.Comp items gens))
-      ∙ (λ i. expr.Comp (exprs_are items (gens_under gens s (n + trees_bind items i) i) n i) (gens_are gens s (n + trees_bind items i) i))
+  pub expr-Comp : (items : List Tree) (gens : List GenTree) → expr_at w (tree.Comp items gens)
+      ≡ expr.Comp (exprs_at (under_gens w (all_tokens items) gens) items) (gens_at (past w (all_tokens items)) gens)
+  unfolding expr_at
+  expr-Comp items gens = search (
+    rules,
+    the_lemmas,
+    trees_bind w items,
+    gens_are (past w (all_tokens items)) gens,
+    gens_under (past w (all_tokens items)) gens,
+    exprs_are (under_gens w (all_tokens items) gens) items,
+  )
 
-  pub expr_of-Product : (fronts : List PartTree) (gens : List GenTree) (s : Scope) (n : ℕ)
-      → expr_of es ks (tree.Product fronts gens) s n
-      ≡ expr.Product (parts_of es ks fronts (gens_scope es ks gens s (n + parts_tokens fronts)) n) (gens_of es ks gens s (n + parts_tokens fronts))
-  unfolding expr_of
-  expr_of-Product fronts gens s n =
-      ap (λ t. (tree_read es ks t).expr s n) (sym (tree.rolls-Product fronts gens))
-      ∙ ap (λ r. r.expr s n) (tree_rolls es ks (Tree-F.Product fronts gens))
-      ∙ (λ i. expr.Product (parts_are fronts (gens_under gens s (n + fronts_bind fronts i) i) n i) (gens_are gens s (n + fronts_bind fronts i) i))
+  pub expr-Product : (parts : List PartTree) (gens : List GenTree) → expr_at w (tree.Product parts gens)
+      ≡ expr.Product (parts_at (under_gens w (parts_tokens parts) gens) parts) (gens_at (past w (parts_tokens parts)) gens)
+  unfolding expr_at
+  expr-Product parts gens = search (
+    rules,
+    the_lemmas,
+    fronts_bind w parts,
+    gens_are (past w (parts_tokens parts)) gens,
+    gens_under (past w (parts_tokens parts)) gens,
+    parts_are (under_gens w (parts_tokens parts) gens) parts,
+  )
 
-  pub expr_of-SetOp : (op : SetOp) (a : Tree) (b : Tree) (s : Scope) (n : ℕ)
-      → expr_of es ks (tree.SetOp op a b) s n ≡ expr.SetOp op (expr_of es ks a s n) (expr_of es ks b s (n + tokens a))
-  unfolding expr_of
-  expr_of-SetOp op a b s n =
-      ap (λ t. (tree_read es ks t).expr s n) (sym (tree.rolls-SetOp op a b))
-      ∙ ap (λ r. r.expr s n) (tree_rolls es ks (Tree-F.SetOp op a b))
-      ∙ (λ i. expr.SetOp op (expr_of es ks a s n) (expr_of es ks b s (n + same_tree es ks a i)))
+pub ruleset part_forms = (part-is)
 
-pub ruleset part_forms = (part_of-is)
+pub ruleset gen_forms = (gen-From, gen-Cond, gen_scope-From, gen_scope-Cond)
 
-pub ruleset gen_forms = (gen_of-From, gen_of-Cond, gen_scope-From, gen_scope-Cond)
+pub ruleset expr_forms = (expr-Num, expr-True, expr-False, expr-Name, expr-Call, expr-Dot, expr-Neg, expr-Not, expr-Binary, expr-If, expr-Display, expr-Range, expr-SetOp, expr-Comp, expr-Product)
 
-pub ruleset expr_forms = (expr_of-Num, expr_of-True, expr_of-False, expr_of-Name, expr_of-Call, expr_of-Dot, expr_of-Neg, expr_of-Not, expr_of-Binary, expr_of-Display, expr_of-Range, expr_of-SetOp, tokens-Num, tokens-True, tokens-False, tokens-Name, tokens-Call, tokens-Dot, tokens-Neg, tokens-Not, tokens-Binary, tokens-Display, tokens-Range, tokens-SetOp)
+pub ruleset expr_lists = (exprs_are, trees_bind)

@@ -1,7 +1,8 @@
 pub mod Rolls
 pub mod SameTokens
-pub mod Scopes
+pub mod Takes
 pub mod ExprForms
 pub mod ProcForms
 pub mod NetForms
 pub mod OtherForms
+pub mod Scopes

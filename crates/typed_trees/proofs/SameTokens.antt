@@ -14,8 +14,8 @@ use Rattle.script_names.specs.declared.kinds.Kind.{Kind}
 use Rattle.script_names.specs.Names.{Entities, first_of}
 use Rattle.script_names.specs.Typed.{Binding, Front, Reading, all_bind, bindings_bind, parts_bind, pairs_bind, binds_of_layer, field_of_layer, gen_of_layer}
 use Rattle.script_sizes.specs.BindingTokens.{total_of_pairs, tokens, field_tokens, gen_tokens, event_tokens, part_tokens, tokens_of_layer, field_tokens_of_layer, gen_tokens_of_layer}
-use Rattle.typed_trees.specs.Words.{tree_read, field_read, gen_read, part_read}
-use Rattle.typed_trees.proofs.Rolls.{event_read, layer_read, tree_rolls, field_rolls, gen_rolls, event_rolls, part_rolls}
+use Rattle.typed_trees.specs.Words.{field_read, gen_read, part_read}
+use Rattle.typed_trees.proofs.Rolls.{event_read, tree_read, layer_read, tree_rolls, field_rolls, gen_rolls, event_rolls, part_rolls}
 use Rattle.script_sizes.proofs.TokenForms.{tree_counts, field_counts, gen_counts, event_counts, part_counts}
 use Rattle.csp_base.specs.Lists.{total}
 

@@ -1,2 +1,2 @@
+pub mod Walked
 pub mod Words
-pub mod Scopes

@@ -1,15 +1,12 @@
 //! What a name alone stands for.
 
 ghost use Rattle.std.specs.Prelude.{◌≡◌, None};
-ghost use Rattle.script_names.specs.Names.{first_of};
-ghost use Rattle.script_names.specs.Typed.{number_of};
+ghost use Rattle.script_names.specs.Faults as faults;
 ghost use Rattle.script_names.specs.Typed as typed;
 
 use containers::Items;
-use csp_base::Name;
 use csp_program::{Expr, Head};
-use name_tables::{Meanings, Scope};
-use script_names::Entity;
+use script_names::{Entity, Kind, Sense};
 use std::alloc::Global;
 
 /// The number of a channel, 0 for anything else.
@@ -46,8 +43,8 @@ fn named_entity(alloc: Global, entity: Option<Entity>) -> Expr
     }
 }
 
-// A name by itself, with its number where it is bound and what it is declared as.
-fn named(alloc: Global, number: Option<u32>, entity: Option<Entity>) -> Expr
+/// A name by itself, with its number where it is bound and what it is declared as.
+pub(crate) fn named(alloc: Global, number: Option<u32>, entity: Option<Entity>) -> Expr
     ensures { result ≡ typed.named number entity }
 {
     match number {
@@ -56,19 +53,29 @@ fn named(alloc: Global, number: Option<u32>, entity: Option<Entity>) -> Expr
     }
 }
 
-/// A name by itself, under the bound names `scope`.
-pub(crate) fn name(meanings: &Meanings<'_>, scope: &Scope, x: &Name) -> Expr
-    ensures { result ≡ typed.named (number_of scope.now x.now) (first_of meanings.now.names.now x.now) }
+/// What the event of a prefix begins with, by the number of its name where it is bound and what it is declared as.
+pub(crate) fn head_of(number: Option<u32>, entity: Option<Entity>) -> Head
+    ensures { result ≡ typed.head_of number entity }
 {
-    named(meanings.alloc, scope.find(x), meanings.names.find(x))
+    match number {
+        Some(number) => Head::Bound(number),
+        None => Head::Channel(channel_number(entity)),
+    }
 }
 
-/// What the event of a prefix begins with, under the bound names `scope`.
-pub(crate) fn head(meanings: &Meanings<'_>, scope: &Scope, x: &Name) -> Head
-    ensures { result ≡ typed.head_of (number_of scope.now x.now) (first_of meanings.now.names.now x.now) }
+/// Whether what a name stands for is a network definition.
+pub(crate) fn is_network(kinds: &[Kind], sense: Sense) -> bool
+    ensures { result ≡ faults.is_network kinds.now sense }
 {
-    match scope.find(x) {
-        Some(number) => Head::Bound(number),
-        None => Head::Channel(channel_number(meanings.names.find(x))),
+    match sense {
+        Sense::Declared(Entity::Definition(def, _)) => match kinds.get(def as usize) {
+            Some(kind) => kind.network,
+            None => false,
+        },
+        Sense::Declared(Entity::Channel(_, _))
+        | Sense::Declared(Entity::Constant(_))
+        | Sense::Declared(Entity::Set(_))
+        | Sense::Bound
+        | Sense::Unknown => false,
     }
 }

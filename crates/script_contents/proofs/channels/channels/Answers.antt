@@ -1,7 +1,6 @@
 use Rattle.std.proofs.Common.{◌≤◌, arith}
 use Rattle.std.specs.List.{flat_map}
-use Rattle.script_names.specs.Contents.{channels_of}
-use Rattle.script_names.specs.Names.{first_of}
+use Rattle.script_contents.specs.Plain.{channels_by}
 use Rattle.script_sizes.specs.Size.{declaration_size, size}
 use Rattle.name_tables.proofs.DeclaredLemmas.{flat_end, flat_step}
 use Rattle.name_tables.proofs.SizeLaws.{size_at}
@@ -14,8 +13,8 @@ add_channels-requires c =
 
 pub loop-decl-preserved : goal.loop-decl-preserved
 loop-decl-preserved c =
-    flat_step (channels_of (first_of c.args.meanings.now.names.now) c.args.meanings.now.kinds.now) c.add_channels.new.made c.loop-decl.made (flat_map (channels_of (first_of c.args.meanings.now.names.now) c.args.meanings.now.kinds.now) c.args.decls.now) c.loop-decl.decl-index c.args.decls.now c.decl-item.result
+    flat_step (channels_by c.args.meanings.now) c.add_channels.new.made c.loop-decl.made (flat_map (channels_by c.args.meanings.now) c.args.decls.now) c.loop-decl.decl-index c.args.decls.now c.decl-item.result
     c.loop-decl-test.true c.decl-item.is c.in_ok-add_channels.ensures c.loop-decl.invariant
 
 pub returns : goal.returns
-returns c = flat_end (channels_of (first_of c.args.meanings.now.names.now) c.args.meanings.now.kinds.now) c.loop-decl.made (flat_map (channels_of (first_of c.args.meanings.now.names.now) c.args.meanings.now.kinds.now) c.args.decls.now) c.loop-decl.decl-index c.args.decls.now (omega arith) c.loop-decl.invariant
+returns c = flat_end (channels_by c.args.meanings.now) c.loop-decl.made (flat_map (channels_by c.args.meanings.now) c.args.decls.now) c.loop-decl.decl-index c.args.decls.now (omega arith) c.loop-decl.invariant

@@ -2,7 +2,7 @@ use Rattle.std.proofs.Common.{arith}
 use Rattle.dl_limits.specs.declared.TheConstants.{MOST_BYTES}
 use Rattle.name_tables.specs.Counted.{counts}
 use Rattle.name_tables.proofs.SizeLaws.{few_here, few_left}
-use Rattle.script_names.specs.Contents.{definitions_from}
+use Rattle.script_contents.specs.Plain.{definitions_by}
 use Rattle.script_names.specs.Names.{first_of, none_yet}
 use Rattle.script_contents.proofs.ContentLaws.{definitions_end, definitions_step}
 use Rattle.script_contents.proofs.definitions.definitions.Goals as goal
@@ -17,7 +17,7 @@ count-numbers-requires c =
 
 pub loop-decl-preserved : goal.loop-decl-preserved
 loop-decl-preserved c = record {
-  made = definitions_step (first_of c.args.meanings.now.names.now) c.args.meanings.now.kinds.now c.add_definition.new.made c.loop-decl.made (definitions_from (first_of c.args.meanings.now.names.now) c.args.meanings.now.kinds.now none_yet c.args.decls.now)
+  made = definitions_step (first_of c.args.meanings.now.names.now) c.args.meanings.now.kinds.now c.add_definition.new.made c.loop-decl.made (definitions_by c.args.meanings.now none_yet c.args.decls.now)
       (counts c.loop-decl.numbers) (counts c.count-numbers.result) c.loop-decl.decl-index c.args.decls.now c.decl-item.result c.loop-decl-test.true c.decl-item.is
       c.count-numbers.ensures c.in_ok-add_definition.ensures c.loop-decl.invariant.made;
   few = few_left (counts c.loop-decl.numbers) (counts c.count-numbers.result) c.loop-decl.decl-index c.args.decls.now c.decl-item.result MOST_BYTES c.loop-decl-test.true c.decl-item.is
@@ -26,5 +26,5 @@ loop-decl-preserved c = record {
 
 pub returns : goal.returns
 returns c =
-    definitions_end (first_of c.args.meanings.now.names.now) c.args.meanings.now.kinds.now c.loop-decl.made (definitions_from (first_of c.args.meanings.now.names.now) c.args.meanings.now.kinds.now none_yet c.args.decls.now)
+    definitions_end (first_of c.args.meanings.now.names.now) c.args.meanings.now.kinds.now c.loop-decl.made (definitions_by c.args.meanings.now none_yet c.args.decls.now)
     (counts c.loop-decl.numbers) c.loop-decl.decl-index c.args.decls.now (omega arith) c.loop-decl.invariant.made
