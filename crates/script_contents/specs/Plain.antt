@@ -42,21 +42,20 @@ definitions_by m n decls = definitions_from (first_of m.names.now) m.kinds.now n
 
 -- a tree as the body of a definition of this kind, where a walk stands, and as that of a process or of a network definition
 abbrev pub body_at : Walked → Kind → Tree → Body
-body_at w kind t = body_of (λ x. None) [] kind.class kind.network (read_at w t) w.next w.scope
+body_at w kind t = body_of (first_of w.names) w.kinds kind.class kind.network (read_at w t) w.next w.scope
 
 abbrev pub process_at : Walked → Bool → Tree → Body
 process_at w network t =
     if network then body.Network ((read_at w t).net w.scope w.next) else body.Process ((read_at w t).proc w.scope w.next)
 
--- the definition with the number d
+-- the body of the definition with the number d, and the definition
+abbrev pub body_under : Meanings → ℕ → List Name → Tree → Body
+body_under m d params t = body_of (first_of m.names.now) m.kinds.now
+    (kind_class (slice_get m.kinds.now d)) (kind_network (slice_get m.kinds.now d))
+    (read_by m t) (length params) (parameters 0 params)
+
 abbrev pub definition_at : Meanings → ℕ → Name → List Name → Tree → Def
-definition_at m d x params t = record {
-  name = x;
-  params = numbers_from 0 (length params);
-  body = body_of (first_of m.names.now) m.kinds.now
-      (kind_class (slice_get m.kinds.now d)) (kind_network (slice_get m.kinds.now d))
-      (read_by m t) (length params) (parameters 0 params);
-}
+definition_at m d x params t = record { name = x; params = numbers_from 0 (length params); body = body_under m d params t }
 
 -- a nametype
 abbrev pub nametype_of : Meanings → Name → Tree → Def

@@ -1,9 +1,10 @@
 //! The definitions of a script.
 
-ghost use Rattle.std.specs.Prelude.{◌≡◌, ◌+◌, ◌≤◌, ◌++◌, length, slice_get, IfOk, OnOk};
+ghost use Rattle.std.specs.Prelude.{◌≡◌, ◌+◌, ◌≤◌, [], ◌++◌, length, slice_get, IfOk, OnOk};
 ghost use Rattle.dl_limits.specs.declared.TheConstants.{MOST_BYTES};
 ghost use Rattle.name_tables.specs.Counted.{counts, total};
-ghost use Rattle.script_contents.specs.Plain.{body_at, datatype_of, defined_by, definition_at, definitions_by, nametype_of, process_at};
+ghost use Rattle.script_contents.specs.Plain.{body_at, datatype_of, defined_by, definition_at, definitions_by, nametype_of, process_at, read_by};
+ghost use Rattle.script_contents.specs.Plain as plain;
 ghost use Rattle.script_names.specs.Contents as meant;
 ghost use Rattle.script_names.specs.Faults.{kind_class, kind_network};
 ghost use Rattle.script_names.specs.Names.{counted, none_yet};
@@ -12,7 +13,7 @@ ghost use Rattle.script_sizes.specs.Size.{declaration_size, size};
 
 use containers::Items;
 use csp_base::{Name, NoMemory};
-use csp_program::{Body, Def};
+use csp_program::{Body, Def, Expr};
 use csp_text::{Decl, Tree};
 use name_tables::declared::Numbers;
 use name_tables::ends::bind_all;
@@ -100,14 +101,27 @@ fn define(
 {
     let name = x.try_clone(meanings.alloc)?;
     let numbers = numbers_from(meanings.alloc, 0, params.len())?;
-    let mut scope = Scope::new(meanings.alloc);
-    bind_all(&mut scope, params)?;
-    let mut walk = Walk::new(meanings, scope, params.len() as u32);
-    body(&mut walk, kind_at(meanings.kinds, d), tree).map(|body| Def {
+    body_under(meanings, d, params, tree).map(|body| Def {
         name,
         params: numbers,
         body,
     })
+}
+
+// The body of the definition with the number `d`, which has these parameters.
+fn body_under(
+    meanings: &Meanings<'_>,
+    d: u32,
+    params: &[Name],
+    tree: &Tree,
+) -> Result<Body, NoMemory>
+    requires { length params.now + tokens tree.now ≤ MOST_BYTES }
+    ensures { IfOk result (λ body. body ≡ plain.body_under meanings.now d params.now tree.now) }
+{
+    let mut scope = Scope::new(meanings.alloc);
+    bind_all(&mut scope, params)?;
+    let mut walk = Walk::new(meanings, scope, params.len() as u32);
+    body(&mut walk, kind_at(meanings.kinds, d), tree)
 }
 
 // The body of a definition of this kind.
@@ -153,12 +167,21 @@ fn nametype(meanings: &Meanings<'_>, x: &Name, tree: &Tree) -> Result<Def, NoMem
 {
     let alloc = meanings.alloc;
     let name = x.try_clone(alloc)?;
-    let mut walk = Walk::new(meanings, Scope::new(alloc), 0);
-    walk.typed_expr(tree).map(|expr| Def {
+    set_of(meanings, tree).map(|set| Def {
         name,
         params: Items::new(alloc),
-        body: Body::Nametype(expr),
+        body: Body::Nametype(set),
     })
+}
+
+// The set of a nametype.
+fn set_of(meanings: &Meanings<'_>, tree: &Tree) -> Result<Expr, NoMemory>
+    requires { tokens tree.now ≤ MOST_BYTES }
+    ensures { IfOk result (λ set. set ≡ (read_by meanings.now tree.now).expr [] 0) }
+{
+    let mut walk = Walk::new(meanings, Scope::new(meanings.alloc), 0);
+    let set = walk.typed_expr(tree)?;
+    Ok(set)
 }
 
 // A datatype of so many constants, the first of which has the number `first`.
