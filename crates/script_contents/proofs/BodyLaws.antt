@@ -1,0 +1,20 @@
+-- The body of a definition, where a walk under its parameters begins.
+use Rattle.std.proofs.Common.{◌≡◌, ℕ, List, length, ◌∙◌, ap}
+use Rattle.std.specs.Prelude.{slice_get}
+use Rattle.csp_program.specs.declared.programs.Body.{Body}
+use Rattle.csp_text.specs.declared.tree.Tree.{Tree}
+use Rattle.name_tables.specs.declared.meanings.Meanings.{Meanings}
+use Rattle.script_contents.specs.Plain.{body_at, body_under, read_by}
+use Rattle.script_names.specs.Contents.{body_of, parameters}
+use Rattle.script_names.specs.declared.kinds.Kind.{Kind}
+use Rattle.script_names.specs.Faults.{kind_class, kind_network}
+use Rattle.script_names.specs.Names.{Name, first_of}
+use Rattle.script_names.specs.Typed.{Scope}
+use Rattle.typed_trees.specs.Walked.{Walked, standing}
+
+pub body_is : (m : Meanings) (d : ℕ) (params : List Name) (t : Tree) (w : Walked) (kind : Kind) (scope : Scope) → scope ≡ parameters 0 params
+    → w ≡ standing m.names.now m.kinds.now scope (length params) → kind.class ≡ kind_class (slice_get m.kinds.now d)
+    → kind.network ≡ kind_network (slice_get m.kinds.now d) → body_at w kind t ≡ body_under m d params t
+body_is m d params t w kind scope bound begun class network =
+    ap (λ z. body_at z kind t) begun
+    ∙ (λ j. body_of (first_of m.names.now) m.kinds.now (class j) (network j) (read_by m t) (length params) (bound j))
