@@ -3,9 +3,9 @@
 ghost use Rattle.std.specs.Prelude.{◌≡◌, ◌≤◌, [], None, ◌++◌, map, IfOk, OnOk};
 ghost use Rattle.std.specs.List.{flat_map};
 ghost use Rattle.dl_limits.specs.declared.TheConstants.{MOST_BYTES};
-ghost use Rattle.script_names.specs.Names.{Name};
-ghost use Rattle.script_names.specs.Typed.{exprs};
-ghost use Rattle.script_contents.specs.Plain.{channels_by, constants_in, plain_channel, read_by};
+ghost use Rattle.script_names.specs.Names.{Name, first_of};
+ghost use Rattle.script_names.specs.Typed.{exprs, reading};
+ghost use Rattle.script_contents.specs.Plain.{channels_by, constants_in, plain_channel};
 ghost use Rattle.script_sizes.specs.BindingTokens.{all_tokens};
 ghost use Rattle.script_sizes.specs.Size.{declaration_size, size};
 
@@ -21,7 +21,7 @@ use typed_trees::Walk;
 /// The types of a channel's fields.
 pub fn types_of(meanings: &Meanings<'_>, types: &[Tree]) -> Result<Items<Expr>, NoMemory>
     requires { all_tokens types.now ≤ MOST_BYTES }
-    ensures { IfOk result (λ typed. typed ≡ exprs (map (read_by meanings.now) types.now) [] 0) }
+    ensures { IfOk result (λ typed. typed ≡ exprs (map (reading (first_of meanings.now.names.now) meanings.now.kinds.now) types.now) [] 0) }
 {
     let mut walk = Walk::new(meanings, Scope::new(meanings.alloc), 0);
     let typed = walk.typed_exprs(types)?;
