@@ -1,11 +1,19 @@
 //! Hashing under a key.
 
-use std::hash::{BuildHasher, DefaultHasher, Hasher};
+use std::hash::{BuildHasher, DefaultHasher, FoldHasher, Hasher};
 
 /// A key for hashing, which a text makes: each change of the text changes the key, so no text can choose values that collide under its own key.
 #[derive(Clone, Copy)]
 pub struct Key {
-    bytes: [u8; 16],
+    // a hasher to which the key was written
+    begun: DefaultHasher,
+}
+
+/// A key under which hashing costs less than under the one it was made from, for values of few numbers each.
+#[derive(Clone, Copy)]
+pub struct QuickKey {
+    // a hasher to which the key was written
+    begun: FoldHasher,
 }
 
 impl Key {
@@ -16,36 +24,38 @@ impl Key {
         let mut second = first;
         first.write(&[0]);
         second.write(&[1]);
-        Key {
-            bytes: joined(first.finish(), second.finish()),
-        }
+        let mut begun = DefaultHasher::new();
+        begun.write_u64(first.finish());
+        begun.write_u64(second.finish());
+        Key { begun }
     }
-}
 
-// The bytes of two numbers.
-fn joined(first: u64, second: u64) -> [u8; 16] {
-    let low = first.to_le_bytes();
-    let high = second.to_le_bytes();
-    let mut bytes = [0; 16];
-    for i in 0..8 {
-        bytes[i] = low[i];
-        bytes[i + 8] = high[i];
+    /// The key for values of few numbers each.
+    pub fn quick(&self) -> QuickKey {
+        let mut begun = FoldHasher::default();
+        begun.write_u64(self.begun.finish());
+        QuickKey { begun }
     }
-    bytes
 }
 
 // Each hasher begins with the key.
 impl BuildHasher for Key {
-    ghost use Rattle.containers.specs.Keyed.{begun};
-
     type Hasher = DefaultHasher;
 
-    ghost build_hasher = { λ k. begun k.bytes };
+    ghost build_hasher = { λ k. k.begun };
 
-    #[tactic(auto, unfolding(crate::specs::Keyed::begun))]
     fn build_hasher(&self) -> DefaultHasher {
-        let mut hasher = DefaultHasher::new();
-        hasher.write(&self.bytes);
-        hasher
+        self.begun
+    }
+}
+
+// The same.
+impl BuildHasher for QuickKey {
+    type Hasher = FoldHasher;
+
+    ghost build_hasher = { λ k. k.begun };
+
+    fn build_hasher(&self) -> FoldHasher {
+        self.begun
     }
 }

@@ -11,6 +11,6 @@ mod rows;
 pub use boxed::Boxed;
 pub use exact::Exact;
 pub use items::Items;
-pub use key::Key;
+pub use key::{Key, QuickKey};
 pub use numbering::Numbering;
 pub use rows::{empty_rows, push_at};

@@ -6,7 +6,7 @@ ghost use Rattle.std.specs.Option.{option_copied};
 ghost use Rattle.std.specs.Set.{is_member};
 ghost use Rattle.containers.specs.Members.{with_new};
 
-use crate::{Exact, Key};
+use crate::Exact;
 use indexmap::IndexSet;
 use std::alloc::{AllocError, Global};
 use std::hash::{BuildHasher, BuildHasherDefault, FoldHasher, Hash};
@@ -49,18 +49,16 @@ impl<T: Eq + Hash> Numbering<T> {
     }
 }
 
-impl<T: Eq + Hash> Numbering<T, Key> {
+impl<T: Eq + Hash, S: BuildHasher> Numbering<T, S> {
     /// No value has a number. Values are found by their hashes under this key.
-    pub fn under(alloc: Global, key: Key) -> Numbering<T, Key>
+    pub fn under(alloc: Global, key: S) -> Numbering<T, S>
         ensures { result ≡ [] }
     {
         Numbering {
             values: IndexSet::with_hasher(alloc, key),
         }
     }
-}
 
-impl<T: Eq + Hash, S: BuildHasher> Numbering<T, S> {
     /// How many values have a number.
     pub fn len(&self) -> usize
         ensures { result ≡ length self.now }
