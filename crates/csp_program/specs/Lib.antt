@@ -1,6 +1,7 @@
 pub mod Atoms
 pub mod Bound
 pub mod Depth
+pub mod Environments
 pub mod EventNumber
 pub mod EventTable
 pub mod ExactExpr

@@ -1,153 +1,169 @@
--- Substitution: the value in place of the name wherever the name is free. Below a binding of the same name nothing changes.
-use Rattle.std.specs.Prelude.{ℕ, Bool, true, false, nat_eq, if◌then◌else◌, Some, None, List, [], ◌∷◌, map}
+-- Substitution: values in place of free names. Which names get a value is a function of names. Below a binding the bound name gets none.
+use Rattle.std.specs.Prelude.{ℕ, nat_eq, if◌then◌else◌, Option, Some, None, List, [], ◌∷◌, map}
 use Rattle.csp_atoms.specs.declared.value.Value.{Value}
-use Rattle.csp_program.specs.declared.expressions.Expr.{Expr, para-Expr}
+use Rattle.csp_program.specs.Value.{Env}
+use Rattle.csp_program.specs.declared.expressions.Expr.{Expr, fold-Expr}
 use Rattle.csp_program.specs.declared.expressions.Expr.TheVariants as expr
-use Rattle.csp_program.specs.declared.expressions.Expr.TheFolds.{para-Gen, para-EventPart}
+use Rattle.csp_program.specs.declared.expressions.Expr.TheFolds.{fold-Gen, fold-EventPart}
 use Rattle.csp_program.specs.declared.expressions.Expr.TheOpen.{Expr-F, Gen-F, EventPart-F}
 use Rattle.csp_program.specs.declared.expressions.EventPart.{EventPart, roll-EventPart}
-use Rattle.csp_program.specs.declared.expressions.Gen.{Gen, out-Gen}
+use Rattle.csp_program.specs.declared.expressions.Gen.{Gen}
 use Rattle.csp_program.specs.declared.expressions.Gen.TheVariants as generator
-use Rattle.csp_program.specs.declared.networks.Net.{Net, para-Net}
+use Rattle.csp_program.specs.declared.networks.Net.{Net, fold-Net}
 use Rattle.csp_program.specs.declared.networks.Net.TheVariants as net
 use Rattle.csp_program.specs.declared.networks.Net.TheOpen.{Net-F}
 use Rattle.csp_program.specs.declared.processes.Field.{Field}
 use Rattle.csp_program.specs.declared.processes.Field.TheVariants as field
 use Rattle.csp_program.specs.declared.processes.Head.{Head}
 use Rattle.csp_program.specs.declared.processes.Head.TheVariants as head
-use Rattle.csp_program.specs.declared.processes.Proc.{Proc, para-Proc}
+use Rattle.csp_program.specs.declared.processes.Proc.{Proc, fold-Proc}
 use Rattle.csp_program.specs.declared.processes.Proc.TheVariants as proc
 use Rattle.csp_program.specs.declared.processes.Proc.TheOpen.{Proc-F}
 
--- a part as it was, and with the value put in
-abbrev pub Twice : Type 0 → Type 0
-Twice X = X × X
+-- the value of each name that gets one
+abbrev pub Given : Type 0
+Given = ℕ → Option Value
 
--- the parts as they were
-abbrev pub kept : {X : Type 0} → List (Twice X) → List X
-kept parts = map (λ part. part.0) parts
+-- the values of an environment: of two for one name the first one counts
+abbrev pub given_by : Env → Given
+given_by [] x = None
+given_by (b ∷ env) x = if nat_eq b.0 x then Some b.1 else given_by env x
 
--- the parts with the value put in
-abbrev pub changed : {X : Type 0} → List (Twice X) → List X
-changed parts = map (λ part. part.1) parts
+-- a value for one name
+abbrev pub one : ℕ → Value → Given
+one x v = given_by ((x, v) ∷ [])
 
--- a part that is put in unless the name is bound there
-abbrev pub unless_bound : {X : Type 0} → Bool → Twice X → X
-unless_bound bound part = if bound then part.0 else part.1
+-- the same values, but none for the name y
+abbrev pub without : ℕ → Given → Given
+without y given x = if nat_eq y x then None else given x
 
-abbrev pub all_unless_bound : {X : Type 0} → Bool → List (Twice X) → List X
-all_unless_bound bound parts = map (unless_bound bound) parts
+-- a part of an expression, with the values still to come
+abbrev pub Open : Type 0 → Type 0
+Open X = Given → X
 
--- whether a layer of a generator binds the name x
-abbrev pub layer_binds : {A B C : Type 0} → ℕ → Gen-F A B C → Bool
-layer_binds x (Gen-F.From y s) = nat_eq y x
-layer_binds x (Gen-F.Cond c) = false
+-- a generator, with the values still to come; and those of them that are left under it
+abbrev pub OpenGen : Type 0
+OpenGen = Open Gen × (Given → Given)
 
-abbrev pub binds : ℕ → Gen → Bool
-binds x g = layer_binds x (out-Gen g)
+-- generators from the left, each with the values that are left under those before it
+abbrev pub gens_closed : List OpenGen → Given → List Gen
+gens_closed [] given = []
+gens_closed (g ∷ gs) given = g.0 given ∷ gens_closed gs (g.1 given)
 
--- whether one of the generators binds the name x
-abbrev pub any_binds : ℕ → List Gen → Bool
-any_binds x [] = false
-any_binds x (g ∷ gs) = if binds x g then true else any_binds x gs
+-- the values that are left under generators
+abbrev pub left_under : List OpenGen → Given → Given
+left_under [] given = given
+left_under (g ∷ gs) given = left_under gs (g.1 given)
 
--- whether one of the fields of a prefix binds the name x
-abbrev pub any_gets : ℕ → List Field → Bool
-any_gets x [] = false
-any_gets x (field.Put e ∷ fields) = any_gets x fields
-any_gets x (field.Get y s ∷ fields) = if nat_eq y x then true else any_gets x fields
+abbrev pub each : {X : Type 0} → List (Open X) → Given → List X
+each parts given = map (λ part. part given) parts
 
--- generators with the value put in, up to the one that binds the name x
-abbrev pub gens_with : ℕ → List (Twice Gen) → List Gen
-gens_with x [] = []
-gens_with x (g ∷ gs) = g.1 ∷ (if binds x g.0 then kept gs else gens_with x gs)
+-- a name with the value that it gets
+abbrev pub named : ℕ → Option Value → Expr
+named x None = expr.Bound x
+named x (Some v) = expr.Lit v
 
-module _ (x : ℕ) (v : Value) where
-  abbrev pub expr_with_of_layer : Expr-F (Twice Expr) (Twice Gen) (Twice EventPart) → Expr
-  expr_with_of_layer (Expr-F.Num n) = expr.Num n
-  expr_with_of_layer (Expr-F.Truth b) = expr.Truth b
-  expr_with_of_layer (Expr-F.Const k) = expr.Const k
-  expr_with_of_layer (Expr-F.Bound y) = if nat_eq y x then expr.Lit v else expr.Bound y
-  expr_with_of_layer (Expr-F.Lit w) = expr.Lit w
-  expr_with_of_layer (Expr-F.Neg a) = expr.Neg a.1
-  expr_with_of_layer (Expr-F.Not a) = expr.Not a.1
-  expr_with_of_layer (Expr-F.Binary op a b) = expr.Binary op a.1 b.1
-  expr_with_of_layer (Expr-F.If c a b) = expr.If c.1 a.1 b.1
-  expr_with_of_layer (Expr-F.Call d args) = expr.Call d (changed args)
-  expr_with_of_layer (Expr-F.SetName d) = expr.SetName d
-  expr_with_of_layer (Expr-F.Event c fields) = expr.Event c (changed fields)
-  expr_with_of_layer (Expr-F.Display items) = expr.Display (changed items)
-  expr_with_of_layer (Expr-F.Range a b) = expr.Range a.1 b.1
-  expr_with_of_layer (Expr-F.Comp items gens) = expr.Comp (all_unless_bound (any_binds x (kept gens)) items) (gens_with x gens)
-  expr_with_of_layer (Expr-F.Product parts gens) = expr.Product (all_unless_bound (any_binds x (kept gens)) parts) (gens_with x gens)
-  expr_with_of_layer (Expr-F.SetOp op a b) = expr.SetOp op a.1 b.1
+abbrev pub expr_with_of_layer : Expr-F (Open Expr) OpenGen (Open EventPart) → Open Expr
+expr_with_of_layer (Expr-F.Num n) given = expr.Num n
+expr_with_of_layer (Expr-F.Truth b) given = expr.Truth b
+expr_with_of_layer (Expr-F.Const k) given = expr.Const k
+expr_with_of_layer (Expr-F.Bound x) given = named x (given x)
+expr_with_of_layer (Expr-F.Lit v) given = expr.Lit v
+expr_with_of_layer (Expr-F.Neg a) given = expr.Neg (a given)
+expr_with_of_layer (Expr-F.Not a) given = expr.Not (a given)
+expr_with_of_layer (Expr-F.Binary op a b) given = expr.Binary op (a given) (b given)
+expr_with_of_layer (Expr-F.If c a b) given = expr.If (c given) (a given) (b given)
+expr_with_of_layer (Expr-F.Call d args) given = expr.Call d (each args given)
+expr_with_of_layer (Expr-F.SetName d) given = expr.SetName d
+expr_with_of_layer (Expr-F.Event c fields) given = expr.Event c (each fields given)
+expr_with_of_layer (Expr-F.Display items) given = expr.Display (each items given)
+expr_with_of_layer (Expr-F.Range a b) given = expr.Range (a given) (b given)
+expr_with_of_layer (Expr-F.Comp items gens) given = expr.Comp (each items (left_under gens given)) (gens_closed gens given)
+expr_with_of_layer (Expr-F.Product parts gens) given = expr.Product (each parts (left_under gens given)) (gens_closed gens given)
+expr_with_of_layer (Expr-F.SetOp op a b) given = expr.SetOp op (a given) (b given)
 
-  abbrev pub gen_with_of_layer : Gen-F (Twice Expr) (Twice Gen) (Twice EventPart) → Gen
-  gen_with_of_layer (Gen-F.From y s) = generator.From y s.1
-  gen_with_of_layer (Gen-F.Cond c) = generator.Cond c.1
+abbrev pub gen_with_of_layer : Gen-F (Open Expr) OpenGen (Open EventPart) → OpenGen
+gen_with_of_layer (Gen-F.From y s) = (λ given. generator.From y (s given), without y)
+gen_with_of_layer (Gen-F.Cond c) = (λ given. generator.Cond (c given), λ given. given)
 
-  abbrev pub part_with_of_layer : EventPart-F (Twice Expr) (Twice Gen) (Twice EventPart) → EventPart
-  part_with_of_layer part = roll-EventPart (record { channel = part.channel; fields = changed part.fields })
+abbrev pub part_with_of_layer : EventPart-F (Open Expr) OpenGen (Open EventPart) → Open EventPart
+part_with_of_layer part given = roll-EventPart (record { channel = part.channel; fields = each part.fields given })
 
-  -- the expression with the value v in place of the free name x
-  abbrev pub expr_with : Expr → Expr
-  expr_with = para-Expr Expr Gen EventPart expr_with_of_layer gen_with_of_layer part_with_of_layer
+-- an expression with the values in place of its free names
+abbrev pub expr_with : Given → Expr → Expr
+expr_with given e = fold-Expr (Open Expr) OpenGen (Open EventPart) expr_with_of_layer gen_with_of_layer part_with_of_layer e given
 
-  abbrev pub gen_with : Gen → Gen
-  gen_with = para-Gen Expr Gen EventPart expr_with_of_layer gen_with_of_layer part_with_of_layer
+abbrev pub part_with : Given → EventPart → EventPart
+part_with given part = fold-EventPart (Open Expr) OpenGen (Open EventPart) expr_with_of_layer gen_with_of_layer part_with_of_layer part given
 
-  abbrev pub part_with : EventPart → EventPart
-  part_with = para-EventPart Expr Gen EventPart expr_with_of_layer gen_with_of_layer part_with_of_layer
+abbrev pub open_gen : Gen → OpenGen
+open_gen = fold-Gen (Open Expr) OpenGen (Open EventPart) expr_with_of_layer gen_with_of_layer part_with_of_layer
 
-  abbrev pub head_with : Head → Head
-  head_with (head.Channel c) = head.Channel c
-  head_with (head.Bound y) = if nat_eq y x then head.Put v else head.Bound y
-  head_with (head.Put w) = head.Put w
+abbrev pub gens_with : Given → List Gen → List Gen
+gens_with given gens = gens_closed (map open_gen gens) given
 
-  -- the fields of a prefix with the value put in, up to the one that binds the name x
-  abbrev pub fields_with : List Field → List Field
-  fields_with [] = []
-  fields_with (field.Put e ∷ fields) = field.Put (expr_with e) ∷ fields_with fields
-  fields_with (field.Get y (Some s) ∷ fields) = field.Get y (Some (expr_with s)) ∷ (if nat_eq y x then fields else fields_with fields)
-  fields_with (field.Get y None ∷ fields) = field.Get y None ∷ (if nat_eq y x then fields else fields_with fields)
+-- the values that are left under the generators of a renaming
+abbrev pub past : List Gen → Given → Given
+past gens = left_under (map open_gen gens)
 
-  abbrev pub pair_with : EventPart × EventPart → EventPart × EventPart
-  pair_with pair = (part_with pair.0, part_with pair.1)
+abbrev pub pair_with : Given → EventPart × EventPart → EventPart × EventPart
+pair_with given pair = (part_with given pair.0, part_with given pair.1)
 
-  abbrev pub gen_twice : Gen → Twice Gen
-  gen_twice g = (g, gen_with g)
+abbrev pub head_named : ℕ → Option Value → Head
+head_named x None = head.Bound x
+head_named x (Some v) = head.Put v
 
-  abbrev pub pair_twice : EventPart × EventPart → Twice (EventPart × EventPart)
-  pair_twice pair = (pair, pair_with pair)
+abbrev pub head_with : Given → Head → Head
+head_with given (head.Channel c) = head.Channel c
+head_with given (head.Bound x) = head_named x (given x)
+head_with given (head.Put v) = head.Put v
 
-  abbrev pub proc_with_of_layer : Proc-F (Twice Proc) → Proc
-  proc_with_of_layer Proc-F.Stop = proc.Stop
-  proc_with_of_layer (Proc-F.Prefix h fields p) = proc.Prefix (head_with h) (fields_with fields) (unless_bound (any_gets x fields) p)
-  proc_with_of_layer (Proc-F.Guard c p) = proc.Guard (expr_with c) p.1
-  proc_with_of_layer (Proc-F.If c p q) = proc.If (expr_with c) p.1 q.1
-  proc_with_of_layer (Proc-F.External ps) = proc.External (changed ps)
-  proc_with_of_layer (Proc-F.Internal ps) = proc.Internal (changed ps)
-  proc_with_of_layer (Proc-F.EachExternal y s p) = proc.EachExternal y (expr_with s) (unless_bound (nat_eq y x) p)
-  proc_with_of_layer (Proc-F.EachInternal y s p) = proc.EachInternal y (expr_with s) (unless_bound (nat_eq y x) p)
-  proc_with_of_layer (Proc-F.Hide p s) = proc.Hide p.1 (expr_with s)
-  proc_with_of_layer (Proc-F.Rename p pairs gens) =
-      proc.Rename p.1 (all_unless_bound (any_binds x gens) (map pair_twice pairs)) (gens_with x (map gen_twice gens))
-  proc_with_of_layer (Proc-F.Call d args) = proc.Call d (map expr_with args)
-  proc_with_of_layer Proc-F.Skip = proc.Skip
-  proc_with_of_layer (Proc-F.Seq p q) = proc.Seq p.1 q.1
-  proc_with_of_layer Proc-F.Ended = proc.Ended
+abbrev pub field_with : Given → Field → Field
+field_with given (field.Put e) = field.Put (expr_with given e)
+field_with given (field.Get x None) = field.Get x None
+field_with given (field.Get x (Some s)) = field.Get x (Some (expr_with given s))
 
-  -- the process with the value v in place of the free name x
-  abbrev pub proc_with : Proc → Proc
-  proc_with = para-Proc Proc proc_with_of_layer
+-- the values that are left after a field
+abbrev pub after : Field → Given → Given
+after (field.Put e) given = given
+after (field.Get x s) given = without x given
 
-  abbrev pub net_with_of_layer : Net-F (Twice Net) → Net
-  net_with_of_layer (Net-F.Leaf p) = net.Leaf (proc_with p)
-  net_with_of_layer (Net-F.Call d args) = net.Call d (map expr_with args)
-  net_with_of_layer (Net-F.If c n m) = net.If (expr_with c) n.1 m.1
-  net_with_of_layer (Net-F.Pair n a b m) = net.Pair n.1 (expr_with a) (expr_with b) m.1
-  net_with_of_layer (Net-F.Each y s a n) = net.Each y (expr_with s) (if nat_eq y x then a else expr_with a) (unless_bound (nat_eq y x) n)
+-- fields from the left, each with the values that are left after those before it
+abbrev pub fields_with : Given → List Field → List Field
+fields_with given [] = []
+fields_with given (f ∷ fields) = field_with given f ∷ fields_with (after f given) fields
 
-  -- the network with the value v in place of the free name x
-  abbrev pub net_with : Net → Net
-  net_with = para-Net Net net_with_of_layer
+abbrev pub after_all : List Field → Given → Given
+after_all [] given = given
+after_all (f ∷ fields) given = after_all fields (after f given)
+
+abbrev pub proc_with_of_layer : Proc-F (Open Proc) → Open Proc
+proc_with_of_layer Proc-F.Stop given = proc.Stop
+proc_with_of_layer (Proc-F.Prefix h fields p) given = proc.Prefix (head_with given h) (fields_with given fields) (p (after_all fields given))
+proc_with_of_layer (Proc-F.Guard c p) given = proc.Guard (expr_with given c) (p given)
+proc_with_of_layer (Proc-F.If c p q) given = proc.If (expr_with given c) (p given) (q given)
+proc_with_of_layer (Proc-F.External ps) given = proc.External (each ps given)
+proc_with_of_layer (Proc-F.Internal ps) given = proc.Internal (each ps given)
+proc_with_of_layer (Proc-F.EachExternal y s p) given = proc.EachExternal y (expr_with given s) (p (without y given))
+proc_with_of_layer (Proc-F.EachInternal y s p) given = proc.EachInternal y (expr_with given s) (p (without y given))
+proc_with_of_layer (Proc-F.Hide p s) given = proc.Hide (p given) (expr_with given s)
+proc_with_of_layer (Proc-F.Rename p pairs gens) given = proc.Rename (p given) (map (pair_with (past gens given)) pairs) (gens_with given gens)
+proc_with_of_layer (Proc-F.Call d args) given = proc.Call d (map (expr_with given) args)
+proc_with_of_layer Proc-F.Skip given = proc.Skip
+proc_with_of_layer (Proc-F.Seq p q) given = proc.Seq (p given) (q given)
+proc_with_of_layer Proc-F.Ended given = proc.Ended
+
+-- a process with the values in place of its free names
+abbrev pub proc_with : Given → Proc → Proc
+proc_with given t = fold-Proc (Open Proc) proc_with_of_layer t given
+
+abbrev pub net_with_of_layer : Net-F (Open Net) → Open Net
+net_with_of_layer (Net-F.Leaf p) given = net.Leaf (proc_with given p)
+net_with_of_layer (Net-F.Call d args) given = net.Call d (map (expr_with given) args)
+net_with_of_layer (Net-F.If c n m) given = net.If (expr_with given c) (n given) (m given)
+net_with_of_layer (Net-F.Pair n a b m) given = net.Pair (n given) (expr_with given a) (expr_with given b) (m given)
+net_with_of_layer (Net-F.Each y s a n) given = net.Each y (expr_with given s) (expr_with (without y given) a) (n (without y given))
+
+-- a network with the values in place of its free names
+abbrev pub net_with : Given → Net → Net
+net_with given n = fold-Net (Open Net) net_with_of_layer n given

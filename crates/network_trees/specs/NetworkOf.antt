@@ -11,7 +11,8 @@ use Rattle.std.specs.Prelude.{ℕ, zero, suc, ◌+◌, nat_lt, if◌then◌else�
 use Rattle.std.specs.List.{range_with_len}
 use Rattle.dl_limits.specs.declared.TheConstants.{MOST_COMPONENTS, MOST_NETWORK_DEPTH}
 use Rattle.csp_program.specs.Outcome.{Outcome}
-use Rattle.csp_program.specs.Substitution.{expr_with, net_with}
+use Rattle.csp_program.specs.Substitution.{expr_with, given_by, net_with, one}
+use Rattle.csp_program.specs.Value.{bound_to}
 use Rattle.csp_tables.specs.Network.{Component, Tree, Operands, leaves}
 use Rattle.csp_tables.specs.Network.Tree.{leaf, parallel}
 use Rattle.csp_tables.specs.Network.Operands.{none, operand}
@@ -59,14 +60,9 @@ agreed k tree (Some e) = Err (fault.BadNesting k (length (leaves tree)) e)
 abbrev pub nested : ℕ → List ℕ → Tree Proc → Walked (Tree Proc)
 nested k alphabet tree = agreed k tree (odd_event alphabet (joint (leaves tree)))
 
--- a network with values in place of names, one after another
-abbrev pub network_with : List ℕ → List Value → Net → Net
-network_with (x ∷ xs) (v ∷ vs) n = network_with xs vs (net_with x v n)
-network_with _ _ n = n
-
 -- the body of a definition of a network, with the values of the arguments in place of the parameters
 abbrev pub network_in : List ℕ → Body → List Value → Outcome Net
-network_in params (body.Network n) vs = Ok (network_with params vs n)
+network_in params (body.Network n) vs = Ok (net_with (given_by (bound_to params vs)) n)
 network_in _ _ _ = Err Kind
 
 abbrev pub network_called : Option Def → List Value → Outcome Net
@@ -85,7 +81,7 @@ module _ (p : Content) (below : ℕ → List ℕ → Net → Walked (Tree Proc))
   abbrev pub each_operand : ℕ → Expr → Net → List Atom → ℕ → Walked (Operands Proc)
   each_operand x a n [] k = Ok none
   each_operand x a n (v ∷ vs) k =
-      with_value (events_in p (expr_with x (One v) a)) (λ alphabet. operand_first k alphabet (net_with x (One v) n) (each_operand x a n vs))
+      with_value (events_in p (expr_with (one x (One v)) a)) (λ alphabet. operand_first k alphabet (net_with (one x (One v)) n) (each_operand x a n vs))
 
   abbrev pub two_operands : ℕ → List ℕ → Net → List ℕ → Net → Walked (Operands Proc)
   two_operands k left n right m = operand_first k left n (λ j. operand_first j right m (λ _. Ok none))

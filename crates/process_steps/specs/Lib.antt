@@ -1,7 +1,9 @@
 pub mod ComponentStep
+pub mod LacksNone
 pub mod Laws
 pub mod Needed
 pub mod Prefix
 pub mod Renaming
 pub mod Step
 pub mod StepList
+pub mod Ways

@@ -2,7 +2,8 @@
 use Rattle.std.specs.Prelude.{ℕ, ◌+◌, Bool, Option, Some, None, Ok, Err, List, [], ◌∷◌, ◌++◌}
 use Rattle.csp_atoms.specs.Sets.{event_numbers}
 use Rattle.csp_program.specs.Outcome.{Outcome, and_then}
-use Rattle.csp_program.specs.Value.{as_set, as_truth, value_of}
+use Rattle.csp_program.specs.Substitution.{given_by, proc_with}
+use Rattle.csp_program.specs.Value.{as_set, as_truth, bound_to, value_of}
 use Rattle.csp_atoms.specs.declared.atom.Atom.{Atom}
 use Rattle.csp_atoms.specs.declared.value.Value.{Value}
 use Rattle.csp_program.specs.declared.expressions.Expr.{Expr}
@@ -12,7 +13,6 @@ use Rattle.csp_program.specs.declared.programs.Body.{Body}
 use Rattle.csp_program.specs.declared.programs.Body.TheVariants as body
 use Rattle.csp_program.specs.declared.programs.Content.{Content}
 use Rattle.csp_program.specs.declared.programs.Def.{Def}
-use Rattle.substitution.specs.Several.{with_values}
 
 -- what each member of a list comes to, from the left
 abbrev pub all_outcomes : {A B : Type 0} → (A → Outcome B) → List A → Outcome (List B)
@@ -46,7 +46,7 @@ arguments_in p args = all_outcomes (value_of p) args
 
 -- the body of a definition of a process, with the values of the arguments in place of the parameters
 abbrev pub process_of : List ℕ → Body → List Value → Outcome Proc
-process_of params (body.Process q) vs = Ok (with_values params vs q)
+process_of params (body.Process q) vs = Ok (proc_with (given_by (bound_to params vs)) q)
 process_of _ _ _ = Err Kind
 
 abbrev pub called : Option Def → List Value → Outcome Proc

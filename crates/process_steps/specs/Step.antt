@@ -2,18 +2,20 @@
 -- A call keeps its arguments as they are written until it is entered.
 use Rattle.std.specs.Prelude.{◌≡◌, ℕ, true, false, Some, Ok, List, [], map, slice_get, slice_set}
 use Rattle.csp_base.specs.Members.{has}
-use Rattle.csp_program.specs.Substitution.{proc_with}
+use Rattle.csp_program.specs.Substitution.{given_by, one, proc_with}
+use Rattle.csp_program.specs.Value.{Env, sets_of}
 use Rattle.process_steps.specs.Needed.{arguments_in, called, events_in, set_in, truth_in}
-use Rattle.process_steps.specs.Prefix.{Choice, Fills, of_head}
+use Rattle.process_steps.specs.Prefix.{Fills, event_of}
 use Rattle.process_steps.specs.Renaming.{Renamed, images, renaming_in}
 use Rattle.csp_atoms.specs.declared.atom.Atom.{Atom}
+use Rattle.csp_atoms.specs.declared.atom.Atom.TheVariants as atom
 use Rattle.csp_atoms.specs.declared.value.Value.{Value}
 use Rattle.csp_atoms.specs.declared.value.Value.TheVariants.{One}
 use Rattle.csp_program.specs.declared.expressions.EventPart.{EventPart}
 use Rattle.csp_program.specs.declared.expressions.Expr.{Expr}
 use Rattle.csp_program.specs.declared.expressions.Gen.{Gen}
 use Rattle.csp_program.specs.declared.processes.Field.{Field}
-use Rattle.csp_program.specs.declared.processes.Head.{Head}
+use Rattle.csp_program.specs.declared.processes.Head.TheVariants as head
 use Rattle.csp_program.specs.declared.processes.Proc.{Proc}
 use Rattle.csp_program.specs.declared.processes.Proc.TheVariants as proc
 use Rattle.csp_program.specs.declared.programs.Content.{Content}
@@ -22,15 +24,17 @@ use Rattle.process_steps.specs.declared.label.Label.TheVariants.{Silent, Visible
 
 -- the process with each of the values in place of the name x
 abbrev pub each_put : ℕ → List Atom → Proc → List Proc
-each_put x atoms q = map (λ a. proc_with x (One a) q) atoms
+each_put x atoms q = map (λ a. proc_with (one x (One a)) q) atoms
 
 -- STOP and a process that has ended have no step: no case below is theirs.
 pub data Step (p : Content) : Proc → Label → Proc → Type 0 where
   skip : Step p proc.Skip Tick proc.Ended
-  -- an event for each way to fill the fields
-  prefix : (h : Head) (fields : List Field) (q r : Proc) (choice : Choice) (row : List Atom) →
-      of_head p h ≡ Ok choice → Fills p choice.sets fields q [] row r →
-      Step p (proc.Prefix h fields q) (Visible (choice.event row)) r
+  -- an event for each way to fill the fields; the values of the inputs go on
+  prefix : (c : ℕ) (fields : List Field) (q : Proc) (sets : List (List Atom)) (env : Env) (row : List Atom) →
+      sets_of (slice_get p.channels c) ≡ Some sets → Fills p sets fields [] [] env row →
+      Step p (proc.Prefix (head.Channel c) fields q) (Visible (event_of p c row)) (proc_with (given_by env) q)
+  -- a whole event in place of a channel has no field
+  event : (e : ℕ) (q : Proc) → Step p (proc.Prefix (head.Put (One (atom.Event e))) [] q) (Visible e) q
   -- the body of the definition, with the values of the arguments
   call : (d : ℕ) (args : List Expr) (vs : List Value) (q : Proc) →
       arguments_in p args ≡ Ok vs → called (slice_get p.defs d) vs ≡ Ok q →

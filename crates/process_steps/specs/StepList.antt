@@ -5,8 +5,9 @@ use Rattle.csp_base.specs.Members.{has}
 use Rattle.csp_program.specs.Depth.{proc_depth}
 use Rattle.csp_program.specs.Lists.{joined}
 use Rattle.csp_program.specs.Outcome.{Outcome, and_then}
+use Rattle.csp_program.specs.Substitution.{given_by, proc_with}
 use Rattle.process_steps.specs.Needed.{each_joined, arguments_in, called, events_in, set_in, truth_in}
-use Rattle.process_steps.specs.Prefix.{of_head, ways_to_fill}
+use Rattle.process_steps.specs.Ways.{event_among, of_head, sets_among, ways_to_fill}
 use Rattle.process_steps.specs.Renaming.{Renamed, images, renaming_in}
 use Rattle.process_steps.specs.Step.{each_put}
 use Rattle.csp_program.specs.declared.expressions.EventPart.{EventPart}
@@ -71,7 +72,8 @@ module _ (p : Content) (below : Proc → Outcome (List Move)) where
   abbrev pub steps_of_layer : Proc-F Proc → Outcome (List Move)
   steps_of_layer Proc-F.Stop = Ok []
   steps_of_layer (Proc-F.Prefix h fields q) =
-      and_then (of_head p h) (λ choice. and_then (ways_to_fill p choice.sets fields q []) (λ ways. Ok (map (λ w. (Visible (choice.event w.0), w.1)) ways)))
+      and_then (of_head p h) (λ among. and_then (ways_to_fill p (sets_among among) fields [] []) (λ ways.
+      Ok (map (λ w. (Visible (event_among p among w.1), proc_with (given_by w.0) q)) ways)))
   steps_of_layer (Proc-F.Guard c q) = and_then (truth_in p c) (λ b. if b then below q else Ok [])
   steps_of_layer (Proc-F.If c q r) = and_then (truth_in p c) (λ b. if b then below q else below r)
   steps_of_layer (Proc-F.External qs) = steps_of_choice qs

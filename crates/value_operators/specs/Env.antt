@@ -1,16 +1,10 @@
 -- The names that the evaluator keeps: the parameters of a definition with the values of its arguments, and over them the names that generators
 -- bind, the last one bound at the end.
 use Rattle.std.specs.Prelude.{◌≡◌, ℕ, ◌+◌, ◌<◌, List, [], ◌∷◌, ◌++◌, length, get_or}
+pub use Rattle.csp_program.specs.Environments.{with_bound}
 use Rattle.csp_program.specs.Value.{Env, bound_to}
-use Rattle.csp_atoms.specs.declared.atom.Atom.{Atom}
 use Rattle.csp_atoms.specs.declared.value.Value.{Value}
-use Rattle.csp_atoms.specs.declared.value.Value.TheVariants.{One}
 use Rattle.value_operators.specs.declared.names.Names.{Names}
-
--- the names of the list over others
-abbrev pub with_bound : List (ℕ × Atom) → Env → Env
-with_bound [] env = env
-with_bound (b ∷ bs) env = with_bound bs ((b.0, One b.1) ∷ env)
 
 -- whether the number of each parameter is its place
 abbrev pub ArePlaces : List ℕ → Type 0
