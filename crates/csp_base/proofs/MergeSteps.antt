@@ -1,6 +1,6 @@
 -- The walk over two lists of blocks: what is done and what is left make the operation of both.
-use Rattle.std.proofs.Common.{◌≡◌, ℕ, zero, suc, ◌+◌, ◌-◌, ◌*◌, ◌/◌, ◌%◌, ◌^◌, ◌<◌, ◌≤◌, true, false, not, cond, ◌&&◌, ◌||◌, eqb, List, [], ◌∷◌, ◌++◌, length, min, max, refl, sym, ap, inl, inr, le_refl, ◌∙◌, subst, arith}
-use Rattle.std.proofs.lemmas.Bool.{cases_eq, cases_lt, eq-eqb, ne_eqb, lt-ltb, le-ltb}
+use Rattle.std.proofs.Common.{◌≡◌, ℕ, zero, suc, ◌+◌, ◌-◌, ◌*◌, ◌/◌, ◌%◌, ◌^◌, ◌<◌, ◌≤◌, true, false, not, cond, ◌&&◌, ◌||◌, eqb, List, [], ◌∷◌, ◌++◌, length, drop, get_or, min, max, refl, sym, ap, inl, inr, le_refl, ◌∙◌, subst, arith}
+use Rattle.std.proofs.lemmas.Bool.{false≢true, cases_eq, cases_lt, cases_order, eq-eqb, ne_eqb, lt-ltb, le-ltb}
 use Rattle.std.proofs.lemmas.Nat.Bits.{bit_at_and, bit_at_or, bit_at_not, bit_at-lt, bit_at-trailing_zeros}
 use Rattle.std.proofs.lemmas.Nat.{or_lt, and_le_l}
 use Rattle.std.specs.Int.{bit_at, bit_not, trailing_zeros, w64}
@@ -203,25 +203,55 @@ member_of_word op ps qs b r s ne =
           (sym (has_bit-combined_of op (word_at ps b) (word_at qs b) bit.0 (word_at-lt 0 qs b s) bit.1) ∙ bit.2),
     )
 
--- a word of the operation that is not 0, at the least number, where none was found before
-pub IsMerging-found : (op : SetOp) (left right ps qs : List (ℕ × ℕ)) → AreBlocksFrom 0 left → AreBlocksFrom 0 right → IsMerging op left right [] ps qs → 0 < length ps + length qs
-    → (combined_of op (first_word ps (least_of ps qs)) (first_word qs (least_of ps qs)) ≡ 0 → ⊥)
+-- ---- the walk over the left alone, for an operation that keeps nothing of the right alone
+
+combined_of-right : (op : SetOp) (w : ℕ) → keeps op false true ≡ false → combined_of op 0 w ≡ 0
+combined_of-right Union w o = absurd (false≢true (sym o))
+combined_of-right Inter w o = omega (arith, and_le_l 0 w)
+combined_of-right Diff w o = omega (arith, and_le_l 0 (bit_not w64 w))
+
+-- the words at the first block of the left, where `rs` is what is left of the right from its number on
+front_words : (op : SetOp) (p : ℕ × ℕ) (ps qs rs : List (ℕ × ℕ)) → AreBlocksFrom (p.0 + 1) ps → AreBlocksFrom p.0 rs → ((b : ℕ) → p.0 ≤ b → word_at rs b ≡ word_at qs b)
+    → combined_of op (word_at (p ∷ ps) p.0) (word_at qs p.0) ≡ combined_of op p.1 (first_word rs p.0)
+front_words op p ps qs rs r t same =
+    ap (λ w. combined_of op w (word_at qs p.0)) (word_at_first p ps r) ∙ ap (combined_of op p.1) (sym (first_word-word_at p.0 rs t ∙ same p.0 (le_refl p.0)))
+
+pub IsMerging-found : (op : SetOp) (left right ps qs rs : List (ℕ × ℕ)) (d : ℕ × ℕ) → AreBlocksFrom 0 left → AreBlocksFrom 0 right → IsMerging op left right [] ps qs → 0 < length ps
+    → AreBlocksFrom (get_or ps 0 d).0 rs → ((b : ℕ) → (get_or ps 0 d).0 ≤ b → word_at rs b ≡ word_at qs b)
+    → (combined_of op (get_or ps 0 d).1 (first_word rs (get_or ps 0 d).0) ≡ 0 → ⊥)
     → (x : ℕ) × (keeps op (has (events_of left) x) (has (events_of right) x) ≡ true)
-IsMerging-found op left right ps qs r s m l ne =
-    let n : ℕ = least_of ps qs in
-    let ahead = least_of-ahead 0 ps qs l m.first_ahead m.second_ahead in
-    member_of_word op left right n r s
-    (λ z. ne (ap (λ w. combined_of op w (first_word qs n)) (first_word-word_at n ps ahead.2) ∙ ap (combined_of op (word_at ps n)) (first_word-word_at n qs ahead.3)
-    ∙ (let h : 0 + combined_of op (word_at ps n) (word_at qs n) ≡ combined_of op (word_at left n) (word_at right n) = m.words n in omega arith)))
+IsMerging-found op left right [] qs rs d r s m l t same ne = absurd (omega arith)
+IsMerging-found op left right (p ∷ ps) qs rs d r s m l t same ne =
+    member_of_word op left right p.0 r s
+    (λ z. ne (sym (front_words op p ps qs rs m.first_ahead.4 t same) ∙ (let h : 0 + combined_of op (word_at (p ∷ ps) p.0) (word_at qs p.0) ≡ combined_of op (word_at left p.0) (word_at right p.0) = m.words p.0 in omega arith)))
 
-pub IsMerging-next : (op : SetOp) (left right ps qs : List (ℕ × ℕ)) → IsMerging op left right [] ps qs → 0 < length ps + length qs
-    → combined_of op (first_word ps (least_of ps qs)) (first_word qs (least_of ps qs)) ≡ 0
-    → IsMerging op left right [] (rest_after ps (least_of ps qs)) (rest_after qs (least_of ps qs))
-IsMerging-next op left right ps qs m l z =
-    subst (λ out. IsMerging op left right out (rest_after ps (least_of ps qs)) (rest_after qs (least_of ps qs)))
-    (ap (λ b. cond b [] ((least_of ps qs, combined_of op (first_word ps (least_of ps qs)) (first_word qs (least_of ps qs))) ∷ [])) (eq-eqb _ 0 z))
-    (IsMerging-step op left right [] ps qs m l)
+pub IsMerging-next : (op : SetOp) (left right ps qs rs : List (ℕ × ℕ)) (d : ℕ × ℕ) → keeps op false true ≡ false → IsMerging op left right [] ps qs → 0 < length ps
+    → AreBlocksFrom (get_or ps 0 d).0 rs → ((b : ℕ) → (get_or ps 0 d).0 ≤ b → word_at rs b ≡ word_at qs b)
+    → combined_of op (get_or ps 0 d).1 (first_word rs (get_or ps 0 d).0) ≡ 0
+    → IsMerging op left right [] (drop 1 ps) (rest_after rs (get_or ps 0 d).0)
+IsMerging-next op left right [] qs rs d o m l t same z = absurd (omega arith)
+IsMerging-next op left right (p ∷ ps) qs rs d o m l t same z = record {
+  done = tt;
+  first_ahead = AreBlocksFrom-weaken 0 (p.0 + 1) ps (omega arith) m.first_ahead.4;
+  second_ahead = AreBlocksFrom-weaken 0 (p.0 + 1) (rest_after rs p.0) (omega arith) (AreBlocksFrom-rest_after p.0 rs t);
+  words = λ b. ap (λ w. 0 + w) (same_word b) ∙ m.words b;
+}
+  where
+    same_word : (b : ℕ) → combined_of op (word_at ps b) (word_at (rest_after rs p.0) b) ≡ combined_of op (word_at (p ∷ ps) b) (word_at qs b)
+    same_word b =
+        elim (cases_order p.0 b) [
+          | inl e ↦ subst (λ n. combined_of op (word_at ps n) (word_at (rest_after rs p.0) n) ≡ combined_of op (word_at (p ∷ ps) n) (word_at qs n)) e
+              (ap (λ w. combined_of op w (word_at (rest_after rs p.0) p.0)) (word_at_below (p.0 + 1) ps p.0 m.first_ahead.4 (omega arith)) ∙ combined_of-right op (word_at (rest_after rs p.0) p.0) o
+              ∙ sym (front_words op p ps qs rs m.first_ahead.4 t same ∙ z))
+          | inr h ↦
+              elim h [
+                | inl h ↦ rw (word_at-rest_after p.0 rs b (λ e. omega arith), same b (omega arith), word_at_later p ps b (λ e. omega arith)) refl
+                | inr h ↦ rw (word_at_later p ps b (λ e. omega arith), word_at_below (p.0 + 1) ps b m.first_ahead.4 (omega arith), combined_of-right op (word_at (rest_after rs p.0) b) o, combined_of-right op (word_at qs b) o) refl
+              ]
+        ]
 
-pub IsMerging-none : (op : SetOp) (left right ps qs : List (ℕ × ℕ)) → AreBlocksFrom 0 left → AreBlocksFrom 0 right → IsMerging op left right [] ps qs → length ps + length qs ≡ 0
+pub IsMerging-none : (op : SetOp) (left right ps qs : List (ℕ × ℕ)) → keeps op false true ≡ false → AreBlocksFrom 0 left → AreBlocksFrom 0 right → IsMerging op left right [] ps qs → length ps ≡ 0
     → (x : ℕ) → keeps op (has (events_of left) x) (has (events_of right) x) ≡ false
-IsMerging-none op left right ps qs r s m l x = sym (IsMerging-members op left right [] ps qs r s m l x)
+IsMerging-none op left right [] qs o r s m l x =
+    sym (keeps-members op left right [] r s tt (λ b. let h : 0 + combined_of op 0 (word_at qs b) ≡ combined_of op (word_at left b) (word_at right b) = m.words b in omega (arith, h, combined_of-right op (word_at qs b) o)) x)
+IsMerging-none op left right (p ∷ ps) qs o r s m l x = absurd (omega arith)

@@ -100,49 +100,6 @@ pub(crate) fn merged(
     Ok(made)
 }
 
-/// Whether the operation on both has a member: a walk over both that ends at the first.
-fn gives_any(operation: SetOp, left: &[(u32, u64)], right: &[(u32, u64)]) -> bool
-    requires left_blocks { AreBlocks left.now }
-    requires right_blocks { AreBlocks right.now }
-    ensures found { OnTrue result ((x : ℕ) × (keeps operation (has (events_of left.now) x) (has (events_of right.now) x) ≡ true)) }
-    ensures none { OnFalse result ((x : ℕ) → keeps operation (has (events_of left.now) x) (has (events_of right.now) x) ≡ false) }
-{
-    let mut first = left;
-    let mut second = right;
-    while first.len() + second.len() > 0 {
-        let number = least_number(first, second);
-        let word = combined(
-            operation,
-            word_at_front(first, number),
-            word_at_front(second, number),
-        );
-        if word != 0 {
-            return true;
-        }
-        first = past_front(first, number);
-        second = past_front(second, number);
-    }
-    false
-}
-
-/// Whether each event of the first is one of the second.
-pub(crate) fn is_subset(left: &[(u32, u64)], right: &[(u32, u64)]) -> bool
-    requires left_blocks { AreBlocks left.now }
-    requires right_blocks { AreBlocks right.now }
-    ensures { result ≡ is_subset_of (events_of left.now) (events_of right.now) }
-{
-    !gives_any(SetOp::Diff, left, right)
-}
-
-/// Whether an event of the first is one of the second.
-pub(crate) fn meets(left: &[(u32, u64)], right: &[(u32, u64)]) -> bool
-    requires left_blocks { AreBlocks left.now }
-    requires right_blocks { AreBlocks right.now }
-    ensures { result ≡ meets_of (events_of left.now) (events_of right.now) }
-{
-    gives_any(SetOp::Inter, left, right)
-}
-
 /// The first place whose block has that number or a higher one, by binary search.
 fn place_of(blocks: &[(u32, u64)], number: u32) -> usize
     requires { AreBlocks blocks.now }
@@ -171,6 +128,61 @@ fn blocks_from(blocks: &[(u32, u64)], number: u32) -> &[(u32, u64)]
 {
     let place = place_of(blocks, number);
     &blocks[place..]
+}
+
+/// The blocks from that number on, where the front is often at it or just below.
+fn ahead(blocks: &[(u32, u64)], number: u32) -> &[(u32, u64)]
+    requires { AreBlocks blocks.now }
+    ensures after { AreBlocksFrom number result.now }
+    ensures words { (b : ℕ) → number ≤ b → word_at result.now b ≡ word_at blocks.now b }
+{
+    if blocks.is_empty() || number <= blocks[0].0 {
+        return blocks;
+    }
+    if blocks.len() == 1 || number <= blocks[1].0 {
+        return &blocks[1..];
+    }
+    blocks_from(blocks, number)
+}
+
+/// Whether an operation that keeps nothing of the right alone has a member: a walk over the left that ends at the first.
+fn gives_any(operation: SetOp, left: &[(u32, u64)], right: &[(u32, u64)]) -> bool
+    requires of_left { keeps operation false true ≡ false }
+    requires left_blocks { AreBlocks left.now }
+    requires right_blocks { AreBlocks right.now }
+    ensures found { OnTrue result ((x : ℕ) × (keeps operation (has (events_of left.now) x) (has (events_of right.now) x) ≡ true)) }
+    ensures none { OnFalse result ((x : ℕ) → keeps operation (has (events_of left.now) x) (has (events_of right.now) x) ≡ false) }
+{
+    let mut first = left;
+    let mut second = right;
+    while !first.is_empty() {
+        let number = first[0].0;
+        second = ahead(second, number);
+        if combined(operation, first[0].1, word_at_front(second, number)) != 0 {
+            return true;
+        }
+        first = &first[1..];
+        second = past_front(second, number);
+    }
+    false
+}
+
+/// Whether each event of the first is one of the second.
+pub(crate) fn is_subset(left: &[(u32, u64)], right: &[(u32, u64)]) -> bool
+    requires left_blocks { AreBlocks left.now }
+    requires right_blocks { AreBlocks right.now }
+    ensures { result ≡ is_subset_of (events_of left.now) (events_of right.now) }
+{
+    !gives_any(SetOp::Diff, left, right)
+}
+
+/// Whether an event of the first is one of the second.
+pub(crate) fn meets(left: &[(u32, u64)], right: &[(u32, u64)]) -> bool
+    requires left_blocks { AreBlocks left.now }
+    requires right_blocks { AreBlocks right.now }
+    ensures { result ≡ meets_of (events_of left.now) (events_of right.now) }
+{
+    gives_any(SetOp::Inter, left, right)
 }
 
 /// Whether the event is a member.
