@@ -107,10 +107,15 @@ fn listed_at<'a>(names: &[u32], values: &'a [Value], first: u32, name: u32) -> O
 fn listed_first<'a>(names: &[u32], values: &'a [Value], name: u32) -> Option<&'a Value>
     ensures { option_copied result ≡ given_by (bound_to names.now values.now) name }
 {
-    for (place, other) in names.iter().enumerate() {
+    let mut names = names;
+    let mut values = values;
+    while let Some((other, other_names)) = names.split_first() {
+        let (value, other_values) = values.split_first()?;
         if *other == name {
-            return item_at(values, place);
+            return Some(value);
         }
+        names = other_names;
+        values = other_values;
     }
     None
 }
