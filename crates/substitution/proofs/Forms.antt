@@ -22,9 +22,9 @@ use Rattle.csp_program.specs.declared.processes.Proc.TheVariants as proc
 use Rattle.csp_program.specs.declared.processes.Proc.TheViews.{roll-Proc}
 
 -- parts with the same values
-each_made : {X : Type 0} (of_each : X → Open X) (given : Given) (xs : List X) → each (map of_each xs) given ≡ map (λ x. of_each x given) xs
-each_made of_each given [] = refl
-each_made of_each given (x ∷ xs) = λ i. of_each x given ∷ each_made of_each given xs i
+each_made : {X : Type 0} (open : X → Open X) (given : Given) (xs : List X) → each (map open xs) given ≡ map (λ x. open x given) xs
+each_made open given [] = refl
+each_made open given (x ∷ xs) = λ i. open x given ∷ each_made open given xs i
 
 -- ---- expressions
 
@@ -34,7 +34,7 @@ open_expr e given = expr_with given e
 abbrev open_part : EventPart → Open EventPart
 open_part part given = part_with given part
 
-abbrev named_form : ℕ → Option Value → Expr-F Expr Gen EventPart
+abbrev pub named_form : ℕ → Option Value → Expr-F Expr Gen EventPart
 named_form x None = Expr-F.Bound x
 named_form x (Some v) = Expr-F.Lit v
 
@@ -145,8 +145,28 @@ open_gen-From y s = ap open_gen (sym (generator.rolls-From y s)) ∙ gen_made (G
 pub open_gen-Cond : (c : Expr) → open_gen (generator.Cond c) ≡ (λ given. generator.Cond (expr_with given c), λ given. given)
 open_gen-Cond c = ap open_gen (sym (generator.rolls-Cond c)) ∙ gen_made (Gen-F.Cond c)
 
-part_is : (given : Given) (d : EventPart-F Expr Gen EventPart)
-    → part_with given (roll-EventPart d) ≡ roll-EventPart (record { channel = d.channel; fields = map (expr_with given) d.fields })
+abbrev pub gen_form : Given → Gen-F Expr Gen EventPart → Gen-F Expr Gen EventPart
+gen_form given (Gen-F.From y s) = Gen-F.From y (expr_with given s)
+gen_form given (Gen-F.Cond c) = Gen-F.Cond (expr_with given c)
+
+pub gen_is : (given : Given) (d : Gen-F Expr Gen EventPart) → (open_gen (roll-Gen d)).0 given ≡ roll-Gen (gen_form given d)
+gen_is given (Gen-F.From y s) = (λ i. (gen_made (Gen-F.From y s) i).0 given) ∙ sym (generator.rolls-From y (expr_with given s))
+gen_is given (Gen-F.Cond c) = (λ i. (gen_made (Gen-F.Cond c) i).0 given) ∙ sym (generator.rolls-Cond (expr_with given c))
+
+-- the values that a generator leaves
+abbrev pub left_by : Gen-F Expr Gen EventPart → Given → Given
+left_by (Gen-F.From y s) = without y
+left_by (Gen-F.Cond c) = λ given. given
+
+pub left_is : (d : Gen-F Expr Gen EventPart) → (open_gen (roll-Gen d)).1 ≡ left_by d
+left_is (Gen-F.From y s) = λ i. (gen_made (Gen-F.From y s) i).1
+left_is (Gen-F.Cond c) = λ i. (gen_made (Gen-F.Cond c) i).1
+
+abbrev pub part_form : Given → EventPart-F Expr Gen EventPart → EventPart-F Expr Gen EventPart
+part_form given d = record { channel = d.channel; fields = map (expr_with given) d.fields }
+
+pub part_is : (given : Given) (d : EventPart-F Expr Gen EventPart)
+    → part_with given (roll-EventPart d) ≡ roll-EventPart (part_form given d)
 part_is given d =
     (λ i. fold-roll-EventPart (Open Expr) OpenGen (Open EventPart) expr_with_of_layer gen_with_of_layer part_with_of_layer d i given) ∙
     (λ i. roll-EventPart (record { channel = d.channel; fields = each_made open_expr given d.fields i }))

@@ -1,3 +1,7 @@
 pub mod Forms
+pub mod Keeps
+pub mod Left
 pub mod Loops
+pub mod Loses
 pub mod NamesFound
+pub mod Stays

@@ -14,6 +14,12 @@ decreases-put_proc l = 4 * the_size l.proc.now
 abbrev pub decreases-replace_boxed_proc : goal.decreases-replace_boxed_proc
 decreases-replace_boxed_proc l = 4 * the_size l.proc.now + 1
 
+abbrev pub decreases-replace_under : goal.decreases-replace_under
+decreases-replace_under l = 4 * the_size l.p.now + 2
+
+abbrev pub decreases-replace_after : goal.decreases-replace_after
+decreases-replace_after l = 4 * the_size l.p.now + 2
+
 abbrev pub decreases-put_procs : goal.decreases-put_procs
 decreases-put_procs l = 4 * goal.size-put_procs l + 1
 
