@@ -22,9 +22,9 @@ use Rattle.csp_program.specs.declared.processes.Proc.TheVariants as proc
 use Rattle.csp_program.specs.declared.processes.Proc.TheViews.{roll-Proc}
 
 -- parts with the same values
-each_made : {X : Type 0} (open : X → Open X) (given : Given) (xs : List X) → each (map open xs) given ≡ map (λ x. open x given) xs
-each_made open given [] = refl
-each_made open given (x ∷ xs) = λ i. open x given ∷ each_made open given xs i
+each_made : {X : Type 0} (of_each : X → Open X) (given : Given) (xs : List X) → each (map of_each xs) given ≡ map (λ x. of_each x given) xs
+each_made of_each given [] = refl
+each_made of_each given (x ∷ xs) = λ i. of_each x given ∷ each_made of_each given xs i
 
 -- ---- expressions
 

@@ -5,3 +5,4 @@ pub mod Loops
 pub mod Loses
 pub mod NamesFound
 pub mod Stays
+pub mod Worth

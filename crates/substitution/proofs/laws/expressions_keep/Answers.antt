@@ -1,6 +1,8 @@
 use Rattle.substitution.proofs.Keeps.{expr_keeps_depth, expr_keeps_order}
 use Rattle.substitution.proofs.Loses.{expr_loses}
 use Rattle.substitution.proofs.Stays.{expr_stays}
+use Rattle.csp_program.specs.Value.{uses_within}
+use Rattle.substitution.proofs.Worth.{keeps_worth}
 use Rattle.substitution.proofs.laws.expressions_keep.Goals as goal
 
 pub returns-clause-depth : goal.returns-clause-depth
@@ -16,4 +18,4 @@ pub returns-clause-closed : goal.returns-clause-closed
 returns-clause-closed c = expr_stays
 
 pub returns-clause-worth : goal.returns-clause-worth
-returns-clause-worth c = ?
+returns-clause-worth c = λ p n. keeps_worth (uses_within p n) p.channels
