@@ -11,10 +11,7 @@ use Rattle.csp_program.specs.declared.expressions.Expr.TheOpen.{Expr-F}
 use Rattle.csp_program.specs.declared.expressions.Expr.TheVariants as expr
 use Rattle.csp_program.specs.declared.programs.Content.{Content}
 use Rattle.csp_values.proofs.Equations.{at}
-use Rattle.step_values.specs.Walked.{as_event, new_event}
-
-abbrev literals : List Value → List Expr
-literals vs = map (λ v. expr.Lit v) vs
+use Rattle.step_values.specs.Walked.{as_event, literals, new_event}
 
 literals_then : (vs : List Value) (atoms : List Atom) → literals vs ++ map (λ a. expr.Lit (One a)) atoms ≡ literals (vs ++ map (λ a. One a) atoms)
 literals_then [] [] = refl

@@ -1,5 +1,5 @@
 -- What a renaming comes to as it is evaluated, for the contracts of the functions that do so.
-use Rattle.std.specs.Prelude.{◌≡◌, ◌++◌, ℕ, ◌+◌, ◌*◌, Result, Ok, Err, List, [], ◌∷◌, map, drop, length, slice_get, take}
+use Rattle.std.specs.Prelude.{◌≡◌, ◌++◌, ℕ, Result, Ok, Err, List, [], ◌∷◌, map, drop, length, slice_get, take}
 use Rattle.csp_program.specs.Outcome.{Outcome, and_then}
 use Rattle.csp_program.specs.Value.{Env, sets_of, turn, uses_within, walked}
 use Rattle.csp_values.specs.Worth.{front_worth, worths}
@@ -10,6 +10,8 @@ use Rattle.csp_atoms.specs.declared.atom.Atom.TheVariants as atom
 use Rattle.csp_atoms.specs.declared.value.Value.{Value}
 use Rattle.csp_atoms.specs.declared.value.Value.TheVariants.{One}
 use Rattle.csp_program.specs.declared.expressions.EventPart.{EventPart, out-EventPart}
+use Rattle.csp_program.specs.declared.expressions.Expr.{Expr}
+use Rattle.csp_program.specs.declared.expressions.Expr.TheVariants as expr
 use Rattle.csp_program.specs.declared.expressions.Gen.{Gen}
 use Rattle.csp_program.specs.declared.kinds.ValueKind.TheVariants.{Kind}
 use Rattle.csp_program.specs.declared.programs.Content.{Content}
@@ -41,16 +43,22 @@ as_event _ = Err Kind
 abbrev pub new_event : Content → ℕ → List Value → List Atom → Outcome ℕ
 new_event p c vs atoms = event_with p.channels c (vs ++ map (λ a. One a) atoms)
 
+-- the values as expressions
+abbrev pub literals : List Value → List Expr
+literals vs = map (λ v. expr.Lit v) vs
+
 -- an event with its new one, which comes from the values of its fields but for the first ones, so many as are given
 abbrev pub renamed_as : (List Atom → Outcome ℕ) → ℕ → ℕ → EventInfo → Outcome (List Renamed)
 renamed_as new given e info = and_then (new (drop given info.fields)) (λ d. Ok ((e, d) ∷ []))
 
--- what is renamed with what a pair renames, as it is walked: the front of the old side, the values of the new side, then each event of the old side
+-- what is renamed, with what a pair renames, as it is walked: the front of the old side, the values of the new side, then each event of the old side
 unfoldable pub pair_walked : Content → Env → EventPart × EventPart → List Renamed → Outcome (List Renamed)
 pair_walked p env pair renamed =
     let old = out-EventPart pair.0 in
     let new = out-EventPart pair.1 in
+    let given = length old.fields in
+    let count = count_with (sets_of (slice_get p.channels old.channel)) given in
     and_then (front_worth p (length p.defs) env old.channel old.fields) (λ first.
     and_then (worths p (length p.defs) env new.fields) (λ vs.
-    and_then (each_joined (renamed_as (new_event p new.channel vs) (length old.fields)) first
-    (take (count_with (sets_of (slice_get p.channels old.channel)) (length old.fields)) (drop first p.events))) (λ more. Ok (renamed ++ more))))
+    and_then (each_joined (renamed_as (new_event p new.channel vs) given) first (take count (drop first p.events))) (λ more.
+    Ok (renamed ++ more))))

@@ -12,7 +12,7 @@ ghost use Rattle.process_steps.specs.Needed.{each_joined};
 ghost use Rattle.process_steps.specs.Renaming as meant;
 ghost use Rattle.value_operators.specs.Env.{with_bound};
 ghost use Rattle.value_operators.specs.Gives.{Gives};
-ghost use Rattle.step_values.specs.Walked.{as_event, new_event, pair_walked, renamed_as};
+ghost use Rattle.step_values.specs.Walked.{as_event, literals, new_event, pair_walked, renamed_as};
 
 use containers::Items;
 use csp_atoms::{Atom, Value};
@@ -73,7 +73,7 @@ fn fields_from(fields: &[Atom], given: usize) -> &[Atom]
 
 // The values as expressions.
 fn literals(alloc: Global, values: &[Value]) -> Result<Items<Expr>, NoMemory>
-    ensures { IfOk result (λ made. made ≡ map (λ v. expression.Lit v) values.now) }
+    ensures { IfOk result (λ made. made ≡ literals values.now) }
 {
     let mut made = Items::new(alloc);
     for value in values {
@@ -84,7 +84,7 @@ fn literals(alloc: Global, values: &[Value]) -> Result<Items<Expr>, NoMemory>
 
 // The values as expressions, and after them the atoms.
 fn literals_then(alloc: Global, values: &[Value], atoms: &[Atom]) -> Result<Items<Expr>, NoMemory>
-    ensures { IfOk result (λ made. made ≡ map (λ v. expression.Lit v) values.now ++ map (λ a. expression.Lit (value.One a)) atoms.now) }
+    ensures { IfOk result (λ made. made ≡ literals values.now ++ map (λ a. expression.Lit (value.One a)) atoms.now) }
 {
     let mut made = literals(alloc, values)?;
     for atom in atoms {
