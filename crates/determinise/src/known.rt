@@ -58,6 +58,9 @@ impl Known {
         ensures within { (raw : RawSteps) (sets : List (List ℕ)) → AreKnown raw sets self.now.starts self.now.numbers.items → IfSome result (λ n. n < length sets) }
         ensures set { (raw : RawSteps) (sets : List (List ℕ)) → AreKnown raw sets self.now.starts self.now.numbers.items → IfSome result (λ n. IsSilentClosure raw starts.now (set_at sets n)) }
     {
+        if self.numbers.is_empty() {
+            return None;
+        }
         match self.starts.find(starts) {
             Some(place) => Some(self.numbers[place]),
             None => None,
