@@ -1,7 +1,7 @@
 use Rattle.std.proofs.Common.{◌-◌, ◌≤◌, length}
 use Rattle.determinise.specs.Known.{IsReady}
 use Rattle.determinise.specs.Progress.{AreNodesSoFar, AreReachedSets}
-use Rattle.determinise.proofs.explore.add_nodes.Given as goal
+use Rattle.determinise.proofs.explore.explore.Given as goal
 
 abbrev pub invariant-loop-alloc : goal.invariant-loop-alloc
 invariant-loop-alloc l = record {

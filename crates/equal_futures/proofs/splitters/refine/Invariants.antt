@@ -1,7 +1,7 @@
 use Rattle.std.proofs.Common.{length}
 use Rattle.partitions.specs.Blocks.{state_of, work}
 use Rattle.equal_futures.proofs.Settling.{IsRefined}
-use Rattle.equal_futures.proofs.splitters.classes_by_rows.Given as goal
+use Rattle.equal_futures.proofs.splitters.refine.Given as goal
 
 abbrev pub invariant-loop-block : goal.invariant-loop-block
 invariant-loop-block l = IsRefined l.nodes l.marks (state_of l.partition)

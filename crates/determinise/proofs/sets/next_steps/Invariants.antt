@@ -1,7 +1,7 @@
 use Rattle.std.proofs.Common.{◌-◌, length}
 use Rattle.determinise.proofs.NodeSteps.{AreStepsSoFar}
 use Rattle.determinise.specs.Known.{IsReady}
-use Rattle.determinise.proofs.sets.add_steps.Given as goal
+use Rattle.determinise.proofs.sets.next_steps.Given as goal
 
 abbrev pub invariant-loop-at : goal.invariant-loop-at
 invariant-loop-at l = record {

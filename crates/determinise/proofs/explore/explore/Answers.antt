@@ -1,7 +1,7 @@
-use Rattle.std.proofs.Common.{◌≡◌, ◌<◌, ℕ, length, sym, subst, rules}
+use Rattle.std.proofs.Common.{◌≡◌, ◌<◌, ℕ, length, sym, subst, rules, arith}
 use Rattle.determinise.specs.Progress.{set_at, IsNodeOf, IsReachedFromSet, AreNodesSoFar}
-use Rattle.determinise.proofs.Exploring.{reached_more, nodes_more}
-use Rattle.determinise.proofs.explore.add_nodes.Goals as goal
+use Rattle.determinise.proofs.Exploring.{no_nodes, reached_more, nodes_more}
+use Rattle.determinise.proofs.explore.explore.Goals as goal
 
 pub node_of-requires-clause-form : goal.node_of-requires-clause-form
 node_of-requires-clause-form c =
@@ -17,6 +17,14 @@ pub returns-in_err-push_node-clause-reached : goal.returns-in_err-push_node-clau
 returns-in_err-push_node-clause-reached c =
     let below : c.len-in-loop-alloc-2.result < length c.loop-alloc.sets = search rules in
     reached_more c.args.table.now c.loop-alloc.sets c.node_of.new.sets c.len-in-loop-alloc-2.result below c.loop-alloc.invariant.reached c.node_of.ensures.more
+
+pub loop-alloc-init : goal.loop-alloc-init
+loop-alloc-init c = record {
+  so_far = subst (AreNodesSoFar c.args.table.now c.args.sets.now) (sym c.new-nodes.ensures.items) (no_nodes c.args.table.now c.args.sets.now c.requires.one);
+  reached = c.requires.reached;
+  few = omega (arith, c.requires.one);
+  ready = c.in_ok-known.ensures c.args.sets.now;
+}
 
 pub loop-alloc-preserved : goal.loop-alloc-preserved
 loop-alloc-preserved c =
