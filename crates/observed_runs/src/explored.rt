@@ -2,10 +2,10 @@
 
 ghost use Rattle.std.specs.Prelude.{◌≡◌, ◌+◌, ◌<◌, ◌≤◌, ℕ, List, None, IfOk, IfSome, IsSomeAnd, MatchOption, length};
 ghost use Rattle.csp_tables.specs.Table.{Node};
-ghost use Rattle.observed_runs.specs.Exploration.{AreFound, HaveOrigins};
+ghost use Rattle.observed_runs.specs.Exploration.{AreFound, HaveOrigins, StepsTo};
 ghost use Rattle.observed_runs.specs.Observed.{LeadsTo, pair_at};
 
-use containers::Numbering;
+use crate::pairs::Pairs;
 use csp_base::{Event, NoMemory, Trace};
 use std::alloc::Global;
 use std::marker::Model;
@@ -13,7 +13,7 @@ use std::marker::Model;
 /// The pairs of a node and a state of an observer to which runs of a table lead, in the order in which they were found.
 #[derive(Drop)]
 pub struct Explored {
-    pairs: Numbering<(u32, u32)>,
+    pairs: Pairs,
     origins: Vec<(usize, Event)>,
 }
 
@@ -29,7 +29,7 @@ impl Model for Explored {
 
 impl Explored {
     // What was found so far, with the place and the event from which each pair but the first was found.
-    pub(crate) fn new(pairs: Numbering<(u32, u32)>, origins: Vec<(usize, Event)>) -> Explored
+    pub(crate) fn new(pairs: Pairs, origins: Vec<(usize, Event)>) -> Explored
         requires { HaveOrigins (record { pairs = pairs; origins = origins.items }) }
         ensures { result ≡ record { pairs = pairs; origins = origins.items } }
     {
@@ -53,6 +53,17 @@ impl Explored {
         Trace::from_slice(alloc, run.as_slice())
     }
 
+    /// The place of the pair from which the one in this place was found, and the event that led from there.
+    pub fn origin(&self, place: usize) -> (usize, Event)
+        requires later { 0 < place }
+        requires within { place < length self.now.pairs }
+        ensures earlier { result.0 < place }
+        ensures leads { (table : List Node) (step : ℕ → ℕ → ℕ) (start : ℕ) → AreFound table step start self.now
+            → StepsTo table step (pair_at self.now.pairs result.0) result.1 (pair_at self.now.pairs place) }
+    {
+        origin_in(self.origins.as_slice(), place)
+    }
+
     /// A run that leads to the pair in this place, if there is a place.
     pub fn run_if_any(&self, alloc: Global, place: Option<usize>) -> Result<Option<Trace>, NoMemory>
         requires { IfSome place (λ k. k < length self.now.pairs) }
@@ -64,6 +75,18 @@ impl Explored {
             None => Ok(None),
         }
     }
+}
+
+// The origin of the pair in this place.
+fn origin_in(origins: &[(usize, Event)], place: usize) -> (usize, Event)
+    requires later { 0 < place }
+    requires within { place < length origins.now + 1 }
+    requires sources { (k : ℕ) → k < length origins.now → (pair_at origins.now k).0 ≤ k }
+    ensures earlier { result.0 < place }
+    ensures leads { (table : List Node) (step : ℕ → ℕ → ℕ) (start : ℕ) (pairs : List (ℕ × ℕ)) → AreFound table step start (record { pairs = pairs; origins = origins.now })
+        → StepsTo table step (pair_at pairs result.0) result.1 (pair_at pairs place) }
+{
+    origins[place - 1]
 }
 
 // The events along the way to the pair in this place.
@@ -80,7 +103,7 @@ fn events_to(
     let mut events = Vec::new(alloc);
     let mut at = place;
     while at > 0 {
-        let (earlier, event) = origins[at - 1];
+        let (earlier, event) = origin_in(origins, at);
         events.push(event)?;
         at = earlier;
     }

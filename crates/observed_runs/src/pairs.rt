@@ -1,0 +1,113 @@
+//! Pairs of numbers in the order in which they are first seen.
+
+ghost use Rattle.std.specs.Prelude.{◌≡◌, ◌<◌, ◌≤◌, ◌++◌, ◌∷◌, [], ℕ, length, slice_index_or, slice_set, IfOk, OnOk, OnErr, if◌then◌else◌};
+ghost use Rattle.csp_base.specs.Events.{with_member};
+ghost use Rattle.observed_runs.specs.Enough.{HasPair};
+ghost use Rattle.observed_runs.specs.Exploration.{AreDistinct};
+ghost use Rattle.observed_runs.specs.Marks.{AreMarked, is_marked};
+
+use csp_base::{Event, EventSet, NoMemory};
+use std::alloc::Global;
+use std::marker::Model;
+
+/// Pairs of numbers in the order in which they are first seen, each once. Contracts see the list of them.
+#[derive(Drop)]
+pub struct Pairs {
+    alloc: Global,
+    pairs: Vec<(u32, u32)>,
+    // for each first number the second ones
+    seen: Vec<EventSet>,
+}
+
+impl Model for Pairs {
+    ghost use Rattle.std.specs.Prelude.{List, ℕ};
+    ghost use Rattle.observed_runs.specs.Marks.{AreMarked};
+
+    ghost Value = { List (ℕ × ℕ) };
+
+    ghost view = { λ p. p.pairs.items };
+
+    ghost invariant = { λ p. AreMarked p.pairs.items p.seen.items };
+}
+
+impl Pairs {
+    /// No pairs.
+    pub fn new(alloc: Global) -> Pairs
+        ensures { result ≡ [] }
+    {
+        Pairs {
+            alloc,
+            pairs: Vec::new(alloc),
+            seen: Vec::new(alloc),
+        }
+    }
+
+    /// The pairs.
+    pub fn as_slice(&self) -> &[(u32, u32)]
+        ensures value { result.now ≡ self.now }
+        ensures distinct { AreDistinct self.now }
+    {
+        self.pairs.as_slice()
+    }
+
+    /// Puts the pair at the end if it is new, and answers whether it is.
+    pub fn insert(&mut self, pair: (u32, u32)) -> Result<bool, NoMemory>
+        ensures added { IfOk result (λ new. self.new ≡ (if new then self.old ++ pair ∷ [] else self.old)) }
+        ensures listed { OnOk result (HasPair self.new pair) }
+    {
+        insert_in(self.alloc, &mut self.pairs, &mut self.seen, pair)
+    }
+}
+
+// The same, of the pairs and their marks.
+fn insert_in(
+    alloc: Global,
+    pairs: &mut Vec<(u32, u32)>,
+    seen: &mut Vec<EventSet>,
+    pair: (u32, u32),
+) -> Result<bool, NoMemory>
+    requires { AreMarked pairs.old.items seen.old.items }
+    ensures marked { AreMarked pairs.new.items seen.new.items }
+    ensures added { IfOk result (λ new. pairs.new.items ≡ (if new then pairs.old.items ++ pair ∷ [] else pairs.old.items)) }
+    ensures listed { OnOk result (HasPair pairs.new.items pair) }
+{
+    if has_mark(seen, pair) {
+        return Ok(false);
+    }
+    make_room(alloc, seen, pair.0)?;
+    pairs.reserve(1)?;
+    mark(seen, pair)?;
+    pairs.push(pair)?;
+    Ok(true)
+}
+
+// Whether the pair has a mark.
+fn has_mark(seen: &[EventSet], pair: (u32, u32)) -> bool
+    ensures { result ≡ is_marked seen.now pair.0 pair.1 }
+{
+    match seen.get(pair.0 as usize) {
+        Some(seconds) => seconds.contains(Event(pair.1)),
+        None => false,
+    }
+}
+
+// Makes room for marks at this first number.
+fn make_room(alloc: Global, seen: &mut Vec<EventSet>, first: u32) -> Result<(), NoMemory>
+    ensures room { OnOk result (first < length seen.new.items) }
+    ensures same { (n s : ℕ) → is_marked seen.new.items n s ≡ is_marked seen.old.items n s }
+{
+    while seen.len() <= first as usize {
+        seen.push(EventSet::new(alloc))?;
+    }
+    Ok(())
+}
+
+// Marks the pair.
+fn mark(seen: &mut Vec<EventSet>, pair: (u32, u32)) -> Result<(), NoMemory>
+    requires { pair.0 < length seen.old.items }
+    ensures ok { OnOk result (seen.new.items ≡ slice_set seen.old.items pair.0 (with_member pair.1 (slice_index_or seen.old.items pair.0 []))) }
+    ensures err { OnErr result (seen.new.items ≡ seen.old.items) }
+{
+    seen[pair.0 as usize].insert(Event(pair.1))?;
+    Ok(())
+}
