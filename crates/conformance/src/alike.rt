@@ -31,11 +31,13 @@ fn alike_node(part: &Part, known: &mut HashMap<u64, u32>, number: u32) -> Result
         return Ok(number);
     };
     let hash = hash_of(node.accept());
-    if let Some(first) = known.get(&hash) {
-        return Ok(alike_or_itself(part, *first, number));
+    match known.get(&hash) {
+        Some(first) if is_alike(part, *first, number) => Ok(*first),
+        _ => {
+            known.insert(hash, number)?;
+            Ok(number)
+        }
     }
-    known.insert(hash, number)?;
-    Ok(number)
 }
 
 // The hash of the sets.
@@ -43,16 +45,6 @@ fn hash_of(sets: &[EventSet]) -> u64 {
     let mut hasher = FoldHasher::default();
     sets.hash(&mut hasher);
     hasher.finish()
-}
-
-// The first node if both have the same acceptances, else the second.
-fn alike_or_itself(part: &Part, first: u32, number: u32) -> u32
-    ensures { IsAlike part.now.table result number }
-{
-    if is_alike(part, first, number) {
-        return first;
-    }
-    number
 }
 
 // Whether both are nodes, with the same acceptances.
@@ -68,16 +60,8 @@ fn is_alike(part: &Part, first: u32, number: u32) -> bool
     node.accept() == other.accept()
 }
 
-// The pair of nodes that stands for the pair.
-pub(crate) fn alike_pair(lefts: &[u32], rights: &[u32], pair: (u32, u32)) -> (u32, u32)
-    ensures left { result.0 ≡ get_or lefts.now pair.0 pair.0 }
-    ensures right { result.1 ≡ get_or rights.now pair.1 pair.1 }
-{
-    (alike_number(lefts, pair.0), alike_number(rights, pair.1))
-}
-
 // What stands at the number, or else itself.
-fn alike_number(firsts: &[u32], number: u32) -> u32
+pub(crate) fn alike_number(firsts: &[u32], number: u32) -> u32
     ensures { result ≡ get_or firsts.now number number }
 {
     match firsts.get(number as usize) {

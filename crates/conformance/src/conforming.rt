@@ -1,21 +1,19 @@
 //! Whether the table of a component conforms to that of its specification.
 
-ghost use Rattle.std.specs.Prelude.{◌≡◌, ◌<◌, ◌++◌, ◌∷◌, [], ℕ, List, IfErr, IfNone, IfOk, IfSome, MatchBool, OnOk, length};
+ghost use Rattle.std.specs.Prelude.{◌≡◌, ◌<◌, ℕ, IfErr, IfNone, IfOk, IfSome, MatchBool, OnOk, length};
 ghost use Rattle.std.specs.Bool.{OnFalse, OnTrue};
 ghost use Rattle.csp_tables.specs.Form.{HasForm};
-ghost use Rattle.csp_tables.specs.Table.{IsRun, Node};
-ghost use Rattle.observed_runs.specs.Exploration.{AreFound};
-ghost use Rattle.observed_runs.specs.Observed.{LeadsTo, pair_at};
-ghost use Rattle.conformance.specs.Conforming.{RefusesAfter, TableConforms};
+ghost use Rattle.observed_runs.specs.Observed.{pair_at};
+ghost use Rattle.conformance.specs.Conforming.{TableConforms};
 ghost use Rattle.conformance.specs.Finding.{AcceptsAt, AllAccept, AreInside, Follows, IsFirstOutside, RefusesAt};
 ghost use Rattle.conformance.specs.Told.{Fails};
 
-use crate::alike::{alike_nodes, alike_pair};
+use crate::alike::{alike_nodes, alike_number};
 use crate::fault::ConformFault;
 use crate::follower::Follower;
 use crate::nodes::node_of;
 use crate::steps::refuses;
-use csp_base::{Event, NoMemory, Trace};
+use csp_base::NoMemory;
 use csp_tables::Part;
 use observed_runs::{Explored, Pairs, explore, steps_of};
 use std::alloc::Global;
@@ -31,10 +29,13 @@ pub fn conform_part(alloc: Global, part: &Part, specified: &Part) -> Result<(), 
 {
     let explored = followed(alloc, part, specified)?;
     if let Some(place) = outside_place(specified, explored.pairs()) {
-        let trace = run_and(alloc, &explored, explored.origin(place))?;
+        let (earlier, event) = explored.origin(place);
+        let mut trace = explored.run_to(alloc, earlier)?;
+        trace.push(event)?;
         return Err(ConformFault::Outside { trace });
     }
-    if let Some(trace) = refusing_trace(alloc, part, specified, &explored)? {
+    if let Some(place) = refusing_place(alloc, part, specified, explored.pairs())? {
+        let trace = explored.run_to(alloc, place)?;
         return Err(ConformFault::Refuses { trace });
     }
     Ok(())
@@ -51,17 +52,6 @@ fn followed(alloc: Global, part: &Part, specified: &Part) -> Result<Explored, No
     explore(alloc, part, rows.as_slice(), &follower)
 }
 
-// A run to the pair in this place, and the event after it.
-fn run_and(alloc: Global, explored: &Explored, departure: (usize, Event)) -> Result<Trace, NoMemory>
-    requires { departure.0 < length explored.now.pairs }
-    ensures { (table : List Node) (step : ℕ → ℕ → ℕ) (start : ℕ) → AreFound table step start explored.now
-        → IfOk result (λ made. (run : List ℕ) × LeadsTo table step start run (pair_at explored.now.pairs departure.0) × (made ≡ run ++ departure.1 ∷ [])) }
-{
-    let mut trace = explored.run_to(alloc, departure.0)?;
-    trace.push(departure.1)?;
-    Ok(trace)
-}
-
 // The place of the first pair that is past the end of the specification.
 fn outside_place(specified: &Part, pairs: &[(u32, u32)]) -> Option<usize>
     ensures outside { IfSome result (IsFirstOutside specified.now.table pairs.now) }
@@ -74,24 +64,6 @@ fn outside_place(specified: &Part, pairs: &[(u32, u32)]) -> Option<usize>
         }
     }
     None
-}
-
-// A run of the part after which an acceptance contains none of its specification.
-fn refusing_trace(
-    alloc: Global,
-    part: &Part,
-    specified: &Part,
-    explored: &Explored,
-) -> Result<Option<Trace>, NoMemory>
-    requires form { HasForm part.now }
-    requires specified_form { HasForm specified.now }
-    requires follows { Follows part.now specified.now explored.now }
-    requires inside { (s : List ℕ) → IsRun part.now.table s → IsRun specified.now.table s }
-    ensures refuses { IfOk result (λ found. IfSome found (RefusesAfter part.now.table specified.now.table)) }
-    ensures none { IfOk result (λ found. IfNone found (TableConforms part.now.table specified.now.table)) }
-{
-    let place = refusing_place(alloc, part, specified, explored.pairs())?;
-    explored.run_if_any(alloc, place)
 }
 
 // The place of the first pair whose first node has an acceptance that contains none of the second, if it has a second.
@@ -109,7 +81,8 @@ fn refusing_place(
     let rights = alike_nodes(alloc, specified)?;
     let mut accepted = Pairs::new(alloc);
     for place in 0..pairs.len() {
-        let pair = alike_pair(&lefts, &rights, pairs[place]);
+        let (left, right) = pairs[place];
+        let pair = (alike_number(&lefts, left), alike_number(&rights, right));
         if refuses_newly(part, specified, &mut accepted, pair)? {
             return Ok(Some(place));
         }

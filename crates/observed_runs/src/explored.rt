@@ -49,8 +49,16 @@ impl Explored {
         ensures { (table : List Node) (step : ℕ → ℕ → ℕ) (start : ℕ) → AreFound table step start self.now
             → IfOk result (λ run. LeadsTo table step start run (pair_at self.now.pairs place)) }
     {
-        let run = events_to(alloc, self.origins.as_slice(), place)?;
-        Trace::from_slice(alloc, run.as_slice())
+        let mut events = Vec::new(alloc);
+        let mut at = place;
+        while at > 0 {
+            let (earlier, event) = self.origin(at);
+            events.push(event)?;
+            at = earlier;
+        }
+        events.reverse();
+        let run = Trace::from_slice(alloc, events.as_slice())?;
+        Ok(run)
     }
 
     /// The place of the pair from which the one in this place was found, and the event that led from there.
@@ -61,7 +69,7 @@ impl Explored {
         ensures leads { (table : List Node) (step : ℕ → ℕ → ℕ) (start : ℕ) → AreFound table step start self.now
             → StepsTo table step (pair_at self.now.pairs result.0) result.1 (pair_at self.now.pairs place) }
     {
-        origin_in(self.origins.as_slice(), place)
+        self.origins[place - 1]
     }
 
     /// A run that leads to the pair in this place, if there is a place.
@@ -75,38 +83,4 @@ impl Explored {
             None => Ok(None),
         }
     }
-}
-
-// The origin of the pair in this place.
-fn origin_in(origins: &[(usize, Event)], place: usize) -> (usize, Event)
-    requires later { 0 < place }
-    requires within { place < length origins.now + 1 }
-    requires sources { (k : ℕ) → k < length origins.now → (pair_at origins.now k).0 ≤ k }
-    ensures earlier { result.0 < place }
-    ensures leads { (table : List Node) (step : ℕ → ℕ → ℕ) (start : ℕ) (pairs : List (ℕ × ℕ)) → AreFound table step start (record { pairs = pairs; origins = origins.now })
-        → StepsTo table step (pair_at pairs result.0) result.1 (pair_at pairs place) }
-{
-    origins[place - 1]
-}
-
-// The events along the way to the pair in this place.
-fn events_to(
-    alloc: Global,
-    origins: &[(usize, Event)],
-    place: usize,
-) -> Result<Vec<Event>, NoMemory>
-    requires within { place < length origins.now + 1 }
-    requires earlier { (k : ℕ) → k < length origins.now → (pair_at origins.now k).0 ≤ k }
-    ensures { (table : List Node) (step : ℕ → ℕ → ℕ) (start : ℕ) (pairs : List (ℕ × ℕ)) → AreFound table step start (record { pairs = pairs; origins = origins.now })
-        → IfOk result (λ run. LeadsTo table step start run.items (pair_at pairs place)) }
-{
-    let mut events = Vec::new(alloc);
-    let mut at = place;
-    while at > 0 {
-        let (earlier, event) = origin_in(origins, at);
-        events.push(event)?;
-        at = earlier;
-    }
-    events.reverse();
-    Ok(events)
 }

@@ -4,7 +4,7 @@ ghost use Rattle.std.specs.Prelude.{◌≡◌, ◌<◌, ◌≤◌, ◌++◌, ◌
 ghost use Rattle.csp_base.specs.Events.{with_member};
 ghost use Rattle.observed_runs.specs.Enough.{HasPair};
 ghost use Rattle.observed_runs.specs.Exploration.{AreDistinct};
-ghost use Rattle.observed_runs.specs.Marks.{AreMarked, is_marked};
+ghost use Rattle.observed_runs.specs.Marks.{is_marked};
 
 use csp_base::{Event, EventSet, NoMemory};
 use std::alloc::Global;
@@ -55,30 +55,15 @@ impl Pairs {
         ensures added { IfOk result (λ new. self.new ≡ (if new then self.old ++ pair ∷ [] else self.old)) }
         ensures listed { OnOk result (HasPair self.new pair) }
     {
-        insert_in(self.alloc, &mut self.pairs, &mut self.seen, pair)
+        if has_mark(&self.seen, pair) {
+            return Ok(false);
+        }
+        make_room(self.alloc, &mut self.seen, pair.0)?;
+        self.pairs.reserve(1)?;
+        mark(&mut self.seen, pair)?;
+        self.pairs.push(pair)?;
+        Ok(true)
     }
-}
-
-// The same, of the pairs and their marks.
-fn insert_in(
-    alloc: Global,
-    pairs: &mut Vec<(u32, u32)>,
-    seen: &mut Vec<EventSet>,
-    pair: (u32, u32),
-) -> Result<bool, NoMemory>
-    requires { AreMarked pairs.old.items seen.old.items }
-    ensures marked { AreMarked pairs.new.items seen.new.items }
-    ensures added { IfOk result (λ new. pairs.new.items ≡ (if new then pairs.old.items ++ pair ∷ [] else pairs.old.items)) }
-    ensures listed { OnOk result (HasPair pairs.new.items pair) }
-{
-    if has_mark(seen, pair) {
-        return Ok(false);
-    }
-    make_room(alloc, seen, pair.0)?;
-    pairs.reserve(1)?;
-    mark(seen, pair)?;
-    pairs.push(pair)?;
-    Ok(true)
 }
 
 // Whether the pair has a mark.
