@@ -105,13 +105,6 @@ module _ (p q : Part) (form : HasForm p) (other : HasForm q) where
 
   -- ---- what a pair says
 
-  -- the first pair is at the first node
-  pub not_first : (found : Found) → AreFound p.table (follow_step p.alphabet q.table) 0 found → (place : ℕ) → length q.table ≤ (pair_at found.pairs place).1 → 0 < place
-  not_first found origins zero h =
-      let state : (pair_at found.pairs 0).1 ≡ 0 = ap (λ (pair : ℕ × ℕ). pair.1) (get_or_from_slice_get found.pairs 0 (0, 0) (0, 0) origins.first) in
-      absurd (let first = first_within q other in omega arith)
-  not_first found origins (suc place) h = omega arith
-
   -- from a pair that is inside an event leads to one that is not
   pub leaves_outside : (run : List ℕ) (pair to : ℕ × ℕ) (e : ℕ) → LeadsTo p.table (follow_step p.alphabet q.table) 0 run pair → StepsTo p.table (follow_step p.alphabet q.table) pair e to → pair.1 < length q.table → length q.table ≤ to.1 → RunsOutside p.table q.table (run ++ e ∷ [])
   leaves_outside run pair to e l steps there out =

@@ -1,5 +1,5 @@
 -- Pairs that are marked, one at a time.
-use Rattle.std.proofs.Common.{◌≡◌, ℕ, zero, suc, ◌<◌, ◌⊎◌, List, [], ◌∷◌, ◌++◌, length, get_or, set, false, IsTrue, ◌||◌, nat_eq, ◌≢◌, eq-eqb, refl, sym, ap, subst, ◌∙◌, arith, inl, inr}
+use Rattle.std.proofs.Common.{◌≡◌, ℕ, ◌<◌, ◌⊎◌, List, [], ◌∷◌, ◌++◌, length, get_or, set, false, IsTrue, ◌||◌, nat_eq, ◌≢◌, eq-eqb, refl, sym, ap, subst, ◌∙◌, arith, inl, inr}
 use Rattle.std.proofs.lemmas.Bool.{cases_lt, cases_eq, eqb-true, false≢true, or_left, or_right, or_cases}
 use Rattle.std.proofs.lemmas.List.{get_or-set_same, get_or-set_other, length-append}
 use Rattle.csp_base.specs.Events.{has, with_member}
@@ -7,13 +7,6 @@ use Rattle.csp_base.proofs.SetLaws.{has-with_member}
 use Rattle.observed_runs.specs.Observed.{pair_at}
 use Rattle.observed_runs.specs.Marks.{AreMarked, is_marked}
 use Rattle.observed_runs.proofs.Growing.{pair_at_left, listed_left, last_pair, same_two}
-
--- one more set that is empty changes no mark
-pub more_room : (seen : List (List ℕ)) (n s : ℕ) → is_marked (seen ++ [] ∷ []) n s ≡ is_marked seen n s
-more_room [] zero s = refl
-more_room [] (suc n) s = refl
-more_room (x ∷ seen) zero s = refl
-more_room (x ∷ seen) (suc n) s = more_room seen n s
 
 module _ (seen : List (List ℕ)) (pair : ℕ × ℕ) (room : pair.0 < length seen) where
   abbrev more : List (List ℕ)

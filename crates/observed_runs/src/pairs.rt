@@ -1,7 +1,6 @@
 //! Pairs of numbers in the order in which they are first seen.
 
-ghost use Rattle.std.specs.Prelude.{◌≡◌, ◌<◌, ◌≤◌, ◌++◌, ◌∷◌, [], ℕ, length, slice_index_or, slice_set, IfOk, OnOk, OnErr, if◌then◌else◌};
-ghost use Rattle.csp_base.specs.Events.{with_member};
+ghost use Rattle.std.specs.Prelude.{◌≡◌, ◌<◌, ◌≤◌, ◌++◌, ◌∷◌, [], ℕ, length, IfOk, OnOk, if◌then◌else◌};
 ghost use Rattle.observed_runs.specs.Enough.{HasPair};
 ghost use Rattle.observed_runs.specs.Exploration.{AreDistinct};
 ghost use Rattle.observed_runs.specs.Marks.{is_marked};
@@ -60,7 +59,7 @@ impl Pairs {
         }
         make_room(self.alloc, &mut self.seen, pair.0)?;
         self.pairs.reserve(1)?;
-        mark(&mut self.seen, pair)?;
+        self.seen[pair.0 as usize].insert(Event(pair.1))?;
         self.pairs.push(pair)?;
         Ok(true)
     }
@@ -84,15 +83,5 @@ fn make_room(alloc: Global, seen: &mut Vec<EventSet>, first: u32) -> Result<(), 
     while seen.len() <= first as usize {
         seen.push(EventSet::new(alloc))?;
     }
-    Ok(())
-}
-
-// Marks the pair.
-fn mark(seen: &mut Vec<EventSet>, pair: (u32, u32)) -> Result<(), NoMemory>
-    requires { pair.0 < length seen.old.items }
-    ensures ok { OnOk result (seen.new.items ≡ slice_set seen.old.items pair.0 (with_member pair.1 (slice_index_or seen.old.items pair.0 []))) }
-    ensures err { OnErr result (seen.new.items ≡ seen.old.items) }
-{
-    seen[pair.0 as usize].insert(Event(pair.1))?;
     Ok(())
 }
