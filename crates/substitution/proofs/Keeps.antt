@@ -121,7 +121,7 @@ module _ (G : Given → Type 0) (fewer : (y : ℕ) (given : Given) → G given �
     gen_keeps : (d : Gen-F Expr Gen EventPart) → GenHas KeepsExpr KeepsGen KeepsPart d → KeepsGen (roll-Gen d)
     gen_keeps d h given ok = (
       ap gen_fold (gen_is given d) ∙
-      (fold-roll-Gen A A' A'' of_expr of_gen of_part (gen_form given d) ∙ (gen_form_keeps d h given ok ∙ sym (fold-roll-Gen A A' A'' of_expr of_gen of_part d))),
+          (fold-roll-Gen A A' A'' of_expr of_gen of_part (gen_form given d) ∙ (gen_form_keeps d h given ok ∙ sym (fold-roll-Gen A A' A'' of_expr of_gen of_part d))),
       subst (λ (left : Given → Given). G (left given)) (sym (left_is d)) (left_fits d given ok),
     )
 

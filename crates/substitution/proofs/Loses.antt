@@ -67,16 +67,16 @@ name_lost given y None is = λ i x. at x i
   where
     at : (x : ℕ) → nat_eq y x ≡ (is_none (given x) && nat_eq y x)
     at x = elim (nat_eq y x) as (λ b. nat_eq y x ≡ b → b ≡ (is_none (given x) && b)) [
-        | true ↦ λ e. sym (ap (λ (v : Option Value). is_none v && true) (ap given (sym (eqb-true y x e)) ∙ is))
-        | false ↦ λ e. sym (and_false (is_none (given x)))
-      ] refl
+      | true ↦ λ e. sym (ap (λ (v : Option Value). is_none v && true) (ap given (sym (eqb-true y x e)) ∙ is))
+      | false ↦ λ e. sym (and_false (is_none (given x)))
+    ] refl
 name_lost given y (Some v) is = λ i x. at x i
   where
     at : (x : ℕ) → false ≡ (is_none (given x) && nat_eq y x)
     at x = elim (nat_eq y x) as (λ b. nat_eq y x ≡ b → false ≡ (is_none (given x) && b)) [
-        | true ↦ λ e. sym (ap (λ (v : Option Value). is_none v && true) (ap given (sym (eqb-true y x e)) ∙ is))
-        | false ↦ λ e. sym (and_false (is_none (given x)))
-      ] refl
+      | true ↦ λ e. sym (ap (λ (v : Option Value). is_none v && true) (ap given (sym (eqb-true y x e)) ∙ is))
+      | false ↦ λ e. sym (and_false (is_none (given x)))
+    ] refl
 
 -- ---- lists
 

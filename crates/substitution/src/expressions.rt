@@ -33,11 +33,7 @@ pub(crate) fn pass(values: &mut Values<'_>, generator: &Gen) -> Result<(), NoMem
 /// The expression with the values in place of the names, wherever these are free.
 #[tactic(auto, using(crate::proofs::Forms::expr_forms))]
 #[cycle(put_expr)]
-pub fn put_expr(
-    alloc: Global,
-    expr: &Expr,
-    values: &Values<'_>,
-) -> Result<Expr, NoMemory>
+pub fn put_expr(alloc: Global, expr: &Expr, values: &Values<'_>) -> Result<Expr, NoMemory>
     ensures { IfOk result (λ made. made ≡ expr_with (given_by values.now) expr.now) }
 {
     match expr {
@@ -59,9 +55,7 @@ pub fn put_expr(
             let fields = put_exprs(alloc, fields.as_slice(), values);
             fields.map(|fields| Expr::Event(*channel, fields))
         }
-        Expr::Display(items) => {
-            put_exprs(alloc, items.as_slice(), values).map(Expr::Display)
-        }
+        Expr::Display(items) => { put_exprs(alloc, items.as_slice(), values).map(Expr::Display) }
         Expr::Range(a, b) => range(alloc, a, b, values),
         Expr::Comp(items, gens) => comprehension(alloc, items, gens, values),
         Expr::Product(parts, gens) => product(alloc, parts, gens, values),
@@ -207,9 +201,7 @@ fn replace_gen(alloc: Global, generator: &Gen, values: &Values<'_>) -> Result<Ge
     ensures { IfOk result (λ made. made ≡ (open_gen generator.now).0 (given_by values.now)) }
 {
     match generator {
-        Gen::From(name, set) => {
-            put_expr(alloc, set, values).map(|set| Gen::From(*name, set))
-        }
+        Gen::From(name, set) => { put_expr(alloc, set, values).map(|set| Gen::From(*name, set)) }
         Gen::Cond(condition) => put_expr(alloc, condition, values).map(Gen::Cond),
     }
 }

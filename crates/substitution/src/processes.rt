@@ -14,11 +14,7 @@ use std::alloc::Global;
 /// The process with the values in place of the names, wherever these are free.
 #[tactic(auto, using(crate::proofs::Forms::proc_forms))]
 #[cycle(put_proc)]
-pub fn put_proc(
-    alloc: Global,
-    proc: &Proc,
-    values: &Values<'_>,
-) -> Result<Proc, NoMemory>
+pub fn put_proc(alloc: Global, proc: &Proc, values: &Values<'_>) -> Result<Proc, NoMemory>
     ensures { IfOk result (λ made. made ≡ proc_with (given_by values.now) proc.now) }
 {
     match proc {
@@ -26,12 +22,8 @@ pub fn put_proc(
         Proc::Prefix(head, fields, p) => prefix(alloc, head, fields, p, values),
         Proc::Guard(c, p) => guard(alloc, c, p, values),
         Proc::If(c, p, q) => choice(alloc, c, p, q, values),
-        Proc::External(procs) => {
-            put_procs(alloc, procs.as_slice(), values).map(Proc::External)
-        }
-        Proc::Internal(procs) => {
-            put_procs(alloc, procs.as_slice(), values).map(Proc::Internal)
-        }
+        Proc::External(procs) => { put_procs(alloc, procs.as_slice(), values).map(Proc::External) }
+        Proc::Internal(procs) => { put_procs(alloc, procs.as_slice(), values).map(Proc::Internal) }
         Proc::EachExternal(other, set, p) => each_external(alloc, *other, set, p, values),
         Proc::EachInternal(other, set, p) => each_internal(alloc, *other, set, p, values),
         Proc::Hide(p, set) => hiding(alloc, p, set, values),
@@ -226,11 +218,7 @@ fn replace_two(
 }
 
 #[cycle(put_proc)]
-fn put_procs(
-    alloc: Global,
-    procs: &[Proc],
-    values: &Values<'_>,
-) -> Result<Items<Proc>, NoMemory>
+fn put_procs(alloc: Global, procs: &[Proc], values: &Values<'_>) -> Result<Items<Proc>, NoMemory>
     ensures { IfOk result (λ made. made ≡ map (proc_with (given_by values.now)) procs.now) }
 {
     let mut made = Items::new(alloc);
