@@ -93,18 +93,24 @@ pub fn eval_in(alloc: Global, content: &Content, expr: &Expr) -> Result<Value, E
     eval_fitting(alloc, &Fitting::new(content), expr)
 }
 
+// No names but those that are bound.
+fn names_under<'a>(bound: &'a [(u32, Atom)]) -> Names<'a>
+    ensures parameters { parameters result ≡ [] }
+    ensures bound { result.bound.now ≡ bound.now }
+{
+    Names {
+        params: &[],
+        args: &[],
+        placed: &[],
+        bound,
+    }
+}
+
 // The value of a closed expression.
 fn eval_fitting(alloc: Global, content: &Fitting<'_>, expr: &Expr) -> Result<Value, EvalFault>
     ensures { Gives result (value_of content.now expr.now) }
 {
-    let scope = whole_scope(alloc, content);
-    let names = Names {
-        params: &[],
-        args: &[],
-        placed: &[],
-        bound: &[],
-    };
-    eval_expr(&scope, &names, expr)
+    eval_expr(&whole_scope(alloc, content), &names_under(&[]), expr)
 }
 
 /// The set that an expression of a program is worth. Faults are those of `eval`; a value that is no set has the kind `Kind`.
@@ -113,6 +119,30 @@ pub fn eval_set(alloc: Global, program: &Program, expr: &Expr) -> Result<AtomSet
 {
     let value = eval(alloc, program, expr)?;
     to_set(value)
+}
+
+/// The value of an expression of a program under names with their values. Faults are those of `eval`.
+pub fn eval_with(
+    alloc: Global,
+    program: &Program,
+    names: &Names<'_>,
+    expr: &Expr,
+) -> Result<Value, EvalFault>
+    ensures { Gives result (worth program.now (length program.now.defs) (env_in names.now) expr.now) }
+{
+    eval_expr(&whole_scope(alloc, &Fitting::of(program)), names, expr)
+}
+
+/// The values of expressions of a program under names with their values, from the left. Faults are those of `eval`, of the first that has one.
+pub fn eval_all_with(
+    alloc: Global,
+    program: &Program,
+    names: &Names<'_>,
+    exprs: &[Expr],
+) -> Result<Items<Value>, EvalFault>
+    ensures { Gives result (worths program.now (length program.now.defs) (env_in names.now) exprs.now) }
+{
+    eval_all(&whole_scope(alloc, &Fitting::of(program)), names, exprs)
 }
 
 /// The value of an expression of a program under names that generators bind, the last one bound at the end. Faults are those of `eval`.
@@ -124,15 +154,7 @@ pub fn eval_under(
 ) -> Result<Value, EvalFault>
     ensures { Gives result (worth program.now (length program.now.defs) (with_bound bound.now []) expr.now) }
 {
-    let content = Fitting::of(program);
-    let scope = whole_scope(alloc, &content);
-    let names = Names {
-        params: &[],
-        args: &[],
-        placed: &[],
-        bound,
-    };
-    eval_expr(&scope, &names, expr)
+    eval_with(alloc, program, &names_under(bound), expr)
 }
 
 /// The values of expressions of a program under names that generators bind, from the left. Faults are those of `eval`, of the first that has one.
@@ -144,15 +166,7 @@ pub fn eval_all_under(
 ) -> Result<Items<Value>, EvalFault>
     ensures { Gives result (worths program.now (length program.now.defs) (with_bound bound.now []) exprs.now) }
 {
-    let content = Fitting::of(program);
-    let scope = whole_scope(alloc, &content);
-    let names = Names {
-        params: &[],
-        args: &[],
-        placed: &[],
-        bound,
-    };
-    eval_all(&scope, &names, exprs)
+    eval_all_with(alloc, program, &names_under(bound), exprs)
 }
 
 /// The number of the first event of a channel that begins with these fields, under names that generators bind. Faults are those of `eval`, of the
@@ -167,15 +181,8 @@ pub fn front_under(
 ) -> Result<u32, EvalFault>
     ensures { Gives result (front_worth program.now (length program.now.defs) (with_bound bound.now []) channel fields.now) }
 {
-    let content = Fitting::of(program);
-    let scope = whole_scope(alloc, &content);
-    let names = Names {
-        params: &[],
-        args: &[],
-        placed: &[],
-        bound,
-    };
-    eval_front(&scope, &names, channel, fields)
+    let scope = whole_scope(alloc, &Fitting::of(program));
+    eval_front(&scope, &names_under(bound), channel, fields)
 }
 
 /// Whether generators of a program have one more binding, under which the walk over them then stands. Faults are those of `eval`, of the generators from the left.
@@ -190,13 +197,7 @@ pub fn binding_under(
 {
     let content = Fitting::of(program);
     let scope = whole_scope(alloc, &content);
-    let names = Names {
-        params: &[],
-        args: &[],
-        placed: &[],
-        bound: &[],
-    };
-    find_binding(&scope, &names, gens, walk)
+    find_binding(&scope, &names_under(&[]), gens, walk)
 }
 
 // The value of an expression.
@@ -519,13 +520,7 @@ fn eval_body(scope: &Scope<'_>, def: &Def, args: &[Value]) -> Result<Value, Eval
             eval_expr(scope, &names, expr)
         }
         Body::Nametype(expr) => {
-            let names = Names {
-                params: &[],
-                args: &[],
-                placed: &[],
-                bound: &[],
-            };
-            eval_expr(scope, &names, expr)
+            eval_expr(scope, &names_under(&[]), expr)
         }
         Body::Datatype(numbers) => constants_value(scope.alloc, numbers.as_slice()),
         Body::Process(_) => Err(KIND),
