@@ -5,7 +5,7 @@ ghost use Rattle.csp_atoms.specs.declared.atom.Atom.TheVariants as atom;
 ghost use Rattle.csp_atoms.specs.declared.value.Value.TheVariants as value;
 ghost use Rattle.csp_program.specs.Atoms.{added, all_added};
 ghost use Rattle.csp_program.specs.Outcome.{and_then};
-ghost use Rattle.csp_program.specs.Value.{as_atom, as_set, binary, value_of};
+ghost use Rattle.csp_program.specs.Value.{as_atom, as_set, binary, value_of, value_within};
 ghost use Rattle.csp_program.specs.Value as meant;
 ghost use Rattle.value_laws.specs.Numbers.{field_place, ChannelsFit};
 ghost use Rattle.value_operators.specs.Env.{env_in, parameters, with_bound};
@@ -122,13 +122,14 @@ pub fn eval_set(alloc: Global, program: &Program, expr: &Expr) -> Result<AtomSet
 }
 
 /// The value of an expression of a program under names with their values. Faults are those of `eval`.
+#[tactic(auto, unfolding(crate::specs::Worth::worth))]
 pub fn eval_with(
     alloc: Global,
     program: &Program,
     names: &Names<'_>,
     expr: &Expr,
 ) -> Result<Value, EvalFault>
-    ensures { Gives result (worth program.now (length program.now.defs) (env_in names.now) expr.now) }
+    ensures { Gives result (value_within program.now (length program.now.defs) expr.now (env_in names.now)) }
 {
     eval_expr(&whole_scope(alloc, &Fitting::of(program)), names, expr)
 }
@@ -146,6 +147,7 @@ pub fn eval_all_with(
 }
 
 /// The value of an expression of a program under names that generators bind, the last one bound at the end. Faults are those of `eval`.
+#[tactic(auto, unfolding(crate::specs::Worth::worth))]
 pub fn eval_under(
     alloc: Global,
     program: &Program,

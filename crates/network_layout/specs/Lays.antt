@@ -4,7 +4,7 @@ use Rattle.csp_program.specs.Environments.{with_bound}
 use Rattle.csp_program.specs.Value.{Env, bound_to}
 use Rattle.csp_tables.specs.Network.{Component, Tree, leaves}
 use Rattle.network_trees.specs.Joint.{joint}
-use Rattle.network_trees.specs.NetworkOf.{Walked, each_operand, goes_on, nested, side_by_side, two_operands, tree_within, walked_node, with_value}
+use Rattle.network_trees.specs.NetworkOf.{Walked, each_operand, events_under, goes_on, nested, network_called, side_by_side, tree_within, two_operands, walked_node, with_value}
 use Rattle.csp_atoms.specs.declared.atom.Atom.{Atom}
 use Rattle.csp_atoms.specs.declared.value.Value.{Value}
 use Rattle.csp_program.specs.declared.expressions.Expr.{Expr}

@@ -56,7 +56,14 @@ fn told_set(scope: &Scope<'_>, args: &[Expr], def: u32) -> Result<EventSet, Eval
     ensures { Gives result (told_set scope.now.program.now args.now def) }
 {
     let call = use_of(scope.alloc, def, args)?;
-    events(&whole_scope(scope.alloc, scope.program), call.get())
+    let whole = Scope {
+        alloc: scope.alloc,
+        program: scope.program,
+        params: &[],
+        args: &[],
+        bound: &[],
+    };
+    events(&whole, call.get())
 }
 
 // The sets that an annotation tells.

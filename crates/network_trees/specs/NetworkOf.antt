@@ -8,7 +8,7 @@
 -- An operand may be a call or an `if`: what it stands for is what counts. One that comes to a leaf has the alphabet of that leaf, since both are the
 -- one that was given; so every operand can be looked at alike. One without components must have no events.
 -- A leaf is no nested node, however deep it stands. A node that stands too deep is told before anything in it is evaluated.
-use Rattle.std.specs.Prelude.{ℕ, zero, suc, ◌+◌, nat_lt, if◌then◌else◌, Option, Some, None, Result, Ok, Err, List, [], ◌∷◌, length, slice_get}
+use Rattle.std.specs.Prelude.{ℕ, zero, suc, ◌+◌, nat_lt, Bool, if◌then◌else◌, Option, Some, None, Result, Ok, Err, List, [], ◌∷◌, length, slice_get}
 use Rattle.std.specs.List.{range_with_len}
 use Rattle.dl_limits.specs.declared.TheConstants.{MOST_COMPONENTS, MOST_NETWORK_DEPTH}
 use Rattle.csp_atoms.specs.Sets.{event_numbers}
