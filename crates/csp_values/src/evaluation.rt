@@ -183,7 +183,8 @@ pub fn front_under(
 ) -> Result<u32, EvalFault>
     ensures { Gives result (front_worth program.now (length program.now.defs) (with_bound bound.now []) channel fields.now) }
 {
-    let scope = whole_scope(alloc, &Fitting::of(program));
+    let content = Fitting::of(program);
+    let scope = whole_scope(alloc, &content);
     eval_front(&scope, &names_under(bound), channel, fields)
 }
 
