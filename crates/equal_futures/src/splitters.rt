@@ -7,7 +7,7 @@ ghost use Rattle.equal_futures.specs.Arrows.{AreAdded, AreFrom, AreGathered, Are
 ghost use Rattle.partitions.specs.Blocks.{HasBlocks, IsCalm, IsWhole, count_of, state_of};
 ghost use Rattle.equal_futures.specs.Splits.{AreAllFrom, IsSplitByBlock, IsSplitByMarks};
 
-use crate::rounds::{Classes, round};
+use crate::classes::{Classes, renumbered};
 use containers::{Items, empty_rows, push_at};
 use csp_base::NoMemory;
 use csp_tables::NormNode;
@@ -67,7 +67,7 @@ fn classes_by_rows(
     while let Some(block) = partition.next_waiting() {
         split_by_block(alloc, rows, partition, block)?;
     }
-    round(alloc, nodes, partition.blocks.as_slice())
+    renumbered(alloc, partition.blocks.as_slice())
 }
 
 // Splits each block into nodes of equal marks.

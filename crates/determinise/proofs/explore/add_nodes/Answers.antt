@@ -31,4 +31,5 @@ loop-alloc-preserved c =
       so_far = subst (AreNodesSoFar raw c.node_of.new.sets) (sym c.in_ok-push_node.ensures) (nodes_more raw (IsReachedFromSet raw (set_at old c.len-in-loop-alloc-2.result)) old c.node_of.new.sets nodes c.in_ok-node.node inside c.loop-alloc.invariant.so_far c.node_of.ensures.more is c.in_ok-node.ensures.order);
       reached = reached_more raw old c.node_of.new.sets c.len-in-loop-alloc-2.result below c.loop-alloc.invariant.reached c.node_of.ensures.more;
       few = c.in_ok-node.ensures.few;
+      ready = c.in_ok-node.ensures.ready;
     }

@@ -1,4 +1,5 @@
 use Rattle.std.proofs.Common.{◌-◌, ◌≤◌, length}
+use Rattle.determinise.specs.Known.{IsReady}
 use Rattle.determinise.specs.Progress.{AreNodesSoFar, AreReachedSets}
 use Rattle.determinise.proofs.explore.add_nodes.Given as goal
 
@@ -7,6 +8,7 @@ invariant-loop-alloc l = record {
   so_far : AreNodesSoFar l.table l.sets l.nodes.items;
   reached : AreReachedSets l.table l.sets;
   few : length l.sets ≤ 2048;
+  ready : IsReady l.table l.sets l.known;
 }
 
 abbrev pub decreases-loop-alloc : goal.decreases-loop-alloc

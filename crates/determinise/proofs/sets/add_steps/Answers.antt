@@ -31,6 +31,5 @@ loop-at-preserved c =
     let number = c.in_ok-number.ensures in
     record {
       steps = subst (AreStepsSoFar c.args.table.now c.args.moves.now c.group_end-end.result c.args.sets.now c.number_of_next.new.sets) (sym added) (steps_more c.args.table.now c.args.moves.now at c.group_end-end.result c.in_ok-number.number c.args.sets.now c.loop-at.sets c.number_of_next.new.sets c.loop-at.next.items g c.loop-at.invariant.steps c.number_of_next.ensures.more number.number number.set number.order number.few);
-      known = number.known;
-      unmarked = number.unmarked;
+      ready = number.ready;
     }

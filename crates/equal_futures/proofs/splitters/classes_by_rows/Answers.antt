@@ -1,9 +1,9 @@
-use Rattle.std.proofs.Common.{◌≡◌, length, refl, sym, ap, ◌∙◌}
+use Rattle.std.proofs.Common.{◌≡◌, ℕ, List, length, subst, refl, sym, ap, ◌∙◌, arith}
 use Rattle.std.proofs.lemmas.Result.{IfOk-weaker}
-use Rattle.equal_futures.specs.Alike.{AreTold}
+use Rattle.equal_futures.specs.Renumbered.{AreRenumbered}
 use Rattle.partitions.specs.Blocks.{state_of, count_of}
-use Rattle.equal_futures.specs.declared.rounds.Classes.{Classes}
-use Rattle.equal_futures.proofs.Settling.{block_refined, classes_told, marks_refined, rows_read}
+use Rattle.equal_futures.specs.declared.classes.Classes.{Classes}
+use Rattle.equal_futures.proofs.Settling.{block_refined, classes_then, marks_refined, rows_read}
 use Rattle.equal_futures.proofs.splitters.classes_by_rows.Goals as goal
 
 pub loop-block-init : goal.loop-block-init
@@ -25,8 +25,14 @@ loop-block-preserved c =
     (count_of c.loop-block.partition) (count_of c.next_waiting.new.self) c.args.rows.now c.args.rows.now c.loop-block.invariant c.loop-block.invariant.fit.blocks_len (c.in-Some.ensures.fit.blocks_len ∙ c.loop-block.invariant.fit.blocks_len)
     c.in-Some.ensures c.requires.incoming refl c.in_ok-split_by_block.ensures
 
+pub renumbered-requires : goal.renumbered-requires
+renumbered-requires c =
+    let blocks : c.as_slice.result.now ≡ (state_of c.loop-block.partition).blocks = c.as_slice.ensures.value ∙ ap (λ s. s.blocks) c.in_default.ensures.same in
+    omega (arith, ap length blocks, c.loop-block.invariant.fit.blocks_len, c.requires.numbered)
+
 pub returns : goal.returns
 returns c =
     let blocks : c.as_slice.result.now ≡ (state_of c.loop-block.partition).blocks = c.as_slice.ensures.value ∙ ap (λ s. s.blocks) c.in_default.ensures.same in
-    IfOk-weaker _ _ _ (λ (made : Classes) (h : AreTold c.args.nodes.now c.as_slice.result.now made.numbers.items made.count).
-    classes_told c.args.nodes.now c.args.marks.now c.requires.rising c.requires.marks (state_of c.loop-block.partition) c.as_slice.result.now made.numbers.items made.count blocks c.loop-block.invariant c.in_default.ensures.none h) c.round.ensures
+    IfOk-weaker _ _ _ (λ (made : Classes) (h : AreRenumbered c.as_slice.result.now made.numbers.items made.count).
+    classes_then c.args.nodes.now c.args.marks.now c.requires.rising c.requires.marks (state_of c.loop-block.partition) made.numbers.items made.count c.loop-block.invariant c.in_default.ensures.none
+    (subst (λ (xs : List ℕ). AreRenumbered xs made.numbers.items made.count) blocks h)) c.renumbered.ensures
