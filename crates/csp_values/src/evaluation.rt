@@ -1,20 +1,24 @@
 //! Evaluation, from the left.
 
-ghost use Rattle.std.specs.Prelude.{◌≡◌, Ok, Some, [], length, map};
+ghost use Rattle.std.specs.List.{All};
+ghost use Rattle.std.specs.Prelude.{◌≡◌, IfOk, Ok, Some, [], length, map};
 ghost use Rattle.csp_atoms.specs.declared.atom.Atom.TheVariants as atom;
 ghost use Rattle.csp_atoms.specs.declared.value.Value.TheVariants as value;
 ghost use Rattle.csp_program.specs.Atoms.{added, all_added};
 ghost use Rattle.csp_program.specs.Outcome.{and_then};
-ghost use Rattle.csp_program.specs.Value.{as_atom, as_set, binary, value_of, value_within};
+ghost use Rattle.csp_program.specs.Value.{as_atom, as_set, binary, gathered, value_of, value_within};
 ghost use Rattle.csp_program.specs.Value as meant;
+ghost use Rattle.value_laws.specs.Bindings.{IsSetValue};
 ghost use Rattle.value_laws.specs.Numbers.{field_place, ChannelsFit};
 ghost use Rattle.value_operators.specs.Env.{env_in, parameters, with_bound};
 ghost use Rattle.value_operators.specs.Gives.{Gives};
 ghost use Rattle.value_operators.specs.Forms as form;
 ghost use Rattle.csp_values.specs.Worth.{worth, worths, number_worth, truth_worth, atoms_worth, chosen, range_of, set_of, use_worth, body_worth, with_items, event_worth, fields_worth, front_worth, with_front, with_fronts, one_more_binding, walk_worth, gathered_of, GivesTally};
+ghost use Rattle.csp_values.specs.Stays.{PartStays, Stays};
 ghost use Rattle.csp_values.specs.Course.{GivesBinding, GivesStep, IsUnder, course, course_under};
 
 use crate::fitting::Fitting;
+use crate::reads::may_read;
 use crate::tally::Tally;
 use crate::walk::{Step, Walk, pop, take};
 use containers::Items;
@@ -95,6 +99,7 @@ pub fn eval_in(alloc: Global, content: &Content, expr: &Expr) -> Result<Value, E
 
 // No names but those that are bound.
 fn names_under<'a>(bound: &'a [(u32, Atom)]) -> Names<'a>
+    ensures names { env_in result ≡ with_bound bound.now [] }
     ensures parameters { parameters result ≡ [] }
     ensures bound { result.bound.now ≡ bound.now }
 {
@@ -778,6 +783,24 @@ fn gather_all(
     yields: &Yield<'_>,
     tally: Tally,
 ) -> Result<Tally, EvalFault>
+    requires { IsSetValue tally.atoms }
+    ensures { GivesTally result (walk_worth scope.now.content.now scope.now.uses gens.now yields.now.items.now yields.now.parts.now (env_in names.now) (gathered_of tally)) }
+{
+    if may_read(yields.items, yields.parts, gens) {
+        return gather_each(scope, names, gens, yields, tally);
+    }
+    gather_once(scope, names, gens, yields, tally)
+}
+
+// What all bindings of generators add, evaluated under each of them.
+#[cycle(eval)]
+fn gather_each(
+    scope: &Scope<'_>,
+    names: &Names<'_>,
+    gens: &[Gen],
+    yields: &Yield<'_>,
+    tally: Tally,
+) -> Result<Tally, EvalFault>
     ensures { GivesTally result (walk_worth scope.now.content.now scope.now.uses gens.now yields.now.items.now yields.now.parts.now (env_in names.now) (gathered_of tally)) }
 {
     let mut walk = Walk::new(scope.alloc, names.bound)?;
@@ -790,6 +813,46 @@ fn gather_all(
             bound: walk.bound(),
         };
         tally = gather(scope, &inner, yields, tally)?;
+    }
+    Ok(tally)
+}
+
+// One more binding, which adds nothing.
+fn counted(tally: Tally) -> Result<Tally, EvalFault>
+    ensures tally { GivesTally result (gathered (λ _ atoms. Ok atoms) [] (gathered_of tally)) }
+    ensures atoms { IfOk result (λ more. more.atoms ≡ tally.atoms) }
+{
+    let Tally { bindings, atoms } = tally;
+    if bindings >= MOST_BINDINGS {
+        return Err(SET_LIMIT);
+    }
+    Ok(Tally {
+        bindings: bindings + 1,
+        atoms,
+    })
+}
+
+// What all bindings of generators add, where that reads none of their names: it is evaluated at the first binding alone.
+#[cycle(eval)]
+fn gather_once(
+    scope: &Scope<'_>,
+    names: &Names<'_>,
+    gens: &[Gen],
+    yields: &Yield<'_>,
+    tally: Tally,
+) -> Result<Tally, EvalFault>
+    requires set { IsSetValue tally.atoms }
+    requires items { All (Stays gens.now) yields.now.items.now }
+    requires parts { All (PartStays gens.now) yields.now.parts.now }
+    ensures { GivesTally result (walk_worth scope.now.content.now scope.now.uses gens.now yields.now.items.now yields.now.parts.now (env_in names.now) (gathered_of tally)) }
+{
+    let mut walk = Walk::new(scope.alloc, names.bound)?;
+    if !find_binding(scope, names, gens, &mut walk)? {
+        return Ok(tally);
+    }
+    let mut tally = gather(scope, names, yields, tally)?;
+    'bindings: while find_binding(scope, names, gens, &mut walk)? {
+        tally = counted(tally)?;
     }
     Ok(tally)
 }

@@ -6,6 +6,7 @@
 
 mod evaluation;
 mod fitting;
+mod reads;
 mod tally;
 mod walk;
 
