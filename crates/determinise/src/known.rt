@@ -42,8 +42,9 @@ impl Known {
     }
 
     // Lets all lists go where there is no room for more.
-    pub(crate) fn make_room(&mut self, alloc: Global)
-        ensures { (raw : RawSteps) (sets : List (List ℕ)) → IsReady raw sets self.old → IsReady raw sets self.new }
+    fn make_room(&mut self, alloc: Global)
+        ensures known { (raw : RawSteps) (sets : List (List ℕ)) → AreKnown raw sets self.old.starts self.old.numbers.items → AreKnown raw sets self.new.starts self.new.numbers.items }
+        ensures marks { self.new.marks ≡ self.old.marks }
     {
         if self.room == 0 {
             self.starts = Numbering::new(alloc);
@@ -58,6 +59,9 @@ impl Known {
         ensures within { (raw : RawSteps) (sets : List (List ℕ)) → AreKnown raw sets self.now.starts self.now.numbers.items → IfSome result (λ n. n < length sets) }
         ensures set { (raw : RawSteps) (sets : List (List ℕ)) → AreKnown raw sets self.now.starts self.now.numbers.items → IfSome result (λ n. IsSilentClosure raw starts.now (set_at sets n)) }
     {
+        if self.numbers.is_empty() {
+            return None;
+        }
         match self.starts.find(starts) {
             Some(place) => Some(self.numbers[place]),
             None => None,
@@ -67,6 +71,7 @@ impl Known {
     // Keeps the number of the set of a list, unless the list is known or the set, of so many terms, soon found again.
     pub(crate) fn add(
         &mut self,
+        alloc: Global,
         starts: Items<u32>,
         number: u32,
         terms: usize,
@@ -77,6 +82,7 @@ impl Known {
         if terms < MANY_TERMS {
             return Ok(());
         }
+        self.make_room(alloc);
         self.room = self.room.saturating_sub(starts.len());
         let (_, is_new) = self.starts.insert_full(starts)?;
         if is_new {

@@ -38,41 +38,15 @@ pub(crate) fn next_steps(
     ensures limit { result ≡ Err SetFault.SubsetLimit → length sets.new ≡ MOST_SETS + 1 }
 {
     let mut next = Vec::new(alloc);
-    known.make_room(alloc);
-    add_steps(alloc, table, moves, sets, known, &mut next)?;
-    Ok(next)
-}
-
-// Adds the same steps to none.
-fn add_steps(
-    alloc: Global,
-    table: &Prepared<'_>,
-    moves: &[(Event, u32)],
-    sets: &mut Numbering<Items<u32>>,
-    known: &mut Known,
-    next: &mut Vec<(Event, u32)>,
-) -> Result<(), SetFault>
-    requires order { IsNonDecreasingBy (λ step. step.0) moves.now }
-    requires within { All (λ step. step.1 < table.now.count) moves.now }
-    requires few { length sets.old ≤ MOST_SETS }
-    requires ready { IsReady table.now sets.old known.old }
-    requires none { next.old.items ≡ [] }
-    ensures steps { OnOk result (AreNodeSteps table.now moves.now sets.new next.new.items) }
-    ensures order { OnOk result (MeetsInOrder (length sets.old) (targets_of_steps next.new.items) (length sets.new)) }
-    ensures more { AreMoreSets (IsSomeNextSet table.now moves.now) sets.old sets.new }
-    ensures few { OnOk result (length sets.new ≤ MOST_SETS) }
-    ensures ready { OnOk result (IsReady table.now sets.new known.new) }
-    ensures limit { result ≡ Err SetFault.SubsetLimit → length sets.new ≡ MOST_SETS + 1 }
-{
     let mut at = 0;
     while at < moves.len() {
         let event = moves[at].0;
         let end = group_end(moves, at);
         let number = number_of_next(alloc, table, &moves[at..end], sets, known)?;
-        push(next, event, number)?;
+        push(&mut next, event, number)?;
         at = end;
     }
-    Ok(())
+    Ok(next)
 }
 
 // Where the steps by the event at a place end.
@@ -116,7 +90,12 @@ fn number_of_next(
         return Ok(number);
     }
     let number = number_of_closure(alloc, table, starts.as_slice(), sets, &mut known.marks)?;
-    known.add(starts, number, sets.as_slice()[number as usize].len())?;
+    known.add(
+        alloc,
+        starts,
+        number,
+        sets.as_slice()[number as usize].len(),
+    )?;
     Ok(number)
 }
 

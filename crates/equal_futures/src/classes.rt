@@ -1,6 +1,6 @@
 //! Classes of nodes, numbered in the order in which they are first seen.
 
-ghost use Rattle.std.specs.Prelude.{◌≡◌, ◌<◌, ◌≤◌, ◌^◌, [], length, IfOk, OnOk};
+ghost use Rattle.std.specs.Prelude.{◌<◌, ◌^◌, length, IfOk};
 ghost use Rattle.equal_futures.specs.Renumbered.{AreRenumbered};
 
 use containers::Numbering;
@@ -23,26 +23,10 @@ pub(crate) fn renumbered(alloc: Global, blocks: &[u32]) -> Result<Classes, NoMem
 {
     let mut numbering = Numbering::new(alloc);
     let mut numbers = Vec::new(alloc);
-    add_numbers(blocks, &mut numbering, &mut numbers)?;
-    let count = numbering.len() as u32;
-    Ok(Classes { numbers, count })
-}
-
-// Adds the number of each block to none, where no block is numbered yet.
-fn add_numbers(
-    blocks: &[u32],
-    numbering: &mut Numbering<u32>,
-    numbers: &mut Vec<u32>,
-) -> Result<(), NoMemory>
-    requires numbered { length blocks.now < 2 ^ 32 }
-    requires empty { numbering.old ≡ [] }
-    requires none { numbers.old.items ≡ [] }
-    ensures numbers { OnOk result (AreRenumbered blocks.now numbers.new.items (length numbering.new)) }
-    ensures few { OnOk result (length numbering.new ≤ length blocks.now) }
-{
     for block in blocks {
         let number = numbering.number(*block)?;
         numbers.push(number as u32)?;
     }
-    Ok(())
+    let count = numbering.len() as u32;
+    Ok(Classes { numbers, count })
 }

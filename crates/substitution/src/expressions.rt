@@ -187,7 +187,7 @@ fn replace_two(
 
 /// The expressions with the values in place of the names in each of them.
 #[cycle(put_expr)]
-pub(crate) fn put_exprs(
+pub fn put_exprs(
     alloc: Global,
     exprs: &[Expr],
     values: &Values<'_>,

@@ -1,6 +1,6 @@
 //! Names looked up by their numbers: by their places where they count up, else one by one.
 
-ghost use Rattle.std.specs.Prelude.{◌≡◌, ◌+◌, ◌≤◌, map, nat_eq, slice_get, IsTrue};
+ghost use Rattle.std.specs.Prelude.{◌≡◌, ◌+◌, ◌≤◌, map, nat_eq, slice_get, true, IsTrue};
 ghost use Rattle.std.specs.Option.{option_copied};
 ghost use Rattle.csp_program.specs.Environments.{with_bound};
 ghost use Rattle.csp_program.specs.Substitution.{given_by};
@@ -107,10 +107,15 @@ fn listed_at<'a>(names: &[u32], values: &'a [Value], first: u32, name: u32) -> O
 fn listed_first<'a>(names: &[u32], values: &'a [Value], name: u32) -> Option<&'a Value>
     ensures { option_copied result ≡ given_by (bound_to names.now values.now) name }
 {
-    for (place, other) in names.iter().enumerate() {
+    let mut names = names;
+    let mut values = values;
+    while let Some((other, other_names)) = names.split_first() {
+        let (value, other_values) = values.split_first()?;
         if *other == name {
-            return item_at(values, place);
+            return Some(value);
         }
+        names = other_names;
+        values = other_values;
     }
     None
 }
@@ -139,8 +144,11 @@ fn bound_at(bound: &[(u32, Atom)], first: u32, name: u32) -> Option<Atom>
     if name < first {
         return None;
     }
-    let pair = bound.get((name - first) as usize)?;
-    Some(pair.1)
+    let place = (name - first) as usize;
+    if place >= bound.len() {
+        return None;
+    }
+    Some(bound[place].1)
 }
 
 // The atom of a name, looked for from the end.
