@@ -1,5 +1,5 @@
 -- What a binding adds once more changes nothing.
-use Rattle.std.proofs.Common.{◌≡◌, ℕ, ◌+◌, ◌≤◌, Bool, true, false, cond, ◌||◌, Ok, Err, List, [], ◌∷◌, ◌++◌, map, length, refl, ap, sym, ◌∙◌, inr}
+use Rattle.std.proofs.Common.{◌≡◌, ℕ, ◌+◌, ◌≤◌, Bool, true, false, cond, ◌||◌, Ok, Err, List, [], ◌∷◌, ◌++◌, map, length, refl, ap, sym, ◌∙◌, inr, arith}
 use Rattle.std.specs.Prelude.{if◌then◌else◌, IsTrue, nat_lt}
 use Rattle.std.proofs.lemmas.Bool.{false≢true}
 use Rattle.csp_atoms.specs.Order.{kind_of, same}
@@ -58,13 +58,14 @@ record Adds (f : List Atom → Outcome (List Atom)) : Type 0 where
   list : List Atom
   all : (xs : List Atom) → f xs ≡ all_added xs list
 
+then_added : (o : Outcome (List Atom)) (ys zs : List Atom) → ((xs : List Atom) → and_then (all_added xs ys) (λ more. all_added more zs) ≡ all_added xs (ys ++ zs))
+    → and_then (and_then o (λ more. all_added more ys)) (λ more. all_added more zs) ≡ and_then o (λ more. all_added more (ys ++ zs))
+then_added (Ok more) ys zs joined = joined more
+then_added (Err k) ys zs joined = refl
+
 joined_adds : (xs ys zs : List Atom) → and_then (all_added xs ys) (λ more. all_added more zs) ≡ all_added xs (ys ++ zs)
 joined_adds xs [] zs = refl
-joined_adds xs (y ∷ ys) zs = by_first (added xs y)
-  where
-    by_first : (o : Outcome (List Atom)) → and_then (and_then o (λ more. all_added more ys)) (λ more. all_added more zs) ≡ and_then o (λ more. all_added more (ys ++ zs))
-    by_first (Ok more) = joined_adds more ys zs
-    by_first (Err k) = refl
+joined_adds xs (y ∷ ys) zs = then_added (added xs y) ys zs (λ more. joined_adds more ys zs)
 
 both_add : (f g : List Atom → Outcome (List Atom)) → Adds f → Adds g → Adds (λ xs. and_then (f xs) g)
 both_add f g one other = record {
@@ -107,7 +108,7 @@ unfolding with_items with_fronts
 yielded_again p n items parts env atoms more set h =
     let first = came_through (with_items p n env items atoms) (λ l. with_fronts p n env parts l) more h in
     let adds = both_add (with_items p n env items) (with_fronts p n env parts) (items_add (meanings p n items) env atoms first.0 first.1)
-        (fronts_add p.channels (map (front (uses_within p n) p.channels) parts) env first.0 more first.2) in
+    (fronts_add p.channels (map (front (uses_within p n) p.channels) parts) env first.0 more first.2) in
     let grows = all_grow atoms adds.list more (sym (adds.all atoms) ∙ h) in
     adds.all more ∙ members_added more adds.list (grows.0 set) (λ a has. (grows.1 a).1 (inr has))
 

@@ -1,7 +1,7 @@
 -- What is worth the same under each binding of generators: forms whose parts are, and what bindings add, which then is what it is under the names
 -- around the generators.
 use Rattle.std.proofs.Common.{◌≡◌, ℕ, zero, suc, ◌+◌, ◌<◌, Bool, true, false, cond, ◌||◌, nat_eq, Option, Some, None, Ok, Err, List, [], ◌∷◌, map, length, slice_get, refl, ap, sym, subst, ◌∙◌, arith}
-use Rattle.std.specs.Prelude.{not, if◌then◌else◌, ℤ, nat_lt, slice_index_or}
+use Rattle.std.specs.Prelude.{if◌then◌else◌, ℤ, nat_lt, slice_index_or}
 use Rattle.std.specs.List.{All}
 use Rattle.csp_atoms.specs.declared.atom.Atom.{Atom}
 use Rattle.csp_atoms.specs.declared.atom.Atom.TheVariants as atom
@@ -172,14 +172,6 @@ module _ (gens : List Gen) where
 pub ruleset forms_stay = (stays-Num, stays-Truth, stays-Const, stays-Bound, stays-Lit, stays-Neg, stays-Not, stays-Binary, stays-If, stays-Call, stays-SetName, stays-Event, stays-Display, stays-Range, stays-SetOp)
 
 -- ---- the bindings of generators
-
-pub not_true : (b : Bool) → not b ≡ true → b ≡ false
-not_true true h = absurd cc
-not_true false h = refl
-
-pub not_false : (b : Bool) → not b ≡ false → b ≡ true
-not_false true h = refl
-not_false false h = absurd cc
 
 neither : (a b : Bool) → (a || b) ≡ false → (a ≡ false) × (b ≡ false)
 neither true b h = absurd cc

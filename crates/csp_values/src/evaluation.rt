@@ -527,9 +527,7 @@ fn eval_body(scope: &Scope<'_>, def: &Def, args: &[Value]) -> Result<Value, Eval
             let names = names_in(def.params.as_slice(), args);
             eval_expr(scope, &names, expr)
         }
-        Body::Nametype(expr) => {
-            eval_expr(scope, &names_under(&[]), expr)
-        }
+        Body::Nametype(expr) => { eval_expr(scope, &names_under(&[]), expr) }
         Body::Datatype(numbers) => constants_value(scope.alloc, numbers.as_slice()),
         Body::Process(_) => Err(KIND),
         Body::Network(_) => Err(KIND),

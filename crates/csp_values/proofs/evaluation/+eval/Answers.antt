@@ -17,7 +17,7 @@ use Rattle.value_operators.proofs.Faults.{passed}
 use Rattle.csp_values.specs.Worth.{worth, number_worth, truth_worth, atoms_worth, range_of, set_of, use_worth, with_items, with_fronts, gathered_of, one_more_binding, yielded}
 use Rattle.csp_values.proofs.Arms.{binding_passed, lacking, not_lacking, same, part_passed, walk_passed, worth_num, worth_truth, worth_const, worth_bound, worth_lit, worth_neg, worth_not, worth_binary, worth_if, worth_call, worth_set_name, worth_event, worth_display, worth_range, worth_set_op, worth_comp, worth_product, datum_worth, datatype_worth, an_event, count_fits, event_fault, front_without_sets, front_fault, front_added, no_event, binding_item_fault, binding_with_items}
 use Rattle.csp_values.proofs.Again.{adds_nothing, there_after}
-use Rattle.csp_values.proofs.Stays.{not_false, not_true, once_begun}
+use Rattle.csp_values.proofs.Stays.{once_begun}
 use Rattle.csp_values.proofs.Equations.{body-Nametype, body-Process, body-Network, use-none_left, use-unknown, use-known, fronts-nil, with_items-nil, binding-full}
 use Rattle.csp_values.proofs.Courses.{begun_under, binding_found, binding_less, condition_fails, condition_fault, condition_holds, ends, gathering_begun, gathering_fault, gathering_next, goes_on, goes_under, over_end, over_fault, set_entered, set_fault, step_less, step_passed}
 use Rattle.csp_values.proofs.Falls.{condition_falls, set_falls, weight_neg, weight_not, weight_binary, weight_if, weight_call, weight_set_name, weight_event, weight_display, weight_range, weight_set_op, weight_comp, weight_product, weight_part, use_falls}
@@ -470,23 +470,20 @@ gather_once-returns-in_err-find_binding t c =
 pub gather_once-returns-then-not-branch : goal.gather_once-returns-then-not-branch
 gather_once-returns-then-not-branch t c =
     let begun = once_begun c.args.scope.now.content.now c.args.scope.now.uses c.args.gens.now c.args.yields.now.items.now c.args.yields.now.parts.now c.args.names.now.bound.now (parameters c.args.names.now) c.in_ok-walk.walk (gathered_of c.args.tally) c.requires.items c.requires.parts c.in_ok-walk.ensures in
-    let off = not_true _ c.if-not-branch.true in
-    let ended = rw off at c.in_ok-find_binding.ensures in
+    let ended = rw c.if-not-branch.true at c.in_ok-find_binding.ensures in
     begun ∙ over_end (λ _. one_more_binding c.args.scope.now.content.now c.args.scope.now.uses c.args.yields.now.items.now c.args.yields.now.parts.now (env_in c.args.names.now)) _ (gathered_of c.args.tally) ended
 
 pub gather_once-returns-in_err-tally : goal.gather_once-returns-in_err-tally
 gather_once-returns-in_err-tally t c =
     let begun = once_begun c.args.scope.now.content.now c.args.scope.now.uses c.args.gens.now c.args.yields.now.items.now c.args.yields.now.parts.now c.args.names.now.bound.now (parameters c.args.names.now) c.in_ok-walk.walk (gathered_of c.args.tally) c.requires.items c.requires.parts c.in_ok-walk.ensures in
-    let on = not_false _ c.if-not-branch.false in
-    let found = rw on at c.in_ok-find_binding.ensures in
+    let found = rw c.if-not-branch.false at c.in_ok-find_binding.ensures in
     walk_passed _ _ _ _ c.from_residual-in_err-tally.ensures.1 c.in_err-tally.ensures
     (λ k e. gathering_fault (λ _. one_more_binding c.args.scope.now.content.now c.args.scope.now.uses c.args.yields.now.items.now c.args.yields.now.parts.now (env_in c.args.names.now)) _ _ _ _ _ (gathered_of c.args.tally) k begun found.0 refl e)
 
 pub gather_once-bindings-init : goal.gather_once-bindings-init
 gather_once-bindings-init t c =
     let begun = once_begun c.args.scope.now.content.now c.args.scope.now.uses c.args.gens.now c.args.yields.now.items.now c.args.yields.now.parts.now c.args.names.now.bound.now (parameters c.args.names.now) c.in_ok-walk.walk (gathered_of c.args.tally) c.requires.items c.requires.parts c.in_ok-walk.ensures in
-    let on = not_false _ c.if-not-branch.false in
-    let found = rw on at c.in_ok-find_binding.ensures in
+    let found = rw c.if-not-branch.false at c.in_ok-find_binding.ensures in
     record {
       same = gathering_next (λ _. one_more_binding c.args.scope.now.content.now c.args.scope.now.uses c.args.yields.now.items.now c.args.yields.now.parts.now (env_in c.args.names.now)) _ _ _ _ _ (gathered_of c.args.tally) (gathered_of c.in_ok-tally.tally) begun found.0 refl c.in_ok-tally.ensures;
       under = found.1;
