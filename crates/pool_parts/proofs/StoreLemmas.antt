@@ -74,7 +74,7 @@ start_numbered {T} eq old new x (Err f) ok err k y g = subst (λ (xs : List T). 
 
 -- what is noted of the parts
 module _ {T : Type 0} (d s : T → ℕ) (l : T → Names) where
-  noted_more : (notes : List Measure) (xs more : List T) → AreNoted d s l notes xs → AreNoted d s l notes (xs ++ more)
+  pub noted_more : (notes : List Measure) (xs more : List T) → AreNoted d s l notes xs → AreNoted d s l notes (xs ++ more)
   noted_more [] xs more h = tt
   noted_more (note ∷ notes) [] more h = absurd h
   noted_more (note ∷ notes) (x ∷ xs) more h = (h.0, noted_more notes xs more h.1)
@@ -90,7 +90,7 @@ module _ {T : Type 0} (d s : T → ℕ) (l : T → Names) where
   noted_numbered eq notes old new x (Ok k) ok err h = noted_new eq notes old new x ok h
   noted_numbered eq notes old new x (Err f) ok err h = subst (λ (xs : List T). AreNoted d s l notes xs) (sym err) h
 
-  noted_push : (notes : List Measure) (xs : List T) (note : Measure) (x : T) → AreNoted d s l notes xs → slice_get xs (length notes) ≡ Some x → IsMeasure d s l x note → AreNoted d s l (notes ++ note ∷ []) xs
+  pub noted_push : (notes : List Measure) (xs : List T) (note : Measure) (x : T) → AreNoted d s l notes xs → slice_get xs (length notes) ≡ Some x → IsMeasure d s l x note → AreNoted d s l (notes ++ note ∷ []) xs
   noted_push [] [] note x h g is = cc
   noted_push [] (y ∷ xs) note x h g is = let e : y ≡ x = cc in (subst (λ (z : T). IsMeasure d s l z note) (sym e) is, tt)
   noted_push (n ∷ notes) [] note x h g is = absurd h
