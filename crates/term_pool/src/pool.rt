@@ -3,10 +3,8 @@
 ghost use Rattle.std.specs.Prelude.{◌≡◌, ◌<◌, [], true, length, slice_get, IfOk, OnErr, Some};
 ghost use Rattle.csp_program.specs.Depth.{proc_depth};
 ghost use Rattle.csp_program.specs.Size.{proc_size};
-ghost use Rattle.csp_program.specs.Substitution.{proc_with};
+ghost use Rattle.csp_program.specs.Substitution.{given_by, proc_with};
 ghost use Rattle.pool_parts.specs.Counting.{capped};
-ghost use Rattle.substitution.specs.Bindings.{proc_put};
-ghost use Rattle.substitution.specs.Several.{with_values};
 ghost use Rattle.term_pool.specs.First.{with_first};
 ghost use Rattle.term_pool.specs.Low.{ProcLow};
 ghost use Rattle.term_pool.specs.Pooled.{parts, AreDifferent, Has, IsFront, PartsStandBelow};
@@ -24,12 +22,11 @@ use crate::put::put_tree;
 use crate::substitute::substitute_at;
 use containers::{Items, Key, Numbering};
 use csp_base::NoMemory;
-use csp_program::{Proc, Value};
+use csp_program::Proc;
 use pool_parts::{Measure, ProcId};
 use std::alloc::Global;
 use std::collections::HashMap;
 use std::marker::Model;
-use std::slice::from_ref;
 use substitution::Values;
 
 /// A list of processes, all different. It keeps the allocator.
@@ -183,11 +180,11 @@ impl Pool {
         values: &Values<'_>,
     ) -> Result<ProcId, NoMemory>
         requires within { id.0 < length self.old }
-        requires made { StandAt self.old ids.now (parts (proc_put values.now (tree_at self.old id))) }
-        ensures process { IfOk result (λ made. slice_get self.new made.0 ≡ Some (proc_put values.now (tree_at self.old id))) }
+        requires made { StandAt self.old ids.now (parts (proc_with (given_by values.now) (tree_at self.old id))) }
+        ensures process { IfOk result (λ made. slice_get self.new made.0 ≡ Some (proc_with (given_by values.now) (tree_at self.old id))) }
         ensures front { IsFront self.old self.new }
-        ensures known { Has self.old (proc_put values.now (tree_at self.old id)) → self.new ≡ self.old }
-        ensures only { AddsOne self.old self.new (proc_put values.now (tree_at self.old id)) }
+        ensures known { Has self.old (proc_with (given_by values.now) (tree_at self.old id)) → self.new ≡ self.old }
+        ensures only { AddsOne self.old self.new (proc_with (given_by values.now) (tree_at self.old id)) }
     {
         let made = put_made_in(
             &mut self.parts,
@@ -213,44 +210,18 @@ impl Pool {
         put_tree(self, alloc, proc)
     }
 
-    /// The place of what the process at `id` is with the value in place of the bound name with the number `slot`, as `put_all_in` puts it.
-    pub fn substitute(&mut self, id: ProcId, slot: u32, value: &Value) -> Result<ProcId, NoMemory>
+    /// The place of what the process at `id` is with the values in place of its free names. What isn't in the pool is put into it, with its
+    /// sub-processes, each of them once. Where memory fails some of them are put.
+    pub fn put_all_in(&mut self, id: ProcId, values: &Values<'_>) -> Result<ProcId, NoMemory>
         requires { id.0 < length self.old }
-        ensures process { IfOk result (λ made. slice_get self.new made.0 ≡ Some (proc_with slot value.now (tree_at self.old id))) }
+        ensures process { IfOk result (λ made. slice_get self.new made.0 ≡ Some (proc_with (given_by values.now) (tree_at self.old id))) }
         ensures front { IsFront self.old self.new }
-        ensures known { Has self.old (proc_with slot value.now (tree_at self.old id)) → self.new ≡ self.old }
-        ensures only { AddsParts self.old self.new (proc_with slot value.now (tree_at self.old id)) }
+        ensures known { Has self.old (proc_with (given_by values.now) (tree_at self.old id)) → self.new ≡ self.old }
+        ensures only { AddsParts self.old self.new (proc_with (given_by values.now) (tree_at self.old id)) }
     {
-        let made = self.put_all_in(id, from_ref(&slot), from_ref(value))?;
-        Ok(made)
-    }
-
-    /// The place of what the process at `id` is with the values in place of the bound names with these numbers, one after another. What isn't in the pool
-    /// is put into it, with its sub-processes, each of them once: a process with some of the values alone is not. Where memory fails some of them are put.
-    pub fn put_all_in(
-        &mut self,
-        id: ProcId,
-        names: &[u32],
-        values: &[Value],
-    ) -> Result<ProcId, NoMemory>
-        requires { id.0 < length self.old }
-        ensures process { IfOk result (λ made. slice_get self.new made.0 ≡ Some (with_values names.now values.now (tree_at self.old id))) }
-        ensures front { IsFront self.old self.new }
-        ensures known { Has self.old (with_values names.now values.now (tree_at self.old id)) → self.new ≡ self.old }
-        ensures only { AddsParts self.old self.new (with_values names.now values.now (tree_at self.old id)) }
-    {
-        let Some(_) = names.split_first() else {
-            return Ok(id);
-        };
         let alloc = self.alloc();
         let mut visited = HashMap::new(alloc);
-        substitute_at(
-            self,
-            &mut visited,
-            alloc,
-            &id,
-            &Values::new(alloc, names, values),
-        )
+        substitute_at(self, &mut visited, alloc, &id, values)
     }
 
     // The allocator.
