@@ -4,20 +4,16 @@ use Rattle.std.proofs.lemmas.Bool.{and_from, lt-ltb}
 use Rattle.std.specs.Prelude.{IfOk, IfSome, nat_lt, OnOk, Option, Result}
 use Rattle.std.specs.Result.{IsErrAnd}
 use Rattle.csp_base.specs.Lists.{StandsIn}
-use Rattle.csp_program.specs.Lists.{joined}
 use Rattle.csp_program.specs.Outcome.{Outcome, and_then}
 use Rattle.csp_program.specs.declared.kinds.ValueKind.{ValueKind}
 use Rattle.csp_program.specs.declared.processes.Proc.{Proc}
-use Rattle.csp_program.specs.declared.processes.Proc.TheOpen.{Proc-F}
-use Rattle.csp_program.specs.declared.processes.Proc.TheViews.{out-Proc}
 use Rattle.csp_program.specs.declared.programs.Content.{Content}
 use Rattle.process_steps.proofs.Members.{Among, placed}
-use Rattle.process_steps.specs.Needed.{events_in}
-use Rattle.process_steps.specs.Renaming.{renaming_in}
-use Rattle.process_steps.specs.StepList.{Move, in_hiding, in_renaming, in_sequence, steps_of}
+use Rattle.process_steps.specs.StepList.{Move, steps_of}
 use Rattle.value_operators.specs.declared.fault.EvalFault.{EvalFault}
 use Rattle.value_operators.specs.declared.fault.EvalFault.TheVariants as fault
-use Rattle.csp_steps.specs.Computed.{all_within, around, around_layer, AreAdded, AreEach, GivesEach, GivesLook, GivesMoves, IsListing}
+use Rattle.csp_steps.specs.Computed.{all_within, AreAdded, AreEach, GivesEach, GivesLook, GivesMoves, IsListing}
+use Rattle.csp_steps.specs.Effect.{all_moves, around, effect_of, moves_of}
 use Rattle.csp_steps.specs.Listed.{AreStepsOf, FaultIs, seen}
 use Rattle.csp_steps.specs.Order.{AreFirsts, AreFirstsAfter}
 use Rattle.csp_steps.specs.declared.step.StepTo.{StepTo}
@@ -47,26 +43,10 @@ then_alike : {A : Type 0} (o : Outcome A) (f g : A → List Move) → ((a : A) �
 then_alike (Ok a) f g h = h a
 then_alike (Err k) f g h = refl
 
-layer_alike : (p : Content) (d : Proc-F Proc) (xs ys : List Move) → AreFirsts xs ys → Alike (around_layer p d xs) (around_layer p d ys)
-layer_alike p (Proc-F.Hide q s) xs ys h =
-    then_alike (events_in p s) (λ hidden. map (λ m. in_hiding s hidden m.0 m.1) xs) (λ hidden. map (λ m. in_hiding s hidden m.0 m.1) ys) (λ hidden zs g. map_firsts (λ m. in_hiding s hidden m.0 m.1) xs ys [] zs h g)
-layer_alike p (Proc-F.Rename q pairs gens) xs ys h =
-    then_alike (renaming_in p pairs gens) (λ renamed. joined (map (λ m. in_renaming pairs gens renamed m.0 m.1) xs)) (λ renamed. joined (map (λ m. in_renaming pairs gens renamed m.0 m.1) ys)) (λ renamed zs g. joined_firsts (λ m. in_renaming pairs gens renamed m.0 m.1) xs [] ys [] zs h (λ x s. absurd (stands_none x s)) g)
-layer_alike p (Proc-F.Seq q r) xs ys h = λ zs g. map_firsts (λ m. in_sequence r m.0 m.1) xs ys [] zs h g
-layer_alike p Proc-F.Stop xs ys h = same_same []
-layer_alike p (Proc-F.Prefix hd fields q) xs ys h = same_same []
-layer_alike p (Proc-F.Guard c q) xs ys h = same_same []
-layer_alike p (Proc-F.If c q r) xs ys h = same_same []
-layer_alike p (Proc-F.External qs) xs ys h = same_same []
-layer_alike p (Proc-F.Internal qs) xs ys h = same_same []
-layer_alike p (Proc-F.EachExternal x s q) xs ys h = same_same []
-layer_alike p (Proc-F.EachInternal x s q) xs ys h = same_same []
-layer_alike p (Proc-F.Call d args) xs ys h = same_same []
-layer_alike p Proc-F.Skip xs ys h = same_same []
-layer_alike p Proc-F.Ended xs ys h = same_same []
-
 pub around_alike : (p : Content) (t : Proc) (xs ys : List Move) → AreFirsts xs ys → Alike (around p t xs) (around p t ys)
-around_alike p t xs ys h = layer_alike p (out-Proc t) xs ys h
+around_alike p t xs ys h =
+    then_alike (effect_of p t) (λ e. all_moves e t xs) (λ e. all_moves e t ys)
+    (λ e zs g. joined_firsts (λ m. moves_of e t m.0 m.1) xs [] ys [] zs h (λ x s. absurd (stands_none x s)) g)
 
 alike_fault : (o u : Outcome (List Move)) (k : ValueKind) → Alike o u → u ≡ Err k → o ≡ Err k
 alike_fault (Ok xs) (Ok ys) k h e = cc

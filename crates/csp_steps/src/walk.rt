@@ -2,12 +2,10 @@
 
 ghost use Rattle.csp_steps.specs.Walked.{IsBegun, IsPopped};
 
-use crate::step::StepTo;
 use containers::Items;
 use csp_atoms::{Atom, AtomSet};
 use csp_program::Field;
 use std::alloc::Global;
-use term_pool::ProcId;
 
 /// The fields that come next.
 #[derive(Clone, Copy)]
@@ -18,8 +16,6 @@ pub(crate) struct Turn<'a> {
     pub fields: &'a [Field],
     /// The number of the fields before them.
     pub number: u64,
-    /// The place of the process after them, which has the values of the inputs before them.
-    pub to: ProcId,
 }
 
 /// An input.
@@ -37,8 +33,6 @@ pub(crate) struct Input<'a> {
     pub fields: &'a [Field],
     /// The number of the fields before it.
     pub number: u64,
-    /// The place of the process after all fields, which has the values of the inputs before it.
-    pub to: ProcId,
 }
 
 /// An input under which a walk stands.
@@ -61,8 +55,17 @@ pub(crate) struct Walk<'a> {
     pub frames: Items<Frame<'a>>,
     /// The fields that come next; none where the last input goes on.
     pub turn: Option<Turn<'a>>,
-    /// A step for each way that was found.
-    pub steps: Items<StepTo>,
+}
+
+/// What a walk comes to by one turn.
+#[derive(Clone, Copy)]
+pub(crate) enum Turned {
+    /// To the end of the fields: this is their number, under the names that are bound.
+    Way(u64),
+    /// To other fields.
+    On,
+    /// To its own end.
+    End,
 }
 
 /// A walk that begins.
@@ -73,7 +76,6 @@ pub(crate) fn begun<'a>(alloc: Global, turn: Turn<'a>) -> Walk<'a>
         bound: Items::new(alloc),
         frames: Items::new(alloc),
         turn: Some(turn),
-        steps: Items::new(alloc),
     }
 }
 
