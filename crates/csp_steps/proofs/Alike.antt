@@ -12,11 +12,12 @@ use Rattle.process_steps.proofs.Members.{Among, placed}
 use Rattle.process_steps.specs.StepList.{Move, steps_of}
 use Rattle.value_operators.specs.declared.fault.EvalFault.{EvalFault}
 use Rattle.value_operators.specs.declared.fault.EvalFault.TheVariants as fault
-use Rattle.csp_steps.specs.Computed.{all_within, AreAdded, AreEach, GivesEach, GivesLook, GivesMoves, IsListing}
+use Rattle.csp_steps.specs.Computed.{all_within, AreAdded, AreEach, GivesEach, GivesMoves, IsListing}
 use Rattle.csp_steps.specs.Effect.{all_moves, around, effect_of, moves_of}
 use Rattle.csp_steps.specs.Listed.{AreStepsOf, FaultIs, seen}
 use Rattle.csp_steps.specs.Order.{AreFirsts, AreFirstsAfter}
 use Rattle.csp_steps.specs.declared.step.StepTo.{StepTo}
+use Rattle.csp_steps.proofs.Computing.{passed}
 use Rattle.csp_steps.proofs.Firsts.{firsts_back, firsts_map, joined_firsts, map_firsts, stands_either, stands_none}
 use Rattle.csp_steps.proofs.Places.{standing, within_of}
 use Rattle.term_pool.specs.Pooled.{AreDifferent}
@@ -126,13 +127,8 @@ module _ (p : Content) (t u : Proc) (whole : Outcome (List Move)) (moves : List 
   pub around_each : AreDifferent trees → (steps made : List StepTo) → IsListing trees steps (around p u (map (seen mid) slice)) → AreFirsts steps made → AreEach trees made whole
   around_each different steps made h once = once_each trees different steps made whole (around p u (map (seen mid) slice)) made_alike h once
 
-  around_gone : (f : EvalFault) → GivesMoves trees (Err f) (around p u (map (seen mid) slice)) → GivesEach trees (Err f) whole
-  around_gone fault.NoMemory h = tt
-  around_gone (fault.Value kind) h = alike_fault whole (around p u (map (seen mid) slice)) kind made_alike h
-
   pub around_passed : (r : Result (List StepTo) EvalFault) (f : EvalFault) → IsErrAnd r (λ y. y ≡ f) → GivesMoves trees (Err f) (around p u (map (seen mid) slice)) → GivesEach trees r whole
-  around_passed (Ok x) f is_err h = absurd is_err
-  around_passed (Err y) f is_err h = rw is_err (around_gone f h)
+  around_passed r f is h = passed _ r f (around p u (map (seen mid) slice)) whole is h (λ k e. alike_fault whole (around p u (map (seen mid) slice)) k made_alike e)
 
 -- the steps of a choice, in other words
 pub choice_each : (trees : List Proc) (steps slice : List StepTo) (o u w : Outcome (List Move)) → o ≡ u → slice ≡ steps → w ≡ o → AreEach trees steps u → AreEach trees slice w
@@ -145,25 +141,6 @@ known_each trees o found steps e h = subst (λ (f : Option (List StepTo)). IfSom
 -- what is said of a success
 pub on_ok_of : {A E : Type 0} (r : Result A E) (x : A) (P : Type 0) → r ≡ Ok x → OnOk r P → P
 on_ok_of {E = E} r x P e h = subst (λ (z : Result _ E). OnOk z P) e h
-
--- ---- faults that are handed on
-
-each_gone : (trees mid : List Proc) (f : EvalFault) (part whole : Outcome (List Move)) → GivesEach mid (Err f) part → ((k : ValueKind) → part ≡ Err k → whole ≡ Err k) → GivesEach trees (Err f) whole
-each_gone trees mid fault.NoMemory part whole h passes = tt
-each_gone trees mid (fault.Value kind) part whole h passes = passes kind h
-
-pub each_passed : (trees mid : List Proc) (r : Result (List StepTo) EvalFault) (f : EvalFault) (part whole : Outcome (List Move))
-    → IsErrAnd r (λ y. y ≡ f) → GivesEach mid (Err f) part → ((k : ValueKind) → part ≡ Err k → whole ≡ Err k) → GivesEach trees r whole
-each_passed trees mid (Ok x) f part whole is h passes = absurd is
-each_passed trees mid (Err y) f part whole is h passes = rw is (each_gone trees mid f part whole h passes)
-
-look_gone : (p : Content) (trees mid : List Proc) (t : Proc) (f : EvalFault) → GivesLook p mid (Err f) t → GivesEach trees (Err f) (steps_of p t)
-look_gone p trees mid t fault.NoMemory h = tt
-look_gone p trees mid t (fault.Value _) h = h
-
-pub looks_passed : (p : Content) (trees mid : List Proc) (t : Proc) (r : Result (List StepTo) EvalFault) (f : EvalFault) → IsErrAnd r (λ y. y ≡ f) → GivesLook p mid (Err f) t → GivesEach trees r (steps_of p t)
-looks_passed p trees mid t (Ok x) f is h = absurd is
-looks_passed p trees mid t (Err y) f is h = rw is (look_gone p trees mid t f h)
 
 pub same_each : (trees : List Proc) (r : Result (List StepTo) EvalFault) (o u : Outcome (List Move)) → o ≡ u → GivesEach trees r u → GivesEach trees r o
 same_each trees r o u e h = subst (GivesEach trees r) (sym e) h

@@ -11,9 +11,9 @@ use Rattle.csp_program.specs.declared.kinds.ValueKind.TheVariants.{Kind}
 use Rattle.csp_program.specs.declared.processes.Proc.{Proc}
 use Rattle.csp_program.specs.declared.processes.Proc.TheOpen.{Proc-F}
 use Rattle.csp_program.specs.declared.processes.Proc.TheVariants as proc
-use Rattle.csp_program.specs.declared.processes.Proc.TheViews.{out-Proc}
+use Rattle.csp_program.specs.declared.processes.Proc.TheViews.{out-Proc, out-roll-Proc, roll-Proc}
 use Rattle.csp_program.specs.declared.programs.Content.{Content}
-use Rattle.process_steps.proofs.Equations as forms
+use Rattle.pool_parts.specs.declared.place.ProcId.{ProcId}
 use Rattle.process_steps.specs.Needed.{events_in}
 use Rattle.process_steps.specs.Renaming.{Renamed, images, renaming_in}
 use Rattle.process_steps.specs.StepList.{Move, in_hiding, in_renaming, in_sequence}
@@ -38,23 +38,29 @@ use Rattle.csp_steps.proofs.Places.{still_within, tree_stays}
 
 -- ---- an operator round another process, and in a list of processes that has grown
 
+layer : {t : Proc} (d : Proc-F Proc) → roll-Proc d ≡ t → out-Proc t ≡ d
+layer d e = ap out-Proc (sym e) ∙ out-roll-Proc d
+
+rolled : {t : Proc} (p : Content) (d : Proc-F Proc) → roll-Proc d ≡ t → effect_of p t ≡ effect_of_layer p d
+rolled p d e = ap (effect_of_layer p) (layer d e)
+
 layer_kept : (p : Content) (d : Proc-F Proc) (q : Proc) → effect_of p (layer_with_first d q) ≡ effect_of_layer p d
-layer_kept p Proc-F.Stop q = ap (effect_of_layer p) forms.layer-Stop
-layer_kept p (Proc-F.Prefix h fields r) q = ap (effect_of_layer p) (forms.layer-Prefix h fields q)
-layer_kept p (Proc-F.Guard c r) q = ap (effect_of_layer p) (forms.layer-Guard c q)
-layer_kept p (Proc-F.If c r s) q = ap (effect_of_layer p) (forms.layer-If c q s)
-layer_kept p (Proc-F.External []) q = ap (effect_of_layer p) (forms.layer-External [])
-layer_kept p (Proc-F.External (r ∷ rs)) q = ap (effect_of_layer p) (forms.layer-External (q ∷ rs))
-layer_kept p (Proc-F.Internal []) q = ap (effect_of_layer p) (forms.layer-Internal [])
-layer_kept p (Proc-F.Internal (r ∷ rs)) q = ap (effect_of_layer p) (forms.layer-Internal (q ∷ rs))
-layer_kept p (Proc-F.EachExternal x s r) q = ap (effect_of_layer p) (forms.layer-EachExternal x s q)
-layer_kept p (Proc-F.EachInternal x s r) q = ap (effect_of_layer p) (forms.layer-EachInternal x s q)
-layer_kept p (Proc-F.Hide r s) q = ap (effect_of_layer p) (forms.layer-Hide q s)
-layer_kept p (Proc-F.Rename r pairs gens) q = ap (effect_of_layer p) (forms.layer-Rename q pairs gens)
-layer_kept p (Proc-F.Call d args) q = ap (effect_of_layer p) (forms.layer-Call d args)
-layer_kept p Proc-F.Skip q = ap (effect_of_layer p) forms.layer-Skip
-layer_kept p (Proc-F.Seq r s) q = ap (effect_of_layer p) (forms.layer-Seq q s)
-layer_kept p Proc-F.Ended q = ap (effect_of_layer p) forms.layer-Ended
+layer_kept p Proc-F.Stop q = rolled p Proc-F.Stop proc.rolls-Stop
+layer_kept p (Proc-F.Prefix h fields r) q = rolled p (Proc-F.Prefix h fields q) (proc.rolls-Prefix h fields q)
+layer_kept p (Proc-F.Guard c r) q = rolled p (Proc-F.Guard c q) (proc.rolls-Guard c q)
+layer_kept p (Proc-F.If c r s) q = rolled p (Proc-F.If c q s) (proc.rolls-If c q s)
+layer_kept p (Proc-F.External []) q = rolled p (Proc-F.External []) (proc.rolls-External [])
+layer_kept p (Proc-F.External (r ∷ rs)) q = rolled p (Proc-F.External (q ∷ rs)) (proc.rolls-External (q ∷ rs))
+layer_kept p (Proc-F.Internal []) q = rolled p (Proc-F.Internal []) (proc.rolls-Internal [])
+layer_kept p (Proc-F.Internal (r ∷ rs)) q = rolled p (Proc-F.Internal (q ∷ rs)) (proc.rolls-Internal (q ∷ rs))
+layer_kept p (Proc-F.EachExternal x s r) q = rolled p (Proc-F.EachExternal x s q) (proc.rolls-EachExternal x s q)
+layer_kept p (Proc-F.EachInternal x s r) q = rolled p (Proc-F.EachInternal x s q) (proc.rolls-EachInternal x s q)
+layer_kept p (Proc-F.Hide r s) q = rolled p (Proc-F.Hide q s) (proc.rolls-Hide q s)
+layer_kept p (Proc-F.Rename r pairs gens) q = rolled p (Proc-F.Rename q pairs gens) (proc.rolls-Rename q pairs gens)
+layer_kept p (Proc-F.Call d args) q = rolled p (Proc-F.Call d args) (proc.rolls-Call d args)
+layer_kept p Proc-F.Skip q = rolled p Proc-F.Skip proc.rolls-Skip
+layer_kept p (Proc-F.Seq r s) q = rolled p (Proc-F.Seq q s) (proc.rolls-Seq q s)
+layer_kept p Proc-F.Ended q = rolled p Proc-F.Ended proc.rolls-Ended
 
 pub does_kept : (p : Content) (trees : List Proc) (op : Operator) (t q : Proc) → Does p trees op t → Does p trees op (with_first t q)
 unfolding with_first
@@ -101,17 +107,20 @@ module _ (p : Content) (trees : List Proc) (n : Node) (t : Proc) (e : tree_of tr
   same_labels kept become k (Visible a) = ap (map (λ d. Visible d)) (sym (k a))
   same_labels kept become k Tick = refl
 
-  pub does_rename : (q : _) (pairs : _) (gens : _) (kept : Images) → n ≡ node.Rename q pairs gens → KeepsOutcome kept (renaming_in p pairs.now gens.now) → Does p trees (operator.Rename kept) t
-  does_rename q pairs gens kept is h = record {
+  pub does_rename : (q : _) (pairs : _) (gens : _) (ps : List (EventPart × EventPart)) (gs : List Gen) (kept : Images) → n ≡ node.Rename q pairs gens → ps ≡ pairs.now → gs ≡ gens.now
+      → KeepsOutcome kept (renaming_in p ps gs) → Does p trees (operator.Rename kept) t
+  does_rename q pairs gens ps gs kept is same alike h = record {
     effect = rename_effect q pairs gens is ∙
-        (ap (λ o. and_then o (λ renamed. Ok (record { labels = renamed_labels (images renamed); last = (Tick, proc.Ended) }))) h.same ∙
+        (ap (λ o. and_then o (λ renamed. Ok (record { labels = renamed_labels (images renamed); last = (Tick, proc.Ended) }))) ((λ i. renaming_in p (sym same i) (sym alike i)) ∙ h.same) ∙
         (λ i. Ok (record { labels = λ l. same_labels kept (images h.renamed) h.keeps l i; last = (Tick, proc.Ended) })));
     within = tt;
   }
 
-  pub rename_fault : (q : _) (pairs : _) (gens : _) (k : ValueKind) → n ≡ node.Rename q pairs gens → renaming_in p pairs.now gens.now ≡ Err k → effect_of p t ≡ Err k
-  rename_fault q pairs gens k is h =
-      rename_effect q pairs gens is ∙ ap (λ o. and_then o (λ renamed. Ok (record { labels = renamed_labels (images renamed); last = (Tick, proc.Ended) }))) h
+  pub rename_fault : (q : _) (pairs : _) (gens : _) (ps : List (EventPart × EventPart)) (gs : List Gen) (k : ValueKind) → n ≡ node.Rename q pairs gens → ps ≡ pairs.now → gs ≡ gens.now
+      → renaming_in p ps gs ≡ Err k → effect_of p t ≡ Err k
+  rename_fault q pairs gens ps gs k is same alike h =
+      rename_effect q pairs gens is ∙
+      ap (λ o. and_then o (λ renamed. Ok (record { labels = renamed_labels (images renamed); last = (Tick, proc.Ended) }))) ((λ i. renaming_in p (sym same i) (sym alike i)) ∙ h)
 
   pub does_sequence : (q : _) (second : _) → n ≡ node.Seq q second → second.0 < length trees → Does p trees (operator.Seq second) t
   does_sequence q second is within = record { effect = effect_at (node.Seq q second) is; within = within }
@@ -152,15 +161,15 @@ through (Err k) f effect t moves h = refl
 
 first_Seq : (q r s : Proc) → with_first (proc.Seq q r) s ≡ proc.Seq s r
 unfolding with_first
-first_Seq q r s = ap (λ (d : Proc-F Proc). layer_with_first d s) (forms.layer-Seq q r)
+first_Seq q r s = ap (λ (d : Proc-F Proc). layer_with_first d s) (layer (Proc-F.Seq q r) (proc.rolls-Seq q r))
 
 first_Hide : (q : Proc) (s : Expr) (r : Proc) → with_first (proc.Hide q s) r ≡ proc.Hide r s
 unfolding with_first
-first_Hide q s r = ap (λ (d : Proc-F Proc). layer_with_first d r) (forms.layer-Hide q s)
+first_Hide q s r = ap (λ (d : Proc-F Proc). layer_with_first d r) (layer (Proc-F.Hide q s) (proc.rolls-Hide q s))
 
 first_Rename : (q : Proc) (pairs : List (EventPart × EventPart)) (gens : List Gen) (r : Proc) → with_first (proc.Rename q pairs gens) r ≡ proc.Rename r pairs gens
 unfolding with_first
-first_Rename q pairs gens r = ap (λ (d : Proc-F Proc). layer_with_first d r) (forms.layer-Rename q pairs gens)
+first_Rename q pairs gens r = ap (λ (d : Proc-F Proc). layer_with_first d r) (layer (Proc-F.Rename q pairs gens) (proc.rolls-Rename q pairs gens))
 
 abbrev hide_of : List ℕ → Effect
 hide_of hidden = record { labels = hidden_labels hidden; last = (Tick, proc.Ended) }
@@ -194,19 +203,19 @@ module _ (p : Content) (q : Proc) (moves : List Move) where
   around_hide s =
       through (events_in p s) (λ hidden. map (λ m. in_hiding s hidden m.0 m.1) moves) hide_of (proc.Hide q s) moves
       (λ hidden. each_one (λ m. in_hiding s hidden m.0 m.1) (λ m. moves_of (hide_of hidden) (proc.Hide q s) m.0 m.1) (λ m. one_hidden q s hidden m.0 m.1) moves) ∙
-      ap (λ d. and_then (effect_of_layer p d) (λ e. Ok (all_moves e (proc.Hide q s) moves))) (sym (forms.layer-Hide q s))
+      ap (λ d. and_then (effect_of_layer p d) (λ e. Ok (all_moves e (proc.Hide q s) moves))) (sym (layer (Proc-F.Hide q s) (proc.rolls-Hide q s)))
 
   pub around_rename : (pairs : List (EventPart × EventPart)) (gens : List Gen)
       → and_then (renaming_in p pairs gens) (λ renamed. Ok (joined (map (λ m. in_renaming pairs gens renamed m.0 m.1) moves))) ≡ around p (proc.Rename q pairs gens) moves
   around_rename pairs gens =
       through (renaming_in p pairs gens) (λ renamed. joined (map (λ m. in_renaming pairs gens renamed m.0 m.1) moves)) (λ renamed. rename_of (images renamed)) (proc.Rename q pairs gens) moves
       (λ renamed. each_more (λ m. in_renaming pairs gens renamed m.0 m.1) (λ m. moves_of (rename_of (images renamed)) (proc.Rename q pairs gens) m.0 m.1) (λ m. one_renamed q pairs gens renamed m.0 m.1) moves) ∙
-      ap (λ d. and_then (effect_of_layer p d) (λ e. Ok (all_moves e (proc.Rename q pairs gens) moves))) (sym (forms.layer-Rename q pairs gens))
+      ap (λ d. and_then (effect_of_layer p d) (λ e. Ok (all_moves e (proc.Rename q pairs gens) moves))) (sym (layer (Proc-F.Rename q pairs gens) (proc.rolls-Rename q pairs gens)))
 
   pub around_sequence : (r : Proc) → Ok (map (λ m. in_sequence r m.0 m.1) moves) ≡ around p (proc.Seq q r) moves
   around_sequence r =
       ap (λ ms. Ok ms) (each_one (λ m. in_sequence r m.0 m.1) (λ m. moves_of (record { labels = λ l. l ∷ []; last = (Silent, r) }) (proc.Seq q r) m.0 m.1) (λ m. one_sequence q r m.0 m.1) moves) ∙
-      ap (λ d. and_then (effect_of_layer p d) (λ e. Ok (all_moves e (proc.Seq q r) moves))) (sym (forms.layer-Seq q r))
+      ap (λ d. and_then (effect_of_layer p d) (λ e. Ok (all_moves e (proc.Seq q r) moves))) (sym (layer (Proc-F.Seq q r) (proc.rolls-Seq q r)))
 
 -- ---- what is made of the steps of the process below
 
@@ -224,3 +233,10 @@ pub goes_on : (effect : Effect) (t : Proc) (l : Label) (r : Proc) → (l ≡ Tic
 goes_on effect t Silent r h = refl
 goes_on effect t (Visible e) r h = refl
 goes_on effect t Tick r h = absurd (h refl)
+
+-- steps by what the event of a label becomes
+pub renamed_steps : (to : ProcId) (become : ℕ → List ℕ) (e : ℕ) (events : List ℕ) (l : Label) → l ≡ Visible e → events ≡ become e
+    → map {B = StepTo} (λ d. record { label = Visible d; to = to }) events ≡ map (λ k. record { label = k; to = to }) (renamed_labels become l)
+renamed_steps to become e events l is same =
+    two_maps {C = StepTo} (λ d. Visible d) (λ (k : Label). record { label = k; to = to }) events ∙ (λ i. map (λ k. record { label = k; to = to }) (map (λ d. Visible d) (same i))) ∙
+    ap (λ k. map (λ j. record { label = j; to = to }) (renamed_labels become k)) (sym is)

@@ -17,9 +17,8 @@ use Rattle.csp_program.specs.declared.processes.Head.{Head}
 use Rattle.csp_program.specs.declared.processes.Proc.{Proc}
 use Rattle.csp_program.specs.declared.processes.Proc.TheOpen.{Proc-F}
 use Rattle.csp_program.specs.declared.processes.Proc.TheVariants as proc
-use Rattle.csp_program.specs.declared.processes.Proc.TheViews.{out-Proc}
 use Rattle.csp_program.specs.declared.programs.Content.{Content}
-use Rattle.process_steps.proofs.Depths.{depth_of_out, layer_depth, put_depth}
+use Rattle.process_steps.proofs.Depths.{depth_of, layer_depth, put_depths}
 use Rattle.process_steps.proofs.Equations as forms
 use Rattle.process_steps.specs.Needed.{arguments_in, called, set_in, truth_in}
 use Rattle.csp_program.specs.Substitution.{given_by, proc_with}
@@ -44,45 +43,37 @@ use Rattle.csp_steps.specs.declared.step.StepTo.{StepTo}
 use Rattle.term_pool.proofs.TreeLemmas.{all_below_more}
 use Rattle.csp_base.specs.Lists.{greatest}
 
-depth_of : (t : Proc) (d : Proc-F Proc) → out-Proc t ≡ d → proc_depth t ≡ layer_depth d
-depth_of t d e = depth_of_out t ∙ ap layer_depth e
-
 less-Guard : (c : Expr) (q : Proc) → proc_depth q < proc_depth (proc.Guard c q)
 unfolding layer_depth
-less-Guard c q = let e = depth_of (proc.Guard c q) (Proc-F.Guard c q) (forms.layer-Guard c q) in omega (arith, e)
+less-Guard c q = let e = depth_of (proc.Guard c q) (Proc-F.Guard c q) (proc.rolls-Guard c q) in omega (arith, e)
 
 less-If : (c : Expr) (q r : Proc) → proc_depth q < proc_depth (proc.If c q r)
 unfolding layer_depth
-less-If c q r = let e = depth_of (proc.If c q r) (Proc-F.If c q r) (forms.layer-If c q r) in omega (arith, e)
+less-If c q r = let e = depth_of (proc.If c q r) (Proc-F.If c q r) (proc.rolls-If c q r) in omega (arith, e)
 
 less-If-second : (c : Expr) (q r : Proc) → proc_depth r < proc_depth (proc.If c q r)
 unfolding layer_depth
-less-If-second c q r = let e = depth_of (proc.If c q r) (Proc-F.If c q r) (forms.layer-If c q r) in omega (arith, e)
+less-If-second c q r = let e = depth_of (proc.If c q r) (Proc-F.If c q r) (proc.rolls-If c q r) in omega (arith, e)
 
 less-External : (qs : List Proc) → greatest (map proc_depth qs) < proc_depth (proc.External qs)
 unfolding layer_depth
-less-External qs = let e = depth_of (proc.External qs) (Proc-F.External qs) (forms.layer-External qs) in omega (arith, e)
+less-External qs = let e = depth_of (proc.External qs) (Proc-F.External qs) (proc.rolls-External qs) in omega (arith, e)
 
 less-EachExternal : (x : ℕ) (s : Expr) (q : Proc) → proc_depth q < proc_depth (proc.EachExternal x s q)
 unfolding layer_depth
-less-EachExternal x s q = let e = depth_of (proc.EachExternal x s q) (Proc-F.EachExternal x s q) (forms.layer-EachExternal x s q) in omega (arith, e)
+less-EachExternal x s q = let e = depth_of (proc.EachExternal x s q) (Proc-F.EachExternal x s q) (proc.rolls-EachExternal x s q) in omega (arith, e)
 
 less-Hide : (q : Proc) (s : Expr) → proc_depth q < proc_depth (proc.Hide q s)
 unfolding layer_depth
-less-Hide q s = let e = depth_of (proc.Hide q s) (Proc-F.Hide q s) (forms.layer-Hide q s) in omega (arith, e)
+less-Hide q s = let e = depth_of (proc.Hide q s) (Proc-F.Hide q s) (proc.rolls-Hide q s) in omega (arith, e)
 
 less-Rename : (q : Proc) (pairs : List (EventPart × EventPart)) (gens : List Gen) → proc_depth q < proc_depth (proc.Rename q pairs gens)
 unfolding layer_depth
-less-Rename q pairs gens = let e = depth_of (proc.Rename q pairs gens) (Proc-F.Rename q pairs gens) (forms.layer-Rename q pairs gens) in omega (arith, e)
+less-Rename q pairs gens = let e = depth_of (proc.Rename q pairs gens) (Proc-F.Rename q pairs gens) (proc.rolls-Rename q pairs gens) in omega (arith, e)
 
 less-Seq : (q r : Proc) → proc_depth q < proc_depth (proc.Seq q r)
 unfolding layer_depth
-less-Seq q r = let e = depth_of (proc.Seq q r) (Proc-F.Seq q r) (forms.layer-Seq q r) in omega (arith, e)
-
--- no process with a value put in is deeper than it was
-put_depths : (x : ℕ) (q : Proc) (atoms : List Atom) → greatest (map proc_depth (each_put x atoms q)) ≤ proc_depth q
-put_depths x q [] = omega arith
-put_depths x q (a ∷ atoms) = let e = put_depth x a q in let rest = put_depths x q atoms in omega (arith, e, rest)
+less-Seq q r = let e = depth_of (proc.Seq q r) (Proc-F.Seq q r) (proc.rolls-Seq q r) in omega (arith, e)
 
 module _ (p : Content) where
   -- a guard

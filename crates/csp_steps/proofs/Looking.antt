@@ -2,19 +2,12 @@
 use Rattle.std.proofs.Common.{◌≡◌, ◌+◌, ◌*◌, ◌<◌, Ok, Err, true, List, [], map, length, refl, ap, sym, ◌∙◌, subst, arith}
 use Rattle.csp_program.specs.Depth.{proc_depth}
 use Rattle.csp_program.specs.Outcome.{Outcome, and_then}
-use Rattle.csp_program.specs.declared.kinds.ValueKind.{ValueKind}
 use Rattle.csp_program.specs.declared.processes.Proc.{Proc}
 use Rattle.csp_program.specs.declared.programs.Content.{Content}
 use Rattle.process_steps.specs.StepList.{Move, steps_of, steps_of_choice}
 use Rattle.term_pool.specs.Trees.{all_below, tree_at}
 use Rattle.pool_parts.specs.declared.place.ProcId.{ProcId}
-use Rattle.std.specs.Prelude.{Result}
-use Rattle.std.specs.Result.{IsErrAnd}
-use Rattle.process_steps.specs.Ways.{Among}
-use Rattle.step_values.specs.Starts.{GivesStart}
-use Rattle.value_operators.specs.declared.fault.EvalFault.{EvalFault}
-use Rattle.value_operators.specs.declared.fault.EvalFault.TheVariants as fault
-use Rattle.csp_steps.specs.Computed.{AreAround, AreOfChoice, AreThoseAt, GivesLook, IsListing, IsLook}
+use Rattle.csp_steps.specs.Computed.{AreAround, AreOfChoice, AreThoseAt, IsListing, IsLook}
 use Rattle.csp_steps.specs.Effect.{around}
 use Rattle.csp_steps.specs.declared.look.Look.{Look}
 use Rattle.csp_steps.specs.declared.look.Look.TheVariants as look
@@ -58,13 +51,3 @@ around_is p trees id t moves is e = is.same ∙ ap (λ o. and_then o (around p t
 -- no steps
 pub none_listed : (trees : List Proc) (steps : List StepTo) (o : Outcome (List Move)) → steps ≡ [] → o ≡ Ok [] → IsListing trees steps o
 none_listed trees steps o e h = subst (λ (ss : List StepTo). IsListing trees ss o) (sym e) (record { same = h; within = refl })
-
--- a head that stands for nothing
-start_gone : (p : Content) (trees : List Proc) (t : Proc) (f : EvalFault) (part : Outcome Among) → GivesStart p (Err f) part → ((k : ValueKind) → part ≡ Err k → steps_of p t ≡ Err k) → GivesLook p trees (Err f) t
-start_gone p trees t fault.NoMemory part h passes = tt
-start_gone p trees t (fault.Value kind) part h passes = passes kind h
-
-pub start_passed : (p : Content) (trees : List Proc) (t : Proc) (r : Result Look EvalFault) (f : EvalFault) (part : Outcome Among) → IsErrAnd r (λ y. y ≡ f) → GivesStart p (Err f) part
-    → ((k : ValueKind) → part ≡ Err k → steps_of p t ≡ Err k) → GivesLook p trees r t
-start_passed p trees t (Ok x) f part is h passes = absurd is
-start_passed p trees t (Err y) f part is h passes = rw is (start_gone p trees t f part h passes)

@@ -24,7 +24,7 @@ use Rattle.csp_steps.specs.declared.evaluated.Evaluated.{Evaluated}
 use Rattle.csp_steps.specs.declared.operator.Operator.{Operator}
 use Rattle.csp_steps.specs.declared.step.StepTo.{StepTo}
 use Rattle.csp_steps.proofs.Effects.{does_kept, does_stay}
-use Rattle.csp_steps.proofs.Places.{all_within_stay, front_both, seen_stay, standing}
+use Rattle.csp_steps.proofs.Places.{all_within_stay, front_both, seen_stay, standing, tree_stays}
 use Rattle.csp_base.proofs.Lists.{slice_get_last}
 
 -- one key more has a number
@@ -160,7 +160,7 @@ operator_new p trees kept id k op operators places h within does last grown upda
 }
 
 -- the process after a step that is no end has the operator of the whole
-pub noted_going : (p : Content) (old new : List Proc) (operators : List Operator) (round : Round) (places more : HashMap ℕ ℕ _) (to : ProcId) (r : Proc) → IsFront old new → IsNumbered p old operators round
+pub noted_going : {S : Type 0} (p : Content) (old new : List Proc) (operators : List Operator) (round : Round) (places more : HashMap ℕ ℕ S) (to : ProcId) (r : Proc) → IsFront old new → IsNumbered p old operators round
     → slice_get new to.0 ≡ Some (with_first (tree_at old round.id) r) → Updates nat_eq places more to.0 (Some round.number) → AreNoted p old operators places → AreNoted p new operators more
 noted_going p old new operators round places more to r front is stands updates h =
     kept_more (Does p new) new operators round.operator.now places more to.0 round.number (noted_stay p old new front operators places h)
@@ -183,4 +183,10 @@ fits_stepped p trees kept id k steps copy lists stepped h within each e last gro
   bodies = h.bodies;
   stepped = kept_push (λ ss t. AreEach trees ss (steps_of p t)) trees kept.lists lists copy kept.stepped stepped id.0 k h.stepped
       (stands_at trees id (λ t. AreEach trees copy (steps_of p t)) within (subst (λ (ss : List StepTo). AreEach trees ss (steps_of p (tree_at trees id))) (sym e) each)) grown last updates;
+}
+
+pub numbered_stay : (p : Content) (old new : List Proc) (operators : List Operator) (round : Round) → IsFront old new → round.id.0 < length old → IsNumbered p old operators round → IsNumbered p new operators round
+numbered_stay p old new operators round front within is = record {
+  listed = is.listed;
+  does = subst (Does p new round.operator.now) (sym (tree_stays old new front round.id within)) (does_stay old new front p round.operator.now (tree_at old round.id) is.does);
 }

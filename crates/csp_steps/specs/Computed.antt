@@ -17,6 +17,16 @@ use Rattle.value_operators.specs.declared.fault.EvalFault.TheVariants as fault
 use Rattle.csp_base.specs.Lists.{greatest}
 use Rattle.csp_steps.specs.Order.{AreFirsts, AreFirstsAfter}
 
+-- the fault is that of the outcome; want of memory is free
+abbrev pub IsFault : {B : Type 0} → EvalFault → Outcome B → Type 0
+IsFault fault.NoMemory outcome = Unit {0}
+IsFault (fault.Value kind) outcome = outcome ≡ Err kind
+
+-- what a call answers that comes to an outcome: this holds of a success
+abbrev pub Answers : {A B : Type 0} → (A → Type 0) → Result A EvalFault → Outcome B → Type 0
+Answers Holds (Ok a) outcome = Holds a
+Answers Holds (Err f) outcome = IsFault f outcome
+
 -- whether each of the steps leads to one of the first so many places
 abbrev pub all_within : ℕ → List StepTo → Bool
 all_within count [] = true
@@ -34,9 +44,7 @@ pub record IsListing (trees : List Proc) (steps : List StepTo) (outcome : Outcom
 
 -- what a call that lists steps answers
 abbrev pub GivesMoves : List Proc → Result (List StepTo) EvalFault → Outcome (List Move) → Type 0
-GivesMoves trees (Ok steps) outcome = IsListing trees steps outcome
-GivesMoves trees (Err fault.NoMemory) outcome = Unit {0}
-GivesMoves trees (Err (fault.Value kind)) outcome = outcome ≡ Err kind
+GivesMoves trees result outcome = Answers (λ steps. IsListing trees steps outcome) result outcome
 
 -- These are exactly the moves of the outcome, each where it first stands, at places of the list.
 pub record AreEach (trees : List Proc) (steps : List StepTo) (outcome : Outcome (List Move)) : Type 0 where
@@ -46,9 +54,7 @@ pub record AreEach (trees : List Proc) (steps : List StepTo) (outcome : Outcome 
   pub firsts : AreFirsts moves (map (seen trees) steps)
 
 abbrev pub GivesEach : List Proc → Result (List StepTo) EvalFault → Outcome (List Move) → Type 0
-GivesEach trees (Ok steps) outcome = AreEach trees steps outcome
-GivesEach trees (Err fault.NoMemory) outcome = Unit {0}
-GivesEach trees (Err (fault.Value kind)) outcome = outcome ≡ Err kind
+GivesEach trees result outcome = Answers (λ steps. AreEach trees steps outcome) result outcome
 
 -- Each of the steps that isn't among the old ones comes to their end, where it first stands.
 pub record AreAdded (old steps new : List StepTo) : Type 0 where
@@ -63,9 +69,7 @@ pub record IsPlaceOf (trees : List Proc) (id : ProcId) (outcome : Outcome Proc) 
 
 -- what a call that puts a process answers
 abbrev pub GivesPlace : List Proc → Result ProcId EvalFault → Outcome Proc → Type 0
-GivesPlace trees (Ok id) outcome = IsPlaceOf trees id outcome
-GivesPlace trees (Err fault.NoMemory) outcome = Unit {0}
-GivesPlace trees (Err (fault.Value kind)) outcome = outcome ≡ Err kind
+GivesPlace trees result outcome = Answers (λ id. IsPlaceOf trees id outcome) result outcome
 
 -- the processes stand at these places
 pub record AreAt (trees : List Proc) (ids : List ProcId) (processes : List Proc) : Type 0 where
@@ -103,6 +107,4 @@ IsLook p trees (look.Choice ids) t = AreOfChoice p trees ids t
 IsLook p trees (look.Around id) t = AreAround p trees id t
 
 abbrev pub GivesLook : Content → List Proc → Result Look EvalFault → Proc → Type 0
-GivesLook p trees (Ok found) t = IsLook p trees found t
-GivesLook p trees (Err fault.NoMemory) t = Unit {0}
-GivesLook p trees (Err (fault.Value kind)) t = steps_of p t ≡ Err kind
+GivesLook p trees result t = Answers (λ found. IsLook p trees found t) result (steps_of p t)

@@ -1,5 +1,5 @@
 -- What a hiding, a renaming or a sequence makes of the steps of the process below.
-use Rattle.std.specs.Prelude.{◌≡◌, ◌<◌, ℕ, Bool, false, if◌then◌else◌, Result, Ok, Err, List, [], ◌∷◌, map, length}
+use Rattle.std.specs.Prelude.{◌≡◌, ◌<◌, ℕ, Bool, false, if◌then◌else◌, Ok, Err, List, [], ◌∷◌, map, length}
 use Rattle.csp_base.specs.Members.{has}
 use Rattle.csp_program.specs.Lists.{joined}
 use Rattle.csp_program.specs.Outcome.{Outcome, and_then}
@@ -10,16 +10,13 @@ use Rattle.csp_program.specs.declared.processes.Proc.TheVariants as proc
 use Rattle.csp_program.specs.declared.processes.Proc.TheViews.{out-Proc}
 use Rattle.csp_program.specs.declared.programs.Content.{Content}
 use Rattle.process_steps.specs.Needed.{events_in}
-use Rattle.process_steps.specs.Renaming.{Renamed, images, renaming_in}
+use Rattle.process_steps.specs.Renaming.{images, renaming_in}
 use Rattle.process_steps.specs.StepList.{Move}
 use Rattle.process_steps.specs.declared.label.Label.{Label}
 use Rattle.process_steps.specs.declared.label.Label.TheVariants.{Silent, Visible, Tick}
-use Rattle.step_values.specs.Images.{becomes, KeepsOutcome}
-use Rattle.step_values.specs.declared.images.Images.{Images}
+use Rattle.step_values.specs.Images.{becomes}
 use Rattle.term_pool.specs.First.{with_first}
 use Rattle.term_pool.specs.Trees.{tree_at}
-use Rattle.value_operators.specs.declared.fault.EvalFault.{EvalFault}
-use Rattle.value_operators.specs.declared.fault.EvalFault.TheVariants as fault
 use Rattle.csp_steps.specs.declared.operator.Operator.{Operator}
 use Rattle.csp_steps.specs.declared.operator.Operator.TheVariants as operator
 
@@ -88,14 +85,3 @@ IsWithin count (operator.Seq second) = second.0 < count
 pub record Does (p : Content) (trees : List Proc) (op : Operator) (t : Proc) : Type 0 where
   pub effect : effect_of p t ≡ Ok (effect_as trees op)
   pub within : IsWithin (length trees) op
-
--- what calls answer that evaluate a renaming and an operator
-abbrev pub GivesImages : Result Images EvalFault → Outcome (List Renamed) → Type 0
-GivesImages (Ok kept) outcome = KeepsOutcome kept outcome
-GivesImages (Err fault.NoMemory) outcome = Unit {0}
-GivesImages (Err (fault.Value kind)) outcome = outcome ≡ Err kind
-
-abbrev pub GivesOperator : Content → List Proc → Result Operator EvalFault → Proc → Type 0
-GivesOperator p trees (Ok op) t = Does p trees op t
-GivesOperator p trees (Err fault.NoMemory) t = Unit {0}
-GivesOperator p trees (Err (fault.Value kind)) t = effect_of p t ≡ Err kind

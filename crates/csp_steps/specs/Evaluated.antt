@@ -1,16 +1,19 @@
 -- What is kept of evaluations: the operators round processes, by their places in a pool, and the places of the bodies of definitions; and steps.
-use Rattle.std.specs.Prelude.{◌≡◌, ℕ, nat_eq, Option, Some, None, Result, Ok, Err, List, slice_get}
+use Rattle.std.specs.Prelude.{◌≡◌, ℕ, nat_eq, Option, Some, None, Result, List, slice_get}
 use Rattle.std.specs.HashMap.{HashMap, get}
 use Rattle.csp_program.specs.declared.processes.Proc.{Proc}
 use Rattle.csp_program.specs.declared.programs.Body.{Body}
 use Rattle.csp_program.specs.declared.programs.Body.TheVariants as body
 use Rattle.csp_program.specs.declared.programs.Content.{Content}
 use Rattle.csp_program.specs.declared.programs.Def.{Def}
+use Rattle.csp_program.specs.Outcome.{Outcome}
+use Rattle.process_steps.specs.Renaming.{Renamed}
 use Rattle.process_steps.specs.StepList.{steps_of}
+use Rattle.step_values.specs.Images.{KeepsOutcome}
+use Rattle.step_values.specs.declared.images.Images.{Images}
 use Rattle.term_pool.specs.Trees.{tree_at}
 use Rattle.value_operators.specs.declared.fault.EvalFault.{EvalFault}
-use Rattle.value_operators.specs.declared.fault.EvalFault.TheVariants as fault
-use Rattle.csp_steps.specs.Computed.{AreEach}
+use Rattle.csp_steps.specs.Computed.{Answers, AreEach}
 use Rattle.csp_steps.specs.Effect.{effect_of, Does}
 use Rattle.csp_steps.specs.declared.around.Round.{Round}
 use Rattle.csp_steps.specs.declared.evaluated.Evaluated.{Evaluated}
@@ -70,8 +73,12 @@ pub record HasNumber (p : Content) (trees : List Proc) (kept : Evaluated) (k : �
   pub fits : Fits p trees kept
   pub has : HasValue kept.operators k (λ op. Does p trees op t)
 
--- what a call that finds the number of an operator answers
+-- what calls answer that evaluate a renaming and an operator, and that find the number of an operator
+abbrev pub GivesImages : Result Images EvalFault → Outcome (List Renamed) → Type 0
+GivesImages result outcome = Answers (λ kept. KeepsOutcome kept outcome) result outcome
+
+abbrev pub GivesOperator : Content → List Proc → Result Operator EvalFault → Proc → Type 0
+GivesOperator p trees result t = Answers (λ op. Does p trees op t) result (effect_of p t)
+
 abbrev pub GivesNumber : Content → List Proc → Evaluated → Result ℕ EvalFault → Proc → Type 0
-GivesNumber p trees kept (Ok k) t = HasNumber p trees kept k t
-GivesNumber p trees kept (Err fault.NoMemory) t = Unit {0}
-GivesNumber p trees kept (Err (fault.Value kind)) t = effect_of p t ≡ Err kind
+GivesNumber p trees kept result t = Answers (λ k. HasNumber p trees kept k t) result (effect_of p t)

@@ -20,8 +20,7 @@ use Rattle.term_pool.specs.Trees.{tree_at}
 use Rattle.value_laws.specs.Numbers.{field_place}
 use Rattle.value_operators.specs.Env.{with_bound}
 use Rattle.value_operators.specs.declared.fault.EvalFault.{EvalFault}
-use Rattle.value_operators.specs.declared.fault.EvalFault.TheVariants as fault
-use Rattle.csp_steps.specs.Computed.{all_within}
+use Rattle.csp_steps.specs.Computed.{all_within, Answers}
 use Rattle.csp_steps.specs.Listed.{seen}
 use Rattle.csp_steps.specs.declared.fields.Next.{Next}
 use Rattle.csp_steps.specs.declared.fields.Next.TheVariants as next
@@ -117,9 +116,7 @@ module _ (p : Content) where
 
 -- what a call answers that goes through the outputs at the front of fields
 abbrev pub GivesNext : Content → Env → Result Next EvalFault → Outcome (List Way) → Type 0
-GivesNext p env (Ok n) ways = ways ≡ next_ways p env n
-GivesNext p env (Err fault.NoMemory) ways = Unit {0}
-GivesNext p env (Err (fault.Value kind)) ways = ways ≡ Err kind
+GivesNext p env result ways = Answers (λ n. ways ≡ next_ways p env n) result ways
 
 -- the name that an input binds, with the value on turn
 abbrev pub name_of : Frame → ℕ × Atom
@@ -182,13 +179,14 @@ pub record HasTurned (p : Content) (found : List Way) (old new : Walk) : Type 0 
   pub sound : IsSound new
   pub less : walk_weight new < walk_weight old
 
--- what a turn of a walk answers
+-- what a turn of a walk comes to
+abbrev pub IsTurned : Content → Walk → Walk → Turned → Type 0
+IsTurned p old new (turned.Way n) = HasTurned p ((with_bound new.bound [], n) ∷ []) old new
+IsTurned p old new turned.On = HasTurned p [] old new
+IsTurned p old new turned.End = walk_ways p old ≡ Ok []
+
 abbrev pub GivesTurned : Result Turned EvalFault → Content → Walk → Walk → Type 0
-GivesTurned (Ok (turned.Way n)) p old new = HasTurned p ((with_bound new.bound [], n) ∷ []) old new
-GivesTurned (Ok turned.On) p old new = HasTurned p [] old new
-GivesTurned (Ok turned.End) p old new = walk_ways p old ≡ Ok []
-GivesTurned (Err fault.NoMemory) p old new = Unit {0}
-GivesTurned (Err (fault.Value kind)) p old new = walk_ways p old ≡ Err kind
+GivesTurned result p old new = Answers (IsTurned p old new) result (walk_ways p old)
 
 module _ (p : Content) (first : ℕ) (to : ProcId) where
   -- steps, and after them those of the ways that are left to a walk, before the process at a place
@@ -207,8 +205,9 @@ module _ (p : Content) (first : ℕ) (to : ProcId) where
     pub moves : walk_moves before old steps ≡ Ok (map (seen after) more)
     pub within : all_within (length after) more ≡ true
 
+  abbrev pub IsRound : List Proc → List Proc → Walk → Walk → List StepTo → List StepTo → Bool → Type 0
+  IsRound before after old new steps more true = HasGone before after old new steps more
+  IsRound before after old new steps more false = HasEnded before after old steps more
+
   abbrev pub GivesRound : Result Bool EvalFault → List Proc → List Proc → Walk → Walk → List StepTo → List StepTo → Type 0
-  GivesRound (Ok true) before after old new steps more = HasGone before after old new steps more
-  GivesRound (Ok false) before after old new steps more = HasEnded before after old steps more
-  GivesRound (Err fault.NoMemory) before after old new steps more = Unit {0}
-  GivesRound (Err (fault.Value kind)) before after old new steps more = walk_moves before old steps ≡ Err kind
+  GivesRound result before after old new steps more = Answers (IsRound before after old new steps more) result (walk_moves before old steps)

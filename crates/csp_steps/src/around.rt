@@ -109,7 +109,8 @@ fn add_renamed(
     match label {
         Label::Visible(event) => {
             let events = images_of(alloc, images, event)?;
-            add_events(events.as_slice(), to, steps)
+            add_events(events.as_slice(), to, steps)?;
+            Ok(())
         }
         Label::Silent => steps.push(StepTo { label, to }),
         Label::Tick => Ok(()),
@@ -154,7 +155,8 @@ fn add_going(
 {
     let to = pool.put_with_first(round.id, step.to)?;
     keep(places, to.0, round.number)?;
-    add_seen(alloc, round.operator, step.label, to, steps)
+    add_seen(alloc, round.operator, step.label, to, steps)?;
+    Ok(())
 }
 
 // Adds what an operator makes of a step of the process below.
@@ -177,9 +179,13 @@ fn add_made(
     match step.label {
         Label::Tick => {
             let last = last_step(pool, round.operator)?;
-            steps.push(last)
+            steps.push(last)?;
+            Ok(())
         }
-        _ => add_going(alloc, pool, places, round, step, steps),
+        _ => {
+            add_going(alloc, pool, places, round, step, steps)?;
+            Ok(())
+        }
     }
 }
 

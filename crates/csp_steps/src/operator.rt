@@ -4,7 +4,7 @@ ghost use Rattle.std.specs.Prelude.{◌<◌, length};
 ghost use Rattle.csp_program.specs.declared.programs.Content.{Content};
 ghost use Rattle.process_steps.specs.Renaming as renaming;
 ghost use Rattle.term_pool.specs.Trees.{tree_at};
-ghost use Rattle.csp_steps.specs.Effect.{GivesImages, GivesOperator};
+ghost use Rattle.csp_steps.specs.Evaluated.{GivesImages, GivesOperator};
 
 use csp_base::EventSet;
 use csp_program::{EventPart, Gen, Program, ValueKind};

@@ -1,0 +1,6 @@
+use Rattle.std.proofs.Common.{◌≡◌, ◌++◌, map, take}
+use Rattle.process_steps.specs.declared.label.Label.TheVariants.{Visible}
+use Rattle.csp_steps.proofs.around.add_events.Given as goal
+
+abbrev pub invariant-loop-event : goal.invariant-loop-event
+invariant-loop-event l = l.steps ≡ l.fn.steps ++ map (λ e. record { label = Visible e; to = l.to }) (take l.event-index l.events)
