@@ -9,9 +9,6 @@ use Rattle.csp_program.specs.declared.expressions.Expr.TheOpen.{Expr-F, Gen-F, E
 use Rattle.csp_program.specs.declared.expressions.EventPart.{EventPart, roll-EventPart}
 use Rattle.csp_program.specs.declared.expressions.Gen.{Gen}
 use Rattle.csp_program.specs.declared.expressions.Gen.TheVariants as generator
-use Rattle.csp_program.specs.declared.networks.Net.{Net, fold-Net}
-use Rattle.csp_program.specs.declared.networks.Net.TheVariants as net
-use Rattle.csp_program.specs.declared.networks.Net.TheOpen.{Net-F}
 use Rattle.csp_program.specs.declared.processes.Field.{Field}
 use Rattle.csp_program.specs.declared.processes.Field.TheVariants as field
 use Rattle.csp_program.specs.declared.processes.Head.{Head}
@@ -156,14 +153,3 @@ proc_with_of_layer Proc-F.Ended given = proc.Ended
 -- a process with the values in place of its free names
 abbrev pub proc_with : Given → Proc → Proc
 proc_with given t = fold-Proc (Open Proc) proc_with_of_layer t given
-
-abbrev pub net_with_of_layer : Net-F (Open Net) → Open Net
-net_with_of_layer (Net-F.Leaf p) given = net.Leaf (proc_with given p)
-net_with_of_layer (Net-F.Call d args) given = net.Call d (map (expr_with given) args)
-net_with_of_layer (Net-F.If c n m) given = net.If (expr_with given c) (n given) (m given)
-net_with_of_layer (Net-F.Pair n a b m) given = net.Pair (n given) (expr_with given a) (expr_with given b) (m given)
-net_with_of_layer (Net-F.Each y s a n) given = net.Each y (expr_with given s) (expr_with (without y given) a) (n (without y given))
-
--- a network with the values in place of its free names
-abbrev pub net_with : Given → Net → Net
-net_with given n = fold-Net (Open Net) net_with_of_layer n given

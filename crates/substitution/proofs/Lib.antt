@@ -1,1 +1,8 @@
 pub mod Forms
+pub mod Keeps
+pub mod Left
+pub mod Loops
+pub mod Loses
+pub mod NamesFound
+pub mod Stays
+pub mod Worth

@@ -8,7 +8,7 @@ use crate::values::Values;
 use containers::Items;
 use csp_base::NoMemory;
 use csp_program::copies::copy_value;
-use csp_program::{EventPart, Field, Gen, Head};
+use csp_program::{EventPart, Expr, Field, Gen, Head};
 use std::alloc::Global;
 
 // The head that is a bound name.
@@ -74,15 +74,27 @@ pub fn pass_fields(values: &mut Values<'_>, fields: &[Field]) -> Result<(), NoMe
     Ok(())
 }
 
+// An input.
+fn replace_input(
+    alloc: Global,
+    name: u32,
+    set: &Option<Expr>,
+    values: &Values<'_>,
+) -> Result<Field, NoMemory>
+    ensures { IfOk result (λ made. made ≡ field_with (given_by values.now) (Field.Get name set.now)) }
+{
+    match set {
+        Some(set) => put_expr(alloc, set, values).map(|set| Field::Get(name, Some(set))),
+        None => Ok(Field::Get(name, None)),
+    }
+}
+
 fn replace_field(alloc: Global, field: &Field, values: &Values<'_>) -> Result<Field, NoMemory>
     ensures { IfOk result (λ made. made ≡ field_with (given_by values.now) field.now) }
 {
     match field {
         Field::Put(expr) => put_expr(alloc, expr, values).map(Field::Put),
-        Field::Get(name, None) => Ok(Field::Get(*name, None)),
-        Field::Get(name, Some(set)) => {
-            put_expr(alloc, set, values).map(|set| Field::Get(*name, Some(set)))
-        }
+        Field::Get(name, set) => replace_input(alloc, *name, set, values),
     }
 }
 

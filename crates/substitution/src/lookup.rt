@@ -1,6 +1,6 @@
 //! Names looked up by their numbers: by their places where they count up, else one by one.
 
-ghost use Rattle.std.specs.Prelude.{◌≡◌, ◌+◌, ◌≤◌, map, nat_eq, slice_get, IsTrue};
+ghost use Rattle.std.specs.Prelude.{◌≡◌, ◌+◌, ◌≤◌, map, nat_eq, slice_get, true, IsTrue};
 ghost use Rattle.std.specs.Option.{option_copied};
 ghost use Rattle.csp_program.specs.Environments.{with_bound};
 ghost use Rattle.csp_program.specs.Substitution.{given_by};
@@ -144,8 +144,11 @@ fn bound_at(bound: &[(u32, Atom)], first: u32, name: u32) -> Option<Atom>
     if name < first {
         return None;
     }
-    let pair = bound.get((name - first) as usize)?;
-    Some(pair.1)
+    let place = (name - first) as usize;
+    if place >= bound.len() {
+        return None;
+    }
+    Some(bound[place].1)
 }
 
 // The atom of a name, looked for from the end.

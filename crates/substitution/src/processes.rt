@@ -57,10 +57,24 @@ fn prefix(
 ) -> Result<Proc, NoMemory>
     ensures { IfOk result (λ made. made ≡ Proc.Prefix (head_with (given_by values.now) head.now) (fields_with (given_by values.now) fields.now) (proc_with (after_all fields.now (given_by values.now)) p.now)) }
 {
+    let (fields, p) = replace_after(alloc, fields, p, values)?;
+    put_head(alloc, head, values).map(|head| Proc::Prefix(head, fields, p))
+}
+
+// The fields of a prefix, and the process after them.
+#[cycle(put_proc)]
+fn replace_after(
+    alloc: Global,
+    fields: &Items<Field>,
+    p: &Boxed<Proc>,
+    values: &Values<'_>,
+) -> Result<(Items<Field>, Boxed<Proc>), NoMemory>
+    ensures { IfOk result (λ made. (made.0 ≡ fields_with (given_by values.now) fields.now) × (made.1 ≡ proc_with (after_all fields.now (given_by values.now)) p.now)) }
+{
     let mut here = values.copy(alloc)?;
     let fields = replace_fields(alloc, fields.as_slice(), &mut here)?;
     let p = replace_boxed_proc(alloc, p, &here)?;
-    put_head(alloc, head, values).map(|head| Proc::Prefix(head, fields, p))
+    Ok((fields, p))
 }
 
 // A process under a condition.
@@ -98,8 +112,7 @@ fn each_external(
 ) -> Result<Proc, NoMemory>
     ensures { IfOk result (λ made. made ≡ Proc.EachExternal other (expr_with (given_by values.now) set.now) (proc_with (without other (given_by values.now)) p.now)) }
 {
-    let here = values.under(alloc, other)?;
-    let p = replace_boxed_proc(alloc, p, &here)?;
+    let p = replace_under(alloc, other, p, values)?;
     put_expr(alloc, set, values).map(|set| Proc::EachExternal(other, set, p))
 }
 
@@ -114,8 +127,7 @@ fn each_internal(
 ) -> Result<Proc, NoMemory>
     ensures { IfOk result (λ made. made ≡ Proc.EachInternal other (expr_with (given_by values.now) set.now) (proc_with (without other (given_by values.now)) p.now)) }
 {
-    let here = values.under(alloc, other)?;
-    let p = replace_boxed_proc(alloc, p, &here)?;
+    let p = replace_under(alloc, other, p, values)?;
     put_expr(alloc, set, values).map(|set| Proc::EachInternal(other, set, p))
 }
 
@@ -169,6 +181,21 @@ fn sequence(
     ensures { IfOk result (λ made. made ≡ Proc.Seq (proc_with (given_by values.now) p.now) (proc_with (given_by values.now) q.now)) }
 {
     replace_two(alloc, p, q, values).map(|(p, q)| Proc::Seq(p, q))
+}
+
+// A process below a binding of the name.
+#[cycle(put_proc)]
+fn replace_under(
+    alloc: Global,
+    name: u32,
+    p: &Boxed<Proc>,
+    values: &Values<'_>,
+) -> Result<Boxed<Proc>, NoMemory>
+    ensures { IfOk result (λ made. made ≡ proc_with (without name (given_by values.now)) p.now) }
+{
+    let here = values.under(alloc, name)?;
+    let p = replace_boxed_proc(alloc, p, &here)?;
+    Ok(p)
 }
 
 // A process on the heap.

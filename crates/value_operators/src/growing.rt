@@ -1,6 +1,7 @@
 //! A set that grows by atoms in any order: most of it in one part, and a few atoms that wait to be merged into that.
 
 ghost use Rattle.std.specs.Prelude.{◌≡◌, ◌≤◌, ◌+◌, true, [], IfOk, IfSome, IsTrue};
+ghost use Rattle.dl_limits.specs.declared.TheConstants.{MOST_ELEMENTS};
 ghost use Rattle.csp_atoms.specs.Sets.{fits, union_of, with_atom};
 ghost use Rattle.csp_program.specs.Atoms.{added, limited};
 ghost use Rattle.value_operators.specs.Gives.{Gives};
@@ -78,7 +79,7 @@ fn with_one(atoms: AtomSet, one: Atom) -> Result<AtomSet, NoMemory>
 
 // Whether parts of these lengths may stay as they are.
 fn are_few(settled: usize, waiting: usize) -> bool
-    ensures { IsTrue result → settled + waiting ≤ 16384 }
+    ensures { IsTrue result → settled + waiting ≤ MOST_ELEMENTS }
 {
     waiting < MOST_WAITING && settled <= MOST_ELEMENTS - waiting
 }

@@ -222,7 +222,7 @@ fn distance(first: i64, last: i64) -> Option<u16>
 {
     match last.checked_sub(first) {
         Some(distance) => {
-            if distance >= 16_384 {
+            if distance >= MOST_ELEMENTS as i64 {
                 return None;
             }
             Some(distance as u16)
