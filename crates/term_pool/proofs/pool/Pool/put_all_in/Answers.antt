@@ -5,7 +5,7 @@ use Rattle.std.specs.Prelude.{IfOk}
 use Rattle.csp_program.specs.declared.processes.Proc.{Proc}
 use Rattle.csp_program.specs.declared.processes.Proc.TheVariants as proc
 use Rattle.pool_parts.specs.declared.place.ProcId.{ProcId}
-use Rattle.substitution.specs.Bindings.{proc_put}
+use Rattle.csp_program.specs.Substitution.{proc_with}
 use Rattle.term_pool.proofs.ValuesLemmas.{no_names, none_made, put_names}
 use Rattle.term_pool.proofs.WithinLemmas.{adds_parts}
 use Rattle.term_pool.specs.Pooled.{Has}
@@ -34,7 +34,7 @@ pub returns-clause-only : goal.returns-clause-only
 returns-clause-only c =
     subst (λ (q : Proc). AddsParts c.args.self.now c.substitute_at-2.new.pool q)
     (put_names c.args.names.now c.args.values.now c.new.result (tree_at c.args.self.now c.args.id) c.new.ensures)
-    (adds_parts c.args.self.now c.substitute_at-2.new.pool (proc_put c.new.result (tree_at c.args.self.now c.args.id)) c.substitute_at-2.ensures.grows.only)
+    (adds_parts c.args.self.now c.substitute_at-2.new.pool (proc_with c.new.result (tree_at c.args.self.now c.args.id)) c.substitute_at-2.ensures.grows.only)
 
 -- where there are no names nothing changes
 pub returns-in_default-clause-process : goal.returns-in_default-clause-process
