@@ -18,7 +18,7 @@ use Rattle.csp_steps.specs.Listed.{AreStepsOf, FaultIs, seen}
 use Rattle.csp_steps.specs.Order.{AreFirsts, AreFirstsAfter}
 use Rattle.csp_steps.specs.declared.step.StepTo.{StepTo}
 use Rattle.csp_steps.proofs.Computing.{passed}
-use Rattle.csp_steps.proofs.Firsts.{firsts_back, firsts_map, joined_firsts, map_firsts, stands_either, stands_none}
+use Rattle.csp_steps.proofs.Firsts.{firsts_back, firsts_map, joined_firsts, stands_either, stands_none}
 use Rattle.csp_steps.proofs.Places.{standing, within_of}
 use Rattle.term_pool.specs.Pooled.{AreDifferent}
 use Rattle.term_pool.specs.Trees.{tree_at}

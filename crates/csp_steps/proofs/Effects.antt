@@ -1,5 +1,5 @@
 -- What a hiding, a renaming and a sequence make of steps. The process after a step that is no end has the same operator.
-use Rattle.std.proofs.Common.{◌≡◌, ℕ, ◌<◌, if◌then◌else◌, Ok, Err, List, [], ◌∷◌, ◌++◌, map, length, refl, ap, sym, ◌∙◌, subst}
+use Rattle.std.proofs.Common.{◌≡◌, ℕ, ◌<◌, if◌then◌else◌, Ok, Err, List, [], ◌∷◌, ◌++◌, map, length, refl, ap, sym, ◌∙◌}
 use Rattle.csp_base.specs.Members.{has}
 use Rattle.csp_program.specs.Lists.{joined}
 use Rattle.csp_program.specs.Outcome.{Outcome, and_then}
@@ -25,12 +25,10 @@ use Rattle.term_pool.proofs.NodeLemmas.{layer_of, layer_out}
 use Rattle.term_pool.specs.First.{layer_with_first, with_first}
 use Rattle.term_pool.specs.Layers.{shown}
 use Rattle.term_pool.specs.Pooled.{IsFront}
-use Rattle.term_pool.specs.Trees.{tree_at, tree_of}
+use Rattle.term_pool.specs.Trees.{tree_of}
 use Rattle.term_pool.specs.declared.node.Node.{Node}
 use Rattle.term_pool.specs.declared.node.Node.TheVariants as node
-use Rattle.csp_steps.specs.Computed.{AreMoves, IsListing}
-use Rattle.csp_steps.specs.Effect.{all_moves, around, effect_as, effect_of, effect_of_layer, hidden_labels, labels_by, last_by, moves_of, renamed_labels, Does, Effect, IsWithin}
-use Rattle.csp_steps.specs.Listed.{seen}
+use Rattle.csp_steps.specs.Effect.{all_moves, around, effect_of, effect_of_layer, hidden_labels, labels_by, last_by, moves_of, renamed_labels, Does, Effect, IsWithin}
 use Rattle.csp_steps.specs.declared.operator.Operator.{Operator}
 use Rattle.csp_steps.specs.declared.operator.Operator.TheVariants as operator
 use Rattle.csp_steps.specs.declared.step.StepTo.{StepTo}
@@ -216,17 +214,6 @@ module _ (p : Content) (q : Proc) (moves : List Move) where
   around_sequence r =
       ap (λ ms. Ok ms) (each_one (λ m. in_sequence r m.0 m.1) (λ m. moves_of (record { labels = λ l. l ∷ []; last = (Silent, r) }) (proc.Seq q r) m.0 m.1) (λ m. one_sequence q r m.0 m.1) moves) ∙
       ap (λ d. and_then (effect_of_layer p d) (λ e. Ok (all_moves e (proc.Seq q r) moves))) (sym (layer (Proc-F.Seq q r) (proc.rolls-Seq q r)))
-
--- ---- what is made of the steps of the process below
-
-pub around_done : (p : Content) (old new : List Proc) (op : Operator) (t : Proc) (moves : List Move) (made : List StepTo) → Does p old op t → AreMoves new made (all_moves (effect_as old op) t moves) → IsListing new made (around p t moves)
-around_done p old new op t moves made h are = record {
-  same = ap (λ o. and_then o (λ e. Ok (all_moves e t moves))) h.effect ∙ ap (λ ms. Ok ms) (sym are.same);
-  within = are.within;
-}
-
-pub around_fault : (p : Content) (t : Proc) (moves : List Move) (k : ValueKind) → effect_of p t ≡ Err k → around p t moves ≡ Err k
-around_fault p t moves k h = ap (λ o. and_then o (λ e. Ok (all_moves e t moves))) h
 
 -- a step that is no end
 pub goes_on : (effect : Effect) (t : Proc) (l : Label) (r : Proc) → (l ≡ Tick → ⊥) → moves_of effect t l r ≡ map (λ k. (k, with_first t r)) (effect.labels l)

@@ -1,11 +1,10 @@
 -- What walks over the ways to fill fields come to, as they go on.
-use Rattle.std.proofs.Common.{◌≡◌, ℕ, zero, suc, ◌+◌, ◌<◌, ◌≤◌, true, Option, Some, None, Ok, Err, List, [], ◌∷◌, ◌++◌, map, drop, length, slice_get, refl, ap, sym, ◌∙◌, subst, arith, append_assoc, append-nil}
+use Rattle.std.proofs.Common.{◌≡◌, ℕ, zero, suc, ◌+◌, ◌<◌, ◌≤◌, true, Option, Some, None, Ok, Err, List, [], ◌∷◌, ◌++◌, map, drop, length, slice_get, refl, ap, sym, ◌∙◌, arith, append_assoc, append-nil}
 use Rattle.csp_base.proofs.Lists.{map_push}
 use Rattle.csp_atoms.specs.declared.atom.Atom.{Atom}
 use Rattle.csp_atoms.specs.declared.value.Value.TheVariants.{One}
 use Rattle.csp_program.specs.Outcome.{Outcome}
 use Rattle.csp_program.specs.Value.{Env}
-use Rattle.csp_program.specs.declared.kinds.ValueKind.{ValueKind}
 use Rattle.csp_program.specs.declared.processes.Field.{Field}
 use Rattle.csp_program.specs.declared.processes.Field.TheVariants as field
 use Rattle.csp_program.specs.declared.processes.Proc.{Proc}
@@ -18,11 +17,9 @@ use Rattle.term_pool.specs.Pooled.{IsFront}
 use Rattle.term_pool.specs.Trees.{tree_at}
 use Rattle.value_operators.proofs.NameLaws.{with_bound-last}
 use Rattle.value_operators.specs.Env.{with_bound}
-use Rattle.csp_steps.specs.Computed.{all_within, AreMoves}
+use Rattle.csp_steps.specs.Computed.{AreMoves}
 use Rattle.csp_steps.specs.Listed.{seen}
-use Rattle.csp_steps.specs.Walked.{filled, frames_left, frames_weight, input_ways, is_blocked, name_of, next_ways, next_weight, number_with, then_ways, turn_ways, turned_ways, turned_weight, values_left, values_weight, walk_moves, walk_ways, way_move, ways_by_number, weight, HasEnded, HasGone, HasTurned, IsBegun, IsSound, IsTaken, Way}
-use Rattle.csp_steps.specs.declared.fields.Next.{Next}
-use Rattle.csp_steps.specs.declared.fields.Next.TheVariants as next
+use Rattle.csp_steps.specs.Walked.{filled, frames_left, frames_weight, input_ways, is_blocked, name_of, number_with, then_ways, turn_ways, turned_ways, turned_weight, values_left, values_weight, walk_moves, walk_ways, way_move, ways_by_number, weight, HasGone, HasTurned, IsBegun, IsSound, IsTaken, Way}
 use Rattle.csp_steps.specs.declared.step.StepTo.{StepTo}
 use Rattle.csp_steps.specs.declared.walk.Frame.{Frame}
 use Rattle.csp_steps.specs.declared.walk.Input.{Input}
@@ -103,9 +100,9 @@ module _ (walk after : Walk) (sound : IsSound walk) (input : Input) (k : ℕ) wh
   -- there is none
   pub taken_none : slice_get input.set.now k ≡ None → after.bound ≡ walk.bound → after.frames ≡ walk.frames → after.turn ≡ None → IsTaken walk after input k
   taken_none none bound frames turn = record {
-    ways = λ p. ap (λ atoms. then_ways (each_joined (input_ways p (with_bound walk.bound []) input) k atoms) (frames_left p walk.frames [] (Ok []))) (past_end input.set.now k none) ∙
-        (λ i. then_ways (turned_ways p (with_bound (sym bound i) []) (sym turn i)) (frames_left p (sym frames i) [] (Ok [])));
-    sound = bound ∙ (sound ∙ ap (map name_of) (sym frames));
+    ways = λ p. ap (λ atoms. then_ways (each_joined (input_ways p (with_bound walk.bound.items []) input) k atoms) (frames_left p walk.frames [] (Ok []))) (past_end input.set.now k none) ∙
+        (λ i. then_ways (turned_ways p (with_bound (sym bound i).items []) (sym turn i)) (frames_left p (sym frames i) [] (Ok [])));
+    sound = (λ i. (bound i).items) ∙ (sound ∙ ap (map name_of) (sym frames));
     less =
         let t = ap turned_weight turn in
         let f = ap frames_weight frames in
@@ -115,17 +112,17 @@ module _ (walk after : Walk) (sound : IsSound walk) (input : Input) (k : ℕ) wh
 
   -- this one is on turn
   pub taken_one : (a : Atom) (turn : Option Turn) → slice_get input.set.now k ≡ Some a
-      → after.bound ≡ walk.bound ++ (input.name, a) ∷ [] → after.frames ≡ walk.frames ++ record { input = input; atom = a; next = k + 1 } ∷ [] → after.turn ≡ turn
+      → after.bound.items ≡ walk.bound.items ++ (input.name, a) ∷ [] → after.frames ≡ walk.frames ++ record { input = input; atom = a; next = k + 1 } ∷ [] → after.turn ≡ turn
       → ((p : Content) (env : Env) → turned_ways p ((input.name, One a) ∷ env) turn ≡ input_ways p env input k a)
       → turned_weight turn ≤ weight input.sets.now → IsTaken walk after input k
   taken_one a turn here bound frames on goes lighter = record {
     ways = λ p.
-        let env : Env = with_bound walk.bound [] in
+        let env : Env = with_bound walk.bound.items [] in
         let f : Frame = record { input = input; atom = a; next = k + 1 } in
         ap (λ atoms. then_ways (each_joined (input_ways p env input) k atoms) (frames_left p walk.frames [] (Ok []))) (read_some input.set.now k a here) ∙
         (then_regroup (input_ways p env input k a) (values_left p env input (k + 1)) (frames_left p walk.frames [] (Ok [])) ∙
         ((λ i. then_ways (sym (goes p env) i) (sym (frames_push p walk.frames f [] (Ok []) ∙ ap (λ bs. then_ways (values_left p (with_bound bs []) input (k + 1)) (frames_left p walk.frames [] (Ok []))) (sym sound)) i)) ∙
-        ((λ i. then_ways (turned_ways p (sym (with_bound-last walk.bound (input.name, a) []) i) turn) (frames_left p (walk.frames ++ f ∷ []) [] (Ok []))) ∙
+        ((λ i. then_ways (turned_ways p (sym (with_bound-last walk.bound.items (input.name, a) []) i) turn) (frames_left p (walk.frames ++ f ∷ []) [] (Ok []))) ∙
         (λ i. then_ways (turned_ways p (with_bound (sym bound i) []) (sym on i)) (frames_left p (sym frames i) [] (Ok []))))));
     sound = bound ∙ (ap (λ bs. bs ++ (input.name, a) ∷ []) sound ∙ (sym (map_push name_of walk.frames (record { input = input; atom = a; next = k + 1 })) ∙ ap (map name_of) (sym frames)));
     less =
@@ -138,24 +135,10 @@ module _ (walk after : Walk) (sound : IsSound walk) (input : Input) (k : ℕ) wh
 -- ---- turns
 
 module _ (p : Content) (walk after : Walk) where
-  -- the fields on turn lead to an input
-  pub turned_to_input : (t : Turn) (n : Next) (i : Input) → walk.turn ≡ Some t → n ≡ next.Input i → turn_ways p (with_bound walk.bound []) t ≡ next_ways p (with_bound walk.bound []) n
-      → next_weight n ≤ weight t.sets.now → IsTaken walk after i 0 → HasTurned p [] walk after
-  turned_to_input t n i on is same lighter taken = record {
-    ways = (λ j. then_ways ((ap (turned_ways p (with_bound walk.bound [])) on ∙ (same ∙ ap (next_ways p (with_bound walk.bound [])) is)) j) (frames_left p walk.frames [] (Ok []))) ∙
-        (taken.ways p ∙ sym (none_before (walk_ways p after)));
-    sound = taken.sound;
-    less =
-        let w = ap turned_weight on in
-        let v = ap next_weight is in
-        let less = taken.less in
-        omega (arith, w, v, less, lighter);
-  }
-
   -- the last input goes on
   pub turned_to_value : (popped : Walk) (f : Frame) → walk.turn ≡ None → walk.frames ≡ popped.frames ++ f ∷ [] → IsSound popped → IsTaken popped after f.input f.next → HasTurned p [] walk after
   turned_to_value popped f on frames sound taken = record {
-    ways = (λ j. then_ways (turned_ways p (with_bound walk.bound []) (on j)) (frames_left p (frames j) [] (Ok []))) ∙
+    ways = (λ j. then_ways (turned_ways p (with_bound walk.bound.items []) (on j)) (frames_left p (frames j) [] (Ok []))) ∙
         (none_before (frames_left p (popped.frames ++ f ∷ []) [] (Ok [])) ∙
         (frames_push p popped.frames f [] (Ok []) ∙
         (ap (λ bs. then_ways (values_left p (with_bound bs []) f.input f.next) (frames_left p popped.frames [] (Ok []))) (sym sound) ∙
@@ -168,30 +151,10 @@ module _ (p : Content) (walk after : Walk) where
         omega (arith, w, v, less);
   }
 
-  -- a way is found
-  pub turned_to_way : (t : Turn) (n : Next) (m : ℕ) → IsSound walk → walk.turn ≡ Some t → n ≡ next.End m → turn_ways p (with_bound walk.bound []) t ≡ next_ways p (with_bound walk.bound []) n
-      → next_weight n ≤ weight t.sets.now → after.bound ≡ walk.bound → after.frames ≡ walk.frames → after.turn ≡ None → HasTurned p ((with_bound after.bound [], m) ∷ []) walk after
-  turned_to_way t n m sound on is same lighter bound frames off = record {
-    ways = (λ j. then_ways ((ap (turned_ways p (with_bound walk.bound [])) on ∙ (same ∙ ap (next_ways p (with_bound walk.bound [])) is)) j) (frames_left p walk.frames [] (Ok []))) ∙
-        (ap (λ o. then_ways (Ok ((with_bound walk.bound [], m) ∷ [])) o) (sym (none_before (frames_left p walk.frames [] (Ok [])))) ∙
-        (λ i. then_ways (Ok ((with_bound (sym bound i) [], m) ∷ [])) (then_ways (turned_ways p (with_bound (sym bound i) []) (sym off i)) (frames_left p (sym frames i) [] (Ok [])))));
-    sound = bound ∙ (sound ∙ ap (map name_of) (sym frames));
-    less =
-        let w = ap turned_weight on in
-        let o = ap turned_weight off in
-        let f = ap frames_weight frames in
-        let v = ap next_weight is in
-        omega (arith, w, o, f, v, lighter);
-  }
-
   -- nothing is left
   pub turned_to_end : walk.turn ≡ None → walk.frames ≡ [] → walk_ways p walk ≡ Ok []
   unfolding frames_left
-  turned_to_end off frames = λ i. then_ways (turned_ways p (with_bound walk.bound []) (off i)) (frames_left p (frames i) [] (Ok []))
-
-  -- the fields on turn have a fault
-  pub faulty : (t : Turn) (k : ValueKind) → walk.turn ≡ Some t → turn_ways p (with_bound walk.bound []) t ≡ Err k → walk_ways p walk ≡ Err k
-  faulty t k on h = λ i. then_ways ((ap (turned_ways p (with_bound walk.bound [])) on ∙ h) i) (frames_left p walk.frames [] (Ok []))
+  turned_to_end off frames = λ i. then_ways (turned_ways p (with_bound walk.bound.items []) (off i)) (frames_left p (frames i) [] (Ok []))
 
 -- ---- the steps of ways
 
@@ -200,14 +163,6 @@ one_more_way moves first q w (Ok ways) = ap (λ ms. Ok ms) (sym (append_assoc mo
 one_more_way moves first q w (Err k) = refl
 
 module _ (p : Content) (first : ℕ) (to : ProcId) (old new : List Proc) (walk after : Walk) (steps more : List StepTo) where
-  pub gone_on : all_within (length old) steps ≡ true → HasTurned p [] walk after → HasGone p first to old old walk after steps steps
-  gone_on within h = record {
-    moves = ap (filled (map (seen old) steps) first (tree_at old to)) (h.ways ∙ none_before (walk_ways p after));
-    sound = h.sound;
-    less = h.less;
-    within = within;
-  }
-
   pub gone_to_way : (w : Way) → IsFront old new → to.0 < length old → HasTurned p (w ∷ []) walk after → AreMoves new more (map (seen old) steps ++ way_move first (tree_at old to) w ∷ [])
       → HasGone p first to old new walk after steps more
   gone_to_way w front within h are = record {
@@ -218,9 +173,6 @@ module _ (p : Content) (first : ℕ) (to : ProcId) (old new : List Proc) (walk a
     less = h.less;
     within = are.within;
   }
-
-  pub gone_to_end : all_within (length old) steps ≡ true → walk_ways p walk ≡ Ok [] → HasEnded p first to old old walk steps steps
-  gone_to_end within h = record { moves = ap (filled (map (seen old) steps) first (tree_at old to)) h ∙ ap (λ ms. Ok ms) (append-nil (map (seen old) steps)); within = within }
 
 -- ---- a walk that begins
 

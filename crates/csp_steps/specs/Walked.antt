@@ -112,7 +112,7 @@ module _ (p : Content) where
 
   -- all that are left to a walk
   abbrev pub walk_ways : Walk → Outcome (List Way)
-  walk_ways walk = then_ways (turned_ways (with_bound walk.bound []) walk.turn) (frames_left walk.frames [] (Ok []))
+  walk_ways walk = then_ways (turned_ways (with_bound walk.bound.items []) walk.turn) (frames_left walk.frames [] (Ok []))
 
 -- what a call answers that goes through the outputs at the front of fields
 abbrev pub GivesNext : Content → Env → Result Next EvalFault → Outcome (List Way) → Type 0
@@ -124,7 +124,7 @@ name_of f = (f.input.name, f.atom)
 
 -- a walk binds the names of its inputs
 abbrev pub IsSound : Walk → Type 0
-IsSound walk = walk.bound ≡ map name_of walk.frames
+IsSound walk = walk.bound.items ≡ map name_of walk.frames
 
 -- How many turns a walk still takes at most: with each value of an input, one for it and those of the fields after it.
 abbrev pub values_weight : ℕ → List Atom → ℕ
@@ -152,7 +152,7 @@ next_weight (next.Input i) = weight (i.set.now ∷ i.sets.now)
 
 -- a walk that begins
 pub record IsBegun (start : Turn) (walk : Walk) : Type 0 where
-  pub bound : walk.bound ≡ []
+  pub bound : walk.bound.items ≡ []
   pub frames : walk.frames ≡ []
   pub turn : walk.turn ≡ Some start
 
@@ -169,7 +169,7 @@ IsPopped old new (Some f) = IsWithout old new f
 -- The walk stands under an input with its value at the place k, or goes on where the input has no more: it still comes to the values from that place
 -- on, and then to what is left to the inputs before.
 pub record IsTaken (old new : Walk) (input : Input) (k : ℕ) : Type 0 where
-  pub ways : (p : Content) → then_ways (values_left p (with_bound old.bound []) input k) (frames_left p old.frames [] (Ok [])) ≡ walk_ways p new
+  pub ways : (p : Content) → then_ways (values_left p (with_bound old.bound.items []) input k) (frames_left p old.frames [] (Ok [])) ≡ walk_ways p new
   pub sound : IsSound new
   pub less : walk_weight new < values_weight (weight input.sets.now) (drop k input.set.now) + frames_weight old.frames
 
@@ -181,7 +181,7 @@ pub record HasTurned (p : Content) (found : List Way) (old new : Walk) : Type 0 
 
 -- what a turn of a walk comes to
 abbrev pub IsTurned : Content → Walk → Walk → Turned → Type 0
-IsTurned p old new (turned.Way n) = HasTurned p ((with_bound new.bound [], n) ∷ []) old new
+IsTurned p old new (turned.Way n) = HasTurned p ((with_bound new.bound.items [], n) ∷ []) old new
 IsTurned p old new turned.On = HasTurned p [] old new
 IsTurned p old new turned.End = walk_ways p old ≡ Ok []
 

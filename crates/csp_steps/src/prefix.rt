@@ -14,7 +14,7 @@ ghost use Rattle.csp_steps.specs.Walked.{filled, input_ways, nth_event, turned_w
 
 use crate::fields::{Filling, Next, are_blocked, next_of, number_after};
 use crate::step::StepTo;
-use crate::walk::{Frame, Input, Turn, Turned, Walk, begun, pop};
+use crate::walk::{Frame, Input, Turn, Turned, Walk, begun, bind, pop};
 use containers::Items;
 use csp_atoms::{Atom, AtomSet};
 use csp_base::{Event, NoMemory};
@@ -63,7 +63,7 @@ fn take<'a>(walk: &mut Walk<'a>, input: Input<'a>, place: usize) -> Result<(), N
         return Ok(());
     };
     walk.turn = turn_after(&input, place, &atom);
-    walk.bound.push((input.name, atom))?;
+    bind(&mut walk.bound, input.name, atom)?;
     let frame = Frame {
         input,
         atom,

@@ -1,10 +1,13 @@
 //! Where a walk over the ways to fill the fields of a prefix stands, with a stack of its own: no number of inputs costs stack of the program.
 
+ghost use Rattle.std.specs.Prelude.{◌≡◌, ◌++◌, ◌∷◌, [], OnOk};
 ghost use Rattle.csp_steps.specs.Walked.{IsBegun, IsPopped};
 
 use containers::Items;
 use csp_atoms::{Atom, AtomSet};
+use csp_base::NoMemory;
 use csp_program::Field;
+use smallvec::SmallVec;
 use std::alloc::Global;
 
 /// The fields that come next.
@@ -49,8 +52,8 @@ pub(crate) struct Frame<'a> {
 /// A walk over the ways to fill fields, in nested loops.
 #[derive(Drop)]
 pub(crate) struct Walk<'a> {
-    /// The names that are bound with their values, the last one bound at the end.
-    pub bound: Items<(u32, Atom)>,
+    /// The names that are bound with their values, the last one bound at the end. Most events have few fields.
+    pub bound: SmallVec<(u32, Atom), 4>,
     /// The inputs that bind them.
     pub frames: Items<Frame<'a>>,
     /// The fields that come next; none where the last input goes on.
@@ -73,9 +76,23 @@ pub(crate) fn begun<'a>(alloc: Global, turn: Turn<'a>) -> Walk<'a>
     ensures { IsBegun turn.entry result }
 {
     Walk {
-        bound: Items::new(alloc),
+        bound: SmallVec::new(alloc),
         frames: Items::new(alloc),
         turn: Some(turn),
+    }
+}
+
+/// Binds one more name.
+pub(crate) fn bind(
+    bound: &mut SmallVec<(u32, Atom), 4>,
+    name: u32,
+    atom: Atom,
+) -> Result<(), NoMemory>
+    ensures { OnOk result (bound.new.items ≡ bound.old.items ++ (name, atom) ∷ []) }
+{
+    match bound.push((name, atom)) {
+        Ok(()) => Ok(()),
+        Err(_) => Err(NoMemory),
     }
 }
 
@@ -84,6 +101,6 @@ pub(crate) fn pop<'a>(walk: &mut Walk<'a>) -> Option<Frame<'a>>
     ensures { IsPopped walk.old walk.new result }
 {
     let frame = walk.frames.pop()?;
-    walk.bound.pop();
+    let _ = walk.bound.pop();
     Some(frame)
 }

@@ -1,7 +1,6 @@
 use Rattle.std.proofs.Common.{Ok, List, ap, sym, ◌∙◌, subst}
 use Rattle.std.specs.Prelude.{Result}
 use Rattle.csp_atoms.specs.declared.atom.Atom.{Atom}
-use Rattle.csp_program.specs.declared.processes.Proc.TheVariants as proc
 use Rattle.process_steps.specs.Needed.{set_in}
 use Rattle.term_pool.specs.Trees.{tree_at}
 use Rattle.value_operators.specs.Gives.{Gives}

@@ -5,7 +5,6 @@ use Rattle.csp_atoms.specs.declared.atom.Atom.{Atom}
 use Rattle.process_steps.specs.declared.label.Label.TheVariants.{Silent}
 use Rattle.term_pool.specs.Trees.{tree_at}
 use Rattle.pool_parts.specs.declared.place.ProcId.{ProcId}
-use Rattle.csp_program.specs.declared.processes.Proc.TheVariants as proc
 use Rattle.process_steps.specs.Needed.{set_in}
 use Rattle.value_operators.specs.Gives.{Gives}
 use Rattle.value_operators.specs.declared.fault.EvalFault.{EvalFault}

@@ -11,5 +11,5 @@ overflow_add-frame c = let within = slice_get_within c.args.input.set.now c.args
 
 pub returns : goal.returns
 returns c =
-    taken_one c.args.walk.now _ c.requires c.args.input c.args.place c.in-Some.atom c.turn_after-walk.result (sym c.in-Some.ensures) c.in_ok-push.ensures.ok c.in_ok-push-2.ensures.ok refl
+    taken_one c.args.walk.now _ c.requires c.args.input c.args.place c.in-Some.atom c.turn_after-walk.result (sym c.in-Some.ensures) c.in_ok-bind.ensures c.in_ok-push.ensures.ok refl
     (λ p env. c.turn_after-walk.ensures.ways p env) c.turn_after-walk.ensures.less
