@@ -12,8 +12,8 @@ use Rattle.csp_program.specs.declared.processes.Proc.TheViews.{out-Proc, out-rol
 use Rattle.term_pool.proofs.NodeLemmas.{layer_of, layer_out}
 use Rattle.term_pool.proofs.TreeLemmas.{all_below_more}
 use Rattle.term_pool.specs.First.{layer_with_first, node_with_first, other_first, with_first}
-use Rattle.term_pool.specs.Trees.{tree_at, layer_tree, layer_parts, all_below, layer_below}
-use Rattle.term_pool.specs.Layers.{Layer}
+use Rattle.term_pool.specs.Trees.{tree_at, layer_tree, all_below, layer_below}
+use Rattle.term_pool.specs.Layers.{Layer, layer_parts}
 use Rattle.pool_parts.specs.declared.place.ProcId.{ProcId}
 
 pub first_Hide : (p : Proc) (s : Expr) (q : Proc) → with_first (proc.Hide p s) q ≡ proc.Hide q s

@@ -159,10 +159,6 @@ no_parts_no_process parts es ms kept n below lacks has =
     let e = entry_there parts es here.0 n here.1 in
     lacks (has_parts parts e.0 n (record { fits = kept.fits here.0 e.0 e.1; is = e.2 }))
 
--- the same of the list of processes that a caller sees
-pub puts_seen : {E : Type 0} (ts us after : List Proc) (r : Result ProcId E) (t u : Proc) → ts ≡ us → t ≡ u → Puts ts after r t → Puts us after r u
-puts_seen ts us after r t u e f h = subst (λ (q : Proc). Puts us after r q) f (subst (λ (ws : List Proc). Puts ws after r t) e h)
-
 -- what is so holds where nothing else is said
 pub on_err : {T E : Type 0} (r : Result T E) (P : Type 0) → P → OnErr r P
 on_err (Ok x) P p = tt

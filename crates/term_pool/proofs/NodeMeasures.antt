@@ -1,6 +1,7 @@
 -- What a node's process measures: its own parts and the processes at its places.
-use Rattle.std.proofs.Common.{◌≡◌, ◌⊎◌, inl, inr, ℕ, ◌+◌, max, Bool, true, false, ◌||◌, ◌&&◌, not, nat_lt, nat_eq, List, [], ◌∷◌, map, length, refl, sym, ◌∙◌, subst, arith}
+use Rattle.std.proofs.Common.{◌≡◌, ◌⊎◌, inl, inr, ℕ, ◌+◌, ◌<◌, ◌≤◌, max, min, Bool, true, false, ◌||◌, ◌&&◌, not, nat_lt, nat_eq, List, [], ◌∷◌, ◌++◌, map, length, take, get_or, refl, ap, sym, ◌∙◌, subst, arith}
 use Rattle.std.proofs.lemmas.Bool.{false≢true, ltb-true, or_right}
+use Rattle.std.proofs.lemmas.List.{take_more}
 use Rattle.std.proofs.lemmas.Option.{slice_get-get_or}
 use Rattle.std.specs.Cmp.{first_so, second_so}
 use Rattle.csp_base.specs.Lists.{greatest, total}
@@ -72,6 +73,20 @@ own_under false u g a split e = either_one (split e)
     either_one : (g ≡ true) ⊎ (a ≡ true) → (a || g ≡ true) ⊎ (false ≡ true)
     either_one (inl h) = inl (or_right a g h)
     either_one (inr h) = inl (λ i. h i || g)
+
+-- a number that is none above those of some places, and of one more
+least_push : (ms : List Measure) (all new : ℕ) (ids : List ProcId) (id : ProcId) → new ≡ min all (measure_at ms id).least → IsLeastAt ms all ids → IsLeastAt ms new (ids ++ id ∷ [])
+least_push ms all new [] id e low = (omega (arith, e), tt)
+least_push ms all new (q ∷ ids) id e low = (let first = low.0 in omega (arith, e, first), least_push ms all new ids id e low.1)
+
+pub least_lower : (ms : List Measure) (m n : ℕ) (ids : List ProcId) → m ≤ n → IsLeastAt ms n ids → IsLeastAt ms m ids
+least_lower ms m n [] h low = tt
+least_lower ms m n (id ∷ ids) h low = (let first = low.0 in omega (arith, h, first), least_lower ms m n ids h low.1)
+
+pub least_more : (ms : List Measure) (all new : ℕ) (ids : List ProcId) (i : ℕ) (other : ProcId) (m : Measure) → i < length ids → new ≡ min all m.least → m ≡ measure_at ms (get_or ids i other) → IsLeastAt ms all (take i ids) → IsLeastAt ms new (take (i + 1) ids)
+least_more ms all new ids i other m h is at low =
+    subst (λ (qs : List ProcId). IsLeastAt ms new qs) (sym (take_more ids i other h))
+    (least_push ms all new (take i ids) (get_or ids i other) (is ∙ ap (λ (k : Measure). min all k.least) at) low)
 
 abbrev frees : List Proc → List ProcId → Names
 frees ts ids = any_of (map proc_free (map (tree_at ts) ids))

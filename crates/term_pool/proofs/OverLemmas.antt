@@ -1,5 +1,5 @@
 -- The layer of a process over places where its sub-processes stand stands for the process.
-use Rattle.std.proofs.Common.{◌≡◌, ℕ, true, List, length, refl, ap, sym, ◌∙◌}
+use Rattle.std.proofs.Common.{◌≡◌, ℕ, List, [], ◌∷◌, map, length, refl, ap, sym, ◌∙◌}
 use Rattle.csp_program.specs.declared.expressions.EventPart.{EventPart}
 use Rattle.csp_program.specs.declared.expressions.Expr.{Expr}
 use Rattle.csp_program.specs.declared.expressions.Gen.{Gen}
@@ -9,9 +9,10 @@ use Rattle.csp_program.specs.declared.processes.Proc.{Proc}
 use Rattle.csp_program.specs.declared.processes.Proc.TheOpen.{Proc-F}
 use Rattle.csp_program.specs.declared.processes.Proc.TheVariants as proc
 use Rattle.csp_program.specs.declared.processes.Proc.TheViews.{out-Proc, out-roll-Proc, roll-Proc, roll-out-Proc}
-use Rattle.term_pool.proofs.NodeLemmas.{layer_of, rolls}
-use Rattle.term_pool.proofs.PutLemmas.{at, one_below, stand_below, stand_trees, two_below}
-use Rattle.term_pool.specs.Put.{StandsFor}
+use Rattle.pool_parts.specs.declared.place.ProcId.{ProcId}
+use Rattle.term_pool.proofs.NodeLemmas.{mapped, rolls}
+use Rattle.term_pool.proofs.PutLemmas.{stand_below, stand_trees}
+use Rattle.term_pool.specs.Put.{StandAt, StandsFor}
 use Rattle.term_pool.specs.Layers.{layer_parts}
 use Rattle.term_pool.specs.Moved.{id_or, moved, with_parts}
 use Rattle.term_pool.specs.Trees.{all_below, tree_at}

@@ -18,7 +18,7 @@ use Rattle.term_pool.specs.Trees.{layer_tree, tree_at}
 
 module _ (given : Given) (trees : List Proc) where
   -- the layer of what a node's process becomes
-  form : Layer → Proc-F Proc
+  abbrev form : Layer → Proc-F Proc
   form n = proc_form given (layer_of trees n)
 
   form_parts : (n : Layer) → layer_parts (form n) ≡ all_with (left_below n given) trees (layer_parts n)

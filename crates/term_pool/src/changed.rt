@@ -145,13 +145,21 @@ fn put_own(
             let own = put_prefix(parts, alloc, head, fields, values);
             own.map(|(head, fields)| Entry::Prefix(head, fields, p))
         }
-        Entry::Guard(c, p) => { put_values(&mut parts.exprs, alloc, c, values).map(|c| Entry::Guard(c, p)) }
-        Entry::If(c, p, q) => { put_values(&mut parts.exprs, alloc, c, values).map(|c| Entry::If(c, p, q)) }
+        Entry::Guard(c, p) => {
+            put_values(&mut parts.exprs, alloc, c, values).map(|c| Entry::Guard(c, p))
+        }
+        Entry::If(c, p, q) => {
+            put_values(&mut parts.exprs, alloc, c, values).map(|c| Entry::If(c, p, q))
+        }
         Entry::EachExternal(slot, set, p) => {
-            put_values(&mut parts.exprs, alloc, set, values).map(|set| Entry::EachExternal(slot, set, p))
+            put_values(&mut parts.exprs, alloc, set, values).map(|set| Entry::EachExternal(
+                slot, set, p,
+            ))
         }
         Entry::EachInternal(slot, set, p) => {
-            put_values(&mut parts.exprs, alloc, set, values).map(|set| Entry::EachInternal(slot, set, p))
+            put_values(&mut parts.exprs, alloc, set, values).map(|set| Entry::EachInternal(
+                slot, set, p,
+            ))
         }
         Entry::Hide(p, set) => {
             put_values(&mut parts.exprs, alloc, set, values).map(|set| Entry::Hide(p, set))
@@ -161,7 +169,9 @@ fn put_own(
             own.map(|(pairs, gens)| Entry::Rename(p, pairs, gens))
         }
         Entry::Call(definition, args) => {
-            put_values(&mut parts.arguments, alloc, args, values).map(|args| Entry::Call(definition, args))
+            put_values(&mut parts.arguments, alloc, args, values).map(|args| Entry::Call(
+                definition, args,
+            ))
         }
         Entry::Stop => Ok(entry),
         Entry::External(_) => Ok(entry),

@@ -2,7 +2,7 @@ use Rattle.std.proofs.Common.{◌≡◌, List, [], map, ◌∙◌, subst}
 use Rattle.std.specs.Prelude.{IfOk}
 use Rattle.csp_program.specs.declared.expressions.EventPart.{EventPart}
 use Rattle.csp_program.specs.declared.expressions.Gen.{Gen}
-use Rattle.csp_program.specs.Substitution.{gens_with, pair_with, past}
+use Rattle.csp_program.specs.Substitution.{given_by, pair_with, past}
 use Rattle.term_pool.specs.Entries.{gens_at, pairs_at}
 use Rattle.term_pool.proofs.changed.put_renaming.Goals as goal
 
@@ -14,6 +14,4 @@ returns-clause-pairs c =
     (subst (λ (ps : List (EventPart × EventPart)). IfOk c.put_pairs-made.result (λ made. made ≡ pairs_of c.as_slice-old_gens.result.now ps)) (c.as_slice-old_pairs.ensures ∙ c.get.ensures []) c.put_pairs-made.ensures))
 
 pub returns-clause-gens : goal.returns-clause-gens
-returns-clause-gens c =
-    c.in_ok-gens.ensures.place (gens_with (given_by c.args.values.now) (gens_at c.args.parts.now c.args.gens))
-    (subst (λ (gs : List Gen). IfOk c.put_gens-made.result (λ made. made ≡ gens_with (given_by c.args.values.now) gs)) (c.as_slice.ensures ∙ c.get-3.ensures []) c.put_gens-made.ensures)
+returns-clause-gens c = c.in_ok-gens.ensures.made []

@@ -39,7 +39,7 @@ returns-in-Ok-clause-kept c =
     let m = c.of_entry-measure.result in
     let unknown : is_member eq_entry es e ≡ false = was_unknown (is_member eq_entry es e) c.in_ok-place.new c.in_ok-place.ensures.new c.if-not-new.false in
     let is : IsNodeMeasure ms n m = subst (λ (xs : List Measure). IsNodeMeasure xs n m) c.as_slice.ensures
-        (record { depth = c.of_entry-measure.ensures.depth; size = c.of_entry-measure.ensures.size; own = c.of_entry-measure.ensures.own; places = c.of_entry-measure.ensures.places }) in
+    (record { depth = c.of_entry-measure.ensures.depth; size = c.of_entry-measure.ensures.size; own = c.of_entry-measure.ensures.own; places = c.of_entry-measure.ensures.places }) in
     let entries : c.insert_full.new.self ≡ es ++ e ∷ [] = c.in_ok-place.ensures.list ∙ ap (λ b. if b then es else (es ++ e ∷ [])) unknown in
     let measures : c.push.new.self ≡ ms ++ m ∷ [] = c.in-Ok.ensures.ok in
     subst (λ (xs : List Entry). IsKept c.args.parts.now xs c.push.new.self) (sym entries)

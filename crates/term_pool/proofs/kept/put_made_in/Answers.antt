@@ -1,5 +1,5 @@
 -- The entry with the values in its own parts, at the places where its sub-processes stand with the values put in.
-use Rattle.csp_program.specs.Substitution.{proc_with}
+use Rattle.csp_program.specs.Substitution.{given_by, proc_with}
 use Rattle.term_pool.proofs.KeptLemmas.{below_more, kept_more, puts_as, puts_nothing}
 use Rattle.term_pool.proofs.ValuesLemmas.{stands_made}
 use Rattle.term_pool.specs.Entries.{entry_layer}

@@ -1,5 +1,6 @@
 -- What a process becomes: from its own parts, and from what its sub-processes became.
-use Rattle.std.proofs.Common.{◌≡◌, ◌+◌, List, Some, map, take, slice_get, ap, sym, ◌∙◌, subst, arith}
+use Rattle.std.proofs.Common.{◌≡◌, ℕ, ◌+◌, nat_eq, List, Some, map, take, slice_get, ap, sym, ◌∙◌, subst, arith}
+use Rattle.std.specs.Map.{lookup}
 use Rattle.std.specs.Prelude.{IfOk}
 use Rattle.std.proofs.lemmas.Option.{slice_get-get_or}
 use Rattle.csp_program.specs.Substitution.{given_by, proc_with}
@@ -101,3 +102,7 @@ pub substitute_at-returns-then-stays-clause-process : goal.substitute_at-returns
 substitute_at-returns-then-stays-clause-process t c =
     slice_get-get_or c.args.pool.now c.args.id.now.0 proc.Stop c.requires.within ∙
     ap (λ (q : Proc). Some q) (sym (c.stays.ensures c.if-stays.true))
+
+pub substitute_at-returns-in_err-remember-clause-visited : goal.substitute_at-returns-in_err-remember-clause-visited
+substitute_at-returns-in_err-remember-clause-visited t c = λ q made g.
+    c.in_ok-made.ensures.visited q made (sym (ap (λ (entries : List (ℕ × ProcId)). lookup (nat_eq q) entries) c.in_err-remember.ensures.err) ∙ g)
