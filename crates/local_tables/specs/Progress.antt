@@ -121,21 +121,29 @@ pub record AreTabled (task : Task) (trees : List Proc) (so_far : Found) : Type 0
   pub found : AreFound task trees so_far
   pub rows : (m : ℕ) → IsTabled task (terms_at trees so_far.terms) so_far.table m
 
--- The terms before the number `at` are followed, and no others.
+-- the terms before the number `at` are followed
+abbrev pub AreFollowed : Task → List Proc → Found → ℕ → Type 0
+AreFollowed task trees so_far at =
+    (k : ℕ) → k < at → (moves : List Move) × IsFollowed task (terms_at trees so_far.terms) so_far.table k moves []
+
+-- They are, and no others.
 pub record IsUpTo (task : Task) (trees : List Proc) (so_far : Found) (at : ℕ) : Type 0 where
   pub found : AreFound task trees so_far
   pub within : IsWithin task.room trees so_far
-  pub before : (k : ℕ) → k < at → (moves : List Move) × IsFollowed task (terms_at trees so_far.terms) so_far.table k moves []
+  pub before : AreFollowed task trees so_far at
   pub later : (k : ℕ) → at ≤ k → AreRows task (terms_at trees so_far.terms) so_far.table k []
 
--- The terms before the number `at` are followed, and of the steps of that term the first i are taken.
-pub record IsAt (task : Task) (trees : List Proc) (so_far : Found) (at : ℕ) (steps : List StepTo) (i : ℕ) : Type 0 where
+-- They are, and of the steps of that term the first i are taken.
+pub record AreTaken (task : Task) (trees : List Proc) (so_far : Found) (at : ℕ) (steps : List StepTo) (i : ℕ) : Type 0 where
   pub found : AreFound task trees so_far
-  pub within : IsWithin task.room trees so_far
-  pub before : (k : ℕ) → k < at → (moves : List Move) × IsFollowed task (terms_at trees so_far.terms) so_far.table k moves []
+  pub before : AreFollowed task trees so_far at
   pub here : IsFollowed task (terms_at trees so_far.terms) so_far.table at (map (seen trees) (take i steps)) (map (seen trees) (drop i steps))
   pub later : (k : ℕ) → at < k → AreRows task (terms_at trees so_far.terms) so_far.table k []
   pub places : (k : ℕ) (s : StepTo) → slice_get steps k ≡ Some s → s.to.0 < length trees
+
+pub record IsAt (task : Task) (trees : List Proc) (so_far : Found) (at : ℕ) (steps : List StepTo) (i : ℕ) : Type 0 where
+  pub taken : AreTaken task trees so_far at steps i
+  pub within : IsWithin task.room trees so_far
 
 -- ---- traces
 

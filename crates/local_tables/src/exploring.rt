@@ -138,7 +138,8 @@ fn take(
     ensures at { OnOk result (IsAt task.now pool.now found.new at steps.now (place + 1)) }
     ensures fault { IfErr result (TaskLacks task.now) }
 {
-    match steps[place].label {
+    let StepTo { label, .. } = steps[place];
+    match label {
         Label::Silent => lead(task, pool, found, at, steps, place, None),
         Label::Visible(event) => {
             if !task.alphabet.contains(event) {
@@ -173,7 +174,7 @@ fn lead(
     // Its contract says that sizes within the room are below where they stop.
     let _ = task.room.nodes();
     let StepTo { to, .. } = steps[place];
-    let number = term_number(pool, found, (at, event), to)?;
+    let number = term_number(pool, found, at, &event, to)?;
     add_step(&mut found.table, at, event, number)?;
     check(task, pool, found, to)
 }

@@ -63,21 +63,22 @@ fn found_first(alloc: Global, first: ProcId, size: u32) -> Result<Found, NoMemor
 pub(crate) fn term_number(
     pool: &Pool,
     found: &mut Found,
-    origin: (u32, Option<Event>),
+    from: u32,
+    event: &Option<Event>,
     to: ProcId,
 ) -> Result<u32, NoMemory>
     requires few { length found.old.terms ≤ MOST_TERMS }
     requires count { found.old.table.count ≡ length found.old.terms }
     requires nodes { found.old.nodes < 2 ^ 32 }
     requires inside { to.0 < length pool.now }
-    ensures found { OnOk result (found.new ≡ with_term pool.now found.old origin to) }
+    ensures found { OnOk result (found.new ≡ with_term pool.now found.old (from, event.now) to) }
     ensures number { IfOk result (λ number. slice_get found.new.terms number ≡ Some to) }
 {
     let (number, is_new) = found.terms.insert_full(to)?;
     if !is_new {
         return Ok(number as u32);
     }
-    found.origins.push(origin)?;
+    found.origins.push((from, *event))?;
     found.table.add_term();
     found.nodes += u64::from(pool.size(to));
     Ok(number as u32)

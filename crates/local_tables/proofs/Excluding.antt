@@ -1,0 +1,126 @@
+-- Where a component has its table, whatever it is said to have stands in that.
+use Rattle.std.proofs.Common.{◌≡◌, ℕ, ◌+◌, ◌<◌, ◌≤◌, Ok, Err, List, length, refl, sym, ap, subst, ◌∙◌, arith}
+use Rattle.std.specs.Prelude.{map, slice_get, Some}
+use Rattle.csp_program.specs.Depth.{proc_depth}
+use Rattle.csp_program.specs.Size.{proc_size}
+use Rattle.csp_program.specs.declared.processes.Proc.{Proc}
+use Rattle.csp_program.specs.declared.programs.Content.{Content}
+use Rattle.csp_tables.specs.Label.{Label}
+use Rattle.csp_tables.specs.Label.Label.{silent, visible}
+use Rattle.csp_tables.specs.Network.{Component, ComponentStep}
+use Rattle.csp_tables.specs.Path.{Reached}
+use Rattle.csp_tables.specs.RawTable.{IsTableOf, RawStep, RawTable, standing_at}
+use Rattle.std.proofs.lemmas.Option.{same_Some}
+use Rattle.process_steps.proofs.Listed.{lists_are_there}
+use Rattle.process_steps.specs.ComponentStep.{ProcessStep}
+use Rattle.local_tables.specs.Component.{AreSteps, AreTerms}
+use Rattle.local_tables.specs.Laws.{FaultsExcludeTables}
+use Rattle.process_steps.specs.declared.component_fault.ComponentFault.TheVariants as fault
+use Rattle.local_tables.proofs.Injecting.{Partner, no_heavier, no_longer}
+use Rattle.net_sound.proofs.Numbered.{run_down}
+use Rattle.csp_base.specs.Lists.{total}
+
+module _ (p : Content) (c : Component Proc) (terms : List Proc) (raw : RawTable) (table : IsTableOf (ProcessStep p) c terms raw) where
+  -- a term that is reached has a number
+  listed_of : (x : Proc) → Reached (ComponentStep (ProcessStep p)) c (standing_at c x) → (n : ℕ) × (slice_get terms n ≡ Some x)
+  listed_of x r = let i = run_down (ProcessStep p) c terms raw r.0 c (standing_at c x) 0 table table.first refl r.1 in (i.number, i.listed)
+
+  -- terms that are reached
+  partner : (xs : List Proc) → AreTerms (ProcessStep p) c xs → (k : ℕ) (x : Proc) → slice_get xs k ≡ Some x → Partner (λ (a b : Proc). a ≡ b) terms x
+  partner xs are k x h = let l = listed_of x (are.reached k x h) in record { place = l.0; partner = x; at = l.1; pair = refl }
+
+  same_partner : (x z y : Proc) → x ≡ y → z ≡ y → x ≡ z
+  same_partner x z y a b = a ∙ sym b
+
+  few_terms : (xs : List Proc) → AreTerms (ProcessStep p) c xs → length xs ≤ length terms
+  few_terms xs are = no_longer (λ (a b : Proc). a ≡ b) same_partner xs terms are.once (partner xs are)
+
+  small_terms : (xs : List Proc) → AreTerms (ProcessStep p) c xs → total (map proc_size xs) ≤ total (map proc_size terms)
+  small_terms xs are = no_heavier (λ (a b : Proc). a ≡ b) proc_size proc_size same_partner
+      (λ x y e. subst (λ z. proc_size x ≤ proc_size z) e (omega arith)) xs terms are.once (partner xs are)
+
+  -- steps between such terms
+  module _ (xs : List Proc) (are : AreTerms (ProcessStep p) c xs) (other : RawTable) (steps : AreSteps (ProcessStep p) c xs other) where
+    -- a number among these terms, and the number of the same term in the table
+    record AreSame (m n : ℕ) : Type 0 where
+      term : Proc
+      here : slice_get xs m ≡ Some term
+      there : slice_get terms n ≡ Some term
+
+    same_number : (m k n : ℕ) → AreSame m n → AreSame k n → m ≡ k
+    same_number m k n a b =
+        let is : b.term ≡ a.term = same_Some b.term a.term (sym b.there ∙ a.there) in
+        are.once m k a.term a.here (b.here ∙ ap Some is)
+
+    record Found (m n : ℕ) (l : Label) : Type 0 where
+      from : ℕ
+      to : ℕ
+      from_same : AreSame m from
+      to_same : AreSame n to
+      step : RawStep raw from l to
+
+    found : (m n : ℕ) (l : Label) → RawStep other m l n → Found m n l
+    found m n l s =
+        let is = steps.sound m n l s in
+        let source = listed_of is.source (are.reached m is.source is.from) in
+        let i = table.complete source.0 is.source l (standing_at c is.goal) source.1 is.step in
+        record {
+          from = source.0;
+          to = i.number;
+          from_same = record { term = is.source; here = is.from; there = source.1 };
+          to_same = record { term = is.goal; here = is.to; there = i.listed };
+          step = i.step;
+        }
+
+    AreSilent : ℕ × ℕ → ℕ × ℕ → Type 0
+    AreSilent a b = AreSame a.0 b.0 × AreSame a.1 b.1
+
+    few_silent : length other.silent ≤ length raw.silent
+    unfolding AreSilent
+    few_silent = no_longer AreSilent
+        (λ x z y a b i. (same_number x.0 z.0 y.0 a.0 b.0 i, same_number x.1 z.1 y.1 a.1 b.1 i)) other.silent raw.silent steps.silent_once
+        (λ k x h. let f = found x.0 x.1 silent (k, h) in record { place = f.step.0; partner = (f.from, f.to); at = f.step.1; pair = (f.from_same, f.to_same) })
+
+    AreVisible : ℕ × ℕ × ℕ → ℕ × ℕ × ℕ → Type 0
+    AreVisible a b = AreSame a.0 b.0 × (a.1 ≡ b.1) × AreSame a.2 b.2
+
+    few_visible : length other.steps ≤ length raw.steps
+    unfolding AreVisible
+    few_visible = no_longer AreVisible
+        (λ x z y a b i. (same_number x.0 z.0 y.0 a.0 b.0 i, (a.1 ∙ sym b.1) i, same_number x.2 z.2 y.2 a.2 b.2 i)) other.steps raw.steps steps.steps_once
+        (λ k x h. let f = found x.0 x.2 (visible x.1) (k, h) in record { place = f.step.0; partner = (f.from, x.1, f.to); at = f.step.1; pair = (f.from_same, refl, f.to_same) })
+
+pub excluded : FaultsExcludeTables
+excluded p c room made (fault.Value reason) table tells =
+    let l = listed_of p c table.terms made.table table.table tells.term tells.reached in
+    let list = (lists_are_there p tells.term).1 (table.fit l.0 tells.term l.1).whole in
+    let clash : Ok list.0 ≡ Err reason = sym list.1 ∙ tells.none in
+    cc
+excluded p c room made fault.TermCount table tells =
+    let many : 16384 < length tells.terms = tells.many in
+    let few : length tells.terms ≤ length table.terms = few_terms p c table.terms made.table table.table tells.terms tells.are in
+    let most : length table.terms ≤ 16384 = table.few in
+    omega arith
+excluded p c room made fault.TermDepth table tells =
+    let deep : 800 < proc_depth tells.term = tells.deep in
+    let l = listed_of p c table.terms made.table table.table tells.term tells.reached in
+    let most : proc_depth tells.term ≤ 800 = (table.fit l.0 tells.term l.1).shallow in
+    omega arith
+excluded p c room made fault.TermTotal table tells =
+    let large : room.nodes < total (map proc_size tells.terms) = tells.large in
+    let less : total (map proc_size tells.terms) ≤ total (map proc_size table.terms) = small_terms p c table.terms made.table table.table tells.terms tells.are in
+    let used : total (map proc_size table.terms) ≡ made.used.nodes = table.nodes in
+    let most : made.used.nodes ≤ room.nodes = table.room_for_nodes in
+    omega arith
+excluded p c room made fault.StepCount table tells =
+    let many : room.steps < length tells.raw.silent + length tells.raw.steps = tells.many in
+    let a : length tells.raw.silent ≤ length made.table.silent = few_silent p c table.terms made.table table.table tells.terms tells.are tells.raw tells.steps in
+    let b : length tells.raw.steps ≤ length made.table.steps = few_visible p c table.terms made.table table.table tells.terms tells.are tells.raw tells.steps in
+    let used : length made.table.silent + length made.table.steps ≡ made.used.steps = table.steps in
+    let most : made.used.steps ≤ room.steps = table.room_for_steps in
+    omega arith
+excluded p c room made fault.Diverges table tells = tells
+excluded p c room made fault.SubsetLimit table tells = tells
+excluded p c room made (fault.Terminates trace) table tells =
+    let l = listed_of p c table.terms made.table table.table tells.term (tells.after.0, tells.after.1) in
+    (table.fit l.0 tells.term l.1).goes_on tells.ends
