@@ -15,7 +15,7 @@ use Rattle.csp_tables.specs.RawTable.{RawTable, RawStep}
 use Rattle.csp_tables.specs.Offer.{IsOfferOf, IsMinimalOffer}
 use Rattle.csp_tables.specs.Behaviour.{OffersAcceptance}
 use Rattle.csp_tables.specs.NormalTable.{IsListed}
-use Rattle.acceptances.specs.OfferTests.{can_do, AreMarks, AreOffers, offers_at, has_smaller, is_smaller}
+use Rattle.acceptances.specs.OfferTests.{can_do, AreMarks, AreOffers, AreLeastOf, offers_at, has_smaller, is_smaller}
 use Rattle.acceptances.proofs.Member.{Member, member_from_contains, contains_from_member, stands, all_of_members, member_of_filter, member_from_filter, any_of_member, member_of_any}
 use Rattle.acceptances.proofs.Terms.{stable_by_test, test_by_stable, offers_by_test, test_by_offers, Source, source, listed_offer, within_of}
 use Rattle.csp_base.proofs.Booleans.{same_tests}
@@ -98,14 +98,6 @@ pub record Found (raw : RawTable) (terms : List ℕ) (unstable : List Bool) (set
   pub events : AreOffers raw sets
   pub same : (M : List ℕ) → Contains offers M ↔ Contains (offers_at unstable sets terms) M
 
-pub found : (raw : RawTable) (terms : List ℕ) (unstable : List Bool) (sets offers listed : List (List ℕ)) (marks_read : List Bool) (sets_read : List (List ℕ)) → All (λ n. n < raw.count) terms → AreMarks raw unstable → AreOffers raw sets → listed ≡ offers_at marks_read sets_read terms → marks_read ≡ unstable → sets_read ≡ sets → ((M : List ℕ) → Contains offers M ↔ Contains listed M) → Found raw terms unstable sets offers
-found raw terms unstable sets offers listed marks_read sets_read within marks events made same_marks same_sets same = record {
-  within = within;
-  marks = marks;
-  events = events;
-  same = λ M. subst (λ (L : List (List ℕ)). Contains offers M ↔ Contains L M) (made ∙ (λ i. offers_at (same_marks i) (same_sets i) terms)) (same M);
-}
-
 module _ (raw : RawTable) (terms : List ℕ) (unstable : List Bool) (sets offers : List (List ℕ)) (f : Found raw terms unstable sets offers) where
   -- where a listed set comes from
   source_of : (M : List ℕ) → Member M offers → Source unstable sets terms M
@@ -183,5 +175,30 @@ module _ (raw : RawTable) (terms : List ℕ) (unstable : List Bool) (sets offers
       let s = stands low.set (filter (is_least offers) offers) (member_of_filter (is_least offers) offers low.set among test) in
       record { place = s.place; acceptance = low.set; listed = s.found; offered = λ e h. (has_offer n e listed).0 (low.within e h) }
 
-pub ordered : (offers : List (List ℕ)) → IsStrictlySortedBy (slice_cmp nat_cmp) offers → IsStrictlySortedBy (slice_cmp nat_cmp) (filter (is_least offers) offers)
-ordered offers sorted = IsStrictlySortedBy-filter (slice_cmp nat_cmp) (is_least offers) offers sorted
+-- what the code promises of the sets that are kept
+pub record AreMinimal (raw : RawTable) (terms : List ℕ) (kept : List (List ℕ)) : Type 0 where
+  pub sound : All (IsMinimalOffer raw terms) kept
+  pub complete : (M : List ℕ) → IsMinimalOffer raw terms M → IsListed kept M
+  pub covered : (n : ℕ) → IsTrue (has terms n) → Stable (RawStep raw) n → OffersAcceptance (RawStep raw) n kept
+  pub rising : All IsStrictlyIncreasing kept
+  pub order : IsStrictlySortedBy (slice_cmp nat_cmp) kept
+
+-- the marks and sets as the code reads them
+pub minimal_offers : (raw view : RawTable) (terms : List ℕ) (unstable marks : List Bool) (sets offers listed kept : List (List ℕ)) → raw ≡ view → All (λ n. n < view.count) terms → AreMarks raw unstable → AreOffers raw sets
+    → listed ≡ offers_at marks offers terms → marks ≡ unstable → offers ≡ sets → AreLeastOf listed kept → AreMinimal view terms kept
+minimal_offers raw view terms unstable marks sets offers listed kept same within marked offered made same_marks same_sets l =
+    subst (λ r. AreMinimal r terms kept) same (subst (AreMinimal raw terms) (sym l.least) (record {
+      sound = sound raw terms unstable sets l.all f;
+      complete = complete raw terms unstable sets l.all f;
+      covered = covered raw terms unstable sets l.all f;
+      rising = rising raw terms unstable sets l.all f;
+      order = IsStrictlySortedBy-filter (slice_cmp nat_cmp) (is_least l.all) l.all l.sorted;
+    }))
+  where
+    f : Found raw terms unstable sets l.all
+    f = record {
+      within = subst (λ (r : RawTable). All (λ n. n < r.count) terms) (sym same) within;
+      marks = marked;
+      events = offered;
+      same = λ M. subst (λ (L : List (List ℕ)). Contains l.all M ↔ Contains L M) (made ∙ (λ i. offers_at (same_marks i) (same_sets i) terms)) (l.same M);
+    }

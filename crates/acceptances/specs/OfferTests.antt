@@ -1,7 +1,9 @@
 -- What each term of a table offers, as tests that compute.
-use Rattle.std.specs.Prelude.{◌≡◌, ℕ, ◌<◌, nat_eq, Bool, false, ◌&&◌, not, if◌then◌else◌, List, [], ◌∷◌, length, slice_index_or}
-use Rattle.std.specs.List.{list_any, flat_map}
-use Rattle.std.specs.List.Sorted.{IsStrictlyIncreasing}
+use Rattle.std.specs.Prelude.{◌≡◌, ◌↔◌, ℕ, ◌<◌, nat_eq, Bool, false, ◌&&◌, not, if◌then◌else◌, List, [], ◌∷◌, length, slice_index_or}
+use Rattle.std.specs.List.{Contains, filter, list_any, flat_map}
+use Rattle.std.specs.List.Sorted.{IsStrictlyIncreasing, IsStrictlySortedBy}
+use Rattle.std.specs.Cmp.Lexicographic.{slice_cmp}
+use Rattle.std.specs.Ordering.{nat_cmp}
 use Rattle.csp_base.specs.Events.{has, is_subset_of}
 use Rattle.csp_tables.specs.RawTable.{RawTable}
 
@@ -39,3 +41,10 @@ is_smaller N M = is_subset_of N M && not (is_subset_of M N)
 -- whether one of the sets lies within M, and M not within it
 abbrev pub has_smaller : List (List ℕ) → List ℕ → Bool
 has_smaller sets M = list_any (λ N. is_smaller N M) sets
+
+-- Those of the offers that contain no smaller one: `all` are the offers in order, each once.
+pub record AreLeastOf (offers kept : List (List ℕ)) : Type 0 where
+  pub all : List (List ℕ)
+  pub sorted : IsStrictlySortedBy (slice_cmp nat_cmp) all
+  pub same : (M : List ℕ) → Contains all M ↔ Contains offers M
+  pub least : kept ≡ filter (λ M. not (has_smaller all M)) all

@@ -65,8 +65,8 @@ impl<'a> Offers<'a> {
         ensures rising { IfOk result (λ sets. All IsStrictlyIncreasing sets.items) }
         ensures order { IfOk result (λ sets. IsStrictlySortedBy (slice_cmp nat_cmp) sets.items) }
     {
-        let mut offers = offers_of(alloc, &self.unstable, &self.sets, terms)?;
-        sorted_least(alloc, &mut offers)
+        let offers = offers_of(alloc, &self.unstable, &self.sets, terms)?;
+        sorted_least(alloc, offers)
     }
 }
 

@@ -20,6 +20,13 @@ pub enum Atom {
     Event(Event),
 }
 
+// What stands in the places of a small vector that are not taken.
+impl Default for Atom {
+    fn default() -> Atom {
+        Atom::Num(0)
+    }
+}
+
 impl Atom {
     /// Whether both atoms are of one kind.
     pub fn is_of_kind(&self, other: &Atom) -> bool

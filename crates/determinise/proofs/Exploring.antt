@@ -96,6 +96,10 @@ node_kept raw P old new k node below more n = subst (λ (X : List ℕ). IsNodeOf
   accept = n.accept;
 })
 
+-- before the first node
+pub no_nodes : (raw : RawTable) (sets : List (List ℕ)) → length sets ≡ 1 → AreNodesSoFar raw sets []
+no_nodes raw sets one = record { fewer = omega arith; each = λ k h. absurd (omega arith); met = sym one; in_turn = λ k h. absurd (omega arith) }
+
 pub nodes_more : (raw : RawTable) (P : List ℕ → Type 0) (old new : List (List ℕ)) (nodes : List Node) (node : Node) → length nodes < length old → AreNodesSoFar raw old nodes → AreMoreSets P old new → IsNodeOf raw new (set_at old (length nodes)) node → MeetsInOrder (length old) (targets_of_steps node.next) (length new) → AreNodesSoFar raw new (nodes ++ node ∷ [])
 nodes_more raw P old new nodes node below so_far more is order = record {
   fewer = omega (arith, length-append nodes (node ∷ []), more.longer);

@@ -10,6 +10,7 @@ ghost use Rattle.determinise.specs.ManySets.{ReachesSets};
 ghost use Rattle.determinise.specs.Progress.{AreNodesSoFar, AreReachedSets};
 
 use crate::fault::SetFault;
+use crate::known::Known;
 use crate::node::node_of;
 use crate::table::SetTable;
 use containers::{Items, Numbering};
@@ -82,34 +83,13 @@ fn explore(
     ensures reached { AreReachedSets table.now sets.new }
     ensures limit { result ≡ Err SetFault.SubsetLimit → length sets.new ≡ MOST_SETS + 1 }
 {
+    let mut known = Known::new(alloc, table)?;
     let mut nodes = Vec::new(alloc);
-    match add_nodes(alloc, table, sets, &mut nodes) {
-        Ok(()) => Ok(nodes),
-        Err(fault) => Err(fault),
-    }
-}
-
-// Adds the same nodes to none.
-fn add_nodes(
-    alloc: Global,
-    table: &Prepared<'_>,
-    sets: &mut Numbering<Items<u32>>,
-    nodes: &mut Vec<NormNode>,
-) -> Result<(), SetFault>
-    requires reached { AreReachedSets table.now sets.old }
-    requires one { length sets.old ≡ 1 }
-    requires none { nodes.old.items ≡ [] }
-    ensures nodes { OnOk result (AreNodesSoFar table.now sets.new nodes.new.items) }
-    ensures all { OnOk result (length nodes.new.items ≡ length sets.new) }
-    ensures few { OnOk result (length sets.new ≤ MOST_SETS) }
-    ensures reached { AreReachedSets table.now sets.new }
-    ensures limit { result ≡ Err SetFault.SubsetLimit → length sets.new ≡ MOST_SETS + 1 }
-{
     while nodes.len() < sets.len() {
-        let node = node_of(alloc, table, sets, nodes.len())?;
-        push_node(nodes, node)?;
+        let node = node_of(alloc, table, sets, &mut known, nodes.len())?;
+        push_node(&mut nodes, node)?;
     }
-    Ok(())
+    Ok(nodes)
 }
 
 // Adds a node at the end.

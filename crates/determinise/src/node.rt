@@ -3,10 +3,12 @@
 ghost use Rattle.std.specs.Prelude.{◌≡◌, ◌+◌, ◌<◌, ◌≤◌, IfOk, OnOk, length};
 ghost use Rattle.dl_limits.specs.declared.TheConstants.{MOST_SETS};
 ghost use Rattle.csp_tables.specs.BreadthFirst.{MeetsInOrder, targets_of_steps};
+ghost use Rattle.determinise.specs.Known.{IsReady};
 ghost use Rattle.determinise.specs.Progress.{AreMoreSets, AreStepsOf, IsNodeOf, IsReachedFromSet, set_at};
 ghost use Rattle.term_sets.specs.TermSets.{AreMinimalOffers, IsTermSet};
 
 use crate::fault::SetFault;
+use crate::known::Known;
 use crate::sets::next_steps;
 use containers::{Items, Numbering};
 use csp_base::{Event, EventSet, NoMemory};
@@ -19,19 +21,22 @@ pub(crate) fn node_of(
     alloc: Global,
     table: &Prepared<'_>,
     sets: &mut Numbering<Items<u32>>,
+    known: &mut Known,
     place: usize,
 ) -> Result<NormNode, SetFault>
     requires place { place < length sets.old }
     requires form { IsTermSet table.now (set_at sets.old place) }
     requires few { length sets.old ≤ MOST_SETS }
+    requires ready { IsReady table.now sets.old known.old }
     ensures node { IfOk result (λ node. IsNodeOf table.now sets.new (set_at sets.old place) node) }
     ensures order { IfOk result (λ node. MeetsInOrder (length sets.old) (targets_of_steps node.next) (length sets.new)) }
     ensures more { AreMoreSets (IsReachedFromSet table.now (set_at sets.old place)) sets.old sets.new }
     ensures few { OnOk result (length sets.new ≤ MOST_SETS) }
+    ensures ready { OnOk result (IsReady table.now sets.new known.new) }
     ensures limit { result ≡ Err SetFault.SubsetLimit → length sets.new ≡ MOST_SETS + 1 }
 {
     let accept = accept_at(alloc, table, sets, place)?;
-    let next = next_at(alloc, table, sets, place)?;
+    let next = next_at(alloc, table, sets, known, place)?;
     Ok(NormNode::new(next, accept))
 }
 
@@ -56,18 +61,21 @@ fn next_at(
     alloc: Global,
     table: &Prepared<'_>,
     sets: &mut Numbering<Items<u32>>,
+    known: &mut Known,
     place: usize,
 ) -> Result<Vec<(Event, u32)>, SetFault>
     requires place { place < length sets.old }
     requires form { IsTermSet table.now (set_at sets.old place) }
     requires few { length sets.old ≤ MOST_SETS }
+    requires ready { IsReady table.now sets.old known.old }
     ensures steps { IfOk result (λ next. AreStepsOf table.now sets.new (set_at sets.old place) next.items) }
     ensures order { IfOk result (λ next. MeetsInOrder (length sets.old) (targets_of_steps next.items) (length sets.new)) }
     ensures more { AreMoreSets (IsReachedFromSet table.now (set_at sets.old place)) sets.old sets.new }
     ensures few { OnOk result (length sets.new ≤ MOST_SETS) }
+    ensures ready { OnOk result (IsReady table.now sets.new known.new) }
     ensures limit { result ≡ Err SetFault.SubsetLimit → length sets.new ≡ MOST_SETS + 1 }
 {
     let terms = sets.as_slice()[place].as_slice();
     let moves = table.moves(alloc, terms)?;
-    next_steps(alloc, table, &moves, sets)
+    next_steps(alloc, table, &moves, sets, known)
 }

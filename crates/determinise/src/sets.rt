@@ -5,7 +5,7 @@ ghost use Rattle.dl_limits.specs.declared.TheConstants.{MOST_SETS};
 ghost use Rattle.std.specs.List.Sorted.{IsNonDecreasingBy};
 ghost use Rattle.csp_tables.specs.BreadthFirst.{MeetsInOrder, targets_of_steps};
 ghost use Rattle.determinise.specs.Progress.{AreMoreSets, AreNodeSteps, IsSomeNextSet, set_at};
-ghost use Rattle.determinise.specs.Known.{AreKnown};
+ghost use Rattle.determinise.specs.Known.{IsReady};
 ghost use Rattle.term_sets.specs.Marks.{IsUnmarked};
 ghost use Rattle.term_sets.specs.TermSets.{IsSilentClosure};
 
@@ -24,52 +24,29 @@ pub(crate) fn next_steps(
     table: &Prepared<'_>,
     moves: &[(Event, u32)],
     sets: &mut Numbering<Items<u32>>,
+    known: &mut Known,
 ) -> Result<Vec<(Event, u32)>, SetFault>
     requires order { IsNonDecreasingBy (λ step. step.0) moves.now }
     requires within { All (λ step. step.1 < table.now.count) moves.now }
     requires few { length sets.old ≤ MOST_SETS }
+    requires ready { IsReady table.now sets.old known.old }
     ensures steps { IfOk result (λ next. AreNodeSteps table.now moves.now sets.new next.items) }
     ensures order { IfOk result (λ next. MeetsInOrder (length sets.old) (targets_of_steps next.items) (length sets.new)) }
     ensures more { AreMoreSets (IsSomeNextSet table.now moves.now) sets.old sets.new }
     ensures few { OnOk result (length sets.new ≤ MOST_SETS) }
+    ensures ready { OnOk result (IsReady table.now sets.new known.new) }
     ensures limit { result ≡ Err SetFault.SubsetLimit → length sets.new ≡ MOST_SETS + 1 }
 {
-    let mut known = Known::new(alloc, table)?;
     let mut next = Vec::new(alloc);
-    add_steps(alloc, table, moves, sets, &mut known, &mut next)?;
-    Ok(next)
-}
-
-// Adds the same steps to none.
-fn add_steps(
-    alloc: Global,
-    table: &Prepared<'_>,
-    moves: &[(Event, u32)],
-    sets: &mut Numbering<Items<u32>>,
-    known: &mut Known,
-    next: &mut Vec<(Event, u32)>,
-) -> Result<(), SetFault>
-    requires order { IsNonDecreasingBy (λ step. step.0) moves.now }
-    requires within { All (λ step. step.1 < table.now.count) moves.now }
-    requires few { length sets.old ≤ MOST_SETS }
-    requires known { AreKnown table.now sets.old known.old.starts known.old.numbers.items }
-    requires unmarked { IsUnmarked table.now.count known.old.marks.items }
-    requires none { next.old.items ≡ [] }
-    ensures steps { OnOk result (AreNodeSteps table.now moves.now sets.new next.new.items) }
-    ensures order { OnOk result (MeetsInOrder (length sets.old) (targets_of_steps next.new.items) (length sets.new)) }
-    ensures more { AreMoreSets (IsSomeNextSet table.now moves.now) sets.old sets.new }
-    ensures few { OnOk result (length sets.new ≤ MOST_SETS) }
-    ensures limit { result ≡ Err SetFault.SubsetLimit → length sets.new ≡ MOST_SETS + 1 }
-{
     let mut at = 0;
     while at < moves.len() {
         let event = moves[at].0;
         let end = group_end(moves, at);
         let number = number_of_next(alloc, table, &moves[at..end], sets, known)?;
-        push(next, event, number)?;
+        push(&mut next, event, number)?;
         at = end;
     }
-    Ok(())
+    Ok(next)
 }
 
 // Where the steps by the event at a place end.
@@ -99,15 +76,13 @@ fn number_of_next(
 ) -> Result<u32, SetFault>
     requires within { All (λ step. step.1 < table.now.count) moves.now }
     requires few { length sets.old ≤ MOST_SETS }
-    requires known { AreKnown table.now sets.old known.old.starts known.old.numbers.items }
-    requires unmarked { IsUnmarked table.now.count known.old.marks.items }
+    requires ready { IsReady table.now sets.old known.old }
     ensures number { IfOk result (λ n. n < length sets.new) }
     ensures set { IfOk result (λ n. IsSilentClosure table.now (targets_of_steps moves.now) (set_at sets.new n)) }
     ensures order { IfOk result (λ n. MeetsInOrder (length sets.old) (n ∷ []) (length sets.new)) }
     ensures more { AreMoreSets (IsSilentClosure table.now (targets_of_steps moves.now)) sets.old sets.new }
     ensures few { OnOk result (length sets.new ≤ MOST_SETS) }
-    ensures known { OnOk result (AreKnown table.now sets.new known.new.starts known.new.numbers.items) }
-    ensures unmarked { OnOk result (IsUnmarked table.now.count known.new.marks.items) }
+    ensures ready { OnOk result (IsReady table.now sets.new known.new) }
     ensures limit { result ≡ Err SetFault.SubsetLimit → length sets.new ≡ MOST_SETS + 1 }
 {
     let starts = targets(alloc, moves)?;
@@ -115,7 +90,12 @@ fn number_of_next(
         return Ok(number);
     }
     let number = number_of_closure(alloc, table, starts.as_slice(), sets, &mut known.marks)?;
-    known.add(starts, number, sets.as_slice()[number as usize].len())?;
+    known.add(
+        alloc,
+        starts,
+        number,
+        sets.as_slice()[number as usize].len(),
+    )?;
     Ok(number)
 }
 

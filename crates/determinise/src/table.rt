@@ -30,10 +30,11 @@ impl SetTable {
         SetTable { nodes, sets }
     }
 
-    /// The nodes, in the order of their numbers.
-    pub fn nodes(&self) -> &[NormNode]
-        ensures { result.now ≡ self.now.nodes }
+    /// The nodes alone, in the order of their numbers.
+    pub fn into_nodes(self) -> Vec<NormNode>
+        ensures { result.items ≡ self.nodes }
     {
-        self.nodes.as_slice()
+        let SetTable { nodes, sets: _sets } = self;
+        nodes
     }
 }

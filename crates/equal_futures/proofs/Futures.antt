@@ -4,7 +4,6 @@ use Rattle.std.specs.Prelude.{slice_index}
 use Rattle.std.proofs.lemmas.Bool.{and_from, and_parts, both_ways}
 use Rattle.csp_tables.specs.Table.{Node, node_at, is_possible, node_after, is_run, end_of}
 use Rattle.equal_futures.specs.Future.{HaveEqualFuture, NodesRise}
-use Rattle.equal_futures.specs.Alike.{AreAlike}
 use Rattle.equal_futures.proofs.RowLists.{target_below}
 
 and_true : (a : Bool) → a ≡ (a && true)
@@ -38,10 +37,15 @@ module _ (nodes : List Node) (marks : List ℕ) where
         ends = λ w r. f.ends (e ∷ w) (and_from (is_possible (node_at nodes i).next e) (is_run nodes (node_after nodes i e) w) h r);
       }
 
+  -- The two nodes have the same events, and each leads from both to nodes of one class.
+  pub record AreAlike (classes : List ℕ) (i j : ℕ) : Type 0 where
+    pub possible : (e : ℕ) → is_possible (node_at nodes i).next e ≡ is_possible (node_at nodes j).next e
+    pub targets : (e : ℕ) → is_possible (node_at nodes i).next e ≡ true → slice_index classes (node_after nodes i e) ≡ slice_index classes (node_after nodes j e)
+
   -- Stable classes: nodes of one class have equal marks and are alike.
   pub record AreStable (classes : List ℕ) : Type 0 where
     pub told : (i j : ℕ) → i < length nodes → j < length nodes → slice_index classes i ≡ slice_index classes j → slice_index marks i ≡ slice_index marks j
-    pub alike : (i j : ℕ) → i < length nodes → j < length nodes → slice_index classes i ≡ slice_index classes j → AreAlike nodes classes i j
+    pub alike : (i j : ℕ) → i < length nodes → j < length nodes → slice_index classes i ≡ slice_index classes j → AreAlike classes i j
 
   module _ (classes : List ℕ) (rise : NodesRise nodes) (stable : AreStable classes) where
     runs_same : (w : List ℕ) (i j : ℕ) → i < length nodes → j < length nodes → slice_index classes i ≡ slice_index classes j → is_run nodes i w ≡ is_run nodes j w

@@ -3,6 +3,5 @@ pub mod Gathering
 pub mod Grouping
 pub mod Growing
 pub mod Numbered
-pub mod Refining
 pub mod RowLists
 pub mod Settling

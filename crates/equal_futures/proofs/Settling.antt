@@ -8,7 +8,7 @@ use Rattle.csp_base.specs.Members.{has}
 use Rattle.csp_tables.specs.Table.{Node, node_at, is_possible, node_after}
 use Rattle.equal_futures.specs.Splits.{AreAllFrom, IsSplitByBlock, IsSplitByMarks}
 use Rattle.equal_futures.specs.Future.{HaveEqualFuture, AreFutureClasses, NodesRise}
-use Rattle.equal_futures.specs.Alike.{AreTold}
+use Rattle.equal_futures.specs.Renumbered.{AreRenumbered}
 use Rattle.equal_futures.specs.Arrows.{IsSplitByEvents, AreMarkSteps, AreIncoming, AreGathered, AreFrom, has_arrow}
 use Rattle.partitions.specs.Blocks.{State, HasBlocks, IsCalm, IsWhole, IsTaken, block_at, waits}
 use Rattle.equal_futures.proofs.RowLists.{target_below}
@@ -112,7 +112,6 @@ module _ (nodes : List Node) (marks : List ℕ) (rise : NodesRise nodes) (one_ea
   stable_then s a none = record {
     told = a.told;
     alike = λ i j h l e. record {
-      same = e;
       possible = λ x. same_tests (is_possible (node_at nodes i).next x) (is_possible (node_at nodes j).next x)
           (λ p. (a.settled i j x h l e p (none (block_at s (node_after nodes i x)))).0)
           (λ p. (a.settled j i x l h (sym e) p (none (block_at s (node_after nodes j x)))).0);
@@ -120,15 +119,15 @@ module _ (nodes : List Node) (marks : List ℕ) (rise : NodesRise nodes) (one_ea
     };
   }
 
-  -- classes told by the blocks then are the classes of nodes with equal future
-  pub classes_then : (s : State) (classes : List ℕ) (count : ℕ) → IsRefined nodes marks s → ((b : ℕ) → waits s b ≡ false) → AreTold nodes s.blocks classes count → AreFutureClasses nodes marks classes count
+  -- the blocks, numbered anew, then are the classes of nodes with equal future
+  pub classes_then : (s : State) (classes : List ℕ) (count : ℕ) → IsRefined nodes marks s → ((b : ℕ) → waits s b ≡ false) → AreRenumbered s.blocks classes count → AreFutureClasses nodes marks classes count
   classes_then s classes count a none t =
-      let stable = stable_then s a none in
+      let within : (i : ℕ) → i < length nodes → i < length s.blocks = λ i h. subst (λ n. i < n) (sym a.fit.blocks_len) h in
       record {
-        one_each = t.one_each;
+        one_each = t.one_each ∙ a.fit.blocks_len;
         exact = λ i j h l. (
-          λ e. future_from_stable nodes marks s.blocks rise stable i j h l ((t.exact i j h l).0 e).same,
-          λ f. (t.exact i j h l).1 (stable.alike i j h l (a.kept i j h l f)),
+          λ e. future_from_stable nodes marks s.blocks rise (stable_then s a none) i j h l ((t.exact i j (within i h) (within j l)).0 e),
+          λ f. (t.exact i j (within i h) (within j l)).1 (a.kept i j h l f),
         );
         order = t.order;
       }
@@ -166,9 +165,3 @@ block_refined nodes marks rise one_each s r t b m k rows read a is_m is_k taken 
 pub rows_read : (nodes : List Node) (rows read : List (List (ℕ × ℕ))) (k : ℕ) → k ≡ length nodes → AreIncoming nodes rows (length nodes) → read ≡ rows → AreAllFrom k read
 rows_read nodes rows read k is_k incoming is_read t e i h a =
     subst (λ x. i < x) (sym is_k) ((incoming.exact t e i (subst (λ x. t < x) incoming.one_each (subst (λ (xs : List (List (ℕ × ℕ))). t < length xs) is_read h))).0 (subst (λ (xs : List (List (ℕ × ℕ))). has_arrow (slice_index_or xs t []) e i ≡ true) is_read a)).0
-
--- classes told by the blocks of a partition of which none waits
-pub classes_told : (nodes : List Node) (marks : List ℕ) → NodesRise nodes → length marks ≡ length nodes → (s : State) (read classes : List ℕ) (count : ℕ) → read ≡ s.blocks → IsRefined nodes marks s → ((b : ℕ) → waits s b ≡ false) →
-    AreTold nodes read classes count → AreFutureClasses nodes marks classes count
-classes_told nodes marks rise one_each s read classes count is_read a none t =
-    classes_then nodes marks rise one_each s classes count a none (subst (λ (xs : List ℕ). AreTold nodes xs classes count) is_read t)

@@ -1,5 +1,4 @@
-pub mod Alike
 pub mod Arrows
 pub mod Future
-pub mod Rows
+pub mod Renumbered
 pub mod Splits

@@ -1,8 +1,8 @@
 //! Nodes of a table with equal future: their classes, by splitters.
 #![tactic(auto)]
 
-mod rounds;
+mod classes;
 mod splitters;
 
-pub use rounds::Classes;
+pub use classes::Classes;
 pub use splitters::refine;

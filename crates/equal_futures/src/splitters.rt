@@ -4,10 +4,10 @@ ghost use Rattle.std.specs.Prelude.{◌≡◌, ◌≢◌, ◌+◌, ◌<◌, ◌�
 ghost use Rattle.std.specs.List.Sorted.{IsNonDecreasingBy};
 ghost use Rattle.equal_futures.specs.Future.{AreFutureClasses, NodesRise};
 ghost use Rattle.equal_futures.specs.Arrows.{AreAdded, AreFrom, AreGathered, AreIncoming, AreMarkSteps, IsSplitByEvents, event_at};
-ghost use Rattle.partitions.specs.Blocks.{HasBlocks, IsCalm, IsWhole, count_of, state_of};
+ghost use Rattle.partitions.specs.Blocks.{HasBlocks, IsCalm, count_of, state_of};
 ghost use Rattle.equal_futures.specs.Splits.{AreAllFrom, IsSplitByBlock, IsSplitByMarks};
 
-use crate::rounds::{Classes, round};
+use crate::classes::{Classes, renumbered};
 use containers::{Items, empty_rows, push_at};
 use csp_base::NoMemory;
 use csp_tables::NormNode;
@@ -27,47 +27,13 @@ pub fn refine(alloc: Global, nodes: &[NormNode], marks: &[u32]) -> Result<Classe
     requires numbered { length nodes.now < 2 ^ 32 }
     ensures { IfOk result (λ made. AreFutureClasses nodes.now marks.now made.numbers.items made.count) }
 {
-    let mut partition = whole(alloc, nodes.len() as u32)?;
-    refined_classes(alloc, nodes, marks, &mut partition)
-}
-
-// The classes that the partition has once it is refined. All nodes are in one block before.
-fn refined_classes(
-    alloc: Global,
-    nodes: &[NormNode],
-    marks: &[u32],
-    partition: &mut Partition,
-) -> Result<Classes, NoMemory>
-    requires rising { NodesRise nodes.now }
-    requires marks { length marks.now ≡ length nodes.now }
-    requires numbered { length nodes.now < 2 ^ 32 }
-    requires whole { IsWhole (length nodes.now) (state_of partition.old) }
-    ensures { IfOk result (λ made. AreFutureClasses nodes.now marks.now made.numbers.items made.count) }
-{
     let rows = incoming(alloc, nodes)?;
-    classes_by_rows(alloc, nodes, marks, rows.as_slice(), partition)
-}
-
-// The same, where the rows list, for each node, the steps that lead to it.
-fn classes_by_rows(
-    alloc: Global,
-    nodes: &[NormNode],
-    marks: &[u32],
-    rows: &[Items<(u32, u32)>],
-    partition: &mut Partition,
-) -> Result<Classes, NoMemory>
-    requires rising { NodesRise nodes.now }
-    requires marks { length marks.now ≡ length nodes.now }
-    requires numbered { length nodes.now < 2 ^ 32 }
-    requires incoming { AreIncoming nodes.now rows.now (length nodes.now) }
-    requires whole { IsWhole (length nodes.now) (state_of partition.old) }
-    ensures { IfOk result (λ made. AreFutureClasses nodes.now marks.now made.numbers.items made.count) }
-{
-    split_by_marks(alloc, marks, partition)?;
+    let mut partition = whole(alloc, nodes.len() as u32)?;
+    split_by_marks(alloc, marks, &mut partition)?;
     while let Some(block) = partition.next_waiting() {
-        split_by_block(alloc, rows, partition, block)?;
+        split_by_block(alloc, rows.as_slice(), &mut partition, block)?;
     }
-    round(alloc, nodes, partition.blocks.as_slice())
+    renumbered(alloc, partition.blocks.as_slice())
 }
 
 // Splits each block into nodes of equal marks.

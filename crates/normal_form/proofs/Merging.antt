@@ -1,11 +1,14 @@
 -- The merged table while the nodes are gone through, and at the end.
-use Rattle.std.proofs.Common.{◌≡◌, ℕ, ◌+◌, ◌<◌, inl, inr, cond, nat_eq, List, [], ◌∷◌, ◌++◌, length, get_or, refl, sym, ap, ◌∙◌, subst, arith, below_more, add-one}
+use Rattle.std.proofs.Common.{◌≡◌, ◌↔◌, ℕ, suc, ◌+◌, ◌<◌, inl, inr, cond, nat_eq, List, [], ◌∷◌, ◌++◌, length, get_or, refl, sym, ap, ◌∙◌, subst, arith, below_more, add-one}
 use Rattle.std.specs.Prelude.{slice_index}
 use Rattle.std.proofs.lemmas.Bool.{cond-true, cond-false, eq-eqb, ne_eqb}
 use Rattle.std.proofs.lemmas.List.{get_or_append_left, get_or_default, get_or_push, length_push}
 use Rattle.csp_tables.specs.Table.{Node, node_at}
-use Rattle.equal_futures.specs.Future.{SeenInOrder}
-use Rattle.normal_form.specs.Merged.{renamed, IsFirst, AreMerged}
+use Rattle.equal_futures.specs.Future.{HaveEqualFuture, NodesRise, SeenInOrder, StepsRise}
+use Rattle.equal_futures.proofs.Futures.{same_marks}
+use Rattle.normal_form.specs.Marks.{AreMarksOf}
+use Rattle.normal_form.specs.Merged.{renamed, IsFirst, AreMerged, IsMergedTable}
+use Rattle.normal_form.proofs.MergedRuns.{in_classes}
 use Rattle.normal_form.proofs.ClassOrder.{seen_by, step_at, class_seen, first_turn, seen_most}
 
 -- the nodes of the classes that the first n nodes have
@@ -53,3 +56,39 @@ merged_step nodes classes numbers count n merged new node same one order below s
 
 pub merged_end : (nodes : List Node) (classes numbers : List ℕ) (count n : ℕ) (merged : List Node) → numbers ≡ classes → length classes ≡ length nodes → SeenInOrder 0 classes count → n ≡ length nodes → AreMergedSoFar nodes numbers n merged → AreMerged nodes classes count merged
 merged_end nodes classes numbers count n merged same one order whole s = all_merged nodes classes count n merged order one whole (subst (λ (xs : List ℕ). AreMergedSoFar nodes xs n merged) same s)
+
+-- ---- where no two nodes have the same mark
+
+seen_places : (s : ℕ) (xs : List ℕ) → ((i : ℕ) → i < length xs → slice_index xs i ≡ s + i) → SeenInOrder s xs (s + length xs)
+seen_places s [] places = omega arith
+seen_places s (x ∷ xs) places =
+    inr (places 0 (omega arith) ∙ omega arith, subst (SeenInOrder (s + 1) xs) (omega arith) (seen_places (s + 1) xs (λ i h. places (suc i) (omega arith) ∙ omega arith)))
+
+module _ (nodes : List Node) (marks : List ℕ) (rise : NodesRise nodes) (told : AreMarksOf nodes marks) (places : (i : ℕ) → i < length marks → slice_index marks i ≡ i) where
+  place_of : (i : ℕ) → i < length nodes → slice_index marks i ≡ i
+  place_of i h = places i (rw told.one_each h)
+
+  same_steps : (steps : List (ℕ × ℕ)) → StepsRise (length nodes) steps → in_classes marks steps ≡ steps
+  same_steps [] rise = refl
+  same_steps (step ∷ steps) rise = ap (λ t. (step.0, t) ∷ in_classes marks steps) (place_of step.1 rise.0) ∙ ap (λ ss. step ∷ ss) (same_steps steps rise.2)
+
+  each_class : (i j : ℕ) → i < length nodes → j < length nodes → (slice_index marks i ≡ slice_index marks j) ↔ HaveEqualFuture nodes marks i j
+  each_class i j a b = (
+    λ e. subst (HaveEqualFuture nodes marks i) (sym (place_of i a) ∙ e ∙ place_of j b) (record { runs = λ w. refl; ends = λ w r. refl }),
+    λ f. same_marks nodes marks i j f,
+  )
+
+  -- each is its own class, and the table is as it was
+  pub apart_merged : IsMergedTable nodes nodes
+  apart_merged = record {
+    marks = marks;
+    classes = marks;
+    count = length nodes;
+    told = told;
+    futures = record { one_each = told.one_each; exact = each_class; order = subst (SeenInOrder 0 marks) (omega (arith, told.one_each)) (seen_places 0 marks (λ i h. places i h ∙ omega arith)) };
+    is = record {
+      one_each = refl;
+      first = λ n below _.
+          ap (node_at nodes) (place_of n below) ∙ ap (λ steps. record { next = steps; accept = (node_at nodes n).accept }) (sym (same_steps (node_at nodes n).next (rise n)));
+    };
+  }

@@ -1,6 +1,7 @@
 //! The nodes of a table merged by equal future.
 
-ghost use Rattle.std.specs.Prelude.{◌<◌, ◌≤◌, IfOk, length};
+ghost use Rattle.std.specs.Prelude.{◌≡◌, ◌<◌, ◌≤◌, ℕ, IfOk, length, slice_index};
+ghost use Rattle.std.specs.Bool.{OnTrue};
 ghost use Rattle.dl_limits.specs.declared.TheConstants.{MOST_SETS};
 ghost use Rattle.equal_futures.specs.Future.{NodesRise};
 ghost use Rattle.normal_form.specs.Merged.{IsMergedTable};
@@ -12,14 +13,29 @@ use csp_tables::{NormNode, NormTable};
 use equal_futures::refine;
 use std::alloc::Global;
 
-// One node for each class of nodes with equal future.
-pub(crate) fn merged_nodes(alloc: Global, nodes: &[NormNode]) -> Result<NormTable, NoMemory>
-    requires rising { NodesRise nodes.now }
-    requires few { length nodes.now ≤ MOST_SETS }
-    ensures { IfOk result (λ merged. IsMergedTable nodes.now merged) }
+// One node for each class of nodes with equal future. Where no two nodes have the same acceptances, each is its own class.
+pub(crate) fn merged_nodes(alloc: Global, nodes: Vec<NormNode>) -> Result<NormTable, NoMemory>
+    requires rising { NodesRise nodes.items }
+    requires few { length nodes.items ≤ MOST_SETS }
+    ensures { IfOk result (λ merged. IsMergedTable nodes.items merged) }
 {
-    let marks = accept_marks(alloc, nodes)?;
-    let classes = refine(alloc, nodes, &marks)?;
-    let merged = merge(alloc, nodes, &classes)?;
+    let marks = accept_marks(alloc, &nodes)?;
+    if are_places(&marks) {
+        return Ok(NormTable::from_nodes(nodes));
+    }
+    let classes = refine(alloc, &nodes, &marks)?;
+    let merged = merge(alloc, &nodes, &classes)?;
     Ok(NormTable::from_nodes(merged))
+}
+
+// Whether each number is its own place, so that no two are equal.
+fn are_places(numbers: &[u32]) -> bool
+    ensures { OnTrue result ((i : ℕ) → i < length numbers.now → slice_index numbers.now i ≡ i) }
+{
+    for (place, number) in numbers.iter().enumerate() {
+        if *number as usize != place {
+            return false;
+        }
+    }
+    true
 }

@@ -31,6 +31,6 @@ pub fn normalise(alloc: Global, table: &RawTable, heights: &Heights) -> Result<N
 {
     let _count = table.count();
     let sets = determinise(alloc, table)?;
-    let made = merged_nodes(alloc, sets.nodes())?;
+    let made = merged_nodes(alloc, sets.into_nodes())?;
     Ok(made)
 }

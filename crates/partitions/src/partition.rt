@@ -35,8 +35,14 @@ pub fn whole(alloc: Global, count: u32) -> Result<Partition, NoMemory>
     ensures { IfOk result (λ made. IsWhole count (state_of made)) }
 {
     let number = if count == 0 { 0 } else { 1 };
-    let (order, places, blocks) = in_order(alloc, count)?;
-    let ((firsts, middles, ends), (waiting, flags)) = first_blocks(alloc, number, count)?;
+    let order = counted(alloc, count)?;
+    let places = counted(alloc, count)?;
+    let blocks = filled(alloc, 0, count as usize)?;
+    let firsts = filled(alloc, 0, number)?;
+    let middles = filled(alloc, 0, number)?;
+    let ends = filled(alloc, count, number)?;
+    let waiting = filled(alloc, 0, number)?;
+    let flags = all_set(alloc, number)?;
     Ok(Partition {
         order,
         places,
@@ -49,67 +55,18 @@ pub fn whole(alloc: Global, count: u32) -> Result<Partition, NoMemory>
     })
 }
 
-// The nodes in the order of their numbers, where each stands, and its block, the first one.
-fn in_order(alloc: Global, count: u32) -> Result<(Vec<u32>, Vec<u32>, Vec<u32>), NoMemory>
-    ensures order { IfOk result (λ made. AreCounted count made.0.items) }
-    ensures places { IfOk result (λ made. AreCounted count made.1.items) }
-    ensures blocks { IfOk result (λ made. made.2.items ≡ replicate count 0) }
-{
-    let order = counted(alloc, count)?;
-    let places = counted(alloc, count)?;
-    let blocks = filled(alloc, 0, count as usize)?;
-    Ok((order, places, blocks))
-}
-
-// The lists of so many blocks: where each has its nodes, and that it waits.
-fn first_blocks(
-    alloc: Global,
-    number: usize,
-    count: u32,
-) -> Result<((Vec<u32>, Vec<u32>, Vec<u32>), (Vec<u32>, Vec<bool>)), NoMemory>
-    ensures firsts { IfOk result (λ made. made.0.0.items ≡ replicate number 0) }
-    ensures middles { IfOk result (λ made. made.0.1.items ≡ replicate number 0) }
-    ensures ends { IfOk result (λ made. made.0.2.items ≡ replicate number count) }
-    ensures waiting { IfOk result (λ made. made.1.0.items ≡ replicate number 0) }
-    ensures flags { IfOk result (λ made. made.1.1.items ≡ replicate number true) }
-{
-    let spans = spans(alloc, number, count)?;
-    let waiting = all_waiting(alloc, number)?;
-    Ok((spans, waiting))
-}
-
-// Where each of so many blocks begins, where its marked nodes end, and where it ends: each has all nodes, and none is marked.
-fn spans(
-    alloc: Global,
-    number: usize,
-    count: u32,
-) -> Result<(Vec<u32>, Vec<u32>, Vec<u32>), NoMemory>
-    ensures firsts { IfOk result (λ made. made.0.items ≡ replicate number 0) }
-    ensures middles { IfOk result (λ made. made.1.items ≡ replicate number 0) }
-    ensures ends { IfOk result (λ made. made.2.items ≡ replicate number count) }
-{
-    let firsts = filled(alloc, 0, number)?;
-    let middles = filled(alloc, 0, number)?;
-    let ends = filled(alloc, count, number)?;
-    Ok((firsts, middles, ends))
-}
-
-// The blocks that wait, where all do, and for each that it does. There is one at most.
-fn all_waiting(alloc: Global, number: usize) -> Result<(Vec<u32>, Vec<bool>), NoMemory>
-    ensures waiting { IfOk result (λ made. made.0.items ≡ replicate number 0) }
-    ensures flags { IfOk result (λ made. made.1.items ≡ replicate number true) }
-{
-    let waiting = filled(alloc, 0, number)?;
-    let flags = vec![in alloc; true; number]?;
-    Ok((waiting, flags))
-}
-
 // As many times the value as `number` says.
 fn filled(alloc: Global, value: u32, number: usize) -> Result<Vec<u32>, NoMemory>
     ensures { IfOk result (λ made. made.items ≡ replicate number value) }
 {
-    let made = vec![in alloc; value; number]?;
-    Ok(made)
+    vec![in alloc; value; number]
+}
+
+// As many flags as `number` says, each set.
+fn all_set(alloc: Global, number: usize) -> Result<Vec<bool>, NoMemory>
+    ensures { IfOk result (λ made. made.items ≡ replicate number true) }
+{
+    vec![in alloc; true; number]
 }
 
 // The numbers below `count`.

@@ -1,21 +1,20 @@
 -- How deep the processes below a process are, and that the steps of a process do not depend on how much more depth is left.
-use Rattle.std.proofs.Common.{◌≡◌, ℕ, zero, suc, ◌+◌, ◌<◌, ◌≤◌, if◌then◌else◌, Ok, List, [], ◌∷◌, ◌++◌, map, refl, ap, sym, ◌∙◌, arith}
+use Rattle.std.proofs.Common.{◌≡◌, ℕ, zero, suc, ◌+◌, ◌<◌, ◌≤◌, if◌then◌else◌, Some, Ok, List, [], ◌∷◌, ◌++◌, map, slice_get, refl, ap, sym, ◌∙◌, arith}
 use Rattle.csp_program.specs.Depth.{proc_depth, proc_depth_of_layer}
+use Rattle.csp_program.specs.Lists.{joined}
 use Rattle.csp_program.specs.Outcome.{Outcome, and_then}
-use Rattle.csp_program.specs.Substitution.{proc_with}
+use Rattle.csp_program.specs.Substitution.{one}
 use Rattle.process_steps.specs.Needed.{each_joined, events_in, set_in, truth_in}
 use Rattle.process_steps.specs.Renaming.{renaming_in}
 use Rattle.process_steps.specs.Step.{each_put}
 use Rattle.process_steps.specs.StepList.{Move, in_choice, in_hiding, in_renaming, in_sequence, steps_of, steps_of_layer, steps_within}
-use Rattle.csp_program.specs.Lists.{joined}
 use Rattle.substitution.proofs.Keeps.{proc_keeps_depth}
-use Rattle.substitution.specs.Parts.{proc_after}
 use Rattle.csp_atoms.specs.declared.atom.Atom.{Atom}
 use Rattle.csp_atoms.specs.declared.value.Value.TheVariants.{One}
 use Rattle.csp_program.specs.declared.processes.Proc.{Proc}
 use Rattle.csp_program.specs.declared.processes.Proc.TheFolds.{fold-roll-Proc, map-Proc}
 use Rattle.csp_program.specs.declared.processes.Proc.TheOpen.{Proc-F}
-use Rattle.csp_program.specs.declared.processes.Proc.TheViews.{out-Proc, roll-out-Proc}
+use Rattle.csp_program.specs.declared.processes.Proc.TheViews.{out-Proc, roll-Proc, roll-out-Proc}
 use Rattle.csp_program.specs.declared.programs.Content.{Content}
 use Rattle.csp_base.specs.Lists.{greatest}
 
@@ -23,18 +22,31 @@ use Rattle.csp_base.specs.Lists.{greatest}
 unfoldable pub layer_depth : Proc-F Proc → ℕ
 layer_depth d = proc_depth_of_layer (map-Proc Proc ℕ proc_depth d)
 
-pub depth_of_out : (t : Proc) → proc_depth t ≡ layer_depth (out-Proc t)
+-- where the process t has the layer d
+pub depth_of : (t : Proc) (d : Proc-F Proc) → roll-Proc d ≡ t → proc_depth t ≡ layer_depth d
 unfolding layer_depth
-depth_of_out t = ap proc_depth (sym (roll-out-Proc t)) ∙ fold-roll-Proc ℕ proc_depth_of_layer (out-Proc t)
+depth_of t d e = ap proc_depth (sym e) ∙ fold-roll-Proc ℕ proc_depth_of_layer d
 
-pub some_depth : (d : Proc-F Proc) → 1 ≤ layer_depth d
+pub depth_of_out : (t : Proc) → proc_depth t ≡ layer_depth (out-Proc t)
+depth_of_out t = depth_of t (out-Proc t) (roll-out-Proc t)
+
+some_depth : (d : Proc-F Proc) → 1 ≤ layer_depth d
 unfolding layer_depth
 some_depth Proc-F.Stop = omega arith
 some_depth _ = omega arith
 
-pub put_depth : (x : ℕ) (a : Atom) (q : Proc) → proc_depth (proc_with x (One a) q) ≡ proc_depth q
-unfolding proc_after
-put_depth x a q = proc_keeps_depth x (One a) q
+pub no_depth : (t : Proc) → proc_depth t ≤ 0 → ⊥
+no_depth t h = let e = depth_of_out t in let one = some_depth (out-Proc t) in omega arith
+
+-- values leave a process as deep as it is
+pub put_depths : (x : ℕ) (q : Proc) (atoms : List Atom) → greatest (map proc_depth (each_put x atoms q)) ≤ proc_depth q
+put_depths x q [] = omega arith
+put_depths x q (a ∷ atoms) = let e = proc_keeps_depth (one x (One a)) q in let rest = put_depths x q atoms in omega (arith, e, rest)
+
+pub depth_at : (qs : List Proc) (k : ℕ) (q : Proc) → slice_get qs k ≡ Some q → proc_depth q ≤ greatest (map proc_depth qs)
+depth_at [] k q at = absurd cc
+depth_at (r ∷ qs) zero q at = let e : r ≡ q = cc in let same = ap proc_depth e in omega (arith, same)
+depth_at (r ∷ qs) (suc k) q at = let rest = depth_at qs k q at in omega (arith, rest)
 
 -- both give the same of each process that is less deep
 abbrev pub AgreeBelow : (f g : Proc → Outcome (List Move)) → ℕ → Type 0
@@ -52,15 +64,6 @@ module _ (f g : Proc → Outcome (List Move)) (n : ℕ) (agree : AgreeBelow f g 
       let rest : each_joined (of_operand f all) (k + 1) qs ≡ each_joined (of_operand g all) (k + 1) qs = agree_all all (k + 1) qs (omega arith) in
       λ i. and_then (and_then (first i) (λ moves. Ok (map (λ m. in_choice all k m.0 m.1) moves))) (λ ys. and_then (rest i) (λ more. Ok (ys ++ more)))
 
-  agree_put : (all : List Proc) (k x : ℕ) (q : Proc) → proc_depth q < n → (atoms : List Atom)
-      → each_joined (of_operand f all) k (each_put x atoms q) ≡ each_joined (of_operand g all) k (each_put x atoms q)
-  agree_put all k x q h [] = refl
-  agree_put all k x q h (a ∷ atoms) =
-      let e = put_depth x a q in
-      let first : f (proc_with x (One a) q) ≡ g (proc_with x (One a) q) = agree (proc_with x (One a) q) (omega arith) in
-      let rest : each_joined (of_operand f all) (k + 1) (each_put x atoms q) ≡ each_joined (of_operand g all) (k + 1) (each_put x atoms q) = agree_put all (k + 1) x q h atoms in
-      λ i. and_then (and_then (first i) (λ moves. Ok (map (λ m. in_choice all k m.0 m.1) moves))) (λ ys. and_then (rest i) (λ more. Ok (ys ++ more)))
-
   agree_layer : (p : Content) (d : Proc-F Proc) → layer_depth d ≤ n → steps_of_layer p f d ≡ steps_of_layer p g d
   unfolding layer_depth
   agree_layer p (Proc-F.Guard c q) h = let e : f q ≡ g q = agree q (omega arith) in λ i. and_then (truth_in p c) (λ b. if b then e i else Ok [])
@@ -70,8 +73,7 @@ module _ (f g : Proc → Outcome (List Move)) (n : ℕ) (agree : AgreeBelow f g 
       λ i. and_then (truth_in p c) (λ b. if b then e i else e' i)
   agree_layer p (Proc-F.External qs) h = agree_all qs 0 qs h
   agree_layer p (Proc-F.EachExternal x s q) h =
-      let less : proc_depth q < n = omega arith in
-      λ i. and_then (set_in p s) (λ atoms. agree_put (each_put x atoms q) 0 x q less atoms i)
+      λ i. and_then (set_in p s) (λ atoms. agree_all (each_put x atoms q) 0 (each_put x atoms q) (let e = put_depths x q atoms in omega (arith, e)) i)
   agree_layer p (Proc-F.Hide q s) h =
       let e : f q ≡ g q = agree q (omega arith) in
       λ i. and_then (e i) (λ moves. and_then (events_in p s) (λ hidden. Ok (map (λ m. in_hiding s hidden m.0 m.1) moves)))
@@ -84,8 +86,8 @@ module _ (f g : Proc → Outcome (List Move)) (n : ℕ) (agree : AgreeBelow f g 
 -- two depths that are enough give the same
 pub enough : (p : Content) (n m : ℕ) (t : Proc) → proc_depth t ≤ n → proc_depth t ≤ m → steps_within p n t ≡ steps_within p m t
 unfolding steps_within
-enough p zero m t h g = let e = depth_of_out t in let one = some_depth (out-Proc t) in absurd (omega arith)
-enough p (suc n) zero t h g = let e = depth_of_out t in let one = some_depth (out-Proc t) in absurd (omega arith)
+enough p zero m t h g = absurd (no_depth t h)
+enough p (suc n) zero t h g = absurd (no_depth t g)
 enough p (suc n) (suc m) t h g =
     let e = depth_of_out t in
     agree_layer (steps_within p n) (steps_within p m) (layer_depth (out-Proc t)) (λ q lt. enough p n m q (omega arith) (omega arith)) p (out-Proc t) (omega arith)

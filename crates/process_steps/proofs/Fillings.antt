@@ -1,78 +1,95 @@
--- The ways to fill the fields of a prefix are exactly those by the relation.
-use Rattle.std.proofs.Common.{◌≡◌, ℕ, ◌+◌, Bool, true, false, if◌then◌else◌, Option, Some, Ok, List, [], ◌∷◌, ◌++◌, slice_get, refl, sym, subst, inl, inr, arith, ap, ◌∙◌}
-use Rattle.csp_program.specs.Outcome.{Outcome, and_then}
-use Rattle.csp_program.specs.Value.{in_field, value_of}
-use Rattle.process_steps.specs.Prefix.{Fills, Way, later_fields, given_in, is_given, later_process, ways_to_fill, where_given}
+-- The ways to fill the fields of a prefix are exactly those by the relation, and there is a list of them where no value is lacking.
+use Rattle.std.proofs.Common.{◌≡◌, ℕ, ◌+◌, IsTrue, Bool, true, false, if◌then◌else◌, Ok, List, [], ◌∷◌, ◌++◌, refl, sym, subst, inl, inr}
+use Rattle.csp_program.specs.Outcome.{Outcome}
+use Rattle.csp_program.specs.Substitution.{given_by, proc_with}
+use Rattle.csp_program.specs.Value.{Env, in_field}
+use Rattle.process_steps.specs.LacksNone.{FieldsLackNone}
+use Rattle.process_steps.specs.LacksNone.FieldsLackNone.{none, output as output_there, input as input_there}
+use Rattle.process_steps.specs.Prefix.{Fills, given_under, is_given, value_under}
 use Rattle.process_steps.specs.Prefix.Fills.{filled, input, output}
-use Rattle.process_steps.proofs.Members.{Among, came, from_each, in_each, same_list}
-use Rattle.process_steps.specs.Needed.{each_joined}
+use Rattle.process_steps.specs.Ways.{Way, ways_to_fill}
+use Rattle.process_steps.proofs.Chains.{Has, IsThere, Lists, each_there, from_each, lists_each, onward, there_each, through, where_is}
+use Rattle.substitution.proofs.Stays.{proc_stays}
 use Rattle.csp_atoms.specs.declared.atom.Atom.{Atom}
+use Rattle.csp_atoms.specs.declared.value.Value.TheVariants.{One}
 use Rattle.csp_program.specs.declared.processes.Field.{Field}
 use Rattle.csp_program.specs.declared.processes.Field.TheVariants as field
 use Rattle.csp_program.specs.declared.processes.Proc.{Proc}
 use Rattle.csp_program.specs.declared.programs.Content.{Content}
 
-alone : {A : Type 0} (x y : A) → Among (x ∷ []) y → x ≡ y
-alone x y (inl e) = e
-alone x y (inr h) = absurd h
+-- what is asked of a value that an input may take, and of no other
+module _ {W : Type 0} (o : Outcome (List W)) where
+  allowed : (b : Bool) (w : W) → Has (if b then o else Ok []) w → IsTrue b × Has o w
+  allowed true w h = (refl, h)
+  allowed false w h = absurd h
 
--- the member of a list of one
-pub only : {A : Type 0} (x y : A) (ys : List A) → x ∷ [] ≡ ys → Among ys y → x ≡ y
-only x y ys e h = alone x y (subst (λ w. Among w y) (sym e) h)
+  when_allowed : (b : Bool) → IsTrue b → (P : Outcome (List W) → Type 0) → P o → P (if b then o else Ok [])
+  when_allowed b e P h = subst (λ c. P (if c then o else Ok [])) (sym e) h
 
--- where an input may take the value
-given_true : (given : Option (List Atom)) (next : ℕ → Atom → Outcome (List Way)) (k : ℕ) (a : Atom) → is_given given a ≡ true → where_given given next k a ≡ next k a
-given_true given next k a e = ap (λ b. if b then next k a else Ok []) e
+  where_allowed : (b : Bool) → IsTrue b → IsThere (if b then o else Ok []) → IsThere o
+  where_allowed b e h = subst (λ c. IsThere (if c then o else Ok [])) e h
 
--- a way of a value is one of a value that an input may take
-record Given (given : Option (List Atom)) (next : ℕ → Atom → Outcome (List Way)) (k : ℕ) (a : Atom) (ways : List Way) : Type 0 where
-  allowed : is_given given a ≡ true
-  is : next k a ≡ Ok ways
+  if_allowed : (b : Bool) → (IsTrue b → IsThere o) → IsThere (if b then o else Ok [])
+  if_allowed true h = h refl
+  if_allowed false h = tt
 
-is_allowed : (given : Option (List Atom)) (next : ℕ → Atom → Outcome (List Way)) (k : ℕ) (a : Atom) (ways : List Way) (w : Way) → Among ways w
-    → (b : Bool) → is_given given a ≡ b → (if b then next k a else Ok []) ≡ Ok ways → Given given next k a ways
-is_allowed given next k a ways w m true e h = record { allowed = e; is = h }
-is_allowed given next k a ways w m false e h = let same : [] ≡ ways = cc in absurd (same_list ways [] w (sym same) m)
+-- no value changes nothing
+pub nothing_put : (q : Proc) → proc_with (given_by []) q ≡ q
+nothing_put q = proc_stays (given_by []) q (λ x h. refl)
 
 module _ (p : Content) where
+  -- the ways with the value a of an input
+  abbrev ways_from : List (List Atom) → ℕ → List Field → Env → List Atom → ℕ → Atom → Outcome (List Way)
+  ways_from sets x fields env row k a = ways_to_fill p sets fields ((x, One a) ∷ env) (row ++ a ∷ [])
+
   -- each way is one by the relation
-  pub fills_sound : (sets : List (List Atom)) (fields : List Field) (q : Proc) (row : List Atom) (ways : List Way) → ways_to_fill p sets fields q row ≡ Ok ways
-      → (w : Way) → Among ways w → Fills p sets fields q row w.0 w.1
-  fills_sound [] [] q row ways h w g =
-      let e : (row, q) ∷ [] ≡ ways = cc in
-      subst (λ (z : Way). Fills p [] [] q row z.0 z.1) (only (row, q) w ways e g) (filled q row)
-  fills_sound (set ∷ sets) (field.Put e ∷ fields) q row ways h w g =
-      let first = came (value_of p e) (λ v. and_then (in_field set v) (λ a. ways_to_fill p sets fields q (row ++ a ∷ []))) ways h in
-      let second = came (in_field set first.value) (λ a. ways_to_fill p sets fields q (row ++ a ∷ [])) ways first.after in
-      output set sets e fields q row w.0 w.1 first.value second.value first.before second.before
-      (fills_sound sets fields q (row ++ second.value ∷ []) ways second.after w g)
-  fills_sound (set ∷ sets) (field.Get x s ∷ fields) q row ways h w g =
-      let next : ℕ → Atom → Outcome (List Way) = λ k a. ways_to_fill p sets (later_fields x a fields) (later_process x a fields q) (row ++ a ∷ []) in
-      let first = came (given_in p s) (λ given. each_joined (where_given given next) 0 set) ways h in
-      let from = from_each (where_given first.value next) 0 set ways first.after w g in
+  pub fills_sound : (sets : List (List Atom)) (fields : List Field) (env : Env) (row : List Atom) (w : Way) → Has (ways_to_fill p sets fields env row) w
+      → Fills p sets fields env row w.0 w.1
+  fills_sound [] [] env row w (inl e) = subst (λ (z : Way). Fills p [] [] env row z.0 z.1) e (filled env row)
+  fills_sound [] [] env row w (inr h) = absurd h
+  fills_sound (set ∷ sets) (field.Put e ∷ fields) env row w h =
+      let v = through _ _ (value_under p env e) h in
+      let a = through _ _ (in_field set v.0) v.2 in
+      output set sets e fields env row w.0 w.1 v.0 a.0 v.1 a.1 (fills_sound sets fields env (row ++ a.0 ∷ []) w a.2)
+  fills_sound (set ∷ sets) (field.Get x s ∷ fields) env row w h =
+      let given = through _ _ (given_under p env s) h in
+      let from = from_each _ w 0 set given.2 in
       let a = from.source in
-      let z : from.place ≡ 0 + from.place = omega arith in
-      let tried = is_allowed first.value next (0 + from.place) a from.list w from.among (is_given first.value a) refl from.is in
-      input set sets x s fields q row w.0 w.1 first.value a (0 + from.place) first.before (subst (λ i. slice_get set i ≡ Some a) z from.at) tried.allowed
-      (fills_sound sets (later_fields x a fields) (later_process x a fields q) (row ++ a ∷ []) from.list tried.is w from.among)
-  fills_sound _ _ q row ways h w g = absurd cc
+      let tried = allowed (ways_from sets x fields env row (0 + from.place) a) (is_given given.0 a) w from.has in
+      input set sets x s fields env row w.0 w.1 given.0 a from.place given.1 from.at tried.0
+      (fills_sound sets fields ((x, One a) ∷ env) (row ++ a ∷ []) w tried.1)
+  fills_sound _ _ env row w h = absurd h
 
   -- each way by the relation is one
-  pub fills_complete : {sets : List (List Atom)} {fields : List Field} {q : Proc} {row whole : List Atom} {r : Proc} → Fills p sets fields q row whole r
-      → (ways : List Way) → ways_to_fill p sets fields q row ≡ Ok ways → Among ways (whole, r)
-  fills_complete (filled q row) ways h = let e : (row, q) ∷ [] ≡ ways = cc in same_list ((row, q) ∷ []) ways (row, q) e (inl refl)
-  fills_complete (output set sets e fields q row whole r v a worth place rest) ways h =
-      let first = came (value_of p e) (λ v. and_then (in_field set v) (λ a. ways_to_fill p sets fields q (row ++ a ∷ []))) ways h in
-      let same : first.value ≡ v = cc in
-      let after : and_then (in_field set v) (λ a. ways_to_fill p sets fields q (row ++ a ∷ [])) ≡ Ok ways = subst (λ u. and_then (in_field set u) (λ a. ways_to_fill p sets fields q (row ++ a ∷ [])) ≡ Ok ways) same first.after in
-      let second = came (in_field set v) (λ a. ways_to_fill p sets fields q (row ++ a ∷ [])) ways after in
-      let there : second.value ≡ a = cc in
-      fills_complete rest ways (subst (λ b. ways_to_fill p sets fields q (row ++ b ∷ []) ≡ Ok ways) there second.after)
-  fills_complete (input set sets x s fields q row whole r given a k worth at allowed rest) ways h =
-      let next : ℕ → Atom → Outcome (List Way) = λ k a. ways_to_fill p sets (later_fields x a fields) (later_process x a fields q) (row ++ a ∷ []) in
-      let first = came (given_in p s) (λ given. each_joined (where_given given next) 0 set) ways h in
-      let same : first.value ≡ given = cc in
-      let there = in_each (where_given given next) 0 set ways (subst (λ u. each_joined (where_given u next) 0 set ≡ Ok ways) same first.after) k a at in
-      let z : 0 + k ≡ k = omega arith in
-      let is : next k a ≡ Ok there.list = sym (given_true given next k a allowed) ∙ subst (λ i. where_given given next i a ≡ Ok there.list) z there.is in
-      there.among (whole, r) (fills_complete rest there.list is)
+  pub fills_complete : {sets : List (List Atom)} {fields : List Field} {env : Env} {row : List Atom} {last : Env} {whole : List Atom}
+      → Fills p sets fields env row last whole → Lists (ways_to_fill p sets fields env row) (last, whole)
+  fills_complete (filled env row) = inl refl
+  fills_complete (output set sets e fields env row last whole v a worth place rest) =
+      where_is _ _ (value_under p env e) v worth (where_is _ _ (in_field set v) a place (fills_complete rest))
+  fills_complete (input set sets x s fields env row last whole given a k worth at is rest) =
+      where_is _ _ (given_under p env s) given worth (lists_each _ (last, whole) 0 set k a at (
+      when_allowed (ways_from sets x fields env row (0 + k) a) (is_given given a) is (λ o. Lists o (last, whole)) (fills_complete rest)))
+
+  -- there is a list of them where no value is lacking
+  pub fields_there : {sets : List (List Atom)} {fields : List Field} {env : Env} → FieldsLackNone p sets fields env → (row : List Atom)
+      → IsThere (ways_to_fill p sets fields env row)
+  fields_there (none env) row = tt
+  fields_there (output_there set sets e fields env v a worth place rest) row =
+      onward _ _ (value_under p env e) v worth (onward _ _ (in_field set v) a place (fields_there rest (row ++ a ∷ [])))
+  fields_there (input_there set sets x s fields env given worth rest) row =
+      onward _ _ (given_under p env s) given worth (each_there _ 0 set (λ k a at.
+      if_allowed (ways_from sets x fields env row (0 + k) a) (is_given given a) (λ is. fields_there (rest k a at is) (row ++ a ∷ []))))
+
+  pub fields_lack_none : (sets : List (List Atom)) (fields : List Field) (env : Env) (row : List Atom) → IsThere (ways_to_fill p sets fields env row)
+      → FieldsLackNone p sets fields env
+  fields_lack_none [] [] env row h = none env
+  fields_lack_none (set ∷ sets) (field.Put e ∷ fields) env row h =
+      let v = through _ _ (value_under p env e) h in
+      let a = through _ _ (in_field set v.0) v.2 in
+      output_there set sets e fields env v.0 a.0 v.1 a.1 (fields_lack_none sets fields env (row ++ a.0 ∷ []) a.2)
+  fields_lack_none (set ∷ sets) (field.Get x s ∷ fields) env row h =
+      let given = through _ _ (given_under p env s) h in
+      input_there set sets x s fields env given.0 given.1 (λ k a at is.
+      fields_lack_none sets fields ((x, One a) ∷ env) (row ++ a ∷ [])
+      (where_allowed (ways_from sets x fields env row (0 + k) a) (is_given given.0 a) is (there_each _ 0 set given.2 k a at)))
+  fields_lack_none _ _ env row h = absurd h

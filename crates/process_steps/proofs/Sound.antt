@@ -1,191 +1,203 @@
--- Each step of the list of a process is one by the relation.
-use Rattle.std.proofs.Common.{◌≡◌, ℕ, zero, suc, ◌+◌, Bool, true, false, if◌then◌else◌, Some, Ok, List, [], ◌∷◌, map, slice_get, refl, sym, subst, arith}
-use Rattle.csp_program.specs.Lists.{joined}
-use Rattle.csp_program.specs.Outcome.{Outcome, and_then}
+-- Where a process has a list of steps, each of them is one by the relation, and the process lacks no value.
+use Rattle.std.proofs.Common.{◌≡◌, ℕ, zero, suc, ◌+◌, ◌<◌, ◌≤◌, IfOk, Bool, true, false, if◌then◌else◌, Option, Some, None, Ok, Err, List, [], ◌∷◌, map, slice_get, refl, sym, subst, inl, inr, arith}
+use Rattle.csp_base.specs.Lists.{greatest}
 use Rattle.csp_base.specs.Members.{has}
+use Rattle.csp_program.specs.Depth.{proc_depth}
+use Rattle.csp_program.specs.Outcome.{Outcome, and_then}
+use Rattle.csp_program.specs.Substitution.{given_by, proc_with}
+use Rattle.csp_program.specs.Value.{sets_of}
+use Rattle.process_steps.specs.LacksNone as lacking
 use Rattle.process_steps.specs.Needed.{arguments_in, called, events_in, set_in, truth_in}
-use Rattle.process_steps.specs.Prefix.{of_head, ways_to_fill}
+use Rattle.process_steps.specs.Prefix.{event_of}
 use Rattle.process_steps.specs.Renaming.{Renamed, images, renaming_in}
+use Rattle.process_steps.specs.Step as step
 use Rattle.process_steps.specs.Step.{Step, each_put}
-use Rattle.process_steps.specs.Step.Step.{call, each_external, each_internal, external_event, external_silent, external_tick, guard, hide_hidden, hide_seen, hide_silent, hide_tick, if_false, if_true, internal, prefix, rename_event, rename_silent, rename_tick, sequence_event, sequence_silent, sequence_tick, skip}
-use Rattle.process_steps.specs.StepList.{Move, in_choice, in_hiding, in_renaming, in_sequence, silent_to, some_silent_to, steps_of_choice, steps_of_layer, steps_within}
-use Rattle.process_steps.proofs.Fillings.{fills_sound, only}
-use Rattle.process_steps.proofs.Members.{Among, came, from_each, from_joined, from_map, placed, same_list}
+use Rattle.process_steps.specs.StepList.{Move, in_choice, in_hiding, in_renaming, in_sequence, silent_to, some_silent_to, steps_of, steps_of_choice, steps_of_layer, steps_within}
+use Rattle.process_steps.specs.Ways.{event_among, of_channel, sets_among, ways_to_fill}
+use Rattle.process_steps.proofs.Chains.{and_of, from_each, if_any, if_of, there_each, through, where_ok}
+use Rattle.process_steps.proofs.Depths.{depth_at, depth_of_out, layer_depth, no_depth, put_depths}
+use Rattle.process_steps.proofs.Fillings.{fields_lack_none, fills_sound, nothing_put}
+use Rattle.process_steps.proofs.Members.{Among, from_joined, from_map, placed}
+use Rattle.csp_atoms.specs.declared.atom.Atom.{Atom}
+use Rattle.csp_atoms.specs.declared.atom.Atom.TheVariants as atom
+use Rattle.csp_atoms.specs.declared.value.Value.TheVariants.{One}
 use Rattle.csp_program.specs.declared.expressions.EventPart.{EventPart}
 use Rattle.csp_program.specs.declared.expressions.Expr.{Expr}
 use Rattle.csp_program.specs.declared.expressions.Gen.{Gen}
 use Rattle.csp_program.specs.declared.processes.Field.{Field}
 use Rattle.csp_program.specs.declared.processes.Head.{Head}
+use Rattle.csp_program.specs.declared.processes.Head.TheVariants as head
 use Rattle.csp_program.specs.declared.processes.Proc.{Proc}
 use Rattle.csp_program.specs.declared.processes.Proc.TheOpen.{Proc-F}
 use Rattle.csp_program.specs.declared.processes.Proc.TheVariants as proc
 use Rattle.csp_program.specs.declared.processes.Proc.TheViews.{out-Proc, roll-Proc, roll-out-Proc}
 use Rattle.csp_program.specs.declared.programs.Content.{Content}
-use Rattle.process_steps.specs.declared.label.Label.{Label}
 use Rattle.process_steps.specs.declared.label.Label.TheVariants.{Silent, Visible, Tick}
 
--- each listed step is a step of t
-abbrev pub AllSteps : Content → Proc → List Move → Type 0
-AllSteps p t moves = (l : Label) (u : Proc) → Among moves (l, u) → Step p t l u
+-- the process does this step
+abbrev pub Does : Content → Proc → Move → Type 0
+Does p t m = Step p t m.0 m.1
 
--- an outcome that, where it is a list, has steps of t alone
-abbrev pub IsSound : Content → Proc → Outcome (List Move) → Type 0
-IsSound p t o = (moves : List Move) → o ≡ Ok moves → AllSteps p t moves
+-- the process lacks no value, and each step of the list is one of its own
+pub record Reads (p : Content) (t : Proc) (moves : List Move) : Type 0 where
+  pub lacks : lacking.LacksNone p t
+  pub steps : (m : Move) → Among moves m → Does p t m
 
--- from a step that is known under another form
-same_step : (p : Content) (t : Proc) (l m : Label) (u w : Proc) → ◌≡◌ {A = Move} (l, u) (m, w) → Step p t l u → Step p t m w
-same_step p t l m u w e h = subst (λ (z : Move). Step p t z.0 z.1) e h
+-- ---- what a step of a part makes of the whole
 
 module _ (p : Content) where
-  sequence_step : (q r : Proc) (l : Label) (s : Proc) → Step p q l s → Step p (proc.Seq q r) (in_sequence r l s).0 (in_sequence r l s).1
-  sequence_step q r Silent s h = sequence_silent q r s h
-  sequence_step q r (Visible e) s h = sequence_event q r s e h
-  sequence_step q r Tick s h = sequence_tick q r s h
+  sequence_step : (q r : Proc) (m : Move) → Does p q m → Does p (proc.Seq q r) (in_sequence r m.0 m.1)
+  sequence_step q r (Silent, s) h = step.sequence_silent q r s h
+  sequence_step q r (Visible e, s) h = step.sequence_event q r s e h
+  sequence_step q r (Tick, s) h = step.sequence_tick q r s h
 
-  choice_step : (qs : List Proc) (k : ℕ) (q : Proc) → slice_get qs k ≡ Some q → (l : Label) (r : Proc) → Step p q l r
-      → Step p (proc.External qs) (in_choice qs k l r).0 (in_choice qs k l r).1
-  choice_step qs k q at Silent r h = external_silent qs k q r at h
-  choice_step qs k q at (Visible e) r h = external_event qs k q r e at h
-  choice_step qs k q at Tick r h = external_tick qs k q r at h
+  choice_step : (qs : List Proc) (k : ℕ) (q : Proc) → slice_get qs k ≡ Some q → (m : Move) → Does p q m → Does p (proc.External qs) (in_choice qs k m.0 m.1)
+  choice_step qs k q at (Silent, r) h = step.external_silent qs k q r at h
+  choice_step qs k q at (Visible e, r) h = step.external_event qs k q r e at h
+  choice_step qs k q at (Tick, r) h = step.external_tick qs k q r at h
 
-  hidden_or_seen : (q r : Proc) (s : Expr) (hidden : List ℕ) (e : ℕ) → events_in p s ≡ Ok hidden → Step p q (Visible e) r
-      → (b : Bool) → has hidden e ≡ b → Step p (proc.Hide q s) (if b then Silent else Visible e) (proc.Hide r s)
-  hidden_or_seen q r s hidden e is h true g = hide_hidden q r s e hidden is g h
-  hidden_or_seen q r s hidden e is h false g = hide_seen q r s e hidden is g h
-
-  hiding_step : (q : Proc) (s : Expr) (hidden : List ℕ) → events_in p s ≡ Ok hidden → (l : Label) (r : Proc) → Step p q l r
-      → Step p (proc.Hide q s) (in_hiding s hidden l r).0 (in_hiding s hidden l r).1
-  hiding_step q s hidden is Silent r h = hide_silent q r s h
-  hiding_step q s hidden is (Visible e) r h = hidden_or_seen q r s hidden e is h (has hidden e) refl
-  hiding_step q s hidden is Tick r h = hide_tick q r s h
+  hiding_step : (q : Proc) (s : Expr) (hidden : List ℕ) → events_in p s ≡ Ok hidden → (m : Move) → Does p q m → Does p (proc.Hide q s) (in_hiding s hidden m.0 m.1)
+  hiding_step q s hidden is (Silent, r) h = step.hide_silent q r s h
+  hiding_step q s hidden is (Visible e, r) h = hidden_or_seen (has hidden e) refl
+    where
+      hidden_or_seen : (b : Bool) → has hidden e ≡ b → Step p (proc.Hide q s) (if b then Silent else Visible e) (proc.Hide r s)
+      hidden_or_seen true g = step.hide_hidden q r s e hidden is g h
+      hidden_or_seen false g = step.hide_seen q r s e hidden is g h
+  hiding_step q s hidden is (Tick, r) h = step.hide_tick q r s h
 
   renaming_step : (q : Proc) (pairs : List (EventPart × EventPart)) (gens : List Gen) (renamed : List Renamed) → renaming_in p pairs gens ≡ Ok renamed
-      → (l : Label) (r : Proc) → Step p q l r → AllSteps p (proc.Rename q pairs gens) (in_renaming pairs gens renamed l r)
-  renaming_step q pairs gens renamed is Silent r h m w g =
-      same_step p (proc.Rename q pairs gens) Silent m (proc.Rename r pairs gens) w (only (Silent, proc.Rename r pairs gens) (m, w) ((Silent, proc.Rename r pairs gens) ∷ []) refl g) (rename_silent q r pairs gens h)
-  renaming_step q pairs gens renamed is (Visible e) r h m w g =
-      let from = from_map (λ d. (Visible d, proc.Rename r pairs gens)) (images renamed e) (m, w) g in
+      → (m : Move) → Does p q m → (n : Move) → Among (in_renaming pairs gens renamed m.0 m.1) n → Does p (proc.Rename q pairs gens) n
+  renaming_step q pairs gens renamed is (Silent, r) h n (inl e) = subst (Does p (proc.Rename q pairs gens)) e (step.rename_silent q r pairs gens h)
+  renaming_step q pairs gens renamed is (Silent, r) h n (inr g) = absurd g
+  renaming_step q pairs gens renamed is (Visible e, r) h n g =
+      let from = from_map (λ d. (Visible d, proc.Rename r pairs gens)) (images renamed e) n g in
       let at = placed (images renamed e) from.source from.among in
-      same_step p (proc.Rename q pairs gens) (Visible from.source) m (proc.Rename r pairs gens) w from.made (rename_event q r pairs gens e from.source at.0 renamed is at.1 h)
-  renaming_step q pairs gens renamed is Tick r h m w g =
-      same_step p (proc.Rename q pairs gens) Tick m proc.Ended w (only (Tick, proc.Ended) (m, w) ((Tick, proc.Ended) ∷ []) refl g) (rename_tick q r pairs gens h)
+      subst (Does p (proc.Rename q pairs gens)) from.made (step.rename_event q r pairs gens e from.source at.0 renamed is at.1 h)
+  renaming_step q pairs gens renamed is (Tick, r) h n (inl e) = subst (Does p (proc.Rename q pairs gens)) e (step.rename_tick q r pairs gens h)
+  renaming_step q pairs gens renamed is (Tick, r) h n (inr g) = absurd g
 
-module _ (p : Content) (below : Proc → Outcome (List Move)) (sound : (q : Proc) → IsSound p q (below q)) where
-  sound_choice : (qs : List Proc) → IsSound p (proc.External qs) (steps_of_choice p below qs)
-  sound_choice qs moves h l u g =
-      let from = from_each (λ k q. and_then (below q) (λ moves. Ok (map (λ m. in_choice qs k m.0 m.1) moves))) 0 qs moves h (l, u) g in
-      let q = from.source in
-      let k = 0 + from.place in
-      let first = came (below q) (λ moves. Ok (map (λ m. in_choice qs k m.0 m.1) moves)) from.list from.is in
-      let e : map (λ m. in_choice qs k m.0 m.1) first.value ≡ from.list = cc in
-      let move = from_map (λ m. in_choice qs k m.0 m.1) first.value (l, u) (same_list from.list (map (λ m. in_choice qs k m.0 m.1) first.value) (l, u) (sym e) from.among) in
-      let z : from.place ≡ 0 + from.place = omega arith in
-      let at : slice_get qs k ≡ Some q = subst (λ i. slice_get qs i ≡ Some q) z from.at in
-      same_step p (proc.External qs) (in_choice qs k move.source.0 move.source.1).0 l (in_choice qs k move.source.0 move.source.1).1 u move.made
-      (choice_step p qs k q at move.source.0 move.source.1 (sound q first.value first.before move.source.0 move.source.1 move.among))
+-- ---- what is known of a part is known of the whole
 
-  sound_if : (c : Expr) (q r : Proc) (b : Bool) → truth_in p c ≡ Ok b → IsSound p (proc.If c q r) (if b then below q else below r)
-  sound_if c q r true is moves h l u g = if_true c q r u l is (sound q moves h l u g)
-  sound_if c q r false is moves h l u g = if_false c q r u l is (sound r moves h l u g)
+module _ (p : Content) (q t : Proc) (lacks : lacking.LacksNone p q → lacking.LacksNone p t) where
+  whole_reads : ((m : Move) → Does p q m → Does p t m) → (o : Outcome (List Move)) → IfOk o (Reads p q) → IfOk o (Reads p t)
+  whole_reads does (Ok moves) h = record { lacks = lacks h.lacks; steps = λ m g. does m (h.steps m g) }
+  whole_reads does (Err k) h = tt
 
-  sound_guard : (c : Expr) (q : Proc) (b : Bool) → truth_in p c ≡ Ok b → IsSound p (proc.Guard c q) (if b then below q else Ok [])
-  sound_guard c q true is moves h l u g = guard c q u l is (sound q moves h l u g)
-  sound_guard c q false is moves h l u g = let e : [] ≡ moves = cc in absurd (same_list moves [] (l, u) (sym e) g)
+  mapped_reads : (f : Move → Move) → ((m : Move) → Does p q m → Does p t (f m)) → (moves : List Move) → Reads p q moves → Reads p t (map f moves)
+  mapped_reads f does moves h = record {
+    lacks = lacks h.lacks;
+    steps = λ m g. let from = from_map f moves m g in subst (Does p t) from.made (does from.source (h.steps from.source from.among));
+  }
 
-  sound_internal : (qs : List Proc) → AllSteps p (proc.Internal qs) (silent_to qs)
-  sound_internal qs l u g =
-      let from = from_map (λ q. (Silent, q)) qs (l, u) g in
+-- ---- form by form
+
+module _ (p : Content) (n : ℕ) (below : Proc → Outcome (List Move)) (inner : (q : Proc) → proc_depth q < n → IfOk (below q) (Reads p q)) where
+  -- what is known of a process below that has a list
+  part : (q : Proc) → proc_depth q < n → (moves : List Move) → below q ≡ Ok moves → Reads p q moves
+  part q deep moves is = if_of _ (below q) moves is (inner q deep)
+
+  only_step : (t : Proc) (m : Move) → lacking.LacksNone p t → Does p t m → Reads p t (m ∷ [])
+  only_step t m lacks does = record { lacks = lacks; steps = λ n h. elim h [ inl e ↦ subst (Does p t) e does | inr g ↦ absurd g ] }
+
+  choice_reads : (qs : List Proc) → 1 + greatest (map proc_depth qs) ≤ n → IfOk (steps_of_choice p below qs) (Reads p (proc.External qs))
+  choice_reads qs deep = if_any _ (steps_of_choice p below qs) (λ all is. record {
+    lacks = lacking.external qs (λ k q at.
+        let d = depth_at qs k q at in
+        let moves = through _ _ (below q) (there_each _ 0 qs (and_of _ (steps_of_choice p below qs) all is tt) k q at) in
+        (part q (omega (arith, d, deep)) moves.0 moves.1).lacks);
+    steps = λ m h.
+        let from = from_each _ m 0 qs (and_of _ (steps_of_choice p below qs) all is h) in
+        let q = from.source in
+        let d = depth_at qs from.place q from.at in
+        let moves = through _ _ (below q) from.has in
+        let made = from_map (λ n. in_choice qs (0 + from.place) n.0 n.1) moves.0 m moves.2 in
+        let same : from.place ≡ 0 + from.place = omega arith in
+        let at = subst (λ j. slice_get qs j ≡ Some q) same from.at in
+        subst (Does p (proc.External qs)) made.made
+        (choice_step p qs (0 + from.place) q at made.source ((part q (omega (arith, d, deep)) moves.0 moves.1).steps made.source made.among));
+  })
+
+  internal_steps : (qs : List Proc) (m : Move) → Among (silent_to qs) m → Does p (proc.Internal qs) m
+  internal_steps qs m h =
+      let from = from_map (λ q. (Silent, q)) qs m h in
       let at = placed qs from.source from.among in
-      same_step p (proc.Internal qs) Silent l from.source u from.made (internal qs at.0 from.source at.1)
+      subst (Does p (proc.Internal qs)) from.made (step.internal qs at.0 from.source at.1)
 
-  some_sound : (qs : List Proc) → IsSound p (proc.Internal qs) (some_silent_to qs)
-  some_sound [] moves h l u g = absurd cc
-  some_sound (q ∷ qs) moves h l u g = let e : silent_to (q ∷ qs) ≡ moves = cc in sound_internal (q ∷ qs) l u (same_list moves (silent_to (q ∷ qs)) (l, u) (sym e) g)
+  channel_reads : (c : ℕ) (fields : List Field) (q : Proc) (sets : Option (List (List Atom))) → sets_of (slice_get p.channels c) ≡ sets
+      → IfOk (and_then (of_channel c sets) (λ among. and_then (ways_to_fill p (sets_among among) fields [] []) (λ ways.
+      Ok (map (λ w. (Visible (event_among p among w.1), proc_with (given_by w.0) q)) ways)))) (Reads p (proc.Prefix (head.Channel c) fields q))
+  channel_reads c fields q None is = tt
+  channel_reads c fields q (Some sets) is = where_ok _ _ (ways_to_fill p sets fields [] []) (λ ways filled. record {
+    lacks = lacking.prefix c fields q sets is (fields_lack_none p sets fields [] [] (and_of _ _ ways filled tt));
+    steps = λ m h.
+        let from = from_map (λ w. (Visible (event_of p c w.1), proc_with (given_by w.0) q)) ways m h in
+        let w = from.source in
+        subst (Does p (proc.Prefix (head.Channel c) fields q)) from.made
+        (step.prefix c fields q sets w.0 w.1 is (fills_sound p sets fields [] [] w (and_of _ _ ways filled from.among)));
+  })
 
-  -- a list without members
-  none : (t : Proc) → IsSound p t (Ok [])
-  none t moves h l u g = let e : [] ≡ moves = cc in absurd (same_list moves [] (l, u) (sym e) g)
+  prefix_reads : (k : Head) (fields : List Field) (q : Proc) → IfOk (steps_of_layer p below (Proc-F.Prefix k fields q)) (Reads p (proc.Prefix k fields q))
+  prefix_reads (head.Channel c) fields q = channel_reads c fields q (sets_of (slice_get p.channels c)) refl
+  prefix_reads (head.Put (One (atom.Event e))) [] q =
+      let t = proc.Prefix (head.Put (One (atom.Event e))) [] q in
+      only_step t (Visible e, proc_with (given_by []) q) (lacking.event e q) (subst (λ r. Does p t (Visible e, r)) (sym (nothing_put q)) (step.event e q))
+  prefix_reads _ fields q = tt
 
-  sound_prefix : (k : Head) (fields : List Field) (q : Proc) → IsSound p (proc.Prefix k fields q) (steps_of_layer p below (Proc-F.Prefix k fields q))
-  sound_prefix k fields q moves h l u g =
-      let first = came (of_head p k) (λ choice. and_then (ways_to_fill p choice.sets fields q []) (λ ways. Ok (map (λ w. (Visible (choice.event w.0), w.1)) ways))) moves h in
-      let choice = first.value in
-      let second = came (ways_to_fill p choice.sets fields q []) (λ ways. Ok (map (λ w. (Visible (choice.event w.0), w.1)) ways)) moves first.after in
-      let e : map (λ w. (Visible (choice.event w.0), w.1)) second.value ≡ moves = cc in
-      let from = from_map (λ w. (Visible (choice.event w.0), w.1)) second.value (l, u) (same_list moves (map (λ w. (Visible (choice.event w.0), w.1)) second.value) (l, u) (sym e) g) in
-      same_step p (proc.Prefix k fields q) (Visible (choice.event from.source.0)) l from.source.1 u from.made
-      (prefix k fields q from.source.1 choice from.source.0 first.before (fills_sound p choice.sets fields q [] second.value second.before from.source from.among))
+  guard_reads : (c : Expr) (q : Proc) → proc_depth q < n → (b : Bool) → truth_in p c ≡ Ok b → IfOk (if b then below q else Ok []) (Reads p (proc.Guard c q))
+  guard_reads c q deep true is = whole_reads p q (proc.Guard c q) (lacking.guard_true c q is) (λ m. step.guard c q m.1 m.0 is) (below q) (inner q deep)
+  guard_reads c q deep false is = record { lacks = lacking.guard_false c q is; steps = λ m h. absurd h }
 
-  sound_call : (d : ℕ) (args : List Expr) → IsSound p (proc.Call d args) (steps_of_layer p below (Proc-F.Call d args))
-  sound_call d args moves h l u g =
-      let first = came (arguments_in p args) (λ vs. and_then (called (slice_get p.defs d) vs) (λ q. Ok ((Silent, q) ∷ []))) moves h in
-      let second = came (called (slice_get p.defs d) first.value) (λ q. Ok ((Silent, q) ∷ [])) moves first.after in
-      let e : (Silent, second.value) ∷ [] ≡ moves = cc in
-      same_step p (proc.Call d args) Silent l second.value u (only (Silent, second.value) (l, u) moves e g)
-      (call d args first.value second.value first.before second.before)
+  if_reads : (c : Expr) (q r : Proc) → proc_depth q < n → proc_depth r < n → (b : Bool) → truth_in p c ≡ Ok b
+      → IfOk (if b then below q else below r) (Reads p (proc.If c q r))
+  if_reads c q r deep other true is = whole_reads p q (proc.If c q r) (lacking.if_true c q r is) (λ m. step.if_true c q r m.1 m.0 is) (below q) (inner q deep)
+  if_reads c q r deep other false is = whole_reads p r (proc.If c q r) (lacking.if_false c q r is) (λ m. step.if_false c q r m.1 m.0 is) (below r) (inner r other)
 
-  sound_hide : (q : Proc) (s : Expr) → IsSound p (proc.Hide q s) (steps_of_layer p below (Proc-F.Hide q s))
-  sound_hide q s moves h l u g =
-      let first = came (below q) (λ inner. and_then (events_in p s) (λ hidden. Ok (map (λ m. in_hiding s hidden m.0 m.1) inner))) moves h in
-      let second = came (events_in p s) (λ hidden. Ok (map (λ m. in_hiding s hidden m.0 m.1) first.value)) moves first.after in
-      let hidden = second.value in
-      let e : map (λ m. in_hiding s hidden m.0 m.1) first.value ≡ moves = cc in
-      let from = from_map (λ m. in_hiding s hidden m.0 m.1) first.value (l, u) (same_list moves (map (λ m. in_hiding s hidden m.0 m.1) first.value) (l, u) (sym e) g) in
-      same_step p (proc.Hide q s) (in_hiding s hidden from.source.0 from.source.1).0 l (in_hiding s hidden from.source.0 from.source.1).1 u from.made
-      (hiding_step p q s hidden second.before from.source.0 from.source.1 (sound q first.value first.before from.source.0 from.source.1 from.among))
+  each_internal_reads : (x : ℕ) (s : Expr) (q : Proc) (atoms : List Atom) → set_in p s ≡ Ok atoms
+      → IfOk (some_silent_to (each_put x atoms q)) (Reads p (proc.EachInternal x s q))
+  each_internal_reads x s q [] is = tt
+  each_internal_reads x s q (a ∷ atoms) is = record {
+    lacks = lacking.each_internal x s q a atoms is;
+    steps = λ m h. step.each_internal x s q m.1 m.0 (a ∷ atoms) is (internal_steps (each_put x (a ∷ atoms) q) m h);
+  }
 
-  sound_rename : (q : Proc) (pairs : List (EventPart × EventPart)) (gens : List Gen) → IsSound p (proc.Rename q pairs gens) (steps_of_layer p below (Proc-F.Rename q pairs gens))
-  sound_rename q pairs gens moves h l u g =
-      let first = came (below q) (λ inner. and_then (renaming_in p pairs gens) (λ renamed. Ok (joined (map (λ m. in_renaming pairs gens renamed m.0 m.1) inner)))) moves h in
-      let second = came (renaming_in p pairs gens) (λ renamed. Ok (joined (map (λ m. in_renaming pairs gens renamed m.0 m.1) first.value))) moves first.after in
-      let renamed = second.value in
-      let e : joined (map (λ m. in_renaming pairs gens renamed m.0 m.1) first.value) ≡ moves = cc in
-      let from = from_joined (λ m. in_renaming pairs gens renamed m.0 m.1) first.value (l, u) (same_list moves (joined (map (λ m. in_renaming pairs gens renamed m.0 m.1) first.value)) (l, u) (sym e) g) in
-      renaming_step p q pairs gens renamed second.before from.source.0 from.source.1 (sound q first.value first.before from.source.0 from.source.1 from.among) l u from.made
+  layer_reads : (d : Proc-F Proc) → layer_depth d ≤ n → IfOk (steps_of_layer p below d) (Reads p (roll-Proc d))
+  unfolding layer_depth
+  layer_reads Proc-F.Stop deep = rw proc.rolls-Stop (record { lacks = lacking.stop; steps = λ m h. absurd h })
+  layer_reads (Proc-F.Prefix k fields q) deep = rw (proc.rolls-Prefix k fields q) (prefix_reads k fields q)
+  layer_reads (Proc-F.Guard c q) deep = rw (proc.rolls-Guard c q) (where_ok _ _ (truth_in p c) (λ b is. guard_reads c q (omega arith) b is))
+  layer_reads (Proc-F.If c q r) deep = rw (proc.rolls-If c q r) (where_ok _ _ (truth_in p c) (λ b is. if_reads c q r (omega arith) (omega arith) b is))
+  layer_reads (Proc-F.External qs) deep = rw (proc.rolls-External qs) (choice_reads qs deep)
+  layer_reads (Proc-F.Internal qs) deep = rw (proc.rolls-Internal qs) (record { lacks = lacking.internal qs; steps = internal_steps qs })
+  layer_reads (Proc-F.EachExternal x s q) deep = rw (proc.rolls-EachExternal x s q) (where_ok _ _ (set_in p s) (λ atoms is.
+      let e = put_depths x q atoms in
+      whole_reads p (proc.External (each_put x atoms q)) (proc.EachExternal x s q) (lacking.each_external x s q atoms is) (λ m. step.each_external x s q m.1 m.0 atoms is)
+      (steps_of_choice p below (each_put x atoms q)) (choice_reads (each_put x atoms q) (omega (arith, e)))))
+  layer_reads (Proc-F.EachInternal x s q) deep = rw (proc.rolls-EachInternal x s q) (where_ok _ _ (set_in p s) (each_internal_reads x s q))
+  layer_reads (Proc-F.Hide q s) deep = rw (proc.rolls-Hide q s) (where_ok _ _ (below q) (λ moves at. where_ok _ _ (events_in p s) (λ hidden is.
+      mapped_reads p q (proc.Hide q s) (λ lacks. lacking.hide q s hidden lacks is) (λ m. in_hiding s hidden m.0 m.1) (hiding_step p q s hidden is) moves (part q (omega arith) moves at))))
+  layer_reads (Proc-F.Rename q pairs gens) deep = rw (proc.rolls-Rename q pairs gens) (where_ok _ _ (below q) (λ moves at. where_ok _ _ (renaming_in p pairs gens) (λ renamed is.
+      let known = part q (omega arith) moves at in record {
+        lacks = lacking.rename q pairs gens renamed known.lacks is;
+        steps = λ m h.
+            let from = from_joined (λ n. in_renaming pairs gens renamed n.0 n.1) moves m h in
+            renaming_step p q pairs gens renamed is from.source (known.steps from.source from.among) m from.made;
+      })))
+  layer_reads (Proc-F.Call d args) deep = rw (proc.rolls-Call d args) (where_ok _ _ (arguments_in p args) (λ vs worth. where_ok _ _ (called (slice_get p.defs d) vs) (λ q is.
+      only_step (proc.Call d args) (Silent, q) (lacking.call d args vs q worth is) (step.call d args vs q worth is))))
+  layer_reads Proc-F.Skip deep = rw proc.rolls-Skip (only_step proc.Skip (Tick, proc.Ended) lacking.skip step.skip)
+  layer_reads (Proc-F.Seq q r) deep = rw (proc.rolls-Seq q r) (where_ok _ _ (below q) (λ moves at.
+      mapped_reads p q (proc.Seq q r) (lacking.sequence q r) (λ m. in_sequence r m.0 m.1) (sequence_step p q r) moves (part q (omega arith) moves at)))
+  layer_reads Proc-F.Ended deep = rw proc.rolls-Ended (record { lacks = lacking.ended; steps = λ m h. absurd h })
 
-  sound_sequence : (q r : Proc) → IsSound p (proc.Seq q r) (steps_of_layer p below (Proc-F.Seq q r))
-  sound_sequence q r moves h l u g =
-      let first = came (below q) (λ inner. Ok (map (λ m. in_sequence r m.0 m.1) inner)) moves h in
-      let e : map (λ m. in_sequence r m.0 m.1) first.value ≡ moves = cc in
-      let from = from_map (λ m. in_sequence r m.0 m.1) first.value (l, u) (same_list moves (map (λ m. in_sequence r m.0 m.1) first.value) (l, u) (sym e) g) in
-      same_step p (proc.Seq q r) (in_sequence r from.source.0 from.source.1).0 l (in_sequence r from.source.0 from.source.1).1 u from.made
-      (sequence_step p q r from.source.0 from.source.1 (sound q first.value first.before from.source.0 from.source.1 from.among))
-
-  sound_each_external : (x : ℕ) (s : Expr) (q : Proc) → IsSound p (proc.EachExternal x s q) (steps_of_layer p below (Proc-F.EachExternal x s q))
-  sound_each_external x s q moves h l u g =
-      let first = came (set_in p s) (λ atoms. steps_of_choice p below (each_put x atoms q)) moves h in
-      each_external x s q u l first.value first.before (sound_choice (each_put x first.value q) moves first.after l u g)
-
-  sound_each_internal : (x : ℕ) (s : Expr) (q : Proc) → IsSound p (proc.EachInternal x s q) (steps_of_layer p below (Proc-F.EachInternal x s q))
-  sound_each_internal x s q moves h l u g =
-      let first = came (set_in p s) (λ atoms. some_silent_to (each_put x atoms q)) moves h in
-      each_internal x s q u l first.value first.before (some_sound (each_put x first.value q) moves first.after l u g)
-
-  abbrev SoundLayer : Proc-F Proc → Proc → Type 0
-  SoundLayer d t = IsSound p t (steps_of_layer p below d)
-
-  sound_layer : (d : Proc-F Proc) → SoundLayer d (roll-Proc d)
-  sound_layer Proc-F.Stop = none (roll-Proc Proc-F.Stop)
-  sound_layer (Proc-F.Prefix k fields q) = subst (SoundLayer (Proc-F.Prefix k fields q)) (sym (proc.rolls-Prefix k fields q)) (sound_prefix k fields q)
-  sound_layer (Proc-F.Guard c q) = subst (SoundLayer (Proc-F.Guard c q)) (sym (proc.rolls-Guard c q))
-      (λ moves h. let first = came (truth_in p c) (λ b. if b then below q else Ok []) moves h in sound_guard c q first.value first.before moves first.after)
-  sound_layer (Proc-F.If c q r) = subst (SoundLayer (Proc-F.If c q r)) (sym (proc.rolls-If c q r))
-      (λ moves h. let first = came (truth_in p c) (λ b. if b then below q else below r) moves h in sound_if c q r first.value first.before moves first.after)
-  sound_layer (Proc-F.External qs) = subst (SoundLayer (Proc-F.External qs)) (sym (proc.rolls-External qs)) (sound_choice qs)
-  sound_layer (Proc-F.Internal qs) = subst (SoundLayer (Proc-F.Internal qs)) (sym (proc.rolls-Internal qs))
-      (λ moves h l u g. let e : silent_to qs ≡ moves = cc in sound_internal qs l u (same_list moves (silent_to qs) (l, u) (sym e) g))
-  sound_layer (Proc-F.EachExternal x s q) = subst (SoundLayer (Proc-F.EachExternal x s q)) (sym (proc.rolls-EachExternal x s q)) (sound_each_external x s q)
-  sound_layer (Proc-F.EachInternal x s q) = subst (SoundLayer (Proc-F.EachInternal x s q)) (sym (proc.rolls-EachInternal x s q)) (sound_each_internal x s q)
-  sound_layer (Proc-F.Hide q s) = subst (SoundLayer (Proc-F.Hide q s)) (sym (proc.rolls-Hide q s)) (sound_hide q s)
-  sound_layer (Proc-F.Rename q pairs gens) = subst (SoundLayer (Proc-F.Rename q pairs gens)) (sym (proc.rolls-Rename q pairs gens)) (sound_rename q pairs gens)
-  sound_layer (Proc-F.Call d args) = subst (SoundLayer (Proc-F.Call d args)) (sym (proc.rolls-Call d args)) (sound_call d args)
-  sound_layer Proc-F.Skip = subst (SoundLayer Proc-F.Skip) (sym proc.rolls-Skip)
-      (λ moves h l u g. let e : (Tick, proc.Ended) ∷ [] ≡ moves = cc in same_step p proc.Skip Tick l proc.Ended u (only (Tick, proc.Ended) (l, u) moves e g) skip)
-  sound_layer (Proc-F.Seq q r) = subst (SoundLayer (Proc-F.Seq q r)) (sym (proc.rolls-Seq q r)) (sound_sequence q r)
-  sound_layer Proc-F.Ended = none (roll-Proc Proc-F.Ended)
-
-pub sound_within : (p : Content) (n : ℕ) (t : Proc) → IsSound p t (steps_within p n t)
+within_reads : (p : Content) (n : ℕ) (t : Proc) → proc_depth t ≤ n → IfOk (steps_within p n t) (Reads p t)
 unfolding steps_within
-sound_within p zero t moves h l u g = let e : [] ≡ moves = cc in absurd (same_list moves [] (l, u) (sym e) g)
-sound_within p (suc n) t moves h l u g =
-    subst (λ z. IsSound p z (steps_of_layer p (steps_within p n) (out-Proc t))) (roll-out-Proc t) (sound_layer p (steps_within p n) (sound_within p n) (out-Proc t)) moves h l u g
+within_reads p zero t deep = absurd (no_depth t deep)
+within_reads p (suc n) t deep =
+    let e = depth_of_out t in
+    subst (λ z. IfOk (steps_of_layer p (steps_within p n) (out-Proc t)) (Reads p z)) (roll-out-Proc t)
+    (layer_reads p (layer_depth (out-Proc t)) (steps_within p n) (λ q lt. within_reads p n q (omega arith)) (out-Proc t) (omega arith))
+
+-- where the process t has the list
+pub reads : (p : Content) (t : Proc) → IfOk (steps_of p t) (Reads p t)
+unfolding steps_of
+reads p t = within_reads p (proc_depth t) t (omega arith)

@@ -11,6 +11,7 @@ pub use label::Label;
 
 /// A process has a list of steps exactly where it lacks no value, and the list is then exactly its steps. It is that of the process's layer over the
 /// lists of the processes below.
+#[tactic(auto, using(crate::proofs::Depths::of_layer, crate::proofs::Listed::lists_are, crate::proofs::Listed::lists_are_there))]
 pub fn lists_are_steps()
     ensures there { ListsAreThere }
     ensures steps { ListsAreSteps }

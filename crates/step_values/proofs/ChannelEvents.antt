@@ -1,7 +1,8 @@
 -- The events of a channel, by their numbers from the channel's first on.
-use Rattle.std.proofs.Common.{◌≡◌, ℕ, zero, suc, ◌+◌, ◌<◌, ◌^◌, get_or, Some, Ok, List, [], slice_get, ap, sym, ◌∙◌, arith}
+use Rattle.std.proofs.Common.{◌≡◌, ℕ, zero, suc, ◌+◌, ◌<◌, ◌^◌, get_or, Some, Ok, List, [], slice_get, ap, sym, subst, ◌∙◌, arith}
+use Rattle.std.specs.Prelude.{Result}
 use Rattle.csp_program.specs.EventNumber.{row_count}
-use Rattle.csp_program.specs.EventTable.{events_with, rows}
+use Rattle.csp_program.specs.EventTable.{rows}
 use Rattle.csp_program.specs.InOrder.{IsInOrder}
 use Rattle.csp_program.specs.Outcome.{Outcome}
 use Rattle.csp_program.specs.Value.{sets_of}
@@ -11,24 +12,17 @@ use Rattle.csp_atoms.specs.declared.value.Value.{Value}
 use Rattle.csp_atoms.specs.declared.value.Value.TheVariants.{One}
 use Rattle.csp_program.specs.declared.programs.Channel.{Channel}
 use Rattle.csp_program.specs.declared.programs.Content.{Content}
-use Rattle.process_steps.specs.Prefix.{Choice, of_channel, of_value}
-use Rattle.step_values.specs.Starts.{IsStart}
+use Rattle.process_steps.specs.Prefix.{event_of}
+use Rattle.process_steps.specs.Ways.{Among, channel, event, of_channel, of_value}
+use Rattle.step_values.specs.Starts.{GivesStart, IsStart}
 use Rattle.step_values.specs.declared.heads.Start.{Start}
+use Rattle.value_operators.specs.declared.fault.EvalFault.{EvalFault}
 use Rattle.value_laws.proofs.EventPlaces.{event_of_row, number_fits}
 use Rattle.value_laws.proofs.Fits.{program_fits}
 use Rattle.value_laws.specs.Numbers.{first_of, front_count, front_number}
 
-abbrev pub choice_of : Content → ℕ → List (List Atom) → Choice
-choice_of p c sets = record { sets = sets; event = λ row. get_or (events_with p.channels c row) 0 0 }
-
-abbrev Chosen : Outcome Choice → Choice → Type 0
-Chosen o choice = o ≡ Ok choice
-
-pub channel_is : (p : Content) (c : ℕ) (sets : List (List Atom)) → sets_of (slice_get p.channels c) ≡ Some sets → Chosen (of_channel p.channels c (sets_of (slice_get p.channels c))) (choice_of p c sets)
-channel_is p c sets has = ap (of_channel p.channels c) has
-
-pub channel_event : (p : Content) → IsInOrder p → (c : ℕ) (sets : List (List Atom)) → sets_of (slice_get p.channels c) ≡ Some sets → (i : ℕ) (row : List Atom) → slice_get (rows sets) i ≡ Some row
-    → get_or (events_with p.channels c row) 0 0 ≡ first_of (slice_get p.channels c) + i
+channel_event : (p : Content) → IsInOrder p → (c : ℕ) (sets : List (List Atom)) → sets_of (slice_get p.channels c) ≡ Some sets → (i : ℕ) (row : List Atom) → slice_get (rows sets) i ≡ Some row
+    → event_of p c row ≡ first_of (slice_get p.channels c) + i
 channel_event p ordered c sets has i row at = ap (λ es. get_or es 0 0) (event_of_row p.channels (program_fits p ordered) c sets has i row at)
 
 -- its events have numbers of 32 bits
@@ -44,23 +38,23 @@ events_fit p ordered c sets has =
     omega (arith, within, count, few)
 
 -- a head of a channel, and a value in place of a head, as they are kept
-abbrev pub Starts : Outcome Choice → Start → Type 0
-Starts o start = (choice : Choice) × (o ≡ Ok choice) × IsStart start choice
+abbrev pub Starts : Content → Outcome Among → Start → Type 0
+Starts p o start = (among : Among) × (o ≡ Ok among) × IsStart p start among
 
-pub channel_start : (p : Content) → IsInOrder p → (c : ℕ) (channel : Channel) (sets : List (List Atom)) → slice_get p.channels c ≡ Some channel → channel.fields ≡ Some sets
-    → (start : Start) → start.first ≡ channel.first → start.sets.now ≡ sets → Starts (of_channel p.channels c (sets_of (slice_get p.channels c))) start
-channel_start p ordered c channel sets at fields start first same_sets =
+pub channel_start : (p : Content) → IsInOrder p → (c : ℕ) (kept : Channel) (sets : List (List Atom)) → slice_get p.channels c ≡ Some kept → kept.fields ≡ Some sets
+    → (start : Start) → start.first ≡ kept.first → start.sets.now ≡ sets → Starts p (of_channel c (sets_of (slice_get p.channels c))) start
+channel_start p ordered c kept sets at fields start first same_sets =
     let has : sets_of (slice_get p.channels c) ≡ Some sets = ap sets_of at ∙ fields in
-    let kept : first_of (slice_get p.channels c) ≡ start.first = ap first_of at ∙ sym first in (
-      choice_of p c sets,
-      channel_is p c sets has,
+    let same_first : first_of (slice_get p.channels c) ≡ start.first = ap first_of at ∙ sym first in (
+      channel c sets,
+      ap (of_channel c) has,
       record {
         sets = sym same_sets;
-        event = λ i row there. channel_event p ordered c sets has i row (ap (λ (s : List (List Atom)). slice_get (rows s) i) (sym same_sets) ∙ there) ∙ ap (λ (n : ℕ). n + i) kept;
+        event = λ i row there. channel_event p ordered c sets has i row (ap (λ (s : List (List Atom)). slice_get (rows s) i) (sym same_sets) ∙ there) ∙ ap (λ (n : ℕ). n + i) same_first;
         few =
             let fits = events_fit p ordered c sets has in
             let count : row_count start.sets.now ≡ row_count sets = ap row_count same_sets in
-            omega (arith, fits, kept, count);
+            omega (arith, fits, same_first, count);
       },
     )
 
@@ -68,13 +62,16 @@ only_row : (e i : ℕ) (row : List Atom) → slice_get (rows []) i ≡ Some row 
 only_row e zero row h = omega arith
 only_row e (suc i) row h = absurd (cc)
 
-pub value_start : (v : Value) (e : ℕ) → v ≡ One (atom.Event e) → (start : Start) → start.first ≡ e → e < 2 ^ 32 → start.sets.now ≡ [] → Starts (of_value v) start
-value_start v e is start first few same_sets = (
-  record { sets = []; event = λ row. e },
-  ap of_value is,
+pub event_start : (p : Content) (a : Atom) (e : ℕ) → a ≡ atom.Event e → (start : Start) → start.first ≡ e → start.first < 2 ^ 32 → start.sets.now ≡ [] → Starts p (of_value (One a)) start
+event_start p a e is start first few same_sets = (
+  event e,
+  ap (λ b. of_value (One b)) is,
   record {
     sets = sym same_sets;
     event = λ i row there. only_row e i row (ap (λ (s : List (List Atom)). slice_get (rows s) i) (sym same_sets) ∙ there) ∙ ap (λ (n : ℕ). n + i) (sym first);
     few = let count : row_count start.sets.now ≡ 1 = ap row_count same_sets in omega (arith, first, few, count);
   },
 )
+
+pub same_start : (v : Value) (a : Atom) (r : Result Start EvalFault) → v ≡ One a → ((p : Content) → GivesStart p r (of_value (One a))) → (p : Content) → GivesStart p r (of_value v)
+same_start v a r is h p = subst (λ w. GivesStart p r (of_value w)) (sym is) (h p)

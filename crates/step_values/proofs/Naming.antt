@@ -1,9 +1,9 @@
 -- The new events that a renaming names for an old one, pair by pair.
-use Rattle.std.proofs.Common.{◌≡◌, ℕ, ◌+◌, ◌<◌, Bool, true, false, cond, Ok, Err, List, [], ◌∷◌, ◌++◌, map, length, get_or, take, refl, ap, sym, ◌∙◌}
+use Rattle.std.proofs.Common.{◌≡◌, ℕ, ◌+◌, ◌<◌, Bool, true, false, cond, List, [], ◌∷◌, ◌++◌, map, length, get_or, take, refl, ap, sym, ◌∙◌}
 use Rattle.std.proofs.lemmas.List.Elements.{filter_more}
 use Rattle.std.specs.List.{filter}
-use Rattle.std.specs.Prelude.{nat_eq, IfOk, Result}
-use Rattle.process_steps.specs.Renaming.{Renamed, or_itself}
+use Rattle.std.specs.Prelude.{nat_eq}
+use Rattle.process_steps.specs.Renaming.{Renamed}
 use Rattle.std.proofs.lemmas.List.{map-append}
 
 new_side : (b : Bool) (x : Renamed) → map (λ (r : Renamed). r.1) (cond b (x ∷ []) []) ≡ cond b (x.1 ∷ []) []
@@ -17,15 +17,3 @@ more_named e xs i x lt is =
     let before = filter (λ (r : Renamed). nat_eq r.0 e) (take i xs) in
     ap (map (λ (r : Renamed). r.1)) (filter_more (λ (r : Renamed). nat_eq r.0 e) xs i x lt ∙ ap (λ (y : Renamed). before ++ cond (nat_eq y.0 e) (y ∷ []) []) (sym is)) ∙
     (map-append (λ (r : Renamed). r.1) before (cond (nat_eq x.0 e) (x ∷ []) []) ∙ ap (λ ys. map (λ (r : Renamed). r.1) before ++ ys) (new_side (nat_eq x.0 e) x))
-
-pub or_some : (e : ℕ) (xs ys : List ℕ) → ys ≡ xs → (ys ≡ [] → ⊥) → ys ≡ or_itself e xs
-or_some e [] ys same some = absurd (some same)
-or_some e (x ∷ xs) ys same some = same
-
-pub or_none : (e : ℕ) (xs ys zs : List ℕ) → ys ≡ xs → ys ≡ [] → zs ≡ e ∷ [] → zs ≡ or_itself e xs
-or_none e [] ys zs same none is = is
-or_none e (x ∷ xs) ys zs same none is = let h : [] ≡ x ∷ xs = sym none ∙ same in cc
-
-pub none_of : {E : Type 0} (e : ℕ) (xs ys : List ℕ) (r : Result (List ℕ) E) → ys ≡ xs → ys ≡ [] → IfOk r (λ made. made ≡ e ∷ []) → IfOk r (λ made. made ≡ or_itself e xs)
-none_of e xs ys (Ok zs) same none is = or_none e xs ys zs same none is
-none_of e xs ys (Err f) same none is = is

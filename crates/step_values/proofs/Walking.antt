@@ -19,44 +19,27 @@ use Rattle.value_operators.specs.Gives.{Gives}
 use Rattle.value_operators.specs.declared.fault.EvalFault.{EvalFault}
 use Rattle.value_operators.specs.declared.fault.EvalFault.TheVariants as fault
 
--- a fault of a part is a fault of the generators that it stands in
-tally_gone : {A : Type 0} (f : EvalFault) (part : Outcome A) (whole : Outcome Gathering) → Gives {A = A} (Err f) part → ((k : ValueKind) → part ≡ Err k → whole ≡ Err k) → GivesTally (Err f) whole
-tally_gone fault.NoMemory part whole h passes = tt
-tally_gone (fault.Value kind) part whole h passes = passes kind h
-
-pub part_passed : {A : Type 0} (r : Result Tally EvalFault) (f : EvalFault) (part : Outcome A) (whole : Outcome Gathering)
-    → IsErrAnd r (λ y. y ≡ f) → Gives {A = A} (Err f) part → ((k : ValueKind) → part ≡ Err k → whole ≡ Err k) → GivesTally r whole
-part_passed (Ok x) f part whole is h passes = absurd is
-part_passed (Err y) f part whole is h passes = rw is (tally_gone f part whole h passes)
-
-walk_gone : (f : EvalFault) (part whole : Outcome Gathering) → GivesTally (Err f) part → ((k : ValueKind) → part ≡ Err k → whole ≡ Err k) → GivesTally (Err f) whole
-walk_gone fault.NoMemory part whole h passes = tt
-walk_gone (fault.Value kind) part whole h passes = passes kind h
+-- a fault that is passed on: of a part, as P says, it is one of the whole, as Q says
+fault_passed : {A : Type 0} (P : EvalFault → Type 0) (Q : Result A EvalFault → Type 0) (r : Result A EvalFault) (f : EvalFault) → IsErrAnd r (λ y. y ≡ f) → P f
+    → Q (Err fault.NoMemory) → ((k : ValueKind) → P (fault.Value k) → Q (Err (fault.Value k))) → Q r
+fault_passed P Q (Ok x) f is h lacks passes = absurd is
+fault_passed P Q (Err y) f is h lacks passes = rw is (of_fault f h)
+  where
+    of_fault : (g : EvalFault) → P g → Q (Err g)
+    of_fault fault.NoMemory h = lacks
+    of_fault (fault.Value k) h = passes k h
 
 pub walk_passed : (r : Result Tally EvalFault) (f : EvalFault) (part whole : Outcome Gathering)
     → IsErrAnd r (λ y. y ≡ f) → GivesTally (Err f) part → ((k : ValueKind) → part ≡ Err k → whole ≡ Err k) → GivesTally r whole
-walk_passed (Ok x) f part whole is h passes = absurd is
-walk_passed (Err y) f part whole is h passes = rw is (walk_gone f part whole h passes)
-
--- a fault of a walk is a fault of what is gathered
-binding_gone : (f : EvalFault) (before left : Course) (params : Env) (around : List (ℕ × Atom)) (walk : Walk) (whole : Outcome Gathering) → GivesBinding (Err f) before left params around walk
-    → ((k : ValueKind) → skipped before ≡ faulty k → whole ≡ Err k) → GivesTally (Err f) whole
-binding_gone fault.NoMemory before left params around walk whole h passes = tt
-binding_gone (fault.Value kind) before left params around walk whole h passes = passes kind h
+walk_passed r f part whole is h passes = fault_passed (λ g. GivesTally (Err g) part) (λ q. GivesTally q whole) r f is h tt passes
 
 pub binding_passed : (r : Result Tally EvalFault) (f : EvalFault) (before left : Course) (params : Env) (around : List (ℕ × Atom)) (walk : Walk) (whole : Outcome Gathering)
     → IsErrAnd r (λ y. y ≡ f) → GivesBinding (Err f) before left params around walk → ((k : ValueKind) → skipped before ≡ faulty k → whole ≡ Err k) → GivesTally r whole
-binding_passed (Ok x) f before left params around walk whole is h passes = absurd is
-binding_passed (Err y) f before left params around walk whole is h passes = rw is (binding_gone f before left params around walk whole h passes)
+binding_passed r f before left params around walk whole is h passes = fault_passed (λ g. GivesBinding (Err g) before left params around walk) (λ q. GivesTally q whole) r f is h tt passes
 
 pub value_of_tally : {A : Type 0} (r : Result A EvalFault) (f : EvalFault) (part : Outcome Gathering) (whole : Outcome A) → IsErrAnd r (λ y. y ≡ f) → GivesTally (Err f) part
     → ((k : ValueKind) → part ≡ Err k → whole ≡ Err k) → Gives r whole
-value_of_tally (Ok x) f part whole is h passes = absurd is
-value_of_tally {A = A} (Err y) f part whole is h passes = rw is (gone f h)
-  where
-    gone : (g : EvalFault) → GivesTally (Err g) part → Gives {A = A} (Err g) whole
-    gone fault.NoMemory k = tt
-    gone (fault.Value kind) k = passes kind k
+value_of_tally r f part whole is h passes = fault_passed (λ g. GivesTally (Err g) part) (λ q. Gives q whole) r f is h tt passes
 
 -- a walk that begins has the whole renaming before it
 pub walk_begun : (p : Content) (pairs : List (EventPart × EventPart)) (gens : List Gen) (walk : Walk) (state : Gathering) → walk ≡ begun []

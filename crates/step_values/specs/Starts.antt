@@ -3,19 +3,20 @@ use Rattle.std.specs.Prelude.{◌≡◌, ℕ, ◌+◌, ◌≤◌, ◌^◌, Resul
 use Rattle.csp_atoms.specs.declared.atom.Atom.{Atom}
 use Rattle.csp_program.specs.EventNumber.{row_count}
 use Rattle.csp_program.specs.EventTable.{rows}
-use Rattle.process_steps.specs.Prefix.{Choice}
 use Rattle.csp_program.specs.Outcome.{Outcome}
+use Rattle.csp_program.specs.declared.programs.Content.{Content}
+use Rattle.process_steps.specs.Ways.{Among, event_among, sets_among}
 use Rattle.step_values.specs.declared.heads.Start.{Start}
 use Rattle.value_operators.specs.declared.fault.EvalFault.{EvalFault}
 use Rattle.value_operators.specs.declared.fault.EvalFault.TheVariants as fault
 
--- the event of each choice of values is that of its place among all choices, counted from the first event on; each has a number of 32 bits
-pub record IsStart (start : Start) (choice : Choice) : Type 0 where
-  pub sets : choice.sets ≡ start.sets.now
-  pub event : (i : ℕ) (row : List Atom) → slice_get (rows start.sets.now) i ≡ Some row → choice.event row ≡ start.first + i
+-- the event of each row of values is that of its place among all rows, counted from the first event on; each has a number of 32 bits
+pub record IsStart (p : Content) (start : Start) (among : Among) : Type 0 where
+  pub sets : sets_among among ≡ start.sets.now
+  pub event : (i : ℕ) (row : List Atom) → slice_get (rows start.sets.now) i ≡ Some row → event_among p among row ≡ start.first + i
   pub few : start.first + row_count start.sets.now ≤ 2 ^ 32
 
-abbrev pub GivesStart : Result Start EvalFault → Outcome Choice → Type 0
-GivesStart (Ok start) outcome = (choice : Choice) × (outcome ≡ Ok choice) × IsStart start choice
-GivesStart (Err fault.NoMemory) outcome = Unit {0}
-GivesStart (Err (fault.Value kind)) outcome = outcome ≡ Err kind
+abbrev pub GivesStart : Content → Result Start EvalFault → Outcome Among → Type 0
+GivesStart p (Ok start) outcome = (among : Among) × (outcome ≡ Ok among) × IsStart p start among
+GivesStart p (Err fault.NoMemory) outcome = Unit {0}
+GivesStart p (Err (fault.Value kind)) outcome = outcome ≡ Err kind

@@ -1,18 +1,23 @@
 -- What a renaming comes to as it is evaluated, for the contracts of the functions that do so.
-use Rattle.std.specs.Prelude.{◌≡◌, ◌++◌, ℕ, ◌+◌, ◌*◌, Result, Ok, Err, List, [], ◌∷◌, map, drop, length}
+use Rattle.std.specs.Prelude.{◌≡◌, ◌++◌, ℕ, Result, Ok, Err, List, [], ◌∷◌, map, drop, length, slice_get, take}
 use Rattle.csp_program.specs.Outcome.{Outcome, and_then}
-use Rattle.csp_program.specs.Value.{Env, turn, uses_within, walked}
-use Rattle.value_laws.specs.Numbers.{field_place}
+use Rattle.csp_program.specs.Value.{Env, sets_of, turn, uses_within, walked}
+use Rattle.csp_values.specs.Worth.{front_worth, worths}
+use Rattle.process_steps.specs.Needed.{each_joined}
 use Rattle.process_steps.specs.Renaming.{Gathering, Renamed, binding_renamed, event_with}
 use Rattle.csp_atoms.specs.declared.atom.Atom.{Atom}
+use Rattle.csp_atoms.specs.declared.atom.Atom.TheVariants as atom
 use Rattle.csp_atoms.specs.declared.value.Value.{Value}
 use Rattle.csp_atoms.specs.declared.value.Value.TheVariants.{One}
-use Rattle.csp_program.specs.declared.expressions.EventPart.{EventPart}
+use Rattle.csp_program.specs.declared.expressions.EventPart.{EventPart, out-EventPart}
+use Rattle.csp_program.specs.declared.expressions.Expr.{Expr}
+use Rattle.csp_program.specs.declared.expressions.Expr.TheVariants as expr
 use Rattle.csp_program.specs.declared.expressions.Gen.{Gen}
-use Rattle.csp_program.specs.declared.kinds.ValueKind.TheVariants.{OutsideChannel}
+use Rattle.csp_program.specs.declared.kinds.ValueKind.TheVariants.{Kind}
 use Rattle.csp_program.specs.declared.programs.Content.{Content}
 use Rattle.csp_program.specs.declared.programs.EventInfo.{EventInfo}
 use Rattle.step_values.specs.declared.renaming.Tally.{Tally}
+use Rattle.value_operators.specs.Forms.{count_with}
 use Rattle.value_operators.specs.declared.fault.EvalFault.{EvalFault}
 use Rattle.value_operators.specs.declared.fault.EvalFault.TheVariants as fault
 
@@ -29,16 +34,31 @@ GivesTally (Err (fault.Value kind)) outcome = outcome ≡ Err kind
 unfoldable pub renamed_walk : Content → List (EventPart × EventPart) → List Gen → Env → Gathering → Outcome Gathering
 renamed_walk p pairs gens env state = walked (map (turn (uses_within p (length p.defs)) p.channels) gens) (binding_renamed p pairs) env state
 
+-- an event is needed
+abbrev pub as_event : Value → Outcome ℕ
+as_event (One (atom.Event e)) = Ok e
+as_event _ = Err Kind
+
 -- the event of a channel that has these values as its first fields and these atoms after them
 abbrev pub new_event : Content → ℕ → List Value → List Atom → Outcome ℕ
 new_event p c vs atoms = event_with p.channels c (vs ++ map (λ a. One a) atoms)
+
+-- the values as expressions
+abbrev pub literals : List Value → List Expr
+literals vs = map (λ v. expr.Lit v) vs
 
 -- an event with its new one, which comes from the values of its fields but for the first ones, so many as are given
 abbrev pub renamed_as : (List Atom → Outcome ℕ) → ℕ → ℕ → EventInfo → Outcome (List Renamed)
 renamed_as new given e info = and_then (new (drop given info.fields)) (λ d. Ok ((e, d) ∷ []))
 
--- the number of values among all choices of values of these sets, each counted so many times, after others with a number
-abbrev pub place_after : List Value → List (List Atom) → ℕ → ℕ → Outcome ℕ
-place_after [] sets each number = Ok number
-place_after (v ∷ vs) [] each number = Err OutsideChannel
-place_after (v ∷ vs) (set ∷ sets) each number = and_then (field_place set v) (λ place. place_after vs sets each (number * length set + place * each))
+-- what is renamed, with what a pair renames, as it is walked: the front of the old side, the values of the new side, then each event of the old side
+unfoldable pub pair_walked : Content → Env → EventPart × EventPart → List Renamed → Outcome (List Renamed)
+pair_walked p env pair renamed =
+    let old = out-EventPart pair.0 in
+    let new = out-EventPart pair.1 in
+    let given = length old.fields in
+    let count = count_with (sets_of (slice_get p.channels old.channel)) given in
+    and_then (front_worth p (length p.defs) env old.channel old.fields) (λ first.
+    and_then (worths p (length p.defs) env new.fields) (λ vs.
+    and_then (each_joined (renamed_as (new_event p new.channel vs) given) first (take count (drop first p.events))) (λ more.
+    Ok (renamed ++ more))))

@@ -1,8 +1,9 @@
 //! The events that the head of a prefix stands for.
 
 ghost use Rattle.std.specs.Prelude.{◌≡◌, ◌<◌, ◌^◌, []};
-ghost use Rattle.csp_atoms.specs.declared.value.Value.TheVariants as value;
-ghost use Rattle.process_steps.specs.Prefix as meant;
+ghost use Rattle.csp_atoms.specs.declared.value.Value.TheVariants.{One};
+ghost use Rattle.csp_program.specs.declared.programs.Content.{Content};
+ghost use Rattle.process_steps.specs.Ways.{of_head, of_value};
 ghost use Rattle.step_values.specs.Starts.{GivesStart};
 
 use csp_atoms::{Atom, AtomSet, Value};
@@ -25,7 +26,7 @@ pub struct Start<'a> {
 
 // The events of a channel.
 fn of_channel(program: &Program, channel: u32) -> Result<Start<'_>, EvalFault>
-    ensures { GivesStart result (meant.of_head program.now (Head.Channel channel)) }
+    ensures { GivesStart program.now result (of_head program.now (Head.Channel channel)) }
 {
     match program.content().channels.get(channel as usize) {
         Some(channel) => match &channel.fields {
@@ -53,7 +54,7 @@ fn of_event<'a>(event: Event) -> Start<'a>
 
 // The event that an atom is.
 fn of_atom<'a>(atom: Atom) -> Result<Start<'a>, EvalFault>
-    ensures { GivesStart result (meant.of_value (value.One atom)) }
+    ensures { (p : Content) → GivesStart p result (of_value (One atom)) }
 {
     match atom {
         Atom::Event(event) => Ok(of_event(event)),
@@ -62,8 +63,9 @@ fn of_atom<'a>(atom: Atom) -> Result<Start<'a>, EvalFault>
 }
 
 // The event that a value is.
+#[tactic(auto, using(crate::proofs::ChannelEvents::same_start))]
 fn of_value<'a>(value: &Value) -> Result<Start<'a>, EvalFault>
-    ensures { GivesStart result (meant.of_value value.now) }
+    ensures { (p : Content) → GivesStart p result (of_value value.now) }
 {
     match value {
         Value::One(atom) => of_atom(*atom),
@@ -74,7 +76,7 @@ fn of_value<'a>(value: &Value) -> Result<Start<'a>, EvalFault>
 /// The events that a head stands for. Its fault has the kind `Kind`: there is no such channel, or one without field sets, or the head is a bound name
 /// or a value that is no event.
 pub fn of_head<'a>(program: &'a Program, head: &Head) -> Result<Start<'a>, EvalFault>
-    ensures { GivesStart result (meant.of_head program.now head.now) }
+    ensures { GivesStart program.now result (of_head program.now head.now) }
 {
     match head {
         Head::Channel(channel) => of_channel(program, *channel),

@@ -98,9 +98,11 @@ pub fn images_of(alloc: Global, images: &Images, event: Event) -> Result<Items<E
     ensures { IfOk result (λ made. made ≡ becomes images.now event) }
 {
     let events = events_for(images, event);
-    if events.is_empty() {
-        return only(alloc, event);
+    match events.split_first() {
+        None => only(alloc, event),
+        Some(_) => {
+            let made = Items::from_slice(alloc, events)?;
+            Ok(made)
+        }
     }
-    let made = Items::from_slice(alloc, events)?;
-    Ok(made)
 }

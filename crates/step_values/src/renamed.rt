@@ -2,31 +2,29 @@
 
 ghost use Rattle.std.specs.Prelude.{◌≡◌, ◌+◌, ◌<◌, ◌≤◌, ◌^◌, ◌++◌, [], drop, take, length, map, IfOk, Ok};
 ghost use Rattle.csp_atoms.specs.declared.value.Value.TheVariants as value;
+ghost use Rattle.csp_program.specs.InOrder.{IsInOrder};
 ghost use Rattle.csp_program.specs.Outcome.{and_then};
+ghost use Rattle.csp_program.specs.Value.{value_of};
+ghost use Rattle.csp_program.specs.declared.expressions.Expr.TheVariants as expression;
 ghost use Rattle.csp_program.specs.declared.expressions.EventPart.{out-EventPart};
 ghost use Rattle.csp_values.specs.Worth.{front_worth};
 ghost use Rattle.process_steps.specs.Needed.{each_joined};
 ghost use Rattle.process_steps.specs.Renaming as meant;
 ghost use Rattle.value_operators.specs.Env.{with_bound};
-ghost use Rattle.value_operators.specs.Forms as form;
 ghost use Rattle.value_operators.specs.Gives.{Gives};
-ghost use Rattle.step_values.specs.Walked.{new_event, place_after, renamed_as};
+ghost use Rattle.step_values.specs.Walked.{as_event, literals, new_event, pair_walked, renamed_as};
 
 use containers::Items;
-use csp_atoms::{Atom, AtomSet, Value};
+use csp_atoms::{Atom, Value};
 use csp_base::{Event, NoMemory};
 use csp_program::copies::copy_value;
-use csp_program::{EventInfo, EventPart, Program, ValueKind};
-use csp_values::{EvalFault, eval_all_under, front_under};
+use csp_program::{Channel, EventInfo, EventPart, Expr, Program, ValueKind};
+use csp_values::{EvalFault, eval, eval_all_under, front_under};
 use std::alloc::Global;
-use value_operators::numbers::{count_with, each_of, event_at, field_sets, place_in, with_field};
+use value_operators::numbers::count_with;
 
 const KIND: EvalFault = EvalFault::Value {
     kind: ValueKind::Kind,
-};
-
-const OUTSIDE: EvalFault = EvalFault::Value {
-    kind: ValueKind::OutsideChannel,
 };
 
 // What the new side of a pair comes to.
@@ -40,10 +38,19 @@ struct NewSide<'a> {
     given: usize,
 }
 
-// The events from one on, so many where there are as many.
-fn events_from(events: &[EventInfo], first: u32, count: u32) -> &[EventInfo]
-    ensures { result.now ≡ take count (drop first events.now) }
+/// The channels of a program, which is in order.
+pub(crate) fn channels_of(program: &Program) -> &[Channel]
+    ensures channels { result.now ≡ program.now.channels }
+    ensures in_order { IsInOrder program.now }
 {
+    program.content().channels.as_slice()
+}
+
+// The events of a program from one on, so many where there are as many.
+fn events_from(program: &Program, first: u32, count: u32) -> &[EventInfo]
+    ensures { result.now ≡ take count (drop first program.now.events) }
+{
+    let events = program.content().events.as_slice();
     if first as usize >= events.len() {
         return &[];
     }
@@ -64,64 +71,44 @@ fn fields_from(fields: &[Atom], given: usize) -> &[Atom]
     &fields[given..]
 }
 
-// The values, in memory of their own.
-fn copy_values(alloc: Global, values: &[Value]) -> Result<Items<Value>, NoMemory>
-    ensures { IfOk result (λ made. made ≡ values.now) }
+// The values as expressions.
+fn literals(alloc: Global, values: &[Value]) -> Result<Items<Expr>, NoMemory>
+    ensures { IfOk result (λ made. made ≡ literals values.now) }
 {
     let mut made = Items::new(alloc);
     for value in values {
-        made.push_made(copy_value(alloc, value))?;
+        made.push_made(copy_value(alloc, value).map(Expr::Lit))?;
     }
     Ok(made)
 }
 
-// The values, and after them the atoms.
-fn values_then(alloc: Global, values: &[Value], atoms: &[Atom]) -> Result<Items<Value>, NoMemory>
-    ensures { IfOk result (λ made. made ≡ values.now ++ map (λ a. value.One a) atoms.now) }
+// The values as expressions, and after them the atoms.
+fn literals_then(alloc: Global, values: &[Value], atoms: &[Atom]) -> Result<Items<Expr>, NoMemory>
+    ensures { IfOk result (λ made. made ≡ literals values.now ++ map (λ a. expression.Lit (value.One a)) atoms.now) }
 {
-    let mut made = copy_values(alloc, values)?;
+    let mut made = literals(alloc, values)?;
     for atom in atoms {
-        made.push(Value::One(*atom))?;
+        made.push(Expr::Lit(Value::One(*atom)))?;
     }
     Ok(made)
 }
 
-// The number of the fields with these values among all choices of values of these sets, each counted `each` times. Counting stops at the end of 64 bits.
-fn place_with(values: &[Value], sets: &[AtomSet], each: u64) -> Result<u64, EvalFault>
-    ensures { Gives result (form.capped (place_after values.now sets.now each 0)) }
+// The event that a value is.
+fn to_event(value: &Value) -> Result<Event, EvalFault>
+    ensures { Gives result (as_event value.now) }
 {
-    let mut number = 0;
-    let mut rest = sets;
-    for value in values {
-        let Some((set, others)) = rest.split_first() else {
-            return Err(OUTSIDE);
-        };
-        let place = place_in(set, value)?;
-        number = with_field(number, set, place, each);
-        rest = others;
+    match value {
+        Value::One(Atom::Event(event)) => Ok(*event),
+        _ => Err(KIND),
     }
-    Ok(number)
 }
 
-// The event of a channel that has these values as its fields.
-fn event_with(program: &Program, channel: u32, values: &[Value]) -> Result<Event, EvalFault>
-    ensures { Gives result (meant.event_with program.now.channels channel values.now) }
+// The event that an expression is worth.
+fn event_in(alloc: Global, program: &Program, expr: &Expr) -> Result<Event, EvalFault>
+    ensures { Gives result (and_then (value_of program.now expr.now) as_event) }
 {
-    let content = program.content();
-    let channels = content.channels.as_slice();
-    match field_sets(channels, channel) {
-        Some(sets) => {
-            let each = each_of(sets, values.len());
-            let place = place_with(values, sets, each)?;
-            let first = event_at(channels, channel, place);
-            let count = count_with(channels, channel, values.len());
-            if count == 0 {
-                return Err(OUTSIDE);
-            }
-            Ok(Event(first))
-        }
-        None => Err(KIND),
-    }
+    let value = eval(alloc, program, expr)?;
+    to_event(&value)
 }
 
 // The event that has `place` among those from `first` on.
@@ -133,6 +120,7 @@ fn event_after(first: u32, place: usize) -> Event
 }
 
 // What an event becomes.
+#[tactic(auto, using(crate::proofs::NewEvents::event_is))]
 fn new_of(
     alloc: Global,
     program: &Program,
@@ -142,8 +130,8 @@ fn new_of(
     ensures { Gives result (new_event program.now new.now.channel new.now.values.now (drop new.now.given info.now.fields)) }
 {
     let rest = fields_from(info.fields.as_slice(), new.given);
-    let values = values_then(alloc, new.values, rest)?;
-    event_with(program, new.channel, values.as_slice())
+    let fields = literals_then(alloc, new.values, rest)?;
+    event_in(alloc, program, &Expr::Event(new.channel, fields))
 }
 
 // What is renamed, with the event that has `place` among those from `first` on and what it becomes.
@@ -184,33 +172,8 @@ fn add_events(
     Ok(renamed)
 }
 
-// What is renamed, with what a pair renames under a binding, where the old side begins with the event `first`.
-fn add_from(
-    alloc: Global,
-    program: &Program,
-    bound: &[(u32, Atom)],
-    pair: &(EventPart, EventPart),
-    first: u32,
-    renamed: Items<(Event, Event)>,
-) -> Result<Items<(Event, Event)>, EvalFault>
-    requires { front_worth program.now (length program.now.defs) (with_bound bound.now []) (out-EventPart pair.now.0).channel (out-EventPart pair.now.0).fields ≡ Ok first }
-    ensures { Gives result (and_then (meant.pair_renamed program.now (with_bound bound.now []) pair.now) (λ more. Ok (renamed ++ more))) }
-{
-    let content = program.content();
-    let old = &pair.0;
-    let new = &pair.1;
-    let values = eval_all_under(alloc, program, bound, new.fields.as_slice())?;
-    let side = NewSide {
-        channel: new.channel,
-        values: values.as_slice(),
-        given: old.fields.len(),
-    };
-    let count = count_with(content.channels.as_slice(), old.channel, side.given);
-    let events = events_from(content.events.as_slice(), first, count);
-    add_events(alloc, program, &side, first, events, renamed)
-}
-
 /// What is renamed, with what a pair renames under a binding.
+#[tactic(auto, unfolding(crate::specs::Walked::pair_walked), using(crate::proofs::Pairs::count_fits, crate::proofs::Pairs::events_fit))]
 pub(crate) fn add_pair(
     alloc: Global,
     program: &Program,
@@ -218,11 +181,18 @@ pub(crate) fn add_pair(
     pair: &(EventPart, EventPart),
     renamed: Items<(Event, Event)>,
 ) -> Result<Items<(Event, Event)>, EvalFault>
-    ensures { Gives result (and_then (meant.pair_renamed program.now (with_bound bound.now []) pair.now) (λ more. Ok (renamed ++ more))) }
+    ensures { Gives result (pair_walked program.now (with_bound bound.now []) pair.now renamed) }
 {
-    // Its contract says that the program is in order.
-    let _ = program.content();
     let old = &pair.0;
+    let new = &pair.1;
     let first = front_under(alloc, program, bound, old.channel, old.fields.as_slice())?;
-    add_from(alloc, program, bound, pair, first, renamed)
+    let values = eval_all_under(alloc, program, bound, new.fields.as_slice())?;
+    let side = NewSide {
+        channel: new.channel,
+        values: values.as_slice(),
+        given: old.fields.len(),
+    };
+    let count = count_with(channels_of(program), old.channel, side.given);
+    let events = events_from(program, first, count);
+    add_events(alloc, program, &side, first, events, renamed)
 }

@@ -7,7 +7,7 @@ ghost use Rattle.value_operators.specs.Env.{with_bound};
 ghost use Rattle.value_operators.specs.Gives.{Gives};
 ghost use Rattle.step_values.specs.Walked.{gathering_of, renamed_walk, GivesTally};
 
-use crate::renamed::add_pair;
+use crate::renamed::{add_pair, channels_of};
 use containers::Items;
 use csp_atoms::Atom;
 use csp_base::Event;
@@ -48,6 +48,8 @@ fn add_pairs(
 ) -> Result<Items<(Event, Event)>, EvalFault>
     ensures { Gives result (and_then (meant.pairs_renamed scope.now.program.now (with_bound bound.now []) scope.now.pairs.now) (λ more. Ok (renamed ++ more))) }
 {
+    // Its contract says that the program is in order.
+    let _ = channels_of(scope.program);
     let mut renamed = renamed;
     for pair in scope.pairs {
         renamed = add_pair(scope.alloc, scope.program, bound, pair, renamed)?;

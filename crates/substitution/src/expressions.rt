@@ -1,7 +1,7 @@
 //! Values in place of names in expressions.
 
 ghost use Rattle.std.specs.Prelude.{◌≡◌, map, IfOk, OnOk};
-ghost use Rattle.substitution.specs.Bindings.{expr_put, gen_put, gens_put, named, part_put, past, past_all, value_in};
+ghost use Rattle.csp_program.specs.Substitution.{expr_with, gens_with, given_by, named, open_gen, part_with, past};
 
 use crate::values::Values;
 use containers::{Boxed, Items};
@@ -12,17 +12,17 @@ use std::alloc::Global;
 
 // The use of a bound name.
 fn replace_name(alloc: Global, name: u32, values: &Values<'_>) -> Result<Expr, NoMemory>
-    ensures { IfOk result (λ made. made ≡ named name (value_in values.now name)) }
+    ensures { IfOk result (λ made. made ≡ named name (given_by values.now name)) }
 {
-    match values.find(name) {
-        Some(value) => copy_value(alloc, value).map(Expr::Lit),
+    match values.find(alloc, name)? {
+        Some(value) => Ok(Expr::Lit(value)),
         None => Ok(Expr::Bound(name)),
     }
 }
 
 /// Takes the value of the name away that the generator binds.
 pub(crate) fn pass(values: &mut Values<'_>, generator: &Gen) -> Result<(), NoMemory>
-    ensures { OnOk result (values.new ≡ past generator.now values.old) }
+    ensures { OnOk result (given_by values.new ≡ (open_gen generator.now).1 (given_by values.old)) }
 {
     match generator {
         Gen::From(name, _) => values.hide(*name),
@@ -30,14 +30,15 @@ pub(crate) fn pass(values: &mut Values<'_>, generator: &Gen) -> Result<(), NoMem
     }
 }
 
-#[tactic(auto, using(crate::proofs::ExprPut::expr_forms))]
-#[cycle(replace_expr)]
-pub(crate) fn replace_expr(
+/// The expression with the values in place of the names, wherever these are free.
+#[tactic(auto, using(crate::proofs::Forms::expr_forms))]
+#[cycle(put_expr)]
+pub fn put_expr(
     alloc: Global,
     expr: &Expr,
     values: &Values<'_>,
 ) -> Result<Expr, NoMemory>
-    ensures { IfOk result (λ made. made ≡ expr_put values.now expr.now) }
+    ensures { IfOk result (λ made. made ≡ expr_with (given_by values.now) expr.now) }
 {
     match expr {
         Expr::Num(number) => Ok(Expr::Num(*number)),
@@ -50,16 +51,16 @@ pub(crate) fn replace_expr(
         Expr::Binary(op, a, b) => binary(alloc, *op, a, b, values),
         Expr::If(c, a, b) => choice(alloc, c, a, b, values),
         Expr::Call(def, args) => {
-            let args = replace_exprs(alloc, args.as_slice(), values);
+            let args = put_exprs(alloc, args.as_slice(), values);
             args.map(|args| Expr::Call(*def, args))
         }
         Expr::SetName(def) => Ok(Expr::SetName(*def)),
         Expr::Event(channel, fields) => {
-            let fields = replace_exprs(alloc, fields.as_slice(), values);
+            let fields = put_exprs(alloc, fields.as_slice(), values);
             fields.map(|fields| Expr::Event(*channel, fields))
         }
         Expr::Display(items) => {
-            replace_exprs(alloc, items.as_slice(), values).map(Expr::Display)
+            put_exprs(alloc, items.as_slice(), values).map(Expr::Display)
         }
         Expr::Range(a, b) => range(alloc, a, b, values),
         Expr::Comp(items, gens) => comprehension(alloc, items, gens, values),
@@ -69,7 +70,7 @@ pub(crate) fn replace_expr(
 }
 
 // An operator between two operands.
-#[cycle(replace_expr)]
+#[cycle(put_expr)]
 fn binary(
     alloc: Global,
     op: BinOp,
@@ -77,13 +78,13 @@ fn binary(
     b: &Boxed<Expr>,
     values: &Values<'_>,
 ) -> Result<Expr, NoMemory>
-    ensures { IfOk result (λ made. made ≡ Expr.Binary op (expr_put values.now a.now) (expr_put values.now b.now)) }
+    ensures { IfOk result (λ made. made ≡ Expr.Binary op (expr_with (given_by values.now) a.now) (expr_with (given_by values.now) b.now)) }
 {
     replace_two(alloc, a, b, values).map(|(a, b)| Expr::Binary(op, a, b))
 }
 
 // One of two expressions.
-#[cycle(replace_expr)]
+#[cycle(put_expr)]
 fn choice(
     alloc: Global,
     c: &Boxed<Expr>,
@@ -91,7 +92,7 @@ fn choice(
     b: &Boxed<Expr>,
     values: &Values<'_>,
 ) -> Result<Expr, NoMemory>
-    ensures { IfOk result (λ made. made ≡ Expr.If (expr_put values.now c.now) (expr_put values.now a.now) (expr_put values.now b.now)) }
+    ensures { IfOk result (λ made. made ≡ Expr.If (expr_with (given_by values.now) c.now) (expr_with (given_by values.now) a.now) (expr_with (given_by values.now) b.now)) }
 {
     let c = replace_boxed_expr(alloc, c, values)?;
     let (a, b) = replace_two(alloc, a, b, values)?;
@@ -99,20 +100,20 @@ fn choice(
 }
 
 // The set of the numbers from `a` to `b`.
-#[cycle(replace_expr)]
+#[cycle(put_expr)]
 fn range(
     alloc: Global,
     a: &Boxed<Expr>,
     b: &Boxed<Expr>,
     values: &Values<'_>,
 ) -> Result<Expr, NoMemory>
-    ensures { IfOk result (λ made. made ≡ Expr.Range (expr_put values.now a.now) (expr_put values.now b.now)) }
+    ensures { IfOk result (λ made. made ≡ Expr.Range (expr_with (given_by values.now) a.now) (expr_with (given_by values.now) b.now)) }
 {
     replace_two(alloc, a, b, values).map(|(a, b)| Expr::Range(a, b))
 }
 
 // An operator between two sets.
-#[cycle(replace_expr)]
+#[cycle(put_expr)]
 fn set_operation(
     alloc: Global,
     op: SetOp,
@@ -120,36 +121,36 @@ fn set_operation(
     b: &Boxed<Expr>,
     values: &Values<'_>,
 ) -> Result<Expr, NoMemory>
-    ensures { IfOk result (λ made. made ≡ Expr.SetOp op (expr_put values.now a.now) (expr_put values.now b.now)) }
+    ensures { IfOk result (λ made. made ≡ Expr.SetOp op (expr_with (given_by values.now) a.now) (expr_with (given_by values.now) b.now)) }
 {
     replace_two(alloc, a, b, values).map(|(a, b)| Expr::SetOp(op, a, b))
 }
 
 // The set of some expressions under generators.
-#[cycle(replace_expr)]
+#[cycle(put_expr)]
 fn comprehension(
     alloc: Global,
     items: &Items<Expr>,
     gens: &Items<Gen>,
     values: &Values<'_>,
 ) -> Result<Expr, NoMemory>
-    ensures { IfOk result (λ made. made ≡ Expr.Comp (map (expr_put (past_all gens.now values.now)) items.now) (gens_put values.now gens.now)) }
+    ensures { IfOk result (λ made. made ≡ Expr.Comp (map (expr_with (past gens.now (given_by values.now))) items.now) (gens_with (given_by values.now) gens.now)) }
 {
     let mut here = values.copy(alloc)?;
     let gens = replace_gens(alloc, gens.as_slice(), &mut here)?;
-    let items = replace_exprs(alloc, items.as_slice(), &here)?;
+    let items = put_exprs(alloc, items.as_slice(), &here)?;
     Ok(Expr::Comp(items, gens))
 }
 
 // The set of the events that begin with some fronts, under generators.
-#[cycle(replace_expr)]
+#[cycle(put_expr)]
 fn product(
     alloc: Global,
     parts: &Items<EventPart>,
     gens: &Items<Gen>,
     values: &Values<'_>,
 ) -> Result<Expr, NoMemory>
-    ensures { IfOk result (λ made. made ≡ Expr.Product (map (part_put (past_all gens.now values.now)) parts.now) (gens_put values.now gens.now)) }
+    ensures { IfOk result (λ made. made ≡ Expr.Product (map (part_with (past gens.now (given_by values.now))) parts.now) (gens_with (given_by values.now) gens.now)) }
 {
     let mut here = values.copy(alloc)?;
     let gens = replace_gens(alloc, gens.as_slice(), &mut here)?;
@@ -158,70 +159,70 @@ fn product(
 }
 
 // An expression on the heap.
-#[cycle(replace_expr)]
+#[cycle(put_expr)]
 fn replace_boxed_expr(
     alloc: Global,
     expr: &Boxed<Expr>,
     values: &Values<'_>,
 ) -> Result<Boxed<Expr>, NoMemory>
-    ensures { IfOk result (λ made. made ≡ expr_put values.now expr.now) }
+    ensures { IfOk result (λ made. made ≡ expr_with (given_by values.now) expr.now) }
 {
-    replace_expr(alloc, expr.get(), values).and_then(|expr| Boxed::new(alloc, expr))
+    put_expr(alloc, expr.get(), values).and_then(|expr| Boxed::new(alloc, expr))
 }
 
 // Two expressions on the heap.
-#[cycle(replace_expr)]
+#[cycle(put_expr)]
 fn replace_two(
     alloc: Global,
     a: &Boxed<Expr>,
     b: &Boxed<Expr>,
     values: &Values<'_>,
 ) -> Result<(Boxed<Expr>, Boxed<Expr>), NoMemory>
-    ensures { IfOk result (λ made. (made.0 ≡ expr_put values.now a.now) × (made.1 ≡ expr_put values.now b.now)) }
+    ensures { IfOk result (λ made. (made.0 ≡ expr_with (given_by values.now) a.now) × (made.1 ≡ expr_with (given_by values.now) b.now)) }
 {
     let a = replace_boxed_expr(alloc, a, values)?;
     let b = replace_boxed_expr(alloc, b, values)?;
     Ok((a, b))
 }
 
-/// Expressions.
-#[cycle(replace_expr)]
-pub(crate) fn replace_exprs(
+/// The expressions with the values in place of the names in each of them.
+#[cycle(put_expr)]
+pub fn put_exprs(
     alloc: Global,
     exprs: &[Expr],
     values: &Values<'_>,
 ) -> Result<Items<Expr>, NoMemory>
-    ensures { IfOk result (λ made. made ≡ map (expr_put values.now) exprs.now) }
+    ensures { IfOk result (λ made. made ≡ map (expr_with (given_by values.now)) exprs.now) }
 {
     let mut made = Items::new(alloc);
     for expr in exprs {
-        made.push_made(replace_expr(alloc, expr, values))?;
+        made.push_made(put_expr(alloc, expr, values))?;
     }
     Ok(made)
 }
 
-#[tactic(auto, using(crate::proofs::ExprPut::gen_forms))]
-#[cycle(replace_expr)]
+#[tactic(auto, using(crate::proofs::Forms::gen_forms))]
+#[cycle(put_expr)]
 fn replace_gen(alloc: Global, generator: &Gen, values: &Values<'_>) -> Result<Gen, NoMemory>
-    ensures { IfOk result (λ made. made ≡ gen_put values.now generator.now) }
+    ensures { IfOk result (λ made. made ≡ (open_gen generator.now).0 (given_by values.now)) }
 {
     match generator {
         Gen::From(name, set) => {
-            replace_expr(alloc, set, values).map(|set| Gen::From(*name, set))
+            put_expr(alloc, set, values).map(|set| Gen::From(*name, set))
         }
-        Gen::Cond(condition) => replace_expr(alloc, condition, values).map(Gen::Cond),
+        Gen::Cond(condition) => put_expr(alloc, condition, values).map(Gen::Cond),
     }
 }
 
 /// Generators, each with the values of the names that those before it don't bind. The values that are left are those of the names that none of them binds.
-#[cycle(replace_expr)]
+#[cycle(put_expr)]
 pub(crate) fn replace_gens(
     alloc: Global,
     gens: &[Gen],
     values: &mut Values<'_>,
 ) -> Result<Items<Gen>, NoMemory>
-    ensures made { IfOk result (λ made. made ≡ gens_put values.old gens.now) }
-    ensures left { OnOk result (values.new ≡ past_all gens.now values.old) }
+    ensures made { IfOk result (λ made. made ≡ gens_with (given_by values.old) gens.now) }
+    ensures left { OnOk result (given_by values.new ≡ past gens.now (given_by values.old)) }
 {
     let mut made = Items::new(alloc);
     for generator in gens {
@@ -231,16 +232,16 @@ pub(crate) fn replace_gens(
     Ok(made)
 }
 
-#[tactic(auto, using(crate::proofs::ExprPut::part_forms))]
-#[cycle(replace_expr)]
+#[tactic(auto, using(crate::proofs::Forms::part_forms))]
+#[cycle(put_expr)]
 pub(crate) fn replace_part(
     alloc: Global,
     part: &EventPart,
     values: &Values<'_>,
 ) -> Result<EventPart, NoMemory>
-    ensures { IfOk result (λ made. made ≡ part_put values.now part.now) }
+    ensures { IfOk result (λ made. made ≡ part_with (given_by values.now) part.now) }
 {
-    let fields = replace_exprs(alloc, part.fields.as_slice(), values)?;
+    let fields = put_exprs(alloc, part.fields.as_slice(), values)?;
     Ok(EventPart {
         channel: part.channel,
         fields,
@@ -248,13 +249,13 @@ pub(crate) fn replace_part(
 }
 
 // The fronts of events.
-#[cycle(replace_expr)]
+#[cycle(put_expr)]
 fn replace_parts(
     alloc: Global,
     parts: &[EventPart],
     values: &Values<'_>,
 ) -> Result<Items<EventPart>, NoMemory>
-    ensures { IfOk result (λ made. made ≡ map (part_put values.now) parts.now) }
+    ensures { IfOk result (λ made. made ≡ map (part_with (given_by values.now)) parts.now) }
 {
     let mut made = Items::new(alloc);
     for part in parts {

@@ -1,33 +1,29 @@
 //! Values in place of names in what a prefix and a renaming hold.
-#![tactic(auto)]
 
 ghost use Rattle.std.specs.Prelude.{◌≡◌, false, map, IfOk, OnOk};
-ghost use Rattle.csp_program.specs.Substitution.{any_gets};
-ghost use Rattle.substitution.specs.Bindings.{field_put, fields_put, gens_put, head_named, head_put, pair_put, passed, passed_all, past_all, value_in};
-ghost use Rattle.substitution.specs.Parts.{gets};
+ghost use Rattle.csp_program.specs.Substitution.{after, after_all, field_with, fields_with, gens_with, given_by, head_named, head_with, pair_with, past};
 
-use crate::expressions::{pass, replace_expr, replace_gens, replace_part};
+use crate::expressions::{pass, put_expr, replace_gens, replace_part};
 use crate::values::Values;
 use containers::Items;
 use csp_base::NoMemory;
 use csp_program::copies::copy_value;
-use csp_program::{EventPart, Field, Gen, Head};
+use csp_program::{EventPart, Expr, Field, Gen, Head};
 use std::alloc::Global;
 
 // The head that is a bound name.
 fn replace_head_name(alloc: Global, name: u32, values: &Values<'_>) -> Result<Head, NoMemory>
-    ensures { IfOk result (λ made. made ≡ head_named name (value_in values.now name)) }
+    ensures { IfOk result (λ made. made ≡ head_named name (given_by values.now name)) }
 {
-    match values.find(name) {
-        Some(value) => copy_value(alloc, value).map(Head::Put),
+    match values.find(alloc, name)? {
+        Some(value) => Ok(Head::Put(value)),
         None => Ok(Head::Bound(name)),
     }
 }
 
 /// The head with the value of the bound name in its place, if it is one that gets a value.
-#[tactic(auto, using(crate::proofs::ProcPut::head_forms))]
 pub fn put_head(alloc: Global, head: &Head, values: &Values<'_>) -> Result<Head, NoMemory>
-    ensures { IfOk result (λ made. made ≡ head_put values.now head.now) }
+    ensures { IfOk result (λ made. made ≡ head_with (given_by values.now) head.now) }
 {
     match head {
         Head::Channel(channel) => Ok(Head::Channel(*channel)),
@@ -36,31 +32,9 @@ pub fn put_head(alloc: Global, head: &Head, values: &Values<'_>) -> Result<Head,
     }
 }
 
-// Whether the field binds the name.
-fn gets_name(field: &Field, name: u32) -> bool
-    ensures { result ≡ gets name field.now }
-{
-    match field {
-        Field::Put(_) => false,
-        Field::Get(other, _) => *other == name,
-    }
-}
-
-/// Whether one of the fields of a prefix binds the name.
-pub fn any_gets_name(fields: &[Field], name: u32) -> bool
-    ensures { result ≡ any_gets name fields.now }
-{
-    for field in fields {
-        if gets_name(field, name) {
-            return true;
-        }
-    }
-    false
-}
-
 // Whether the field binds one of the names.
 fn field_binds(field: &Field, values: &Values<'_>) -> bool
-    ensures { result ≡ false → passed field.now values.now ≡ values.now }
+    ensures { result ≡ false → after field.now (given_by values.now) ≡ given_by values.now }
 {
     match field {
         Field::Put(_) => false,
@@ -70,7 +44,7 @@ fn field_binds(field: &Field, values: &Values<'_>) -> bool
 
 /// Whether one of the fields binds one of the names.
 pub fn any_field_binds(fields: &[Field], values: &Values<'_>) -> bool
-    ensures { result ≡ false → passed_all fields.now values.now ≡ values.now }
+    ensures { result ≡ false → after_all fields.now (given_by values.now) ≡ given_by values.now }
 {
     for field in fields {
         if field_binds(field, values) {
@@ -82,7 +56,7 @@ pub fn any_field_binds(fields: &[Field], values: &Values<'_>) -> bool
 
 // Takes the value of the name away that the field binds.
 fn pass_field(values: &mut Values<'_>, field: &Field) -> Result<(), NoMemory>
-    ensures { OnOk result (values.new ≡ passed field.now values.old) }
+    ensures { OnOk result (given_by values.new ≡ after field.now (given_by values.old)) }
 {
     match field {
         Field::Put(_) => Ok(()),
@@ -92,7 +66,7 @@ fn pass_field(values: &mut Values<'_>, field: &Field) -> Result<(), NoMemory>
 
 /// Takes the values of the names away that the fields bind.
 pub fn pass_fields(values: &mut Values<'_>, fields: &[Field]) -> Result<(), NoMemory>
-    ensures { OnOk result (values.new ≡ passed_all fields.now values.old) }
+    ensures { OnOk result (given_by values.new ≡ after_all fields.now (given_by values.old)) }
 {
     for field in fields {
         pass_field(values, field)?;
@@ -100,15 +74,27 @@ pub fn pass_fields(values: &mut Values<'_>, fields: &[Field]) -> Result<(), NoMe
     Ok(())
 }
 
+// An input.
+fn replace_input(
+    alloc: Global,
+    name: u32,
+    set: &Option<Expr>,
+    values: &Values<'_>,
+) -> Result<Field, NoMemory>
+    ensures { IfOk result (λ made. made ≡ field_with (given_by values.now) (Field.Get name set.now)) }
+{
+    match set {
+        Some(set) => put_expr(alloc, set, values).map(|set| Field::Get(name, Some(set))),
+        None => Ok(Field::Get(name, None)),
+    }
+}
+
 fn replace_field(alloc: Global, field: &Field, values: &Values<'_>) -> Result<Field, NoMemory>
-    ensures { IfOk result (λ made. made ≡ field_put values.now field.now) }
+    ensures { IfOk result (λ made. made ≡ field_with (given_by values.now) field.now) }
 {
     match field {
-        Field::Put(expr) => replace_expr(alloc, expr, values).map(Field::Put),
-        Field::Get(name, None) => Ok(Field::Get(*name, None)),
-        Field::Get(name, Some(set)) => {
-            replace_expr(alloc, set, values).map(|set| Field::Get(*name, Some(set)))
-        }
+        Field::Put(expr) => put_expr(alloc, expr, values).map(Field::Put),
+        Field::Get(name, set) => replace_input(alloc, *name, set, values),
     }
 }
 
@@ -119,8 +105,8 @@ pub(crate) fn replace_fields(
     fields: &[Field],
     values: &mut Values<'_>,
 ) -> Result<Items<Field>, NoMemory>
-    ensures made { IfOk result (λ made. made ≡ fields_put values.old fields.now) }
-    ensures left { OnOk result (values.new ≡ passed_all fields.now values.old) }
+    ensures made { IfOk result (λ made. made ≡ fields_with (given_by values.old) fields.now) }
+    ensures left { OnOk result (given_by values.new ≡ after_all fields.now (given_by values.old)) }
 {
     let mut made = Items::new(alloc);
     for field in fields {
@@ -135,7 +121,7 @@ fn replace_pair(
     pair: &(EventPart, EventPart),
     values: &Values<'_>,
 ) -> Result<(EventPart, EventPart), NoMemory>
-    ensures { IfOk result (λ made. made ≡ pair_put values.now pair.now) }
+    ensures { IfOk result (λ made. made ≡ pair_with (given_by values.now) pair.now) }
 {
     let old = replace_part(alloc, &pair.0, values)?;
     let new = replace_part(alloc, &pair.1, values)?;
@@ -148,7 +134,7 @@ fn replace_pairs(
     pairs: &[(EventPart, EventPart)],
     values: &Values<'_>,
 ) -> Result<Items<(EventPart, EventPart)>, NoMemory>
-    ensures { IfOk result (λ made. made ≡ map (pair_put values.now) pairs.now) }
+    ensures { IfOk result (λ made. made ≡ map (pair_with (given_by values.now)) pairs.now) }
 {
     let mut made = Items::new(alloc);
     for pair in pairs {
@@ -159,7 +145,7 @@ fn replace_pairs(
 
 // Takes the values of the names away that the generators bind.
 fn pass_gens(values: &mut Values<'_>, gens: &[Gen]) -> Result<(), NoMemory>
-    ensures { OnOk result (values.new ≡ past_all gens.now values.old) }
+    ensures { OnOk result (given_by values.new ≡ past gens.now (given_by values.old)) }
 {
     for generator in gens {
         pass(values, generator)?;
@@ -173,7 +159,7 @@ pub fn put_fields(
     fields: &[Field],
     values: &Values<'_>,
 ) -> Result<Items<Field>, NoMemory>
-    ensures { IfOk result (λ made. made ≡ fields_put values.now fields.now) }
+    ensures { IfOk result (λ made. made ≡ fields_with (given_by values.now) fields.now) }
 {
     let mut left = values.copy(alloc)?;
     let made = replace_fields(alloc, fields, &mut left)?;
@@ -182,7 +168,7 @@ pub fn put_fields(
 
 /// Generators, each with the values of the names that those before it don't bind.
 pub fn put_gens(alloc: Global, gens: &[Gen], values: &Values<'_>) -> Result<Items<Gen>, NoMemory>
-    ensures { IfOk result (λ made. made ≡ gens_put values.now gens.now) }
+    ensures { IfOk result (λ made. made ≡ gens_with (given_by values.now) gens.now) }
 {
     let mut left = values.copy(alloc)?;
     let made = replace_gens(alloc, gens, &mut left)?;
@@ -196,7 +182,7 @@ pub fn put_pairs(
     gens: &[Gen],
     values: &Values<'_>,
 ) -> Result<Items<(EventPart, EventPart)>, NoMemory>
-    ensures { IfOk result (λ made. made ≡ map (pair_put (past_all gens.now values.now)) pairs.now) }
+    ensures { IfOk result (λ made. made ≡ map (pair_with (past gens.now (given_by values.now))) pairs.now) }
 {
     let mut left = values.copy(alloc)?;
     pass_gens(&mut left, gens)?;

@@ -1,16 +1,14 @@
-//! Values in place of bound names in expressions, processes and networks.
+//! Values in place of bound names in expressions, in processes, and in all that a process holds.
 #![tactic(auto)]
 
-pub mod calls;
 mod expressions;
 mod fields;
 pub mod laws;
-mod networks;
+mod lookup;
 mod processes;
 mod values;
 
-pub use calls::{put_expr, put_exprs, put_net, substitute_expr, substitute_net};
-pub use fields::{
-    any_field_binds, any_gets_name, pass_fields, put_fields, put_gens, put_head, put_pairs,
-};
+pub use expressions::{put_expr, put_exprs};
+pub use fields::{any_field_binds, pass_fields, put_fields, put_gens, put_head, put_pairs};
+pub use processes::put_proc;
 pub use values::Values;

@@ -1,9 +1,9 @@
 //! Values in place of names in processes.
 
 ghost use Rattle.std.specs.Prelude.{◌≡◌, map, IfOk};
-ghost use Rattle.substitution.specs.Bindings.{expr_put, fields_put, gens_put, head_put, pair_put, passed_all, past_all, proc_put, without};
+ghost use Rattle.csp_program.specs.Substitution.{after_all, expr_with, fields_with, gens_with, given_by, head_with, pair_with, past, proc_with, without};
 
-use crate::expressions::{replace_expr, replace_exprs};
+use crate::expressions::{put_expr, put_exprs};
 use crate::fields::{put_gens, put_head, put_pairs, replace_fields};
 use crate::values::Values;
 use containers::{Boxed, Items};
@@ -11,14 +11,15 @@ use csp_base::NoMemory;
 use csp_program::{EventPart, Expr, Field, Gen, Head, Proc};
 use std::alloc::Global;
 
-#[tactic(auto, using(crate::proofs::ProcPut::proc_forms))]
-#[cycle(replace_proc)]
-pub(crate) fn replace_proc(
+/// The process with the values in place of the names, wherever these are free.
+#[tactic(auto, using(crate::proofs::Forms::proc_forms))]
+#[cycle(put_proc)]
+pub fn put_proc(
     alloc: Global,
     proc: &Proc,
     values: &Values<'_>,
 ) -> Result<Proc, NoMemory>
-    ensures { IfOk result (λ made. made ≡ proc_put values.now proc.now) }
+    ensures { IfOk result (λ made. made ≡ proc_with (given_by values.now) proc.now) }
 {
     match proc {
         Proc::Stop => Ok(Proc::Stop),
@@ -26,17 +27,17 @@ pub(crate) fn replace_proc(
         Proc::Guard(c, p) => guard(alloc, c, p, values),
         Proc::If(c, p, q) => choice(alloc, c, p, q, values),
         Proc::External(procs) => {
-            replace_procs(alloc, procs.as_slice(), values).map(Proc::External)
+            put_procs(alloc, procs.as_slice(), values).map(Proc::External)
         }
         Proc::Internal(procs) => {
-            replace_procs(alloc, procs.as_slice(), values).map(Proc::Internal)
+            put_procs(alloc, procs.as_slice(), values).map(Proc::Internal)
         }
         Proc::EachExternal(other, set, p) => each_external(alloc, *other, set, p, values),
         Proc::EachInternal(other, set, p) => each_internal(alloc, *other, set, p, values),
         Proc::Hide(p, set) => hiding(alloc, p, set, values),
         Proc::Rename(p, pairs, gens) => renaming(alloc, p, pairs, gens, values),
         Proc::Call(def, args) => {
-            let args = replace_exprs(alloc, args.as_slice(), values);
+            let args = put_exprs(alloc, args.as_slice(), values);
             args.map(|args| Proc::Call(*def, args))
         }
         Proc::Skip => Ok(Proc::Skip),
@@ -46,7 +47,7 @@ pub(crate) fn replace_proc(
 }
 
 // A prefix.
-#[cycle(replace_proc)]
+#[cycle(put_proc)]
 fn prefix(
     alloc: Global,
     head: &Head,
@@ -54,25 +55,39 @@ fn prefix(
     p: &Boxed<Proc>,
     values: &Values<'_>,
 ) -> Result<Proc, NoMemory>
-    ensures { IfOk result (λ made. made ≡ Proc.Prefix (head_put values.now head.now) (fields_put values.now fields.now) (proc_put (passed_all fields.now values.now) p.now)) }
+    ensures { IfOk result (λ made. made ≡ Proc.Prefix (head_with (given_by values.now) head.now) (fields_with (given_by values.now) fields.now) (proc_with (after_all fields.now (given_by values.now)) p.now)) }
+{
+    let (fields, p) = replace_after(alloc, fields, p, values)?;
+    put_head(alloc, head, values).map(|head| Proc::Prefix(head, fields, p))
+}
+
+// The fields of a prefix, and the process after them.
+#[cycle(put_proc)]
+fn replace_after(
+    alloc: Global,
+    fields: &Items<Field>,
+    p: &Boxed<Proc>,
+    values: &Values<'_>,
+) -> Result<(Items<Field>, Boxed<Proc>), NoMemory>
+    ensures { IfOk result (λ made. (made.0 ≡ fields_with (given_by values.now) fields.now) × (made.1 ≡ proc_with (after_all fields.now (given_by values.now)) p.now)) }
 {
     let mut here = values.copy(alloc)?;
     let fields = replace_fields(alloc, fields.as_slice(), &mut here)?;
     let p = replace_boxed_proc(alloc, p, &here)?;
-    put_head(alloc, head, values).map(|head| Proc::Prefix(head, fields, p))
+    Ok((fields, p))
 }
 
 // A process under a condition.
-#[cycle(replace_proc)]
+#[cycle(put_proc)]
 fn guard(alloc: Global, c: &Expr, p: &Boxed<Proc>, values: &Values<'_>) -> Result<Proc, NoMemory>
-    ensures { IfOk result (λ made. made ≡ Proc.Guard (expr_put values.now c.now) (proc_put values.now p.now)) }
+    ensures { IfOk result (λ made. made ≡ Proc.Guard (expr_with (given_by values.now) c.now) (proc_with (given_by values.now) p.now)) }
 {
     let p = replace_boxed_proc(alloc, p, values)?;
-    replace_expr(alloc, c, values).map(|c| Proc::Guard(c, p))
+    put_expr(alloc, c, values).map(|c| Proc::Guard(c, p))
 }
 
 // One of two processes.
-#[cycle(replace_proc)]
+#[cycle(put_proc)]
 fn choice(
     alloc: Global,
     c: &Expr,
@@ -80,14 +95,14 @@ fn choice(
     q: &Boxed<Proc>,
     values: &Values<'_>,
 ) -> Result<Proc, NoMemory>
-    ensures { IfOk result (λ made. made ≡ Proc.If (expr_put values.now c.now) (proc_put values.now p.now) (proc_put values.now q.now)) }
+    ensures { IfOk result (λ made. made ≡ Proc.If (expr_with (given_by values.now) c.now) (proc_with (given_by values.now) p.now) (proc_with (given_by values.now) q.now)) }
 {
     let (p, q) = replace_two(alloc, p, q, values)?;
-    replace_expr(alloc, c, values).map(|c| Proc::If(c, p, q))
+    put_expr(alloc, c, values).map(|c| Proc::If(c, p, q))
 }
 
 // An external choice over the values of a set.
-#[cycle(replace_proc)]
+#[cycle(put_proc)]
 fn each_external(
     alloc: Global,
     other: u32,
@@ -95,15 +110,14 @@ fn each_external(
     p: &Boxed<Proc>,
     values: &Values<'_>,
 ) -> Result<Proc, NoMemory>
-    ensures { IfOk result (λ made. made ≡ Proc.EachExternal other (expr_put values.now set.now) (proc_put (without other values.now) p.now)) }
+    ensures { IfOk result (λ made. made ≡ Proc.EachExternal other (expr_with (given_by values.now) set.now) (proc_with (without other (given_by values.now)) p.now)) }
 {
-    let here = values.under(alloc, other)?;
-    let p = replace_boxed_proc(alloc, p, &here)?;
-    replace_expr(alloc, set, values).map(|set| Proc::EachExternal(other, set, p))
+    let p = replace_under(alloc, other, p, values)?;
+    put_expr(alloc, set, values).map(|set| Proc::EachExternal(other, set, p))
 }
 
 // An internal choice over the values of a set.
-#[cycle(replace_proc)]
+#[cycle(put_proc)]
 fn each_internal(
     alloc: Global,
     other: u32,
@@ -111,24 +125,23 @@ fn each_internal(
     p: &Boxed<Proc>,
     values: &Values<'_>,
 ) -> Result<Proc, NoMemory>
-    ensures { IfOk result (λ made. made ≡ Proc.EachInternal other (expr_put values.now set.now) (proc_put (without other values.now) p.now)) }
+    ensures { IfOk result (λ made. made ≡ Proc.EachInternal other (expr_with (given_by values.now) set.now) (proc_with (without other (given_by values.now)) p.now)) }
 {
-    let here = values.under(alloc, other)?;
-    let p = replace_boxed_proc(alloc, p, &here)?;
-    replace_expr(alloc, set, values).map(|set| Proc::EachInternal(other, set, p))
+    let p = replace_under(alloc, other, p, values)?;
+    put_expr(alloc, set, values).map(|set| Proc::EachInternal(other, set, p))
 }
 
 // A process with a set hidden.
-#[cycle(replace_proc)]
+#[cycle(put_proc)]
 fn hiding(alloc: Global, p: &Boxed<Proc>, set: &Expr, values: &Values<'_>) -> Result<Proc, NoMemory>
-    ensures { IfOk result (λ made. made ≡ Proc.Hide (proc_put values.now p.now) (expr_put values.now set.now)) }
+    ensures { IfOk result (λ made. made ≡ Proc.Hide (proc_with (given_by values.now) p.now) (expr_with (given_by values.now) set.now)) }
 {
     let p = replace_boxed_proc(alloc, p, values)?;
-    replace_expr(alloc, set, values).map(|set| Proc::Hide(p, set))
+    put_expr(alloc, set, values).map(|set| Proc::Hide(p, set))
 }
 
 // A process renamed.
-#[cycle(replace_proc)]
+#[cycle(put_proc)]
 fn renaming(
     alloc: Global,
     p: &Boxed<Proc>,
@@ -136,7 +149,7 @@ fn renaming(
     gens: &Items<Gen>,
     values: &Values<'_>,
 ) -> Result<Proc, NoMemory>
-    ensures { IfOk result (λ made. made ≡ Proc.Rename (proc_put values.now p.now) (map (pair_put (past_all gens.now values.now)) pairs.now) (gens_put values.now gens.now)) }
+    ensures { IfOk result (λ made. made ≡ Proc.Rename (proc_with (given_by values.now) p.now) (map (pair_with (past gens.now (given_by values.now))) pairs.now) (gens_with (given_by values.now) gens.now)) }
 {
     let p = replace_boxed_proc(alloc, p, values)?;
     let sides = replace_renaming(alloc, pairs, gens, values);
@@ -150,7 +163,7 @@ fn replace_renaming(
     gens: &Items<Gen>,
     values: &Values<'_>,
 ) -> Result<(Items<(EventPart, EventPart)>, Items<Gen>), NoMemory>
-    ensures { IfOk result (λ made. (made.0 ≡ map (pair_put (past_all gens.now values.now)) pairs.now) × (made.1 ≡ gens_put values.now gens.now)) }
+    ensures { IfOk result (λ made. (made.0 ≡ map (pair_with (past gens.now (given_by values.now))) pairs.now) × (made.1 ≡ gens_with (given_by values.now) gens.now)) }
 {
     let pairs = put_pairs(alloc, pairs.as_slice(), gens.as_slice(), values)?;
     let gens = put_gens(alloc, gens.as_slice(), values)?;
@@ -158,56 +171,71 @@ fn replace_renaming(
 }
 
 // One process after the other.
-#[cycle(replace_proc)]
+#[cycle(put_proc)]
 fn sequence(
     alloc: Global,
     p: &Boxed<Proc>,
     q: &Boxed<Proc>,
     values: &Values<'_>,
 ) -> Result<Proc, NoMemory>
-    ensures { IfOk result (λ made. made ≡ Proc.Seq (proc_put values.now p.now) (proc_put values.now q.now)) }
+    ensures { IfOk result (λ made. made ≡ Proc.Seq (proc_with (given_by values.now) p.now) (proc_with (given_by values.now) q.now)) }
 {
     replace_two(alloc, p, q, values).map(|(p, q)| Proc::Seq(p, q))
 }
 
+// A process below a binding of the name.
+#[cycle(put_proc)]
+fn replace_under(
+    alloc: Global,
+    name: u32,
+    p: &Boxed<Proc>,
+    values: &Values<'_>,
+) -> Result<Boxed<Proc>, NoMemory>
+    ensures { IfOk result (λ made. made ≡ proc_with (without name (given_by values.now)) p.now) }
+{
+    let here = values.under(alloc, name)?;
+    let p = replace_boxed_proc(alloc, p, &here)?;
+    Ok(p)
+}
+
 // A process on the heap.
-#[cycle(replace_proc)]
+#[cycle(put_proc)]
 fn replace_boxed_proc(
     alloc: Global,
     proc: &Boxed<Proc>,
     values: &Values<'_>,
 ) -> Result<Boxed<Proc>, NoMemory>
-    ensures { IfOk result (λ made. made ≡ proc_put values.now proc.now) }
+    ensures { IfOk result (λ made. made ≡ proc_with (given_by values.now) proc.now) }
 {
-    replace_proc(alloc, proc.get(), values).and_then(|proc| Boxed::new(alloc, proc))
+    put_proc(alloc, proc.get(), values).and_then(|proc| Boxed::new(alloc, proc))
 }
 
 // Two processes on the heap.
-#[cycle(replace_proc)]
+#[cycle(put_proc)]
 fn replace_two(
     alloc: Global,
     p: &Boxed<Proc>,
     q: &Boxed<Proc>,
     values: &Values<'_>,
 ) -> Result<(Boxed<Proc>, Boxed<Proc>), NoMemory>
-    ensures { IfOk result (λ made. (made.0 ≡ proc_put values.now p.now) × (made.1 ≡ proc_put values.now q.now)) }
+    ensures { IfOk result (λ made. (made.0 ≡ proc_with (given_by values.now) p.now) × (made.1 ≡ proc_with (given_by values.now) q.now)) }
 {
     let p = replace_boxed_proc(alloc, p, values)?;
     let q = replace_boxed_proc(alloc, q, values)?;
     Ok((p, q))
 }
 
-#[cycle(replace_proc)]
-fn replace_procs(
+#[cycle(put_proc)]
+fn put_procs(
     alloc: Global,
     procs: &[Proc],
     values: &Values<'_>,
 ) -> Result<Items<Proc>, NoMemory>
-    ensures { IfOk result (λ made. made ≡ map (proc_put values.now) procs.now) }
+    ensures { IfOk result (λ made. made ≡ map (proc_with (given_by values.now)) procs.now) }
 {
     let mut made = Items::new(alloc);
     for proc in procs {
-        made.push_made(replace_proc(alloc, proc, values))?;
+        made.push_made(put_proc(alloc, proc, values))?;
     }
     Ok(made)
 }

@@ -43,17 +43,7 @@ pub(crate) fn moves_of(
 {
     let mut moves = Vec::new(alloc);
     for n in terms {
-        append(&mut moves, rows[*n as usize].as_slice())?;
+        moves.extend_from_slice(rows[*n as usize].as_slice())?;
     }
     Ok(moves)
-}
-
-// Adds the steps at the end.
-fn append(moves: &mut Vec<(Event, u32)>, more: &[(Event, u32)]) -> Result<(), NoMemory>
-    ensures { OnOk result (moves.new.items ≡ moves.old.items ++ more.now) }
-{
-    for step in more {
-        moves.push(*step)?;
-    }
-    Ok(())
 }

@@ -13,16 +13,16 @@ returns c =
       | else-count-eq0 w ↦ inr (omega (arith, w.if-count-eq0.false), w.number-is)
     ] in
     let order = c.in_ok-order.order.items in
-    let places = c.in_ok-order.places.items in
-    let is : start n k order places ≡ record { order = order; places = places; blocks = c.in_ok-order.blocks.items; firsts = c.in_ok-firsts.firsts.items; middles = c.in_ok-firsts.middles.items; ends = c.in_ok-firsts.ends.items; waiting = c.in_ok-firsts.waiting.items; flags = c.in_ok-firsts.flags.items }
+    let places = c.in_ok-places.places.items in
+    let is : start n k order places ≡ record { order = order; places = places; blocks = c.in_ok-blocks.blocks.items; firsts = c.in_ok-firsts.firsts.items; middles = c.in_ok-middles.middles.items; ends = c.in_ok-ends.ends.items; waiting = c.in_ok-waiting.waiting.items; flags = c.in_ok-flags.flags.items }
     = λ i. record {
       order = order;
       places = places;
-      blocks = sym c.in_ok-order.ensures.blocks i;
-      firsts = sym c.in_ok-firsts.ensures.firsts i;
-      middles = sym c.in_ok-firsts.ensures.middles i;
-      ends = sym c.in_ok-firsts.ensures.ends i;
-      waiting = sym c.in_ok-firsts.ensures.waiting i;
-      flags = sym c.in_ok-firsts.ensures.flags i;
+      blocks = sym c.in_ok-blocks.ensures i;
+      firsts = sym c.in_ok-firsts.ensures i;
+      middles = sym c.in_ok-middles.ensures i;
+      ends = sym c.in_ok-ends.ensures i;
+      waiting = sym c.in_ok-waiting.ensures i;
+      flags = sym c.in_ok-flags.ensures i;
     } in
-    subst (IsWhole n) is (start_whole n k order places c.ranges.count.fits blocks_are c.in_ok-order.ensures.order.len c.in_ok-order.ensures.order.each c.in_ok-order.ensures.places.len c.in_ok-order.ensures.places.each)
+    subst (IsWhole n) is (start_whole n k order places c.ranges.count.fits blocks_are c.in_ok-order.ensures.len c.in_ok-order.ensures.each c.in_ok-places.ensures.len c.in_ok-places.ensures.each)

@@ -1,7 +1,7 @@
 use Rattle.std.proofs.Common.{◌≡◌, drop}
-use Rattle.substitution.specs.Bindings.{passed_all}
+use Rattle.csp_program.specs.Substitution.{after_all, given_by}
 use Rattle.substitution.proofs.fields.pass_fields.Given as goal
 
 -- what the rest leaves of the values is what all leave
 abbrev pub invariant-loop-field : goal.invariant-loop-field
-invariant-loop-field l = passed_all (drop l.field-index l.fields) l.values ≡ passed_all l.fields l.fn.values
+invariant-loop-field l = after_all (drop l.field-index l.fields) (given_by l.values) ≡ after_all l.fields (given_by l.fn.values)

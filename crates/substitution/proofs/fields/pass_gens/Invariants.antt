@@ -1,7 +1,7 @@
 use Rattle.std.proofs.Common.{◌≡◌, drop}
-use Rattle.substitution.specs.Bindings.{past_all}
+use Rattle.csp_program.specs.Substitution.{given_by, past}
 use Rattle.substitution.proofs.fields.pass_gens.Given as goal
 
 -- what the rest leaves of the values is what all leave
 abbrev pub invariant-loop-generator : goal.invariant-loop-generator
-invariant-loop-generator l = past_all (drop l.generator-index l.gens) l.values ≡ past_all l.gens l.fn.values
+invariant-loop-generator l = past (drop l.generator-index l.gens) (given_by l.values) ≡ past l.gens (given_by l.fn.values)

@@ -1,7 +1,7 @@
 use Rattle.std.proofs.Common.{◌≡◌, ◌++◌, drop}
-use Rattle.substitution.specs.Bindings.{fields_put, passed_all}
+use Rattle.csp_program.specs.Substitution.{after_all, fields_with, given_by}
 use Rattle.substitution.proofs.fields.replace_fields.Given as goal
 
 -- what is made so far, followed by what is made of the rest, is what is made of all; and what the rest leaves of the values is what all leave
 abbrev pub invariant-loop-field : goal.invariant-loop-field
-invariant-loop-field l = (l.made ++ fields_put l.values (drop l.field-index l.fields) ≡ fields_put l.fn.values l.fields) × (passed_all (drop l.field-index l.fields) l.values ≡ passed_all l.fields l.fn.values)
+invariant-loop-field l = (l.made ++ fields_with (given_by l.values) (drop l.field-index l.fields) ≡ fields_with (given_by l.fn.values) l.fields) × (after_all (drop l.field-index l.fields) (given_by l.values) ≡ after_all l.fields (given_by l.fn.values))

@@ -1,7 +1,7 @@
-use Rattle.substitution.proofs.ValuesFound.{all_below_end}
+use Rattle.substitution.proofs.NamesFound.{all_below}
 use Rattle.substitution.proofs.values.Values.are_below.Goals as goal
 
-pub returns-in-Some : goal.returns-in-Some
-returns-in-Some c = λ h.
-    all_below_end c.self.inside.hidden c.self.inside.first c.in-Some.first c.args.least c.self.inside.names.now c.self.inside.values.now c.args.self.now
-    c.self.invariant c.in-Some.is c.self.view_is (c.ends_by.ensures h)
+pub returns-then-end_by : goal.returns-then-end_by
+returns-then-end_by c = λ below.
+    all_below c.self.inside.hidden c.self.inside.first c.self.inside.first_bound c.self.inside.names.now c.self.inside.values.now c.self.inside.bound.now
+    c.args.self.now c.args.least c.self.view_is c.self.invariant.0 c.self.invariant.1 (c.end_by.ensures c.if-end_by.true) (c.end_by-then-end_by.ensures below)

@@ -1,15 +1,23 @@
-use Rattle.std.proofs.Common.{◌∙◌}
+use Rattle.std.proofs.Common.{sym, ◌∙◌, rules}
 use Rattle.csp_program.specs.Value.{bound_to}
-use Rattle.substitution.proofs.ValuesFound.{found_hidden, found_open}
+use Rattle.substitution.proofs.NamesFound.{when_hidden, when_open}
 use Rattle.substitution.proofs.values.Values.find.Goals as goal
 
-pub returns-then-is_hidden : goal.returns-then-is_hidden
-returns-then-is_hidden c =
-    found_hidden c.self.inside.hidden c.as_slice.result.now (bound_to c.self.inside.names.now c.self.inside.values.now) c.args.self.now c.args.name c.is_hidden.result
-    c.self.view_is c.as_slice.ensures c.is_hidden.ensures c.if-is_hidden.true
+pub returns-then-contains : goal.returns-then-contains
+returns-then-contains c =
+    sym (when_hidden c.self.inside.hidden _ _ c.args.self.now c.self.view_is c.as_slice.ensures c.args.name c.contains.result c.contains.ensures.value c.if-contains.true)
 
-pub returns : goal.returns
-returns c =
-    c.found.ensures ∙
-    found_open c.self.inside.hidden c.as_slice.result.now (bound_to c.self.inside.names.now c.self.inside.values.now) c.args.self.now c.args.name c.is_hidden.result
-    c.self.view_is c.as_slice.ensures c.is_hidden.ensures c.if-is_hidden.false
+pub returns-in-Some : goal.returns-in-Some
+returns-in-Some c =
+    sym (when_open c.self.inside.hidden _ _ c.args.self.now c.self.view_is c.as_slice.ensures c.args.name c.contains.result c.contains.ensures.value c.if-contains.false ∙
+    c.in-Some.ensures (bound_to c.self.inside.names.now c.self.inside.values.now))
+
+pub returns-in-Some-find_listed : goal.returns-in-Some-find_listed
+returns-in-Some-find_listed c =
+    rw (when_open c.self.inside.hidden _ _ c.args.self.now c.self.view_is c.as_slice.ensures c.args.name c.contains.result c.contains.ensures.value c.if-contains.false,
+    c.in_default.ensures (bound_to c.self.inside.names.now c.self.inside.values.now), sym c.in-Some-find_listed.ensures) (search rules)
+
+pub returns-in-None : goal.returns-in-None
+returns-in-None c =
+    sym (when_open c.self.inside.hidden _ _ c.args.self.now c.self.view_is c.as_slice.ensures c.args.name c.contains.result c.contains.ensures.value c.if-contains.false ∙
+    (c.in_default.ensures (bound_to c.self.inside.names.now c.self.inside.values.now) ∙ sym c.in-None.ensures))

@@ -1,0 +1,7 @@
+use Rattle.std.proofs.Common.{◌≡◌, ◌+◌, drop}
+use Rattle.substitution.specs.Named.{counts_up}
+use Rattle.substitution.proofs.lookup.count_up.Given as goal
+
+-- those so far count up
+abbrev pub invariant-loop-place : goal.invariant-loop-place
+invariant-loop-place l = counts_up (l.first + l.place) (drop l.place l.names) ≡ counts_up l.first l.names

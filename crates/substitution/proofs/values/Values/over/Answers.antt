@@ -1,0 +1,11 @@
+use Rattle.std.proofs.Common.{List, ℕ, ap, ◌∙◌}
+use Rattle.csp_program.specs.Environments.{with_bound}
+use Rattle.csp_program.specs.Value.{bound_to}
+use Rattle.substitution.specs.Named.{but_for}
+use Rattle.substitution.proofs.NamesFound.{none_hidden}
+use Rattle.substitution.proofs.values.Values.over.Goals as goal
+
+pub returns : goal.returns
+returns c =
+    let env = with_bound c.args.bound.now (bound_to c.args.names.now c.args.values.now) in
+    ap (λ (hidden : List ℕ). but_for hidden env) c.new.ensures ∙ none_hidden env
