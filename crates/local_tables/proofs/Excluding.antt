@@ -22,7 +22,7 @@ use Rattle.csp_base.specs.Lists.{total}
 
 module _ (p : Content) (c : Component Proc) (terms : List Proc) (raw : RawTable) (table : IsTableOf (ProcessStep p) c terms raw) where
   -- a term that is reached has a number
-  listed_of : (x : Proc) → Reached (ComponentStep (ProcessStep p)) c (standing_at c x) → (n : ℕ) × (slice_get terms n ≡ Some x)
+  pub listed_of : (x : Proc) → Reached (ComponentStep (ProcessStep p)) c (standing_at c x) → (n : ℕ) × (slice_get terms n ≡ Some x)
   listed_of x r = let i = run_down (ProcessStep p) c terms raw r.0 c (standing_at c x) 0 table table.first refl r.1 in (i.number, i.listed)
 
   -- terms that are reached
