@@ -28,8 +28,7 @@ use Rattle.local_tables.specs.Progress.{AreFound, AreRows, AreTabled, IsFollowed
 use Rattle.local_tables.specs.declared.found.Found.{Found}
 use Rattle.local_tables.specs.declared.local_table.LocalTable.{LocalTable}
 use Rattle.local_tables.specs.declared.task.Task.{Task}
-use Rattle.local_tables.proofs.Following.{are_steps, complete, endless, in_order, lacks_none}
-use Rattle.local_tables.proofs.Lists.{under_map}
+use Rattle.local_tables.proofs.Following.{are_steps, complete, endless, in_order, lacks_none, under_map}
 use Rattle.local_tables.proofs.Walking.{reached}
 
 -- ---- sizes
@@ -116,7 +115,7 @@ module _ (task : Task) (trees : List Proc) (found : Found) (are : AreFound task 
 
 -- ---- all of them
 
-module _ (task : Task) (trees : List Proc) (found : Found) (up : IsUpTo task trees found found.table.count) (different : AreDifferent trees) (distinct : IsDistinct eq_id found.terms) where
+module _ (task : Task) (trees : List Proc) (found : Found) (at : ℕ) (every : found.table.count ≤ at) (up : IsUpTo task trees found at) (different : AreDifferent trees) (distinct : IsDistinct eq_id found.terms) where
   followed : (m : ℕ) (x : Proc) → slice_get (terms_at trees found.terms) m ≡ Some x
       → (moves : List Move) × IsFollowed task (terms_at trees found.terms) found.table m moves []
   followed m x h =
@@ -128,7 +127,7 @@ module _ (task : Task) (trees : List Proc) (found : Found) (up : IsUpTo task tre
   pub is_tabled : AreTabled task trees found
   is_tabled = record {
     found = up.found;
-    rows = λ m. elim (cases_lt m found.table.count) [
+    rows = λ m. elim (cases_lt m at) [
       | inl less ↦ let f = up.before m less in inl (f.0, [], f.1)
       | inr from ↦ inr (up.later m from)
     ];

@@ -1,10 +1,5 @@
-pub mod Between
 pub mod Ending
 pub mod Excluding
 pub mod Following
-pub mod Growing
-pub mod Injecting
-pub mod Lists
-pub mod Results
 pub mod Rows
 pub mod Walking

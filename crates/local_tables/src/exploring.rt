@@ -40,47 +40,20 @@ pub fn explore(
 {
     make_room(alloc, task.program, terms);
     let mut found = begin(alloc, task, &mut terms.pool)?;
-    follow_all(alloc, task, terms, &mut found)?;
-    Ok(finished(task, &terms.pool, found))
-}
-
-// The table, once all terms are followed.
-fn finished(task: &Task<'_>, pool: &Pool, found: Found) -> LocalTable
-    requires up_to { IsUpTo task.now pool.now found found.table.count }
-    ensures table { IsLocalTable task.now.program.now (part_of task.now) task.now.room result }
-{
+    let mut at = 0;
+    while at < found.table.count() {
+        follow(alloc, task, terms, &mut found, at)?;
+        at += 1;
+    }
     // Their contracts say that no term stands twice, and that what is used of the room fits in it.
     let _ = found.terms.as_slice();
-    let _ = pool.len();
+    let _ = terms.pool.len();
     let _ = task.room.nodes();
     let _ = task.room.steps();
     let Found { table, nodes, .. } = found;
     let steps = table.silent().len() + table.steps().len();
-    LocalTable {
-        table,
-        used: Room::new(nodes as u32, steps as u32),
-    }
-}
-
-// Follows the first term, which is found, and each that is found then.
-fn follow_all(
-    alloc: Global,
-    task: &Task<'_>,
-    terms: &mut Terms,
-    found: &mut Found,
-) -> Result<(), Unexplored>
-    requires terms { AreTermsOf task.now.program.now terms.old }
-    requires up_to { IsUpTo task.now terms.old.pool found.old 0 }
-    ensures terms { OnOk result (AreTermsOf task.now.program.now terms.new) }
-    ensures up_to { OnOk result (IsUpTo task.now terms.new.pool found.new found.new.table.count) }
-    ensures fault { IfErr result (TaskLacks task.now) }
-{
-    let mut at = 0;
-    while at < found.table.count() {
-        follow(alloc, task, terms, found, at)?;
-        at += 1;
-    }
-    Ok(())
+    let used = Room::new(nodes as u32, steps as u32);
+    Ok(LocalTable { table, used })
 }
 
 // Follows the term with the number `at`: its steps come into the table.
@@ -101,24 +74,8 @@ fn follow(
     let id = found.terms.as_slice()[at as usize];
     let Terms { pool, evaluated } = terms;
     let steps = steps_in(alloc, task.program, pool, evaluated, id)?;
-    take_all(alloc, task, pool, found, at, steps.as_slice())
-}
-
-// Takes the steps of the term with the number `at` into the table.
-fn take_all(
-    alloc: Global,
-    task: &Task<'_>,
-    pool: &Pool,
-    found: &mut Found,
-    at: u32,
-    steps: &[StepTo],
-) -> Result<(), Unexplored>
-    requires at { IsAt task.now pool.now found.old at steps.now 0 }
-    ensures up_to { OnOk result (IsUpTo task.now pool.now found.new (at + 1)) }
-    ensures fault { IfErr result (TaskLacks task.now) }
-{
     for place in 0..steps.len() {
-        take(alloc, task, pool, found, at, steps, place)?;
+        take(alloc, task, pool, found, at, steps.as_slice(), place)?;
     }
     Ok(())
 }
@@ -176,7 +133,8 @@ fn lead(
     let StepTo { to, .. } = steps[place];
     let number = term_number(pool, found, at, &event, to)?;
     add_step(&mut found.table, at, event, number)?;
-    check(task, pool, found, to)
+    check(task, pool, found, to)?;
+    Ok(())
 }
 
 // Adds a silent step, or one by the event.

@@ -8,7 +8,7 @@ ghost use Rattle.dl_limits.specs.declared.TheConstants.{MOST_TERMS, MOST_TERM_DE
 ghost use Rattle.term_pool.specs.Pooled.{IsFront};
 ghost use Rattle.term_pool.specs.Trees.{tree_at};
 ghost use Rattle.local_tables.specs.Faults.{TaskLacks};
-ghost use Rattle.local_tables.specs.Progress.{AreTabled, IsUpTo, IsWithin, first_found, terms_at, with_term};
+ghost use Rattle.local_tables.specs.Progress.{AreTabled, IsUpTo, IsWithin, terms_at, with_term};
 
 use crate::fault::Unexplored;
 use crate::task::Task;
@@ -40,23 +40,16 @@ pub(crate) fn begin(
     ensures fault { IfErr result (TaskLacks task.now) }
 {
     let first = pool.put(task.start)?;
-    let found = found_first(alloc, first, pool.size(first))?;
-    check(task, pool, &found, first)?;
-    Ok(found)
-}
-
-// The term at this place of the pool, which has this size, without steps.
-fn found_first(alloc: Global, first: ProcId, size: u32) -> Result<Found, NoMemory>
-    ensures { IfOk result (λ found. found ≡ first_found first size) }
-{
     let mut terms = Numbering::new(alloc);
     terms.number(first)?;
-    Ok(Found {
+    let found = Found {
         terms,
         origins: Items::new(alloc),
         table: RawTable::new(alloc),
-        nodes: u64::from(size),
-    })
+        nodes: u64::from(pool.size(first)),
+    };
+    check(task, pool, &found, first)?;
+    Ok(found)
 }
 
 // The number of the term at a place of the pool, which comes to the end where it is new, with the step by which it was found.

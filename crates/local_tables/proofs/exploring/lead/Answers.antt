@@ -1,7 +1,6 @@
 use Rattle.std.proofs.Common.{◌+◌, slice_index_or}
 use Rattle.std.proofs.lemmas.Option.{slice_get-get_or}
-use Rattle.local_tables.proofs.Growing.{some_shallow, tabled, taken_led}
-use Rattle.local_tables.proofs.Results.{on_ok}
+use Rattle.local_tables.proofs.Following.{some_shallow, tabled, taken_led}
 use Rattle.local_tables.proofs.exploring.lead.Goals as goal
 
 pub check-requires-clause-tabled : goal.check-requires-clause-tabled
@@ -23,8 +22,8 @@ pub returns-clause-at : goal.returns-clause-at
 returns-clause-at c =
     let s = slice_index_or c.args.steps.now c.args.place c.index-steps-place.result in
     let here = slice_get-get_or c.args.steps.now c.args.place c.index-steps-place.result c.requires.inside in
-    on_ok c.check.result c.check.ensures.within (λ within. record {
+    record {
       taken = taken_led c.args.task.now c.args.pool.now c.args.found.now c.args.at c.args.steps.now c.args.place c.requires.at.taken s here c.args.event (c.requires.label s here) c.requires.event
           c.term_number.new.found c.in_ok-number.ensures.found c.add_step.new.table c.in_ok-number.number c.in_ok-add_step.ensures c.in_ok-number.ensures.number;
-      within = within;
-    })
+      within = c.in_ok-check.ensures.within;
+    }

@@ -6,7 +6,7 @@ use Rattle.std.proofs.lemmas.Option.{same_Some, slice_get-get_or, slice_get_with
 use Rattle.csp_steps.specs.declared.step.StepTo.{StepTo}
 use Rattle.csp_tables.specs.Label.Label.{visible}
 use Rattle.local_tables.specs.Progress.{AreLed, Origin, terms_at}
-use Rattle.local_tables.proofs.Growing.{ends, taken_outside}
+use Rattle.local_tables.proofs.Following.{ends, taken_outside}
 use Rattle.local_tables.proofs.exploring.take.Goals as goal
 
 pub lead-requires-in-Visible-clause-label : goal.lead-requires-in-Visible-clause-label

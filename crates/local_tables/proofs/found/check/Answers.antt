@@ -7,8 +7,7 @@ use Rattle.csp_program.specs.Size.{proc_size}
 use Rattle.term_pool.specs.Trees.{tree_at}
 use Rattle.local_tables.specs.Progress.{counted_size, terms_at}
 use Rattle.local_tables.proofs.Ending.{are_terms, no_larger}
-use Rattle.local_tables.proofs.Following.{are_steps}
-use Rattle.local_tables.proofs.Lists.{map_at}
+use Rattle.local_tables.proofs.Following.{are_steps, map_at}
 use Rattle.local_tables.proofs.Walking.{reached}
 use Rattle.local_tables.proofs.found.check.Goals as goal
 

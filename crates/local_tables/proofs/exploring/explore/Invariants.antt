@@ -1,7 +1,7 @@
 use Rattle.std.proofs.Common.{◌-◌, ◌^◌}
 use Rattle.local_tables.specs.Component.{AreTermsOf}
 use Rattle.local_tables.specs.Progress.{IsUpTo}
-use Rattle.local_tables.proofs.exploring.follow_all.Given as goal
+use Rattle.local_tables.proofs.exploring.explore.Given as goal
 
 abbrev pub invariant-loop-at : goal.invariant-loop-at
 invariant-loop-at l = record {

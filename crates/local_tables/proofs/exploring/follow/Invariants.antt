@@ -1,5 +1,5 @@
 use Rattle.local_tables.specs.Progress.{IsAt}
-use Rattle.local_tables.proofs.exploring.take_all.Given as goal
+use Rattle.local_tables.proofs.exploring.follow.Given as goal
 
 abbrev pub invariant-loop-place : goal.invariant-loop-place
 invariant-loop-place l = IsAt l.task l.pool l.found l.at l.steps l.place
