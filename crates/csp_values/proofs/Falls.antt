@@ -48,18 +48,18 @@ weight_range e a b a' b' is got_a got_b = ap weight is ∙ (w.at (Expr-F.Range a
 pub weight_set_op : (e : Expr) (op : SetOp) (a b a' b' : Expr) → e ≡ expr.SetOp op a b → a' ≡ a → b' ≡ b → weight e ≡ weight a' + weight b' + 3
 weight_set_op e op a b a' b' is got_a got_b = ap weight is ∙ (w.at (Expr-F.SetOp op a b) (expr.rolls-SetOp op a b) ∙ (λ i. weight (sym got_a i) + weight (sym got_b i) + 3))
 
-pub weight_comp : (e : Expr) (items items' : List Expr) (gens gens' : List Gen) → e ≡ expr.Comp items gens → items' ≡ items → gens' ≡ gens → weight e ≡ weights items' + part_weights [] + gen_weights gens' + 6
+pub weight_comp : (e : Expr) (items items' : List Expr) (gens gens' : List Gen) → e ≡ expr.Comp items gens → items' ≡ items → gens' ≡ gens → weight e ≡ weights items' + part_weights [] + gen_weights gens' + 7
 unfolding weights gen_weights part_weights
 weight_comp e items items' gens gens' is got_items got_gens =
     let none : part_weights [] ≡ 0 = w.part_weights-nil in
-    let whole : weight e ≡ weights items' + gen_weights gens' + 6 = ap weight is ∙ (w.at (Expr-F.Comp items gens) (expr.rolls-Comp items gens) ∙ (λ i. weights (sym got_items i) + gen_weights (sym got_gens i) + 6)) in
+    let whole : weight e ≡ weights items' + gen_weights gens' + 7 = ap weight is ∙ (w.at (Expr-F.Comp items gens) (expr.rolls-Comp items gens) ∙ (λ i. weights (sym got_items i) + gen_weights (sym got_gens i) + 7)) in
     omega arith
 
-pub weight_product : (e : Expr) (parts parts' : List EventPart) (gens gens' : List Gen) → e ≡ expr.Product parts gens → parts' ≡ parts → gens' ≡ gens → weight e ≡ weights [] + part_weights parts' + gen_weights gens' + 7
+pub weight_product : (e : Expr) (parts parts' : List EventPart) (gens gens' : List Gen) → e ≡ expr.Product parts gens → parts' ≡ parts → gens' ≡ gens → weight e ≡ weights [] + part_weights parts' + gen_weights gens' + 8
 unfolding weights gen_weights part_weights
 weight_product e parts parts' gens gens' is got_parts got_gens =
     let none : weights [] ≡ 0 = w.weights-nil in
-    let whole : weight e ≡ part_weights parts' + gen_weights gens' + 7 = ap weight is ∙ (w.at (Expr-F.Product parts gens) (expr.rolls-Product parts gens) ∙ (λ i. part_weights (sym got_parts i) + gen_weights (sym got_gens i) + 7)) in
+    let whole : weight e ≡ part_weights parts' + gen_weights gens' + 8 = ap weight is ∙ (w.at (Expr-F.Product parts gens) (expr.rolls-Product parts gens) ∙ (λ i. part_weights (sym got_parts i) + gen_weights (sym got_gens i) + 8)) in
     omega arith
 
 pub weight_part : (part : EventPart) (fields : List Expr) → fields ≡ (out-EventPart part).fields → part_weight part ≡ weights fields + 5

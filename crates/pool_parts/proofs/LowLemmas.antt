@@ -1,144 +1,115 @@
--- What stays as it is, form by form, where the name that gets a value is below the number of each part.
-use Rattle.std.proofs.Common.{◌≡◌, ℕ, ◌+◌, ◌<◌, ◌≤◌, Bool, true, false, cond, ◌||◌, nat_eq, Some, None, List, [], ◌∷◌, ◌++◌, length, get_or, take, refl, ap, sym, ◌∙◌, subst, arith}
-use Rattle.std.proofs.lemmas.Bool.{eqb-true}
-use Rattle.std.proofs.lemmas.List.{take_more}
-use Rattle.csp_atoms.specs.declared.value.Value.{Value}
-use Rattle.csp_program.specs.Substitution.{binds}
-use Rattle.csp_program.specs.declared.expressions.EventPart.{EventPart}
-use Rattle.csp_program.specs.declared.expressions.Expr.{Expr}
-use Rattle.csp_program.specs.declared.expressions.Expr.TheOpen.{Expr-F}
-use Rattle.csp_program.specs.declared.expressions.Expr.TheVariants as expr
-use Rattle.csp_program.specs.declared.expressions.Expr.TheViews.{out-EventPart, roll-EventPart, roll-Expr, roll-out-EventPart}
+-- Numbers below which no name is read, of names put together.
+use Rattle.std.proofs.Common.{◌≡◌, ◌⊎◌, inl, inr, ℕ, ◌+◌, ◌<◌, ◌≤◌, min, Bool, true, false, ◌||◌, ◌&&◌, not, nat_eq, List, [], ◌∷◌, length, map, drop, get_or, Some, None, refl, ap, sym, ◌∙◌, subst, arith, drop_of_length-le}
+use Rattle.std.proofs.lemmas.Bool.{false≢true, eqb-true}
+use Rattle.csp_base.proofs.Lists.{drop_read}
+use Rattle.csp_program.specs.Free.{Names, Binding, any_of, before, either, expr_free, gen_binding, nowhere, under}
 use Rattle.csp_program.specs.declared.expressions.Gen.{Gen}
-use Rattle.csp_program.specs.declared.expressions.Gen.TheVariants as generator
-use Rattle.substitution.proofs.FormsAfter.{expr_form, expr_is, gen_after-Cond, gen_after-From, part_is}
-use Rattle.substitution.specs.Parts.{all_after, expr_after, gen_after, part_after, exprs_after, gens_after}
 use Rattle.csp_program.specs.declared.processes.Field.{Field}
 use Rattle.csp_program.specs.declared.processes.Field.TheVariants as field
-use Rattle.csp_program.specs.declared.processes.Head.{Head}
-use Rattle.csp_program.specs.declared.processes.Head.TheVariants as head
-use Rattle.pool_parts.specs.Low.{AllLow, ExprLow, FieldLow, GenLow, HeadLow, PairLow, PartLow}
+use Rattle.pool_parts.specs.Low.{IsLow}
 
--- what holds of a number holds of each lower one
-pub expr_lower : (m n : ℕ) (e : Expr) → m ≤ n → ExprLow n e → ExprLow m e
-unfolding ExprLow
-expr_lower m n e h low x v l = low x v (omega (arith, h, l))
+-- where one of two or what is left under a binding is so, in terms of what that is made of
+through : (a n u v w : Bool) → (u ≡ true → (v ≡ true) ⊎ (w ≡ true)) → a || (n && u) ≡ true → (a || (n && v) ≡ true) ⊎ (w ≡ true)
+through true n u v w h e = inl refl
+through false true u v w h e = h e
+through false false u v w h e = absurd (false≢true e)
 
-pub gen_lower : (m n : ℕ) (g : Gen) → m ≤ n → GenLow n g → GenLow m g
-unfolding GenLow
-gen_lower m n g h low x v l = low x v (omega (arith, h, l))
+pub one_of : (a b : Bool) → a || b ≡ true → (a ≡ true) ⊎ (b ≡ true)
+one_of true b e = inl refl
+one_of false b e = inr e
 
-pub part_lower : (m n : ℕ) (p : EventPart) → m ≤ n → PartLow n p → PartLow m p
-unfolding PartLow
-part_lower m n p h low x v l = low x v (omega (arith, h, l))
+-- what is read under generators or by them, and after fields or by them
+pub under_split : (gs : List Binding) (inner : Names) (x : ℕ) → under gs inner x ≡ true → (under gs nowhere x ≡ true) ⊎ (inner x ≡ true)
+under_split [] inner x e = inr e
+under_split (g ∷ gs) inner x e = through (g.0 x) (not (g.1 x)) (under gs inner x) (under gs nowhere x) (inner x) (under_split gs inner x) e
 
-module _ {T : Type 0} (P : ℕ → T → Type 0) (lower : (m n : ℕ) (x : T) → m ≤ n → P n x → P m x) where
-  pub all_lower : (m n : ℕ) (xs : List T) → m ≤ n → AllLow P n xs → AllLow P m xs
-  all_lower m n [] h low = tt
-  all_lower m n (x ∷ xs) h low = (lower m n x h low.0, all_lower m n xs h low.1)
+pub before_split : (fs : List Field) (inner : Names) (x : ℕ) → before fs inner x ≡ true → (before fs nowhere x ≡ true) ⊎ (inner x ≡ true)
+before_split [] inner x e = inr e
+before_split (field.Put a ∷ fs) inner x e = through (expr_free a x) true (before fs inner x) (before fs nowhere x) (inner x) (before_split fs inner x) e
+before_split (field.Get y (Some s) ∷ fs) inner x e = through (expr_free s x) (not (nat_eq y x)) (before fs inner x) (before fs nowhere x) (inner x) (before_split fs inner x) e
+before_split (field.Get y None ∷ fs) inner x e = through false (not (nat_eq y x)) (before fs inner x) (before fs nowhere x) (inner x) (before_split fs inner x) e
 
-  low_push : (m : ℕ) (xs : List T) (x : T) → AllLow P m xs → P m x → AllLow P m (xs ++ x ∷ [])
-  low_push m [] x low h = (h, tt)
-  low_push m (y ∷ xs) x low h = (low.0, low_push m xs x low.1 h)
+-- the first generator, and the first field
+pub first_gen : (g : Binding) (gs : List Binding) (x : ℕ) → under (g ∷ gs) nowhere x ≡ true → (g.0 x ≡ true) ⊎ (under gs nowhere x ≡ true)
+first_gen g gs x e = first (g.0 x) (not (g.1 x)) (under gs nowhere x) e
+  where
+    first : (a n u : Bool) → a || (n && u) ≡ true → (a ≡ true) ⊎ (u ≡ true)
+    first true n u h = inl refl
+    first false true u h = inr h
+    first false false u h = absurd (false≢true h)
 
-  -- one part more of a list
-  pub low_more : (m n k : ℕ) (xs : List T) (i : ℕ) (x : T) → i < length xs → x ≡ get_or xs i x → m ≤ n → m ≤ k → AllLow P n (take i xs) → P k x → AllLow P m (take (i + 1) xs)
-  low_more m n k xs i x h e left right low is =
-      subst (λ (ys : List T). AllLow P m ys) (sym (take_more xs i x h ∙ ap (λ (y : T). take i xs ++ y ∷ []) (sym e)))
-      (low_push m (take i xs) x (all_lower m n (take i xs) left low) (lower m k x right is))
+pub first_field : (f : Field) (fs : List Field) (x : ℕ) → before (f ∷ fs) nowhere x ≡ true → (before (f ∷ []) nowhere x ≡ true) ⊎ (before fs nowhere x ≡ true)
+first_field (field.Put a) fs x e = through (expr_free a x) true (before fs nowhere x) false (before fs nowhere x) (λ h. inr h) e
+first_field (field.Get y (Some s)) fs x e = through (expr_free s x) (not (nat_eq y x)) (before fs nowhere x) false (before fs nowhere x) (λ h. inr h) e
+first_field (field.Get y None) fs x e = through false (not (nat_eq y x)) (before fs nowhere x) false (before fs nowhere x) (λ h. inr h) e
 
-  pub low_next : (m n k : ℕ) (xs : List T) (i : ℕ) (other : T) → i < length xs → m ≤ n → m ≤ k → AllLow P n (take i xs) → P k (get_or xs i other) → AllLow P m (take (i + 1) xs)
-  low_next m n k xs i other h left right low is =
-      subst (λ (ys : List T). AllLow P m ys) (sym (take_more xs i other h))
-      (low_push m (take i xs) (get_or xs i other) (all_lower m n (take i xs) left low) (lower m k (get_or xs i other) right is))
+pub none_low : (m : ℕ) → IsLow m nowhere
+unfolding IsLow
+none_low m x h = absurd (false≢true h)
 
--- what is kept where a name is bound, and stays where it is not
-pub either_way : {T : Type 0} (b : Bool) (was is : T) → is ≡ was → cond b was is ≡ was
-either_way true was is h = refl
-either_way false was is h = h
+pub name_low : (m y : ℕ) → m ≡ y → IsLow m (nat_eq y)
+unfolding IsLow
+name_low m y e x h = let same = eqb-true y x h in omega (arith, e, same)
 
--- a value in place of a name below the number: what that leaves as it is
-module _ (m x : ℕ) (v : Value) (l : x < m) where
-  pub expr_stays : (e : Expr) → ExprLow m e → expr_after x v e ≡ e
-  unfolding ExprLow expr_after
-  expr_stays e low = low x v l
+pub lower : (m n : ℕ) (a : Names) → m ≤ n → IsLow n a → IsLow m a
+unfolding IsLow
+lower m n a h low x e = let l = low x e in omega (arith, h, l)
 
-  gen_stays : (g : Gen) → GenLow m g → gen_after x v g ≡ g
-  unfolding GenLow gen_after
-  gen_stays g low = low x v l
+-- names each of which is one of others
+pub low_of : (m : ℕ) (a b whole : Names) → ((x : ℕ) → whole x ≡ true → (a x ≡ true) ⊎ (b x ≡ true)) → IsLow m a → IsLow m b → IsLow m whole
+unfolding IsLow
+low_of m a b whole split h g x e = either_one (split x e)
+  where
+    either_one : (a x ≡ true) ⊎ (b x ≡ true) → m ≤ x
+    either_one (inl l) = h x l
+    either_one (inr r) = g x r
 
-  pub part_stays : (p : EventPart) → PartLow m p → part_after x v p ≡ p
-  unfolding PartLow part_after
-  part_stays p low = low x v l
+pub low_both : (m l r : ℕ) (a b whole : Names) → ((x : ℕ) → whole x ≡ true → (a x ≡ true) ⊎ (b x ≡ true)) → m ≡ min l r → IsLow l a → IsLow r b → IsLow m whole
+low_both m l r a b whole split e h g = low_of m a b whole split (lower m l a (omega (arith, e)) h) (lower m r b (omega (arith, e)) g)
 
-  pub all_stay : {T : Type 0} (P : ℕ → T → Type 0) (put : T → T) → ((t : T) → P m t → put t ≡ t) → (xs : List T) → AllLow P m xs → (b : Bool) → all_after put b xs ≡ xs
-  all_stay P put stays [] low b = refl
-  all_stay P put stays (t ∷ xs) low b = λ i. either_way b t (put t) (stays t low.0) i ∷ all_stay P put stays xs low.1 b i
+pub low_either : (m l r : ℕ) (a b : Names) → m ≡ min l r → IsLow l a → IsLow r b → IsLow m (either a b)
+low_either m l r a b = low_both m l r a b (either a b) (λ x. one_of (a x) (b x))
 
-  pub exprs_stay : (es : List Expr) → AllLow ExprLow m es → (b : Bool) → exprs_after x v b es ≡ es
-  exprs_stay = all_stay ExprLow (expr_after x v) expr_stays
+pub low_under : (m l r : ℕ) (inner : Names) (gs : List Binding) → m ≡ min l r → IsLow l inner → IsLow r (under gs nowhere) → IsLow m (under gs inner)
+low_under m l r inner gs e h g = low_both m r l (under gs nowhere) inner (under gs inner) (under_split gs inner) (omega (arith, e)) g h
 
-  pub gens_stay : (gs : List Gen) → AllLow GenLow m gs → (b : Bool) → gens_after x v b gs ≡ gs
-  gens_stay [] low b = refl
-  gens_stay (g ∷ gs) low b = λ i. either_way b g (gen_after x v g) (gen_stays g low.0) i ∷ gens_stay gs low.1 (b || binds x g) i
+-- names of a list, of which one is looked at after another: what is known so far, together with the rest, is all
+module _ {X : Type 0} (F : List X → Names) (xs : List X) where
+  abbrev pub LowSoFar : ℕ → ℕ → Type 0
+  LowSoFar all i = (n : ℕ) → IsLow n (F (drop i xs)) → IsLow (min all n) (F xs)
 
--- an expression of a form that a value leaves as it is
-pub form_low : (m : ℕ) (e f : Expr) (d : Expr-F Expr Gen EventPart) → e ≡ f → roll-Expr d ≡ f → ((x : ℕ) (v : Value) → x < m → expr_form x v false d ≡ d) → ExprLow m e
-unfolding ExprLow expr_after
-form_low m e f d same rolls stays x v l =
-    let is = same ∙ sym rolls in
-    ap (expr_after x v) is ∙ (expr_is x v d ∙ ((λ i. roll-Expr (stays x v l i)) ∙ sym is))
+  pub low_start : (all : ℕ) → LowSoFar all 0
+  low_start all n h = lower (min all n) n (F xs) (omega arith) h
 
-abbrev name : ℕ → Expr-F Expr Gen EventPart
-name y = Expr-F.Bound y
+  pub low_step : (first : X → Names) → ((x : X) (ys : List X) (k : ℕ) → F (x ∷ ys) k ≡ true → (first x k ≡ true) ⊎ (F ys k ≡ true))
+      → (i : ℕ) (x : X) (all m new : ℕ) → i < length xs → x ≡ get_or xs i x → LowSoFar all i → new ≡ min all m → IsLow m (first x) → LowSoFar new (i + 1)
+  low_step first split i x all m new within read sofar e low n h =
+      let here = low_both (min m n) m n (first x) (F (drop (i + 1) xs)) (F (x ∷ drop (i + 1) xs)) (split x (drop (i + 1) xs)) refl low h in
+      lower (min new n) (min all (min m n)) (F xs) (omega (arith, e)) (sofar (min m n) (subst (λ (ys : List X). IsLow (min m n) (F ys)) (sym (drop_read xs i x within read)) here))
 
-other_name : (x y : ℕ) (v : Value) → x < y → (b : Bool) → nat_eq y x ≡ b → cond b (Expr-F.Lit v) (name y) ≡ name y
-other_name x y v l true h = let same = eqb-true y x h in absurd (omega (arith, same, l))
-other_name x y v l false h = refl
+  pub low_end : F [] ≡ nowhere → (i all : ℕ) → length xs ≤ i → LowSoFar all i → IsLow all (F xs)
+  low_end none i all past sofar =
+      lower all (min all all) (F xs) (omega arith)
+      (sofar all (subst (λ (names : Names). IsLow all names) (sym (ap F (drop_of_length-le xs past) ∙ none)) (none_low all)))
 
-pub low_Bound : (e : Expr) (y : ℕ) → e ≡ expr.Bound y → ExprLow y e
-low_Bound e y is = form_low y e (expr.Bound y) (Expr-F.Bound y) is (expr.rolls-Bound y) (λ x v l. other_name x y v l (nat_eq y x) refl)
+-- names of a list of expressions, of fronts, of generators, of fields and of pairs
+abbrev pub each_free : {X : Type 0} → (X → Names) → List X → Names
+each_free free xs = any_of (map free xs)
 
-pub low_From : (m : ℕ) (g : Gen) (y : ℕ) (s : Expr) → g ≡ generator.From y s → ExprLow m s → GenLow m g
-unfolding GenLow gen_after
-low_From m g y s is low x v l = ap (gen_after x v) is ∙ (gen_after-From x v y s ∙ ((λ i. generator.From y (expr_stays m x v l s low i)) ∙ sym is))
+pub each_split : {X : Type 0} (free : X → Names) (x : X) (ys : List X) (k : ℕ) → each_free free (x ∷ ys) k ≡ true → (free x k ≡ true) ⊎ (each_free free ys k ≡ true)
+each_split free x ys k = one_of (free x k) (each_free free ys k)
 
-pub low_Cond : (m : ℕ) (g : Gen) (c : Expr) → g ≡ generator.Cond c → ExprLow m c → GenLow m g
-unfolding GenLow gen_after
-low_Cond m g c is low x v l = ap (gen_after x v) is ∙ (gen_after-Cond x v c ∙ ((λ i. generator.Cond (expr_stays m x v l c low i)) ∙ sym is))
+abbrev pub gens_free : List Gen → Names
+gens_free gens = under (map gen_binding gens) nowhere
 
-pub low_part : (m : ℕ) (p : EventPart) → AllLow ExprLow m (out-EventPart p).fields → PartLow m p
-unfolding PartLow part_after
-low_part m p low x v l =
-    (λ i. part_after x v (sym (roll-out-EventPart p) i)) ∙
-    (part_is x v (out-EventPart p) ∙
-    ((λ i. roll-EventPart (record { channel = (out-EventPart p).channel; fields = exprs_stay m x v l (out-EventPart p).fields low false i })) ∙ roll-out-EventPart p))
+abbrev pub gen_free : Gen → Names
+gen_free g = (gen_binding g).0
 
--- a part as it is reached
-pub expr_at : (m : ℕ) (e' e : Expr) → e' ≡ e → ExprLow m e' → ExprLow m e
-expr_at m e' e h low = subst (λ (t : Expr). ExprLow m t) h low
+pub gens_split : (g : Gen) (gs : List Gen) (k : ℕ) → gens_free (g ∷ gs) k ≡ true → (gen_free g k ≡ true) ⊎ (gens_free gs k ≡ true)
+gens_split g gs k = first_gen (gen_binding g) (map gen_binding gs) k
 
-pub part_of : (m n : ℕ) (e' e : Expr) → e' ≡ e → m ≤ n → ExprLow n e' → ExprLow m e
-part_of m n e' e h l low = expr_at m e' e h (expr_lower m n e' l low)
+abbrev pub fields_free : List Field → Names
+fields_free fields = before fields nowhere
 
-pub exprs_of : (m n : ℕ) (es' es : List Expr) → es' ≡ es → m ≤ n → AllLow ExprLow n es' → AllLow ExprLow m es
-exprs_of m n es' es h l low = subst (λ (ts : List Expr). AllLow ExprLow m ts) h (all_lower ExprLow expr_lower m n es' l low)
-
-pub gens_of : (m n : ℕ) (gs' gs : List Gen) → gs' ≡ gs → m ≤ n → AllLow GenLow n gs' → AllLow GenLow m gs
-gens_of m n gs' gs h l low = subst (λ (ts : List Gen). AllLow GenLow m ts) h (all_lower GenLow gen_lower m n gs' l low)
-
-pub parts_of : (m n : ℕ) (ps' ps : List EventPart) → ps' ≡ ps → m ≤ n → AllLow PartLow n ps' → AllLow PartLow m ps
-parts_of m n ps' ps h l low = subst (λ (ts : List EventPart). AllLow PartLow m ts) h (all_lower PartLow part_lower m n ps' l low)
-
-pub pair_lower : (m n : ℕ) (pair : EventPart × EventPart) → m ≤ n → PairLow n pair → PairLow m pair
-pair_lower m n pair h low = (part_lower m n pair.0 h low.0, part_lower m n pair.1 h low.1)
-
-pub field_lower : (m n : ℕ) (f : Field) → m ≤ n → FieldLow n f → FieldLow m f
-field_lower m n (field.Put e) h low = expr_lower m n e h low
-field_lower m n (field.Get y (Some s)) h low = expr_lower m n s h low
-field_lower m n (field.Get y None) h low = tt
-
-pub head_lower : (m n : ℕ) (h : Head) → m ≤ n → HeadLow n h → HeadLow m h
-head_lower m n (head.Channel c) h low = tt
-head_lower m n (head.Bound y) h low = omega (arith, h, low)
-head_lower m n (head.Put w) h low = tt
+abbrev pub field_free : Field → Names
+field_free f = before (f ∷ []) nowhere

@@ -8,8 +8,9 @@ use Rattle.std.specs.Prelude.{is_some, IfSome, MatchOption, Result, Ok, Err, OnO
 use Rattle.std.specs.Set.{is_member}
 use Rattle.containers.proofs.MembersLemmas.{slice_get-append_left}
 use Rattle.containers.specs.Members.{with_new}
-use Rattle.pool_parts.specs.Stored.{AreNoted, IsAbsent, IsNote, IsStart}
-use Rattle.pool_parts.specs.declared.store.Note.{Note}
+use Rattle.pool_parts.specs.Stored.{AreNoted, IsAbsent, IsMeasure, IsStart}
+use Rattle.csp_program.specs.Free.{Names}
+use Rattle.pool_parts.specs.declared.measure.Measure.{Measure}
 use Rattle.csp_base.specs.Lists.{EachOnce}
 
 every_at : {T : Type 0} (P : T → Type 0) (xs : List T) → AllByRecursion P xs → (k : ℕ) (x : T) → slice_get xs k ≡ Some x → P x
@@ -72,39 +73,39 @@ start_numbered eq old new x (Ok place) ok err k y g = start_new eq old new x ok 
 start_numbered {T} eq old new x (Err f) ok err k y g = subst (λ (xs : List T). slice_get xs k ≡ Some y) (sym err) g
 
 -- what is noted of the parts
-module _ {T : Type 0} (d s : T → ℕ) (l : ℕ → T → Type 0) where
-  noted_more : (notes : List Note) (xs more : List T) → AreNoted d s l notes xs → AreNoted d s l notes (xs ++ more)
+module _ {T : Type 0} (d s : T → ℕ) (l : T → Names) where
+  pub noted_more : (notes : List Measure) (xs more : List T) → AreNoted d s l notes xs → AreNoted d s l notes (xs ++ more)
   noted_more [] xs more h = tt
   noted_more (note ∷ notes) [] more h = absurd h
   noted_more (note ∷ notes) (x ∷ xs) more h = (h.0, noted_more notes xs more h.1)
 
-  noted_new : (eq : T → T → Bool) (notes : List Note) (old new : List T) (x : T) → new ≡ with_new eq old x → AreNoted d s l notes old → AreNoted d s l notes new
+  noted_new : (eq : T → T → Bool) (notes : List Measure) (old new : List T) (x : T) → new ≡ with_new eq old x → AreNoted d s l notes old → AreNoted d s l notes new
   noted_new eq notes old new x e h = either (is_member eq old x) refl
     where
       either : (b : Bool) → is_member eq old x ≡ b → AreNoted d s l notes new
       either true g = subst (λ (xs : List T). AreNoted d s l notes xs) (sym (e ∙ ap (λ (b : Bool). cond b old (old ++ x ∷ [])) g)) h
       either false g = subst (λ (xs : List T). AreNoted d s l notes xs) (sym (e ∙ ap (λ (b : Bool). cond b old (old ++ x ∷ [])) g)) (noted_more notes old (x ∷ []) h)
 
-  pub noted_numbered : {E : Type 0} (eq : T → T → Bool) (notes : List Note) (old new : List T) (x : T) (r : Result ℕ E) → OnOk r (new ≡ with_new eq old x) → OnErr r (new ≡ old) → AreNoted d s l notes old → AreNoted d s l notes new
+  pub noted_numbered : {E : Type 0} (eq : T → T → Bool) (notes : List Measure) (old new : List T) (x : T) (r : Result ℕ E) → OnOk r (new ≡ with_new eq old x) → OnErr r (new ≡ old) → AreNoted d s l notes old → AreNoted d s l notes new
   noted_numbered eq notes old new x (Ok k) ok err h = noted_new eq notes old new x ok h
   noted_numbered eq notes old new x (Err f) ok err h = subst (λ (xs : List T). AreNoted d s l notes xs) (sym err) h
 
-  noted_push : (notes : List Note) (xs : List T) (note : Note) (x : T) → AreNoted d s l notes xs → slice_get xs (length notes) ≡ Some x → IsNote d s l x note → AreNoted d s l (notes ++ note ∷ []) xs
+  pub noted_push : (notes : List Measure) (xs : List T) (note : Measure) (x : T) → AreNoted d s l notes xs → slice_get xs (length notes) ≡ Some x → IsMeasure d s l x note → AreNoted d s l (notes ++ note ∷ []) xs
   noted_push [] [] note x h g is = cc
-  noted_push [] (y ∷ xs) note x h g is = let e : y ≡ x = cc in (subst (λ (z : T). IsNote d s l z note) (sym e) is, tt)
+  noted_push [] (y ∷ xs) note x h g is = let e : y ≡ x = cc in (subst (λ (z : T). IsMeasure d s l z note) (sym e) is, tt)
   noted_push (n ∷ notes) [] note x h g is = absurd h
   noted_push (n ∷ notes) (y ∷ xs) note x h g is = (h.0, noted_push notes xs note x h.1 g is)
 
   -- whether memory failed or not
-  pub noted_pushed : {A E : Type 0} (old new : List Note) (xs : List T) (note : Note) (x : T) (r : Result A E) → OnOk r (new ≡ old ++ note ∷ []) → OnErr r (new ≡ old) → AreNoted d s l old xs
-      → slice_get xs (length old) ≡ Some x → IsNote d s l x note → AreNoted d s l new xs
-  noted_pushed old new xs note x (Ok a) ok err h g is = subst (λ (notes : List Note). AreNoted d s l notes xs) (sym ok) (noted_push old xs note x h g is)
-  noted_pushed old new xs note x (Err f) ok err h g is = subst (λ (notes : List Note). AreNoted d s l notes xs) (sym err) h
+  pub noted_pushed : {A E : Type 0} (old new : List Measure) (xs : List T) (note : Measure) (x : T) (r : Result A E) → OnOk r (new ≡ old ++ note ∷ []) → OnErr r (new ≡ old) → AreNoted d s l old xs
+      → slice_get xs (length old) ≡ Some x → IsMeasure d s l x note → AreNoted d s l new xs
+  noted_pushed old new xs note x (Ok a) ok err h g is = subst (λ (notes : List Measure). AreNoted d s l notes xs) (sym ok) (noted_push old xs note x h g is)
+  noted_pushed old new xs note x (Err f) ok err h g is = subst (λ (notes : List Measure). AreNoted d s l notes xs) (sym err) h
 
-  pub noted_at : (notes : List Note) (xs : List T) (k : ℕ) (note : Note) (other : T) → AreNoted d s l notes xs → slice_get notes k ≡ Some note → IsNote d s l (get_or xs k other) note
+  pub noted_at : (notes : List Measure) (xs : List T) (k : ℕ) (note : Measure) (other : T) → AreNoted d s l notes xs → slice_get notes k ≡ Some note → IsMeasure d s l (get_or xs k other) note
   noted_at [] xs k note other h g = cc
   noted_at (n ∷ notes) [] k note other h g = absurd h
-  noted_at (n ∷ notes) (x ∷ xs) zero note other h g = let e : n ≡ note = cc in subst (λ (m : Note). IsNote d s l x m) e h.0
+  noted_at (n ∷ notes) (x ∷ xs) zero note other h g = let e : n ≡ note = cc in subst (λ (m : Measure). IsMeasure d s l x m) e h.0
   noted_at (n ∷ notes) (x ∷ xs) (suc k) note other h g = noted_at notes xs k note other h.1 g
 
 -- the part at the end of what is noted

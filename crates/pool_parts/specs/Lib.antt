@@ -1,4 +1,5 @@
 pub mod Counting
 pub mod ExactId
 pub mod Low
+pub mod Stays
 pub mod Stored

@@ -1,19 +1,21 @@
 -- What a store keeps of its parts.
 use Rattle.std.specs.Prelude.{◌≡◌, ℕ, Some, List, [], ◌∷◌, slice_get}
+use Rattle.csp_program.specs.Free.{Names}
 use Rattle.pool_parts.specs.Counting.{capped}
-use Rattle.pool_parts.specs.declared.store.Note.{Note}
+use Rattle.pool_parts.specs.Low.{IsLow}
+use Rattle.pool_parts.specs.declared.measure.Measure.{Measure}
 
--- what is noted of a part: its measure, by its depth and its size, and a number that is low for it
-pub record IsNote {T : Type 0} (depth_of : T → ℕ) (size_of : T → ℕ) (low_of : ℕ → T → Type 0) (x : T) (note : Note) : Type 0 where
-  pub depth : note.measure.depth ≡ capped (depth_of x)
-  pub size : note.measure.size ≡ capped (size_of x)
-  pub low : low_of note.least x
+-- what a part measures, by its depth, its size and the names that are free in it
+pub record IsMeasure {T : Type 0} (depth_of : T → ℕ) (size_of : T → ℕ) (free_of : T → Names) (x : T) (m : Measure) : Type 0 where
+  pub depth : m.depth ≡ capped (depth_of x)
+  pub size : m.size ≡ capped (size_of x)
+  pub low : IsLow m.least (free_of x)
 
 -- the same of each of the first parts, one after another
-abbrev pub AreNoted : {T : Type 0} → (T → ℕ) → (T → ℕ) → (ℕ → T → Type 0) → List Note → List T → Type 0
-AreNoted depth_of size_of low_of [] xs = Unit {0}
-AreNoted depth_of size_of low_of (note ∷ notes) [] = ⊥
-AreNoted depth_of size_of low_of (note ∷ notes) (x ∷ xs) = IsNote depth_of size_of low_of x note × AreNoted depth_of size_of low_of notes xs
+abbrev pub AreNoted : {T : Type 0} → (T → ℕ) → (T → ℕ) → (T → Names) → List Measure → List T → Type 0
+AreNoted depth_of size_of free_of [] xs = Unit {0}
+AreNoted depth_of size_of free_of (m ∷ ms) [] = ⊥
+AreNoted depth_of size_of free_of (m ∷ ms) (x ∷ xs) = IsMeasure depth_of size_of free_of x m × AreNoted depth_of size_of free_of ms xs
 
 -- x stands nowhere in the list
 abbrev pub IsAbsent : {T : Type 0} → List T → T → Type 0

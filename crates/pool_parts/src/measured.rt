@@ -1,19 +1,22 @@
 //! What expressions and processes measure.
 
-ghost use Rattle.std.specs.Prelude.{◌≡◌, ◌+◌, max, map};
+ghost use Rattle.std.specs.Prelude.{◌≡◌, ◌+◌, [], ◌∷◌, max, map};
 ghost use Rattle.csp_program.specs.Depth.{expr_depth, gen_depth, part_depth, pair_depth, field_depth};
+ghost use Rattle.csp_program.specs.Free.{any_of, before, either, expr_free, gen_binding, head_free, nowhere, pair_free, part_free, under};
 ghost use Rattle.csp_program.specs.Size.{elements_of, expr_size, gen_size, part_size, pair_size, field_size};
 ghost use Rattle.pool_parts.specs.Counting.{capped};
+ghost use Rattle.pool_parts.specs.Low.{IsLow};
 ghost use Rattle.csp_base.specs.Lists.{greatest, total};
 
-use crate::measure::{Measure, counted, elements, node, nothing, together};
+use crate::measure::{Measure, counted, elements, name, node, nothing, together};
 use containers::{Boxed, Items};
-use csp_program::{EventPart, Expr, Field, Gen, Value};
+use csp_program::{EventPart, Expr, Field, Gen, Head, Value};
 
 // The elements of the sets of a value.
 fn of_value(value: &Value) -> Measure
     ensures depth { result.depth ≡ 0 }
     ensures size { result.size ≡ capped (elements_of value.now) }
+    ensures low { IsLow result.least nowhere }
 {
     match value {
         Value::One(_) => nothing(),
@@ -26,6 +29,7 @@ fn of_value(value: &Value) -> Measure
 pub fn of_expr(expr: &Expr) -> Measure
     ensures depth { result.depth ≡ capped (expr_depth expr.now) }
     ensures size { result.size ≡ capped (expr_size expr.now) }
+    ensures low { IsLow result.least (expr_free expr.now) }
 {
     node(of_parts_of_expr(expr))
 }
@@ -33,13 +37,13 @@ pub fn of_expr(expr: &Expr) -> Measure
 // What the parts of an expression measure together.
 #[cycle(of_expr)]
 fn of_parts_of_expr(expr: &Expr) -> Measure
-    ensures { (capped (1 + result.depth) ≡ capped (expr_depth expr.now)) × (capped (1 + result.size) ≡ capped (expr_size expr.now)) }
+    ensures { (capped (1 + result.depth) ≡ capped (expr_depth expr.now)) × (capped (1 + result.size) ≡ capped (expr_size expr.now)) × IsLow result.least (expr_free expr.now) }
 {
     match expr {
         Expr::Num(_) => nothing(),
         Expr::Truth(_) => nothing(),
         Expr::Const(_) => nothing(),
-        Expr::Bound(_) => nothing(),
+        Expr::Bound(number) => name(*number),
         Expr::Lit(value) => of_value(value),
         Expr::Neg(a) => of_expr(a.get()),
         Expr::Not(a) => of_expr(a.get()),
@@ -61,6 +65,7 @@ fn of_parts_of_expr(expr: &Expr) -> Measure
 fn of_both(a: &Boxed<Expr>, b: &Boxed<Expr>) -> Measure
     ensures depth { result.depth ≡ capped (max (expr_depth a.now) (expr_depth b.now)) }
     ensures size { result.size ≡ capped (expr_size a.now + expr_size b.now) }
+    ensures low { IsLow result.least (either (expr_free a.now) (expr_free b.now)) }
 {
     together(of_expr(a.get()), of_expr(b.get()))
 }
@@ -70,6 +75,7 @@ fn of_both(a: &Boxed<Expr>, b: &Boxed<Expr>) -> Measure
 fn of_comprehension(items: &Items<Expr>, gens: &Items<Gen>) -> Measure
     ensures depth { result.depth ≡ capped (max (greatest (map expr_depth items.now)) (greatest (map gen_depth gens.now))) }
     ensures size { result.size ≡ capped (total (map expr_size items.now) + total (map gen_size gens.now)) }
+    ensures low { IsLow result.least (under (map gen_binding gens.now) (any_of (map expr_free items.now))) }
 {
     together(of_exprs(items.as_slice()), of_gens(gens.as_slice()))
 }
@@ -79,6 +85,7 @@ fn of_comprehension(items: &Items<Expr>, gens: &Items<Gen>) -> Measure
 fn of_production(parts: &Items<EventPart>, gens: &Items<Gen>) -> Measure
     ensures depth { result.depth ≡ capped (max (greatest (map part_depth parts.now)) (greatest (map gen_depth gens.now))) }
     ensures size { result.size ≡ capped (total (map part_size parts.now) + total (map gen_size gens.now)) }
+    ensures low { IsLow result.least (under (map gen_binding gens.now) (any_of (map part_free parts.now))) }
 {
     together(of_parts(parts.as_slice()), of_gens(gens.as_slice()))
 }
@@ -88,6 +95,7 @@ fn of_production(parts: &Items<EventPart>, gens: &Items<Gen>) -> Measure
 pub fn of_exprs(exprs: &[Expr]) -> Measure
     ensures depth { result.depth ≡ capped (greatest (map expr_depth exprs.now)) }
     ensures size { result.size ≡ capped (total (map expr_size exprs.now)) }
+    ensures low { IsLow result.least (any_of (map expr_free exprs.now)) }
 {
     let mut all = nothing();
     for expr in exprs {
@@ -101,6 +109,7 @@ pub fn of_exprs(exprs: &[Expr]) -> Measure
 fn of_gen(generator: &Gen) -> Measure
     ensures depth { result.depth ≡ capped (gen_depth generator.now) }
     ensures size { result.size ≡ capped (gen_size generator.now) }
+    ensures low { IsLow result.least ((gen_binding generator.now).0) }
 {
     match generator {
         Gen::From(_, set) => counted(of_expr(set)),
@@ -113,6 +122,7 @@ fn of_gen(generator: &Gen) -> Measure
 pub fn of_gens(gens: &[Gen]) -> Measure
     ensures depth { result.depth ≡ capped (greatest (map gen_depth gens.now)) }
     ensures size { result.size ≡ capped (total (map gen_size gens.now)) }
+    ensures low { IsLow result.least (under (map gen_binding gens.now) nowhere) }
 {
     let mut all = nothing();
     for generator in gens {
@@ -126,6 +136,7 @@ pub fn of_gens(gens: &[Gen]) -> Measure
 fn of_part(part: &EventPart) -> Measure
     ensures depth { result.depth ≡ capped (part_depth part.now) }
     ensures size { result.size ≡ capped (part_size part.now) }
+    ensures low { IsLow result.least (part_free part.now) }
 {
     of_exprs(part.fields.as_slice())
 }
@@ -134,6 +145,7 @@ fn of_part(part: &EventPart) -> Measure
 fn of_parts(parts: &[EventPart]) -> Measure
     ensures depth { result.depth ≡ capped (greatest (map part_depth parts.now)) }
     ensures size { result.size ≡ capped (total (map part_size parts.now)) }
+    ensures low { IsLow result.least (any_of (map part_free parts.now)) }
 {
     let mut all = nothing();
     for part in parts {
@@ -145,6 +157,7 @@ fn of_parts(parts: &[EventPart]) -> Measure
 fn of_field(field: &Field) -> Measure
     ensures depth { result.depth ≡ capped (field_depth field.now) }
     ensures size { result.size ≡ capped (field_size field.now) }
+    ensures low { IsLow result.least (before (field.now ∷ []) nowhere) }
 {
     match field {
         Field::Put(expr) => counted(of_expr(expr)),
@@ -157,6 +170,7 @@ fn of_field(field: &Field) -> Measure
 pub fn of_fields(fields: &[Field]) -> Measure
     ensures depth { result.depth ≡ capped (greatest (map field_depth fields.now)) }
     ensures size { result.size ≡ capped (total (map field_size fields.now)) }
+    ensures low { IsLow result.least (before fields.now nowhere) }
 {
     let mut all = nothing();
     for field in fields {
@@ -168,6 +182,7 @@ pub fn of_fields(fields: &[Field]) -> Measure
 fn of_pair(pair: &(EventPart, EventPart)) -> Measure
     ensures depth { result.depth ≡ capped (pair_depth pair.now) }
     ensures size { result.size ≡ capped (pair_size pair.now) }
+    ensures low { IsLow result.least (pair_free pair.now) }
 {
     counted(together(of_part(&pair.0), of_part(&pair.1)))
 }
@@ -176,10 +191,24 @@ fn of_pair(pair: &(EventPart, EventPart)) -> Measure
 pub fn of_pairs(pairs: &[(EventPart, EventPart)]) -> Measure
     ensures depth { result.depth ≡ capped (greatest (map pair_depth pairs.now)) }
     ensures size { result.size ≡ capped (total (map pair_size pairs.now)) }
+    ensures low { IsLow result.least (any_of (map pair_free pairs.now)) }
 {
     let mut all = nothing();
     for pair in pairs {
         all = together(all, of_pair(pair));
     }
     all
+}
+
+/// What a head measures: it counts nothing.
+pub fn of_head(head: &Head) -> Measure
+    ensures depth { result.depth ≡ 0 }
+    ensures size { result.size ≡ 0 }
+    ensures low { IsLow result.least (head_free head.now) }
+{
+    match head {
+        Head::Channel(_) => nothing(),
+        Head::Bound(number) => name(*number),
+        Head::Put(_) => nothing(),
+    }
 }

@@ -1,41 +1,49 @@
 //! The kinds of parts that nodes have.
 
 ghost use Rattle.std.specs.Prelude.{map};
-ghost use Rattle.csp_program.specs.Depth.{expr_depth, field_depth, gen_depth, pair_depth};
-ghost use Rattle.csp_program.specs.Size.{expr_size, field_size, gen_size, pair_size};
-ghost use Rattle.pool_parts.specs.Low.{AllLow, ExprLow, FieldLow, GenLow, HeadLow, PairLow};
 ghost use Rattle.csp_base.specs.Lists.{greatest, total};
+ghost use Rattle.csp_program.specs.Depth.{expr_depth, field_depth, gen_depth, pair_depth};
+ghost use Rattle.csp_program.specs.Free.{any_of, before, expr_free, gen_binding, head_free, nowhere, pair_free, under};
+ghost use Rattle.csp_program.specs.Size.{expr_size, field_size, gen_size, pair_size};
+ghost use Rattle.csp_program.specs.Substitution.{expr_with, fields_with, gens_with, head_with};
+ghost use Rattle.pool_parts.specs.Stays.{exprs_stay, head_stays};
+ghost use Rattle.substitution.proofs.Stays.{expr_stays, fields_stay, gens_stay};
 
-use crate::least::{
-    least_of_expr, least_of_exprs, least_of_fields, least_of_gens, least_of_head, least_of_pairs,
-};
 use crate::measure::{Measure, nothing};
-use crate::measured::{of_expr, of_exprs, of_fields, of_gens, of_pairs};
+use crate::measured::{of_expr, of_exprs, of_fields, of_gens, of_head, of_pairs};
 use crate::place::ProcId;
+use crate::put::Put;
 use crate::store::Part;
 use containers::Items;
 use csp_base::NoMemory;
 use csp_program::copies::{copy_expr, copy_exprs, copy_fields, copy_gens, copy_head, copy_pairs};
 use csp_program::{EventPart, Expr, Field, Gen, Head};
 use std::alloc::Global;
+use substitution::{Values, put_expr, put_exprs, put_fields, put_gens, put_head};
 
 impl Part for Head {
     ghost depth = { λ head. 0 };
 
     ghost size = { λ head. 0 };
 
-    ghost low = { HeadLow };
+    ghost free = { head_free };
 
     fn copy(&self, alloc: Global) -> Result<Head, NoMemory> {
         copy_head(alloc, self)
     }
 
     fn measure(&self) -> Measure {
-        nothing()
+        of_head(self)
     }
+}
 
-    fn least(&self) -> u32 {
-        least_of_head(self)
+impl Put for Head {
+    ghost with = { head_with };
+
+    ghost stays = { head_stays };
+
+    fn put(&self, alloc: Global, values: &Values<'_>) -> Result<Head, NoMemory> {
+        put_head(alloc, self, values)
     }
 }
 
@@ -44,7 +52,7 @@ impl Part for Items<Field> {
 
     ghost size = { λ fields. total (map field_size fields) };
 
-    ghost low = { AllLow FieldLow };
+    ghost free = { λ fields. before fields nowhere };
 
     fn copy(&self, alloc: Global) -> Result<Items<Field>, NoMemory> {
         copy_fields(alloc, self.as_slice())
@@ -53,9 +61,15 @@ impl Part for Items<Field> {
     fn measure(&self) -> Measure {
         of_fields(self.as_slice())
     }
+}
 
-    fn least(&self) -> u32 {
-        least_of_fields(self.as_slice())
+impl Put for Items<Field> {
+    ghost with = { fields_with };
+
+    ghost stays = { fields_stay };
+
+    fn put(&self, alloc: Global, values: &Values<'_>) -> Result<Items<Field>, NoMemory> {
+        put_fields(alloc, self.as_slice(), values)
     }
 }
 
@@ -64,7 +78,7 @@ impl Part for Expr {
 
     ghost size = { expr_size };
 
-    ghost low = { ExprLow };
+    ghost free = { expr_free };
 
     fn copy(&self, alloc: Global) -> Result<Expr, NoMemory> {
         copy_expr(alloc, self)
@@ -73,9 +87,15 @@ impl Part for Expr {
     fn measure(&self) -> Measure {
         of_expr(self)
     }
+}
 
-    fn least(&self) -> u32 {
-        least_of_expr(self)
+impl Put for Expr {
+    ghost with = { expr_with };
+
+    ghost stays = { expr_stays };
+
+    fn put(&self, alloc: Global, values: &Values<'_>) -> Result<Expr, NoMemory> {
+        put_expr(alloc, self, values)
     }
 }
 
@@ -84,7 +104,7 @@ impl Part for Items<Expr> {
 
     ghost size = { λ exprs. total (map expr_size exprs) };
 
-    ghost low = { AllLow ExprLow };
+    ghost free = { λ exprs. any_of (map expr_free exprs) };
 
     fn copy(&self, alloc: Global) -> Result<Items<Expr>, NoMemory> {
         copy_exprs(alloc, self.as_slice())
@@ -93,9 +113,15 @@ impl Part for Items<Expr> {
     fn measure(&self) -> Measure {
         of_exprs(self.as_slice())
     }
+}
 
-    fn least(&self) -> u32 {
-        least_of_exprs(self.as_slice())
+impl Put for Items<Expr> {
+    ghost with = { λ given. map (expr_with given) };
+
+    ghost stays = { exprs_stay };
+
+    fn put(&self, alloc: Global, values: &Values<'_>) -> Result<Items<Expr>, NoMemory> {
+        put_exprs(alloc, self.as_slice(), values)
     }
 }
 
@@ -104,7 +130,7 @@ impl Part for Items<(EventPart, EventPart)> {
 
     ghost size = { λ pairs. total (map pair_size pairs) };
 
-    ghost low = { AllLow PairLow };
+    ghost free = { λ pairs. any_of (map pair_free pairs) };
 
     fn copy(&self, alloc: Global) -> Result<Items<(EventPart, EventPart)>, NoMemory> {
         copy_pairs(alloc, self.as_slice())
@@ -113,10 +139,6 @@ impl Part for Items<(EventPart, EventPart)> {
     fn measure(&self) -> Measure {
         of_pairs(self.as_slice())
     }
-
-    fn least(&self) -> u32 {
-        least_of_pairs(self.as_slice())
-    }
 }
 
 impl Part for Items<Gen> {
@@ -124,7 +146,7 @@ impl Part for Items<Gen> {
 
     ghost size = { λ gens. total (map gen_size gens) };
 
-    ghost low = { AllLow GenLow };
+    ghost free = { λ gens. under (map gen_binding gens) nowhere };
 
     fn copy(&self, alloc: Global) -> Result<Items<Gen>, NoMemory> {
         copy_gens(alloc, self.as_slice())
@@ -133,9 +155,15 @@ impl Part for Items<Gen> {
     fn measure(&self) -> Measure {
         of_gens(self.as_slice())
     }
+}
 
-    fn least(&self) -> u32 {
-        least_of_gens(self.as_slice())
+impl Put for Items<Gen> {
+    ghost with = { gens_with };
+
+    ghost stays = { gens_stay };
+
+    fn put(&self, alloc: Global, values: &Values<'_>) -> Result<Items<Gen>, NoMemory> {
+        put_gens(alloc, self.as_slice(), values)
     }
 }
 
@@ -144,7 +172,7 @@ impl Part for Items<ProcId> {
 
     ghost size = { λ ids. 0 };
 
-    ghost low = { λ least ids. Unit {0} };
+    ghost free = { λ ids. nowhere };
 
     fn copy(&self, alloc: Global) -> Result<Items<ProcId>, NoMemory> {
         let copy = Items::from_slice(alloc, self.as_slice())?;
@@ -153,9 +181,5 @@ impl Part for Items<ProcId> {
 
     fn measure(&self) -> Measure {
         nothing()
-    }
-
-    fn least(&self) -> u32 {
-        u32::MAX
     }
 }

@@ -1,13 +1,15 @@
-//! Values that a pool keeps once each, with what is noted of each.
+//! Values that a pool keeps once each, with what each measures.
 
 ghost use Rattle.std.specs.Prelude.{◌≡◌, ℕ, ◌<◌, [], length, slice_get, slice_index_or, IfOk, IsTrue, List, MatchOption, OnErr, Some};
 ghost use Rattle.pool_parts.specs.Counting.{capped};
-ghost use Rattle.pool_parts.specs.Stored.{AreNoted, IsAbsent, IsNote, IsStart};
-ghost use Rattle.pool_parts.specs.declared.store.Note.{Note};
+ghost use Rattle.pool_parts.specs.Low.{IsLow};
+ghost use Rattle.pool_parts.specs.Stored.{AreNoted, IsAbsent, IsMeasure, IsStart};
+ghost use Rattle.pool_parts.specs.declared.measure.Measure.{Measure};
 ghost use Rattle.csp_base.specs.Lists.{EachOnce};
+ghost use Rattle.csp_program.specs.Free.{Names};
 
 use crate::measure::Measure;
-use containers::{Exact, Items, Key, Numbering};
+use containers::{Exact, Items, Numbering, QuickKey};
 use csp_base::NoMemory;
 use std::alloc::Global;
 use std::hash::Hash;
@@ -19,7 +21,7 @@ pub trait Part: Exact + Hash + Drop {
 
     ghost size: { Self → ℕ };
 
-    ghost low: { ℕ → Self → Type 0 };
+    ghost free: { Self → Names };
 
     /// The same part, in memory of its own.
     fn copy(&self, alloc: Global) -> Result<Self, NoMemory>
@@ -28,28 +30,16 @@ pub trait Part: Exact + Hash + Drop {
     /// What it measures.
     fn measure(&self) -> Measure
         ensures depth { result.depth ≡ capped (depth self.now) }
-        ensures size { result.size ≡ capped (size self.now) };
-
-    /// A number below which it reads no name: a value in place of such a name leaves it as it is.
-    fn least(&self) -> u32
-        ensures { low result self.now };
+        ensures size { result.size ≡ capped (size self.now) }
+        ensures low { IsLow result.least (free self.now) };
 }
 
-/// What is noted of a part.
-#[derive(Clone, Copy)]
-pub struct Note {
-    /// What it measures.
-    pub measure: Measure,
-    /// A number below which it reads no name.
-    pub least: u32,
-}
-
-/// Parts that stand once each, numbered from 0 on, and what is noted of each.
+/// Parts that stand once each, numbered from 0 on, and what each measures.
 ///
 /// Contracts see the list of the parts.
 pub struct Store<T: Part> {
-    parts: Numbering<T, Key>,
-    notes: Items<Note>,
+    parts: Numbering<T, QuickKey>,
+    notes: Items<Measure>,
     // the number that was told last: the same part is often asked for again
     latest: usize,
 }
@@ -76,12 +66,12 @@ impl<T: Part> Model for Store<T> {
 
     ghost view = { λ s. s.parts };
 
-    ghost invariant = { λ s. AreNoted T.depth T.size T.low s.notes s.parts };
+    ghost invariant = { λ s. AreNoted T.depth T.size T.free s.notes s.parts };
 }
 
 impl<T: Part> Store<T> {
     /// No parts. They are found by their hashes under this key. It takes no memory yet.
-    pub fn new(alloc: Global, key: Key) -> Store<T>
+    pub fn new(alloc: Global, key: QuickKey) -> Store<T>
         ensures { result ≡ [] }
     {
         Store {
@@ -112,16 +102,9 @@ impl<T: Part> Store<T> {
         requires { place < length self.now }
         ensures depth { (other : T) → result.depth ≡ capped (T.depth (slice_index_or self.now place other)) }
         ensures size { (other : T) → result.size ≡ capped (T.size (slice_index_or self.now place other)) }
+        ensures low { (other : T) → IsLow result.least (T.free (slice_index_or self.now place other)) }
     {
-        note_at(&self.parts, &self.notes, place).measure
-    }
-
-    /// A number below which the part with the number `place` reads no name.
-    pub fn least(&self, place: usize) -> u32
-        requires { place < length self.now }
-        ensures { (other : T) → T.low result (slice_index_or self.now place other) }
-    {
-        note_at(&self.parts, &self.notes, place).least
+        note_at(&self.parts, &self.notes, place)
     }
 
     /// The number of the part, of which a copy is kept where it is new.
@@ -148,49 +131,39 @@ impl<T: Part> Store<T> {
 }
 
 // The parts in the order of their numbers. Its contract says that none stands twice.
-fn slice_of<T: Part>(parts: &Numbering<T, Key>) -> &[T]
+fn slice_of<T: Part>(parts: &Numbering<T, QuickKey>) -> &[T]
     ensures value { result.now ≡ parts.now }
     ensures once { EachOnce parts.now }
 {
     parts.as_slice()
 }
 
-// What is to be noted of the part.
-fn note_of<T: Part>(part: &T) -> Note
-    ensures { IsNote T.depth T.size T.low part.now result }
-{
-    Note {
-        measure: part.measure(),
-        least: part.least(),
-    }
-}
-
-// What is noted of the part with the number `place`, or is to be.
-fn note_at<T: Part>(parts: &Numbering<T, Key>, notes: &Items<Note>, place: usize) -> Note
-    requires noted { AreNoted T.depth T.size T.low notes.now parts.now }
+// What the part with the number `place` measures, which is noted of the first ones alone.
+fn note_at<T: Part>(parts: &Numbering<T, QuickKey>, notes: &Items<Measure>, place: usize) -> Measure
+    requires noted { AreNoted T.depth T.size T.free notes.now parts.now }
     requires within { place < length parts.now }
-    ensures { (other : T) → IsNote T.depth T.size T.low (slice_index_or parts.now place other) result }
+    ensures { (other : T) → IsMeasure T.depth T.size T.free (slice_index_or parts.now place other) result }
 {
     match notes.get(place) {
         Some(note) => *note,
-        None => note_of(&parts.as_slice()[place]),
+        None => parts.as_slice()[place].measure(),
     }
 }
 
-// Notes what is to be noted of the first part of which nothing is. Where memory fails it notes nothing.
-fn note_next<T: Part>(parts: &Numbering<T, Key>, notes: &mut Items<Note>)
-    requires noted { AreNoted T.depth T.size T.low notes.old parts.now }
-    ensures noted { AreNoted T.depth T.size T.low notes.new parts.now }
+// Notes what the first part measures of which nothing is noted. Where memory fails it notes nothing.
+fn note_next<T: Part>(parts: &Numbering<T, QuickKey>, notes: &mut Items<Measure>)
+    requires noted { AreNoted T.depth T.size T.free notes.old parts.now }
+    ensures noted { AreNoted T.depth T.size T.free notes.new parts.now }
 {
     let place = notes.len();
     if place < parts.len() {
-        let note = note_of(&parts.as_slice()[place]);
+        let note = parts.as_slice()[place].measure();
         let _ = notes.push(note);
     }
 }
 
 // Whether the part stands at a place.
-fn is_at<T: Part>(parts: &Numbering<T, Key>, place: usize, part: &T) -> bool
+fn is_at<T: Part>(parts: &Numbering<T, QuickKey>, place: usize, part: &T) -> bool
     ensures { IsTrue result → slice_get parts.now place ≡ Some part.now }
 {
     match parts.get(place) {
@@ -200,7 +173,7 @@ fn is_at<T: Part>(parts: &Numbering<T, Key>, place: usize, part: &T) -> bool
 }
 
 // The number of the part, if it has one: `latest` is looked at first.
-fn find_in<T: Part>(parts: &Numbering<T, Key>, latest: usize, part: &T) -> Option<usize>
+fn find_in<T: Part>(parts: &Numbering<T, QuickKey>, latest: usize, part: &T) -> Option<usize>
     ensures { MatchOption result (IsAbsent parts.now part.now) (λ place. slice_get parts.now place ≡ Some part.now) }
 {
     if is_at(parts, latest, part) {
@@ -211,14 +184,14 @@ fn find_in<T: Part>(parts: &Numbering<T, Key>, latest: usize, part: &T) -> Optio
 
 // The number of the part, of which a copy is kept where it is new.
 fn keep_in<T: Part>(
-    parts: &mut Numbering<T, Key>,
-    notes: &mut Items<Note>,
+    parts: &mut Numbering<T, QuickKey>,
+    notes: &mut Items<Measure>,
     latest: usize,
     alloc: Global,
     part: &T,
 ) -> Result<usize, NoMemory>
-    requires noted { AreNoted T.depth T.size T.low notes.old parts.old }
-    ensures noted { AreNoted T.depth T.size T.low notes.new parts.new }
+    requires noted { AreNoted T.depth T.size T.free notes.old parts.old }
+    ensures noted { AreNoted T.depth T.size T.free notes.new parts.new }
     ensures place { IfOk result (λ place. slice_get parts.new place ≡ Some part.now) }
     ensures start { IsStart parts.old parts.new }
     ensures once { EachOnce parts.new }
@@ -233,12 +206,12 @@ fn keep_in<T: Part>(
 
 // The number of a part that was made, which is kept itself where it is new.
 fn keep_made_in<T: Part>(
-    parts: &mut Numbering<T, Key>,
-    notes: &mut Items<Note>,
+    parts: &mut Numbering<T, QuickKey>,
+    notes: &mut Items<Measure>,
     made: Result<T, NoMemory>,
 ) -> Result<usize, NoMemory>
-    requires noted { AreNoted T.depth T.size T.low notes.old parts.old }
-    ensures noted { AreNoted T.depth T.size T.low notes.new parts.new }
+    requires noted { AreNoted T.depth T.size T.free notes.old parts.old }
+    ensures noted { AreNoted T.depth T.size T.free notes.new parts.new }
     ensures place { (part : T) → IfOk made (λ it. it ≡ part) → IfOk result (λ place. slice_get parts.new place ≡ Some part) }
     ensures start { IsStart parts.old parts.new }
     ensures once { EachOnce parts.new }
@@ -251,12 +224,12 @@ fn keep_made_in<T: Part>(
 
 // The number of the part, which is kept itself where it is new.
 fn keep_own_in<T: Part>(
-    parts: &mut Numbering<T, Key>,
-    notes: &mut Items<Note>,
+    parts: &mut Numbering<T, QuickKey>,
+    notes: &mut Items<Measure>,
     part: T,
 ) -> Result<usize, NoMemory>
-    requires noted { AreNoted T.depth T.size T.low notes.old parts.old }
-    ensures noted { AreNoted T.depth T.size T.low notes.new parts.new }
+    requires noted { AreNoted T.depth T.size T.free notes.old parts.old }
+    ensures noted { AreNoted T.depth T.size T.free notes.new parts.new }
     ensures place { IfOk result (λ place. slice_get parts.new place ≡ Some part) }
     ensures start { IsStart parts.old parts.new }
     ensures once { EachOnce parts.new }
@@ -268,11 +241,11 @@ fn keep_own_in<T: Part>(
 }
 
 // The number of the part, which is the next one where it is new.
-fn number<T: Part>(parts: &mut Numbering<T, Key>, part: T) -> Result<usize, NoMemory>
+fn number<T: Part>(parts: &mut Numbering<T, QuickKey>, part: T) -> Result<usize, NoMemory>
     ensures place { IfOk result (λ place. slice_get parts.new place ≡ Some part) }
     ensures start { IsStart parts.old parts.new }
     ensures once { EachOnce parts.new }
-    ensures noted { (notes : List Note) → AreNoted T.depth T.size T.low notes parts.old → AreNoted T.depth T.size T.low notes parts.new }
+    ensures noted { (notes : List Measure) → AreNoted T.depth T.size T.free notes parts.old → AreNoted T.depth T.size T.free notes parts.new }
     ensures err_only_new { OnErr result (IsAbsent parts.old part) }
 {
     let number = parts.number(part);

@@ -10,6 +10,7 @@ use Rattle.term_pool.specs.declared.entry.Entry.{Entry}
 use Rattle.term_pool.specs.declared.entry.Entry.TheVariants as entry
 use Rattle.term_pool.specs.declared.own_parts.OwnParts.{OwnParts}
 use Rattle.csp_base.specs.Lists.{EachOnce}
+use Rattle.csp_program.specs.declared.processes.Proc.TheOpen.{Proc-F}
 
 -- a number of the old list is one of the new one, with the same part
 there : {T : Type 0} (old new : List T) → IsStart old new → (k : ℕ) (other : T) → k < length old → slice_get new k ≡ Some (get_or old k other)
@@ -62,35 +63,35 @@ module _ (old new : OwnParts) (start : PartsStart old new) where
   fits_more _ h = tt
 
   pub layer_stays : (e : Entry) → Fits old e → entry_layer new e ≡ entry_layer old e
-  layer_stays (entry.Prefix b f p) h = λ i. Layer.Prefix (stays old.heads new.heads start.heads b (head.Channel 0) h.0 i) (stays old.fields new.fields start.fields f [] h.1 i) p
-  layer_stays (entry.Guard c p) h = λ i. Layer.Guard (stays old.exprs new.exprs start.exprs c (expr.Const 0) h i) p
-  layer_stays (entry.If c p q) h = λ i. Layer.If (stays old.exprs new.exprs start.exprs c (expr.Const 0) h i) p q
-  layer_stays (entry.External ps) h = λ i. Layer.External (stays old.choices new.choices start.choices ps [] h i)
-  layer_stays (entry.Internal ps) h = λ i. Layer.Internal (stays old.choices new.choices start.choices ps [] h i)
-  layer_stays (entry.EachExternal x s p) h = λ i. Layer.EachExternal x (stays old.exprs new.exprs start.exprs s (expr.Const 0) h i) p
-  layer_stays (entry.EachInternal x s p) h = λ i. Layer.EachInternal x (stays old.exprs new.exprs start.exprs s (expr.Const 0) h i) p
-  layer_stays (entry.Hide p s) h = λ i. Layer.Hide p (stays old.exprs new.exprs start.exprs s (expr.Const 0) h i)
-  layer_stays (entry.Rename p a w) h = λ i. Layer.Rename p (stays old.pairs new.pairs start.pairs a [] h.0 i) (stays old.gens new.gens start.gens w [] h.1 i)
-  layer_stays (entry.Call d args) h = λ i. Layer.Call d (stays old.arguments new.arguments start.arguments args [] h i)
+  layer_stays (entry.Prefix b f p) h = λ i. Proc-F.Prefix (stays old.heads new.heads start.heads b (head.Channel 0) h.0 i) (stays old.fields new.fields start.fields f [] h.1 i) p
+  layer_stays (entry.Guard c p) h = λ i. Proc-F.Guard (stays old.exprs new.exprs start.exprs c (expr.Const 0) h i) p
+  layer_stays (entry.If c p q) h = λ i. Proc-F.If (stays old.exprs new.exprs start.exprs c (expr.Const 0) h i) p q
+  layer_stays (entry.External ps) h = λ i. Proc-F.External (stays old.choices new.choices start.choices ps [] h i)
+  layer_stays (entry.Internal ps) h = λ i. Proc-F.Internal (stays old.choices new.choices start.choices ps [] h i)
+  layer_stays (entry.EachExternal x s p) h = λ i. Proc-F.EachExternal x (stays old.exprs new.exprs start.exprs s (expr.Const 0) h i) p
+  layer_stays (entry.EachInternal x s p) h = λ i. Proc-F.EachInternal x (stays old.exprs new.exprs start.exprs s (expr.Const 0) h i) p
+  layer_stays (entry.Hide p s) h = λ i. Proc-F.Hide p (stays old.exprs new.exprs start.exprs s (expr.Const 0) h i)
+  layer_stays (entry.Rename p a w) h = λ i. Proc-F.Rename p (stays old.pairs new.pairs start.pairs a [] h.0 i) (stays old.gens new.gens start.gens w [] h.1 i)
+  layer_stays (entry.Call d args) h = λ i. Proc-F.Call d (stays old.arguments new.arguments start.arguments args [] h i)
   layer_stays _ h = refl
 
 module _ (parts : OwnParts) where
   -- the layer shows the entry
   abbrev Shows : Entry → Layer → Type 0
-  Shows entry.Stop Layer.Stop = Unit {0}
-  Shows (entry.Prefix b f p) (Layer.Prefix b' f' p') = (head_at parts b ≡ b') × ((fields_at parts f ≡ f') × (p ≡ p'))
-  Shows (entry.Guard c p) (Layer.Guard c' p') = (expr_at parts c ≡ c') × (p ≡ p')
-  Shows (entry.If c p q) (Layer.If c' p' q') = (expr_at parts c ≡ c') × ((p ≡ p') × (q ≡ q'))
-  Shows (entry.External ps) (Layer.External ps') = choice_at parts ps ≡ ps'
-  Shows (entry.Internal ps) (Layer.Internal ps') = choice_at parts ps ≡ ps'
-  Shows (entry.EachExternal x s p) (Layer.EachExternal x' s' p') = (x ≡ x') × ((expr_at parts s ≡ s') × (p ≡ p'))
-  Shows (entry.EachInternal x s p) (Layer.EachInternal x' s' p') = (x ≡ x') × ((expr_at parts s ≡ s') × (p ≡ p'))
-  Shows (entry.Hide p s) (Layer.Hide p' s') = (p ≡ p') × (expr_at parts s ≡ s')
-  Shows (entry.Rename p a w) (Layer.Rename p' a' w') = (p ≡ p') × ((pairs_at parts a ≡ a') × (gens_at parts w ≡ w'))
-  Shows (entry.Call d args) (Layer.Call d' args') = (d ≡ d') × (arguments_at parts args ≡ args')
-  Shows entry.Skip Layer.Skip = Unit {0}
-  Shows (entry.Seq p q) (Layer.Seq p' q') = (p ≡ p') × (q ≡ q')
-  Shows entry.Ended Layer.Ended = Unit {0}
+  Shows entry.Stop Proc-F.Stop = Unit {0}
+  Shows (entry.Prefix b f p) (Proc-F.Prefix b' f' p') = (head_at parts b ≡ b') × ((fields_at parts f ≡ f') × (p ≡ p'))
+  Shows (entry.Guard c p) (Proc-F.Guard c' p') = (expr_at parts c ≡ c') × (p ≡ p')
+  Shows (entry.If c p q) (Proc-F.If c' p' q') = (expr_at parts c ≡ c') × ((p ≡ p') × (q ≡ q'))
+  Shows (entry.External ps) (Proc-F.External ps') = choice_at parts ps ≡ ps'
+  Shows (entry.Internal ps) (Proc-F.Internal ps') = choice_at parts ps ≡ ps'
+  Shows (entry.EachExternal x s p) (Proc-F.EachExternal x' s' p') = (x ≡ x') × ((expr_at parts s ≡ s') × (p ≡ p'))
+  Shows (entry.EachInternal x s p) (Proc-F.EachInternal x' s' p') = (x ≡ x') × ((expr_at parts s ≡ s') × (p ≡ p'))
+  Shows (entry.Hide p s) (Proc-F.Hide p' s') = (p ≡ p') × (expr_at parts s ≡ s')
+  Shows (entry.Rename p a w) (Proc-F.Rename p' a' w') = (p ≡ p') × ((pairs_at parts a ≡ a') × (gens_at parts w ≡ w'))
+  Shows (entry.Call d args) (Proc-F.Call d' args') = (d ≡ d') × (arguments_at parts args ≡ args')
+  Shows entry.Skip Proc-F.Skip = Unit {0}
+  Shows (entry.Seq p q) (Proc-F.Seq p' q') = (p ≡ p') × (q ≡ q')
+  Shows entry.Ended Proc-F.Ended = Unit {0}
   Shows e other = ⊥
 
   shows_own : (e : Entry) → Shows e (entry_layer parts e)

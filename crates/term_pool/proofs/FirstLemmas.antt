@@ -12,8 +12,8 @@ use Rattle.csp_program.specs.declared.processes.Proc.TheViews.{out-Proc, out-rol
 use Rattle.term_pool.proofs.NodeLemmas.{layer_of, layer_out}
 use Rattle.term_pool.proofs.TreeLemmas.{all_below_more}
 use Rattle.term_pool.specs.First.{layer_with_first, node_with_first, other_first, with_first}
-use Rattle.term_pool.specs.Trees.{tree_at, layer_tree, layer_ids, all_below, layer_below}
-use Rattle.term_pool.specs.Layers.{Layer}
+use Rattle.term_pool.specs.Trees.{tree_at, layer_tree, all_below, layer_below}
+use Rattle.term_pool.specs.Layers.{Layer, layer_parts}
 use Rattle.pool_parts.specs.declared.place.ProcId.{ProcId}
 
 pub first_Hide : (p : Proc) (s : Expr) (q : Proc) → with_first (proc.Hide p s) q ≡ proc.Hide q s
@@ -29,8 +29,8 @@ others_at ts [] q = refl
 others_at ts (p ∷ ps) q = refl
 
 layer_first : (ts : List Proc) (n : Layer) (q : ProcId) → layer_with_first (layer_of ts n) (tree_at ts q) ≡ layer_tree ts (node_with_first n q)
-layer_first ts (Layer.External ps) q = ap (λ (us : List Proc). proc.External us) (others_at ts ps q)
-layer_first ts (Layer.Internal ps) q = ap (λ (us : List Proc). proc.Internal us) (others_at ts ps q)
+layer_first ts (Proc-F.External ps) q = ap (λ (us : List Proc). proc.External us) (others_at ts ps q)
+layer_first ts (Proc-F.Internal ps) q = ap (λ (us : List Proc). proc.Internal us) (others_at ts ps q)
 layer_first ts _ q = refl
 
 -- a node with another first place is its process with what stands there
@@ -42,18 +42,18 @@ others_below : (b : ℕ) (ps : List ProcId) (q : ProcId) → all_below b ps ≡ 
 others_below b [] q h g = refl
 others_below b (p ∷ ps) q h g = and_from (nat_lt q.0 b) (all_below b ps) g (second_so (nat_lt p.0 b) (all_below b ps) h)
 
-first_places : (n : Layer) (q : ProcId) → layer_ids (node_with_first n q) ≡ other_first (layer_ids n) q
-first_places Layer.Stop q = refl
+first_places : (n : Layer) (q : ProcId) → layer_parts (node_with_first n q) ≡ other_first (layer_parts n) q
+first_places Proc-F.Stop q = refl
 first_places _ q = refl
 
 pub first_below : (b : ℕ) (n : Layer) (q : ProcId) → layer_below b n ≡ true → q.0 < b → layer_below b (node_with_first n q) ≡ true
-first_below b n q h g = ap (all_below b) (first_places n q) ∙ others_below b (layer_ids n) q h (lt-ltb q.0 b g)
+first_below b n q h g = ap (all_below b) (first_places n q) ∙ others_below b (layer_parts n) q h (lt-ltb q.0 b g)
 
 module _ (ts : List Proc) (id : ProcId) (q : ProcId) (within : id.0 < length ts) (below : q.0 < length ts) (n : Layer) (tree : layer_tree ts n ≡ tree_at ts id) (smaller : layer_below id.0 n ≡ true)
     (m : Layer) (is : m ≡ node_with_first n q) where
   -- the node that is made stands for the process that is wanted, and looks at places of the list alone
   pub made_below : layer_below (length ts) m ≡ true
-  made_below = subst (λ (k : Layer). layer_below (length ts) k ≡ true) (sym is) (first_below (length ts) n q (all_below_more id.0 (length ts) (omega (arith, within)) (layer_ids n) smaller) below)
+  made_below = subst (λ (k : Layer). layer_below (length ts) k ≡ true) (sym is) (first_below (length ts) n q (all_below_more id.0 (length ts) (omega (arith, within)) (layer_parts n) smaller) below)
 
   pub made_tree : layer_tree ts m ≡ with_first (tree_at ts id) (tree_at ts q)
   made_tree = ap (λ (k : Layer). layer_tree ts k) is ∙ (sym (first_at ts n q) ∙ ap (λ (t : Proc). with_first t (tree_at ts q)) tree)

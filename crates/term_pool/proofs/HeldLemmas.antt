@@ -1,11 +1,14 @@
 -- What follows from how a pool keeps its processes.
 use Rattle.std.proofs.Common.{◌≡◌, ◌⊎◌, inl, inr, ℕ, zero, suc, ◌+◌, ◌<◌, ◌≤◌, true, nat_lt, Some, List, [], ◌∷◌, ◌++◌, map, length, get_or, slice_get, refl, ap, sym, ◌∙◌, subst, arith}
 use Rattle.std.proofs.lemmas.Bool.{ltb-true, false≢true}
-use Rattle.std.proofs.lemmas.List.{map-append, length-map}
+use Rattle.std.proofs.lemmas.List.{length-append}
 use Rattle.std.proofs.lemmas.Option.{slice_get_within, slice_get-get_or, get_or_from_slice_get}
 use Rattle.std.specs.Cmp.{first_so, second_so}
 use Rattle.std.specs.Prelude.{Result, Ok, Err, IsErr}
 use Rattle.containers.proofs.MembersLemmas.{slice_get-append_left}
+use Rattle.csp_program.specs.Depth.{proc_depth}
+use Rattle.csp_program.specs.Free.{proc_free}
+use Rattle.csp_program.specs.Size.{proc_size}
 use Rattle.csp_program.specs.declared.processes.Proc.{Proc}
 use Rattle.csp_program.specs.declared.processes.Proc.TheVariants as proc
 use Rattle.term_pool.proofs.NodeLemmas.{parts_at, same_node}
@@ -13,16 +16,22 @@ use Rattle.term_pool.proofs.NodeMeasures.{node_measured}
 use Rattle.term_pool.proofs.TreeLemmas.{all_below_more, of_front, grown_push, grown_length, grown_at, fall_at, fall_push}
 use Rattle.term_pool.proofs.WithinLemmas.{has_push}
 use Rattle.term_pool.specs.Held.{IsHeld, Puts}
-use Rattle.term_pool.specs.Measured.{measured, node_depth, node_size}
+use Rattle.term_pool.specs.Measured.{AreMeasured, IsNodeMeasure}
 use Rattle.term_pool.specs.Pooled.{AreDifferent, Has, IsFront, PartsStandBelow, StandBelow, parts}
+use Rattle.pool_parts.proofs.StoreLemmas.{noted_more, noted_push}
 use Rattle.pool_parts.specs.Stored.{IsAbsent}
-use Rattle.term_pool.specs.Trees.{tree_at, layer_tree, layer_ids, all_below, layer_below, trees_of, fall}
+use Rattle.term_pool.specs.Trees.{tree_at, layer_tree, all_below, layer_below, trees_of, fall}
 use Rattle.term_pool.specs.Within.{AddsOne}
 use Rattle.pool_parts.specs.declared.measure.Measure.{Measure}
-use Rattle.term_pool.specs.Layers.{Layer}
+use Rattle.term_pool.specs.Layers.{Layer, layer_parts}
 use Rattle.pool_parts.specs.declared.place.ProcId.{ProcId}
 use Rattle.csp_base.proofs.Lists.{push_cases}
 use Rattle.csp_base.specs.Lists.{EachOnce}
+use Rattle.csp_program.specs.declared.processes.Proc.TheOpen.{Proc-F}
+
+at_end : {X : Type 0} (xs : List X) (x : X) → slice_get (xs ++ x ∷ []) (length xs) ≡ Some x
+at_end [] x = refl
+at_end (y ∷ xs) x = at_end xs x
 
 abbrev id_at : ℕ → ProcId
 id_at k = record { 0 = k }
@@ -61,23 +70,23 @@ module _ (ns : List Layer) (smaller : fall 0 ns ≡ true) where
   pub parts_stand : PartsStandBelow (trees_of ns)
   parts_stand k t h =
       let within : k < length (trees_of ns) = slice_get_within (trees_of ns) k t h in
-      let n = get_or ns k Layer.Stop in
-      let n_is : slice_get ns k ≡ Some n = slice_get-get_or ns k Layer.Stop (let b = trees_length ns in omega (arith, b)) in
+      let n = get_or ns k Proc-F.Stop in
+      let n_is : slice_get ns k ≡ Some n = slice_get-get_or ns k Proc-F.Stop (let b = trees_length ns in omega (arith, b)) in
       let t_is : layer_tree (trees_of ns) n ≡ t = sym (tree_stands k n n_is) ∙ get_or_from_slice_get (trees_of ns) k t proc.Stop h in
       subst (λ (p : Proc). StandBelow (trees_of ns) k (parts p)) t_is
       (subst (λ (ps : List Proc). StandBelow (trees_of ns) k ps) (sym (parts_at (trees_of ns) n))
-      (parts_below k (omega arith) (layer_ids n) (places_fall k n n_is)))
+      (parts_below k (omega arith) (layer_parts n) (places_fall k n n_is)))
 
 module _ (ns : List Layer) (smaller : fall 0 ns ≡ true) (distinct : EachOnce ns) where
   differ : (b : ℕ) → b ≤ length ns → (i j : ℕ) → i < b → j < b → tree_at (trees_of ns) (id_at i) ≡ tree_at (trees_of ns) (id_at j) → i ≡ j
   differ zero le i j h g e = absurd (omega (arith, h))
   differ (suc b) le i j h g e =
-      let n = get_or ns i Layer.Stop in
-      let m = get_or ns j Layer.Stop in
-      let n_is : slice_get ns i ≡ Some n = slice_get-get_or ns i Layer.Stop (omega (arith, h, le)) in
-      let m_is : slice_get ns j ≡ Some m = slice_get-get_or ns j Layer.Stop (omega (arith, g, le)) in
-      let n_below : layer_below b n ≡ true = all_below_more i b (omega (arith, h)) (layer_ids n) (places_fall ns smaller i n n_is) in
-      let m_below : layer_below b m ≡ true = all_below_more j b (omega (arith, g)) (layer_ids m) (places_fall ns smaller j m m_is) in
+      let n = get_or ns i Proc-F.Stop in
+      let m = get_or ns j Proc-F.Stop in
+      let n_is : slice_get ns i ≡ Some n = slice_get-get_or ns i Proc-F.Stop (omega (arith, h, le)) in
+      let m_is : slice_get ns j ≡ Some m = slice_get-get_or ns j Proc-F.Stop (omega (arith, g, le)) in
+      let n_below : layer_below b n ≡ true = all_below_more i b (omega (arith, h)) (layer_parts n) (places_fall ns smaller i n n_is) in
+      let m_below : layer_below b m ≡ true = all_below_more j b (omega (arith, g)) (layer_parts m) (places_fall ns smaller j m m_is) in
       let same : layer_tree (trees_of ns) n ≡ layer_tree (trees_of ns) m = sym (tree_stands ns smaller i n n_is) ∙ (e ∙ tree_stands ns smaller j m m_is) in
       let n_m : n ≡ m = same_node (trees_of ns) b (differ b (omega (arith, le))) n m n_below m_below same in
       distinct i j m (n_is ∙ ap (λ (x : Layer). Some x) n_m) m_is
@@ -95,9 +104,9 @@ module _ (ns : List Layer) (smaller : fall 0 ns ≡ true) (distinct : EachOnce n
   pub is_known : (n : Layer) → layer_below (length ns) n ≡ true → Has (trees_of ns) (layer_tree (trees_of ns) n) → (k : ℕ) × (slice_get ns k ≡ Some n)
   is_known n below has =
       let within : has.0 < length ns = let a = slice_get_within (trees_of ns) has.0 (layer_tree (trees_of ns) n) has.1 in let b = trees_length ns in omega (arith, a, b) in
-      let m = get_or ns has.0 Layer.Stop in
-      let m_is : slice_get ns has.0 ≡ Some m = slice_get-get_or ns has.0 Layer.Stop within in
-      let m_below : layer_below (length ns) m ≡ true = all_below_more has.0 (length ns) (omega (arith, within)) (layer_ids m) (places_fall ns smaller has.0 m m_is) in
+      let m = get_or ns has.0 Proc-F.Stop in
+      let m_is : slice_get ns has.0 ≡ Some m = slice_get-get_or ns has.0 Proc-F.Stop within in
+      let m_below : layer_below (length ns) m ≡ true = all_below_more has.0 (length ns) (omega (arith, within)) (layer_parts m) (places_fall ns smaller has.0 m m_is) in
       let same : layer_tree (trees_of ns) m ≡ layer_tree (trees_of ns) n = sym (tree_stands ns smaller has.0 m m_is) ∙ get_or_from_slice_get (trees_of ns) has.0 (layer_tree (trees_of ns) n) proc.Stop has.1 in
       let m_n : m ≡ n = same_node (trees_of ns) (length ns) (differ (length ns) (omega arith)) m n m_below below same in
       (has.0, m_is ∙ ap (λ (x : Layer). Some x) m_n)
@@ -113,7 +122,7 @@ once_push ns n once absent i j x h g = either (push_cases ns n i x h) (push_case
 
 module _ (ns : List Layer) (ms : List Measure) (held : IsHeld ns ms) (n : Layer) (below : layer_below (length ns) n ≡ true) where
   pub held_length : length ms ≡ length ns
-  held_length = ap (λ (xs : List Measure). length xs) held.exact ∙ (length-map (trees_of ns) measured ∙ trees_length ns)
+  held_length = held.measured.length ∙ trees_length ns
 
   pub below_measures : layer_below (length ms) n ≡ true
   below_measures = subst (λ (c : ℕ). layer_below c n ≡ true) (sym held_length) below
@@ -123,17 +132,22 @@ module _ (ns : List Layer) (ms : List Measure) (held : IsHeld ns ms) (n : Layer)
       let z : length ns ≡ 0 + length ns = omega arith in
       fall_push 0 ns n held.smaller (subst (λ (c : ℕ). layer_below c n ≡ true) z below)
 
-  exact_push : (m : Measure) → m.depth ≡ node_depth ms n → m.size ≡ node_size ms n → ms ++ m ∷ [] ≡ map measured (trees_of (ns ++ n ∷ []))
-  exact_push m d s =
-      let m_is : m ≡ measured (layer_tree (trees_of ns) n) = node_measured (trees_of ns) ms n m held.exact below_measures d s in
-      (λ i. held.exact i ++ m_is i ∷ []) ∙ (sym (map-append measured (trees_of ns) (layer_tree (trees_of ns) n ∷ [])) ∙ ap (λ (ts : List Proc). map measured ts) (sym (trees_push ns n)))
+  measured_push : (m : Measure) → IsNodeMeasure ms n m → AreMeasured (trees_of (ns ++ n ∷ [])) (ms ++ m ∷ [])
+  measured_push m is =
+      let ts : List Proc = trees_of ns in
+      let t : Proc = layer_tree ts n in
+      let place : slice_get (ts ++ t ∷ []) (length ms) ≡ Some t = ap (λ (k : ℕ). slice_get (ts ++ t ∷ []) k) held.measured.length ∙ at_end ts t in
+      subst (λ (us : List Proc). AreMeasured us (ms ++ m ∷ [])) (sym (trees_push ns n)) (record {
+        length = let same = held.measured.length in omega (arith, same, length-append ms (m ∷ []), length-append ts (t ∷ []));
+        noted = noted_push proc_depth proc_size proc_free ms (ts ++ t ∷ []) m t (noted_more proc_depth proc_size proc_free ms ts (t ∷ []) held.measured.noted) place (node_measured ts ms held.measured n m below_measures is);
+      })
 
   -- a new node is kept with its measure
-  pub held_push : IsAbsent ns n → (m : Measure) → m.depth ≡ node_depth ms n → m.size ≡ node_size ms n → IsHeld (ns ++ n ∷ []) (ms ++ m ∷ [])
-  held_push absent m d s = record {
+  pub held_push : IsAbsent ns n → (m : Measure) → IsNodeMeasure ms n m → IsHeld (ns ++ n ∷ []) (ms ++ m ∷ [])
+  held_push absent m is = record {
     smaller = smaller_push;
     distinct = once_push ns n held.distinct absent;
-    exact = exact_push m d s;
+    measured = measured_push m is;
   }
 
   front_push : IsFront (trees_of ns) (trees_of (ns ++ n ∷ []))

@@ -4,7 +4,11 @@ use Rattle.std.proofs.lemmas.List.{map-append, length-map, length_push, same_fro
 use Rattle.std.proofs.lemmas.Option.{slice_get-map, slice_get-get_or}
 use Rattle.std.specs.Prelude.{Result, Ok, Err, IsErr, MatchOption, OnErr, not, option_map}
 use Rattle.std.specs.Set.{is_member}
+use Rattle.csp_program.specs.Depth.{proc_depth}
+use Rattle.csp_program.specs.Free.{proc_free}
+use Rattle.csp_program.specs.Size.{proc_size}
 use Rattle.csp_program.specs.declared.processes.Proc.{Proc}
+use Rattle.pool_parts.proofs.StoreLemmas.{noted_at}
 use Rattle.csp_program.specs.declared.processes.Proc.TheVariants as proc
 use Rattle.term_pool.proofs.EntryLemmas.{fits_more, layer_stays, same_entry, has_parts}
 use Rattle.term_pool.proofs.HeldLemmas.{held_push, is_known, places_fall, puts_known, puts_new, puts_none, tree_stands, trees_length, unknown_push}
@@ -13,7 +17,7 @@ use Rattle.term_pool.specs.Entries.{entry_layer, layers, ArePartsOnce, Fits, Has
 use Rattle.term_pool.specs.ExactEntry.{eq_entry}
 use Rattle.term_pool.specs.Held.{processes, IsHeld, IsKept, Puts}
 use Rattle.term_pool.specs.Layers.{Layer}
-use Rattle.term_pool.specs.Measured.{node_depth, node_size}
+use Rattle.term_pool.specs.Measured.{IsNodeMeasure, Measures}
 use Rattle.term_pool.specs.Moved.{moved}
 use Rattle.term_pool.specs.Pooled.{Has}
 use Rattle.pool_parts.specs.Stored.{IsAbsent}
@@ -62,6 +66,13 @@ module _ (parts : OwnParts) (es : List Entry) (ms : List Measure) (kept : IsKept
       pub read_process : layer_tree (processes parts es) (entry_layer parts (get_or xs k other)) ≡ get_or (processes parts es) k proc.Stop
       read_process = sym (tree_stands (layers parts es) kept.held.smaller k (entry_layer parts (get_or xs k other)) (layer_there parts es k (get_or xs k other) read))
 
+  -- the measure that is read at a place
+  pub measure_read : (k : ℕ) → k < length (processes parts es) → (xs : List Measure) → xs ≡ ms → (other : Measure) → Measures (get_or (processes parts es) k proc.Stop) (get_or xs k other)
+  measure_read k within xs x other =
+      let inside : k < length ms = let same = kept.held.measured.length in omega (arith, same, within) in
+      noted_at proc_depth proc_size proc_free ms (processes parts es) k (get_or xs k other) proc.Stop kept.held.measured.noted
+      (slice_get-get_or ms k other inside ∙ ap (λ (ys : List Measure). Some (get_or ys k other)) (sym x))
+
   -- an entry that looks at places of the pool alone
   module _ (e : Entry) (fits : Fits parts e) (below : layer_below (length (processes parts es)) (entry_layer parts e) ≡ true) where
     below_layers : layer_below (length (layers parts es)) (entry_layer parts e) ≡ true
@@ -81,12 +92,11 @@ module _ (parts : OwnParts) (es : List Entry) (ms : List Measure) (kept : IsKept
     all_fit k d (inr g) = subst (λ (x : Entry). Fits parts x) g.1 fits
 
     -- a new entry is kept with its measure
-    pub kept_push : is_member eq_entry es e ≡ false → (m : Measure) → m.depth ≡ node_depth ms (entry_layer parts e) → m.size ≡ node_size ms (entry_layer parts e)
-        → IsKept parts (es ++ e ∷ []) (ms ++ m ∷ [])
-    kept_push unknown m d s = record {
+    pub kept_push : is_member eq_entry es e ≡ false → (m : Measure) → IsNodeMeasure ms (entry_layer parts e) m → IsKept parts (es ++ e ∷ []) (ms ++ m ∷ [])
+    kept_push unknown m is = record {
       fits = λ k x g. all_fit k x (push_cases es e k x g);
       once = kept.once;
-      held = subst (λ (ns : List Layer). IsHeld ns (ms ++ m ∷ [])) (sym more) (held_push (layers parts es) ms kept.held (entry_layer parts e) below_layers (absent unknown) m d s);
+      held = subst (λ (ns : List Layer). IsHeld ns (ms ++ m ∷ [])) (sym more) (held_push (layers parts es) ms kept.held (entry_layer parts e) below_layers (absent unknown) m is);
     }
 
     pub puts_push : {E : Type 0} → is_member eq_entry es e ≡ false → (k : ℕ) → slice_get (es ++ e ∷ []) k ≡ Some e
@@ -149,10 +159,6 @@ no_parts_no_process parts es ms kept n below lacks has =
     let e = entry_there parts es here.0 n here.1 in
     lacks (has_parts parts e.0 n (record { fits = kept.fits here.0 e.0 e.1; is = e.2 }))
 
--- the same of the list of processes that a caller sees
-pub puts_seen : {E : Type 0} (ts us after : List Proc) (r : Result ProcId E) (t u : Proc) → ts ≡ us → t ≡ u → Puts ts after r t → Puts us after r u
-puts_seen ts us after r t u e f h = subst (λ (q : Proc). Puts us after r q) f (subst (λ (ws : List Proc). Puts ws after r t) e h)
-
 -- what is so holds where nothing else is said
 pub on_err : {T E : Type 0} (r : Result T E) (P : Type 0) → P → OnErr r P
 on_err (Ok x) P p = tt
@@ -178,3 +184,20 @@ was_known false new h k = cc
 pub was_unknown : (known new : Bool) → new ≡ not known → new ≡ true → known ≡ false
 was_unknown true new h k = cc
 was_unknown false new h k = refl
+
+-- nothing is kept at first
+none_twice : {T : Type 0} (i j : ℕ) (x : T) → slice_get [] i ≡ Some x → slice_get [] j ≡ Some x → i ≡ j
+none_twice i j x h g = cc
+
+abbrev no_parts : OwnParts
+no_parts = record { heads = []; fields = []; exprs = []; arguments = []; pairs = []; gens = []; choices = [] }
+
+pub nothing_kept : (parts : OwnParts) (entries : List Entry) (measures : List Measure) → parts ≡ no_parts → entries ≡ [] → measures ≡ [] → IsKept parts entries measures
+nothing_kept parts entries measures p e m =
+    subst (λ (xs : OwnParts). IsKept xs entries measures) (sym p)
+    (subst (λ (xs : List Entry). IsKept no_parts xs measures) (sym e)
+    (subst (λ (xs : List Measure). IsKept no_parts [] xs) (sym m) (record {
+      fits = λ k e g. cc;
+      once = record { heads = none_twice; fields = none_twice; exprs = none_twice; arguments = none_twice; pairs = none_twice; gens = none_twice; choices = none_twice };
+      held = record { smaller = refl; distinct = none_twice; measured = record { length = refl; noted = tt } };
+    })))

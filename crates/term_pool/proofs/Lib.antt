@@ -4,12 +4,10 @@ pub mod HeldLemmas
 pub mod KeptLemmas
 pub mod NodeLemmas
 pub mod NodeMeasures
-pub mod SubstituteLemmas
 pub mod OverLemmas
 pub mod PutLemmas
 pub mod StandsLemmas
+pub mod SubstituteLemmas
 pub mod TreeLemmas
-pub mod WithinLemmas
-pub mod LowLemmas
-pub mod TreeLow
 pub mod ValuesLemmas
+pub mod WithinLemmas

@@ -1,5 +1,5 @@
 -- The layer of a process over places where its sub-processes stand stands for the process.
-use Rattle.std.proofs.Common.{◌≡◌, ℕ, true, List, length, refl, ap, sym, ◌∙◌}
+use Rattle.std.proofs.Common.{◌≡◌, ℕ, List, [], ◌∷◌, map, length, refl, ap, sym, ◌∙◌}
 use Rattle.csp_program.specs.declared.expressions.EventPart.{EventPart}
 use Rattle.csp_program.specs.declared.expressions.Expr.{Expr}
 use Rattle.csp_program.specs.declared.expressions.Gen.{Gen}
@@ -9,12 +9,13 @@ use Rattle.csp_program.specs.declared.processes.Proc.{Proc}
 use Rattle.csp_program.specs.declared.processes.Proc.TheOpen.{Proc-F}
 use Rattle.csp_program.specs.declared.processes.Proc.TheVariants as proc
 use Rattle.csp_program.specs.declared.processes.Proc.TheViews.{out-Proc, out-roll-Proc, roll-Proc, roll-out-Proc}
-use Rattle.term_pool.proofs.NodeLemmas.{layer_of, rolls}
-use Rattle.term_pool.proofs.PutLemmas.{at, one_below, stand_below, stand_trees, two_below}
-use Rattle.term_pool.specs.Over.{StandOver, layer_at}
-use Rattle.term_pool.specs.Put.{StandsFor}
-use Rattle.term_pool.specs.Trees.{all_below, layer_ids}
-use Rattle.term_pool.specs.declared.below.Below.{Below}
+use Rattle.pool_parts.specs.declared.place.ProcId.{ProcId}
+use Rattle.term_pool.proofs.NodeLemmas.{mapped, rolls}
+use Rattle.term_pool.proofs.PutLemmas.{stand_below, stand_trees}
+use Rattle.term_pool.specs.Put.{StandAt, StandsFor}
+use Rattle.term_pool.specs.Layers.{layer_parts}
+use Rattle.term_pool.specs.Moved.{id_or, moved, with_parts}
+use Rattle.term_pool.specs.Trees.{all_below, tree_at}
 
 pub out_Stop : out-Proc proc.Stop ≡ Proc-F.Stop
 out_Stop = ap out-Proc (sym proc.rolls-Stop) ∙ out-roll-Proc Proc-F.Stop
@@ -60,35 +61,48 @@ out_Ended = ap out-Proc (sym proc.rolls-Ended) ∙ out-roll-Proc Proc-F.Ended
 
 pub ruleset out_forms = (out_Stop, out_Prefix, out_Guard, out_If, out_External, out_Internal, out_EachExternal, out_EachInternal, out_Hide, out_Rename, out_Call, out_Skip, out_Seq, out_Ended)
 
-module _ (trees : List Proc) (b : Below) where
-  all_low : (d : Proc-F Proc) → StandOver trees d b → all_below (length trees) (layer_ids (layer_at d b)) ≡ true
-  all_low (Proc-F.Prefix head fields p) h = one_below trees b.first p h
-  all_low (Proc-F.Guard c p) h = one_below trees b.first p h
-  all_low (Proc-F.If c p q) h = two_below trees b.first p b.second q h.0 h.1
-  all_low (Proc-F.External ps) h = stand_below trees b.all ps h
-  all_low (Proc-F.Internal ps) h = stand_below trees b.all ps h
-  all_low (Proc-F.EachExternal y s p) h = one_below trees b.first p h
-  all_low (Proc-F.EachInternal y s p) h = one_below trees b.first p h
-  all_low (Proc-F.Hide p s) h = one_below trees b.first p h
-  all_low (Proc-F.Rename p pairs gens) h = one_below trees b.first p h
-  all_low (Proc-F.Seq p q) h = two_below trees b.first p b.second q h.0 h.1
-  all_low _ h = refl
+-- places at which no process, one process and two processes stand
+none_listed : (trees : List Proc) (ids : List ProcId) → StandAt trees ids [] → [] ≡ ids
+none_listed trees [] h = refl
+none_listed trees (id ∷ ids) h = absurd h
 
-  shows : (d : Proc-F Proc) → StandOver trees d b → layer_of trees (layer_at d b) ≡ d
-  shows (Proc-F.Prefix head fields p) h = λ i. Proc-F.Prefix head fields (at trees b.first p h i)
-  shows (Proc-F.Guard c p) h = λ i. Proc-F.Guard c (at trees b.first p h i)
-  shows (Proc-F.If c p q) h = λ i. Proc-F.If c (at trees b.first p h.0 i) (at trees b.second q h.1 i)
-  shows (Proc-F.External ps) h = λ i. Proc-F.External (stand_trees trees b.all ps h i)
-  shows (Proc-F.Internal ps) h = λ i. Proc-F.Internal (stand_trees trees b.all ps h i)
-  shows (Proc-F.EachExternal y s p) h = λ i. Proc-F.EachExternal y s (at trees b.first p h i)
-  shows (Proc-F.EachInternal y s p) h = λ i. Proc-F.EachInternal y s (at trees b.first p h i)
-  shows (Proc-F.Hide p s) h = λ i. Proc-F.Hide (at trees b.first p h i) s
-  shows (Proc-F.Rename p pairs gens) h = λ i. Proc-F.Rename (at trees b.first p h i) pairs gens
-  shows (Proc-F.Seq p q) h = λ i. Proc-F.Seq (at trees b.first p h.0 i) (at trees b.second q h.1 i)
-  shows _ h = refl
+one_listed : (trees : List Proc) (ids : List ProcId) (t : Proc) → StandAt trees ids (t ∷ []) → id_or ids 0 ∷ [] ≡ ids
+one_listed trees [] t h = absurd h
+one_listed trees (id ∷ ids) t h = λ i. id ∷ none_listed trees ids h.1 i
 
-  pub stands_form : (d : Proc-F Proc) → StandOver trees d b → StandsFor trees (layer_at d b) (roll-Proc d)
-  stands_form d h = record { below = all_low d h; tree = rolls trees (layer_at d b) ∙ ap roll-Proc (shows d h) }
+two_listed : (trees : List Proc) (ids : List ProcId) (t u : Proc) → StandAt trees ids (t ∷ u ∷ []) → id_or ids 0 ∷ id_or ids 1 ∷ [] ≡ ids
+two_listed trees [] t u h = absurd h
+two_listed trees (id ∷ ids) t u h = λ i. id ∷ one_listed trees ids u h.1 i
 
-  pub stands_over : (t : Proc) → StandOver trees (out-Proc t) b → StandsFor trees (layer_at (out-Proc t) b) t
+module _ (trees : List Proc) (ids : List ProcId) where
+  listed : (d : Proc-F Proc) → StandAt trees ids (layer_parts d) → layer_parts (moved d ids) ≡ ids
+  listed Proc-F.Stop h = none_listed trees ids h
+  listed (Proc-F.Prefix head fields p) h = one_listed trees ids p h
+  listed (Proc-F.Guard c p) h = one_listed trees ids p h
+  listed (Proc-F.If c p q) h = two_listed trees ids p q h
+  listed (Proc-F.External ps) h = refl
+  listed (Proc-F.Internal ps) h = refl
+  listed (Proc-F.EachExternal y s p) h = one_listed trees ids p h
+  listed (Proc-F.EachInternal y s p) h = one_listed trees ids p h
+  listed (Proc-F.Hide p s) h = one_listed trees ids p h
+  listed (Proc-F.Rename p pairs gens) h = one_listed trees ids p h
+  listed (Proc-F.Call d args) h = none_listed trees ids h
+  listed Proc-F.Skip h = none_listed trees ids h
+  listed (Proc-F.Seq p q) h = two_listed trees ids p q h
+  listed Proc-F.Ended h = none_listed trees ids h
+
+  refilled : (d : Proc-F Proc) → with_parts proc.Stop (moved d ids) (layer_parts d) ≡ d
+  refilled Proc-F.Stop = refl
+  refilled _ = refl
+
+  -- the layer with these places is the process, where its sub-processes stand there
+  pub stands_form : (d : Proc-F Proc) → StandAt trees ids (layer_parts d) → StandsFor trees (moved d ids) (roll-Proc d)
+  stands_form d h = record {
+    below = ap (all_below (length trees)) (listed d h) ∙ stand_below trees ids (layer_parts d) h;
+    tree = rolls trees (moved d ids) ∙
+        ap roll-Proc (mapped trees (moved d ids) ∙ (ap (λ (qs : List ProcId). with_parts proc.Stop (moved d ids) (map (tree_at trees) qs)) (listed d h) ∙
+        (ap (with_parts proc.Stop (moved d ids)) (stand_trees trees ids (layer_parts d) h) ∙ refilled d)));
+  }
+
+  pub stands_over : (t : Proc) → StandAt trees ids (layer_parts (out-Proc t)) → StandsFor trees (moved (out-Proc t) ids) t
   stands_over t h = let stands = stands_form (out-Proc t) h in record { below = stands.below; tree = stands.tree ∙ roll-out-Proc t }

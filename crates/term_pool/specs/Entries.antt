@@ -14,6 +14,7 @@ use Rattle.term_pool.specs.declared.entry.Entry.TheVariants as entry
 use Rattle.pool_parts.specs.declared.place.ProcId.{ProcId}
 use Rattle.term_pool.specs.declared.own_parts.OwnParts.{OwnParts}
 use Rattle.csp_base.specs.Lists.{EachOnce, StandsIn}
+use Rattle.csp_program.specs.declared.processes.Proc.TheOpen.{Proc-F}
 
 -- the part with a number, where there is one
 abbrev pub head_at : OwnParts → ℕ → Head
@@ -39,20 +40,20 @@ choice_at parts k = slice_index_or parts.choices k []
 
 -- the layer that an entry stands for
 abbrev pub entry_layer : OwnParts → Entry → Layer
-entry_layer parts entry.Stop = Layer.Stop
-entry_layer parts (entry.Prefix h f p) = Layer.Prefix (head_at parts h) (fields_at parts f) p
-entry_layer parts (entry.Guard c p) = Layer.Guard (expr_at parts c) p
-entry_layer parts (entry.If c p q) = Layer.If (expr_at parts c) p q
-entry_layer parts (entry.External ps) = Layer.External (choice_at parts ps)
-entry_layer parts (entry.Internal ps) = Layer.Internal (choice_at parts ps)
-entry_layer parts (entry.EachExternal x s p) = Layer.EachExternal x (expr_at parts s) p
-entry_layer parts (entry.EachInternal x s p) = Layer.EachInternal x (expr_at parts s) p
-entry_layer parts (entry.Hide p s) = Layer.Hide p (expr_at parts s)
-entry_layer parts (entry.Rename p pairs gens) = Layer.Rename p (pairs_at parts pairs) (gens_at parts gens)
-entry_layer parts (entry.Call d args) = Layer.Call d (arguments_at parts args)
-entry_layer parts entry.Skip = Layer.Skip
-entry_layer parts (entry.Seq p q) = Layer.Seq p q
-entry_layer parts entry.Ended = Layer.Ended
+entry_layer parts entry.Stop = Proc-F.Stop
+entry_layer parts (entry.Prefix h f p) = Proc-F.Prefix (head_at parts h) (fields_at parts f) p
+entry_layer parts (entry.Guard c p) = Proc-F.Guard (expr_at parts c) p
+entry_layer parts (entry.If c p q) = Proc-F.If (expr_at parts c) p q
+entry_layer parts (entry.External ps) = Proc-F.External (choice_at parts ps)
+entry_layer parts (entry.Internal ps) = Proc-F.Internal (choice_at parts ps)
+entry_layer parts (entry.EachExternal x s p) = Proc-F.EachExternal x (expr_at parts s) p
+entry_layer parts (entry.EachInternal x s p) = Proc-F.EachInternal x (expr_at parts s) p
+entry_layer parts (entry.Hide p s) = Proc-F.Hide p (expr_at parts s)
+entry_layer parts (entry.Rename p pairs gens) = Proc-F.Rename p (pairs_at parts pairs) (gens_at parts gens)
+entry_layer parts (entry.Call d args) = Proc-F.Call d (arguments_at parts args)
+entry_layer parts entry.Skip = Proc-F.Skip
+entry_layer parts (entry.Seq p q) = Proc-F.Seq p q
+entry_layer parts entry.Ended = Proc-F.Ended
 
 abbrev pub layers : OwnParts → List Entry → List Layer
 layers parts entries = map (entry_layer parts) entries
@@ -78,16 +79,16 @@ pub record StandsAs (parts : OwnParts) (e : Entry) (n : Layer) : Type 0 where
 
 -- the own parts of a layer are kept
 abbrev pub HasParts : OwnParts → Layer → Type 0
-HasParts parts (Layer.Prefix h fields p) = StandsIn parts.heads h × StandsIn parts.fields fields
-HasParts parts (Layer.Guard c p) = StandsIn parts.exprs c
-HasParts parts (Layer.If c p q) = StandsIn parts.exprs c
-HasParts parts (Layer.External ps) = StandsIn parts.choices ps
-HasParts parts (Layer.Internal ps) = StandsIn parts.choices ps
-HasParts parts (Layer.EachExternal x s p) = StandsIn parts.exprs s
-HasParts parts (Layer.EachInternal x s p) = StandsIn parts.exprs s
-HasParts parts (Layer.Hide p s) = StandsIn parts.exprs s
-HasParts parts (Layer.Rename p pairs gens) = StandsIn parts.pairs pairs × StandsIn parts.gens gens
-HasParts parts (Layer.Call d args) = StandsIn parts.arguments args
+HasParts parts (Proc-F.Prefix h fields p) = StandsIn parts.heads h × StandsIn parts.fields fields
+HasParts parts (Proc-F.Guard c p) = StandsIn parts.exprs c
+HasParts parts (Proc-F.If c p q) = StandsIn parts.exprs c
+HasParts parts (Proc-F.External ps) = StandsIn parts.choices ps
+HasParts parts (Proc-F.Internal ps) = StandsIn parts.choices ps
+HasParts parts (Proc-F.EachExternal x s p) = StandsIn parts.exprs s
+HasParts parts (Proc-F.EachInternal x s p) = StandsIn parts.exprs s
+HasParts parts (Proc-F.Hide p s) = StandsIn parts.exprs s
+HasParts parts (Proc-F.Rename p pairs gens) = StandsIn parts.pairs pairs × StandsIn parts.gens gens
+HasParts parts (Proc-F.Call d args) = StandsIn parts.arguments args
 HasParts parts other = Unit {0}
 
 -- each part stands once

@@ -35,17 +35,17 @@ with_first t q = layer_with_first (out-Proc t) q
 
 -- the node with the place q in place of its first
 abbrev pub node_with_first : Layer → ProcId → Layer
-node_with_first Layer.Stop q = Layer.Stop
-node_with_first (Layer.Prefix head fields p) q = Layer.Prefix head fields q
-node_with_first (Layer.Guard c p) q = Layer.Guard c q
-node_with_first (Layer.If c p r) q = Layer.If c q r
-node_with_first (Layer.External ps) q = Layer.External (other_first ps q)
-node_with_first (Layer.Internal ps) q = Layer.Internal (other_first ps q)
-node_with_first (Layer.EachExternal x s p) q = Layer.EachExternal x s q
-node_with_first (Layer.EachInternal x s p) q = Layer.EachInternal x s q
-node_with_first (Layer.Hide p s) q = Layer.Hide q s
-node_with_first (Layer.Rename p pairs gens) q = Layer.Rename q pairs gens
-node_with_first (Layer.Call d args) q = Layer.Call d args
-node_with_first Layer.Skip q = Layer.Skip
-node_with_first (Layer.Seq p r) q = Layer.Seq q r
-node_with_first Layer.Ended q = Layer.Ended
+node_with_first Proc-F.Stop q = Proc-F.Stop
+node_with_first (Proc-F.Prefix head fields p) q = Proc-F.Prefix head fields q
+node_with_first (Proc-F.Guard c p) q = Proc-F.Guard c q
+node_with_first (Proc-F.If c p r) q = Proc-F.If c q r
+node_with_first (Proc-F.External ps) q = Proc-F.External (other_first ps q)
+node_with_first (Proc-F.Internal ps) q = Proc-F.Internal (other_first ps q)
+node_with_first (Proc-F.EachExternal x s p) q = Proc-F.EachExternal x s q
+node_with_first (Proc-F.EachInternal x s p) q = Proc-F.EachInternal x s q
+node_with_first (Proc-F.Hide p s) q = Proc-F.Hide q s
+node_with_first (Proc-F.Rename p pairs gens) q = Proc-F.Rename q pairs gens
+node_with_first (Proc-F.Call d args) q = Proc-F.Call d args
+node_with_first Proc-F.Skip q = Proc-F.Skip
+node_with_first (Proc-F.Seq p r) q = Proc-F.Seq q r
+node_with_first Proc-F.Ended q = Proc-F.Ended

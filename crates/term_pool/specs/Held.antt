@@ -3,7 +3,7 @@ use Rattle.std.specs.Prelude.{◌≡◌, ℕ, true, Some, List, map, slice_get, 
 use Rattle.csp_program.specs.declared.processes.Proc.{Proc}
 use Rattle.term_pool.specs.Entries.{layers, ArePartsOnce, Fits}
 use Rattle.term_pool.specs.Layers.{Layer}
-use Rattle.term_pool.specs.Measured.{measured}
+use Rattle.term_pool.specs.Measured.{AreMeasured}
 use Rattle.term_pool.specs.Pooled.{Has, IsFront}
 use Rattle.term_pool.specs.Trees.{fall, trees_of}
 use Rattle.term_pool.specs.Within.{AddsOne}
@@ -16,7 +16,7 @@ use Rattle.csp_base.specs.Lists.{EachOnce}
 pub record IsHeld (nodes : List Layer) (measures : List Measure) : Type 0 where
   pub smaller : fall 0 nodes ≡ true
   pub distinct : EachOnce nodes
-  pub exact : measures ≡ map measured (trees_of nodes)
+  pub measured : AreMeasured (trees_of nodes) measures
 
 -- the same of entries, whose own parts stand in stores
 pub record IsKept (parts : OwnParts) (entries : List Entry) (measures : List Measure) : Type 0 where

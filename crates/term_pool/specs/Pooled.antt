@@ -1,25 +1,8 @@
 -- What a pool keeps of its list of processes.
 use Rattle.std.specs.Prelude.{◌≡◌, ℕ, ◌<◌, Some, List, [], ◌∷◌, slice_get}
 use Rattle.csp_program.specs.declared.processes.Proc.{Proc}
-use Rattle.csp_program.specs.declared.processes.Proc.TheOpen.{Proc-F}
 use Rattle.csp_program.specs.declared.processes.Proc.TheViews.{out-Proc}
-
--- the sub-processes of one layer of a process
-abbrev pub layer_parts : Proc-F Proc → List Proc
-layer_parts Proc-F.Stop = []
-layer_parts (Proc-F.Prefix head fields p) = p ∷ []
-layer_parts (Proc-F.Guard c p) = p ∷ []
-layer_parts (Proc-F.If c p q) = p ∷ q ∷ []
-layer_parts (Proc-F.External ps) = ps
-layer_parts (Proc-F.Internal ps) = ps
-layer_parts (Proc-F.EachExternal x s p) = p ∷ []
-layer_parts (Proc-F.EachInternal x s p) = p ∷ []
-layer_parts (Proc-F.Hide p s) = p ∷ []
-layer_parts (Proc-F.Rename p pairs gens) = p ∷ []
-layer_parts (Proc-F.Call d args) = []
-layer_parts Proc-F.Skip = []
-layer_parts (Proc-F.Seq p q) = p ∷ q ∷ []
-layer_parts Proc-F.Ended = []
+use Rattle.term_pool.specs.Layers.{layer_parts}
 
 -- the sub-processes of a process, those directly below it
 unfoldable pub parts : Proc → List Proc

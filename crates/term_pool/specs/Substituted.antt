@@ -1,62 +1,58 @@
 -- Values put into the processes of a pool: layer by layer, with what stands at the places.
 use Rattle.std.specs.Prelude.{◌≡◌, ℕ, true, nat_eq, Some, None, Option, List, map, slice_get}
 use Rattle.std.specs.HashMap.{HashMap, get}
+use Rattle.csp_program.specs.Substitution.{after_all, expr_with, fields_with, gens_with, given_by, head_with, pair_with, past, proc_with, without, Given}
 use Rattle.csp_program.specs.Value.{Env}
 use Rattle.csp_program.specs.declared.processes.Proc.{Proc}
+use Rattle.csp_program.specs.declared.processes.Proc.TheOpen.{Proc-F}
 use Rattle.pool_parts.specs.declared.place.ProcId.{ProcId}
-use Rattle.substitution.specs.Bindings.{expr_put, fields_put, gens_put, head_put, pair_put, passed_all, past_all, proc_put, without}
-use Rattle.term_pool.specs.Trees.{layer_ids, layer_below, tree_at, layer_tree}
-use Rattle.term_pool.specs.Layers.{Layer}
+use Rattle.term_pool.specs.Layers.{Layer, layer_parts}
+use Rattle.term_pool.specs.Trees.{layer_below, layer_tree, tree_at}
 use Rattle.term_pool.specs.declared.under.Under.{Under}
 
--- the values that are left in the sub-processes of a node: those of the names that it doesn't bind
-abbrev pub left_below : Layer → Env → Env
-left_below (Layer.Prefix head fields p) env = passed_all fields env
-left_below (Layer.EachExternal y s p) env = without y env
-left_below (Layer.EachInternal y s p) env = without y env
-left_below other env = env
+-- the values that are left in the sub-processes of a layer: those of the names that it doesn't bind
+abbrev pub left_below : {A : Type 0} → Proc-F A → Given → Given
+left_below (Proc-F.Prefix head fields p) given = after_all fields given
+left_below (Proc-F.EachExternal y s p) given = without y given
+left_below (Proc-F.EachInternal y s p) given = without y given
+left_below other given = given
 
-module _ (env : Env) where
-  -- the node with the values in its own parts
-  abbrev pub own_put : Layer → Layer
-  own_put Layer.Stop = Layer.Stop
-  own_put (Layer.Prefix head fields p) = Layer.Prefix (head_put env head) (fields_put env fields) p
-  own_put (Layer.Guard c p) = Layer.Guard (expr_put env c) p
-  own_put (Layer.If c p q) = Layer.If (expr_put env c) p q
-  own_put (Layer.External ps) = Layer.External ps
-  own_put (Layer.Internal ps) = Layer.Internal ps
-  own_put (Layer.EachExternal y s p) = Layer.EachExternal y (expr_put env s) p
-  own_put (Layer.EachInternal y s p) = Layer.EachInternal y (expr_put env s) p
-  own_put (Layer.Hide p s) = Layer.Hide p (expr_put env s)
-  own_put (Layer.Rename p pairs gens) = Layer.Rename p (map (pair_put (past_all gens env)) pairs) (gens_put env gens)
-  own_put (Layer.Call d args) = Layer.Call d (map (expr_put env) args)
-  own_put Layer.Skip = Layer.Skip
-  own_put (Layer.Seq p q) = Layer.Seq p q
-  own_put Layer.Ended = Layer.Ended
+-- the layer with the values in its own parts
+abbrev pub own_with : {A : Type 0} → Given → Proc-F A → Proc-F A
+own_with given (Proc-F.Prefix head fields p) = Proc-F.Prefix (head_with given head) (fields_with given fields) p
+own_with given (Proc-F.Guard c p) = Proc-F.Guard (expr_with given c) p
+own_with given (Proc-F.If c p q) = Proc-F.If (expr_with given c) p q
+own_with given (Proc-F.EachExternal y s p) = Proc-F.EachExternal y (expr_with given s) p
+own_with given (Proc-F.EachInternal y s p) = Proc-F.EachInternal y (expr_with given s) p
+own_with given (Proc-F.Hide p s) = Proc-F.Hide p (expr_with given s)
+own_with given (Proc-F.Rename p pairs gens) = Proc-F.Rename p (map (pair_with (past gens given)) pairs) (gens_with given gens)
+own_with given (Proc-F.Call d args) = Proc-F.Call d (map (expr_with given) args)
+own_with given other = other
 
-  -- the processes, each with the values put in
-  abbrev pub all_put : List Proc → List Proc
-  all_put trees = map (proc_put env) trees
+-- the processes at the places, each with the values put in
+abbrev pub all_with : Given → List Proc → List ProcId → List Proc
+all_with given trees ids = map (λ id. proc_with given (tree_at trees id)) ids
 
+module _ (given : Given) where
   -- at the place `made` stands what the process at the place q is with the values put in
   pub record IsMade (trees : List Proc) (q : ℕ) (made : ProcId) : Type 0 where
     pub process : Proc
     pub before : slice_get trees q ≡ Some process
-    pub after : slice_get trees made.0 ≡ Some (proc_put env process)
+    pub after : slice_get trees made.0 ≡ Some (proc_with given process)
 
   -- the same of each place that has been visited
   abbrev pub AreMade : {S : Type 0} → List Proc → HashMap ℕ ProcId S → Type 0
   AreMade trees visited = (q : ℕ) (made : ProcId) → get nat_eq visited q ≡ Some made → IsMade trees q made
 
--- these values are left below the node; where there are none, all are
-abbrev pub IsLeft : Layer → Env → Option Env → Type 0
-IsLeft n env None = left_below n env ≡ env
-IsLeft n env (Some left) = left ≡ left_below n env
+-- these values are left below the layer; where there are none, all are
+abbrev pub IsLeft : Layer → Given → Option Env → Type 0
+IsLeft n given None = left_below n given ≡ given
+IsLeft n given (Some left) = given_by left ≡ left_below n given
 
 -- the places below the node at a place, and the values that are left there
-pub record IsUnder (env : Env) (trees : List Proc) (id : ProcId) (under : Under) : Type 0 where
+pub record IsUnder (given : Given) (trees : List Proc) (id : ProcId) (under : Under) : Type 0 where
   pub node : Layer
   pub below : layer_below id.0 node ≡ true
   pub tree : layer_tree trees node ≡ tree_at trees id
-  pub listed : under.ids ≡ layer_ids node
-  pub free : IsLeft node env under.left
+  pub listed : under.ids ≡ layer_parts node
+  pub free : IsLeft node given under.left

@@ -2,9 +2,10 @@
 use Rattle.std.specs.Prelude.{ℕ, ◌+◌, Bool, true, ◌&&◌, nat_lt, List, [], ◌∷◌, ◌++◌, map, slice_index_or}
 use Rattle.csp_program.specs.declared.processes.Proc.{Proc}
 use Rattle.csp_program.specs.declared.processes.Proc.TheVariants as proc
-use Rattle.term_pool.specs.Layers.{Layer, shown}
+use Rattle.term_pool.specs.Layers.{Layer, layer_parts, shown}
 use Rattle.term_pool.specs.declared.node.Node.{Node}
 use Rattle.pool_parts.specs.declared.place.ProcId.{ProcId}
+use Rattle.csp_program.specs.declared.processes.Proc.TheOpen.{Proc-F}
 
 -- the tree at a place
 abbrev pub tree_at : List Proc → ProcId → Proc
@@ -12,37 +13,20 @@ tree_at trees id = slice_index_or trees id.0 proc.Stop
 
 -- the node with the trees of its places
 abbrev pub layer_tree : List Proc → Layer → Proc
-layer_tree trees Layer.Stop = proc.Stop
-layer_tree trees (Layer.Prefix head fields p) = proc.Prefix head fields (tree_at trees p)
-layer_tree trees (Layer.Guard c p) = proc.Guard c (tree_at trees p)
-layer_tree trees (Layer.If c p q) = proc.If c (tree_at trees p) (tree_at trees q)
-layer_tree trees (Layer.External ps) = proc.External (map (tree_at trees) ps)
-layer_tree trees (Layer.Internal ps) = proc.Internal (map (tree_at trees) ps)
-layer_tree trees (Layer.EachExternal x s p) = proc.EachExternal x s (tree_at trees p)
-layer_tree trees (Layer.EachInternal x s p) = proc.EachInternal x s (tree_at trees p)
-layer_tree trees (Layer.Hide p s) = proc.Hide (tree_at trees p) s
-layer_tree trees (Layer.Rename p pairs gens) = proc.Rename (tree_at trees p) pairs gens
-layer_tree trees (Layer.Call d args) = proc.Call d args
-layer_tree trees Layer.Skip = proc.Skip
-layer_tree trees (Layer.Seq p q) = proc.Seq (tree_at trees p) (tree_at trees q)
-layer_tree trees Layer.Ended = proc.Ended
-
--- the places of the node's sub-processes
-abbrev pub layer_ids : Layer → List ProcId
-layer_ids Layer.Stop = []
-layer_ids (Layer.Prefix head fields p) = p ∷ []
-layer_ids (Layer.Guard c p) = p ∷ []
-layer_ids (Layer.If c p q) = p ∷ q ∷ []
-layer_ids (Layer.External ps) = ps
-layer_ids (Layer.Internal ps) = ps
-layer_ids (Layer.EachExternal x s p) = p ∷ []
-layer_ids (Layer.EachInternal x s p) = p ∷ []
-layer_ids (Layer.Hide p s) = p ∷ []
-layer_ids (Layer.Rename p pairs gens) = p ∷ []
-layer_ids (Layer.Call d args) = []
-layer_ids Layer.Skip = []
-layer_ids (Layer.Seq p q) = p ∷ q ∷ []
-layer_ids Layer.Ended = []
+layer_tree trees Proc-F.Stop = proc.Stop
+layer_tree trees (Proc-F.Prefix head fields p) = proc.Prefix head fields (tree_at trees p)
+layer_tree trees (Proc-F.Guard c p) = proc.Guard c (tree_at trees p)
+layer_tree trees (Proc-F.If c p q) = proc.If c (tree_at trees p) (tree_at trees q)
+layer_tree trees (Proc-F.External ps) = proc.External (map (tree_at trees) ps)
+layer_tree trees (Proc-F.Internal ps) = proc.Internal (map (tree_at trees) ps)
+layer_tree trees (Proc-F.EachExternal x s p) = proc.EachExternal x s (tree_at trees p)
+layer_tree trees (Proc-F.EachInternal x s p) = proc.EachInternal x s (tree_at trees p)
+layer_tree trees (Proc-F.Hide p s) = proc.Hide (tree_at trees p) s
+layer_tree trees (Proc-F.Rename p pairs gens) = proc.Rename (tree_at trees p) pairs gens
+layer_tree trees (Proc-F.Call d args) = proc.Call d args
+layer_tree trees Proc-F.Skip = proc.Skip
+layer_tree trees (Proc-F.Seq p q) = proc.Seq (tree_at trees p) (tree_at trees q)
+layer_tree trees Proc-F.Ended = proc.Ended
 
 -- whether each place is one of the first so many
 abbrev pub all_below : ℕ → List ProcId → Bool
@@ -50,7 +34,7 @@ all_below count [] = true
 all_below count (id ∷ ids) = nat_lt id.0 count && all_below count ids
 
 abbrev pub layer_below : ℕ → Layer → Bool
-layer_below count n = all_below count (layer_ids n)
+layer_below count n = all_below count (layer_parts n)
 
 -- the trees, followed by the trees of the nodes
 abbrev pub grown : List Proc → List Layer → List Proc
@@ -71,7 +55,7 @@ tree_of trees n = layer_tree trees (shown n)
 
 -- the places of a node's sub-processes
 abbrev pub places : Node → List ProcId
-places n = layer_ids (shown n)
+places n = layer_parts (shown n)
 
 abbrev pub places_below : ℕ → Node → Bool
 places_below count n = all_below count (places n)

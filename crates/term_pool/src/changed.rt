@@ -1,20 +1,19 @@
 //! Entries with other places, or with values in their own parts.
 
 ghost use Rattle.std.specs.Prelude.{◌≡◌, ◌<◌, length, map, slice_get, IfOk, Some};
-ghost use Rattle.substitution.specs.Bindings.{expr_put, fields_put, gens_put, head_put, pair_put, past_all};
-ghost use Rattle.term_pool.specs.Entries.{arguments_at, choice_at, entry_layer, expr_at, fields_at, gens_at, head_at, pairs_at, Fits, PartsStart, StandsAs};
+ghost use Rattle.csp_program.specs.Substitution.{fields_with, gens_with, given_by, head_with, pair_with, past};
+ghost use Rattle.term_pool.specs.Entries.{choice_at, entry_layer, fields_at, gens_at, head_at, pairs_at, Fits, PartsStart, StandsAs};
 ghost use Rattle.term_pool.specs.First.{node_with_first, other_first};
 ghost use Rattle.term_pool.specs.Moved.{id_or, moved};
-ghost use Rattle.term_pool.specs.Substituted.{own_put};
+ghost use Rattle.term_pool.specs.Substituted.{own_with};
 
 use crate::entry::Entry;
-use crate::node_least::least_of_own;
 use crate::own_parts::{OwnParts, keep_choice};
 use containers::Items;
 use csp_base::NoMemory;
-use pool_parts::ProcId;
+use pool_parts::{ProcId, put_values};
 use std::alloc::Global;
-use substitution::{Values, put_expr, put_exprs, put_fields, put_gens, put_head, put_pairs};
+use substitution::{Values, put_pairs};
 
 // The places with another first one.
 fn with_other_first(alloc: Global, ids: &[ProcId], below: ProcId) -> Result<Items<ProcId>, NoMemory>
@@ -73,8 +72,8 @@ pub(crate) fn entry_with_first(
     }
 }
 
-// The place in the list, 0 where it is too short.
-fn at(ids: &Items<ProcId>, index: usize) -> ProcId
+/// The place in the list, 0 where it is too short.
+pub(crate) fn at(ids: &Items<ProcId>, index: usize) -> ProcId
     ensures { result ≡ id_or ids.now index }
 {
     match ids.get(index) {
@@ -113,36 +112,6 @@ fn with_places(
     }
 }
 
-// The number of an expression with the values put in.
-fn put_expr_in(
-    parts: &mut OwnParts,
-    alloc: Global,
-    place: usize,
-    values: &Values<'_>,
-) -> Result<usize, NoMemory>
-    requires within { place < length parts.old.exprs }
-    ensures start { PartsStart parts.old parts.new }
-    ensures made { IfOk result (λ made. slice_get parts.new.exprs made ≡ Some (expr_put values.now (expr_at parts.old place))) }
-{
-    let made = put_expr(alloc, parts.exprs.get(place), values);
-    parts.exprs.keep_made(made)
-}
-
-// The number of arguments with the values put in.
-fn put_arguments(
-    parts: &mut OwnParts,
-    alloc: Global,
-    place: usize,
-    values: &Values<'_>,
-) -> Result<usize, NoMemory>
-    requires within { place < length parts.old.arguments }
-    ensures start { PartsStart parts.old parts.new }
-    ensures made { IfOk result (λ made. slice_get parts.new.arguments made ≡ Some (map (expr_put values.now) (arguments_at parts.old place))) }
-{
-    let made = put_exprs(alloc, parts.arguments.get(place).as_slice(), values);
-    parts.arguments.keep_made(made)
-}
-
 /// The entry with the values in its own parts, and with these places in place of its own, as many.
 pub(crate) fn made_entry(
     parts: &mut OwnParts,
@@ -153,27 +122,10 @@ pub(crate) fn made_entry(
 ) -> Result<Entry, NoMemory>
     requires fits { Fits parts.old entry }
     ensures start { PartsStart parts.old parts.new }
-    ensures entry { IfOk result (λ made. StandsAs parts.new made (moved (own_put values.now (entry_layer parts.old entry)) ids.now)) }
+    ensures entry { IfOk result (λ made. StandsAs parts.new made (moved (own_with (given_by values.now) (entry_layer parts.old entry)) ids.now)) }
 {
-    let entry = put_where_read(parts, alloc, entry, values)?;
+    let entry = put_own(parts, alloc, entry, values)?;
     with_places(parts, alloc, entry, ids)
-}
-
-// The entry with the values in its own parts. Where they read no name so low it is the same entry.
-fn put_where_read(
-    parts: &mut OwnParts,
-    alloc: Global,
-    entry: Entry,
-    values: &Values<'_>,
-) -> Result<Entry, NoMemory>
-    requires fits { Fits parts.old entry }
-    ensures start { PartsStart parts.old parts.new }
-    ensures entry { IfOk result (λ made. StandsAs parts.new made (own_put values.now (entry_layer parts.old entry))) }
-{
-    if values.are_below(least_of_own(parts, entry)) {
-        return Ok(entry);
-    }
-    put_own(parts, alloc, entry, values)
 }
 
 // The entry with the values in its own parts, each of which is kept.
@@ -186,30 +138,40 @@ fn put_own(
 ) -> Result<Entry, NoMemory>
     requires fits { Fits parts.old entry }
     ensures start { PartsStart parts.old parts.new }
-    ensures entry { IfOk result (λ made. StandsAs parts.new made (own_put values.now (entry_layer parts.old entry))) }
+    ensures entry { IfOk result (λ made. StandsAs parts.new made (own_with (given_by values.now) (entry_layer parts.old entry))) }
 {
     match entry {
         Entry::Prefix(head, fields, p) => {
             let own = put_prefix(parts, alloc, head, fields, values);
             own.map(|(head, fields)| Entry::Prefix(head, fields, p))
         }
-        Entry::Guard(c, p) => { put_expr_in(parts, alloc, c, values).map(|c| Entry::Guard(c, p)) }
-        Entry::If(c, p, q) => { put_expr_in(parts, alloc, c, values).map(|c| Entry::If(c, p, q)) }
+        Entry::Guard(c, p) => {
+            put_values(&mut parts.exprs, alloc, c, values).map(|c| Entry::Guard(c, p))
+        }
+        Entry::If(c, p, q) => {
+            put_values(&mut parts.exprs, alloc, c, values).map(|c| Entry::If(c, p, q))
+        }
         Entry::EachExternal(slot, set, p) => {
-            put_expr_in(parts, alloc, set, values).map(|set| Entry::EachExternal(slot, set, p))
+            put_values(&mut parts.exprs, alloc, set, values).map(|set| Entry::EachExternal(
+                slot, set, p,
+            ))
         }
         Entry::EachInternal(slot, set, p) => {
-            put_expr_in(parts, alloc, set, values).map(|set| Entry::EachInternal(slot, set, p))
+            put_values(&mut parts.exprs, alloc, set, values).map(|set| Entry::EachInternal(
+                slot, set, p,
+            ))
         }
         Entry::Hide(p, set) => {
-            put_expr_in(parts, alloc, set, values).map(|set| Entry::Hide(p, set))
+            put_values(&mut parts.exprs, alloc, set, values).map(|set| Entry::Hide(p, set))
         }
         Entry::Rename(p, pairs, gens) => {
             let own = put_renaming(parts, alloc, pairs, gens, values);
             own.map(|(pairs, gens)| Entry::Rename(p, pairs, gens))
         }
         Entry::Call(definition, args) => {
-            put_arguments(parts, alloc, args, values).map(|args| Entry::Call(definition, args))
+            put_values(&mut parts.arguments, alloc, args, values).map(|args| Entry::Call(
+                definition, args,
+            ))
         }
         Entry::Stop => Ok(entry),
         Entry::External(_) => Ok(entry),
@@ -231,13 +193,11 @@ fn put_prefix(
     requires head { head < length parts.old.heads }
     requires fields { fields < length parts.old.fields }
     ensures start { PartsStart parts.old parts.new }
-    ensures heads { IfOk result (λ own. slice_get parts.new.heads own.0 ≡ Some (head_put values.now (head_at parts.old head))) }
-    ensures fields { IfOk result (λ own. slice_get parts.new.fields own.1 ≡ Some (fields_put values.now (fields_at parts.old fields))) }
+    ensures heads { IfOk result (λ own. slice_get parts.new.heads own.0 ≡ Some (head_with (given_by values.now) (head_at parts.old head))) }
+    ensures fields { IfOk result (λ own. slice_get parts.new.fields own.1 ≡ Some (fields_with (given_by values.now) (fields_at parts.old fields))) }
 {
-    let made = put_head(alloc, parts.heads.get(head), values);
-    let head = parts.heads.keep_made(made)?;
-    let made = put_fields(alloc, parts.fields.get(fields).as_slice(), values);
-    let fields = parts.fields.keep_made(made)?;
+    let head = put_values(&mut parts.heads, alloc, head, values)?;
+    let fields = put_values(&mut parts.fields, alloc, fields, values)?;
     Ok((head, fields))
 }
 
@@ -252,14 +212,13 @@ fn put_renaming(
     requires pairs { pairs < length parts.old.pairs }
     requires gens { gens < length parts.old.gens }
     ensures start { PartsStart parts.old parts.new }
-    ensures pairs { IfOk result (λ own. slice_get parts.new.pairs own.0 ≡ Some (map (pair_put (past_all (gens_at parts.old gens) values.now)) (pairs_at parts.old pairs))) }
-    ensures gens { IfOk result (λ own. slice_get parts.new.gens own.1 ≡ Some (gens_put values.now (gens_at parts.old gens))) }
+    ensures pairs { IfOk result (λ own. slice_get parts.new.pairs own.0 ≡ Some (map (pair_with (past (gens_at parts.old gens) (given_by values.now))) (pairs_at parts.old pairs))) }
+    ensures gens { IfOk result (λ own. slice_get parts.new.gens own.1 ≡ Some (gens_with (given_by values.now) (gens_at parts.old gens))) }
 {
     let old_pairs = parts.pairs.get(pairs).as_slice();
     let old_gens = parts.gens.get(gens).as_slice();
     let made = put_pairs(alloc, old_pairs, old_gens, values);
     let pairs = parts.pairs.keep_made(made)?;
-    let made = put_gens(alloc, parts.gens.get(gens).as_slice(), values);
-    let gens = parts.gens.keep_made(made)?;
+    let gens = put_values(&mut parts.gens, alloc, gens, values)?;
     Ok((pairs, gens))
 }

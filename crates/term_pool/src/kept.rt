@@ -1,10 +1,11 @@
 //! The nodes of a pool: entries, their own parts, and what each measures.
 
 ghost use Rattle.std.specs.Prelude.{◌≡◌, ◌<◌, true, length, OnErr};
-ghost use Rattle.substitution.specs.Bindings.{proc_put};
+ghost use Rattle.csp_program.specs.Substitution.{given_by, proc_with};
 ghost use Rattle.term_pool.specs.Entries.{entry_layer, Fits};
 ghost use Rattle.term_pool.specs.First.{with_first};
 ghost use Rattle.term_pool.specs.Held.{processes, IsKept, Puts};
+ghost use Rattle.term_pool.specs.Measured.{Measures};
 ghost use Rattle.term_pool.specs.Pooled as pooled;
 ghost use Rattle.term_pool.specs.Pooled.{Has};
 ghost use Rattle.term_pool.specs.Put.{StandAt};
@@ -15,7 +16,7 @@ use crate::entry::Entry;
 use crate::node::Node;
 use crate::node_measures::of_entry;
 use crate::own_parts::{OwnParts, keep_node, parts_once};
-use containers::{Items, Key, Numbering};
+use containers::{Items, Numbering, QuickKey};
 use csp_base::NoMemory;
 use pool_parts::{Measure, ProcId};
 use std::alloc::Global;
@@ -24,7 +25,7 @@ use substitution::Values;
 /// The entry at a place.
 pub(crate) fn entry_at(
     parts: &OwnParts,
-    entries: &Numbering<Entry, Key>,
+    entries: &Numbering<Entry, QuickKey>,
     measures: &Items<Measure>,
     id: ProcId,
 ) -> Entry
@@ -37,10 +38,24 @@ pub(crate) fn entry_at(
     entries.as_slice()[id.0]
 }
 
+/// What the process at a place measures.
+pub(crate) fn measure_at(
+    parts: &OwnParts,
+    entries: &Numbering<Entry, QuickKey>,
+    measures: &Items<Measure>,
+    id: ProcId,
+) -> Measure
+    requires kept { IsKept parts.now entries.now measures.now }
+    requires within { id.0 < length (processes parts.now entries.now) }
+    ensures { Measures (tree_at (processes parts.now entries.now) id) result }
+{
+    measures.as_slice()[id.0]
+}
+
 // The place of an entry, which is the next one where it is new. Where there is no memory for its measure, it is taken out again.
 fn put_entry(
     parts: &OwnParts,
-    entries: &mut Numbering<Entry, Key>,
+    entries: &mut Numbering<Entry, QuickKey>,
     measures: &mut Items<Measure>,
     entry: Entry,
 ) -> Result<ProcId, NoMemory>
@@ -68,7 +83,7 @@ fn put_entry(
 /// The place of the process that the node is.
 pub(crate) fn put_in(
     parts: &mut OwnParts,
-    entries: &mut Numbering<Entry, Key>,
+    entries: &mut Numbering<Entry, QuickKey>,
     measures: &mut Items<Measure>,
     alloc: Global,
     node: Node<'_>,
@@ -88,7 +103,7 @@ pub(crate) fn put_in(
 /// The place of the process at `id` with that at `below` in place of its first sub-process.
 pub(crate) fn put_first_in(
     parts: &mut OwnParts,
-    entries: &mut Numbering<Entry, Key>,
+    entries: &mut Numbering<Entry, QuickKey>,
     measures: &mut Items<Measure>,
     alloc: Global,
     id: ProcId,
@@ -110,7 +125,7 @@ pub(crate) fn put_first_in(
 /// The place of what the process at `id` becomes with the values in place of the names, where `ids` are the places of what its sub-processes become.
 pub(crate) fn put_made_in(
     parts: &mut OwnParts,
-    entries: &mut Numbering<Entry, Key>,
+    entries: &mut Numbering<Entry, QuickKey>,
     measures: &mut Items<Measure>,
     alloc: Global,
     id: ProcId,
@@ -119,9 +134,9 @@ pub(crate) fn put_made_in(
 ) -> Result<ProcId, NoMemory>
     requires kept { IsKept parts.old entries.old measures.old }
     requires within { id.0 < length (processes parts.old entries.old) }
-    requires made { StandAt (processes parts.old entries.old) ids.now (pooled.parts (proc_put values.now (tree_at (processes parts.old entries.old) id))) }
+    requires made { StandAt (processes parts.old entries.old) ids.now (pooled.parts (proc_with (given_by values.now) (tree_at (processes parts.old entries.old) id))) }
     ensures kept { IsKept parts.new entries.new measures.new }
-    ensures puts { Puts (processes parts.old entries.old) (processes parts.new entries.new) result (proc_put values.now (tree_at (processes parts.old entries.old) id)) }
+    ensures puts { Puts (processes parts.old entries.old) (processes parts.new entries.new) result (proc_with (given_by values.now) (tree_at (processes parts.old entries.old) id)) }
 {
     let entry = entry_at(parts, entries, measures, id);
     let made = made_entry(parts, alloc, entry, ids, values);

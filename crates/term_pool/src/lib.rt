@@ -2,14 +2,11 @@
 //! it has, the elements of sets that were put in among them.
 #![tactic(auto)]
 
-mod below;
 mod changed;
 mod entry;
 mod kept;
 pub mod node;
-mod node_least;
 mod node_measures;
-mod noted;
 mod own_parts;
 pub mod pool;
 mod put;

@@ -2,9 +2,11 @@
 
 ghost use Rattle.std.specs.Prelude.{◌≡◌, ◌<◌, [], ◌∷◌, true, length};
 ghost use Rattle.pool_parts.specs.Counting.{capped};
+ghost use Rattle.pool_parts.specs.Low.{IsLow};
 ghost use Rattle.term_pool.specs.Entries.{entry_layer, Fits};
-ghost use Rattle.term_pool.specs.Measured.{depth_at, size_at, deepest_at, total_at, own_depth, own_size, node_depth, node_size};
-ghost use Rattle.term_pool.specs.Trees.{all_below, layer_below, layer_ids};
+ghost use Rattle.term_pool.specs.Measured.{deepest_at, measure_at, node_depth, node_size, own_depth, own_free, own_size, total_at, IsLeastAt};
+ghost use Rattle.term_pool.specs.Layers.{layer_parts};
+ghost use Rattle.term_pool.specs.Trees.{all_below, layer_below};
 
 use crate::entry::Entry;
 use crate::own_parts::OwnParts;
@@ -16,10 +18,13 @@ fn of_own(parts: &OwnParts, entry: Entry) -> Measure
     requires { Fits parts.now entry }
     ensures depth { result.depth ≡ capped (own_depth (entry_layer parts.now entry)) }
     ensures size { result.size ≡ capped (own_size (entry_layer parts.now entry)) }
+    ensures low { IsLow result.least (own_free (entry_layer parts.now entry)) }
 {
     match entry {
         Entry::Stop => nothing(),
-        Entry::Prefix(_, fields, _) => parts.fields.measure(fields),
+        Entry::Prefix(head, fields, _) => {
+            together(parts.heads.measure(head), parts.fields.measure(fields))
+        }
         Entry::Guard(c, _) => parts.exprs.measure(c),
         Entry::If(c, _, _) => parts.exprs.measure(c),
         Entry::External(_) => nothing(),
@@ -40,8 +45,7 @@ fn of_own(parts: &OwnParts, entry: Entry) -> Measure
 // The measure at a place.
 fn at_place(measures: &[Measure], place: ProcId) -> Measure
     requires { place.0 < length measures.now }
-    ensures depth { result.depth ≡ depth_at measures.now place }
-    ensures size { result.size ≡ size_at measures.now place }
+    ensures { result ≡ measure_at measures.now place }
 {
     measures[place.0]
 }
@@ -51,6 +55,7 @@ fn at_places(measures: &[Measure], ids: &[ProcId]) -> Measure
     requires { all_below (length measures.now) ids.now ≡ true }
     ensures depth { result.depth ≡ deepest_at measures.now ids.now }
     ensures size { result.size ≡ capped (total_at measures.now ids.now) }
+    ensures least { IsLeastAt measures.now result.least ids.now }
 {
     let mut all = nothing();
     for id in ids {
@@ -65,6 +70,7 @@ fn at_both(measures: &[Measure], left: ProcId, right: ProcId) -> Measure
     requires right { right.0 < length measures.now }
     ensures depth { result.depth ≡ deepest_at measures.now (left ∷ right ∷ []) }
     ensures size { result.size ≡ capped (total_at measures.now (left ∷ right ∷ [])) }
+    ensures least { IsLeastAt measures.now result.least (left ∷ right ∷ []) }
 {
     together(at_place(measures, left), at_place(measures, right))
 }
@@ -73,8 +79,9 @@ fn at_both(measures: &[Measure], left: ProcId, right: ProcId) -> Measure
 fn of_places(parts: &OwnParts, measures: &[Measure], entry: Entry) -> Measure
     requires fits { Fits parts.now entry }
     requires below { layer_below (length measures.now) (entry_layer parts.now entry) ≡ true }
-    ensures depth { result.depth ≡ deepest_at measures.now (layer_ids (entry_layer parts.now entry)) }
-    ensures size { result.size ≡ capped (total_at measures.now (layer_ids (entry_layer parts.now entry))) }
+    ensures depth { result.depth ≡ deepest_at measures.now (layer_parts (entry_layer parts.now entry)) }
+    ensures size { result.size ≡ capped (total_at measures.now (layer_parts (entry_layer parts.now entry))) }
+    ensures least { IsLeastAt measures.now result.least (layer_parts (entry_layer parts.now entry)) }
 {
     match entry {
         Entry::Stop => nothing(),
@@ -100,6 +107,8 @@ pub(crate) fn of_entry(parts: &OwnParts, measures: &[Measure], entry: Entry) -> 
     requires below { layer_below (length measures.now) (entry_layer parts.now entry) ≡ true }
     ensures depth { result.depth ≡ node_depth measures.now (entry_layer parts.now entry) }
     ensures size { result.size ≡ node_size measures.now (entry_layer parts.now entry) }
+    ensures own { IsLow result.least (own_free (entry_layer parts.now entry)) }
+    ensures places { IsLeastAt measures.now result.least (layer_parts (entry_layer parts.now entry)) }
 {
     let own = of_own(parts, entry);
     node_of(together(own, of_places(parts, measures, entry)))

@@ -7,7 +7,7 @@ ghost use Rattle.csp_base.specs.Lists.{StandsIn};
 
 use crate::entry::Entry;
 use crate::node::Node;
-use containers::{Items, Key};
+use containers::{Items, QuickKey};
 use csp_base::NoMemory;
 use csp_program::{EventPart, Expr, Field, Gen, Head};
 use pool_parts::{ProcId, Store};
@@ -47,7 +47,7 @@ impl Drop for OwnParts {
 }
 
 /// No parts. They are found by their hashes under this key, and take no memory yet.
-pub(crate) fn no_parts(alloc: Global, key: Key) -> OwnParts
+pub(crate) fn no_parts(alloc: Global, key: QuickKey) -> OwnParts
     ensures { result ≡ record { heads = []; fields = []; exprs = []; arguments = []; pairs = []; gens = []; choices = [] } }
 {
     OwnParts {

@@ -3,33 +3,29 @@
 ghost use Rattle.std.specs.Prelude.{◌≡◌, ◌<◌, [], true, length, slice_get, IfOk, OnErr, Some};
 ghost use Rattle.csp_program.specs.Depth.{proc_depth};
 ghost use Rattle.csp_program.specs.Size.{proc_size};
-ghost use Rattle.csp_program.specs.Substitution.{proc_with};
+ghost use Rattle.csp_program.specs.Substitution.{given_by, proc_with};
+ghost use Rattle.csp_program.specs.Free.{proc_free};
 ghost use Rattle.pool_parts.specs.Counting.{capped};
-ghost use Rattle.substitution.specs.Bindings.{proc_put};
-ghost use Rattle.substitution.specs.Several.{with_values};
+ghost use Rattle.pool_parts.specs.Low.{IsLow};
 ghost use Rattle.term_pool.specs.First.{with_first};
-ghost use Rattle.term_pool.specs.Low.{ProcLow};
 ghost use Rattle.term_pool.specs.Pooled.{parts, AreDifferent, Has, IsFront, PartsStandBelow};
 ghost use Rattle.term_pool.specs.Put.{StandAt};
 ghost use Rattle.term_pool.specs.Trees.{places_below, tree_at, tree_of};
 ghost use Rattle.term_pool.specs.Within.{AddsOne, AddsParts};
 
 use crate::entry::Entry;
-use crate::kept::{entry_at, put_first_in, put_in, put_made_in};
+use crate::kept::{entry_at, measure_at, put_first_in, put_in, put_made_in};
 use crate::node::Node;
-use crate::node_least::least_at;
-use crate::noted::note_least;
 use crate::own_parts::{OwnParts, no_parts, node_at};
 use crate::put::put_tree;
 use crate::substitute::substitute_at;
-use containers::{Items, Key, Numbering};
+use containers::{Items, Key, Numbering, QuickKey};
 use csp_base::NoMemory;
-use csp_program::{Proc, Value};
+use csp_program::Proc;
 use pool_parts::{Measure, ProcId};
 use std::alloc::Global;
 use std::collections::HashMap;
 use std::marker::Model;
-use std::slice::from_ref;
 use substitution::Values;
 
 /// A list of processes, all different. It keeps the allocator.
@@ -38,9 +34,8 @@ use substitution::Values;
 pub struct Pool {
     alloc: Global,
     parts: OwnParts,
-    entries: Numbering<Entry, Key>,
+    entries: Numbering<Entry, QuickKey>,
     measures: Items<Measure>,
-    leasts: Items<u32>,
 }
 
 // By hand, so that a crate that ends one calls this and proves no end of its own.
@@ -51,7 +46,6 @@ impl Drop for Pool {
             parts: _parts,
             entries: _entries,
             measures: _measures,
-            leasts: _leasts,
         } = self;
     }
 }
@@ -61,8 +55,7 @@ impl Model for Pool {
     ghost use Rattle.std.specs.Coded.{codes};
     ghost use Rattle.csp_program.specs.contracts.processes.Proc as process;
     ghost use Rattle.csp_program.specs.declared.processes.Proc.{Proc};
-    ghost use Rattle.term_pool.specs.Held.{processes};
-    ghost use Rattle.term_pool.specs.Low.{IsNoted};
+    ghost use Rattle.term_pool.specs.Held.{processes, IsKept};
 
     ghost Value = { List Proc };
 
@@ -70,7 +63,7 @@ impl Model for Pool {
 
     ghost view = { λ p. processes p.parts p.entries };
 
-    ghost invariant = { λ p. IsNoted p.parts p.entries p.measures p.leasts };
+    ghost invariant = { λ p. IsKept p.parts p.entries p.measures };
 }
 
 impl Pool {
@@ -78,12 +71,12 @@ impl Pool {
     pub fn new(alloc: Global, key: Key) -> Pool
         ensures { result ≡ [] }
     {
+        let key = key.quick();
         Pool {
             alloc,
             parts: no_parts(alloc, key),
             entries: Numbering::under(alloc, key),
             measures: Items::new(alloc),
-            leasts: Items::new(alloc),
         }
     }
 
@@ -112,7 +105,7 @@ impl Pool {
         requires { id.0 < length self.now }
         ensures { result ≡ capped (proc_depth (tree_at self.now id)) }
     {
-        self.measures.as_slice()[id.0].depth
+        self.measure(id).depth
     }
 
     /// The size of the process at a place: 1 for each process, expression, field, pair and generator in it, and 1 more for each element of a set that
@@ -121,14 +114,17 @@ impl Pool {
         requires { id.0 < length self.now }
         ensures { result ≡ capped (proc_size (tree_at self.now id)) }
     {
-        self.measures.as_slice()[id.0].size
+        self.measure(id).size
     }
 
-    // A number below which the process at a place reads no name: a value in place of such a name leaves it as it is.
-    pub(crate) fn least(&self, id: ProcId) -> u32
-        ensures { ProcLow result (tree_at self.now id) }
+    /// What the process at a place measures.
+    pub(crate) fn measure(&self, id: ProcId) -> Measure
+        requires { id.0 < length self.now }
+        ensures depth { result.depth ≡ capped (proc_depth (tree_at self.now id)) }
+        ensures size { result.size ≡ capped (proc_size (tree_at self.now id)) }
+        ensures low { IsLow result.least (proc_free (tree_at self.now id)) }
     {
-        least_at(self.leasts.as_slice(), id)
+        measure_at(&self.parts, &self.entries, &self.measures, id)
     }
 
     /// The place of the process that the node is with the processes at its places. A new one goes to the end; for one that is known no memory is needed.
@@ -141,15 +137,13 @@ impl Pool {
         ensures err { OnErr result (self.new ≡ self.old) }
         ensures err_only_new { OnErr result (Has self.old (tree_of self.old node.entry) → ⊥) }
     {
-        let made = put_in(
+        put_in(
             &mut self.parts,
             &mut self.entries,
             &mut self.measures,
             self.alloc,
             node,
-        );
-        note_least(&self.parts, &self.entries, &self.measures, &mut self.leasts);
-        made
+        )
     }
 
     /// The place of the process at `id` with the process at `below` in place of its first sub-process; where it has none, of the process itself.
@@ -163,16 +157,14 @@ impl Pool {
         ensures only { AddsOne self.old self.new (with_first (tree_at self.old id) (tree_at self.old below)) }
         ensures err { OnErr result (self.new ≡ self.old) }
     {
-        let made = put_first_in(
+        put_first_in(
             &mut self.parts,
             &mut self.entries,
             &mut self.measures,
             self.alloc,
             id,
             below,
-        );
-        note_least(&self.parts, &self.entries, &self.measures, &mut self.leasts);
-        made
+        )
     }
 
     /// The place of what the process at `id` becomes with the values in place of the names, where `ids` are the places of what its sub-processes become.
@@ -183,13 +175,13 @@ impl Pool {
         values: &Values<'_>,
     ) -> Result<ProcId, NoMemory>
         requires within { id.0 < length self.old }
-        requires made { StandAt self.old ids.now (parts (proc_put values.now (tree_at self.old id))) }
-        ensures process { IfOk result (λ made. slice_get self.new made.0 ≡ Some (proc_put values.now (tree_at self.old id))) }
+        requires made { StandAt self.old ids.now (parts (proc_with (given_by values.now) (tree_at self.old id))) }
+        ensures process { IfOk result (λ made. slice_get self.new made.0 ≡ Some (proc_with (given_by values.now) (tree_at self.old id))) }
         ensures front { IsFront self.old self.new }
-        ensures known { Has self.old (proc_put values.now (tree_at self.old id)) → self.new ≡ self.old }
-        ensures only { AddsOne self.old self.new (proc_put values.now (tree_at self.old id)) }
+        ensures known { Has self.old (proc_with (given_by values.now) (tree_at self.old id)) → self.new ≡ self.old }
+        ensures only { AddsOne self.old self.new (proc_with (given_by values.now) (tree_at self.old id)) }
     {
-        let made = put_made_in(
+        put_made_in(
             &mut self.parts,
             &mut self.entries,
             &mut self.measures,
@@ -197,9 +189,7 @@ impl Pool {
             id,
             ids,
             values,
-        );
-        note_least(&self.parts, &self.entries, &self.measures, &mut self.leasts);
-        made
+        )
     }
 
     /// The place of the process, which is put into the pool with its sub-processes, each of them once. Where memory fails some of them are put.
@@ -213,44 +203,18 @@ impl Pool {
         put_tree(self, alloc, proc)
     }
 
-    /// The place of what the process at `id` is with the value in place of the bound name with the number `slot`, as `put_all_in` puts it.
-    pub fn substitute(&mut self, id: ProcId, slot: u32, value: &Value) -> Result<ProcId, NoMemory>
+    /// The place of what the process at `id` is with the values in place of its free names. What isn't in the pool is put into it, with its
+    /// sub-processes, each of them once. Where memory fails some of them are put.
+    pub fn put_all_in(&mut self, id: ProcId, values: &Values<'_>) -> Result<ProcId, NoMemory>
         requires { id.0 < length self.old }
-        ensures process { IfOk result (λ made. slice_get self.new made.0 ≡ Some (proc_with slot value.now (tree_at self.old id))) }
+        ensures process { IfOk result (λ made. slice_get self.new made.0 ≡ Some (proc_with (given_by values.now) (tree_at self.old id))) }
         ensures front { IsFront self.old self.new }
-        ensures known { Has self.old (proc_with slot value.now (tree_at self.old id)) → self.new ≡ self.old }
-        ensures only { AddsParts self.old self.new (proc_with slot value.now (tree_at self.old id)) }
+        ensures known { Has self.old (proc_with (given_by values.now) (tree_at self.old id)) → self.new ≡ self.old }
+        ensures only { AddsParts self.old self.new (proc_with (given_by values.now) (tree_at self.old id)) }
     {
-        let made = self.put_all_in(id, from_ref(&slot), from_ref(value))?;
-        Ok(made)
-    }
-
-    /// The place of what the process at `id` is with the values in place of the bound names with these numbers, one after another. What isn't in the pool
-    /// is put into it, with its sub-processes, each of them once: a process with some of the values alone is not. Where memory fails some of them are put.
-    pub fn put_all_in(
-        &mut self,
-        id: ProcId,
-        names: &[u32],
-        values: &[Value],
-    ) -> Result<ProcId, NoMemory>
-        requires { id.0 < length self.old }
-        ensures process { IfOk result (λ made. slice_get self.new made.0 ≡ Some (with_values names.now values.now (tree_at self.old id))) }
-        ensures front { IsFront self.old self.new }
-        ensures known { Has self.old (with_values names.now values.now (tree_at self.old id)) → self.new ≡ self.old }
-        ensures only { AddsParts self.old self.new (with_values names.now values.now (tree_at self.old id)) }
-    {
-        let Some(_) = names.split_first() else {
-            return Ok(id);
-        };
         let alloc = self.alloc();
         let mut visited = HashMap::new(alloc);
-        substitute_at(
-            self,
-            &mut visited,
-            alloc,
-            &id,
-            &Values::new(alloc, names, values),
-        )
+        substitute_at(self, &mut visited, alloc, &id, values)
     }
 
     // The allocator.

@@ -2,10 +2,10 @@
 
 ghost use Rattle.std.specs.Prelude.{◌≡◌, ◌<◌, [], ◌∷◌, true, length, map, nat_eq, slice_get, IfOk, OnOk, OnErr, Some};
 ghost use Rattle.std.specs.HashMap.{get, IsUnchanged, Updates};
-ghost use Rattle.substitution.specs.Bindings.{proc_put};
+ghost use Rattle.csp_program.specs.Substitution.{given_by, proc_with};
 ghost use Rattle.term_pool.specs.Pooled.{parts};
 ghost use Rattle.term_pool.specs.Put.{Grows, StandAt};
-ghost use Rattle.term_pool.specs.Substituted.{all_put, AreMade, IsUnder};
+ghost use Rattle.term_pool.specs.Substituted.{all_with, AreMade, IsUnder};
 ghost use Rattle.term_pool.specs.Trees.{all_below, tree_at};
 
 use crate::pool::Pool;
@@ -37,9 +37,10 @@ fn remember(visited: &mut HashMap<usize, ProcId>, id: ProcId, made: ProcId) -> R
 
 // Whether the process at the place stays as it is, because it reads no name so low.
 fn stays(pool: &Pool, id: ProcId, values: &Values<'_>) -> bool
-    ensures { result ≡ true → proc_put values.now (tree_at pool.now id) ≡ tree_at pool.now id }
+    requires { id.0 < length pool.now }
+    ensures { result ≡ true → proc_with (given_by values.now) (tree_at pool.now id) ≡ tree_at pool.now id }
 {
-    values.are_below(pool.least(id))
+    values.are_below(pool.measure(id).least)
 }
 
 /// The place of what the process at `id` is with the values in place of the names. `visited` says what became of the places seen so far.
@@ -52,10 +53,10 @@ pub(crate) fn substitute_at(
     values: &Values<'_>,
 ) -> Result<ProcId, NoMemory>
     requires within { id.now.0 < length pool.old }
-    requires visited { AreMade values.now pool.old visited.old }
-    ensures process { IfOk result (λ made. slice_get pool.new made.0 ≡ Some (proc_put values.now (tree_at pool.old id.now))) }
-    ensures grows { Grows pool.old pool.new (proc_put values.now (tree_at pool.old id.now) ∷ []) }
-    ensures visited { AreMade values.now pool.new visited.new }
+    requires visited { AreMade (given_by values.now) pool.old visited.old }
+    ensures process { IfOk result (λ made. slice_get pool.new made.0 ≡ Some (proc_with (given_by values.now) (tree_at pool.old id.now))) }
+    ensures grows { Grows pool.old pool.new (proc_with (given_by values.now) (tree_at pool.old id.now) ∷ []) }
+    ensures visited { AreMade (given_by values.now) pool.new visited.new }
 {
     if stays(pool, *id, values) {
         return Ok(*id);
@@ -78,10 +79,10 @@ fn put_layer(
     values: &Values<'_>,
 ) -> Result<ProcId, NoMemory>
     requires within { id.0 < length pool.old }
-    requires visited { AreMade values.now pool.old visited.old }
-    ensures process { IfOk result (λ made. slice_get pool.new made.0 ≡ Some (proc_put values.now (tree_at pool.old id))) }
-    ensures grows { Grows pool.old pool.new (proc_put values.now (tree_at pool.old id) ∷ []) }
-    ensures visited { AreMade values.now pool.new visited.new }
+    requires visited { AreMade (given_by values.now) pool.old visited.old }
+    ensures process { IfOk result (λ made. slice_get pool.new made.0 ≡ Some (proc_with (given_by values.now) (tree_at pool.old id))) }
+    ensures grows { Grows pool.old pool.new (proc_with (given_by values.now) (tree_at pool.old id) ∷ []) }
+    ensures visited { AreMade (given_by values.now) pool.new visited.new }
 {
     let ids = put_below(pool, visited, alloc, id, values)?;
     pool.put_made(id, &ids, values)
@@ -97,10 +98,10 @@ fn put_below(
     values: &Values<'_>,
 ) -> Result<Items<ProcId>, NoMemory>
     requires within { id.0 < length pool.old }
-    requires visited { AreMade values.now pool.old visited.old }
-    ensures places { IfOk result (λ made. StandAt pool.new made (parts (proc_put values.now (tree_at pool.old id)))) }
-    ensures grows { Grows pool.old pool.new (parts (proc_put values.now (tree_at pool.old id))) }
-    ensures visited { AreMade values.now pool.new visited.new }
+    requires visited { AreMade (given_by values.now) pool.old visited.old }
+    ensures places { IfOk result (λ made. StandAt pool.new made (parts (proc_with (given_by values.now) (tree_at pool.old id)))) }
+    ensures grows { Grows pool.old pool.new (parts (proc_with (given_by values.now) (tree_at pool.old id))) }
+    ensures visited { AreMade (given_by values.now) pool.new visited.new }
 {
     let under = under_node(pool, alloc, id, values)?;
     put_under(pool, visited, alloc, id, &under, values)
@@ -117,11 +118,11 @@ fn put_under(
     values: &Values<'_>,
 ) -> Result<Items<ProcId>, NoMemory>
     requires within { id.0 < length pool.old }
-    requires visited { AreMade values.now pool.old visited.old }
-    requires under { IsUnder values.now pool.old id under.now }
-    ensures places { IfOk result (λ made. StandAt pool.new made (parts (proc_put values.now (tree_at pool.old id)))) }
-    ensures grows { Grows pool.old pool.new (parts (proc_put values.now (tree_at pool.old id))) }
-    ensures visited { AreMade values.now pool.new visited.new }
+    requires visited { AreMade (given_by values.now) pool.old visited.old }
+    requires under { IsUnder (given_by values.now) pool.old id under.now }
+    ensures places { IfOk result (λ made. StandAt pool.new made (parts (proc_with (given_by values.now) (tree_at pool.old id)))) }
+    ensures grows { Grows pool.old pool.new (parts (proc_with (given_by values.now) (tree_at pool.old id))) }
+    ensures visited { AreMade (given_by values.now) pool.new visited.new }
 {
     let places = under.ids.as_slice();
     match &under.left {
@@ -141,8 +142,8 @@ fn put_anew(
 ) -> Result<Items<ProcId>, NoMemory>
     requires within { id.0 < length pool.old }
     requires places { all_below id.0 ids.now ≡ true }
-    ensures places { IfOk result (λ made. StandAt pool.new made (map (tree_at (all_put values.now pool.old)) ids.now)) }
-    ensures grows { Grows pool.old pool.new (map (tree_at (all_put values.now pool.old)) ids.now) }
+    ensures places { IfOk result (λ made. StandAt pool.new made (all_with (given_by values.now) pool.old ids.now)) }
+    ensures grows { Grows pool.old pool.new (all_with (given_by values.now) pool.old ids.now) }
 {
     let mut visited = HashMap::new(alloc);
     put_all(pool, &mut visited, alloc, id, ids, values)
@@ -160,10 +161,10 @@ fn put_all(
 ) -> Result<Items<ProcId>, NoMemory>
     requires within { id.0 < length pool.old }
     requires places { all_below id.0 ids.now ≡ true }
-    requires visited { AreMade values.now pool.old visited.old }
-    ensures places { IfOk result (λ made. StandAt pool.new made (map (tree_at (all_put values.now pool.old)) ids.now)) }
-    ensures grows { Grows pool.old pool.new (map (tree_at (all_put values.now pool.old)) ids.now) }
-    ensures visited { AreMade values.now pool.new visited.new }
+    requires visited { AreMade (given_by values.now) pool.old visited.old }
+    ensures places { IfOk result (λ made. StandAt pool.new made (all_with (given_by values.now) pool.old ids.now)) }
+    ensures grows { Grows pool.old pool.new (all_with (given_by values.now) pool.old ids.now) }
+    ensures visited { AreMade (given_by values.now) pool.new visited.new }
 {
     let mut made = Items::new(alloc);
     for p in ids {

@@ -1,6 +1,7 @@
 //! What stands below a node of a pool, and which of the values are left there.
 
 ghost use Rattle.std.specs.Prelude.{◌≡◌, ◌<◌, [], ◌∷◌, false, length, IfOk, OnOk};
+ghost use Rattle.csp_program.specs.Substitution.{given_by};
 ghost use Rattle.term_pool.specs.Layers.{shown};
 ghost use Rattle.term_pool.specs.Substituted.{left_below, IsLeft, IsUnder};
 ghost use Rattle.term_pool.specs.Trees.{places};
@@ -22,7 +23,8 @@ pub(crate) struct Under<'a> {
     pub left: Option<Values<'a>>,
 }
 
-fn one(alloc: Global, p: ProcId) -> Result<Items<ProcId>, NoMemory>
+/// One place, as a list.
+pub(crate) fn one(alloc: Global, p: ProcId) -> Result<Items<ProcId>, NoMemory>
     ensures { IfOk result (λ ids. ids ≡ p ∷ []) }
 {
     let mut ids = Items::new(alloc);
@@ -30,7 +32,8 @@ fn one(alloc: Global, p: ProcId) -> Result<Items<ProcId>, NoMemory>
     Ok(ids)
 }
 
-fn two(alloc: Global, p: ProcId, q: ProcId) -> Result<Items<ProcId>, NoMemory>
+/// Two places, as a list.
+pub(crate) fn two(alloc: Global, p: ProcId, q: ProcId) -> Result<Items<ProcId>, NoMemory>
     ensures { IfOk result (λ ids. ids ≡ p ∷ q ∷ []) }
 {
     let mut ids = Items::new(alloc);
@@ -69,7 +72,7 @@ fn places_of(alloc: Global, node: Node<'_>) -> Result<Items<ProcId>, NoMemory>
 
 // Whether the node binds one of the names in its sub-processes.
 fn binds_one(node: Node<'_>, values: &Values<'_>) -> bool
-    ensures { result ≡ false → left_below (shown node.entry) values.now ≡ values.now }
+    ensures { result ≡ false → left_below (shown node.entry) (given_by values.now) ≡ given_by values.now }
 {
     match node {
         Node::Prefix(_, fields, _) => any_field_binds(fields.as_slice(), values),
@@ -91,7 +94,7 @@ fn binds_one(node: Node<'_>, values: &Values<'_>) -> bool
 
 // Takes the values of the names away that the node binds in its sub-processes.
 fn pass_node(node: Node<'_>, values: &mut Values<'_>) -> Result<(), NoMemory>
-    ensures { OnOk result (values.new ≡ left_below (shown node.entry) values.old) }
+    ensures { OnOk result (given_by values.new ≡ left_below (shown node.entry) (given_by values.old)) }
 {
     match node {
         Node::Prefix(_, fields, _) => pass_fields(values, fields.as_slice()),
@@ -117,7 +120,7 @@ fn left_at<'a>(
     node: Node<'_>,
     values: &Values<'a>,
 ) -> Result<Option<Values<'a>>, NoMemory>
-    ensures { IfOk result (IsLeft (shown node.entry) values.now) }
+    ensures { IfOk result (IsLeft (shown node.entry) (given_by values.now)) }
 {
     if !binds_one(node, values) {
         return Ok(None);
@@ -135,7 +138,7 @@ pub(crate) fn under_node<'a>(
     values: &Values<'a>,
 ) -> Result<Under<'a>, NoMemory>
     requires { id.0 < length pool.now }
-    ensures { IfOk result (IsUnder values.now pool.now id) }
+    ensures { IfOk result (IsUnder (given_by values.now) pool.now id) }
 {
     let node = pool.node(id);
     let ids = places_of(alloc, node)?;

@@ -4,7 +4,7 @@
 -- and that what the call gives is its worth.
 use Rattle.std.specs.Prelude.{slice_get}
 use Rattle.std.proofs.lemmas.Option.{slice_get_read}
-use Rattle.std.proofs.Common.{◌≡◌, ◌+◌, length, Some, Ok, Err, ap, refl, sym, ◌∙◌, arith, to_z, of_z, w64, drop_of_length-le}
+use Rattle.std.proofs.Common.{◌≡◌, ◌+◌, length, Some, Ok, Err, ap, refl, subst, sym, ◌∙◌, arith, to_z, of_z, w64, drop_of_length-le}
 use Rattle.std.proofs.lemmas.Int.{ints}
 use Rattle.csp_program.specs.Outcome.{and_then}
 use Rattle.csp_program.specs.Atoms.{added}
@@ -14,8 +14,10 @@ use Rattle.value_laws.specs.Numbers.{field_place}
 use Rattle.value_operators.specs.Forms.{capped}
 use Rattle.value_operators.specs.Env.{env_in, parameters, with_bound}
 use Rattle.value_operators.proofs.Faults.{passed}
-use Rattle.csp_values.specs.Worth.{worth, number_worth, truth_worth, atoms_worth, range_of, set_of, use_worth, with_items, with_fronts, gathered_of, one_more_binding}
+use Rattle.csp_values.specs.Worth.{worth, number_worth, truth_worth, atoms_worth, range_of, set_of, use_worth, with_items, with_fronts, gathered_of, one_more_binding, yielded}
 use Rattle.csp_values.proofs.Arms.{binding_passed, lacking, not_lacking, same, part_passed, walk_passed, worth_num, worth_truth, worth_const, worth_bound, worth_lit, worth_neg, worth_not, worth_binary, worth_if, worth_call, worth_set_name, worth_event, worth_display, worth_range, worth_set_op, worth_comp, worth_product, datum_worth, datatype_worth, an_event, count_fits, event_fault, front_without_sets, front_fault, front_added, no_event, binding_item_fault, binding_with_items}
+use Rattle.csp_values.proofs.Again.{adds_nothing, there_after}
+use Rattle.csp_values.proofs.Stays.{once_begun}
 use Rattle.csp_values.proofs.Equations.{body-Nametype, body-Process, body-Network, use-none_left, use-unknown, use-known, fronts-nil, with_items-nil, binding-full}
 use Rattle.csp_values.proofs.Courses.{begun_under, binding_found, binding_less, condition_fails, condition_fault, condition_holds, ends, gathering_begun, gathering_fault, gathering_next, goes_on, goes_under, over_end, over_fault, set_entered, set_fault, step_less, step_passed}
 use Rattle.csp_values.proofs.Falls.{condition_falls, set_falls, weight_neg, weight_not, weight_binary, weight_if, weight_call, weight_set_name, weight_event, weight_display, weight_range, weight_set_op, weight_comp, weight_product, weight_part, use_falls}
@@ -98,7 +100,8 @@ pub eval_body-returns-in-Datum : goal.eval_body-returns-in-Datum
 eval_body-returns-in-Datum t c = same _ _ _ (datum_worth c.args.scope.now.content.now c.args.scope.now.uses c.args.def.now c.args.args.now c.as_slice.result.now c.in-Datum.expr c.in-Datum.is c.as_slice.ensures ∙ ap (λ env. worth c.args.scope.now.content.now c.args.scope.now.uses env c.in-Datum.expr) (sym c.names_in-names.ensures)) c.eval_expr.ensures
 
 pub eval_body-returns-in-Nametype : goal.eval_body-returns-in-Nametype
-eval_body-returns-in-Nametype t c = same _ _ _ (body-Nametype c.args.scope.now.content.now c.args.scope.now.uses c.args.def.now c.args.args.now c.in-Nametype.expr c.in-Nametype.is) c.eval_expr-in-Nametype.ensures
+eval_body-returns-in-Nametype t c = same _ _ _ (body-Nametype c.args.scope.now.content.now c.args.scope.now.uses c.args.def.now c.args.args.now c.in-Nametype.expr c.in-Nametype.is ∙
+    ap (λ env. worth c.args.scope.now.content.now c.args.scope.now.uses env c.in-Nametype.expr) (sym c.names_under.ensures.names)) c.eval_expr-in-Nametype.ensures
 
 pub eval_body-returns-in-Datatype : goal.eval_body-returns-in-Datatype
 eval_body-returns-in-Datatype t c = same _ _ _ (datatype_worth c.args.scope.now.content.now c.args.scope.now.uses c.args.def.now c.args.args.now c.in-Datatype.numbers c.as_slice-in-Datatype.result.now _ c.in-Datatype.is c.as_slice-in-Datatype.ensures refl) c.constants_value.ensures
@@ -422,28 +425,28 @@ enter-returns-in-None t c = (
 pub find_binding-steps-smaller : goal.find_binding-steps-smaller
 find_binding-steps-smaller t c = let went = rw c.in-On.is at c.in_ok-advance.ensures in step_less _ _ went.0
 
-pub gather_all-bindings-init : goal.gather_all-bindings-init
-gather_all-bindings-init t c = record {
+pub gather_each-bindings-init : goal.gather_each-bindings-init
+gather_each-bindings-init t c = record {
   same = gathering_begun c.args.scope.now.content.now c.args.scope.now.uses c.args.gens.now c.args.yields.now.items.now c.args.yields.now.parts.now c.args.names.now.bound.now (parameters c.args.names.now) c.in_ok-walk.walk (gathered_of c.args.tally) c.in_ok-walk.ensures;
   under = begun_under c.args.names.now.bound.now c.in_ok-walk.walk c.in_ok-walk.ensures;
 }
 
-pub gather_all-returns-in_err-find_binding : goal.gather_all-returns-in_err-find_binding
-gather_all-returns-in_err-find_binding t c =
+pub gather_each-returns-in_err-find_binding : goal.gather_each-returns-in_err-find_binding
+gather_each-returns-in_err-find_binding t c =
     binding_passed _ _ _ _ _ _ _ _ c.from_residual-in_err-find_binding.ensures.1 c.in_err-find_binding.ensures
     (λ k e. c.bindings.invariant.same ∙ over_fault (one_more_binding c.args.scope.now.content.now c.args.scope.now.uses c.args.yields.now.items.now c.args.yields.now.parts.now) _ (gathered_of c.bindings.tally) k e)
 
-pub gather_all-returns-in_err-tally : goal.gather_all-returns-in_err-tally
-gather_all-returns-in_err-tally t c =
+pub gather_each-returns-in_err-tally : goal.gather_each-returns-in_err-tally
+gather_each-returns-in_err-tally t c =
     let found = rw c.if-branch.true at c.in_ok-find_binding.ensures in
     walk_passed _ _ _ _ c.from_residual-in_err-tally.ensures.1 c.in_err-tally.ensures
     (λ k e. gathering_fault (one_more_binding c.args.scope.now.content.now c.args.scope.now.uses c.args.yields.now.items.now c.args.yields.now.parts.now) _ _ _ _ _ (gathered_of c.bindings.tally) k c.bindings.invariant.same found.0 (ap (λ bs. with_bound bs (parameters c.args.names.now)) c.bound.ensures) e)
 
-pub gather_all-bindings-smaller : goal.gather_all-bindings-smaller
-gather_all-bindings-smaller t c = let found = rw c.if-branch.true at c.in_ok-find_binding.ensures in binding_less _ _ _ found.0
+pub gather_each-bindings-smaller : goal.gather_each-bindings-smaller
+gather_each-bindings-smaller t c = let found = rw c.if-branch.true at c.in_ok-find_binding.ensures in binding_less _ _ _ found.0
 
-pub gather_all-bindings-preserved : goal.gather_all-bindings-preserved
-gather_all-bindings-preserved t c =
+pub gather_each-bindings-preserved : goal.gather_each-bindings-preserved
+gather_each-bindings-preserved t c =
     let found = rw c.if-branch.true at c.in_ok-find_binding.ensures in
     record {
       same = gathering_next (one_more_binding c.args.scope.now.content.now c.args.scope.now.uses c.args.yields.now.items.now c.args.yields.now.parts.now) _ _ _ _ _ (gathered_of c.bindings.tally) (gathered_of c.in_ok-tally.tally) c.bindings.invariant.same found.0
@@ -451,7 +454,68 @@ gather_all-bindings-preserved t c =
       under = found.1;
     }
 
-pub gather_all-returns : goal.gather_all-returns
-gather_all-returns t c =
+pub gather_each-returns : goal.gather_each-returns
+gather_each-returns t c =
     let ended = rw c.if-branch.false at c.in_ok-find_binding.ensures in
     c.bindings.invariant.same ∙ over_end (one_more_binding c.args.scope.now.content.now c.args.scope.now.uses c.args.yields.now.items.now c.args.yields.now.parts.now) _ (gathered_of c.bindings.tally) ended
+
+-- ---- what every binding adds alike
+
+pub gather_once-returns-in_err-find_binding : goal.gather_once-returns-in_err-find_binding
+gather_once-returns-in_err-find_binding t c =
+    let begun = once_begun c.args.scope.now.content.now c.args.scope.now.uses c.args.gens.now c.args.yields.now.items.now c.args.yields.now.parts.now c.args.names.now.bound.now (parameters c.args.names.now) c.in_ok-walk.walk (gathered_of c.args.tally) c.requires.items c.requires.parts c.in_ok-walk.ensures in
+    binding_passed _ _ _ _ _ _ _ _ c.from_residual-in_err-find_binding.ensures.1 c.in_err-find_binding.ensures
+    (λ k e. begun ∙ over_fault (λ _. one_more_binding c.args.scope.now.content.now c.args.scope.now.uses c.args.yields.now.items.now c.args.yields.now.parts.now (env_in c.args.names.now)) _ (gathered_of c.args.tally) k e)
+
+pub gather_once-returns-then-not-branch : goal.gather_once-returns-then-not-branch
+gather_once-returns-then-not-branch t c =
+    let begun = once_begun c.args.scope.now.content.now c.args.scope.now.uses c.args.gens.now c.args.yields.now.items.now c.args.yields.now.parts.now c.args.names.now.bound.now (parameters c.args.names.now) c.in_ok-walk.walk (gathered_of c.args.tally) c.requires.items c.requires.parts c.in_ok-walk.ensures in
+    let ended = rw c.if-not-branch.true at c.in_ok-find_binding.ensures in
+    begun ∙ over_end (λ _. one_more_binding c.args.scope.now.content.now c.args.scope.now.uses c.args.yields.now.items.now c.args.yields.now.parts.now (env_in c.args.names.now)) _ (gathered_of c.args.tally) ended
+
+pub gather_once-returns-in_err-tally : goal.gather_once-returns-in_err-tally
+gather_once-returns-in_err-tally t c =
+    let begun = once_begun c.args.scope.now.content.now c.args.scope.now.uses c.args.gens.now c.args.yields.now.items.now c.args.yields.now.parts.now c.args.names.now.bound.now (parameters c.args.names.now) c.in_ok-walk.walk (gathered_of c.args.tally) c.requires.items c.requires.parts c.in_ok-walk.ensures in
+    let found = rw c.if-not-branch.false at c.in_ok-find_binding.ensures in
+    walk_passed _ _ _ _ c.from_residual-in_err-tally.ensures.1 c.in_err-tally.ensures
+    (λ k e. gathering_fault (λ _. one_more_binding c.args.scope.now.content.now c.args.scope.now.uses c.args.yields.now.items.now c.args.yields.now.parts.now (env_in c.args.names.now)) _ _ _ _ _ (gathered_of c.args.tally) k begun found.0 refl e)
+
+pub gather_once-bindings-init : goal.gather_once-bindings-init
+gather_once-bindings-init t c =
+    let begun = once_begun c.args.scope.now.content.now c.args.scope.now.uses c.args.gens.now c.args.yields.now.items.now c.args.yields.now.parts.now c.args.names.now.bound.now (parameters c.args.names.now) c.in_ok-walk.walk (gathered_of c.args.tally) c.requires.items c.requires.parts c.in_ok-walk.ensures in
+    let found = rw c.if-not-branch.false at c.in_ok-find_binding.ensures in
+    record {
+      same = gathering_next (λ _. one_more_binding c.args.scope.now.content.now c.args.scope.now.uses c.args.yields.now.items.now c.args.yields.now.parts.now (env_in c.args.names.now)) _ _ _ _ _ (gathered_of c.args.tally) (gathered_of c.in_ok-tally.tally) begun found.0 refl c.in_ok-tally.ensures;
+      under = found.1;
+      there = there_after c.args.scope.now.content.now c.args.scope.now.uses c.args.yields.now.items.now c.args.yields.now.parts.now (env_in c.args.names.now) (gathered_of c.args.tally) (gathered_of c.in_ok-tally.tally) c.requires.set c.in_ok-tally.ensures;
+    }
+
+pub gather_once-returns-in_err-find_binding-2 : goal.gather_once-returns-in_err-find_binding-2
+gather_once-returns-in_err-find_binding-2 t c =
+    binding_passed _ _ _ _ _ _ _ _ c.from_residual-in_err-find_binding-2.ensures.1 c.in_err-find_binding-2.ensures
+    (λ k e. c.bindings.invariant.same ∙ over_fault (λ _. one_more_binding c.args.scope.now.content.now c.args.scope.now.uses c.args.yields.now.items.now c.args.yields.now.parts.now (env_in c.args.names.now)) _ (gathered_of c.bindings.tally) k e)
+
+pub gather_once-returns-in_err-tally-2 : goal.gather_once-returns-in_err-tally-2
+gather_once-returns-in_err-tally-2 t c =
+    let found = rw c.if-branch.true at c.in_ok-find_binding-2.ensures in
+    walk_passed _ _ _ _ c.from_residual-in_err-tally-2.ensures.1 c.in_err-tally-2.ensures.tally
+    (λ k e. gathering_fault (λ _. one_more_binding c.args.scope.now.content.now c.args.scope.now.uses c.args.yields.now.items.now c.args.yields.now.parts.now (env_in c.args.names.now)) _ _ _ _ _ (gathered_of c.bindings.tally) k c.bindings.invariant.same found.0 refl
+    (adds_nothing c.args.scope.now.content.now c.args.scope.now.uses c.args.yields.now.items.now c.args.yields.now.parts.now (env_in c.args.names.now) (gathered_of c.bindings.tally) c.bindings.invariant.there ∙ e))
+
+pub gather_once-bindings-smaller : goal.gather_once-bindings-smaller
+gather_once-bindings-smaller t c = let found = rw c.if-branch.true at c.in_ok-find_binding-2.ensures in binding_less _ _ _ found.0
+
+pub gather_once-bindings-preserved : goal.gather_once-bindings-preserved
+gather_once-bindings-preserved t c =
+    let found = rw c.if-branch.true at c.in_ok-find_binding-2.ensures in
+    record {
+      same = gathering_next (λ _. one_more_binding c.args.scope.now.content.now c.args.scope.now.uses c.args.yields.now.items.now c.args.yields.now.parts.now (env_in c.args.names.now)) _ _ _ _ _ (gathered_of c.bindings.tally) (gathered_of c.in_ok-tally-2.tally) c.bindings.invariant.same found.0 refl
+          (adds_nothing c.args.scope.now.content.now c.args.scope.now.uses c.args.yields.now.items.now c.args.yields.now.parts.now (env_in c.args.names.now) (gathered_of c.bindings.tally) c.bindings.invariant.there ∙ c.in_ok-tally-2.ensures.tally);
+      under = found.1;
+      there = subst (λ atoms. yielded c.args.scope.now.content.now c.args.scope.now.uses c.args.yields.now.items.now c.args.yields.now.parts.now (env_in c.args.names.now) atoms ≡ Ok atoms) (sym c.in_ok-tally-2.ensures.atoms) c.bindings.invariant.there;
+    }
+
+pub gather_once-returns : goal.gather_once-returns
+gather_once-returns t c =
+    let ended = rw c.if-branch.false at c.in_ok-find_binding-2.ensures in
+    c.bindings.invariant.same ∙ over_end (λ _. one_more_binding c.args.scope.now.content.now c.args.scope.now.uses c.args.yields.now.items.now c.args.yields.now.parts.now (env_in c.args.names.now)) _ (gathered_of c.bindings.tally) ended

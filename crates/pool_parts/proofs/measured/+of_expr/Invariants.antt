@@ -1,10 +1,12 @@
-use Rattle.std.proofs.Common.{◌≡◌, ◌+◌, ◌*◌, ◌≤◌, max, map, drop}
+use Rattle.std.proofs.Common.{◌≡◌, ℕ, ◌+◌, ◌*◌, ◌≤◌, max, min, map, drop}
 use denote.Param.Weighed as weighed
 use Rattle.csp_program.proofs.expressions.Expr.TheLaws.{the_size}
 use Rattle.csp_program.proofs.expressions.Gen.TheLaws as generator
 use Rattle.csp_program.specs.Depth.{expr_depth, gen_depth, part_depth}
+use Rattle.csp_program.specs.Free.{any_of, expr_free, gen_binding, nowhere, part_free, under}
 use Rattle.csp_program.specs.Size.{expr_size, gen_size, part_size}
 use Rattle.pool_parts.specs.Counting.{capped}
+use Rattle.pool_parts.specs.Low.{IsLow}
 use Rattle.pool_parts.proofs.measured.+of_expr.Given as goal
 use Rattle.csp_base.specs.Lists.{greatest, total}
 
@@ -14,6 +16,7 @@ invariant-of_exprs-loop-expr l = record {
   small : l.all.size ≤ 4294967295;
   depth : max l.all.depth (capped (greatest (map expr_depth (drop l.expr-index l.exprs)))) ≡ capped (greatest (map expr_depth l.exprs));
   size : capped (l.all.size + total (map expr_size (drop l.expr-index l.exprs))) ≡ capped (total (map expr_size l.exprs));
+  low : (n : ℕ) → IsLow n (any_of (map expr_free (drop l.expr-index l.exprs))) → IsLow (min l.all.least n) (any_of (map expr_free l.exprs));
 }
 
 -- what is measured so far, together with the rest, is all
@@ -22,6 +25,7 @@ invariant-of_gens-loop-generator l = record {
   small : l.all.size ≤ 4294967295;
   depth : max l.all.depth (capped (greatest (map gen_depth (drop l.generator-index l.gens)))) ≡ capped (greatest (map gen_depth l.gens));
   size : capped (l.all.size + total (map gen_size (drop l.generator-index l.gens))) ≡ capped (total (map gen_size l.gens));
+  low : (n : ℕ) → IsLow n (under (map gen_binding (drop l.generator-index l.gens)) nowhere) → IsLow (min l.all.least n) (under (map gen_binding l.gens) nowhere);
 }
 
 -- what is measured so far, together with the rest, is all
@@ -30,6 +34,7 @@ invariant-of_parts-loop-part l = record {
   small : l.all.size ≤ 4294967295;
   depth : max l.all.depth (capped (greatest (map part_depth (drop l.part-index l.parts)))) ≡ capped (greatest (map part_depth l.parts));
   size : capped (l.all.size + total (map part_size (drop l.part-index l.parts))) ≡ capped (total (map part_size l.parts));
+  low : (n : ℕ) → IsLow n (any_of (map part_free (drop l.part-index l.parts))) → IsLow (min l.all.least n) (any_of (map part_free l.parts));
 }
 
 -- how deep what is left is, four for each level: the parts of an expression come below it, a list above its items, and two of them above both

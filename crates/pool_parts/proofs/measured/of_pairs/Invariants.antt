@@ -1,7 +1,9 @@
-use Rattle.std.proofs.Common.{◌≡◌, ◌+◌, ◌≤◌, max, map, drop}
+use Rattle.std.proofs.Common.{◌≡◌, ℕ, ◌+◌, ◌≤◌, max, min, map, drop}
 use Rattle.csp_program.specs.Depth.{pair_depth}
+use Rattle.csp_program.specs.Free.{any_of, pair_free}
 use Rattle.csp_program.specs.Size.{pair_size}
 use Rattle.pool_parts.specs.Counting.{capped}
+use Rattle.pool_parts.specs.Low.{IsLow}
 use Rattle.pool_parts.proofs.measured.of_pairs.Given as goal
 use Rattle.csp_base.specs.Lists.{greatest, total}
 
@@ -11,4 +13,5 @@ invariant-loop-pair l = record {
   small : l.all.size ≤ 4294967295;
   depth : max l.all.depth (capped (greatest (map pair_depth (drop l.pair-index l.pairs)))) ≡ capped (greatest (map pair_depth l.pairs));
   size : capped (l.all.size + total (map pair_size (drop l.pair-index l.pairs))) ≡ capped (total (map pair_size l.pairs));
+  low : (n : ℕ) → IsLow n (any_of (map pair_free (drop l.pair-index l.pairs))) → IsLow (min l.all.least n) (any_of (map pair_free l.pairs));
 }

@@ -9,6 +9,6 @@ returns-then-place-len g c =
     let test = c.if-place-len.true in
     let within : c.len-place.result < length c.args.parts.now = omega (arith, count, test) in
     record {
-      noted = noted_pushed g.T.Part.depth g.T.Part.size g.T.Part.low c.args.notes.now c.push.new.self c.args.parts.now c.note_of-note.result c.index-as_slice-place.result c.push.result c.push.ensures.ok c.push.ensures.err c.requires.noted
-          (next_part c.args.parts.now c.as_slice.result.now c.len-place.result (length c.args.notes.now) c.index-as_slice-place.result c.as_slice.ensures.value c.len-place.ensures within c.index-as_slice-place.is) c.note_of-note.ensures;
+      noted = noted_pushed g.T.Part.depth g.T.Part.size g.T.Part.free c.args.notes.now c.push.new.self c.args.parts.now c.measure-note.result c.index-as_slice-place.result c.push.result c.push.ensures.ok c.push.ensures.err c.requires.noted
+          (next_part c.args.parts.now c.as_slice.result.now c.len-place.result (length c.args.notes.now) c.index-as_slice-place.result c.as_slice.ensures.value c.len-place.ensures within c.index-as_slice-place.is) (record { depth = c.measure-note.ensures.depth; size = c.measure-note.ensures.size; low = c.measure-note.ensures.low });
     }

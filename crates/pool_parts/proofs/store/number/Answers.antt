@@ -4,7 +4,7 @@ use Rattle.pool_parts.proofs.store.number.Goals as goal
 
 pub returns-clause-noted : goal.returns-clause-noted
 returns-clause-noted g c =
-    λ notes h. noted_numbered g.T.Part.depth g.T.Part.size g.T.Part.low g.T.PartialEq.eq notes c.args.parts.now c.number-number.new.self c.args.part c.number-number.result c.number-number.ensures.list c.number-number.ensures.err h
+    λ notes h. noted_numbered g.T.Part.depth g.T.Part.size g.T.Part.free g.T.PartialEq.eq notes c.args.parts.now c.number-number.new.self c.args.part c.number-number.result c.number-number.ensures.list c.number-number.ensures.err h
 
 pub returns-clause-start : goal.returns-clause-start
 returns-clause-start g c = start_numbered g.T.PartialEq.eq c.args.parts.now c.number-number.new.self c.args.part c.number-number.result c.number-number.ensures.list c.number-number.ensures.err

@@ -1,5 +1,6 @@
 -- Each form by its lemma.
-use Rattle.std.proofs.Common.{rules, refl, subst}
+use Rattle.std.proofs.Common.{[], rules, refl, subst}
+use Rattle.csp_program.specs.declared.expressions.Expr.TheVariants as expr
 use Rattle.term_pool.proofs.StandsLemmas.{stands_Guard, stands_If, stands_EachExternal, stands_EachInternal, stands_Hide, stands_Call, stands_Prefix, stands_Rename}
 use Rattle.term_pool.specs.Entries.{Fits}
 use Rattle.term_pool.specs.declared.entry.Entry.{Entry}
@@ -8,22 +9,22 @@ use Rattle.term_pool.proofs.changed.put_own.Goals as goal
 use Rattle.csp_base.proofs.Results.{if_map, if_map_both}
 
 pub returns-in-Guard-clause-entry : goal.returns-in-Guard-clause-entry
-returns-in-Guard-clause-entry c = rw c.in-Guard.is (if_map c.put_expr_in.result _ c.map-in-Guard.result (λ k. entry.Guard k c.in-Guard.p) _ _ c.map-in-Guard.ensures.cases (λ x y r. search rules) (λ k. stands_Guard c.put_expr_in.new.parts k _ c.in-Guard.p) c.put_expr_in.ensures.made)
+returns-in-Guard-clause-entry c = rw c.in-Guard.is (if_map c.put_values.result _ c.map-in-Guard.result (λ k. entry.Guard k c.in-Guard.p) _ _ c.map-in-Guard.ensures.cases (λ x y r. search rules) (λ k. stands_Guard _ k _ c.in-Guard.p) (c.put_values.ensures.made (expr.Const 0)))
 
 pub returns-in-If-clause-entry : goal.returns-in-If-clause-entry
-returns-in-If-clause-entry c = rw c.in-If.is (if_map c.put_expr_in-in-If.result _ c.map-in-If.result (λ k. entry.If k c.in-If.p c.in-If.q) _ _ c.map-in-If.ensures.cases (λ x y r. search rules) (λ k. stands_If c.put_expr_in-in-If.new.parts k _ c.in-If.p c.in-If.q) c.put_expr_in-in-If.ensures.made)
+returns-in-If-clause-entry c = rw c.in-If.is (if_map c.put_values-in-If.result _ c.map-in-If.result (λ k. entry.If k c.in-If.p c.in-If.q) _ _ c.map-in-If.ensures.cases (λ x y r. search rules) (λ k. stands_If _ k _ c.in-If.p c.in-If.q) (c.put_values-in-If.ensures.made (expr.Const 0)))
 
 pub returns-in-EachExternal-clause-entry : goal.returns-in-EachExternal-clause-entry
-returns-in-EachExternal-clause-entry c = rw c.in-EachExternal.is (if_map c.put_expr_in-in-EachExternal.result _ c.map-in-EachExternal.result (λ k. entry.EachExternal c.in-EachExternal.slot k c.in-EachExternal.p) _ _ c.map-in-EachExternal.ensures.cases (λ x y r. search rules) (λ k. stands_EachExternal c.put_expr_in-in-EachExternal.new.parts c.in-EachExternal.slot k _ c.in-EachExternal.p) c.put_expr_in-in-EachExternal.ensures.made)
+returns-in-EachExternal-clause-entry c = rw c.in-EachExternal.is (if_map c.put_values-in-EachExternal.result _ c.map-in-EachExternal.result (λ k. entry.EachExternal c.in-EachExternal.slot k c.in-EachExternal.p) _ _ c.map-in-EachExternal.ensures.cases (λ x y r. search rules) (λ k. stands_EachExternal _ c.in-EachExternal.slot k _ c.in-EachExternal.p) (c.put_values-in-EachExternal.ensures.made (expr.Const 0)))
 
 pub returns-in-EachInternal-clause-entry : goal.returns-in-EachInternal-clause-entry
-returns-in-EachInternal-clause-entry c = rw c.in-EachInternal.is (if_map c.put_expr_in-in-EachInternal.result _ c.map-in-EachInternal.result (λ k. entry.EachInternal c.in-EachInternal.slot k c.in-EachInternal.p) _ _ c.map-in-EachInternal.ensures.cases (λ x y r. search rules) (λ k. stands_EachInternal c.put_expr_in-in-EachInternal.new.parts c.in-EachInternal.slot k _ c.in-EachInternal.p) c.put_expr_in-in-EachInternal.ensures.made)
+returns-in-EachInternal-clause-entry c = rw c.in-EachInternal.is (if_map c.put_values-in-EachInternal.result _ c.map-in-EachInternal.result (λ k. entry.EachInternal c.in-EachInternal.slot k c.in-EachInternal.p) _ _ c.map-in-EachInternal.ensures.cases (λ x y r. search rules) (λ k. stands_EachInternal _ c.in-EachInternal.slot k _ c.in-EachInternal.p) (c.put_values-in-EachInternal.ensures.made (expr.Const 0)))
 
 pub returns-in-Hide-clause-entry : goal.returns-in-Hide-clause-entry
-returns-in-Hide-clause-entry c = rw c.in-Hide.is (if_map c.put_expr_in-in-Hide.result _ c.map-in-Hide.result (λ k. entry.Hide c.in-Hide.p k) _ _ c.map-in-Hide.ensures.cases (λ x y r. search rules) (λ k. stands_Hide c.put_expr_in-in-Hide.new.parts c.in-Hide.p k _) c.put_expr_in-in-Hide.ensures.made)
+returns-in-Hide-clause-entry c = rw c.in-Hide.is (if_map c.put_values-in-Hide.result _ c.map-in-Hide.result (λ k. entry.Hide c.in-Hide.p k) _ _ c.map-in-Hide.ensures.cases (λ x y r. search rules) (λ k. stands_Hide _ c.in-Hide.p k _) (c.put_values-in-Hide.ensures.made (expr.Const 0)))
 
 pub returns-in-Call-clause-entry : goal.returns-in-Call-clause-entry
-returns-in-Call-clause-entry c = rw c.in-Call.is (if_map c.put_arguments.result _ c.map-in-Call.result (λ k. entry.Call c.in-Call.definition k) _ _ c.map-in-Call.ensures.cases (λ x y r. search rules) (λ k. stands_Call c.put_arguments.new.parts c.in-Call.definition k _) c.put_arguments.ensures.made)
+returns-in-Call-clause-entry c = rw c.in-Call.is (if_map c.put_values-in-Call.result _ c.map-in-Call.result (λ k. entry.Call c.in-Call.definition k) _ _ c.map-in-Call.ensures.cases (λ x y r. search rules) (λ k. stands_Call _ c.in-Call.definition k _) (c.put_values-in-Call.ensures.made []))
 
 pub returns-in-Prefix-clause-entry : goal.returns-in-Prefix-clause-entry
 returns-in-Prefix-clause-entry c = rw c.in-Prefix.is (if_map_both c.put_prefix-own.result _ c.map.result (λ own. entry.Prefix own.0 own.1 c.in-Prefix.p) _ _ _ c.map.ensures.cases (λ x y r. search rules) (λ own. stands_Prefix c.put_prefix-own.new.parts own.0 _ own.1 _ c.in-Prefix.p) c.put_prefix-own.ensures.heads c.put_prefix-own.ensures.fields)

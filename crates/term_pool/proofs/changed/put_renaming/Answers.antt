@@ -2,18 +2,16 @@ use Rattle.std.proofs.Common.{◌≡◌, List, [], map, ◌∙◌, subst}
 use Rattle.std.specs.Prelude.{IfOk}
 use Rattle.csp_program.specs.declared.expressions.EventPart.{EventPart}
 use Rattle.csp_program.specs.declared.expressions.Gen.{Gen}
-use Rattle.substitution.specs.Bindings.{gens_put, pair_put, past_all}
+use Rattle.csp_program.specs.Substitution.{given_by, pair_with, past}
 use Rattle.term_pool.specs.Entries.{gens_at, pairs_at}
 use Rattle.term_pool.proofs.changed.put_renaming.Goals as goal
 
 pub returns-clause-pairs : goal.returns-clause-pairs
 returns-clause-pairs c =
-    let pairs_of : List Gen → List (EventPart × EventPart) → List (EventPart × EventPart) = λ gs ps. map (pair_put (past_all gs c.args.values.now)) ps in
+    let pairs_of : List Gen → List (EventPart × EventPart) → List (EventPart × EventPart) = λ gs ps. map (pair_with (past gs (given_by c.args.values.now))) ps in
     c.in_ok-pairs.ensures.place (pairs_of (gens_at c.args.parts.now c.args.gens) (pairs_at c.args.parts.now c.args.pairs))
     (subst (λ (gs : List Gen). IfOk c.put_pairs-made.result (λ made. made ≡ pairs_of gs (pairs_at c.args.parts.now c.args.pairs))) (c.as_slice-old_gens.ensures ∙ c.get-2.ensures [])
     (subst (λ (ps : List (EventPart × EventPart)). IfOk c.put_pairs-made.result (λ made. made ≡ pairs_of c.as_slice-old_gens.result.now ps)) (c.as_slice-old_pairs.ensures ∙ c.get.ensures []) c.put_pairs-made.ensures))
 
 pub returns-clause-gens : goal.returns-clause-gens
-returns-clause-gens c =
-    c.in_ok-gens.ensures.place (gens_put c.args.values.now (gens_at c.args.parts.now c.args.gens))
-    (subst (λ (gs : List Gen). IfOk c.put_gens-made.result (λ made. made ≡ gens_put c.args.values.now gs)) (c.as_slice.ensures ∙ c.get-3.ensures []) c.put_gens-made.ensures)
+returns-clause-gens c = c.in_ok-gens.ensures.made []

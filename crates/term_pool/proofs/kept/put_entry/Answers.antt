@@ -8,7 +8,7 @@ use Rattle.term_pool.proofs.HeldLemmas.{puts_none}
 use Rattle.term_pool.specs.Entries.{entry_layer}
 use Rattle.term_pool.specs.ExactEntry.{eq_entry}
 use Rattle.term_pool.specs.Held.{processes, IsKept, Puts}
-use Rattle.term_pool.specs.Measured.{node_depth, node_size}
+use Rattle.term_pool.specs.Measured.{IsNodeMeasure}
 use Rattle.term_pool.specs.Pooled.{Has}
 use Rattle.term_pool.specs.Trees.{layer_tree}
 use Rattle.term_pool.specs.declared.entry.Entry.{Entry}
@@ -38,12 +38,12 @@ returns-in-Ok-clause-kept c =
     let n = entry_layer c.args.parts.now e in
     let m = c.of_entry-measure.result in
     let unknown : is_member eq_entry es e ≡ false = was_unknown (is_member eq_entry es e) c.in_ok-place.new c.in_ok-place.ensures.new c.if-not-new.false in
-    let depth : m.depth ≡ node_depth ms n = c.of_entry-measure.ensures.depth ∙ ap (λ (xs : List Measure). node_depth xs n) c.as_slice.ensures in
-    let size : m.size ≡ node_size ms n = c.of_entry-measure.ensures.size ∙ ap (λ (xs : List Measure). node_size xs n) c.as_slice.ensures in
+    let is : IsNodeMeasure ms n m = subst (λ (xs : List Measure). IsNodeMeasure xs n m) c.as_slice.ensures
+    (record { depth = c.of_entry-measure.ensures.depth; size = c.of_entry-measure.ensures.size; own = c.of_entry-measure.ensures.own; places = c.of_entry-measure.ensures.places }) in
     let entries : c.insert_full.new.self ≡ es ++ e ∷ [] = c.in_ok-place.ensures.list ∙ ap (λ b. if b then es else (es ++ e ∷ [])) unknown in
     let measures : c.push.new.self ≡ ms ++ m ∷ [] = c.in-Ok.ensures.ok in
     subst (λ (xs : List Entry). IsKept c.args.parts.now xs c.push.new.self) (sym entries)
-    (subst (λ (xs : List Measure). IsKept c.args.parts.now (es ++ e ∷ []) xs) (sym measures) (kept_push c.args.parts.now es ms c.requires.kept e c.requires.fits c.requires.below unknown m depth size))
+    (subst (λ (xs : List Measure). IsKept c.args.parts.now (es ++ e ∷ []) xs) (sym measures) (kept_push c.args.parts.now es ms c.requires.kept e c.requires.fits c.requires.below unknown m is))
 
 pub returns-in-Ok-clause-puts : goal.returns-in-Ok-clause-puts
 returns-in-Ok-clause-puts c =

@@ -1,11 +1,11 @@
 -- The entry with the values in its own parts, at the places where its sub-processes stand with the values put in.
-use Rattle.substitution.specs.Bindings.{proc_put}
+use Rattle.csp_program.specs.Substitution.{given_by, proc_with}
 use Rattle.term_pool.proofs.KeptLemmas.{below_more, kept_more, puts_as, puts_nothing}
 use Rattle.term_pool.proofs.ValuesLemmas.{stands_made}
 use Rattle.term_pool.specs.Entries.{entry_layer}
 use Rattle.term_pool.specs.Held.{processes}
 use Rattle.term_pool.specs.Moved.{moved}
-use Rattle.term_pool.specs.Substituted.{own_put}
+use Rattle.term_pool.specs.Substituted.{own_with}
 use Rattle.term_pool.specs.Trees.{tree_at}
 use Rattle.term_pool.proofs.kept.put_made_in.Goals as goal
 
@@ -15,21 +15,21 @@ returns-in_err-entry-clause-kept c = kept_more c.args.parts.now c.made_entry-mad
 pub returns-in_err-entry-clause-puts : goal.returns-in_err-entry-clause-puts
 returns-in_err-entry-clause-puts c =
     puts_nothing c.args.parts.now c.made_entry-made.new.parts c.made_entry-made.ensures.start c.args.entries.now c.args.measures.now c.requires.kept
-    c.from_residual.result c.from_residual.ensures.0 (proc_put c.args.values.now (tree_at (processes c.args.parts.now c.args.entries.now) c.args.id))
+    c.from_residual.result c.from_residual.ensures.0 (proc_with (given_by c.args.values.now) (tree_at (processes c.args.parts.now c.args.entries.now) c.args.id))
 
 pub put_entry-requires-clause-kept : goal.put_entry-requires-clause-kept
 put_entry-requires-clause-kept c = kept_more c.args.parts.now c.made_entry-made.new.parts c.made_entry-made.ensures.start c.args.entries.now c.args.measures.now c.requires.kept c.parts_once.ensures
 
 pub put_entry-requires-clause-below : goal.put_entry-requires-clause-below
 put_entry-requires-clause-below c =
-    let n = moved (own_put c.args.values.now (entry_layer c.args.parts.now c.entry_at-entry.result)) c.args.ids.now in
+    let n = moved (own_with (given_by c.args.values.now) (entry_layer c.args.parts.now c.entry_at-entry.result)) c.args.ids.now in
     below_more c.args.parts.now c.made_entry-made.new.parts c.made_entry-made.ensures.start c.args.entries.now c.args.measures.now c.requires.kept c.in_ok-entry.entry n c.in_ok-entry.ensures.entry
-    (stands_made c.args.values.now (processes c.args.parts.now c.args.entries.now) c.args.id (entry_layer c.args.parts.now c.entry_at-entry.result) c.entry_at-entry.ensures.process c.args.ids.now c.requires.made).below
+    (stands_made (given_by c.args.values.now) (processes c.args.parts.now c.args.entries.now) c.args.id (entry_layer c.args.parts.now c.entry_at-entry.result) c.entry_at-entry.ensures.process c.args.ids.now c.requires.made).below
 
 pub returns-clause-puts : goal.returns-clause-puts
 returns-clause-puts c =
-    let n = moved (own_put c.args.values.now (entry_layer c.args.parts.now c.entry_at-entry.result)) c.args.ids.now in
+    let n = moved (own_with (given_by c.args.values.now) (entry_layer c.args.parts.now c.entry_at-entry.result)) c.args.ids.now in
     puts_as c.args.parts.now c.made_entry-made.new.parts c.made_entry-made.ensures.start c.args.entries.now c.args.measures.now c.requires.kept c.in_ok-entry.entry n c.in_ok-entry.ensures.entry
-    (proc_put c.args.values.now (tree_at (processes c.args.parts.now c.args.entries.now) c.args.id))
-    (stands_made c.args.values.now (processes c.args.parts.now c.args.entries.now) c.args.id (entry_layer c.args.parts.now c.entry_at-entry.result) c.entry_at-entry.ensures.process c.args.ids.now c.requires.made).tree
+    (proc_with (given_by c.args.values.now) (tree_at (processes c.args.parts.now c.args.entries.now) c.args.id))
+    (stands_made (given_by c.args.values.now) (processes c.args.parts.now c.args.entries.now) c.args.id (entry_layer c.args.parts.now c.entry_at-entry.result) c.entry_at-entry.ensures.process c.args.ids.now c.requires.made).tree
     (processes c.made_entry-made.new.parts c.put_entry.new.entries) c.put_entry.result c.put_entry.ensures.puts

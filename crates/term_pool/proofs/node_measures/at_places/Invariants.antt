@@ -1,6 +1,6 @@
-use Rattle.std.proofs.Common.{◌≡◌, ◌+◌, ◌≤◌, max, true, length, drop}
+use Rattle.std.proofs.Common.{◌≡◌, ◌+◌, ◌≤◌, max, true, length, drop, take}
 use Rattle.pool_parts.specs.Counting.{capped}
-use Rattle.term_pool.specs.Measured.{deepest_at, total_at}
+use Rattle.term_pool.specs.Measured.{deepest_at, total_at, IsLeastAt}
 use Rattle.term_pool.specs.Trees.{all_below}
 use Rattle.term_pool.proofs.node_measures.at_places.Given as goal
 
@@ -10,5 +10,6 @@ invariant-loop-id l = record {
   small : l.all.size ≤ 4294967295;
   below : all_below (length l.measures) (drop l.id-index l.ids) ≡ true;
   depth : max l.all.depth (deepest_at l.measures (drop l.id-index l.ids)) ≡ deepest_at l.measures l.ids;
+  least : IsLeastAt l.measures l.all.least (take l.id-index l.ids);
   size : capped (l.all.size + total_at l.measures (drop l.id-index l.ids)) ≡ capped (total_at l.measures l.ids);
 }

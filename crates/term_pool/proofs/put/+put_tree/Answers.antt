@@ -1,5 +1,5 @@
 -- A whole process is put: first its sub-processes, and then the node over them. `put_below` has an answer for each form, which reads what the call gave at the layer of
--- the process (`out_..` of `OverLemmas`). A form that is new gets an equation there, clauses of `StandOver`, `all_low` and `shows`, and an answer here: with one
+-- the process (`out_..` of `OverLemmas`). A form that is new gets an equation there, and an answer here: with one
 -- sub-process as `Prefix`, with two as `If`, with a list as `External`, with none as `Stop`.
 use Rattle.std.proofs.Common.{◌≡◌, ◌+◌, List, [], ◌∷◌, Some, take, slice_get, sym, ap, ◌∙◌, subst}
 use Rattle.std.specs.Prelude.{IfOk}
@@ -11,55 +11,43 @@ use Rattle.term_pool.specs.Layers.{Layer, shown}
 use Rattle.term_pool.specs.Pooled.{parts}
 use Rattle.term_pool.specs.Put.{StandAt, StandsFor}
 use Rattle.term_pool.proofs.put.+put_tree.Goals as goal
-use Rattle.csp_base.proofs.Results.{was_made, if_both}
+use Rattle.csp_base.proofs.Results.{was_made}
 
 pub put_below-returns-in-Prefix : goal.put_below-returns-in-Prefix
-put_below-returns-in-Prefix t c = record { below = rw (c.in-Prefix.is, out_Prefix, ← c.get.ensures) c.put_one.ensures.first; grows = rw (c.in-Prefix.is, out_Prefix, ← c.get.ensures) c.put_one.ensures.grows }
+put_below-returns-in-Prefix t c = record { places = rw (c.in-Prefix.is, out_Prefix, ← c.get.ensures) c.put_one.ensures.places; grows = rw (c.in-Prefix.is, out_Prefix, ← c.get.ensures) c.put_one.ensures.grows }
 
 pub put_below-returns-in-Guard : goal.put_below-returns-in-Guard
-put_below-returns-in-Guard t c = record { below = rw (c.in-Guard.is, out_Guard, ← c.get-in-Guard.ensures) c.put_one-in-Guard.ensures.first; grows = rw (c.in-Guard.is, out_Guard, ← c.get-in-Guard.ensures) c.put_one-in-Guard.ensures.grows }
+put_below-returns-in-Guard t c = record { places = rw (c.in-Guard.is, out_Guard, ← c.get-in-Guard.ensures) c.put_one-in-Guard.ensures.places; grows = rw (c.in-Guard.is, out_Guard, ← c.get-in-Guard.ensures) c.put_one-in-Guard.ensures.grows }
 
 pub put_below-returns-in-EachExternal : goal.put_below-returns-in-EachExternal
-put_below-returns-in-EachExternal t c = record { below = rw (c.in-EachExternal.is, out_EachExternal, ← c.get-in-EachExternal.ensures) c.put_one-in-EachExternal.ensures.first; grows = rw (c.in-EachExternal.is, out_EachExternal, ← c.get-in-EachExternal.ensures) c.put_one-in-EachExternal.ensures.grows }
+put_below-returns-in-EachExternal t c = record { places = rw (c.in-EachExternal.is, out_EachExternal, ← c.get-in-EachExternal.ensures) c.put_one-in-EachExternal.ensures.places; grows = rw (c.in-EachExternal.is, out_EachExternal, ← c.get-in-EachExternal.ensures) c.put_one-in-EachExternal.ensures.grows }
 
 pub put_below-returns-in-EachInternal : goal.put_below-returns-in-EachInternal
-put_below-returns-in-EachInternal t c = record { below = rw (c.in-EachInternal.is, out_EachInternal, ← c.get-in-EachInternal.ensures) c.put_one-in-EachInternal.ensures.first; grows = rw (c.in-EachInternal.is, out_EachInternal, ← c.get-in-EachInternal.ensures) c.put_one-in-EachInternal.ensures.grows }
+put_below-returns-in-EachInternal t c = record { places = rw (c.in-EachInternal.is, out_EachInternal, ← c.get-in-EachInternal.ensures) c.put_one-in-EachInternal.ensures.places; grows = rw (c.in-EachInternal.is, out_EachInternal, ← c.get-in-EachInternal.ensures) c.put_one-in-EachInternal.ensures.grows }
 
 pub put_below-returns-in-Hide : goal.put_below-returns-in-Hide
-put_below-returns-in-Hide t c = record { below = rw (c.in-Hide.is, out_Hide, ← c.get-in-Hide.ensures) c.put_one-in-Hide.ensures.first; grows = rw (c.in-Hide.is, out_Hide, ← c.get-in-Hide.ensures) c.put_one-in-Hide.ensures.grows }
+put_below-returns-in-Hide t c = record { places = rw (c.in-Hide.is, out_Hide, ← c.get-in-Hide.ensures) c.put_one-in-Hide.ensures.places; grows = rw (c.in-Hide.is, out_Hide, ← c.get-in-Hide.ensures) c.put_one-in-Hide.ensures.grows }
 
 pub put_below-returns-in-Rename : goal.put_below-returns-in-Rename
-put_below-returns-in-Rename t c = record { below = rw (c.in-Rename.is, out_Rename, ← c.get-in-Rename.ensures) c.put_one-in-Rename.ensures.first; grows = rw (c.in-Rename.is, out_Rename, ← c.get-in-Rename.ensures) c.put_one-in-Rename.ensures.grows }
+put_below-returns-in-Rename t c = record { places = rw (c.in-Rename.is, out_Rename, ← c.get-in-Rename.ensures) c.put_one-in-Rename.ensures.places; grows = rw (c.in-Rename.is, out_Rename, ← c.get-in-Rename.ensures) c.put_one-in-Rename.ensures.grows }
 
 pub put_below-returns-in-If : goal.put_below-returns-in-If
 put_below-returns-in-If t c = record {
-  below = rw (c.in-If.is, out_If, ← c.get-in-If.ensures, ← c.get-in-If-2.ensures) (if_both c.put_two.result _ _ _ c.put_two.ensures.first c.put_two.ensures.second (λ b h k. (h, k)));
+  places = rw (c.in-If.is, out_If, ← c.get-in-If.ensures, ← c.get-in-If-2.ensures) c.put_two.ensures.places;
   grows = rw (c.in-If.is, out_If, ← c.get-in-If.ensures, ← c.get-in-If-2.ensures) c.put_two.ensures.grows;
 }
 
 pub put_below-returns-in-Seq : goal.put_below-returns-in-Seq
 put_below-returns-in-Seq t c = record {
-  below = rw (c.in-Seq.is, out_Seq, ← c.get-in-Seq.ensures, ← c.get-in-Seq-2.ensures) (if_both c.put_two-in-Seq.result _ _ _ c.put_two-in-Seq.ensures.first c.put_two-in-Seq.ensures.second (λ b h k. (h, k)));
+  places = rw (c.in-Seq.is, out_Seq, ← c.get-in-Seq.ensures, ← c.get-in-Seq-2.ensures) c.put_two-in-Seq.ensures.places;
   grows = rw (c.in-Seq.is, out_Seq, ← c.get-in-Seq.ensures, ← c.get-in-Seq-2.ensures) c.put_two-in-Seq.ensures.grows;
 }
 
 pub put_below-returns-in-External : goal.put_below-returns-in-External
-put_below-returns-in-External t c = record { below = rw (c.in-External.is, out_External, ← c.as_slice.ensures) c.put_choice.ensures.all; grows = rw (c.in-External.is, out_External, ← c.as_slice.ensures) c.put_choice.ensures.grows }
+put_below-returns-in-External t c = record { places = rw (c.in-External.is, out_External, ← c.as_slice.ensures) c.put_trees.ensures.places; grows = rw (c.in-External.is, out_External, ← c.as_slice.ensures) c.put_trees.ensures.grows }
 
 pub put_below-returns-in-Internal : goal.put_below-returns-in-Internal
-put_below-returns-in-Internal t c = record { below = rw (c.in-Internal.is, out_Internal, ← c.as_slice-in-Internal.ensures) c.put_choice-in-Internal.ensures.all; grows = rw (c.in-Internal.is, out_Internal, ← c.as_slice-in-Internal.ensures) c.put_choice-in-Internal.ensures.grows }
-
-pub put_below-returns-in-Stop-clause-below : goal.put_below-returns-in-Stop-clause-below
-put_below-returns-in-Stop-clause-below t c = rw (c.in-Stop.is, out_Stop) tt
-
-pub put_below-returns-in-Call-clause-below : goal.put_below-returns-in-Call-clause-below
-put_below-returns-in-Call-clause-below t c = rw (c.in-Call.is, out_Call) tt
-
-pub put_below-returns-in-Skip-clause-below : goal.put_below-returns-in-Skip-clause-below
-put_below-returns-in-Skip-clause-below t c = rw (c.in-Skip.is, out_Skip) tt
-
-pub put_below-returns-in-Ended-clause-below : goal.put_below-returns-in-Ended-clause-below
-put_below-returns-in-Ended-clause-below t c = rw (c.in-Ended.is, out_Ended) tt
+put_below-returns-in-Internal t c = record { places = rw (c.in-Internal.is, out_Internal, ← c.as_slice-in-Internal.ensures) c.put_trees-in-Internal.ensures.places; grows = rw (c.in-Internal.is, out_Internal, ← c.as_slice-in-Internal.ensures) c.put_trees-in-Internal.ensures.grows }
 
 pub put_two-returns-in_err-first-clause-grows : goal.put_two-returns-in_err-first-clause-grows
 put_two-returns-in_err-first-clause-grows t c = lemmas.grows_less c.args.pool.now c.put_tree.new.pool (c.args.p.now ∷ []) (c.args.q.now ∷ []) c.in_err-first.ensures.grows
@@ -70,30 +58,23 @@ put_two-returns-in_err-second-clause-grows t c = lemmas.grows_both c.args.pool.n
 pub put_two-returns-clause-grows : goal.put_two-returns-clause-grows
 put_two-returns-clause-grows t c = lemmas.grows_both c.args.pool.now c.put_tree.new.pool c.put_tree-2.new.pool (c.args.p.now ∷ []) (c.args.q.now ∷ []) c.in_ok-first.ensures.grows c.in_ok-second.ensures.grows
 
-pub put_two-returns-clause-first : goal.put_two-returns-clause-first
-put_two-returns-clause-first t c =
-    ap (λ (k : ProcId). slice_get c.put_tree-2.new.pool k.0) c.few.ensures.first ∙ c.in_ok-second.ensures.grows.front c.in_ok-first.first.0 c.args.p.now c.in_ok-first.ensures.process
-
-pub put_two-returns-clause-second : goal.put_two-returns-clause-second
-put_two-returns-clause-second t c = ap (λ (k : ProcId). slice_get c.put_tree-2.new.pool k.0) c.few.ensures.second ∙ c.in_ok-second.ensures.process
-
-pub put_tree-returns-in_err-below-clause-grows : goal.put_tree-returns-in_err-below-clause-grows
+pub put_tree-returns-in_err-ids-clause-grows : goal.put_tree-returns-in_err-ids-clause-grows
 unfolding parts
-put_tree-returns-in_err-below-clause-grows t c = lemmas.grows_some c.args.pool.now c.put_below.new.pool c.args.proc.now c.in_err-below.ensures.grows
+put_tree-returns-in_err-ids-clause-grows t c = lemmas.grows_some c.args.pool.now c.put_below.new.pool c.args.proc.now c.in_err-ids.ensures.grows
 
 pub put_tree-put_node-requires : goal.put_tree-put_node-requires
-put_tree-put_node-requires t c = (subst (λ (n : Layer). StandsFor c.put_below.new.pool n c.args.proc.now) (sym c.node_over.ensures) (stands_over c.put_below.new.pool c.in_ok-below.below c.args.proc.now c.in_ok-below.ensures.below)).below
+put_tree-put_node-requires t c = (subst (λ (n : Layer). StandsFor c.put_below.new.pool n c.args.proc.now) (sym c.node_over.ensures) (stands_over c.put_below.new.pool c.in_ok-ids.ids c.args.proc.now c.in_ok-ids.ensures.places)).below
 
 pub put_tree-returns-clause-process : goal.put_tree-returns-clause-process
 put_tree-returns-clause-process t c =
     subst (λ (q : Proc). IfOk c.put_node.result (λ (id : ProcId). slice_get c.put_node.new.self id.0 ≡ Some q))
-    (subst (λ (n : Layer). StandsFor c.put_below.new.pool n c.args.proc.now) (sym c.node_over.ensures) (stands_over c.put_below.new.pool c.in_ok-below.below c.args.proc.now c.in_ok-below.ensures.below)).tree c.put_node.ensures.process
+    (subst (λ (n : Layer). StandsFor c.put_below.new.pool n c.args.proc.now) (sym c.node_over.ensures) (stands_over c.put_below.new.pool c.in_ok-ids.ids c.args.proc.now c.in_ok-ids.ensures.places)).tree c.put_node.ensures.process
 
 pub put_tree-returns-clause-grows : goal.put_tree-returns-clause-grows
 unfolding parts
 put_tree-returns-clause-grows t c =
-    lemmas.grows_node c.args.pool.now c.put_below.new.pool c.put_node.new.self c.args.proc.now (shown c.node_over.result) c.in_ok-below.ensures.grows
-    (subst (λ (n : Layer). StandsFor c.put_below.new.pool n c.args.proc.now) (sym c.node_over.ensures) (stands_over c.put_below.new.pool c.in_ok-below.below c.args.proc.now c.in_ok-below.ensures.below)) c.put_node.ensures.front c.put_node.ensures.known c.put_node.ensures.only
+    lemmas.grows_node c.args.pool.now c.put_below.new.pool c.put_node.new.self c.args.proc.now (shown c.node_over.result) c.in_ok-ids.ensures.grows
+    (subst (λ (n : Layer). StandsFor c.put_below.new.pool n c.args.proc.now) (sym c.node_over.ensures) (stands_over c.put_below.new.pool c.in_ok-ids.ids c.args.proc.now c.in_ok-ids.ensures.places)) c.put_node.ensures.front c.put_node.ensures.known c.put_node.ensures.only
 
 pub put_trees-returns-in_err-push_made-clause-grows : goal.put_trees-returns-in_err-push_made-clause-grows
 put_trees-returns-in_err-push_made-clause-grows t c =

@@ -25,6 +25,3 @@ decreases-put_two l = 5 * max (the_size l.p.now) (the_size l.q.now) + 2
 
 abbrev pub decreases-put_trees : goal.decreases-put_trees
 decreases-put_trees l = 5 * goal.size-put_trees l + 2
-
-abbrev pub decreases-put_choice : goal.decreases-put_choice
-decreases-put_choice l = 5 * goal.size-put_choice l + 3

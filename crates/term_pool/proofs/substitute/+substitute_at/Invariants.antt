@@ -1,6 +1,7 @@
 use Rattle.std.proofs.Common.{◌+◌, ◌*◌, map, take}
+use Rattle.csp_program.specs.Substitution.{given_by}
 use Rattle.term_pool.specs.Put.{Grows, StandAt}
-use Rattle.term_pool.specs.Substituted.{all_put, AreMade}
+use Rattle.term_pool.specs.Substituted.{all_with, AreMade}
 use Rattle.term_pool.specs.Trees.{tree_at}
 use Rattle.term_pool.proofs.substitute.+substitute_at.Given as goal
 
@@ -26,7 +27,7 @@ decreases-put_all l = l.id.0 * 6
 -- the places so far are made
 abbrev pub invariant-put_all-loop-p : goal.invariant-put_all-loop-p
 invariant-put_all-loop-p l = record {
-  places : StandAt l.pool l.made (map (tree_at (all_put l.values l.initial.pool)) (take l.p-index l.ids));
-  grows : Grows l.initial.pool l.pool (map (tree_at (all_put l.values l.initial.pool)) (take l.p-index l.ids));
-  visited : AreMade l.values l.pool l.visited;
+  places : StandAt l.pool l.made (all_with (given_by l.values) l.initial.pool (take l.p-index l.ids));
+  grows : Grows l.initial.pool l.pool (all_with (given_by l.values) l.initial.pool (take l.p-index l.ids));
+  visited : AreMade (given_by l.values) l.pool l.visited;
 }

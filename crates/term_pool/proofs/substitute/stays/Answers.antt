@@ -1,7 +1,12 @@
--- No name is read below the number of the place.
-use Rattle.term_pool.proofs.TreeLow.{proc_stays}
+-- No name that is free in the process gets a value.
+use Rattle.csp_program.specs.Free.{proc_free}
+use Rattle.csp_program.specs.Substitution.{given_by}
+use Rattle.pool_parts.specs.Stays.{get_none}
+use Rattle.substitution.proofs.Stays.{proc_stays}
 use Rattle.term_pool.specs.Trees.{tree_at}
 use Rattle.term_pool.proofs.substitute.stays.Goals as goal
 
 pub returns : goal.returns
-returns c = λ h. proc_stays c.least.result c.args.values.now (c.are_below.ensures h) (tree_at c.args.pool.now c.args.id) c.least.ensures
+returns c = λ below.
+    proc_stays (given_by c.args.values.now) (tree_at c.args.pool.now c.args.id)
+    (get_none c.measure.result.least (given_by c.args.values.now) (proc_free (tree_at c.args.pool.now c.args.id)) (c.are_below.ensures below) c.measure.ensures.low)

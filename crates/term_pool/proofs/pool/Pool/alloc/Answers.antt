@@ -6,4 +6,4 @@ use Rattle.term_pool.specs.Pooled.{PartsStandBelow}
 use Rattle.term_pool.proofs.pool.Pool.alloc.Goals as goal
 
 pub returns : goal.returns
-returns c = record { parts = subst PartsStandBelow c.self.view_is (parts_stand (layers c.self.inside.parts c.self.inside.entries) c.self.invariant.kept.held.smaller) }
+returns c = record { parts = subst PartsStandBelow c.self.view_is (parts_stand (layers c.self.inside.parts c.self.inside.entries) c.self.invariant.held.smaller) }

@@ -11,7 +11,7 @@ pub returns-clause-value : goal.returns-clause-value
 returns-clause-value c = c.len.ensures ∙ (sym (processes_length c.self.inside.parts c.self.inside.entries) ∙ ap (λ (ts : List Proc). length ts) c.self.view_is)
 
 pub returns-clause-different : goal.returns-clause-different
-returns-clause-different c = subst AreDifferent c.self.view_is (are_different (layers c.self.inside.parts c.self.inside.entries) c.self.invariant.kept.held.smaller c.self.invariant.kept.held.distinct)
+returns-clause-different c = subst AreDifferent c.self.view_is (are_different (layers c.self.inside.parts c.self.inside.entries) c.self.invariant.held.smaller c.self.invariant.held.distinct)
 
 pub returns-clause-parts : goal.returns-clause-parts
-returns-clause-parts c = subst PartsStandBelow c.self.view_is (parts_stand (layers c.self.inside.parts c.self.inside.entries) c.self.invariant.kept.held.smaller)
+returns-clause-parts c = subst PartsStandBelow c.self.view_is (parts_stand (layers c.self.inside.parts c.self.inside.entries) c.self.invariant.held.smaller)
