@@ -1,5 +1,5 @@
 -- The steps of the terms that are followed, as rows of a table that grows.
-use Rattle.std.proofs.Common.{◌≡◌, ℕ, zero, suc, ◌+◌, ◌<◌, List, [], ◌∷◌, ◌++◌, length, refl, ap, ◌∙◌, arith, ◌⊎◌, inl, inr, Bool, true, false, IsTrue, Some, slice_get, sym, subst, append_assoc, append-nil, ◌≤◌, cond, Option, map}
+use Rattle.std.proofs.Common.{◌≡◌, ℕ, zero, suc, ◌+◌, ◌<◌, List, [], ◌∷◌, ◌++◌, length, refl, ap, ◌∙◌, arith, ◌⊎◌, inl, inr, Bool, true, false, IsTrue, Some, slice_get, sym, subst, append_assoc, append-nil, ◌≤◌, Option, map}
 use Rattle.std.specs.Prelude.{map, option_map, slice_get, Some, drop, if◌then◌else◌, take}
 use Rattle.std.proofs.lemmas.Option.{get_or_from_slice_get, slice_get-get_or, slice_get-map, slice_get_within, same_Some}
 use Rattle.csp_base.specs.Lists.{total, EachOnce, StandsIn}
@@ -7,7 +7,7 @@ use Rattle.csp_program.specs.declared.processes.Proc.{Proc}
 use Rattle.term_pool.specs.Pooled.{IsFront}
 use Rattle.term_pool.specs.Trees.{tree_at}
 use Rattle.pool_parts.specs.declared.place.ProcId.{ProcId}
-use Rattle.local_tables.specs.Progress.{terms_at, AreRows, IsFollowed, IsRow, IsTabled, process_label, AreFollowed, AreFound, AreLed, AreTabled, AreTaken, IsAt, IsWithin, LeadsToTerm, Origin, counted_size, label_of, step_more, with_term, IsUpTo}
+use Rattle.local_tables.specs.Progress.{terms_at, AreRows, IsFollowed, IsRow, IsTabled, process_label, AreFound, AreLed, AreTabled, AreTaken, IsAt, IsWithin, LeadsToTerm, Origin, counted_size, label_of, step_more, with_term, IsUpTo}
 use Rattle.std.proofs.lemmas.Bool.{false≢true, cases_lt}
 use Rattle.containers.proofs.MembersLemmas.{slice_get-append_left}
 use Rattle.csp_base.proofs.Lists.{push_cases, slice_get_last, drop_read, map_push, take_read}
@@ -32,12 +32,11 @@ use Rattle.local_tables.specs.LocalTable.{IsInOrder}
 use Rattle.local_tables.specs.declared.task.Task.{Task}
 use Rattle.local_tables.proofs.Rows.{goals_joined, goals_more, goals_stay, in_row, number_at, of_row, row_at, row_end, row_kept, row_once, same_or_not, silent_once, steps_once, row_more, row_stays}
 use Rattle.std.specs.Set.{is_member}
-use Rattle.std.proofs.lemmas.List.{length-append, drop_all, length-map}
+use Rattle.std.proofs.lemmas.List.{length-append, drop_all}
 use Rattle.csp_program.specs.Depth.{proc_depth}
 use Rattle.csp_steps.specs.Listed.{seen, AreStepsOf}
 use Rattle.csp_steps.specs.declared.step.StepTo.{StepTo}
 use Rattle.dl_limits.specs.declared.TheConstants.{MOST_TERM_DEPTH}
-use Rattle.process_steps.specs.declared.label.Label.{Label as ProcessLabel}
 use Rattle.pool_parts.specs.ExactId.{eq_id}
 use Rattle.local_tables.specs.Faults.{CanEnd}
 use Rattle.local_tables.specs.Room.{Room}
@@ -151,8 +150,10 @@ module _ (task : Task) where
       step_of : (l : Label) (n : ℕ) → RawStep raw m l n → IsStepOf (ProcessStep task.program.now) (part_of task) terms m l n
       step_of l n step =
           let g = has_goal taken are.rows l n step in
-          let whole : StandsIn (goals l (taken ++ rest)) g.goal = (g.stands.0,
-          ap (λ zs. slice_get zs g.stands.0) (goals_joined l taken rest) ∙ slice_get-append_left (goals l taken) (goals l rest) g.stands.0 g.goal g.stands.1) in
+          let whole : StandsIn (goals l (taken ++ rest)) g.goal = (
+            g.stands.0,
+            ap (λ zs. slice_get zs g.stands.0) (goals_joined l taken rest) ∙ slice_get-append_left (goals l taken) (goals l rest) g.stands.0 g.goal g.stands.1,
+          ) in
           record {
             source = are.term;
             goal = g.goal;
@@ -334,7 +335,7 @@ module _ (task : Task) (trees : List Proc) (old : Found) (o : Origin) (to : Proc
           led = subst (λ zs. AreLed task zs (old.origins ++ o ∷ [])) (sym more) (led_more task terms old.origins x source o found.led from step);
           count = let longer = length-append old.terms (to ∷ []) in let count : old.table.count ≡ length old.terms = found.count in omega arith;
           sizes = ap (λ zs. total (map counted_size zs)) more ∙ ap total (map_push counted_size terms x) ∙
-          total_push (map counted_size terms) (counted_size x) ∙ ap (λ m. m + counted_size x) found.sizes;
+              total_push (map counted_size terms) (counted_size x) ∙ ap (λ m. m + counted_size x) found.sizes;
         };
         front = λ n y h. subst (λ zs. slice_get zs n ≡ Some y) (sym more) (slice_get-append_left terms (x ∷ []) n y h);
         row = same_row;
@@ -451,8 +452,11 @@ tabled task trees found at steps i are = record {
       | inl more ↦ inr (are.later m more)
       | inr same ↦
           let is : at ≡ m = omega arith in
-          inl (map (seen trees) (take i steps), map (seen trees) (drop i steps),
-          subst (λ k. IsFollowed task (terms_at trees found.terms) found.table k (map (seen trees) (take i steps)) (map (seen trees) (drop i steps))) is are.here)
+          inl (
+            map (seen trees) (take i steps),
+            map (seen trees) (drop i steps),
+            subst (λ k. IsFollowed task (terms_at trees found.terms) found.table k (map (seen trees) (take i steps)) (map (seen trees) (drop i steps))) is are.here,
+          )
     ]
   ];
 }
@@ -503,9 +507,11 @@ end_at task trees found at steps i are all = record {
   before = λ k h. elim (cases_lt k at) as (λ _. (moves : List Move) × IsFollowed task (terms_at trees found.terms) found.table k moves []) [
     | inl less ↦ are.taken.before k less
     | inr last ↦
-        let is : at ≡ k = omega arith in
-        (map (seen trees) (take i steps), subst (λ m. IsFollowed task (terms_at trees found.terms) found.table m (map (seen trees) (take i steps)) []) is
-        (subst (λ rest. IsFollowed task (terms_at trees found.terms) found.table at (map (seen trees) (take i steps)) (map (seen trees) rest)) (drop_all i steps all) are.taken.here))
+        let is : at ≡ k = omega arith in (
+          map (seen trees) (take i steps),
+          subst (λ m. IsFollowed task (terms_at trees found.terms) found.table m (map (seen trees) (take i steps)) []) is
+              (subst (λ rest. IsFollowed task (terms_at trees found.terms) found.table at (map (seen trees) (take i steps)) (map (seen trees) rest)) (drop_all i steps all) are.taken.here),
+        )
   ];
   later = λ k h. are.taken.later k (omega arith);
 }

@@ -8,10 +8,10 @@ use Rattle.csp_base.proofs.Lists.{push_cases, slice_get_last, slice_get_some}
 use Rattle.csp_program.specs.declared.processes.Proc.{Proc}
 use Rattle.csp_tables.specs.Label.{Label}
 use Rattle.csp_tables.specs.Label.Label.{silent, visible}
-use Rattle.csp_tables.specs.Network.{Component, ComponentStep}
+use Rattle.csp_tables.specs.Network.{ComponentStep}
 use Rattle.csp_tables.specs.Path.{Path, Reached}
 use Rattle.csp_tables.specs.RawTable.{IsStepOf, standing_at}
-use Rattle.csp_tables.specs.Trace.{After, visible_events}
+use Rattle.csp_tables.specs.Trace.{visible_events}
 use Rattle.process_steps.specs.ComponentStep.{ProcessStep}
 use Rattle.local_tables.specs.Component.{part_of}
 use Rattle.local_tables.specs.Progress.{AreLed, LeadsToTerm, Origin, label_of, step_events}
@@ -81,9 +81,11 @@ module _ (task : Task) where
         record {
           term = step.goal;
           listed = step.to;
-          after = (l.after.0 ++ label_of o.1 ∷ [],
-              path_push goes l.after.0 (part_of task) (standing_at (part_of task) l.term) (standing_at (part_of task) step.goal) (label_of o.1) l.after.1 from,
-              visible_push l.after.0 o.1 ∙ ap (λ zs. zs ++ step_events o.1) l.after.2);
+          after = (
+            l.after.0 ++ label_of o.1 ∷ [],
+            path_push goes l.after.0 (part_of task) (standing_at (part_of task) l.term) (standing_at (part_of task) step.goal) (label_of o.1) l.after.1 from,
+            visible_push l.after.0 o.1 ∙ ap (λ zs. zs ++ step_events o.1) l.after.2,
+          );
         }
 
     pub leads_nowhere : LeadsToTerm task terms [] 0

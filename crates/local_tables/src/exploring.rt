@@ -28,11 +28,7 @@ use term_pool::Pool;
 /// (`Terminates`).
 ///
 /// It takes time in proportion to the terms and their steps.
-pub fn explore(
-    alloc: Global,
-    task: &Task<'_>,
-    terms: &mut Terms,
-) -> Result<LocalTable, Unexplored>
+pub fn explore(alloc: Global, task: &Task<'_>, terms: &mut Terms) -> Result<LocalTable, Unexplored>
     requires terms { AreTermsOf task.now.program.now terms.old }
     ensures table { IfOk result (IsLocalTable task.now.program.now (part_of task.now) task.now.room) }
     ensures fault { IfErr result (Lacks task.now.program.now (part_of task.now) task.now.room) }

@@ -30,11 +30,7 @@ pub(crate) struct Found {
 }
 
 // The component's own term, if it is within the limits and the room.
-pub(crate) fn begin(
-    alloc: Global,
-    task: &Task<'_>,
-    pool: &mut Pool,
-) -> Result<Found, Unexplored>
+pub(crate) fn begin(alloc: Global, task: &Task<'_>, pool: &mut Pool) -> Result<Found, Unexplored>
     ensures front { IsFront pool.old pool.new }
     ensures up_to { IfOk result (λ found. IsUpTo task.now pool.new found 0) }
     ensures fault { IfErr result (TaskLacks task.now) }

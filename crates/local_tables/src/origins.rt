@@ -19,21 +19,6 @@ pub(crate) fn trace_to(
     ensures { (task : Task) (terms : List Proc) → AreLed task terms origins.now
         → IfOk result (λ trace. LeadsToTerm task terms trace number) }
 {
-    let events = events_to(alloc, origins, number)?;
-    Trace::from_slice(alloc, events.as_slice())
-}
-
-// The events along the way.
-fn events_to(
-    alloc: Global,
-    origins: &[(u32, Option<Event>)],
-    number: u32,
-) -> Result<Vec<Event>, NoMemory>
-    requires within { number < length origins.now + 1 }
-    requires earlier { (k : ℕ) (o : Origin) → slice_get origins.now k ≡ Some o → o.0 ≤ k }
-    ensures { (task : Task) (terms : List Proc) → AreLed task terms origins.now
-        → IfOk result (λ events. LeadsToTerm task terms events.items number) }
-{
     let mut events = Vec::new(alloc);
     let mut at = number as usize;
     while at > 0 {
@@ -42,7 +27,8 @@ fn events_to(
         at = earlier as usize;
     }
     events.reverse();
-    Ok(events)
+    let trace = Trace::from_slice(alloc, events.as_slice())?;
+    Ok(trace)
 }
 
 // The event of a step, if it has one, at the end.

@@ -1,9 +1,8 @@
-use Rattle.std.proofs.Common.{◌≡◌, ◌≤◌, ap, length, arith}
+use Rattle.std.proofs.Common.{◌≡◌, ap, length, arith}
 use Rattle.std.specs.Prelude.{map, min}
 use Rattle.std.proofs.lemmas.List.{length-map}
 use Rattle.csp_base.specs.Lists.{total}
 use Rattle.csp_program.specs.Depth.{proc_depth}
-use Rattle.csp_program.specs.Size.{proc_size}
 use Rattle.term_pool.specs.Trees.{tree_at}
 use Rattle.local_tables.specs.Progress.{counted_size, terms_at}
 use Rattle.local_tables.proofs.Ending.{are_terms, no_larger}

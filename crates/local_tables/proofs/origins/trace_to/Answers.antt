@@ -4,7 +4,7 @@ use Rattle.std.proofs.lemmas.List.{get_or_default}
 use Rattle.std.proofs.lemmas.Option.{slice_get-get_or}
 use Rattle.local_tables.specs.Progress.{LeadsToTerm, Origin, step_events}
 use Rattle.local_tables.proofs.Walking.{back_one, leads_nowhere}
-use Rattle.local_tables.proofs.origins.events_to.Goals as goal
+use Rattle.local_tables.proofs.origins.trace_to.Goals as goal
 
 pub loop-at-preserved : goal.loop-at-preserved
 loop-at-preserved c =
@@ -25,4 +25,4 @@ pub returns : goal.returns
 returns c = λ task terms led.
     let none : c.loop-at.at ≡ 0 = omega arith in
     let all = c.loop-at.invariant.leads task terms led [] (subst (λ k. LeadsToTerm task terms [] k) (sym none) (leads_nowhere task terms c.args.origins.now led)) in
-    subst (λ zs. LeadsToTerm task terms zs c.args.number) (sym c.reverse.ensures.items) all
+    subst (λ zs. LeadsToTerm task terms zs c.args.number) (sym (c.in_ok-trace.ensures ∙ c.as_slice.ensures.value ∙ c.reverse.ensures.items)) all
