@@ -127,11 +127,8 @@ module _ (task : Task) where
           | inl inside ↦
               let at = row_at terms (targets_in raw m l) (goals l moves) there.0 n (rows.inside l inside) there.1 in
               record { goal = at.0; inside = inside; stands = (there.0, at.1); listed = at.2 }
-          | inr outside ↦ absurd (nothing there.0 n (subst (λ ns. slice_get ns there.0 ≡ Some n) (rows.outside l outside) there.1))
+          | inr outside ↦ absurd (stands_none n (subst (λ ns. StandsIn ns n) (rows.outside l outside) there))
         ]
-      where
-        nothing : (k n : ℕ) → slice_get [] k ≡ Some n → ⊥
-        nothing k n h = cc
 
     rows_once : (moves : List Move) → AreRows task terms raw m moves → ((l : Label) → EachOnce (goals l moves)) → (l : Label) → EachOnce (targets_in raw m l)
     rows_once moves rows once l = elim (inside_or_not task.alphabet.now l) as (λ _. EachOnce (targets_in raw m l)) [
@@ -177,12 +174,9 @@ module _ (task : Task) where
       steps_once = steps_once raw (λ m e. each_row_once m (visible e));
       sound = λ m n l step. elim (rows m) as (λ _. IsStepOf (ProcessStep task.program.now) (part_of task) terms m l n) [
         | inl f ↦ step_of terms raw m f.0 f.1 f.2 l n step
-        | inr none ↦ let g = has_goal terms raw m [] none l n step in absurd (nowhere g.goal g.stands)
+        | inr none ↦ let g = has_goal terms raw m [] none l n step in absurd (stands_none g.goal g.stands)
       ];
     }
-      where
-        nowhere : (t : Proc) → StandsIn [] t → ⊥
-        nowhere t (k, h) = cc
 
   -- ---- a term whose steps are all taken
 
@@ -481,7 +475,7 @@ begin_at task old new found at steps id up front there list =
           moves = list.moves;
           has = list.has;
           firsts = list.firsts;
-          goes_on = λ u h. nowhere (Tick, u) h;
+          goes_on = λ u. stands_none (Tick, u);
           rows = subst (λ zs. AreRows task zs found.table at []) (sym same) (up.later at (omega arith));
         };
         later = λ k h. subst (λ zs. AreRows task zs found.table k []) (sym same) (up.later k (omega arith));
@@ -494,9 +488,6 @@ begin_at task old new found at steps id up front there list =
         steps = up.within.steps;
       };
     }
-  where
-    nowhere : (m : Move) → StandsIn [] m → ⊥
-    nowhere m (k, h) = cc
 
 -- all of them are taken
 pub end_at : (task : Task) (trees : List Proc) (found : Found) (at : ℕ) (steps : List StepTo) (i : ℕ) → IsAt task trees found at steps i → length steps ≤ i
