@@ -1,11 +1,11 @@
 -- What a call answers for a form, from what calls answer for its parts.
-use Rattle.std.proofs.Common.{◌≡◌, ℕ, zero, suc, ◌+◌, ◌<◌, ◌^◌, Bool, true, false, List, [], None, Ok, Err, map, length, refl, ap, sym, subst, ◌∙◌, arith}
+use Rattle.std.proofs.Common.{◌≡◌, ℕ, zero, suc, ◌+◌, ◌<◌, ◌^◌, Bool, true, false, List, [], None, Ok, Err, length, refl, ap, sym, subst, ◌∙◌, arith}
 use Rattle.std.specs.Prelude.{ℤ, if◌then◌else◌, slice_get, Result}
 use Rattle.std.specs.Result.{IsErrAnd}
 use Rattle.csp_program.specs.Atoms.{all_added}
 use Rattle.value_laws.specs.Numbers.{ChannelsFit, events_from, span}
 use Rattle.csp_program.specs.Outcome.{Outcome, and_then}
-use Rattle.csp_program.specs.Value.{Env, Gathered, bound_to, bound_value, many, number, one_event, range, set_binary, as_number, as_set, sets_of, as_truth}
+use Rattle.csp_program.specs.Value.{Env, Gathered, bound_value, many, number, one_event, range, set_binary, as_number, as_set, sets_of, as_truth}
 use Rattle.csp_atoms.specs.declared.atom.Atom.{Atom}
 use Rattle.csp_atoms.specs.declared.atom.Atom.TheVariants as atom
 use Rattle.csp_atoms.specs.declared.value.Value.{Value}
@@ -19,16 +19,14 @@ use Rattle.csp_program.specs.declared.expressions.Expr.TheVariants as expr
 use Rattle.csp_program.specs.declared.expressions.Expr.TheViews.{out-EventPart}
 use Rattle.csp_program.specs.declared.kinds.ValueKind.{ValueKind}
 use Rattle.csp_program.specs.declared.kinds.ValueKind.TheVariants.{Kind, OutsideChannel}
-use Rattle.csp_program.specs.declared.programs.Body.TheVariants as body
 use Rattle.csp_program.specs.declared.programs.Channel.{Channel}
 use Rattle.csp_program.specs.declared.programs.Content.{Content}
-use Rattle.csp_program.specs.declared.programs.Def.{Def}
 use Rattle.value_operators.specs.Forms as form
 use Rattle.value_operators.specs.Forms.{negative, inverse, operation, named_set, a_set, gathered_set, produced, count_with}
 use Rattle.value_operators.specs.Gives.{Gives}
 use Rattle.value_operators.specs.declared.fault.EvalFault.{EvalFault}
 use Rattle.value_operators.specs.declared.fault.EvalFault.TheVariants as fault
-use Rattle.csp_values.specs.Worth.{worth, worths, number_worth, truth_worth, atoms_worth, chosen, range_of, set_of, use_worth, body_worth, with_items, event_worth, front_worth, with_front, with_fronts, one_more_binding, GivesTally}
+use Rattle.csp_values.specs.Worth.{worth, worths, number_worth, truth_worth, atoms_worth, chosen, range_of, set_of, use_worth, with_items, event_worth, front_worth, with_front, with_fronts, one_more_binding, GivesTally}
 use Rattle.csp_values.specs.Course.{Course, GivesBinding, faulty, skipped}
 use Rattle.csp_values.specs.declared.tally.Tally.{Tally}
 use Rattle.csp_values.specs.declared.walk.Walk.{Walk}
@@ -38,16 +36,6 @@ use Rattle.csp_program.proofs.Outcomes.{and_then_regroup}
 
 pub same : {A : Type 0} (r : Result A EvalFault) (o o' : Outcome A) → o ≡ o' → Gives r o' → Gives r o
 same r o o' is h = subst (Gives r) (sym is) h
-
--- a fault of a part is a fault of the generators that it stands in
-tally_fault : {A : Type 0} (f : EvalFault) (part : Outcome A) (whole : Outcome Gathered) → Gives {A = A} (Err f) part → ((k : ValueKind) → part ≡ Err k → whole ≡ Err k) → GivesTally (Err f) whole
-tally_fault fault.NoMemory part whole h passes = tt
-tally_fault (fault.Value kind) part whole h passes = passes kind h
-
-pub part_passed : {A : Type 0} (r : Result Tally EvalFault) (f : EvalFault) (part : Outcome A) (whole : Outcome Gathered)
-    → IsErrAnd r (λ y. y ≡ f) → Gives {A = A} (Err f) part → ((k : ValueKind) → part ≡ Err k → whole ≡ Err k) → GivesTally r whole
-part_passed (Ok x) f part whole is h passes = absurd is
-part_passed (Err y) f part whole is h passes = rw is (tally_fault f part whole h passes)
 
 walk_fault : (f : EvalFault) (part whole : Outcome Gathered) → GivesTally (Err f) part → ((k : ValueKind) → part ≡ Err k → whole ≡ Err k) → GivesTally (Err f) whole
 walk_fault fault.NoMemory part whole h passes = tt
@@ -157,13 +145,6 @@ lacking p channels parts t o got is lacks = ap (λ (b : Bool). produced b o) (ap
 pub not_lacking : (p : Content) (channels : List Channel) (parts : List EventPart) (t : Bool) (o : Outcome Gathered) → channels ≡ p.channels → t ≡ form.lack_sets channels parts → t ≡ false
     → produced (form.lack_sets p.channels parts) o ≡ gathered_set o
 not_lacking p channels parts t o got is has = ap (λ (b : Bool). produced b o) (ap (λ (cs : List Channel). form.lack_sets cs parts) (sym got) ∙ sym is ∙ has)
-
--- bodies of definitions
-pub datum_worth : (p : Content) (n : ℕ) (def : Def) (args : List Value) (params : List ℕ) (e : Expr) → def.body ≡ body.Datum e → params ≡ def.params → body_worth p n def args ≡ worth p n (bound_to params args) e
-datum_worth p n def args params e is got = eq.body-Datum p n def args e is ∙ ap (λ x. worth p n (bound_to x args) e) (sym got)
-
-pub datatype_worth : (p : Content) (n : ℕ) (def : Def) (args : List Value) (ks ks' : List ℕ) (o : Outcome (List Atom)) → def.body ≡ body.Datatype ks → ks' ≡ ks → all_added [] (map (λ k. atom.Const k) ks') ≡ o → body_worth p n def args ≡ many o
-datatype_worth p n def args ks ks' o is got came = eq.body-Datatype p n def args ks is ∙ (ap (λ x. many (all_added [] (map (λ k. atom.Const k) x))) (sym got) ∙ ap many came)
 
 -- numbers of events
 pub front_without_sets : (p : Content) (n : ℕ) (env : Env) (c : ℕ) (es : List Expr) (channels : List Channel) → channels ≡ p.channels → sets_of (slice_get channels c) ≡ None → front_worth p n env c es ≡ Err Kind

@@ -710,6 +710,7 @@ fn gather(
 
 // One step of a walk over generators, under the names around them.
 #[cycle(eval)]
+#[tactic(auto, using(crate::proofs::Courses::advance_steps))]
 fn advance(
     scope: &Scope<'_>,
     names: &Names<'_>,
@@ -770,6 +771,7 @@ fn enter(
 
 // Whether there is one more binding, under which the walk then stands.
 #[cycle(eval)]
+#[tactic(auto, using(crate::proofs::Courses::step_less))]
 fn find_binding(
     scope: &Scope<'_>,
     names: &Names<'_>,
@@ -808,6 +810,7 @@ fn gather_all(
 
 // What all bindings of generators add, evaluated under each of them.
 #[cycle(eval)]
+#[tactic(auto, using(crate::proofs::Courses::gathering_steps))]
 fn gather_each(
     scope: &Scope<'_>,
     names: &Names<'_>,
@@ -848,6 +851,7 @@ fn counted(tally: Tally) -> Result<Tally, EvalFault>
 
 // What all bindings of generators add, where that reads none of their names: it is evaluated at the first binding alone.
 #[cycle(eval)]
+#[tactic(auto, using(crate::proofs::Courses::over_end, crate::proofs::Courses::binding_less))]
 fn gather_once(
     scope: &Scope<'_>,
     names: &Names<'_>,

@@ -6,27 +6,16 @@ use Rattle.std.proofs.Common.{◌≡◌, ◌+◌, length, Some, Ok, ap, refl, su
 use Rattle.value_operators.specs.Env.{env_in, parameters, with_bound}
 use Rattle.value_operators.proofs.Faults.{passed}
 use Rattle.csp_values.specs.Worth.{gathered_of, one_more_binding, yielded}
-use Rattle.csp_values.proofs.Arms.{binding_passed, same, walk_passed, front_fault}
+use Rattle.csp_values.proofs.Arms.{binding_passed, walk_passed, front_fault}
 use Rattle.csp_values.proofs.Again.{adds_nothing, there_after}
 use Rattle.csp_values.proofs.Stays.{once_begun}
-use Rattle.csp_values.proofs.Courses.{begun_under, binding_found, binding_less, condition_fails, condition_fault, condition_holds, ends, gathering_begun, gathering_fault, gathering_next, goes_on, goes_under, over_end, over_fault, set_entered, set_fault, step_less, step_passed}
+use Rattle.csp_values.proofs.Courses.{binding_found, condition_fails, condition_fault, condition_holds, gathering_fault, gathering_next, goes_under, over_end, over_fault, set_entered, set_fault, step_passed}
 use Rattle.csp_values.proofs.Falls.{condition_falls, set_falls}
-use Rattle.csp_values.proofs.FieldSteps.{field_refused, field_taken, found, front_placed}
+use Rattle.csp_values.proofs.FieldSteps.{field_refused, field_taken, front_placed}
 use Rattle.csp_values.proofs.Steps.{items_refused}
 use Rattle.csp_values.proofs.evaluation.+eval.Goals as goal
 use Rattle.csp_values.proofs.evaluation.+eval.Goals.{enter-then-holds, enter-else-holds}
 use Rattle.csp_program.specs.declared.expressions.Gen.TheVariants as generator
-
-pub advance-returns-in_default : goal.advance-returns-in_default
-advance-returns-in_default t c = ends c.args.scope.now.content.now c.args.scope.now.uses c.args.gens.now c.args.names.now.bound.now (parameters c.args.names.now) c.args.walk.now c.in-None.is c.in_default.ensures
-
-pub advance-returns-in_ok-take-in-None : goal.advance-returns-in_ok-take-in-None
-advance-returns-in_ok-take-in-None t c = (
-  goes_on c.args.scope.now.content.now c.args.scope.now.uses c.args.gens.now c.args.names.now.bound.now (parameters c.args.names.now) c.args.walk.now c.pop.new.walk c.take.new.walk c.in-Some-pop.frame c.requires c.in-None.is c.in-Some-pop.ensures.0
-      c.in-Some-pop.ensures.1 c.in_ok-take-in-None.ensures,
-  goes_under c.args.names.now.bound.now c.args.walk.now c.pop.new.walk c.take.new.walk c.in-Some-pop.frame.name.0 c.in-Some-pop.frame.atoms c.in-Some-pop.frame.next c.in-Some-pop.frame.rest c.requires c.in-Some-pop.ensures.1
-      c.in_ok-take-in-None.ensures,
-)
 
 pub enter-eval_atoms-requires : goal.enter-eval_atoms-requires
 enter-eval_atoms-requires t c =
@@ -94,15 +83,6 @@ enter-returns-in-None t c = (
   c.requires.under,
 )
 
-pub find_binding-steps-smaller : goal.find_binding-steps-smaller
-find_binding-steps-smaller t c = let went = rw c.in-On.is at c.in_ok-advance.ensures in step_less _ _ went.0
-
-pub gather_each-bindings-init : goal.gather_each-bindings-init
-gather_each-bindings-init t c = record {
-  same = gathering_begun c.args.scope.now.content.now c.args.scope.now.uses c.args.gens.now c.args.yields.now.items.now c.args.yields.now.parts.now c.args.names.now.bound.now (parameters c.args.names.now) c.in_ok-walk.walk (gathered_of c.args.tally) c.in_ok-walk.ensures;
-  under = begun_under c.args.names.now.bound.now c.in_ok-walk.walk c.in_ok-walk.ensures;
-}
-
 pub gather_each-returns-in_err-find_binding : goal.gather_each-returns-in_err-find_binding
 gather_each-returns-in_err-find_binding t c =
     binding_passed _ _ _ _ _ _ _ _ c.from_residual-in_err-find_binding.ensures.1 c.in_err-find_binding.ensures
@@ -114,9 +94,6 @@ gather_each-returns-in_err-tally t c =
     walk_passed _ _ _ _ c.from_residual-in_err-tally.ensures.1 c.in_err-tally.ensures
     (λ k e. gathering_fault (one_more_binding c.args.scope.now.content.now c.args.scope.now.uses c.args.yields.now.items.now c.args.yields.now.parts.now) _ _ _ _ _ (gathered_of c.bindings.tally) k c.bindings.invariant.same found.0 (ap (λ bs. with_bound bs (parameters c.args.names.now)) c.bound.ensures) e)
 
-pub gather_each-bindings-smaller : goal.gather_each-bindings-smaller
-gather_each-bindings-smaller t c = let found = rw c.if-branch.true at c.in_ok-find_binding.ensures in binding_less _ _ _ found.0
-
 pub gather_each-bindings-preserved : goal.gather_each-bindings-preserved
 gather_each-bindings-preserved t c =
     let found = rw c.if-branch.true at c.in_ok-find_binding.ensures in
@@ -125,13 +102,6 @@ gather_each-bindings-preserved t c =
           (ap (λ bs. with_bound bs (parameters c.args.names.now)) c.bound.ensures) c.in_ok-tally.ensures;
       under = found.1;
     }
-
-pub gather_each-returns : goal.gather_each-returns
-gather_each-returns t c =
-    let ended = rw c.if-branch.false at c.in_ok-find_binding.ensures in
-    c.bindings.invariant.same ∙ over_end (one_more_binding c.args.scope.now.content.now c.args.scope.now.uses c.args.yields.now.items.now c.args.yields.now.parts.now) _ (gathered_of c.bindings.tally) ended
-
--- ---- what every binding adds alike
 
 pub gather_once-returns-in_err-find_binding : goal.gather_once-returns-in_err-find_binding
 gather_once-returns-in_err-find_binding t c =
@@ -174,9 +144,6 @@ gather_once-returns-in_err-tally-2 t c =
     (λ k e. gathering_fault (λ _. one_more_binding c.args.scope.now.content.now c.args.scope.now.uses c.args.yields.now.items.now c.args.yields.now.parts.now (env_in c.args.names.now)) _ _ _ _ _ (gathered_of c.bindings.tally) k c.bindings.invariant.same found.0 refl
     (adds_nothing c.args.scope.now.content.now c.args.scope.now.uses c.args.yields.now.items.now c.args.yields.now.parts.now (env_in c.args.names.now) (gathered_of c.bindings.tally) c.bindings.invariant.there ∙ e))
 
-pub gather_once-bindings-smaller : goal.gather_once-bindings-smaller
-gather_once-bindings-smaller t c = let found = rw c.if-branch.true at c.in_ok-find_binding-2.ensures in binding_less _ _ _ found.0
-
 pub gather_once-bindings-preserved : goal.gather_once-bindings-preserved
 gather_once-bindings-preserved t c =
     let found = rw c.if-branch.true at c.in_ok-find_binding-2.ensures in
@@ -186,11 +153,6 @@ gather_once-bindings-preserved t c =
       under = found.1;
       there = subst (λ atoms. yielded c.args.scope.now.content.now c.args.scope.now.uses c.args.yields.now.items.now c.args.yields.now.parts.now (env_in c.args.names.now) atoms ≡ Ok atoms) (sym c.in_ok-tally-2.ensures.atoms) c.bindings.invariant.there;
     }
-
-pub gather_once-returns : goal.gather_once-returns
-gather_once-returns t c =
-    let ended = rw c.if-branch.false at c.in_ok-find_binding-2.ensures in
-    c.bindings.invariant.same ∙ over_end (λ _. one_more_binding c.args.scope.now.content.now c.args.scope.now.uses c.args.yields.now.items.now c.args.yields.now.parts.now (env_in c.args.names.now)) _ (gathered_of c.bindings.tally) ended
 
 pub add_front-returns-in_err-first : goal.add_front-returns-in_err-first
 add_front-returns-in_err-first t c =
