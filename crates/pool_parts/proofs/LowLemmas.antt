@@ -7,6 +7,9 @@ use Rattle.csp_program.specs.declared.expressions.Gen.{Gen}
 use Rattle.csp_program.specs.declared.processes.Field.{Field}
 use Rattle.csp_program.specs.declared.processes.Field.TheVariants as field
 use Rattle.pool_parts.specs.Low.{IsLow}
+use Rattle.csp_program.specs.Substitution.{Given}
+use Rattle.substitution.specs.Laws.{GetNone}
+use Rattle.substitution.specs.Named.{NoneFrom}
 
 -- where one of two or what is left under a binding is so, in terms of what that is made of
 through : (a n u v w : Bool) → (u ≡ true → (v ≡ true) ⊎ (w ≡ true)) → a || (n && u) ≡ true → (a || (n && v) ≡ true) ⊎ (w ≡ true)
@@ -113,3 +116,8 @@ fields_free fields = before fields nowhere
 
 abbrev pub field_free : Field → Names
 field_free f = before (f ∷ []) nowhere
+
+-- where no name from the number on gets a value, none of the names does
+pub get_none : (least : ℕ) (given : Given) (names : Names) → NoneFrom least given → IsLow least names → GetNone given names
+unfolding IsLow
+get_none least given names none low x h = none x (low x h)

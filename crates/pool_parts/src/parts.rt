@@ -6,8 +6,7 @@ ghost use Rattle.csp_program.specs.Depth.{expr_depth, field_depth, gen_depth, pa
 ghost use Rattle.csp_program.specs.Free.{any_of, before, expr_free, gen_binding, head_free, nowhere, pair_free, under};
 ghost use Rattle.csp_program.specs.Size.{expr_size, field_size, gen_size, pair_size};
 ghost use Rattle.csp_program.specs.Substitution.{expr_with, fields_with, gens_with, head_with};
-ghost use Rattle.pool_parts.specs.Stays.{exprs_stay, head_stays};
-ghost use Rattle.substitution.proofs.Stays.{expr_stays, fields_stay, gens_stay};
+ghost use Rattle.substitution.proofs.Stays.{expr_stays, exprs_stay, fields_stay, gens_stay, head_stays};
 
 use crate::measure::{Measure, nothing};
 use crate::measured::{of_expr, of_exprs, of_fields, of_gens, of_head, of_pairs};
