@@ -10,6 +10,7 @@ use Rattle.csp_base.specs.Lists.{EachOnce, total}
 use Rattle.csp_program.specs.Size.{proc_size}
 use Rattle.csp_program.specs.declared.processes.Proc.{Proc}
 use Rattle.csp_program.specs.declared.processes.Proc.TheVariants as proc
+use Rattle.csp_steps.proofs.Firsts.{stands_none}
 use Rattle.csp_tables.specs.RawTable.{IsTableOf, RawTable}
 use Rattle.csp_tables.specs.RowOrder.{targets_in}
 use Rattle.csp_tables.specs.Label.{Label}
@@ -22,9 +23,9 @@ use Rattle.pool_parts.specs.ExactId.{eq_id}
 use Rattle.pool_parts.specs.declared.place.ProcId.{ProcId}
 use Rattle.term_pool.specs.Pooled.{AreDifferent}
 use Rattle.term_pool.specs.Trees.{tree_at}
-use Rattle.local_tables.specs.Component.{AreTerms, IsInside, part_of, step_count}
+use Rattle.local_tables.specs.Component.{AreTerms, part_of, step_count}
 use Rattle.local_tables.specs.LocalTable.{IsInOrder, IsLocalTable}
-use Rattle.local_tables.specs.Progress.{AreFound, AreRows, AreTabled, IsFollowed, IsRow, IsUpTo, IsWithin, counted_size, first_found, terms_at}
+use Rattle.local_tables.specs.Progress.{AreFound, AreRows, AreTabled, IsFollowed, IsUpTo, IsWithin, counted_size, first_found, terms_at}
 use Rattle.local_tables.specs.declared.found.Found.{Found}
 use Rattle.local_tables.specs.declared.local_table.LocalTable.{LocalTable}
 use Rattle.local_tables.specs.declared.task.Task.{Task}
@@ -58,7 +59,7 @@ pub first_is_found : (task : Task) (trees : List Proc) (id : ProcId) (size : ℕ
     → AreFound task trees (first_found id size)
 first_is_found task trees id size put counted = record {
   places = λ k other h. elim (push_cases [] id k other h) [
-    | inl before ↦ nothing k other before
+    | inl before ↦ absurd (stands_none other (k, before))
     | inr last ↦ subst (λ (z : ProcId). z.0 < length trees) last.1 (slice_get_within trees id.0 task.start.now put)
   ];
   led = record {
@@ -70,20 +71,13 @@ first_is_found task trees id size put counted = record {
   count = refl;
   sizes = (let e : size ≡ counted_size (tree_at trees id) = counted in omega arith);
 }
-  where
-    nothing : (k : ℕ) (other : ProcId) → slice_get [] k ≡ Some other → other.0 < length trees
-    nothing k other h = cc
 
 pub no_rows : (task : Task) (trees : List Proc) (id : ProcId) (size m : ℕ) → AreRows task (terms_at trees (first_found id size).terms) (first_found id size).table m []
-no_rows task trees id size m = record { inside = none; outside = λ l outside. empty l }
+no_rows task trees id size m = record { inside = λ l inside. ap (map (λ n. slice_get (tree_at trees id ∷ []) n)) (empty l); outside = λ l outside. empty l }
   where
     empty : (l : Label) → targets_in (first_found id size).table m l ≡ []
     empty silent = refl
     empty (visible e) = refl
-
-    none : (l : Label) → IsInside task.alphabet.now l → IsRow (terms_at trees (first_found id size).terms) (targets_in (first_found id size).table m l) []
-    none silent inside = refl
-    none (visible e) inside = refl
 
 module _ (task : Task) (trees : List Proc) (id : ProcId) (size : ℕ) (found : Found) (is : found ≡ first_found id size) (put : slice_get trees id.0 ≡ Some task.start.now) (counted : size ≡ counted_size (tree_at trees id)) where
   pub first_tabled : AreTabled task trees found
