@@ -228,3 +228,9 @@ binding-room p n items parts env state h = ap (λ b. cond b (counted state.bindi
 pub whole_value : (p : Content) (e : Expr) (n : ℕ) → n ≡ length p.defs → value_of p e ≡ worth p n [] e
 unfolding worth
 whole_value p e n is = ap (λ k. value_within p k e []) (sym is)
+
+pub ruleset body_forms = (body-Datum, body-Nametype, body-Datatype, body-Process, body-Network)
+
+pub ruleset use_forms = (use-none_left, use-unknown, use-known)
+
+pub ruleset binding_forms = (binding-full, binding-room)

@@ -1,7 +1,7 @@
 -- What is worth the same under each binding of generators: forms whose parts are, and what bindings add, which then is what it is under the names
 -- around the generators.
-use Rattle.std.proofs.Common.{◌≡◌, ℕ, zero, suc, ◌+◌, ◌<◌, Bool, true, false, cond, ◌||◌, nat_eq, Option, Some, None, Ok, Err, List, [], ◌∷◌, map, length, slice_get, refl, ap, sym, subst, ◌∙◌, arith}
-use Rattle.std.specs.Prelude.{if◌then◌else◌, ℤ, nat_lt, slice_index_or}
+use Rattle.std.proofs.Common.{◌≡◌, ℕ, suc, ◌+◌, Bool, true, false, ◌||◌, nat_eq, Option, Some, None, Ok, Err, List, [], ◌∷◌, map, slice_get, refl, ap, sym, subst, ◌∙◌, arith}
+use Rattle.std.specs.Prelude.{if◌then◌else◌, ℤ, nat_lt}
 use Rattle.std.specs.List.{All}
 use Rattle.csp_atoms.specs.declared.atom.Atom.{Atom}
 use Rattle.csp_atoms.specs.declared.atom.Atom.TheVariants as atom
@@ -12,7 +12,7 @@ use Rattle.csp_base.specs.declared.operators.SetOp.{SetOp}
 use Rattle.csp_program.specs.Atoms.{added, all_added}
 use Rattle.csp_program.specs.EventTable.{events_with}
 use Rattle.csp_program.specs.Outcome.{Outcome, and_then}
-use Rattle.csp_program.specs.Value.{Env, Front, Gathered, Turn, as_atom, as_number, as_set, as_truth, bound_value, from, front_events, fronts_added, gathered, in_field, meaning, meanings, number, one_event, over, row_in, row_of, sets_of, turn, uses_within, walked, when}
+use Rattle.csp_program.specs.Value.{Env, Front, Gathered, Turn, as_atom, as_number, as_set, as_truth, bound_value, from, front_events, fronts_added, gathered, in_field, meaning, meanings, one_event, over, row_in, row_of, sets_of, turn, uses_within, walked, when}
 use Rattle.csp_program.specs.declared.expressions.EventPart.{EventPart}
 use Rattle.csp_program.specs.declared.expressions.Expr.{Expr}
 use Rattle.csp_program.specs.declared.expressions.Expr.TheOpen.{Gen-F}
@@ -91,83 +91,83 @@ module _ (gens : List Gen) (p : Content) (n : ℕ) (env env' : Env) (agree : Agr
 module _ (gens : List Gen) where
   pub stays-Num : (k : ℤ) → Stays gens (expr.Num k)
   unfolding Stays
-  stays-Num k p n env env' r = arm.worth_num p n env (expr.Num k) k k refl refl ∙ sym (arm.worth_num p n env' (expr.Num k) k k refl refl)
+  stays-Num k p n env env' r = arm.worth-Num p n env k ∙ sym (arm.worth-Num p n env' k)
 
   pub stays-Truth : (b : Bool) → Stays gens (expr.Truth b)
   unfolding Stays
-  stays-Truth b p n env env' r = arm.worth_truth p n env (expr.Truth b) b refl ∙ sym (arm.worth_truth p n env' (expr.Truth b) b refl)
+  stays-Truth b p n env env' r = arm.worth-Truth p n env b ∙ sym (arm.worth-Truth p n env' b)
 
   pub stays-Const : (k : ℕ) → Stays gens (expr.Const k)
   unfolding Stays
-  stays-Const k p n env env' r = arm.worth_const p n env (expr.Const k) k refl ∙ sym (arm.worth_const p n env' (expr.Const k) k refl)
+  stays-Const k p n env env' r = arm.worth-Const p n env k ∙ sym (arm.worth-Const p n env' k)
 
   pub stays-Bound : (x : ℕ) → bind gens x ≡ false → Stays gens (expr.Bound x)
   unfolding Stays
-  stays-Bound x free p n env env' r = arm.worth_bound p n env (expr.Bound x) x refl ∙ (r x free ∙ sym (arm.worth_bound p n env' (expr.Bound x) x refl))
+  stays-Bound x free p n env env' r = arm.worth-Bound p n env x ∙ (r x free ∙ sym (arm.worth-Bound p n env' x))
 
   pub stays-Lit : (v : Value) → Stays gens (expr.Lit v)
   unfolding Stays
-  stays-Lit v p n env env' r = arm.worth_lit p n env (expr.Lit v) v v refl refl ∙ sym (arm.worth_lit p n env' (expr.Lit v) v v refl refl)
+  stays-Lit v p n env env' r = arm.worth-Lit p n env v ∙ sym (arm.worth-Lit p n env' v)
 
   pub stays-Neg : (a : Expr) → Stays gens a → Stays gens (expr.Neg a)
   unfolding Stays
   stays-Neg a h p n env env' r =
-      arm.worth_neg p n env (expr.Neg a) a a refl refl ∙ (ap negative (h p n env env' r) ∙ sym (arm.worth_neg p n env' (expr.Neg a) a a refl refl))
+      arm.worth-Neg p n env a ∙ (ap negative (h p n env env' r) ∙ sym (arm.worth-Neg p n env' a))
 
   pub stays-Not : (a : Expr) → Stays gens a → Stays gens (expr.Not a)
   unfolding Stays
   stays-Not a h p n env env' r =
-      arm.worth_not p n env (expr.Not a) a a refl refl ∙ (ap inverse (h p n env env' r) ∙ sym (arm.worth_not p n env' (expr.Not a) a a refl refl))
+      arm.worth-Not p n env a ∙ (ap inverse (h p n env env' r) ∙ sym (arm.worth-Not p n env' a))
 
   pub stays-Binary : (op : BinOp) (a b : Expr) → Stays gens a → Stays gens b → Stays gens (expr.Binary op a b)
   unfolding Stays
   stays-Binary op a b h g p n env env' r =
-      arm.worth_binary p n env (expr.Binary op a b) op a b a b refl refl refl ∙ ((λ i. operation op (h p n env env' r i) (g p n env env' r i)) ∙
-      sym (arm.worth_binary p n env' (expr.Binary op a b) op a b a b refl refl refl))
+      arm.worth-Binary p n env op a b ∙ ((λ i. operation op (h p n env env' r i) (g p n env env' r i)) ∙
+      sym (arm.worth-Binary p n env' op a b))
 
   pub stays-If : (c a b : Expr) → Stays gens c → Stays gens a → Stays gens b → Stays gens (expr.If c a b)
   unfolding Stays truth_worth
   stays-If c a b f h g p n env env' r =
-      arm.worth_if p n env (expr.If c a b) c a b c a b refl refl refl refl ∙
+      arm.worth-If p n env c a b ∙
       ((λ i. chosen (and_then (f p n env env' r i) (λ v. as_truth v)) (h p n env env' r i) (g p n env env' r i)) ∙
-      sym (arm.worth_if p n env' (expr.If c a b) c a b c a b refl refl refl refl))
+      sym (arm.worth-If p n env' c a b))
 
   pub stays-Call : (d : ℕ) (args : List Expr) → All (Stays gens) args → Stays gens (expr.Call d args)
   unfolding Stays
   stays-Call d args h p n env env' r =
-      arm.worth_call p n env (expr.Call d args) d args args refl refl ∙ (ap (λ o. and_then o (λ vs. use_worth p n d vs)) (worths_stay gens p n env env' r args h) ∙
-      sym (arm.worth_call p n env' (expr.Call d args) d args args refl refl))
+      arm.worth-Call p n env d args ∙ (ap (λ o. and_then o (λ vs. use_worth p n d vs)) (worths_stay gens p n env env' r args h) ∙
+      sym (arm.worth-Call p n env' d args))
 
   pub stays-SetName : (d : ℕ) → Stays gens (expr.SetName d)
   unfolding Stays
-  stays-SetName d p n env env' r = arm.worth_set_name p n env (expr.SetName d) d refl ∙ sym (arm.worth_set_name p n env' (expr.SetName d) d refl)
+  stays-SetName d p n env env' r = arm.worth-SetName p n env d ∙ sym (arm.worth-SetName p n env' d)
 
   pub stays-Event : (c : ℕ) (fields : List Expr) → All (Stays gens) fields → Stays gens (expr.Event c fields)
   unfolding Stays event_worth
   stays-Event c fields h p n env env' r =
-      arm.worth_event p n env (expr.Event c fields) c fields fields refl refl ∙
+      arm.worth-Event p n env c fields ∙
       (ap (λ o. and_then o (λ ds. and_then (one_event ds) (λ e. Ok (One (atom.Event e))))) (front_stays gens p n env env' r c fields h) ∙
-      sym (arm.worth_event p n env' (expr.Event c fields) c fields fields refl refl))
+      sym (arm.worth-Event p n env' c fields))
 
   pub stays-Display : (items : List Expr) → All (Stays gens) items → Stays gens (expr.Display items)
   unfolding Stays
   stays-Display items h p n env env' r =
-      arm.worth_display p n env (expr.Display items) items items refl refl ∙ (ap a_set (items_stay gens p n env env' r items h []) ∙
-      sym (arm.worth_display p n env' (expr.Display items) items items refl refl))
+      arm.worth-Display p n env items ∙ (ap a_set (items_stay gens p n env env' r items h []) ∙
+      sym (arm.worth-Display p n env' items))
 
   pub stays-Range : (a b : Expr) → Stays gens a → Stays gens b → Stays gens (expr.Range a b)
   unfolding Stays number_worth
   stays-Range a b h g p n env env' r =
-      arm.worth_range p n env (expr.Range a b) a b a b refl refl refl ∙
+      arm.worth-Range p n env a b ∙
       ((λ i. range_of (and_then (h p n env env' r i) (λ v. as_number v)) (and_then (g p n env env' r i) (λ v. as_number v))) ∙
-      sym (arm.worth_range p n env' (expr.Range a b) a b a b refl refl refl))
+      sym (arm.worth-Range p n env' a b))
 
   pub stays-SetOp : (op : SetOp) (a b : Expr) → Stays gens a → Stays gens b → Stays gens (expr.SetOp op a b)
   unfolding Stays atoms_worth
   stays-SetOp op a b h g p n env env' r =
-      arm.worth_set_op p n env (expr.SetOp op a b) op a b a b refl refl refl ∙
+      arm.worth-SetOp p n env op a b ∙
       ((λ i. set_of op (and_then (h p n env env' r i) (λ v. as_set v)) (and_then (g p n env env' r i) (λ v. as_set v))) ∙
-      sym (arm.worth_set_op p n env' (expr.SetOp op a b) op a b a b refl refl refl))
+      sym (arm.worth-SetOp p n env' op a b))
 
 pub ruleset forms_stay = (stays-Num, stays-Truth, stays-Const, stays-Bound, stays-Lit, stays-Neg, stays-Not, stays-Binary, stays-If, stays-Call, stays-SetName, stays-Event, stays-Display, stays-Range, stays-SetOp)
 

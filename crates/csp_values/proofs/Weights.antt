@@ -133,3 +133,5 @@ cost-less p zero w positive le = absurd (omega arith)
 cost-less p (suc n) w positive le =
     let one_less : suc n - 1 ≡ n = omega arith in
     rw one_less (spent n (bodies_weight p.defs) w le)
+
+pub ruleset none_weigh = (weights-nil, part_weights-nil)

@@ -210,6 +210,7 @@ pub fn binding_under(
 
 // The value of an expression.
 #[cycle(eval)]
+#[tactic(auto, using(crate::proofs::Arms::worth_forms, crate::proofs::Falls::weight_forms))]
 fn eval_expr(scope: &Scope<'_>, names: &Names<'_>, expr: &Expr) -> Result<Value, EvalFault>
     ensures { Gives result (worth scope.now.content.now scope.now.uses (env_in names.now) expr.now) }
 {
@@ -276,6 +277,7 @@ fn grown_value(alloc: Global, atoms: GrowingSet) -> Result<Value, EvalFault>
 
 // The number that an expression is worth.
 #[cycle(eval)]
+#[tactic(auto, unfolding(crate::specs::Worth::number_worth))]
 fn eval_number(scope: &Scope<'_>, names: &Names<'_>, expr: &Expr) -> Result<i64, EvalFault>
     ensures { Gives result (number_worth scope.now.content.now scope.now.uses (env_in names.now) expr.now) }
 {
@@ -285,6 +287,7 @@ fn eval_number(scope: &Scope<'_>, names: &Names<'_>, expr: &Expr) -> Result<i64,
 
 // The truth value that an expression is worth.
 #[cycle(eval)]
+#[tactic(auto, unfolding(crate::specs::Worth::truth_worth))]
 fn eval_truth(scope: &Scope<'_>, names: &Names<'_>, expr: &Expr) -> Result<bool, EvalFault>
     ensures { Gives result (truth_worth scope.now.content.now scope.now.uses (env_in names.now) expr.now) }
 {
@@ -294,6 +297,7 @@ fn eval_truth(scope: &Scope<'_>, names: &Names<'_>, expr: &Expr) -> Result<bool,
 
 // The set that an expression is worth.
 #[cycle(eval)]
+#[tactic(auto, unfolding(crate::specs::Worth::atoms_worth))]
 fn eval_atoms(scope: &Scope<'_>, names: &Names<'_>, expr: &Expr) -> Result<AtomSet, EvalFault>
     ensures { Gives result (atoms_worth scope.now.content.now scope.now.uses (env_in names.now) expr.now) }
 {
@@ -397,6 +401,7 @@ fn eval_set_name(scope: &Scope<'_>, def: u32) -> Result<Value, EvalFault>
 
 // An event.
 #[cycle(eval)]
+#[tactic(auto, using(crate::proofs::Arms::event_steps))]
 fn eval_event(
     scope: &Scope<'_>,
     names: &Names<'_>,
@@ -451,6 +456,7 @@ fn eval_set_op(
 
 // The value of `{| parts | gens |}`. Where a channel has no field sets, no generator is walked.
 #[cycle(eval)]
+#[tactic(auto, using(crate::proofs::Weights::none_weigh, crate::proofs::Arms::lacking_steps))]
 fn eval_product(
     scope: &Scope<'_>,
     names: &Names<'_>,
@@ -487,6 +493,7 @@ fn eval_comprehension(
 
 // The values of expressions, from the left.
 #[cycle(eval)]
+#[tactic(auto, using(crate::proofs::Steps::worths_steps, crate::proofs::Weights::weight_in))]
 fn eval_all(scope: &Scope<'_>, names: &Names<'_>, exprs: &[Expr]) -> Result<Items<Value>, EvalFault>
     ensures { Gives result (worths scope.now.content.now scope.now.uses (env_in names.now) exprs.now) }
 {
@@ -500,6 +507,7 @@ fn eval_all(scope: &Scope<'_>, names: &Names<'_>, exprs: &[Expr]) -> Result<Item
 
 // The value of a use of the definition with the number `def`.
 #[cycle(eval)]
+#[tactic(auto, using(crate::proofs::Equations::use_forms, crate::proofs::Falls::use_falls))]
 fn eval_use(scope: &Scope<'_>, def: u32, args: &[Value]) -> Result<Value, EvalFault>
     ensures { Gives result (use_worth scope.now.content.now scope.now.uses def args.now) }
 {
@@ -519,6 +527,7 @@ fn eval_use(scope: &Scope<'_>, def: u32, args: &[Value]) -> Result<Value, EvalFa
 
 // The value of the body of a definition.
 #[cycle(eval)]
+#[tactic(auto, using(crate::proofs::Equations::body_forms))]
 fn eval_body(scope: &Scope<'_>, def: &Def, args: &[Value]) -> Result<Value, EvalFault>
     ensures { Gives result (body_worth scope.now.content.now scope.now.uses def.now args.now) }
 {
@@ -536,6 +545,7 @@ fn eval_body(scope: &Scope<'_>, def: &Def, args: &[Value]) -> Result<Value, Eval
 
 // A set with the values of items in it.
 #[cycle(eval)]
+#[tactic(auto, using(crate::proofs::Steps::items_steps, crate::proofs::Weights::weight_in))]
 fn add_items(
     scope: &Scope<'_>,
     names: &Names<'_>,
@@ -567,6 +577,7 @@ fn add_item(
 
 // The number of fields among all choices of values of these sets, each counted `each` times. Counting stops at the end of 64 bits.
 #[cycle(eval)]
+#[tactic(auto, using(crate::proofs::FieldSteps::fields_steps, crate::proofs::Weights::weight_in))]
 fn eval_fields(
     scope: &Scope<'_>,
     names: &Names<'_>,
@@ -605,6 +616,7 @@ fn eval_place(
 
 // The number of fields among all choices of values of these sets, counted over the choices of those that are not given, up to the end of 64 bits.
 #[cycle(eval)]
+#[tactic(auto, using(crate::proofs::FieldSteps::counted_over))]
 fn eval_choice(
     scope: &Scope<'_>,
     names: &Names<'_>,
@@ -619,6 +631,7 @@ fn eval_choice(
 
 // The number of the first event of a channel that begins with these fields.
 #[cycle(eval)]
+#[tactic(auto, using(crate::proofs::FieldSteps::fronts_found, crate::proofs::Arms::event_steps))]
 fn eval_front(
     scope: &Scope<'_>,
     names: &Names<'_>,
@@ -639,6 +652,7 @@ fn eval_front(
 
 // A set with the events of fronts in it.
 #[cycle(eval)]
+#[tactic(auto, using(crate::proofs::Steps::fronts_steps, crate::proofs::Weights::part_weight_in))]
 fn add_fronts(
     scope: &Scope<'_>,
     names: &Names<'_>,
@@ -656,6 +670,7 @@ fn add_fronts(
 
 // A set with the events of a front in it.
 #[cycle(eval)]
+#[tactic(auto, using(crate::proofs::Arms::event_steps, crate::proofs::Falls::weight_part))]
 fn add_front(
     scope: &Scope<'_>,
     names: &Names<'_>,
@@ -672,6 +687,7 @@ fn add_front(
 
 // One more binding, and what it adds.
 #[cycle(eval)]
+#[tactic(auto, using(crate::proofs::Equations::binding_forms, crate::proofs::Arms::binding_steps))]
 fn gather(
     scope: &Scope<'_>,
     names: &Names<'_>,
@@ -694,6 +710,7 @@ fn gather(
 
 // One step of a walk over generators, under the names around them.
 #[cycle(eval)]
+#[tactic(auto, using(crate::proofs::Courses::advance_steps))]
 fn advance(
     scope: &Scope<'_>,
     names: &Names<'_>,
@@ -754,6 +771,7 @@ fn enter(
 
 // Whether there is one more binding, under which the walk then stands.
 #[cycle(eval)]
+#[tactic(auto, using(crate::proofs::Courses::step_less))]
 fn find_binding(
     scope: &Scope<'_>,
     names: &Names<'_>,
@@ -792,6 +810,7 @@ fn gather_all(
 
 // What all bindings of generators add, evaluated under each of them.
 #[cycle(eval)]
+#[tactic(auto, using(crate::proofs::Courses::gathering_steps))]
 fn gather_each(
     scope: &Scope<'_>,
     names: &Names<'_>,
@@ -832,6 +851,7 @@ fn counted(tally: Tally) -> Result<Tally, EvalFault>
 
 // What all bindings of generators add, where that reads none of their names: it is evaluated at the first binding alone.
 #[cycle(eval)]
+#[tactic(auto, using(crate::proofs::Courses::over_end, crate::proofs::Courses::binding_less))]
 fn gather_once(
     scope: &Scope<'_>,
     names: &Names<'_>,
