@@ -18,7 +18,6 @@ use Rattle.term_pool.specs.ExactEntry.{eq_entry}
 use Rattle.term_pool.specs.Held.{processes, IsHeld, IsKept, Puts}
 use Rattle.term_pool.specs.Layers.{Layer}
 use Rattle.term_pool.specs.Measured.{IsNodeMeasure, Measures}
-use Rattle.term_pool.specs.Moved.{moved}
 use Rattle.term_pool.specs.Pooled.{Has}
 use Rattle.pool_parts.specs.Stored.{IsAbsent}
 use Rattle.term_pool.specs.Trees.{layer_below, layer_tree, trees_of}
@@ -131,15 +130,15 @@ module _ (old new : OwnParts) (start : PartsStart old new) (es : List Entry) (ms
   pub puts_nothing : {E : Type 0} (r : Result ProcId E) → IsErr r → (t : Proc) → Puts (processes old es) (processes new es) r t
   puts_nothing r failed t = subst (λ (ts : List Proc). Puts (processes old es) ts r t) (sym processes_stay) (puts_none (processes old es) t r failed)
 
-  module _ (e : Entry) (n : Layer) (stands : StandsAs new e n) where
+  module _ (e : Entry) (n : Layer) (is : entry_layer new e ≡ n) where
     pub below_more : layer_below (length (processes old es)) n ≡ true → layer_below (length (processes new es)) (entry_layer new e) ≡ true
     below_more h =
         subst (λ (ts : List Proc). layer_below (length ts) (entry_layer new e) ≡ true) (sym processes_stay)
-        (subst (λ (m : Layer). layer_below (length (processes old es)) m ≡ true) (sym stands.is) h)
+        (subst (λ (m : Layer). layer_below (length (processes old es)) m ≡ true) (sym is) h)
 
     module _ (t : Proc) (tree : layer_tree (processes old es) n ≡ t) where
       tree_is : layer_tree (processes new es) (entry_layer new e) ≡ t
-      tree_is = ap (λ (ts : List Proc). layer_tree ts (entry_layer new e)) processes_stay ∙ (ap (λ (m : Layer). layer_tree (processes old es) m) stands.is ∙ tree)
+      tree_is = ap (λ (ts : List Proc). layer_tree ts (entry_layer new e)) processes_stay ∙ (ap (λ (m : Layer). layer_tree (processes old es) m) is ∙ tree)
 
       pub puts_as : {E : Type 0} (after : List Proc) (r : Result ProcId E) → Puts (processes new es) after r (layer_tree (processes new es) (entry_layer new e)) → Puts (processes old es) after r t
       puts_as after r h =
@@ -163,10 +162,6 @@ no_parts_no_process parts es ms kept n below lacks has =
 pub on_err : {T E : Type 0} (r : Result T E) (P : Type 0) → P → OnErr r P
 on_err (Ok x) P p = tt
 on_err (Err e) P p = p
-
--- own parts first, and then places
-pub moved_as : (mid new : OwnParts) (e : Entry) (n : Layer) (ids : List ProcId) (d : Entry) → StandsAs mid e n → StandsAs new d (moved (entry_layer mid e) ids) → StandsAs new d (moved n ids)
-moved_as mid new e n ids d h g = record { fits = g.fits; is = g.is ∙ ap (λ (m : Layer). moved m ids) h.is }
 
 -- what was put at the end is taken out again
 pub taken_out : (all before after : List Entry) (e : Entry) (gone : Option Entry) → all ≡ before ++ e ∷ [] → MatchOption gone ((all ≡ []) × (after ≡ [])) (λ last. all ≡ after ++ last ∷ []) → after ≡ before

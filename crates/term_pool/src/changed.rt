@@ -52,7 +52,8 @@ pub(crate) fn entry_with_first(
 ) -> Result<Entry, NoMemory>
     requires fits { Fits parts.old entry }
     ensures start { PartsStart parts.old parts.new }
-    ensures entry { IfOk result (λ made. StandsAs parts.new made (node_with_first (entry_layer parts.old entry) below)) }
+    ensures fits { IfOk result (Fits parts.new) }
+    ensures layer { IfOk result (λ made. entry_layer parts.new made ≡ node_with_first (entry_layer parts.old entry) below) }
 {
     match entry {
         Entry::Stop => Ok(Entry::Stop),
@@ -92,7 +93,8 @@ fn with_places(
 ) -> Result<Entry, NoMemory>
     requires fits { Fits parts.old entry }
     ensures start { PartsStart parts.old parts.new }
-    ensures entry { IfOk result (λ made. StandsAs parts.new made (moved (entry_layer parts.old entry) ids.now)) }
+    ensures fits { IfOk result (Fits parts.new) }
+    ensures layer { IfOk result (λ made. entry_layer parts.new made ≡ moved (entry_layer parts.old entry) ids.now) }
 {
     match entry {
         Entry::Stop => Ok(Entry::Stop),
@@ -122,7 +124,8 @@ pub(crate) fn made_entry(
 ) -> Result<Entry, NoMemory>
     requires fits { Fits parts.old entry }
     ensures start { PartsStart parts.old parts.new }
-    ensures entry { IfOk result (λ made. StandsAs parts.new made (moved (own_with (given_by values.now) (entry_layer parts.old entry)) ids.now)) }
+    ensures fits { IfOk result (Fits parts.new) }
+    ensures layer { IfOk result (λ made. entry_layer parts.new made ≡ moved (own_with (given_by values.now) (entry_layer parts.old entry)) ids.now) }
 {
     let entry = put_own(parts, alloc, entry, values)?;
     with_places(parts, alloc, entry, ids)

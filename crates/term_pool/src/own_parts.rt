@@ -151,7 +151,8 @@ pub(crate) fn keep_node(
     node: Node<'_>,
 ) -> Result<Entry, NoMemory>
     ensures start { PartsStart parts.old parts.new }
-    ensures entry { IfOk result (λ entry. StandsAs parts.new entry (shown node.entry)) }
+    ensures fits { IfOk result (Fits parts.new) }
+    ensures layer { IfOk result (λ entry. entry_layer parts.new entry ≡ shown node.entry) }
     ensures err_only_new { OnErr result (HasParts parts.old (shown node.entry) → ⊥) }
 {
     match node {
