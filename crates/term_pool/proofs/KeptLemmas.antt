@@ -13,7 +13,7 @@ use Rattle.csp_program.specs.declared.processes.Proc.TheVariants as proc
 use Rattle.term_pool.proofs.EntryLemmas.{fits_more, layer_stays, same_entry, has_parts}
 use Rattle.term_pool.proofs.HeldLemmas.{held_push, is_known, places_fall, puts_known, puts_new, puts_none, tree_stands, trees_length, unknown_push}
 use Rattle.pool_parts.proofs.StoreLemmas.{is_absent}
-use Rattle.term_pool.specs.Entries.{entry_layer, layers, ArePartsOnce, Fits, HasParts, PartsStart, StandsAs}
+use Rattle.term_pool.specs.Entries.{entry_layer, layers, ArePartsOnce, Fits, HasParts, PartsStart}
 use Rattle.term_pool.specs.ExactEntry.{eq_entry}
 use Rattle.term_pool.specs.Held.{processes, IsHeld, IsKept, Puts}
 use Rattle.term_pool.specs.Layers.{Layer}
@@ -156,7 +156,7 @@ pub no_parts_no_process : (parts : OwnParts) (es : List Entry) (ms : List Measur
 no_parts_no_process parts es ms kept n below lacks has =
     let here = is_known (layers parts es) kept.held.smaller kept.held.distinct n (subst (λ (c : ℕ). layer_below c n ≡ true) (trees_length (layers parts es)) below) has in
     let e = entry_there parts es here.0 n here.1 in
-    lacks (has_parts parts e.0 n (record { fits = kept.fits here.0 e.0 e.1; is = e.2 }))
+    lacks (has_parts parts e.0 n (kept.fits here.0 e.0 e.1) e.2)
 
 -- what is so holds where nothing else is said
 pub on_err : {T E : Type 0} (r : Result T E) (P : Type 0) → P → OnErr r P

@@ -72,11 +72,6 @@ Fits parts (entry.Rename p pairs gens) = (pairs < length parts.pairs) × (gens <
 Fits parts (entry.Call d args) = args < length parts.arguments
 Fits parts other = Unit {0}
 
--- the entry stands for the layer
-pub record StandsAs (parts : OwnParts) (e : Entry) (n : Layer) : Type 0 where
-  pub fits : Fits parts e
-  pub is : entry_layer parts e ≡ n
-
 -- the own parts of a layer are kept
 abbrev pub HasParts : OwnParts → Layer → Type 0
 HasParts parts (Proc-F.Prefix h fields p) = StandsIn parts.heads h × StandsIn parts.fields fields

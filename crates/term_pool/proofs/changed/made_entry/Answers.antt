@@ -10,4 +10,4 @@ pub returns-clause-start : goal.returns-clause-start
 returns-clause-start c = starts_both c.args.parts.now c.put_own.new.parts c.with_places.new.parts c.in_ok-entry.ensures.start c.with_places.ensures.start
 
 pub returns-clause-layer : goal.returns-clause-layer
-returns-clause-layer c = IfOk-weaker c.with_places.result _ _ (λ made h. h ∙ ap (λ (n : Layer). moved n c.args.ids.now) c.in_ok-entry.ensures.entry.is) c.with_places.ensures.layer
+returns-clause-layer c = IfOk-weaker c.with_places.result _ _ (λ made h. h ∙ ap (λ (n : Layer). moved n c.args.ids.now) c.in_ok-entry.ensures.layer) c.with_places.ensures.layer

@@ -15,9 +15,6 @@ decreases-put_layer l = l.id.0 * 6 + 4
 abbrev pub decreases-put_below : goal.decreases-put_below
 decreases-put_below l = l.id.0 * 6 + 3
 
-abbrev pub decreases-put_under : goal.decreases-put_under
-decreases-put_under l = l.id.0 * 6 + 2
-
 abbrev pub decreases-put_anew : goal.decreases-put_anew
 decreases-put_anew l = l.id.0 * 6 + 1
 
