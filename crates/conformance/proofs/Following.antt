@@ -1,19 +1,19 @@
 -- A table that follows the runs of another one: where it stands, and what the pairs to which runs lead say of both.
-use Rattle.std.proofs.Common.{◌≡◌, ℕ, zero, suc, ◌<◌, ◌≤◌, inl, inr, List, [], ◌∷◌, ◌++◌, length, get_or, true, false, IsTrue, Option, Some, None, refl, sym, ap, subst, ◌∙◌, arith, append_assoc, append-nil}
+use Rattle.std.proofs.Common.{◌≡◌, ℕ, zero, suc, ◌<◌, ◌≤◌, inl, inr, List, [], ◌∷◌, ◌++◌, length, get_or, true, false, IsTrue, Option, Some, None, refl, sym, ap, subst, ◌∙◌, arith}
 use Rattle.std.specs.Prelude.{slice_get}
-use Rattle.std.proofs.lemmas.Bool.{and_from, and_parts, cases_Bool, cond-true, cond-false, false≢true}
+use Rattle.std.proofs.lemmas.Bool.{and_from, and_parts, cases_Bool, cond-true, cond-false}
 use Rattle.std.proofs.lemmas.List.{get_or_past}
 use Rattle.std.proofs.lemmas.Option.{get_or_from_slice_get, slice_get_cases}
 use Rattle.csp_base.specs.Members.{has}
 use Rattle.csp_tables.specs.Form.{HasForm, StepsHaveForm}
 use Rattle.csp_tables.specs.Part.{Part}
 use Rattle.csp_tables.specs.Table.{Node, IsRun, acceptances_after, end_of, is_possible, is_run, no_node, node_after, node_at}
-use Rattle.csp_tables.proofs.Runs.{end_push, node_form, run_push}
-use Rattle.observed_runs.specs.Exploration.{Found, IsExploration}
+use Rattle.csp_tables.proofs.Runs.{node_form, run_push}
+use Rattle.observed_runs.specs.Exploration.{AreFound, Found, IsExploration, StepsTo}
 use Rattle.observed_runs.specs.Observed.{LeadsTo, observed, pair_at}
-use Rattle.observed_runs.proofs.Leading.{listed_step, observed_push, step_within}
+use Rattle.observed_runs.proofs.Leading.{listed_step, step_within}
 use Rattle.conformance.specs.Conforming.{HasWithin, RefusesAfter, RunsOutside, TableConforms}
-use Rattle.conformance.specs.Finding.{AcceptsAt, LeavesAt, RefusesAt, StaysAt}
+use Rattle.conformance.specs.Finding.{AllAccept, AreInside, RefusesAt}
 use Rattle.conformance.specs.Following.{follow_step}
 
 -- ---- nodes
@@ -105,49 +105,33 @@ module _ (p q : Part) (form : HasForm p) (other : HasForm q) where
 
   -- ---- what a pair says
 
-  pub leaves_outside : (run : List ℕ) (pair : ℕ × ℕ) (e : ℕ) → LeadsTo p.table (follow_step p.alphabet q.table) 0 run pair → LeavesAt p.table q.table pair e → RunsOutside p.table q.table (run ++ e ∷ [])
-  leaves_outside run pair e l leaves =
-      let front : IsRun q.table run = inside 0 0 run l.follows (subst (λ n. n < length q.table) (sym l.state) leaves.there) in
+  -- from a pair that is inside an event leads to one that is not
+  pub leaves_outside : (run : List ℕ) (pair to : ℕ × ℕ) (e : ℕ) → LeadsTo p.table (follow_step p.alphabet q.table) 0 run pair → StepsTo p.table (follow_step p.alphabet q.table) pair e to → pair.1 < length q.table → length q.table ≤ to.1 → RunsOutside p.table q.table (run ++ e ∷ [])
+  leaves_outside run pair to e l steps there out =
+      let front : IsRun q.table run = inside 0 0 run l.follows (subst (λ n. n < length q.table) (sym l.state) there) in
       let at : end_of q.table 0 run ≡ pair.1 = sym (ends 0 0 run l.follows front) ∙ l.state in
       record {
         front = run;
         last = e;
         is = refl;
         inside = front;
-        runs = run_push p.table 0 run e l.follows (subst (λ n. is_possible (node_at p.table n).next e ≡ true) (sym l.node) leaves.lacking.possible);
-        outside = λ h. false≢true (sym leaves.lacking.not_there ∙ subst (λ n. is_possible (node_at q.table n).next e ≡ true) at (run_last q.table 0 run e h));
+        runs = run_push p.table 0 run e l.follows (subst (λ n. is_possible (node_at p.table n).next e ≡ true) (sym l.node) steps.possible);
+        outside = λ h.
+            let possible : is_possible (node_at q.table pair.1).next e ≡ true = subst (λ n. is_possible (node_at q.table n).next e ≡ true) at (run_last q.table 0 run e h) in
+            let state : to.1 ≡ node_after q.table pair.1 e = steps.state ∙ step_on pair.0 pair.1 e steps.possible possible in
+            let within : node_after q.table pair.1 e < length q.table = after_within q other pair.1 e possible in
+            omega arith;
       }
 
   module _ (found : Found) (explored : IsExploration p.table (follow_step p.alphabet q.table) 0 found.pairs) where
-    -- one event more
-    stays_on : ((k : ℕ) → k < length found.pairs → StaysAt p.table q.table (pair_at found.pairs k)) → (u : List ℕ) (e : ℕ) → IsRun p.table u → observed (follow_step p.alphabet q.table) 0 u < length q.table
-        → is_possible (node_at p.table (end_of p.table 0 u)).next e ≡ true → observed (follow_step p.alphabet q.table) 0 (u ++ e ∷ []) < length q.table
-    stays_on all u e run less possible =
-        let l = explored.listed u run in
-        let pair = pair_at found.pairs l.0 in
-        let state : observed (follow_step p.alphabet q.table) 0 u ≡ pair.1 = l.2.state in
-        let node : end_of p.table 0 u ≡ pair.0 = l.2.node in
-        let there : is_possible (node_at q.table pair.1).next e ≡ true = all l.0 l.1 (subst (λ n. n < length q.table) state less) e (subst (λ n. is_possible (node_at p.table n).next e ≡ true) node possible) in
-        let here : is_possible (node_at q.table (observed (follow_step p.alphabet q.table) 0 u)).next e ≡ true = subst (λ n. is_possible (node_at q.table n).next e ≡ true) (sym state) there in
-        subst (λ n. n < length q.table) (sym (observed_push (follow_step p.alphabet q.table) 0 u e ∙ step_on (end_of p.table 0 u) (observed (follow_step p.alphabet q.table) 0 u) e possible here))
-        (after_within q other (observed (follow_step p.alphabet q.table) 0 u) e here)
-
-    stays_along : ((k : ℕ) → k < length found.pairs → StaysAt p.table q.table (pair_at found.pairs k)) → (u s : List ℕ) → IsRun p.table u → observed (follow_step p.alphabet q.table) 0 u < length q.table
-        → is_run p.table (end_of p.table 0 u) s ≡ true → observed (follow_step p.alphabet q.table) 0 (u ++ s) < length q.table
-    stays_along all u [] run less h = subst (λ v. observed (follow_step p.alphabet q.table) 0 v < length q.table) (sym (append-nil u)) less
-    stays_along all u (e ∷ s) run less h =
-        let a = and_parts (is_possible (node_at p.table (end_of p.table 0 u)).next e) (is_run p.table (node_after p.table (end_of p.table 0 u) e) s) h in
-        subst (λ v. observed (follow_step p.alphabet q.table) 0 v < length q.table) (append_assoc u (e ∷ []) s)
-        (stays_along all (u ++ e ∷ []) s (run_push p.table 0 u e run a.0) (stays_on all u e run less a.0) (subst (λ n. is_run p.table n s ≡ true) (sym (end_push p.table 0 u e)) a.1))
-
-    pub all_inside : ((k : ℕ) → k < length found.pairs → StaysAt p.table q.table (pair_at found.pairs k)) → (s : List ℕ) → IsRun p.table s → IsRun q.table s
-    all_inside all s run = inside 0 0 s run (stays_along all [] s refl (first_within q other) run)
+    pub all_inside : AreInside q.table found.pairs (length found.pairs) → (s : List ℕ) → IsRun p.table s → IsRun q.table s
+    all_inside all s run = let l = explored.listed s run in inside 0 0 s run (subst (λ n. n < length q.table) (sym l.2.state) (all l.0 l.1))
 
     -- where a run of both leads
     pair_of_run : (s : List ℕ) (pair : ℕ × ℕ) → LeadsTo p.table (follow_step p.alphabet q.table) 0 s pair → IsRun q.table s → end_of q.table 0 s ≡ pair.1
     pair_of_run s pair l there = sym (ends 0 0 s l.follows there) ∙ l.state
 
-    pub conforms : ((s : List ℕ) → IsRun p.table s → IsRun q.table s) → ((k : ℕ) → k < length found.pairs → AcceptsAt p.table q.table (pair_at found.pairs k)) → TableConforms p.table q.table
+    pub conforms : ((s : List ℕ) → IsRun p.table s → IsRun q.table s) → AllAccept p.table q.table found.pairs (length found.pairs) → TableConforms p.table q.table
     conforms runs all = record {
       runs = runs;
       acceptances = λ s k run h.

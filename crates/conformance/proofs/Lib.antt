@@ -1,3 +1,4 @@
 pub mod Following
 pub mod Searching
+pub mod Standing
 pub mod Telling

@@ -1,9 +1,9 @@
 -- An event is looked for in the steps of a node, which rise.
-use Rattle.std.proofs.Common.{◌≡◌, ℕ, zero, suc, ◌+◌, ◌<◌, ◌≤◌, inl, inr, List, [], ◌∷◌, length, get_or, true, false, IsTrue, Some, None, nat_eq, eq-eqb, refl, sym, ap, subst, ◌∙◌, arith, if◌then◌else◌, Less, Equal, Greater}
+use Rattle.std.proofs.Common.{◌≡◌, ℕ, zero, suc, ◌+◌, ◌<◌, ◌≤◌, inl, inr, List, [], ◌∷◌, length, get_or, true, false, IsTrue, Some, None, sym, ap, subst, ◌∙◌, arith, if◌then◌else◌, Less, Equal, Greater}
 use Rattle.std.specs.List.Sorted.{IsNonDecreasingBy, IsPartitionPoint}
 use Rattle.std.specs.Ordering.{is_eq, nat_cmp, ordering_index}
 use Rattle.std.specs.Cmp.Lexicographic.{bytes_decides, slice_cmp, texts_ties}
-use Rattle.std.proofs.lemmas.Bool.{cases_Bool, cases_lt, cond-true, cond-false, false≢true, or_left, or_right}
+use Rattle.std.proofs.lemmas.Bool.{cases_Bool, cases_lt, cond-true, cond-false, false≢true}
 use Rattle.std.proofs.lemmas.Bool.Decides.{nat_tests}
 use Rattle.std.proofs.lemmas.List.{get_or_default, get_or_read}
 use Rattle.csp_base.specs.Events.{is_subset_of}
@@ -68,22 +68,6 @@ module _ (a : List ℕ) (m : ℕ) where
             ])
         | inr not_there ↦ sym (cond-false (is_possible steps e) (Some (target steps e)) None not_there)
       ]
-
--- ---- steps that are listed are possible
-
-pub possible_at : (steps : List (ℕ × ℕ)) (k : ℕ) → k < length steps → is_possible steps (get_or steps k (0, 0)).0 ≡ true
-possible_at [] k h = absurd (omega arith)
-possible_at (step ∷ steps) zero h = or_left (nat_eq step.0 step.0) (is_possible steps step.0) (eq-eqb step.0 step.0 refl)
-possible_at (step ∷ steps) (suc k) h = or_right (nat_eq step.0 (get_or steps k (0, 0)).0) (is_possible steps (get_or steps k (0, 0)).0) (possible_at steps k (omega arith))
-
-pub read_possible : (steps : List (ℕ × ℕ)) (k : ℕ) (x : ℕ × ℕ) → k < length steps → x ≡ get_or steps k x → is_possible steps x.0 ≡ true
-read_possible steps k x h read = subst (λ (p : ℕ × ℕ). is_possible steps p.0 ≡ true) (sym (get_or_read steps k x h read (0, 0))) (possible_at steps k h)
-
--- each step that is listed is possible by the others: so each event is
-pub each_possible : (steps others : List (ℕ × ℕ)) → ((k : ℕ) → k < length steps → IsTrue (is_possible others (get_or steps k (0, 0)).0)) → (e : ℕ) → IsTrue (is_possible steps e) → IsTrue (is_possible others e)
-each_possible steps others all e h =
-    let at = listed_step steps e h in
-    subst (λ x. IsTrue (is_possible others x)) at.event (all at.place at.within)
 
 -- ---- sets that are compared
 

@@ -1,3 +1,4 @@
+pub mod Alike
 pub mod Conforming
 pub mod Failing
 pub mod Finding

@@ -1,21 +1,21 @@
 //! Whether the table of a component conforms to that of its specification.
 
-ghost use Rattle.std.specs.Prelude.{◌≡◌, ◌<◌, ◌++◌, ◌∷◌, [], ℕ, List, IfErr, IfNone, IfOk, IfSome, MatchBool, OnOk, length};
+ghost use Rattle.std.specs.Prelude.{◌≡◌, ◌<◌, ℕ, IfErr, IfNone, IfOk, IfSome, MatchBool, OnOk, length};
+ghost use Rattle.std.specs.Bool.{OnFalse, OnTrue};
 ghost use Rattle.csp_tables.specs.Form.{HasForm};
-ghost use Rattle.csp_tables.specs.Table.{IsRun, Node};
-ghost use Rattle.observed_runs.specs.Exploration.{AreFound};
-ghost use Rattle.observed_runs.specs.Observed.{LeadsTo, pair_at};
-ghost use Rattle.conformance.specs.Conforming.{RefusesAfter, RunsOutside, TableConforms};
-ghost use Rattle.conformance.specs.Finding.{AcceptsAt, Follows, LeavesAt, RefusesAt, StaysAt};
+ghost use Rattle.observed_runs.specs.Observed.{pair_at};
+ghost use Rattle.conformance.specs.Conforming.{TableConforms};
+ghost use Rattle.conformance.specs.Finding.{AcceptsAt, AllAccept, AreInside, Follows, IsFirstOutside, RefusesAt};
 ghost use Rattle.conformance.specs.Told.{Fails};
 
+use crate::alike::{alike_nodes, alike_number};
 use crate::fault::ConformFault;
 use crate::follower::Follower;
 use crate::nodes::node_of;
-use crate::steps::{lacking, refuses};
-use csp_base::{Event, NoMemory, Trace};
+use crate::steps::refuses;
+use csp_base::NoMemory;
 use csp_tables::Part;
-use observed_runs::{Explored, explore, steps_of};
+use observed_runs::{Explored, Pairs, explore, steps_of};
 use std::alloc::Global;
 
 /// Succeeds where each run of `part` is one of `specified`, and after it each acceptance of the first contains one of the second.
@@ -28,10 +28,14 @@ pub fn conform_part(alloc: Global, part: &Part, specified: &Part) -> Result<(), 
     ensures fails { IfErr result (Fails part.now.table specified.now.table) }
 {
     let explored = followed(alloc, part, specified)?;
-    if let Some(trace) = outside_trace(alloc, part, specified, &explored)? {
+    if let Some(place) = outside_place(specified, explored.pairs()) {
+        let (earlier, event) = explored.origin(place);
+        let mut trace = explored.run_to(alloc, earlier)?;
+        trace.push(event)?;
         return Err(ConformFault::Outside { trace });
     }
-    if let Some(trace) = refusing_trace(alloc, part, specified, &explored)? {
+    if let Some(place) = refusing_place(alloc, part, specified, explored.pairs())? {
+        let trace = explored.run_to(alloc, place)?;
         return Err(ConformFault::Refuses { trace });
     }
     Ok(())
@@ -48,99 +52,60 @@ fn followed(alloc: Global, part: &Part, specified: &Part) -> Result<Explored, No
     explore(alloc, part, rows.as_slice(), &follower)
 }
 
-// A run of the part that is none of its specification, but for its last event.
-fn outside_trace(
-    alloc: Global,
-    part: &Part,
-    specified: &Part,
-    explored: &Explored,
-) -> Result<Option<Trace>, NoMemory>
-    requires form { HasForm part.now }
-    requires specified_form { HasForm specified.now }
-    requires follows { Follows part.now specified.now explored.now }
-    ensures outside { IfOk result (λ found. IfSome found (RunsOutside part.now.table specified.now.table)) }
-    ensures none { IfOk result (λ found. IfNone found ((s : List ℕ) → IsRun part.now.table s → IsRun specified.now.table s)) }
+// The place of the first pair that is past the end of the specification.
+fn outside_place(specified: &Part, pairs: &[(u32, u32)]) -> Option<usize>
+    ensures outside { IfSome result (IsFirstOutside specified.now.table pairs.now) }
+    ensures none { IfNone result (AreInside specified.now.table pairs.now (length pairs.now)) }
 {
-    match outside_place(part, specified, explored.pairs()) {
-        Some(departure) => {
-            let trace = run_and(alloc, explored, departure)?;
-            Ok(Some(trace))
-        }
-        None => Ok(None),
-    }
-}
-
-// A run to the pair in this place, and the event after it.
-fn run_and(alloc: Global, explored: &Explored, departure: (usize, Event)) -> Result<Trace, NoMemory>
-    requires { departure.0 < length explored.now.pairs }
-    ensures { (table : List Node) (step : ℕ → ℕ → ℕ) (start : ℕ) → AreFound table step start explored.now
-        → IfOk result (λ made. (run : List ℕ) × LeadsTo table step start run (pair_at explored.now.pairs departure.0) × (made ≡ run ++ departure.1 ∷ [])) }
-{
-    let mut trace = explored.run_to(alloc, departure.0)?;
-    trace.push(departure.1)?;
-    Ok(trace)
-}
-
-// The place of a pair with an event that is possible at its first node and not at its second, if it has a second.
-fn outside_place(part: &Part, specified: &Part, pairs: &[(u32, u32)]) -> Option<(usize, Event)>
-    requires { HasForm specified.now }
-    ensures within { IfSome result (λ found. found.0 < length pairs.now) }
-    ensures leaves { IfSome result (λ found. LeavesAt part.now.table specified.now.table (pair_at pairs.now found.0) found.1) }
-    ensures none { IfNone result ((k : ℕ) → k < length pairs.now → StaysAt part.now.table specified.now.table (pair_at pairs.now k)) }
-{
+    let count = specified.table().len();
     for place in 0..pairs.len() {
-        if let Some(event) = outside_event(part, specified, pairs[place]) {
-            return Some((place, event));
-        }
-    }
-    None
-}
-
-// An event that is possible at the pair's first node and not at its second, if it has a second.
-fn outside_event(part: &Part, specified: &Part, pair: (u32, u32)) -> Option<Event>
-    requires { HasForm specified.now }
-    ensures leaves { IfSome result (LeavesAt part.now.table specified.now.table pair) }
-    ensures none { IfNone result (StaysAt part.now.table specified.now.table pair) }
-{
-    let Some(node) = node_of(part, pair.0) else {
-        return None;
-    };
-    let Some(other) = node_of(specified, pair.1) else {
-        return None;
-    };
-    lacking(node.next(), other.next())
-}
-
-// A run of the part after which an acceptance contains none of its specification.
-fn refusing_trace(
-    alloc: Global,
-    part: &Part,
-    specified: &Part,
-    explored: &Explored,
-) -> Result<Option<Trace>, NoMemory>
-    requires form { HasForm part.now }
-    requires specified_form { HasForm specified.now }
-    requires follows { Follows part.now specified.now explored.now }
-    requires inside { (s : List ℕ) → IsRun part.now.table s → IsRun specified.now.table s }
-    ensures refuses { IfOk result (λ found. IfSome found (RefusesAfter part.now.table specified.now.table)) }
-    ensures none { IfOk result (λ found. IfNone found (TableConforms part.now.table specified.now.table)) }
-{
-    let place = refusing_place(part, specified, explored.pairs());
-    explored.run_if_any(alloc, place)
-}
-
-// The place of a pair whose first node has an acceptance that contains none of the second, if it has a second.
-fn refusing_place(part: &Part, specified: &Part, pairs: &[(u32, u32)]) -> Option<usize>
-    ensures within { IfSome result (λ k. k < length pairs.now) }
-    ensures refuses { IfSome result (λ k. RefusesAt part.now.table specified.now.table (pair_at pairs.now k)) }
-    ensures none { IfNone result ((k : ℕ) → k < length pairs.now → AcceptsAt part.now.table specified.now.table (pair_at pairs.now k)) }
-{
-    for place in 0..pairs.len() {
-        if refuses_at(part, specified, pairs[place]) {
+        if pairs[place].1 as usize >= count {
             return Some(place);
         }
     }
     None
+}
+
+// The place of the first pair whose first node has an acceptance that contains none of the second, if it has a second.
+fn refusing_place(
+    alloc: Global,
+    part: &Part,
+    specified: &Part,
+    pairs: &[(u32, u32)],
+) -> Result<Option<usize>, NoMemory>
+    ensures within { IfOk result (λ found. IfSome found (λ k. k < length pairs.now)) }
+    ensures refuses { IfOk result (λ found. IfSome found (λ k. RefusesAt part.now.table specified.now.table (pair_at pairs.now k))) }
+    ensures none { IfOk result (λ found. IfNone found (AllAccept part.now.table specified.now.table pairs.now (length pairs.now))) }
+{
+    let lefts = alike_nodes(alloc, part)?;
+    let rights = alike_nodes(alloc, specified)?;
+    let mut accepted = Pairs::new(alloc);
+    for place in 0..pairs.len() {
+        let (left, right) = pairs[place];
+        let pair = (alike_number(&lefts, left), alike_number(&rights, right));
+        if refuses_newly(part, specified, &mut accepted, pair)? {
+            return Ok(Some(place));
+        }
+    }
+    Ok(None)
+}
+
+// Whether the pair is none of those that accept, and refuses. If not, it is one of these then.
+fn refuses_newly(
+    part: &Part,
+    specified: &Part,
+    accepted: &mut Pairs,
+    pair: (u32, u32),
+) -> Result<bool, NoMemory>
+    requires { AllAccept part.now.table specified.now.table accepted.old (length accepted.old) }
+    ensures refuses { IfOk result (λ refuses. OnTrue refuses (RefusesAt part.now.table specified.now.table pair)) }
+    ensures accepts { IfOk result (λ refuses. OnFalse refuses (AcceptsAt part.now.table specified.now.table pair)) }
+    ensures accepted { IfOk result (λ refuses. OnFalse refuses (AllAccept part.now.table specified.now.table accepted.new (length accepted.new))) }
+{
+    if !accepted.insert(pair)? {
+        return Ok(false);
+    }
+    Ok(refuses_at(part, specified, pair))
 }
 
 // Whether an acceptance of the pair's first node contains none of its second, if it has a second.

@@ -1,6 +1,7 @@
 //! Whether a component conforms to another one, its specification, decided over the normal tables of both; and what is told where it does not.
 #![tactic(auto)]
 
+mod alike;
 mod conforming;
 mod fault;
 mod follower;

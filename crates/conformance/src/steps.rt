@@ -1,10 +1,10 @@
 //! Steps and acceptances of one node against those of another.
 
-ghost use Rattle.std.specs.Prelude.{◌≡◌, ℕ, List, None, Some, IsTrue, IfNone, IfSome, MatchBool, if◌then◌else◌};
+ghost use Rattle.std.specs.Prelude.{◌≡◌, ℕ, List, None, Some, IsTrue, MatchBool, if◌then◌else◌};
 ghost use Rattle.csp_tables.specs.Form.{StepsHaveForm};
 ghost use Rattle.csp_tables.specs.Table.{is_possible, target};
 ghost use Rattle.conformance.specs.Conforming.{HasWithin};
-ghost use Rattle.conformance.specs.Finding.{AllContain, IsLacking, LacksNone, Refuses};
+ghost use Rattle.conformance.specs.Finding.{AllContain, Refuses};
 
 use csp_base::{Event, EventSet};
 
@@ -17,31 +17,6 @@ pub(crate) fn target_of(steps: &[(Event, u32)], event: Event) -> Option<u32>
         Ok(place) => Some(steps[place].1),
         Err(_) => None,
     }
-}
-
-// Whether the event is possible by the steps, whose events rise.
-fn is_possible(steps: &[(Event, u32)], event: Event) -> bool
-    requires { (alphabet : List ℕ) × (nodes : ℕ) × StepsHaveForm alphabet nodes steps.now }
-    ensures { result ≡ is_possible steps.now event }
-{
-    match target_of(steps, event) {
-        Some(_) => true,
-        None => false,
-    }
-}
-
-// An event that is possible by the steps and not by the others, whose events rise.
-pub(crate) fn lacking(steps: &[(Event, u32)], others: &[(Event, u32)]) -> Option<Event>
-    requires { (alphabet : List ℕ) × (nodes : ℕ) × StepsHaveForm alphabet nodes others.now }
-    ensures lacks { IfSome result (IsLacking steps.now others.now) }
-    ensures none { IfNone result (LacksNone steps.now others.now) }
-{
-    for step in steps {
-        if !is_possible(others, step.0) {
-            return Some(step.0);
-        }
-    }
-    None
 }
 
 // How many sets are looked through one by one before it is worth while to look for an equal one first.

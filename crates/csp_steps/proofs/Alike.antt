@@ -4,24 +4,21 @@ use Rattle.std.proofs.lemmas.Bool.{and_from, lt-ltb}
 use Rattle.std.specs.Prelude.{IfOk, IfSome, nat_lt, OnOk, Option, Result}
 use Rattle.std.specs.Result.{IsErrAnd}
 use Rattle.csp_base.specs.Lists.{StandsIn}
-use Rattle.csp_program.specs.Lists.{joined}
 use Rattle.csp_program.specs.Outcome.{Outcome, and_then}
 use Rattle.csp_program.specs.declared.kinds.ValueKind.{ValueKind}
 use Rattle.csp_program.specs.declared.processes.Proc.{Proc}
-use Rattle.csp_program.specs.declared.processes.Proc.TheOpen.{Proc-F}
-use Rattle.csp_program.specs.declared.processes.Proc.TheViews.{out-Proc}
 use Rattle.csp_program.specs.declared.programs.Content.{Content}
 use Rattle.process_steps.proofs.Members.{Among, placed}
-use Rattle.process_steps.specs.Needed.{events_in}
-use Rattle.process_steps.specs.Renaming.{renaming_in}
-use Rattle.process_steps.specs.StepList.{Move, in_hiding, in_renaming, in_sequence, steps_of}
+use Rattle.process_steps.specs.StepList.{Move, steps_of}
 use Rattle.value_operators.specs.declared.fault.EvalFault.{EvalFault}
 use Rattle.value_operators.specs.declared.fault.EvalFault.TheVariants as fault
-use Rattle.csp_steps.specs.Computed.{all_within, around, around_layer, AreAdded, AreEach, GivesEach, GivesLook, GivesMoves, IsListing}
+use Rattle.csp_steps.specs.Computed.{all_within, AreAdded, AreEach, GivesEach, GivesMoves, IsListing}
+use Rattle.csp_steps.specs.Effect.{all_moves, around, effect_of, moves_of}
 use Rattle.csp_steps.specs.Listed.{AreStepsOf, FaultIs, seen}
 use Rattle.csp_steps.specs.Order.{AreFirsts, AreFirstsAfter}
 use Rattle.csp_steps.specs.declared.step.StepTo.{StepTo}
-use Rattle.csp_steps.proofs.Firsts.{firsts_back, firsts_map, joined_firsts, map_firsts, stands_either, stands_none}
+use Rattle.csp_steps.proofs.Computing.{passed}
+use Rattle.csp_steps.proofs.Firsts.{firsts_back, firsts_map, joined_firsts, stands_either, stands_none}
 use Rattle.csp_steps.proofs.Places.{standing, within_of}
 use Rattle.term_pool.specs.Pooled.{AreDifferent}
 use Rattle.term_pool.specs.Trees.{tree_at}
@@ -47,26 +44,10 @@ then_alike : {A : Type 0} (o : Outcome A) (f g : A → List Move) → ((a : A) �
 then_alike (Ok a) f g h = h a
 then_alike (Err k) f g h = refl
 
-layer_alike : (p : Content) (d : Proc-F Proc) (xs ys : List Move) → AreFirsts xs ys → Alike (around_layer p d xs) (around_layer p d ys)
-layer_alike p (Proc-F.Hide q s) xs ys h =
-    then_alike (events_in p s) (λ hidden. map (λ m. in_hiding s hidden m.0 m.1) xs) (λ hidden. map (λ m. in_hiding s hidden m.0 m.1) ys) (λ hidden zs g. map_firsts (λ m. in_hiding s hidden m.0 m.1) xs ys [] zs h g)
-layer_alike p (Proc-F.Rename q pairs gens) xs ys h =
-    then_alike (renaming_in p pairs gens) (λ renamed. joined (map (λ m. in_renaming pairs gens renamed m.0 m.1) xs)) (λ renamed. joined (map (λ m. in_renaming pairs gens renamed m.0 m.1) ys)) (λ renamed zs g. joined_firsts (λ m. in_renaming pairs gens renamed m.0 m.1) xs [] ys [] zs h (λ x s. absurd (stands_none x s)) g)
-layer_alike p (Proc-F.Seq q r) xs ys h = λ zs g. map_firsts (λ m. in_sequence r m.0 m.1) xs ys [] zs h g
-layer_alike p Proc-F.Stop xs ys h = same_same []
-layer_alike p (Proc-F.Prefix hd fields q) xs ys h = same_same []
-layer_alike p (Proc-F.Guard c q) xs ys h = same_same []
-layer_alike p (Proc-F.If c q r) xs ys h = same_same []
-layer_alike p (Proc-F.External qs) xs ys h = same_same []
-layer_alike p (Proc-F.Internal qs) xs ys h = same_same []
-layer_alike p (Proc-F.EachExternal x s q) xs ys h = same_same []
-layer_alike p (Proc-F.EachInternal x s q) xs ys h = same_same []
-layer_alike p (Proc-F.Call d args) xs ys h = same_same []
-layer_alike p Proc-F.Skip xs ys h = same_same []
-layer_alike p Proc-F.Ended xs ys h = same_same []
-
 pub around_alike : (p : Content) (t : Proc) (xs ys : List Move) → AreFirsts xs ys → Alike (around p t xs) (around p t ys)
-around_alike p t xs ys h = layer_alike p (out-Proc t) xs ys h
+around_alike p t xs ys h =
+    then_alike (effect_of p t) (λ e. all_moves e t xs) (λ e. all_moves e t ys)
+    (λ e zs g. joined_firsts (λ m. moves_of e t m.0 m.1) xs [] ys [] zs h (λ x s. absurd (stands_none x s)) g)
 
 alike_fault : (o u : Outcome (List Move)) (k : ValueKind) → Alike o u → u ≡ Err k → o ≡ Err k
 alike_fault (Ok xs) (Ok ys) k h e = cc
@@ -146,13 +127,8 @@ module _ (p : Content) (t u : Proc) (whole : Outcome (List Move)) (moves : List 
   pub around_each : AreDifferent trees → (steps made : List StepTo) → IsListing trees steps (around p u (map (seen mid) slice)) → AreFirsts steps made → AreEach trees made whole
   around_each different steps made h once = once_each trees different steps made whole (around p u (map (seen mid) slice)) made_alike h once
 
-  around_gone : (f : EvalFault) → GivesMoves trees (Err f) (around p u (map (seen mid) slice)) → GivesEach trees (Err f) whole
-  around_gone fault.NoMemory h = tt
-  around_gone (fault.Value kind) h = alike_fault whole (around p u (map (seen mid) slice)) kind made_alike h
-
   pub around_passed : (r : Result (List StepTo) EvalFault) (f : EvalFault) → IsErrAnd r (λ y. y ≡ f) → GivesMoves trees (Err f) (around p u (map (seen mid) slice)) → GivesEach trees r whole
-  around_passed (Ok x) f is_err h = absurd is_err
-  around_passed (Err y) f is_err h = rw is_err (around_gone f h)
+  around_passed r f is h = passed _ r f (around p u (map (seen mid) slice)) whole is h (λ k e. alike_fault whole (around p u (map (seen mid) slice)) k made_alike e)
 
 -- the steps of a choice, in other words
 pub choice_each : (trees : List Proc) (steps slice : List StepTo) (o u w : Outcome (List Move)) → o ≡ u → slice ≡ steps → w ≡ o → AreEach trees steps u → AreEach trees slice w
@@ -165,25 +141,6 @@ known_each trees o found steps e h = subst (λ (f : Option (List StepTo)). IfSom
 -- what is said of a success
 pub on_ok_of : {A E : Type 0} (r : Result A E) (x : A) (P : Type 0) → r ≡ Ok x → OnOk r P → P
 on_ok_of {E = E} r x P e h = subst (λ (z : Result _ E). OnOk z P) e h
-
--- ---- faults that are handed on
-
-each_gone : (trees mid : List Proc) (f : EvalFault) (part whole : Outcome (List Move)) → GivesEach mid (Err f) part → ((k : ValueKind) → part ≡ Err k → whole ≡ Err k) → GivesEach trees (Err f) whole
-each_gone trees mid fault.NoMemory part whole h passes = tt
-each_gone trees mid (fault.Value kind) part whole h passes = passes kind h
-
-pub each_passed : (trees mid : List Proc) (r : Result (List StepTo) EvalFault) (f : EvalFault) (part whole : Outcome (List Move))
-    → IsErrAnd r (λ y. y ≡ f) → GivesEach mid (Err f) part → ((k : ValueKind) → part ≡ Err k → whole ≡ Err k) → GivesEach trees r whole
-each_passed trees mid (Ok x) f part whole is h passes = absurd is
-each_passed trees mid (Err y) f part whole is h passes = rw is (each_gone trees mid f part whole h passes)
-
-look_gone : (p : Content) (trees mid : List Proc) (t : Proc) (f : EvalFault) → GivesLook p mid (Err f) t → GivesEach trees (Err f) (steps_of p t)
-look_gone p trees mid t fault.NoMemory h = tt
-look_gone p trees mid t (fault.Value _) h = h
-
-pub looks_passed : (p : Content) (trees mid : List Proc) (t : Proc) (r : Result (List StepTo) EvalFault) (f : EvalFault) → IsErrAnd r (λ y. y ≡ f) → GivesLook p mid (Err f) t → GivesEach trees r (steps_of p t)
-looks_passed p trees mid t (Ok x) f is h = absurd is
-looks_passed p trees mid t (Err y) f is h = rw is (look_gone p trees mid t f h)
 
 pub same_each : (trees : List Proc) (r : Result (List StepTo) EvalFault) (o u : Outcome (List Move)) → o ≡ u → GivesEach trees r u → GivesEach trees r o
 same_each trees r o u e h = subst (GivesEach trees r) (sym e) h

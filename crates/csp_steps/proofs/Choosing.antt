@@ -6,7 +6,7 @@ use Rattle.std.proofs.lemmas.Option.{slice_get_within}
 use Rattle.std.specs.Cmp.{first_so, second_so}
 use Rattle.csp_program.specs.Depth.{proc_depth}
 use Rattle.csp_program.specs.Outcome.{Outcome, and_then}
-use Rattle.csp_program.specs.Substitution.{proc_with}
+use Rattle.csp_program.specs.Substitution.{one, proc_with}
 use Rattle.csp_program.specs.declared.kinds.ValueKind.{ValueKind}
 use Rattle.csp_atoms.specs.declared.atom.Atom.{Atom}
 use Rattle.csp_atoms.specs.declared.value.Value.TheVariants.{One}
@@ -59,15 +59,15 @@ choice_end p qs trees numbered made i past h is = subst (λ (ss : List StepTo). 
 -- the processes with one more value put in
 module _ (old mid new : List Proc) (f : IsFront old mid) (g : IsFront mid new) (id : ProcId) (within : id.0 < length old) where
   pub next_put : (x : ℕ) (atoms : List Atom) (i : ℕ) (a : Atom) → i < length atoms → a ≡ get_or atoms i a → (ids more : List ProcId) (made : ProcId)
-      → AreAt mid ids (each_put x (take i atoms) (tree_at old id)) → slice_get new made.0 ≡ Some (proc_with x (One a) (tree_at mid id)) → more ≡ ids ++ made ∷ []
+      → AreAt mid ids (each_put x (take i atoms) (tree_at old id)) → slice_get new made.0 ≡ Some (proc_with (one x (One a)) (tree_at mid id)) → more ≡ ids ++ made ∷ []
       → AreAt new more (each_put x (take (i + 1) atoms) (tree_at old id))
   next_put x atoms i a lt is ids more made h process grown =
       let q = tree_at old id in
-      let all : each_put x (take (i + 1) atoms) q ≡ each_put x (take i atoms) q ++ proc_with x (One a) q ∷ [] =
-      ap (λ xs. each_put x xs q) (take_read atoms i a lt is) ∙ map_push (λ b. proc_with x (One b) q) (take i atoms) a in
-      let here : slice_get new made.0 ≡ Some (proc_with x (One a) q) = process ∙ ap (λ (t : Proc). Some (proc_with x (One a) t)) (tree_stays old mid f id within) in
+      let all : each_put x (take (i + 1) atoms) q ≡ each_put x (take i atoms) q ++ proc_with (one x (One a)) q ∷ [] =
+      ap (λ xs. each_put x xs q) (take_read atoms i a lt is) ∙ map_push (λ b. proc_with (one x (One b)) q) (take i atoms) a in
+      let here : slice_get new made.0 ≡ Some (proc_with (one x (One a)) q) = process ∙ ap (λ (t : Proc). Some (proc_with (one x (One a)) t)) (tree_stays old mid f id within) in
       subst (λ (qs : List ProcId). AreAt new qs (each_put x (take (i + 1) atoms) q)) (sym grown)
-      (subst (λ (ts : List Proc). AreAt new (ids ++ made ∷ []) ts) (sym all) (one_place new ids (each_put x (take i atoms) q) made (proc_with x (One a) q) (at_stay mid new g ids (each_put x (take i atoms) q) h) here))
+      (subst (λ (ts : List Proc). AreAt new (ids ++ made ∷ []) ts) (sym all) (one_place new ids (each_put x (take i atoms) q) made (proc_with (one x (One a)) q) (at_stay mid new g ids (each_put x (take i atoms) q) h) here))
 
 pub all_put : (new : List Proc) (x : ℕ) (atoms : List Atom) (q : Proc) (ids : List ProcId) (i : ℕ) → length atoms ≤ i → AreAt new ids (each_put x (take i atoms) q) → AreAt new ids (each_put x atoms q)
 all_put new x atoms q ids i past h = subst (λ (xs : List Atom). AreAt new ids (each_put x xs q)) (take_all i atoms past) h

@@ -7,14 +7,15 @@ use Rattle.csp_program.specs.Outcome.{Outcome}
 use Rattle.csp_program.specs.declared.kinds.ValueKind.{ValueKind}
 use Rattle.csp_program.specs.declared.processes.Proc.{Proc}
 use Rattle.csp_program.specs.declared.programs.Content.{Content}
-use Rattle.process_steps.specs.StepList.{Move, steps_of}
+use Rattle.process_steps.specs.StepList.{Move}
 use Rattle.term_pool.specs.Pooled.{IsFront}
 use Rattle.value_operators.specs.Gives.{Gives}
 use Rattle.value_operators.specs.declared.fault.EvalFault.{EvalFault}
 use Rattle.value_operators.specs.declared.fault.EvalFault.TheVariants as fault
-use Rattle.csp_steps.specs.Computed.{AreMoves, GivesLook, GivesMoves, GivesPlace, IsListing, IsMove}
+use Rattle.process_steps.specs.Ways.{Among}
+use Rattle.step_values.specs.Starts.{GivesStart}
+use Rattle.csp_steps.specs.Computed.{Answers, AreMoves, GivesMoves, IsFault, IsListing, IsMove}
 use Rattle.csp_steps.specs.Listed.{seen}
-use Rattle.csp_steps.specs.declared.look.Look.{Look}
 use Rattle.csp_steps.specs.declared.step.StepTo.{StepTo}
 use Rattle.step_values.proofs.Lists.{joined_push}
 use Rattle.csp_steps.proofs.Places.{moves_stay, one_move}
@@ -28,35 +29,34 @@ listing trees steps moves o e h = record { same = e ∙ ap (λ ms. Ok ms) (sym h
 pub same_moves : (trees : List Proc) (r : Result (List StepTo) EvalFault) (o o' : Outcome (List Move)) → o ≡ o' → GivesMoves trees r o' → GivesMoves trees r o
 same_moves trees r o o' e h = subst (GivesMoves trees r) (sym e) h
 
-look_gone : {A : Type 0} (p : Content) (trees : List Proc) (t : Proc) (f : EvalFault) (part : Outcome A) → Gives {A = A} (Err f) part
-    → ((k : ValueKind) → part ≡ Err k → steps_of p t ≡ Err k) → GivesLook p trees (Err f) t
-look_gone p trees t fault.NoMemory part h passes = tt
-look_gone p trees t (fault.Value kind) part h passes = passes kind h
+-- ---- faults that are handed on
 
-pub look_passed : {A : Type 0} (p : Content) (trees : List Proc) (t : Proc) (r : Result Look EvalFault) (f : EvalFault) (part : Outcome A)
-    → IsErrAnd r (λ y. y ≡ f) → Gives {A = A} (Err f) part → ((k : ValueKind) → part ≡ Err k → steps_of p t ≡ Err k) → GivesLook p trees r t
-look_passed p trees t (Ok x) f part is h passes = absurd is
-look_passed p trees t (Err y) f part is h passes = rw is (look_gone p trees t f part h passes)
+faulty : {C D : Type 0} (f : EvalFault) (part : Outcome C) (whole : Outcome D) → IsFault f part → ((k : ValueKind) → part ≡ Err k → whole ≡ Err k) → IsFault f whole
+faulty fault.NoMemory part whole h passes = tt
+faulty (fault.Value kind) part whole h passes = passes kind h
 
-steps_gone : (p : Content) (trees mid : List Proc) (t : Proc) (f : EvalFault) (part : Outcome (List Move)) → GivesMoves mid (Err f) part
-    → ((k : ValueKind) → part ≡ Err k → steps_of p t ≡ Err k) → GivesLook p trees (Err f) t
-steps_gone p trees mid t fault.NoMemory part h passes = tt
-steps_gone p trees mid t (fault.Value kind) part h passes = passes kind h
+pub passed : {B C D : Type 0} (Fine : B → Type 0) (r : Result B EvalFault) (f : EvalFault) (part : Outcome C) (whole : Outcome D) → IsErrAnd r (λ y. y ≡ f) → IsFault f part
+    → ((k : ValueKind) → part ≡ Err k → whole ≡ Err k) → Answers Fine r whole
+passed Fine (Ok x) f part whole is h passes = absurd is
+passed Fine (Err y) f part whole is h passes = rw is (faulty f part whole h passes)
 
-pub steps_passed : (p : Content) (trees mid : List Proc) (t : Proc) (r : Result Look EvalFault) (f : EvalFault) (part : Outcome (List Move))
-    → IsErrAnd r (λ y. y ≡ f) → GivesMoves mid (Err f) part → ((k : ValueKind) → part ≡ Err k → steps_of p t ≡ Err k) → GivesLook p trees r t
-steps_passed p trees mid t (Ok x) f part is h passes = absurd is
-steps_passed p trees mid t (Err y) f part is h passes = rw is (steps_gone p trees mid t f part h passes)
+-- the same after a call that gives a value
+pub value_passed : {A B D : Type 0} (Fine : B → Type 0) (r : Result B EvalFault) (f : EvalFault) (part : Outcome A) (whole : Outcome D) → IsErrAnd r (λ y. y ≡ f) → Gives {A = A} (Err f) part
+    → ((k : ValueKind) → part ≡ Err k → whole ≡ Err k) → Answers Fine r whole
+value_passed {A = A} Fine r f part whole is h passes = passed Fine r f part whole is (is_fault f part h) passes
+  where
+    is_fault : (e : EvalFault) (o : Outcome A) → Gives {A = A} (Err e) o → IsFault e o
+    is_fault fault.NoMemory o g = tt
+    is_fault (fault.Value kind) o g = g
 
-place_gone : (p : Content) (trees mid : List Proc) (t : Proc) (f : EvalFault) (part : Outcome Proc) → GivesPlace mid (Err f) part
-    → ((k : ValueKind) → part ≡ Err k → steps_of p t ≡ Err k) → GivesLook p trees (Err f) t
-place_gone p trees mid t fault.NoMemory part h passes = tt
-place_gone p trees mid t (fault.Value kind) part h passes = passes kind h
-
-pub place_passed : (p : Content) (trees mid : List Proc) (t : Proc) (r : Result Look EvalFault) (f : EvalFault) (part : Outcome Proc)
-    → IsErrAnd r (λ y. y ≡ f) → GivesPlace mid (Err f) part → ((k : ValueKind) → part ≡ Err k → steps_of p t ≡ Err k) → GivesLook p trees r t
-place_passed p trees mid t (Ok x) f part is h passes = absurd is
-place_passed p trees mid t (Err y) f part is h passes = rw is (place_gone p trees mid t f part h passes)
+-- and after one that looks for a head
+pub start_passed : {B D : Type 0} (p : Content) (Fine : B → Type 0) (r : Result B EvalFault) (f : EvalFault) (part : Outcome Among) (whole : Outcome D) → IsErrAnd r (λ y. y ≡ f) → GivesStart p (Err f) part
+    → ((k : ValueKind) → part ≡ Err k → whole ≡ Err k) → Answers Fine r whole
+start_passed p Fine r f part whole is h passes = passed Fine r f part whole is (is_fault f part h) passes
+  where
+    is_fault : (e : EvalFault) (o : Outcome Among) → GivesStart p (Err e) o → IsFault e o
+    is_fault fault.NoMemory o g = tt
+    is_fault (fault.Value kind) o g = g
 
 -- the next of some steps, in a list that has grown
 module _ (old mid new : List Proc) (front : IsFront mid new) (below : List StepTo) (i : ℕ) (s : StepTo) (lt : i < length below) (is : s ≡ get_or below i s) where

@@ -2,13 +2,14 @@
 use Rattle.std.proofs.Common.{◌≡◌, ℕ, Option, Some, List, slice_get, ap, sym, ◌∙◌, subst}
 use Rattle.csp_atoms.specs.declared.value.Value.{Value}
 use Rattle.csp_program.specs.Outcome.{Outcome}
+use Rattle.csp_program.specs.Substitution.{given_by, proc_with}
+use Rattle.csp_program.specs.Value.{bound_to}
 use Rattle.csp_program.specs.declared.processes.Proc.{Proc}
 use Rattle.csp_program.specs.declared.programs.Body.{Body}
 use Rattle.csp_program.specs.declared.programs.Body.TheVariants as body
 use Rattle.csp_program.specs.declared.programs.Content.{Content}
 use Rattle.csp_program.specs.declared.programs.Def.{Def}
 use Rattle.process_steps.specs.Needed.{called, process_of}
-use Rattle.substitution.specs.Several.{with_values}
 use Rattle.term_pool.proofs.PutLemmas.{at}
 use Rattle.term_pool.specs.Trees.{tree_at}
 use Rattle.pool_parts.specs.declared.place.ProcId.{ProcId}
@@ -21,7 +22,7 @@ pub body_is : (p : Content) (d : ℕ) (def : Def) (q : Proc) → slice_get p.def
 body_is p d def q e f = ap body_of e ∙ ap process_body f
 
 pub entered : (p : Content) (mid new : List Proc) (d : ℕ) (def : Def) (q : Proc) (params : List ℕ) (vs : List Value) (id made : ProcId) → slice_get p.defs d ≡ Some def → def.body ≡ body.Process q → params ≡ def.params
-    → slice_get mid id.0 ≡ Some q → slice_get new made.0 ≡ Some (with_values params vs (tree_at mid id)) → IsPlaceOf new made (called (slice_get p.defs d) vs)
+    → slice_get mid id.0 ≡ Some q → slice_get new made.0 ≡ Some (proc_with (given_by (bound_to params vs)) (tree_at mid id)) → IsPlaceOf new made (called (slice_get p.defs d) vs)
 entered p mid new d def q params vs id made e f same g h =
     subst (λ (o : Outcome Proc). IsPlaceOf new made o) (sym (ap (λ (o : Option Def). called o vs) e ∙ ap (λ (b : Body). process_of def.params b vs) f))
-    (found new made (with_values def.params vs q) (h ∙ (λ i. Some (with_values (same i) vs (at mid id q g i)))))
+    (found new made (proc_with (given_by (bound_to def.params vs)) q) (h ∙ (λ i. Some (proc_with (given_by (bound_to (same i) vs)) (at mid id q g i)))))

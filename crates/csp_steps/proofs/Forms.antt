@@ -1,5 +1,5 @@
 -- The steps of each form of a process, as a look at it finds them, and how deep the processes below it are.
-use Rattle.std.proofs.Common.{◌≡◌, ℕ, suc, ◌<◌, ◌≤◌, true, false, if◌then◌else◌, Ok, Err, List, [], ◌∷◌, map, length, slice_get, refl, ap, sym, ◌∙◌, subst, arith}
+use Rattle.std.proofs.Common.{◌≡◌, ℕ, suc, ◌<◌, true, false, if◌then◌else◌, Ok, Err, List, [], ◌∷◌, map, length, slice_get, refl, ap, sym, ◌∙◌, subst, arith}
 use Rattle.std.proofs.lemmas.Bool.{ltb-true, lt-ltb, and_from}
 use Rattle.std.specs.Cmp.{first_so, second_so}
 use Rattle.std.specs.Prelude.{Result, nat_lt}
@@ -17,12 +17,12 @@ use Rattle.csp_program.specs.declared.processes.Head.{Head}
 use Rattle.csp_program.specs.declared.processes.Proc.{Proc}
 use Rattle.csp_program.specs.declared.processes.Proc.TheOpen.{Proc-F}
 use Rattle.csp_program.specs.declared.processes.Proc.TheVariants as proc
-use Rattle.csp_program.specs.declared.processes.Proc.TheViews.{out-Proc}
 use Rattle.csp_program.specs.declared.programs.Content.{Content}
-use Rattle.process_steps.proofs.Depths.{depth_of_out, layer_depth, put_depth}
+use Rattle.process_steps.proofs.Depths.{depth_of, layer_depth, put_depths}
 use Rattle.process_steps.proofs.Equations as forms
 use Rattle.process_steps.specs.Needed.{arguments_in, called, set_in, truth_in}
-use Rattle.process_steps.specs.Prefix.{Choice, of_head, ways_to_fill}
+use Rattle.csp_program.specs.Substitution.{given_by, proc_with}
+use Rattle.process_steps.specs.Ways.{Among, event_among, of_head, sets_among, ways_to_fill}
 use Rattle.process_steps.specs.Step.{each_put}
 use Rattle.process_steps.specs.StepList.{silent_to, some_silent_to, steps_of, steps_of_choice}
 use Rattle.process_steps.specs.declared.label.Label.{Label}
@@ -33,54 +33,47 @@ use Rattle.pool_parts.specs.declared.place.ProcId.{ProcId}
 use Rattle.value_operators.specs.declared.fault.EvalFault.{EvalFault}
 use Rattle.step_values.specs.Starts.{IsStart}
 use Rattle.step_values.specs.declared.heads.Start.{Start}
-use Rattle.csp_steps.specs.Walked.{ways_by_number}
+use Rattle.csp_steps.specs.Walked.{filled, ways_by_number}
+use Rattle.csp_steps.proofs.Effects.{around_hide, around_rename, around_sequence}
 use Rattle.csp_steps.proofs.Numbered.{moves_by_number}
-use Rattle.csp_steps.specs.Computed.{all_within, around_layer, AreAround, AreAt, AreOfChoice, AreThoseAt, filled, GivesLook, IsListing, IsPlaceOf}
+use Rattle.csp_steps.specs.Computed.{all_within, AreAround, AreAt, AreOfChoice, AreThoseAt, GivesLook, IsListing, IsPlaceOf}
 use Rattle.csp_steps.specs.Listed.{seen}
 use Rattle.csp_steps.specs.declared.look.Look.{Look}
 use Rattle.csp_steps.specs.declared.step.StepTo.{StepTo}
 use Rattle.term_pool.proofs.TreeLemmas.{all_below_more}
 use Rattle.csp_base.specs.Lists.{greatest}
 
-depth_of : (t : Proc) (d : Proc-F Proc) → out-Proc t ≡ d → proc_depth t ≡ layer_depth d
-depth_of t d e = depth_of_out t ∙ ap layer_depth e
-
 less-Guard : (c : Expr) (q : Proc) → proc_depth q < proc_depth (proc.Guard c q)
 unfolding layer_depth
-less-Guard c q = let e = depth_of (proc.Guard c q) (Proc-F.Guard c q) (forms.layer-Guard c q) in omega (arith, e)
+less-Guard c q = let e = depth_of (proc.Guard c q) (Proc-F.Guard c q) (proc.rolls-Guard c q) in omega (arith, e)
 
 less-If : (c : Expr) (q r : Proc) → proc_depth q < proc_depth (proc.If c q r)
 unfolding layer_depth
-less-If c q r = let e = depth_of (proc.If c q r) (Proc-F.If c q r) (forms.layer-If c q r) in omega (arith, e)
+less-If c q r = let e = depth_of (proc.If c q r) (Proc-F.If c q r) (proc.rolls-If c q r) in omega (arith, e)
 
 less-If-second : (c : Expr) (q r : Proc) → proc_depth r < proc_depth (proc.If c q r)
 unfolding layer_depth
-less-If-second c q r = let e = depth_of (proc.If c q r) (Proc-F.If c q r) (forms.layer-If c q r) in omega (arith, e)
+less-If-second c q r = let e = depth_of (proc.If c q r) (Proc-F.If c q r) (proc.rolls-If c q r) in omega (arith, e)
 
 less-External : (qs : List Proc) → greatest (map proc_depth qs) < proc_depth (proc.External qs)
 unfolding layer_depth
-less-External qs = let e = depth_of (proc.External qs) (Proc-F.External qs) (forms.layer-External qs) in omega (arith, e)
+less-External qs = let e = depth_of (proc.External qs) (Proc-F.External qs) (proc.rolls-External qs) in omega (arith, e)
 
 less-EachExternal : (x : ℕ) (s : Expr) (q : Proc) → proc_depth q < proc_depth (proc.EachExternal x s q)
 unfolding layer_depth
-less-EachExternal x s q = let e = depth_of (proc.EachExternal x s q) (Proc-F.EachExternal x s q) (forms.layer-EachExternal x s q) in omega (arith, e)
+less-EachExternal x s q = let e = depth_of (proc.EachExternal x s q) (Proc-F.EachExternal x s q) (proc.rolls-EachExternal x s q) in omega (arith, e)
 
 less-Hide : (q : Proc) (s : Expr) → proc_depth q < proc_depth (proc.Hide q s)
 unfolding layer_depth
-less-Hide q s = let e = depth_of (proc.Hide q s) (Proc-F.Hide q s) (forms.layer-Hide q s) in omega (arith, e)
+less-Hide q s = let e = depth_of (proc.Hide q s) (Proc-F.Hide q s) (proc.rolls-Hide q s) in omega (arith, e)
 
 less-Rename : (q : Proc) (pairs : List (EventPart × EventPart)) (gens : List Gen) → proc_depth q < proc_depth (proc.Rename q pairs gens)
 unfolding layer_depth
-less-Rename q pairs gens = let e = depth_of (proc.Rename q pairs gens) (Proc-F.Rename q pairs gens) (forms.layer-Rename q pairs gens) in omega (arith, e)
+less-Rename q pairs gens = let e = depth_of (proc.Rename q pairs gens) (Proc-F.Rename q pairs gens) (proc.rolls-Rename q pairs gens) in omega (arith, e)
 
 less-Seq : (q r : Proc) → proc_depth q < proc_depth (proc.Seq q r)
 unfolding layer_depth
-less-Seq q r = let e = depth_of (proc.Seq q r) (Proc-F.Seq q r) (forms.layer-Seq q r) in omega (arith, e)
-
--- no process with a value put in is deeper than it was
-put_depths : (x : ℕ) (q : Proc) (atoms : List Atom) → greatest (map proc_depth (each_put x atoms q)) ≤ proc_depth q
-put_depths x q [] = omega arith
-put_depths x q (a ∷ atoms) = let e = put_depth x a q in let rest = put_depths x q atoms in omega (arith, e, rest)
+less-Seq q r = let e = depth_of (proc.Seq q r) (Proc-F.Seq q r) (proc.rolls-Seq q r) in omega (arith, e)
 
 module _ (p : Content) where
   -- a guard
@@ -209,45 +202,45 @@ module _ (p : Content) where
   ended trees = record { same = forms.steps-Ended p; within = refl }
 
   -- a prefix
-  prefix_steps : (h : Head) (fields : List Field) (q : Proc) (start : Start) (choice : Choice) → of_head p h ≡ Ok choice → IsStart start choice
-      → steps_of p (proc.Prefix h fields q) ≡ filled [] start.first (ways_by_number p start.sets.now fields q 0)
-  prefix_steps h fields q start choice e is =
+  prefix_steps : (h : Head) (fields : List Field) (q : Proc) (start : Start) (among : Among) → of_head p h ≡ Ok among → IsStart p start among
+      → steps_of p (proc.Prefix h fields q) ≡ filled [] start.first q (ways_by_number p start.sets.now fields [] 0)
+  prefix_steps h fields q start among e is =
       forms.steps-Prefix p h fields q ∙
-      ap (λ o. and_then o (λ found. and_then (ways_to_fill p found.sets fields q []) (λ ways. Ok (map (λ w. (Visible (found.event w.0), w.1)) ways)))) e ∙
-      ap (λ sets. and_then (ways_to_fill p sets fields q []) (λ ways. Ok (map (λ w. (Visible (choice.event w.0), w.1)) ways))) is.sets ∙
-      moves_by_number p choice.event start.first start.sets.now fields q is.event is.few
+      ap (λ o. and_then o (λ found. and_then (ways_to_fill p (sets_among found) fields [] []) (λ ways. Ok (map (λ w. (Visible (event_among p found w.1), proc_with (given_by w.0) q)) ways)))) e ∙
+      ap (λ sets. and_then (ways_to_fill p sets fields [] []) (λ ways. Ok (map (λ w. (Visible (event_among p among w.1), proc_with (given_by w.0) q)) ways))) is.sets ∙
+      moves_by_number p (event_among p among) start.first q start.sets.now fields is.event is.few
 
-  pub prefix : (trees : List Proc) (steps : List StepTo) (h : Head) (fields : List Field) (q : Proc) (start : Start) (choice : Choice) → of_head p h ≡ Ok choice → IsStart start choice
-      → IsListing trees steps (filled [] start.first (ways_by_number p start.sets.now fields q 0)) → IsListing trees steps (steps_of p (proc.Prefix h fields q))
-  prefix trees steps h fields q start choice e from is = record { same = prefix_steps h fields q start choice e from ∙ is.same; within = is.within }
+  pub prefix : (trees : List Proc) (steps : List StepTo) (h : Head) (fields : List Field) (q : Proc) (start : Start) (among : Among) → of_head p h ≡ Ok among → IsStart p start among
+      → IsListing trees steps (filled [] start.first q (ways_by_number p start.sets.now fields [] 0)) → IsListing trees steps (steps_of p (proc.Prefix h fields q))
+  prefix trees steps h fields q start among e from is = record { same = prefix_steps h fields q start among e from ∙ is.same; within = is.within }
 
-  pub prefix_fault : (h : Head) (fields : List Field) (q : Proc) (start : Start) (choice : Choice) (k : ValueKind) → of_head p h ≡ Ok choice → IsStart start choice
-      → filled [] start.first (ways_by_number p start.sets.now fields q 0) ≡ Err k → steps_of p (proc.Prefix h fields q) ≡ Err k
-  prefix_fault h fields q start choice k e from is = prefix_steps h fields q start choice e from ∙ is
+  pub prefix_fault : (h : Head) (fields : List Field) (q : Proc) (start : Start) (among : Among) (k : ValueKind) → of_head p h ≡ Ok among → IsStart p start among
+      → filled [] start.first q (ways_by_number p start.sets.now fields [] 0) ≡ Err k → steps_of p (proc.Prefix h fields q) ≡ Err k
+  prefix_fault h fields q start among k e from is = prefix_steps h fields q start among e from ∙ is
 
   pub head_fault : (h : Head) (fields : List Field) (q : Proc) (k : ValueKind) → of_head p h ≡ Err k → steps_of p (proc.Prefix h fields q) ≡ Err k
   head_fault h fields q k e =
       forms.steps-Prefix p h fields q ∙
-      ap (λ o. and_then o (λ found. and_then (ways_to_fill p found.sets fields q []) (λ ways. Ok (map (λ w. (Visible (found.event w.0), w.1)) ways)))) e
+      ap (λ o. and_then o (λ found. and_then (ways_to_fill p (sets_among found) fields [] []) (λ ways. Ok (map (λ w. (Visible (event_among p found w.1), proc_with (given_by w.0) q)) ways)))) e
 
   -- operators round one process
   pub hide : (trees : List Proc) (id : ProcId) (s : Expr) → id.0 < length trees → AreAround p trees id (proc.Hide (tree_at trees id) s)
   hide trees id s within = record {
-    same = forms.steps-Hide p (tree_at trees id) s ∙ ap (λ d. and_then (steps_of p (tree_at trees id)) (around_layer p d)) (sym (forms.layer-Hide (tree_at trees id) s));
+    same = forms.steps-Hide p (tree_at trees id) s ∙ (λ i. and_then (steps_of p (tree_at trees id)) (λ moves. around_hide p (tree_at trees id) moves s i));
     within = within;
     less = less-Hide (tree_at trees id) s;
   }
 
   pub rename : (trees : List Proc) (id : ProcId) (pairs : List (EventPart × EventPart)) (gens : List Gen) → id.0 < length trees → AreAround p trees id (proc.Rename (tree_at trees id) pairs gens)
   rename trees id pairs gens within = record {
-    same = forms.steps-Rename p (tree_at trees id) pairs gens ∙ ap (λ d. and_then (steps_of p (tree_at trees id)) (around_layer p d)) (sym (forms.layer-Rename (tree_at trees id) pairs gens));
+    same = forms.steps-Rename p (tree_at trees id) pairs gens ∙ (λ i. and_then (steps_of p (tree_at trees id)) (λ moves. around_rename p (tree_at trees id) moves pairs gens i));
     within = within;
     less = less-Rename (tree_at trees id) pairs gens;
   }
 
   pub sequence : (trees : List Proc) (id : ProcId) (r : Proc) → id.0 < length trees → AreAround p trees id (proc.Seq (tree_at trees id) r)
   sequence trees id r within = record {
-    same = forms.steps-Seq p (tree_at trees id) r ∙ ap (λ d. and_then (steps_of p (tree_at trees id)) (around_layer p d)) (sym (forms.layer-Seq (tree_at trees id) r));
+    same = forms.steps-Seq p (tree_at trees id) r ∙ (λ i. and_then (steps_of p (tree_at trees id)) (λ moves. around_sequence p (tree_at trees id) moves r i));
     within = within;
     less = less-Seq (tree_at trees id) r;
   }

@@ -2,15 +2,14 @@ pub mod Alike
 pub mod Choosing
 pub mod Computing
 pub mod Doubles
+pub mod Effects
 pub mod Entering
 pub mod Firsts
 pub mod Forms
 pub mod Looking
 pub mod Noting
 pub mod Numbered
-pub mod Own
 pub mod Places
 pub mod Rounds
 pub mod Targets
-pub mod Under
 pub mod Walking

@@ -1,31 +1,29 @@
 -- What is kept of evaluations stays true where the pool grows, and where more is kept.
-use Rattle.std.proofs.Common.{◌≡◌, ◌⊎◌, ℕ, zero, suc, ◌<◌, Bool, true, false, cond, nat_eq, Option, Some, None, Ok, Err, List, [], ◌∷◌, ◌++◌, length, get_or, slice_get, refl, ap, sym, ◌∙◌, subst, inl, inr}
+use Rattle.std.proofs.Common.{◌≡◌, ℕ, ◌<◌, Bool, true, false, cond, nat_eq, Option, Some, None, Ok, Err, List, [], ◌∷◌, ◌++◌, length, slice_get, refl, ap, sym, ◌∙◌, subst}
 use Rattle.std.proofs.lemmas.Bool.{eqb-true}
-use Rattle.std.proofs.lemmas.Option.{slice_get-get_or}
 use Rattle.std.specs.HashMap.{HashMap, get, IsEmpty, Updates}
 use Rattle.std.specs.Map.{lookup}
 use Rattle.std.specs.Prelude.{OnOk, Result}
 use Rattle.containers.proofs.MembersLemmas.{slice_get-append_left}
 use Rattle.csp_program.specs.Outcome.{Outcome}
 use Rattle.csp_program.specs.declared.processes.Proc.{Proc}
-use Rattle.csp_program.specs.declared.processes.Proc.TheOpen.{Proc-F}
-use Rattle.csp_program.specs.declared.processes.Proc.TheViews.{out-Proc}
 use Rattle.csp_program.specs.declared.programs.Content.{Content}
-use Rattle.process_steps.specs.Renaming.{Renamed}
 use Rattle.process_steps.specs.StepList.{Move, steps_of}
-use Rattle.process_steps.specs.declared.label.Label.TheVariants.{Tick}
-use Rattle.step_values.specs.Images.{KeepsOutcome}
-use Rattle.step_values.specs.declared.images.Images.{Images}
 use Rattle.term_pool.proofs.PutLemmas.{at}
+use Rattle.term_pool.specs.First.{with_first}
 use Rattle.term_pool.specs.Pooled.{IsFront}
 use Rattle.term_pool.specs.Trees.{tree_at}
 use Rattle.pool_parts.specs.declared.place.ProcId.{ProcId}
 use Rattle.csp_steps.specs.Computed.{AreEach}
 use Rattle.csp_steps.specs.Order.{AreFirsts}
-use Rattle.csp_steps.specs.Evaluated.{body_of, AreBodies, AreNoted, AreStepped, Fits, HasMoreNumbers, HasValue, Hides, IsNumbered, LeadOn, Renames, StandsAs, hidden_by, renamed_by}
+use Rattle.csp_steps.specs.Effect.{Does}
+use Rattle.csp_steps.specs.Evaluated.{body_of, AreBodies, AreKept, AreNoted, Fits, HasNumber, HasValue, IsNumbered, StandsAs}
+use Rattle.csp_steps.specs.declared.around.Round.{Round}
 use Rattle.csp_steps.specs.declared.evaluated.Evaluated.{Evaluated}
+use Rattle.csp_steps.specs.declared.operator.Operator.{Operator}
 use Rattle.csp_steps.specs.declared.step.StepTo.{StepTo}
-use Rattle.csp_steps.proofs.Places.{all_within_stay, front_both, seen_stay, standing}
+use Rattle.csp_steps.proofs.Effects.{does_kept, does_stay}
+use Rattle.csp_steps.proofs.Places.{all_within_stay, front_both, seen_stay, standing, tree_stays}
 use Rattle.csp_base.proofs.Lists.{slice_get_last}
 
 -- one key more has a number
@@ -51,36 +49,41 @@ stands_stay old new front q P h = record { process = h.process; stands = front q
 pub pushed_at : {T : Type 0} (values more : List T) (x : T) (k : ℕ) → more ≡ values ++ x ∷ [] → k ≡ length values → slice_get more k ≡ Some x
 pushed_at values more x k grown last = (λ i. slice_get (grown i) (last i)) ∙ slice_get_last values x
 
--- at the place stands a process that comes to the value
-abbrev ComesTo : {T : Type 0} → (Proc-F Proc → T → Type 0) → List Proc → ℕ → T → Type 0
-ComesTo Is trees q x = StandsAs trees q (λ t. Is (out-Proc t) x)
+-- what is kept of processes stays true where the pool grows
+kept_stay : {T S : Type 0} (Before After : T → Proc → Type 0) (old new : List Proc) → IsFront old new → ((x : T) (t : Proc) → Before x t → After x t)
+    → (values : List T) (numbers : HashMap ℕ ℕ S) → AreKept Before old values numbers → AreKept After new values numbers
+kept_stay Before After old new front stays values numbers h q k g =
+    let v = h q k g in
+    record { value = v.value; listed = v.listed; holds = record { process = v.holds.process; stands = front q v.holds.process v.holds.stands; holds = stays v.value v.holds.process v.holds.holds } }
 
-module _ {T S : Type 0} (Is : Proc-F Proc → T → Type 0) where
-  noted_stay : (old new : List Proc) → IsFront old new → (values : List T) (numbers : HashMap ℕ ℕ S) → AreNoted Is old values numbers → AreNoted Is new values numbers
-  noted_stay old new front values numbers h q k g =
-      let v = h q k g in
-      record { value = v.value; listed = v.listed; holds = stands_stay old new front q (λ t. Is (out-Proc t) v.value) v.holds }
+module _ {T S : Type 0} (Holds : T → Proc → Type 0) (trees : List Proc) where
+  -- a number for one place more
+  pub kept_more : (values : List T) (x : T) (old new : HashMap ℕ ℕ S) (key k : ℕ) → AreKept Holds trees values old → StandsAs trees key (Holds x) → slice_get values k ≡ Some x
+      → Updates nat_eq old new key (Some k) → AreKept Holds trees values new
+  kept_more values x old new key k h is there updates =
+      one_key (λ q n. HasValue values n (λ y. StandsAs trees q (Holds y))) old new key k h (record { value = x; listed = there; holds = is }) updates
 
-  -- a value more, for a place that has none
-  pub noted_push : (trees : List Proc) (values more : List T) (x : T) (old new : HashMap ℕ ℕ S) (key k : ℕ) → AreNoted Is trees values old → ComesTo Is trees key x → more ≡ values ++ x ∷ [] → k ≡ length values
-      → Updates nat_eq old new key (Some k) → AreNoted Is trees more new
-  noted_push trees values more x old new key k h is grown last updates =
-      one_key (λ q n. HasValue more n (ComesTo Is trees q)) old new key k
+  -- and a value more for it
+  pub kept_push : (values more : List T) (x : T) (old new : HashMap ℕ ℕ S) (key k : ℕ) → AreKept Holds trees values old → StandsAs trees key (Holds x) → more ≡ values ++ x ∷ [] → k ≡ length values
+      → Updates nat_eq old new key (Some k) → AreKept Holds trees more new
+  kept_push values more x old new key k h is grown last updates =
+      kept_more more x old new key k
       (λ q n g. let v = h q n g in record { value = v.value; listed = ap (λ (xs : List T). slice_get xs n) grown ∙ slice_get-append_left values (x ∷ []) n v.value v.listed; holds = v.holds })
-      (record { value = x; listed = pushed_at values more x k grown last; holds = is }) updates
+      is (pushed_at values more x k grown last) updates
 
-  -- a number for places to which steps lead
-  pub noted_more : (trees : List Proc) (values : List T) (x : T) (old new : HashMap ℕ ℕ S) (k : ℕ) (steps : List StepTo) → AreNoted Is trees values old → slice_get values k ≡ Some x
-      → ((q : ℕ) → LeadOn steps q → ComesTo Is trees q x) → HasMoreNumbers old new k steps → AreNoted Is trees values new
-  noted_more trees values x old new k steps h there all more q n g = by_case q n (more q n g)
-    where
-      by_case : (j m : ℕ) → (get nat_eq old j ≡ Some m) ⊎ ((m ≡ k) × LeadOn steps j) → HasValue values m (ComesTo Is trees j)
-      by_case j m (inl before) = h j m before
-      by_case j m (inr (same, led)) = record { value = x; listed = ap (slice_get values) same ∙ there; holds = all j led }
+-- what stands at a place
+pub stands_at : (trees : List Proc) (id : ProcId) (P : Proc → Type 0) → id.0 < length trees → P (tree_at trees id) → StandsAs trees id.0 P
+stands_at trees id P within h = record { process = tree_at trees id; stands = standing trees id within; holds = h }
 
--- the steps that are kept
-none_stepped : {S : Type 0} (p : Content) (trees : List Proc) (lists : List (List StepTo)) (stepped : HashMap ℕ ℕ S) → IsEmpty stepped → AreStepped p trees lists stepped
-none_stepped p trees lists stepped h = no_key (λ q k. HasValue lists k (λ steps. StandsAs trees q (λ t. AreEach trees steps (steps_of p t)))) stepped h
+holds_at : (trees : List Proc) (id : ProcId) (P : Proc → Type 0) → StandsAs trees id.0 P → P (tree_at trees id)
+holds_at trees id P h = subst P (sym (at trees id h.process h.stands)) h.holds
+
+-- the value that is kept for a place
+kept_at : {T S : Type 0} (Holds : T → Proc → Type 0) (trees : List Proc) (values : List T) (numbers : HashMap ℕ ℕ S) (id : ProcId) (k : ℕ) → AreKept Holds trees values numbers
+    → get nat_eq numbers id.0 ≡ Some k → HasValue values k (λ x. Holds x (tree_at trees id))
+kept_at Holds trees values numbers id k h g =
+    let v = h id.0 k g in
+    record { value = v.value; listed = v.listed; holds = holds_at trees id (Holds v.value) v.holds }
 
 each_stay : (old new : List Proc) → IsFront old new → (steps : List StepTo) (o : Outcome (List Move)) → AreEach old steps o → AreEach new steps o
 each_stay old new front steps o h = record {
@@ -90,20 +93,12 @@ each_stay old new front steps o h = record {
   firsts = subst (λ (ms : List Move). AreFirsts h.moves ms) (sym (seen_stay old new front steps h.within)) h.firsts;
 }
 
-stepped_stay : {S : Type 0} (p : Content) (old new : List Proc) → IsFront old new → (lists : List (List StepTo)) (stepped : HashMap ℕ ℕ S) → AreStepped p old lists stepped → AreStepped p new lists stepped
-stepped_stay p old new front lists stepped h q k g =
-    let v = h q k g in
-    let s = v.holds in
-    record { value = v.value; listed = v.listed; holds = record { process = s.process; stands = front q s.process s.stands; holds = each_stay old new front v.value (steps_of p s.process) s.holds } }
-
 -- the steps that are kept for a place
 pub stepped_at : (p : Content) (trees : List Proc) (kept : Evaluated) (id : ProcId) (k : ℕ) (steps copy : List StepTo) → Fits p trees kept → get nat_eq kept.stepped id.0 ≡ Some k → slice_get kept.lists k ≡ Some steps → copy ≡ steps
     → AreEach trees copy (steps_of p (tree_at trees id))
 stepped_at p trees kept id k steps copy h g listed e =
-    let v = h.stepped id.0 k g in
-    let same : v.value ≡ copy = some_same v.value steps (sym v.listed ∙ listed) ∙ sym e in
-    subst (λ (t : Proc). AreEach trees copy (steps_of p t)) (sym (at trees id v.holds.process v.holds.stands))
-    (subst (λ (ss : List StepTo). AreEach trees ss (steps_of p v.holds.process)) same v.holds.holds)
+    let v = kept_at (λ ss t. AreEach trees ss (steps_of p t)) trees kept.lists kept.stepped id k h.stepped g in
+    subst (λ (ss : List StepTo). AreEach trees ss (steps_of p (tree_at trees id))) (some_same v.value steps (sym v.listed ∙ listed) ∙ sym e) v.holds
   where
     some_same : (xs ys : List StepTo) → Some xs ≡ Some ys → xs ≡ ys
     some_same xs ys h = cc
@@ -111,13 +106,15 @@ stepped_at p trees kept id k steps copy h g listed e =
 pub bodies_stay : {S : Type 0} (p : Content) (old new : List Proc) → IsFront old new → (bodies : HashMap ℕ ℕ S) → AreBodies p old bodies → AreBodies p new bodies
 bodies_stay p old new front bodies h d q g = stands_stay old new front q (λ t. body_of (slice_get p.defs d) ≡ Some t) (h d q g)
 
+pub noted_stay : {S : Type 0} (p : Content) (old new : List Proc) → IsFront old new → (operators : List Operator) (places : HashMap ℕ ℕ S) → AreNoted p old operators places → AreNoted p new operators places
+noted_stay p old new front operators places h = kept_stay (Does p old) (Does p new) old new front (does_stay old new front p) operators places h
+
 -- What is kept stays true where the pool grows.
 pub fits_stay : (p : Content) (old new : List Proc) (kept : Evaluated) → IsFront old new → Fits p old kept → Fits p new kept
 fits_stay p old new kept front h = record {
-  hidings = noted_stay (Hides p) old new front kept.sets kept.hidings h.hidings;
-  renamings = noted_stay (Renames p) old new front kept.images kept.renamings h.renamings;
+  operators = noted_stay p old new front kept.operators kept.places h.operators;
   bodies = bodies_stay p old new front kept.bodies h.bodies;
-  stepped = stepped_stay p old new front kept.lists kept.stepped h.stepped;
+  stepped = kept_stay (λ ss t. AreEach old ss (steps_of p t)) (λ ss t. AreEach new ss (steps_of p t)) old new front (λ ss t. each_stay old new front ss (steps_of p t)) kept.lists kept.stepped h.stepped;
 }
 
 pub fits_then : {A E : Type 0} (p : Content) (old new : List Proc) (kept : Evaluated) (r : Result A E) → IsFront old new → Fits p old kept → OnOk r (Fits p new kept)
@@ -128,7 +125,13 @@ fits_then p old new kept (Err f) front h = tt
 pub fits_bodies : (p : Content) (old mid new : List Proc) (kept : Evaluated) (bodies : HashMap ℕ ℕ _) → IsFront old mid → IsFront mid new → Fits p old kept → AreBodies p mid bodies → Fits p new (record kept { bodies = bodies })
 fits_bodies p old mid new kept bodies first second h are =
     let stays = fits_stay p old new kept (front_both old mid new first second) h in
-    record { hidings = stays.hidings; renamings = stays.renamings; bodies = bodies_stay p mid new second bodies are; stepped = stays.stepped }
+    record { operators = stays.operators; bodies = bodies_stay p mid new second bodies are; stepped = stays.stepped }
+
+-- and where more places have numbers of operators
+pub fits_noted : (p : Content) (old new : List Proc) (kept : Evaluated) (places : HashMap ℕ ℕ _) → IsFront old new → Fits p old kept → AreNoted p new kept.operators places → Fits p new (record kept { places = places })
+fits_noted p old new kept places front h are =
+    let stays = fits_stay p old new kept front h in
+    record { operators = are; bodies = stays.bodies; stepped = stays.stepped }
 
 -- the body of a definition, at the place that is kept for it
 pub body_at : (p : Content) (trees : List Proc) (d q : ℕ) (body : Proc) → StandsAs trees q (λ t. body_of (slice_get p.defs d) ≡ Some t) → body_of (slice_get p.defs d) ≡ Some body → slice_get trees q ≡ Some body
@@ -139,106 +142,50 @@ pub bodies_put : {S : Type 0} (p : Content) (old new : List Proc) → IsFront ol
 bodies_put p old new front bodies kept d q body h is stands updates =
     one_key (λ e k. StandsAs new k (λ t. body_of (slice_get p.defs e) ≡ Some t)) bodies kept d q (bodies_stay p old new front bodies h) (record { process = body; stands = stands; holds = is }) updates
 
--- the value of a place that has a number
-module _ {T U S : Type 0} (f : Proc-F Proc → Outcome U) (Q : Outcome U → T → Type 0) where
-  noted_value : (trees : List Proc) (values : List T) (numbers : HashMap ℕ ℕ S) (id : ProcId) (k : ℕ) (o : Outcome U) → f (out-Proc (tree_at trees id)) ≡ o
-      → AreNoted (λ d x. Q (f d) x) trees values numbers → get nat_eq numbers id.0 ≡ Some k → HasValue values k (Q o)
-  noted_value trees values numbers id k o same h g =
-      let v = h id.0 k g in
-      record {
-        value = v.value;
-        listed = v.listed;
-        holds = subst (λ (u : Outcome U). Q u v.value) (ap (λ (t : Proc). f (out-Proc t)) (sym (at trees id v.holds.process v.holds.stands)) ∙ same) v.holds.holds;
-      }
+-- The number of an operator: known, and new.
+pub operator_known : (p : Content) (trees : List Proc) (kept : Evaluated) (id : ProcId) (k : ℕ) → Fits p trees kept → get nat_eq kept.places id.0 ≡ Some k → HasNumber p trees kept k (tree_at trees id)
+operator_known p trees kept id k h g = record { fits = h; has = kept_at (Does p trees) trees kept.operators kept.places id k h.operators g }
 
-module _ {T U : Type 0} (f : Proc-F Proc → Outcome U) (Q : Outcome U → T → Type 0) where
-  comes_to : (trees : List Proc) (id : ProcId) (o : Outcome U) (x : T) → id.0 < length trees → f (out-Proc (tree_at trees id)) ≡ o → Q o x → StandsAs trees id.0 (λ t. Q (f (out-Proc t)) x)
-  comes_to trees id o x within same q = record { process = tree_at trees id; stands = standing trees id within; holds = subst (λ (u : Outcome U). Q u x) (sym same) q }
+pub operator_new : (p : Content) (trees : List Proc) (kept : Evaluated) (id : ProcId) (k : ℕ) (op : Operator) (operators : List Operator) (places : HashMap ℕ ℕ _) → Fits p trees kept → id.0 < length trees
+    → Does p trees op (tree_at trees id) → k ≡ length kept.operators → operators ≡ kept.operators ++ op ∷ [] → Updates nat_eq kept.places places id.0 (Some k)
+    → HasNumber p trees (record kept { operators = operators; places = places }) k (tree_at trees id)
+operator_new p trees kept id k op operators places h within does last grown updates = record {
+  fits = record {
+    operators = kept_push (Does p trees) trees kept.operators operators op kept.places places id.0 k h.operators (stands_at trees id (Does p trees op) within does) grown last updates;
+    bodies = h.bodies;
+    stepped = h.stepped;
+  };
+  has = record { value = op; listed = pushed_at kept.operators operators op k grown last; holds = does };
+}
 
--- The number of a set, and of what events become by a renaming: known, and new.
-module _ (p : Content) (trees : List Proc) (kept : Evaluated) (h : Fits p trees kept) (id : ProcId) (k : ℕ) where
-  pub hidden_known : (o : Outcome (List ℕ)) → hidden_by p (out-Proc (tree_at trees id)) ≡ o → get nat_eq kept.hidings id.0 ≡ Some k → IsNumbered p trees kept kept.sets k (λ hidden. o ≡ Ok hidden)
-  hidden_known o same g = record { fits = h; has = noted_value (hidden_by p) (λ u hidden. u ≡ Ok hidden) trees kept.sets kept.hidings id k o same h.hidings g }
-
-  pub renamed_known : (o : Outcome (List Renamed)) → renamed_by p (out-Proc (tree_at trees id)) ≡ o → get nat_eq kept.renamings id.0 ≡ Some k → IsNumbered p trees kept kept.images k (λ images. KeepsOutcome images o)
-  renamed_known o same g = record { fits = h; has = noted_value (renamed_by p) (λ u images. KeepsOutcome images u) trees kept.images kept.renamings id k o same h.renamings g }
-
-  module _ (within : id.0 < length trees) where
-    pub hidden_new : (o : Outcome (List ℕ)) (hidden : List ℕ) (sets : List (List ℕ)) (hidings : HashMap ℕ ℕ _) → hidden_by p (out-Proc (tree_at trees id)) ≡ o → o ≡ Ok hidden → k ≡ length kept.sets
-        → sets ≡ kept.sets ++ hidden ∷ [] → Updates nat_eq kept.hidings hidings id.0 (Some k) → IsNumbered p trees (record kept { sets = sets; hidings = hidings }) sets k (λ x. o ≡ Ok x)
-    hidden_new o hidden sets hidings same is last grown updates = record {
-      fits = record {
-        hidings = noted_push (Hides p) trees kept.sets sets hidden kept.hidings hidings id.0 k h.hidings (comes_to (hidden_by p) (λ u x. u ≡ Ok x) trees id o hidden within same is) grown last updates;
-        renamings = h.renamings;
-        bodies = h.bodies;
-        stepped = h.stepped;
-      };
-      has = record { value = hidden; listed = pushed_at kept.sets sets hidden k grown last; holds = is };
-    }
-
-    pub renamed_new : (o : Outcome (List Renamed)) (new : Images) (images : List Images) (renamings : HashMap ℕ ℕ _) → renamed_by p (out-Proc (tree_at trees id)) ≡ o → KeepsOutcome new o → k ≡ length kept.images
-        → images ≡ kept.images ++ new ∷ [] → Updates nat_eq kept.renamings renamings id.0 (Some k) → IsNumbered p trees (record kept { images = images; renamings = renamings }) images k (λ x. KeepsOutcome x o)
-    renamed_new o new images renamings same is last grown updates = record {
-      fits = record {
-        hidings = h.hidings;
-        renamings = noted_push (Renames p) trees kept.images images new kept.renamings renamings id.0 k h.renamings (comes_to (renamed_by p) (λ u x. KeepsOutcome x u) trees id o new within same is) grown last updates;
-        bodies = h.bodies;
-        stepped = h.stepped;
-      };
-      has = record { value = new; listed = pushed_at kept.images images new k grown last; holds = is };
-    }
-
--- the numbers of more and more steps
-alone : (s : StepTo) (q : ℕ) → LeadOn (s ∷ []) q → (s.to.0 ≡ q) × (s.label ≡ Tick → ⊥)
-alone s q led = by_place led.place led.step led.listed led.to led.goes_on
-  where
-    by_place : (k : ℕ) (r : StepTo) → slice_get (s ∷ []) k ≡ Some r → r.to.0 ≡ q → (r.label ≡ Tick → ⊥) → (s.to.0 ≡ q) × (s.label ≡ Tick → ⊥)
-    by_place zero r h e g =
-        let same : s ≡ r = cc in
-        (ap (λ (x : StepTo). x.to.0) same ∙ e, λ t. g (ap (λ (x : StepTo). x.label) (sym same) ∙ t))
-    by_place (suc k) r h e g = cc
-
-pub no_more : {S : Type 0} (old new : HashMap ℕ ℕ S) (k : ℕ) (steps : List StepTo) → new ≡ old → HasMoreNumbers old new k steps
-no_more old new k steps e q n g = inl (ap (λ (m : HashMap ℕ ℕ _). get nat_eq m q) (sym e) ∙ g)
-
-pub one_more : {S : Type 0} (old new : HashMap ℕ ℕ S) (k : ℕ) (s : StepTo) → (s.label ≡ Tick → ⊥) → Updates nat_eq old new s.to.0 (Some k) → HasMoreNumbers old new k (s ∷ [])
-one_more old new k s goes_on updates =
-    one_key (λ q n. (get nat_eq old q ≡ Some n) ⊎ ((n ≡ k) × LeadOn (s ∷ []) q)) old new s.to.0 k (λ q n g. inl g)
-    (inr (refl, record { place = 0; step = s; listed = refl; to = refl; goes_on = goes_on })) updates
-
-pub more_and_more : {S : Type 0} (old mid new : HashMap ℕ ℕ S) (k : ℕ) (steps : List StepTo) (i : ℕ) (s : StepTo) → i < length steps → s ≡ get_or steps i s → HasMoreNumbers old mid k steps
-    → HasMoreNumbers mid new k (s ∷ []) → HasMoreNumbers old new k steps
-more_and_more old mid new k steps i s lt is f g q n h = by_case (g q n h)
-  where
-    by_case : (get nat_eq mid q ≡ Some n) ⊎ ((n ≡ k) × LeadOn (s ∷ []) q) → (get nat_eq old q ≡ Some n) ⊎ ((n ≡ k) × LeadOn steps q)
-    by_case (inl before) = f q n before
-    by_case (inr (same, led)) =
-        let only = alone s q led in
-        inr (same, record { place = i; step = s; listed = slice_get-get_or steps i s lt ∙ ap (λ (x : StepTo). Some x) (sym is); to = only.0; goes_on = only.1 })
+-- the process after a step that is no end has the operator of the whole
+pub noted_going : {S : Type 0} (p : Content) (old new : List Proc) (operators : List Operator) (round : Round) (places more : HashMap ℕ ℕ S) (to : ProcId) (r : Proc) → IsFront old new → IsNumbered p old operators round
+    → slice_get new to.0 ≡ Some (with_first (tree_at old round.id) r) → Updates nat_eq places more to.0 (Some round.number) → AreNoted p old operators places → AreNoted p new operators more
+noted_going p old new operators round places more to r front is stands updates h =
+    kept_more (Does p new) new operators round.operator.now places more to.0 round.number (noted_stay p old new front operators places h)
+    (record { process = with_first (tree_at old round.id) r; stands = stands; holds = does_kept p new round.operator.now (tree_at old round.id) r (does_stay old new front p round.operator.now (tree_at old round.id) is.does) })
+    is.listed updates
 
 -- the steps that are kept are let go, and those at one more place are kept
 pub fits_emptied : (p : Content) (trees : List Proc) (kept : Evaluated) (lists : List (List StepTo)) (stepped : HashMap ℕ ℕ _) (count : ℕ) → IsEmpty stepped → Fits p trees kept → Fits p trees (record kept { lists = lists; stepped = stepped; kept = count })
 fits_emptied p trees kept lists stepped count empty h = record {
-  hidings = h.hidings;
-  renamings = h.renamings;
+  operators = h.operators;
   bodies = h.bodies;
-  stepped = none_stepped p trees lists stepped empty;
+  stepped = no_key (λ q k. HasValue lists k (λ ss. StandsAs trees q (λ t. AreEach trees ss (steps_of p t)))) stepped empty;
 }
 
 pub fits_stepped : (p : Content) (trees : List Proc) (kept : Evaluated) (id : ProcId) (k : ℕ) (steps copy : List StepTo) (lists : List (List StepTo)) (stepped : HashMap ℕ ℕ _) → Fits p trees kept → id.0 < length trees
     → AreEach trees steps (steps_of p (tree_at trees id)) → copy ≡ steps → k ≡ length kept.lists → lists ≡ kept.lists ++ copy ∷ [] → Updates nat_eq kept.stepped stepped id.0 (Some k)
     → Fits p trees (record kept { lists = lists; stepped = stepped })
 fits_stepped p trees kept id k steps copy lists stepped h within each e last grown updates = record {
-  hidings = h.hidings;
-  renamings = h.renamings;
+  operators = h.operators;
   bodies = h.bodies;
-  stepped =
-      one_key (λ q n. HasValue lists n (λ ss. StandsAs trees q (λ t. AreEach trees ss (steps_of p t)))) kept.stepped stepped id.0 k
-      (λ q n g. let v = h.stepped q n g in record { value = v.value; listed = ap (λ (xs : List (List StepTo)). slice_get xs n) grown ∙ slice_get-append_left kept.lists (copy ∷ []) n v.value v.listed; holds = v.holds })
-      (record {
-        value = copy;
-        listed = pushed_at kept.lists lists copy k grown last;
-        holds = record { process = tree_at trees id; stands = standing trees id within; holds = subst (λ (ss : List StepTo). AreEach trees ss (steps_of p (tree_at trees id))) (sym e) each };
-      })
-      updates;
+  stepped = kept_push (λ ss t. AreEach trees ss (steps_of p t)) trees kept.lists lists copy kept.stepped stepped id.0 k h.stepped
+      (stands_at trees id (λ t. AreEach trees copy (steps_of p t)) within (subst (λ (ss : List StepTo). AreEach trees ss (steps_of p (tree_at trees id))) (sym e) each)) grown last updates;
+}
+
+pub numbered_stay : (p : Content) (old new : List Proc) (operators : List Operator) (round : Round) → IsFront old new → round.id.0 < length old → IsNumbered p old operators round → IsNumbered p new operators round
+numbered_stay p old new operators round front within is = record {
+  listed = is.listed;
+  does = subst (Does p new round.operator.now) (sym (tree_stays old new front round.id within)) (does_stay old new front p round.operator.now (tree_at old round.id) is.does);
 }

@@ -8,7 +8,8 @@ use Rattle.csp_atoms.specs.Sets.{has_atom, place_of}
 use Rattle.csp_program.specs.EventNumber.{row_count}
 use Rattle.csp_program.specs.EventTable.{rows}
 use Rattle.csp_program.specs.Outcome.{Outcome, and_then}
-use Rattle.csp_program.specs.Value.{in_field, value_of}
+use Rattle.csp_program.specs.Substitution.{given_by, proc_with}
+use Rattle.csp_program.specs.Value.{Env, in_field}
 use Rattle.csp_atoms.specs.declared.atom.Atom.{Atom}
 use Rattle.csp_atoms.specs.declared.value.Value.{Value}
 use Rattle.csp_atoms.specs.declared.value.Value.TheVariants.{One, Many}
@@ -19,14 +20,14 @@ use Rattle.csp_program.specs.declared.processes.Field.TheVariants as field
 use Rattle.csp_program.specs.declared.processes.Proc.{Proc}
 use Rattle.csp_program.specs.declared.programs.Content.{Content}
 use Rattle.process_steps.specs.Needed.{each_joined}
-use Rattle.process_steps.specs.Prefix.{given_in, is_given, later_fields, later_process, ways_to_fill, where_given}
-use Rattle.process_steps.specs.Prefix as prefix
+use Rattle.process_steps.specs.Prefix.{given_under, is_given, value_under}
+use Rattle.process_steps.specs.Ways.{ways_to_fill, where_given}
+use Rattle.process_steps.specs.Ways as ways
 use Rattle.process_steps.specs.StepList.{Move}
 use Rattle.process_steps.specs.declared.label.Label.TheVariants.{Visible}
 use Rattle.value_laws.proofs.RowNumbers.{field_found, length-rows, to_rows}
 use Rattle.value_laws.specs.Numbers.{field_place, found_place}
-use Rattle.csp_steps.specs.Computed.{event_move, nth_event}
-use Rattle.csp_steps.specs.Walked.{number_with, ways_by_number}
+use Rattle.csp_steps.specs.Walked.{nth_event, number_with, way_move, ways_by_number}
 
 no_place : (o : Option ℕ) (why : ValueKind) → found_place o ≡ Err why → (o ≡ None) × (OutsideChannel ≡ why)
 no_place None why h = (refl, cc)
@@ -73,9 +74,9 @@ at_least m zero h = absurd (omega (arith, h))
 at_least m (suc count) h = omega arith
 
 -- an event that is found by values, and by the place of these among all choices of values
-module _ (p : Content) (event : List Atom → ℕ) (first : ℕ) where
-  abbrev by_row : prefix.Way → Move
-  by_row w = (Visible (event w.0), w.1)
+module _ (p : Content) (event : List Atom → ℕ) (first : ℕ) (q : Proc) where
+  abbrev by_row : ways.Way → Move
+  by_row w = (Visible (event w.1), proc_with (given_by w.0) q)
 
   -- the values before the sets are the row, and have the number n; each event of theirs has a number of 32 bits
   abbrev Counts : List (List Atom) → List Atom → ℕ → Type 0
@@ -93,55 +94,55 @@ module _ (p : Content) (event : List Atom → ℕ) (first : ℕ) where
       let exact : number_with n set k ≡ n * length set + k = omega (arith, is, few, least) in
       (is ∙ ap (λ (m : ℕ). first + m) (omega arith) ∙ ap (λ (m : ℕ). first + (m * row_count sets + j)) (sym exact), few)
 
-  abbrev Same : List (List Atom) → List Field → Proc → List Atom → ℕ → Type 0
-  Same sets fields q row n = moved by_row (ways_to_fill p sets fields q row) ≡ moved (event_move first) (ways_by_number p sets fields q n)
+  abbrev Same : List (List Atom) → List Field → Env → List Atom → ℕ → Type 0
+  Same sets fields env row n = moved by_row (ways_to_fill p sets fields env row) ≡ moved (way_move first q) (ways_by_number p sets fields env n)
 
-  at_field : (o : Outcome ℕ) (set : List Atom) (sets : List (List Atom)) (fields : List Field) (q : Proc) (row : List Atom) (n : ℕ) (v : Value) → field_place set v ≡ o
-      → ((k : ℕ) (a : Atom) → slice_get set k ≡ Some a → Same sets fields q (row ++ a ∷ []) (number_with n set k))
-      → moved by_row (and_then (in_field set v) (λ a. ways_to_fill p sets fields q (row ++ a ∷ []))) ≡ moved (event_move first) (and_then o (λ k. ways_by_number p sets fields q (number_with n set k)))
-  at_field (Err why) set sets fields q row n v is rest = ap (λ o. moved by_row (and_then o (λ a. ways_to_fill p sets fields q (row ++ a ∷ [])))) (outside set v why is)
-  at_field (Ok k) set sets fields q row n v is rest =
+  at_field : (o : Outcome ℕ) (set : List Atom) (sets : List (List Atom)) (fields : List Field) (env : Env) (row : List Atom) (n : ℕ) (v : Value) → field_place set v ≡ o
+      → ((k : ℕ) (a : Atom) → slice_get set k ≡ Some a → Same sets fields env (row ++ a ∷ []) (number_with n set k))
+      → moved by_row (and_then (in_field set v) (λ a. ways_to_fill p sets fields env (row ++ a ∷ []))) ≡ moved (way_move first q) (and_then o (λ k. ways_by_number p sets fields env (number_with n set k)))
+  at_field (Err why) set sets fields env row n v is rest = ap (λ o. moved by_row (and_then o (λ a. ways_to_fill p sets fields env (row ++ a ∷ [])))) (outside set v why is)
+  at_field (Ok k) set sets fields env row n v is rest =
       let found = field_found set v k is in
-      ap (λ o. moved by_row (and_then o (λ a. ways_to_fill p sets fields q (row ++ a ∷ [])))) found.3 ∙ rest k found.0 found.2
+      ap (λ o. moved by_row (and_then o (λ a. ways_to_fill p sets fields env (row ++ a ∷ [])))) found.3 ∙ rest k found.0 found.2
 
-  at_output : (o : Outcome Value) (set : List Atom) (sets : List (List Atom)) (fields : List Field) (q : Proc) (row : List Atom) (n : ℕ)
-      → ((k : ℕ) (a : Atom) → slice_get set k ≡ Some a → Same sets fields q (row ++ a ∷ []) (number_with n set k))
-      → moved by_row (and_then o (λ v. and_then (in_field set v) (λ a. ways_to_fill p sets fields q (row ++ a ∷ []))))
-      ≡ moved (event_move first) (and_then o (λ v. and_then (field_place set v) (λ k. ways_by_number p sets fields q (number_with n set k))))
-  at_output (Err why) set sets fields q row n rest = refl
-  at_output (Ok v) set sets fields q row n rest = at_field (field_place set v) set sets fields q row n v refl rest
+  at_output : (o : Outcome Value) (set : List Atom) (sets : List (List Atom)) (fields : List Field) (env : Env) (row : List Atom) (n : ℕ)
+      → ((k : ℕ) (a : Atom) → slice_get set k ≡ Some a → Same sets fields env (row ++ a ∷ []) (number_with n set k))
+      → moved by_row (and_then o (λ v. and_then (in_field set v) (λ a. ways_to_fill p sets fields env (row ++ a ∷ []))))
+      ≡ moved (way_move first q) (and_then o (λ v. and_then (field_place set v) (λ k. ways_by_number p sets fields env (number_with n set k))))
+  at_output (Err why) set sets fields env row n rest = refl
+  at_output (Ok v) set sets fields env row n rest = at_field (field_place set v) set sets fields env row n v refl rest
 
-  at_input : (o : Outcome (Option (List Atom))) (set : List Atom) (sets : List (List Atom)) (x : ℕ) (fields : List Field) (q : Proc) (row : List Atom) (n : ℕ)
-      → ((k : ℕ) (a : Atom) → slice_get set k ≡ Some a → Same sets (later_fields x a fields) (later_process x a fields q) (row ++ a ∷ []) (number_with n set k))
-      → moved by_row (and_then o (λ given. each_joined (where_given given (λ k a. ways_to_fill p sets (later_fields x a fields) (later_process x a fields q) (row ++ a ∷ []))) 0 set))
-      ≡ moved (event_move first) (and_then o (λ given. each_joined (where_given given (λ k a. ways_by_number p sets (later_fields x a fields) (later_process x a fields q) (number_with n set k))) 0 set))
-  at_input (Err why) set sets x fields q row n rest = refl
-  at_input (Ok given) set sets x fields q row n rest =
-      each_moved by_row (event_move first) given (λ k a. ways_to_fill p sets (later_fields x a fields) (later_process x a fields q) (row ++ a ∷ []))
-      (λ k a. ways_by_number p sets (later_fields x a fields) (later_process x a fields q) (number_with n set k)) 0 set
+  at_input : (o : Outcome (Option (List Atom))) (set : List Atom) (sets : List (List Atom)) (x : ℕ) (fields : List Field) (env : Env) (row : List Atom) (n : ℕ)
+      → ((k : ℕ) (a : Atom) → slice_get set k ≡ Some a → Same sets fields ((x, One a) ∷ env) (row ++ a ∷ []) (number_with n set k))
+      → moved by_row (and_then o (λ given. each_joined (where_given given (λ k a. ways_to_fill p sets fields ((x, One a) ∷ env) (row ++ a ∷ []))) 0 set))
+      ≡ moved (way_move first q) (and_then o (λ given. each_joined (where_given given (λ k a. ways_by_number p sets fields ((x, One a) ∷ env) (number_with n set k))) 0 set))
+  at_input (Err why) set sets x fields env row n rest = refl
+  at_input (Ok given) set sets x fields env row n rest =
+      each_moved by_row (way_move first q) given (λ k a. ways_to_fill p sets fields ((x, One a) ∷ env) (row ++ a ∷ []))
+      (λ k a. ways_by_number p sets fields ((x, One a) ∷ env) (number_with n set k)) 0 set
       (λ i a at. let here : i ≡ 0 + i = omega arith in
-      rest i a at ∙ ap (λ k. moved (event_move first) (ways_by_number p sets (later_fields x a fields) (later_process x a fields q) (number_with n set k))) here)
+      rest i a at ∙ ap (λ k. moved (way_move first q) (ways_by_number p sets fields ((x, One a) ∷ env) (number_with n set k))) here)
 
-  same_moves : (sets : List (List Atom)) (fields : List Field) (q : Proc) (row : List Atom) (n : ℕ) → Counts sets row n → Same sets fields q row n
-  same_moves [] [] q row n counts =
+  same_moves : (sets : List (List Atom)) (fields : List Field) (env : Env) (row : List Atom) (n : ℕ) → Counts sets row n → Same sets fields env row n
+  same_moves [] [] env row n counts =
       let c = counts 0 [] refl in
       let own = ap event (append-nil row) in
       let number = c.0 in
       let few = c.1 in
       let last : event row ≡ nth_event first n = omega (arith, own, number, few) in
-      ap (λ (e : ℕ). Ok ((Visible e, q) ∷ [])) last
-  same_moves [] (f ∷ fields) q row n counts = refl
-  same_moves (set ∷ sets) [] q row n counts = refl
-  same_moves (set ∷ sets) (field.Put e ∷ fields) q row n counts =
-      at_output (value_of p e) set sets fields q row n (λ k a at. same_moves sets fields q (row ++ a ∷ []) (number_with n set k) (one_more set sets row n k a counts at))
-  same_moves (set ∷ sets) (field.Get x s ∷ fields) q row n counts =
-      at_input (given_in p s) set sets x fields q row n
-      (λ k a at. same_moves sets (later_fields x a fields) (later_process x a fields q) (row ++ a ∷ []) (number_with n set k) (one_more set sets row n k a counts at))
+      ap (λ (e : ℕ). Ok ((Visible e, proc_with (given_by env) q) ∷ [])) last
+  same_moves [] (f ∷ fields) env row n counts = refl
+  same_moves (set ∷ sets) [] env row n counts = refl
+  same_moves (set ∷ sets) (field.Put e ∷ fields) env row n counts =
+      at_output (value_under p env e) set sets fields env row n (λ k a at. same_moves sets fields env (row ++ a ∷ []) (number_with n set k) (one_more set sets row n k a counts at))
+  same_moves (set ∷ sets) (field.Get x s ∷ fields) env row n counts =
+      at_input (given_under p env s) set sets x fields env row n
+      (λ k a at. same_moves sets fields ((x, One a) ∷ env) (row ++ a ∷ []) (number_with n set k) (one_more set sets row n k a counts at))
 
-  pub moves_by_number : (sets : List (List Atom)) (fields : List Field) (q : Proc) → ((i : ℕ) (row : List Atom) → slice_get (rows sets) i ≡ Some row → event row ≡ first + i) → first + row_count sets ≤ 2 ^ 32
-      → and_then (ways_to_fill p sets fields q []) (λ ways. Ok (map (λ w. (Visible (event w.0), w.1)) ways)) ≡ and_then (ways_by_number p sets fields q 0) (λ ways. Ok (map (event_move first) ways))
-  moves_by_number sets fields q is few =
-      same_moves sets fields q [] 0
+  pub moves_by_number : (sets : List (List Atom)) (fields : List Field) → ((i : ℕ) (row : List Atom) → slice_get (rows sets) i ≡ Some row → event row ≡ first + i) → first + row_count sets ≤ 2 ^ 32
+      → moved by_row (ways_to_fill p sets fields [] []) ≡ moved (way_move first q) (ways_by_number p sets fields [] 0)
+  moves_by_number sets fields is few =
+      same_moves sets fields [] [] 0
       (λ j row at.
       let e : event row ≡ first + j = is j row at in
       let within : j < length (rows sets) = slice_get_within (rows sets) j row at in

@@ -2,17 +2,13 @@
 use Rattle.std.proofs.Common.{◌≡◌, ◌⊎◌, inl, inr, ℕ, zero, suc, Bool, true, false, cond, Some, Ok, List, [], ◌∷◌, map, slice_get, refl, ap, sym, ◌∙◌, subst, eq-eqb}
 use Rattle.std.proofs.lemmas.Bool.{eqb-true, false≢true}
 use Rattle.csp_base.specs.Lists.{StandsIn}
-use Rattle.csp_program.specs.Depth.{proc_depth}
 use Rattle.csp_program.specs.Outcome.{Outcome}
 use Rattle.csp_program.specs.declared.processes.Proc.{Proc}
 use Rattle.csp_program.specs.declared.programs.Content.{Content}
 use Rattle.csp_tables.specs.Label.{Label}
 use Rattle.csp_tables.specs.Label.Label.{silent, visible}
-use Rattle.process_steps.proofs.Complete.{lists}
-use Rattle.process_steps.proofs.Members.{at_place, placed}
-use Rattle.process_steps.proofs.Sound.{sound_within}
+use Rattle.process_steps.proofs.Listed.{lists_are}
 use Rattle.process_steps.specs.ComponentStep.{ProcessStep}
-use Rattle.process_steps.specs.Laws.{ListsAreSteps}
 use Rattle.process_steps.specs.StepList.{ListsMove, Move, steps_of}
 use Rattle.process_steps.specs.declared.label.Label.{Label as ProcessLabel}
 use Rattle.process_steps.specs.declared.label.Label.TheVariants.{Silent, Visible, Tick}
@@ -114,10 +110,6 @@ targets_one p t l us vs h g =
   where
     one_list : (xs ys : List Move) (o : Outcome (List Move)) → o ≡ Ok xs → o ≡ Ok ys → xs ≡ ys
     one_list xs ys o h g = cc
-
-lists_are : ListsAreSteps
-unfolding steps_of
-lists_are p t moves h l u = ((λ g. sound_within p (proc_depth t) t moves h l u (at_place moves g.0 (l, u) g.1)), (λ s. placed moves (l, u) (lists p s moves h)))
 
 -- and those to which the process has a step
 pub target_step : (p : Content) (t : Proc) (l : Label) (us : List Proc) → AreTargets p t l us → (u : Proc) → StandsIn us u → ProcessStep p t l u

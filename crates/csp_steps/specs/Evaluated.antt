@@ -1,27 +1,24 @@
--- What is kept of evaluations: the events that hidings hide and what renamings rename, by their places in a pool, and the places of the bodies of
--- definitions; and steps.
-use Rattle.std.specs.Prelude.{◌≡◌, ◌⊎◌, ℕ, nat_eq, Option, Some, None, Result, Ok, Err, List, slice_get}
+-- What is kept of evaluations: the operators round processes, by their places in a pool, and the places of the bodies of definitions; and steps.
+use Rattle.std.specs.Prelude.{◌≡◌, ℕ, nat_eq, Option, Some, None, Result, List, slice_get}
 use Rattle.std.specs.HashMap.{HashMap, get}
-use Rattle.process_steps.specs.Needed.{events_in}
-use Rattle.process_steps.specs.Renaming.{Renamed, renaming_in}
-use Rattle.csp_program.specs.Outcome.{Outcome}
-use Rattle.csp_program.specs.declared.kinds.ValueKind.TheVariants.{Kind}
 use Rattle.csp_program.specs.declared.processes.Proc.{Proc}
-use Rattle.csp_program.specs.declared.processes.Proc.TheOpen.{Proc-F}
-use Rattle.csp_program.specs.declared.processes.Proc.TheViews.{out-Proc}
 use Rattle.csp_program.specs.declared.programs.Body.{Body}
 use Rattle.csp_program.specs.declared.programs.Body.TheVariants as body
 use Rattle.csp_program.specs.declared.programs.Content.{Content}
 use Rattle.csp_program.specs.declared.programs.Def.{Def}
+use Rattle.csp_program.specs.Outcome.{Outcome}
+use Rattle.process_steps.specs.Renaming.{Renamed}
+use Rattle.process_steps.specs.StepList.{steps_of}
 use Rattle.step_values.specs.Images.{KeepsOutcome}
 use Rattle.step_values.specs.declared.images.Images.{Images}
-use Rattle.process_steps.specs.StepList.{steps_of}
-use Rattle.csp_steps.specs.Computed.{AreEach}
-use Rattle.csp_steps.specs.declared.evaluated.Evaluated.{Evaluated}
-use Rattle.csp_steps.specs.declared.step.StepTo.{StepTo}
-use Rattle.process_steps.specs.declared.label.Label.TheVariants.{Tick}
+use Rattle.term_pool.specs.Trees.{tree_at}
 use Rattle.value_operators.specs.declared.fault.EvalFault.{EvalFault}
-use Rattle.value_operators.specs.declared.fault.EvalFault.TheVariants as fault
+use Rattle.csp_steps.specs.Computed.{Answers, AreEach}
+use Rattle.csp_steps.specs.Effect.{effect_of, Does}
+use Rattle.csp_steps.specs.declared.around.Round.{Round}
+use Rattle.csp_steps.specs.declared.evaluated.Evaluated.{Evaluated}
+use Rattle.csp_steps.specs.declared.operator.Operator.{Operator}
+use Rattle.csp_steps.specs.declared.step.StepTo.{StepTo}
 
 -- at the place q stands a process of which this holds
 pub record StandsAs (trees : List Proc) (q : ℕ) (Holds : Proc → Type 0) : Type 0 where
@@ -35,15 +32,17 @@ pub record HasValue {T : Type 0} (values : List T) (k : ℕ) (Holds : T → Type
   pub listed : slice_get values k ≡ Some value
   pub holds : Holds value
 
--- the events that a hiding hides
-abbrev pub hidden_by : Content → Proc-F Proc → Outcome (List ℕ)
-hidden_by p (Proc-F.Hide q s) = events_in p s
-hidden_by p other = Err Kind
+-- at each place that has a number stands a process of which this holds with the value that has this number
+abbrev pub AreKept : {T S : Type 0} → (T → Proc → Type 0) → List Proc → List T → HashMap ℕ ℕ S → Type 0
+AreKept Holds trees values numbers = (q k : ℕ) → get nat_eq numbers q ≡ Some k → HasValue values k (λ x. StandsAs trees q (Holds x))
 
--- what a renaming renames
-abbrev pub renamed_by : Content → Proc-F Proc → Outcome (List Renamed)
-renamed_by p (Proc-F.Rename q pairs gens) = renaming_in p pairs gens
-renamed_by p other = Err Kind
+-- the operators of processes
+abbrev pub AreNoted : {S : Type 0} → Content → List Proc → List Operator → HashMap ℕ ℕ S → Type 0
+AreNoted p trees operators places = AreKept (Does p trees) trees operators places
+
+-- their steps, each where it first stands
+abbrev pub AreStepped : {S : Type 0} → Content → List Proc → List (List StepTo) → HashMap ℕ ℕ S → Type 0
+AreStepped p trees lists numbers = AreKept (λ steps t. AreEach trees steps (steps_of p t)) trees lists numbers
 
 -- the body of a definition of a process
 abbrev pub process_body : Body → Option Proc
@@ -54,58 +53,32 @@ abbrev pub body_of : Option Def → Option Proc
 body_of None = None
 body_of (Some def) = process_body def.body
 
--- at each place that has a number stands a process that comes to the value with this number
-abbrev pub AreNoted : {T S : Type 0} → (Proc-F Proc → T → Type 0) → List Proc → List T → HashMap ℕ ℕ S → Type 0
-AreNoted ComesTo trees values numbers = (q k : ℕ) → get nat_eq numbers q ≡ Some k → HasValue values k (λ x. StandsAs trees q (λ t. ComesTo (out-Proc t) x))
-
--- the process hides these events
-abbrev pub Hides : Content → Proc-F Proc → List ℕ → Type 0
-Hides p d hidden = hidden_by p d ≡ Ok hidden
-
--- the process makes of each event what is kept
-abbrev pub Renames : Content → Proc-F Proc → Images → Type 0
-Renames p d images = KeepsOutcome images (renamed_by p d)
-
 -- at the place of each definition that has one stands its body
 abbrev pub AreBodies : {S : Type 0} → Content → List Proc → HashMap ℕ ℕ S → Type 0
 AreBodies p trees bodies = (d q : ℕ) → get nat_eq bodies d ≡ Some q → StandsAs trees q (λ t. body_of (slice_get p.defs d) ≡ Some t)
 
--- at each place that has a number stands a process with these steps, each where it first stands
-abbrev pub AreStepped : {S : Type 0} → Content → List Proc → List (List StepTo) → HashMap ℕ ℕ S → Type 0
-AreStepped p trees lists numbers = (q k : ℕ) → get nat_eq numbers q ≡ Some k → HasValue lists k (λ steps. StandsAs trees q (λ t. AreEach trees steps (steps_of p t)))
-
 -- What is kept is true of the program and of the processes of the pool.
 pub record Fits (p : Content) (trees : List Proc) (kept : Evaluated) : Type 0 where
-  pub hidings : AreNoted (Hides p) trees kept.sets kept.hidings
-  pub renamings : AreNoted (Renames p) trees kept.images kept.renamings
+  pub operators : AreNoted p trees kept.operators kept.places
   pub bodies : AreBodies p trees kept.bodies
   pub stepped : AreStepped p trees kept.lists kept.stepped
 
--- This holds of the value with the number k, and what is kept is true.
-pub record IsNumbered {T : Type 0} (p : Content) (trees : List Proc) (kept : Evaluated) (values : List T) (k : ℕ) (Holds : T → Type 0) : Type 0 where
+-- the operator of a round has this number, and is that of the process
+pub record IsNumbered (p : Content) (trees : List Proc) (operators : List Operator) (round : Round) : Type 0 where
+  pub listed : slice_get operators round.number ≡ Some round.operator.now
+  pub does : Does p trees round.operator.now (tree_at trees round.id)
+
+-- the operator with the number k is that of the process, and what is kept is true
+pub record HasNumber (p : Content) (trees : List Proc) (kept : Evaluated) (k : ℕ) (t : Proc) : Type 0 where
   pub fits : Fits p trees kept
-  pub has : HasValue values k Holds
+  pub has : HasValue kept.operators k (λ op. Does p trees op t)
 
--- what a call that evaluates a renaming answers
+-- what calls answer that evaluate a renaming and an operator, and that find the number of an operator
 abbrev pub GivesImages : Result Images EvalFault → Outcome (List Renamed) → Type 0
-GivesImages (Ok images) outcome = KeepsOutcome images outcome
-GivesImages (Err fault.NoMemory) outcome = Unit {0}
-GivesImages (Err (fault.Value kind)) outcome = outcome ≡ Err kind
+GivesImages result outcome = Answers (λ kept. KeepsOutcome kept outcome) result outcome
 
--- what a call that finds the number of a value answers
-abbrev pub GivesNumber : {T A : Type 0} → Content → List Proc → Evaluated → List T → Result ℕ EvalFault → (T → Type 0) → Outcome A → Type 0
-GivesNumber p trees kept values (Ok k) Holds outcome = IsNumbered p trees kept values k Holds
-GivesNumber p trees kept values (Err fault.NoMemory) Holds outcome = Unit {0}
-GivesNumber p trees kept values (Err (fault.Value kind)) Holds outcome = outcome ≡ Err kind
+abbrev pub GivesOperator : Content → List Proc → Result Operator EvalFault → Proc → Type 0
+GivesOperator p trees result t = Answers (λ op. Does p trees op t) result (effect_of p t)
 
--- one of the steps leads to the place q, and is no tick
-pub record LeadOn (steps : List StepTo) (q : ℕ) : Type 0 where
-  pub place : ℕ
-  pub step : StepTo
-  pub listed : slice_get steps place ≡ Some step
-  pub to : step.to.0 ≡ q
-  pub goes_on : step.label ≡ Tick → ⊥
-
--- each number stood there, or is k at a place to which one of the steps leads
-abbrev pub HasMoreNumbers : {S : Type 0} → HashMap ℕ ℕ S → HashMap ℕ ℕ S → ℕ → List StepTo → Type 0
-HasMoreNumbers old new k steps = (q n : ℕ) → get nat_eq new q ≡ Some n → (get nat_eq old q ≡ Some n) ⊎ ((n ≡ k) × LeadOn steps q)
+abbrev pub GivesNumber : Content → List Proc → Evaluated → Result ℕ EvalFault → Proc → Type 0
+GivesNumber p trees kept result t = Answers (λ k. HasNumber p trees kept k t) result (effect_of p t)

@@ -1,4 +1,5 @@
 pub mod Computed
+pub mod Effect
 pub mod Evaluated
 pub mod ExactStep
 pub mod Listed

@@ -1,21 +1,21 @@
 //! Operators round the steps of a process.
 
-ghost use Rattle.std.specs.Prelude.{◌≡◌, ◌<◌, ◌++◌, ◌∷◌, [], if◌then◌else◌, true, ℕ, List, length, map, slice_get, IfOk, OnOk, Some};
+ghost use Rattle.std.specs.Prelude.{◌≡◌, ◌<◌, ◌++◌, ◌∷◌, [], if◌then◌else◌, true, List, length, map, slice_get, IfOk, OnOk, Some};
 ghost use Rattle.csp_program.specs.Lists.{joined};
 ghost use Rattle.csp_program.specs.declared.processes.Proc.TheVariants as proc;
-ghost use Rattle.csp_program.specs.declared.processes.Proc.TheViews.{out-Proc};
 ghost use Rattle.csp_program.specs.declared.programs.Content.{Content};
-ghost use Rattle.process_steps.specs.StepList as lists;
-ghost use Rattle.step_values.specs.Images.{becomes};
-ghost use Rattle.step_values.specs.declared.images.Images.{Images as Kept};
 ghost use Rattle.term_pool.specs.First.{with_first};
 ghost use Rattle.term_pool.specs.Pooled.{IsFront};
 ghost use Rattle.term_pool.specs.Trees.{tree_at};
-ghost use Rattle.csp_steps.specs.Computed.{all_within, around as made_around, hidden_move, hides, images_in, renamed_moves, AreMoves, GivesMoves, IsMove};
-ghost use Rattle.csp_steps.specs.Evaluated.{Fits, Hides, Renames};
+ghost use Rattle.csp_steps.specs.Computed.{all_within, AreMoves, GivesMoves, IsMove};
+ghost use Rattle.csp_steps.specs.Effect.{around as made_around, effect_as, hides, labels_by, last_by, moves_of, renamed_labels, IsWithin};
+ghost use Rattle.csp_steps.specs.Evaluated.{AreNoted, Fits, IsNumbered};
 ghost use Rattle.csp_steps.specs.Listed.{seen};
+ghost use Rattle.csp_steps.specs.declared.operator.Operator.{Operator as Kept};
+ghost use Rattle.step_values.specs.Images.{becomes};
 
-use crate::evaluated::{Evaluated, hidden_number, note_steps, renamed_number};
+use crate::evaluated::{Evaluated, keep, operator_number};
+use crate::operator::Operator;
 use crate::step::StepTo;
 use containers::Items;
 use csp_base::{Event, EventSet, NoMemory};
@@ -23,56 +23,43 @@ use csp_program::Program;
 use csp_values::EvalFault;
 use process_steps::Label;
 use std::alloc::Global;
+use std::collections::HashMap;
 use step_values::{Images, images_of};
 use term_pool::{Node, Pool, ProcId};
 
-// What a step of the first part makes of a sequence.
-fn in_sequence(pool: &mut Pool, second: ProcId, step: StepTo) -> Result<StepTo, NoMemory>
-    requires second { second.0 < length pool.old }
-    requires within { step.to.0 < length pool.old }
-    ensures move_ { IfOk result (λ made. IsMove pool.new made (lists.in_sequence (tree_at pool.old second) step.label (tree_at pool.old step.to))) }
-    ensures front { IsFront pool.old pool.new }
-{
-    match step.label {
-        Label::Tick => Ok(StepTo {
-            label: Label::Silent,
-            to: second,
-        }),
-        _ => {
-            let to = pool.put_node(Node::Seq(step.to, second))?;
-            Ok(StepTo {
-                label: step.label,
-                to,
-            })
-        }
-    }
+// An operator with its number, and the place of the process that it makes.
+#[derive(Clone, Copy)]
+struct Round<'a> {
+    operator: &'a Operator,
+    number: usize,
+    id: ProcId,
 }
 
-// What the steps of the first part make of a sequence.
-fn sequence(
-    alloc: Global,
-    pool: &mut Pool,
-    second: ProcId,
-    below: &[StepTo],
-) -> Result<Items<StepTo>, NoMemory>
-    requires second { second.0 < length pool.old }
-    requires below { all_within (length pool.old) below.now ≡ true }
-    ensures steps { IfOk result (λ made. AreMoves pool.new made (map (λ m. lists.in_sequence (tree_at pool.old second) m.0 m.1) (map (seen pool.old) below.now))) }
-    ensures front { IsFront pool.old pool.new }
-{
-    let mut steps = Items::new(alloc);
-    for step in below {
-        steps.push_made(in_sequence(pool, second, *step))?;
-    }
-    Ok(steps)
-}
-
-// The place of a process that has ended.
+/// The place of a process that has ended.
 pub(crate) fn put_ended(pool: &mut Pool) -> Result<ProcId, NoMemory>
     ensures process { IfOk result (λ made. slice_get pool.new made.0 ≡ Some proc.Ended) }
     ensures front { IsFront pool.old pool.new }
 {
     pool.put_node(Node::Ended)
+}
+
+// The step of the whole where the process below ends.
+fn last_step(pool: &mut Pool, operator: &Operator) -> Result<StepTo, NoMemory>
+    requires { IsWithin (length pool.old) operator.now }
+    ensures move_ { IfOk result (λ made. IsMove pool.new made (last_by pool.old operator.now)) }
+    ensures front { IsFront pool.old pool.new }
+{
+    if let Operator::Seq(second) = operator {
+        return Ok(StepTo {
+            label: Label::Silent,
+            to: *second,
+        });
+    }
+    let to = put_ended(pool)?;
+    Ok(StepTo {
+        label: Label::Tick,
+        to,
+    })
 }
 
 // Whether the label is one of the hidden events.
@@ -96,197 +83,131 @@ fn label_of(hidden: &EventSet, label: Label) -> Label
     label
 }
 
-// What a step of the process below makes of a hiding.
-fn in_hiding(
-    pool: &mut Pool,
-    id: ProcId,
-    hidden: &EventSet,
-    step: StepTo,
-) -> Result<StepTo, NoMemory>
-    requires id { id.0 < length pool.old }
-    requires within { step.to.0 < length pool.old }
-    ensures move_ { IfOk result (λ made. IsMove pool.new made (hidden_move hidden.now (tree_at pool.old id) step.label (tree_at pool.old step.to))) }
-    ensures front { IsFront pool.old pool.new }
+// Adds a step by each of the events to a place.
+fn add_events(events: &[Event], to: ProcId, steps: &mut Items<StepTo>) -> Result<(), NoMemory>
+    ensures { OnOk result (steps.new ≡ steps.old ++ map (λ e. record { label = Label.Visible e; to = to }) events.now) }
 {
-    match step.label {
-        Label::Tick => {
-            let to = put_ended(pool)?;
-            Ok(StepTo {
-                label: Label::Tick,
-                to,
-            })
-        }
-        _ => {
-            let label = label_of(hidden, step.label);
-            let to = pool.put_with_first(id, step.to)?;
-            Ok(StepTo { label, to })
-        }
-    }
-}
-
-// What the steps of the process below make of a hiding.
-fn hiding(
-    alloc: Global,
-    pool: &mut Pool,
-    id: ProcId,
-    hidden: &EventSet,
-    below: &[StepTo],
-) -> Result<Items<StepTo>, NoMemory>
-    requires id { id.0 < length pool.old }
-    requires below { all_within (length pool.old) below.now ≡ true }
-    ensures steps { IfOk result (λ made. AreMoves pool.new made (map (λ m. hidden_move hidden.now (tree_at pool.old id) m.0 m.1) (map (seen pool.old) below.now))) }
-    ensures front { IsFront pool.old pool.new }
-{
-    let mut steps = Items::new(alloc);
-    for step in below {
-        steps.push_made(in_hiding(pool, id, hidden, *step))?;
-    }
-    Ok(steps)
-}
-
-// The steps of a hiding whose set has a number, from those of the process below. The hidings that they lead to have the same set.
-fn hide(
-    alloc: Global,
-    pool: &mut Pool,
-    evaluated: &mut Evaluated,
-    id: ProcId,
-    number: usize,
-    below: &[StepTo],
-) -> Result<Items<StepTo>, NoMemory>
-    requires id { id.0 < length pool.old }
-    requires number { number < length evaluated.old.sets }
-    requires below { all_within (length pool.old) below.now ≡ true }
-    ensures steps { (hidden : List ℕ) → slice_get evaluated.old.sets number ≡ Some hidden → IfOk result (λ made. AreMoves pool.new made (map (λ m. hidden_move hidden (tree_at pool.old id) m.0 m.1) (map (seen pool.old) below.now))) }
-    ensures front { IsFront pool.old pool.new }
-    ensures fits { (p : Content) → (hidden : List ℕ) → slice_get evaluated.old.sets number ≡ Some hidden → Hides p (out-Proc (tree_at pool.old id)) hidden → Fits p pool.old evaluated.old → OnOk result (Fits p pool.new evaluated.new) }
-{
-    let hidden = &evaluated.sets.as_slice()[number];
-    let steps = hiding(alloc, pool, id, hidden, below)?;
-    note_steps(&mut evaluated.hidings, number, steps.as_slice())?;
-    Ok(steps)
-}
-
-// Steps, and after them one by each of the events to a place.
-fn add_events(events: &[Event], to: ProcId, steps: Items<StepTo>) -> Result<Items<StepTo>, NoMemory>
-    ensures { IfOk result (λ made. made ≡ steps ++ map (λ e. record { label = Label.Visible e; to = to }) events.now) }
-{
-    let mut steps = steps;
     for event in events {
         steps.push(StepTo {
             label: Label::Visible(*event),
             to,
         })?;
     }
-    Ok(steps)
+    Ok(())
 }
 
-// Steps, and after them one more.
-fn add_step(label: Label, to: ProcId, steps: Items<StepTo>) -> Result<Items<StepTo>, NoMemory>
-    ensures { IfOk result (λ made. made ≡ steps ++ record { label = label; to = to } ∷ []) }
-{
-    let mut steps = steps;
-    steps.push(StepTo { label, to })?;
-    Ok(steps)
-}
-
-// What the event of a label becomes.
-fn label_images(alloc: Global, images: &Images, label: &Label) -> Result<Items<Event>, NoMemory>
-    ensures { IfOk result (λ made. made ≡ images_in (becomes images.now) label.now) }
+// Adds a step to a place by each label that a renaming makes of one.
+fn add_renamed(
+    alloc: Global,
+    images: &Images,
+    label: Label,
+    to: ProcId,
+    steps: &mut Items<StepTo>,
+) -> Result<(), NoMemory>
+    ensures { OnOk result (steps.new ≡ steps.old ++ map (λ l. record { label = l; to = to }) (renamed_labels (becomes images.now) label)) }
 {
     match label {
-        Label::Visible(event) => images_of(alloc, images, *event),
-        Label::Silent => Ok(Items::new(alloc)),
-        Label::Tick => Ok(Items::new(alloc)),
+        Label::Visible(event) => {
+            let events = images_of(alloc, images, event)?;
+            add_events(events.as_slice(), to, steps)?;
+            Ok(())
+        }
+        Label::Silent => steps.push(StepTo { label, to }),
+        Label::Tick => Ok(()),
     }
 }
 
-// Steps, and after them those by what the event of a step becomes.
-fn add_visible(
+// Adds a step to a place by each label as which an operator lets one be seen.
+fn add_seen(
     alloc: Global,
-    pool: &mut Pool,
-    id: ProcId,
-    images: &Images,
-    step: StepTo,
-    steps: Items<StepTo>,
-) -> Result<Items<StepTo>, NoMemory>
-    requires id { id.0 < length pool.old }
-    requires within { step.to.0 < length pool.old }
-    requires steps { all_within (length pool.old) steps ≡ true }
-    ensures steps { IfOk result (λ made. AreMoves pool.new made (map (seen pool.old) steps ++ map (λ d. (Label.Visible d, with_first (tree_at pool.old id) (tree_at pool.old step.to))) (images_in (becomes images.now) step.label))) }
-    ensures front { IsFront pool.old pool.new }
+    operator: &Operator,
+    label: Label,
+    to: ProcId,
+    steps: &mut Items<StepTo>,
+) -> Result<(), NoMemory>
+    ensures { OnOk result (steps.new ≡ steps.old ++ map (λ l. record { label = l; to = to }) (labels_by operator.now label)) }
 {
-    let events = label_images(alloc, images, &step.label)?;
-    let to = pool.put_with_first(id, step.to)?;
-    add_events(events.as_slice(), to, steps)
+    match operator {
+        Operator::Hide(hidden) => steps.push(StepTo {
+            label: label_of(hidden, label),
+            to,
+        }),
+        Operator::Rename(images) => add_renamed(alloc, images, label, to, steps),
+        Operator::Seq(_) => steps.push(StepTo { label, to }),
+    }
 }
 
-// Steps, and after them what a step of the process below makes of a renaming.
-fn add_renamed(
+// Adds what is made of a step by which the process below goes on. The process after it has the same operator.
+fn add_going(
     alloc: Global,
     pool: &mut Pool,
-    id: ProcId,
-    images: &Images,
+    places: &mut HashMap<usize, usize>,
+    round: &Round<'_>,
     step: StepTo,
-    steps: Items<StepTo>,
-) -> Result<Items<StepTo>, NoMemory>
-    requires id { id.0 < length pool.old }
-    requires within { step.to.0 < length pool.old }
-    requires steps { all_within (length pool.old) steps ≡ true }
-    ensures steps { IfOk result (λ made. AreMoves pool.new made (map (seen pool.old) steps ++ renamed_moves (becomes images.now) (tree_at pool.old id) step.label (tree_at pool.old step.to))) }
+    steps: &mut Items<StepTo>,
+) -> Result<(), NoMemory>
+    requires id { round.now.id.0 < length pool.old }
+    requires below { step.to.0 < length pool.old }
+    requires within { all_within (length pool.old) steps.old ≡ true }
+    ensures steps { OnOk result (AreMoves pool.new steps.new (map (seen pool.old) steps.old ++ map (λ l. (l, with_first (tree_at pool.old round.now.id) (tree_at pool.old step.to))) (labels_by round.now.operator.now step.label))) }
     ensures front { IsFront pool.old pool.new }
+    ensures noted { (p : Content) → (operators : List Kept) → IsNumbered p pool.old operators round.now → AreNoted p pool.old operators places.old → OnOk result (AreNoted p pool.new operators places.new) }
+{
+    let to = pool.put_with_first(round.id, step.to)?;
+    keep(places, to.0, round.number)?;
+    add_seen(alloc, round.operator, step.label, to, steps)?;
+    Ok(())
+}
+
+// Adds what an operator makes of a step of the process below.
+fn add_made(
+    alloc: Global,
+    pool: &mut Pool,
+    places: &mut HashMap<usize, usize>,
+    round: &Round<'_>,
+    step: StepTo,
+    steps: &mut Items<StepTo>,
+) -> Result<(), NoMemory>
+    requires id { round.now.id.0 < length pool.old }
+    requires operator { IsWithin (length pool.old) round.now.operator.now }
+    requires below { step.to.0 < length pool.old }
+    requires within { all_within (length pool.old) steps.old ≡ true }
+    ensures steps { OnOk result (AreMoves pool.new steps.new (map (seen pool.old) steps.old ++ moves_of (effect_as pool.old round.now.operator.now) (tree_at pool.old round.now.id) step.label (tree_at pool.old step.to))) }
+    ensures front { IsFront pool.old pool.new }
+    ensures noted { (p : Content) → (operators : List Kept) → IsNumbered p pool.old operators round.now → AreNoted p pool.old operators places.old → OnOk result (AreNoted p pool.new operators places.new) }
 {
     match step.label {
         Label::Tick => {
-            let to = put_ended(pool)?;
-            add_step(Label::Tick, to, steps)
+            let last = last_step(pool, round.operator)?;
+            steps.push(last)?;
+            Ok(())
         }
-        Label::Silent => {
-            let to = pool.put_with_first(id, step.to)?;
-            add_step(Label::Silent, to, steps)
+        _ => {
+            add_going(alloc, pool, places, round, step, steps)?;
+            Ok(())
         }
-        Label::Visible(_) => add_visible(alloc, pool, id, images, step, steps),
     }
 }
 
-// What the steps of the process below make of a renaming.
-fn renaming(
+// What an operator makes of the steps of the process below.
+fn made_of(
     alloc: Global,
     pool: &mut Pool,
-    id: ProcId,
-    images: &Images,
+    places: &mut HashMap<usize, usize>,
+    round: &Round<'_>,
     below: &[StepTo],
 ) -> Result<Items<StepTo>, NoMemory>
-    requires id { id.0 < length pool.old }
+    requires id { round.now.id.0 < length pool.old }
+    requires operator { IsWithin (length pool.old) round.now.operator.now }
     requires below { all_within (length pool.old) below.now ≡ true }
-    ensures steps { IfOk result (λ made. AreMoves pool.new made (joined (map (λ m. renamed_moves (becomes images.now) (tree_at pool.old id) m.0 m.1) (map (seen pool.old) below.now)))) }
+    ensures steps { IfOk result (λ made. AreMoves pool.new made (joined (map (λ m. moves_of (effect_as pool.old round.now.operator.now) (tree_at pool.old round.now.id) m.0 m.1) (map (seen pool.old) below.now)))) }
     ensures front { IsFront pool.old pool.new }
+    ensures noted { (p : Content) → (operators : List Kept) → IsNumbered p pool.old operators round.now → AreNoted p pool.old operators places.old → OnOk result (AreNoted p pool.new operators places.new) }
 {
     let mut steps = Items::new(alloc);
     for step in below {
-        steps = add_renamed(alloc, pool, id, images, *step, steps)?;
+        add_made(alloc, pool, places, round, *step, &mut steps)?;
     }
-    Ok(steps)
-}
-
-// The steps of a renaming that has a number, from those of the process below. The renamings that they lead to rename the same.
-fn rename(
-    alloc: Global,
-    pool: &mut Pool,
-    evaluated: &mut Evaluated,
-    id: ProcId,
-    number: usize,
-    below: &[StepTo],
-) -> Result<Items<StepTo>, NoMemory>
-    requires id { id.0 < length pool.old }
-    requires number { number < length evaluated.old.images }
-    requires below { all_within (length pool.old) below.now ≡ true }
-    ensures steps { (images : Kept) → slice_get evaluated.old.images number ≡ Some images → IfOk result (λ made. AreMoves pool.new made (joined (map (λ m. renamed_moves (becomes images) (tree_at pool.old id) m.0 m.1) (map (seen pool.old) below.now)))) }
-    ensures front { IsFront pool.old pool.new }
-    ensures fits { (p : Content) → (images : Kept) → slice_get evaluated.old.images number ≡ Some images → Renames p (out-Proc (tree_at pool.old id)) images → Fits p pool.old evaluated.old → OnOk result (Fits p pool.new evaluated.new) }
-{
-    let images = &evaluated.images.as_slice()[number];
-    let steps = renaming(alloc, pool, id, images, below)?;
-    note_steps(&mut evaluated.renamings, number, steps.as_slice())?;
     Ok(steps)
 }
 
@@ -306,28 +227,12 @@ pub(crate) fn around(
     ensures front { IsFront pool.old pool.new }
     ensures fits { OnOk result (Fits program.now pool.new evaluated.new) }
 {
-    match pool.node(id) {
-        Node::Hide(_, set) => {
-            let number = hidden_number(alloc, program, evaluated, id, set)?;
-            let steps = hide(alloc, pool, evaluated, id, number, below)?;
-            Ok(steps)
-        }
-        Node::Rename(_, pairs, gens) => {
-            let number = renamed_number(
-                alloc,
-                program,
-                evaluated,
-                id,
-                pairs.as_slice(),
-                gens.as_slice(),
-            )?;
-            let steps = rename(alloc, pool, evaluated, id, number, below)?;
-            Ok(steps)
-        }
-        Node::Seq(_, second) => {
-            let steps = sequence(alloc, pool, second, below)?;
-            Ok(steps)
-        }
-        _ => Ok(Items::new(alloc)),
-    }
+    let number = operator_number(alloc, program, pool, evaluated, id)?;
+    let round = Round {
+        operator: &evaluated.operators.as_slice()[number],
+        number,
+        id,
+    };
+    let steps = made_of(alloc, pool, &mut evaluated.places, &round, below)?;
+    Ok(steps)
 }

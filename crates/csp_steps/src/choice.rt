@@ -2,7 +2,7 @@
 
 ghost use Rattle.std.specs.Prelude.{◌≡◌, ◌<◌, true, length, map, slice_get, slice_set, IfOk, Some};
 ghost use Rattle.csp_atoms.specs.declared.value.Value.TheVariants as value;
-ghost use Rattle.csp_program.specs.Substitution.{proc_with};
+ghost use Rattle.csp_program.specs.Substitution.{one, proc_with};
 ghost use Rattle.csp_program.specs.declared.processes.Proc.TheVariants as proc;
 ghost use Rattle.process_steps.specs.Step as meant;
 ghost use Rattle.process_steps.specs.StepList as lists;
@@ -13,24 +13,29 @@ ghost use Rattle.csp_steps.specs.Listed.{seen};
 
 use crate::step::StepTo;
 use containers::Items;
-use csp_atoms::{Atom, Value};
+use csp_atoms::Atom;
 use csp_base::NoMemory;
 use process_steps::Label;
 use std::alloc::Global;
+use std::slice::from_ref;
+use substitution::Values;
 use term_pool::{Node, Pool, ProcId};
 
-/// The place of what the process at `id` is with the atom in place of the name.
-pub(crate) fn put_atom(
+// The place of what the process at `id` is with the atom in place of the name.
+fn put_atom(
+    alloc: Global,
     pool: &mut Pool,
     name: u32,
     atom: Atom,
     id: ProcId,
 ) -> Result<ProcId, NoMemory>
     requires within { id.0 < length pool.old }
-    ensures process { IfOk result (λ made. slice_get pool.new made.0 ≡ Some (proc_with name (value.One atom) (tree_at pool.old id))) }
+    ensures process { IfOk result (λ made. slice_get pool.new made.0 ≡ Some (proc_with (one name (value.One atom)) (tree_at pool.old id))) }
     ensures front { IsFront pool.old pool.new }
 {
-    pool.substitute(id, name, &Value::One(atom))
+    let bound = (name, atom);
+    let values = Values::bound(alloc, from_ref(&bound));
+    pool.put_all_in(id, &values)
 }
 
 /// The places of what the process at `id` is with each of the atoms in place of the name.
@@ -47,7 +52,7 @@ pub(crate) fn each_put(
 {
     let mut ids = Items::new(alloc);
     for atom in atoms {
-        ids.push_made(put_atom(pool, name, *atom, id))?;
+        ids.push_made(put_atom(alloc, pool, name, *atom, id))?;
     }
     Ok(ids)
 }

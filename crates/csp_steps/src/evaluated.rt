@@ -1,45 +1,35 @@
 //! What was evaluated for the processes of a pool, so that it is evaluated once.
 
-ghost use Rattle.std.specs.Prelude.{◌≡◌, ◌<◌, [], ◌∷◌, ◌++◌, length, List, nat_eq, slice_get, IfOk, IfSome, OnOk, OnErr, Ok, Some};
+ghost use Rattle.std.specs.Prelude.{◌≡◌, ◌<◌, [], ◌∷◌, ◌++◌, length, List, nat_eq, slice_get, IfOk, IfSome, OnOk, OnErr, Some};
 ghost use Rattle.std.specs.HashMap.{get, IsUnchanged, Updates};
 ghost use Rattle.csp_program.specs.declared.processes.Proc.{Proc as Process};
-ghost use Rattle.csp_program.specs.declared.processes.Proc.TheViews.{out-Proc};
 ghost use Rattle.csp_program.specs.declared.programs.Content.{Content};
-ghost use Rattle.process_steps.specs.Needed as meant;
-ghost use Rattle.process_steps.specs.Renaming as renaming;
 ghost use Rattle.process_steps.specs.StepList.{steps_of};
 ghost use Rattle.term_pool.specs.Pooled.{IsFront};
 ghost use Rattle.term_pool.specs.Trees.{tree_at};
 ghost use Rattle.csp_steps.specs.Computed.{AreEach};
-ghost use Rattle.csp_steps.specs.Evaluated.{body_of, hidden_by, renamed_by, AreBodies, Fits, GivesImages, GivesNumber, HasMoreNumbers};
-ghost use Rattle.step_values.specs.Images.{KeepsOutcome};
+ghost use Rattle.csp_steps.specs.Evaluated.{body_of, AreBodies, Fits, GivesNumber};
 
+use crate::operator::{Operator, operator_at};
 use crate::step::StepTo;
 use containers::Items;
-use csp_base::{EventSet, NoMemory};
-use csp_program::{EventPart, Expr, Gen, Proc, Program};
+use csp_base::NoMemory;
+use csp_program::{Proc, Program};
 use csp_values::EvalFault;
-use process_steps::Label;
 use std::alloc::Global;
 use std::collections::HashMap;
-use step_values::{Images, events_in, images_by_event, renaming_in};
 use term_pool::{Pool, ProcId};
 
 // So many steps are kept at most, unless there are more at one place.
-const MOST_KEPT: usize = 1_048_576;
+const MOST_KEPT: usize = 4_194_304;
 
-/// What was evaluated for the processes of a pool: the events that hidings hide, what events become by renamings, the places of the bodies of
-/// definitions; and steps.
+/// What was evaluated for the processes of a pool: operators, and the places of the bodies of definitions; and steps.
 #[derive(Drop)]
 pub struct Evaluated {
-    /// Sets of hidden events.
-    pub(crate) sets: Items<EventSet>,
-    /// The number of its set, for the place of a hiding.
-    pub(crate) hidings: HashMap<usize, usize>,
-    /// What events become by renamings.
-    pub(crate) images: Items<Images>,
-    /// The number of what events become by it, for the place of a renaming.
-    pub(crate) renamings: HashMap<usize, usize>,
+    /// Operators round processes.
+    pub(crate) operators: Items<Operator>,
+    /// The number of its operator, for the place of a hiding, a renaming or a sequence.
+    pub(crate) places: HashMap<usize, usize>,
     /// The place of its body, for the number of a definition.
     pub(crate) bodies: HashMap<usize, usize>,
     /// The steps of choices, hidings, renamings and sequences.
@@ -56,10 +46,8 @@ impl Evaluated {
         ensures { (p : Content) → (trees : List Process) → Fits p trees result }
     {
         Evaluated {
-            sets: Items::new(alloc),
-            hidings: HashMap::new(alloc),
-            images: Items::new(alloc),
-            renamings: HashMap::new(alloc),
+            operators: Items::new(alloc),
+            places: HashMap::new(alloc),
             bodies: HashMap::new(alloc),
             lists: Items::new(alloc),
             stepped: HashMap::new(alloc),
@@ -75,8 +63,12 @@ fn known(numbers: &HashMap<usize, usize>, key: usize) -> Option<usize>
     numbers.get(&key).copied()
 }
 
-// Keeps a number for the key.
-fn keep(numbers: &mut HashMap<usize, usize>, key: usize, number: usize) -> Result<(), NoMemory>
+/// Keeps a number for the key.
+pub(crate) fn keep(
+    numbers: &mut HashMap<usize, usize>,
+    key: usize,
+    number: usize,
+) -> Result<(), NoMemory>
     ensures ok { OnOk result (Updates nat_eq numbers.old numbers.new key (Some number)) }
     ensures err { OnErr result (IsUnchanged numbers.old numbers.new) }
 {
@@ -103,93 +95,31 @@ fn put_value<T: Drop>(
     Ok(number)
 }
 
-/// The number of the set of the hiding at a place, which is evaluated if it isn't yet.
-pub(crate) fn hidden_number(
+/// The number of the operator at a place, which is evaluated if it isn't yet.
+pub(crate) fn operator_number(
     alloc: Global,
     program: &Program,
+    pool: &Pool,
     evaluated: &mut Evaluated,
     id: ProcId,
-    set: &Expr,
 ) -> Result<usize, EvalFault>
-    ensures { (trees : List Process) → id.0 < length trees → hidden_by program.now (out-Proc (tree_at trees id)) ≡ meant.events_in program.now set.now → Fits program.now trees evaluated.old → GivesNumber program.now trees evaluated.new evaluated.new.sets result (λ hidden. meant.events_in program.now set.now ≡ Ok hidden) (meant.events_in program.now set.now) }
+    requires within { id.0 < length pool.now }
+    requires fits { Fits program.now pool.now evaluated.old }
+    ensures { GivesNumber program.now pool.now evaluated.new result (tree_at pool.now id) }
 {
-    if let Some(number) = known(&evaluated.hidings, id.0) {
+    if let Some(number) = known(&evaluated.places, id.0) {
         return Ok(number);
     }
-    let hidden = events_in(alloc, program, set)?;
-    let Ok(number) = put_value(&mut evaluated.sets, &mut evaluated.hidings, id.0, hidden) else {
-        return Err(EvalFault::NoMemory);
-    };
-    Ok(number)
-}
-
-// What events become by a renaming.
-fn images_in(
-    alloc: Global,
-    program: &Program,
-    pairs: &[(EventPart, EventPart)],
-    gens: &[Gen],
-) -> Result<Images, EvalFault>
-    ensures { GivesImages result (renaming.renaming_in program.now pairs.now gens.now) }
-{
-    let renamed = renaming_in(alloc, program, pairs, gens)?;
-    let images = images_by_event(alloc, renamed.as_slice())?;
-    Ok(images)
-}
-
-/// The number of what events become by the renaming at a place, which is evaluated if it isn't yet.
-pub(crate) fn renamed_number(
-    alloc: Global,
-    program: &Program,
-    evaluated: &mut Evaluated,
-    id: ProcId,
-    pairs: &[(EventPart, EventPart)],
-    gens: &[Gen],
-) -> Result<usize, EvalFault>
-    ensures { (trees : List Process) → id.0 < length trees → renamed_by program.now (out-Proc (tree_at trees id)) ≡ renaming.renaming_in program.now pairs.now gens.now → Fits program.now trees evaluated.old → GivesNumber program.now trees evaluated.new evaluated.new.images result (λ images. KeepsOutcome images (renaming.renaming_in program.now pairs.now gens.now)) (renaming.renaming_in program.now pairs.now gens.now) }
-{
-    if let Some(number) = known(&evaluated.renamings, id.0) {
-        return Ok(number);
-    }
-    let images = images_in(alloc, program, pairs, gens)?;
+    let operator = operator_at(alloc, program, pool, id)?;
     let Ok(number) = put_value(
-        &mut evaluated.images,
-        &mut evaluated.renamings,
+        &mut evaluated.operators,
+        &mut evaluated.places,
         id.0,
-        images,
+        operator,
     ) else {
         return Err(EvalFault::NoMemory);
     };
     Ok(number)
-}
-
-// Keeps the number for the place that the step leads to, unless it is a tick.
-fn note_step(
-    numbers: &mut HashMap<usize, usize>,
-    number: usize,
-    step: StepTo,
-) -> Result<(), NoMemory>
-    ensures { OnOk result (HasMoreNumbers numbers.old numbers.new number (step ∷ [])) }
-{
-    match step.label {
-        Label::Tick => Ok(()),
-        Label::Silent => keep(numbers, step.to.0, number),
-        Label::Visible(_) => keep(numbers, step.to.0, number),
-    }
-}
-
-/// Keeps the number for each of the places that the steps lead to, but for those of ticks.
-pub(crate) fn note_steps(
-    numbers: &mut HashMap<usize, usize>,
-    number: usize,
-    steps: &[StepTo],
-) -> Result<(), NoMemory>
-    ensures { OnOk result (HasMoreNumbers numbers.old numbers.new number steps.now) }
-{
-    for step in steps {
-        note_step(numbers, number, *step)?;
-    }
-    Ok(())
 }
 
 /// The place of the body of the definition with this number, which is put into the pool if it isn't there yet.

@@ -1,22 +1,17 @@
 //! What comes next in the fields of a prefix, under the values of the inputs before.
 
-ghost use Rattle.std.specs.Prelude.{◌≡◌, ◌≤◌, [], length, List, IfOk, Ok};
+ghost use Rattle.std.specs.Prelude.{◌≡◌, ◌≤◌, [], IfOk, Ok};
 ghost use Rattle.csp_program.specs.Outcome.{and_then};
 ghost use Rattle.csp_program.specs.Value.{Env};
-ghost use Rattle.csp_program.specs.declared.processes.Proc.{Proc};
 ghost use Rattle.csp_program.specs.declared.programs.Content.{Content};
-ghost use Rattle.csp_values.specs.Worth.{worth};
+ghost use Rattle.process_steps.specs.Prefix as meant;
 ghost use Rattle.value_laws.specs.Numbers.{field_place};
 ghost use Rattle.value_operators.specs.Env.{with_bound};
 ghost use Rattle.value_operators.specs.Gives.{Gives};
-ghost use Rattle.pool_parts.specs.declared.place.ProcId.{ProcId};
-ghost use Rattle.term_pool.specs.Trees.{tree_at};
-ghost use Rattle.csp_steps.specs.Listed.{FaultIs};
-ghost use Rattle.csp_steps.specs.Walked as meant;
-ghost use Rattle.csp_steps.specs.Walked.{given_under, is_blocked, is_plain, next_ways, next_weight, number_with, turn_ways, ways_under, weight, IsNextTo};
+ghost use Rattle.csp_steps.specs.Walked.{is_blocked, is_plain, next_weight, number_with, turn_ways, ways_by_number, weight, GivesNext};
 
 use crate::walk::{Input, Turn};
-use csp_atoms::{Atom, AtomSet};
+use csp_atoms::{Atom, AtomSet, Value};
 use csp_program::{Expr, Field, Program, ValueKind};
 use csp_values::{EvalFault, eval_under};
 use std::alloc::Global;
@@ -80,11 +75,23 @@ pub(crate) fn are_blocked(sets: &[AtomSet], fields: &[Field]) -> bool
     false
 }
 
+// The value of an expression under names that are bound.
+#[tactic(auto, unfolding(csp_values::specs::Worth::worth))]
+fn value_under(
+    filling: &Filling<'_>,
+    bound: &[(u32, Atom)],
+    expr: &Expr,
+) -> Result<Value, EvalFault>
+    ensures { Gives result (meant.value_under filling.now.program.now (with_bound bound.now []) expr.now) }
+{
+    eval_under(filling.alloc, filling.program, bound, expr)
+}
+
 // A set of values under names that are bound.
 fn set_under(filling: &Filling<'_>, bound: &[(u32, Atom)], set: &Expr) -> Result<AtomSet, EvalFault>
     ensures { Gives result (meant.set_under filling.now.program.now (with_bound bound.now []) set.now) }
 {
-    let value = eval_under(filling.alloc, filling.program, bound, set)?;
+    let value = value_under(filling, bound, set)?;
     to_set(value)
 }
 
@@ -94,7 +101,7 @@ fn values_given(
     bound: &[(u32, Atom)],
     set: &Option<Expr>,
 ) -> Result<Option<AtomSet>, EvalFault>
-    ensures { Gives result (given_under filling.now.program.now (with_bound bound.now []) set.now) }
+    ensures { Gives result (meant.given_under filling.now.program.now (with_bound bound.now []) set.now) }
 {
     match set {
         Some(set) => {
@@ -120,18 +127,16 @@ fn number_with_output(
     output: &Expr,
     number: u64,
 ) -> Result<u64, EvalFault>
-    ensures { Gives result (and_then (worth filling.now.program.now (length filling.now.program.now.defs) (with_bound bound.now []) output.now) (λ v. and_then (field_place set.now v) (λ k. Ok (number_with number set.now k)))) }
+    ensures { Gives result (and_then (meant.value_under filling.now.program.now (with_bound bound.now []) output.now) (λ v. and_then (field_place set.now v) (λ k. Ok (number_with number set.now k)))) }
 {
-    let value = eval_under(filling.alloc, filling.program, bound, output)?;
+    let value = value_under(filling, bound, output)?;
     let place = place_in(set, &value)?;
     Ok(number_after(number, set, place))
 }
 
 // What comes after outputs where no set is left.
 fn end_of<'a>(fields: &[Field], number: u64) -> Result<Next<'a>, EvalFault>
-    ensures fault { (p : Content) → (env : Env) → (q : Proc) → FaultIs result (ways_under p env [] fields.now q number) }
-    ensures next { IfOk result (λ next. (p : Content) → (env : Env) → (trees : List Proc) → (to : ProcId) → ways_under p env [] fields.now (tree_at trees to) number ≡ next_ways p trees env to next) }
-    ensures to { IfOk result (λ next. (to : ProcId) → IsNextTo to next) }
+    ensures next { (p : Content) → (env : Env) → GivesNext p env result (ways_by_number p [] fields.now env number) }
     ensures less { IfOk result (λ next. next_weight next ≡ 1) }
 {
     if fields.is_empty() {
@@ -146,9 +151,7 @@ pub(crate) fn next_of<'a>(
     bound: &[(u32, Atom)],
     turn: &Turn<'a>,
 ) -> Result<Next<'a>, EvalFault>
-    ensures fault { (trees : List Proc) → FaultIs result (turn_ways filling.now.program.now trees (with_bound bound.now []) turn.now) }
-    ensures next { IfOk result (λ next. (trees : List Proc) → turn_ways filling.now.program.now trees (with_bound bound.now []) turn.now ≡ next_ways filling.now.program.now trees (with_bound bound.now []) turn.now.to next) }
-    ensures to { IfOk result (λ next. IsNextTo turn.now.to next) }
+    ensures next { GivesNext filling.now.program.now (with_bound bound.now []) result (turn_ways filling.now.program.now (with_bound bound.now []) turn.now) }
     ensures less { IfOk result (λ next. next_weight next ≤ weight turn.now.sets.now) }
 {
     let mut sets = turn.sets;
@@ -173,7 +176,6 @@ pub(crate) fn next_of<'a>(
                     sets: rest,
                     fields: later,
                     number,
-                    to: turn.to,
                 }));
             }
         }

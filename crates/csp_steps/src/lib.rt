@@ -13,6 +13,7 @@ mod evaluated;
 mod fields;
 mod look;
 mod once;
+mod operator;
 mod prefix;
 mod step;
 mod steps;

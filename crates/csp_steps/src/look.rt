@@ -8,7 +8,7 @@ ghost use Rattle.csp_program.specs.declared.processes.Proc.{Proc as Process};
 ghost use Rattle.csp_program.specs.declared.processes.Proc.TheVariants as proc;
 ghost use Rattle.csp_program.specs.declared.programs.Content.{Content};
 ghost use Rattle.process_steps.specs.Needed as need;
-ghost use Rattle.process_steps.specs.Prefix as meant;
+ghost use Rattle.process_steps.specs.Ways as meant;
 ghost use Rattle.term_pool.specs.Pooled.{IsFront};
 ghost use Rattle.term_pool.specs.Trees.{all_below, tree_at};
 ghost use Rattle.csp_steps.specs.Computed.{GivesLook};
@@ -116,7 +116,7 @@ fn look_prefix(
     id: ProcId,
 ) -> Result<Look, EvalFault>
     requires within { id.0 < length pool.old }
-    ensures look { (head : LogicHead) → (written : List LogicField) → IfOk fields (λ fs. fs ≡ written) → (choice : meant.Choice) → meant.of_head program.now head ≡ Ok choice → IsStart start.now choice → GivesLook program.now pool.new result (proc.Prefix head written (tree_at pool.old id)) }
+    ensures look { (head : LogicHead) → (written : List LogicField) → IfOk fields (λ fs. fs ≡ written) → (among : meant.Among) → meant.of_head program.now head ≡ Ok among → IsStart program.now start.now among → GivesLook program.now pool.new result (proc.Prefix head written (tree_at pool.old id)) }
     ensures front { IsFront pool.old pool.new }
 {
     let fields = fields?;
@@ -186,7 +186,7 @@ fn look_call(
     ensures fits { OnOk result (Fits program.now pool.new evaluated.new) }
 {
     let values = values?;
-    let to = enter(program, pool, evaluated, def, values.as_slice())?;
+    let to = enter(alloc, program, pool, evaluated, def, values.as_slice())?;
     let steps = one_step(alloc, Label::Silent, to)?;
     Ok(Look::Steps(steps))
 }

@@ -1,13 +1,14 @@
 //! Where a walk over the ways to fill the fields of a prefix stands, with a stack of its own: no number of inputs costs stack of the program.
 
+ghost use Rattle.std.specs.Prelude.{◌≡◌, ◌++◌, ◌∷◌, [], OnOk};
 ghost use Rattle.csp_steps.specs.Walked.{IsBegun, IsPopped};
 
-use crate::step::StepTo;
 use containers::Items;
 use csp_atoms::{Atom, AtomSet};
+use csp_base::NoMemory;
 use csp_program::Field;
+use smallvec::SmallVec;
 use std::alloc::Global;
-use term_pool::ProcId;
 
 /// The fields that come next.
 #[derive(Clone, Copy)]
@@ -18,8 +19,6 @@ pub(crate) struct Turn<'a> {
     pub fields: &'a [Field],
     /// The number of the fields before them.
     pub number: u64,
-    /// The place of the process after them, which has the values of the inputs before them.
-    pub to: ProcId,
 }
 
 /// An input.
@@ -37,8 +36,6 @@ pub(crate) struct Input<'a> {
     pub fields: &'a [Field],
     /// The number of the fields before it.
     pub number: u64,
-    /// The place of the process after all fields, which has the values of the inputs before it.
-    pub to: ProcId,
 }
 
 /// An input under which a walk stands.
@@ -55,14 +52,23 @@ pub(crate) struct Frame<'a> {
 /// A walk over the ways to fill fields, in nested loops.
 #[derive(Drop)]
 pub(crate) struct Walk<'a> {
-    /// The names that are bound with their values, the last one bound at the end.
-    pub bound: Items<(u32, Atom)>,
+    /// The names that are bound with their values, the last one bound at the end. Most events have few fields.
+    pub bound: SmallVec<(u32, Atom), 4>,
     /// The inputs that bind them.
     pub frames: Items<Frame<'a>>,
     /// The fields that come next; none where the last input goes on.
     pub turn: Option<Turn<'a>>,
-    /// A step for each way that was found.
-    pub steps: Items<StepTo>,
+}
+
+/// What a walk comes to by one turn.
+#[derive(Clone, Copy)]
+pub(crate) enum Turned {
+    /// To the end of the fields: this is their number, under the names that are bound.
+    Way(u64),
+    /// To other fields.
+    On,
+    /// To its own end.
+    End,
 }
 
 /// A walk that begins.
@@ -70,10 +76,23 @@ pub(crate) fn begun<'a>(alloc: Global, turn: Turn<'a>) -> Walk<'a>
     ensures { IsBegun turn.entry result }
 {
     Walk {
-        bound: Items::new(alloc),
+        bound: SmallVec::new(alloc),
         frames: Items::new(alloc),
         turn: Some(turn),
-        steps: Items::new(alloc),
+    }
+}
+
+/// Binds one more name.
+pub(crate) fn bind(
+    bound: &mut SmallVec<(u32, Atom), 4>,
+    name: u32,
+    atom: Atom,
+) -> Result<(), NoMemory>
+    ensures { OnOk result (bound.new.items ≡ bound.old.items ++ (name, atom) ∷ []) }
+{
+    match bound.push((name, atom)) {
+        Ok(()) => Ok(()),
+        Err(_) => Err(NoMemory),
     }
 }
 
@@ -82,6 +101,6 @@ pub(crate) fn pop<'a>(walk: &mut Walk<'a>) -> Option<Frame<'a>>
     ensures { IsPopped walk.old walk.new result }
 {
     let frame = walk.frames.pop()?;
-    walk.bound.pop();
+    let _ = walk.bound.pop();
     Some(frame)
 }

@@ -1,11 +1,11 @@
 -- What a call answers for a form, from what calls answer for its parts.
-use Rattle.std.proofs.Common.{◌≡◌, ℕ, zero, suc, ◌+◌, ◌<◌, ◌^◌, Bool, true, false, List, [], None, Ok, Err, map, length, refl, ap, sym, subst, ◌∙◌, arith}
+use Rattle.std.proofs.Common.{◌≡◌, ℕ, zero, suc, ◌+◌, ◌<◌, ◌^◌, Bool, true, false, List, [], None, Ok, Err, length, refl, ap, sym, subst, ◌∙◌, arith}
 use Rattle.std.specs.Prelude.{ℤ, if◌then◌else◌, slice_get, Result}
 use Rattle.std.specs.Result.{IsErrAnd}
 use Rattle.csp_program.specs.Atoms.{all_added}
 use Rattle.value_laws.specs.Numbers.{ChannelsFit, events_from, span}
 use Rattle.csp_program.specs.Outcome.{Outcome, and_then}
-use Rattle.csp_program.specs.Value.{Env, Gathered, bound_to, bound_value, many, number, one_event, range, set_binary, as_number, as_set, sets_of, as_truth}
+use Rattle.csp_program.specs.Value.{Env, Gathered, bound_value, many, number, one_event, range, set_binary, as_number, as_set, sets_of, as_truth}
 use Rattle.csp_atoms.specs.declared.atom.Atom.{Atom}
 use Rattle.csp_atoms.specs.declared.atom.Atom.TheVariants as atom
 use Rattle.csp_atoms.specs.declared.value.Value.{Value}
@@ -17,19 +17,16 @@ use Rattle.csp_program.specs.declared.expressions.Expr.{Expr}
 use Rattle.csp_program.specs.declared.expressions.Expr.TheOpen.{Expr-F}
 use Rattle.csp_program.specs.declared.expressions.Expr.TheVariants as expr
 use Rattle.csp_program.specs.declared.expressions.Expr.TheViews.{out-EventPart}
-use Rattle.csp_program.specs.declared.expressions.Gen.{Gen}
 use Rattle.csp_program.specs.declared.kinds.ValueKind.{ValueKind}
 use Rattle.csp_program.specs.declared.kinds.ValueKind.TheVariants.{Kind, OutsideChannel}
-use Rattle.csp_program.specs.declared.programs.Body.TheVariants as body
 use Rattle.csp_program.specs.declared.programs.Channel.{Channel}
 use Rattle.csp_program.specs.declared.programs.Content.{Content}
-use Rattle.csp_program.specs.declared.programs.Def.{Def}
 use Rattle.value_operators.specs.Forms as form
-use Rattle.value_operators.specs.Forms.{negative, inverse, operation, choice, named_set, a_set, a_range, set_operation, gathered_set, produced, nothing_yet, count_with}
+use Rattle.value_operators.specs.Forms.{negative, inverse, operation, named_set, a_set, gathered_set, produced, count_with}
 use Rattle.value_operators.specs.Gives.{Gives}
 use Rattle.value_operators.specs.declared.fault.EvalFault.{EvalFault}
 use Rattle.value_operators.specs.declared.fault.EvalFault.TheVariants as fault
-use Rattle.csp_values.specs.Worth.{worth, worths, number_worth, truth_worth, atoms_worth, chosen, range_of, set_of, use_worth, body_worth, with_items, event_worth, front_worth, with_front, with_fronts, one_more_binding, walk_worth, GivesTally}
+use Rattle.csp_values.specs.Worth.{worth, worths, number_worth, truth_worth, atoms_worth, chosen, range_of, set_of, use_worth, with_items, event_worth, front_worth, with_front, with_fronts, one_more_binding, GivesTally}
 use Rattle.csp_values.specs.Course.{Course, GivesBinding, faulty, skipped}
 use Rattle.csp_values.specs.declared.tally.Tally.{Tally}
 use Rattle.csp_values.specs.declared.walk.Walk.{Walk}
@@ -39,16 +36,6 @@ use Rattle.csp_program.proofs.Outcomes.{and_then_regroup}
 
 pub same : {A : Type 0} (r : Result A EvalFault) (o o' : Outcome A) → o ≡ o' → Gives r o' → Gives r o
 same r o o' is h = subst (Gives r) (sym is) h
-
--- a fault of a part is a fault of the generators that it stands in
-tally_fault : {A : Type 0} (f : EvalFault) (part : Outcome A) (whole : Outcome Gathered) → Gives {A = A} (Err f) part → ((k : ValueKind) → part ≡ Err k → whole ≡ Err k) → GivesTally (Err f) whole
-tally_fault fault.NoMemory part whole h passes = tt
-tally_fault (fault.Value kind) part whole h passes = passes kind h
-
-pub part_passed : {A : Type 0} (r : Result Tally EvalFault) (f : EvalFault) (part : Outcome A) (whole : Outcome Gathered)
-    → IsErrAnd r (λ y. y ≡ f) → Gives {A = A} (Err f) part → ((k : ValueKind) → part ≡ Err k → whole ≡ Err k) → GivesTally r whole
-part_passed (Ok x) f part whole is h passes = absurd is
-part_passed (Err y) f part whole is h passes = rw is (tally_fault f part whole h passes)
 
 walk_fault : (f : EvalFault) (part whole : Outcome Gathered) → GivesTally (Err f) part → ((k : ValueKind) → part ≡ Err k → whole ≡ Err k) → GivesTally (Err f) whole
 walk_fault fault.NoMemory part whole h passes = tt
@@ -80,97 +67,75 @@ module _ {V M C : Type 0} (f : V → Outcome M) (g : M → M → Outcome C) wher
   both_parts (Ok v) b = second_part (f v) b
   both_parts (Err k) b = refl
 
-number_is : (p : Content) (n : ℕ) (env : Env) (e : Expr) → and_then (worth p n env e) (λ v. as_number v) ≡ number_worth p n env e
-unfolding number_worth
-number_is p n env e = refl
-
-truth_is : (p : Content) (n : ℕ) (env : Env) (e : Expr) → and_then (worth p n env e) (λ v. as_truth v) ≡ truth_worth p n env e
-unfolding truth_worth
-truth_is p n env e = refl
-
-atoms_are : (p : Content) (n : ℕ) (env : Env) (e : Expr) → and_then (worth p n env e) (λ v. as_set v) ≡ atoms_worth p n env e
-unfolding atoms_worth
-atoms_are p n env e = refl
-
 -- forms of expressions
 module _ (p : Content) (n : ℕ) (env : Env) where
-  pub worth_num : (e : Expr) (k m : ℤ) → e ≡ expr.Num k → m ≡ k → worth p n env e ≡ Ok (number m)
-  unfolding worth worths use_worth front_worth with_items with_fronts walk_worth
-  worth_num e k m is got = ap (worth p n env) is ∙ (eq.at p n env (expr.Num k) (Expr-F.Num k) (expr.rolls-Num k) ∙ (λ i. Ok (number (sym got i))))
+  pub worth-Num : (k : ℤ) → worth p n env (expr.Num k) ≡ Ok (number k)
+  unfolding worth
+  worth-Num k = eq.at p n env (expr.Num k) (Expr-F.Num k) (expr.rolls-Num k)
 
-  pub worth_truth : (e : Expr) (b : Bool) → e ≡ expr.Truth b → worth p n env e ≡ Ok (One (atom.Truth b))
-  unfolding worth worths use_worth front_worth with_items with_fronts walk_worth
-  worth_truth e b is = ap (worth p n env) is ∙ eq.at p n env (expr.Truth b) (Expr-F.Truth b) (expr.rolls-Truth b)
+  pub worth-Truth : (b : Bool) → worth p n env (expr.Truth b) ≡ Ok (One (atom.Truth b))
+  unfolding worth
+  worth-Truth b = eq.at p n env (expr.Truth b) (Expr-F.Truth b) (expr.rolls-Truth b)
 
-  pub worth_const : (e : Expr) (k : ℕ) → e ≡ expr.Const k → worth p n env e ≡ Ok (One (atom.Const k))
-  unfolding worth worths use_worth front_worth with_items with_fronts walk_worth
-  worth_const e k is = ap (worth p n env) is ∙ eq.at p n env (expr.Const k) (Expr-F.Const k) (expr.rolls-Const k)
+  pub worth-Const : (k : ℕ) → worth p n env (expr.Const k) ≡ Ok (One (atom.Const k))
+  unfolding worth
+  worth-Const k = eq.at p n env (expr.Const k) (Expr-F.Const k) (expr.rolls-Const k)
 
-  pub worth_bound : (e : Expr) (x : ℕ) → e ≡ expr.Bound x → worth p n env e ≡ bound_value env x
-  unfolding worth worths use_worth front_worth with_items with_fronts walk_worth
-  worth_bound e x is = ap (worth p n env) is ∙ eq.at p n env (expr.Bound x) (Expr-F.Bound x) (expr.rolls-Bound x)
+  pub worth-Bound : (x : ℕ) → worth p n env (expr.Bound x) ≡ bound_value env x
+  unfolding worth
+  worth-Bound x = eq.at p n env (expr.Bound x) (Expr-F.Bound x) (expr.rolls-Bound x)
 
-  pub worth_lit : (e : Expr) (v w : Value) → e ≡ expr.Lit v → w ≡ v → worth p n env e ≡ Ok w
-  unfolding worth worths use_worth front_worth with_items with_fronts walk_worth
-  worth_lit e v w is got = ap (worth p n env) is ∙ (eq.at p n env (expr.Lit v) (Expr-F.Lit v) (expr.rolls-Lit v) ∙ (λ i. Ok (sym got i)))
+  pub worth-Lit : (v : Value) → worth p n env (expr.Lit v) ≡ Ok v
+  unfolding worth
+  worth-Lit v = eq.at p n env (expr.Lit v) (Expr-F.Lit v) (expr.rolls-Lit v)
 
-  pub worth_neg : (e a a' : Expr) → e ≡ expr.Neg a → a' ≡ a → worth p n env e ≡ negative (worth p n env a')
-  unfolding worth worths use_worth front_worth with_items with_fronts walk_worth
-  worth_neg e a a' is got = ap (worth p n env) is ∙ (eq.at p n env (expr.Neg a) (Expr-F.Neg a) (expr.rolls-Neg a) ∙ ap (λ x. negative (worth p n env x)) (sym got))
+  pub worth-Neg : (a : Expr) → worth p n env (expr.Neg a) ≡ negative (worth p n env a)
+  unfolding worth
+  worth-Neg a = eq.at p n env (expr.Neg a) (Expr-F.Neg a) (expr.rolls-Neg a)
 
-  pub worth_not : (e a a' : Expr) → e ≡ expr.Not a → a' ≡ a → worth p n env e ≡ inverse (worth p n env a')
-  unfolding worth worths use_worth front_worth with_items with_fronts walk_worth
-  worth_not e a a' is got = ap (worth p n env) is ∙ (eq.at p n env (expr.Not a) (Expr-F.Not a) (expr.rolls-Not a) ∙ ap (λ x. inverse (worth p n env x)) (sym got))
+  pub worth-Not : (a : Expr) → worth p n env (expr.Not a) ≡ inverse (worth p n env a)
+  unfolding worth
+  worth-Not a = eq.at p n env (expr.Not a) (Expr-F.Not a) (expr.rolls-Not a)
 
-  pub worth_binary : (e : Expr) (op : BinOp) (a b a' b' : Expr) → e ≡ expr.Binary op a b → a' ≡ a → b' ≡ b → worth p n env e ≡ operation op (worth p n env a') (worth p n env b')
-  unfolding worth worths use_worth front_worth with_items with_fronts walk_worth
-  worth_binary e op a b a' b' is got_a got_b = ap (worth p n env) is ∙ (eq.at p n env (expr.Binary op a b) (Expr-F.Binary op a b) (expr.rolls-Binary op a b) ∙ (λ i. operation op (worth p n env (sym got_a i)) (worth p n env (sym got_b i))))
+  pub worth-Binary : (op : BinOp) (a b : Expr) → worth p n env (expr.Binary op a b) ≡ operation op (worth p n env a) (worth p n env b)
+  unfolding worth
+  worth-Binary op a b = eq.at p n env (expr.Binary op a b) (Expr-F.Binary op a b) (expr.rolls-Binary op a b)
 
-  pub worth_if : (e c a b c' a' b' : Expr) → e ≡ expr.If c a b → c' ≡ c → a' ≡ a → b' ≡ b → worth p n env e ≡ chosen (truth_worth p n env c') (worth p n env a') (worth p n env b')
-  unfolding worth worths use_worth front_worth with_items with_fronts walk_worth
-  worth_if e c a b c' a' b' is got_c got_a got_b =
-      ap (worth p n env) is ∙ (eq.at p n env (expr.If c a b) (Expr-F.If c a b) (expr.rolls-If c a b) ∙ ((λ i. choice (worth p n env (sym got_c i)) (worth p n env (sym got_a i)) (worth p n env (sym got_b i))) ∙
-      (and_then_regroup (worth p n env c') (λ v. as_truth v) (λ t. if t then worth p n env a' else worth p n env b') ∙
-      ap (λ o. chosen o (worth p n env a') (worth p n env b')) (truth_is p n env c'))))
+  pub worth-If : (c a b : Expr) → worth p n env (expr.If c a b) ≡ chosen (truth_worth p n env c) (worth p n env a) (worth p n env b)
+  unfolding worth truth_worth
+  worth-If c a b =
+      eq.at p n env (expr.If c a b) (Expr-F.If c a b) (expr.rolls-If c a b) ∙
+      and_then_regroup (worth p n env c) (λ v. as_truth v) (λ t. if t then worth p n env a else worth p n env b)
 
-  pub worth_call : (e : Expr) (d : ℕ) (args args' : List Expr) → e ≡ expr.Call d args → args' ≡ args → worth p n env e ≡ and_then (worths p n env args') (λ vs. use_worth p n d vs)
-  unfolding worth worths use_worth front_worth with_items with_fronts walk_worth
-  worth_call e d args args' is got = ap (worth p n env) is ∙ (eq.at p n env (expr.Call d args) (Expr-F.Call d args) (expr.rolls-Call d args) ∙ ap (λ x. and_then (worths p n env x) (λ vs. use_worth p n d vs)) (sym got))
+  pub worth-Call : (d : ℕ) (args : List Expr) → worth p n env (expr.Call d args) ≡ and_then (worths p n env args) (λ vs. use_worth p n d vs)
+  unfolding worth worths use_worth
+  worth-Call d args = eq.at p n env (expr.Call d args) (Expr-F.Call d args) (expr.rolls-Call d args)
 
-  pub worth_set_name : (e : Expr) (d : ℕ) → e ≡ expr.SetName d → worth p n env e ≡ named_set (use_worth p n d [])
-  unfolding worth worths use_worth front_worth with_items with_fronts walk_worth
-  worth_set_name e d is = ap (worth p n env) is ∙ eq.at p n env (expr.SetName d) (Expr-F.SetName d) (expr.rolls-SetName d)
+  pub worth-SetName : (d : ℕ) → worth p n env (expr.SetName d) ≡ named_set (use_worth p n d [])
+  unfolding worth use_worth
+  worth-SetName d = eq.at p n env (expr.SetName d) (Expr-F.SetName d) (expr.rolls-SetName d)
 
-  pub worth_event : (e : Expr) (c : ℕ) (fields fields' : List Expr) → e ≡ expr.Event c fields → fields' ≡ fields → worth p n env e ≡ event_worth p n env c fields'
+  pub worth-Event : (c : ℕ) (fields : List Expr) → worth p n env (expr.Event c fields) ≡ event_worth p n env c fields
   unfolding worth event_worth
-  worth_event e c fields fields' is got = ap (worth p n env) is ∙ (eq.at p n env (expr.Event c fields) (Expr-F.Event c fields) (expr.rolls-Event c fields) ∙ ap (λ x. event_worth p n env c x) (sym got))
+  worth-Event c fields = eq.at p n env (expr.Event c fields) (Expr-F.Event c fields) (expr.rolls-Event c fields)
 
-  pub worth_display : (e : Expr) (items items' : List Expr) → e ≡ expr.Display items → items' ≡ items → worth p n env e ≡ a_set (with_items p n env items' [])
-  unfolding worth worths use_worth front_worth with_items with_fronts walk_worth
-  worth_display e items items' is got = ap (worth p n env) is ∙ (eq.at p n env (expr.Display items) (Expr-F.Display items) (expr.rolls-Display items) ∙ ap (λ x. a_set (with_items p n env x [])) (sym got))
+  pub worth-Display : (items : List Expr) → worth p n env (expr.Display items) ≡ a_set (with_items p n env items [])
+  unfolding worth with_items
+  worth-Display items = eq.at p n env (expr.Display items) (Expr-F.Display items) (expr.rolls-Display items)
 
-  pub worth_range : (e a b a' b' : Expr) → e ≡ expr.Range a b → a' ≡ a → b' ≡ b → worth p n env e ≡ range_of (number_worth p n env a') (number_worth p n env b')
-  unfolding worth worths use_worth front_worth with_items with_fronts walk_worth
-  worth_range e a b a' b' is got_a got_b =
-      ap (worth p n env) is ∙ (eq.at p n env (expr.Range a b) (Expr-F.Range a b) (expr.rolls-Range a b) ∙ ((λ i. a_range (worth p n env (sym got_a i)) (worth p n env (sym got_b i))) ∙
-      (both_parts (λ v. as_number v) (λ k m. many (range k m)) (worth p n env a') (worth p n env b') ∙
-      (λ i. range_of (number_is p n env a' i) (number_is p n env b' i)))))
+  pub worth-Range : (a b : Expr) → worth p n env (expr.Range a b) ≡ range_of (number_worth p n env a) (number_worth p n env b)
+  unfolding worth number_worth
+  worth-Range a b =
+      eq.at p n env (expr.Range a b) (Expr-F.Range a b) (expr.rolls-Range a b) ∙
+      both_parts (λ v. as_number v) (λ k m. many (range k m)) (worth p n env a) (worth p n env b)
 
-  pub worth_set_op : (e : Expr) (op : SetOp) (a b a' b' : Expr) → e ≡ expr.SetOp op a b → a' ≡ a → b' ≡ b → worth p n env e ≡ set_of op (atoms_worth p n env a') (atoms_worth p n env b')
-  unfolding worth worths use_worth front_worth with_items with_fronts walk_worth
-  worth_set_op e op a b a' b' is got_a got_b =
-      ap (worth p n env) is ∙ (eq.at p n env (expr.SetOp op a b) (Expr-F.SetOp op a b) (expr.rolls-SetOp op a b) ∙ ((λ i. set_operation op (worth p n env (sym got_a i)) (worth p n env (sym got_b i))) ∙
-      (both_parts (λ v. as_set v) (λ xs ys. many (set_binary op xs ys)) (worth p n env a') (worth p n env b') ∙
-      (λ i. set_of op (atoms_are p n env a' i) (atoms_are p n env b' i)))))
+  pub worth-SetOp : (op : SetOp) (a b : Expr) → worth p n env (expr.SetOp op a b) ≡ set_of op (atoms_worth p n env a) (atoms_worth p n env b)
+  unfolding worth atoms_worth
+  worth-SetOp op a b =
+      eq.at p n env (expr.SetOp op a b) (Expr-F.SetOp op a b) (expr.rolls-SetOp op a b) ∙
+      both_parts (λ v. as_set v) (λ xs ys. many (set_binary op xs ys)) (worth p n env a) (worth p n env b)
 
-  pub worth_comp : (e : Expr) (items items' : List Expr) (gens gens' : List Gen) → e ≡ expr.Comp items gens → items' ≡ items → gens' ≡ gens → worth p n env e ≡ gathered_set (walk_worth p n gens' items' [] env nothing_yet)
-  worth_comp e items items' gens gens' is got_items got_gens =
-      ap (worth p n env) is ∙ (eq.worth-Comp p n env items gens ∙ (λ i. gathered_set (walk_worth p n (sym got_gens i) (sym got_items i) [] env nothing_yet)))
-
-  pub worth_product : (e : Expr) (parts parts' : List EventPart) (gens gens' : List Gen) → e ≡ expr.Product parts gens → parts' ≡ parts → gens' ≡ gens
-      → worth p n env e ≡ produced (form.lack_sets p.channels parts') (walk_worth p n gens' [] parts' env nothing_yet)
-  worth_product e parts parts' gens gens' is got_parts got_gens =
-      ap (worth p n env) is ∙ (eq.worth-Product p n env parts gens ∙ (λ i. produced (form.lack_sets p.channels (sym got_parts i)) (walk_worth p n (sym got_gens i) [] (sym got_parts i) env nothing_yet)))
+pub ruleset worth_forms = (worth-Num, worth-Truth, worth-Const, worth-Bound, worth-Lit, worth-Neg, worth-Not, worth-Binary, worth-If, worth-Call, worth-SetName, worth-Event, worth-Display, worth-Range, worth-SetOp, eq.worth-Comp, eq.worth-Product)
 
 -- a production whose channels were looked at
 pub lacking : (p : Content) (channels : List Channel) (parts : List EventPart) (t : Bool) (o : Outcome Gathered) → channels ≡ p.channels → t ≡ form.lack_sets channels parts → t ≡ true
@@ -180,13 +145,6 @@ lacking p channels parts t o got is lacks = ap (λ (b : Bool). produced b o) (ap
 pub not_lacking : (p : Content) (channels : List Channel) (parts : List EventPart) (t : Bool) (o : Outcome Gathered) → channels ≡ p.channels → t ≡ form.lack_sets channels parts → t ≡ false
     → produced (form.lack_sets p.channels parts) o ≡ gathered_set o
 not_lacking p channels parts t o got is has = ap (λ (b : Bool). produced b o) (ap (λ (cs : List Channel). form.lack_sets cs parts) (sym got) ∙ sym is ∙ has)
-
--- bodies of definitions
-pub datum_worth : (p : Content) (n : ℕ) (def : Def) (args : List Value) (params : List ℕ) (e : Expr) → def.body ≡ body.Datum e → params ≡ def.params → body_worth p n def args ≡ worth p n (bound_to params args) e
-datum_worth p n def args params e is got = eq.body-Datum p n def args e is ∙ ap (λ x. worth p n (bound_to x args) e) (sym got)
-
-pub datatype_worth : (p : Content) (n : ℕ) (def : Def) (args : List Value) (ks ks' : List ℕ) (o : Outcome (List Atom)) → def.body ≡ body.Datatype ks → ks' ≡ ks → all_added [] (map (λ k. atom.Const k) ks') ≡ o → body_worth p n def args ≡ many o
-datatype_worth p n def args ks ks' o is got came = eq.body-Datatype p n def args ks is ∙ (ap (λ x. many (all_added [] (map (λ k. atom.Const k) x))) (sym got) ∙ ap many came)
 
 -- numbers of events
 pub front_without_sets : (p : Content) (n : ℕ) (env : Env) (c : ℕ) (es : List Expr) (channels : List Channel) → channels ≡ p.channels → sets_of (slice_get channels c) ≡ None → front_worth p n env c es ≡ Err Kind
@@ -258,3 +216,9 @@ module _ (p : Content) (n : ℕ) (items : List Expr) (parts : List EventPart) (e
       eq.binding-room p n items parts env state room ∙
       (ap (λ z. and_then (and_then z (λ all. with_fronts p n env parts all)) (λ atoms. Ok (record { bindings = state.bindings + 1; atoms = atoms }))) good ∙
       ap (λ z. and_then z (λ atoms. Ok (record { bindings = state.bindings + 1; atoms = atoms }))) came)
+
+pub ruleset event_steps = (front_without_sets, count_fits, event_fault, no_event, an_event, front_added, front_fault)
+
+pub ruleset binding_steps = (binding_item_fault, binding_with_items)
+
+pub ruleset lacking_steps = (lacking, not_lacking)

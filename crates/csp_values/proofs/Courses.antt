@@ -310,3 +310,7 @@ popped_under around bound left frames below f r h popped under =
     front_left : (r : Option (ℕ × Atom)) → MatchOption r ((bound ≡ []) × (left ≡ [])) (λ last. bound ≡ left ++ last ∷ []) → bound ≡ (around ++ map name_of below) ++ name_of f ∷ [] → left ≡ around ++ map name_of below
     front_left None h whole = absurd (push_is_some (around ++ map name_of below) (name_of f) (sym (h.0) ∙ whole))
     front_left (Some last) h whole = (same_from_push left (around ++ map name_of below) last (name_of f) (sym h ∙ whole)).0
+
+pub ruleset gathering_steps = (gathering_begun, begun_under, over_end, binding_less)
+
+pub ruleset advance_steps = (ends, goes_on, goes_under)

@@ -40,7 +40,7 @@ and_then_ok : {A : Type 0} (o : Outcome A) → and_then o (λ x. Ok x) ≡ o
 and_then_ok (Ok x) = refl
 and_then_ok (Err k) = refl
 
-front-is : (p : Content) (n : ℕ) (part : EventPart) → front (uses_within p n) p.channels part ≡ record { channel = (out-EventPart part).channel; fields = meanings p n (out-EventPart part).fields }
+pub front-is : (p : Content) (n : ℕ) (part : EventPart) → front (uses_within p n) p.channels part ≡ record { channel = (out-EventPart part).channel; fields = meanings p n (out-EventPart part).fields }
 front-is p n part =
     ap (front (uses_within p n) p.channels) (sym (roll-out-EventPart part)) ∙
     fold-roll-EventPart Meaning Turn Front (meaning_of_layer (uses_within p n) p.channels) (turn_of_layer (uses_within p n) p.channels) (front_of_layer (uses_within p n) p.channels) (out-EventPart part)
@@ -228,3 +228,9 @@ binding-room p n items parts env state h = ap (λ b. cond b (counted state.bindi
 pub whole_value : (p : Content) (e : Expr) (n : ℕ) → n ≡ length p.defs → value_of p e ≡ worth p n [] e
 unfolding worth
 whole_value p e n is = ap (λ k. value_within p k e []) (sym is)
+
+pub ruleset body_forms = (body-Datum, body-Nametype, body-Datatype, body-Process, body-Network)
+
+pub ruleset use_forms = (use-none_left, use-unknown, use-known)
+
+pub ruleset binding_forms = (binding-full, binding-room)

@@ -15,52 +15,50 @@ use Rattle.csp_program.specs.declared.programs.Def.{Def}
 use Rattle.csp_values.proofs.Weights as w
 use Rattle.csp_values.proofs.Weights.{weight, weights, gen_weight, gen_weights, part_weight, part_weights, body_weight, cost}
 
-pub weight_neg : (e a a' : Expr) → e ≡ expr.Neg a → a' ≡ a → weight e ≡ weight a' + 2
-weight_neg e a a' is got = ap weight is ∙ (w.at (Expr-F.Neg a) (expr.rolls-Neg a) ∙ ap (λ x. weight x + 2) (sym got))
+pub weight-Neg : (a : Expr) → weight (expr.Neg a) ≡ weight a + 2
+weight-Neg a = w.at (Expr-F.Neg a) (expr.rolls-Neg a)
 
-pub weight_not : (e a a' : Expr) → e ≡ expr.Not a → a' ≡ a → weight e ≡ weight a' + 2
-weight_not e a a' is got = ap weight is ∙ (w.at (Expr-F.Not a) (expr.rolls-Not a) ∙ ap (λ x. weight x + 2) (sym got))
+pub weight-Not : (a : Expr) → weight (expr.Not a) ≡ weight a + 2
+weight-Not a = w.at (Expr-F.Not a) (expr.rolls-Not a)
 
-pub weight_binary : (e : Expr) (op : BinOp) (a b a' b' : Expr) → e ≡ expr.Binary op a b → a' ≡ a → b' ≡ b → weight e ≡ weight a' + weight b' + 3
-weight_binary e op a b a' b' is got_a got_b = ap weight is ∙ (w.at (Expr-F.Binary op a b) (expr.rolls-Binary op a b) ∙ (λ i. weight (sym got_a i) + weight (sym got_b i) + 3))
+pub weight-Binary : (op : BinOp) (a b : Expr) → weight (expr.Binary op a b) ≡ weight a + weight b + 3
+weight-Binary op a b = w.at (Expr-F.Binary op a b) (expr.rolls-Binary op a b)
 
-pub weight_if : (e c a b c' a' b' : Expr) → e ≡ expr.If c a b → c' ≡ c → a' ≡ a → b' ≡ b → weight e ≡ weight c' + weight a' + weight b' + 3
-weight_if e c a b c' a' b' is got_c got_a got_b = ap weight is ∙ (w.at (Expr-F.If c a b) (expr.rolls-If c a b) ∙ (λ i. weight (sym got_c i) + weight (sym got_a i) + weight (sym got_b i) + 3))
+pub weight-If : (c a b : Expr) → weight (expr.If c a b) ≡ weight c + weight a + weight b + 3
+weight-If c a b = w.at (Expr-F.If c a b) (expr.rolls-If c a b)
 
-pub weight_call : (e : Expr) (d : ℕ) (args args' : List Expr) → e ≡ expr.Call d args → args' ≡ args → weight e ≡ weights args' + 3
-unfolding weights gen_weights part_weights
-weight_call e d args args' is got = ap weight is ∙ (w.at (Expr-F.Call d args) (expr.rolls-Call d args) ∙ ap (λ x. weights x + 3) (sym got))
+pub weight-Call : (d : ℕ) (args : List Expr) → weight (expr.Call d args) ≡ weights args + 3
+unfolding weights
+weight-Call d args = w.at (Expr-F.Call d args) (expr.rolls-Call d args)
 
-pub weight_set_name : (e : Expr) (d : ℕ) → e ≡ expr.SetName d → weight e ≡ 2
-weight_set_name e d is = ap weight is ∙ w.at (Expr-F.SetName d) (expr.rolls-SetName d)
+pub weight-SetName : (d : ℕ) → weight (expr.SetName d) ≡ 2
+weight-SetName d = w.at (Expr-F.SetName d) (expr.rolls-SetName d)
 
-pub weight_event : (e : Expr) (c : ℕ) (fields fields' : List Expr) → e ≡ expr.Event c fields → fields' ≡ fields → weight e ≡ weights fields' + 6
-unfolding weights gen_weights part_weights
-weight_event e c fields fields' is got = ap weight is ∙ (w.at (Expr-F.Event c fields) (expr.rolls-Event c fields) ∙ ap (λ x. weights x + 6) (sym got))
+pub weight-Event : (c : ℕ) (fields : List Expr) → weight (expr.Event c fields) ≡ weights fields + 6
+unfolding weights
+weight-Event c fields = w.at (Expr-F.Event c fields) (expr.rolls-Event c fields)
 
-pub weight_display : (e : Expr) (items items' : List Expr) → e ≡ expr.Display items → items' ≡ items → weight e ≡ weights items' + 4
-unfolding weights gen_weights part_weights
-weight_display e items items' is got = ap weight is ∙ (w.at (Expr-F.Display items) (expr.rolls-Display items) ∙ ap (λ x. weights x + 4) (sym got))
+pub weight-Display : (items : List Expr) → weight (expr.Display items) ≡ weights items + 4
+unfolding weights
+weight-Display items = w.at (Expr-F.Display items) (expr.rolls-Display items)
 
-pub weight_range : (e a b a' b' : Expr) → e ≡ expr.Range a b → a' ≡ a → b' ≡ b → weight e ≡ weight a' + weight b' + 3
-weight_range e a b a' b' is got_a got_b = ap weight is ∙ (w.at (Expr-F.Range a b) (expr.rolls-Range a b) ∙ (λ i. weight (sym got_a i) + weight (sym got_b i) + 3))
+pub weight-Range : (a b : Expr) → weight (expr.Range a b) ≡ weight a + weight b + 3
+weight-Range a b = w.at (Expr-F.Range a b) (expr.rolls-Range a b)
 
-pub weight_set_op : (e : Expr) (op : SetOp) (a b a' b' : Expr) → e ≡ expr.SetOp op a b → a' ≡ a → b' ≡ b → weight e ≡ weight a' + weight b' + 3
-weight_set_op e op a b a' b' is got_a got_b = ap weight is ∙ (w.at (Expr-F.SetOp op a b) (expr.rolls-SetOp op a b) ∙ (λ i. weight (sym got_a i) + weight (sym got_b i) + 3))
+pub weight-SetOp : (op : SetOp) (a b : Expr) → weight (expr.SetOp op a b) ≡ weight a + weight b + 3
+weight-SetOp op a b = w.at (Expr-F.SetOp op a b) (expr.rolls-SetOp op a b)
 
-pub weight_comp : (e : Expr) (items items' : List Expr) (gens gens' : List Gen) → e ≡ expr.Comp items gens → items' ≡ items → gens' ≡ gens → weight e ≡ weights items' + part_weights [] + gen_weights gens' + 6
-unfolding weights gen_weights part_weights
-weight_comp e items items' gens gens' is got_items got_gens =
-    let none : part_weights [] ≡ 0 = w.part_weights-nil in
-    let whole : weight e ≡ weights items' + gen_weights gens' + 6 = ap weight is ∙ (w.at (Expr-F.Comp items gens) (expr.rolls-Comp items gens) ∙ (λ i. weights (sym got_items i) + gen_weights (sym got_gens i) + 6)) in
-    omega arith
+pub weight-Comp : (items : List Expr) (gens : List Gen) → weight (expr.Comp items gens) ≡ weights items + part_weights [] + gen_weights gens + 7
+unfolding weights gen_weights
+weight-Comp items gens =
+    let whole : weight (expr.Comp items gens) ≡ weights items + gen_weights gens + 7 = w.at (Expr-F.Comp items gens) (expr.rolls-Comp items gens) in
+    omega (arith, w.part_weights-nil)
 
-pub weight_product : (e : Expr) (parts parts' : List EventPart) (gens gens' : List Gen) → e ≡ expr.Product parts gens → parts' ≡ parts → gens' ≡ gens → weight e ≡ weights [] + part_weights parts' + gen_weights gens' + 7
-unfolding weights gen_weights part_weights
-weight_product e parts parts' gens gens' is got_parts got_gens =
-    let none : weights [] ≡ 0 = w.weights-nil in
-    let whole : weight e ≡ part_weights parts' + gen_weights gens' + 7 = ap weight is ∙ (w.at (Expr-F.Product parts gens) (expr.rolls-Product parts gens) ∙ (λ i. part_weights (sym got_parts i) + gen_weights (sym got_gens i) + 7)) in
-    omega arith
+pub weight-Product : (parts : List EventPart) (gens : List Gen) → weight (expr.Product parts gens) ≡ part_weights parts + gen_weights gens + 8
+unfolding part_weights gen_weights
+weight-Product parts gens = w.at (Expr-F.Product parts gens) (expr.rolls-Product parts gens)
+
+pub ruleset weight_forms = (weight-Neg, weight-Not, weight-Binary, weight-If, weight-Call, weight-SetName, weight-Event, weight-Display, weight-Range, weight-SetOp, weight-Comp, weight-Product)
 
 pub weight_part : (part : EventPart) (fields : List Expr) → fields ≡ (out-EventPart part).fields → part_weight part ≡ weights fields + 5
 weight_part part fields got = w.part_weight-is part ∙ ap (λ x. weights x + 5) (sym got)

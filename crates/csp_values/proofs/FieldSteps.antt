@@ -1,5 +1,5 @@
 -- The fields of an event, one after another, in numbers that count so many for one.
-use Rattle.std.proofs.Common.{◌≡◌, ℕ, zero, suc, ◌+◌, ◌-◌, ◌*◌, ◌<◌, ◌≤◌, ◌^◌, min, List, [], ◌∷◌, Some, Ok, Err, Bool, true, false, cond, length, drop, get_or, refl, ap, sym, ◌∙◌, subst, arith}
+use Rattle.std.proofs.Common.{◌≡◌, ℕ, zero, suc, ◌+◌, ◌-◌, ◌*◌, ◌<◌, ◌≤◌, ◌^◌, min, List, [], ◌∷◌, Some, Ok, Err, Bool, true, false, cond, length, drop, drop_of_length-le, get_or, refl, ap, sym, ◌∙◌, subst, arith}
 use Rattle.std.specs.Prelude.{nat_eq, slice_get}
 use Rattle.csp_program.specs.EventNumber.{row_count}
 use Rattle.csp_program.specs.Outcome.{Outcome, and_then}
@@ -221,3 +221,7 @@ pub front_unplaced : (p : Content) (n : ℕ) (env : Env) (c : ℕ) (es : List Ex
 front_unplaced p n env c es sets channels k got has is =
     let has_sets : sets_of (slice_get p.channels c) ≡ Some sets = ap (λ cs. sets_of (slice_get cs c)) (sym got) ∙ has in
     front_scaled p n env c es sets (Err k) has_sets (capped_fault (scaled (fields_worth p n env es sets 0) (each_of sets (length es))) k is)
+
+pub ruleset fields_steps = (fields_begin, fields_end, fields_too_many, field_refused, field_taken, drop_of_length-le)
+
+pub ruleset fronts_found = (front_placed, front_unplaced)

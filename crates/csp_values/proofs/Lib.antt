@@ -1,7 +1,9 @@
+pub mod Again
 pub mod Arms
 pub mod Courses
 pub mod Equations
 pub mod Falls
 pub mod FieldSteps
+pub mod Stays
 pub mod Steps
 pub mod Weights

@@ -1,5 +1,5 @@
 -- Lists that are evaluated one element after another: what is left decides together with what has come so far.
-use Rattle.std.proofs.Common.{◌≡◌, ℕ, ◌+◌, ◌<◌, List, [], ◌∷◌, ◌++◌, Ok, Err, length, drop, get_or, refl, ap, sym, ◌∙◌, append_assoc, append-nil}
+use Rattle.std.proofs.Common.{◌≡◌, ℕ, ◌+◌, ◌<◌, List, [], ◌∷◌, ◌++◌, Ok, Err, length, drop, drop_of_length-le, get_or, refl, ap, sym, ◌∙◌, append_assoc, append-nil}
 use Rattle.csp_program.specs.Atoms.{added}
 use Rattle.csp_program.specs.Outcome.{Outcome, and_then}
 use Rattle.csp_program.specs.Value.{Env, as_atom}
@@ -10,7 +10,7 @@ use Rattle.csp_program.specs.declared.expressions.Expr.{Expr}
 use Rattle.csp_program.specs.declared.kinds.ValueKind.{ValueKind}
 use Rattle.csp_program.specs.declared.programs.Content.{Content}
 use Rattle.csp_values.specs.Worth.{worth, worths, with_items, with_front, with_fronts}
-use Rattle.csp_values.proofs.Equations.{worths-nil, worths-cons, with_items-cons, fronts-cons}
+use Rattle.csp_values.proofs.Equations.{worths-nil, worths-cons, with_items-cons, with_items-nil, fronts-cons, fronts-nil}
 use Rattle.csp_base.proofs.Lists.{drop_read}
 use Rattle.csp_program.proofs.Outcomes.{and_then_regroup}
 
@@ -101,3 +101,9 @@ pub fronts_next : (whole : Outcome (List Atom)) (p : Content) (n : ℕ) (env : E
     → whole ≡ with_fronts p n env (drop i ps) atoms → i < length ps → part ≡ get_or ps i part → with_front p n env part atoms ≡ Ok more → whole ≡ with_fronts p n env (drop (i + 1) ps) more
 fronts_next whole p n env atoms more ps i part w lt is good =
     w ∙ (fronts_here p n env atoms ps i part lt is ∙ ap (λ o. and_then o (λ all. with_fronts p n env (drop (i + 1) ps) all)) good)
+
+pub ruleset worths_steps = (worths_begin, worths_end, worths_fault, worths_next, drop_of_length-le)
+
+pub ruleset items_steps = (items_refused, items_taken, with_items-nil, drop_of_length-le)
+
+pub ruleset fronts_steps = (fronts_fault, fronts_next, fronts-nil, drop_of_length-le)

@@ -24,8 +24,8 @@ of_expr (Expr-F.SetName d) = 2
 of_expr (Expr-F.Event c fields) = total fields + 6
 of_expr (Expr-F.Display items) = total items + 4
 of_expr (Expr-F.Range a b) = a + b + 3
-of_expr (Expr-F.Comp items gens) = total items + total gens + 6
-of_expr (Expr-F.Product parts gens) = total parts + total gens + 7
+of_expr (Expr-F.Comp items gens) = total items + total gens + 7
+of_expr (Expr-F.Product parts gens) = total parts + total gens + 8
 of_expr (Expr-F.SetOp op a b) = a + b + 3
 of_expr _ = 1
 
@@ -133,3 +133,5 @@ cost-less p zero w positive le = absurd (omega arith)
 cost-less p (suc n) w positive le =
     let one_less : suc n - 1 ≡ n = omega arith in
     rw one_less (spent n (bodies_weight p.defs) w le)
+
+pub ruleset none_weigh = (weights-nil, part_weights-nil)

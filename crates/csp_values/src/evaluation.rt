@@ -1,20 +1,24 @@
 //! Evaluation, from the left.
 
-ghost use Rattle.std.specs.Prelude.{◌≡◌, Ok, Some, [], length, map};
+ghost use Rattle.std.specs.List.{All};
+ghost use Rattle.std.specs.Prelude.{◌≡◌, IfOk, Ok, Some, [], length, map};
 ghost use Rattle.csp_atoms.specs.declared.atom.Atom.TheVariants as atom;
 ghost use Rattle.csp_atoms.specs.declared.value.Value.TheVariants as value;
 ghost use Rattle.csp_program.specs.Atoms.{added, all_added};
 ghost use Rattle.csp_program.specs.Outcome.{and_then};
-ghost use Rattle.csp_program.specs.Value.{as_atom, as_set, binary, value_of};
+ghost use Rattle.csp_program.specs.Value.{as_atom, as_set, binary, gathered, value_of, value_within};
 ghost use Rattle.csp_program.specs.Value as meant;
+ghost use Rattle.value_laws.specs.Bindings.{IsSetValue};
 ghost use Rattle.value_laws.specs.Numbers.{field_place, ChannelsFit};
 ghost use Rattle.value_operators.specs.Env.{env_in, parameters, with_bound};
 ghost use Rattle.value_operators.specs.Gives.{Gives};
 ghost use Rattle.value_operators.specs.Forms as form;
 ghost use Rattle.csp_values.specs.Worth.{worth, worths, number_worth, truth_worth, atoms_worth, chosen, range_of, set_of, use_worth, body_worth, with_items, event_worth, fields_worth, front_worth, with_front, with_fronts, one_more_binding, walk_worth, gathered_of, GivesTally};
+ghost use Rattle.csp_values.specs.Stays.{PartStays, Stays};
 ghost use Rattle.csp_values.specs.Course.{GivesBinding, GivesStep, IsUnder, course, course_under};
 
 use crate::fitting::Fitting;
+use crate::reads::may_read;
 use crate::tally::Tally;
 use crate::walk::{Step, Walk, pop, take};
 use containers::Items;
@@ -93,18 +97,25 @@ pub fn eval_in(alloc: Global, content: &Content, expr: &Expr) -> Result<Value, E
     eval_fitting(alloc, &Fitting::new(content), expr)
 }
 
+// No names but those that are bound.
+fn names_under<'a>(bound: &'a [(u32, Atom)]) -> Names<'a>
+    ensures names { env_in result ≡ with_bound bound.now [] }
+    ensures parameters { parameters result ≡ [] }
+    ensures bound { result.bound.now ≡ bound.now }
+{
+    Names {
+        params: &[],
+        args: &[],
+        placed: &[],
+        bound,
+    }
+}
+
 // The value of a closed expression.
 fn eval_fitting(alloc: Global, content: &Fitting<'_>, expr: &Expr) -> Result<Value, EvalFault>
     ensures { Gives result (value_of content.now expr.now) }
 {
-    let scope = whole_scope(alloc, content);
-    let names = Names {
-        params: &[],
-        args: &[],
-        placed: &[],
-        bound: &[],
-    };
-    eval_expr(&scope, &names, expr)
+    eval_expr(&whole_scope(alloc, content), &names_under(&[]), expr)
 }
 
 /// The set that an expression of a program is worth. Faults are those of `eval`; a value that is no set has the kind `Kind`.
@@ -115,7 +126,33 @@ pub fn eval_set(alloc: Global, program: &Program, expr: &Expr) -> Result<AtomSet
     to_set(value)
 }
 
+/// The value of an expression of a program under names with their values. Faults are those of `eval`.
+#[tactic(auto, unfolding(crate::specs::Worth::worth))]
+pub fn eval_with(
+    alloc: Global,
+    program: &Program,
+    names: &Names<'_>,
+    expr: &Expr,
+) -> Result<Value, EvalFault>
+    ensures { Gives result (value_within program.now (length program.now.defs) expr.now (env_in names.now)) }
+{
+    eval_expr(&whole_scope(alloc, &Fitting::of(program)), names, expr)
+}
+
+/// The values of expressions of a program under names with their values, from the left. Faults are those of `eval`, of the first that has one.
+pub fn eval_all_with(
+    alloc: Global,
+    program: &Program,
+    names: &Names<'_>,
+    exprs: &[Expr],
+) -> Result<Items<Value>, EvalFault>
+    ensures { Gives result (worths program.now (length program.now.defs) (env_in names.now) exprs.now) }
+{
+    eval_all(&whole_scope(alloc, &Fitting::of(program)), names, exprs)
+}
+
 /// The value of an expression of a program under names that generators bind, the last one bound at the end. Faults are those of `eval`.
+#[tactic(auto, unfolding(crate::specs::Worth::worth))]
 pub fn eval_under(
     alloc: Global,
     program: &Program,
@@ -124,15 +161,7 @@ pub fn eval_under(
 ) -> Result<Value, EvalFault>
     ensures { Gives result (worth program.now (length program.now.defs) (with_bound bound.now []) expr.now) }
 {
-    let content = Fitting::of(program);
-    let scope = whole_scope(alloc, &content);
-    let names = Names {
-        params: &[],
-        args: &[],
-        placed: &[],
-        bound,
-    };
-    eval_expr(&scope, &names, expr)
+    eval_with(alloc, program, &names_under(bound), expr)
 }
 
 /// The values of expressions of a program under names that generators bind, from the left. Faults are those of `eval`, of the first that has one.
@@ -144,15 +173,7 @@ pub fn eval_all_under(
 ) -> Result<Items<Value>, EvalFault>
     ensures { Gives result (worths program.now (length program.now.defs) (with_bound bound.now []) exprs.now) }
 {
-    let content = Fitting::of(program);
-    let scope = whole_scope(alloc, &content);
-    let names = Names {
-        params: &[],
-        args: &[],
-        placed: &[],
-        bound,
-    };
-    eval_all(&scope, &names, exprs)
+    eval_all_with(alloc, program, &names_under(bound), exprs)
 }
 
 /// The number of the first event of a channel that begins with these fields, under names that generators bind. Faults are those of `eval`, of the
@@ -169,13 +190,7 @@ pub fn front_under(
 {
     let content = Fitting::of(program);
     let scope = whole_scope(alloc, &content);
-    let names = Names {
-        params: &[],
-        args: &[],
-        placed: &[],
-        bound,
-    };
-    eval_front(&scope, &names, channel, fields)
+    eval_front(&scope, &names_under(bound), channel, fields)
 }
 
 /// Whether generators of a program have one more binding, under which the walk over them then stands. Faults are those of `eval`, of the generators from the left.
@@ -190,17 +205,12 @@ pub fn binding_under(
 {
     let content = Fitting::of(program);
     let scope = whole_scope(alloc, &content);
-    let names = Names {
-        params: &[],
-        args: &[],
-        placed: &[],
-        bound: &[],
-    };
-    find_binding(&scope, &names, gens, walk)
+    find_binding(&scope, &names_under(&[]), gens, walk)
 }
 
 // The value of an expression.
 #[cycle(eval)]
+#[tactic(auto, using(crate::proofs::Arms::worth_forms, crate::proofs::Falls::weight_forms))]
 fn eval_expr(scope: &Scope<'_>, names: &Names<'_>, expr: &Expr) -> Result<Value, EvalFault>
     ensures { Gives result (worth scope.now.content.now scope.now.uses (env_in names.now) expr.now) }
 {
@@ -267,6 +277,7 @@ fn grown_value(alloc: Global, atoms: GrowingSet) -> Result<Value, EvalFault>
 
 // The number that an expression is worth.
 #[cycle(eval)]
+#[tactic(auto, unfolding(crate::specs::Worth::number_worth))]
 fn eval_number(scope: &Scope<'_>, names: &Names<'_>, expr: &Expr) -> Result<i64, EvalFault>
     ensures { Gives result (number_worth scope.now.content.now scope.now.uses (env_in names.now) expr.now) }
 {
@@ -276,6 +287,7 @@ fn eval_number(scope: &Scope<'_>, names: &Names<'_>, expr: &Expr) -> Result<i64,
 
 // The truth value that an expression is worth.
 #[cycle(eval)]
+#[tactic(auto, unfolding(crate::specs::Worth::truth_worth))]
 fn eval_truth(scope: &Scope<'_>, names: &Names<'_>, expr: &Expr) -> Result<bool, EvalFault>
     ensures { Gives result (truth_worth scope.now.content.now scope.now.uses (env_in names.now) expr.now) }
 {
@@ -285,6 +297,7 @@ fn eval_truth(scope: &Scope<'_>, names: &Names<'_>, expr: &Expr) -> Result<bool,
 
 // The set that an expression is worth.
 #[cycle(eval)]
+#[tactic(auto, unfolding(crate::specs::Worth::atoms_worth))]
 fn eval_atoms(scope: &Scope<'_>, names: &Names<'_>, expr: &Expr) -> Result<AtomSet, EvalFault>
     ensures { Gives result (atoms_worth scope.now.content.now scope.now.uses (env_in names.now) expr.now) }
 {
@@ -388,6 +401,7 @@ fn eval_set_name(scope: &Scope<'_>, def: u32) -> Result<Value, EvalFault>
 
 // An event.
 #[cycle(eval)]
+#[tactic(auto, using(crate::proofs::Arms::event_steps))]
 fn eval_event(
     scope: &Scope<'_>,
     names: &Names<'_>,
@@ -442,6 +456,7 @@ fn eval_set_op(
 
 // The value of `{| parts | gens |}`. Where a channel has no field sets, no generator is walked.
 #[cycle(eval)]
+#[tactic(auto, using(crate::proofs::Weights::none_weigh, crate::proofs::Arms::lacking_steps))]
 fn eval_product(
     scope: &Scope<'_>,
     names: &Names<'_>,
@@ -478,6 +493,7 @@ fn eval_comprehension(
 
 // The values of expressions, from the left.
 #[cycle(eval)]
+#[tactic(auto, using(crate::proofs::Steps::worths_steps, crate::proofs::Weights::weight_in))]
 fn eval_all(scope: &Scope<'_>, names: &Names<'_>, exprs: &[Expr]) -> Result<Items<Value>, EvalFault>
     ensures { Gives result (worths scope.now.content.now scope.now.uses (env_in names.now) exprs.now) }
 {
@@ -491,6 +507,7 @@ fn eval_all(scope: &Scope<'_>, names: &Names<'_>, exprs: &[Expr]) -> Result<Item
 
 // The value of a use of the definition with the number `def`.
 #[cycle(eval)]
+#[tactic(auto, using(crate::proofs::Equations::use_forms, crate::proofs::Falls::use_falls))]
 fn eval_use(scope: &Scope<'_>, def: u32, args: &[Value]) -> Result<Value, EvalFault>
     ensures { Gives result (use_worth scope.now.content.now scope.now.uses def args.now) }
 {
@@ -510,6 +527,7 @@ fn eval_use(scope: &Scope<'_>, def: u32, args: &[Value]) -> Result<Value, EvalFa
 
 // The value of the body of a definition.
 #[cycle(eval)]
+#[tactic(auto, using(crate::proofs::Equations::body_forms))]
 fn eval_body(scope: &Scope<'_>, def: &Def, args: &[Value]) -> Result<Value, EvalFault>
     ensures { Gives result (body_worth scope.now.content.now scope.now.uses def.now args.now) }
 {
@@ -518,15 +536,7 @@ fn eval_body(scope: &Scope<'_>, def: &Def, args: &[Value]) -> Result<Value, Eval
             let names = names_in(def.params.as_slice(), args);
             eval_expr(scope, &names, expr)
         }
-        Body::Nametype(expr) => {
-            let names = Names {
-                params: &[],
-                args: &[],
-                placed: &[],
-                bound: &[],
-            };
-            eval_expr(scope, &names, expr)
-        }
+        Body::Nametype(expr) => { eval_expr(scope, &names_under(&[]), expr) }
         Body::Datatype(numbers) => constants_value(scope.alloc, numbers.as_slice()),
         Body::Process(_) => Err(KIND),
         Body::Network(_) => Err(KIND),
@@ -535,6 +545,7 @@ fn eval_body(scope: &Scope<'_>, def: &Def, args: &[Value]) -> Result<Value, Eval
 
 // A set with the values of items in it.
 #[cycle(eval)]
+#[tactic(auto, using(crate::proofs::Steps::items_steps, crate::proofs::Weights::weight_in))]
 fn add_items(
     scope: &Scope<'_>,
     names: &Names<'_>,
@@ -566,6 +577,7 @@ fn add_item(
 
 // The number of fields among all choices of values of these sets, each counted `each` times. Counting stops at the end of 64 bits.
 #[cycle(eval)]
+#[tactic(auto, using(crate::proofs::FieldSteps::fields_steps, crate::proofs::Weights::weight_in))]
 fn eval_fields(
     scope: &Scope<'_>,
     names: &Names<'_>,
@@ -604,6 +616,7 @@ fn eval_place(
 
 // The number of fields among all choices of values of these sets, counted over the choices of those that are not given, up to the end of 64 bits.
 #[cycle(eval)]
+#[tactic(auto, using(crate::proofs::FieldSteps::counted_over))]
 fn eval_choice(
     scope: &Scope<'_>,
     names: &Names<'_>,
@@ -618,6 +631,7 @@ fn eval_choice(
 
 // The number of the first event of a channel that begins with these fields.
 #[cycle(eval)]
+#[tactic(auto, using(crate::proofs::FieldSteps::fronts_found, crate::proofs::Arms::event_steps))]
 fn eval_front(
     scope: &Scope<'_>,
     names: &Names<'_>,
@@ -638,6 +652,7 @@ fn eval_front(
 
 // A set with the events of fronts in it.
 #[cycle(eval)]
+#[tactic(auto, using(crate::proofs::Steps::fronts_steps, crate::proofs::Weights::part_weight_in))]
 fn add_fronts(
     scope: &Scope<'_>,
     names: &Names<'_>,
@@ -655,6 +670,7 @@ fn add_fronts(
 
 // A set with the events of a front in it.
 #[cycle(eval)]
+#[tactic(auto, using(crate::proofs::Arms::event_steps, crate::proofs::Falls::weight_part))]
 fn add_front(
     scope: &Scope<'_>,
     names: &Names<'_>,
@@ -671,6 +687,7 @@ fn add_front(
 
 // One more binding, and what it adds.
 #[cycle(eval)]
+#[tactic(auto, using(crate::proofs::Equations::binding_forms, crate::proofs::Arms::binding_steps))]
 fn gather(
     scope: &Scope<'_>,
     names: &Names<'_>,
@@ -693,6 +710,7 @@ fn gather(
 
 // One step of a walk over generators, under the names around them.
 #[cycle(eval)]
+#[tactic(auto, using(crate::proofs::Courses::advance_steps))]
 fn advance(
     scope: &Scope<'_>,
     names: &Names<'_>,
@@ -753,6 +771,7 @@ fn enter(
 
 // Whether there is one more binding, under which the walk then stands.
 #[cycle(eval)]
+#[tactic(auto, using(crate::proofs::Courses::step_less))]
 fn find_binding(
     scope: &Scope<'_>,
     names: &Names<'_>,
@@ -780,6 +799,25 @@ fn gather_all(
     yields: &Yield<'_>,
     tally: Tally,
 ) -> Result<Tally, EvalFault>
+    requires { IsSetValue tally.atoms }
+    ensures { GivesTally result (walk_worth scope.now.content.now scope.now.uses gens.now yields.now.items.now yields.now.parts.now (env_in names.now) (gathered_of tally)) }
+{
+    if may_read(yields.items, yields.parts, gens) {
+        return gather_each(scope, names, gens, yields, tally);
+    }
+    gather_once(scope, names, gens, yields, tally)
+}
+
+// What all bindings of generators add, evaluated under each of them.
+#[cycle(eval)]
+#[tactic(auto, using(crate::proofs::Courses::gathering_steps))]
+fn gather_each(
+    scope: &Scope<'_>,
+    names: &Names<'_>,
+    gens: &[Gen],
+    yields: &Yield<'_>,
+    tally: Tally,
+) -> Result<Tally, EvalFault>
     ensures { GivesTally result (walk_worth scope.now.content.now scope.now.uses gens.now yields.now.items.now yields.now.parts.now (env_in names.now) (gathered_of tally)) }
 {
     let mut walk = Walk::new(scope.alloc, names.bound)?;
@@ -792,6 +830,47 @@ fn gather_all(
             bound: walk.bound(),
         };
         tally = gather(scope, &inner, yields, tally)?;
+    }
+    Ok(tally)
+}
+
+// One more binding, which adds nothing.
+fn counted(tally: Tally) -> Result<Tally, EvalFault>
+    ensures tally { GivesTally result (gathered (λ _ atoms. Ok atoms) [] (gathered_of tally)) }
+    ensures atoms { IfOk result (λ more. more.atoms ≡ tally.atoms) }
+{
+    let Tally { bindings, atoms } = tally;
+    if bindings >= MOST_BINDINGS {
+        return Err(SET_LIMIT);
+    }
+    Ok(Tally {
+        bindings: bindings + 1,
+        atoms,
+    })
+}
+
+// What all bindings of generators add, where that reads none of their names: it is evaluated at the first binding alone.
+#[cycle(eval)]
+#[tactic(auto, using(crate::proofs::Courses::over_end, crate::proofs::Courses::binding_less))]
+fn gather_once(
+    scope: &Scope<'_>,
+    names: &Names<'_>,
+    gens: &[Gen],
+    yields: &Yield<'_>,
+    tally: Tally,
+) -> Result<Tally, EvalFault>
+    requires set { IsSetValue tally.atoms }
+    requires items { All (Stays gens.now) yields.now.items.now }
+    requires parts { All (PartStays gens.now) yields.now.parts.now }
+    ensures { GivesTally result (walk_worth scope.now.content.now scope.now.uses gens.now yields.now.items.now yields.now.parts.now (env_in names.now) (gathered_of tally)) }
+{
+    let mut walk = Walk::new(scope.alloc, names.bound)?;
+    if !find_binding(scope, names, gens, &mut walk)? {
+        return Ok(tally);
+    }
+    let mut tally = gather(scope, names, yields, tally)?;
+    'bindings: while find_binding(scope, names, gens, &mut walk)? {
+        tally = counted(tally)?;
     }
     Ok(tally)
 }

@@ -6,11 +6,13 @@
 
 mod evaluation;
 mod fitting;
+mod reads;
 mod tally;
 mod walk;
 
 pub use evaluation::{
-    binding_under, eval, eval_all_under, eval_in, eval_set, eval_under, front_under,
+    binding_under, eval, eval_all_under, eval_all_with, eval_in, eval_set, eval_under, eval_with,
+    front_under,
 };
 pub use value_operators::EvalFault;
 pub use walk::Walk;

@@ -6,6 +6,7 @@ use Rattle.std.proofs.lemmas.Bool.{eq-eqb, eqb-true, ne_eqb, cond-true, cond-fal
 use Rattle.std.proofs.lemmas.List.{length_push, get_or_push, get_or_append_left}
 use Rattle.std.proofs.lemmas.List.Sums.{passes_at_first}
 use Rattle.std.proofs.lemmas.List.Folds.{position_or_len_push}
+use Rattle.containers.specs.Exact.{IsExact}
 use Rattle.containers.specs.Members.{with_new}
 use Rattle.equal_futures.specs.Future.{SeenInOrder}
 use Rattle.equal_futures.specs.Renumbered.{AreRenumbered}
@@ -21,43 +22,43 @@ seen_new seen (y ∷ ys) count (inl h) = inl (h.0, seen_new seen ys count h.1)
 seen_new seen (y ∷ ys) count (inr h) = inr (h.0, seen_new (seen + 1) ys count h.1)
 
 -- the first n keys have these numbers, by the list of the keys that were seen
-pub record IsNumbered (key : ℕ → ℕ) (n : ℕ) (seen : List ℕ) (numbers : List ℕ) : Type 0 where
+pub record IsNumbered {A : Type 0} (same : A → A → Bool) (key : ℕ → A) (n : ℕ) (seen : List A) (numbers : List ℕ) : Type 0 where
   pub one_each : length numbers ≡ n
-  pub first : (k : ℕ) → k < n → get_or numbers k 0 ≡ position_or_len (nat_eq (key k)) seen
+  pub first : (k : ℕ) → k < n → get_or numbers k 0 ≡ position_or_len (same (key k)) seen
   pub below : (k : ℕ) → k < n → get_or numbers k 0 < length seen
   pub order : SeenInOrder 0 numbers (length seen)
   pub few : length seen ≤ n
 
 -- a key that is found keeps its place when the list grows
-keeps_place : (p : ℕ → Bool) (seen : List ℕ) (x : ℕ) → position_or_len p seen < length seen → position_or_len p (seen ++ x ∷ []) ≡ position_or_len p seen
+keeps_place : {A : Type 0} (p : A → Bool) (seen : List A) (x : A) → position_or_len p seen < length seen → position_or_len p (seen ++ x ∷ []) ≡ position_or_len p seen
 keeps_place p seen x below =
     position_or_len_push p seen x
     ∙ cond-false (nat_eq (position_or_len p seen) (length seen)) (length seen + cond (p x) 0 1) (position_or_len p seen) (ne_eqb (position_or_len p seen) (length seen) (λ e. absurd (omega arith)))
 
-member_below : (p : ℕ → Bool) (seen : List ℕ) → list_any p seen ≡ true → position_or_len p seen < length seen
+member_below : {A : Type 0} (p : A → Bool) (seen : List A) → list_any p seen ≡ true → position_or_len p seen < length seen
 member_below p [] h = absurd (false≢true h)
 member_below p (s ∷ seen) h = elim (or_cases (p s) (list_any p seen) h) as (λ _. position_or_len p (s ∷ seen) < suc (length seen)) [
   | inl here ↦ rw here (omega arith)
   | inr later ↦ let l = member_below p seen later in elim (cases_Bool (p s)) as (λ _. position_or_len p (s ∷ seen) < suc (length seen)) [ inl e ↦ rw e (omega arith) | inr e ↦ rw e (omega arith) ]
 ]
 
-none_at_end : (p : ℕ → Bool) (seen : List ℕ) → list_any p seen ≡ false → position_or_len p seen ≡ length seen
+none_at_end : {A : Type 0} (p : A → Bool) (seen : List A) → list_any p seen ≡ false → position_or_len p seen ≡ length seen
 none_at_end p [] h = refl
 none_at_end p (s ∷ seen) h = elim (cases_Bool (p s)) as (λ _. position_or_len p (s ∷ seen) ≡ suc (length seen)) [
   | inl e ↦ absurd (false≢true (sym h ∙ rw e refl))
   | inr e ↦ rw e (let r : list_any p seen ≡ false = rw e at h in let l = none_at_end p seen r in omega arith)
 ]
 
-module _ (key : ℕ → ℕ) (n : ℕ) (seen : List ℕ) (numbers : List ℕ) (s : IsNumbered key n seen numbers) (place : ℕ) (first : place ≡ position_or_len (nat_eq (key n)) seen) where
+module _ {A : Type 0} (same : A → A → Bool) (itself : (a : A) → same a a ≡ true) (key : ℕ → A) (n : ℕ) (seen : List A) (numbers : List ℕ) (s : IsNumbered same key n seen numbers) (place : ℕ) (first : place ≡ position_or_len (same (key n)) seen) where
   old_number : (k : ℕ) → k < n → get_or (numbers ++ place ∷ []) k 0 ≡ get_or numbers k 0
   old_number k h = get_or_append_left numbers (place ∷ []) 0 k (rw s.one_each h)
 
-  known : is_member nat_eq seen (key n) ≡ true → IsNumbered key (n + 1) seen (numbers ++ place ∷ [])
+  known : is_member same seen (key n) ≡ true → IsNumbered same key (n + 1) seen (numbers ++ place ∷ [])
   known h =
-      let below : place < length seen = rw first (member_below (nat_eq (key n)) seen h) in
+      let below : place < length seen = rw first (member_below (same (key n)) seen h) in
       record {
         one_each = length_push numbers place ∙ ap (λ m. m + 1) s.one_each;
-        first = below_more (λ k. get_or (numbers ++ place ∷ []) k 0 ≡ position_or_len (nat_eq (key k)) seen) n
+        first = below_more (λ k. get_or (numbers ++ place ∷ []) k 0 ≡ position_or_len (same (key k)) seen) n
             (λ k l. old_number k l ∙ s.first k l)
             (get_or_push numbers place 0 n s.one_each ∙ first);
         below = below_more (λ k. get_or (numbers ++ place ∷ []) k 0 < length seen) n
@@ -67,19 +68,19 @@ module _ (key : ℕ → ℕ) (n : ℕ) (seen : List ℕ) (numbers : List ℕ) (s
         few = let old = s.few in omega arith;
       }
 
-  fresh : is_member nat_eq seen (key n) ≡ false → IsNumbered key (n + 1) (seen ++ key n ∷ []) (numbers ++ place ∷ [])
+  fresh : is_member same seen (key n) ≡ false → IsNumbered same key (n + 1) (seen ++ key n ∷ []) (numbers ++ place ∷ [])
   fresh h =
-      let at_end : position_or_len (nat_eq (key n)) seen ≡ length seen = none_at_end (nat_eq (key n)) seen h in
+      let at_end : position_or_len (same (key n)) seen ≡ length seen = none_at_end (same (key n)) seen h in
       let is : place ≡ length seen = first ∙ at_end in
       let longer = length_push seen (key n) in
-      let there : position_or_len (nat_eq (key n)) (seen ++ key n ∷ []) ≡ length seen =
-      position_or_len_push (nat_eq (key n)) seen (key n)
-      ∙ cond-true (nat_eq (position_or_len (nat_eq (key n)) seen) (length seen)) (length seen + cond (nat_eq (key n) (key n)) 0 1) (position_or_len (nat_eq (key n)) seen) (eq-eqb (position_or_len (nat_eq (key n)) seen) (length seen) at_end)
-      ∙ rw (eq-eqb (key n) (key n) refl) (omega arith) in
+      let there : position_or_len (same (key n)) (seen ++ key n ∷ []) ≡ length seen =
+      position_or_len_push (same (key n)) seen (key n)
+      ∙ cond-true (nat_eq (position_or_len (same (key n)) seen) (length seen)) (length seen + cond (same (key n) (key n)) 0 1) (position_or_len (same (key n)) seen) (eq-eqb (position_or_len (same (key n)) seen) (length seen) at_end)
+      ∙ rw (itself (key n)) (omega arith) in
       record {
         one_each = length_push numbers place ∙ ap (λ m. m + 1) s.one_each;
-        first = below_more (λ k. get_or (numbers ++ place ∷ []) k 0 ≡ position_or_len (nat_eq (key k)) (seen ++ key n ∷ [])) n
-            (λ k l. old_number k l ∙ s.first k l ∙ sym (keeps_place (nat_eq (key k)) seen (key n) (rw (← s.first k l) (s.below k l))))
+        first = below_more (λ k. get_or (numbers ++ place ∷ []) k 0 ≡ position_or_len (same (key k)) (seen ++ key n ∷ [])) n
+            (λ k l. old_number k l ∙ s.first k l ∙ sym (keeps_place (same (key k)) seen (key n) (rw (← s.first k l) (s.below k l))))
             (get_or_push numbers place 0 n s.one_each ∙ is ∙ sym there);
         below = below_more (λ k. get_or (numbers ++ place ∷ []) k 0 < length (seen ++ key n ∷ [])) n
             (λ k l. let b = s.below k l in rw (old_number k l) (omega arith))
@@ -88,39 +89,39 @@ module _ (key : ℕ → ℕ) (n : ℕ) (seen : List ℕ) (numbers : List ℕ) (s
         few = let old = s.few in omega arith;
       }
 
-  pub one_more_numbered : IsNumbered key (n + 1) (with_new nat_eq seen (key n)) (numbers ++ place ∷ [])
-  one_more_numbered = elim (cases_Bool (is_member nat_eq seen (key n))) as (λ _. IsNumbered key (n + 1) (with_new nat_eq seen (key n)) (numbers ++ place ∷ [])) [
+  pub one_more_numbered : IsNumbered same key (n + 1) (with_new same seen (key n)) (numbers ++ place ∷ [])
+  one_more_numbered = elim (cases_Bool (is_member same seen (key n))) as (λ _. IsNumbered same key (n + 1) (with_new same seen (key n)) (numbers ++ place ∷ [])) [
     | inl h ↦ rw h (known h)
     | inr h ↦ rw h (fresh h)
   ]
 
 -- equal numbers have equal keys, and equal keys equal numbers
-pub keys_equal : (key : ℕ → ℕ) (n : ℕ) (seen : List ℕ) (numbers : List ℕ) → IsNumbered key n seen numbers → (i j : ℕ) → i < n → j < n → get_or numbers i 0 ≡ get_or numbers j 0 → key i ≡ key j
-keys_equal key n seen numbers s i j a b e =
-    let p = passes_at_first (nat_eq (key i)) seen 0 (rw (← s.first i a) (s.below i a)) in
-    let q = passes_at_first (nat_eq (key j)) seen 0 (rw (← s.first j b) (s.below j b)) in
-    let same : position_or_len (nat_eq (key i)) seen ≡ position_or_len (nat_eq (key j)) seen = sym (s.first i a) ∙ e ∙ s.first j b in
-    let left = eqb-true (key i) _ p in
-    let right = eqb-true (key j) _ q in
-    left ∙ ap (λ k. get_or seen k 0) same ∙ sym right
+pub keys_equal : {A : Type 0} (same : A → A → Bool) → IsExact same → (d : A) (key : ℕ → A) (n : ℕ) (seen : List A) (numbers : List ℕ) → IsNumbered same key n seen numbers → (i j : ℕ) → i < n → j < n → get_or numbers i 0 ≡ get_or numbers j 0 → key i ≡ key j
+keys_equal same exact d key n seen numbers s i j a b e =
+    let p = passes_at_first (same (key i)) seen d (rw (← s.first i a) (s.below i a)) in
+    let q = passes_at_first (same (key j)) seen d (rw (← s.first j b) (s.below j b)) in
+    let place : position_or_len (same (key i)) seen ≡ position_or_len (same (key j)) seen = sym (s.first i a) ∙ e ∙ s.first j b in
+    let left = exact (key i) _ p in
+    let right = exact (key j) _ q in
+    left ∙ ap (λ k. get_or seen k d) place ∙ sym right
 
-pub numbers_equal : (key : ℕ → ℕ) (n : ℕ) (seen : List ℕ) (numbers : List ℕ) → IsNumbered key n seen numbers → (i j : ℕ) → i < n → j < n → key i ≡ key j → get_or numbers i 0 ≡ get_or numbers j 0
-numbers_equal key n seen numbers s i j a b e = s.first i a ∙ ap (λ k. position_or_len (nat_eq k) seen) e ∙ sym (s.first j b)
+pub numbers_equal : {A : Type 0} (same : A → A → Bool) (key : ℕ → A) (n : ℕ) (seen : List A) (numbers : List ℕ) → IsNumbered same key n seen numbers → (i j : ℕ) → i < n → j < n → key i ≡ key j → get_or numbers i 0 ≡ get_or numbers j 0
+numbers_equal same key n seen numbers s i j a b e = s.first i a ∙ ap (λ k. position_or_len (same k) seen) e ∙ sym (s.first j b)
 
 -- the same step, as the code makes it
-pub numbered_step : (key : ℕ → ℕ) (n : ℕ) (seen new : List ℕ) (numbers more : List ℕ) (place row : ℕ) → IsNumbered key n seen numbers → row ≡ key n → place ≡ position_or_len (nat_eq row) seen → new ≡ with_new nat_eq seen row → more ≡ numbers ++ place ∷ [] → IsNumbered key (n + 1) new more
-numbered_step key n seen new numbers more place row s is first list items =
-    let grown : new ≡ with_new nat_eq seen (key n) = list ∙ ap (λ r. with_new nat_eq seen r) is in
-    let at : place ≡ position_or_len (nat_eq (key n)) seen = first ∙ ap (λ r. position_or_len (nat_eq r) seen) is in
-    subst (λ xs. IsNumbered key (n + 1) xs more) (sym grown) (subst (λ xs. IsNumbered key (n + 1) (with_new nat_eq seen (key n)) xs) (sym items) (one_more_numbered key n seen numbers s place at))
+pub numbered_step : {A : Type 0} (same : A → A → Bool) → ((a : A) → same a a ≡ true) → (key : ℕ → A) (n : ℕ) (seen new : List A) (numbers more : List ℕ) (place : ℕ) (row : A) → IsNumbered same key n seen numbers → row ≡ key n → place ≡ position_or_len (same row) seen → new ≡ with_new same seen row → more ≡ numbers ++ place ∷ [] → IsNumbered same key (n + 1) new more
+numbered_step same itself key n seen new numbers more place row s is first list items =
+    let grown : new ≡ with_new same seen (key n) = list ∙ ap (λ r. with_new same seen r) is in
+    let at : place ≡ position_or_len (same (key n)) seen = first ∙ ap (λ r. position_or_len (same r) seen) is in
+    subst (λ xs. IsNumbered same key (n + 1) xs more) (sym grown) (subst (λ xs. IsNumbered same key (n + 1) (with_new same seen (key n)) xs) (sym items) (one_more_numbered same itself key n seen numbers s place at))
 
 -- numbers of all places of a list
-pub all_numbered : (old : List ℕ) (n : ℕ) (seen numbers : List ℕ) → n ≡ length old → IsNumbered (λ k. get_or old k 0) n seen numbers → AreRenumbered old numbers (length seen)
+pub all_numbered : (old : List ℕ) (n : ℕ) (seen numbers : List ℕ) → n ≡ length old → IsNumbered nat_eq (λ k. get_or old k 0) n seen numbers → AreRenumbered old numbers (length seen)
 all_numbered old n seen numbers whole s = record {
   one_each = s.one_each ∙ whole;
   exact = λ i j a b. (
-    λ e. keys_equal (λ k. get_or old k 0) n seen numbers s i j (rw whole a) (rw whole b) e,
-    λ e. numbers_equal (λ k. get_or old k 0) n seen numbers s i j (rw whole a) (rw whole b) e,
+    λ e. keys_equal nat_eq eqb-true 0 (λ k. get_or old k 0) n seen numbers s i j (rw whole a) (rw whole b) e,
+    λ e. numbers_equal nat_eq (λ k. get_or old k 0) n seen numbers s i j (rw whole a) (rw whole b) e,
   );
   order = s.order;
 }

@@ -1,26 +1,20 @@
 -- Components that have their tables go on: no term that they reach ends or lacks a value.
-use Rattle.std.proofs.Common.{◌≡◌, ℕ, zero, suc, ◌-◌, Ok, Err, List, [], ◌∷◌, Some, slice_get, refl, subst}
+use Rattle.std.proofs.Common.{◌≡◌, ℕ, zero, suc, List, [], ◌∷◌, Some, slice_get, subst}
 use Rattle.std.proofs.lemmas.Option.{none-some, same_Some}
-use Rattle.csp_program.specs.Outcome.{Outcome}
-use Rattle.csp_program.specs.declared.kinds.ValueKind.{ValueKind}
 use Rattle.csp_program.specs.declared.processes.Proc.{Proc}
 use Rattle.csp_program.specs.declared.programs.Content.{Content}
 use Rattle.csp_tables.specs.Network.{Component, ComponentStep}
 use Rattle.csp_tables.specs.Path.{Reached}
 use Rattle.csp_tables.specs.RawTable.{standing_at}
-use Rattle.csp_tables.specs.Trace.{visible_events}
-use Rattle.local_tables.specs.Component.{HasList}
 use Rattle.local_tables.specs.LocalTable.{IsLocalTable}
 use Rattle.local_tables.specs.declared.local_table.LocalTable.{LocalTable}
 use Rattle.local_tables.specs.Room.{Room}
-use Rattle.local_tables.proofs.Excluding.{excluded}
+use Rattle.local_tables.proofs.Excluding.{listed_of}
 use Rattle.net_sound.proofs.Numbered.{stands}
 use Rattle.net_sound.proofs.Soundness.{path_alphabet}
 use Rattle.network_stages.specs.Tables.{AreTablesOf, AreTablesWithin, HasTable, IsTableWithin, room_after, whole_room}
 use Rattle.network_stages.specs.declared.component_tables.ComponentTable.{ComponentTable}
-use Rattle.process_steps.specs.declared.component_fault.ComponentFault.TheVariants as fault
 use Rattle.process_steps.specs.ComponentStep.{ProcessStep}
-use Rattle.process_steps.specs.StepList.{Move, steps_of}
 use Rattle.judgement_laws.specs.Lasting.{AllGoOn, GoesOn}
 
 module _ (p : Content) where
@@ -33,15 +27,11 @@ module _ (p : Content) where
 
   -- ---- what a component reaches goes on
 
-  list_of : (x : Proc) (o : Outcome (List Move)) → steps_of p x ≡ o → ((why : ValueKind) → steps_of p x ≡ Err why → ⊥) → HasList p x
-  list_of x (Ok moves) is never = (moves, is)
-  list_of x (Err why) is never = absurd (never why is)
-
   fit : (c : Component Proc) (room : Room) (made : LocalTable) (x : Proc) → IsLocalTable p c room made → Reached (ComponentStep (ProcessStep p)) c (standing_at c x) → GoesOn p x
-  fit c room made x table r = record {
-    endless = λ ticks. excluded p c room made (fault.Terminates (visible_events r.0)) table (record { term = x; after = (r.0, r.1, refl); ends = ticks });
-    whole = list_of x (steps_of p x) refl (λ why none. excluded p c room made (fault.Value why) table (record { term = x; reached = r; none = none }));
-  }
+  fit c room made x table r =
+      let l = listed_of p c table.terms made.table table.table x r in
+      let f = table.fit l.0 x l.1 in
+      record { endless = f.goes_on; whole = f.whole }
 
   pub all_go_on : (cs : List (Component Proc)) (ts : List ComponentTable) → AreTablesOf p cs ts → AllGoOn p cs
   all_go_on cs ts are i c d at r =

@@ -4,13 +4,13 @@ use Rattle.csp_program.specs.declared.processes.Proc.{Proc}
 use Rattle.csp_program.specs.declared.programs.Content.{Content}
 use Rattle.csp_tables.specs.Network.{Component, ComponentStep}
 use Rattle.csp_tables.specs.Path.{Reached}
-use Rattle.local_tables.specs.Component.{HasList}
 use Rattle.process_steps.specs.ComponentStep.{ProcessStep, Ticks}
+use Rattle.process_steps.specs.LacksNone.{LacksNone}
 
--- The process cannot end, and each value that its steps need is there.
+-- The process cannot end, and lacks no value.
 pub record GoesOn (p : Content) (x : Proc) : Type 0 where
   pub endless : Ticks p x → ⊥
-  pub whole : HasList p x
+  pub whole : LacksNone p x
 
 -- so does each term that a component reaches by itself
 abbrev pub AllGoOn : Content → List (Component Proc) → Type 0

@@ -1,10 +1,5 @@
-pub mod Lists
-pub mod Labels
-pub mod Results
-pub mod Rows
-pub mod Growing
-pub mod Taking
-pub mod Walking
 pub mod Ending
-pub mod Injecting
 pub mod Excluding
+pub mod Following
+pub mod Rows
+pub mod Walking

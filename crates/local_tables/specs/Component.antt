@@ -1,27 +1,30 @@
 -- A component of a program, and what stands for it: terms that it reaches by itself, and steps of these.
-use Rattle.std.specs.Prelude.{◌≡◌, ℕ, ◌+◌, IsTrue, Ok, Some, List, length, slice_get}
+use Rattle.std.specs.Prelude.{◌≡◌, ℕ, ◌+◌, IsTrue, Some, List, length, slice_get}
+use Rattle.csp_base.specs.Lists.{EachOnce}
 use Rattle.csp_base.specs.Members.{has}
 use Rattle.csp_program.specs.declared.processes.Proc.{Proc}
 use Rattle.csp_program.specs.declared.programs.Content.{Content}
+use Rattle.csp_steps.specs.Evaluated.{Fits}
 use Rattle.csp_tables.specs.Label.{Label}
 use Rattle.csp_tables.specs.Label.Label.{silent, visible}
 use Rattle.csp_tables.specs.Path.{Reached}
 use Rattle.csp_tables.specs.Network.{Component, ComponentStep}
 use Rattle.csp_tables.specs.RawTable.{IsStepOf, RawStep, RawTable, standing_at}
-use Rattle.process_steps.specs.StepList.{Move, steps_of}
-use Rattle.csp_base.specs.Lists.{EachOnce}
+use Rattle.local_tables.specs.declared.task.Task.{Task}
+use Rattle.local_tables.specs.declared.terms.Terms.{Terms}
 
-abbrev pub component : List ℕ → Proc → Component Proc
-component alphabet term = record { alphabet = alphabet; term = term }
+-- the component of a task
+abbrev pub part_of : Task → Component Proc
+part_of task = record { alphabet = task.alphabet.now; term = task.start.now }
+
+-- what was evaluated for the terms is true of the program
+abbrev pub AreTermsOf : Content → Terms → Type 0
+AreTermsOf p terms = Fits p terms.pool terms.evaluated
 
 -- the label is silent, or an event of the alphabet
 abbrev pub IsInside : List ℕ → Label → Type 0
 IsInside alphabet silent = Unit {0}
 IsInside alphabet (visible e) = IsTrue (has alphabet e)
-
--- the term has a list of steps
-abbrev pub HasList : Content → Proc → Type 0
-HasList p x = (moves : List Move) × (steps_of p x ≡ Ok moves)
 
 -- The component reaches each of these terms, and none stands twice.
 pub record AreTerms {T : Type 0} (Step : T → Label → T → Type 0) (c : Component T) (terms : List T) : Type 0 where

@@ -12,7 +12,8 @@ use Rattle.csp_tables.specs.RawTable.{RawTable, standing_at}
 use Rattle.csp_tables.specs.Trace.{After}
 use Rattle.process_steps.specs.ComponentStep.{ProcessStep, Ticks}
 use Rattle.process_steps.specs.StepList.{steps_of}
-use Rattle.local_tables.specs.Component.{AreSteps, AreTerms, step_count}
+use Rattle.local_tables.specs.Component.{AreSteps, AreTerms, part_of, step_count}
+use Rattle.local_tables.specs.declared.task.Task.{Task}
 use Rattle.local_tables.specs.declared.fault.Unexplored.{Unexplored}
 use Rattle.local_tables.specs.declared.fault.Unexplored.TheVariants as unexplored
 use Rattle.process_steps.specs.declared.component_fault.ComponentFault.{ComponentFault}
@@ -80,7 +81,11 @@ abbrev pub Lacks : Content → Component Proc → Room → Unexplored → Type 0
 Lacks p c room unexplored.NoMemory = Unit {0}
 Lacks p c room (unexplored.Refused f) = LacksTable p c room f
 
--- a fault of an evaluation (for a private call)
+-- the same of a task's component (for private calls, as what follows)
+abbrev pub TaskLacks : Task → Unexplored → Type 0
+TaskLacks task = Lacks task.program.now (part_of task) task.room
+
+-- a fault of an evaluation
 abbrev pub valueless : EvalFault → Unexplored
 valueless evaluation.NoMemory = unexplored.NoMemory
 valueless (evaluation.Value kind) = unexplored.Refused (fault.Value kind)

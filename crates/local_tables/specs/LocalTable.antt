@@ -11,14 +11,15 @@ use Rattle.csp_tables.specs.Network.{Component}
 use Rattle.csp_tables.specs.RawTable.{IsTableOf, RawTable}
 use Rattle.csp_tables.specs.RowOrder.{targets_in}
 use Rattle.process_steps.specs.ComponentStep.{ProcessStep, Ticks}
-use Rattle.local_tables.specs.Component.{HasList, IsInside, step_count}
+use Rattle.process_steps.specs.LacksNone.{LacksNone}
+use Rattle.local_tables.specs.Component.{IsInside, step_count}
 use Rattle.local_tables.specs.declared.local_table.LocalTable.{LocalTable}
 use Rattle.local_tables.specs.Room.{Room}
 use Rattle.csp_base.specs.Lists.{total}
 
--- The steps of the term are there, it cannot end, and it is not too deep.
+-- The term lacks no value, it cannot end, and it is not too deep.
 pub record IsFit (p : Content) (x : Proc) : Type 0 where
-  pub list : HasList p x
+  pub whole : LacksNone p x
   pub goes_on : Ticks p x → ⊥
   pub shallow : proc_depth x ≤ MOST_TERM_DEPTH
 

@@ -2,9 +2,8 @@
 
 ghost use Rattle.std.specs.Prelude.{◌≡◌, ◌+◌, ◌<◌, ◌≤◌, ◌++◌, ℕ, Some, List, length, slice_get, IfOk, OnOk};
 ghost use Rattle.csp_program.specs.declared.processes.Proc.{Proc};
-ghost use Rattle.csp_program.specs.declared.programs.Content.{Content};
-ghost use Rattle.csp_tables.specs.Network.{Component};
 ghost use Rattle.local_tables.specs.Progress.{AreLed, LeadsToTerm, Origin, step_events};
+ghost use Rattle.local_tables.specs.declared.task.Task.{Task};
 
 use csp_base::{Event, NoMemory, Trace};
 use std::alloc::Global;
@@ -17,23 +16,8 @@ pub(crate) fn trace_to(
 ) -> Result<Trace, NoMemory>
     requires within { number < length origins.now + 1 }
     requires earlier { (k : ℕ) (o : Origin) → slice_get origins.now k ≡ Some o → o.0 ≤ k }
-    ensures { (p : Content) (c : Component Proc) (terms : List Proc) → AreLed p c terms origins.now
-        → IfOk result (λ trace. LeadsToTerm p c terms trace number) }
-{
-    let events = events_to(alloc, origins, number)?;
-    Trace::from_slice(alloc, events.as_slice())
-}
-
-// The events along the way.
-fn events_to(
-    alloc: Global,
-    origins: &[(u32, Option<Event>)],
-    number: u32,
-) -> Result<Vec<Event>, NoMemory>
-    requires within { number < length origins.now + 1 }
-    requires earlier { (k : ℕ) (o : Origin) → slice_get origins.now k ≡ Some o → o.0 ≤ k }
-    ensures { (p : Content) (c : Component Proc) (terms : List Proc) → AreLed p c terms origins.now
-        → IfOk result (λ events. LeadsToTerm p c terms events.items number) }
+    ensures { (task : Task) (terms : List Proc) → AreLed task terms origins.now
+        → IfOk result (λ trace. LeadsToTerm task terms trace number) }
 {
     let mut events = Vec::new(alloc);
     let mut at = number as usize;
@@ -43,7 +27,8 @@ fn events_to(
         at = earlier as usize;
     }
     events.reverse();
-    Ok(events)
+    let trace = Trace::from_slice(alloc, events.as_slice())?;
+    Ok(trace)
 }
 
 // The event of a step, if it has one, at the end.

@@ -2,6 +2,7 @@ pub mod EachSteps
 pub mod Equations
 pub mod FirstEvents
 pub mod Laid
+pub mod Names
 pub mod Passed
 pub mod Together
 pub mod ToldSteps

@@ -1,6 +1,6 @@
 //! The layout of a program's network.
 
-ghost use Rattle.std.specs.Prelude.{◌≡◌, IfErr, IfOk};
+ghost use Rattle.std.specs.Prelude.{◌≡◌, [], IfErr, IfOk};
 ghost use Rattle.dl_limits.specs.declared.TheConstants.{MOST_NETWORK_DEPTH};
 ghost use Rattle.std.specs.List.{range_with_len};
 ghost use Rattle.network_trees.specs.NetworkOf.{all_events, network_of, tree_within};
@@ -8,7 +8,7 @@ ghost use Rattle.network_layout.specs.Lays.{AreSeats, Fails};
 
 use crate::fault::Unlaid;
 use crate::seat::{Layout, Seats};
-use crate::values::Scope;
+use crate::values::whole_scope;
 use crate::walk::walk;
 use csp_base::{Event, EventSet, NoMemory};
 use csp_program::Program;
@@ -37,11 +37,11 @@ fn all_events(alloc: Global, program: &Program) -> Result<EventSet, NoMemory>
 
 // The components that the walk of a program's network meets.
 fn seats_of(alloc: Global, program: &Program) -> Result<Seats, Unlaid>
-    ensures seats { IfOk result (AreSeats (tree_within program.now MOST_NETWORK_DEPTH 0 (all_events program.now) program.now.root)) }
-    ensures fault { IfErr result (λ fault. Fails fault (tree_within program.now MOST_NETWORK_DEPTH 0 (all_events program.now) program.now.root)) }
+    ensures seats { IfOk result (AreSeats (tree_within program.now MOST_NETWORK_DEPTH 0 (all_events program.now) [] program.now.root)) }
+    ensures fault { IfErr result (λ fault. Fails fault (tree_within program.now MOST_NETWORK_DEPTH 0 (all_events program.now) [] program.now.root)) }
 {
     let events = all_events(alloc, program)?;
-    let scope = Scope { alloc, program };
+    let scope = whole_scope(alloc, program);
     let mut seats = Seats::new(alloc);
     walk(
         &scope,

@@ -1,7 +1,6 @@
 //! The components of a network: from the program to the list of its seats.
 #![tactic(auto)]
 
-mod calls;
 mod components;
 mod fault;
 mod nesting;

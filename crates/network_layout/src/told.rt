@@ -9,7 +9,7 @@ ghost use Rattle.network_layout.specs.Told.{IsUntold, noted_fault};
 ghost use Rattle.value_operators.specs.Gives.{Gives};
 
 use crate::seat::{Layout, Seat};
-use crate::values::{Scope, events};
+use crate::values::{Scope, events, whole_scope};
 use containers::{Boxed, Items};
 use csp_base::{EventSet, NoMemory};
 use csp_program::copies::copy_exprs;
@@ -56,7 +56,14 @@ fn told_set(scope: &Scope<'_>, args: &[Expr], def: u32) -> Result<EventSet, Eval
     ensures { Gives result (told_set scope.now.program.now args.now def) }
 {
     let call = use_of(scope.alloc, def, args)?;
-    events(scope, call.get())
+    let whole = Scope {
+        alloc: scope.alloc,
+        program: scope.program,
+        params: &[],
+        args: &[],
+        bound: &[],
+    };
+    events(&whole, call.get())
 }
 
 // The sets that an annotation tells.
@@ -174,7 +181,7 @@ pub fn roles_of(
     ensures told { IfOk result (λ told. all_outcomes (component_roles program.now) layout.now ≡ Ok told) }
     ensures fault { IfErr result (IsUntold (component_roles program.now) layout.now) }
 {
-    let scope = Scope { alloc, program };
+    let scope = whole_scope(alloc, program);
     let told = all_roles(&scope, layout.seats())?;
     Ok(told)
 }
@@ -204,7 +211,7 @@ pub fn uses_of(
     ensures told { IfOk result (λ told. all_outcomes (component_uses program.now) layout.now ≡ Ok told) }
     ensures fault { IfErr result (IsUntold (component_uses program.now) layout.now) }
 {
-    let scope = Scope { alloc, program };
+    let scope = whole_scope(alloc, program);
     let told = all_uses(&scope, layout.seats())?;
     Ok(told)
 }

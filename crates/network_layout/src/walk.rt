@@ -1,33 +1,32 @@
 //! The walk of a network, depth first from the left. It seats each component that it meets, and gives back their alphabets together.
 
-ghost use Rattle.std.specs.Prelude.{◌≡◌, [], IfErr, IfOk, length};
+ghost use Rattle.std.specs.Prelude.{◌≡◌, [], ◌∷◌, IfErr, IfOk, length};
+ghost use Rattle.csp_atoms.specs.declared.value.Value.TheVariants.{One};
 ghost use Rattle.csp_base.specs.Events.{union_of};
+ghost use Rattle.csp_program.specs.Substitution.{given_by, proc_with};
 ghost use Rattle.csp_program.specs.declared.networks.Net.TheOpen.{Net-F};
 ghost use Rattle.network_trees.specs.NetworkOf.{next_component, tree_within};
 ghost use Rattle.network_layout.specs.declared.fault.Unlaid.TheVariants as unlaid;
-ghost use Rattle.network_layout.specs.Lays.{Lays, node, one_operand, operand_walked, operands_each, two};
+ghost use Rattle.network_layout.specs.Lays.{Lays, body_walked, names_of, node, one_operand, operand_walked, operands_each, two};
 
-use crate::calls::{called, operand_at};
 use crate::fault::Unlaid;
 use crate::nesting::agree;
 use crate::seat::{Seat, Seats};
-use crate::values::{Scope, both_events, set, truth};
-use csp_atoms::Atom;
+use crate::values::{KIND, Scope, arguments, both_events, events, put, set, truth, with_name};
+use csp_atoms::{Atom, Value};
 use csp_base::{EventSet, NoMemory};
-use csp_program::proc_copies::copy_boxed_proc;
-use csp_program::{Expr, Net, Proc};
+use csp_program::{Body, Def, Expr, Net, Proc};
 use dl_limits::MOST_COMPONENTS;
 use network_trees::LayoutFault;
-use std::alloc::Global;
 
 const TOO_DEEP: Unlaid = Unlaid::Refused(LayoutFault::NetworkDepth);
 
 // A component.
-fn seat_of(alloc: Global, process: &Proc, alphabet: &EventSet) -> Result<Seat, NoMemory>
-    ensures { IfOk result (λ seat. seat ≡ record { alphabet = alphabet.now; term = process.now }) }
+fn seat_of(scope: &Scope<'_>, process: &Proc, alphabet: &EventSet) -> Result<Seat, NoMemory>
+    ensures { IfOk result (λ seat. seat ≡ record { alphabet = alphabet.now; term = proc_with (given_by (names_of scope.now)) process.now }) }
 {
-    let kept = alphabet.try_clone(alloc)?;
-    let term = copy_boxed_proc(alloc, process)?;
+    let kept = alphabet.try_clone(scope.alloc)?;
+    let term = put(scope, process)?;
     Ok(Seat::new(term, kept))
 }
 
@@ -47,23 +46,24 @@ fn sit(
     alphabet: &EventSet,
     seats: &mut Seats,
 ) -> Result<EventSet, Unlaid>
-    ensures { Lays result (next_component (length seats.old) alphabet.now process.now) seats.old seats.new }
+    ensures { Lays result (next_component (length seats.old) alphabet.now (proc_with (given_by (names_of scope.now)) process.now)) seats.old seats.new }
 {
     if seats.len() >= MOST_COMPONENTS {
         return Err(Unlaid::Refused(LayoutFault::ComponentLimit));
     }
-    seats.push_made(seat_of(scope.alloc, process, alphabet))?;
+    seats.push_made(seat_of(scope, process, alphabet))?;
     both(scope, alphabet, &EventSet::new(scope.alloc))
 }
 
 // A network in which no node may be entered.
+#[tactic(auto, using(csp_program::specs::declared::networks::Net::the_lemmas), unfolding(network_trees::specs::NetworkOf::tree_within))]
 fn walk_leaf(
     scope: &Scope<'_>,
     net: &Net,
     alphabet: &EventSet,
     seats: &mut Seats,
 ) -> Result<EventSet, Unlaid>
-    ensures { Lays result (tree_within scope.now.program.now 0 (length seats.old) alphabet.now net.now) seats.old seats.new }
+    ensures { Lays result (tree_within scope.now.program.now 0 (length seats.old) alphabet.now (names_of scope.now) net.now) seats.old seats.new }
 {
     match net {
         Net::Leaf(process) => sit(scope, process, alphabet, seats),
@@ -83,7 +83,7 @@ pub(crate) fn walk(
     alphabet: &EventSet,
     seats: &mut Seats,
 ) -> Result<EventSet, Unlaid>
-    ensures { Lays result (tree_within scope.now.program.now levels (length seats.old) alphabet.now net.now) seats.old seats.new }
+    ensures { Lays result (tree_within scope.now.program.now levels (length seats.old) alphabet.now (names_of scope.now) net.now) seats.old seats.new }
 {
     if levels == 0 {
         return walk_leaf(scope, net, alphabet, seats);
@@ -100,6 +100,7 @@ pub(crate) fn walk(
 
 // A call, which stands for the body of its definition.
 #[cycle(walk)]
+#[tactic(auto, unfolding(crate::specs::Lays::node, crate::specs::Lays::body_walked))]
 fn walk_call(
     scope: &Scope<'_>,
     levels: u32,
@@ -108,14 +109,46 @@ fn walk_call(
     alphabet: &EventSet,
     seats: &mut Seats,
 ) -> Result<EventSet, Unlaid>
-    ensures { Lays result (node scope.now.program.now levels (length seats.old) alphabet.now (Net-F.Call def args.now)) seats.old seats.new }
+    ensures { Lays result (node scope.now.program.now levels (length seats.old) alphabet.now (names_of scope.now) (Net-F.Call def args.now)) seats.old seats.new }
 {
-    let net = called(scope, def, args)?;
-    walk(scope, levels, net.get(), alphabet, seats)
+    let values = arguments(scope, args)?;
+    match scope.program.content().defs.get(def as usize) {
+        Some(def) => walk_body(scope, levels, def, values.as_slice(), alphabet, seats),
+        None => Err(Unlaid::from(KIND)),
+    }
+}
+
+// The body of a definition, under its parameters with these values.
+#[cycle(walk)]
+#[tactic(auto, unfolding(crate::specs::Lays::body_walked))]
+fn walk_body(
+    scope: &Scope<'_>,
+    levels: u32,
+    def: &Def,
+    args: &[Value],
+    alphabet: &EventSet,
+    seats: &mut Seats,
+) -> Result<EventSet, Unlaid>
+    ensures { Lays result (body_walked scope.now.program.now levels (length seats.old) alphabet.now def.now args.now) seats.old seats.new }
+{
+    match &def.body {
+        Body::Network(net) => {
+            let inner = Scope {
+                alloc: scope.alloc,
+                program: scope.program,
+                params: def.params.as_slice(),
+                args,
+                bound: &[],
+            };
+            walk(&inner, levels, net, alphabet, seats)
+        }
+        _ => Err(Unlaid::from(KIND)),
+    }
 }
 
 // A choice, which stands for one of its parts.
 #[cycle(walk)]
+#[tactic(auto, unfolding(crate::specs::Lays::node))]
 fn walk_if(
     scope: &Scope<'_>,
     levels: u32,
@@ -125,7 +158,7 @@ fn walk_if(
     alphabet: &EventSet,
     seats: &mut Seats,
 ) -> Result<EventSet, Unlaid>
-    ensures { Lays result (node scope.now.program.now levels (length seats.old) alphabet.now (Net-F.If condition.now left.now right.now)) seats.old seats.new }
+    ensures { Lays result (node scope.now.program.now levels (length seats.old) alphabet.now (names_of scope.now) (Net-F.If condition.now left.now right.now)) seats.old seats.new }
 {
     let holds = truth(scope, condition)?;
     if holds {
@@ -136,6 +169,7 @@ fn walk_if(
 
 // An operand, which has to agree with its alphabet.
 #[cycle(walk)]
+#[tactic(auto, unfolding(crate::specs::Lays::operand_walked))]
 fn operand(
     scope: &Scope<'_>,
     levels: u32,
@@ -143,7 +177,7 @@ fn operand(
     alphabet: &EventSet,
     seats: &mut Seats,
 ) -> Result<EventSet, Unlaid>
-    ensures { Lays result (operand_walked scope.now.program.now levels (length seats.old) alphabet.now net.now) seats.old seats.new }
+    ensures { Lays result (operand_walked scope.now.program.now levels (length seats.old) alphabet.now (names_of scope.now) net.now) seats.old seats.new }
 {
     let first = seats.len();
     let joint = walk(scope, levels, net, alphabet, seats)?;
@@ -153,6 +187,7 @@ fn operand(
 
 // Two operands, each with its alphabet.
 #[cycle(walk)]
+#[tactic(auto, unfolding(crate::specs::Lays::node, crate::specs::Lays::two))]
 fn walk_pair(
     scope: &Scope<'_>,
     levels: u32,
@@ -162,7 +197,7 @@ fn walk_pair(
     right: &Net,
     seats: &mut Seats,
 ) -> Result<EventSet, Unlaid>
-    ensures { Lays result (node scope.now.program.now levels (length seats.old) [] (Net-F.Pair left.now left_alphabet.now right_alphabet.now right.now)) seats.old seats.new }
+    ensures { Lays result (node scope.now.program.now levels (length seats.old) [] (names_of scope.now) (Net-F.Pair left.now left_alphabet.now right_alphabet.now right.now)) seats.old seats.new }
 {
     let alphabets = both_events(scope, left_alphabet, right_alphabet)?;
     walk_both(
@@ -178,6 +213,7 @@ fn walk_pair(
 
 // Two operands with these alphabets.
 #[cycle(walk)]
+#[tactic(auto, unfolding(crate::specs::Lays::two, crate::specs::Lays::operand_walked))]
 fn walk_both(
     scope: &Scope<'_>,
     levels: u32,
@@ -187,7 +223,7 @@ fn walk_both(
     right_alphabet: &EventSet,
     seats: &mut Seats,
 ) -> Result<EventSet, Unlaid>
-    ensures { Lays result (two scope.now.program.now levels (length seats.old) left_alphabet.now left.now right_alphabet.now right.now) seats.old seats.new }
+    ensures { Lays result (two scope.now.program.now levels (length seats.old) (names_of scope.now) left_alphabet.now left.now right_alphabet.now right.now) seats.old seats.new }
 {
     let first = operand(scope, levels, left, left_alphabet, seats)?;
     let second = operand(scope, levels, right, right_alphabet, seats)?;
@@ -196,6 +232,7 @@ fn walk_both(
 
 // An operand for each value of a set.
 #[cycle(walk)]
+#[tactic(auto, unfolding(crate::specs::Lays::node, crate::specs::Lays::operands_each))]
 fn walk_set(
     scope: &Scope<'_>,
     levels: u32,
@@ -205,7 +242,7 @@ fn walk_set(
     net: &Net,
     seats: &mut Seats,
 ) -> Result<EventSet, Unlaid>
-    ensures { Lays result (node scope.now.program.now levels (length seats.old) [] (Net-F.Each name values.now alphabet.now net.now)) seats.old seats.new }
+    ensures { Lays result (node scope.now.program.now levels (length seats.old) [] (names_of scope.now) (Net-F.Each name values.now alphabet.now net.now)) seats.old seats.new }
 {
     let atoms = set(scope, values)?;
     walk_each(scope, levels, name, atoms.as_slice(), alphabet, net, seats)
@@ -222,29 +259,52 @@ fn walk_each(
     net: &Net,
     seats: &mut Seats,
 ) -> Result<EventSet, Unlaid>
-    ensures { Lays result (operands_each scope.now.program.now levels (length seats.old) name alphabet.now net.now atoms.now) seats.old seats.new }
+    ensures { Lays result (operands_each scope.now.program.now levels (length seats.old) (names_of scope.now) name alphabet.now net.now atoms.now) seats.old seats.new }
 {
     let mut joint = EventSet::new(scope.alloc);
     for atom in atoms {
-        let next = walk_one(scope, levels, name, atom, alphabet, net, seats)?;
+        let next = walk_at(scope, levels, name, *atom, alphabet, net, seats)?;
         joint = joint.union(scope.alloc, &next)?;
     }
     Ok(joint)
 }
 
-// The operand for one value.
+// The operand for one value of the name.
 #[cycle(walk)]
-fn walk_one(
+fn walk_at(
     scope: &Scope<'_>,
     levels: u32,
     name: u32,
-    atom: &Atom,
+    atom: Atom,
     alphabet: &Expr,
     net: &Net,
     seats: &mut Seats,
 ) -> Result<EventSet, Unlaid>
-    ensures { Lays result (one_operand scope.now.program.now levels (length seats.old) name alphabet.now net.now atom.now) seats.old seats.new }
+    ensures { Lays result (one_operand scope.now.program.now levels (length seats.old) ((name, One atom) ∷ names_of scope.now) alphabet.now net.now) seats.old seats.new }
 {
-    let part = operand_at(scope, alphabet, net, name, atom)?;
-    operand(scope, levels, part.1.get(), &part.0, seats)
+    let bound = with_name(scope, name, atom)?;
+    let inner = Scope {
+        alloc: scope.alloc,
+        program: scope.program,
+        params: scope.params,
+        args: scope.args,
+        bound: bound.as_slice(),
+    };
+    walk_one(&inner, levels, alphabet, net, seats)
+}
+
+// An operand with the alphabet that it has under the names of the scope.
+#[cycle(walk)]
+#[tactic(auto, unfolding(crate::specs::Lays::one_operand))]
+fn walk_one(
+    scope: &Scope<'_>,
+    levels: u32,
+    alphabet: &Expr,
+    net: &Net,
+    seats: &mut Seats,
+) -> Result<EventSet, Unlaid>
+    ensures { Lays result (one_operand scope.now.program.now levels (length seats.old) (names_of scope.now) alphabet.now net.now) seats.old seats.new }
+{
+    let events = events(scope, alphabet)?;
+    operand(scope, levels, net, &events, seats)
 }

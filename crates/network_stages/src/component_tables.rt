@@ -2,6 +2,7 @@
 
 ghost use Rattle.std.specs.Prelude.{◌≡◌, ◌≤◌, ◌<◌, ◌+◌, ◌++◌, ◌∷◌, [], IfErr, IfOk, OnOk, length};
 ghost use Rattle.dl_limits.specs.declared.TheConstants.{MOST_COMPONENTS};
+ghost use Rattle.local_tables.specs.Component.{AreTermsOf};
 ghost use Rattle.net_sound.specs.Heights.{AreSilentHeights};
 ghost use Rattle.report.specs.Stops.{Tells};
 ghost use Rattle.network_stages.specs.Stages.{HaveNoTables};
@@ -12,7 +13,7 @@ use csp_base::NoMemory;
 use csp_program::Program;
 use digraph::Heights;
 use dl_limits::{MOST_NODES, MOST_STEPS};
-use local_tables::{LocalTable, Room, Unexplored, explore};
+use local_tables::{LocalTable, Room, Task, Terms, Unexplored, explore};
 use network_layout::Seat;
 use process_steps::ComponentFault;
 use report::{Refusal, Stop};
@@ -72,13 +73,22 @@ fn with_heights(alloc: Global, local: LocalTable) -> Result<ComponentTable, Unex
 fn table_within(
     alloc: Global,
     program: &Program,
+    terms: &mut Terms,
     seat: &Seat,
     room: Room,
 ) -> Result<ComponentTable, Unexplored>
+    requires kept { AreTermsOf program.now terms.old }
     ensures table { IfOk result (IsTableWithin program.now room seat.now) }
     ensures fault { IfErr result (TellsHere program.now room seat.now) }
+    ensures terms { OnOk result (AreTermsOf program.now terms.new) }
 {
-    let local = explore(alloc, program, seat.term(), seat.alphabet(), room)?;
+    let task = Task {
+        program,
+        start: seat.term(),
+        alphabet: seat.alphabet(),
+        room,
+    };
+    let local = explore(alloc, &task, terms)?;
     with_heights(alloc, local)
 }
 
@@ -114,8 +124,9 @@ pub(crate) fn tables_from(
 {
     let mut made = Vec::new(alloc);
     let mut room = whole();
+    let mut terms = Terms::new(alloc, program.key());
     for (part, seat) in seats.iter().enumerate() {
-        match table_within(alloc, program, seat, room) {
+        match table_within(alloc, program, &mut terms, seat, room) {
             Ok(table) => {
                 room = after(room, &table.local.used);
                 add(&mut made, table)?;

@@ -3,14 +3,15 @@ use Rattle.std.proofs.Common.{◌≡◌, ℕ, zero, suc, ◌+◌, ◌<◌, ◌�
 use Rattle.std.specs.Prelude.{Option, nat_lt, slice_get}
 use Rattle.std.proofs.lemmas.Bool.{ltb-true}
 use Rattle.std.proofs.lemmas.List.{length-append}
-use Rattle.csp_program.specs.Substitution.{expr_with, net_with}
+use Rattle.csp_program.specs.Substitution.{given_by, proc_with}
+use Rattle.csp_program.specs.Value.{Env}
 use Rattle.csp_tables.specs.Network.{Component, Tree, Operands, leaves, leaves_of_operands}
 use Rattle.csp_tables.specs.Network.Tree.{leaf, parallel}
 use Rattle.csp_tables.specs.Network.Operands.{none, operand}
 use Rattle.csp_tables.specs.WellNested.{WellNested, OperandsWellNested}
-use Rattle.process_steps.specs.Needed.{arguments_in, events_in, set_in, truth_in}
+use Rattle.process_steps.specs.Prefix.{set_under}
 use Rattle.network_trees.specs.Joint.{joint, odd_event}
-use Rattle.network_trees.specs.NetworkOf.{Walked, agreed, all_events, next_component, each_operand, goes_on, nested, network_called, network_of, operand_first, side_by_side, some_components, two_operands, tree_within, walked_leaf, walked_node, with_value}
+use Rattle.network_trees.specs.NetworkOf.{Walked, agreed, all_events, arguments_under, events_under, next_component, each_operand, goes_on, nested, network_called, network_of, operand_first, side_by_side, some_components, two_operands, tree_within, truth_under, walked_leaf, walked_node, with_value}
 use Rattle.network_trees.proofs.JointLemmas.{has-joint, same_members}
 use Rattle.network_trees.proofs.Steps.{chosen, had, went}
 use Rattle.csp_atoms.specs.declared.atom.Atom.{Atom}
@@ -67,13 +68,15 @@ makes_none k os fits h =
     let is : none ≡ os = cc in
     subst (AreOperands k) is (record { nesting = tt; few = omega arith })
 
-module _ (p : Content) (below : ℕ → List ℕ → Net → Walked (Tree Proc)) (sound : (alphabet : List ℕ) (n : Net) → MakesTree (λ k. below k alphabet n)) where
-  makes_first : (alphabet : List ℕ) (n : Net) (others : ℕ → Walked (Operands Proc)) → MakesOperands others → MakesOperands (λ k. operand_first p below k alphabet n others)
-  makes_first alphabet n others rest k os fits h =
-      let first = went (goes_on (below k alphabet n) (nested k alphabet)) (λ tree. goes_on (others (k + length (leaves tree))) (λ operands. Ok (operand alphabet tree operands))) os h in
-      let below_first = went (below k alphabet n) (nested k alphabet) first.value first.is in
+module _ (p : Content) (below : ℕ → List ℕ → Env → Net → Walked (Tree Proc))
+    (sound : (alphabet : List ℕ) (env : Env) (n : Net) → MakesTree (λ k. below k alphabet env n)) where
+  makes_first : (alphabet : List ℕ) (env : Env) (n : Net) (others : ℕ → Walked (Operands Proc)) → MakesOperands others
+      → MakesOperands (λ k. operand_first p below k alphabet env n others)
+  makes_first alphabet env n others rest k os fits h =
+      let first = went (goes_on (below k alphabet env n) (nested k alphabet)) (λ tree. goes_on (others (k + length (leaves tree))) (λ operands. Ok (operand alphabet tree operands))) os h in
+      let below_first = went (below k alphabet env n) (nested k alphabet) first.value first.is in
       let found = agrees k below_first.value first.value (odd_event alphabet (joint (leaves below_first.value))) below_first.rest in
-      let tree = sound alphabet n k below_first.value fits below_first.is in
+      let tree = sound alphabet env n k below_first.value fits below_first.is in
       let tree' : IsTree k first.value = subst (IsTree k) found.1 tree in
       let agree : odd_event alphabet (joint (leaves first.value)) ≡ None = subst (λ t. odd_event alphabet (joint (leaves t)) ≡ None) found.1 found.0 in
       let after = went (others (k + length (leaves first.value))) (λ operands. Ok (operand alphabet first.value operands)) os first.rest in
@@ -81,14 +84,14 @@ module _ (p : Content) (below : ℕ → List ℕ → Net → Walked (Tree Proc))
       let more = rest (k + length (leaves first.value)) after.value tree'.few after.is in
       subst (AreOperands k) is (with_first k alphabet first.value after.value agree tree' more)
 
-  makes_two : (left : List ℕ) (n : Net) (right : List ℕ) (m : Net) → MakesOperands (λ k. two_operands p below k left n right m)
-  makes_two left n right m = makes_first left n (λ j. operand_first p below j right m (λ _. Ok none)) (makes_first right m (λ _. Ok none) makes_none)
+  makes_two : (env : Env) (left : List ℕ) (n : Net) (right : List ℕ) (m : Net) → MakesOperands (λ k. two_operands p below k env left n right m)
+  makes_two env left n right m = makes_first left env n (λ j. operand_first p below j right env m (λ _. Ok none)) (makes_first right env m (λ _. Ok none) makes_none)
 
-  makes_each : (x : ℕ) (a : Expr) (n : Net) (atoms : List Atom) → MakesOperands (each_operand p below x a n atoms)
-  makes_each x a n [] k os fits h = makes_none k os fits h
-  makes_each x a n (v ∷ vs) k os fits h =
-      let found = had (events_in p (expr_with x (One v) a)) (λ alphabet. operand_first p below k alphabet (net_with x (One v) n) (each_operand p below x a n vs)) os h in
-      makes_first found.value (net_with x (One v) n) (each_operand p below x a n vs) (makes_each x a n vs) k os fits found.rest
+  makes_each : (env : Env) (x : ℕ) (a : Expr) (n : Net) (atoms : List Atom) → MakesOperands (each_operand p below env x a n atoms)
+  makes_each env x a n [] k os fits h = makes_none k os fits h
+  makes_each env x a n (v ∷ vs) k os fits h =
+      let found = had (events_under p ((x, One v) ∷ env) a) (λ alphabet. operand_first p below k alphabet ((x, One v) ∷ env) n (each_operand p below env x a n vs)) os h in
+      makes_first found.value ((x, One v) ∷ env) n (each_operand p below env x a n vs) (makes_each env x a n vs) k os fits found.rest
 
   makes_parallel : (walk : ℕ → Walked (Operands Proc)) → MakesOperands walk → MakesTree (λ k. side_by_side p below (walk k))
   makes_parallel walk operands k tree fits h =
@@ -97,34 +100,34 @@ module _ (p : Content) (below : ℕ → List ℕ → Net → Walked (Tree Proc))
       let good = operands k made.value fits made.is in
       subst (IsTree k) is (record { nesting = good.nesting; few = good.few })
 
-  makes_node : (alphabet : List ℕ) (n : Net-F Net) → MakesTree (λ k. walked_node p below k alphabet n)
-  makes_node alphabet (Net-F.Leaf q) k tree fits h = makes_component alphabet q k tree fits h
-  makes_node alphabet (Net-F.Call d args) k tree fits h =
-      let vs = had (arguments_in p args) (λ vs. with_value (network_called (slice_get p.defs d) vs) (λ n. below k alphabet n)) tree h in
-      let n = had (network_called (slice_get p.defs d) vs.value) (λ n. below k alphabet n) tree vs.rest in
-      sound alphabet n.value k tree fits n.rest
-  makes_node alphabet (Net-F.If c n m) k tree fits h =
-      let b = had (truth_in p c) (λ b. below k alphabet (if b then n else m)) tree h in
-      sound alphabet (if b.value then n else m) k tree fits b.rest
-  makes_node alphabet (Net-F.Pair n a b m) k tree fits h =
-      let left = had (events_in p a) (λ left. with_value (events_in p b) (λ right. side_by_side p below (two_operands p below k left n right m))) tree h in
-      let right = had (events_in p b) (λ right. side_by_side p below (two_operands p below k left.value n right m)) tree left.rest in
-      makes_parallel (λ j. two_operands p below j left.value n right.value m) (makes_two left.value n right.value m) k tree fits right.rest
-  makes_node alphabet (Net-F.Each x s a n) k tree fits h =
-      let atoms = had (set_in p s) (λ atoms. side_by_side p below (each_operand p below x a n atoms k)) tree h in
-      makes_parallel (each_operand p below x a n atoms.value) (makes_each x a n atoms.value) k tree fits atoms.rest
+  makes_node : (alphabet : List ℕ) (env : Env) (n : Net-F Net) → MakesTree (λ k. walked_node p below k alphabet env n)
+  makes_node alphabet env (Net-F.Leaf q) k tree fits h = makes_component alphabet (proc_with (given_by env) q) k tree fits h
+  makes_node alphabet env (Net-F.Call d args) k tree fits h =
+      let vs = had (arguments_under p env args) (λ vs. with_value (network_called (slice_get p.defs d) vs) (λ called. below k alphabet called.0 called.1)) tree h in
+      let called = had (network_called (slice_get p.defs d) vs.value) (λ called. below k alphabet called.0 called.1) tree vs.rest in
+      sound alphabet called.value.0 called.value.1 k tree fits called.rest
+  makes_node alphabet env (Net-F.If c n m) k tree fits h =
+      let b = had (truth_under p env c) (λ b. below k alphabet env (if b then n else m)) tree h in
+      sound alphabet env (if b.value then n else m) k tree fits b.rest
+  makes_node alphabet env (Net-F.Pair n a b m) k tree fits h =
+      let left = had (events_under p env a) (λ left. with_value (events_under p env b) (λ right. side_by_side p below (two_operands p below k env left n right m))) tree h in
+      let right = had (events_under p env b) (λ right. side_by_side p below (two_operands p below k env left.value n right m)) tree left.rest in
+      makes_parallel (λ j. two_operands p below j env left.value n right.value m) (makes_two env left.value n right.value m) k tree fits right.rest
+  makes_node alphabet env (Net-F.Each x s a n) k tree fits h =
+      let atoms = had (set_under p env s) (λ atoms. side_by_side p below (each_operand p below env x a n atoms k)) tree h in
+      makes_parallel (each_operand p below env x a n atoms.value) (makes_each env x a n atoms.value) k tree fits atoms.rest
 
-makes_leaf : (alphabet : List ℕ) (n : Net-F Net) → MakesTree (λ k. walked_leaf k alphabet n)
-makes_leaf alphabet (Net-F.Leaf q) k tree fits h = makes_component alphabet q k tree fits h
-makes_leaf alphabet (Net-F.Call d args) k tree fits h = absurd cc
-makes_leaf alphabet (Net-F.If c n m) k tree fits h = absurd cc
-makes_leaf alphabet (Net-F.Pair n a b m) k tree fits h = absurd cc
-makes_leaf alphabet (Net-F.Each x s a n) k tree fits h = absurd cc
+makes_leaf : (alphabet : List ℕ) (env : Env) (n : Net-F Net) → MakesTree (λ k. walked_leaf k alphabet env n)
+makes_leaf alphabet env (Net-F.Leaf q) k tree fits h = makes_component alphabet (proc_with (given_by env) q) k tree fits h
+makes_leaf alphabet env (Net-F.Call d args) k tree fits h = absurd cc
+makes_leaf alphabet env (Net-F.If c n m) k tree fits h = absurd cc
+makes_leaf alphabet env (Net-F.Pair n a b m) k tree fits h = absurd cc
+makes_leaf alphabet env (Net-F.Each x s a n) k tree fits h = absurd cc
 
-pub makes_tree : (p : Content) (levels : ℕ) (alphabet : List ℕ) (n : Net) → MakesTree (λ k. tree_within p levels k alphabet n)
+pub makes_tree : (p : Content) (levels : ℕ) (alphabet : List ℕ) (env : Env) (n : Net) → MakesTree (λ k. tree_within p levels k alphabet env n)
 unfolding tree_within
-makes_tree p zero alphabet n k tree fits h = makes_leaf alphabet (out-Net n) k tree fits h
-makes_tree p (suc levels) alphabet n k tree fits h = makes_node p (tree_within p levels) (makes_tree p levels) alphabet (out-Net n) k tree fits h
+makes_tree p zero alphabet env n k tree fits h = makes_leaf alphabet env (out-Net n) k tree fits h
+makes_tree p (suc levels) alphabet env n k tree fits h = makes_node p (tree_within p levels) (makes_tree p levels) alphabet env (out-Net n) k tree fits h
 
 -- a network has a component
 has_some : (tree made : Tree Proc) (cs : List (Component Proc)) → some_components tree cs ≡ Ok made → (tree ≡ made) × (1 ≤ length cs)
@@ -133,7 +136,7 @@ has_some tree made (c ∷ cs) h = (cc, omega arith)
 
 pub network_is_tree : (p : Content) (tree : Tree Proc) → network_of p ≡ Ok tree → IsTree 0 tree × (1 ≤ length (leaves tree))
 network_is_tree p tree h =
-    let walk = went (tree_within p 800 0 (all_events p) p.root) (λ t. some_components t (leaves t)) tree h in
+    let walk = went (tree_within p 800 0 (all_events p) [] p.root) (λ t. some_components t (leaves t)) tree h in
     let some = has_some walk.value tree (leaves walk.value) walk.rest in
-    let made = makes_tree p 800 (all_events p) p.root 0 walk.value (omega arith) walk.is in
+    let made = makes_tree p 800 (all_events p) [] p.root 0 walk.value (omega arith) walk.is in
     (subst (IsTree 0) some.0 made, subst (λ t. 1 ≤ length (leaves t)) some.0 some.1)

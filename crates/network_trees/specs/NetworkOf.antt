@@ -4,19 +4,22 @@
 -- What decides the doubtful cases:
 -- The asserted network is no operand. All events of the program are its alphabet if it is a leaf, and nothing is compared with them.
 -- Each body of a replicated parallel is an operand, with the alphabet that it has at its value.
+-- A name is worth what it is bound to: a parameter the value of its argument, the name of a replicated parallel one value of its set after another.
 -- An operand may be a call or an `if`: what it stands for is what counts. One that comes to a leaf has the alphabet of that leaf, since both are the
 -- one that was given; so every operand can be looked at alike. One without components must have no events.
 -- A leaf is no nested node, however deep it stands. A node that stands too deep is told before anything in it is evaluated.
-use Rattle.std.specs.Prelude.{ℕ, zero, suc, ◌+◌, nat_lt, if◌then◌else◌, Option, Some, None, Result, Ok, Err, List, [], ◌∷◌, length, slice_get}
+use Rattle.std.specs.Prelude.{ℕ, zero, suc, ◌+◌, nat_lt, Bool, if◌then◌else◌, Option, Some, None, Result, Ok, Err, List, [], ◌∷◌, length, slice_get}
 use Rattle.std.specs.List.{range_with_len}
 use Rattle.dl_limits.specs.declared.TheConstants.{MOST_COMPONENTS, MOST_NETWORK_DEPTH}
-use Rattle.csp_program.specs.Outcome.{Outcome}
-use Rattle.csp_program.specs.Substitution.{expr_with, given_by, net_with, one}
-use Rattle.csp_program.specs.Value.{bound_to}
+use Rattle.csp_atoms.specs.Sets.{event_numbers}
+use Rattle.csp_program.specs.Outcome.{Outcome, and_then}
+use Rattle.csp_program.specs.Substitution.{given_by, proc_with}
+use Rattle.csp_program.specs.Value.{Env, as_truth, bound_to}
 use Rattle.csp_tables.specs.Network.{Component, Tree, Operands, leaves}
 use Rattle.csp_tables.specs.Network.Tree.{leaf, parallel}
 use Rattle.csp_tables.specs.Network.Operands.{none, operand}
-use Rattle.process_steps.specs.Needed.{arguments_in, events_in, set_in, truth_in}
+use Rattle.process_steps.specs.Needed.{all_outcomes, needed_events}
+use Rattle.process_steps.specs.Prefix.{set_under, value_under}
 use Rattle.network_trees.specs.Joint.{joint, odd_event}
 use Rattle.csp_atoms.specs.declared.atom.Atom.{Atom}
 use Rattle.csp_atoms.specs.declared.value.Value.{Value}
@@ -60,53 +63,64 @@ agreed k tree (Some e) = Err (fault.BadNesting k (length (leaves tree)) e)
 abbrev pub nested : ℕ → List ℕ → Tree Proc → Walked (Tree Proc)
 nested k alphabet tree = agreed k tree (odd_event alphabet (joint (leaves tree)))
 
--- the body of a definition of a network, with the values of the arguments in place of the parameters
-abbrev pub network_in : List ℕ → Body → List Value → Outcome Net
-network_in params (body.Network n) vs = Ok (net_with (given_by (bound_to params vs)) n)
-network_in _ _ _ = Err Kind
+-- what expressions are worth under names with their values
+abbrev pub truth_under : Content → Env → Expr → Outcome Bool
+truth_under p env c = and_then (value_under p env c) as_truth
 
-abbrev pub network_called : Option Def → List Value → Outcome Net
+abbrev pub events_under : Content → Env → Expr → Outcome (List ℕ)
+events_under p env s = and_then (set_under p env s) (λ atoms. needed_events (event_numbers atoms))
+
+abbrev pub arguments_under : Content → Env → List Expr → Outcome (List Value)
+arguments_under p env args = all_outcomes (value_under p env) args
+
+-- the body of a definition of a network
+abbrev pub network_in : Body → Outcome Net
+network_in (body.Network n) = Ok n
+network_in _ = Err Kind
+
+-- the network of a definition, under its parameters with the values of the arguments
+abbrev pub network_called : Option Def → List Value → Outcome (Env × Net)
 network_called None vs = Err Kind
-network_called (Some def) vs = network_in def.params def.body vs
+network_called (Some def) vs = and_then (network_in def.body) (λ n. Ok (bound_to def.params vs, n))
 
--- The walk of one node: below walks a network that stands in it, with the number of components before it and with its alphabet.
-module _ (p : Content) (below : ℕ → List ℕ → Net → Walked (Tree Proc)) where
+-- The walk of one node: below walks a network that stands in it, with the number of components before it, with its alphabet and under these names.
+module _ (p : Content) (below : ℕ → List ℕ → Env → Net → Walked (Tree Proc)) where
   -- an operand, and after it the others
-  abbrev pub operand_first : ℕ → List ℕ → Net → (ℕ → Walked (Operands Proc)) → Walked (Operands Proc)
-  operand_first k alphabet n others =
-      goes_on (goes_on (below k alphabet n) (nested k alphabet)) (λ tree.
+  abbrev pub operand_first : ℕ → List ℕ → Env → Net → (ℕ → Walked (Operands Proc)) → Walked (Operands Proc)
+  operand_first k alphabet env n others =
+      goes_on (goes_on (below k alphabet env n) (nested k alphabet)) (λ tree.
       goes_on (others (k + length (leaves tree))) (λ operands. Ok (operand alphabet tree operands)))
 
   -- an operand for each value of the name x
-  abbrev pub each_operand : ℕ → Expr → Net → List Atom → ℕ → Walked (Operands Proc)
-  each_operand x a n [] k = Ok none
-  each_operand x a n (v ∷ vs) k =
-      with_value (events_in p (expr_with (one x (One v)) a)) (λ alphabet. operand_first k alphabet (net_with (one x (One v)) n) (each_operand x a n vs))
+  abbrev pub each_operand : Env → ℕ → Expr → Net → List Atom → ℕ → Walked (Operands Proc)
+  each_operand env x a n [] k = Ok none
+  each_operand env x a n (v ∷ vs) k =
+      with_value (events_under p ((x, One v) ∷ env) a) (λ alphabet. operand_first k alphabet ((x, One v) ∷ env) n (each_operand env x a n vs))
 
-  abbrev pub two_operands : ℕ → List ℕ → Net → List ℕ → Net → Walked (Operands Proc)
-  two_operands k left n right m = operand_first k left n (λ j. operand_first j right m (λ _. Ok none))
+  abbrev pub two_operands : ℕ → Env → List ℕ → Net → List ℕ → Net → Walked (Operands Proc)
+  two_operands k env left n right m = operand_first k left env n (λ j. operand_first j right env m (λ _. Ok none))
 
   abbrev pub side_by_side : Walked (Operands Proc) → Walked (Tree Proc)
   side_by_side operands = goes_on operands (λ os. Ok (parallel os))
 
-  abbrev pub walked_node : ℕ → List ℕ → Net-F Net → Walked (Tree Proc)
-  walked_node k alphabet (Net-F.Leaf q) = next_component k alphabet q
-  walked_node k alphabet (Net-F.Call d args) =
-      with_value (arguments_in p args) (λ vs. with_value (network_called (slice_get p.defs d) vs) (λ n. below k alphabet n))
-  walked_node k alphabet (Net-F.If c n m) = with_value (truth_in p c) (λ b. below k alphabet (if b then n else m))
-  walked_node k alphabet (Net-F.Pair n a b m) =
-      with_value (events_in p a) (λ left. with_value (events_in p b) (λ right. side_by_side (two_operands k left n right m)))
-  walked_node k alphabet (Net-F.Each x s a n) = with_value (set_in p s) (λ atoms. side_by_side (each_operand x a n atoms k))
+  abbrev pub walked_node : ℕ → List ℕ → Env → Net-F Net → Walked (Tree Proc)
+  walked_node k alphabet env (Net-F.Leaf q) = next_component k alphabet (proc_with (given_by env) q)
+  walked_node k alphabet env (Net-F.Call d args) =
+      with_value (arguments_under p env args) (λ vs. with_value (network_called (slice_get p.defs d) vs) (λ called. below k alphabet called.0 called.1))
+  walked_node k alphabet env (Net-F.If c n m) = with_value (truth_under p env c) (λ b. below k alphabet env (if b then n else m))
+  walked_node k alphabet env (Net-F.Pair n a b m) =
+      with_value (events_under p env a) (λ left. with_value (events_under p env b) (λ right. side_by_side (two_operands k env left n right m)))
+  walked_node k alphabet env (Net-F.Each x s a n) = with_value (set_under p env s) (λ atoms. side_by_side (each_operand env x a n atoms k))
 
 -- where no more nodes may be entered, one inside another
-abbrev pub walked_leaf : ℕ → List ℕ → Net-F Net → Walked (Tree Proc)
-walked_leaf k alphabet (Net-F.Leaf q) = next_component k alphabet q
-walked_leaf _ _ _ = Err fault.NetworkDepth
+abbrev pub walked_leaf : ℕ → List ℕ → Env → Net-F Net → Walked (Tree Proc)
+walked_leaf k alphabet env (Net-F.Leaf q) = next_component k alphabet (proc_with (given_by env) q)
+walked_leaf _ _ _ _ = Err fault.NetworkDepth
 
 -- the walk of a network, where so many nodes may still be entered, one inside another
-unfoldable pub tree_within : Content → ℕ → ℕ → List ℕ → Net → Walked (Tree Proc)
-tree_within p zero k alphabet n = walked_leaf k alphabet (out-Net n)
-tree_within p (suc levels) k alphabet n = walked_node p (tree_within p levels) k alphabet (out-Net n)
+unfoldable pub tree_within : Content → ℕ → ℕ → List ℕ → Env → Net → Walked (Tree Proc)
+tree_within p zero k alphabet env n = walked_leaf k alphabet env (out-Net n)
+tree_within p (suc levels) k alphabet env n = walked_node p (tree_within p levels) k alphabet env (out-Net n)
 
 -- the numbers of the events of the program
 abbrev pub all_events : Content → List ℕ
@@ -119,4 +133,4 @@ some_components tree (c ∷ cs) = Ok tree
 
 -- The network of a program. At most MOST_NETWORK_DEPTH nodes stand one inside another.
 abbrev pub network_of : Content → Walked (Tree Proc)
-network_of p = goes_on (tree_within p MOST_NETWORK_DEPTH 0 (all_events p) p.root) (λ tree. some_components tree (leaves tree))
+network_of p = goes_on (tree_within p MOST_NETWORK_DEPTH 0 (all_events p) [] p.root) (λ tree. some_components tree (leaves tree))

@@ -1,6 +1,6 @@
 //! Marks that tell nodes with different acceptances apart.
 
-ghost use Rattle.std.specs.Prelude.{◌≡◌, [], IfOk, OnOk, ◌<◌, ◌^◌, length};
+ghost use Rattle.std.specs.Prelude.{◌≡◌, IfOk, ◌<◌, ◌^◌, length};
 ghost use Rattle.normal_form.specs.Marks.{AreMarksOf};
 
 use containers::{Items, Numbering};
@@ -14,29 +14,13 @@ pub(crate) fn accept_marks(alloc: Global, nodes: &[NormNode]) -> Result<Vec<u32>
     ensures { IfOk result (λ marks. AreMarksOf nodes.now marks.items) }
 {
     let mut numbering = Numbering::new(alloc);
-    let mut marks = Items::new(alloc);
-    add_marks(alloc, nodes, &mut numbering, &mut marks)?;
-    Ok(marks.into_vec())
-}
-
-// Adds the number of each node's key to none, where no key is numbered yet.
-fn add_marks(
-    alloc: Global,
-    nodes: &[NormNode],
-    numbering: &mut Numbering<Items<Items<u32>>>,
-    marks: &mut Items<u32>,
-) -> Result<(), NoMemory>
-    requires empty { numbering.old ≡ [] }
-    requires none { marks.old ≡ [] }
-    requires numbered { length nodes.now < 2 ^ 32 }
-    ensures { OnOk result (AreMarksOf nodes.now marks.new) }
-{
+    let mut marks = Vec::new(alloc);
     for node in nodes {
         let key = accept_key(alloc, node.accept())?;
         let mark = numbering.number(key)?;
         marks.push(mark as u32)?;
     }
-    Ok(())
+    Ok(marks)
 }
 
 // The sets as lists of numbers, which can be numbered.

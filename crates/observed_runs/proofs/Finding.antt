@@ -1,11 +1,10 @@
 -- What was found, and followed to its end, is what runs reach.
-use Rattle.std.proofs.Common.{◌≡◌, ℕ, zero, suc, ◌+◌, ◌<◌, ◌≤◌, List, [], ◌∷◌, ◌++◌, length, true, false, ◌&&◌, IsTrue, nat_eq, sym, ap, subst, ◌∙◌, arith, eq-eqb}
-use Rattle.std.specs.List.{IsDistinct, AllByRecursion}
-use Rattle.std.proofs.lemmas.Bool.{and_from, and_parts, false≢true}
+use Rattle.std.proofs.Common.{◌≡◌, ℕ, zero, suc, ◌+◌, ◌<◌, ◌≤◌, List, [], ◌∷◌, ◌++◌, length, true, IsTrue, sym, ap, subst, arith}
+use Rattle.std.proofs.lemmas.Bool.{and_parts}
 use Rattle.std.proofs.lemmas.Option.{get_or_from_slice_get, slice_get_within}
 use Rattle.csp_tables.specs.Table.{Node, node_at, node_after, is_possible, is_run, IsRun, end_of}
 use Rattle.observed_runs.specs.Observed.{observed, LeadsTo, pair_at}
-use Rattle.observed_runs.specs.Exploration.{Found, StepsTo, AreFound, HaveOrigins, IsExploration}
+use Rattle.observed_runs.specs.Exploration.{AreDistinct, Found, StepsTo, AreFound, HaveOrigins, IsExploration}
 use Rattle.observed_runs.specs.Enough.{HasPair}
 use Rattle.observed_runs.specs.Progress.{AreFollowed}
 use Rattle.observed_runs.proofs.Leading.{leads_on, leads_nowhere}
@@ -38,25 +37,9 @@ module _ (table : List Node) (step : ℕ → ℕ → ℕ) (start : ℕ) where
       let l = along pairs closed s (0, start) first run in
       (l.place, l.within, record { follows = run; node = ap (λ (p : ℕ × ℕ). p.0) (sym l.is); state = ap (λ (p : ℕ × ℕ). p.1) (sym l.is) })
 
-  pub is_exploration : (found : Found) → HaveOrigins found → AreFound table step start found → ((k : ℕ) → k < length found.pairs → AreFollowed table step found.pairs k) → IsDistinct (λ (a b : ℕ × ℕ). nat_eq a.0 b.0 && nat_eq a.1 b.1) found.pairs → IsExploration table step start found.pairs
-  unfolding IsDistinct
+  pub is_exploration : (found : Found) → HaveOrigins found → AreFound table step start found → ((k : ℕ) → k < length found.pairs → AreFollowed table step found.pairs k) → AreDistinct found.pairs → IsExploration table step start found.pairs
   is_exploration found o f closed distinct = record {
     reached = λ k h. each_reached found o f k k (omega arith) h;
     listed = all_listed found.pairs (record { place = 0; within = slice_get_within found.pairs 0 (0, start) f.first; is = first_is found f }) closed;
-    distinct = λ j k less h same. apart found.pairs distinct j k less h same;
+    distinct = distinct;
   }
-    where
-      same_pair : (p q : ℕ × ℕ) → p ≡ q → (nat_eq p.0 q.0 && nat_eq p.1 q.1) ≡ true
-      same_pair p q e = and_from _ _ (eq-eqb p.0 q.0 (ap (λ (x : ℕ × ℕ). x.0) e)) (eq-eqb p.1 q.1 (ap (λ (x : ℕ × ℕ). x.1) e))
-
-      none : (p : ℕ × ℕ) (ps : List (ℕ × ℕ)) → AllByRecursion (λ (q : ℕ × ℕ). (nat_eq p.0 q.0 && nat_eq p.1 q.1) ≡ false) ps → (k : ℕ) → k < length ps → p ≡ pair_at ps k → ⊥
-      none p [] all k h same = absurd (omega arith)
-      none p (q ∷ ps) all zero h same = false≢true (sym all.0 ∙ same_pair p q same)
-      none p (q ∷ ps) all (suc k) h same = none p ps all.1 k (omega arith) same
-
-      apart : (ps : List (ℕ × ℕ)) → IsDistinct (λ (a b : ℕ × ℕ). nat_eq a.0 b.0 && nat_eq a.1 b.1) ps → (j k : ℕ) → j < k → k < length ps → pair_at ps j ≡ pair_at ps k → ⊥
-      apart [] d j k less h same = absurd (omega arith)
-      apart (p ∷ ps) d zero (suc k) less h same = none p ps d.0 k (omega arith) same
-      apart (p ∷ ps) d zero zero less h same = absurd (omega arith)
-      apart (p ∷ ps) d (suc j) zero less h same = absurd (omega arith)
-      apart (p ∷ ps) d (suc j) (suc k) less h same = apart ps d.1 j k (omega arith) (omega arith) same

@@ -22,6 +22,11 @@ pair_at_left xs ys k h = get_or_append_left xs ys (0, 0) k h
 pub pair_at_right : (xs ys : List (ℕ × ℕ)) (k : ℕ) → length xs ≤ k → pair_at (xs ++ ys) k ≡ pair_at ys (k - length xs)
 pair_at_right xs ys k h = get_or-append_right xs ys k (0, 0) h
 
+pub last_pair : (xs : List (ℕ × ℕ)) (x : ℕ × ℕ) (k : ℕ) → length xs ≤ k → k < length (xs ++ x ∷ []) → pair_at (xs ++ x ∷ []) k ≡ x
+last_pair xs x k h below =
+    let zero_left : k - length xs ≡ 0 = omega (arith, length-append xs (x ∷ [])) in
+    pair_at_right xs (x ∷ []) k h ∙ ap (pair_at (x ∷ [])) zero_left
+
 pub listed_left : (xs ys : List (ℕ × ℕ)) (pair : ℕ × ℕ) → HasPair xs pair → HasPair (xs ++ ys) pair
 listed_left xs ys pair l = record { place = l.place; within = let h : l.place < length xs = l.within in omega (arith, length-append xs ys); is = pair_at_left xs ys l.place l.within ∙ l.is }
 
@@ -54,7 +59,7 @@ module _ (part : Part) (step : ℕ → ℕ → ℕ) (pairs origins : List (ℕ �
     as_many = length-append m.new_pairs (pair ∷ []) ∙ ap (λ n. n + 1) m.as_many ∙ sym (length-append m.new_origins (origin ∷ []));
     from = λ k h. elim (cases_lt k (length m.new_origins)) [
       | inl old ↦ ap (λ (p : ℕ × ℕ). p.0) (pair_at_left m.new_origins (origin ∷ []) k old) ∙ m.from k old
-      | inr new ↦ ap (λ (p : ℕ × ℕ). p.0) (last m.new_origins origin k new h) ∙ from
+      | inr new ↦ ap (λ (p : ℕ × ℕ). p.0) (last_pair m.new_origins origin k new h) ∙ from
     ];
     steps = λ k h. elim (cases_lt k (length m.new_origins)) [
       | inl old ↦
@@ -62,20 +67,15 @@ module _ (part : Part) (step : ℕ → ℕ → ℕ) (pairs origins : List (ℕ �
           subst (λ (o : ℕ × ℕ). StepsTo part.table step (pair_at pairs place) o.1 (pair_at (m.new_pairs ++ pair ∷ []) k)) (sym (pair_at_left m.new_origins (origin ∷ []) k old))
           (subst (λ (p : ℕ × ℕ). StepsTo part.table step (pair_at pairs place) (pair_at m.new_origins k).1 p) (sym (pair_at_left m.new_pairs (pair ∷ []) k below)) (m.steps k old))
       | inr new ↦
-          subst (λ (o : ℕ × ℕ). StepsTo part.table step (pair_at pairs place) o.1 (pair_at (m.new_pairs ++ pair ∷ []) k)) (sym (last m.new_origins origin k new h))
-          (subst (λ (p : ℕ × ℕ). StepsTo part.table step (pair_at pairs place) origin.1 p) (sym (last m.new_pairs pair k (omega (arith, m.as_many)) (longer k h))) steps)
+          subst (λ (o : ℕ × ℕ). StepsTo part.table step (pair_at pairs place) o.1 (pair_at (m.new_pairs ++ pair ∷ []) k)) (sym (last_pair m.new_origins origin k new h))
+          (subst (λ (p : ℕ × ℕ). StepsTo part.table step (pair_at pairs place) origin.1 p) (sym (last_pair m.new_pairs pair k (omega (arith, m.as_many)) (longer k h))) steps)
     ];
     nodes = λ k h. elim (cases_lt k (length m.new_pairs)) [
       | inl old ↦ subst (λ (p : ℕ × ℕ). p.0 < length part.table) (sym (pair_at_left m.new_pairs (pair ∷ []) k old)) (m.nodes k old)
-      | inr new ↦ subst (λ (p : ℕ × ℕ). p.0 < length part.table) (sym (last m.new_pairs pair k new h)) node
+      | inr new ↦ subst (λ (p : ℕ × ℕ). p.0 < length part.table) (sym (last_pair m.new_pairs pair k new h)) node
     ];
   }
     where
-      last : (xs : List (ℕ × ℕ)) (x : ℕ × ℕ) (k : ℕ) → length xs ≤ k → k < length (xs ++ x ∷ []) → pair_at (xs ++ x ∷ []) k ≡ x
-      last xs x k h below =
-          let zero_left : k - length xs ≡ 0 = omega (arith, length-append xs (x ∷ [])) in
-          pair_at_right xs (x ∷ []) k h ∙ ap (pair_at (x ∷ [])) zero_left
-
       longer : (k : ℕ) → k < length (m.new_origins ++ origin ∷ []) → k < length (m.new_pairs ++ pair ∷ [])
       longer k h = omega (arith, length-append m.new_origins (origin ∷ []), length-append m.new_pairs (pair ∷ []), m.as_many)
 
@@ -94,7 +94,7 @@ module _ (part : Part) (step : ℕ → ℕ → ℕ) (pairs origins : List (ℕ �
       (λ state. record { possible = s.possible; node = sym s.leads; state = state }) state)
       (subst (λ (y : ℕ × ℕ). y.1 < length part.table) at.is within)
 
-same_two : (a b c d : ℕ) → a ≡ c → b ≡ d → let x : ℕ × ℕ = (a, b) in let y : ℕ × ℕ = (c, d) in x ≡ y
+pub same_two : (a b c d : ℕ) → a ≡ c → b ≡ d → let x : ℕ × ℕ = (a, b) in let y : ℕ × ℕ = (c, d) in x ≡ y
 same_two a b c d p q = cc
 
 -- where enough steps were listed, each event that is possible is followed

@@ -25,11 +25,15 @@ leads_on table step start s from to e l t = record {
 pub leads_nowhere : (table : List Node) (step : ℕ → ℕ → ℕ) (start : ℕ) (pair : ℕ × ℕ) → pair ≡ (0, start) → LeadsTo table step start [] pair
 leads_nowhere table step start pair is = record { follows = refl; node = sym (ap (λ (p : ℕ × ℕ). p.0) is); state = sym (ap (λ (p : ℕ × ℕ). p.1) is) }
 
--- one event earlier
-pub back_one : (table : List Node) (step : ℕ → ℕ → ℕ) (start : ℕ) (pairs origins : List (ℕ × ℕ)) (at : ℕ) (o : ℕ × ℕ) (events : List ℕ) (to : ℕ × ℕ) → AreFound table step start (record { pairs = pairs; origins = origins }) → 0 < at → at - 1 < length origins → o ≡ pair_at origins (at - 1) → ((s : List ℕ) → LeadsTo table step start s (pair_at pairs at) → LeadsTo table step start (s ++ reverse events) to) → (s : List ℕ) → LeadsTo table step start s (pair_at pairs o.0) → LeadsTo table step start (s ++ reverse (events ++ o.1 ∷ [])) to
-back_one table step start pairs origins at o events to f some within is rest s l =
+-- where a pair but the first was found
+pub found_from : (table : List Node) (step : ℕ → ℕ → ℕ) (start : ℕ) (pairs origins : List (ℕ × ℕ)) (at : ℕ) (o : ℕ × ℕ) → AreFound table step start (record { pairs = pairs; origins = origins }) → 0 < at → at - 1 < length origins → o ≡ pair_at origins (at - 1) → StepsTo table step (pair_at pairs o.0) o.1 (pair_at pairs at)
+found_from table step start pairs origins at o f some within is =
     let e : at - 1 + 1 ≡ at = omega arith in
-    let t : StepsTo table step (pair_at pairs o.0) o.1 (pair_at pairs at) = subst (λ k. StepsTo table step (pair_at pairs o.0) o.1 (pair_at pairs k)) e (subst (λ (p : ℕ × ℕ). StepsTo table step (pair_at pairs p.0) p.1 (pair_at pairs (at - 1 + 1))) (sym is) (f.later (at - 1) within)) in
+    subst (λ k. StepsTo table step (pair_at pairs o.0) o.1 (pair_at pairs k)) e (subst (λ (p : ℕ × ℕ). StepsTo table step (pair_at pairs p.0) p.1 (pair_at pairs (at - 1 + 1))) (sym is) (f.later (at - 1) within))
+
+-- one event earlier
+pub back_one : (table : List Node) (step : ℕ → ℕ → ℕ) (start : ℕ) (pairs : List (ℕ × ℕ)) (at : ℕ) (o : ℕ × ℕ) (events : List ℕ) (to : ℕ × ℕ) → StepsTo table step (pair_at pairs o.0) o.1 (pair_at pairs at) → ((s : List ℕ) → LeadsTo table step start s (pair_at pairs at) → LeadsTo table step start (s ++ reverse events) to) → (s : List ℕ) → LeadsTo table step start s (pair_at pairs o.0) → LeadsTo table step start (s ++ reverse (events ++ o.1 ∷ [])) to
+back_one table step start pairs at o events to t rest s l =
     let whole : (s ++ o.1 ∷ []) ++ reverse events ≡ s ++ reverse (events ++ o.1 ∷ []) = append_assoc s (o.1 ∷ []) (reverse events) ∙ ap (λ zs. s ++ zs) (sym (reverse-append events (o.1 ∷ []))) in
     subst (λ zs. LeadsTo table step start zs to) whole (rest (s ++ o.1 ∷ []) (leads_on table step start s (pair_at pairs o.0) (pair_at pairs at) o.1 l t))
 

@@ -2,4 +2,5 @@ pub mod Finding
 pub mod Growing
 pub mod Keeping
 pub mod Leading
+pub mod Marking
 pub mod Runs

@@ -3,12 +3,16 @@ use Rattle.std.specs.Prelude.{◌≡◌, ◌<◌, ◌≤◌, ◌+◌, ℕ, List,
 use Rattle.csp_tables.specs.Table.{Node, node_at, node_after, is_possible, IsRun}
 use Rattle.observed_runs.specs.Observed.{LeadsTo, pair_at}
 
+-- no two pairs are the same
+abbrev pub AreDistinct : List (ℕ × ℕ) → Type 0
+AreDistinct pairs = (j k : ℕ) → j < k → k < length pairs → pair_at pairs j ≡ pair_at pairs k → ⊥
+
 -- The pairs of a node and a state, each once, to which runs lead: each pair that is listed has such a run, and the pair to
 -- which a run leads is listed.
 pub record IsExploration (table : List Node) (step : ℕ → ℕ → ℕ) (start : ℕ) (pairs : List (ℕ × ℕ)) : Type 0 where
   pub reached : (k : ℕ) → k < length pairs → (s : List ℕ) × LeadsTo table step start s (pair_at pairs k)
   pub listed : (s : List ℕ) → IsRun table s → (k : ℕ) × (k < length pairs) × LeadsTo table step start s (pair_at pairs k)
-  pub distinct : (j k : ℕ) → j < k → k < length pairs → pair_at pairs j ≡ pair_at pairs k → ⊥
+  pub distinct : AreDistinct pairs
 
 -- What contracts see of an exploration: the pairs in the order in which they were found, and for each but the first the place
 -- of the pair from which it was found, and the event that led there.

@@ -1,5 +1,6 @@
 pub mod Enough
 pub mod Exploration
+pub mod Marks
 pub mod Observed
 pub mod Observers
 pub mod Progress

@@ -2,10 +2,10 @@
 
 ghost use Rattle.std.specs.Prelude.{◌≡◌, ◌+◌, ◌<◌, ◌≤◌, ℕ, List, None, IfOk, IfSome, IsSomeAnd, MatchOption, length};
 ghost use Rattle.csp_tables.specs.Table.{Node};
-ghost use Rattle.observed_runs.specs.Exploration.{AreFound, HaveOrigins};
+ghost use Rattle.observed_runs.specs.Exploration.{AreFound, HaveOrigins, StepsTo};
 ghost use Rattle.observed_runs.specs.Observed.{LeadsTo, pair_at};
 
-use containers::Numbering;
+use crate::pairs::Pairs;
 use csp_base::{Event, NoMemory, Trace};
 use std::alloc::Global;
 use std::marker::Model;
@@ -13,7 +13,7 @@ use std::marker::Model;
 /// The pairs of a node and a state of an observer to which runs of a table lead, in the order in which they were found.
 #[derive(Drop)]
 pub struct Explored {
-    pairs: Numbering<(u32, u32)>,
+    pairs: Pairs,
     origins: Vec<(usize, Event)>,
 }
 
@@ -29,7 +29,7 @@ impl Model for Explored {
 
 impl Explored {
     // What was found so far, with the place and the event from which each pair but the first was found.
-    pub(crate) fn new(pairs: Numbering<(u32, u32)>, origins: Vec<(usize, Event)>) -> Explored
+    pub(crate) fn new(pairs: Pairs, origins: Vec<(usize, Event)>) -> Explored
         requires { HaveOrigins (record { pairs = pairs; origins = origins.items }) }
         ensures { result ≡ record { pairs = pairs; origins = origins.items } }
     {
@@ -49,8 +49,27 @@ impl Explored {
         ensures { (table : List Node) (step : ℕ → ℕ → ℕ) (start : ℕ) → AreFound table step start self.now
             → IfOk result (λ run. LeadsTo table step start run (pair_at self.now.pairs place)) }
     {
-        let run = events_to(alloc, self.origins.as_slice(), place)?;
-        Trace::from_slice(alloc, run.as_slice())
+        let mut events = Vec::new(alloc);
+        let mut at = place;
+        while at > 0 {
+            let (earlier, event) = self.origin(at);
+            events.push(event)?;
+            at = earlier;
+        }
+        events.reverse();
+        let run = Trace::from_slice(alloc, events.as_slice())?;
+        Ok(run)
+    }
+
+    /// The place of the pair from which the one in this place was found, and the event that led from there.
+    pub fn origin(&self, place: usize) -> (usize, Event)
+        requires later { 0 < place }
+        requires within { place < length self.now.pairs }
+        ensures earlier { result.0 < place }
+        ensures leads { (table : List Node) (step : ℕ → ℕ → ℕ) (start : ℕ) → AreFound table step start self.now
+            → StepsTo table step (pair_at self.now.pairs result.0) result.1 (pair_at self.now.pairs place) }
+    {
+        self.origins[place - 1]
     }
 
     /// A run that leads to the pair in this place, if there is a place.
@@ -64,26 +83,4 @@ impl Explored {
             None => Ok(None),
         }
     }
-}
-
-// The events along the way to the pair in this place.
-fn events_to(
-    alloc: Global,
-    origins: &[(usize, Event)],
-    place: usize,
-) -> Result<Vec<Event>, NoMemory>
-    requires within { place < length origins.now + 1 }
-    requires earlier { (k : ℕ) → k < length origins.now → (pair_at origins.now k).0 ≤ k }
-    ensures { (table : List Node) (step : ℕ → ℕ → ℕ) (start : ℕ) (pairs : List (ℕ × ℕ)) → AreFound table step start (record { pairs = pairs; origins = origins.now })
-        → IfOk result (λ run. LeadsTo table step start run.items (pair_at pairs place)) }
-{
-    let mut events = Vec::new(alloc);
-    let mut at = place;
-    while at > 0 {
-        let (earlier, event) = origins[at - 1];
-        events.push(event)?;
-        at = earlier;
-    }
-    events.reverse();
-    Ok(events)
 }

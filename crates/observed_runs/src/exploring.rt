@@ -9,7 +9,8 @@ ghost use Rattle.observed_runs.specs.Progress.{AreFollowed, AreMore, IsAdded};
 
 use crate::explored::Explored;
 use crate::observer::Observer;
-use containers::{Items, Numbering};
+use crate::pairs::Pairs;
+use containers::Items;
 use csp_base::{Event, NoMemory};
 use csp_tables::Part;
 use std::alloc::Global;
@@ -29,7 +30,7 @@ pub fn explore<O: Observer>(
     ensures pairs { IfOk result (λ made. IsExploration part.now.table (O.step observer.now) (O.start_state observer.now) made.pairs) }
     ensures found { IfOk result (λ made. AreFound part.now.table (O.step observer.now) (O.start_state observer.now) made) }
 {
-    let mut pairs = Numbering::new(alloc);
+    let mut pairs = Pairs::new(alloc);
     let mut origins = Vec::new(alloc);
     find(part, rows, observer, &mut pairs, &mut origins)?;
     Ok(Explored::new(pairs, origins))
@@ -40,7 +41,7 @@ fn find<O: Observer>(
     part: &Part,
     rows: &[Items<(Event, u32)>],
     observer: &O,
-    pairs: &mut Numbering<(u32, u32)>,
+    pairs: &mut Pairs,
     origins: &mut Vec<(usize, Event)>,
 ) -> Result<(), NoMemory>
     requires form { HasForm part.now }
@@ -51,7 +52,7 @@ fn find<O: Observer>(
     ensures found { OnOk result (AreFound part.now.table (O.step observer.now) (O.start_state observer.now) (record { pairs = pairs.new; origins = origins.new.items })) }
     ensures origins { OnOk result (HaveOrigins (record { pairs = pairs.new; origins = origins.new.items })) }
 {
-    pairs.number((0, observer.start()))?;
+    pairs.insert((0, observer.start()))?;
     follow_all(part, rows, observer, pairs, origins)
 }
 
@@ -60,7 +61,7 @@ fn follow_all<O: Observer>(
     part: &Part,
     rows: &[Items<(Event, u32)>],
     observer: &O,
-    pairs: &mut Numbering<(u32, u32)>,
+    pairs: &mut Pairs,
     origins: &mut Vec<(usize, Event)>,
 ) -> Result<(), NoMemory>
     requires form { HasForm part.now }
@@ -84,7 +85,7 @@ fn follow<O: Observer>(
     part: &Part,
     rows: &[Items<(Event, u32)>],
     observer: &O,
-    pairs: &mut Numbering<(u32, u32)>,
+    pairs: &mut Pairs,
     origins: &mut Vec<(usize, Event)>,
     place: usize,
 ) -> Result<(), NoMemory>
@@ -105,7 +106,7 @@ fn follow<O: Observer>(
 // The steps to follow from the node of the pair in a place, and the pair's state.
 fn steps_from<'a>(
     rows: &'a [Items<(Event, u32)>],
-    pairs: &Numbering<(u32, u32)>,
+    pairs: &Pairs,
     place: usize,
 ) -> (&'a [(Event, u32)], u32)
     requires place { place < length pairs.now }
@@ -120,7 +121,7 @@ fn steps_from<'a>(
 // Lists the pair to which the step leads from the pair in a place with this state.
 fn add_target<O: Observer>(
     observer: &O,
-    pairs: &mut Numbering<(u32, u32)>,
+    pairs: &mut Pairs,
     origins: &mut Vec<(usize, Event)>,
     place: usize,
     state: u32,
@@ -136,7 +137,7 @@ fn add_target<O: Observer>(
 
 // Lists the pair, with its origin, if it is new.
 fn add(
-    pairs: &mut Numbering<(u32, u32)>,
+    pairs: &mut Pairs,
     origins: &mut Vec<(usize, Event)>,
     pair: (u32, u32),
     origin: (usize, Event),
@@ -144,9 +145,7 @@ fn add(
     ensures added { OnOk result (IsAdded pairs.old origins.old.items pair origin pairs.new origins.new.items) }
     ensures listed { OnOk result (HasPair pairs.new pair) }
 {
-    let known = pairs.len();
-    pairs.number(pair)?;
-    if known < pairs.len() {
+    if pairs.insert(pair)? {
         origins.push(origin)?;
     }
     Ok(())

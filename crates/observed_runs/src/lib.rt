@@ -7,6 +7,7 @@ mod exploring;
 mod nodes;
 mod observer;
 mod observers;
+mod pairs;
 mod steps;
 
 pub use explored::Explored;
@@ -14,4 +15,5 @@ pub use exploring::explore;
 pub use nodes::run_to_node;
 pub use observer::Observer;
 pub use observers::{Holder, Lap, Parity, Unwatched};
+pub use pairs::Pairs;
 pub use steps::steps_of;

@@ -48,6 +48,10 @@ module _ {A B : Type 0} (f : A → Outcome B) (P : B → Type 0) where
   pub where_is : (o : Outcome A) (a : A) → o ≡ Ok a → IfOk (f a) P → IfOk (and_then o f) P
   where_is o a is h = subst (λ z. IfOk (and_then z f) P) (sym is) h
 
+pub then_there : {A B : Type 0} (f : A → Outcome B) (o : Outcome A) → IsThere o → ((a : A) → IsThere (f a)) → IsThere (and_then o f)
+then_there f (Ok a) h next = next a
+then_there f (Err k) h next = absurd h
+
 -- a member of joined lists, and where it comes from
 pub record FromEach {A B : Type 0} (f : ℕ → A → Outcome (List B)) (y : B) (k : ℕ) (xs : List A) : Type 0 where
   pub place : ℕ
@@ -88,10 +92,8 @@ module _ {A B : Type 0} (f : ℕ → A → Outcome (List B)) where
   each_there k [] h = tt
   each_there k (x ∷ xs) h =
       let here : k + zero ≡ k = omega arith in
-      let first = the_value (f k x) (subst (λ i. IsThere (f i x)) here (h zero x refl)) in
-      let rest = the_value (each_joined f (k + 1) xs) (each_there (k + 1) xs (λ j z at.
-      let e : k + suc j ≡ k + 1 + j = omega arith in subst (λ i. IsThere (f i z)) e (h (suc j) z at))) in
-      onward _ _ (f k x) first.0 first.1 (onward _ _ (each_joined f (k + 1) xs) rest.0 rest.1 tt)
+      let rest = each_there (k + 1) xs (λ j z at. let e : k + suc j ≡ k + 1 + j = omega arith in subst (λ i. IsThere (f i z)) e (h (suc j) z at)) in
+      then_there _ (f k x) (subst (λ i. IsThere (f i x)) here (h zero x refl)) (λ ys. then_there _ (each_joined f (k + 1) xs) rest (λ more. tt))
 
   pub there_each : (k : ℕ) (xs : List A) → IsThere (each_joined f k xs) → (j : ℕ) (x : A) → slice_get xs j ≡ Some x → IsThere (f (k + j) x)
   there_each k [] h j x at = absurd cc

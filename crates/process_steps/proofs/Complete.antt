@@ -1,8 +1,9 @@
--- Each step by the relation stands in the list of a process, where it has one.
+-- Each step by the relation stands in the list of a process, where it has one; a process that lacks no value has one.
 use Rattle.std.proofs.Common.{◌≡◌, ℕ, ◌+◌, Bool, true, false, if◌then◌else◌, Some, Ok, List, [], ◌∷◌, map, slice_get, refl, ap, sym, subst, inl, arith}
 use Rattle.csp_base.specs.Members.{has}
 use Rattle.csp_program.specs.Substitution.{given_by, proc_with}
 use Rattle.csp_program.specs.Value.{sets_of}
+use Rattle.process_steps.specs.LacksNone as lacking
 use Rattle.process_steps.specs.Needed.{arguments_in, called, events_in, set_in, truth_in}
 use Rattle.process_steps.specs.Prefix.{event_of}
 use Rattle.process_steps.specs.Renaming.{Renamed, images, renaming_in}
@@ -10,9 +11,9 @@ use Rattle.process_steps.specs.Step.{Step, each_put}
 use Rattle.process_steps.specs.Step.Step.{call, each_external, each_internal, event, external_event, external_silent, external_tick, guard, hide_hidden, hide_seen, hide_silent, hide_tick, if_false, if_true, internal, prefix, rename_event, rename_silent, rename_tick, sequence_event, sequence_silent, sequence_tick, skip}
 use Rattle.process_steps.specs.StepList.{Move, in_choice, in_hiding, in_renaming, in_sequence, silent_to, some_silent_to, steps_of}
 use Rattle.process_steps.specs.Ways.{channel, of_channel, ways_to_fill}
-use Rattle.process_steps.proofs.Chains.{Lists, if_of, lists_each, where_is, where_ok}
+use Rattle.process_steps.proofs.Chains.{IsThere, Lists, each_there, if_of, lists_each, onward, then_there, where_is, where_ok}
 use Rattle.process_steps.proofs.Equations as equation
-use Rattle.process_steps.proofs.Fillings.{fills_complete, nothing_put}
+use Rattle.process_steps.proofs.Fillings.{fields_there, fills_complete, nothing_put}
 use Rattle.process_steps.proofs.Members.{Among, at_place, in_joined, in_map}
 use Rattle.csp_atoms.specs.declared.atom.Atom.TheVariants as atom
 use Rattle.csp_atoms.specs.declared.value.Value.TheVariants.{One}
@@ -109,3 +110,30 @@ module _ (p : Content) where
       let same : renamed ≡ other = cc in
       in_map (λ d. (Visible d, proc.Rename r pairs gens)) (images other e) d (at_place (images other e) k d (subst (λ z. slice_get (images z e) k ≡ Some d) same at)))
   lists (rename_tick q r pairs gens inner) = renaming_lists q pairs gens (Tick, r) (lists inner) (Tick, proc.Ended) (λ renamed is. inl refl)
+
+  -- where no value is lacking there is a list
+  pub there : {t : Proc} → lacking.LacksNone p t → IsThere (steps_of p t)
+  there lacking.stop = rw (equation.steps-Stop p) tt
+  there lacking.skip = rw (equation.steps-Skip p) tt
+  there lacking.ended = rw (equation.steps-Ended p) tt
+  there (lacking.prefix c fields q sets is lacks) = rw (equation.steps-Prefix p (head.Channel c) fields q) (
+      onward _ _ (of_channel c (sets_of (slice_get p.channels c))) (channel c sets) (ap (of_channel c) is) (
+      then_there _ (ways_to_fill p sets fields [] []) (fields_there p lacks []) (λ ways. tt)))
+  there (lacking.event e q) = subst IsThere (sym (equation.steps-Prefix p (head.Put (One (atom.Event e))) [] q)) tt
+  there (lacking.guard_true c q is h) = rw (equation.steps-Guard p c q) (onward _ _ (truth_in p c) true is (there h))
+  there (lacking.guard_false c q is) = rw (equation.steps-Guard p c q) (onward _ _ (truth_in p c) false is tt)
+  there (lacking.if_true c q r is h) = rw (equation.steps-If p c q r) (onward _ _ (truth_in p c) true is (there h))
+  there (lacking.if_false c q r is h) = rw (equation.steps-If p c q r) (onward _ _ (truth_in p c) false is (there h))
+  there (lacking.external qs each) = rw (equation.steps-External p qs) (
+      each_there _ 0 qs (λ k q at. then_there _ (steps_of p q) (there (each k q at)) (λ moves. tt)))
+  there (lacking.internal qs) = rw (equation.steps-Internal p qs) tt
+  there (lacking.each_external x s q atoms is h) = rw (equation.steps-EachExternal p x s q) (
+      onward _ _ (set_in p s) atoms is (subst IsThere (equation.steps-External p (each_put x atoms q)) (there h)))
+  there (lacking.each_internal x s q a atoms is) = rw (equation.steps-EachInternal p x s q) (onward _ _ (set_in p s) (a ∷ atoms) is tt)
+  there (lacking.hide q s hidden h is) = rw (equation.steps-Hide p q s) (
+      then_there _ (steps_of p q) (there h) (λ moves. onward _ _ (events_in p s) hidden is tt))
+  there (lacking.rename q pairs gens renamed h is) = rw (equation.steps-Rename p q pairs gens) (
+      then_there _ (steps_of p q) (there h) (λ moves. onward _ _ (renaming_in p pairs gens) renamed is tt))
+  there (lacking.call d args vs q worth is) = rw (equation.steps-Call p d args) (
+      onward _ _ (arguments_in p args) vs worth (onward _ _ (called (slice_get p.defs d) vs) q is tt))
+  there (lacking.sequence q r h) = rw (equation.steps-Seq p q r) (then_there _ (steps_of p q) (there h) (λ moves. tt))

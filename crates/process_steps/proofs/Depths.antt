@@ -1,13 +1,11 @@
 -- How deep the processes below a process are, and that the steps of a process do not depend on how much more depth is left.
-use Rattle.std.proofs.Common.{◌≡◌, ℕ, zero, suc, ◌+◌, ◌<◌, ◌≤◌, if◌then◌else◌, Some, Ok, List, [], ◌∷◌, ◌++◌, map, slice_get, refl, ap, sym, ◌∙◌, arith}
+use Rattle.std.proofs.Common.{◌≡◌, ℕ, zero, suc, ◌+◌, ◌<◌, ◌≤◌, Some, Ok, List, [], ◌∷◌, map, slice_get, refl, ap, sym, ◌∙◌, arith}
 use Rattle.csp_program.specs.Depth.{proc_depth, proc_depth_of_layer}
-use Rattle.csp_program.specs.Lists.{joined}
 use Rattle.csp_program.specs.Outcome.{Outcome, and_then}
 use Rattle.csp_program.specs.Substitution.{one}
-use Rattle.process_steps.specs.Needed.{each_joined, events_in, set_in, truth_in}
-use Rattle.process_steps.specs.Renaming.{renaming_in}
+use Rattle.process_steps.specs.Needed.{each_joined, set_in}
 use Rattle.process_steps.specs.Step.{each_put}
-use Rattle.process_steps.specs.StepList.{Move, in_choice, in_hiding, in_renaming, in_sequence, steps_of, steps_of_layer, steps_within}
+use Rattle.process_steps.specs.StepList.{Move, in_choice, steps_of, steps_of_layer, steps_within}
 use Rattle.substitution.proofs.Keeps.{proc_keeps_depth}
 use Rattle.csp_atoms.specs.declared.atom.Atom.{Atom}
 use Rattle.csp_atoms.specs.declared.value.Value.TheVariants.{One}
@@ -62,25 +60,18 @@ module _ (f g : Proc → Outcome (List Move)) (n : ℕ) (agree : AgreeBelow f g 
   agree_all all k (q ∷ qs) h =
       let first : f q ≡ g q = agree q (omega arith) in
       let rest : each_joined (of_operand f all) (k + 1) qs ≡ each_joined (of_operand g all) (k + 1) qs = agree_all all (k + 1) qs (omega arith) in
-      λ i. and_then (and_then (first i) (λ moves. Ok (map (λ m. in_choice all k m.0 m.1) moves))) (λ ys. and_then (rest i) (λ more. Ok (ys ++ more)))
+      rw (first, rest) refl
 
   agree_layer : (p : Content) (d : Proc-F Proc) → layer_depth d ≤ n → steps_of_layer p f d ≡ steps_of_layer p g d
   unfolding layer_depth
-  agree_layer p (Proc-F.Guard c q) h = let e : f q ≡ g q = agree q (omega arith) in λ i. and_then (truth_in p c) (λ b. if b then e i else Ok [])
-  agree_layer p (Proc-F.If c q r) h =
-      let e : f q ≡ g q = agree q (omega arith) in
-      let e' : f r ≡ g r = agree r (omega arith) in
-      λ i. and_then (truth_in p c) (λ b. if b then e i else e' i)
+  agree_layer p (Proc-F.Guard c q) h = let e : f q ≡ g q = agree q (omega arith) in rw e refl
+  agree_layer p (Proc-F.If c q r) h = let e : f q ≡ g q = agree q (omega arith) in let e' : f r ≡ g r = agree r (omega arith) in rw (e, e') refl
   agree_layer p (Proc-F.External qs) h = agree_all qs 0 qs h
   agree_layer p (Proc-F.EachExternal x s q) h =
       λ i. and_then (set_in p s) (λ atoms. agree_all (each_put x atoms q) 0 (each_put x atoms q) (let e = put_depths x q atoms in omega (arith, e)) i)
-  agree_layer p (Proc-F.Hide q s) h =
-      let e : f q ≡ g q = agree q (omega arith) in
-      λ i. and_then (e i) (λ moves. and_then (events_in p s) (λ hidden. Ok (map (λ m. in_hiding s hidden m.0 m.1) moves)))
-  agree_layer p (Proc-F.Rename q pairs gens) h =
-      let e : f q ≡ g q = agree q (omega arith) in
-      λ i. and_then (e i) (λ moves. and_then (renaming_in p pairs gens) (λ renamed. Ok (joined (map (λ m. in_renaming pairs gens renamed m.0 m.1) moves))))
-  agree_layer p (Proc-F.Seq q r) h = let e : f q ≡ g q = agree q (omega arith) in λ i. and_then (e i) (λ moves. Ok (map (λ m. in_sequence r m.0 m.1) moves))
+  agree_layer p (Proc-F.Hide q s) h = let e : f q ≡ g q = agree q (omega arith) in rw e refl
+  agree_layer p (Proc-F.Rename q pairs gens) h = let e : f q ≡ g q = agree q (omega arith) in rw e refl
+  agree_layer p (Proc-F.Seq q r) h = let e : f q ≡ g q = agree q (omega arith) in rw e refl
   agree_layer p _ h = refl
 
 -- two depths that are enough give the same

@@ -6,4 +6,3 @@ pub mod Fillings
 pub mod Listed
 pub mod Members
 pub mod Sound
-pub mod There

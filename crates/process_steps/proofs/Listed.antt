@@ -2,10 +2,9 @@
 use Rattle.process_steps.specs.Laws.{ListsAreSteps, ListsAreThere}
 use Rattle.process_steps.specs.StepList.{steps_of}
 use Rattle.process_steps.proofs.Chains.{if_of, the_value}
-use Rattle.process_steps.proofs.Complete.{lists}
+use Rattle.process_steps.proofs.Complete.{lists, there}
 use Rattle.process_steps.proofs.Members.{at_place, placed}
 use Rattle.process_steps.proofs.Sound.{reads}
-use Rattle.process_steps.proofs.There.{there}
 
 pub lists_are : ListsAreSteps
 lists_are p t moves h l u = (

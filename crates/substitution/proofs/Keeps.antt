@@ -1,5 +1,5 @@
 -- A substitution keeps the depth of an expression and a process, and whether they are in order.
-use Rattle.std.proofs.Common.{◌≡◌, ℕ, zero, suc, ◌+◌, ◌-◌, max, Bool, true, false, cond, ◌&&◌, nat_eq, Option, Some, None, List, [], ◌∷◌, map, length, refl, ap, sym, ◌∙◌, subst}
+use Rattle.std.proofs.Common.{◌≡◌, ℕ, suc, ◌+◌, ◌-◌, max, Bool, true, false, cond, ◌&&◌, nat_eq, Option, Some, None, List, [], ◌∷◌, map, length, refl, ap, sym, ◌∙◌, subst}
 use Rattle.std.specs.Prelude.{slice_get}
 use Rattle.std.proofs.lemmas.List.{length-map}
 use Rattle.csp_atoms.specs.declared.value.Value.{Value}
@@ -121,7 +121,7 @@ module _ (G : Given → Type 0) (fewer : (y : ℕ) (given : Given) → G given �
     gen_keeps : (d : Gen-F Expr Gen EventPart) → GenHas KeepsExpr KeepsGen KeepsPart d → KeepsGen (roll-Gen d)
     gen_keeps d h given ok = (
       ap gen_fold (gen_is given d) ∙
-      (fold-roll-Gen A A' A'' of_expr of_gen of_part (gen_form given d) ∙ (gen_form_keeps d h given ok ∙ sym (fold-roll-Gen A A' A'' of_expr of_gen of_part d))),
+          (fold-roll-Gen A A' A'' of_expr of_gen of_part (gen_form given d) ∙ (gen_form_keeps d h given ok ∙ sym (fold-roll-Gen A A' A'' of_expr of_gen of_part d))),
       subst (λ (left : Given → Given). G (left given)) (sym (left_is d)) (left_fits d given ok),
     )
 
@@ -135,8 +135,11 @@ module _ (G : Given → Type 0) (fewer : (y : ℕ) (given : Given) → G given �
     expr_fold_keeps : (e : Expr) → KeepsExpr e
     expr_fold_keeps = each_expr KeepsExpr KeepsGen KeepsPart expr_keeps gen_keeps part_keeps
 
-    gen_fold_keeps : (g : Gen) → KeepsGen g
-    gen_fold_keeps = each_gen KeepsExpr KeepsGen KeepsPart expr_keeps gen_keeps part_keeps
+    exprs_fold_keep : (es : List Expr) (given : Given) → G given → map expr_fold (map (expr_with given) es) ≡ map expr_fold es
+    exprs_fold_keep es = exprs_keep es (every KeepsExpr expr_fold_keeps es)
+
+    gens_fold_keep : (gs : List Gen) (given : Given) → G given → (map gen_fold (gens_with given gs) ≡ map gen_fold gs) × G (past gs given)
+    gens_fold_keep gs = gens_keep gen_fold gs (every KeepsGen (each_gen KeepsExpr KeepsGen KeepsPart expr_keeps gen_keeps part_keeps) gs)
 
     part_fold_keeps : (p : EventPart) → KeepsPart p
     part_fold_keeps = each_part KeepsExpr KeepsGen KeepsPart expr_keeps gen_keeps part_keeps
@@ -155,14 +158,11 @@ expr_keeps_depth given e =
 
 exprs_keep_depth : (es : List Expr) (given : Given) → map expr_depth (map (expr_with given) es) ≡ map expr_depth es
 exprs_keep_depth es given =
-    all_keep Any any_fewer expr_with expr_depth es
-    (every (λ e. (g : Given) → Any g → expr_depth (expr_with g e) ≡ expr_depth e) (λ e g ok. expr_keeps_depth g e) es) given tt
+    exprs_fold_keep Any any_fewer ℕ ℕ ℕ expr_depth_of_layer gen_depth_of_layer part_depth_of_layer (λ g ok y v is. refl) es given tt
 
 gens_keep_depth : (gs : List Gen) (given : Given) → map gen_depth (gens_with given gs) ≡ map gen_depth gs
 gens_keep_depth gs given =
-    (gens_keep Any any_fewer gen_depth gs
-    (every (λ g. (given : Given) → Any given → (gen_depth ((open_gen g).0 given) ≡ gen_depth g) × Any ((open_gen g).1 given))
-    (gen_fold_keeps Any any_fewer ℕ ℕ ℕ expr_depth_of_layer gen_depth_of_layer part_depth_of_layer (λ g ok y v is. refl)) gs) given tt).0
+    (gens_fold_keep Any any_fewer ℕ ℕ ℕ expr_depth_of_layer gen_depth_of_layer part_depth_of_layer (λ g ok y v is. refl) gs given tt).0
 
 part_keeps_depth : (given : Given) (p : EventPart) → part_depth (part_with given p) ≡ part_depth p
 part_keeps_depth given p =
@@ -178,37 +178,33 @@ field_keeps_depth given ok (field.Get y (Some s)) = expr_keeps_depth given s
 field_keeps_depth given ok (field.Get y None) = refl
 
 abbrev KeepsDepth : Proc → Type 0
-KeepsDepth p = (given : Given) → proc_depth (proc_with given p) ≡ proc_depth p
-
-procs_keep_depth : (ps : List Proc) → Every KeepsDepth ps → (given : Given) → map proc_depth (map (proc_with given) ps) ≡ map proc_depth ps
-procs_keep_depth [] keep given = refl
-procs_keep_depth (p ∷ ps) keep given = λ i. keep.0 given i ∷ procs_keep_depth ps keep.1 given i
+KeepsDepth p = (given : Given) → Any given → proc_depth (proc_with given p) ≡ proc_depth p
 
 abbrev depth_of : Proc-F Proc → ℕ
 depth_of d = proc_depth_of_layer (map-Proc Proc ℕ proc_depth d)
 
-form_keeps_depth : (d : Proc-F Proc) → ProcHas KeepsDepth d → (given : Given) → depth_of (proc_form given d) ≡ depth_of d
-form_keeps_depth (Proc-F.Prefix k fields p) h given =
-    λ i. 1 + max (greatest ((fields_keep Any any_fewer field_depth field_keeps_depth fields given tt).0 i)) (h (after_all fields given) i)
-form_keeps_depth (Proc-F.Guard c p) h given = λ i. 1 + max (expr_keeps_depth given c i) (h given i)
-form_keeps_depth (Proc-F.If c p q) h given = λ i. 1 + max (expr_keeps_depth given c i) (max (h.0 given i) (h.1 given i))
-form_keeps_depth (Proc-F.External ps) h given = λ i. 1 + greatest (procs_keep_depth ps h given i)
-form_keeps_depth (Proc-F.Internal ps) h given = λ i. 1 + greatest (procs_keep_depth ps h given i)
-form_keeps_depth (Proc-F.EachExternal y s p) h given = λ i. 1 + max (expr_keeps_depth given s i) (h (without y given) i)
-form_keeps_depth (Proc-F.EachInternal y s p) h given = λ i. 1 + max (expr_keeps_depth given s i) (h (without y given) i)
-form_keeps_depth (Proc-F.Hide p s) h given = λ i. 1 + max (h given i) (expr_keeps_depth given s i)
-form_keeps_depth (Proc-F.Rename p pairs gens) h given =
-    λ i. 1 + max (h given i) (max (greatest (pairs_keep_depth pairs (past gens given) i)) (greatest (gens_keep_depth gens given i)))
-form_keeps_depth (Proc-F.Call d args) h given = λ i. 1 + greatest (exprs_keep_depth args given i)
-form_keeps_depth (Proc-F.Seq p q) h given = λ i. 1 + max (h.0 given i) (h.1 given i)
-form_keeps_depth d h given = refl
+form_keeps_depth : (d : Proc-F Proc) → ProcHas KeepsDepth d → (given : Given) → Any given → depth_of (proc_form given d) ≡ depth_of d
+form_keeps_depth (Proc-F.Prefix k fields p) h given ok =
+    λ i. 1 + max (greatest ((fields_keep Any any_fewer field_depth field_keeps_depth fields given ok).0 i)) (h (after_all fields given) ok i)
+form_keeps_depth (Proc-F.Guard c p) h given ok = λ i. 1 + max (expr_keeps_depth given c i) (h given ok i)
+form_keeps_depth (Proc-F.If c p q) h given ok = λ i. 1 + max (expr_keeps_depth given c i) (max (h.0 given ok i) (h.1 given ok i))
+form_keeps_depth (Proc-F.External ps) h given ok = λ i. 1 + greatest (all_keep Any any_fewer proc_with proc_depth ps h given ok i)
+form_keeps_depth (Proc-F.Internal ps) h given ok = λ i. 1 + greatest (all_keep Any any_fewer proc_with proc_depth ps h given ok i)
+form_keeps_depth (Proc-F.EachExternal y s p) h given ok = λ i. 1 + max (expr_keeps_depth given s i) (h (without y given) ok i)
+form_keeps_depth (Proc-F.EachInternal y s p) h given ok = λ i. 1 + max (expr_keeps_depth given s i) (h (without y given) ok i)
+form_keeps_depth (Proc-F.Hide p s) h given ok = λ i. 1 + max (h given ok i) (expr_keeps_depth given s i)
+form_keeps_depth (Proc-F.Rename p pairs gens) h given ok =
+    λ i. 1 + max (h given ok i) (max (greatest (pairs_keep_depth pairs (past gens given) i)) (greatest (gens_keep_depth gens given i)))
+form_keeps_depth (Proc-F.Call d args) h given ok = λ i. 1 + greatest (exprs_keep_depth args given i)
+form_keeps_depth (Proc-F.Seq p q) h given ok = λ i. 1 + max (h.0 given ok i) (h.1 given ok i)
+form_keeps_depth d h given ok = refl
 
 depth_step : (d : Proc-F Proc) → ProcHas KeepsDepth d → KeepsDepth (roll-Proc d)
-depth_step d h given =
-    ap proc_depth (proc_is given d) ∙ (fold-roll-Proc ℕ proc_depth_of_layer (proc_form given d) ∙ (form_keeps_depth d h given ∙ sym (fold-roll-Proc ℕ proc_depth_of_layer d)))
+depth_step d h given ok =
+    ap proc_depth (proc_is given d) ∙ (fold-roll-Proc ℕ proc_depth_of_layer (proc_form given d) ∙ (form_keeps_depth d h given ok ∙ sym (fold-roll-Proc ℕ proc_depth_of_layer d)))
 
 pub proc_keeps_depth : (given : Given) (t : Proc) → proc_depth (proc_with given t) ≡ proc_depth t
-proc_keeps_depth given t = each_proc KeepsDepth depth_step t given
+proc_keeps_depth given t = each_proc KeepsDepth depth_step t given tt
 
 -- ---- order
 
@@ -228,15 +224,12 @@ module _ (p : Content) where
       expr_fold_keeps (AreInOrder p) fewer_in_order Bool Bool Bool (expr_in_order_of_layer p) (gen_in_order_of_layer p) (part_in_order_of_layer p) alike_in_order e given ok
 
   exprs_keep_order : (es : List Expr) (given : Given) → AreInOrder p given → map (expr_in_order p) (map (expr_with given) es) ≡ map (expr_in_order p) es
-  exprs_keep_order es =
-      all_keep (AreInOrder p) fewer_in_order expr_with (expr_in_order p) es
-      (every (λ e. (given : Given) → AreInOrder p given → expr_in_order p (expr_with given e) ≡ expr_in_order p e) (λ e given ok. expr_keeps_order given ok e) es)
+  exprs_keep_order =
+      exprs_fold_keep (AreInOrder p) fewer_in_order Bool Bool Bool (expr_in_order_of_layer p) (gen_in_order_of_layer p) (part_in_order_of_layer p) alike_in_order
 
   gens_keep_order : (gs : List Gen) (given : Given) → AreInOrder p given → (map (gen_in_order p) (gens_with given gs) ≡ map (gen_in_order p) gs) × AreInOrder p (past gs given)
-  gens_keep_order gs =
-      gens_keep (AreInOrder p) fewer_in_order (gen_in_order p) gs
-      (every (λ g. (given : Given) → AreInOrder p given → (gen_in_order p ((open_gen g).0 given) ≡ gen_in_order p g) × AreInOrder p ((open_gen g).1 given))
-      (gen_fold_keeps (AreInOrder p) fewer_in_order Bool Bool Bool (expr_in_order_of_layer p) (gen_in_order_of_layer p) (part_in_order_of_layer p) alike_in_order) gs)
+  gens_keep_order =
+      gens_fold_keep (AreInOrder p) fewer_in_order Bool Bool Bool (expr_in_order_of_layer p) (gen_in_order_of_layer p) (part_in_order_of_layer p) alike_in_order
 
   part_keeps_order : (given : Given) → AreInOrder p given → (part : EventPart) → part_in_order p (part_with given part) ≡ part_in_order p part
   part_keeps_order given ok part =

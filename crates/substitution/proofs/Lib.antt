@@ -1,6 +1,5 @@
 pub mod Forms
 pub mod Keeps
-pub mod Left
 pub mod Loops
 pub mod Loses
 pub mod NamesFound

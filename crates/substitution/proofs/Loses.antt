@@ -1,15 +1,16 @@
 -- The free names of an expression and of a process lose exactly those that get a value.
 use Rattle.std.proofs.Common.{◌≡◌, ℕ, Bool, true, false, cond, not, ◌&&◌, ◌||◌, nat_eq, Option, Some, None, List, [], ◌∷◌, map, refl, ap, sym, ◌∙◌}
 use Rattle.std.specs.Prelude.{is_none}
-use Rattle.std.proofs.lemmas.Bool.{eqb-true, false≢true}
+use Rattle.std.proofs.lemmas.Bool.{eqb-true}
 use Rattle.csp_atoms.specs.declared.value.Value.{Value}
 use Rattle.csp_base.proofs.Booleans.{and_false}
-use Rattle.csp_program.specs.Free.{Names, Binding, any_of, apart_from, before, either, expr_free, gen_binding, head_free, nowhere, pair_free, part_free, proc_free, proc_free_of_layer, under}
-use Rattle.csp_program.specs.Substitution.{after, after_all, expr_with, fields_with, gens_with, head_named, head_with, open_gen, pair_with, part_with, past, proc_with, without, Given}
+use Rattle.csp_program.specs.Free.{Names, Binding, any_of, apart_from, before, either, expr_free, expr_free_of_layer, gen_binding, gen_free_of_layer, head_free, nowhere, pair_free, part_free, part_free_of_layer, proc_free, proc_free_of_layer, under}
+use Rattle.csp_program.specs.Substitution.{after_all, expr_with, fields_with, gens_with, head_named, head_with, open_gen, pair_with, part_with, past, proc_with, without, Given}
 use Rattle.csp_program.specs.declared.expressions.EventPart.{EventPart}
 use Rattle.csp_program.specs.declared.expressions.Expr.{Expr}
+use Rattle.csp_program.specs.declared.expressions.Expr.TheFolds.{fold-roll-Expr, fold-roll-Gen, fold-roll-EventPart, map-Expr, map-Gen}
 use Rattle.csp_program.specs.declared.expressions.Expr.TheOpen.{Expr-F, Gen-F, EventPart-F}
-use Rattle.csp_program.specs.declared.expressions.Expr.TheViews.{roll-Expr, roll-Gen, roll-EventPart}
+use Rattle.csp_program.specs.declared.expressions.Expr.TheViews.{out-Gen, roll-Expr, roll-Gen, roll-EventPart, roll-out-Gen}
 use Rattle.csp_program.specs.declared.expressions.Gen.{Gen}
 use Rattle.csp_program.specs.declared.processes.Field.{Field}
 use Rattle.csp_program.specs.declared.processes.Field.TheVariants as field
@@ -20,9 +21,39 @@ use Rattle.csp_program.specs.declared.processes.Proc.TheFolds.{fold-roll-Proc, m
 use Rattle.csp_program.specs.declared.processes.Proc.TheOpen.{Proc-F}
 use Rattle.csp_program.specs.declared.processes.Proc.TheViews.{roll-Proc}
 use Rattle.csp_program.proofs.Forms.{Every, ExprHas, GenHas, PartHas, ProcHas, each_expr, each_gen, each_part, each_proc, every}
-use Rattle.substitution.proofs.Forms.{expr_form, expr_is, gen_form, gen_is, named_form, part_form, part_is, proc_form, proc_is}
-use Rattle.substitution.proofs.Left.{expr_rolls, form_binding, form_free, gen_rolls, leaves, part_rolls}
+use Rattle.substitution.proofs.Forms.{expr_form, expr_is, gen_form, gen_is, left_by, left_is, named_form, part_form, part_is, proc_form, proc_is}
 use Rattle.substitution.specs.Laws.{without_value}
+
+-- ---- free names of a form
+
+abbrev pub form_free : Expr-F Expr Gen EventPart → Names
+form_free d = expr_free_of_layer (map-Expr Expr Gen EventPart Names Binding Names expr_free gen_binding part_free d)
+
+abbrev pub form_binding : Gen-F Expr Gen EventPart → Binding
+form_binding d = gen_free_of_layer (map-Gen Expr Gen EventPart Names Binding Names expr_free gen_binding part_free d)
+
+pub expr_rolls : (d : Expr-F Expr Gen EventPart) → expr_free (roll-Expr d) ≡ form_free d
+expr_rolls = fold-roll-Expr Names Binding Names expr_free_of_layer gen_free_of_layer part_free_of_layer
+
+pub gen_rolls : (d : Gen-F Expr Gen EventPart) → gen_binding (roll-Gen d) ≡ form_binding d
+gen_rolls = fold-roll-Gen Names Binding Names expr_free_of_layer gen_free_of_layer part_free_of_layer
+
+pub part_rolls : (d : EventPart-F Expr Gen EventPart) → part_free (roll-EventPart d) ≡ part_free_of_layer (record { channel = d.channel; fields = map expr_free d.fields })
+part_rolls = fold-roll-EventPart Names Binding Names expr_free_of_layer gen_free_of_layer part_free_of_layer
+
+-- ---- the name that a generator binds gets no value after it, and the others keep theirs
+
+form_leaves : (d : Gen-F Expr Gen EventPart) (given : Given) (x : ℕ) → left_by d given x ≡ cond ((form_binding d).1 x) None (given x)
+form_leaves (Gen-F.From y s) given x = refl
+form_leaves (Gen-F.Cond c) given x = refl
+
+pub leaves : (g : Gen) (given : Given) (x : ℕ) → (open_gen g).1 given x ≡ cond ((gen_binding g).1 x) None (given x)
+leaves g given x =
+    ap (λ (h : Gen). (open_gen h).1 given x) (sym (roll-out-Gen g)) ∙
+    ((λ i. left_is (out-Gen g) i given x) ∙
+    (form_leaves (out-Gen g) given x ∙
+    ((λ i. cond ((sym (gen_rolls (out-Gen g)) i).1 x) None (given x)) ∙
+    ap (λ (h : Gen). cond ((gen_binding h).1 x) None (given x)) (roll-out-Gen g))))
 
 -- ---- names of what is put together from parts
 
@@ -67,16 +98,16 @@ name_lost given y None is = λ i x. at x i
   where
     at : (x : ℕ) → nat_eq y x ≡ (is_none (given x) && nat_eq y x)
     at x = elim (nat_eq y x) as (λ b. nat_eq y x ≡ b → b ≡ (is_none (given x) && b)) [
-        | true ↦ λ e. sym (ap (λ (v : Option Value). is_none v && true) (ap given (sym (eqb-true y x e)) ∙ is))
-        | false ↦ λ e. sym (and_false (is_none (given x)))
-      ] refl
+      | true ↦ λ e. sym (ap (λ (v : Option Value). is_none v && true) (ap given (sym (eqb-true y x e)) ∙ is))
+      | false ↦ λ e. sym (and_false (is_none (given x)))
+    ] refl
 name_lost given y (Some v) is = λ i x. at x i
   where
     at : (x : ℕ) → false ≡ (is_none (given x) && nat_eq y x)
     at x = elim (nat_eq y x) as (λ b. nat_eq y x ≡ b → false ≡ (is_none (given x) && b)) [
-        | true ↦ λ e. sym (ap (λ (v : Option Value). is_none v && true) (ap given (sym (eqb-true y x e)) ∙ is))
-        | false ↦ λ e. sym (and_false (is_none (given x)))
-      ] refl
+      | true ↦ λ e. sym (ap (λ (v : Option Value). is_none v && true) (ap given (sym (eqb-true y x e)) ∙ is))
+      | false ↦ λ e. sym (and_false (is_none (given x)))
+    ] refl
 
 -- ---- lists
 

@@ -11,7 +11,7 @@ use Rattle.csp_atoms.specs.declared.value.Value.{Value}
 use Rattle.csp_atoms.specs.declared.value.Value.TheVariants.{One}
 use Rattle.csp_base.specs.Members.{has}
 use Rattle.csp_program.specs.Environments.{with_bound}
-use Rattle.csp_program.specs.Substitution.{given_by, without, Given}
+use Rattle.csp_program.specs.Substitution.{given_by, without}
 use Rattle.csp_program.specs.Value.{Env, bound_to}
 use Rattle.substitution.specs.Named.{atom_or, but_for, counts_up, CountUp, EndBy, NoneFrom}
 

@@ -1,5 +1,5 @@
 -- An expression and a process none of whose free names gets a value stay as they are.
-use Rattle.std.proofs.Common.{◌≡◌, ℕ, Bool, true, false, cond, not, ◌&&◌, ◌||◌, nat_eq, Option, Some, None, List, [], ◌∷◌, map, refl, ap, sym, ◌∙◌, eq-eqb}
+use Rattle.std.proofs.Common.{◌≡◌, ℕ, Bool, true, false, cond, not, ◌&&◌, ◌||◌, nat_eq, Option, Some, None, List, [], ◌∷◌, map, refl, ap, ◌∙◌, eq-eqb}
 use Rattle.csp_atoms.specs.declared.value.Value.{Value}
 use Rattle.csp_program.specs.Free.{Names, any_of, apart_from, before, either, expr_free, gen_binding, head_free, nowhere, pair_free, part_free, proc_free, proc_free_of_layer, under}
 use Rattle.csp_program.specs.Substitution.{after_all, expr_with, fields_with, gens_with, head_named, head_with, open_gen, pair_with, part_with, past, proc_with, without, Given}
@@ -18,7 +18,7 @@ use Rattle.csp_program.specs.declared.processes.Proc.TheOpen.{Proc-F}
 use Rattle.csp_program.specs.declared.processes.Proc.TheViews.{roll-Proc}
 use Rattle.csp_program.proofs.Forms.{Every, ExprHas, GenHas, PartHas, ProcHas, each_expr, each_gen, each_part, each_proc, every}
 use Rattle.substitution.proofs.Forms.{expr_form, expr_is, gen_form, gen_is, named_form, part_is, proc_form, proc_is}
-use Rattle.substitution.proofs.Left.{expr_rolls, form_binding, form_free, gen_rolls, leaves, part_rolls}
+use Rattle.substitution.proofs.Loses.{expr_rolls, form_binding, form_free, gen_rolls, leaves, part_rolls}
 use Rattle.substitution.specs.Laws.{GetNone}
 
 -- ---- names of what is put together from parts

@@ -1,6 +1,6 @@
 -- An expression with values put in place of names is worth what it is worth where the names are bound to the values.
-use Rattle.std.proofs.Common.{◌≡◌, ℕ, ◌+◌, Bool, true, false, cond, ◌||◌, nat_eq, Option, Some, None, Ok, Err, List, [], ◌∷◌, map, refl, ap, sym, ◌∙◌, subst}
-use Rattle.std.specs.Prelude.{is_none, nat_lt, slice_get}
+use Rattle.std.proofs.Common.{◌≡◌, ℕ, Bool, true, false, cond, ◌||◌, nat_eq, Option, Some, None, Ok, Err, List, [], ◌∷◌, map, refl, ap, sym, ◌∙◌, subst}
+use Rattle.std.specs.Prelude.{is_none, slice_get}
 use Rattle.csp_atoms.specs.declared.atom.Atom.{Atom}
 use Rattle.csp_atoms.specs.declared.atom.Atom.TheVariants as atom
 use Rattle.csp_atoms.specs.declared.value.Value.{Value}
@@ -8,8 +8,8 @@ use Rattle.csp_atoms.specs.declared.value.Value.TheVariants.{One, Many}
 use Rattle.csp_program.specs.Atoms.{added, all_added}
 use Rattle.csp_program.specs.EventTable.{events_with}
 use Rattle.csp_program.specs.Outcome.{Outcome, and_then}
-use Rattle.csp_program.specs.Substitution.{expr_with, gens_with, open_gen, part_with, past, without, Given}
-use Rattle.csp_program.specs.Value.{Env, Front, Gathered, Meaning, Turn, Uses, as_atom, as_number, as_set, as_truth, binary, bound_value, from, front, front_events, front_of_layer, fronts_added, gathered, in_field, items_added, lack_sets, many, meaning, meaning_of_layer, one_event, over, range, row_in, row_of, set_binary, sets_of, turn, turn_of_layer, values_of, walked, when}
+use Rattle.csp_program.specs.Substitution.{expr_with, gens_with, part_with, past, without, Given}
+use Rattle.csp_program.specs.Value.{Env, Front, Gathered, Meaning, Turn, Uses, as_atom, as_number, as_set, as_truth, binary, bound_value, front, front_events, front_of_layer, fronts_added, gathered, in_field, items_added, lack_sets, many, meaning, meaning_of_layer, one_event, over, range, row_in, row_of, set_binary, sets_of, turn, turn_of_layer, values_of, walked}
 use Rattle.csp_program.specs.declared.expressions.EventPart.{EventPart}
 use Rattle.csp_program.specs.declared.expressions.Expr.{Expr}
 use Rattle.csp_program.specs.declared.expressions.Expr.TheFolds.{fold-roll-Expr, fold-roll-Gen, fold-roll-EventPart, map-Expr, map-Gen}

@@ -1,5 +1,5 @@
 -- What a substitution keeps of an expression and of a process.
-use Rattle.std.specs.Prelude.{◌≡◌, ℕ, Bool, true, ◌&&◌, is_none, Option, Some, None, Ok}
+use Rattle.std.specs.Prelude.{◌≡◌, ℕ, true, ◌&&◌, is_none, Option, Some, None, Ok}
 use Rattle.csp_program.specs.Depth.{expr_depth, proc_depth}
 use Rattle.csp_program.specs.Free.{Names, expr_free, proc_free}
 use Rattle.csp_program.specs.InOrder.{value_in_order, expr_in_order, proc_in_order}
@@ -38,7 +38,8 @@ ExprsKeepTheirDepth = (given : Given) (e : Expr) → expr_depth (expr_with given
 
 -- values in order leave an expression in order, and make none so that was not
 abbrev pub ExprsKeepTheirOrder : Type 0
-ExprsKeepTheirOrder = (p : Content) (given : Given) → AreInOrder p given → (e : Expr) → expr_in_order p (expr_with given e) ≡ expr_in_order p e
+ExprsKeepTheirOrder =
+    (p : Content) (given : Given) → AreInOrder p given → (e : Expr) → expr_in_order p (expr_with given e) ≡ expr_in_order p e
 
 -- the names that are free in an expression are those that were, apart from those that got a value
 abbrev pub ExprsLoseTheNames : Type 0
@@ -59,7 +60,8 @@ abbrev pub ProcsKeepTheirDepth : Type 0
 ProcsKeepTheirDepth = (given : Given) (q : Proc) → proc_depth (proc_with given q) ≡ proc_depth q
 
 abbrev pub ProcsKeepTheirOrder : Type 0
-ProcsKeepTheirOrder = (p : Content) (given : Given) → AreInOrder p given → (q : Proc) → proc_in_order p (proc_with given q) ≡ proc_in_order p q
+ProcsKeepTheirOrder =
+    (p : Content) (given : Given) → AreInOrder p given → (q : Proc) → proc_in_order p (proc_with given q) ≡ proc_in_order p q
 
 abbrev pub ProcsLoseTheNames : Type 0
 ProcsLoseTheNames = (given : Given) (q : Proc) → proc_free (proc_with given q) ≡ without_value given (proc_free q)

@@ -5,7 +5,7 @@ ghost use Rattle.csp_program.specs.Substitution.{expr_with, gens_with, given_by,
 
 use crate::values::Values;
 use containers::{Boxed, Items};
-use csp_base::{BinOp, NoMemory, SetOp};
+use csp_base::NoMemory;
 use csp_program::copies::copy_value;
 use csp_program::{EventPart, Expr, Gen};
 use std::alloc::Global;
@@ -33,11 +33,7 @@ pub(crate) fn pass(values: &mut Values<'_>, generator: &Gen) -> Result<(), NoMem
 /// The expression with the values in place of the names, wherever these are free.
 #[tactic(auto, using(crate::proofs::Forms::expr_forms))]
 #[cycle(put_expr)]
-pub fn put_expr(
-    alloc: Global,
-    expr: &Expr,
-    values: &Values<'_>,
-) -> Result<Expr, NoMemory>
+pub fn put_expr(alloc: Global, expr: &Expr, values: &Values<'_>) -> Result<Expr, NoMemory>
     ensures { IfOk result (λ made. made ≡ expr_with (given_by values.now) expr.now) }
 {
     match expr {
@@ -48,7 +44,9 @@ pub fn put_expr(
         Expr::Lit(kept) => copy_value(alloc, kept).map(Expr::Lit),
         Expr::Neg(a) => replace_boxed_expr(alloc, a, values).map(Expr::Neg),
         Expr::Not(a) => replace_boxed_expr(alloc, a, values).map(Expr::Not),
-        Expr::Binary(op, a, b) => binary(alloc, *op, a, b, values),
+        Expr::Binary(op, a, b) => {
+            replace_two(alloc, a, b, values).map(|(a, b)| Expr::Binary(*op, a, b))
+        }
         Expr::If(c, a, b) => choice(alloc, c, a, b, values),
         Expr::Call(def, args) => {
             let args = put_exprs(alloc, args.as_slice(), values);
@@ -59,28 +57,14 @@ pub fn put_expr(
             let fields = put_exprs(alloc, fields.as_slice(), values);
             fields.map(|fields| Expr::Event(*channel, fields))
         }
-        Expr::Display(items) => {
-            put_exprs(alloc, items.as_slice(), values).map(Expr::Display)
-        }
-        Expr::Range(a, b) => range(alloc, a, b, values),
+        Expr::Display(items) => { put_exprs(alloc, items.as_slice(), values).map(Expr::Display) }
+        Expr::Range(a, b) => replace_two(alloc, a, b, values).map(|(a, b)| Expr::Range(a, b)),
         Expr::Comp(items, gens) => comprehension(alloc, items, gens, values),
         Expr::Product(parts, gens) => product(alloc, parts, gens, values),
-        Expr::SetOp(op, a, b) => set_operation(alloc, *op, a, b, values),
+        Expr::SetOp(op, a, b) => {
+            replace_two(alloc, a, b, values).map(|(a, b)| Expr::SetOp(*op, a, b))
+        }
     }
-}
-
-// An operator between two operands.
-#[cycle(put_expr)]
-fn binary(
-    alloc: Global,
-    op: BinOp,
-    a: &Boxed<Expr>,
-    b: &Boxed<Expr>,
-    values: &Values<'_>,
-) -> Result<Expr, NoMemory>
-    ensures { IfOk result (λ made. made ≡ Expr.Binary op (expr_with (given_by values.now) a.now) (expr_with (given_by values.now) b.now)) }
-{
-    replace_two(alloc, a, b, values).map(|(a, b)| Expr::Binary(op, a, b))
 }
 
 // One of two expressions.
@@ -97,33 +81,6 @@ fn choice(
     let c = replace_boxed_expr(alloc, c, values)?;
     let (a, b) = replace_two(alloc, a, b, values)?;
     Ok(Expr::If(c, a, b))
-}
-
-// The set of the numbers from `a` to `b`.
-#[cycle(put_expr)]
-fn range(
-    alloc: Global,
-    a: &Boxed<Expr>,
-    b: &Boxed<Expr>,
-    values: &Values<'_>,
-) -> Result<Expr, NoMemory>
-    ensures { IfOk result (λ made. made ≡ Expr.Range (expr_with (given_by values.now) a.now) (expr_with (given_by values.now) b.now)) }
-{
-    replace_two(alloc, a, b, values).map(|(a, b)| Expr::Range(a, b))
-}
-
-// An operator between two sets.
-#[cycle(put_expr)]
-fn set_operation(
-    alloc: Global,
-    op: SetOp,
-    a: &Boxed<Expr>,
-    b: &Boxed<Expr>,
-    values: &Values<'_>,
-) -> Result<Expr, NoMemory>
-    ensures { IfOk result (λ made. made ≡ Expr.SetOp op (expr_with (given_by values.now) a.now) (expr_with (given_by values.now) b.now)) }
-{
-    replace_two(alloc, a, b, values).map(|(a, b)| Expr::SetOp(op, a, b))
 }
 
 // The set of some expressions under generators.
@@ -207,9 +164,7 @@ fn replace_gen(alloc: Global, generator: &Gen, values: &Values<'_>) -> Result<Ge
     ensures { IfOk result (λ made. made ≡ (open_gen generator.now).0 (given_by values.now)) }
 {
     match generator {
-        Gen::From(name, set) => {
-            put_expr(alloc, set, values).map(|set| Gen::From(*name, set))
-        }
+        Gen::From(name, set) => { put_expr(alloc, set, values).map(|set| Gen::From(*name, set)) }
         Gen::Cond(condition) => put_expr(alloc, condition, values).map(Gen::Cond),
     }
 }

@@ -14,11 +14,7 @@ use std::alloc::Global;
 /// The process with the values in place of the names, wherever these are free.
 #[tactic(auto, using(crate::proofs::Forms::proc_forms))]
 #[cycle(put_proc)]
-pub fn put_proc(
-    alloc: Global,
-    proc: &Proc,
-    values: &Values<'_>,
-) -> Result<Proc, NoMemory>
+pub fn put_proc(alloc: Global, proc: &Proc, values: &Values<'_>) -> Result<Proc, NoMemory>
     ensures { IfOk result (λ made. made ≡ proc_with (given_by values.now) proc.now) }
 {
     match proc {
@@ -26,14 +22,16 @@ pub fn put_proc(
         Proc::Prefix(head, fields, p) => prefix(alloc, head, fields, p, values),
         Proc::Guard(c, p) => guard(alloc, c, p, values),
         Proc::If(c, p, q) => choice(alloc, c, p, q, values),
-        Proc::External(procs) => {
-            put_procs(alloc, procs.as_slice(), values).map(Proc::External)
+        Proc::External(procs) => { put_procs(alloc, procs.as_slice(), values).map(Proc::External) }
+        Proc::Internal(procs) => { put_procs(alloc, procs.as_slice(), values).map(Proc::Internal) }
+        Proc::EachExternal(name, set, p) => {
+            let parts = replicated(alloc, *name, set, p, values);
+            parts.map(|(set, p)| Proc::EachExternal(*name, set, p))
         }
-        Proc::Internal(procs) => {
-            put_procs(alloc, procs.as_slice(), values).map(Proc::Internal)
+        Proc::EachInternal(name, set, p) => {
+            let parts = replicated(alloc, *name, set, p, values);
+            parts.map(|(set, p)| Proc::EachInternal(*name, set, p))
         }
-        Proc::EachExternal(other, set, p) => each_external(alloc, *other, set, p, values),
-        Proc::EachInternal(other, set, p) => each_internal(alloc, *other, set, p, values),
         Proc::Hide(p, set) => hiding(alloc, p, set, values),
         Proc::Rename(p, pairs, gens) => renaming(alloc, p, pairs, gens, values),
         Proc::Call(def, args) => {
@@ -41,7 +39,7 @@ pub fn put_proc(
             args.map(|args| Proc::Call(*def, args))
         }
         Proc::Skip => Ok(Proc::Skip),
-        Proc::Seq(p, q) => sequence(alloc, p, q, values),
+        Proc::Seq(p, q) => replace_two(alloc, p, q, values).map(|(p, q)| Proc::Seq(p, q)),
         Proc::Ended => Ok(Proc::Ended),
     }
 }
@@ -69,7 +67,8 @@ fn replace_after(
     p: &Boxed<Proc>,
     values: &Values<'_>,
 ) -> Result<(Items<Field>, Boxed<Proc>), NoMemory>
-    ensures { IfOk result (λ made. (made.0 ≡ fields_with (given_by values.now) fields.now) × (made.1 ≡ proc_with (after_all fields.now (given_by values.now)) p.now)) }
+    ensures fields { IfOk result (λ made. made.0 ≡ fields_with (given_by values.now) fields.now) }
+    ensures process { IfOk result (λ made. made.1 ≡ proc_with (after_all fields.now (given_by values.now)) p.now) }
 {
     let mut here = values.copy(alloc)?;
     let fields = replace_fields(alloc, fields.as_slice(), &mut here)?;
@@ -101,34 +100,21 @@ fn choice(
     put_expr(alloc, c, values).map(|c| Proc::If(c, p, q))
 }
 
-// An external choice over the values of a set.
+// The set and the process of a choice over the values of the set.
 #[cycle(put_proc)]
-fn each_external(
+fn replicated(
     alloc: Global,
-    other: u32,
+    name: u32,
     set: &Expr,
     p: &Boxed<Proc>,
     values: &Values<'_>,
-) -> Result<Proc, NoMemory>
-    ensures { IfOk result (λ made. made ≡ Proc.EachExternal other (expr_with (given_by values.now) set.now) (proc_with (without other (given_by values.now)) p.now)) }
+) -> Result<(Expr, Boxed<Proc>), NoMemory>
+    ensures set { IfOk result (λ made. made.0 ≡ expr_with (given_by values.now) set.now) }
+    ensures process { IfOk result (λ made. made.1 ≡ proc_with (without name (given_by values.now)) p.now) }
 {
-    let p = replace_under(alloc, other, p, values)?;
-    put_expr(alloc, set, values).map(|set| Proc::EachExternal(other, set, p))
-}
-
-// An internal choice over the values of a set.
-#[cycle(put_proc)]
-fn each_internal(
-    alloc: Global,
-    other: u32,
-    set: &Expr,
-    p: &Boxed<Proc>,
-    values: &Values<'_>,
-) -> Result<Proc, NoMemory>
-    ensures { IfOk result (λ made. made ≡ Proc.EachInternal other (expr_with (given_by values.now) set.now) (proc_with (without other (given_by values.now)) p.now)) }
-{
-    let p = replace_under(alloc, other, p, values)?;
-    put_expr(alloc, set, values).map(|set| Proc::EachInternal(other, set, p))
+    let here = values.under(alloc, name)?;
+    let p = replace_boxed_proc(alloc, p, &here)?;
+    put_expr(alloc, set, values).map(|set| (set, p))
 }
 
 // A process with a set hidden.
@@ -152,50 +138,8 @@ fn renaming(
     ensures { IfOk result (λ made. made ≡ Proc.Rename (proc_with (given_by values.now) p.now) (map (pair_with (past gens.now (given_by values.now))) pairs.now) (gens_with (given_by values.now) gens.now)) }
 {
     let p = replace_boxed_proc(alloc, p, values)?;
-    let sides = replace_renaming(alloc, pairs, gens, values);
-    sides.map(|(pairs, gens)| Proc::Rename(p, pairs, gens))
-}
-
-// The pairs and the generators of a renaming.
-fn replace_renaming(
-    alloc: Global,
-    pairs: &Items<(EventPart, EventPart)>,
-    gens: &Items<Gen>,
-    values: &Values<'_>,
-) -> Result<(Items<(EventPart, EventPart)>, Items<Gen>), NoMemory>
-    ensures { IfOk result (λ made. (made.0 ≡ map (pair_with (past gens.now (given_by values.now))) pairs.now) × (made.1 ≡ gens_with (given_by values.now) gens.now)) }
-{
     let pairs = put_pairs(alloc, pairs.as_slice(), gens.as_slice(), values)?;
-    let gens = put_gens(alloc, gens.as_slice(), values)?;
-    Ok((pairs, gens))
-}
-
-// One process after the other.
-#[cycle(put_proc)]
-fn sequence(
-    alloc: Global,
-    p: &Boxed<Proc>,
-    q: &Boxed<Proc>,
-    values: &Values<'_>,
-) -> Result<Proc, NoMemory>
-    ensures { IfOk result (λ made. made ≡ Proc.Seq (proc_with (given_by values.now) p.now) (proc_with (given_by values.now) q.now)) }
-{
-    replace_two(alloc, p, q, values).map(|(p, q)| Proc::Seq(p, q))
-}
-
-// A process below a binding of the name.
-#[cycle(put_proc)]
-fn replace_under(
-    alloc: Global,
-    name: u32,
-    p: &Boxed<Proc>,
-    values: &Values<'_>,
-) -> Result<Boxed<Proc>, NoMemory>
-    ensures { IfOk result (λ made. made ≡ proc_with (without name (given_by values.now)) p.now) }
-{
-    let here = values.under(alloc, name)?;
-    let p = replace_boxed_proc(alloc, p, &here)?;
-    Ok(p)
+    put_gens(alloc, gens.as_slice(), values).map(|gens| Proc::Rename(p, pairs, gens))
 }
 
 // A process on the heap.
@@ -226,11 +170,7 @@ fn replace_two(
 }
 
 #[cycle(put_proc)]
-fn put_procs(
-    alloc: Global,
-    procs: &[Proc],
-    values: &Values<'_>,
-) -> Result<Items<Proc>, NoMemory>
+fn put_procs(alloc: Global, procs: &[Proc], values: &Values<'_>) -> Result<Items<Proc>, NoMemory>
     ensures { IfOk result (λ made. made ≡ map (proc_with (given_by values.now)) procs.now) }
 {
     let mut made = Items::new(alloc);

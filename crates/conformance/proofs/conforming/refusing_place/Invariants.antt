@@ -1,7 +1,9 @@
-use Rattle.std.proofs.Common.{◌<◌, ℕ}
-use Rattle.observed_runs.specs.Observed.{pair_at}
-use Rattle.conformance.specs.Finding.{AcceptsAt}
+use Rattle.std.proofs.Common.{length}
+use Rattle.conformance.specs.Finding.{AllAccept}
 use Rattle.conformance.proofs.conforming.refusing_place.Given as goal
 
 abbrev pub invariant-loop-place : goal.invariant-loop-place
-invariant-loop-place l = (k : ℕ) → k < l.place → AcceptsAt l.part.table l.specified.table (pair_at l.pairs k)
+invariant-loop-place l = record {
+  accept : AllAccept l.part.table l.specified.table l.pairs l.place;
+  known : AllAccept l.part.table l.specified.table l.accepted (length l.accepted);
+}

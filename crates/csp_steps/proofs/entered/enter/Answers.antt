@@ -1,4 +1,6 @@
-use Rattle.std.proofs.Common.{slice_get, ap, sym, ◌∙◌}
+use Rattle.std.proofs.Common.{slice_get, Some, ap, sym, ◌∙◌}
+use Rattle.csp_program.specs.Substitution.{given_by, proc_with}
+use Rattle.term_pool.specs.Trees.{tree_at}
 use Rattle.std.proofs.lemmas.Option.{slice_get_within}
 use Rattle.std.specs.Option.{option_copied}
 use Rattle.csp_program.specs.declared.programs.Content.{Content}
@@ -15,7 +17,7 @@ pub returns-in_ok-made-in-Process-clause-process : goal.returns-in_ok-made-in-Pr
 returns-in_ok-made-in-Process-clause-process c =
     let there = ap (λ (p : Content). slice_get p.defs c.args.def) (sym c.content.ensures.content) ∙ (sym c.get.ensures ∙ ap option_copied c.in-Some.is) in
     entered c.args.program.now c.body_place.new.pool c.put_all_in.new.self c.args.def c.in-Some.found.now c.in-Process.body c.as_slice.result.now c.args.values.now c.in_ok-id-in-Process.id c.in_ok-made-in-Process.made there c.in-Process.is c.as_slice.ensures
-    (c.in_ok-id-in-Process.ensures.process c.args.program.now c.requires.fits.bodies (body_is c.args.program.now c.args.def c.in-Some.found.now c.in-Process.body there c.in-Process.is)) c.in_ok-made-in-Process.ensures.process
+    (c.in_ok-id-in-Process.ensures.process c.args.program.now c.requires.fits.bodies (body_is c.args.program.now c.args.def c.in-Some.found.now c.in-Process.body there c.in-Process.is)) (c.in_ok-made-in-Process.ensures.process ∙ ap (λ env. Some (proc_with (given_by env) (tree_at c.body_place.new.pool c.in_ok-id-in-Process.id))) c.new-values.ensures)
 
 pub returns-in_ok-made-in-Process-clause-fits : goal.returns-in_ok-made-in-Process-clause-fits
 returns-in_ok-made-in-Process-clause-fits c =

@@ -1,13 +1,12 @@
 use Rattle.std.proofs.Common.{◌≡◌, ◌≤◌, [], length}
-use Rattle.csp_program.specs.declared.processes.Proc.{Proc}
-use Rattle.csp_steps.specs.Walked.{ways_under, weight}
 use Rattle.value_operators.specs.Env.{with_bound}
+use Rattle.csp_steps.specs.Walked.{ways_by_number, weight}
 use Rattle.csp_steps.proofs.fields.next_of.Given as goal
 
 -- what is left has as many ways as the whole
 abbrev pub invariant-loop-set : goal.invariant-loop-set
 invariant-loop-set l = record {
-  same : (q : Proc) → ways_under l.filling.program.now (with_bound l.bound []) l.turn.sets.now l.turn.fields.now q l.turn.number ≡ ways_under l.filling.program.now (with_bound l.bound []) l.sets l.fields q l.number;
+  same : ways_by_number l.filling.program.now l.turn.sets.now l.turn.fields.now (with_bound l.bound []) l.turn.number ≡ ways_by_number l.filling.program.now l.sets l.fields (with_bound l.bound []) l.number;
   less : weight l.sets ≤ weight l.turn.sets.now;
 }
 

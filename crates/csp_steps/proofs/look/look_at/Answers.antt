@@ -9,8 +9,9 @@ use Rattle.term_pool.specs.Trees.{all_below, tree_at}
 use Rattle.pool_parts.specs.declared.place.ProcId.{ProcId}
 use Rattle.csp_steps.specs.declared.look.Look.TheVariants as look
 use Rattle.csp_steps.specs.Computed.{GivesLook}
+use Rattle.csp_steps.proofs.Computing.{start_passed}
 use Rattle.csp_steps.proofs.Forms.{ended, every_place, first_place, head_fault, hide, look_at, rename, second_place, sequence, stop}
-use Rattle.csp_steps.proofs.Looking.{none_listed, start_passed}
+use Rattle.csp_steps.proofs.Looking.{none_listed}
 use Rattle.csp_steps.proofs.Noting.{fits_then}
 use Rattle.csp_steps.proofs.look.look_at.Goals as goal
 
@@ -70,7 +71,7 @@ returns-in-Seq-clause-look c =
 pub returns-in_err-start-in-Prefix-clause-look : goal.returns-in_err-start-in-Prefix-clause-look
 returns-in_err-start-in-Prefix-clause-look c =
     look_at c.args.program.now c.args.pool.now c.args.pool.now _ c.node.result _ (tree_at c.args.pool.now c.args.id) c.node.ensures.process c.in-Prefix.is
-    (start_passed c.args.program.now c.args.pool.now (proc.Prefix c.in-Prefix.head.now c.in-Prefix.fields.now (tree_at c.args.pool.now c.in-Prefix.to)) _ _ _ c.from_residual.ensures.1 c.in_err-start-in-Prefix.ensures
+    (start_passed c.args.program.now _ _ _ _ _ c.from_residual.ensures.1 c.in_err-start-in-Prefix.ensures
     (λ k e. head_fault c.args.program.now c.in-Prefix.head.now c.in-Prefix.fields.now (tree_at c.args.pool.now c.in-Prefix.to) k e))
 
 pub returns-in_ok-start-in-Prefix-clause-look : goal.returns-in_ok-start-in-Prefix-clause-look

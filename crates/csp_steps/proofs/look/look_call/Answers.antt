@@ -8,19 +8,19 @@ use Rattle.value_operators.specs.Gives.{Gives}
 use Rattle.value_operators.specs.declared.fault.EvalFault.{EvalFault}
 use Rattle.csp_steps.specs.Computed.{IsListing}
 use Rattle.csp_steps.specs.declared.step.StepTo.{StepTo}
-use Rattle.csp_steps.proofs.Computing.{look_passed, place_passed}
+use Rattle.csp_steps.proofs.Computing.{passed, value_passed}
 use Rattle.csp_steps.proofs.Forms.{arguments_fault, call, call_fault}
 use Rattle.csp_steps.proofs.look.look_call.Goals as goal
 
 pub returns-in_err-values-clause-look : goal.returns-in_err-values-clause-look
 returns-in_err-values-clause-look c =
-    λ args h. look_passed c.args.program.now c.args.pool.now (proc.Call c.args.def args) _ _ (arguments_in c.args.program.now args) c.from_residual.ensures.1
+    λ args h. value_passed _ _ _ (arguments_in c.args.program.now args) _ c.from_residual.ensures.1
     (subst (λ (r : Result (List Value) EvalFault). Gives r (arguments_in c.args.program.now args)) c.in_err-values.was h) (λ k e. arguments_fault c.args.program.now c.args.def args k e)
 
 pub returns-in_err-to-clause-look : goal.returns-in_err-to-clause-look
 returns-in_err-to-clause-look c =
     λ args h. let e = subst (λ (r : Result (List Value) EvalFault). Gives r (arguments_in c.args.program.now args)) c.in_ok-values.was h ∙ ap (λ vs. Ok vs) (sym c.as_slice.ensures) in
-    place_passed c.args.program.now c.enter.new.pool c.enter.new.pool (proc.Call c.args.def args) _ _ _ c.from_residual-in_err-to.ensures.1 c.in_err-to.ensures.process
+    passed _ _ _ _ _ c.from_residual-in_err-to.ensures.1 c.in_err-to.ensures.process
     (λ k g. call_fault c.args.program.now c.args.def args c.as_slice.result.now k e g)
 
 pub returns-clause-look : goal.returns-clause-look

@@ -5,11 +5,10 @@ use Rattle.csp_atoms.specs.declared.atom.Atom.{Atom}
 use Rattle.process_steps.specs.declared.label.Label.TheVariants.{Silent}
 use Rattle.term_pool.specs.Trees.{tree_at}
 use Rattle.pool_parts.specs.declared.place.ProcId.{ProcId}
-use Rattle.csp_program.specs.declared.processes.Proc.TheVariants as proc
 use Rattle.process_steps.specs.Needed.{set_in}
 use Rattle.value_operators.specs.Gives.{Gives}
 use Rattle.value_operators.specs.declared.fault.EvalFault.{EvalFault}
-use Rattle.csp_steps.proofs.Computing.{look_passed}
+use Rattle.csp_steps.proofs.Computing.{value_passed}
 use Rattle.csp_steps.proofs.Forms.{each_internal, each_internal_fault, each_internal_none}
 use Rattle.csp_steps.specs.declared.step.StepTo.{StepTo}
 use Rattle.csp_steps.proofs.look.look_each_internal.Goals as goal
@@ -24,7 +23,7 @@ to_id id = record { label = Silent; to = id }
 
 pub returns-in_err-set-clause-look : goal.returns-in_err-set-clause-look
 returns-in_err-set-clause-look c =
-    λ p s h. look_passed p c.args.pool.now (proc.EachInternal c.args.name s (tree_at c.args.pool.now c.args.id)) _ _ (set_in p s) c.from_residual.ensures.1
+    λ p s h. value_passed _ _ _ (set_in p s) _ c.from_residual.ensures.1
     (subst (λ (r : Result (List Atom) EvalFault). Gives r (set_in p s)) c.in_err-set.was h) (λ k e. each_internal_fault p c.args.name s (tree_at c.args.pool.now c.args.id) k e)
 
 pub returns-then-is_empty-clause-look : goal.returns-then-is_empty-clause-look

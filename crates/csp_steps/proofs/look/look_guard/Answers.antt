@@ -4,13 +4,13 @@ use Rattle.process_steps.specs.StepList.{steps_of}
 use Rattle.term_pool.specs.Trees.{tree_at}
 use Rattle.csp_steps.specs.Computed.{IsListing}
 use Rattle.csp_steps.specs.declared.step.StepTo.{StepTo}
-use Rattle.csp_steps.proofs.Computing.{look_passed}
+use Rattle.csp_steps.proofs.Computing.{value_passed}
 use Rattle.csp_steps.proofs.Forms.{guard_false, guard_fault, guard_true}
 use Rattle.csp_steps.proofs.look.look_guard.Goals as goal
 
 pub returns-in_err-holds : goal.returns-in_err-holds
 returns-in_err-holds c =
-    λ trees within. look_passed c.args.program.now trees (proc.Guard c.args.c.now (tree_at trees c.args.id)) _ _ _ c.from_residual.ensures.1 c.in_err-holds.ensures
+    λ trees within. value_passed _ _ _ _ _ c.from_residual.ensures.1 c.in_err-holds.ensures
     (λ k e. guard_fault c.args.program.now c.args.c.now (tree_at trees c.args.id) k e)
 
 pub returns-then-holds : goal.returns-then-holds

@@ -1,13 +1,12 @@
 use Rattle.std.proofs.Common.{Ok, ap, ◌∙◌}
-use Rattle.csp_program.specs.declared.processes.Proc.TheVariants as proc
 use Rattle.term_pool.specs.Trees.{tree_at}
-use Rattle.csp_steps.proofs.Computing.{look_passed}
+use Rattle.csp_steps.proofs.Computing.{value_passed}
 use Rattle.csp_steps.proofs.Forms.{if_false, if_fault, if_true}
 use Rattle.csp_steps.proofs.look.look_if.Goals as goal
 
 pub returns-in_err-holds : goal.returns-in_err-holds
 returns-in_err-holds c =
-    λ trees first second. look_passed c.args.program.now trees (proc.If c.args.c.now (tree_at trees c.args.first) (tree_at trees c.args.second)) _ _ _ c.from_residual.ensures.1 c.in_err-holds.ensures
+    λ trees first second. value_passed _ _ _ _ _ c.from_residual.ensures.1 c.in_err-holds.ensures
     (λ k e. if_fault c.args.program.now c.args.c.now (tree_at trees c.args.first) (tree_at trees c.args.second) k e)
 
 pub returns-then-holds : goal.returns-then-holds

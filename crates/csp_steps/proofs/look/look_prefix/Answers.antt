@@ -5,7 +5,7 @@ use Rattle.csp_program.specs.declared.processes.Proc.TheVariants as proc
 use Rattle.term_pool.specs.Trees.{tree_at}
 use Rattle.csp_steps.specs.Computed.{GivesLook}
 use Rattle.csp_steps.specs.declared.look.Look.TheVariants as look
-use Rattle.csp_steps.proofs.Computing.{steps_passed}
+use Rattle.csp_steps.proofs.Computing.{passed}
 use Rattle.csp_steps.proofs.Forms.{prefix, prefix_fault}
 use Rattle.csp_steps.proofs.look.look_prefix.Goals as goal
 
@@ -13,7 +13,7 @@ pub returns-in_err-steps-clause-look : goal.returns-in_err-steps-clause-look
 returns-in_err-steps-clause-look c =
     λ head written h choice e from. subst (λ (fs : List Field). GivesLook c.args.program.now c.prefix_steps.new.pool c.from_residual-in_err-steps.result (proc.Prefix head fs (tree_at c.args.pool.now c.args.id)))
     (c.as_slice.ensures ∙ subst (λ (r : Result (List Field) _). IfOk r (λ fs. fs ≡ written)) c.in_ok-fields.was h)
-    (steps_passed c.args.program.now c.prefix_steps.new.pool c.prefix_steps.new.pool (proc.Prefix head c.as_slice.result.now (tree_at c.args.pool.now c.args.id)) _ _ _ c.from_residual-in_err-steps.ensures.1 c.in_err-steps.ensures.steps
+    (passed _ _ _ _ _ c.from_residual-in_err-steps.ensures.1 c.in_err-steps.ensures.steps
     (λ k g. prefix_fault c.args.program.now head c.as_slice.result.now (tree_at c.args.pool.now c.args.id) c.args.start.now choice k e from g))
 
 pub returns-clause-look : goal.returns-clause-look

@@ -4,7 +4,8 @@ use Rattle.process_steps.specs.StepList.{steps_of}
 use Rattle.term_pool.specs.Trees.{tree_at}
 use Rattle.csp_steps.specs.Computed.{all_within}
 use Rattle.term_pool.specs.Moved.{id_or}
-use Rattle.csp_steps.proofs.Alike.{around_each, around_passed, choice_each, each_passed, known_each, looks_passed, on_ok_of, same_each, these_each}
+use Rattle.csp_steps.proofs.Alike.{around_each, around_passed, choice_each, known_each, on_ok_of, same_each, these_each}
+use Rattle.csp_steps.proofs.Computing.{passed}
 use Rattle.csp_steps.proofs.Choosing.{at_any, choice_begin, choice_end, operand_fault, operand_in, operand_less, operand_next}
 use Rattle.csp_steps.proofs.Looking.{around_is, choice_below, choice_steps, less_around, less_choice, less_same, made_of, of_choice, these, those}
 use Rattle.csp_steps.proofs.Noting.{fits_stay}
@@ -13,7 +14,7 @@ use Rattle.csp_steps.proofs.steps.+steps_at.Goals as goal
 
 pub steps_at-returns-in_err-found-clause-steps : goal.steps_at-returns-in_err-found-clause-steps
 steps_at-returns-in_err-found-clause-steps t c =
-    looks_passed c.args.program.now c.look_at.new.pool c.look_at.new.pool (tree_at c.args.pool.now c.args.id) _ _ c.from_residual-in_err-found.ensures.1 c.in_err-found.ensures.look
+    passed _ _ _ _ _ c.from_residual-in_err-found.ensures.1 c.in_err-found.ensures.look (λ k e. e)
 
 pub steps_at-returns-in_ok-steps-in-Steps-clause-steps : goal.steps_at-returns-in_ok-steps-in-Steps-clause-steps
 steps_at-returns-in_ok-steps-in-Steps-clause-steps t c =
@@ -52,7 +53,7 @@ steps_of_operands-loop-index-init t c = record {
 
 pub steps_of_operands-returns-in_err-below-clause-steps : goal.steps_of_operands-returns-in_err-below-clause-steps
 steps_of_operands-returns-in_err-below-clause-steps t c =
-    each_passed c.steps_at.new.pool c.steps_at.new.pool _ _ _ _ c.from_residual.ensures.1 c.in_err-below.ensures.steps
+    passed _ _ _ _ _ c.from_residual.ensures.1 c.in_err-below.ensures.steps
     (λ k e. c.loop-index.invariant.so_far.rest ∙
     operand_fault c.args.program.now c.args.pool.now c.loop-index.pool c.loop-index.pool c.loop-index.pool c.loop-index.invariant.front (front_same c.loop-index.pool) c.args.ids.now c.requires.within
     c.loop-index.index (id_or c.args.ids.now c.loop-index.index) (omega arith) (at_any c.args.ids.now c.loop-index.index (record { 0 = 0 }) (id_or c.args.ids.now c.loop-index.index) (omega arith)) c.loop-index.invariant.so_far.moves k e)
@@ -143,7 +144,7 @@ steps_at-returns-in_ok-keep_steps-in-Choice-clause-steps t c =
 pub steps_at-returns-in_err-steps-in-Choice-clause-steps : goal.steps_at-returns-in_err-steps-in-Choice-clause-steps
 steps_at-returns-in_err-steps-in-Choice-clause-steps t c =
     let is = of_choice c.args.program.now c.look_at.new.pool (tree_at c.args.pool.now c.args.id) c.in_ok-found.found c.in_ok-found.ensures.look c.in-Choice.ids c.in-Choice.is in
-    each_passed c.steps_of_operands.new.pool c.steps_of_operands.new.pool _ _ _ _ c.from_residual-in_err-steps-in-Choice.ensures.1 c.in_err-steps-in-Choice.ensures.steps
+    passed _ _ _ _ _ c.from_residual-in_err-steps-in-Choice.ensures.1 c.in_err-steps-in-Choice.ensures.steps
     (λ k e. choice_steps c.args.program.now c.look_at.new.pool c.in-Choice.ids c.as_slice.result.now (tree_at c.args.pool.now c.args.id) is c.as_slice.ensures ∙ e)
 
 pub steps_at-returns-in_ok-keep_steps-in-Around-clause-fits : goal.steps_at-returns-in_ok-keep_steps-in-Around-clause-fits

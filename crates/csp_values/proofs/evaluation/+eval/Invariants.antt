@@ -1,8 +1,8 @@
-use Rattle.std.proofs.Common.{◌≡◌, ◌≤◌, ◌+◌, ◌-◌, ◌^◌, drop}
+use Rattle.std.proofs.Common.{◌≡◌, Ok, ◌≤◌, ◌+◌, ◌-◌, ◌^◌, drop}
 use Rattle.value_operators.specs.Env.{env_in}
 use Rattle.value_operators.specs.Forms.{capped, scaled}
 use Rattle.csp_values.specs.Course.{IsUnder, course, skipped}
-use Rattle.csp_values.specs.Worth.{worths, with_items, with_fronts, fields_worth, gathered_of, one_more_binding, walk_worth}
+use Rattle.csp_values.specs.Worth.{worths, with_items, with_fronts, fields_worth, gathered_of, one_more_binding, walk_worth, yielded}
 use Rattle.csp_values.proofs.Courses.{over_course, size}
 use Rattle.csp_values.proofs.FieldSteps.{fields_after}
 use Rattle.csp_values.proofs.Steps.{worths_after}
@@ -55,10 +55,10 @@ abbrev pub decreases-eval_set_op : goal.decreases-eval_set_op
 decreases-eval_set_op l = cost l.scope.now.content.now l.scope.now.uses + (weight l.a.now + weight l.b.now + 2)
 
 abbrev pub decreases-eval_product : goal.decreases-eval_product
-decreases-eval_product l = cost l.scope.now.content.now l.scope.now.uses + (part_weights l.parts.now + gen_weights l.gens.now + 6)
+decreases-eval_product l = cost l.scope.now.content.now l.scope.now.uses + (part_weights l.parts.now + gen_weights l.gens.now + 7)
 
 abbrev pub decreases-eval_comprehension : goal.decreases-eval_comprehension
-decreases-eval_comprehension l = cost l.scope.now.content.now l.scope.now.uses + (weights l.items.now + part_weights l.parts.now + gen_weights l.gens.now + 5)
+decreases-eval_comprehension l = cost l.scope.now.content.now l.scope.now.uses + (weights l.items.now + part_weights l.parts.now + gen_weights l.gens.now + 6)
 
 abbrev pub decreases-eval_all : goal.decreases-eval_all
 decreases-eval_all l = cost l.scope.now.content.now l.scope.now.uses + (weights l.exprs.now + 1)
@@ -97,7 +97,13 @@ abbrev pub decreases-gather : goal.decreases-gather
 decreases-gather l = cost l.scope.now.content.now l.scope.now.uses + (weights l.yields.now.items.now + part_weights l.yields.now.parts.now + 3)
 
 abbrev pub decreases-gather_all : goal.decreases-gather_all
-decreases-gather_all l = cost l.scope.now.content.now l.scope.now.uses + (weights l.yields.now.items.now + part_weights l.yields.now.parts.now + gen_weights l.gens.now + 4)
+decreases-gather_all l = cost l.scope.now.content.now l.scope.now.uses + (weights l.yields.now.items.now + part_weights l.yields.now.parts.now + gen_weights l.gens.now + 5)
+
+abbrev pub decreases-gather_each : goal.decreases-gather_each
+decreases-gather_each l = cost l.scope.now.content.now l.scope.now.uses + (weights l.yields.now.items.now + part_weights l.yields.now.parts.now + gen_weights l.gens.now + 4)
+
+abbrev pub decreases-gather_once : goal.decreases-gather_once
+decreases-gather_once l = cost l.scope.now.content.now l.scope.now.uses + (weights l.yields.now.items.now + part_weights l.yields.now.parts.now + gen_weights l.gens.now + 4)
 
 abbrev pub decreases-find_binding : goal.decreases-find_binding
 decreases-find_binding l = cost l.scope.now.content.now l.scope.now.uses + (gen_weights l.gens.now + 3)
@@ -141,13 +147,26 @@ abbrev pub decreases-find_binding-steps : goal.decreases-find_binding-steps
 decreases-find_binding-steps l = size (course l.scope.content.now l.scope.uses l.gens l.names l.walk)
 
 -- the bindings that are left are still to be gathered
-abbrev pub invariant-gather_all-bindings : goal.invariant-gather_all-bindings
-invariant-gather_all-bindings l = record {
+abbrev pub invariant-gather_each-bindings : goal.invariant-gather_each-bindings
+invariant-gather_each-bindings l = record {
   same :
       walk_worth l.scope.content.now l.scope.uses l.gens l.yields.items.now l.yields.parts.now (env_in l.names) (gathered_of l.fn.tally) ≡
       over_course (course l.scope.content.now l.scope.uses l.gens l.names l.walk) (one_more_binding l.scope.content.now l.scope.uses l.yields.items.now l.yields.parts.now) (gathered_of l.tally);
   under : IsUnder l.names.bound.now l.walk;
 }
 
-abbrev pub decreases-gather_all-bindings : goal.decreases-gather_all-bindings
-decreases-gather_all-bindings l = size (course l.scope.content.now l.scope.uses l.gens l.names l.walk)
+abbrev pub decreases-gather_each-bindings : goal.decreases-gather_each-bindings
+decreases-gather_each-bindings l = size (course l.scope.content.now l.scope.uses l.gens l.names l.walk)
+
+-- the bindings that are left are still to be counted: what each of them adds is there
+abbrev pub invariant-gather_once-bindings : goal.invariant-gather_once-bindings
+invariant-gather_once-bindings l = record {
+  same :
+      walk_worth l.scope.content.now l.scope.uses l.gens l.yields.items.now l.yields.parts.now (env_in l.names) (gathered_of l.fn.tally) ≡
+      over_course (course l.scope.content.now l.scope.uses l.gens l.names l.walk) (λ _. one_more_binding l.scope.content.now l.scope.uses l.yields.items.now l.yields.parts.now (env_in l.names)) (gathered_of l.tally);
+  under : IsUnder l.names.bound.now l.walk;
+  there : yielded l.scope.content.now l.scope.uses l.yields.items.now l.yields.parts.now (env_in l.names) l.tally.atoms ≡ Ok l.tally.atoms;
+}
+
+abbrev pub decreases-gather_once-bindings : goal.decreases-gather_once-bindings
+decreases-gather_once-bindings l = size (course l.scope.content.now l.scope.uses l.gens l.names l.walk)

@@ -1,39 +1,57 @@
-use Rattle.std.proofs.Common.{◌≡◌, ◌<◌, List, Some, length, refl, sym, subst}
-use Rattle.std.specs.Prelude.{slice_get, slice_index_or}
+use Rattle.std.proofs.Common.{◌≡◌, ◌<◌, List, Result, Ok, Err, Some, length, sym, subst, arith}
+use Rattle.std.specs.Prelude.{IfErr, slice_get, slice_index_or}
+use Rattle.std.specs.Result.{IsErrAnd}
 use Rattle.std.proofs.lemmas.Option.{slice_get-get_or}
-use Rattle.csp_steps.specs.declared.step.StepTo.{StepTo}
-use Rattle.term_pool.specs.Trees.{tree_at}
+use Rattle.csp_program.specs.declared.processes.Proc.{Proc}
+use Rattle.csp_steps.specs.Listed.{FaultIs}
+use Rattle.process_steps.specs.StepList.{steps_of}
 use Rattle.pool_parts.specs.declared.place.ProcId.{ProcId}
-use Rattle.local_tables.specs.Component.{component}
-use Rattle.local_tables.specs.Progress.{IsAt}
-use Rattle.local_tables.specs.Faults.{Lacks, valueless}
-use Rattle.local_tables.proofs.Lists.{map_at}
-use Rattle.local_tables.proofs.Results.{err_is, lacks_value}
-use Rattle.local_tables.proofs.Taking.{begin_at}
+use Rattle.term_pool.specs.Trees.{tree_at}
+use Rattle.value_operators.specs.declared.fault.EvalFault.{EvalFault}
+use Rattle.value_operators.specs.declared.fault.EvalFault.TheVariants as evaluation
+use Rattle.local_tables.specs.Component.{part_of}
+use Rattle.local_tables.specs.Faults.{Reaches, TaskLacks, valueless}
+use Rattle.local_tables.specs.Progress.{terms_at}
+use Rattle.local_tables.specs.declared.task.Task.{Task}
+use Rattle.local_tables.specs.declared.fault.Unexplored.{Unexplored}
+use Rattle.local_tables.proofs.Following.{begin_at, end_at, map_at}
+use Rattle.local_tables.proofs.Walking.{reached}
 use Rattle.local_tables.proofs.exploring.follow.Goals as goal
 
 -- the place of the term
 there : (read terms : List ProcId) (at : _) → read ≡ terms → at < length terms → slice_get terms at ≡ Some (slice_index_or read at (record { 0 = 0 }))
-there read terms at same inside = subst (λ (ids : List ProcId). slice_get terms at ≡ Some (slice_index_or ids at (record { 0 = 0 }))) (sym same) (slice_get-get_or terms at (record { 0 = 0 }) inside)
+there read terms at same inside =
+    subst (λ (ids : List ProcId). slice_get terms at ≡ Some (slice_index_or ids at (record { 0 = 0 }))) (sym same) (slice_get-get_or terms at (record { 0 = 0 }) inside)
+
+-- a fault of an evaluation
+lacks_value : {A : Type 0} (task : Task) (x : Proc) (r : Result A EvalFault) (f : EvalFault) → r ≡ Err f → Reaches task.program.now (part_of task) x
+    → FaultIs r (steps_of task.program.now x) → TaskLacks task (valueless f)
+lacks_value task x r evaluation.NoMemory is reached told = tt
+lacks_value {A} task x r (evaluation.Value reason) is reached told =
+    record { term = x; reached = reached; none = subst (λ (z : Result A EvalFault). FaultIs z (steps_of task.program.now x)) is told }
+
+told : {T : Type 0} (r : Result T Unexplored) (e : Unexplored) (task : Task) → IsErrAnd r (λ z. z ≡ e) → TaskLacks task e → IfErr r (TaskLacks task)
+told (Ok x) e task is h = tt
+told (Err z) e task is h = subst (TaskLacks task) (sym is) h
 
 pub returns-in_err-steps-clause-fault : goal.returns-in_err-steps-clause-fault
 returns-in_err-steps-clause-fault c =
-    let p = c.args.task.now.program.now in
-    let d = component c.args.task.now.alphabet.now c.args.task.now.start.now in
-    let room = c.args.task.now.room in
+    let task = c.args.task.now in
     let found = c.args.found.now in
+    let trees = c.args.terms.now.pool in
     let id : ProcId = slice_index_or c.as_slice.result.now c.args.at (record { 0 = 0 }) in
-    let reached = c.requires.up_to.so_far.part.reached.reached c.args.at (tree_at found.pool id) (map_at (tree_at found.pool) found.terms c.args.at id (there c.as_slice.result.now found.terms c.args.at c.as_slice.ensures.value c.requires.here)) in
-    err_is c.from_residual.result (valueless c.in_err-steps.field-0.0) (Lacks p d room) c.from_residual.ensures.1 (lacks_value p d room (tree_at found.pool id) c.steps_in.result c.in_err-steps.field-0.0 c.in_err-steps.was reached c.steps_in.ensures.fault)
+    let here = map_at (tree_at trees) found.terms c.args.at id (there c.as_slice.result.now found.terms c.args.at c.as_slice.ensures.value c.requires.here) in
+    told c.from_residual.result (valueless c.in_err-steps.field-0.0) task c.from_residual.ensures.1
+    (lacks_value task (tree_at trees id) c.steps_in.result c.in_err-steps.field-0.0 c.in_err-steps.was
+    (reached task (terms_at trees found.terms) found.origins c.requires.up_to.found.led c.args.at (tree_at trees id) here) c.steps_in.ensures.fault)
 
-pub take_all-requires : goal.take_all-requires
-take_all-requires c =
-    let p = c.args.task.now.program.now in
-    let d = component c.args.task.now.alphabet.now c.args.task.now.start.now in
+pub loop-place-init : goal.loop-place-init
+loop-place-init c =
     let found = c.args.found.now in
-    let id : ProcId = slice_index_or c.as_slice.result.now c.args.at (record { 0 = 0 }) in
-    record {
-      at = subst (λ (steps : List StepTo). IsAt p d c.args.task.now.room (record found { pool = c.steps_in.new.pool }) c.args.at steps 0) (sym c.as_slice-2.ensures)
-          (begin_at p d c.args.task.now.room found (record found { pool = c.steps_in.new.pool }) c.args.at c.in_ok-steps.steps id c.requires.up_to c.in_ok-steps.ensures.front refl refl refl refl
-          (there c.as_slice.result.now found.terms c.args.at c.as_slice.ensures.value c.requires.here) c.in_ok-steps.ensures.steps);
-    }
+    begin_at c.args.task.now c.args.terms.now.pool c.steps_in.new.pool found c.args.at c.in_ok-steps.steps (slice_index_or c.as_slice.result.now c.args.at (record { 0 = 0 })) c.requires.up_to
+    c.in_ok-steps.ensures.front (there c.as_slice.result.now found.terms c.args.at c.as_slice.ensures.value c.requires.here) c.in_ok-steps.ensures.steps
+
+pub returns-clause-up_to : goal.returns-clause-up_to
+returns-clause-up_to c =
+    end_at c.args.task.now c.steps_in.new.pool c.loop-place.found c.args.at c.in_ok-steps.steps c.loop-place.place c.loop-place.invariant
+    (omega (arith, c.len-place-end.ensures, c.loop-place-test.false))

@@ -1,33 +1,29 @@
-use Rattle.std.proofs.Common.{refl}
-use Rattle.local_tables.specs.Component.{component}
-use Rattle.local_tables.specs.Progress.{label_of, terms_at}
-use Rattle.local_tables.specs.declared.found.Found.{Found}
-use Rattle.local_tables.proofs.Taking.{has_more, so_far_led}
+use Rattle.std.proofs.Common.{◌+◌, slice_index_or}
+use Rattle.std.proofs.lemmas.Option.{slice_get-get_or}
+use Rattle.local_tables.proofs.Following.{some_shallow, tabled, taken_led}
 use Rattle.local_tables.proofs.exploring.lead.Goals as goal
 
-pub returns-then-passes-clause-fault : goal.returns-then-passes-clause-fault
-returns-then-passes-clause-fault c =
-    let p = c.args.task.now.program.now in
-    let d = component c.args.task.now.alphabet.now c.args.task.now.start.now in
-    let mid = c.term_number.new.found in
-    let found = so_far_led p d c.args.found.now mid c.args.from (label_of c.args.event) c.args.to c.in_ok-number.ensures.more c.requires.step c.in_ok-number.number c.in_ok-number.ensures.number c.add_step.new.table c.requires.so_far c.in_ok-number.ensures.so_far c.requires.new c.in_ok-add_step.ensures in
+pub check-requires-clause-tabled : goal.check-requires-clause-tabled
+check-requires-clause-tabled c =
+    let s = slice_index_or c.args.steps.now c.args.place c.index-steps-place.result in
+    let here = slice_get-get_or c.args.steps.now c.args.place c.index-steps-place.result c.requires.inside in
+    tabled c.args.task.now c.args.pool.now (record c.term_number.new.found { table = c.add_step.new.table }) c.args.at c.args.steps.now (c.args.place + 1)
+    (taken_led c.args.task.now c.args.pool.now c.args.found.now c.args.at c.args.steps.now c.args.place c.requires.at.taken s here c.args.event (c.requires.label s here) c.requires.event
+    c.term_number.new.found c.in_ok-number.ensures.found c.add_step.new.table c.in_ok-number.number c.in_ok-add_step.ensures c.in_ok-number.ensures.number)
+
+pub check-requires-clause-others : goal.check-requires-clause-others
+check-requires-clause-others c =
+    let s = slice_index_or c.args.steps.now c.args.place c.index-steps-place.result in
+    let here = slice_get-get_or c.args.steps.now c.args.place c.index-steps-place.result c.requires.inside in
+    some_shallow c.args.task.now c.args.pool.now c.args.found.now c.args.at c.args.steps.now c.args.place c.requires.at.taken s here c.args.event (c.requires.label s here) c.requires.event
+    c.term_number.new.found c.in_ok-number.ensures.found c.args.task.now.room c.requires.at.within
+
+pub returns-clause-at : goal.returns-clause-at
+returns-clause-at c =
+    let s = slice_index_or c.args.steps.now c.args.place c.index-steps-place.result in
+    let here = slice_get-get_or c.args.steps.now c.args.place c.index-steps-place.result c.requires.inside in
     record {
-      terms = terms_at mid.pool mid.terms;
-      raw = c.add_step.new.table;
-      are = found.part.reached;
-      steps = found.part.steps;
-      many = c.passes.ensures.0 c.if-passes.true;
+      taken = taken_led c.args.task.now c.args.pool.now c.args.found.now c.args.at c.args.steps.now c.args.place c.requires.at.taken s here c.args.event (c.requires.label s here) c.requires.event
+          c.term_number.new.found c.in_ok-number.ensures.found c.add_step.new.table c.in_ok-number.number c.in_ok-add_step.ensures c.in_ok-number.ensures.number;
+      within = c.in_ok-check.ensures.within;
     }
-
-pub returns-clause-more : goal.returns-clause-more
-returns-clause-more c =
-    let p = c.args.task.now.program.now in
-    let d = component c.args.task.now.alphabet.now c.args.task.now.start.now in
-    let new : Found = record c.term_number.new.found { table = c.add_step.new.table } in
-    has_more p d c.args.found.now c.term_number.new.found c.args.from (label_of c.args.event) c.args.to c.in_ok-number.ensures.more c.requires.step c.in_ok-number.number c.in_ok-number.ensures.number new refl refl c.in_ok-add_step.ensures
-
-pub returns-clause-so_far : goal.returns-clause-so_far
-returns-clause-so_far c =
-    let p = c.args.task.now.program.now in
-    let d = component c.args.task.now.alphabet.now c.args.task.now.start.now in
-    so_far_led p d c.args.found.now c.term_number.new.found c.args.from (label_of c.args.event) c.args.to c.in_ok-number.ensures.more c.requires.step c.in_ok-number.number c.in_ok-number.ensures.number c.add_step.new.table c.requires.so_far c.in_ok-number.ensures.so_far c.requires.new c.in_ok-add_step.ensures

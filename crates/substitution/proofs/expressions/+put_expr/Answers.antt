@@ -1,4 +1,4 @@
-use Rattle.std.proofs.Common.{◌+◌, drop, map, refl, arith, rules}
+use Rattle.std.proofs.Common.{map, refl, arith, rules}
 use Rattle.csp_program.specs.Substitution.{expr_with, given_by}
 use Rattle.csp_base.proofs.Results.{pushed}
 use Rattle.substitution.proofs.Forms.{expr_with-Call, expr_with-Event, expr_with-Display, expr_with-Comp, expr_with-Product}

@@ -42,17 +42,8 @@ decreases-replace_parts l = 4 * goal.size-replace_parts l + 2
 abbrev pub decreases-replace_two : goal.decreases-replace_two
 decreases-replace_two l = 4 * (max (the_size l.a.now) (the_size l.b.now)) + 2
 
-abbrev pub decreases-binary : goal.decreases-binary
-decreases-binary l = 4 * (max (the_size l.a.now) (the_size l.b.now)) + 3
-
 abbrev pub decreases-choice : goal.decreases-choice
 decreases-choice l = 4 * (max (the_size l.c.now) (max (the_size l.a.now) (the_size l.b.now))) + 3
-
-abbrev pub decreases-range : goal.decreases-range
-decreases-range l = 4 * (max (the_size l.a.now) (the_size l.b.now)) + 3
-
-abbrev pub decreases-set_operation : goal.decreases-set_operation
-decreases-set_operation l = 4 * (max (the_size l.a.now) (the_size l.b.now)) + 3
 
 abbrev pub decreases-comprehension : goal.decreases-comprehension
 decreases-comprehension l = 4 * max (goal.size-comprehension l) (weighed.most (λ x. generator.the_size x) l.gens.now) + 3

@@ -14,10 +14,12 @@ put_proc-returns-in-Internal t c = rw (c.in-Internal.is, proc_with-Internal) (se
 pub put_proc-returns-in-Call : goal.put_proc-returns-in-Call
 put_proc-returns-in-Call t c = rw (c.in-Call.is, proc_with-Call) (search rules)
 
-pub replace_under-returns : goal.replace_under-returns
-replace_under-returns t c = c.in_ok-p.ensures ∙ ap (λ (given : Given). proc_with given c.args.p.now) c.in_ok-here.ensures
-
 pub prefix-returns : goal.prefix-returns
 prefix-returns t c =
     if_map c.put_head.result _ c.map.result (λ head. proc.Prefix head c.in_ok-fields.fields c.in_ok-fields.p) _ _ c.map.ensures.cases (λ x y r. search rules)
-    (λ head is i. proc.Prefix (is i) (c.in_ok-fields.ensures.0 i) (c.in_ok-fields.ensures.1 i)) c.put_head.ensures
+    (λ head is i. proc.Prefix (is i) (c.in_ok-fields.ensures.fields i) (c.in_ok-fields.ensures.process i)) c.put_head.ensures
+
+pub replicated-returns-clause-process : goal.replicated-returns-clause-process
+replicated-returns-clause-process t c =
+    if_map c.put_expr.result _ c.map.result (λ set. (set, c.in_ok-p.p)) _ _ c.map.ensures.cases (λ x y r. search rules)
+    (λ set is. c.in_ok-p.ensures ∙ ap (λ (given : Given). proc_with given c.args.p.now) c.in_ok-here.ensures) c.put_expr.ensures

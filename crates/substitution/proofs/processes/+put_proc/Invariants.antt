@@ -14,9 +14,6 @@ decreases-put_proc l = 4 * the_size l.proc.now
 abbrev pub decreases-replace_boxed_proc : goal.decreases-replace_boxed_proc
 decreases-replace_boxed_proc l = 4 * the_size l.proc.now + 1
 
-abbrev pub decreases-replace_under : goal.decreases-replace_under
-decreases-replace_under l = 4 * the_size l.p.now + 2
-
 abbrev pub decreases-replace_after : goal.decreases-replace_after
 decreases-replace_after l = 4 * the_size l.p.now + 2
 
@@ -29,11 +26,8 @@ decreases-prefix l = 4 * the_size l.p.now + 3
 abbrev pub decreases-guard : goal.decreases-guard
 decreases-guard l = 4 * the_size l.p.now + 3
 
-abbrev pub decreases-each_external : goal.decreases-each_external
-decreases-each_external l = 4 * the_size l.p.now + 3
-
-abbrev pub decreases-each_internal : goal.decreases-each_internal
-decreases-each_internal l = 4 * the_size l.p.now + 3
+abbrev pub decreases-replicated : goal.decreases-replicated
+decreases-replicated l = 4 * the_size l.p.now + 3
 
 abbrev pub decreases-hiding : goal.decreases-hiding
 decreases-hiding l = 4 * the_size l.p.now + 3
@@ -43,9 +37,6 @@ decreases-renaming l = 4 * the_size l.p.now + 3
 
 abbrev pub decreases-choice : goal.decreases-choice
 decreases-choice l = 4 * max (the_size l.p.now) (the_size l.q.now) + 3
-
-abbrev pub decreases-sequence : goal.decreases-sequence
-decreases-sequence l = 4 * max (the_size l.p.now) (the_size l.q.now) + 3
 
 abbrev pub decreases-replace_two : goal.decreases-replace_two
 decreases-replace_two l = 4 * max (the_size l.p.now) (the_size l.q.now) + 2

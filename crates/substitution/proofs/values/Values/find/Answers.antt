@@ -14,8 +14,11 @@ returns-in-Some c =
 
 pub returns-in-Some-find_listed : goal.returns-in-Some-find_listed
 returns-in-Some-find_listed c =
-    rw (when_open c.self.inside.hidden _ _ c.args.self.now c.self.view_is c.as_slice.ensures c.args.name c.contains.result c.contains.ensures.value c.if-contains.false,
-    c.in_default.ensures (bound_to c.self.inside.names.now c.self.inside.values.now), sym c.in-Some-find_listed.ensures) (search rules)
+    rw (
+      when_open c.self.inside.hidden _ _ c.args.self.now c.self.view_is c.as_slice.ensures c.args.name c.contains.result c.contains.ensures.value c.if-contains.false,
+      c.in_default.ensures (bound_to c.self.inside.names.now c.self.inside.values.now),
+      sym c.in-Some-find_listed.ensures,
+    ) (search rules)
 
 pub returns-in-None : goal.returns-in-None
 returns-in-None c =

@@ -1,0 +1,17 @@
+use Rattle.std.proofs.Common.{List, map, take}
+use Rattle.csp_program.specs.declared.programs.Content.{Content}
+use Rattle.term_pool.specs.Pooled.{IsFront}
+use Rattle.term_pool.specs.Trees.{tree_at}
+use Rattle.csp_steps.specs.Computed.{AreMoves}
+use Rattle.csp_steps.specs.Effect.{all_moves, effect_as}
+use Rattle.csp_steps.specs.Evaluated.{AreNoted, IsNumbered}
+use Rattle.csp_steps.specs.Listed.{seen}
+use Rattle.csp_steps.specs.declared.operator.Operator.{Operator}
+use Rattle.csp_steps.proofs.around.made_of.Given as goal
+
+abbrev pub invariant-loop-step : goal.invariant-loop-step
+invariant-loop-step l = record {
+  front : IsFront l.initial.pool l.pool;
+  moves : AreMoves l.pool l.steps (all_moves (effect_as l.initial.pool l.round.operator.now) (tree_at l.initial.pool l.round.id) (map (seen l.initial.pool) (take l.step-index l.below)));
+  noted : (p : Content) (operators : List Operator) → IsNumbered p l.initial.pool operators l.round → AreNoted p l.initial.pool operators l.initial.places → AreNoted p l.pool operators l.places;
+}

@@ -1,0 +1,7 @@
+use Rattle.std.specs.List.{AllWithin}
+use Rattle.csp_values.specs.Stays.{Stays}
+use Rattle.csp_values.proofs.reads.+reads.Given as goal
+
+-- the expressions that were passed stay
+abbrev pub invariant-any_reads-loop-expr : goal.invariant-any_reads-loop-expr
+invariant-any_reads-loop-expr l = AllWithin (Stays l.gens) l.exprs 0 l.expr-index

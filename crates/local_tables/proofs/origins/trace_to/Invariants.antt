@@ -1,0 +1,15 @@
+use Rattle.std.proofs.Common.{◌≤◌, ◌++◌, ℕ, List, length, reverse}
+use Rattle.csp_program.specs.declared.processes.Proc.{Proc}
+use Rattle.local_tables.specs.Progress.{AreLed, LeadsToTerm}
+use Rattle.local_tables.specs.declared.task.Task.{Task}
+use Rattle.local_tables.proofs.origins.trace_to.Given as goal
+
+abbrev pub invariant-loop-at : goal.invariant-loop-at
+invariant-loop-at l = record {
+  within : l.at ≤ length l.origins;
+  leads : (task : Task) (terms : List Proc) → AreLed task terms l.origins → (s : List ℕ) → LeadsToTerm task terms s l.at
+      → LeadsToTerm task terms (s ++ reverse l.events.items) l.number;
+}
+
+abbrev pub decreases-loop-at : goal.decreases-loop-at
+decreases-loop-at l = l.at

@@ -1,0 +1,18 @@
+-- The names of a scope, and what the evaluator says of expressions under them.
+use Rattle.std.proofs.Common.{◌≡◌, ℕ, Ok, List, [], ◌∷◌, ◌++◌, refl, ap, append-nil}
+use Rattle.csp_atoms.specs.declared.atom.Atom.{Atom}
+use Rattle.csp_program.specs.Environments.{with_bound}
+use Rattle.csp_program.specs.Outcome.{and_then}
+use Rattle.csp_program.specs.Value.{Env, value_within}
+use Rattle.csp_program.specs.declared.expressions.Expr.{Expr}
+use Rattle.csp_program.specs.declared.programs.Content.{Content}
+use Rattle.csp_values.specs.Worth.{worths}
+use Rattle.process_steps.specs.Needed.{all_outcomes}
+
+pub none_placed : (bound : List (ℕ × Atom)) (env : Env) → with_bound bound (env ++ []) ≡ with_bound bound env
+none_placed bound env = ap (with_bound bound) (append-nil env)
+
+pub arguments_worth : (p : Content) (n : ℕ) (env : Env) (args : List Expr) → worths p n env args ≡ all_outcomes (λ e. value_within p n e env) args
+unfolding worths
+arguments_worth p n env [] = refl
+arguments_worth p n env (arg ∷ args) = ap (λ o. and_then (value_within p n arg env) (λ v. and_then o (λ vs. Ok (v ∷ vs)))) (arguments_worth p n env args)

@@ -1,0 +1,13 @@
+use Rattle.std.proofs.Common.{ap, length, subst, ◌∙◌}
+use Rattle.csp_program.specs.Value.{Env}
+use Rattle.csp_values.specs.Worth.{worths}
+use Rattle.network_layout.specs.Lays.{names_of}
+use Rattle.network_layout.proofs.Names.{arguments_worth}
+use Rattle.value_operators.specs.Gives.{Gives}
+use Rattle.network_layout.proofs.values.arguments.Goals as goal
+
+pub returns : goal.returns
+returns c =
+    subst (Gives c.eval_all_with.result)
+    (ap (λ (env : Env). worths c.args.scope.now.program.now (length c.args.scope.now.program.now.defs) env c.args.exprs.now) c.names.ensures ∙
+    arguments_worth c.args.scope.now.program.now (length c.args.scope.now.program.now.defs) (names_of c.args.scope.now) c.args.exprs.now) c.eval_all_with.ensures

@@ -1,0 +1,16 @@
+use Rattle.std.proofs.Common.{◌≡◌, ◌++◌, ◌∷◌, [], ℕ, List, get_or, set, ap, sym, subst, rules, ◌∙◌}
+use Rattle.std.proofs.lemmas.List.{get_or_read}
+use Rattle.csp_base.specs.Events.{with_member}
+use Rattle.observed_runs.specs.Marks.{AreMarked}
+use Rattle.observed_runs.proofs.Marking.{one_more}
+use Rattle.observed_runs.proofs.pairs.Pairs.insert.Goals as goal
+
+pub invariant_of-self-2 : goal.invariant_of-self-2
+invariant_of-self-2 c =
+    let old = c.self.inside in
+    let pairs : c.push.new.self.items ≡ c.self.inside.pairs.items ++ c.args.pair ∷ [] = search rules in
+    let marks : c.insert.new.self ≡ with_member c.args.pair.1 (get_or c.make_room.new.seen.items c.args.pair.0 []) =
+    c.in_ok-insert.ensures.ok ∙ ap (with_member c.args.pair.1) (get_or_read c.make_room.new.seen.items c.args.pair.0 c.index_mut.result.now c.in_ok-make_room.ensures.room c.index_mut.ensures.value []) in
+    subst (λ (ps : List (ℕ × ℕ)). AreMarked ps (set c.make_room.new.seen.items c.args.pair.0 c.insert.new.self)) (sym pairs)
+    (subst (λ (seconds : List ℕ). AreMarked (old.pairs.items ++ c.args.pair ∷ []) (set c.make_room.new.seen.items c.args.pair.0 seconds)) (sym marks)
+    (one_more c.make_room.new.seen.items c.args.pair c.in_ok-make_room.ensures.room old.pairs.items old.seen.items c.self.invariant (search rules) c.make_room.ensures.same))
