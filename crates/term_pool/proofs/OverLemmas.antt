@@ -1,9 +1,9 @@
 -- The layer of a process over places where its sub-processes stand stands for the process.
-use Rattle.std.proofs.Common.{◌≡◌, ℕ, List, [], ◌∷◌, map, length, refl, ap, sym, ◌∙◌}
+use Rattle.std.proofs.Common.{◌≡◌, List, [], ◌∷◌, map, length, refl, ap, ◌∙◌}
 use Rattle.csp_program.specs.declared.processes.Proc.{Proc}
 use Rattle.csp_program.specs.declared.processes.Proc.TheOpen.{Proc-F}
 use Rattle.csp_program.specs.declared.processes.Proc.TheVariants as proc
-use Rattle.csp_program.specs.declared.processes.Proc.TheViews.{out-Proc, out-roll-Proc, roll-Proc, roll-out-Proc}
+use Rattle.csp_program.specs.declared.processes.Proc.TheViews.{out-Proc, roll-Proc, roll-out-Proc}
 use Rattle.pool_parts.specs.declared.place.ProcId.{ProcId}
 use Rattle.term_pool.proofs.NodeLemmas.{mapped, rolls}
 use Rattle.term_pool.proofs.PutLemmas.{stand_below, stand_trees}

@@ -1,5 +1,5 @@
 -- Values put into the processes of a pool: layer by layer, with what stands at the places.
-use Rattle.std.specs.Prelude.{◌≡◌, ℕ, true, nat_eq, Some, None, Option, List, map, slice_get}
+use Rattle.std.specs.Prelude.{◌≡◌, ℕ, nat_eq, Some, None, Option, List, map, slice_get}
 use Rattle.std.specs.HashMap.{HashMap, get}
 use Rattle.csp_program.specs.Substitution.{after_all, expr_with, fields_with, gens_with, given_by, head_with, pair_with, past, proc_with, without, Given}
 use Rattle.csp_program.specs.Value.{Env}

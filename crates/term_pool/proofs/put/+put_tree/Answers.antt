@@ -1,5 +1,5 @@
 -- A whole process is put: first its sub-processes, and then the node over them.
-use Rattle.std.proofs.Common.{◌≡◌, ◌+◌, List, [], ◌∷◌, Some, take, slice_get, sym, ap, ◌∙◌, subst}
+use Rattle.std.proofs.Common.{◌≡◌, ◌+◌, List, [], ◌∷◌, Some, take, slice_get, sym, subst}
 use Rattle.std.specs.Prelude.{IfOk}
 use Rattle.csp_program.specs.declared.processes.Proc.{Proc}
 use Rattle.pool_parts.specs.declared.place.ProcId.{ProcId}

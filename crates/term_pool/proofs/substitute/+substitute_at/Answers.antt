@@ -1,5 +1,5 @@
 -- What a process becomes: from its own parts, and from what its sub-processes became.
-use Rattle.std.proofs.Common.{◌≡◌, ℕ, ◌+◌, nat_eq, List, Some, map, take, slice_get, ap, sym, ◌∙◌, subst, arith}
+use Rattle.std.proofs.Common.{◌≡◌, ℕ, ◌+◌, nat_eq, List, Some, take, slice_get, ap, sym, ◌∙◌, subst, arith}
 use Rattle.std.specs.Map.{lookup}
 use Rattle.std.specs.Prelude.{IfOk}
 use Rattle.std.proofs.lemmas.Option.{slice_get-get_or}

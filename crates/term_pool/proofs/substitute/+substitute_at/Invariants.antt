@@ -1,8 +1,7 @@
-use Rattle.std.proofs.Common.{◌+◌, ◌*◌, map, take}
+use Rattle.std.proofs.Common.{◌+◌, ◌*◌, take}
 use Rattle.csp_program.specs.Substitution.{given_by}
 use Rattle.term_pool.specs.Put.{Grows, StandAt}
 use Rattle.term_pool.specs.Substituted.{all_with, AreMade}
-use Rattle.term_pool.specs.Trees.{tree_at}
 use Rattle.term_pool.proofs.substitute.+substitute_at.Given as goal
 
 -- each call goes to a smaller place, or to a later function at the same one
