@@ -1,3 +1,2 @@
 pub mod LowLemmas
-pub mod MeasureLaws
 pub mod StoreLemmas

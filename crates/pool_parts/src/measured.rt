@@ -36,8 +36,11 @@ pub fn of_expr(expr: &Expr) -> Measure
 
 // What the parts of an expression measure together.
 #[cycle(of_expr)]
+#[tactic(auto, using(csp_program::specs::declared::expressions::Expr::the_lemmas))]
 fn of_parts_of_expr(expr: &Expr) -> Measure
-    ensures { (capped (1 + result.depth) ≡ capped (expr_depth expr.now)) × (capped (1 + result.size) ≡ capped (expr_size expr.now)) × IsLow result.least (expr_free expr.now) }
+    ensures depth { capped (1 + result.depth) ≡ capped (expr_depth expr.now) }
+    ensures size { capped (1 + result.size) ≡ capped (expr_size expr.now) }
+    ensures low { IsLow result.least (expr_free expr.now) }
 {
     match expr {
         Expr::Num(_) => nothing(),
@@ -105,7 +108,7 @@ pub fn of_exprs(exprs: &[Expr]) -> Measure
 }
 
 #[cycle(of_expr)]
-#[tactic(auto, using(crate::proofs::MeasureLaws::gen_measures))]
+#[tactic(auto, using(csp_program::specs::declared::expressions::Gen::the_lemmas))]
 fn of_gen(generator: &Gen) -> Measure
     ensures depth { result.depth ≡ capped (gen_depth generator.now) }
     ensures size { result.size ≡ capped (gen_size generator.now) }
@@ -132,7 +135,7 @@ pub fn of_gens(gens: &[Gen]) -> Measure
 }
 
 #[cycle(of_expr)]
-#[tactic(auto, using(crate::proofs::MeasureLaws::part_measures))]
+#[tactic(auto, using(csp_program::specs::declared::expressions::EventPart::the_lemmas))]
 fn of_part(part: &EventPart) -> Measure
     ensures depth { result.depth ≡ capped (part_depth part.now) }
     ensures size { result.size ≡ capped (part_size part.now) }

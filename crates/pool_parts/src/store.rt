@@ -92,7 +92,7 @@ impl<T: Part> Store<T> {
     /// The part with the number `place`.
     pub fn get(&self, place: usize) -> &T
         requires { place < length self.now }
-        ensures { (other : T) → result.now ≡ slice_index_or self.now place other }
+        ensures { (other : T) → slice_index_or self.now place other ≡ result.now }
     {
         &self.as_slice()[place]
     }
@@ -100,8 +100,8 @@ impl<T: Part> Store<T> {
     /// What the part with the number `place` measures.
     pub fn measure(&self, place: usize) -> Measure
         requires { place < length self.now }
-        ensures depth { (other : T) → result.depth ≡ capped (T.depth (slice_index_or self.now place other)) }
-        ensures size { (other : T) → result.size ≡ capped (T.size (slice_index_or self.now place other)) }
+        ensures depth { (other : T) → capped (T.depth (slice_index_or self.now place other)) ≡ result.depth }
+        ensures size { (other : T) → capped (T.size (slice_index_or self.now place other)) ≡ result.size }
         ensures low { (other : T) → IsLow result.least (T.free (slice_index_or self.now place other)) }
     {
         note_at(&self.parts, &self.notes, place)

@@ -3,7 +3,7 @@ use Rattle.std.proofs.Common.{◌≡◌, ℕ, ◌<◌, Some, List, [], length, g
 use Rattle.std.proofs.lemmas.Option.{slice_get_within, slice_get-get_or, get_or_from_slice_get}
 use Rattle.csp_program.specs.declared.expressions.Expr.TheVariants as expr
 use Rattle.csp_program.specs.declared.processes.Head.TheVariants as head
-use Rattle.term_pool.specs.Entries.{head_at, fields_at, expr_at, arguments_at, pairs_at, gens_at, choice_at, entry_layer, ArePartsOnce, Fits, HasParts, PartsStart, StandsAs}
+use Rattle.term_pool.specs.Entries.{head_at, fields_at, expr_at, arguments_at, pairs_at, gens_at, choice_at, entry_layer, ArePartsOnce, Fits, HasParts, PartsStart}
 use Rattle.term_pool.specs.Layers.{Layer}
 use Rattle.pool_parts.specs.Stored.{IsStart}
 use Rattle.term_pool.specs.declared.entry.Entry.{Entry}
@@ -141,5 +141,5 @@ module _ (parts : OwnParts) where
   has_own (entry.Call d args) h = (args, slice_get-get_or parts.arguments args [] h)
   has_own _ h = tt
 
-  pub has_parts : (e : Entry) (n : Layer) → StandsAs parts e n → HasParts parts n
-  has_parts e n h = subst (λ (m : Layer). HasParts parts m) h.is (has_own e h.fits)
+  pub has_parts : (e : Entry) (n : Layer) → Fits parts e → entry_layer parts e ≡ n → HasParts parts n
+  has_parts e n fits is = subst (λ (m : Layer). HasParts parts m) is (has_own e fits)

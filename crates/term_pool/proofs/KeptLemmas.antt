@@ -13,12 +13,11 @@ use Rattle.csp_program.specs.declared.processes.Proc.TheVariants as proc
 use Rattle.term_pool.proofs.EntryLemmas.{fits_more, layer_stays, same_entry, has_parts}
 use Rattle.term_pool.proofs.HeldLemmas.{held_push, is_known, places_fall, puts_known, puts_new, puts_none, tree_stands, trees_length, unknown_push}
 use Rattle.pool_parts.proofs.StoreLemmas.{is_absent}
-use Rattle.term_pool.specs.Entries.{entry_layer, layers, ArePartsOnce, Fits, HasParts, PartsStart, StandsAs}
+use Rattle.term_pool.specs.Entries.{entry_layer, layers, ArePartsOnce, Fits, HasParts, PartsStart}
 use Rattle.term_pool.specs.ExactEntry.{eq_entry}
 use Rattle.term_pool.specs.Held.{processes, IsHeld, IsKept, Puts}
 use Rattle.term_pool.specs.Layers.{Layer}
 use Rattle.term_pool.specs.Measured.{IsNodeMeasure, Measures}
-use Rattle.term_pool.specs.Moved.{moved}
 use Rattle.term_pool.specs.Pooled.{Has}
 use Rattle.pool_parts.specs.Stored.{IsAbsent}
 use Rattle.term_pool.specs.Trees.{layer_below, layer_tree, trees_of}
@@ -131,15 +130,15 @@ module _ (old new : OwnParts) (start : PartsStart old new) (es : List Entry) (ms
   pub puts_nothing : {E : Type 0} (r : Result ProcId E) → IsErr r → (t : Proc) → Puts (processes old es) (processes new es) r t
   puts_nothing r failed t = subst (λ (ts : List Proc). Puts (processes old es) ts r t) (sym processes_stay) (puts_none (processes old es) t r failed)
 
-  module _ (e : Entry) (n : Layer) (stands : StandsAs new e n) where
+  module _ (e : Entry) (n : Layer) (is : entry_layer new e ≡ n) where
     pub below_more : layer_below (length (processes old es)) n ≡ true → layer_below (length (processes new es)) (entry_layer new e) ≡ true
     below_more h =
         subst (λ (ts : List Proc). layer_below (length ts) (entry_layer new e) ≡ true) (sym processes_stay)
-        (subst (λ (m : Layer). layer_below (length (processes old es)) m ≡ true) (sym stands.is) h)
+        (subst (λ (m : Layer). layer_below (length (processes old es)) m ≡ true) (sym is) h)
 
     module _ (t : Proc) (tree : layer_tree (processes old es) n ≡ t) where
       tree_is : layer_tree (processes new es) (entry_layer new e) ≡ t
-      tree_is = ap (λ (ts : List Proc). layer_tree ts (entry_layer new e)) processes_stay ∙ (ap (λ (m : Layer). layer_tree (processes old es) m) stands.is ∙ tree)
+      tree_is = ap (λ (ts : List Proc). layer_tree ts (entry_layer new e)) processes_stay ∙ (ap (λ (m : Layer). layer_tree (processes old es) m) is ∙ tree)
 
       pub puts_as : {E : Type 0} (after : List Proc) (r : Result ProcId E) → Puts (processes new es) after r (layer_tree (processes new es) (entry_layer new e)) → Puts (processes old es) after r t
       puts_as after r h =
@@ -157,16 +156,12 @@ pub no_parts_no_process : (parts : OwnParts) (es : List Entry) (ms : List Measur
 no_parts_no_process parts es ms kept n below lacks has =
     let here = is_known (layers parts es) kept.held.smaller kept.held.distinct n (subst (λ (c : ℕ). layer_below c n ≡ true) (trees_length (layers parts es)) below) has in
     let e = entry_there parts es here.0 n here.1 in
-    lacks (has_parts parts e.0 n (record { fits = kept.fits here.0 e.0 e.1; is = e.2 }))
+    lacks (has_parts parts e.0 n (kept.fits here.0 e.0 e.1) e.2)
 
 -- what is so holds where nothing else is said
 pub on_err : {T E : Type 0} (r : Result T E) (P : Type 0) → P → OnErr r P
 on_err (Ok x) P p = tt
 on_err (Err e) P p = p
-
--- own parts first, and then places
-pub moved_as : (mid new : OwnParts) (e : Entry) (n : Layer) (ids : List ProcId) (d : Entry) → StandsAs mid e n → StandsAs new d (moved (entry_layer mid e) ids) → StandsAs new d (moved n ids)
-moved_as mid new e n ids d h g = record { fits = g.fits; is = g.is ∙ ap (λ (m : Layer). moved m ids) h.is }
 
 -- what was put at the end is taken out again
 pub taken_out : (all before after : List Entry) (e : Entry) (gone : Option Entry) → all ≡ before ++ e ∷ [] → MatchOption gone ((all ≡ []) × (after ≡ [])) (λ last. all ≡ after ++ last ∷ []) → after ≡ before

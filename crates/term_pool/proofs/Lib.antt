@@ -6,7 +6,6 @@ pub mod NodeLemmas
 pub mod NodeMeasures
 pub mod OverLemmas
 pub mod PutLemmas
-pub mod StandsLemmas
 pub mod SubstituteLemmas
 pub mod TreeLemmas
 pub mod ValuesLemmas

@@ -5,14 +5,15 @@ use Rattle.std.proofs.lemmas.List.{take_more}
 use Rattle.std.proofs.lemmas.Option.{slice_get-get_or}
 use Rattle.std.specs.Cmp.{first_so, second_so}
 use Rattle.csp_base.specs.Lists.{greatest, total}
-use Rattle.csp_program.specs.Depth.{proc_depth}
-use Rattle.csp_program.specs.Free.{Names, any_of, before, expr_free, gen_binding, head_free, nowhere, pair_free, proc_free, under}
-use Rattle.csp_program.specs.Size.{proc_size}
+use Rattle.csp_program.specs.Depth.{proc_depth, proc_depth_of_layer}
+use Rattle.csp_program.specs.Free.{Names, any_of, before, expr_free, gen_binding, head_free, nowhere, pair_free, proc_free, proc_free_of_layer, under}
+use Rattle.csp_program.specs.Size.{proc_size, proc_size_of_layer}
 use Rattle.csp_program.specs.declared.processes.Proc.{Proc}
+use Rattle.csp_program.specs.declared.processes.Proc.TheFolds.{fold-roll-Proc, map-Proc}
 use Rattle.csp_program.specs.declared.processes.Proc.TheOpen.{Proc-F}
 use Rattle.csp_program.specs.declared.processes.Proc.TheVariants as proc
+use Rattle.csp_program.specs.declared.processes.Proc.TheViews.{roll-Proc}
 use Rattle.pool_parts.proofs.LowLemmas.{before_split, low_either, low_of, lower, none_low, under_split}
-use Rattle.pool_parts.proofs.MeasureLaws as laws
 use Rattle.pool_parts.proofs.StoreLemmas.{noted_at}
 use Rattle.pool_parts.specs.Counting.{capped}
 use Rattle.pool_parts.specs.Low.{IsLow}
@@ -23,19 +24,36 @@ use Rattle.term_pool.specs.Layers.{Layer, layer_parts}
 use Rattle.term_pool.specs.Measured.{deepest_at, measure_at, own_depth, own_free, own_size, total_at, AreMeasured, IsLeastAt, IsNodeMeasure, Measures}
 use Rattle.term_pool.specs.Trees.{tree_at, layer_tree, all_below, layer_below}
 
-form_depth_of : (ts : List Proc) (n : Layer) → laws.proc_form_depth (layer_of ts n) ≡ 1 + max (own_depth n) (greatest (map proc_depth (map (tree_at ts) (layer_parts n))))
+abbrev proc_form_depth : Proc-F Proc → ℕ
+proc_form_depth d = proc_depth_of_layer (map-Proc Proc ℕ proc_depth d)
+
+abbrev proc_form_size : Proc-F Proc → ℕ
+proc_form_size d = proc_size_of_layer (map-Proc Proc ℕ proc_size d)
+
+abbrev proc_form_free : Proc-F Proc → Names
+proc_form_free d = proc_free_of_layer (map-Proc Proc Names proc_free d)
+
+-- a process that is of this form
+proc_measures : (p q : Proc) (d : Proc-F Proc) → p ≡ q → roll-Proc d ≡ q → (proc_depth p ≡ proc_form_depth d) × (proc_size p ≡ proc_form_size d) × (proc_free p ≡ proc_form_free d)
+proc_measures p q d is rolls = (
+  ap proc_depth (is ∙ sym rolls) ∙ fold-roll-Proc ℕ proc_depth_of_layer d,
+  ap proc_size (is ∙ sym rolls) ∙ fold-roll-Proc ℕ proc_size_of_layer d,
+  ap proc_free (is ∙ sym rolls) ∙ fold-roll-Proc Names proc_free_of_layer d,
+)
+
+form_depth_of : (ts : List Proc) (n : Layer) → proc_form_depth (layer_of ts n) ≡ 1 + max (own_depth n) (greatest (map proc_depth (map (tree_at ts) (layer_parts n))))
 form_depth_of ts Proc-F.Stop = omega arith
 form_depth_of ts _ = omega arith
 
-form_size_of : (ts : List Proc) (n : Layer) → laws.proc_form_size (layer_of ts n) ≡ 1 + (own_size n + total (map proc_size (map (tree_at ts) (layer_parts n))))
+form_size_of : (ts : List Proc) (n : Layer) → proc_form_size (layer_of ts n) ≡ 1 + (own_size n + total (map proc_size (map (tree_at ts) (layer_parts n))))
 form_size_of ts Proc-F.Stop = omega arith
 form_size_of ts _ = omega arith
 
 pub tree_depth : (ts : List Proc) (n : Layer) → proc_depth (layer_tree ts n) ≡ 1 + max (own_depth n) (greatest (map proc_depth (map (tree_at ts) (layer_parts n))))
-tree_depth ts n = (laws.proc_measures (layer_tree ts n) (layer_tree ts n) (layer_of ts n) refl (sym (rolls ts n))).0 ∙ form_depth_of ts n
+tree_depth ts n = (proc_measures (layer_tree ts n) (layer_tree ts n) (layer_of ts n) refl (sym (rolls ts n))).0 ∙ form_depth_of ts n
 
 pub tree_size : (ts : List Proc) (n : Layer) → proc_size (layer_tree ts n) ≡ 1 + (own_size n + total (map proc_size (map (tree_at ts) (layer_parts n))))
-tree_size ts n = (laws.proc_measures (layer_tree ts n) (layer_tree ts n) (layer_of ts n) refl (sym (rolls ts n))).1 ∙ form_size_of ts n
+tree_size ts n = (proc_measures (layer_tree ts n) (layer_tree ts n) (layer_of ts n) refl (sym (rolls ts n))).1 ∙ form_size_of ts n
 
 -- the names that are free in a node's process are read by its own parts or by its sub-processes
 own_first : (a p : Bool) → a || p ≡ true → (a ≡ true) ⊎ (p || false ≡ true)
@@ -91,7 +109,7 @@ least_more ms all new ids i other m h is at low =
 abbrev frees : List Proc → List ProcId → Names
 frees ts ids = any_of (map proc_free (map (tree_at ts) ids))
 
-form_split : (ts : List Proc) (n : Layer) (x : ℕ) → laws.proc_form_free (layer_of ts n) x ≡ true → (own_free n x ≡ true) ⊎ (frees ts (layer_parts n) x ≡ true)
+form_split : (ts : List Proc) (n : Layer) (x : ℕ) → proc_form_free (layer_of ts n) x ≡ true → (own_free n x ≡ true) ⊎ (frees ts (layer_parts n) x ≡ true)
 form_split ts (Proc-F.Prefix h fields p) x e = own_head (head_free h x) (before fields (proc_free (tree_at ts p)) x) (before fields nowhere x) (proc_free (tree_at ts p) x) (before_split fields (proc_free (tree_at ts p)) x) e
 form_split ts (Proc-F.Guard c p) x e = own_first (expr_free c x) (proc_free (tree_at ts p) x) e
 form_split ts (Proc-F.If c p q) x e = own_two (expr_free c x) (proc_free (tree_at ts p) x) (proc_free (tree_at ts q) x) e
@@ -135,6 +153,6 @@ module _ (ts : List Proc) (ms : List Measure) (are : AreMeasured ts ms) where
   node_measured n m h is = record {
     depth = let d = is.depth in omega (arith, d, tree_depth ts n, deepest_measured (layer_parts n) h);
     size = let s = is.size in omega (arith, s, tree_size ts n, total_measured (layer_parts n) h);
-    low = subst (λ (names : Names). IsLow m.least names) (sym (laws.proc_measures (layer_tree ts n) (layer_tree ts n) (layer_of ts n) refl (sym (rolls ts n))).2)
-        (low_of m.least (own_free n) (frees ts (layer_parts n)) (laws.proc_form_free (layer_of ts n)) (form_split ts n) is.own (low_measured m.least (layer_parts n) h is.places));
+    low = subst (λ (names : Names). IsLow m.least names) (sym (proc_measures (layer_tree ts n) (layer_tree ts n) (layer_of ts n) refl (sym (rolls ts n))).2)
+        (low_of m.least (own_free n) (frees ts (layer_parts n)) (proc_form_free (layer_of ts n)) (form_split ts n) is.own (low_measured m.least (layer_parts n) h is.places));
   }

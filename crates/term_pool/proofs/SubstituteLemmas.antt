@@ -3,14 +3,13 @@ use Rattle.std.proofs.Common.{◌≡◌, List, [], ◌∷◌, map, refl, ap, sym
 use Rattle.csp_program.specs.Substitution.{proc_with, Given}
 use Rattle.csp_program.specs.declared.processes.Proc.{Proc}
 use Rattle.csp_program.specs.declared.processes.Proc.TheOpen.{Proc-F}
-use Rattle.csp_program.specs.declared.processes.Proc.TheVariants as proc
 use Rattle.csp_program.specs.declared.processes.Proc.TheViews.{out-Proc, roll-Proc, out-roll-Proc}
 use Rattle.pool_parts.specs.declared.place.ProcId.{ProcId}
 use Rattle.substitution.proofs.Forms.{proc_form, proc_is}
 use Rattle.term_pool.proofs.NodeLemmas.{layer_of, rolls}
 use Rattle.term_pool.proofs.OverLemmas.{stands_form}
 use Rattle.term_pool.specs.Layers.{Layer, layer_parts}
-use Rattle.term_pool.specs.Moved.{moved, with_parts}
+use Rattle.term_pool.specs.Moved.{moved}
 use Rattle.term_pool.specs.Pooled.{parts}
 use Rattle.term_pool.specs.Put.{StandAt, StandsFor}
 use Rattle.term_pool.specs.Substituted.{all_with, left_below, own_with}

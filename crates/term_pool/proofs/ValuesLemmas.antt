@@ -1,7 +1,7 @@
 -- What the places of a pool become where values are put in, one place after another.
-use Rattle.std.proofs.Common.{◌≡◌, ℕ, zero, suc, ◌+◌, ◌<◌, Bool, true, false, cond, nat_lt, nat_eq, Some, None, Option, List, [], ◌∷◌, ◌++◌, map, length, slice_get, take, refl, ap, sym, ◌∙◌, subst, arith}
+use Rattle.std.proofs.Common.{◌≡◌, ℕ, zero, suc, ◌+◌, ◌<◌, Bool, true, false, cond, nat_lt, nat_eq, Some, None, Option, List, [], ◌∷◌, ◌++◌, length, slice_get, take, refl, ap, sym, ◌∙◌, subst, arith}
 use Rattle.std.proofs.lemmas.Bool.{eqb-true, ltb-true}
-use Rattle.std.proofs.lemmas.List.{map_more, nil_from_length, take-map}
+use Rattle.std.proofs.lemmas.List.{map_more, take-map}
 use Rattle.std.proofs.lemmas.Option.{slice_get-get_or, slice_get_within, get_or_from_slice_get}
 use Rattle.std.specs.Cmp.{first_so, second_so}
 use Rattle.std.specs.HashMap.{HashMap, get, IsEmpty, Updates}
@@ -13,14 +13,14 @@ use Rattle.pool_parts.specs.declared.place.ProcId.{ProcId}
 use Rattle.csp_program.specs.Substitution.{given_by, proc_with, Given}
 use Rattle.term_pool.proofs.PutLemmas as lemmas
 use Rattle.term_pool.proofs.SubstituteLemmas.{parts_layer, stands_layer}
-use Rattle.term_pool.specs.Layers.{Layer}
+use Rattle.term_pool.specs.Layers.{Layer, shown}
 use Rattle.term_pool.specs.Moved.{id_or, moved}
 use Rattle.term_pool.specs.Pooled.{Has, IsFront, parts}
 use Rattle.term_pool.specs.Put.{Grows, StandAt, StandsFor}
-use Rattle.term_pool.specs.Substituted.{all_with, left_below, own_with, AreMade, IsLeft, IsMade, IsUnder}
-use Rattle.term_pool.specs.Trees.{all_below, tree_at, layer_tree}
+use Rattle.term_pool.specs.Substituted.{all_with, left_below, own_with, AreMade, IsLeft, IsMade}
+use Rattle.term_pool.specs.Trees.{all_below, layer_tree, places, tree_at, tree_of}
+use Rattle.term_pool.specs.declared.node.Node.{Node}
 use Rattle.term_pool.specs.Within.{AddsOne}
-use Rattle.term_pool.specs.declared.under.Under.{Under}
 
 -- each of some places that are all smaller than b is
 item_below : (b : ℕ) (ids : List ProcId) (i : ℕ) → i < length ids → all_below b ids ≡ true → (id_or ids i).0 < b
@@ -36,18 +36,18 @@ module _ (given : Given) where
       stands_layer given trees n ids (subst (λ (t : Proc). StandAt trees ids (parts (proc_with given t))) (sym tree) h) in
       subst (λ (t : Proc). StandsFor trees (moved (own_with given n) ids) (proc_with given t)) tree stands
 
-  -- what stands below a place says of what its process becomes
-  module _ (trees : List Proc) (id : ProcId) (under : Under) (is : IsUnder given trees id under) where
-    -- with the values that are left there
-    pub under_with : (left : Given) → left ≡ left_below is.node given → (ids : List ProcId) → ids ≡ under.ids → all_with left trees ids ≡ parts (proc_with given (tree_at trees id))
-    under_with left e ids listed =
-        (λ i. all_with (e i) trees ((listed ∙ is.listed) i)) ∙ (sym (parts_layer given trees is.node) ∙ ap (λ (t : Proc). parts (proc_with given t)) is.tree)
+  -- what stands below the node at a place says of what its process becomes, with the values that are left there
+  module _ (trees : List Proc) (id : ProcId) (n : Node) (tree : tree_of trees n ≡ tree_at trees id) (xs ids : List ProcId) (read : xs ≡ ids) (listed : ids ≡ places n) where
+    under_with : (below : Given) → below ≡ left_below (shown n) given → all_with below trees xs ≡ parts (proc_with given (tree_at trees id))
+    under_with below e =
+        (λ i. all_with (e i) trees ((read ∙ listed) i)) ∙ (sym (parts_layer given trees (shown n)) ∙ ap (λ (t : Proc). parts (proc_with given t)) tree)
 
-    pub under_none : under.left ≡ None → (ids : List ProcId) → ids ≡ under.ids → all_with given trees ids ≡ parts (proc_with given (tree_at trees id))
-    under_none h = under_with given (sym (subst (λ (u : Option Env). IsLeft is.node given u) h is.free))
+    module _ (found : Option Env) (free : IsLeft (shown n) given found) where
+      pub under_none : found ≡ None → all_with given trees xs ≡ parts (proc_with given (tree_at trees id))
+      under_none is = under_with given (sym (subst (λ (u : Option Env). IsLeft (shown n) given u) is free))
 
-    pub under_some : (left : Env) → under.left ≡ Some left → (ids : List ProcId) → ids ≡ under.ids → all_with (given_by left) trees ids ≡ parts (proc_with given (tree_at trees id))
-    under_some left h = under_with (given_by left) (subst (λ (u : Option Env). IsLeft is.node given u) h is.free)
+      pub under_some : (left : Env) → found ≡ Some left → all_with (given_by left) trees xs ≡ parts (proc_with given (tree_at trees id))
+      under_some left is = under_with (given_by left) (subst (λ (u : Option Env). IsLeft (shown n) given u) is free)
 
   -- what has been made stays where the list grows
   pub still_made : (old new : List Proc) → IsFront old new → (q : ℕ) (made : ProcId) → IsMade given old q made → IsMade given new q made

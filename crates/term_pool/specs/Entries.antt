@@ -1,5 +1,5 @@
 -- How a pool keeps nodes: as entries, whose own parts are numbers in stores.
-use Rattle.std.specs.Prelude.{◌≡◌, ℕ, ◌<◌, List, [], length, map, slice_index_or}
+use Rattle.std.specs.Prelude.{ℕ, ◌<◌, List, [], length, map, slice_index_or}
 use Rattle.csp_program.specs.declared.expressions.EventPart.{EventPart}
 use Rattle.csp_program.specs.declared.expressions.Expr.{Expr}
 use Rattle.csp_program.specs.declared.expressions.Expr.TheVariants as expr
@@ -71,11 +71,6 @@ Fits parts (entry.Hide p s) = s < length parts.exprs
 Fits parts (entry.Rename p pairs gens) = (pairs < length parts.pairs) × (gens < length parts.gens)
 Fits parts (entry.Call d args) = args < length parts.arguments
 Fits parts other = Unit {0}
-
--- the entry stands for the layer
-pub record StandsAs (parts : OwnParts) (e : Entry) (n : Layer) : Type 0 where
-  pub fits : Fits parts e
-  pub is : entry_layer parts e ≡ n
 
 -- the own parts of a layer are kept
 abbrev pub HasParts : OwnParts → Layer → Type 0

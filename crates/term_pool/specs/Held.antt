@@ -1,5 +1,5 @@
 -- How a pool keeps its processes: as nodes, all different, whose places are smaller than their own, with the measure of each.
-use Rattle.std.specs.Prelude.{◌≡◌, ℕ, true, Some, List, map, slice_get, IfOk, OnErr, Result}
+use Rattle.std.specs.Prelude.{◌≡◌, ℕ, true, Some, List, slice_get, IfOk, OnErr, Result}
 use Rattle.csp_program.specs.declared.processes.Proc.{Proc}
 use Rattle.term_pool.specs.Entries.{layers, ArePartsOnce, Fits}
 use Rattle.term_pool.specs.Layers.{Layer}

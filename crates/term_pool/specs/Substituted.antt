@@ -1,14 +1,13 @@
 -- Values put into the processes of a pool: layer by layer, with what stands at the places.
-use Rattle.std.specs.Prelude.{◌≡◌, ℕ, true, nat_eq, Some, None, Option, List, map, slice_get}
+use Rattle.std.specs.Prelude.{◌≡◌, ℕ, nat_eq, Some, None, Option, List, map, slice_get}
 use Rattle.std.specs.HashMap.{HashMap, get}
 use Rattle.csp_program.specs.Substitution.{after_all, expr_with, fields_with, gens_with, given_by, head_with, pair_with, past, proc_with, without, Given}
 use Rattle.csp_program.specs.Value.{Env}
 use Rattle.csp_program.specs.declared.processes.Proc.{Proc}
 use Rattle.csp_program.specs.declared.processes.Proc.TheOpen.{Proc-F}
 use Rattle.pool_parts.specs.declared.place.ProcId.{ProcId}
-use Rattle.term_pool.specs.Layers.{Layer, layer_parts}
-use Rattle.term_pool.specs.Trees.{layer_below, layer_tree, tree_at}
-use Rattle.term_pool.specs.declared.under.Under.{Under}
+use Rattle.term_pool.specs.Layers.{Layer}
+use Rattle.term_pool.specs.Trees.{tree_at}
 
 -- the values that are left in the sub-processes of a layer: those of the names that it doesn't bind
 abbrev pub left_below : {A : Type 0} → Proc-F A → Given → Given
@@ -48,11 +47,3 @@ module _ (given : Given) where
 abbrev pub IsLeft : Layer → Given → Option Env → Type 0
 IsLeft n given None = left_below n given ≡ given
 IsLeft n given (Some left) = given_by left ≡ left_below n given
-
--- the places below the node at a place, and the values that are left there
-pub record IsUnder (given : Given) (trees : List Proc) (id : ProcId) (under : Under) : Type 0 where
-  pub node : Layer
-  pub below : layer_below id.0 node ≡ true
-  pub tree : layer_tree trees node ≡ tree_at trees id
-  pub listed : under.ids ≡ layer_parts node
-  pub free : IsLeft node given under.left

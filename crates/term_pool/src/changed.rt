@@ -1,8 +1,8 @@
 //! Entries with other places, or with values in their own parts.
 
 ghost use Rattle.std.specs.Prelude.{◌≡◌, ◌<◌, length, map, slice_get, IfOk, Some};
-ghost use Rattle.csp_program.specs.Substitution.{fields_with, gens_with, given_by, head_with, pair_with, past};
-ghost use Rattle.term_pool.specs.Entries.{choice_at, entry_layer, fields_at, gens_at, head_at, pairs_at, Fits, PartsStart, StandsAs};
+ghost use Rattle.csp_program.specs.Substitution.{expr_with, fields_with, gens_with, given_by, head_with, pair_with, past};
+ghost use Rattle.term_pool.specs.Entries.{arguments_at, choice_at, entry_layer, expr_at, fields_at, gens_at, head_at, pairs_at, Fits, PartsStart};
 ghost use Rattle.term_pool.specs.First.{node_with_first, other_first};
 ghost use Rattle.term_pool.specs.Moved.{id_or, moved};
 ghost use Rattle.term_pool.specs.Substituted.{own_with};
@@ -52,7 +52,8 @@ pub(crate) fn entry_with_first(
 ) -> Result<Entry, NoMemory>
     requires fits { Fits parts.old entry }
     ensures start { PartsStart parts.old parts.new }
-    ensures entry { IfOk result (λ made. StandsAs parts.new made (node_with_first (entry_layer parts.old entry) below)) }
+    ensures fits { IfOk result (Fits parts.new) }
+    ensures layer { IfOk result (λ made. entry_layer parts.new made ≡ node_with_first (entry_layer parts.old entry) below) }
 {
     match entry {
         Entry::Stop => Ok(Entry::Stop),
@@ -92,7 +93,8 @@ fn with_places(
 ) -> Result<Entry, NoMemory>
     requires fits { Fits parts.old entry }
     ensures start { PartsStart parts.old parts.new }
-    ensures entry { IfOk result (λ made. StandsAs parts.new made (moved (entry_layer parts.old entry) ids.now)) }
+    ensures fits { IfOk result (Fits parts.new) }
+    ensures layer { IfOk result (λ made. entry_layer parts.new made ≡ moved (entry_layer parts.old entry) ids.now) }
 {
     match entry {
         Entry::Stop => Ok(Entry::Stop),
@@ -112,6 +114,34 @@ fn with_places(
     }
 }
 
+// The number of an expression with the values put in.
+fn put_expr(
+    parts: &mut OwnParts,
+    alloc: Global,
+    place: usize,
+    values: &Values<'_>,
+) -> Result<usize, NoMemory>
+    requires { place < length parts.old.exprs }
+    ensures start { PartsStart parts.old parts.new }
+    ensures made { IfOk result (λ made. slice_get parts.new.exprs made ≡ Some (expr_with (given_by values.now) (expr_at parts.old place))) }
+{
+    put_values(&mut parts.exprs, alloc, place, values)
+}
+
+// The number of arguments with the values put in.
+fn put_arguments(
+    parts: &mut OwnParts,
+    alloc: Global,
+    place: usize,
+    values: &Values<'_>,
+) -> Result<usize, NoMemory>
+    requires { place < length parts.old.arguments }
+    ensures start { PartsStart parts.old parts.new }
+    ensures made { IfOk result (λ made. slice_get parts.new.arguments made ≡ Some (map (expr_with (given_by values.now)) (arguments_at parts.old place))) }
+{
+    put_values(&mut parts.arguments, alloc, place, values)
+}
+
 /// The entry with the values in its own parts, and with these places in place of its own, as many.
 pub(crate) fn made_entry(
     parts: &mut OwnParts,
@@ -122,7 +152,8 @@ pub(crate) fn made_entry(
 ) -> Result<Entry, NoMemory>
     requires fits { Fits parts.old entry }
     ensures start { PartsStart parts.old parts.new }
-    ensures entry { IfOk result (λ made. StandsAs parts.new made (moved (own_with (given_by values.now) (entry_layer parts.old entry)) ids.now)) }
+    ensures fits { IfOk result (Fits parts.new) }
+    ensures layer { IfOk result (λ made. entry_layer parts.new made ≡ moved (own_with (given_by values.now) (entry_layer parts.old entry)) ids.now) }
 {
     let entry = put_own(parts, alloc, entry, values)?;
     with_places(parts, alloc, entry, ids)
@@ -138,40 +169,32 @@ fn put_own(
 ) -> Result<Entry, NoMemory>
     requires fits { Fits parts.old entry }
     ensures start { PartsStart parts.old parts.new }
-    ensures entry { IfOk result (λ made. StandsAs parts.new made (own_with (given_by values.now) (entry_layer parts.old entry))) }
+    ensures fits { IfOk result (Fits parts.new) }
+    ensures layer { IfOk result (λ made. entry_layer parts.new made ≡ own_with (given_by values.now) (entry_layer parts.old entry)) }
 {
     match entry {
         Entry::Prefix(head, fields, p) => {
-            let own = put_prefix(parts, alloc, head, fields, values);
-            own.map(|(head, fields)| Entry::Prefix(head, fields, p))
+            let (head, fields) = put_prefix(parts, alloc, head, fields, values)?;
+            Ok(Entry::Prefix(head, fields, p))
         }
-        Entry::Guard(c, p) => {
-            put_values(&mut parts.exprs, alloc, c, values).map(|c| Entry::Guard(c, p))
-        }
-        Entry::If(c, p, q) => {
-            put_values(&mut parts.exprs, alloc, c, values).map(|c| Entry::If(c, p, q))
-        }
+        Entry::Guard(c, p) => Ok(Entry::Guard(put_expr(parts, alloc, c, values)?, p)),
+        Entry::If(c, p, q) => Ok(Entry::If(put_expr(parts, alloc, c, values)?, p, q)),
         Entry::EachExternal(slot, set, p) => {
-            put_values(&mut parts.exprs, alloc, set, values).map(|set| Entry::EachExternal(
-                slot, set, p,
-            ))
+            let set = put_expr(parts, alloc, set, values)?;
+            Ok(Entry::EachExternal(slot, set, p))
         }
         Entry::EachInternal(slot, set, p) => {
-            put_values(&mut parts.exprs, alloc, set, values).map(|set| Entry::EachInternal(
-                slot, set, p,
-            ))
+            let set = put_expr(parts, alloc, set, values)?;
+            Ok(Entry::EachInternal(slot, set, p))
         }
-        Entry::Hide(p, set) => {
-            put_values(&mut parts.exprs, alloc, set, values).map(|set| Entry::Hide(p, set))
-        }
+        Entry::Hide(p, set) => Ok(Entry::Hide(p, put_expr(parts, alloc, set, values)?)),
         Entry::Rename(p, pairs, gens) => {
-            let own = put_renaming(parts, alloc, pairs, gens, values);
-            own.map(|(pairs, gens)| Entry::Rename(p, pairs, gens))
+            let (pairs, gens) = put_renaming(parts, alloc, pairs, gens, values)?;
+            Ok(Entry::Rename(p, pairs, gens))
         }
         Entry::Call(definition, args) => {
-            put_values(&mut parts.arguments, alloc, args, values).map(|args| Entry::Call(
-                definition, args,
-            ))
+            let args = put_arguments(parts, alloc, args, values)?;
+            Ok(Entry::Call(definition, args))
         }
         Entry::Stop => Ok(entry),
         Entry::External(_) => Ok(entry),

@@ -1,7 +1,7 @@
 //! The own parts of the nodes of a pool.
 
 ghost use Rattle.std.specs.Prelude.{◌≡◌, [], slice_get, IfOk, OnErr, Some};
-ghost use Rattle.term_pool.specs.Entries.{entry_layer, ArePartsOnce, Fits, HasParts, PartsStart, StandsAs};
+ghost use Rattle.term_pool.specs.Entries.{entry_layer, ArePartsOnce, Fits, HasParts, PartsStart};
 ghost use Rattle.term_pool.specs.Layers.{shown};
 ghost use Rattle.csp_base.specs.Lists.{StandsIn};
 
@@ -151,7 +151,8 @@ pub(crate) fn keep_node(
     node: Node<'_>,
 ) -> Result<Entry, NoMemory>
     ensures start { PartsStart parts.old parts.new }
-    ensures entry { IfOk result (λ entry. StandsAs parts.new entry (shown node.entry)) }
+    ensures fits { IfOk result (Fits parts.new) }
+    ensures layer { IfOk result (λ entry. entry_layer parts.new entry ≡ shown node.entry) }
     ensures err_only_new { OnErr result (HasParts parts.old (shown node.entry) → ⊥) }
 {
     match node {

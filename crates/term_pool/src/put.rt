@@ -17,7 +17,7 @@ use pool_parts::ProcId;
 use std::alloc::Global;
 
 // The node of the process whose sub-processes stand at the places.
-#[tactic(auto, using(crate::proofs::OverLemmas::out_forms))]
+#[tactic(auto, using(csp_program::specs::declared::processes::Proc::the_lemmas))]
 fn node_over<'a>(proc: &'a Proc, ids: &'a Items<ProcId>) -> Node<'a>
     ensures { shown result ≡ moved (out-Proc proc.now) ids.now }
 {
@@ -51,6 +51,7 @@ pub(crate) fn put_tree(pool: &mut Pool, alloc: Global, proc: &Proc) -> Result<Pr
 
 // The places of the sub-processes of the process, which are put into the pool.
 #[cycle(put_tree)]
+#[tactic(auto, using(csp_program::specs::declared::processes::Proc::the_lemmas))]
 fn put_below(pool: &mut Pool, alloc: Global, proc: &Proc) -> Result<Items<ProcId>, NoMemory>
     ensures places { IfOk result (λ ids. StandAt pool.new ids (layer_parts (out-Proc proc.now))) }
     ensures grows { Grows pool.old pool.new (layer_parts (out-Proc proc.now)) }

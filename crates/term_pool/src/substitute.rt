@@ -5,11 +5,11 @@ ghost use Rattle.std.specs.HashMap.{get, IsUnchanged, Updates};
 ghost use Rattle.csp_program.specs.Substitution.{given_by, proc_with};
 ghost use Rattle.term_pool.specs.Pooled.{parts};
 ghost use Rattle.term_pool.specs.Put.{Grows, StandAt};
-ghost use Rattle.term_pool.specs.Substituted.{all_with, AreMade, IsUnder};
+ghost use Rattle.term_pool.specs.Substituted.{all_with, AreMade};
 ghost use Rattle.term_pool.specs.Trees.{all_below, tree_at};
 
 use crate::pool::Pool;
-use crate::under::{Under, under_node};
+use crate::under::{left_at, places_of};
 use containers::Items;
 use csp_base::NoMemory;
 use pool_parts::ProcId;
@@ -103,31 +103,11 @@ fn put_below(
     ensures grows { Grows pool.old pool.new (parts (proc_with (given_by values.now) (tree_at pool.old id))) }
     ensures visited { AreMade (given_by values.now) pool.new visited.new }
 {
-    let under = under_node(pool, alloc, id, values)?;
-    put_under(pool, visited, alloc, id, &under, values)
-}
-
-// The same, where this is what stands below the node.
-#[cycle(substitute_at)]
-fn put_under(
-    pool: &mut Pool,
-    visited: &mut HashMap<usize, ProcId>,
-    alloc: Global,
-    id: ProcId,
-    under: &Under<'_>,
-    values: &Values<'_>,
-) -> Result<Items<ProcId>, NoMemory>
-    requires within { id.0 < length pool.old }
-    requires visited { AreMade (given_by values.now) pool.old visited.old }
-    requires under { IsUnder (given_by values.now) pool.old id under.now }
-    ensures places { IfOk result (λ made. StandAt pool.new made (parts (proc_with (given_by values.now) (tree_at pool.old id)))) }
-    ensures grows { Grows pool.old pool.new (parts (proc_with (given_by values.now) (tree_at pool.old id))) }
-    ensures visited { AreMade (given_by values.now) pool.new visited.new }
-{
-    let places = under.ids.as_slice();
-    match &under.left {
-        None => put_all(pool, visited, alloc, id, places, values),
-        Some(left) => put_anew(pool, alloc, id, places, left),
+    let node = pool.node(id);
+    let ids = places_of(alloc, node)?;
+    match left_at(alloc, node, values)? {
+        None => put_all(pool, visited, alloc, id, ids.as_slice(), values),
+        Some(left) => put_anew(pool, alloc, id, ids.as_slice(), &left),
     }
 }
 

@@ -1,27 +1,17 @@
 //! What stands below a node of a pool, and which of the values are left there.
 
-ghost use Rattle.std.specs.Prelude.{◌≡◌, ◌<◌, [], ◌∷◌, false, length, IfOk, OnOk};
+ghost use Rattle.std.specs.Prelude.{◌≡◌, [], ◌∷◌, false, IfOk, OnOk};
 ghost use Rattle.csp_program.specs.Substitution.{given_by};
 ghost use Rattle.term_pool.specs.Layers.{shown};
-ghost use Rattle.term_pool.specs.Substituted.{left_below, IsLeft, IsUnder};
+ghost use Rattle.term_pool.specs.Substituted.{left_below, IsLeft};
 ghost use Rattle.term_pool.specs.Trees.{places};
 
 use crate::node::Node;
-use crate::pool::Pool;
 use containers::Items;
 use csp_base::NoMemory;
 use pool_parts::ProcId;
 use std::alloc::Global;
 use substitution::{Values, any_field_binds, pass_fields};
-
-/// What stands below a node.
-#[derive(Drop)]
-pub(crate) struct Under<'a> {
-    /// The places of the sub-processes.
-    pub ids: Items<ProcId>,
-    /// The values that are left there; `None` where the node binds none of the names.
-    pub left: Option<Values<'a>>,
-}
 
 /// One place, as a list.
 pub(crate) fn one(alloc: Global, p: ProcId) -> Result<Items<ProcId>, NoMemory>
@@ -48,8 +38,8 @@ fn copied(alloc: Global, ids: &Items<ProcId>) -> Result<Items<ProcId>, NoMemory>
     Ok(Items::from_slice(alloc, ids.as_slice())?)
 }
 
-// The places of the node's sub-processes.
-fn places_of(alloc: Global, node: Node<'_>) -> Result<Items<ProcId>, NoMemory>
+/// The places of the node's sub-processes.
+pub(crate) fn places_of(alloc: Global, node: Node<'_>) -> Result<Items<ProcId>, NoMemory>
     ensures { IfOk result (λ ids. ids ≡ places node.entry) }
 {
     match node {
@@ -114,8 +104,8 @@ fn pass_node(node: Node<'_>, values: &mut Values<'_>) -> Result<(), NoMemory>
     }
 }
 
-// The values that are left below the node; `None` where it binds none of the names.
-fn left_at<'a>(
+/// The values that are left below the node; `None` where it binds none of the names.
+pub(crate) fn left_at<'a>(
     alloc: Global,
     node: Node<'_>,
     values: &Values<'a>,
@@ -128,20 +118,4 @@ fn left_at<'a>(
     let mut left = values.copy(alloc)?;
     pass_node(node, &mut left)?;
     Ok(Some(left))
-}
-
-/// What stands below the node at a place, and which of the values are left there.
-pub(crate) fn under_node<'a>(
-    pool: &Pool,
-    alloc: Global,
-    id: ProcId,
-    values: &Values<'a>,
-) -> Result<Under<'a>, NoMemory>
-    requires { id.0 < length pool.now }
-    ensures { IfOk result (IsUnder (given_by values.now) pool.now id) }
-{
-    let node = pool.node(id);
-    let ids = places_of(alloc, node)?;
-    let left = left_at(alloc, node, values)?;
-    Ok(Under { ids, left })
 }

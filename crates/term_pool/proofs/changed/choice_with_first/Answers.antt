@@ -1,4 +1,4 @@
-use Rattle.std.proofs.Common.{◌≡◌, List, [], ◌∙◌, subst}
+use Rattle.std.proofs.Common.{◌≡◌, List, [], sym, ◌∙◌, subst}
 use Rattle.std.specs.Prelude.{IfOk}
 use Rattle.pool_parts.specs.declared.place.ProcId.{ProcId}
 use Rattle.term_pool.specs.Entries.{choice_at}
@@ -8,4 +8,4 @@ use Rattle.term_pool.proofs.changed.choice_with_first.Goals as goal
 pub returns-clause-made : goal.returns-clause-made
 returns-clause-made c =
     c.keep_made.ensures.place (other_first (choice_at c.args.parts.now c.args.place) c.args.below)
-    (subst (λ (ids : List ProcId). IfOk c.with_other_first-made.result (λ made. made ≡ other_first ids c.args.below)) (c.as_slice.ensures ∙ c.get.ensures []) c.with_other_first-made.ensures)
+    (subst (λ (ids : List ProcId). IfOk c.with_other_first-made.result (λ made. made ≡ other_first ids c.args.below)) (c.as_slice.ensures ∙ sym (c.get.ensures [])) c.with_other_first-made.ensures)

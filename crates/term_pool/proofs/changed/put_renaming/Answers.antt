@@ -1,4 +1,4 @@
-use Rattle.std.proofs.Common.{◌≡◌, List, [], map, ◌∙◌, subst}
+use Rattle.std.proofs.Common.{◌≡◌, List, [], map, sym, ◌∙◌, subst}
 use Rattle.std.specs.Prelude.{IfOk}
 use Rattle.csp_program.specs.declared.expressions.EventPart.{EventPart}
 use Rattle.csp_program.specs.declared.expressions.Gen.{Gen}
@@ -10,8 +10,8 @@ pub returns-clause-pairs : goal.returns-clause-pairs
 returns-clause-pairs c =
     let pairs_of : List Gen → List (EventPart × EventPart) → List (EventPart × EventPart) = λ gs ps. map (pair_with (past gs (given_by c.args.values.now))) ps in
     c.in_ok-pairs.ensures.place (pairs_of (gens_at c.args.parts.now c.args.gens) (pairs_at c.args.parts.now c.args.pairs))
-    (subst (λ (gs : List Gen). IfOk c.put_pairs-made.result (λ made. made ≡ pairs_of gs (pairs_at c.args.parts.now c.args.pairs))) (c.as_slice-old_gens.ensures ∙ c.get-2.ensures [])
-    (subst (λ (ps : List (EventPart × EventPart)). IfOk c.put_pairs-made.result (λ made. made ≡ pairs_of c.as_slice-old_gens.result.now ps)) (c.as_slice-old_pairs.ensures ∙ c.get.ensures []) c.put_pairs-made.ensures))
+    (subst (λ (gs : List Gen). IfOk c.put_pairs-made.result (λ made. made ≡ pairs_of gs (pairs_at c.args.parts.now c.args.pairs))) (c.as_slice-old_gens.ensures ∙ sym (c.get-2.ensures []))
+    (subst (λ (ps : List (EventPart × EventPart)). IfOk c.put_pairs-made.result (λ made. made ≡ pairs_of c.as_slice-old_gens.result.now ps)) (c.as_slice-old_pairs.ensures ∙ sym (c.get.ensures [])) c.put_pairs-made.ensures))
 
 pub returns-clause-gens : goal.returns-clause-gens
 returns-clause-gens c = c.in_ok-gens.ensures.made []

@@ -1,5 +1,4 @@
 -- The measure at a place is that of the process there.
-use Rattle.std.proofs.Common.{length, ap, arith}
 use Rattle.term_pool.proofs.KeptLemmas.{measure_read}
 use Rattle.term_pool.proofs.kept.measure_at.Goals as goal
 

@@ -22,14 +22,14 @@ put_entry-requires-clause-kept c = kept_more c.args.parts.now c.entry_with_first
 pub put_entry-requires-clause-below : goal.put_entry-requires-clause-below
 put_entry-requires-clause-below c =
     below_more c.args.parts.now c.entry_with_first-made.new.parts c.entry_with_first-made.ensures.start c.args.entries.now c.args.measures.now c.requires.kept
-    c.in_ok-entry.entry (node_with_first (entry_layer c.args.parts.now c.entry_at-entry.result) c.args.below) c.in_ok-entry.ensures.entry
+    c.in_ok-entry.entry (node_with_first (entry_layer c.args.parts.now c.entry_at-entry.result) c.args.below) c.in_ok-entry.ensures.layer
     (made_below (processes c.args.parts.now c.args.entries.now) c.args.id c.args.below c.requires.id c.requires.below (entry_layer c.args.parts.now c.entry_at-entry.result) c.entry_at-entry.ensures.process c.entry_at-entry.ensures.below
     (node_with_first (entry_layer c.args.parts.now c.entry_at-entry.result) c.args.below) refl)
 
 pub returns-clause-puts : goal.returns-clause-puts
 returns-clause-puts c =
     puts_as c.args.parts.now c.entry_with_first-made.new.parts c.entry_with_first-made.ensures.start c.args.entries.now c.args.measures.now c.requires.kept
-    c.in_ok-entry.entry (node_with_first (entry_layer c.args.parts.now c.entry_at-entry.result) c.args.below) c.in_ok-entry.ensures.entry
+    c.in_ok-entry.entry (node_with_first (entry_layer c.args.parts.now c.entry_at-entry.result) c.args.below) c.in_ok-entry.ensures.layer
     (with_first (tree_at (processes c.args.parts.now c.args.entries.now) c.args.id) (tree_at (processes c.args.parts.now c.args.entries.now) c.args.below))
     (made_tree (processes c.args.parts.now c.args.entries.now) c.args.id c.args.below c.requires.id c.requires.below (entry_layer c.args.parts.now c.entry_at-entry.result) c.entry_at-entry.ensures.process c.entry_at-entry.ensures.below
     (node_with_first (entry_layer c.args.parts.now c.entry_at-entry.result) c.args.below) refl)

@@ -26,16 +26,16 @@ put_entry-requires-clause-kept c = kept_more c.args.parts.now c.keep_node-kept.n
 pub put_entry-requires-clause-below : goal.put_entry-requires-clause-below
 put_entry-requires-clause-below c =
     below_more c.args.parts.now c.keep_node-kept.new.parts c.keep_node-kept.ensures.start c.args.entries.now c.args.measures.now c.requires.kept
-    c.in_ok-entry.entry (shown c.args.node) c.in_ok-entry.ensures.entry c.requires.below
+    c.in_ok-entry.entry (shown c.args.node) c.in_ok-entry.ensures.layer c.requires.below
 
 pub returns-clause-puts : goal.returns-clause-puts
 returns-clause-puts c =
     puts_as c.args.parts.now c.keep_node-kept.new.parts c.keep_node-kept.ensures.start c.args.entries.now c.args.measures.now c.requires.kept
-    c.in_ok-entry.entry (shown c.args.node) c.in_ok-entry.ensures.entry (layer_tree (processes c.args.parts.now c.args.entries.now) (shown c.args.node)) refl
+    c.in_ok-entry.entry (shown c.args.node) c.in_ok-entry.ensures.layer (layer_tree (processes c.args.parts.now c.args.entries.now) (shown c.args.node)) refl
     (processes c.keep_node-kept.new.parts c.put_entry.new.entries) c.put_entry.result c.put_entry.ensures.puts
 
 pub returns-clause-err_only_new : goal.returns-clause-err_only_new
 returns-clause-err_only_new c =
     unknown_as c.args.parts.now c.keep_node-kept.new.parts c.keep_node-kept.ensures.start c.args.entries.now c.args.measures.now c.requires.kept
-    c.in_ok-entry.entry (shown c.args.node) c.in_ok-entry.ensures.entry (layer_tree (processes c.args.parts.now c.args.entries.now) (shown c.args.node)) refl
+    c.in_ok-entry.entry (shown c.args.node) c.in_ok-entry.ensures.layer (layer_tree (processes c.args.parts.now c.args.entries.now) (shown c.args.node)) refl
     c.put_entry.result c.put_entry.ensures.err_only_new

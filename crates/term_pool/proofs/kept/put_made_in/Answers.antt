@@ -23,13 +23,13 @@ put_entry-requires-clause-kept c = kept_more c.args.parts.now c.made_entry-made.
 pub put_entry-requires-clause-below : goal.put_entry-requires-clause-below
 put_entry-requires-clause-below c =
     let n = moved (own_with (given_by c.args.values.now) (entry_layer c.args.parts.now c.entry_at-entry.result)) c.args.ids.now in
-    below_more c.args.parts.now c.made_entry-made.new.parts c.made_entry-made.ensures.start c.args.entries.now c.args.measures.now c.requires.kept c.in_ok-entry.entry n c.in_ok-entry.ensures.entry
+    below_more c.args.parts.now c.made_entry-made.new.parts c.made_entry-made.ensures.start c.args.entries.now c.args.measures.now c.requires.kept c.in_ok-entry.entry n c.in_ok-entry.ensures.layer
     (stands_made (given_by c.args.values.now) (processes c.args.parts.now c.args.entries.now) c.args.id (entry_layer c.args.parts.now c.entry_at-entry.result) c.entry_at-entry.ensures.process c.args.ids.now c.requires.made).below
 
 pub returns-clause-puts : goal.returns-clause-puts
 returns-clause-puts c =
     let n = moved (own_with (given_by c.args.values.now) (entry_layer c.args.parts.now c.entry_at-entry.result)) c.args.ids.now in
-    puts_as c.args.parts.now c.made_entry-made.new.parts c.made_entry-made.ensures.start c.args.entries.now c.args.measures.now c.requires.kept c.in_ok-entry.entry n c.in_ok-entry.ensures.entry
+    puts_as c.args.parts.now c.made_entry-made.new.parts c.made_entry-made.ensures.start c.args.entries.now c.args.measures.now c.requires.kept c.in_ok-entry.entry n c.in_ok-entry.ensures.layer
     (proc_with (given_by c.args.values.now) (tree_at (processes c.args.parts.now c.args.entries.now) c.args.id))
     (stands_made (given_by c.args.values.now) (processes c.args.parts.now c.args.entries.now) c.args.id (entry_layer c.args.parts.now c.entry_at-entry.result) c.entry_at-entry.ensures.process c.args.ids.now c.requires.made).tree
     (processes c.made_entry-made.new.parts c.put_entry.new.entries) c.put_entry.result c.put_entry.ensures.puts

@@ -1,53 +1,15 @@
--- A whole process is put: first its sub-processes, and then the node over them. `put_below` has an answer for each form, which reads what the call gave at the layer of
--- the process (`out_..` of `OverLemmas`). A form that is new gets an equation there, and an answer here: with one
--- sub-process as `Prefix`, with two as `If`, with a list as `External`, with none as `Stop`.
-use Rattle.std.proofs.Common.{◌≡◌, ◌+◌, List, [], ◌∷◌, Some, take, slice_get, sym, ap, ◌∙◌, subst}
+-- A whole process is put: first its sub-processes, and then the node over them.
+use Rattle.std.proofs.Common.{◌≡◌, ◌+◌, List, [], ◌∷◌, Some, take, slice_get, sym, subst}
 use Rattle.std.specs.Prelude.{IfOk}
 use Rattle.csp_program.specs.declared.processes.Proc.{Proc}
 use Rattle.pool_parts.specs.declared.place.ProcId.{ProcId}
-use Rattle.term_pool.proofs.OverLemmas.{out_Call, out_EachExternal, out_EachInternal, out_Ended, out_External, out_Guard, out_Hide, out_If, out_Internal, out_Prefix, out_Rename, out_Seq, out_Skip, out_Stop, stands_over}
+use Rattle.term_pool.proofs.OverLemmas.{stands_over}
 use Rattle.term_pool.proofs.PutLemmas as lemmas
 use Rattle.term_pool.specs.Layers.{Layer, shown}
 use Rattle.term_pool.specs.Pooled.{parts}
 use Rattle.term_pool.specs.Put.{StandAt, StandsFor}
 use Rattle.term_pool.proofs.put.+put_tree.Goals as goal
 use Rattle.csp_base.proofs.Results.{was_made}
-
-pub put_below-returns-in-Prefix : goal.put_below-returns-in-Prefix
-put_below-returns-in-Prefix t c = record { places = rw (c.in-Prefix.is, out_Prefix, ← c.get.ensures) c.put_one.ensures.places; grows = rw (c.in-Prefix.is, out_Prefix, ← c.get.ensures) c.put_one.ensures.grows }
-
-pub put_below-returns-in-Guard : goal.put_below-returns-in-Guard
-put_below-returns-in-Guard t c = record { places = rw (c.in-Guard.is, out_Guard, ← c.get-in-Guard.ensures) c.put_one-in-Guard.ensures.places; grows = rw (c.in-Guard.is, out_Guard, ← c.get-in-Guard.ensures) c.put_one-in-Guard.ensures.grows }
-
-pub put_below-returns-in-EachExternal : goal.put_below-returns-in-EachExternal
-put_below-returns-in-EachExternal t c = record { places = rw (c.in-EachExternal.is, out_EachExternal, ← c.get-in-EachExternal.ensures) c.put_one-in-EachExternal.ensures.places; grows = rw (c.in-EachExternal.is, out_EachExternal, ← c.get-in-EachExternal.ensures) c.put_one-in-EachExternal.ensures.grows }
-
-pub put_below-returns-in-EachInternal : goal.put_below-returns-in-EachInternal
-put_below-returns-in-EachInternal t c = record { places = rw (c.in-EachInternal.is, out_EachInternal, ← c.get-in-EachInternal.ensures) c.put_one-in-EachInternal.ensures.places; grows = rw (c.in-EachInternal.is, out_EachInternal, ← c.get-in-EachInternal.ensures) c.put_one-in-EachInternal.ensures.grows }
-
-pub put_below-returns-in-Hide : goal.put_below-returns-in-Hide
-put_below-returns-in-Hide t c = record { places = rw (c.in-Hide.is, out_Hide, ← c.get-in-Hide.ensures) c.put_one-in-Hide.ensures.places; grows = rw (c.in-Hide.is, out_Hide, ← c.get-in-Hide.ensures) c.put_one-in-Hide.ensures.grows }
-
-pub put_below-returns-in-Rename : goal.put_below-returns-in-Rename
-put_below-returns-in-Rename t c = record { places = rw (c.in-Rename.is, out_Rename, ← c.get-in-Rename.ensures) c.put_one-in-Rename.ensures.places; grows = rw (c.in-Rename.is, out_Rename, ← c.get-in-Rename.ensures) c.put_one-in-Rename.ensures.grows }
-
-pub put_below-returns-in-If : goal.put_below-returns-in-If
-put_below-returns-in-If t c = record {
-  places = rw (c.in-If.is, out_If, ← c.get-in-If.ensures, ← c.get-in-If-2.ensures) c.put_two.ensures.places;
-  grows = rw (c.in-If.is, out_If, ← c.get-in-If.ensures, ← c.get-in-If-2.ensures) c.put_two.ensures.grows;
-}
-
-pub put_below-returns-in-Seq : goal.put_below-returns-in-Seq
-put_below-returns-in-Seq t c = record {
-  places = rw (c.in-Seq.is, out_Seq, ← c.get-in-Seq.ensures, ← c.get-in-Seq-2.ensures) c.put_two-in-Seq.ensures.places;
-  grows = rw (c.in-Seq.is, out_Seq, ← c.get-in-Seq.ensures, ← c.get-in-Seq-2.ensures) c.put_two-in-Seq.ensures.grows;
-}
-
-pub put_below-returns-in-External : goal.put_below-returns-in-External
-put_below-returns-in-External t c = record { places = rw (c.in-External.is, out_External, ← c.as_slice.ensures) c.put_trees.ensures.places; grows = rw (c.in-External.is, out_External, ← c.as_slice.ensures) c.put_trees.ensures.grows }
-
-pub put_below-returns-in-Internal : goal.put_below-returns-in-Internal
-put_below-returns-in-Internal t c = record { places = rw (c.in-Internal.is, out_Internal, ← c.as_slice-in-Internal.ensures) c.put_trees-in-Internal.ensures.places; grows = rw (c.in-Internal.is, out_Internal, ← c.as_slice-in-Internal.ensures) c.put_trees-in-Internal.ensures.grows }
 
 pub put_two-returns-in_err-first-clause-grows : goal.put_two-returns-in_err-first-clause-grows
 put_two-returns-in_err-first-clause-grows t c = lemmas.grows_less c.args.pool.now c.put_tree.new.pool (c.args.p.now ∷ []) (c.args.q.now ∷ []) c.in_err-first.ensures.grows

@@ -1,5 +1,5 @@
 -- What a process becomes: from its own parts, and from what its sub-processes became.
-use Rattle.std.proofs.Common.{◌≡◌, ℕ, ◌+◌, nat_eq, List, Some, map, take, slice_get, ap, sym, ◌∙◌, subst, arith}
+use Rattle.std.proofs.Common.{◌≡◌, ℕ, ◌+◌, nat_eq, List, Some, take, slice_get, ap, sym, ◌∙◌, subst, arith}
 use Rattle.std.specs.Map.{lookup}
 use Rattle.std.specs.Prelude.{IfOk}
 use Rattle.std.proofs.lemmas.Option.{slice_get-get_or}
@@ -74,29 +74,28 @@ pub put_layer-returns-clause-visited : goal.put_layer-returns-clause-visited
 put_layer-returns-clause-visited t c =
     made.all_still_made (given_by c.args.values.now) c.put_below.new.pool c.put_made.new.self c.put_made.ensures.front c.put_below.new.visited c.in_ok-ids.ensures.visited
 
-pub put_under-returns-in-None-clause-places : goal.put_under-returns-in-None-clause-places
-put_under-returns-in-None-clause-places t c =
+pub put_below-returns-in-None-clause-places : goal.put_below-returns-in-None-clause-places
+put_below-returns-in-None-clause-places t c =
     subst (λ (ts : List Proc). IfOk c.put_all.result (λ (ids : List ProcId). StandAt c.put_all.new.pool ids ts))
-    (made.under_none (given_by c.args.values.now) c.args.pool.now c.args.id c.args.under.now c.requires.under c.in-None.is c.as_slice-places.result.now c.as_slice-places.ensures) c.put_all.ensures.places
+    (made.under_none (given_by c.args.values.now) c.args.pool.now c.args.id c.node-node.result c.node-node.ensures.process c.as_slice.result.now c.in_ok-ids.ids c.as_slice.ensures c.in_ok-ids.ensures c.in_ok-left_at.field-0 c.in_ok-left_at.ensures c.in-None.is) c.put_all.ensures.places
 
-pub put_under-returns-in-None-clause-grows : goal.put_under-returns-in-None-clause-grows
-put_under-returns-in-None-clause-grows t c =
+pub put_below-returns-in-None-clause-grows : goal.put_below-returns-in-None-clause-grows
+put_below-returns-in-None-clause-grows t c =
     subst (λ (ts : List Proc). Grows c.args.pool.now c.put_all.new.pool ts)
-    (made.under_none (given_by c.args.values.now) c.args.pool.now c.args.id c.args.under.now c.requires.under c.in-None.is c.as_slice-places.result.now c.as_slice-places.ensures) c.put_all.ensures.grows
+    (made.under_none (given_by c.args.values.now) c.args.pool.now c.args.id c.node-node.result c.node-node.ensures.process c.as_slice.result.now c.in_ok-ids.ids c.as_slice.ensures c.in_ok-ids.ensures c.in_ok-left_at.field-0 c.in_ok-left_at.ensures c.in-None.is) c.put_all.ensures.grows
 
-pub put_under-returns-in-Some-clause-places : goal.put_under-returns-in-Some-clause-places
-put_under-returns-in-Some-clause-places t c =
+pub put_below-returns-clause-visited : goal.put_below-returns-clause-visited
+put_below-returns-clause-visited t c = made.all_still_made (given_by c.args.values.now) c.args.pool.now c.put_anew.new.pool c.put_anew.ensures.grows.front c.args.visited.now c.requires.visited
+
+pub put_below-returns-clause-places : goal.put_below-returns-clause-places
+put_below-returns-clause-places t c =
     subst (λ (ts : List Proc). IfOk c.put_anew.result (λ (ids : List ProcId). StandAt c.put_anew.new.pool ids ts))
-    (made.under_some (given_by c.args.values.now) c.args.pool.now c.args.id c.args.under.now c.requires.under c.in-Some.left c.in-Some.is c.as_slice-places.result.now c.as_slice-places.ensures) c.put_anew.ensures.places
+    (made.under_some (given_by c.args.values.now) c.args.pool.now c.args.id c.node-node.result c.node-node.ensures.process c.as_slice-in-Some.result.now c.in_ok-ids.ids c.as_slice-in-Some.ensures c.in_ok-ids.ensures c.in_ok-left_at.field-0 c.in_ok-left_at.ensures c.in-Some.left c.in-Some.is) c.put_anew.ensures.places
 
-pub put_under-returns-in-Some-clause-grows : goal.put_under-returns-in-Some-clause-grows
-put_under-returns-in-Some-clause-grows t c =
+pub put_below-returns-clause-grows : goal.put_below-returns-clause-grows
+put_below-returns-clause-grows t c =
     subst (λ (ts : List Proc). Grows c.args.pool.now c.put_anew.new.pool ts)
-    (made.under_some (given_by c.args.values.now) c.args.pool.now c.args.id c.args.under.now c.requires.under c.in-Some.left c.in-Some.is c.as_slice-places.result.now c.as_slice-places.ensures) c.put_anew.ensures.grows
-
-pub put_under-returns-in-Some-clause-visited : goal.put_under-returns-in-Some-clause-visited
-put_under-returns-in-Some-clause-visited t c =
-    made.all_still_made (given_by c.args.values.now) c.args.pool.now c.put_anew.new.pool c.put_anew.ensures.grows.front c.args.visited.now c.requires.visited
+    (made.under_some (given_by c.args.values.now) c.args.pool.now c.args.id c.node-node.result c.node-node.ensures.process c.as_slice-in-Some.result.now c.in_ok-ids.ids c.as_slice-in-Some.ensures c.in_ok-ids.ensures c.in_ok-left_at.field-0 c.in_ok-left_at.ensures c.in-Some.left c.in-Some.is) c.put_anew.ensures.grows
 
 pub substitute_at-returns-then-stays-clause-process : goal.substitute_at-returns-then-stays-clause-process
 substitute_at-returns-then-stays-clause-process t c =

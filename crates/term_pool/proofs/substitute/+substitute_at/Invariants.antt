@@ -1,8 +1,7 @@
-use Rattle.std.proofs.Common.{◌+◌, ◌*◌, map, take}
+use Rattle.std.proofs.Common.{◌+◌, ◌*◌, take}
 use Rattle.csp_program.specs.Substitution.{given_by}
 use Rattle.term_pool.specs.Put.{Grows, StandAt}
 use Rattle.term_pool.specs.Substituted.{all_with, AreMade}
-use Rattle.term_pool.specs.Trees.{tree_at}
 use Rattle.term_pool.proofs.substitute.+substitute_at.Given as goal
 
 -- each call goes to a smaller place, or to a later function at the same one
@@ -14,9 +13,6 @@ decreases-put_layer l = l.id.0 * 6 + 4
 
 abbrev pub decreases-put_below : goal.decreases-put_below
 decreases-put_below l = l.id.0 * 6 + 3
-
-abbrev pub decreases-put_under : goal.decreases-put_under
-decreases-put_under l = l.id.0 * 6 + 2
 
 abbrev pub decreases-put_anew : goal.decreases-put_anew
 decreases-put_anew l = l.id.0 * 6 + 1
