@@ -6,16 +6,16 @@ ghost use Rattle.csp_atoms.specs.declared.atom.Atom.TheVariants as atom;
 ghost use Rattle.csp_atoms.specs.declared.value.Value.TheVariants as value;
 ghost use Rattle.csp_program.specs.Atoms.{added, all_added};
 ghost use Rattle.csp_program.specs.Outcome.{and_then};
-ghost use Rattle.csp_program.specs.Value.{as_atom, as_set, binary, gathered, value_of, value_within};
+ghost use Rattle.csp_program.specs.Value.{as_atom, binary, gathered};
 ghost use Rattle.csp_program.specs.Value as meant;
 ghost use Rattle.value_laws.specs.Bindings.{IsSetValue};
-ghost use Rattle.value_laws.specs.Numbers.{field_place, ChannelsFit};
+ghost use Rattle.value_laws.specs.Numbers.{field_place};
 ghost use Rattle.value_operators.specs.Env.{env_in, parameters, with_bound};
 ghost use Rattle.value_operators.specs.Gives.{Gives};
 ghost use Rattle.value_operators.specs.Forms as form;
 ghost use Rattle.csp_values.specs.Worth.{worth, worths, number_worth, truth_worth, atoms_worth, chosen, range_of, set_of, use_worth, body_worth, with_items, event_worth, fields_worth, front_worth, with_front, with_fronts, one_more_binding, walk_worth, gathered_of, GivesTally};
 ghost use Rattle.csp_values.specs.Stays.{PartStays, Stays};
-ghost use Rattle.csp_values.specs.Course.{GivesBinding, GivesStep, IsUnder, course, course_under};
+ghost use Rattle.csp_values.specs.Course.{GivesBinding, GivesStep, IsUnder, course};
 
 use crate::fitting::Fitting;
 use crate::reads::may_read;
@@ -24,7 +24,7 @@ use crate::walk::{Step, Walk, pop, take};
 use containers::Items;
 use csp_atoms::{Atom, AtomSet, Value};
 use csp_base::{BinOp, Event, SetOp};
-use csp_program::{Body, Content, Def, EventPart, Expr, Gen, Program, ValueKind};
+use csp_program::{Body, Def, EventPart, Expr, Gen, ValueKind};
 use dl_limits::MOST_BINDINGS;
 use std::alloc::Global;
 use value_operators::EvalFault;
@@ -50,15 +50,15 @@ const SET_LIMIT: EvalFault = EvalFault::Value {
     kind: ValueKind::SetLimit,
 };
 
-// What evaluation goes by.
+/// What evaluation goes by.
 #[derive(Drop)]
-struct Scope<'a> {
+pub(crate) struct Scope<'a> {
     /// Where memory comes from.
-    alloc: Global,
+    pub alloc: Global,
     /// The program.
-    content: &'a Fitting<'a>,
+    pub content: &'a Fitting<'a>,
     /// How many uses of definitions may still be entered, one inside another.
-    uses: usize,
+    pub uses: usize,
 }
 
 // What each binding of a list of generators adds to a set.
@@ -70,35 +70,8 @@ struct Yield<'a> {
     parts: &'a [EventPart],
 }
 
-// What evaluation of a whole expression goes by: no more uses are entered, one inside another, than there are definitions.
-fn whole_scope<'a>(alloc: Global, content: &'a Fitting<'a>) -> Scope<'a>
-    ensures content { result.content.now ≡ content.now }
-    ensures uses { result.uses ≡ length content.now.defs }
-{
-    Scope {
-        alloc,
-        content,
-        uses: content.content().defs.len(),
-    }
-}
-
-/// The value of an expression of a program. A fault of kind `Value` comes exactly where it has none, with the kind of the first fault from the left.
-pub fn eval(alloc: Global, program: &Program, expr: &Expr) -> Result<Value, EvalFault>
-    ensures { Gives result (value_of program.now expr.now) }
-{
-    eval_fitting(alloc, &Fitting::of(program), expr)
-}
-
-/// The value of an expression over what a program holds, also while that is still being put together. Faults are those of `eval`.
-pub fn eval_in(alloc: Global, content: &Content, expr: &Expr) -> Result<Value, EvalFault>
-    requires fit { ChannelsFit content.now.channels }
-    ensures { Gives result (value_of content.now expr.now) }
-{
-    eval_fitting(alloc, &Fitting::new(content), expr)
-}
-
-// No names but those that are bound.
-fn names_under<'a>(bound: &'a [(u32, Atom)]) -> Names<'a>
+/// No names but those that are bound.
+pub(crate) fn names_under<'a>(bound: &'a [(u32, Atom)]) -> Names<'a>
     ensures names { env_in result ≡ with_bound bound.now [] }
     ensures parameters { parameters result ≡ [] }
     ensures bound { result.bound.now ≡ bound.now }
@@ -111,107 +84,14 @@ fn names_under<'a>(bound: &'a [(u32, Atom)]) -> Names<'a>
     }
 }
 
-// The value of a closed expression.
-fn eval_fitting(alloc: Global, content: &Fitting<'_>, expr: &Expr) -> Result<Value, EvalFault>
-    ensures { Gives result (value_of content.now expr.now) }
-{
-    eval_expr(&whole_scope(alloc, content), &names_under(&[]), expr)
-}
-
-/// The set that an expression of a program is worth. Faults are those of `eval`; a value that is no set has the kind `Kind`.
-pub fn eval_set(alloc: Global, program: &Program, expr: &Expr) -> Result<AtomSet, EvalFault>
-    ensures { Gives result (and_then (value_of program.now expr.now) (λ v. as_set v)) }
-{
-    let value = eval(alloc, program, expr)?;
-    to_set(value)
-}
-
-/// The value of an expression of a program under names with their values. Faults are those of `eval`.
-#[tactic(auto, unfolding(crate::specs::Worth::worth))]
-pub fn eval_with(
-    alloc: Global,
-    program: &Program,
-    names: &Names<'_>,
-    expr: &Expr,
-) -> Result<Value, EvalFault>
-    ensures { Gives result (value_within program.now (length program.now.defs) expr.now (env_in names.now)) }
-{
-    eval_expr(&whole_scope(alloc, &Fitting::of(program)), names, expr)
-}
-
-/// The values of expressions of a program under names with their values, from the left. Faults are those of `eval`, of the first that has one.
-pub fn eval_all_with(
-    alloc: Global,
-    program: &Program,
-    names: &Names<'_>,
-    exprs: &[Expr],
-) -> Result<Items<Value>, EvalFault>
-    ensures { Gives result (worths program.now (length program.now.defs) (env_in names.now) exprs.now) }
-{
-    eval_all(&whole_scope(alloc, &Fitting::of(program)), names, exprs)
-}
-
-/// The value of an expression of a program under names that generators bind, the last one bound at the end. Faults are those of `eval`.
-#[tactic(auto, unfolding(crate::specs::Worth::worth))]
-pub fn eval_under(
-    alloc: Global,
-    program: &Program,
-    bound: &[(u32, Atom)],
-    expr: &Expr,
-) -> Result<Value, EvalFault>
-    ensures { Gives result (worth program.now (length program.now.defs) (with_bound bound.now []) expr.now) }
-{
-    eval_with(alloc, program, &names_under(bound), expr)
-}
-
-/// The values of expressions of a program under names that generators bind, from the left. Faults are those of `eval`, of the first that has one.
-pub fn eval_all_under(
-    alloc: Global,
-    program: &Program,
-    bound: &[(u32, Atom)],
-    exprs: &[Expr],
-) -> Result<Items<Value>, EvalFault>
-    ensures { Gives result (worths program.now (length program.now.defs) (with_bound bound.now []) exprs.now) }
-{
-    eval_all_with(alloc, program, &names_under(bound), exprs)
-}
-
-/// The number of the first event of a channel that begins with these fields, under names that generators bind. Faults are those of `eval`, of the
-/// fields from the left; a field too many, or a value that is none of its field's, has the kind `OutsideChannel`, and a channel without field sets
-/// the kind `Kind`.
-pub fn front_under(
-    alloc: Global,
-    program: &Program,
-    bound: &[(u32, Atom)],
-    channel: u32,
-    fields: &[Expr],
-) -> Result<u32, EvalFault>
-    ensures { Gives result (front_worth program.now (length program.now.defs) (with_bound bound.now []) channel fields.now) }
-{
-    let content = Fitting::of(program);
-    let scope = whole_scope(alloc, &content);
-    eval_front(&scope, &names_under(bound), channel, fields)
-}
-
-/// Whether generators of a program have one more binding, under which the walk over them then stands. Faults are those of `eval`, of the generators from the left.
-pub fn binding_under(
-    alloc: Global,
-    program: &Program,
-    gens: &[Gen],
-    walk: &mut Walk,
-) -> Result<bool, EvalFault>
-    requires { IsUnder [] walk.old }
-    ensures { GivesBinding result (course_under program.now gens.now walk.old) (course_under program.now gens.now walk.new) [] [] walk.new }
-{
-    let content = Fitting::of(program);
-    let scope = whole_scope(alloc, &content);
-    find_binding(&scope, &names_under(&[]), gens, walk)
-}
-
-// The value of an expression.
+/// The value of an expression.
 #[cycle(eval)]
 #[tactic(auto, using(crate::proofs::Arms::worth_forms, crate::proofs::Falls::weight_forms))]
-fn eval_expr(scope: &Scope<'_>, names: &Names<'_>, expr: &Expr) -> Result<Value, EvalFault>
+pub(crate) fn eval_expr(
+    scope: &Scope<'_>,
+    names: &Names<'_>,
+    expr: &Expr,
+) -> Result<Value, EvalFault>
     ensures { Gives result (worth scope.now.content.now scope.now.uses (env_in names.now) expr.now) }
 {
     match expr {
@@ -491,10 +371,14 @@ fn eval_comprehension(
     grown_value(scope.alloc, atoms)
 }
 
-// The values of expressions, from the left.
+/// The values of expressions, from the left.
 #[cycle(eval)]
 #[tactic(auto, using(crate::proofs::Steps::worths_steps, crate::proofs::Weights::weight_in))]
-fn eval_all(scope: &Scope<'_>, names: &Names<'_>, exprs: &[Expr]) -> Result<Items<Value>, EvalFault>
+pub(crate) fn eval_all(
+    scope: &Scope<'_>,
+    names: &Names<'_>,
+    exprs: &[Expr],
+) -> Result<Items<Value>, EvalFault>
     ensures { Gives result (worths scope.now.content.now scope.now.uses (env_in names.now) exprs.now) }
 {
     let mut values = Items::new(scope.alloc);
@@ -629,10 +513,10 @@ fn eval_choice(
     eval_fields(scope, names, fields, sets, each)
 }
 
-// The number of the first event of a channel that begins with these fields.
+/// The number of the first event of a channel that begins with these fields.
 #[cycle(eval)]
 #[tactic(auto, using(crate::proofs::FieldSteps::fronts_found, crate::proofs::Arms::event_steps))]
-fn eval_front(
+pub(crate) fn eval_front(
     scope: &Scope<'_>,
     names: &Names<'_>,
     channel: u32,
@@ -769,10 +653,10 @@ fn enter(
     }
 }
 
-// Whether there is one more binding, under which the walk then stands.
+/// Whether there is one more binding, under which the walk then stands.
 #[cycle(eval)]
 #[tactic(auto, using(crate::proofs::Courses::step_less))]
-fn find_binding(
+pub(crate) fn find_binding(
     scope: &Scope<'_>,
     names: &Names<'_>,
     gens: &[Gen],

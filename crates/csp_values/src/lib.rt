@@ -9,10 +9,11 @@ mod fitting;
 mod reads;
 mod tally;
 mod walk;
+mod whole;
 
-pub use evaluation::{
+pub use value_operators::EvalFault;
+pub use walk::Walk;
+pub use whole::{
     binding_under, eval, eval_all_under, eval_all_with, eval_in, eval_set, eval_under, eval_with,
     front_under,
 };
-pub use value_operators::EvalFault;
-pub use walk::Walk;

@@ -2,7 +2,7 @@ use Rattle.std.proofs.Common.{[], ap, sym, ◌∙◌}
 use Rattle.csp_values.specs.Worth.{worth}
 use Rattle.csp_values.proofs.Arms.{same}
 use Rattle.csp_values.proofs.Equations.{whole_value}
-use Rattle.csp_values.proofs.evaluation.eval_fitting.Goals as goal
+use Rattle.csp_values.proofs.whole.eval_fitting.Goals as goal
 
 pub returns : goal.returns
 returns c =
