@@ -11,5 +11,6 @@ pub mod Noting
 pub mod Numbered
 pub mod Places
 pub mod Rounds
+pub mod SetLemmas
 pub mod Targets
 pub mod Walking

@@ -115,6 +115,7 @@ fits_stay p old new kept front h = record {
   operators = noted_stay p old new front kept.operators kept.places h.operators;
   bodies = bodies_stay p old new front kept.bodies h.bodies;
   stepped = kept_stay (λ ss t. AreEach old ss (steps_of p t)) (λ ss t. AreEach new ss (steps_of p t)) old new front (λ ss t. each_stay old new front ss (steps_of p t)) kept.lists kept.stepped h.stepped;
+  sets = h.sets;
 }
 
 pub fits_then : {A E : Type 0} (p : Content) (old new : List Proc) (kept : Evaluated) (r : Result A E) → IsFront old new → Fits p old kept → OnOk r (Fits p new kept)
@@ -125,13 +126,13 @@ fits_then p old new kept (Err f) front h = tt
 pub fits_bodies : (p : Content) (old mid new : List Proc) (kept : Evaluated) (bodies : HashMap ℕ ℕ _) → IsFront old mid → IsFront mid new → Fits p old kept → AreBodies p mid bodies → Fits p new (record kept { bodies = bodies })
 fits_bodies p old mid new kept bodies first second h are =
     let stays = fits_stay p old new kept (front_both old mid new first second) h in
-    record { operators = stays.operators; bodies = bodies_stay p mid new second bodies are; stepped = stays.stepped }
+    record { operators = stays.operators; bodies = bodies_stay p mid new second bodies are; stepped = stays.stepped; sets = stays.sets }
 
 -- and where more places have numbers of operators
 pub fits_noted : (p : Content) (old new : List Proc) (kept : Evaluated) (places : HashMap ℕ ℕ _) → IsFront old new → Fits p old kept → AreNoted p new kept.operators places → Fits p new (record kept { places = places })
 fits_noted p old new kept places front h are =
     let stays = fits_stay p old new kept front h in
-    record { operators = are; bodies = stays.bodies; stepped = stays.stepped }
+    record { operators = are; bodies = stays.bodies; stepped = stays.stepped; sets = stays.sets }
 
 -- the body of a definition, at the place that is kept for it
 pub body_at : (p : Content) (trees : List Proc) (d q : ℕ) (body : Proc) → StandsAs trees q (λ t. body_of (slice_get p.defs d) ≡ Some t) → body_of (slice_get p.defs d) ≡ Some body → slice_get trees q ≡ Some body
@@ -154,6 +155,7 @@ operator_new p trees kept id k op operators places h within does last grown upda
     operators = kept_push (Does p trees) trees kept.operators operators op kept.places places id.0 k h.operators (stands_at trees id (Does p trees op) within does) grown last updates;
     bodies = h.bodies;
     stepped = h.stepped;
+    sets = h.sets;
   };
   has = record { value = op; listed = pushed_at kept.operators operators op k grown last; holds = does };
 }
@@ -172,6 +174,7 @@ fits_emptied p trees kept lists stepped count empty h = record {
   operators = h.operators;
   bodies = h.bodies;
   stepped = no_key (λ q k. HasValue lists k (λ ss. StandsAs trees q (λ t. AreEach trees ss (steps_of p t)))) stepped empty;
+  sets = h.sets;
 }
 
 pub fits_stepped : (p : Content) (trees : List Proc) (kept : Evaluated) (id : ProcId) (k : ℕ) (steps copy : List StepTo) (lists : List (List StepTo)) (stepped : HashMap ℕ ℕ _) → Fits p trees kept → id.0 < length trees
@@ -182,6 +185,7 @@ fits_stepped p trees kept id k steps copy lists stepped h within each e last gro
   bodies = h.bodies;
   stepped = kept_push (λ ss t. AreEach trees ss (steps_of p t)) trees kept.lists lists copy kept.stepped stepped id.0 k h.stepped
       (stands_at trees id (λ t. AreEach trees copy (steps_of p t)) within (subst (λ (ss : List StepTo). AreEach trees ss (steps_of p (tree_at trees id))) (sym e) each)) grown last updates;
+  sets = h.sets;
 }
 
 pub numbered_stay : (p : Content) (old new : List Proc) (operators : List Operator) (round : Round) → IsFront old new → round.id.0 < length old → IsNumbered p old operators round → IsNumbered p new operators round

@@ -1,12 +1,15 @@
--- What is kept of evaluations: the operators round processes, by their places in a pool, and the places of the bodies of definitions; and steps.
-use Rattle.std.specs.Prelude.{◌≡◌, ℕ, nat_eq, Option, Some, None, Result, List, slice_get}
+-- What is kept of evaluations: the operators round processes, by their places in a pool, and the places of the bodies of definitions; steps; and sets.
+use Rattle.std.specs.Prelude.{◌≡◌, ℕ, nat_eq, Option, Some, None, Result, Ok, List, map, slice_get}
 use Rattle.std.specs.HashMap.{HashMap, get}
+use Rattle.csp_atoms.specs.declared.atom.Atom.{Atom}
+use Rattle.csp_program.specs.declared.expressions.Expr.{Expr}
 use Rattle.csp_program.specs.declared.processes.Proc.{Proc}
 use Rattle.csp_program.specs.declared.programs.Body.{Body}
 use Rattle.csp_program.specs.declared.programs.Body.TheVariants as body
 use Rattle.csp_program.specs.declared.programs.Content.{Content}
 use Rattle.csp_program.specs.declared.programs.Def.{Def}
 use Rattle.csp_program.specs.Outcome.{Outcome}
+use Rattle.process_steps.specs.Needed.{set_in}
 use Rattle.process_steps.specs.Renaming.{Renamed}
 use Rattle.process_steps.specs.StepList.{steps_of}
 use Rattle.step_values.specs.Images.{KeepsOutcome}
@@ -18,6 +21,7 @@ use Rattle.csp_steps.specs.Effect.{effect_of, Does}
 use Rattle.csp_steps.specs.declared.around.Round.{Round}
 use Rattle.csp_steps.specs.declared.evaluated.Evaluated.{Evaluated}
 use Rattle.csp_steps.specs.declared.operator.Operator.{Operator}
+use Rattle.csp_steps.specs.declared.sets.Sets.{Sets}
 use Rattle.csp_steps.specs.declared.step.StepTo.{StepTo}
 
 -- at the place q stands a process of which this holds
@@ -57,11 +61,16 @@ body_of (Some def) = process_body def.body
 abbrev pub AreBodies : {S : Type 0} → Content → List Proc → HashMap ℕ ℕ S → Type 0
 AreBodies p trees bodies = (d q : ℕ) → get nat_eq bodies d ≡ Some q → StandsAs trees q (λ t. body_of (slice_get p.defs d) ≡ Some t)
 
+-- each expression is worth the set that is kept for it
+abbrev pub AreSets : Content → Sets → Type 0
+AreSets p sets = map (set_in p) sets.exprs ≡ map (λ (atoms : List Atom). Ok atoms) sets.atoms
+
 -- What is kept is true of the program and of the processes of the pool.
 pub record Fits (p : Content) (trees : List Proc) (kept : Evaluated) : Type 0 where
   pub operators : AreNoted p trees kept.operators kept.places
   pub bodies : AreBodies p trees kept.bodies
   pub stepped : AreStepped p trees kept.lists kept.stepped
+  pub sets : AreSets p kept.sets
 
 -- the operator of a round has this number, and is that of the process
 pub record IsNumbered (p : Content) (trees : List Proc) (operators : List Operator) (round : Round) : Type 0 where
@@ -73,7 +82,12 @@ pub record HasNumber (p : Content) (trees : List Proc) (kept : Evaluated) (k : �
   pub fits : Fits p trees kept
   pub has : HasValue kept.operators k (λ op. Does p trees op t)
 
--- what calls answer that evaluate a renaming and an operator, and that find the number of an operator
+-- the set with the number k is what the expression is worth, and those that are kept are true
+pub record HasSet (p : Content) (sets : Sets) (k : ℕ) (e : Expr) : Type 0 where
+  pub sound : AreSets p sets
+  pub has : HasValue sets.atoms k (λ atoms. set_in p e ≡ Ok atoms)
+
+-- what calls answer that evaluate a renaming and an operator, and that find the number of an operator and of a set
 abbrev pub GivesImages : Result Images EvalFault → Outcome (List Renamed) → Type 0
 GivesImages result outcome = Answers (λ kept. KeepsOutcome kept outcome) result outcome
 
@@ -82,3 +96,6 @@ GivesOperator p trees result t = Answers (λ op. Does p trees op t) result (effe
 
 abbrev pub GivesNumber : Content → List Proc → Evaluated → Result ℕ EvalFault → Proc → Type 0
 GivesNumber p trees kept result t = Answers (λ k. HasNumber p trees kept k t) result (effect_of p t)
+
+abbrev pub GivesSet : Content → Sets → Result ℕ EvalFault → Expr → Type 0
+GivesSet p sets result e = Answers (λ k. HasSet p sets k e) result (set_in p e)

@@ -11,8 +11,9 @@ ghost use Rattle.csp_steps.specs.Computed.{AreEach};
 ghost use Rattle.csp_steps.specs.Evaluated.{body_of, AreBodies, Fits, GivesNumber};
 
 use crate::operator::{Operator, operator_at};
+use crate::sets::Sets;
 use crate::step::StepTo;
-use containers::Items;
+use containers::{Items, Key};
 use csp_base::NoMemory;
 use csp_program::{Proc, Program};
 use csp_values::EvalFault;
@@ -23,7 +24,7 @@ use term_pool::{Pool, ProcId};
 // So many steps are kept at most, unless there are more at one place.
 const MOST_KEPT: usize = 4_194_304;
 
-/// What was evaluated for the processes of a pool: operators, and the places of the bodies of definitions; and steps.
+/// What was evaluated for the processes of a pool: operators, and the places of the bodies of definitions; steps; and sets.
 #[derive(Drop)]
 pub struct Evaluated {
     /// Operators round processes.
@@ -38,11 +39,13 @@ pub struct Evaluated {
     pub(crate) stepped: HashMap<usize, usize>,
     /// How many steps are kept.
     pub(crate) kept: usize,
+    /// Sets that expressions are worth.
+    pub(crate) sets: Sets,
 }
 
 impl Evaluated {
-    /// Nothing yet.
-    pub fn new(alloc: Global) -> Evaluated
+    /// Nothing yet. Expressions are found by their hashes under this key.
+    pub fn new(alloc: Global, key: Key) -> Evaluated
         ensures { (p : Content) → (trees : List Process) → Fits p trees result }
     {
         Evaluated {
@@ -52,6 +55,7 @@ impl Evaluated {
             lists: Items::new(alloc),
             stepped: HashMap::new(alloc),
             kept: 0,
+            sets: Sets::new(alloc, key.quick()),
         }
     }
 }

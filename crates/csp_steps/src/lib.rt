@@ -15,6 +15,7 @@ mod look;
 mod once;
 mod operator;
 mod prefix;
+mod sets;
 mod step;
 mod steps;
 mod walk;

@@ -21,16 +21,17 @@ use crate::choice::{each_put, silent_to};
 use crate::entered::enter;
 use crate::evaluated::Evaluated;
 use crate::prefix::prefix_steps;
+use crate::sets::{atoms_of, set_of};
 use crate::step::StepTo;
 use containers::Items;
-use csp_atoms::{AtomSet, Value};
+use csp_atoms::{Atom, Value};
 use csp_base::NoMemory;
 use csp_program::copies::copy_fields;
 use csp_program::{Expr, Field, Program, ValueKind};
 use csp_values::EvalFault;
 use process_steps::Label;
 use std::alloc::Global;
-use step_values::{Start, arguments_in, of_head, set_in, truth_in};
+use step_values::{Start, arguments_in, of_head, truth_in};
 use term_pool::{Node, Pool, ProcId};
 
 const EMPTY_CHOICE: EvalFault = EvalFault::Value {
@@ -132,20 +133,19 @@ fn look_external(alloc: Global, ids: &[ProcId]) -> Result<Look, EvalFault>
     Ok(Look::Choice(ids))
 }
 
-// A choice between what a process is with each value of a set, from what the set comes to.
+// A choice between what a process is with each value of a set.
 fn look_each_external(
     alloc: Global,
     pool: &mut Pool,
     name: u32,
-    atoms: Result<AtomSet, EvalFault>,
+    atoms: &[Atom],
     id: ProcId,
 ) -> Result<Look, EvalFault>
     requires within { id.0 < length pool.old }
-    ensures look { (p : Content) → (s : Expression) → Gives atoms (need.set_in p s) → GivesLook p pool.new result (proc.EachExternal name s (tree_at pool.old id)) }
+    ensures look { (p : Content) → (s : Expression) → need.set_in p s ≡ Ok atoms.now → GivesLook p pool.new result (proc.EachExternal name s (tree_at pool.old id)) }
     ensures front { IsFront pool.old pool.new }
 {
-    let atoms = atoms?;
-    let ids = each_put(alloc, pool, name, atoms.as_slice(), id)?;
+    let ids = each_put(alloc, pool, name, atoms, id)?;
     Ok(Look::Choice(ids))
 }
 
@@ -154,15 +154,13 @@ fn look_each_internal(
     alloc: Global,
     pool: &mut Pool,
     name: u32,
-    atoms: Result<AtomSet, EvalFault>,
+    atoms: &[Atom],
     id: ProcId,
 ) -> Result<Look, EvalFault>
     requires within { id.0 < length pool.old }
-    ensures look { (p : Content) → (s : Expression) → Gives atoms (need.set_in p s) → GivesLook p pool.new result (proc.EachInternal name s (tree_at pool.old id)) }
+    ensures look { (p : Content) → (s : Expression) → need.set_in p s ≡ Ok atoms.now → GivesLook p pool.new result (proc.EachInternal name s (tree_at pool.old id)) }
     ensures front { IsFront pool.old pool.new }
 {
-    let set = atoms?;
-    let atoms = set.as_slice();
     if atoms.is_empty() {
         return Err(EMPTY_CHOICE);
     }
@@ -228,11 +226,13 @@ pub(crate) fn look_at(
             look_prefix(alloc, program, pool, &start, fields, to)
         }
         Node::EachExternal(name, set, below) => {
-            let atoms = set_in(alloc, program, set);
+            let number = set_of(alloc, program, &mut evaluated.sets, set)?;
+            let atoms = atoms_of(&evaluated.sets, number);
             look_each_external(alloc, pool, name, atoms, below)
         }
         Node::EachInternal(name, set, below) => {
-            let atoms = set_in(alloc, program, set);
+            let number = set_of(alloc, program, &mut evaluated.sets, set)?;
+            let atoms = atoms_of(&evaluated.sets, number);
             look_each_internal(alloc, pool, name, atoms, below)
         }
         Node::Call(def, args) => {

@@ -26,7 +26,7 @@ impl Terms {
     {
         Terms {
             pool: Pool::new(alloc, key),
-            evaluated: Evaluated::new(alloc),
+            evaluated: Evaluated::new(alloc, key),
         }
     }
 }

@@ -9,10 +9,11 @@ use Rattle.term_pool.specs.Trees.{all_below, tree_at}
 use Rattle.pool_parts.specs.declared.place.ProcId.{ProcId}
 use Rattle.csp_steps.specs.declared.look.Look.TheVariants as look
 use Rattle.csp_steps.specs.Computed.{GivesLook}
-use Rattle.csp_steps.proofs.Computing.{start_passed}
-use Rattle.csp_steps.proofs.Forms.{ended, every_place, first_place, head_fault, hide, look_at, rename, second_place, sequence, stop}
+use Rattle.csp_steps.proofs.Computing.{passed, start_passed}
+use Rattle.csp_steps.proofs.Forms.{each_external_fault, each_internal_fault, ended, every_place, first_place, head_fault, hide, look_at, rename, second_place, sequence, stop}
 use Rattle.csp_steps.proofs.Looking.{none_listed}
 use Rattle.csp_steps.proofs.Noting.{fits_then}
+use Rattle.csp_steps.proofs.SetLemmas.{fits_sets, worth_atoms}
 use Rattle.csp_steps.proofs.look.look_at.Goals as goal
 
 pub returns-in-Stop-clause-look : goal.returns-in-Stop-clause-look
@@ -80,15 +81,29 @@ returns-in_ok-start-in-Prefix-clause-look c =
     (c.look_prefix.ensures.look c.in-Prefix.head.now c.in-Prefix.fields.now
     (subst (λ (written : List Field). IfOk c.copy_fields-fields.result (λ fs. fs ≡ written)) c.as_slice-in-Prefix.ensures c.copy_fields-fields.ensures) c.in_ok-start-in-Prefix.ensures.0 c.in_ok-start-in-Prefix.ensures.1 c.in_ok-start-in-Prefix.ensures.2)
 
-pub returns-in-EachExternal-clause-look : goal.returns-in-EachExternal-clause-look
-returns-in-EachExternal-clause-look c =
-    look_at c.args.program.now c.args.pool.now c.look_each_external.new.pool c.look_each_external.result c.node.result _ (tree_at c.args.pool.now c.args.id) c.node.ensures.process c.in-EachExternal.is
-    (c.look_each_external.ensures.look c.args.program.now c.in-EachExternal.set.now c.set_in-atoms.ensures)
+pub returns-in_err-number-in-EachExternal-clause-look : goal.returns-in_err-number-in-EachExternal-clause-look
+returns-in_err-number-in-EachExternal-clause-look c =
+    look_at c.args.program.now c.args.pool.now c.args.pool.now _ c.node.result _ (tree_at c.args.pool.now c.args.id) c.node.ensures.process c.in-EachExternal.is
+    (passed _ _ _ _ _ c.from_residual-in_err-number-in-EachExternal.ensures.1 c.in_err-number-in-EachExternal.ensures
+    (λ k e. each_external_fault c.args.program.now c.in-EachExternal.name c.in-EachExternal.set.now (tree_at c.args.pool.now c.in-EachExternal.below) k e))
 
-pub returns-in-EachInternal-clause-look : goal.returns-in-EachInternal-clause-look
-returns-in-EachInternal-clause-look c =
+pub returns-in_ok-number-in-EachExternal-clause-look : goal.returns-in_ok-number-in-EachExternal-clause-look
+returns-in_ok-number-in-EachExternal-clause-look c =
+    look_at c.args.program.now c.args.pool.now c.look_each_external.new.pool c.look_each_external.result c.node.result _ (tree_at c.args.pool.now c.args.id) c.node.ensures.process c.in-EachExternal.is
+    (c.look_each_external.ensures.look c.args.program.now c.in-EachExternal.set.now
+    (worth_atoms c.args.program.now c.set_of.new.sets c.in_ok-number-in-EachExternal.number c.in-EachExternal.set.now c.atoms_of-atoms.result.now c.in_ok-number-in-EachExternal.ensures c.atoms_of-atoms.ensures))
+
+pub returns-in_err-number-in-EachInternal-clause-look : goal.returns-in_err-number-in-EachInternal-clause-look
+returns-in_err-number-in-EachInternal-clause-look c =
+    look_at c.args.program.now c.args.pool.now c.args.pool.now _ c.node.result _ (tree_at c.args.pool.now c.args.id) c.node.ensures.process c.in-EachInternal.is
+    (passed _ _ _ _ _ c.from_residual-in_err-number-in-EachInternal.ensures.1 c.in_err-number-in-EachInternal.ensures
+    (λ k e. each_internal_fault c.args.program.now c.in-EachInternal.name c.in-EachInternal.set.now (tree_at c.args.pool.now c.in-EachInternal.below) k e))
+
+pub returns-in_ok-number-in-EachInternal-clause-look : goal.returns-in_ok-number-in-EachInternal-clause-look
+returns-in_ok-number-in-EachInternal-clause-look c =
     look_at c.args.program.now c.args.pool.now c.look_each_internal.new.pool c.look_each_internal.result c.node.result _ (tree_at c.args.pool.now c.args.id) c.node.ensures.process c.in-EachInternal.is
-    (c.look_each_internal.ensures.look c.args.program.now c.in-EachInternal.set.now c.set_in-atoms-in-EachInternal.ensures)
+    (c.look_each_internal.ensures.look c.args.program.now c.in-EachInternal.set.now
+    (worth_atoms c.args.program.now c.set_of-in-EachInternal.new.sets c.in_ok-number-in-EachInternal.number c.in-EachInternal.set.now c.atoms_of-atoms-in-EachInternal.result.now c.in_ok-number-in-EachInternal.ensures c.atoms_of-atoms-in-EachInternal.ensures))
 
 pub returns-in-Call-clause-look : goal.returns-in-Call-clause-look
 returns-in-Call-clause-look c =
@@ -101,10 +116,12 @@ returns-in-Skip-clause-fits c = fits_then c.args.program.now c.args.pool.now c.l
 pub returns-in_ok-start-in-Prefix-clause-fits : goal.returns-in_ok-start-in-Prefix-clause-fits
 returns-in_ok-start-in-Prefix-clause-fits c = fits_then c.args.program.now c.args.pool.now c.look_prefix.new.pool c.args.evaluated.now c.look_prefix.result c.look_prefix.ensures.front c.requires.fits
 
-pub returns-in-EachExternal-clause-fits : goal.returns-in-EachExternal-clause-fits
-returns-in-EachExternal-clause-fits c =
-    fits_then c.args.program.now c.args.pool.now c.look_each_external.new.pool c.args.evaluated.now c.look_each_external.result c.look_each_external.ensures.front c.requires.fits
+pub returns-in_ok-number-in-EachExternal-clause-fits : goal.returns-in_ok-number-in-EachExternal-clause-fits
+returns-in_ok-number-in-EachExternal-clause-fits c =
+    fits_sets c.args.program.now c.args.pool.now c.look_each_external.new.pool c.args.evaluated.now c.set_of.new.sets c.look_each_external.result c.look_each_external.ensures.front c.requires.fits
+    c.in_ok-number-in-EachExternal.ensures.sound
 
-pub returns-in-EachInternal-clause-fits : goal.returns-in-EachInternal-clause-fits
-returns-in-EachInternal-clause-fits c =
-    fits_then c.args.program.now c.args.pool.now c.look_each_internal.new.pool c.args.evaluated.now c.look_each_internal.result c.look_each_internal.ensures.front c.requires.fits
+pub returns-in_ok-number-in-EachInternal-clause-fits : goal.returns-in_ok-number-in-EachInternal-clause-fits
+returns-in_ok-number-in-EachInternal-clause-fits c =
+    fits_sets c.args.program.now c.args.pool.now c.look_each_internal.new.pool c.args.evaluated.now c.set_of-in-EachInternal.new.sets c.look_each_internal.result c.look_each_internal.ensures.front c.requires.fits
+    c.in_ok-number-in-EachInternal.ensures.sound
