@@ -1,5 +1,5 @@
 -- Sets that are kept: one more, and the one that is kept for an expression.
-use Rattle.std.proofs.Common.{◌≡◌, ℕ, zero, suc, Bool, true, false, cond, not, Some, Ok, List, [], ◌∷◌, ◌++◌, map, slice_get, refl, ap, sym, ◌∙◌}
+use Rattle.std.proofs.Common.{◌≡◌, ℕ, zero, suc, Bool, true, false, cond, not, Some, Ok, Err, List, [], ◌∷◌, ◌++◌, map, slice_get, refl, ap, sym, ◌∙◌}
 use Rattle.std.proofs.lemmas.List.{map-append}
 use Rattle.std.specs.Prelude.{OnOk, Result}
 use Rattle.csp_atoms.specs.declared.atom.Atom.{Atom}
@@ -12,7 +12,7 @@ use Rattle.term_pool.specs.Pooled.{IsFront}
 use Rattle.csp_steps.specs.Evaluated.{AreSets, Fits, HasSet, HasValue}
 use Rattle.csp_steps.specs.declared.evaluated.Evaluated.{Evaluated}
 use Rattle.csp_steps.specs.declared.sets.Sets.{Sets}
-use Rattle.csp_steps.proofs.Noting.{fits_then}
+use Rattle.csp_steps.proofs.Noting.{fits_stay, fits_then}
 
 module _ (f : Expr → Outcome (List Atom)) where
   kept_at : (exprs : List Expr) (sets : List (List Atom)) (k : ℕ) (e : Expr) → map f exprs ≡ map (λ (atoms : List Atom). Ok atoms) sets → slice_get exprs k ≡ Some e → HasValue sets k (λ atoms. f e ≡ Ok atoms)
@@ -65,3 +65,7 @@ module _ (p : Content) where
   pub fits_sets : {A E : Type 0} (old new : List Proc) (kept : Evaluated) (sets : Sets) (r : Result A E) → IsFront old new → Fits p old kept → AreSets p sets → OnOk r (Fits p new (record kept { sets = sets }))
   fits_sets old new kept sets r front h are =
       fits_then p old new (record kept { sets = sets }) r front (record { operators = h.operators; bodies = h.bodies; stepped = h.stepped; sets = are })
+
+  pub fits_given : {A E : Type 0} (old new : List Proc) (kept : Evaluated) (sets : Sets) (r : Result A E) → IsFront old new → Fits p old kept → OnOk r (AreSets p sets) → OnOk r (Fits p new (record kept { sets = sets }))
+  fits_given old new kept sets (Ok x) front h are = fits_stay p old new (record kept { sets = sets }) front (record { operators = h.operators; bodies = h.bodies; stepped = h.stepped; sets = are })
+  fits_given old new kept sets (Err f) front h are = tt

@@ -1,6 +1,6 @@
 //! What comes next in the fields of a prefix, under the values of the inputs before.
 
-ghost use Rattle.std.specs.Prelude.{◌≡◌, ◌≤◌, [], IfOk, Ok};
+ghost use Rattle.std.specs.Prelude.{◌≡◌, ◌≤◌, [], IfOk, Ok, OnOk};
 ghost use Rattle.csp_program.specs.Outcome.{and_then};
 ghost use Rattle.csp_program.specs.Value.{Env};
 ghost use Rattle.csp_program.specs.declared.programs.Content.{Content};
@@ -8,8 +8,10 @@ ghost use Rattle.process_steps.specs.Prefix as meant;
 ghost use Rattle.value_laws.specs.Numbers.{field_place};
 ghost use Rattle.value_operators.specs.Env.{with_bound};
 ghost use Rattle.value_operators.specs.Gives.{Gives};
+ghost use Rattle.csp_steps.specs.Evaluated.{AreSets};
 ghost use Rattle.csp_steps.specs.Walked.{is_blocked, is_plain, next_weight, number_with, turn_ways, ways_by_number, weight, GivesNext};
 
+use crate::sets::{Sets, known_set};
 use crate::walk::{Input, Turn};
 use csp_atoms::{Atom, AtomSet, Value};
 use csp_program::{Expr, Field, Program, ValueKind};
@@ -87,10 +89,20 @@ fn value_under(
     eval_under(filling.alloc, filling.program, bound, expr)
 }
 
-// A set of values under names that are bound.
-fn set_under(filling: &Filling<'_>, bound: &[(u32, Atom)], set: &Expr) -> Result<AtomSet, EvalFault>
-    ensures { Gives result (meant.set_under filling.now.program.now (with_bound bound.now []) set.now) }
+// A set of values under names that are bound. Where there are none yet, it is closed.
+fn set_under(
+    filling: &Filling<'_>,
+    kept: &mut Sets,
+    bound: &[(u32, Atom)],
+    set: &Expr,
+) -> Result<AtomSet, EvalFault>
+    requires { AreSets filling.now.program.now kept.old }
+    ensures set { Gives result (meant.set_under filling.now.program.now (with_bound bound.now []) set.now) }
+    ensures kept { OnOk result (AreSets filling.now.program.now kept.new) }
 {
+    if bound.is_empty() {
+        return known_set(filling.alloc, filling.program, kept, set);
+    }
     let value = value_under(filling, bound, set)?;
     to_set(value)
 }
@@ -98,14 +110,17 @@ fn set_under(filling: &Filling<'_>, bound: &[(u32, Atom)], set: &Expr) -> Result
 // The values that an input may take, where a set is given.
 fn values_given(
     filling: &Filling<'_>,
+    kept: &mut Sets,
     bound: &[(u32, Atom)],
     set: &Option<Expr>,
 ) -> Result<Option<AtomSet>, EvalFault>
-    ensures { Gives result (meant.given_under filling.now.program.now (with_bound bound.now []) set.now) }
+    requires { AreSets filling.now.program.now kept.old }
+    ensures kept { OnOk result (AreSets filling.now.program.now kept.new) }
+    ensures given { Gives result (meant.given_under filling.now.program.now (with_bound bound.now []) set.now) }
 {
     match set {
         Some(set) => {
-            let atoms = set_under(filling, bound, set)?;
+            let atoms = set_under(filling, kept, bound, set)?;
             Ok(Some(atoms))
         }
         None => Ok(None),
@@ -148,9 +163,12 @@ fn end_of<'a>(fields: &[Field], number: u64) -> Result<Next<'a>, EvalFault>
 /// What comes after the outputs at the front of the fields that are on turn.
 pub(crate) fn next_of<'a>(
     filling: &Filling<'_>,
+    kept: &mut Sets,
     bound: &[(u32, Atom)],
     turn: &Turn<'a>,
 ) -> Result<Next<'a>, EvalFault>
+    requires { AreSets filling.now.program.now kept.old }
+    ensures kept { OnOk result (AreSets filling.now.program.now kept.new) }
     ensures next { GivesNext filling.now.program.now (with_bound bound.now []) result (turn_ways filling.now.program.now (with_bound bound.now []) turn.now) }
     ensures less { IfOk result (λ next. next_weight next ≤ weight turn.now.sets.now) }
 {
@@ -168,7 +186,7 @@ pub(crate) fn next_of<'a>(
                 fields = later;
             }
             Field::Get(name, given) => {
-                let given = values_given(filling, bound, given)?;
+                let given = values_given(filling, kept, bound, given)?;
                 return Ok(Next::Input(Input {
                     name: *name,
                     set,

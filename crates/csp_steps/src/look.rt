@@ -12,7 +12,7 @@ ghost use Rattle.process_steps.specs.Ways as meant;
 ghost use Rattle.term_pool.specs.Pooled.{IsFront};
 ghost use Rattle.term_pool.specs.Trees.{all_below, tree_at};
 ghost use Rattle.csp_steps.specs.Computed.{GivesLook};
-ghost use Rattle.csp_steps.specs.Evaluated.{Fits};
+ghost use Rattle.csp_steps.specs.Evaluated.{AreSets, Fits};
 ghost use Rattle.step_values.specs.Starts.{IsStart};
 ghost use Rattle.value_operators.specs.Gives.{Gives};
 
@@ -21,7 +21,7 @@ use crate::choice::{each_put, silent_to};
 use crate::entered::enter;
 use crate::evaluated::Evaluated;
 use crate::prefix::prefix_steps;
-use crate::sets::{atoms_of, set_of};
+use crate::sets::{Sets, atoms_of, set_of};
 use crate::step::StepTo;
 use containers::Items;
 use csp_atoms::{Atom, Value};
@@ -112,16 +112,19 @@ fn look_prefix(
     alloc: Global,
     program: &Program,
     pool: &mut Pool,
+    sets: &mut Sets,
     start: &Start<'_>,
     fields: Result<Items<Field>, NoMemory>,
     id: ProcId,
 ) -> Result<Look, EvalFault>
     requires within { id.0 < length pool.old }
+    requires sets { AreSets program.now sets.old }
+    ensures sets { OnOk result (AreSets program.now sets.new) }
     ensures look { (head : LogicHead) → (written : List LogicField) → IfOk fields (λ fs. fs ≡ written) → (among : meant.Among) → meant.of_head program.now head ≡ Ok among → IsStart program.now start.now among → GivesLook program.now pool.new result (proc.Prefix head written (tree_at pool.old id)) }
     ensures front { IsFront pool.old pool.new }
 {
     let fields = fields?;
-    let steps = prefix_steps(alloc, program, pool, start, fields.as_slice(), id)?;
+    let steps = prefix_steps(alloc, program, pool, sets, start, fields.as_slice(), id)?;
     Ok(Look::Steps(steps))
 }
 
@@ -223,7 +226,15 @@ pub(crate) fn look_at(
         Node::Prefix(head, fields, to) => {
             let start = of_head(program, head)?;
             let fields = copy_fields(alloc, fields.as_slice());
-            look_prefix(alloc, program, pool, &start, fields, to)
+            look_prefix(
+                alloc,
+                program,
+                pool,
+                &mut evaluated.sets,
+                &start,
+                fields,
+                to,
+            )
         }
         Node::EachExternal(name, set, below) => {
             let number = set_of(alloc, program, &mut evaluated.sets, set)?;

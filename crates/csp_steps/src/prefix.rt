@@ -9,10 +9,12 @@ ghost use Rattle.term_pool.specs.Pooled.{IsFront};
 ghost use Rattle.term_pool.specs.Trees.{tree_at};
 ghost use Rattle.value_operators.specs.Env.{with_bound};
 ghost use Rattle.csp_steps.specs.Computed.{all_within, AreMoves, GivesMoves};
+ghost use Rattle.csp_steps.specs.Evaluated.{AreSets};
 ghost use Rattle.csp_steps.specs.Listed.{seen};
 ghost use Rattle.csp_steps.specs.Walked.{filled, input_ways, nth_event, turned_ways, turned_weight, way_move, ways_by_number, weight, GivesRound, GivesTurned, IsSound, IsTaken};
 
 use crate::fields::{Filling, Next, are_blocked, next_of, number_after};
+use crate::sets::Sets;
 use crate::step::StepTo;
 use crate::walk::{Frame, Input, Turn, Turned, Walk, begun, bind, pop};
 use containers::Items;
@@ -76,14 +78,17 @@ fn take<'a>(walk: &mut Walk<'a>, input: Input<'a>, place: usize) -> Result<(), N
 // Goes on with the fields on turn: through outputs to their end, which is a way to fill all fields, or to an input.
 fn go_on<'a>(
     filling: &Filling<'_>,
+    sets: &mut Sets,
     walk: &mut Walk<'a>,
     turn: &Turn<'a>,
 ) -> Result<Turned, EvalFault>
     requires turn { walk.old.turn ≡ Some turn.now }
     requires sound { IsSound walk.old }
-    ensures { GivesTurned result filling.now.program.now walk.old walk.new }
+    requires sets { AreSets filling.now.program.now sets.old }
+    ensures turned { GivesTurned result filling.now.program.now walk.old walk.new }
+    ensures sets { OnOk result (AreSets filling.now.program.now sets.new) }
 {
-    match next_of(filling, walk.bound.as_slice(), turn)? {
+    match next_of(filling, sets, walk.bound.as_slice(), turn)? {
         Next::End(number) => {
             walk.turn = None;
             Ok(Turned::Way(number))
@@ -96,12 +101,14 @@ fn go_on<'a>(
 }
 
 // One turn of a walk: the fields on turn, or the next value of the last input.
-fn advance(filling: &Filling<'_>, walk: &mut Walk<'_>) -> Result<Turned, EvalFault>
-    requires { IsSound walk.old }
-    ensures { GivesTurned result filling.now.program.now walk.old walk.new }
+fn advance(filling: &Filling<'_>, sets: &mut Sets, walk: &mut Walk<'_>) -> Result<Turned, EvalFault>
+    requires sound { IsSound walk.old }
+    requires sets { AreSets filling.now.program.now sets.old }
+    ensures sets { OnOk result (AreSets filling.now.program.now sets.new) }
+    ensures turned { GivesTurned result filling.now.program.now walk.old walk.new }
 {
     if let Some(turn) = walk.turn {
-        return go_on(filling, walk, &turn);
+        return go_on(filling, sets, walk, &turn);
     }
     match pop(walk) {
         Some(frame) => {
@@ -154,6 +161,7 @@ fn add_way(
 fn turn_on(
     filling: &Filling<'_>,
     pool: &mut Pool,
+    sets: &mut Sets,
     walk: &mut Walk<'_>,
     to: ProcId,
     steps: &mut Items<StepTo>,
@@ -161,10 +169,12 @@ fn turn_on(
     requires sound { IsSound walk.old }
     requires to { to.0 < length pool.old }
     requires within { all_within (length pool.old) steps.old ≡ true }
+    requires sets { AreSets filling.now.program.now sets.old }
+    ensures sets { OnOk result (AreSets filling.now.program.now sets.new) }
     ensures round { GivesRound filling.now.program.now filling.now.first to result pool.old pool.new walk.old walk.new steps.old steps.new }
     ensures front { IsFront pool.old pool.new }
 {
-    match advance(filling, walk)? {
+    match advance(filling, sets, walk)? {
         Turned::Way(number) => {
             add_way(filling, pool, walk.bound.as_slice(), number, to, steps)?;
             Ok(true)
@@ -179,11 +189,14 @@ pub(crate) fn prefix_steps(
     alloc: Global,
     program: &Program,
     pool: &mut Pool,
+    sets: &mut Sets,
     start: &Start<'_>,
     fields: &[Field],
     to: ProcId,
 ) -> Result<Items<StepTo>, EvalFault>
     requires within { to.0 < length pool.old }
+    requires sets { AreSets program.now sets.old }
+    ensures sets { OnOk result (AreSets program.now sets.new) }
     ensures steps { GivesMoves pool.new result (filled [] start.now.first (tree_at pool.old to) (ways_by_number program.now start.now.sets.now fields.now [] 0)) }
     ensures front { IsFront pool.old pool.new }
 {
@@ -204,6 +217,6 @@ pub(crate) fn prefix_steps(
             number: 0,
         },
     );
-    'turns: while turn_on(&filling, pool, &mut walk, to, &mut steps)? {}
+    'turns: while turn_on(&filling, pool, sets, &mut walk, to, &mut steps)? {}
     Ok(steps)
 }

@@ -1,9 +1,10 @@
 //! Sets that closed expressions are worth, each evaluated once.
 
-ghost use Rattle.std.specs.Prelude.{◌≡◌, List, Ok, IfOk, slice_get, Some};
+ghost use Rattle.std.specs.Prelude.{◌≡◌, List, Ok, IfOk, OnOk, slice_get, Some};
 ghost use Rattle.csp_atoms.specs.declared.atom.Atom.{Atom as LogicAtom};
 ghost use Rattle.csp_program.specs.declared.programs.Content.{Content};
 ghost use Rattle.process_steps.specs.Needed as need;
+ghost use Rattle.value_operators.specs.Gives.{Gives};
 ghost use Rattle.csp_steps.specs.Evaluated.{AreSets, GivesSet, HasSet};
 
 use containers::{Items, Numbering, QuickKey};
@@ -87,6 +88,25 @@ pub(crate) fn set_of(
     make_room(alloc, program, sets, atoms.len());
     let number = keep_set(alloc, sets, expr, atoms)?;
     Ok(number)
+}
+
+/// The set that a closed expression is worth.
+pub(crate) fn known_set(
+    alloc: Global,
+    program: &Program,
+    sets: &mut Sets,
+    expr: &Expr,
+) -> Result<AtomSet, EvalFault>
+    requires { AreSets program.now sets.old }
+    ensures set { Gives result (need.set_in program.now expr.now) }
+    ensures sets { OnOk result (AreSets program.now sets.new) }
+{
+    let number = set_of(alloc, program, sets, expr)?;
+    let Some(atoms) = sets.atoms.get(number) else {
+        return Err(EvalFault::NoMemory);
+    };
+    let copy = atoms.try_clone(alloc)?;
+    Ok(copy)
 }
 
 /// The atoms of the set with a number; none, where no set has it.

@@ -1,5 +1,6 @@
 use Rattle.std.proofs.Common.{◌≡◌, ◌≤◌, [], length}
 use Rattle.value_operators.specs.Env.{with_bound}
+use Rattle.csp_steps.specs.Evaluated.{AreSets}
 use Rattle.csp_steps.specs.Walked.{ways_by_number, weight}
 use Rattle.csp_steps.proofs.fields.next_of.Given as goal
 
@@ -7,6 +8,7 @@ use Rattle.csp_steps.proofs.fields.next_of.Given as goal
 abbrev pub invariant-loop-set : goal.invariant-loop-set
 invariant-loop-set l = record {
   same : ways_by_number l.filling.program.now l.turn.sets.now l.turn.fields.now (with_bound l.bound []) l.turn.number ≡ ways_by_number l.filling.program.now l.sets l.fields (with_bound l.bound []) l.number;
+  kept : AreSets l.filling.program.now l.kept;
   less : weight l.sets ≤ weight l.turn.sets.now;
 }
 

@@ -13,7 +13,7 @@ use Rattle.csp_steps.proofs.Computing.{passed, start_passed}
 use Rattle.csp_steps.proofs.Forms.{each_external_fault, each_internal_fault, ended, every_place, first_place, head_fault, hide, look_at, rename, second_place, sequence, stop}
 use Rattle.csp_steps.proofs.Looking.{none_listed}
 use Rattle.csp_steps.proofs.Noting.{fits_then}
-use Rattle.csp_steps.proofs.SetLemmas.{fits_sets, worth_atoms}
+use Rattle.csp_steps.proofs.SetLemmas.{fits_given, fits_sets, worth_atoms}
 use Rattle.csp_steps.proofs.look.look_at.Goals as goal
 
 pub returns-in-Stop-clause-look : goal.returns-in-Stop-clause-look
@@ -114,7 +114,8 @@ pub returns-in-Skip-clause-fits : goal.returns-in-Skip-clause-fits
 returns-in-Skip-clause-fits c = fits_then c.args.program.now c.args.pool.now c.look_skip.new.pool c.args.evaluated.now c.look_skip.result c.look_skip.ensures.front c.requires.fits
 
 pub returns-in_ok-start-in-Prefix-clause-fits : goal.returns-in_ok-start-in-Prefix-clause-fits
-returns-in_ok-start-in-Prefix-clause-fits c = fits_then c.args.program.now c.args.pool.now c.look_prefix.new.pool c.args.evaluated.now c.look_prefix.result c.look_prefix.ensures.front c.requires.fits
+returns-in_ok-start-in-Prefix-clause-fits c =
+    fits_given c.args.program.now c.args.pool.now c.look_prefix.new.pool c.args.evaluated.now c.look_prefix.new.sets c.look_prefix.result c.look_prefix.ensures.front c.requires.fits c.look_prefix.ensures.sets
 
 pub returns-in_ok-number-in-EachExternal-clause-fits : goal.returns-in_ok-number-in-EachExternal-clause-fits
 returns-in_ok-number-in-EachExternal-clause-fits c =

@@ -19,6 +19,7 @@ pub turns-init : goal.turns-init
 turns-init c = record {
   front = front_same c.args.pool.now;
   sound = c.begun-walk.ensures.bound ∙ ap (map name_of) (sym c.begun-walk.ensures.frames);
+  sets = c.requires.sets;
   within = ap (all_within (length c.args.pool.now)) c.new-steps.ensures;
   moves = begins c.args.program.now c.args.start.now.first c.args.to c.args.pool.now _ c.begun-walk.result c.new-steps.result c.begun-walk.ensures c.new-steps.ensures;
 }

@@ -2,6 +2,7 @@ use Rattle.std.proofs.Common.{◌≡◌, true, [], length}
 use Rattle.term_pool.specs.Pooled.{IsFront}
 use Rattle.term_pool.specs.Trees.{tree_at}
 use Rattle.csp_steps.specs.Computed.{all_within}
+use Rattle.csp_steps.specs.Evaluated.{AreSets}
 use Rattle.csp_steps.specs.Walked.{filled, walk_moves, walk_weight, ways_by_number, IsSound}
 use Rattle.csp_steps.proofs.prefix.prefix_steps.Given as goal
 
@@ -10,6 +11,7 @@ abbrev pub invariant-turns : goal.invariant-turns
 invariant-turns l = record {
   front : IsFront l.initial.pool l.pool;
   sound : IsSound l.walk;
+  sets : AreSets l.program l.sets;
   within : all_within (length l.pool) l.steps ≡ true;
   moves : filled [] l.start.first (tree_at l.initial.pool l.to) (ways_by_number l.program l.start.sets.now l.fields [] 0) ≡ walk_moves l.program l.start.first l.to l.pool l.walk l.steps;
 }
