@@ -1,6 +1,15 @@
-use Rattle.std.proofs.Common.{arith}
-use Rattle.network_stages.proofs.Tabling.{first_fault, one_made}
+use Rattle.std.proofs.Common.{arith, subst, sym}
+use Rattle.network_stages.specs.Tables.{whole_room}
+use Rattle.network_stages.proofs.Tabling.{AreMade, first_fault, none_made, one_made}
 use Rattle.network_stages.proofs.component_tables.tables_from.Goals as goal
+
+pub loop-part-init : goal.loop-part-init
+loop-part-init c =
+    let none = subst (λ tables. AreMade c.args.program.now c.args.seats.now tables 0 whole_room) (sym c.new-made.ensures.items) (none_made c.args.program.now c.args.seats.now) in
+    record {
+      made = subst (λ room. AreMade c.args.program.now c.args.seats.now c.new-made.result.items 0 room) (sym c.whole-room.ensures) none;
+      terms = c.new-terms.ensures c.args.program.now;
+    }
 
 pub loop-part-preserved : goal.loop-part-preserved
 loop-part-preserved c = record {
