@@ -1,18 +1,21 @@
-//! Runs the commands on texts that stand in files, and prints what they answer: `worked_scripts TEXTS SCRIPT ROWS PAIRS`.
+//! Runs the commands on texts that stand in files, and prints what they answer: `worked_scripts TEXTS SCRIPT ROWS PAIRS STEPS`.
 //!
 //! The file TEXTS holds texts, each below a line that begins with `=== ` and says what the text is an example of. Each is shown, what was shown is
 //! shown again, and each is judged. Of the text in the file SCRIPT, each front is shown, and judged by the rule of users and resources. The file ROWS
 //! holds texts too, each below a line that begins with `=== ` and has the words of a command, with SCRIPT for the text, then a colon, and what the text
 //! is an example of. So does the file PAIRS, where each text is that of a script, the line `--- specification`, and that of its specification, for which
-//! SPEC stands. Last comes what is answered to texts at the limit of length and over devices that fail.
+//! SPEC stands. Of the script in the file STEPS, each process is put into a pool twice, and its steps are listed. Last comes what is answered to texts at
+//! the limit of length and over devices that fail.
 #![tactic(auto)]
 
 mod bounds;
 mod devices;
+mod steps;
 mod system;
 
 use crate::bounds::push_bounds;
 use crate::devices::push_devices;
+use crate::steps::push_processes;
 use crate::system::push_system;
 use csp_base::{Bytes, NoMemory};
 use dl_outside::{FileShelf, Shelf, StdSink, SureShelf, SureSink};
@@ -265,6 +268,7 @@ fn answers(
     script: &[u8],
     rows: &[u8],
     pairs: &[u8],
+    steps: &[u8],
 ) -> Result<Bytes, NoMemory> {
     let alloc = rt.alloc();
     let mut lines = Bytes::new(alloc);
@@ -273,25 +277,27 @@ fn answers(
     push_fronts(alloc, &mut lines, script)?;
     push_rows(alloc, &mut lines, rows)?;
     push_rows(alloc, &mut lines, pairs)?;
+    push_processes(alloc, &mut lines, steps)?;
     push_bounds(alloc, &mut lines)?;
     push_devices(alloc, &mut lines, script)?;
     push_system(rt, &mut lines)?;
     Ok(lines)
 }
 
-/// The names of the four files, from the words of the command line.
-fn file_names<R: Env + AllocGlobal>(rt: &R) -> Option<(String, String, String, String)> {
+/// The names of the five files, from the words of the command line.
+fn file_names<R: Env + AllocGlobal>(rt: &R) -> Option<(String, String, String, String, String)> {
     let mut words = env::args(rt).ok()?.skip(1);
     let texts = words.next()?;
     let script = words.next()?;
     let rows = words.next()?;
     let pairs = words.next()?;
-    Some((texts, script, rows, pairs))
+    let steps = words.next()?;
+    Some((texts, script, rows, pairs, steps))
 }
 
 fn main(rt: HostRuntime) -> ExitCode {
     let alloc = rt.alloc();
-    let Some((texts, script, rows, pairs)) = file_names(&rt) else {
+    let Some((texts, script, rows, pairs, steps)) = file_names(&rt) else {
         return ExitCode::from(3);
     };
     let mut shelf = FileShelf::new(&rt);
@@ -307,12 +313,16 @@ fn main(rt: HostRuntime) -> ExitCode {
     let Ok(pairs) = shelf.load(alloc, pairs.as_bytes(), FILE_LIMIT) else {
         return ExitCode::from(4);
     };
+    let Ok(steps) = shelf.load(alloc, steps.as_bytes(), FILE_LIMIT) else {
+        return ExitCode::from(4);
+    };
     let Ok(lines) = answers(
         &rt,
         texts.as_slice(),
         script.as_slice(),
         rows.as_slice(),
         pairs.as_slice(),
+        steps.as_slice(),
     ) else {
         return ExitCode::from(5);
     };
