@@ -93,7 +93,7 @@ fn push_steps(
 ) -> Result<(), NoMemory>
     requires { id.0 < length pool.old }
 {
-    let mut evaluated = Evaluated::new(alloc);
+    let mut evaluated = Evaluated::new(alloc, program.key());
     let steps = match steps_in(alloc, program, pool, &mut evaluated, id) {
         Ok(steps) => steps,
         Err(EvalFault::NoMemory) => return Err(NoMemory),
