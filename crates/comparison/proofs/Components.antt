@@ -23,7 +23,7 @@ use Rattle.network_trees.proofs.InOrder.{network_is_tree}
 use Rattle.process_steps.specs.ComponentStep.{ProcessStep}
 use Rattle.refinement.specs.Conforms.{AllConform, Conforms}
 use Rattle.refinement.proofs.Inheriting.{conforming_networks_are_live}
-use Rattle.report.specs.Stops.{Tells}
+use Rattle.csp_base.specs.Stops.{Tells}
 use Rattle.comparison.specs.Conforming.{ComponentsConform, ConformBefore, FailsToConform, StandsFirst, failure}
 use Rattle.comparison.proofs.Lists.{alphabet_there, as_many_alphabets}
 

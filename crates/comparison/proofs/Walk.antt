@@ -9,12 +9,13 @@ use Rattle.network_stages.specs.Stages.{HasParts, HasTables}
 use Rattle.network_stages.specs.declared.component_tables.ComponentTable.{ComponentTable}
 use Rattle.report.proofs.Points.{at_stop, goes_on, weaker}
 use Rattle.report.specs.Points.Point.{passed, told}
-use Rattle.report.specs.Stops.{Answers, Tells}
+use Rattle.csp_base.specs.Stops.{Tells}
+use Rattle.report.specs.Stops.{Answers}
 use Rattle.report.specs.declared.answer.Done.{Done}
 use Rattle.report.specs.declared.answer.Side.{Side}
 use Rattle.report.specs.declared.answer.Side.TheVariants as side
 use Rattle.report.specs.declared.answer.Verdict.{Verdict}
-use Rattle.report.specs.declared.stop.Stop.{Stop}
+use Rattle.csp_base.specs.declared.stop.Stop.{Stop}
 use Rattle.comparison.specs.Agreement.{printed_events}
 use Rattle.comparison.specs.Compared.{ConformanceDecides, IsCompared, PartsOr}
 

@@ -12,8 +12,8 @@ use Rattle.process_steps.specs.ComponentStep.{ProcessStep}
 use Rattle.refinement.specs.Conforms.{AllConform, Conforms}
 use Rattle.report.specs.declared.answer.Shortfall.{Shortfall}
 use Rattle.report.specs.declared.answer.Shortfall.TheVariants as shortfall
-use Rattle.report.specs.declared.stop.Stop.{Stop}
-use Rattle.report.specs.declared.stop.Stop.TheVariants as stop
+use Rattle.csp_base.specs.declared.stop.Stop.{Stop}
+use Rattle.csp_base.specs.declared.stop.Stop.TheVariants as stop
 
 module _ (network specified : Network) where
   -- c and d are the components with the number i, and each earlier one conforms

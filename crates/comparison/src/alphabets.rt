@@ -3,11 +3,12 @@
 ghost use Rattle.std.specs.Prelude.{◌≡◌, ◌≤◌, ◌<◌, IfErr, IfNone, IfSome, MatchBool, OnOk, Some, length, slice_get};
 ghost use Rattle.dl_limits.specs.declared.TheConstants.{MOST_COMPONENTS};
 ghost use Rattle.network_layout.specs.Triple.{alphabets};
-ghost use Rattle.report.specs.Stops.{Tells};
+ghost use Rattle.csp_base.specs.Stops.{Tells};
 ghost use Rattle.comparison.specs.Agreement.{DifferFirstAt, HaveOtherAlphabets};
 
+use csp_base::Stop;
 use network_layout::{Layout, Seat};
-use report::{Refusal, Stop};
+use report::Refusal;
 
 // That both networks have as many components, with the same alphabets; else the least component is told that is in one network only or whose alphabets
 // differ (42).

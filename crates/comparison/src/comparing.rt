@@ -4,14 +4,16 @@ ghost use Rattle.std.specs.Prelude.{◌≡◌, List, IfErr, IfOk, OnOk};
 ghost use Rattle.network_stages.specs.Networks.{HasSilentBound};
 ghost use Rattle.network_stages.specs.Stages.{HasParts, HasTables};
 ghost use Rattle.network_stages.specs.declared.component_tables.ComponentTable.{ComponentTable};
-ghost use Rattle.report.specs.Stops.{Answers, Tells};
+ghost use Rattle.csp_base.specs.Stops.{Tells};
+ghost use Rattle.report.specs.Stops.{Answers};
 ghost use Rattle.comparison.specs.Compared.{IsCompared, PartsOr};
 
 use crate::alphabets::check_alphabets;
 use crate::conforming::check_components;
 use crate::events::check_events;
+use csp_base::Stop;
 use network_stages::{Parted, Spelled, make_parts, make_tables};
-use report::{Done, Side, Stop, Verdict, refused};
+use report::{Done, Side, Verdict, refused};
 use std::alloc::Global;
 
 /// Whether the network conforms to its specification, component by component; and what is told where it does not.

@@ -7,13 +7,14 @@ ghost use Rattle.csp_tables.specs.Form.{HaveForm};
 ghost use Rattle.csp_tables.specs.Network.{leaves};
 ghost use Rattle.csp_tables.specs.Part.{part_at};
 ghost use Rattle.network_layout.specs.Triple.{alphabets};
-ghost use Rattle.report.specs.Stops.{Tells};
+ghost use Rattle.csp_base.specs.Stops.{Tells};
 ghost use Rattle.comparison.specs.Conforming.{ComponentsConform, ConformBefore, FailsToConform, failure};
 
 use conformance::{ConformFault, conform_part};
+use csp_base::Stop;
 use csp_tables::Part;
 use network_stages::Parted;
-use report::{Shortfall, Stop};
+use report::Shortfall;
 use std::alloc::Global;
 
 // That each component conforms to the one in its place; else the first that does not is told, with a trace.

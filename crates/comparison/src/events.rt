@@ -1,12 +1,12 @@
 //! Whether two programs have the same events.
 
 ghost use Rattle.std.specs.Prelude.{◌≡◌, ◌≤◌, ◌<◌, IfErr, IfNone, IfOk, IfSome, MatchBool, OnOk, length, slice_get};
-ghost use Rattle.report.specs.Stops.{Tells};
+ghost use Rattle.csp_base.specs.Stops.{Tells};
 ghost use Rattle.comparison.specs.Agreement.{DifferFirstAt, HaveOtherEvents, printed_events};
 
-use csp_base::{Bytes, Event, NoMemory};
+use csp_base::{Bytes, Event, NoMemory, Stop};
 use csp_program::Program;
-use report::{Refusal, Stop, event_text};
+use report::{Refusal, event_text};
 use std::alloc::Global;
 
 // That both programs have the same list of printed events; else the least number at which the lists differ is told (41).

@@ -5,4 +5,5 @@ pub mod Members
 pub mod Operations
 pub mod Orders
 pub mod SetHash
+pub mod Stops
 pub mod Texts

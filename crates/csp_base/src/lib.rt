@@ -9,6 +9,7 @@ pub mod event_set;
 pub mod members;
 pub mod operators;
 pub mod place;
+pub mod stop;
 pub mod trace;
 
 pub use bytes::{Bytes, Name};
@@ -17,4 +18,5 @@ pub use members::Members;
 pub use operators::{BinOp, SetOp};
 pub use place::Place;
 pub use std::alloc::AllocError as NoMemory;
+pub use stop::Stop;
 pub use trace::Trace;

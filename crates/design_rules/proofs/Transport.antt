@@ -25,7 +25,7 @@ use Rattle.design_rules.specs.declared.condition.Condition.TheVariants as condit
 use Rattle.design_rules.specs.declared.noted_rule.NotedRule.{NotedRule}
 use Rattle.design_rules.specs.declared.noted_rule.NotedRule.TheVariants.{Cyclic, ClientServer, Resource}
 use Rattle.design_rules.specs.declared.rule_fault.RuleFault.{RuleFault}
-use Rattle.design_rules.specs.declared.rule_fault.RuleFault.TheVariants.{NoMemory, NoOrder, NoWholeEnd, Broken, LinksCircle, ClientsCircle, ResourcesCircle}
+use Rattle.design_rules.specs.declared.rule_fault.RuleFault.TheVariants.{NoOrder, NoWholeEnd, Broken, LinksCircle, ClientsCircle, ResourcesCircle}
 use Rattle.design_rules.proofs.Outlines.{turned_outline, on_links, on_parts, same_end, same_ends, all_ends, is_on, of_ends, joins, same_place_after, same_place, is_next, clash, client_on, same_open, same_held, same_holds, holder, have_clients, lacks_roles, lacks_client, no_circle, each_serves, have_kinds, lacks_kind}
 
 -- a network as a rule sees it: its outline, and what its components do
@@ -140,7 +140,6 @@ is_numbered x y a h =
     }
 
 breaks_cyclic : (x y : Seen) → Alike x y → (fault : RuleFault) → BreaksCyclicRule x.shape x.does fault → BreaksCyclicRule y.shape y.does fault
-breaks_cyclic x y a NoMemory h = tt
 breaks_cyclic x y a (NoOrder i s e) h = record { breaks = breaks_order x y a i s e h.breaks; first = λ j less. keeps_places x y a j (h.first j less) }
 breaks_cyclic x y a (NoWholeEnd i j s t) h = record {
   order = all_keep_places x y a h.order;
@@ -246,7 +245,6 @@ module _ (roles : List RoleSets) where
   breaks_roles x y a _ i s h = h
 
   breaks_client_server : (x y : Seen) → Alike x y → (fault : RuleFault) → BreaksClientServerRule x.shape x.does roles fault → BreaksClientServerRule y.shape y.does roles fault
-  breaks_client_server x y a NoMemory h = tt
   breaks_client_server x y a (NoOrder i s e) h = absurd h
   breaks_client_server x y a (NoWholeEnd i j s t) h = absurd h
   breaks_client_server x y a (Broken which i s) h = breaks_roles x y a which i s h
@@ -365,7 +363,6 @@ module _ (uses : List UseSets) where
   breaks_uses x y a _ i s h = h
 
   breaks_resource : (x y : Seen) → Alike x y → (fault : RuleFault) → BreaksResourceRule x.shape x.does uses fault → BreaksResourceRule y.shape y.does uses fault
-  breaks_resource x y a NoMemory h = tt
   breaks_resource x y a (NoOrder i s e) h = absurd h
   breaks_resource x y a (NoWholeEnd i j s t) h = absurd h
   breaks_resource x y a (Broken which i s) h = breaks_uses x y a which i s h

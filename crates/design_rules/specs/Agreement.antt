@@ -15,7 +15,6 @@ use Rattle.design_rules.specs.Outline.{outline}
 use Rattle.design_rules.specs.Rules.{Meets, Breaks}
 use Rattle.design_rules.specs.declared.noted_rule.NotedRule.{NotedRule}
 use Rattle.design_rules.specs.declared.rule_fault.RuleFault.{RuleFault}
-use Rattle.design_rules.specs.declared.rule_fault.RuleFault.TheVariants.{NoMemory}
 
 -- as many components with the same alphabets, the same links under the same numbers, and the same vocabulary; of sets the members count
 pub record SameOutline (x y : Shape) : Type 0 where
@@ -54,8 +53,8 @@ NetworksMeet {T} Step = (tree : Tree T) (shape : Shape) → IsShapeOf Step tree 
 abbrev pub NetworksBreak : {T : Type 0} → (T → Label → T → Type 0) → Type 0
 NetworksBreak {T} Step = (tree : Tree T) (shape : Shape) → IsShapeOf Step tree shape → (rule : NotedRule) (fault : RuleFault) → Breaks rule shape fault ↔ NetworkBreaks Step (leaves tree) rule fault
 
--- what a fault tells of a network refutes the rule, but for want of memory
+-- what a fault tells of a network refutes the rule
 abbrev pub NetworkFaultsRefute : {T : Type 0} → (T → Label → T → Type 0) → Type 0
 NetworkFaultsRefute {T} Step =
     (tree : Tree T) (shape : Shape) → IsShapeOf Step tree shape → (rule : NotedRule) (fault : RuleFault)
-    → NetworkMeets Step (leaves tree) rule → NetworkBreaks Step (leaves tree) rule fault → fault ≡ NoMemory
+    → NetworkMeets Step (leaves tree) rule → NetworkBreaks Step (leaves tree) rule fault → ⊥

@@ -15,7 +15,7 @@ use Rattle.design_rules.specs.ResourceRuleFaults.{BreaksUses, ResourcesInCircle}
 use Rattle.design_rules.specs.declared.noted_rule.NotedRule.{NotedRule}
 use Rattle.design_rules.specs.declared.noted_rule.NotedRule.TheVariants.{Cyclic, ClientServer, Resource}
 use Rattle.design_rules.specs.declared.rule_fault.RuleFault.{RuleFault}
-use Rattle.design_rules.specs.declared.rule_fault.RuleFault.TheVariants.{NoMemory, NoOrder, NoWholeEnd, Broken, LinksCircle, ClientsCircle, ResourcesCircle}
+use Rattle.design_rules.specs.declared.rule_fault.RuleFault.TheVariants.{NoOrder, NoWholeEnd, Broken, LinksCircle, ClientsCircle, ResourcesCircle}
 
 -- components with these alphabets, links and vocabulary, and these behaviours, meet the rule
 abbrev pub MeetsRule : NotedRule → Shape → Behaviours → Type 0
@@ -23,22 +23,19 @@ MeetsRule Cyclic shape b = IsCyclic shape b
 MeetsRule (ClientServer roles) shape b = IsClientServer shape b roles
 MeetsRule (Resource uses) shape b = IsResource shape b uses
 
--- What a fault tells of the cyclic rule, and of the two rules with notes. Want of memory tells nothing.
+-- What a fault tells of the cyclic rule, and of the two rules with notes.
 abbrev pub BreaksCyclicRule : Shape → Behaviours → RuleFault → Type 0
-BreaksCyclicRule shape b NoMemory = Unit {0}
 BreaksCyclicRule shape b (NoOrder part trace event) = HasNoOrder shape b part trace event
 BreaksCyclicRule shape b (NoWholeEnd left right left_trace right_trace) = HasNoWholeEnd shape b left right left_trace right_trace
 BreaksCyclicRule shape b (LinksCircle links) = OrdersDisagree shape b links
 BreaksCyclicRule shape b _ = ⊥
 
 abbrev pub BreaksClientServerRule : Shape → Behaviours → List RoleSets → RuleFault → Type 0
-BreaksClientServerRule shape b roles NoMemory = Unit {0}
 BreaksClientServerRule shape b roles (Broken condition part trace) = BreaksRoles shape b roles condition part trace
 BreaksClientServerRule shape b roles (ClientsCircle clients) = ClientsInCircle shape b roles clients
 BreaksClientServerRule shape b roles _ = ⊥
 
 abbrev pub BreaksResourceRule : Shape → Behaviours → List UseSets → RuleFault → Type 0
-BreaksResourceRule shape b uses NoMemory = Unit {0}
 BreaksResourceRule shape b uses (Broken condition part trace) = BreaksUses shape b uses condition part trace
 BreaksResourceRule shape b uses (ResourcesCircle resources) = ResourcesInCircle shape b uses resources
 BreaksResourceRule shape b uses _ = ⊥

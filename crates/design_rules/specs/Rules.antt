@@ -11,7 +11,6 @@ use Rattle.design_rules.specs.NotedRules.{MeetsRule, BreaksCyclicRule, BreaksCli
 use Rattle.design_rules.specs.declared.noted_rule.NotedRule.{NotedRule}
 use Rattle.design_rules.specs.declared.noted_rule.NotedRule.TheVariants.{Cyclic, ClientServer, Resource}
 use Rattle.design_rules.specs.declared.rule_fault.RuleFault.{RuleFault}
-use Rattle.design_rules.specs.declared.rule_fault.RuleFault.TheVariants.{NoMemory}
 
 -- something is noted of each component
 abbrev pub HasNotes : NotedRule → Shape → Type 0
@@ -42,6 +41,6 @@ BreaksResource shape = BreaksResourceRule shape (by_tables shape)
 abbrev pub Breaks : NotedRule → Shape → RuleFault → Type 0
 Breaks rule shape = BreaksRule rule shape (by_tables shape)
 
--- what a fault tells refutes the rule, but for want of memory
+-- what a fault tells refutes the rule
 abbrev pub FaultsRefute : Type 0
-FaultsRefute = (rule : NotedRule) (shape : Shape) (fault : RuleFault) → Meets rule shape → Breaks rule shape fault → fault ≡ NoMemory
+FaultsRefute = (rule : NotedRule) (shape : Shape) (fault : RuleFault) → Meets rule shape → Breaks rule shape fault → ⊥

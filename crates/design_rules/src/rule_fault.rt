@@ -2,13 +2,11 @@
 
 use crate::condition::Condition;
 use containers::Items;
-use csp_base::{Event, NoMemory, Trace};
+use csp_base::{Event, Trace};
 
-/// Why a network does not meet a rule, or no answer was found.
+/// Why a network does not meet a rule.
 #[derive(Drop)]
 pub enum RuleFault {
-    /// Memory ran out.
-    NoMemory,
     /// A component goes through its links in no fixed order: the event is possible after the trace, and it clashes with one
     /// that is possible after a trace that is not longer.
     NoOrder {
@@ -55,15 +53,4 @@ pub enum RuleFault {
         /// The places of the resources.
         resources: Items<u32>,
     },
-}
-
-impl From<NoMemory> for RuleFault {
-    ghost use Rattle.std.specs.Prelude.{◌≡◌};
-    ghost use Rattle.design_rules.specs.declared.rule_fault.RuleFault.TheVariants.{NoMemory as OutOfMemory};
-
-    ghost from_gives = { λ _ fault. fault ≡ OutOfMemory };
-
-    fn from(_error: NoMemory) -> RuleFault {
-        RuleFault::NoMemory
-    }
 }

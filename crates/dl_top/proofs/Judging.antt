@@ -17,14 +17,15 @@ use Rattle.livelock.specs.Bounded.{IsBounded}
 use Rattle.network_stages.specs.Networks.{IsNetworkOf, Network}
 use Rattle.network_stages.specs.Stages.{HasNoNetwork}
 use Rattle.report.proofs.Points.{weaker}
-use Rattle.report.specs.Stops.{Answers, Ends, Tells}
+use Rattle.csp_base.specs.Stops.{Tells}
+use Rattle.report.specs.Stops.{Answers, Ends}
 use Rattle.report.specs.declared.answer.Answer.{Answer}
 use Rattle.report.specs.declared.answer.Answer.TheVariants as answer
 use Rattle.report.specs.declared.answer.Done.{Done}
 use Rattle.report.specs.declared.answer.Side.{Side}
 use Rattle.report.specs.declared.answer.Side.TheVariants as side
 use Rattle.report.specs.declared.answer.Verdict.{Verdict}
-use Rattle.report.specs.declared.stop.Stop.{Stop}
+use Rattle.csp_base.specs.declared.stop.Stop.{Stop}
 use Rattle.dl_top.proofs.Walks.{at_end}
 use Rattle.dl_top.specs.Judgement.{IsDecided, NetworkDecides, SpellsNoNetwork, SpellsNoScript, SpellsOnlyNetwork, SpellsOnlyScript, TextCallsFor, TextIsShown, TextsCompare}
 use Rattle.dl_top.specs.Printing.{no_script}

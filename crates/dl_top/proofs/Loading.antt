@@ -17,14 +17,15 @@ use Rattle.dl_outside.specs.declared.shelf.LoadFault.TheVariants.{Missing, TooLo
 use Rattle.dl_outside.specs.declared.texts.NamedText.{NamedText}
 use Rattle.report.proofs.Points.{weaker}
 use Rattle.report.specs.Report.{status}
-use Rattle.report.specs.Stops.{Ends, IsEnd, Tells}
+use Rattle.csp_base.specs.Stops.{Tells}
+use Rattle.report.specs.Stops.{Ends, IsEnd}
 use Rattle.report.specs.declared.answer.Answer.{Answer}
 use Rattle.report.specs.declared.answer.Answer.TheVariants as answer
 use Rattle.report.specs.declared.answer.OutsideFault.{OutsideFault}
 use Rattle.report.specs.declared.answer.Side.{Side}
 use Rattle.report.specs.declared.answer.Side.TheVariants as side
 use Rattle.report.specs.declared.answer.Verdict.TheVariants as verdict
-use Rattle.report.specs.declared.stop.Stop.{Stop}
+use Rattle.csp_base.specs.declared.stop.Stop.{Stop}
 use Rattle.dl_top.proofs.Promising.{IsInside, inside}
 use Rattle.dl_top.proofs.Walks.{at_end, is_end}
 use Rattle.dl_top.specs.Cause.{CallsFor, HoldsAll, HoldsAllNamed, IsLoad, Loaded, LoadsHeld, MayGive, Replies, TellsLoad, TextsCallFor}

@@ -7,8 +7,8 @@ use Rattle.report.specs.declared.answer.Answer.{Answer}
 use Rattle.report.specs.declared.answer.Answer.TheVariants as answer
 use Rattle.report.specs.declared.answer.Side.{Side}
 use Rattle.report.specs.declared.answer.TextFault.TheVariants as text
-use Rattle.report.specs.declared.stop.Stop.{Stop}
-use Rattle.report.specs.declared.stop.Stop.TheVariants as stop
+use Rattle.csp_base.specs.declared.stop.Stop.{Stop}
+use Rattle.csp_base.specs.declared.stop.Stop.TheVariants as stop
 use Rattle.dl_top.specs.Cause.{TellsLoad}
 use Rattle.dl_top.specs.Reply.{reply_status, reply_text}
 use Rattle.dl_top.specs.declared.reply.Printed.{Printed}

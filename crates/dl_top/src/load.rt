@@ -7,7 +7,8 @@ ghost use Rattle.command_words.specs.Request.{NamesNoScript, names};
 ghost use Rattle.dl_limits.specs.declared.TheConstants.{MOST_BYTES};
 ghost use Rattle.dl_outside.specs.Count.{NeverFall};
 ghost use Rattle.dl_outside.specs.declared.shelf.LoadFault.{LoadFault as FaultValue};
-ghost use Rattle.report.specs.Stops.{Ends, Tells};
+ghost use Rattle.csp_base.specs.Stops.{Tells};
+ghost use Rattle.report.specs.Stops.{Ends};
 ghost use Rattle.report.specs.declared.answer.Side.TheVariants as side;
 ghost use Rattle.dl_top.specs.Cause.{IsLoad, Loaded, MayGive, TellsLoad, TextsCallFor};
 ghost use Rattle.dl_top.specs.Printing.{IsUnloaded, Prints};
@@ -15,11 +16,11 @@ ghost use Rattle.dl_top.specs.Printing.{IsUnloaded, Prints};
 use crate::judge::{judge, judge_pair, show};
 use crate::reply::{Printed, Reply, print, rule_of};
 use command_words::{Job, Request, Trial, Words, asked};
-use csp_base::{Bytes, NoMemory};
+use csp_base::{Bytes, NoMemory, Stop};
 use dl_limits::MOST_BYTES;
 use dl_outside::{LoadFault, Shelf};
 use net_maker::family_script;
-use report::{Answer, OutsideFault, Side, Stop, TextFault, ended};
+use report::{Answer, OutsideFault, Side, TextFault, ended};
 use std::alloc::Global;
 
 // How it is told that the text of this side can't be loaded.

@@ -8,9 +8,10 @@ ghost use Rattle.judgement.specs.Judged.{IsJudged, RuleDecides};
 
 use crate::free::deadlock_free;
 use crate::rules::{noted, ranked};
+use csp_base::Stop;
 use csp_tables::Rule;
 use network_stages::{Shaped, Spelled, check_busy, make_parts, make_shape, make_tables};
-use report::{Done, Stop, Verdict};
+use report::{Done, Verdict};
 use std::alloc::Global;
 
 // What the rule says of a busy network with this silent bound.

@@ -2,16 +2,17 @@
 
 ghost use Rattle.std.specs.Prelude.{IfErr, IfOk, OnOk};
 ghost use Rattle.design_rules.specs.Rules.{HasNotes, Ranks};
-ghost use Rattle.report.specs.Stops.{Tells};
+ghost use Rattle.csp_base.specs.Stops.{Tells};
 ghost use Rattle.judgement.specs.Noted.{Breaks, HasUntold, Meets, Notes};
 
 use crate::deciding::decided;
 use crate::told::{noted_refusal, rule_shortfall};
+use csp_base::Stop;
 use csp_tables::{Ranking, Rule};
 use design_rules::NotedRule;
 use network_layout::{roles_of, uses_of};
 use network_stages::{Shaped, Spelled};
-use report::{Refusal, Shortfall, Stop};
+use report::{Refusal, Shortfall};
 use std::alloc::Global;
 
 // The rule with what the script of the network notes for it.

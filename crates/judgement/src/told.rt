@@ -1,11 +1,12 @@
 //! What is told where a rule is broken, or an annotated set has no value.
 
-ghost use Rattle.report.specs.Stops.{Tells};
+ghost use Rattle.csp_base.specs.Stops.{Tells};
 ghost use Rattle.judgement.specs.Told.{TellsNoted, TellsRule};
 
+use csp_base::Stop;
 use design_rules::RuleFault;
 use network_layout::NotedFault;
-use report::{Refusal, Shortfall, Site, Stop};
+use report::{Refusal, Shortfall, Site};
 
 // What breaks a rule.
 pub(crate) fn rule_shortfall(fault: RuleFault) -> Stop<Shortfall>

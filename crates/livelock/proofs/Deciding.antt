@@ -8,7 +8,7 @@ use Rattle.hidden_bounds.specs.declared.bounding.LoopFault.TheVariants as fault
 use Rattle.network_stages.specs.Networks.{Network}
 use Rattle.process_steps.specs.ComponentStep.{ProcessStep}
 use Rattle.report.specs.Points.Point.{passed, told}
-use Rattle.report.specs.Stops.{Tells}
+use Rattle.csp_base.specs.Stops.{Tells}
 use Rattle.report.specs.declared.answer.Done.{Done}
 use Rattle.report.specs.declared.answer.Done.TheVariants as done
 use Rattle.report.specs.declared.answer.Refusal.TheVariants as refusal

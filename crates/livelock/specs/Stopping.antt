@@ -8,8 +8,8 @@ use Rattle.report.specs.declared.answer.Side.TheVariants as side
 use Rattle.report.specs.declared.answer.Site.TheVariants as site
 use Rattle.report.specs.declared.answer.Verdict.{Verdict}
 use Rattle.report.specs.declared.answer.Verdict.TheVariants as verdict
-use Rattle.report.specs.declared.stop.Stop.{Stop}
-use Rattle.report.specs.declared.stop.Stop.TheVariants as stop
+use Rattle.csp_base.specs.declared.stop.Stop.{Stop}
+use Rattle.csp_base.specs.declared.stop.Stop.TheVariants as stop
 use Rattle.value_operators.specs.declared.fault.EvalFault.{EvalFault}
 use Rattle.value_operators.specs.declared.fault.EvalFault.TheVariants as value
 

@@ -8,10 +8,10 @@ ghost use Rattle.livelock.specs.Bounded.{IsBounded, OrderDecides};
 ghost use Rattle.livelock.specs.Stopping.{stop_of_fault};
 
 use crate::named::{expression_named, hidden_set};
-use csp_base::EventSet;
+use csp_base::{EventSet, Stop};
 use hidden_bounds::{LoopFault, livelock};
 use network_stages::{Spelled, Tabled, make_tables};
-use report::{Done, Refusal, Shortfall, Side, Stop, Verdict};
+use report::{Done, Refusal, Shortfall, Side, Verdict};
 use std::alloc::Global;
 
 // How it is told why no bound is printed.

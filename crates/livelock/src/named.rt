@@ -4,14 +4,14 @@ ghost use Rattle.std.specs.Prelude.{◌≡◌, IfErr, IfOk, Ok, Some};
 ghost use Rattle.std.specs.List.{find};
 ghost use Rattle.std.specs.Option.{option_copied};
 ghost use Rattle.process_steps.specs.Needed.{events_in as meant_events};
-ghost use Rattle.report.specs.Stops.{Tells};
+ghost use Rattle.csp_base.specs.Stops.{Tells};
 ghost use Rattle.livelock.specs.Bounded.{LacksValue, NamesNoSet};
 ghost use Rattle.livelock.specs.Named as meant;
 ghost use Rattle.livelock.specs.Stopping.{stop_without_value};
 
-use csp_base::EventSet;
+use csp_base::{EventSet, Stop};
 use csp_program::{Body, Def, Expr, Program};
-use report::{Refusal, Site, Stop};
+use report::{Refusal, Site};
 use std::alloc::Global;
 use step_values::events_in;
 use value_operators::EvalFault;

@@ -19,11 +19,11 @@ use Rattle.network_stages.specs.Tables.{AreTablesOf, HasTable}
 use Rattle.network_stages.specs.declared.component_tables.ComponentTable.{ComponentTable}
 use Rattle.process_steps.specs.ComponentStep.{ProcessStep}
 use Rattle.process_steps.specs.declared.component_fault.ComponentFault.TheVariants as fault
-use Rattle.report.specs.Stops.{Tells}
+use Rattle.csp_base.specs.Stops.{Tells}
 use Rattle.report.specs.declared.answer.Refusal.{Refusal}
 use Rattle.report.specs.declared.answer.Refusal.TheVariants as refusal
-use Rattle.report.specs.declared.stop.Stop.{Stop}
-use Rattle.report.specs.declared.stop.Stop.TheVariants as stop
+use Rattle.csp_base.specs.declared.stop.Stop.{Stop}
+use Rattle.csp_base.specs.declared.stop.Stop.TheVariants as stop
 use Rattle.network_stages.specs.Sets.{HasManySets, HaveFewSets, HaveFewSetsBefore}
 use Rattle.network_stages.specs.Stages.{HasNoPart, HaveNoParts}
 

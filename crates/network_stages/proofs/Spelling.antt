@@ -7,11 +7,11 @@ use Rattle.csp_text.specs.declared.script.Script.{Script}
 use Rattle.network_layout.specs.Lays.{AreSeats}
 use Rattle.network_trees.specs.NetworkOf.{network_of}
 use Rattle.network_trees.proofs.InOrder.{network_is_tree}
-use Rattle.report.specs.Stops.{Tells}
+use Rattle.csp_base.specs.Stops.{Tells}
 use Rattle.report.specs.declared.answer.Answer.{Answer}
 use Rattle.report.specs.declared.answer.Side.{Side}
-use Rattle.report.specs.declared.stop.Stop.{Stop}
-use Rattle.report.specs.declared.stop.Stop.TheVariants as stop
+use Rattle.csp_base.specs.declared.stop.Stop.{Stop}
+use Rattle.csp_base.specs.declared.stop.Stop.TheVariants as stop
 use Rattle.script_names.specs.Program.{IsProgram}
 use Rattle.network_stages.specs.Networks.{AreSeatsOf, IsSpelled, Network, tree_at, tree_in}
 use Rattle.network_stages.specs.Stages.{HasNoNetwork, SpellsNone}

@@ -10,9 +10,9 @@ use Rattle.local_tables.specs.declared.local_table.LocalTable.{LocalTable}
 use Rattle.local_tables.specs.Room.{Room}
 use Rattle.network_stages.specs.Faults.{HasFault, TellsHere, TellsRound, at_component}
 use Rattle.network_stages.specs.Stages.{HaveNoTables}
-use Rattle.report.specs.Stops.{Tells}
+use Rattle.csp_base.specs.Stops.{Tells}
 use Rattle.report.specs.declared.answer.Refusal.{Refusal}
-use Rattle.report.specs.declared.stop.Stop.{Stop}
+use Rattle.csp_base.specs.declared.stop.Stop.{Stop}
 use Rattle.local_tables.specs.declared.fault.Unexplored.{Unexplored}
 use Rattle.local_tables.specs.declared.fault.Unexplored.TheVariants as unexplored
 use Rattle.network_stages.specs.Tables.{AreTablesOf, AreTablesWithin, HasTable, IsTableWithin, room_after, room_left, whole_room}

@@ -13,10 +13,10 @@ use Rattle.csp_tables.specs.Standing.{IsBusyShape}
 use Rattle.net_sound.proofs.ShapeOf.{shapes_are_busy}
 use Rattle.net_sound.proofs.Parts.{component_of, part_of}
 use Rattle.process_steps.specs.ComponentStep.{ProcessStep}
-use Rattle.report.specs.Stops.{Tells}
+use Rattle.csp_base.specs.Stops.{Tells}
 use Rattle.report.specs.declared.answer.Shortfall.{Shortfall}
-use Rattle.report.specs.declared.stop.Stop.{Stop}
-use Rattle.report.specs.declared.stop.Stop.TheVariants as stop
+use Rattle.csp_base.specs.declared.stop.Stop.{Stop}
+use Rattle.csp_base.specs.declared.stop.Stop.TheVariants as stop
 use Rattle.network_stages.specs.Busy.{HasEmpty, IsBusyPart, PartCanStop, StopsFirst, StopsFirstIn}
 use Rattle.network_stages.specs.Networks.{Network}
 use Rattle.network_stages.specs.Stages.{CanStop, StaysBusy}

@@ -18,8 +18,8 @@ use Rattle.process_steps.specs.declared.component_fault.ComponentFault.{Componen
 use Rattle.process_steps.specs.declared.component_fault.ComponentFault.TheVariants as fault
 use Rattle.report.specs.declared.answer.Refusal.{Refusal}
 use Rattle.report.specs.declared.answer.Refusal.TheVariants as refusal
-use Rattle.report.specs.declared.stop.Stop.{Stop}
-use Rattle.report.specs.declared.stop.Stop.TheVariants as stop
+use Rattle.csp_base.specs.declared.stop.Stop.{Stop}
+use Rattle.csp_base.specs.declared.stop.Stop.TheVariants as stop
 
 -- The components before the one with the number i have tables, and this holds of that one and of the room that is left.
 pub record IsFirst (p : Content) (cs : List (Component Proc)) (i : ℕ) (Has : Room → Component Proc → Type 0) : Type 0 where

@@ -5,15 +5,15 @@ ghost use Rattle.csp_tables.specs.Part.{IsNonEmpty};
 ghost use Rattle.csp_tables.specs.Shape.{IsWellFormed};
 ghost use Rattle.csp_tables.specs.Standing.{IsBusyShape};
 ghost use Rattle.csp_tables.specs.Table.{node_at};
-ghost use Rattle.report.specs.Stops.{Tells};
+ghost use Rattle.csp_base.specs.Stops.{Tells};
 ghost use Rattle.network_stages.specs.Busy.{HasEmpty, PartCanStop};
 ghost use Rattle.network_stages.specs.Stages.{CanStop, StaysBusy};
 
 use crate::shapes::Shaped;
-use csp_base::EventSet;
+use csp_base::{EventSet, Stop};
 use csp_tables::{Part, Shape};
 use observed_runs::run_to_node;
-use report::{Shortfall, Stop};
+use report::Shortfall;
 use std::alloc::Global;
 
 // Whether one of the sets is empty.

@@ -2,17 +2,18 @@
 
 ghost use Rattle.std.specs.Prelude.{◌≡◌, ◌≤◌, ◌<◌, ◌∷◌, [], IfErr, IfNone, IfOk, IfSome, Some, length, slice_get};
 ghost use Rattle.csp_tables.specs.Network.{leaves};
-ghost use Rattle.report.specs.Stops.{Tells};
+ghost use Rattle.csp_base.specs.Stops.{Tells};
 ghost use Rattle.network_stages.specs.Sets.{ArePartsBy};
 ghost use Rattle.network_stages.specs.Stages.{HasNoPart};
 
 use crate::component_tables::tables_from;
 use crate::parts::part_of;
 use crate::spelled::Spelled;
+use csp_base::Stop;
 use csp_program::Program;
 use csp_tables::Part;
 use network_layout::Seat;
-use report::{Refusal, Stop};
+use report::Refusal;
 use std::alloc::Global;
 use std::marker::Model;
 use std::slice;

@@ -4,19 +4,19 @@ ghost use Rattle.std.specs.Prelude.{◌≡◌, ◌≤◌, ◌<◌, ◌+◌, ◌+
 ghost use Rattle.dl_limits.specs.declared.TheConstants.{MOST_COMPONENTS};
 ghost use Rattle.local_tables.specs.Component.{AreTermsOf};
 ghost use Rattle.net_sound.specs.Heights.{AreSilentHeights};
-ghost use Rattle.report.specs.Stops.{Tells};
+ghost use Rattle.csp_base.specs.Stops.{Tells};
 ghost use Rattle.network_stages.specs.Stages.{HaveNoTables};
 ghost use Rattle.network_stages.specs.Faults.{TellsHere, TellsRound, at_component};
 ghost use Rattle.network_stages.specs.Tables.{AreTablesOf, IsTableWithin, room_after, whole_room};
 
-use csp_base::NoMemory;
+use csp_base::{NoMemory, Stop};
 use csp_program::Program;
 use digraph::Heights;
 use dl_limits::{MOST_NODES, MOST_STEPS};
 use local_tables::{LocalTable, Room, Task, Terms, Unexplored, explore};
 use network_layout::Seat;
 use process_steps::ComponentFault;
-use report::{Refusal, Stop};
+use report::Refusal;
 use std::alloc::Global;
 use tau_order::{HeightFault, heights};
 

@@ -7,7 +7,7 @@ ghost use Rattle.csp_tables.specs.ShapeOf.{ArePartsOf, IsPartOf};
 ghost use Rattle.network_stages.specs.Tables.{AreTablesOf, HasTable};
 ghost use Rattle.process_steps.specs.ComponentStep.{ProcessStep};
 ghost use Rattle.process_steps.specs.declared.component_fault.ComponentFault.TheVariants.{SubsetLimit};
-ghost use Rattle.report.specs.Stops.{Tells};
+ghost use Rattle.csp_base.specs.Stops.{Tells};
 ghost use Rattle.report.specs.declared.answer.Refusal.TheVariants as refusal;
 ghost use Rattle.network_stages.specs.Sets.{HasManySets, HaveFewSets};
 ghost use Rattle.network_stages.specs.Stages.{HasNoParts, HasParts, HaveNoParts};
@@ -15,13 +15,13 @@ ghost use Rattle.network_stages.specs.Stages.{HasNoParts, HasParts, HaveNoParts}
 use crate::component_tables::ComponentTable;
 use crate::spelled::Spelled;
 use crate::tabled::Tabled;
-use csp_base::NoMemory;
+use csp_base::{NoMemory, Stop};
 use csp_program::Program;
 use csp_tables::Part;
 use network_layout::Seat;
 use normal_form::{SetFault, normalise};
 use process_steps::ComponentFault;
-use report::{Refusal, Stop};
+use report::Refusal;
 use std::alloc::Global;
 use std::marker::Model;
 

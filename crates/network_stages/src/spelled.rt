@@ -3,17 +3,18 @@
 ghost use Rattle.std.specs.Prelude.{◌≡◌, ◌≤◌, IfErr, IfNone, IfOk, IfSome, Some, length, slice_get};
 ghost use Rattle.dl_limits.specs.declared.TheConstants.{MOST_COMPONENTS};
 ghost use Rattle.csp_tables.specs.Network.{leaves};
-ghost use Rattle.report.specs.Stops.{Tells};
+ghost use Rattle.csp_base.specs.Stops.{Tells};
 ghost use Rattle.network_stages.specs.Networks.{IsNetworkOf, IsSpelled, network_at};
 ghost use Rattle.network_stages.specs.Stages.{HasNoNetwork, SpellsNone};
 ghost use Rattle.script_sizes.specs.Size.{AreSmall};
 
 use containers::{Boxed, Key};
+use csp_base::Stop;
 use csp_program::Program;
 use csp_resolve::{Unresolved, resolve};
 use csp_text::Script;
 use network_layout::{Layout, Seat, Unlaid, layout};
-use report::{Answer, Refusal, Side, Stop, TextFault, Verdict};
+use report::{Answer, Refusal, Side, TextFault, Verdict};
 use std::alloc::Global;
 use std::marker::Model;
 

@@ -3,16 +3,17 @@
 ghost use Rattle.std.specs.Prelude.{◌≡◌, ◌≤◌, ◌+◌, IfErr, IfOk, length};
 ghost use Rattle.dl_limits.specs.declared.TheConstants.{MOST_COMPONENTS};
 ghost use Rattle.network_stages.specs.Tables.{AreTablesOf};
-ghost use Rattle.report.specs.Stops.{Tells};
+ghost use Rattle.csp_base.specs.Stops.{Tells};
 ghost use Rattle.network_stages.specs.Networks.{HasSilentBound};
 ghost use Rattle.network_stages.specs.Stages.{HasNoTables, HasTables, HaveNoTables};
 
 use crate::bound::silent_bound;
 use crate::component_tables::{ComponentTable, tables_from};
 use crate::spelled::Spelled;
+use csp_base::Stop;
 use csp_program::Program;
 use network_layout::Seat;
-use report::{Refusal, Stop};
+use report::Refusal;
 use std::alloc::Global;
 use std::marker::Model;
 

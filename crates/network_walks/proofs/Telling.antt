@@ -16,8 +16,8 @@ use Rattle.network_walks.specs.Tabled.{numbered}
 use Rattle.report.specs.Stops.{Answers}
 use Rattle.report.specs.declared.answer.Done.{Done}
 use Rattle.report.specs.declared.answer.Verdict.{Verdict}
-use Rattle.report.specs.declared.stop.Stop.{Stop}
-use Rattle.report.specs.declared.stop.Stop.TheVariants as stop
+use Rattle.csp_base.specs.declared.stop.Stop.{Stop}
+use Rattle.csp_base.specs.declared.stop.Stop.TheVariants as stop
 use Rattle.network_walks.specs.Walked.{IsNetworkWalk, TellsWalk, walk_verdict}
 use Rattle.network_walks.proofs.Carried.{carried, stand_first}
 use Rattle.network_walks.proofs.Made.{rows_are_numbered, rows_have_components, rows_in_order, rows_of}

@@ -6,10 +6,10 @@ ghost use Rattle.network_walks.specs.Walked.{IsNetworkWalk, IsWalked, walk_verdi
 
 use crate::movers::movers;
 use containers::Items;
-use csp_base::NoMemory;
+use csp_base::{NoMemory, Stop};
 use network_stages::{Spelled, Tabled, make_tables};
 use numbered_walks::{Walk, walk};
-use report::{Done, Stop, Verdict};
+use report::{Done, Verdict};
 use std::alloc::Global;
 use std::mem::replace;
 

@@ -6,13 +6,9 @@ use Rattle.report.specs.declared.answer.Shortfall.{Shortfall}
 use Rattle.report.specs.declared.answer.Side.{Side}
 use Rattle.report.specs.declared.answer.Verdict.{Verdict}
 use Rattle.report.specs.declared.answer.Verdict.TheVariants as verdict
-use Rattle.report.specs.declared.stop.Stop.{Stop}
-use Rattle.report.specs.declared.stop.Stop.TheVariants as stop
-
--- what a step tells that stops
-abbrev pub Tells : {F : Type 0} → (F → Type 0) → Stop F → Type 0
-Tells Is stop.NoMemory = Unit {0}
-Tells Is (stop.Told f) = Is f
+use Rattle.csp_base.specs.Stops.{Tells}
+use Rattle.csp_base.specs.declared.stop.Stop.{Stop}
+use Rattle.csp_base.specs.declared.stop.Stop.TheVariants as stop
 
 -- a walk over a network with this result comes to such a verdict
 abbrev pub Answers : (Verdict → Type 0) → Result Done (Stop Verdict) → Type 0

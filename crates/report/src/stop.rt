@@ -4,26 +4,7 @@ ghost use Rattle.std.specs.Prelude.{◌≡◌, IfOk};
 ghost use Rattle.report.specs.Stops.{IsEnd, IsVerdict, refused};
 
 use crate::answer::{Done, Refusal, Shortfall, Side, Verdict};
-use csp_base::NoMemory;
-
-/// Why a step of a walk is not done.
-pub enum Stop<F> {
-    /// Memory ran out.
-    NoMemory,
-    /// The walk ends with this verdict, answer or fault.
-    Told(F),
-}
-
-impl<F> From<NoMemory> for Stop<F> {
-    ghost use Rattle.std.specs.Prelude.{◌≡◌};
-    ghost use Rattle.report.specs.declared.stop.Stop.TheVariants as stop;
-
-    ghost from_gives = { λ _ s. s ≡ stop.NoMemory };
-
-    fn from(_error: NoMemory) -> Stop<F> {
-        Stop::NoMemory
-    }
-}
+use csp_base::{NoMemory, Stop};
 
 impl From<Stop<Refusal>> for Stop<Verdict> {
     ghost use Rattle.std.specs.Prelude.{◌≡◌};

@@ -2,11 +2,13 @@
 
 ghost use Rattle.std.specs.Prelude.{◌≡◌, IfErr, IfOk, Some, slice_get};
 ghost use Rattle.csp_tables.specs.Network.{leaves};
-ghost use Rattle.report.specs.Stops.{Answers, Tells};
+ghost use Rattle.csp_base.specs.Stops.{Tells};
+ghost use Rattle.report.specs.Stops.{Answers};
 ghost use Rattle.tabulation.specs.Tabulated.{HasNoComponent, IsTabulated};
 
+use csp_base::Stop;
 use network_stages::{Chosen, Spelled, make_part};
-use report::{Done, Refusal, Stop, Verdict};
+use report::{Done, Refusal, Verdict};
 use std::alloc::Global;
 
 // The component with the number `index`, or that none has it.

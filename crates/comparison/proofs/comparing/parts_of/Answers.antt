@@ -2,7 +2,7 @@ use Rattle.std.proofs.Common.{Err, subst}
 use Rattle.network_stages.specs.Networks.{Network}
 use Rattle.network_stages.specs.Stages.{HasNoParts}
 use Rattle.report.proofs.Points.{at_refusal, goes_on}
-use Rattle.report.specs.Stops.{Tells}
+use Rattle.csp_base.specs.Stops.{Tells}
 use Rattle.comparison.specs.Compared.{PartsOr}
 use Rattle.comparison.proofs.comparing.parts_of.Goals as goal
 

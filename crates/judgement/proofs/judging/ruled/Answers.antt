@@ -4,7 +4,7 @@ use Rattle.network_stages.specs.Networks.{Network}
 use Rattle.process_steps.specs.ComponentStep.{ProcessStep}
 use Rattle.report.proofs.Points.{at_refusal, at_shortfall, goes_on}
 use Rattle.report.specs.Points.Point.{passed}
-use Rattle.report.specs.Stops.{Tells}
+use Rattle.csp_base.specs.Stops.{Tells}
 use Rattle.report.specs.declared.answer.Side.TheVariants as side
 use Rattle.report.specs.declared.answer.Verdict.TheVariants as verdict
 use Rattle.design_rules.specs.RankCounts.{greatest_rank}
