@@ -2,13 +2,11 @@
 
 ghost use Rattle.std.specs.Prelude.{◌≡◌, [], ◌∷◌, ◌++◌, IfOk, Ok};
 ghost use Rattle.csp_atoms.specs.declared.value.Value.TheVariants.{One};
-ghost use Rattle.csp_program.specs.Outcome.{and_then};
-ghost use Rattle.csp_program.specs.Substitution.{given_by, proc_with};
+ghost use Rattle.csp_program.specs.Prelude.{and_then, given_by, proc_with};
 ghost use Rattle.process_steps.specs.Prefix.{set_under};
 ghost use Rattle.network_trees.specs.NetworkOf.{arguments_under, events_under, truth_under};
 ghost use Rattle.network_layout.specs.Lays.{names_of};
-ghost use Rattle.value_operators.specs.Env.{env_in};
-ghost use Rattle.value_operators.specs.Gives.{Gives};
+ghost use Rattle.value_operators.specs.Prelude.{env_in, Gives};
 
 use containers::{Boxed, Items};
 use csp_atoms::{Atom, AtomSet, Value};
