@@ -31,8 +31,9 @@ impl<'a> Component<'a> {
     ) -> Result<Option<Trace>, NoMemory>
         requires only { SeesOnly self.now.shape.now.vocabulary (O.step observer.now) }
         requires nodes { length (table_of self.now) ≤ R.nodes required.now }
-        ensures { IfOk result (IsDecided self.now (λ s. R.meets required.now (end_of (table_of self.now) 0 s) (observed (O.step observer.now) (O.start_state observer.now) s) ≡ true)) }
+        ensures { IfOk result (IsDecided self.now.shape.now self.now.number (λ s. R.meets required.now (end_of (table_of self.now) 0 s) (observed (O.step observer.now) (O.start_state observer.now) s) ≡ true)) }
     {
+        let _form = self.shape.shape();
         let explored = self.explore(alloc, observer)?;
         let place = first_failing(explored.pairs(), required)?;
         explored.run_if_any(alloc, place)
@@ -45,7 +46,7 @@ fn first_failing<R: Requirement>(
     required: &R,
 ) -> Result<Option<usize>, NoMemory>
     requires { (k : ℕ) → k < length pairs.now → (pair_at pairs.now k).0 < R.nodes required.now }
-    ensures { IfOk result (IsFirstFailing (λ pair. R.meets required.now pair.0 pair.1) pairs.now) }
+    ensures { IfOk result (IsFirstFailing (R.meets required.now) pairs.now) }
 {
     for (place, (node, state)) in pairs.iter().enumerate() {
         if !required.is_met(*node, *state)? {
