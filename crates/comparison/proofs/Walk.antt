@@ -3,10 +3,15 @@ use Rattle.std.proofs.Common.{◌≡◌, List, Result}
 use Rattle.std.specs.Result.{IsErrAnd}
 use Rattle.csp_tables.specs.Prelude.{leaves, Part}
 use Rattle.network_layout.specs.Triple.{alphabets}
-use Rattle.network_stages.specs.Prelude.{Network, HasParts, HasTables, ComponentTable}
+use Rattle.network_stages.specs.Prelude.{Network, HasParts, HasTables}
+use Rattle.network_stages.specs.declared.component_tables.ComponentTable.{ComponentTable}
 use Rattle.report.proofs.Points.{at_stop, goes_on, weaker}
-use Rattle.report.specs.Prelude.{passed, told, Answers, Done, Side, Verdict}
-use Rattle.csp_base.specs.Prelude.{Tells, Stop}
+use Rattle.report.specs.Prelude.{passed, told, Answers}
+use Rattle.report.specs.declared.answer.Done.{Done}
+use Rattle.report.specs.declared.answer.Side.{Side}
+use Rattle.report.specs.declared.answer.Verdict.{Verdict}
+use Rattle.csp_base.specs.Prelude.{Tells}
+use Rattle.csp_base.specs.declared.stop.Stop.{Stop}
 use Rattle.report.specs.declared.answer.Side.TheVariants as side
 use Rattle.comparison.specs.Agreement.{printed_events}
 use Rattle.comparison.specs.Compared.{ConformanceDecides, IsCompared, PartsOr}
