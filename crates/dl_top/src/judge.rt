@@ -26,7 +26,7 @@ use judgement::judged;
 use livelock::bounded;
 use network_stages::{Spelled, spell_network};
 use network_walks::walked;
-use report::{Answer, Done, Side, TextFault, Verdict, ended, finished};
+use report::{Answer, Done, Halt, Side, TextFault, ended, finished};
 use script_printer::print_script;
 use std::alloc::Global;
 use tabulation::tabulated;
@@ -70,7 +70,7 @@ fn spell(alloc: Global, side: Side, text: &[u8]) -> Result<Spelled, Stop<Answer>
 }
 
 // What a network decides with which this is to be done.
-fn decided(alloc: Global, job: &Job, network: &Spelled) -> Result<Done, Stop<Verdict>>
+fn decided(alloc: Global, job: &Job, network: &Spelled) -> Result<Done, Halt>
     ensures { Answers (NetworkDecides job.now network.now) result }
 {
     match job {
