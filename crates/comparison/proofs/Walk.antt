@@ -3,9 +3,13 @@ use Rattle.std.proofs.Common.{◌≡◌, List, Result}
 use Rattle.std.specs.Result.{IsErrAnd}
 use Rattle.csp_tables.specs.Prelude.{leaves, Part}
 use Rattle.network_layout.specs.Triple.{alphabets}
-use Rattle.network_stages.specs.Prelude.{Network, HasParts, HasTables, ComponentTable}
+use Rattle.network_stages.specs.Prelude.{Network, HasParts, HasTables}
+use Rattle.network_stages.specs.declared.component_tables.ComponentTable.{ComponentTable}
 use Rattle.report.proofs.Points.{at_halt, goes_on, halts_weaker}
-use Rattle.report.specs.Prelude.{passed, told, Answers, HaltsWith, Done, Halt, Side, Verdict}
+use Rattle.report.specs.Prelude.{passed, told, Answers, HaltsWith, Halt}
+use Rattle.report.specs.declared.answer.Done.{Done}
+use Rattle.report.specs.declared.answer.Side.{Side}
+use Rattle.report.specs.declared.answer.Verdict.{Verdict}
 use Rattle.report.specs.declared.answer.Side.TheVariants as side
 use Rattle.comparison.specs.Agreement.{printed_events}
 use Rattle.comparison.specs.Compared.{ConformanceDecides, IsCompared, PartsOr}

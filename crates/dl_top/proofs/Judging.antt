@@ -16,8 +16,13 @@ use Rattle.judgement.proofs.OneNetwork.{one_network}
 use Rattle.livelock.specs.Bounded.{IsBounded}
 use Rattle.network_stages.specs.Prelude.{IsNetworkOf, Network, HasNoNetwork}
 use Rattle.report.proofs.Points.{weaker}
-use Rattle.csp_base.specs.Prelude.{Tells, Stop}
-use Rattle.report.specs.Prelude.{Answers, Ends, Answer, Done, Halt, Side, Verdict}
+use Rattle.csp_base.specs.Prelude.{Tells}
+use Rattle.csp_base.specs.declared.stop.Stop.{Stop}
+use Rattle.report.specs.Prelude.{Answers, Ends, Halt}
+use Rattle.report.specs.declared.answer.Answer.{Answer}
+use Rattle.report.specs.declared.answer.Done.{Done}
+use Rattle.report.specs.declared.answer.Side.{Side}
+use Rattle.report.specs.declared.answer.Verdict.{Verdict}
 use Rattle.report.specs.declared.answer.Answer.TheVariants as answer
 use Rattle.report.specs.declared.answer.Side.TheVariants as side
 use Rattle.dl_top.proofs.Walks.{at_end}

@@ -2,8 +2,14 @@
 use Rattle.std.proofs.Common.{◌≡◌, Result, Ok, Err, refl, sym, subst}
 use Rattle.std.specs.Result.{IsErrAnd}
 use Rattle.std.proofs.lemmas.Result.{err_from_is_err_and}
-use Rattle.report.specs.Prelude.{Point, RefusedOr, UnprovedOr, passed, told, Answers, HaltsWith, refused, unproved, Done, Halt, Refusal, Shortfall, Side, Verdict}
-use Rattle.csp_base.specs.Prelude.{Tells, Stop}
+use Rattle.report.specs.Prelude.{Point, RefusedOr, UnprovedOr, passed, told, Answers, HaltsWith, refused, unproved, Halt}
+use Rattle.report.specs.declared.answer.Done.{Done}
+use Rattle.report.specs.declared.answer.Refusal.{Refusal}
+use Rattle.report.specs.declared.answer.Shortfall.{Shortfall}
+use Rattle.report.specs.declared.answer.Side.{Side}
+use Rattle.report.specs.declared.answer.Verdict.{Verdict}
+use Rattle.csp_base.specs.Prelude.{Tells}
+use Rattle.csp_base.specs.declared.stop.Stop.{Stop}
 use Rattle.report.specs.declared.answer.Verdict.TheVariants as verdict
 use Rattle.csp_base.specs.declared.stop.Stop.TheVariants as stop
 use Rattle.report.specs.declared.stop.Halt.TheVariants as halt
