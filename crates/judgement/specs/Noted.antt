@@ -15,7 +15,8 @@ use Rattle.network_trees.specs.Annotations.{component_roles, component_uses}
 use Rattle.process_steps.specs.Prelude.{ProcessStep, all_outcomes}
 use Rattle.report.specs.declared.answer.Refusal.{Refusal}
 use Rattle.report.specs.declared.answer.Shortfall.{Shortfall}
-use Rattle.judgement.specs.Told.{TellsNoted, TellsRule}
+use Rattle.report.specs.declared.answer.Shortfall.TheVariants as shortfall
+use Rattle.judgement.specs.Told.{TellsNoted}
 
 -- the rule with what the program notes for it of the network's components
 abbrev pub notes_of : Network → Rule → Outcome NotedRule
@@ -36,9 +37,9 @@ HasUntold network Resource r = (f : NotedFault) × IsUntold (component_uses netw
 abbrev pub Meets : Network → NotedRule → Type 0
 Meets network rule = NetworkMeets (ProcessStep network.program) (leaves network.tree) rule
 
--- it breaks the rule
+-- what is told is a fault that breaks the rule in it
 abbrev pub Breaks : Network → NotedRule → Shortfall → Type 0
-Breaks network rule s = (f : RuleFault) × NetworkBreaks (ProcessStep network.program) (leaves network.tree) rule f × TellsRule f s
+Breaks network rule s = (f : RuleFault) × NetworkBreaks (ProcessStep network.program) (leaves network.tree) rule f × (s ≡ shortfall.Breaks f)
 
 -- its greatest rank by the rule
 abbrev pub HasGreatestRank : Network → NotedRule → ℕ → Type 0

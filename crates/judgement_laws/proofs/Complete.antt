@@ -11,7 +11,6 @@ use Rattle.judgement.proofs.Notes.{all_told, same_ok}
 use Rattle.judgement.proofs.OneNetwork.{one_network}
 use Rattle.judgement.specs.Judged.{IsDeadlockFree, IsJudged, RuleDecides}
 use Rattle.judgement.specs.Noted.{Breaks, Meets, Notes, notes_of}
-use Rattle.judgement.specs.Told.{TellsRule}
 use Rattle.network_layout.proofs.TripleLemmas.{length-holders}
 use Rattle.network_layout.specs.Triple.{alphabets, holders}
 use Rattle.network_layout.specs.declared.triple.TripleFault.TheVariants as triple
@@ -55,9 +54,7 @@ module _ (network : Network) where
   one_note rule m n a b = same_ok (notes_of network rule) m n a b
 
   not_broken : (notes : NotedRule) (shape : Shape) (s : Shortfall) → IsApart network shape → Meets network notes → Breaks network notes s → ⊥
-  not_broken notes shape s apart meets (f, breaks, tells) =
-      subst (λ (g : RuleFault). TellsRule g s)
-      (network_faults_refute (ProcessStep network.program) network.tree shape apart.is notes f meets breaks) tells
+  not_broken notes shape s apart meets (f, breaks, tells) = network_faults_refute (ProcessStep network.program) network.tree shape apart.is notes f meets breaks
 
 -- ---- a network that passes
 
