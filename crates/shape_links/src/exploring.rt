@@ -15,8 +15,8 @@ impl<'a> Component<'a> {
     /// The pairs of a node and a state to which runs lead, where the observer sees shared events alone.
     pub fn explore<O: Observer>(&self, alloc: Global, observer: &O) -> Result<Explored, NoMemory>
         requires { SeesOnly self.now.shape.now.vocabulary (O.step observer.now) }
-        ensures pairs { IfOk result (λ made. IsExploration (table_of self.now) (O.step observer.now) (O.start_state observer.now) made.pairs) }
-        ensures found { IfOk result (λ made. AreFound (table_of self.now) (O.step observer.now) (O.start_state observer.now) made) }
+        ensures pairs { IfOk result (λ made. IsExploration (table_of self.now) (O.step observer.now) 0 made.pairs) }
+        ensures found { IfOk result (λ made. AreFound (table_of self.now) (O.step observer.now) 0 made) }
     {
         explore(alloc, self.part(), self.rows(), observer)
     }
@@ -31,7 +31,7 @@ impl<'a> Component<'a> {
     ) -> Result<Option<Trace>, NoMemory>
         requires only { SeesOnly self.now.shape.now.vocabulary (O.step observer.now) }
         requires nodes { length (table_of self.now) ≤ R.nodes required.now }
-        ensures { IfOk result (IsDecided self.now.shape.now self.now.number (λ s. R.meets required.now (end_of (table_of self.now) 0 s) (observed (O.step observer.now) (O.start_state observer.now) s) ≡ true)) }
+        ensures { IfOk result (IsDecided self.now.shape.now self.now.number (λ s. R.meets required.now (end_of (table_of self.now) 0 s) (observed (O.step observer.now) 0 s) ≡ true)) }
     {
         let _form = self.shape.shape();
         let explored = self.explore(alloc, observer)?;
