@@ -5,7 +5,7 @@ use Rattle.csp_base.proofs.Standard.{cases_eq, eq-eqb, ne_eqb, or_left, or_right
 use Rattle.numbered_walks.proofs.Counting.{none_at}
 use Rattle.csp_base.proofs.Rising.{RisesFrom, has_below, rises_from_increasing}
 use Rattle.csp_base.specs.Members.{has}
-use Rattle.numbered_walks.specs.Agreements.{bit, is_agreed}
+use Rattle.numbered_walks.specs.Prelude.{bit, is_agreed}
 
 -- what is not 0 is within
 pub some_within : (xs : List ℕ) (i : ℕ) → 1 ≤ get_or xs i 0 → i < length xs

@@ -1,16 +1,11 @@
 -- Which events all of their owners offer, by counting. (For private contracts: no public one cites this.)
 use Rattle.std.specs.Prelude.{◌≡◌, ℕ, ◌+◌, ◌<◌, ◌≤◌, ◌^◌, nat_eq, Bool, true, false, not, ◌&&◌, List, [], ◌∷◌, length, map, slice_index, slice_index_or}
 use Rattle.acceptances.specs.OfferTests.{can_do, is_unstable}
-use Rattle.numbered_walks.specs.Marks.{marked}
+use Rattle.numbered_walks.specs.Marks.{bit, marked}
 use Rattle.csp_base.specs.Members.{has}
 use Rattle.numbered_walks.specs.Numbered.{Numbered, OwnsItsSteps}
 use Rattle.numbered_walks.specs.declared.agreement.Agreement.{Agreement}
 use Rattle.numbered_walks.specs.declared.standing.Standing.{Standing}
-
--- 1 for a test that passes
-abbrev pub bit : Bool → ℕ
-bit true = 1
-bit false = 0
 
 -- whether an event with so many owners, of which so many offer it, is offered by all of them
 abbrev pub is_agreed : ℕ → ℕ → Bool

@@ -1,7 +1,7 @@
 -- What the steps of a walk do to where components stand. (For private contracts: no public one cites this.)
 use Rattle.std.specs.Prelude.{◌≡◌, ℕ, Bool, List, [], ◌∷◌, ◌++◌, map, slice_index, slice_set}
 use Rattle.numbered_walks.specs.Marks.{marked}
-use Rattle.csp_tables.specs.Prelude.{Label, RawStep, targets_in}
+use Rattle.csp_tables.specs.Prelude.{Label, targets_in}
 use Rattle.numbered_walks.specs.Agreements.{component_at}
 use Rattle.numbered_walks.specs.Draws.{IsDrawn}
 use Rattle.numbered_walks.specs.Numbered.{Goes, Has, Numbered}
@@ -14,7 +14,6 @@ use Rattle.numbered_walks.specs.declared.standing.Standing.{Standing}
 -- the component in this place does a step with this label, to the target that is drawn, and the others stay
 pub record Does (cs : List Numbered) (i : ℕ) (l : Label) (xs : List ℕ) (y : ℕ) (ys : List ℕ) (z : ℕ) : Type 0 where
   pub next : ℕ
-  pub step : RawStep (component_at cs i).table (slice_index xs i) l next
   pub drawn : IsDrawn (targets_in (component_at cs i).table (slice_index xs i) l) y next z
   pub others : ys ≡ slice_set xs i next
 

@@ -2,8 +2,8 @@
 
 ghost use Rattle.std.specs.Prelude.{◌≡◌, ◌+◌, ◌≤◌, ◌<◌, ◌^◌, ◌↔◌, ℕ, false, IfNone, IfOk, IfSome, IsTrue, OnOk, Some, length, slice_get, slice_index, slice_index_or, slice_set};
 ghost use Rattle.acceptances.specs.OfferTests.{is_unstable, can_do};
-ghost use Rattle.numbered_walks.specs.Agreements.{AreOwnerRows, IsAgreement, IsStanding, bit, component_at, offer_count, owner_count, owner_marks};
-ghost use Rattle.numbered_walks.specs.Marks.{mark_count, marked};
+ghost use Rattle.numbered_walks.specs.Agreements.{AreOwnerRows, IsAgreement, IsStanding, component_at, offer_count, owner_count, owner_marks};
+ghost use Rattle.numbered_walks.specs.Marks.{mark_count, marked, bit};
 ghost use Rattle.numbered_walks.specs.Numbered.{AllCan, AllDo, Can, Goes, Has, OwnsItsSteps, first_terms};
 ghost use Rattle.numbered_walks.specs.Numbers.{place_among};
 ghost use Rattle.numbered_walks.specs.Steps.{AllGo, Does, options};
@@ -256,7 +256,6 @@ fn do_together(
     requires owners { owners.now ≡ marked (owner_marks event movers.now) }
     requires can { AllCan event movers.now standing.old.terms.items }
     ensures form { OnOk result (IsStanding movers.now standing.new) }
-    ensures done { OnOk result (AllDo event movers.now standing.old.terms.items standing.new.terms.items) }
     ensures gone { OnOk result (AllGo movers.now (visible event) owners.now standing.old.terms.items standing.old.drawn standing.new.terms.items standing.new.drawn) }
 {
     for place in owners {

@@ -1,6 +1,6 @@
 use Rattle.std.proofs.Common.{◌<◌, ℕ, [], IsTrue, length, sym, subst, ◌∙◌}
 use Rattle.csp_base.proofs.Standard.{get_or_default, on_ok_weaker}
-use Rattle.numbered_walks.proofs.Stepping.{all_go, both_ok, one_does, one_within, row_there}
+use Rattle.numbered_walks.proofs.Stepping.{all_go, one_does, one_within, row_there}
 use Rattle.numbered_walks.specs.Prelude.{Goes, Has, has_owner}
 use Rattle.numbered_walks.specs.declared.moves.Move.{Move}
 use Rattle.numbered_walks.specs.declared.moves.Move.TheVariants as move
@@ -36,7 +36,7 @@ returns-in-Event-clause-goes c =
     let below = row_there cs c.args.owners.now e c.requires.owners owned in
     let places = c.as_slice.ensures ∙ c.index-owners-event.is ∙ get_or_default c.args.owners.now e c.index-owners-event.result [] below ∙ c.requires.owners e in
     on_ok_weaker c.do_together.result
-    (λ both. subst (λ (m : Move). Goes cs old.terms.items old.drawn m new.terms.items new.drawn) (sym c.in-Event.is)
+    (λ gone. subst (λ (m : Move). Goes cs old.terms.items old.drawn m new.terms.items new.drawn) (sym c.in-Event.is)
     (subst (λ n. Goes cs old.terms.items old.drawn (move.Event n) new.terms.items new.drawn) c.event.view_is
-    (all_go e cs old.terms.items new.terms.items c.as_slice.result.now old.drawn new.drawn owned c.requires.form.one_each places both.0 both.1)))
-    (both_ok _ _ c.do_together.result c.do_together.ensures.done c.do_together.ensures.gone)
+    (all_go e cs old.terms.items new.terms.items c.as_slice.result.now old.drawn new.drawn owned c.requires.form.one_each places gone)))
+    c.do_together.ensures.gone
