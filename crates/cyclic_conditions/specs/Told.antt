@@ -1,10 +1,9 @@
 -- What a part without an order is told by. (No rule's decider cites this.)
 use Rattle.std.specs.Prelude.{◌≡◌, ℕ}
 use Rattle.csp_tables.specs.Shape.{Shape}
-use Rattle.design_rules.specs.Prelude.{BreaksOrder, RuleFault, NoMemory, NoOrder}
+use Rattle.design_rules.specs.Prelude.{BreaksOrder, RuleFault, NoOrder}
 
--- the part has no order of its links, or memory ran out
+-- the part has no order of its links
 abbrev pub IsBrokenOrder : Shape → ℕ → RuleFault → Type 0
-IsBrokenOrder shape i NoMemory = Unit {0}
 IsBrokenOrder shape i (NoOrder part trace event) = (part ≡ i) × BreaksOrder shape i trace event
 IsBrokenOrder shape i _ = ⊥

@@ -8,7 +8,6 @@ ghost use Rattle.shape_links.specs.Links.{IsOwner};
 
 use containers::Items;
 use csp_base::{Event, NoMemory};
-use design_rules::RuleFault;
 use shape_links::SortedShape;
 use std::alloc::Global;
 
@@ -206,9 +205,8 @@ fn is_of(first: &Option<Fact>, link: u32) -> bool
 }
 
 // The links in the order of their places, up to the first place without one.
-pub(crate) fn in_order(alloc: Global, firsts: &[Option<Fact>]) -> Result<Items<u32>, RuleFault>
+pub(crate) fn in_order(alloc: Global, firsts: &[Option<Fact>]) -> Result<Items<u32>, NoMemory>
     ensures links { IfOk result (λ links. links ≡ links_in_order firsts.now) }
-    ensures fault { IfErr result (λ fault. fault ≡ RuleFault.NoMemory) }
 {
     let mut links = Items::new(alloc);
     for first in firsts {

@@ -1,6 +1,7 @@
 //! The order in which each component goes through its links.
 
 ghost use Rattle.std.specs.Prelude.{◌≡◌, ◌<◌, ◌≤◌, ◌-◌, ◌++◌, ◌∷◌, [], ℕ, List, IfErr, IfOk, OnOk, length};
+ghost use Rattle.csp_base.specs.Prelude.{Tells};
 ghost use Rattle.csp_tables.specs.Part.{part_at};
 ghost use Rattle.design_rules.specs.Prelude.{AllKeepPlaces, KeepsPlaces, links_of, BreaksCyclic};
 ghost use Rattle.observed_runs.specs.Prelude.{AreFound, IsExploration, lap_step};
@@ -10,7 +11,7 @@ ghost use Rattle.cyclic_conditions.specs.Told.{IsBrokenOrder};
 
 use crate::facts::{Fact, FactFault, facts, in_order};
 use containers::Items;
-use csp_base::{Event, NoMemory, Trace};
+use csp_base::{Event, NoMemory, Stop, Trace};
 use design_rules::RuleFault;
 use observed_runs::{Explored, Lap};
 use shape_links::{SortedShape, explored};
@@ -18,10 +19,13 @@ use std::alloc::Global;
 
 /// For each part the links that it reaches, in the order in which it comes to them; or the first part that goes through them in
 /// no fixed order.
-pub fn link_orders(alloc: Global, prepared: &SortedShape<'_>) -> Result<Vec<Items<u32>>, RuleFault>
+pub fn link_orders(
+    alloc: Global,
+    prepared: &SortedShape<'_>,
+) -> Result<Vec<Items<u32>>, Stop<RuleFault>>
     ensures keep { OnOk result (AllKeepPlaces prepared.now) }
     ensures orders { IfOk result (λ orders. AreOrders prepared.now orders.items) }
-    ensures fault { IfErr result (λ fault. BreaksCyclic prepared.now fault) }
+    ensures fault { IfErr result (Tells (BreaksCyclic prepared.now)) }
 {
     let count = prepared.shape().parts().len();
     let mut orders = Vec::new(alloc);
@@ -37,25 +41,29 @@ fn add_order(
     prepared: &SortedShape<'_>,
     part: u32,
     orders: &mut Vec<Items<u32>>,
-) -> Result<(), RuleFault>
+) -> Result<(), Stop<RuleFault>>
     requires { part < length prepared.now.parts }
     ensures keeps { OnOk result (KeepsPlaces prepared.now part) }
     ensures order { OnOk result ((order : List ℕ) × IsOrder prepared.now part order × (orders.new.items ≡ orders.old.items ++ order ∷ [])) }
-    ensures fault { IfErr result (λ fault. IsBrokenOrder prepared.now part fault) }
+    ensures fault { IfErr result (Tells (IsBrokenOrder prepared.now part)) }
 {
     let order = order_of(alloc, prepared, part)?;
     let Ok(()) = orders.push(order) else {
-        return Err(RuleFault::NoMemory);
+        return Err(Stop::NoMemory);
     };
     Ok(())
 }
 
 // The links that the part reaches, in the order in which it comes to them.
-fn order_of(alloc: Global, prepared: &SortedShape<'_>, part: u32) -> Result<Items<u32>, RuleFault>
+fn order_of(
+    alloc: Global,
+    prepared: &SortedShape<'_>,
+    part: u32,
+) -> Result<Items<u32>, Stop<RuleFault>>
     requires { part < length prepared.now.parts }
     ensures keeps { OnOk result (KeepsPlaces prepared.now part) }
     ensures order { IfOk result (λ order. IsOrder prepared.now part order) }
-    ensures fault { IfErr result (λ fault. IsBrokenOrder prepared.now part fault) }
+    ensures fault { IfErr result (Tells (IsBrokenOrder prepared.now part)) }
 {
     let _links = prepared.shape().links();
     let count = prepared.links(part).len() as u32;
@@ -73,7 +81,7 @@ fn order_found(
     part: u32,
     count: u32,
     explored: &Explored,
-) -> Result<Items<u32>, RuleFault>
+) -> Result<Items<u32>, Stop<RuleFault>>
     requires part { part < length prepared.now.parts }
     requires links { count ≡ links_of prepared.now part }
     requires some { 0 < count }
@@ -81,15 +89,15 @@ fn order_found(
     requires found { AreFound (part_at prepared.now.parts part).table (lap_step prepared.now.vocabulary (links_of prepared.now part - 1)) 0 explored.now }
     ensures keeps { OnOk result (KeepsPlaces prepared.now part) }
     ensures order { IfOk result (λ order. IsOrder prepared.now part order) }
-    ensures fault { IfErr result (λ fault. IsBrokenOrder prepared.now part fault) }
+    ensures fault { IfErr result (Tells (IsBrokenOrder prepared.now part)) }
 {
     let _form = prepared.shape();
     match facts(alloc, prepared, part, explored.pairs(), count) {
-        Ok(firsts) => in_order(alloc, &firsts),
+        Ok(firsts) => Ok(in_order(alloc, &firsts)?),
         Err(FactFault::Clash(here, there)) => {
             Err(told(alloc, prepared, part, explored, here, there))
         }
-        Err(FactFault::NoMemory) => Err(RuleFault::NoMemory),
+        Err(FactFault::NoMemory) => Err(Stop::NoMemory),
     }
 }
 
@@ -118,21 +126,21 @@ fn told(
     explored: &Explored,
     here: Fact,
     there: Fact,
-) -> RuleFault
+) -> Stop<RuleFault>
     requires part { part < length prepared.now.parts }
     requires links { 0 < links_of prepared.now part }
     requires found { AreFound (part_at prepared.now.parts part).table (lap_step prepared.now.vocabulary (links_of prepared.now part - 1)) 0 explored.now }
     requires clash { AreClashing prepared.now part explored.now.pairs here there }
-    ensures { IsBrokenOrder prepared.now part result }
+    ensures { Tells (IsBrokenOrder prepared.now part) result }
 {
     let _form = prepared.shape();
     let Ok(first) = explored.run_to(alloc, here.pair) else {
-        return RuleFault::NoMemory;
+        return Stop::NoMemory;
     };
     let Ok(second) = explored.run_to(alloc, there.pair) else {
-        return RuleFault::NoMemory;
+        return Stop::NoMemory;
     };
-    no_order(part, first, second, here.event, there.event)
+    Stop::Told(no_order(part, first, second, here.event, there.event))
 }
 
 // The fault with the run that is not the shorter one, and the event after it.

@@ -1,24 +1,25 @@
 //! Whether each link has an end that accepts all of its events wherever it accepts some.
 
 ghost use Rattle.std.specs.Prelude.{◌≡◌, ◌<◌, ℕ, Some, None, IfErr, IfOk, OnOk, IsTrue, length, replicate};
+ghost use Rattle.csp_base.specs.Prelude.{Tells};
 ghost use Rattle.csp_tables.specs.Prelude.{part_at, is_end, link_at};
 ghost use Rattle.design_rules.specs.Cyclic.{AllKeepPlaces, CanBeNumbered, HasWholeEnd, IsWholeEnd};
 ghost use Rattle.cyclic_conditions.specs.Shorts.{AreShorts, IsMarked, IsShort, IsShortAt, KeepsShorts, short_at};
 ghost use Rattle.shape_links.specs.Links.{IsOnOne};
 ghost use Rattle.design_rules.specs.Rules.{BreaksCyclic};
 
-use csp_base::{Event, EventSet, NoMemory};
+use csp_base::{Event, EventSet, NoMemory, Stop};
 use design_rules::RuleFault;
 use observed_runs::run_to_node;
 use shape_links::SortedShape;
 use std::alloc::Global;
 
 /// Succeeds where each link has a whole end, and else tells the first that has none.
-pub fn check_ends(alloc: Global, prepared: &SortedShape<'_>) -> Result<(), RuleFault>
+pub fn check_ends(alloc: Global, prepared: &SortedShape<'_>) -> Result<(), Stop<RuleFault>>
     requires keep { AllKeepPlaces prepared.now }
     requires numbered { CanBeNumbered prepared.now }
     ensures whole { OnOk result ((l : ℕ) → l < length prepared.now.links → HasWholeEnd prepared.now l) }
-    ensures fault { IfErr result (λ fault. BreaksCyclic prepared.now fault) }
+    ensures fault { IfErr result (Tells (BreaksCyclic prepared.now)) }
 {
     let count = prepared.shape().links().len();
     let (mut left, mut right) = unmarked(alloc, count)?;
@@ -41,7 +42,7 @@ fn mark_and_check(
     prepared: &SortedShape<'_>,
     left: &mut [Option<u32>],
     right: &mut [Option<u32>],
-) -> Result<(), RuleFault>
+) -> Result<(), Stop<RuleFault>>
     requires keep { AllKeepPlaces prepared.now }
     requires numbered { CanBeNumbered prepared.now }
     requires left { length left.old ≡ length prepared.now.links }
@@ -49,7 +50,7 @@ fn mark_and_check(
     requires none_left { (l : ℕ) → short_at left.old l ≡ None }
     requires none_right { (l : ℕ) → short_at right.old l ≡ None }
     ensures whole { OnOk result ((l : ℕ) → l < length prepared.now.links → HasWholeEnd prepared.now l) }
-    ensures fault { IfErr result (λ fault. BreaksCyclic prepared.now fault) }
+    ensures fault { IfErr result (Tells (BreaksCyclic prepared.now)) }
 {
     mark_all(prepared, left, right);
     check_marks(alloc, prepared, left, right)
@@ -61,7 +62,7 @@ fn check_marks(
     prepared: &SortedShape<'_>,
     left: &[Option<u32>],
     right: &[Option<u32>],
-) -> Result<(), RuleFault>
+) -> Result<(), Stop<RuleFault>>
     requires keep { AllKeepPlaces prepared.now }
     requires numbered { CanBeNumbered prepared.now }
     requires left { length left.now ≡ length prepared.now.links }
@@ -69,7 +70,7 @@ fn check_marks(
     requires shorts { AreShorts prepared.now left.now right.now }
     requires marked { (i l n : ℕ) → i < length prepared.now.parts → IsShortAt prepared.now i l n → IsMarked prepared.now left.now right.now i l }
     ensures whole { OnOk result ((l : ℕ) → l < length prepared.now.links → HasWholeEnd prepared.now l) }
-    ensures fault { IfErr result (λ fault. BreaksCyclic prepared.now fault) }
+    ensures fault { IfErr result (Tells (BreaksCyclic prepared.now)) }
 {
     let _form = prepared.shape();
     let _order = _form.links();
@@ -86,7 +87,7 @@ fn check_link(
     link: u32,
     left: Option<u32>,
     right: Option<u32>,
-) -> Result<(), RuleFault>
+) -> Result<(), Stop<RuleFault>>
     requires keep { AllKeepPlaces prepared.now }
     requires numbered { CanBeNumbered prepared.now }
     requires link { link < length prepared.now.links }
@@ -96,7 +97,7 @@ fn check_link(
     requires right_whole { right ≡ None → IsWholeEnd prepared.now link (link_at prepared.now link).right }
     requires first { (m : ℕ) → m < link → HasWholeEnd prepared.now m }
     ensures whole { OnOk result (HasWholeEnd prepared.now link) }
-    ensures fault { IfErr result (λ fault. BreaksCyclic prepared.now fault) }
+    ensures fault { IfErr result (Tells (BreaksCyclic prepared.now)) }
 {
     let Some(left_node) = left else {
         return Ok(());
@@ -114,30 +115,30 @@ fn told(
     link: u32,
     left_node: u32,
     right_node: u32,
-) -> RuleFault
+) -> Stop<RuleFault>
     requires link { link < length prepared.now.links }
     requires left { IsShortAt prepared.now (link_at prepared.now link).left link left_node }
     requires right { IsShortAt prepared.now (link_at prepared.now link).right link right_node }
     requires keep { AllKeepPlaces prepared.now }
     requires numbered { CanBeNumbered prepared.now }
     requires first { (m : ℕ) → m < link → HasWholeEnd prepared.now m }
-    ensures { BreaksCyclic prepared.now result }
+    ensures { Tells (BreaksCyclic prepared.now) result }
 {
     let _form = prepared.shape();
     let ends = prepared.link(link);
     let (left, right) = (ends.left(), ends.right());
     let Ok(left_trace) = run_to_node(alloc, prepared.component(left), left_node) else {
-        return RuleFault::NoMemory;
+        return Stop::NoMemory;
     };
     let Ok(right_trace) = run_to_node(alloc, prepared.component(right), right_node) else {
-        return RuleFault::NoMemory;
+        return Stop::NoMemory;
     };
-    RuleFault::NoWholeEnd {
+    Stop::Told(RuleFault::NoWholeEnd {
         left,
         right,
         left_trace,
         right_trace,
-    }
+    })
 }
 
 // Marks for each link the ends that fall short, each with a node where it does.
@@ -253,9 +254,18 @@ fn mark(
     let _form = prepared.shape();
     let ends = prepared.link(link);
     if ends.left() == part {
-        left[link as usize] = Some(node);
+        keep(left, link as usize, node);
     } else {
-        right[link as usize] = Some(node);
+        keep(right, link as usize, node);
+    }
+}
+
+// Keeps the node for the link, where none is kept for it yet.
+fn keep(shorts: &mut [Option<u32>], link: usize, node: u32)
+    requires { link < length shorts.old }
+{
+    if shorts[link].is_none() {
+        shorts[link] = Some(node);
     }
 }
 
