@@ -1,20 +1,18 @@
 //! The order in which each component goes through its links.
 
-ghost use Rattle.std.specs.Prelude.{◌≡◌, ◌<◌, ◌≤◌, ◌-◌, ◌++◌, ◌∷◌, [], ℕ, List, IfErr, IfOk, OnOk, length};
+ghost use Rattle.std.specs.Prelude.{◌≡◌, ◌<◌, ◌++◌, ◌∷◌, [], ℕ, List, IfErr, IfOk, OnOk, length};
 ghost use Rattle.csp_base.specs.Prelude.{Tells};
-ghost use Rattle.csp_tables.specs.Part.{part_at};
-ghost use Rattle.design_rules.specs.Prelude.{AllKeepPlaces, KeepsPlaces, links_of, BreaksCyclic};
-ghost use Rattle.observed_runs.specs.Prelude.{AreFound, IsExploration, lap_step};
+ghost use Rattle.design_rules.specs.Prelude.{AllKeepPlaces, KeepsPlaces, BreaksCyclic};
 ghost use Rattle.cyclic_conditions.specs.Facts.{AreClashing};
 ghost use Rattle.cyclic_conditions.specs.Orders.{AreOrders, IsOrder};
 ghost use Rattle.cyclic_conditions.specs.Told.{IsBrokenOrder};
 
-use crate::facts::{Fact, FactFault, facts, in_order};
+use crate::facts::{Clash, in_order, note_all};
+use crate::laps::Laps;
 use containers::Items;
-use csp_base::{Event, NoMemory, Stop, Trace};
+use csp_base::{NoMemory, Stop};
 use design_rules::RuleFault;
-use observed_runs::{Explored, Lap};
-use shape_links::{SortedShape, explored};
+use shape_links::SortedShape;
 use std::alloc::Global;
 
 /// For each part the links that it reaches, in the order in which it comes to them; or the first part that goes through them in
@@ -65,99 +63,43 @@ fn order_of(
     ensures order { IfOk result (λ order. IsOrder prepared.now part order) }
     ensures fault { IfErr result (Tells (IsBrokenOrder prepared.now part)) }
 {
-    let _links = prepared.shape().links();
-    let count = prepared.links(part).len() as u32;
-    if count == 0 {
+    if prepared.links(part).is_empty() {
         return Ok(Items::new(alloc));
     }
-    let explored = explored_part(alloc, prepared, part, count)?;
-    order_found(alloc, prepared, part, count, &explored)
+    let laps = Laps::new(alloc, prepared, part)?;
+    order_along(alloc, &laps)
 }
 
-// The same of a part with so many links, by what an exploration of it found.
-fn order_found(
-    alloc: Global,
-    prepared: &SortedShape<'_>,
-    part: u32,
-    count: u32,
-    explored: &Explored,
-) -> Result<Items<u32>, Stop<RuleFault>>
-    requires part { part < length prepared.now.parts }
-    requires links { count ≡ links_of prepared.now part }
-    requires some { 0 < count }
-    requires pairs { IsExploration (part_at prepared.now.parts part).table (lap_step prepared.now.vocabulary (links_of prepared.now part - 1)) 0 explored.now.pairs }
-    requires found { AreFound (part_at prepared.now.parts part).table (lap_step prepared.now.vocabulary (links_of prepared.now part - 1)) 0 explored.now }
-    ensures keeps { OnOk result (KeepsPlaces prepared.now part) }
-    ensures order { IfOk result (λ order. IsOrder prepared.now part order) }
-    ensures fault { IfErr result (Tells (IsBrokenOrder prepared.now part)) }
+// The same of a part that has links, by its laps.
+fn order_along(alloc: Global, laps: &Laps<'_>) -> Result<Items<u32>, Stop<RuleFault>>
+    ensures keeps { OnOk result (KeepsPlaces laps.now.shape laps.now.part) }
+    ensures order { IfOk result (λ order. IsOrder laps.now.shape laps.now.part order) }
+    ensures fault { IfErr result (Tells (IsBrokenOrder laps.now.shape laps.now.part)) }
 {
-    let _form = prepared.shape();
-    match facts(alloc, prepared, part, explored.pairs(), count) {
-        Ok(firsts) => Ok(in_order(alloc, &firsts)?),
-        Err(FactFault::Clash(here, there)) => {
-            Err(told(alloc, prepared, part, explored, here, there))
-        }
-        Err(FactFault::NoMemory) => Err(Stop::NoMemory),
+    let mut firsts = vec![in alloc; None; laps.count()]?;
+    match note_all(laps, &mut firsts) {
+        Ok(()) => Ok(in_order(alloc, &firsts)?),
+        Err(clash) => Err(Stop::Told(no_order(alloc, laps, clash)?)),
     }
-}
-
-// The exploration of a part with the places of its lap.
-fn explored_part(
-    alloc: Global,
-    prepared: &SortedShape<'_>,
-    part: u32,
-    count: u32,
-) -> Result<Explored, NoMemory>
-    requires part { part < length prepared.now.parts }
-    requires links { count ≡ links_of prepared.now part }
-    requires some { 0 < count }
-    ensures pairs { IfOk result (λ explored. IsExploration (part_at prepared.now.parts part).table (lap_step prepared.now.vocabulary (links_of prepared.now part - 1)) 0 explored.pairs) }
-    ensures found { IfOk result (λ explored. AreFound (part_at prepared.now.parts part).table (lap_step prepared.now.vocabulary (links_of prepared.now part - 1)) 0 explored) }
-{
-    let lap = Lap::new(prepared.shape().vocabulary(), count);
-    explored(alloc, prepared, part, &lap)
 }
 
 // What two facts tell that no order allows: the one whose run is not the shorter one.
-fn told(
-    alloc: Global,
-    prepared: &SortedShape<'_>,
-    part: u32,
-    explored: &Explored,
-    here: Fact,
-    there: Fact,
-) -> Stop<RuleFault>
-    requires part { part < length prepared.now.parts }
-    requires links { 0 < links_of prepared.now part }
-    requires found { AreFound (part_at prepared.now.parts part).table (lap_step prepared.now.vocabulary (links_of prepared.now part - 1)) 0 explored.now }
-    requires clash { AreClashing prepared.now part explored.now.pairs here there }
-    ensures { Tells (IsBrokenOrder prepared.now part) result }
+fn no_order(alloc: Global, laps: &Laps<'_>, clash: Clash) -> Result<RuleFault, NoMemory>
+    requires { AreClashing laps.now clash.here clash.there }
+    ensures { IfOk result (IsBrokenOrder laps.now.shape laps.now.part) }
 {
-    let _form = prepared.shape();
-    let Ok(first) = explored.run_to(alloc, here.pair) else {
-        return Stop::NoMemory;
-    };
-    let Ok(second) = explored.run_to(alloc, there.pair) else {
-        return Stop::NoMemory;
-    };
-    Stop::Told(no_order(part, first, second, here.event, there.event))
-}
-
-// The fault with the run that is not the shorter one, and the event after it.
-fn no_order(part: u32, first: Trace, second: Trace, here: Event, there: Event) -> RuleFault
-    ensures first { length second ≤ length first → result ≡ RuleFault.NoOrder part first here }
-    ensures second { length first < length second → result ≡ RuleFault.NoOrder part second there }
-{
+    let first = laps.run_to(alloc, clash.here.pair)?;
+    let second = laps.run_to(alloc, clash.there.pair)?;
     if second.len() <= first.len() {
-        return RuleFault::NoOrder {
-            part,
+        return Ok(RuleFault::NoOrder {
+            part: laps.part(),
             trace: first,
-            event: here,
-        };
+            event: clash.here.event,
+        });
     }
-    RuleFault::NoOrder {
-        part,
+    Ok(RuleFault::NoOrder {
+        part: laps.part(),
         trace: second,
-        event: there,
-    }
+        event: clash.there.event,
+    })
 }
