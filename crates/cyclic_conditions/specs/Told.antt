@@ -1,7 +1,8 @@
 -- What is told of a part without an order, and of a link without a whole end. (No rule's decider cites this.)
 use Rattle.std.specs.Prelude.{◌≡◌, ◌≤◌, ℕ, List}
 use Rattle.csp_tables.specs.Prelude.{end_of, part_at, Shape}
-use Rattle.design_rules.specs.Prelude.{BreaksOrder, FallsShort, RuleFault, NoOrder, NoWholeEnd, ends_of}
+use Rattle.design_rules.specs.Cyclic.{FallsShort}
+use Rattle.design_rules.specs.Prelude.{BreaksOrder, RuleFault, NoOrder, NoWholeEnd, ends_of}
 
 -- the part has no order of its links
 abbrev pub IsBrokenOrder : Shape → ℕ → RuleFault → Type 0
