@@ -1,4 +1,5 @@
 pub mod Acquired
+pub mod Component
 pub mod Links
 pub mod Setting
 pub mod Turned

@@ -4,15 +4,19 @@
 
 mod acquisition;
 mod circle;
+mod component;
 mod ends;
 mod exploring;
 mod owners;
 mod prepared;
+mod reading;
+mod requirement;
 mod setting;
 mod steps;
 
 pub use acquisition::acquired;
 pub use circle::turned;
-pub use exploring::explored;
+pub use component::Component;
 pub use prepared::SortedShape;
+pub use requirement::Requirement;
 pub use setting::Setting;
