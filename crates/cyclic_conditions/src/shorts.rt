@@ -1,13 +1,13 @@
 //! The first node of each end of each link that falls short.
 
-ghost use Rattle.std.specs.Prelude.{◌≡◌, ◌<◌, ◌+◌, ℕ, Some, None, IfOk, IsTrue, length, slice_set, unwrap_or};
-ghost use Rattle.csp_tables.specs.Prelude.{part_at};
+ghost use Rattle.std.specs.Prelude.{◌≡◌, ◌<◌, ◌+◌, ℕ, Some, IfOk, length, slice_set, unwrap_or};
 ghost use Rattle.design_rules.specs.Prelude.{AllKeepPlaces};
 ghost use Rattle.cyclic_conditions.specs.Shorts.{AreAllShorts, AreShorts, Before, IsAcceptance, IsShort, short_at};
+ghost use Rattle.shape_links.specs.Component.{table_of};
 ghost use Rattle.shape_links.specs.Links.{IsOnOne};
 
 use csp_base::{Event, EventSet, NoMemory};
-use shape_links::SortedShape;
+use shape_links::{Component, SortedShape};
 use std::alloc::Global;
 
 // For each link the first node of its left end and the first one of its right end that falls short.
@@ -15,14 +15,6 @@ use std::alloc::Global;
 pub(crate) struct Shorts {
     pub(crate) left: Vec<Option<u32>>,
     pub(crate) right: Vec<Option<u32>>,
-}
-
-// An acceptance, by its part, its node and its place there.
-#[derive(Clone, Copy)]
-struct Acceptance {
-    part: u32,
-    node: u32,
-    place: usize,
 }
 
 // The first nodes of all ends that fall short.
@@ -45,51 +37,48 @@ fn mark_all(prepared: &SortedShape<'_>, shorts: &mut Shorts)
     ensures { AreAllShorts prepared.now shorts.new }
 {
     for part in 0..prepared.shape().parts().len() {
-        mark_part(prepared, part as u32, shorts);
+        mark_component(&prepared.component(part as u32), shorts);
     }
 }
 
-// Marks the ends that the part is and that fall short.
-fn mark_part(prepared: &SortedShape<'_>, part: u32, shorts: &mut Shorts)
-    requires part { part < length prepared.now.parts }
-    requires keep { AllKeepPlaces prepared.now }
-    requires shorts { AreShorts prepared.now (Before part 0 0) shorts.old }
-    ensures { AreShorts prepared.now (Before (part + 1) 0 0) shorts.new }
+// Marks the ends that the component is and that fall short.
+fn mark_component(component: &Component<'_>, shorts: &mut Shorts)
+    requires keep { AllKeepPlaces component.now.shape.now }
+    requires shorts { AreShorts component.now.shape.now (Before component.now.number 0 0) shorts.old }
+    ensures { AreShorts component.now.shape.now (Before (component.now.number + 1) 0 0) shorts.new }
 {
-    let nodes = prepared.component(part).table().nodes();
-    for node in 0..nodes.len() {
-        mark_node(prepared, part, node as u32, shorts);
+    for node in 0..component.table().nodes().len() {
+        mark_node(component, node as u32, shorts);
     }
 }
 
 // Marks those that fall short by an acceptance of the node.
-fn mark_node(prepared: &SortedShape<'_>, part: u32, node: u32, shorts: &mut Shorts)
-    requires part { part < length prepared.now.parts }
-    requires node { node < length (part_at prepared.now.parts part).table }
-    requires keep { AllKeepPlaces prepared.now }
-    requires shorts { AreShorts prepared.now (Before part node 0) shorts.old }
-    ensures { AreShorts prepared.now (Before part (node + 1) 0) shorts.new }
+fn mark_node(component: &Component<'_>, node: u32, shorts: &mut Shorts)
+    requires node { node < length (table_of component.now) }
+    requires keep { AllKeepPlaces component.now.shape.now }
+    requires shorts { AreShorts component.now.shape.now (Before component.now.number node 0) shorts.old }
+    ensures { AreShorts component.now.shape.now (Before component.now.number (node + 1) 0) shorts.new }
 {
-    for place in 0..prepared.node(part, node).accept().len() {
-        mark_set(prepared, Acceptance { part, node, place }, shorts);
+    for place in 0..component.node(node).accept().len() {
+        mark_set(component, node, place, shorts);
     }
 }
 
-// Marks the one that falls short by the acceptance, if there is one.
-fn mark_set(prepared: &SortedShape<'_>, at: Acceptance, shorts: &mut Shorts)
-    requires at { IsAcceptance prepared.now at.part at.node at.place }
-    requires keep { AllKeepPlaces prepared.now }
-    requires shorts { AreShorts prepared.now (Before at.part at.node at.place) shorts.old }
-    ensures { AreShorts prepared.now (Before at.part at.node (at.place + 1)) shorts.new }
+// Marks the one that falls short by the acceptance in this place, if there is one.
+fn mark_set(component: &Component<'_>, node: u32, place: usize, shorts: &mut Shorts)
+    requires at { IsAcceptance component.now.shape.now component.now.number node place }
+    requires keep { AllKeepPlaces component.now.shape.now }
+    requires shorts { AreShorts component.now.shape.now (Before component.now.number node place) shorts.old }
+    ensures { AreShorts component.now.shape.now (Before component.now.number node (place + 1)) shorts.new }
 {
-    let set = &prepared.node(at.part, at.node).accept()[at.place];
-    let Some(link) = short_link(prepared, set) else {
+    let set = &component.node(node).accept()[place];
+    let Some(link) = short_link(component.shape, set) else {
         return;
     };
-    if prepared.link(link).left() == at.part {
-        mark(&mut shorts.left, link as usize, at.node);
+    if component.shape.link(link).left() == component.number {
+        mark(&mut shorts.left, link as usize, node);
     } else {
-        mark(&mut shorts.right, link as usize, at.node);
+        mark(&mut shorts.right, link as usize, node);
     }
 }
 

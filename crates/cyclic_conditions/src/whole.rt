@@ -54,8 +54,8 @@ fn check_link(
     };
     let ends = prepared.link(link);
     let (left, right) = (ends.left(), ends.right());
-    let left_trace = run_to_node(alloc, prepared.component(left), left_node)?;
-    let right_trace = run_to_node(alloc, prepared.component(right), right_node)?;
+    let left_trace = run_to_node(alloc, prepared.component(left).part(), left_node)?;
+    let right_trace = run_to_node(alloc, prepared.component(right).part(), right_node)?;
     Err(Stop::Told(RuleFault::NoWholeEnd {
         left,
         right,

@@ -54,7 +54,7 @@ fn chains(
     let count = prepared.shape().links().len();
     let mut rows = Rows::new(alloc, count as u32)?;
     for part in 0..orders.len() {
-        let ends = prepared.links(part as u32);
+        let ends = prepared.component(part as u32).links();
         chain(&mut rows, orders[part].as_slice())?;
         chain_rest(&mut rows, orders[part].as_slice(), ends)?;
     }
