@@ -1,21 +1,24 @@
--- The places of a part's lap, as its exploration shows them.
+-- The places of a component's lap, as its laps show them.
 use Rattle.std.proofs.Common.{◌≡◌, ℕ, zero, suc, ◌+◌, ◌-◌, ◌%◌, ◌^◌, ◌<◌, ◌≤◌, inl, inr, List, [], ◌∷◌, ◌++◌, length, cond, Option, Some, None, IsTrue, nat_lt, refl, sym, ap, subst, ◌∙◌, arith, lt-ltb, le-ltb}
 use Rattle.std.specs.Prelude.{slice_get}
 use Rattle.csp_base.proofs.Standard.{cases_Bool, cases_lt, cond-true, cond-false, length-append, get_or_append_left, get_or-append_seam, mod_below, mod-eq_of_lt, add-mod_left, none-some, same_Some}
-use Rattle.csp_base.specs.Members.{has}
-use Rattle.csp_tables.specs.Prelude.{node_at, is_possible, part_at, alphabets_of, TripleDisjoint, Shape, LinksAreOrdered, is_end, IsWellFormed}
+use Rattle.csp_base.specs.Prelude.{has}
+use Rattle.csp_tables.specs.Prelude.{node_at, is_possible, part_at, Shape, is_end}
 use Rattle.net_sound.proofs.Within.{part_form}
-use Rattle.design_rules.specs.Prelude.{count_in, count_below, BreaksOrder, Clash, links_of, ReachesLink, place_after, KeepsPlaces, BreaksCyclic, RuleFault, NoMemory, NoOrder}
-use Rattle.design_rules.proofs.Counts.{count_more, count_same, count_at_most}
+use Rattle.design_rules.specs.Prelude.{count_in, count_below, BreaksOrder, Clash, links_of, ReachesLink, place_after, KeepsPlaces, BreaksCyclic, RuleFault, NoOrder}
+use Rattle.design_rules.proofs.Counts.{count_more, count_same}
 use Rattle.design_rules.proofs.Runs.{possible_within, end_within}
-use Rattle.cyclic_conditions.specs.Told.{IsBrokenOrder}
 use Rattle.design_rules.proofs.Places.{Keeping, IsAt, earlier, some_links, first_lap}
-use Rattle.observed_runs.specs.Prelude.{observed, LeadsTo, pair_at, IsExploration, lap_step}
-use Rattle.shape_links.specs.Links.{IsOwner, ends_below, ends_of}
-use Rattle.cyclic_conditions.specs.Facts.{IsFact, HasFirst, AreFirsts, AreNoted, Disagree, AreClashing, links_in_order}
-use Rattle.cyclic_conditions.specs.Orders.{IsOrder, order_at}
-use Rattle.cyclic_conditions.specs.declared.facts.Fact.{Fact}
+use Rattle.observed_runs.specs.Prelude.{observed, LeadsTo, pair_at, lap_step}
+use Rattle.shape_links.specs.Component.{table_of}
+use Rattle.shape_links.specs.Links.{ends_below, ends_of}
 use Rattle.shape_links.proofs.Links.{owner_end}
+use Rattle.cyclic_conditions.specs.Facts.{IsFact, HasFirst, AreFirsts, AreNoted, Disagree, AreClashing, links_in_order}
+use Rattle.cyclic_conditions.specs.Laps.{next_place}
+use Rattle.cyclic_conditions.specs.Orders.{IsOrder, order_at}
+use Rattle.cyclic_conditions.specs.Told.{IsBrokenOrder}
+use Rattle.cyclic_conditions.specs.declared.facts.Fact.{Fact}
+use Rattle.cyclic_conditions.specs.declared.laps.Laps.{Laps}
 use Rattle.cyclic_conditions.proofs.Noting.{first_within}
 
 -- ---- places
@@ -41,46 +44,49 @@ lap_counts V last c (e ∷ s) h =
           ap (λ n. observed (lap_step V last) n s) to ∙ lap_counts V last c s h ∙ ap (λ n. (c + n) % (last + 1)) (sym (count_same V e s off))
     ]
 
--- a part's exploration with the places of its lap
-pub record Explores (shape : Shape) (i : ℕ) (pairs : List (ℕ × ℕ)) : Type 0 where
-  pub form : IsWellFormed shape
-  pub apart : TripleDisjoint (alphabets_of shape.parts)
-  pub part : i < length shape.parts
-  pub some : 0 < links_of shape i
-  pub explored : IsExploration (part_at shape.parts i).table (lap_step shape.vocabulary (links_of shape i - 1)) 0 pairs
+abbrev Leads : Laps → List ℕ → ℕ × ℕ → Type 0
+Leads laps = LeadsTo (table_of laps.component) (next_place laps.component) 0
 
-abbrev pub Leads : Shape → ℕ → List ℕ → ℕ × ℕ → Type 0
-Leads shape i s pair = LeadsTo (part_at shape.parts i).table (lap_step shape.vocabulary (links_of shape i - 1)) 0 s pair
+-- the place of the lap to which a run leads
+abbrev place_of : Laps → List ℕ → ℕ
+place_of laps s = place_after laps.component.shape.now s % links_of laps.component.shape.now laps.component.number
 
--- the state is the place
-pub place_is : (shape : Shape) (i : ℕ) (s : List ℕ) (pair : ℕ × ℕ) → 0 < links_of shape i → Leads shape i s pair → place_after shape s % links_of shape i ≡ pair.1
-place_is shape i s pair some l =
-    let k : links_of shape i - 1 + 1 ≡ links_of shape i = omega arith in
-    sym (lap_counts shape.vocabulary (links_of shape i - 1) 0 s (omega arith) ∙ (ap (λ n. n % (links_of shape i - 1 + 1)) (let e : 0 + count_in shape.vocabulary s ≡ count_in shape.vocabulary s = omega arith in e) ∙ ap (λ n. count_in shape.vocabulary s % n) k)) ∙ l.state
+place_is : (laps : Laps) (s : List ℕ) (pair : ℕ × ℕ) → Leads laps s pair → place_of laps s ≡ pair.1
+place_is laps s pair l =
+    let shape = laps.component.shape.now in
+    let n = links_of laps.component.shape.now laps.component.number in
+    let some : 0 < links_of laps.component.shape.now laps.component.number = laps.some in
+    let k : n - 1 + 1 ≡ n = omega arith in
+    sym (lap_counts shape.vocabulary (n - 1) 0 s (omega arith) ∙ (ap (λ m. m % (n - 1 + 1)) (let e : 0 + count_in shape.vocabulary s ≡ count_in shape.vocabulary s = omega arith in e) ∙ ap (λ m. count_in shape.vocabulary s % m) k)) ∙ l.state
 
-pub place_below : (shape : Shape) (i : ℕ) (s : List ℕ) (pair : ℕ × ℕ) → 0 < links_of shape i → Leads shape i s pair → pair.1 < links_of shape i
-place_below shape i s pair some l = subst (λ n. n < links_of shape i) (place_is shape i s pair some l) (mod_below (place_after shape s) (links_of shape i) some)
+-- the pairs are within the table and the lap
+pub pair_within : (laps : Laps) (k : ℕ) → k < length laps.explored.pairs → ((pair_at laps.explored.pairs k).0 < length (table_of laps.component)) × ((pair_at laps.explored.pairs k).1 < links_of laps.component.shape.now laps.component.number)
+pair_within laps k h =
+    let c = laps.component in
+    let r = laps.pairs.reached k h in (
+      subst (λ n. n < length (table_of c)) r.1.node (end_within (part_at c.shape.now.parts c.number) r.0 (part_form c.shape.now.parts c.number c.within c.form.form) r.1.follows),
+      subst (λ n. n < links_of c.shape.now c.number) (place_is laps r.0 (pair_at laps.explored.pairs k) r.1) (mod_below (place_after c.shape.now r.0) (links_of c.shape.now c.number) laps.some),
+    )
 
--- what is possible where a run leads
-reach : (shape : Shape) (i l : ℕ) (s : List ℕ) (e : ℕ) (pair : ℕ × ℕ) → IsWellFormed shape → TripleDisjoint (alphabets_of shape.parts) → i < length shape.parts → Leads shape i s pair → IsTrue (is_possible (node_at (part_at shape.parts i).table pair.0).next e) → IsOwner shape l e → ReachesLink shape i l s e
-reach shape i l s e pair w triple h leads possible o =
-    let at = subst (λ n. IsTrue (is_possible (node_at (part_at shape.parts i).table n).next e)) (sym leads.node) possible in
-    record {
-      possible = record { runs = record { part = h; follows = leads.follows }; next = at };
-      on = owner_end shape i l e w triple h (possible_within (part_at shape.parts i) pair.0 e (part_form shape.parts i h w.form) possible) o;
-    }
+-- ---- facts that clash
 
--- a fact, after any run that leads to its pair
-pub fact_reach : (shape : Shape) (i : ℕ) (pairs : List (ℕ × ℕ)) (q : ℕ) (f : Fact) (s : List ℕ) → IsWellFormed shape → TripleDisjoint (alphabets_of shape.parts) → i < length shape.parts → 0 < links_of shape i → IsFact shape i pairs q f → Leads shape i s (pair_at pairs f.pair) → ReachesLink shape i f.link s f.event × (place_after shape s % links_of shape i ≡ q)
-fact_reach shape i pairs q f s w triple h some is leads = (reach shape i f.link s f.event (pair_at pairs f.pair) w triple h leads is.possible is.owner, place_is shape i s (pair_at pairs f.pair) some leads ∙ is.place)
+-- the link of a fact is reached after any run that leads to its pair, at the fact's place
+abbrev IsReached : Laps → ℕ → Fact → List ℕ → Type 0
+IsReached laps q f s = ReachesLink laps.component.shape.now laps.component.number f.link s f.event × (place_of laps s ≡ q)
 
--- two facts clash
-flipped : (q r : ℕ) (f g : Fact) → Disagree q f r g → Disagree r g q f
-flipped q r f g (inl x) = inl (sym x.0, (λ same. x.1 (sym same)))
-flipped q r f g (inr x) = inr (sym x.0, (λ same. x.1 (sym same)))
+fact_reach : (laps : Laps) (q : ℕ) (f : Fact) (s : List ℕ) → IsFact laps q f → Leads laps s (pair_at laps.explored.pairs f.pair) → IsReached laps q f s
+fact_reach laps q f s is leads =
+    let c = laps.component in
+    let at = subst (λ n. IsTrue (is_possible (node_at (table_of c) n).next f.event)) (sym leads.node) is.possible in (
+      record {
+        possible = record { runs = record { part = c.within; follows = leads.follows }; next = at };
+        on = owner_end c.shape.now c.number f.link f.event c.form c.apart c.within (possible_within (part_at c.shape.now.parts c.number) (pair_at laps.explored.pairs f.pair).0 f.event (part_form c.shape.now.parts c.number c.within c.form.form) is.possible) is.owner;
+      },
+      place_is laps s (pair_at laps.explored.pairs f.pair) leads ∙ is.place,
+    )
 
-pub breaks : (shape : Shape) (i : ℕ) (q r : ℕ) (f g : Fact) (s t : List ℕ) → Disagree q f r g → length t ≤ length s → ReachesLink shape i f.link s f.event × (place_after shape s % links_of shape i ≡ q) → ReachesLink shape i g.link t g.event × (place_after shape t % links_of shape i ≡ r) → BreaksOrder shape i s f.event
-breaks shape i q r f g s t apart short a b = record {
+breaks : (laps : Laps) (q r : ℕ) (f g : Fact) (s t : List ℕ) → Disagree q f r g → length t ≤ length s → IsReached laps q f s → IsReached laps r g t → BreaksOrder laps.component.shape.now laps.component.number s f.event
+breaks laps q r f g s t apart short a b = record {
   link = f.link;
   reaches = a.0;
   other_run = t;
@@ -91,62 +97,65 @@ breaks shape i q r f g s t apart short a b = record {
   clash = clash_of apart;
 }
   where
-    clash_of : Disagree q f r g → Clash shape i f.link s g.link t
+    clash_of : Disagree q f r g → Clash laps.component.shape.now laps.component.number f.link s g.link t
     clash_of (inl x) = inl (x.1, a.1 ∙ x.0 ∙ sym b.1)
     clash_of (inr x) = inr (x.0, (λ same. x.1 (sym a.1 ∙ same ∙ b.1)))
 
-pub breaks_first : (shape : Shape) (i : ℕ) (pairs : List (ℕ × ℕ)) (f g : Fact) (s t : List ℕ) → IsWellFormed shape → TripleDisjoint (alphabets_of shape.parts) → i < length shape.parts → 0 < links_of shape i → AreClashing shape i pairs f g → Leads shape i s (pair_at pairs f.pair) → Leads shape i t (pair_at pairs g.pair) → length t ≤ length s → BreaksOrder shape i s f.event
-breaks_first shape i pairs f g s t w triple h some k a b short =
-    breaks shape i k.first_place k.second_place f g s t k.apart short (fact_reach shape i pairs k.first_place f s w triple h some k.first a) (fact_reach shape i pairs k.second_place g t w triple h some k.second b)
+flipped : (q r : ℕ) (f g : Fact) → Disagree q f r g → Disagree r g q f
+flipped q r f g (inl x) = inl (sym x.0, (λ same. x.1 (sym same)))
+flipped q r f g (inr x) = inr (sym x.0, (λ same. x.1 (sym same)))
 
-pub breaks_second : (shape : Shape) (i : ℕ) (pairs : List (ℕ × ℕ)) (f g : Fact) (s t : List ℕ) → IsWellFormed shape → TripleDisjoint (alphabets_of shape.parts) → i < length shape.parts → 0 < links_of shape i → AreClashing shape i pairs f g → Leads shape i s (pair_at pairs f.pair) → Leads shape i t (pair_at pairs g.pair) → length s ≤ length t → BreaksOrder shape i t g.event
-breaks_second shape i pairs f g s t w triple h some k a b short =
-    breaks shape i k.second_place k.first_place g f t s (flipped k.first_place k.second_place f g k.apart) short (fact_reach shape i pairs k.second_place g t w triple h some k.second b) (fact_reach shape i pairs k.first_place f s w triple h some k.first a)
+-- the one whose run is not the shorter one is told
+pub breaks_first : (laps : Laps) (f g : Fact) (s t : List ℕ) → AreClashing laps f g → Leads laps s (pair_at laps.explored.pairs f.pair) → Leads laps t (pair_at laps.explored.pairs g.pair) → length t ≤ length s → BreaksOrder laps.component.shape.now laps.component.number s f.event
+breaks_first laps f g s t k a b short = breaks laps k.first_place k.second_place f g s t k.apart short (fact_reach laps k.first_place f s k.first a) (fact_reach laps k.second_place g t k.second b)
+
+pub breaks_second : (laps : Laps) (f g : Fact) (s t : List ℕ) → AreClashing laps f g → Leads laps s (pair_at laps.explored.pairs f.pair) → Leads laps t (pair_at laps.explored.pairs g.pair) → length s ≤ length t → BreaksOrder laps.component.shape.now laps.component.number t g.event
+breaks_second laps f g s t k a b short =
+    breaks_first laps g f t s (record { first_place = k.second_place; second_place = k.first_place; first = k.second; second = k.first; apart = flipped k.first_place k.second_place f g k.apart }) b a short
 
 -- ---- where the facts do not clash
 
-module _ (shape : Shape) (i : ℕ) (pairs : List (ℕ × ℕ)) (firsts : List (Option Fact)) (x : Explores shape i pairs) (a : AreFirsts shape i pairs firsts) (noted : AreNoted shape i pairs firsts) where
-  kept : (l : ℕ) (s : List ℕ) (e : ℕ) → ReachesLink shape i l s e → HasFirst firsts (place_after shape s % links_of shape i) l
+module _ (laps : Laps) (firsts : List (Option Fact)) (a : AreFirsts laps firsts) (noted : AreNoted laps firsts) where
+  kept : (l : ℕ) (s : List ℕ) (e : ℕ) → ReachesLink laps.component.shape.now laps.component.number l s e → HasFirst firsts (place_of laps s) l
   kept l s e r =
-      let p = x.explored.listed s r.possible.runs.follows in
-      let possible = subst (λ n. IsTrue (is_possible (node_at (part_at shape.parts i).table n).next e)) p.2.node r.possible.next in
-      subst (λ q. HasFirst firsts q l) (sym (place_is shape i s (pair_at pairs p.0) x.some p.2)) (noted p.0 p.1 e l possible (record { within = r.on.within; event = r.on.event }))
+      let p = laps.pairs.listed s r.possible.runs.follows in
+      let possible = subst (λ n. IsTrue (is_possible (node_at (table_of laps.component) n).next e)) p.2.node r.possible.next in
+      subst (λ q. HasFirst firsts q l) (sym (place_is laps s (pair_at laps.explored.pairs p.0) p.2)) (noted p.0 p.1 e l possible (record { within = r.on.within; event = r.on.event }))
 
   same_kept : (q l m : ℕ) → HasFirst firsts q l → HasFirst firsts q m → l ≡ m
   same_kept q l m y z =
       let same : y.fact ≡ z.fact = same_Some y.fact z.fact (sym y.kept ∙ z.kept) in
       sym y.link ∙ (ap (λ (f : Fact). f.link) same ∙ z.link)
 
-  pub keeps : KeepsPlaces shape i
+  pub keeps : KeepsPlaces laps.component.shape.now laps.component.number
   keeps l m s t e f p r =
       let here = kept l s e p in
       let there = kept m t f r in (
-        λ same. a.apart (place_after shape s % links_of shape i) (place_after shape t % links_of shape i) m (subst (HasFirst firsts (place_after shape s % links_of shape i)) same here) there,
-        λ place. same_kept (place_after shape s % links_of shape i) l m here (subst (λ q. HasFirst firsts q m) (sym place) there),
+        λ same. a.apart (place_of laps s) (place_of laps t) m (subst (HasFirst firsts (place_of laps s)) same here) there,
+        λ place. same_kept (place_of laps s) l m here (subst (λ q. HasFirst firsts q m) (sym place) there),
       )
 
-  keeping : Keeping shape i
-  keeping = record { form = x.form; keeps = keeps }
-
-  at_place : (q l : ℕ) → q < links_of shape i → HasFirst firsts q l → IsAt shape i q l
-  at_place q l h y =
+  at_place : (q l : ℕ) → HasFirst firsts q l → IsAt laps.component.shape.now laps.component.number q l
+  at_place q l y =
+      let shape = laps.component.shape.now in
+      let i = laps.component.number in
       let f = a.sound q y.fact y.kept in
-      let run = x.explored.reached y.fact.pair f.within in
-      let r = fact_reach shape i pairs q y.fact run.0 x.form x.apart x.part x.some f run.1 in
-      subst (λ n. IsAt shape i q n) y.link (subst (λ n. IsAt shape i n y.fact.link) r.1 (first_lap shape i y.fact.link run.0 y.fact.event keeping r.0))
+      let run = laps.pairs.reached y.fact.pair f.within in
+      let r = fact_reach laps q y.fact run.0 f run.1 in
+      subst (λ n. IsAt shape i q n) y.link (subst (λ n. IsAt shape i n y.fact.link) r.1 (first_lap shape i y.fact.link run.0 y.fact.event (record { form = laps.component.form; keeps = keeps }) r.0))
 
-  kept_at : (q l : ℕ) → q < links_of shape i → IsAt shape i q l → HasFirst firsts q l
-  kept_at q l h y = subst (λ n. HasFirst firsts n l) (ap (λ n. n % links_of shape i) y.place ∙ mod-eq_of_lt h) (kept l y.run y.event y.reaches)
+  kept_at : (q l : ℕ) → q < links_of laps.component.shape.now laps.component.number → IsAt laps.component.shape.now laps.component.number q l → HasFirst firsts q l
+  kept_at q l h y = subst (λ n. HasFirst firsts n l) (ap (λ n. n % links_of laps.component.shape.now laps.component.number) y.place ∙ mod-eq_of_lt h) (kept l y.run y.event y.reaches)
 
-  pub is_order : length firsts ≡ links_of shape i → IsOrder shape i (links_in_order firsts)
-  is_order count = record {
+  pub is_order : IsOrder laps.component.shape.now laps.component.number (links_in_order firsts)
+  is_order = record {
     listed = λ q l h.
         let y = in_order_first firsts q l h in
         let below : q < length firsts = first_within firsts q l y in
-        let z = at_place q l (omega (arith, count)) y in
-        (omega (arith, count), record { run = z.run; event = z.event; reaches = z.reaches; place = z.place });
+        let z = at_place q l y in
+        (omega (arith, a.count), record { run = z.run; event = z.event; reaches = z.reaches; place = z.place });
     all = λ q l h y. in_order_all firsts q l (λ r k.
-        let e = earlier shape i x.form y.run y.reaches.possible.runs r (let p : place_after shape y.run ≡ q = y.place in omega arith) in
+        let e = earlier laps.component.shape.now laps.component.number laps.component.form y.run y.reaches.possible.runs r (let p : place_after laps.component.shape.now y.run ≡ q = y.place in omega arith) in
         (e.0, kept_at r e.0 (omega arith) e.1))
         (kept_at q l h (record { run = y.run; event = y.event; reaches = y.reaches; place = y.place }));
   }
@@ -193,18 +202,8 @@ order_none shape i none = record {
     nothing zero l e = cc
     nothing (suc k) l e = cc
 
--- the pairs of an exploration are within the table and the lap
-pub pair_node : (shape : Shape) (i : ℕ) (pairs : List (ℕ × ℕ)) (k : ℕ) → Explores shape i pairs → k < length pairs → (pair_at pairs k).0 < length (part_at shape.parts i).table
-pair_node shape i pairs k x h =
-    let r = x.explored.reached k h in
-    subst (λ n. n < length (part_at shape.parts i).table) r.1.node (end_within (part_at shape.parts i) r.0 (part_form shape.parts i x.part x.form.form) r.1.follows)
-
-pub pair_place : (shape : Shape) (i : ℕ) (pairs : List (ℕ × ℕ)) (k : ℕ) → Explores shape i pairs → k < length pairs → (pair_at pairs k).1 < links_of shape i
-pair_place shape i pairs k x h = let r = x.explored.reached k h in place_below shape i r.0 (pair_at pairs k) x.some r.1
-
 -- the first part that has no order
 pub breaks_there : (shape : Shape) (i : ℕ) (fault : RuleFault) → ((j : ℕ) → j < i → KeepsPlaces shape j) → IsBrokenOrder shape i fault → BreaksCyclic shape fault
-breaks_there shape i NoMemory keep b = tt
 breaks_there shape i (NoOrder part trace event) keep b = record { breaks = subst (λ j. BreaksOrder shape j trace event) (sym b.0) b.1; first = λ j h. keep j (let is : part ≡ i = b.0 in omega arith) }
 breaks_there shape i _ keep b = absurd b
 
@@ -220,21 +219,6 @@ orders_more shape n orders order more count each new is = (
   ],
 )
 
+-- how many links a component has
 pub links_count : (shape : Shape) (i : ℕ) (links : List ℕ) → links ≡ ends_of shape i → length links ≡ links_of shape i
 links_count shape i links is = ap length is ∙ length-ends shape i (length shape.links)
-
-pub explores : (shape : Shape) (i count : ℕ) (pairs found : List (ℕ × ℕ)) → IsWellFormed shape → TripleDisjoint (alphabets_of shape.parts) → i < length shape.parts → count ≡ links_of shape i → 0 < count → pairs ≡ found → IsExploration (part_at shape.parts i).table (lap_step shape.vocabulary (links_of shape i - 1)) 0 found → Explores shape i pairs
-explores shape i count pairs found w triple h links some same x = record {
-  form = w;
-  apart = triple;
-  part = h;
-  some = omega (arith, links, some);
-  explored = subst (IsExploration (part_at shape.parts i).table (lap_step shape.vocabulary (links_of shape i - 1)) 0) (sym same) x;
-}
-
-pub few_links : (shape other : Shape) (i : ℕ) (links : List ℕ) → links ≡ ends_of shape i → other ≡ shape → LinksAreOrdered other → length links < 2 ^ 32
-few_links shape other i links is same o =
-    let count : length links ≡ links_of shape i = links_count shape i links is in
-    let most : links_of shape i ≤ length shape.links = count_at_most (λ l. is_end shape i l) (length shape.links) in
-    let few : length shape.links < 2 ^ 32 = subst (λ (s : Shape). length s.links < 2 ^ 32) same o.links_numbered in
-    omega arith

@@ -1,0 +1,6 @@
+use Rattle.std.proofs.Common.{◌≡◌, ◌++◌, drop}
+use Rattle.cyclic_conditions.specs.Facts.{links_in_order}
+use Rattle.cyclic_conditions.proofs.facts.in_order.Given as goal
+
+abbrev pub invariant-loop-first : goal.invariant-loop-first
+invariant-loop-first l = l.links ++ links_in_order (drop l.first-index l.firsts) ≡ links_in_order l.firsts

@@ -1,0 +1,11 @@
+use Rattle.std.proofs.Common.{◌≡◌, ℕ, ◌<◌, length}
+use Rattle.design_rules.specs.Cyclic.{KeepsPlaces}
+use Rattle.cyclic_conditions.specs.Orders.{IsOrder, order_at}
+use Rattle.cyclic_conditions.proofs.orders.link_orders.Given as goal
+
+abbrev pub invariant-loop-part : goal.invariant-loop-part
+invariant-loop-part l = record {
+  count : length l.orders.items ≡ l.part;
+  keep : (i : ℕ) → i < l.part → KeepsPlaces l.prepared i;
+  each : (i : ℕ) → i < l.part → IsOrder l.prepared i (order_at l.orders.items i);
+}
