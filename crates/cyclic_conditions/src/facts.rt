@@ -32,7 +32,7 @@ pub(crate) fn note_all(laps: &Laps<'_>, firsts: &mut [Option<Fact>]) -> Result<(
     ensures noted { OnOk result (AreNoted laps.now firsts.new) }
     ensures clash { IfErr result (λ clash. AreClashing laps.now clash.here clash.there) }
 {
-    for pair in 0..laps.explored.pairs().len() {
+    for pair in 0..laps.pairs().len() {
         note_pair(laps, pair, firsts)?;
     }
     Ok(())
@@ -40,14 +40,13 @@ pub(crate) fn note_all(laps: &Laps<'_>, firsts: &mut [Option<Fact>]) -> Result<(
 
 // Notes each link of which an event is possible at the pair.
 fn note_pair(laps: &Laps<'_>, pair: usize, firsts: &mut [Option<Fact>]) -> Result<(), Clash>
-    requires within { pair < length laps.now.explored.pairs }
+    requires within { pair < length laps.now.found.pairs }
     requires firsts { AreFirsts laps.now firsts.old }
     ensures more { OnOk result (AreMore laps.now firsts.old firsts.new) }
     ensures noted { OnOk result (IsNoted laps.now firsts.new pair) }
     ensures clash { IfErr result (λ clash. AreClashing laps.now clash.here clash.there) }
 {
-    let (node, _) = laps.explored.pairs()[pair];
-    for (event, _) in laps.component.steps(node) {
+    for (event, _) in laps.steps(pair) {
         note_event(laps, pair, *event, firsts)?;
     }
     Ok(())
@@ -60,17 +59,17 @@ fn note_event(
     event: Event,
     firsts: &mut [Option<Fact>],
 ) -> Result<(), Clash>
-    requires within { pair < length laps.now.explored.pairs }
+    requires within { pair < length laps.now.found.pairs }
     requires possible { IsPossibleAt laps.now pair event }
     requires firsts { AreFirsts laps.now firsts.old }
     ensures more { OnOk result (AreMore laps.now firsts.old firsts.new) }
-    ensures noted { OnOk result ((l : ℕ) → IsOwner laps.now.component.shape.now l event → HasFirst firsts.new (pair_at laps.now.explored.pairs pair).1 l) }
+    ensures noted { OnOk result ((l : ℕ) → IsOwner laps.now.shape l event → HasFirst firsts.new (pair_at laps.now.found.pairs pair).1 l) }
     ensures clash { IfErr result (λ clash. AreClashing laps.now clash.here clash.there) }
 {
-    let Some(link) = laps.component.shape.owner(event) else {
+    let Some(link) = laps.owner(event) else {
         return Ok(());
     };
-    let (_, place) = laps.explored.pairs()[pair];
+    let (_, place) = laps.pairs()[pair];
     note(firsts, place as usize, Fact { pair, event, link })
 }
 

@@ -73,11 +73,11 @@ fn order_of(
 
 // The same of a part that has links, by its laps.
 fn order_along(alloc: Global, laps: &Laps<'_>) -> Result<Items<u32>, Stop<RuleFault>>
-    ensures keeps { OnOk result (KeepsPlaces laps.now.component.shape.now laps.now.component.number) }
-    ensures order { IfOk result (λ order. IsOrder laps.now.component.shape.now laps.now.component.number order) }
-    ensures fault { IfErr result (Tells (IsBrokenOrder laps.now.component.shape.now laps.now.component.number)) }
+    ensures keeps { OnOk result (KeepsPlaces laps.now.shape laps.now.part) }
+    ensures order { IfOk result (λ order. IsOrder laps.now.shape laps.now.part order) }
+    ensures fault { IfErr result (Tells (IsBrokenOrder laps.now.shape laps.now.part)) }
 {
-    let mut firsts = vec![in alloc; None; laps.component.links().len()]?;
+    let mut firsts = vec![in alloc; None; laps.count()]?;
     match note_all(laps, &mut firsts) {
         Ok(()) => Ok(in_order(alloc, &firsts)?),
         Err(clash) => Err(Stop::Told(no_order(alloc, laps, clash)?)),
@@ -87,19 +87,19 @@ fn order_along(alloc: Global, laps: &Laps<'_>) -> Result<Items<u32>, Stop<RuleFa
 // What two facts tell that no order allows: the one whose run is not the shorter one.
 fn no_order(alloc: Global, laps: &Laps<'_>, clash: Clash) -> Result<RuleFault, NoMemory>
     requires { AreClashing laps.now clash.here clash.there }
-    ensures { IfOk result (IsBrokenOrder laps.now.component.shape.now laps.now.component.number) }
+    ensures { IfOk result (IsBrokenOrder laps.now.shape laps.now.part) }
 {
-    let first = laps.explored.run_to(alloc, clash.here.pair)?;
-    let second = laps.explored.run_to(alloc, clash.there.pair)?;
+    let first = laps.run_to(alloc, clash.here.pair)?;
+    let second = laps.run_to(alloc, clash.there.pair)?;
     if second.len() <= first.len() {
         return Ok(RuleFault::NoOrder {
-            part: laps.component.number,
+            part: laps.part(),
             trace: first,
             event: clash.here.event,
         });
     }
     Ok(RuleFault::NoOrder {
-        part: laps.component.number,
+        part: laps.part(),
         trace: second,
         event: clash.there.event,
     })
