@@ -18,7 +18,9 @@ use Rattle.cyclic_conditions.specs.Facts.{IsFact, HasFirst, AreFirsts, AreNoted,
 use Rattle.cyclic_conditions.specs.Orders.{IsOrder, order_at}
 use Rattle.cyclic_conditions.specs.Told.{IsBrokenOrder}
 use Rattle.cyclic_conditions.specs.declared.facts.Fact.{Fact}
-use Rattle.cyclic_conditions.specs.Laps.{Laps, AreLaps, Leads, table_of}
+use Rattle.shape_links.specs.Component.{table_of}
+use Rattle.cyclic_conditions.specs.Laps.{AreLaps, Leads, links_along, shape_of}
+use Rattle.cyclic_conditions.specs.declared.laps.Laps.{Laps}
 use Rattle.cyclic_conditions.proofs.Noting.{first_within}
 
 -- ---- places
@@ -46,41 +48,41 @@ lap_counts V last c (e ∷ s) h =
 
 -- the place of the lap to which a run leads
 abbrev place_of : Laps → List ℕ → ℕ
-place_of laps s = place_after laps.shape s % links_of laps.shape laps.part
+place_of laps s = place_after (shape_of laps) s % links_along laps
 
 -- the link of the fact is reached after the run, at this place
 abbrev IsReached : Laps → ℕ → Fact → List ℕ → Type 0
-IsReached laps q f s = ReachesLink laps.shape laps.part f.link s f.event × (place_of laps s ≡ q)
+IsReached laps q f s = ReachesLink (shape_of laps) laps.component.number f.link s f.event × (place_of laps s ≡ q)
 
 module _ (laps : Laps) (x : AreLaps laps) where
   place_is : (s : List ℕ) (pair : ℕ × ℕ) → Leads laps s pair → place_of laps s ≡ pair.1
   place_is s pair l =
-      let V = laps.shape.vocabulary in
-      let n = links_of laps.shape laps.part in
-      let some : 0 < links_of laps.shape laps.part = x.some in
+      let V = (shape_of laps).vocabulary in
+      let n = links_along laps in
+      let some : 0 < links_along laps = x.some in
       let k : n - 1 + 1 ≡ n = omega arith in
       sym (lap_counts V (n - 1) 0 s (omega arith) ∙ (ap (λ m. m % (n - 1 + 1)) (let e : 0 + count_in V s ≡ count_in V s = omega arith in e) ∙ ap (λ m. count_in V s % m) k)) ∙ l.state
 
   -- the pairs are within the table and the lap
-  pub pair_within : (k : ℕ) → k < length laps.found.pairs → ((pair_at laps.found.pairs k).0 < length (table_of laps)) × ((pair_at laps.found.pairs k).1 < links_of laps.shape laps.part)
+  pub pair_within : (k : ℕ) → k < length laps.explored.pairs → ((pair_at laps.explored.pairs k).0 < length (table_of laps.component)) × ((pair_at laps.explored.pairs k).1 < links_along laps)
   pair_within k h =
       let r = x.explored.reached k h in (
-        subst (λ n. n < length (table_of laps)) r.1.node (end_within (part_at laps.shape.parts laps.part) r.0 (part_form laps.shape.parts laps.part x.part x.form.form) r.1.follows),
-        subst (λ n. n < links_of laps.shape laps.part) (place_is r.0 (pair_at laps.found.pairs k) r.1) (mod_below (place_after laps.shape r.0) (links_of laps.shape laps.part) x.some),
+        subst (λ n. n < length (table_of laps.component)) r.1.node (end_within (part_at (shape_of laps).parts laps.component.number) r.0 (part_form (shape_of laps).parts laps.component.number x.part x.form.form) r.1.follows),
+        subst (λ n. n < links_along laps) (place_is r.0 (pair_at laps.explored.pairs k) r.1) (mod_below (place_after (shape_of laps) r.0) (links_along laps) x.some),
       )
 
   -- ---- facts that clash
 
-  fact_reach : (q : ℕ) (f : Fact) (s : List ℕ) → IsFact laps q f → Leads laps s (pair_at laps.found.pairs f.pair) → IsReached laps q f s
+  fact_reach : (q : ℕ) (f : Fact) (s : List ℕ) → IsFact laps q f → Leads laps s (pair_at laps.explored.pairs f.pair) → IsReached laps q f s
   fact_reach q f s is leads =
-      let at = subst (λ n. IsTrue (is_possible (node_at (table_of laps) n).next f.event)) (sym leads.node) is.possible in
-      let owned = possible_within (part_at laps.shape.parts laps.part) (pair_at laps.found.pairs f.pair).0 f.event (part_form laps.shape.parts laps.part x.part x.form.form) is.possible in (
-        record { possible = record { runs = record { part = x.part; follows = leads.follows }; next = at }; on = owner_end laps.shape laps.part f.link f.event x.form x.apart x.part owned is.owner },
-        place_is s (pair_at laps.found.pairs f.pair) leads ∙ is.place,
+      let at = subst (λ n. IsTrue (is_possible (node_at (table_of laps.component) n).next f.event)) (sym leads.node) is.possible in
+      let owned = possible_within (part_at (shape_of laps).parts laps.component.number) (pair_at laps.explored.pairs f.pair).0 f.event (part_form (shape_of laps).parts laps.component.number x.part x.form.form) is.possible in (
+        record { possible = record { runs = record { part = x.part; follows = leads.follows }; next = at }; on = owner_end (shape_of laps) laps.component.number f.link f.event x.form x.apart x.part owned is.owner },
+        place_is s (pair_at laps.explored.pairs f.pair) leads ∙ is.place,
       )
 
   -- the one whose run is not the shorter one is told
-  pub breaks_first : (f g : Fact) (s t : List ℕ) → AreClashing laps f g → Leads laps s (pair_at laps.found.pairs f.pair) → Leads laps t (pair_at laps.found.pairs g.pair) → length t ≤ length s → BreaksOrder laps.shape laps.part s f.event
+  pub breaks_first : (f g : Fact) (s t : List ℕ) → AreClashing laps f g → Leads laps s (pair_at laps.explored.pairs f.pair) → Leads laps t (pair_at laps.explored.pairs g.pair) → length t ≤ length s → BreaksOrder (shape_of laps) laps.component.number s f.event
   breaks_first f g s t k a b short =
       let here = fact_reach k.first_place f s k.first a in
       let there = fact_reach k.second_place g t k.second b in
@@ -95,11 +97,11 @@ module _ (laps : Laps) (x : AreLaps laps) where
         clash = clash_of k.apart here.1 there.1;
       }
     where
-      clash_of : Disagree k.first_place f k.second_place g → place_of laps s ≡ k.first_place → place_of laps t ≡ k.second_place → Clash laps.shape laps.part f.link s g.link t
+      clash_of : Disagree k.first_place f k.second_place g → place_of laps s ≡ k.first_place → place_of laps t ≡ k.second_place → Clash (shape_of laps) laps.component.number f.link s g.link t
       clash_of (inl d) p q = inl (d.1, p ∙ d.0 ∙ sym q)
       clash_of (inr d) p q = inr (d.0, (λ same. d.1 (sym p ∙ same ∙ q)))
 
-  pub breaks_second : (f g : Fact) (s t : List ℕ) → AreClashing laps f g → Leads laps s (pair_at laps.found.pairs f.pair) → Leads laps t (pair_at laps.found.pairs g.pair) → length s ≤ length t → BreaksOrder laps.shape laps.part t g.event
+  pub breaks_second : (f g : Fact) (s t : List ℕ) → AreClashing laps f g → Leads laps s (pair_at laps.explored.pairs f.pair) → Leads laps t (pair_at laps.explored.pairs g.pair) → length s ≤ length t → BreaksOrder (shape_of laps) laps.component.number t g.event
   breaks_second f g s t k a b short = breaks_first g f t s (record { first_place = k.second_place; second_place = k.first_place; first = k.second; second = k.first; apart = flipped k.apart }) b a short
     where
       flipped : Disagree k.first_place f k.second_place g → Disagree k.second_place g k.first_place f
@@ -109,18 +111,18 @@ module _ (laps : Laps) (x : AreLaps laps) where
 -- ---- where the facts do not clash
 
 module _ (laps : Laps) (x : AreLaps laps) (firsts : List (Option Fact)) (a : AreFirsts laps firsts) (noted : AreNoted laps firsts) where
-  kept : (l : ℕ) (s : List ℕ) (e : ℕ) → ReachesLink laps.shape laps.part l s e → HasFirst firsts (place_of laps s) l
+  kept : (l : ℕ) (s : List ℕ) (e : ℕ) → ReachesLink (shape_of laps) laps.component.number l s e → HasFirst firsts (place_of laps s) l
   kept l s e r =
       let p = x.explored.listed s r.possible.runs.follows in
-      let possible = subst (λ n. IsTrue (is_possible (node_at (table_of laps) n).next e)) p.2.node r.possible.next in
-      subst (λ q. HasFirst firsts q l) (sym (place_is laps x s (pair_at laps.found.pairs p.0) p.2)) (noted p.0 p.1 e l possible (record { within = r.on.within; event = r.on.event }))
+      let possible = subst (λ n. IsTrue (is_possible (node_at (table_of laps.component) n).next e)) p.2.node r.possible.next in
+      subst (λ q. HasFirst firsts q l) (sym (place_is laps x s (pair_at laps.explored.pairs p.0) p.2)) (noted p.0 p.1 e l possible (record { within = r.on.within; event = r.on.event }))
 
   same_kept : (q l m : ℕ) → HasFirst firsts q l → HasFirst firsts q m → l ≡ m
   same_kept q l m y z =
       let same : y.fact ≡ z.fact = same_Some y.fact z.fact (sym y.kept ∙ z.kept) in
       sym y.link ∙ (ap (λ (f : Fact). f.link) same ∙ z.link)
 
-  pub keeps : KeepsPlaces laps.shape laps.part
+  pub keeps : KeepsPlaces (shape_of laps) laps.component.number
   keeps l m s t e f p r =
       let here = kept l s e p in
       let there = kept m t f r in (
@@ -128,19 +130,19 @@ module _ (laps : Laps) (x : AreLaps laps) (firsts : List (Option Fact)) (a : Are
         λ place. same_kept (place_of laps s) l m here (subst (λ q. HasFirst firsts q m) (sym place) there),
       )
 
-  at_place : (q l : ℕ) → HasFirst firsts q l → IsAt laps.shape laps.part q l
+  at_place : (q l : ℕ) → HasFirst firsts q l → IsAt (shape_of laps) laps.component.number q l
   at_place q l y =
-      let shape = laps.shape in
-      let i = laps.part in
+      let shape = (shape_of laps) in
+      let i = laps.component.number in
       let f = a.sound q y.fact y.kept in
       let run = x.explored.reached y.fact.pair f.within in
       let r = fact_reach laps x q y.fact run.0 f run.1 in
       subst (λ n. IsAt shape i q n) y.link (subst (λ n. IsAt shape i n y.fact.link) r.1 (first_lap shape i y.fact.link run.0 y.fact.event (record { form = x.form; keeps = keeps }) r.0))
 
-  kept_at : (q l : ℕ) → q < links_of laps.shape laps.part → IsAt laps.shape laps.part q l → HasFirst firsts q l
-  kept_at q l h y = subst (λ n. HasFirst firsts n l) (ap (λ n. n % links_of laps.shape laps.part) y.place ∙ mod-eq_of_lt h) (kept l y.run y.event y.reaches)
+  kept_at : (q l : ℕ) → q < links_along laps → IsAt (shape_of laps) laps.component.number q l → HasFirst firsts q l
+  kept_at q l h y = subst (λ n. HasFirst firsts n l) (ap (λ n. n % links_along laps) y.place ∙ mod-eq_of_lt h) (kept l y.run y.event y.reaches)
 
-  pub is_order : IsOrder laps.shape laps.part (links_in_order firsts)
+  pub is_order : IsOrder (shape_of laps) laps.component.number (links_in_order firsts)
   is_order = record {
     listed = λ q l h.
         let y = in_order_first firsts q l h in
@@ -148,7 +150,7 @@ module _ (laps : Laps) (x : AreLaps laps) (firsts : List (Option Fact)) (a : Are
         let z = at_place q l y in
         (omega (arith, a.count), record { run = z.run; event = z.event; reaches = z.reaches; place = z.place });
     all = λ q l h y. in_order_all firsts q l (λ r k.
-        let e = earlier laps.shape laps.part x.form y.run y.reaches.possible.runs r (let p : place_after laps.shape y.run ≡ q = y.place in omega arith) in
+        let e = earlier (shape_of laps) laps.component.number x.form y.run y.reaches.possible.runs r (let p : place_after (shape_of laps) y.run ≡ q = y.place in omega arith) in
         (e.0, kept_at r e.0 (omega arith) e.1))
         (kept_at q l h (record { run = y.run; event = y.event; reaches = y.reaches; place = y.place }));
   }

@@ -12,7 +12,9 @@ use Rattle.observed_runs.proofs.Leading.{listed_step, step_listed}
 use Rattle.shape_links.specs.Links.{IsOwner}
 use Rattle.cyclic_conditions.specs.Facts.{IsFact, IsPossibleAt, first_at, HasFirst, AreFirsts, AreMore, IsNoted, IsNotedAt, Disagree, AreClashing, ClashesWith}
 use Rattle.cyclic_conditions.specs.declared.facts.Fact.{Fact}
-use Rattle.cyclic_conditions.specs.Laps.{Laps, AreLaps, table_of}
+use Rattle.shape_links.specs.Component.{table_of}
+use Rattle.cyclic_conditions.specs.Laps.{AreLaps, shape_of}
+use Rattle.cyclic_conditions.specs.declared.laps.Laps.{Laps}
 
 -- a kept fact stands within the list
 pub first_within : (firsts : List (Option Fact)) (r l : ℕ) → HasFirst firsts r l → r < length firsts
@@ -79,20 +81,20 @@ clashing laps place fact f g firsts a is same k = record {
 }
 
 -- where each of enough steps of the node is noted, all that is possible is
-pub all_noted : (laps : Laps) → AreLaps laps → (firsts : List (Option Fact)) (p : ℕ) (some : List (ℕ × ℕ)) → AreEnough laps.shape.vocabulary (node_at (table_of laps) (pair_at laps.found.pairs p).0).next some → ((k l : ℕ) → k < length some → IsOwner laps.shape l (pair_at some k).0 → HasFirst firsts (pair_at laps.found.pairs p).1 l) → IsNoted laps firsts p
+pub all_noted : (laps : Laps) → AreLaps laps → (firsts : List (Option Fact)) (p : ℕ) (some : List (ℕ × ℕ)) → AreEnough (shape_of laps).vocabulary (node_at (table_of laps.component) (pair_at laps.explored.pairs p).0).next some → ((k l : ℕ) → k < length some → IsOwner (shape_of laps) l (pair_at some k).0 → HasFirst firsts (pair_at laps.explored.pairs p).1 l) → IsNoted laps firsts p
 all_noted laps x firsts p some enough all e l possible o =
-    let shape = laps.shape in
-    let s = listed_step (node_at (table_of laps) (pair_at laps.found.pairs p).0).next e possible in
-    let seen : has laps.shape.vocabulary e ≡ true = link_shared shape l x.form o.within e o.event in
+    let shape = (shape_of laps) in
+    let s = listed_step (node_at (table_of laps.component) (pair_at laps.explored.pairs p).0).next e possible in
+    let seen : has (shape_of laps).vocabulary e ≡ true = link_shared shape l x.form o.within e o.event in
     let y = enough.seen s.place s.within (subst (λ j. has shape.vocabulary j ≡ true) (sym s.event) seen) in
     all y.place l y.within (subst (IsOwner shape l) (sym (ap (λ (z : ℕ × ℕ). z.0) y.is ∙ s.event)) o)
 
 -- each of enough steps is possible
-pub enough_possible : (laps : Laps) → AreLaps laps → (p : ℕ) (some : List (ℕ × ℕ)) → AreEnough laps.shape.vocabulary (node_at (table_of laps) (pair_at laps.found.pairs p).0).next some → (k : ℕ) → k < length some → IsPossibleAt laps p (pair_at some k).0
+pub enough_possible : (laps : Laps) → AreLaps laps → (p : ℕ) (some : List (ℕ × ℕ)) → AreEnough (shape_of laps).vocabulary (node_at (table_of laps.component) (pair_at laps.explored.pairs p).0).next some → (k : ℕ) → k < length some → IsPossibleAt laps p (pair_at some k).0
 enough_possible laps x p some enough k h =
-    let part = part_at laps.shape.parts laps.part in
-    let node = (pair_at laps.found.pairs p).0 in
-    let has_form = part_form laps.shape.parts laps.part x.part x.form.form in
+    let part = part_at (shape_of laps).parts laps.component.number in
+    let node = (pair_at laps.explored.pairs p).0 in
+    let has_form = part_form (shape_of laps).parts laps.component.number x.part x.form.form in
     let form = node_form part.alphabet (length part.table) part.table node has_form.nodes in
     let l = enough.sound k h in
     let s = step_listed part.alphabet (length part.table) (node_at part.table node).next l.place form l.within in

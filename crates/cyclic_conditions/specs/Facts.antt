@@ -1,22 +1,23 @@
 -- What the pairs of a part's laps show: at a place some link's event is possible. (No public contract cites this.)
 use Rattle.std.specs.Prelude.{◌≡◌, ◌<◌, ◌⊎◌, ℕ, List, [], ◌∷◌, Option, Some, None, Bool, false, nat_eq, IsTrue, length, get_or, slice_set}
 use Rattle.csp_tables.specs.Prelude.{node_at, is_possible}
-use Rattle.design_rules.specs.Prelude.{links_of}
 use Rattle.observed_runs.specs.Prelude.{pair_at}
 use Rattle.shape_links.specs.Links.{IsOwner}
-use Rattle.cyclic_conditions.specs.Laps.{Laps, table_of}
+use Rattle.shape_links.specs.Component.{table_of}
+use Rattle.cyclic_conditions.specs.Laps.{links_along, shape_of}
+use Rattle.cyclic_conditions.specs.declared.laps.Laps.{Laps}
 use Rattle.cyclic_conditions.specs.declared.facts.Fact.{Fact}
 
 -- the event is possible at the pair in this place
 abbrev pub IsPossibleAt : Laps → ℕ → ℕ → Type 0
-IsPossibleAt laps p e = IsTrue (is_possible (node_at (table_of laps) (pair_at laps.found.pairs p).0).next e)
+IsPossibleAt laps p e = IsTrue (is_possible (node_at (table_of laps.component) (pair_at laps.explored.pairs p).0).next e)
 
 -- at the pair in this place the event of this link is possible, and the link's place is q
 pub record IsFact (laps : Laps) (q : ℕ) (f : Fact) : Type 0 where
-  pub within : f.pair < length laps.found.pairs
-  pub place : (pair_at laps.found.pairs f.pair).1 ≡ q
+  pub within : f.pair < length laps.explored.pairs
+  pub place : (pair_at laps.explored.pairs f.pair).1 ≡ q
   pub possible : IsPossibleAt laps f.pair f.event
-  pub owner : IsOwner laps.shape f.link f.event
+  pub owner : IsOwner (shape_of laps) f.link f.event
 
 abbrev pub first_at : List (Option Fact) → ℕ → Option Fact
 first_at firsts q = get_or firsts q None
@@ -29,7 +30,7 @@ pub record HasFirst (firsts : List (Option Fact)) (q l : ℕ) : Type 0 where
 
 -- for each place a fact, if there is one, and no link at two places
 pub record AreFirsts (laps : Laps) (firsts : List (Option Fact)) : Type 0 where
-  pub count : length firsts ≡ links_of laps.shape laps.part
+  pub count : length firsts ≡ links_along laps
   pub sound : (q : ℕ) (f : Fact) → first_at firsts q ≡ Some f → IsFact laps q f
   pub apart : (q r l : ℕ) → HasFirst firsts q l → HasFirst firsts r l → q ≡ r
 
@@ -40,10 +41,10 @@ pub record AreMore (laps : Laps) (old new : List (Option Fact)) : Type 0 where
 
 -- all that is possible at the pair p is kept
 abbrev pub IsNoted : Laps → List (Option Fact) → ℕ → Type 0
-IsNoted laps firsts p = (e l : ℕ) → IsPossibleAt laps p e → IsOwner laps.shape l e → HasFirst firsts (pair_at laps.found.pairs p).1 l
+IsNoted laps firsts p = (e l : ℕ) → IsPossibleAt laps p e → IsOwner (shape_of laps) l e → HasFirst firsts (pair_at laps.explored.pairs p).1 l
 
 abbrev pub AreNoted : Laps → List (Option Fact) → Type 0
-AreNoted laps firsts = (p : ℕ) → p < length laps.found.pairs → IsNoted laps firsts p
+AreNoted laps firsts = (p : ℕ) → p < length laps.explored.pairs → IsNoted laps firsts p
 
 -- one place has two links, or one link two places
 abbrev pub Disagree : ℕ → Fact → ℕ → Fact → Type 0

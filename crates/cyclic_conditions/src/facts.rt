@@ -3,6 +3,7 @@
 ghost use Rattle.std.specs.Prelude.{◌≡◌, ◌<◌, ℕ, None, Some, IfErr, IfOk, IfSome, OnOk, length};
 ghost use Rattle.observed_runs.specs.Prelude.{pair_at};
 ghost use Rattle.cyclic_conditions.specs.Facts.{AreClashing, AreFirsts, AreMore, AreNoted, ClashesWith, HasFirst, IsNoted, IsNotedAt, IsPossibleAt, first_at, is_of_link, links_in_order};
+ghost use Rattle.cyclic_conditions.specs.Laps.{AreLaps};
 ghost use Rattle.shape_links.specs.Links.{IsOwner};
 
 use crate::laps::Laps;
@@ -27,12 +28,13 @@ pub(crate) struct Clash {
 
 // Notes each link of which an event is possible at one of the pairs.
 pub(crate) fn note_all(laps: &Laps<'_>, firsts: &mut [Option<Fact>]) -> Result<(), Clash>
-    requires { AreFirsts laps.now firsts.old }
+    requires laps { AreLaps laps.now }
+    requires firsts { AreFirsts laps.now firsts.old }
     ensures firsts { OnOk result (AreFirsts laps.now firsts.new) }
     ensures noted { OnOk result (AreNoted laps.now firsts.new) }
     ensures clash { IfErr result (λ clash. AreClashing laps.now clash.here clash.there) }
 {
-    for pair in 0..laps.pairs().len() {
+    for pair in 0..laps.explored.pairs().len() {
         note_pair(laps, pair, firsts)?;
     }
     Ok(())
@@ -40,13 +42,15 @@ pub(crate) fn note_all(laps: &Laps<'_>, firsts: &mut [Option<Fact>]) -> Result<(
 
 // Notes each link of which an event is possible at the pair.
 fn note_pair(laps: &Laps<'_>, pair: usize, firsts: &mut [Option<Fact>]) -> Result<(), Clash>
-    requires within { pair < length laps.now.found.pairs }
+    requires laps { AreLaps laps.now }
+    requires within { pair < length laps.now.explored.pairs }
     requires firsts { AreFirsts laps.now firsts.old }
     ensures more { OnOk result (AreMore laps.now firsts.old firsts.new) }
     ensures noted { OnOk result (IsNoted laps.now firsts.new pair) }
     ensures clash { IfErr result (λ clash. AreClashing laps.now clash.here clash.there) }
 {
-    for (event, _) in laps.steps(pair) {
+    let (node, _) = laps.explored.pairs()[pair];
+    for (event, _) in laps.component.steps(node) {
         note_event(laps, pair, *event, firsts)?;
     }
     Ok(())
@@ -59,17 +63,18 @@ fn note_event(
     event: Event,
     firsts: &mut [Option<Fact>],
 ) -> Result<(), Clash>
-    requires within { pair < length laps.now.found.pairs }
+    requires laps { AreLaps laps.now }
+    requires within { pair < length laps.now.explored.pairs }
     requires possible { IsPossibleAt laps.now pair event }
     requires firsts { AreFirsts laps.now firsts.old }
     ensures more { OnOk result (AreMore laps.now firsts.old firsts.new) }
-    ensures noted { OnOk result ((l : ℕ) → IsOwner laps.now.shape l event → HasFirst firsts.new (pair_at laps.now.found.pairs pair).1 l) }
+    ensures noted { OnOk result ((l : ℕ) → IsOwner laps.now.component.shape.now l event → HasFirst firsts.new (pair_at laps.now.explored.pairs pair).1 l) }
     ensures clash { IfErr result (λ clash. AreClashing laps.now clash.here clash.there) }
 {
-    let Some(link) = laps.owner(event) else {
+    let Some(link) = laps.component.shape.owner(event) else {
         return Ok(());
     };
-    let (_, place) = laps.pairs()[pair];
+    let (_, place) = laps.explored.pairs()[pair];
     note(firsts, place as usize, Fact { pair, event, link })
 }
 

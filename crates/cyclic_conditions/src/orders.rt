@@ -4,6 +4,7 @@ ghost use Rattle.std.specs.Prelude.{◌≡◌, ◌<◌, ◌++◌, ◌∷◌, [],
 ghost use Rattle.csp_base.specs.Prelude.{Tells};
 ghost use Rattle.design_rules.specs.Prelude.{AllKeepPlaces, KeepsPlaces, BreaksCyclic};
 ghost use Rattle.cyclic_conditions.specs.Facts.{AreClashing};
+ghost use Rattle.cyclic_conditions.specs.Laps.{AreLaps};
 ghost use Rattle.cyclic_conditions.specs.Orders.{AreOrders, IsOrder};
 ghost use Rattle.cyclic_conditions.specs.Told.{IsBrokenOrder};
 
@@ -12,7 +13,7 @@ use crate::laps::Laps;
 use containers::Items;
 use csp_base::{NoMemory, Stop};
 use design_rules::RuleFault;
-use shape_links::SortedShape;
+use shape_links::{Component, SortedShape};
 use std::alloc::Global;
 
 /// For each part the links that it reaches, in the order in which it comes to them; or the first part that goes through them in
@@ -45,26 +46,21 @@ fn add_order(
     ensures order { OnOk result ((order : List ℕ) × IsOrder prepared.now part order × (orders.new.items ≡ orders.old.items ++ order ∷ [])) }
     ensures fault { IfErr result (Tells (IsBrokenOrder prepared.now part)) }
 {
-    let order = order_of(alloc, prepared, part)?;
+    let order = order_of(alloc, prepared.component(part))?;
     let Ok(()) = orders.push(order) else {
         return Err(Stop::NoMemory);
     };
     Ok(())
 }
 
-// The links that the part reaches, in the order in which it comes to them.
-fn order_of(
-    alloc: Global,
-    prepared: &SortedShape<'_>,
-    part: u32,
-) -> Result<Items<u32>, Stop<RuleFault>>
-    requires { part < length prepared.now.parts }
-    ensures keeps { OnOk result (KeepsPlaces prepared.now part) }
-    ensures order { IfOk result (λ order. IsOrder prepared.now part order) }
-    ensures fault { IfErr result (Tells (IsBrokenOrder prepared.now part)) }
+// The links that the component reaches, in the order in which it comes to them.
+fn order_of(alloc: Global, component: Component<'_>) -> Result<Items<u32>, Stop<RuleFault>>
+    ensures keeps { OnOk result (KeepsPlaces component.shape.now component.number) }
+    ensures order { IfOk result (λ order. IsOrder component.shape.now component.number order) }
+    ensures fault { IfErr result (Tells (IsBrokenOrder component.shape.now component.number)) }
 {
-    let component = prepared.component(part);
-    if component.links().is_empty() {
+    let count = component.links().len();
+    if count == 0 {
         return Ok(Items::new(alloc));
     }
     let laps = Laps::new(alloc, component)?;
@@ -73,11 +69,12 @@ fn order_of(
 
 // The same of a part that has links, by its laps.
 fn order_along(alloc: Global, laps: &Laps<'_>) -> Result<Items<u32>, Stop<RuleFault>>
-    ensures keeps { OnOk result (KeepsPlaces laps.now.shape laps.now.part) }
-    ensures order { IfOk result (λ order. IsOrder laps.now.shape laps.now.part order) }
-    ensures fault { IfErr result (Tells (IsBrokenOrder laps.now.shape laps.now.part)) }
+    requires { AreLaps laps.now }
+    ensures keeps { OnOk result (KeepsPlaces laps.now.component.shape.now laps.now.component.number) }
+    ensures order { IfOk result (λ order. IsOrder laps.now.component.shape.now laps.now.component.number order) }
+    ensures fault { IfErr result (Tells (IsBrokenOrder laps.now.component.shape.now laps.now.component.number)) }
 {
-    let mut firsts = vec![in alloc; None; laps.count()]?;
+    let mut firsts = vec![in alloc; None; laps.component.links().len()]?;
     match note_all(laps, &mut firsts) {
         Ok(()) => Ok(in_order(alloc, &firsts)?),
         Err(clash) => Err(Stop::Told(no_order(alloc, laps, clash)?)),
@@ -86,20 +83,21 @@ fn order_along(alloc: Global, laps: &Laps<'_>) -> Result<Items<u32>, Stop<RuleFa
 
 // What two facts tell that no order allows: the one whose run is not the shorter one.
 fn no_order(alloc: Global, laps: &Laps<'_>, clash: Clash) -> Result<RuleFault, NoMemory>
-    requires { AreClashing laps.now clash.here clash.there }
-    ensures { IfOk result (IsBrokenOrder laps.now.shape laps.now.part) }
+    requires laps { AreLaps laps.now }
+    requires clash { AreClashing laps.now clash.here clash.there }
+    ensures { IfOk result (IsBrokenOrder laps.now.component.shape.now laps.now.component.number) }
 {
-    let first = laps.run_to(alloc, clash.here.pair)?;
-    let second = laps.run_to(alloc, clash.there.pair)?;
+    let first = laps.explored.run_to(alloc, clash.here.pair)?;
+    let second = laps.explored.run_to(alloc, clash.there.pair)?;
     if second.len() <= first.len() {
         return Ok(RuleFault::NoOrder {
-            part: laps.part(),
+            part: laps.component.number,
             trace: first,
             event: clash.here.event,
         });
     }
     Ok(RuleFault::NoOrder {
-        part: laps.part(),
+        part: laps.component.number,
         trace: second,
         event: clash.there.event,
     })
