@@ -15,8 +15,8 @@ impl<'a> Component<'a> {
     /// The pairs of a node and a state to which runs lead, where the observer sees shared events alone.
     pub fn explore<O: Observer>(&self, alloc: Global, observer: &O) -> Result<Explored, NoMemory>
         requires { SeesOnly self.now.shape.now.vocabulary (O.step observer.now) }
-        ensures pairs { IfOk result (λ made. IsExploration (table_of self.now) (O.step observer.now) (O.start_state observer.now) made.pairs) }
-        ensures found { IfOk result (λ made. AreFound (table_of self.now) (O.step observer.now) (O.start_state observer.now) made) }
+        ensures pairs { IfOk result (λ made. IsExploration (table_of self.now) (O.step observer.now) 0 made.pairs) }
+        ensures found { IfOk result (λ made. AreFound (table_of self.now) (O.step observer.now) 0 made) }
     {
         explore(alloc, self.part(), self.rows(), observer)
     }

@@ -7,6 +7,7 @@ mod circle;
 mod component;
 mod ends;
 mod exploring;
+mod odd_links;
 mod owners;
 mod prepared;
 mod reading;

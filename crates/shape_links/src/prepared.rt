@@ -71,7 +71,6 @@ impl<'a> SortedShape<'a> {
         ensures shape { result.shape.now ≡ self.now }
         ensures number { result.number ≡ number }
     {
-        let _form = self.shape();
         Component {
             shape: self,
             number,
