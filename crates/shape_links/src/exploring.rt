@@ -20,4 +20,38 @@ impl<'a> Component<'a> {
     {
         explore(alloc, self.part(), self.rows(), observer)
     }
+
+    /// A run after which the component does not meet what is required, in the state that the observer has then; none where it
+    /// meets it after each run.
+    pub fn failing_run<O: Observer, R: Requirement>(
+        &self,
+        alloc: Global,
+        observer: &O,
+        required: &R,
+    ) -> Result<Option<Trace>, NoMemory>
+        requires only { SeesOnly self.now.shape.now.vocabulary (O.step observer.now) }
+        requires nodes { length (table_of self.now) ≤ R.nodes required.now }
+        ensures { IfOk result (IsDecided self.now.shape.now self.now.number (λ s. R.meets required.now (end_of (table_of self.now) 0 s) (observed (O.step observer.now) 0 s) ≡ true)) }
+    {
+        let _form = self.shape.shape();
+        let explored = self.explore(alloc, observer)?;
+        let place = first_failing(explored.pairs(), required)?;
+        explored.run_if_any(alloc, place)
+    }
+}
+
+// The place of the first pair that does not meet what is required.
+fn first_failing<R: Requirement>(
+    pairs: &[(u32, u32)],
+    required: &R,
+) -> Result<Option<usize>, NoMemory>
+    requires { (k : ℕ) → k < length pairs.now → (pair_at pairs.now k).0 < R.nodes required.now }
+    ensures { IfOk result (IsFirstFailing (R.meets required.now) pairs.now) }
+{
+    for (place, (node, state)) in pairs.iter().enumerate() {
+        if !required.is_met(*node, *state)? {
+            return Ok(Some(place));
+        }
+    }
+    Ok(None)
 }
