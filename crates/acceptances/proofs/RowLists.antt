@@ -1,14 +1,9 @@
 -- Sets in the rows of their events, and that a smaller set is found in the rows of a set's events.
 use Rattle.std.proofs.Common.{◌≡◌, ℕ, zero, suc, ◌+◌, ◌<◌, ◌%◌, ◌⊎◌, inl, inr, Bool, true, false, not, ◌&&◌, ◌||◌, nat_eq, Option, Some, None, List, [], ◌∷◌, ◌++◌, length, get_or, set, replicate, refl, sym, ap, subst, ◌∙◌, arith, eq-eqb}
-use Rattle.std.specs.List.{All, list_any}
-use Rattle.std.specs.Cmp.{first_so}
-use Rattle.std.proofs.Math.Bool.{or-false}
-use Rattle.std.proofs.lemmas.Bool.{false≢true, cases_Bool, cases_eq, cases_lt, eqb-true, or_left, or_right, or_cases, ne_eqb}
-use Rattle.std.proofs.lemmas.List.{get_or-set_same, get_or-set_other, length-set, length-replicate, get_or_default}
-use Rattle.std.proofs.lemmas.List.Folds.{list_any-append, list_any_at}
+use Rattle.csp_base.specs.Standard.{All, list_any, first_so}
+use Rattle.csp_base.proofs.Standard.{or-false, false≢true, cases_Bool, cases_eq, cases_lt, eqb-true, or_left, or_right, or_cases, ne_eqb, get_or-set_same, get_or-set_other, length-set, length-replicate, get_or_default, list_any-append, list_any_at}
 use Rattle.csp_base.proofs.Booleans.{and_second}
-use Rattle.csp_base.specs.Members.{has}
-use Rattle.csp_base.specs.Events.{is_subset_of}
+use Rattle.csp_base.specs.Prelude.{has, is_subset_of}
 use Rattle.csp_base.proofs.SetLaws.{member_of_superset}
 use Rattle.acceptances.specs.OfferTests.{is_smaller, has_smaller}
 use Rattle.acceptances.specs.EventRows.{IsRowFor, StandsInRow, AreEventRows}

@@ -1,20 +1,10 @@
 -- Of some sets those that contain no smaller one, and that each set contains one of them.
 use Rattle.std.proofs.Common.{◌≡◌, ◌↔◌, ℕ, ◌<◌, ◌⊎◌, inl, inr, Bool, true, false, not, IsTrue, List, [], ◌∷◌, get_or, refl, sym, ap, subst, ◌∙◌}
-use Rattle.std.specs.List.{All, Contains, filter}
-use Rattle.std.specs.List.Sorted.{IsStrictlyIncreasing, IsStrictlySortedBy}
-use Rattle.std.specs.Cmp.{first_so, second_so}
-use Rattle.std.specs.Cmp.Lexicographic.{slice_cmp}
-use Rattle.std.specs.Ordering.{nat_cmp}
-use Rattle.std.proofs.lemmas.Bool.{false≢true, cases_Bool, not-true, not_from_false}
-use Rattle.std.proofs.lemmas.List.Kept.{IsStrictlySortedBy-filter}
+use Rattle.csp_base.specs.Standard.{All, Contains, filter, IsStrictlyIncreasing, IsStrictlySortedBy, first_so, second_so, slice_cmp, nat_cmp}
+use Rattle.csp_base.proofs.Standard.{false≢true, cases_Bool, not-true, not_from_false, IsStrictlySortedBy-filter}
 use Rattle.csp_base.specs.Events.{has, is_subset_of}
 use Rattle.csp_base.proofs.SetLaws.{is_subset_of_from_members, member_of_superset}
-use Rattle.csp_tables.specs.Path.{Stable}
-use Rattle.csp_tables.specs.Trace.{Offers, IsWithin}
-use Rattle.csp_tables.specs.RawTable.{RawTable, RawStep}
-use Rattle.csp_tables.specs.Offer.{IsOfferOf, IsMinimalOffer}
-use Rattle.csp_tables.specs.Behaviour.{OffersAcceptance}
-use Rattle.csp_tables.specs.NormalTable.{IsListed}
+use Rattle.csp_tables.specs.Prelude.{Stable, Offers, IsWithin, RawTable, RawStep, IsOfferOf, IsMinimalOffer, OffersAcceptance, IsListed}
 use Rattle.acceptances.specs.OfferTests.{can_do, AreMarks, AreOffers, AreLeastOf, offers_at, has_smaller, is_smaller}
 use Rattle.acceptances.proofs.Member.{Member, member_from_contains, contains_from_member, stands, all_of_members, member_of_filter, member_from_filter, any_of_member, member_of_any}
 use Rattle.acceptances.proofs.Terms.{stable_by_test, test_by_stable, offers_by_test, test_by_offers, Source, source, listed_offer, within_of}

@@ -1,25 +1,15 @@
 -- The sets of the stable terms of a table, and what those terms offer.
 use Rattle.std.proofs.Common.{◌≡◌, ℕ, suc, ◌+◌, ◌<◌, ◌⊎◌, inl, inr, Bool, true, false, ◌&&◌, ◌||◌, nat_eq, cond, Some, List, [], ◌∷◌, ◌++◌, length, get_or, set, take, refl, sym, ap, subst, ◌∙◌, arith}
-use Rattle.std.specs.List.{list_any, All}
-use Rattle.std.specs.List.Sorted.{IsStrictlyIncreasing}
-use Rattle.std.specs.Cmp.{first_so, second_so}
-use Rattle.std.proofs.lemmas.Bool.{eq-eqb, eqb-true, false≢true, or_left, or_right, or_cases, cases_Bool, cases_eq, ne_eqb}
-use Rattle.std.proofs.lemmas.List.{get_or_default, get_or-set_same, get_or-set_other, length-set}
-use Rattle.std.proofs.lemmas.List.Folds.{list_any_more}
+use Rattle.csp_base.specs.Standard.{list_any, All, IsStrictlyIncreasing, first_so, second_so}
+use Rattle.csp_base.proofs.Standard.{eq-eqb, eqb-true, false≢true, or_left, or_right, or_cases, cases_Bool, cases_eq, ne_eqb, get_or_default, get_or-set_same, get_or-set_other, length-set, list_any_more, any_passes_from_place, or_comm}
 use Rattle.csp_base.specs.Events.{has, with_member}
 use Rattle.csp_base.proofs.SetLaws.{has-with_member, increasing-with_member}
-use Rattle.csp_tables.specs.Label.Label.{silent}
-use Rattle.csp_tables.specs.Path.{Stable}
-use Rattle.csp_tables.specs.Trace.{Offers}
-use Rattle.csp_tables.specs.RawTable.{RawTable, RawStep}
-use Rattle.csp_tables.specs.RawForm.{HasRawForm}
+use Rattle.csp_tables.specs.Prelude.{silent, Stable, Offers, RawTable, RawStep, HasRawForm}
 use Rattle.csp_tables.proofs.Listed.{passing, silent_at, step_at}
 use Rattle.acceptances.specs.OfferTests.{is_unstable, can_do, offers_at}
 use Rattle.acceptances.proofs.Member.{Member, member_of_any}
 use Rattle.csp_base.proofs.Booleans.{or_none}
 use Rattle.csp_base.proofs.Listed.{same_number}
-use Rattle.std.proofs.lemmas.Map.Keys.{any_passes_from_place}
-use Rattle.std.proofs.Math.Bool.{or_comm}
 
 same : (n : ℕ) → nat_eq n n ≡ true
 same n = eq-eqb n n refl

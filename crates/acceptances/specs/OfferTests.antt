@@ -1,9 +1,6 @@
 -- What each term of a table offers, as tests that compute.
 use Rattle.std.specs.Prelude.{◌≡◌, ◌↔◌, ℕ, ◌<◌, nat_eq, Bool, false, ◌&&◌, not, if◌then◌else◌, List, [], ◌∷◌, length, slice_index_or}
-use Rattle.std.specs.List.{Contains, filter, list_any, flat_map}
-use Rattle.std.specs.List.Sorted.{IsStrictlyIncreasing, IsStrictlySortedBy}
-use Rattle.std.specs.Cmp.Lexicographic.{slice_cmp}
-use Rattle.std.specs.Ordering.{nat_cmp}
+use Rattle.csp_base.specs.Standard.{Contains, filter, list_any, flat_map, IsStrictlyIncreasing, IsStrictlySortedBy, slice_cmp, nat_cmp}
 use Rattle.csp_base.specs.Events.{has, is_subset_of}
 use Rattle.csp_tables.specs.RawTable.{RawTable}
 

@@ -1,15 +1,9 @@
 //! What each term of a table offers, and the minimal offers of some terms.
 
 ghost use Rattle.std.specs.Prelude.{◌≡◌, ◌<◌, ℕ, List, [], true, false, length, replicate, slice_index_or, slice_set, All, IsTrue, IfOk, OnOk};
-ghost use Rattle.std.specs.List.Sorted.{IsStrictlyIncreasing, IsStrictlySortedBy};
-ghost use Rattle.std.specs.Cmp.Lexicographic.{slice_cmp};
-ghost use Rattle.std.specs.Ordering.{nat_cmp};
+ghost use Rattle.csp_base.specs.Standard.{IsStrictlyIncreasing, IsStrictlySortedBy, slice_cmp, nat_cmp};
 ghost use Rattle.csp_base.specs.Events.{has, with_member};
-ghost use Rattle.csp_tables.specs.RawTable.{RawStep};
-ghost use Rattle.csp_tables.specs.Path.{Stable};
-ghost use Rattle.csp_tables.specs.Offer.{IsMinimalOffer};
-ghost use Rattle.csp_tables.specs.Behaviour.{OffersAcceptance};
-ghost use Rattle.csp_tables.specs.NormalTable.{IsListed};
+ghost use Rattle.csp_tables.specs.Prelude.{RawStep, Stable, IsMinimalOffer, OffersAcceptance, IsListed};
 ghost use Rattle.acceptances.specs.OfferTests.{AreMarks, AreOffers, offers_at};
 
 use crate::least::{push_unless, sorted_least};

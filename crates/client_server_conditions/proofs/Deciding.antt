@@ -2,21 +2,12 @@
 use Rattle.std.proofs.Common.{◌≡◌, ℕ, ◌<◌, ◌≤◌, ◌+◌, List, [], ◌∷◌, Bool, true, false, not, ◌&&◌, Option, Some, None, length, refl, sym, ap, subst, ◌∙◌, arith, inl, inr, ◌⊎◌, IsTrue}
 use Rattle.std.proofs.lemmas.Bool.{and_parts, both_ways, false≢true, cond-true, cond-false, and_from, cases_lt}
 use Rattle.csp_base.specs.Members.{has}
-use Rattle.csp_tables.specs.Table.{node_at, end_of}
-use Rattle.csp_tables.specs.Part.{Part, part_at, sharers, AreApart}
-use Rattle.csp_tables.specs.Trace.{IsWithin}
-use Rattle.csp_tables.specs.Shape.{Shape, link_at, IsWellFormed}
-use Rattle.csp_tables.specs.Standing.{RunsTo}
-use Rattle.csp_tables.specs.Roles.{role_at}
+use Rattle.csp_tables.specs.Prelude.{node_at, end_of, Part, part_at, sharers, AreApart, IsWithin, Shape, link_at, IsWellFormed, RunsTo, role_at}
 use Rattle.net_sound.proofs.Within.{part_form}
-use Rattle.design_rules.specs.Counts.{count_in, is_odd}
-use Rattle.design_rules.specs.ClientServer.{has_acknowledgements, is_open}
+use Rattle.design_rules.specs.Prelude.{count_in, is_odd, has_acknowledgements, is_open, BreaksRoles}
 use Rattle.design_rules.proofs.Runs.{end_within}
 use Rattle.design_rules.proofs.Shapes.{turned, first_end, link_within, link_shared}
-use Rattle.observed_runs.specs.Observed.{LeadsTo, pair_at}
-use Rattle.observed_runs.specs.Exploration.{IsExploration}
-use Rattle.observed_runs.specs.Observers.{parity_step}
-use Rattle.design_rules.specs.ClientServerFaults.{BreaksRoles}
+use Rattle.observed_runs.specs.Prelude.{LeadsTo, pair_at, IsExploration, parity_step}
 use Rattle.client_server_conditions.specs.Network.{Network, IsLinked, Asks, Grants}
 use Rattle.client_server_conditions.specs.Nodes.{EachShared, HasAllOrNone}
 use Rattle.client_server_conditions.specs.Conditions.{Keeps, KeepsAt, KeepsOn, KeepsLinks, KeepsWhole, IsDecided, is_asked_of, is_open_at, node_in, KeepLesser, condition_of}

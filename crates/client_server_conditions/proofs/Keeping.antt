@@ -3,13 +3,9 @@ use Rattle.std.proofs.Common.{◌≡◌, ◌<◌, ◌&&◌, ℕ, List, Bool, tru
 use Rattle.std.specs.List.{list_any}
 use Rattle.std.proofs.lemmas.Bool.{and_parts, and_from, or_cases, or_left, both_ways}
 use Rattle.csp_base.specs.Members.{has}
-use Rattle.csp_tables.specs.Part.{part_at}
-use Rattle.csp_tables.specs.Table.{Node, node_at}
-use Rattle.csp_tables.specs.Trace.{IsWithin}
-use Rattle.csp_tables.specs.Shape.{Shape, IsWellFormed, link_at}
+use Rattle.csp_tables.specs.Prelude.{part_at, Node, node_at, IsWithin, Shape, IsWellFormed, link_at, role_at}
 use Rattle.observed_runs.specs.Enough.{AreEnough}
 use Rattle.shape_links.proofs.Watching.{any_enough, off_link}
-use Rattle.csp_tables.specs.Roles.{role_at}
 use Rattle.design_rules.specs.ClientServer.{is_acknowledgement}
 use Rattle.client_server_conditions.specs.Network.{Network, Asks, Grants}
 use Rattle.client_server_conditions.specs.Nodes.{is_in_turn, is_out_of_turn, takes, refuses}

@@ -2,14 +2,10 @@
 use Rattle.std.proofs.Common.{◌≡◌, ℕ, suc, ◌+◌, List, [], ◌∷◌, Bool, true, false, not, ◌&&◌, ◌||◌, cond, IsTrue, nat_eq, inl, inr, refl, sym, ap, ◌∙◌, arith, eq-eqb}
 use Rattle.std.proofs.lemmas.Bool.{cases_Bool, and_from, or_left, false≢true, cond-true, cond-false, and_parts}
 use Rattle.csp_base.specs.Members.{has}
-use Rattle.csp_tables.specs.Table.{Node}
-use Rattle.csp_tables.specs.Shape.{Joins, link_at}
-use Rattle.csp_tables.specs.Roles.{role_at}
-use Rattle.design_rules.specs.Counts.{count_in, is_odd}
-use Rattle.design_rules.specs.ClientServer.{has_acknowledgements, is_acknowledgement, is_open}
+use Rattle.csp_tables.specs.Prelude.{Node, Joins, link_at, role_at}
+use Rattle.design_rules.specs.Prelude.{count_in, is_odd, has_acknowledgements, is_acknowledgement, is_open}
 use Rattle.design_rules.proofs.Counts.{count_more, count_same}
-use Rattle.observed_runs.specs.Observed.{observed, LeadsTo}
-use Rattle.observed_runs.specs.Observers.{parity_step}
+use Rattle.observed_runs.specs.Prelude.{observed, LeadsTo, parity_step}
 use Rattle.client_server_conditions.specs.Network.{Network, Asks, Grants}
 use Rattle.client_server_conditions.specs.Conditions.{AreAcknowledgements, is_open_at}
 use Rattle.csp_base.proofs.Booleans.{or_unless}

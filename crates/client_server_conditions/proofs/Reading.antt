@@ -1,8 +1,7 @@
 -- What is read of a shape.
 use Rattle.std.proofs.Common.{◌≡◌, ℕ, ◌<◌, List, [], Bool, length, get_or, sym, ap, ◌∙◌, arith}
 use Rattle.std.proofs.lemmas.List.{get_or_read}
-use Rattle.csp_tables.specs.Roles.{RoleSets, role_at}
-use Rattle.csp_tables.specs.Shape.{IsWellFormed, Link, Shape, link_at}
+use Rattle.csp_tables.specs.Prelude.{RoleSets, role_at, IsWellFormed, Link, Shape, link_at}
 
 pub link_read : (shape : Shape) (links : List Link) (k : ℕ) (link : Link) → links ≡ shape.links → k < length shape.links → link ≡ get_or links k link → link ≡ link_at shape k
 link_read shape links k link is h at = get_or_read shape.links k link h (at ∙ ap (λ (ls : List Link). get_or ls k link) is) (record { left = 0; right = 0; shared = [] })

@@ -1,18 +1,13 @@
 -- S3, S4 and S5, each as what holds after every run of a part. (No rule's decider cites this.)
 use Rattle.std.specs.Prelude.{◌≡◌, ◌<◌, ℕ, List, Option, Some, None, Bool, true, not, ◌&&◌, nat_eq, IsTrue, length}
 use Rattle.csp_base.specs.Members.{has}
-use Rattle.csp_tables.specs.Part.{part_at, AreApart}
-use Rattle.csp_tables.specs.Table.{Node, node_at, end_of}
-use Rattle.csp_tables.specs.Shape.{Shape, is_end, link_at}
-use Rattle.csp_tables.specs.Standing.{RunsTo}
-use Rattle.csp_tables.specs.Roles.{role_at}
-use Rattle.design_rules.specs.ClientServer.{TakesTurns, ServesAll, TakesAnswers, is_acknowledgement, is_open}
+use Rattle.csp_tables.specs.Prelude.{part_at, AreApart, Node, node_at, end_of, Shape, is_end, link_at, RunsTo, role_at}
+use Rattle.design_rules.specs.Prelude.{is_acknowledgement, is_open, AllKeep, Condition}
+use Rattle.design_rules.specs.ClientServer.{TakesTurns, ServesAll, TakesAnswers}
 use Rattle.client_server_conditions.specs.Network.{Network, Asks, Grants}
 use Rattle.client_server_conditions.specs.Nodes.{AreInTurn, EachShared, HasAllOrNone}
 use Rattle.client_server_conditions.specs.declared.conditions.RunCondition.{RunCondition}
 use Rattle.client_server_conditions.specs.declared.conditions.RunCondition.TheVariants.{Turns, Service, Answers}
-use Rattle.design_rules.specs.FirstBroken.{AllKeep}
-use Rattle.design_rules.specs.declared.condition.Condition.{Condition}
 use Rattle.design_rules.specs.declared.condition.Condition.TheVariants as condition
 
 -- which of the rule's conditions it is

@@ -1,7 +1,6 @@
 -- A shape with roles whose links each have a client. (No rule's decider cites this.)
 use Rattle.std.specs.Prelude.{◌≡◌, ◌<◌, ℕ, List, length}
-use Rattle.csp_tables.specs.Shape.{Shape, Joins, IsWellFormed}
-use Rattle.csp_tables.specs.Roles.{RoleSets}
+use Rattle.csp_tables.specs.Prelude.{Shape, Joins, IsWellFormed, RoleSets}
 use Rattle.design_rules.specs.ClientServer.{HasRoles, HasClient, IsClientOn}
 
 pub record Network : Type 0 where

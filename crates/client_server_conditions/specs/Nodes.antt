@@ -1,11 +1,7 @@
 -- What one node of a part shows. (No rule's decider cites this.)
 use Rattle.std.specs.Prelude.{◌<◌, ◌⊎◌, ℕ, List, [], Bool, not, ◌||◌, ◌&&◌, IsTrue, length, get_or, if◌then◌else◌}
-use Rattle.csp_base.specs.Members.{has}
-use Rattle.csp_base.specs.Events.{is_subset_of, meets_of}
-use Rattle.csp_tables.specs.Table.{is_possible}
-use Rattle.csp_tables.specs.Part.{AreApart}
-use Rattle.csp_tables.specs.Trace.{IsWithin}
-use Rattle.csp_tables.specs.Roles.{RoleSets}
+use Rattle.csp_base.specs.Prelude.{has, is_subset_of, meets_of}
+use Rattle.csp_tables.specs.Prelude.{is_possible, AreApart, IsWithin, RoleSets}
 
 -- an acknowledgement where the link is open, a request where it is closed
 abbrev pub is_in_turn : RoleSets → Bool → ℕ → Bool

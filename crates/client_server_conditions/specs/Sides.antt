@@ -1,9 +1,7 @@
 -- The sets of one component, and the two ends of one link. (No rule's decider cites this.)
 use Rattle.std.specs.Prelude.{◌≡◌, ◌<◌, ℕ, List, [], ◌∷◌, Bool, false, Option, Some, None, IsTrue, MatchBool, length, get_or, if◌then◌else◌}
 use Rattle.csp_base.specs.Members.{has}
-use Rattle.csp_tables.specs.Part.{sharers}
-use Rattle.csp_tables.specs.Shape.{Shape, link_at}
-use Rattle.csp_tables.specs.Roles.{RoleSets}
+use Rattle.csp_tables.specs.Prelude.{sharers, Shape, link_at, RoleSets}
 use Rattle.design_rules.specs.ClientServer.{IsClientOn, HasClient}
 
 -- the four sets part these events

@@ -2,9 +2,8 @@
 
 ghost use Rattle.std.specs.Prelude.{◌≡◌, ◌<◌, ◌⊎◌, ◌↔◌, [], ℕ, None, IfErr, IfOk, IsTrue, length};
 ghost use Rattle.csp_tables.specs.Shape.{IsWellFormed, link_at};
-ghost use Rattle.design_rules.specs.ClientServer.{HasRoles};
+ghost use Rattle.design_rules.specs.Prelude.{HasRoles, BreaksClientServer};
 ghost use Rattle.client_server_conditions.specs.Sides.{AgreeOn, AreSides, HaveNoOther, IsClient, IsSide, IsSideOrNone};
-ghost use Rattle.design_rules.specs.Rules.{BreaksClientServer};
 
 use csp_base::{EventSet, NoMemory, Trace};
 use csp_tables::{RoleSets, Shape};

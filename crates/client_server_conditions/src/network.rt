@@ -1,9 +1,7 @@
 //! A shape with the roles of its components, once each link is known to have a client.
 
 ghost use Rattle.std.specs.Prelude.{◌≡◌, ◌<◌, true, false, IsTrue, IfErr, IfOk, length};
-ghost use Rattle.csp_tables.specs.Part.{TripleDisjoint, alphabets_of};
-ghost use Rattle.csp_tables.specs.Roles.{role_at};
-ghost use Rattle.csp_tables.specs.Shape.{IsWellFormed, is_end};
+ghost use Rattle.csp_tables.specs.Prelude.{TripleDisjoint, alphabets_of, role_at, IsWellFormed, is_end};
 ghost use Rattle.shape_links.specs.Links.{ends_of};
 ghost use Rattle.client_server_conditions.specs.Network.{Asks, Grants, IsLinked};
 ghost use Rattle.design_rules.specs.Rules.{BreaksClientServer};

@@ -1,9 +1,8 @@
 //! Whether the four sets of each component part the events that it shares.
 
 ghost use Rattle.std.specs.Prelude.{◌≡◌, ◌<◌, ◌↔◌, ℕ, IfErr, IfOk, OnOk, IsTrue, length};
-ghost use Rattle.design_rules.specs.ClientServer.{HasRoles};
+ghost use Rattle.design_rules.specs.Prelude.{HasRoles, BreaksClientServer};
 ghost use Rattle.client_server_conditions.specs.Sides.{PartOwn};
-ghost use Rattle.design_rules.specs.Rules.{BreaksClientServer};
 
 use csp_base::{EventSet, NoMemory, Trace};
 use csp_tables::{RoleSets, Shape};

@@ -1,15 +1,10 @@
 //! Runs after which a component breaks S3, S4 or S5.
 
 ghost use Rattle.std.specs.Prelude.{◌≡◌, ◌<◌, ℕ, List, None, true, false, IsTrue, IfErr, IfOk, IfSome, OnOk, length};
-ghost use Rattle.csp_tables.specs.Part.{part_at};
-ghost use Rattle.csp_tables.specs.Shape.{is_end, link_at};
-ghost use Rattle.design_rules.specs.ClientServer.{has_acknowledgements};
-ghost use Rattle.observed_runs.specs.Exploration.{AreFound, IsExploration};
-ghost use Rattle.csp_tables.specs.Table.{node_at};
-ghost use Rattle.observed_runs.specs.Observed.{pair_at};
-ghost use Rattle.observed_runs.specs.Observers.{parity_step};
+ghost use Rattle.csp_tables.specs.Prelude.{part_at, is_end, link_at, node_at};
+ghost use Rattle.design_rules.specs.Prelude.{has_acknowledgements, BreaksClientServer};
+ghost use Rattle.observed_runs.specs.Prelude.{AreFound, IsExploration, pair_at, parity_step};
 ghost use Rattle.client_server_conditions.specs.Conditions.{AreAcknowledgements, IsDecided, IsOnSide, Keeps, KeepLesser, KeepsLinks, KeepsOn, KeepsWhole};
-ghost use Rattle.design_rules.specs.Rules.{BreaksClientServer};
 ghost use Rattle.client_server_conditions.specs.Network.{Asks, Grants};
 ghost use Rattle.client_server_conditions.specs.Nodes.{EachShared, HasAllOrNone};
 

@@ -1,12 +1,9 @@
 //! The longest walks from clients to servers, or a circle of clients.
 
 ghost use Rattle.std.specs.Prelude.{◌≡◌, ◌<◌, ◌⊎◌, ℕ, List, All, IfErr, IfOk, OnOk, length};
-ghost use Rattle.design_rules.specs.ClientServer.{KeepRoles, Serves};
-ghost use Rattle.digraph.specs.Circle.{HasNoCircle};
-ghost use Rattle.digraph.specs.Digraph.{HasArc};
-ghost use Rattle.digraph.specs.Walk.{AreHeights};
+ghost use Rattle.design_rules.specs.Prelude.{KeepRoles, Serves, BreaksClientServer};
+ghost use Rattle.digraph.specs.Prelude.{HasNoCircle, HasArc, AreHeights};
 ghost use Rattle.client_server_rule.specs.Serving.{ServesOn};
-ghost use Rattle.design_rules.specs.Rules.{BreaksClientServer};
 
 use client_server_conditions::Network;
 use containers::Items;

@@ -1,13 +1,9 @@
 //! The rule as a whole.
 
 ghost use Rattle.std.specs.Prelude.{◌≡◌, ◌<◌, All, IfErr, IfOk, OnOk, length};
-ghost use Rattle.csp_tables.specs.Part.{TripleDisjoint, alphabets_of};
-ghost use Rattle.csp_tables.specs.Shape.{IsWellFormed};
-ghost use Rattle.design_rules.specs.ClientServer.{IsClientServer, KeepRoles, Serves};
-ghost use Rattle.design_rules.specs.ClientServerRanking.{IsClientServerRanking};
-ghost use Rattle.digraph.specs.Circle.{HasNoCircle};
-ghost use Rattle.digraph.specs.Walk.{AreHeights};
-ghost use Rattle.design_rules.specs.Rules.{BreaksClientServer};
+ghost use Rattle.csp_tables.specs.Prelude.{TripleDisjoint, alphabets_of, IsWellFormed};
+ghost use Rattle.design_rules.specs.Prelude.{IsClientServer, KeepRoles, Serves, IsClientServerRanking, BreaksClientServer};
+ghost use Rattle.digraph.specs.Prelude.{HasNoCircle, AreHeights};
 
 use crate::arcs::heights;
 use client_server_conditions::{Network, RunCondition, check};

@@ -1,9 +1,7 @@
 -- Digits that are read from the left.
 use Rattle.std.proofs.Common.{◌≡◌, ℕ, zero, suc, ◌+◌, ◌-◌, ◌*◌, ◌^◌, ◌<◌, ◌≤◌, List, [], ◌∷◌, length, get_or, refl, sym, ap, ◌∙◌, arith}
-use Rattle.std.specs.Fmt.{decimal}
-use Rattle.std.specs.Int.{IsInRange}
-use Rattle.std.proofs.lemmas.Fmt.{decimal-digits_value, digits_decimal, digits_value-decimal, first_decimal, decimal_nonempty, length-decimal-le, decimal_digit}
-use Rattle.std.proofs.lemmas.Str.Parse.{FoldsDigits, IsNumeralModel, digits_value_short, numerals_by_fold, tells_by_index}
+use Rattle.csp_base.specs.Standard.{decimal, IsInRange}
+use Rattle.csp_base.proofs.Standard.{decimal-digits_value, digits_decimal, digits_value-decimal, first_decimal, decimal_nonempty, length-decimal-le, decimal_digit, FoldsDigits, IsNumeralModel, digits_value_short, numerals_by_fold, tells_by_index}
 use Rattle.command_words.specs.Numerals.{IsShortNumeral, continued, numeral_value}
 
 abbrev AreDigits : List ℕ → Type 0

@@ -1,8 +1,7 @@
 //! Numbers among the words.
 
 ghost use Rattle.std.specs.Prelude.{◌≡◌, ◌<◌, ◌↔◌, ℕ, EachIndex, IfNone, IfSome, IsTrue, slice_index};
-ghost use Rattle.std.specs.Fmt.{decimal};
-ghost use Rattle.std.specs.Int.{IsInRange};
+ghost use Rattle.csp_base.specs.Standard.{decimal, IsInRange};
 ghost use Rattle.command_words.specs.Numerals.{HasPlainFront, IsShortNumeral, numeral_value};
 
 // Whether each byte is a decimal digit.

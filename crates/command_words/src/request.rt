@@ -5,12 +5,10 @@ ghost use Rattle.csp_tables.specs.declared.rule.Rule.{Rule as RuleValue};
 ghost use Rattle.net_maker.specs.declared.families.Family.{Family as FamilyValue};
 ghost use Rattle.net_maker.specs.Families.{family_name, greatest, least};
 ghost use Rattle.report.specs.Report.{rule_text};
+ghost use Rattle.command_words.specs.Prelude.{Check, Livelock, Run, Table, Asks, IsNoRequest, trial_of, written, IsNamed};
 ghost use Rattle.command_words.specs.declared.request.Job.{Job as JobValue};
-ghost use Rattle.command_words.specs.declared.request.Job.TheVariants.{Check, Livelock, Run, Table};
-ghost use Rattle.command_words.specs.declared.request.Request.TheVariants as request;
 ghost use Rattle.command_words.specs.declared.request.Trial.{Trial as TrialValue};
-ghost use Rattle.command_words.specs.Request.{Asks, IsNoRequest, trial_of, written};
-ghost use Rattle.command_words.specs.Named.{IsNamed};
+ghost use Rattle.command_words.specs.declared.request.Request.TheVariants as request;
 
 use crate::numbers::spelled_number;
 use crate::words::Words;

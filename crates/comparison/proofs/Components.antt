@@ -1,24 +1,18 @@
 -- From the parts of two networks to their components: which conform, and which is the first that does not.
 use Rattle.std.proofs.Common.{◌≡◌, ℕ, suc, ◌<◌, inl, inr, List, [], ◌∷◌, get_or, length, Some, refl, sym, ap, subst, ◌∙◌, arith}
 use Rattle.std.specs.Prelude.{slice_get}
-use Rattle.std.proofs.lemmas.List.{get_or_read}
-use Rattle.std.proofs.lemmas.Option.{same_Some}
+use Rattle.csp_base.proofs.Standard.{get_or_read, same_Some}
 use Rattle.conformance.specs.Conforming.{TableConforms}
 use Rattle.conformance.specs.Told.{Fails}
 use Rattle.conformance.specs.declared.fault.ConformFault.{ConformFault}
 use Rattle.conformance.specs.declared.fault.ConformFault.TheVariants as fault
 use Rattle.conformance.proofs.Telling.{tables_tell}
-use Rattle.csp_program.specs.declared.processes.Proc.{Proc}
-use Rattle.csp_program.specs.declared.programs.Content.{Content}
-use Rattle.csp_tables.specs.Form.{HasForm, HaveForm}
-use Rattle.csp_tables.specs.Network.{Component, leaves}
-use Rattle.csp_tables.specs.Part.{Part, part_at}
-use Rattle.csp_tables.specs.ShapeOf.{IsPartOf}
+use Rattle.csp_program.specs.Prelude.{Proc, Content}
+use Rattle.csp_tables.specs.Prelude.{HasForm, HaveForm, Component, leaves, Part, part_at, IsPartOf}
 use Rattle.net_sound.proofs.Parts.{component_of, one_part_each, part_of, part_within}
 use Rattle.net_sound.proofs.Within.{part_form}
 use Rattle.network_layout.specs.Triple.{alphabets}
-use Rattle.network_stages.specs.Networks.{HasSilentBound, IsLive, IsSpelled, Network}
-use Rattle.network_stages.specs.Stages.{HasParts}
+use Rattle.network_stages.specs.Prelude.{HasSilentBound, IsLive, IsSpelled, Network, HasParts}
 use Rattle.network_trees.proofs.InOrder.{network_is_tree}
 use Rattle.process_steps.specs.ComponentStep.{ProcessStep}
 use Rattle.refinement.specs.Conforms.{AllConform, Conforms}

@@ -2,23 +2,14 @@
 use Rattle.std.proofs.Common.{◌≡◌, ◌↔◌, ℕ, zero, suc, List, [], ◌∷◌, Some, slice_get, inl, inr, sym, ap, subst}
 use Rattle.std.proofs.lemmas.Option.{none-some, same_Some, slice_get_within}
 use Rattle.conformance.proofs.Telling.{faults_refute}
-use Rattle.csp_tables.specs.Label.{Label}
-use Rattle.csp_tables.specs.Network.{Component, leaves}
+use Rattle.csp_tables.specs.Prelude.{Label, Component, leaves}
 use Rattle.network_layout.specs.Triple.{alphabets}
 use Rattle.network_stages.proofs.Excluded.{faults_exclude_tables}
-use Rattle.network_stages.specs.Networks.{Network}
-use Rattle.network_stages.specs.Sets.{HaveFewSets}
-use Rattle.network_stages.specs.Stages.{HasNoParts}
+use Rattle.network_stages.specs.Prelude.{Network, HaveFewSets, HasNoParts}
 use Rattle.process_steps.specs.ComponentStep.{ProcessStep}
 use Rattle.refinement.specs.Conforms.{AllConform, Conforms}
-use Rattle.report.specs.Points.{Point}
-use Rattle.report.specs.Points.Point.{passed, told}
-use Rattle.report.specs.Report.{verdict_status}
-use Rattle.report.specs.declared.answer.Refusal.{Refusal}
-use Rattle.report.specs.declared.answer.Shortfall.{Shortfall}
-use Rattle.report.specs.declared.answer.Side.{Side}
+use Rattle.report.specs.Prelude.{Point, passed, told, verdict_status, Refusal, Shortfall, Side, Verdict}
 use Rattle.report.specs.declared.answer.Side.TheVariants as side
-use Rattle.report.specs.declared.answer.Verdict.{Verdict}
 use Rattle.report.specs.declared.answer.Verdict.TheVariants as verdict
 use Rattle.comparison.specs.Agreement.{DifferFirstAt, printed_events}
 use Rattle.comparison.specs.Compared.{ConformanceDecides, IsCompared, IsConforming, PartsOr}

@@ -1,21 +1,13 @@
 -- The spine of a comparison: what a walk answers that is past some of its points, and one that stops at the parts of a network.
 use Rattle.std.proofs.Common.{◌≡◌, List, Result}
 use Rattle.std.specs.Result.{IsErrAnd}
-use Rattle.csp_tables.specs.Network.{leaves}
-use Rattle.csp_tables.specs.Part.{Part}
+use Rattle.csp_tables.specs.Prelude.{leaves, Part}
 use Rattle.network_layout.specs.Triple.{alphabets}
-use Rattle.network_stages.specs.Networks.{Network}
-use Rattle.network_stages.specs.Stages.{HasParts, HasTables}
-use Rattle.network_stages.specs.declared.component_tables.ComponentTable.{ComponentTable}
+use Rattle.network_stages.specs.Prelude.{Network, HasParts, HasTables, ComponentTable}
 use Rattle.report.proofs.Points.{at_stop, goes_on, weaker}
-use Rattle.report.specs.Points.Point.{passed, told}
-use Rattle.csp_base.specs.Stops.{Tells}
-use Rattle.report.specs.Stops.{Answers}
-use Rattle.report.specs.declared.answer.Done.{Done}
-use Rattle.report.specs.declared.answer.Side.{Side}
+use Rattle.report.specs.Prelude.{passed, told, Answers, Done, Side, Verdict}
+use Rattle.csp_base.specs.Prelude.{Tells, Stop}
 use Rattle.report.specs.declared.answer.Side.TheVariants as side
-use Rattle.report.specs.declared.answer.Verdict.{Verdict}
-use Rattle.csp_base.specs.declared.stop.Stop.{Stop}
 use Rattle.comparison.specs.Agreement.{printed_events}
 use Rattle.comparison.specs.Compared.{ConformanceDecides, IsCompared, PartsOr}
 

@@ -3,13 +3,10 @@
 use Rattle.std.specs.Prelude.{◌≡◌, ℕ, length}
 use Rattle.csp_tables.specs.Network.{leaves}
 use Rattle.network_layout.specs.Triple.{alphabets}
-use Rattle.network_stages.specs.Networks.{HasSilentBound, IsLive, Network}
-use Rattle.network_stages.specs.Stages.{HasNoParts, HasNoTables, HasParts, HasTables}
-use Rattle.report.specs.Points.{RefusedOr, RefusedUnless, UnprovedUnless}
+use Rattle.network_stages.specs.Prelude.{HasSilentBound, IsLive, Network, HasNoParts, HasNoTables, HasParts, HasTables}
+use Rattle.report.specs.Prelude.{RefusedOr, RefusedUnless, UnprovedUnless, Side, Verdict}
 use Rattle.report.specs.declared.answer.Done.TheVariants as done
-use Rattle.report.specs.declared.answer.Side.{Side}
 use Rattle.report.specs.declared.answer.Side.TheVariants as side
-use Rattle.report.specs.declared.answer.Verdict.{Verdict}
 use Rattle.report.specs.declared.answer.Verdict.TheVariants as verdict
 use Rattle.comparison.specs.Agreement.{HaveOtherAlphabets, HaveOtherEvents, printed_events}
 use Rattle.comparison.specs.Conforming.{ComponentsConform, FailsToConform}

@@ -1,8 +1,7 @@
 -- The first component of a network that does not conform to the one in its place in the specification, as it is told.
 use Rattle.std.specs.Prelude.{◌≡◌, ◌<◌, ◌⊎◌, ℕ, List, Some, slice_get}
 use Rattle.csp_program.specs.declared.processes.Proc.{Proc}
-use Rattle.csp_tables.specs.Network.{Component, leaves}
-use Rattle.csp_tables.specs.Part.{Part, part_at}
+use Rattle.csp_tables.specs.Prelude.{Component, leaves, Part, part_at}
 use Rattle.conformance.specs.Conforming.{TableConforms}
 use Rattle.conformance.specs.Failing.{GoesOutside, RefusesTooMuch}
 use Rattle.conformance.specs.declared.fault.ConformFault.{ConformFault}

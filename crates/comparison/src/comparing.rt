@@ -1,9 +1,7 @@
 //! The verdict on a network and its specification.
 
 ghost use Rattle.std.specs.Prelude.{◌≡◌, List, IfErr, IfOk, OnOk};
-ghost use Rattle.network_stages.specs.Networks.{HasSilentBound};
-ghost use Rattle.network_stages.specs.Stages.{HasParts, HasTables};
-ghost use Rattle.network_stages.specs.declared.component_tables.ComponentTable.{ComponentTable};
+ghost use Rattle.network_stages.specs.Prelude.{HasSilentBound, HasParts, HasTables, ComponentTable};
 ghost use Rattle.csp_base.specs.Stops.{Tells};
 ghost use Rattle.report.specs.Stops.{Answers};
 ghost use Rattle.comparison.specs.Compared.{IsCompared, PartsOr};

@@ -3,9 +3,7 @@
 ghost use Rattle.std.specs.Prelude.{◌≡◌, ◌≤◌, ◌<◌, IfErr, OnOk, length};
 ghost use Rattle.dl_limits.specs.declared.TheConstants.{MOST_COMPONENTS};
 ghost use Rattle.conformance.specs.Told.{Fails};
-ghost use Rattle.csp_tables.specs.Form.{HaveForm};
-ghost use Rattle.csp_tables.specs.Network.{leaves};
-ghost use Rattle.csp_tables.specs.Part.{part_at};
+ghost use Rattle.csp_tables.specs.Prelude.{HaveForm, leaves, part_at};
 ghost use Rattle.network_layout.specs.Triple.{alphabets};
 ghost use Rattle.csp_base.specs.Stops.{Tells};
 ghost use Rattle.comparison.specs.Conforming.{ComponentsConform, ConformBefore, FailsToConform, failure};

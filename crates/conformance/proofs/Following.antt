@@ -1,16 +1,11 @@
 -- A table that follows the runs of another one: where it stands, and what the pairs to which runs lead say of both.
 use Rattle.std.proofs.Common.{◌≡◌, ℕ, zero, suc, ◌<◌, ◌≤◌, inl, inr, List, [], ◌∷◌, ◌++◌, length, get_or, true, false, IsTrue, Option, Some, None, refl, sym, ap, subst, ◌∙◌, arith}
 use Rattle.std.specs.Prelude.{slice_get}
-use Rattle.std.proofs.lemmas.Bool.{and_from, and_parts, cases_Bool, cond-true, cond-false}
-use Rattle.std.proofs.lemmas.List.{get_or_past}
-use Rattle.std.proofs.lemmas.Option.{get_or_from_slice_get, slice_get_cases}
+use Rattle.csp_base.proofs.Standard.{and_from, and_parts, cases_Bool, cond-true, cond-false, get_or_past, get_or_from_slice_get, slice_get_cases}
 use Rattle.csp_base.specs.Members.{has}
-use Rattle.csp_tables.specs.Form.{HasForm, StepsHaveForm}
-use Rattle.csp_tables.specs.Part.{Part}
-use Rattle.csp_tables.specs.Table.{Node, IsRun, acceptances_after, end_of, is_possible, is_run, no_node, node_after, node_at}
+use Rattle.csp_tables.specs.Prelude.{HasForm, StepsHaveForm, Part, Node, IsRun, acceptances_after, end_of, is_possible, is_run, no_node, node_after, node_at}
 use Rattle.csp_tables.proofs.Runs.{node_form, run_push}
-use Rattle.observed_runs.specs.Exploration.{AreFound, Found, IsExploration, StepsTo}
-use Rattle.observed_runs.specs.Observed.{LeadsTo, observed, pair_at}
+use Rattle.observed_runs.specs.Prelude.{AreFound, Found, IsExploration, StepsTo, LeadsTo, observed, pair_at}
 use Rattle.observed_runs.proofs.Leading.{listed_step, step_within}
 use Rattle.conformance.specs.Conforming.{HasWithin, RefusesAfter, RunsOutside, TableConforms}
 use Rattle.conformance.specs.Finding.{AllAccept, AreInside, RefusesAt}

@@ -1,17 +1,10 @@
 -- An event is looked for in the steps of a node, which rise.
 use Rattle.std.proofs.Common.{◌≡◌, ℕ, zero, suc, ◌+◌, ◌<◌, ◌≤◌, inl, inr, List, [], ◌∷◌, length, get_or, true, false, IsTrue, Some, None, sym, ap, subst, ◌∙◌, arith, if◌then◌else◌, Less, Equal, Greater}
-use Rattle.std.specs.List.Sorted.{IsNonDecreasingBy, IsPartitionPoint}
-use Rattle.std.specs.Ordering.{is_eq, nat_cmp, ordering_index}
-use Rattle.std.specs.Cmp.Lexicographic.{bytes_decides, slice_cmp, texts_ties}
-use Rattle.std.proofs.lemmas.Bool.{cases_Bool, cases_lt, cond-true, cond-false, false≢true}
-use Rattle.std.proofs.lemmas.Bool.Decides.{nat_tests}
-use Rattle.std.proofs.lemmas.List.{get_or_default, get_or_read}
-use Rattle.csp_base.specs.Events.{is_subset_of}
-use Rattle.csp_base.specs.Members.{has}
+use Rattle.csp_base.specs.Standard.{IsNonDecreasingBy, IsPartitionPoint, is_eq, nat_cmp, ordering_index, bytes_decides, slice_cmp, texts_ties}
+use Rattle.csp_base.proofs.Standard.{cases_Bool, cases_lt, cond-true, cond-false, false≢true, nat_tests, get_or_default, get_or_read}
+use Rattle.csp_base.specs.Prelude.{is_subset_of, has}
 use Rattle.csp_base.proofs.SetLaws.{is_subset_of_from_members, member_of_superset}
-use Rattle.csp_tables.specs.Trace.{IsWithin}
-use Rattle.csp_tables.specs.Table.{is_possible, target}
-use Rattle.csp_tables.specs.Form.{BeginsAbove, StepsHaveForm}
+use Rattle.csp_tables.specs.Prelude.{IsWithin, is_possible, target, BeginsAbove, StepsHaveForm}
 use Rattle.conformance.specs.Conforming.{HasWithin}
 use Rattle.observed_runs.proofs.Leading.{listed_step, step_listed}
 

@@ -1,8 +1,6 @@
 -- Nodes with the same acceptances, in place of each other.
 use Rattle.std.proofs.Common.{◌≡◌, ℕ, List, [], ◌∷◌, ◌++◌, length, get_or, true, nat_eq, subst, sym, refl, arith, inl, inr}
-use Rattle.std.proofs.lemmas.Bool.{cases_lt, eqb-true}
-use Rattle.std.proofs.lemmas.List.{get_or_append_left, get_or_past, length-append}
-use Rattle.std.proofs.Math.Seq.{get_or-append_seam}
+use Rattle.csp_base.proofs.Standard.{cases_lt, eqb-true, get_or_append_left, get_or_past, length-append, get_or-append_seam}
 use Rattle.std.specs.Cmp.Lexicographic.{pointwise}
 use Rattle.containers.specs.Exact.{IsExact-pointwise}
 use Rattle.csp_tables.specs.Table.{Node}

@@ -1,12 +1,7 @@
 -- What the normal tables of components tell of the components.
 use Rattle.std.proofs.Common.{◌≡◌, ℕ, List, [], get_or, IsTrue, subst}
 use Rattle.csp_base.specs.Members.{has}
-use Rattle.csp_tables.specs.Label.{Label}
-use Rattle.csp_tables.specs.Network.{Component, ComponentStep}
-use Rattle.csp_tables.specs.Part.{Part}
-use Rattle.csp_tables.specs.ShapeOf.{IsPartOf}
-use Rattle.csp_tables.specs.Table.{IsRun, acceptances_after}
-use Rattle.csp_tables.specs.Trace.{IsTrace}
+use Rattle.csp_tables.specs.Prelude.{Label, Component, ComponentStep, Part, IsPartOf, IsRun, acceptances_after, IsTrace}
 use Rattle.refinement.specs.Conforms.{AcceptsWithin, Conforms}
 use Rattle.conformance.specs.Conforming.{HasWithin, RefusesAfter, RunsOutside, TableConforms}
 use Rattle.conformance.specs.Failing.{FaultsRefute, GoesOutside, RefusesTooMuch, TablesTell}

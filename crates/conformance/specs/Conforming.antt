@@ -1,8 +1,7 @@
 -- When a normal table conforms to another one, its specification: what it does, the specification does, and wherever it comes to rest it offers
 -- enough. And where it does not.
 use Rattle.std.specs.Prelude.{◌≡◌, ◌<◌, ℕ, List, [], ◌∷◌, ◌++◌, length, get_or}
-use Rattle.csp_tables.specs.Table.{Node, IsRun, acceptances_after}
-use Rattle.csp_tables.specs.Trace.{IsWithin}
+use Rattle.csp_tables.specs.Prelude.{Node, IsRun, acceptances_after, IsWithin}
 
 -- one of the sets lies within M
 pub record HasWithin (sets : List (List ℕ)) (M : List ℕ) : Type 0 where

@@ -1,10 +1,6 @@
 -- Where a component does not conform to its specification: it does what the specification can't do, or it comes to rest where it offers too little.
 use Rattle.std.specs.Prelude.{◌≡◌, ℕ, List, [], ◌∷◌, ◌++◌}
-use Rattle.csp_tables.specs.Label.{Label}
-use Rattle.csp_tables.specs.Network.{Component, ComponentStep}
-use Rattle.csp_tables.specs.Part.{Part}
-use Rattle.csp_tables.specs.ShapeOf.{IsPartOf}
-use Rattle.csp_tables.specs.Trace.{IsAcceptance, IsTrace}
+use Rattle.csp_tables.specs.Prelude.{Label, Component, ComponentStep, Part, IsPartOf, IsAcceptance, IsTrace}
 use Rattle.refinement.specs.Conforms.{AcceptsWithin, Conforms}
 use Rattle.conformance.specs.Conforming.{RefusesAfter, RunsOutside, TableConforms}
 

@@ -1,10 +1,8 @@
 -- What is looked for in the pairs of a table's node and a node of its specification to which runs lead. (For private contracts: no public one cites
 -- this.)
 use Rattle.std.specs.Prelude.{◌<◌, ◌≤◌, ℕ, List, [], length, get_or}
-use Rattle.csp_tables.specs.Part.{Part}
-use Rattle.csp_tables.specs.Table.{Node, node_at}
-use Rattle.observed_runs.specs.Observed.{pair_at}
-use Rattle.observed_runs.specs.Exploration.{AreFound, Found, IsExploration}
+use Rattle.csp_tables.specs.Prelude.{Part, Node, node_at}
+use Rattle.observed_runs.specs.Prelude.{pair_at, AreFound, Found, IsExploration}
 use Rattle.conformance.specs.Conforming.{HasWithin}
 use Rattle.conformance.specs.Following.{follow_step}
 

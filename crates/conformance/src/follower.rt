@@ -1,8 +1,7 @@
 //! An observer that follows the events of a run in another table.
 
 ghost use Rattle.std.specs.Prelude.{◌≡◌, length, if◌then◌else◌};
-ghost use Rattle.csp_tables.specs.Form.{HasForm};
-ghost use Rattle.csp_tables.specs.Table.{is_possible, node_after, node_at};
+ghost use Rattle.csp_tables.specs.Prelude.{HasForm, is_possible, node_after, node_at};
 ghost use Rattle.conformance.specs.Following.{follow_step};
 
 use crate::nodes::node_of;

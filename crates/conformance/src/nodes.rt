@@ -1,8 +1,7 @@
 //! Nodes of a part, with the form of their steps.
 
 ghost use Rattle.std.specs.Prelude.{◌≡◌, ◌<◌, ◌≤◌, IfNone, IfSome, length};
-ghost use Rattle.csp_tables.specs.Form.{HasForm, StepsHaveForm};
-ghost use Rattle.csp_tables.specs.Table.{node_at};
+ghost use Rattle.csp_tables.specs.Prelude.{HasForm, StepsHaveForm, node_at};
 
 use csp_tables::{NormNode, Part};
 

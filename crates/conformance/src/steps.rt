@@ -1,8 +1,7 @@
 //! Steps and acceptances of one node against those of another.
 
 ghost use Rattle.std.specs.Prelude.{◌≡◌, ℕ, List, None, Some, IsTrue, MatchBool, if◌then◌else◌};
-ghost use Rattle.csp_tables.specs.Form.{StepsHaveForm};
-ghost use Rattle.csp_tables.specs.Table.{is_possible, target};
+ghost use Rattle.csp_tables.specs.Prelude.{StepsHaveForm, is_possible, target};
 ghost use Rattle.conformance.specs.Conforming.{HasWithin};
 ghost use Rattle.conformance.specs.Finding.{AllContain, Refuses};
 

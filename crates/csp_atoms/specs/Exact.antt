@@ -1,8 +1,7 @@
 -- The derived equality tests of atoms, of sets of atoms and of values are exact.
 use Rattle.std.specs.Prelude.{◌≡◌, true, false, List}
 use Rattle.std.proofs.Common.{ap, refl}
-use Rattle.std.proofs.lemmas.Bool.{false≢true, eqb-true}
-use Rattle.std.proofs.lemmas.Bool.Decides.{Decides-int_eq}
+use Rattle.csp_base.proofs.Standard.{false≢true, eqb-true, Decides-int_eq}
 use Rattle.containers.specs.Exact.{IsExact-pointwise}
 use Rattle.csp_atoms.specs.contracts.atom.AtomPartialEq.TheImpl as atoms
 use Rattle.csp_atoms.specs.contracts.atom_set.AtomSetPartialEq.TheImpl as sets

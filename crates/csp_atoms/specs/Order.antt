@@ -1,7 +1,6 @@
 -- The order of atoms: by kind, which is numbers, truth values, constants, events, and within a kind by number, false before true.
 use Rattle.std.specs.Prelude.{ℕ, ℤ, pos, Bool, nat_eq, if◌then◌else◌}
-use Rattle.std.specs.declared.cmp.Ordering.{Ordering}
-use Rattle.std.specs.Ordering.{nat_cmp, int_cmp, ordering_then, is_lt, is_eq}
+use Rattle.csp_base.specs.Standard.{Ordering, nat_cmp, int_cmp, ordering_then, is_lt, is_eq}
 use Rattle.csp_atoms.specs.declared.atom.Atom.{Atom}
 use Rattle.csp_atoms.specs.declared.atom.Atom.TheVariants as atom
 

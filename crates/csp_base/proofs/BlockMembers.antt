@@ -1,13 +1,10 @@
 -- The events of blocks, by the words of the blocks.
 use Rattle.std.proofs.Common.{◌≡◌, ℕ, ◌+◌, ◌-◌, ◌*◌, ◌/◌, ◌%◌, ◌^◌, ◌<◌, ◌≤◌, true, false, ◌||◌, List, [], ◌∷◌, ◌++◌, length, refl, sym, ap, inl, inr, le_refl, ◌∙◌, subst, arith}
-use Rattle.std.proofs.lemmas.Bool.{cases_lt, cases_order, eq-eqb, ne_eqb, false≢true}
-use Rattle.std.proofs.lemmas.Nat.Bits.{bit_at-zero}
+use Rattle.csp_base.proofs.Standard.{cases_lt, cases_order, eq-eqb, ne_eqb, false≢true, bit_at-zero, or-false}
 use Rattle.std.specs.Prelude.{◌==◌}
-use Rattle.csp_base.specs.Events.{has}
-use Rattle.csp_base.specs.Blocks.{has_bit, word_events, events_of, word_at, AreBlocksFrom}
+use Rattle.csp_base.specs.Prelude.{has, has_bit, word_events, events_of, word_at, AreBlocksFrom}
 use Rattle.csp_base.proofs.Rising.{RisesFrom, RisesFrom-weaken, RisesFrom-append, has_below, has-append}
 use Rattle.csp_base.proofs.Words.{RisesFrom-word_events, word_events_above, has-word_events}
-use Rattle.std.proofs.Math.Bool.{or-false}
 
 pub AreBlocksFrom-weaken : (m n : ℕ) (ps : List (ℕ × ℕ)) → m ≤ n → AreBlocksFrom n ps → AreBlocksFrom m ps
 AreBlocksFrom-weaken m n [] l r = tt

@@ -1,7 +1,6 @@
 -- The blocks of the events of blocks are those blocks.
 use Rattle.std.proofs.Common.{◌≡◌, ℕ, zero, suc, ◌+◌, ◌*◌, ◌/◌, ◌%◌, ◌^◌, ◌<◌, ◌≤◌, Bool, true, false, cond, eqb, List, [], ◌∷◌, ◌++◌, refl, sym, ap, inl, inr, ◌∙◌, add-one, pow-suc, arith}
-use Rattle.std.proofs.lemmas.Bool.{cases_eq, eq-eqb, ne_eqb, eqb-true, eqb-false}
-use Rattle.std.proofs.lemmas.Nat.Bits.{bit_at_lowest}
+use Rattle.csp_base.proofs.Standard.{cases_eq, eq-eqb, ne_eqb, eqb-true, eqb-false, bit_at_lowest}
 use Rattle.csp_base.specs.Blocks.{has_bit, word_events, events_of, AreBlocksFrom, with_bit, blocks_of}
 use Rattle.csp_base.proofs.Finds.{half_lt}
 

@@ -1,17 +1,9 @@
 -- One more event in a list of blocks.
 use Rattle.std.proofs.Common.{◌≡◌, ℕ, zero, suc, ◌+◌, ◌*◌, ◌/◌, ◌%◌, ◌^◌, ◌<◌, ◌≤◌, cond, ◌||◌, eqb, List, [], ◌∷◌, ◌++◌, length, take, drop, set, refl, sym, ap, ◌⊎◌, inl, inr, ◌∙◌, subst, arith}
-use Rattle.std.proofs.lemmas.Bool.{cases_eq, eq-eqb, ne_eqb, or_left}
-use Rattle.std.proofs.lemmas.Nat.Bits.{bit_at_set_same, bit_at_set_other}
-use Rattle.std.proofs.lemmas.Nat.{or_lt, le_or_l, pow_pos}
-use Rattle.std.specs.Int.Bits.{or_zero_l}
-use Rattle.std.proofs.Math.Pow.{pow_mono}
-use Rattle.std.proofs.lemmas.List.{take-append-drop, set_split}
-use Rattle.std.proofs.Math.Seq.{drop-cons}
-use Rattle.std.specs.Int.{w64}
+use Rattle.csp_base.proofs.Standard.{cases_eq, eq-eqb, ne_eqb, or_left, bit_at_set_same, bit_at_set_other, or_lt, le_or_l, pow_pos, pow_mono, take-append-drop, set_split, drop-cons}
+use Rattle.csp_base.specs.Standard.{or_zero_l, w64}
 use Rattle.std.specs.Prelude.{◌==◌, bit_or}
-use Rattle.csp_base.specs.Events.{has}
-use Rattle.csp_base.specs.Blocks.{has_bit, word_at, AreBlocksFrom, events_of}
-use Rattle.csp_base.specs.Operations.{first_word, end_from}
+use Rattle.csp_base.specs.Prelude.{has, has_bit, word_at, AreBlocksFrom, events_of, first_word, end_from}
 use Rattle.csp_base.proofs.BlockMembers.{word_at-append, word_at_first, word_at_later, has-events_of_at}
 use Rattle.csp_base.proofs.MergeSteps.{first_word-word_at}
 use Rattle.csp_base.proofs.Places.{AreBlocksFrom-append, AreBlocksFrom-take, word_at_past}

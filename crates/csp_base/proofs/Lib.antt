@@ -14,4 +14,5 @@ pub mod Rising
 pub mod SetLaws
 pub mod SetTests
 pub mod Sets
+pub mod Standard
 pub mod Words

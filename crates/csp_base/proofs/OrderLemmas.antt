@@ -1,25 +1,13 @@
 -- The order of two sets as lists, by the first event in which they differ.
 use Rattle.std.proofs.Common.{◌≡◌, ℕ, zero, suc, ◌+◌, ◌-◌, ◌*◌, ◌/◌, ◌%◌, ◌^◌, ◌<◌, ◌≤◌, Bool, true, false, not, cond, ◌||◌, eqb, ltb, List, [], ◌∷◌, ◌++◌, length, take, drop, get_or, min, refl, sym, ap, inl, inr, le_refl, ◌∙◌, subst, arith}
-use Rattle.std.proofs.lemmas.Bool.{cases_eq, cases_lt, cases_order, eq-eqb, ne_eqb, eqb-true, eqb-false, lt-ltb, le-ltb, false≢true, true≢false, not-true, not-false, ltb-true, ltb-false}
-use Rattle.std.proofs.lemmas.Nat.Bits.{bit_at-zero, bit_at_xor, bit_at-lt, bit_at_above, bit_at-trailing_zeros, same_from_bits}
-use Rattle.std.proofs.lemmas.List.{take-append-drop}
-use Rattle.std.specs.Int.{bit_at, w64}
+use Rattle.csp_base.proofs.Standard.{cases_eq, cases_lt, cases_order, eq-eqb, ne_eqb, eqb-true, eqb-false, lt-ltb, le-ltb, false≢true, true≢false, not-true, not-false, ltb-true, ltb-false, bit_at-zero, bit_at_xor, bit_at-lt, bit_at_above, bit_at-trailing_zeros, same_from_bits, take-append-drop, xor_lt, pow-add, div-div-eq-div-mul, div-le_self}
+use Rattle.csp_base.specs.Standard.{bit_at, w64, count_trailing_zeros, MatchBool, slice_cmp, nat_cmp, ordering_then, Less, Equal, Greater}
 use Rattle.std.specs.Prelude.{◌==◌, bit_xor}
-use Rattle.csp_base.specs.Events.{has}
-use Rattle.csp_base.specs.Blocks.{has_bit, word_at, AreBlocksFrom, events_of}
-use Rattle.csp_base.specs.Operations.{end_from}
+use Rattle.csp_base.specs.Prelude.{has, has_bit, word_at, AreBlocksFrom, events_of, end_from, word_order_at}
 use Rattle.csp_base.proofs.Rising.{RisesFrom, has_below}
 use Rattle.csp_base.proofs.BlockMembers.{AreBlocksFrom-weaken, word_at_first, word_at_later, has-events_of_at, has-events_of, RisesFrom-events_of, has_bit-zero}
 use Rattle.csp_base.proofs.MergeSteps.{bit_of_word}
 use Rattle.csp_base.proofs.Places.{AreBlocksFrom-drop}
-use Rattle.std.proofs.lemmas.Nat.{xor_lt, pow-add}
-use Rattle.std.proofs.Math.Nat.{div-div-eq-div-mul, div-le_self}
-use Rattle.std.specs.Int.Count.{count_trailing_zeros}
-use Rattle.std.specs.Bool.{MatchBool}
-use Rattle.std.specs.Cmp.Lexicographic.{slice_cmp}
-use Rattle.std.specs.Ordering.{nat_cmp, ordering_then}
-use Rattle.std.specs.declared.cmp.Ordering.TheVariants.{Less, Equal, Greater}
-use Rattle.csp_base.specs.Orders.{word_order_at}
 use Rattle.csp_base.proofs.Finds.{events_of-append, lowest_bit}
 use Rattle.csp_base.proofs.Listed.{has_first, has_rest}
 

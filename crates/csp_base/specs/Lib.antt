@@ -4,6 +4,8 @@ pub mod Lists
 pub mod Members
 pub mod Operations
 pub mod Orders
+pub mod Prelude
 pub mod SetHash
+pub mod Standard
 pub mod Stops
 pub mod Texts

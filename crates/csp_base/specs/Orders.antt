@@ -1,7 +1,6 @@
 -- The order of two sets as lists, read off two words.
 use Rattle.std.specs.Prelude.{ℕ, ◌/◌, ◌^◌, ◌==◌, Bool, ◌||◌, not, if◌then◌else◌}
-use Rattle.std.specs.declared.cmp.Ordering.{Ordering}
-use Rattle.std.specs.declared.cmp.Ordering.TheVariants.{Less, Greater}
+use Rattle.csp_base.specs.Standard.{Ordering, Less, Greater}
 use Rattle.csp_base.specs.Blocks.{has_bit}
 
 -- how two sets compare that differ first in one block: the lowest bit in which their words differ decides.

@@ -1,12 +1,8 @@
 //! The order of event sets as lists, over their blocks.
 
 ghost use Rattle.std.specs.Prelude.{◌≡◌, ◌≢◌, ◌+◌, ◌<◌, ◌≤◌, length, take, slice_index_or, bit_xor};
-ghost use Rattle.std.specs.Bool.{OnTrue, OnFalse};
-ghost use Rattle.std.specs.Cmp.Lexicographic.{slice_cmp};
-ghost use Rattle.std.specs.Int.{trailing_zeros, w64};
-ghost use Rattle.std.specs.Ordering.{nat_cmp};
-ghost use Rattle.csp_base.specs.Blocks.{AreBlocks, events_of};
-ghost use Rattle.csp_base.specs.Orders.{word_order_at};
+ghost use Rattle.csp_base.specs.Standard.{OnTrue, OnFalse, slice_cmp, trailing_zeros, w64, nat_cmp};
+ghost use Rattle.csp_base.specs.Prelude.{AreBlocks, events_of, word_order_at};
 
 use std::cmp::Ordering;
 

@@ -1,12 +1,8 @@
 //! Blocks of 64 events: the work of event sets, over slices and vectors of blocks.
 
 ghost use Rattle.std.specs.Prelude.{◌≡◌, ◌==◌, ◌||◌, nat_eq, nat_le, ℕ, ◌≤◌, length, take, drop, true, false, IfOk, OnOk, OnErr};
-ghost use Rattle.std.specs.Bool.{OnTrue, OnFalse};
-ghost use Rattle.std.specs.Cmp.Lexicographic.{pointwise};
-ghost use Rattle.std.specs.List.{find};
-ghost use Rattle.csp_base.specs.Blocks.{AreBlocks, AreBlocksFrom, word_at, events_of};
-ghost use Rattle.csp_base.specs.Events.{has, is_subset_of, meets_of};
-ghost use Rattle.csp_base.specs.Operations.{combined_of, keeps, least_of, first_word, rest_after, with_word, end_from};
+ghost use Rattle.csp_base.specs.Standard.{OnTrue, OnFalse, pointwise, find};
+ghost use Rattle.csp_base.specs.Prelude.{AreBlocks, AreBlocksFrom, word_at, events_of, has, is_subset_of, meets_of, combined_of, keeps, least_of, first_word, rest_after, with_word, end_from};
 
 use crate::NoMemory;
 use crate::event_set::Event;

@@ -2,10 +2,8 @@
 
 ghost use Rattle.std.specs.Prelude.{◌≡◌, List, [], ◌∷◌, ◌++◌, length, IfOk, OnOk, OnErr, nat_eq};
 ghost use Rattle.std.proofs.Common.{rules};
-ghost use Rattle.std.specs.Cmp.Lexicographic.{pointwise, bytes_decides};
-ghost use Rattle.std.specs.Cmp.Rules.{comparing};
+ghost use Rattle.csp_base.specs.Standard.{pointwise, bytes_decides, comparing, same_Alike};
 ghost use Rattle.std.specs.Hash as fed;
-ghost use Rattle.std.specs.Hash.{same_Alike};
 
 use crate::NoMemory;
 use smallvec::SmallVec;

@@ -3,15 +3,8 @@
 
 ghost use Rattle.std.specs.Prelude.{◌≡◌, ◌↔◌, ◌||◌, ◌&&◌, ◌+◌, ◌*◌, ◌<◌, Some, not, nat_eq, nat_le, refl, ℕ, List, [], IsTrue, IfOk, OnOk, OnErr};
 ghost use Rattle.std.proofs.Common.{rules};
-ghost use Rattle.std.specs.Cmp.Lexicographic.{pointwise, slice_cmp, nat_list_cmp_total, texts_ties, texts_po, bytes_decides};
-ghost use Rattle.std.specs.Cmp.Rules.{comparing};
-ghost use Rattle.std.specs.Hash.{same_Alike};
-ghost use Rattle.std.specs.List.{find};
-ghost use Rattle.std.specs.List.Sorted.{IsStrictlyIncreasing};
-ghost use Rattle.std.specs.Ordering.{nat_cmp};
-ghost use Rattle.csp_base.specs.Blocks.{AreBlocks, events_of, has_bit, word_at};
-ghost use Rattle.csp_base.specs.SetHash.{set_writes};
-ghost use Rattle.csp_base.specs.Events.{has, with_member, union_of, set_of, inter_of, diff_of, is_subset_of, meets_of};
+ghost use Rattle.csp_base.specs.Standard.{pointwise, slice_cmp, nat_list_cmp_total, texts_ties, texts_po, bytes_decides, comparing, same_Alike, find, IsStrictlyIncreasing, nat_cmp};
+ghost use Rattle.csp_base.specs.Prelude.{AreBlocks, events_of, has_bit, word_at, set_writes, has, with_member, union_of, set_of, inter_of, diff_of, is_subset_of, meets_of};
 
 use crate::members::Members;
 use crate::operators::SetOp;

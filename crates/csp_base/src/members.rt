@@ -1,8 +1,7 @@
 //! The members of a set, one after another.
 
 ghost use Rattle.std.specs.Prelude.{◌≡◌, ◌≢◌, ◌*◌, ◌+◌, ◌<◌, ◌^◌, ◌++◌, [], ◌∷◌, ℕ, List};
-ghost use Rattle.std.specs.Int.{trailing_zeros, w64};
-ghost use Rattle.std.specs.Iterator.{YieldsFirst, item_count};
+ghost use Rattle.csp_base.specs.Standard.{trailing_zeros, w64, YieldsFirst, item_count};
 ghost use Rattle.csp_base.specs.Blocks.{AreBlocks, AreBlocksFrom, events_of, word_events};
 
 use crate::event_set::Event;

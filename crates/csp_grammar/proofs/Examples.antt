@@ -1,18 +1,11 @@
 -- The derivations of the worked texts.
 use Rattle.std.proofs.Common.{ℕ, suc, List, ◌∷◌}
-use Rattle.csp_text.specs.declared.token.Token.{Token}
-use Rattle.csp_text.specs.declared.token.Token.TheVariants.{Name, Num, Symbol}
-use Rattle.csp_text.specs.declared.token.Symbol.TheVariants.{OpenParen, CloseParen, Plus}
-use Rattle.csp_text.specs.declared.tree.Tree.{Tree}
+use Rattle.csp_text.specs.Prelude.{Token, Name, Num, OpenParen, CloseParen, Plus, Tree}
+use Rattle.csp_text.specs.declared.token.Token.TheVariants.{Symbol}
 use Rattle.csp_text.specs.declared.tree.Tree.TheVariants as tree
 use Rattle.csp_base.specs.declared.operators.BinOp.TheVariants.{Add}
-use Rattle.csp_grammar.specs.Precedence.IsNext.{disjunction-conjunction, conjunction-negation, negation-comparison, comparison-sum, sum-product, product-minus, minus-renaming}
-use Rattle.csp_grammar.specs.Precedence.IsLeftOperator.{minus-sign, percent, plus}
-use Rattle.csp_grammar.specs.Precedence.Level.{disjunction, minus, product, sum}
-use Rattle.csp_grammar.specs.Grammar.{AtomText, ExpressionText, PrefixText}
+use Rattle.csp_grammar.specs.Prelude.{disjunction-conjunction, conjunction-negation, negation-comparison, comparison-sum, sum-product, product-minus, minus-renaming, minus-sign, percent, plus, disjunction, minus, product, sum, AtomText, ExpressionText, PrefixText, closed, PrefixBindsTighterThanChoice, PrefixBindsTighterThanSequence, SetOfOneNegativeNumber, SequencesNestFromTheRight, HidingsNestFromTheLeft, DifferencesNestFromTheLeft, FieldsAreArithmetic, OpenFormsReachToTheRight, ParenthesesLeaveNoTrace}
 use Rattle.csp_grammar.specs.Grammar as g
-use Rattle.csp_grammar.specs.Grammar.Reach.{closed}
-use Rattle.csp_grammar.specs.Examples.{PrefixBindsTighterThanChoice, PrefixBindsTighterThanSequence, SetOfOneNegativeNumber, SequencesNestFromTheRight, HidingsNestFromTheLeft, DifferencesNestFromTheLeft, FieldsAreArithmetic, OpenFormsReachToTheRight, ParenthesesLeaveNoTrace}
 
 above_sum : {n : ℕ} {ts : List Token} {t : Tree} {r : List Token} → ExpressionText n sum ts t r → ExpressionText n disjunction ts t r
 above_sum e =

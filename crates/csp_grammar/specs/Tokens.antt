@@ -1,12 +1,10 @@
 -- How the reader looks at tokens, and how tightly a token binds to what stands before it.
 use Rattle.std.specs.Prelude.{ℕ, if◌then◌else◌, Option, Some, None, List, [], ◌∷◌}
-use Rattle.csp_text.specs.declared.token.Token.{Token}
-use Rattle.csp_text.specs.declared.token.Token.TheVariants as token
+use Rattle.csp_text.specs.Prelude.{Token, Symbol, same_symbol, same_word}
 use Rattle.csp_text.specs.declared.token.Word.{Word}
+use Rattle.csp_text.specs.declared.token.Token.TheVariants as token
 use Rattle.csp_text.specs.declared.token.Word.TheVariants as word
-use Rattle.csp_text.specs.declared.token.Symbol.{Symbol}
 use Rattle.csp_text.specs.declared.token.Symbol.TheVariants as symbol
-use Rattle.csp_text.specs.Written.{same_symbol, same_word}
 
 -- How tightly a symbol binds what stands before it, 0 where it never goes on with that: a call 20, a renaming 18, an operator its level (16 to 11), what
 -- goes on with the name of an event 10, a guard and `<-` 9, `;` 8, a choice or a hiding 7, an alphabet of a parallel 6.

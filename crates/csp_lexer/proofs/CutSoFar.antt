@@ -3,11 +3,7 @@ use Rattle.std.proofs.Common.{◌≡◌, ℕ, zero, suc, ◌<◌, ◌≤◌, eqb
 use Rattle.std.specs.Prelude.{Option, Some, None, Result, Ok, Err}
 use Rattle.csp_base.specs.declared.place.Place.{Place}
 use Rattle.csp_text.specs.declared.token.Token.{Token}
-use Rattle.csp_lexer.specs.Cutting.{added, before, cut, then_cut}
-use Rattle.csp_lexer.specs.Passed.{Passed}
-use Rattle.csp_lexer.specs.Pieces.{Piece}
-use Rattle.csp_lexer.specs.Placed.{PlacedTokens}
-use Rattle.csp_lexer.specs.Places.{behind_all}
+use Rattle.csp_lexer.specs.Prelude.{added, before, cut, then_cut, Passed, Piece, PlacedTokens, behind_all}
 
 -- the cut of the whole text is these tokens and then the cut of what is left
 pub record IsCutSoFar (front : Place → List ℕ → Option Piece) (whole : Result PlacedTokens Place) (placed : List (Token × Place)) (at : Place) (rest : List ℕ) : Type 0 where

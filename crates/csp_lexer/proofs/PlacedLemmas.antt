@@ -1,9 +1,7 @@
 -- Tokens and their places side by side.
 use Rattle.std.proofs.Common.{◌≡◌, ℕ, List, [], ◌∷◌, ◌++◌, length, refl, sym, ap, ◌∙◌, arith}
-use Rattle.std.proofs.lemmas.Option.{unwrap_or-slice_get}
-use Rattle.std.proofs.lemmas.Slice.Zip.{firsts-zip, seconds-zip}
-use Rattle.std.specs.List.{slice_get, zip}
-use Rattle.std.specs.Option.{unwrap_or}
+use Rattle.csp_base.proofs.Standard.{unwrap_or-slice_get, firsts-zip, seconds-zip}
+use Rattle.csp_base.specs.Standard.{slice_get, zip, unwrap_or}
 use Rattle.std.specs.Prelude.{Option, get_or}
 use Rattle.csp_base.specs.declared.place.Place.{Place}
 use Rattle.csp_text.specs.declared.token.Token.{Token}

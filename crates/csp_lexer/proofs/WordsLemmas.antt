@@ -1,12 +1,9 @@
 -- Reserved words have two letters or more, and what an assertion begins with.
 use Rattle.std.proofs.Common.{◌≡◌, ℕ, zero, suc, ◌<◌, Bool, true, false, ◌&&◌, None, List, [], ◌∷◌, length, take, codes, refl, arith}
-use Rattle.std.proofs.Math.Bool.{and-false}
-use Rattle.std.proofs.lemmas.Bool.Decides.{nat_tests}
+use Rattle.csp_base.proofs.Standard.{and-false, nat_tests}
 use Rattle.std.specs.Prelude.{nat_eq}
-use Rattle.std.specs.List.{starts_with}
-use Rattle.std.specs.Str.{bytes_eq}
-use Rattle.csp_lexer.specs.Front.{begins_assertion}
-use Rattle.csp_lexer.specs.Words.{is_foreign, reserved_word, word_len}
+use Rattle.csp_base.specs.Standard.{starts_with, bytes_eq}
+use Rattle.csp_lexer.specs.Prelude.{begins_assertion, is_foreign, reserved_word, word_len}
 
 pub short_not_reserved : (bytes : List ℕ) → length bytes < 2 → reserved_word bytes ≡ None
 unfolding reserved_word

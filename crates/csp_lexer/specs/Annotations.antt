@@ -1,7 +1,6 @@
 -- Annotations: line comments that begin with `--@` and whose first word is `roles` or `resource`.
 use Rattle.std.specs.Prelude.{ℕ, Bool, ◌||◌, nat_eq, nat_lt, if◌then◌else◌, List, [], ◌∷◌, length, take, drop, codes, Option, Some, None}
-use Rattle.std.specs.List.{filter, list_all, slice_split, starts_with}
-use Rattle.std.specs.Str.{bytes_eq}
+use Rattle.csp_base.specs.Standard.{filter, list_all, slice_split, starts_with, bytes_eq}
 use Rattle.csp_base.specs.declared.place.Place.{Place}
 use Rattle.csp_text.specs.declared.token.Token.{Token}
 use Rattle.csp_text.specs.declared.token.Token.TheVariants as token

@@ -1,14 +1,10 @@
 -- Assertions. The word `assert` takes the rest of its line, up to a line feed, a comment or the end of the text. Where that rest is
 -- blanks and tokens which say that a process is free of deadlock, they are tokens of the script; any other assertion is skipped.
 use Rattle.std.specs.Prelude.{ℕ, zero, suc, ◌+◌, Bool, true, false, ◌&&◌, ◌||◌, nat_eq, if◌then◌else◌, List, [], ◌∷◌, length, take, drop, codes, Option, Some, None, Result, Ok, Err}
-use Rattle.std.specs.List.{starts_with}
-use Rattle.std.specs.Option.{option_map_or}
-use Rattle.std.specs.Str.{bytes_eq}
+use Rattle.csp_base.specs.Standard.{starts_with, option_map_or, bytes_eq}
 use Rattle.csp_base.specs.declared.place.Place.{Place}
-use Rattle.csp_text.specs.declared.token.Symbol.TheVariants.{Colon, OpenParen, CloseParen, OpenBracket, CloseBracket}
-use Rattle.csp_text.specs.declared.token.Word.TheVariants.{Assert}
-use Rattle.csp_text.specs.declared.token.Token.{Token}
-use Rattle.csp_text.specs.declared.token.Token.TheVariants.{Name, Symbol, Word}
+use Rattle.csp_text.specs.Prelude.{Colon, OpenParen, CloseParen, OpenBracket, CloseBracket, Assert, Token, Name, Word}
+use Rattle.csp_text.specs.declared.token.Token.TheVariants.{Symbol}
 use Rattle.csp_lexer.specs.Annotations.{is_space}
 use Rattle.csp_lexer.specs.Cutting.{cut}
 use Rattle.csp_lexer.specs.Pieces.{Piece, nothing, one_at}

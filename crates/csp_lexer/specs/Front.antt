@@ -1,7 +1,6 @@
 -- The piece that stands at the front of a text: a blank, a comment, an annotation, an assertion or a token.
 use Rattle.std.specs.Prelude.{ℕ, Bool, false, ◌||◌, nat_eq, if◌then◌else◌, List, drop, take, codes, Option, Some, slice_index}
-use Rattle.std.specs.List.{starts_with}
-use Rattle.std.specs.Str.{bytes_eq}
+use Rattle.csp_base.specs.Standard.{starts_with, bytes_eq}
 use Rattle.csp_base.specs.declared.place.Place.{Place}
 use Rattle.csp_lexer.specs.Annotations.{is_space, line_comment}
 use Rattle.csp_lexer.specs.Assertions.{assertion}

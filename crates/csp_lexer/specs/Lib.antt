@@ -9,6 +9,7 @@ pub mod Passed
 pub mod Pieces
 pub mod Placed
 pub mod Places
+pub mod Prelude
 pub mod Symbols
 pub mod Tokens
 pub mod Words

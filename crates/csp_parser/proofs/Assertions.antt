@@ -3,9 +3,7 @@ use Rattle.std.proofs.Common.{◌≡◌, Bool, true, false, Some, None, List, ap
 use Rattle.std.specs.Prelude.{ℕ}
 use Rattle.csp_text.specs.declared.token.Token.{Token}
 use Rattle.csp_grammar.specs.Reader.{and_then}
-use Rattle.tree_reading.specs.Asserted.{name_that}
-use Rattle.tree_reading.specs.Nesting.{sure}
-use Rattle.tree_reading.specs.Starts.{named}
+use Rattle.tree_reading.specs.Prelude.{name_that, sure, named}
 
 -- NAMES THAT ARE EXPECTED
 

@@ -1,27 +1,12 @@
 -- A text has no more tokens than bytes: each of its pieces has at least as many bytes as it gives tokens. A token has a byte, an annotation is one token for
 -- a whole line, and an assertion is its word and the tokens of the rest of its line.
 use Rattle.std.proofs.Common.{◌≡◌, ℕ, zero, suc, ◌+◌, ◌-◌, ◌<◌, ◌≤◌, Bool, true, false, List, [], ◌∷◌, ◌++◌, length, drop, take, codes, refl, sym, ap, ◌∙◌, length-append, length-drop, arith}
-use Rattle.std.proofs.lemmas.Bool.{false≢true}
-use Rattle.std.proofs.lemmas.Bool.Decides.{nat_tests}
-use Rattle.std.proofs.lemmas.List.{take-append-drop}
+use Rattle.csp_base.proofs.Standard.{false≢true, nat_tests, take-append-drop}
 use Rattle.std.specs.Prelude.{Option, Some, None, Result, Ok, Err, IfSome, if◌then◌else◌, nat_eq, nat_lt, slice_index}
-use Rattle.std.specs.List.{starts_with}
-use Rattle.std.specs.Str.{bytes_eq}
+use Rattle.csp_base.specs.Standard.{starts_with, bytes_eq}
 use Rattle.csp_base.specs.declared.place.Place.{Place}
-use Rattle.csp_text.specs.declared.token.Symbol.{Symbol}
-use Rattle.csp_text.specs.declared.token.Token.{Token}
-use Rattle.csp_lexer.specs.Annotations.{is_space, line_piece, marked_piece, resource, roles, words_of}
-use Rattle.csp_lexer.specs.Assertions.{assertion, asserted, cut_line, is_deadlock_assertion, line_front, rest_len}
-use Rattle.csp_lexer.specs.Comments.{after_comments, line_len}
-use Rattle.csp_lexer.specs.Cutting.{added, before, cut, then_cut}
-use Rattle.csp_lexer.specs.Front.{begins_assertion, front, is_blank}
-use Rattle.csp_lexer.specs.Lexed.{lexed}
-use Rattle.csp_lexer.specs.Pieces.{Piece, nothing_before, one_at, one_before}
-use Rattle.csp_lexer.specs.Placed.{PlacedTokens, tokens_of}
-use Rattle.csp_lexer.specs.Places.{beginning, behind_all}
-use Rattle.csp_lexer.specs.Symbols.{symbol_at}
-use Rattle.csp_lexer.specs.Tokens.{digits_len, number_token, symbol_with_len, token_at, with_len}
-use Rattle.csp_lexer.specs.Words.{word_len, word_token}
+use Rattle.csp_text.specs.Prelude.{Symbol, Token}
+use Rattle.csp_lexer.specs.Prelude.{is_space, line_piece, marked_piece, resource, roles, words_of, assertion, asserted, cut_line, is_deadlock_assertion, line_front, rest_len, after_comments, line_len, added, before, cut, then_cut, begins_assertion, front, is_blank, lexed, Piece, nothing_before, one_at, one_before, PlacedTokens, tokens_of, beginning, behind_all, symbol_at, digits_len, number_token, symbol_with_len, token_at, with_len, word_len, word_token}
 use Rattle.csp_lexer.proofs.SymbolsLemmas.{symbol_has_byte}
 
 -- where there is a piece, its tokens and the rest behind it are no more than these

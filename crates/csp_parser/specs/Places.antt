@@ -1,8 +1,7 @@
 -- The places that a fault may tell.
 use Rattle.std.specs.Prelude.{◌≡◌, ◌-◌, ℕ, List, length, Result, Ok, Err}
 use Rattle.csp_base.specs.declared.place.Place.{Place}
-use Rattle.csp_lexer.specs.Lexed.{lexed}
-use Rattle.csp_lexer.specs.Placed.{PlacedTokens, place_at, tokens_of}
+use Rattle.csp_lexer.specs.Prelude.{lexed, PlacedTokens, place_at, tokens_of}
 
 -- the place of the token from which on so many are left; that of the text's end where none is
 abbrev pub place_before : PlacedTokens → ℕ → Place

@@ -1,7 +1,6 @@
 -- What a text spells: it is cut into tokens, and they are a text of the script.
 use Rattle.std.specs.Prelude.{◌≡◌, ℕ, List, Ok}
-use Rattle.csp_lexer.specs.Lexed.{lexed}
-use Rattle.csp_lexer.specs.Placed.{PlacedTokens, tokens_of}
+use Rattle.csp_lexer.specs.Prelude.{lexed, PlacedTokens, tokens_of}
 use Rattle.csp_text.specs.declared.script.Script.{Script}
 use Rattle.csp_grammar.specs.Declarations.{ScriptText}
 

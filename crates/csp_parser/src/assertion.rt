@@ -3,9 +3,7 @@
 ghost use Rattle.std.specs.Prelude.{◌≡◌, ◌<◌, ◌≤◌, ◌+◌, ◌*◌, length, IfOk};
 ghost use Rattle.std.specs.Str.{bytes_eq};
 ghost use Rattle.tree_parser.specs.Reads.{Reads, part_read};
-ghost use Rattle.tree_reading.specs.Asserted.{deadlock_free, ending, is_model, model, name_that};
-ghost use Rattle.tree_reading.specs.Gives.{Gives};
-ghost use Rattle.tree_reading.specs.Limited.{read_asserted, read_assertion};
+ghost use Rattle.tree_reading.specs.Prelude.{deadlock_free, ending, is_model, model, name_that, Gives, read_asserted, read_assertion};
 
 use crate::types::WHOLE;
 use csp_base::Name;

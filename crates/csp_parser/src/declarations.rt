@@ -5,8 +5,7 @@ ghost use Rattle.csp_text.specs.declared.script.Decl.{Decl as DeclValue};
 ghost use Rattle.csp_text.specs.declared.script.Decl.TheVariants as decl;
 ghost use Rattle.csp_text.specs.declared.token.Token.{Token as TokenValue};
 ghost use Rattle.tree_parser.specs.Reads.{Reads, part_read};
-ghost use Rattle.tree_reading.specs.Gives.{Gives};
-ghost use Rattle.tree_reading.specs.Limited.{read_declaration, read_word_declaration};
+ghost use Rattle.tree_reading.specs.Prelude.{Gives, read_declaration, read_word_declaration};
 
 use crate::assertion::assertion;
 use crate::declared::{channel, datatype, definition, nametype};

@@ -2,11 +2,8 @@
 use denote.Enum.Compared.{Each, by}
 use Rattle.std.specs.Prelude.{◌≡◌, ℕ, Bool, true, false, ◌&&◌, nat_eq, List, map, refl}
 use Rattle.std.proofs.Common.{sym, ◌∙◌, subst}
-use Rattle.std.proofs.lemmas.Bool.{eqb-true, false≢true}
-use Rattle.std.proofs.lemmas.Bool.Decides.{Decides-int_eq}
-use Rattle.std.specs.Cmp.{first_so, second_so}
-use Rattle.std.specs.Ordering.{int_eq}
-use Rattle.std.specs.Cmp.Lexicographic.{pointwise}
+use Rattle.csp_base.proofs.Standard.{eqb-true, false≢true, Decides-int_eq}
+use Rattle.csp_base.specs.Standard.{first_so, second_so, int_eq, pointwise}
 use Rattle.containers.proofs.SameLemmas.{IsSame, Known, same_items, same_rolled}
 use Rattle.csp_atoms.specs.Exact.{exact_value}
 use Rattle.csp_atoms.specs.contracts.value.ValuePartialEq.TheImpl as values
@@ -20,9 +17,8 @@ use Rattle.csp_program.specs.contracts.expressions.GenPartialEq.TheImpl as gens
 use Rattle.csp_program.specs.contracts.expressions.GenPartialEq.TheImpl.Laws as gen_laws
 use Rattle.csp_program.specs.contracts.expressions.EventPartPartialEq.TheImpl as parts
 use Rattle.csp_program.specs.contracts.expressions.EventPartPartialEq.TheImpl.Laws as part_laws
-use Rattle.csp_base.specs.declared.operators.BinOp.{BinOp}
+use Rattle.csp_base.specs.Prelude.{BinOp, SetOp}
 use Rattle.csp_base.specs.declared.operators.BinOp.TheVariants as binop
-use Rattle.csp_base.specs.declared.operators.SetOp.{SetOp}
 use Rattle.csp_base.specs.declared.operators.SetOp.TheVariants as setop
 use Rattle.csp_program.specs.declared.expressions.Expr.{Expr}
 use Rattle.csp_program.specs.declared.expressions.Expr.TheBlock.{split-Expr, the_family}

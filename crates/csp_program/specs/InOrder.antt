@@ -3,17 +3,14 @@
 -- definition of data reaches itself; and the event table is that of the channels, each of which keeps the number of its first event, or empty while
 -- no channel has its field sets.
 use Rattle.std.specs.Prelude.{◌≡◌, ◌⊎◌, ℕ, ◌-◌, ◌<◌, ◌^◌, Bool, true, false, ◌&&◌, nat_eq, nat_lt, nat_le, is_none, is_some, IsTrue, Option, Some, None, List, [], ◌∷◌, map, length, slice_get}
-use Rattle.csp_atoms.specs.Sets.{is_set}
+use Rattle.csp_atoms.specs.Prelude.{is_set, Atom, Value, One, Many}
 use Rattle.csp_program.specs.Bound.{def_bound, exprs_bound, net_bound}
 use Rattle.csp_program.specs.EventNumber.{KeepFirsts}
 use Rattle.csp_program.specs.EventTable.{event_table}
 use Rattle.csp_program.specs.Free.{Names, IsClosed, expr_free, proc_free, net_free}
 use Rattle.csp_program.specs.Lists.{all_true}
 use Rattle.csp_program.specs.Uses.{Reaches}
-use Rattle.csp_atoms.specs.declared.atom.Atom.{Atom}
 use Rattle.csp_atoms.specs.declared.atom.Atom.TheVariants as atom
-use Rattle.csp_atoms.specs.declared.value.Value.{Value}
-use Rattle.csp_atoms.specs.declared.value.Value.TheVariants.{One, Many}
 use Rattle.csp_program.specs.declared.expressions.Expr.{Expr, fold-Expr}
 use Rattle.csp_program.specs.declared.expressions.Expr.TheFolds.{fold-Gen, fold-EventPart}
 use Rattle.csp_program.specs.declared.expressions.Expr.TheOpen.{Expr-F, Gen-F, EventPart-F}
@@ -34,8 +31,7 @@ use Rattle.csp_program.specs.declared.programs.Content.{Content}
 use Rattle.csp_program.specs.declared.programs.Def.{Def}
 use Rattle.csp_program.specs.declared.programs.ResourceNote.{ResourceNote}
 use Rattle.csp_program.specs.declared.programs.RolesNote.{RolesNote}
-use Rattle.csp_base.specs.Lists.{EachOnce}
-use Rattle.csp_base.specs.Members.{has}
+use Rattle.csp_base.specs.Prelude.{EachOnce, has}
 
 -- The classes of definitions.
 abbrev pub is_datum : Body → Bool

@@ -11,6 +11,7 @@ pub mod InOrder
 pub mod Lists
 pub mod Nesting
 pub mod Outcome
+pub mod Prelude
 pub mod Size
 pub mod Substitution
 pub mod Uses

@@ -1,8 +1,7 @@
 //! The field sets of a script's channels, and its event table.
 
 ghost use Rattle.std.specs.Prelude.{◌≡◌, ◌≤◌, IsTrue, List, [], ◌∷◌, ◌++◌, length, map, IfOk, OnOk};
-ghost use Rattle.csp_program.specs.InOrder.{lacks_sets};
-ghost use Rattle.csp_program.specs.Lists.{all_true};
+ghost use Rattle.csp_program.specs.Prelude.{lacks_sets, all_true};
 ghost use Rattle.csp_resolve.specs.Answers.{Answers, Grows, sets_of, types_read};
 ghost use Rattle.dl_limits.specs.declared.TheConstants.{MOST_BYTES};
 ghost use Rattle.event_tables.specs.declared.sets.SharedSets.{SharedSets};

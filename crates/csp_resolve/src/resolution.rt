@@ -2,16 +2,13 @@
 
 ghost use Rattle.std.specs.Prelude.{◌≡◌, ◌≤◌, IsTrue, Some, length, map, IfOk};
 ghost use Rattle.std.specs.Option.{option_copied};
-ghost use Rattle.csp_program.specs.declared.programs.Content.{Content};
-ghost use Rattle.csp_program.specs.InOrder.{IsInOrder, lacks_sets};
-ghost use Rattle.csp_program.specs.Lists.{all_true};
+ghost use Rattle.csp_program.specs.Prelude.{Content, IsInOrder, lacks_sets, all_true};
 ghost use Rattle.csp_resolve.specs.Answers.{Answers, types_read};
 ghost use Rattle.dl_limits.specs.declared.TheConstants.{MOST_BYTES};
 ghost use Rattle.name_tables.specs.Firsts.{SameFirsts};
 ghost use Rattle.script_names.specs.Contents as contents;
-ghost use Rattle.script_names.specs.Names.{declared, first_of};
+ghost use Rattle.script_names.specs.Prelude.{declared, first_of, and_next};
 ghost use Rattle.script_names.specs.Resolved as meant;
-ghost use Rattle.script_names.specs.Resolved.{and_next};
 ghost use Rattle.script_sizes.specs.Size.{AreSmall, size};
 
 use crate::events::{channel_sets, fill_table};

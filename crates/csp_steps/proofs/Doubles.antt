@@ -1,16 +1,9 @@
 -- Steps that are added one after another to those that are numbered.
 use Rattle.std.proofs.Common.{◌≡◌, ℕ, ◌+◌, ◌<◌, ◌≤◌, Bool, true, false, cond, Some, List, [], ◌∷◌, ◌++◌, take, length, get_or, slice_get, refl, ap, sym, ◌∙◌, subst, append_assoc, append-nil}
-use Rattle.std.proofs.lemmas.Bool.{false≢true}
-use Rattle.std.proofs.lemmas.List.{take_all}
-use Rattle.std.proofs.lemmas.Map.Keys.{any_passes_from_place}
+use Rattle.csp_base.proofs.Standard.{false≢true, take_all, any_passes_from_place}
 use Rattle.std.specs.Set.{is_member}
 use Rattle.containers.specs.Members.{with_new}
-use Rattle.csp_steps.specs.Computed.{AreAdded}
-use Rattle.csp_steps.specs.ExactStep.{eq_step}
-use Rattle.csp_steps.specs.Order.{AreFirsts, AreFirstsAfter}
-use Rattle.csp_steps.specs.Order.AreFirstsAfter.{none, again, first}
-use Rattle.csp_steps.specs.contracts.step.StepToEq.TheImpl.Laws.{laws-law}
-use Rattle.csp_steps.specs.declared.step.StepTo.{StepTo}
+use Rattle.csp_steps.specs.Prelude.{AreAdded, eq_step, AreFirsts, AreFirstsAfter, none, again, first, laws-law, StepTo}
 use Rattle.csp_steps.proofs.Firsts.{firsts_append}
 use Rattle.csp_base.proofs.Lists.{take_read}
 use Rattle.csp_base.specs.Lists.{StandsIn}

@@ -3,8 +3,7 @@ use Rattle.std.proofs.Common.{◌≡◌, ◌⊎◌, inl, inr, zero, suc, ◌<◌
 use Rattle.csp_base.specs.Lists.{EachOnce, StandsIn}
 use Rattle.csp_program.specs.Lists.{joined}
 use Rattle.process_steps.proofs.Members.{at_place, from_map, in_either, in_left, in_map, in_right, placed}
-use Rattle.csp_steps.specs.Order.{AreFirsts, AreFirstsAfter}
-use Rattle.csp_steps.specs.Order.AreFirstsAfter.{none, again, first}
+use Rattle.csp_steps.specs.Prelude.{AreFirsts, AreFirstsAfter, none, again, first}
 
 -- ---- what stands in a list
 

@@ -1,19 +1,14 @@
 -- What stays where the list of processes of a pool grows at its end.
 use Rattle.std.proofs.Common.{◌≡◌, ℕ, zero, suc, ◌<◌, true, nat_lt, Some, Ok, List, [], ◌∷◌, ◌++◌, map, length, get_or, slice_get, refl, ap, sym, ◌∙◌, subst, arith}
-use Rattle.std.proofs.lemmas.Bool.{ltb-true, lt-ltb, and_from}
-use Rattle.std.proofs.lemmas.Option.{slice_get-get_or, slice_get_within, get_or_from_slice_get}
+use Rattle.csp_base.proofs.Standard.{ltb-true, lt-ltb, and_from, slice_get-get_or, slice_get_within, get_or_from_slice_get}
 use Rattle.std.specs.Cmp.{first_so, second_so}
 use Rattle.csp_program.specs.declared.processes.Proc.{Proc}
 use Rattle.csp_program.specs.declared.processes.Proc.TheVariants as proc
 use Rattle.process_steps.specs.StepList.{Move}
 use Rattle.term_pool.proofs.PutLemmas.{at}
-use Rattle.term_pool.specs.Pooled.{IsFront}
-use Rattle.term_pool.specs.Put.{StandAt}
-use Rattle.term_pool.specs.Trees.{all_below, tree_at}
+use Rattle.term_pool.specs.Prelude.{IsFront, StandAt, all_below, tree_at}
 use Rattle.pool_parts.specs.declared.place.ProcId.{ProcId}
-use Rattle.csp_steps.specs.Computed.{all_within, AreAt, AreMoves, IsMove, IsPlaceOf}
-use Rattle.csp_steps.specs.Listed.{seen}
-use Rattle.csp_steps.specs.declared.step.StepTo.{StepTo}
+use Rattle.csp_steps.specs.Prelude.{all_within, AreAt, AreMoves, IsMove, IsPlaceOf, seen, StepTo}
 
 pub front_same : (trees : List Proc) → IsFront trees trees
 front_same trees k t h = h

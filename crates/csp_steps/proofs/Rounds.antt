@@ -1,25 +1,17 @@
 -- Loops that make of the steps of a process those of an operator round it: the next step.
 use Rattle.std.proofs.Common.{◌≡◌, ℕ, ◌+◌, ◌<◌, true, Some, List, [], ◌∷◌, ◌++◌, map, take, length, get_or, slice_get, refl, sym, ◌∙◌, subst}
-use Rattle.std.proofs.lemmas.Bool.{lt-ltb, and_from}
-use Rattle.std.proofs.lemmas.Option.{slice_get_within}
+use Rattle.csp_base.proofs.Standard.{lt-ltb, and_from, slice_get_within, map-append}
 use Rattle.std.specs.Cmp.{first_so, second_so}
 use Rattle.std.specs.Prelude.{nat_lt}
 use Rattle.csp_program.specs.declared.processes.Proc.{Proc}
-use Rattle.process_steps.specs.StepList.{Move, in_choice}
-use Rattle.process_steps.specs.declared.label.Label.{Label}
+use Rattle.process_steps.specs.Prelude.{Move, in_choice, Label}
 use Rattle.term_pool.proofs.PutLemmas.{at}
-use Rattle.term_pool.specs.Pooled.{IsFront}
-use Rattle.term_pool.specs.Trees.{all_below, tree_at}
+use Rattle.term_pool.specs.Prelude.{IsFront, all_below, tree_at}
 use Rattle.pool_parts.specs.declared.place.ProcId.{ProcId}
-use Rattle.csp_steps.specs.Computed.{all_within, AreMoves, IsMove}
-use Rattle.csp_steps.specs.Effect.{all_moves, effect_as, labels_by, moves_of, IsWithin}
-use Rattle.csp_steps.specs.Listed.{seen}
-use Rattle.csp_steps.specs.declared.operator.Operator.{Operator}
-use Rattle.csp_steps.specs.declared.step.StepTo.{StepTo}
+use Rattle.csp_steps.specs.Prelude.{all_within, AreMoves, IsMove, all_moves, effect_as, labels_by, moves_of, IsWithin, seen, Operator, StepTo}
 use Rattle.csp_steps.proofs.Computing.{next_move, next_moves}
 use Rattle.csp_steps.proofs.Effects.{last_stays}
 use Rattle.csp_steps.proofs.Places.{all_within_stay, moves_stay, one_move, seen_stay, still_within, tree_stays, trees_stay, within_at}
-use Rattle.std.proofs.lemmas.List.{map-append}
 
 module _ (old mid new : List Proc) (f : IsFront old mid) (g : IsFront mid new) (below : List StepTo) (w : all_within (length old) below ≡ true)
     (i : ℕ) (s : StepTo) (lt : i < length below) (is : s ≡ get_or below i s) where

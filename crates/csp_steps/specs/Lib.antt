@@ -4,4 +4,5 @@ pub mod Evaluated
 pub mod ExactStep
 pub mod Listed
 pub mod Order
+pub mod Prelude
 pub mod Walked

@@ -1,14 +1,9 @@
 -- The steps of a raw table are those that it lists.
 use Rattle.std.proofs.Common.{◌≡◌, ℕ, suc, ◌<◌, Bool, true, ◌&&◌, nat_eq, IsTrue, Some, List, [], ◌∷◌, length, get_or, refl, sym, ap, ◌∙◌, inl, inr}
 use Rattle.std.specs.Prelude.{slice_get}
-use Rattle.std.specs.Cmp.{first_so, second_so}
-use Rattle.std.specs.List.{list_any}
-use Rattle.std.proofs.lemmas.Bool.{eq-eqb, eqb-true, or_cases, false≢true}
-use Rattle.std.proofs.lemmas.List.Folds.{list_any_at}
-use Rattle.std.proofs.lemmas.Map.Keys.{any_passes_from_place}
-use Rattle.csp_tables.specs.Label.Label.{silent, visible}
-use Rattle.csp_tables.specs.RawTable.{RawTable, RawStep}
-use Rattle.csp_tables.specs.RawForm.{has_silent, has_step}
+use Rattle.csp_base.specs.Standard.{first_so, second_so, list_any}
+use Rattle.csp_base.proofs.Standard.{eq-eqb, eqb-true, or_cases, false≢true, list_any_at, any_passes_from_place}
+use Rattle.csp_tables.specs.Prelude.{silent, visible, RawTable, RawStep, has_silent, has_step}
 
 -- a list in which some element passes has such an element in some place
 pub record Passes {X : Type 0} (test : X → Bool) (xs : List X) : Type 0 where

@@ -2,9 +2,7 @@
 use Rattle.std.proofs.Common.{◌≡◌, ℕ, zero, suc, ◌+◌, List, [], ◌∷◌, ◌++◌, true, false, refl}
 use Rattle.std.proofs.lemmas.Bool.{and_from, and_parts, cond-true, cond-false}
 use Rattle.csp_base.specs.Members.{has}
-use Rattle.csp_tables.specs.Form.{NodesHaveForm, StepsHaveForm}
-use Rattle.csp_tables.specs.Part.{sharers}
-use Rattle.csp_tables.specs.Table.{Node, node_at, node_after, is_possible, is_run, end_of}
+use Rattle.csp_tables.specs.Prelude.{NodesHaveForm, StepsHaveForm, sharers, Node, node_at, node_after, is_possible, is_run, end_of}
 
 pub run_push : (table : List Node) (n : ℕ) (s : List ℕ) (e : ℕ) → is_run table n s ≡ true → is_possible (node_at table (end_of table n s)).next e ≡ true → is_run table n (s ++ e ∷ []) ≡ true
 run_push table n [] e h k = and_from _ _ k refl

@@ -1,8 +1,6 @@
 -- Silent steps in a row are a path whose labels are all silent.
 use Rattle.std.proofs.Common.{ℕ, zero, suc, replicate}
-use Rattle.csp_tables.specs.Label.{Label}
-use Rattle.csp_tables.specs.Label.Label.{silent}
-use Rattle.csp_tables.specs.Path.{Path, Silently}
+use Rattle.csp_tables.specs.Prelude.{Label, silent, Path, Silently}
 
 pub silent_path : {S : Type 0} (Step : S → Label → S → Type 0) (n : ℕ) (s t : S) → Silently Step n s t → Path Step s (replicate n silent) t
 silent_path Step zero s t run = run

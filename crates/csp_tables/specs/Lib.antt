@@ -24,3 +24,4 @@ pub mod Stands
 pub mod Table
 pub mod Trace
 pub mod WellNested
+pub mod Prelude

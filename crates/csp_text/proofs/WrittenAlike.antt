@@ -1,15 +1,12 @@
 -- Words and symbols that are written alike are the same: each stands in the list of all at the first place where one is written so.
 use Rattle.std.proofs.Common.{◌≡◌, ℕ, true, refl, sym, ap, ◌∙◌}
-use Rattle.std.proofs.lemmas.Option.{same_Some}
-use Rattle.std.proofs.lemmas.Slice.Eq.{bytes_eq-Decides}
+use Rattle.csp_base.proofs.Standard.{same_Some, bytes_eq-Decides}
 use Rattle.std.specs.Prelude.{Some}
-use Rattle.std.specs.List.{position_or_len, slice_get}
-use Rattle.std.specs.Str.{bytes_eq}
-use Rattle.csp_text.specs.declared.token.Symbol.{Symbol}
-use Rattle.csp_text.specs.declared.token.Symbol.TheVariants as symbol
+use Rattle.csp_base.specs.Standard.{position_or_len, slice_get, bytes_eq}
+use Rattle.csp_text.specs.Prelude.{Symbol, same_symbol, same_word, symbol_text, symbols, word_text, words}
 use Rattle.csp_text.specs.declared.token.Word.{Word}
+use Rattle.csp_text.specs.declared.token.Symbol.TheVariants as symbol
 use Rattle.csp_text.specs.declared.token.Word.TheVariants as word
-use Rattle.csp_text.specs.Written.{same_symbol, same_word, symbol_text, symbols, word_text, words}
 
 abbrev pub symbol_place : Symbol → ℕ
 symbol_place s = position_or_len (λ other. bytes_eq (symbol_text other) (symbol_text s)) symbols

@@ -1,4 +1,5 @@
 pub mod Depth
 pub mod Fault
 pub mod Parts
+pub mod Prelude
 pub mod Written

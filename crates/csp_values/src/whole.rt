@@ -1,8 +1,7 @@
 //! Expressions of a program, evaluated as a whole: no more uses of definitions are entered, one inside another, than there are definitions.
 
 ghost use Rattle.std.specs.Prelude.{◌≡◌, [], length};
-ghost use Rattle.csp_program.specs.Outcome.{and_then};
-ghost use Rattle.csp_program.specs.Value.{as_set, value_of, value_within};
+ghost use Rattle.csp_program.specs.Prelude.{and_then, as_set, value_of, value_within};
 ghost use Rattle.value_laws.specs.Numbers.{ChannelsFit};
 ghost use Rattle.value_operators.specs.Env.{env_in, parameters, with_bound};
 ghost use Rattle.value_operators.specs.Gives.{Gives};

@@ -1,30 +1,16 @@
 -- The places of a part's lap, as its exploration shows them.
 use Rattle.std.proofs.Common.{◌≡◌, ℕ, zero, suc, ◌+◌, ◌-◌, ◌%◌, ◌^◌, ◌<◌, ◌≤◌, inl, inr, List, [], ◌∷◌, ◌++◌, length, cond, Option, Some, None, IsTrue, nat_lt, refl, sym, ap, subst, ◌∙◌, arith, lt-ltb, le-ltb}
 use Rattle.std.specs.Prelude.{slice_get}
-use Rattle.std.proofs.lemmas.Bool.{cases_Bool, cases_lt, cond-true, cond-false}
-use Rattle.std.proofs.lemmas.List.{length-append, get_or_append_left}
-use Rattle.std.proofs.Math.Seq.{get_or-append_seam}
-use Rattle.std.proofs.lemmas.Nat.{mod_below}
-use Rattle.std.proofs.Math.Nat.{mod-eq_of_lt, add-mod_left}
-use Rattle.std.proofs.lemmas.Option.{none-some, same_Some}
+use Rattle.csp_base.proofs.Standard.{cases_Bool, cases_lt, cond-true, cond-false, length-append, get_or_append_left, get_or-append_seam, mod_below, mod-eq_of_lt, add-mod_left, none-some, same_Some}
 use Rattle.csp_base.specs.Members.{has}
-use Rattle.csp_tables.specs.Table.{node_at, is_possible}
-use Rattle.csp_tables.specs.Part.{part_at, alphabets_of, TripleDisjoint}
-use Rattle.csp_tables.specs.Shape.{Shape, LinksAreOrdered, is_end, IsWellFormed}
+use Rattle.csp_tables.specs.Prelude.{node_at, is_possible, part_at, alphabets_of, TripleDisjoint, Shape, LinksAreOrdered, is_end, IsWellFormed}
 use Rattle.net_sound.proofs.Within.{part_form}
-use Rattle.design_rules.specs.Counts.{count_in, count_below}
-use Rattle.design_rules.specs.CyclicFaults.{BreaksOrder, Clash}
-use Rattle.design_rules.specs.Cyclic.{links_of, ReachesLink, place_after, KeepsPlaces}
+use Rattle.design_rules.specs.Prelude.{count_in, count_below, BreaksOrder, Clash, links_of, ReachesLink, place_after, KeepsPlaces, BreaksCyclic, RuleFault, NoMemory, NoOrder}
 use Rattle.design_rules.proofs.Counts.{count_more, count_same, count_at_most}
 use Rattle.design_rules.proofs.Runs.{possible_within, end_within}
 use Rattle.cyclic_conditions.specs.Told.{IsBrokenOrder}
-use Rattle.design_rules.specs.Rules.{BreaksCyclic}
-use Rattle.design_rules.specs.declared.rule_fault.RuleFault.{RuleFault}
-use Rattle.design_rules.specs.declared.rule_fault.RuleFault.TheVariants.{NoMemory, NoOrder}
 use Rattle.design_rules.proofs.Places.{Keeping, IsAt, earlier, some_links, first_lap}
-use Rattle.observed_runs.specs.Observed.{observed, LeadsTo, pair_at}
-use Rattle.observed_runs.specs.Exploration.{IsExploration}
-use Rattle.observed_runs.specs.Observers.{lap_step}
+use Rattle.observed_runs.specs.Prelude.{observed, LeadsTo, pair_at, IsExploration, lap_step}
 use Rattle.shape_links.specs.Links.{IsOwner, ends_below, ends_of}
 use Rattle.cyclic_conditions.specs.Facts.{IsFact, HasFirst, AreFirsts, AreNoted, Disagree, AreClashing, links_in_order}
 use Rattle.cyclic_conditions.specs.Orders.{IsOrder, order_at}

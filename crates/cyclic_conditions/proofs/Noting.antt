@@ -1,16 +1,10 @@
 -- Facts that are kept by the places of a lap.
 use Rattle.std.proofs.Common.{◌≡◌, ℕ, ◌<◌, inl, inr, ◌⊎◌, List, length, set, Option, Some, None, Result, Err, IsTrue, true, sym, ap, subst, ◌∙◌}
-use Rattle.std.proofs.lemmas.Bool.{cases_eq, cases_lt}
-use Rattle.std.proofs.lemmas.List.{get_or-set_same, get_or-set_other, get_or_past}
-use Rattle.std.proofs.lemmas.Option.{none-some, same_Some}
-use Rattle.csp_tables.specs.Table.{node_at, is_possible}
-use Rattle.csp_tables.specs.Form.{HasForm}
-use Rattle.csp_tables.specs.Part.{part_at}
+use Rattle.csp_base.proofs.Standard.{cases_eq, cases_lt, get_or-set_same, get_or-set_other, get_or_past, none-some, same_Some}
+use Rattle.csp_tables.specs.Prelude.{node_at, is_possible, HasForm, part_at, Shape, IsWellFormed}
 use Rattle.csp_base.specs.Members.{has}
-use Rattle.csp_tables.specs.Shape.{Shape, IsWellFormed}
 use Rattle.design_rules.proofs.Shapes.{link_shared}
-use Rattle.observed_runs.specs.Enough.{AreEnough}
-use Rattle.observed_runs.specs.Observed.{pair_at}
+use Rattle.observed_runs.specs.Prelude.{AreEnough, pair_at}
 use Rattle.observed_runs.proofs.Leading.{listed_step, step_listed}
 use Rattle.shape_links.specs.Links.{IsOwner}
 use Rattle.cyclic_conditions.specs.Facts.{IsFact, first_at, HasFirst, AreFirsts, IsNoted, Disagree, AreClashing, KeepsFirsts}

@@ -1,20 +1,15 @@
 -- Acceptances that fall short of a link.
 use Rattle.std.proofs.Common.{◌≡◌, ℕ, ◌<◌, inl, inr, List, [], ◌∷◌, length, get_or, set, true, false, Option, Some, None, IsTrue, nat_eq, nat_le, refl, sym, ap, subst, ◌∙◌}
 use Rattle.std.specs.List.{find}
-use Rattle.std.proofs.lemmas.Bool.{cases_Bool, cases_eq, or_cases, eqb-true, both_ways, false≢true, or_right}
-use Rattle.std.proofs.lemmas.List.{get_or-set_same, get_or-set_other, get_or_read}
-use Rattle.csp_base.specs.Members.{has}
-use Rattle.csp_base.specs.Events.{is_subset_of}
-use Rattle.csp_tables.specs.Table.{node_at, IsRun, end_of}
-use Rattle.csp_tables.specs.Part.{Part, part_at, alphabets_of, TripleDisjoint}
-use Rattle.csp_tables.specs.Shape.{Shape, is_end, link_at, acceptance_at, IsWellFormed}
+use Rattle.csp_base.proofs.Standard.{cases_Bool, cases_eq, or_cases, eqb-true, both_ways, false≢true, or_right, get_or-set_same, get_or-set_other, get_or_read, same_Some}
+use Rattle.csp_base.specs.Prelude.{has, is_subset_of}
+use Rattle.csp_tables.specs.Prelude.{node_at, IsRun, end_of, Part, part_at, alphabets_of, TripleDisjoint, Shape, is_end, link_at, acceptance_at, IsWellFormed}
 use Rattle.net_sound.proofs.Within.{part_form}
 use Rattle.design_rules.specs.Cyclic.{FallsShort, IsWholeEnd}
 use Rattle.design_rules.proofs.Runs.{possible_within, end_within}
 use Rattle.shape_links.specs.Links.{IsOwner, IsOnOne}
 use Rattle.cyclic_conditions.specs.Shorts.{IsShort, IsShortAt, short_at, IsSomeShort, IsMarked, KeepsShorts}
 use Rattle.shape_links.proofs.Links.{owner_end}
-use Rattle.std.proofs.lemmas.Option.{same_Some}
 use Rattle.csp_base.proofs.Listed.{find_has, has_first}
 use Rattle.csp_base.proofs.Booleans.{and_second_false}
 use Rattle.csp_base.proofs.Rising.{member_of_superset, is_subset_of_from_members}

@@ -1,9 +1,7 @@
 -- What an exploration of a part with the places of its lap shows: at a place some link's event is possible. (No public
 -- contract cites this.)
 use Rattle.std.specs.Prelude.{◌≡◌, ◌<◌, ◌⊎◌, ℕ, List, [], ◌∷◌, Option, Some, None, Bool, false, nat_eq, IsTrue, length, get_or}
-use Rattle.csp_tables.specs.Table.{node_at, is_possible}
-use Rattle.csp_tables.specs.Part.{part_at}
-use Rattle.csp_tables.specs.Shape.{Shape}
+use Rattle.csp_tables.specs.Prelude.{node_at, is_possible, part_at, Shape}
 use Rattle.observed_runs.specs.Observed.{pair_at}
 use Rattle.shape_links.specs.Links.{IsOwner}
 use Rattle.cyclic_conditions.specs.declared.facts.Fact.{Fact}

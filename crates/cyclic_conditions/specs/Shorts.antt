@@ -1,10 +1,7 @@
 -- Ends of links that fall short. (No rule's decider cites this.)
 use Rattle.std.specs.Prelude.{◌≡◌, ◌<◌, ℕ, List, Option, Some, None, false, IsTrue, length, get_or}
 use Rattle.csp_base.specs.Members.{has}
-use Rattle.csp_tables.specs.Table.{node_at}
-use Rattle.csp_tables.specs.Part.{part_at, Meet}
-use Rattle.csp_tables.specs.Trace.{IsWithin}
-use Rattle.csp_tables.specs.Shape.{Shape, link_at, acceptance_at}
+use Rattle.csp_tables.specs.Prelude.{node_at, part_at, Meet, IsWithin, Shape, link_at, acceptance_at}
 
 -- a set in the vocabulary has an event of the link and lacks another
 pub record IsShort (shape : Shape) (l : ℕ) (M : List ℕ) : Type 0 where

@@ -1,8 +1,7 @@
 //! Which link a component comes to at each place of its lap.
 
 ghost use Rattle.std.specs.Prelude.{◌≡◌, ◌<◌, ◌⊎◌, ℕ, Some, None, IsTrue, IfErr, IfOk, IfSome, OnOk, length};
-ghost use Rattle.csp_tables.specs.Part.{part_at};
-ghost use Rattle.csp_tables.specs.Table.{is_possible, node_at};
+ghost use Rattle.csp_tables.specs.Prelude.{part_at, is_possible, node_at};
 ghost use Rattle.observed_runs.specs.Observed.{pair_at};
 ghost use Rattle.cyclic_conditions.specs.Facts.{Disagree, AreClashing, AreFirsts, AreNoted, HasFirst, IsNoted, KeepsFirsts, first_at, is_of_link, links_in_order};
 ghost use Rattle.shape_links.specs.Links.{IsOwner};

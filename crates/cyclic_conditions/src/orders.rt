@@ -2,13 +2,11 @@
 
 ghost use Rattle.std.specs.Prelude.{◌≡◌, ◌<◌, ◌≤◌, ◌-◌, ◌++◌, ◌∷◌, [], ℕ, List, IfErr, IfOk, OnOk, length};
 ghost use Rattle.csp_tables.specs.Part.{part_at};
-ghost use Rattle.design_rules.specs.Cyclic.{AllKeepPlaces, KeepsPlaces, links_of};
-ghost use Rattle.observed_runs.specs.Exploration.{AreFound, IsExploration};
-ghost use Rattle.observed_runs.specs.Observers.{lap_step};
+ghost use Rattle.design_rules.specs.Prelude.{AllKeepPlaces, KeepsPlaces, links_of, BreaksCyclic};
+ghost use Rattle.observed_runs.specs.Prelude.{AreFound, IsExploration, lap_step};
 ghost use Rattle.cyclic_conditions.specs.Facts.{AreClashing};
 ghost use Rattle.cyclic_conditions.specs.Orders.{AreOrders, IsOrder};
 ghost use Rattle.cyclic_conditions.specs.Told.{IsBrokenOrder};
-ghost use Rattle.design_rules.specs.Rules.{BreaksCyclic};
 
 use crate::facts::{Fact, FactFault, facts, in_order};
 use containers::Items;

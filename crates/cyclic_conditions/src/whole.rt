@@ -1,8 +1,7 @@
 //! Whether each link has an end that accepts all of its events wherever it accepts some.
 
 ghost use Rattle.std.specs.Prelude.{◌≡◌, ◌<◌, ℕ, Some, None, IfErr, IfOk, OnOk, IsTrue, length, replicate};
-ghost use Rattle.csp_tables.specs.Part.{part_at};
-ghost use Rattle.csp_tables.specs.Shape.{is_end, link_at};
+ghost use Rattle.csp_tables.specs.Prelude.{part_at, is_end, link_at};
 ghost use Rattle.design_rules.specs.Cyclic.{AllKeepPlaces, CanBeNumbered, HasWholeEnd, IsWholeEnd};
 ghost use Rattle.cyclic_conditions.specs.Shorts.{AreShorts, IsMarked, IsShort, IsShortAt, KeepsShorts, short_at};
 ghost use Rattle.shape_links.specs.Links.{IsOnOne};

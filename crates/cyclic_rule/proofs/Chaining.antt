@@ -1,17 +1,12 @@
 -- Numbers that rise from each link to the next one of a part rise along all orders.
 use Rattle.std.proofs.Common.{◌≡◌, ℕ, zero, suc, ◌+◌, ◌-◌, ◌%◌, ◌<◌, ◌≤◌, inl, inr, ◌⊎◌, List, [], length, get_or, true, false, Some, sym, ap, subst, ◌∙◌, arith}
 use Rattle.std.specs.Prelude.{slice_get}
-use Rattle.std.proofs.lemmas.Bool.{cases_Bool, cases_eq, both_ways}
-use Rattle.std.proofs.lemmas.List.{get_or_read}
-use Rattle.std.proofs.lemmas.Option.{slice_get_within, get_or_from_slice_get, same_Some}
-use Rattle.std.proofs.lemmas.Nat.{mod_below}
-use Rattle.std.proofs.Math.Nat.{mod-le}
+use Rattle.csp_base.proofs.Standard.{cases_Bool, cases_eq, both_ways, get_or_read, slice_get_within, get_or_from_slice_get, same_Some, mod_below, mod-le}
 use Rattle.csp_base.specs.Members.{has}
 use Rattle.csp_tables.specs.Shape.{Shape, IsWellFormed}
 use Rattle.digraph.specs.Walk.{IsLongestWalk}
 use Rattle.digraph.proofs.WalkLaws.{same_walk}
-use Rattle.design_rules.specs.Cyclic.{links_of, place_after, AllKeepPlaces, MustPrecede, NumbersRise}
-use Rattle.design_rules.specs.CyclicRanking.{ComesAfter, AreChainNumbers}
+use Rattle.design_rules.specs.Prelude.{links_of, place_after, AllKeepPlaces, MustPrecede, NumbersRise, ComesAfter, AreChainNumbers}
 use Rattle.design_rules.proofs.Places.{Keeping, IsAt, some_links, first_lap, precedes, precedes_rest}
 use Rattle.design_rules.proofs.Walks.{walk_bound}
 use Rattle.shape_links.specs.Links.{ends_of}

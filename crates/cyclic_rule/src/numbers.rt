@@ -3,11 +3,9 @@
 ghost use Rattle.std.specs.Prelude.{◌≡◌, ◌<◌, ◌⊎◌, ℕ, All, false, IfErr, IfOk, OnOk, length, slice_index};
 ghost use Rattle.csp_base.specs.Members.{has};
 ghost use Rattle.digraph.specs.Digraph.{HasArc};
-ghost use Rattle.design_rules.specs.Cyclic.{AllKeepPlaces, NumbersRise};
-ghost use Rattle.design_rules.specs.CyclicRanking.{AreChainNumbers};
+ghost use Rattle.design_rules.specs.Prelude.{AllKeepPlaces, NumbersRise, AreChainNumbers, BreaksCyclic};
 ghost use Rattle.cyclic_rule.specs.Chains.{IsNextAt, IsNextIn, IsRestAfter};
 ghost use Rattle.cyclic_conditions.specs.Orders.{AreOrders};
-ghost use Rattle.design_rules.specs.Rules.{BreaksCyclic};
 
 use crate::ends::{links_circle, turned_ends};
 use containers::Items;

@@ -1,11 +1,8 @@
 //! The rule as a whole.
 
 ghost use Rattle.std.specs.Prelude.{◌≡◌, ◌<◌, ℕ, IfErr, IfOk, OnOk, length, slice_index};
-ghost use Rattle.csp_tables.specs.Part.{TripleDisjoint, alphabets_of};
-ghost use Rattle.csp_tables.specs.Shape.{IsWellFormed};
-ghost use Rattle.design_rules.specs.Cyclic.{AllKeepPlaces, HasWholeEnd, IsCyclic, NumbersRise};
-ghost use Rattle.design_rules.specs.CyclicRanking.{AreChainNumbers, IsCyclicRanking};
-ghost use Rattle.design_rules.specs.Rules.{BreaksCyclic};
+ghost use Rattle.csp_tables.specs.Prelude.{TripleDisjoint, alphabets_of, IsWellFormed};
+ghost use Rattle.design_rules.specs.Prelude.{AllKeepPlaces, HasWholeEnd, IsCyclic, NumbersRise, AreChainNumbers, IsCyclicRanking, BreaksCyclic};
 
 use crate::numbers::numbers;
 use csp_tables::{Ranking, Shape};

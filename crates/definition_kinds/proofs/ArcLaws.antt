@@ -1,14 +1,9 @@
 -- What arcs there are once more ends were gone over.
 use Rattle.std.proofs.Common.{◌≡◌, ℕ, ◌+◌, ◌<◌, Bool, true, false, ◌&&◌, ◌||◌, nat_eq, nat_lt, List, length, take, get_or, refl, sym, ap, ◌∙◌, arith}
 use Rattle.std.specs.Prelude.{Some, slice_get, Vec}
-use Rattle.std.specs.Option.{option_map}
-use Rattle.std.proofs.lemmas.Bool.Decides.{nat_tests}
-use Rattle.std.specs.declared.alloc.Global.{Global}
-use Rattle.std.proofs.lemmas.Bool.{false≢true, eqb-true}
-use Rattle.std.proofs.lemmas.List.Folds.{list_any_more}
-use Rattle.std.proofs.lemmas.Option.{slice_get_read, slice_get-map}
-use Rattle.script_names.specs.declared.kinds.End.{End}
-use Rattle.script_names.specs.Kinds.{ends_at}
+use Rattle.csp_base.specs.Standard.{option_map, Global}
+use Rattle.csp_base.proofs.Standard.{nat_tests, false≢true, eqb-true, list_any_more, slice_get_read, slice_get-map}
+use Rattle.script_names.specs.Prelude.{End, ends_at}
 use Rattle.name_tables.specs.Ends.{rows}
 use Rattle.definition_kinds.specs.Sources.{comes_from, some_from}
 

@@ -1,21 +1,13 @@
 -- What definitions are, from what is found of them.
 use Rattle.std.proofs.Common.{◌≡◌, ℕ, suc, ◌+◌, ◌<◌, Bool, false, List, [], ◌∷◌, ◌++◌, inl, inr, length, take, get_or, refl, sym, ap, ◌∙◌, subst, arith}
 use Rattle.std.specs.Prelude.{slice_get, Vec, ◌↔◌, IsTrue, if◌then◌else◌}
-use Rattle.std.specs.List.{flat_map}
-use Rattle.std.specs.declared.alloc.Global.{Global}
-use Rattle.std.proofs.Math.Path.{fun_ext}
-use Rattle.std.proofs.Math.Seq.{get_or-append_seam}
-use Rattle.std.proofs.lemmas.Bool.{cases_Bool, cases_lt, false≢true}
-use Rattle.std.proofs.lemmas.List.{get_or_append_left, length-append, take_more}
-use Rattle.std.proofs.lemmas.Option.{slice_get_within}
+use Rattle.csp_base.specs.Standard.{flat_map, Global}
+use Rattle.csp_base.proofs.Standard.{fun_ext, get_or-append_seam, cases_Bool, cases_lt, false≢true, get_or_append_left, length-append, take_more, slice_get_within}
 use Rattle.csp_base.specs.Members.{has}
 use Rattle.csp_text.specs.declared.script.Decl.{Decl}
 use Rattle.script_names.specs.declared.kinds.Class.TheVariants as class
-use Rattle.script_names.specs.declared.kinds.End.{End}
+use Rattle.script_names.specs.Prelude.{End, Kind, AreKindsOf, HasClass, LeadsTo, body_ends, first_ends, script_ends, Entities, declared, first_of, meanings_of}
 use Rattle.script_names.specs.declared.kinds.End.TheVariants as end
-use Rattle.script_names.specs.declared.kinds.Kind.{Kind}
-use Rattle.script_names.specs.Kinds.{AreKindsOf, HasClass, LeadsTo, body_ends, first_ends, script_ends}
-use Rattle.script_names.specs.Names.{Entities, declared, first_of, meanings_of}
 use Rattle.name_tables.specs.Ends.{rows}
 use Rattle.name_tables.specs.Firsts.{SameFirsts}
 use Rattle.definition_kinds.specs.declared.kinds.Found.{Found}

@@ -1,18 +1,14 @@
 -- Following ends is walking over arcs that are turned round.
 use Rattle.std.proofs.Common.{◌≡◌, ◌↔◌, ℕ, zero, suc, ◌<◌, true, false, nat_eq, eq-eqb, IsTrue, List, [], ◌∷◌, ◌⊎◌, inl, inr, length, refl, sym, ap, ◌∙◌, subst, arith}
 use Rattle.std.specs.Prelude.{Some, None, slice_get}
-use Rattle.std.proofs.lemmas.Bool.{or_cases, or_left, eqb-true, false≢true, cases_lt, lt-ltb, ltb-true}
-use Rattle.std.proofs.lemmas.Option.{slice_get_past}
+use Rattle.csp_base.proofs.Standard.{or_cases, or_left, eqb-true, false≢true, cases_lt, lt-ltb, ltb-true, slice_get_past, any_passes_from_place}
 use Rattle.csp_base.specs.Members.{has}
-use Rattle.digraph.specs.Digraph.{Digraph, has_arc, HasArc}
-use Rattle.digraph.specs.Walk.{Walk, Reaches, ReachesFrom}
+use Rattle.digraph.specs.Prelude.{Digraph, has_arc, HasArc, Walk, Reaches, ReachesFrom}
 use Rattle.digraph.proofs.WalkLaws.{Reaches-arc, Reaches-itself}
-use Rattle.script_names.specs.declared.kinds.End.{End}
+use Rattle.script_names.specs.Prelude.{End, LeadsTo, here, beyond, ends_at}
 use Rattle.script_names.specs.declared.kinds.End.TheVariants as end
-use Rattle.script_names.specs.Kinds.{LeadsTo, here, beyond, ends_at}
 use Rattle.definition_kinds.specs.Sources.{AreReached, comes_from, is_last, some_from}
 use Rattle.definition_kinds.proofs.SourceLaws.{from_last, from_use, place_of, source_cases}
-use Rattle.std.proofs.lemmas.Map.Keys.{any_passes_from_place}
 
 only_source : (n s : ℕ) → has (n ∷ []) s ≡ true → s ≡ n
 only_source n s h =

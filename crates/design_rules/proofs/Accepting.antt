@@ -1,8 +1,6 @@
 -- The acceptances of a shape's parts, by their places and as sets.
 use Rattle.std.proofs.Common.{ℕ, List, refl, subst}
-use Rattle.csp_tables.specs.Trace.{IsWithin}
-use Rattle.csp_tables.specs.Shape.{Shape}
-use Rattle.csp_tables.specs.Standing.{Accepts, accepted}
+use Rattle.csp_tables.specs.Prelude.{IsWithin, Shape, Accepts, accepted}
 use Rattle.design_rules.specs.ByTables.{AcceptsSet}
 
 -- the acceptance in a place, as a set

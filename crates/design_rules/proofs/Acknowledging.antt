@@ -3,8 +3,7 @@ use Rattle.std.proofs.Common.{◌≡◌, ℕ, zero, suc, ◌<◌, ◌≤◌, ◌
 use Rattle.std.proofs.lemmas.Bool.{false≢true}
 use Rattle.csp_tables.specs.Shape.{link_at, IsWellFormed}
 use Rattle.digraph.specs.Walk.{Walk, IsLongestWalk}
-use Rattle.design_rules.specs.ClientServer.{IsClientOn, Serves, KeepRoles}
-use Rattle.design_rules.specs.Example.{pair, pair_roles, pair_ranking, PairIsClientServer}
+use Rattle.design_rules.specs.Prelude.{IsClientOn, Serves, KeepRoles, pair, pair_roles, pair_ranking, PairIsClientServer}
 use Rattle.design_rules.proofs.Walks.{no_circle}
 use Rattle.design_rules.proofs.FormCheck.{well_formed}
 use Rattle.design_rules.proofs.ClientServerCheck.{keep_roles, role_ranking}

@@ -2,11 +2,8 @@
 use Rattle.std.proofs.Common.{◌≡◌, ℕ, zero, suc, ◌+◌, ◌<◌, ◌≤◌, ◌⊎◌, inl, inr, List, [], ◌∷◌, ◌++◌, length, get_or, Bool, true, false, not, ◌&&◌, cond, nat_eq, refl, sym, ap, subst, ◌∙◌, arith, eqb-true, eq-eqb}
 use Rattle.std.proofs.lemmas.Bool.{cases_Bool, cases_eq, cases_lt, and_parts, and_from, or_cases, or_left, or_right, both_ways, false≢true, cond-true, cond-false}
 use Rattle.csp_base.specs.Members.{has}
-use Rattle.csp_tables.specs.Table.{Node, node_at, is_possible, target, node_after, IsRun, end_of}
-use Rattle.csp_tables.specs.Part.{part_at, sharers}
-use Rattle.csp_tables.specs.Shape.{Shape}
-use Rattle.design_rules.specs.Counts.{count_in, is_odd}
-use Rattle.design_rules.specs.Assigned.{PartShared}
+use Rattle.csp_tables.specs.Prelude.{Node, node_at, is_possible, target, node_after, IsRun, end_of, part_at, sharers, Shape}
+use Rattle.design_rules.specs.Prelude.{count_in, is_odd, PartShared}
 use Rattle.design_rules.proofs.Holders.{odd_more, odd_same}
 use Rattle.design_rules.proofs.Runs.{run_induction}
 use Rattle.csp_tables.proofs.Runs.{end_push}

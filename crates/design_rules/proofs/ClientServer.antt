@@ -1,21 +1,11 @@
 -- The ranking of a client-server network falls along ungranted requests.
 use Rattle.std.proofs.Common.{◌≡◌, ℕ, ◌*◌, ◌<◌, ◌⊎◌, inl, inr, ℤ, pos, ◌+ℤ◌, ◌-ℤ◌, ◌*ℤ◌, ◌<ℤ◌, List, length, true, false, ◌&&◌, sym, ap, subst, ◌∙◌, arith}
-use Rattle.std.proofs.lemmas.Bool.{cases_Bool, or_cases, both_ways, cond-true, cond-false}
-use Rattle.std.proofs.lemmas.Int.{ints}
+use Rattle.csp_base.proofs.Standard.{cases_Bool, or_cases, both_ways, cond-true, cond-false, ints}
 use lib.IntN.{zero-*ℤ}
 use Rattle.csp_base.specs.Members.{has}
-use Rattle.design_rules.specs.Counts.{is_odd}
-use Rattle.csp_tables.specs.Part.{part_at, Meet, AreApart}
-use Rattle.csp_tables.specs.Shape.{Shape, Joins, link_at, IsWellFormed}
-use Rattle.csp_tables.specs.Standing.{accepted}
-use Rattle.csp_tables.specs.Standing.{IsPossible, IsOn}
-use Rattle.csp_tables.specs.Roles.{RoleSets, role_at}
-use Rattle.design_rules.specs.ClientServer.{IsClientOn, has_acknowledgements, is_open, is_request, is_acknowledgement, Serves, KeepRoles}
-use Rattle.design_rules.specs.ClientServerRanking.{IsClientServerRanking}
-use Rattle.csp_tables.specs.Ranking.{Ranking, rank_after}
-use Rattle.csp_tables.specs.Falls.{lead}
+use Rattle.design_rules.specs.Prelude.{is_odd, IsClientOn, has_acknowledgements, is_open, is_request, is_acknowledgement, Serves, KeepRoles, IsClientServerRanking, ClientServerRanksFall}
+use Rattle.csp_tables.specs.Prelude.{part_at, Meet, AreApart, Shape, Joins, link_at, IsWellFormed, accepted, IsPossible, IsOn, RoleSets, role_at, Ranking, rank_after, lead}
 use Rattle.net_sound.proofs.Finite.{search_list}
-use Rattle.design_rules.specs.ClientServerLaws.{ClientServerRanksFall}
 use Rattle.design_rules.proofs.Walks.{Graph, falls, height_below}
 use Rattle.design_rules.proofs.Shapes.{turned, first_end, link_events, own_run, own_end, Side, Request, request}
 use Rattle.design_rules.proofs.Accepting.{at_place}

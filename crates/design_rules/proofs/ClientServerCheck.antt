@@ -3,20 +3,13 @@ use Rattle.std.proofs.Common.{◌≡◌, ℕ, ◌*◌, ◌<◌, inl, inr, pos, �
 use Rattle.std.proofs.lemmas.Bool.{and_parts, and_from, or_cases, both_ways, not-true}
 use Rattle.std.specs.Ordering.{int_eq}
 use Rattle.csp_base.specs.Members.{has}
-use Rattle.csp_tables.specs.Table.{end_of}
-use Rattle.csp_tables.specs.Part.{part_at, AreApart}
-use Rattle.csp_tables.specs.Shape.{Shape, link_at, is_end, acceptance_at}
-use Rattle.csp_tables.specs.Standing.{RunsTo}
-use Rattle.csp_tables.specs.Roles.{RoleSets, role_at}
-use Rattle.csp_tables.specs.Ranking.{Ranking, part_ranks, rank_at}
+use Rattle.csp_tables.specs.Prelude.{end_of, part_at, AreApart, Shape, link_at, is_end, acceptance_at, RunsTo, RoleSets, role_at, Ranking, part_ranks, rank_at, IsWithin}
 use Rattle.digraph.specs.Walk.{IsLongestWalk}
-use Rattle.design_rules.specs.ClientServer.{IsClientOn, has_acknowledgements, is_open, is_request, is_acknowledgement, Serves, KeepRoles}
-use Rattle.design_rules.specs.ClientServerRanking.{IsClientServerRanking}
+use Rattle.design_rules.specs.Prelude.{IsClientOn, has_acknowledgements, is_open, is_request, is_acknowledgement, Serves, KeepRoles, IsClientServerRanking}
 use Rattle.design_rules.proofs.Shapes.{turned, first_end}
 use Rattle.design_rules.proofs.Checks.{implies, implied, all_below, below_passes, all_in, member_passes, passes_in, all_steps, step_passes, all_accepted, accepted_passes, same_truth, same_truth_is, next_parity, parity_told, parts_shared, parts_shared_is}
 use Rattle.design_rules.proofs.RankCheck.{parts_fit, fits_is, ranks_equal, all_vertices, vertex_passes, others_zero, others_zero_is, no_laps, no_laps_is}
 use Rattle.design_rules.proofs.Accepting.{each_set}
-use Rattle.csp_tables.specs.Trace.{IsWithin}
 
 abbrev sets_of : List RoleSets → ℕ → List (List ℕ)
 sets_of roles i = (role_at roles i).creq ∷ (role_at roles i).cack ∷ (role_at roles i).sreq ∷ (role_at roles i).sack ∷ []

@@ -1,12 +1,9 @@
 -- Counts: of numbers that pass a test, of events in a set; and whole laps of a count.
 use Rattle.std.proofs.Common.{◌≡◌, ℕ, zero, suc, ◌+◌, ◌*◌, ◌/◌, ◌%◌, ◌<◌, ◌≤◌, inl, inr, List, [], ◌∷◌, ◌++◌, Bool, true, false, not, ◌&&◌, cond, IsTrue, nat_eq, refl, sym, ap, subst, ◌∙◌, arith, eq-eqb, ne_eqb}
-use Rattle.std.proofs.lemmas.Bool.{cases_Bool, cases_eq, cond-true, cond-false, both_ways}
-use Rattle.std.proofs.Math.Bool.{and-true, and-false}
-use Rattle.std.proofs.lemmas.Nat.{div-add-mod', div-mul-add, mod-mul-add}
+use Rattle.csp_base.proofs.Standard.{cases_Bool, cases_eq, cond-true, cond-false, both_ways, and-true, and-false, div-add-mod', div-mul-add, mod-mul-add}
 use Rattle.csp_base.specs.Members.{has}
 use Rattle.design_rules.specs.Counts.{count_below, count_in, above_all}
-use Rattle.csp_tables.specs.Part.{project}
-use Rattle.csp_tables.specs.Trace.{IsWithin}
+use Rattle.csp_tables.specs.Prelude.{project, IsWithin}
 
 -- ---- numbers that pass a test
 

@@ -1,23 +1,10 @@
 -- The ranking of a cyclic network falls along ungranted requests.
 use Rattle.std.proofs.Common.{◌≡◌, ℕ, ◌+◌, ◌*◌, ◌/◌, ◌%◌, ◌<◌, ◌≤◌, inl, inr, ℤ, pos, ◌+ℤ◌, ◌-ℤ◌, ◌*ℤ◌, ◌<ℤ◌, List, [], ◌∷◌, ◌++◌, length, ◌&&◌, cond, nat_lt, IsTrue, sym, ap, subst, ◌∙◌, arith, eq-eqb, ne_eqb, le-ltb, lt-ltb, ltb-true}
-use Rattle.std.proofs.lemmas.Bool.{cases_Bool, cases_eq, cases_lt, cases_order, and_parts, and_from, and_right, both_ways}
-use Rattle.std.proofs.lemmas.Int.{ints}
-use Rattle.std.proofs.lemmas.Nat.{mod_below}
+use Rattle.csp_base.proofs.Standard.{cases_Bool, cases_eq, cases_lt, cases_order, and_parts, and_from, and_right, both_ways, ints, mod_below, div-eq_of_lt, mod-eq_of_lt}
 use lib.IntN.{+ℤ_invr, *ℤ-zero}
-use Rattle.std.proofs.Math.Nat.{div-eq_of_lt, mod-eq_of_lt}
 use Rattle.csp_base.specs.Members.{has}
-use Rattle.design_rules.specs.Counts.{count_in, above_all}
-use Rattle.csp_tables.specs.Table.{IsRun, end_of}
-use Rattle.csp_tables.specs.Part.{part_at, Meet}
-use Rattle.csp_tables.specs.Trace.{IsWithin}
-use Rattle.csp_tables.specs.Shape.{Shape, Joins, link_at, is_end, IsWellFormed}
-use Rattle.csp_tables.specs.Standing.{RunsTo, IsPossible, Accepts, accepted, IsOn}
-use Rattle.design_rules.specs.Cyclic.{links_of, IsWholeEnd, HasWholeEnd, place_after}
-use Rattle.design_rules.specs.ByTables.{by_tables}
-use Rattle.design_rules.specs.CyclicNumbered.{place_of, IsNext, KeepsOrder, ReachedLinksDiffer}
-use Rattle.design_rules.specs.CyclicRanking.{AreCyclicRanks, ends_lap}
-use Rattle.csp_tables.specs.Ranking.{Ranking, part_ranks, rank_after, laps_from}
-use Rattle.csp_tables.specs.Falls.{lead, Falls}
+use Rattle.design_rules.specs.Prelude.{count_in, above_all, links_of, IsWholeEnd, HasWholeEnd, place_after, by_tables, place_of, IsNext, KeepsOrder, ReachedLinksDiffer, AreCyclicRanks, ends_lap}
+use Rattle.csp_tables.specs.Prelude.{IsRun, end_of, part_at, Meet, IsWithin, Shape, Joins, link_at, is_end, IsWellFormed, RunsTo, IsPossible, Accepts, accepted, IsOn, Ranking, part_ranks, rank_after, laps_from, lead, Falls}
 use Rattle.net_sound.proofs.Within.{part_form}
 use Rattle.design_rules.proofs.Counts.{count_strict, below_all, count_push_more, count_push_same, lap_over, lap_on}
 use Rattle.design_rules.proofs.Runs.{possible_after, run_induction, laps_push, possible_within}

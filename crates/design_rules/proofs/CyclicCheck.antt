@@ -1,21 +1,10 @@
 -- A test that shows a written-out shape cyclic, with its ranking. For examples.
 use Rattle.std.proofs.Common.{◌≡◌, ℕ, ◌+◌, ◌%◌, inl, inr, pos, List, [], ◌∷◌, ◌++◌, length, Bool, true, ◌&&◌, ◌||◌, cond, nat_eq, sym, ap, ◌∙◌, eqb-true, eq-eqb}
-use Rattle.std.proofs.lemmas.Bool.{cases_Bool, and_from, or_cases, cond-true, cond-false}
-use Rattle.std.proofs.Math.Nat.{mod-add-mod}
+use Rattle.csp_base.proofs.Standard.{cases_Bool, and_from, or_cases, cond-true, cond-false, mod-add-mod}
 use Rattle.std.specs.Ordering.{int_eq}
 use Rattle.csp_base.specs.Members.{has}
-use Rattle.csp_tables.specs.Table.{end_of}
-use Rattle.csp_tables.specs.Part.{part_at}
-use Rattle.csp_tables.specs.Trace.{IsWithin}
-use Rattle.csp_tables.specs.Shape.{Shape, link_at, is_end, acceptance_at}
-use Rattle.csp_tables.specs.Standing.{RunsTo}
-use Rattle.csp_tables.specs.Ranking.{Ranking, part_ranks, rank_at}
-use Rattle.design_rules.specs.Counts.{above_all}
-use Rattle.design_rules.specs.Vertices.{lap_at}
-use Rattle.design_rules.specs.Cyclic.{links_of, place_after}
-use Rattle.design_rules.specs.ByTables.{by_tables}
-use Rattle.design_rules.specs.CyclicNumbered.{place_of, KeepsOrder, IsFullEnd, IsNumberedCyclic}
-use Rattle.design_rules.specs.CyclicRanking.{ends_lap, AreCyclicRanks}
+use Rattle.csp_tables.specs.Prelude.{end_of, part_at, IsWithin, Shape, link_at, is_end, acceptance_at, RunsTo, Ranking, part_ranks, rank_at}
+use Rattle.design_rules.specs.Prelude.{above_all, lap_at, links_of, place_after, by_tables, place_of, KeepsOrder, IsFullEnd, IsNumberedCyclic, ends_lap, AreCyclicRanks}
 use Rattle.design_rules.proofs.Counts.{count_push_more, count_push_same}
 use Rattle.design_rules.proofs.Accepting.{each_set}
 use Rattle.design_rules.proofs.Checks.{implies, implied, all_below, below_passes, all_in, member_passes, all_steps, step_passes, all_accepted, accepted_passes, observed}

@@ -1,20 +1,10 @@
 -- The laws of the cyclic rule: its ranking falls, each fault breaks it, and it is the rule by numbers.
 use Rattle.std.proofs.Common.{◌≡◌, ℕ, suc, ◌+◌, ◌-◌, ◌*◌, ◌%◌, ◌<◌, ◌≤◌, inl, inr, List, length, IsTrue, refl, sym, ap, subst, ◌∙◌, arith, eq-eqb, nat_eq}
-use Rattle.std.proofs.lemmas.Bool.{cases_eq, cases_order, both_ways, or_left, or_right}
-use Rattle.std.proofs.lemmas.Nat.{mod-mul-add}
-use Rattle.std.proofs.Math.Nat.{mod-eq_of_lt, mod-le}
+use Rattle.csp_base.proofs.Standard.{cases_eq, cases_order, both_ways, or_left, or_right, mod-mul-add, mod-eq_of_lt, mod-le}
 use Rattle.csp_base.specs.Members.{has}
 use Rattle.digraph.specs.Walk.{Walk}
-use Rattle.csp_tables.specs.Table.{end_of}
-use Rattle.csp_tables.specs.Part.{part_at, Meet}
-use Rattle.csp_tables.specs.Shape.{Shape, is_end, link_at, IsWellFormed}
-use Rattle.csp_tables.specs.Standing.{IsPossible, Accepts, accepted, IsBusyShape}
-use Rattle.csp_tables.specs.Trace.{IsWithin}
-use Rattle.design_rules.specs.Cyclic.{KeepsPlaces, links_of, ReachesLink, place_after, AllKeepPlaces, NumbersRise, IsWholeEnd, HasWholeEnd, IsCyclic}
-use Rattle.design_rules.specs.ByTables.{by_tables}
-use Rattle.design_rules.specs.CyclicNumbered.{place_of, IsNext, LinksDiffer, KeepsOrder, IsFullEnd, HasFullEnds, HasOrder, IsNumberedCyclic}
-use Rattle.design_rules.specs.CyclicRanking.{AreChainNumbers, ComesAfter}
-use Rattle.design_rules.specs.CyclicLaws.{CyclicRanksFall, NumberedRanksFall, ReachedRanksFall, IsRuleByNumbers}
+use Rattle.csp_tables.specs.Prelude.{end_of, part_at, Meet, Shape, is_end, link_at, IsWellFormed, IsPossible, Accepts, accepted, IsBusyShape, IsWithin}
+use Rattle.design_rules.specs.Prelude.{KeepsPlaces, links_of, ReachesLink, place_after, AllKeepPlaces, NumbersRise, IsWholeEnd, HasWholeEnd, IsCyclic, by_tables, place_of, IsNext, LinksDiffer, KeepsOrder, IsFullEnd, HasFullEnds, HasOrder, IsNumberedCyclic, AreChainNumbers, ComesAfter, CyclicRanksFall, NumberedRanksFall, ReachedRanksFall, IsRuleByNumbers}
 use Rattle.design_rules.proofs.Accepting.{each_set}
 use Rattle.design_rules.proofs.Cyclic.{place_below, places_differ, earlier_place, Ordered, next_link, whole_has, ordered_ranks_fall}
 use Rattle.design_rules.proofs.Places.{Keeping, earlier, place_is, reached_differ}

@@ -2,10 +2,7 @@
 use Rattle.std.proofs.Common.{◌≡◌, ℕ, zero, suc, ◌<◌, ◌≤◌, inl, inr, List, [], ◌∷◌, length, get_or, Bool, true, ◌&&◌, ◌||◌, nat_eq, nat_lt, refl, sym, subst, arith, eqb-true, ltb-true, lt-ltb}
 use Rattle.std.proofs.lemmas.Bool.{cases_lt, and_parts, or_cases, false≢true}
 use Rattle.csp_base.specs.Members.{has}
-use Rattle.csp_tables.specs.Table.{Node, node_at, is_possible, is_run, end_of}
-use Rattle.csp_tables.specs.Part.{Part, part_at, alphabets_of, sharers, TripleDisjoint}
-use Rattle.csp_tables.specs.Form.{BeginsAbove, StepsHaveForm, AreWithin, NodesHaveForm, HaveForm}
-use Rattle.csp_tables.specs.Shape.{Shape, link_at, JoinsTwo, IsBelow, IsWellFormed, acceptance_at}
+use Rattle.csp_tables.specs.Prelude.{Node, node_at, is_possible, is_run, end_of, Part, part_at, alphabets_of, sharers, TripleDisjoint, BeginsAbove, StepsHaveForm, AreWithin, NodesHaveForm, HaveForm, Shape, link_at, JoinsTwo, IsBelow, IsWellFormed, acceptance_at}
 use Rattle.design_rules.proofs.Checks.{implies, implied, all_below, below_passes, all_in, member_passes, all_sets, set_passes, past_end}
 use Rattle.design_rules.proofs.Shapes.{sharer}
 

@@ -4,37 +4,16 @@
 -- has 0. And each such acceptance has a rank. So the greatest number is attained there, or it is 0. The ranks by tables are those by steps, since the shape
 -- and the network are alike.
 use Rattle.std.proofs.Common.{◌≡◌, ℕ, zero, suc, ◌+◌, ◌-◌, ◌*◌, ◌<◌, ◌≤◌, ◌⊎◌, inl, inr, pos, ◌-ℤ◌, max, List, [], ◌∷◌, length, true, false, cond, IsTrue, nat_eq, refl, sym, ap, ap₂, subst, ◌∙◌, arith, eq-eqb}
-use Rattle.std.proofs.lemmas.Bool.{cases_Bool, cases_lt, both_ways, or_left, false≢true}
-use Rattle.std.proofs.lemmas.Int.{ints}
-use Rattle.std.proofs.Math.ListN.{get_or-eq_default}
-use Rattle.csp_base.specs.Members.{has}
+use Rattle.csp_base.proofs.Standard.{cases_Bool, cases_lt, both_ways, or_left, false≢true, ints, get_or-eq_default}
+use Rattle.csp_base.specs.Prelude.{has, natural}
 use Rattle.digraph.specs.Walk.{IsLongestWalk}
 use Rattle.digraph.proofs.WalkLaws.{same_longest}
-use Rattle.csp_tables.specs.Label.{Label}
-use Rattle.csp_tables.specs.Table.{node_at, end_of}
-use Rattle.csp_tables.specs.Trace.{IsWithin}
-use Rattle.csp_tables.specs.Part.{Part, part_at, IsNonEmpty}
-use Rattle.csp_tables.specs.Roles.{RoleSets, UseSets, role_at, use_at}
-use Rattle.csp_tables.specs.Shape.{Shape, IsWellFormed, acceptance_at}
-use Rattle.csp_tables.specs.Standing.{accepted}
-use Rattle.csp_tables.specs.Ranking.{PartRanks, Ranking, Fits, PartsFit, part_ranks, rank_at}
+use Rattle.csp_tables.specs.Prelude.{Label, node_at, end_of, IsWithin, Part, part_at, IsNonEmpty, RoleSets, UseSets, role_at, use_at, Shape, IsWellFormed, acceptance_at, accepted, PartRanks, Ranking, Fits, PartsFit, part_ranks, rank_at}
 use Rattle.net_sound.proofs.Finite.{search_list}
 use Rattle.net_sound.proofs.FormOfTables.{shapes_are_well_formed}
 use Rattle.net_sound.proofs.Within.{part_form}
-use Rattle.design_rules.specs.ByTables.{by_tables}
-use Rattle.design_rules.specs.ClientServerRule.{Serves}
-use Rattle.design_rules.specs.ClientServerRanking.{IsClientServerRanking}
-use Rattle.design_rules.specs.CyclicRanking.{IsCyclicRanking}
-use Rattle.design_rules.specs.GreatestRank.{ComesAfter, StandsAbove, top_number, RanksByNumber, RanksAs, HasRank, IsGreatestRank}
-use Rattle.design_rules.specs.GreatestRank.RanksByNumber.{free, held, acquiring, idle}
-use Rattle.csp_base.specs.Lists.{natural}
-use Rattle.design_rules.specs.RankCounts.{greatest_rank, RankingsHaveGreatestRank}
-use Rattle.design_rules.specs.ResourceRanking.{rank_there, AcceptsSome, AreResourceRanks, IsResourceRanking}
-use Rattle.design_rules.specs.ResourceRule.{acquires, is_held}
-use Rattle.design_rules.specs.Rules.{Ranks}
-use Rattle.design_rules.specs.Vertices.{IsVertex, OthersRankZero}
-use Rattle.design_rules.specs.declared.noted_rule.NotedRule.{NotedRule}
-use Rattle.design_rules.specs.declared.noted_rule.NotedRule.TheVariants.{Cyclic, ClientServer, Resource}
+use Rattle.design_rules.specs.Prelude.{by_tables, Serves, IsClientServerRanking, IsCyclicRanking, top_number, RanksByNumber, RanksAs, HasRank, IsGreatestRank, free, held, acquiring, idle, greatest_rank, RankingsHaveGreatestRank, rank_there, AcceptsSome, AreResourceRanks, IsResourceRanking, acquires, is_held, Ranks, IsVertex, OthersRankZero, NotedRule, Cyclic, ClientServer, Resource}
+use Rattle.design_rules.specs.GreatestRank.{ComesAfter, StandsAbove}
 use Rattle.design_rules.proofs.Accepting.{at_place}
 use Rattle.design_rules.proofs.ClientServer.{graph, meet_or_apart}
 use Rattle.design_rules.proofs.GreatestNumbers.{in_ranking, ranking_has, StandsAt}

@@ -2,13 +2,8 @@
 use Rattle.std.proofs.Common.{◌≡◌, ℕ, suc, ◌+◌, ◌<◌, ◌≤◌, ◌⊎◌, inl, inr, List, [], ◌∷◌, ◌++◌, length, Option, Some, None, true, false, not, cond, IsTrue, nat_eq, refl, sym, ap, subst, ◌∙◌, arith}
 use Rattle.std.proofs.lemmas.Bool.{cases_Bool, cases_eq, cases_order, both_ways, cond-true, cond-false, false≢true, or_cases, eqb-true}
 use Rattle.csp_base.specs.Members.{has}
-use Rattle.design_rules.specs.Counts.{count_in, is_odd}
-use Rattle.csp_tables.specs.Table.{end_of}
-use Rattle.csp_tables.specs.Part.{part_at, alphabets_of, sharers, TripleDisjoint}
-use Rattle.csp_tables.specs.Shape.{Shape, IsBelow, is_end, link_at, IsWellFormed}
-use Rattle.csp_tables.specs.Standing.{RunsTo, IsPossible, IsOn}
-use Rattle.csp_tables.specs.Roles.{UseSets, use_at}
-use Rattle.design_rules.specs.Resource.{last_from, IsHolder, is_held, holds, KeepUses}
+use Rattle.design_rules.specs.Prelude.{count_in, is_odd, last_from, IsHolder, is_held, holds, KeepUses}
+use Rattle.csp_tables.specs.Prelude.{end_of, part_at, alphabets_of, sharers, TripleDisjoint, Shape, IsBelow, is_end, link_at, IsWellFormed, RunsTo, IsPossible, IsOn, UseSets, use_at}
 use Rattle.net_sound.proofs.Sharers.{at_three}
 use Rattle.net_sound.proofs.Within.{part_form}
 use Rattle.design_rules.proofs.Counts.{count_push_more, count_push_same}

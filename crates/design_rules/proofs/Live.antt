@@ -1,17 +1,9 @@
 -- Each rule's ranking is good, so the network is live.
 use Rattle.std.proofs.Common.{ℕ, subst}
-use Rattle.csp_tables.specs.Label.{Label}
-use Rattle.csp_tables.specs.Live.{Live}
-use Rattle.csp_tables.specs.Network.{Tree, NetworkStep, leaves}
-use Rattle.csp_tables.specs.Part.{TripleDisjoint}
-use Rattle.csp_tables.specs.Shape.{Shape, IsWellFormed}
-use Rattle.csp_tables.specs.Behaviour.{HaveBehaviours}
-use Rattle.csp_tables.specs.Ranking.{Ranking, Fits}
-use Rattle.csp_tables.specs.Falls.{Falls}
+use Rattle.csp_tables.specs.Prelude.{Label, Live, Tree, NetworkStep, leaves, TripleDisjoint, Shape, IsWellFormed, HaveBehaviours, Ranking, Fits, Falls}
 use Rattle.net_sound.specs.Soundness.{IsSound}
 use Rattle.net_sound.proofs.Soundness.{good_rankings_mean_live, same_alphabets}
-use Rattle.design_rules.specs.Live.{MetRulesMeanLive}
-use Rattle.design_rules.specs.declared.noted_rule.NotedRule.TheVariants.{Cyclic, ClientServer, Resource}
+use Rattle.design_rules.specs.Prelude.{MetRulesMeanLive, Cyclic, ClientServer, Resource}
 use Rattle.design_rules.proofs.CyclicRule.{cyclic_ranks_fall}
 use Rattle.design_rules.proofs.ClientServer.{client_server_ranks_fall}
 use Rattle.design_rules.proofs.Resource.{resource_ranks_fall}

@@ -4,22 +4,10 @@ use Rattle.std.specs.List.{list_any}
 use Rattle.csp_base.specs.Members.{has}
 use Rattle.csp_base.proofs.Booleans.{same_tests}
 use Rattle.csp_base.proofs.Listed.{any_of, any_member}
-use Rattle.csp_tables.specs.Part.{part_at}
-use Rattle.csp_tables.specs.Roles.{RoleSets, UseSets, role_at, use_at}
-use Rattle.csp_tables.specs.Shape.{Shape, Joins, is_end, link_at}
-use Rattle.csp_tables.specs.Standing.{IsOn}
+use Rattle.csp_tables.specs.Prelude.{part_at, RoleSets, UseSets, role_at, use_at, Shape, Joins, is_end, link_at, IsOn}
 use Rattle.digraph.proofs.WalkLaws.{same_no_circle}
 use Rattle.digraph.specs.Circle.{HasNoCircle}
-use Rattle.design_rules.specs.Agreement.{SameOutline}
-use Rattle.design_rules.specs.Assigned.{PartShared}
-use Rattle.design_rules.specs.ClientServerRule.{HasRoles, IsClientOn, HasClient, has_acknowledgements, is_open, Serves}
-use Rattle.design_rules.specs.ClientServerRuleFaults.{LacksRoles, LacksClient, HaveClients}
-use Rattle.design_rules.specs.Counts.{count_below, count_in, is_odd}
-use Rattle.design_rules.specs.CyclicNumbered.{place_of, IsNext}
-use Rattle.design_rules.specs.CyclicRule.{links_of, place_after, SamePlace}
-use Rattle.design_rules.specs.CyclicRuleFaults.{Clash, ends_of}
-use Rattle.design_rules.specs.ResourceRule.{JoinsKinds, HasUses, HaveKinds, is_held, last_from, IsHolder, holds}
-use Rattle.design_rules.specs.ResourceRuleFaults.{HasKind, LacksKind}
+use Rattle.design_rules.specs.Prelude.{SameOutline, PartShared, HasRoles, IsClientOn, HasClient, has_acknowledgements, is_open, Serves, LacksRoles, LacksClient, HaveClients, count_below, count_in, is_odd, place_of, IsNext, links_of, place_after, SamePlace, Clash, ends_of, JoinsKinds, HasUses, HaveKinds, is_held, last_from, IsHolder, holds, HasKind, LacksKind}
 
 pub turned_outline : (x y : Shape) → SameOutline x y → SameOutline y x
 turned_outline x y o = record {

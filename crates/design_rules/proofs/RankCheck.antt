@@ -1,13 +1,9 @@
 -- Tests of a written-out ranking: that it fits, that all but vertices rank 0, and which laps it has. For examples.
 use Rattle.std.proofs.Common.{◌≡◌, ℕ, zero, suc, ◌<◌, ◌≤◌, inl, inr, ℤ, pos, List, [], ◌∷◌, length, get_or, Bool, true, false, ◌&&◌, ◌||◌, nat_eq, nat_lt, refl, sym, subst, ◌∙◌, arith, eqb-true, ltb-true}
-use Rattle.std.proofs.lemmas.Bool.{cases_Bool, cases_lt, and_parts, or_cases, both_ways, false≢true, cond-false}
-use Rattle.std.proofs.lemmas.Bool.Decides.{Decides-int_eq}
+use Rattle.csp_base.proofs.Standard.{cases_Bool, cases_lt, and_parts, or_cases, both_ways, false≢true, cond-false, Decides-int_eq}
 use Rattle.std.specs.Ordering.{int_eq}
 use Rattle.csp_base.specs.Members.{has}
-use Rattle.csp_tables.specs.Table.{Node, node_at, is_possible}
-use Rattle.csp_tables.specs.Part.{Part, part_at}
-use Rattle.csp_tables.specs.Shape.{Shape, acceptance_at}
-use Rattle.csp_tables.specs.Ranking.{PartRanks, Ranking, AsMany, AtMostOne, RanksFit, LapsFit, PartsFit, Fits, part_ranks, rank_at, lap_of}
+use Rattle.csp_tables.specs.Prelude.{Node, node_at, is_possible, Part, part_at, Shape, acceptance_at, PartRanks, Ranking, AsMany, AtMostOne, RanksFit, LapsFit, PartsFit, Fits, part_ranks, rank_at, lap_of}
 use Rattle.design_rules.specs.Vertices.{OthersRankZero, lap_at}
 use Rattle.design_rules.proofs.Checks.{all_below, below_passes, all_in, member_passes, all_steps, step_passes, past_end}
 

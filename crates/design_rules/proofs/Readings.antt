@@ -2,27 +2,15 @@
 use Rattle.std.proofs.Common.{◌≡◌, ℕ, List, [], ◌∷◌, ◌++◌, map, true, refl, sym, ap, subst, ◌∙◌}
 use Rattle.std.proofs.lemmas.Bool.{and_parts, and_from}
 use Rattle.csp_base.specs.Members.{has}
-use Rattle.csp_tables.specs.Label.{Label}
-use Rattle.csp_tables.specs.Network.{Component, ComponentStep, Tree, leaves}
-use Rattle.csp_tables.specs.Trace.{IsAcceptance}
-use Rattle.csp_tables.specs.Table.{Node, node_at, node_after, is_possible, is_run, end_of}
-use Rattle.csp_tables.specs.Part.{Part, part_at, alphabets_of}
-use Rattle.csp_tables.specs.Shape.{Shape}
-use Rattle.csp_tables.specs.ShapeOf.{ArePartsOf, IsShapeOf}
-use Rattle.csp_tables.specs.Standing.{RunsTo, IsPossible, Accepts, accepted}
+use Rattle.csp_tables.specs.Prelude.{Label, Component, ComponentStep, Tree, leaves, IsAcceptance, Node, node_at, node_after, is_possible, is_run, end_of, Part, part_at, alphabets_of, Shape, ArePartsOf, IsShapeOf, RunsTo, IsPossible, Accepts, accepted}
 use Rattle.csp_tables.proofs.Runs.{run_push}
 use Rattle.net_sound.proofs.FormOfTables.{shapes_are_well_formed}
 use Rattle.net_sound.proofs.ShapeOf.{shapes_are_busy}
 use Rattle.net_sound.proofs.Parts.{component_of, part_of, part_within}
-use Rattle.design_rules.specs.Agreement.{SameOutline, AcceptsSame, OutlinesAgree, ReadingsAgree, NetworksMeet, NetworksBreak, NetworkFaultsRefute}
-use Rattle.design_rules.specs.Behaviours.{HasTrace, HasAcceptance, by_steps}
-use Rattle.design_rules.specs.ByTables.{AcceptsSet, by_tables}
+use Rattle.design_rules.specs.Prelude.{SameOutline, AcceptsSame, OutlinesAgree, ReadingsAgree, NetworksMeet, NetworksBreak, NetworkFaultsRefute, HasTrace, HasAcceptance, by_steps, AcceptsSet, by_tables, NetworksAreNumbered, outline, outline_of, Cyclic}
 use Rattle.design_rules.proofs.Accepting.{at_place, set_shared}
 use Rattle.design_rules.proofs.Refuting.{faults_refute}
 use Rattle.design_rules.proofs.CyclicRule.{is_rule_by_numbers}
-use Rattle.design_rules.specs.CyclicLaws.{NetworksAreNumbered}
-use Rattle.design_rules.specs.Outline.{outline, outline_of}
-use Rattle.design_rules.specs.declared.noted_rule.NotedRule.TheVariants.{Cyclic}
 use Rattle.design_rules.proofs.Linking.{shape_outline}
 use Rattle.design_rules.proofs.Transport.{Seen, Alike, turned, is_numbered, meets, breaks}
 

@@ -1,19 +1,8 @@
 -- What each fault tells refutes the rule.
 use Rattle.std.proofs.Common.{◌≡◌, ℕ, List, inl, inr, refl}
-use Rattle.csp_tables.specs.Shape.{Shape}
-use Rattle.csp_tables.specs.Roles.{RoleSets, UseSets}
-use Rattle.design_rules.specs.Cyclic.{KeepsPlaces, IsCyclic, MustPrecede}
-use Rattle.design_rules.specs.CyclicFaults.{BreaksOrder}
-use Rattle.design_rules.specs.ClientServer.{IsClientServer}
-use Rattle.design_rules.specs.ClientServerFaults.{BreaksRoles}
-use Rattle.design_rules.specs.Resource.{IsResource, IsHeldWhile}
-use Rattle.design_rules.specs.ResourceFaults.{BreaksUses}
-use Rattle.design_rules.specs.Rules.{BreaksCyclic, BreaksClientServer, BreaksResource, FaultsRefute}
-use Rattle.design_rules.specs.declared.condition.Condition.{Condition}
+use Rattle.csp_tables.specs.Prelude.{Shape, RoleSets, UseSets}
+use Rattle.design_rules.specs.Prelude.{KeepsPlaces, IsCyclic, MustPrecede, BreaksOrder, IsClientServer, BreaksRoles, IsResource, IsHeldWhile, BreaksUses, BreaksCyclic, BreaksClientServer, BreaksResource, FaultsRefute, Condition, Cyclic, ClientServer, Resource, RuleFault, NoOrder, NoWholeEnd, Broken, LinksCircle, ClientsCircle, ResourcesCircle}
 use Rattle.design_rules.specs.declared.condition.Condition.TheVariants as condition
-use Rattle.design_rules.specs.declared.noted_rule.NotedRule.TheVariants.{Cyclic, ClientServer, Resource}
-use Rattle.design_rules.specs.declared.rule_fault.RuleFault.{RuleFault}
-use Rattle.design_rules.specs.declared.rule_fault.RuleFault.TheVariants.{NoOrder, NoWholeEnd, Broken, LinksCircle, ClientsCircle, ResourcesCircle}
 use Rattle.design_rules.proofs.Walks.{no_circle}
 
 -- where places are kept, nothing clashes

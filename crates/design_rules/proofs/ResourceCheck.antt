@@ -3,15 +3,8 @@ use Rattle.std.proofs.Common.{◌≡◌, ℕ, ◌+◌, ◌-◌, ◌*◌, ◌<◌
 use Rattle.std.proofs.lemmas.Bool.{cases_Bool, and_parts, and_from, false≢true, cond-true, cond-false, not-true, not_from_false}
 use Rattle.std.specs.Ordering.{int_eq}
 use Rattle.csp_base.specs.Members.{has}
-use Rattle.csp_tables.specs.Table.{end_of}
-use Rattle.csp_tables.specs.Part.{part_at}
-use Rattle.csp_tables.specs.Shape.{Shape, link_at, is_end, acceptance_at}
-use Rattle.csp_tables.specs.Standing.{RunsTo}
-use Rattle.csp_tables.specs.Roles.{UseSets, use_at}
-use Rattle.csp_tables.specs.Ranking.{Ranking, part_ranks, rank_at}
-use Rattle.design_rules.specs.Counts.{count_in, is_odd}
-use Rattle.design_rules.specs.Resource.{is_held, last_from, IsHolder, holds, KeepUses, acquires, ResourcesRise}
-use Rattle.design_rules.specs.ResourceRanking.{top_number, AreResourceRanks}
+use Rattle.csp_tables.specs.Prelude.{end_of, part_at, Shape, link_at, is_end, acceptance_at, RunsTo, UseSets, use_at, Ranking, part_ranks, rank_at}
+use Rattle.design_rules.specs.Prelude.{count_in, is_odd, is_held, last_from, IsHolder, holds, KeepUses, acquires, ResourcesRise, top_number, AreResourceRanks}
 use Rattle.design_rules.proofs.Holders.{last_more, last_same, odd_more, odd_same}
 use Rattle.design_rules.proofs.Checks.{implies, implied, all_below, below_passes, passes_below, all_in, member_passes, all_steps, step_passes, all_accepted, accepted_passes, same_truth, same_truth_is, next_parity, parity_told, parts_shared, parts_shared_is, observed}
 use Rattle.design_rules.proofs.RankCheck.{parts_fit, fits_is, ranks_equal, all_vertices, vertex_passes, others_zero, others_zero_is, no_laps, no_laps_is}

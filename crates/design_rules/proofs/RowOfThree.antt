@@ -2,9 +2,7 @@
 use Rattle.std.proofs.Common.{◌≡◌, ℕ, zero, suc, ◌%◌, ◌<◌, List, [], ◌∷◌, refl, arith}
 use Rattle.csp_tables.specs.Shape.{IsWellFormed}
 use Rattle.digraph.specs.Walk.{Walk}
-use Rattle.design_rules.specs.Cyclic.{place_after, MustPrecede, NumbersRise, IsCyclic}
-use Rattle.design_rules.specs.CyclicRanking.{ComesAfter, AreChainNumbers}
-use Rattle.design_rules.specs.Example.{row_of_three, row_ranking, RowIsCyclic}
+use Rattle.design_rules.specs.Prelude.{place_after, MustPrecede, NumbersRise, IsCyclic, ComesAfter, AreChainNumbers, row_of_three, row_ranking, RowIsCyclic}
 use Rattle.design_rules.proofs.Walks.{walk_bound}
 use Rattle.design_rules.proofs.FormCheck.{well_formed}
 use Rattle.design_rules.proofs.CyclicCheck.{IsTestedCyclic, keeps_order, numbered_cyclic, cyclic_ranks}

@@ -2,10 +2,7 @@
 use Rattle.std.proofs.Common.{◌≡◌, ℕ, ◌+◌, ◌<◌, ◌≤◌, inl, inr, List, [], ◌∷◌, ◌++◌, length, get_or, Bool, true, false, IsTrue, nat_eq, refl, sym, subst, arith, append_assoc, append-nil}
 use Rattle.std.proofs.lemmas.Bool.{and_parts, or_cases, eqb-true, false≢true, cases_Bool, cond-true, cond-false, both_ways}
 use Rattle.csp_base.specs.Members.{has}
-use Rattle.csp_tables.specs.Table.{Node, node_at, is_possible, target, node_after, is_run, IsRun, end_of}
-use Rattle.csp_tables.specs.Part.{Part}
-use Rattle.csp_tables.specs.Form.{HasForm, StepsHaveForm}
-use Rattle.csp_tables.specs.Ranking.{laps_from, lap_of}
+use Rattle.csp_tables.specs.Prelude.{Node, node_at, is_possible, target, node_after, is_run, IsRun, end_of, Part, HasForm, StepsHaveForm, laps_from, lap_of}
 use Rattle.csp_tables.proofs.Runs.{run_push, end_push, node_form}
 
 abbrev pub possible_after : List Node → List ℕ → ℕ → Bool

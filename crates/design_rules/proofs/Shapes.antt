@@ -2,15 +2,8 @@
 use Rattle.std.proofs.Common.{◌≡◌, ℕ, zero, suc, ◌<◌, ◌≤◌, inl, inr, List, [], ◌∷◌, length, IsTrue, nat_eq, sym, subst, arith, eq-eqb}
 use Rattle.std.proofs.lemmas.Bool.{cases_Bool, cases_order, or_cases, or_left, or_right, eqb-true}
 use Rattle.csp_base.specs.Members.{has}
-use Rattle.design_rules.specs.Counts.{count_in}
-use Rattle.csp_tables.specs.Table.{end_of}
-use Rattle.csp_tables.specs.Part.{Part, part_at, alphabets_of, sharers, project, IsShared, AreApart}
-use Rattle.csp_tables.specs.Trace.{IsWithin}
-use Rattle.csp_tables.specs.Stands.{Stands, acceptance}
-use Rattle.csp_tables.specs.Falls.{IsUngranted}
-use Rattle.csp_tables.specs.Shape.{Shape, link_at, is_end, IsWellFormed, Joins, AreJoined}
-use Rattle.csp_tables.specs.Standing.{RunsTo, IsPossible, Accepts, accepted, IsOn}
-use Rattle.design_rules.specs.Vertices.{IsVertex}
+use Rattle.design_rules.specs.Prelude.{count_in, IsVertex}
+use Rattle.csp_tables.specs.Prelude.{end_of, Part, part_at, alphabets_of, sharers, project, IsShared, AreApart, IsWithin, Stands, acceptance, IsUngranted, Shape, link_at, is_end, IsWellFormed, Joins, AreJoined, RunsTo, IsPossible, Accepts, accepted, IsOn}
 use Rattle.net_sound.proofs.Sharers.{at_two}
 use Rattle.net_sound.proofs.Within.{acceptance_within, part_form}
 use Rattle.design_rules.proofs.Counts.{count_project}

@@ -6,26 +6,16 @@ use Rattle.std.proofs.lemmas.Bool.{and_parts, and_from}
 use Rattle.std.specs.List.{list_any}
 use Rattle.csp_base.specs.Members.{has}
 use Rattle.csp_base.proofs.Listed.{any_of, any_member}
-use Rattle.csp_tables.specs.Shape.{Shape, link_at}
-use Rattle.csp_tables.specs.Roles.{RoleSets, UseSets, use_at}
+use Rattle.csp_tables.specs.Prelude.{Shape, link_at, RoleSets, UseSets, use_at}
 use Rattle.digraph.proofs.WalkLaws.{same_least_circle}
-use Rattle.design_rules.specs.Agreement.{SameOutline, Agree}
-use Rattle.design_rules.specs.Behaviours.{Behaviours}
-use Rattle.design_rules.specs.CyclicRule.{place_after, ReachesLink, KeepsPlaces, AllKeepPlaces, MustPrecede, CanBeNumbered, FallsShort, IsWholeEnd, HasWholeEnd, IsCyclic}
+use Rattle.design_rules.specs.Prelude.{SameOutline, Agree, Behaviours, place_after, CanBeNumbered, FallsShort, IsFullEnd, IsNumberedCyclic, is_acknowledgement, is_request, TakesTurns, ServesAll, TakesAnswers, Serves, IsUsedInTurn, GrantsAll, UsesInTurn, acquires, CanBeOrdered, KeepsHolder, KeepsGrants, KeepsTurns, AllKeep, IsFirstBroken, MeetsRule, BreaksRule, BreaksCyclicRule, BreaksClientServerRule, BreaksResourceRule, Condition, NotedRule, Cyclic, ClientServer, Resource, RuleFault, NoOrder, NoWholeEnd, Broken, LinksCircle, ClientsCircle, ResourcesCircle}
+use Rattle.design_rules.specs.CyclicRule.{ReachesLink, KeepsPlaces, AllKeepPlaces, MustPrecede, IsWholeEnd, HasWholeEnd, IsCyclic}
 use Rattle.design_rules.specs.CyclicRuleFaults.{BreaksOrder}
-use Rattle.design_rules.specs.CyclicNumbered.{IsFullEnd, IsNumberedCyclic}
-use Rattle.design_rules.specs.ClientServerRule.{is_acknowledgement, is_request, TakesTurns, ServesAll, TakesAnswers, Serves, KeepRoles, IsClientServer}
+use Rattle.design_rules.specs.ClientServerRule.{KeepRoles, IsClientServer}
 use Rattle.design_rules.specs.ClientServerRuleFaults.{BreaksRoles}
-use Rattle.design_rules.specs.ResourceRule.{IsUsedInTurn, GrantsAll, UsesInTurn, KeepUses, acquires, IsHeldWhile, CanBeOrdered, IsResource}
-use Rattle.design_rules.specs.ResourceRuleFaults.{KeepsHolder, KeepsGrants, KeepsTurns, BreaksUses}
-use Rattle.design_rules.specs.FirstBroken.{AllKeep, IsFirstBroken}
-use Rattle.design_rules.specs.NotedRules.{MeetsRule, BreaksRule, BreaksCyclicRule, BreaksClientServerRule, BreaksResourceRule}
-use Rattle.design_rules.specs.declared.condition.Condition.{Condition}
+use Rattle.design_rules.specs.ResourceRule.{KeepUses, IsHeldWhile, IsResource}
+use Rattle.design_rules.specs.ResourceRuleFaults.{BreaksUses}
 use Rattle.design_rules.specs.declared.condition.Condition.TheVariants as condition
-use Rattle.design_rules.specs.declared.noted_rule.NotedRule.{NotedRule}
-use Rattle.design_rules.specs.declared.noted_rule.NotedRule.TheVariants.{Cyclic, ClientServer, Resource}
-use Rattle.design_rules.specs.declared.rule_fault.RuleFault.{RuleFault}
-use Rattle.design_rules.specs.declared.rule_fault.RuleFault.TheVariants.{NoOrder, NoWholeEnd, Broken, LinksCircle, ClientsCircle, ResourcesCircle}
 use Rattle.design_rules.proofs.Outlines.{turned_outline, on_links, on_parts, same_end, same_ends, all_ends, is_on, of_ends, joins, same_place_after, same_place, is_next, clash, client_on, same_open, same_held, same_holds, holder, have_clients, lacks_roles, lacks_client, no_circle, each_serves, have_kinds, lacks_kind}
 
 -- a network as a rule sees it: its outline, and what its components do

@@ -4,9 +4,7 @@ use Rattle.std.proofs.lemmas.Bool.{false≢true}
 use Rattle.csp_base.specs.Members.{has}
 use Rattle.csp_tables.specs.Shape.{IsWellFormed}
 use Rattle.digraph.specs.Walk.{Walk}
-use Rattle.design_rules.specs.Resource.{IsHeldWhile, ResourcesRise}
-use Rattle.design_rules.specs.ResourceRanking.{StandsAbove, AreResourceNumbers}
-use Rattle.design_rules.specs.Example.{two_users, two_users_uses, two_users_ranking, TwoUsersAreResource}
+use Rattle.design_rules.specs.Prelude.{IsHeldWhile, ResourcesRise, StandsAbove, AreResourceNumbers, two_users, two_users_uses, two_users_ranking, TwoUsersAreResource}
 use Rattle.design_rules.proofs.Walks.{walk_bound}
 use Rattle.design_rules.proofs.Checks.{member_passes}
 use Rattle.design_rules.proofs.FormCheck.{well_formed, triple_disjoint}

@@ -2,8 +2,7 @@
 use Rattle.std.proofs.Common.{◌≡◌, ℕ, zero, suc, ◌+◌, ◌<◌, ◌≤◌, inl, inr, List, [], ◌∷◌, nat_lt, refl, sym, subst, ◌∙◌, arith, lt-ltb, le-ltb, ltb-true}
 use Rattle.std.proofs.lemmas.Bool.{cases_eq}
 use Rattle.design_rules.specs.Counts.{count_below}
-use Rattle.digraph.specs.Walk.{Walk, IsLongestWalk}
-use Rattle.digraph.specs.Circle.{Leads, IsCircle}
+use Rattle.digraph.specs.Prelude.{Walk, IsLongestWalk, Leads, IsCircle}
 use Rattle.design_rules.proofs.Counts.{count_strict, count_at_most}
 
 -- n vertices, with the longest walk from each

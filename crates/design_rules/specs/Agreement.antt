@@ -3,11 +3,7 @@
 -- the one exactly where it is true of the other.
 use Rattle.std.specs.Prelude.{◌≡◌, ◌↔◌, ℕ, List, length}
 use Rattle.csp_base.specs.Members.{has}
-use Rattle.csp_tables.specs.Label.{Label}
-use Rattle.csp_tables.specs.Network.{Tree, leaves}
-use Rattle.csp_tables.specs.Part.{part_at}
-use Rattle.csp_tables.specs.Shape.{Shape, link_at}
-use Rattle.csp_tables.specs.ShapeOf.{IsShapeOf}
+use Rattle.csp_tables.specs.Prelude.{Label, Tree, leaves, part_at, Shape, link_at, IsShapeOf}
 use Rattle.design_rules.specs.Behaviours.{Behaviours, by_steps}
 use Rattle.design_rules.specs.ByTables.{by_tables}
 use Rattle.design_rules.specs.NotedRules.{NetworkMeets, NetworkBreaks}

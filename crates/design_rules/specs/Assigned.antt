@@ -1,8 +1,7 @@
 -- How a script assigns a component's events: sets of them that part what the component shares with others.
 use Rattle.std.specs.Prelude.{◌≡◌, ℕ, List, ◌&&◌, if◌then◌else◌}
 use Rattle.csp_base.specs.Members.{has}
-use Rattle.csp_tables.specs.Part.{part_at, sharers}
-use Rattle.csp_tables.specs.Shape.{Shape}
+use Rattle.csp_tables.specs.Prelude.{part_at, sharers, Shape}
 
 -- Each shared event of the component is in exactly one of the sets, and no other event is in any: the sets are disjoint, and
 -- together they are the component's events in the vocabulary.

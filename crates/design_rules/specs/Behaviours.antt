@@ -3,9 +3,7 @@
 -- written over any such reading. There are two: by the components' own steps, which is the network's, and by the tables of its shape (ByTables), which
 -- the deciders go by. Over the shape of a network the two agree (Agreement).
 use Rattle.std.specs.Prelude.{◌≡◌, ℕ, List, [], ◌∷◌, ◌++◌, Some, slice_get}
-use Rattle.csp_tables.specs.Label.{Label}
-use Rattle.csp_tables.specs.Network.{Component, ComponentStep}
-use Rattle.csp_tables.specs.Trace.{IsTrace, IsAcceptance, IsWithin}
+use Rattle.csp_tables.specs.Prelude.{Label, Component, ComponentStep, IsTrace, IsAcceptance, IsWithin}
 
 pub record Behaviours : Type 1 where
   -- the component in place i has the trace s

@@ -1,7 +1,6 @@
 -- The parts of a shape, read by their tables: this is what the deciders go by.
 use Rattle.std.specs.Prelude.{◌≡◌, ℕ, List}
-use Rattle.csp_tables.specs.Shape.{Shape}
-use Rattle.csp_tables.specs.Standing.{RunsTo, IsPossible, Accepts, accepted}
+use Rattle.csp_tables.specs.Prelude.{Shape, RunsTo, IsPossible, Accepts, accepted}
 use Rattle.design_rules.specs.Behaviours.{Behaviours}
 
 -- after the run s the part in place i accepts exactly M, at some place of its table, and M lies in the vocabulary

@@ -1,7 +1,6 @@
 -- The rule of clients and servers, read by the tables of a shape: what its decider decides.
 use Rattle.std.specs.Prelude.{ℕ, List}
-use Rattle.csp_tables.specs.Shape.{Shape}
-use Rattle.csp_tables.specs.Roles.{RoleSets}
+use Rattle.csp_tables.specs.Prelude.{Shape, RoleSets}
 use Rattle.design_rules.specs.ByTables.{by_tables}
 pub use Rattle.design_rules.specs.ClientServerRule.{HasRoles, IsClientOn, HasClient, has_acknowledgements, is_open, is_request, is_acknowledgement, Serves}
 use Rattle.design_rules.specs.ClientServerRule as rule

@@ -6,10 +6,7 @@
 -- server and the link is closed, i offers to take requests, so its rank is above the rank that any of its clients may have.
 -- If the link is open, i offers an acknowledgement, and the client takes all of them: a contradiction.
 use Rattle.std.specs.Prelude.{List}
-use Rattle.csp_tables.specs.Shape.{Shape, IsWellFormed}
-use Rattle.csp_tables.specs.Roles.{RoleSets}
-use Rattle.csp_tables.specs.Ranking.{Ranking}
-use Rattle.csp_tables.specs.Falls.{Falls}
+use Rattle.csp_tables.specs.Prelude.{Shape, IsWellFormed, RoleSets, Ranking, Falls}
 use Rattle.design_rules.specs.ClientServer.{IsClientServer}
 use Rattle.design_rules.specs.ClientServerRanking.{IsClientServerRanking}
 

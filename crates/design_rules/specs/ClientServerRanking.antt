@@ -4,10 +4,7 @@
 -- (For the deciders' contracts and the proofs alone: what a reader needs of ranks stands in GreatestRank.)
 use Rattle.std.specs.Prelude.{◌≡◌, ◌<◌, ◌*◌, ℕ, pos, ◌-ℤ◌, List, length}
 use Rattle.digraph.specs.Walk.{IsLongestWalk}
-use Rattle.csp_tables.specs.Part.{part_at, Meet, AreApart}
-use Rattle.csp_tables.specs.Shape.{Shape, acceptance_at}
-use Rattle.csp_tables.specs.Roles.{RoleSets, role_at}
-use Rattle.csp_tables.specs.Ranking.{Ranking, Fits, part_ranks, rank_at}
+use Rattle.csp_tables.specs.Prelude.{part_at, Meet, AreApart, Shape, acceptance_at, RoleSets, role_at, Ranking, Fits, part_ranks, rank_at}
 use Rattle.design_rules.specs.Vertices.{IsVertex, OthersRankZero, lap_at}
 use Rattle.design_rules.specs.ClientServer.{Serves}
 

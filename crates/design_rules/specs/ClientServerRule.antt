@@ -6,11 +6,7 @@
 use Rattle.std.specs.Prelude.{◌≡◌, ◌<◌, ◌⊎◌, ℕ, List, [], ◌∷◌, Bool, true, false, ◌||◌, ◌&&◌, IsTrue, length, if◌then◌else◌}
 use Rattle.std.specs.List.{list_any}
 use Rattle.csp_base.specs.Members.{has}
-use Rattle.csp_tables.specs.Part.{AreApart}
-use Rattle.csp_tables.specs.Trace.{IsWithin}
-use Rattle.csp_tables.specs.Shape.{Shape, Joins, link_at}
-use Rattle.csp_tables.specs.Standing.{IsOn}
-use Rattle.csp_tables.specs.Roles.{RoleSets, role_at}
+use Rattle.csp_tables.specs.Prelude.{AreApart, IsWithin, Shape, Joins, link_at, IsOn, RoleSets, role_at}
 use Rattle.design_rules.specs.Counts.{count_in, is_odd}
 use Rattle.digraph.specs.Circle.{HasNoCircle}
 use Rattle.design_rules.specs.Assigned.{PartShared}

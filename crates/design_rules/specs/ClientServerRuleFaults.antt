@@ -1,8 +1,7 @@
 -- What is told where a network is none of clients and servers: the least condition of S1 to S5 that is broken, with the first
 -- component that breaks it, and a trace after which it does; or a circle of clients.
 use Rattle.std.specs.Prelude.{◌≡◌, ◌<◌, ℕ, List, [], length}
-use Rattle.csp_tables.specs.Shape.{Shape, link_at}
-use Rattle.csp_tables.specs.Roles.{RoleSets}
+use Rattle.csp_tables.specs.Prelude.{Shape, link_at, RoleSets}
 use Rattle.digraph.specs.Circle.{IsLeastCircle}
 use Rattle.design_rules.specs.Behaviours.{Behaviours}
 use Rattle.design_rules.specs.ClientServerRule.{HasRoles, HasClient, TakesTurns, ServesAll, TakesAnswers, Serves, KeepRoles}

@@ -8,13 +8,7 @@
 -- j has done with L in this lap and both have as many laps, and the rank falls. If it has a higher number, j is a lap behind,
 -- and the scale is above all ranks.
 use Rattle.std.specs.Prelude.{◌↔◌, ℕ, List}
-use Rattle.csp_tables.specs.Label.{Label}
-use Rattle.csp_tables.specs.Network.{Component, Tree, leaves}
-use Rattle.csp_tables.specs.Shape.{Shape, IsWellFormed}
-use Rattle.csp_tables.specs.ShapeOf.{AreBusy, IsShapeOf}
-use Rattle.csp_tables.specs.Standing.{IsBusyShape}
-use Rattle.csp_tables.specs.Ranking.{Ranking}
-use Rattle.csp_tables.specs.Falls.{Falls}
+use Rattle.csp_tables.specs.Prelude.{Label, Component, Tree, leaves, Shape, IsWellFormed, AreBusy, IsShapeOf, IsBusyShape, Ranking, Falls}
 use Rattle.design_rules.specs.Behaviours.{by_steps}
 use Rattle.design_rules.specs.Cyclic.{KeepsPlaces, IsCyclic}
 use Rattle.design_rules.specs.ByTables.{by_tables}

@@ -3,9 +3,7 @@
 -- link number c modulo k, counted from 0. And on each link one end at least, whenever the link is its next, accepts all of the link's events. Over a network
 -- where no component is ever empty-handed this is the rule of CyclicRule.
 use Rattle.std.specs.Prelude.{◌≡◌, ◌<◌, ◌%◌, ◌⊎◌, ◌&&◌, nat_lt, ℕ, List, IsTrue, length}
-use Rattle.csp_tables.specs.Trace.{IsWithin}
-use Rattle.csp_tables.specs.Shape.{Shape, is_end, link_at}
-use Rattle.csp_tables.specs.Standing.{IsOn}
+use Rattle.csp_tables.specs.Prelude.{IsWithin, Shape, is_end, link_at, IsOn}
 use Rattle.design_rules.specs.Behaviours.{Behaviours}
 use Rattle.design_rules.specs.Counts.{count_below}
 use Rattle.design_rules.specs.CyclicRule.{links_of, place_after}

@@ -5,11 +5,7 @@
 use Rattle.std.specs.Prelude.{◌≡◌, ◌<◌, ◌+◌, ℕ, pos, length, nat_eq, if◌then◌else◌, false, IsTrue}
 use Rattle.csp_base.specs.Members.{has}
 use Rattle.digraph.specs.Walk.{IsLongestWalk}
-use Rattle.csp_tables.specs.Table.{node_at, is_possible}
-use Rattle.csp_tables.specs.Part.{part_at, Meet}
-use Rattle.csp_tables.specs.Shape.{Shape, is_end, link_at, acceptance_at}
-use Rattle.csp_tables.specs.Standing.{IsOn}
-use Rattle.csp_tables.specs.Ranking.{Ranking, Fits, part_ranks, rank_at}
+use Rattle.csp_tables.specs.Prelude.{node_at, is_possible, part_at, Meet, Shape, is_end, link_at, acceptance_at, IsOn, Ranking, Fits, part_ranks, rank_at}
 use Rattle.design_rules.specs.Counts.{above_all}
 use Rattle.design_rules.specs.Vertices.{IsVertex, OthersRankZero, lap_at}
 use Rattle.design_rules.specs.ByTables.{by_tables}

@@ -9,9 +9,7 @@
 -- The conditions read the alphabets, links and vocabulary of a shape, and none of its tables; what components do is told by a reading of them.
 use Rattle.std.specs.Prelude.{◌≡◌, ◌↔◌, ◌<◌, ◌%◌, ◌⊎◌, ℕ, List, IsTrue, false, length}
 use Rattle.csp_base.specs.Members.{has}
-use Rattle.csp_tables.specs.Part.{Meet}
-use Rattle.csp_tables.specs.Shape.{Shape, is_end, link_at}
-use Rattle.csp_tables.specs.Standing.{IsOn}
+use Rattle.csp_tables.specs.Prelude.{Meet, Shape, is_end, link_at, IsOn}
 use Rattle.design_rules.specs.Behaviours.{Behaviours}
 use Rattle.design_rules.specs.Counts.{count_below, count_in}
 

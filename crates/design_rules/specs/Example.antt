@@ -1,9 +1,6 @@
 -- Shapes that meet the three rules, with their rankings: the theorems speak of networks that there are.
 use Rattle.std.specs.Prelude.{ℕ, pos, List, [], ◌∷◌, true, false}
-use Rattle.csp_tables.specs.Part.{Part, alphabets_of, TripleDisjoint}
-use Rattle.csp_tables.specs.Shape.{Link, Shape, IsWellFormed}
-use Rattle.csp_tables.specs.Ranking.{PartRanks, Ranking}
-use Rattle.csp_tables.specs.Roles.{RoleSets, UseSets}
+use Rattle.csp_tables.specs.Prelude.{Part, alphabets_of, TripleDisjoint, Link, Shape, IsWellFormed, PartRanks, Ranking, RoleSets, UseSets}
 use Rattle.design_rules.specs.Cyclic.{IsCyclic}
 use Rattle.design_rules.specs.Resource.{IsResource}
 use Rattle.design_rules.specs.ResourceRanking.{IsResourceRanking}

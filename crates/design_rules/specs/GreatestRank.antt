@@ -3,11 +3,7 @@
 -- resources have numbers and heights by longest chains, as there are in a network that meets the rule.
 use Rattle.std.specs.Prelude.{◌≡◌, ◌<◌, ◌≤◌, ◌⊎◌, ◌+◌, ◌-◌, ◌*◌, ℕ, zero, suc, max, List, true, false, IsTrue, length, if◌then◌else◌}
 use Rattle.digraph.specs.Walk.{IsLongestWalk}
-use Rattle.csp_tables.specs.Label.{Label}
-use Rattle.csp_tables.specs.Network.{Component}
-use Rattle.csp_tables.specs.Part.{Meet, AreApart, IsNonEmpty}
-use Rattle.csp_tables.specs.Roles.{RoleSets, UseSets, role_at, use_at}
-use Rattle.csp_tables.specs.Shape.{Shape, is_end, link_at}
+use Rattle.csp_tables.specs.Prelude.{Label, Component, Meet, AreApart, IsNonEmpty, RoleSets, UseSets, role_at, use_at, Shape, is_end, link_at}
 use Rattle.design_rules.specs.Behaviours.{Behaviours, by_steps}
 use Rattle.design_rules.specs.ClientServerRule.{Serves}
 use Rattle.design_rules.specs.CyclicRule.{MustPrecede}

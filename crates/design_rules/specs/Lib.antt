@@ -22,6 +22,7 @@ pub mod GreatestRank
 pub mod Live
 pub mod NotedRules
 pub mod Outline
+pub mod Prelude
 pub mod RankCounts
 pub mod Resource
 pub mod ResourceFaults

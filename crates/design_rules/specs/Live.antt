@@ -1,12 +1,7 @@
 -- A network is live, with its silent bound, where a well-formed shape whose tables have the behaviour of its components meets
 -- one of the rules: the rule's ranking is good.
 use Rattle.std.specs.Prelude.{ℕ}
-use Rattle.csp_tables.specs.Label.{Label}
-use Rattle.csp_tables.specs.Live.{Live}
-use Rattle.csp_tables.specs.Network.{Tree, NetworkStep, leaves}
-use Rattle.csp_tables.specs.Shape.{Shape, IsWellFormed}
-use Rattle.csp_tables.specs.Behaviour.{HaveBehaviours}
-use Rattle.csp_tables.specs.Ranking.{Ranking}
+use Rattle.csp_tables.specs.Prelude.{Label, Live, Tree, NetworkStep, leaves, Shape, IsWellFormed, HaveBehaviours, Ranking}
 use Rattle.design_rules.specs.Rules.{Meets, Ranks}
 use Rattle.design_rules.specs.declared.noted_rule.NotedRule.{NotedRule}
 use Rattle.net_sound.specs.Soundness.{IsSound}

@@ -1,9 +1,6 @@
 -- A rule with its notes: what it is to meet it, and what each fault tells; then of a network: of its outline, and of its components by their own steps.
 use Rattle.std.specs.Prelude.{List}
-use Rattle.csp_tables.specs.Label.{Label}
-use Rattle.csp_tables.specs.Network.{Component}
-use Rattle.csp_tables.specs.Roles.{RoleSets, UseSets}
-use Rattle.csp_tables.specs.Shape.{Shape}
+use Rattle.csp_tables.specs.Prelude.{Label, Component, RoleSets, UseSets, Shape}
 use Rattle.design_rules.specs.Behaviours.{Behaviours, by_steps}
 use Rattle.design_rules.specs.Outline.{outline}
 use Rattle.design_rules.specs.CyclicRule.{IsCyclic}

@@ -4,9 +4,7 @@
 use Rattle.std.specs.Prelude.{ℕ, suc, List, [], ◌∷◌, ◌++◌, map, nat_le, if◌then◌else◌}
 use Rattle.std.specs.List.{filter, flat_map}
 use Rattle.csp_base.specs.Events.{inter_of, meets_of}
-use Rattle.csp_tables.specs.Network.{Component}
-use Rattle.csp_tables.specs.Part.{sharers}
-use Rattle.csp_tables.specs.Shape.{Link, Shape}
+use Rattle.csp_tables.specs.Prelude.{Component, sharers, Link, Shape}
 
 -- the link of the components i and j, where their alphabets meet
 abbrev pub link_between : ℕ → List ℕ → ℕ → List ℕ → List Link

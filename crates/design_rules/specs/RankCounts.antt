@@ -2,11 +2,7 @@
 use Rattle.std.specs.Prelude.{ℕ, ℤ, max, List, [], ◌∷◌}
 use Rattle.std.specs.List.{flat_map}
 use Rattle.csp_base.specs.Lists.{natural}
-use Rattle.csp_tables.specs.Label.{Label}
-use Rattle.csp_tables.specs.Network.{Tree, leaves}
-use Rattle.csp_tables.specs.Ranking.{Ranking}
-use Rattle.csp_tables.specs.Shape.{Shape}
-use Rattle.csp_tables.specs.ShapeOf.{IsShapeOf}
+use Rattle.csp_tables.specs.Prelude.{Label, Tree, leaves, Ranking, Shape, IsShapeOf}
 use Rattle.design_rules.specs.GreatestRank.{NetworkHasGreatestRank}
 use Rattle.design_rules.specs.Rules.{Ranks}
 use Rattle.design_rules.specs.declared.noted_rule.NotedRule.{NotedRule}

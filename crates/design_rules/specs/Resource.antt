@@ -1,7 +1,6 @@
 -- The rule of users and resources, read by the tables of a shape: what its decider decides.
 use Rattle.std.specs.Prelude.{ℕ, List}
-use Rattle.csp_tables.specs.Shape.{Shape}
-use Rattle.csp_tables.specs.Roles.{UseSets}
+use Rattle.csp_tables.specs.Prelude.{Shape, UseSets}
 use Rattle.design_rules.specs.ByTables.{by_tables}
 pub use Rattle.design_rules.specs.ResourceRule.{JoinsKinds, HasUses, HaveKinds, is_held, last_from, IsHolder, holds, acquires}
 use Rattle.design_rules.specs.ResourceRule as rule

@@ -1,7 +1,6 @@
 -- What is told where a network is none of users and resources, read by the tables of its shape.
 use Rattle.std.specs.Prelude.{ℕ, List}
-use Rattle.csp_tables.specs.Shape.{Shape}
-use Rattle.csp_tables.specs.Roles.{UseSets}
+use Rattle.csp_tables.specs.Prelude.{Shape, UseSets}
 use Rattle.design_rules.specs.declared.condition.Condition.{Condition}
 use Rattle.design_rules.specs.ByTables.{by_tables}
 pub use Rattle.design_rules.specs.ResourceRuleFaults.{HasKind, LacksKind}

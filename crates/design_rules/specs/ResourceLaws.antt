@@ -7,11 +7,7 @@
 -- accepts that: a contradiction. If i is a free resource, its rank is above all. If it is held, j holds it, so j offers to
 -- acquire only what is numbered above, and its rank is lower.
 use Rattle.std.specs.Prelude.{◌≡◌, ◌<◌, ◌≤◌, ℕ, List, true, length}
-use Rattle.csp_tables.specs.Part.{alphabets_of, TripleDisjoint}
-use Rattle.csp_tables.specs.Shape.{Shape, IsWellFormed}
-use Rattle.csp_tables.specs.Roles.{UseSets, use_at}
-use Rattle.csp_tables.specs.Ranking.{Ranking}
-use Rattle.csp_tables.specs.Falls.{Falls}
+use Rattle.csp_tables.specs.Prelude.{alphabets_of, TripleDisjoint, Shape, IsWellFormed, UseSets, use_at, Ranking, Falls}
 use Rattle.design_rules.specs.Resource.{KeepUses, ResourcesRise, IsResource}
 use Rattle.design_rules.specs.ResourceRanking.{AreResourceRanks, IsResourceRanking}
 

@@ -3,12 +3,7 @@
 -- rank the lower the higher the number is. There are no laps.
 -- (For the deciders' contracts and the proofs alone: what a reader needs of ranks stands in GreatestRank.)
 use Rattle.std.specs.Prelude.{◌≡◌, ◌<◌, ◌≤◌, ◌+◌, ◌-◌, ◌*◌, ℕ, ℤ, pos, List, true, false, IsTrue, length}
-use Rattle.csp_tables.specs.Table.{end_of}
-use Rattle.csp_tables.specs.Part.{part_at, IsNonEmpty}
-use Rattle.csp_tables.specs.Shape.{Shape}
-use Rattle.csp_tables.specs.Standing.{Accepts, accepted}
-use Rattle.csp_tables.specs.Roles.{UseSets, use_at}
-use Rattle.csp_tables.specs.Ranking.{Ranking, Fits, part_ranks, rank_at}
+use Rattle.csp_tables.specs.Prelude.{end_of, part_at, IsNonEmpty, Shape, Accepts, accepted, UseSets, use_at, Ranking, Fits, part_ranks, rank_at}
 use Rattle.design_rules.specs.Vertices.{OthersRankZero, lap_at}
 use Rattle.design_rules.specs.ByTables.{by_tables}
 pub use Rattle.design_rules.specs.GreatestRank.{top_number}

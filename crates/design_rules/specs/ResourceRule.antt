@@ -5,9 +5,7 @@
 use Rattle.std.specs.Prelude.{◌≡◌, ◌<◌, ℕ, List, [], ◌∷◌, Bool, true, false, not, ◌&&◌, IsTrue, Option, Some, None, length, if◌then◌else◌}
 use Rattle.std.specs.List.{list_any}
 use Rattle.csp_base.specs.Members.{has}
-use Rattle.csp_tables.specs.Trace.{IsWithin}
-use Rattle.csp_tables.specs.Shape.{Shape, Joins, is_end, link_at}
-use Rattle.csp_tables.specs.Roles.{UseSets, use_at}
+use Rattle.csp_tables.specs.Prelude.{IsWithin, Shape, Joins, is_end, link_at, UseSets, use_at}
 use Rattle.design_rules.specs.Counts.{count_in, is_odd}
 use Rattle.design_rules.specs.Assigned.{PartShared}
 use Rattle.design_rules.specs.Behaviours.{Behaviours}

@@ -1,8 +1,7 @@
 -- What is told where a network is none of users and resources: the least condition of U1 to U4 that is broken, with the first
 -- component that breaks it, and a trace after which it does; or a circle of resources.
 use Rattle.std.specs.Prelude.{◌≡◌, ◌<◌, ℕ, List, [], true, false, length}
-use Rattle.csp_tables.specs.Shape.{Shape, link_at}
-use Rattle.csp_tables.specs.Roles.{UseSets, use_at}
+use Rattle.csp_tables.specs.Prelude.{Shape, link_at, UseSets, use_at}
 use Rattle.digraph.specs.Circle.{IsLeastCircle}
 use Rattle.design_rules.specs.Behaviours.{Behaviours}
 use Rattle.design_rules.specs.FirstBroken.{AllKeep, IsFirstBroken}

@@ -1,8 +1,6 @@
 -- A rule with its notes, read by the tables of a shape: what its decider decides, and the ranking that it gives.
 use Rattle.std.specs.Prelude.{◌≡◌, List, length}
-use Rattle.csp_tables.specs.Shape.{Shape}
-use Rattle.csp_tables.specs.Roles.{RoleSets, UseSets}
-use Rattle.csp_tables.specs.Ranking.{Ranking}
+use Rattle.csp_tables.specs.Prelude.{Shape, RoleSets, UseSets, Ranking}
 use Rattle.design_rules.specs.ByTables.{by_tables}
 use Rattle.design_rules.specs.CyclicRanking.{IsCyclicRanking}
 use Rattle.design_rules.specs.ClientServerRanking.{IsClientServerRanking}

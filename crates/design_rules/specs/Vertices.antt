@@ -1,10 +1,6 @@
 -- What all rankings say in the same words: which acceptances have a rank of their own, and which lap stands for an event.
 use Rattle.std.specs.Prelude.{◌≡◌, ◌<◌, ℕ, pos, [], length, get_or}
-use Rattle.csp_tables.specs.Table.{node_at}
-use Rattle.csp_tables.specs.Part.{part_at, IsNonEmpty}
-use Rattle.csp_tables.specs.Trace.{IsWithin}
-use Rattle.csp_tables.specs.Shape.{Shape, acceptance_at}
-use Rattle.csp_tables.specs.Ranking.{Ranking, part_ranks, rank_at, lap_of}
+use Rattle.csp_tables.specs.Prelude.{node_at, part_at, IsNonEmpty, IsWithin, Shape, acceptance_at, Ranking, part_ranks, rank_at, lap_of}
 
 -- A vertex: the acceptance in place k of the node n of the part i, which is not empty and lies in the vocabulary.
 pub record IsVertex (shape : Shape) (i n k : ℕ) : Type 0 where

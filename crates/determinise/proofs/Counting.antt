@@ -1,17 +1,11 @@
 -- How many sets traces lead to.
 use Rattle.std.proofs.Common.{◌≡◌, ℕ, zero, suc, ◌+◌, ◌<◌, ◌≤◌, inl, inr, true, false, nat_eq, IsTrue, List, [], ◌∷◌, ◌++◌, length, get_or, refl, sym, ap, subst, ◌∙◌, arith}
 use Rattle.std.specs.Prelude.{map}
-use Rattle.std.specs.List.{list_any, IsDistinct}
-use Rattle.std.specs.List.Sorted.{IsStrictlyIncreasing}
-use Rattle.std.proofs.lemmas.Bool.{cases_lt, cases_Bool, eqb-true}
-use Rattle.std.proofs.lemmas.List.{get_or_append_left, length-append, get_or-map, length-map}
-use Rattle.std.proofs.lemmas.Map.Keys.{IsDistinct-from_apart}
-use Rattle.std.proofs.lemmas.Map.Steps.{length-le_from_distinct_below}
-use Rattle.std.proofs.Math.Seq.{get_or-append_seam}
+use Rattle.csp_base.specs.Standard.{list_any, IsDistinct, IsStrictlyIncreasing}
+use Rattle.csp_base.proofs.Standard.{cases_lt, cases_Bool, eqb-true, get_or_append_left, length-append, get_or-map, length-map, IsDistinct-from_apart, length-le_from_distinct_below, get_or-append_seam}
 use Rattle.csp_base.specs.Members.{has}
 use Rattle.csp_base.proofs.Rising.{rises_from_increasing, same_members}
-use Rattle.csp_tables.specs.RawTable.{RawTable, RawStep}
-use Rattle.csp_tables.specs.Table.{Node, end_of}
+use Rattle.csp_tables.specs.Prelude.{RawTable, RawStep, Node, end_of}
 use Rattle.determinise.specs.ManySets.{HaveSameStates, ReachesSets}
 use Rattle.determinise.specs.Progress.{set_at, AreReachedSets, AreNodesSoFar}
 use Rattle.term_sets.specs.TermSets.{IsSetAfter}

@@ -1,16 +1,8 @@
 -- Traces lead from set to set, and the nodes of the sets come one after another.
 use Rattle.std.proofs.Common.{◌≡◌, ℕ, ◌<◌, inl, inr, true, nat_eq, IsTrue, List, [], ◌∷◌, ◌++◌, length, get_or, take, sym, ap, subst, ◌∙◌, arith, eq-eqb}
-use Rattle.std.proofs.lemmas.Bool.{cases_lt, eqb-true}
-use Rattle.std.proofs.lemmas.Grind.{flat_map-append}
-use Rattle.std.proofs.lemmas.List.{append-nil, get_or_append_left, length-append, take-append-le, take_all}
-use Rattle.std.proofs.lemmas.List.Folds.{list_any_at}
-use Rattle.std.proofs.Math.Seq.{get_or-append_seam}
+use Rattle.csp_base.proofs.Standard.{cases_lt, eqb-true, flat_map-append, append-nil, get_or_append_left, length-append, take-append-le, take_all, list_any_at, get_or-append_seam}
 use Rattle.csp_base.specs.Members.{has}
-use Rattle.csp_tables.specs.Label.Label.{visible}
-use Rattle.csp_tables.specs.Trace.{After}
-use Rattle.csp_tables.specs.RawTable.{RawTable, RawStep}
-use Rattle.csp_tables.specs.Table.{Node, target, node_at}
-use Rattle.csp_tables.specs.BreadthFirst.{targets_of_steps, targets_of_nodes, MeetsInOrder, MeetsUpTo}
+use Rattle.csp_tables.specs.Prelude.{visible, After, RawTable, RawStep, Node, target, node_at, targets_of_steps, targets_of_nodes, MeetsInOrder, MeetsUpTo}
 use Rattle.csp_tables.proofs.Listed.{step_listed, listed_step}
 use Rattle.term_sets.specs.Moves.{has_event, has_move, AreMovesOf, IsNextSet}
 use Rattle.determinise.specs.Progress.{set_at, IsReachedFromSet, AreMoreSets, AreNodeSteps, IsNodeOf, AreReachedSets, AreNodesSoFar}

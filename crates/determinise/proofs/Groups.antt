@@ -1,14 +1,10 @@
 -- Steps in the order of their events, cut into groups of one event.
 use Rattle.std.proofs.Common.{◌≡◌, ℕ, zero, suc, ◌+◌, ◌-◌, ◌<◌, ◌≤◌, inl, inr, true, not, ◌||◌, nat_eq, List, [], ◌∷◌, length, get_or, take, drop, refl, sym, ap, subst, ◌∙◌, arith, eq-eqb}
 use Rattle.std.specs.Prelude.{map}
-use Rattle.std.specs.List.{All}
-use Rattle.std.specs.List.Sorted.{IsNonDecreasingBy}
-use Rattle.std.proofs.lemmas.Bool.{cases_lt, eqb-true, false≢true, or_left, or_right, or_cases}
-use Rattle.std.proofs.lemmas.List.{get_or-take, get_or-drop, length-take, length-drop, get_or-map, length-map, get_or_default, take_all}
-use Rattle.std.proofs.lemmas.List.Folds.{list_any_at}
+use Rattle.csp_base.specs.Standard.{All, IsNonDecreasingBy}
+use Rattle.csp_base.proofs.Standard.{cases_lt, eqb-true, false≢true, or_left, or_right, or_cases, get_or-take, get_or-drop, length-take, length-drop, get_or-map, length-map, get_or_default, take_all, list_any_at}
 use Rattle.csp_base.specs.Members.{has}
-use Rattle.csp_tables.specs.RawTable.{RawTable}
-use Rattle.csp_tables.specs.BreadthFirst.{targets_of_steps}
+use Rattle.csp_tables.specs.Prelude.{RawTable, targets_of_steps}
 use Rattle.term_sets.specs.Moves.{has_event, has_move, IsNextSet}
 use Rattle.determinise.specs.Progress.{IsSomeNextSet}
 use Rattle.term_sets.specs.TermSets.{IsSilentClosure}

@@ -1,12 +1,8 @@
 -- Sets that are known by their starts: as more sets are numbered, and as one more becomes known.
 use Rattle.std.proofs.Common.{◌≡◌, ℕ, ◌+◌, ◌<◌, inl, inr, false, nat_eq, Some, List, [], ◌∷◌, ◌++◌, length, get_or, sym, ap, subst, ◌∙◌, arith}
 use Rattle.std.specs.Prelude.{slice_get}
-use Rattle.std.specs.Set.{is_member}
-use Rattle.std.specs.Cmp.Lexicographic.{pointwise}
-use Rattle.std.proofs.lemmas.Bool.{cases_lt, cond-false}
-use Rattle.std.proofs.lemmas.List.{get_or_append_left, get_or_default, length-append}
-use Rattle.std.proofs.Math.Seq.{get_or-append_seam}
-use Rattle.std.proofs.lemmas.Option.{slice_get_within, get_or_from_slice_get}
+use Rattle.csp_base.specs.Standard.{is_member, pointwise}
+use Rattle.csp_base.proofs.Standard.{cases_lt, cond-false, get_or_append_left, get_or_default, length-append, get_or-append_seam, slice_get_within, get_or_from_slice_get}
 use Rattle.containers.specs.Members.{with_new}
 use Rattle.csp_tables.specs.RawTable.{RawTable}
 use Rattle.term_sets.specs.TermSets.{IsSilentClosure}

@@ -1,12 +1,7 @@
 -- Sets of terms that are added behind others: one more, none, and more after more.
 use Rattle.std.proofs.Common.{◌≡◌, ℕ, suc, ◌+◌, ◌<◌, ◌≤◌, inl, inr, true, false, nat_eq, Some, List, [], ◌∷◌, ◌++◌, length, slice_get, refl, sym, ap, subst, ◌∙◌, arith}
-use Rattle.std.specs.Set.{is_member}
-use Rattle.std.specs.Cmp.Lexicographic.{pointwise}
-use Rattle.std.proofs.lemmas.Bool.{cases_Bool, cases_lt, cond-true, cond-false, false≢true}
-use Rattle.std.proofs.lemmas.List.{get_or_append_left, length-append}
-use Rattle.std.proofs.lemmas.List.Folds.{list_any_at}
-use Rattle.std.proofs.lemmas.Option.{slice_get_within, get_or_from_slice_get}
-use Rattle.std.proofs.Math.Seq.{get_or-append_seam}
+use Rattle.csp_base.specs.Standard.{is_member, pointwise}
+use Rattle.csp_base.proofs.Standard.{cases_Bool, cases_lt, cond-true, cond-false, false≢true, get_or_append_left, length-append, list_any_at, slice_get_within, get_or_from_slice_get, get_or-append_seam}
 use Rattle.containers.specs.Members.{with_new}
 use Rattle.csp_tables.specs.BreadthFirst.{MeetsInOrder}
 use Rattle.determinise.specs.Progress.{set_at, AreMoreSets}

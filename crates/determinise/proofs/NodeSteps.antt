@@ -2,12 +2,8 @@
 use Rattle.std.proofs.Common.{◌≡◌, ℕ, zero, suc, ◌+◌, ◌<◌, ◌≤◌, inl, inr, Bool, true, false, ◌||◌, nat_eq, IsTrue, List, [], ◌∷◌, ◌++◌, length, get_or, take, refl, sym, ap, subst, ◌∙◌, arith, eq-eqb}
 use Rattle.std.specs.Prelude.{map}
 use Rattle.std.specs.List.Sorted.{IsStrictlyIncreasing}
-use Rattle.std.proofs.lemmas.Bool.{cases_lt, cases_Bool, eqb-true, false≢true, or_left, or_right, cond-true, cond-false}
-use Rattle.std.proofs.lemmas.List.{take_all, get_or_append_left, length-append}
-use Rattle.std.proofs.Math.Seq.{get_or-append_seam}
-use Rattle.csp_tables.specs.RawTable.{RawTable}
-use Rattle.csp_tables.specs.Table.{is_possible, target}
-use Rattle.csp_tables.specs.BreadthFirst.{targets_of_steps, MeetsInOrder}
+use Rattle.csp_base.proofs.Standard.{cases_lt, cases_Bool, eqb-true, false≢true, or_left, or_right, cond-true, cond-false, take_all, get_or_append_left, length-append, get_or-append_seam}
+use Rattle.csp_tables.specs.Prelude.{RawTable, is_possible, target, targets_of_steps, MeetsInOrder}
 use Rattle.term_sets.specs.Moves.{has_event, IsNextSet}
 use Rattle.determinise.specs.Progress.{set_at, AreMoreSets, IsSomeNextSet, LeadsToSet, AreNodeSteps}
 use Rattle.term_sets.specs.TermSets.{IsSilentClosure}

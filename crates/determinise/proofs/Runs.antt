@@ -1,19 +1,12 @@
 -- Runs of the table of all sets are the traces of the numbered table, and its acceptances are theirs.
 use Rattle.std.proofs.Common.{◌≡◌, ℕ, ◌<◌, true, IsTrue, List, [], ◌∷◌, ◌++◌, length, get_or, refl, sym, subst, ◌∙◌}
-use Rattle.std.specs.Cmp.{first_so, second_so}
-use Rattle.std.specs.List.{All}
-use Rattle.std.proofs.lemmas.List.{append-nil, append_assoc, get_or_default}
-use Rattle.csp_tables.specs.Trace.{IsTrace, IsStableOffer, IsAcceptance}
-use Rattle.csp_tables.specs.RawTable.{RawTable, RawStep}
-use Rattle.csp_tables.specs.Offer.{IsOfferOf, IsMinimalOffer}
-use Rattle.csp_tables.specs.Table.{Node, is_possible, node_at, node_after, is_run, end_of, acceptances_after}
-use Rattle.csp_tables.specs.BreadthFirst.{IsBreadthFirst, MeetsUpTo}
+use Rattle.csp_base.specs.Standard.{first_so, second_so, All}
+use Rattle.csp_base.proofs.Standard.{append-nil, append_assoc, get_or_default, and_from}
+use Rattle.csp_tables.specs.Prelude.{IsTrace, IsStableOffer, IsAcceptance, RawTable, RawStep, IsOfferOf, IsMinimalOffer, Node, is_possible, node_at, node_after, is_run, end_of, acceptances_after, IsBreadthFirst, MeetsUpTo, HasAcceptances, IsRisingNode}
 use Rattle.determinise.specs.Determinised.{FollowsTraces, AreDifferentSets}
-use Rattle.csp_tables.specs.NormalTable.{HasAcceptances, IsRisingNode}
 use Rattle.determinise.specs.Progress.{set_at, AreNodeSteps, IsNodeOf, AreReachedSets, AreNodesSoFar}
 use Rattle.term_sets.specs.TermSets.{IsSetAfter}
 use Rattle.determinise.proofs.Exploring.{move_after, next_after, event_of_move}
-use Rattle.std.proofs.lemmas.Bool.{and_from}
 
 -- ---- acceptances of a set are those after its trace
 module _ (raw : RawTable) (s set : List ℕ) (after : IsSetAfter raw s set) where

@@ -4,9 +4,7 @@
 use Rattle.std.specs.Prelude.{◌≡◌, ◌≢◌, ◌↔◌, ◌<◌, ℕ, List, [], length, get_or, IsTrue, All}
 use Rattle.std.specs.List.Sorted.{IsStrictlyIncreasing}
 use Rattle.csp_base.specs.Members.{has}
-use Rattle.csp_tables.specs.Label.{Label}
-use Rattle.csp_tables.specs.Trace.{After, IsTrace}
-use Rattle.csp_tables.specs.Table.{Node, IsRun, end_of}
+use Rattle.csp_tables.specs.Prelude.{Label, After, IsTrace, Node, IsRun, end_of}
 
 -- the nodes, and for each node its set of terms
 pub record Determinised : Type 0 where

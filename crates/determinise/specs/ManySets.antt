@@ -1,7 +1,6 @@
 -- How many sets of states the traces of a labelled transition system lead to.
 use Rattle.std.specs.Prelude.{◌≡◌, ◌↔◌, ◌<◌, ℕ, List, [], length, get_or}
-use Rattle.csp_tables.specs.Label.{Label}
-use Rattle.csp_tables.specs.Trace.{After, IsTrace}
+use Rattle.csp_tables.specs.Prelude.{Label, After, IsTrace}
 
 -- the two traces lead to the same states
 abbrev pub HaveSameStates : {S : Type 0} → (S → Label → S → Type 0) → S → List ℕ → List ℕ → Type 0

@@ -1,9 +1,7 @@
 -- What holds while sets of terms are found and numbered.
 use Rattle.std.specs.Prelude.{◌≡◌, ◌≢◌, ◌<◌, ◌≤◌, ℕ, List, [], length, get_or, map, take, IsTrue}
 use Rattle.std.specs.List.Sorted.{IsStrictlyIncreasing}
-use Rattle.csp_tables.specs.RawTable.{RawTable}
-use Rattle.csp_tables.specs.Table.{Node, is_possible, target, node_at}
-use Rattle.csp_tables.specs.BreadthFirst.{MeetsUpTo}
+use Rattle.csp_tables.specs.Prelude.{RawTable, Node, is_possible, target, node_at, MeetsUpTo}
 use Rattle.term_sets.specs.Moves.{has_event, IsNextSet, AreMovesOf}
 use Rattle.term_sets.specs.TermSets.{AreMinimalOffers, IsSetAfter, IsTermSet}
 

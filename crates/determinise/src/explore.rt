@@ -2,10 +2,8 @@
 
 ghost use Rattle.std.specs.Prelude.{◌≡◌, ◌+◌, ◌<◌, ◌≤◌, ◌++◌, ◌∷◌, [], All, IfOk, OnOk, length};
 ghost use Rattle.dl_limits.specs.declared.TheConstants.{MOST_SETS};
-ghost use Rattle.csp_tables.specs.RawTable.{RawStep};
-ghost use Rattle.csp_tables.specs.BreadthFirst.{IsBreadthFirst};
+ghost use Rattle.csp_tables.specs.Prelude.{RawStep, IsBreadthFirst, HasAcceptances, IsRisingNode};
 ghost use Rattle.determinise.specs.Determinised.{FollowsTraces, AreDifferentSets};
-ghost use Rattle.csp_tables.specs.NormalTable.{HasAcceptances, IsRisingNode};
 ghost use Rattle.determinise.specs.ManySets.{ReachesSets};
 ghost use Rattle.determinise.specs.Progress.{AreNodesSoFar, AreReachedSets};
 

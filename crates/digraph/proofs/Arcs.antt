@@ -1,14 +1,9 @@
 -- What an arc that is added changes, and where arcs begin and end.
 use Rattle.std.proofs.Common.{◌≡◌, ℕ, ◌<◌, ◌==◌, ◌&&◌, ◌||◌, nat_eq, eq-eqb, List, Result, OnOk, OnErr, Ok, Err, ◌∷◌, ◌++◌, length, set, get_or, refl, sym, ap, ◌∙◌, inl, inr, get_or-set_same, get_or-set_other, []}
-use Rattle.std.specs.List.{All}
+use Rattle.csp_base.specs.Standard.{All, AllocError}
 use Rattle.csp_base.specs.Members.{has}
-use Rattle.std.specs.declared.alloc.AllocError.{AllocError}
-use Rattle.std.proofs.lemmas.List.{length-set, set-get_or, get_or_past, get_or_read, get_or_default}
-use Rattle.std.proofs.lemmas.List.Folds.{list_any-append, list_any_at, Any-from_list_any}
-use Rattle.std.proofs.lemmas.Bool.{cases_eq, cases_lt, or_cases, and_parts, eqb-true, ne_eqb, false≢true}
+use Rattle.csp_base.proofs.Standard.{length-set, set-get_or, get_or_past, get_or_read, get_or_default, list_any-append, list_any_at, Any-from_list_any, cases_eq, cases_lt, or_cases, and_parts, eqb-true, ne_eqb, false≢true, nat_eq_equiv, or-false}
 use Rattle.digraph.specs.Digraph.{Digraph, targets_of, has_arc, HasArc, InRange}
-use Rattle.std.proofs.lemmas.Cmp.{nat_eq_equiv}
-use Rattle.std.proofs.Math.Bool.{or-false}
 
 -- an arc begins at a vertex
 pub HasArc-from : (g : Digraph) (v w : ℕ) → HasArc g v w → v < length g

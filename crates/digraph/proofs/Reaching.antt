@@ -1,22 +1,13 @@
 -- What a search finds from its sources on is what walks reach.
 use Rattle.std.proofs.Common.{◌≡◌, ◌↔◌, ℕ, zero, suc, ◌+◌, ◌<◌, ◌≤◌, Bool, true, false, ◌||◌, nat_eq, IsTrue, List, [], ◌∷◌, ◌++◌, length, take, get_or, refl, sym, ap, subst, ◌∙◌, inl, inr, ◌⊎◌, arith, eq-eqb}
-use Rattle.std.specs.List.{All, flat_map, IsDistinct}
-use Rattle.std.specs.Set.{is_member}
-use Rattle.std.proofs.lemmas.List.{append-nil, append_assoc, length-append, take-append-le, take_all, take_more}
-use Rattle.std.proofs.lemmas.List.Sums.{fold-append}
-use Rattle.std.proofs.lemmas.List.Folds.{list_any-append, list_any_at}
-use Rattle.std.proofs.lemmas.Grind.{flat_map-append}
-use Rattle.std.proofs.lemmas.Bool.{cases_Bool, cond-true, cond-false, or_cases, or_left, or_right, eqb-true}
-use Rattle.std.proofs.lemmas.Cmp.{nat_eq_equiv}
+use Rattle.csp_base.specs.Standard.{All, flat_map, IsDistinct, is_member}
+use Rattle.csp_base.proofs.Standard.{append-nil, append_assoc, length-append, take-append-le, take_all, take_more, fold-append, list_any-append, list_any_at, flat_map-append, cases_Bool, cond-true, cond-false, or_cases, or_left, or_right, eqb-true, nat_eq_equiv, or-false, or_assoc}
 use Rattle.csp_base.specs.Members.{has}
 use Rattle.containers.specs.Members.{with_new}
 use Rattle.containers.proofs.MembersLemmas.{IsDistinct-with_new}
-use Rattle.digraph.specs.Digraph.{Digraph, targets_of, HasArc}
-use Rattle.digraph.specs.Walk.{Walk, ReachesFrom}
+use Rattle.digraph.specs.Prelude.{Digraph, targets_of, HasArc, Walk, ReachesFrom, found_after, found_over}
 use Rattle.digraph.proofs.Listing.{same_has}
 use Rattle.digraph.proofs.WalkLaws.{Reaches-arc, Reaches-itself}
-use Rattle.digraph.specs.FoundOrder.{found_after, found_over}
-use Rattle.std.proofs.Math.Bool.{or-false, or_assoc}
 use Rattle.csp_base.proofs.Listed.{listed_below}
 
 -- one number more

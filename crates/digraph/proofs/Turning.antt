@@ -3,8 +3,7 @@ use Rattle.std.proofs.Common.{◌≡◌, ◌≢◌, ℕ, ◌+◌, ◌-◌, ◌<�
 use Rattle.std.specs.List.{IsFirstBest}
 use Rattle.std.proofs.lemmas.List.{length-append, length-take-le, length-drop, get_or-take, get_or-drop, get_or_append_left, get_or-append_right}
 use Rattle.std.proofs.lemmas.Bool.{cases_lt, ltb-false}
-use Rattle.digraph.specs.Digraph.{Digraph, HasArc}
-use Rattle.digraph.specs.Circle.{IsCircle, IsLeastCircle}
+use Rattle.digraph.specs.Prelude.{Digraph, HasArc, IsCircle, IsLeastCircle}
 use Rattle.circles.specs.Turn.{IsTurnedFrom}
 use Rattle.digraph.proofs.WalkLaws.{Leads-from_places}
 

@@ -4,3 +4,4 @@ pub mod Circle
 pub mod Search
 pub mod FoundOrder
 pub use Rattle.containers.specs.Members
+pub mod Prelude

@@ -3,9 +3,7 @@
 ghost use Rattle.std.specs.Prelude.{◌≡◌, [], ℕ, ◌<◌, ◌↔◌, All, nat_eq, length, IsTrue, IfOk, OnOk};
 ghost use Rattle.std.specs.List.{IsDistinct};
 ghost use Rattle.csp_base.specs.Members.{has};
-ghost use Rattle.digraph.specs.Digraph.{HasArc};
-ghost use Rattle.digraph.specs.Walk.{ReachesFrom};
-ghost use Rattle.digraph.specs.FoundOrder.{found_after, found_over};
+ghost use Rattle.digraph.specs.Prelude.{HasArc, ReachesFrom, found_after, found_over};
 
 use crate::rows::Rows;
 use containers::Numbering;

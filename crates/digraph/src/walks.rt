@@ -2,10 +2,7 @@
 
 ghost use Rattle.std.specs.Prelude.{◌≡◌, ℕ, ◌+◌, ◌-◌, ◌<◌, ◌≤◌, ◌↔◌, List, [], true, false, length, map, max, slice_index, All, IfOk, OnOk};
 ghost use Rattle.circles.specs.Turn.{IsTurnedFrom};
-ghost use Rattle.digraph.specs.Digraph.{targets_of, HasArc, InRange};
-ghost use Rattle.digraph.specs.Walk.{IsLongestWalk, AreHeights};
-ghost use Rattle.digraph.specs.Circle.{HasNoCircle, IsLeastCircle};
-ghost use Rattle.digraph.specs.Search.{IsSearch, IsStep, height_of, mark_at};
+ghost use Rattle.digraph.specs.Prelude.{targets_of, HasArc, InRange, IsLongestWalk, AreHeights, HasNoCircle, IsLeastCircle, IsSearch, IsStep, height_of, mark_at};
 
 use crate::fault::Fault;
 use crate::heights::Heights;

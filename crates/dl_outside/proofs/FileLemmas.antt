@@ -1,16 +1,9 @@
 -- What the shelf of files and the sink of the standard output answer is what a shelf and a sink may answer that tell nothing.
 use Rattle.std.proofs.Common.{◌≡◌, ℕ, ◌+◌, ◌<◌, List, Option, IfOk, IfSome, length, refl, ap, ◌∙◌, arith}
 use Rattle.std.specs.Prelude.{Result, Ok, Err, None}
-use Rattle.dl_outside.specs.Count.{Counts, HasRisen}
-use Rattle.std.specs.Str.{IsUtf8}
-use Rattle.dl_outside.specs.Load.{AnswersUntold}
-use Rattle.dl_outside.specs.FileShelf.{FileAnswers, GaveFile}
-use Rattle.dl_outside.specs.StdSink.{PrintAnswers}
-use Rattle.dl_outside.specs.Write.{WriteAnswers}
-use Rattle.dl_outside.specs.declared.shelf.LoadFault.{LoadFault}
-use Rattle.dl_outside.specs.declared.shelf.LoadFault.TheVariants.{Missing, TooLong, Failed, NoMemory}
-use Rattle.dl_outside.specs.declared.sink.SinkFault.{SinkFault}
+use Rattle.dl_outside.specs.Prelude.{Counts, HasRisen, AnswersUntold, FileAnswers, GaveFile, PrintAnswers, WriteAnswers, LoadFault, Missing, TooLong, Failed, NoMemory, SinkFault}
 use Rattle.dl_outside.specs.declared.sink.SinkFault.TheVariants.{Failed as PrintFailed, NoMemory as PrintNoMemory}
+use Rattle.std.specs.Str.{IsUtf8}
 
 pub file_answer : (old new : Counts) (limit : ℕ) (r : Result (List ℕ) LoadFault) → FileAnswers old new limit r → AnswersUntold limit (HasRisen old.faults new.faults) (old.taken + limit < new.taken) r
 file_answer old new limit (Ok bytes) is = is.0

@@ -1,17 +1,9 @@
 -- A text is put over the one of its name, or at the end where there is none.
 use Rattle.std.proofs.Common.{◌≡◌, ◌≢◌, ℕ, ◌<◌, Bool, true, false, not, List, [], ◌∷◌, ◌++◌, length, get_or, set, refl, sym, ◌∙◌, ap, subst, arith, Some, None}
 use Rattle.std.specs.Prelude.{Option, cond}
-use Rattle.std.specs.List.{find, position, position_or_len}
-use Rattle.std.specs.Option.{option_map, option_or}
-use Rattle.std.specs.Str.{bytes_eq}
-use Rattle.std.proofs.lemmas.List.Folds.{find-set, find_past, find-append, find_at}
-use Rattle.std.proofs.lemmas.List.Sums.{prefix_len_stops}
-use Rattle.std.proofs.lemmas.Option.{slice_get_past}
-use Rattle.std.proofs.lemmas.Slice.Eq.{bytes_eq-Decides}
-use Rattle.std.proofs.lemmas.Bool.Decides.{nat_tests}
-use Rattle.dl_outside.specs.declared.texts.NamedText.{NamedText}
-use Rattle.dl_outside.specs.Texts.{has_name, PutsText}
-use Rattle.std.proofs.lemmas.Bool.{not-false}
+use Rattle.csp_base.specs.Standard.{find, position, position_or_len, option_map, option_or, bytes_eq}
+use Rattle.csp_base.proofs.Standard.{find-set, find_past, find-append, find_at, prefix_len_stops, slice_get_past, bytes_eq-Decides, nat_tests, not-false}
+use Rattle.dl_outside.specs.Prelude.{NamedText, has_name, PutsText}
 
 -- where a place is found, it is the first one
 pub place_found : {X : Type 0} (p : X → Bool) (xs : List X) (k : ℕ) → Some k ≡ position p xs → (k < length xs) × (k ≡ position_or_len p xs)

@@ -1,8 +1,7 @@
 -- The shelf of the system's files, by its counts, since no clause can say what a file of the system holds. Each error of the
 -- system is one fault more, and each byte that a read gives is one byte taken more.
 use Rattle.std.specs.Prelude.{ℕ, ◌≡◌, ◌+◌, ◌<◌, ◌≤◌, IfSome, List, ◌++◌, length, Option, Result, Ok, Err}
-use Rattle.std.specs.Io.KnownBytes.{Consumes, IsAtEnd}
-use Rattle.std.specs.Str.{IsUtf8}
+use Rattle.csp_base.specs.Standard.{Consumes, IsAtEnd, IsUtf8}
 use Rattle.dl_outside.specs.Count.{Counts, one_more}
 use Rattle.dl_outside.specs.declared.shelf.LoadFault.{LoadFault}
 use Rattle.dl_outside.specs.declared.shelf.LoadFault.TheVariants.{Missing, TooLong, Failed, NoMemory}

@@ -7,3 +7,4 @@ pub mod MemoryDevices
 pub mod QuietShelf
 pub mod FileShelf
 pub mod StdSink
+pub mod Prelude

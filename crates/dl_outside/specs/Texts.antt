@@ -1,8 +1,6 @@
 -- Texts under names.
 use Rattle.std.specs.Prelude.{ℕ, Bool, List, Option, ◌≡◌, ◌≢◌, Some}
-use Rattle.std.specs.List.{find}
-use Rattle.std.specs.Option.{option_map}
-use Rattle.std.specs.Str.{bytes_eq}
+use Rattle.csp_base.specs.Standard.{find, option_map, bytes_eq}
 use Rattle.dl_outside.specs.declared.texts.NamedText.{NamedText}
 
 -- A text is held under this name.

@@ -1,10 +1,8 @@
 //! Texts under names, as the shelves in memory hold them.
 
 ghost use Rattle.std.specs.Prelude.{◌≡◌, ◌∷◌, ◌++◌, [], OnOk, OnErr};
-ghost use Rattle.std.specs.List.{position};
-ghost use Rattle.std.specs.Option.{option_copied};
-ghost use Rattle.dl_outside.specs.Load.{AnswersTold};
-ghost use Rattle.dl_outside.specs.Texts.{has_name, text_of, PutsText};
+ghost use Rattle.csp_base.specs.Standard.{position, option_copied};
+ghost use Rattle.dl_outside.specs.Prelude.{AnswersTold, has_name, text_of, PutsText};
 
 use crate::shelf::LoadFault;
 use csp_base::{Bytes, NoMemory};

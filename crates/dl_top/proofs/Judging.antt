@@ -2,33 +2,23 @@
 use Rattle.std.proofs.Common.{◌≡◌, ℕ, List, Result, IfErr, IfOk, inl, inr, refl, sym, ap, subst}
 use Rattle.std.specs.Result.{IsErrAnd}
 use Rattle.std.proofs.lemmas.Result.{IfErr-weaker, IfOk-weaker, err_from_is_err_and}
-use Rattle.command_words.specs.declared.request.Job.{Job}
-use Rattle.command_words.specs.declared.request.Job.TheVariants.{Livelock}
+use Rattle.command_words.specs.Prelude.{Job, Livelock}
 use Rattle.comparison.specs.Compared.{IsCompared}
-use Rattle.csp_text.specs.Fault.{IfNoScript}
-use Rattle.csp_text.specs.declared.fault.ParseFault.{ParseFault}
+use Rattle.csp_text.specs.Prelude.{IfNoScript, ParseFault, Script}
 use Rattle.csp_text.specs.declared.fault.ParseFault.TheVariants as fault
 use Rattle.csp_parser.specs.Places.{IsPlaceOf}
 use Rattle.csp_parser.specs.Spells.{EachTextSpellsOneScript, Spells}
 use Rattle.csp_program.specs.declared.programs.Content.{Content}
-use Rattle.csp_text.specs.declared.script.Script.{Script}
 use Rattle.judgement.proofs.OneNetwork.{one_network}
 use Rattle.livelock.specs.Bounded.{IsBounded}
-use Rattle.network_stages.specs.Networks.{IsNetworkOf, Network}
-use Rattle.network_stages.specs.Stages.{HasNoNetwork}
+use Rattle.network_stages.specs.Prelude.{IsNetworkOf, Network, HasNoNetwork}
 use Rattle.report.proofs.Points.{weaker}
-use Rattle.csp_base.specs.Stops.{Tells}
-use Rattle.report.specs.Stops.{Answers, Ends}
-use Rattle.report.specs.declared.answer.Answer.{Answer}
+use Rattle.csp_base.specs.Prelude.{Tells, Stop}
+use Rattle.report.specs.Prelude.{Answers, Ends, Answer, Done, Side, Verdict}
 use Rattle.report.specs.declared.answer.Answer.TheVariants as answer
-use Rattle.report.specs.declared.answer.Done.{Done}
-use Rattle.report.specs.declared.answer.Side.{Side}
 use Rattle.report.specs.declared.answer.Side.TheVariants as side
-use Rattle.report.specs.declared.answer.Verdict.{Verdict}
-use Rattle.csp_base.specs.declared.stop.Stop.{Stop}
 use Rattle.dl_top.proofs.Walks.{at_end}
-use Rattle.dl_top.specs.Judgement.{IsDecided, NetworkDecides, SpellsNoNetwork, SpellsNoScript, SpellsOnlyNetwork, SpellsOnlyScript, TextCallsFor, TextIsShown, TextsCompare}
-use Rattle.dl_top.specs.Printing.{no_script}
+use Rattle.dl_top.specs.Prelude.{IsDecided, NetworkDecides, SpellsNoNetwork, SpellsNoScript, SpellsOnlyNetwork, SpellsOnlyScript, TextCallsFor, TextIsShown, TextsCompare, no_script}
 
 -- ---- one text
 

@@ -1,7 +1,6 @@
 -- The text of a trial has at most as many bytes as a script may have.
 use Rattle.std.proofs.Common.{◌≡◌, ◌≤◌, ◌<◌, ◌+◌, ◌^◌, ℕ, List, ◌++◌, ◌∷◌, [], length, codes, sym, ap, subst, ◌∙◌, arith}
-use Rattle.std.proofs.lemmas.Fmt.{length-decimal-le}
-use Rattle.std.proofs.lemmas.List.{length-append}
+use Rattle.csp_base.proofs.Standard.{length-decimal-le, length-append}
 use Rattle.std.specs.Fmt.{decimal}
 use Rattle.command_words.specs.declared.request.Trial.{Trial}
 use Rattle.dl_limits.specs.declared.TheConstants.{MOST_BYTES}

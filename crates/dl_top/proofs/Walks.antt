@@ -3,11 +3,8 @@ use Rattle.std.proofs.Common.{◌≡◌, Result, Ok, Err, IfOk, sym, subst}
 use Rattle.std.specs.Result.{IsErrAnd}
 use Rattle.std.proofs.lemmas.Result.{IfOk-weaker, err_from_is_err_and}
 use Rattle.report.proofs.Points.{weaker}
-use Rattle.csp_base.specs.Stops.{Tells}
-use Rattle.report.specs.Stops.{Answers, Ends, IsEnd, IsVerdict}
-use Rattle.report.specs.declared.answer.Done.{Done}
-use Rattle.report.specs.declared.answer.Verdict.{Verdict}
-use Rattle.csp_base.specs.declared.stop.Stop.{Stop}
+use Rattle.csp_base.specs.Prelude.{Tells, Stop}
+use Rattle.report.specs.Prelude.{Answers, Ends, IsEnd, IsVerdict, Done, Verdict}
 use Rattle.csp_base.specs.declared.stop.Stop.TheVariants as stop
 
 module _ {A : Type 0} (Is : A → Type 0) (r : Result A (Stop A)) where

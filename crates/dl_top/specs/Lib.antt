@@ -3,6 +3,7 @@ pub mod Complete
 pub mod Ending
 pub mod Judgement
 pub mod Kept
+pub mod Prelude
 pub mod Printing
 pub mod Promised
 pub mod Proved

@@ -1,13 +1,11 @@
 -- What is promised of a run: status 0 where it goes on, and status 1 where it is stuck.
 use Rattle.std.specs.Prelude.{◌≡◌, ℕ, Bool, true, false, IsTrue, List, codes, map}
-use Rattle.csp_tables.specs.Network.{NetworkStep, leaves}
-use Rattle.csp_tables.specs.Path.{Path}
+use Rattle.csp_tables.specs.Prelude.{NetworkStep, leaves, Path}
 use Rattle.judgement_laws.specs.Lasting.{AllGoOn}
 use Rattle.network_stages.specs.Networks.{IsLive, Network}
 use Rattle.network_walks.specs.Moves.{IsStuck}
 use Rattle.network_walks.specs.Walked.{IsNetworkWalk}
-use Rattle.numbered_walks.specs.Draws.{label}
-use Rattle.numbered_walks.specs.declared.moves.Move.{Move}
+use Rattle.numbered_walks.specs.Prelude.{label, Move}
 use Rattle.process_steps.specs.ComponentStep.{ProcessStep}
 use Rattle.report.specs.Report.{run_text}
 use Rattle.dl_top.specs.Judgement.{SpellsOnlyNetwork}

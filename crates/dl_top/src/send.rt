@@ -1,8 +1,7 @@
 //! The write loop.
 
 ghost use Rattle.std.specs.Prelude.{◌≡◌, ◌≤◌, OnOk, OnErr, Err};
-ghost use Rattle.dl_outside.specs.Count.{HasRisen};
-ghost use Rattle.dl_outside.specs.Write.{GrowsBy};
+ghost use Rattle.dl_outside.specs.Prelude.{HasRisen, GrowsBy};
 ghost use Rattle.dl_outside.specs.declared.sink.SinkFault.TheVariants.{Failed};
 ghost use Rattle.dl_top.specs.Ending.{GrowsByFront};
 

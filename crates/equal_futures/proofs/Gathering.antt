@@ -1,10 +1,8 @@
 -- Steps in lists: where they stand, the rows of incoming steps, and steps that are gathered.
 use Rattle.std.proofs.Common.{◌≡◌, ℕ, zero, suc, ◌+◌, ◌<◌, inl, inr, List, [], ◌∷◌, length, get_or, Bool, true, false, ◌||◌, ◌&&◌, nat_eq, refl, sym, ap, ◌∙◌, subst, arith}
 use Rattle.std.specs.Prelude.{◌↔◌}
-use Rattle.std.specs.List.{All, Contains}
-use Rattle.std.specs.List.Sorted.{IsPermutation}
-use Rattle.std.proofs.lemmas.Bool.{cases_eq, or_cases, or_left, or_right, and_parts, and_from, eqb-true, eq-eqb, ne_eqb, false≢true}
-use Rattle.std.proofs.lemmas.List.Sorted.{Contains-permutation, IsPermutation-sym}
+use Rattle.csp_base.specs.Standard.{All, Contains, IsPermutation}
+use Rattle.csp_base.proofs.Standard.{cases_eq, or_cases, or_left, or_right, and_parts, and_from, eqb-true, eq-eqb, ne_eqb, false≢true, Contains-permutation, IsPermutation-sym}
 use Rattle.csp_tables.specs.Table.{Node, node_at, is_possible, target, node_after}
 use Rattle.equal_futures.specs.Future.{StepsRise, NodesRise}
 use Rattle.equal_futures.specs.Arrows.{has_arrow, AreFrom, AreAdded, AreIncoming}

@@ -1,10 +1,8 @@
 -- Steps that are sorted by event are taken group by group, each event once.
 use Rattle.std.proofs.Common.{◌≡◌, ℕ, zero, suc, ◌+◌, ◌-◌, ◌<◌, ◌≤◌, inl, inr, List, [], ◌∷◌, length, get_or, take, drop, true, nat_eq, refl, sym, ap, ◌∙◌, subst, arith}
 use Rattle.std.specs.Prelude.{◌↔◌}
-use Rattle.std.specs.List.{All}
-use Rattle.std.specs.List.Sorted.{IsNonDecreasingBy, IsPermutation}
-use Rattle.std.proofs.lemmas.Bool.{cases_lt, or_cases, or_left, or_right, eqb-true, eq-eqb, false≢true}
-use Rattle.std.proofs.lemmas.List.{length-take-le, length-drop, get_or-take, get_or-drop}
+use Rattle.csp_base.specs.Standard.{All, IsNonDecreasingBy, IsPermutation}
+use Rattle.csp_base.proofs.Standard.{cases_lt, or_cases, or_left, or_right, eqb-true, eq-eqb, false≢true, length-take-le, length-drop, get_or-take, get_or-drop}
 use Rattle.equal_futures.specs.Arrows.{IsSplitByEvents, AreFrom, has_arrow, event_at}
 use Rattle.partitions.specs.Blocks.{State, HasBlocks, IsCalm, IsOnward, IsSplit, block_at, is_source}
 use Rattle.partitions.proofs.Splitting.{onward_trans}

@@ -1,11 +1,7 @@
 -- Keys numbered in the order in which they are first seen.
 use Rattle.std.proofs.Common.{◌≡◌, ℕ, suc, ◌+◌, ◌<◌, ◌≤◌, inl, inr, List, [], ◌∷◌, ◌++◌, length, get_or, Bool, true, false, cond, nat_eq, refl, sym, ap, ◌∙◌, subst, arith, below_more}
-use Rattle.std.specs.List.{position_or_len, list_any}
-use Rattle.std.specs.Set.{is_member}
-use Rattle.std.proofs.lemmas.Bool.{eq-eqb, eqb-true, ne_eqb, cond-true, cond-false, cases_Bool, false≢true, or_cases}
-use Rattle.std.proofs.lemmas.List.{length_push, get_or_push, get_or_append_left}
-use Rattle.std.proofs.lemmas.List.Sums.{passes_at_first}
-use Rattle.std.proofs.lemmas.List.Folds.{position_or_len_push}
+use Rattle.csp_base.specs.Standard.{position_or_len, list_any, is_member}
+use Rattle.csp_base.proofs.Standard.{eq-eqb, eqb-true, ne_eqb, cond-true, cond-false, cases_Bool, false≢true, or_cases, length_push, get_or_push, get_or_append_left, passes_at_first, position_or_len_push}
 use Rattle.containers.specs.Exact.{IsExact}
 use Rattle.containers.specs.Members.{with_new}
 use Rattle.equal_futures.specs.Future.{SeenInOrder}

@@ -1,8 +1,7 @@
 -- Steps of a node whose events rise: each event stands once, and leads to a node.
 use Rattle.std.proofs.Common.{◌≡◌, ℕ, zero, suc, get_or, ◌<◌, inl, inr, List, [], ◌∷◌, length, true, false, nat_eq, sym, ap, ◌∙◌, subst, arith}
 use Rattle.std.proofs.lemmas.Bool.{eqb-true, eq-eqb, ne_eqb, false≢true, or_cases, cond-true, cond-false, cases_eq, false_from_ne_true}
-use Rattle.csp_tables.specs.Form.{BeginsAbove}
-use Rattle.csp_tables.specs.Table.{is_possible, target}
+use Rattle.csp_tables.specs.Prelude.{BeginsAbove, is_possible, target}
 use Rattle.equal_futures.specs.Future.{StepsRise}
 
 -- each possible event is above what the first one is above

@@ -2,8 +2,7 @@
 -- are those of a deterministic labelled transition system. Each carries a mark, which says what is accepted there: marks
 -- are equal where the acceptances are equal.
 use Rattle.std.specs.Prelude.{◌≡◌, ◌↔◌, ◌⊎◌, ◌+◌, ◌<◌, ℕ, List, [], ◌∷◌, length, slice_index, IsTrue}
-use Rattle.csp_tables.specs.Form.{BeginsAbove}
-use Rattle.csp_tables.specs.Table.{Node, node_at, is_run, end_of}
+use Rattle.csp_tables.specs.Prelude.{BeginsAbove, Node, node_at, is_run, end_of}
 
 -- The same lists of events can be followed from the two nodes, and each leads to nodes with equal marks.
 pub record HaveEqualFuture (nodes : List Node) (marks : List ℕ) (i j : ℕ) : Type 0 where

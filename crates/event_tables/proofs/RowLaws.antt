@@ -1,11 +1,8 @@
 -- The lists that take one value from each set, made from the first set on.
 use Rattle.std.proofs.Common.{◌≡◌, ℕ, ◌+◌, ◌<◌, ◌≤◌, List, [], ◌∷◌, ◌++◌, length, map, drop, get_or, refl, sym, ap, ◌∙◌, arith, append_assoc}
-use Rattle.std.proofs.Math.ListN.{drop_of_length-le}
-use Rattle.std.proofs.lemmas.List.{append-nil, map-append}
+use Rattle.csp_base.proofs.Standard.{drop_of_length-le, append-nil, map-append}
 use Rattle.csp_atoms.specs.declared.atom.Atom.{Atom}
-use Rattle.csp_program.specs.EventNumber.{row_count}
-use Rattle.csp_program.specs.EventTable.{rows}
-use Rattle.csp_program.specs.Lists.{joined}
+use Rattle.csp_program.specs.Prelude.{row_count, rows, joined}
 use Rattle.event_tables.specs.Spread.{extended}
 use Rattle.csp_base.proofs.Lists.{drop_read}
 

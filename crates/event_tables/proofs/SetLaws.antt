@@ -1,27 +1,13 @@
 -- Field sets, one after another.
 use Rattle.std.proofs.Common.{◌≡◌, ℕ, zero, suc, ◌+◌, ◌<◌, ◌≤◌, List, [], ◌∷◌, ◌++◌, length, drop, get_or, replicate, refl, sym, ap, ◌∙◌, append_assoc, add-one, subst, arith}
 use Rattle.std.specs.Prelude.{Option, Some, None, Result, Ok, Err, IfOk, OnOk, slice_get}
-use Rattle.std.specs.Borrow.{Bor}
-use Rattle.std.specs.Option.{option_copied}
-use Rattle.std.specs.Result.{IsErrAnd}
-use Rattle.std.specs.Slice.{IsItemAt}
-use Rattle.std.proofs.Math.ListN.{drop_of_length-le}
-use Rattle.std.proofs.lemmas.List.{append-nil, length-append}
-use Rattle.std.proofs.lemmas.Option.{get_or_from_slice_get, slice_get_past, slice_get_read, slice_get_within}
+use Rattle.csp_base.specs.Standard.{Bor, option_copied, IsErrAnd, IsItemAt}
+use Rattle.csp_base.proofs.Standard.{drop_of_length-le, append-nil, length-append, get_or_from_slice_get, slice_get_past, slice_get_read, slice_get_within}
 use Rattle.csp_atoms.specs.declared.atom.Atom.{Atom}
-use Rattle.csp_program.specs.EventNumber.{row_count}
-use Rattle.csp_program.specs.EventTable.{channel_events, events_from_channel}
-use Rattle.csp_program.specs.Outcome.{Outcome, and_then}
-use Rattle.csp_program.specs.Value.{value_of}
-use Rattle.csp_program.specs.declared.expressions.Expr.{Expr}
-use Rattle.csp_program.specs.declared.kinds.ValueKind.{ValueKind}
-use Rattle.csp_program.specs.declared.programs.Channel.{Channel}
-use Rattle.csp_program.specs.declared.programs.Content.{Content}
-use Rattle.csp_program.specs.declared.programs.EventInfo.{EventInfo}
+use Rattle.csp_program.specs.Prelude.{row_count, channel_events, events_from_channel, Outcome, and_then, value_of, Expr, ValueKind, Channel, Content, EventInfo}
 use Rattle.event_tables.specs.declared.sets.SharedSets.{SharedSets}
 use Rattle.event_tables.specs.Spread.{GivesOneMore, lent, spread}
-use Rattle.value_operators.specs.Gives.{Gives}
-use Rattle.value_operators.specs.declared.fault.EvalFault.{EvalFault}
+use Rattle.value_operators.specs.Prelude.{Gives, EvalFault}
 use Rattle.value_operators.specs.declared.fault.EvalFault.TheVariants as fault
 use Rattle.script_names.specs.Resolved.{field_set, field_sets, with_sets}
 use Rattle.csp_base.proofs.Lists.{drop_read}

@@ -2,10 +2,7 @@
 
 ghost use Rattle.std.specs.Prelude.{◌≡◌, ◌++◌, map, IfOk, IsTrue, OnOk, replicate, slice_get};
 ghost use Rattle.std.specs.Option.{option_copied};
-ghost use Rattle.csp_program.specs.InOrder.{lacks_sets};
-ghost use Rattle.csp_program.specs.Lists.{all_true};
-ghost use Rattle.csp_program.specs.Outcome.{and_then};
-ghost use Rattle.csp_program.specs.Value.{value_of};
+ghost use Rattle.csp_program.specs.Prelude.{lacks_sets, all_true, and_then, value_of};
 ghost use Rattle.event_tables.specs.Spread.{GivesOneMore, lent, spread};
 ghost use Rattle.script_names.specs.Resolved as meant;
 ghost use Rattle.value_operators.specs.Gives.{Gives};

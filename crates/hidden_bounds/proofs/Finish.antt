@@ -2,25 +2,14 @@
 use Rattle.std.proofs.Common.{◌≡◌, ◌⊎◌, ◌≢◌, ℕ, zero, suc, ◌+◌, ◌<◌, Bool, true, false, ◌&&◌, IsTrue, Result, IfErr, List, [], ◌∷◌, ◌++◌, length, take, drop, replicate, refl, sym, ap, subst, ◌∙◌, arith, inl, inr}
 use Rattle.std.specs.Prelude.{◌↔◌}
 use Rattle.std.specs.Result.{IsErrAnd}
-use Rattle.std.proofs.lemmas.Result.{err_from_is_err_and}
-use Rattle.std.proofs.lemmas.Bool.{false≢true}
-use Rattle.std.proofs.lemmas.List.{length-replicate, take-append-le, take_all}
+use Rattle.csp_base.proofs.Standard.{err_from_is_err_and, false≢true, length-replicate, take-append-le, take_all, none-some, slice_get_within}
 use Rattle.csp_base.specs.Members.{has}
 use Rattle.csp_base.proofs.Listed.{has_first}
-use Rattle.std.proofs.lemmas.Option.{none-some, slice_get_within}
-use Rattle.csp_tables.specs.Label.{Label}
-use Rattle.csp_tables.specs.Network.{Component}
+use Rattle.csp_tables.specs.Prelude.{Label, Component}
 use Rattle.hidden_steps.specs.Order.{AreTaken, HasNoOrder, IsAmong, IsOrder, hidden_bound}
 use Rattle.own_graphs.specs.Exact.{AreOpen}
-use Rattle.hidden_bounds.specs.Found.{IsBound, TellsLoop}
-use Rattle.hidden_bounds.specs.Standings.{IsSoFar, IsTakenAll, IsTakenFar, left_from, standing_at}
-use Rattle.hidden_bounds.specs.Sums.{TellsSum}
-use Rattle.hidden_bounds.specs.Taking.{taken_in}
-use Rattle.hidden_bounds.specs.declared.bounding.HiddenBound.{HiddenBound}
-use Rattle.hidden_bounds.specs.declared.bounding.LoopFault.{LoopFault}
+use Rattle.hidden_bounds.specs.Prelude.{IsBound, TellsLoop, IsSoFar, IsTakenAll, IsTakenFar, left_from, standing_at, TellsSum, taken_in, HiddenBound, LoopFault, Placed, Standing}
 use Rattle.hidden_bounds.specs.declared.bounding.LoopFault.TheVariants as fault
-use Rattle.hidden_bounds.specs.declared.ordering.Placed.{Placed}
-use Rattle.hidden_bounds.specs.declared.standings.Standing.{Standing}
 use Rattle.hidden_bounds.specs.declared.standings.Standing.TheVariants as standing
 use Rattle.hidden_bounds.proofs.Known.{none_is_free}
 use Rattle.hidden_bounds.proofs.Left.{left_increases, listed_at, stands_at}

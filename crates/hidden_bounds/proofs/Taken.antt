@@ -1,25 +1,18 @@
 -- Components that are taken one after another: one more, and what stays as it was.
 use Rattle.std.proofs.Common.{◌≡◌, ℕ, zero, suc, ◌+◌, ◌<◌, true, false, ◌&&◌, List, [], ◌∷◌, ◌++◌, length, take, drop, map, reverse, get_or, add-one, refl, sym, ap, ap₂, ◌∙◌, inl, inr}
 use Rattle.std.specs.Cmp.{first_so, second_so}
-use Rattle.std.proofs.Math.Seq.{take-suc}
-use Rattle.std.proofs.lemmas.Bool.{cases_Bool, false≢true, or_from}
-use Rattle.std.proofs.lemmas.List.{map-append, reverse-append, reverse-reverse, take-append-drop}
-use Rattle.csp_base.specs.Events.{inter_of, meets_of}
-use Rattle.csp_base.specs.Members.{has}
+use Rattle.csp_base.proofs.Standard.{take-suc, cases_Bool, false≢true, or_from, map-append, reverse-append, reverse-reverse, take-append-drop}
+use Rattle.csp_base.specs.Prelude.{inter_of, meets_of, has}
 use Rattle.csp_base.proofs.Booleans.{same_tests}
 use Rattle.csp_base.proofs.Listed.{any_member, any_of}
 use Rattle.csp_base.proofs.Rising.{meets_of_from_member}
 use Rattle.csp_base.proofs.SetLaws.{has-inter_of}
-use Rattle.csp_tables.specs.Label.{Label}
-use Rattle.csp_tables.specs.Label.Label.{silent, visible}
-use Rattle.csp_tables.specs.Network.{Component}
+use Rattle.csp_tables.specs.Prelude.{Label, silent, visible, Component}
 use Rattle.digraph.specs.Walk.{Walk}
 use Rattle.hidden_steps.specs.Order.{GoesRound, OwnStep, Taken, is_passed, share_hidden}
 use Rattle.net_sound.proofs.FlatLists.{step_alphabet}
 use Rattle.net_sound.proofs.Soundness.{path_alphabet}
-use Rattle.hidden_bounds.specs.Found.{placed}
-use Rattle.hidden_bounds.specs.Taking.{taken_at, taken_in}
-use Rattle.hidden_bounds.specs.declared.ordering.Placed.{Placed}
+use Rattle.hidden_bounds.specs.Prelude.{placed, taken_at, taken_in, Placed}
 
 -- ---- one more
 

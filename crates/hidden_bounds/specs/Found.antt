@@ -1,7 +1,6 @@
 -- What is found of hidden events: the order in which all components are taken, with the sum of their bounds; or why there is none, or none that 64 bits hold.
 use Rattle.std.specs.Prelude.{◌≡◌, ◌<◌, ◌≤◌, ◌^◌, ◌⊎◌, ℕ, List, [], ◌∷◌, map, reverse}
-use Rattle.csp_tables.specs.Label.{Label}
-use Rattle.csp_tables.specs.Network.{Component}
+use Rattle.csp_tables.specs.Prelude.{Label, Component}
 use Rattle.hidden_steps.specs.Order.{HasNoOrder, IsOrder, Taken, hidden_bound}
 use Rattle.hidden_bounds.specs.declared.bounding.HiddenBound.{HiddenBound}
 use Rattle.hidden_bounds.specs.declared.bounding.LoopFault.{LoopFault}

@@ -2,8 +2,7 @@
 use Rattle.std.specs.Prelude.{◌≡◌, ◌≢◌, ◌<◌, ◌⊎◌, ℕ, suc, ◌+◌, Bool, true, false, IsTrue, Some, List, [], ◌∷◌, ◌++◌, length, slice_get, slice_index_or}
 use Rattle.std.specs.List.Sorted.{IsStrictlyIncreasing}
 use Rattle.csp_base.specs.Events.{has, meets_of}
-use Rattle.csp_tables.specs.Label.{Label}
-use Rattle.csp_tables.specs.Network.{Component}
+use Rattle.csp_tables.specs.Prelude.{Label, Component}
 use Rattle.hidden_steps.specs.Order.{AreTaken, GoesRound, IsAmong, IsHeight}
 use Rattle.own_graphs.specs.Exact.{AreOpen}
 use Rattle.hidden_bounds.specs.Taking.{AreWithin, alphabet_at, taken_in}

@@ -1,23 +1,12 @@
 -- The bounds of the taken components, by induction over the order.
 use Rattle.std.proofs.Common.{◌≡◌, ◌≤◌, ◌+◌, ◌*◌, ℕ, zero, suc, inl, inr, List, [], ◌∷◌, Some, slice_get, length, Bool, true, false, ◌&&◌, ◌||◌, not, nat_eq, IsTrue, if◌then◌else◌, refl, sym, ap, subst, ◌∙◌, arith}
-use Rattle.std.proofs.Math.Nat.{mul-le-mul_left}
-use Rattle.std.proofs.lemmas.Bool.{cases_Bool, cond-true, cond-false, false≢true, or_left, or_right}
-use Rattle.std.proofs.lemmas.Bool.Decides.{nat_tests}
-use Rattle.std.proofs.lemmas.List.{length-map}
-use Rattle.std.proofs.lemmas.Option.{none-some, same_Some}
+use Rattle.csp_base.proofs.Standard.{mul-le-mul_left, cases_Bool, cond-true, cond-false, false≢true, or_left, or_right, nat_tests, length-map, none-some, same_Some}
 use Rattle.digraph.specs.Walk.{Walk}
 use Rattle.csp_base.specs.Members.{has}
 use Rattle.csp_base.proofs.Booleans.{and_false, is_and}
 use Rattle.csp_base.proofs.Listed.{any_of}
 use Rattle.csp_base.proofs.Lists.{slice_get_some}
-use Rattle.csp_tables.specs.Flat.{in_some_component, FlatStep}
-use Rattle.csp_tables.specs.Label.{Label}
-use Rattle.csp_tables.specs.Label.Label.{silent, visible}
-use Rattle.csp_tables.specs.Network.{Component, ComponentStep, NetworkStep, Tree, leaves}
-use Rattle.csp_tables.specs.Part.{project}
-use Rattle.csp_tables.specs.Path.{Path, Reached}
-use Rattle.csp_tables.specs.Trace.{After, visible_events}
-use Rattle.csp_tables.specs.WellNested.{WellNested}
+use Rattle.csp_tables.specs.Prelude.{in_some_component, FlatStep, Label, silent, visible, Component, ComponentStep, NetworkStep, Tree, leaves, project, Path, Reached, After, visible_events, WellNested}
 use Rattle.net_sound.proofs.FlatLists.{alphabets, flat_alphabets, same_some}
 use Rattle.net_sound.proofs.Flattening.{forth, kept}
 use Rattle.net_sound.proofs.Local.{AllAfter, all_after, run_forth, run_kept}

@@ -3,10 +3,7 @@ use Rattle.std.proofs.Common.{◌≡◌, ◌<◌, ◌+◌, ◌≤◌, ℕ, zero,
 use Rattle.std.proofs.lemmas.Bool.Decides.{nat_tests}
 use Rattle.digraph.specs.Walk.{Walk}
 use Rattle.csp_base.specs.Members.{has}
-use Rattle.csp_tables.specs.Label.{Label}
-use Rattle.csp_tables.specs.Label.Label.{silent, visible}
-use Rattle.csp_tables.specs.Network.{Component, ComponentStep}
-use Rattle.csp_tables.specs.Flat.{in_some_component, OneMoves, AllTakePart, FlatStep}
+use Rattle.csp_tables.specs.Prelude.{Label, silent, visible, Component, ComponentStep, in_some_component, OneMoves, AllTakePart, FlatStep}
 use Rattle.net_sound.proofs.FlatLists.{flat_alphabets, match_true, match_false, same_some}
 use Rattle.hidden_steps.specs.Bounded.{HiddenStep}
 

@@ -4,10 +4,7 @@ use Rattle.std.proofs.lemmas.Bool.{cases_Bool}
 use Rattle.digraph.proofs.WalkLaws.{Walk-arc}
 use Rattle.digraph.specs.Walk.{Walk}
 use Rattle.csp_base.specs.Members.{has}
-use Rattle.csp_tables.specs.Label.{Label}
-use Rattle.csp_tables.specs.Label.Label.{silent, visible}
-use Rattle.csp_tables.specs.Network.{Component, ComponentStep}
-use Rattle.csp_tables.specs.Path.{Path, Reached}
+use Rattle.csp_tables.specs.Prelude.{Label, silent, visible, Component, ComponentStep, Path, Reached}
 use Rattle.net_sound.proofs.FlatLists.{by_test, step_alphabet}
 use Rattle.hidden_steps.specs.Order.{OwnEvent, OwnStep, Taken, is_passed}
 use Rattle.hidden_steps.proofs.Moves.{Along, Move}

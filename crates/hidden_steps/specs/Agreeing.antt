@@ -1,8 +1,7 @@
 -- Components are taken in one way: of two takings of the same components one is a front of the other. So there is one order of all components at most and
 -- with it one bound, and there is none where some are left that are not free; and these are the same, whichever way they were found.
 use Rattle.std.specs.Prelude.{◌≡◌, ◌⊎◌, ℕ, List, [], ◌∷◌}
-use Rattle.csp_tables.specs.Label.{Label}
-use Rattle.csp_tables.specs.Network.{Component}
+use Rattle.csp_tables.specs.Prelude.{Label, Component}
 use Rattle.hidden_steps.specs.Order.{AreTaken, HasNoOrder, IsOrder, Taken, hidden_bound}
 
 -- those that the first list takes are the first that the second one takes, in the same order

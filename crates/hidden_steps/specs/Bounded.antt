@@ -6,11 +6,7 @@
 use Rattle.std.specs.Prelude.{◌≤◌, ◌⊎◌, ℕ, List, IsTrue}
 use Rattle.digraph.specs.Walk.{Walk}
 use Rattle.csp_base.specs.Members.{has}
-use Rattle.csp_tables.specs.Label.{Label}
-use Rattle.csp_tables.specs.Label.Label.{silent, visible}
-use Rattle.csp_tables.specs.Network.{NetworkStep, Tree, leaves}
-use Rattle.csp_tables.specs.Path.{Reached}
-use Rattle.csp_tables.specs.WellNested.{WellNested}
+use Rattle.csp_tables.specs.Prelude.{Label, silent, visible, NetworkStep, Tree, leaves, Reached, WellNested}
 use Rattle.hidden_steps.specs.Order.{IsOrder, Taken, hidden_bound}
 
 -- a step that is silent or by a hidden event

@@ -6,14 +6,10 @@
 -- number of steps of a walk in its own graph, and its bound that height, once and once more for each of the bounds of those taken before it with which it
 -- shares a hidden event.
 use Rattle.std.specs.Prelude.{◌≡◌, ◌<◌, ◌≤◌, ◌+◌, ◌*◌, ◌⊎◌, ◌↔◌, ℕ, suc, List, [], ◌∷◌, Bool, ◌&&◌, false, IsTrue, Some, if◌then◌else◌, length, slice_get}
-use Rattle.std.specs.List.{list_any}
-use Rattle.std.specs.List.Sorted.{IsStrictlyIncreasing}
+use Rattle.csp_base.specs.Standard.{list_any, IsStrictlyIncreasing}
 use Rattle.digraph.specs.Walk.{Walk}
 use Rattle.csp_base.specs.Members.{has}
-use Rattle.csp_tables.specs.Label.{Label}
-use Rattle.csp_tables.specs.Label.Label.{silent, visible}
-use Rattle.csp_tables.specs.Network.{Component, ComponentStep}
-use Rattle.csp_tables.specs.Path.{Reached}
+use Rattle.csp_tables.specs.Prelude.{Label, silent, visible, Component, ComponentStep, Reached}
 
 -- a component that is taken: its number, its alphabet, and its height
 pub record Taken : Type 0 where

@@ -1,15 +1,12 @@
 -- What breaks a rule, told of a network: what its shape breaks, the network does.
-use Rattle.csp_tables.specs.Shape.{Shape}
-use Rattle.csp_tables.specs.ShapeOf.{IsShapeOf}
+use Rattle.csp_tables.specs.Prelude.{Shape, IsShapeOf}
 use Rattle.design_rules.proofs.Readings.{networks_break}
 use Rattle.design_rules.specs.Rules as rules
-use Rattle.design_rules.specs.declared.noted_rule.NotedRule.{NotedRule}
-use Rattle.design_rules.specs.declared.rule_fault.RuleFault.{RuleFault}
+use Rattle.design_rules.specs.Prelude.{NotedRule, RuleFault}
 use Rattle.network_stages.specs.Networks.{Network}
 use Rattle.process_steps.specs.ComponentStep.{ProcessStep}
-use Rattle.csp_base.specs.Stops.{Tells}
+use Rattle.csp_base.specs.Prelude.{Tells, Stop}
 use Rattle.report.specs.declared.answer.Shortfall.{Shortfall}
-use Rattle.csp_base.specs.declared.stop.Stop.{Stop}
 use Rattle.csp_base.specs.declared.stop.Stop.TheVariants as stop
 use Rattle.judgement.specs.Noted.{Breaks}
 use Rattle.judgement.specs.Told.{TellsRule}

@@ -1,10 +1,8 @@
 -- Counting over lists of parts and of ranks, from the front.
 use Rattle.std.proofs.Common.{◌≡◌, ℕ, zero, suc, ◌+◌, ◌*◌, ◌^◌, ◌<◌, ◌≤◌, ℤ, max, List, [], ◌∷◌, ◌++◌, Vec, length, map, take, get_or, refl, sym, ap, ◌∙◌, add-one, arith}
-use Rattle.std.specs.declared.alloc.Global.{Global}
-use Rattle.std.specs.List.{flat_map}
+use Rattle.csp_base.specs.Standard.{Global, flat_map}
 use Rattle.std.proofs.Math.Seq.{take-suc}
-use Rattle.csp_tables.specs.Part.{Part, part_at}
-use Rattle.csp_tables.specs.Ranking.{PartRanks}
+use Rattle.csp_tables.specs.Prelude.{Part, part_at, PartRanks}
 use Rattle.csp_base.specs.Lists.{natural}
 use Rattle.dl_limits.specs.declared.TheConstants.{MOST_COMPONENTS, MOST_SETS}
 use Rattle.design_rules.specs.RankCounts.{greatest_from}

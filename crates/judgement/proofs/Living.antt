@@ -1,17 +1,13 @@
 -- Where the shape of a network meets the rule, the network is free of deadlock: the theorem about ranks, at the steps of the network's program.
 use Rattle.std.proofs.Common.{ℕ}
-use Rattle.csp_tables.specs.Ranking.{Ranking}
-use Rattle.csp_tables.specs.Shape.{Shape}
+use Rattle.csp_tables.specs.Prelude.{Ranking, Shape}
 use Rattle.design_rules.proofs.Live.{met_rules_mean_live}
 use Rattle.design_rules.proofs.Readings.{networks_meet}
-use Rattle.design_rules.specs.Rules.{Ranks}
-use Rattle.design_rules.specs.declared.noted_rule.NotedRule.{NotedRule}
+use Rattle.design_rules.specs.Prelude.{Ranks, NotedRule}
 use Rattle.net_sound.proofs.FormOfTables.{shapes_are_well_formed}
 use Rattle.net_sound.proofs.ShapeOf.{shapes_behave}
 use Rattle.net_sound.specs.Soundness.{IsSound}
-use Rattle.network_stages.specs.Networks.{HasSilentBound, IsLive, IsSpelled, Network}
-use Rattle.network_stages.specs.Shapes.{IsApart}
-use Rattle.network_stages.specs.Stages.{StaysBusy}
+use Rattle.network_stages.specs.Prelude.{HasSilentBound, IsLive, IsSpelled, Network, IsApart, StaysBusy}
 use Rattle.network_trees.proofs.InOrder.{network_is_tree}
 use Rattle.process_steps.specs.ComponentStep.{ProcessStep}
 use Rattle.judgement.specs.Noted.{Meets}

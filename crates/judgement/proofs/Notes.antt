@@ -1,23 +1,15 @@
 -- What a rule notes: it is one thing, with something for each part; and it isn't there where a set has no value.
 use Rattle.std.proofs.Common.{◌≡◌, ℕ, zero, suc, List, [], ◌∷◌, Ok, Err, Some, length, slice_get, refl, sym, ap, subst, ◌∙◌, arith}
 use Rattle.std.proofs.lemmas.Option.{none-some, same_Some}
-use Rattle.csp_program.specs.Outcome.{Outcome, and_then}
-use Rattle.csp_program.specs.declared.kinds.ValueKind.{ValueKind}
-use Rattle.csp_program.specs.declared.processes.Proc.{Proc}
-use Rattle.csp_tables.specs.Network.{Component, leaves}
-use Rattle.csp_tables.specs.Shape.{Shape}
-use Rattle.csp_tables.specs.ShapeOf.{ArePartsOf}
-use Rattle.csp_tables.specs.declared.rule.Rule.{Rule}
-use Rattle.csp_tables.specs.declared.rule.Rule.TheVariants.{ClientServer, Cyclic, Resource}
-use Rattle.design_rules.specs.Rules.{HasNotes}
-use Rattle.design_rules.specs.declared.noted_rule.NotedRule.{NotedRule}
+use Rattle.csp_program.specs.Prelude.{Outcome, and_then, ValueKind, Proc}
+use Rattle.csp_tables.specs.Prelude.{Component, leaves, Shape, ArePartsOf, Rule, ClientServer, Cyclic, Resource}
+use Rattle.design_rules.specs.Prelude.{HasNotes, NotedRule}
 use Rattle.net_sound.proofs.Parts.{one_part_each}
 use Rattle.network_layout.specs.Told.{IsUntold}
 use Rattle.network_layout.specs.declared.told.NotedFault.{NotedFault}
 use Rattle.network_layout.specs.declared.told.NotedFault.TheVariants as untold
 use Rattle.network_stages.specs.Networks.{Network}
-use Rattle.process_steps.specs.ComponentStep.{ProcessStep}
-use Rattle.process_steps.specs.Needed.{all_outcomes}
+use Rattle.process_steps.specs.Prelude.{ProcessStep, all_outcomes}
 use Rattle.report.specs.declared.answer.Refusal.{Refusal}
 use Rattle.judgement.specs.Noted.{HasUntold, Notes}
 use Rattle.judgement.specs.Told.{TellsNoted}

@@ -4,9 +4,8 @@ use Rattle.design_rules.specs.declared.rule_fault.RuleFault.{RuleFault}
 use Rattle.design_rules.specs.declared.rule_fault.RuleFault.TheVariants as fault
 use Rattle.network_layout.specs.declared.told.NotedFault.{NotedFault}
 use Rattle.network_layout.specs.declared.told.NotedFault.TheVariants as noted
-use Rattle.report.specs.declared.answer.Refusal.{Refusal}
+use Rattle.report.specs.Prelude.{Refusal, Shortfall}
 use Rattle.report.specs.declared.answer.Refusal.TheVariants as refusal
-use Rattle.report.specs.declared.answer.Shortfall.{Shortfall}
 use Rattle.report.specs.declared.answer.Shortfall.TheVariants as shortfall
 use Rattle.report.specs.declared.answer.Site.TheVariants as site
 

@@ -1,8 +1,7 @@
 //! The decision by each of the rules.
 
 ghost use Rattle.std.specs.Prelude.{IfErr, IfOk, OnOk};
-ghost use Rattle.csp_tables.specs.Part.{TripleDisjoint, alphabets_of};
-ghost use Rattle.csp_tables.specs.Shape.{IsWellFormed};
+ghost use Rattle.csp_tables.specs.Prelude.{TripleDisjoint, alphabets_of, IsWellFormed};
 ghost use Rattle.design_rules.specs.Rules.{Breaks, HasNotes, Meets, Ranks};
 
 use client_server_rule::client_server;

@@ -1,8 +1,7 @@
 //! The judgement of a network by a rule.
 
 ghost use Rattle.std.specs.Prelude.{◌≡◌};
-ghost use Rattle.network_stages.specs.Networks.{HasSilentBound};
-ghost use Rattle.network_stages.specs.Stages.{StaysBusy};
+ghost use Rattle.network_stages.specs.Prelude.{HasSilentBound, StaysBusy};
 ghost use Rattle.report.specs.Stops.{Answers};
 ghost use Rattle.judgement.specs.Judged.{IsJudged, RuleDecides};
 

@@ -1,14 +1,7 @@
 -- The nodes of a component's normal table are the classes of its traces: a run that leads to each node, one after another.
 use Rattle.std.proofs.Common.{◌≡◌, ◌⊎◌, inl, inr, ℕ, zero, suc, ◌+◌, ◌<◌, ◌≤◌, List, [], ◌∷◌, Some, slice_get, length, refl, sym, ap, subst, ◌∙◌, arith}
-use Rattle.std.proofs.lemmas.Bool.{cases_lt}
-use Rattle.std.proofs.lemmas.Option.{same_Some, slice_get_within}
-use Rattle.csp_tables.specs.Label.{Label}
-use Rattle.csp_tables.specs.Network.{Component, ComponentStep, Tree, leaves}
-use Rattle.csp_tables.specs.Table.{IsReached, IsRun, Node, end_of}
-use Rattle.csp_tables.specs.Form.{HasForm, HaveForm}
-use Rattle.csp_tables.specs.Part.{Part}
-use Rattle.csp_tables.specs.Shape.{Shape}
-use Rattle.csp_tables.specs.ShapeOf.{ArePartsOf, IsPartOf, IsShapeOf}
+use Rattle.csp_base.proofs.Standard.{cases_lt, same_Some, slice_get_within}
+use Rattle.csp_tables.specs.Prelude.{Label, Component, ComponentStep, Tree, leaves, IsReached, IsRun, Node, end_of, HasForm, HaveForm, Part, Shape, ArePartsOf, IsPartOf, IsShapeOf}
 use Rattle.design_rules.proofs.Runs.{end_within}
 use Rattle.judgement.specs.Counts.{node_count}
 use Rattle.net_sound.proofs.FormOfTables.{shapes_are_well_formed}

@@ -1,15 +1,10 @@
 -- Where a network passes, no point of its judgement can tell a fault. And two verdicts on one network have one status.
 use Rattle.std.proofs.Common.{◌≡◌, ◌≤◌, ℕ, length, take, sym, ap, subst, ◌∙◌, arith}
 use Rattle.std.specs.Prelude.{min}
-use Rattle.std.proofs.lemmas.List.{length-take}
-use Rattle.std.proofs.lemmas.Option.{slice_get_within}
-use Rattle.csp_tables.specs.Network.{leaves}
-use Rattle.csp_tables.specs.Part.{TripleDisjoint, sharers}
-use Rattle.csp_tables.specs.Shape.{Shape}
-use Rattle.csp_tables.specs.declared.rule.Rule.{Rule}
+use Rattle.csp_base.proofs.Standard.{length-take, slice_get_within}
+use Rattle.csp_tables.specs.Prelude.{leaves, TripleDisjoint, sharers, Shape, Rule}
 use Rattle.design_rules.proofs.Readings.{network_faults_refute}
-use Rattle.design_rules.specs.declared.noted_rule.NotedRule.{NotedRule}
-use Rattle.design_rules.specs.declared.rule_fault.RuleFault.{RuleFault}
+use Rattle.design_rules.specs.Prelude.{NotedRule, RuleFault}
 use Rattle.judgement.proofs.Notes.{all_told, same_ok}
 use Rattle.judgement.proofs.OneNetwork.{one_network}
 use Rattle.judgement.specs.Judged.{IsDeadlockFree, IsJudged, RuleDecides}
@@ -19,18 +14,10 @@ use Rattle.network_layout.proofs.TripleLemmas.{length-holders}
 use Rattle.network_layout.specs.Triple.{alphabets, holders}
 use Rattle.network_layout.specs.declared.triple.TripleFault.TheVariants as triple
 use Rattle.network_stages.proofs.Excluded.{faults_exclude_tables}
-use Rattle.network_stages.specs.Networks.{Network}
-use Rattle.network_stages.specs.Sets.{HaveFewSets}
-use Rattle.network_stages.specs.Shapes.{IsApart}
-use Rattle.network_stages.specs.Stages.{CanStop, HasNoParts, ShareEvent, StaysBusy}
+use Rattle.network_stages.specs.Prelude.{Network, HaveFewSets, IsApart, CanStop, HasNoParts, ShareEvent, StaysBusy}
 use Rattle.process_steps.specs.ComponentStep.{ProcessStep}
-use Rattle.report.specs.Points.{Point, UnprovedUnless}
-use Rattle.report.specs.Points.Point.{passed, told}
-use Rattle.report.specs.Report.{verdict_status}
-use Rattle.report.specs.declared.answer.Refusal.{Refusal}
-use Rattle.report.specs.declared.answer.Shortfall.{Shortfall}
+use Rattle.report.specs.Prelude.{Point, UnprovedUnless, passed, told, verdict_status, Refusal, Shortfall, Verdict}
 use Rattle.report.specs.declared.answer.Side.TheVariants as side
-use Rattle.report.specs.declared.answer.Verdict.{Verdict}
 use Rattle.report.specs.declared.answer.Verdict.TheVariants as verdict
 use Rattle.judgement_laws.specs.Complete.{EachScriptHasOneStatus, Passes}
 

@@ -1,7 +1,6 @@
 -- The theorem about rankings, at the steps of a program.
 use Rattle.std.proofs.Common.{refl}
-use Rattle.csp_tables.specs.GoodRanking.{IsGoodRanking}
-use Rattle.csp_tables.specs.Network.{leaves}
+use Rattle.csp_tables.specs.Prelude.{IsGoodRanking, leaves}
 use Rattle.net_sound.proofs.Flattening.{flat_steps_are_tree_steps, tree_steps_are_flat}
 use Rattle.net_sound.proofs.FormOfTables.{shapes_are_well_formed}
 use Rattle.net_sound.proofs.Local.{run_kept}

@@ -1,8 +1,6 @@
 -- How many classes the traces of a component fall into where those with the same future are one class: the number of nodes of its normal table.
 use Rattle.std.specs.Prelude.{◌≡◌, ◌+◌, ℕ, List, [], ◌∷◌, Some, length, slice_get}
-use Rattle.csp_tables.specs.Label.{Label}
-use Rattle.csp_tables.specs.Network.{Component, ComponentStep}
-use Rattle.csp_tables.specs.Trace.{HaveSameFuture, IsTrace}
+use Rattle.csp_tables.specs.Prelude.{Label, Component, ComponentStep, HaveSameFuture, IsTrace}
 
 -- one of these traces has the same future as the trace s
 pub record IsOfClass {S : Type 0} (Step : S → Label → S → Type 0) (start : S) (traces : List (List ℕ)) (s : List ℕ) : Type 0 where

@@ -2,19 +2,10 @@
 -- heights of its components, which is its silent bound. And its steps are those of its components side by side, however it is nested.
 use Rattle.std.specs.Prelude.{ℕ, List, map}
 use Rattle.csp_program.specs.declared.processes.Proc.{Proc}
-use Rattle.csp_tables.specs.Falls.{Falls}
-use Rattle.csp_tables.specs.Flat.{FlatStep}
-use Rattle.csp_tables.specs.Label.{Label}
-use Rattle.csp_tables.specs.Network.{Component, NetworkStep, Tree, leaves}
-use Rattle.csp_tables.specs.Path.{Reached}
-use Rattle.csp_tables.specs.Ranking.{Fits, Ranking}
-use Rattle.csp_tables.specs.Shape.{Shape}
+use Rattle.csp_tables.specs.Prelude.{Falls, FlatStep, Label, Component, NetworkStep, Tree, leaves, Reached, Fits, Ranking, Shape}
 use Rattle.net_sound.specs.Flattening.{StepsToLeaves}
 use Rattle.net_sound.specs.Heights.{sum_of_greatest}
-use Rattle.network_stages.specs.Networks.{HasSilentBound, IsLive, IsSpelled, Network}
-use Rattle.network_stages.specs.Shapes.{IsApart}
-use Rattle.network_stages.specs.Stages.{HasTables, StaysBusy}
-use Rattle.network_stages.specs.declared.component_tables.ComponentTable.{ComponentTable}
+use Rattle.network_stages.specs.Prelude.{HasSilentBound, IsLive, IsSpelled, Network, IsApart, HasTables, StaysBusy, ComponentTable}
 use Rattle.process_steps.specs.ComponentStep.{ProcessStep}
 
 -- the sum of the greatest silent heights

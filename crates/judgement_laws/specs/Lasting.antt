@@ -1,11 +1,8 @@
 -- What the steps of a network do not show: that none of its components comes to an end, or to a value that there isn't.
 use Rattle.std.specs.Prelude.{◌≡◌, ℕ, Some, List, slice_get}
-use Rattle.csp_program.specs.declared.processes.Proc.{Proc}
-use Rattle.csp_program.specs.declared.programs.Content.{Content}
-use Rattle.csp_tables.specs.Network.{Component, ComponentStep}
-use Rattle.csp_tables.specs.Path.{Reached}
-use Rattle.process_steps.specs.ComponentStep.{ProcessStep, Ticks}
-use Rattle.process_steps.specs.LacksNone.{LacksNone}
+use Rattle.csp_program.specs.Prelude.{Proc, Content}
+use Rattle.csp_tables.specs.Prelude.{Component, ComponentStep, Reached}
+use Rattle.process_steps.specs.Prelude.{ProcessStep, Ticks, LacksNone}
 
 -- The process cannot end, and lacks no value.
 pub record GoesOn (p : Content) (x : Proc) : Type 0 where

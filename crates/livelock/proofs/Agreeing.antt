@@ -1,27 +1,19 @@
 -- Two verdicts on one network, asked of one set: at each point of their walks a fault excludes what is there else, and what is there is one.
 use Rattle.std.proofs.Common.{◌≡◌, ℕ, Option, Some, None, Ok, Err, List, length, refl, sym, ap, subst, ◌∙◌}
-use Rattle.csp_program.specs.Outcome.{Outcome}
-use Rattle.csp_program.specs.declared.expressions.Expr.{Expr}
-use Rattle.csp_program.specs.declared.kinds.ValueKind.{ValueKind}
+use Rattle.csp_program.specs.Prelude.{Outcome, Expr, ValueKind}
 use Rattle.csp_tables.specs.Network.{leaves}
 use Rattle.hidden_bounds.proofs.Passing.{passes_excludes, passes_once}
 use Rattle.hidden_steps.proofs.Agreeing.{no_order, one_order, one_rest}
 use Rattle.hidden_steps.specs.Order.{Taken}
 use Rattle.network_stages.proofs.Excluded.{faults_exclude_tables}
-use Rattle.network_stages.specs.Networks.{Network}
-use Rattle.network_stages.specs.Stages.{HasNoTables, HasTables}
-use Rattle.process_steps.specs.ComponentStep.{ProcessStep}
-use Rattle.process_steps.specs.Needed.{events_in}
-use Rattle.report.specs.Points.{Point, RefusedOr}
-use Rattle.report.specs.Points.Point.{passed, told}
-use Rattle.report.specs.Report.{verdict_status}
+use Rattle.network_stages.specs.Prelude.{Network, HasNoTables, HasTables}
+use Rattle.process_steps.specs.Prelude.{ProcessStep, events_in}
+use Rattle.report.specs.Prelude.{Point, RefusedOr, passed, told, verdict_status, Refusal, Verdict}
 use Rattle.report.specs.declared.answer.Done.TheVariants as done
-use Rattle.report.specs.declared.answer.Refusal.{Refusal}
 use Rattle.report.specs.declared.answer.Refusal.TheVariants as refusal
 use Rattle.report.specs.declared.answer.Shortfall.TheVariants as shortfall
 use Rattle.report.specs.declared.answer.Side.TheVariants as side
 use Rattle.report.specs.declared.answer.Site.TheVariants as site
-use Rattle.report.specs.declared.answer.Verdict.{Verdict}
 use Rattle.report.specs.declared.answer.Verdict.TheVariants as verdict
 use Rattle.livelock.specs.Bounded.{HasOrder, HasTooGreatBound, IsBoundOf, IsBounded, IsToldBound, LacksOrder, LacksValue, NamesNoSet, OrderDecides}
 use Rattle.livelock.specs.Complete.{BoundsAreTold, IsWithinBound, StatusesAreOne, VerdictsAreOne}

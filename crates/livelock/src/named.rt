@@ -1,8 +1,7 @@
 //! The set of events that a name stands for.
 
 ghost use Rattle.std.specs.Prelude.{◌≡◌, IfErr, IfOk, Ok, Some};
-ghost use Rattle.std.specs.List.{find};
-ghost use Rattle.std.specs.Option.{option_copied};
+ghost use Rattle.csp_base.specs.Standard.{find, option_copied};
 ghost use Rattle.process_steps.specs.Needed.{events_in as meant_events};
 ghost use Rattle.csp_base.specs.Stops.{Tells};
 ghost use Rattle.livelock.specs.Bounded.{LacksValue, NamesNoSet};

@@ -3,19 +3,11 @@ use Rattle.std.proofs.Common.{◌≡◌, ℕ, zero, suc, ◌+◌, ◌≤◌, Lis
 use Rattle.std.specs.Prelude.{map, slice_get, Some}
 use Rattle.std.proofs.lemmas.Option.{same_Some}
 use Rattle.csp_base.specs.Lists.{total, EachOnce}
-use Rattle.csp_program.specs.Depth.{proc_depth}
-use Rattle.csp_program.specs.Size.{proc_size}
-use Rattle.csp_program.specs.declared.processes.Proc.{Proc}
-use Rattle.csp_program.specs.declared.programs.Content.{Content}
-use Rattle.csp_tables.specs.Label.{Label}
-use Rattle.csp_tables.specs.Label.Label.{silent, visible}
-use Rattle.csp_tables.specs.Network.{Component, ComponentStep}
-use Rattle.csp_tables.specs.Path.{Reached}
-use Rattle.csp_tables.specs.RawTable.{IsTableOf, RawStep, RawTable, standing_at}
+use Rattle.csp_program.specs.Prelude.{proc_depth, proc_size, Proc, Content}
+use Rattle.csp_tables.specs.Prelude.{Label, silent, visible, Component, ComponentStep, Reached, IsTableOf, RawStep, RawTable, standing_at}
 use Rattle.process_steps.proofs.Listed.{lists_are_there}
 use Rattle.process_steps.specs.ComponentStep.{ProcessStep}
-use Rattle.local_tables.specs.Component.{AreSteps, AreTerms}
-use Rattle.local_tables.specs.Laws.{FaultsExcludeTables}
+use Rattle.local_tables.specs.Prelude.{AreSteps, AreTerms, FaultsExcludeTables}
 use Rattle.net_sound.proofs.Numbered.{run_down}
 use Rattle.process_steps.specs.declared.component_fault.ComponentFault.TheVariants as fault
 

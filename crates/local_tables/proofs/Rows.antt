@@ -7,10 +7,7 @@ use Rattle.csp_base.proofs.Lists.{map_push}
 use Rattle.csp_base.specs.Lists.{EachOnce, StandsIn}
 use Rattle.csp_program.specs.declared.processes.Proc.{Proc}
 use Rattle.csp_steps.specs.Order.{goals, is_by}
-use Rattle.csp_tables.specs.Label.{Label}
-use Rattle.csp_tables.specs.Label.Label.{silent, visible}
-use Rattle.csp_tables.specs.RawTable.{RawStep, RawTable}
-use Rattle.csp_tables.specs.RowOrder.{event_targets, silent_targets, targets_in}
+use Rattle.csp_tables.specs.Prelude.{Label, silent, visible, RawStep, RawTable, event_targets, silent_targets, targets_in}
 use Rattle.process_steps.specs.StepList.{Move}
 use Rattle.term_pool.specs.Pooled.{IsFront}
 use Rattle.local_tables.specs.Progress.{IsRow, process_label, step_more}

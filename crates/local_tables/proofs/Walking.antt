@@ -1,21 +1,13 @@
 -- The way to a term, over the steps by which terms were found.
 use Rattle.std.proofs.Common.{◌≡◌, ℕ, zero, suc, ◌+◌, ◌-◌, ◌<◌, ◌≤◌, Option, Some, None, List, [], ◌∷◌, ◌++◌, length, refl, sym, ap, subst, ◌∙◌, arith, inl, inr}
 use Rattle.std.specs.Prelude.{reverse, slice_get}
-use Rattle.std.proofs.lemmas.List.{append_assoc, length-append, reverse-append}
-use Rattle.std.proofs.lemmas.Option.{same_Some, slice_get_within}
+use Rattle.csp_base.proofs.Standard.{append_assoc, length-append, reverse-append, same_Some, slice_get_within}
 use Rattle.containers.proofs.MembersLemmas.{slice_get-append_left}
 use Rattle.csp_base.proofs.Lists.{push_cases, slice_get_last, slice_get_some}
 use Rattle.csp_program.specs.declared.processes.Proc.{Proc}
-use Rattle.csp_tables.specs.Label.{Label}
-use Rattle.csp_tables.specs.Label.Label.{silent, visible}
-use Rattle.csp_tables.specs.Network.{ComponentStep}
-use Rattle.csp_tables.specs.Path.{Path, Reached}
-use Rattle.csp_tables.specs.RawTable.{IsStepOf, standing_at}
-use Rattle.csp_tables.specs.Trace.{visible_events}
+use Rattle.csp_tables.specs.Prelude.{Label, silent, visible, ComponentStep, Path, Reached, IsStepOf, standing_at, visible_events}
 use Rattle.process_steps.specs.ComponentStep.{ProcessStep}
-use Rattle.local_tables.specs.Component.{part_of}
-use Rattle.local_tables.specs.Progress.{AreLed, LeadsToTerm, Origin, label_of, step_events}
-use Rattle.local_tables.specs.declared.task.Task.{Task}
+use Rattle.local_tables.specs.Prelude.{part_of, AreLed, LeadsToTerm, Origin, label_of, step_events, Task}
 
 -- ---- one more step at the end of a path
 

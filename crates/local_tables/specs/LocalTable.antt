@@ -1,17 +1,10 @@
 -- The table of a component of a program, within the limits.
 use Rattle.std.specs.Prelude.{◌≡◌, ℕ, ◌≤◌, Some, List, length, map, slice_get}
 use Rattle.dl_limits.specs.declared.TheConstants.{MOST_TERMS, MOST_TERM_DEPTH}
-use Rattle.csp_program.specs.Depth.{proc_depth}
-use Rattle.csp_program.specs.Size.{proc_size}
-use Rattle.csp_program.specs.declared.processes.Proc.{Proc}
-use Rattle.csp_program.specs.declared.programs.Content.{Content}
+use Rattle.csp_program.specs.Prelude.{proc_depth, proc_size, Proc, Content}
 use Rattle.csp_steps.specs.Order.{AreTargets}
-use Rattle.csp_tables.specs.Label.{Label}
-use Rattle.csp_tables.specs.Network.{Component}
-use Rattle.csp_tables.specs.RawTable.{IsTableOf, RawTable}
-use Rattle.csp_tables.specs.RowOrder.{targets_in}
-use Rattle.process_steps.specs.ComponentStep.{ProcessStep, Ticks}
-use Rattle.process_steps.specs.LacksNone.{LacksNone}
+use Rattle.csp_tables.specs.Prelude.{Label, Component, IsTableOf, RawTable, targets_in}
+use Rattle.process_steps.specs.Prelude.{ProcessStep, Ticks, LacksNone}
 use Rattle.local_tables.specs.Component.{IsInside, step_count}
 use Rattle.local_tables.specs.declared.local_table.LocalTable.{LocalTable}
 use Rattle.local_tables.specs.Room.{Room}

@@ -3,25 +3,12 @@ use Rattle.std.specs.Prelude.{◌≡◌, ◌⊎◌, ℕ, ◌+◌, ◌<◌, ◌�
 use Rattle.std.specs.Set.{is_member}
 use Rattle.csp_base.specs.Lists.{StandsIn, total}
 use Rattle.dl_limits.specs.declared.TheConstants.{MOST_TERMS, MOST_TERM_DEPTH}
-use Rattle.csp_program.specs.Depth.{proc_depth}
-use Rattle.csp_program.specs.Size.{proc_size}
-use Rattle.csp_program.specs.declared.processes.Proc.{Proc}
-use Rattle.csp_steps.specs.Listed.{seen}
-use Rattle.csp_steps.specs.Order.{AreFirsts, goals}
-use Rattle.csp_steps.specs.declared.step.StepTo.{StepTo}
-use Rattle.csp_tables.specs.Label.{Label}
-use Rattle.csp_tables.specs.Label.Label.{silent, visible}
-use Rattle.csp_tables.specs.Network.{ComponentStep}
-use Rattle.csp_tables.specs.RawTable.{IsStepOf, RawTable, standing_at}
-use Rattle.csp_tables.specs.RowOrder.{targets_in}
-use Rattle.csp_tables.specs.Trace.{After}
-use Rattle.process_steps.specs.ComponentStep.{ProcessStep}
-use Rattle.process_steps.specs.StepList.{Move, steps_of}
+use Rattle.csp_program.specs.Prelude.{proc_depth, proc_size, Proc}
+use Rattle.csp_steps.specs.Prelude.{seen, AreFirsts, goals, StepTo}
+use Rattle.csp_tables.specs.Prelude.{Label, silent, visible, ComponentStep, IsStepOf, RawTable, standing_at, targets_in, After}
+use Rattle.process_steps.specs.Prelude.{ProcessStep, Move, steps_of, Silent, Visible, Tick}
 use Rattle.process_steps.specs.declared.label.Label.{Label as ProcessLabel}
-use Rattle.process_steps.specs.declared.label.Label.TheVariants.{Silent, Visible, Tick}
-use Rattle.pool_parts.specs.Counting.{capped}
-use Rattle.pool_parts.specs.ExactId.{eq_id}
-use Rattle.pool_parts.specs.declared.place.ProcId.{ProcId}
+use Rattle.pool_parts.specs.Prelude.{capped, eq_id, ProcId}
 use Rattle.term_pool.specs.Trees.{tree_at}
 use Rattle.local_tables.specs.Component.{IsInside, part_of, step_count}
 use Rattle.local_tables.specs.Room.{Room}

@@ -1,10 +1,8 @@
 -- Levels and uses, from those of the occurrences that are left.
 use Rattle.std.proofs.Common.{◌≡◌, ℕ, ◌+◌, ◌<◌, max, List, [], ◌∷◌, ◌++◌, length, map, drop, get_or, ap, sym, ◌∙◌, append_assoc, arith}
-use Rattle.std.specs.Borrow.{Bor}
-use Rattle.std.specs.List.{flat_map}
+use Rattle.csp_base.specs.Standard.{Bor, flat_map}
 use Rattle.csp_base.proofs.Lists.{drop_read}
-use Rattle.script_names.specs.Names.{Name}
-use Rattle.script_names.specs.declared.occurrence.Occurrence.{Occurrence}
+use Rattle.script_names.specs.Prelude.{Name, Occurrence}
 use Rattle.name_faults.specs.Bodies.{greatest_level, level_of, use_of}
 use Rattle.name_faults.specs.Walked.{seen}
 

@@ -1,17 +1,12 @@
 -- Depths by rounds: they are those of the definition, and once a round changes nothing no later one does.
 use Rattle.std.proofs.Common.{◌≡◌, ℕ, zero, suc, ◌+◌, ◌-◌, ◌≤◌, ◌<◌, max, min, Bool, true, IsTrue, ◌↔◌, Option, Some, None, List, [], ◌∷◌, ◌++◌, map, slice_get, slice_index, nat_lt, add-one, refl, sym, ap, ◌∙◌, subst, arith}
-use Rattle.std.proofs.lemmas.Bool.{lt-ltb, ltb-true, ltb_from_iff}
-use Rattle.std.proofs.lemmas.Option.{slice_get-map}
-use Rattle.std.specs.List.{flat_map}
-use Rattle.std.specs.Option.{option_map}
+use Rattle.csp_base.proofs.Standard.{lt-ltb, ltb-true, ltb_from_iff, slice_get-map}
+use Rattle.csp_base.specs.Standard.{flat_map, option_map}
 use Rattle.script_names.specs.declared.kinds.Entity.TheVariants as entity
-use Rattle.script_names.specs.declared.kinds.Sense.{Sense}
+use Rattle.script_names.specs.Prelude.{Sense, below, deepest, depth_within, reach, said_by, Occurrence, Binds, Notes, Uses, Form, Parallel, Name}
+use Rattle.script_names.specs.declared.occurrence.Occurrence.TheVariants.{Declares}
 use Rattle.script_names.specs.declared.kinds.Sense.TheVariants as sense
 use Rattle.script_names.specs.declared.kinds.Use.TheVariants as how
-use Rattle.script_names.specs.Depth.{below, deepest, depth_within, reach, said_by}
-use Rattle.script_names.specs.declared.occurrence.Occurrence.{Occurrence}
-use Rattle.script_names.specs.declared.occurrence.Occurrence.TheVariants.{Declares, Binds, Notes, Uses, Form, Parallel}
-use Rattle.script_names.specs.Names.{Name}
 use Rattle.name_faults.specs.declared.body.Body.{Body}
 use Rattle.name_faults.specs.Bodies.{body_of, greatest_level, level_of, use_of, used}
 use Rattle.name_faults.specs.Depths.{AreWithin, deepest_if, deepest_of, deepest_use, within}

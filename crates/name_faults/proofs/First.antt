@@ -1,11 +1,8 @@
 -- The first name that a test finds in a row, from what it finds in those that are left.
 use Rattle.std.proofs.Common.{◌≡◌, ℕ, ◌+◌, ◌<◌, Bool, true, false, Option, Some, None, List, [], ◌∷◌, length, map, drop, get_or, ap, sym, ◌∙◌}
-use Rattle.std.specs.Borrow.{Bor}
-use Rattle.std.specs.List.{list_any}
+use Rattle.csp_base.specs.Standard.{Bor, list_any}
 use Rattle.csp_base.proofs.Lists.{drop_read}
-use Rattle.script_names.specs.Names.{Name}
-use Rattle.script_names.specs.declared.occurrence.Occurrence.{Occurrence}
-use Rattle.script_names.specs.Told.{first_name}
+use Rattle.script_names.specs.Prelude.{Name, Occurrence, first_name}
 use Rattle.name_faults.specs.Walked.{seen}
 
 module _ (test : Occurrence Name → Option Name) (os : List (Occurrence (Bor Name))) (i : ℕ) (o : Occurrence (Bor Name)) (whole : Option Name) where

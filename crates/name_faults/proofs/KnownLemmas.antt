@@ -1,20 +1,13 @@
 -- What is known of declarations, and what one says after them.
 use Rattle.std.proofs.Common.{◌≡◌, ℕ, ◌+◌, ◌<◌, ◌≤◌, Bool, ◌&&◌, Option, Some, None, List, [], ◌∷◌, ◌++◌, length, map, take, drop, get_or, slice_get, slice_index, nat_lt, refl, sym, ap, ◌∙◌, append_assoc, subst, arith}
-use Rattle.std.proofs.Math.ListN.{drop_of_length-le}
-use Rattle.std.proofs.lemmas.List.{append-nil, map-append, length_push}
+use Rattle.csp_base.proofs.Standard.{drop_of_length-le, append-nil, map-append, length_push}
 use Rattle.std.specs.List.{flat_map}
 use Rattle.dl_limits.specs.declared.TheConstants.{MOST_DATA_DEPTH}
-use Rattle.csp_text.specs.declared.script.Decl.{Decl}
+use Rattle.csp_text.specs.Prelude.{Decl, Tree}
 use Rattle.csp_text.specs.declared.script.Decl.TheVariants as decl
-use Rattle.csp_text.specs.declared.tree.Tree.{Tree}
-use Rattle.script_names.specs.declared.fault.ResolveFault.{ResolveFault}
-use Rattle.script_names.specs.declared.kinds.Kind.{Kind}
-use Rattle.script_names.specs.declared.occurrence.Occurrence.{Occurrence}
+use Rattle.script_names.specs.Prelude.{ResolveFault, Kind, Occurrence, kind_class, Name, Meanings, Entities, Counts, channels_from, constants_from, counted, declared_from, is_among, meanings_of, none_yet, tree_says, annotation_says, bodies_from, body_place, counts_of, data_place, decl_says, declared_after, each_after, fault_in, fault_of, first_fault, first_there, is_data, is_deep, name_fault, names_declared, next_definition, parameters_after, too_deep, types_say, with_roles, with_uses}
 use Rattle.script_names.specs.declared.occurrence.Occurrence.TheVariants.{Declares}
-use Rattle.script_names.specs.Faults.{kind_class}
-use Rattle.script_names.specs.Names.{Name, Meanings, Entities, Counts, channels_from, constants_from, counted, declared_from, declares as declares_of, is_among, meanings_of, none_yet}
-use Rattle.script_names.specs.Says.{tree_says}
-use Rattle.script_names.specs.Told.{annotation_says, bodies_from, body_place, counts_of, data_place, decl_says, declared_after, each_after, fault_in, fault_of, first_fault, first_there, is_data, is_deep, name_fault, names_declared, next_definition, parameters_after, too_deep, types_say, with_roles, with_uses}
+use Rattle.script_names.specs.Names.{declares as declares_of}
 use Rattle.name_tables.specs.Firsts.{SameNames}
 use Rattle.name_tables.proofs.NameLemmas.{same_names-append}
 use Rattle.name_faults.specs.declared.body.Body.{Body}

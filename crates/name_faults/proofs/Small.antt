@@ -4,8 +4,7 @@ use Rattle.std.proofs.Common.{◌≡◌, ℕ, zero, suc, ◌+◌, ◌<◌, ◌�
 use Rattle.std.proofs.lemmas.List.{length-take}
 use Rattle.csp_text.specs.declared.script.Decl.{Decl}
 use Rattle.csp_text.specs.declared.script.Decl.TheVariants as decl
-use Rattle.script_names.specs.Names.{Counts, counted, none_yet}
-use Rattle.script_names.specs.Told.{counts_of, next_definition}
+use Rattle.script_names.specs.Prelude.{Counts, counted, none_yet, counts_of, next_definition}
 use Rattle.script_sizes.specs.Size.{declaration_depth, declaration_size, depth, size}
 use Rattle.name_faults.specs.declared.known.Known.{Known}
 use Rattle.name_faults.specs.Known.{IsKnown, IsNext}

@@ -3,10 +3,7 @@
 ghost use Rattle.std.specs.Prelude.{◌≡◌, ◌+◌, ◌≤◌, [], ◌∷◌, ◌++◌, map, length, slice_get, IfOk, OnOk};
 ghost use Rattle.csp_text.specs.Depth.{tree_depth};
 ghost use Rattle.dl_limits.specs.declared.TheConstants.{MOST_TREE_DEPTH};
-ghost use Rattle.script_names.specs.Faults.{kind_class};
-ghost use Rattle.script_names.specs.Names.{first_of};
-ghost use Rattle.script_names.specs.Says.{tree_says};
-ghost use Rattle.script_names.specs.Told.{body_place, expanded_body};
+ghost use Rattle.script_names.specs.Prelude.{kind_class, first_of, tree_says, body_place, expanded_body};
 ghost use Rattle.script_sizes.specs.Size.{declaration_depth, depth};
 ghost use Rattle.name_faults.specs.Bodies as meant;
 

@@ -2,9 +2,8 @@
 
 ghost use Rattle.std.specs.Prelude.{◌≡◌, ◌-◌, ◌||◌, not, map, nat_eq, nat_lt, option_copied, slice_get};
 ghost use Rattle.std.specs.List.{list_any};
-ghost use Rattle.script_names.specs.Names.{first_of};
+ghost use Rattle.script_names.specs.Prelude.{first_of, first_name};
 ghost use Rattle.script_names.specs.Faults as meant;
-ghost use Rattle.script_names.specs.Told.{first_name};
 ghost use Rattle.name_faults.specs.Walked.{seen};
 
 use csp_base::Name;

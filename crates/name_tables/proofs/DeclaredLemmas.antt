@@ -1,13 +1,10 @@
 -- Names that are declared one after another.
 use Rattle.std.proofs.Common.{◌≡◌, ℕ, ◌+◌, ◌<◌, ◌≤◌, List, [], ◌∷◌, ◌++◌, length, drop, get_or, sym, ap, ◌∙◌, append_assoc}
-use Rattle.std.proofs.Math.ListN.{drop_of_length-le}
-use Rattle.std.proofs.lemmas.List.{append-nil}
+use Rattle.csp_base.proofs.Standard.{drop_of_length-le, append-nil}
 use Rattle.std.specs.List.{flat_map}
 use Rattle.csp_text.specs.declared.script.Decl.{Decl}
-use Rattle.script_names.specs.Names.{Name, Entities, Counts, channels_from, constants_from, counted, declared_from, declares, first_of}
+use Rattle.script_names.specs.Prelude.{Name, Entities, Counts, channels_from, constants_from, counted, declared_from, declares, first_of, parameters, Scope}
 use Rattle.script_names.specs.declared.kinds.Entity.TheVariants as entity
-use Rattle.script_names.specs.Contents.{parameters}
-use Rattle.script_names.specs.Typed.{Scope}
 use Rattle.name_tables.specs.Firsts.{SameFirsts}
 use Rattle.name_tables.proofs.NameLemmas.{same_firsts-append}
 use Rattle.csp_base.proofs.Lists.{drop_read}

@@ -1,12 +1,10 @@
 -- Names and lists of them.
 use Rattle.std.proofs.Common.{◌≡◌, Bool, true, false, cond, if◌then◌else◌, ◌||◌, nat_eq, List, [], ◌∷◌, ◌++◌, Option, Some, None, is_some, refl, sym, ◌∙◌, ap}
 use Rattle.std.proofs.lemmas.Bool.{eqb-true, eq-eqb, and_from}
-use Rattle.std.specs.Cmp.Lexicographic.{pointwise}
-use Rattle.std.specs.List.{list_any}
+use Rattle.csp_base.specs.Standard.{pointwise, list_any}
 use Rattle.containers.specs.Exact.{IsExact-pointwise}
 use Rattle.csp_text.specs.declared.script.Decl.{Decl}
-use Rattle.script_names.specs.Names.{Name, Entities, declared, first_of, is_among, meanings_of, same_name}
-use Rattle.script_names.specs.declared.kinds.Entity.{Entity}
+use Rattle.script_names.specs.Prelude.{Name, Entities, declared, first_of, is_among, meanings_of, same_name, Entity}
 use Rattle.name_tables.specs.Firsts.{SameFirsts, SameNames}
 use Rattle.csp_base.proofs.Booleans.{or_regroup}
 

@@ -1,11 +1,7 @@
 -- Maps in which names are found by their bytes: the order of names tells the same names apart as their equality.
 use Rattle.std.proofs.Common.{◌≡◌, ℕ, Bool, true, false, cond, List, Option, Some, None, is_some, refl, sym, ◌∙◌, ap}
 use Rattle.std.specs.BTreeMap as tree
-use Rattle.std.specs.BTreeMap.{BTreeMap}
-use Rattle.std.specs.Cmp.Lexicographic.{slice_cmp, texts_ties}
-use Rattle.std.specs.Map.{KeepsOthers, IsKeyTest, AreApart, lookup}
-use Rattle.std.specs.Ordering.{eq_by_cmp, is_eq, nat_cmp}
-use Rattle.std.specs.declared.cmp.Ordering.{Ordering}
+use Rattle.csp_base.specs.Standard.{BTreeMap, slice_cmp, texts_ties, KeepsOthers, IsKeyTest, AreApart, lookup, eq_by_cmp, is_eq, nat_cmp, Ordering}
 use Rattle.std.proofs.lemmas.Cmp.{eq_by_cmp_equiv, nat_list_cmp_total}
 use Rattle.script_names.specs.Names.{Name, same_name}
 use Rattle.name_tables.specs.Spelling.{Spelling, at_name}

@@ -1,8 +1,7 @@
 -- What a scope keeps of the names that it has bound.
 use Rattle.std.specs.Prelude.{◌≡◌, ℕ, if◌then◌else◌, Option, List, [], ◌∷◌, ◌++◌}
 use Rattle.std.specs.BTreeMap.{BTreeMap}
-use Rattle.script_names.specs.Names.{Name, same_name}
-use Rattle.script_names.specs.Typed.{Scope, number_of}
+use Rattle.script_names.specs.Prelude.{Name, same_name, Scope, number_of}
 use Rattle.name_tables.specs.declared.scope.Binding.{Binding}
 use Rattle.name_tables.specs.Spelling.{Spelling, at_name}
 

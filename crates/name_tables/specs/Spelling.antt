@@ -1,9 +1,6 @@
 -- Maps in which bound names are found by their bytes.
 use Rattle.std.specs.Prelude.{ℕ, Option, List, Vec, map}
-use Rattle.std.specs.Ordering.{nat_cmp}
-use Rattle.std.specs.BTreeMap.{BTreeMap, get_by}
-use Rattle.std.specs.Cmp.Lexicographic.{slice_cmp}
-use Rattle.std.specs.declared.alloc.Global.{Global}
+use Rattle.csp_base.specs.Standard.{nat_cmp, BTreeMap, get_by, slice_cmp, Global}
 use Rattle.script_names.specs.Names.{Name}
 
 -- a name's bytes, as they are kept

@@ -3,10 +3,8 @@
 ghost use Rattle.std.specs.Prelude.{◌≡◌, ◌≤◌, List, [], ◌∷◌, ◌++◌, length, IfOk, OnOk};
 ghost use Rattle.std.specs.List.{flat_map};
 ghost use Rattle.dl_limits.specs.declared.TheConstants.{MOST_BYTES};
-ghost use Rattle.script_names.specs.Contents.{parameters};
+ghost use Rattle.script_names.specs.Prelude.{parameters, first_of, sense_in, names_of};
 ghost use Rattle.script_names.specs.Kinds as meant;
-ghost use Rattle.script_names.specs.Names.{first_of, sense_in};
-ghost use Rattle.script_names.specs.Typed.{names_of};
 ghost use Rattle.script_sizes.specs.Size.{declaration_size, size};
 ghost use Rattle.name_tables.specs.Ends.{rows};
 

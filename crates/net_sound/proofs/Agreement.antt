@@ -2,8 +2,7 @@
 use Rattle.std.proofs.Common.{◌≡◌, ℕ, ◌<◌, ◌⊎◌, inl, inr, List, true, false, IsTrue, ℤ, ◌<ℤ◌, subst}
 use Rattle.std.proofs.lemmas.Bool.{cases_Bool, both_ways}
 use Rattle.csp_base.specs.Members.{has}
-use Rattle.csp_tables.specs.Trace.{IsWithin}
-use Rattle.csp_tables.specs.Part.{IsNonEmpty, Meet, AreApart}
+use Rattle.csp_tables.specs.Prelude.{IsWithin, IsNonEmpty, Meet, AreApart}
 use Rattle.net_sound.proofs.Finite.{search_below, search_list, no_descent}
 
 -- each place below n with the event in A has it in M

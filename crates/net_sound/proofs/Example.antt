@@ -1,22 +1,8 @@
 -- The two networks of components that take two events in turn.
 use Rattle.std.proofs.Common.{◌≡◌, ℕ, zero, suc, ◌+◌, ◌<◌, ◌≤◌, inl, inr, List, [], ◌∷◌, length, Bool, true, false, ◌||◌, cond, IsTrue, MatchBool, nat_eq, Some, slice_get, refl, sym, ap, subst, ◌∙◌, arith}
-use Rattle.std.proofs.lemmas.Bool.{false≢true, and_from, and_parts, eqb-true, or_cases}
-use Rattle.std.proofs.lemmas.Option.{none-some, same_Some}
+use Rattle.csp_base.proofs.Standard.{false≢true, and_from, and_parts, eqb-true, or_cases, none-some, same_Some}
 use Rattle.csp_base.specs.Members.{has}
-use Rattle.csp_tables.specs.Label.{Label}
-use Rattle.csp_tables.specs.Label.Label.{silent, visible}
-use Rattle.csp_tables.specs.Path.{Path, Silently, Stable}
-use Rattle.csp_tables.specs.Network.{Component, ComponentStep, Tree, NetworkStep, leaves}
-use Rattle.csp_tables.specs.Flat.{FlatStep}
-use Rattle.csp_tables.specs.SilentBound.{IsGreatestSilence}
-use Rattle.csp_tables.specs.Trace.{visible_events, After, Offers}
-use Rattle.csp_tables.specs.Table.{node_at, node_after, is_run, end_of}
-use Rattle.csp_tables.specs.Part.{Part, part_at, project, IsNonEmpty, sharers}
-use Rattle.csp_tables.specs.Stands.{Stands, acceptance, acceptances_of}
-use Rattle.csp_tables.specs.Form.{HasForm}
-use Rattle.csp_tables.specs.Behaviour.{OffersAcceptance, HasBehaviour}
-use Rattle.csp_tables.specs.Falls.{Falls}
-use Rattle.csp_tables.specs.GoodRanking.{IsGoodRanking}
+use Rattle.csp_tables.specs.Prelude.{Label, silent, visible, Path, Silently, Stable, Component, ComponentStep, Tree, NetworkStep, leaves, FlatStep, IsGreatestSilence, visible_events, After, Offers, node_at, node_after, is_run, end_of, Part, part_at, project, IsNonEmpty, sharers, Stands, acceptance, acceptances_of, HasForm, OffersAcceptance, HasBehaviour, Falls, IsGoodRanking}
 use Rattle.net_sound.specs.Soundness.{IsSound}
 use Rattle.net_sound.specs.Example.{Turn, TurnStep, both, pair, turns, flat_ranking, ExampleIsLive, ExampleIsStuck}
 use Rattle.net_sound.specs.Example.Turn.{waking, at_zero, at_one}

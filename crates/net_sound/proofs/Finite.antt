@@ -1,7 +1,6 @@
 -- Searches over finitely many numbers: below a bound, and in a list. And a least value.
 use Rattle.std.proofs.Common.{◌≡◌, ℕ, zero, suc, ◌<◌, ◌⊎◌, inl, inr, List, [], ◌∷◌, IsTrue, ℤ, ◌≤ℤ◌, ◌<ℤ◌, refl, sym, subst, arith, eq-eqb}
-use Rattle.std.proofs.lemmas.Bool.{false≢true, cases_eq, or_cases, or_left, or_right, eqb-true}
-use Rattle.std.proofs.lemmas.Int.{ints, by_lt_z}
+use Rattle.csp_base.proofs.Standard.{false≢true, cases_eq, or_cases, or_left, or_right, eqb-true, ints, by_lt_z}
 use Rattle.csp_base.specs.Members.{has}
 
 -- what holds below n, and at n, holds below n + 1

@@ -3,13 +3,7 @@ use Rattle.std.proofs.Common.{◌≡◌, ℕ, inl, inr, List, [], ◌∷◌, ◌
 use Rattle.std.proofs.lemmas.Bool.{MatchBool-at_true, or_cases, or_left, false≢true, cases_Bool}
 use Rattle.csp_base.specs.Members.{has}
 use Rattle.csp_base.proofs.Booleans.{or_regroup}
-use Rattle.csp_tables.specs.Label.{Label}
-use Rattle.csp_tables.specs.Label.Label.{silent, visible}
-use Rattle.csp_tables.specs.Network.{Component, ComponentStep, Tree, Operands, in_some_alphabet, NetworkStep, OneSilent, AllTogether, leaves, leaves_of_operands}
-use Rattle.csp_tables.specs.Network.Tree.{leaf, parallel}
-use Rattle.csp_tables.specs.Network.Operands.{none, operand}
-use Rattle.csp_tables.specs.Flat.{in_some_component, OneMoves, AllTakePart, FlatStep}
-use Rattle.csp_tables.specs.WellNested.{WellNested, OperandsWellNested}
+use Rattle.csp_tables.specs.Prelude.{Label, silent, visible, Component, ComponentStep, Tree, Operands, in_some_alphabet, NetworkStep, OneSilent, AllTogether, leaves, leaves_of_operands, leaf, parallel, none, operand, in_some_component, OneMoves, AllTakePart, FlatStep, WellNested, OperandsWellNested}
 use Rattle.net_sound.specs.Flattening.{StepsToLeaves, TreeStepsAreFlat, FlatStepsAreTreeSteps, StepsKeepNesting, StepsKeepAlphabets}
 use Rattle.net_sound.proofs.FlatLists.{alphabets, by_test, match_true, match_false, moves_left, moves_right, all_append, all_stay, all_stayed, moves_split, all_split, flat_alphabets, same_some}
 

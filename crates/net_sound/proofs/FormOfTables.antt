@@ -4,22 +4,11 @@
 -- so a possible event is the last one of a trace, and an acceptance is offered by a state of the component, whose events are
 -- possible. Targets are nodes, since whoever goes over the steps breadth first meets exactly the nodes.
 use Rattle.std.proofs.Common.{◌≡◌, ℕ, suc, ◌+◌, ◌<◌, ◌≤◌, List, [], ◌∷◌, ◌++◌, length, get_or, map, true, IsTrue, nat_eq, refl, sym, ap, subst, ◌∙◌, arith, inl, inr, eq-eqb}
-use Rattle.std.proofs.lemmas.Bool.{and_parts, or_left, or_right, or_cases, eqb-true, false≢true, cases_lt}
-use Rattle.std.proofs.Math.ListN.{get_or-eq_default}
+use Rattle.csp_base.proofs.Standard.{and_parts, or_left, or_right, or_cases, eqb-true, false≢true, cases_lt, get_or-eq_default}
 use Rattle.dl_limits.specs.declared.TheConstants.{MOST_SETS, MOST_TERMS}
 use Rattle.csp_base.specs.Members.{has}
 use Rattle.csp_base.proofs.Rising.{RisesFrom, rises_from_increasing}
-use Rattle.csp_tables.specs.Label.{Label}
-use Rattle.csp_tables.specs.Label.Label.{silent, visible}
-use Rattle.csp_tables.specs.Path.{Path}
-use Rattle.csp_tables.specs.Network.{Component, ComponentStep, leaves}
-use Rattle.csp_tables.specs.Trace.{visible_events, After, IsTrace, IsAcceptance, IsWithin}
-use Rattle.csp_tables.specs.Table.{Node, node_at, is_possible, node_after, is_run, end_of, IsReached, no_node}
-use Rattle.csp_tables.specs.Form.{BeginsAbove, StepsHaveForm, AreWithin, NodesHaveForm, HasForm, HaveForm}
-use Rattle.csp_tables.specs.BreadthFirst.{MeetsInOrder, targets_of_steps, targets_of_nodes}
-use Rattle.csp_tables.specs.NormalTable.{IsNormalTable, IsRisingNode}
-use Rattle.csp_tables.specs.Part.{Part, part_at}
-use Rattle.csp_tables.specs.ShapeOf.{ArePartsOf}
+use Rattle.csp_tables.specs.Prelude.{Label, silent, visible, Path, Component, ComponentStep, leaves, visible_events, After, IsTrace, IsAcceptance, IsWithin, Node, node_at, is_possible, node_after, is_run, end_of, IsReached, no_node, BeginsAbove, StepsHaveForm, AreWithin, NodesHaveForm, HasForm, HaveForm, MeetsInOrder, targets_of_steps, targets_of_nodes, IsNormalTable, IsRisingNode, Part, part_at, ArePartsOf}
 use Rattle.csp_tables.proofs.Runs.{run_push}
 use Rattle.net_sound.specs.Normal.{ShapesAreWellFormed}
 use Rattle.net_sound.proofs.Parts.{component_of}

@@ -1,12 +1,7 @@
 -- Silent walks of a component and of its numbered table.
 use Rattle.std.proofs.Common.{◌≡◌, ℕ, zero, suc, ◌<◌, ◌≤◌, List, [], ◌∷◌, Some, slice_get, get_or, length, refl, sym, subst, ◌∙◌, arith, inl, inr}
-use Rattle.std.proofs.lemmas.Bool.{cases_lt}
-use Rattle.std.proofs.lemmas.Option.{same_Some, slice_get_within}
-use Rattle.csp_tables.specs.Label.{Label}
-use Rattle.csp_tables.specs.Label.Label.{silent}
-use Rattle.csp_tables.specs.Path.{Silently}
-use Rattle.csp_tables.specs.Network.{Component, ComponentStep}
-use Rattle.csp_tables.specs.RawTable.{RawTable, RawStep, standing_at, IsTableOf}
+use Rattle.csp_base.proofs.Standard.{cases_lt, same_Some, slice_get_within}
+use Rattle.csp_tables.specs.Prelude.{Label, silent, Silently, Component, ComponentStep, RawTable, RawStep, standing_at, IsTableOf}
 use Rattle.net_sound.specs.Heights.{HeightsAreExact, HeightsAddUp, sum_of_greatest}
 use Rattle.net_sound.proofs.FlatLists.{step_alphabet}
 use Rattle.net_sound.proofs.Numbered.{run_down, stands}

@@ -3,15 +3,7 @@
 use Rattle.std.proofs.Common.{◌≡◌, ℕ, zero, suc, ◌+◌, ◌≤◌, inl, inr, List, [], ◌∷◌, MatchBool, refl, sym, ap, subst, ◌∙◌, arith}
 use Rattle.std.proofs.lemmas.Bool.{cond-true, cond-false}
 use Rattle.csp_base.specs.Members.{has}
-use Rattle.csp_tables.specs.Label.{Label}
-use Rattle.csp_tables.specs.Label.Label.{silent, visible}
-use Rattle.csp_tables.specs.Path.{Path, Reached, Silently}
-use Rattle.csp_tables.specs.Network.{Component, ComponentStep, Tree, NetworkStep, leaves}
-use Rattle.csp_tables.specs.Flat.{OneMoves, AllTakePart, FlatStep}
-use Rattle.csp_tables.specs.WellNested.{WellNested}
-use Rattle.csp_tables.specs.SilentBound.{IsSilentBound}
-use Rattle.csp_tables.specs.Trace.{visible_events, After}
-use Rattle.csp_tables.specs.Part.{project}
+use Rattle.csp_tables.specs.Prelude.{Label, silent, visible, Path, Reached, Silently, Component, ComponentStep, Tree, NetworkStep, leaves, OneMoves, AllTakePart, FlatStep, WellNested, IsSilentBound, visible_events, After, project}
 use Rattle.net_sound.proofs.FlatLists.{by_test, step_alphabet}
 use Rattle.net_sound.proofs.Flattening.{forth, kept}
 

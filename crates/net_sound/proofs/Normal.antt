@@ -1,14 +1,7 @@
 -- A component and its numbered table do the same, so the normal table of the one is that of the other.
 use Rattle.std.proofs.Common.{◌≡◌, ℕ, List, [], ◌++◌, Some, slice_get, get_or, refl, sym, subst, ◌∙◌}
 use Rattle.std.proofs.lemmas.Option.{same_Some}
-use Rattle.csp_tables.specs.Label.{Label}
-use Rattle.csp_tables.specs.Label.Label.{silent, visible}
-use Rattle.csp_tables.specs.Path.{Stable}
-use Rattle.csp_tables.specs.Network.{Component, ComponentStep}
-use Rattle.csp_tables.specs.Trace.{IsTrace, IsStableOffer, IsAcceptance, HaveSameFuture}
-use Rattle.csp_tables.specs.RawTable.{RawTable, RawStep, standing_at, IsTableOf}
-use Rattle.csp_tables.specs.Table.{acceptances_after}
-use Rattle.csp_tables.specs.Behaviour.{OffersAcceptance}
+use Rattle.csp_tables.specs.Prelude.{Label, silent, visible, Stable, Component, ComponentStep, IsTrace, IsStableOffer, IsAcceptance, HaveSameFuture, RawTable, RawStep, standing_at, IsTableOf, acceptances_after, OffersAcceptance}
 use Rattle.net_sound.specs.Normal.{NormalTablesCarryOver}
 use Rattle.net_sound.proofs.Numbered.{run_down, run_up, stands}
 

@@ -1,10 +1,7 @@
 -- The parts of a network and its components, place by place.
 use Rattle.std.proofs.Common.{◌≡◌, ℕ, zero, suc, ◌<◌, List, [], ◌∷◌, Some, slice_get, length, refl, sym, subst, ◌∙◌, arith}
 use Rattle.std.proofs.lemmas.Option.{same_Some, slice_get_within}
-use Rattle.csp_tables.specs.Label.{Label}
-use Rattle.csp_tables.specs.Network.{Component}
-use Rattle.csp_tables.specs.Part.{Part, part_at}
-use Rattle.csp_tables.specs.ShapeOf.{IsPartOf, ArePartsOf}
+use Rattle.csp_tables.specs.Prelude.{Label, Component, Part, part_at, IsPartOf, ArePartsOf}
 
 pub one_part_each : {T : Type 0} (Step : T → Label → T → Type 0) (cs : List (Component T)) (ps : List Part) → ArePartsOf Step cs ps → length cs ≡ length ps
 one_part_each Step [] [] parts = refl

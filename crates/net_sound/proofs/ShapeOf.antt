@@ -1,15 +1,8 @@
 -- The shape of a network that is never empty-handed has its components' behaviour.
 use Rattle.std.proofs.Common.{ℕ, suc, List, [], ◌∷◌, get_or, nat_eq, refl, sym, subst, ◌∙◌, eq-eqb}
-use Rattle.std.proofs.lemmas.Bool.{false≢true, or_left}
-use Rattle.std.proofs.lemmas.Option.{slice_get_within, get_or_from_slice_get}
+use Rattle.csp_base.proofs.Standard.{false≢true, or_left, slice_get_within, get_or_from_slice_get}
 use Rattle.csp_base.specs.Members.{has}
-use Rattle.csp_tables.specs.Label.{Label}
-use Rattle.csp_tables.specs.Network.{Component, ComponentStep, leaves}
-use Rattle.csp_tables.specs.Trace.{IsAcceptance, IsBusy}
-use Rattle.csp_tables.specs.Table.{acceptances_after}
-use Rattle.csp_tables.specs.Part.{Part, part_at, IsNonEmpty}
-use Rattle.csp_tables.specs.Behaviour.{HasBehaviour, HaveBehaviours}
-use Rattle.csp_tables.specs.ShapeOf.{IsPartOf, ArePartsOf, AreBusy, ShapesAreBusy}
+use Rattle.csp_tables.specs.Prelude.{Label, Component, ComponentStep, leaves, IsAcceptance, IsBusy, acceptances_after, Part, part_at, IsNonEmpty, HasBehaviour, HaveBehaviours, IsPartOf, ArePartsOf, AreBusy, ShapesAreBusy}
 use Rattle.net_sound.specs.Normal.{NormalTablesBehave, ShapesBehave}
 use Rattle.net_sound.proofs.Parts.{component_of, part_of, part_within}
 

@@ -5,21 +5,10 @@
 -- stable, so it offers every event of an acceptance of the node where its table is, and that acceptance is not empty. Since
 -- ranks fall along ungranted requests, an event is agreed by all that have it. Each of them offers it, so the network has it.
 use Rattle.std.proofs.Common.{◌≡◌, ℕ, zero, suc, ◌<◌, inl, inr, List, [], ◌∷◌, Some, slice_get, get_or, length, IsTrue, MatchBool, replicate, refl, sym, ap, ap₂, subst, ◌∙◌, arith}
-use Rattle.std.proofs.lemmas.Bool.{cases_Bool, or_left, or_right}
-use Rattle.std.proofs.lemmas.Option.{get_or_from_slice_get, slice_get_within, none-some, same_Some}
+use Rattle.csp_base.proofs.Standard.{cases_Bool, or_left, or_right, get_or_from_slice_get, slice_get_within, none-some, same_Some}
 use Rattle.csp_base.specs.Members.{has}
-use Rattle.csp_tables.specs.Label.{Label}
-use Rattle.csp_tables.specs.Label.Label.{silent, visible}
-use Rattle.csp_tables.specs.Path.{Path, Stable}
-use Rattle.csp_tables.specs.Network.{Component, ComponentStep, Tree, NetworkStep, leaves}
+use Rattle.csp_tables.specs.Prelude.{Label, silent, visible, Path, Stable, Component, ComponentStep, Tree, NetworkStep, leaves, in_some_component, OneMoves, AllTakePart, FlatStep, visible_events, After, Offers, Part, part_at, alphabets_of, project, IsNonEmpty, TripleDisjoint, Follows, Stands, AllStand, IsAgreed, acceptance, acceptances_of, OffersAcceptance, HasBehaviour, HaveBehaviours, Ranking, IsGoodRanking}
 use Rattle.csp_tables.proofs.SilentPaths.{silent_path, path_silent}
-use Rattle.csp_tables.specs.Flat.{in_some_component, OneMoves, AllTakePart, FlatStep}
-use Rattle.csp_tables.specs.Trace.{visible_events, After, Offers}
-use Rattle.csp_tables.specs.Part.{Part, part_at, alphabets_of, project, IsNonEmpty, TripleDisjoint}
-use Rattle.csp_tables.specs.Stands.{Follows, Stands, AllStand, IsAgreed, acceptance, acceptances_of}
-use Rattle.csp_tables.specs.Behaviour.{OffersAcceptance, HasBehaviour, HaveBehaviours}
-use Rattle.csp_tables.specs.Ranking.{Ranking}
-use Rattle.csp_tables.specs.GoodRanking.{IsGoodRanking}
 use Rattle.net_sound.specs.Projection.{ComesAlong, RunsAreTraces, RunsAreJoint, SilenceIsBounded}
 use Rattle.net_sound.specs.Heart.{GoodRankingsMeanLive}
 use Rattle.net_sound.proofs.FlatLists.{alphabets, match_true, match_false, step_alphabet}

@@ -1,11 +1,7 @@
 -- Ranks that fall leave no stuck state: the sets of events that the parts stand at, with ranks and laps.
 use Rattle.std.proofs.Common.{ℕ, ◌<◌, ◌≤◌, List, length, IsTrue, ℤ, pos, ◌+ℤ◌, ◌*ℤ◌, ◌<ℤ◌, arith}
 use Rattle.csp_base.specs.Members.{has}
-use Rattle.csp_tables.specs.Part.{Part, part_at, alphabets_of, sharers, TripleDisjoint, IsShared}
-use Rattle.csp_tables.specs.Form.{HaveForm}
-use Rattle.csp_tables.specs.Ranking.{Ranking, rank_after, laps_along}
-use Rattle.csp_tables.specs.Stands.{AllStand, acceptance}
-use Rattle.csp_tables.specs.Falls.{Falls, IsUngranted}
+use Rattle.csp_tables.specs.Prelude.{Part, part_at, alphabets_of, sharers, TripleDisjoint, IsShared, HaveForm, Ranking, rank_after, laps_along, AllStand, acceptance, Falls, IsUngranted}
 use Rattle.net_sound.specs.NoneStuck.{NoneIsStuck}
 use Rattle.net_sound.proofs.Agreement.{Waits, HasAnother, Sets, someone_moves}
 use Rattle.net_sound.proofs.Sharers.{at_two, at_three}

@@ -1,11 +1,7 @@
 -- In parts that have the form of tables, each acceptance is within the part's alphabet.
 use Rattle.std.proofs.Common.{ℕ, zero, suc, ◌<◌, List, [], ◌∷◌, length, get_or, arith}
 use Rattle.std.proofs.lemmas.Bool.{false≢true}
-use Rattle.csp_tables.specs.Trace.{IsWithin}
-use Rattle.csp_tables.specs.Table.{Node, node_at, end_of}
-use Rattle.csp_tables.specs.Form.{HasForm, HaveForm, AreWithin, NodesHaveForm}
-use Rattle.csp_tables.specs.Part.{Part, part_at, project}
-use Rattle.csp_tables.specs.Stands.{acceptance}
+use Rattle.csp_tables.specs.Prelude.{IsWithin, Node, node_at, end_of, HasForm, HaveForm, AreWithin, NodesHaveForm, Part, part_at, project, acceptance}
 
 one_within : (a : List ℕ) (Ms : List (List ℕ)) (k : ℕ) → AreWithin a Ms → IsWithin (get_or Ms k []) a
 one_within a [] k form e h = absurd (false≢true h)

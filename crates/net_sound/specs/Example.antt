@@ -3,15 +3,7 @@
 -- with the silent bound 1. Where one begins with 0 and the other with 1, the network is stuck where it begins. Nothing
 -- else is wrong with it, and no ranking over any tables is good for it.
 use Rattle.std.specs.Prelude.{◌≡◌, ℕ, pos, List, [], ◌∷◌}
-use Rattle.csp_tables.specs.Label.{Label}
-use Rattle.csp_tables.specs.Label.Label.{silent, visible}
-use Rattle.csp_tables.specs.Live.{Live}
-use Rattle.csp_tables.specs.Network.{Tree, NetworkStep, leaves}
-use Rattle.csp_tables.specs.Network.Tree.{leaf, parallel}
-use Rattle.csp_tables.specs.Network.Operands.{none, operand}
-use Rattle.csp_tables.specs.Part.{Part}
-use Rattle.csp_tables.specs.Ranking.{PartRanks, Ranking}
-use Rattle.csp_tables.specs.GoodRanking.{IsGoodRanking}
+use Rattle.csp_tables.specs.Prelude.{Label, silent, visible, Live, Tree, NetworkStep, leaves, leaf, parallel, none, operand, Part, PartRanks, Ranking, IsGoodRanking}
 use Rattle.net_sound.specs.Soundness.{IsSound}
 
 -- the states of a component that takes 0 and 1 in turn: it has a silent step to do; it has 0 to take; it has 1 to take

@@ -4,10 +4,7 @@
 -- alphabet stays in the tree; by well nesting none of its leaves has the event, so they stay in the list. The converse goes
 -- the same way, and a step leaves every alphabet as it was, so the nesting is kept.
 use Rattle.std.specs.Prelude.{◌≡◌, List, map}
-use Rattle.csp_tables.specs.Label.{Label}
-use Rattle.csp_tables.specs.Network.{Component, Tree, NetworkStep, leaves}
-use Rattle.csp_tables.specs.Flat.{FlatStep}
-use Rattle.csp_tables.specs.WellNested.{WellNested}
+use Rattle.csp_tables.specs.Prelude.{Label, Component, Tree, NetworkStep, leaves, FlatStep, WellNested}
 
 -- the tree has a step with this label to a tree with these leaves
 pub record StepsToLeaves {T : Type 0} (Step : T → Label → T → Type 0) (t : Tree T) (l : Label) (cs : List (Component T)) : Type 0 where

@@ -3,12 +3,7 @@
 --
 -- It asks for nothing but that ranks fall: the tables and the ranking may be any that are good, from whatever rule they come.
 use Rattle.std.specs.Prelude.{ℕ, List}
-use Rattle.csp_tables.specs.Label.{Label}
-use Rattle.csp_tables.specs.Live.{Live}
-use Rattle.csp_tables.specs.Network.{Tree, NetworkStep, leaves}
-use Rattle.csp_tables.specs.Part.{Part}
-use Rattle.csp_tables.specs.Ranking.{Ranking}
-use Rattle.csp_tables.specs.GoodRanking.{IsGoodRanking}
+use Rattle.csp_tables.specs.Prelude.{Label, Live, Tree, NetworkStep, leaves, Part, Ranking, IsGoodRanking}
 use Rattle.net_sound.specs.Soundness.{IsSound}
 
 abbrev pub GoodRankingsMeanLive : {T : Type 0} → (T → Label → T → Type 0) → Type 0

@@ -2,11 +2,7 @@
 -- exactly: a silent walk in the table is one of the component from a state that it reaches, and the other way round.
 use Rattle.std.specs.Prelude.{◌+◌, ℕ, List, [], ◌∷◌}
 use Rattle.digraph.specs.Walk.{AreHeights}
-use Rattle.csp_tables.specs.Label.{Label}
-use Rattle.csp_tables.specs.Path.{SilentStep}
-use Rattle.csp_tables.specs.Network.{Component, ComponentStep}
-use Rattle.csp_tables.specs.SilentBound.{IsGreatestSilence, IsSilentBound}
-use Rattle.csp_tables.specs.RawTable.{RawTable, RawStep, IsTableOf}
+use Rattle.csp_tables.specs.Prelude.{Label, SilentStep, Component, ComponentStep, IsGreatestSilence, IsSilentBound, RawTable, RawStep, IsTableOf}
 use Rattle.csp_base.specs.Lists.{greatest}
 
 -- one number for each term of the table, the greatest number of silent steps that follow one another from it

@@ -7,11 +7,7 @@
 -- rank and its laps is above the other's. Among finitely many parts there is one where this sum is least, which then has
 -- no ungranted request: a contradiction. So an event is agreed, and the search for it is finite.
 use Rattle.std.specs.Prelude.{◌<◌, ℕ, List, length}
-use Rattle.csp_tables.specs.Part.{Part, alphabets_of, TripleDisjoint}
-use Rattle.csp_tables.specs.Form.{HaveForm}
-use Rattle.csp_tables.specs.Ranking.{Ranking}
-use Rattle.csp_tables.specs.Stands.{AllStand, IsAgreed}
-use Rattle.csp_tables.specs.Falls.{Falls}
+use Rattle.csp_tables.specs.Prelude.{Part, alphabets_of, TripleDisjoint, HaveForm, Ranking, AllStand, IsAgreed, Falls}
 
 abbrev pub NoneIsStuck : Type 0
 NoneIsStuck =

@@ -5,15 +5,7 @@
 -- empty-handed, this table has its behaviour: its traces are the runs, a stable state offers an acceptance whole, and no
 -- acceptance is empty.
 use Rattle.std.specs.Prelude.{ℕ, List}
-use Rattle.csp_tables.specs.Label.{Label}
-use Rattle.csp_tables.specs.Network.{Component, ComponentStep, Tree, leaves}
-use Rattle.csp_tables.specs.Trace.{IsBusy}
-use Rattle.csp_tables.specs.RawTable.{RawTable, RawStep, IsTableOf}
-use Rattle.csp_tables.specs.Table.{Node}
-use Rattle.csp_tables.specs.NormalTable.{IsNormalTable}
-use Rattle.csp_tables.specs.Behaviour.{HasBehaviour, HaveBehaviours}
-use Rattle.csp_tables.specs.Shape.{Shape, IsWellFormed}
-use Rattle.csp_tables.specs.ShapeOf.{IsShapeOf, AreBusy}
+use Rattle.csp_tables.specs.Prelude.{Label, Component, ComponentStep, Tree, leaves, IsBusy, RawTable, RawStep, IsTableOf, Node, IsNormalTable, HasBehaviour, HaveBehaviours, Shape, IsWellFormed, IsShapeOf, AreBusy}
 
 -- the normal table of a component's numbered table is the component's
 abbrev pub NormalTablesCarryOver : {T : Type 0} → (T → Label → T → Type 0) → Type 0

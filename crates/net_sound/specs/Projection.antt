@@ -3,15 +3,7 @@
 -- By induction over the run: a silent step is a silent step of one component, and the others stay; an event is one step of
 -- each component that has it, and is dropped from the projections of the others.
 use Rattle.std.specs.Prelude.{◌≡◌, ◌<◌, ◌≤◌, ℕ, List, Some, length, slice_get}
-use Rattle.csp_tables.specs.Label.{Label}
-use Rattle.csp_tables.specs.Path.{Path, Reached, Silently}
-use Rattle.csp_tables.specs.Network.{Component, ComponentStep, Tree, NetworkStep, leaves}
-use Rattle.csp_tables.specs.WellNested.{WellNested}
-use Rattle.csp_tables.specs.SilentBound.{IsSilentBound}
-use Rattle.csp_tables.specs.Trace.{visible_events, After}
-use Rattle.csp_tables.specs.Part.{Part, part_at, project}
-use Rattle.csp_tables.specs.Stands.{IsJointRun}
-use Rattle.csp_tables.specs.Behaviour.{HaveBehaviours}
+use Rattle.csp_tables.specs.Prelude.{Label, Path, Reached, Silently, Component, ComponentStep, Tree, NetworkStep, leaves, WellNested, IsSilentBound, visible_events, After, Part, part_at, project, IsJointRun, HaveBehaviours}
 
 -- the component in place i of the network, after a run: by its events of the run it comes to a state, where the network has it
 pub record ComesAlong {T : Type 0} (Step : T → Label → T → Type 0) (c : Component T) (ls : List Label) (u : Tree T) (i : ℕ) : Type 0 where

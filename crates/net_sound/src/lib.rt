@@ -1,13 +1,12 @@
 //! The theorem behind each answer "deadlock-free", over any step relation: ranks that fall leave no stuck state.
 #![tactic(auto)]
 
-ghost use Rattle.csp_tables.specs.Label.{Label};
+ghost use Rattle.csp_tables.specs.Prelude.{Label, ShapesAreBusy};
 ghost use Rattle.net_sound.specs.Flattening.{TreeStepsAreFlat, FlatStepsAreTreeSteps, StepsAreToldByLeaves, StepsKeepNesting, StepsKeepAlphabets};
 ghost use Rattle.net_sound.specs.Heart.{GoodRankingsMeanLive};
 ghost use Rattle.net_sound.specs.Heights.{HeightsAreExact, HeightsAddUp};
 ghost use Rattle.net_sound.specs.Example.{ExampleIsLive, ExampleIsStuck};
 ghost use Rattle.net_sound.specs.NoneStuck.{NoneIsStuck};
-ghost use Rattle.csp_tables.specs.ShapeOf.{ShapesAreBusy};
 ghost use Rattle.net_sound.specs.Normal.{NormalTablesCarryOver, NormalTablesBehave, ShapesBehave, ShapesAreWellFormed};
 ghost use Rattle.net_sound.specs.Projection.{RunsAreTraces, RunsAreJoint, SilenceIsBounded};
 

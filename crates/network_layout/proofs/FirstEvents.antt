@@ -2,8 +2,7 @@
 use Rattle.std.proofs.Common.{◌≡◌, ℕ, zero, suc, ◌+◌, ◌<◌, ◌==◌, if◌then◌else◌, Some, List, [], ◌∷◌, refl, ap, ◌∙◌, arith}
 use Rattle.std.specs.Prelude.{nat_le}
 use Rattle.std.specs.List.{find, range_with_len}
-use Rattle.std.proofs.Math.Dec.{leb-zero}
-use Rattle.std.proofs.lemmas.Bool.{le-ltb, ne_eqb}
+use Rattle.csp_base.proofs.Standard.{leb-zero, le-ltb, ne_eqb}
 use Rattle.csp_base.specs.Events.{with_member}
 use Rattle.network_trees.specs.Joint.{first_event}
 

@@ -1,19 +1,13 @@
 -- What the walk has laid out, from what it has laid out below.
 use Rattle.std.proofs.Common.{◌≡◌, ℕ, ◌+◌, ◌-◌, ◌<◌, ◌≤◌, if◌then◌else◌, None, Ok, Err, List, [], ◌∷◌, ◌++◌, length, ap, sym, ◌∙◌, subst, arith, append_assoc, append-nil}
-use Rattle.std.proofs.lemmas.Bool.{lt-ltb}
-use Rattle.std.proofs.lemmas.List.{length-append}
+use Rattle.csp_base.proofs.Standard.{lt-ltb, length-append}
 use Rattle.csp_base.specs.Events.{union_of}
-use Rattle.csp_tables.specs.Network.{Component, Tree, Operands, leaves}
-use Rattle.csp_tables.specs.Network.Tree.{leaf, parallel}
-use Rattle.csp_tables.specs.Network.Operands.{none, operand}
+use Rattle.csp_tables.specs.Prelude.{Component, Tree, Operands, leaves, leaf, parallel, none, operand}
 use Rattle.network_trees.specs.Joint.{joint}
 use Rattle.network_trees.specs.NetworkOf.{Walked, next_component, goes_on, operand_first, side_by_side, tree_within}
 use Rattle.network_layout.specs.Lays.{IsLaid, operand_walked, two}
 use Rattle.network_layout.proofs.Together.{joint-append}
-use Rattle.csp_program.specs.Value.{Env}
-use Rattle.csp_program.specs.declared.networks.Net.{Net}
-use Rattle.csp_program.specs.declared.processes.Proc.{Proc}
-use Rattle.csp_program.specs.declared.programs.Content.{Content}
+use Rattle.csp_program.specs.Prelude.{Env, Net, Proc, Content}
 use Rattle.network_trees.specs.declared.fault.LayoutFault.{LayoutFault}
 use Rattle.network_trees.specs.declared.fault.LayoutFault.TheVariants as fault
 

@@ -1,8 +1,7 @@
 -- What the first of the events in three alphabets says.
 use Rattle.std.proofs.Common.{◌≡◌, ℕ, suc, ◌+◌, ◌<◌, ◌≤◌, true, false, ◌||◌, Some, None, List, [], ◌∷◌, length, take, refl, ap, ap₂, sym, ◌∙◌, subst, arith}
 use Rattle.std.specs.Prelude.{nat_le}
-use Rattle.std.specs.List.{find}
-use Rattle.std.specs.List.Sorted.{IsStrictlyIncreasing}
+use Rattle.csp_base.specs.Standard.{find, IsStrictlyIncreasing}
 use Rattle.std.proofs.lemmas.Bool.{eq-eqb, leb-false, leb-true, ne_eqb}
 use Rattle.csp_base.proofs.Rising.{has_below, rises_from_increasing}
 use Rattle.csp_base.specs.Members.{has}

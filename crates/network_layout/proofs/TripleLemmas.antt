@@ -1,14 +1,10 @@
 -- Events in one, two and three alphabets, and the components that have an event.
 use Rattle.std.proofs.Common.{◌≡◌, ℕ, ◌+◌, ◌<◌, ◌≤◌, Bool, true, false, ◌||◌, ◌&&◌, if◌then◌else◌, List, [], ◌∷◌, ◌++◌, length, take, get_or, refl, ap, ap₂, sym, ◌∙◌, subst, arith, drop_of_length-le}
 use Rattle.std.specs.Prelude.{nat_le}
-use Rattle.std.proofs.Math.Dec.{leb}
-use Rattle.std.proofs.lemmas.Bool.{le-leb, lt-leb, leb-true, leb-false}
-use Rattle.std.proofs.Math.Bool.{or-true}
+use Rattle.csp_base.proofs.Standard.{leb, le-leb, lt-leb, leb-true, leb-false, or-true, get_or-map, length-map}
 use Rattle.csp_base.specs.Members.{has}
-use Rattle.csp_tables.specs.Part.{sharers}
-use Rattle.std.proofs.lemmas.List.{get_or-map, length-map}
+use Rattle.csp_tables.specs.Prelude.{sharers, Component}
 use Rattle.csp_program.specs.declared.processes.Proc.{Proc}
-use Rattle.csp_tables.specs.Network.{Component}
 use Rattle.network_layout.specs.Triple.{alphabets, holders, holders_from}
 use Rattle.csp_base.proofs.Lists.{drop_read, take_read}
 

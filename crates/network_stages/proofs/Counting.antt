@@ -1,7 +1,6 @@
 -- Links that rise among few parts are few.
 use Rattle.std.proofs.Common.{◌≡◌, ℕ, zero, suc, ◌+◌, ◌*◌, ◌<◌, ◌≤◌, inl, inr, List, length, arith}
-use Rattle.csp_tables.specs.Part.{Part}
-use Rattle.csp_tables.specs.Shape.{Link, IsBelow}
+use Rattle.csp_tables.specs.Prelude.{Part, Link, IsBelow}
 use Rattle.network_stages.specs.Rows.{link_in, AreLinksBefore}
 
 abbrev number : Link → ℕ

@@ -1,27 +1,16 @@
 -- Components that have their tables: no fault tells the truth of them.
 use Rattle.std.proofs.Common.{◌≡◌, ℕ, zero, suc, ◌<◌, ◌≤◌, ◌-◌, List, [], ◌∷◌, Some, take, slice_get, inl, inr, refl, sym, ap, subst, ◌∙◌, arith}
-use Rattle.std.proofs.lemmas.Bool.{cases_lt}
-use Rattle.std.proofs.lemmas.Option.{none-some, same_Some}
+use Rattle.csp_base.proofs.Standard.{cases_lt, none-some, same_Some}
 use Rattle.csp_base.specs.Lists.{greatest}
-use Rattle.csp_program.specs.declared.processes.Proc.{Proc}
-use Rattle.csp_program.specs.declared.programs.Content.{Content}
-use Rattle.csp_tables.specs.Label.Label.{silent}
-use Rattle.csp_tables.specs.Network.{Component, ComponentStep}
-use Rattle.csp_tables.specs.Path.{SilentStep, Silently}
-use Rattle.csp_tables.specs.RawTable.{IsTableOf, RawStep, RawTable, standing_at}
-use Rattle.digraph.specs.Circle.{IsCircle, Leads}
-use Rattle.digraph.specs.Walk.{Walk}
-use Rattle.local_tables.specs.Component.{AreSteps, AreTerms}
-use Rattle.local_tables.specs.LocalTable.{IsLocalTable}
-use Rattle.local_tables.specs.declared.local_table.LocalTable.{LocalTable}
-use Rattle.local_tables.specs.Room.{Room}
+use Rattle.csp_program.specs.Prelude.{Proc, Content}
+use Rattle.csp_tables.specs.Prelude.{silent, Component, ComponentStep, SilentStep, Silently, IsTableOf, RawStep, RawTable, standing_at}
+use Rattle.digraph.specs.Prelude.{IsCircle, Leads, Walk}
+use Rattle.local_tables.specs.Prelude.{AreSteps, AreTerms, IsLocalTable, LocalTable, Room}
 use Rattle.local_tables.proofs.Excluding.{excluded}
 use Rattle.net_sound.proofs.Heights.{heights_are_exact}
-use Rattle.network_stages.specs.Tables.{AreTablesWithin, IsTableWithin, room_after, room_left, whole_room}
-use Rattle.network_stages.specs.declared.component_tables.ComponentTable.{ComponentTable}
+use Rattle.network_stages.specs.Prelude.{AreTablesWithin, IsTableWithin, room_after, room_left, whole_room, ComponentTable, FaultsExcludeAllTables}
 use Rattle.process_steps.specs.declared.component_fault.ComponentFault.TheVariants as fault
 use Rattle.process_steps.specs.ComponentStep.{ProcessStep}
-use Rattle.network_stages.specs.Laws.{FaultsExcludeAllTables}
 
 module _ (p : Content) where
   -- ---- two tables of a component take the same room

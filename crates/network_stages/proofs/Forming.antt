@@ -1,10 +1,8 @@
 -- The links and the vocabulary of parts are those of a shape.
 use Rattle.std.proofs.Common.{◌≡◌, ℕ, suc, ◌<◌, ◌≤◌, inl, inr, List, [], ◌∷◌, length, true, IsTrue, sym, subst, ◌∙◌, arith}
-use Rattle.std.proofs.lemmas.Bool.{or_cases, false≢true}
-use Rattle.std.proofs.lemmas.List.Folds.{list_any_at}
+use Rattle.csp_base.proofs.Standard.{or_cases, false≢true, list_any_at}
 use Rattle.csp_base.specs.Members.{has}
-use Rattle.csp_tables.specs.Part.{Part, part_at, alphabets_of, sharers}
-use Rattle.csp_tables.specs.Shape.{Link, IsLinked, LinksAreOrdered}
+use Rattle.csp_tables.specs.Prelude.{Part, part_at, alphabets_of, sharers, Link, IsLinked, LinksAreOrdered}
 use Rattle.net_sound.proofs.Sharers.{at_two}
 use Rattle.network_stages.specs.Rows.{row_at, AreRows, has_event, any_has_event, AreLinksBefore, IsVocabulary}
 use Rattle.network_stages.proofs.Sharing.{two_owners}

@@ -1,31 +1,17 @@
 -- Parts of components, one after another: each is the normal table of its component's table.
 use Rattle.std.proofs.Common.{◌≡◌, inl, inr, ℕ, ◌+◌, ◌<◌, ◌≤◌, List, [], ◌∷◌, ◌++◌, length, take, get_or, slice_get, Some, refl, sym, ap, subst, ◌∙◌, add-one, arith}
-use Rattle.std.proofs.Math.Seq.{take-suc}
-use Rattle.std.proofs.lemmas.Bool.{cases_eq}
-use Rattle.std.proofs.lemmas.List.{take_all}
-use Rattle.std.proofs.lemmas.Option.{same_Some, slice_get-get_or}
-use Rattle.csp_program.specs.declared.processes.Proc.{Proc}
-use Rattle.csp_program.specs.declared.programs.Content.{Content}
-use Rattle.csp_tables.specs.Form.{HasForm, HaveForm}
-use Rattle.csp_tables.specs.Network.{Component, ComponentStep}
-use Rattle.csp_tables.specs.NormalTable.{IsNormalTable}
-use Rattle.csp_tables.specs.Part.{Part}
-use Rattle.csp_tables.specs.RawTable.{RawStep}
-use Rattle.csp_tables.specs.ShapeOf.{ArePartsOf, IsPartOf}
-use Rattle.csp_tables.specs.Table.{Node}
+use Rattle.csp_base.proofs.Standard.{take-suc, cases_eq, take_all, same_Some, slice_get-get_or}
+use Rattle.csp_program.specs.Prelude.{Proc, Content}
+use Rattle.csp_tables.specs.Prelude.{HasForm, HaveForm, Component, ComponentStep, IsNormalTable, Part, RawStep, ArePartsOf, IsPartOf, Node}
 use Rattle.net_sound.proofs.FormOfTables.{table_has_form}
 use Rattle.net_sound.proofs.Normal.{normal_tables_carry_over}
-use Rattle.network_stages.specs.Tables.{AreTablesOf, HasTable}
-use Rattle.network_stages.specs.declared.component_tables.ComponentTable.{ComponentTable}
+use Rattle.network_stages.specs.Prelude.{AreTablesOf, HasTable, ComponentTable, HasManySets, HaveFewSets, HaveFewSetsBefore, HasNoPart, HaveNoParts}
 use Rattle.process_steps.specs.ComponentStep.{ProcessStep}
 use Rattle.process_steps.specs.declared.component_fault.ComponentFault.TheVariants as fault
-use Rattle.csp_base.specs.Stops.{Tells}
+use Rattle.csp_base.specs.Prelude.{Tells, Stop}
 use Rattle.report.specs.declared.answer.Refusal.{Refusal}
 use Rattle.report.specs.declared.answer.Refusal.TheVariants as refusal
-use Rattle.csp_base.specs.declared.stop.Stop.{Stop}
 use Rattle.csp_base.specs.declared.stop.Stop.TheVariants as stop
-use Rattle.network_stages.specs.Sets.{HasManySets, HaveFewSets, HaveFewSetsBefore}
-use Rattle.network_stages.specs.Stages.{HasNoPart, HaveNoParts}
 
 -- a table with at most so many acceptances at a node has at most more
 with_more : {S : Type 0} (Step : S → _ → S → Type 0) (start : S) (few most : ℕ) (table : List Node) → few ≤ most → IsNormalTable Step start few table → IsNormalTable Step start most table

@@ -1,9 +1,7 @@
 -- What loops over parts, rows and pairs read.
 use Rattle.std.proofs.Common.{◌≡◌, ℕ, ◌+◌, ◌<◌, List, [], ◌++◌, length, get_or, take, Bool, true, false, ◌||◌, Option, nat_eq, refl, sym, ap, subst, ◌∙◌}
-use Rattle.std.proofs.lemmas.List.{get_or_read}
-use Rattle.std.proofs.lemmas.List.Folds.{list_any_more}
-use Rattle.csp_base.specs.Members.{has}
-use Rattle.csp_base.specs.Events.{with_member}
+use Rattle.csp_base.proofs.Standard.{get_or_read, list_any_more}
+use Rattle.csp_base.specs.Prelude.{has, with_member}
 use Rattle.csp_base.proofs.Rising.{has-with_member}
 use Rattle.csp_tables.specs.Part.{Part, part_at}
 use Rattle.network_stages.specs.Rows.{row_at, joints, AreOwners, AreRows, has_event}

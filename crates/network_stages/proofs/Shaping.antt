@@ -1,17 +1,10 @@
 -- The parts of a network's components, linked, are its shape.
 use Rattle.std.proofs.Common.{◌≡◌, ℕ, zero, suc, ◌<◌, ◌≤◌, List, [], ◌∷◌, length, refl, sym, ap, subst, ◌∙◌, arith}
-use Rattle.csp_program.specs.declared.processes.Proc.{Proc}
-use Rattle.csp_program.specs.declared.programs.Content.{Content}
-use Rattle.csp_tables.specs.Form.{HaveForm}
-use Rattle.csp_tables.specs.Network.{Component, leaves}
-use Rattle.csp_tables.specs.Part.{Part, TripleDisjoint, alphabets_of, part_at}
-use Rattle.csp_tables.specs.Shape.{IsLinked, Shape}
-use Rattle.csp_tables.specs.ShapeOf.{ArePartsOf}
+use Rattle.csp_program.specs.Prelude.{Proc, Content}
+use Rattle.csp_tables.specs.Prelude.{HaveForm, Component, leaves, Part, TripleDisjoint, alphabets_of, part_at, IsLinked, Shape, ArePartsOf}
 use Rattle.net_sound.proofs.Parts.{one_part_each}
 use Rattle.network_layout.specs.Triple.{alphabets}
-use Rattle.network_stages.specs.Networks.{IsSpelled, Network}
-use Rattle.network_stages.specs.Shapes.{IsApart}
-use Rattle.network_stages.specs.Stages.{HasParts}
+use Rattle.network_stages.specs.Prelude.{IsSpelled, Network, IsApart, HasParts}
 use Rattle.network_stages.proofs.Spelling.{few_components}
 use Rattle.process_steps.specs.ComponentStep.{ProcessStep}
 

@@ -1,10 +1,8 @@
 -- Parts without an empty acceptance at a node, and a part with one.
 use Rattle.std.proofs.Common.{◌≡◌, ℕ, ◌+◌, ◌<◌, inl, inr, List, [], ◌∷◌, length, get_or, nat_eq, refl, sym, ap, subst, ◌∙◌, arith, eq-eqb}
-use Rattle.std.proofs.lemmas.Bool.{cases_eq, or_left}
-use Rattle.std.proofs.lemmas.List.{get_or_read}
+use Rattle.csp_base.proofs.Standard.{cases_eq, or_left, get_or_read}
 use Rattle.csp_base.specs.Members.{has}
-use Rattle.csp_tables.specs.Table.{Node, node_at, end_of}
-use Rattle.csp_tables.specs.Part.{Part, part_at, IsNonEmpty}
+use Rattle.csp_tables.specs.Prelude.{Node, node_at, end_of, Part, part_at, IsNonEmpty}
 use Rattle.network_stages.specs.Busy.{IsBusyPart, HasEmpty}
 
 -- no acceptance of a node is empty

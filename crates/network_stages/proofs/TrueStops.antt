@@ -2,24 +2,14 @@
 use Rattle.std.proofs.Common.{◌∙◌, ℕ, List, [], Result, Ok, Err, sym, subst}
 use Rattle.std.specs.Result.{OnOk}
 use Rattle.std.proofs.lemmas.Bool.{false≢true}
-use Rattle.csp_tables.specs.Label.{Label}
-use Rattle.csp_tables.specs.Network.{Component, ComponentStep, Tree, leaves}
-use Rattle.csp_tables.specs.Trace.{IsAcceptance, IsBusy}
-use Rattle.csp_tables.specs.Table.{IsRun, acceptances_after}
-use Rattle.csp_tables.specs.Part.{Part, part_at}
-use Rattle.csp_tables.specs.Shape.{Shape}
-use Rattle.csp_tables.specs.ShapeOf.{IsPartOf, IsShapeOf}
-use Rattle.csp_tables.specs.Standing.{IsBusyShape}
+use Rattle.csp_tables.specs.Prelude.{Label, Component, ComponentStep, Tree, leaves, IsAcceptance, IsBusy, IsRun, acceptances_after, Part, part_at, Shape, IsPartOf, IsShapeOf, IsBusyShape}
 use Rattle.net_sound.proofs.ShapeOf.{shapes_are_busy}
 use Rattle.net_sound.proofs.Parts.{component_of, part_of}
 use Rattle.process_steps.specs.ComponentStep.{ProcessStep}
-use Rattle.csp_base.specs.Stops.{Tells}
+use Rattle.csp_base.specs.Prelude.{Tells, Stop}
 use Rattle.report.specs.declared.answer.Shortfall.{Shortfall}
-use Rattle.csp_base.specs.declared.stop.Stop.{Stop}
 use Rattle.csp_base.specs.declared.stop.Stop.TheVariants as stop
-use Rattle.network_stages.specs.Busy.{HasEmpty, IsBusyPart, PartCanStop, StopsFirst, StopsFirstIn}
-use Rattle.network_stages.specs.Networks.{Network}
-use Rattle.network_stages.specs.Stages.{CanStop, StaysBusy}
+use Rattle.network_stages.specs.Prelude.{HasEmpty, IsBusyPart, PartCanStop, StopsFirst, StopsFirstIn, Network, CanStop, StaysBusy}
 
 module _ {T : Type 0} (Step : T → Label → T → Type 0) where
   -- an empty acceptance of a part after a run is one of its component after this trace

@@ -1,12 +1,6 @@
 -- Where a component of a network stops: after a trace it can come to accept nothing.
 use Rattle.std.specs.Prelude.{◌≡◌, ◌<◌, ℕ, List, [], Some, length, get_or, slice_get}
-use Rattle.csp_tables.specs.Label.{Label}
-use Rattle.csp_tables.specs.Network.{Component, ComponentStep}
-use Rattle.csp_tables.specs.Trace.{IsAcceptance, IsBusy}
-use Rattle.csp_tables.specs.Table.{IsRun, acceptances_after}
-use Rattle.csp_tables.specs.Part.{Part, part_at, IsNonEmpty}
-use Rattle.csp_tables.specs.Shape.{Shape}
-use Rattle.csp_tables.specs.Standing.{RunsTo}
+use Rattle.csp_tables.specs.Prelude.{Label, Component, ComponentStep, IsAcceptance, IsBusy, IsRun, acceptances_after, Part, part_at, IsNonEmpty, Shape, RunsTo}
 use Rattle.report.specs.declared.answer.Shortfall.{Shortfall}
 use Rattle.report.specs.declared.answer.Shortfall.TheVariants as shortfall
 

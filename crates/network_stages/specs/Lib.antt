@@ -2,6 +2,7 @@ pub mod Busy
 pub mod Faults
 pub mod Laws
 pub mod Networks
+pub mod Prelude
 pub mod Rows
 pub mod Sets
 pub mod Shapes

@@ -2,8 +2,7 @@
 use Rattle.std.specs.Prelude.{◌≡◌, ◌<◌, ◌≤◌, ◌↔◌, ◌⊎◌, ℕ, List, [], ◌∷◌, Bool, false, Option, Some, None, IsTrue, nat_eq, length, get_or, slice_index_or, if◌then◌else◌}
 use Rattle.std.specs.List.{flat_map, list_any}
 use Rattle.csp_base.specs.Members.{has}
-use Rattle.csp_tables.specs.Part.{Part, part_at, alphabets_of, sharers, Meet}
-use Rattle.csp_tables.specs.Shape.{Link, JoinsTwo, IsBelow}
+use Rattle.csp_tables.specs.Prelude.{Part, part_at, alphabets_of, sharers, Meet, Link, JoinsTwo, IsBelow}
 use Rattle.observed_runs.specs.Observed.{pair_at}
 
 -- ---- for each event a part that has it

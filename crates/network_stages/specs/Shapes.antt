@@ -1,8 +1,5 @@
 -- The shape of a network in which no event is in three alphabets.
-use Rattle.csp_tables.specs.Network.{leaves}
-use Rattle.csp_tables.specs.Part.{TripleDisjoint}
-use Rattle.csp_tables.specs.Shape.{Shape}
-use Rattle.csp_tables.specs.ShapeOf.{IsShapeOf}
+use Rattle.csp_tables.specs.Prelude.{leaves, TripleDisjoint, Shape, IsShapeOf}
 use Rattle.network_layout.specs.Triple.{alphabets}
 use Rattle.process_steps.specs.ComponentStep.{ProcessStep}
 use Rattle.network_stages.specs.Networks.{Network}

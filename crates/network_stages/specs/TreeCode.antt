@@ -2,9 +2,7 @@
 use Rattle.std.specs.Prelude.{◌≡◌, ◌⊎◌, ℕ, List, [], ◌∷◌, Bool, true, false, refl}
 use Rattle.std.proofs.Common.{◌∙◌, inl, inr}
 use Rattle.std.specs.Coded.{Coded, code_by, coded_bool, coded_list, coded_ℕ, coded×, coded⊎}
-use Rattle.csp_tables.specs.Network.{Operands, Tree}
-use Rattle.csp_tables.specs.Network.Operands.{none, operand}
-use Rattle.csp_tables.specs.Network.Tree.{leaf, parallel}
+use Rattle.csp_tables.specs.Prelude.{Operands, Tree, none, operand, leaf, parallel}
 
 -- a leaf; an operand with its alphabet; no operands (true), or operands side by side (false)
 abbrev pub Token : Type 0 → Type 0

@@ -3,8 +3,7 @@ use Rattle.std.proofs.Common.{◌≡◌, ℕ, Bool, true, false, not, ◌||◌, 
 use Rattle.std.specs.Prelude.{Option}
 use Rattle.csp_base.specs.Events.{has, diff_of}
 use Rattle.csp_base.proofs.SetLaws.{has-diff_of, has-union_of}
-use Rattle.csp_tables.specs.Flat.{in_some_component}
-use Rattle.csp_tables.specs.Network.{Component}
+use Rattle.csp_tables.specs.Prelude.{in_some_component, Component}
 use Rattle.network_trees.specs.Joint.{first_event, joint, lesser, odd_event}
 
 pub has-joint : {T : Type 0} (cs : List (Component T)) (e : ℕ) → has (joint cs) e ≡ in_some_component cs e

@@ -2,15 +2,10 @@
 -- and each leads to where they stand so again. The steps of the list of components are those of the tree.
 use Rattle.std.proofs.Common.{◌≡◌, ◌↔◌, ◌<◌, ℕ, Bool, List, [], ◌∷◌, length, set, refl, sym, subst, ◌∙◌, arith}
 use Rattle.std.proofs.lemmas.Option.{same_Some, slice_get_within}
-use Rattle.csp_tables.specs.Label.{Label}
-use Rattle.csp_tables.specs.Label.Label.{silent, visible}
-use Rattle.csp_tables.specs.Network.{Component, ComponentStep, Tree, leaves}
-use Rattle.csp_tables.specs.RawTable.{RawStep}
-use Rattle.csp_tables.specs.WellNested.{WellNested}
+use Rattle.csp_tables.specs.Prelude.{Label, silent, visible, Component, ComponentStep, Tree, leaves, RawStep, WellNested}
 use Rattle.net_sound.proofs.Flattening.{back, forth, kept}
-use Rattle.numbered_walks.specs.Numbered.{Goes as GoesByNumber, Has as HasByNumber, Numbered, Takes as TakesByNumber, first_terms}
-use Rattle.numbered_walks.specs.Walks.{IsWalkOf}
-use Rattle.numbered_walks.specs.declared.moves.Move.{Move}
+use Rattle.numbered_walks.specs.Prelude.{Numbered, first_terms, IsWalkOf, Move}
+use Rattle.numbered_walks.specs.Numbered.{Goes as GoesByNumber, Has as HasByNumber, Takes as TakesByNumber}
 use Rattle.numbered_walks.specs.declared.moves.Move.TheVariants as move
 use Rattle.network_walks.specs.Moves.{Goes, Has, Takes}
 use Rattle.network_walks.proofs.Likewise.{StepsAlike, walk_alike}

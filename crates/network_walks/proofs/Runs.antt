@@ -1,16 +1,9 @@
 -- Walks of a network: each move is a step, and where there is none the network is stuck.
 use Rattle.std.proofs.Common.{◌≡◌, ℕ, zero, suc, inl, inr, List, [], ◌∷◌, map, set, slice_get, Some, refl, sym, ap, ap₂, subst}
 use Rattle.std.proofs.lemmas.Option.{none-some, same_Some}
-use Rattle.csp_tables.specs.Flat.{OneMoves}
-use Rattle.csp_tables.specs.Label.{Label}
-use Rattle.csp_tables.specs.Label.Label.{silent, visible}
-use Rattle.csp_tables.specs.Network.{Component, ComponentStep, NetworkStep, Tree, leaves}
-use Rattle.csp_tables.specs.Path.{Path}
-use Rattle.csp_tables.specs.WellNested.{WellNested}
+use Rattle.csp_tables.specs.Prelude.{OneMoves, Label, silent, visible, Component, ComponentStep, NetworkStep, Tree, leaves, Path, WellNested}
 use Rattle.net_sound.proofs.Flattening.{forth, kept}
-use Rattle.numbered_walks.specs.Draws.{label}
-use Rattle.numbered_walks.specs.Numbers.{first_draw, next_number}
-use Rattle.numbered_walks.specs.declared.moves.Move.{Move}
+use Rattle.numbered_walks.specs.Prelude.{label, first_draw, next_number, Move}
 use Rattle.numbered_walks.specs.declared.moves.Move.TheVariants as move
 use Rattle.network_walks.specs.Laws.{NoMoveMeansStuck, StuckIsNotLive, StuckWalksRefuteLive, WalksAreRuns}
 use Rattle.network_walks.specs.Moves.{Takes}

@@ -1,13 +1,8 @@
 -- A step keeps the shape of a network, and of two networks of one shape with the same components each is the other.
 use Rattle.std.proofs.Common.{◌≡◌, ℕ, ◌+◌, inl, inr, MatchBool, List, [], ◌∷◌, ◌++◌, length, take, drop, length-append, refl, sym, ap, ap₂, subst, ◌∙◌}
-use Rattle.std.proofs.Math.Seq.{drop-append_seam, take-append_seam}
-use Rattle.std.proofs.lemmas.Bool.{MatchBool-at_false, MatchBool-at_true, cases_Bool}
+use Rattle.csp_base.proofs.Standard.{drop-append_seam, take-append_seam, MatchBool-at_false, MatchBool-at_true, cases_Bool}
 use Rattle.csp_base.specs.Members.{has}
-use Rattle.csp_tables.specs.Label.{Label}
-use Rattle.csp_tables.specs.Label.Label.{silent, visible}
-use Rattle.csp_tables.specs.Network.{AllTogether, Component, NetworkStep, OneSilent, Operands, Tree, leaves, leaves_of_operands}
-use Rattle.csp_tables.specs.Network.Operands.{none, operand}
-use Rattle.csp_tables.specs.Network.Tree.{leaf, parallel}
+use Rattle.csp_tables.specs.Prelude.{Label, silent, visible, AllTogether, Component, NetworkStep, OneSilent, Operands, Tree, leaves, leaves_of_operands, none, operand, leaf, parallel}
 
 abbrev mutual
   pub HaveShape : {T : Type 0} → Tree T → Tree T → Type 0

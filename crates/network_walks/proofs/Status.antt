@@ -2,14 +2,11 @@
 use Rattle.std.proofs.Common.{◌≡◌, ℕ, sym, ap₂, ◌∙◌}
 use Rattle.csp_steps.proofs.Targets.{targets_one}
 use Rattle.csp_steps.specs.Order.{AreTargets}
-use Rattle.network_stages.specs.Networks.{Network}
-use Rattle.network_stages.specs.Stages.{HasNoTables}
+use Rattle.network_stages.specs.Prelude.{Network, HasNoTables}
 use Rattle.process_steps.specs.ComponentStep.{ProcessStep}
 use Rattle.report.proofs.Points.{refused_or}
-use Rattle.report.specs.Points.Point.{passed, told}
-use Rattle.report.specs.declared.answer.Refusal.{Refusal}
+use Rattle.report.specs.Prelude.{passed, told, Refusal, Verdict}
 use Rattle.report.specs.declared.answer.Side.TheVariants as side
-use Rattle.report.specs.declared.answer.Verdict.{Verdict}
 use Rattle.report.specs.declared.answer.Verdict.TheVariants as verdict
 use Rattle.network_walks.specs.Walked.{IsWalked, TellsWalk, walk_verdict}
 use Rattle.network_walks.proofs.One.{the_walk_is_one}

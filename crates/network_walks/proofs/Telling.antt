@@ -3,19 +3,12 @@ use Rattle.std.proofs.Common.{◌≡◌, ℕ, Bool, List, Result, Ok, Err, sym, 
 use Rattle.csp_program.specs.declared.processes.Proc.{Proc}
 use Rattle.csp_steps.specs.Order.{AreTargets}
 use Rattle.csp_tables.specs.Network.{Component, leaves}
-use Rattle.network_stages.specs.Networks.{IsSpelled, Network}
-use Rattle.network_stages.specs.Stages.{HasTables}
-use Rattle.network_stages.specs.Tables.{whole_room}
-use Rattle.network_stages.specs.declared.component_tables.ComponentTable.{ComponentTable}
+use Rattle.network_stages.specs.Prelude.{IsSpelled, Network, HasTables, whole_room, ComponentTable}
 use Rattle.network_trees.proofs.InOrder.{network_is_tree}
-use Rattle.numbered_walks.specs.Numbered.{Goes, Has, Numbered, first_terms}
-use Rattle.numbered_walks.specs.Walks.{IsWalkOf}
-use Rattle.numbered_walks.specs.declared.moves.Move.{Move}
+use Rattle.numbered_walks.specs.Prelude.{Goes, Has, Numbered, first_terms, IsWalkOf, Move}
 use Rattle.process_steps.specs.ComponentStep.{ProcessStep}
 use Rattle.network_walks.specs.Tabled.{numbered}
-use Rattle.report.specs.Stops.{Answers}
-use Rattle.report.specs.declared.answer.Done.{Done}
-use Rattle.report.specs.declared.answer.Verdict.{Verdict}
+use Rattle.report.specs.Prelude.{Answers, Done, Verdict}
 use Rattle.csp_base.specs.declared.stop.Stop.{Stop}
 use Rattle.csp_base.specs.declared.stop.Stop.TheVariants as stop
 use Rattle.network_walks.specs.Walked.{IsNetworkWalk, TellsWalk, walk_verdict}

@@ -3,15 +3,9 @@
 -- Each move is a step of the network, so the moves of a walk are the labels of a run. A silent step of a well-nested network is one of a component, so where
 -- the network has no option it has no step. A state without steps is stable and has no event, so a network that reaches one is not live.
 use Rattle.std.specs.Prelude.{◌≡◌, ◌↔◌, ℕ, Bool, true, List, map}
-use Rattle.csp_tables.specs.Label.{Label}
-use Rattle.csp_tables.specs.Live.{Live}
-use Rattle.csp_tables.specs.Network.{NetworkStep, Tree}
-use Rattle.csp_tables.specs.Path.{Path, Reached}
-use Rattle.csp_tables.specs.WellNested.{WellNested}
-use Rattle.numbered_walks.specs.Walks.{HasNone, IsWalk, IsWalkOf}
-use Rattle.numbered_walks.specs.declared.moves.Move.{Move}
+use Rattle.csp_tables.specs.Prelude.{Label, Live, NetworkStep, Tree, Path, Reached, WellNested}
+use Rattle.numbered_walks.specs.Prelude.{HasNone, IsWalk, IsWalkOf, Move, label}
 use Rattle.network_walks.specs.Moves.{Goes, Has, IsStuck}
-use Rattle.numbered_walks.specs.Draws.{label}
 
 -- the moves of a walk are the labels of a run
 abbrev pub WalksAreRuns : {T : Type 0} → (T → Label → T → Type 0) → (T → Label → List T → Type 0) → Type 0

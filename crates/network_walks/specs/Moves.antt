@@ -1,8 +1,6 @@
 -- What a network of components takes by a move, over any step relation of terms.
 use Rattle.std.specs.Prelude.{◌≡◌, ℕ, Some, List, slice_get, slice_set}
-use Rattle.csp_tables.specs.Label.{Label}
-use Rattle.csp_tables.specs.Label.Label.{silent, visible}
-use Rattle.csp_tables.specs.Network.{Component, ComponentStep, NetworkStep, Tree, leaves}
+use Rattle.csp_tables.specs.Prelude.{Label, silent, visible, Component, ComponentStep, NetworkStep, Tree, leaves}
 use Rattle.network_walks.specs.Draws.{AreDrawn}
 use Rattle.numbered_walks.specs.declared.moves.Move.{Move}
 use Rattle.numbered_walks.specs.declared.moves.Move.TheVariants as move

@@ -1,15 +1,12 @@
 -- The verdict on a network of which a walk is asked: the point at which it is refused, and then the walk.
 use Rattle.std.specs.Prelude.{◌≡◌, ℕ, Bool, true, false, List}
 use Rattle.csp_steps.specs.Order.{AreTargets}
-use Rattle.network_stages.specs.Networks.{Network}
-use Rattle.network_stages.specs.Stages.{HasNoTables, HasTables}
-use Rattle.numbered_walks.specs.Walks.{IsWalkOf}
-use Rattle.numbered_walks.specs.declared.moves.Move.{Move}
+use Rattle.network_stages.specs.Prelude.{Network, HasNoTables, HasTables}
+use Rattle.numbered_walks.specs.Prelude.{IsWalkOf, Move}
 use Rattle.process_steps.specs.ComponentStep.{ProcessStep}
-use Rattle.report.specs.Points.{RefusedOr}
+use Rattle.report.specs.Prelude.{RefusedOr, Verdict}
 use Rattle.report.specs.declared.answer.Done.TheVariants as done
 use Rattle.report.specs.declared.answer.Side.TheVariants as side
-use Rattle.report.specs.declared.answer.Verdict.{Verdict}
 use Rattle.report.specs.declared.answer.Verdict.TheVariants as verdict
 use Rattle.network_walks.specs.Moves.{Goes, Has}
 

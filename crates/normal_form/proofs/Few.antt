@@ -1,28 +1,10 @@
 -- A node has at most as many acceptances as there are terms: each is what one term offers, and no two are equal.
 use Rattle.std.proofs.Common.{◌≡◌, ℕ, suc, ◌<◌, ◌≤◌, ◌||◌, ◌↔◌, inl, inr, Bool, true, false, nat_eq, IsTrue, List, [], ◌∷◌, ◌++◌, length, get_or, refl, sym, subst, ◌∙◌, arith}
-use Rattle.std.specs.List.{All, AllByRecursion, IsDistinct}
-use Rattle.std.specs.List.Sorted.{IsStrictlyIncreasing, IsStrictlySortedBy}
-use Rattle.std.specs.Cmp.Lexicographic.{slice_cmp}
-use Rattle.std.specs.Ordering.{nat_cmp}
-use Rattle.std.specs.Set.{is_member}
-use Rattle.std.specs.declared.cmp.Ordering.TheVariants.{Less}
-use Rattle.std.proofs.lemmas.Bool.{cases_Bool, cases_lt, or_cases, eqb-true, false≢true}
-use Rattle.std.proofs.lemmas.Cmp.{nat_eq_equiv}
-use Rattle.std.proofs.lemmas.List.{length_push}
-use Rattle.std.proofs.lemmas.List.Folds.{list_any-append}
-use Rattle.std.proofs.lemmas.Map.Keys.{IsDistinct-push}
-use Rattle.std.proofs.lemmas.Map.Steps.{length-le_from_distinct_below}
-use Rattle.std.proofs.Math.ListN.{get_or-eq_default}
+use Rattle.csp_base.specs.Standard.{All, AllByRecursion, IsDistinct, IsStrictlyIncreasing, IsStrictlySortedBy, slice_cmp, nat_cmp, is_member, Less}
+use Rattle.csp_base.proofs.Standard.{cases_Bool, cases_lt, or_cases, eqb-true, false≢true, nat_eq_equiv, length_push, list_any-append, IsDistinct-push, length-le_from_distinct_below, get_or-eq_default}
 use Rattle.csp_base.specs.Members.{has}
 use Rattle.csp_base.proofs.Rising.{rises_from_increasing, same_members}
-use Rattle.csp_tables.specs.Label.{Label}
-use Rattle.csp_tables.specs.Label.Label.{silent, visible}
-use Rattle.csp_tables.specs.Path.{Path}
-use Rattle.csp_tables.specs.Trace.{Offers, IsTrace, IsAcceptance}
-use Rattle.csp_tables.specs.RawTable.{RawTable, RawStep}
-use Rattle.csp_tables.specs.RawForm.{HasRawForm}
-use Rattle.csp_tables.specs.Table.{Node, node_at, IsRun, IsReached}
-use Rattle.csp_tables.specs.NormalTable.{HasAcceptances, IsRisingNode}
+use Rattle.csp_tables.specs.Prelude.{Label, silent, visible, Path, Offers, IsTrace, IsAcceptance, RawTable, RawStep, HasRawForm, Node, node_at, IsRun, IsReached, HasAcceptances, IsRisingNode}
 use Rattle.csp_tables.proofs.Listed.{silent_listed, step_listed}
 use Rattle.normal_form.proofs.SortedSets.{not_below_both}
 use Rattle.csp_base.proofs.Booleans.{same_tests}

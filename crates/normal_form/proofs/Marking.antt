@@ -1,8 +1,7 @@
 -- Acceptances numbered in the order in which they are first seen.
 use Rattle.std.proofs.Common.{◌≡◌, ℕ, ◌<◌, Bool, true, nat_eq, List, [], ◌∷◌, length, get_or, refl, ap, ◌∙◌}
 use Rattle.std.specs.Cmp.Lexicographic.{pointwise}
-use Rattle.std.proofs.lemmas.Bool.{and_from, eqb-true}
-use Rattle.std.proofs.lemmas.List.{get_or_default}
+use Rattle.csp_base.proofs.Standard.{and_from, eqb-true, get_or_default}
 use Rattle.containers.specs.Exact.{IsExact-pointwise}
 use Rattle.csp_base.proofs.Lists.{same_list}
 use Rattle.csp_tables.specs.Table.{Node, node_at}

@@ -1,13 +1,9 @@
 -- Numbers that are met in their order: along a list, along two lists, and what has been met.
 use Rattle.std.proofs.Common.{◌≡◌, ℕ, zero, suc, ◌+◌, ◌<◌, ◌≤◌, inl, inr, true, false, nat_eq, List, [], ◌∷◌, ◌++◌, length, take, drop, refl, sym, ap, ◌∙◌, subst, arith}
 use Rattle.std.specs.Prelude.{map}
-use Rattle.std.proofs.lemmas.Bool.{cases_Bool, cases_lt, cond-true, cond-false, false≢true, eq-eqb, ne_eqb, both_ways, or_left, or_right}
-use Rattle.std.proofs.lemmas.List.{append-nil, take-append-drop}
-use Rattle.std.proofs.lemmas.Grind.{flat_map-append}
+use Rattle.csp_base.proofs.Standard.{cases_Bool, cases_lt, cond-true, cond-false, false≢true, eq-eqb, ne_eqb, both_ways, or_left, or_right, append-nil, take-append-drop, flat_map-append}
 use Rattle.csp_base.proofs.Rising.{RisesFrom}
-use Rattle.csp_tables.specs.Form.{BeginsAbove}
-use Rattle.csp_tables.specs.Table.{Node, node_at, is_possible, target}
-use Rattle.csp_tables.specs.BreadthFirst.{targets_of_steps, targets_of_nodes, MeetsInOrder, MeetsUpTo}
+use Rattle.csp_tables.specs.Prelude.{BeginsAbove, Node, node_at, is_possible, target, targets_of_steps, targets_of_nodes, MeetsInOrder, MeetsUpTo}
 use Rattle.equal_futures.specs.Future.{StepsRise}
 use Rattle.equal_futures.proofs.RowLists.{once}
 

@@ -1,10 +1,8 @@
 -- A merged table is numbered breadth first where the table is.
 use Rattle.std.proofs.Common.{◌≡◌, ℕ, zero, suc, ◌<◌, ◌≤◌, inl, inr, true, List, [], ◌∷◌, ◌++◌, length, take, sym, ap, ◌∙◌, subst, arith}
 use Rattle.std.specs.Prelude.{slice_index}
-use Rattle.std.proofs.lemmas.List.{get_or-take, length-take-le}
-use Rattle.std.proofs.Math.Seq.{take-suc, take-length}
-use Rattle.csp_tables.specs.Table.{Node, node_at, is_possible, target, node_after}
-use Rattle.csp_tables.specs.BreadthFirst.{targets_of_steps, targets_of_nodes, MeetsInOrder, MeetsUpTo, IsBreadthFirst}
+use Rattle.csp_base.proofs.Standard.{get_or-take, length-take-le, take-suc, take-length}
+use Rattle.csp_tables.specs.Prelude.{Node, node_at, is_possible, target, node_after, targets_of_steps, targets_of_nodes, MeetsInOrder, MeetsUpTo, IsBreadthFirst}
 use Rattle.equal_futures.specs.Future.{HaveEqualFuture, AreFutureClasses, NodesRise}
 use Rattle.equal_futures.proofs.Futures.{same_events, future_after}
 use Rattle.equal_futures.proofs.RowLists.{target_below}

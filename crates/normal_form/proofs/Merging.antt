@@ -1,8 +1,7 @@
 -- The merged table while the nodes are gone through, and at the end.
 use Rattle.std.proofs.Common.{◌≡◌, ◌↔◌, ℕ, suc, ◌+◌, ◌<◌, inl, inr, cond, nat_eq, List, [], ◌∷◌, ◌++◌, length, get_or, refl, sym, ap, ◌∙◌, subst, arith, below_more, add-one}
 use Rattle.std.specs.Prelude.{slice_index}
-use Rattle.std.proofs.lemmas.Bool.{cond-true, cond-false, eq-eqb, ne_eqb}
-use Rattle.std.proofs.lemmas.List.{get_or_append_left, get_or_default, get_or_push, length_push}
+use Rattle.csp_base.proofs.Standard.{cond-true, cond-false, eq-eqb, ne_eqb, get_or_append_left, get_or_default, get_or_push, length_push}
 use Rattle.csp_tables.specs.Table.{Node, node_at}
 use Rattle.equal_futures.specs.Future.{HaveEqualFuture, NodesRise, SeenInOrder, StepsRise}
 use Rattle.equal_futures.proofs.Futures.{same_marks}

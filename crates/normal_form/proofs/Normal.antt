@@ -1,20 +1,10 @@
 -- The determinised table merged by equal future is the normal table.
 use Rattle.std.proofs.Common.{◌≡◌, ◌↔◌, ℕ, ◌+◌, ◌<◌, ◌≤◌, inl, inr, List, [], ◌∷◌, length, get_or, refl, sym, ap, ◌∙◌, subst, arith}
 use Rattle.std.specs.Prelude.{slice_index, map}
-use Rattle.std.specs.List.{All}
-use Rattle.std.specs.List.Sorted.{IsStrictlyIncreasing}
-use Rattle.std.proofs.lemmas.Bool.{cases_lt}
-use Rattle.std.proofs.lemmas.List.Elements.{All-from_get_or}
-use Rattle.std.proofs.Math.ListN.{get_or-eq_default}
+use Rattle.csp_base.specs.Standard.{All, IsStrictlyIncreasing}
+use Rattle.csp_base.proofs.Standard.{cases_lt, All-from_get_or, get_or-eq_default}
 use Rattle.csp_base.proofs.Rising.{rises_from_increasing}
-use Rattle.csp_tables.specs.Label.{Label}
-use Rattle.csp_tables.specs.Trace.{IsTrace, IsAcceptance, HaveSameFuture}
-use Rattle.csp_tables.specs.Table.{Node, node_at, is_run, end_of, acceptances_after, IsRun, IsReached}
-use Rattle.csp_tables.specs.NormalTable.{IsListed, IsNormalTable, HasAcceptances, IsRisingNode}
-use Rattle.csp_tables.specs.Behaviour.{OffersAcceptance}
-use Rattle.csp_tables.specs.BreadthFirst.{IsBreadthFirst, targets_of_nodes}
-use Rattle.csp_tables.specs.RawTable.{RawTable, RawStep}
-use Rattle.csp_tables.specs.RawForm.{HasRawForm}
+use Rattle.csp_tables.specs.Prelude.{Label, IsTrace, IsAcceptance, HaveSameFuture, Node, node_at, is_run, end_of, acceptances_after, IsRun, IsReached, IsListed, IsNormalTable, HasAcceptances, IsRisingNode, OffersAcceptance, IsBreadthFirst, targets_of_nodes, RawTable, RawStep, HasRawForm}
 use Rattle.determinise.specs.Determinised.{Determinised, FollowsTraces}
 use Rattle.equal_futures.specs.Future.{NodesRise, StepsRise}
 use Rattle.equal_futures.proofs.Growing.{few_seen}

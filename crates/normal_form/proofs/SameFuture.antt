@@ -4,11 +4,8 @@ use Rattle.std.specs.List.Sorted.{IsStrictlyIncreasing}
 use Rattle.std.proofs.lemmas.Bool.{and_parts}
 use Rattle.csp_base.specs.Members.{has}
 use Rattle.csp_base.proofs.SetLaws.{same_set}
-use Rattle.csp_tables.specs.Label.{Label}
-use Rattle.csp_tables.specs.Trace.{IsTrace, IsAcceptance, HaveSameFuture}
-use Rattle.csp_tables.specs.Table.{Node, node_at, is_possible, node_after, is_run, end_of, acceptances_after, IsRun}
+use Rattle.csp_tables.specs.Prelude.{Label, IsTrace, IsAcceptance, HaveSameFuture, Node, node_at, is_possible, node_after, is_run, end_of, acceptances_after, IsRun, HasAcceptances, IsRisingNode}
 use Rattle.acceptances.proofs.Member.{Member, member_at, stands, Stands}
-use Rattle.csp_tables.specs.NormalTable.{HasAcceptances, IsRisingNode}
 use Rattle.equal_futures.specs.Future.{HaveEqualFuture, NodesRise}
 use Rattle.equal_futures.proofs.RowLists.{target_below}
 use Rattle.normal_form.specs.Marks.{AreMarksOf}

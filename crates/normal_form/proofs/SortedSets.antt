@@ -1,15 +1,7 @@
 -- Lists of sets in strict order with the same members are equal.
 use Rattle.std.proofs.Common.{◌≡◌, ℕ, inl, inr, List, [], ◌∷◌, refl, sym, ap, ◌∙◌, subst}
-use Rattle.std.specs.List.{AllByRecursion}
-use Rattle.std.specs.List.Sorted.{IsStrictlySortedBy}
-use Rattle.std.specs.Cmp.Lexicographic.{slice_cmp}
-use Rattle.std.specs.Ordering.{nat_cmp}
-use Rattle.std.specs.declared.cmp.Ordering.{Ordering}
-use Rattle.std.specs.declared.cmp.Ordering.TheVariants.{Less}
-use Rattle.std.specs.Ordering.{ordering_reverse, is_lt}
-use Rattle.std.proofs.lemmas.Bool.{false≢true}
-use Rattle.std.proofs.lemmas.Map.Keys.{sorted_head, sorted_tail}
-use Rattle.std.proofs.lemmas.Cmp.{nat_list_cmp_total}
+use Rattle.csp_base.specs.Standard.{AllByRecursion, IsStrictlySortedBy, slice_cmp, nat_cmp, Ordering, Less, ordering_reverse, is_lt}
+use Rattle.csp_base.proofs.Standard.{false≢true, sorted_head, sorted_tail, nat_list_cmp_total}
 use Rattle.acceptances.proofs.Member.{Member}
 
 abbrev Order : List ℕ → List ℕ → Ordering

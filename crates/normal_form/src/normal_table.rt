@@ -2,10 +2,8 @@
 
 ghost use Rattle.std.specs.Prelude.{◌≡◌, ◌+◌, ◌≤◌, IfOk, OnOk, length};
 ghost use Rattle.dl_limits.specs.declared.TheConstants.{MOST_SETS};
-ghost use Rattle.csp_tables.specs.RawTable.{RawStep};
-ghost use Rattle.csp_tables.specs.Path.{SilentStep};
+ghost use Rattle.csp_tables.specs.Prelude.{RawStep, SilentStep, IsNormalTable};
 ghost use Rattle.digraph.specs.Walk.{AreHeights};
-ghost use Rattle.csp_tables.specs.NormalTable.{IsNormalTable};
 ghost use Rattle.determinise.specs.ManySets.{ReachesSets};
 
 use crate::merged::merged_nodes;

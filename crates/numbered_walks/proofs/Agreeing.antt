@@ -1,8 +1,7 @@
 -- What is counted of events, while components offer more or fewer.
 use Rattle.std.proofs.Common.{◌≡◌, ℕ, zero, suc, ◌+◌, ◌-◌, ◌<◌, ◌≤◌, inl, inr, Bool, true, false, not, ◌&&◌, ◌||◌, nat_eq, IsTrue, List, [], ◌∷◌, length, replicate, set, get_or, refl, sym, ap, subst, ◌∙◌, arith}
 use Rattle.std.specs.List.Sorted.{IsStrictlyIncreasing}
-use Rattle.std.proofs.lemmas.Bool.{cases_eq, eq-eqb, ne_eqb, or_left, or_right}
-use Rattle.std.proofs.lemmas.List.{get_or-set_other, get_or-set_same}
+use Rattle.csp_base.proofs.Standard.{cases_eq, eq-eqb, ne_eqb, or_left, or_right, get_or-set_other, get_or-set_same}
 use Rattle.numbered_walks.proofs.Counting.{none_at}
 use Rattle.csp_base.proofs.Rising.{RisesFrom, has_below, rises_from_increasing}
 use Rattle.csp_base.specs.Members.{has}

@@ -1,10 +1,7 @@
 -- How many marks stand before a number, and how that changes where a mark is set or taken away.
 use Rattle.std.proofs.Common.{◌≡◌, ℕ, zero, suc, ◌+◌, ◌*◌, ◌-◌, ◌<◌, ◌≤◌, inl, inr, Bool, true, false, List, [], ◌∷◌, Some, length, take, set, get_or, slice_get, replicate, refl, sym, ap, subst, ◌∙◌, add-one, arith, ◌/◌}
-use Rattle.std.proofs.lemmas.List.{get_or_default, take_all, get_or-set_other, get_or-set_same, length-set, length-replicate}
-use Rattle.std.proofs.lemmas.Bool.{cases_eq, cases_lt}
-use Rattle.std.proofs.Math.Bool.{beq}
-use Rattle.numbered_walks.specs.Blocks.{AreBlockCounts}
-use Rattle.numbered_walks.specs.Marks.{mark_count, marked, places_from}
+use Rattle.csp_base.proofs.Standard.{get_or_default, take_all, get_or-set_other, get_or-set_same, length-set, length-replicate, cases_eq, cases_lt, beq}
+use Rattle.numbered_walks.specs.Prelude.{AreBlockCounts, mark_count, marked, places_from}
 
 -- 1 where the number is below the other, else 0
 pub below : ℕ → ℕ → ℕ

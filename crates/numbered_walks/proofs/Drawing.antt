@@ -1,24 +1,13 @@
 -- Targets that are drawn: they are steps, and a move draws for each component that takes part.
 use Rattle.std.proofs.Common.{◌≡◌, ℕ, zero, suc, ◌+◌, ◌<◌, inl, inr, Bool, true, false, not, ◌&&◌, nat_eq, cond, MatchBool, Some, List, [], ◌∷◌, ◌++◌, length, map, set, get_or, slice_get, refl, sym, ap, ap₂, subst, ◌∙◌, arith}
 use Rattle.std.specs.Cmp.{first_so, second_so}
-use Rattle.std.proofs.lemmas.Bool.{MatchBool-at_false, MatchBool-at_true, cases_Bool, eq-eqb, eqb-true, ne_eqb}
-use Rattle.std.proofs.lemmas.Option.{none-some, same_Some}
-use Rattle.std.proofs.lemmas.List.{length-map}
+use Rattle.csp_base.proofs.Standard.{MatchBool-at_false, MatchBool-at_true, cases_Bool, eq-eqb, eqb-true, ne_eqb, none-some, same_Some, length-map}
 use Rattle.acceptances.proofs.Terms.{test_by_stable, unstable_by_step}
 use Rattle.acceptances.specs.OfferTests.{is_unstable}
-use Rattle.numbered_walks.specs.Marks.{marked, places_from}
+use Rattle.numbered_walks.specs.Prelude.{marked, places_from, component_at, owner_marks, IsDrawn, AllDraw, Numbered, next_number, place_among, targets, AllGo}
 use Rattle.csp_base.specs.Members.{has}
-use Rattle.csp_tables.specs.Label.{Label}
-use Rattle.csp_tables.specs.Label.Label.{silent, visible}
-use Rattle.csp_tables.specs.RawTable.{RawStep, RawTable}
-use Rattle.csp_tables.specs.RowOrder.{targets_in}
+use Rattle.csp_tables.specs.Prelude.{Label, silent, visible, RawStep, RawTable, targets_in}
 use Rattle.numbered_walks.proofs.Rowing.{event_picked, picked, silent_picked}
-use Rattle.numbered_walks.specs.Agreements.{component_at, owner_marks}
-use Rattle.numbered_walks.specs.Draws.{IsDrawn}
-use Rattle.numbered_walks.specs.Numbered.{AllDraw, Numbered}
-use Rattle.numbered_walks.specs.Numbers.{next_number, place_among}
-use Rattle.numbered_walks.specs.Rows.{targets}
-use Rattle.numbered_walks.specs.Steps.{AllGo}
 use Rattle.numbered_walks.specs.declared.moves.Move.TheVariants as move
 
 to_true : (b : Bool) (P Q : Type 0) → b ≡ true → P → MatchBool b P Q

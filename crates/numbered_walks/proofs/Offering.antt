@@ -5,8 +5,7 @@ use Rattle.std.proofs.lemmas.Bool.{cases_Bool, eq-eqb, eqb-true, false≢true, n
 use Rattle.acceptances.proofs.Terms.{offers_by_test, test_by_offers}
 use Rattle.acceptances.specs.OfferTests.{can_do}
 use Rattle.csp_base.specs.Members.{has}
-use Rattle.numbered_walks.specs.Agreements.{bit, component_at, is_agreed, offer_count, owner_count}
-use Rattle.numbered_walks.specs.Numbered.{AllCan, Numbered, OwnsItsSteps, first_terms, has_owner}
+use Rattle.numbered_walks.specs.Prelude.{bit, component_at, is_agreed, offer_count, owner_count, AllCan, Numbered, OwnsItsSteps, first_terms, has_owner}
 
 bit_most : (b : Bool) → bit b ≤ 1
 bit_most true = omega arith

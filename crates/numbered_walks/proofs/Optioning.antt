@@ -1,15 +1,10 @@
 -- The marked components and the marked events are the options of a state, in their order.
 use Rattle.std.proofs.Common.{◌≡◌, ◌↔◌, ℕ, zero, suc, ◌+◌, ◌-◌, ◌<◌, ◌≤◌, ◌⊎◌, inl, inr, Bool, true, false, List, [], ◌∷◌, ◌++◌, length, map, take, get_or, slice_get, Some, refl, sym, ap, subst, ◌∙◌, arith}
-use Rattle.std.proofs.lemmas.Option.{none-some, same_Some}
-use Rattle.std.proofs.lemmas.List.{length-append, length-map}
+use Rattle.csp_base.proofs.Standard.{none-some, same_Some, length-append, length-map}
 use Rattle.containers.proofs.MembersLemmas.{slice_get-append_left}
 use Rattle.numbered_walks.proofs.Places.{as_many, marked_is, place_of_mark, places_rise}
-use Rattle.numbered_walks.specs.Marks.{mark_count, marked}
+use Rattle.numbered_walks.specs.Prelude.{mark_count, marked, AreOptions, IsBefore, options, HasNone, Move}
 use Rattle.csp_base.specs.Lists.{StandsIn}
-use Rattle.numbered_walks.specs.Options.{AreOptions, IsBefore}
-use Rattle.numbered_walks.specs.Steps.{options}
-use Rattle.numbered_walks.specs.Walks.{HasNone}
-use Rattle.numbered_walks.specs.declared.moves.Move.{Move}
 use Rattle.numbered_walks.specs.declared.moves.Move.TheVariants as move
 
 pub back_at : {X : Type 0} (xs ys : List X) (k : ℕ) (v : X) → slice_get ys k ≡ Some v → slice_get (xs ++ ys) (length xs + k) ≡ Some v

@@ -1,16 +1,12 @@
 -- The rows of the owners of events.
 use Rattle.std.proofs.Common.{◌≡◌, ℕ, zero, suc, ◌+◌, ◌<◌, ◌≤◌, ◌⊎◌, inl, inr, Bool, true, false, ◌||◌, nat_eq, cond, IsTrue, List, [], ◌∷◌, ◌++◌, length, map, take, set, get_or, refl, sym, ap, subst, ◌∙◌, arith}
 use Rattle.std.specs.List.Sorted.{IsStrictlyIncreasing}
-use Rattle.std.proofs.lemmas.Bool.{cases_eq, eq-eqb, eqb-true, false≢true, ne_eqb, or_cases, or_left, or_right}
-use Rattle.std.proofs.lemmas.List.{get_or-set_other, get_or-set_same, length-set}
-use Rattle.std.proofs.lemmas.List.Folds.{list_any_more}
+use Rattle.csp_base.proofs.Standard.{cases_eq, eq-eqb, eqb-true, false≢true, ne_eqb, or_cases, or_left, or_right, get_or-set_other, get_or-set_same, length-set, list_any_more}
 use Rattle.numbered_walks.proofs.Places.{as_many}
-use Rattle.numbered_walks.specs.Marks.{mark_count, marked, places_from}
+use Rattle.numbered_walks.specs.Prelude.{mark_count, marked, places_from, AreOwnerRows, bit, owner_count, owner_marks, Numbered, has_owner}
 use Rattle.csp_base.proofs.Lists.{map_push, take_read}
 use Rattle.csp_base.proofs.Rising.{RisesFrom, has_below, rises_from_increasing}
 use Rattle.csp_base.specs.Members.{has}
-use Rattle.numbered_walks.specs.Agreements.{AreOwnerRows, bit, owner_count, owner_marks}
-use Rattle.numbered_walks.specs.Numbered.{Numbered, has_owner}
 
 -- ---- a number above the events of sets
 -- each event of the set is below the number, or is still to come

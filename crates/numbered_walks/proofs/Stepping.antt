@@ -1,28 +1,20 @@
 -- Components that move, one after another.
 use Rattle.std.proofs.Common.{◌≡◌, ◌↔◌, ℕ, zero, suc, ◌+◌, ◌<◌, ◌≤◌, inl, inr, Bool, true, false, ◌||◌, nat_eq, IsTrue, MatchBool, List, [], ◌∷◌, length, replicate, take, set, get_or, slice_get, Some, Result, Ok, Err, refl, sym, ap, subst, ◌∙◌, arith}
 use Rattle.std.specs.Result.{OnOk}
-use Rattle.std.proofs.lemmas.Bool.{cases_Bool, cases_eq, eq-eqb, eqb-true, false≢true, ne_eqb, or_cases, or_left, or_right}
-use Rattle.std.proofs.lemmas.List.{get_or-set_other, get_or-set_same, length-replicate, length-set, length-take}
-use Rattle.std.proofs.lemmas.List.Folds.{list_any_more}
-use Rattle.std.proofs.lemmas.Option.{none-some, same_Some}
+use Rattle.csp_base.proofs.Standard.{cases_Bool, cases_eq, eq-eqb, eqb-true, false≢true, ne_eqb, or_cases, or_left, or_right, get_or-set_other, get_or-set_same, length-replicate, length-set, length-take, list_any_more, none-some, same_Some}
 use Rattle.acceptances.proofs.Terms.{offers_by_test, unstable_by_step}
 use Rattle.acceptances.specs.OfferTests.{can_do, is_unstable}
 use Rattle.numbered_walks.proofs.Places.{marked_is, place_of_mark, places_rise, mark_within}
-use Rattle.numbered_walks.specs.Marks.{marked, places_from}
+use Rattle.numbered_walks.specs.Prelude.{marked, places_from, AreOwnerRows, IsAgreement, IsStanding, bit, component_at, is_agreed, offer_count, owner_count, owner_marks, AllCan, AllDo, AllDraw, Can, Goes, Has, Numbered, OneCan, OwnsItsSteps, first_terms, has_owner, AllGo, Does, Standing}
 use Rattle.csp_base.proofs.Booleans.{same_tests, or_unless}
 use Rattle.csp_base.specs.Members.{has}
 use Rattle.csp_tables.proofs.Listed.{passing}
-use Rattle.csp_tables.specs.Label.Label.{silent, visible}
-use Rattle.csp_tables.specs.RawTable.{RawStep, RawTable}
+use Rattle.csp_tables.specs.Prelude.{silent, visible, RawStep, RawTable}
 use Rattle.numbered_walks.proofs.Agreeing.{some_within}
 use Rattle.numbered_walks.proofs.Drawing.{all_drawn, one_drawn}
 use Rattle.numbered_walks.proofs.Counting.{none_at}
 use Rattle.numbered_walks.proofs.Offering.{agreed_can, at_most_all, can_agreed, count_set, front_most, one_first, one_of_all, owner_counts}
-use Rattle.numbered_walks.specs.Agreements.{AreOwnerRows, IsAgreement, IsStanding, bit, component_at, is_agreed, offer_count, owner_count, owner_marks}
-use Rattle.numbered_walks.specs.Numbered.{AllCan, AllDo, AllDraw, Can, Goes, Has, Numbered, OneCan, OwnsItsSteps, first_terms, has_owner}
-use Rattle.numbered_walks.specs.Steps.{AllGo, Does}
 use Rattle.numbered_walks.specs.declared.moves.Move.TheVariants as move
-use Rattle.numbered_walks.specs.declared.standing.Standing.{Standing}
 
 match_false : (b : Bool) (P Q : Type 0) → b ≡ false → MatchBool b P Q → Q
 match_false b P Q is h = subst (λ (c : Bool). MatchBool c P Q) is h

@@ -2,8 +2,7 @@
 -- of the second sequence chooses.
 use Rattle.std.specs.Prelude.{◌≡◌, ℕ, Bool, Some, MatchBool, nat_eq, List, [], ◌∷◌, length, slice_get}
 use Rattle.csp_base.specs.Members.{has}
-use Rattle.csp_tables.specs.Label.{Label}
-use Rattle.csp_tables.specs.Label.Label.{silent, visible}
+use Rattle.csp_tables.specs.Prelude.{Label, silent, visible}
 use Rattle.numbered_walks.specs.Numbers.{next_number, place_among}
 use Rattle.numbered_walks.specs.declared.moves.Move.{Move}
 use Rattle.numbered_walks.specs.declared.moves.Move.TheVariants as move

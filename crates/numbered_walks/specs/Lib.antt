@@ -5,6 +5,7 @@ pub mod Marks
 pub mod Numbered
 pub mod Numbers
 pub mod Options
+pub mod Prelude
 pub mod Rows
 pub mod Steps
 pub mod Walks

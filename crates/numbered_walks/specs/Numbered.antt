@@ -2,10 +2,7 @@
 use Rattle.std.specs.Prelude.{◌≡◌, ℕ, ◌+◌, Bool, Some, List, [], ◌∷◌, IsTrue, MatchBool, slice_get, slice_set, map}
 use Rattle.std.specs.List.{list_any}
 use Rattle.csp_base.specs.Members.{has}
-use Rattle.csp_tables.specs.Label.{Label}
-use Rattle.csp_tables.specs.Label.Label.{silent, visible}
-use Rattle.csp_tables.specs.RawTable.{RawStep, RawTable}
-use Rattle.csp_tables.specs.RowOrder.{targets_in}
+use Rattle.csp_tables.specs.Prelude.{Label, silent, visible, RawStep, RawTable, targets_in}
 use Rattle.numbered_walks.specs.Draws.{IsDrawn, label, takes_part}
 use Rattle.numbered_walks.specs.declared.moves.Move.{Move}
 use Rattle.numbered_walks.specs.declared.moves.Move.TheVariants as move

@@ -1,9 +1,7 @@
 -- What the steps of a walk do to where components stand. (For private contracts: no public one cites this.)
 use Rattle.std.specs.Prelude.{◌≡◌, ℕ, Bool, List, [], ◌∷◌, ◌++◌, map, slice_index, slice_set}
 use Rattle.numbered_walks.specs.Marks.{marked}
-use Rattle.csp_tables.specs.Label.{Label}
-use Rattle.csp_tables.specs.RawTable.{RawStep}
-use Rattle.csp_tables.specs.RowOrder.{targets_in}
+use Rattle.csp_tables.specs.Prelude.{Label, RawStep, targets_in}
 use Rattle.numbered_walks.specs.Agreements.{component_at}
 use Rattle.numbered_walks.specs.Draws.{IsDrawn}
 use Rattle.numbered_walks.specs.Numbered.{Goes, Has, Numbered}

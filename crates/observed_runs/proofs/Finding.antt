@@ -1,12 +1,8 @@
 -- What was found, and followed to its end, is what runs reach.
 use Rattle.std.proofs.Common.{◌≡◌, ℕ, zero, suc, ◌+◌, ◌<◌, ◌≤◌, List, [], ◌∷◌, ◌++◌, length, true, IsTrue, sym, ap, subst, arith}
-use Rattle.std.proofs.lemmas.Bool.{and_parts}
-use Rattle.std.proofs.lemmas.Option.{get_or_from_slice_get, slice_get_within}
+use Rattle.csp_base.proofs.Standard.{and_parts, get_or_from_slice_get, slice_get_within}
 use Rattle.csp_tables.specs.Table.{Node, node_at, node_after, is_possible, is_run, IsRun, end_of}
-use Rattle.observed_runs.specs.Observed.{observed, LeadsTo, pair_at}
-use Rattle.observed_runs.specs.Exploration.{AreDistinct, Found, StepsTo, AreFound, HaveOrigins, IsExploration}
-use Rattle.observed_runs.specs.Enough.{HasPair}
-use Rattle.observed_runs.specs.Progress.{AreFollowed}
+use Rattle.observed_runs.specs.Prelude.{observed, LeadsTo, pair_at, AreDistinct, Found, StepsTo, AreFound, HaveOrigins, IsExploration, HasPair, AreFollowed}
 use Rattle.observed_runs.proofs.Leading.{leads_on, leads_nowhere}
 
 module _ (table : List Node) (step : ℕ → ℕ → ℕ) (start : ℕ) where

@@ -1,18 +1,11 @@
 -- Pairs that are added while a table is explored.
 use Rattle.std.proofs.Common.{◌≡◌, ℕ, ◌+◌, ◌-◌, ◌<◌, ◌≤◌, List, [], ◌∷◌, ◌++◌, length, true, false, IsTrue, refl, sym, ap, subst, ◌∙◌, arith, inl, inr, append_assoc, append-nil}
 use Rattle.std.specs.Prelude.{slice_get, Some}
-use Rattle.std.proofs.lemmas.Bool.{cases_Bool, cases_lt}
+use Rattle.csp_base.proofs.Standard.{cases_Bool, cases_lt, length-append, get_or_append_left, get_or-append_right}
 use Rattle.csp_base.specs.Members.{has}
-use Rattle.std.proofs.lemmas.List.{length-append, get_or_append_left}
-use Rattle.std.proofs.Math.Seq.{get_or-append_right}
 use Rattle.containers.proofs.MembersLemmas.{slice_get-append_left}
-use Rattle.csp_tables.specs.Table.{Node, node_at, node_after, is_possible}
-use Rattle.csp_tables.specs.Part.{Part}
-use Rattle.csp_tables.specs.Form.{HasForm}
-use Rattle.observed_runs.specs.Observed.{pair_at}
-use Rattle.observed_runs.specs.Exploration.{StepsTo, AreFound, HaveOrigins}
-use Rattle.observed_runs.specs.Enough.{HasPair, AreEnough, SeesOnly}
-use Rattle.observed_runs.specs.Progress.{IsAdded, AreMore, AreFollowed}
+use Rattle.csp_tables.specs.Prelude.{Node, node_at, node_after, is_possible, Part, HasForm}
+use Rattle.observed_runs.specs.Prelude.{pair_at, StepsTo, AreFound, HaveOrigins, HasPair, AreEnough, SeesOnly, IsAdded, AreMore, AreFollowed}
 use Rattle.observed_runs.proofs.Leading.{step_listed, step_within, listed_step}
 use Rattle.csp_tables.proofs.Runs.{node_form}
 

@@ -1,17 +1,11 @@
 -- Steps that are kept, one more at a time.
 use Rattle.std.proofs.Common.{◌≡◌, ℕ, ◌+◌, ◌-◌, ◌<◌, ◌≤◌, ◌⊎◌, List, [], ◌∷◌, ◌++◌, length, get_or, replicate, true, false, sym, ap, subst, ◌∙◌, arith, inl, inr}
 use Rattle.std.specs.Prelude.{slice_index, slice_set}
-use Rattle.std.proofs.lemmas.Bool.{cases_eq, cases_lt, both_ways}
-use Rattle.std.proofs.lemmas.List.{length-append, get_or_append_left, get_or_past, get_or_read, get_or-replicate, get_or-set_same, get_or-set_other, length-replicate}
-use Rattle.std.proofs.Math.Seq.{get_or-append_right}
+use Rattle.csp_base.proofs.Standard.{cases_eq, cases_lt, both_ways, length-append, get_or_append_left, get_or_past, get_or_read, get_or-replicate, get_or-set_same, get_or-set_other, length-replicate, get_or-append_right}
 use Rattle.csp_base.specs.Members.{has}
-use Rattle.csp_tables.specs.Table.{Node, node_at, no_node}
-use Rattle.csp_tables.specs.Part.{Part}
-use Rattle.csp_tables.specs.Form.{HasForm}
+use Rattle.csp_tables.specs.Prelude.{Node, node_at, no_node, Part, HasForm}
 use Rattle.csp_tables.proofs.Runs.{node_form}
-use Rattle.observed_runs.specs.Observed.{pair_at}
-use Rattle.observed_runs.specs.Enough.{HasPair, HasOther, AreEnough}
-use Rattle.observed_runs.specs.Progress.{IsKept, AreEnoughSoFar}
+use Rattle.observed_runs.specs.Prelude.{pair_at, HasPair, HasOther, AreEnough, IsKept, AreEnoughSoFar}
 use Rattle.observed_runs.proofs.Leading.{step_within}
 use Rattle.observed_runs.proofs.Growing.{pair_at_left, pair_at_right, listed_left}
 

@@ -1,12 +1,9 @@
 -- Runs that lead to pairs: one more event, and the steps of a node.
 use Rattle.std.proofs.Common.{◌≡◌, ℕ, zero, suc, ◌+◌, ◌-◌, ◌<◌, List, [], ◌∷◌, ◌++◌, length, get_or, true, false, IsTrue, nat_eq, refl, sym, ap, subst, ◌∙◌, arith, inl, inr, eq-eqb}
-use Rattle.std.proofs.lemmas.Bool.{or_cases, or_left, or_right, eqb-true, false≢true, cases_Bool, cond-true, cond-false, both_ways}
-use Rattle.csp_tables.specs.Table.{Node, node_at, is_possible, target, node_after}
-use Rattle.csp_tables.specs.Form.{BeginsAbove, StepsHaveForm}
-use Rattle.observed_runs.specs.Observed.{observed, LeadsTo, pair_at}
+use Rattle.csp_base.proofs.Standard.{or_cases, or_left, or_right, eqb-true, false≢true, cases_Bool, cond-true, cond-false, both_ways, reverse-append, append_assoc}
+use Rattle.csp_tables.specs.Prelude.{Node, node_at, is_possible, target, node_after, BeginsAbove, StepsHaveForm}
+use Rattle.observed_runs.specs.Prelude.{observed, LeadsTo, pair_at, AreFound, StepsTo}
 use Rattle.std.specs.Prelude.{reverse}
-use Rattle.std.proofs.lemmas.List.{reverse-append, append_assoc}
-use Rattle.observed_runs.specs.Exploration.{AreFound, StepsTo}
 use Rattle.csp_tables.proofs.Runs.{run_push, end_push}
 
 pub observed_push : (step : ℕ → ℕ → ℕ) (state : ℕ) (u : List ℕ) (e : ℕ) → observed step state (u ++ e ∷ []) ≡ step (observed step state u) e

@@ -1,11 +1,9 @@
 -- Pairs that are marked, one at a time.
 use Rattle.std.proofs.Common.{◌≡◌, ℕ, ◌<◌, ◌⊎◌, List, [], ◌∷◌, ◌++◌, length, get_or, set, false, IsTrue, ◌||◌, nat_eq, ◌≢◌, eq-eqb, refl, sym, ap, subst, ◌∙◌, arith, inl, inr}
-use Rattle.std.proofs.lemmas.Bool.{cases_lt, cases_eq, eqb-true, false≢true, or_left, or_right, or_cases}
-use Rattle.std.proofs.lemmas.List.{get_or-set_same, get_or-set_other, length-append}
+use Rattle.csp_base.proofs.Standard.{cases_lt, cases_eq, eqb-true, false≢true, or_left, or_right, or_cases, get_or-set_same, get_or-set_other, length-append}
 use Rattle.csp_base.specs.Events.{has, with_member}
 use Rattle.csp_base.proofs.SetLaws.{has-with_member}
-use Rattle.observed_runs.specs.Observed.{pair_at}
-use Rattle.observed_runs.specs.Marks.{AreMarked, is_marked}
+use Rattle.observed_runs.specs.Prelude.{pair_at, AreMarked, is_marked}
 use Rattle.observed_runs.proofs.Growing.{pair_at_left, listed_left, last_pair, same_two}
 
 module _ (seen : List (List ℕ)) (pair : ℕ × ℕ) (room : pair.0 < length seen) where

@@ -1,8 +1,7 @@
 -- What stands while a table is explored. (No public contract cites this.)
 use Rattle.std.specs.Prelude.{◌≡◌, ◌<◌, ◌≤◌, ◌⊎◌, ◌++◌, ◌∷◌, [], ℕ, List, true, false, length, slice_index, slice_set, IsTrue}
 use Rattle.csp_base.specs.Members.{has}
-use Rattle.csp_tables.specs.Table.{Node, node_at, node_after, is_possible}
-use Rattle.csp_tables.specs.Part.{Part}
+use Rattle.csp_tables.specs.Prelude.{Node, node_at, node_after, is_possible, Part}
 use Rattle.observed_runs.specs.Observed.{pair_at}
 use Rattle.observed_runs.specs.Exploration.{StepsTo}
 use Rattle.observed_runs.specs.Enough.{HasPair, HasOther}

@@ -1,17 +1,11 @@
 -- Walks in the own graph of a component and in that of its numbered table.
 use Rattle.std.proofs.Common.{◌≡◌, ℕ, zero, suc, ◌<◌, Bool, true, false, ◌&&◌, not, List, [], ◌∷◌, Some, slice_get, length, refl, sym, ap₂, subst, ◌∙◌, arith, inl, inr}
 use Rattle.std.specs.Cmp.{first_so, second_so}
-use Rattle.std.proofs.lemmas.Bool.{false≢true}
-use Rattle.std.proofs.lemmas.Option.{same_Some, slice_get_within}
+use Rattle.csp_base.proofs.Standard.{false≢true, same_Some, slice_get_within}
 use Rattle.csp_base.specs.Members.{has}
 use Rattle.csp_base.proofs.Lists.{slice_get_some}
-use Rattle.csp_tables.specs.Label.{Label}
-use Rattle.csp_tables.specs.Label.Label.{silent, visible}
-use Rattle.csp_tables.specs.Network.{Component, ComponentStep}
-use Rattle.csp_tables.specs.Path.{Path}
-use Rattle.csp_tables.specs.RawTable.{IsTableOf, RawTable, standing_at}
-use Rattle.digraph.specs.Circle.{IsCircle, Leads}
-use Rattle.digraph.specs.Walk.{Walk}
+use Rattle.csp_tables.specs.Prelude.{Label, silent, visible, Component, ComponentStep, Path, IsTableOf, RawTable, standing_at}
+use Rattle.digraph.specs.Prelude.{IsCircle, Leads, Walk}
 use Rattle.net_sound.proofs.FlatLists.{step_alphabet}
 use Rattle.net_sound.proofs.Numbered.{stands}
 use Rattle.hidden_steps.specs.Order.{GoesRound, IsHeight, OwnStep, Taken, is_passed}

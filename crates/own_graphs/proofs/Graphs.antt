@@ -1,19 +1,11 @@
 -- Own graphs as digraphs, and the greatest of their heights.
 use Rattle.std.proofs.Common.{◌≡◌, ℕ, zero, suc, ◌+◌, ◌<◌, ◌≤◌, true, ◌&&◌, nat_eq, IsTrue, List, [], ◌∷◌, ◌++◌, Some, length, take, get_or, max, add-one, refl, sym, ap, subst, ◌∙◌, arith, inl, inr}
 use Rattle.std.specs.Cmp.{first_so, second_so}
-use Rattle.std.proofs.Math.Seq.{take-suc}
-use Rattle.std.proofs.lemmas.Bool.{cases_lt, eq-eqb, eqb-true, or_cases, or_left, or_right}
-use Rattle.std.proofs.lemmas.List.{get_or_default}
-use Rattle.csp_base.specs.Lists.{greatest}
-use Rattle.csp_base.specs.Members.{has}
-use Rattle.csp_tables.specs.Label.Label.{visible}
-use Rattle.csp_tables.specs.RawForm.{HasRawForm, has_silent, has_step}
-use Rattle.csp_tables.specs.RawTable.{RawStep, RawTable}
+use Rattle.csp_base.proofs.Standard.{take-suc, cases_lt, eq-eqb, eqb-true, or_cases, or_left, or_right, get_or_default, any_passes_from_place}
+use Rattle.csp_base.specs.Prelude.{greatest, has}
+use Rattle.csp_tables.specs.Prelude.{visible, HasRawForm, has_silent, has_step, RawStep, RawTable}
 use Rattle.csp_tables.proofs.Listed.{listed_silent, passing, silent_listed, step_at}
-use Rattle.std.proofs.lemmas.Map.Keys.{any_passes_from_place}
-use Rattle.digraph.specs.Circle.{IsCircle}
-use Rattle.digraph.specs.Digraph.{Digraph, HasArc}
-use Rattle.digraph.specs.Walk.{AreHeights, Walk}
+use Rattle.digraph.specs.Prelude.{IsCircle, Digraph, HasArc, AreHeights, Walk}
 use Rattle.digraph.proofs.WalkLaws.{same_circle, same_walk}
 use Rattle.own_graphs.specs.Own.{AreOwnRows, IsOwnHeight, OwnArc, has_step_by}
 

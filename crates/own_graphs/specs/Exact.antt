@@ -1,9 +1,7 @@
 -- The own graph of a component's numbered table is that of the component, where its events are the hidden ones that none of the taken components has.
 use Rattle.std.specs.Prelude.{◌≡◌, ℕ, ◌&&◌, not, List}
 use Rattle.csp_base.specs.Members.{has}
-use Rattle.csp_tables.specs.Label.{Label}
-use Rattle.csp_tables.specs.Network.{Component}
-use Rattle.csp_tables.specs.RawTable.{IsTableOf, RawTable}
+use Rattle.csp_tables.specs.Prelude.{Label, Component, IsTableOf, RawTable}
 use Rattle.hidden_steps.specs.Order.{GoesRound, IsHeight, Taken, is_passed}
 use Rattle.own_graphs.specs.Own.{GoesRoundItself, IsOwnHeight}
 

@@ -2,12 +2,8 @@
 use Rattle.std.specs.Prelude.{◌≡◌, ◌<◌, ◌≤◌, ◌⊎◌, ℕ, nat_eq, Bool, ◌&&◌, ◌||◌, IsTrue, List, length}
 use Rattle.std.specs.List.{list_any}
 use Rattle.csp_base.specs.Members.{has}
-use Rattle.csp_tables.specs.Label.Label.{silent, visible}
-use Rattle.csp_tables.specs.RawForm.{has_silent}
-use Rattle.csp_tables.specs.RawTable.{RawStep, RawTable}
-use Rattle.digraph.specs.Circle.{IsCircle}
-use Rattle.digraph.specs.Digraph.{Digraph, has_arc}
-use Rattle.digraph.specs.Walk.{Walk}
+use Rattle.csp_tables.specs.Prelude.{silent, visible, has_silent, RawStep, RawTable}
+use Rattle.digraph.specs.Prelude.{IsCircle, Digraph, has_arc, Walk}
 
 -- a step in the own graph
 abbrev pub OwnArc : RawTable → List ℕ → ℕ → ℕ → Type 0

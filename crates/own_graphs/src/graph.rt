@@ -1,8 +1,7 @@
 //! The own graph of a table, and its height.
 
 ghost use Rattle.std.specs.Prelude.{◌≡◌, ◌<◌, ◌&&◌, ◌||◌, ℕ, nat_eq, length, max, IfNone, IfOk, IfSome, OnOk};
-ghost use Rattle.csp_base.specs.Lists.{greatest};
-ghost use Rattle.csp_base.specs.Members.{has};
+ghost use Rattle.csp_base.specs.Prelude.{greatest, has};
 ghost use Rattle.digraph.specs.Digraph.{has_arc};
 ghost use Rattle.own_graphs.specs.Own.{AreOwnRows, GoesRoundItself, IsOwnHeight, has_step_by};
 

@@ -2,8 +2,7 @@
 use Rattle.std.proofs.Common.{◌≡◌, ℕ, ◌+◌, ◌<◌, ◌≤◌, List, length, set, Bool, true, false, ◌||◌, nat_eq, nat_lt, refl, sym, ap, ◌∙◌, subst, arith, inl, inr}
 use Rattle.std.specs.Prelude.{slice_index, slice_index_or}
 use Rattle.csp_base.specs.Members.{has}
-use Rattle.std.proofs.lemmas.Bool.{cases_eq, lt-ltb, le-ltb, eq-eqb, ne_eqb, or_right, cases_lt}
-use Rattle.std.proofs.lemmas.List.{length-set}
+use Rattle.csp_base.proofs.Standard.{cases_eq, lt-ltb, le-ltb, eq-eqb, ne_eqb, or_right, cases_lt, length-set}
 use Rattle.partitions.specs.Blocks.{State, HasBlocks, block_at, is_marked, sizes}
 use Rattle.partitions.specs.BlockSteps.{IsAdvanced}
 use Rattle.partitions.proofs.Writes.{by_write, by_two_writes}

@@ -1,8 +1,7 @@
 -- A block waits: what becomes of the partition.
 use Rattle.std.proofs.Common.{◌≡◌, ℕ, ◌+◌, ◌<◌, ◌≤◌, inl, inr, List, [], ◌∷◌, ◌++◌, length, Bool, true, false, nat_lt, refl, sym, ap, ◌∙◌, subst, arith}
 use Rattle.std.specs.Prelude.{slice_index, slice_index_or}
-use Rattle.std.proofs.lemmas.Bool.{cond_both}
-use Rattle.std.proofs.lemmas.List.{length-set, length_push, get_or-set_same}
+use Rattle.csp_base.proofs.Standard.{cond_both, length-set, length_push, get_or-set_same}
 use Rattle.csp_base.specs.Members.{has}
 use Rattle.partitions.specs.Blocks.{State, HasBlocks, block_at, is_marked, sizes, waits}
 use Rattle.partitions.specs.BlockSteps.{IsAwaited}

@@ -1,9 +1,7 @@
 -- A node is marked, or was marked before: what is known then.
 use Rattle.std.proofs.Common.{◌≡◌, ℕ, ◌+◌, ◌<◌, ◌≤◌, List, [], ◌∷◌, ◌++◌, length, get_or, ◌^◌, true, false, ◌||◌, nat_eq, refl, sym, ap, ◌∙◌, subst, arith, inl, inr}
 use Rattle.std.specs.Prelude.{slice_index}
-use Rattle.std.proofs.lemmas.Bool.{eq-eqb, or_left, or_right}
-use Rattle.std.proofs.lemmas.List.{get_or_read}
-use Rattle.std.proofs.lemmas.List.Folds.{list_any-append}
+use Rattle.csp_base.proofs.Standard.{eq-eqb, or_left, or_right, get_or_read, list_any-append}
 use Rattle.csp_base.specs.Members.{has}
 use Rattle.partitions.specs.Blocks.{State, HasBlocks, IsMarked, AreTouched, block_at}
 use Rattle.partitions.specs.BlockSteps.{IsAdvanced}

@@ -1,12 +1,9 @@
 -- Nodes are marked and blocks are cut, one after the other: blocks are split by the sources of steps.
 use Rattle.std.proofs.Common.{◌≡◌, ℕ, zero, suc, ◌+◌, ◌<◌, ◌≤◌, inl, inr, List, [], ◌∷◌, ◌++◌, length, get_or, take, drop, Bool, true, false, ◌||◌, nat_eq, refl, sym, ap, ◌∙◌, subst, arith}
 use Rattle.std.specs.Prelude.{slice_index, slice_index_or, ◌↔◌}
-use Rattle.std.proofs.lemmas.Bool.{le-ltb, false≢true, or_cases, or_left, or_right, eqb-true, eq-eqb}
-use Rattle.std.proofs.lemmas.List.{take_more, drop_more}
-use Rattle.std.proofs.lemmas.List.Folds.{list_any-append}
+use Rattle.csp_base.proofs.Standard.{le-ltb, false≢true, or_cases, or_left, or_right, eqb-true, eq-eqb, take_more, drop_more, list_any-append, or-false}
 use Rattle.csp_base.specs.Members.{has}
 use Rattle.partitions.specs.Blocks.{State, HasBlocks, HaveSameBlocks, IsMarked, AreMarked, AreTouched, AreTogether, AreCut, IsCut, IsCalm, IsOnward, IsSplit, block_at, is_marked, is_source, waits}
-use Rattle.std.proofs.Math.Bool.{or-false}
 use Rattle.csp_base.proofs.Listed.{same_number}
 use Rattle.csp_base.proofs.Booleans.{same_or}
 

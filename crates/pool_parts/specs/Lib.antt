@@ -1,4 +1,5 @@
 pub mod Counting
 pub mod ExactId
 pub mod Low
+pub mod Prelude
 pub mod Stored

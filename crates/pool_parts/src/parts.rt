@@ -2,10 +2,7 @@
 
 ghost use Rattle.std.specs.Prelude.{map};
 ghost use Rattle.csp_base.specs.Lists.{greatest, total};
-ghost use Rattle.csp_program.specs.Depth.{expr_depth, field_depth, gen_depth, pair_depth};
-ghost use Rattle.csp_program.specs.Free.{any_of, before, expr_free, gen_binding, head_free, nowhere, pair_free, under};
-ghost use Rattle.csp_program.specs.Size.{expr_size, field_size, gen_size, pair_size};
-ghost use Rattle.csp_program.specs.Substitution.{expr_with, fields_with, gens_with, head_with};
+ghost use Rattle.csp_program.specs.Prelude.{expr_depth, field_depth, gen_depth, pair_depth, any_of, before, expr_free, gen_binding, head_free, nowhere, pair_free, under, expr_size, field_size, gen_size, pair_size, expr_with, fields_with, gens_with, head_with};
 ghost use Rattle.substitution.proofs.Stays.{expr_stays, exprs_stay, fields_stay, gens_stay, head_stays};
 
 use crate::measure::{Measure, nothing};

@@ -1,19 +1,12 @@
 -- The line of an annotation is found as its token.
 use Rattle.std.proofs.Common.{◌≡◌, ℕ, suc, ◌+◌, ◌<◌, Bool, true, false, List, [], ◌∷◌, ◌++◌, length, take, drop, codes, refl, ap, ◌∙◌, length-append, arith}
-use Rattle.std.proofs.lemmas.Bool.{cond-true, cond-false, false≢true, not-true, and_from}
-use Rattle.std.proofs.lemmas.List.Folds.{list_all-append}
-use Rattle.std.proofs.Math.Seq.{take-append_seam, drop-append_seam}
+use Rattle.csp_base.proofs.Standard.{cond-true, cond-false, false≢true, not-true, and_from, list_all-append, take-append_seam, drop-append_seam}
 use Rattle.std.specs.Prelude.{Some, None, cond, nat_eq, nat_lt, not}
 use Rattle.std.specs.List.{filter, list_all, onto_first, prefix_len, slice_split}
 use Rattle.csp_base.specs.declared.place.Place.{Place}
 use Rattle.csp_text.specs.declared.token.Token.TheVariants as token
-use Rattle.csp_text.specs.declared.token.ResourceNames.{ResourceNames}
-use Rattle.csp_text.specs.declared.token.RolesNames.{RolesNames}
-use Rattle.csp_lexer.specs.Annotations.{is_space, line_comment, line_piece, marked_piece, resource, roles, words_of}
-use Rattle.csp_lexer.specs.Comments.{line_len}
-use Rattle.csp_lexer.specs.Front.{front}
-use Rattle.csp_lexer.specs.Pieces.{one, one_before}
-use Rattle.csp_lexer.specs.Words.{is_foreign, is_name, reserved_word, word_len, word_rest_len}
+use Rattle.csp_text.specs.Prelude.{ResourceNames, RolesNames}
+use Rattle.csp_lexer.specs.Prelude.{is_space, line_comment, line_piece, marked_piece, resource, roles, words_of, line_len, front, one, one_before, is_foreign, is_name, reserved_word, word_len, word_rest_len}
 use Rattle.script_printer.specs.TokenText.{spaced_names, token_text}
 use Rattle.print_laws.specs.Fits.{AreResource, AreRoles, IsName}
 use Rattle.print_laws.proofs.Cuts.{Stands}

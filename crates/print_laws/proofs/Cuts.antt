@@ -4,10 +4,7 @@ use Rattle.std.proofs.lemmas.List.{map-append}
 use Rattle.std.specs.Prelude.{Option, Some, Result, Ok}
 use Rattle.csp_base.specs.declared.place.Place.{Place}
 use Rattle.csp_text.specs.declared.token.Token.{Token}
-use Rattle.csp_lexer.specs.Cutting.{added, before, cut, then_cut}
-use Rattle.csp_lexer.specs.Pieces.{Piece}
-use Rattle.csp_lexer.specs.Placed.{PlacedTokens, tokens_of}
-use Rattle.csp_lexer.specs.Places.{behind_all}
+use Rattle.csp_lexer.specs.Prelude.{added, before, cut, then_cut, Piece, PlacedTokens, tokens_of, behind_all}
 
 -- the cut gives these tokens
 pub record IsCut (result : Result PlacedTokens Place) (tokens : List Token) : Type 0 where

@@ -1,26 +1,14 @@
 -- The tokens that the lexer finds are well formed, and stand in lines.
 use Rattle.std.proofs.Common.{◌≡◌, ℕ, zero, suc, Bool, true, false, List, [], ◌∷◌, ◌++◌, length, take, drop, codes, refl, sym, ◌∙◌, subst}
-use Rattle.std.proofs.lemmas.Bool.{and_parts, false≢true}
-use Rattle.std.proofs.lemmas.List.{map-append}
+use Rattle.csp_base.proofs.Standard.{and_parts, false≢true, map-append}
 use Rattle.std.specs.Prelude.{Option, Some, None, Result, Ok, Err, nat_eq, if◌then◌else◌, slice_index}
-use Rattle.std.specs.List.{starts_with}
-use Rattle.std.specs.Option.{option_map_or}
-use Rattle.std.specs.Str.{bytes_eq}
+use Rattle.csp_base.specs.Standard.{starts_with, option_map_or, bytes_eq}
 use Rattle.csp_base.specs.declared.place.Place.{Place}
 use Rattle.csp_text.specs.declared.token.Token.{Token}
 use Rattle.csp_text.specs.declared.token.Token.TheVariants as token
 use Rattle.csp_text.specs.declared.token.Word.TheVariants as word
 use Rattle.csp_text.specs.declared.token.Symbol.TheVariants as symbol
-use Rattle.csp_lexer.specs.Annotations.{is_space, line_comment, line_piece, marked_piece, resource, roles, words_of}
-use Rattle.csp_lexer.specs.Assertions.{after_arguments, after_call, after_closing, asserted, assertion, cut_line, is_closed, is_deadlock_assertion, is_deadlock_free, line_front, rest_len}
-use Rattle.csp_lexer.specs.Comments.{after_comments, line_len}
-use Rattle.csp_lexer.specs.Cutting.{added, before, cut, then_cut}
-use Rattle.csp_lexer.specs.Front.{begins_assertion, front, is_blank, assertion_or_token}
-use Rattle.csp_lexer.specs.Lexed.{lexed}
-use Rattle.csp_lexer.specs.Pieces.{Piece, nothing, nothing_before, one_at, one_before}
-use Rattle.csp_lexer.specs.Placed.{PlacedTokens, tokens_of}
-use Rattle.csp_lexer.specs.Places.{beginning, behind_all}
-use Rattle.csp_lexer.specs.Tokens.{token_at}
+use Rattle.csp_lexer.specs.Prelude.{is_space, line_comment, line_piece, marked_piece, resource, roles, words_of, after_arguments, after_call, after_closing, asserted, assertion, cut_line, is_closed, is_deadlock_assertion, is_deadlock_free, line_front, rest_len, after_comments, line_len, added, before, cut, then_cut, begins_assertion, front, is_blank, assertion_or_token, lexed, Piece, nothing, nothing_before, one_at, one_before, PlacedTokens, tokens_of, beginning, behind_all, token_at}
 use Rattle.print_laws.specs.Fits.{Every, Fits, FitsLine}
 use Rattle.print_laws.specs.Lines.{Lines, is_assert}
 use Rattle.print_laws.specs.Lines as position

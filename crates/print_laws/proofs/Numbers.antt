@@ -1,23 +1,11 @@
 -- Numbers before a byte that is no digit.
 use Rattle.std.proofs.Common.{◌≡◌, ℕ, ◌+◌, ◌-◌, ◌*◌, ◌≤◌, ◌<◌, Bool, true, false, List, [], ◌∷◌, ◌++◌, length, take, codes, refl, ap, ◌∙◌, arith}
-use Rattle.std.proofs.lemmas.Bool.{cond-true, cond-false, and_left}
-use Rattle.std.proofs.lemmas.Fmt.{decimal_is_IsNumeral}
-use Rattle.std.proofs.lemmas.Str.{digit_value_digit}
-use Rattle.std.proofs.lemmas.Str.Parse.{digit_from_value}
-use Rattle.std.proofs.Math.Seq.{take-append_seam, drop-append_seam}
-use Rattle.std.specs.Char.{digit_value}
+use Rattle.csp_base.proofs.Standard.{cond-true, cond-false, and_left, decimal_is_IsNumeral, digit_value_digit, digit_from_value, take-append_seam, drop-append_seam}
+use Rattle.csp_base.specs.Standard.{digit_value, AllDigits, digits_value_after, bytes_eq, list_all, prefix_len}
 use Rattle.std.specs.Prelude.{Some, nat_eq, nat_lt, nat_le, decimal}
-use Rattle.std.specs.Str.Parse.{AllDigits, digits_value_after}
-use Rattle.std.specs.Str.{bytes_eq}
-use Rattle.std.specs.List.{list_all, prefix_len}
 use Rattle.csp_base.specs.declared.place.Place.{Place}
 use Rattle.csp_text.specs.declared.token.Token.TheVariants as token
-use Rattle.csp_lexer.specs.Annotations.{is_space}
-use Rattle.csp_lexer.specs.Assertions.{line_front}
-use Rattle.csp_lexer.specs.Tokens.{continued, digits_len, is_digit, number_token, token_at, with_len}
-use Rattle.csp_lexer.specs.Words.{is_letter, word_len}
-use Rattle.csp_lexer.specs.Front.{begins_assertion, front, is_blank}
-use Rattle.csp_lexer.specs.Pieces.{one, one_at}
+use Rattle.csp_lexer.specs.Prelude.{is_space, line_front, continued, digits_len, is_digit, number_token, token_at, with_len, is_letter, word_len, begins_assertion, front, is_blank, one, one_at}
 use Rattle.print_laws.proofs.Names.{prefix_stops}
 use Rattle.csp_base.proofs.Booleans.{and_first, and_second}
 

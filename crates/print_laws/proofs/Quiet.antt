@@ -3,16 +3,12 @@ use Rattle.std.proofs.Common.{◌≡◌, ℕ, suc, ◌+◌, ◌≤◌, Bool, tru
 use Rattle.std.proofs.lemmas.Bool.{cond-true, cond-false, and_left}
 use Rattle.std.specs.Prelude.{decimal, nat_eq, not, cond}
 use Rattle.std.specs.List.{list_all, prefix_len}
-use Rattle.csp_text.specs.declared.token.Token.{Token}
-use Rattle.csp_text.specs.declared.token.Token.TheVariants as token
+use Rattle.csp_text.specs.Prelude.{Token, Symbol, symbol_text, word_text}
 use Rattle.csp_text.specs.declared.token.Word.{Word}
+use Rattle.csp_text.specs.declared.token.Token.TheVariants as token
 use Rattle.csp_text.specs.declared.token.Word.TheVariants as word
-use Rattle.csp_text.specs.declared.token.Symbol.{Symbol}
 use Rattle.csp_text.specs.declared.token.Symbol.TheVariants as symbol
-use Rattle.csp_text.specs.Written.{symbol_text, word_text}
-use Rattle.csp_lexer.specs.Assertions.{ends_line, rest_len}
-use Rattle.csp_lexer.specs.Words.{is_letter, is_name_byte, is_prime, word_len, word_rest_len}
-use Rattle.csp_lexer.specs.Tokens.{is_digit}
+use Rattle.csp_lexer.specs.Prelude.{ends_line, rest_len, is_letter, is_name_byte, is_prime, word_len, word_rest_len, is_digit}
 use Rattle.script_printer.specs.TokenText.{token_text}
 use Rattle.print_laws.specs.Fits.{FitsLine, IsName}
 use Rattle.print_laws.proofs.Names.{begins_with_letter, name_parts}

@@ -2,16 +2,11 @@
 use Rattle.std.proofs.Common.{◌≡◌, ℕ, zero, suc, false, List, ◌∷◌, length, refl, sym, subst, arith}
 use Rattle.std.specs.Prelude.{Ok, Result, if◌then◌else◌}
 use Rattle.csp_base.specs.declared.place.Place.{Place}
-use Rattle.csp_text.specs.declared.token.Token.{Token}
+use Rattle.csp_text.specs.Prelude.{Token, Script, Decl}
 use Rattle.csp_text.specs.declared.token.Token.TheVariants as token
 use Rattle.csp_text.specs.declared.token.Word.TheVariants as word
 use Rattle.csp_text.specs.declared.token.Symbol.TheVariants as symbol
-use Rattle.csp_text.specs.declared.script.Script.{Script}
-use Rattle.csp_text.specs.declared.script.Decl.{Decl}
-use Rattle.csp_lexer.specs.Front.{front}
-use Rattle.csp_lexer.specs.Lexed.{lexed}
-use Rattle.csp_lexer.specs.Placed.{PlacedTokens, tokens_of}
-use Rattle.csp_lexer.specs.Places.{beginning}
+use Rattle.csp_lexer.specs.Prelude.{front, lexed, PlacedTokens, tokens_of, beginning}
 use Rattle.csp_grammar.specs.Declarations.{DeclarationsText, ScriptText}
 use Rattle.tree_reading.proofs.Unique.{one_script}
 use Rattle.script_printer.specs.PrintedScript.{script_text}

@@ -4,15 +4,9 @@ use Rattle.std.proofs.lemmas.Bool.{false≢true}
 use Rattle.std.specs.Prelude.{Some}
 use Rattle.csp_base.specs.declared.place.Place.{Place}
 use Rattle.csp_text.specs.declared.token.Token.TheVariants as token
-use Rattle.csp_text.specs.declared.token.Symbol.{Symbol}
+use Rattle.csp_text.specs.Prelude.{Symbol, symbol_text}
 use Rattle.csp_text.specs.declared.token.Symbol.TheVariants as symbol
-use Rattle.csp_text.specs.Written.{symbol_text}
-use Rattle.csp_lexer.specs.Assertions.{line_front}
-use Rattle.csp_lexer.specs.Front.{front, begins_assertion}
-use Rattle.csp_lexer.specs.Pieces.{one}
-use Rattle.csp_lexer.specs.Symbols.{longest_symbol, symbol_at}
-use Rattle.csp_lexer.specs.Tokens.{digits_len, token_at}
-use Rattle.csp_lexer.specs.Words.{word_len}
+use Rattle.csp_lexer.specs.Prelude.{line_front, front, begins_assertion, one, longest_symbol, symbol_at, digits_len, token_at, word_len}
 use Rattle.print_laws.specs.Fits.{is_single}
 
 pub symbol_before_space : (s : Symbol) (at : Place) (r : List ℕ) → front at (symbol_text s ++ 32 ∷ r) ≡ Some (one (token.Symbol s) at (32 ∷ r))

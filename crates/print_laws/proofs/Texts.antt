@@ -1,21 +1,13 @@
 -- Each tree that the grammar has is spelled by its printed tokens.
 use Rattle.std.proofs.Common.{ℕ, suc, ◌*◌, ◌≤◌, ◌<◌, Bool, true, Some, None, List, [], ◌∷◌, ◌++◌, length, map, refl, sym, ◌∙◌, subst, arith}
 use Rattle.std.specs.Prelude.{flat_map}
-use Rattle.csp_text.specs.Depth.{field_depth, gen_depth, part_depth, tree_depth}
-use Rattle.csp_text.specs.declared.token.Token.{Token}
-use Rattle.csp_text.specs.declared.token.Token.TheVariants.{Name, Symbol}
-use Rattle.csp_text.specs.declared.token.Symbol.TheVariants.{ExternalChoice, InternalChoice, Comma}
-use Rattle.csp_text.specs.declared.tree.Tree.{Tree}
+use Rattle.csp_text.specs.Prelude.{field_depth, gen_depth, part_depth, tree_depth, Token, Name, ExternalChoice, InternalChoice, Comma, Tree, PartTree, FieldTree, GenTree}
+use Rattle.csp_text.specs.declared.token.Token.TheVariants.{Symbol}
 use Rattle.csp_text.specs.declared.tree.Tree.TheVariants as tree
-use Rattle.csp_text.specs.declared.tree.PartTree.{PartTree}
-use Rattle.csp_text.specs.declared.tree.FieldTree.{FieldTree}
 use Rattle.csp_text.specs.declared.tree.FieldTree.TheVariants as field
-use Rattle.csp_text.specs.declared.tree.GenTree.{GenTree}
 use Rattle.csp_text.specs.declared.tree.GenTree.TheVariants as generator
-use Rattle.csp_grammar.specs.Grammar.{Choice, choice_sign, choice_of, event_tree, part_tree, TreeText, ChoiceText, DottedText, DotsText, FieldsText, PairsText, PartText, PartsText, ConditionsText, GensText, GenText, ItemsText}
+use Rattle.csp_grammar.specs.Prelude.{Choice, choice_sign, choice_of, event_tree, part_tree, TreeText, ChoiceText, DottedText, DotsText, FieldsText, PairsText, PartText, PartsText, ConditionsText, GensText, GenText, ItemsText, closed, disjunction, negation, sum, minus, renaming}
 use Rattle.csp_grammar.specs.Grammar as g
-use Rattle.csp_grammar.specs.Grammar.Reach.{closed}
-use Rattle.csp_grammar.specs.Precedence.Level.{disjunction, negation, sum, minus, renaming}
 use Rattle.script_printer.specs.PrintedTree.{conditions, dotted, field_tokens, gen_tokens, item_tokens, operand_tokens, part_tokens, renamed_tokens, separated}
 use Rattle.print_laws.specs.Made.{MadeTree, MadeTrees, MadeDots, MadeFields, MadePart, MadeParts, MadePairs, MadeGen, MadeGens, MadeConditions}
 use Rattle.print_laws.specs.Made as m

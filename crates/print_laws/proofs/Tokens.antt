@@ -2,18 +2,12 @@
 use Rattle.std.proofs.Common.{◌≡◌, ℕ, ◌<◌, true, List, [], ◌∷◌, ◌++◌, length, refl, sym, ◌∙◌, subst, append_assoc, length-append, lit<, arith}
 use Rattle.std.specs.Prelude.{Option, Some, decimal, nat_lt}
 use Rattle.csp_base.specs.declared.place.Place.{Place}
-use Rattle.csp_text.specs.declared.token.Token.{Token}
-use Rattle.csp_text.specs.declared.token.Token.TheVariants as token
+use Rattle.csp_text.specs.Prelude.{Token, symbol_text, word_text}
 use Rattle.csp_text.specs.declared.token.Word.{Word}
+use Rattle.csp_text.specs.declared.token.Token.TheVariants as token
 use Rattle.csp_text.specs.declared.token.Word.TheVariants as word
 use Rattle.csp_text.specs.declared.token.Symbol.TheVariants as symbol
-use Rattle.csp_text.specs.Written.{symbol_text, word_text}
-use Rattle.csp_lexer.specs.Assertions.{line_front}
-use Rattle.csp_lexer.specs.Front.{front}
-use Rattle.csp_lexer.specs.Pieces.{Piece, nothing, one}
-use Rattle.csp_lexer.specs.Symbols.{longest_symbol, symbol_at}
-use Rattle.csp_lexer.specs.Tokens.{digits_len, token_at}
-use Rattle.csp_lexer.specs.Words.{word_len}
+use Rattle.csp_lexer.specs.Prelude.{line_front, front, Piece, nothing, one, longest_symbol, symbol_at, digits_len, token_at, word_len}
 use Rattle.script_printer.specs.TokenText.{line, row, spaced, token_text}
 use Rattle.print_laws.specs.Fits.{Every, FitsLine}
 use Rattle.print_laws.proofs.Plain.{Plain}

@@ -7,12 +7,8 @@ use Rattle.csp_text.specs.declared.token.Token.TheVariants as token
 use Rattle.csp_text.specs.declared.token.Word.{Word}
 use Rattle.csp_text.specs.declared.token.Word.TheVariants as word
 use Rattle.csp_text.specs.Written.{word_text}
-use Rattle.csp_lexer.specs.Assertions.{line_front}
-use Rattle.csp_lexer.specs.Front.{front, begins_assertion}
-use Rattle.csp_lexer.specs.Pieces.{one}
-use Rattle.csp_lexer.specs.Tokens.{token_at}
+use Rattle.csp_lexer.specs.Prelude.{line_front, front, begins_assertion, one, token_at, reserved_word, word_len, word_rest_len}
 use Rattle.print_laws.specs.Fits.{is_common}
-use Rattle.csp_lexer.specs.Words.{reserved_word, word_len, word_rest_len}
 
 pub word_before_space : (w : Word) (at : Place) (r : List ℕ) → is_common w ≡ true → front at (word_text w ++ 32 ∷ r) ≡ Some (one (token.Word w) at (32 ∷ r))
 unfolding front begins_assertion token_at word_len word_rest_len reserved_word

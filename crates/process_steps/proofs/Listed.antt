@@ -1,6 +1,5 @@
 -- The laws of lists of steps.
-use Rattle.process_steps.specs.Laws.{ListsAreSteps, ListsAreThere}
-use Rattle.process_steps.specs.StepList.{steps_of}
+use Rattle.process_steps.specs.Prelude.{ListsAreSteps, ListsAreThere, steps_of}
 use Rattle.process_steps.proofs.Chains.{if_of, the_value}
 use Rattle.process_steps.proofs.Complete.{lists, there}
 use Rattle.process_steps.proofs.Members.{at_place, placed}

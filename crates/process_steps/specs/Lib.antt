@@ -3,6 +3,7 @@ pub mod LacksNone
 pub mod Laws
 pub mod Needed
 pub mod Prefix
+pub mod Prelude
 pub mod Renaming
 pub mod Step
 pub mod StepList

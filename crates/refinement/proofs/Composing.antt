@@ -3,14 +3,7 @@
 use Rattle.std.proofs.Common.{◌≡◌, ℕ, inl, inr, List, [], ◌∷◌, ◌++◌, true, IsTrue, MatchBool, refl, sym, ap, ap₂, subst, ◌∙◌}
 use Rattle.std.proofs.lemmas.Bool.{cases_Bool, cond-true, cond-false}
 use Rattle.csp_base.specs.Members.{has}
-use Rattle.csp_tables.specs.Label.{Label}
-use Rattle.csp_tables.specs.Label.Label.{silent, visible}
-use Rattle.csp_tables.specs.Path.{Path}
-use Rattle.csp_tables.specs.Network.{Component, ComponentStep, NetworkStep, Tree, leaves}
-use Rattle.csp_tables.specs.Flat.{in_some_component, AllTakePart, FlatStep}
-use Rattle.csp_tables.specs.Part.{project}
-use Rattle.csp_tables.specs.Trace.{visible_events, After}
-use Rattle.csp_tables.specs.WellNested.{WellNested}
+use Rattle.csp_tables.specs.Prelude.{Label, silent, visible, Path, Component, ComponentStep, NetworkStep, Tree, leaves, in_some_component, AllTakePart, FlatStep, project, visible_events, After, WellNested}
 use Rattle.net_sound.proofs.FlatLists.{alphabets, flat_alphabets, match_true, match_false, same_some, step_alphabet}
 use Rattle.net_sound.proofs.Flattening.{back, kept}
 use Rattle.net_sound.proofs.Local.{AllAfter}

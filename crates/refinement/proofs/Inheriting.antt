@@ -2,15 +2,7 @@
 use Rattle.std.proofs.Common.{◌≡◌, ℕ, inl, inr, List, [], ◌∷◌, ◌||◌, IsTrue, MatchBool, get_or, true, false, refl, sym, ap, ap₂, subst, ◌∙◌}
 use Rattle.std.proofs.lemmas.Option.{get_or_from_slice_get, slice_get_within}
 use Rattle.csp_base.specs.Members.{has}
-use Rattle.csp_tables.specs.Label.{Label}
-use Rattle.csp_tables.specs.Label.Label.{silent, visible}
-use Rattle.csp_tables.specs.Path.{Path, Stable}
-use Rattle.csp_tables.specs.Network.{Component, ComponentStep, NetworkStep, leaves}
-use Rattle.csp_tables.specs.Flat.{in_some_component, OneMoves, AllTakePart}
-use Rattle.csp_tables.specs.Part.{Part, project}
-use Rattle.csp_tables.specs.ShapeOf.{ArePartsOf, IsPartOf}
-use Rattle.csp_tables.specs.Table.{acceptances_after}
-use Rattle.csp_tables.specs.Trace.{visible_events, After, IsAcceptance, Offers}
+use Rattle.csp_tables.specs.Prelude.{Label, silent, visible, Path, Stable, Component, ComponentStep, NetworkStep, leaves, in_some_component, OneMoves, AllTakePart, Part, project, ArePartsOf, IsPartOf, acceptances_after, visible_events, After, IsAcceptance, Offers}
 use Rattle.net_sound.proofs.FlatLists.{alphabets, by_test, match_true, match_false, step_alphabet}
 use Rattle.net_sound.proofs.Flattening.{back, forth}
 use Rattle.net_sound.proofs.Local.{AllAfter, all_after, run_forth, run_kept}

@@ -1,9 +1,7 @@
 -- When a component conforms to another one, its specification (Roscoe 1997, chapters 3 and 7: refinement in the failures model, said
 -- by minimal acceptances): it does nothing that the other can't do, and wherever it comes to rest it offers enough.
 use Rattle.std.specs.Prelude.{◌≡◌, ℕ, List, [], ◌∷◌}
-use Rattle.csp_tables.specs.Label.{Label}
-use Rattle.csp_tables.specs.Network.{Component, ComponentStep}
-use Rattle.csp_tables.specs.Trace.{IsAcceptance, IsTrace, IsWithin}
+use Rattle.csp_tables.specs.Prelude.{Label, Component, ComponentStep, IsAcceptance, IsTrace, IsWithin}
 
 -- after the list s the system d has an acceptance within M
 pub record AcceptsWithin {S : Type 0} (Step : S → Label → S → Type 0) (d : S) (s M : List ℕ) : Type 0 where

@@ -5,13 +5,7 @@
 -- states of all specifications are reached together: by the same events, with silent steps between. That state of the specified network is stable, so
 -- it has an event. Each component that has this event in its alphabet offers it too. That silent steps are bounded is the network's own.
 use Rattle.std.specs.Prelude.{ℕ, List}
-use Rattle.csp_tables.specs.Label.{Label}
-use Rattle.csp_tables.specs.Live.{Live}
-use Rattle.csp_tables.specs.Network.{NetworkStep, Tree, leaves}
-use Rattle.csp_tables.specs.Part.{Part}
-use Rattle.csp_tables.specs.ShapeOf.{ArePartsOf}
-use Rattle.csp_tables.specs.SilentBound.{IsSilentBound}
-use Rattle.csp_tables.specs.WellNested.{WellNested}
+use Rattle.csp_tables.specs.Prelude.{Label, Live, NetworkStep, Tree, leaves, Part, ArePartsOf, IsSilentBound, WellNested}
 use Rattle.refinement.specs.Conforms.{AllConform}
 
 -- (The components have normal tables: so each stable state offers an acceptance whole.)

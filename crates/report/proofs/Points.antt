@@ -2,17 +2,9 @@
 use Rattle.std.proofs.Common.{◌≡◌, Result, Ok, Err, refl, sym, subst}
 use Rattle.std.specs.Result.{IsErrAnd}
 use Rattle.std.proofs.lemmas.Result.{err_from_is_err_and}
-use Rattle.report.specs.Points.{Point, RefusedOr, UnprovedOr}
-use Rattle.report.specs.Points.Point.{passed, told}
-use Rattle.csp_base.specs.Stops.{Tells}
-use Rattle.report.specs.Stops.{Answers, refused, unproved}
-use Rattle.report.specs.declared.answer.Done.{Done}
-use Rattle.report.specs.declared.answer.Refusal.{Refusal}
-use Rattle.report.specs.declared.answer.Shortfall.{Shortfall}
-use Rattle.report.specs.declared.answer.Side.{Side}
-use Rattle.report.specs.declared.answer.Verdict.{Verdict}
+use Rattle.report.specs.Prelude.{Point, RefusedOr, UnprovedOr, passed, told, Answers, refused, unproved, Done, Refusal, Shortfall, Side, Verdict}
+use Rattle.csp_base.specs.Prelude.{Tells, Stop}
 use Rattle.report.specs.declared.answer.Verdict.TheVariants as verdict
-use Rattle.csp_base.specs.declared.stop.Stop.{Stop}
 use Rattle.csp_base.specs.declared.stop.Stop.TheVariants as stop
 
 -- what is told says less

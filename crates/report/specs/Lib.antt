@@ -7,3 +7,4 @@ pub mod Sides
 pub mod Report
 pub mod Points
 pub mod Stops
+pub mod Prelude

@@ -1,7 +1,6 @@
 -- How lists, sets and traces are printed.
 use Rattle.std.specs.Prelude.{ℕ, List, [], ◌∷◌, ◌++◌, codes}
-use Rattle.std.specs.List.{flat_map}
-use Rattle.std.specs.Fmt.{decimal}
+use Rattle.csp_base.specs.Standard.{flat_map, decimal}
 use Rattle.csp_program.specs.declared.programs.Content.{Content}
 use Rattle.report.specs.EventText.{event_text}
 

@@ -1,11 +1,8 @@
 -- The printed report of each answer, and the exit status.
 use Rattle.std.specs.Prelude.{ℕ, ℤ, ◌+◌, List, [], ◌∷◌, ◌++◌, codes, length}
-use Rattle.std.specs.List.{flat_map}
-use Rattle.std.specs.Fmt.{decimal, signed_decimal}
+use Rattle.csp_base.specs.Standard.{flat_map, decimal, signed_decimal}
 use Rattle.csp_program.specs.declared.programs.Content.{Content}
-use Rattle.csp_tables.specs.Table.{Node}
-use Rattle.csp_tables.specs.declared.rule.Rule.{Rule}
-use Rattle.csp_tables.specs.declared.rule.Rule.TheVariants.{Cyclic, ClientServer, Resource}
+use Rattle.csp_tables.specs.Prelude.{Node, Rule, Cyclic, ClientServer, Resource}
 use Rattle.numbered_walks.specs.declared.moves.Move.{Move}
 use Rattle.numbered_walks.specs.declared.moves.Move.TheVariants as moves
 use Rattle.report.specs.EventText.{event_text}

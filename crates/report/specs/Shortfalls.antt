@@ -1,10 +1,8 @@
 -- The lines of each reason why a network is not proved.
 use Rattle.std.specs.Prelude.{ℕ, List, ◌++◌, codes}
-use Rattle.std.specs.List.{flat_map}
-use Rattle.std.specs.Fmt.{decimal}
+use Rattle.csp_base.specs.Standard.{flat_map, decimal}
 use Rattle.csp_program.specs.declared.programs.Content.{Content}
-use Rattle.design_rules.specs.declared.condition.Condition.{Condition}
-use Rattle.design_rules.specs.declared.condition.Condition.TheVariants.{Roles, Clients, Turns, Service, Answers, Kinds, Holders, Grants, Uses}
+use Rattle.design_rules.specs.Prelude.{Condition, Roles, Clients, Turns, Service, Answers, Kinds, Holders, Grants, Uses}
 use Rattle.report.specs.EventText.{event_text}
 use Rattle.report.specs.Lines.{trace_text, numbers_text}
 use Rattle.report.specs.declared.answer.Shortfall.{Shortfall}

@@ -1,8 +1,7 @@
 //! The printed report of a run.
 
 ghost use Rattle.std.specs.Prelude.{◌≡◌, ◌++◌, IfOk, OnOk, codes};
-ghost use Rattle.std.specs.List.{flat_map};
-ghost use Rattle.std.specs.Fmt.{decimal};
+ghost use Rattle.csp_base.specs.Standard.{flat_map, decimal};
 ghost use Rattle.csp_base.specs.Texts.{line};
 ghost use Rattle.report.specs.Report.{move_text, run_text};
 

@@ -1,8 +1,7 @@
 //! The lines that tell why a network is not proved.
 
 ghost use Rattle.std.specs.Prelude.{◌≡◌, ◌++◌, OnOk, codes};
-ghost use Rattle.std.specs.List.{flat_map};
-ghost use Rattle.std.specs.Fmt.{decimal};
+ghost use Rattle.csp_base.specs.Standard.{flat_map, decimal};
 ghost use Rattle.csp_base.specs.Texts.{line};
 ghost use Rattle.report.specs.Shortfalls.{after_text, condition_name, condition_number, link_text, shortfall_text};
 

@@ -1,8 +1,7 @@
 //! The printed table of a component.
 
 ghost use Rattle.std.specs.Prelude.{◌≡◌, ◌++◌, IfOk, OnOk, codes};
-ghost use Rattle.std.specs.List.{flat_map};
-ghost use Rattle.std.specs.Fmt.{decimal};
+ghost use Rattle.csp_base.specs.Standard.{flat_map, decimal};
 ghost use Rattle.csp_base.specs.Texts.{line};
 ghost use Rattle.report.specs.Report.{accept_text, next_text, node_text, nodes_text, table_text};
 

@@ -1,34 +1,19 @@
 -- What typed declarations put into a program is in order, closed, and binds each number once.
 use Rattle.std.proofs.Common.{◌≡◌, ℕ, zero, suc, ◌+◌, ◌≤◌, Bool, true, false, nat_eq, nat_lt, IsTrue, Option, Some, None, List, [], ◌∷◌, ◌++◌, length, map, refl, sym, ◌∙◌, ap, subst, arith}
 use Rattle.std.specs.Prelude.{slice_get}
-use Rattle.std.proofs.lemmas.Bool.{false≢true, eqb-true, false_from_ne_true, lt-ltb}
-use Rattle.std.proofs.lemmas.List.{length-append}
+use Rattle.csp_base.proofs.Standard.{false≢true, eqb-true, false_from_ne_true, lt-ltb, length-append}
 use Rattle.csp_base.proofs.Booleans.{is_or_first, is_or_second}
-use Rattle.csp_base.specs.Lists.{EachOnce}
-use Rattle.csp_base.specs.Members.{has}
+use Rattle.csp_base.specs.Prelude.{EachOnce, has}
 use Rattle.csp_program.proofs.Forms.{Every}
-use Rattle.csp_program.specs.Bound.{body_bound, def_bound, exprs_bound}
-use Rattle.csp_program.specs.Free.{Names, IsClosed, any_of, expr_free}
-use Rattle.csp_program.specs.InOrder.{AllClosed, IsClosedBody, body_free, body_in_order, def_in_order, expr_in_order, is_component, is_datum, is_process, note_fits, param_count, resource_in_order, roles_in_order, set_fits, takes}
+use Rattle.csp_program.specs.Prelude.{body_bound, def_bound, exprs_bound, Names, IsClosed, any_of, expr_free, AllClosed, IsClosedBody, body_free, body_in_order, def_in_order, expr_in_order, is_component, is_datum, is_process, note_fits, param_count, resource_in_order, roles_in_order, set_fits, takes, all_true, body_uses, Expr, Body, Channel, Content, Def}
 use Rattle.csp_program.specs.InOrder as order
-use Rattle.csp_program.specs.Lists.{all_true}
-use Rattle.csp_program.specs.Uses.{body_uses}
 use Rattle.csp_atoms.specs.declared.atom.Atom.{Atom}
-use Rattle.csp_program.specs.declared.expressions.Expr.{Expr}
-use Rattle.csp_program.specs.declared.programs.Body.{Body}
 use Rattle.csp_program.specs.declared.programs.Body.TheVariants as body
-use Rattle.csp_program.specs.declared.programs.Channel.{Channel}
-use Rattle.csp_program.specs.declared.programs.Content.{Content}
-use Rattle.csp_program.specs.declared.programs.Def.{Def}
 use Rattle.csp_text.specs.declared.script.Decl.{Decl}
 use Rattle.script_names.specs.declared.kinds.Class.TheVariants as class
 use Rattle.script_names.specs.declared.kinds.Entity.TheVariants as entity
-use Rattle.script_names.specs.declared.kinds.Kind.{Kind}
-use Rattle.script_names.specs.DataDepth.{IsShallow}
-use Rattle.script_names.specs.Declaring.{Declares, IsAnnotated, IsEventSet, channels_of_types}
+use Rattle.script_names.specs.Prelude.{Kind, IsShallow, Declares, IsAnnotated, IsEventSet, channels_of_types, Counts, Meanings, Name, numbers_from, parameters}
 use Rattle.script_names.specs.Declaring as d
-use Rattle.script_names.specs.Names.{Counts, Meanings, Name}
-use Rattle.script_names.specs.Scopes.{numbers_from, parameters}
 use Rattle.resolved_laws.proofs.Booleans.{and, two}
 use Rattle.resolved_laws.proofs.Declared.{Fits}
 use Rattle.resolved_laws.proofs.InTurn.{InTurn, Rises, each_once, joins, none}

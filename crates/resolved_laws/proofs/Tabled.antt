@@ -3,20 +3,9 @@ use Rattle.std.proofs.Common.{◌≡◌, ℕ, ◌+◌, ◌<◌, ◌≤◌, ◌^�
 use Rattle.std.specs.Prelude.{if◌then◌else◌, slice_get}
 use Rattle.std.specs.List.{flat_map}
 use Rattle.csp_atoms.specs.declared.atom.Atom.{Atom}
-use Rattle.csp_program.specs.EventNumber.{first_event}
-use Rattle.csp_program.specs.EventTable.{event_table}
-use Rattle.csp_program.specs.InOrder.{IsInOrder}
-use Rattle.csp_program.specs.declared.programs.Channel.{Channel}
-use Rattle.csp_program.specs.declared.programs.Content.{Content}
-use Rattle.csp_text.specs.declared.script.Decl.{Decl}
-use Rattle.csp_text.specs.declared.tree.Tree.{Tree}
-use Rattle.script_names.specs.declared.fault.ResolveFault.{ResolveFault}
-use Rattle.script_names.specs.declared.kinds.Kind.{Kind}
-use Rattle.script_names.specs.Contents.{channels_of, first_assertion, plain_content}
-use Rattle.script_names.specs.Kinds.{AreKinds}
-use Rattle.script_names.specs.Names.{meanings_of}
-use Rattle.script_names.specs.Resolved.{all_events, and_next, channel_sets, types_of, with_events, with_names, with_root, with_sets, with_table}
-use Rattle.script_names.specs.Told.{name_fault}
+use Rattle.csp_program.specs.Prelude.{first_event, event_table, IsInOrder, Channel, Content}
+use Rattle.csp_text.specs.Prelude.{Decl, Tree}
+use Rattle.script_names.specs.Prelude.{ResolveFault, Kind, channels_of, first_assertion, plain_content, AreKinds, meanings_of, all_events, and_next, channel_sets, types_of, with_events, with_names, with_root, with_sets, with_table, name_fault}
 use Rattle.typed_laws.proofs.Back.{any_sets}
 use Rattle.resolved_laws.specs.Laws.{HasFew, ResolvedIsInOrder}
 use Rattle.resolved_laws.proofs.Sets.{HaveSets, IsNext, count_events, firsts_kept, have_all, have_sets, next_ok, ok_same, sets_in_place, sets_same}

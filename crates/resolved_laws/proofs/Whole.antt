@@ -5,25 +5,11 @@ use Rattle.std.specs.List.{flat_map}
 use Rattle.std.proofs.lemmas.Bool.{eq-eqb, false≢true}
 use Rattle.csp_base.specs.Lists.{EachOnce}
 use Rattle.csp_program.proofs.Forms.{Every}
-use Rattle.csp_program.specs.Bound.{def_bound, exprs_bound}
-use Rattle.csp_program.specs.EventNumber.{KeepFirsts, event_count, first_event}
-use Rattle.csp_program.specs.InOrder.{AllClosed, AllClosedBodies, AllClosedTypes, IsEventTable, IsInOrder, channel_in_order, def_in_order, expr_in_order, lacks_sets, sets_in_order, with_fields}
-use Rattle.csp_program.specs.Lists.{all_true}
-use Rattle.csp_program.specs.Uses.{def_uses}
-use Rattle.csp_program.specs.declared.programs.Channel.{Channel}
-use Rattle.csp_program.specs.declared.programs.Content.{Content}
-use Rattle.csp_program.specs.declared.programs.Def.{Def}
-use Rattle.csp_program.specs.declared.programs.EventInfo.{EventInfo}
-use Rattle.csp_text.specs.declared.script.Decl.{Decl}
+use Rattle.csp_program.specs.Prelude.{def_bound, exprs_bound, KeepFirsts, event_count, first_event, AllClosed, AllClosedBodies, AllClosedTypes, IsEventTable, IsInOrder, channel_in_order, def_in_order, expr_in_order, lacks_sets, sets_in_order, with_fields, all_true, def_uses, Channel, Content, Def, EventInfo}
+use Rattle.csp_text.specs.Prelude.{Decl, Tree}
 use Rattle.csp_text.specs.declared.script.Decl.TheVariants as decl
-use Rattle.csp_text.specs.declared.tree.Tree.{Tree}
 use Rattle.dl_limits.specs.declared.TheConstants.{MOST_DATA_DEPTH}
-use Rattle.script_names.specs.declared.kinds.Kind.{Kind}
-use Rattle.script_names.specs.Contents.{channels_of, plain_content}
-use Rattle.script_names.specs.DataDepth.{IsShallow}
-use Rattle.script_names.specs.Kinds.{AreKinds}
-use Rattle.script_names.specs.Names.{Meanings, Name, meanings_of, none_yet}
-use Rattle.script_names.specs.Told.{name_fault}
+use Rattle.script_names.specs.Prelude.{Kind, channels_of, plain_content, IsShallow, AreKinds, Meanings, Name, meanings_of, none_yet, name_fault, Declares}
 use Rattle.resolved_laws.specs.Laws.{PlainIsInOrder}
 use Rattle.resolved_laws.proofs.Booleans.{and, two}
 use Rattle.resolved_laws.proofs.ContentSound.{ChannelSound, DefsSound, Sound, content_sound, nothing_free}
@@ -31,7 +17,6 @@ use Rattle.resolved_laws.proofs.Declared.{Fits}
 use Rattle.resolved_laws.proofs.InTurn.{each_once}
 use Rattle.resolved_laws.proofs.NamesFit.{ChannelsFrom, HoldsFrom, StandsFrom, names_fit}
 use Rattle.resolved_laws.proofs.NoCircle.{none_reaches_itself}
-use Rattle.script_names.specs.Declaring.{Declares}
 use Rattle.typed_laws.proofs.Back.{any_sets, sets_for_any}
 use Rattle.typed_laws.proofs.Declared.{types_of}
 use Rattle.typed_laws.proofs.Programs.{puts}

@@ -5,8 +5,7 @@ use Rattle.std.proofs.lemmas.Bool.{false≢true, or_cases, eq-eqb, eqb-true}
 use Rattle.csp_base.proofs.Booleans.{is_or_first, is_or_second}
 use Rattle.csp_base.specs.Members.{has}
 use Rattle.csp_program.specs.Free.{Names, nowhere, either, apart_from}
-use Rattle.script_names.specs.Names.{Name, same_name}
-use Rattle.script_names.specs.Scopes.{Scope, number_of, or_else, with}
+use Rattle.script_names.specs.Prelude.{Name, same_name, Scope, number_of, or_else, with}
 
 abbrev pub numbers_of : Scope → List ℕ
 numbers_of scope = map (λ b. b.1) scope

@@ -1,28 +1,19 @@
 -- What the state of a resource's holder tells, and the conditions on a resource by tests of its exploration.
 use Rattle.std.proofs.Common.{◌≡◌, ℕ, suc, ◌-◌, ◌<◌, inl, inr, List, [], ◌∷◌, ◌++◌, length, Bool, true, false, not, ◌&&◌, ◌||◌, cond, IsTrue, nat_eq, refl, sym, ap, subst, ◌∙◌, arith, eq-eqb, ne_eqb}
 use Rattle.std.specs.Prelude.{slice_index}
-use Rattle.std.proofs.lemmas.Bool.{cases_Bool, cases_eq, cond-true, cond-false, and_parts, and_from, both_ways, false≢true}
-use Rattle.csp_base.specs.Members.{has}
-use Rattle.csp_base.specs.Events.{is_subset_of, inter_of}
-use Rattle.csp_tables.specs.Table.{Node, node_at, is_possible, IsRun, end_of, acceptances_after}
-use Rattle.csp_tables.specs.Part.{part_at, alphabets_of, TripleDisjoint}
-use Rattle.csp_tables.specs.Trace.{IsWithin}
-use Rattle.csp_tables.specs.Shape.{Shape, link_at, IsWellFormed}
-use Rattle.csp_tables.specs.Standing.{IsPossible, Accepts, accepted}
-use Rattle.csp_tables.specs.Roles.{use_at}
+use Rattle.csp_base.proofs.Standard.{cases_Bool, cases_eq, cond-true, cond-false, and_parts, and_from, both_ways, false≢true, same_Some}
+use Rattle.csp_base.specs.Prelude.{has, is_subset_of, inter_of}
+use Rattle.csp_tables.specs.Prelude.{Node, node_at, is_possible, IsRun, end_of, acceptances_after, part_at, alphabets_of, TripleDisjoint, IsWithin, Shape, link_at, IsWellFormed, IsPossible, Accepts, accepted, use_at}
 use Rattle.net_sound.proofs.Within.{part_form}
 use Rattle.design_rules.specs.Resource.{is_held, IsHolder, IsUsedInTurn, GrantsAll}
 use Rattle.design_rules.proofs.Holders.{last_more, last_same, odd_more, odd_same, one_link}
 use Rattle.design_rules.proofs.Runs.{run_induction, possible_within, end_within}
 use Rattle.design_rules.proofs.Shapes.{some_link, link_shared}
-use Rattle.observed_runs.specs.Observed.{observed, LeadsTo, pair_at}
-use Rattle.observed_runs.specs.Observers.{holder_step}
-use Rattle.observed_runs.specs.Exploration.{IsExploration}
+use Rattle.observed_runs.specs.Prelude.{observed, LeadsTo, pair_at, holder_step, IsExploration}
 use Rattle.shape_links.specs.Setting.{Setting, node_of}
 use Rattle.shape_links.specs.Links.{AreOwners}
 use Rattle.resource_conditions.specs.Tests.{is_turn, are_turns, wanted_in, are_grants}
 use Rattle.resource_conditions.proofs.Sets.{in_both, of_both, all_possible, some_possible, all_at, some_at, either_of, neither_of}
-use Rattle.std.proofs.lemmas.Option.{same_Some}
 use Rattle.observed_runs.proofs.Leading.{observed_push}
 use Rattle.csp_base.proofs.Rising.{member_of_superset, is_subset_of_from_members}
 use Rattle.design_rules.proofs.Accepting.{at_place, each_set}

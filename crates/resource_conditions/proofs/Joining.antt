@@ -1,11 +1,8 @@
 -- Links that join users and resources, and sets that part what a resource shares.
 use Rattle.std.proofs.Common.{◌≡◌, ℕ, ◌+◌, ◌<◌, ◌≤◌, inl, inr, List, length, Bool, true, false, ◌&&◌, ◌||◌, cond, min, MatchBool, refl, sym, subst, ◌∙◌, arith}
 use Rattle.std.proofs.lemmas.Bool.{cases_lt, or_left, or_right, both_ways, false≢true}
-use Rattle.csp_base.specs.Members.{has}
-use Rattle.csp_base.specs.Events.{is_subset_of, meets_of}
-use Rattle.csp_tables.specs.Part.{part_at}
-use Rattle.csp_tables.specs.Shape.{link_at, IsWellFormed}
-use Rattle.csp_tables.specs.Roles.{use_at}
+use Rattle.csp_base.specs.Prelude.{has, is_subset_of, meets_of}
+use Rattle.csp_tables.specs.Prelude.{part_at, link_at, IsWellFormed, use_at}
 use Rattle.design_rules.specs.ResourceFaults.{LacksKind}
 use Rattle.shape_links.specs.Setting.{Setting, KeepKinds}
 use Rattle.resource_conditions.specs.Setting.{HasLinked, HasParted}

@@ -1,10 +1,7 @@
 -- What is searched for, and found or not. (No rule's decider cites this.)
 use Rattle.std.specs.Prelude.{◌≡◌, ◌<◌, ◌≤◌, ℕ, List, Bool, true, false, Option, Some, None, length}
-use Rattle.csp_tables.specs.Part.{part_at}
-use Rattle.csp_tables.specs.Standing.{RunsTo}
-use Rattle.observed_runs.specs.Observed.{pair_at}
-use Rattle.observed_runs.specs.Observers.{holder_step}
-use Rattle.observed_runs.specs.Exploration.{Found, AreFound, IsExploration}
+use Rattle.csp_tables.specs.Prelude.{part_at, RunsTo}
+use Rattle.observed_runs.specs.Prelude.{pair_at, holder_step, Found, AreFound, IsExploration}
 use Rattle.shape_links.specs.Setting.{Setting}
 use Rattle.shape_links.specs.Links.{AreOwners}
 

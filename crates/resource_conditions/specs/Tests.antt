@@ -2,10 +2,8 @@
 -- this.)
 use Rattle.std.specs.Prelude.{◌-◌, ℕ, List, Bool, true, not, ◌&&◌, ◌||◌, nat_eq, if◌then◌else◌}
 use Rattle.std.specs.List.{list_all}
-use Rattle.csp_base.specs.Members.{has}
-use Rattle.csp_base.specs.Events.{is_subset_of, inter_of}
-use Rattle.csp_tables.specs.Roles.{use_at}
-use Rattle.csp_tables.specs.Shape.{link_at}
+use Rattle.csp_base.specs.Prelude.{has, is_subset_of, inter_of}
+use Rattle.csp_tables.specs.Prelude.{use_at, link_at}
 use Rattle.shape_links.specs.Setting.{Setting, node_of}
 
 -- U2: whether an event that is possible in the resource i is in turn, in the state of its holder: 0 where it is free, else

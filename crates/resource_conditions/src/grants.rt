@@ -2,8 +2,7 @@
 
 ghost use Rattle.std.specs.Prelude.{◌≡◌, ◌<◌, ◌-◌, IfErr, IfOk, OnOk, length};
 ghost use Rattle.csp_base.specs.Events.{inter_of};
-ghost use Rattle.csp_tables.specs.Part.{part_at};
-ghost use Rattle.csp_tables.specs.Shape.{link_at};
+ghost use Rattle.csp_tables.specs.Prelude.{part_at, link_at};
 ghost use Rattle.design_rules.specs.Resource.{GrantsAll};
 ghost use Rattle.resource_conditions.specs.Finding.{FindsBroken, FindsRun, HaveNodes, WatchesHolder};
 ghost use Rattle.shape_links.specs.Setting.{IsResourcePart, KeepKinds};

@@ -1,18 +1,11 @@
 -- What a user offers while it holds a resource, and the arcs that this gives.
 use Rattle.std.proofs.Common.{◌≡◌, ℕ, suc, ◌<◌, inl, inr, ◌⊎◌, List, [], ◌∷◌, length, Bool, true, false, ◌&&◌, ◌||◌, cond, nat_eq, refl, sym, subst, ◌∙◌, arith, eq-eqb}
 use Rattle.std.specs.List.{list_any}
-use Rattle.std.proofs.lemmas.Bool.{cases_Bool, cond-true, and_parts, and_from, or_cases, or_left, or_right, eqb-true, false≢true}
-use Rattle.std.proofs.lemmas.List.Folds.{list_any_at}
-use Rattle.csp_base.specs.Members.{has}
-use Rattle.csp_base.specs.Events.{is_subset_of}
-use Rattle.csp_tables.specs.Table.{acceptances_after}
-use Rattle.csp_tables.specs.Part.{part_at}
-use Rattle.csp_tables.specs.Shape.{Joins}
-use Rattle.csp_tables.specs.Standing.{accepted}
-use Rattle.csp_tables.specs.Roles.{use_at}
+use Rattle.csp_base.proofs.Standard.{cases_Bool, cond-true, and_parts, and_from, or_cases, or_left, or_right, eqb-true, false≢true, list_any_at}
+use Rattle.csp_base.specs.Prelude.{has, is_subset_of}
+use Rattle.csp_tables.specs.Prelude.{acceptances_after, part_at, Joins, accepted, use_at}
 use Rattle.design_rules.specs.Resource.{holds, acquires, IsHeldWhile}
-use Rattle.observed_runs.specs.Observed.{pair_at}
-use Rattle.observed_runs.specs.Exploration.{Found}
+use Rattle.observed_runs.specs.Prelude.{pair_at, Found}
 use Rattle.shape_links.specs.Setting.{Setting, IsUser, node_of}
 use Rattle.resource_rule.specs.Uses.{is_offered, is_offered_at, WatchesLink, IsOfferedHolding}
 use Rattle.shape_links.proofs.Acquiring.{is_part}

@@ -2,14 +2,9 @@
 use Rattle.std.proofs.Common.{◌≡◌, ℕ, suc, ◌+◌, ◌<◌, inl, inr, List, [], ◌∷◌, length, Bool, true, false, not, cond, nat_eq, refl, sym, ap, ◌∙◌, arith}
 use Rattle.std.proofs.lemmas.Bool.{cases_Bool, cond-true, cond-false, both_ways}
 use Rattle.csp_base.specs.Members.{has}
-use Rattle.csp_tables.specs.Table.{IsRun, end_of}
-use Rattle.csp_tables.specs.Part.{part_at}
-use Rattle.csp_tables.specs.Shape.{link_at}
-use Rattle.csp_tables.specs.Roles.{use_at}
-use Rattle.design_rules.specs.Counts.{count_in, is_odd}
-use Rattle.design_rules.specs.Resource.{holds}
-use Rattle.observed_runs.specs.Observed.{observed}
-use Rattle.observed_runs.specs.Observers.{parity_step}
+use Rattle.csp_tables.specs.Prelude.{IsRun, end_of, part_at, link_at, use_at}
+use Rattle.design_rules.specs.Prelude.{count_in, is_odd, holds}
+use Rattle.observed_runs.specs.Prelude.{observed, parity_step}
 use Rattle.shape_links.specs.Setting.{Setting, node_of}
 use Rattle.resource_rule.specs.Uses.{is_use, are_uses, UsesLink}
 use Rattle.resource_conditions.proofs.Sets.{all_possible, some_possible}

@@ -2,14 +2,9 @@
 -- (For private contracts: no public one cites this.)
 use Rattle.std.specs.Prelude.{ℕ, List, Bool, true, ◌&&◌, IsTrue, nat_eq, if◌then◌else◌}
 use Rattle.std.specs.List.{list_all, list_any}
-use Rattle.csp_base.specs.Members.{has}
-use Rattle.csp_base.specs.Events.{is_subset_of}
-use Rattle.csp_tables.specs.Part.{part_at}
-use Rattle.csp_tables.specs.Roles.{use_at}
-use Rattle.csp_tables.specs.Shape.{link_at}
-use Rattle.csp_tables.specs.Standing.{IsPossible, Accepts, accepted}
-use Rattle.observed_runs.specs.Observers.{parity_step}
-use Rattle.observed_runs.specs.Exploration.{Found, AreFound, IsExploration}
+use Rattle.csp_base.specs.Prelude.{has, is_subset_of}
+use Rattle.csp_tables.specs.Prelude.{part_at, use_at, link_at, IsPossible, Accepts, accepted}
+use Rattle.observed_runs.specs.Prelude.{parity_step, Found, AreFound, IsExploration}
 use Rattle.design_rules.specs.Resource.{holds}
 use Rattle.shape_links.specs.Setting.{Setting, node_of}
 

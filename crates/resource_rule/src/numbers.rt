@@ -1,8 +1,7 @@
 //! The numbers of the resources: how many must be acquired before each, in a chain.
 
 ghost use Rattle.std.specs.Prelude.{◌≡◌, ◌<◌, ◌⊎◌, ℕ, List, All, IfErr, IfOk, length};
-ghost use Rattle.design_rules.specs.Resource.{IsHeldWhile, KeepUses, ResourcesRise};
-ghost use Rattle.design_rules.specs.ResourceRanking.{AreResourceNumbers};
+ghost use Rattle.design_rules.specs.Prelude.{IsHeldWhile, KeepUses, ResourcesRise, AreResourceNumbers};
 ghost use Rattle.digraph.specs.Digraph.{HasArc};
 ghost use Rattle.rule_rankings.specs.ResourceRanks.{number_by};
 ghost use Rattle.resource_conditions.specs.Setting.{Breaks};

@@ -1,8 +1,7 @@
 //! What a user offers while it holds a resource, and which resources that acquires.
 
 ghost use Rattle.std.specs.Prelude.{◌≡◌, ◌<◌, ◌&&◌, ◌||◌, ℕ, List, Some, IfOk, OnOk, length, nat_eq};
-ghost use Rattle.csp_base.specs.Members.{has};
-ghost use Rattle.csp_base.specs.Events.{is_subset_of};
+ghost use Rattle.csp_base.specs.Prelude.{has, is_subset_of};
 ghost use Rattle.csp_tables.specs.Part.{part_at};
 ghost use Rattle.design_rules.specs.Resource.{acquires};
 ghost use Rattle.digraph.specs.Digraph.{has_arc};

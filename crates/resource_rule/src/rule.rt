@@ -1,13 +1,10 @@
 //! The rule as a whole.
 
 ghost use Rattle.std.specs.Prelude.{◌≡◌, ◌<◌, All, IfErr, IfOk, OnOk, length};
-ghost use Rattle.csp_tables.specs.Part.{TripleDisjoint, alphabets_of};
-ghost use Rattle.csp_tables.specs.Shape.{IsWellFormed};
-ghost use Rattle.design_rules.specs.Resource.{IsResource, KeepUses, ResourcesRise};
-ghost use Rattle.design_rules.specs.ResourceRanking.{AreResourceNumbers, IsResourceRanking};
+ghost use Rattle.csp_tables.specs.Prelude.{TripleDisjoint, alphabets_of, IsWellFormed};
+ghost use Rattle.design_rules.specs.Prelude.{IsResource, KeepUses, ResourcesRise, AreResourceNumbers, IsResourceRanking, BreaksResource};
 ghost use Rattle.shape_links.specs.Setting.{KeepKinds};
 ghost use Rattle.resource_conditions.specs.Setting.{KeepGrants, KeepTurns, Breaks};
-ghost use Rattle.design_rules.specs.Rules.{BreaksResource};
 ghost use Rattle.rule_rankings.specs.ResourceRanks.{number_by};
 
 use crate::numbers::numbers;

@@ -2,8 +2,7 @@
 
 ghost use Rattle.std.specs.List.{list_all};
 ghost use Rattle.std.specs.Prelude.{◌≡◌, ◌<◌, ◌⊎◌, ℕ, None, IfErr, IfOk, OnOk, IsTrue, Ok, length};
-ghost use Rattle.csp_tables.specs.Part.{part_at};
-ghost use Rattle.csp_tables.specs.Shape.{Joins, is_end};
+ghost use Rattle.csp_tables.specs.Prelude.{part_at, Joins, is_end};
 ghost use Rattle.design_rules.specs.Resource.{IsHeldWhile, UsesInTurn};
 ghost use Rattle.digraph.specs.Digraph.{HasArc};
 ghost use Rattle.resource_conditions.specs.Finding.{FindsBroken, FindsRun, HaveNodes};

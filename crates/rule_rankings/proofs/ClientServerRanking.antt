@@ -2,17 +2,11 @@
 use Rattle.std.proofs.Common.{◌≡◌, ℕ, ◌<◌, ℤ, pos, List, [], ◌∷◌, length, get_or, Bool, true, false, nat_eq, refl, eq-eqb}
 use Rattle.std.specs.Prelude.{slice_index}
 use Rattle.std.proofs.lemmas.Bool.{both_ways, or_left}
-use Rattle.csp_base.specs.Members.{has}
-use Rattle.csp_base.specs.Events.{is_subset_of, meets_of}
+use Rattle.csp_base.specs.Prelude.{has, is_subset_of, meets_of}
 use Rattle.csp_base.proofs.SetLaws.{common_member, member_of_superset, is_subset_of_from_members, meets_of_from_member}
-use Rattle.csp_tables.specs.Table.{node_at}
-use Rattle.csp_tables.specs.Part.{part_at, IsNonEmpty}
-use Rattle.csp_tables.specs.Shape.{Shape, acceptance_at}
-use Rattle.csp_tables.specs.Roles.{RoleSets, role_at}
-use Rattle.csp_tables.specs.Ranking.{Ranking, PartRanks, rank_at}
+use Rattle.csp_tables.specs.Prelude.{node_at, part_at, IsNonEmpty, Shape, acceptance_at, RoleSets, role_at, Ranking, PartRanks, rank_at}
 use Rattle.digraph.specs.Walk.{AreHeights}
-use Rattle.design_rules.specs.ClientServer.{Serves}
-use Rattle.design_rules.specs.ClientServerRanking.{IsClientServerRanking}
+use Rattle.design_rules.specs.Prelude.{Serves, IsClientServerRanking}
 use Rattle.rule_rankings.proofs.RowsBelow.{no_ranks, no_lap, no_laps_fit, other_rank, parts_fit, ranks_fit}
 use Rattle.rule_rankings.specs.ClientServerRanks.{IsRank, ArePartRanks, serving_rank}
 

@@ -1,19 +1,9 @@
 -- The ranks and the laps of a cyclic network.
 use Rattle.std.proofs.Common.{◌≡◌, ℕ, zero, suc, ◌+◌, ◌<◌, ◌≤◌, inl, inr, pos, List, [], ◌∷◌, length, get_or, Bool, true, false, ◌&&◌, cond, max, IsTrue, nat_eq, nat_lt, sym, ap, subst, ◌∙◌, arith, eq-eqb, ne_eqb, lt-ltb}
-use Rattle.std.proofs.lemmas.Bool.{cases_Bool, cases_eq, cases_lt, cond-true, cond-false, and_from, or_cases, eqb-true, both_ways, false≢true}
-use Rattle.std.proofs.lemmas.List.{get_or_past}
-use Rattle.std.proofs.lemmas.Option.{get_or_from_slice_get, slice_get_within}
+use Rattle.csp_base.proofs.Standard.{cases_Bool, cases_eq, cases_lt, cond-true, cond-false, and_from, or_cases, eqb-true, both_ways, false≢true, get_or_past, get_or_from_slice_get, slice_get_within}
 use Rattle.csp_base.specs.Members.{has}
-use Rattle.csp_tables.specs.Table.{Node, node_at, is_possible, no_node}
-use Rattle.csp_tables.specs.Part.{part_at, alphabets_of, TripleDisjoint, Meet}
-use Rattle.csp_tables.specs.Shape.{Shape, is_end, link_at, acceptance_at, IsWellFormed}
-use Rattle.csp_tables.specs.Standing.{IsOn}
-use Rattle.csp_tables.specs.Ranking.{Ranking, PartRanks, AtMostOne, LapsFit, rank_at, lap_of}
-use Rattle.design_rules.specs.Counts.{count_below, above_all}
-use Rattle.design_rules.specs.Vertices.{IsVertex}
-use Rattle.design_rules.specs.Cyclic.{links_of, ReachesLink, AllKeepPlaces, NumbersRise}
-use Rattle.design_rules.specs.CyclicNumbered.{place_of}
-use Rattle.design_rules.specs.CyclicRanking.{ends_lap, AreCyclicRanks}
+use Rattle.csp_tables.specs.Prelude.{Node, node_at, is_possible, no_node, part_at, alphabets_of, TripleDisjoint, Meet, Shape, is_end, link_at, acceptance_at, IsWellFormed, IsOn, Ranking, PartRanks, AtMostOne, LapsFit, rank_at, lap_of}
+use Rattle.design_rules.specs.Prelude.{count_below, above_all, IsVertex, links_of, ReachesLink, AllKeepPlaces, NumbersRise, place_of, ends_lap, AreCyclicRanks}
 use Rattle.design_rules.proofs.Counts.{count_mono}
 use Rattle.design_rules.proofs.RankCheck.{lap_absent}
 use Rattle.design_rules.proofs.Shapes.{link_shared}

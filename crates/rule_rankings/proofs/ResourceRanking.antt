@@ -1,20 +1,12 @@
 -- The ranks of a network of users and resources.
 use Rattle.std.proofs.Common.{◌≡◌, ℕ, suc, ◌+◌, ◌-◌, ◌*◌, ◌<◌, ◌≤◌, ◌⊎◌, inl, inr, ℤ, pos, List, [], ◌∷◌, length, get_or, Bool, true, false, ◌||◌, cond, max, nat_eq, refl, sym, ap, subst, ◌∙◌, arith, eq-eqb}
 use Rattle.std.specs.List.{list_any}
-use Rattle.std.proofs.lemmas.Bool.{cases_lt, cond-true, cond-false, and_parts, and_from, or_cases, or_left, or_right, both_ways, false≢true}
-use Rattle.std.proofs.lemmas.List.{get_or_past}
+use Rattle.csp_base.proofs.Standard.{cases_lt, cond-true, cond-false, and_parts, and_from, or_cases, or_left, or_right, both_ways, false≢true, get_or_past}
 use Rattle.dl_limits.specs.declared.TheConstants.{MOST_COMPONENTS}
 use Rattle.csp_base.specs.Members.{has}
-use Rattle.csp_tables.specs.Table.{node_at, end_of}
-use Rattle.csp_tables.specs.Part.{part_at, IsNonEmpty, AreApart}
-use Rattle.csp_tables.specs.Trace.{IsWithin}
-use Rattle.csp_tables.specs.Shape.{acceptance_at, IsWellFormed}
-use Rattle.csp_tables.specs.Standing.{IsPossible, Accepts, accepted}
-use Rattle.csp_tables.specs.Roles.{UseSets, use_at}
-use Rattle.csp_tables.specs.Ranking.{Ranking, PartRanks, rank_at}
+use Rattle.csp_tables.specs.Prelude.{node_at, end_of, part_at, IsNonEmpty, AreApart, IsWithin, acceptance_at, IsWellFormed, IsPossible, Accepts, accepted, UseSets, use_at, Ranking, PartRanks, rank_at}
 use Rattle.net_sound.proofs.Within.{part_form}
-use Rattle.design_rules.specs.Resource.{is_held, acquires, KeepUses}
-use Rattle.design_rules.specs.ResourceRanking.{top_number, AreResourceRanks}
+use Rattle.design_rules.specs.Prelude.{is_held, acquires, KeepUses, top_number, AreResourceRanks}
 use Rattle.design_rules.proofs.Runs.{end_within}
 use Rattle.shape_links.specs.Setting.{Setting}
 use Rattle.shape_links.specs.Acquired.{is_acquired_by}

@@ -1,13 +1,7 @@
 -- Lists with one member for each of another, and rankings that fit their shape.
 use Rattle.std.proofs.Common.{◌≡◌, ℕ, suc, ◌+◌, ◌<◌, inl, inr, ℤ, pos, List, [], ◌∷◌, ◌++◌, length, get_or, replicate, nat_eq, refl, sym, ap, subst, ◌∙◌, arith}
-use Rattle.std.proofs.lemmas.Bool.{cases_Bool, cases_lt, cond-true, cond-false}
-use Rattle.std.proofs.lemmas.List.{length-append, get_or_append_left, get_or_past, get_or_read}
-use Rattle.std.proofs.Math.Seq.{get_or-append_seam}
-use Rattle.csp_tables.specs.Table.{Node, node_at, no_node}
-use Rattle.csp_tables.specs.Part.{Part, part_at, IsNonEmpty}
-use Rattle.csp_tables.specs.Shape.{Shape, acceptance_at}
-use Rattle.csp_tables.specs.Trace.{IsWithin}
-use Rattle.csp_tables.specs.Ranking.{PartRanks, AsMany, AtMostOne, RanksFit, LapsFit, PartsFit, rank_at, lap_of}
+use Rattle.csp_base.proofs.Standard.{cases_Bool, cases_lt, cond-true, cond-false, length-append, get_or_append_left, get_or_past, get_or_read, get_or-append_seam}
+use Rattle.csp_tables.specs.Prelude.{Node, node_at, no_node, Part, part_at, IsNonEmpty, Shape, acceptance_at, IsWithin, PartRanks, AsMany, AtMostOne, RanksFit, LapsFit, PartsFit, rank_at, lap_of}
 use Rattle.design_rules.specs.Vertices.{IsVertex}
 use Rattle.rule_rankings.specs.Rows.{AreEach, AreNoLaps}
 

@@ -1,11 +1,6 @@
 -- The ranks and the laps of a part. (No rule's decider cites this.)
 use Rattle.std.specs.Prelude.{◌≡◌, ◌*◌, ℕ, ℤ, pos, ◌-ℤ◌, List, [], length}
-use Rattle.csp_tables.specs.Part.{part_at, IsNonEmpty, Meet, AreApart}
-use Rattle.csp_tables.specs.Table.{Node, no_node}
-use Rattle.csp_tables.specs.Trace.{IsWithin}
-use Rattle.csp_tables.specs.Roles.{RoleSets, role_at}
-use Rattle.csp_tables.specs.Shape.{Shape}
-use Rattle.csp_tables.specs.Ranking.{PartRanks}
+use Rattle.csp_tables.specs.Prelude.{part_at, IsNonEmpty, Meet, AreApart, Node, no_node, IsWithin, RoleSets, role_at, Shape, PartRanks}
 use Rattle.rule_rankings.specs.Rows.{AreEach, AreNoLaps}
 
 -- The rank of an acceptance: the one where it has requests, and the other where it has none; 0 where it is empty or not in the

@@ -1,11 +1,7 @@
 -- The ranks and laps of a part. (No rule's decider cites this.)
 use Rattle.std.specs.Prelude.{◌≡◌, ◌<◌, ◌≤◌, ℕ, ℤ, pos, List, [], IsTrue, length, nat_eq, if◌then◌else◌}
 use Rattle.csp_base.specs.Members.{has}
-use Rattle.csp_tables.specs.Part.{part_at, IsNonEmpty, Meet}
-use Rattle.csp_tables.specs.Table.{Node, no_node}
-use Rattle.csp_tables.specs.Trace.{IsWithin}
-use Rattle.csp_tables.specs.Shape.{Shape, link_at}
-use Rattle.csp_tables.specs.Ranking.{PartRanks}
+use Rattle.csp_tables.specs.Prelude.{part_at, IsNonEmpty, Meet, Node, no_node, IsWithin, Shape, link_at, PartRanks}
 use Rattle.shape_links.specs.Links.{IsOwner, IsOnOne, ends_of}
 use Rattle.rule_rankings.specs.Rows.{AreEach}
 

@@ -1,13 +1,8 @@
 -- The ranks and laps of a part. (No rule's decider cites this.)
 use Rattle.std.specs.Prelude.{◌≡◌, ◌<◌, ◌≤◌, ◌⊎◌, ◌+◌, ◌-◌, ◌*◌, ℕ, ℤ, pos, List, [], false, IsTrue, length, slice_index}
 use Rattle.dl_limits.specs.declared.TheConstants.{MOST_COMPONENTS}
-use Rattle.csp_tables.specs.Part.{part_at, IsNonEmpty, AreApart}
-use Rattle.csp_tables.specs.Table.{Node, no_node}
-use Rattle.csp_tables.specs.Trace.{IsWithin}
-use Rattle.csp_tables.specs.Ranking.{PartRanks}
-use Rattle.csp_tables.specs.Roles.{use_at}
-use Rattle.design_rules.specs.Resource.{acquires}
-use Rattle.design_rules.specs.ResourceRanking.{top_number}
+use Rattle.csp_tables.specs.Prelude.{part_at, IsNonEmpty, AreApart, Node, no_node, IsWithin, PartRanks, use_at}
+use Rattle.design_rules.specs.Prelude.{acquires, top_number}
 use Rattle.shape_links.specs.Setting.{Setting, IsResourcePart, IsUser}
 use Rattle.rule_rankings.specs.Rows.{AreEach, AreNoLaps}
 

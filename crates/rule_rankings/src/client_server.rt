@@ -2,13 +2,11 @@
 
 ghost use Rattle.std.specs.Prelude.{◌≡◌, ◌<◌, ◌≤◌, ◌*◌, [], All, pos, IfOk, length, map, slice_index};
 ghost use Rattle.dl_limits.specs.declared.TheConstants.{MOST_COMPONENTS};
-ghost use Rattle.csp_tables.specs.Roles.{role_at};
-ghost use Rattle.design_rules.specs.ClientServer.{Serves};
-ghost use Rattle.design_rules.specs.ClientServerRanking.{IsClientServerRanking};
+ghost use Rattle.csp_tables.specs.Prelude.{role_at, no_node};
+ghost use Rattle.design_rules.specs.Prelude.{Serves, IsClientServerRanking};
 ghost use Rattle.digraph.specs.Walk.{AreHeights};
 ghost use Rattle.rule_rankings.specs.ClientServerRanks.{AreNodeRanks, ArePartRanks, IsRank, serving_rank};
 ghost use Rattle.rule_rankings.specs.Rows.{AreEach};
-ghost use Rattle.csp_tables.specs.Table.{no_node};
 
 use crate::rows::no_laps;
 use containers::Items;

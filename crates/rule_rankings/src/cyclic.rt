@@ -3,9 +3,7 @@
 ghost use Rattle.std.specs.Prelude.{◌≡◌, ◌<◌, ◌≤◌, ◌^◌, [], ℕ, pos, IfOk, IsTrue, length, map, slice_index, max};
 ghost use Rattle.csp_base.specs.Members.{has};
 ghost use Rattle.csp_tables.specs.Table.{no_node};
-ghost use Rattle.design_rules.specs.Counts.{above_all};
-ghost use Rattle.design_rules.specs.Cyclic.{AllKeepPlaces, NumbersRise};
-ghost use Rattle.design_rules.specs.CyclicRanking.{AreCyclicRanks};
+ghost use Rattle.design_rules.specs.Prelude.{above_all, AllKeepPlaces, NumbersRise, AreCyclicRanks};
 ghost use Rattle.rule_rankings.specs.CyclicRanks.{AreNodeLaps, AreNodeRanks, ArePartRanks, IsGreatest, IsLap, IsRank};
 ghost use Rattle.rule_rankings.specs.Rows.{AreEach};
 

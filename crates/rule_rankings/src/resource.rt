@@ -2,14 +2,12 @@
 
 ghost use Rattle.std.specs.Prelude.{◌≡◌, ◌<◌, ◌≤◌, ◌⊎◌, ◌+◌, ◌-◌, ◌*◌, if◌then◌else◌, [], ℕ, true, pos, min, All, IfOk, length, map};
 ghost use Rattle.dl_limits.specs.declared.TheConstants.{MOST_COMPONENTS};
-ghost use Rattle.csp_tables.specs.Roles.{use_at};
-ghost use Rattle.design_rules.specs.Resource.{KeepUses};
-ghost use Rattle.design_rules.specs.ResourceRanking.{AreResourceRanks, top_number};
+ghost use Rattle.csp_tables.specs.Prelude.{use_at, no_node};
+ghost use Rattle.design_rules.specs.Prelude.{KeepUses, AreResourceRanks, top_number};
 ghost use Rattle.shape_links.specs.Acquired.{is_acquired_by};
 ghost use Rattle.rule_rankings.specs.ResourceRanks.{AreNodeRanks, ArePartRanks, HaveTop, IsLeastAcquired, IsRank, number_by};
 ghost use Rattle.rule_rankings.specs.Rows.{AreEach};
 ghost use Rattle.shape_links.specs.Setting.{KeepKinds};
-ghost use Rattle.csp_tables.specs.Table.{no_node};
 
 use crate::rows::{larger, no_laps};
 use containers::Items;

@@ -3,8 +3,7 @@
 ghost use Rattle.std.specs.Prelude.{◌≡◌, ◌≤◌, [], None, ◌++◌, map, IfOk, OnOk};
 ghost use Rattle.std.specs.List.{flat_map};
 ghost use Rattle.dl_limits.specs.declared.TheConstants.{MOST_BYTES};
-ghost use Rattle.script_names.specs.Names.{Name, first_of};
-ghost use Rattle.script_names.specs.Typed.{exprs, reading};
+ghost use Rattle.script_names.specs.Prelude.{Name, first_of, exprs, reading};
 ghost use Rattle.script_contents.specs.Plain.{channels_by, constants_in, plain_channel};
 ghost use Rattle.script_sizes.specs.BindingTokens.{all_tokens};
 ghost use Rattle.script_sizes.specs.Size.{declaration_size, size};

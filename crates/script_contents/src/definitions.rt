@@ -6,8 +6,7 @@ ghost use Rattle.name_tables.specs.Counted.{counts, total};
 ghost use Rattle.script_contents.specs.Plain.{body_at, datatype_of, defined_by, definition_at, definitions_by, nametype_of, process_at, read_by};
 ghost use Rattle.script_contents.specs.Plain as plain;
 ghost use Rattle.script_names.specs.Contents as meant;
-ghost use Rattle.script_names.specs.Faults.{kind_class, kind_network};
-ghost use Rattle.script_names.specs.Names.{counted, none_yet};
+ghost use Rattle.script_names.specs.Prelude.{kind_class, kind_network, counted, none_yet};
 ghost use Rattle.script_sizes.specs.BindingTokens.{tokens};
 ghost use Rattle.script_sizes.specs.Size.{declaration_size, size};
 

@@ -2,9 +2,8 @@
 
 ghost use Rattle.std.specs.Prelude.{◌≡◌, ◌++◌, IfOk, OnOk};
 ghost use Rattle.std.specs.List.{flat_map};
-ghost use Rattle.script_names.specs.Names.{first_of};
+ghost use Rattle.script_names.specs.Prelude.{first_of, definition_number};
 ghost use Rattle.script_contents.specs.Plain.{resources_in, roles_in};
-ghost use Rattle.script_names.specs.Typed.{definition_number};
 
 use containers::Items;
 use csp_base::{Name, NoMemory};

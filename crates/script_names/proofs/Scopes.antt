@@ -1,8 +1,6 @@
 -- The names of a scope of parameters.
 use Rattle.std.proofs.Common.{◌≡◌, ℕ, ◌+◌, List, [], ◌∷◌, refl, ap}
-use Rattle.script_names.specs.Contents.{parameters}
-use Rattle.script_names.specs.Names.{Name}
-use Rattle.script_names.specs.Typed.{names_of}
+use Rattle.script_names.specs.Prelude.{parameters, Name, names_of}
 
 pub names_of-parameters : (n : ℕ) (xs : List Name) → names_of (parameters n xs) ≡ xs
 names_of-parameters n [] = refl

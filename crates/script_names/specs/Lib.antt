@@ -14,3 +14,4 @@ pub mod Told
 pub mod Typed
 pub mod Contents
 pub mod Resolved
+pub mod Prelude

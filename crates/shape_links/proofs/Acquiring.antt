@@ -1,11 +1,8 @@
 -- Each event acquires at most one resource, which is an end of its link.
 use Rattle.std.proofs.Common.{◌≡◌, ℕ, ◌+◌, ◌<◌, inl, inr, ◌⊎◌, [], length, Bool, true, false, not, ◌&&◌, cond, IsTrue, nat_eq, refl, sym, ap, subst, ◌∙◌, arith, eqb-true}
-use Rattle.std.proofs.lemmas.Bool.{cases_lt, and_parts, or_cases, both_ways, false≢true}
-use Rattle.std.proofs.lemmas.List.{get_or_past}
+use Rattle.csp_base.proofs.Standard.{cases_lt, and_parts, or_cases, both_ways, false≢true, get_or_past}
 use Rattle.csp_base.specs.Members.{has}
-use Rattle.csp_tables.specs.Part.{part_at, alphabets_of, TripleDisjoint}
-use Rattle.csp_tables.specs.Shape.{is_end, link_at, IsWellFormed}
-use Rattle.csp_tables.specs.Roles.{UseSets, use_at}
+use Rattle.csp_tables.specs.Prelude.{part_at, alphabets_of, TripleDisjoint, is_end, link_at, IsWellFormed, UseSets, use_at}
 use Rattle.design_rules.proofs.Shapes.{some_link}
 use Rattle.shape_links.specs.Setting.{Setting, KeepKinds}
 use Rattle.shape_links.specs.Links.{IsOwner}

@@ -1,9 +1,7 @@
 -- Circles, passed the other way round.
 use Rattle.std.proofs.Common.{◌≡◌, ℕ, zero, suc, ◌-◌, ◌<◌, inl, inr, List, [], ◌∷◌, ◌++◌, length, get_or, take, drop, sym, ap, subst, ◌∙◌, refl, arith}
 use Rattle.std.specs.Prelude.{reverse}
-use Rattle.std.proofs.lemmas.Bool.{cases_eq}
-use Rattle.std.proofs.lemmas.List.{get_or-reverse, length-reverse, reverse-append}
-use Rattle.std.proofs.Math.Seq.{drop-append_seam, take-append_seam}
+use Rattle.csp_base.proofs.Standard.{cases_eq, get_or-reverse, length-reverse, reverse-append, drop-append_seam, take-append_seam}
 use Rattle.digraph.specs.Circle.{Leads, IsLeastCircle}
 use Rattle.shape_links.specs.Turned.{turned_circle}
 

@@ -1,15 +1,9 @@
 -- The link of an event, the links of a part, and what is read of a shape.
 use Rattle.std.proofs.Common.{◌≡◌, ℕ, zero, suc, ◌+◌, ◌<◌, ◌≤◌, inl, inr, List, [], ◌∷◌, ◌++◌, length, get_or, cond, true, false, Some, IsTrue, nat_eq, refl, sym, ap, subst, ◌∙◌, arith, eq-eqb}
 use Rattle.std.specs.Prelude.{slice_get, slice_index}
-use Rattle.std.proofs.lemmas.Bool.{cases_Bool, cases_eq, cond-true, cond-false, or_cases, or_left, or_right, eqb-true, both_ways, false≢true}
-use Rattle.std.proofs.lemmas.List.Folds.{list_any-append}
-use Rattle.std.proofs.lemmas.Option.{slice_get_within, get_or_from_slice_get}
-use Rattle.std.proofs.lemmas.List.{get_or_read, get_or_past}
+use Rattle.csp_base.proofs.Standard.{cases_Bool, cases_eq, cond-true, cond-false, or_cases, or_left, or_right, eqb-true, both_ways, false≢true, list_any-append, slice_get_within, get_or_from_slice_get, get_or_read, get_or_past}
 use Rattle.csp_base.specs.Members.{has}
-use Rattle.csp_tables.specs.Part.{Part, part_at, alphabets_of, sharers, TripleDisjoint}
-use Rattle.csp_tables.specs.Table.{node_at, is_possible}
-use Rattle.csp_tables.specs.Shape.{Link, Shape, Joins, is_end, link_at, acceptance_at, IsWellFormed}
-use Rattle.csp_tables.specs.Standing.{IsOn}
+use Rattle.csp_tables.specs.Prelude.{Part, part_at, alphabets_of, sharers, TripleDisjoint, node_at, is_possible, Link, Shape, Joins, is_end, link_at, acceptance_at, IsWellFormed, IsOn}
 use Rattle.net_sound.proofs.Sharers.{at_three}
 use Rattle.net_sound.proofs.Within.{part_form}
 use Rattle.design_rules.specs.Cyclic.{AllKeepPlaces, ReachesLink}

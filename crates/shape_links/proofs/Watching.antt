@@ -2,19 +2,12 @@
 use Rattle.std.proofs.Common.{◌≡◌, ℕ, suc, ◌+◌, ◌-◌, ◌<◌, inl, inr, List, [], ◌∷◌, ◌++◌, length, get_or, Bool, true, false, ◌&&◌, nat_eq, sym, ap, subst, ◌∙◌, arith, eq-eqb}
 use Rattle.std.specs.Prelude.{slice_index}
 use Rattle.std.specs.List.{list_all, list_any}
-use Rattle.std.proofs.lemmas.List.{length-append, get_or_append_left}
-use Rattle.std.proofs.Math.Seq.{get_or-append_seam}
-use Rattle.std.proofs.lemmas.Bool.{cases_Bool, cases_eq, cases_lt, cond-true, cond-false, and_from, or_cases, both_ways, false≢true}
-use Rattle.std.proofs.lemmas.List.Folds.{list_any_at, list_all_at}
+use Rattle.csp_base.proofs.Standard.{length-append, get_or_append_left, get_or-append_seam, cases_Bool, cases_eq, cases_lt, cond-true, cond-false, and_from, or_cases, both_ways, false≢true, list_any_at, list_all_at}
 use Rattle.csp_base.specs.Members.{has}
-use Rattle.csp_tables.specs.Form.{HasForm}
-use Rattle.csp_tables.specs.Part.{Part, part_at}
-use Rattle.csp_tables.specs.Shape.{Shape, IsWellFormed, link_at}
+use Rattle.csp_tables.specs.Prelude.{HasForm, Part, part_at, Shape, IsWellFormed, link_at}
 use Rattle.net_sound.proofs.Within.{part_form}
 use Rattle.design_rules.proofs.Shapes.{link_shared}
-use Rattle.observed_runs.specs.Enough.{SeesOnly, AreEnough, HaveEnough}
-use Rattle.observed_runs.specs.Observed.{pair_at}
-use Rattle.observed_runs.specs.Observers.{lap_step, parity_step, holder_step}
+use Rattle.observed_runs.specs.Prelude.{SeesOnly, AreEnough, HaveEnough, pair_at, lap_step, parity_step, holder_step}
 use Rattle.shape_links.specs.Links.{AreOwners, AreSteps}
 use Rattle.shape_links.proofs.Links.{part_read}
 

@@ -1,8 +1,7 @@
 -- The link of an event, the links of a part, and the steps of a part that runs have to follow.
 use Rattle.std.specs.Prelude.{◌≡◌, ◌<◌, ℕ, zero, suc, List, [], ◌∷◌, ◌++◌, IsTrue, length, slice_index, slice_index_or, if◌then◌else◌}
 use Rattle.csp_base.specs.Members.{has}
-use Rattle.csp_tables.specs.Part.{part_at}
-use Rattle.csp_tables.specs.Shape.{Shape, is_end, link_at}
+use Rattle.csp_tables.specs.Prelude.{part_at, Shape, is_end, link_at}
 use Rattle.observed_runs.specs.Enough.{HaveEnough}
 
 -- the event is one of the link's

@@ -1,9 +1,6 @@
 -- A shape with what is noted of its resources. (No rule's decider cites this.)
 use Rattle.std.specs.Prelude.{◌≡◌, ℕ, List, true, false}
-use Rattle.csp_tables.specs.Shape.{Shape}
-use Rattle.csp_tables.specs.Roles.{UseSets, use_at}
-use Rattle.csp_tables.specs.Table.{Node, node_at}
-use Rattle.csp_tables.specs.Part.{part_at}
+use Rattle.csp_tables.specs.Prelude.{Shape, UseSets, use_at, Node, node_at, part_at}
 use Rattle.design_rules.specs.Resource.{HaveKinds}
 
 pub record Setting : Type 0 where

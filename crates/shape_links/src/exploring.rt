@@ -2,8 +2,7 @@
 
 ghost use Rattle.std.specs.Prelude.{◌<◌, IfOk, length};
 ghost use Rattle.csp_tables.specs.Part.{part_at};
-ghost use Rattle.observed_runs.specs.Enough.{SeesOnly};
-ghost use Rattle.observed_runs.specs.Exploration.{AreFound, IsExploration};
+ghost use Rattle.observed_runs.specs.Prelude.{SeesOnly, AreFound, IsExploration};
 
 use crate::prepared::SortedShape;
 use csp_base::NoMemory;

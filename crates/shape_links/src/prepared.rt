@@ -1,10 +1,7 @@
 //! A shape that is sorted out once: the link of each event, the links of each part, and the steps that its runs have to follow.
 
 ghost use Rattle.std.specs.Prelude.{◌≡◌, ◌<◌, ℕ, Some, IfOk, length};
-ghost use Rattle.csp_tables.specs.Form.{HasForm};
-ghost use Rattle.csp_tables.specs.Part.{TripleDisjoint, alphabets_of, part_at};
-ghost use Rattle.csp_tables.specs.Shape.{IsWellFormed, link_at};
-ghost use Rattle.csp_tables.specs.Table.{node_at};
+ghost use Rattle.csp_tables.specs.Prelude.{HasForm, TripleDisjoint, alphabets_of, part_at, IsWellFormed, link_at, node_at};
 ghost use Rattle.observed_runs.specs.Enough.{AreEnough, HaveEnough};
 ghost use Rattle.shape_links.specs.Links.{AreEnds, AreOwners, IsOwner, ends_of};
 

@@ -2,9 +2,7 @@
 
 ghost use Rattle.std.specs.Prelude.{◌≡◌, ◌<◌, ◌≤◌, ℕ, Some, IfOk, length};
 ghost use Rattle.dl_limits.specs.declared.TheConstants.{MOST_COMPONENTS};
-ghost use Rattle.csp_tables.specs.Part.{TripleDisjoint, alphabets_of, part_at};
-ghost use Rattle.csp_tables.specs.Roles.{use_at};
-ghost use Rattle.csp_tables.specs.Shape.{IsWellFormed, link_at};
+ghost use Rattle.csp_tables.specs.Prelude.{TripleDisjoint, alphabets_of, part_at, use_at, IsWellFormed, link_at};
 ghost use Rattle.observed_runs.specs.Enough.{AreEnough};
 ghost use Rattle.shape_links.specs.Links.{IsOwner, ends_of};
 ghost use Rattle.shape_links.specs.Setting.{node_of};

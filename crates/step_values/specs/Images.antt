@@ -1,7 +1,6 @@
 -- What events become by a renaming, kept event by event.
 use Rattle.std.specs.Prelude.{◌≡◌, ℕ, nat_eq, Option, Some, None, Ok, List, [], map}
-use Rattle.std.specs.HashMap.{HashMap, get}
-use Rattle.std.specs.List.{filter}
+use Rattle.csp_base.specs.Standard.{HashMap, get, filter}
 use Rattle.csp_program.specs.Outcome.{Outcome}
 use Rattle.process_steps.specs.Renaming.{Renamed, images, or_itself}
 use Rattle.step_values.specs.declared.images.Images.{Images}

@@ -2,11 +2,9 @@
 
 ghost use Rattle.std.specs.Prelude.{◌≡◌, ◌+◌, ◌<◌, ◌≤◌, ◌^◌, ◌++◌, [], drop, take, length, map, IfOk, Ok};
 ghost use Rattle.csp_atoms.specs.declared.value.Value.TheVariants as value;
-ghost use Rattle.csp_program.specs.InOrder.{IsInOrder};
-ghost use Rattle.csp_program.specs.Outcome.{and_then};
-ghost use Rattle.csp_program.specs.Value.{value_of};
-ghost use Rattle.csp_program.specs.declared.expressions.Expr.TheVariants as expression;
+ghost use Rattle.csp_program.specs.Prelude.{IsInOrder, and_then, value_of};
 ghost use Rattle.csp_program.specs.declared.expressions.EventPart.{out-EventPart};
+ghost use Rattle.csp_program.specs.declared.expressions.Expr.TheVariants as expression;
 ghost use Rattle.csp_values.specs.Worth.{front_worth};
 ghost use Rattle.process_steps.specs.Needed.{each_joined};
 ghost use Rattle.process_steps.specs.Renaming as meant;

@@ -1,18 +1,12 @@
 -- What is found of a name: where names count up, where they are bound over others, and where some are bound further in.
 use Rattle.std.proofs.Common.{◌≡◌, ℕ, zero, suc, ◌+◌, ◌<◌, ◌≤◌, ◌||◌, Bool, true, false, cond, nat_eq, Option, Some, None, List, [], ◌∷◌, ◌++◌, get_or, length, map, refl, ap, sym, ◌∙◌, eq-eqb, arith}
 use Rattle.std.specs.Prelude.{slice_get, is_some}
-use Rattle.std.specs.Cmp.{first_so, second_so}
-use Rattle.std.specs.Option.{option_copied}
+use Rattle.csp_base.specs.Standard.{first_so, second_so, option_copied}
 use denote.Bor.{Bor}
-use Rattle.std.proofs.lemmas.Bool.{eqb-true, false≢true}
-use Rattle.std.proofs.lemmas.List.{length-map}
-use Rattle.csp_atoms.specs.declared.atom.Atom.{Atom}
-use Rattle.csp_atoms.specs.declared.value.Value.{Value}
-use Rattle.csp_atoms.specs.declared.value.Value.TheVariants.{One}
+use Rattle.csp_base.proofs.Standard.{eqb-true, false≢true, length-map}
+use Rattle.csp_atoms.specs.Prelude.{Atom, Value, One}
 use Rattle.csp_base.specs.Members.{has}
-use Rattle.csp_program.specs.Environments.{with_bound}
-use Rattle.csp_program.specs.Substitution.{given_by, without}
-use Rattle.csp_program.specs.Value.{Env, bound_to}
+use Rattle.csp_program.specs.Prelude.{with_bound, given_by, without, Env, bound_to}
 use Rattle.substitution.specs.Named.{atom_or, but_for, counts_up, CountUp, EndBy, NoneFrom}
 
 not_same : (x y : ℕ) → (x ≡ y → ⊥) → nat_eq x y ≡ false

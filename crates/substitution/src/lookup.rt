@@ -2,9 +2,7 @@
 
 ghost use Rattle.std.specs.Prelude.{◌≡◌, ◌+◌, ◌≤◌, map, nat_eq, slice_get, true, IsTrue};
 ghost use Rattle.std.specs.Option.{option_copied};
-ghost use Rattle.csp_program.specs.Environments.{with_bound};
-ghost use Rattle.csp_program.specs.Substitution.{given_by};
-ghost use Rattle.csp_program.specs.Value.{Env, bound_to};
+ghost use Rattle.csp_program.specs.Prelude.{with_bound, given_by, Env, bound_to};
 ghost use Rattle.substitution.specs.Named.{atom_or, counts_up, CountUp, EndBy};
 
 use csp_atoms::Atom;

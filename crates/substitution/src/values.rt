@@ -1,9 +1,7 @@
 //! Names with the values that they get.
 
 ghost use Rattle.std.specs.Prelude.{◌≡◌, [], is_some, IfOk, IsTrue, OnOk};
-ghost use Rattle.csp_program.specs.Environments.{with_bound};
-ghost use Rattle.csp_program.specs.Substitution.{given_by, without};
-ghost use Rattle.csp_program.specs.Value.{bound_to};
+ghost use Rattle.csp_program.specs.Prelude.{with_bound, given_by, without, bound_to};
 ghost use Rattle.substitution.specs.Named.{NoneFrom};
 
 use crate::lookup::{end_by, find_bound, find_listed, first_of, first_of_bound};
@@ -32,8 +30,7 @@ pub struct Values<'a> {
 impl<'a> Model for Values<'a> {
     ghost use Rattle.std.specs.Coded.{codes};
     ghost use Rattle.std.specs.Prelude.{map};
-    ghost use Rattle.csp_program.specs.Environments.{with_bound};
-    ghost use Rattle.csp_program.specs.Value.{Env, bound_to};
+    ghost use Rattle.csp_program.specs.Prelude.{with_bound, Env, bound_to};
     ghost use Rattle.csp_atoms.specs.contracts.value.Value as value;
     ghost use Rattle.substitution.specs.Named.{but_for, CountUp};
 

@@ -2,17 +2,12 @@
 use Rattle.std.proofs.Common.{◌≡◌, ℕ, Some, slice_get, sym, subst, ◌∙◌, arith}
 use Rattle.std.proofs.lemmas.Option.{same_Some, slice_get_within}
 use Rattle.csp_program.specs.declared.processes.Proc.{Proc}
-use Rattle.csp_tables.specs.Network.{Component, leaves}
-use Rattle.csp_tables.specs.Part.{Part}
-use Rattle.csp_tables.specs.ShapeOf.{IsPartOf}
-use Rattle.network_stages.specs.Networks.{Network}
-use Rattle.network_stages.specs.Stages.{HasNoPart}
+use Rattle.csp_tables.specs.Prelude.{Component, leaves, Part, IsPartOf}
+use Rattle.network_stages.specs.Prelude.{Network, HasNoPart}
 use Rattle.process_steps.specs.ComponentStep.{ProcessStep}
 use Rattle.report.proofs.Points.{refused_or}
-use Rattle.report.specs.Points.Point.{passed, told}
-use Rattle.report.specs.declared.answer.Refusal.{Refusal}
+use Rattle.report.specs.Prelude.{passed, told, Refusal, Verdict}
 use Rattle.report.specs.declared.answer.Side.TheVariants as side
-use Rattle.report.specs.declared.answer.Verdict.{Verdict}
 use Rattle.report.specs.declared.answer.Verdict.TheVariants as verdict
 use Rattle.tabulation.specs.Tabulated.{IsTable, IsTabulated}
 

@@ -1,16 +1,11 @@
 -- The verdict on a network of which the normal table of one component is asked: the points at which it is refused, in their order, and then the table.
 use Rattle.std.specs.Prelude.{◌≡◌, ◌≤◌, ℕ, Some, [], ◌∷◌, length, slice_get}
-use Rattle.csp_tables.specs.Network.{leaves}
-use Rattle.csp_tables.specs.Part.{Part}
-use Rattle.network_stages.specs.Networks.{Network}
-use Rattle.network_stages.specs.Sets.{ArePartsBy}
-use Rattle.network_stages.specs.Stages.{HasNoPart}
-use Rattle.report.specs.Points.{RefusedOr}
+use Rattle.csp_tables.specs.Prelude.{leaves, Part}
+use Rattle.network_stages.specs.Prelude.{Network, ArePartsBy, HasNoPart}
+use Rattle.report.specs.Prelude.{RefusedOr, Refusal, Verdict}
 use Rattle.report.specs.declared.answer.Done.TheVariants as done
-use Rattle.report.specs.declared.answer.Refusal.{Refusal}
 use Rattle.report.specs.declared.answer.Refusal.TheVariants as refusal
 use Rattle.report.specs.declared.answer.Side.TheVariants as side
-use Rattle.report.specs.declared.answer.Verdict.{Verdict}
 use Rattle.report.specs.declared.answer.Verdict.TheVariants as verdict
 
 -- no component has the number

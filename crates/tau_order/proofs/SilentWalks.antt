@@ -1,7 +1,6 @@
 -- The arcs of the digraph of a table's silent steps are these steps.
 use Rattle.std.proofs.Common.{ℕ, IsTrue, sym, subst}
-use Rattle.csp_tables.specs.Label.Label.{silent}
-use Rattle.csp_tables.specs.RawTable.{RawTable, RawStep}
+use Rattle.csp_tables.specs.Prelude.{silent, RawTable, RawStep}
 use Rattle.csp_tables.proofs.Listed.{silent_listed, listed_silent}
 use Rattle.digraph.specs.Digraph.{Digraph, HasArc}
 use Rattle.tau_order.specs.SilentRows.{AreSilentRows}

@@ -1,7 +1,6 @@
 -- The silent steps of a numbered table as a digraph of its terms.
 use Rattle.std.specs.Prelude.{◌≡◌, ℕ, length}
-use Rattle.csp_tables.specs.RawTable.{RawTable}
-use Rattle.csp_tables.specs.RawForm.{has_silent}
+use Rattle.csp_tables.specs.Prelude.{RawTable, has_silent}
 use Rattle.digraph.specs.Digraph.{Digraph, has_arc}
 
 -- a vertex for each term, and an arc for each pair that has a silent step

@@ -1,10 +1,8 @@
 //! How many silent steps follow one another from each term.
 
 ghost use Rattle.std.specs.Prelude.{◌≡◌, ◌-◌, ◌<◌, ℕ, List, slice_index, IfOk, OnOk};
-ghost use Rattle.csp_tables.specs.Path.{SilentStep};
-ghost use Rattle.csp_tables.specs.RawTable.{RawStep};
-ghost use Rattle.digraph.specs.Walk.{AreHeights};
-ghost use Rattle.digraph.specs.Circle.{HasNoCircle, IsLeastCircle};
+ghost use Rattle.csp_tables.specs.Prelude.{SilentStep, RawStep};
+ghost use Rattle.digraph.specs.Prelude.{AreHeights, HasNoCircle, IsLeastCircle};
 ghost use Rattle.tau_order.specs.SilentRows.{AreSilentRows};
 
 use crate::fault::HeightFault;

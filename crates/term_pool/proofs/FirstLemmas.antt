@@ -2,18 +2,11 @@
 use Rattle.std.proofs.Common.{◌≡◌, ℕ, ◌<◌, true, nat_lt, List, [], ◌∷◌, map, length, refl, ap, sym, ◌∙◌, subst, arith}
 use Rattle.std.proofs.lemmas.Bool.{lt-ltb, and_from}
 use Rattle.std.specs.Cmp.{second_so}
-use Rattle.csp_program.specs.declared.expressions.EventPart.{EventPart}
-use Rattle.csp_program.specs.declared.expressions.Expr.{Expr}
-use Rattle.csp_program.specs.declared.expressions.Gen.{Gen}
-use Rattle.csp_program.specs.declared.processes.Proc.{Proc}
-use Rattle.csp_program.specs.declared.processes.Proc.TheOpen.{Proc-F}
+use Rattle.csp_program.specs.Prelude.{EventPart, Expr, Gen, Proc, Proc-F, out-Proc, out-roll-Proc}
 use Rattle.csp_program.specs.declared.processes.Proc.TheVariants as proc
-use Rattle.csp_program.specs.declared.processes.Proc.TheViews.{out-Proc, out-roll-Proc}
 use Rattle.term_pool.proofs.NodeLemmas.{layer_of, layer_out}
 use Rattle.term_pool.proofs.TreeLemmas.{all_below_more}
-use Rattle.term_pool.specs.First.{layer_with_first, node_with_first, other_first, with_first}
-use Rattle.term_pool.specs.Trees.{tree_at, layer_tree, all_below, layer_below}
-use Rattle.term_pool.specs.Layers.{Layer, layer_parts}
+use Rattle.term_pool.specs.Prelude.{layer_with_first, node_with_first, other_first, with_first, tree_at, layer_tree, all_below, layer_below, Layer, layer_parts}
 use Rattle.pool_parts.specs.declared.place.ProcId.{ProcId}
 
 pub first_Hide : (p : Proc) (s : Expr) (q : Proc) → with_first (proc.Hide p s) q ≡ proc.Hide q s

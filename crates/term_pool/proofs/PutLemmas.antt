@@ -1,16 +1,10 @@
 -- Lemmas on lists that grow as processes are put into them, and on nodes that stand for processes.
 use Rattle.std.proofs.Common.{◌≡◌, ◌⊎◌, inl, inr, ℕ, ◌+◌, ◌<◌, true, nat_lt, Some, List, [], ◌∷◌, ◌++◌, map, length, get_or, slice_get, take, drop, refl, ap, sym, ◌∙◌, subst}
-use Rattle.std.proofs.lemmas.Bool.{lt-ltb, and_from}
-use Rattle.std.proofs.lemmas.List.{take_more, take-append-drop}
-use Rattle.std.proofs.lemmas.Option.{slice_get_within, get_or_from_slice_get}
+use Rattle.csp_base.proofs.Standard.{lt-ltb, and_from, take_more, take-append-drop, slice_get_within, get_or_from_slice_get}
 use Rattle.csp_program.specs.declared.processes.Proc.{Proc}
 use Rattle.csp_program.specs.declared.processes.Proc.TheVariants as proc
 use Rattle.term_pool.proofs.WithinLemmas.{in_left, in_right, in_whole, is_whole}
-use Rattle.term_pool.specs.Pooled.{Has, IsFront, PartsStandBelow, StandBelow, parts}
-use Rattle.term_pool.specs.Put.{Grows, HasAll, StandAt, StandsFor}
-use Rattle.term_pool.specs.Trees.{tree_at, layer_tree, all_below}
-use Rattle.term_pool.specs.Within.{AddsOne, IsInOne}
-use Rattle.term_pool.specs.Layers.{Layer}
+use Rattle.term_pool.specs.Prelude.{Has, IsFront, PartsStandBelow, StandBelow, parts, Grows, HasAll, StandAt, StandsFor, tree_at, layer_tree, all_below, AddsOne, IsInOne, Layer}
 use Rattle.pool_parts.specs.declared.place.ProcId.{ProcId}
 
 has_front : (trees : List Proc) (ps qs : List Proc) → HasAll trees (ps ++ qs) → HasAll trees ps

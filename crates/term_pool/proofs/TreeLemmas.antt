@@ -1,14 +1,11 @@
 -- The trees of a list of nodes: how they grow, and what stands at each place.
 use Rattle.std.proofs.Common.{◌≡◌, ℕ, zero, suc, ◌+◌, ◌<◌, ◌≤◌, true, nat_lt, Some, List, [], ◌∷◌, ◌++◌, length, get_or, slice_get, refl, ap, sym, ◌∙◌, subst, arith, length-append, append_assoc}
-use Rattle.std.proofs.lemmas.Bool.{ltb-true, lt-ltb, and_from}
-use Rattle.std.proofs.lemmas.List.{append-nil, get_or_append_left}
-use Rattle.std.proofs.Math.Seq.{get_or-append_seam}
+use Rattle.csp_base.proofs.Standard.{ltb-true, lt-ltb, and_from, append-nil, get_or_append_left, get_or-append_seam}
 use Rattle.std.specs.Cmp.{first_so, second_so}
 use Rattle.csp_program.specs.declared.processes.Proc.{Proc}
 use Rattle.csp_program.specs.declared.processes.Proc.TheVariants as proc
 use Rattle.term_pool.proofs.NodeLemmas.{agree_node}
-use Rattle.term_pool.specs.Trees.{layer_tree, all_below, layer_below, grown, fall}
-use Rattle.term_pool.specs.Layers.{Layer}
+use Rattle.term_pool.specs.Prelude.{layer_tree, all_below, layer_below, grown, fall, Layer}
 use Rattle.pool_parts.specs.declared.place.ProcId.{ProcId}
 
 -- a larger bound serves as well

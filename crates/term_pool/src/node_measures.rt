@@ -1,12 +1,8 @@
 //! What a node measures, from what its own parts and the processes at its places measure.
 
 ghost use Rattle.std.specs.Prelude.{◌≡◌, ◌<◌, [], ◌∷◌, true, length};
-ghost use Rattle.pool_parts.specs.Counting.{capped};
-ghost use Rattle.pool_parts.specs.Low.{IsLow};
-ghost use Rattle.term_pool.specs.Entries.{entry_layer, Fits};
-ghost use Rattle.term_pool.specs.Measured.{deepest_at, measure_at, node_depth, node_size, own_depth, own_free, own_size, total_at, IsLeastAt};
-ghost use Rattle.term_pool.specs.Layers.{layer_parts};
-ghost use Rattle.term_pool.specs.Trees.{all_below, layer_below};
+ghost use Rattle.pool_parts.specs.Prelude.{capped, IsLow};
+ghost use Rattle.term_pool.specs.Prelude.{entry_layer, Fits, deepest_at, measure_at, node_depth, node_size, own_depth, own_free, own_size, total_at, IsLeastAt, layer_parts, all_below, layer_below};
 
 use crate::entry::Entry;
 use crate::own_parts::OwnParts;

@@ -1,14 +1,9 @@
 -- Walks over the digraph of the silent steps are runs of silent steps.
 use Rattle.std.proofs.Common.{◌≡◌, ◌↔◌, ℕ, zero, suc, List, [], ◌∷◌, subst}
-use Rattle.csp_tables.specs.Label.{Label}
-use Rattle.csp_tables.specs.Label.Label.{silent, visible}
-use Rattle.csp_tables.specs.Path.{Path}
-use Rattle.csp_tables.specs.Trace.{After, visible_events}
-use Rattle.csp_tables.specs.RawTable.{RawTable, RawStep}
+use Rattle.csp_tables.specs.Prelude.{Label, silent, visible, Path, After, visible_events, RawTable, RawStep}
 use Rattle.tau_order.specs.SilentRows.{AreSilentRows}
 use Rattle.tau_order.proofs.SilentWalks.{step_of, arc_of}
-use Rattle.digraph.specs.Digraph.{Digraph, HasArc}
-use Rattle.digraph.specs.Walk.{Walk, Reaches, ReachesFrom}
+use Rattle.digraph.specs.Prelude.{Digraph, HasArc, Walk, Reaches, ReachesFrom}
 use Rattle.term_sets.specs.Moves.{IsSilentlyReached}
 use Rattle.term_sets.proofs.Traces.{After-none, After-silent, After-append}
 

@@ -1,9 +1,6 @@
 -- Runs of silent steps and events, one after another and cut in two.
 use Rattle.std.proofs.Common.{◌≡◌, ℕ, List, [], ◌∷◌, ◌++◌, refl, ap, ◌∙◌}
-use Rattle.csp_tables.specs.Label.{Label}
-use Rattle.csp_tables.specs.Label.Label.{silent, visible}
-use Rattle.csp_tables.specs.Path.{Path}
-use Rattle.csp_tables.specs.Trace.{After, visible_events}
+use Rattle.csp_tables.specs.Prelude.{Label, silent, visible, Path, After, visible_events}
 
 module _ (Step : ℕ → Label → ℕ → Type 0) where
   path_append : (ls ms : List Label) (s t u : ℕ) → Path Step s ls t → Path Step t ms u → Path Step s (ls ++ ms) u

@@ -2,9 +2,7 @@
 use Rattle.std.specs.Prelude.{◌≡◌, ◌↔◌, ℕ, nat_eq, Bool, ◌&&◌, List, [], length, get_or, IsTrue}
 use Rattle.std.specs.List.{list_any}
 use Rattle.csp_base.specs.Members.{has}
-use Rattle.csp_tables.specs.Trace.{After}
-use Rattle.csp_tables.specs.RawTable.{RawTable, RawStep}
-use Rattle.csp_tables.specs.RawForm.{has_step}
+use Rattle.csp_tables.specs.Prelude.{After, RawTable, RawStep, has_step}
 
 -- whether the event is listed, and whether it is listed with the target
 abbrev pub has_event : List (ℕ × ℕ) → ℕ → Bool

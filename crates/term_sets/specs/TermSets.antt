@@ -1,15 +1,8 @@
 -- Sets of terms of a raw table, written as rising lists.
 use Rattle.std.specs.Prelude.{◌↔◌, ◌<◌, ℕ, List, IsTrue, All}
-use Rattle.std.specs.List.Sorted.{IsStrictlyIncreasing, IsStrictlySortedBy}
-use Rattle.std.specs.Cmp.Lexicographic.{slice_cmp}
-use Rattle.std.specs.Ordering.{nat_cmp}
+use Rattle.csp_base.specs.Standard.{IsStrictlyIncreasing, IsStrictlySortedBy, slice_cmp, nat_cmp}
 use Rattle.csp_base.specs.Members.{has}
-use Rattle.csp_tables.specs.Path.{Stable}
-use Rattle.csp_tables.specs.Trace.{After, IsTrace}
-use Rattle.csp_tables.specs.RawTable.{RawTable, RawStep}
-use Rattle.csp_tables.specs.Offer.{IsMinimalOffer}
-use Rattle.csp_tables.specs.Behaviour.{OffersAcceptance}
-use Rattle.csp_tables.specs.NormalTable.{IsListed}
+use Rattle.csp_tables.specs.Prelude.{Stable, After, IsTrace, RawTable, RawStep, IsMinimalOffer, OffersAcceptance, IsListed}
 use Rattle.term_sets.specs.Moves.{IsSilentlyReached}
 
 -- of the sets that stable terms among these offer, those that contain no smaller one

@@ -3,8 +3,7 @@
 ghost use Rattle.std.specs.Prelude.{◌≡◌, [], ◌∷◌, ◌++◌, Some};
 ghost use Rattle.csp_text.specs.Depth.{capped, tree_depth};
 ghost use Rattle.csp_grammar.specs.Reader.{and_then, dotted_tree, only};
-ghost use Rattle.tree_reading.specs.Gives.{Gives};
-ghost use Rattle.tree_reading.specs.Starts.{dot_field, dot_fields, dotted_fields};
+ghost use Rattle.tree_reading.specs.Prelude.{Gives, dot_field, dot_fields, dotted_fields};
 
 use crate::nodes;
 use containers::{Boxed, Items};

@@ -1,30 +1,17 @@
 -- What the grammar has within the limits, the readers give, in front of every rest that does not go on with the tree.
 use Rattle.std.proofs.Common.{◌≡◌, ℕ, suc, ◌+◌, ◌≤◌, max, Bool, true, nat_le, Some, None, List, [], ◌∷◌, map, refl, ap, ◌∙◌, arith}
-use Rattle.csp_text.specs.Depth.{field_depth, gen_depth, part_depth, tree_depth}
-use Rattle.csp_text.specs.declared.token.Token.{Token}
+use Rattle.csp_text.specs.Prelude.{field_depth, gen_depth, part_depth, tree_depth, Token, Tree, FieldTree, GenTree, PartTree, set_op_word}
 use Rattle.csp_text.specs.declared.token.Token.TheVariants as token
 use Rattle.csp_text.specs.declared.token.Symbol.TheVariants as symbol
-use Rattle.csp_text.specs.declared.tree.Tree.{Tree}
 use Rattle.csp_text.specs.declared.tree.Tree.TheVariants as tree
 use Rattle.csp_text.specs.declared.tree.FieldTree.TheVariants as field
 use Rattle.csp_text.specs.declared.tree.GenTree.TheVariants as generator
-use Rattle.csp_base.specs.declared.operators.BinOp.{BinOp}
-use Rattle.csp_base.specs.declared.operators.SetOp.{SetOp}
+use Rattle.csp_base.specs.Prelude.{BinOp, SetOp, greatest}
 use Rattle.csp_base.specs.declared.operators.SetOp.TheVariants as set_op
-use Rattle.csp_text.specs.declared.tree.FieldTree.{FieldTree}
-use Rattle.csp_text.specs.declared.tree.GenTree.{GenTree}
-use Rattle.csp_text.specs.declared.tree.PartTree.{PartTree}
-use Rattle.csp_grammar.specs.Grammar.{Choice, choice_of, event_tree, TreeText, Reach, SideText, HidingText, ChoiceText, SequenceText, PrefixText, OpenText, FieldsText, DotsText, ExpressionText, PairsText, PartText, PartsText, ConditionsText, GensText, GenText, ItemText, ItemsText, AtomText}
+use Rattle.csp_grammar.specs.Prelude.{Choice, choice_of, event_tree, TreeText, Reach, SideText, HidingText, ChoiceText, SequenceText, PrefixText, OpenText, FieldsText, DotsText, ExpressionText, PairsText, PartText, PartsText, ConditionsText, GensText, GenText, ItemText, ItemsText, AtomText, closed, opened, Level, IsLeftOperator, IsComparison, and_then, dotted_tree, behind_name, skip}
 use Rattle.csp_grammar.specs.Grammar as g
-use Rattle.csp_grammar.specs.Grammar.Reach.{closed, opened}
-use Rattle.csp_grammar.specs.Precedence.{Level, IsLeftOperator, IsComparison}
 use Rattle.csp_grammar.specs.Precedence as table
-use Rattle.csp_grammar.specs.Reader.{and_then, dotted_tree}
-use Rattle.csp_grammar.specs.Tokens.{behind_name, skip}
-use Rattle.tree_reading.specs.Bindings.{number, of_process}
-use Rattle.tree_reading.specs.Limited.{read_side, read_item, read_part, read_condition, read_gen, read_conditions, read_set_operator}
-use Rattle.tree_reading.specs.Nesting.{inside, limits}
-use Rattle.tree_reading.specs.declared.read.Binding.{Binding}
+use Rattle.tree_reading.specs.Prelude.{number, of_process, read_side, read_item, read_part, read_condition, read_gen, read_conditions, read_set_operator, inside, limits, Binding}
 use Rattle.tree_reading.specs.declared.read.Binding.TheVariants as bound
 use Rattle.tree_reading.proofs.Settling.{later, now, bind, not_there, granted, look, first, second}
 use Rattle.tree_reading.proofs.Fitting.{about, first_part, inner, left, less, parts, right, up}
@@ -35,8 +22,6 @@ use Rattle.tree_reading.proofs.NodeDepths as depths
 use Rattle.tree_reading.proofs.Parts.{Bounded, chain_of, chosen_depth, one_of_two, still_closed, dots_begin, fields_begin, fields_no_colon, dots_more, AreDots, no_dots, more_dots, conditions_begin, into_guard, prefix_alone, sequence_alone, side_alone, tree_alone, choice_stops, last_choice, more_choices, side_of_choices, bound_alone}
 use Rattle.tree_reading.proofs.Tests.{at_least_open}
 use Rattle.tree_reading.proofs.Starts.{no_event, no_arrow, plain, atom_operand, items_no_brace}
-use Rattle.csp_base.specs.Lists.{greatest}
-use Rattle.csp_text.specs.Written.{set_op_word}
 
 -- how tightly a form is bound at least, and how tightly what follows it may bind at most: an open form ends only where nothing goes on with it
 abbrev least : Reach → Binding

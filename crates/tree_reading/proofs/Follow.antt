@@ -1,14 +1,11 @@
 -- What the first token of a rest tells of the looks at it.
 use Rattle.std.proofs.Common.{◌≡◌, ℕ, ◌<◌, true, false, nat_eq, nat_lt, nat_le, if◌then◌else◌, Some, None, List, ◌∷◌, refl, ap, arith}
-use Rattle.csp_text.specs.declared.token.Token.{Token}
+use Rattle.csp_text.specs.Prelude.{Token, Symbol, same_symbol}
 use Rattle.csp_text.specs.declared.token.Token.TheVariants as token
-use Rattle.csp_text.specs.declared.token.Symbol.{Symbol}
 use Rattle.csp_text.specs.declared.token.Symbol.TheVariants as symbol
-use Rattle.csp_text.specs.Written.{same_symbol}
 use Rattle.csp_text.proofs.WrittenAlike.{symbol_is}
 use Rattle.csp_grammar.specs.Tokens.{begins, skip, symbol_binding}
-use Rattle.std.proofs.lemmas.Bool.{false_from_ne_true}
-use Rattle.std.proofs.lemmas.Bool.Decides.{nat_tests}
+use Rattle.csp_base.proofs.Standard.{false_from_ne_true, nat_tests}
 
 -- the rest does not begin with a token that binds as tightly as the number, or tighter
 abbrev pub Stops : ℕ → List Token → Type 0

@@ -1,7 +1,6 @@
 -- What the readers give once they may call one another often enough.
 use Rattle.std.proofs.Common.{Option, Some}
-use Rattle.tree_reading.specs.Limited.{Limited}
-use Rattle.tree_reading.specs.Settled.{Settles}
+use Rattle.tree_reading.specs.Prelude.{Limited, Settles}
 
 abbrev pub Gives : {A : Type 0} → (Limited → Option A) → A → Type 0
 Gives F x = Settles F (Some x)

@@ -1,22 +1,12 @@
 -- Texts that have no tree: the reader reads something else in them, or nothing.
 use Rattle.std.proofs.Common.{◌≡◌, ℕ, zero, suc, ◌≤◌, max, None, List, [], ◌∷◌, refl, sym, ap, ◌∙◌, arith}
-use Rattle.csp_text.specs.Depth.{tree_depth}
-use Rattle.csp_text.specs.declared.token.Token.{Token}
-use Rattle.csp_text.specs.declared.token.Token.TheVariants.{Name, Symbol}
-use Rattle.csp_text.specs.declared.token.Symbol.TheVariants.{ExternalChoice, InternalChoice, Question, Dot, Backslash, OpenParen, OpenBracket, OpenBrace, CloseBrace}
-use Rattle.csp_text.specs.declared.tree.Tree.{Tree}
+use Rattle.csp_text.specs.Prelude.{tree_depth, Token, Name, ExternalChoice, InternalChoice, Question, Dot, Backslash, OpenParen, OpenBracket, OpenBrace, CloseBrace, Tree}
+use Rattle.csp_text.specs.declared.token.Token.TheVariants.{Symbol}
 use Rattle.csp_text.specs.declared.tree.Tree.TheVariants as tree
-use Rattle.csp_grammar.specs.Examples.{prefix_tokens, plain_prefix}
-use Rattle.csp_grammar.specs.Grammar.{SequenceText, SideText}
+use Rattle.csp_grammar.specs.Prelude.{prefix_tokens, plain_prefix, SequenceText, SideText, closed, external, skip}
 use Rattle.csp_grammar.specs.Grammar as g
-use Rattle.csp_grammar.specs.Grammar.Reach.{closed}
-use Rattle.csp_grammar.specs.Grammar.Choice.{external}
-use Rattle.csp_grammar.specs.Tokens.{skip}
 use Rattle.csp_grammar.proofs.Examples.{process}
-use Rattle.tree_reading.specs.Laws.{alphabets_between, MixedChoiceHasNoTree, NoDotBehindQuestion, ChainOfParallelsHasNoTree, HidingBesideChoiceHasNoTree, NoBracketBeyondTheLimit, NoEmptySetBeyondTheLimit}
-use Rattle.tree_reading.specs.Limited.{limited}
-use Rattle.tree_reading.specs.Nesting.{limits}
-use Rattle.tree_reading.specs.Settled.{Settles}
+use Rattle.tree_reading.specs.Prelude.{alphabets_between, MixedChoiceHasNoTree, NoDotBehindQuestion, ChainOfParallelsHasNoTree, HidingBesideChoiceHasNoTree, NoBracketBeyondTheLimit, NoEmptySetBeyondTheLimit, limited, limits, Settles}
 use Rattle.tree_reading.proofs.Complete.{atom_read, sequence_read, side_read, first_fits, first_of_four, rest_fit, tree_read}
 use Rattle.tree_reading.proofs.Fitting.{about, first_part, left, less, parts, right, second_part, up}
 use Rattle.tree_reading.proofs.Follow.{Stops}

@@ -1,22 +1,14 @@
 -- The declarations of a script, as they are read.
 use Rattle.std.proofs.Common.{◌≡◌, ℕ, ◌≤◌, if◌then◌else◌, Some, None, List, ◌∷◌, codes, refl, ap}
-use Rattle.csp_text.specs.Depth.{tree_depth}
-use Rattle.csp_text.specs.declared.token.Token.{Token}
+use Rattle.csp_text.specs.Prelude.{tree_depth, Token, Symbol, Tree, Decl, symbol_text}
 use Rattle.csp_text.specs.declared.token.Token.TheVariants as token
-use Rattle.csp_text.specs.declared.token.Symbol.{Symbol}
 use Rattle.csp_text.specs.declared.token.Symbol.TheVariants as symbol
-use Rattle.csp_text.specs.declared.tree.Tree.{Tree}
-use Rattle.csp_text.specs.declared.script.Decl.{Decl}
-use Rattle.csp_grammar.specs.Declarations.{NamesText, TypesText, ParametersText, AssertedText, ModelText, DeclarationText, DeclarationsText}
+use Rattle.csp_grammar.specs.Prelude.{NamesText, TypesText, ParametersText, AssertedText, ModelText, DeclarationText, DeclarationsText, and_then, case, skip, first_token}
 use Rattle.csp_grammar.specs.Declarations as d
 use Rattle.csp_grammar.specs.Grammar as g
 use Rattle.dl_limits.specs.declared.TheConstants.{MOST_TREE_DEPTH}
-use Rattle.csp_grammar.specs.Reader.{and_then, case}
-use Rattle.csp_text.specs.Written.{symbol_text}
-use Rattle.csp_grammar.specs.Tokens.{skip, first_token}
 use Rattle.std.proofs.lemmas.Slice.Eq.{bytes_eq-Decides}
-use Rattle.tree_reading.specs.Asserted.{ending, is_model, model, name_that}
-use Rattle.tree_reading.specs.Limited.{read_parameters, read_asserted, read_declaration}
+use Rattle.tree_reading.specs.Prelude.{ending, is_model, model, name_that, read_parameters, read_asserted, read_declaration}
 use Rattle.tree_reading.proofs.Complete.{tree_read, atom_read}
 use Rattle.tree_reading.proofs.Follow.{Stops, more}
 use Rattle.tree_reading.proofs.Gives.{Gives}

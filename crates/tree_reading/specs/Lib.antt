@@ -4,5 +4,6 @@ pub mod Gives
 pub mod Laws
 pub mod Limited
 pub mod Nesting
+pub mod Prelude
 pub mod Settled
 pub mod Starts

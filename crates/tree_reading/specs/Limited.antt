@@ -6,25 +6,17 @@
 -- Each step is a look at the front of the tokens or a call, and nothing comes of a step that gives nothing. The functions of `limited f` may call one
 -- another f times in a row.
 use Rattle.std.specs.Prelude.{ℕ, zero, suc, Bool, true, false, if◌then◌else◌, Option, Some, None, List, [], ◌∷◌}
-use Rattle.csp_text.specs.declared.token.Token.{Token}
-use Rattle.csp_text.specs.declared.token.Token.TheVariants as token
+use Rattle.csp_text.specs.Prelude.{Token, Symbol, Tree, PartTree, FieldTree, GenTree, Decl}
 use Rattle.csp_text.specs.declared.token.Word.{Word}
+use Rattle.csp_text.specs.declared.token.Token.TheVariants as token
 use Rattle.csp_text.specs.declared.token.Word.TheVariants as word
-use Rattle.csp_text.specs.declared.token.Symbol.{Symbol}
 use Rattle.csp_text.specs.declared.token.Symbol.TheVariants as symbol
-use Rattle.csp_text.specs.declared.tree.Tree.{Tree}
 use Rattle.csp_text.specs.declared.tree.Tree.TheVariants as tree
 use Rattle.csp_base.specs.declared.operators.SetOp.{SetOp}
-use Rattle.csp_text.specs.declared.tree.PartTree.{PartTree}
-use Rattle.csp_text.specs.declared.tree.FieldTree.{FieldTree}
 use Rattle.csp_text.specs.declared.tree.FieldTree.TheVariants as field
-use Rattle.csp_text.specs.declared.tree.GenTree.{GenTree}
 use Rattle.csp_text.specs.declared.tree.GenTree.TheVariants as generator
-use Rattle.csp_text.specs.declared.script.Decl.{Decl}
 use Rattle.csp_text.specs.declared.script.Decl.TheVariants as decl
-use Rattle.csp_grammar.specs.Grammar.{choice_of, event_tree, part_tree}
-use Rattle.csp_grammar.specs.Reader.{Reading, and_then, case, begins_event, dotted_tree, only}
-use Rattle.csp_grammar.specs.Tokens.{first_token, skip, skip_word}
+use Rattle.csp_grammar.specs.Prelude.{choice_of, event_tree, part_tree, Reading, and_then, case, begins_event, dotted_tree, only, first_token, skip, skip_word}
 use Rattle.tree_reading.specs.Asserted.{ending}
 use Rattle.tree_reading.specs.Bindings.{Found, of_process, at_least, tighter}
 use Rattle.tree_reading.specs.Nesting.{sure, bracketed, inside, around, whole}

@@ -1,26 +1,14 @@
 -- What the first tokens of a text say of what is to be read.
 use Rattle.std.specs.Prelude.{ℕ, Bool, false, ◌&&◌, if◌then◌else◌, Option, Some, None, List, [], ◌∷◌}
-use Rattle.csp_text.specs.declared.token.Token.{Token}
-use Rattle.csp_text.specs.declared.token.Token.TheVariants as token
+use Rattle.csp_text.specs.Prelude.{Token, Symbol, Tree, FieldTree, FieldTree-F, out-FieldTree, GenTree, EventTree, PartTree, same_symbol, same_word}
 use Rattle.csp_text.specs.declared.token.Word.{Word}
+use Rattle.csp_text.specs.declared.token.Token.TheVariants as token
 use Rattle.csp_text.specs.declared.token.Word.TheVariants as word
-use Rattle.csp_text.specs.declared.token.Symbol.{Symbol}
 use Rattle.csp_text.specs.declared.token.Symbol.TheVariants as symbol
 use Rattle.csp_base.specs.declared.operators.BinOp.TheVariants as operator
 use Rattle.csp_base.specs.declared.operators.SetOp.TheVariants as set_op
-use Rattle.csp_text.specs.declared.tree.Tree.{Tree}
 use Rattle.csp_text.specs.declared.tree.Tree.TheVariants as tree
-use Rattle.csp_text.specs.declared.tree.FieldTree.{FieldTree}
-use Rattle.csp_text.specs.declared.tree.FieldTree.TheOpen.{FieldTree-F}
-use Rattle.csp_text.specs.declared.tree.FieldTree.TheViews.{out-FieldTree}
-use Rattle.csp_text.specs.declared.tree.GenTree.{GenTree}
-use Rattle.csp_text.specs.declared.tree.EventTree.{EventTree}
-use Rattle.csp_text.specs.declared.tree.PartTree.{PartTree}
-use Rattle.csp_text.specs.Written.{same_symbol, same_word}
-use Rattle.csp_grammar.specs.Grammar.{Choice}
-use Rattle.csp_grammar.specs.Grammar.Choice.{external, internal}
-use Rattle.csp_grammar.specs.Reader.{Reading, and_then, case, begins_event, dotted_tree, with_first}
-use Rattle.csp_grammar.specs.Tokens.{skip, skip_word}
+use Rattle.csp_grammar.specs.Prelude.{Choice, external, internal, Reading, and_then, case, begins_event, dotted_tree, with_first, skip, skip_word}
 use Rattle.tree_reading.specs.Bindings.{at_least, left_operand}
 use Rattle.tree_reading.specs.declared.look.Chain.{Chain}
 use Rattle.tree_reading.specs.declared.look.Chain.TheVariants as chain

@@ -2,26 +2,15 @@
 use Rattle.std.proofs.Common.{◌≡◌, ℕ, zero, suc, ◌+◌, Some, None, List, [], ◌∷◌, ◌++◌, length, subst}
 use Rattle.std.specs.Prelude.{slice_get}
 use Rattle.std.specs.List.{flat_map}
-use Rattle.csp_text.specs.declared.script.Decl.{Decl}
+use Rattle.csp_text.specs.Prelude.{Decl, Tree}
 use Rattle.csp_text.specs.declared.script.Decl.TheVariants as decl
-use Rattle.csp_text.specs.declared.tree.Tree.{Tree}
-use Rattle.script_names.specs.declared.kinds.Class.{Class}
+use Rattle.script_names.specs.Prelude.{Class, End, Kind, Place, Sense, AreKindsOf, HasClass, LeadsTo, body_ends, end_of_call, end_of_name, ends_at, first_ends, Name, Meanings, meanings_of, Uses, Said, tree_says, body_place, declared_after, first_fault, names_declared, next_definition, parameters_after, Reading}
+use Rattle.script_names.specs.Kinds.LeadsTo.{here, beyond}
 use Rattle.script_names.specs.declared.kinds.Class.TheVariants as class
-use Rattle.script_names.specs.declared.kinds.End.{End}
 use Rattle.script_names.specs.declared.kinds.End.TheVariants as end
 use Rattle.script_names.specs.declared.kinds.Entity.TheVariants as entity
-use Rattle.script_names.specs.declared.kinds.Kind.{Kind}
-use Rattle.script_names.specs.declared.kinds.Place.{Place}
-use Rattle.script_names.specs.declared.kinds.Sense.{Sense}
 use Rattle.script_names.specs.declared.kinds.Sense.TheVariants as sense
 use Rattle.script_names.specs.declared.kinds.Use.TheVariants as how
-use Rattle.script_names.specs.Kinds.{AreKindsOf, HasClass, LeadsTo, body_ends, end_of_call, end_of_name, ends_at, first_ends}
-use Rattle.script_names.specs.Kinds.LeadsTo.{here, beyond}
-use Rattle.script_names.specs.Names.{Name, Meanings, meanings_of}
-use Rattle.script_names.specs.declared.occurrence.Occurrence.TheVariants.{Uses}
-use Rattle.script_names.specs.Says.{Said, tree_says}
-use Rattle.script_names.specs.Told.{body_place, declared_after, first_fault, names_declared, next_definition, parameters_after}
-use Rattle.script_names.specs.Typed.{Reading}
 use Rattle.typed_laws.proofs.Faultless.{AllFine, IsFine, fine_three, first_faultless, rest_faultless}
 use Rattle.typed_laws.proofs.Formed.{Ends, Reads}
 use Rattle.typed_laws.proofs.Formed as f

@@ -1,24 +1,13 @@
 -- Names that are declared, bound or annotated once: what passes of their occurrences, both ways.
 use Rattle.std.proofs.Common.{◌≡◌, ℕ, zero, suc, ◌+◌, Bool, true, false, ◌||◌, Some, None, List, [], ◌∷◌, ◌++◌, length, map, refl, sym, ◌∙◌, ap, subst, append_assoc, append-nil}
 use Rattle.std.specs.Prelude.{slice_get}
-use Rattle.std.specs.Bool.{Decides}
-use Rattle.std.specs.List.{flat_map}
-use Rattle.std.proofs.lemmas.Bool.Decides.{Decides-eqb}
-use Rattle.std.proofs.lemmas.List.{map-append}
-use Rattle.std.proofs.lemmas.List.Folds.{list_any-append}
-use Rattle.std.proofs.lemmas.Slice.Eq.{slice_eq-Decides}
+use Rattle.csp_base.specs.Standard.{Decides, flat_map}
+use Rattle.csp_base.proofs.Standard.{Decides-eqb, map-append, list_any-append, slice_eq-Decides}
 use Rattle.csp_base.proofs.Booleans.{or_first_false, or_second_false}
 use Rattle.csp_base.specs.Lists.{EachOnce}
 use Rattle.csp_text.specs.declared.script.Decl.{Decl}
 use Rattle.csp_text.specs.declared.script.Decl.TheVariants as decl
-use Rattle.script_names.specs.declared.kinds.Entity.{Entity}
-use Rattle.script_names.specs.declared.kinds.Kind.{Kind}
-use Rattle.script_names.specs.Declaring.{AreParameters}
-use Rattle.script_names.specs.Faults.{is_constant, when}
-use Rattle.script_names.specs.Names.{Counts, Meanings, Name, channels_from, constants_from, counted, declared_from, is_among, names_declared, none_yet, same_name}
-use Rattle.script_names.specs.Once.{AreOnce, with_roles, with_uses}
-use Rattle.script_names.specs.Told.{declared_after, parameters_after}
-use Rattle.script_names.specs.Typing.{MayBind}
+use Rattle.script_names.specs.Prelude.{Entity, Kind, AreParameters, is_constant, when, Counts, Meanings, Name, channels_from, constants_from, counted, declared_from, is_among, names_declared, none_yet, same_name, AreOnce, with_roles, with_uses, declared_after, parameters_after, MayBind}
 use Rattle.typed_laws.proofs.DefUses.{when_none}
 use Rattle.typed_laws.proofs.Passing.{AllPass}
 use Rattle.typed_laws.proofs.Senses.{no_constant}

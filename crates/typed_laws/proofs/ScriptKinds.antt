@@ -1,31 +1,18 @@
 -- In a faultless script each definition is one of data, of a process that is no network, or of a network.
 use Rattle.std.proofs.Common.{◌≡◌, ℕ, zero, suc, ◌+◌, ◌<◌, ◌≤◌, Bool, true, false, cond, Option, Some, None, List, [], ◌∷◌, ◌++◌, length, refl, sym, ◌∙◌, ap, subst, arith}
 use Rattle.std.specs.Prelude.{slice_get}
-use Rattle.std.specs.List.{flat_map}
-use Rattle.std.specs.Map.{lookup}
+use Rattle.csp_base.specs.Standard.{flat_map, lookup}
 use Rattle.std.proofs.lemmas.Option.{slice_get_within}
-use Rattle.csp_text.specs.declared.script.Decl.{Decl}
+use Rattle.csp_text.specs.Prelude.{Decl, Tree}
 use Rattle.csp_text.specs.declared.script.Decl.TheVariants as decl
-use Rattle.csp_text.specs.declared.tree.Tree.{Tree}
-use Rattle.script_names.specs.declared.kinds.Class.{Class}
+use Rattle.script_names.specs.Prelude.{Class, End, Entity, Kind, Sense, clashes, kind_class, kind_network, AreKinds, LeadsTo, body_ends, end_of_call, end_of_name, ends, ends_at, script_ends, Counts, Entities, Meanings, Name, channels_from, constants_from, counted, declared_from, meanings_of, none_yet, same_name, Uses, Said, tree_says, body_place, counts_of, declared_after, name_fault, names_declared, need_of, next_definition, parameters_after, Reading}
+use Rattle.script_names.specs.Kinds.LeadsTo.{here, beyond}
 use Rattle.script_names.specs.declared.kinds.Class.TheVariants as class
-use Rattle.script_names.specs.declared.kinds.End.{End}
 use Rattle.script_names.specs.declared.kinds.End.TheVariants as end
-use Rattle.script_names.specs.declared.kinds.Entity.{Entity}
 use Rattle.script_names.specs.declared.kinds.Entity.TheVariants as entity
-use Rattle.script_names.specs.declared.kinds.Kind.{Kind}
 use Rattle.script_names.specs.declared.kinds.Need.TheVariants as need
-use Rattle.script_names.specs.declared.kinds.Sense.{Sense}
 use Rattle.script_names.specs.declared.kinds.Sense.TheVariants as sense
 use Rattle.script_names.specs.declared.kinds.Use.TheVariants as how
-use Rattle.script_names.specs.Faults.{clashes, kind_class, kind_network}
-use Rattle.script_names.specs.Kinds.{AreKinds, LeadsTo, body_ends, end_of_call, end_of_name, ends, ends_at, script_ends}
-use Rattle.script_names.specs.Kinds.LeadsTo.{here, beyond}
-use Rattle.script_names.specs.Names.{Counts, Entities, Meanings, Name, channels_from, constants_from, counted, declared_from, meanings_of, none_yet, same_name}
-use Rattle.script_names.specs.declared.occurrence.Occurrence.TheVariants.{Uses}
-use Rattle.script_names.specs.Says.{Said, tree_says}
-use Rattle.script_names.specs.Told.{body_place, counts_of, declared_after, name_fault, names_declared, need_of, next_definition, parameters_after}
-use Rattle.script_names.specs.Typed.{Reading}
 use Rattle.typed_laws.proofs.Classes.{IsClass, has_class, script_known}
 use Rattle.typed_laws.proofs.DeclPasses.{EachPasses, counted_on, each_passes}
 use Rattle.typed_laws.proofs.Faultless.{AllFine, IsFine, fine_three}

@@ -2,10 +2,7 @@
 use Rattle.std.specs.Prelude.{◌≡◌, Ok, List}
 use Rattle.csp_program.specs.declared.programs.Content.{Content}
 use Rattle.csp_text.specs.declared.script.Script.{Script}
-use Rattle.script_names.specs.declared.kinds.Kind.{Kind}
-use Rattle.script_names.specs.Kinds.{AreKinds}
-use Rattle.script_names.specs.Program.{IsProgram}
-use Rattle.script_names.specs.Resolved.{resolved}
+use Rattle.script_names.specs.Prelude.{Kind, AreKinds, IsProgram, resolved}
 
 -- what the functions give is the program by the rules
 abbrev pub ResolvedIsProgram : Type 0

@@ -1,19 +1,14 @@
 -- What each form of a tree is as an expression, by the equations that are made of the folds.
 use Rattle.std.proofs.Common.{◌≡◌, ℕ, ◌+◌, pos, true, false, List, [], ◌∷◌, map, refl, ap, sym, ◌∙◌, rules}
-use Rattle.csp_base.specs.declared.operators.BinOp.{BinOp}
-use Rattle.csp_base.specs.declared.operators.SetOp.{SetOp}
-use Rattle.csp_text.specs.declared.tree.FieldTree.TheViews.{out-PartTree}
-use Rattle.csp_text.specs.declared.tree.GenTree.{GenTree}
-use Rattle.csp_text.specs.declared.tree.GenTree.TheVariants as gentree
-use Rattle.csp_text.specs.declared.tree.PartTree.{PartTree}
+use Rattle.csp_base.specs.Prelude.{BinOp, SetOp}
+use Rattle.csp_text.specs.Prelude.{out-PartTree, GenTree, PartTree, Tree, the_lemmas}
 use Rattle.csp_text.specs.declared.tree.PartTree.{the_lemmas as part_lemmas}
-use Rattle.csp_text.specs.declared.tree.Tree.{Tree, the_lemmas}
+use Rattle.csp_text.specs.declared.tree.GenTree.TheVariants as gentree
 use Rattle.csp_text.specs.declared.tree.Tree.TheVariants as tree
 use Rattle.csp_program.specs.declared.expressions.Expr.TheVariants as expr
 use Rattle.csp_program.specs.declared.expressions.Expr.TheViews.{roll-EventPart}
 use Rattle.csp_program.specs.declared.expressions.Gen.TheVariants as generator
-use Rattle.script_names.specs.Names.{Name, first_of}
-use Rattle.script_names.specs.Typed.{bindings, exprs, under, with, named, number_of, all_bind, parts_bind, channel_number, definition_number}
+use Rattle.script_names.specs.Prelude.{Name, first_of, bindings, exprs, under, with, named, number_of, all_bind, parts_bind, channel_number, definition_number}
 use Rattle.script_names.specs.Typed as typed
 use Rattle.script_sizes.specs.BindingTokens.{tokens, all_tokens, parts_tokens}
 use Rattle.typed_trees.specs.Walked.{Walked, past, read_at}

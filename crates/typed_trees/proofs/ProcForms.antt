@@ -1,18 +1,12 @@
 -- What each form of a tree is as a process, by the equations that are made of the folds.
 use Rattle.std.proofs.Common.{◌≡◌, ℕ, ◌+◌, Option, Some, None, List, [], ◌∷◌, map, refl, rules}
-use Rattle.csp_text.specs.declared.tree.FieldTree.{FieldTree}
-use Rattle.csp_text.specs.declared.tree.FieldTree.TheVariants as fieldtree
-use Rattle.csp_text.specs.declared.tree.FieldTree.TheViews.{out-EventTree}
-use Rattle.csp_text.specs.declared.tree.EventTree.{EventTree}
+use Rattle.csp_text.specs.Prelude.{FieldTree, out-EventTree, EventTree, GenTree, PartTree, Tree, the_lemmas}
 use Rattle.csp_text.specs.declared.tree.EventTree.{the_lemmas as event_lemmas}
-use Rattle.csp_text.specs.declared.tree.GenTree.{GenTree}
-use Rattle.csp_text.specs.declared.tree.PartTree.{PartTree}
-use Rattle.csp_text.specs.declared.tree.Tree.{Tree, the_lemmas}
+use Rattle.csp_text.specs.declared.tree.FieldTree.TheVariants as fieldtree
 use Rattle.csp_text.specs.declared.tree.Tree.TheVariants as tree
 use Rattle.csp_program.specs.declared.processes.Field.TheVariants as field
 use Rattle.csp_program.specs.declared.processes.Proc.TheVariants as proc
-use Rattle.script_names.specs.Names.{Name, first_of}
-use Rattle.script_names.specs.Typed.{bindings, bindings_bind, pairs_bind, procs, under, with, head_of, number_of, definition_number}
+use Rattle.script_names.specs.Prelude.{Name, first_of, bindings, bindings_bind, pairs_bind, procs, under, with, head_of, number_of, definition_number}
 use Rattle.script_names.specs.Typed as typed
 use Rattle.script_sizes.specs.BindingTokens.{tokens, fields_tokens, pairs_tokens}
 use Rattle.typed_trees.specs.Walked.{Walked, past, read_at}

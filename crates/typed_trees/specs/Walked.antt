@@ -2,9 +2,7 @@
 -- with their numbers, and the number of the next binding token.
 use Rattle.std.specs.Prelude.{ℕ, ◌+◌, List}
 use Rattle.csp_text.specs.declared.tree.Tree.{Tree}
-use Rattle.script_names.specs.declared.kinds.Kind.{Kind}
-use Rattle.script_names.specs.Names.{Entities, first_of}
-use Rattle.script_names.specs.Typed.{Reading, Scope, reading}
+use Rattle.script_names.specs.Prelude.{Kind, Entities, first_of, Reading, Scope, reading}
 
 pub record Walked : Type 0 where
   pub names : Entities

@@ -2,8 +2,7 @@
 
 ghost use Rattle.std.specs.Prelude.{◌≡◌, ◌+◌, ◌<◌, ◌≤◌, ◌++◌, ◌∷◌, [], length, take, OnOk};
 ghost use Rattle.dl_limits.specs.declared.TheConstants.{MOST_BYTES};
-ghost use Rattle.script_names.specs.Names.{first_of};
-ghost use Rattle.script_names.specs.Typed.{number_of};
+ghost use Rattle.script_names.specs.Prelude.{first_of, number_of};
 ghost use Rattle.script_names.specs.Typed as typed;
 ghost use Rattle.script_sizes.specs.BindingTokens.{tokens};
 ghost use Rattle.typed_trees.specs.Walked.{past, standing};

@@ -3,17 +3,11 @@ use Rattle.std.proofs.Common.{◌≡◌, ℕ, zero, suc, ◌+◌, ◌<◌, ◌^�
 use Rattle.std.specs.Prelude.{is_none}
 use Rattle.std.proofs.lemmas.Bool.{false≢true}
 use Rattle.csp_base.proofs.Booleans.{is_first, is_second}
-use Rattle.csp_program.specs.EventTable.{channel_events, event_table, events_from_channel}
-use Rattle.csp_program.specs.InOrder.{IsEventTable, IsInOrder, lacks_sets}
-use Rattle.csp_program.specs.Lists.{all_true}
-use Rattle.value_laws.specs.EventNumbers.{HasSets}
-use Rattle.value_laws.specs.Numbers.{ChannelsFit}
+use Rattle.csp_program.specs.Prelude.{channel_events, event_table, events_from_channel, IsEventTable, IsInOrder, lacks_sets, all_true, Channel, Content, EventInfo}
+use Rattle.value_laws.specs.Prelude.{HasSets, ChannelsFit}
 use Rattle.value_laws.proofs.Rises.{field_sets_rise}
 use Rattle.value_laws.proofs.TablePlaces.{first_is, rise_at}
 use Rattle.csp_atoms.specs.declared.atom.Atom.{Atom}
-use Rattle.csp_program.specs.declared.programs.Channel.{Channel}
-use Rattle.csp_program.specs.declared.programs.Content.{Content}
-use Rattle.csp_program.specs.declared.programs.EventInfo.{EventInfo}
 
 no_events : (b : ℕ) (o : Option (List (List Atom))) → IsTrue (is_none o) → channel_events b o ≡ []
 no_events b None h = refl

@@ -2,23 +2,13 @@
 use Rattle.std.proofs.Common.{◌≡◌, ℕ, zero, suc, ◌+◌, ◌-◌, ◌*◌, ◌<◌, ◌≤◌, Option, Some, None, Ok, List, [], ◌∷◌, ◌++◌, map, length, take, drop, refl, sym, ◌∙◌, ap, subst, inl, inr, arith}
 use Rattle.std.specs.Prelude.{slice_get}
 use Rattle.std.specs.Option.{option_map}
-use Rattle.std.proofs.lemmas.Bool.{cases_lt}
-use Rattle.std.proofs.lemmas.List.{append-nil, length-map}
-use Rattle.std.proofs.lemmas.Option.{slice_get-map, slice_get_within}
-use Rattle.std.proofs.Math.Seq.{drop-length}
-use Rattle.csp_program.specs.EventNumber.{KeepFirsts, event_count, first_event, row_count}
-use Rattle.csp_program.specs.EventTable.{event_of, events_from_channel, channel_events, rows}
-use Rattle.csp_program.specs.Outcome.{Outcome, and_then}
-use Rattle.csp_program.specs.Value.{Env, Meaning, sets_of}
-use Rattle.value_laws.specs.Numbers.{AllRise, events_each, fields_number, first_of, front_number}
-use Rattle.value_laws.specs.EventNumbers.{HasSets, HaveValues, StandsAt, computed_number, NumbersArePlaces, PlacesAreNumbers, BeginnersStandTogether}
+use Rattle.csp_base.proofs.Standard.{cases_lt, append-nil, length-map, slice_get-map, slice_get_within, drop-length}
+use Rattle.csp_program.specs.Prelude.{KeepFirsts, event_count, first_event, row_count, event_of, events_from_channel, channel_events, rows, Outcome, and_then, Env, Meaning, sets_of, Channel, EventInfo}
+use Rattle.value_laws.specs.Prelude.{AllRise, events_each, fields_number, first_of, front_number, HasSets, HaveValues, StandsAt, computed_number, NumbersArePlaces, PlacesAreNumbers, BeginnersStandTogether}
 use Rattle.value_laws.proofs.Lists.{get_left, get_right, same_outcome}
 use Rattle.value_laws.proofs.Rises.{FieldsRise, FieldSetsRise, field_sets_rise}
 use Rattle.value_laws.proofs.RowNumbers.{length-rows, no_fields, numbered, placed}
-use Rattle.csp_atoms.specs.declared.atom.Atom.{Atom}
-use Rattle.csp_atoms.specs.declared.value.Value.TheVariants.{One}
-use Rattle.csp_program.specs.declared.programs.Channel.{Channel}
-use Rattle.csp_program.specs.declared.programs.EventInfo.{EventInfo}
+use Rattle.csp_atoms.specs.Prelude.{Atom, One}
 use Rattle.csp_program.proofs.Outcomes.{came_through}
 
 -- the number that is computed where the channels before are counted

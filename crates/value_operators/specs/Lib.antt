@@ -3,3 +3,4 @@ pub mod Forms
 pub mod Gives
 pub mod Operands
 pub mod Parted
+pub mod Prelude

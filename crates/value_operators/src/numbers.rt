@@ -1,8 +1,7 @@
 //! The numbers of events, from the places of values in the sets of a channel's fields.
 
 ghost use Rattle.std.specs.Prelude.{◌≡◌, ◌+◌, ◌-◌, ◌*◌, ◌<◌, ◌^◌, min, nat_eq, None, Some, drop, length, slice_get, MatchOption};
-ghost use Rattle.csp_program.specs.EventNumber.{row_count};
-ghost use Rattle.csp_program.specs.Value.{sets_of};
+ghost use Rattle.csp_program.specs.Prelude.{row_count, sets_of};
 ghost use Rattle.value_laws.specs.Numbers as meant;
 ghost use Rattle.value_laws.specs.Numbers.{field_place};
 ghost use Rattle.value_operators.specs.Forms as form;

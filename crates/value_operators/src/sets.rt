@@ -4,10 +4,8 @@ ghost use Rattle.std.specs.Prelude.{◌≡◌, ℕ, ◌+◌, ◌<◌, ◌≤◌,
 ghost use Rattle.dl_limits.specs.declared.TheConstants.{MOST_ELEMENTS};
 ghost use Rattle.csp_atoms.specs.Sets.{place_of};
 ghost use Rattle.csp_atoms.specs.declared.atom.Atom.TheVariants as atom;
-ghost use Rattle.csp_program.specs.Atoms.{added, all_added, limited, numbers_from};
-ghost use Rattle.csp_program.specs.Outcome.{and_then};
+ghost use Rattle.csp_program.specs.Prelude.{added, all_added, limited, numbers_from, and_then, as_atom, set_binary};
 ghost use Rattle.csp_program.specs.Value as meant;
-ghost use Rattle.csp_program.specs.Value.{as_atom, set_binary};
 ghost use Rattle.value_laws.specs.Numbers.{events_from};
 ghost use Rattle.value_operators.specs.Gives.{Gives};
 

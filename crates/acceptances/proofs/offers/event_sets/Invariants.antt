@@ -1,7 +1,6 @@
 use Rattle.std.proofs.Common.{◌≡◌, ℕ, ◌<◌, [], ◌&&◌, nat_eq, length, take, get_or}
-use Rattle.std.specs.List.{list_any}
+use Rattle.csp_base.specs.Standard.{list_any, IsStrictlyIncreasing}
 use Rattle.csp_base.specs.Events.{has}
-use Rattle.std.specs.List.Sorted.{IsStrictlyIncreasing}
 use Rattle.acceptances.proofs.offers.event_sets.Given as goal
 
 abbrev pub invariant-loop-step : goal.invariant-loop-step

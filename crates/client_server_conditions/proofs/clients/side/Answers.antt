@@ -1,6 +1,5 @@
 use Rattle.std.proofs.Common.{◌≡◌, inl, inr}
-use Rattle.csp_tables.specs.Roles.{role_at}
-use Rattle.csp_tables.specs.Shape.{link_at}
+use Rattle.csp_tables.specs.Prelude.{role_at, link_at}
 use Rattle.std.proofs.lemmas.Bool.{both_ways}
 use Rattle.client_server_conditions.proofs.Reading.{left_role, right_role, shared_there}
 use Rattle.client_server_conditions.proofs.Sides.{client_on, client_read}

@@ -1,10 +1,7 @@
 use Rattle.std.proofs.Common.{◌∙◌, ℕ, List, refl, ap, subst, true, false}
 use Rattle.std.specs.List.{list_any}
-use Rattle.csp_tables.specs.Part.{part_at}
-use Rattle.csp_tables.specs.Table.{Node, node_at}
+use Rattle.csp_tables.specs.Prelude.{part_at, Node, node_at, Link, Shape, link_at, RoleSets, role_at}
 use Rattle.observed_runs.specs.Enough.{AreEnough}
-use Rattle.csp_tables.specs.Shape.{Link, Shape, link_at}
-use Rattle.csp_tables.specs.Roles.{RoleSets, role_at}
 use Rattle.client_server_conditions.specs.Conditions.{node_in, IsOnSide}
 use Rattle.client_server_conditions.specs.Nodes.{is_out_of_turn, takes, refuses}
 use Rattle.client_server_conditions.proofs.Keeping.{node_is, turns_enough, keeps_turns, breaks_turns, keeps_service, breaks_service, keeps_answers, breaks_answers}

@@ -1,9 +1,7 @@
 use Rattle.std.proofs.Common.{refl}
-use Rattle.csp_tables.specs.Part.{part_at}
-use Rattle.csp_tables.specs.Shape.{link_at}
-use Rattle.observed_runs.specs.Observed.{pair_at}
+use Rattle.csp_tables.specs.Prelude.{part_at, link_at}
+use Rattle.observed_runs.specs.Prelude.{pair_at, parity_step}
 use Rattle.observed_runs.proofs.Runs.{either_way, at_some}
-use Rattle.observed_runs.specs.Observers.{parity_step}
 use Rattle.client_server_conditions.proofs.Deciding.{pair_node, explored_pairs, found_run, keeps_each, breaks_one}
 use Rattle.client_server_conditions.proofs.runs.broken_run.Goals as goal
 

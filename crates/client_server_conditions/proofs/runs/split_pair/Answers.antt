@@ -1,8 +1,6 @@
 use Rattle.std.proofs.Common.{◌∙◌, ◌≤◌, ℕ, List, refl, ap, true, false, length, arith, below_more}
 use Rattle.std.specs.List.{list_any}
-use Rattle.csp_tables.specs.Part.{part_at}
-use Rattle.csp_tables.specs.Table.{Node, node_at}
-use Rattle.csp_tables.specs.Shape.{Shape}
+use Rattle.csp_tables.specs.Prelude.{part_at, Node, node_at, Shape}
 use Rattle.observed_runs.specs.Observed.{pair_at}
 use Rattle.client_server_conditions.specs.Nodes.{splits}
 use Rattle.client_server_conditions.proofs.Looking.{none_splits, one_splits}

@@ -1,6 +1,5 @@
 use Rattle.std.proofs.Common.{ℕ, ◌<◌}
-use Rattle.csp_tables.specs.Part.{part_at}
-use Rattle.csp_tables.specs.Table.{node_at}
+use Rattle.csp_tables.specs.Prelude.{part_at, node_at}
 use Rattle.observed_runs.specs.Observed.{pair_at}
 use Rattle.client_server_conditions.specs.Nodes.{EachShared, HasAllOrNone}
 use Rattle.client_server_conditions.proofs.runs.split_pair.Given as goal

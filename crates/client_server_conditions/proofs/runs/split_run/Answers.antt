@@ -1,7 +1,5 @@
 use Rattle.std.proofs.Common.{◌∙◌, ◌<◌, length, ap, refl, sym, subst}
-use Rattle.csp_tables.specs.Part.{part_at}
-use Rattle.csp_tables.specs.Roles.{RoleSets}
-use Rattle.csp_tables.specs.Shape.{Shape}
+use Rattle.csp_tables.specs.Prelude.{part_at, RoleSets, Shape}
 use Rattle.client_server_conditions.proofs.Deciding.{pair_node, still, explored_nodes, found_still, undivided, divided, whole_each, whole_one}
 use Rattle.observed_runs.specs.Observed.{pair_at}
 use Rattle.observed_runs.proofs.Runs.{either_way, at_some}

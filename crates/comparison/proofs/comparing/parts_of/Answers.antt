@@ -1,6 +1,5 @@
 use Rattle.std.proofs.Common.{Err, subst}
-use Rattle.network_stages.specs.Networks.{Network}
-use Rattle.network_stages.specs.Stages.{HasNoParts}
+use Rattle.network_stages.specs.Prelude.{Network, HasNoParts}
 use Rattle.report.proofs.Points.{at_refusal, goes_on}
 use Rattle.csp_base.specs.Stops.{Tells}
 use Rattle.comparison.specs.Compared.{PartsOr}

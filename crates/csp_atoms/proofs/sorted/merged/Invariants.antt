@@ -1,6 +1,5 @@
 use Rattle.std.proofs.Common.{◌≡◌, ◌+◌, ◌++◌, length}
-use Rattle.csp_atoms.specs.Sets.{IsRising}
-use Rattle.csp_atoms.specs.Merge.{result_of}
+use Rattle.csp_atoms.specs.Prelude.{IsRising, result_of}
 use Rattle.csp_atoms.proofs.sorted.merged.Given as goal
 
 abbrev pub invariant-loop-atom : goal.invariant-loop-atom

@@ -1,6 +1,5 @@
 use Rattle.std.proofs.Common.{arith}
-use Rattle.std.proofs.lemmas.List.{take_rest}
-use Rattle.std.proofs.lemmas.Grind.{common_steps}
+use Rattle.csp_base.proofs.Standard.{take_rest, common_steps}
 use Rattle.csp_base.proofs.MergeSteps.{IsMerging-next, IsMerging-none, IsMerging-found}
 use Rattle.csp_base.proofs.blocks.gives_any.Goals as goal
 

@@ -1,6 +1,5 @@
 use Rattle.std.proofs.Common.{◌≤◌, ◌-◌, length, take, drop}
-use Rattle.csp_base.specs.Blocks.{AreBlocksFrom}
-use Rattle.csp_base.specs.Operations.{end_from}
+use Rattle.csp_base.specs.Prelude.{AreBlocksFrom, end_from}
 use Rattle.csp_base.proofs.blocks.place_of.Given as goal
 
 abbrev pub invariant-loop-low : goal.invariant-loop-low

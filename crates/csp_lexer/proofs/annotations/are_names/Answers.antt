@@ -1,7 +1,5 @@
 use Rattle.std.proofs.Common.{sym, ◌∙◌, rules, tests}
-use Rattle.std.proofs.lemmas.Iterator.{YieldsList-from_slice}
-use Rattle.std.proofs.lemmas.Iterator.Search.{all_from_yields_List}
-use Rattle.std.proofs.lemmas.List.Folds.{list_all-map}
+use Rattle.csp_base.proofs.Standard.{YieldsList-from_slice, all_from_yields_List, list_all-map}
 use Rattle.csp_lexer.specs.Words.{is_name}
 use Rattle.csp_lexer.proofs.annotations.are_names.Goals as goal
 

@@ -1,6 +1,5 @@
 use Rattle.std.proofs.Common.{length, rules, tests}
-use Rattle.std.proofs.lemmas.Iterator.Consumers.{YieldsList-at, YieldsList-from_filter, map_from_collect}
-use Rattle.std.proofs.lemmas.Iterator.Splits.{YieldsList-from_slice_split}
+use Rattle.csp_base.proofs.Standard.{YieldsList-at, YieldsList-from_filter, map_from_collect, YieldsList-from_slice_split}
 use Rattle.std.specs.Prelude.{nat_lt}
 use Rattle.csp_lexer.specs.Annotations.{is_space, words_of}
 use Rattle.csp_lexer.proofs.annotations.words_of.Goals as goal

@@ -1,6 +1,5 @@
 use Rattle.std.proofs.Common.{length}
-use Rattle.csp_lexer.specs.Front.{front}
-use Rattle.csp_lexer.specs.Lexed.{lexed}
+use Rattle.csp_lexer.specs.Prelude.{front, lexed}
 use Rattle.csp_lexer.proofs.CutSoFar.{IsCutSoFar}
 use Rattle.csp_lexer.proofs.lexer.pass_all.Given as goal
 

@@ -1,6 +1,5 @@
 use Rattle.std.proofs.Common.{rules, tests}
-use Rattle.std.proofs.lemmas.Iterator.{YieldsList-from_slice}
-use Rattle.std.proofs.lemmas.Iterator.Search.{any_from_yields_List}
+use Rattle.csp_base.proofs.Standard.{YieldsList-from_slice, any_from_yields_List}
 use Rattle.std.specs.Str.{bytes_eq}
 use Rattle.csp_lexer.specs.Words.{is_foreign}
 use Rattle.csp_lexer.proofs.words.is_foreign.Goals as goal

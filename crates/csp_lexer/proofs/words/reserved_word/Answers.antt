@@ -1,6 +1,5 @@
 use Rattle.std.proofs.Common.{◌∙◌, rules, tests}
-use Rattle.std.proofs.lemmas.Iterator.{YieldsList-from_slice}
-use Rattle.std.proofs.lemmas.Iterator.Search.{find_from_yields_List}
+use Rattle.csp_base.proofs.Standard.{YieldsList-from_slice, find_from_yields_List}
 use Rattle.std.specs.Str.{bytes_eq}
 use Rattle.csp_text.specs.Written.{word_text}
 use Rattle.csp_lexer.specs.Words.{reserved_word}

@@ -6,9 +6,8 @@ use Rattle.csp_resolve.proofs.AnswerLaws.{passed}
 use Rattle.csp_resolve.proofs.SetsLaws.{Sets}
 use Rattle.event_tables.specs.declared.sets.SharedSets.{SharedSets}
 use Rattle.event_tables.specs.Spread.{spread}
-use Rattle.script_names.specs.Names.{first_of}
+use Rattle.script_names.specs.Prelude.{first_of, Answer, and_next}
 use Rattle.script_names.specs.Resolved as meant
-use Rattle.script_names.specs.Resolved.{Answer, and_next}
 use Rattle.csp_resolve.proofs.resolution.put_events.Goals as goal
 
 pub returns-in_err-shared : goal.returns-in_err-shared

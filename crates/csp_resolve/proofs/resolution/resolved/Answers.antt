@@ -1,8 +1,6 @@
 use Rattle.std.proofs.Common.{◌≤◌, IsTrue, length, map, sym, ◌∙◌, subst}
-use Rattle.csp_program.specs.InOrder.{lacks_sets}
-use Rattle.csp_program.specs.Lists.{all_true}
+use Rattle.csp_program.specs.Prelude.{lacks_sets, all_true, Content}
 use Rattle.resolved_laws.proofs.Whole.{plain_lacks}
-use Rattle.csp_program.specs.declared.programs.Content.{Content}
 use Rattle.dl_limits.specs.declared.TheConstants.{MOST_BYTES}
 use Rattle.script_names.specs.Resolved.{Answer}
 use Rattle.csp_resolve.specs.Answers.{Answers}

@@ -1,12 +1,7 @@
 use Rattle.std.proofs.Common.{List, map, take}
 use Rattle.csp_program.specs.declared.programs.Content.{Content}
-use Rattle.term_pool.specs.Pooled.{IsFront}
-use Rattle.term_pool.specs.Trees.{tree_at}
-use Rattle.csp_steps.specs.Computed.{AreMoves}
-use Rattle.csp_steps.specs.Effect.{all_moves, effect_as}
-use Rattle.csp_steps.specs.Evaluated.{AreNoted, IsNumbered}
-use Rattle.csp_steps.specs.Listed.{seen}
-use Rattle.csp_steps.specs.declared.operator.Operator.{Operator}
+use Rattle.term_pool.specs.Prelude.{IsFront, tree_at}
+use Rattle.csp_steps.specs.Prelude.{AreMoves, all_moves, effect_as, AreNoted, IsNumbered, seen, Operator}
 use Rattle.csp_steps.proofs.around.made_of.Given as goal
 
 abbrev pub invariant-loop-step : goal.invariant-loop-step

@@ -1,7 +1,6 @@
 use Rattle.std.proofs.Common.{take}
 use Rattle.process_steps.specs.Step.{each_put}
-use Rattle.term_pool.specs.Pooled.{IsFront}
-use Rattle.term_pool.specs.Trees.{tree_at}
+use Rattle.term_pool.specs.Prelude.{IsFront, tree_at}
 use Rattle.csp_steps.specs.Computed.{AreAt}
 use Rattle.csp_steps.proofs.choice.each_put.Given as goal
 

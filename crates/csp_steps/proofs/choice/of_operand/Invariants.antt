@@ -1,9 +1,7 @@
 use Rattle.std.proofs.Common.{map, take}
 use Rattle.process_steps.specs.StepList.{in_choice}
-use Rattle.term_pool.specs.Pooled.{IsFront}
-use Rattle.term_pool.specs.Trees.{tree_at}
-use Rattle.csp_steps.specs.Computed.{AreMoves}
-use Rattle.csp_steps.specs.Listed.{seen}
+use Rattle.term_pool.specs.Prelude.{IsFront, tree_at}
+use Rattle.csp_steps.specs.Prelude.{AreMoves, seen}
 use Rattle.csp_steps.proofs.choice.of_operand.Given as goal
 
 abbrev pub invariant-loop-step : goal.invariant-loop-step

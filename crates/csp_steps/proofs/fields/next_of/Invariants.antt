@@ -1,7 +1,6 @@
 use Rattle.std.proofs.Common.{◌≡◌, ◌≤◌, [], length}
 use Rattle.value_operators.specs.Env.{with_bound}
-use Rattle.csp_steps.specs.Evaluated.{AreSets}
-use Rattle.csp_steps.specs.Walked.{ways_by_number, weight}
+use Rattle.csp_steps.specs.Prelude.{AreSets, ways_by_number, weight}
 use Rattle.csp_steps.proofs.fields.next_of.Given as goal
 
 -- what is left has as many ways as the whole

@@ -1,9 +1,6 @@
 use Rattle.std.proofs.Common.{◌≡◌, true, [], length}
-use Rattle.term_pool.specs.Pooled.{IsFront}
-use Rattle.term_pool.specs.Trees.{tree_at}
-use Rattle.csp_steps.specs.Computed.{all_within}
-use Rattle.csp_steps.specs.Evaluated.{AreSets}
-use Rattle.csp_steps.specs.Walked.{filled, walk_moves, walk_weight, ways_by_number, IsSound}
+use Rattle.term_pool.specs.Prelude.{IsFront, tree_at}
+use Rattle.csp_steps.specs.Prelude.{all_within, AreSets, filled, walk_moves, walk_weight, ways_by_number, IsSound}
 use Rattle.csp_steps.proofs.prefix.prefix_steps.Given as goal
 
 -- the walk still comes to the same steps

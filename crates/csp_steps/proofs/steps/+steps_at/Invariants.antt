@@ -1,7 +1,6 @@
 use Rattle.std.proofs.Common.{◌+◌, ◌*◌, map}
 use Rattle.csp_program.specs.Depth.{proc_depth}
-use Rattle.term_pool.specs.Pooled.{IsFront}
-use Rattle.term_pool.specs.Trees.{tree_at}
+use Rattle.term_pool.specs.Prelude.{IsFront, tree_at}
 use Rattle.csp_steps.specs.Evaluated.{Fits}
 use Rattle.csp_steps.proofs.Choosing.{IsChoiceSoFar}
 use Rattle.csp_steps.proofs.steps.+steps_at.Given as goal

@@ -1,6 +1,5 @@
 use Rattle.std.proofs.Common.{◌≡◌, Ok, ◌≤◌, ◌+◌, ◌-◌, ◌^◌, drop}
-use Rattle.value_operators.specs.Env.{env_in}
-use Rattle.value_operators.specs.Forms.{capped, scaled}
+use Rattle.value_operators.specs.Prelude.{env_in, capped, scaled}
 use Rattle.csp_values.specs.Course.{IsUnder, course, skipped}
 use Rattle.csp_values.specs.Worth.{worths, with_items, with_fronts, fields_worth, gathered_of, one_more_binding, walk_worth, yielded}
 use Rattle.csp_values.proofs.Courses.{over_course, size}

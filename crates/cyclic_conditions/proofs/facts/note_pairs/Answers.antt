@@ -1,8 +1,7 @@
 use Rattle.std.proofs.Common.{◌≡◌, ◌∙◌, ap, sym, subst, arith, inl, inr}
-use Rattle.std.proofs.lemmas.Bool.{cases_lt}
+use Rattle.csp_base.proofs.Standard.{cases_lt, err_from_is_err_and}
 use Rattle.cyclic_conditions.specs.Facts.{IsNoted}
 use Rattle.cyclic_conditions.proofs.Noting.{noted_still}
-use Rattle.std.proofs.lemmas.Result.{err_from_is_err_and}
 use Rattle.cyclic_conditions.specs.declared.facts.FactFault.TheVariants.{Clash}
 use Rattle.cyclic_conditions.proofs.Noting.{failed, same_fault}
 use Rattle.cyclic_conditions.proofs.facts.note_pairs.Goals as goal

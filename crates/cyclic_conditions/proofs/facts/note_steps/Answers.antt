@@ -1,9 +1,6 @@
 use Rattle.std.proofs.Common.{◌≡◌, ◌∙◌, ℕ, ap, sym, subst, arith, inl, inr, IsTrue}
-use Rattle.std.proofs.lemmas.Bool.{cases_lt}
-use Rattle.std.proofs.lemmas.List.{get_or_read}
-use Rattle.std.proofs.lemmas.Result.{err_from_is_err_and}
-use Rattle.csp_tables.specs.Part.{part_at}
-use Rattle.csp_tables.specs.Table.{is_possible, node_at}
+use Rattle.csp_base.proofs.Standard.{cases_lt, get_or_read, err_from_is_err_and}
+use Rattle.csp_tables.specs.Prelude.{part_at, is_possible, node_at}
 use Rattle.observed_runs.specs.Observed.{pair_at}
 use Rattle.shape_links.specs.Links.{IsOwner}
 use Rattle.cyclic_conditions.specs.Facts.{HasFirst}

@@ -1,11 +1,8 @@
 use Rattle.std.proofs.Common.{◌≡◌, ◌-◌, ◌∙◌, ℕ, List, ap, subst}
 use Rattle.std.proofs.lemmas.Result.{IfOk-weaker}
-use Rattle.csp_tables.specs.Part.{part_at}
-use Rattle.csp_tables.specs.Shape.{Shape}
+use Rattle.csp_tables.specs.Prelude.{part_at, Shape}
 use Rattle.design_rules.specs.Cyclic.{links_of}
-use Rattle.observed_runs.specs.Enough.{SeesOnly}
-use Rattle.observed_runs.specs.Exploration.{AreFound, Found, IsExploration}
-use Rattle.observed_runs.specs.Observers.{lap_step}
+use Rattle.observed_runs.specs.Prelude.{SeesOnly, AreFound, Found, IsExploration, lap_step}
 use Rattle.shape_links.proofs.Watching.{lap_only}
 use Rattle.cyclic_conditions.proofs.orders.explored_part.Goals as goal
 

@@ -1,12 +1,9 @@
 use Rattle.std.proofs.Common.{◌≡◌, length, ap, sym, subst, arith, inl, inr}
-use Rattle.std.proofs.lemmas.Bool.{cases_lt}
-use Rattle.std.proofs.lemmas.Result.{err_from_is_err_and}
+use Rattle.csp_base.proofs.Standard.{cases_lt, err_from_is_err_and}
 use Rattle.std.specs.Prelude.{IfErr}
-use Rattle.csp_tables.specs.Shape.{Shape}
-use Rattle.csp_tables.specs.Part.{Part}
-use Rattle.design_rules.specs.Cyclic.{KeepsPlaces}
+use Rattle.csp_tables.specs.Prelude.{Shape, Part}
+use Rattle.design_rules.specs.Prelude.{KeepsPlaces, BreaksCyclic}
 use Rattle.cyclic_conditions.specs.Told.{IsBrokenOrder}
-use Rattle.design_rules.specs.Rules.{BreaksCyclic}
 use Rattle.cyclic_conditions.proofs.Laps.{breaks_there, orders_more}
 use Rattle.cyclic_conditions.proofs.orders.link_orders.Goals as goal
 

@@ -1,7 +1,6 @@
 use Rattle.std.proofs.Common.{◌≡◌, ℕ, length, ap, sym, subst, arith, inl, inr}
 use Rattle.std.proofs.lemmas.Bool.{cases_lt}
-use Rattle.csp_tables.specs.Part.{Part}
-use Rattle.csp_tables.specs.Shape.{Shape}
+use Rattle.csp_tables.specs.Prelude.{Part, Shape}
 use Rattle.cyclic_conditions.specs.Shorts.{IsShortAt, IsMarked}
 use Rattle.cyclic_conditions.proofs.Shortness.{marked_still}
 use Rattle.cyclic_conditions.proofs.whole.mark_all.Goals as goal

@@ -1,8 +1,6 @@
 use Rattle.std.proofs.Common.{◌≡◌, ◌<◌, ◌≤◌, ◌∙◌, ℕ, List, length, ap, sym, subst, arith, inl, inr}
 use Rattle.std.proofs.lemmas.Bool.{cases_lt}
-use Rattle.csp_tables.specs.Table.{Node}
-use Rattle.csp_tables.specs.Part.{part_at}
-use Rattle.csp_tables.specs.Shape.{acceptance_at}
+use Rattle.csp_tables.specs.Prelude.{Node, part_at, acceptance_at}
 use Rattle.cyclic_conditions.specs.Shorts.{IsShort, IsMarked}
 use Rattle.shape_links.specs.Links.{IsOnOne}
 use Rattle.cyclic_conditions.proofs.Shortness.{accept_read, short_end, marked_still, keeps_both}

@@ -1,6 +1,5 @@
 use Rattle.std.proofs.Common.{ℕ, ◌<◌}
-use Rattle.csp_tables.specs.Part.{part_at}
-use Rattle.csp_tables.specs.Shape.{acceptance_at}
+use Rattle.csp_tables.specs.Prelude.{part_at, acceptance_at}
 use Rattle.cyclic_conditions.specs.Shorts.{AreShorts, IsMarked, IsShort, KeepsShorts}
 use Rattle.cyclic_conditions.proofs.whole.mark_node.Given as goal
 

@@ -1,7 +1,6 @@
 use Rattle.std.proofs.Common.{◌≡◌, ◌<◌, ◌≤◌, ◌∙◌, List, length, ap, sym, subst, arith, inl, inr}
 use Rattle.std.proofs.lemmas.Bool.{cases_lt}
-use Rattle.csp_tables.specs.Table.{Node}
-use Rattle.csp_tables.specs.Part.{Part}
+use Rattle.csp_tables.specs.Prelude.{Node, Part}
 use Rattle.cyclic_conditions.specs.Shorts.{IsShortAt, IsMarked}
 use Rattle.cyclic_conditions.proofs.Shortness.{marked_still, keeps_both}
 use Rattle.cyclic_conditions.proofs.whole.mark_part.Goals as goal

@@ -1,13 +1,11 @@
 use Rattle.std.proofs.Common.{◌≡◌, ◌∙◌, ℕ, List, Some, nat_le, ap, sym, subst, refl}
-use Rattle.std.proofs.lemmas.Bool.{false≢true}
+use Rattle.csp_base.proofs.Standard.{false≢true, none-some, same_Some}
 use Rattle.csp_base.specs.Events.{is_subset_of}
 use Rattle.csp_tables.specs.Shape.{Link, Shape, link_at}
 use Rattle.cyclic_conditions.specs.Shorts.{IsShort}
-use Rattle.std.proofs.lemmas.Option.{none-some}
 use Rattle.shape_links.proofs.Links.{vocabulary_owner}
 use Rattle.cyclic_conditions.proofs.Shortness.{short_set, short_subset, short_owner, short_lacks}
 use Rattle.cyclic_conditions.proofs.whole.short_link.Goals as goal
-use Rattle.std.proofs.lemmas.Option.{same_Some}
 use Rattle.csp_base.proofs.Listed.{find_has, none_found}
 
 pub returns-then-not-is_subset-clause-all : goal.returns-then-not-is_subset-clause-all

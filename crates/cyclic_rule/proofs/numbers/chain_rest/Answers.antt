@@ -1,7 +1,6 @@
 use Rattle.std.proofs.Common.{◌≡◌, ◌≤◌, ◌∙◌, ℕ, Some, length, get_or, false, sym, subst, arith, inl, inr}
 use Rattle.std.specs.Prelude.{slice_get}
-use Rattle.std.proofs.lemmas.Bool.{cases_lt}
-use Rattle.std.proofs.lemmas.Option.{get_or_from_slice_get, slice_get_within}
+use Rattle.csp_base.proofs.Standard.{cases_lt, get_or_from_slice_get, slice_get_within}
 use Rattle.csp_base.specs.Members.{has}
 use Rattle.digraph.specs.Digraph.{HasArc}
 use Rattle.cyclic_rule.proofs.Chaining.{rest_is, rest_last}

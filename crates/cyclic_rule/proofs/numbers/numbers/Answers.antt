@@ -1,13 +1,9 @@
 use Rattle.std.proofs.Common.{◌≡◌, ◌<◌, ℕ, List, map, length, ap, inl, inr, refl, sym, subst, Err}
 use Rattle.std.specs.Prelude.{slice_index, IfOk}
 use Rattle.csp_tables.specs.Shape.{Shape}
-use Rattle.digraph.specs.Digraph.{HasArc}
-use Rattle.digraph.specs.Circle.{IsLeastCircle}
-use Rattle.design_rules.specs.Cyclic.{MustPrecede}
-use Rattle.design_rules.specs.CyclicFaults.{ends_of}
+use Rattle.digraph.specs.Prelude.{HasArc, IsLeastCircle}
+use Rattle.design_rules.specs.Prelude.{MustPrecede, ends_of, BreaksCyclic, LinksCircle}
 use Rattle.shape_links.specs.Turned.{turned_circle}
-use Rattle.design_rules.specs.Rules.{BreaksCyclic}
-use Rattle.design_rules.specs.declared.rule_fault.RuleFault.TheVariants.{LinksCircle}
 use Rattle.cyclic_rule.proofs.Chaining.{next_precedes, all_rise, chain_numbers}
 use Rattle.shape_links.proofs.Circles.{turned_least, circle_some}
 use Rattle.cyclic_rule.proofs.numbers.numbers.Goals as goal

@@ -1,7 +1,6 @@
 use Rattle.std.proofs.Common.{subst}
 use Rattle.std.specs.Prelude.{IfOk, OnOk}
-use Rattle.csp_tables.specs.RawTable.{RawTable, RawStep}
-use Rattle.csp_tables.specs.NormalTable.{HasAcceptances}
+use Rattle.csp_tables.specs.Prelude.{RawTable, RawStep, HasAcceptances}
 use Rattle.determinise.specs.Determinised.{FollowsTraces}
 use Rattle.determinise.specs.ManySets.{ReachesSets}
 use Rattle.determinise.proofs.explore.determinise.Goals as goal

@@ -1,8 +1,6 @@
 use Rattle.std.proofs.Common.{◌≡◌, ◌<◌, ◌≤◌, ℕ, List, length, get_or, nat_eq, refl, sym, ap, ◌∙◌, subst, arith, eq-eqb}
-use Rattle.std.proofs.lemmas.List.Folds.{list_any_at}
-use Rattle.std.proofs.lemmas.Map.Steps.{length-le_from_distinct_below}
-use Rattle.digraph.specs.Digraph.{targets_of}
-use Rattle.digraph.specs.FoundOrder.{found_after}
+use Rattle.csp_base.proofs.Standard.{list_any_at, length-le_from_distinct_below}
+use Rattle.digraph.specs.Prelude.{targets_of, found_after}
 use Rattle.digraph.proofs.Listing.{same_has}
 use Rattle.digraph.proofs.Reaching.{searched_first, searched_more, whole, members_found, all_below}
 use Rattle.digraph.proofs.reach.add_reached.Goals as goal

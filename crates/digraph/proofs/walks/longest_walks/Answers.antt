@@ -1,8 +1,6 @@
 use Rattle.std.proofs.Common.{◌≡◌, Err, ap}
-use Rattle.std.proofs.lemmas.List.{get_or_default}
-use Rattle.std.proofs.lemmas.Result.{err_from_is_err_and}
-use Rattle.digraph.specs.declared.fault.Fault.TheVariants.{Circle}
-use Rattle.digraph.specs.Digraph.{HasArc}
+use Rattle.csp_base.proofs.Standard.{get_or_default, err_from_is_err_and}
+use Rattle.digraph.specs.Prelude.{Circle, HasArc}
 use Rattle.digraph.proofs.WalkLaws.{no_longest}
 use Rattle.digraph.proofs.HeightLaws.{heights_fall, heights_step, heights_at_sinks, no_heights}
 use Rattle.digraph.proofs.walks.longest_walks.Goals as goal

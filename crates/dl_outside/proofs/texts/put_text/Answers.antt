@@ -1,8 +1,7 @@
 use Rattle.std.proofs.Common.{◌≡◌, List, [], ◌∷◌, ◌++◌, Some, None, sym, subst}
 use Rattle.std.specs.List.{position}
 use Rattle.std.proofs.lemmas.Result.{on_ok_weaker}
-use Rattle.dl_outside.specs.Texts.{has_name, PutsText}
-use Rattle.dl_outside.specs.declared.texts.NamedText.{NamedText}
+use Rattle.dl_outside.specs.Prelude.{has_name, PutsText, NamedText}
 use Rattle.dl_outside.proofs.TextsLemmas.{PutsText-set, PutsText-append}
 use Rattle.dl_outside.proofs.texts.put_text.Goals as goal
 

@@ -4,9 +4,7 @@ use Rattle.command_words.specs.declared.request.Request.TheVariants as request
 use Rattle.csp_tables.specs.declared.rule.Rule.{Rule}
 use Rattle.dl_top.proofs.Lengths.{trial_is_short}
 use Rattle.dl_top.proofs.Walks.{at_short}
-use Rattle.dl_top.specs.Cause.{TextsCallFor}
-use Rattle.dl_top.specs.Judgement.{TextCallsFor}
-use Rattle.dl_top.specs.Reply.{trial_text}
+use Rattle.dl_top.specs.Prelude.{TextsCallFor, TextCallsFor, trial_text}
 use Rattle.dl_top.proofs.load.tried.Goals as goal
 
 pub judge-requires : goal.judge-requires

@@ -1,10 +1,7 @@
 use Rattle.std.proofs.Common.{◌≡◌, ◌≤◌, arith}
 use Rattle.command_words.specs.declared.request.Job.TheVariants.{Check, Run}
 use Rattle.command_words.specs.declared.request.Request.TheVariants as request
-use Rattle.dl_top.specs.Complete.{Passing, Running}
-use Rattle.dl_top.specs.Ending.{sink_signs}
-use Rattle.dl_top.specs.Promised.{IsStuckRun, Promised}
-use Rattle.dl_top.specs.Proved.{IsFree}
+use Rattle.dl_top.specs.Prelude.{Passing, Running, sink_signs, IsStuckRun, Promised, IsFree}
 use Rattle.dl_top.proofs.Printing.{in_shelf_fault, kept, kept_all, settled, settled_as}
 use Rattle.dl_top.proofs.Promising.{completes, keeps, keeps_free, keeps_stuck, keeps_tried, runs}
 use Rattle.dl_top.proofs.top.dl_main.Goals as goal

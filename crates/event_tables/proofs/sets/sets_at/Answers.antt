@@ -1,6 +1,5 @@
 use Rattle.std.proofs.Common.{List, ap, ◌∙◌}
-use Rattle.std.specs.Borrow.{Bor}
-use Rattle.std.specs.Option.{option_copied}
+use Rattle.csp_base.specs.Standard.{Bor, option_copied}
 use Rattle.csp_atoms.specs.declared.atom.Atom.{Atom}
 use Rattle.event_tables.proofs.SetLaws.{got_at, lent_at}
 use Rattle.event_tables.proofs.sets.sets_at.Goals as goal

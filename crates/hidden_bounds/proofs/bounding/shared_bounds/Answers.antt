@@ -1,7 +1,6 @@
 use Rattle.std.proofs.Common.{◌≡◌, ◌+◌, ◌<◌, ◌≤◌, length, take, ap, refl, sym, arith}
 use Rattle.hidden_steps.specs.Order.{shared_bounds}
-use Rattle.hidden_bounds.specs.Sums.{sum_before}
-use Rattle.hidden_bounds.specs.Taking.{alphabet_at, taken_in}
+use Rattle.hidden_bounds.specs.Prelude.{sum_before, alphabet_at, taken_in}
 use Rattle.hidden_bounds.proofs.Sums.{next_shared, shared_fits, within_read}
 use Rattle.hidden_bounds.proofs.Taken.{none_taken}
 use Rattle.hidden_bounds.proofs.bounding.shared_bounds.Goals as goal

@@ -1,7 +1,6 @@
 use Rattle.std.proofs.Common.{◌≡◌, ◌≤◌, ◌<◌, ℕ, length}
 use Rattle.csp_base.specs.Events.{meets_of}
-use Rattle.hidden_bounds.specs.Standings.{reopened_to, standing_at}
-use Rattle.hidden_bounds.specs.Taking.{alphabet_at}
+use Rattle.hidden_bounds.specs.Prelude.{reopened_to, standing_at, alphabet_at}
 use Rattle.hidden_bounds.proofs.ordering.reopen.Given as goal
 
 abbrev pub invariant-loop-part : goal.invariant-loop-part

@@ -1,6 +1,5 @@
 use Rattle.std.proofs.Common.{◌∙◌, rules, subst}
-use Rattle.network_stages.specs.Networks.{Network}
-use Rattle.network_stages.specs.Stages.{StaysBusy}
+use Rattle.network_stages.specs.Prelude.{Network, StaysBusy}
 use Rattle.report.proofs.Points.{exits, goes_on}
 use Rattle.report.specs.Stops.{Answers}
 use Rattle.judgement.specs.Judged.{IsJudged, RuleDecides}

@@ -1,7 +1,5 @@
 use Rattle.std.proofs.Common.{subst, sym}
-use Rattle.csp_tables.specs.Network.{leaves}
-use Rattle.csp_tables.specs.Part.{TripleDisjoint, alphabets_of}
-use Rattle.csp_tables.specs.Shape.{IsWellFormed, Shape}
+use Rattle.csp_tables.specs.Prelude.{leaves, TripleDisjoint, alphabets_of, IsWellFormed, Shape}
 use Rattle.design_rules.proofs.Readings.{networks_meet}
 use Rattle.design_rules.specs.Rules.{HasNotes, Ranks}
 use Rattle.net_sound.proofs.FormOfTables.{shapes_are_well_formed}

@@ -1,6 +1,5 @@
 use Rattle.std.proofs.Common.{◌≡◌, ◌+◌, ◌<◌, ◌∙◌, ap, length, slice_index_or, subst, sym, arith, List}
-use Rattle.std.proofs.lemmas.Bool.{false≢true}
-use Rattle.std.proofs.lemmas.Option.{same_Some, slice_get-get_or, slice_get_within}
+use Rattle.csp_base.proofs.Standard.{false≢true, same_Some, slice_get-get_or, slice_get_within}
 use Rattle.csp_steps.specs.declared.step.StepTo.{StepTo}
 use Rattle.csp_tables.specs.Label.Label.{visible}
 use Rattle.local_tables.specs.Progress.{AreLed, Origin, terms_at}

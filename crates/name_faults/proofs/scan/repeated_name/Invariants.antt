@@ -1,7 +1,5 @@
 use Rattle.std.proofs.Common.{◌≡◌, drop, map}
-use Rattle.script_names.specs.Faults.{repeated_name}
-use Rattle.script_names.specs.Names.{first_of}
-use Rattle.script_names.specs.Told.{first_name}
+use Rattle.script_names.specs.Prelude.{repeated_name, first_of, first_name}
 use Rattle.name_faults.specs.Walked.{seen}
 use Rattle.name_faults.proofs.scan.repeated_name.Given as goal
 

@@ -1,6 +1,5 @@
 use Rattle.std.proofs.Common.{◌≡◌, drop, map}
-use Rattle.script_names.specs.Faults.{unknown_name}
-use Rattle.script_names.specs.Told.{first_name}
+use Rattle.script_names.specs.Prelude.{unknown_name, first_name}
 use Rattle.name_faults.specs.Walked.{seen}
 use Rattle.name_faults.proofs.scan.unknown_name.Given as goal
 

@@ -1,8 +1,7 @@
 use Rattle.std.proofs.Common.{◌++◌, ◌≤◌, arith}
 use Rattle.std.specs.List.{flat_map}
 use Rattle.dl_limits.specs.declared.TheConstants.{MOST_BYTES}
-use Rattle.script_names.specs.Kinds.{body_ends}
-use Rattle.script_names.specs.Names.{first_of}
+use Rattle.script_names.specs.Prelude.{body_ends, first_of}
 use Rattle.script_sizes.specs.Size.{declaration_size, size}
 use Rattle.name_tables.specs.Ends.{rows}
 use Rattle.name_tables.proofs.DeclaredLemmas.{flat_end, flat_step}

@@ -1,7 +1,6 @@
 use Rattle.std.proofs.Common.{◌≡◌, ◌++◌, drop}
 use Rattle.std.specs.List.{flat_map}
-use Rattle.script_names.specs.Kinds.{body_ends}
-use Rattle.script_names.specs.Names.{first_of}
+use Rattle.script_names.specs.Prelude.{body_ends, first_of}
 use Rattle.name_tables.specs.Ends.{rows}
 use Rattle.name_tables.proofs.ends.add_bodies.Given as goal
 

@@ -1,6 +1,5 @@
 use Rattle.std.proofs.Common.{◌≡◌, ◌++◌, ◌∙◌, ap}
-use Rattle.script_names.specs.Contents.{parameters}
-use Rattle.script_names.specs.Typed.{Scope, names_of}
+use Rattle.script_names.specs.Prelude.{parameters, Scope, names_of}
 use Rattle.name_tables.proofs.ends.ends_under.Goals as goal
 use Rattle.script_names.proofs.Scopes.{names_of-parameters}
 

@@ -1,7 +1,5 @@
 use Rattle.std.proofs.Common.{◌<◌, List, length, subst}
-use Rattle.csp_tables.specs.Form.{HasForm}
-use Rattle.csp_tables.specs.Part.{Part}
-use Rattle.csp_tables.specs.Table.{IsReached}
+use Rattle.csp_tables.specs.Prelude.{HasForm, Part, IsReached}
 use Rattle.net_sound.proofs.Within.{part_form}
 use Rattle.network_stages.proofs.Reading.{part_read}
 use Rattle.network_stages.proofs.Stopping.{parts_more}

@@ -1,7 +1,6 @@
 use Rattle.std.proofs.Common.{subst, sym}
 use Rattle.std.proofs.lemmas.Result.{IfErr-weaker}
-use Rattle.csp_tables.specs.Shape.{IsWellFormed}
-use Rattle.csp_tables.specs.ShapeOf.{IsShapeOf}
+use Rattle.csp_tables.specs.Prelude.{IsWellFormed, IsShapeOf}
 use Rattle.net_sound.proofs.FormOfTables.{shapes_are_well_formed}
 use Rattle.network_stages.proofs.TrueStops.{can_stop, stays_busy}
 use Rattle.process_steps.specs.ComponentStep.{ProcessStep}

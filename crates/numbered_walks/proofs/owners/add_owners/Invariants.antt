@@ -1,6 +1,5 @@
 use Rattle.std.proofs.Common.{◌≡◌, ℕ, [], get_or, length, take}
-use Rattle.numbered_walks.specs.Marks.{marked}
-use Rattle.numbered_walks.specs.Agreements.{owner_marks}
+use Rattle.numbered_walks.specs.Prelude.{marked, owner_marks}
 use Rattle.numbered_walks.proofs.owners.add_owners.Given as goal
 
 abbrev pub invariant-loop-place : goal.invariant-loop-place

@@ -1,10 +1,7 @@
 use Rattle.std.proofs.Common.{◌≡◌, ℕ, List, Bool, Some, length, slice_get, ap, subst, ◌∙◌, arith}
-use Rattle.numbered_walks.specs.Marks.{mark_count}
+use Rattle.numbered_walks.specs.Prelude.{mark_count, Has, place_among, options}
 use Rattle.numbered_walks.proofs.Optioning.{has_at, none_counted, option_count, options_are}
 use Rattle.numbered_walks.proofs.Stepping.{event_marks, silent_marks}
-use Rattle.numbered_walks.specs.Numbered.{Has}
-use Rattle.numbered_walks.specs.Numbers.{place_among}
-use Rattle.numbered_walks.specs.Steps.{options}
 use Rattle.numbered_walks.proofs.standing.chosen.Goals as goal
 
 pub returns-then-count-eq0-clause-none : goal.returns-then-count-eq0-clause-none

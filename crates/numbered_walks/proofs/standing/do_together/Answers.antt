@@ -2,13 +2,10 @@ use Rattle.std.proofs.Common.{◌≡◌, ◌<◌, ℕ, Bool, List, get_or, lengt
 use Rattle.std.proofs.lemmas.List.{get_or_default, take_all}
 use Rattle.csp_base.proofs.Lists.{take_read}
 use Rattle.csp_base.specs.Members.{has}
-use Rattle.csp_tables.specs.Label.Label.{visible}
-use Rattle.csp_tables.specs.RawTable.{RawStep}
+use Rattle.csp_tables.specs.Prelude.{visible, RawStep}
 use Rattle.numbered_walks.proofs.Drawing.{one_more_goes}
 use Rattle.numbered_walks.proofs.Stepping.{all_done, one_done, owner_can, owner_has, owner_within, owners_have, owners_rise, still_there}
-use Rattle.numbered_walks.specs.Agreements.{component_at}
-use Rattle.numbered_walks.specs.Numbered.{Can}
-use Rattle.numbered_walks.specs.Steps.{AllGo}
+use Rattle.numbered_walks.specs.Prelude.{component_at, Can, AllGo}
 use Rattle.numbered_walks.proofs.standing.do_together.Goals as goal
 
 pub do_event-requires-clause-place : goal.do_event-requires-clause-place

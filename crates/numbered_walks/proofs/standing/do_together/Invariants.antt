@@ -1,7 +1,6 @@
 use Rattle.std.proofs.Common.{take}
 use Rattle.csp_tables.specs.Label.Label.{visible}
-use Rattle.numbered_walks.specs.Agreements.{IsStanding}
-use Rattle.numbered_walks.specs.Steps.{AllGo}
+use Rattle.numbered_walks.specs.Prelude.{IsStanding, AllGo}
 use Rattle.numbered_walks.proofs.Stepping.{AreDone}
 use Rattle.numbered_walks.proofs.standing.do_together.Given as goal
 

@@ -1,7 +1,6 @@
 use Rattle.std.proofs.Common.{◌≡◌, ◌<◌, ℕ, false, get_or, length, take}
 use Rattle.acceptances.specs.OfferTests.{is_unstable}
-use Rattle.numbered_walks.specs.Agreements.{IsAgreement, component_at, offer_count}
-use Rattle.numbered_walks.specs.Numbered.{OwnsItsSteps, first_terms}
+use Rattle.numbered_walks.specs.Prelude.{IsAgreement, component_at, offer_count, OwnsItsSteps, first_terms}
 use Rattle.numbered_walks.proofs.standing.enter_all.Given as goal
 
 abbrev pub invariant-loop-place : goal.invariant-loop-place

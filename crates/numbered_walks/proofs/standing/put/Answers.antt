@@ -2,8 +2,7 @@ use Rattle.std.proofs.Common.{◌≡◌, ◌≤◌, Bool, get_or, set, refl, sym
 use Rattle.std.proofs.lemmas.List.{get_or_default}
 use Rattle.acceptances.specs.OfferTests.{is_unstable}
 use Rattle.numbered_walks.proofs.Stepping.{component_read, offered, offers_there, offers_within, place_stands, put_there, room_there}
-use Rattle.numbered_walks.specs.Agreements.{bit}
-use Rattle.numbered_walks.specs.Numbered.{Numbered}
+use Rattle.numbered_walks.specs.Prelude.{bit, Numbered}
 use Rattle.numbered_walks.proofs.standing.put.Goals as goal
 
 pub exchange-requires-clause-within : goal.exchange-requires-clause-within

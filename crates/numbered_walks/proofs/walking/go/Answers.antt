@@ -1,12 +1,7 @@
 use Rattle.std.proofs.Common.{◌≡◌, ◌+◌, ℕ, List, length, sym, ap, subst, ◌∙◌}
-use Rattle.std.proofs.lemmas.List.{length_push}
-use Rattle.std.proofs.lemmas.Option.{MatchOption-at_some}
+use Rattle.csp_base.proofs.Standard.{length_push, MatchOption-at_some}
 use Rattle.numbered_walks.proofs.Longer.{number_push, one_more_step}
-use Rattle.numbered_walks.specs.Numbered.{Goes, Has}
-use Rattle.numbered_walks.specs.Numbers.{next_number}
-use Rattle.numbered_walks.specs.Steps.{IsAtEnd, IsStep, number_after}
-use Rattle.numbered_walks.specs.Walks.{Chooses, IsWalk}
-use Rattle.numbered_walks.specs.declared.moves.Move.{Move}
+use Rattle.numbered_walks.specs.Prelude.{Goes, Has, next_number, IsAtEnd, IsStep, number_after, Chooses, IsWalk, Move}
 use Rattle.numbered_walks.proofs.walking.go.Goals as goal
 
 pub loop-preserved : goal.loop-preserved

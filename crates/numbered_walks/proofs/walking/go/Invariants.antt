@@ -1,8 +1,5 @@
 use Rattle.std.proofs.Common.{◌≡◌, length}
-use Rattle.numbered_walks.specs.Agreements.{IsStanding}
-use Rattle.numbered_walks.specs.Numbered.{Goes, Has}
-use Rattle.numbered_walks.specs.Steps.{number_after}
-use Rattle.numbered_walks.specs.Walks.{IsWalk}
+use Rattle.numbered_walks.specs.Prelude.{IsStanding, Goes, Has, number_after, IsWalk}
 use Rattle.numbered_walks.proofs.walking.go.Given as goal
 
 abbrev pub invariant-loop : goal.invariant-loop

@@ -1,9 +1,7 @@
 use Rattle.std.proofs.Common.{◌≡◌, ◌<◌, ◌≤◌, ℕ, List, [], length, get_or, sym, ap, subst, ◌∙◌, arith, inl, inr}
-use Rattle.std.proofs.lemmas.Bool.{cases_lt}
-use Rattle.std.proofs.lemmas.List.{get_or_read}
+use Rattle.csp_base.proofs.Standard.{cases_lt, get_or_read}
 use Rattle.csp_tables.specs.Table.{node_at}
-use Rattle.observed_runs.specs.Observed.{pair_at}
-use Rattle.observed_runs.specs.Enough.{HasPair}
+use Rattle.observed_runs.specs.Prelude.{pair_at, HasPair}
 use Rattle.observed_runs.proofs.Growing.{none_more, more_followed, all_followed, listed_added, same_pair}
 use Rattle.observed_runs.proofs.exploring.follow.Goals as goal
 

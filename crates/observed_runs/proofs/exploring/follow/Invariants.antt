@@ -1,7 +1,5 @@
 use Rattle.std.proofs.Common.{◌<◌, ℕ, [], get_or}
-use Rattle.observed_runs.specs.Enough.{HasPair}
-use Rattle.observed_runs.specs.Observed.{pair_at}
-use Rattle.observed_runs.specs.Progress.{AreMore}
+use Rattle.observed_runs.specs.Prelude.{HasPair, pair_at, AreMore}
 use Rattle.observed_runs.proofs.exploring.follow.Given as goal
 
 abbrev pub invariant-loop-step : goal.invariant-loop-step

@@ -1,6 +1,5 @@
 use Rattle.std.proofs.Common.{◌≡◌, ◌+◌, ◌<◌, ◌≤◌, length, ap, subst, ◌∙◌, arith, inl, inr}
-use Rattle.std.proofs.lemmas.Bool.{cases_lt}
-use Rattle.std.proofs.lemmas.List.{length-append}
+use Rattle.csp_base.proofs.Standard.{cases_lt, length-append}
 use Rattle.observed_runs.specs.Progress.{AreFollowed}
 use Rattle.observed_runs.proofs.Growing.{explored_more, followed_still}
 use Rattle.observed_runs.proofs.Finding.{is_exploration}

@@ -2,11 +2,8 @@ use Rattle.std.proofs.Common.{◌≡◌, ℕ, ◌+◌, ◌*◌, ◌≤◌, max, 
 use denote.Param.Weighed as weighed
 use Rattle.csp_program.proofs.expressions.Expr.TheLaws.{the_size}
 use Rattle.csp_program.proofs.expressions.Gen.TheLaws as generator
-use Rattle.csp_program.specs.Depth.{expr_depth, gen_depth, part_depth}
-use Rattle.csp_program.specs.Free.{any_of, expr_free, gen_binding, nowhere, part_free, under}
-use Rattle.csp_program.specs.Size.{expr_size, gen_size, part_size}
-use Rattle.pool_parts.specs.Counting.{capped}
-use Rattle.pool_parts.specs.Low.{IsLow}
+use Rattle.csp_program.specs.Prelude.{expr_depth, gen_depth, part_depth, any_of, expr_free, gen_binding, nowhere, part_free, under, expr_size, gen_size, part_size}
+use Rattle.pool_parts.specs.Prelude.{capped, IsLow}
 use Rattle.pool_parts.proofs.measured.+of_expr.Given as goal
 use Rattle.csp_base.specs.Lists.{greatest, total}
 

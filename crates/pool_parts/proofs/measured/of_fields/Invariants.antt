@@ -1,9 +1,6 @@
 use Rattle.std.proofs.Common.{◌≡◌, ℕ, ◌+◌, ◌≤◌, max, min, map, drop}
-use Rattle.csp_program.specs.Depth.{field_depth}
-use Rattle.csp_program.specs.Free.{before, nowhere}
-use Rattle.csp_program.specs.Size.{field_size}
-use Rattle.pool_parts.specs.Counting.{capped}
-use Rattle.pool_parts.specs.Low.{IsLow}
+use Rattle.csp_program.specs.Prelude.{field_depth, before, nowhere, field_size}
+use Rattle.pool_parts.specs.Prelude.{capped, IsLow}
 use Rattle.pool_parts.proofs.measured.of_fields.Given as goal
 use Rattle.csp_base.specs.Lists.{greatest, total}
 

@@ -1,9 +1,6 @@
 use Rattle.std.proofs.Common.{◌≡◌, ℕ, ◌+◌, ◌≤◌, max, min, map, drop}
-use Rattle.csp_program.specs.Depth.{pair_depth}
-use Rattle.csp_program.specs.Free.{any_of, pair_free}
-use Rattle.csp_program.specs.Size.{pair_size}
-use Rattle.pool_parts.specs.Counting.{capped}
-use Rattle.pool_parts.specs.Low.{IsLow}
+use Rattle.csp_program.specs.Prelude.{pair_depth, any_of, pair_free, pair_size}
+use Rattle.pool_parts.specs.Prelude.{capped, IsLow}
 use Rattle.pool_parts.proofs.measured.of_pairs.Given as goal
 use Rattle.csp_base.specs.Lists.{greatest, total}
 

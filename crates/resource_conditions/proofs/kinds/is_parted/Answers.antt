@@ -1,9 +1,6 @@
 use Rattle.std.proofs.Common.{◌≡◌, ◌∙◌, ◌||◌, ◌&&◌, ℕ, List, ap, sym}
-use Rattle.csp_base.specs.Members.{has}
-use Rattle.csp_base.specs.Events.{meets_of}
-use Rattle.csp_tables.specs.Part.{Part, part_at}
-use Rattle.csp_tables.specs.Roles.{UseSets, use_at}
-use Rattle.csp_tables.specs.Shape.{Shape}
+use Rattle.csp_base.specs.Prelude.{has, meets_of}
+use Rattle.csp_tables.specs.Prelude.{Part, part_at, UseSets, use_at, Shape}
 use Rattle.resource_conditions.specs.Setting.{HasParted}
 use Rattle.resource_conditions.proofs.Joining.{parted, not_apart, not_within, not_all, match_of}
 use Rattle.resource_conditions.proofs.kinds.is_parted.Goals as goal

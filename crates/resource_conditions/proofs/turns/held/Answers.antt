@@ -1,10 +1,7 @@
 use Rattle.std.proofs.Common.{ℕ, List, subst, sym}
 use Rattle.csp_base.proofs.Results.{if_both}
-use Rattle.csp_tables.specs.Part.{part_at}
-use Rattle.csp_tables.specs.Shape.{Shape}
-use Rattle.observed_runs.specs.Enough.{SeesOnly}
-use Rattle.observed_runs.specs.Exploration.{AreFound, Found, IsExploration}
-use Rattle.observed_runs.specs.Observers.{holder_step}
+use Rattle.csp_tables.specs.Prelude.{part_at, Shape}
+use Rattle.observed_runs.specs.Prelude.{SeesOnly, AreFound, Found, IsExploration, holder_step}
 use Rattle.shape_links.specs.Links.{AreOwners}
 use Rattle.shape_links.proofs.Watching.{holder_only}
 use Rattle.resource_conditions.proofs.turns.held.Goals as goal

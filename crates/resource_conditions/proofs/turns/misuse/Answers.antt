@@ -1,9 +1,7 @@
 use Rattle.std.proofs.Common.{◌∙◌, ℕ, List, false, ap, sym, subst}
-use Rattle.csp_tables.specs.Part.{part_at}
-use Rattle.csp_tables.specs.Roles.{UseSets}
-use Rattle.observed_runs.specs.Observed.{pair_at}
+use Rattle.csp_tables.specs.Prelude.{part_at, UseSets}
+use Rattle.observed_runs.specs.Prelude.{pair_at, holder_step}
 use Rattle.observed_runs.proofs.Runs.{either_way}
-use Rattle.observed_runs.specs.Observers.{holder_step}
 use Rattle.resource_conditions.specs.Finding.{FindsBroken, HaveNodes}
 use Rattle.resource_conditions.specs.Tests.{are_turns}
 use Rattle.resource_conditions.proofs.Holding.{at_run, every_run, have_nodes, used_in_turn, not_in_turn}

@@ -1,14 +1,11 @@
 use Rattle.std.proofs.Common.{◌<◌, ℕ, List, length, ap, sym, subst, refl, arith, inl, inr, Err}
 use Rattle.std.specs.Prelude.{slice_index}
-use Rattle.digraph.specs.Digraph.{HasArc}
-use Rattle.digraph.specs.Circle.{IsLeastCircle}
+use Rattle.digraph.specs.Prelude.{HasArc, IsLeastCircle}
 use Rattle.digraph.proofs.WalkLaws.{same_longest}
-use Rattle.design_rules.specs.Resource.{IsHeldWhile}
-use Rattle.design_rules.specs.ResourceRanking.{StandsAbove}
+use Rattle.design_rules.specs.Prelude.{IsHeldWhile, StandsAbove, ResourcesCircle}
 use Rattle.shape_links.specs.Turned.{turned_circle}
 use Rattle.shape_links.proofs.Circles.{turned_least, circle_some}
 use Rattle.resource_conditions.specs.Setting.{Breaks}
-use Rattle.design_rules.specs.declared.rule_fault.RuleFault.TheVariants.{ResourcesCircle}
 use Rattle.resource_rule.proofs.numbers.numbers.Goals as goal
 
 pub returns-in-Ok-clause-numbers : goal.returns-in-Ok-clause-numbers

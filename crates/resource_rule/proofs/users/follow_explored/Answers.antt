@@ -1,9 +1,7 @@
 use Rattle.std.proofs.Common.{◌≡◌, ◌<◌, ◌∙◌, ℕ, List, true, false, length, ap, sym, subst}
-use Rattle.csp_tables.specs.Part.{part_at}
-use Rattle.csp_tables.specs.Shape.{link_at}
+use Rattle.csp_tables.specs.Prelude.{part_at, link_at}
 use Rattle.digraph.specs.Digraph.{has_arc}
-use Rattle.observed_runs.specs.Observed.{pair_at}
-use Rattle.observed_runs.specs.Observers.{parity_step}
+use Rattle.observed_runs.specs.Prelude.{pair_at, parity_step}
 use Rattle.resource_conditions.specs.Finding.{HaveNodes}
 use Rattle.resource_rule.specs.Uses.{UsesLink, are_uses, is_offered_at}
 use Rattle.resource_conditions.proofs.Holding.{at_run, every_run, have_nodes}

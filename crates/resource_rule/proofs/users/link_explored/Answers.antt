@@ -1,10 +1,7 @@
 use Rattle.std.proofs.Common.{◌≡◌, ◌∙◌, ℕ, List, ap, sym, subst}
 use Rattle.csp_base.proofs.Results.{if_both}
-use Rattle.csp_tables.specs.Part.{part_at}
-use Rattle.csp_tables.specs.Shape.{Link, Shape, link_at}
-use Rattle.observed_runs.specs.Enough.{SeesOnly}
-use Rattle.observed_runs.specs.Exploration.{AreFound, Found, IsExploration}
-use Rattle.observed_runs.specs.Observers.{parity_step}
+use Rattle.csp_tables.specs.Prelude.{part_at, Link, Shape, link_at}
+use Rattle.observed_runs.specs.Prelude.{SeesOnly, AreFound, Found, IsExploration, parity_step}
 use Rattle.shape_links.proofs.Watching.{parity_only}
 use Rattle.resource_rule.proofs.users.link_explored.Goals as goal
 

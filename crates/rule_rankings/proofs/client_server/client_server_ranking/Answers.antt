@@ -1,11 +1,9 @@
 use Rattle.std.proofs.Common.{◌≡◌, List, ◌∙◌, ◌≤◌, pos, length, ap, sym, subst, refl, arith}
 use Rattle.std.specs.Prelude.{slice_index}
-use Rattle.csp_tables.specs.Part.{Part}
-use Rattle.csp_tables.specs.Shape.{Shape}
+use Rattle.csp_tables.specs.Prelude.{Part, Shape, PartRanks}
 use Rattle.design_rules.specs.ClientServerRanking.{IsClientServerRanking}
 use Rattle.rule_rankings.specs.ClientServerRanks.{ArePartRanks}
 use Rattle.rule_rankings.proofs.ClientServerRanking.{role_ranking}
-use Rattle.csp_tables.specs.Ranking.{PartRanks}
 use Rattle.rule_rankings.proofs.RowsBelow.{parts_more}
 use Rattle.rule_rankings.proofs.client_server.client_server_ranking.Goals as goal
 use Rattle.csp_base.proofs.Results.{was_made}

@@ -1,13 +1,10 @@
 use Rattle.std.proofs.Common.{◌≡◌, ◌∙◌, ◌≤◌, ℕ, List, pos, length, ap, sym, subst, arith, to_z, of_z, w64}
 use Rattle.std.proofs.lemmas.Int.{ints}
-use Rattle.design_rules.specs.CyclicRanking.{AreCyclicRanks}
+use Rattle.design_rules.specs.Prelude.{AreCyclicRanks, above_all}
 use Rattle.std.specs.Prelude.{slice_index}
-use Rattle.csp_tables.specs.Part.{Part}
-use Rattle.csp_tables.specs.Shape.{Shape}
-use Rattle.design_rules.specs.Counts.{above_all}
+use Rattle.csp_tables.specs.Prelude.{Part, Shape, PartRanks}
 use Rattle.rule_rankings.specs.CyclicRanks.{ArePartRanks}
 use Rattle.rule_rankings.proofs.CyclicRanking.{cyclic_ranks}
-use Rattle.csp_tables.specs.Ranking.{PartRanks}
 use Rattle.rule_rankings.proofs.RowsBelow.{parts_more}
 use Rattle.rule_rankings.proofs.cyclic.cyclic_ranking.Goals as goal
 use Rattle.csp_base.proofs.Results.{was_made}

@@ -1,8 +1,7 @@
 use Rattle.std.proofs.Common.{◌≡◌, ◌∙◌, ◌<◌, ℕ, List, [], map, length, true, ap, sym, subst}
 use Rattle.std.specs.Prelude.{slice_index}
 use Rattle.csp_base.specs.Members.{has}
-use Rattle.csp_tables.specs.Table.{Node, no_node}
-use Rattle.csp_tables.specs.Part.{Part}
+use Rattle.csp_tables.specs.Prelude.{Node, no_node, Part}
 use Rattle.rule_rankings.specs.CyclicRanks.{AreNodeRanks, AreNodeLaps, ArePartRanks, IsGreatest}
 use Rattle.rule_rankings.specs.Rows.{AreEach}
 use Rattle.shape_links.proofs.Links.{ends_sound}

@@ -1,10 +1,8 @@
 use Rattle.std.proofs.Common.{◌≡◌, ◌∙◌, ◌<◌, ℕ, pos, nat_le, ap, sym, subst, refl, arith, to_z, of_z, w64}
-use Rattle.std.proofs.lemmas.Int.{ints}
+use Rattle.csp_base.proofs.Standard.{ints, false≢true, none-some}
 use Rattle.std.specs.Prelude.{slice_index}
-use Rattle.std.proofs.lemmas.Bool.{false≢true}
 use Rattle.csp_base.specs.Events.{is_subset_of}
 use Rattle.csp_tables.specs.Shape.{Shape}
-use Rattle.std.proofs.lemmas.Option.{none-some}
 use Rattle.shape_links.proofs.Links.{vocabulary_owner}
 use Rattle.rule_rankings.proofs.cyclic.rank_of.Goals as goal
 use Rattle.csp_base.proofs.Listed.{find_has, none_found}

@@ -1,7 +1,5 @@
 use Rattle.std.proofs.Common.{◌∙◌, List, [], map, ap, sym, subst}
-use Rattle.csp_tables.specs.Table.{Node, no_node}
-use Rattle.csp_tables.specs.Part.{Part, part_at}
-use Rattle.csp_tables.specs.Shape.{Shape}
+use Rattle.csp_tables.specs.Prelude.{Node, no_node, Part, part_at, Shape}
 use Rattle.rule_rankings.specs.ResourceRanks.{AreNodeRanks, ArePartRanks, number_by}
 use Rattle.rule_rankings.specs.Rows.{AreEach, AreNoLaps}
 use Rattle.rule_rankings.proofs.resource.part_ranks.Goals as goal

@@ -1,10 +1,7 @@
 use Rattle.std.proofs.Common.{◌≡◌, ◌∙◌, ◌+◌, ◌-◌, ◌*◌, List, ℕ, pos, nat_le, ap, sym, arith, to_z, of_z, w64}
-use Rattle.std.proofs.lemmas.Bool.{false≢true}
-use Rattle.std.proofs.lemmas.Int.{ints}
-use Rattle.csp_base.specs.Members.{has}
-use Rattle.csp_base.specs.Events.{is_subset_of}
-use Rattle.csp_tables.specs.Shape.{Shape}
-use Rattle.csp_tables.specs.Roles.{UseSets}
+use Rattle.csp_base.proofs.Standard.{false≢true, ints}
+use Rattle.csp_base.specs.Prelude.{has, is_subset_of}
+use Rattle.csp_tables.specs.Prelude.{Shape, UseSets}
 use Rattle.rule_rankings.specs.ResourceRanks.{number_by}
 use Rattle.rule_rankings.proofs.ResourceRanking.{rank_outside, rank_empty, user_is, free_is, held_is}
 use Rattle.rule_rankings.proofs.resource.rank_of.Goals as goal

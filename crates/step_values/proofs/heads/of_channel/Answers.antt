@@ -1,7 +1,6 @@
 use Rattle.std.proofs.Common.{ap, sym, subst, ◌∙◌}
 use Rattle.std.specs.Prelude.{slice_get}
-use Rattle.csp_program.specs.InOrder.{IsInOrder}
-use Rattle.csp_program.specs.declared.programs.Content.{Content}
+use Rattle.csp_program.specs.Prelude.{IsInOrder, Content}
 use Rattle.step_values.proofs.ChannelEvents.{channel_start}
 use Rattle.step_values.proofs.heads.of_channel.Goals as goal
 

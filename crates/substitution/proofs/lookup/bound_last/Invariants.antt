@@ -1,7 +1,5 @@
 use Rattle.std.proofs.Common.{◌≡◌, length}
-use Rattle.csp_program.specs.Environments.{with_bound}
-use Rattle.csp_program.specs.Substitution.{given_by}
-use Rattle.csp_program.specs.Value.{Env}
+use Rattle.csp_program.specs.Prelude.{with_bound, given_by, Env}
 use Rattle.substitution.proofs.lookup.bound_last.Given as goal
 
 -- the value is the one without the names after those that are left

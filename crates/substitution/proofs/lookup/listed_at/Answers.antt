@@ -1,6 +1,5 @@
 use Rattle.std.proofs.Common.{◌≡◌, ◌+◌, ◌-◌, ap, sym, ◌∙◌, arith}
-use Rattle.csp_program.specs.Substitution.{given_by}
-use Rattle.csp_program.specs.Value.{bound_to}
+use Rattle.csp_program.specs.Prelude.{given_by, bound_to}
 use Rattle.substitution.proofs.NamesFound.{listed_absent, listed_there, not_there}
 use Rattle.substitution.proofs.lookup.listed_at.Goals as goal
 

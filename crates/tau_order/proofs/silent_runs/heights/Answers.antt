@@ -1,9 +1,6 @@
 use Rattle.std.proofs.Common.{◌≡◌, ℕ, length, refl, subst}
-use Rattle.csp_tables.specs.Path.{SilentStep}
-use Rattle.csp_tables.specs.RawTable.{RawStep}
-use Rattle.digraph.specs.Digraph.{HasArc}
-use Rattle.digraph.specs.Walk.{AreHeights}
-use Rattle.digraph.specs.Circle.{IsLeastCircle}
+use Rattle.csp_tables.specs.Prelude.{SilentStep, RawStep}
+use Rattle.digraph.specs.Prelude.{HasArc, AreHeights, IsLeastCircle}
 use Rattle.digraph.proofs.WalkLaws.{same_heights, same_least_circle, same_no_circle}
 use Rattle.tau_order.specs.SilentRows.{AreSilentRows}
 use Rattle.tau_order.proofs.SilentWalks.{step_of, arc_of}

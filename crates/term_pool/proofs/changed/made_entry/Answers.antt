@@ -2,8 +2,7 @@
 use Rattle.std.proofs.Common.{ap, ◌∙◌}
 use Rattle.std.proofs.lemmas.Result.{IfOk-weaker}
 use Rattle.term_pool.proofs.EntryLemmas.{starts_both}
-use Rattle.term_pool.specs.Layers.{Layer}
-use Rattle.term_pool.specs.Moved.{moved}
+use Rattle.term_pool.specs.Prelude.{Layer, moved}
 use Rattle.term_pool.proofs.changed.made_entry.Goals as goal
 
 pub returns-clause-start : goal.returns-clause-start

@@ -1,17 +1,10 @@
 -- An entry that is known keeps its place; a new one is kept with its measure, or taken out again.
 use Rattle.std.proofs.Common.{◌≡◌, true, false, List, [], ◌∷◌, ◌++◌, Some, slice_get, refl, sym, ap, ◌∙◌, subst}
 use Rattle.std.specs.Prelude.{if◌then◌else◌, Ok, Err}
-use Rattle.std.specs.declared.alloc.AllocError.{AllocError}
-use Rattle.std.specs.Set.{is_member}
+use Rattle.csp_base.specs.Standard.{AllocError, is_member}
 use Rattle.term_pool.proofs.KeptLemmas.{kept_push, on_err, puts_push, puts_there, puts_unknown, taken_out, was_known, was_unknown}
 use Rattle.term_pool.proofs.HeldLemmas.{puts_none}
-use Rattle.term_pool.specs.Entries.{entry_layer}
-use Rattle.term_pool.specs.ExactEntry.{eq_entry}
-use Rattle.term_pool.specs.Held.{processes, IsKept, Puts}
-use Rattle.term_pool.specs.Measured.{IsNodeMeasure}
-use Rattle.term_pool.specs.Pooled.{Has}
-use Rattle.term_pool.specs.Trees.{layer_tree}
-use Rattle.term_pool.specs.declared.entry.Entry.{Entry}
+use Rattle.term_pool.specs.Prelude.{entry_layer, eq_entry, processes, IsKept, Puts, IsNodeMeasure, Has, layer_tree, Entry}
 use Rattle.pool_parts.specs.declared.measure.Measure.{Measure}
 use Rattle.term_pool.proofs.kept.put_entry.Goals as goal
 

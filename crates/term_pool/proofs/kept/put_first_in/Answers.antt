@@ -2,10 +2,7 @@
 use Rattle.std.proofs.Common.{refl}
 use Rattle.term_pool.proofs.FirstLemmas.{made_below, made_tree}
 use Rattle.term_pool.proofs.KeptLemmas.{below_more, kept_more, puts_as, puts_nothing}
-use Rattle.term_pool.specs.Entries.{entry_layer}
-use Rattle.term_pool.specs.First.{node_with_first, with_first}
-use Rattle.term_pool.specs.Held.{processes}
-use Rattle.term_pool.specs.Trees.{tree_at}
+use Rattle.term_pool.specs.Prelude.{entry_layer, node_with_first, with_first, processes, tree_at}
 use Rattle.term_pool.proofs.kept.put_first_in.Goals as goal
 
 pub returns-in_err-entry-clause-kept : goal.returns-in_err-entry-clause-kept

@@ -1,10 +1,7 @@
 -- The own parts of the node are kept, and then its entry.
 use Rattle.std.proofs.Common.{refl}
 use Rattle.term_pool.proofs.KeptLemmas.{below_more, kept_more, no_parts_no_process, on_err, puts_as, puts_nothing, unknown_as}
-use Rattle.term_pool.specs.Held.{processes}
-use Rattle.term_pool.specs.Layers.{shown}
-use Rattle.term_pool.specs.Pooled.{Has}
-use Rattle.term_pool.specs.Trees.{layer_tree, tree_of}
+use Rattle.term_pool.specs.Prelude.{processes, shown, Has, layer_tree, tree_of}
 use Rattle.term_pool.proofs.kept.put_in.Goals as goal
 
 pub returns-in_err-entry-clause-kept : goal.returns-in_err-entry-clause-kept

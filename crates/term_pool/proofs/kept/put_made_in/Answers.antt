@@ -2,11 +2,7 @@
 use Rattle.csp_program.specs.Substitution.{given_by, proc_with}
 use Rattle.term_pool.proofs.KeptLemmas.{below_more, kept_more, puts_as, puts_nothing}
 use Rattle.term_pool.proofs.ValuesLemmas.{stands_made}
-use Rattle.term_pool.specs.Entries.{entry_layer}
-use Rattle.term_pool.specs.Held.{processes}
-use Rattle.term_pool.specs.Moved.{moved}
-use Rattle.term_pool.specs.Substituted.{own_with}
-use Rattle.term_pool.specs.Trees.{tree_at}
+use Rattle.term_pool.specs.Prelude.{entry_layer, processes, moved, own_with, tree_at}
 use Rattle.term_pool.proofs.kept.put_made_in.Goals as goal
 
 pub returns-in_err-entry-clause-kept : goal.returns-in_err-entry-clause-kept

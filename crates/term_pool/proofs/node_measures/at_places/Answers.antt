@@ -1,7 +1,6 @@
 -- One place more, and all of them.
 use Rattle.std.proofs.Common.{List, ap, ◌∙◌, arith, subst}
-use Rattle.std.proofs.lemmas.Grind.{common_steps}
-use Rattle.std.proofs.lemmas.List.{get_or_default, take_all}
+use Rattle.csp_base.proofs.Standard.{common_steps, get_or_default, take_all}
 use Rattle.pool_parts.specs.declared.place.ProcId.{ProcId}
 use Rattle.term_pool.proofs.NodeMeasures.{least_more}
 use Rattle.term_pool.specs.Measured.{measure_at, IsLeastAt}

@@ -2,9 +2,7 @@
 use Rattle.std.proofs.Common.{arith}
 use Rattle.pool_parts.proofs.LowLemmas.{lower}
 use Rattle.term_pool.proofs.NodeMeasures.{least_lower}
-use Rattle.term_pool.specs.Entries.{entry_layer}
-use Rattle.term_pool.specs.Layers.{layer_parts}
-use Rattle.term_pool.specs.Measured.{own_free}
+use Rattle.term_pool.specs.Prelude.{entry_layer, layer_parts, own_free}
 use Rattle.term_pool.proofs.node_measures.of_entry.Goals as goal
 
 pub returns-clause-own : goal.returns-clause-own

@@ -5,9 +5,7 @@ use Rattle.csp_program.specs.declared.processes.Proc.{Proc}
 use Rattle.pool_parts.specs.declared.place.ProcId.{ProcId}
 use Rattle.term_pool.proofs.OverLemmas.{stands_over}
 use Rattle.term_pool.proofs.PutLemmas as lemmas
-use Rattle.term_pool.specs.Layers.{Layer, shown}
-use Rattle.term_pool.specs.Pooled.{parts}
-use Rattle.term_pool.specs.Put.{StandAt, StandsFor}
+use Rattle.term_pool.specs.Prelude.{Layer, shown, parts, StandAt, StandsFor}
 use Rattle.term_pool.proofs.put.+put_tree.Goals as goal
 use Rattle.csp_base.proofs.Results.{was_made}
 

@@ -3,15 +3,11 @@ use Rattle.std.proofs.Common.{◌≡◌, ℕ, ◌+◌, nat_eq, List, Some, take,
 use Rattle.std.specs.Map.{lookup}
 use Rattle.std.specs.Prelude.{IfOk}
 use Rattle.std.proofs.lemmas.Option.{slice_get-get_or}
-use Rattle.csp_program.specs.Substitution.{given_by, proc_with}
-use Rattle.csp_program.specs.declared.processes.Proc.{Proc}
+use Rattle.csp_program.specs.Prelude.{given_by, proc_with, Proc}
 use Rattle.csp_program.specs.declared.processes.Proc.TheVariants as proc
 use Rattle.term_pool.proofs.ValuesLemmas as made
 use Rattle.term_pool.proofs.PutLemmas as lemmas
-use Rattle.term_pool.specs.Pooled.{parts}
-use Rattle.term_pool.specs.Put.{Grows, StandAt}
-use Rattle.term_pool.specs.Substituted.{all_with}
-use Rattle.term_pool.specs.Trees.{tree_at}
+use Rattle.term_pool.specs.Prelude.{parts, Grows, StandAt, all_with, tree_at}
 use Rattle.pool_parts.specs.declared.place.ProcId.{ProcId}
 use Rattle.term_pool.proofs.substitute.+substitute_at.Goals as goal
 use Rattle.csp_base.proofs.Results.{was_made}

@@ -1,6 +1,5 @@
 -- No name that is free in the process gets a value.
-use Rattle.csp_program.specs.Free.{proc_free}
-use Rattle.csp_program.specs.Substitution.{given_by}
+use Rattle.csp_program.specs.Prelude.{proc_free, given_by}
 use Rattle.pool_parts.proofs.LowLemmas.{get_none}
 use Rattle.substitution.proofs.Stays.{proc_stays}
 use Rattle.term_pool.specs.Trees.{tree_at}

@@ -1,6 +1,5 @@
 use Rattle.std.proofs.Common.{◌≡◌, ℕ, true, List, [], ◌∷◌, ◌++◌, sym, subst, ◌∙◌, nat_eq}
-use Rattle.std.specs.Set.{is_member}
-use Rattle.std.specs.Cmp.Lexicographic.{pointwise}
+use Rattle.csp_base.specs.Standard.{is_member, pointwise}
 use Rattle.std.proofs.lemmas.Bool.{cond-true, not-false, not-true}
 use Rattle.determinise.specs.Known.{AreKnown}
 use Rattle.determinise.proofs.KnownSets.{known_more}

@@ -1,7 +1,6 @@
 use Rattle.std.proofs.Common.{◌≡◌, ◌∷◌, ◌++◌, [], length, set, rules}
 use Rattle.std.specs.Vec.{with_item}
-use Rattle.digraph.specs.declared.walks.Mark.TheVariants.{Open}
-use Rattle.digraph.specs.Digraph.{targets_of}
+use Rattle.digraph.specs.Prelude.{Open, targets_of}
 use Rattle.digraph.proofs.Stepping.{entered, less_entering, step_of}
 use Rattle.digraph.proofs.walks.Search.enter.Goals as goal
 

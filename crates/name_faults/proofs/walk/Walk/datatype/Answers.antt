@@ -1,7 +1,6 @@
 use Rattle.std.proofs.Common.{[], ◌∷◌, ◌++◌, ap, append_assoc, ◌∙◌}
+use Rattle.script_names.specs.Prelude.{is_among, declared_after}
 use Rattle.script_names.specs.declared.occurrence.Occurrence.TheVariants.{Declares}
-use Rattle.script_names.specs.Names.{is_among}
-use Rattle.script_names.specs.Told.{declared_after}
 use Rattle.name_faults.specs.Walked.{after}
 use Rattle.name_faults.proofs.KnownLemmas.{each_same}
 use Rattle.name_faults.proofs.walk.Walk.datatype.Goals as goal

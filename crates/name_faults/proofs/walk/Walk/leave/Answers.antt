@@ -1,7 +1,6 @@
 use Rattle.std.proofs.Common.{List, map, take, ap, sym, ◌∙◌}
 use Rattle.std.proofs.lemmas.List.{take-map}
-use Rattle.script_names.specs.Names.{Name}
-use Rattle.script_names.specs.Typed.{Scope, names_of}
+use Rattle.script_names.specs.Prelude.{Name, Scope, names_of}
 use Rattle.name_faults.specs.Walked.{Walked, seen}
 use Rattle.name_faults.proofs.walk.Walk.leave.Goals as goal
 

@@ -1,9 +1,7 @@
 use Rattle.std.proofs.Common.{[], ◌≡◌, ◌≤◌, ap, arith, map, ◌∙◌}
 use Rattle.csp_base.specs.Lists.{greatest}
 use Rattle.csp_text.specs.Depth.{tree_depth}
-use Rattle.script_names.specs.declared.kinds.Place.{Place}
-use Rattle.script_names.specs.Names.{first_of}
-use Rattle.script_names.specs.Says.{tree_says}
+use Rattle.script_names.specs.Prelude.{Place, first_of, tree_says}
 use Rattle.name_faults.specs.Walked.{Walked, after}
 use Rattle.name_faults.proofs.Deepest.{in_list}
 use Rattle.name_faults.proofs.KnownLemmas.{types_step}

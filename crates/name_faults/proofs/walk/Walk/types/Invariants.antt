@@ -1,6 +1,5 @@
 use Rattle.std.proofs.Common.{◌≡◌, take}
-use Rattle.script_names.specs.Names.{first_of}
-use Rattle.script_names.specs.Told.{types_say}
+use Rattle.script_names.specs.Prelude.{first_of, types_say}
 use Rattle.name_faults.specs.Walked.{after}
 use Rattle.name_faults.proofs.walk.Walk.types.Given as goal
 

@@ -1,7 +1,6 @@
 use Rattle.std.proofs.Common.{◌≡◌, ◌+◌, ◌-◌, ◌<◌, ◌∙◌, length, ap, arith}
 use Rattle.std.proofs.lemmas.List.{get_or_read}
-use Rattle.observed_runs.specs.Exploration.{Found}
-use Rattle.observed_runs.specs.Observed.{pair_at}
+use Rattle.observed_runs.specs.Prelude.{Found, pair_at}
 use Rattle.observed_runs.proofs.Leading.{found_from}
 use Rattle.observed_runs.proofs.explored.Explored.origin.Goals as goal
 

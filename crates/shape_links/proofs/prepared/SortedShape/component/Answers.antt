@@ -1,6 +1,5 @@
 use Rattle.std.proofs.Common.{◌∙◌, ap, sym, subst}
-use Rattle.csp_tables.specs.Form.{HasForm}
-use Rattle.csp_tables.specs.Shape.{Shape}
+use Rattle.csp_tables.specs.Prelude.{HasForm, Shape}
 use Rattle.net_sound.proofs.Within.{part_form}
 use Rattle.shape_links.proofs.Links.{part_read}
 use Rattle.shape_links.proofs.prepared.SortedShape.component.Goals as goal

@@ -1,5 +1,4 @@
-use Rattle.csp_program.specs.Environments.{with_bound}
-use Rattle.csp_program.specs.Value.{bound_to}
+use Rattle.csp_program.specs.Prelude.{with_bound, bound_to}
 use Rattle.substitution.proofs.NamesFound.{hidden_more}
 use Rattle.substitution.proofs.values.Values.hide.Goals as goal
 

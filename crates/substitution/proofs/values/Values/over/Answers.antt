@@ -1,6 +1,5 @@
 use Rattle.std.proofs.Common.{List, ℕ, ap, ◌∙◌}
-use Rattle.csp_program.specs.Environments.{with_bound}
-use Rattle.csp_program.specs.Value.{bound_to}
+use Rattle.csp_program.specs.Prelude.{with_bound, bound_to}
 use Rattle.substitution.specs.Named.{but_for}
 use Rattle.substitution.proofs.NamesFound.{none_hidden}
 use Rattle.substitution.proofs.values.Values.over.Goals as goal

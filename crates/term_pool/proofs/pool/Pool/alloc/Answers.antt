@@ -1,8 +1,7 @@
 -- Sub-processes stand at smaller places.
 use Rattle.std.proofs.Common.{subst}
 use Rattle.term_pool.proofs.HeldLemmas.{parts_stand}
-use Rattle.term_pool.specs.Entries.{layers}
-use Rattle.term_pool.specs.Pooled.{PartsStandBelow}
+use Rattle.term_pool.specs.Prelude.{layers, PartsStandBelow}
 use Rattle.term_pool.proofs.pool.Pool.alloc.Goals as goal
 
 pub returns : goal.returns

@@ -3,8 +3,7 @@ use Rattle.std.proofs.Common.{List, length, sym, ap, ◌∙◌, subst}
 use Rattle.csp_program.specs.declared.processes.Proc.{Proc}
 use Rattle.term_pool.proofs.HeldLemmas.{are_different, parts_stand}
 use Rattle.term_pool.proofs.KeptLemmas.{processes_length}
-use Rattle.term_pool.specs.Entries.{layers}
-use Rattle.term_pool.specs.Pooled.{AreDifferent, PartsStandBelow}
+use Rattle.term_pool.specs.Prelude.{layers, AreDifferent, PartsStandBelow}
 use Rattle.term_pool.proofs.pool.Pool.len.Goals as goal
 
 pub returns-clause-value : goal.returns-clause-value

@@ -1,8 +1,7 @@
 -- The node of the entry at a place stands for the process there.
 use Rattle.std.proofs.Common.{◌≡◌, ◌<◌, List, length, sym, ap, ◌∙◌, subst}
 use Rattle.csp_program.specs.declared.processes.Proc.{Proc}
-use Rattle.term_pool.specs.Held.{processes}
-use Rattle.term_pool.specs.Trees.{layer_below, layer_tree, tree_at, tree_of}
+use Rattle.term_pool.specs.Prelude.{processes, layer_below, layer_tree, tree_at, tree_of}
 use Rattle.term_pool.proofs.pool.Pool.node.Goals as goal
 
 pub entry_at-entry-requires-clause-within : goal.entry_at-entry-requires-clause-within

@@ -1,10 +1,8 @@
 -- What is put into the entries, as the list of processes says it.
 use Rattle.std.proofs.Common.{◌≡◌, true, List, length, sym, subst}
 use Rattle.std.specs.Prelude.{OnErr}
-use Rattle.term_pool.specs.Pooled.{Has}
-use Rattle.term_pool.specs.Trees.{places_below, tree_of}
+use Rattle.term_pool.specs.Prelude.{Has, places_below, tree_of, processes, Puts}
 use Rattle.csp_program.specs.declared.processes.Proc.{Proc}
-use Rattle.term_pool.specs.Held.{processes, Puts}
 use Rattle.term_pool.proofs.pool.Pool.put_node.Goals as goal
 
 pub put_in-requires-clause-below : goal.put_in-requires-clause-below

@@ -1,9 +1,7 @@
 -- What is put into the entries, as the list of processes says it.
 use Rattle.std.proofs.Common.{◌<◌, List, length, sym, subst}
-use Rattle.term_pool.specs.First.{with_first}
-use Rattle.term_pool.specs.Trees.{tree_at}
+use Rattle.term_pool.specs.Prelude.{with_first, tree_at, processes, Puts}
 use Rattle.csp_program.specs.declared.processes.Proc.{Proc}
-use Rattle.term_pool.specs.Held.{processes, Puts}
 use Rattle.term_pool.proofs.pool.Pool.put_with_first.Goals as goal
 
 pub put_first_in-requires-clause-id : goal.put_first_in-requires-clause-id

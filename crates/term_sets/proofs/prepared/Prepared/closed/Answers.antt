@@ -2,8 +2,7 @@ use Rattle.std.proofs.Common.{◌↔◌, ◌<◌, ℕ, List, IsTrue, sym, subst}
 use Rattle.std.specs.List.{All}
 use Rattle.csp_base.specs.Members.{has}
 use Rattle.csp_tables.specs.RawTable.{RawTable}
-use Rattle.digraph.specs.Digraph.{HasArc}
-use Rattle.digraph.specs.Walk.{ReachesFrom}
+use Rattle.digraph.specs.Prelude.{HasArc, ReachesFrom}
 use Rattle.term_sets.specs.Moves.{IsSilentlyReached}
 use Rattle.term_sets.specs.TermSets.{IsTermSet}
 use Rattle.term_sets.proofs.Silence.{silently}
