@@ -10,7 +10,7 @@ use Rattle.network_stages.specs.Networks.{Network}
 use Rattle.network_trees.specs.Annotations.{component_roles, component_uses}
 use Rattle.process_steps.specs.Prelude.{ProcessStep, all_outcomes}
 use Rattle.report.specs.Prelude.{Refusal, Shortfall}
-use Rattle.judgement.specs.Told.{TellsNoted, TellsRule}
+use Rattle.judgement.specs.Told.{TellsRule, noted_refusal}
 
 -- the rule with what the program notes for it of the network's components
 abbrev pub notes_of : Network → Rule → Outcome NotedRule
@@ -24,8 +24,8 @@ Notes network rule noted = notes_of network rule ≡ Ok noted
 -- an annotated set of a component has no value
 abbrev pub HasUntold : Network → Rule → Refusal → Type 0
 HasUntold network Cyclic r = ⊥
-HasUntold network ClientServer r = (f : NotedFault) × IsUntold (component_roles network.program) (leaves network.tree) f × TellsNoted f r
-HasUntold network Resource r = (f : NotedFault) × IsUntold (component_uses network.program) (leaves network.tree) f × TellsNoted f r
+HasUntold network ClientServer r = (f : NotedFault) × IsUntold (component_roles network.program) (leaves network.tree) f × (r ≡ noted_refusal f)
+HasUntold network Resource r = (f : NotedFault) × IsUntold (component_uses network.program) (leaves network.tree) f × (r ≡ noted_refusal f)
 
 -- the network meets the rule
 abbrev pub Meets : Network → NotedRule → Type 0

@@ -3,15 +3,13 @@ use Rattle.std.specs.Prelude.{◌≡◌}
 use Rattle.design_rules.specs.declared.rule_fault.RuleFault.{RuleFault}
 use Rattle.design_rules.specs.declared.rule_fault.RuleFault.TheVariants as fault
 use Rattle.network_layout.specs.declared.told.NotedFault.{NotedFault}
-use Rattle.network_layout.specs.declared.told.NotedFault.TheVariants as noted
 use Rattle.report.specs.Prelude.{Refusal, Shortfall}
 use Rattle.report.specs.declared.answer.Refusal.TheVariants as refusal
 use Rattle.report.specs.declared.answer.Shortfall.TheVariants as shortfall
 use Rattle.report.specs.declared.answer.Site.TheVariants as site
 
-abbrev pub TellsNoted : NotedFault → Refusal → Type 0
-TellsNoted noted.NoMemory told = ⊥
-TellsNoted (noted.Value i kind) told = told ≡ refusal.Value kind (site.Annotation i)
+abbrev pub noted_refusal : NotedFault → Refusal
+noted_refusal fault = refusal.Value fault.kind (site.Annotation fault.part)
 
 abbrev pub TellsRule : RuleFault → Shortfall → Type 0
 TellsRule fault.NoMemory told = ⊥

@@ -28,11 +28,13 @@ pub(crate) fn noted(
         Rule::Cyclic => Ok(NotedRule::Cyclic),
         Rule::ClientServer => match roles_of(alloc, network.program(), network.layout()) {
             Ok(roles) => Ok(NotedRule::ClientServer(roles)),
-            Err(fault) => Err(noted_refusal(fault)),
+            Err(Stop::NoMemory) => Err(Stop::NoMemory),
+            Err(Stop::Told(fault)) => Err(Stop::Told(noted_refusal(fault))),
         },
         Rule::Resource => match uses_of(alloc, network.program(), network.layout()) {
             Ok(uses) => Ok(NotedRule::Resource(uses)),
-            Err(fault) => Err(noted_refusal(fault)),
+            Err(Stop::NoMemory) => Err(Stop::NoMemory),
+            Err(Stop::Told(fault)) => Err(Stop::Told(noted_refusal(fault))),
         },
     }
 }

@@ -1,7 +1,8 @@
 //! What is told where a rule is broken, or an annotated set has no value.
 
 ghost use Rattle.csp_base.specs.Stops.{Tells};
-ghost use Rattle.judgement.specs.Told.{TellsNoted, TellsRule};
+ghost use Rattle.std.specs.Prelude.{◌≡◌};
+ghost use Rattle.judgement.specs.Told.{TellsRule, noted_refusal};
 
 use csp_base::Stop;
 use design_rules::RuleFault;
@@ -50,14 +51,11 @@ pub(crate) fn rule_shortfall(fault: RuleFault) -> Stop<Shortfall>
 }
 
 // A component of which an annotated set has no value.
-pub(crate) fn noted_refusal(fault: NotedFault) -> Stop<Refusal>
-    ensures { Tells (TellsNoted fault) result }
+pub(crate) fn noted_refusal(fault: NotedFault) -> Refusal
+    ensures { result ≡ noted_refusal fault }
 {
-    match fault {
-        NotedFault::NoMemory => Stop::NoMemory,
-        NotedFault::Value { part, kind } => Stop::Told(Refusal::Value {
-            kind,
-            site: Site::Annotation(part),
-        }),
+    Refusal::Value {
+        kind: fault.kind,
+        site: Site::Annotation(fault.part),
     }
 }

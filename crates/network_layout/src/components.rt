@@ -15,6 +15,7 @@ use network_trees::LayoutFault;
 use std::alloc::Global;
 
 // The first `count` events.
+#[tactic(auto, using(crate::proofs::FirstEvents::next_event))]
 fn first_events(alloc: Global, count: u32) -> Result<EventSet, NoMemory>
     ensures { IfOk result (λ made. made ≡ range_with_len 0 count) }
 {
