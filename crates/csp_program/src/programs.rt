@@ -181,7 +181,8 @@ impl Model for Program {
     ghost use Rattle.csp_program.specs.contracts.expressions.Expr as expression;
     ghost use Rattle.csp_program.specs.contracts.networks.Net as network;
     ghost use Rattle.csp_program.specs.contracts.processes.Proc as process;
-    ghost use Rattle.csp_program.specs.Prelude.{Content, IsInOrder};
+    ghost use Rattle.csp_program.specs.InOrder.{IsInOrder};
+    ghost use Rattle.csp_program.specs.declared.programs.Content.{Content};
 
     ghost Value = { Content };
 

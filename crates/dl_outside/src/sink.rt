@@ -1,7 +1,8 @@
 //! What the checker asks of the place that reports are written to.
 
 ghost use Rattle.std.specs.Prelude.{◌≡◌, ◌≤◌, ℕ, List, Option};
-ghost use Rattle.dl_outside.specs.Prelude.{HasRisen, WriteAnswers};
+ghost use Rattle.dl_outside.specs.Count.{HasRisen};
+ghost use Rattle.dl_outside.specs.Write.{WriteAnswers};
 
 use csp_base::NoMemory;
 

@@ -1,8 +1,12 @@
 -- A rule with what a script notes for it of each component: what it comes to for a network.
 use Rattle.std.specs.Prelude.{◌≡◌, ℕ, Ok}
 use Rattle.csp_program.specs.Outcome.{Outcome, and_then}
-use Rattle.csp_tables.specs.Prelude.{leaves, Rule, ClientServer, Cyclic, Resource}
-use Rattle.design_rules.specs.Prelude.{NetworkHasGreatestRank, NetworkBreaks, NetworkMeets, NotedRule, RuleFault}
+use Rattle.csp_tables.specs.Prelude.{leaves}
+use Rattle.csp_tables.specs.declared.rule.Rule.{Rule}
+use Rattle.csp_tables.specs.declared.rule.Rule.TheVariants.{ClientServer, Cyclic, Resource}
+use Rattle.design_rules.specs.Prelude.{NetworkHasGreatestRank, NetworkBreaks, NetworkMeets}
+use Rattle.design_rules.specs.declared.noted_rule.NotedRule.{NotedRule}
+use Rattle.design_rules.specs.declared.rule_fault.RuleFault.{RuleFault}
 use Rattle.design_rules.specs.declared.noted_rule.NotedRule.TheVariants as noted
 use Rattle.network_layout.specs.Told.{IsUntold}
 use Rattle.network_layout.specs.declared.told.NotedFault.{NotedFault}
@@ -31,9 +35,9 @@ HasUntold network Resource r = (f : NotedFault) × IsUntold (component_uses netw
 abbrev pub Meets : Network → NotedRule → Type 0
 Meets network rule = NetworkMeets (ProcessStep network.program) (leaves network.tree) rule
 
--- it breaks the rule
+-- what is told is a fault that breaks the rule in it
 abbrev pub Breaks : Network → NotedRule → Shortfall → Type 0
-Breaks network rule s = (f : RuleFault) × NetworkBreaks (ProcessStep network.program) (leaves network.tree) rule f × TellsRule f s
+Breaks network rule s = (f : RuleFault) × NetworkBreaks (ProcessStep network.program) (leaves network.tree) rule f × (s ≡ shortfall.Breaks f)
 
 -- its greatest rank by the rule
 abbrev pub HasGreatestRank : Network → NotedRule → ℕ → Type 0

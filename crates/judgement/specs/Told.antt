@@ -1,11 +1,8 @@
--- How it is told that an annotated set has no value, or what breaks a rule. Want of memory is not told.
+-- How it is told that an annotated set has no value. Want of memory is not told.
 use Rattle.std.specs.Prelude.{◌≡◌}
-use Rattle.design_rules.specs.declared.rule_fault.RuleFault.{RuleFault}
-use Rattle.design_rules.specs.declared.rule_fault.RuleFault.TheVariants as fault
 use Rattle.network_layout.specs.declared.told.NotedFault.{NotedFault}
 use Rattle.report.specs.Prelude.{Refusal, Shortfall}
 use Rattle.report.specs.declared.answer.Refusal.TheVariants as refusal
-use Rattle.report.specs.declared.answer.Shortfall.TheVariants as shortfall
 use Rattle.report.specs.declared.answer.Site.TheVariants as site
 
 abbrev pub noted_refusal : NotedFault → Refusal

@@ -38,7 +38,9 @@ impl<'a> Model for Shaped<'a> {
     ghost use Rattle.csp_program.specs.contracts.expressions.Expr as expression;
     ghost use Rattle.csp_program.specs.contracts.networks.Net as net;
     ghost use Rattle.csp_program.specs.contracts.processes.Proc as process;
-    ghost use Rattle.network_stages.specs.Prelude.{IsApart, tree_code, ShapedNetwork};
+    ghost use Rattle.network_stages.specs.Shapes.{IsApart};
+    ghost use Rattle.network_stages.specs.TreeCode.{tree_code};
+    ghost use Rattle.network_stages.specs.Views.{ShapedNetwork};
 
     ghost Value = { ShapedNetwork };
 
