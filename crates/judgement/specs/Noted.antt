@@ -13,7 +13,8 @@ use Rattle.network_layout.specs.declared.told.NotedFault.{NotedFault}
 use Rattle.network_stages.specs.Networks.{Network}
 use Rattle.network_trees.specs.Annotations.{component_roles, component_uses}
 use Rattle.process_steps.specs.Prelude.{ProcessStep, all_outcomes}
-use Rattle.report.specs.Prelude.{Refusal, Shortfall}
+use Rattle.report.specs.declared.answer.Refusal.{Refusal}
+use Rattle.report.specs.declared.answer.Shortfall.{Shortfall}
 use Rattle.judgement.specs.Told.{TellsRule, noted_refusal}
 
 -- the rule with what the program notes for it of the network's components

@@ -1,7 +1,8 @@
 -- How it is told that an annotated set has no value. Want of memory is not told.
 use Rattle.std.specs.Prelude.{◌≡◌}
 use Rattle.network_layout.specs.declared.told.NotedFault.{NotedFault}
-use Rattle.report.specs.Prelude.{Refusal, Shortfall}
+use Rattle.report.specs.declared.answer.Refusal.{Refusal}
+use Rattle.report.specs.declared.answer.Shortfall.{Shortfall}
 use Rattle.report.specs.declared.answer.Refusal.TheVariants as refusal
 use Rattle.report.specs.declared.answer.Site.TheVariants as site
 

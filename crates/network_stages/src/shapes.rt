@@ -4,7 +4,10 @@ ghost use Rattle.std.specs.Prelude.{◌≡◌, ◌≤◌, IfErr, IfOk, length};
 ghost use Rattle.dl_limits.specs.declared.TheConstants.{MOST_COMPONENTS};
 ghost use Rattle.csp_tables.specs.Prelude.{TripleDisjoint, alphabets_of, IsLinked};
 ghost use Rattle.csp_base.specs.Stops.{Tells};
-ghost use Rattle.network_stages.specs.Prelude.{IsSpelled, AreLinksBefore, IsVocabulary, IsApart, ShareEvent};
+ghost use Rattle.network_stages.specs.Networks.{IsSpelled};
+ghost use Rattle.network_stages.specs.Rows.{AreLinksBefore, IsVocabulary};
+ghost use Rattle.network_stages.specs.Shapes.{IsApart};
+ghost use Rattle.network_stages.specs.Stages.{ShareEvent};
 
 use crate::links::linked;
 use crate::parts::Parted;
