@@ -2,8 +2,7 @@
 
 ghost use Rattle.std.specs.Prelude.{◌≡◌, ◌+◌, ◌<◌, ◌≤◌, ℕ, List, None, IfOk, IfSome, IsSomeAnd, MatchOption, length};
 ghost use Rattle.csp_tables.specs.Table.{Node};
-ghost use Rattle.observed_runs.specs.Exploration.{AreFound, HaveOrigins, StepsTo};
-ghost use Rattle.observed_runs.specs.Observed.{LeadsTo, pair_at};
+ghost use Rattle.observed_runs.specs.Prelude.{AreFound, HaveOrigins, StepsTo, LeadsTo, pair_at};
 
 use crate::pairs::Pairs;
 use csp_base::{Event, NoMemory, Trace};

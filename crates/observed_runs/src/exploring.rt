@@ -2,10 +2,7 @@
 
 ghost use Rattle.std.specs.Prelude.{◌≡◌, ◌<◌, ◌∷◌, [], IfOk, OnOk, get_or, length};
 ghost use Rattle.csp_tables.specs.Form.{HasForm};
-ghost use Rattle.observed_runs.specs.Enough.{HasPair, SeesEnough};
-ghost use Rattle.observed_runs.specs.Exploration.{AreFound, HaveOrigins, IsExploration};
-ghost use Rattle.observed_runs.specs.Observed.{pair_at};
-ghost use Rattle.observed_runs.specs.Progress.{AreFollowed, AreMore, IsAdded};
+ghost use Rattle.observed_runs.specs.Prelude.{AreFound, HaveOrigins, IsExploration, pair_at, HasPair, SeesEnough, AreFollowed, AreMore, IsAdded};
 
 use crate::explored::Explored;
 use crate::observer::Observer;

@@ -1,9 +1,7 @@
 //! Pairs of numbers in the order in which they are first seen.
 
 ghost use Rattle.std.specs.Prelude.{◌≡◌, ◌<◌, ◌≤◌, ◌++◌, ◌∷◌, [], ℕ, length, IfOk, OnOk, if◌then◌else◌};
-ghost use Rattle.observed_runs.specs.Enough.{HasPair};
-ghost use Rattle.observed_runs.specs.Exploration.{AreDistinct};
-ghost use Rattle.observed_runs.specs.Marks.{is_marked};
+ghost use Rattle.observed_runs.specs.Prelude.{HasPair, AreDistinct, is_marked};
 
 use csp_base::{Event, EventSet, NoMemory};
 use std::alloc::Global;
