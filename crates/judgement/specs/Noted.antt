@@ -15,7 +15,8 @@ use Rattle.network_trees.specs.Annotations.{component_roles, component_uses}
 use Rattle.process_steps.specs.Prelude.{ProcessStep, all_outcomes}
 use Rattle.report.specs.declared.answer.Refusal.{Refusal}
 use Rattle.report.specs.declared.answer.Shortfall.{Shortfall}
-use Rattle.judgement.specs.Told.{TellsRule, noted_refusal}
+use Rattle.report.specs.declared.answer.Shortfall.TheVariants as shortfall
+use Rattle.judgement.specs.Told.{noted_refusal}
 
 -- the rule with what the program notes for it of the network's components
 abbrev pub notes_of : Network → Rule → Outcome NotedRule

@@ -1,10 +1,8 @@
 //! What is told where an annotated set has no value.
 
-ghost use Rattle.csp_base.specs.Stops.{Tells};
 ghost use Rattle.std.specs.Prelude.{◌≡◌};
-ghost use Rattle.judgement.specs.Told.{TellsRule, noted_refusal};
+ghost use Rattle.judgement.specs.Told.{noted_refusal};
 
-use csp_base::Stop;
 use network_layout::NotedFault;
 use report::{Refusal, Site};
 

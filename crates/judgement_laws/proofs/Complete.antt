@@ -11,7 +11,6 @@ use Rattle.judgement.proofs.Notes.{all_told, same_ok}
 use Rattle.judgement.proofs.OneNetwork.{one_network}
 use Rattle.judgement.specs.Judged.{IsDeadlockFree, IsJudged, RuleDecides}
 use Rattle.judgement.specs.Noted.{Breaks, Meets, Notes, notes_of}
-use Rattle.judgement.specs.Told.{TellsRule}
 use Rattle.network_layout.proofs.Triples.{length-holders}
 use Rattle.network_layout.specs.Triple.{alphabets, holders}
 use Rattle.network_stages.proofs.Excluded.{faults_exclude_tables}
