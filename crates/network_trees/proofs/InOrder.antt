@@ -83,7 +83,7 @@ module _ (p : Content) (below : ℕ → List ℕ → Env → Net → Walked (Tre
       if_goes_on (goes_on (below k alphabet env n) (nested k alphabet)) (λ tree. goes_on (others (k + length (leaves tree))) (λ os. Ok (operand alphabet tree os))) (Agrees k alphabet) (AreOperands k)
       (if_goes_on (below k alphabet env n) (nested k alphabet) (IsTree k) (Agrees k alphabet) (sound alphabet env n k fits) (makes_nested k alphabet))
       (λ tree first. if_goes_on (others (k + length (leaves tree))) (λ os. Ok (operand alphabet tree os)) (AreOperands (k + length (leaves tree))) (AreOperands k)
-          (rest (k + length (leaves tree)) first.is.few) (λ os are. with_first k alphabet tree os first are))
+      (rest (k + length (leaves tree)) first.is.few) (λ os are. with_first k alphabet tree os first are))
 
   makes_each : (env : Env) (x : ℕ) (a : Expr) (n : Net) (atoms : List Atom) → MakesOperands (each_operand p below env x a n atoms)
   makes_each env x a n [] k fits = makes_none k fits
