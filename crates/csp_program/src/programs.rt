@@ -188,7 +188,6 @@ impl Model for Program {
 
     ghost coded = { Prim.hlevel (codes, expression.the_row.coded, network.the_row.coded, process.the_row.coded) };
 
-
     ghost view = { λ p. p.content };
 
     ghost invariant = { λ p. IsInOrder p.content };

@@ -5,21 +5,7 @@ mod condition;
 mod noted_rule;
 mod rule_fault;
 
-ghost use Rattle.design_rules.specs.Agreement.{NetworkFaultsRefute, NetworksBreak, NetworksMeet, OutlinesAgree, ReadingsAgree};
-
-ghost use Rattle.design_rules.specs.ClientServerLaws.{ClientServerRanksFall};
-
-ghost use Rattle.design_rules.specs.CyclicLaws.{CyclicRanksFall, IsRuleByNumbers, NetworksAreNumbered, NumberedRanksFall, PlacesAreOrders, ReachedRanksFall};
-
-ghost use Rattle.design_rules.specs.Example.{PairIsClientServer, RowIsCyclic, TwoUsersAreResource};
-
-ghost use Rattle.design_rules.specs.Live.{MetRulesMeanLive};
-
-ghost use Rattle.design_rules.specs.RankCounts.{RankingsHaveGreatestRank};
-
-ghost use Rattle.design_rules.specs.ResourceLaws.{OrderedRanksFall, ResourceRanksFall};
-
-ghost use Rattle.design_rules.specs.Rules.{FaultsRefute};
+ghost use Rattle.design_rules.specs.Prelude.{NetworkFaultsRefute, NetworksBreak, NetworksMeet, OutlinesAgree, ReadingsAgree, ClientServerRanksFall, CyclicRanksFall, IsRuleByNumbers, NetworksAreNumbered, NumberedRanksFall, PlacesAreOrders, ReachedRanksFall, PairIsClientServer, RowIsCyclic, TwoUsersAreResource, MetRulesMeanLive, RankingsHaveGreatestRank, OrderedRanksFall, ResourceRanksFall, FaultsRefute};
 
 pub use condition::Condition;
 use net_sound::Transitions;

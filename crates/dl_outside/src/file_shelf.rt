@@ -2,8 +2,7 @@
 
 ghost use Rattle.std.specs.Prelude.{◌≡◌, ◌≢◌, ◌≤◌, ◌⊎◌, ◌++◌, length, None, IfOk, IfSome, OnOk};
 ghost use Rattle.std.specs.Str.{IsUtf8};
-ghost use Rattle.dl_outside.specs.Count.{one_more};
-ghost use Rattle.dl_outside.specs.FileShelf.{FileAnswers, GaveFile, OpenAnswers, ReadAnswers, ReadsOn};
+ghost use Rattle.dl_outside.specs.Prelude.{one_more, FileAnswers, GaveFile, OpenAnswers, ReadAnswers, ReadsOn};
 
 use crate::count::raised;
 use crate::shelf::{LoadFault, Shelf};

@@ -2,10 +2,7 @@
 
 ghost use Rattle.std.specs.Prelude.{◌≡◌, ◌≤◌, ◌↔◌, [], Some, OnOk, OnErr, IsTrue};
 ghost use Rattle.std.specs.Option.{option_copied};
-ghost use Rattle.dl_outside.specs.Count.{HasRisen};
-ghost use Rattle.dl_outside.specs.Texts.{IsTextOf, PutsText, text_of};
-ghost use Rattle.dl_outside.specs.Load.{AnswersTold};
-ghost use Rattle.dl_outside.specs.FaultPlan.{new_plan, fails_next, after_call};
+ghost use Rattle.dl_outside.specs.Prelude.{HasRisen, new_plan, fails_next, after_call, AnswersTold, IsTextOf, PutsText, text_of};
 
 use crate::fault_plan::PlannedFaults;
 use crate::shelf::{LoadFault, Shelf};

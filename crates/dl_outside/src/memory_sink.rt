@@ -1,9 +1,7 @@
 //! A sink in memory, some of whose writes can be made to fail.
 
 ghost use Rattle.std.specs.Prelude.{◌≡◌, ◌≤◌, ◌↔◌, [], length, min, Some, IfOk, IsTrue};
-ghost use Rattle.dl_outside.specs.Count.{HasRisen};
-ghost use Rattle.dl_outside.specs.Write.{WriteAnswers};
-ghost use Rattle.dl_outside.specs.FaultPlan.{new_plan, fails_next, after_call};
+ghost use Rattle.dl_outside.specs.Prelude.{HasRisen, new_plan, fails_next, after_call, WriteAnswers};
 
 use crate::fault_plan::PlannedFaults;
 use crate::pieces::take_piece;

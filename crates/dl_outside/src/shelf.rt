@@ -1,9 +1,7 @@
 //! What the checker asks of the place that scripts are loaded from.
 
 ghost use Rattle.std.specs.Prelude.{◌≡◌, ℕ, IfOk, List, Option};
-ghost use Rattle.dl_outside.specs.Count.{Counts, NeverFall};
-ghost use Rattle.dl_outside.specs.Load.{LoadAnswers};
-ghost use Rattle.dl_outside.specs.declared.texts.NamedText.{NamedText};
+ghost use Rattle.dl_outside.specs.Prelude.{Counts, NeverFall, LoadAnswers, NamedText};
 
 use csp_base::{Bytes, NoMemory};
 use std::alloc::Global;

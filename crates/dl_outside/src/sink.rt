@@ -1,8 +1,7 @@
 //! What the checker asks of the place that reports are written to.
 
 ghost use Rattle.std.specs.Prelude.{◌≡◌, ◌≤◌, ℕ, List, Option};
-ghost use Rattle.dl_outside.specs.Count.{HasRisen};
-ghost use Rattle.dl_outside.specs.Write.{WriteAnswers};
+ghost use Rattle.dl_outside.specs.Prelude.{HasRisen, WriteAnswers};
 
 use csp_base::NoMemory;
 

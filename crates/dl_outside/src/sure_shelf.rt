@@ -2,8 +2,7 @@
 
 ghost use Rattle.std.specs.Prelude.{◌≡◌, [], Some, OnOk, OnErr};
 ghost use Rattle.std.specs.Option.{option_copied};
-ghost use Rattle.dl_outside.specs.Texts.{IsTextOf, PutsText, text_of};
-ghost use Rattle.dl_outside.specs.Load.{AnswersTold};
+ghost use Rattle.dl_outside.specs.Prelude.{AnswersTold, IsTextOf, PutsText, text_of};
 
 use crate::shelf::{LoadFault, Shelf};
 use crate::texts::{NamedText, copy_text, find_text, put_text};

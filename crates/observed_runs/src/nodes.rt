@@ -2,8 +2,7 @@
 
 ghost use Rattle.std.specs.Prelude.{◌≡◌, ◌<◌, ℕ, IfOk, length};
 ghost use Rattle.csp_tables.specs.Prelude.{HasForm, IsReached, IsRun, end_of};
-ghost use Rattle.observed_runs.specs.Exploration.{AreFound, IsExploration};
-ghost use Rattle.observed_runs.specs.Observed.{pair_at};
+ghost use Rattle.observed_runs.specs.Prelude.{AreFound, IsExploration, pair_at};
 
 use crate::explored::Explored;
 use crate::exploring::explore;

@@ -2,9 +2,7 @@
 
 ghost use Rattle.std.specs.Prelude.{◌≡◌, ◌<◌, ◌≤◌, ℕ, IfOk, OnOk, length, replicate, slice_index};
 ghost use Rattle.csp_tables.specs.Form.{HasForm};
-ghost use Rattle.observed_runs.specs.Enough.{AreEnough, HaveEnough};
-ghost use Rattle.observed_runs.specs.Observed.{pair_at};
-ghost use Rattle.observed_runs.specs.Progress.{IsKept};
+ghost use Rattle.observed_runs.specs.Prelude.{AreEnough, HaveEnough, pair_at, IsKept};
 
 use containers::Items;
 use csp_base::{Event, EventSet, NoMemory};

@@ -4,7 +4,7 @@ use Rattle.std.specs.Prelude.{IfErr}
 use Rattle.csp_tables.specs.Prelude.{Shape, Part}
 use Rattle.design_rules.specs.Prelude.{KeepsPlaces, BreaksCyclic}
 use Rattle.cyclic_conditions.specs.Told.{IsBrokenOrder}
-use Rattle.cyclic_conditions.proofs.Laps.{breaks_there, orders_more}
+use Rattle.cyclic_conditions.proofs.LapPlaces.{breaks_there, orders_more}
 use Rattle.cyclic_conditions.proofs.orders.link_orders.Goals as goal
 
 pub returns-in_err-add_order-clause-fault : goal.returns-in_err-add_order-clause-fault
