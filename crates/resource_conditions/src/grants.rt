@@ -2,6 +2,7 @@
 
 ghost use Rattle.std.specs.Prelude.{◌≡◌, ◌<◌, ◌-◌, IfErr, IfOk, OnOk, length};
 ghost use Rattle.csp_base.specs.Events.{inter_of};
+ghost use Rattle.csp_base.specs.Stops.{Tells};
 ghost use Rattle.csp_tables.specs.Prelude.{part_at, link_at};
 ghost use Rattle.design_rules.specs.Resource.{GrantsAll};
 ghost use Rattle.resource_conditions.specs.Finding.{FindsBroken, FindsRun, HaveNodes, WatchesHolder};
@@ -10,27 +11,27 @@ ghost use Rattle.resource_conditions.specs.Setting.{KeepGrants, KeepTurns, Break
 ghost use Rattle.resource_conditions.specs.Tests.{are_granted, are_grants};
 
 use crate::turns::held;
-use csp_base::{EventSet, NoMemory, Trace};
+use csp_base::{EventSet, NoMemory, Stop, Trace};
 use design_rules::{Condition, RuleFault};
 use observed_runs::Explored;
 use shape_links::Setting;
 use std::alloc::Global;
 
 /// Succeeds where U3 holds, and else tells the first resource that breaks it.
-pub fn check_grants(alloc: Global, setting: &Setting<'_>) -> Result<(), RuleFault>
+pub fn check_grants(alloc: Global, setting: &Setting<'_>) -> Result<(), Stop<RuleFault>>
     requires kinds { KeepKinds setting.now }
     requires turns { KeepTurns setting.now }
     ensures grants { OnOk result (KeepGrants setting.now) }
-    ensures fault { IfErr result (λ fault. Breaks setting.now fault) }
+    ensures fault { IfErr result (Tells (Breaks setting.now)) }
 {
     let _form = setting.shape();
     for part in 0..setting.count() {
         if let Some(trace) = denial(alloc, setting, part)? {
-            return Err(RuleFault::Broken {
+            return Err(Stop::Told(RuleFault::Broken {
                 condition: Condition::Grants,
                 part,
                 trace,
-            });
+            }));
         }
     }
     Ok(())

@@ -2,6 +2,7 @@
 
 ghost use Rattle.std.specs.List.{list_all};
 ghost use Rattle.std.specs.Prelude.{◌≡◌, ◌<◌, ℕ, IfErr, IfOk, OnOk, length};
+ghost use Rattle.csp_base.specs.Stops.{Tells};
 ghost use Rattle.csp_tables.specs.Part.{part_at};
 ghost use Rattle.design_rules.specs.Resource.{IsUsedInTurn};
 ghost use Rattle.resource_conditions.specs.Finding.{FindsBroken, FindsRun, HaveNodes, WatchesHolder};
@@ -9,26 +10,26 @@ ghost use Rattle.shape_links.specs.Setting.{IsResourcePart, KeepKinds};
 ghost use Rattle.resource_conditions.specs.Setting.{KeepTurns, Breaks};
 ghost use Rattle.resource_conditions.specs.Tests.{are_turns, is_turn};
 
-use csp_base::{Event, NoMemory, Trace};
+use csp_base::{Event, NoMemory, Stop, Trace};
 use design_rules::{Condition, RuleFault};
 use observed_runs::{Explored, Holder};
 use shape_links::{Setting, explored};
 use std::alloc::Global;
 
 /// Succeeds where U2 holds, and else tells the first resource that breaks it.
-pub fn check_turns(alloc: Global, setting: &Setting<'_>) -> Result<(), RuleFault>
+pub fn check_turns(alloc: Global, setting: &Setting<'_>) -> Result<(), Stop<RuleFault>>
     requires { KeepKinds setting.now }
     ensures turns { OnOk result (KeepTurns setting.now) }
-    ensures fault { IfErr result (λ fault. Breaks setting.now fault) }
+    ensures fault { IfErr result (Tells (Breaks setting.now)) }
 {
     let _form = setting.shape();
     for part in 0..setting.count() {
         if let Some(trace) = misuse(alloc, setting, part)? {
-            return Err(RuleFault::Broken {
+            return Err(Stop::Told(RuleFault::Broken {
                 condition: Condition::Holders,
                 part,
                 trace,
-            });
+            }));
         }
     }
     Ok(())
