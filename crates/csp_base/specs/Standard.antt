@@ -14,10 +14,13 @@ pub use Rattle.std.specs.Int.Bits.{or_zero_l}
 pub use Rattle.std.specs.Int.Count.{count_trailing_zeros}
 pub use Rattle.std.specs.Io.KnownBytes.{Consumes, IsAtEnd}
 pub use Rattle.std.specs.Iterator.{YieldsFirst, item_count}
-pub use Rattle.std.specs.List.{All, AllByRecursion, Contains, IsDistinct, filter, find, flat_map, insert, list_all, list_any, position, position_or_len, prefix_len, slice_get, slice_split, starts_with, zip}
+pub use Rattle.std.specs.List.{All, AllByRecursion, Contains, filter, find, flat_map, insert, list_all, list_any, position, position_or_len, prefix_len, slice_get, slice_split, starts_with, zip}
+unfoldable pub use Rattle.std.specs.List.{IsDistinct}
 pub use Rattle.std.specs.List.Retain.{DiffersFromLast, IsFiltered}
-pub use Rattle.std.specs.List.Sorted.{IsNonDecreasing, IsNonDecreasingBy, IsPartitionPoint, IsPermutation, IsSorted, IsStableByKey, IsStrictlyIncreasing, IsStrictlySortedBy, ties}
-pub use Rattle.std.specs.Map.{AreApart, IsKeyTest, KeepsOthers, lookup}
+pub use Rattle.std.specs.List.Sorted.{IsNonDecreasing, IsNonDecreasingBy, IsPartitionPoint, IsPermutation, IsSorted, IsStableByKey, IsStrictlyIncreasing, ties}
+unfoldable pub use Rattle.std.specs.List.Sorted.{IsStrictlySortedBy}
+pub use Rattle.std.specs.Map.{AreApart, IsKeyTest, lookup}
+unfoldable pub use Rattle.std.specs.Map.{KeepsOthers}
 pub use Rattle.std.specs.Option.{is_some, option_and_then, option_copied, option_map, option_map_or, option_or, unwrap_or}
 pub use Rattle.std.specs.Ordering.{eq_by_cmp, int_cmp, int_eq, is_eq, is_lt, nat_cmp, ordering_index, ordering_reverse, ordering_then}
 pub use Rattle.std.specs.Result.{IsErrAnd}

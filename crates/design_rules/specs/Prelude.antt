@@ -39,4 +39,4 @@ pub use Rattle.design_rules.specs.declared.condition.Condition.TheVariants.{Answ
 pub use Rattle.design_rules.specs.declared.noted_rule.NotedRule.{NotedRule}
 pub use Rattle.design_rules.specs.declared.noted_rule.NotedRule.TheVariants.{ClientServer, Cyclic, Resource}
 pub use Rattle.design_rules.specs.declared.rule_fault.RuleFault.{RuleFault}
-pub use Rattle.design_rules.specs.declared.rule_fault.RuleFault.TheVariants.{Broken, ClientsCircle, LinksCircle, NoMemory, NoOrder, NoWholeEnd, ResourcesCircle}
+pub use Rattle.design_rules.specs.declared.rule_fault.RuleFault.TheVariants.{Broken, ClientsCircle, LinksCircle, NoOrder, NoWholeEnd, ResourcesCircle}
