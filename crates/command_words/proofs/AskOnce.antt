@@ -3,8 +3,11 @@ use Rattle.std.proofs.Common.{◌≡◌, ℕ, ◌+◌, ◌<◌, List, [], get_or
 use Rattle.net_maker.specs.Families.{greatest}
 use Rattle.net_maker.specs.declared.families.Family.{Family}
 use Rattle.net_maker.specs.declared.families.Family.TheVariants.{Chain, Forks, Mesh}
-use Rattle.command_words.specs.Prelude.{IsWithin, WordsAskOnce, written, Check, Livelock, Run, Table, Request, Conform, Script, Show, Trial}
-use Rattle.command_words.specs.declared.request.Request.TheVariants.{Trial as trial}
+use Rattle.command_words.specs.Prelude.{IsWithin, WordsAskOnce, written}
+use Rattle.command_words.specs.declared.request.Job.TheVariants.{Check, Livelock, Run, Table}
+use Rattle.command_words.specs.declared.request.Request.{Request}
+use Rattle.command_words.specs.declared.request.Request.TheVariants.{Conform, Script, Show, Trial as trial}
+use Rattle.command_words.specs.declared.request.Trial.{Trial}
 use Rattle.command_words.proofs.Digits.{same_number}
 use Rattle.command_words.proofs.Names.{same_family, same_rule}
 

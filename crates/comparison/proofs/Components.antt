@@ -7,7 +7,8 @@ use Rattle.conformance.specs.Told.{Fails}
 use Rattle.conformance.specs.declared.fault.ConformFault.{ConformFault}
 use Rattle.conformance.specs.declared.fault.ConformFault.TheVariants as fault
 use Rattle.conformance.proofs.Telling.{tables_tell}
-use Rattle.csp_program.specs.Prelude.{Proc, Content}
+use Rattle.csp_program.specs.declared.processes.Proc.{Proc}
+use Rattle.csp_program.specs.declared.programs.Content.{Content}
 use Rattle.csp_tables.specs.Prelude.{HasForm, HaveForm, Component, leaves, Part, part_at, IsPartOf}
 use Rattle.net_sound.proofs.Parts.{component_of, one_part_each, part_of, part_within}
 use Rattle.net_sound.proofs.Within.{part_form}

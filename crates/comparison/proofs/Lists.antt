@@ -3,7 +3,8 @@ use Rattle.std.proofs.Common.{◌≡◌, ℕ, suc, ◌<◌, ◌≤◌, inl, inr,
 use Rattle.std.specs.Prelude.{slice_get}
 use Rattle.csp_base.specs.Standard.{option_map, bytes_decides, pointwise}
 use Rattle.csp_base.proofs.Standard.{cases_lt, false≢true, length-map, same_Some, slice_get-map, slice_get_past}
-use Rattle.csp_program.specs.Prelude.{Proc, Content}
+use Rattle.csp_program.specs.declared.processes.Proc.{Proc}
+use Rattle.csp_program.specs.declared.programs.Content.{Content}
 use Rattle.csp_tables.specs.Network.{Component}
 use Rattle.network_layout.specs.Triple.{alphabets}
 use Rattle.comparison.specs.Agreement.{printed_events}

@@ -8,7 +8,11 @@ use Rattle.network_stages.proofs.Excluded.{faults_exclude_tables}
 use Rattle.network_stages.specs.Prelude.{Network, HaveFewSets, HasNoParts}
 use Rattle.process_steps.specs.ComponentStep.{ProcessStep}
 use Rattle.refinement.specs.Conforms.{AllConform, Conforms}
-use Rattle.report.specs.Prelude.{Point, passed, told, verdict_status, Refusal, Shortfall, Side, Verdict}
+use Rattle.report.specs.Prelude.{Point, passed, told, verdict_status}
+use Rattle.report.specs.declared.answer.Refusal.{Refusal}
+use Rattle.report.specs.declared.answer.Shortfall.{Shortfall}
+use Rattle.report.specs.declared.answer.Side.{Side}
+use Rattle.report.specs.declared.answer.Verdict.{Verdict}
 use Rattle.report.specs.declared.answer.Side.TheVariants as side
 use Rattle.report.specs.declared.answer.Verdict.TheVariants as verdict
 use Rattle.comparison.specs.Agreement.{DifferFirstAt, printed_events}

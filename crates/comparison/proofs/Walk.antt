@@ -3,10 +3,13 @@ use Rattle.std.proofs.Common.{◌≡◌, List, Result}
 use Rattle.std.specs.Result.{IsErrAnd}
 use Rattle.csp_tables.specs.Prelude.{leaves, Part}
 use Rattle.network_layout.specs.Triple.{alphabets}
-use Rattle.network_stages.specs.Prelude.{Network, HasParts, HasTables, ComponentTable}
-use Rattle.report.proofs.Points.{at_stop, goes_on, weaker}
-use Rattle.report.specs.Prelude.{passed, told, Answers, Done, Side, Verdict}
-use Rattle.csp_base.specs.Prelude.{Tells, Stop}
+use Rattle.network_stages.specs.Prelude.{Network, HasParts, HasTables}
+use Rattle.network_stages.specs.declared.component_tables.ComponentTable.{ComponentTable}
+use Rattle.report.proofs.Points.{at_halt, goes_on, halts_weaker}
+use Rattle.report.specs.Prelude.{passed, told, Answers, HaltsWith, Halt}
+use Rattle.report.specs.declared.answer.Done.{Done}
+use Rattle.report.specs.declared.answer.Side.{Side}
+use Rattle.report.specs.declared.answer.Verdict.{Verdict}
 use Rattle.report.specs.declared.answer.Side.TheVariants as side
 use Rattle.comparison.specs.Agreement.{printed_events}
 use Rattle.comparison.specs.Compared.{ConformanceDecides, IsCompared, PartsOr}
@@ -18,15 +21,15 @@ fails s network Then v (told r is tells) = told r is tells
 fails s network Then v (passed tables are (told r is tells)) = passed tables are (told r is tells)
 fails s network Then v (passed tables are (passed parts by never)) = absurd never
 
-module _ (r : Result Done (Stop Verdict)) where
+module _ (r : Result Done Halt) where
   pub past_agreement : (network specified : Network) → printed_events network.program ≡ printed_events specified.program → alphabets (leaves network.tree) ≡ alphabets (leaves specified.tree)
       → Answers (PartsOr side.Script network (PartsOr side.Specification specified (ConformanceDecides network specified))) r → Answers (IsCompared network specified) r
   unfolding IsCompared
   past_agreement network specified events shape rest = goes_on _ _ _ _ tt events r (goes_on _ _ _ _ tt shape r rest)
 
   module _ (s : Side) (network : Network) (Then : Verdict → Type 0) where
-    pub at_parts : (why : Stop Verdict) → IsErrAnd r (λ t. t ≡ why) → Tells (PartsOr s network (λ v. ⊥)) why → Answers (PartsOr s network Then) r
-    at_parts why exit tells = at_stop r (PartsOr s network Then) why exit (weaker (PartsOr s network (λ v. ⊥)) (PartsOr s network Then) (fails s network Then) why tells)
+    pub at_parts : (why : Halt) → IsErrAnd r (λ t. t ≡ why) → HaltsWith (PartsOr s network (λ v. ⊥)) why → Answers (PartsOr s network Then) r
+    at_parts why exit tells = at_halt r (PartsOr s network Then) why exit (halts_weaker (PartsOr s network (λ v. ⊥)) (PartsOr s network Then) (fails s network Then) why tells)
 
     pub past_parts : (tables : List ComponentTable) (parts : List Part) → HasTables network tables → HasParts network parts → Answers Then r → Answers (PartsOr s network Then) r
     unfolding PartsOr

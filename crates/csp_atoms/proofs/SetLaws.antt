@@ -4,7 +4,8 @@ use Rattle.std.specs.Prelude.{pos}
 use Rattle.csp_base.proofs.Standard.{false≢true, eqb-true, int_ranked, ints}
 use Rattle.csp_base.specs.Standard.{filter, IsStrictlyIncreasing, int_cmp, is_lt, Ordering, Less, Equal, Greater}
 use Rattle.csp_base.proofs.Rising.{RisesFrom, increasing_from_rises}
-use Rattle.csp_atoms.specs.Prelude.{kind_of, less, AllAbove, IsRising, AllOfKind, IsOneKind, IsAtomSet, with_atom, union_of, fits, alike, event_atoms, event_numbers, Atom}
+use Rattle.csp_atoms.specs.Prelude.{kind_of, less, AllAbove, IsRising, AllOfKind, IsOneKind, IsAtomSet, with_atom, union_of, fits, alike, event_atoms, event_numbers}
+use Rattle.csp_atoms.specs.declared.atom.Atom.{Atom}
 use Rattle.csp_atoms.specs.declared.atom.Atom.TheVariants as atom
 use Rattle.csp_atoms.proofs.EventLaws.{atoms_of_numbers}
 use Rattle.csp_atoms.proofs.ListLaws.{IsRising-with_atom, IsRising-union_of, IsRising-filter, IsOneKind-filter, kind_with_atom, kind_union_of, kind_first, one_kind}

@@ -1,7 +1,9 @@
 //! Sets of atoms of one kind. Contracts see the list of the members, which rises strictly.
 
 ghost use Rattle.std.specs.Prelude.{◌≡◌, ◌↔◌, ◌&&◌, ◌||◌, not, [], false, length, slice_get, IfOk, OnOk, OnErr, IsErrOf, IsTrue};
-ghost use Rattle.csp_atoms.specs.Prelude.{same, Atom, IsAtomSet, IsRising, IsOneKind, alike, diff_of, event_numbers, fits, has_atom, inter_of, place_of, union_of, with_atom};
+ghost use Rattle.csp_atoms.specs.Order.{same};
+ghost use Rattle.csp_atoms.specs.Sets.{IsAtomSet, IsRising, IsOneKind, alike, diff_of, event_numbers, fits, has_atom, inter_of, place_of, union_of, with_atom};
+ghost use Rattle.csp_atoms.specs.declared.atom.Atom.{Atom};
 
 use crate::atom::Atom;
 use crate::error::AtomSetError;
@@ -26,7 +28,8 @@ impl Drop for AtomSet {
 
 impl Model for AtomSet {
     ghost use Rattle.std.specs.Prelude.{List};
-    ghost use Rattle.csp_atoms.specs.Prelude.{Atom, IsAtomSet};
+    ghost use Rattle.csp_atoms.specs.Sets.{IsAtomSet};
+    ghost use Rattle.csp_atoms.specs.declared.atom.Atom.{Atom};
 
     ghost Value = { List Atom };
 

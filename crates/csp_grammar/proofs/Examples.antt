@@ -1,7 +1,9 @@
 -- The derivations of the worked texts.
 use Rattle.std.proofs.Common.{ℕ, suc, List, ◌∷◌}
-use Rattle.csp_text.specs.Prelude.{Token, Name, Num, OpenParen, CloseParen, Plus, Tree}
-use Rattle.csp_text.specs.declared.token.Token.TheVariants.{Symbol}
+use Rattle.csp_text.specs.declared.token.Symbol.TheVariants.{OpenParen, CloseParen, Plus}
+use Rattle.csp_text.specs.declared.token.Token.{Token}
+use Rattle.csp_text.specs.declared.token.Token.TheVariants.{Name, Num, Symbol}
+use Rattle.csp_text.specs.declared.tree.Tree.{Tree}
 use Rattle.csp_text.specs.declared.tree.Tree.TheVariants as tree
 use Rattle.csp_base.specs.declared.operators.BinOp.TheVariants.{Add}
 use Rattle.csp_grammar.specs.Prelude.{disjunction-conjunction, conjunction-negation, negation-comparison, comparison-sum, sum-product, product-minus, minus-renaming, minus-sign, percent, plus, disjunction, minus, product, sum, AtomText, ExpressionText, PrefixText, closed, PrefixBindsTighterThanChoice, PrefixBindsTighterThanSequence, SetOfOneNegativeNumber, SequencesNestFromTheRight, HidingsNestFromTheLeft, DifferencesNestFromTheLeft, FieldsAreArithmetic, OpenFormsReachToTheRight, ParenthesesLeaveNoTrace}

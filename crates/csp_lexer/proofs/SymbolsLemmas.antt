@@ -3,7 +3,8 @@ use Rattle.std.proofs.Common.{◌≡◌, ℕ, zero, suc, ◌+◌, ◌<◌, ◌�
 use Rattle.csp_base.proofs.Standard.{and_parts, eqb-true, false≢true, length-append, nat_tests}
 use Rattle.std.specs.Prelude.{Option, Some, None, IfSome, find, nat_eq, nat_le, nat_lt}
 use Rattle.std.specs.List.{slice_get, starts_with}
-use Rattle.csp_text.specs.Prelude.{Symbol, symbol_text, symbols}
+use Rattle.csp_text.specs.Prelude.{symbol_text, symbols}
+use Rattle.csp_text.specs.declared.token.Symbol.{Symbol}
 use Rattle.csp_text.proofs.WrittenAlike.{symbol_place, symbol_stands}
 use Rattle.csp_lexer.specs.Symbols.{IsFront, IsLongest, longest_symbol}
 

@@ -2,7 +2,10 @@
 
 ghost use Rattle.std.specs.Prelude.{◌≡◌, ◌<◌, ◌≤◌, true, nat_eq, codes, [], length, IsTrue, IfOk, IfErr, IfSome, Ok, Err};
 ghost use Rattle.csp_base.specs.Standard.{starts_with, option_copied};
-ghost use Rattle.csp_lexer.specs.Prelude.{begins_assertion, front, is_blank, assertion_or_token, line_comment, lexed, Passed};
+ghost use Rattle.csp_lexer.specs.Annotations.{line_comment};
+ghost use Rattle.csp_lexer.specs.Front.{begins_assertion, front, is_blank, assertion_or_token};
+ghost use Rattle.csp_lexer.specs.Lexed.{lexed};
+ghost use Rattle.csp_lexer.specs.Passed.{Passed};
 ghost use Rattle.csp_text.specs.Fault.{IfNoScript};
 
 use crate::annotations::pass_line;

@@ -7,7 +7,13 @@ use Rattle.csp_base.specs.Lists.{greatest}
 use Rattle.csp_grammar.specs.Declarations.{NamesText, TypesText, ParametersText, AssertedText, ModelText, DeclarationText, DeclarationsText, ScriptText}
 use Rattle.csp_grammar.specs.Declarations as d
 use Rattle.csp_lexer.specs.Prelude.{lexed, PlacedTokens, tokens_of}
-use Rattle.csp_text.specs.Prelude.{tree_depth, Decl, Script, Symbol, Token, Tree, ParseFault}
+use Rattle.csp_text.specs.Prelude.{tree_depth}
+use Rattle.csp_text.specs.declared.fault.ParseFault.{ParseFault}
+use Rattle.csp_text.specs.declared.script.Decl.{Decl}
+use Rattle.csp_text.specs.declared.script.Script.{Script}
+use Rattle.csp_text.specs.declared.token.Symbol.{Symbol}
+use Rattle.csp_text.specs.declared.token.Token.{Token}
+use Rattle.csp_text.specs.declared.tree.Tree.{Tree}
 use Rattle.dl_limits.specs.declared.TheConstants.{MOST_BYTES, MOST_TREE_DEPTH}
 use Rattle.csp_parser.specs.Sizes.{SpelledScriptsAreSmall}
 use Rattle.csp_parser.proofs.TokenCounts.{no_more_than_bytes}

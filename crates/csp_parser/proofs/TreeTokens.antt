@@ -1,7 +1,12 @@
 -- A tree has fewer binding tokens than each of its texts has tokens: each of them is a token of the text, and there is one that is none of them, as the
 -- arrow behind a `?x`. By induction over the grammar, of the tokens that a text takes from the list before it leaves the rest.
 use Rattle.std.proofs.Common.{◌≡◌, ℕ, ◌+◌, ◌≤◌, Bool, Some, None, List, [], ◌∷◌, length, ap, ◌∙◌, arith}
-use Rattle.csp_text.specs.Prelude.{Token, FieldTree, out-EventTree, out-roll-EventTree, out-roll-PartTree, GenTree, PartTree, Tree}
+use Rattle.csp_text.specs.declared.token.Token.{Token}
+use Rattle.csp_text.specs.declared.tree.FieldTree.{FieldTree}
+use Rattle.csp_text.specs.declared.tree.FieldTree.TheViews.{out-EventTree, out-roll-EventTree, out-roll-PartTree}
+use Rattle.csp_text.specs.declared.tree.GenTree.{GenTree}
+use Rattle.csp_text.specs.declared.tree.PartTree.{PartTree}
+use Rattle.csp_text.specs.declared.tree.Tree.{Tree}
 use Rattle.csp_text.specs.declared.tree.Tree.TheVariants as tree
 use Rattle.csp_grammar.specs.Prelude.{Choice, choice_of, event_tree, part_tree, TreeText, Reach, SideText, HidingText, ChoiceText, SequenceText, PrefixText, OpenText, EventText, FieldsText, DottedText, DotsText, ExpressionText, PairsText, PartText, PartsText, ConditionsText, GensText, GenText, ItemText, ItemsText, AtomText, external, internal, Level}
 use Rattle.csp_grammar.specs.Grammar as g

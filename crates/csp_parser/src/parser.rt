@@ -6,7 +6,8 @@ ghost use Rattle.csp_lexer.specs.Placed.{tokens_of};
 ghost use Rattle.csp_parser.specs.Places.{IsPlaceIn, IsPlaceOf, place_before};
 ghost use Rattle.csp_parser.specs.Sizes.{SpelledScriptsAreSmall};
 ghost use Rattle.csp_parser.specs.Spells.{EachTextSpellsOneScript, Spells};
-ghost use Rattle.csp_text.specs.Prelude.{IfNoScript, Script};
+ghost use Rattle.csp_text.specs.Prelude.{IfNoScript};
+ghost use Rattle.csp_text.specs.declared.script.Script.{Script};
 ghost use Rattle.dl_limits.specs.declared.TheConstants.{MOST_BYTES};
 ghost use Rattle.script_sizes.specs.Size.{AreSmall};
 

@@ -1,7 +1,20 @@
 -- Inductions over expressions, processes and networks by their forms: what each form has whose parts have it, all have. A form that is new gets a
 -- clause of `ExprHas`, `ProcHas` or `NetHas`, and one beside it.
 use Rattle.std.proofs.Common.{◌≡◌, List, [], ◌∷◌, map, subst}
-use Rattle.csp_program.specs.Prelude.{EventPart, Expr, ind-Expr, ind-Gen, ind-EventPart, map-Expr, map-Gen, map-EventPart, Expr-F, Gen-F, EventPart-F, roll-Expr, roll-Gen, roll-EventPart, Gen, Net, ind-Net, map-Net, Net-F, roll-Net, Proc, ind-Proc, map-Proc, Proc-F, roll-Proc}
+use Rattle.csp_program.specs.declared.expressions.EventPart.{EventPart}
+use Rattle.csp_program.specs.declared.expressions.Expr.{Expr}
+use Rattle.csp_program.specs.declared.expressions.Expr.TheFolds.{ind-Expr, ind-Gen, ind-EventPart, map-Expr, map-Gen, map-EventPart}
+use Rattle.csp_program.specs.declared.expressions.Expr.TheOpen.{Expr-F, Gen-F, EventPart-F}
+use Rattle.csp_program.specs.declared.expressions.Expr.TheViews.{roll-Expr, roll-Gen, roll-EventPart}
+use Rattle.csp_program.specs.declared.expressions.Gen.{Gen}
+use Rattle.csp_program.specs.declared.networks.Net.{Net}
+use Rattle.csp_program.specs.declared.networks.Net.TheFolds.{ind-Net, map-Net}
+use Rattle.csp_program.specs.declared.networks.Net.TheOpen.{Net-F}
+use Rattle.csp_program.specs.declared.networks.Net.TheViews.{roll-Net}
+use Rattle.csp_program.specs.declared.processes.Proc.{Proc}
+use Rattle.csp_program.specs.declared.processes.Proc.TheFolds.{ind-Proc, map-Proc}
+use Rattle.csp_program.specs.declared.processes.Proc.TheOpen.{Proc-F}
+use Rattle.csp_program.specs.declared.processes.Proc.TheViews.{roll-Proc}
 
 -- each of some parts has it
 abbrev pub Every : {A : Type 0} → (A → Type 0) → List A → Type 0

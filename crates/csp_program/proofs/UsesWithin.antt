@@ -2,7 +2,17 @@
 use Rattle.std.proofs.Common.{◌≡◌, ℕ, zero, suc, ◌≤◌, IsTrue, Some, None, List, [], ◌∷◌, map, refl, sym, ◌∙◌, subst, arith}
 use Rattle.std.specs.Prelude.{Option, slice_get, nat_eq}
 use Rattle.std.proofs.lemmas.Bool.{false≢true, eq-eqb}
-use Rattle.csp_program.specs.Prelude.{Names, either, any_of, NestsWithin, DefNests, BodyNests, expr_uses, expr_uses_of_layer, gen_uses_of_layer, part_uses_of_layer, Uses, Meaning, Turn, Front, meaning, turn, front, meaning_of_layer, turn_of_layer, front_of_layer, body_value, def_value, uses_within, value_within, bound_to, many, as_set, values_of, Outcome, and_then, Expr, fold-Gen, fold-EventPart, fold-roll-Expr, fold-roll-Gen, fold-roll-EventPart, map-Expr, map-Gen, Expr-F, Gen-F, EventPart-F, roll-Expr, roll-Gen, roll-EventPart, EventPart, Gen, Body, Channel, Content, Def}
+use Rattle.csp_program.specs.Prelude.{Names, either, any_of, NestsWithin, DefNests, BodyNests, expr_uses, expr_uses_of_layer, gen_uses_of_layer, part_uses_of_layer, Uses, Meaning, Turn, Front, meaning, turn, front, meaning_of_layer, turn_of_layer, front_of_layer, body_value, def_value, uses_within, value_within, bound_to, many, as_set, values_of, Outcome, and_then}
+use Rattle.csp_program.specs.declared.expressions.EventPart.{EventPart}
+use Rattle.csp_program.specs.declared.expressions.Expr.{Expr}
+use Rattle.csp_program.specs.declared.expressions.Expr.TheFolds.{fold-Gen, fold-EventPart, fold-roll-Expr, fold-roll-Gen, fold-roll-EventPart, map-Expr, map-Gen}
+use Rattle.csp_program.specs.declared.expressions.Expr.TheOpen.{Expr-F, Gen-F, EventPart-F}
+use Rattle.csp_program.specs.declared.expressions.Expr.TheViews.{roll-Expr, roll-Gen, roll-EventPart}
+use Rattle.csp_program.specs.declared.expressions.Gen.{Gen}
+use Rattle.csp_program.specs.declared.programs.Body.{Body}
+use Rattle.csp_program.specs.declared.programs.Channel.{Channel}
+use Rattle.csp_program.specs.declared.programs.Content.{Content}
+use Rattle.csp_program.specs.declared.programs.Def.{Def}
 use Rattle.csp_atoms.specs.declared.value.Value.{Value}
 use Rattle.csp_program.specs.declared.programs.Body.TheVariants as body
 use Rattle.csp_program.proofs.Forms.{Every, ExprHas, GenHas, PartHas, each_expr}

@@ -181,12 +181,12 @@ impl Model for Program {
     ghost use Rattle.csp_program.specs.contracts.expressions.Expr as expression;
     ghost use Rattle.csp_program.specs.contracts.networks.Net as network;
     ghost use Rattle.csp_program.specs.contracts.processes.Proc as process;
-    ghost use Rattle.csp_program.specs.Prelude.{Content, IsInOrder};
+    ghost use Rattle.csp_program.specs.InOrder.{IsInOrder};
+    ghost use Rattle.csp_program.specs.declared.programs.Content.{Content};
 
     ghost Value = { Content };
 
     ghost coded = { Prim.hlevel (codes, expression.the_row.coded, network.the_row.coded, process.the_row.coded) };
-
 
     ghost view = { λ p. p.content };
 

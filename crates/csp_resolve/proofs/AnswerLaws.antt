@@ -4,10 +4,14 @@ use Rattle.std.specs.Prelude.{Result, Ok, Err}
 use Rattle.std.specs.Result.{IsErrAnd}
 use Rattle.csp_atoms.specs.declared.atom.Atom.{Atom}
 use Rattle.csp_program.specs.declared.programs.Content.{Content}
-use Rattle.csp_text.specs.Prelude.{Decl, Script}
+use Rattle.csp_text.specs.declared.script.Decl.{Decl}
+use Rattle.csp_text.specs.declared.script.Script.{Script}
 use Rattle.csp_resolve.specs.Answers.{Answers, Grows}
 use Rattle.event_tables.specs.declared.sets.SharedSets.{SharedSets}
-use Rattle.script_names.specs.Prelude.{ResolveFault, Unresolved, Kind, AreKinds, IsProgram, Answer, Resolves, resolved}
+use Rattle.script_names.specs.Prelude.{AreKinds, IsProgram, Answer, Resolves, resolved}
+use Rattle.script_names.specs.declared.fault.ResolveFault.{ResolveFault}
+use Rattle.script_names.specs.declared.fault.Unresolved.{Unresolved}
+use Rattle.script_names.specs.declared.kinds.Kind.{Kind}
 use Rattle.script_names.specs.declared.fault.Unresolved.TheVariants as unresolved
 use Rattle.typed_laws.proofs.Programs.{faultless_is_program}
 

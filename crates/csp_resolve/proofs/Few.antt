@@ -7,7 +7,8 @@ use Rattle.csp_text.specs.declared.script.Decl.{Decl}
 use Rattle.csp_text.specs.declared.script.Decl.TheVariants as decl
 use Rattle.dl_limits.specs.declared.TheConstants.{MOST_BYTES}
 use Rattle.resolved_laws.specs.Laws.{HasFew}
-use Rattle.script_names.specs.Prelude.{channels_of, constants_of, defined, definitions_from, plain_content, Counts, Meanings, counted, meanings_of, none_yet, Kind}
+use Rattle.script_names.specs.Prelude.{channels_of, constants_of, defined, definitions_from, plain_content, Counts, Meanings, counted, meanings_of, none_yet}
+use Rattle.script_names.specs.declared.kinds.Kind.{Kind}
 use Rattle.script_sizes.specs.Size.{declaration_size, size}
 
 -- no declaration is without size

@@ -3,11 +3,13 @@ use Rattle.std.proofs.Common.{◌≡◌, List, sym, ap, ◌∙◌}
 use Rattle.std.specs.Prelude.{Some, None, Err}
 use Rattle.std.proofs.Math.Path.{fun_ext}
 use Rattle.csp_program.specs.declared.programs.Content.{Content}
-use Rattle.csp_text.specs.Prelude.{Decl, Tree}
+use Rattle.csp_text.specs.declared.script.Decl.{Decl}
+use Rattle.csp_text.specs.declared.tree.Tree.{Tree}
 use Rattle.csp_resolve.specs.Answers.{types_read}
 use Rattle.name_tables.specs.Firsts.{SameFirsts}
 use Rattle.script_names.specs.declared.fault.ResolveFault.TheVariants as fault
-use Rattle.script_names.specs.Prelude.{Kind, first_assertion, plain_content, Entities, declared, first_of, meanings_of, and_next, channel_sets, resolved, with_names, with_root, with_table, name_fault}
+use Rattle.script_names.specs.Prelude.{first_assertion, plain_content, Entities, declared, first_of, meanings_of, and_next, channel_sets, resolved, with_names, with_root, with_table, name_fault}
+use Rattle.script_names.specs.declared.kinds.Kind.{Kind}
 
 module _ (decls : List Decl) (kinds : List Kind) where
   pub no_assert : first_assertion decls ≡ None → resolved decls kinds ≡ Err fault.NoAssert

@@ -3,13 +3,16 @@ use Rattle.std.proofs.Common.{◌≡◌, ℕ, ◌+◌, ◌<◌, ◌≤◌, List,
 use Rattle.std.specs.Prelude.{Ok, Err}
 use Rattle.csp_base.proofs.Standard.{drop_of_length-le, append-nil}
 use Rattle.csp_atoms.specs.declared.atom.Atom.{Atom}
-use Rattle.csp_program.specs.Prelude.{Expr, Content}
-use Rattle.csp_text.specs.Prelude.{Decl, Tree}
+use Rattle.csp_program.specs.declared.expressions.Expr.{Expr}
+use Rattle.csp_program.specs.declared.programs.Content.{Content}
+use Rattle.csp_text.specs.declared.script.Decl.{Decl}
+use Rattle.csp_text.specs.declared.tree.Tree.{Tree}
 use Rattle.csp_text.specs.declared.script.Decl.TheVariants as decl
 use Rattle.csp_resolve.specs.Answers.{GrowsBy, sets_of}
 use Rattle.event_tables.specs.declared.sets.SharedSets.{SharedSets}
 use Rattle.event_tables.specs.Spread.{spread}
-use Rattle.script_names.specs.Prelude.{ResolveFault, Name, Answer, and_next, channel_sets, field_sets, told_in}
+use Rattle.script_names.specs.Prelude.{Name, Answer, and_next, channel_sets, field_sets, told_in}
+use Rattle.script_names.specs.declared.fault.ResolveFault.{ResolveFault}
 use Rattle.csp_base.proofs.Lists.{drop_read}
 
 abbrev pub Sets : Type 0

@@ -4,12 +4,16 @@ use Rattle.std.proofs.lemmas.Bool.{and_from, lt-ltb}
 use Rattle.std.specs.Prelude.{IfOk, IfSome, nat_lt, OnOk, Option, Result}
 use Rattle.std.specs.Result.{IsErrAnd}
 use Rattle.csp_base.specs.Lists.{StandsIn}
-use Rattle.csp_program.specs.Prelude.{Outcome, and_then, ValueKind, Proc, Content}
+use Rattle.csp_program.specs.Prelude.{Outcome, and_then}
+use Rattle.csp_program.specs.declared.kinds.ValueKind.{ValueKind}
+use Rattle.csp_program.specs.declared.processes.Proc.{Proc}
+use Rattle.csp_program.specs.declared.programs.Content.{Content}
 use Rattle.process_steps.proofs.Members.{Among, placed}
 use Rattle.process_steps.specs.StepList.{Move, steps_of}
 use Rattle.value_operators.specs.declared.fault.EvalFault.{EvalFault}
 use Rattle.value_operators.specs.declared.fault.EvalFault.TheVariants as fault
-use Rattle.csp_steps.specs.Prelude.{all_within, AreAdded, AreEach, GivesEach, GivesMoves, IsListing, all_moves, around, effect_of, moves_of, AreStepsOf, FaultIs, seen, AreFirsts, AreFirstsAfter, StepTo}
+use Rattle.csp_steps.specs.Prelude.{all_within, AreAdded, AreEach, GivesEach, GivesMoves, IsListing, all_moves, around, effect_of, moves_of, AreStepsOf, FaultIs, seen, AreFirsts, AreFirstsAfter}
+use Rattle.csp_steps.specs.declared.step.StepTo.{StepTo}
 use Rattle.csp_steps.proofs.Computing.{passed}
 use Rattle.csp_steps.proofs.Firsts.{firsts_back, firsts_map, joined_firsts, stands_either, stands_none}
 use Rattle.csp_steps.proofs.Places.{standing, within_of}

@@ -2,13 +2,18 @@
 use Rattle.std.proofs.Common.{◌≡◌, ℕ, ◌+◌, ◌<◌, ◌≤◌, Ok, Err, List, [], ◌∷◌, ◌++◌, map, take, length, get_or, ap, sym, ◌∙◌, subst, append_assoc}
 use Rattle.std.specs.Prelude.{Result}
 use Rattle.std.specs.Result.{IsErrAnd}
-use Rattle.csp_program.specs.Prelude.{joined, Outcome, ValueKind, Proc, Content}
+use Rattle.csp_program.specs.Prelude.{joined, Outcome}
+use Rattle.csp_program.specs.declared.kinds.ValueKind.{ValueKind}
+use Rattle.csp_program.specs.declared.processes.Proc.{Proc}
+use Rattle.csp_program.specs.declared.programs.Content.{Content}
 use Rattle.process_steps.specs.Prelude.{Move, Among}
 use Rattle.term_pool.specs.Pooled.{IsFront}
-use Rattle.value_operators.specs.Prelude.{Gives, EvalFault}
+use Rattle.value_operators.specs.Prelude.{Gives}
+use Rattle.value_operators.specs.declared.fault.EvalFault.{EvalFault}
 use Rattle.value_operators.specs.declared.fault.EvalFault.TheVariants as fault
 use Rattle.step_values.specs.Starts.{GivesStart}
-use Rattle.csp_steps.specs.Prelude.{Answers, AreMoves, GivesMoves, IsFault, IsListing, IsMove, seen, StepTo}
+use Rattle.csp_steps.specs.Prelude.{Answers, AreMoves, GivesMoves, IsFault, IsListing, IsMove, seen}
+use Rattle.csp_steps.specs.declared.step.StepTo.{StepTo}
 use Rattle.step_values.proofs.Lists.{joined_push}
 use Rattle.csp_steps.proofs.Places.{moves_stay, one_move}
 use Rattle.csp_base.proofs.Lists.{take_read, map_push}

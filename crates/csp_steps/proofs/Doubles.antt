@@ -3,7 +3,8 @@ use Rattle.std.proofs.Common.{◌≡◌, ℕ, ◌+◌, ◌<◌, ◌≤◌, Bool,
 use Rattle.csp_base.proofs.Standard.{false≢true, take_all, any_passes_from_place}
 use Rattle.std.specs.Set.{is_member}
 use Rattle.containers.specs.Members.{with_new}
-use Rattle.csp_steps.specs.Prelude.{AreAdded, eq_step, AreFirsts, AreFirstsAfter, none, again, first, laws-law, StepTo}
+use Rattle.csp_steps.specs.Prelude.{AreAdded, eq_step, AreFirsts, AreFirstsAfter, none, again, first, laws-law}
+use Rattle.csp_steps.specs.declared.step.StepTo.{StepTo}
 use Rattle.csp_steps.proofs.Firsts.{firsts_append}
 use Rattle.csp_base.proofs.Lists.{take_read}
 use Rattle.csp_base.specs.Lists.{StandsIn}

@@ -1,10 +1,14 @@
 -- The steps of a process, from what a look at it has found.
 use Rattle.std.proofs.Common.{◌≡◌, ◌+◌, ◌*◌, ◌<◌, Ok, true, List, [], map, length, refl, ap, sym, ◌∙◌, subst, arith}
-use Rattle.csp_program.specs.Prelude.{proc_depth, Outcome, and_then, Proc, Content}
+use Rattle.csp_program.specs.Prelude.{proc_depth, Outcome, and_then}
+use Rattle.csp_program.specs.declared.processes.Proc.{Proc}
+use Rattle.csp_program.specs.declared.programs.Content.{Content}
 use Rattle.process_steps.specs.StepList.{Move, steps_of, steps_of_choice}
 use Rattle.term_pool.specs.Trees.{all_below, tree_at}
 use Rattle.pool_parts.specs.declared.place.ProcId.{ProcId}
-use Rattle.csp_steps.specs.Prelude.{AreAround, AreOfChoice, AreThoseAt, IsListing, IsLook, around, Look, StepTo}
+use Rattle.csp_steps.specs.Prelude.{AreAround, AreOfChoice, AreThoseAt, IsListing, IsLook, around}
+use Rattle.csp_steps.specs.declared.look.Look.{Look}
+use Rattle.csp_steps.specs.declared.step.StepTo.{StepTo}
 use Rattle.csp_steps.specs.declared.look.Look.TheVariants as look
 use Rattle.csp_base.specs.Lists.{greatest}
 

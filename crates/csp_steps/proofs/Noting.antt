@@ -4,12 +4,18 @@ use Rattle.std.proofs.lemmas.Bool.{eqb-true}
 use Rattle.csp_base.specs.Standard.{HashMap, get, IsEmpty, Updates, lookup}
 use Rattle.std.specs.Prelude.{OnOk, Result}
 use Rattle.containers.proofs.MembersLemmas.{slice_get-append_left}
-use Rattle.csp_program.specs.Prelude.{Outcome, Proc, Content}
+use Rattle.csp_program.specs.Prelude.{Outcome}
+use Rattle.csp_program.specs.declared.processes.Proc.{Proc}
+use Rattle.csp_program.specs.declared.programs.Content.{Content}
 use Rattle.process_steps.specs.StepList.{Move, steps_of}
 use Rattle.term_pool.proofs.PutLemmas.{at}
 use Rattle.term_pool.specs.Prelude.{with_first, IsFront, tree_at}
 use Rattle.pool_parts.specs.declared.place.ProcId.{ProcId}
-use Rattle.csp_steps.specs.Prelude.{AreEach, AreFirsts, Does, body_of, AreBodies, AreKept, AreNoted, Fits, HasNumber, HasValue, IsNumbered, StandsAs, Round, Evaluated, Operator, StepTo}
+use Rattle.csp_steps.specs.Prelude.{AreEach, AreFirsts, Does, body_of, AreBodies, AreKept, AreNoted, Fits, HasNumber, HasValue, IsNumbered, StandsAs}
+use Rattle.csp_steps.specs.declared.around.Round.{Round}
+use Rattle.csp_steps.specs.declared.evaluated.Evaluated.{Evaluated}
+use Rattle.csp_steps.specs.declared.operator.Operator.{Operator}
+use Rattle.csp_steps.specs.declared.step.StepTo.{StepTo}
 use Rattle.csp_steps.proofs.Effects.{does_kept, does_stay}
 use Rattle.csp_steps.proofs.Places.{all_within_stay, front_both, seen_stay, standing, tree_stays}
 use Rattle.csp_base.proofs.Lists.{slice_get_last}

@@ -3,10 +3,19 @@ use Rattle.std.proofs.Common.{◌≡◌, ℕ, zero, suc, ◌+◌, ◌*◌, ◌^�
 use Rattle.std.specs.Prelude.{is_some, if◌then◌else◌}
 use Rattle.csp_base.proofs.Standard.{map-append, slice_get_within}
 use Rattle.csp_atoms.proofs.SearchLaws.{has_place}
-use Rattle.csp_atoms.specs.Prelude.{has_atom, place_of, Atom, Value, One, Many}
-use Rattle.csp_program.specs.Prelude.{row_count, rows, Outcome, and_then, given_by, proc_with, Env, in_field, ValueKind, OutsideChannel, Field, Proc, Content}
+use Rattle.csp_atoms.specs.Prelude.{has_atom, place_of}
+use Rattle.csp_atoms.specs.declared.atom.Atom.{Atom}
+use Rattle.csp_atoms.specs.declared.value.Value.{Value}
+use Rattle.csp_atoms.specs.declared.value.Value.TheVariants.{One, Many}
+use Rattle.csp_program.specs.Prelude.{row_count, rows, Outcome, and_then, given_by, proc_with, Env, in_field}
+use Rattle.csp_program.specs.declared.kinds.ValueKind.{ValueKind}
+use Rattle.csp_program.specs.declared.kinds.ValueKind.TheVariants.{OutsideChannel}
+use Rattle.csp_program.specs.declared.processes.Field.{Field}
+use Rattle.csp_program.specs.declared.processes.Proc.{Proc}
+use Rattle.csp_program.specs.declared.programs.Content.{Content}
 use Rattle.csp_program.specs.declared.processes.Field.TheVariants as field
-use Rattle.process_steps.specs.Prelude.{each_joined, given_under, is_given, value_under, ways_to_fill, where_given, Move, Visible}
+use Rattle.process_steps.specs.Prelude.{each_joined, given_under, is_given, value_under, ways_to_fill, where_given, Move}
+use Rattle.process_steps.specs.declared.label.Label.TheVariants.{Visible}
 use Rattle.process_steps.specs.Ways as ways
 use Rattle.value_laws.proofs.RowNumbers.{field_found, length-rows, to_rows}
 use Rattle.value_laws.specs.Numbers.{field_place, found_place}

@@ -8,7 +8,8 @@ use Rattle.process_steps.specs.StepList.{Move}
 use Rattle.term_pool.proofs.PutLemmas.{at}
 use Rattle.term_pool.specs.Prelude.{IsFront, StandAt, all_below, tree_at}
 use Rattle.pool_parts.specs.declared.place.ProcId.{ProcId}
-use Rattle.csp_steps.specs.Prelude.{all_within, AreAt, AreMoves, IsMove, IsPlaceOf, seen, StepTo}
+use Rattle.csp_steps.specs.Prelude.{all_within, AreAt, AreMoves, IsMove, IsPlaceOf, seen}
+use Rattle.csp_steps.specs.declared.step.StepTo.{StepTo}
 
 pub front_same : (trees : List Proc) → IsFront trees trees
 front_same trees k t h = h

@@ -4,11 +4,14 @@ use Rattle.csp_base.proofs.Standard.{lt-ltb, and_from, slice_get_within, map-app
 use Rattle.std.specs.Cmp.{first_so, second_so}
 use Rattle.std.specs.Prelude.{nat_lt}
 use Rattle.csp_program.specs.declared.processes.Proc.{Proc}
-use Rattle.process_steps.specs.Prelude.{Move, in_choice, Label}
+use Rattle.process_steps.specs.Prelude.{Move, in_choice}
+use Rattle.process_steps.specs.declared.label.Label.{Label}
 use Rattle.term_pool.proofs.PutLemmas.{at}
 use Rattle.term_pool.specs.Prelude.{IsFront, all_below, tree_at}
 use Rattle.pool_parts.specs.declared.place.ProcId.{ProcId}
-use Rattle.csp_steps.specs.Prelude.{all_within, AreMoves, IsMove, all_moves, effect_as, labels_by, moves_of, IsWithin, seen, Operator, StepTo}
+use Rattle.csp_steps.specs.Prelude.{all_within, AreMoves, IsMove, all_moves, effect_as, labels_by, moves_of, IsWithin, seen}
+use Rattle.csp_steps.specs.declared.operator.Operator.{Operator}
+use Rattle.csp_steps.specs.declared.step.StepTo.{StepTo}
 use Rattle.csp_steps.proofs.Computing.{next_move, next_moves}
 use Rattle.csp_steps.proofs.Effects.{last_stays}
 use Rattle.csp_steps.proofs.Places.{all_within_stay, moves_stay, one_move, seen_stay, still_within, tree_stays, trees_stay, within_at}

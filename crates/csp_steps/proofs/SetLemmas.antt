@@ -3,10 +3,15 @@ use Rattle.std.proofs.Common.{◌≡◌, ℕ, zero, suc, Bool, true, false, cond
 use Rattle.std.proofs.lemmas.List.{map-append}
 use Rattle.std.specs.Prelude.{OnOk, Result}
 use Rattle.csp_atoms.specs.declared.atom.Atom.{Atom}
-use Rattle.csp_program.specs.Prelude.{Outcome, Expr, Proc, Content}
+use Rattle.csp_program.specs.Prelude.{Outcome}
+use Rattle.csp_program.specs.declared.expressions.Expr.{Expr}
+use Rattle.csp_program.specs.declared.processes.Proc.{Proc}
+use Rattle.csp_program.specs.declared.programs.Content.{Content}
 use Rattle.process_steps.specs.Needed.{set_in}
 use Rattle.term_pool.specs.Pooled.{IsFront}
-use Rattle.csp_steps.specs.Prelude.{AreSets, Fits, HasSet, HasValue, Evaluated, Sets}
+use Rattle.csp_steps.specs.Prelude.{AreSets, Fits, HasSet, HasValue}
+use Rattle.csp_steps.specs.declared.evaluated.Evaluated.{Evaluated}
+use Rattle.csp_steps.specs.declared.sets.Sets.{Sets}
 use Rattle.csp_steps.proofs.Noting.{fits_stay, fits_then}
 
 module _ (f : Expr → Outcome (List Atom)) where

@@ -2,12 +2,16 @@
 use Rattle.std.proofs.Common.{◌≡◌, ◌⊎◌, inl, inr, ℕ, zero, suc, Bool, true, false, cond, Some, Ok, List, [], ◌∷◌, map, slice_get, refl, ap, sym, ◌∙◌, subst, eq-eqb}
 use Rattle.std.proofs.lemmas.Bool.{eqb-true, false≢true}
 use Rattle.csp_base.specs.Lists.{StandsIn}
-use Rattle.csp_program.specs.Prelude.{Outcome, Proc, Content}
+use Rattle.csp_program.specs.Prelude.{Outcome}
+use Rattle.csp_program.specs.declared.processes.Proc.{Proc}
+use Rattle.csp_program.specs.declared.programs.Content.{Content}
 use Rattle.csp_tables.specs.Prelude.{Label, silent, visible}
 use Rattle.process_steps.proofs.Listed.{lists_are}
-use Rattle.process_steps.specs.Prelude.{ProcessStep, ListsMove, Move, steps_of, Silent, Visible, Tick}
+use Rattle.process_steps.specs.Prelude.{ProcessStep, ListsMove, Move, steps_of}
+use Rattle.process_steps.specs.declared.label.Label.TheVariants.{Silent, Visible, Tick}
 use Rattle.process_steps.specs.declared.label.Label.{Label as ProcessLabel}
-use Rattle.csp_steps.specs.Prelude.{AreStepsOf, seen, AreFirsts, AreFirstsAfter, AreTargets, goals, is_by, none, again, first, StepTo}
+use Rattle.csp_steps.specs.Prelude.{AreStepsOf, seen, AreFirsts, AreFirstsAfter, AreTargets, goals, is_by, none, again, first}
+use Rattle.csp_steps.specs.declared.step.StepTo.{StepTo}
 use Rattle.csp_steps.proofs.Firsts.{firsts_back, firsts_once, firsts_one, firsts_there, stands_cases, stands_first, stands_later, stands_none}
 
 -- ---- steps by a label

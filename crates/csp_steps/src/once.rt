@@ -1,7 +1,8 @@
 //! Each step once, where it first stands.
 
 ghost use Rattle.std.specs.Prelude.{◌≡◌, IfOk, OnOk};
-ghost use Rattle.csp_steps.specs.Prelude.{AreAdded, AreFirsts};
+ghost use Rattle.csp_steps.specs.Computed.{AreAdded};
+ghost use Rattle.csp_steps.specs.Order.{AreFirsts};
 
 use crate::step::StepTo;
 use containers::{Items, Numbering};

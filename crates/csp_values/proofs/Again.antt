@@ -2,10 +2,16 @@
 use Rattle.std.proofs.Common.{◌≡◌, ℕ, ◌+◌, Bool, true, false, cond, ◌||◌, Ok, Err, List, [], ◌∷◌, ◌++◌, map, refl, ap, sym, ◌∙◌, inr, arith}
 use Rattle.std.specs.Prelude.{if◌then◌else◌, IsTrue, nat_lt}
 use Rattle.std.proofs.lemmas.Bool.{false≢true}
-use Rattle.csp_atoms.specs.Prelude.{kind_of, same, AllOfKind, IsOneKind, fits, has_atom, with_atom, Atom}
+use Rattle.csp_atoms.specs.Prelude.{kind_of, same, AllOfKind, IsOneKind, fits, has_atom, with_atom}
+use Rattle.csp_atoms.specs.declared.atom.Atom.{Atom}
 use Rattle.csp_atoms.specs.declared.atom.Atom.TheVariants as atom
 use Rattle.csp_atoms.proofs.OrderLaws.{same_exact, same_itself}
-use Rattle.csp_program.specs.Prelude.{added, all_added, limited, Outcome, and_then, Env, Front, Gathered, Meaning, as_atom, front, front_events, fronts_added, gathered, items_added, meanings, uses_within, EventPart, Expr, Kind, SetLimit, Channel, Content}
+use Rattle.csp_program.specs.Prelude.{added, all_added, limited, Outcome, and_then, Env, Front, Gathered, Meaning, as_atom, front, front_events, fronts_added, gathered, items_added, meanings, uses_within}
+use Rattle.csp_program.specs.declared.expressions.EventPart.{EventPart}
+use Rattle.csp_program.specs.declared.expressions.Expr.{Expr}
+use Rattle.csp_program.specs.declared.kinds.ValueKind.TheVariants.{Kind, SetLimit}
+use Rattle.csp_program.specs.declared.programs.Channel.{Channel}
+use Rattle.csp_program.specs.declared.programs.Content.{Content}
 use Rattle.csp_program.proofs.Outcomes.{came_through}
 use Rattle.value_laws.specs.Bindings.{IsSetValue}
 use Rattle.value_laws.proofs.Fronts.{all_grow}

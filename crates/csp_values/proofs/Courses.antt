@@ -3,11 +3,18 @@ use Rattle.std.proofs.Common.{◌≡◌, ℕ, zero, suc, ◌+◌, ◌<◌, ◌�
 use Rattle.std.proofs.lemmas.List.{length_push, map-append, same_from_push}
 use Rattle.std.specs.Prelude.{MatchOption, Result}
 use Rattle.std.specs.Result.{IsErrAnd}
-use Rattle.csp_program.specs.Prelude.{Outcome, and_then, Env, Gathered, Turn, from, when, as_set, as_truth, gathered, over, turn, uses_within, walked, EventPart, Expr, Gen, ValueKind, Content}
-use Rattle.csp_atoms.specs.Prelude.{Atom, One}
+use Rattle.csp_program.specs.Prelude.{Outcome, and_then, Env, Gathered, Turn, from, when, as_set, as_truth, gathered, over, turn, uses_within, walked}
+use Rattle.csp_program.specs.declared.expressions.EventPart.{EventPart}
+use Rattle.csp_program.specs.declared.expressions.Expr.{Expr}
+use Rattle.csp_program.specs.declared.expressions.Gen.{Gen}
+use Rattle.csp_program.specs.declared.kinds.ValueKind.{ValueKind}
+use Rattle.csp_program.specs.declared.programs.Content.{Content}
+use Rattle.csp_atoms.specs.declared.atom.Atom.{Atom}
+use Rattle.csp_atoms.specs.declared.value.Value.TheVariants.{One}
 use Rattle.csp_program.specs.declared.expressions.Gen.TheVariants as generator
 use Rattle.csp_program.proofs.Outcomes.{and_then_regroup}
-use Rattle.value_operators.specs.Prelude.{Gives, EvalFault}
+use Rattle.value_operators.specs.Prelude.{Gives}
+use Rattle.value_operators.specs.declared.fault.EvalFault.{EvalFault}
 use Rattle.value_operators.specs.Env.{with_bound}
 use Rattle.value_operators.specs.declared.fault.EvalFault.TheVariants as fault
 use Rattle.value_operators.proofs.NameLaws.{with_bound-last}

@@ -1,9 +1,16 @@
 -- The fields of an event, one after another, in numbers that count so many for one.
 use Rattle.std.proofs.Common.{◌≡◌, ℕ, zero, suc, ◌+◌, ◌-◌, ◌*◌, ◌<◌, ◌≤◌, ◌^◌, min, List, [], ◌∷◌, Some, Ok, Err, Bool, true, false, cond, length, drop, drop_of_length-le, get_or, refl, ap, sym, ◌∙◌, subst, arith}
 use Rattle.std.specs.Prelude.{nat_eq, slice_get}
-use Rattle.csp_program.specs.Prelude.{row_count, Outcome, and_then, Env, meanings, sets_of, Expr, ValueKind, OutsideChannel, Channel, Content, event_table}
+use Rattle.csp_program.specs.Prelude.{row_count, Outcome, and_then, Env, meanings, sets_of, event_table}
+use Rattle.csp_program.specs.declared.expressions.Expr.{Expr}
+use Rattle.csp_program.specs.declared.kinds.ValueKind.{ValueKind}
+use Rattle.csp_program.specs.declared.kinds.ValueKind.TheVariants.{OutsideChannel}
+use Rattle.csp_program.specs.declared.programs.Channel.{Channel}
+use Rattle.csp_program.specs.declared.programs.Content.{Content}
 use Rattle.value_laws.specs.Prelude.{field_place, first_of, ChannelsFit, front_count}
-use Rattle.csp_atoms.specs.Prelude.{Atom, Value, One, Many}
+use Rattle.csp_atoms.specs.declared.atom.Atom.{Atom}
+use Rattle.csp_atoms.specs.declared.value.Value.{Value}
+use Rattle.csp_atoms.specs.declared.value.Value.TheVariants.{One, Many}
 use Rattle.value_operators.specs.Forms.{capped, count_with, each_of, scaled}
 use Rattle.value_operators.proofs.EventSteps.{stops_left}
 use Rattle.csp_values.specs.Worth.{worth, fields_worth, front_worth}

@@ -3,10 +3,20 @@
 use Rattle.std.proofs.Common.{◌≡◌, ℕ, suc, ◌+◌, Bool, true, false, ◌||◌, nat_eq, Option, Some, None, Ok, Err, List, [], ◌∷◌, map, slice_get, refl, ap, sym, subst, ◌∙◌, arith}
 use Rattle.std.specs.Prelude.{if◌then◌else◌, ℤ, nat_lt}
 use Rattle.std.specs.List.{All}
-use Rattle.csp_atoms.specs.Prelude.{Atom, Value, One}
+use Rattle.csp_atoms.specs.declared.atom.Atom.{Atom}
+use Rattle.csp_atoms.specs.declared.value.Value.{Value}
+use Rattle.csp_atoms.specs.declared.value.Value.TheVariants.{One}
 use Rattle.csp_atoms.specs.declared.atom.Atom.TheVariants as atom
-use Rattle.csp_base.specs.Prelude.{BinOp, SetOp}
-use Rattle.csp_program.specs.Prelude.{added, all_added, events_with, Outcome, and_then, Env, Front, Gathered, Turn, as_atom, as_number, as_set, as_truth, bound_value, from, front_events, fronts_added, gathered, in_field, meaning, meanings, one_event, over, row_in, row_of, sets_of, turn, uses_within, walked, when, EventPart, Expr, Gen-F, out-EventPart, out-Gen, roll-Gen, roll-out-Gen, Gen, SetLimit, Content}
+use Rattle.csp_base.specs.declared.operators.BinOp.{BinOp}
+use Rattle.csp_base.specs.declared.operators.SetOp.{SetOp}
+use Rattle.csp_program.specs.Prelude.{added, all_added, events_with, Outcome, and_then, Env, Front, Gathered, Turn, as_atom, as_number, as_set, as_truth, bound_value, from, front_events, fronts_added, gathered, in_field, meaning, meanings, one_event, over, row_in, row_of, sets_of, turn, uses_within, walked, when}
+use Rattle.csp_program.specs.declared.expressions.EventPart.{EventPart}
+use Rattle.csp_program.specs.declared.expressions.Expr.{Expr}
+use Rattle.csp_program.specs.declared.expressions.Expr.TheOpen.{Gen-F}
+use Rattle.csp_program.specs.declared.expressions.Expr.TheViews.{out-EventPart, out-Gen, roll-Gen, roll-out-Gen}
+use Rattle.csp_program.specs.declared.expressions.Gen.{Gen}
+use Rattle.csp_program.specs.declared.kinds.ValueKind.TheVariants.{SetLimit}
+use Rattle.csp_program.specs.declared.programs.Content.{Content}
 use Rattle.csp_program.specs.declared.expressions.Expr.TheVariants as expr
 use Rattle.csp_program.specs.declared.expressions.Gen.TheVariants as generator
 use Rattle.value_operators.specs.Env.{with_bound}

@@ -5,7 +5,9 @@ use Rattle.csp_base.proofs.Standard.{cases_Bool, cases_lt, cond-true, cond-false
 use Rattle.csp_base.specs.Members.{has}
 use Rattle.csp_tables.specs.Prelude.{node_at, is_possible, part_at, alphabets_of, TripleDisjoint, Shape, LinksAreOrdered, is_end, IsWellFormed}
 use Rattle.net_sound.proofs.Within.{part_form}
-use Rattle.design_rules.specs.Prelude.{count_in, count_below, BreaksOrder, Clash, links_of, ReachesLink, place_after, KeepsPlaces, BreaksCyclic, RuleFault, NoMemory, NoOrder}
+use Rattle.design_rules.specs.Prelude.{count_in, count_below, BreaksOrder, Clash, links_of, ReachesLink, place_after, KeepsPlaces, BreaksCyclic, NoMemory}
+use Rattle.design_rules.specs.declared.rule_fault.RuleFault.{RuleFault}
+use Rattle.design_rules.specs.declared.rule_fault.RuleFault.TheVariants.{NoOrder}
 use Rattle.design_rules.proofs.Counts.{count_more, count_same, count_at_most}
 use Rattle.design_rules.proofs.Runs.{possible_within, end_within}
 use Rattle.cyclic_conditions.specs.Told.{IsBrokenOrder}

@@ -1,7 +1,9 @@
 -- What a part without an order is told by. (No rule's decider cites this.)
 use Rattle.std.specs.Prelude.{◌≡◌, ℕ}
 use Rattle.csp_tables.specs.Shape.{Shape}
-use Rattle.design_rules.specs.Prelude.{BreaksOrder, RuleFault, NoMemory, NoOrder}
+use Rattle.design_rules.specs.Prelude.{BreaksOrder, NoMemory}
+use Rattle.design_rules.specs.declared.rule_fault.RuleFault.{RuleFault}
+use Rattle.design_rules.specs.declared.rule_fault.RuleFault.TheVariants.{NoOrder}
 
 -- the part has no order of its links, or memory ran out
 abbrev pub IsBrokenOrder : Shape → ℕ → RuleFault → Type 0

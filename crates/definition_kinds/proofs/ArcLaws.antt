@@ -3,7 +3,8 @@ use Rattle.std.proofs.Common.{◌≡◌, ℕ, ◌+◌, ◌<◌, Bool, true, fals
 use Rattle.std.specs.Prelude.{Some, slice_get, Vec}
 use Rattle.csp_base.specs.Standard.{option_map, Global}
 use Rattle.csp_base.proofs.Standard.{nat_tests, false≢true, eqb-true, list_any_more, slice_get_read, slice_get-map}
-use Rattle.script_names.specs.Prelude.{End, ends_at}
+use Rattle.script_names.specs.Prelude.{ends_at}
+use Rattle.script_names.specs.declared.kinds.End.{End}
 use Rattle.name_tables.specs.Ends.{rows}
 use Rattle.definition_kinds.specs.Sources.{comes_from, some_from}
 

@@ -6,7 +6,9 @@ use Rattle.csp_base.proofs.Standard.{fun_ext, get_or-append_seam, cases_Bool, ca
 use Rattle.csp_base.specs.Members.{has}
 use Rattle.csp_text.specs.declared.script.Decl.{Decl}
 use Rattle.script_names.specs.declared.kinds.Class.TheVariants as class
-use Rattle.script_names.specs.Prelude.{End, Kind, AreKindsOf, HasClass, LeadsTo, body_ends, first_ends, script_ends, Entities, declared, first_of, meanings_of}
+use Rattle.script_names.specs.Prelude.{AreKindsOf, HasClass, LeadsTo, body_ends, first_ends, script_ends, Entities, declared, first_of, meanings_of}
+use Rattle.script_names.specs.declared.kinds.End.{End}
+use Rattle.script_names.specs.declared.kinds.Kind.{Kind}
 use Rattle.script_names.specs.declared.kinds.End.TheVariants as end
 use Rattle.name_tables.specs.Ends.{rows}
 use Rattle.name_tables.specs.Firsts.{SameFirsts}

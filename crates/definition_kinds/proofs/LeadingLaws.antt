@@ -5,7 +5,8 @@ use Rattle.csp_base.proofs.Standard.{or_cases, or_left, eqb-true, false≢true, 
 use Rattle.csp_base.specs.Members.{has}
 use Rattle.digraph.specs.Prelude.{Digraph, has_arc, HasArc, Walk, Reaches, ReachesFrom}
 use Rattle.digraph.proofs.WalkLaws.{Reaches-arc, Reaches-itself}
-use Rattle.script_names.specs.Prelude.{End, LeadsTo, here, beyond, ends_at}
+use Rattle.script_names.specs.Prelude.{LeadsTo, here, beyond, ends_at}
+use Rattle.script_names.specs.declared.kinds.End.{End}
 use Rattle.script_names.specs.declared.kinds.End.TheVariants as end
 use Rattle.definition_kinds.specs.Sources.{AreReached, comes_from, is_last, some_from}
 use Rattle.definition_kinds.proofs.SourceLaws.{from_last, from_use, place_of, source_cases}

@@ -4,7 +4,8 @@ use Rattle.csp_base.specs.Standard.{flat_map, Global}
 use Rattle.std.specs.Prelude.{Vec}
 use Rattle.csp_text.specs.declared.script.Decl.{Decl}
 use Rattle.csp_text.specs.declared.script.Decl.TheVariants as decl
-use Rattle.script_names.specs.Prelude.{End, body_ends, first_ends, Meanings}
+use Rattle.script_names.specs.Prelude.{body_ends, first_ends, Meanings}
+use Rattle.script_names.specs.declared.kinds.End.{End}
 use Rattle.script_sizes.specs.Size.{declaration_size, size}
 use Rattle.name_tables.specs.Ends.{rows}
 use Rattle.definition_kinds.proofs.FoundLaws.{firsts-length, rows-length}

@@ -1,6 +1,9 @@
 -- What was found of definitions, as their kinds. Only the private contracts of this crate cite it.
 use Rattle.std.specs.Prelude.{◌≡◌, ℕ, if◌then◌else◌, Some, List, length, slice_get}
-use Rattle.script_names.specs.Prelude.{Class, Kind, End, first_ends}
+use Rattle.script_names.specs.Prelude.{first_ends}
+use Rattle.script_names.specs.declared.kinds.Class.{Class}
+use Rattle.script_names.specs.declared.kinds.End.{End}
+use Rattle.script_names.specs.declared.kinds.Kind.{Kind}
 use Rattle.script_names.specs.declared.kinds.Class.TheVariants as class
 use Rattle.script_names.specs.declared.kinds.End.TheVariants as end
 use Rattle.definition_kinds.specs.Sources.{AreLeading, marked}

@@ -2,7 +2,8 @@
 use Rattle.std.specs.Prelude.{◌<◌, ◌↔◌, ℕ, Bool, true, false, nat_eq, nat_lt, if◌then◌else◌, IsTrue, Option, Some, None, List, length, slice_index_or}
 use Rattle.std.specs.List.{list_any}
 use Rattle.csp_base.specs.Members.{has}
-use Rattle.script_names.specs.Prelude.{End, LeadsTo}
+use Rattle.script_names.specs.Prelude.{LeadsTo}
+use Rattle.script_names.specs.declared.kinds.End.{End}
 use Rattle.script_names.specs.declared.kinds.End.TheVariants as end
 
 -- whether an end is the one that is looked for, and no use

@@ -2,9 +2,12 @@
 use Rattle.std.proofs.Common.{◌≡◌, ℕ, List, Result, IfErr, IfOk, inl, inr, refl, sym, ap, subst}
 use Rattle.std.specs.Result.{IsErrAnd}
 use Rattle.std.proofs.lemmas.Result.{IfErr-weaker, IfOk-weaker, err_from_is_err_and}
-use Rattle.command_words.specs.Prelude.{Job, Livelock}
+use Rattle.command_words.specs.declared.request.Job.{Job}
+use Rattle.command_words.specs.declared.request.Job.TheVariants.{Livelock}
 use Rattle.comparison.specs.Compared.{IsCompared}
-use Rattle.csp_text.specs.Prelude.{IfNoScript, ParseFault, Script}
+use Rattle.csp_text.specs.Prelude.{IfNoScript}
+use Rattle.csp_text.specs.declared.fault.ParseFault.{ParseFault}
+use Rattle.csp_text.specs.declared.script.Script.{Script}
 use Rattle.csp_text.specs.declared.fault.ParseFault.TheVariants as fault
 use Rattle.csp_parser.specs.Places.{IsPlaceOf}
 use Rattle.csp_parser.specs.Spells.{EachTextSpellsOneScript, Spells}
@@ -13,8 +16,13 @@ use Rattle.judgement.proofs.OneNetwork.{one_network}
 use Rattle.livelock.specs.Bounded.{IsBounded}
 use Rattle.network_stages.specs.Prelude.{IsNetworkOf, Network, HasNoNetwork}
 use Rattle.report.proofs.Points.{weaker}
-use Rattle.csp_base.specs.Prelude.{Tells, Stop}
-use Rattle.report.specs.Prelude.{Answers, Ends, Answer, Done, Side, Verdict}
+use Rattle.csp_base.specs.Prelude.{Tells}
+use Rattle.csp_base.specs.declared.stop.Stop.{Stop}
+use Rattle.report.specs.Prelude.{Answers, Ends, Halt}
+use Rattle.report.specs.declared.answer.Answer.{Answer}
+use Rattle.report.specs.declared.answer.Done.{Done}
+use Rattle.report.specs.declared.answer.Side.{Side}
+use Rattle.report.specs.declared.answer.Verdict.{Verdict}
 use Rattle.report.specs.declared.answer.Answer.TheVariants as answer
 use Rattle.report.specs.declared.answer.Side.TheVariants as side
 use Rattle.dl_top.proofs.Walks.{at_end}
@@ -58,7 +66,7 @@ module _ (side : Side) (text : List ℕ) where
 -- ---- what is decided
 
 -- the name of a set, read from a job
-pub set_decides : (job : Job) (network : Network) (set slice : List ℕ) (r : Result Done (Stop Verdict)) → job ≡ Livelock set → slice ≡ set → Answers (IsBounded network slice) r
+pub set_decides : (job : Job) (network : Network) (set slice : List ℕ) (r : Result Done Halt) → job ≡ Livelock set → slice ≡ set → Answers (IsBounded network slice) r
     → Answers (NetworkDecides job network) r
 set_decides job network set slice r is same bounded =
     subst (λ (j : Job). Answers (NetworkDecides j network) r) (sym is) (subst (λ (name : List ℕ). Answers (IsBounded network name) r) same bounded)

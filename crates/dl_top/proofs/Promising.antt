@@ -2,14 +2,18 @@
 use Rattle.std.proofs.Common.{◌≡◌, ◌≤◌, ℕ, Bool, true, false, List, [], ◌∷◌, Result, Ok, Err, IfOk, inl, inr, map, refl, sym, ap, subst, ◌∙◌, arith}
 use Rattle.std.specs.Prelude.{pos}
 use Rattle.std.proofs.lemmas.Option.{slice_get_within}
-use Rattle.command_words.specs.Prelude.{Job, Check, Livelock, Run, Table, Request, Trial}
+use Rattle.command_words.specs.declared.request.Job.{Job}
+use Rattle.command_words.specs.declared.request.Job.TheVariants.{Check, Livelock, Run, Table}
+use Rattle.command_words.specs.declared.request.Request.{Request}
+use Rattle.command_words.specs.declared.request.Trial.{Trial}
 use Rattle.command_words.specs.declared.request.Request.TheVariants as request
 use Rattle.comparison.proofs.Matching.{compared_cases, comparison_is_exact}
 use Rattle.comparison.specs.Compared.{IsCompared, IsConforming}
 use Rattle.comparison.specs.Complete.{Matches}
 use Rattle.csp_steps.specs.Order.{AreTargets}
 use Rattle.csp_program.specs.declared.processes.Proc.{Proc}
-use Rattle.csp_tables.specs.Prelude.{Component, leaves, WellNested, Rule}
+use Rattle.csp_tables.specs.Prelude.{Component, leaves, WellNested}
+use Rattle.csp_tables.specs.declared.rule.Rule.{Rule}
 use Rattle.csp_parser.specs.Spells.{Spells}
 use Rattle.csp_text.specs.declared.script.Script.{Script}
 use Rattle.judgement.specs.Counts.{node_count}
@@ -23,15 +27,21 @@ use Rattle.livelock.proofs.Agreeing.{bounds_are_told}
 use Rattle.livelock.proofs.Whole.{bounded_cases}
 use Rattle.livelock.specs.Bounded.{IsBounded}
 use Rattle.network_stages.proofs.Excluded.{faults_exclude_tables}
-use Rattle.network_stages.specs.Prelude.{IsNetworkOf, Network, HaveFewSets, HasNoPart, HasTables, ComponentTable, AreTablesOf}
+use Rattle.network_stages.specs.Prelude.{IsNetworkOf, Network, HaveFewSets, HasNoPart, HasTables, AreTablesOf}
+use Rattle.network_stages.specs.declared.component_tables.ComponentTable.{ComponentTable}
 use Rattle.network_trees.proofs.InOrder.{network_is_tree}
 use Rattle.network_walks.proofs.Runs.{no_move_means_stuck, stays_nested, stuck_walks_refute_live, walks_are_runs}
 use Rattle.network_walks.specs.Walked.{IsNetworkWalk, IsWalked, TellsWalk, walk_verdict}
-use Rattle.numbered_walks.specs.Prelude.{label, first_draw, Move}
+use Rattle.numbered_walks.specs.Prelude.{label, first_draw}
+use Rattle.numbered_walks.specs.declared.moves.Move.{Move}
 use Rattle.report.proofs.Points.{refused_or}
 use Rattle.print_laws.proofs.RoundTrip.{no_other, printed_spells}
 use Rattle.process_steps.specs.ComponentStep.{ProcessStep}
-use Rattle.report.specs.Prelude.{passed, told, report_text, run_text, status, verdict_status, verdict_text, Answer, Refusal, Side, Verdict}
+use Rattle.report.specs.Prelude.{passed, told, report_text, run_text, status, verdict_status, verdict_text}
+use Rattle.report.specs.declared.answer.Answer.{Answer}
+use Rattle.report.specs.declared.answer.Refusal.{Refusal}
+use Rattle.report.specs.declared.answer.Side.{Side}
+use Rattle.report.specs.declared.answer.Verdict.{Verdict}
 use Rattle.report.specs.declared.answer.Side.TheVariants as side
 use Rattle.report.specs.declared.answer.Verdict.TheVariants as verdict
 use Rattle.script_printer.specs.PrintedScript.{script_text}

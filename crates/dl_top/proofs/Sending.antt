@@ -2,7 +2,8 @@
 use Rattle.std.proofs.Common.{◌≡◌, ℕ, ◌+◌, ◌-◌, ◌≤◌, List, ◌++◌, length, take, drop, Option, None, Some, Ok, Err, sym, ◌∙◌, ap, arith, subst, append_assoc, length-drop}
 use Rattle.csp_base.proofs.Standard.{take-append-drop, length-take-le, take_rest, take-append-add}
 use Rattle.std.specs.Option.{option_map}
-use Rattle.dl_outside.specs.Prelude.{SinkFault, GrowsBy, WriteAnswers}
+use Rattle.dl_outside.specs.Prelude.{GrowsBy, WriteAnswers}
+use Rattle.dl_outside.specs.declared.sink.SinkFault.{SinkFault}
 use Rattle.dl_outside.specs.declared.sink.SinkFault.TheVariants.{Failed, NoMemory}
 use Rattle.dl_top.specs.Ending.{GrowsByFront}
 

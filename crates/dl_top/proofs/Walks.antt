@@ -3,9 +3,13 @@ use Rattle.std.proofs.Common.{◌≡◌, Result, Ok, Err, IfOk, sym, subst}
 use Rattle.std.specs.Result.{IsErrAnd}
 use Rattle.std.proofs.lemmas.Result.{IfOk-weaker, err_from_is_err_and}
 use Rattle.report.proofs.Points.{weaker}
-use Rattle.csp_base.specs.Prelude.{Tells, Stop}
-use Rattle.report.specs.Prelude.{Answers, Ends, IsEnd, IsVerdict, Done, Verdict}
+use Rattle.csp_base.specs.Prelude.{Tells}
+use Rattle.csp_base.specs.declared.stop.Stop.{Stop}
+use Rattle.report.specs.Prelude.{Answers, Ends, IsEnd, IsVerdict, Halt}
+use Rattle.report.specs.declared.answer.Done.{Done}
+use Rattle.report.specs.declared.answer.Verdict.{Verdict}
 use Rattle.csp_base.specs.declared.stop.Stop.TheVariants as stop
+use Rattle.report.specs.declared.stop.Halt.TheVariants as halt
 
 module _ {A : Type 0} (Is : A → Type 0) (r : Result A (Stop A)) where
   -- a step told why the walk stops, or memory ran out
@@ -24,10 +28,10 @@ is_end Is (Err stop.NoMemory) a ends is = absurd is
 is_end Is (Err (stop.Told b)) a ends is = subst Is (sym is) ends
 
 -- a walk over networks comes to this verdict
-pub is_verdict : (Is : Verdict → Type 0) (r : Result Done (Stop Verdict)) (v : Verdict) → Answers Is r → IsVerdict r v → Is v
+pub is_verdict : (Is : Verdict → Type 0) (r : Result Done Halt) (v : Verdict) → Answers Is r → IsVerdict r v → Is v
 is_verdict Is (Ok what) v answers is = subst Is (sym is) answers
-is_verdict Is (Err stop.NoMemory) v answers is = absurd is
-is_verdict Is (Err (stop.Told w)) v answers is = subst Is (sym is) answers
+is_verdict Is (Err halt.NoMemory) v answers is = absurd is
+is_verdict Is (Err (halt.Told w)) v answers is = subst Is (sym is) answers
 
 -- what a walk comes to that is answered
 pub answered : {A E : Type 0} (Is : A → Type 0) (walk : Result A (Stop A)) (made : Result A E) → Ends Is walk → IfOk made (IsEnd walk) → IfOk made Is

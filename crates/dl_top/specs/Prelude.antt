@@ -9,5 +9,3 @@ pub use Rattle.dl_top.specs.Promised.{IsStuckRun, JobPromised, Promised, SpellsB
 pub use Rattle.dl_top.specs.Proved.{IsFree, SpellsDeadlockFree}
 pub use Rattle.dl_top.specs.Ran.{IsRun, SpellsRun, last_line}
 pub use Rattle.dl_top.specs.Reply.{heading_text, plain, reply_status, reply_text, rule_of, trial_text}
-pub use Rattle.dl_top.specs.declared.reply.Printed.{Printed}
-pub use Rattle.dl_top.specs.declared.reply.Reply.{Reply}

@@ -9,7 +9,12 @@ ghost use Rattle.report.specs.Prelude.{report_text, status, Answers, Ends};
 ghost use Rattle.csp_base.specs.Stops.{Tells};
 ghost use Rattle.script_sizes.specs.Size.{AreSmall};
 ghost use Rattle.dl_limits.specs.declared.TheConstants.{MOST_BYTES};
-ghost use Rattle.dl_top.specs.Prelude.{SpellMatching, SpellsTables, TextPasses, NetworkDecides, SpellsNoNetwork, SpellsNoScript, SpellsOnlyNetwork, SpellsOnlyScript, TextCallsFor, TextIsShown, TextsCompare, no_script, JobPromised, SpellsConforming, SpellsShown, SpellsDeadlockFree, SpellsRun};
+ghost use Rattle.dl_top.specs.Complete.{SpellMatching, SpellsTables, TextPasses};
+ghost use Rattle.dl_top.specs.Judgement.{NetworkDecides, SpellsNoNetwork, SpellsNoScript, SpellsOnlyNetwork, SpellsOnlyScript, TextCallsFor, TextIsShown, TextsCompare};
+ghost use Rattle.dl_top.specs.Printing.{no_script};
+ghost use Rattle.dl_top.specs.Promised.{JobPromised, SpellsConforming, SpellsShown};
+ghost use Rattle.dl_top.specs.Proved.{SpellsDeadlockFree};
+ghost use Rattle.dl_top.specs.Ran.{SpellsRun};
 
 use command_words::Job;
 use comparison::compared;
@@ -21,7 +26,7 @@ use judgement::judged;
 use livelock::bounded;
 use network_stages::{Spelled, spell_network};
 use network_walks::walked;
-use report::{Answer, Done, Side, TextFault, Verdict, ended, finished};
+use report::{Answer, Done, Halt, Side, TextFault, ended, finished};
 use script_printer::print_script;
 use std::alloc::Global;
 use tabulation::tabulated;
@@ -65,7 +70,7 @@ fn spell(alloc: Global, side: Side, text: &[u8]) -> Result<Spelled, Stop<Answer>
 }
 
 // What a network decides with which this is to be done.
-fn decided(alloc: Global, job: &Job, network: &Spelled) -> Result<Done, Stop<Verdict>>
+fn decided(alloc: Global, job: &Job, network: &Spelled) -> Result<Done, Halt>
     ensures { Answers (NetworkDecides job.now network.now) result }
 {
     match job {

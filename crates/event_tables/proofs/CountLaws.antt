@@ -3,7 +3,8 @@ use Rattle.std.proofs.Common.{◌≡◌, ℕ, zero, suc, ◌+◌, ◌*◌, ◌<�
 use Rattle.std.specs.Prelude.{Result, Some, IfOk, OnOk, slice_get}
 use Rattle.csp_base.proofs.Standard.{get_or_from_slice_get, slice_get_within, sum_by-cons}
 use Rattle.csp_atoms.specs.declared.atom.Atom.{Atom}
-use Rattle.csp_program.specs.Prelude.{row_count, Channel}
+use Rattle.csp_program.specs.Prelude.{row_count}
+use Rattle.csp_program.specs.declared.programs.Channel.{Channel}
 use Rattle.event_tables.specs.declared.sets.SharedSets.{SharedSets}
 use Rattle.event_tables.specs.Spread.{events_left, spread}
 use Rattle.script_names.specs.Resolved.{all_events}

@@ -4,10 +4,16 @@ use Rattle.std.specs.Prelude.{Option, Some, None, Result, Ok, Err, IfOk, OnOk, s
 use Rattle.csp_base.specs.Standard.{Bor, option_copied, IsErrAnd, IsItemAt}
 use Rattle.csp_base.proofs.Standard.{drop_of_length-le, append-nil, length-append, get_or_from_slice_get, slice_get_past, slice_get_read, slice_get_within}
 use Rattle.csp_atoms.specs.declared.atom.Atom.{Atom}
-use Rattle.csp_program.specs.Prelude.{row_count, channel_events, events_from_channel, Outcome, and_then, value_of, Expr, ValueKind, Channel, Content, EventInfo}
+use Rattle.csp_program.specs.Prelude.{row_count, channel_events, events_from_channel, Outcome, and_then, value_of}
+use Rattle.csp_program.specs.declared.expressions.Expr.{Expr}
+use Rattle.csp_program.specs.declared.kinds.ValueKind.{ValueKind}
+use Rattle.csp_program.specs.declared.programs.Channel.{Channel}
+use Rattle.csp_program.specs.declared.programs.Content.{Content}
+use Rattle.csp_program.specs.declared.programs.EventInfo.{EventInfo}
 use Rattle.event_tables.specs.declared.sets.SharedSets.{SharedSets}
 use Rattle.event_tables.specs.Spread.{GivesOneMore, lent, spread}
-use Rattle.value_operators.specs.Prelude.{Gives, EvalFault}
+use Rattle.value_operators.specs.Prelude.{Gives}
+use Rattle.value_operators.specs.declared.fault.EvalFault.{EvalFault}
 use Rattle.value_operators.specs.declared.fault.EvalFault.TheVariants as fault
 use Rattle.script_names.specs.Resolved.{field_set, field_sets, with_sets}
 use Rattle.csp_base.proofs.Lists.{drop_read}

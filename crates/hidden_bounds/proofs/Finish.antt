@@ -8,7 +8,11 @@ use Rattle.csp_base.proofs.Listed.{has_first}
 use Rattle.csp_tables.specs.Prelude.{Label, Component}
 use Rattle.hidden_steps.specs.Order.{AreTaken, HasNoOrder, IsAmong, IsOrder, hidden_bound}
 use Rattle.own_graphs.specs.Exact.{AreOpen}
-use Rattle.hidden_bounds.specs.Prelude.{IsBound, TellsLoop, IsSoFar, IsTakenAll, IsTakenFar, left_from, standing_at, TellsSum, taken_in, HiddenBound, LoopFault, Placed, Standing}
+use Rattle.hidden_bounds.specs.Prelude.{IsBound, TellsLoop, IsSoFar, IsTakenAll, IsTakenFar, left_from, standing_at, TellsSum, taken_in}
+use Rattle.hidden_bounds.specs.declared.bounding.HiddenBound.{HiddenBound}
+use Rattle.hidden_bounds.specs.declared.bounding.LoopFault.{LoopFault}
+use Rattle.hidden_bounds.specs.declared.ordering.Placed.{Placed}
+use Rattle.hidden_bounds.specs.declared.standings.Standing.{Standing}
 use Rattle.hidden_bounds.specs.declared.bounding.LoopFault.TheVariants as fault
 use Rattle.hidden_bounds.specs.declared.standings.Standing.TheVariants as standing
 use Rattle.hidden_bounds.proofs.Known.{none_is_free}

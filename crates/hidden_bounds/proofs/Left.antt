@@ -5,7 +5,8 @@ use Rattle.csp_base.proofs.Standard.{eqb-true, false≢true, or_cases, or_right,
 use Rattle.csp_base.specs.Members.{has}
 use Rattle.csp_base.proofs.Listed.{has_first}
 use Rattle.csp_base.proofs.Rising.{RisesFrom, increasing_from_rises}
-use Rattle.hidden_bounds.specs.Prelude.{left_from, left_one, standing_at, Standing}
+use Rattle.hidden_bounds.specs.Prelude.{left_from, left_one, standing_at}
+use Rattle.hidden_bounds.specs.declared.standings.Standing.{Standing}
 use Rattle.hidden_bounds.specs.declared.standings.Standing.TheVariants as standing
 
 RisesFrom-later : (m n : ℕ) (xs : List ℕ) → m ≤ n → RisesFrom n xs → RisesFrom m xs

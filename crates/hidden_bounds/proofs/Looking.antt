@@ -2,14 +2,18 @@
 use Rattle.std.proofs.Common.{◌≡◌, ℕ, ◌<◌, List, Some, slice_get, length, get_or, sym, ap, subst, ◌∙◌, arith}
 use Rattle.csp_base.proofs.Standard.{set, slice_get-get_or}
 use Rattle.csp_base.proofs.Lists.{slice_get_some}
-use Rattle.csp_program.specs.Prelude.{Proc, Content}
+use Rattle.csp_program.specs.declared.processes.Proc.{Proc}
+use Rattle.csp_program.specs.declared.programs.Content.{Content}
 use Rattle.csp_tables.specs.Network.{Component}
-use Rattle.network_stages.specs.Prelude.{AreTablesOf, HasTable, whole_room, ComponentTable}
+use Rattle.network_stages.specs.Prelude.{AreTablesOf, HasTable, whole_room}
+use Rattle.network_stages.specs.declared.component_tables.ComponentTable.{ComponentTable}
 use Rattle.network_stages.proofs.Tabling.{as_many, table_at}
 use Rattle.process_steps.specs.ComponentStep.{ProcessStep}
 use Rattle.own_graphs.specs.Own.{GoesRoundItself, IsOwnHeight}
 use Rattle.own_graphs.proofs.Carried.{own_circles_are_exact, own_heights_are_exact}
-use Rattle.hidden_bounds.specs.Prelude.{IsFreeHere, IsSoFar, standing_at, taken_in, Placed, Standing}
+use Rattle.hidden_bounds.specs.Prelude.{IsFreeHere, IsSoFar, standing_at, taken_in}
+use Rattle.hidden_bounds.specs.declared.ordering.Placed.{Placed}
+use Rattle.hidden_bounds.specs.declared.standings.Standing.{Standing}
 use Rattle.hidden_bounds.specs.declared.standings.Standing.TheVariants as standing
 use Rattle.hidden_bounds.proofs.Known.{one_round}
 

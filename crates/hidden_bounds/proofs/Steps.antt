@@ -4,7 +4,9 @@ use Rattle.csp_base.proofs.Standard.{set, cases_eq, cases_lt, get_or-set_same, g
 use Rattle.csp_base.specs.Events.{diff_of, inter_of, meets_of}
 use Rattle.csp_base.proofs.Lists.{slice_get_some}
 use Rattle.csp_tables.specs.Prelude.{Label, Component}
-use Rattle.hidden_bounds.specs.Prelude.{AreReopened, IsFreeHere, IsKnown, IsLeastFree, IsSoFar, StayKnown, reopened_to, standing_at, waiting, alphabet_at, alphabet_of, Placed, Standing}
+use Rattle.hidden_bounds.specs.Prelude.{AreReopened, IsFreeHere, IsKnown, IsLeastFree, IsSoFar, StayKnown, reopened_to, standing_at, waiting, alphabet_at, alphabet_of}
+use Rattle.hidden_bounds.specs.declared.ordering.Placed.{Placed}
+use Rattle.hidden_bounds.specs.declared.standings.Standing.{Standing}
 use Rattle.hidden_bounds.specs.declared.standings.Standing.TheVariants as standing
 use Rattle.hidden_bounds.proofs.Known.{fewer_wait, one_more}
 

@@ -12,7 +12,8 @@ use Rattle.digraph.specs.Walk.{Walk}
 use Rattle.hidden_steps.specs.Order.{GoesRound, OwnStep, Taken, is_passed, share_hidden}
 use Rattle.net_sound.proofs.FlatLists.{step_alphabet}
 use Rattle.net_sound.proofs.Soundness.{path_alphabet}
-use Rattle.hidden_bounds.specs.Prelude.{placed, taken_at, taken_in, Placed}
+use Rattle.hidden_bounds.specs.Prelude.{placed, taken_at, taken_in}
+use Rattle.hidden_bounds.specs.declared.ordering.Placed.{Placed}
 
 -- ---- one more
 

@@ -4,7 +4,3 @@ unfoldable pub use Rattle.hidden_bounds.specs.Taking.{taken_in}
 pub use Rattle.hidden_bounds.specs.Found.{IsBound, PassesAt, TellsLoop, placed}
 pub use Rattle.hidden_bounds.specs.Standings.{AreKnown, AreReopened, IsFreeHere, IsKnown, IsLeastFree, IsSoFar, IsTakenAll, IsTakenFar, StayKnown, left_from, left_one, one_waiting, reopened_to, standing_at, waiting}
 pub use Rattle.hidden_bounds.specs.Sums.{AreBounds, IsNextSum, TellsSum, bound_at, sum_before}
-pub use Rattle.hidden_bounds.specs.declared.bounding.HiddenBound.{HiddenBound}
-pub use Rattle.hidden_bounds.specs.declared.bounding.LoopFault.{LoopFault}
-pub use Rattle.hidden_bounds.specs.declared.ordering.Placed.{Placed}
-pub use Rattle.hidden_bounds.specs.declared.standings.Standing.{Standing}

@@ -3,7 +3,8 @@ use Rattle.std.proofs.Common.{ℕ}
 use Rattle.csp_tables.specs.Prelude.{Ranking, Shape}
 use Rattle.design_rules.proofs.Live.{met_rules_mean_live}
 use Rattle.design_rules.proofs.Readings.{networks_meet}
-use Rattle.design_rules.specs.Prelude.{Ranks, NotedRule}
+use Rattle.design_rules.specs.Prelude.{Ranks}
+use Rattle.design_rules.specs.declared.noted_rule.NotedRule.{NotedRule}
 use Rattle.net_sound.proofs.FormOfTables.{shapes_are_well_formed}
 use Rattle.net_sound.proofs.ShapeOf.{shapes_behave}
 use Rattle.net_sound.specs.Soundness.{IsSound}

@@ -1,6 +1,7 @@
 -- A script has one program, and a program one network.
 use Rattle.std.proofs.Common.{◌≡◌, Ok, ap, ◌∙◌}
-use Rattle.csp_program.specs.Prelude.{Proc, Content}
+use Rattle.csp_program.specs.declared.processes.Proc.{Proc}
+use Rattle.csp_program.specs.declared.programs.Content.{Content}
 use Rattle.csp_tables.specs.Network.{Tree}
 use Rattle.csp_text.specs.declared.script.Script.{Script}
 use Rattle.network_trees.specs.NetworkOf.{Walked, network_of}

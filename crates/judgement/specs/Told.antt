@@ -1,23 +1,11 @@
--- How it is told that an annotated set has no value, or what breaks a rule. Want of memory is not told.
+-- How it is told that an annotated set has no value. Want of memory is not told.
 use Rattle.std.specs.Prelude.{◌≡◌}
-use Rattle.design_rules.specs.declared.rule_fault.RuleFault.{RuleFault}
-use Rattle.design_rules.specs.declared.rule_fault.RuleFault.TheVariants as fault
 use Rattle.network_layout.specs.declared.told.NotedFault.{NotedFault}
 use Rattle.network_layout.specs.declared.told.NotedFault.TheVariants as noted
-use Rattle.report.specs.Prelude.{Refusal, Shortfall}
+use Rattle.report.specs.declared.answer.Refusal.{Refusal}
 use Rattle.report.specs.declared.answer.Refusal.TheVariants as refusal
-use Rattle.report.specs.declared.answer.Shortfall.TheVariants as shortfall
 use Rattle.report.specs.declared.answer.Site.TheVariants as site
 
 abbrev pub TellsNoted : NotedFault → Refusal → Type 0
 TellsNoted noted.NoMemory told = ⊥
 TellsNoted (noted.Value i kind) told = told ≡ refusal.Value kind (site.Annotation i)
-
-abbrev pub TellsRule : RuleFault → Shortfall → Type 0
-TellsRule fault.NoMemory told = ⊥
-TellsRule (fault.NoOrder i trace e) told = told ≡ shortfall.BreaksOrder i trace e
-TellsRule (fault.NoWholeEnd left right left_trace right_trace) told = told ≡ shortfall.NoFullEnd left right left_trace right_trace
-TellsRule (fault.Broken condition i trace) told = told ≡ shortfall.Broken condition i trace
-TellsRule (fault.LinksCircle links) told = told ≡ shortfall.LinksCircle links
-TellsRule (fault.ClientsCircle clients) told = told ≡ shortfall.ClientsCircle clients
-TellsRule (fault.ResourcesCircle resources) told = told ≡ shortfall.ResourcesCircle resources

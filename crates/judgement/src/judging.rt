@@ -7,14 +7,13 @@ ghost use Rattle.judgement.specs.Judged.{IsJudged, RuleDecides};
 
 use crate::free::deadlock_free;
 use crate::rules::{noted, ranked};
-use csp_base::Stop;
 use csp_tables::Rule;
 use network_stages::{Shaped, Spelled, check_busy, make_parts, make_shape, make_tables};
-use report::{Done, Verdict};
+use report::{Done, Halt};
 use std::alloc::Global;
 
 // What the rule says of a busy network with this silent bound.
-fn ruled(alloc: Global, rule: Rule, bound: u32, shaped: &Shaped<'_>) -> Result<Done, Stop<Verdict>>
+fn ruled(alloc: Global, rule: Rule, bound: u32, shaped: &Shaped<'_>) -> Result<Done, Halt>
     requires busy { StaysBusy shaped.now.network }
     requires bound { HasSilentBound shaped.now.network bound }
     ensures { Answers (RuleDecides shaped.now.network rule shaped.now.shape) result }
@@ -28,7 +27,7 @@ fn ruled(alloc: Global, rule: Rule, bound: u32, shaped: &Shaped<'_>) -> Result<D
 }
 
 /// The verdict on a network that is judged by a rule.
-pub fn judged(alloc: Global, rule: Rule, network: &Spelled) -> Result<Done, Stop<Verdict>>
+pub fn judged(alloc: Global, rule: Rule, network: &Spelled) -> Result<Done, Halt>
     ensures { Answers (IsJudged network.now rule) result }
 {
     let tabled = make_tables(alloc, network)?;

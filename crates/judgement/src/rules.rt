@@ -6,7 +6,7 @@ ghost use Rattle.csp_base.specs.Stops.{Tells};
 ghost use Rattle.judgement.specs.Noted.{Breaks, HasUntold, Meets, Notes};
 
 use crate::deciding::decided;
-use crate::told::{noted_refusal, rule_shortfall};
+use crate::told::noted_refusal;
 use csp_base::Stop;
 use csp_tables::{Ranking, Rule};
 use design_rules::NotedRule;
@@ -51,6 +51,7 @@ pub(crate) fn ranked(
     let shape = shaped.shape();
     match decided(alloc, rule, shape) {
         Ok(ranking) => Ok(ranking),
-        Err(fault) => Err(rule_shortfall(fault)),
+        Err(Stop::NoMemory) => Err(Stop::NoMemory),
+        Err(Stop::Told(fault)) => Err(Stop::Told(Shortfall::Breaks(fault))),
     }
 }

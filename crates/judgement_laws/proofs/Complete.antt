@@ -2,21 +2,25 @@
 use Rattle.std.proofs.Common.{◌≡◌, ◌≤◌, ℕ, length, take, sym, ap, subst, ◌∙◌, arith}
 use Rattle.std.specs.Prelude.{min}
 use Rattle.csp_base.proofs.Standard.{length-take, slice_get_within}
-use Rattle.csp_tables.specs.Prelude.{leaves, TripleDisjoint, sharers, Shape, Rule}
+use Rattle.csp_tables.specs.Prelude.{leaves, TripleDisjoint, sharers, Shape}
+use Rattle.csp_tables.specs.declared.rule.Rule.{Rule}
 use Rattle.design_rules.proofs.Readings.{network_faults_refute}
-use Rattle.design_rules.specs.Prelude.{NotedRule, RuleFault}
+use Rattle.design_rules.specs.declared.noted_rule.NotedRule.{NotedRule}
+use Rattle.design_rules.specs.declared.rule_fault.RuleFault.{RuleFault}
 use Rattle.judgement.proofs.Notes.{all_told, same_ok}
 use Rattle.judgement.proofs.OneNetwork.{one_network}
 use Rattle.judgement.specs.Judged.{IsDeadlockFree, IsJudged, RuleDecides}
 use Rattle.judgement.specs.Noted.{Breaks, Meets, Notes, notes_of}
-use Rattle.judgement.specs.Told.{TellsRule}
 use Rattle.network_layout.proofs.TripleLemmas.{length-holders}
 use Rattle.network_layout.specs.Triple.{alphabets, holders}
 use Rattle.network_layout.specs.declared.triple.TripleFault.TheVariants as triple
 use Rattle.network_stages.proofs.Excluded.{faults_exclude_tables}
 use Rattle.network_stages.specs.Prelude.{Network, HaveFewSets, IsApart, CanStop, HasNoParts, ShareEvent, StaysBusy}
 use Rattle.process_steps.specs.ComponentStep.{ProcessStep}
-use Rattle.report.specs.Prelude.{Point, UnprovedUnless, passed, told, verdict_status, Refusal, Shortfall, Verdict}
+use Rattle.report.specs.Prelude.{Point, UnprovedUnless, passed, told, verdict_status}
+use Rattle.report.specs.declared.answer.Refusal.{Refusal}
+use Rattle.report.specs.declared.answer.Shortfall.{Shortfall}
+use Rattle.report.specs.declared.answer.Verdict.{Verdict}
 use Rattle.report.specs.declared.answer.Side.TheVariants as side
 use Rattle.report.specs.declared.answer.Verdict.TheVariants as verdict
 use Rattle.judgement_laws.specs.Complete.{EachScriptHasOneStatus, Passes}
@@ -50,9 +54,7 @@ module _ (network : Network) where
   one_note rule m n a b = same_ok (notes_of network rule) m n a b
 
   not_broken : (notes : NotedRule) (shape : Shape) (s : Shortfall) → IsApart network shape → Meets network notes → Breaks network notes s → ⊥
-  not_broken notes shape s apart meets (f, breaks, tells) =
-      subst (λ (g : RuleFault). TellsRule g s)
-      (network_faults_refute (ProcessStep network.program) network.tree shape apart.is notes f meets breaks) tells
+  not_broken notes shape s apart meets (f, breaks, tells) = network_faults_refute (ProcessStep network.program) network.tree shape apart.is notes f meets breaks
 
 -- ---- a network that passes
 

@@ -1,6 +1,8 @@
 -- Two verdicts on one network, asked of one set: at each point of their walks a fault excludes what is there else, and what is there is one.
 use Rattle.std.proofs.Common.{◌≡◌, ℕ, Option, Some, None, Ok, Err, List, length, refl, sym, ap, subst, ◌∙◌}
-use Rattle.csp_program.specs.Prelude.{Outcome, Expr, ValueKind}
+use Rattle.csp_program.specs.Prelude.{Outcome}
+use Rattle.csp_program.specs.declared.expressions.Expr.{Expr}
+use Rattle.csp_program.specs.declared.kinds.ValueKind.{ValueKind}
 use Rattle.csp_tables.specs.Network.{leaves}
 use Rattle.hidden_bounds.proofs.Passing.{passes_excludes, passes_once}
 use Rattle.hidden_steps.proofs.Agreeing.{no_order, one_order, one_rest}
@@ -8,7 +10,9 @@ use Rattle.hidden_steps.specs.Order.{Taken}
 use Rattle.network_stages.proofs.Excluded.{faults_exclude_tables}
 use Rattle.network_stages.specs.Prelude.{Network, HasNoTables, HasTables}
 use Rattle.process_steps.specs.Prelude.{ProcessStep, events_in}
-use Rattle.report.specs.Prelude.{Point, RefusedOr, passed, told, verdict_status, Refusal, Verdict}
+use Rattle.report.specs.Prelude.{Point, RefusedOr, passed, told, verdict_status}
+use Rattle.report.specs.declared.answer.Refusal.{Refusal}
+use Rattle.report.specs.declared.answer.Verdict.{Verdict}
 use Rattle.report.specs.declared.answer.Done.TheVariants as done
 use Rattle.report.specs.declared.answer.Refusal.TheVariants as refusal
 use Rattle.report.specs.declared.answer.Shortfall.TheVariants as shortfall

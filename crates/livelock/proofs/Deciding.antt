@@ -1,11 +1,14 @@
 -- A bound that is found, and a fault, as they are told.
 use Rattle.std.proofs.Common.{◌≡◌, ◌<◌, ◌^◌, ℕ, List, length, refl, ap}
 use Rattle.csp_tables.specs.Network.{leaves}
-use Rattle.hidden_bounds.specs.Prelude.{IsBound, TellsLoop, HiddenBound, LoopFault}
+use Rattle.hidden_bounds.specs.Prelude.{IsBound, TellsLoop}
+use Rattle.hidden_bounds.specs.declared.bounding.HiddenBound.{HiddenBound}
+use Rattle.hidden_bounds.specs.declared.bounding.LoopFault.{LoopFault}
 use Rattle.hidden_bounds.specs.declared.bounding.LoopFault.TheVariants as fault
 use Rattle.network_stages.specs.Networks.{Network}
 use Rattle.process_steps.specs.ComponentStep.{ProcessStep}
-use Rattle.report.specs.Prelude.{passed, told, Done}
+use Rattle.report.specs.Prelude.{passed, told}
+use Rattle.report.specs.declared.answer.Done.{Done}
 use Rattle.csp_base.specs.Stops.{Tells}
 use Rattle.report.specs.declared.answer.Done.TheVariants as done
 use Rattle.report.specs.declared.answer.Refusal.TheVariants as refusal

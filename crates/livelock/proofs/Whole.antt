@@ -7,7 +7,9 @@ use Rattle.network_stages.specs.Networks.{IsSpelled, Network}
 use Rattle.network_trees.proofs.InOrder.{network_is_tree}
 use Rattle.process_steps.specs.ComponentStep.{ProcessStep}
 use Rattle.report.proofs.Points.{refused_or, unproved_or}
-use Rattle.report.specs.Prelude.{Refusal, Shortfall, Verdict}
+use Rattle.report.specs.declared.answer.Refusal.{Refusal}
+use Rattle.report.specs.declared.answer.Shortfall.{Shortfall}
+use Rattle.report.specs.declared.answer.Verdict.{Verdict}
 use Rattle.report.specs.declared.answer.Side.TheVariants as side
 use Rattle.report.specs.declared.answer.Verdict.TheVariants as verdict
 use Rattle.livelock.specs.Bounded.{HasOrder, IsBoundOf, IsBounded, OrderDecides}

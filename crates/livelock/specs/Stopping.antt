@@ -1,12 +1,14 @@
 -- How it is told that a set has no value, and that there is no bound. (For private contracts: no public one cites this.)
 use Rattle.hidden_bounds.specs.declared.bounding.LoopFault.{LoopFault}
 use Rattle.hidden_bounds.specs.declared.bounding.LoopFault.TheVariants as fault
-use Rattle.report.specs.Prelude.{Refusal, Verdict}
+use Rattle.report.specs.Prelude.{Halt}
+use Rattle.report.specs.declared.answer.Refusal.{Refusal}
 use Rattle.report.specs.declared.answer.Refusal.TheVariants as refusal
 use Rattle.report.specs.declared.answer.Shortfall.TheVariants as shortfall
 use Rattle.report.specs.declared.answer.Side.TheVariants as side
 use Rattle.report.specs.declared.answer.Site.TheVariants as site
 use Rattle.report.specs.declared.answer.Verdict.TheVariants as verdict
+use Rattle.report.specs.declared.stop.Halt.TheVariants as halt
 use Rattle.csp_base.specs.declared.stop.Stop.{Stop}
 use Rattle.csp_base.specs.declared.stop.Stop.TheVariants as stop
 use Rattle.value_operators.specs.declared.fault.EvalFault.{EvalFault}
@@ -17,7 +19,7 @@ stop_without_value value.NoMemory = stop.NoMemory
 stop_without_value (value.Value kind) = stop.Told (refusal.Value kind site.HiddenSet)
 
 -- how a fault of the bound is told
-abbrev pub stop_of_fault : LoopFault → Stop Verdict
-stop_of_fault fault.NoMemory = stop.NoMemory
-stop_of_fault (fault.NoOrder parts) = stop.Told (verdict.NotProved (shortfall.NoOrder parts))
-stop_of_fault (fault.BoundLimit part) = stop.Told (verdict.Refused side.Script (refusal.BoundLimit part))
+abbrev pub stop_of_fault : LoopFault → Halt
+stop_of_fault fault.NoMemory = halt.NoMemory
+stop_of_fault (fault.NoOrder parts) = halt.Told (verdict.NotProved (shortfall.NoOrder parts))
+stop_of_fault (fault.BoundLimit part) = halt.Told (verdict.Refused side.Script (refusal.BoundLimit part))

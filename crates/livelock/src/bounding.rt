@@ -8,22 +8,22 @@ ghost use Rattle.livelock.specs.Bounded.{IsBounded, OrderDecides};
 ghost use Rattle.livelock.specs.Stopping.{stop_of_fault};
 
 use crate::named::{expression_named, hidden_set};
-use csp_base::{EventSet, Stop};
+use csp_base::EventSet;
 use hidden_bounds::{LoopFault, livelock};
 use network_stages::{Spelled, Tabled, make_tables};
-use report::{Done, Refusal, Shortfall, Side, Verdict};
+use report::{Done, Halt, Refusal, Shortfall, Side, Verdict};
 use std::alloc::Global;
 
 // How it is told why no bound is printed.
-fn no_bound(fault: LoopFault) -> Stop<Verdict>
+fn no_bound(fault: LoopFault) -> Halt
     ensures { result ≡ stop_of_fault fault }
 {
     match fault {
-        LoopFault::NoMemory => Stop::NoMemory,
+        LoopFault::NoMemory => Halt::NoMemory,
         LoopFault::NoOrder { parts } => {
-            Stop::Told(Verdict::NotProved(Shortfall::NoOrder { components: parts }))
+            Halt::Told(Verdict::NotProved(Shortfall::NoOrder { components: parts }))
         }
-        LoopFault::BoundLimit { part } => Stop::Told(Verdict::Refused(
+        LoopFault::BoundLimit { part } => Halt::Told(Verdict::Refused(
             Side::Script,
             Refusal::BoundLimit { component: part },
         )),
@@ -42,7 +42,7 @@ fn livelock_free(network: &Spelled, bound: u64) -> Done
 }
 
 // The bound of a network with these events hidden, or why none is told.
-fn bound_with(alloc: Global, tabled: &Tabled<'_>, events: &EventSet) -> Result<Done, Stop<Verdict>>
+fn bound_with(alloc: Global, tabled: &Tabled<'_>, events: &EventSet) -> Result<Done, Halt>
     ensures { Answers (OrderDecides tabled.now.network events.now) result }
 {
     let network = tabled.network();
@@ -59,7 +59,7 @@ fn bound_with(alloc: Global, tabled: &Tabled<'_>, events: &EventSet) -> Result<D
 }
 
 /// The bound on the hidden events of a network, where the events of the set with this name are hidden.
-pub fn bounded(alloc: Global, network: &Spelled, name: &[u8]) -> Result<Done, Stop<Verdict>>
+pub fn bounded(alloc: Global, network: &Spelled, name: &[u8]) -> Result<Done, Halt>
     ensures { Answers (IsBounded network.now name.now) result }
 {
     let expr = expression_named(network.program(), name)?;

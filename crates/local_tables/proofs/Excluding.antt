@@ -3,7 +3,9 @@ use Rattle.std.proofs.Common.{◌≡◌, ℕ, zero, suc, ◌+◌, ◌≤◌, Lis
 use Rattle.std.specs.Prelude.{map, slice_get, Some}
 use Rattle.std.proofs.lemmas.Option.{same_Some}
 use Rattle.csp_base.specs.Lists.{total, EachOnce}
-use Rattle.csp_program.specs.Prelude.{proc_depth, proc_size, Proc, Content}
+use Rattle.csp_program.specs.Prelude.{proc_depth, proc_size}
+use Rattle.csp_program.specs.declared.processes.Proc.{Proc}
+use Rattle.csp_program.specs.declared.programs.Content.{Content}
 use Rattle.csp_tables.specs.Prelude.{Label, silent, visible, Component, ComponentStep, Reached, IsTableOf, RawStep, RawTable, standing_at}
 use Rattle.process_steps.proofs.Listed.{lists_are_there}
 use Rattle.process_steps.specs.ComponentStep.{ProcessStep}

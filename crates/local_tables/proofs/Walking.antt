@@ -7,7 +7,8 @@ use Rattle.csp_base.proofs.Lists.{push_cases, slice_get_last, slice_get_some}
 use Rattle.csp_program.specs.declared.processes.Proc.{Proc}
 use Rattle.csp_tables.specs.Prelude.{Label, silent, visible, ComponentStep, Path, Reached, IsStepOf, standing_at, visible_events}
 use Rattle.process_steps.specs.ComponentStep.{ProcessStep}
-use Rattle.local_tables.specs.Prelude.{part_of, AreLed, LeadsToTerm, Origin, label_of, step_events, Task}
+use Rattle.local_tables.specs.Prelude.{part_of, AreLed, LeadsToTerm, Origin, label_of, step_events}
+use Rattle.local_tables.specs.declared.task.Task.{Task}
 
 -- ---- one more step at the end of a path
 

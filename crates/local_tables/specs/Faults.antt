@@ -1,9 +1,13 @@
 -- What each fault tells of a component.
 use Rattle.std.specs.Prelude.{◌≡◌, ℕ, ◌<◌, Err, List, length, map}
 use Rattle.dl_limits.specs.declared.TheConstants.{MOST_TERMS, MOST_TERM_DEPTH}
-use Rattle.csp_program.specs.Prelude.{proc_depth, proc_size, ValueKind, Proc, Content}
+use Rattle.csp_program.specs.Prelude.{proc_depth, proc_size}
+use Rattle.csp_program.specs.declared.kinds.ValueKind.{ValueKind}
+use Rattle.csp_program.specs.declared.processes.Proc.{Proc}
+use Rattle.csp_program.specs.declared.programs.Content.{Content}
 use Rattle.csp_tables.specs.Prelude.{Reached, Component, ComponentStep, RawTable, standing_at, After}
-use Rattle.process_steps.specs.Prelude.{ProcessStep, Ticks, steps_of, ComponentFault}
+use Rattle.process_steps.specs.Prelude.{ProcessStep, Ticks, steps_of}
+use Rattle.process_steps.specs.declared.component_fault.ComponentFault.{ComponentFault}
 use Rattle.local_tables.specs.Component.{AreSteps, AreTerms, part_of, step_count}
 use Rattle.local_tables.specs.declared.task.Task.{Task}
 use Rattle.local_tables.specs.declared.fault.Unexplored.{Unexplored}

@@ -2,7 +2,8 @@
 use Rattle.std.proofs.Common.{◌≡◌, ℕ, ◌+◌, ◌<◌, max, List, [], ◌∷◌, ◌++◌, length, map, drop, get_or, ap, sym, ◌∙◌, append_assoc, arith}
 use Rattle.csp_base.specs.Standard.{Bor, flat_map}
 use Rattle.csp_base.proofs.Lists.{drop_read}
-use Rattle.script_names.specs.Prelude.{Name, Occurrence}
+use Rattle.script_names.specs.Prelude.{Name}
+use Rattle.script_names.specs.declared.occurrence.Occurrence.{Occurrence}
 use Rattle.name_faults.specs.Bodies.{greatest_level, level_of, use_of}
 use Rattle.name_faults.specs.Walked.{seen}
 

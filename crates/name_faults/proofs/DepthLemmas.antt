@@ -3,8 +3,10 @@ use Rattle.std.proofs.Common.{◌≡◌, ℕ, zero, suc, ◌+◌, ◌-◌, ◌�
 use Rattle.csp_base.proofs.Standard.{lt-ltb, ltb-true, ltb_from_iff, slice_get-map}
 use Rattle.csp_base.specs.Standard.{flat_map, option_map}
 use Rattle.script_names.specs.declared.kinds.Entity.TheVariants as entity
-use Rattle.script_names.specs.Prelude.{Sense, below, deepest, depth_within, reach, said_by, Occurrence, Binds, Notes, Uses, Form, Parallel, Name}
-use Rattle.script_names.specs.declared.occurrence.Occurrence.TheVariants.{Declares}
+use Rattle.script_names.specs.Prelude.{below, deepest, depth_within, reach, said_by, Name}
+use Rattle.script_names.specs.declared.kinds.Sense.{Sense}
+use Rattle.script_names.specs.declared.occurrence.Occurrence.{Occurrence}
+use Rattle.script_names.specs.declared.occurrence.Occurrence.TheVariants.{Binds, Notes, Uses, Form, Parallel, Declares}
 use Rattle.script_names.specs.declared.kinds.Sense.TheVariants as sense
 use Rattle.script_names.specs.declared.kinds.Use.TheVariants as how
 use Rattle.name_faults.specs.declared.body.Body.{Body}

@@ -2,7 +2,8 @@
 use Rattle.std.proofs.Common.{◌≡◌, ℕ, ◌+◌, ◌<◌, Bool, true, false, Option, Some, None, List, [], ◌∷◌, length, map, drop, get_or, ap, sym, ◌∙◌}
 use Rattle.csp_base.specs.Standard.{Bor, list_any}
 use Rattle.csp_base.proofs.Lists.{drop_read}
-use Rattle.script_names.specs.Prelude.{Name, Occurrence, first_name}
+use Rattle.script_names.specs.Prelude.{Name, first_name}
+use Rattle.script_names.specs.declared.occurrence.Occurrence.{Occurrence}
 use Rattle.name_faults.specs.Walked.{seen}
 
 module _ (test : Occurrence Name → Option Name) (os : List (Occurrence (Bor Name))) (i : ℕ) (o : Occurrence (Bor Name)) (whole : Option Name) where

@@ -3,9 +3,13 @@ use Rattle.std.proofs.Common.{◌≡◌, ℕ, ◌+◌, ◌<◌, ◌≤◌, Bool,
 use Rattle.csp_base.proofs.Standard.{drop_of_length-le, append-nil, map-append, length_push}
 use Rattle.std.specs.List.{flat_map}
 use Rattle.dl_limits.specs.declared.TheConstants.{MOST_DATA_DEPTH}
-use Rattle.csp_text.specs.Prelude.{Decl, Tree}
+use Rattle.csp_text.specs.declared.script.Decl.{Decl}
+use Rattle.csp_text.specs.declared.tree.Tree.{Tree}
 use Rattle.csp_text.specs.declared.script.Decl.TheVariants as decl
-use Rattle.script_names.specs.Prelude.{ResolveFault, Kind, Occurrence, kind_class, Name, Meanings, Entities, Counts, channels_from, constants_from, counted, declared_from, is_among, meanings_of, none_yet, tree_says, annotation_says, bodies_from, body_place, counts_of, data_place, decl_says, declared_after, each_after, fault_in, fault_of, first_fault, first_there, is_data, is_deep, name_fault, names_declared, next_definition, parameters_after, too_deep, types_say, with_roles, with_uses}
+use Rattle.script_names.specs.Prelude.{kind_class, Name, Meanings, Entities, Counts, channels_from, constants_from, counted, declared_from, is_among, meanings_of, none_yet, tree_says, annotation_says, bodies_from, body_place, counts_of, data_place, decl_says, declared_after, each_after, fault_in, fault_of, first_fault, first_there, is_data, is_deep, name_fault, names_declared, next_definition, parameters_after, too_deep, types_say, with_roles, with_uses}
+use Rattle.script_names.specs.declared.fault.ResolveFault.{ResolveFault}
+use Rattle.script_names.specs.declared.kinds.Kind.{Kind}
+use Rattle.script_names.specs.declared.occurrence.Occurrence.{Occurrence}
 use Rattle.script_names.specs.declared.occurrence.Occurrence.TheVariants.{Declares}
 use Rattle.script_names.specs.Names.{declares as declares_of}
 use Rattle.name_tables.specs.Firsts.{SameNames}

@@ -1,15 +1,24 @@
 -- What each form says, in what its parts say: a line for each form, by the equations that are made of the folds.
 use Rattle.std.proofs.Common.{◌≡◌, ℕ, ◌+◌, ◌<◌, ◌≤◌, Option, Some, None, List, [], ◌∷◌, ◌++◌, length, map, take, false, refl, append_assoc, rules}
-use Rattle.csp_base.specs.Prelude.{BinOp, SetOp}
-use Rattle.csp_text.specs.Prelude.{FieldTree, fold-roll-EventTree, fold-roll-PartTree, out-EventTree, out-PartTree, roll-out-EventTree, roll-out-PartTree, GenTree, EventTree, PartTree, Tree, the_lemmas}
-use Rattle.csp_text.specs.declared.tree.EventTree.{the_lemmas as event_lemmas}
-use Rattle.csp_text.specs.declared.tree.PartTree.{the_lemmas as part_lemmas}
+use Rattle.csp_base.specs.declared.operators.BinOp.{BinOp}
+use Rattle.csp_base.specs.declared.operators.SetOp.{SetOp}
+use Rattle.csp_text.specs.declared.tree.EventTree.{EventTree, the_lemmas as event_lemmas}
+use Rattle.csp_text.specs.declared.tree.FieldTree.{FieldTree}
+use Rattle.csp_text.specs.declared.tree.FieldTree.TheFolds.{fold-roll-EventTree, fold-roll-PartTree}
+use Rattle.csp_text.specs.declared.tree.FieldTree.TheViews.{out-EventTree, out-PartTree, roll-out-EventTree, roll-out-PartTree}
+use Rattle.csp_text.specs.declared.tree.GenTree.{GenTree}
+use Rattle.csp_text.specs.declared.tree.PartTree.{PartTree, the_lemmas as part_lemmas}
+use Rattle.csp_text.specs.declared.tree.Tree.{Tree, the_lemmas}
 use Rattle.csp_text.specs.declared.tree.FieldTree.TheVariants as field
 use Rattle.std.proofs.lemmas.List.{append-nil, length-map}
 use Rattle.csp_text.specs.declared.tree.GenTree.TheVariants as generator
 use Rattle.csp_text.specs.declared.tree.Tree.TheVariants as tree
 use Rattle.script_names.specs.declared.kinds.Class.TheVariants as class
-use Rattle.script_names.specs.Prelude.{Place, Use, Entities, Name, first_of, sense_in, Occurrence, Binds, Uses, Form, Parallel, Said, data_in, process_in, network_in, part_in}
+use Rattle.script_names.specs.Prelude.{Entities, Name, first_of, sense_in, Said, data_in, process_in, network_in, part_in}
+use Rattle.script_names.specs.declared.kinds.Place.{Place}
+use Rattle.script_names.specs.declared.kinds.Use.{Use}
+use Rattle.script_names.specs.declared.occurrence.Occurrence.{Occurrence}
+use Rattle.script_names.specs.declared.occurrence.Occurrence.TheVariants.{Binds, Uses, Form, Parallel}
 use Rattle.script_names.specs.declared.kinds.Use.TheVariants as how
 use Rattle.name_faults.specs.Walked.{field_names, field_said, fields_said, gen_names, gen_said, gens_said, pair_said, pairs_said, part_said, parts_said, tree_said, trees_said, under_fields, under_gens}
 

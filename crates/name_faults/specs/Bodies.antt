@@ -2,10 +2,14 @@
 use Rattle.std.specs.Prelude.{ℕ, max, List, [], ◌∷◌, map, slice_get}
 use Rattle.std.specs.List.{flat_map}
 use Rattle.script_names.specs.declared.kinds.Entity.TheVariants as entity
-use Rattle.script_names.specs.Prelude.{Sense, kind_class, Name, first_of, tree_says, bodies_from, body_place, expanded_body, Occurrence, Uses, Form, Parallel}
+use Rattle.script_names.specs.Prelude.{kind_class, Name, first_of, tree_says, bodies_from, body_place, expanded_body}
+use Rattle.script_names.specs.declared.kinds.Sense.{Sense}
+use Rattle.script_names.specs.declared.occurrence.Occurrence.{Occurrence}
+use Rattle.script_names.specs.declared.occurrence.Occurrence.TheVariants.{Uses, Form, Parallel}
 use Rattle.script_names.specs.declared.kinds.Sense.TheVariants as sense
 use Rattle.script_names.specs.declared.kinds.Use.TheVariants as how
-use Rattle.csp_text.specs.Prelude.{Decl, Tree}
+use Rattle.csp_text.specs.declared.script.Decl.{Decl}
+use Rattle.csp_text.specs.declared.tree.Tree.{Tree}
 use Rattle.name_tables.specs.declared.meanings.Meanings.{Meanings}
 use Rattle.name_faults.specs.declared.body.Body.{Body}
 

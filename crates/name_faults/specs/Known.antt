@@ -2,9 +2,14 @@
 use Rattle.std.specs.Prelude.{◌≡◌, ℕ, Bool, false, ◌&&◌, nat_lt, Option, List, [], ◌∷◌, ◌++◌, length, slice_get, slice_index}
 use Rattle.std.specs.List.{flat_map}
 use Rattle.dl_limits.specs.declared.TheConstants.{MOST_DATA_DEPTH}
-use Rattle.csp_text.specs.Prelude.{Decl, ResourceNames, RolesNames}
+use Rattle.csp_text.specs.declared.script.Decl.{Decl}
+use Rattle.csp_text.specs.declared.token.ResourceNames.{ResourceNames}
+use Rattle.csp_text.specs.declared.token.RolesNames.{RolesNames}
 use Rattle.csp_text.specs.declared.script.Decl.TheVariants as decl
-use Rattle.script_names.specs.Prelude.{ResolveFault, Kind, Occurrence, kind_class, Name, Meanings, is_among, tree_says, annotation_says, body_place, data_place, declared_after, fault_of, first_fault, is_data, names_declared, next_definition, parameters_after, root_place, types_say, with_roles, with_uses}
+use Rattle.script_names.specs.Prelude.{kind_class, Name, Meanings, is_among, tree_says, annotation_says, body_place, data_place, declared_after, fault_of, first_fault, is_data, names_declared, next_definition, parameters_after, root_place, types_say, with_roles, with_uses}
+use Rattle.script_names.specs.declared.fault.ResolveFault.{ResolveFault}
+use Rattle.script_names.specs.declared.kinds.Kind.{Kind}
+use Rattle.script_names.specs.declared.occurrence.Occurrence.{Occurrence}
 use Rattle.name_tables.specs.Firsts.{SameNames}
 use Rattle.name_faults.specs.declared.known.Known.{Known}
 

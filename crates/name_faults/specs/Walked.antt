@@ -2,9 +2,19 @@
 -- crate.
 use Rattle.std.specs.Prelude.{ℕ, false, List, [], ◌∷◌, ◌++◌, length, map}
 use Rattle.std.specs.Borrow.{Bor}
-use Rattle.csp_text.specs.Prelude.{greatest_of_pairs, part_depth, out-EventTree, fold-GenTree, fold-EventTree, fold-PartTree, FieldTree, fold-FieldTree, EventTree, GenTree, PartTree, Tree}
-use Rattle.script_names.specs.Prelude.{Place, Use, Entities, Meanings, Name, first_of, sense_in, Occurrence, Binds, Notes, Uses, Form, Parallel, Binder, Fields, Said, all_say, data_in, network_in, process_in, event_says_of_layer, field_says_of_layer, gen_says_of_layer, in_turn, pair_says, part_says, part_says_of_layer, tree_says, tree_says_of_layer}
-use Rattle.script_names.specs.declared.occurrence.Occurrence.TheVariants.{Declares}
+use Rattle.csp_text.specs.Prelude.{greatest_of_pairs, part_depth}
+use Rattle.csp_text.specs.declared.tree.EventTree.{EventTree}
+use Rattle.csp_text.specs.declared.tree.FieldTree.{FieldTree, fold-FieldTree}
+use Rattle.csp_text.specs.declared.tree.FieldTree.TheFolds.{fold-GenTree, fold-EventTree, fold-PartTree}
+use Rattle.csp_text.specs.declared.tree.FieldTree.TheViews.{out-EventTree}
+use Rattle.csp_text.specs.declared.tree.GenTree.{GenTree}
+use Rattle.csp_text.specs.declared.tree.PartTree.{PartTree}
+use Rattle.csp_text.specs.declared.tree.Tree.{Tree}
+use Rattle.script_names.specs.Prelude.{Entities, Meanings, Name, first_of, sense_in, Binder, Fields, Said, all_say, data_in, network_in, process_in, event_says_of_layer, field_says_of_layer, gen_says_of_layer, in_turn, pair_says, part_says, part_says_of_layer, tree_says, tree_says_of_layer}
+use Rattle.script_names.specs.declared.kinds.Place.{Place}
+use Rattle.script_names.specs.declared.kinds.Use.{Use}
+use Rattle.script_names.specs.declared.occurrence.Occurrence.{Occurrence}
+use Rattle.script_names.specs.declared.occurrence.Occurrence.TheVariants.{Binds, Notes, Uses, Form, Parallel, Declares}
 use Rattle.script_names.specs.Says.{under}
 use Rattle.script_names.specs.declared.kinds.Use.TheVariants as how
 

@@ -4,7 +4,8 @@ use Rattle.std.proofs.lemmas.Bool.{eqb-true, eq-eqb, and_from}
 use Rattle.csp_base.specs.Standard.{pointwise, list_any}
 use Rattle.containers.specs.Exact.{IsExact-pointwise}
 use Rattle.csp_text.specs.declared.script.Decl.{Decl}
-use Rattle.script_names.specs.Prelude.{Name, Entities, declared, first_of, is_among, meanings_of, same_name, Entity}
+use Rattle.script_names.specs.Prelude.{Name, Entities, declared, first_of, is_among, meanings_of, same_name}
+use Rattle.script_names.specs.declared.kinds.Entity.{Entity}
 use Rattle.name_tables.specs.Firsts.{SameFirsts, SameNames}
 use Rattle.csp_base.proofs.Booleans.{or_regroup}
 

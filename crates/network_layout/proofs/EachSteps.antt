@@ -1,7 +1,11 @@
 -- Operands for the values of a name, one after another.
 use Rattle.std.proofs.Common.{◌≡◌, ℕ, ◌+◌, ◌<◌, ◌≤◌, Ok, Err, List, [], ◌∷◌, ◌++◌, length, drop, get_or, refl, ap, sym, ◌∙◌, append_assoc, append-nil, drop_of_length-le}
 use Rattle.csp_base.specs.Events.{union_of}
-use Rattle.csp_program.specs.Prelude.{Outcome, Env, Expr, Net, Proc, Content}
+use Rattle.csp_program.specs.Prelude.{Outcome, Env}
+use Rattle.csp_program.specs.declared.expressions.Expr.{Expr}
+use Rattle.csp_program.specs.declared.networks.Net.{Net}
+use Rattle.csp_program.specs.declared.processes.Proc.{Proc}
+use Rattle.csp_program.specs.declared.programs.Content.{Content}
 use Rattle.csp_tables.specs.Prelude.{Component, Tree, Operands, leaves, leaves_of_operands, parallel, none, operand}
 use Rattle.network_trees.specs.Joint.{joint}
 use Rattle.network_trees.specs.NetworkOf.{Walked, each_operand, events_under, goes_on, operand_first, side_by_side, tree_within, with_value}
@@ -9,7 +13,8 @@ use Rattle.network_trees.proofs.Steps.{had}
 use Rattle.network_layout.specs.Lays.{IsLaid, one_operand, operand_walked, operands_each}
 use Rattle.network_layout.proofs.Laid.{first_fault, first_made, grown_by}
 use Rattle.network_layout.proofs.Together.{joint-append}
-use Rattle.csp_atoms.specs.Prelude.{Atom, One}
+use Rattle.csp_atoms.specs.declared.atom.Atom.{Atom}
+use Rattle.csp_atoms.specs.declared.value.Value.TheVariants.{One}
 use Rattle.network_trees.specs.declared.fault.LayoutFault.{LayoutFault}
 use Rattle.csp_base.proofs.Lists.{drop_read}
 

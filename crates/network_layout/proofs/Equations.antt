@@ -1,6 +1,11 @@
 -- What the walk of a network is, from its layer.
 use Rattle.std.proofs.Common.{◌≡◌, ◌<◌, ◌-◌, arith, ℕ, zero, suc, List, ap, sym, ◌∙◌}
-use Rattle.csp_program.specs.Prelude.{Env, Expr, Net, Net-F, out-Net, out-roll-Net, Content}
+use Rattle.csp_program.specs.Prelude.{Env}
+use Rattle.csp_program.specs.declared.expressions.Expr.{Expr}
+use Rattle.csp_program.specs.declared.networks.Net.{Net}
+use Rattle.csp_program.specs.declared.networks.Net.TheOpen.{Net-F}
+use Rattle.csp_program.specs.declared.networks.Net.TheViews.{out-Net, out-roll-Net}
+use Rattle.csp_program.specs.declared.programs.Content.{Content}
 use Rattle.network_trees.specs.NetworkOf.{tree_within, walked_node}
 use Rattle.csp_program.specs.declared.networks.Net.TheVariants as net
 

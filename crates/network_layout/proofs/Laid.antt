@@ -7,7 +7,10 @@ use Rattle.network_trees.specs.Joint.{joint}
 use Rattle.network_trees.specs.NetworkOf.{Walked, next_component, goes_on, operand_first, side_by_side, tree_within}
 use Rattle.network_layout.specs.Lays.{IsLaid, operand_walked, two}
 use Rattle.network_layout.proofs.Together.{joint-append}
-use Rattle.csp_program.specs.Prelude.{Env, Net, Proc, Content}
+use Rattle.csp_program.specs.Prelude.{Env}
+use Rattle.csp_program.specs.declared.networks.Net.{Net}
+use Rattle.csp_program.specs.declared.processes.Proc.{Proc}
+use Rattle.csp_program.specs.declared.programs.Content.{Content}
 use Rattle.network_trees.specs.declared.fault.LayoutFault.{LayoutFault}
 use Rattle.network_trees.specs.declared.fault.LayoutFault.TheVariants as fault
 

@@ -1,7 +1,9 @@
 -- The names of a scope, and what the evaluator says of expressions under them.
 use Rattle.std.proofs.Common.{◌≡◌, ℕ, Ok, List, [], ◌∷◌, ◌++◌, refl, ap, append-nil}
 use Rattle.csp_atoms.specs.declared.atom.Atom.{Atom}
-use Rattle.csp_program.specs.Prelude.{with_bound, and_then, Env, value_within, Expr, Content}
+use Rattle.csp_program.specs.Prelude.{with_bound, and_then, Env, value_within}
+use Rattle.csp_program.specs.declared.expressions.Expr.{Expr}
+use Rattle.csp_program.specs.declared.programs.Content.{Content}
 use Rattle.csp_values.specs.Worth.{worths}
 use Rattle.process_steps.specs.Needed.{all_outcomes}
 

@@ -1,12 +1,15 @@
 -- What is told of components, one after another.
 use Rattle.std.proofs.Common.{◌≡◌, ℕ, zero, suc, ◌+◌, ◌<◌, ◌≤◌, Some, Ok, Err, List, [], ◌∷◌, ◌++◌, length, take, get_or, refl, ap, sym, ◌∙◌, subst, arith}
 use Rattle.std.specs.Prelude.{slice_get}
-use Rattle.csp_program.specs.Prelude.{Outcome, and_then, ValueKind, Proc}
+use Rattle.csp_program.specs.Prelude.{Outcome, and_then}
+use Rattle.csp_program.specs.declared.kinds.ValueKind.{ValueKind}
+use Rattle.csp_program.specs.declared.processes.Proc.{Proc}
 use Rattle.process_steps.specs.Needed.{all_outcomes}
 use Rattle.network_trees.specs.Annotations.{IsFirstWithout}
 use Rattle.network_layout.specs.Told.{IsUntold, noted_fault}
 use Rattle.network_layout.specs.declared.told.NotedFault.{NotedFault}
-use Rattle.value_operators.specs.Prelude.{Gives, EvalFault}
+use Rattle.value_operators.specs.Prelude.{Gives}
+use Rattle.value_operators.specs.declared.fault.EvalFault.{EvalFault}
 use Rattle.value_operators.specs.declared.fault.EvalFault.TheVariants as evaluation
 use Rattle.csp_tables.specs.Network.{Component}
 use Rattle.csp_base.proofs.Lists.{take_read}

@@ -1,10 +1,17 @@
 -- What the calls of the walk of a network answer. A fault is that of the definition, and want of memory is free.
 use Rattle.std.specs.Prelude.{◌≡◌, ℕ, ◌+◌, Option, Some, None, Result, Ok, Err, List, ◌++◌}
-use Rattle.csp_program.specs.Prelude.{with_bound, Env, bound_to, Expr, Net, Net-F, Proc, Content, Def}
+use Rattle.csp_program.specs.Prelude.{with_bound, Env, bound_to}
+use Rattle.csp_program.specs.declared.expressions.Expr.{Expr}
+use Rattle.csp_program.specs.declared.networks.Net.{Net}
+use Rattle.csp_program.specs.declared.networks.Net.TheOpen.{Net-F}
+use Rattle.csp_program.specs.declared.processes.Proc.{Proc}
+use Rattle.csp_program.specs.declared.programs.Content.{Content}
+use Rattle.csp_program.specs.declared.programs.Def.{Def}
 use Rattle.csp_tables.specs.Network.{Component, Tree, leaves}
 use Rattle.network_trees.specs.Joint.{joint}
 use Rattle.network_trees.specs.NetworkOf.{Walked, each_operand, events_under, goes_on, nested, network_called, side_by_side, tree_within, two_operands, walked_node, with_value}
-use Rattle.csp_atoms.specs.Prelude.{Atom, Value}
+use Rattle.csp_atoms.specs.declared.atom.Atom.{Atom}
+use Rattle.csp_atoms.specs.declared.value.Value.{Value}
 use Rattle.network_layout.specs.declared.fault.Unlaid.{Unlaid}
 use Rattle.network_layout.specs.declared.fault.Unlaid.TheVariants as unlaid
 use Rattle.network_trees.specs.declared.fault.LayoutFault.TheVariants as fault

@@ -3,7 +3,8 @@
 ghost use Rattle.std.specs.Prelude.{◌≡◌, [], ◌∷◌, IfErr, IfOk, length};
 ghost use Rattle.csp_atoms.specs.declared.value.Value.TheVariants.{One};
 ghost use Rattle.csp_base.specs.Events.{union_of};
-ghost use Rattle.csp_program.specs.Prelude.{given_by, proc_with, Net-F};
+ghost use Rattle.csp_program.specs.Prelude.{given_by, proc_with};
+ghost use Rattle.csp_program.specs.declared.networks.Net.TheOpen.{Net-F};
 ghost use Rattle.network_trees.specs.NetworkOf.{next_component, tree_within};
 ghost use Rattle.network_layout.specs.declared.fault.Unlaid.TheVariants as unlaid;
 ghost use Rattle.network_layout.specs.Lays.{Lays, body_walked, names_of, node, one_operand, operand_walked, operands_each, two};

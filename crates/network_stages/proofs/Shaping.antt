@@ -1,6 +1,7 @@
 -- The parts of a network's components, linked, are its shape.
 use Rattle.std.proofs.Common.{◌≡◌, ℕ, zero, suc, ◌<◌, ◌≤◌, List, [], ◌∷◌, length, refl, sym, ap, subst, ◌∙◌, arith}
-use Rattle.csp_program.specs.Prelude.{Proc, Content}
+use Rattle.csp_program.specs.declared.processes.Proc.{Proc}
+use Rattle.csp_program.specs.declared.programs.Content.{Content}
 use Rattle.csp_tables.specs.Prelude.{HaveForm, Component, leaves, Part, TripleDisjoint, alphabets_of, part_at, IsLinked, Shape, ArePartsOf}
 use Rattle.net_sound.proofs.Parts.{one_part_each}
 use Rattle.network_layout.specs.Triple.{alphabets}

@@ -6,7 +6,8 @@ use Rattle.csp_tables.specs.Prelude.{Label, Component, ComponentStep, Tree, leav
 use Rattle.net_sound.proofs.ShapeOf.{shapes_are_busy}
 use Rattle.net_sound.proofs.Parts.{component_of, part_of}
 use Rattle.process_steps.specs.ComponentStep.{ProcessStep}
-use Rattle.csp_base.specs.Prelude.{Tells, Stop}
+use Rattle.csp_base.specs.Prelude.{Tells}
+use Rattle.csp_base.specs.declared.stop.Stop.{Stop}
 use Rattle.report.specs.declared.answer.Shortfall.{Shortfall}
 use Rattle.csp_base.specs.declared.stop.Stop.TheVariants as stop
 use Rattle.network_stages.specs.Prelude.{HasEmpty, IsBusyPart, PartCanStop, StopsFirst, StopsFirstIn, Network, CanStop, StaysBusy}

@@ -5,7 +5,9 @@ ghost use Rattle.dl_limits.specs.declared.TheConstants.{MOST_COMPONENTS};
 ghost use Rattle.local_tables.specs.Component.{AreTermsOf};
 ghost use Rattle.net_sound.specs.Heights.{AreSilentHeights};
 ghost use Rattle.csp_base.specs.Stops.{Tells};
-ghost use Rattle.network_stages.specs.Prelude.{HaveNoTables, TellsHere, TellsRound, at_component, AreTablesOf, IsTableWithin, room_after, whole_room};
+ghost use Rattle.network_stages.specs.Faults.{TellsHere, TellsRound, at_component};
+ghost use Rattle.network_stages.specs.Stages.{HaveNoTables};
+ghost use Rattle.network_stages.specs.Tables.{AreTablesOf, IsTableWithin, room_after, whole_room};
 
 use csp_base::{NoMemory, Stop};
 use csp_program::Program;

@@ -4,7 +4,10 @@ ghost use Rattle.std.specs.Prelude.{◌≡◌, ◌≤◌, IfErr, IfOk, length};
 ghost use Rattle.dl_limits.specs.declared.TheConstants.{MOST_COMPONENTS};
 ghost use Rattle.csp_tables.specs.Prelude.{TripleDisjoint, alphabets_of, IsLinked};
 ghost use Rattle.csp_base.specs.Stops.{Tells};
-ghost use Rattle.network_stages.specs.Prelude.{IsSpelled, AreLinksBefore, IsVocabulary, IsApart, ShareEvent, shared_by};
+ghost use Rattle.network_stages.specs.Networks.{IsSpelled};
+ghost use Rattle.network_stages.specs.Rows.{AreLinksBefore, IsVocabulary};
+ghost use Rattle.network_stages.specs.Shapes.{IsApart};
+ghost use Rattle.network_stages.specs.Stages.{ShareEvent, shared_by};
 
 use crate::links::linked;
 use crate::parts::Parted;
@@ -38,7 +41,9 @@ impl<'a> Model for Shaped<'a> {
     ghost use Rattle.csp_program.specs.contracts.expressions.Expr as expression;
     ghost use Rattle.csp_program.specs.contracts.networks.Net as net;
     ghost use Rattle.csp_program.specs.contracts.processes.Proc as process;
-    ghost use Rattle.network_stages.specs.Prelude.{IsApart, tree_code, ShapedNetwork};
+    ghost use Rattle.network_stages.specs.Shapes.{IsApart};
+    ghost use Rattle.network_stages.specs.TreeCode.{tree_code};
+    ghost use Rattle.network_stages.specs.Views.{ShapedNetwork};
 
     ghost Value = { ShapedNetwork };
 

@@ -4,7 +4,8 @@ ghost use Rattle.std.specs.Prelude.{◌≡◌, ◌≤◌, IfErr, IfNone, IfOk, I
 ghost use Rattle.dl_limits.specs.declared.TheConstants.{MOST_COMPONENTS};
 ghost use Rattle.csp_tables.specs.Network.{leaves};
 ghost use Rattle.csp_base.specs.Stops.{Tells};
-ghost use Rattle.network_stages.specs.Prelude.{IsNetworkOf, IsSpelled, network_at, HasNoNetwork, SpellsNone};
+ghost use Rattle.network_stages.specs.Networks.{IsNetworkOf, IsSpelled, network_at};
+ghost use Rattle.network_stages.specs.Stages.{HasNoNetwork, SpellsNone};
 ghost use Rattle.script_sizes.specs.Size.{AreSmall};
 
 use containers::{Boxed, Key};
@@ -38,7 +39,8 @@ impl Model for Spelled {
     ghost use Rattle.csp_program.specs.contracts.expressions.Expr as expression;
     ghost use Rattle.csp_program.specs.contracts.networks.Net as network;
     ghost use Rattle.csp_program.specs.contracts.processes.Proc as process;
-    ghost use Rattle.network_stages.specs.Prelude.{AreSeatsOf, Network, network_at, tree_code};
+    ghost use Rattle.network_stages.specs.Networks.{AreSeatsOf, Network, network_at};
+    ghost use Rattle.network_stages.specs.TreeCode.{tree_code};
 
     ghost Value = { Network };
 

@@ -2,7 +2,9 @@
 
 ghost use Rattle.std.specs.Prelude.{◌≡◌, ◌≤◌, ◌+◌, IfErr, IfOk, length};
 ghost use Rattle.dl_limits.specs.declared.TheConstants.{MOST_COMPONENTS};
-ghost use Rattle.network_stages.specs.Prelude.{AreTablesOf, HasSilentBound, HasNoTables, HasTables, HaveNoTables};
+ghost use Rattle.network_stages.specs.Networks.{HasSilentBound};
+ghost use Rattle.network_stages.specs.Stages.{HasNoTables, HasTables, HaveNoTables};
+ghost use Rattle.network_stages.specs.Tables.{AreTablesOf};
 ghost use Rattle.csp_base.specs.Stops.{Tells};
 
 use crate::bound::silent_bound;
@@ -36,7 +38,9 @@ impl<'a> Model for Tabled<'a> {
     ghost use Rattle.csp_program.specs.contracts.expressions.Expr as expression;
     ghost use Rattle.csp_program.specs.contracts.networks.Net as net;
     ghost use Rattle.csp_program.specs.contracts.processes.Proc as process;
-    ghost use Rattle.network_stages.specs.Prelude.{HasTables, tree_code, TabledNetwork};
+    ghost use Rattle.network_stages.specs.Stages.{HasTables};
+    ghost use Rattle.network_stages.specs.TreeCode.{tree_code};
+    ghost use Rattle.network_stages.specs.Views.{TabledNetwork};
 
     ghost Value = { TabledNetwork };
 

@@ -4,7 +4,8 @@ use Rattle.std.proofs.Common.{◌≡◌, ◌↔◌, ◌<◌, ℕ, Bool, List, []
 use Rattle.std.proofs.lemmas.Option.{same_Some, slice_get_within}
 use Rattle.csp_tables.specs.Prelude.{Label, silent, visible, Component, ComponentStep, Tree, leaves, RawStep, WellNested}
 use Rattle.net_sound.proofs.Flattening.{back, forth, kept}
-use Rattle.numbered_walks.specs.Prelude.{Numbered, first_terms, IsWalkOf, Move}
+use Rattle.numbered_walks.specs.Prelude.{Numbered, first_terms, IsWalkOf}
+use Rattle.numbered_walks.specs.declared.moves.Move.{Move}
 use Rattle.numbered_walks.specs.Numbered.{Goes as GoesByNumber, Has as HasByNumber, Takes as TakesByNumber}
 use Rattle.numbered_walks.specs.declared.moves.Move.TheVariants as move
 use Rattle.network_walks.specs.Moves.{Goes, Has, Takes}

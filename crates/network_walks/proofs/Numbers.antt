@@ -4,7 +4,8 @@ use Rattle.std.proofs.lemmas.Bool.{MatchBool-at_true, cases_Bool}
 use Rattle.csp_base.specs.Members.{has}
 use Rattle.csp_tables.specs.Prelude.{visible, RawStep}
 use Rattle.net_sound.proofs.FlatLists.{match_false, match_true}
-use Rattle.numbered_walks.specs.Prelude.{AllCan, AllDo, Can, Has, Numbered, Takes, Move}
+use Rattle.numbered_walks.specs.Prelude.{AllCan, AllDo, Can, Has, Numbered, Takes}
+use Rattle.numbered_walks.specs.declared.moves.Move.{Move}
 use Rattle.numbered_walks.specs.declared.moves.Move.TheVariants as move
 
 -- one component does the event that it can do, or stays

@@ -4,7 +4,8 @@ use Rattle.csp_base.proofs.Standard.{MatchBool-at_false, MatchBool-at_true, case
 use Rattle.csp_base.proofs.Booleans.{same_tests}
 use Rattle.csp_base.specs.Lists.{StandsIn}
 use Rattle.csp_tables.specs.Prelude.{Label, Component, NetworkStep, Tree, leaves}
-use Rattle.numbered_walks.specs.Prelude.{IsDrawn, label, takes_part, first_draw, next_number, place_among, AreOptions, IsBefore, Chooses, HasNone, IsWalk, IsWalkOf, Move}
+use Rattle.numbered_walks.specs.Prelude.{IsDrawn, label, takes_part, first_draw, next_number, place_among, AreOptions, IsBefore, Chooses, HasNone, IsWalk, IsWalkOf}
+use Rattle.numbered_walks.specs.declared.moves.Move.{Move}
 use Rattle.numbered_walks.specs.declared.moves.Move.TheVariants as move
 use Rattle.network_walks.specs.Draws.{AreDrawn, DrawsTarget}
 use Rattle.network_walks.specs.Laws.{AreOneWalk, TheWalkIsOne}

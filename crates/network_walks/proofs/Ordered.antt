@@ -5,7 +5,8 @@ use Rattle.csp_base.specs.Members.{has}
 use Rattle.csp_tables.specs.Prelude.{Label, Component, targets_in}
 use Rattle.local_tables.specs.Component.{IsInside}
 use Rattle.net_sound.proofs.FlatLists.{match_false, match_true}
-use Rattle.numbered_walks.specs.Prelude.{IsDrawn, label, takes_part, AllDraw, next_number, place_among, Move}
+use Rattle.numbered_walks.specs.Prelude.{IsDrawn, label, takes_part, AllDraw, next_number, place_among}
+use Rattle.numbered_walks.specs.declared.moves.Move.{Move}
 use Rattle.numbered_walks.specs.declared.moves.Move.TheVariants as move
 use Rattle.network_walks.specs.Draws.{AreDrawn, DrawsTarget}
 use Rattle.network_walks.proofs.Rows.{Row, Stand, numbered_rows}

@@ -3,7 +3,8 @@ use Rattle.std.proofs.Common.{◌≡◌, ℕ, zero, suc, inl, inr, List, [], ◌
 use Rattle.std.proofs.lemmas.Option.{none-some, same_Some}
 use Rattle.csp_tables.specs.Prelude.{OneMoves, Label, silent, visible, Component, ComponentStep, NetworkStep, Tree, leaves, Path, WellNested}
 use Rattle.net_sound.proofs.Flattening.{forth, kept}
-use Rattle.numbered_walks.specs.Prelude.{label, first_draw, next_number, Move}
+use Rattle.numbered_walks.specs.Prelude.{label, first_draw, next_number}
+use Rattle.numbered_walks.specs.declared.moves.Move.{Move}
 use Rattle.numbered_walks.specs.declared.moves.Move.TheVariants as move
 use Rattle.network_walks.specs.Laws.{NoMoveMeansStuck, StuckIsNotLive, StuckWalksRefuteLive, WalksAreRuns}
 use Rattle.network_walks.specs.Moves.{Takes}

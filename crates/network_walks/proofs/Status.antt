@@ -5,7 +5,9 @@ use Rattle.csp_steps.specs.Order.{AreTargets}
 use Rattle.network_stages.specs.Prelude.{Network, HasNoTables}
 use Rattle.process_steps.specs.ComponentStep.{ProcessStep}
 use Rattle.report.proofs.Points.{refused_or}
-use Rattle.report.specs.Prelude.{passed, told, Refusal, Verdict}
+use Rattle.report.specs.Prelude.{passed, told}
+use Rattle.report.specs.declared.answer.Refusal.{Refusal}
+use Rattle.report.specs.declared.answer.Verdict.{Verdict}
 use Rattle.report.specs.declared.answer.Side.TheVariants as side
 use Rattle.report.specs.declared.answer.Verdict.TheVariants as verdict
 use Rattle.network_walks.specs.Walked.{IsWalked, TellsWalk, walk_verdict}

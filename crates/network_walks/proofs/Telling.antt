@@ -3,14 +3,16 @@ use Rattle.std.proofs.Common.{◌≡◌, ℕ, Bool, List, Result, Ok, Err, sym, 
 use Rattle.csp_program.specs.declared.processes.Proc.{Proc}
 use Rattle.csp_steps.specs.Order.{AreTargets}
 use Rattle.csp_tables.specs.Network.{Component, leaves}
-use Rattle.network_stages.specs.Prelude.{IsSpelled, Network, HasTables, whole_room, ComponentTable}
+use Rattle.network_stages.specs.Prelude.{IsSpelled, Network, HasTables, whole_room}
+use Rattle.network_stages.specs.declared.component_tables.ComponentTable.{ComponentTable}
 use Rattle.network_trees.proofs.InOrder.{network_is_tree}
-use Rattle.numbered_walks.specs.Prelude.{Goes, Has, Numbered, first_terms, IsWalkOf, Move}
+use Rattle.numbered_walks.specs.Prelude.{Goes, Has, Numbered, first_terms, IsWalkOf}
+use Rattle.numbered_walks.specs.declared.moves.Move.{Move}
 use Rattle.process_steps.specs.ComponentStep.{ProcessStep}
 use Rattle.network_walks.specs.Tabled.{numbered}
-use Rattle.report.specs.Prelude.{Answers, Done, Verdict}
-use Rattle.csp_base.specs.declared.stop.Stop.{Stop}
-use Rattle.csp_base.specs.declared.stop.Stop.TheVariants as stop
+use Rattle.report.specs.Prelude.{Answers, Halt}
+use Rattle.report.specs.declared.answer.Done.{Done}
+use Rattle.report.specs.declared.stop.Halt.TheVariants as halt
 use Rattle.network_walks.specs.Walked.{IsNetworkWalk, TellsWalk, walk_verdict}
 use Rattle.network_walks.proofs.Carried.{carried, stand_first}
 use Rattle.network_walks.proofs.Made.{rows_are_numbered, rows_have_components, rows_in_order, rows_of}
@@ -33,8 +35,8 @@ network_walk network tables ns seed steps moves is_stuck spelled are made walk =
     carried Step (AreTargets p) rows (rows_in_order p whole_room cs tables are) seed steps (first_terms (numbered_rows Step rows)) network.tree moves is_stuck
     (record { nested = (network_is_tree p network.tree spelled).0.nesting; stand = first }) by
 
-pub tells_walk : (network : Network) (seed steps : ℕ) (moves : List Move) (is_stuck : Bool) (r : Result Done (Stop Verdict)) → IsNetworkWalk network seed steps moves is_stuck
+pub tells_walk : (network : Network) (seed steps : ℕ) (moves : List Move) (is_stuck : Bool) (r : Result Done Halt) → IsNetworkWalk network seed steps moves is_stuck
     → Answers (λ v. v ≡ walk_verdict is_stuck moves) r → Answers (TellsWalk network seed steps) r
 tells_walk network seed steps moves is_stuck (Ok what) walk is = record { moves = moves; is_stuck = is_stuck; walk = walk; is = is }
-tells_walk network seed steps moves is_stuck (Err stop.NoMemory) walk is = tt
-tells_walk network seed steps moves is_stuck (Err (stop.Told v)) walk is = record { moves = moves; is_stuck = is_stuck; walk = walk; is = is }
+tells_walk network seed steps moves is_stuck (Err halt.NoMemory) walk is = tt
+tells_walk network seed steps moves is_stuck (Err (halt.Told v)) walk is = record { moves = moves; is_stuck = is_stuck; walk = walk; is = is }

@@ -6,10 +6,10 @@ ghost use Rattle.network_walks.specs.Walked.{IsNetworkWalk, IsWalked, walk_verdi
 
 use crate::movers::movers;
 use containers::Items;
-use csp_base::{NoMemory, Stop};
+use csp_base::NoMemory;
 use network_stages::{Spelled, Tabled, make_tables};
 use numbered_walks::{Walk, walk};
-use report::{Done, Verdict};
+use report::{Done, Halt, Verdict};
 use std::alloc::Global;
 use std::mem::replace;
 
@@ -29,24 +29,19 @@ fn walk_by_tables(
 }
 
 // What is told of a walk.
-fn told(alloc: Global, mut walk: Walk) -> Result<Done, Stop<Verdict>>
+fn told(alloc: Global, mut walk: Walk) -> Result<Done, Halt>
     ensures { Answers (λ v. v ≡ walk_verdict walk.is_stuck walk.moves.items) result }
 {
     let moves = Items::from_vec(replace(&mut walk.moves, Vec::new(alloc)));
     if walk.is_stuck {
-        Err(Stop::Told(Verdict::Stuck(moves)))
+        Err(Halt::Told(Verdict::Stuck(moves)))
     } else {
         Ok(Done::Walked { moves })
     }
 }
 
 /// The walk of a network with this seed and so many steps, or why it has none.
-pub fn walked(
-    alloc: Global,
-    network: &Spelled,
-    seed: u32,
-    steps: u32,
-) -> Result<Done, Stop<Verdict>>
+pub fn walked(alloc: Global, network: &Spelled, seed: u32, steps: u32) -> Result<Done, Halt>
     ensures { Answers (IsWalked network.now seed steps) result }
 {
     let tabled = make_tables(alloc, network)?;

@@ -3,7 +3,8 @@ use Rattle.std.proofs.Common.{◌≡◌, ◌↔◌, ℕ, zero, suc, ◌+◌, ◌
 use Rattle.csp_base.proofs.Standard.{none-some, same_Some, length-append, length-map}
 use Rattle.containers.proofs.MembersLemmas.{slice_get-append_left}
 use Rattle.numbered_walks.proofs.Places.{as_many, marked_is, place_of_mark, places_rise}
-use Rattle.numbered_walks.specs.Prelude.{mark_count, marked, AreOptions, IsBefore, options, HasNone, Move}
+use Rattle.numbered_walks.specs.Prelude.{mark_count, marked, AreOptions, IsBefore, options, HasNone}
+use Rattle.numbered_walks.specs.declared.moves.Move.{Move}
 use Rattle.csp_base.specs.Lists.{StandsIn}
 use Rattle.numbered_walks.specs.declared.moves.Move.TheVariants as move
 

@@ -5,7 +5,8 @@ use Rattle.csp_base.proofs.Standard.{cases_Bool, cases_eq, eq-eqb, eqb-true, fal
 use Rattle.acceptances.proofs.Terms.{offers_by_test, unstable_by_step}
 use Rattle.acceptances.specs.OfferTests.{can_do, is_unstable}
 use Rattle.numbered_walks.proofs.Places.{marked_is, place_of_mark, places_rise, mark_within}
-use Rattle.numbered_walks.specs.Prelude.{marked, places_from, AreOwnerRows, IsAgreement, IsStanding, bit, component_at, is_agreed, offer_count, owner_count, owner_marks, AllCan, AllDo, AllDraw, Can, Goes, Has, Numbered, OneCan, OwnsItsSteps, first_terms, has_owner, AllGo, Does, Standing}
+use Rattle.numbered_walks.specs.Prelude.{marked, places_from, AreOwnerRows, IsAgreement, IsStanding, bit, component_at, is_agreed, offer_count, owner_count, owner_marks, AllCan, AllDo, AllDraw, Can, Goes, Has, Numbered, OneCan, OwnsItsSteps, first_terms, has_owner, AllGo, Does}
+use Rattle.numbered_walks.specs.declared.standing.Standing.{Standing}
 use Rattle.csp_base.proofs.Booleans.{same_tests, or_unless}
 use Rattle.csp_base.specs.Members.{has}
 use Rattle.csp_tables.proofs.Listed.{passing}

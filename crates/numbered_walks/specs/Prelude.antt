@@ -9,5 +9,3 @@ pub use Rattle.numbered_walks.specs.Options.{AreOptions, IsBefore}
 pub use Rattle.numbered_walks.specs.Rows.{AreSilentRows, AreStepRows, targets}
 pub use Rattle.numbered_walks.specs.Steps.{AllGo, Does, IsAtEnd, IsStep, number_after, options}
 pub use Rattle.numbered_walks.specs.Walks.{Chooses, HasNone, IsWalk, IsWalkOf}
-pub use Rattle.numbered_walks.specs.declared.moves.Move.{Move}
-pub use Rattle.numbered_walks.specs.declared.standing.Standing.{Standing}

@@ -1,7 +1,8 @@
 //! Marks with counts.
 
 ghost use Rattle.std.specs.Prelude.{◌≡◌, ◌+◌, ◌*◌, ◌<◌, ◌^◌, Bool, Some, false, length, replicate, slice_get, slice_set, take, IfOk};
-ghost use Rattle.numbered_walks.specs.Prelude.{AreBlockCounts, mark_count, marked};
+ghost use Rattle.numbered_walks.specs.Blocks.{AreBlockCounts};
+ghost use Rattle.numbered_walks.specs.Marks.{mark_count, marked};
 
 use std::alloc::{AllocError, Global};
 use std::marker::Model;
@@ -29,7 +30,8 @@ impl Drop for CountedMarks {
 
 impl Model for CountedMarks {
     ghost use Rattle.std.specs.Prelude.{◌≡◌, Bool, List};
-    ghost use Rattle.numbered_walks.specs.Prelude.{AreBlockCounts, mark_count};
+    ghost use Rattle.numbered_walks.specs.Blocks.{AreBlockCounts};
+    ghost use Rattle.numbered_walks.specs.Marks.{mark_count};
 
     ghost Value = { List Bool };
 

@@ -4,7 +4,9 @@ ghost use Rattle.std.specs.Prelude.{◌≡◌, ◌<◌, ℕ, IfOk};
 ghost use Rattle.acceptances.specs.OfferTests.{can_do, is_unstable};
 ghost use Rattle.csp_base.specs.Members.{has};
 ghost use Rattle.csp_tables.specs.Prelude.{silent, visible, HasRawForm, RawStep, targets_in};
-ghost use Rattle.numbered_walks.specs.Prelude.{IsDrawn, Can, OwnsItsSteps, targets};
+ghost use Rattle.numbered_walks.specs.Draws.{IsDrawn};
+ghost use Rattle.numbered_walks.specs.Numbered.{Can, OwnsItsSteps};
+ghost use Rattle.numbered_walks.specs.Rows.{targets};
 
 use crate::draws::{Drawn, drawn_by, drawn_silently};
 use crate::rows::{offer_sets, silent_rows, step_rows, steps_by};
@@ -39,7 +41,8 @@ impl<'a> Drop for Mover<'a> {
 impl<'a> Model for Mover<'a> {
     ghost use Rattle.csp_tables.specs.RawForm.{HasRawForm};
     ghost use Rattle.acceptances.specs.OfferTests.{AreOffers};
-    ghost use Rattle.numbered_walks.specs.Prelude.{AreSilentRows, AreStepRows, Numbered, OwnsItsSteps};
+    ghost use Rattle.numbered_walks.specs.Numbered.{Numbered, OwnsItsSteps};
+    ghost use Rattle.numbered_walks.specs.Rows.{AreSilentRows, AreStepRows};
 
     ghost Value = { Numbered };
 

@@ -1,11 +1,15 @@
 //! Where the components stand, and what they can do there.
 
 ghost use Rattle.std.specs.Prelude.{◌≡◌, ◌+◌, ◌≤◌, ◌<◌, ◌^◌, ◌↔◌, ℕ, false, IfNone, IfOk, IfSome, IsTrue, OnOk, Some, length, slice_get, slice_index, slice_index_or, slice_set};
-ghost use Rattle.acceptances.specs.OfferTests.{is_unstable};
-ghost use Rattle.numbered_walks.specs.Prelude.{mark_count, marked, AreOwnerRows, IsAgreement, IsStanding, bit, component_at, offer_count, owner_count, owner_marks, AllCan, AllDo, Can, Goes, Has, OwnsItsSteps, first_terms, place_among, AllGo, Does, options, Chooses, HasNone};
+ghost use Rattle.acceptances.specs.OfferTests.{is_unstable, can_do};
+ghost use Rattle.numbered_walks.specs.Agreements.{AreOwnerRows, IsAgreement, IsStanding, bit, component_at, offer_count, owner_count, owner_marks};
+ghost use Rattle.numbered_walks.specs.Marks.{mark_count, marked};
+ghost use Rattle.numbered_walks.specs.Numbered.{AllCan, AllDo, Can, Goes, Has, OwnsItsSteps, first_terms};
+ghost use Rattle.numbered_walks.specs.Numbers.{place_among};
+ghost use Rattle.numbered_walks.specs.Steps.{AllGo, Does, options};
+ghost use Rattle.numbered_walks.specs.Walks.{Chooses, HasNone};
 ghost use Rattle.csp_tables.specs.Label.Label.{silent, visible};
 ghost use Rattle.dl_limits.specs.declared.TheConstants.{MOST_COMPONENTS};
-ghost use Rattle.acceptances.specs.OfferTests.{can_do};
 
 use crate::agreement::{Agreement, agreed_events, exchange, no_offers, offer_all};
 use crate::draws::Drawn;

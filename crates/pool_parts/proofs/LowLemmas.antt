@@ -2,7 +2,9 @@
 use Rattle.std.proofs.Common.{◌≡◌, ◌⊎◌, inl, inr, ℕ, ◌+◌, ◌<◌, ◌≤◌, min, Bool, true, false, ◌||◌, ◌&&◌, not, nat_eq, List, [], ◌∷◌, length, map, drop, get_or, Some, None, refl, ap, sym, ◌∙◌, subst, arith, drop_of_length-le}
 use Rattle.std.proofs.lemmas.Bool.{false≢true, eqb-true}
 use Rattle.csp_base.proofs.Lists.{drop_read}
-use Rattle.csp_program.specs.Prelude.{Names, Binding, any_of, before, either, expr_free, gen_binding, nowhere, under, Gen, Field, Given}
+use Rattle.csp_program.specs.Prelude.{Names, Binding, any_of, before, either, expr_free, gen_binding, nowhere, under, Given}
+use Rattle.csp_program.specs.declared.expressions.Gen.{Gen}
+use Rattle.csp_program.specs.declared.processes.Field.{Field}
 use Rattle.csp_program.specs.declared.processes.Field.TheVariants as field
 use Rattle.pool_parts.specs.Low.{IsLow}
 use Rattle.substitution.specs.Laws.{GetNone}

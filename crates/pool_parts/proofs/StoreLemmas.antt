@@ -5,7 +5,8 @@ use Rattle.csp_base.specs.Standard.{IsDistinct, AllByRecursion, is_member}
 use Rattle.std.specs.Prelude.{is_some, IfSome, MatchOption, Result, Ok, Err, OnOk, OnErr}
 use Rattle.containers.proofs.MembersLemmas.{slice_get-append_left}
 use Rattle.containers.specs.Members.{with_new}
-use Rattle.pool_parts.specs.Prelude.{AreNoted, IsAbsent, IsMeasure, IsStart, Measure}
+use Rattle.pool_parts.specs.Prelude.{AreNoted, IsAbsent, IsMeasure, IsStart}
+use Rattle.pool_parts.specs.declared.measure.Measure.{Measure}
 use Rattle.csp_program.specs.Free.{Names}
 use Rattle.csp_base.specs.Lists.{EachOnce}
 

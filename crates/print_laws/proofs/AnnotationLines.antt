@@ -5,7 +5,8 @@ use Rattle.std.specs.Prelude.{Some, None, cond, nat_eq, nat_lt, not}
 use Rattle.std.specs.List.{filter, list_all, onto_first, prefix_len, slice_split}
 use Rattle.csp_base.specs.declared.place.Place.{Place}
 use Rattle.csp_text.specs.declared.token.Token.TheVariants as token
-use Rattle.csp_text.specs.Prelude.{ResourceNames, RolesNames}
+use Rattle.csp_text.specs.declared.token.ResourceNames.{ResourceNames}
+use Rattle.csp_text.specs.declared.token.RolesNames.{RolesNames}
 use Rattle.csp_lexer.specs.Prelude.{is_space, line_comment, line_piece, marked_piece, resource, roles, words_of, line_len, front, one, one_before, is_foreign, is_name, reserved_word, word_len, word_rest_len}
 use Rattle.script_printer.specs.TokenText.{spaced_names, token_text}
 use Rattle.print_laws.specs.Fits.{AreResource, AreRoles, IsName}

@@ -1,10 +1,20 @@
 -- Texts of printed forms, from those of their parts: a form is an atom, a dotted event or compound, and may open a bracket of its own. The brackets that a printed tree opens are at most two a level: an operand or an item of depth d
 -- is a text where 2 * d brackets may be opened, and a bare tree where one fewer may be.
 use Rattle.std.proofs.Common.{◌≡◌, ℕ, zero, suc, ◌+◌, ◌*◌, ◌<◌, ◌≤◌, List, [], ◌∷◌, ◌++◌, ap, sym, refl, ◌∙◌, subst, append_assoc, arith}
-use Rattle.csp_text.specs.Prelude.{tree_depth, Token, OpenParen, CloseParen, Comma, Tree-F, roll-Tree, FieldTree, GenTree, EventTree, PartTree, Tree, set_op_word}
+use Rattle.csp_text.specs.Prelude.{tree_depth, set_op_word}
+use Rattle.csp_text.specs.declared.token.Symbol.TheVariants.{OpenParen, CloseParen, Comma}
+use Rattle.csp_text.specs.declared.token.Token.{Token}
+use Rattle.csp_text.specs.declared.tree.EventTree.{EventTree}
+use Rattle.csp_text.specs.declared.tree.FieldTree.{FieldTree}
+use Rattle.csp_text.specs.declared.tree.FieldTree.TheOpen.{Tree-F}
+use Rattle.csp_text.specs.declared.tree.FieldTree.TheViews.{roll-Tree}
+use Rattle.csp_text.specs.declared.tree.GenTree.{GenTree}
+use Rattle.csp_text.specs.declared.tree.PartTree.{PartTree}
+use Rattle.csp_text.specs.declared.tree.Tree.{Tree}
 use Rattle.csp_text.specs.declared.token.Token.TheVariants.{Symbol}
 use Rattle.csp_text.specs.declared.tree.Tree.TheVariants as tree
-use Rattle.csp_base.specs.Prelude.{BinOp, SetOp}
+use Rattle.csp_base.specs.declared.operators.BinOp.{BinOp}
+use Rattle.csp_base.specs.declared.operators.SetOp.{SetOp}
 use Rattle.csp_base.specs.declared.operators.BinOp.TheVariants as op
 use Rattle.csp_base.specs.declared.operators.SetOp.TheVariants as set_op
 use Rattle.csp_grammar.specs.Prelude.{TreeText, PrefixText, SequenceText, OpenText, DottedText, ExpressionText, ItemText, AtomText, closed, disjunction-conjunction, conjunction-negation, sum-product, product-minus, disjunction, conjunction, negation, comparison, sum, product, minus}

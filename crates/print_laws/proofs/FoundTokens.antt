@@ -4,7 +4,9 @@ use Rattle.csp_base.proofs.Standard.{cond-true, cond-false, false≢true, length
 use Rattle.std.specs.Prelude.{Option, Some, None, cond, find, nat_eq, nat_le, nat_lt, not, is_none, if◌then◌else◌}
 use Rattle.csp_base.specs.Standard.{list_all, prefix_len, starts_with, bytes_eq}
 use Rattle.csp_base.proofs.Booleans.{and_first, and_second}
-use Rattle.csp_text.specs.Prelude.{Token, Symbol, symbol_text, symbols, word_text, words}
+use Rattle.csp_text.specs.Prelude.{symbol_text, symbols, word_text, words}
+use Rattle.csp_text.specs.declared.token.Symbol.{Symbol}
+use Rattle.csp_text.specs.declared.token.Token.{Token}
 use Rattle.csp_text.specs.declared.token.Word.{Word}
 use Rattle.csp_text.specs.declared.token.Token.TheVariants as token
 use Rattle.csp_text.specs.declared.token.Word.TheVariants as word

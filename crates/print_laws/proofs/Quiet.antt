@@ -3,7 +3,9 @@ use Rattle.std.proofs.Common.{◌≡◌, ℕ, suc, ◌+◌, ◌≤◌, Bool, tru
 use Rattle.std.proofs.lemmas.Bool.{cond-true, cond-false, and_left}
 use Rattle.std.specs.Prelude.{decimal, nat_eq, not, cond}
 use Rattle.std.specs.List.{list_all, prefix_len}
-use Rattle.csp_text.specs.Prelude.{Token, Symbol, symbol_text, word_text}
+use Rattle.csp_text.specs.Prelude.{symbol_text, word_text}
+use Rattle.csp_text.specs.declared.token.Symbol.{Symbol}
+use Rattle.csp_text.specs.declared.token.Token.{Token}
 use Rattle.csp_text.specs.declared.token.Word.{Word}
 use Rattle.csp_text.specs.declared.token.Token.TheVariants as token
 use Rattle.csp_text.specs.declared.token.Word.TheVariants as word

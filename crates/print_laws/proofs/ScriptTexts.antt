@@ -2,8 +2,13 @@
 use Rattle.std.proofs.Common.{◌≡◌, ℕ, ◌+◌, ◌-◌, ◌*◌, ◌≤◌, List, [], ◌∷◌, ◌++◌, map, sym, subst, append_assoc, arith}
 use Rattle.std.specs.Prelude.{flat_map}
 use Rattle.csp_base.specs.Lists.{greatest}
-use Rattle.csp_text.specs.Prelude.{tree_depth, Token, Name, Word, Assert, Channel, Colon, Dot, Defines, Comma, OpenParen, CloseParen, Tree, Decl}
-use Rattle.csp_text.specs.declared.token.Token.TheVariants.{Symbol}
+use Rattle.csp_text.specs.Prelude.{tree_depth}
+use Rattle.csp_text.specs.declared.script.Decl.{Decl}
+use Rattle.csp_text.specs.declared.token.Symbol.TheVariants.{Colon, Dot, Defines, Comma, OpenParen, CloseParen}
+use Rattle.csp_text.specs.declared.token.Token.{Token}
+use Rattle.csp_text.specs.declared.token.Token.TheVariants.{Name, Word, Symbol}
+use Rattle.csp_text.specs.declared.token.Word.TheVariants.{Assert, Channel}
+use Rattle.csp_text.specs.declared.tree.Tree.{Tree}
 use Rattle.csp_text.specs.declared.token.Symbol as symbols
 use Rattle.csp_text.specs.declared.tree.Tree.TheVariants as tree
 use Rattle.csp_text.specs.declared.script.Decl.TheVariants as decl

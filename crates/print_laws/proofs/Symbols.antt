@@ -4,7 +4,8 @@ use Rattle.std.proofs.lemmas.Bool.{false≢true}
 use Rattle.std.specs.Prelude.{Some}
 use Rattle.csp_base.specs.declared.place.Place.{Place}
 use Rattle.csp_text.specs.declared.token.Token.TheVariants as token
-use Rattle.csp_text.specs.Prelude.{Symbol, symbol_text}
+use Rattle.csp_text.specs.Prelude.{symbol_text}
+use Rattle.csp_text.specs.declared.token.Symbol.{Symbol}
 use Rattle.csp_text.specs.declared.token.Symbol.TheVariants as symbol
 use Rattle.csp_lexer.specs.Prelude.{line_front, front, begins_assertion, one, longest_symbol, symbol_at, digits_len, token_at, word_len}
 use Rattle.print_laws.specs.Fits.{is_single}

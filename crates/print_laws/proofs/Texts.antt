@@ -1,8 +1,14 @@
 -- Each tree that the grammar has is spelled by its printed tokens.
 use Rattle.std.proofs.Common.{ℕ, suc, ◌*◌, ◌≤◌, ◌<◌, Bool, true, Some, None, List, [], ◌∷◌, ◌++◌, length, map, refl, sym, ◌∙◌, subst, arith}
 use Rattle.std.specs.Prelude.{flat_map}
-use Rattle.csp_text.specs.Prelude.{field_depth, gen_depth, part_depth, tree_depth, Token, Name, ExternalChoice, InternalChoice, Comma, Tree, PartTree, FieldTree, GenTree}
-use Rattle.csp_text.specs.declared.token.Token.TheVariants.{Symbol}
+use Rattle.csp_text.specs.Prelude.{field_depth, gen_depth, part_depth, tree_depth}
+use Rattle.csp_text.specs.declared.token.Symbol.TheVariants.{ExternalChoice, InternalChoice, Comma}
+use Rattle.csp_text.specs.declared.token.Token.{Token}
+use Rattle.csp_text.specs.declared.token.Token.TheVariants.{Name, Symbol}
+use Rattle.csp_text.specs.declared.tree.FieldTree.{FieldTree}
+use Rattle.csp_text.specs.declared.tree.GenTree.{GenTree}
+use Rattle.csp_text.specs.declared.tree.PartTree.{PartTree}
+use Rattle.csp_text.specs.declared.tree.Tree.{Tree}
 use Rattle.csp_text.specs.declared.tree.Tree.TheVariants as tree
 use Rattle.csp_text.specs.declared.tree.FieldTree.TheVariants as field
 use Rattle.csp_text.specs.declared.tree.GenTree.TheVariants as generator

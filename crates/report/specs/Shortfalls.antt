@@ -2,7 +2,10 @@
 use Rattle.std.specs.Prelude.{ℕ, List, ◌++◌, codes}
 use Rattle.csp_base.specs.Standard.{flat_map, decimal}
 use Rattle.csp_program.specs.declared.programs.Content.{Content}
-use Rattle.design_rules.specs.Prelude.{Condition, Roles, Clients, Turns, Service, Answers, Kinds, Holders, Grants, Uses}
+use Rattle.design_rules.specs.declared.condition.Condition.{Condition}
+use Rattle.design_rules.specs.declared.condition.Condition.TheVariants.{Roles, Clients, Turns, Service, Answers, Kinds, Holders, Grants, Uses}
+use Rattle.design_rules.specs.declared.rule_fault.RuleFault.{RuleFault}
+use Rattle.design_rules.specs.declared.rule_fault.RuleFault.TheVariants as fault
 use Rattle.report.specs.EventText.{event_text}
 use Rattle.report.specs.Lines.{trace_text, numbers_text}
 use Rattle.report.specs.declared.answer.Shortfall.{Shortfall}
@@ -44,19 +47,22 @@ module _ (p : Content) where
   condition_text k i trace =
       condition_number k ++ codes " component " ++ decimal i ++ codes " breaks " ++ condition_name k ++ codes " after " ++ trace_text p trace
 
+  -- what breaks a rule
+  abbrev pub broken_rule_text : RuleFault → List ℕ
+  broken_rule_text (fault.NoOrder i trace e) = line (codes "23 component " ++ decimal i ++ codes " breaks C1 after " ++ trace_text p trace ++ codes " by " ++ event_text p e)
+  broken_rule_text (fault.LinksCircle links) = line (codes "24 links in a circle") ++ flat_map (λ link. line (link_text link)) links
+  broken_rule_text (fault.NoWholeEnd left right left_trace right_trace) =
+      line (codes "25 link " ++ decimal left ++ codes " " ++ decimal right ++ codes " has no full end")
+      ++ line (after_text left left_trace) ++ line (after_text right right_trace)
+  broken_rule_text (fault.Broken k i trace) = line (condition_text k i trace)
+  broken_rule_text (fault.ClientsCircle clients) = line (codes "27 clients in a circle" ++ numbers_text clients)
+  broken_rule_text (fault.ResourcesCircle resources) = line (codes "29 resources in a circle" ++ numbers_text resources)
+
   abbrev pub shortfall_text : Shortfall → List ℕ
   shortfall_text (shortfall.NotTripleDisjoint e parts) =
       line (codes "20 event " ++ event_text p e ++ codes " is in alphabets " ++ decimal parts.0 ++ codes " " ++ decimal parts.1 ++ codes " " ++ decimal parts.2)
   shortfall_text (shortfall.Stops i trace) = line (codes "21 component " ++ decimal i ++ codes " can stop after " ++ trace_text p trace)
-  shortfall_text (shortfall.BreaksOrder i trace e) =
-      line (codes "23 component " ++ decimal i ++ codes " breaks C1 after " ++ trace_text p trace ++ codes " by " ++ event_text p e)
-  shortfall_text (shortfall.LinksCircle links) = line (codes "24 links in a circle") ++ flat_map (λ link. line (link_text link)) links
-  shortfall_text (shortfall.NoFullEnd left right left_trace right_trace) =
-      line (codes "25 link " ++ decimal left ++ codes " " ++ decimal right ++ codes " has no full end")
-      ++ line (after_text left left_trace) ++ line (after_text right right_trace)
-  shortfall_text (shortfall.Broken k i trace) = line (condition_text k i trace)
-  shortfall_text (shortfall.ClientsCircle components) = line (codes "27 clients in a circle" ++ numbers_text components)
-  shortfall_text (shortfall.ResourcesCircle components) = line (codes "29 resources in a circle" ++ numbers_text components)
+  shortfall_text (shortfall.Breaks f) = broken_rule_text f
   shortfall_text (shortfall.Outside i trace) = line (codes "43 component " ++ decimal i ++ codes " does " ++ trace_text p trace ++ codes " outside its specification")
   shortfall_text (shortfall.Refuses i trace) = line (codes "44 component " ++ decimal i ++ codes " refuses too much after " ++ trace_text p trace)
   shortfall_text (shortfall.NoOrder components) = line (codes "39 no order for components" ++ numbers_text components)

@@ -4,7 +4,7 @@ use containers::{Boxed, Items};
 use csp_base::{Bytes, Event, Place, Trace};
 use csp_program::{Program, ValueKind};
 use csp_tables::{Part, Rule};
-use design_rules::Condition;
+use design_rules::RuleFault;
 use network_trees::LayoutFault;
 use numbered_walks::Move;
 use process_steps::ComponentFault;
@@ -140,50 +140,8 @@ pub enum Shortfall {
         /// Events after which it can.
         trace: Trace,
     },
-    /// A component does not go round its links (23).
-    BreaksOrder {
-        /// The component.
-        component: u32,
-        /// Events after which it breaks the order.
-        trace: Trace,
-        /// The event by which it does.
-        event: Event,
-    },
-    /// Links of which each must come before the next, and the last one before the first (24).
-    LinksCircle {
-        /// The two components of each link.
-        links: Items<(u32, u32)>,
-    },
-    /// No end of a link takes it whole whenever it is next (25).
-    NoFullEnd {
-        /// The left component.
-        left: u32,
-        /// The right component.
-        right: u32,
-        /// Events after which the left one doesn't.
-        left_trace: Trace,
-        /// Events after which the right one doesn't.
-        right_trace: Trace,
-    },
-    /// A condition of a rule is broken (26 clients and servers, 28 users and resources).
-    Broken {
-        /// The condition.
-        condition: Condition,
-        /// The component that breaks it.
-        component: u32,
-        /// Events after which it does.
-        trace: Trace,
-    },
-    /// Components of which each is a client of the next, and the last one of the first (27).
-    ClientsCircle {
-        /// The components.
-        components: Items<u32>,
-    },
-    /// Resources of which each is held somewhere while the next is wanted, and the last one while the first is (29).
-    ResourcesCircle {
-        /// The resources.
-        components: Items<u32>,
-    },
+    /// A rule is broken (23 to 29).
+    Breaks(RuleFault),
     /// A component does what its specification does not (43).
     Outside {
         /// The component.
@@ -217,29 +175,7 @@ impl Drop for Shortfall {
                 component: _component,
                 trace: _trace,
             } => {}
-            Shortfall::BreaksOrder {
-                component: _component,
-                trace: _trace,
-                event: _event,
-            } => {}
-            Shortfall::LinksCircle { links: _links } => {}
-            Shortfall::NoFullEnd {
-                left: _left,
-                right: _right,
-                left_trace: _left_trace,
-                right_trace: _right_trace,
-            } => {}
-            Shortfall::Broken {
-                condition: _condition,
-                component: _component,
-                trace: _trace,
-            } => {}
-            Shortfall::ClientsCircle {
-                components: _components,
-            } => {}
-            Shortfall::ResourcesCircle {
-                components: _components,
-            } => {}
+            Shortfall::Breaks(_fault) => {}
             Shortfall::Outside {
                 component: _component,
                 trace: _trace,

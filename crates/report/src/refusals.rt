@@ -3,7 +3,9 @@
 ghost use Rattle.std.specs.Prelude.{◌≡◌, ◌+◌, ◌++◌, IfOk, OnOk, codes};
 ghost use Rattle.std.specs.Fmt.{decimal};
 ghost use Rattle.csp_base.specs.Texts.{line};
-ghost use Rattle.report.specs.Prelude.{component_text, nesting_text, network_text, program_text, refusal_text, text_fault_text, value_text, refused_text, side_line};
+ghost use Rattle.report.specs.Refusals.{component_text, nesting_text, network_text, program_text, refusal_text, text_fault_text, value_text};
+ghost use Rattle.report.specs.Sides.{side_line};
+ghost use Rattle.report.specs.Report.{refused_text};
 
 use crate::answer::{Refusal, Side, Site, TextFault};
 use crate::lines::{Part, one_line, push_numbered, push_text};

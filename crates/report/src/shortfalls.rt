@@ -3,13 +3,13 @@
 ghost use Rattle.std.specs.Prelude.{◌≡◌, ◌++◌, OnOk, codes};
 ghost use Rattle.csp_base.specs.Standard.{flat_map, decimal};
 ghost use Rattle.csp_base.specs.Texts.{line};
-ghost use Rattle.report.specs.Shortfalls.{after_text, condition_name, condition_number, link_text, shortfall_text};
+ghost use Rattle.report.specs.Shortfalls.{after_text, broken_rule_text, condition_name, condition_number, link_text, shortfall_text};
 
 use crate::answer::Shortfall;
 use crate::lines::{Part, push_line};
 use csp_base::{Bytes, Event, NoMemory};
 use csp_program::Content;
-use design_rules::Condition;
+use design_rules::{Condition, RuleFault};
 
 // Adds the line of a link.
 fn push_link(report: &mut Bytes, link: &(u32, u32)) -> Result<(), NoMemory>
@@ -113,6 +113,70 @@ fn condition_name(condition: Condition) -> &'static [u8]
     }
 }
 
+// Adds the lines that tell what breaks a rule.
+fn push_broken_rule<'a>(
+    report: &mut Bytes,
+    content: &'a Content,
+    fault: &'a RuleFault,
+) -> Result<(), NoMemory>
+    ensures { OnOk result (report.new ≡ report.old ++ broken_rule_text content.now fault.now) }
+{
+    match fault {
+        RuleFault::NoOrder { part, trace, event } => push_line(
+            report,
+            &[
+                Part::Text(b"23 component "),
+                Part::Number(*part),
+                Part::Text(b" breaks C1 after "),
+                Part::Trace(content, trace.as_slice()),
+                Part::Text(b" by "),
+                Part::Event(content, *event),
+            ],
+        ),
+        RuleFault::LinksCircle { links } => push_circle(report, links.as_slice()),
+        RuleFault::NoWholeEnd {
+            left,
+            right,
+            left_trace,
+            right_trace,
+        } => {
+            push_open_link(report, *left, *right)?;
+            push_end(report, content, *left, left_trace.as_slice())?;
+            push_end(report, content, *right, right_trace.as_slice())
+        }
+        RuleFault::Broken {
+            condition,
+            part,
+            trace,
+        } => push_line(
+            report,
+            &[
+                Part::Text(condition_number(*condition)),
+                Part::Text(b" component "),
+                Part::Number(*part),
+                Part::Text(b" breaks "),
+                Part::Text(condition_name(*condition)),
+                Part::Text(b" after "),
+                Part::Trace(content, trace.as_slice()),
+            ],
+        ),
+        RuleFault::ClientsCircle { clients } => push_line(
+            report,
+            &[
+                Part::Text(b"27 clients in a circle"),
+                Part::Numbers(clients.as_slice()),
+            ],
+        ),
+        RuleFault::ResourcesCircle { resources } => push_line(
+            report,
+            &[
+                Part::Text(b"29 resources in a circle"),
+                Part::Numbers(resources.as_slice()),
+            ],
+        ),
+    }
+}
+
 // Adds the lines of a shortfall.
 pub(crate) fn push_shortfall<'a>(
     report: &mut Bytes,
@@ -144,62 +208,7 @@ pub(crate) fn push_shortfall<'a>(
                 Part::Trace(content, trace.as_slice()),
             ],
         ),
-        Shortfall::BreaksOrder {
-            component,
-            trace,
-            event,
-        } => push_line(
-            report,
-            &[
-                Part::Text(b"23 component "),
-                Part::Number(*component),
-                Part::Text(b" breaks C1 after "),
-                Part::Trace(content, trace.as_slice()),
-                Part::Text(b" by "),
-                Part::Event(content, *event),
-            ],
-        ),
-        Shortfall::LinksCircle { links } => push_circle(report, links.as_slice()),
-        Shortfall::NoFullEnd {
-            left,
-            right,
-            left_trace,
-            right_trace,
-        } => {
-            push_open_link(report, *left, *right)?;
-            push_end(report, content, *left, left_trace.as_slice())?;
-            push_end(report, content, *right, right_trace.as_slice())
-        }
-        Shortfall::Broken {
-            condition,
-            component,
-            trace,
-        } => push_line(
-            report,
-            &[
-                Part::Text(condition_number(*condition)),
-                Part::Text(b" component "),
-                Part::Number(*component),
-                Part::Text(b" breaks "),
-                Part::Text(condition_name(*condition)),
-                Part::Text(b" after "),
-                Part::Trace(content, trace.as_slice()),
-            ],
-        ),
-        Shortfall::ClientsCircle { components } => push_line(
-            report,
-            &[
-                Part::Text(b"27 clients in a circle"),
-                Part::Numbers(components.as_slice()),
-            ],
-        ),
-        Shortfall::ResourcesCircle { components } => push_line(
-            report,
-            &[
-                Part::Text(b"29 resources in a circle"),
-                Part::Numbers(components.as_slice()),
-            ],
-        ),
+        Shortfall::Breaks(fault) => push_broken_rule(report, content, fault),
         Shortfall::Outside { component, trace } => push_line(
             report,
             &[

@@ -1,4 +1,4 @@
-//! Why a step of a walk to an answer is not done.
+//! Why a walk to a verdict halts, and to what it comes.
 
 ghost use Rattle.std.specs.Prelude.{◌≡◌, IfOk};
 ghost use Rattle.report.specs.Stops.{IsEnd, IsVerdict, refused};
@@ -6,7 +6,27 @@ ghost use Rattle.report.specs.Stops.{IsEnd, IsVerdict, refused};
 use crate::answer::{Done, Refusal, Shortfall, Side, Verdict};
 use csp_base::{NoMemory, Stop};
 
-impl From<Stop<Refusal>> for Stop<Verdict> {
+/// Why a walk over networks halts before its end.
+#[derive(Drop)]
+pub enum Halt {
+    /// Memory ran out.
+    NoMemory,
+    /// It has come to this verdict.
+    Told(Verdict),
+}
+
+impl From<NoMemory> for Halt {
+    ghost use Rattle.std.specs.Prelude.{◌≡◌};
+    ghost use Rattle.report.specs.declared.stop.Halt.TheVariants as halt;
+
+    ghost from_gives = { λ _ h. h ≡ halt.NoMemory };
+
+    fn from(_error: NoMemory) -> Halt {
+        Halt::NoMemory
+    }
+}
+
+impl From<Stop<Refusal>> for Halt {
     ghost use Rattle.std.specs.Prelude.{◌≡◌};
     ghost use Rattle.report.specs.Stops.{refused};
     ghost use Rattle.report.specs.declared.answer.Side.TheVariants as side;
@@ -14,43 +34,43 @@ impl From<Stop<Refusal>> for Stop<Verdict> {
     // That of the script.
     ghost from_gives = { λ s t. t ≡ refused side.Script s };
 
-    fn from(stop: Stop<Refusal>) -> Stop<Verdict> {
+    fn from(stop: Stop<Refusal>) -> Halt {
         refused(Side::Script, stop)
     }
 }
 
-impl From<Stop<Shortfall>> for Stop<Verdict> {
+impl From<Stop<Shortfall>> for Halt {
     ghost use Rattle.std.specs.Prelude.{◌≡◌};
     ghost use Rattle.report.specs.Stops.{unproved};
 
     ghost from_gives = { λ s t. t ≡ unproved s };
 
-    fn from(stop: Stop<Shortfall>) -> Stop<Verdict> {
+    fn from(stop: Stop<Shortfall>) -> Halt {
         match stop {
-            Stop::NoMemory => Stop::NoMemory,
-            Stop::Told(shortfall) => Stop::Told(Verdict::NotProved(shortfall)),
+            Stop::NoMemory => Halt::NoMemory,
+            Stop::Told(shortfall) => Halt::Told(Verdict::NotProved(shortfall)),
         }
     }
 }
 
-/// Why a walk over networks stops where the program of this side is refused. A `?` tells the refusal of the script.
-pub fn refused(side: Side, stop: Stop<Refusal>) -> Stop<Verdict>
+/// Why a walk over networks halts where the program of this side is refused. A `?` tells the refusal of the script.
+pub fn refused(side: Side, stop: Stop<Refusal>) -> Halt
     ensures { result ≡ refused side stop }
 {
     match stop {
-        Stop::NoMemory => Stop::NoMemory,
-        Stop::Told(refusal) => Stop::Told(Verdict::Refused(side, refusal)),
+        Stop::NoMemory => Halt::NoMemory,
+        Stop::Told(refusal) => Halt::Told(Verdict::Refused(side, refusal)),
     }
 }
 
 /// The verdict to which a walk over networks comes, unless memory runs out.
-pub fn finished(walk: Result<Done, Stop<Verdict>>) -> Result<Verdict, NoMemory>
+pub fn finished(walk: Result<Done, Halt>) -> Result<Verdict, NoMemory>
     ensures { IfOk result (IsVerdict walk) }
 {
     match walk {
         Ok(done) => Ok(Verdict::Done(done)),
-        Err(Stop::Told(verdict)) => Ok(verdict),
-        Err(Stop::NoMemory) => Err(NoMemory),
+        Err(Halt::Told(verdict)) => Ok(verdict),
+        Err(Halt::NoMemory) => Err(NoMemory),
     }
 }
 

@@ -2,7 +2,8 @@
 
 ghost use Rattle.std.specs.Prelude.{◌≡◌, ◌++◌, IfOk, codes};
 ghost use Rattle.csp_base.specs.Texts.{line};
-ghost use Rattle.report.specs.Prelude.{conforms_text, deadlock_free_text, done_text, livelock_free_text, verdict_text, shortfall_text};
+ghost use Rattle.report.specs.Shortfalls.{shortfall_text};
+ghost use Rattle.report.specs.Report.{conforms_text, deadlock_free_text, done_text, livelock_free_text, verdict_text};
 
 use crate::answer::{Done, Shortfall, Verdict};
 use crate::lines::{Part, one_line, push_count, push_line};

@@ -5,14 +5,20 @@ use Rattle.csp_base.proofs.Standard.{false≢true, eqb-true, false_from_ne_true,
 use Rattle.csp_base.proofs.Booleans.{is_or_first, is_or_second}
 use Rattle.csp_base.specs.Prelude.{EachOnce, has}
 use Rattle.csp_program.proofs.Forms.{Every}
-use Rattle.csp_program.specs.Prelude.{body_bound, def_bound, exprs_bound, Names, IsClosed, any_of, expr_free, AllClosed, IsClosedBody, body_free, body_in_order, def_in_order, expr_in_order, is_component, is_datum, is_process, note_fits, param_count, resource_in_order, roles_in_order, set_fits, takes, all_true, body_uses, Expr, Body, Channel, Content, Def}
+use Rattle.csp_program.specs.Prelude.{body_bound, def_bound, exprs_bound, Names, IsClosed, any_of, expr_free, AllClosed, IsClosedBody, body_free, body_in_order, def_in_order, expr_in_order, is_component, is_datum, is_process, note_fits, param_count, resource_in_order, roles_in_order, set_fits, takes, all_true, body_uses}
+use Rattle.csp_program.specs.declared.expressions.Expr.{Expr}
+use Rattle.csp_program.specs.declared.programs.Body.{Body}
+use Rattle.csp_program.specs.declared.programs.Channel.{Channel}
+use Rattle.csp_program.specs.declared.programs.Content.{Content}
+use Rattle.csp_program.specs.declared.programs.Def.{Def}
 use Rattle.csp_program.specs.InOrder as order
 use Rattle.csp_atoms.specs.declared.atom.Atom.{Atom}
 use Rattle.csp_program.specs.declared.programs.Body.TheVariants as body
 use Rattle.csp_text.specs.declared.script.Decl.{Decl}
 use Rattle.script_names.specs.declared.kinds.Class.TheVariants as class
 use Rattle.script_names.specs.declared.kinds.Entity.TheVariants as entity
-use Rattle.script_names.specs.Prelude.{Kind, IsShallow, Declares, IsAnnotated, IsEventSet, channels_of_types, Counts, Meanings, Name, numbers_from, parameters}
+use Rattle.script_names.specs.Prelude.{IsShallow, Declares, IsAnnotated, IsEventSet, channels_of_types, Counts, Meanings, Name, numbers_from, parameters}
+use Rattle.script_names.specs.declared.kinds.Kind.{Kind}
 use Rattle.script_names.specs.Declaring as d
 use Rattle.resolved_laws.proofs.Booleans.{and, two}
 use Rattle.resolved_laws.proofs.Declared.{Fits}

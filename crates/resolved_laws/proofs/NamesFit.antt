@@ -3,14 +3,22 @@ use Rattle.std.proofs.Common.{◌≡◌, ℕ, zero, suc, ◌+◌, ◌<◌, Bool,
 use Rattle.std.specs.Prelude.{slice_get}
 use Rattle.std.specs.Map.{lookup}
 use Rattle.csp_base.proofs.Standard.{eq-eqb, lt-ltb, length-append}
-use Rattle.csp_program.specs.Prelude.{is_datum, is_process, is_set_name, takes, with_fields, Expr, Body, Channel, Content, Def}
+use Rattle.csp_program.specs.Prelude.{is_datum, is_process, is_set_name, takes, with_fields}
+use Rattle.csp_program.specs.declared.expressions.Expr.{Expr}
+use Rattle.csp_program.specs.declared.programs.Body.{Body}
+use Rattle.csp_program.specs.declared.programs.Channel.{Channel}
+use Rattle.csp_program.specs.declared.programs.Content.{Content}
+use Rattle.csp_program.specs.declared.programs.Def.{Def}
 use Rattle.csp_program.specs.InOrder as order
 use Rattle.csp_atoms.specs.declared.atom.Atom.{Atom}
 use Rattle.csp_program.specs.declared.programs.Body.TheVariants as body
-use Rattle.csp_text.specs.Prelude.{Decl, Tree}
+use Rattle.csp_text.specs.declared.script.Decl.{Decl}
+use Rattle.csp_text.specs.declared.tree.Tree.{Tree}
 use Rattle.csp_text.specs.declared.script.Decl.TheVariants as decl
 use Rattle.script_names.specs.declared.kinds.Class.TheVariants as class
-use Rattle.script_names.specs.Prelude.{Entity, Kind, Declares, channels_of_types, kind_class, kind_network, Counts, Entities, Meanings, Name, channels_from, constants_from, counted, declared_from, meanings_of, none_yet, same_name, numbers_from, AreExprs, IsData, IsNetwork, IsProcess}
+use Rattle.script_names.specs.Prelude.{Declares, channels_of_types, kind_class, kind_network, Counts, Entities, Meanings, Name, channels_from, constants_from, counted, declared_from, meanings_of, none_yet, same_name, numbers_from, AreExprs, IsData, IsNetwork, IsProcess}
+use Rattle.script_names.specs.declared.kinds.Entity.{Entity}
+use Rattle.script_names.specs.declared.kinds.Kind.{Kind}
 use Rattle.script_names.specs.declared.kinds.Entity.TheVariants as entity
 use Rattle.script_names.specs.Declaring as d
 use Rattle.script_names.specs.Typing as t

@@ -2,12 +2,22 @@
 use Rattle.std.proofs.Common.{◌≡◌, ℕ, suc, ◌+◌, ◌-◌, nat_eq, Bool, IsTrue, List, ◌∷◌, ◌++◌, length, map, refl, sym, ◌∙◌, ap, subst}
 use Rattle.std.specs.Prelude.{slice_get}
 use Rattle.std.proofs.lemmas.List.{length-map}
-use Rattle.csp_text.specs.Prelude.{GenTree, PartTree, Tree}
-use Rattle.csp_program.specs.Prelude.{Bound, expr_bound, expr_bound_of_layer, exprs_bound, gen_bound, gen_bound_of_layer, part_bound, part_bound_of_layer, Names, any_of, expr_free, expr_free_of_layer, gen_binding, gen_free_of_layer, part_free, part_free_of_layer, expr_in_order, expr_in_order_of_layer, field_count, fields_left, gen_in_order, gen_in_order_of_layer, is_datum, part_in_order, part_in_order_of_layer, takes, with_fields, all_true, joined, EventPart, Expr, fold-roll-Expr, fold-roll-Gen, fold-roll-EventPart, map-Expr, map-Gen, Expr-F, Gen-F, out-roll-EventPart, roll-Expr, roll-Gen, Gen, Content}
+use Rattle.csp_text.specs.declared.tree.GenTree.{GenTree}
+use Rattle.csp_text.specs.declared.tree.PartTree.{PartTree}
+use Rattle.csp_text.specs.declared.tree.Tree.{Tree}
+use Rattle.csp_program.specs.Prelude.{Bound, expr_bound, expr_bound_of_layer, exprs_bound, gen_bound, gen_bound_of_layer, part_bound, part_bound_of_layer, Names, any_of, expr_free, expr_free_of_layer, gen_binding, gen_free_of_layer, part_free, part_free_of_layer, expr_in_order, expr_in_order_of_layer, field_count, fields_left, gen_in_order, gen_in_order_of_layer, is_datum, part_in_order, part_in_order_of_layer, takes, with_fields, all_true, joined}
+use Rattle.csp_program.specs.declared.expressions.EventPart.{EventPart}
+use Rattle.csp_program.specs.declared.expressions.Expr.{Expr}
+use Rattle.csp_program.specs.declared.expressions.Expr.TheFolds.{fold-roll-Expr, fold-roll-Gen, fold-roll-EventPart, map-Expr, map-Gen}
+use Rattle.csp_program.specs.declared.expressions.Expr.TheOpen.{Expr-F, Gen-F}
+use Rattle.csp_program.specs.declared.expressions.Expr.TheViews.{out-roll-EventPart, roll-Expr, roll-Gen}
+use Rattle.csp_program.specs.declared.expressions.Gen.{Gen}
+use Rattle.csp_program.specs.declared.programs.Content.{Content}
 use Rattle.csp_program.specs.Free as free
 use Rattle.csp_program.specs.declared.expressions.Expr.TheVariants as expr
 use Rattle.csp_program.specs.declared.expressions.Gen.TheVariants as generator
-use Rattle.script_names.specs.Prelude.{Kind, Meanings, Scope, AreExprs, AreFronts, AreGens, IsExpr, IsFront, event_part}
+use Rattle.script_names.specs.Prelude.{Meanings, Scope, AreExprs, AreFronts, AreGens, IsExpr, IsFront, event_part}
+use Rattle.script_names.specs.declared.kinds.Kind.{Kind}
 use Rattle.script_names.specs.Typing as t
 use Rattle.resolved_laws.proofs.Booleans.{and}
 use Rattle.resolved_laws.proofs.Declared.{Fits, at_most, leaves}

@@ -2,12 +2,26 @@
 use Rattle.std.proofs.Common.{◌≡◌, ℕ, suc, nat_eq, Bool, IsTrue, List, [], length, map, refl, sym, ◌∙◌, ap, subst}
 use Rattle.std.specs.Prelude.{slice_get}
 use Rattle.std.proofs.lemmas.Bool.{eq-eqb}
-use Rattle.csp_text.specs.Prelude.{FieldTree, PartTree, Tree}
-use Rattle.csp_program.specs.Prelude.{Bound, field_bound, net_bound, net_bound_of_layer, pair_bound, proc_bound, proc_bound_of_layer, Names, any_of, before, net_free, net_free_of_layer, pair_free, proc_free, proc_free_of_layer, field_in_order, fields_left, is_process, net_in_order, net_in_order_of_layer, pair_in_order, proc_in_order, proc_in_order_of_layer, takes, with_fields, all_true, joined, EventPart, Net, fold-roll-Net, map-Net, Net-F, roll-Net, Field, Proc, fold-roll-Proc, map-Proc, Proc-F, roll-Proc, Content}
+use Rattle.csp_text.specs.declared.tree.FieldTree.{FieldTree}
+use Rattle.csp_text.specs.declared.tree.PartTree.{PartTree}
+use Rattle.csp_text.specs.declared.tree.Tree.{Tree}
+use Rattle.csp_program.specs.Prelude.{Bound, field_bound, net_bound, net_bound_of_layer, pair_bound, proc_bound, proc_bound_of_layer, Names, any_of, before, net_free, net_free_of_layer, pair_free, proc_free, proc_free_of_layer, field_in_order, fields_left, is_process, net_in_order, net_in_order_of_layer, pair_in_order, proc_in_order, proc_in_order_of_layer, takes, with_fields, all_true, joined}
+use Rattle.csp_program.specs.declared.expressions.EventPart.{EventPart}
+use Rattle.csp_program.specs.declared.networks.Net.{Net}
+use Rattle.csp_program.specs.declared.networks.Net.TheFolds.{fold-roll-Net, map-Net}
+use Rattle.csp_program.specs.declared.networks.Net.TheOpen.{Net-F}
+use Rattle.csp_program.specs.declared.networks.Net.TheViews.{roll-Net}
+use Rattle.csp_program.specs.declared.processes.Field.{Field}
+use Rattle.csp_program.specs.declared.processes.Proc.{Proc}
+use Rattle.csp_program.specs.declared.processes.Proc.TheFolds.{fold-roll-Proc, map-Proc}
+use Rattle.csp_program.specs.declared.processes.Proc.TheOpen.{Proc-F}
+use Rattle.csp_program.specs.declared.processes.Proc.TheViews.{roll-Proc}
+use Rattle.csp_program.specs.declared.programs.Content.{Content}
 use Rattle.csp_program.specs.InOrder as order
 use Rattle.csp_program.specs.declared.networks.Net.TheVariants as net
 use Rattle.csp_program.specs.declared.processes.Proc.TheVariants as proc
-use Rattle.script_names.specs.Prelude.{Kind, Meanings, Scope, AreFields, ArePairs, AreProcs, IsComposition, IsNet, IsProc}
+use Rattle.script_names.specs.Prelude.{Meanings, Scope, AreFields, ArePairs, AreProcs, IsComposition, IsNet, IsProc}
+use Rattle.script_names.specs.declared.kinds.Kind.{Kind}
 use Rattle.script_names.specs.Typing as t
 use Rattle.resolved_laws.proofs.Booleans.{and}
 use Rattle.resolved_laws.proofs.Declared.{Fits}

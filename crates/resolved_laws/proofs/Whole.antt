@@ -5,11 +5,17 @@ use Rattle.std.specs.List.{flat_map}
 use Rattle.std.proofs.lemmas.Bool.{eq-eqb, false≢true}
 use Rattle.csp_base.specs.Lists.{EachOnce}
 use Rattle.csp_program.proofs.Forms.{Every}
-use Rattle.csp_program.specs.Prelude.{def_bound, exprs_bound, KeepFirsts, event_count, first_event, AllClosed, AllClosedBodies, AllClosedTypes, IsEventTable, IsInOrder, channel_in_order, def_in_order, expr_in_order, lacks_sets, sets_in_order, with_fields, all_true, def_uses, Channel, Content, Def, EventInfo}
-use Rattle.csp_text.specs.Prelude.{Decl, Tree}
+use Rattle.csp_program.specs.Prelude.{def_bound, exprs_bound, KeepFirsts, event_count, first_event, AllClosed, AllClosedBodies, AllClosedTypes, IsEventTable, IsInOrder, channel_in_order, def_in_order, expr_in_order, lacks_sets, sets_in_order, with_fields, all_true, def_uses}
+use Rattle.csp_program.specs.declared.programs.Channel.{Channel}
+use Rattle.csp_program.specs.declared.programs.Content.{Content}
+use Rattle.csp_program.specs.declared.programs.Def.{Def}
+use Rattle.csp_program.specs.declared.programs.EventInfo.{EventInfo}
+use Rattle.csp_text.specs.declared.script.Decl.{Decl}
+use Rattle.csp_text.specs.declared.tree.Tree.{Tree}
 use Rattle.csp_text.specs.declared.script.Decl.TheVariants as decl
 use Rattle.dl_limits.specs.declared.TheConstants.{MOST_DATA_DEPTH}
-use Rattle.script_names.specs.Prelude.{Kind, channels_of, plain_content, IsShallow, AreKinds, Meanings, Name, meanings_of, none_yet, name_fault, Declares}
+use Rattle.script_names.specs.Prelude.{channels_of, plain_content, IsShallow, AreKinds, Meanings, Name, meanings_of, none_yet, name_fault, Declares}
+use Rattle.script_names.specs.declared.kinds.Kind.{Kind}
 use Rattle.resolved_laws.specs.Laws.{PlainIsInOrder}
 use Rattle.resolved_laws.proofs.Booleans.{and, two}
 use Rattle.resolved_laws.proofs.ContentSound.{ChannelSound, DefsSound, Sound, content_sound, nothing_free}

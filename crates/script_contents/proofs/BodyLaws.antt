@@ -5,7 +5,8 @@ use Rattle.csp_program.specs.declared.programs.Body.{Body}
 use Rattle.csp_text.specs.declared.tree.Tree.{Tree}
 use Rattle.name_tables.specs.declared.meanings.Meanings.{Meanings}
 use Rattle.script_contents.specs.Plain.{body_at, body_under, read_by}
-use Rattle.script_names.specs.Prelude.{body_of, parameters, Kind, kind_class, kind_network, Name, first_of, Scope}
+use Rattle.script_names.specs.Prelude.{body_of, parameters, kind_class, kind_network, Name, first_of, Scope}
+use Rattle.script_names.specs.declared.kinds.Kind.{Kind}
 use Rattle.typed_trees.specs.Walked.{Walked, standing}
 
 pub body_is : (m : Meanings) (d : ℕ) (params : List Name) (t : Tree) (w : Walked) (kind : Kind) (scope : Scope) → scope ≡ parameters 0 params

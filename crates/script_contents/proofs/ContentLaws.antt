@@ -3,12 +3,17 @@ use Rattle.std.proofs.Common.{◌≡◌, ℕ, suc, ◌+◌, ◌-◌, ◌<◌, �
 use Rattle.csp_base.proofs.Standard.{drop_of_length-le, fun_ext, append-nil}
 use Rattle.std.specs.List.{flat_map}
 use Rattle.std.specs.Prelude.{Some}
-use Rattle.csp_text.specs.Prelude.{Decl, Tree}
+use Rattle.csp_text.specs.declared.script.Decl.{Decl}
+use Rattle.csp_text.specs.declared.tree.Tree.{Tree}
 use Rattle.csp_text.specs.declared.script.Decl.TheVariants as decl
-use Rattle.csp_program.specs.Prelude.{Content, Def, ResourceNote, RolesNote}
+use Rattle.csp_program.specs.declared.programs.Content.{Content}
+use Rattle.csp_program.specs.declared.programs.Def.{Def}
+use Rattle.csp_program.specs.declared.programs.ResourceNote.{ResourceNote}
+use Rattle.csp_program.specs.declared.programs.RolesNote.{RolesNote}
 use Rattle.name_tables.specs.Firsts.{SameFirsts}
 use Rattle.script_contents.specs.Plain.{constants_in, resources_in, roles_in}
-use Rattle.script_names.specs.Prelude.{Kind, channels_of, constants_of, definitions_from, defined, first_assertion, numbers_from, plain_content, resources_of, roles_of, root_of, Counts, Entities, Meanings, Name, counted, declared, first_of, meanings_of, none_yet, reading}
+use Rattle.script_names.specs.Prelude.{channels_of, constants_of, definitions_from, defined, first_assertion, numbers_from, plain_content, resources_of, roles_of, root_of, Counts, Entities, Meanings, Name, counted, declared, first_of, meanings_of, none_yet, reading}
+use Rattle.script_names.specs.declared.kinds.Kind.{Kind}
 use Rattle.csp_base.proofs.Lists.{drop_read}
 use Rattle.name_tables.proofs.NameLemmas.{same_meanings}
 

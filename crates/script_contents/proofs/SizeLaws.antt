@@ -1,7 +1,8 @@
 -- What a script puts into its program is no more than the size of its declarations.
 use Rattle.std.proofs.Common.{◌≡◌, ◌≤◌, List, [], ◌∷◌, ap, arith}
 use Rattle.std.specs.Prelude.{Some}
-use Rattle.csp_text.specs.Prelude.{Decl, Tree}
+use Rattle.csp_text.specs.declared.script.Decl.{Decl}
+use Rattle.csp_text.specs.declared.tree.Tree.{Tree}
 use Rattle.csp_text.specs.declared.script.Decl.TheVariants as decl
 use Rattle.script_names.specs.Contents.{first_assertion}
 use Rattle.script_sizes.specs.BindingTokens.{tokens}

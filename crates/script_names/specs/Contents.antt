@@ -1,9 +1,16 @@
 -- What a script's declarations put into its program, while its channels have no field sets yet.
 use Rattle.std.specs.Prelude.{ℕ, Bool, Option, Some, None, List, [], ◌∷◌, ◌++◌, length, map, slice_get, if◌then◌else◌}
 use Rattle.std.specs.List.{flat_map}
-use Rattle.csp_text.specs.Prelude.{Decl, Tree}
+use Rattle.csp_text.specs.declared.script.Decl.{Decl}
+use Rattle.csp_text.specs.declared.tree.Tree.{Tree}
 use Rattle.csp_text.specs.declared.script.Decl.TheVariants as decl
-use Rattle.csp_program.specs.Prelude.{Net, Body, Channel, Content, Def, ResourceNote, RolesNote}
+use Rattle.csp_program.specs.declared.networks.Net.{Net}
+use Rattle.csp_program.specs.declared.programs.Body.{Body}
+use Rattle.csp_program.specs.declared.programs.Channel.{Channel}
+use Rattle.csp_program.specs.declared.programs.Content.{Content}
+use Rattle.csp_program.specs.declared.programs.Def.{Def}
+use Rattle.csp_program.specs.declared.programs.ResourceNote.{ResourceNote}
+use Rattle.csp_program.specs.declared.programs.RolesNote.{RolesNote}
 use Rattle.csp_program.specs.declared.networks.Net.TheVariants as net
 use Rattle.csp_program.specs.declared.processes.Proc.TheVariants as proc
 use Rattle.csp_program.specs.declared.programs.Body.TheVariants as body

@@ -3,7 +3,15 @@
 use Rattle.std.specs.Prelude.{ℕ, zero, suc, ◌+◌, ◌≤◌, max, Option, Some, None, List, slice_get}
 use Rattle.dl_limits.specs.declared.TheConstants.{MOST_DATA_DEPTH}
 use Rattle.csp_base.specs.Lists.{greatest}
-use Rattle.csp_program.specs.Prelude.{expr_depth_of_layer, gen_depth_of_layer, part_depth_of_layer, Expr, fold-Expr, fold-Gen, fold-EventPart, Expr-F, EventPart, Gen, Body, Content, Def}
+use Rattle.csp_program.specs.Prelude.{expr_depth_of_layer, gen_depth_of_layer, part_depth_of_layer}
+use Rattle.csp_program.specs.declared.expressions.EventPart.{EventPart}
+use Rattle.csp_program.specs.declared.expressions.Expr.{Expr, fold-Expr}
+use Rattle.csp_program.specs.declared.expressions.Expr.TheFolds.{fold-Gen, fold-EventPart}
+use Rattle.csp_program.specs.declared.expressions.Expr.TheOpen.{Expr-F}
+use Rattle.csp_program.specs.declared.expressions.Gen.{Gen}
+use Rattle.csp_program.specs.declared.programs.Body.{Body}
+use Rattle.csp_program.specs.declared.programs.Content.{Content}
+use Rattle.csp_program.specs.declared.programs.Def.{Def}
 use Rattle.csp_program.specs.declared.programs.Body.TheVariants as body
 
 -- where the body of each definition is so deep

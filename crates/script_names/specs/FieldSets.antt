@@ -1,8 +1,12 @@
 -- The values of the fields of channels: those of their types, which are sets of numbers and constants.
 use Rattle.std.specs.Prelude.{Bool, true, false, if◌then◌else◌, Ok, Err, List, [], ◌∷◌, map}
-use Rattle.csp_atoms.specs.Prelude.{Atom, Value}
+use Rattle.csp_atoms.specs.declared.atom.Atom.{Atom}
+use Rattle.csp_atoms.specs.declared.value.Value.{Value}
 use Rattle.csp_atoms.specs.declared.atom.Atom.TheVariants as atom
-use Rattle.csp_program.specs.Prelude.{all_true, Outcome, and_then, as_set, value_of, Expr, Kind, Content}
+use Rattle.csp_program.specs.Prelude.{all_true, Outcome, and_then, as_set, value_of}
+use Rattle.csp_program.specs.declared.expressions.Expr.{Expr}
+use Rattle.csp_program.specs.declared.kinds.ValueKind.TheVariants.{Kind}
+use Rattle.csp_program.specs.declared.programs.Content.{Content}
 
 -- numbers and constants may be values of a field
 abbrev pub may_be_field : Atom → Bool

@@ -3,7 +3,10 @@ use Rattle.script_names.specs.declared.kinds.Sense.TheVariants as sense
 use Rattle.script_names.specs.declared.kinds.Sense.{Sense}
 use Rattle.std.specs.Prelude.{◌≡◌, ℕ, IsTrue, ◌↔◌, Option, Some, None, List, [], ◌∷◌, ◌++◌, length, map, take, slice_get}
 use Rattle.std.specs.List.{flat_map}
-use Rattle.csp_text.specs.Prelude.{Decl, fold-Tree, Tree-F, Tree}
+use Rattle.csp_text.specs.declared.script.Decl.{Decl}
+use Rattle.csp_text.specs.declared.tree.FieldTree.TheFolds.{fold-Tree}
+use Rattle.csp_text.specs.declared.tree.FieldTree.TheOpen.{Tree-F}
+use Rattle.csp_text.specs.declared.tree.Tree.{Tree}
 use Rattle.csp_text.specs.declared.script.Decl.TheVariants as decl
 use Rattle.script_names.specs.declared.kinds.Class.{Class}
 use Rattle.script_names.specs.declared.kinds.Class.TheVariants as class

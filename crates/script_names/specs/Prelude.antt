@@ -15,14 +15,3 @@ pub use Rattle.script_names.specs.Told.{annotation_says, bodies_from, body_place
 pub use Rattle.script_names.specs.Typed.{Binding, Front, Layer, Reading, all_bind, bindings, bindings_bind, binds_of_layer, channel_number, definition_number, event_of_layer, expr_of_layer, exprs, field_of_layer, gen_of_layer, head_of, named, net_of_layer, network_of_layer, networked_of_layer, pairs, pairs_bind, part, part_of_layer, parts, parts_bind, proc_of_layer, procs, reading, reading_of_layer, under}
 pub use Rattle.script_names.specs.Contents.{body_of, channels_of, constants_of, defined, definitions_from, first_assertion, plain_content, resources_of, roles_of, root_of}
 pub use Rattle.script_names.specs.Resolved.{Answer, IsRefused, Resolves, and_next, channel_sets, resolved, told_in, types_of, with_names, with_root, with_table}
-pub use Rattle.script_names.specs.declared.fault.ResolveFault.{ResolveFault}
-pub use Rattle.script_names.specs.declared.fault.Unresolved.{Unresolved}
-pub use Rattle.script_names.specs.declared.kinds.Class.{Class}
-pub use Rattle.script_names.specs.declared.kinds.End.{End}
-pub use Rattle.script_names.specs.declared.kinds.Entity.{Entity}
-pub use Rattle.script_names.specs.declared.kinds.Kind.{Kind}
-pub use Rattle.script_names.specs.declared.kinds.Place.{Place}
-pub use Rattle.script_names.specs.declared.kinds.Sense.{Sense}
-pub use Rattle.script_names.specs.declared.kinds.Use.{Use}
-pub use Rattle.script_names.specs.declared.occurrence.Occurrence.{Occurrence}
-pub use Rattle.script_names.specs.declared.occurrence.Occurrence.TheVariants.{Binds, Form, Notes, Parallel, Uses}

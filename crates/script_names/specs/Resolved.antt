@@ -3,8 +3,12 @@
 use Rattle.std.specs.Prelude.{◌≡◌, ℕ, ◌+◌, ◌-◌, ◌^◌, min, nat_le, if◌then◌else◌, Option, Some, None, Result, Ok, Err, List, [], ◌∷◌, ◌++◌, length, map, replicate}
 use Rattle.dl_limits.specs.declared.TheConstants.{MOST_EVENTS}
 use Rattle.csp_atoms.specs.declared.atom.Atom.{Atom}
-use Rattle.csp_program.specs.Prelude.{Outcome, Expr, Content}
-use Rattle.csp_text.specs.Prelude.{Decl, Script, Tree}
+use Rattle.csp_program.specs.Prelude.{Outcome}
+use Rattle.csp_program.specs.declared.expressions.Expr.{Expr}
+use Rattle.csp_program.specs.declared.programs.Content.{Content}
+use Rattle.csp_text.specs.declared.script.Decl.{Decl}
+use Rattle.csp_text.specs.declared.script.Script.{Script}
+use Rattle.csp_text.specs.declared.tree.Tree.{Tree}
 use Rattle.csp_text.specs.declared.script.Decl.TheVariants as decl
 use Rattle.script_names.specs.declared.fault.ResolveFault.{ResolveFault}
 use Rattle.script_names.specs.declared.fault.ResolveFault.TheVariants as fault

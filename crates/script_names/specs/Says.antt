@@ -4,7 +4,9 @@ use Rattle.script_names.specs.declared.kinds.Need.TheVariants as need
 use Rattle.script_names.specs.declared.kinds.Use.TheVariants as how
 use Rattle.script_names.specs.declared.kinds.Place.{Place}
 use Rattle.std.specs.Prelude.{◌+◌, true, false, Some, None, List, [], ◌∷◌, ◌++◌, length, map}
-use Rattle.csp_text.specs.Prelude.{fold-Tree, FieldTree-F, GenTree-F, Tree-F, EventTree-F, PartTree-F, Tree}
+use Rattle.csp_text.specs.declared.tree.FieldTree.TheFolds.{fold-Tree}
+use Rattle.csp_text.specs.declared.tree.FieldTree.TheOpen.{FieldTree-F, GenTree-F, Tree-F, EventTree-F, PartTree-F}
+use Rattle.csp_text.specs.declared.tree.Tree.{Tree}
 use Rattle.script_names.specs.declared.kinds.Class.TheVariants as class
 use Rattle.script_names.specs.Names.{Name, Meanings, sense_in}
 use Rattle.script_names.specs.declared.occurrence.Occurrence.{Occurrence}

@@ -4,14 +4,23 @@
 -- names are numbered in the order of their binding tokens: those of t have the numbers from n on, and m is the number of the next one after t. The
 -- items of a comprehension, the parts of `{| |}` and the pairs of a renaming stand before its generators and under the names that these bind.
 use Rattle.std.specs.Prelude.{◌≡◌, ℕ, ◌+◌, pos, true, false, Option, Some, None, List, [], ◌∷◌, length, slice_get}
-use Rattle.csp_base.specs.Prelude.{BinOp, SetOp}
-use Rattle.csp_text.specs.Prelude.{EventTree, FieldTree, GenTree, PartTree, Tree}
-use Rattle.csp_text.specs.declared.tree.EventTree.{roll-EventTree}
-use Rattle.csp_text.specs.declared.tree.PartTree.{roll-PartTree}
+use Rattle.csp_base.specs.declared.operators.BinOp.{BinOp}
+use Rattle.csp_base.specs.declared.operators.SetOp.{SetOp}
+use Rattle.csp_text.specs.declared.tree.EventTree.{EventTree, roll-EventTree}
+use Rattle.csp_text.specs.declared.tree.FieldTree.{FieldTree}
+use Rattle.csp_text.specs.declared.tree.GenTree.{GenTree}
+use Rattle.csp_text.specs.declared.tree.PartTree.{PartTree, roll-PartTree}
+use Rattle.csp_text.specs.declared.tree.Tree.{Tree}
 use Rattle.csp_text.specs.declared.tree.FieldTree.TheVariants as text
 use Rattle.csp_text.specs.declared.tree.GenTree.TheVariants as generator
 use Rattle.csp_text.specs.declared.tree.Tree.TheVariants as tree
-use Rattle.csp_program.specs.Prelude.{EventPart, Expr, roll-EventPart, Gen, Net, Field, Proc}
+use Rattle.csp_program.specs.declared.expressions.EventPart.{EventPart}
+use Rattle.csp_program.specs.declared.expressions.Expr.{Expr}
+use Rattle.csp_program.specs.declared.expressions.Expr.TheViews.{roll-EventPart}
+use Rattle.csp_program.specs.declared.expressions.Gen.{Gen}
+use Rattle.csp_program.specs.declared.networks.Net.{Net}
+use Rattle.csp_program.specs.declared.processes.Field.{Field}
+use Rattle.csp_program.specs.declared.processes.Proc.{Proc}
 use Rattle.csp_program.specs.declared.expressions.Expr.TheVariants as expr
 use Rattle.csp_program.specs.declared.expressions.Gen.TheVariants as gen_of
 use Rattle.csp_program.specs.declared.networks.Net.TheVariants as net

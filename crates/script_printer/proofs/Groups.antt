@@ -2,7 +2,8 @@
 use Rattle.std.proofs.Common.{◌≡◌, ℕ, suc, ◌+◌, ◌<◌, ◌≤◌, true, false, List, [], ◌∷◌, ◌++◌, length, drop, get_or, add-one, ap, sym, refl, ◌∙◌, append_assoc}
 use Rattle.std.specs.Prelude.{flat_map, ◌==◌}
 use Rattle.csp_base.proofs.Standard.{drop_of_length-le, false≢true, append-nil}
-use Rattle.csp_text.specs.Prelude.{Colon, Comma, Dot, OpenParen, CloseParen, Tree}
+use Rattle.csp_text.specs.declared.token.Symbol.TheVariants.{Colon, Comma, Dot, OpenParen, CloseParen}
+use Rattle.csp_text.specs.declared.tree.Tree.{Tree}
 use Rattle.csp_text.specs.declared.token.Token.TheVariants.{Symbol}
 use Rattle.script_printer.specs.PrintedTree.{operand_tokens, separated}
 use Rattle.script_printer.specs.PrintedScript.{names_tokens, parameters_tokens, types_tokens}

@@ -4,9 +4,19 @@
 use Rattle.std.proofs.Common.{◌≡◌, ℕ, Some, None, List, [], ◌∷◌, ◌++◌, map, ap, sym, refl, ◌∙◌}
 use Rattle.std.specs.Prelude.{flat_map}
 use Rattle.std.proofs.lemmas.List.Folds.{flat_map-map}
-use Rattle.csp_text.specs.Prelude.{Token, Name, Num, ExternalChoice, InternalChoice, Parallel, OpenRename, CloseRename, OpenProduct, CloseProduct, LeftArrow, Dot, Bang, Question, OpenParen, CloseParen, OpenBrace, CloseBrace, Comma, Bar, map-FieldTree, map-GenTree, map-Tree, fold-roll-FieldTree, fold-roll-GenTree, fold-roll-Tree, fold-roll-EventTree, fold-roll-PartTree, FieldTree-F, GenTree-F, Tree-F, roll-FieldTree, roll-GenTree, roll-Tree, out-EventTree, roll-out-EventTree, out-PartTree, roll-out-PartTree, FieldTree, GenTree, Tree, EventTree, PartTree}
-use Rattle.csp_text.specs.declared.token.Token.TheVariants.{Symbol}
-use Rattle.csp_base.specs.Prelude.{BinOp, SetOp}
+use Rattle.csp_text.specs.declared.token.Symbol.TheVariants.{ExternalChoice, InternalChoice, Parallel, OpenRename, CloseRename, OpenProduct, CloseProduct, LeftArrow, Dot, Bang, Question, OpenParen, CloseParen, OpenBrace, CloseBrace, Comma, Bar}
+use Rattle.csp_text.specs.declared.token.Token.{Token}
+use Rattle.csp_text.specs.declared.token.Token.TheVariants.{Name, Num, Symbol}
+use Rattle.csp_text.specs.declared.tree.EventTree.{EventTree}
+use Rattle.csp_text.specs.declared.tree.FieldTree.{FieldTree}
+use Rattle.csp_text.specs.declared.tree.FieldTree.TheFolds.{map-FieldTree, map-GenTree, map-Tree, fold-roll-FieldTree, fold-roll-GenTree, fold-roll-Tree, fold-roll-EventTree, fold-roll-PartTree}
+use Rattle.csp_text.specs.declared.tree.FieldTree.TheOpen.{FieldTree-F, GenTree-F, Tree-F}
+use Rattle.csp_text.specs.declared.tree.FieldTree.TheViews.{roll-FieldTree, roll-GenTree, roll-Tree, out-EventTree, roll-out-EventTree, out-PartTree, roll-out-PartTree}
+use Rattle.csp_text.specs.declared.tree.GenTree.{GenTree}
+use Rattle.csp_text.specs.declared.tree.PartTree.{PartTree}
+use Rattle.csp_text.specs.declared.tree.Tree.{Tree}
+use Rattle.csp_base.specs.declared.operators.BinOp.{BinOp}
+use Rattle.csp_base.specs.declared.operators.SetOp.{SetOp}
 use Rattle.csp_text.specs.declared.tree.FieldTree.TheVariants as field
 use Rattle.csp_text.specs.declared.tree.GenTree.TheVariants as generator
 use Rattle.csp_text.specs.declared.tree.Tree.TheVariants as tree

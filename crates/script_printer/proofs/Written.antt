@@ -3,7 +3,8 @@ use Rattle.std.proofs.Common.{◌≡◌, ℕ, zero, suc, ◌+◌, ◌<◌, ◌�
 use Rattle.std.specs.Prelude.{flat_map, ◌==◌}
 use Rattle.csp_base.proofs.Standard.{drop_of_length-le, drop-cons, false≢true, append-nil, nil_from_length}
 use Rattle.std.proofs.lemmas.List.Concat.{flat_map-append}
-use Rattle.csp_text.specs.Prelude.{Token, Bar, Comma}
+use Rattle.csp_text.specs.declared.token.Symbol.TheVariants.{Bar, Comma}
+use Rattle.csp_text.specs.declared.token.Token.{Token}
 use Rattle.csp_text.specs.declared.token.Token.TheVariants.{Symbol}
 use Rattle.script_printer.specs.TokenText.{before_place, row, spaced, token_text}
 use Rattle.script_printer.specs.PrintedTree.{conditions, separated}

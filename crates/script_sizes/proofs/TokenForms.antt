@@ -1,7 +1,15 @@
 -- How many binding tokens each form of a tree has.
 use Rattle.std.proofs.Common.{◌≡◌, ℕ, ◌+◌, Option, Some, None, List, map, ap, sym, ◌∙◌, arith}
-use Rattle.csp_base.specs.Prelude.{BinOp, SetOp}
-use Rattle.csp_text.specs.Prelude.{FieldTree, fold-roll-FieldTree, fold-roll-GenTree, fold-roll-Tree, fold-roll-EventTree, fold-roll-PartTree, map-FieldTree, map-GenTree, map-Tree, map-EventTree, map-PartTree, FieldTree-F, GenTree-F, Tree-F, EventTree-F, PartTree-F, roll-FieldTree, roll-GenTree, roll-Tree, roll-EventTree, roll-PartTree, out-EventTree, roll-out-EventTree, out-PartTree, roll-out-PartTree, EventTree, GenTree, PartTree, Tree}
+use Rattle.csp_base.specs.declared.operators.BinOp.{BinOp}
+use Rattle.csp_base.specs.declared.operators.SetOp.{SetOp}
+use Rattle.csp_text.specs.declared.tree.EventTree.{EventTree}
+use Rattle.csp_text.specs.declared.tree.FieldTree.{FieldTree}
+use Rattle.csp_text.specs.declared.tree.FieldTree.TheFolds.{fold-roll-FieldTree, fold-roll-GenTree, fold-roll-Tree, fold-roll-EventTree, fold-roll-PartTree, map-FieldTree, map-GenTree, map-Tree, map-EventTree, map-PartTree}
+use Rattle.csp_text.specs.declared.tree.FieldTree.TheOpen.{FieldTree-F, GenTree-F, Tree-F, EventTree-F, PartTree-F}
+use Rattle.csp_text.specs.declared.tree.FieldTree.TheViews.{roll-FieldTree, roll-GenTree, roll-Tree, roll-EventTree, roll-PartTree, out-EventTree, roll-out-EventTree, out-PartTree, roll-out-PartTree}
+use Rattle.csp_text.specs.declared.tree.GenTree.{GenTree}
+use Rattle.csp_text.specs.declared.tree.PartTree.{PartTree}
+use Rattle.csp_text.specs.declared.tree.Tree.{Tree}
 use Rattle.csp_text.specs.declared.tree.FieldTree.TheVariants as field
 use Rattle.csp_text.specs.declared.tree.GenTree.TheVariants as generator
 use Rattle.csp_text.specs.declared.tree.Tree.TheVariants as tree

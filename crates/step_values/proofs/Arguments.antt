@@ -1,6 +1,8 @@
 -- The values of arguments, as those of expressions under no names.
 use Rattle.std.proofs.Common.{◌≡◌, Ok, List, [], ◌∷◌, length, refl, ap}
-use Rattle.csp_program.specs.Prelude.{and_then, value_of, Expr, Content}
+use Rattle.csp_program.specs.Prelude.{and_then, value_of}
+use Rattle.csp_program.specs.declared.expressions.Expr.{Expr}
+use Rattle.csp_program.specs.declared.programs.Content.{Content}
 use Rattle.csp_values.specs.Worth.{worths}
 use Rattle.process_steps.specs.Needed.{arguments_in}
 

@@ -1,8 +1,12 @@
 -- The events of a channel, by their numbers from the channel's first on.
 use Rattle.std.proofs.Common.{◌≡◌, ℕ, zero, suc, ◌+◌, ◌<◌, ◌^◌, get_or, Some, Ok, List, [], slice_get, ap, sym, subst, ◌∙◌, arith}
 use Rattle.std.specs.Prelude.{Result}
-use Rattle.csp_program.specs.Prelude.{row_count, rows, IsInOrder, Outcome, sets_of, Channel, Content}
-use Rattle.csp_atoms.specs.Prelude.{Atom, Value, One}
+use Rattle.csp_program.specs.Prelude.{row_count, rows, IsInOrder, Outcome, sets_of}
+use Rattle.csp_program.specs.declared.programs.Channel.{Channel}
+use Rattle.csp_program.specs.declared.programs.Content.{Content}
+use Rattle.csp_atoms.specs.declared.atom.Atom.{Atom}
+use Rattle.csp_atoms.specs.declared.value.Value.{Value}
+use Rattle.csp_atoms.specs.declared.value.Value.TheVariants.{One}
 use Rattle.csp_atoms.specs.declared.atom.Atom.TheVariants as atom
 use Rattle.process_steps.specs.Prefix.{event_of}
 use Rattle.process_steps.specs.Ways.{Among, channel, event, of_channel, of_value}

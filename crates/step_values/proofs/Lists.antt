@@ -1,6 +1,7 @@
 -- Lists that are made one element after another, and chains of outcomes.
 use Rattle.std.proofs.Common.{◌≡◌, ℕ, ◌+◌, ◌<◌, ◌≤◌, Ok, Err, List, [], ◌∷◌, ◌++◌, length, get_or, drop, refl, ap, sym, ◌∙◌, append_assoc, append-nil, drop_of_length-le}
-use Rattle.csp_program.specs.Prelude.{joined, Outcome, and_then, ValueKind}
+use Rattle.csp_program.specs.Prelude.{joined, Outcome, and_then}
+use Rattle.csp_program.specs.declared.kinds.ValueKind.{ValueKind}
 use Rattle.process_steps.specs.Needed.{each_joined}
 use Rattle.csp_base.proofs.Lists.{drop_read}
 

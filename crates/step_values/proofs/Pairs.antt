@@ -1,7 +1,10 @@
 -- What a pair of a renaming renames under an environment, from what its sides come to.
 use Rattle.std.proofs.Common.{◌≡◌, ℕ, zero, suc, ◌+◌, ◌<◌, ◌≤◌, ◌^◌, Some, Ok, Err, List, [], ◌∷◌, ◌++◌, length, take, drop, slice_get, refl, ap, sym, subst, ◌∙◌, arith}
-use Rattle.csp_program.specs.Prelude.{event_table, IsInOrder, Outcome, and_then, Env, meanings, sets_of, EventPart, Expr, Content, EventInfo}
-use Rattle.csp_program.specs.declared.expressions.EventPart.{out-EventPart}
+use Rattle.csp_program.specs.Prelude.{event_table, IsInOrder, Outcome, and_then, Env, meanings, sets_of}
+use Rattle.csp_program.specs.declared.expressions.EventPart.{EventPart, out-EventPart}
+use Rattle.csp_program.specs.declared.expressions.Expr.{Expr}
+use Rattle.csp_program.specs.declared.programs.Content.{Content}
+use Rattle.csp_program.specs.declared.programs.EventInfo.{EventInfo}
 use Rattle.csp_atoms.specs.declared.value.Value.{Value}
 use Rattle.csp_values.proofs.Equations.{fronts_of, same_count}
 use Rattle.csp_values.proofs.FieldSteps.{front_fits}

@@ -2,8 +2,21 @@
 -- of `proc_form` and `proc_made`, and an equation in the ruleset.
 use Rattle.std.proofs.Common.{◌≡◌, ℕ, ℤ, Bool, Option, Some, None, List, [], ◌∷◌, map, refl, ap, sym, ◌∙◌}
 use Rattle.csp_atoms.specs.declared.value.Value.{Value}
-use Rattle.csp_base.specs.Prelude.{BinOp, SetOp}
-use Rattle.csp_program.specs.Prelude.{after_all, each, expr_with, expr_with_of_layer, fields_with, gen_with_of_layer, gens_with, head_with, named, open_gen, pair_with, part_with, part_with_of_layer, past, proc_with, proc_with_of_layer, without, Given, Open, OpenGen, EventPart, Expr, fold-roll-Expr, fold-roll-EventPart, fold-roll-Gen, map-Expr, map-Gen, Expr-F, EventPart-F, Gen-F, out-EventPart, roll-Expr, roll-EventPart, roll-Gen, roll-out-EventPart, Gen, Field, Head, Proc, fold-roll-Proc, map-Proc, Proc-F, roll-Proc}
+use Rattle.csp_base.specs.declared.operators.BinOp.{BinOp}
+use Rattle.csp_base.specs.declared.operators.SetOp.{SetOp}
+use Rattle.csp_program.specs.Prelude.{after_all, each, expr_with, expr_with_of_layer, fields_with, gen_with_of_layer, gens_with, head_with, named, open_gen, pair_with, part_with, part_with_of_layer, past, proc_with, proc_with_of_layer, without, Given, Open, OpenGen}
+use Rattle.csp_program.specs.declared.expressions.EventPart.{EventPart}
+use Rattle.csp_program.specs.declared.expressions.Expr.{Expr}
+use Rattle.csp_program.specs.declared.expressions.Expr.TheFolds.{fold-roll-Expr, fold-roll-EventPart, fold-roll-Gen, map-Expr, map-Gen}
+use Rattle.csp_program.specs.declared.expressions.Expr.TheOpen.{Expr-F, EventPart-F, Gen-F}
+use Rattle.csp_program.specs.declared.expressions.Expr.TheViews.{out-EventPart, roll-Expr, roll-EventPart, roll-Gen, roll-out-EventPart}
+use Rattle.csp_program.specs.declared.expressions.Gen.{Gen}
+use Rattle.csp_program.specs.declared.processes.Field.{Field}
+use Rattle.csp_program.specs.declared.processes.Head.{Head}
+use Rattle.csp_program.specs.declared.processes.Proc.{Proc}
+use Rattle.csp_program.specs.declared.processes.Proc.TheFolds.{fold-roll-Proc, map-Proc}
+use Rattle.csp_program.specs.declared.processes.Proc.TheOpen.{Proc-F}
+use Rattle.csp_program.specs.declared.processes.Proc.TheViews.{roll-Proc}
 use Rattle.csp_program.specs.declared.expressions.Expr.TheVariants as expr
 use Rattle.csp_program.specs.declared.expressions.Gen.TheVariants as generator
 use Rattle.csp_program.specs.declared.processes.Proc.TheVariants as proc

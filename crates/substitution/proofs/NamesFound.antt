@@ -4,7 +4,9 @@ use Rattle.std.specs.Prelude.{slice_get, is_some}
 use Rattle.csp_base.specs.Standard.{first_so, second_so, option_copied}
 use denote.Bor.{Bor}
 use Rattle.csp_base.proofs.Standard.{eqb-true, false≢true, length-map}
-use Rattle.csp_atoms.specs.Prelude.{Atom, Value, One}
+use Rattle.csp_atoms.specs.declared.atom.Atom.{Atom}
+use Rattle.csp_atoms.specs.declared.value.Value.{Value}
+use Rattle.csp_atoms.specs.declared.value.Value.TheVariants.{One}
 use Rattle.csp_base.specs.Members.{has}
 use Rattle.csp_program.specs.Prelude.{with_bound, given_by, without, Env, bound_to}
 use Rattle.substitution.specs.Named.{atom_or, but_for, counts_up, CountUp, EndBy, NoneFrom}

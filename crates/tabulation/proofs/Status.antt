@@ -6,7 +6,9 @@ use Rattle.csp_tables.specs.Prelude.{Component, leaves, Part, IsPartOf}
 use Rattle.network_stages.specs.Prelude.{Network, HasNoPart}
 use Rattle.process_steps.specs.ComponentStep.{ProcessStep}
 use Rattle.report.proofs.Points.{refused_or}
-use Rattle.report.specs.Prelude.{passed, told, Refusal, Verdict}
+use Rattle.report.specs.Prelude.{passed, told}
+use Rattle.report.specs.declared.answer.Refusal.{Refusal}
+use Rattle.report.specs.declared.answer.Verdict.{Verdict}
 use Rattle.report.specs.declared.answer.Side.TheVariants as side
 use Rattle.report.specs.declared.answer.Verdict.TheVariants as verdict
 use Rattle.tabulation.specs.Tabulated.{IsTable, IsTabulated}

@@ -8,7 +8,7 @@ ghost use Rattle.tabulation.specs.Tabulated.{HasNoComponent, IsTabulated};
 
 use csp_base::Stop;
 use network_stages::{Chosen, Spelled, make_part};
-use report::{Done, Refusal, Verdict};
+use report::{Done, Halt, Refusal};
 use std::alloc::Global;
 
 // The component with the number `index`, or that none has it.
@@ -27,7 +27,7 @@ fn choose(network: &Spelled, index: u32) -> Result<Chosen<'_>, Stop<Refusal>>
 }
 
 /// The normal table of the component with the number `index`, which has the whole room for itself, or why there is none.
-pub fn tabulated(alloc: Global, index: u32, network: &Spelled) -> Result<Done, Stop<Verdict>>
+pub fn tabulated(alloc: Global, index: u32, network: &Spelled) -> Result<Done, Halt>
     ensures { Answers (IsTabulated network.now index) result }
 {
     let chosen = choose(network, index)?;

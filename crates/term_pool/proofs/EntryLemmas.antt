@@ -3,7 +3,9 @@ use Rattle.std.proofs.Common.{◌≡◌, ℕ, ◌<◌, Some, List, [], length, g
 use Rattle.std.proofs.lemmas.Option.{slice_get_within, slice_get-get_or, get_or_from_slice_get}
 use Rattle.csp_program.specs.declared.expressions.Expr.TheVariants as expr
 use Rattle.csp_program.specs.declared.processes.Head.TheVariants as head
-use Rattle.term_pool.specs.Prelude.{head_at, fields_at, expr_at, arguments_at, pairs_at, gens_at, choice_at, entry_layer, ArePartsOnce, Fits, HasParts, PartsStart, Layer, Entry, OwnParts}
+use Rattle.term_pool.specs.Prelude.{head_at, fields_at, expr_at, arguments_at, pairs_at, gens_at, choice_at, entry_layer, ArePartsOnce, Fits, HasParts, PartsStart, Layer}
+use Rattle.term_pool.specs.declared.entry.Entry.{Entry}
+use Rattle.term_pool.specs.declared.own_parts.OwnParts.{OwnParts}
 use Rattle.pool_parts.specs.Stored.{IsStart}
 use Rattle.term_pool.specs.declared.entry.Entry.TheVariants as entry
 use Rattle.csp_base.specs.Lists.{EachOnce}

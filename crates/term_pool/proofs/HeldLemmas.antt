@@ -4,7 +4,9 @@ use Rattle.csp_base.proofs.Standard.{ltb-true, false≢true, length-append, slic
 use Rattle.std.specs.Cmp.{first_so, second_so}
 use Rattle.std.specs.Prelude.{Result, Ok, Err, IsErr}
 use Rattle.containers.proofs.MembersLemmas.{slice_get-append_left}
-use Rattle.csp_program.specs.Prelude.{proc_depth, proc_free, proc_size, Proc, Proc-F}
+use Rattle.csp_program.specs.Prelude.{proc_depth, proc_free, proc_size}
+use Rattle.csp_program.specs.declared.processes.Proc.{Proc}
+use Rattle.csp_program.specs.declared.processes.Proc.TheOpen.{Proc-F}
 use Rattle.csp_program.specs.declared.processes.Proc.TheVariants as proc
 use Rattle.term_pool.proofs.NodeLemmas.{parts_at, same_node}
 use Rattle.term_pool.proofs.NodeMeasures.{node_measured}
@@ -12,7 +14,9 @@ use Rattle.term_pool.proofs.TreeLemmas.{all_below_more, of_front, grown_push, gr
 use Rattle.term_pool.proofs.WithinLemmas.{has_push}
 use Rattle.term_pool.specs.Prelude.{IsHeld, Puts, AreMeasured, IsNodeMeasure, AreDifferent, Has, IsFront, PartsStandBelow, StandBelow, parts, tree_at, layer_tree, all_below, layer_below, trees_of, fall, AddsOne, Layer, layer_parts}
 use Rattle.pool_parts.proofs.StoreLemmas.{noted_more, noted_push}
-use Rattle.pool_parts.specs.Prelude.{IsAbsent, Measure, ProcId}
+use Rattle.pool_parts.specs.Prelude.{IsAbsent}
+use Rattle.pool_parts.specs.declared.measure.Measure.{Measure}
+use Rattle.pool_parts.specs.declared.place.ProcId.{ProcId}
 use Rattle.csp_base.proofs.Lists.{push_cases}
 use Rattle.csp_base.specs.Lists.{EachOnce}
 

@@ -3,14 +3,18 @@ use Rattle.std.proofs.Common.{◌≡◌, ◌⊎◌, inl, inr, ℕ, zero, suc, �
 use Rattle.csp_base.proofs.Standard.{map-append, length-map, length_push, same_from_push, slice_get-map, slice_get-get_or}
 use Rattle.std.specs.Prelude.{Result, Ok, Err, IsErr, MatchOption, OnErr, not, option_map}
 use Rattle.std.specs.Set.{is_member}
-use Rattle.csp_program.specs.Prelude.{proc_depth, proc_free, proc_size, Proc}
-use Rattle.pool_parts.proofs.StoreLemmas.{noted_at}
+use Rattle.csp_program.specs.Prelude.{proc_depth, proc_free, proc_size}
+use Rattle.csp_program.specs.declared.processes.Proc.{Proc}
+use Rattle.pool_parts.proofs.StoreLemmas.{noted_at, is_absent}
 use Rattle.csp_program.specs.declared.processes.Proc.TheVariants as proc
 use Rattle.term_pool.proofs.EntryLemmas.{fits_more, layer_stays, same_entry, has_parts}
 use Rattle.term_pool.proofs.HeldLemmas.{held_push, is_known, places_fall, puts_known, puts_new, puts_none, tree_stands, trees_length, unknown_push}
-use Rattle.pool_parts.proofs.StoreLemmas.{is_absent}
-use Rattle.term_pool.specs.Prelude.{entry_layer, layers, ArePartsOnce, Fits, HasParts, PartsStart, eq_entry, processes, IsHeld, IsKept, Puts, Layer, IsNodeMeasure, Measures, Has, layer_below, layer_tree, trees_of, laws-law, Entry, OwnParts}
-use Rattle.pool_parts.specs.Prelude.{IsAbsent, Measure, ProcId}
+use Rattle.term_pool.specs.Prelude.{entry_layer, layers, ArePartsOnce, Fits, HasParts, PartsStart, eq_entry, processes, IsHeld, IsKept, Puts, Layer, IsNodeMeasure, Measures, Has, layer_below, layer_tree, trees_of, laws-law}
+use Rattle.term_pool.specs.declared.entry.Entry.{Entry}
+use Rattle.term_pool.specs.declared.own_parts.OwnParts.{OwnParts}
+use Rattle.pool_parts.specs.Prelude.{IsAbsent}
+use Rattle.pool_parts.specs.declared.measure.Measure.{Measure}
+use Rattle.pool_parts.specs.declared.place.ProcId.{ProcId}
 use Rattle.csp_base.proofs.Lists.{push_cases}
 
 abbrev id_at : ℕ → ProcId

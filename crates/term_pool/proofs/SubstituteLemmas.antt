@@ -1,6 +1,9 @@
 -- What a node becomes where values are put in: its own parts, and what stands at its places.
 use Rattle.std.proofs.Common.{◌≡◌, List, [], ◌∷◌, map, refl, ap, sym, ◌∙◌, subst}
-use Rattle.csp_program.specs.Prelude.{proc_with, Given, Proc, Proc-F, out-Proc, roll-Proc, out-roll-Proc}
+use Rattle.csp_program.specs.Prelude.{proc_with, Given}
+use Rattle.csp_program.specs.declared.processes.Proc.{Proc}
+use Rattle.csp_program.specs.declared.processes.Proc.TheOpen.{Proc-F}
+use Rattle.csp_program.specs.declared.processes.Proc.TheViews.{out-Proc, roll-Proc, out-roll-Proc}
 use Rattle.pool_parts.specs.declared.place.ProcId.{ProcId}
 use Rattle.substitution.proofs.Forms.{proc_form, proc_is}
 use Rattle.term_pool.proofs.NodeLemmas.{layer_of, rolls}

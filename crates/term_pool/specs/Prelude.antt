@@ -14,6 +14,3 @@ pub use Rattle.term_pool.specs.Substituted.{AreMade, IsLeft, IsMade, all_with, l
 pub use Rattle.term_pool.specs.Trees.{all_below, fall, grown, layer_below, layer_tree, places, places_below, tree_at, tree_of, trees_of}
 pub use Rattle.term_pool.specs.Within.{AddsOne, AddsParts, IsIn, IsInOne}
 pub use Rattle.term_pool.specs.contracts.entry.EntryEq.TheImpl.Laws.{laws-law}
-pub use Rattle.term_pool.specs.declared.entry.Entry.{Entry}
-pub use Rattle.term_pool.specs.declared.node.Node.{Node}
-pub use Rattle.term_pool.specs.declared.own_parts.OwnParts.{OwnParts}

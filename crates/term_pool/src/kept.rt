@@ -2,7 +2,13 @@
 
 ghost use Rattle.std.specs.Prelude.{◌≡◌, ◌<◌, true, length, OnErr};
 ghost use Rattle.csp_program.specs.Substitution.{given_by, proc_with};
-ghost use Rattle.term_pool.specs.Prelude.{entry_layer, Fits, with_first, processes, IsKept, Puts, Measures, Has, StandAt, layer_below, layer_tree, places_below, tree_at, tree_of};
+ghost use Rattle.term_pool.specs.Entries.{entry_layer, Fits};
+ghost use Rattle.term_pool.specs.First.{with_first};
+ghost use Rattle.term_pool.specs.Held.{processes, IsKept, Puts};
+ghost use Rattle.term_pool.specs.Measured.{Measures};
+ghost use Rattle.term_pool.specs.Pooled.{Has};
+ghost use Rattle.term_pool.specs.Put.{StandAt};
+ghost use Rattle.term_pool.specs.Trees.{layer_below, layer_tree, places_below, tree_at, tree_of};
 ghost use Rattle.term_pool.specs.Pooled as pooled;
 
 use crate::changed::{entry_with_first, made_entry};

@@ -1,7 +1,8 @@
 //! The own parts of the nodes of a pool.
 
 ghost use Rattle.std.specs.Prelude.{◌≡◌, [], slice_get, IfOk, OnErr, Some};
-ghost use Rattle.term_pool.specs.Prelude.{entry_layer, ArePartsOnce, Fits, HasParts, PartsStart, shown};
+ghost use Rattle.term_pool.specs.Entries.{entry_layer, ArePartsOnce, Fits, HasParts, PartsStart};
+ghost use Rattle.term_pool.specs.Layers.{shown};
 ghost use Rattle.csp_base.specs.Lists.{StandsIn};
 
 use crate::entry::Entry;

@@ -3,7 +3,11 @@
 ghost use Rattle.std.specs.Prelude.{◌≡◌, ◌<◌, [], true, length, slice_get, IfOk, OnErr, Some};
 ghost use Rattle.csp_program.specs.Prelude.{proc_depth, proc_size, given_by, proc_with, proc_free};
 ghost use Rattle.pool_parts.specs.Prelude.{capped, IsLow};
-ghost use Rattle.term_pool.specs.Prelude.{with_first, parts, AreDifferent, Has, IsFront, PartsStandBelow, StandAt, places_below, tree_at, tree_of, AddsOne, AddsParts};
+ghost use Rattle.term_pool.specs.First.{with_first};
+ghost use Rattle.term_pool.specs.Pooled.{parts, AreDifferent, Has, IsFront, PartsStandBelow};
+ghost use Rattle.term_pool.specs.Put.{StandAt};
+ghost use Rattle.term_pool.specs.Trees.{places_below, tree_at, tree_of};
+ghost use Rattle.term_pool.specs.Within.{AddsOne, AddsParts};
 
 use crate::entry::Entry;
 use crate::kept::{entry_at, measure_at, put_first_in, put_in, put_made_in};

@@ -1,7 +1,10 @@
 -- The trees of fields that all have a dot, one field after another.
 use Rattle.std.proofs.Common.{◌≡◌, Option, Some, None, List, ◌∷◌, ◌++◌, sym, ap, ◌∙◌}
 use Rattle.std.specs.Prelude.{ℕ}
-use Rattle.csp_text.specs.Prelude.{Tree, FieldTree, FieldTree-F, out-roll-FieldTree}
+use Rattle.csp_text.specs.declared.tree.FieldTree.{FieldTree}
+use Rattle.csp_text.specs.declared.tree.FieldTree.TheOpen.{FieldTree-F}
+use Rattle.csp_text.specs.declared.tree.FieldTree.TheViews.{out-roll-FieldTree}
+use Rattle.csp_text.specs.declared.tree.Tree.{Tree}
 use Rattle.csp_text.specs.declared.tree.FieldTree.TheVariants as field
 use Rattle.csp_grammar.specs.Reader.{and_then, with_first}
 use Rattle.tree_reading.specs.Starts.{dot_field, dot_fields, layer_dot}

@@ -1,6 +1,8 @@
 -- What the first token of a rest tells of the looks at it.
 use Rattle.std.proofs.Common.{◌≡◌, ℕ, ◌<◌, true, false, nat_eq, nat_lt, nat_le, if◌then◌else◌, Some, None, List, ◌∷◌, refl, ap, arith}
-use Rattle.csp_text.specs.Prelude.{Token, Symbol, same_symbol}
+use Rattle.csp_text.specs.Prelude.{same_symbol}
+use Rattle.csp_text.specs.declared.token.Symbol.{Symbol}
+use Rattle.csp_text.specs.declared.token.Token.{Token}
 use Rattle.csp_text.specs.declared.token.Token.TheVariants as token
 use Rattle.csp_text.specs.declared.token.Symbol.TheVariants as symbol
 use Rattle.csp_text.proofs.WrittenAlike.{symbol_is}

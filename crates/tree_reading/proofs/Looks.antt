@@ -1,6 +1,8 @@
 -- What a look at the tokens tells, where something is there.
 use Rattle.std.proofs.Common.{◌≡◌, ℕ, Bool, true, false, if◌then◌else◌, Some, None, List, [], ◌∷◌, refl, ap}
-use Rattle.csp_text.specs.Prelude.{Token, Symbol, same_symbol, same_word}
+use Rattle.csp_text.specs.Prelude.{same_symbol, same_word}
+use Rattle.csp_text.specs.declared.token.Symbol.{Symbol}
+use Rattle.csp_text.specs.declared.token.Token.{Token}
 use Rattle.csp_text.specs.declared.token.Word.{Word}
 use Rattle.csp_text.specs.declared.token.Token.TheVariants as token
 use Rattle.csp_text.specs.declared.token.Word.TheVariants as word
@@ -9,7 +11,10 @@ use Rattle.csp_base.specs.declared.operators.BinOp.{BinOp}
 use Rattle.csp_grammar.specs.Prelude.{choice_sign, Level, IsLeftOperator, IsComparison, disjunction, conjunction, negation, comparison, sum, product, minus, renaming, skip, skip_word}
 use Rattle.csp_grammar.specs.Precedence as table
 use Rattle.csp_text.proofs.WrittenAlike.{symbol_is, word_is}
-use Rattle.tree_reading.specs.Prelude.{choice, chain_symbol, first_chain, may_follow, named, sign_behind, symbol_sign, token_sign, word_sign, Chain, Sign, Binding}
+use Rattle.tree_reading.specs.Prelude.{choice, chain_symbol, first_chain, may_follow, named, sign_behind, symbol_sign, token_sign, word_sign}
+use Rattle.tree_reading.specs.declared.look.Chain.{Chain}
+use Rattle.tree_reading.specs.declared.look.Sign.{Sign}
+use Rattle.tree_reading.specs.declared.read.Binding.{Binding}
 use Rattle.tree_reading.specs.declared.look.Chain.TheVariants as chain
 use Rattle.tree_reading.specs.declared.look.Sign.TheVariants as sign
 use Rattle.tree_reading.specs.declared.read.Binding.TheVariants as binding

@@ -1,7 +1,10 @@
 -- Texts that have no tree: the reader reads something else in them, or nothing.
 use Rattle.std.proofs.Common.{◌≡◌, ℕ, zero, suc, ◌≤◌, max, None, List, [], ◌∷◌, refl, sym, ap, ◌∙◌, arith}
-use Rattle.csp_text.specs.Prelude.{tree_depth, Token, Name, ExternalChoice, InternalChoice, Question, Dot, Backslash, OpenParen, OpenBracket, OpenBrace, CloseBrace, Tree}
-use Rattle.csp_text.specs.declared.token.Token.TheVariants.{Symbol}
+use Rattle.csp_text.specs.Prelude.{tree_depth}
+use Rattle.csp_text.specs.declared.token.Symbol.TheVariants.{ExternalChoice, InternalChoice, Question, Dot, Backslash, OpenParen, OpenBracket, OpenBrace, CloseBrace}
+use Rattle.csp_text.specs.declared.token.Token.{Token}
+use Rattle.csp_text.specs.declared.token.Token.TheVariants.{Name, Symbol}
+use Rattle.csp_text.specs.declared.tree.Tree.{Tree}
 use Rattle.csp_text.specs.declared.tree.Tree.TheVariants as tree
 use Rattle.csp_grammar.specs.Prelude.{prefix_tokens, plain_prefix, SequenceText, SideText, closed, external, skip}
 use Rattle.csp_grammar.specs.Grammar as g

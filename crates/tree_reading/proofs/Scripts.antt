@@ -1,6 +1,10 @@
 -- The declarations of a script, as they are read.
 use Rattle.std.proofs.Common.{◌≡◌, ℕ, ◌≤◌, if◌then◌else◌, Some, None, List, ◌∷◌, codes, refl, ap}
-use Rattle.csp_text.specs.Prelude.{tree_depth, Token, Symbol, Tree, Decl, symbol_text}
+use Rattle.csp_text.specs.Prelude.{tree_depth, symbol_text}
+use Rattle.csp_text.specs.declared.script.Decl.{Decl}
+use Rattle.csp_text.specs.declared.token.Symbol.{Symbol}
+use Rattle.csp_text.specs.declared.token.Token.{Token}
+use Rattle.csp_text.specs.declared.tree.Tree.{Tree}
 use Rattle.csp_text.specs.declared.token.Token.TheVariants as token
 use Rattle.csp_text.specs.declared.token.Symbol.TheVariants as symbol
 use Rattle.csp_grammar.specs.Prelude.{NamesText, TypesText, ParametersText, AssertedText, ModelText, DeclarationText, DeclarationsText, and_then, case, skip, first_token}

@@ -1,6 +1,11 @@
 -- What is read of declarations, the grammar has; and so of all that the readers read.
 use Rattle.std.proofs.Common.{◌≡◌, ◌⊎◌, inl, inr, ℕ, zero, suc, ◌-◌, ◌≤◌, Bool, true, false, ◌||◌, Some, List, [], ◌∷◌, codes, refl, sym, ap, subst, ◌∙◌, arith}
-use Rattle.csp_text.specs.Prelude.{tree_depth, Token, Name, Word, Symbol, Tree, Decl}
+use Rattle.csp_text.specs.Prelude.{tree_depth}
+use Rattle.csp_text.specs.declared.script.Decl.{Decl}
+use Rattle.csp_text.specs.declared.token.Symbol.{Symbol}
+use Rattle.csp_text.specs.declared.token.Token.{Token}
+use Rattle.csp_text.specs.declared.token.Token.TheVariants.{Name, Word}
+use Rattle.csp_text.specs.declared.tree.Tree.{Tree}
 use Rattle.csp_base.specs.declared.operators.SetOp.TheVariants as set_op
 use Rattle.csp_text.specs.declared.token.Token.TheVariants as token
 use Rattle.csp_text.specs.declared.token.Word as words

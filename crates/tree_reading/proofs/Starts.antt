@@ -1,6 +1,7 @@
 -- How the text of an expression starts: not as an event, a generator, an open form or the end of a set does.
 use Rattle.std.proofs.Common.{◌≡◌, ℕ, false, nat_eq, None, List, ◌∷◌, refl}
-use Rattle.csp_text.specs.Prelude.{Token, Tree}
+use Rattle.csp_text.specs.declared.token.Token.{Token}
+use Rattle.csp_text.specs.declared.tree.Tree.{Tree}
 use Rattle.csp_text.specs.declared.token.Word.TheVariants as word
 use Rattle.csp_text.specs.declared.token.Symbol.TheVariants as symbol
 use Rattle.csp_base.specs.declared.operators.BinOp.{BinOp}

@@ -1,6 +1,8 @@
 -- What is read is one, so the grammar has one; and a reading decides what a text is.
 use Rattle.std.proofs.Common.{max, List, refl, ap, arith}
-use Rattle.csp_text.specs.Prelude.{tree_depth, Decl, Script}
+use Rattle.csp_text.specs.Prelude.{tree_depth}
+use Rattle.csp_text.specs.declared.script.Decl.{Decl}
+use Rattle.csp_text.specs.declared.script.Script.{Script}
 use Rattle.tree_reading.specs.Laws.{EachTextHasOneTree, EachTextIsOneScript, ReaderIsComplete, ReaderGivesTrees, ReaderIsSound, ReadTreesAreTrees, SettledScriptIsOne, SettledNothingIsNone, ScriptsSettle}
 use Rattle.tree_reading.proofs.Complete.{tree_read}
 use Rattle.tree_reading.proofs.Fitting.{first_part, second_part}

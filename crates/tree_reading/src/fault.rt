@@ -2,7 +2,8 @@
 
 ghost use Rattle.std.specs.Prelude.{◌≡◌, length};
 ghost use Rattle.tree_reading.specs.declared.fault.ReadFault.TheVariants as fault;
-ghost use Rattle.tree_reading.specs.Prelude.{Gives, sure};
+ghost use Rattle.tree_reading.specs.Gives.{Gives};
+ghost use Rattle.tree_reading.specs.Nesting.{sure};
 
 use csp_base::NoMemory;
 use csp_text::Token;

@@ -1,7 +1,9 @@
 //! What was read from the front of tokens.
 
 ghost use Rattle.std.specs.Prelude.{◌≡◌};
-ghost use Rattle.tree_reading.specs.Prelude.{Gives, at_least, last_item, left_operand, number, of_process, tighter, sure};
+ghost use Rattle.tree_reading.specs.Bindings.{at_least, last_item, left_operand, number, of_process, tighter};
+ghost use Rattle.tree_reading.specs.Gives.{Gives};
+ghost use Rattle.tree_reading.specs.Nesting.{sure};
 
 use crate::deep::Deep;
 use crate::fault::{ReadFault, stopped};

@@ -3,11 +3,18 @@ use Rattle.std.proofs.Common.{◌≡◌, ℕ, suc, ◌+◌, ◌<◌, ◌≤◌, 
 use Rattle.std.specs.Prelude.{slice_get}
 use Rattle.std.specs.List.{flat_map}
 use Rattle.csp_atoms.specs.declared.atom.Atom.{Atom}
-use Rattle.csp_text.specs.Prelude.{Decl, Tree}
+use Rattle.csp_text.specs.declared.script.Decl.{Decl}
+use Rattle.csp_text.specs.declared.tree.Tree.{Tree}
 use Rattle.csp_text.specs.declared.script.Decl.TheVariants as decl
-use Rattle.csp_program.specs.Prelude.{Outcome, Expr, Content, Def}
+use Rattle.csp_program.specs.Prelude.{Outcome}
+use Rattle.csp_program.specs.declared.expressions.Expr.{Expr}
+use Rattle.csp_program.specs.declared.programs.Content.{Content}
+use Rattle.csp_program.specs.declared.programs.Def.{Def}
 use Rattle.script_names.specs.declared.kinds.Class.TheVariants as class
-use Rattle.script_names.specs.Prelude.{Entity, Kind, body_of, channels_of, constants_of, definitions_from, first_assertion, resources_of, roles_of, root_of, IsShallow, Declares, IsAnnotated, IsEventSet, clashes, kind_class, kind_network, field_sets, body_ends, script_ends, Counts, Meanings, Name, counted, meanings_of, none_yet, sense_in, sense_of, Uses, Answer, and_next, channel_sets, told_in, tree_says, names_of, numbers_from, parameters, bodies_from, body_place, counts_of, data_place, declared_after, is_data, is_deep, names_declared, next_definition, parameters_after, types_say, all_bind, definition_number, exprs, reading, AreExprs}
+use Rattle.script_names.specs.Prelude.{body_of, channels_of, constants_of, definitions_from, first_assertion, resources_of, roles_of, root_of, IsShallow, Declares, IsAnnotated, IsEventSet, clashes, kind_class, kind_network, field_sets, body_ends, script_ends, Counts, Meanings, Name, counted, meanings_of, none_yet, sense_in, sense_of, Answer, and_next, channel_sets, told_in, tree_says, names_of, numbers_from, parameters, bodies_from, body_place, counts_of, data_place, declared_after, is_data, is_deep, names_declared, next_definition, parameters_after, types_say, all_bind, definition_number, exprs, reading, AreExprs}
+use Rattle.script_names.specs.declared.kinds.Entity.{Entity}
+use Rattle.script_names.specs.declared.kinds.Kind.{Kind}
+use Rattle.script_names.specs.declared.occurrence.Occurrence.TheVariants.{Uses}
 use Rattle.script_names.specs.declared.kinds.Entity.TheVariants as entity
 use Rattle.script_names.specs.declared.kinds.Need.TheVariants as need
 use Rattle.script_names.specs.declared.kinds.Sense.TheVariants as sense

@@ -2,9 +2,16 @@
 use Rattle.std.proofs.Common.{◌≡◌, ℕ, zero, suc, ◌+◌, Some, None, List, [], ◌∷◌, ◌++◌, length, subst}
 use Rattle.std.specs.Prelude.{slice_get}
 use Rattle.std.specs.List.{flat_map}
-use Rattle.csp_text.specs.Prelude.{Decl, Tree}
+use Rattle.csp_text.specs.declared.script.Decl.{Decl}
+use Rattle.csp_text.specs.declared.tree.Tree.{Tree}
 use Rattle.csp_text.specs.declared.script.Decl.TheVariants as decl
-use Rattle.script_names.specs.Prelude.{Class, End, Kind, Place, Sense, AreKindsOf, HasClass, LeadsTo, body_ends, end_of_call, end_of_name, ends_at, first_ends, Name, Meanings, meanings_of, Uses, Said, tree_says, body_place, declared_after, first_fault, names_declared, next_definition, parameters_after, Reading}
+use Rattle.script_names.specs.Prelude.{AreKindsOf, HasClass, LeadsTo, body_ends, end_of_call, end_of_name, ends_at, first_ends, Name, Meanings, meanings_of, Said, tree_says, body_place, declared_after, first_fault, names_declared, next_definition, parameters_after, Reading}
+use Rattle.script_names.specs.declared.kinds.Class.{Class}
+use Rattle.script_names.specs.declared.kinds.End.{End}
+use Rattle.script_names.specs.declared.kinds.Kind.{Kind}
+use Rattle.script_names.specs.declared.kinds.Place.{Place}
+use Rattle.script_names.specs.declared.kinds.Sense.{Sense}
+use Rattle.script_names.specs.declared.occurrence.Occurrence.TheVariants.{Uses}
 use Rattle.script_names.specs.Kinds.LeadsTo.{here, beyond}
 use Rattle.script_names.specs.declared.kinds.Class.TheVariants as class
 use Rattle.script_names.specs.declared.kinds.End.TheVariants as end

@@ -3,11 +3,16 @@ use Rattle.std.proofs.Common.{◌≡◌, ℕ, zero, suc, ◌+◌, false, Option,
 use Rattle.std.specs.Prelude.{slice_get}
 use Rattle.std.specs.List.{flat_map}
 use Rattle.csp_atoms.specs.declared.atom.Atom.{Atom}
-use Rattle.csp_text.specs.Prelude.{Decl, Tree}
+use Rattle.csp_text.specs.declared.script.Decl.{Decl}
+use Rattle.csp_text.specs.declared.tree.Tree.{Tree}
 use Rattle.csp_text.specs.declared.script.Decl.TheVariants as decl
-use Rattle.csp_program.specs.Prelude.{Expr, Content, Def}
+use Rattle.csp_program.specs.declared.expressions.Expr.{Expr}
+use Rattle.csp_program.specs.declared.programs.Content.{Content}
+use Rattle.csp_program.specs.declared.programs.Def.{Def}
 use Rattle.csp_program.specs.declared.programs.Body.TheVariants as body
-use Rattle.script_names.specs.Prelude.{Kind, body_of, channels_of, constants_of, definitions_from, first_assertion, resources_of, roles_of, root_of, definition_depth, depth_at, Declares, deepest, depth_within, said_by, kind_class, kind_network, field_sets, Counts, Meanings, Name, counted, Occurrence, and_next, channel_sets, told_in, numbers_from, parameters, bodies_from, body_place, expanded_body, definition_number, exprs, reading, tree_says}
+use Rattle.script_names.specs.Prelude.{body_of, channels_of, constants_of, definitions_from, first_assertion, resources_of, roles_of, root_of, definition_depth, depth_at, Declares, deepest, depth_within, said_by, kind_class, kind_network, field_sets, Counts, Meanings, Name, counted, and_next, channel_sets, told_in, numbers_from, parameters, bodies_from, body_place, expanded_body, definition_number, exprs, reading, tree_says}
+use Rattle.script_names.specs.declared.kinds.Kind.{Kind}
+use Rattle.script_names.specs.declared.occurrence.Occurrence.{Occurrence}
 use Rattle.script_names.specs.Declaring as d
 use Rattle.script_names.proofs.Scopes.{names_of-parameters}
 use Rattle.typed_laws.proofs.ExprsAre.{expr_is, exprs_are}

@@ -1,9 +1,16 @@
 -- How deep occurrences reach, and how deep expressions are with their uses expanded.
 use Rattle.std.proofs.Common.{◌≡◌, ℕ, ◌+◌, ◌<◌, List, [], ◌∷◌, ◌++◌, map, sym, ◌∙◌, ap, arith}
 use Rattle.std.specs.Prelude.{max}
-use Rattle.csp_program.specs.Prelude.{gen_depth_of_layer, part_depth_of_layer, EventPart, Expr, fold-roll-Expr, fold-roll-Gen, fold-roll-EventPart, map-Expr, map-Gen, Expr-F, Gen-F, roll-Expr, roll-Gen, Gen}
+use Rattle.csp_program.specs.Prelude.{gen_depth_of_layer, part_depth_of_layer}
+use Rattle.csp_program.specs.declared.expressions.EventPart.{EventPart}
+use Rattle.csp_program.specs.declared.expressions.Expr.{Expr}
+use Rattle.csp_program.specs.declared.expressions.Expr.TheFolds.{fold-roll-Expr, fold-roll-Gen, fold-roll-EventPart, map-Expr, map-Gen}
+use Rattle.csp_program.specs.declared.expressions.Expr.TheOpen.{Expr-F, Gen-F}
+use Rattle.csp_program.specs.declared.expressions.Expr.TheViews.{roll-Expr, roll-Gen}
+use Rattle.csp_program.specs.declared.expressions.Gen.{Gen}
 use Rattle.csp_base.specs.Lists.{greatest}
-use Rattle.script_names.specs.Prelude.{expanded_depth, expanded_depth_of_layer, gen_expanded_depth, part_expanded_depth, deepest, reach, Name, Occurrence, event_part}
+use Rattle.script_names.specs.Prelude.{expanded_depth, expanded_depth_of_layer, gen_expanded_depth, part_expanded_depth, deepest, reach, Name, event_part}
+use Rattle.script_names.specs.declared.occurrence.Occurrence.{Occurrence}
 
 max_assoc : (a b c : ℕ) → max a (max b c) ≡ max (max a b) c
 max_assoc a b c = omega arith

@@ -2,7 +2,12 @@
 use Rattle.std.proofs.Common.{◌≡◌, ℕ, Bool, true, false, not, ◌&&◌, nat_eq, Option, Some, None, List, refl, sym, ◌∙◌, ap}
 use Rattle.std.specs.Prelude.{slice_get}
 use Rattle.csp_base.proofs.Standard.{eqb-true, not-false, or-false}
-use Rattle.script_names.specs.Prelude.{Entity, Kind, Place, Sense, clashes, is_network, kind_class, kind_network, takes_other, when, Meanings, Name, sense_of, Uses}
+use Rattle.script_names.specs.Prelude.{clashes, is_network, kind_class, kind_network, takes_other, when, Meanings, Name, sense_of}
+use Rattle.script_names.specs.declared.kinds.Entity.{Entity}
+use Rattle.script_names.specs.declared.kinds.Kind.{Kind}
+use Rattle.script_names.specs.declared.kinds.Place.{Place}
+use Rattle.script_names.specs.declared.kinds.Sense.{Sense}
+use Rattle.script_names.specs.declared.occurrence.Occurrence.TheVariants.{Uses}
 use Rattle.script_names.specs.declared.kinds.Entity.TheVariants as entity
 use Rattle.script_names.specs.declared.kinds.Sense.TheVariants as sense
 use Rattle.script_names.specs.declared.kinds.Use.TheVariants as how

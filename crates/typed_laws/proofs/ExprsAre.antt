@@ -3,15 +3,30 @@ use Rattle.std.proofs.Common.{◌≡◌, ℕ, ◌+◌, ◌<◌, pos, Bool, true,
 use Rattle.std.specs.Prelude.{max}
 use Rattle.std.proofs.lemmas.List.{length-map}
 use Rattle.csp_base.specs.Lists.{greatest}
-use Rattle.csp_text.specs.Prelude.{FieldTree, fold-roll-GenTree, fold-roll-PartTree, fold-roll-Tree, GenTree-F, Tree-F, roll-GenTree, roll-Tree, EventTree, GenTree, PartTree, Tree}
+use Rattle.csp_text.specs.declared.tree.EventTree.{EventTree}
+use Rattle.csp_text.specs.declared.tree.FieldTree.{FieldTree}
+use Rattle.csp_text.specs.declared.tree.FieldTree.TheFolds.{fold-roll-GenTree, fold-roll-PartTree, fold-roll-Tree}
+use Rattle.csp_text.specs.declared.tree.FieldTree.TheOpen.{GenTree-F, Tree-F}
+use Rattle.csp_text.specs.declared.tree.FieldTree.TheViews.{roll-GenTree, roll-Tree}
+use Rattle.csp_text.specs.declared.tree.GenTree.{GenTree}
+use Rattle.csp_text.specs.declared.tree.PartTree.{PartTree}
+use Rattle.csp_text.specs.declared.tree.Tree.{Tree}
 use Rattle.csp_text.specs.declared.tree.GenTree.TheVariants as generator
 use Rattle.csp_text.specs.declared.tree.Tree.TheVariants as tree
-use Rattle.csp_program.specs.Prelude.{EventPart, Expr, Expr-F, Gen-F, Gen, Field}
+use Rattle.csp_program.specs.declared.expressions.EventPart.{EventPart}
+use Rattle.csp_program.specs.declared.expressions.Expr.{Expr}
+use Rattle.csp_program.specs.declared.expressions.Expr.TheOpen.{Expr-F, Gen-F}
+use Rattle.csp_program.specs.declared.expressions.Gen.{Gen}
+use Rattle.csp_program.specs.declared.processes.Field.{Field}
 use Rattle.csp_program.specs.declared.expressions.Expr.TheVariants as expr
 use Rattle.csp_program.specs.declared.expressions.Gen.TheVariants as gen_of
 use Rattle.script_names.specs.declared.kinds.Class.TheVariants as class
 use Rattle.script_names.specs.declared.kinds.Entity.TheVariants as entity
-use Rattle.script_names.specs.Prelude.{Kind, Place, Sense, expanded_depth, gen_expanded_depth, part_expanded_depth, below, deepest, when, Meanings, Name, sense_in, Binds, Form, Uses, Binder, Fields, Said, all_say, event_says_of_layer, field_says_of_layer, gen_says_of_layer, in_turn, part_says, part_says_of_layer, tree_says, tree_says_of_layer, Scope, names_of, with, Binding, Front, Reading, all_bind, bindings, bindings_bind, channel_number, definition_number, event_of_layer, exprs, field_of_layer, gen_of_layer, named, part, part_of_layer, parts, parts_bind, reading, reading_of_layer, under, AreExprs, AreFronts, AreGens, IsExpr, IsFront, Means, event_part, part_tree}
+use Rattle.script_names.specs.Prelude.{expanded_depth, gen_expanded_depth, part_expanded_depth, below, deepest, when, Meanings, Name, sense_in, Binder, Fields, Said, all_say, event_says_of_layer, field_says_of_layer, gen_says_of_layer, in_turn, part_says, part_says_of_layer, tree_says, tree_says_of_layer, Scope, names_of, with, Binding, Front, Reading, all_bind, bindings, bindings_bind, channel_number, definition_number, event_of_layer, exprs, field_of_layer, gen_of_layer, named, part, part_of_layer, parts, parts_bind, reading, reading_of_layer, under, AreExprs, AreFronts, AreGens, IsExpr, IsFront, Means, event_part, part_tree}
+use Rattle.script_names.specs.declared.kinds.Kind.{Kind}
+use Rattle.script_names.specs.declared.kinds.Place.{Place}
+use Rattle.script_names.specs.declared.kinds.Sense.{Sense}
+use Rattle.script_names.specs.declared.occurrence.Occurrence.TheVariants.{Binds, Form, Uses}
 use Rattle.script_names.specs.declared.kinds.Sense.TheVariants as sense
 use Rattle.script_names.specs.declared.kinds.Use.TheVariants as how
 use Rattle.script_names.specs.Says as says

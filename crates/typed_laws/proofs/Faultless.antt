@@ -2,7 +2,10 @@
 use Rattle.std.proofs.Common.{◌≡◌, ℕ, Bool, true, false, Option, Some, None, List, [], ◌∷◌, ◌++◌, length, map, refl, option_map}
 use Rattle.std.specs.List.{list_any}
 use Rattle.csp_text.specs.declared.script.Decl.{Decl}
-use Rattle.script_names.specs.Prelude.{ResolveFault, Kind, unknown_name, repeated_name, is_wrong_kind, wrong_count, is_inside, Name, meanings_of, Occurrence, bodies_from, decl_says, fault_in, fault_of, first_fault, first_name, first_there, next_definition, too_deep, when_any}
+use Rattle.script_names.specs.Prelude.{unknown_name, repeated_name, is_wrong_kind, wrong_count, is_inside, Name, meanings_of, bodies_from, decl_says, fault_in, fault_of, first_fault, first_name, first_there, next_definition, too_deep, when_any}
+use Rattle.script_names.specs.declared.fault.ResolveFault.{ResolveFault}
+use Rattle.script_names.specs.declared.kinds.Kind.{Kind}
+use Rattle.script_names.specs.declared.occurrence.Occurrence.{Occurrence}
 use Rattle.script_names.specs.declared.fault.ResolveFault.TheVariants as fault
 use Rattle.csp_base.proofs.Booleans.{or_first_false, or_second_false}
 

@@ -1,12 +1,21 @@
 -- A tree, what it says, what it is read as, and its ends, by the forms of trees: one constructor a form. Each tree is made so.
 use Rattle.std.proofs.Common.{ℕ, Some, None, List, [], ◌∷◌, ◌++◌}
-use Rattle.csp_base.specs.Prelude.{BinOp, SetOp}
-use Rattle.csp_text.specs.Prelude.{FieldTree-F, GenTree-F, Tree-F, EventTree, FieldTree, GenTree, PartTree, Tree}
+use Rattle.csp_base.specs.declared.operators.BinOp.{BinOp}
+use Rattle.csp_base.specs.declared.operators.SetOp.{SetOp}
+use Rattle.csp_text.specs.declared.tree.EventTree.{EventTree}
+use Rattle.csp_text.specs.declared.tree.FieldTree.{FieldTree}
+use Rattle.csp_text.specs.declared.tree.FieldTree.TheOpen.{FieldTree-F, GenTree-F, Tree-F}
+use Rattle.csp_text.specs.declared.tree.GenTree.{GenTree}
+use Rattle.csp_text.specs.declared.tree.PartTree.{PartTree}
+use Rattle.csp_text.specs.declared.tree.Tree.{Tree}
 use Rattle.csp_text.specs.declared.tree.FieldTree.TheVariants as text
 use Rattle.csp_text.specs.declared.tree.GenTree.TheVariants as generator
 use Rattle.csp_text.specs.declared.tree.Tree.TheVariants as tree
-use Rattle.csp_program.specs.Prelude.{Gen, Field}
-use Rattle.script_names.specs.Prelude.{End, Kind, end_of_call, end_of_name, Name, Meanings, sense_in, Binder, Fields, Said, field_says_of_layer, gen_says_of_layer, tree_says_of_layer, event_tree, part_tree, Binding, Front, Reading, field_of_layer, gen_of_layer, reading_of_layer}
+use Rattle.csp_program.specs.declared.expressions.Gen.{Gen}
+use Rattle.csp_program.specs.declared.processes.Field.{Field}
+use Rattle.script_names.specs.Prelude.{end_of_call, end_of_name, Name, Meanings, sense_in, Binder, Fields, Said, field_says_of_layer, gen_says_of_layer, tree_says_of_layer, event_tree, part_tree, Binding, Front, Reading, field_of_layer, gen_of_layer, reading_of_layer}
+use Rattle.script_names.specs.declared.kinds.End.{End}
+use Rattle.script_names.specs.declared.kinds.Kind.{Kind}
 use Rattle.script_names.specs.declared.kinds.End.TheVariants as end
 
 -- ends under bound names

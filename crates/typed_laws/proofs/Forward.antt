@@ -2,12 +2,17 @@
 use Rattle.std.proofs.Common.{◌≡◌, ℕ, Bool, true, false, ◌&&◌, Some, List, [], ◌∷◌, refl, sym, ◌∙◌, ap, subst}
 use Rattle.std.specs.Prelude.{slice_get}
 use Rattle.csp_atoms.specs.declared.atom.Atom.{Atom}
-use Rattle.csp_text.specs.Prelude.{Decl, Tree}
+use Rattle.csp_text.specs.declared.script.Decl.{Decl}
+use Rattle.csp_text.specs.declared.tree.Tree.{Tree}
 use Rattle.csp_text.specs.declared.script.Decl.TheVariants as decl
-use Rattle.csp_program.specs.Prelude.{Expr, Content}
+use Rattle.csp_program.specs.declared.expressions.Expr.{Expr}
+use Rattle.csp_program.specs.declared.programs.Content.{Content}
 use Rattle.script_names.specs.declared.kinds.Class.TheVariants as class
 use Rattle.script_names.specs.declared.kinds.Entity.TheVariants as entity
-use Rattle.script_names.specs.Prelude.{Kind, IsShallow, Declares, IsAnnotated, IsEventSet, clashes, kind_class, Counts, Meanings, Name, meanings_of, names_declared, none_yet, sense_in, sense_of, Occurrence, Uses, tree_says, names_of, parameters, body_place, bodies_from, counts_of, declared_after, is_data, is_deep, next_definition, too_deep, types_say, AreExprs}
+use Rattle.script_names.specs.Prelude.{IsShallow, Declares, IsAnnotated, IsEventSet, clashes, kind_class, Counts, Meanings, Name, meanings_of, names_declared, none_yet, sense_in, sense_of, tree_says, names_of, parameters, body_place, bodies_from, counts_of, declared_after, is_data, is_deep, next_definition, too_deep, types_say, AreExprs}
+use Rattle.script_names.specs.declared.kinds.Kind.{Kind}
+use Rattle.script_names.specs.declared.occurrence.Occurrence.{Occurrence}
+use Rattle.script_names.specs.declared.occurrence.Occurrence.TheVariants.{Uses}
 use Rattle.script_names.specs.declared.kinds.Need.TheVariants as need
 use Rattle.script_names.specs.declared.kinds.Sense.TheVariants as sense
 use Rattle.script_names.specs.declared.kinds.Use.TheVariants as how

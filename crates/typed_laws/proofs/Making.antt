@@ -1,12 +1,21 @@
 -- Each tree is made of the forms.
 use Rattle.std.proofs.Common.{◌≡◌, Some, None, List, [], ◌∷◌, map, sym, subst}
-use Rattle.csp_text.specs.Prelude.{fold-GenTree, fold-EventTree, fold-PartTree, fold-roll-FieldTree, fold-roll-GenTree, fold-roll-Tree, fold-roll-EventTree, fold-roll-PartTree, ind-Tree, map-FieldTree, map-GenTree, map-Tree, map-EventTree, map-PartTree, FieldTree-F, GenTree-F, Tree-F, EventTree-F, PartTree-F, roll-FieldTree, roll-GenTree, roll-Tree, roll-EventTree, roll-PartTree, FieldTree, GenTree, Tree, EventTree, PartTree}
-use Rattle.csp_text.specs.declared.tree.FieldTree.TheFolds.{fold-FieldTree}
+use Rattle.csp_text.specs.declared.tree.EventTree.{EventTree}
+use Rattle.csp_text.specs.declared.tree.FieldTree.{FieldTree}
+use Rattle.csp_text.specs.declared.tree.FieldTree.TheFolds.{fold-GenTree, fold-EventTree, fold-PartTree, fold-roll-FieldTree, fold-roll-GenTree, fold-roll-Tree, fold-roll-EventTree, fold-roll-PartTree, ind-Tree, map-FieldTree, map-GenTree, map-Tree, map-EventTree, map-PartTree, fold-FieldTree}
+use Rattle.csp_text.specs.declared.tree.FieldTree.TheOpen.{FieldTree-F, GenTree-F, Tree-F, EventTree-F, PartTree-F}
+use Rattle.csp_text.specs.declared.tree.FieldTree.TheViews.{roll-FieldTree, roll-GenTree, roll-Tree, roll-EventTree, roll-PartTree}
+use Rattle.csp_text.specs.declared.tree.GenTree.{GenTree}
+use Rattle.csp_text.specs.declared.tree.PartTree.{PartTree}
+use Rattle.csp_text.specs.declared.tree.Tree.{Tree}
 use Rattle.csp_text.specs.declared.tree.FieldTree.TheVariants as text
 use Rattle.csp_text.specs.declared.tree.GenTree.TheVariants as generator
 use Rattle.csp_text.specs.declared.tree.Tree.TheVariants as tree
-use Rattle.csp_program.specs.Prelude.{Gen, Field}
-use Rattle.script_names.specs.Prelude.{End, Kind, ends, ends_of_layer, Meanings, Binder, Fields, Said, event_says_of_layer, field_says_of_layer, gen_says_of_layer, part_says_of_layer, tree_says, tree_says_of_layer, Binding, Front, Reading, event_of_layer, field_of_layer, gen_of_layer, part_of_layer, reading, reading_of_layer}
+use Rattle.csp_program.specs.declared.expressions.Gen.{Gen}
+use Rattle.csp_program.specs.declared.processes.Field.{Field}
+use Rattle.script_names.specs.Prelude.{ends, ends_of_layer, Meanings, Binder, Fields, Said, event_says_of_layer, field_says_of_layer, gen_says_of_layer, part_says_of_layer, tree_says, tree_says_of_layer, Binding, Front, Reading, event_of_layer, field_of_layer, gen_of_layer, part_of_layer, reading, reading_of_layer}
+use Rattle.script_names.specs.declared.kinds.End.{End}
+use Rattle.script_names.specs.declared.kinds.Kind.{Kind}
 use Rattle.typed_laws.proofs.Formed.{Ends, Reads, AllRead, FieldRead, FieldsRead, EventRead, GenRead, GensRead, PartRead, PartsRead, PairsRead}
 use Rattle.typed_laws.proofs.Formed.Reads.{num, truth, falsehood, name, call, dotted, negative, negated, binary, either_part, display, span, comprehension, production, set_operator, stop, skip, prefix, guard, external, internal, each_external, each_internal, pair, each_parallel, sequence, hiding, renaming}
 use Rattle.typed_laws.proofs.Formed.AllRead.{no_trees, more_trees}

@@ -2,12 +2,24 @@
 use Rattle.std.proofs.Common.{◌≡◌, ℕ, ◌+◌, true, false, ◌||◌, List, [], length, map, refl, ◌∙◌, ap, subst, arith}
 use Rattle.std.specs.Prelude.{if◌then◌else◌}
 use Rattle.std.proofs.lemmas.List.{length-map}
-use Rattle.csp_text.specs.Prelude.{EventTree, FieldTree, map-Tree, Tree-F, out-Tree, roll-out-Tree, GenTree, PartTree, Tree}
+use Rattle.csp_text.specs.declared.tree.EventTree.{EventTree}
+use Rattle.csp_text.specs.declared.tree.FieldTree.{FieldTree}
+use Rattle.csp_text.specs.declared.tree.FieldTree.TheFolds.{map-Tree}
+use Rattle.csp_text.specs.declared.tree.FieldTree.TheOpen.{Tree-F}
+use Rattle.csp_text.specs.declared.tree.FieldTree.TheViews.{out-Tree, roll-out-Tree}
+use Rattle.csp_text.specs.declared.tree.GenTree.{GenTree}
+use Rattle.csp_text.specs.declared.tree.PartTree.{PartTree}
+use Rattle.csp_text.specs.declared.tree.Tree.{Tree}
 use Rattle.csp_text.specs.declared.tree.Tree.TheVariants as tree
-use Rattle.csp_program.specs.Prelude.{Gen, Net, Field, Proc}
+use Rattle.csp_program.specs.declared.expressions.Gen.{Gen}
+use Rattle.csp_program.specs.declared.networks.Net.{Net}
+use Rattle.csp_program.specs.declared.processes.Field.{Field}
+use Rattle.csp_program.specs.declared.processes.Proc.{Proc}
 use Rattle.csp_program.specs.declared.networks.Net.TheVariants as net
 use Rattle.script_names.specs.declared.kinds.Entity.TheVariants as entity
-use Rattle.script_names.specs.Prelude.{Kind, is_network, kind_network, Meanings, Parallel, Said, tree_says, Scope, names_of, with, Binding, Front, Layer, Reading, definition_number, net_of_layer, network_of_layer, networked_of_layer, proc_of_layer, reading, IsComposition, IsNet}
+use Rattle.script_names.specs.Prelude.{is_network, kind_network, Meanings, Said, tree_says, Scope, names_of, with, Binding, Front, Layer, Reading, definition_number, net_of_layer, network_of_layer, networked_of_layer, proc_of_layer, reading, IsComposition, IsNet}
+use Rattle.script_names.specs.declared.kinds.Kind.{Kind}
+use Rattle.script_names.specs.declared.occurrence.Occurrence.TheVariants.{Parallel}
 use Rattle.script_names.specs.Typing as t
 use Rattle.typed_laws.proofs.ExprsAre.{add_three, expr_is, exprs_are, none_next, tree_layer}
 use Rattle.typed_laws.proofs.Making.{event_reading, field_reading, gen_reading, part_reading}

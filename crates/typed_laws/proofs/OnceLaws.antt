@@ -7,7 +7,9 @@ use Rattle.csp_base.proofs.Booleans.{or_first_false, or_second_false}
 use Rattle.csp_base.specs.Lists.{EachOnce}
 use Rattle.csp_text.specs.declared.script.Decl.{Decl}
 use Rattle.csp_text.specs.declared.script.Decl.TheVariants as decl
-use Rattle.script_names.specs.Prelude.{Entity, Kind, AreParameters, is_constant, when, Counts, Meanings, Name, channels_from, constants_from, counted, declared_from, is_among, names_declared, none_yet, same_name, AreOnce, with_roles, with_uses, declared_after, parameters_after, MayBind}
+use Rattle.script_names.specs.Prelude.{AreParameters, is_constant, when, Counts, Meanings, Name, channels_from, constants_from, counted, declared_from, is_among, names_declared, none_yet, same_name, AreOnce, with_roles, with_uses, declared_after, parameters_after, MayBind}
+use Rattle.script_names.specs.declared.kinds.Entity.{Entity}
+use Rattle.script_names.specs.declared.kinds.Kind.{Kind}
 use Rattle.typed_laws.proofs.DefUses.{when_none}
 use Rattle.typed_laws.proofs.Passing.{AllPass}
 use Rattle.typed_laws.proofs.Senses.{no_constant}

@@ -1,6 +1,13 @@
 -- Occurrences of which no fault is told.
 use Rattle.std.proofs.Common.{◌≡◌, ℕ, Bool, false, None, List, [], ◌∷◌, ◌++◌, refl, sym, subst}
-use Rattle.script_names.specs.Prelude.{Class, Kind, Place, Sense, Use, clashes, repeated_name, Meanings, Name, Occurrence, Form, Uses}
+use Rattle.script_names.specs.Prelude.{clashes, repeated_name, Meanings, Name}
+use Rattle.script_names.specs.declared.kinds.Class.{Class}
+use Rattle.script_names.specs.declared.kinds.Kind.{Kind}
+use Rattle.script_names.specs.declared.kinds.Place.{Place}
+use Rattle.script_names.specs.declared.kinds.Sense.{Sense}
+use Rattle.script_names.specs.declared.kinds.Use.{Use}
+use Rattle.script_names.specs.declared.occurrence.Occurrence.{Occurrence}
+use Rattle.script_names.specs.declared.occurrence.Occurrence.TheVariants.{Form, Uses}
 use Rattle.script_names.specs.declared.kinds.Need.TheVariants as need
 use Rattle.typed_laws.proofs.Faultless.{AllFine, IsFine}
 

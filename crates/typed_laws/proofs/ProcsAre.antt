@@ -1,16 +1,30 @@
 -- Where a tree is a process by the rules of typing, it is read as that process and passes.
 use Rattle.std.proofs.Common.{◌≡◌, ℕ, zero, suc, ◌+◌, ◌-◌, Bool, true, false, not, ◌||◌, nat_eq, nat_lt, Some, None, List, [], ◌∷◌, length, map, refl, sym, ◌∙◌, ap, subst, append-nil, arith}
 use Rattle.csp_base.proofs.Standard.{eq-eqb, length-map}
-use Rattle.csp_text.specs.Prelude.{EventTree, FieldTree, fold-roll-EventTree, fold-roll-FieldTree, FieldTree-F, Tree-F, roll-FieldTree, GenTree, PartTree, Tree}
+use Rattle.csp_text.specs.declared.tree.EventTree.{EventTree}
+use Rattle.csp_text.specs.declared.tree.FieldTree.{FieldTree}
+use Rattle.csp_text.specs.declared.tree.FieldTree.TheFolds.{fold-roll-EventTree, fold-roll-FieldTree}
+use Rattle.csp_text.specs.declared.tree.FieldTree.TheOpen.{FieldTree-F, Tree-F}
+use Rattle.csp_text.specs.declared.tree.FieldTree.TheViews.{roll-FieldTree}
+use Rattle.csp_text.specs.declared.tree.GenTree.{GenTree}
+use Rattle.csp_text.specs.declared.tree.PartTree.{PartTree}
+use Rattle.csp_text.specs.declared.tree.Tree.{Tree}
 use Rattle.csp_text.specs.declared.tree.FieldTree.TheVariants as text
 use Rattle.csp_text.specs.declared.tree.Tree.TheVariants as tree
-use Rattle.csp_program.specs.Prelude.{EventPart, Gen, Field, Proc}
+use Rattle.csp_program.specs.declared.expressions.EventPart.{EventPart}
+use Rattle.csp_program.specs.declared.expressions.Gen.{Gen}
+use Rattle.csp_program.specs.declared.processes.Field.{Field}
+use Rattle.csp_program.specs.declared.processes.Proc.{Proc}
 use Rattle.csp_program.specs.declared.processes.Field.TheVariants as field
 use Rattle.csp_program.specs.declared.processes.Head.TheVariants as head
 use Rattle.csp_program.specs.declared.processes.Proc.TheVariants as proc
 use Rattle.script_names.specs.declared.kinds.Class.TheVariants as class
 use Rattle.script_names.specs.declared.kinds.Entity.TheVariants as entity
-use Rattle.script_names.specs.Prelude.{Kind, Place, Sense, is_network, kind_network, when, Meanings, Name, Form, Uses, Binder, Fields, Said, all_say, event_says_of_layer, field_says_of_layer, gen_says_of_layer, in_turn, pair_says, part_says, part_says_of_layer, tree_says, tree_says_of_layer, Scope, names_of, with, Binding, Front, Reading, all_bind, bindings, bindings_bind, definition_number, channel_number, event_of_layer, field_of_layer, gen_of_layer, head_of, pairs, pairs_bind, part, part_of_layer, procs, reading, reading_of_layer, under, AreFields, ArePairs, AreProcs, IsProc, event_tree}
+use Rattle.script_names.specs.Prelude.{is_network, kind_network, when, Meanings, Name, Binder, Fields, Said, all_say, event_says_of_layer, field_says_of_layer, gen_says_of_layer, in_turn, pair_says, part_says, part_says_of_layer, tree_says, tree_says_of_layer, Scope, names_of, with, Binding, Front, Reading, all_bind, bindings, bindings_bind, definition_number, channel_number, event_of_layer, field_of_layer, gen_of_layer, head_of, pairs, pairs_bind, part, part_of_layer, procs, reading, reading_of_layer, under, AreFields, ArePairs, AreProcs, IsProc, event_tree}
+use Rattle.script_names.specs.declared.kinds.Kind.{Kind}
+use Rattle.script_names.specs.declared.kinds.Place.{Place}
+use Rattle.script_names.specs.declared.kinds.Sense.{Sense}
+use Rattle.script_names.specs.declared.occurrence.Occurrence.TheVariants.{Form, Uses}
 use Rattle.script_names.specs.declared.kinds.Sense.TheVariants as sense
 use Rattle.script_names.specs.declared.kinds.Use.TheVariants as how
 use Rattle.script_names.specs.Says as says

@@ -5,10 +5,16 @@ use Rattle.std.specs.List.{flat_map}
 use Rattle.dl_limits.specs.declared.TheConstants.{MOST_DATA_DEPTH, MOST_EVENTS}
 use Rattle.csp_atoms.specs.declared.atom.Atom.{Atom}
 use Rattle.csp_base.specs.Lists.{StandsIn}
-use Rattle.csp_text.specs.Prelude.{Decl, Script, Tree}
+use Rattle.csp_text.specs.declared.script.Decl.{Decl}
+use Rattle.csp_text.specs.declared.script.Script.{Script}
+use Rattle.csp_text.specs.declared.tree.Tree.{Tree}
 use Rattle.csp_text.specs.declared.script.Decl.TheVariants as decl
-use Rattle.csp_program.specs.Prelude.{Expr, Content}
-use Rattle.script_names.specs.Prelude.{ResolveFault, Kind, first_assertion, plain_content, IsShallow, definition_depth, Declares, nothing_yet, depth_within, when, field_sets, AreKinds, script_ends, Meanings, Name, is_among, meanings_of, names_declared, none_yet, Notes, AreOnce, with_roles, with_uses, IsProgram, all_events, with_events, with_sets, Answer, and_next, channel_sets, resolved, types_of, with_names, with_root, with_table, tree_says, bodies_from, body_place, data_place, declared_after, is_deep, name_fault, next_definition, parameters_after, types_say}
+use Rattle.csp_program.specs.declared.expressions.Expr.{Expr}
+use Rattle.csp_program.specs.declared.programs.Content.{Content}
+use Rattle.script_names.specs.Prelude.{first_assertion, plain_content, IsShallow, definition_depth, Declares, nothing_yet, depth_within, when, field_sets, AreKinds, script_ends, Meanings, Name, is_among, meanings_of, names_declared, none_yet, AreOnce, with_roles, with_uses, IsProgram, all_events, with_events, with_sets, Answer, and_next, channel_sets, resolved, types_of, with_names, with_root, with_table, tree_says, bodies_from, body_place, data_place, declared_after, is_deep, name_fault, next_definition, parameters_after, types_say}
+use Rattle.script_names.specs.declared.fault.ResolveFault.{ResolveFault}
+use Rattle.script_names.specs.declared.kinds.Kind.{Kind}
+use Rattle.script_names.specs.declared.occurrence.Occurrence.TheVariants.{Notes}
 use Rattle.typed_laws.proofs.Back.{SetsFor, any_sets, declares, sets_for, sets_for_any}
 use Rattle.typed_laws.proofs.Declared.{bodies_are, content_is, depths_agree, sets_are}
 use Rattle.typed_laws.proofs.DeclPasses.{EachPasses, each_passes, no_fault}

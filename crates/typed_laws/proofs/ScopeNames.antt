@@ -1,9 +1,14 @@
 -- The names of scopes: what a binder says that it binds is what it adds to the scope.
 use Rattle.std.proofs.Common.{◌≡◌, ℕ, ◌+◌, Bool, true, false, ◌||◌, Option, Some, None, List, [], ◌∷◌, ◌++◌, refl, sym, subst, ◌∙◌, ap, append-nil}
 use Rattle.std.specs.Prelude.{if◌then◌else◌}
-use Rattle.csp_program.specs.Prelude.{Gen, Field}
-use Rattle.csp_text.specs.Prelude.{FieldTree, GenTree}
-use Rattle.script_names.specs.Prelude.{Kind, Sense, Name, Meanings, is_among, same_name, sense_in, sense_of, Binder, Said, Binding, Scope, names_of, number_of, or_else, under, with, Place}
+use Rattle.csp_program.specs.declared.expressions.Gen.{Gen}
+use Rattle.csp_program.specs.declared.processes.Field.{Field}
+use Rattle.csp_text.specs.declared.tree.FieldTree.{FieldTree}
+use Rattle.csp_text.specs.declared.tree.GenTree.{GenTree}
+use Rattle.script_names.specs.Prelude.{Name, Meanings, is_among, same_name, sense_in, sense_of, Binder, Said, Binding, Scope, names_of, number_of, or_else, under, with}
+use Rattle.script_names.specs.declared.kinds.Kind.{Kind}
+use Rattle.script_names.specs.declared.kinds.Place.{Place}
+use Rattle.script_names.specs.declared.kinds.Sense.{Sense}
 use Rattle.script_names.specs.declared.kinds.Sense.TheVariants as sense
 use Rattle.script_names.specs.Says as says
 use Rattle.typed_laws.proofs.Formed.{FieldRead, FieldsRead, GenRead, GensRead}

@@ -3,9 +3,16 @@ use Rattle.std.proofs.Common.{◌≡◌, ℕ, zero, suc, ◌+◌, ◌<◌, ◌�
 use Rattle.std.specs.Prelude.{slice_get}
 use Rattle.csp_base.specs.Standard.{flat_map, lookup}
 use Rattle.std.proofs.lemmas.Option.{slice_get_within}
-use Rattle.csp_text.specs.Prelude.{Decl, Tree}
+use Rattle.csp_text.specs.declared.script.Decl.{Decl}
+use Rattle.csp_text.specs.declared.tree.Tree.{Tree}
 use Rattle.csp_text.specs.declared.script.Decl.TheVariants as decl
-use Rattle.script_names.specs.Prelude.{Class, End, Entity, Kind, Sense, clashes, kind_class, kind_network, AreKinds, LeadsTo, body_ends, end_of_call, end_of_name, ends, ends_at, script_ends, Counts, Entities, Meanings, Name, channels_from, constants_from, counted, declared_from, meanings_of, none_yet, same_name, Uses, Said, tree_says, body_place, counts_of, declared_after, name_fault, names_declared, need_of, next_definition, parameters_after, Reading}
+use Rattle.script_names.specs.Prelude.{clashes, kind_class, kind_network, AreKinds, LeadsTo, body_ends, end_of_call, end_of_name, ends, ends_at, script_ends, Counts, Entities, Meanings, Name, channels_from, constants_from, counted, declared_from, meanings_of, none_yet, same_name, Said, tree_says, body_place, counts_of, declared_after, name_fault, names_declared, need_of, next_definition, parameters_after, Reading}
+use Rattle.script_names.specs.declared.kinds.Class.{Class}
+use Rattle.script_names.specs.declared.kinds.End.{End}
+use Rattle.script_names.specs.declared.kinds.Entity.{Entity}
+use Rattle.script_names.specs.declared.kinds.Kind.{Kind}
+use Rattle.script_names.specs.declared.kinds.Sense.{Sense}
+use Rattle.script_names.specs.declared.occurrence.Occurrence.TheVariants.{Uses}
 use Rattle.script_names.specs.Kinds.LeadsTo.{here, beyond}
 use Rattle.script_names.specs.declared.kinds.Class.TheVariants as class
 use Rattle.script_names.specs.declared.kinds.End.TheVariants as end

@@ -2,7 +2,12 @@
 use Rattle.std.proofs.Common.{◌≡◌, ℕ, Bool, false, not, ◌&&◌, nat_eq, Option, Some, None, List, refl, sym, ◌∙◌, ap}
 use Rattle.std.specs.Prelude.{slice_get}
 use Rattle.std.proofs.lemmas.Bool.{eq-eqb}
-use Rattle.script_names.specs.Prelude.{Entity, Kind, Place, Sense, clashes, is_constant, kind_class, kind_network, when, Meanings, Name, sense_in, sense_of, Binds, Uses, Scope, names_of, number_of, MayBind, Means}
+use Rattle.script_names.specs.Prelude.{clashes, is_constant, kind_class, kind_network, when, Meanings, Name, sense_in, sense_of, Scope, names_of, number_of, MayBind, Means}
+use Rattle.script_names.specs.declared.kinds.Entity.{Entity}
+use Rattle.script_names.specs.declared.kinds.Kind.{Kind}
+use Rattle.script_names.specs.declared.kinds.Place.{Place}
+use Rattle.script_names.specs.declared.kinds.Sense.{Sense}
+use Rattle.script_names.specs.declared.occurrence.Occurrence.TheVariants.{Binds, Uses}
 use Rattle.script_names.specs.declared.kinds.Entity.TheVariants as entity
 use Rattle.script_names.specs.declared.kinds.Sense.TheVariants as sense
 use Rattle.script_names.specs.declared.kinds.Use.TheVariants as how

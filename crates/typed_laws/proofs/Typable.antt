@@ -1,15 +1,28 @@
 -- A tree that passes is an expression, a process or a network by the rules of typing: the one that it is read as.
 use Rattle.std.proofs.Common.{◌≡◌, ℕ, suc, ◌+◌, ◌-◌, ◌≤◌, Bool, true, false, not, ◌&&◌, ◌||◌, Option, Some, List, [], ◌∷◌, ◌++◌, length, map, refl, sym, ◌∙◌, ap, subst, append-nil, arith}
 use Rattle.std.specs.Prelude.{if◌then◌else◌}
-use Rattle.csp_text.specs.Prelude.{FieldTree, GenTree, PartTree, Tree}
+use Rattle.csp_text.specs.declared.tree.FieldTree.{FieldTree}
+use Rattle.csp_text.specs.declared.tree.GenTree.{GenTree}
+use Rattle.csp_text.specs.declared.tree.PartTree.{PartTree}
+use Rattle.csp_text.specs.declared.tree.Tree.{Tree}
 use Rattle.csp_text.specs.declared.tree.Tree.TheVariants as tree
-use Rattle.csp_program.specs.Prelude.{EventPart, Expr, Gen, Net, Field, Proc}
+use Rattle.csp_program.specs.declared.expressions.EventPart.{EventPart}
+use Rattle.csp_program.specs.declared.expressions.Expr.{Expr}
+use Rattle.csp_program.specs.declared.expressions.Gen.{Gen}
+use Rattle.csp_program.specs.declared.networks.Net.{Net}
+use Rattle.csp_program.specs.declared.processes.Field.{Field}
+use Rattle.csp_program.specs.declared.processes.Proc.{Proc}
 use Rattle.csp_program.specs.declared.expressions.Expr.TheVariants as expr
 use Rattle.csp_program.specs.declared.networks.Net.TheVariants as net
 use Rattle.csp_program.specs.declared.processes.Head.TheVariants as head
 use Rattle.csp_program.specs.declared.processes.Proc.TheVariants as proc
 use Rattle.script_names.specs.declared.kinds.Class.TheVariants as class
-use Rattle.script_names.specs.Prelude.{Entity, Kind, Place, Sense, Meanings, Name, sense_in, Form, Parallel, Uses, Binder, Fields, Said, all_say, in_turn, pair_says, part_says, Scope, names_of, number_of, with, Binding, Front, Reading, all_bind, bindings, bindings_bind, channel_number, definition_number, exprs, head_of, pairs, pairs_bind, part, parts, parts_bind, procs, under, AreExprs, AreFields, AreFronts, AreGens, ArePairs, AreProcs, IsComposition, IsExpr, IsFront, IsNet, IsProc, Means, event_part, event_tree, part_tree}
+use Rattle.script_names.specs.Prelude.{Meanings, Name, sense_in, Binder, Fields, Said, all_say, in_turn, pair_says, part_says, Scope, names_of, number_of, with, Binding, Front, Reading, all_bind, bindings, bindings_bind, channel_number, definition_number, exprs, head_of, pairs, pairs_bind, part, parts, parts_bind, procs, under, AreExprs, AreFields, AreFronts, AreGens, ArePairs, AreProcs, IsComposition, IsExpr, IsFront, IsNet, IsProc, Means, event_part, event_tree, part_tree}
+use Rattle.script_names.specs.declared.kinds.Entity.{Entity}
+use Rattle.script_names.specs.declared.kinds.Kind.{Kind}
+use Rattle.script_names.specs.declared.kinds.Place.{Place}
+use Rattle.script_names.specs.declared.kinds.Sense.{Sense}
+use Rattle.script_names.specs.declared.occurrence.Occurrence.TheVariants.{Form, Parallel, Uses}
 use Rattle.script_names.specs.declared.kinds.Entity.TheVariants as entity
 use Rattle.script_names.specs.declared.kinds.Sense.TheVariants as sense
 use Rattle.script_names.specs.declared.kinds.Use.TheVariants as how

@@ -4,7 +4,12 @@ use Rattle.std.specs.Prelude.{slice_get}
 use Rattle.std.proofs.lemmas.Bool.{eqb-true}
 use Rattle.csp_text.specs.declared.tree.Tree.TheVariants as tree
 use Rattle.script_names.specs.declared.kinds.Class.TheVariants as class
-use Rattle.script_names.specs.Prelude.{Entity, Kind, Place, Sense, clashes, is_constant, is_network, kind_class, kind_network, leave_other, when, Meanings, Name, sense_of, Binds, Uses, Scope, number_of, named, IsData, IsExpr, IsNetwork, IsProcess, MayBind, Means}
+use Rattle.script_names.specs.Prelude.{clashes, is_constant, is_network, kind_class, kind_network, leave_other, when, Meanings, Name, sense_of, Scope, number_of, named, IsData, IsExpr, IsNetwork, IsProcess, MayBind, Means}
+use Rattle.script_names.specs.declared.kinds.Entity.{Entity}
+use Rattle.script_names.specs.declared.kinds.Kind.{Kind}
+use Rattle.script_names.specs.declared.kinds.Place.{Place}
+use Rattle.script_names.specs.declared.kinds.Sense.{Sense}
+use Rattle.script_names.specs.declared.occurrence.Occurrence.TheVariants.{Binds, Uses}
 use Rattle.script_names.specs.declared.kinds.Entity.TheVariants as entity
 use Rattle.script_names.specs.declared.kinds.Need.TheVariants as need
 use Rattle.script_names.specs.declared.kinds.Sense.TheVariants as sense

@@ -1,8 +1,11 @@
 -- What each form of a tree is as an expression, by the equations that are made of the folds.
 use Rattle.std.proofs.Common.{◌≡◌, ℕ, ◌+◌, pos, true, false, List, [], ◌∷◌, map, refl, ap, sym, ◌∙◌, rules}
-use Rattle.csp_base.specs.Prelude.{BinOp, SetOp}
-use Rattle.csp_text.specs.Prelude.{out-PartTree, GenTree, PartTree, Tree, the_lemmas}
-use Rattle.csp_text.specs.declared.tree.PartTree.{the_lemmas as part_lemmas}
+use Rattle.csp_base.specs.declared.operators.BinOp.{BinOp}
+use Rattle.csp_base.specs.declared.operators.SetOp.{SetOp}
+use Rattle.csp_text.specs.declared.tree.FieldTree.TheViews.{out-PartTree}
+use Rattle.csp_text.specs.declared.tree.GenTree.{GenTree}
+use Rattle.csp_text.specs.declared.tree.PartTree.{PartTree, the_lemmas as part_lemmas}
+use Rattle.csp_text.specs.declared.tree.Tree.{Tree, the_lemmas}
 use Rattle.csp_text.specs.declared.tree.GenTree.TheVariants as gentree
 use Rattle.csp_text.specs.declared.tree.Tree.TheVariants as tree
 use Rattle.csp_program.specs.declared.expressions.Expr.TheVariants as expr

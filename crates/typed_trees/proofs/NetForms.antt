@@ -1,6 +1,7 @@
 -- What each form of a tree is as a network, by the equations that are made of the folds.
 use Rattle.std.proofs.Common.{◌≡◌, ℕ, ◌+◌, true, false, cond, ◌||◌, List, [], refl, ap, sym, ◌∙◌, rules}
-use Rattle.csp_text.specs.Prelude.{out-Tree, roll-out-Tree, Tree, the_lemmas}
+use Rattle.csp_text.specs.declared.tree.FieldTree.TheViews.{out-Tree, roll-out-Tree}
+use Rattle.csp_text.specs.declared.tree.Tree.{Tree, the_lemmas}
 use Rattle.csp_text.specs.declared.tree.Tree.TheVariants as tree
 use Rattle.csp_program.specs.declared.networks.Net.{Net}
 use Rattle.csp_program.specs.declared.networks.Net.TheVariants as net

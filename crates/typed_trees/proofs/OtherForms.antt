@@ -1,7 +1,14 @@
 -- What a tree is as an expression, as a process and as a network where it has none of the forms of these.
 use Rattle.std.proofs.Common.{◌≡◌, ℕ, pos, false, List, refl, ap, sym, ◌∙◌, subst}
-use Rattle.csp_base.specs.Prelude.{BinOp, SetOp}
-use Rattle.csp_text.specs.Prelude.{FieldTree, Tree-F, out-Tree, roll-Tree, roll-out-Tree, EventTree, GenTree, PartTree, Tree}
+use Rattle.csp_base.specs.declared.operators.BinOp.{BinOp}
+use Rattle.csp_base.specs.declared.operators.SetOp.{SetOp}
+use Rattle.csp_text.specs.declared.tree.EventTree.{EventTree}
+use Rattle.csp_text.specs.declared.tree.FieldTree.{FieldTree}
+use Rattle.csp_text.specs.declared.tree.FieldTree.TheOpen.{Tree-F}
+use Rattle.csp_text.specs.declared.tree.FieldTree.TheViews.{out-Tree, roll-Tree, roll-out-Tree}
+use Rattle.csp_text.specs.declared.tree.GenTree.{GenTree}
+use Rattle.csp_text.specs.declared.tree.PartTree.{PartTree}
+use Rattle.csp_text.specs.declared.tree.Tree.{Tree}
 use Rattle.csp_text.specs.declared.tree.Tree.TheVariants as tree
 use Rattle.csp_program.specs.declared.expressions.Expr.TheVariants as expr
 use Rattle.csp_program.specs.declared.networks.Net.TheVariants as net

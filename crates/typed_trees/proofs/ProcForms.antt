@@ -1,7 +1,11 @@
 -- What each form of a tree is as a process, by the equations that are made of the folds.
 use Rattle.std.proofs.Common.{◌≡◌, ℕ, ◌+◌, Option, Some, None, List, [], ◌∷◌, map, refl, rules}
-use Rattle.csp_text.specs.Prelude.{FieldTree, out-EventTree, EventTree, GenTree, PartTree, Tree, the_lemmas}
-use Rattle.csp_text.specs.declared.tree.EventTree.{the_lemmas as event_lemmas}
+use Rattle.csp_text.specs.declared.tree.EventTree.{EventTree, the_lemmas as event_lemmas}
+use Rattle.csp_text.specs.declared.tree.FieldTree.{FieldTree}
+use Rattle.csp_text.specs.declared.tree.FieldTree.TheViews.{out-EventTree}
+use Rattle.csp_text.specs.declared.tree.GenTree.{GenTree}
+use Rattle.csp_text.specs.declared.tree.PartTree.{PartTree}
+use Rattle.csp_text.specs.declared.tree.Tree.{Tree, the_lemmas}
 use Rattle.csp_text.specs.declared.tree.FieldTree.TheVariants as fieldtree
 use Rattle.csp_text.specs.declared.tree.Tree.TheVariants as tree
 use Rattle.csp_program.specs.declared.processes.Field.TheVariants as field

@@ -1,7 +1,13 @@
 -- Names that are bound behind others leave these as they are.
 use Rattle.std.proofs.Common.{◌≡◌, ℕ, ◌+◌, ◌≤◌, min, List, [], ◌∷◌, ◌++◌, length, take, refl, sym, ap, ◌∙◌, subst, arith}
 use Rattle.csp_base.proofs.Standard.{take-append_seam, take-length, length-take, take-take}
-use Rattle.csp_text.specs.Prelude.{EventTree, FieldTree, FieldTree-F, GenTree-F, out-FieldTree, out-GenTree, roll-FieldTree, roll-GenTree, roll-out-FieldTree, roll-out-GenTree, GenTree, PartTree, Tree}
+use Rattle.csp_text.specs.declared.tree.EventTree.{EventTree}
+use Rattle.csp_text.specs.declared.tree.FieldTree.{FieldTree}
+use Rattle.csp_text.specs.declared.tree.FieldTree.TheOpen.{FieldTree-F, GenTree-F}
+use Rattle.csp_text.specs.declared.tree.FieldTree.TheViews.{out-FieldTree, out-GenTree, roll-FieldTree, roll-GenTree, roll-out-FieldTree, roll-out-GenTree}
+use Rattle.csp_text.specs.declared.tree.GenTree.{GenTree}
+use Rattle.csp_text.specs.declared.tree.PartTree.{PartTree}
+use Rattle.csp_text.specs.declared.tree.Tree.{Tree}
 use Rattle.csp_text.specs.declared.tree.FieldTree.TheVariants as fieldtree
 use Rattle.csp_text.specs.declared.tree.GenTree.TheVariants as gentree
 use Rattle.script_names.specs.Typed.{Scope}

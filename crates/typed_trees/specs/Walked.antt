@@ -2,7 +2,8 @@
 -- with their numbers, and the number of the next binding token.
 use Rattle.std.specs.Prelude.{ℕ, ◌+◌, List}
 use Rattle.csp_text.specs.declared.tree.Tree.{Tree}
-use Rattle.script_names.specs.Prelude.{Kind, Entities, first_of, Reading, Scope, reading}
+use Rattle.script_names.specs.Prelude.{Entities, first_of, Reading, Scope, reading}
+use Rattle.script_names.specs.declared.kinds.Kind.{Kind}
 
 pub record Walked : Type 0 where
   pub names : Entities

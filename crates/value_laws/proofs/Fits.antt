@@ -3,7 +3,10 @@ use Rattle.std.proofs.Common.{◌≡◌, ℕ, zero, suc, ◌+◌, ◌<◌, ◌^�
 use Rattle.std.specs.Prelude.{is_none}
 use Rattle.std.proofs.lemmas.Bool.{false≢true}
 use Rattle.csp_base.proofs.Booleans.{is_first, is_second}
-use Rattle.csp_program.specs.Prelude.{channel_events, event_table, events_from_channel, IsEventTable, IsInOrder, lacks_sets, all_true, Channel, Content, EventInfo}
+use Rattle.csp_program.specs.Prelude.{channel_events, event_table, events_from_channel, IsEventTable, IsInOrder, lacks_sets, all_true}
+use Rattle.csp_program.specs.declared.programs.Channel.{Channel}
+use Rattle.csp_program.specs.declared.programs.Content.{Content}
+use Rattle.csp_program.specs.declared.programs.EventInfo.{EventInfo}
 use Rattle.value_laws.specs.Prelude.{HasSets, ChannelsFit}
 use Rattle.value_laws.proofs.Rises.{field_sets_rise}
 use Rattle.value_laws.proofs.TablePlaces.{first_is, rise_at}

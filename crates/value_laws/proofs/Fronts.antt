@@ -2,8 +2,13 @@
 use Rattle.std.proofs.Common.{◌≡◌, ℕ, zero, suc, ◌+◌, ◌<◌, ◌≤◌, ◌⊎◌, IsTrue, Option, Some, None, Ok, List, [], ◌∷◌, map, refl, sym, ◌∙◌, ap, inl, inr, arith}
 use Rattle.std.specs.Prelude.{◌↔◌, slice_get}
 use Rattle.std.proofs.lemmas.Bool.{false≢true, cases_eq}
-use Rattle.csp_atoms.specs.Prelude.{has_atom, Atom, Value, Many}
-use Rattle.csp_program.specs.Prelude.{added, all_added, IsInOrder, and_then, Env, Front, Meaning, Turn, comprehension, front_events, fronts_added, sets_of, Channel, Content}
+use Rattle.csp_atoms.specs.Prelude.{has_atom}
+use Rattle.csp_atoms.specs.declared.atom.Atom.{Atom}
+use Rattle.csp_atoms.specs.declared.value.Value.{Value}
+use Rattle.csp_atoms.specs.declared.value.Value.TheVariants.{Many}
+use Rattle.csp_program.specs.Prelude.{added, all_added, IsInOrder, and_then, Env, Front, Meaning, Turn, comprehension, front_events, fronts_added, sets_of}
+use Rattle.csp_program.specs.declared.programs.Channel.{Channel}
+use Rattle.csp_program.specs.declared.programs.Content.{Content}
 use Rattle.value_laws.specs.Prelude.{events_each, events_from, first_of, front_count, front_number, span, BeginsWith, BeginsWithOne, IsBinding, IsSetValue, computed_number}
 use Rattle.value_laws.proofs.Lists.{same_outcome}
 use Rattle.value_laws.proofs.RowNumbers.{numbered}

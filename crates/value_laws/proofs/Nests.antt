@@ -3,7 +3,11 @@ use Rattle.std.proofs.Common.{◌≡◌, ℕ, zero, suc, ◌+◌, ◌<◌, ◌�
 use Rattle.std.specs.Prelude.{slice_get}
 use Rattle.std.specs.List.{AllByRecursion, IsDistinct, list_any}
 use Rattle.csp_base.proofs.Standard.{false≢true, or_cases, eqb-true, false_from_ne_true, or_left, or_right, length-le_from_distinct_below}
-use Rattle.csp_program.specs.Prelude.{IsInOrder, body_in_order, def_in_order, expr_in_order, all_true, BodyNests, DefNests, NestsWithin, Reaches, body_uses, def_uses, expr_uses, by_use, by_way, Expr, Body, Content, Def}
+use Rattle.csp_program.specs.Prelude.{IsInOrder, body_in_order, def_in_order, expr_in_order, all_true, BodyNests, DefNests, NestsWithin, Reaches, body_uses, def_uses, expr_uses, by_use, by_way}
+use Rattle.csp_program.specs.declared.expressions.Expr.{Expr}
+use Rattle.csp_program.specs.declared.programs.Body.{Body}
+use Rattle.csp_program.specs.declared.programs.Content.{Content}
+use Rattle.csp_program.specs.declared.programs.Def.{Def}
 use Rattle.csp_program.proofs.UsesWithin.{value_within_same}
 use Rattle.value_laws.specs.EnoughUses.{DefinitionsAreEnough, MoreUsesChangeNothing, UsesNestWithinDefinitions}
 use Rattle.value_laws.proofs.UsesInRange.{uses_in_range}

@@ -2,14 +2,22 @@
 use Rattle.std.proofs.Common.{◌≡◌, ℕ, zero, suc, Bool, nat_eq, IsTrue, Option, Some, Ok, List, [], ◌∷◌, map, length, refl, sym, ◌∙◌, ap, subst, inl, inr}
 use Rattle.std.specs.Prelude.{is_none, slice_get}
 use Rattle.csp_base.proofs.Standard.{false≢true, eqb-true, length-map}
-use Rattle.csp_program.specs.Prelude.{event_table, IsEventTable, channel_in_order, expr_in_order, expr_in_order_of_layer, gen_in_order_of_layer, part_in_order_of_layer, lacks_sets, set_in_order, sets_in_order, with_fields, all_true, Env, Front, Meaning, Turn, front_of_layer, meaning, meaning_of_layer, sets_of, turn_of_layer, uses_within, value_within, meanings, Expr, fold-roll-Expr, Expr-F, Channel, Content, EventInfo}
+use Rattle.csp_program.specs.Prelude.{event_table, IsEventTable, channel_in_order, expr_in_order, expr_in_order_of_layer, gen_in_order_of_layer, part_in_order_of_layer, lacks_sets, set_in_order, sets_in_order, with_fields, all_true, Env, Front, Meaning, Turn, front_of_layer, meaning, meaning_of_layer, sets_of, turn_of_layer, uses_within, value_within, meanings}
+use Rattle.csp_program.specs.declared.expressions.Expr.{Expr}
+use Rattle.csp_program.specs.declared.expressions.Expr.TheFolds.{fold-roll-Expr}
+use Rattle.csp_program.specs.declared.expressions.Expr.TheOpen.{Expr-F}
+use Rattle.csp_program.specs.declared.programs.Channel.{Channel}
+use Rattle.csp_program.specs.declared.programs.Content.{Content}
+use Rattle.csp_program.specs.declared.programs.EventInfo.{EventInfo}
 use Rattle.value_laws.specs.Prelude.{first_of, HasSets, HaveValues, StandsAt, IsEventAt, PlacesAreValues, ValuesArePlaces}
 use Rattle.value_laws.proofs.AtExpressions.{event_worth}
 use Rattle.value_laws.proofs.EventPlaces.{event_found, event_there}
 use Rattle.value_laws.proofs.Fits.{program_fits}
 use Rattle.value_laws.proofs.Fronts.{has_sets}
 use Rattle.value_laws.proofs.TablePlaces.{numbers_are_places, places_are_numbers}
-use Rattle.csp_atoms.specs.Prelude.{Atom, Value, One}
+use Rattle.csp_atoms.specs.declared.atom.Atom.{Atom}
+use Rattle.csp_atoms.specs.declared.value.Value.{Value}
+use Rattle.csp_atoms.specs.declared.value.Value.TheVariants.{One}
 use Rattle.csp_program.specs.declared.expressions.Expr.TheVariants as expr
 use Rattle.csp_base.proofs.Booleans.{is_first, is_second}
 

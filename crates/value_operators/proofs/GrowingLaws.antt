@@ -2,12 +2,15 @@
 use Rattle.std.proofs.Common.{◌≡◌, ℕ, ◌+◌, ◌≤◌, List, [], ◌∷◌, Bool, true, false, Ok, Err, cond, length, refl, ap, subst, sym, ◌∙◌, arith}
 use Rattle.std.specs.Prelude.{◌||◌, ◌&&◌, nat_eq, Result}
 use Rattle.std.proofs.lemmas.Bool.{eqb-true}
-use Rattle.csp_atoms.specs.Prelude.{kind_of, less, same, AllOfKind, IsRising, fits, has_atom, union_of, with_atom, Atom}
+use Rattle.csp_atoms.specs.Prelude.{kind_of, less, same, AllOfKind, IsRising, fits, has_atom, union_of, with_atom}
+use Rattle.csp_atoms.specs.declared.atom.Atom.{Atom}
 use Rattle.csp_atoms.proofs.ListLaws.{IsRising-union_of, IsRising-with_atom, kind_with_atom, kind_union_of}
 use Rattle.csp_atoms.proofs.MemberLaws.{has-union_of, has-with_atom, same_set}
 use Rattle.csp_base.proofs.Booleans.{and_false, or_none, or_regroup, or_swap}
-use Rattle.csp_program.specs.Prelude.{added, limited, Kind}
-use Rattle.value_operators.specs.Prelude.{Gives, EvalFault, IsParted}
+use Rattle.csp_program.specs.Prelude.{added, limited}
+use Rattle.csp_program.specs.declared.kinds.ValueKind.TheVariants.{Kind}
+use Rattle.value_operators.specs.Prelude.{Gives, IsParted}
+use Rattle.value_operators.specs.declared.fault.EvalFault.{EvalFault}
 use Rattle.value_operators.proofs.SetSteps.{limited_few}
 use Rattle.value_operators.proofs.Held.{with_member}
 

@@ -2,12 +2,14 @@
 use Rattle.std.proofs.Common.{◌≡◌, ℕ, zero, suc, ◌+◌, ◌-◌, ◌<◌, ◌≤◌, List, [], ◌∷◌, Option, Some, None, Ok, Err, Bool, true, false, cond, length, refl, ap, subst, sym, ◌∙◌, arith}
 use Rattle.std.specs.Prelude.{◌||◌, slice_get}
 use Rattle.csp_base.proofs.Standard.{false≢true, ints}
-use Rattle.csp_atoms.specs.Prelude.{kind_of, less, same, AllAbove, AllOfKind, IsAtomSet, IsOneKind, IsRising, fits, has_atom, one_more, place_of, with_atom, Atom}
+use Rattle.csp_atoms.specs.Prelude.{kind_of, less, same, AllAbove, AllOfKind, IsAtomSet, IsOneKind, IsRising, fits, has_atom, one_more, place_of, with_atom}
+use Rattle.csp_atoms.specs.declared.atom.Atom.{Atom}
 use Rattle.csp_atoms.specs.declared.atom.Atom.TheVariants as atom
 use Rattle.csp_atoms.proofs.ListLaws.{IsRising-with_atom}
 use Rattle.csp_atoms.proofs.MemberLaws.{has-with_atom, same_set}
 use Rattle.csp_atoms.proofs.OrderLaws.{same_exact, same_itself}
-use Rattle.csp_program.specs.Prelude.{added, all_added, limited, and_then, Kind}
+use Rattle.csp_program.specs.Prelude.{added, all_added, limited, and_then}
+use Rattle.csp_program.specs.declared.kinds.ValueKind.TheVariants.{Kind}
 use Rattle.value_laws.specs.Numbers.{events_from}
 use Rattle.value_operators.proofs.SetSteps.{limited_few}
 

@@ -3,12 +3,16 @@ use Rattle.std.proofs.Common.{◌≡◌, ℕ, zero, suc, ◌+◌, ◌-◌, ◌<�
 use Rattle.std.specs.Prelude.{ℤ, pos, negsuc, ◌+ℤ◌, ◌-ℤ◌, ◌≤ℤ◌, ◌<ℤ◌, nat_le, Result}
 use Rattle.std.specs.Result.{IsErrAnd}
 use Rattle.std.proofs.lemmas.Int.{ints}
-use Rattle.csp_atoms.specs.Prelude.{less, with_atom, fits, Atom}
+use Rattle.csp_atoms.specs.Prelude.{less, with_atom, fits}
+use Rattle.csp_atoms.specs.declared.atom.Atom.{Atom}
 use Rattle.csp_atoms.specs.declared.atom.Atom.TheVariants as atom
-use Rattle.csp_program.specs.Prelude.{added, all_added, limited, numbers_from, Outcome, and_then, range, ValueKind, Kind, SetLimit}
+use Rattle.csp_program.specs.Prelude.{added, all_added, limited, numbers_from, Outcome, and_then, range}
+use Rattle.csp_program.specs.declared.kinds.ValueKind.{ValueKind}
+use Rattle.csp_program.specs.declared.kinds.ValueKind.TheVariants.{Kind, SetLimit}
 use Rattle.value_laws.specs.Numbers.{events_from}
 use Rattle.csp_base.specs.Lists.{natural}
-use Rattle.value_operators.specs.Prelude.{Gives, EvalFault}
+use Rattle.value_operators.specs.Prelude.{Gives}
+use Rattle.value_operators.specs.declared.fault.EvalFault.{EvalFault}
 use Rattle.value_operators.proofs.Faults.{passed}
 use Rattle.csp_atoms.proofs.OrderLaws.{less_number}
 

@@ -4,7 +4,8 @@ ghost use Rattle.std.specs.Prelude.{◌≡◌, ◌≤◌, ◌+◌, true, [], IfO
 ghost use Rattle.dl_limits.specs.declared.TheConstants.{MOST_ELEMENTS};
 ghost use Rattle.csp_atoms.specs.Sets.{fits, union_of, with_atom};
 ghost use Rattle.csp_program.specs.Atoms.{added, limited};
-ghost use Rattle.value_operators.specs.Prelude.{Gives, IsParted};
+ghost use Rattle.value_operators.specs.Gives.{Gives};
+ghost use Rattle.value_operators.specs.Parted.{IsParted};
 
 use crate::fault::EvalFault;
 use csp_atoms::atom::order;
@@ -35,7 +36,8 @@ pub struct GrowingSet {
 
 impl Model for GrowingSet {
     ghost use Rattle.std.specs.Prelude.{List};
-    ghost use Rattle.csp_atoms.specs.Prelude.{union_of, Atom};
+    ghost use Rattle.csp_atoms.specs.Prelude.{union_of};
+    ghost use Rattle.csp_atoms.specs.declared.atom.Atom.{Atom};
     ghost use Rattle.value_operators.specs.Parted.{IsParted};
 
     ghost Value = { List Atom };

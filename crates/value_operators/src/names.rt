@@ -2,7 +2,8 @@
 
 ghost use Rattle.std.specs.Prelude.{◌≡◌, ◌++◌, Ok, IsTrue};
 ghost use Rattle.csp_program.specs.Value.{bound_value, bound_to};
-ghost use Rattle.value_operators.specs.Prelude.{ArePlaces, env_in, numbered_from, Gives};
+ghost use Rattle.value_operators.specs.Env.{ArePlaces, env_in, numbered_from};
+ghost use Rattle.value_operators.specs.Gives.{Gives};
 
 use crate::fault::EvalFault;
 use csp_atoms::{Atom, Value};

@@ -1,7 +1,8 @@
 use Rattle.std.proofs.Common.{ℕ, length, ap, inl, inr, sym, subst, Err}
 use Rattle.digraph.specs.Prelude.{HasArc, IsLeastCircle, AreHeights}
 use Rattle.digraph.proofs.WalkLaws.{same_heights, same_no_circle, same_least_circle}
-use Rattle.design_rules.specs.Prelude.{Serves, BreaksClientServer, ClientsCircle}
+use Rattle.design_rules.specs.Prelude.{Serves, BreaksClientServer}
+use Rattle.design_rules.specs.declared.rule_fault.RuleFault.TheVariants.{ClientsCircle}
 use Rattle.client_server_rule.proofs.arcs.heights.Goals as goal
 
 pub returns-in-Ok-clause-heights : goal.returns-in-Ok-clause-heights

@@ -2,7 +2,8 @@ use Rattle.std.proofs.Common.{◌≡◌, ◌<◌, ◌≤◌, ℕ, List, Option, 
 use Rattle.std.specs.Fmt.{decimal}
 use Rattle.net_maker.specs.Families.{family_name, greatest, least}
 use Rattle.net_maker.specs.declared.families.Family.{Family}
-use Rattle.command_words.specs.Prelude.{IsNamed, Trial}
+use Rattle.command_words.specs.Prelude.{IsNamed}
+use Rattle.command_words.specs.declared.request.Trial.{Trial}
 use Rattle.command_words.proofs.AskOnce.{few}
 use Rattle.command_words.proofs.Digits.{same_number}
 use Rattle.command_words.proofs.Names.{same_family}

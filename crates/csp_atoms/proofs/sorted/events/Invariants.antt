@@ -1,7 +1,6 @@
-use Rattle.std.proofs.Common.{◌≡◌}
+use Rattle.std.proofs.Common.{◌≡◌, take}
 use Rattle.csp_atoms.specs.Sets.{event_atoms}
 use Rattle.csp_atoms.proofs.sorted.events.Given as goal
-use Rattle.std.proofs.Common.{take}
 
 abbrev pub invariant-loop-atom : goal.invariant-loop-atom
 invariant-loop-atom l = event_atoms l.made.items ≡ take l.atom-index l.atoms

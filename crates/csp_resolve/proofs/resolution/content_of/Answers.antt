@@ -1,5 +1,6 @@
 use Rattle.std.proofs.Common.{◌≤◌, List, refl, sym, subst}
-use Rattle.script_names.specs.Prelude.{Kind, AreKinds}
+use Rattle.script_names.specs.Prelude.{AreKinds}
+use Rattle.script_names.specs.declared.kinds.Kind.{Kind}
 use Rattle.csp_text.specs.declared.script.Decl.{Decl}
 use Rattle.dl_limits.specs.declared.TheConstants.{MOST_BYTES}
 use Rattle.script_sizes.specs.Size.{size}

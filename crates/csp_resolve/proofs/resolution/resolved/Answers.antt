@@ -1,5 +1,6 @@
 use Rattle.std.proofs.Common.{◌≤◌, IsTrue, length, map, sym, ◌∙◌, subst}
-use Rattle.csp_program.specs.Prelude.{lacks_sets, all_true, Content}
+use Rattle.csp_program.specs.Prelude.{lacks_sets, all_true}
+use Rattle.csp_program.specs.declared.programs.Content.{Content}
 use Rattle.resolved_laws.proofs.Whole.{plain_lacks}
 use Rattle.dl_limits.specs.declared.TheConstants.{MOST_BYTES}
 use Rattle.script_names.specs.Resolved.{Answer}

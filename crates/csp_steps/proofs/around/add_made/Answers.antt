@@ -1,5 +1,6 @@
 use Rattle.std.proofs.Common.{◌++◌, List, map, sym, subst}
-use Rattle.process_steps.specs.Prelude.{Move, Label}
+use Rattle.process_steps.specs.Prelude.{Move}
+use Rattle.process_steps.specs.declared.label.Label.{Label}
 use Rattle.term_pool.specs.Trees.{tree_at}
 use Rattle.csp_steps.specs.Prelude.{AreMoves, effect_as, last_by, moves_of, seen}
 use Rattle.csp_steps.proofs.Alike.{on_ok_of}

@@ -1,7 +1,8 @@
 use Rattle.std.proofs.Common.{List, [], map, refl, sym, subst, arith}
 use Rattle.process_steps.specs.StepList.{in_choice}
 use Rattle.term_pool.specs.Trees.{tree_at}
-use Rattle.csp_steps.specs.Prelude.{AreMoves, StepTo}
+use Rattle.csp_steps.specs.Prelude.{AreMoves}
+use Rattle.csp_steps.specs.declared.step.StepTo.{StepTo}
 use Rattle.csp_steps.proofs.Computing.{whole_moves}
 use Rattle.csp_steps.proofs.Places.{all_below_stay, front_both, front_same}
 use Rattle.csp_steps.proofs.Rounds.{choice_next, step_in}

@@ -1,6 +1,7 @@
 use Rattle.std.proofs.Common.{◌<◌, List, length, subst, arith}
 use Rattle.std.proofs.lemmas.Result.{IfOk-weaker}
-use Rattle.csp_steps.specs.Prelude.{AreAdded, StepTo}
+use Rattle.csp_steps.specs.Prelude.{AreAdded}
+use Rattle.csp_steps.specs.declared.step.StepTo.{StepTo}
 use Rattle.csp_steps.proofs.Doubles.{once_of}
 use Rattle.csp_steps.proofs.Firsts.{firsts_few}
 use Rattle.csp_steps.proofs.once.once.Goals as goal

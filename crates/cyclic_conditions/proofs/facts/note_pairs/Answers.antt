@@ -1,9 +1,8 @@
 use Rattle.std.proofs.Common.{◌≡◌, ◌∙◌, ap, sym, subst, arith, inl, inr}
 use Rattle.csp_base.proofs.Standard.{cases_lt, err_from_is_err_and}
 use Rattle.cyclic_conditions.specs.Facts.{IsNoted}
-use Rattle.cyclic_conditions.proofs.Noting.{noted_still}
+use Rattle.cyclic_conditions.proofs.Noting.{noted_still, failed, same_fault}
 use Rattle.cyclic_conditions.specs.declared.facts.FactFault.TheVariants.{Clash}
-use Rattle.cyclic_conditions.proofs.Noting.{failed, same_fault}
 use Rattle.cyclic_conditions.proofs.facts.note_pairs.Goals as goal
 
 pub loop-pair-preserved : goal.loop-pair-preserved

@@ -2,7 +2,8 @@ use Rattle.std.proofs.Common.{◌≡◌, ◌<◌, ℕ, List, map, length, ap, in
 use Rattle.std.specs.Prelude.{slice_index, IfOk}
 use Rattle.csp_tables.specs.Shape.{Shape}
 use Rattle.digraph.specs.Prelude.{HasArc, IsLeastCircle}
-use Rattle.design_rules.specs.Prelude.{MustPrecede, ends_of, BreaksCyclic, LinksCircle}
+use Rattle.design_rules.specs.Prelude.{MustPrecede, ends_of, BreaksCyclic}
+use Rattle.design_rules.specs.declared.rule_fault.RuleFault.TheVariants.{LinksCircle}
 use Rattle.shape_links.specs.Turned.{turned_circle}
 use Rattle.cyclic_rule.proofs.Chaining.{next_precedes, all_rise, chain_numbers}
 use Rattle.shape_links.proofs.Circles.{turned_least, circle_some}

@@ -9,7 +9,9 @@ use Rattle.pool_parts.specs.declared.place.ProcId.{ProcId}
 use Rattle.term_pool.specs.Trees.{tree_at}
 use Rattle.value_operators.specs.declared.fault.EvalFault.{EvalFault}
 use Rattle.value_operators.specs.declared.fault.EvalFault.TheVariants as evaluation
-use Rattle.local_tables.specs.Prelude.{part_of, Reaches, TaskLacks, valueless, terms_at, Task, Unexplored}
+use Rattle.local_tables.specs.Prelude.{part_of, Reaches, TaskLacks, valueless, terms_at}
+use Rattle.local_tables.specs.declared.fault.Unexplored.{Unexplored}
+use Rattle.local_tables.specs.declared.task.Task.{Task}
 use Rattle.local_tables.proofs.Following.{begin_at, end_at, map_at}
 use Rattle.local_tables.proofs.Walking.{reached}
 use Rattle.local_tables.proofs.exploring.follow.Goals as goal

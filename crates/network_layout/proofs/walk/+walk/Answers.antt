@@ -1,7 +1,8 @@
 use Rattle.std.proofs.Common.{refl, ◌<◌, ◌≡◌, ◌∷◌, ap, sym, ◌∙◌, length, arith, rules, subst}
 use Rattle.csp_base.specs.Events.{union_of}
 use Rattle.csp_atoms.specs.declared.value.Value.TheVariants.{One}
-use Rattle.csp_program.specs.Prelude.{with_bound, bound_to, the_lemmas}
+use Rattle.csp_program.specs.Prelude.{with_bound, bound_to}
+use Rattle.csp_program.specs.declared.networks.Net.{the_lemmas}
 use Rattle.std.proofs.lemmas.Grind.{common_steps}
 use Rattle.network_layout.specs.Lays.{Lays, names_of, node, one_operand, operand_walked, two}
 use Rattle.network_layout.proofs.EachSteps.{each_begin, each_end, each_fault, each_next}

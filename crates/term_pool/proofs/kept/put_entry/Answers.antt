@@ -4,7 +4,8 @@ use Rattle.std.specs.Prelude.{if◌then◌else◌, Ok, Err}
 use Rattle.csp_base.specs.Standard.{AllocError, is_member}
 use Rattle.term_pool.proofs.KeptLemmas.{kept_push, on_err, puts_push, puts_there, puts_unknown, taken_out, was_known, was_unknown}
 use Rattle.term_pool.proofs.HeldLemmas.{puts_none}
-use Rattle.term_pool.specs.Prelude.{entry_layer, eq_entry, processes, IsKept, Puts, IsNodeMeasure, Has, layer_tree, Entry}
+use Rattle.term_pool.specs.Prelude.{entry_layer, eq_entry, processes, IsKept, Puts, IsNodeMeasure, Has, layer_tree}
+use Rattle.term_pool.specs.declared.entry.Entry.{Entry}
 use Rattle.pool_parts.specs.declared.measure.Measure.{Measure}
 use Rattle.term_pool.proofs.kept.put_entry.Goals as goal
 

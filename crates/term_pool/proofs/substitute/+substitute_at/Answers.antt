@@ -3,7 +3,8 @@ use Rattle.std.proofs.Common.{◌≡◌, ℕ, ◌+◌, nat_eq, List, Some, take,
 use Rattle.std.specs.Map.{lookup}
 use Rattle.std.specs.Prelude.{IfOk}
 use Rattle.std.proofs.lemmas.Option.{slice_get-get_or}
-use Rattle.csp_program.specs.Prelude.{given_by, proc_with, Proc}
+use Rattle.csp_program.specs.Prelude.{given_by, proc_with}
+use Rattle.csp_program.specs.declared.processes.Proc.{Proc}
 use Rattle.csp_program.specs.declared.processes.Proc.TheVariants as proc
 use Rattle.term_pool.proofs.ValuesLemmas as made
 use Rattle.term_pool.proofs.PutLemmas as lemmas

@@ -1,7 +1,8 @@
 use Rattle.std.proofs.Common.{[], ◌≡◌, ◌≤◌, ap, arith, map, ◌∙◌}
 use Rattle.csp_base.specs.Lists.{greatest}
 use Rattle.csp_text.specs.Depth.{tree_depth}
-use Rattle.script_names.specs.Prelude.{Place, first_of, tree_says}
+use Rattle.script_names.specs.Prelude.{first_of, tree_says}
+use Rattle.script_names.specs.declared.kinds.Place.{Place}
 use Rattle.name_faults.specs.Walked.{Walked, after}
 use Rattle.name_faults.proofs.Deepest.{in_list}
 use Rattle.name_faults.proofs.KnownLemmas.{types_step}

@@ -1,6 +1,7 @@
 -- What is put into the entries, as the list of processes says it.
 use Rattle.std.proofs.Common.{◌<◌, List, length, sym, subst}
-use Rattle.csp_program.specs.Prelude.{given_by, proc_with, Proc}
+use Rattle.csp_program.specs.Prelude.{given_by, proc_with}
+use Rattle.csp_program.specs.declared.processes.Proc.{Proc}
 use Rattle.term_pool.specs.Prelude.{parts, StandAt, tree_at, processes, Puts}
 use Rattle.term_pool.proofs.pool.Pool.put_made.Goals as goal
 
