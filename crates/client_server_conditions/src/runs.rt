@@ -1,6 +1,7 @@
 //! Runs after which a component breaks S3, S4 or S5.
 
 ghost use Rattle.std.specs.Prelude.{◌≡◌, ◌<◌, ℕ, List, None, true, false, IsTrue, IfErr, IfOk, IfSome, OnOk, length};
+ghost use Rattle.csp_base.specs.Prelude.{Tells};
 ghost use Rattle.csp_tables.specs.Prelude.{part_at, is_end, link_at, node_at};
 ghost use Rattle.design_rules.specs.Prelude.{has_acknowledgements, BreaksClientServer};
 ghost use Rattle.observed_runs.specs.Prelude.{AreFound, IsExploration, pair_at, parity_step};
@@ -11,26 +12,30 @@ ghost use Rattle.client_server_conditions.specs.Nodes.{EachShared, HasAllOrNone}
 use crate::conditions::{RunCondition, broken_pair};
 use crate::network::Network;
 use crate::nodes::some_splits;
-use csp_base::{EventSet, NoMemory, Trace};
+use csp_base::{EventSet, NoMemory, Stop, Trace};
 use design_rules::RuleFault;
 use observed_runs::{Explored, Parity, Unwatched};
 use shape_links::{SortedShape, explored};
 use std::alloc::Global;
 
 /// Succeeds where each component keeps the condition after each of its runs, and else tells the first that does not.
-pub fn check(alloc: Global, network: &Network<'_>, condition: RunCondition) -> Result<(), RuleFault>
+pub fn check(
+    alloc: Global,
+    network: &Network<'_>,
+    condition: RunCondition,
+) -> Result<(), Stop<RuleFault>>
     requires lesser { KeepLesser network.now condition }
     ensures keeps { OnOk result ((i : ℕ) (s : List ℕ) → Keeps network.now condition i s) }
-    ensures fault { IfErr result (λ fault. BreaksClientServer network.now.shape network.now.roles fault) }
+    ensures fault { IfErr result (Tells (λ fault. BreaksClientServer network.now.shape network.now.roles fault)) }
 {
     for part in 0..network.shape().parts().len() {
         let run = part_run(alloc, network, condition, part as u32)?;
         if let Some(trace) = run {
-            return Err(RuleFault::Broken {
+            return Err(Stop::Told(RuleFault::Broken {
                 condition: condition.condition(),
                 part: part as u32,
                 trace,
-            });
+            }));
         }
     }
     Ok(())

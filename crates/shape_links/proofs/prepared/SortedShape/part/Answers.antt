@@ -2,7 +2,7 @@ use Rattle.std.proofs.Common.{◌∙◌, ap, sym, subst}
 use Rattle.csp_tables.specs.Prelude.{HasForm, Shape}
 use Rattle.net_sound.proofs.Within.{part_form}
 use Rattle.shape_links.proofs.Links.{part_read}
-use Rattle.shape_links.proofs.prepared.SortedShape.component.Goals as goal
+use Rattle.shape_links.proofs.prepared.SortedShape.part.Goals as goal
 
 pub returns-clause-form : goal.returns-clause-form
 returns-clause-form c =
