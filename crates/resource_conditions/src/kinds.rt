@@ -85,7 +85,7 @@ fn is_parted(alloc: Global, setting: &Setting<'_>, part: u32) -> Result<bool, No
         return Ok(false);
     }
     let told = uses.acquire().union(alloc, uses.release())?;
-    let alphabet = setting.prepared().component(part).alphabet();
+    let alphabet = setting.component(part).alphabet();
     let shared = alphabet.inter(alloc, setting.shape().vocabulary())?;
     if !told.is_subset(&shared) {
         return Ok(false);

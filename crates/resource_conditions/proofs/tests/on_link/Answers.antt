@@ -4,7 +4,7 @@ use Rattle.csp_tables.specs.Shape.{Link, Shape}
 use Rattle.csp_base.specs.Events.{inter_of}
 use Rattle.resource_conditions.proofs.Sets.{inter_none}
 use Rattle.shape_links.proofs.Links.{link_past}
-use Rattle.resource_conditions.proofs.grants.on_link.Goals as goal
+use Rattle.resource_conditions.proofs.tests.on_link.Goals as goal
 
 pub returns-in-None : goal.returns-in-None
 returns-in-None c =
