@@ -1,14 +1,13 @@
-use Rattle.std.proofs.Common.{inl, inr}
 use Rattle.cyclic_conditions.proofs.whole.check_link.Goals as goal
 
-pub told-requires-clause-left : goal.told-requires-clause-left
-told-requires-clause-left c = c.requires.left_short c.in-Some.left_node c.in-Some.is
+pub run_to_node-requires-clause-reached : goal.run_to_node-requires-clause-reached
+run_to_node-requires-clause-reached c = ?
 
-pub told-requires-clause-right : goal.told-requires-clause-right
-told-requires-clause-right c = c.requires.right_short c.in-Some-right.right_node c.in-Some-right.is
+pub run_to_node-requires-2-clause-reached : goal.run_to_node-requires-2-clause-reached
+run_to_node-requires-2-clause-reached c = ?
 
-pub returns-in_default-clause-whole : goal.returns-in_default-clause-whole
-returns-in_default-clause-whole c = inl (c.requires.left_whole c.in_default.is)
+pub returns-clause-fault : goal.returns-clause-fault
+returns-clause-fault c = ?
 
-pub returns-in_default-right-clause-whole : goal.returns-in_default-right-clause-whole
-returns-in_default-right-clause-whole c = inr (c.requires.right_whole c.in_default-right.is)
+pub returns-clause-first : goal.returns-clause-first
+returns-clause-first c = ?
