@@ -5,10 +5,10 @@ use Rattle.conformance.specs.Conforming.{RunsOutside}
 use Rattle.conformance.specs.Finding.{AllAccept, AreInside, IsFirstOutside, RefusesAt}
 use Rattle.conformance.specs.Following.{follow_step}
 use Rattle.conformance.proofs.Following.{all_inside, conforms, leaves_outside, refuses_after}
-use Rattle.conformance.proofs.conforming.conform_part.Goals as goal
+use Rattle.conformance.proofs.conforming.conform.Goals as goal
 
-pub returns-in-Some-clause-fails : goal.returns-in-Some-clause-fails
-returns-in-Some-clause-fails c =
+pub returns-in-Some-clause-told : goal.returns-in-Some-clause-told
+returns-in-Some-clause-told c =
     let p = c.args.part.now in
     let q = c.args.specified.now in
     let found = c.in_ok-explored.explored in
@@ -20,8 +20,8 @@ returns-in-Some-clause-fails c =
     (leaves_outside p q c.requires.form c.requires.specified_form run (pair_at found.pairs from.0) (pair_at found.pairs c.in-Some.place) from.1 (c.in_ok-trace.ensures p.table (follow_step p.alphabet q.table) 0 origins)
     (c.origin-earlier.ensures.leads p.table (follow_step p.alphabet q.table) 0 origins) (first.before from.0 c.origin-earlier.ensures.earlier) first.outside)
 
-pub returns-in-Some-2-clause-fails : goal.returns-in-Some-2-clause-fails
-returns-in-Some-2-clause-fails c =
+pub returns-in-Some-2-clause-told : goal.returns-in-Some-2-clause-told
+returns-in-Some-2-clause-told c =
     let p = c.args.part.now in
     let q = c.args.specified.now in
     let found = c.in_ok-explored.explored in

@@ -7,9 +7,9 @@ use Rattle.net_sound.proofs.FlatLists.{alphabets, by_test, match_true, match_fal
 use Rattle.net_sound.proofs.Flattening.{back, forth}
 use Rattle.net_sound.proofs.Local.{AllAfter, all_after, run_forth, run_kept}
 use Rattle.net_sound.proofs.Soundness.{silence_is_bounded}
-use Rattle.refinement.specs.Conforms.{AllConform, Conforms}
-use Rattle.refinement.specs.Inherits.{ConformingNetworksAreLive}
-use Rattle.refinement.proofs.Composing.{composed, owned_along, run_back, run_owned}
+use Rattle.conformance.specs.Conforms.{AllConform, Conforms}
+use Rattle.conformance.specs.Inherits.{ConformingNetworksAreLive}
+use Rattle.conformance.proofs.Composing.{composed, owned_along, run_back, run_owned}
 
 -- ---- stable states
 

@@ -6,7 +6,7 @@
 -- it has an event. Each component that has this event in its alphabet offers it too. That silent steps are bounded is the network's own.
 use Rattle.std.specs.Prelude.{ℕ, List}
 use Rattle.csp_tables.specs.Prelude.{Label, Live, NetworkStep, Tree, leaves, Part, ArePartsOf, IsSilentBound, WellNested}
-use Rattle.refinement.specs.Conforms.{AllConform}
+use Rattle.conformance.specs.Conforms.{AllConform}
 
 -- (The components have normal tables: so each stable state offers an acceptance whole.)
 abbrev pub ConformingNetworksAreLive : {T U : Type 0} → (T → Label → T → Type 0) → (U → Label → U → Type 0) → Type 0
