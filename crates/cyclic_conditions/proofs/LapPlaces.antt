@@ -1,8 +1,10 @@
 -- The places of a component's lap, as its laps show them.
 use Rattle.std.proofs.Common.{◌≡◌, ℕ, zero, suc, ◌+◌, ◌-◌, ◌%◌, ◌^◌, ◌<◌, ◌≤◌, inl, inr, List, [], ◌∷◌, ◌++◌, length, cond, Option, Some, None, IsTrue, nat_lt, refl, sym, ap, subst, ◌∙◌, arith, lt-ltb, le-ltb}
-use Rattle.std.specs.Prelude.{slice_get}
-use Rattle.csp_base.proofs.Standard.{cases_Bool, cases_lt, cond-true, cond-false, length-append, get_or_append_left, get_or-append_seam, mod_below, mod-eq_of_lt, add-mod_left, none-some, same_Some}
-use Rattle.csp_base.specs.Prelude.{has}
+use Rattle.std.specs.Prelude.{replicate, slice_get}
+use Rattle.csp_base.proofs.Standard.{cases_Bool, cases_lt, cond-true, cond-false, length-append, get_or_append_left, get_or-append_seam, mod_below, mod-eq_of_lt, add-mod_left, none-some, same_Some, get_or-replicate, get_or_past, length-replicate}
+use Rattle.csp_base.specs.Prelude.{Tells, has}
+use Rattle.csp_base.specs.declared.stop.Stop.{Stop}
+use Rattle.csp_base.specs.declared.stop.Stop.TheVariants as stop
 use Rattle.csp_tables.specs.Prelude.{node_at, is_possible, part_at, Shape, is_end}
 use Rattle.net_sound.proofs.Within.{part_form}
 use Rattle.design_rules.specs.Prelude.{count_in, count_below, BreaksOrder, Clash, links_of, ReachesLink, place_after, KeepsPlaces, BreaksCyclic}
@@ -12,16 +14,16 @@ use Rattle.design_rules.proofs.Counts.{count_more, count_same}
 use Rattle.design_rules.proofs.Runs.{possible_within, end_within}
 use Rattle.design_rules.proofs.Places.{Keeping, IsAt, earlier, some_links, first_lap}
 use Rattle.observed_runs.specs.Prelude.{observed, LeadsTo, pair_at, lap_step}
-use Rattle.shape_links.specs.Links.{ends_below, ends_of}
+use Rattle.shape_links.specs.Links.{IsOwner, ends_below, ends_of}
 use Rattle.shape_links.proofs.Links.{owner_end}
-use Rattle.cyclic_conditions.specs.Facts.{IsFact, HasFirst, AreFirsts, AreNoted, Disagree, AreClashing, links_in_order}
+use Rattle.cyclic_conditions.specs.Facts.{IsFact, IsPossibleAt, HasFirst, AreFirsts, AreMore, AreNoted, IsNotedAt, ClashesWith, Disagree, AreClashing, first_at, links_in_order}
 use Rattle.cyclic_conditions.specs.Orders.{IsOrder, order_at}
 use Rattle.cyclic_conditions.specs.Told.{IsBrokenOrder}
 use Rattle.cyclic_conditions.specs.declared.facts.Fact.{Fact}
 use Rattle.shape_links.specs.Component.{table_of}
 use Rattle.cyclic_conditions.specs.Laps.{AreLaps, Leads, links_along, shape_of}
 use Rattle.cyclic_conditions.specs.declared.laps.Laps.{Laps}
-use Rattle.cyclic_conditions.proofs.Noting.{first_within}
+use Rattle.cyclic_conditions.proofs.Noting.{first_within, one_more, clashing}
 
 -- ---- places
 
@@ -64,12 +66,32 @@ module _ (laps : Laps) (x : AreLaps laps) where
       sym (lap_counts V (n - 1) 0 s (omega arith) ∙ (ap (λ m. m % (n - 1 + 1)) (let e : 0 + count_in V s ≡ count_in V s = omega arith in e) ∙ ap (λ m. count_in V s % m) k)) ∙ l.state
 
   -- the pairs are within the table and the lap
-  pub pair_within : (k : ℕ) → k < length laps.explored.pairs → ((pair_at laps.explored.pairs k).0 < length (table_of laps.component)) × ((pair_at laps.explored.pairs k).1 < links_along laps)
+  pair_within : (k : ℕ) → k < length laps.explored.pairs → ((pair_at laps.explored.pairs k).0 < length (table_of laps.component)) × ((pair_at laps.explored.pairs k).1 < links_along laps)
   pair_within k h =
       let r = x.explored.reached k h in (
         subst (λ n. n < length (table_of laps.component)) r.1.node (end_within (part_at (shape_of laps).parts laps.component.number) r.0 (part_form (shape_of laps).parts laps.component.number x.part x.form.form) r.1.follows),
         subst (λ n. n < links_along laps) (place_is r.0 (pair_at laps.explored.pairs k) r.1) (mod_below (place_after (shape_of laps) r.0) (links_along laps) x.some),
       )
+
+  pub place_within : (pairs : List (ℕ × ℕ)) (p : ℕ) (firsts : List (Option Fact)) → pairs ≡ laps.explored.pairs → p < length laps.explored.pairs → AreFirsts laps firsts → (pair_at pairs p).1 < length firsts
+  place_within pairs p firsts same within a = subst (λ (ps : List (ℕ × ℕ)). (pair_at ps p).1 < length firsts) (sym same) (subst (λ n. (pair_at laps.explored.pairs p).1 < n) (sym a.count) (pair_within p within).1)
+
+  pub node_within : (pairs : List (ℕ × ℕ)) (p : ℕ) → pairs ≡ laps.explored.pairs → p < length laps.explored.pairs → (pair_at pairs p).0 < length (table_of laps.component)
+  node_within pairs p same within = subst (λ (ps : List (ℕ × ℕ)). (pair_at ps p).0 < length (table_of laps.component)) (sym same) (pair_within p within).0
+
+  -- a fact of the pair, and what is known when it was noted
+  fact_is : (pairs : List (ℕ × ℕ)) (p e l : ℕ) → pairs ≡ laps.explored.pairs → p < length laps.explored.pairs → IsPossibleAt laps p e → IsOwner (shape_of laps) l e → IsFact laps (pair_at pairs p).1 (record { pair = p; event = e; link = l })
+  fact_is pairs p e l same within possible owner = record { within = within; place = ap (λ (ps : List (ℕ × ℕ)). (pair_at ps p).1) (sym same); possible = possible; owner = owner }
+
+  pub event_noted : (pairs : List (ℕ × ℕ)) (p e l : ℕ) (old new : List (Option Fact)) → pairs ≡ laps.explored.pairs → p < length laps.explored.pairs → IsPossibleAt laps p e → IsOwner (shape_of laps) l e → AreFirsts laps old → IsNotedAt (pair_at pairs p).1 (record { pair = p; event = e; link = l }) old new → AreMore laps old new × HasFirst new (pair_at laps.explored.pairs p).1 l
+  event_noted pairs p e l old new same within possible owner a noted =
+      let fact : Fact = record { pair = p; event = e; link = l } in
+      let below : (pair_at pairs p).1 < length old = place_within pairs p old same within a in
+      let more = one_more laps (pair_at pairs p).1 fact old new below a (fact_is pairs p e l same within possible owner) noted in
+      (more.0, subst (λ (ps : List (ℕ × ℕ)). HasFirst new (pair_at ps p).1 l) same more.1)
+
+  pub event_clashes : (pairs : List (ℕ × ℕ)) (p e l : ℕ) (f g : Fact) (old : List (Option Fact)) → pairs ≡ laps.explored.pairs → p < length laps.explored.pairs → IsPossibleAt laps p e → IsOwner (shape_of laps) l e → AreFirsts laps old → (f ≡ record { pair = p; event = e; link = l }) × ClashesWith (pair_at pairs p).1 (record { pair = p; event = e; link = l }) old g → AreClashing laps f g
+  event_clashes pairs p e l f g old same within possible owner a k = clashing laps (pair_at pairs p).1 (record { pair = p; event = e; link = l }) f g old a (fact_is pairs p e l same within possible owner) k.0 k.1
 
   -- ---- facts that clash
 
@@ -198,9 +220,10 @@ order_none shape i none = record {
     nothing (suc k) l e = cc
 
 -- the first part that has no order
-pub breaks_there : (shape : Shape) (i : ℕ) (fault : RuleFault) → ((j : ℕ) → j < i → KeepsPlaces shape j) → IsBrokenOrder shape i fault → BreaksCyclic shape fault
-breaks_there shape i (NoOrder part trace event) keep b = record { breaks = subst (λ j. BreaksOrder shape j trace event) (sym b.0) b.1; first = λ j h. keep j (let is : part ≡ i = b.0 in omega arith) }
-breaks_there shape i _ keep b = absurd b
+pub breaks_there : (shape : Shape) (i : ℕ) (fault : Stop RuleFault) → ((j : ℕ) → j < i → KeepsPlaces shape j) → Tells (IsBrokenOrder shape i) fault → Tells (BreaksCyclic shape) fault
+breaks_there shape i stop.NoMemory keep b = tt
+breaks_there shape i (stop.Told (NoOrder part trace event)) keep b = record { breaks = subst (λ j. BreaksOrder shape j trace event) (sym b.0) b.1; first = λ j h. keep j (let is : part ≡ i = b.0 in omega arith) }
+breaks_there shape i (stop.Told _) keep b = absurd b
 
 -- one more order
 pub orders_more : (shape : Shape) (n : ℕ) (orders : List (List ℕ)) (order : List ℕ) (more : List (List ℕ)) → length orders ≡ n → ((i : ℕ) → i < n → IsOrder shape i (order_at orders i)) → IsOrder shape n order → more ≡ orders ++ order ∷ [] → (length more ≡ n + 1) × ((i : ℕ) → i < n + 1 → IsOrder shape i (order_at more i))
@@ -217,3 +240,17 @@ orders_more shape n orders order more count each new is = (
 -- how many links a component has
 pub links_count : (shape : Shape) (i : ℕ) (links : List ℕ) → links ≡ ends_of shape i → length links ≡ links_of shape i
 links_count shape i links is = ap length is ∙ length-ends shape i (length shape.links)
+
+-- at first nothing is kept
+pub none_kept : (laps : Laps) (n : ℕ) (links : List ℕ) (firsts : List (Option Fact)) → links ≡ ends_of (shape_of laps) laps.component.number → n ≡ length links → firsts ≡ replicate n None → AreFirsts laps firsts
+none_kept laps n links firsts ends count is = record {
+  count = ap length is ∙ length-replicate n None ∙ count ∙ links_count (shape_of laps) laps.component.number links ends;
+  sound = λ q f h. absurd (nothing q f h);
+  apart = λ q r l x y. absurd (nothing q x.fact x.kept);
+}
+  where
+    nothing : (q : ℕ) (f : Fact) → first_at firsts q ≡ Some f → ⊥
+    nothing q f h = elim (cases_lt q n) [
+      | inl less ↦ none-some f (sym (ap (λ (fs : List (Option Fact)). first_at fs q) is ∙ get_or-replicate n q None None less) ∙ h)
+      | inr past ↦ none-some f (sym (ap (λ (fs : List (Option Fact)). first_at fs q) is ∙ get_or_past (replicate n None) q None (let count_is : length {A = Option Fact} (replicate n None) ≡ n = length-replicate n None in omega arith)) ∙ h)
+    ]

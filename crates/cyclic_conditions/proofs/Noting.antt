@@ -1,9 +1,9 @@
 -- Facts that are kept by the places of a lap.
-use Rattle.std.proofs.Common.{◌≡◌, ℕ, ◌<◌, inl, inr, ◌⊎◌, List, length, Option, Some, None, true, sym, ap, subst, ◌∙◌}
+use Rattle.std.proofs.Common.{◌≡◌, ℕ, ◌<◌, inl, inr, ◌⊎◌, List, length, Option, Some, None, true, refl, sym, ap, subst, ◌∙◌}
 use Rattle.std.specs.Prelude.{slice_set}
 use Rattle.csp_base.proofs.Standard.{cases_eq, cases_lt, get_or-set_same, get_or-set_other, get_or_past, length-set, none-some, same_Some}
 use Rattle.csp_base.specs.Prelude.{has}
-use Rattle.csp_tables.specs.Prelude.{node_at}
+use Rattle.csp_tables.specs.Prelude.{node_at, part_at}
 use Rattle.csp_tables.proofs.Runs.{node_form}
 use Rattle.net_sound.proofs.Within.{part_form}
 use Rattle.design_rules.proofs.Shapes.{link_shared}

@@ -2,14 +2,14 @@
 use Rattle.std.proofs.Common.{◌≡◌, ℕ, ◌+◌, ◌<◌, ◌≤◌, inl, inr, List, [], ◌∷◌, length, true, false, Option, Some, None, IsTrue, nat_eq, nat_le, refl, sym, ap, subst, ◌∙◌, arith}
 use Rattle.std.specs.List.{find}
 use Rattle.std.specs.Prelude.{replicate, slice_set, unwrap_or}
-use Rattle.csp_base.proofs.Standard.{cases_Bool, cases_eq, cases_lt, or_cases, eqb-true, both_ways, false≢true, or_right, get_or-replicate, get_or-set_same, get_or-set_other}
+use Rattle.csp_base.proofs.Standard.{cases_Bool, cases_eq, cases_lt, or_cases, eqb-true, both_ways, false≢true, or_right, get_or-replicate, get_or-set_same, get_or-set_other, get_or_past, length-replicate, length-set, none-some}
 use Rattle.csp_base.specs.Prelude.{has, is_subset_of}
-use Rattle.csp_tables.specs.Prelude.{IsRun, end_of, part_at, alphabets_of, TripleDisjoint, Shape, is_end, link_at, acceptance_at, IsWellFormed}
+use Rattle.csp_tables.specs.Prelude.{IsReached, IsRun, end_of, node_at, part_at, alphabets_of, TripleDisjoint, Shape, is_end, link_at, acceptance_at, IsWellFormed}
 use Rattle.net_sound.proofs.Within.{part_form}
 use Rattle.design_rules.specs.Cyclic.{AllKeepPlaces, FallsShort, IsWholeEnd}
 use Rattle.design_rules.proofs.Runs.{possible_within, end_within}
 use Rattle.shape_links.specs.Links.{IsOwner, IsOnOne}
-use Rattle.cyclic_conditions.specs.Shorts.{IsShort, IsAcceptance, IsShortBy, IsShortAt, Before, IsFirstShort, short_at, AreShorts}
+use Rattle.cyclic_conditions.specs.Shorts.{IsShort, IsAcceptance, IsShortBy, IsShortAt, Before, IsFirstShort, short_at, AreShorts, AreAllShorts}
 use Rattle.cyclic_conditions.specs.Told.{FallsFirst}
 use Rattle.cyclic_conditions.specs.declared.shorts.Shorts.{Shorts}
 use Rattle.shape_links.proofs.Links.{on_one, owner_end}
@@ -60,12 +60,34 @@ short_end shape l i n k w triple s =
     (owner_end shape i l s.short.meets.event w triple s.at.part (possible_within (part_at shape.parts i) n s.short.meets.event (part_form shape.parts i s.at.part w.form) possible) (record { within = s.short.link; event = s.short.meets.second })).end
 
 -- where no acceptance was seen yet
-pub none_seen : (shape : Shape) (left right : List (Option ℕ)) → left ≡ replicate (length shape.links) None → right ≡ replicate (length shape.links) None → (shorts : Shorts) → shorts.left.items ≡ left → shorts.right.items ≡ right → AreShorts shape (Before 0 0 0) shorts
-none_seen shape left right is_left is_right shorts l r = ?
+pub none_seen : (shape : Shape) (n : ℕ) (shorts : Shorts) → IsWellFormed shape → n ≡ length shape.links → shorts.left.items ≡ replicate n None → shorts.right.items ≡ replicate n None → AreShorts shape (Before 0 0 0) shorts
+none_seen shape n shorts w count left right = record {
+  form = w;
+  left_count = ap length left ∙ length-replicate n None ∙ count;
+  right_count = ap length right ∙ length-replicate n None ∙ count;
+  left = λ l. go l (link_at shape l).left (short_at shorts.left.items l) (ap (λ (xs : List (Option ℕ)). short_at xs l) left ∙ at_none l);
+  right = λ l. go l (link_at shape l).right (short_at shorts.right.items l) (ap (λ (xs : List (Option ℕ)). short_at xs l) right ∙ at_none l);
+}
+  where
+    at_none : (l : ℕ) → short_at (replicate n None) l ≡ None
+    at_none l = elim (cases_lt l n) [
+      | inl h ↦ get_or-replicate n l None None h
+      | inr h ↦ get_or_past (replicate n None) l None (let count_is : length {A = Option ℕ} (replicate n None) ≡ n = length-replicate n None in omega arith)
+    ]
+
+    nothing : (i n k : ℕ) → Before 0 0 0 i n k → ⊥
+    nothing i n k (inl less) = omega arith
+    nothing i n k (inr (same, inl less)) = omega arith
+    nothing i n k (inr (same, inr (here, less))) = omega arith
+
+    go : (l i : ℕ) (first : Option ℕ) → first ≡ None → IsFirstShort shape (Before 0 0 0) l i first
+    go l i None h = λ n k seen s. nothing i n k seen
+    go l i (Some n) h = absurd (none-some n (sym h))
 
 -- what was not seen before is no acceptance
-pub all_seen : (shape : Shape) (seen more : ℕ → ℕ → ℕ → Type 0) (shorts : Shorts) → ((i n k : ℕ) → IsAcceptance shape i n k → more i n k → seen i n k) → AreShorts shape seen shorts → AreShorts shape more shorts
+all_seen : (shape : Shape) (seen more : ℕ → ℕ → ℕ → Type 0) (shorts : Shorts) → ((i n k : ℕ) → IsAcceptance shape i n k → more i n k → seen i n k) → AreShorts shape seen shorts → AreShorts shape more shorts
 all_seen shape seen more shorts back a = record {
+  form = a.form;
   left_count = a.left_count;
   right_count = a.right_count;
   left = λ l. go l (link_at shape l).left (short_at shorts.left.items l) (a.left l);
@@ -73,19 +95,54 @@ all_seen shape seen more shorts back a = record {
 }
   where
     go : (l i : ℕ) (first : Option ℕ) → IsFirstShort shape seen l i first → IsFirstShort shape more l i first
-    go l i None none n k m s = none n k (back i n k s.at m) s
+    go l i None none = λ n k m s. none n k (back i n k s.at m) s
     go l i (Some n) first = first
+
+-- all acceptances of a node, all nodes of a part, all parts were seen
+pub node_seen : (shape : Shape) (p n K : ℕ) (shorts : Shorts) → length (node_at (part_at shape.parts p).table n).accept ≤ K → AreShorts shape (Before p n K) shorts → AreShorts shape (Before p (n + 1) 0) shorts
+node_seen shape p n K shorts all = all_seen shape (Before p n K) (Before p (n + 1) 0) shorts back
+  where
+    back : (i m k : ℕ) → IsAcceptance shape i m k → Before p (n + 1) 0 i m k → Before p n K i m k
+    back i m k at (inl less) = inl less
+    back i m k at (inr (same, inl below)) = elim (cases_lt m n) [
+      | inl less ↦ inr (same, inl less)
+      | inr most ↦
+          let here : m ≡ n = omega arith in
+          let listed : k < length (node_at (part_at shape.parts p).table n).accept = subst (λ x. k < length (node_at (part_at shape.parts p).table x).accept) here (subst (λ j. k < length (node_at (part_at shape.parts j).table m).accept) same at.listed) in
+          inr (same, inr (here, omega arith))
+    ]
+    back i m k at (inr (same, inr (here, less))) = absurd (omega arith)
+
+pub part_seen : (shape : Shape) (p N : ℕ) (shorts : Shorts) → length (part_at shape.parts p).table ≤ N → AreShorts shape (Before p N 0) shorts → AreShorts shape (Before (p + 1) 0 0) shorts
+part_seen shape p N shorts all = all_seen shape (Before p N 0) (Before (p + 1) 0 0) shorts back
+  where
+    back : (i n k : ℕ) → IsAcceptance shape i n k → Before (p + 1) 0 0 i n k → Before p N 0 i n k
+    back i n k at (inl below) = elim (cases_lt i p) [
+      | inl less ↦ inl less
+      | inr most ↦
+          let same : i ≡ p = omega arith in
+          let node : n < length (part_at shape.parts p).table = subst (λ j. n < length (part_at shape.parts j).table) same at.node in
+          inr (same, inl (omega arith))
+    ]
+    back i n k at (inr (same, inl less)) = absurd (omega arith)
+    back i n k at (inr (same, inr (here, less))) = absurd (omega arith)
+
+pub parts_seen : (shape : Shape) (P : ℕ) (shorts : Shorts) → length shape.parts ≤ P → AreShorts shape (Before P 0 0) shorts → AreAllShorts shape shorts
+parts_seen shape P shorts all = all_seen shape (Before P 0 0) (λ i n k. i < length shape.parts) shorts (λ i n k at less. inl (omega arith))
 
 module _ (shape : Shape) (part node place : ℕ) where
   -- an acceptance that falls short of no such link
-  pub passed : (l i : ℕ) (first : Option ℕ) → (i ≡ part → IsShortBy shape l part node place → ⊥) → IsFirstShort shape (Before part node place) l i first → IsFirstShort shape (Before part node (place + 1)) l i first
+  passed : (l i : ℕ) (first : Option ℕ) → (i ≡ part → IsShortBy shape l part node place → ⊥) → IsFirstShort shape (Before part node place) l i first → IsFirstShort shape (Before part node (place + 1)) l i first
   passed l i (Some n) other first = first
-  passed l i None other none n k (inl before) s = none n k (inl before) s
-  passed l i None other none n k (inr (same, inl before)) s = none n k (inr (same, inl before)) s
-  passed l i None other none n k (inr (same, inr (here, below))) s = elim (cases_lt k place) [
-    | inl old ↦ none n k (inr (same, inr (here, old))) s
-    | inr now ↦ other same (let is : k ≡ place = omega arith in subst (λ x. IsShortBy shape l part node x) is (subst (λ x. IsShortBy shape l part x k) here (subst (λ x. IsShortBy shape l x n k) same s)))
-  ]
+  passed l i None other none = go
+    where
+      go : (n k : ℕ) → Before part node (place + 1) i n k → IsShortBy shape l i n k → ⊥
+      go n k (inl before) s = none n k (inl before) s
+      go n k (inr (same, inl before)) s = none n k (inr (same, inl before)) s
+      go n k (inr (same, inr (here, below))) s = elim (cases_lt k place) [
+        | inl old ↦ none n k (inr (same, inr (here, old))) s
+        | inr now ↦ other same (let is : k ≡ place = omega arith in subst (λ x. IsShortBy shape l part node x) is (subst (λ x. IsShortBy shape l part x k) here (subst (λ x. IsShortBy shape l x n k) same s)))
+      ]
 
   -- the first acceptance that falls short of the link
   found : (l : ℕ) (first : Option ℕ) → IsShortBy shape l part node place → IsFirstShort shape (Before part node place) l part first → IsFirstShort shape (Before part node (place + 1)) l part (Some (unwrap_or first node))
@@ -93,7 +150,7 @@ module _ (shape : Shape) (part node place : ℕ) where
   found l (Some n) s first = first
 
   -- the acceptance falls short of this link alone
-  pub marked : (ends : ℕ → ℕ) (nodes : List (Option ℕ)) (l : ℕ) → l < length nodes → ends l ≡ part → IsShortBy shape l part node place → ((m : ℕ) → IsShortBy shape m part node place → m ≡ l)
+  marked : (ends : ℕ → ℕ) (nodes : List (Option ℕ)) (l : ℕ) → l < length nodes → ends l ≡ part → IsShortBy shape l part node place → ((m : ℕ) → IsShortBy shape m part node place → m ≡ l)
       → ((m : ℕ) → IsFirstShort shape (Before part node place) m (ends m) (short_at nodes m))
       → (m : ℕ) → IsFirstShort shape (Before part node (place + 1)) m (ends m) (short_at (slice_set nodes l (Some (unwrap_or (short_at nodes l) node))) m)
   marked ends nodes l within end s only old m = elim (cases_eq m l) [
@@ -106,6 +163,41 @@ module _ (shape : Shape) (part node place : ℕ) where
         subst (IsFirstShort shape (Before part node (place + 1)) m (ends m)) (sym (get_or-set_other nodes l m (Some (unwrap_or (short_at nodes l) node)) None other))
         (passed m (ends m) (short_at nodes m) (λ _ x. other (only m x)) (old m))
   ]
+
+  -- it falls short of no link
+  pub none_marked : (shorts : Shorts) → ((l : ℕ) → IsShortBy shape l part node place → ⊥) → AreShorts shape (Before part node place) shorts → AreShorts shape (Before part node (place + 1)) shorts
+  none_marked shorts none a = record {
+    form = a.form;
+    left_count = a.left_count;
+    right_count = a.right_count;
+    left = λ l. passed l (link_at shape l).left (short_at shorts.left.items l) (λ _. none l) (a.left l);
+    right = λ l. passed l (link_at shape l).right (short_at shorts.right.items l) (λ _. none l) (a.right l);
+  }
+
+  -- it falls short of a link of which the part is the left end, or the right one
+  pub left_marked : (old new : Shorts) (l : ℕ) → (link_at shape l).left ≡ part → IsShortBy shape l part node place → ((m : ℕ) → IsShortBy shape m part node place → m ≡ l)
+      → new.left.items ≡ slice_set old.left.items l (Some (unwrap_or (short_at old.left.items l) node)) → new.right.items ≡ old.right.items → AreShorts shape (Before part node place) old → AreShorts shape (Before part node (place + 1)) new
+  left_marked old new l end s only left right a = record {
+    form = a.form;
+    left_count = ap length left ∙ length-set old.left.items l (Some (unwrap_or (short_at old.left.items l) node)) ∙ a.left_count;
+    right_count = ap length right ∙ a.right_count;
+    left = λ m. subst (λ (xs : List (Option ℕ)). IsFirstShort shape (Before part node (place + 1)) m (link_at shape m).left (short_at xs m)) (sym left)
+        (marked (λ k. (link_at shape k).left) old.left.items l (subst (λ n. l < n) (sym a.left_count) s.short.link) end s only a.left m);
+    right = λ m. subst (λ (xs : List (Option ℕ)). IsFirstShort shape (Before part node (place + 1)) m (link_at shape m).right (short_at xs m)) (sym right)
+        (passed m (link_at shape m).right (short_at old.right.items m) (λ other x. let is : (link_at shape l).right ≡ part = subst (λ k. (link_at shape k).right ≡ part) (only m x) other in let order : (link_at shape l).left < (link_at shape l).right = (a.form.linked.links l s.short.link).ordered in omega arith) (a.right m));
+  }
+
+  pub right_marked : (old new : Shorts) (l : ℕ) → ((link_at shape l).left ≡ part → ⊥) → (link_at shape l).right ≡ part → IsShortBy shape l part node place → ((m : ℕ) → IsShortBy shape m part node place → m ≡ l)
+      → new.right.items ≡ slice_set old.right.items l (Some (unwrap_or (short_at old.right.items l) node)) → new.left.items ≡ old.left.items → AreShorts shape (Before part node place) old → AreShorts shape (Before part node (place + 1)) new
+  right_marked old new l order end s only right left a = record {
+    form = a.form;
+    left_count = ap length left ∙ a.left_count;
+    right_count = ap length right ∙ length-set old.right.items l (Some (unwrap_or (short_at old.right.items l) node)) ∙ a.right_count;
+    left = λ m. subst (λ (xs : List (Option ℕ)). IsFirstShort shape (Before part node (place + 1)) m (link_at shape m).left (short_at xs m)) (sym left)
+        (passed m (link_at shape m).left (short_at old.left.items m) (λ other x. order (subst (λ k. (link_at shape k).left ≡ part) (only m x) other)) (a.left m));
+    right = λ m. subst (λ (xs : List (Option ℕ)). IsFirstShort shape (Before part node (place + 1)) m (link_at shape m).right (short_at xs m)) (sym right)
+        (marked (λ k. (link_at shape k).right) old.right.items l (subst (λ n. l < n) (sym a.right_count) s.short.link) end s only a.right m);
+  }
 
 -- ---- ends that fall short
 
@@ -130,6 +222,10 @@ falls_short_at shape l i s w h f = (
     short = subst (IsShort shape l) (sym f.accepts.is) (record { link = h; shared = set_shared shape i s f.acceptance f.accepts; meets = f.meets; missing = f.missing; on = f.on; lacks = f.lacks });
   },
 )
+
+-- the first node that falls short is reached
+pub short_reached : (shape : Shape) (l i n : ℕ) → IsWellFormed shape → IsShortAt shape l i n → IsReached (part_at shape.parts i).table n
+short_reached shape l i n w x = w.reached i n x.1.at.part x.1.at.node
 
 -- an end of which no node falls short is whole
 pub whole : (shape : Shape) (l i : ℕ) → IsWellFormed shape → l < length shape.links → IsFirstShort shape (λ i n k. i < length shape.parts) l i None → IsWholeEnd shape l i

@@ -18,16 +18,16 @@ pub(crate) struct Laps<'a> {
 
 impl<'a> Laps<'a> {
     // The laps of a component that has links.
-    pub(crate) fn new(alloc: Global, component: Component<'a>) -> Result<Laps<'a>, NoMemory>
-        requires { 0 < links_of component.shape.now component.number }
+    pub(crate) fn new(alloc: Global, component: &Component<'a>) -> Result<Laps<'a>, NoMemory>
+        requires { 0 < links_of component.now.shape.now component.now.number }
         ensures laps { IfOk result AreLaps }
-        ensures component { IfOk result (λ laps. laps.component ≡ component) }
+        ensures component { IfOk result (λ laps. laps.component ≡ component.now) }
     {
         let shape = component.shape.shape();
         let lap = Lap::new(shape.vocabulary(), component.links().len() as u32);
         let explored = component.explore(alloc, &lap)?;
         Ok(Laps {
-            component,
+            component: *component,
             explored,
         })
     }

@@ -46,7 +46,7 @@ fn add_order(
     ensures order { OnOk result ((order : List ℕ) × IsOrder prepared.now part order × (orders.new.items ≡ orders.old.items ++ order ∷ [])) }
     ensures fault { IfErr result (Tells (IsBrokenOrder prepared.now part)) }
 {
-    let order = order_of(alloc, prepared.component(part))?;
+    let order = order_of(alloc, &prepared.component(part))?;
     let Ok(()) = orders.push(order) else {
         return Err(Stop::NoMemory);
     };
@@ -54,10 +54,10 @@ fn add_order(
 }
 
 // The links that the component reaches, in the order in which it comes to them.
-fn order_of(alloc: Global, component: Component<'_>) -> Result<Items<u32>, Stop<RuleFault>>
-    ensures keeps { OnOk result (KeepsPlaces component.shape.now component.number) }
-    ensures order { IfOk result (λ order. IsOrder component.shape.now component.number order) }
-    ensures fault { IfErr result (Tells (IsBrokenOrder component.shape.now component.number)) }
+fn order_of(alloc: Global, component: &Component<'_>) -> Result<Items<u32>, Stop<RuleFault>>
+    ensures keeps { OnOk result (KeepsPlaces component.now.shape.now component.now.number) }
+    ensures order { IfOk result (λ order. IsOrder component.now.shape.now component.now.number order) }
+    ensures fault { IfErr result (Tells (IsBrokenOrder component.now.shape.now component.now.number)) }
 {
     let count = component.links().len();
     if count == 0 {

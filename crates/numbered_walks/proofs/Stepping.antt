@@ -4,7 +4,7 @@ use Rattle.csp_base.proofs.Standard.{cases_eq, eq-eqb, eqb-true, false≢true, n
 use Rattle.acceptances.proofs.Terms.{offers_by_test, unstable_by_step}
 use Rattle.acceptances.specs.OfferTests.{can_do, is_unstable}
 use Rattle.numbered_walks.proofs.Places.{mark_within}
-use Rattle.numbered_walks.specs.Prelude.{marked, places_from, AreOwnerRows, IsAgreement, IsStanding, bit, component_at, is_agreed, offer_count, owner_count, owner_marks, AllCan, AllDo, AllDraw, Can, Goes, Has, Numbered, OneCan, OwnsItsSteps, first_terms, has_owner, AllGo, Does, IsDrawn}
+use Rattle.numbered_walks.specs.Prelude.{marked, places_from, AreOwnerRows, IsAgreement, IsStanding, bit, component_at, is_agreed, offer_count, owner_count, owner_marks, AllCan, AllDo, AllDraw, Can, Goes, Has, Numbered, OneCan, OwnsItsSteps, first_terms, has_owner, AllGo, AllGoOn, Does, GoesOn, IsDrawn}
 use Rattle.numbered_walks.specs.declared.standing.Standing.{Standing}
 use Rattle.csp_base.proofs.Lists.{drop_read}
 use Rattle.csp_base.proofs.Rising.{RisesFrom, RisesFrom-weaken, has_below}
@@ -202,25 +202,26 @@ draws_do e k (c ∷ cs) (x ∷ xs) (n ∷ ns) y z draws = (does (has c.alphabet 
     does false stays = stays.0
 
 -- one component has moved silently
-pub one_does : (cs : List Numbered) (xs ys : List ℕ) (i y z : ℕ) → i < length cs → length xs ≡ length cs → Does cs i silent xs y ys z → Goes cs xs y (move.Silent i) ys z
-one_does cs xs ys i y z below same does = record {
+pub one_does : (cs : List Numbered) (old new : Standing) (i : ℕ) → i < length cs → length old.terms.items ≡ length cs → Does cs i silent old new → GoesOn cs (move.Silent i) old new
+one_does cs old new i below same does = record {
   takes = record {
     component = component_at cs i;
     there = slice_get-get_or cs i _ below;
-    term = get_or xs i 0;
-    at = slice_get-get_or xs i 0 (omega (arith, below, same));
+    term = get_or old.terms.items i 0;
+    at = slice_get-get_or old.terms.items i 0 (omega (arith, below, same));
     next = does.next;
-    step = drawn_steps (component_at cs i).table (get_or xs i 0) silent y does.next z does.drawn;
+    step = drawn_steps (component_at cs i).table (get_or old.terms.items i 0) silent old.drawn does.next new.drawn does.drawn;
     others = does.others;
   };
-  draws = subst (λ (l : List ℕ). AllDraw (move.Silent i) 0 cs y xs l z) (sym does.others) (one_drawn i 0 i cs xs y does.next z (omega arith) below same does.drawn);
+  draws = subst (λ (l : List ℕ). AllDraw (move.Silent i) 0 cs old.drawn old.terms.items l new.drawn) (sym does.others) (one_drawn i 0 i cs old.terms.items old.drawn does.next new.drawn (omega arith) below same does.drawn);
 }
 
 -- all owners have done an event
-pub all_go : (e : ℕ) (cs : List Numbered) (xs ys places : List ℕ) (y z : ℕ) → IsTrue (has_owner cs e) → length xs ≡ length cs → places ≡ marked (owner_marks e cs) → AllGo cs (visible e) places xs y ys z → Goes cs xs y (move.Event e) ys z
-all_go e cs xs ys places y z owned same are gone =
-    let draws = all_drawn e 0 cs xs ys y z same (subst (λ (l : List ℕ). AllGo cs (visible e) l xs y ys z) are gone) in
-    record { takes = (owned, draws_do e 0 cs xs ys y z draws); draws = draws }
+pub all_go : (e : ℕ) (cs : List Numbered) (places : List ℕ) (old new : Standing) → IsTrue (has_owner cs e) → length old.terms.items ≡ length cs → places ≡ marked (owner_marks e cs) → AllGoOn cs (visible e) places old new
+    → GoesOn cs (move.Event e) old new
+all_go e cs places old new owned same are gone =
+    let draws = all_drawn e 0 cs old.terms.items new.terms.items old.drawn new.drawn same (subst (λ (l : List ℕ). AllGoOn cs (visible e) l old new) are gone) in
+    record { takes = (owned, draws_do e 0 cs old.terms.items new.terms.items old.drawn new.drawn draws); draws = draws }
 
 pub one_within : (cs : List Numbered) (xs : List ℕ) (i : ℕ) → OneCan cs xs i → i < length cs
 one_within cs xs i can = slice_get_within cs i can.component can.there

@@ -2,6 +2,7 @@
 
 ghost use Rattle.std.specs.List.{list_all};
 ghost use Rattle.std.specs.Prelude.{◌≡◌, ◌<◌, ◌⊎◌, ℕ, None, IfErr, IfOk, OnOk, IsTrue, Ok, length};
+ghost use Rattle.csp_base.specs.Stops.{Tells};
 ghost use Rattle.csp_tables.specs.Prelude.{part_at, Joins, is_end};
 ghost use Rattle.design_rules.specs.Resource.{IsHeldWhile, UsesInTurn};
 ghost use Rattle.digraph.specs.Digraph.{HasArc};
@@ -11,7 +12,7 @@ ghost use Rattle.shape_links.specs.Setting.{IsUser, KeepKinds};
 ghost use Rattle.resource_conditions.specs.Setting.{KeepGrants, KeepTurns, Breaks, UsersKeepTurns};
 
 use crate::offers::add_offered;
-use csp_base::{Event, NoMemory, Trace};
+use csp_base::{Event, NoMemory, Stop, Trace};
 use design_rules::{Condition, RuleFault};
 use digraph::Rows;
 use observed_runs::{Explored, Parity};
@@ -20,7 +21,7 @@ use std::alloc::Global;
 
 // An arc from each resource to each one that a user holds while it offers to acquire the first; or the first user that does
 // not use its resources in turn.
-pub(crate) fn holdings(alloc: Global, setting: &Setting<'_>) -> Result<Rows, RuleFault>
+pub(crate) fn holdings(alloc: Global, setting: &Setting<'_>) -> Result<Rows, Stop<RuleFault>>
     requires kinds { KeepKinds setting.now }
     requires turns { KeepTurns setting.now }
     requires grants { KeepGrants setting.now }
@@ -28,16 +29,16 @@ pub(crate) fn holdings(alloc: Global, setting: &Setting<'_>) -> Result<Rows, Rul
     ensures count { IfOk result (λ rows. length rows ≡ length setting.now.shape.parts) }
     ensures sound { IfOk result (λ rows. (j m : ℕ) → HasArc rows j m → IsHeldWhile setting.now.shape setting.now.uses m j) }
     ensures complete { IfOk result (λ rows. (j m : ℕ) → IsHeldWhile setting.now.shape setting.now.uses m j → HasArc rows j m) }
-    ensures fault { IfErr result (λ fault. Breaks setting.now fault) }
+    ensures fault { IfErr result (Tells (Breaks setting.now)) }
 {
     let mut rows = Rows::new(alloc, setting.count())?;
     for part in 0..setting.count() {
         if let Some(trace) = follow_user(alloc, setting, part, &mut rows)? {
-            return Err(RuleFault::Broken {
+            return Err(Stop::Told(RuleFault::Broken {
                 condition: Condition::Uses,
                 part,
                 trace,
-            });
+            }));
         }
     }
     Ok(rows)
