@@ -1,6 +1,6 @@
 -- What a walk makes is well nested, and there are at most 512 components.
 use Rattle.std.proofs.Common.{◌≡◌, ℕ, zero, suc, ◌+◌, ◌<◌, ◌≤◌, Bool, true, false, if◌then◌else◌, Some, None, Ok, Err, List, [], ◌∷◌, ◌++◌, length, refl, subst, sym, ◌∙◌, arith}
-use Rattle.std.specs.Prelude.{IfOk, Option, nat_lt}
+use Rattle.std.specs.Prelude.{IfOk, Option, nat_lt, slice_get}
 use Rattle.csp_base.proofs.Standard.{ltb-true, length-append}
 use Rattle.csp_program.specs.Prelude.{Outcome, given_by, proc_with, Env}
 use Rattle.csp_program.specs.declared.expressions.Expr.{Expr}
@@ -11,9 +11,11 @@ use Rattle.csp_program.specs.declared.processes.Proc.{Proc}
 use Rattle.csp_program.specs.declared.programs.Content.{Content}
 use Rattle.csp_tables.specs.Prelude.{Component, Tree, Operands, leaves, leaves_of_operands, leaf, parallel, none, operand, WellNested, OperandsWellNested}
 use Rattle.network_trees.specs.Joint.{joint, odd_event}
-use Rattle.network_trees.specs.NetworkOf.{Walked, agreed, all_events, next_component, each_operand, goes_on, nested, network_of, operand_first, side_by_side, some_components, two_operands, tree_within, walked_leaf, walked_node, with_value}
+use Rattle.network_trees.specs.NetworkOf.{Walked, agreed, all_events, arguments_under, events_under, next_component, each_operand, goes_on, nested, network_called, network_of, operand_first, side_by_side, some_components, two_operands, tree_within, truth_under, walked_leaf, walked_node, with_value}
 use Rattle.network_trees.proofs.JointLemmas.{has-joint, same_members}
 use Rattle.csp_atoms.specs.declared.atom.Atom.{Atom}
+use Rattle.csp_atoms.specs.declared.value.Value.TheVariants.{One}
+use Rattle.process_steps.specs.Prefix.{set_under}
 use Rattle.network_trees.specs.declared.fault.LayoutFault.TheVariants as fault
 
 -- ---- what holds of what a step makes
@@ -87,7 +89,7 @@ module _ (p : Content) (below : ℕ → List ℕ → Env → Net → Walked (Tre
 
   makes_each : (env : Env) (x : ℕ) (a : Expr) (n : Net) (atoms : List Atom) → MakesOperands (each_operand p below env x a n atoms)
   makes_each env x a n [] k fits = makes_none k fits
-  makes_each env x a n (v ∷ vs) k fits = if_value _ _ (AreOperands k) (λ alphabet. makes_first alphabet _ n (each_operand p below env x a n vs) (makes_each env x a n vs) k fits)
+  makes_each env x a n (v ∷ vs) k fits = if_value (events_under p ((x, One v) ∷ env) a) _ (AreOperands k) (λ alphabet. makes_first alphabet ((x, One v) ∷ env) n (each_operand p below env x a n vs) (makes_each env x a n vs) k fits)
 
   makes_parallel : (walk : ℕ → Walked (Operands Proc)) → MakesOperands walk → MakesTree (λ k. side_by_side p below (walk k))
   makes_parallel walk operands k fits =
@@ -95,13 +97,13 @@ module _ (p : Content) (below : ℕ → List ℕ → Env → Net → Walked (Tre
 
   makes_node : (alphabet : List ℕ) (env : Env) (n : Net-F Net) → MakesTree (λ k. walked_node p below k alphabet env n)
   makes_node alphabet env (Net-F.Leaf q) k fits = makes_component alphabet (proc_with (given_by env) q) k fits
-  makes_node alphabet env (Net-F.Call d args) k fits = if_value _ _ (IsTree k) (λ vs. if_value _ _ (IsTree k) (λ called. sound alphabet called.0 called.1 k fits))
-  makes_node alphabet env (Net-F.If c n m) k fits = if_value _ _ (IsTree k) (λ b. sound alphabet env (if b then n else m) k fits)
+  makes_node alphabet env (Net-F.Call d args) k fits = if_value (arguments_under p env args) _ (IsTree k) (λ vs. if_value (network_called (slice_get p.defs d) vs) _ (IsTree k) (λ (called : Env × Net). sound alphabet called.0 called.1 k fits))
+  makes_node alphabet env (Net-F.If c n m) k fits = if_value (truth_under p env c) _ (IsTree k) (λ b. sound alphabet env (if b then n else m) k fits)
   makes_node alphabet env (Net-F.Pair n a b m) k fits =
-      if_value _ _ (IsTree k) (λ left. if_value _ _ (IsTree k) (λ right. makes_parallel (λ j. two_operands p below j env left n right m)
+      if_value (events_under p env a) _ (IsTree k) (λ left. if_value (events_under p env b) _ (IsTree k) (λ right. makes_parallel (λ j. two_operands p below j env left n right m)
       (makes_first left env n (λ j. operand_first p below j right env m (λ _. Ok none)) (makes_first right env m (λ _. Ok none) makes_none)) k fits))
   makes_node alphabet env (Net-F.Each x s a n) k fits =
-      if_value _ _ (IsTree k) (λ atoms. makes_parallel (each_operand p below env x a n atoms) (makes_each env x a n atoms) k fits)
+      if_value (set_under p env s) _ (IsTree k) (λ atoms. makes_parallel (each_operand p below env x a n atoms) (makes_each env x a n atoms) k fits)
 
 makes_leaf : (alphabet : List ℕ) (env : Env) (n : Net-F Net) → MakesTree (λ k. walked_leaf k alphabet env n)
 makes_leaf alphabet env (Net-F.Leaf q) k fits = makes_component alphabet (proc_with (given_by env) q) k fits
