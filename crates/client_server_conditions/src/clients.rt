@@ -1,11 +1,12 @@
 //! Which end of each link is the client.
 
 ghost use Rattle.std.specs.Prelude.{◌≡◌, ◌<◌, ◌⊎◌, ◌↔◌, [], ℕ, None, IfErr, IfOk, IsTrue, length};
+ghost use Rattle.csp_base.specs.Prelude.{Tells};
 ghost use Rattle.csp_tables.specs.Shape.{IsWellFormed, link_at};
 ghost use Rattle.design_rules.specs.Prelude.{HasRoles, BreaksClientServer};
 ghost use Rattle.client_server_conditions.specs.Sides.{AgreeOn, AreSides, HaveNoOther, IsClient, IsSide, IsSideOrNone};
 
-use csp_base::{EventSet, NoMemory, Trace};
+use csp_base::{EventSet, NoMemory, Stop, Trace};
 use csp_tables::{RoleSets, Shape};
 use design_rules::{Condition, RuleFault};
 use std::alloc::Global;
@@ -15,41 +16,23 @@ pub(crate) fn sides(
     alloc: Global,
     shape: &Shape,
     roles: &[RoleSets],
-) -> Result<Vec<bool>, RuleFault>
+) -> Result<Vec<bool>, Stop<RuleFault>>
     requires form { IsWellFormed shape.now }
     requires roles { length roles.now ≡ length shape.now.parts }
     requires parted { (i : ℕ) → i < length shape.now.parts → HasRoles shape.now roles.now i }
     ensures sides { IfOk result (λ sides. AreSides shape.now roles.now (length shape.now.links) sides.items) }
-    ensures fault { IfErr result (λ fault. BreaksClientServer shape.now roles.now fault) }
+    ensures fault { IfErr result (Tells (λ fault. BreaksClientServer shape.now roles.now fault)) }
 {
     let mut sides = Vec::new(alloc);
     for link in 0..shape.links().len() {
-        let left_asks = known_side(alloc, shape, roles, link as u32)?;
+        let Some(left_asks) = side(alloc, shape, roles, link as u32)? else {
+            return Err(Stop::Told(no_client(alloc, shape, link as u32)));
+        };
         let Ok(()) = sides.push(left_asks) else {
-            return Err(RuleFault::NoMemory);
+            return Err(Stop::NoMemory);
         };
     }
     Ok(sides)
-}
-
-// Whether the left end of the link is its client, or that the link has none.
-fn known_side(
-    alloc: Global,
-    shape: &Shape,
-    roles: &[RoleSets],
-    link: u32,
-) -> Result<bool, RuleFault>
-    requires form { IsWellFormed shape.now }
-    requires roles { length roles.now ≡ length shape.now.parts }
-    requires link { link < length shape.now.links }
-    ensures side { IfOk result (IsSide shape.now roles.now link) }
-    ensures fault { IfErr result (λ fault. (fault ≡ RuleFault.NoMemory)
-        ⊎ ((fault ≡ RuleFault.Broken Condition.Clients (link_at shape.now link).left []) × IsSideOrNone shape.now roles.now link None)) }
-{
-    match side(alloc, shape, roles, link)? {
-        Some(left_asks) => Ok(left_asks),
-        None => Err(no_client(alloc, shape, link)),
-    }
 }
 
 // The link has no client.

@@ -1,6 +1,7 @@
 //! A shape with the roles of its components, once each link is known to have a client.
 
 ghost use Rattle.std.specs.Prelude.{◌≡◌, ◌<◌, true, false, IsTrue, IfErr, IfOk, length};
+ghost use Rattle.csp_base.specs.Prelude.{Tells};
 ghost use Rattle.csp_tables.specs.Prelude.{TripleDisjoint, alphabets_of, role_at, IsWellFormed, is_end};
 ghost use Rattle.shape_links.specs.Links.{ends_of};
 ghost use Rattle.client_server_conditions.specs.Network.{Asks, Grants, IsLinked};
@@ -8,6 +9,7 @@ ghost use Rattle.design_rules.specs.Rules.{BreaksClientServer};
 
 use crate::clients::sides;
 use crate::parted::check_parted;
+use csp_base::Stop;
 use csp_tables::{RoleSets, Shape};
 use design_rules::RuleFault;
 use shape_links::SortedShape;
@@ -41,18 +43,16 @@ impl<'a> Network<'a> {
         alloc: Global,
         shape: &'a Shape,
         roles: &'a [RoleSets],
-    ) -> Result<Network<'a>, RuleFault>
+    ) -> Result<Network<'a>, Stop<RuleFault>>
         requires form { IsWellFormed shape.now }
         requires apart { TripleDisjoint (alphabets_of shape.now.parts) }
         requires roles { length roles.now ≡ length shape.now.parts }
         ensures network { IfOk result (λ network. network ≡ record { shape = shape.now; roles = roles.now }) }
-        ensures fault { IfErr result (λ fault. BreaksClientServer shape.now roles.now fault) }
+        ensures fault { IfErr result (Tells (λ fault. BreaksClientServer shape.now roles.now fault)) }
     {
         check_parted(alloc, shape, roles)?;
         let sides = sides(alloc, shape, roles)?;
-        let Ok(prepared) = SortedShape::new(alloc, shape) else {
-            return Err(RuleFault::NoMemory);
-        };
+        let prepared = SortedShape::new(alloc, shape)?;
         Ok(Network {
             prepared,
             roles,
@@ -96,7 +96,7 @@ impl<'a> Network<'a> {
         requires { part < length self.now.shape.parts }
         ensures { result.now ≡ ends_of self.now.shape part }
     {
-        self.prepared.links(part)
+        self.prepared.component(part).links()
     }
 
     /// Whether the part is the client on the link; it is the server elsewhere.

@@ -1,10 +1,11 @@
 //! Whether the four sets of each component part the events that it shares.
 
 ghost use Rattle.std.specs.Prelude.{◌≡◌, ◌<◌, ◌↔◌, ℕ, IfErr, IfOk, OnOk, IsTrue, length};
+ghost use Rattle.csp_base.specs.Prelude.{Tells};
 ghost use Rattle.design_rules.specs.Prelude.{HasRoles, BreaksClientServer};
 ghost use Rattle.client_server_conditions.specs.Sides.{PartOwn};
 
-use csp_base::{EventSet, NoMemory, Trace};
+use csp_base::{EventSet, NoMemory, Stop, Trace};
 use csp_tables::{RoleSets, Shape};
 use design_rules::{Condition, RuleFault};
 use std::alloc::Global;
@@ -14,19 +15,19 @@ pub(crate) fn check_parted(
     alloc: Global,
     shape: &Shape,
     roles: &[RoleSets],
-) -> Result<(), RuleFault>
+) -> Result<(), Stop<RuleFault>>
     requires { length roles.now ≡ length shape.now.parts }
     ensures parted { OnOk result ((i : ℕ) → i < length shape.now.parts → HasRoles shape.now roles.now i) }
-    ensures fault { IfErr result (λ fault. BreaksClientServer shape.now roles.now fault) }
+    ensures fault { IfErr result (Tells (λ fault. BreaksClientServer shape.now roles.now fault)) }
 {
     for part in 0..shape.parts().len() {
         if !part_has_roles(alloc, shape, roles, part as u32)? {
             let trace = Trace::new(alloc);
-            return Err(RuleFault::Broken {
+            return Err(Stop::Told(RuleFault::Broken {
                 condition: Condition::Roles,
                 part: part as u32,
                 trace,
-            });
+            }));
         }
     }
     Ok(())

@@ -1,42 +1,34 @@
 //! The longest walks from clients to servers, or a circle of clients.
 
-ghost use Rattle.std.specs.Prelude.{◌≡◌, ◌<◌, ◌⊎◌, ℕ, List, All, IfErr, IfOk, OnOk, length};
+ghost use Rattle.std.specs.Prelude.{◌≡◌, ◌<◌, ◌⊎◌, ℕ, All, IfErr, IfOk, OnOk, length};
+ghost use Rattle.csp_base.specs.Prelude.{Tells};
 ghost use Rattle.design_rules.specs.Prelude.{KeepRoles, Serves, BreaksClientServer};
 ghost use Rattle.digraph.specs.Prelude.{HasNoCircle, HasArc, AreHeights};
 ghost use Rattle.client_server_rule.specs.Serving.{ServesOn};
 
 use client_server_conditions::Network;
 use containers::Items;
-use csp_base::NoMemory;
+use csp_base::{NoMemory, Stop};
 use design_rules::RuleFault;
 use digraph::{Fault, Heights, Rows, longest_walks};
 use std::alloc::Global;
 
 // For each part the greatest number of arcs in a walk from it to servers.
-pub(crate) fn heights(alloc: Global, network: &Network<'_>) -> Result<Heights, RuleFault>
+pub(crate) fn heights(alloc: Global, network: &Network<'_>) -> Result<Heights, Stop<RuleFault>>
     requires { KeepRoles network.now.shape network.now.roles }
     ensures heights { IfOk result (λ heights. AreHeights (Serves network.now.shape network.now.roles) (length network.now.shape.parts) heights) }
     ensures below { IfOk result (λ heights. All (λ height. height < length network.now.shape.parts) heights) }
     ensures no_circle { OnOk result (HasNoCircle (Serves network.now.shape network.now.roles)) }
-    ensures fault { IfErr result (λ fault. BreaksClientServer network.now.shape network.now.roles fault) }
+    ensures fault { IfErr result (Tells (λ fault. BreaksClientServer network.now.shape network.now.roles fault)) }
 {
     let rows = arcs(alloc, network)?;
     match longest_walks(alloc, &rows) {
         Ok(heights) => Ok(heights),
         Err(Fault::Circle(circle)) => {
-            Err(clients_circle(Items::from_slice(alloc, circle.members())))
+            let clients = Items::from_slice(alloc, circle.members())?;
+            Err(Stop::Told(RuleFault::ClientsCircle { clients }))
         }
-        Err(Fault::NoMemory) => Err(RuleFault::NoMemory),
-    }
-}
-
-// The fault that tells a circle of clients, or that memory ran out.
-fn clients_circle(clients: Result<Items<u32>, NoMemory>) -> RuleFault
-    ensures { (circle : List ℕ) → IfOk clients (λ made. made ≡ circle) → (result ≡ RuleFault.NoMemory) ⊎ (result ≡ RuleFault.ClientsCircle circle) }
-{
-    match clients {
-        Ok(clients) => RuleFault::ClientsCircle { clients },
-        Err(_) => RuleFault::NoMemory,
+        Err(Fault::NoMemory) => Err(Stop::NoMemory),
     }
 }
 

@@ -41,13 +41,7 @@ impl<'a> Follower<'a> {
 }
 
 impl<'a> Observer for Follower<'a> {
-    ghost start_state = { λ _. 0 };
-
     ghost step = { λ follower state event. follow_step follower.alphabet follower.table state event };
-
-    fn start(&self) -> u32 {
-        0
-    }
 
     fn next(&self, state: u32, event: Event) -> u32 {
         if !self.alphabet.contains(event) {

@@ -1,97 +1,119 @@
--- Pairs that are added while a table is explored.
-use Rattle.std.proofs.Common.{◌≡◌, ℕ, ◌+◌, ◌-◌, ◌<◌, ◌≤◌, List, [], ◌∷◌, ◌++◌, length, true, false, IsTrue, refl, sym, ap, subst, ◌∙◌, arith, inl, inr, append_assoc, append-nil}
-use Rattle.std.specs.Prelude.{slice_get, Some}
-use Rattle.csp_base.proofs.Standard.{cases_Bool, cases_lt, length-append, get_or_append_left, get_or-append_right}
+-- Pairs that are added at the end of those that are there, and a row of steps that is followed.
+use Rattle.std.proofs.Common.{◌≡◌, ℕ, ◌+◌, ◌<◌, ◌≤◌, ◌-◌, List, [], ◌∷◌, ◌++◌, length, get_or, true, false, IsTrue, refl, sym, ap, subst, ◌∙◌, arith, inl, inr}
+use Rattle.csp_base.proofs.Standard.{cases_Bool, cases_lt, length-append, get_or_append_left, get_or-append_right, get_or_read}
 use Rattle.csp_base.specs.Members.{has}
 use Rattle.containers.proofs.MembersLemmas.{slice_get-append_left}
 use Rattle.csp_tables.specs.Prelude.{Node, node_at, node_after, is_possible, Part, HasForm}
-use Rattle.observed_runs.specs.Prelude.{pair_at, StepsTo, AreFound, HaveOrigins, HasPair, AreEnough, SeesOnly, IsAdded, AreMore, AreFollowed}
-use Rattle.observed_runs.proofs.Leading.{step_listed, step_within, listed_step}
 use Rattle.csp_tables.proofs.Runs.{node_form}
+use Rattle.observed_runs.specs.Prelude.{pair_at, Found, HaveOrigins, StepsTo, HasPair, AreEnough, SeesOnly, IsAdded, Grows, AreExplored, AreFollowed, IsFollowedTo}
+use Rattle.observed_runs.proofs.Leading.{step_listed, step_within, listed_step}
 
 pub pair_at_left : (xs ys : List (ℕ × ℕ)) (k : ℕ) → k < length xs → pair_at (xs ++ ys) k ≡ pair_at xs k
 pair_at_left xs ys k h = get_or_append_left xs ys (0, 0) k h
 
-pub pair_at_right : (xs ys : List (ℕ × ℕ)) (k : ℕ) → length xs ≤ k → pair_at (xs ++ ys) k ≡ pair_at ys (k - length xs)
-pair_at_right xs ys k h = get_or-append_right xs ys k (0, 0) h
-
 pub last_pair : (xs : List (ℕ × ℕ)) (x : ℕ × ℕ) (k : ℕ) → length xs ≤ k → k < length (xs ++ x ∷ []) → pair_at (xs ++ x ∷ []) k ≡ x
 last_pair xs x k h below =
     let zero_left : k - length xs ≡ 0 = omega (arith, length-append xs (x ∷ [])) in
-    pair_at_right xs (x ∷ []) k h ∙ ap (pair_at (x ∷ [])) zero_left
+    get_or-append_right xs (x ∷ []) k (0, 0) h ∙ ap (pair_at (x ∷ [])) zero_left
 
-pub listed_left : (xs ys : List (ℕ × ℕ)) (pair : ℕ × ℕ) → HasPair xs pair → HasPair (xs ++ ys) pair
-listed_left xs ys pair l = record { place = l.place; within = let h : l.place < length xs = l.within in omega (arith, length-append xs ys); is = pair_at_left xs ys l.place l.within ∙ l.is }
+pub last_is : (xs : List (ℕ × ℕ)) (x : ℕ × ℕ) → pair_at (xs ++ x ∷ []) (length xs) ≡ x
+last_is xs x = last_pair xs x (length xs) (omega arith) (omega (arith, length-append xs (x ∷ [])))
 
-pub listed_added : (xs os : List (ℕ × ℕ)) (pair origin : ℕ × ℕ) (ys ps : List (ℕ × ℕ)) (q : ℕ × ℕ) → IsAdded xs os pair origin ys ps → HasPair xs q → HasPair ys q
-listed_added xs os pair origin ys ps q (inl same) l = subst (λ zs. HasPair zs q) (sym same.0) l
-listed_added xs os pair origin ys ps q (inr more) l = subst (λ zs. HasPair zs q) (sym more.0) (listed_left xs (pair ∷ []) q l)
+pub listed_last : (xs : List (ℕ × ℕ)) (x : ℕ × ℕ) → HasPair (xs ++ x ∷ []) x
+listed_last xs x = record { place = length xs; within = omega (arith, length-append xs (x ∷ [])); is = last_is xs x }
 
--- ---- more from one pair
+-- ---- pairs stay in their places
 
-pub none_more : (part : Part) (step : ℕ → ℕ → ℕ) (pairs origins : List (ℕ × ℕ)) (place : ℕ) → AreMore part step pairs origins place pairs origins
-none_more part step pairs origins place = record {
-  new_pairs = [];
-  new_origins = [];
-  pairs_grow = sym (append-nil pairs);
-  origins_grow = sym (append-nil origins);
-  as_many = refl;
-  from = λ k h. absurd (omega arith);
-  steps = λ k h. absurd (omega arith);
-  nodes = λ k h. absurd (omega arith);
-}
+pub grown : (xs : List (ℕ × ℕ)) (x : ℕ × ℕ) → Grows xs (xs ++ x ∷ [])
+grown xs x k h = (omega (arith, length-append xs (x ∷ [])), pair_at_left xs (x ∷ []) k h)
 
-module _ (part : Part) (step : ℕ → ℕ → ℕ) (pairs origins : List (ℕ × ℕ)) (place : ℕ) where
-  -- one more
-  one_more : (ps os : List (ℕ × ℕ)) (pair origin : ℕ × ℕ) → AreMore part step pairs origins place ps os → origin.0 ≡ place → StepsTo part.table step (pair_at pairs place) origin.1 pair → pair.0 < length part.table → AreMore part step pairs origins place (ps ++ pair ∷ []) (os ++ origin ∷ [])
-  one_more ps os pair origin m from steps node = record {
-    new_pairs = m.new_pairs ++ pair ∷ [];
-    new_origins = m.new_origins ++ origin ∷ [];
-    pairs_grow = ap (λ zs. zs ++ pair ∷ []) m.pairs_grow ∙ append_assoc pairs m.new_pairs (pair ∷ []);
-    origins_grow = ap (λ zs. zs ++ origin ∷ []) m.origins_grow ∙ append_assoc origins m.new_origins (origin ∷ []);
-    as_many = length-append m.new_pairs (pair ∷ []) ∙ ap (λ n. n + 1) m.as_many ∙ sym (length-append m.new_origins (origin ∷ []));
-    from = λ k h. elim (cases_lt k (length m.new_origins)) [
-      | inl old ↦ ap (λ (p : ℕ × ℕ). p.0) (pair_at_left m.new_origins (origin ∷ []) k old) ∙ m.from k old
-      | inr new ↦ ap (λ (p : ℕ × ℕ). p.0) (last_pair m.new_origins origin k new h) ∙ from
-    ];
-    steps = λ k h. elim (cases_lt k (length m.new_origins)) [
-      | inl old ↦
-          let below : k < length m.new_pairs = omega (arith, m.as_many) in
-          subst (λ (o : ℕ × ℕ). StepsTo part.table step (pair_at pairs place) o.1 (pair_at (m.new_pairs ++ pair ∷ []) k)) (sym (pair_at_left m.new_origins (origin ∷ []) k old))
-          (subst (λ (p : ℕ × ℕ). StepsTo part.table step (pair_at pairs place) (pair_at m.new_origins k).1 p) (sym (pair_at_left m.new_pairs (pair ∷ []) k below)) (m.steps k old))
-      | inr new ↦
-          subst (λ (o : ℕ × ℕ). StepsTo part.table step (pair_at pairs place) o.1 (pair_at (m.new_pairs ++ pair ∷ []) k)) (sym (last_pair m.new_origins origin k new h))
-          (subst (λ (p : ℕ × ℕ). StepsTo part.table step (pair_at pairs place) origin.1 p) (sym (last_pair m.new_pairs pair k (omega (arith, m.as_many)) (longer k h))) steps)
-    ];
-    nodes = λ k h. elim (cases_lt k (length m.new_pairs)) [
-      | inl old ↦ subst (λ (p : ℕ × ℕ). p.0 < length part.table) (sym (pair_at_left m.new_pairs (pair ∷ []) k old)) (m.nodes k old)
-      | inr new ↦ subst (λ (p : ℕ × ℕ). p.0 < length part.table) (sym (last_pair m.new_pairs pair k new h)) node
-    ];
-  }
-    where
-      longer : (k : ℕ) → k < length (m.new_origins ++ origin ∷ []) → k < length (m.new_pairs ++ pair ∷ [])
-      longer k h = omega (arith, length-append m.new_origins (origin ∷ []), length-append m.new_pairs (pair ∷ []), m.as_many)
+pub grown_on : (xs ys zs : List (ℕ × ℕ)) → Grows xs ys → Grows ys zs → Grows xs zs
+grown_on xs ys zs g h k below = (((h k (g k below).0).0), ((h k (g k below).0).1 ∙ (g k below).1))
 
-  pub more_added : (ps os : List (ℕ × ℕ)) (pair origin : ℕ × ℕ) (qs us : List (ℕ × ℕ)) → IsAdded ps os pair origin qs us → AreMore part step pairs origins place ps os → origin.0 ≡ place → StepsTo part.table step (pair_at pairs place) origin.1 pair → pair.0 < length part.table → AreMore part step pairs origins place qs us
-  more_added ps os pair origin qs us (inl same) m from steps node = subst (λ zs. AreMore part step pairs origins place zs us) (sym same.0) (subst (λ zs. AreMore part step pairs origins place ps zs) (sym same.1) m)
-  more_added ps os pair origin qs us (inr more) m from steps node = subst (λ zs. AreMore part step pairs origins place zs us) (sym more.0) (subst (λ zs. AreMore part step pairs origins place (ps ++ pair ∷ []) zs) (sym more.1) (one_more ps os pair origin m from steps node))
+pub listed_still : (xs ys : List (ℕ × ℕ)) (pair : ℕ × ℕ) → Grows xs ys → HasPair xs pair → HasPair ys pair
+listed_still xs ys pair g l = record { place = l.place; within = (g l.place l.within).0; is = (g l.place l.within).1 ∙ l.is }
 
-  -- one step of the pair's node
-  pub more_followed : HasForm part → (ps os qs us : List (ℕ × ℕ)) (x : ℕ × ℕ) (next : ℕ) → HasPair (node_at part.table (pair_at pairs place).0).next x → next ≡ step (pair_at pairs place).1 x.0 → IsAdded ps os (x.1, next) (place, x.0) qs us → AreMore part step pairs origins place ps os → AreMore part step pairs origins place qs us
-  more_followed form ps os qs us x next at state added m =
-      let formed = node_form part.alphabet (length part.table) part.table (pair_at pairs place).0 form.nodes in
-      let s = step_listed part.alphabet (length part.table) (node_at part.table (pair_at pairs place).0).next at.place formed at.within in
-      let within = step_within part.alphabet (length part.table) (node_at part.table (pair_at pairs place).0).next at.place formed at.within in
-      more_added ps os (x.1, next) (place, x.0) qs us added m refl
-      (subst (λ (y : ℕ × ℕ). next ≡ step (pair_at pairs place).1 y.0 → StepsTo part.table step (pair_at pairs place) y.0 (y.1, next)) at.is
-      (λ state. record { possible = s.possible; node = sym s.leads; state = state }) state)
-      (subst (λ (y : ℕ × ℕ). y.1 < length part.table) at.is within)
+pub followed_still : (table : List Node) (step : ℕ → ℕ → ℕ) (xs ys : List (ℕ × ℕ)) (k : ℕ) → Grows xs ys → k < length xs → AreFollowed table step xs k → AreFollowed table step ys k
+followed_still table step xs ys k g h f =
+    subst (λ (p : ℕ × ℕ). (e : ℕ) → IsTrue (is_possible (node_at table p.0).next e) → HasPair ys (node_after table p.0 e, step p.1 e)) (sym (g k h).1)
+    (λ e possible. listed_still xs ys _ g (f e possible))
+
+-- ---- one more pair, or none
+
+pub origins_more : (found : Found) (pair origin : ℕ × ℕ) → HaveOrigins found → origin.0 < length found.pairs → HaveOrigins (record { pairs = found.pairs ++ pair ∷ []; origins = found.origins ++ origin ∷ [] })
+origins_more found pair origin o here =
+    let count : length found.pairs ≡ length found.origins + 1 = o.count in
+    record {
+      count = length-append found.pairs (pair ∷ []) ∙ ap (λ n. n + 1) count ∙ ap (λ n. n + 1) (sym (length-append found.origins (origin ∷ [])));
+      earlier = λ k h. elim (cases_lt k (length found.origins)) [
+        | inl old ↦ subst (λ (o : ℕ × ℕ). o.0 ≤ k) (sym (pair_at_left found.origins (origin ∷ []) k old)) (o.earlier k old)
+        | inr new ↦ subst (λ (o : ℕ × ℕ). o.0 ≤ k) (sym (last_pair found.origins origin k new h)) (omega arith)
+      ];
+    }
+
+pub added_grows : (found more : Found) (pair origin : ℕ × ℕ) → IsAdded found pair origin more → Grows found.pairs more.pairs
+added_grows found more pair origin (inl known) = subst (λ (f : Found). Grows found.pairs f.pairs) (sym known.0) (λ k h. (h, refl))
+added_grows found more pair origin (inr new) = subst (λ (f : Found). Grows found.pairs f.pairs) (sym new) (grown found.pairs pair)
+
+pub added_listed : (found more : Found) (pair origin : ℕ × ℕ) → IsAdded found pair origin more → HasPair more.pairs pair
+added_listed found more pair origin (inl known) = subst (λ (f : Found). HasPair f.pairs pair) (sym known.0) known.1
+added_listed found more pair origin (inr new) = subst (λ (f : Found). HasPair f.pairs pair) (sym new) (listed_last found.pairs pair)
+
+module _ (table : List Node) (step : ℕ → ℕ → ℕ) where
+  module _ (found : Found) (pair origin : ℕ × ℕ) where
+    abbrev more_pairs : List (ℕ × ℕ)
+    more_pairs = found.pairs ++ pair ∷ []
+
+    abbrev more_origins : List (ℕ × ℕ)
+    more_origins = found.origins ++ origin ∷ []
+
+    steps_at : (k : ℕ) (o from end : ℕ × ℕ) → pair_at more_origins k ≡ o → pair_at more_pairs o.0 ≡ from → pair_at more_pairs (k + 1) ≡ end → StepsTo table step from o.1 end
+        → StepsTo table step (pair_at more_pairs (pair_at more_origins k).0) (pair_at more_origins k).1 (pair_at more_pairs (k + 1))
+    steps_at k o from end is source target t =
+        subst (λ (p : ℕ × ℕ). StepsTo table step (pair_at more_pairs p.0) p.1 (pair_at more_pairs (k + 1))) (sym is)
+        (subst (λ (p : ℕ × ℕ). StepsTo table step p o.1 (pair_at more_pairs (k + 1))) (sym source) (subst (λ (p : ℕ × ℕ). StepsTo table step from o.1 p) (sym target) t))
+
+    one_more : AreExplored table step found → origin.0 < length found.pairs → StepsTo table step (pair_at found.pairs origin.0) origin.1 pair → pair.0 < length table
+        → AreExplored table step (record { pairs = more_pairs; origins = more_origins })
+    one_more x here to node = record {
+      found_are = record {
+        first = slice_get-append_left found.pairs (pair ∷ []) 0 (0, 0) x.found_are.first;
+        later = λ k h. elim (cases_lt k (length found.origins)) [
+          | inl old ↦
+              let from : (pair_at found.origins k).0 ≤ k = x.origins.earlier k old in
+              steps_at k (pair_at found.origins k) (pair_at found.pairs (pair_at found.origins k).0) (pair_at found.pairs (k + 1)) (pair_at_left found.origins (origin ∷ []) k old)
+              (pair_at_left found.pairs (pair ∷ []) (pair_at found.origins k).0 (omega (arith, count))) (pair_at_left found.pairs (pair ∷ []) (k + 1) (omega (arith, count))) (x.found_are.later k old)
+          | inr new ↦
+              steps_at k origin (pair_at found.pairs origin.0) pair (last_pair found.origins origin k new h) (pair_at_left found.pairs (pair ∷ []) origin.0 here)
+              (last_pair found.pairs pair (k + 1) (omega (arith, count)) (omega (arith, count, h, length-append found.origins (origin ∷ []), length-append found.pairs (pair ∷ [])))) to
+        ];
+      };
+      origins = origins_more found pair origin x.origins here;
+      nodes = λ k h. elim (cases_lt k (length found.pairs)) [
+        | inl old ↦ subst (λ (p : ℕ × ℕ). p.0 < length table) (sym (pair_at_left found.pairs (pair ∷ []) k old)) (x.nodes k old)
+        | inr new ↦ subst (λ (p : ℕ × ℕ). p.0 < length table) (sym (last_pair found.pairs pair k new h)) node
+      ];
+    }
+      where
+        count : length found.pairs ≡ length found.origins + 1
+        count = x.origins.count
+
+  pub added_explored : (found more : Found) (pair : ℕ × ℕ) (place event : ℕ) → AreExplored table step found → place < length found.pairs → StepsTo table step (pair_at found.pairs place) event pair
+      → pair.0 < length table → IsAdded found pair (place, event) more → AreExplored table step more
+  added_explored found more pair place event x here to node (inl known) = subst (AreExplored table step) (sym known.0) x
+  added_explored found more pair place event x here to node (inr new) = subst (AreExplored table step) (sym new) (one_more found pair (place, event) x here to node)
+
+-- ---- a row of steps
+
+-- the row of the pair's node, as it is read
+pub row_read : (rows : List (List (ℕ × ℕ))) (ps pairs : List (ℕ × ℕ)) (place : ℕ) (row : List (ℕ × ℕ)) → ps ≡ pairs → (pair_at pairs place).0 < length rows → row ≡ get_or rows (pair_at ps place).0 row → row ≡ get_or rows (pair_at pairs place).0 []
+row_read rows ps pairs place row is within at = get_or_read rows (pair_at pairs place).0 row within (subst (λ (qs : List (ℕ × ℕ)). row ≡ get_or rows (pair_at qs place).0 row) is at) []
 
 pub same_two : (a b c d : ℕ) → a ≡ c → b ≡ d → let x : ℕ × ℕ = (a, b) in let y : ℕ × ℕ = (c, d) in x ≡ y
 same_two a b c d p q = cc
 
 -- where enough steps were listed, each event that is possible is followed
-pub all_followed : (table : List Node) (step : ℕ → ℕ → ℕ) (events : List ℕ) (pair : ℕ × ℕ) (some ps : List (ℕ × ℕ)) → SeesOnly events step → AreEnough events (node_at table pair.0).next some → ((k : ℕ) → k < length some → HasPair ps ((pair_at some k).1, step pair.1 (pair_at some k).0)) → (e : ℕ) → IsTrue (is_possible (node_at table pair.0).next e) → HasPair ps (node_after table pair.0 e, step pair.1 e)
+all_followed : (table : List Node) (step : ℕ → ℕ → ℕ) (events : List ℕ) (pair : ℕ × ℕ) (some ps : List (ℕ × ℕ)) → SeesOnly events step → AreEnough events (node_at table pair.0).next some → ((k : ℕ) → k < length some → HasPair ps ((pair_at some k).1, step pair.1 (pair_at some k).0)) → (e : ℕ) → IsTrue (is_possible (node_at table pair.0).next e) → HasPair ps (node_after table pair.0 e, step pair.1 e)
 all_followed table step events pair some ps only enough all e possible =
     let l = listed_step (node_at table pair.0).next e possible in
     elim (cases_Bool (has events e)) [
@@ -105,73 +127,37 @@ all_followed table step events pair some ps only enough all e possible =
           subst (HasPair ps) (same_two (pair_at some x.place).1 (step pair.1 (pair_at some x.place).0) (node_after table pair.0 e) (step pair.1 e) (x.leads ∙ l.leads) (only pair.1 (pair_at some x.place).0 x.unseen ∙ sym (only pair.1 e unseen))) (all x.place x.within)
     ]
 
--- ---- more pairs in all
+module _ (part : Part) (step : ℕ → ℕ → ℕ) (events : List ℕ) (pairs : List (ℕ × ℕ)) (place : ℕ) (row : List (ℕ × ℕ)) (form : HasForm part) (here : place < length pairs)
+    (enough : AreEnough events (node_at part.table (pair_at pairs place).0).next row) where
+  -- a step of the row leads on from the pair, to a node of the table
+  row_step : (k : ℕ) (x : ℕ × ℕ) → k < length row → x ≡ pair_at row k → StepsTo part.table step (pair_at pairs place) x.0 (x.1, step (pair_at pairs place).1 x.0) × (x.1 < length part.table)
+  row_step k x h at =
+      let formed = node_form part.alphabet (length part.table) part.table (pair_at pairs place).0 form.nodes in
+      let l = enough.sound k h in
+      let s = step_listed part.alphabet (length part.table) (node_at part.table (pair_at pairs place).0).next l.place formed l.within in
+      subst (λ (y : ℕ × ℕ). StepsTo part.table step (pair_at pairs place) y.0 (y.1, step (pair_at pairs place).1 y.0) × (y.1 < length part.table)) (l.is ∙ sym at)
+      (record { possible = s.possible; node = sym s.leads; state = refl }, step_within part.alphabet (length part.table) (node_at part.table (pair_at pairs place).0).next l.place formed l.within)
 
--- what stands between two pairs that are followed
-pub record AreExplored (part : Part) (step : ℕ → ℕ → ℕ) (start : ℕ) (pairs origins : List (ℕ × ℕ)) : Type 0 where
-  pub found : AreFound part.table step start (record { pairs = pairs; origins = origins })
-  pub sources : HaveOrigins (record { pairs = pairs; origins = origins })
-  pub nodes : (k : ℕ) → k < length pairs → (pair_at pairs k).0 < length part.table
+  pub one_step_more : (n : ℕ) (x : ℕ × ℕ) (next : ℕ) (found more : Found) → n < length row → x ≡ pair_at row n → next ≡ step (pair_at pairs place).1 x.0 → IsAdded found (x.1, next) (place, x.0) more
+      → IsFollowedTo part.table step pairs place row n found → IsFollowedTo part.table step pairs place row (n + 1) more
+  one_step_more n x next found more h at state added f =
+      let to = row_step n x h at in
+      let same = f.grows place here in
+      let grows = added_grows found more (x.1, next) (place, x.0) added in
+      record {
+        explored = added_explored part.table step found more (x.1, next) place x.0 f.explored same.0
+            (subst (λ (p : ℕ × ℕ). StepsTo part.table step p x.0 (x.1, next)) (sym same.1) (subst (λ s. StepsTo part.table step (pair_at pairs place) x.0 (x.1, s)) (sym state) to.0)) to.1 added;
+        grows = grown_on pairs found.pairs more.pairs f.grows grows;
+        listed = λ k less. elim (cases_lt k n) [
+          | inl old ↦ listed_still found.pairs more.pairs _ grows (f.listed k old)
+          | inr new ↦
+              let e : n ≡ k = omega arith in
+              subst (λ (y : ℕ × ℕ). HasPair more.pairs (y.1, step (pair_at pairs place).1 y.0)) (at ∙ ap (pair_at row) e)
+              (subst (λ s. HasPair more.pairs (x.1, s)) state (added_listed found more (x.1, next) (place, x.0) added))
+        ];
+      }
 
-module _ (part : Part) (step : ℕ → ℕ → ℕ) (start : ℕ) (pairs origins : List (ℕ × ℕ)) (place : ℕ) (ps os : List (ℕ × ℕ)) where
-  pub same_pair : (k : ℕ) → AreMore part step pairs origins place ps os → k < length pairs → pair_at ps k ≡ pair_at pairs k
-  same_pair k m h = ap (λ zs. pair_at zs k) m.pairs_grow ∙ pair_at_left pairs m.new_pairs k h
-
-  -- what was followed is followed
-  pub followed_still : AreMore part step pairs origins place ps os → (k : ℕ) → k < length pairs → AreFollowed part.table step pairs k → AreFollowed part.table step ps k
-  followed_still m k h f =
-      subst (λ (p : ℕ × ℕ). (e : ℕ) → IsTrue (is_possible (node_at part.table p.0).next e) → HasPair ps (node_after part.table p.0 e, step p.1 e)) (sym (same_pair k m h))
-      (λ e possible. subst (λ zs. HasPair zs (node_after part.table (pair_at pairs k).0 e, step (pair_at pairs k).1 e)) (sym m.pairs_grow) (listed_left pairs m.new_pairs _ (f e possible)))
-
-  pub explored_more : AreExplored part step start pairs origins → place < length pairs → AreMore part step pairs origins place ps os → AreExplored part step start ps os
-  explored_more x here m = record {
-    found = record {
-      first = subst (λ zs. slice_get zs 0 ≡ Some (0, start)) (sym m.pairs_grow) (slice_get-append_left pairs m.new_pairs 0 (0, start) x.found.first);
-      later = λ k h. elim (cases_lt k (length origins)) [
-        | inl old ↦
-            let count : length pairs ≡ length origins + 1 = x.sources.count in
-            let before : (pair_at origins k).0 ≤ k = x.sources.earlier k old in
-            steps (pair_at origins k) (pair_at pairs (pair_at origins k).0) (pair_at pairs (k + 1)) k
-            (origin_old k old) (same_pair (pair_at origins k).0 m (omega arith)) (same_pair (k + 1) m (omega arith)) (x.found.later k old)
-        | inr new ↦
-            let count : length pairs ≡ length origins + 1 = x.sources.count in
-            let j = k - length origins in
-            let below : k - length origins < length m.new_origins = within k new h in
-            let is : pair_at os k ≡ pair_at m.new_origins (k - length origins) = origin_new k new in
-            let from : (pair_at m.new_origins (k - length origins)).0 ≡ place = m.from (k - length origins) below in
-            let to : pair_at ps (k + 1) ≡ pair_at m.new_pairs (k - length origins) = ap (λ zs. pair_at zs (k + 1)) m.pairs_grow ∙ pair_at_right pairs m.new_pairs (k + 1) (omega arith) ∙ ap (pair_at m.new_pairs) (let e : k + 1 - length pairs ≡ k - length origins = omega arith in e) in
-            steps (pair_at m.new_origins (k - length origins)) (pair_at pairs place) (pair_at m.new_pairs (k - length origins)) k
-            is (ap (λ q. pair_at ps q) from ∙ same_pair place m here) to (m.steps (k - length origins) below)
-      ];
-    };
-    sources = record {
-      count =
-          let count : length pairs ≡ length origins + 1 = x.sources.count in
-          ap length m.pairs_grow ∙ length-append pairs m.new_pairs ∙ omega (arith, m.as_many, length-append origins m.new_origins, ap length m.origins_grow);
-      earlier = λ k h. elim (cases_lt k (length origins)) [
-        | inl old ↦ subst (λ (o : ℕ × ℕ). o.0 ≤ k) (sym (origin_old k old)) (x.sources.earlier k old)
-        | inr new ↦
-            let count : length pairs ≡ length origins + 1 = x.sources.count in
-            let from : (pair_at m.new_origins (k - length origins)).0 ≡ place = m.from (k - length origins) (within k new h) in
-            subst (λ (o : ℕ × ℕ). o.0 ≤ k) (sym (origin_new k new)) (omega arith)
-      ];
-    };
-    nodes = λ k h. elim (cases_lt k (length pairs)) [
-      | inl old ↦ subst (λ (p : ℕ × ℕ). p.0 < length part.table) (sym (same_pair k m old)) (x.nodes k old)
-      | inr new ↦ subst (λ (p : ℕ × ℕ). p.0 < length part.table) (sym (ap (λ zs. pair_at zs k) m.pairs_grow ∙ pair_at_right pairs m.new_pairs k new)) (m.nodes (k - length pairs) (omega (arith, length-append pairs m.new_pairs, ap length m.pairs_grow)))
-    ];
-  }
-    where
-      origin_old : (k : ℕ) → k < length origins → pair_at os k ≡ pair_at origins k
-      origin_old k h = ap (λ zs. pair_at zs k) m.origins_grow ∙ pair_at_left origins m.new_origins k h
-
-      origin_new : (k : ℕ) → length origins ≤ k → pair_at os k ≡ pair_at m.new_origins (k - length origins)
-      origin_new k h = ap (λ zs. pair_at zs k) m.origins_grow ∙ pair_at_right origins m.new_origins k h
-
-      within : (k : ℕ) → length origins ≤ k → k < length os → k - length origins < length m.new_origins
-      within k new h = omega (arith, length-append origins m.new_origins, ap length m.origins_grow)
-
-      steps : (o from to : ℕ × ℕ) (k : ℕ) → pair_at os k ≡ o → pair_at ps o.0 ≡ from → pair_at ps (k + 1) ≡ to → StepsTo part.table step from o.1 to → StepsTo part.table step (pair_at ps (pair_at os k).0) (pair_at os k).1 (pair_at ps (k + 1))
-      steps o from to k is source end t =
-          subst (λ (p : ℕ × ℕ). StepsTo part.table step (pair_at ps p.0) p.1 (pair_at ps (k + 1))) (sym is)
-          (subst (λ (p : ℕ × ℕ). StepsTo part.table step p o.1 (pair_at ps (k + 1))) (sym source) (subst (λ (p : ℕ × ℕ). StepsTo part.table step from o.1 p) (sym end) t))
+  pub whole_row : (n : ℕ) (found : Found) → SeesOnly events step → length row ≤ n → IsFollowedTo part.table step pairs place row n found → AreFollowed part.table step found.pairs place
+  whole_row n found only all f =
+      subst (λ (p : ℕ × ℕ). (e : ℕ) → IsTrue (is_possible (node_at part.table p.0).next e) → HasPair found.pairs (node_after part.table p.0 e, step p.1 e)) (sym (f.grows place here).1)
+      (all_followed part.table step events (pair_at pairs place) row found.pairs only enough (λ k h. f.listed k (omega arith)))

@@ -7,13 +7,7 @@ use Rattle.csp_tables.specs.Prelude.{Node, node_at, no_node, Part, HasForm}
 use Rattle.csp_tables.proofs.Runs.{node_form}
 use Rattle.observed_runs.specs.Prelude.{pair_at, HasPair, HasOther, AreEnough, IsKept, AreEnoughSoFar}
 use Rattle.observed_runs.proofs.Leading.{step_within}
-use Rattle.observed_runs.proofs.Growing.{pair_at_left, pair_at_right, listed_left}
-
-pub last_is : (xs : List (ℕ × ℕ)) (x : ℕ × ℕ) → pair_at (xs ++ x ∷ []) (length xs) ≡ x
-last_is xs x = pair_at_right xs (x ∷ []) (length xs) (omega arith) ∙ ap (pair_at (x ∷ [])) (let e : length xs - length xs ≡ 0 = omega arith in e)
-
-listed_last : (xs : List (ℕ × ℕ)) (x : ℕ × ℕ) → HasPair (xs ++ x ∷ []) x
-listed_last xs x = record { place = length xs; within = omega (arith, length-append xs (x ∷ [])); is = last_is xs x }
+use Rattle.observed_runs.proofs.Growing.{grown, last_is, listed_last, listed_still, pair_at_left}
 
 module _ (events : List ℕ) where
   other_left : (xs : List (ℕ × ℕ)) (x : ℕ × ℕ) (node : ℕ) → HasOther events xs node → HasOther events (xs ++ x ∷ []) node
@@ -52,7 +46,7 @@ module _ (events : List ℕ) where
             subst (λ j. HasPair next (pair_at (some ++ x ∷ []) j)) e (subst (HasPair next) (sym (last_is some x)) (record { place = n; within = here; is = sym at }))
       ];
       seen = λ j h is. elim (cases_lt j n) [
-        | inl old ↦ listed_left some (x ∷ []) (pair_at next j) (f.seen j old is)
+        | inl old ↦ listed_still some _ (pair_at next j) (grown some x) (f.seen j old is)
         | inr new ↦ let e : n ≡ j = omega arith in subst (HasPair (some ++ x ∷ [])) (at ∙ ap (pair_at next) e) (listed_last some x)
       ];
       others = λ j h unseen. elim (cases_lt j n) [

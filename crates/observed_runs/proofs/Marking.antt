@@ -3,8 +3,8 @@ use Rattle.std.proofs.Common.{◌≡◌, ℕ, ◌<◌, ◌⊎◌, List, [], ◌�
 use Rattle.csp_base.proofs.Standard.{cases_lt, cases_eq, eqb-true, false≢true, or_left, or_right, or_cases, get_or-set_same, get_or-set_other, length-append}
 use Rattle.csp_base.specs.Events.{has, with_member}
 use Rattle.csp_base.proofs.SetLaws.{has-with_member}
-use Rattle.observed_runs.specs.Prelude.{pair_at, AreMarked, is_marked}
-use Rattle.observed_runs.proofs.Growing.{pair_at_left, listed_left, last_pair, same_two}
+use Rattle.observed_runs.specs.Prelude.{pair_at, HasPair, AreMarked, is_marked}
+use Rattle.observed_runs.proofs.Growing.{grown, last_pair, listed_last, listed_still, pair_at_left, same_two}
 
 module _ (seen : List (List ℕ)) (pair : ℕ × ℕ) (room : pair.0 < length seen) where
   abbrev more : List (List ℕ)
@@ -35,8 +35,8 @@ module _ (seen : List (List ℕ)) (pair : ℕ × ℕ) (room : pair.0 < length se
   pub one_more : (pairs : List (ℕ × ℕ)) (old : List (List ℕ)) → AreMarked pairs old → is_marked old pair.0 pair.1 ≡ false → ((n s : ℕ) → is_marked seen n s ≡ is_marked old n s) → AreMarked (pairs ++ pair ∷ []) more
   one_more pairs old m new same = record {
     listed = λ n s h. elim (either n s h) [
-      | inl is ↦ record { place = length pairs; within = omega (arith, length-append pairs (pair ∷ [])); is = last_pair pairs pair (length pairs) (omega arith) (omega (arith, length-append pairs (pair ∷ []))) ∙ is }
-      | inr was ↦ listed_left pairs (pair ∷ []) _ (m.listed n s (sym (same n s) ∙ was))
+      | inl is ↦ subst (HasPair (pairs ++ pair ∷ [])) is (listed_last pairs pair)
+      | inr was ↦ listed_still pairs _ _ (grown pairs pair) (m.listed n s (sym (same n s) ∙ was))
     ];
     marked = λ k h. elim (cases_lt k (length pairs)) [
       | inl old ↦ subst (λ (q : ℕ × ℕ). IsTrue (is_marked more q.0 q.1)) (sym (pair_at_left pairs (pair ∷ []) k old)) (still _ _ (same _ _ ∙ m.marked k old))

@@ -4,4 +4,4 @@ pub use Rattle.observed_runs.specs.Exploration.{AreDistinct, AreFound, Found, Ha
 pub use Rattle.observed_runs.specs.Marks.{AreMarked, is_marked}
 pub use Rattle.observed_runs.specs.Observed.{LeadsTo, observed, pair_at}
 pub use Rattle.observed_runs.specs.Observers.{holder_step, lap_step, parity_step}
-pub use Rattle.observed_runs.specs.Progress.{AreEnoughSoFar, AreFollowed, AreMore, IsAdded, IsKept}
+pub use Rattle.observed_runs.specs.Progress.{AreEnoughSoFar, AreExplored, AreFollowed, Grows, IsAdded, IsFollowedTo, IsKept}

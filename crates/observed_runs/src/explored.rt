@@ -1,8 +1,8 @@
 //! What an exploration found.
 
-ghost use Rattle.std.specs.Prelude.{◌≡◌, ◌+◌, ◌<◌, ◌≤◌, ℕ, List, None, IfOk, IfSome, IsSomeAnd, MatchOption, length};
+ghost use Rattle.std.specs.Prelude.{◌≡◌, ◌<◌, ◌∷◌, [], ℕ, List, None, IfOk, IfSome, IsSomeAnd, MatchOption, OnOk, length};
 ghost use Rattle.csp_tables.specs.Table.{Node};
-ghost use Rattle.observed_runs.specs.Prelude.{AreFound, HaveOrigins, StepsTo, LeadsTo, pair_at};
+ghost use Rattle.observed_runs.specs.Prelude.{AreDistinct, AreFound, IsAdded, StepsTo, LeadsTo, pair_at};
 
 use crate::pairs::Pairs;
 use csp_base::{Event, NoMemory, Trace};
@@ -27,12 +27,36 @@ impl Model for Explored {
 }
 
 impl Explored {
-    // What was found so far, with the place and the event from which each pair but the first was found.
-    pub(crate) fn new(pairs: Pairs, origins: Vec<(usize, Event)>) -> Explored
-        requires { HaveOrigins (record { pairs = pairs; origins = origins.items }) }
-        ensures { result ≡ record { pairs = pairs; origins = origins.items } }
+    // The pair from which runs begin.
+    pub(crate) fn new(alloc: Global) -> Result<Explored, NoMemory>
+        ensures { IfOk result (λ made. made ≡ record { pairs = (0, 0) ∷ []; origins = [] }) }
     {
-        Explored { pairs, origins }
+        let mut pairs = Pairs::new(alloc);
+        pairs.insert((0, 0))?;
+        Ok(Explored {
+            pairs,
+            origins: Vec::new(alloc),
+        })
+    }
+
+    // Lists the pair if it is new, with the place of the pair from which it was found and the event that led from there.
+    pub(crate) fn add(&mut self, pair: (u32, u32), origin: (usize, Event)) -> Result<(), NoMemory>
+        requires { origin.0 < length self.old.pairs }
+        ensures { OnOk result (IsAdded self.old pair origin self.new) }
+    {
+        self.origins.reserve(1)?;
+        if self.pairs.insert(pair)? {
+            self.origins.push(origin)?;
+        }
+        Ok(())
+    }
+
+    // How many pairs there are.
+    pub(crate) fn len(&self) -> usize
+        ensures count { result ≡ length self.now.pairs }
+        ensures distinct { AreDistinct self.now.pairs }
+    {
+        self.pairs.as_slice().len()
     }
 
     /// The pairs of a node and a state.

@@ -28,13 +28,7 @@ impl<'a> Lap<'a> {
 }
 
 impl<'a> Observer for Lap<'a> {
-    ghost start_state = { λ _. 0 };
-
     ghost step = { λ lap state event. lap_step lap.events.now lap.last state event };
-
-    fn start(&self) -> u32 {
-        0
-    }
 
     fn next(&self, state: u32, event: Event) -> u32 {
         if !self.events.contains(event) {
@@ -63,13 +57,7 @@ impl<'a> Parity<'a> {
 }
 
 impl<'a> Observer for Parity<'a> {
-    ghost start_state = { λ _. 0 };
-
     ghost step = { λ parity state event. parity_step parity.events.now state event };
-
-    fn start(&self) -> u32 {
-        0
-    }
 
     fn next(&self, state: u32, event: Event) -> u32 {
         if !self.events.contains(event) {
@@ -98,13 +86,7 @@ impl<'a> Holder<'a> {
 }
 
 impl<'a> Observer for Holder<'a> {
-    ghost start_state = { λ _. 0 };
-
     ghost step = { λ holder state event. holder_step holder.holders.now state event };
-
-    fn start(&self) -> u32 {
-        0
-    }
 
     fn next(&self, state: u32, event: Event) -> u32 {
         let Some(holder) = self.holders.get(event.0 as usize) else {
@@ -125,13 +107,7 @@ impl<'a> Observer for Holder<'a> {
 pub struct Unwatched;
 
 impl Observer for Unwatched {
-    ghost start_state = { λ _. 0 };
-
     ghost step = { λ _ state _. state };
-
-    fn start(&self) -> u32 {
-        0
-    }
 
     fn next(&self, state: u32, _event: Event) -> u32 {
         state

@@ -1,6 +1,6 @@
 //! Pairs of numbers in the order in which they are first seen.
 
-ghost use Rattle.std.specs.Prelude.{◌≡◌, ◌<◌, ◌≤◌, ◌++◌, ◌∷◌, [], ℕ, length, IfOk, OnOk, if◌then◌else◌};
+ghost use Rattle.std.specs.Prelude.{◌≡◌, ◌<◌, ◌≤◌, ◌++◌, ◌∷◌, [], ℕ, length, IfOk, OnErr, OnOk, if◌then◌else◌};
 ghost use Rattle.observed_runs.specs.Prelude.{HasPair, AreDistinct, is_marked};
 
 use csp_base::{Event, EventSet, NoMemory};
@@ -51,6 +51,7 @@ impl Pairs {
     pub fn insert(&mut self, pair: (u32, u32)) -> Result<bool, NoMemory>
         ensures added { IfOk result (λ new. self.new ≡ (if new then self.old ++ pair ∷ [] else self.old)) }
         ensures listed { OnOk result (HasPair self.new pair) }
+        ensures same { OnErr result (self.new ≡ self.old) }
     {
         if has_mark(&self.seen, pair) {
             return Ok(false);

@@ -1,4 +1,6 @@
 pub mod Acquiring
 pub mod Circles
+pub mod Deciding
 pub mod Links
+pub mod OddLinks
 pub mod Watching

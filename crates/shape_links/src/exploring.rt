@@ -1,30 +1,57 @@
-//! The exploration of a part with an observer of links.
+//! The exploration of a component with an observer of links, and runs after which it does not meet what is required.
 
-ghost use Rattle.std.specs.Prelude.{◌<◌, IfOk, length};
-ghost use Rattle.csp_tables.specs.Part.{part_at};
-ghost use Rattle.observed_runs.specs.Prelude.{SeesOnly, AreFound, IsExploration};
+ghost use Rattle.std.specs.Prelude.{◌≡◌, ◌<◌, ◌≤◌, ℕ, true, IfOk, length};
+ghost use Rattle.csp_tables.specs.Prelude.{end_of};
+ghost use Rattle.observed_runs.specs.Prelude.{AreFound, IsExploration, SeesOnly, observed, pair_at};
+ghost use Rattle.shape_links.specs.Component.{IsDecided, IsFirstFailing, table_of};
 
-use crate::prepared::SortedShape;
-use csp_base::NoMemory;
+use crate::component::Component;
+use crate::requirement::Requirement;
+use csp_base::{NoMemory, Trace};
 use observed_runs::{Explored, Observer, explore};
 use std::alloc::Global;
 
-/// The pairs of a node and a state to which runs of the part lead, where the observer sees shared events alone.
-pub fn explored<O: Observer>(
-    alloc: Global,
-    prepared: &SortedShape<'_>,
-    part: u32,
-    observer: &O,
-) -> Result<Explored, NoMemory>
-    requires part { part < length prepared.now.parts }
-    requires only { SeesOnly prepared.now.vocabulary (O.step observer.now) }
-    ensures pairs { IfOk result (λ made. IsExploration (part_at prepared.now.parts part).table (O.step observer.now) (O.start_state observer.now) made.pairs) }
-    ensures found { IfOk result (λ made. AreFound (part_at prepared.now.parts part).table (O.step observer.now) (O.start_state observer.now) made) }
+impl<'a> Component<'a> {
+    /// The pairs of a node and a state to which runs lead, where the observer sees shared events alone.
+    pub fn explore<O: Observer>(&self, alloc: Global, observer: &O) -> Result<Explored, NoMemory>
+        requires { SeesOnly self.now.shape.now.vocabulary (O.step observer.now) }
+        ensures pairs { IfOk result (λ made. IsExploration (table_of self.now) (O.step observer.now) 0 made.pairs) }
+        ensures found { IfOk result (λ made. AreFound (table_of self.now) (O.step observer.now) 0 made) }
+    {
+        explore(alloc, self.part(), self.rows(), observer)
+    }
+
+    /// A run after which the component does not meet what is required, in the state that the observer has then; none where it
+    /// meets it after each run.
+    pub fn failing_run<O: Observer, R: Requirement>(
+        &self,
+        alloc: Global,
+        observer: &O,
+        required: &R,
+    ) -> Result<Option<Trace>, NoMemory>
+        requires only { SeesOnly self.now.shape.now.vocabulary (O.step observer.now) }
+        requires nodes { length (table_of self.now) ≤ R.nodes required.now }
+        ensures { IfOk result (IsDecided self.now.shape.now self.now.number (λ s. R.meets required.now (end_of (table_of self.now) 0 s) (observed (O.step observer.now) 0 s) ≡ true)) }
+    {
+        let _form = self.shape.shape();
+        let explored = self.explore(alloc, observer)?;
+        let place = first_failing(explored.pairs(), required)?;
+        explored.run_if_any(alloc, place)
+    }
+}
+
+// The place of the first pair that does not meet what is required.
+fn first_failing<R: Requirement>(
+    pairs: &[(u32, u32)],
+    required: &R,
+) -> Result<Option<usize>, NoMemory>
+    requires { (k : ℕ) → k < length pairs.now → (pair_at pairs.now k).0 < R.nodes required.now }
+    ensures { IfOk result (IsFirstFailing (R.meets required.now) pairs.now) }
 {
-    explore(
-        alloc,
-        prepared.component(part),
-        prepared.rows(part),
-        observer,
-    )
+    for (place, (node, state)) in pairs.iter().enumerate() {
+        if !required.is_met(*node, *state)? {
+            return Ok(Some(place));
+        }
+    }
+    Ok(None)
 }

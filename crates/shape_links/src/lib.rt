@@ -4,15 +4,20 @@
 
 mod acquisition;
 mod circle;
+mod component;
 mod ends;
 mod exploring;
+mod odd_links;
 mod owners;
 mod prepared;
+mod reading;
+mod requirement;
 mod setting;
 mod steps;
 
 pub use acquisition::acquired;
 pub use circle::turned;
-pub use exploring::explored;
+pub use component::Component;
 pub use prepared::SortedShape;
+pub use requirement::Requirement;
 pub use setting::Setting;

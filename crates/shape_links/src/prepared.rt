@@ -1,16 +1,17 @@
 //! A shape that is sorted out once: the link of each event, the links of each part, and the steps that its runs have to follow.
 
 ghost use Rattle.std.specs.Prelude.{◌≡◌, ◌<◌, ℕ, Some, IfOk, length};
-ghost use Rattle.csp_tables.specs.Prelude.{HasForm, TripleDisjoint, alphabets_of, part_at, IsWellFormed, link_at, node_at};
-ghost use Rattle.observed_runs.specs.Enough.{AreEnough, HaveEnough};
+ghost use Rattle.csp_tables.specs.Prelude.{HasForm, TripleDisjoint, alphabets_of, part_at, IsWellFormed, link_at};
+ghost use Rattle.observed_runs.specs.Prelude.{HaveEnough};
 ghost use Rattle.shape_links.specs.Links.{AreEnds, AreOwners, IsOwner, ends_of};
 
+use crate::component::Component;
 use crate::ends::links_of_parts;
 use crate::owners::{link_of, links_of_events};
 use crate::steps::steps_of_parts;
 use containers::Items;
 use csp_base::{Event, NoMemory};
-use csp_tables::{Link, NormNode, Part, Shape};
+use csp_tables::{Link, Part, Shape};
 use std::alloc::Global;
 use std::marker::Model;
 
@@ -64,8 +65,20 @@ impl<'a> SortedShape<'a> {
         self.shape
     }
 
-    /// The part in this place.
-    pub fn component(&self, part: u32) -> &'a Part
+    /// The component with this number.
+    pub fn component(&self, number: u32) -> Component<'_>
+        requires { number < length self.now.parts }
+        ensures shape { result.shape.now ≡ self.now }
+        ensures number { result.number ≡ number }
+    {
+        Component {
+            shape: self,
+            number,
+        }
+    }
+
+    // The part with this number.
+    pub(crate) fn part(&self, part: u32) -> &'a Part
         requires { part < length self.now.parts }
         ensures value { result.now ≡ part_at self.now.parts part }
         ensures form { HasForm result.now }
@@ -73,30 +86,12 @@ impl<'a> SortedShape<'a> {
         &self.shape().parts()[part as usize]
     }
 
-    /// The node of the part in this place.
-    pub fn node(&self, part: u32, node: u32) -> &'a NormNode
-        requires part { part < length self.now.parts }
-        requires node { node < length (part_at self.now.parts part).table }
-        ensures { result.now ≡ node_at (part_at self.now.parts part).table node }
-    {
-        &self.component(part).table().nodes()[node as usize]
-    }
-
-    /// For each node of the part the steps that an observer of shared events has to follow.
-    pub fn rows(&self, part: u32) -> &[Items<(Event, u32)>]
+    // For each node of the part the steps that an observer of shared events has to follow.
+    pub(crate) fn rows(&self, part: u32) -> &[Items<(Event, u32)>]
         requires { part < length self.now.parts }
         ensures { HaveEnough self.now.vocabulary (part_at self.now.parts part).table result.now }
     {
         self.steps[part as usize].as_slice()
-    }
-
-    /// These steps of a node of the part.
-    pub fn steps(&self, part: u32, node: u32) -> &[(Event, u32)]
-        requires part { part < length self.now.parts }
-        requires node { node < length (part_at self.now.parts part).table }
-        ensures { AreEnough self.now.vocabulary (node_at (part_at self.now.parts part).table node).next result.now }
-    {
-        self.rows(part)[node as usize].as_slice()
     }
 
     /// The link in this place.
@@ -122,8 +117,8 @@ impl<'a> SortedShape<'a> {
         link_of(self.owners(), event)
     }
 
-    /// The links of the part in this place, in rising order.
-    pub fn links(&self, part: u32) -> &[u32]
+    // The links of the part in this place, in rising order.
+    pub(crate) fn links(&self, part: u32) -> &[u32]
         requires { part < length self.now.parts }
         ensures { result.now ≡ ends_of self.now part }
     {

@@ -2,14 +2,13 @@
 
 ghost use Rattle.std.specs.Prelude.{◌≡◌, ◌<◌, ◌≤◌, ℕ, Some, IfOk, length};
 ghost use Rattle.dl_limits.specs.declared.TheConstants.{MOST_COMPONENTS};
-ghost use Rattle.csp_tables.specs.Prelude.{TripleDisjoint, alphabets_of, part_at, use_at, IsWellFormed, link_at};
-ghost use Rattle.observed_runs.specs.Enough.{AreEnough};
-ghost use Rattle.shape_links.specs.Links.{IsOwner, ends_of};
-ghost use Rattle.shape_links.specs.Setting.{node_of};
+ghost use Rattle.csp_tables.specs.Prelude.{TripleDisjoint, alphabets_of, use_at, IsWellFormed, link_at};
+ghost use Rattle.shape_links.specs.Links.{IsOwner};
 
+use crate::component::Component;
 use crate::prepared::SortedShape;
 use csp_base::{Event, NoMemory};
-use csp_tables::{Link, NormNode, Shape, UseSets};
+use csp_tables::{Link, Shape, UseSets};
 use std::alloc::Global;
 use std::marker::Model;
 
@@ -80,22 +79,13 @@ impl<'a> Setting<'a> {
         self.shape().parts().len() as u32
     }
 
-    /// The node of the part.
-    pub fn node(&self, part: u32, node: u32) -> &'a NormNode
-        requires part { part < length self.now.shape.parts }
-        requires node { node < length (part_at self.now.shape.parts part).table }
-        ensures { result.now ≡ node_of self.now part node }
+    /// The component with this number.
+    pub fn component(&self, number: u32) -> Component<'_>
+        requires { number < length self.now.shape.parts }
+        ensures shape { result.shape.now ≡ self.now.shape }
+        ensures number { result.number ≡ number }
     {
-        self.prepared.node(part, node)
-    }
-
-    /// The steps of the node that an observer of shared events has to follow.
-    pub fn steps(&self, part: u32, node: u32) -> &[(Event, u32)]
-        requires part { part < length self.now.shape.parts }
-        requires node { node < length (part_at self.now.shape.parts part).table }
-        ensures { AreEnough self.now.shape.vocabulary (node_of self.now part node).next result.now }
-    {
-        self.prepared.steps(part, node)
+        self.prepared.component(number)
     }
 
     /// What is noted of the part.
@@ -120,13 +110,5 @@ impl<'a> Setting<'a> {
         ensures owned { (l : ℕ) → IsOwner self.now.shape l event → result ≡ Some l }
     {
         self.prepared.owner(event)
-    }
-
-    /// The links of the part in this place, in rising order.
-    pub fn links(&self, part: u32) -> &[u32]
-        requires { part < length self.now.shape.parts }
-        ensures { result.now ≡ ends_of self.now.shape part }
-    {
-        self.prepared.links(part)
     }
 }

@@ -1,0 +1,8 @@
+use Rattle.std.proofs.Common.{ℕ, ◌<◌, [], IsTrue, get_or}
+use Rattle.csp_tables.specs.Prelude.{is_possible, node_after, node_at}
+use Rattle.shape_links.specs.Component.{table_of}
+use Rattle.shape_links.specs.OddLinks.{IsTurned}
+use Rattle.shape_links.proofs.odd_links.are_kept.Given as goal
+
+abbrev pub invariant-loop-node : goal.invariant-loop-node
+invariant-loop-node l = (n e : ℕ) → n < l.node → IsTrue (is_possible (node_at (table_of l.component) n).next e) → IsTurned l.component.shape.now l.watched e (get_or l.odd n []) (get_or l.odd (node_after (table_of l.component) n e) [])

@@ -1,0 +1,7 @@
+use Rattle.std.proofs.Common.{ℕ, ◌<◌, [], get_or}
+use Rattle.observed_runs.specs.Prelude.{pair_at}
+use Rattle.shape_links.specs.OddLinks.{IsTurned}
+use Rattle.shape_links.proofs.odd_links.is_kept_from.Given as goal
+
+abbrev pub invariant-loop-event : goal.invariant-loop-event
+invariant-loop-event l = (k : ℕ) → k < l.event-index → IsTurned l.component.shape.now l.watched (pair_at l.steps k).0 (get_or l.odd l.node []) (get_or l.odd (pair_at l.steps k).1 [])
