@@ -1,16 +1,15 @@
 -- What the walk has laid out, from what it has laid out below.
-use Rattle.std.proofs.Common.{◌≡◌, ℕ, ◌+◌, ◌-◌, ◌<◌, ◌≤◌, if◌then◌else◌, Ok, Err, List, [], ◌∷◌, ◌++◌, length, ap, sym, ◌∙◌, subst, arith, append_assoc, append-nil}
+use Rattle.std.proofs.Common.{◌≡◌, ℕ, ◌+◌, ◌<◌, if◌then◌else◌, Ok, Err, List, [], ◌∷◌, ◌++◌, length, ap, sym, ◌∙◌, subst, append_assoc, append-nil}
 use Rattle.std.proofs.lemmas.Bool.{lt-ltb}
 use Rattle.std.proofs.lemmas.List.{length-append}
 use Rattle.csp_base.specs.Events.{union_of}
-use Rattle.csp_program.specs.declared.expressions.Expr.{Expr}
 use Rattle.csp_program.specs.declared.networks.Net.{Net}
 use Rattle.csp_program.specs.declared.processes.Proc.{Proc}
 use Rattle.csp_tables.specs.Network.{Component, Tree, Operands, leaves}
 use Rattle.csp_tables.specs.Network.Tree.{leaf, parallel}
 use Rattle.csp_tables.specs.Network.Operands.{none, operand}
 use Rattle.network_trees.specs.Joint.{joint}
-use Rattle.network_trees.specs.NetworkOf.{Walked, events_under, goes_on, operand_first, side_by_side, tree_within, two_operands, with_value}
+use Rattle.network_trees.specs.NetworkOf.{Walked, events_under, goes_on, operand_first, side_by_side, tree_within}
 use Rattle.network_trees.specs.declared.fault.LayoutFault.{LayoutFault}
 use Rattle.network_trees.specs.declared.fault.LayoutFault.TheVariants as fault
 use Rattle.csp_base.specs.declared.stop.Stop.{Stop}

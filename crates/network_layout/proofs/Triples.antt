@@ -1,5 +1,5 @@
 -- Events in one, two and three alphabets, and the components that have the first event in three.
-use Rattle.std.proofs.Common.{◌≡◌, ℕ, ◌+◌, ◌<◌, ◌≤◌, Bool, true, false, ◌||◌, ◌&&◌, if◌then◌else◌, Some, None, List, [], ◌∷◌, ◌++◌, length, take, drop, get_or, refl, ap, ap₂, sym, ◌∙◌, subst, arith, append_assoc}
+use Rattle.std.proofs.Common.{◌≡◌, ℕ, ◌+◌, ◌<◌, ◌≤◌, Bool, true, false, ◌||◌, ◌&&◌, if◌then◌else◌, Some, None, List, [], ◌∷◌, ◌++◌, length, take, drop, get_or, refl, ap, sym, ◌∙◌, subst, arith, append_assoc}
 use Rattle.std.specs.Prelude.{nat_le}
 use Rattle.std.specs.List.{find}
 use Rattle.std.specs.List.Sorted.{IsStrictlyIncreasing}
@@ -14,7 +14,6 @@ use Rattle.csp_tables.specs.Network.{Component}
 use Rattle.csp_tables.specs.Part.{TripleDisjoint, sharers}
 use Rattle.network_layout.specs.Triple.{AreCrowded, AreIn, IsCounted, SharesEvent, alphabets, holders}
 use Rattle.network_layout.specs.declared.triple.Counted.{Counted}
-use Rattle.network_layout.specs.declared.triple.TripleFault.{TripleFault}
 
 -- ---- one alphabet more
 

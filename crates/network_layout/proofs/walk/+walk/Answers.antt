@@ -1,5 +1,4 @@
-use Rattle.std.proofs.Common.{◌<◌, ◌≡◌, ◌∷◌, ap, sym, ◌∙◌, arith, rules, subst, length}
-use Rattle.std.proofs.lemmas.Grind.{common_steps}
+use Rattle.std.proofs.Common.{◌<◌, ◌≡◌, ◌∷◌, ap, ◌∙◌, arith, rules, subst}
 use Rattle.csp_atoms.specs.declared.value.Value.TheVariants.{One}
 use Rattle.csp_program.specs.Environments.{with_bound}
 use Rattle.csp_program.specs.Value.{bound_to}
