@@ -16,10 +16,12 @@ use Rattle.network_layout.specs.Triple.{alphabets}
 use Rattle.network_stages.specs.Prelude.{HasSilentBound, IsLive, IsSpelled, Network, HasParts}
 use Rattle.network_trees.proofs.InOrder.{network_is_tree}
 use Rattle.process_steps.specs.ComponentStep.{ProcessStep}
-use Rattle.refinement.specs.Conforms.{AllConform, Conforms}
-use Rattle.refinement.proofs.Inheriting.{conforming_networks_are_live}
+use Rattle.conformance.specs.Conforms.{AllConform, Conforms}
+use Rattle.conformance.proofs.Inheriting.{conforming_networks_are_live}
 use Rattle.csp_base.specs.Stops.{Tells}
-use Rattle.comparison.specs.Conforming.{ComponentsConform, ConformBefore, FailsToConform, StandsFirst, failure}
+use Rattle.csp_base.specs.declared.stop.Stop.{Stop}
+use Rattle.csp_base.specs.declared.stop.Stop.TheVariants as stop
+use Rattle.comparison.specs.Conforming.{ComponentsConform, ConformBefore, FailsToConform, HaveSameEvents, StandsFirst, failure}
 use Rattle.comparison.proofs.Lists.{alphabet_there, as_many_alphabets}
 
 -- component by component
@@ -33,16 +35,19 @@ each_conforms p q (c ∷ cs) (d ∷ ds) same each =
     (each 0 c d refl refl, each_conforms p q cs ds rest (λ k a b here there. each (suc k) a b here there))
 
 fault_told : (network specified : Network) (n : ℕ) (c d : Component Proc) (p q : Part) → IsPartOf (ProcessStep network.program) c p → IsPartOf (ProcessStep specified.program) d q
-    → StandsFirst network specified n c d → (f : ConformFault) → Fails p.table q.table f → Tells (FailsToConform network specified) (failure n f)
-fault_told network specified n c d p q part other stands fault.NoMemory fails = tt
-fault_told network specified n c d p q part other stands (fault.Outside s) fails =
+    → StandsFirst network specified n c d → (f : Stop ConformFault) → Tells (Fails p.table q.table) f → Tells (FailsToConform network specified) (failure n f)
+fault_told network specified n c d p q part other stands stop.NoMemory fails = tt
+fault_told network specified n c d p q part other stands (stop.Told (fault.Outside s)) fails =
     (n, c, d, s, stands, inl ((tables_tell (ProcessStep network.program) (ProcessStep specified.program)).outside c d p q s part other fails, refl))
-fault_told network specified n c d p q part other stands (fault.Refuses s) fails =
+fault_told network specified n c d p q part other stands (stop.Told (fault.Refuses s)) fails =
     (n, c, d, s, stands, inr ((tables_tell (ProcessStep network.program) (ProcessStep specified.program)).refuses c d p q s part other fails, refl))
 
--- a part that is read from parts that have the form of tables
+-- a part as it is read
+pub part_read : (ps : List Part) (n : ℕ) (p : Part) → n < length ps → p ≡ get_or ps n p → p ≡ part_at ps n
+part_read ps n p within at = get_or_read ps n p within at (record { alphabet = []; table = [] })
+
 pub form_read : (ps : List Part) (n : ℕ) (p : Part) → HaveForm ps → n < length ps → p ≡ get_or ps n p → HasForm p
-form_read ps n p form within at = subst HasForm (sym (get_or_read ps n p within at (record { alphabet = []; table = [] }))) (part_form ps n within form)
+form_read ps n p form within at = subst HasForm (sym (part_read ps n p within at)) (part_form ps n within form)
 
 module _ (network specified : Network) (ps qs : List Part) (has : HasParts network ps) (others : HasParts specified qs)
     (same : alphabets (leaves network.tree) ≡ alphabets (leaves specified.tree)) where
@@ -53,12 +58,21 @@ module _ (network specified : Network) (ps qs : List Part) (has : HasParts netwo
       let c : length (alphabets (leaves network.tree)) ≡ length (alphabets (leaves specified.tree)) = ap length same in
       omega (arith, a, b, c, as_many_alphabets (leaves network.tree), as_many_alphabets (leaves specified.tree))
 
+  one_alphabet : (i : ℕ) (c d : Component Proc) → slice_get (leaves network.tree) i ≡ Some c → slice_get (leaves specified.tree) i ≡ Some d → c.alphabet ≡ d.alphabet
+  one_alphabet i c d here there =
+      same_Some c.alphabet d.alphabet (sym (alphabet_there (leaves network.tree) i c here) ∙ ap (λ (as' : List (List ℕ)). slice_get as' i) same ∙ alphabet_there (leaves specified.tree) i d there)
+
+  pub same_events : HaveSameEvents ps qs
+  same_events i within =
+      let here = component_of (ProcessStep network.program) (leaves network.tree) ps has.are i within in
+      let there = component_of (ProcessStep specified.program) (leaves specified.tree) qs others.are i (omega (arith, within, as_many)) in
+      sym here.part.alphabet ∙ one_alphabet i here.component there.component here.listed there.listed ∙ there.part.alphabet
+
   one_conforms : (i : ℕ) (c d : Component Proc) → slice_get (leaves network.tree) i ≡ Some c → slice_get (leaves specified.tree) i ≡ Some d → TableConforms (part_at ps i).table (part_at qs i).table
       → Conforms (ProcessStep network.program) (ProcessStep specified.program) c d
   one_conforms i c d here there conforms =
-      let alphabet = same_Some c.alphabet d.alphabet (sym (alphabet_there (leaves network.tree) i c here) ∙ ap (λ (as' : List (List ℕ)). slice_get as' i) same ∙ alphabet_there (leaves specified.tree) i d there) in
       (tables_tell (ProcessStep network.program) (ProcessStep specified.program)).conforms c d (part_at ps i) (part_at qs i)
-      (part_of (ProcessStep network.program) (leaves network.tree) ps has.are i c here) (part_of (ProcessStep specified.program) (leaves specified.tree) qs others.are i d there) alphabet conforms
+      (part_of (ProcessStep network.program) (leaves network.tree) ps has.are i c here) (part_of (ProcessStep specified.program) (leaves specified.tree) qs others.are i d there) (one_alphabet i c d here there) conforms
 
   pub all_conform : ConformBefore ps qs (length ps) → ComponentsConform network specified
   all_conform conform =
@@ -66,7 +80,7 @@ module _ (network specified : Network) (ps qs : List Part) (has : HasParts netwo
       (λ i c d here there. one_conforms i c d here there (conform i (part_within (ProcessStep network.program) (leaves network.tree) ps has.are i c here)))
 
   -- the first part that does not conform is that of the first component
-  pub first_fails : (n : ℕ) (f : ConformFault) → n < length ps → ConformBefore ps qs n → Fails (part_at ps n).table (part_at qs n).table f → Tells (FailsToConform network specified) (failure n f)
+  pub first_fails : (n : ℕ) (f : Stop ConformFault) → n < length ps → ConformBefore ps qs n → Tells (Fails (part_at ps n).table (part_at qs n).table) f → Tells (FailsToConform network specified) (failure n f)
   first_fails n f within before fails =
       let here = component_of (ProcessStep network.program) (leaves network.tree) ps has.are n within in
       let there = component_of (ProcessStep specified.program) (leaves specified.tree) qs others.are n (omega (arith, within, as_many)) in

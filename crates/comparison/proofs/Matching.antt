@@ -7,7 +7,7 @@ use Rattle.network_layout.specs.Triple.{alphabets}
 use Rattle.network_stages.proofs.Excluded.{faults_exclude_tables}
 use Rattle.network_stages.specs.Prelude.{Network, HaveFewSets, HasNoParts}
 use Rattle.process_steps.specs.ComponentStep.{ProcessStep}
-use Rattle.refinement.specs.Conforms.{AllConform, Conforms}
+use Rattle.conformance.specs.Conforms.{AllConform, Conforms}
 use Rattle.report.specs.Prelude.{Point, passed, told, verdict_status}
 use Rattle.report.specs.declared.answer.Refusal.{Refusal}
 use Rattle.report.specs.declared.answer.Shortfall.{Shortfall}

@@ -1,5 +1,5 @@
 -- The first component of a network that does not conform to the one in its place in the specification, as it is told.
-use Rattle.std.specs.Prelude.{◌≡◌, ◌<◌, ◌⊎◌, ℕ, List, Some, slice_get}
+use Rattle.std.specs.Prelude.{◌≡◌, ◌<◌, ◌⊎◌, ℕ, List, Some, length, slice_get}
 use Rattle.csp_program.specs.declared.processes.Proc.{Proc}
 use Rattle.csp_tables.specs.Prelude.{Component, leaves, Part, part_at}
 use Rattle.conformance.specs.Conforming.{TableConforms}
@@ -8,7 +8,7 @@ use Rattle.conformance.specs.declared.fault.ConformFault.{ConformFault}
 use Rattle.conformance.specs.declared.fault.ConformFault.TheVariants as fault
 use Rattle.network_stages.specs.Networks.{Network}
 use Rattle.process_steps.specs.ComponentStep.{ProcessStep}
-use Rattle.refinement.specs.Conforms.{AllConform, Conforms}
+use Rattle.conformance.specs.Conforms.{AllConform, Conforms}
 use Rattle.report.specs.declared.answer.Shortfall.{Shortfall}
 use Rattle.report.specs.declared.answer.Shortfall.TheVariants as shortfall
 use Rattle.csp_base.specs.declared.stop.Stop.{Stop}
@@ -42,8 +42,12 @@ module _ (network specified : Network) where
 abbrev pub ConformBefore : List Part → List Part → ℕ → Type 0
 ConformBefore ps qs n = (i : ℕ) → i < n → TableConforms (part_at ps i).table (part_at qs i).table
 
+-- each part has the alphabet of the one in its place
+abbrev pub HaveSameEvents : List Part → List Part → Type 0
+HaveSameEvents ps qs = (i : ℕ) → i < length ps → (part_at ps i).alphabet ≡ (part_at qs i).alphabet
+
 -- how the fault of the component with the number i is told
-abbrev pub failure : ℕ → ConformFault → Stop Shortfall
-failure i fault.NoMemory = stop.NoMemory
-failure i (fault.Outside trace) = stop.Told (shortfall.Outside i trace)
-failure i (fault.Refuses trace) = stop.Told (shortfall.Refuses i trace)
+abbrev pub failure : ℕ → Stop ConformFault → Stop Shortfall
+failure i stop.NoMemory = stop.NoMemory
+failure i (stop.Told (fault.Outside trace)) = stop.Told (shortfall.Outside i trace)
+failure i (stop.Told (fault.Refuses trace)) = stop.Told (shortfall.Refuses i trace)

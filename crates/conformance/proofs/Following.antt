@@ -5,7 +5,7 @@ use Rattle.csp_base.proofs.Standard.{and_from, and_parts, cases_Bool, cond-true,
 use Rattle.csp_base.specs.Members.{has}
 use Rattle.csp_tables.specs.Prelude.{HasForm, StepsHaveForm, Part, Node, IsRun, acceptances_after, end_of, is_possible, is_run, no_node, node_after, node_at}
 use Rattle.csp_tables.proofs.Runs.{node_form, run_push}
-use Rattle.observed_runs.specs.Prelude.{AreFound, Found, IsExploration, StepsTo, LeadsTo, observed, pair_at}
+use Rattle.observed_runs.specs.Prelude.{Found, IsExploration, StepsTo, LeadsTo, observed, pair_at}
 use Rattle.observed_runs.proofs.Leading.{listed_step, step_within}
 use Rattle.conformance.specs.Conforming.{HasWithin, RefusesAfter, RunsOutside, TableConforms}
 use Rattle.conformance.specs.Finding.{AllAccept, AreInside, RefusesAt}

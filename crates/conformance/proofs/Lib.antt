@@ -1,4 +1,9 @@
+pub mod Composing
+pub mod Decoding
 pub mod Following
+pub mod Inheriting
+pub mod Keying
+pub mod Renaming
 pub mod Searching
 pub mod Standing
 pub mod Telling

@@ -2,7 +2,7 @@
 use Rattle.std.proofs.Common.{◌≡◌, ℕ, List, [], get_or, IsTrue, subst}
 use Rattle.csp_base.specs.Members.{has}
 use Rattle.csp_tables.specs.Prelude.{Label, Component, ComponentStep, Part, IsPartOf, IsRun, acceptances_after, IsTrace}
-use Rattle.refinement.specs.Conforms.{AcceptsWithin, Conforms}
+use Rattle.conformance.specs.Conforms.{AcceptsWithin, Conforms}
 use Rattle.conformance.specs.Conforming.{HasWithin, RefusesAfter, RunsOutside, TableConforms}
 use Rattle.conformance.specs.Failing.{FaultsRefute, GoesOutside, RefusesTooMuch, TablesTell}
 

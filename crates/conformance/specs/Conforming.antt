@@ -1,7 +1,13 @@
 -- When a normal table conforms to another one, its specification: what it does, the specification does, and wherever it comes to rest it offers
 -- enough. And where it does not.
 use Rattle.std.specs.Prelude.{◌≡◌, ◌<◌, ℕ, List, [], ◌∷◌, ◌++◌, length, get_or}
-use Rattle.csp_tables.specs.Prelude.{Node, IsRun, acceptances_after, IsWithin}
+use Rattle.csp_tables.specs.Prelude.{HasForm, Part, Node, IsRun, acceptances_after, IsWithin}
+
+-- both have the form of tables over one alphabet
+pub record AreMatched (part specified : Part) : Type 0 where
+  pub form : HasForm part
+  pub specified_form : HasForm specified
+  pub alphabet : part.alphabet ≡ specified.alphabet
 
 -- one of the sets lies within M
 pub record HasWithin (sets : List (List ℕ)) (M : List ℕ) : Type 0 where

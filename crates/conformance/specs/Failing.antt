@@ -1,7 +1,7 @@
 -- Where a component does not conform to its specification: it does what the specification can't do, or it comes to rest where it offers too little.
 use Rattle.std.specs.Prelude.{◌≡◌, ℕ, List, [], ◌∷◌, ◌++◌}
 use Rattle.csp_tables.specs.Prelude.{Label, Component, ComponentStep, Part, IsPartOf, IsAcceptance, IsTrace}
-use Rattle.refinement.specs.Conforms.{AcceptsWithin, Conforms}
+use Rattle.conformance.specs.Conforms.{AcceptsWithin, Conforms}
 use Rattle.conformance.specs.Conforming.{RefusesAfter, RunsOutside, TableConforms}
 
 module _ {T U : Type 0} (Step : T → Label → T → Type 0) (Specified : U → Label → U → Type 0) (c : Component T) (d : Component U) where

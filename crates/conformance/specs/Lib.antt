@@ -1,6 +1,9 @@
 pub mod Alike
 pub mod Conforming
+pub mod Conforms
 pub mod Failing
 pub mod Finding
 pub mod Following
+pub mod Inherits
+pub mod Keys
 pub mod Told

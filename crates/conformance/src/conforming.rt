@@ -2,6 +2,7 @@
 
 ghost use Rattle.std.specs.Prelude.{◌≡◌, ◌<◌, ℕ, IfErr, IfNone, IfOk, IfSome, MatchBool, OnOk, length};
 ghost use Rattle.std.specs.Bool.{OnFalse, OnTrue};
+ghost use Rattle.csp_base.specs.Stops.{Tells};
 ghost use Rattle.csp_tables.specs.Form.{HasForm};
 ghost use Rattle.observed_runs.specs.Observed.{pair_at};
 ghost use Rattle.conformance.specs.Conforming.{TableConforms};
@@ -13,30 +14,32 @@ use crate::fault::ConformFault;
 use crate::follower::Follower;
 use crate::nodes::node_of;
 use crate::steps::refuses;
-use csp_base::NoMemory;
+use csp_base::{NoMemory, Stop};
 use csp_tables::Part;
 use observed_runs::{Explored, Pairs, explore, steps_of};
 use std::alloc::Global;
 
-/// Succeeds where each run of `part` is one of `specified`, and after it each acceptance of the first contains one of the second.
-///
-/// It takes time in proportion to the pairs of nodes to which runs lead, with the steps of the first and the logarithm of those of the second.
-pub fn conform_part(alloc: Global, part: &Part, specified: &Part) -> Result<(), ConformFault>
+// Succeeds where each run of `part` is one of `specified`, and after it each acceptance of the first contains one of the second.
+pub(crate) fn conform(
+    alloc: Global,
+    part: &Part,
+    specified: &Part,
+) -> Result<(), Stop<ConformFault>>
     requires form { HasForm part.now }
     requires specified_form { HasForm specified.now }
     ensures conforms { OnOk result (TableConforms part.now.table specified.now.table) }
-    ensures fails { IfErr result (Fails part.now.table specified.now.table) }
+    ensures told { IfErr result (Tells (Fails part.now.table specified.now.table)) }
 {
     let explored = followed(alloc, part, specified)?;
     if let Some(place) = outside_place(specified, explored.pairs()) {
         let (earlier, event) = explored.origin(place);
         let mut trace = explored.run_to(alloc, earlier)?;
         trace.push(event)?;
-        return Err(ConformFault::Outside { trace });
+        return Err(Stop::Told(ConformFault::Outside { trace }));
     }
     if let Some(place) = refusing_place(alloc, part, specified, explored.pairs())? {
         let trace = explored.run_to(alloc, place)?;
-        return Err(ConformFault::Refuses { trace });
+        return Err(Stop::Told(ConformFault::Refuses { trace }));
     }
     Ok(())
 }

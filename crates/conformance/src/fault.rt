@@ -1,12 +1,10 @@
 //! Why a component does not conform to its specification.
 
-use csp_base::{NoMemory, Trace};
+use csp_base::Trace;
 
-/// Why a component does not conform to its specification, or no answer was found.
+/// Why a component does not conform to its specification.
 #[derive(Drop)]
 pub enum ConformFault {
-    /// Memory ran out.
-    NoMemory,
     /// The component does the trace, and its specification does not (43).
     Outside {
         /// The trace. Without its last event both do it.
@@ -18,15 +16,4 @@ pub enum ConformFault {
         /// The trace.
         trace: Trace,
     },
-}
-
-impl From<NoMemory> for ConformFault {
-    ghost use Rattle.std.specs.Prelude.{◌≡◌};
-    ghost use Rattle.conformance.specs.declared.fault.ConformFault.TheVariants.{NoMemory as OutOfMemory};
-
-    ghost from_gives = { λ _ fault. fault ≡ OutOfMemory };
-
-    fn from(_error: NoMemory) -> ConformFault {
-        ConformFault::NoMemory
-    }
 }

@@ -1,6 +1,7 @@
 //! What the tables of components tell of the components.
 
 ghost use Rattle.conformance.specs.Failing.{FaultsRefute, TablesTell};
+ghost use Rattle.conformance.specs.Inherits.{ConformingNetworksAreLive};
 
 use net_sound::Transitions;
 
@@ -12,4 +13,9 @@ pub fn tables_tell_conformance<S: Transitions, O: Transitions>()
 /// A component that conforms to its specification has no fault that may be told of it, and none has both.
 pub fn faults_refute_conformance<S: Transitions, O: Transitions>()
     ensures { FaultsRefute S.step O.step }
+{}
+
+/// A network whose components conform to those of a live network is live, with its own silent bound.
+pub fn conforming_networks_are_live<S: Transitions, O: Transitions>()
+    ensures { ConformingNetworksAreLive S.step O.step }
 {}

@@ -1,3 +1,3 @@
-pub mod Laps
+pub mod LapPlaces
 pub mod Noting
 pub mod Shortness

@@ -1,17 +1,20 @@
 -- Facts that are kept by the places of a lap.
-use Rattle.std.proofs.Common.{◌≡◌, ℕ, ◌<◌, inl, inr, ◌⊎◌, List, length, set, Option, Some, None, Result, Err, IsTrue, true, sym, ap, subst, ◌∙◌}
-use Rattle.csp_base.proofs.Standard.{cases_eq, cases_lt, get_or-set_same, get_or-set_other, get_or_past, none-some, same_Some}
-use Rattle.csp_tables.specs.Prelude.{node_at, is_possible, HasForm, part_at, Shape, IsWellFormed}
-use Rattle.csp_base.specs.Members.{has}
+use Rattle.std.proofs.Common.{◌≡◌, ℕ, ◌<◌, inl, inr, ◌⊎◌, List, length, Option, Some, None, true, refl, sym, ap, subst, ◌∙◌}
+use Rattle.std.specs.Prelude.{slice_set}
+use Rattle.csp_base.proofs.Standard.{cases_eq, cases_lt, get_or-set_same, get_or-set_other, get_or_past, length-set, none-some, same_Some}
+use Rattle.csp_base.specs.Prelude.{has}
+use Rattle.csp_tables.specs.Prelude.{node_at, part_at}
+use Rattle.csp_tables.proofs.Runs.{node_form}
+use Rattle.net_sound.proofs.Within.{part_form}
 use Rattle.design_rules.proofs.Shapes.{link_shared}
 use Rattle.observed_runs.specs.Prelude.{AreEnough, pair_at}
 use Rattle.observed_runs.proofs.Leading.{listed_step, step_listed}
 use Rattle.shape_links.specs.Links.{IsOwner}
-use Rattle.cyclic_conditions.specs.Facts.{IsFact, first_at, HasFirst, AreFirsts, IsNoted, Disagree, AreClashing, KeepsFirsts}
+use Rattle.cyclic_conditions.specs.Facts.{IsFact, IsPossibleAt, first_at, HasFirst, AreFirsts, AreMore, IsNoted, IsNotedAt, Disagree, AreClashing, ClashesWith}
 use Rattle.cyclic_conditions.specs.declared.facts.Fact.{Fact}
-use Rattle.cyclic_conditions.specs.declared.facts.FactFault.{FactFault}
-use Rattle.cyclic_conditions.specs.declared.facts.FactFault.TheVariants.{Clash}
-use Rattle.csp_tables.proofs.Runs.{node_form}
+use Rattle.shape_links.specs.Component.{table_of}
+use Rattle.cyclic_conditions.specs.Laps.{AreLaps, shape_of}
+use Rattle.cyclic_conditions.specs.declared.laps.Laps.{Laps}
 
 -- a kept fact stands within the list
 pub first_within : (firsts : List (Option Fact)) (r l : ℕ) → HasFirst firsts r l → r < length firsts
@@ -20,25 +23,19 @@ first_within firsts r l x = elim (cases_lt r (length firsts)) [ inl h ↦ h | in
 -- ---- one more
 
 module _ (firsts : List (Option Fact)) (place : ℕ) (fact : Fact) (within : place < length firsts) where
-  at_place : first_at (set firsts place (Some fact)) place ≡ Some fact
-  at_place = get_or-set_same firsts place (Some fact) None within
-
-  elsewhere : (q : ℕ) → (q ≡ place → ⊥) → first_at (set firsts place (Some fact)) q ≡ first_at firsts q
-  elsewhere q ne = get_or-set_other firsts place q (Some fact) None ne
-
-  pub set_sound : (q : ℕ) (f : Fact) → first_at (set firsts place (Some fact)) q ≡ Some f → (first_at firsts q ≡ Some f) ⊎ ((q ≡ place) × (f ≡ fact))
+  set_sound : (q : ℕ) (f : Fact) → first_at (slice_set firsts place (Some fact)) q ≡ Some f → (first_at firsts q ≡ Some f) ⊎ ((q ≡ place) × (f ≡ fact))
   set_sound q f h = elim (cases_eq q place) [
-    | inl same ↦ inr (same, sym (same_Some fact f (sym at_place ∙ subst (λ p. first_at (set firsts place (Some fact)) p ≡ Some f) same h)))
-    | inr other ↦ inl (sym (elsewhere q other) ∙ h)
+    | inl same ↦ inr (same, sym (same_Some fact f (sym (get_or-set_same firsts place (Some fact) None within) ∙ subst (λ p. first_at (slice_set firsts place (Some fact)) p ≡ Some f) same h)))
+    | inr other ↦ inl (sym (get_or-set_other firsts place q (Some fact) None other) ∙ h)
   ]
 
-  old_first : (q l : ℕ) → HasFirst (set firsts place (Some fact)) q l → (HasFirst firsts q l) ⊎ ((q ≡ place) × (fact.link ≡ l))
+  old_first : (q l : ℕ) → HasFirst (slice_set firsts place (Some fact)) q l → HasFirst firsts q l ⊎ ((q ≡ place) × (fact.link ≡ l))
   old_first q l x = elim (set_sound q x.fact x.kept) [
     | inl old ↦ inl (record { fact = x.fact; kept = old; link = x.link })
     | inr new ↦ inr (new.0, ap (λ (f : Fact). f.link) (sym new.1) ∙ x.link)
   ]
 
-  pub set_apart : ((r : ℕ) → HasFirst firsts r fact.link → ⊥) → ((q r l : ℕ) → HasFirst firsts q l → HasFirst firsts r l → q ≡ r) → (q r l : ℕ) → HasFirst (set firsts place (Some fact)) q l → HasFirst (set firsts place (Some fact)) r l → q ≡ r
+  set_apart : ((r : ℕ) → HasFirst firsts r fact.link → ⊥) → ((q r l : ℕ) → HasFirst firsts q l → HasFirst firsts r l → q ≡ r) → (q r l : ℕ) → HasFirst (slice_set firsts place (Some fact)) q l → HasFirst (slice_set firsts place (Some fact)) r l → q ≡ r
   set_apart none apart q r l x y = elim (old_first q l x) [
     | inl old ↦ elim (old_first r l y) [
       | inl older ↦ apart q r l old older
@@ -50,58 +47,55 @@ module _ (firsts : List (Option Fact)) (place : ℕ) (fact : Fact) (within : pla
     ]
   ]
 
--- ---- what is noted of a part
+  set_keeps : first_at firsts place ≡ None → (q l : ℕ) → HasFirst firsts q l → HasFirst (slice_set firsts place (Some fact)) q l
+  set_keeps none q l x = elim (cases_eq q place) [
+    | inl same ↦ absurd (none-some x.fact (sym none ∙ subst (λ p. first_at firsts p ≡ Some x.fact) same x.kept))
+    | inr other ↦ record { fact = x.fact; kept = get_or-set_other firsts place q (Some fact) None other ∙ x.kept; link = x.link }
+  ]
 
 -- what is known of the kept facts once one more was noted
-pub firsts_more : (shape : Shape) (i : ℕ) (pairs : List (ℕ × ℕ)) (old new : List (Option Fact)) (place : ℕ) (fact : Fact) → AreFirsts shape i pairs old → IsFact shape i pairs place fact → ((q : ℕ) (f : Fact) → first_at new q ≡ Some f → (first_at old q ≡ Some f) ⊎ ((q ≡ place) × (f ≡ fact))) → (((q r l : ℕ) → HasFirst old q l → HasFirst old r l → q ≡ r) → (q r l : ℕ) → HasFirst new q l → HasFirst new r l → q ≡ r) → AreFirsts shape i pairs new
-firsts_more shape i pairs old new place fact a is sound apart = record {
-  sound = λ q f h. elim (sound q f h) [
-    | inl k ↦ a.sound q f k
-    | inr k ↦ subst (λ p. IsFact shape i pairs p f) (sym k.0) (subst (IsFact shape i pairs place) (sym k.1) is)
-  ];
-  apart = apart a.apart;
-}
+pub one_more : (laps : Laps) (place : ℕ) (fact : Fact) (old new : List (Option Fact)) → place < length old → AreFirsts laps old → IsFact laps place fact → IsNotedAt place fact old new → AreMore laps old new × HasFirst new place fact.link
+one_more laps place fact old new within a is (inl x) = subst (λ xs. AreMore laps old xs × HasFirst xs place fact.link) (sym x.1) (record { firsts = a; keeps = λ q l y. y }, x.0)
+one_more laps place fact old new within a is (inr x) = subst (λ xs. AreMore laps old xs × HasFirst xs place fact.link) (sym x.2) (
+  record {
+    firsts = record {
+      count = length-set old place (Some fact) ∙ a.count;
+      sound = λ q f h. elim (set_sound old place fact within q f h) [
+        | inl k ↦ a.sound q f k
+        | inr k ↦ subst (λ p. IsFact laps p f) (sym k.0) (subst (IsFact laps place) (sym k.1) is)
+      ];
+      apart = set_apart old place fact within x.1 a.apart;
+    };
+    keeps = set_keeps old place fact within x.0;
+  },
+  record { fact = fact; kept = get_or-set_same old place (Some fact) None within; link = refl },
+)
 
-pub clashing : (shape : Shape) (i : ℕ) (pairs : List (ℕ × ℕ)) (firsts : List (Option Fact)) (place : ℕ) (fact f g : Fact) → AreFirsts shape i pairs firsts → IsFact shape i pairs place fact → (f ≡ fact) × (r : ℕ) × (first_at firsts r ≡ Some g) × Disagree place fact r g → AreClashing shape i pairs f g
-clashing shape i pairs firsts place fact f g a is k = record {
+pub clashing : (laps : Laps) (place : ℕ) (fact f g : Fact) (firsts : List (Option Fact)) → AreFirsts laps firsts → IsFact laps place fact → f ≡ fact → ClashesWith place fact firsts g → AreClashing laps f g
+clashing laps place fact f g firsts a is same k = record {
   first_place = place;
-  second_place = k.1;
-  first = subst (IsFact shape i pairs place) (sym k.0) is;
-  second = a.sound k.1 g k.2;
-  apart = subst (λ x. Disagree place x k.1 g) (sym k.0) k.3;
+  second_place = k.0;
+  first = subst (IsFact laps place) (sym same) is;
+  second = a.sound k.0 g k.1;
+  apart = subst (λ x. Disagree place x k.0 g) (sym same) k.2;
 }
-
-pub noted_still : (shape : Shape) (i : ℕ) (pairs : List (ℕ × ℕ)) (old new : List (Option Fact)) (p : ℕ) → KeepsFirsts old new → IsNoted shape i pairs old p → IsNoted shape i pairs new p
-noted_still shape i pairs old new p keeps noted e l possible o = keeps (pair_at pairs p).1 l (noted e l possible o)
 
 -- where each of enough steps of the node is noted, all that is possible is
-pub all_noted : (shape : Shape) (i : ℕ) (pairs : List (ℕ × ℕ)) (firsts : List (Option Fact)) (p : ℕ) (some : List (ℕ × ℕ)) → IsWellFormed shape → AreEnough shape.vocabulary (node_at (part_at shape.parts i).table (pair_at pairs p).0).next some → ((k l : ℕ) → k < length some → IsOwner shape l (pair_at some k).0 → HasFirst firsts (pair_at pairs p).1 l) → IsNoted shape i pairs firsts p
-all_noted shape i pairs firsts p some w enough all e l possible o =
-    let s = listed_step (node_at (part_at shape.parts i).table (pair_at pairs p).0).next e possible in
-    let seen : has shape.vocabulary e ≡ true = link_shared shape l w o.within e o.event in
-    let x = enough.seen s.place s.within (subst (λ j. has shape.vocabulary j ≡ true) (sym s.event) seen) in
-    all x.place l x.within (subst (IsOwner shape l) (sym (ap (λ (y : ℕ × ℕ). y.0) x.is ∙ s.event)) o)
+pub all_noted : (laps : Laps) → AreLaps laps → (firsts : List (Option Fact)) (p : ℕ) (some : List (ℕ × ℕ)) → AreEnough (shape_of laps).vocabulary (node_at (table_of laps.component) (pair_at laps.explored.pairs p).0).next some → ((k l : ℕ) → k < length some → IsOwner (shape_of laps) l (pair_at some k).0 → HasFirst firsts (pair_at laps.explored.pairs p).1 l) → IsNoted laps firsts p
+all_noted laps x firsts p some enough all e l possible o =
+    let shape = (shape_of laps) in
+    let s = listed_step (node_at (table_of laps.component) (pair_at laps.explored.pairs p).0).next e possible in
+    let seen : has (shape_of laps).vocabulary e ≡ true = link_shared shape l x.form o.within e o.event in
+    let y = enough.seen s.place s.within (subst (λ j. has shape.vocabulary j ≡ true) (sym s.event) seen) in
+    all y.place l y.within (subst (IsOwner shape l) (sym (ap (λ (z : ℕ × ℕ). z.0) y.is ∙ s.event)) o)
 
 -- each of enough steps is possible
-pub enough_possible : (shape : Shape) (i n : ℕ) (some : List (ℕ × ℕ)) → HasForm (part_at shape.parts i) → AreEnough shape.vocabulary (node_at (part_at shape.parts i).table n).next some → (k : ℕ) → k < length some → IsTrue (is_possible (node_at (part_at shape.parts i).table n).next (pair_at some k).0)
-enough_possible shape i n some has_form enough k h =
-    let form = node_form (part_at shape.parts i).alphabet (length (part_at shape.parts i).table) (part_at shape.parts i).table n has_form.nodes in
+pub enough_possible : (laps : Laps) → AreLaps laps → (p : ℕ) (some : List (ℕ × ℕ)) → AreEnough (shape_of laps).vocabulary (node_at (table_of laps.component) (pair_at laps.explored.pairs p).0).next some → (k : ℕ) → k < length some → IsPossibleAt laps p (pair_at some k).0
+enough_possible laps x p some enough k h =
+    let part = part_at (shape_of laps).parts laps.component.number in
+    let node = (pair_at laps.explored.pairs p).0 in
+    let has_form = part_form (shape_of laps).parts laps.component.number x.part x.form.form in
+    let form = node_form part.alphabet (length part.table) part.table node has_form.nodes in
     let l = enough.sound k h in
-    let s = step_listed (part_at shape.parts i).alphabet (length (part_at shape.parts i).table) (node_at (part_at shape.parts i).table n).next l.place form l.within in
-    subst (λ (y : ℕ × ℕ). IsTrue (is_possible (node_at (part_at shape.parts i).table n).next y.0)) l.is s.possible
-
-abbrev pub failed : FactFault → Result (Unit {0}) FactFault
-failed fault = Err fault
-
-pub same_fault : (x y : FactFault) → failed x ≡ failed y → x ≡ y
-same_fault x y h = cc
-
-pub same_fault_at : {T : Type 0} (x y : FactFault) (r : Result T FactFault) → r ≡ Err x → r ≡ Err y → x ≡ y
-same_fault_at x y r h k = cc
-
-pub err_on : {T : Type 0} (r : Result T FactFault) (x y : FactFault) → r ≡ Err x → x ≡ y → r ≡ Err y
-err_on r x y h k = cc
-
--- two faults that are one tell the same facts
-pub same_clash : (f g x y : Fact) → failed (Clash f g) ≡ failed (Clash x y) → (x ≡ f) × (y ≡ g)
-same_clash f g x y h = (cc, cc)
+    let s = step_listed part.alphabet (length part.table) (node_at part.table node).next l.place form l.within in
+    subst (λ (y : ℕ × ℕ). IsPossibleAt laps p y.0) l.is s.possible

@@ -1,4 +1,5 @@
 pub mod Facts
+pub mod Laps
 pub mod Orders
 pub mod Shorts
 pub mod Told

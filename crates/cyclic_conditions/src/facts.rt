@@ -1,18 +1,17 @@
 //! Which link a component comes to at each place of its lap.
 
-ghost use Rattle.std.specs.Prelude.{◌≡◌, ◌<◌, ◌⊎◌, ℕ, Some, None, IsTrue, IfErr, IfOk, IfSome, OnOk, length};
-ghost use Rattle.csp_tables.specs.Prelude.{part_at, is_possible, node_at};
-ghost use Rattle.observed_runs.specs.Observed.{pair_at};
-ghost use Rattle.cyclic_conditions.specs.Facts.{Disagree, AreClashing, AreFirsts, AreNoted, HasFirst, IsNoted, KeepsFirsts, first_at, is_of_link, links_in_order};
+ghost use Rattle.std.specs.Prelude.{◌≡◌, ◌<◌, ℕ, None, Some, IfErr, IfOk, IfSome, OnOk, length, replicate};
+ghost use Rattle.observed_runs.specs.Prelude.{pair_at};
+ghost use Rattle.cyclic_conditions.specs.Facts.{AreClashing, AreFirsts, AreMore, AreNoted, ClashesWith, HasFirst, IsNoted, IsNotedAt, IsPossibleAt, first_at, is_of_link, links_in_order};
+ghost use Rattle.cyclic_conditions.specs.Laps.{AreLaps};
 ghost use Rattle.shape_links.specs.Links.{IsOwner};
 
+use crate::laps::Laps;
 use containers::Items;
 use csp_base::{Event, NoMemory};
-use design_rules::RuleFault;
-use shape_links::SortedShape;
 use std::alloc::Global;
 
-// At a pair of an exploration an event of a link is possible.
+// At a pair an event of a link is possible.
 #[derive(Clone, Copy)]
 pub(crate) struct Fact {
     pub(crate) pair: usize,
@@ -20,163 +19,93 @@ pub(crate) struct Fact {
     pub(crate) link: u32,
 }
 
-// Two facts that no order of the links allows, or want of memory.
-#[derive(Drop)]
-pub(crate) enum FactFault {
-    NoMemory,
-    Clash(Fact, Fact),
+// Two facts that no order of the links allows.
+#[derive(Clone, Copy)]
+pub(crate) struct Clash {
+    pub(crate) here: Fact,
+    pub(crate) there: Fact,
 }
 
-impl From<NoMemory> for FactFault {
-    ghost use Rattle.std.specs.Prelude.{◌≡◌};
-    ghost use Rattle.cyclic_conditions.specs.declared.facts.FactFault.TheVariants.{NoMemory as OutOfMemory};
-
-    ghost from_gives = { λ _ fault. fault ≡ OutOfMemory };
-
-    fn from(_error: NoMemory) -> FactFault {
-        FactFault::NoMemory
-    }
-}
-
-// For each place of the lap of `count` places a fact, if there is one.
-pub(crate) fn facts(
-    alloc: Global,
-    prepared: &SortedShape<'_>,
-    part: u32,
-    pairs: &[(u32, u32)],
-    count: u32,
-) -> Result<Vec<Option<Fact>>, FactFault>
-    requires part { part < length prepared.now.parts }
-    requires nodes { (k : ℕ) → k < length pairs.now → (pair_at pairs.now k).0 < length (part_at prepared.now.parts part).table }
-    requires places { (k : ℕ) → k < length pairs.now → (pair_at pairs.now k).1 < count }
-    ensures firsts { IfOk result (λ firsts. AreFirsts prepared.now part pairs.now firsts.items) }
-    ensures noted { IfOk result (λ firsts. AreNoted prepared.now part pairs.now firsts.items) }
-    ensures count { IfOk result (λ firsts. length firsts.items ≡ count) }
-    ensures clash { (f g : Fact) → result ≡ Err (FactFault.Clash f g) → AreClashing prepared.now part pairs.now f g }
+// For each of so many places no fact.
+pub(crate) fn no_facts(alloc: Global, count: usize) -> Result<Vec<Option<Fact>>, NoMemory>
+    ensures { IfOk result (λ firsts. firsts.items ≡ replicate count None) }
 {
-    let mut firsts = vec![in alloc; None; count as usize]?;
-    note_pairs(prepared, part, pairs, &mut firsts)?;
+    let firsts = vec![in alloc; None; count]?;
     Ok(firsts)
 }
 
 // Notes each link of which an event is possible at one of the pairs.
-fn note_pairs(
-    prepared: &SortedShape<'_>,
-    part: u32,
-    pairs: &[(u32, u32)],
-    firsts: &mut [Option<Fact>],
-) -> Result<(), FactFault>
-    requires part { part < length prepared.now.parts }
-    requires nodes { (k : ℕ) → k < length pairs.now → (pair_at pairs.now k).0 < length (part_at prepared.now.parts part).table }
-    requires places { (k : ℕ) → k < length pairs.now → (pair_at pairs.now k).1 < length firsts.old }
-    requires firsts { AreFirsts prepared.now part pairs.now firsts.old }
-    ensures firsts { OnOk result (AreFirsts prepared.now part pairs.now firsts.new) }
-    ensures noted { OnOk result (AreNoted prepared.now part pairs.now firsts.new) }
-    ensures clash { (f g : Fact) → result ≡ Err (FactFault.Clash f g) → AreClashing prepared.now part pairs.now f g }
+pub(crate) fn note_all(laps: &Laps<'_>, firsts: &mut [Option<Fact>]) -> Result<(), Clash>
+    requires laps { AreLaps laps.now }
+    requires firsts { AreFirsts laps.now firsts.old }
+    ensures firsts { OnOk result (AreFirsts laps.now firsts.new) }
+    ensures noted { OnOk result (AreNoted laps.now firsts.new) }
+    ensures clash { IfErr result (λ clash. AreClashing laps.now clash.here clash.there) }
 {
-    for pair in 0..pairs.len() {
-        note_all(prepared, part, pairs, pair, firsts)?;
+    for pair in 0..laps.explored.pairs().len() {
+        note_pair(laps, pair, firsts)?;
     }
     Ok(())
 }
 
 // Notes each link of which an event is possible at the pair.
-fn note_all(
-    prepared: &SortedShape<'_>,
-    part: u32,
-    pairs: &[(u32, u32)],
-    pair: usize,
-    firsts: &mut [Option<Fact>],
-) -> Result<(), FactFault>
-    requires part { part < length prepared.now.parts }
-    requires within { pair < length pairs.now }
-    requires node { (pair_at pairs.now pair).0 < length (part_at prepared.now.parts part).table }
-    requires place { (pair_at pairs.now pair).1 < length firsts.old }
-    requires firsts { AreFirsts prepared.now part pairs.now firsts.old }
-    ensures firsts { OnOk result (AreFirsts prepared.now part pairs.now firsts.new) }
-    ensures keeps { OnOk result (KeepsFirsts firsts.old firsts.new) }
-    ensures noted { OnOk result (IsNoted prepared.now part pairs.now firsts.new pair) }
-    ensures clash { (f g : Fact) → result ≡ Err (FactFault.Clash f g) → AreClashing prepared.now part pairs.now f g }
+fn note_pair(laps: &Laps<'_>, pair: usize, firsts: &mut [Option<Fact>]) -> Result<(), Clash>
+    requires laps { AreLaps laps.now }
+    requires within { pair < length laps.now.explored.pairs }
+    requires firsts { AreFirsts laps.now firsts.old }
+    ensures more { OnOk result (AreMore laps.now firsts.old firsts.new) }
+    ensures noted { OnOk result (IsNoted laps.now firsts.new pair) }
+    ensures clash { IfErr result (λ clash. AreClashing laps.now clash.here clash.there) }
 {
-    let _form = prepared.shape();
-    let (node, place) = pairs[pair];
-    let steps = prepared.steps(part, node);
-    note_steps(prepared, part, pairs, pair, place, steps, firsts)
-}
-
-// Notes each link that has an event of these steps, which are possible at the pair.
-fn note_steps(
-    prepared: &SortedShape<'_>,
-    part: u32,
-    pairs: &[(u32, u32)],
-    pair: usize,
-    place: u32,
-    steps: &[(Event, u32)],
-    firsts: &mut [Option<Fact>],
-) -> Result<(), FactFault>
-    requires within { pair < length pairs.now }
-    requires is_place { (pair_at pairs.now pair).1 ≡ place }
-    requires place { place < length firsts.old }
-    requires possible { (k : ℕ) → k < length steps.now → IsTrue (is_possible (node_at (part_at prepared.now.parts part).table (pair_at pairs.now pair).0).next (pair_at steps.now k).0) }
-    requires firsts { AreFirsts prepared.now part pairs.now firsts.old }
-    ensures firsts { OnOk result (AreFirsts prepared.now part pairs.now firsts.new) }
-    ensures keeps { OnOk result (KeepsFirsts firsts.old firsts.new) }
-    ensures noted { OnOk result ((k l : ℕ) → k < length steps.now → IsOwner prepared.now l (pair_at steps.now k).0 → HasFirst firsts.new place l) }
-    ensures clash { (f g : Fact) → result ≡ Err (FactFault.Clash f g) → AreClashing prepared.now part pairs.now f g }
-{
-    for (event, _) in steps {
-        note_event(prepared, part, pairs, pair, place, *event, firsts)?;
+    let (node, _) = laps.explored.pairs()[pair];
+    for (event, _) in laps.component.steps(node) {
+        note_event(laps, pair, *event, firsts)?;
     }
     Ok(())
 }
 
 // Notes the link of the event, which is possible at the pair, if it has one.
 fn note_event(
-    prepared: &SortedShape<'_>,
-    part: u32,
-    pairs: &[(u32, u32)],
+    laps: &Laps<'_>,
     pair: usize,
-    place: u32,
     event: Event,
     firsts: &mut [Option<Fact>],
-) -> Result<(), FactFault>
-    requires within { pair < length pairs.now }
-    requires is_place { (pair_at pairs.now pair).1 ≡ place }
-    requires place { place < length firsts.old }
-    requires possible { IsTrue (is_possible (node_at (part_at prepared.now.parts part).table (pair_at pairs.now pair).0).next event) }
-    requires firsts { AreFirsts prepared.now part pairs.now firsts.old }
-    ensures firsts { OnOk result (AreFirsts prepared.now part pairs.now firsts.new) }
-    ensures keeps { OnOk result (KeepsFirsts firsts.old firsts.new) }
-    ensures noted { OnOk result ((l : ℕ) → IsOwner prepared.now l event → HasFirst firsts.new place l) }
-    ensures clash { (f g : Fact) → result ≡ Err (FactFault.Clash f g) → AreClashing prepared.now part pairs.now f g }
+) -> Result<(), Clash>
+    requires laps { AreLaps laps.now }
+    requires within { pair < length laps.now.explored.pairs }
+    requires possible { IsPossibleAt laps.now pair event }
+    requires firsts { AreFirsts laps.now firsts.old }
+    ensures more { OnOk result (AreMore laps.now firsts.old firsts.new) }
+    ensures noted { OnOk result ((l : ℕ) → IsOwner laps.now.component.shape.now l event → HasFirst firsts.new (pair_at laps.now.explored.pairs pair).1 l) }
+    ensures clash { IfErr result (λ clash. AreClashing laps.now clash.here clash.there) }
 {
-    match prepared.owner(event) {
-        Some(link) => {
-            let fact = Fact { pair, event, link };
-            note(firsts, place as usize, fact)?;
-            Ok(())
-        }
-        None => Ok(()),
-    }
+    let Some(link) = laps.component.shape.owner(event) else {
+        return Ok(());
+    };
+    let (_, place) = laps.explored.pairs()[pair];
+    note(firsts, place as usize, Fact { pair, event, link })
 }
 
 // Keeps the fact at its place, where none is kept there yet.
-fn note(firsts: &mut [Option<Fact>], place: usize, fact: Fact) -> Result<(), FactFault>
+fn note(firsts: &mut [Option<Fact>], place: usize, fact: Fact) -> Result<(), Clash>
     requires { place < length firsts.old }
-    ensures noted { OnOk result (HasFirst firsts.new place fact.link) }
-    ensures keeps { OnOk result (KeepsFirsts firsts.old firsts.new) }
-    ensures sound { OnOk result ((q : ℕ) (f : Fact) → first_at firsts.new q ≡ Some f → (first_at firsts.old q ≡ Some f) ⊎ ((q ≡ place) × (f ≡ fact))) }
-    ensures apart { OnOk result (((q r l : ℕ) → HasFirst firsts.old q l → HasFirst firsts.old r l → q ≡ r) → (q r l : ℕ) → HasFirst firsts.new q l → HasFirst firsts.new r l → q ≡ r) }
-    ensures clash { (f g : Fact) → result ≡ Err (FactFault.Clash f g) → (f ≡ fact) × (r : ℕ) × (first_at firsts.old r ≡ Some g) × Disagree place fact r g }
+    ensures noted { OnOk result (IsNotedAt place fact firsts.old firsts.new) }
+    ensures clash { IfErr result (λ clash. (clash.here ≡ fact) × ClashesWith place fact firsts.old clash.there) }
 {
     if let Some(first) = firsts[place] {
         if first.link == fact.link {
             return Ok(());
         }
-        return Err(FactFault::Clash(fact, first));
+        return Err(Clash {
+            here: fact,
+            there: first,
+        });
     }
     if let Some(other) = fact_of(firsts, fact.link) {
-        return Err(FactFault::Clash(fact, other));
+        return Err(Clash {
+            here: fact,
+            there: other,
+        });
     }
     firsts[place] = Some(fact);
     Ok(())
@@ -206,9 +135,8 @@ fn is_of(first: &Option<Fact>, link: u32) -> bool
 }
 
 // The links in the order of their places, up to the first place without one.
-pub(crate) fn in_order(alloc: Global, firsts: &[Option<Fact>]) -> Result<Items<u32>, RuleFault>
-    ensures links { IfOk result (λ links. links ≡ links_in_order firsts.now) }
-    ensures fault { IfErr result (λ fault. fault ≡ RuleFault.NoMemory) }
+pub(crate) fn in_order(alloc: Global, firsts: &[Option<Fact>]) -> Result<Items<u32>, NoMemory>
+    ensures { IfOk result (λ links. links ≡ links_in_order firsts.now) }
 {
     let mut links = Items::new(alloc);
     for first in firsts {

@@ -3,7 +3,9 @@
 #![tactic(auto)]
 
 mod facts;
+mod laps;
 mod orders;
+mod shorts;
 mod whole;
 
 pub use orders::link_orders;

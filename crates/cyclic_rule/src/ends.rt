@@ -1,13 +1,12 @@
 //! What a circle of links tells: the two components of each link.
 
-ghost use Rattle.std.specs.Prelude.{◌≡◌, ◌<◌, ◌⊎◌, ℕ, List, map, IfOk, length};
+ghost use Rattle.std.specs.Prelude.{◌≡◌, ◌<◌, map, IfOk, length};
 ghost use Rattle.design_rules.specs.CyclicFaults.{ends_of};
 ghost use Rattle.shape_links.specs.Turned.{turned_circle};
 
 use containers::Items;
 use csp_base::NoMemory;
 use csp_tables::Shape;
-use design_rules::RuleFault;
 use shape_links::turned;
 use std::alloc::Global;
 
@@ -42,15 +41,5 @@ fn ends(shape: &Shape, link: u32) -> (u32, u32)
     match shape.links().get(link as usize) {
         Some(link) => (link.left(), link.right()),
         None => (0, 0),
-    }
-}
-
-// The fault that tells a circle of links with these ends, or that memory ran out.
-pub(crate) fn links_circle(links: Result<Items<(u32, u32)>, NoMemory>) -> RuleFault
-    ensures { (ends : List (ℕ × ℕ)) → IfOk links (λ made. made ≡ ends) → (result ≡ RuleFault.NoMemory) ⊎ (result ≡ RuleFault.LinksCircle ends) }
-{
-    match links {
-        Ok(links) => RuleFault::LinksCircle { links },
-        Err(_) => RuleFault::NoMemory,
     }
 }

@@ -1,15 +1,15 @@
 //! The numbers of the links: how many must come before each, in a chain.
 
 ghost use Rattle.std.specs.Prelude.{◌≡◌, ◌<◌, ◌⊎◌, ℕ, All, false, IfErr, IfOk, OnOk, length, slice_index};
-ghost use Rattle.csp_base.specs.Members.{has};
+ghost use Rattle.csp_base.specs.Prelude.{Tells, has};
 ghost use Rattle.digraph.specs.Digraph.{HasArc};
 ghost use Rattle.design_rules.specs.Prelude.{AllKeepPlaces, NumbersRise, AreChainNumbers, BreaksCyclic};
 ghost use Rattle.cyclic_rule.specs.Chains.{IsNextAt, IsNextIn, IsRestAfter};
 ghost use Rattle.cyclic_conditions.specs.Orders.{AreOrders};
 
-use crate::ends::{links_circle, turned_ends};
+use crate::ends::turned_ends;
 use containers::Items;
-use csp_base::NoMemory;
+use csp_base::{NoMemory, Stop};
 use design_rules::RuleFault;
 use digraph::{Fault, Heights, Rows, longest_walks};
 use shape_links::SortedShape;
@@ -20,23 +20,23 @@ pub(crate) fn numbers(
     alloc: Global,
     prepared: &SortedShape<'_>,
     orders: &[Items<u32>],
-) -> Result<Heights, RuleFault>
+) -> Result<Heights, Stop<RuleFault>>
     requires keep { AllKeepPlaces prepared.now }
     requires orders { AreOrders prepared.now orders.now }
     ensures count { IfOk result (λ numbers. length numbers ≡ length prepared.now.links) }
     ensures chains { IfOk result (λ numbers. AreChainNumbers prepared.now (slice_index numbers)) }
     ensures rise { IfOk result (λ numbers. NumbersRise prepared.now (slice_index numbers)) }
-    ensures fault { IfErr result (λ fault. BreaksCyclic prepared.now fault) }
+    ensures fault { IfErr result (Tells (BreaksCyclic prepared.now)) }
 {
     let form = prepared.shape();
     let rows = chains(alloc, prepared, orders)?;
     match longest_walks(alloc, &rows) {
         Ok(heights) => Ok(heights),
         Err(Fault::Circle(circle)) => {
-            let links = turned_ends(alloc, form, circle.members());
-            Err(links_circle(links))
+            let links = turned_ends(alloc, form, circle.members())?;
+            Err(Stop::Told(RuleFault::LinksCircle { links }))
         }
-        Err(Fault::NoMemory) => Err(RuleFault::NoMemory),
+        Err(Fault::NoMemory) => Err(Stop::NoMemory),
     }
 }
 
@@ -54,7 +54,7 @@ fn chains(
     let count = prepared.shape().links().len();
     let mut rows = Rows::new(alloc, count as u32)?;
     for part in 0..orders.len() {
-        let ends = prepared.links(part as u32);
+        let ends = prepared.component(part as u32).links();
         chain(&mut rows, orders[part].as_slice())?;
         chain_rest(&mut rows, orders[part].as_slice(), ends)?;
     }

@@ -12,12 +12,10 @@ use Rattle.design_rules.specs.declared.noted_rule.NotedRule.{NotedRule}
 use Rattle.net_sound.proofs.Parts.{one_part_each}
 use Rattle.network_layout.specs.Told.{IsUntold}
 use Rattle.network_layout.specs.declared.told.NotedFault.{NotedFault}
-use Rattle.network_layout.specs.declared.told.NotedFault.TheVariants as untold
 use Rattle.network_stages.specs.Networks.{Network}
 use Rattle.process_steps.specs.Prelude.{ProcessStep, all_outcomes}
 use Rattle.report.specs.declared.answer.Refusal.{Refusal}
 use Rattle.judgement.specs.Noted.{HasUntold, Notes}
-use Rattle.judgement.specs.Told.{TellsNoted}
 
 pub same_ok : {A : Type 0} (o : Outcome A) (x y : A) → o ≡ Ok x → o ≡ Ok y → x ≡ y
 same_ok o x y a b = cc
@@ -68,11 +66,10 @@ each_told f (d ∷ cs) ys (suc i) c why is at lacks =
     let (y, zs, here, there, same) = first_and_others f d cs ys is in
     each_told f cs zs i c why there at lacks
 
-no_untold : {A : Type 0} (f : Component Proc → Outcome A) (cs : List (Component Proc)) (ys : List A) (g : NotedFault) (r : Refusal) → all_outcomes f cs ≡ Ok ys → IsUntold f cs g → TellsNoted g r → ⊥
-no_untold f cs ys untold.NoMemory r is lacks tells = tells
-no_untold f cs ys (untold.Value part why) r is lacks tells = each_told f cs ys part lacks.component why is lacks.stands lacks.lacks
+no_untold : {A : Type 0} (f : Component Proc → Outcome A) (cs : List (Component Proc)) (ys : List A) (g : NotedFault) → all_outcomes f cs ≡ Ok ys → IsUntold f cs g → ⊥
+no_untold f cs ys g is lacks = each_told f cs ys g.part lacks.component g.kind is lacks.stands lacks.lacks
 
 pub all_told : (network : Network) (rule : Rule) (notes : NotedRule) (r : Refusal) → Notes network rule notes → HasUntold network rule r → ⊥
 all_told network Cyclic notes r are has = has
-all_told network ClientServer notes r are (f, is, tells) = let (roles, told, same) = found _ _ notes are in no_untold _ (leaves network.tree) roles f r told is tells
-all_told network Resource notes r are (f, is, tells) = let (uses, told, same) = found _ _ notes are in no_untold _ (leaves network.tree) uses f r told is tells
+all_told network ClientServer notes r are (f, is, tells) = let (roles, told, same) = found _ _ notes are in no_untold _ (leaves network.tree) roles f told is
+all_told network Resource notes r are (f, is, tells) = let (uses, told, same) = found _ _ notes are in no_untold _ (leaves network.tree) uses f told is

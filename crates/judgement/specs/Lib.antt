@@ -2,4 +2,3 @@ pub mod Counts
 pub mod Judged
 pub mod Laws
 pub mod Noted
-pub mod Told

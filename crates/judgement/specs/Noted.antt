@@ -16,7 +16,8 @@ use Rattle.process_steps.specs.Prelude.{ProcessStep, all_outcomes}
 use Rattle.report.specs.declared.answer.Refusal.{Refusal}
 use Rattle.report.specs.declared.answer.Shortfall.{Shortfall}
 use Rattle.report.specs.declared.answer.Shortfall.TheVariants as shortfall
-use Rattle.judgement.specs.Told.{TellsNoted}
+use Rattle.report.specs.declared.answer.Refusal.TheVariants as refusal
+use Rattle.report.specs.declared.answer.Site.TheVariants as site
 
 -- the rule with what the program notes for it of the network's components
 abbrev pub notes_of : Network → Rule → Outcome NotedRule
@@ -27,11 +28,14 @@ notes_of network Resource = and_then (all_outcomes (component_uses network.progr
 abbrev pub Notes : Network → Rule → NotedRule → Type 0
 Notes network rule noted = notes_of network rule ≡ Ok noted
 
+abbrev pub noted_refusal : NotedFault → Refusal
+noted_refusal fault = refusal.Value fault.kind (site.Annotation fault.part)
+
 -- an annotated set of a component has no value
 abbrev pub HasUntold : Network → Rule → Refusal → Type 0
 HasUntold network Cyclic r = ⊥
-HasUntold network ClientServer r = (f : NotedFault) × IsUntold (component_roles network.program) (leaves network.tree) f × TellsNoted f r
-HasUntold network Resource r = (f : NotedFault) × IsUntold (component_uses network.program) (leaves network.tree) f × TellsNoted f r
+HasUntold network ClientServer r = (f : NotedFault) × IsUntold (component_roles network.program) (leaves network.tree) f × (r ≡ noted_refusal f)
+HasUntold network Resource r = (f : NotedFault) × IsUntold (component_uses network.program) (leaves network.tree) f × (r ≡ noted_refusal f)
 
 -- the network meets the rule
 abbrev pub Meets : Network → NotedRule → Type 0

@@ -9,7 +9,6 @@ mod free;
 mod judging;
 mod laws;
 mod rules;
-mod told;
 
 pub use judging::judged;
 pub use laws::each_script_has_one_network;

@@ -1,19 +1,28 @@
 //! The rules, with what a script notes of each component.
 
-ghost use Rattle.std.specs.Prelude.{IfErr, IfOk, OnOk};
+ghost use Rattle.std.specs.Prelude.{◌≡◌, IfErr, IfOk, OnOk};
 ghost use Rattle.design_rules.specs.Rules.{HasNotes, Ranks};
 ghost use Rattle.csp_base.specs.Stops.{Tells};
-ghost use Rattle.judgement.specs.Noted.{Breaks, HasUntold, Meets, Notes};
+ghost use Rattle.judgement.specs.Noted.{Breaks, HasUntold, Meets, Notes, noted_refusal};
 
 use crate::deciding::decided;
-use crate::told::noted_refusal;
 use csp_base::Stop;
 use csp_tables::{Ranking, Rule};
 use design_rules::NotedRule;
-use network_layout::{roles_of, uses_of};
+use network_layout::{NotedFault, roles_of, uses_of};
 use network_stages::{Shaped, Spelled};
-use report::{Refusal, Shortfall};
+use report::{Refusal, Shortfall, Site};
 use std::alloc::Global;
+
+// A component of which an annotated set has no value.
+fn noted_refusal(fault: NotedFault) -> Refusal
+    ensures { result ≡ noted_refusal fault }
+{
+    Refusal::Value {
+        kind: fault.kind,
+        site: Site::Annotation(fault.part),
+    }
+}
 
 // The rule with what the script of the network notes for it.
 pub(crate) fn noted(
@@ -28,11 +37,13 @@ pub(crate) fn noted(
         Rule::Cyclic => Ok(NotedRule::Cyclic),
         Rule::ClientServer => match roles_of(alloc, network.program(), network.layout()) {
             Ok(roles) => Ok(NotedRule::ClientServer(roles)),
-            Err(fault) => Err(noted_refusal(fault)),
+            Err(Stop::NoMemory) => Err(Stop::NoMemory),
+            Err(Stop::Told(fault)) => Err(Stop::Told(noted_refusal(fault))),
         },
         Rule::Resource => match uses_of(alloc, network.program(), network.layout()) {
             Ok(uses) => Ok(NotedRule::Resource(uses)),
-            Err(fault) => Err(noted_refusal(fault)),
+            Err(Stop::NoMemory) => Err(Stop::NoMemory),
+            Err(Stop::Told(fault)) => Err(Stop::Told(noted_refusal(fault))),
         },
     }
 }

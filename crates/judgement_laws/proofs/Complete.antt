@@ -11,9 +11,8 @@ use Rattle.judgement.proofs.Notes.{all_told, same_ok}
 use Rattle.judgement.proofs.OneNetwork.{one_network}
 use Rattle.judgement.specs.Judged.{IsDeadlockFree, IsJudged, RuleDecides}
 use Rattle.judgement.specs.Noted.{Breaks, Meets, Notes, notes_of}
-use Rattle.network_layout.proofs.TripleLemmas.{length-holders}
+use Rattle.network_layout.proofs.Triples.{length-holders}
 use Rattle.network_layout.specs.Triple.{alphabets, holders}
-use Rattle.network_layout.specs.declared.triple.TripleFault.TheVariants as triple
 use Rattle.network_stages.proofs.Excluded.{faults_exclude_tables}
 use Rattle.network_stages.specs.Prelude.{Network, HaveFewSets, IsApart, CanStop, HasNoParts, ShareEvent, StaysBusy}
 use Rattle.process_steps.specs.ComponentStep.{ProcessStep}
@@ -38,12 +37,13 @@ module _ (network : Network) where
   few_sets r few (i, first, is) = few i first.component (slice_get_within (leaves network.tree) i first.component first.at) first.at first.many
 
   none_shared : (s : Shortfall) → TripleDisjoint (alphabets (leaves network.tree)) → ShareEvent network s → ⊥
-  none_shared s apart (triple.Shared e parts, first_three, is) =
+  none_shared s apart (f, first_three, is) =
       let all = alphabets (leaves network.tree) in
-      let many : length (take 3 (holders 0 (alphabets (leaves network.tree)) e)) ≡ 3 = ap length first_three.first in
-      let taken : length (take 3 (holders 0 (alphabets (leaves network.tree)) e)) ≡ min 3 (length (holders 0 (alphabets (leaves network.tree)) e)) = length-take 3 (holders 0 all e) in
-      let whole : length (holders 0 (alphabets (leaves network.tree)) e) ≡ sharers (alphabets (leaves network.tree)) e = length-holders 0 all e in
-      let few : sharers (alphabets (leaves network.tree)) e ≤ 2 = apart e in
+      let e = f.event in
+      let many : length (take 3 (holders 0 all e)) ≡ 3 = ap length first_three.first in
+      let taken : length (take 3 (holders 0 all e)) ≡ min 3 (length (holders 0 all e)) = length-take 3 (holders 0 all e) in
+      let whole : length (holders 0 all e) ≡ sharers all e = length-holders 0 all e in
+      let few : sharers all e ≤ 2 = apart e in
       omega (arith, many, taken, whole, few)
 
   none_stops : (s : Shortfall) → StaysBusy network → CanStop network s → ⊥

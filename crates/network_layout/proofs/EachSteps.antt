@@ -1,25 +1,23 @@
 -- Operands for the values of a name, one after another.
 use Rattle.std.proofs.Common.{◌≡◌, ℕ, ◌+◌, ◌<◌, ◌≤◌, Ok, Err, List, [], ◌∷◌, ◌++◌, length, drop, get_or, refl, ap, sym, ◌∙◌, append_assoc, append-nil, drop_of_length-le}
+use Rattle.csp_base.proofs.Lists.{drop_read}
 use Rattle.csp_base.specs.Events.{union_of}
-use Rattle.csp_program.specs.Prelude.{Outcome, Env}
-use Rattle.csp_program.specs.declared.expressions.Expr.{Expr}
-use Rattle.csp_program.specs.declared.networks.Net.{Net}
+use Rattle.csp_atoms.specs.declared.atom.Atom.{Atom}
+use Rattle.csp_program.specs.Outcome.{Outcome}
 use Rattle.csp_program.specs.declared.processes.Proc.{Proc}
-use Rattle.csp_program.specs.declared.programs.Content.{Content}
-use Rattle.csp_tables.specs.Prelude.{Component, Tree, Operands, leaves, leaves_of_operands, parallel, none, operand}
+use Rattle.csp_tables.specs.Network.{Component, Tree, Operands, leaves, leaves_of_operands}
+use Rattle.csp_tables.specs.Network.Tree.{parallel}
+use Rattle.csp_tables.specs.Network.Operands.{none, operand}
 use Rattle.network_trees.specs.Joint.{joint}
 use Rattle.network_trees.specs.NetworkOf.{Walked, each_operand, events_under, goes_on, operand_first, side_by_side, tree_within, with_value}
-use Rattle.network_trees.proofs.Steps.{had}
-use Rattle.network_layout.specs.Lays.{IsLaid, one_operand, operand_walked, operands_each}
-use Rattle.network_layout.proofs.Laid.{first_fault, first_made, grown_by}
-use Rattle.network_layout.proofs.Together.{joint-append}
-use Rattle.csp_atoms.specs.declared.atom.Atom.{Atom}
-use Rattle.csp_atoms.specs.declared.value.Value.TheVariants.{One}
 use Rattle.network_trees.specs.declared.fault.LayoutFault.{LayoutFault}
-use Rattle.csp_base.proofs.Lists.{drop_read}
+use Rattle.network_layout.specs.Lays.{IsLaid, Place, one_operand, operand_walked, operands_each, with_name}
+use Rattle.network_layout.specs.declared.walk.Operand.{Operand}
+use Rattle.network_layout.proofs.Laid.{first_made, grown_by}
+use Rattle.network_layout.proofs.Together.{joint-append}
 
 -- operands, and others after them
-abbrev pub before : Operands Proc → Operands Proc → Operands Proc
+abbrev before : Operands Proc → Operands Proc → Operands Proc
 before none qs = qs
 before (operand a t os) qs = operand a t (before os qs)
 
@@ -31,20 +29,11 @@ before-none : (so_far : Operands Proc) → before so_far none ≡ so_far
 before-none none = refl
 before-none (operand b u so_far) = ap (operand b u) (before-none so_far)
 
-leaves-before : (so_far os : Operands Proc) → leaves_of_operands (before so_far os) ≡ leaves_of_operands so_far ++ leaves_of_operands os
-leaves-before none os = refl
-leaves-before (operand b u so_far) os = ap (λ cs. leaves u ++ cs) (leaves-before so_far os) ∙ sym (append_assoc (leaves u) (leaves_of_operands so_far) (leaves_of_operands os))
-
 leaves-last : (so_far : Operands Proc) (a : List ℕ) (t : Tree Proc) → leaves_of_operands (before so_far (operand a t none)) ≡ leaves_of_operands so_far ++ leaves t
-leaves-last so_far a t = leaves-before so_far (operand a t none) ∙ ap (λ cs. leaves_of_operands so_far ++ cs) (append-nil (leaves t))
+leaves-last none a t = append-nil (leaves t)
+leaves-last (operand b u so_far) a t = ap (λ cs. leaves u ++ cs) (leaves-last so_far a t) ∙ sym (append_assoc (leaves u) (leaves_of_operands so_far) (leaves t))
 
--- The operands for all values, where some are done and the rest is still to come; the seats grew by the components of those that are done.
-pub record EachSoFar (whole : Walked (Operands Proc)) (rest : ℕ → Walked (Operands Proc)) (old new : List (Component Proc)) (events : List ℕ) : Type 0 where
-  pub so_far : Operands Proc
-  pub split : whole ≡ goes_on (rest (length new)) (λ os. Ok (before so_far os))
-  pub seats : new ≡ old ++ leaves_of_operands so_far
-  pub together : events ≡ joint (leaves_of_operands so_far)
-
+-- the next operand was made, or was not
 nothing_before : (o : Walked (Operands Proc)) → o ≡ goes_on o (λ os. Ok os)
 nothing_before (Ok os) = refl
 nothing_before (Err f) = refl
@@ -54,81 +43,91 @@ one_before : (o : Walked (Operands Proc)) (so_far : Operands Proc) (a : List ℕ
 one_before (Ok os) so_far a t = ap (λ all. Ok all) (sym (before-last so_far a t os))
 one_before (Err f) so_far a t = refl
 
-same_fault : {A B C : Type 0} (o : Outcome A) (g : A → Walked B) (h : A → Walked C) (f : LayoutFault) → ((a : A) → g a ≡ Err f → h a ≡ Err f)
-    → with_value o g ≡ Err f → with_value o h ≡ Err f
-same_fault (Ok a) g h f passes is = passes a is
-same_fault (Err why) g h f passes is = cc
+same_fault : {A B C : Type 0} (o : Outcome A) (g : A → Walked B) (next : A → B → Walked C) (f : LayoutFault) → with_value o g ≡ Err f → with_value o (λ a. goes_on (g a) (next a)) ≡ Err f
+same_fault (Ok a) g next f is = ap (λ o. goes_on o (next a)) is
+same_fault (Err why) g next f is = cc
 
--- the operands for values of the name x
-pub each : Content → ℕ → Env → ℕ → Expr → Net → List Atom → ℕ → Walked (Operands Proc)
-each p levels env x a n vs k = each_operand p (tree_within p levels) env x a n vs k
+-- a value was found, from which the next step came to b
+record Had {A B : Type 0} (first : Outcome A) (next : A → Walked B) (b : B) : Type 0 where
+  value : A
+  is : first ≡ Ok value
+  rest : next value ≡ Ok b
 
-module _ (p : Content) (levels : ℕ) (env : Env) (x : ℕ) (a : Expr) (n : Net) where
-  pub each_begin : (vs : List Atom) (old : List (Component Proc)) (events : List ℕ) → events ≡ [] → EachSoFar (each p levels env x a n vs (length old)) (each p levels env x a n vs) old old events
-  each_begin vs old events is = record { so_far = none; split = nothing_before (each p levels env x a n vs (length old)); seats = sym (append-nil old); together = is }
+had : {A B : Type 0} (first : Outcome A) (next : A → Walked B) (b : B) → with_value first next ≡ Ok b → Had first next b
+had (Ok a) next b h = record { value = a; is = refl; rest = h }
+had (Err k) next b h = absurd cc
 
-  one_fault : (v : Atom) (vs : List Atom) (k : ℕ) (f : LayoutFault) → one_operand p levels k ((x, One v) ∷ env) a n ≡ Err f → each p levels env x a n (v ∷ vs) k ≡ Err f
-  unfolding one_operand each
-  one_fault v vs k f is =
-      same_fault (events_under p ((x, One v) ∷ env) a) (λ alphabet. operand_walked p levels k alphabet ((x, One v) ∷ env) n)
-      (λ alphabet. operand_first p (tree_within p levels) k alphabet ((x, One v) ∷ env) n (each p levels env x a n vs)) f
-      (λ alphabet h. first_fault p levels k alphabet ((x, One v) ∷ env) n (each p levels env x a n vs) f h) is
+module _ (s : Place) (x : ℕ) (o : Operand) where
+  -- the operands for these values, where k components come before
+  pub each : List Atom → ℕ → Walked (Operands Proc)
+  each vs k = each_operand s.program (tree_within s.program s.levels) s.env x o.alphabet.now o.net.now vs k
 
-  -- the first operand was made
-  record OneMade (v : Atom) (vs : List Atom) (k : ℕ) (tree : Tree Proc) : Type 0 where
-    alphabet : List ℕ
-    is : each p levels env x a n (v ∷ vs) k ≡ goes_on (each p levels env x a n vs (k + length (leaves tree))) (λ os. Ok (operand alphabet tree os))
+  -- The operands for all values, where some are done and the rest is still to come; the seats grew by the components of those that are done.
+  pub record EachSoFar (all rest : List Atom) (old new : List (Component Proc)) (events : List ℕ) : Type 0 where
+    pub so_far : Operands Proc
+    pub split : each all (length old) ≡ goes_on (each rest (length new)) (λ os. Ok (before so_far os))
+    pub seats : new ≡ old ++ leaves_of_operands so_far
+    pub together : events ≡ joint (leaves_of_operands so_far)
 
-  one_made : (v : Atom) (vs : List Atom) (k : ℕ) (tree : Tree Proc) → one_operand p levels k ((x, One v) ∷ env) a n ≡ Ok tree → OneMade v vs k tree
-  unfolding one_operand each
-  one_made v vs k tree is =
-      let found = had (events_under p ((x, One v) ∷ env) a) (λ alphabet. operand_walked p levels k alphabet ((x, One v) ∷ env) n) tree is in
-      record {
-        alphabet = found.value;
-        is = ap (λ o. with_value o (λ alphabet. operand_first p (tree_within p levels) k alphabet ((x, One v) ∷ env) n (each p levels env x a n vs))) found.is ∙
-            first_made p levels k found.value ((x, One v) ∷ env) n (each p levels env x a n vs) tree found.rest;
-      }
+  pub each_begin : (vs : List Atom) (old : List (Component Proc)) (events : List ℕ) → events ≡ [] → EachSoFar vs vs old old events
+  each_begin vs old events is = record { so_far = none; split = nothing_before (each vs (length old)); seats = sym (append-nil old); together = is }
 
-  pub each_fault : (vs : List Atom) (i : ℕ) (v : Atom) (old new : List (Component Proc)) (events : List ℕ) (f : LayoutFault)
-      → EachSoFar (each p levels env x a n vs (length old)) (each p levels env x a n (drop i vs)) old new events → i < length vs → v ≡ get_or vs i v → one_operand p levels (length new) ((x, One v) ∷ env) a n ≡ Err f
-      → operands_each p levels (length old) env x a n vs ≡ Err f
-  unfolding operands_each each
-  each_fault vs i v old new events f far lt is bad =
-      ap (side_by_side p (tree_within p levels)) (far.split ∙ ap (λ o. goes_on o (λ os. Ok (before far.so_far os)))
-      (ap (λ ws. each p levels env x a n ws (length new)) (drop_read vs i v lt is) ∙ one_fault v (drop (i + 1) vs) (length new) f bad))
-
-  pub each_next : (vs : List Atom) (i : ℕ) (v : Atom) (old mid new : List (Component Proc)) (events next all : List ℕ)
-      → EachSoFar (each p levels env x a n vs (length old)) (each p levels env x a n (drop i vs)) old mid events → i < length vs → v ≡ get_or vs i v
-      → IsLaid (one_operand p levels (length mid) ((x, One v) ∷ env) a n) mid new next → all ≡ union_of events next
-      → EachSoFar (each p levels env x a n vs (length old)) (each p levels env x a n (drop (i + 1) vs)) old new all
-  each_next vs i v old mid new events next all far lt is laid together =
-      let made = one_made v (drop (i + 1) vs) (length mid) laid.tree laid.made in
-      let place = grown_by (one_operand p levels (length mid) ((x, One v) ∷ env) a n) mid new next laid in
-      let so_far = before far.so_far (operand made.alphabet laid.tree none) in
-      let leaves_so_far : leaves_of_operands so_far ≡ leaves_of_operands far.so_far ++ leaves laid.tree = leaves-last far.so_far made.alphabet laid.tree in
-      record {
-        so_far = so_far;
-        split = far.split ∙ (ap (λ o. goes_on o (λ os. Ok (before far.so_far os)))
-            (ap (λ ws. each p levels env x a n ws (length mid)) (drop_read vs i v lt is) ∙ made.is) ∙
-            (one_before (each p levels env x a n (drop (i + 1) vs) (length mid + length (leaves laid.tree))) far.so_far made.alphabet laid.tree ∙
-            ap (λ k. goes_on (each p levels env x a n (drop (i + 1) vs) k) (λ os. Ok (before so_far os))) (sym place)));
-        seats = laid.seats ∙ (ap (λ cs. cs ++ leaves laid.tree) far.seats ∙ (append_assoc old (leaves_of_operands far.so_far) (leaves laid.tree) ∙ ap (λ cs. old ++ cs) (sym leaves_so_far)));
-        together = together ∙ (ap (λ es. union_of es next) far.together ∙ (ap (union_of (joint (leaves_of_operands far.so_far))) laid.together ∙
-            (sym (joint-append (leaves_of_operands far.so_far) (leaves laid.tree)) ∙ ap joint (sym leaves_so_far))));
-      }
-
-  none_left : (k : ℕ) → each p levels env x a n [] k ≡ Ok none
-  unfolding each
-  none_left k = refl
-
-  pub each_end : (vs : List Atom) (i : ℕ) (old new : List (Component Proc)) (events : List ℕ)
-      → EachSoFar (each p levels env x a n vs (length old)) (each p levels env x a n (drop i vs)) old new events → length vs ≤ i → IsLaid (operands_each p levels (length old) env x a n vs) old new events
+  pub each_end : (vs : List Atom) (i : ℕ) (old new : List (Component Proc)) (events : List ℕ) → EachSoFar vs (drop i vs) old new events → length vs ≤ i
+      → IsLaid (operands_each s x o vs (length old)) old new events
   unfolding operands_each each
   each_end vs i old new events far past =
       record {
         tree = parallel far.so_far;
-        made = ap (side_by_side p (tree_within p levels)) (far.split ∙ (ap (λ o. goes_on o (λ os. Ok (before far.so_far os)))
-            (ap (λ ws. each p levels env x a n ws (length new)) (drop_of_length-le vs past) ∙ none_left (length new)) ∙ ap (λ os. Ok os) (before-none far.so_far)));
+        made = ap (side_by_side s.program (tree_within s.program s.levels)) (far.split ∙ (ap (λ ws. goes_on (each ws (length new)) (λ os. Ok (before far.so_far os))) (drop_of_length-le vs past) ∙
+            ap (λ os. Ok os) (before-none far.so_far)));
         seats = far.seats;
         together = far.together;
       }
+
+  module _ (vs : List Atom) (i : ℕ) (v : Atom) (old mid : List (Component Proc)) (events : List ℕ) (far : EachSoFar vs (drop i vs) old mid events) (lt : i < length vs) (is : v ≡ get_or vs i v) where
+    abbrev pub one : Walked (Tree Proc)
+    one = one_operand (with_name s x v) o (length mid)
+
+    abbrev pub rest : ℕ → Walked (Operands Proc)
+    rest = each (drop (i + 1) vs)
+
+    now_next : each vs (length old) ≡ goes_on (each (v ∷ drop (i + 1) vs) (length mid)) (λ os. Ok (before far.so_far os))
+    now_next = far.split ∙ ap (λ ws. goes_on (each ws (length mid)) (λ os. Ok (before far.so_far os))) (drop_read vs i v lt is)
+
+    pub each_fault : (f : LayoutFault) → one ≡ Err f → operands_each s x o vs (length old) ≡ Err f
+    unfolding operands_each one_operand operand_walked each
+    each_fault f bad =
+        ap (side_by_side s.program (tree_within s.program s.levels)) (now_next ∙ ap (λ os. goes_on os (λ os. Ok (before far.so_far os)))
+        (same_fault (events_under s.program (with_name s x v).env o.alphabet.now) (λ alphabet. operand_walked (with_name s x v) alphabet o.net.now (length mid))
+        (λ alphabet tree. goes_on (rest (length mid + length (leaves tree))) (λ os. Ok (operand alphabet tree os))) f bad))
+
+    -- the alphabet of the next one, and what follows
+    record OneMade (tree : Tree Proc) : Type 0 where
+      alphabet : List ℕ
+      next : each (v ∷ drop (i + 1) vs) (length mid) ≡ goes_on (rest (length mid + length (leaves tree))) (λ os. Ok (operand alphabet tree os))
+
+    one_made : (tree : Tree Proc) → one ≡ Ok tree → OneMade tree
+    unfolding one_operand each
+    one_made tree made =
+        let at = with_name s x v in
+        let found = had (events_under s.program at.env o.alphabet.now) (λ alphabet. operand_walked at alphabet o.net.now (length mid)) tree made in
+        record {
+          alphabet = found.value;
+          next = ap (λ os. with_value os (λ alphabet. operand_first s.program (tree_within s.program s.levels) (length mid) alphabet at.env o.net.now rest)) found.is ∙
+              first_made at found.value o.net.now (length mid) rest tree found.rest;
+        }
+
+    pub each_next : (new : List (Component Proc)) (next all : List ℕ) → IsLaid one mid new next → all ≡ union_of events next → EachSoFar vs (drop (i + 1) vs) old new all
+    each_next new next all laid together =
+        let made = one_made laid.tree laid.made in
+        let so_far = before far.so_far (operand made.alphabet laid.tree none) in
+        let leaves_so_far : leaves_of_operands so_far ≡ leaves_of_operands far.so_far ++ leaves laid.tree = leaves-last far.so_far made.alphabet laid.tree in
+        record {
+          so_far = so_far;
+          split = now_next ∙ (ap (λ o. goes_on o (λ os. Ok (before far.so_far os))) made.next ∙
+              (one_before (rest (length mid + length (leaves laid.tree))) far.so_far made.alphabet laid.tree ∙
+              ap (λ k. goes_on (rest k) (λ os. Ok (before so_far os))) (sym (grown_by one mid new next laid))));
+          seats = laid.seats ∙ (ap (λ cs. cs ++ leaves laid.tree) far.seats ∙ (append_assoc old (leaves_of_operands far.so_far) (leaves laid.tree) ∙ ap (λ cs. old ++ cs) (sym leaves_so_far)));
+          together = together ∙ (ap (λ es. union_of es next) far.together ∙ (ap (union_of (joint (leaves_of_operands far.so_far))) laid.together ∙
+              (sym (joint-append (leaves_of_operands far.so_far) (leaves laid.tree)) ∙ ap joint (sym leaves_so_far))));
+        }

@@ -3,8 +3,6 @@ pub mod Equations
 pub mod FirstEvents
 pub mod Laid
 pub mod Names
-pub mod Passed
 pub mod Together
 pub mod ToldSteps
-pub mod TripleFound
-pub mod TripleLemmas
+pub mod Triples

@@ -1,11 +1,11 @@
 -- The alphabets of some components and of others, together.
-use Rattle.std.proofs.Common.{◌≡◌, ℕ, ◌||◌, List, [], ◌∷◌, ◌++◌, refl, ap, sym, ◌∙◌}
+use Rattle.std.proofs.Common.{◌≡◌, ℕ, ◌||◌, List, [], ◌∷◌, ◌++◌, refl, sym, ◌∙◌, arith}
+use Rattle.std.proofs.lemmas.Bool.Decides.{nat_tests}
 use Rattle.std.specs.List.Sorted.{IsStrictlyIncreasing}
 use Rattle.csp_base.specs.Events.{has, union_of}
 use Rattle.csp_base.proofs.SetLaws.{has-union_of, increasing-set_of, increasing-union_of, same_set}
 use Rattle.csp_tables.specs.Network.{Component}
 use Rattle.network_trees.specs.Joint.{joint}
-use Rattle.csp_base.proofs.Booleans.{or_regroup}
 
 increasing-joint : {T : Type 0} (cs : List (Component T)) → IsStrictlyIncreasing (joint cs)
 increasing-joint [] = increasing-set_of []
@@ -13,9 +13,7 @@ increasing-joint (c ∷ cs) = increasing-union_of c.alphabet (joint cs) (increas
 
 has-append : {T : Type 0} (cs ds : List (Component T)) (e : ℕ) → has (joint (cs ++ ds)) e ≡ (has (joint cs) e || has (joint ds) e)
 has-append [] ds e = refl
-has-append (c ∷ cs) ds e =
-    has-union_of c.alphabet (joint (cs ++ ds)) e ∙ (ap (λ b. has c.alphabet e || b) (has-append cs ds e) ∙
-    (or_regroup (has c.alphabet e) (has (joint cs) e) (has (joint ds) e) ∙ ap (λ b. b || has (joint ds) e) (sym (has-union_of c.alphabet (joint cs) e))))
+has-append (c ∷ cs) ds e = grind (arith, nat_tests, has-union_of, has-append cs ds e)
 
 pub joint-append : {T : Type 0} (cs ds : List (Component T)) → joint (cs ++ ds) ≡ union_of (joint cs) (joint ds)
 joint-append cs ds =

@@ -2,8 +2,6 @@
 #![tactic(auto)]
 
 mod components;
-mod fault;
-mod nesting;
 mod seat;
 mod told;
 mod triple;
@@ -11,7 +9,6 @@ mod values;
 mod walk;
 
 pub use components::layout;
-pub use fault::Unlaid;
 pub use seat::{Layout, Seat};
 pub use told::{NotedFault, roles_of, uses_of};
 pub use triple::{TripleFault, triple_disjoint};

@@ -1,46 +1,45 @@
 //! The sets that a program tells of its components.
 
-ghost use Rattle.std.specs.Prelude.{◌≡◌, ◌≤◌, [], false, length, IfErr, IfOk, Ok, Some};
-ghost use Rattle.dl_limits.specs.declared.TheConstants.{MOST_COMPONENTS};
+ghost use Rattle.std.specs.Prelude.{◌≡◌, [], false, IfErr, IfOk, Ok, Some, ◌≤◌, length};
 ghost use Rattle.std.specs.Option.{option_copied};
+ghost use Rattle.dl_limits.specs.declared.TheConstants.{MOST_COMPONENTS};
+ghost use Rattle.csp_base.specs.Stops.{Tells};
+ghost use Rattle.csp_program.specs.Outcome.{Outcome};
+ghost use Rattle.csp_program.specs.declared.processes.Proc.{Proc};
+ghost use Rattle.csp_program.specs.declared.programs.Content.{Content};
+ghost use Rattle.csp_tables.specs.Network.{Component};
 ghost use Rattle.process_steps.specs.Needed.{all_outcomes};
 ghost use Rattle.network_trees.specs.Annotations.{component_roles, component_uses, resource_note, roles_note, told_roles, told_set, told_uses};
 ghost use Rattle.network_layout.specs.Told.{IsUntold, noted_fault};
 ghost use Rattle.value_operators.specs.Gives.{Gives};
 
 use crate::seat::{Layout, Seat};
-use crate::values::{Scope, events, whole_scope};
+use crate::values::events_of;
 use containers::{Boxed, Items};
-use csp_base::{EventSet, NoMemory};
+use csp_base::{EventSet, NoMemory, Stop};
 use csp_program::copies::copy_exprs;
 use csp_program::{Expr, Proc, Program, ResourceNote, RolesNote, ValueKind};
 use csp_tables::{RoleSets, UseSets};
+use csp_values::eval_set;
 use std::alloc::Global;
 use value_operators::EvalFault;
 
-/// Why there are no sets of the components, or no answer was found.
+/// A set that is told of a component has no value, or holds something that is no event.
 #[derive(Clone, Copy, Drop)]
-pub enum NotedFault {
-    /// Want of memory.
-    NoMemory,
-    /// A set that is told of a component has no value, or holds something that is no event.
-    Value {
-        /// The first such component.
-        part: u32,
-        /// The kind of fault.
-        kind: ValueKind,
-    },
+pub struct NotedFault {
+    /// The first such component.
+    pub part: u32,
+    /// The kind of fault.
+    pub kind: ValueKind,
 }
 
-impl From<NoMemory> for NotedFault {
-    ghost use Rattle.std.specs.Prelude.{◌≡◌};
-    ghost use Rattle.network_layout.specs.declared.told.NotedFault.TheVariants as fault;
+// Sets that are told of a component.
+trait Noted: Sized + Drop {
+    ghost told: { Content → Component Proc → Outcome Self };
 
-    ghost from_gives = { λ _ e. e ≡ fault.NoMemory };
-
-    fn from(_error: NoMemory) -> NotedFault {
-        NotedFault::NoMemory
-    }
+    // What the program tells of this one.
+    fn of_seat(alloc: Global, program: &Program, seat: &Seat) -> Result<Self, EvalFault>
+        ensures { Gives result (told program.now seat.now) };
 }
 
 // The use of a definition with arguments.
@@ -52,37 +51,46 @@ fn use_of(alloc: Global, def: u32, args: &[Expr]) -> Result<Boxed<Expr>, NoMemor
 }
 
 // The set that a definition is, with these arguments.
-fn told_set(scope: &Scope<'_>, args: &[Expr], def: u32) -> Result<EventSet, EvalFault>
-    ensures { Gives result (told_set scope.now.program.now args.now def) }
+fn told_set(
+    alloc: Global,
+    program: &Program,
+    args: &[Expr],
+    def: u32,
+) -> Result<EventSet, EvalFault>
+    ensures { Gives result (told_set program.now args.now def) }
 {
-    let call = use_of(scope.alloc, def, args)?;
-    let whole = Scope {
-        alloc: scope.alloc,
-        program: scope.program,
-        params: &[],
-        args: &[],
-        bound: &[],
-    };
-    events(&whole, call.get())
+    let call = use_of(alloc, def, args)?;
+    let atoms = eval_set(alloc, program, call.get())?;
+    events_of(alloc, &atoms)
 }
 
 // The sets that an annotation tells.
-fn noted_roles(scope: &Scope<'_>, args: &[Expr], note: &RolesNote) -> Result<RoleSets, EvalFault>
-    ensures { Gives result (told_roles scope.now.program.now args.now (Some note.now)) }
+fn noted_roles(
+    alloc: Global,
+    program: &Program,
+    args: &[Expr],
+    note: &RolesNote,
+) -> Result<RoleSets, EvalFault>
+    ensures { Gives result (told_roles program.now args.now (Some note.now)) }
 {
-    let creq = told_set(scope, args, note.creq)?;
-    let cack = told_set(scope, args, note.cack)?;
-    let sreq = told_set(scope, args, note.sreq)?;
-    let sack = told_set(scope, args, note.sack)?;
+    let creq = told_set(alloc, program, args, note.creq)?;
+    let cack = told_set(alloc, program, args, note.cack)?;
+    let sreq = told_set(alloc, program, args, note.sreq)?;
+    let sack = told_set(alloc, program, args, note.sack)?;
     Ok(RoleSets::new(creq, cack, sreq, sack))
 }
 
 // The sets that an annotation of a resource tells.
-fn noted_uses(scope: &Scope<'_>, args: &[Expr], note: &ResourceNote) -> Result<UseSets, EvalFault>
-    ensures { Gives result (told_uses scope.now.program.now args.now (Some note.now)) }
+fn noted_uses(
+    alloc: Global,
+    program: &Program,
+    args: &[Expr],
+    note: &ResourceNote,
+) -> Result<UseSets, EvalFault>
+    ensures { Gives result (told_uses program.now args.now (Some note.now)) }
 {
-    let acquire = told_set(scope, args, note.acquire)?;
-    let release = told_set(scope, args, note.release)?;
+    let acquire = told_set(alloc, program, args, note.acquire)?;
+    let release = told_set(alloc, program, args, note.release)?;
     Ok(UseSets::new(true, acquire, release))
 }
 
@@ -117,53 +125,60 @@ fn find_resource(notes: &[ResourceNote], process: u32) -> Option<&ResourceNote>
     notes.iter().find(|note| note.process == process)
 }
 
-// What is told of a component.
-fn seat_roles(scope: &Scope<'_>, seat: &Seat) -> Result<RoleSets, EvalFault>
-    ensures { Gives result (component_roles scope.now.program.now seat.now) }
-{
-    match seat.term() {
-        Proc::Call(def, args) => match find_roles(scope.program.content().roles.as_slice(), *def) {
-            Some(note) => noted_roles(scope, args.as_slice(), note),
-            None => Ok(no_roles(scope.alloc)),
-        },
-        _ => Ok(no_roles(scope.alloc)),
+impl Noted for RoleSets {
+    ghost told = { component_roles };
+
+    fn of_seat(alloc: Global, program: &Program, seat: &Seat) -> Result<RoleSets, EvalFault> {
+        match seat.term() {
+            Proc::Call(def, args) => match find_roles(program.content().roles.as_slice(), *def) {
+                Some(note) => noted_roles(alloc, program, args.as_slice(), note),
+                None => Ok(no_roles(alloc)),
+            },
+            _ => Ok(no_roles(alloc)),
+        }
     }
 }
 
-fn seat_uses(scope: &Scope<'_>, seat: &Seat) -> Result<UseSets, EvalFault>
-    ensures { Gives result (component_uses scope.now.program.now seat.now) }
-{
-    match seat.term() {
-        Proc::Call(def, args) => match find_resource(
-            scope.program.content().resources.as_slice(),
-            *def,
-        ) {
-            Some(note) => noted_uses(scope, args.as_slice(), note),
-            None => Ok(no_uses(scope.alloc)),
-        },
-        _ => Ok(no_uses(scope.alloc)),
+impl Noted for UseSets {
+    ghost told = { component_uses };
+
+    fn of_seat(alloc: Global, program: &Program, seat: &Seat) -> Result<UseSets, EvalFault> {
+        match seat.term() {
+            Proc::Call(def, args) => match find_resource(
+                program.content().resources.as_slice(),
+                *def,
+            ) {
+                Some(note) => noted_uses(alloc, program, args.as_slice(), note),
+                None => Ok(no_uses(alloc)),
+            },
+            _ => Ok(no_uses(alloc)),
+        }
     }
 }
 
 // The fault of a component.
-fn untold(fault: EvalFault, part: u32) -> NotedFault
+fn untold(fault: EvalFault, part: u32) -> Stop<NotedFault>
     ensures { result ≡ noted_fault part fault }
 {
     match fault {
-        EvalFault::NoMemory => NotedFault::NoMemory,
-        EvalFault::Value { kind } => NotedFault::Value { part, kind },
+        EvalFault::NoMemory => Stop::NoMemory,
+        EvalFault::Value { kind } => Stop::Told(NotedFault { part, kind }),
     }
 }
 
 // What is told of each of the components.
-fn all_roles(scope: &Scope<'_>, seats: &[Seat]) -> Result<Items<RoleSets>, NotedFault>
+fn all_noted<T: Noted>(
+    alloc: Global,
+    program: &Program,
+    seats: &[Seat],
+) -> Result<Items<T>, Stop<NotedFault>>
     requires { length seats.now ≤ MOST_COMPONENTS }
-    ensures told { IfOk result (λ told. all_outcomes (component_roles scope.now.program.now) seats.now ≡ Ok told) }
-    ensures fault { IfErr result (IsUntold (component_roles scope.now.program.now) seats.now) }
+    ensures told { IfOk result (λ told. all_outcomes (T.told program.now) seats.now ≡ Ok told) }
+    ensures fault { IfErr result (Tells (IsUntold (T.told program.now) seats.now)) }
 {
-    let mut made = Items::new(scope.alloc);
+    let mut made = Items::new(alloc);
     for (part, seat) in seats.iter().enumerate() {
-        match seat_roles(scope, seat) {
+        match T::of_seat(alloc, program, seat) {
             Ok(sets) => made.push(sets)?,
             Err(fault) => return Err(untold(fault, part as u32)),
         }
@@ -171,35 +186,17 @@ fn all_roles(scope: &Scope<'_>, seats: &[Seat]) -> Result<Items<RoleSets>, Noted
     Ok(made)
 }
 
-/// The roles that a program tells of the components. A fault is that of the first component whose sets have no value, the first of them in the order
-/// of the annotation.
+/// The roles that a program tells of the components. A fault is that of the first component whose sets have no value,
+/// the first of them in the order of the annotation.
 pub fn roles_of(
     alloc: Global,
     program: &Program,
     layout: &Layout,
-) -> Result<Items<RoleSets>, NotedFault>
+) -> Result<Items<RoleSets>, Stop<NotedFault>>
     ensures told { IfOk result (λ told. all_outcomes (component_roles program.now) layout.now ≡ Ok told) }
-    ensures fault { IfErr result (IsUntold (component_roles program.now) layout.now) }
+    ensures fault { IfErr result (Tells (IsUntold (component_roles program.now) layout.now)) }
 {
-    let scope = whole_scope(alloc, program);
-    let told = all_roles(&scope, layout.seats())?;
-    Ok(told)
-}
-
-// What is told of each of the components.
-fn all_uses(scope: &Scope<'_>, seats: &[Seat]) -> Result<Items<UseSets>, NotedFault>
-    requires { length seats.now ≤ MOST_COMPONENTS }
-    ensures told { IfOk result (λ told. all_outcomes (component_uses scope.now.program.now) seats.now ≡ Ok told) }
-    ensures fault { IfErr result (IsUntold (component_uses scope.now.program.now) seats.now) }
-{
-    let mut made = Items::new(scope.alloc);
-    for (part, seat) in seats.iter().enumerate() {
-        match seat_uses(scope, seat) {
-            Ok(sets) => made.push(sets)?,
-            Err(fault) => return Err(untold(fault, part as u32)),
-        }
-    }
-    Ok(made)
+    all_noted(alloc, program, layout.seats())
 }
 
 /// How the components are used as resources, by what a program tells of them. Faults are those of `roles_of`.
@@ -207,11 +204,9 @@ pub fn uses_of(
     alloc: Global,
     program: &Program,
     layout: &Layout,
-) -> Result<Items<UseSets>, NotedFault>
+) -> Result<Items<UseSets>, Stop<NotedFault>>
     ensures told { IfOk result (λ told. all_outcomes (component_uses program.now) layout.now ≡ Ok told) }
-    ensures fault { IfErr result (IsUntold (component_uses program.now) layout.now) }
+    ensures fault { IfErr result (Tells (IsUntold (component_uses program.now) layout.now)) }
 {
-    let scope = whole_scope(alloc, program);
-    let told = all_uses(&scope, layout.seats())?;
-    Ok(told)
+    all_noted(alloc, program, layout.seats())
 }

@@ -1,49 +1,99 @@
 //! Whether an event is in three alphabets.
 
-ghost use Rattle.std.specs.Prelude.{◌≡◌, ◌<◌, ◌+◌, ◌∷◌, IfErr, OnOk, length};
+ghost use Rattle.std.specs.Prelude.{◌≡◌, ◌≤◌, ◌++◌, ◌∷◌, ℕ, List, [], IfErr, IfOk, OnOk, length};
+ghost use Rattle.dl_limits.specs.declared.TheConstants.{MOST_COMPONENTS};
+ghost use Rattle.csp_base.specs.Stops.{Tells};
 ghost use Rattle.csp_tables.specs.Part.{TripleDisjoint};
-ghost use Rattle.network_layout.specs.Triple.{SharesEvent, alphabets, holders_from};
+ghost use Rattle.network_layout.specs.Triple.{AreCrowded, IsCounted, SharesEvent, alphabets, holders};
 
 use crate::seat::{Layout, Seat};
-use csp_base::Event;
+use containers::Items;
+use csp_base::{Event, EventSet, NoMemory, Stop};
+use std::alloc::Global;
 
-/// Why a network isn't triple-disjoint.
+/// An event in three alphabets or more.
 #[derive(Clone, Copy, Drop)]
-pub enum TripleFault {
-    /// The event is in three alphabets or more.
-    Shared {
-        /// The least such event.
-        event: Event,
-        /// The first three components that have it.
-        parts: (u32, u32, u32),
-    },
+pub struct TripleFault {
+    /// The least such event.
+    pub event: Event,
+    /// The first three components that have it.
+    pub parts: (u32, u32, u32),
 }
 
-// The first component from a place on that has the event.
-fn next_holder(seats: &[Seat], from: usize, event: Event) -> usize
-    requires { 0 < length (holders_from (alphabets seats.now) from event) }
-    ensures next { holders_from (alphabets seats.now) from event ≡ result ∷ holders_from (alphabets seats.now) (result + 1) event }
-    ensures within { result < length seats.now }
+// The events of one, two and three of some alphabets, or more.
+#[derive(Drop)]
+struct Counted {
+    once: EventSet,
+    twice: EventSet,
+    thrice: EventSet,
+}
+
+// Of no alphabets.
+fn counted_none(alloc: Global) -> Counted
+    ensures { IsCounted [] result }
 {
-    let mut place = from;
-    while !seats[place].alphabet().contains(event) {
-        place += 1;
+    Counted {
+        once: EventSet::new(alloc),
+        twice: EventSet::new(alloc),
+        thrice: EventSet::new(alloc),
     }
-    place
 }
 
-/// Whether no event is in three alphabets. Else the least such event is told, with the first three components that have it.
-pub fn triple_disjoint(layout: &Layout) -> Result<(), TripleFault>
-    ensures ok { OnOk result (TripleDisjoint (alphabets layout.now)) }
-    ensures shared { IfErr result (SharesEvent (alphabets layout.now)) }
+// Of one alphabet more.
+fn count(alloc: Global, counted: &Counted, alphabet: &EventSet) -> Result<Counted, NoMemory>
+    ensures { (rows : List (List ℕ)) → IsCounted rows counted.now → IfOk result (IsCounted (rows ++ alphabet.now ∷ [])) }
 {
-    let Some(event) = layout.crowded().first_from(Event(0)) else {
+    let again = counted.once.inter(alloc, alphabet)?;
+    let more = counted.twice.inter(alloc, alphabet)?;
+    let once = counted.once.union(alloc, alphabet)?;
+    let twice = counted.twice.union(alloc, &again)?;
+    let thrice = counted.thrice.union(alloc, &more)?;
+    Ok(Counted {
+        once,
+        twice,
+        thrice,
+    })
+}
+
+// The events of three components or more.
+fn crowded(alloc: Global, seats: &[Seat]) -> Result<EventSet, NoMemory>
+    ensures { IfOk result (AreCrowded (alphabets seats.now)) }
+{
+    let mut counted = counted_none(alloc);
+    for seat in seats {
+        counted = count(alloc, &counted, seat.alphabet())?;
+    }
+    Ok(counted.thrice)
+}
+
+// The components that have an event.
+fn holders(alloc: Global, seats: &[Seat], event: Event) -> Result<Items<u32>, NoMemory>
+    requires { length seats.now ≤ MOST_COMPONENTS }
+    ensures { IfOk result (λ made. made ≡ holders 0 (alphabets seats.now) event) }
+{
+    let mut made = Items::new(alloc);
+    for (part, seat) in seats.iter().enumerate() {
+        if !seat.alphabet().contains(event) {
+            continue;
+        }
+        made.push(part as u32)?;
+    }
+    Ok(made)
+}
+
+/// Whether no event is in three alphabets. Else the least such event is told, with the first three components that have
+/// it.
+pub fn triple_disjoint(alloc: Global, layout: &Layout) -> Result<(), Stop<TripleFault>>
+    ensures ok { OnOk result (TripleDisjoint (alphabets layout.now)) }
+    ensures shared { IfErr result (Tells (SharesEvent (alphabets layout.now))) }
+{
+    let seats = layout.seats();
+    let crowded = crowded(alloc, seats)?;
+    let Some(event) = crowded.first_from(Event(0)) else {
         return Ok(());
     };
-    let seats = layout.seats();
-    let first = next_holder(seats, 0, event);
-    let second = next_holder(seats, first + 1, event);
-    let third = next_holder(seats, second + 1, event);
-    let parts = (first as u32, second as u32, third as u32);
-    Err(TripleFault::Shared { event, parts })
+    let holders = holders(alloc, seats, event)?;
+    let found = holders.as_slice();
+    let parts = (found[0], found[1], found[2]);
+    Err(Stop::Told(TripleFault { event, parts }))
 }

@@ -1,29 +1,29 @@
 //! The values that the walk of a network needs.
 
-ghost use Rattle.std.specs.Prelude.{◌≡◌, [], ◌∷◌, ◌++◌, IfOk, Ok};
-ghost use Rattle.csp_atoms.specs.declared.value.Value.TheVariants.{One};
-ghost use Rattle.csp_program.specs.Prelude.{and_then, given_by, proc_with};
-ghost use Rattle.process_steps.specs.Prefix.{set_under};
+ghost use Rattle.std.specs.Prelude.{◌≡◌, [], ◌∷◌, ◌++◌, IfOk};
+ghost use Rattle.csp_atoms.specs.Sets.{event_numbers};
+ghost use Rattle.csp_program.specs.Outcome.{Outcome};
+ghost use Rattle.csp_program.specs.Substitution.{given_by, proc_with};
+ghost use Rattle.process_steps.specs.Needed.{needed_events};
+ghost use Rattle.process_steps.specs.Prefix.{set_under, value_under};
 ghost use Rattle.network_trees.specs.NetworkOf.{arguments_under, events_under, truth_under};
-ghost use Rattle.network_layout.specs.Lays.{names_of};
-ghost use Rattle.value_operators.specs.Prelude.{env_in, Gives};
+ghost use Rattle.network_layout.specs.Lays.{Needs, names_of};
+ghost use Rattle.value_operators.specs.Env.{env_in};
+ghost use Rattle.value_operators.specs.Gives.{Gives};
 
 use containers::{Boxed, Items};
 use csp_atoms::{Atom, AtomSet, Value};
-use csp_base::{EventSet, NoMemory};
+use csp_base::{EventSet, NoMemory, Stop};
 use csp_program::{Expr, Proc, Program, ValueKind};
 use csp_values::{eval_all_with, eval_with};
+use network_trees::LayoutFault;
 use std::alloc::Global;
 use substitution::{Values, put_proc};
 use value_operators::EvalFault;
 use value_operators::names::Names;
 use value_operators::operators::{to_set, to_truth};
 
-pub(crate) const KIND: EvalFault = EvalFault::Value {
-    kind: ValueKind::Kind,
-};
-
-// What a walk goes by: a program, and names with their values.
+// What a walk goes by: a program, names with their values, and how deep it may go.
 #[derive(Drop)]
 pub(crate) struct Scope<'a> {
     /// Where memory comes from.
@@ -36,20 +36,8 @@ pub(crate) struct Scope<'a> {
     pub args: &'a [Value],
     /// The names of the operands around, the last one bound at the end.
     pub bound: &'a [(u32, Atom)],
-}
-
-// A scope in which no name has a value.
-pub(crate) fn whole_scope<'a>(alloc: Global, program: &'a Program) -> Scope<'a>
-    ensures program { result.program.now ≡ program.now }
-    ensures names { names_of result ≡ [] }
-{
-    Scope {
-        alloc,
-        program,
-        params: &[],
-        args: &[],
-        bound: &[],
-    }
+    /// How many nodes may still be entered, one inside another.
+    pub levels: u32,
 }
 
 // The names of a scope for the evaluator.
@@ -64,51 +52,68 @@ fn names<'a>(scope: &Scope<'a>) -> Names<'a>
     }
 }
 
-// Whether a condition holds.
-pub(crate) fn truth(scope: &Scope<'_>, expr: &Expr) -> Result<bool, EvalFault>
-    ensures { Gives result (truth_under scope.now.program.now (names_of scope.now) expr.now) }
+// What was found, or why the walk ends there.
+fn needed<T>(found: Result<T, EvalFault>) -> Result<T, Stop<LayoutFault>>
+    ensures { (outcome : Outcome T) → Gives found outcome → Needs result outcome }
 {
-    let value = eval_with(scope.alloc, scope.program, &names(scope), expr)?;
-    to_truth(&value)
-}
-
-// The atoms of a set.
-pub(crate) fn set(scope: &Scope<'_>, expr: &Expr) -> Result<AtomSet, EvalFault>
-    ensures { Gives result (set_under scope.now.program.now (names_of scope.now) expr.now) }
-{
-    let value = eval_with(scope.alloc, scope.program, &names(scope), expr)?;
-    to_set(value)
-}
-
-// The events of a set.
-pub(crate) fn events(scope: &Scope<'_>, expr: &Expr) -> Result<EventSet, EvalFault>
-    ensures { Gives result (events_under scope.now.program.now (names_of scope.now) expr.now) }
-{
-    let atoms = set(scope, expr)?;
-    match atoms.to_event_set(scope.alloc)? {
-        Some(events) => Ok(events),
-        None => Err(KIND),
+    match found {
+        Ok(value) => Ok(value),
+        Err(EvalFault::NoMemory) => Err(Stop::NoMemory),
+        Err(EvalFault::Value { kind }) => Err(Stop::Told(LayoutFault::Value { kind })),
     }
 }
 
-// The values of arguments, from the left.
-pub(crate) fn arguments(scope: &Scope<'_>, exprs: &[Expr]) -> Result<Items<Value>, EvalFault>
-    ensures { Gives result (arguments_under scope.now.program.now (names_of scope.now) exprs.now) }
+// The value of an expression.
+fn value(scope: &Scope<'_>, expr: &Expr) -> Result<Value, Stop<LayoutFault>>
+    ensures { Needs result (value_under scope.now.program.now (names_of scope.now) expr.now) }
 {
-    eval_all_with(scope.alloc, scope.program, &names(scope), exprs)
+    needed(eval_with(scope.alloc, scope.program, &names(scope), expr))
 }
 
-// The events of two sets.
-pub(crate) fn both_events(
-    scope: &Scope<'_>,
-    left: &Expr,
-    right: &Expr,
-) -> Result<(EventSet, EventSet), EvalFault>
-    ensures { Gives result (and_then (events_under scope.now.program.now (names_of scope.now) left.now) (λ first. and_then (events_under scope.now.program.now (names_of scope.now) right.now) (λ second. Ok (first, second)))) }
+// Whether a condition holds.
+pub(crate) fn truth(scope: &Scope<'_>, expr: &Expr) -> Result<bool, Stop<LayoutFault>>
+    ensures { Needs result (truth_under scope.now.program.now (names_of scope.now) expr.now) }
 {
-    let first = events(scope, left)?;
-    let second = events(scope, right)?;
-    Ok((first, second))
+    let value = value(scope, expr)?;
+    needed(to_truth(&value))
+}
+
+// The atoms of a set.
+pub(crate) fn set(scope: &Scope<'_>, expr: &Expr) -> Result<AtomSet, Stop<LayoutFault>>
+    ensures { Needs result (set_under scope.now.program.now (names_of scope.now) expr.now) }
+{
+    let value = value(scope, expr)?;
+    needed(to_set(value))
+}
+
+// The events that a set holds, where it holds nothing else.
+pub(crate) fn events_of(alloc: Global, atoms: &AtomSet) -> Result<EventSet, EvalFault>
+    ensures { Gives result (needed_events (event_numbers atoms.now)) }
+{
+    match atoms.to_event_set(alloc)? {
+        Some(events) => Ok(events),
+        None => Err(EvalFault::Value {
+            kind: ValueKind::Kind,
+        }),
+    }
+}
+
+// The events of a set.
+pub(crate) fn events(scope: &Scope<'_>, expr: &Expr) -> Result<EventSet, Stop<LayoutFault>>
+    ensures { Needs result (events_under scope.now.program.now (names_of scope.now) expr.now) }
+{
+    let atoms = set(scope, expr)?;
+    needed(events_of(scope.alloc, &atoms))
+}
+
+// The values of arguments, from the left.
+pub(crate) fn arguments(
+    scope: &Scope<'_>,
+    exprs: &[Expr],
+) -> Result<Items<Value>, Stop<LayoutFault>>
+    ensures { Needs result (arguments_under scope.now.program.now (names_of scope.now) exprs.now) }
+{
+    needed(eval_all_with(scope.alloc, scope.program, &names(scope), exprs))
 }
 
 // The names of the operands around, and one more.

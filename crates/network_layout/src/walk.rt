@@ -1,100 +1,102 @@
-//! The walk of a network, depth first from the left. It seats each component that it meets, and gives back their alphabets together.
+//! The walk of a network, depth first from the left: it seats each component that it meets, and gives back their
+//! alphabets together.
 
-ghost use Rattle.std.specs.Prelude.{◌≡◌, [], ◌∷◌, IfErr, IfOk, length};
-ghost use Rattle.csp_atoms.specs.declared.value.Value.TheVariants.{One};
-ghost use Rattle.csp_base.specs.Events.{union_of};
-ghost use Rattle.csp_program.specs.Prelude.{given_by, proc_with};
+ghost use Rattle.std.specs.Prelude.{◌≡◌, IfOk};
 ghost use Rattle.csp_program.specs.declared.networks.Net.TheOpen.{Net-F};
-ghost use Rattle.network_trees.specs.NetworkOf.{next_component, tree_within};
-ghost use Rattle.network_layout.specs.declared.fault.Unlaid.TheVariants as unlaid;
-ghost use Rattle.network_layout.specs.Lays.{Lays, body_walked, names_of, node, one_operand, operand_walked, operands_each, two};
+ghost use Rattle.network_trees.specs.Joint.{lesser, odd_event};
+ghost use Rattle.network_layout.specs.Lays.{Lays, body_walked, component, leaf_walked, node, one_operand, operand_walked, operands_each, pair_walked, place_of, seated, set_walked, walked, with_name};
 
-use crate::fault::Unlaid;
-use crate::nesting::agree;
-use crate::seat::{Seat, Seats};
-use crate::values::{KIND, Scope, arguments, both_events, events, put, set, truth, with_name};
+use crate::seat::{Layout, Seat};
+use crate::values::{Scope, arguments, events, put, set, truth, with_name};
 use csp_atoms::{Atom, Value};
-use csp_base::{EventSet, NoMemory};
-use csp_program::{Body, Def, Expr, Net, Proc};
+use csp_base::{Event, EventSet, NoMemory, Stop};
+use csp_program::{Body, Def, Expr, Net, Proc, ValueKind};
 use dl_limits::MOST_COMPONENTS;
 use network_trees::LayoutFault;
+use std::alloc::Global;
 
-const TOO_DEEP: Unlaid = Unlaid::Refused(LayoutFault::NetworkDepth);
+// The alphabets of the components that were seated, together; or the fault that was met.
+type Laid = Result<EventSet, Stop<LayoutFault>>;
+
+// An operand, with the expression that its alphabet is the value of.
+#[derive(Drop)]
+struct Operand<'a> {
+    net: &'a Net,
+    alphabet: &'a Expr,
+}
+
+const NO_NETWORK: LayoutFault = LayoutFault::Value {
+    kind: ValueKind::Kind,
+};
 
 // A component.
 fn seat_of(scope: &Scope<'_>, process: &Proc, alphabet: &EventSet) -> Result<Seat, NoMemory>
-    ensures { IfOk result (λ seat. seat ≡ record { alphabet = alphabet.now; term = proc_with (given_by (names_of scope.now)) process.now }) }
+    ensures { IfOk result (λ seat. seat ≡ component (place_of scope.now) alphabet.now process.now) }
 {
     let kept = alphabet.try_clone(scope.alloc)?;
     let term = put(scope, process)?;
     Ok(Seat::new(term, kept))
 }
 
-// The events of two alphabets together.
-fn both(scope: &Scope<'_>, left: &EventSet, right: &EventSet) -> Result<EventSet, Unlaid>
-    ensures joint { IfOk result (λ made. made ≡ union_of left.now right.now) }
-    ensures fault { IfErr result (λ fault. fault ≡ unlaid.NoMemory) }
-{
-    let joint = left.union(scope.alloc, right)?;
-    Ok(joint)
-}
-
 // Seats a component.
-fn sit(
-    scope: &Scope<'_>,
-    process: &Proc,
-    alphabet: &EventSet,
-    seats: &mut Seats,
-) -> Result<EventSet, Unlaid>
-    ensures { Lays result (next_component (length seats.old) alphabet.now (proc_with (given_by (names_of scope.now)) process.now)) seats.old seats.new }
+fn sit(scope: &Scope<'_>, process: &Proc, alphabet: &EventSet, seats: &mut Layout) -> Laid
+    ensures { Lays result (seated (place_of scope.now) alphabet.now process.now) seats.old seats.new }
 {
     if seats.len() >= MOST_COMPONENTS {
-        return Err(Unlaid::Refused(LayoutFault::ComponentLimit));
+        return Err(Stop::Told(LayoutFault::ComponentLimit));
     }
     seats.push_made(seat_of(scope, process, alphabet))?;
-    both(scope, alphabet, &EventSet::new(scope.alloc))
+    Ok(alphabet.union(scope.alloc, &EventSet::new(scope.alloc))?)
 }
 
 // A network in which no node may be entered.
 #[tactic(auto, using(csp_program::specs::declared::networks::Net::the_lemmas), unfolding(network_trees::specs::NetworkOf::tree_within))]
-fn walk_leaf(
-    scope: &Scope<'_>,
-    net: &Net,
-    alphabet: &EventSet,
-    seats: &mut Seats,
-) -> Result<EventSet, Unlaid>
-    ensures { Lays result (tree_within scope.now.program.now 0 (length seats.old) alphabet.now (names_of scope.now) net.now) seats.old seats.new }
+fn walk_leaf(scope: &Scope<'_>, net: &Net, alphabet: &EventSet, seats: &mut Layout) -> Laid
+    ensures { Lays result (leaf_walked (place_of scope.now) alphabet.now net.now) seats.old seats.new }
 {
     match net {
         Net::Leaf(process) => sit(scope, process, alphabet, seats),
-        Net::Call(_, _) => Err(TOO_DEEP),
-        Net::If(_, _, _) => Err(TOO_DEEP),
-        Net::Pair(_, _, _, _) => Err(TOO_DEEP),
-        Net::Each(_, _, _, _) => Err(TOO_DEEP),
+        Net::Call(_, _) => Err(Stop::Told(LayoutFault::NetworkDepth)),
+        Net::If(_, _, _) => Err(Stop::Told(LayoutFault::NetworkDepth)),
+        Net::Pair(_, _, _, _) => Err(Stop::Told(LayoutFault::NetworkDepth)),
+        Net::Each(_, _, _, _) => Err(Stop::Told(LayoutFault::NetworkDepth)),
     }
 }
 
-// A network, in which `levels` nodes may still be entered, one inside another.
+// A network.
 #[cycle(walk)]
-pub(crate) fn walk(
-    scope: &Scope<'_>,
-    levels: u32,
-    net: &Net,
-    alphabet: &EventSet,
-    seats: &mut Seats,
-) -> Result<EventSet, Unlaid>
-    ensures { Lays result (tree_within scope.now.program.now levels (length seats.old) alphabet.now (names_of scope.now) net.now) seats.old seats.new }
+pub(crate) fn walk(scope: &Scope<'_>, net: &Net, alphabet: &EventSet, seats: &mut Layout) -> Laid
+    ensures { Lays result (walked (place_of scope.now) alphabet.now net.now) seats.old seats.new }
 {
-    if levels == 0 {
+    if scope.levels == 0 {
         return walk_leaf(scope, net, alphabet, seats);
     }
-    let below = levels - 1;
+    let below = Scope {
+        levels: scope.levels - 1,
+        ..*scope
+    };
     match net {
-        Net::Leaf(process) => sit(scope, process, alphabet, seats),
-        Net::Call(def, args) => walk_call(scope, below, *def, args.as_slice(), alphabet, seats),
-        Net::If(c, n, m) => walk_if(scope, below, c, n.get(), m.get(), alphabet, seats),
-        Net::Pair(n, a, b, m) => walk_pair(scope, below, n.get(), a, b, m.get(), seats),
-        Net::Each(x, s, a, n) => walk_set(scope, below, *x, s, a, n.get(), seats),
+        Net::Leaf(process) => sit(&below, process, alphabet, seats),
+        Net::Call(def, args) => walk_call(&below, *def, args.as_slice(), alphabet, seats),
+        Net::If(c, n, m) => walk_if(&below, c, n.get(), m.get(), alphabet, seats),
+        Net::Pair(n, a, b, m) => {
+            let left = Operand {
+                net: n.get(),
+                alphabet: a,
+            };
+            let right = Operand {
+                net: m.get(),
+                alphabet: b,
+            };
+            walk_pair(&below, &left, &right, seats)
+        }
+        Net::Each(x, s, a, n) => {
+            let operand = Operand {
+                net: n.get(),
+                alphabet: a,
+            };
+            walk_set(&below, *x, s, &operand, seats)
+        }
     }
 }
 
@@ -103,18 +105,17 @@ pub(crate) fn walk(
 #[tactic(auto, unfolding(crate::specs::Lays::node, crate::specs::Lays::body_walked))]
 fn walk_call(
     scope: &Scope<'_>,
-    levels: u32,
     def: u32,
     args: &[Expr],
     alphabet: &EventSet,
-    seats: &mut Seats,
-) -> Result<EventSet, Unlaid>
-    ensures { Lays result (node scope.now.program.now levels (length seats.old) alphabet.now (names_of scope.now) (Net-F.Call def args.now)) seats.old seats.new }
+    seats: &mut Layout,
+) -> Laid
+    ensures { Lays result (node (place_of scope.now) alphabet.now (Net-F.Call def args.now)) seats.old seats.new }
 {
     let values = arguments(scope, args)?;
     match scope.program.content().defs.get(def as usize) {
-        Some(def) => walk_body(scope, levels, def, values.as_slice(), alphabet, seats),
-        None => Err(Unlaid::from(KIND)),
+        Some(def) => walk_body(scope, def, values.as_slice(), alphabet, seats),
+        None => Err(Stop::Told(NO_NETWORK)),
     }
 }
 
@@ -123,27 +124,23 @@ fn walk_call(
 #[tactic(auto, unfolding(crate::specs::Lays::body_walked))]
 fn walk_body(
     scope: &Scope<'_>,
-    levels: u32,
     def: &Def,
     args: &[Value],
     alphabet: &EventSet,
-    seats: &mut Seats,
-) -> Result<EventSet, Unlaid>
-    ensures { Lays result (body_walked scope.now.program.now levels (length seats.old) alphabet.now def.now args.now) seats.old seats.new }
+    seats: &mut Layout,
+) -> Laid
+    ensures { Lays result (body_walked (place_of scope.now) alphabet.now def.now args.now) seats.old seats.new }
 {
-    match &def.body {
-        Body::Network(net) => {
-            let inner = Scope {
-                alloc: scope.alloc,
-                program: scope.program,
-                params: def.params.as_slice(),
-                args,
-                bound: &[],
-            };
-            walk(&inner, levels, net, alphabet, seats)
-        }
-        _ => Err(Unlaid::from(KIND)),
-    }
+    let Body::Network(net) = &def.body else {
+        return Err(Stop::Told(NO_NETWORK));
+    };
+    let inner = Scope {
+        params: def.params.as_slice(),
+        args,
+        bound: &[],
+        ..*scope
+    };
+    walk(&inner, net, alphabet, seats)
 }
 
 // A choice, which stands for one of its parts.
@@ -151,83 +148,69 @@ fn walk_body(
 #[tactic(auto, unfolding(crate::specs::Lays::node))]
 fn walk_if(
     scope: &Scope<'_>,
-    levels: u32,
     condition: &Expr,
     left: &Net,
     right: &Net,
     alphabet: &EventSet,
-    seats: &mut Seats,
-) -> Result<EventSet, Unlaid>
-    ensures { Lays result (node scope.now.program.now levels (length seats.old) alphabet.now (names_of scope.now) (Net-F.If condition.now left.now right.now)) seats.old seats.new }
+    seats: &mut Layout,
+) -> Laid
+    ensures { Lays result (node (place_of scope.now) alphabet.now (Net-F.If condition.now left.now right.now)) seats.old seats.new }
 {
-    let holds = truth(scope, condition)?;
-    if holds {
-        return walk(scope, levels, left, alphabet, seats);
+    if truth(scope, condition)? {
+        return walk(scope, left, alphabet, seats);
     }
-    walk(scope, levels, right, alphabet, seats)
+    walk(scope, right, alphabet, seats)
+}
+
+// The lesser of two events.
+fn lesser(left: Option<Event>, right: Option<Event>) -> Option<Event>
+    ensures { result ≡ lesser left right }
+{
+    match (left, right) {
+        (None, right) => right,
+        (Some(e), None) => Some(e),
+        (Some(e), Some(d)) => Some(Event(e.0.min(d.0))),
+    }
+}
+
+// The least event that is in exactly one of the sets.
+fn odd(alloc: Global, left: &EventSet, right: &EventSet) -> Result<Option<Event>, NoMemory>
+    ensures { IfOk result (λ found. found ≡ odd_event left.now right.now) }
+{
+    let missing = left.diff(alloc, right)?;
+    let extra = right.diff(alloc, left)?;
+    Ok(lesser(missing.first_from(Event(0)), extra.first_from(Event(0))))
 }
 
 // An operand, which has to agree with its alphabet.
 #[cycle(walk)]
 #[tactic(auto, unfolding(crate::specs::Lays::operand_walked))]
-fn operand(
-    scope: &Scope<'_>,
-    levels: u32,
-    net: &Net,
-    alphabet: &EventSet,
-    seats: &mut Seats,
-) -> Result<EventSet, Unlaid>
-    ensures { Lays result (operand_walked scope.now.program.now levels (length seats.old) alphabet.now (names_of scope.now) net.now) seats.old seats.new }
+fn walk_operand(scope: &Scope<'_>, net: &Net, alphabet: &EventSet, seats: &mut Layout) -> Laid
+    ensures { Lays result (operand_walked (place_of scope.now) alphabet.now net.now) seats.old seats.new }
 {
     let first = seats.len();
-    let joint = walk(scope, levels, net, alphabet, seats)?;
-    agree(scope.alloc, first, seats.len(), alphabet, &joint)?;
-    Ok(joint)
+    let joint = walk(scope, net, alphabet, seats)?;
+    match odd(scope.alloc, alphabet, &joint)? {
+        None => Ok(joint),
+        Some(event) => Err(Stop::Told(LayoutFault::BadNesting {
+            first: first as u32,
+            count: (seats.len() - first) as u32,
+            event,
+        })),
+    }
 }
 
-// Two operands, each with its alphabet.
+// Two operands.
 #[cycle(walk)]
-#[tactic(auto, unfolding(crate::specs::Lays::node, crate::specs::Lays::two))]
-fn walk_pair(
-    scope: &Scope<'_>,
-    levels: u32,
-    left: &Net,
-    left_alphabet: &Expr,
-    right_alphabet: &Expr,
-    right: &Net,
-    seats: &mut Seats,
-) -> Result<EventSet, Unlaid>
-    ensures { Lays result (node scope.now.program.now levels (length seats.old) [] (names_of scope.now) (Net-F.Pair left.now left_alphabet.now right_alphabet.now right.now)) seats.old seats.new }
+#[tactic(auto, unfolding(crate::specs::Lays::node, crate::specs::Lays::operand_walked))]
+fn walk_pair(scope: &Scope<'_>, left: &Operand<'_>, right: &Operand<'_>, seats: &mut Layout) -> Laid
+    ensures { Lays result (pair_walked (place_of scope.now) left.now right.now) seats.old seats.new }
 {
-    let alphabets = both_events(scope, left_alphabet, right_alphabet)?;
-    walk_both(
-        scope,
-        levels,
-        left,
-        &alphabets.0,
-        right,
-        &alphabets.1,
-        seats,
-    )
-}
-
-// Two operands with these alphabets.
-#[cycle(walk)]
-#[tactic(auto, unfolding(crate::specs::Lays::two, crate::specs::Lays::operand_walked))]
-fn walk_both(
-    scope: &Scope<'_>,
-    levels: u32,
-    left: &Net,
-    left_alphabet: &EventSet,
-    right: &Net,
-    right_alphabet: &EventSet,
-    seats: &mut Seats,
-) -> Result<EventSet, Unlaid>
-    ensures { Lays result (two scope.now.program.now levels (length seats.old) (names_of scope.now) left_alphabet.now left.now right_alphabet.now right.now) seats.old seats.new }
-{
-    let first = operand(scope, levels, left, left_alphabet, seats)?;
-    let second = operand(scope, levels, right, right_alphabet, seats)?;
-    both(scope, &first, &second)
+    let left_alphabet = events(scope, left.alphabet)?;
+    let right_alphabet = events(scope, right.alphabet)?;
+    let first = walk_operand(scope, left.net, &left_alphabet, seats)?;
+    let second = walk_operand(scope, right.net, &right_alphabet, seats)?;
+    Ok(first.union(scope.alloc, &second)?)
 }
 
 // An operand for each value of a set.
@@ -235,35 +218,31 @@ fn walk_both(
 #[tactic(auto, unfolding(crate::specs::Lays::node, crate::specs::Lays::operands_each))]
 fn walk_set(
     scope: &Scope<'_>,
-    levels: u32,
     name: u32,
     values: &Expr,
-    alphabet: &Expr,
-    net: &Net,
-    seats: &mut Seats,
-) -> Result<EventSet, Unlaid>
-    ensures { Lays result (node scope.now.program.now levels (length seats.old) [] (names_of scope.now) (Net-F.Each name values.now alphabet.now net.now)) seats.old seats.new }
+    operand: &Operand<'_>,
+    seats: &mut Layout,
+) -> Laid
+    ensures { Lays result (set_walked (place_of scope.now) name values.now operand.now) seats.old seats.new }
 {
     let atoms = set(scope, values)?;
-    walk_each(scope, levels, name, atoms.as_slice(), alphabet, net, seats)
+    walk_each(scope, name, atoms.as_slice(), operand, seats)
 }
 
 // An operand for each of these values.
 #[cycle(walk)]
 fn walk_each(
     scope: &Scope<'_>,
-    levels: u32,
     name: u32,
     atoms: &[Atom],
-    alphabet: &Expr,
-    net: &Net,
-    seats: &mut Seats,
-) -> Result<EventSet, Unlaid>
-    ensures { Lays result (operands_each scope.now.program.now levels (length seats.old) (names_of scope.now) name alphabet.now net.now atoms.now) seats.old seats.new }
+    operand: &Operand<'_>,
+    seats: &mut Layout,
+) -> Laid
+    ensures { Lays result (operands_each (place_of scope.now) name operand.now atoms.now) seats.old seats.new }
 {
     let mut joint = EventSet::new(scope.alloc);
     for atom in atoms {
-        let next = walk_at(scope, levels, name, *atom, alphabet, net, seats)?;
+        let next = walk_at(scope, name, *atom, operand, seats)?;
         joint = joint.union(scope.alloc, &next)?;
     }
     Ok(joint)
@@ -273,38 +252,27 @@ fn walk_each(
 #[cycle(walk)]
 fn walk_at(
     scope: &Scope<'_>,
-    levels: u32,
     name: u32,
     atom: Atom,
-    alphabet: &Expr,
-    net: &Net,
-    seats: &mut Seats,
-) -> Result<EventSet, Unlaid>
-    ensures { Lays result (one_operand scope.now.program.now levels (length seats.old) ((name, One atom) ∷ names_of scope.now) alphabet.now net.now) seats.old seats.new }
+    operand: &Operand<'_>,
+    seats: &mut Layout,
+) -> Laid
+    ensures { Lays result (one_operand (with_name (place_of scope.now) name atom) operand.now) seats.old seats.new }
 {
     let bound = with_name(scope, name, atom)?;
     let inner = Scope {
-        alloc: scope.alloc,
-        program: scope.program,
-        params: scope.params,
-        args: scope.args,
         bound: bound.as_slice(),
+        ..*scope
     };
-    walk_one(&inner, levels, alphabet, net, seats)
+    walk_one(&inner, operand, seats)
 }
 
 // An operand with the alphabet that it has under the names of the scope.
 #[cycle(walk)]
 #[tactic(auto, unfolding(crate::specs::Lays::one_operand))]
-fn walk_one(
-    scope: &Scope<'_>,
-    levels: u32,
-    alphabet: &Expr,
-    net: &Net,
-    seats: &mut Seats,
-) -> Result<EventSet, Unlaid>
-    ensures { Lays result (one_operand scope.now.program.now levels (length seats.old) (names_of scope.now) alphabet.now net.now) seats.old seats.new }
+fn walk_one(scope: &Scope<'_>, operand: &Operand<'_>, seats: &mut Layout) -> Laid
+    ensures { Lays result (one_operand (place_of scope.now) operand.now) seats.old seats.new }
 {
-    let events = events(scope, alphabet)?;
-    operand(scope, levels, net, &events, seats)
+    let alphabet = events(scope, operand.alphabet)?;
+    walk_operand(scope, operand.net, &alphabet, seats)
 }

@@ -6,7 +6,6 @@ use Rattle.csp_tables.specs.Prelude.{Component, leaves, Part, AreBusy}
 use Rattle.csp_text.specs.declared.script.Script.{Script}
 use Rattle.network_layout.specs.Triple.{SharesEvent, alphabets}
 use Rattle.network_layout.specs.declared.triple.TripleFault.{TripleFault}
-use Rattle.network_layout.specs.declared.triple.TripleFault.TheVariants as triple
 use Rattle.network_stages.specs.Faults.{HasFault, IsFirst}
 use Rattle.network_stages.specs.Tables.{AreTablesOf}
 use Rattle.network_stages.specs.declared.component_tables.ComponentTable.{ComponentTable}
@@ -58,9 +57,6 @@ HasNoPart p n c r =
 
 -- ---- a network
 
-abbrev pub shared_by : TripleFault → Shortfall
-shared_by (triple.Shared e parts) = shortfall.NotTripleDisjoint e parts
-
 module _ (network : Network) where
   -- each component has a table, within the room that those before it leave
   abbrev pub HasTables : List ComponentTable → Type 0
@@ -80,7 +76,7 @@ module _ (network : Network) where
 
   -- an event is in the alphabets of three components
   abbrev pub ShareEvent : Shortfall → Type 0
-  ShareEvent s = (f : TripleFault) × SharesEvent (alphabets (leaves network.tree)) f × (s ≡ shared_by f)
+  ShareEvent s = (f : TripleFault) × SharesEvent (alphabets (leaves network.tree)) f × (s ≡ shortfall.NotTripleDisjoint f.event f.parts)
 
   -- no component is ever empty-handed
   abbrev pub StaysBusy : Type 0

@@ -7,7 +7,7 @@ ghost use Rattle.csp_base.specs.Stops.{Tells};
 ghost use Rattle.network_stages.specs.Networks.{IsSpelled};
 ghost use Rattle.network_stages.specs.Rows.{AreLinksBefore, IsVocabulary};
 ghost use Rattle.network_stages.specs.Shapes.{IsApart};
-ghost use Rattle.network_stages.specs.Stages.{ShareEvent, shared_by};
+ghost use Rattle.network_stages.specs.Stages.{ShareEvent};
 
 use crate::links::linked;
 use crate::parts::Parted;
@@ -15,7 +15,7 @@ use crate::rows::shared_rows;
 use crate::spelled::Spelled;
 use csp_base::{EventSet, NoMemory, Stop};
 use csp_tables::{Link, Part, Shape};
-use network_layout::{TripleFault, triple_disjoint};
+use network_layout::triple_disjoint;
 use report::Shortfall;
 use std::alloc::Global;
 use std::marker::Model;
@@ -97,17 +97,6 @@ fn shape_of(alloc: Global, parts: Vec<Part>) -> Result<Shape, NoMemory>
     Ok(Shape::new(parts, links, vocabulary))
 }
 
-// How it is told that an event is in three alphabets.
-fn shared(fault: TripleFault) -> Shortfall
-    ensures { result ≡ shared_by fault }
-{
-    let TripleFault::Shared { event, parts } = fault;
-    Shortfall::NotTripleDisjoint {
-        event,
-        components: parts,
-    }
-}
-
 /// A network of which no event is in three alphabets with its shape, from the parts of its components; or that an event is.
 pub fn make_shape<'a>(alloc: Global, parted: Parted<'a>) -> Result<Shaped<'a>, Stop<Shortfall>>
     ensures network { IfOk result (λ made. made.network ≡ parted.entry.network) }
@@ -115,11 +104,15 @@ pub fn make_shape<'a>(alloc: Global, parted: Parted<'a>) -> Result<Shaped<'a>, S
     ensures told { IfErr result (Tells (ShareEvent parted.entry.network)) }
 {
     let network = parted.network();
-    match triple_disjoint(network.layout()) {
+    match triple_disjoint(alloc, network.layout()) {
         Ok(()) => {
             let shape = shape_of(alloc, parted.into_parts())?;
             Ok(Shaped { network, shape })
         }
-        Err(fault) => Err(Stop::Told(shared(fault))),
+        Err(Stop::NoMemory) => Err(Stop::NoMemory),
+        Err(Stop::Told(fault)) => Err(Stop::Told(Shortfall::NotTripleDisjoint {
+            event: fault.event,
+            components: fault.parts,
+        })),
     }
 }

@@ -13,7 +13,7 @@ use csp_base::Stop;
 use csp_program::Program;
 use csp_resolve::{Unresolved, resolve};
 use csp_text::Script;
-use network_layout::{Layout, Seat, Unlaid, layout};
+use network_layout::{Layout, Seat, layout};
 use report::{Answer, Refusal, Side, TextFault, Verdict};
 use std::alloc::Global;
 use std::marker::Model;
@@ -98,8 +98,8 @@ fn seated(alloc: Global, side: Side, program: Boxed<Program>) -> Result<Spelled,
 {
     match layout(alloc, program.get()) {
         Ok(layout) => Ok(Spelled { program, layout }),
-        Err(Unlaid::NoMemory) => Err(Stop::NoMemory),
-        Err(Unlaid::Refused(fault)) => {
+        Err(Stop::NoMemory) => Err(Stop::NoMemory),
+        Err(Stop::Told(fault)) => {
             let verdict = Verdict::Refused(side, Refusal::Network(fault));
             Err(Stop::Told(Answer::Decided(program, verdict)))
         }

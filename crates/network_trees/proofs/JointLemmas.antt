@@ -1,5 +1,7 @@
 -- The alphabets of components together.
-use Rattle.std.proofs.Common.{◌≡◌, ℕ, Bool, true, false, not, ◌||◌, ◌&&◌, Some, None, List, [], ◌∷◌, refl, ap, sym, ◌∙◌}
+use Rattle.std.proofs.Common.{◌≡◌, ℕ, false, not, ◌||◌, ◌&&◌, Some, None, List, [], ◌∷◌, refl, ap, sym, ◌∙◌, arith}
+use Rattle.std.proofs.lemmas.Bool.Decides.{nat_tests}
+use Rattle.std.proofs.lemmas.Grind.{common_steps}
 use Rattle.std.specs.Prelude.{Option}
 use Rattle.csp_base.specs.Events.{has, diff_of}
 use Rattle.csp_base.proofs.SetLaws.{has-diff_of, has-union_of}
@@ -15,22 +17,14 @@ no_lesser None y h = (refl, h)
 no_lesser (Some e) None h = absurd cc
 no_lesser (Some e) (Some d) h = absurd cc
 
-pub no_first : (xs : List ℕ) → first_event xs ≡ None → xs ≡ []
-no_first [] h = refl
-no_first (x ∷ xs) h = absurd cc
-
 -- no event of the first is missing in the second
 none_missing : (xs ys : List ℕ) (e : ℕ) → first_event (diff_of xs ys) ≡ None → (has xs e && not (has ys e)) ≡ false
-none_missing xs ys e h = sym (has-diff_of xs ys e) ∙ ap (λ zs. has zs e) (no_first (diff_of xs ys) h)
-
-both_ways : (a b : Bool) → (a && not b) ≡ false → (b && not a) ≡ false → a ≡ b
-both_ways true true h g = refl
-both_ways false false h g = refl
-both_ways true false h g = absurd cc
-both_ways false true h g = absurd cc
+none_missing xs ys e h = let none : has (diff_of xs ys) e ≡ false = grind (arith, common_steps) in sym (has-diff_of xs ys e) ∙ none
 
 -- where no event is odd, the sets have the same members
 pub same_members : (xs ys : List ℕ) → odd_event xs ys ≡ None → (e : ℕ) → has xs e ≡ has ys e
 same_members xs ys h e =
     let none = no_lesser (first_event (diff_of xs ys)) (first_event (diff_of ys xs)) h in
-    both_ways (has xs e) (has ys e) (none_missing xs ys e none.0) (none_missing ys xs e none.1)
+    let one = none_missing xs ys e none.0 in
+    let other = none_missing ys xs e none.1 in
+    grind (arith, nat_tests)

@@ -1,6 +1,6 @@
 -- The sets that a program tells of a component. They are told of a component whose process is a call of an annotated process, and are taken with the
 -- values of the arguments of that call. Of any other component, as one whose process is an `if` or calls an annotated one later, nothing is told.
-use Rattle.std.specs.Prelude.{◌≡◌, ◌<◌, ℕ, true, false, nat_eq, Option, Some, None, Ok, Err, List, [], slice_get}
+use Rattle.std.specs.Prelude.{◌≡◌, ℕ, true, false, nat_eq, Option, Some, None, Ok, Err, List, [], slice_get, take}
 use Rattle.std.specs.List.{find}
 use Rattle.csp_program.specs.Prelude.{Outcome, and_then}
 use Rattle.csp_program.specs.declared.expressions.Expr.{Expr}
@@ -12,7 +12,7 @@ use Rattle.csp_program.specs.declared.programs.Content.{Content}
 use Rattle.csp_program.specs.declared.programs.ResourceNote.{ResourceNote}
 use Rattle.csp_program.specs.declared.programs.RolesNote.{RolesNote}
 use Rattle.csp_tables.specs.Prelude.{Component, RoleSets, UseSets}
-use Rattle.process_steps.specs.Needed.{events_in}
+use Rattle.process_steps.specs.Needed.{all_outcomes, events_in}
 use Rattle.csp_program.specs.declared.expressions.Expr.TheVariants as expr
 
 -- what is told of the process with this number
@@ -63,9 +63,9 @@ component_roles p c = roles_of_call p (call_of c.term)
 abbrev pub component_uses : Content → Component Proc → Outcome UseSets
 component_uses p c = uses_of_call p (call_of c.term)
 
--- Of the component in this place something is told that has no value, for this reason; of each component before it, all has.
+-- Of the component in this place something is told that has no value, for this reason; what is told of those before it has values.
 pub record IsFirstWithout {A : Type 0} (told : Component Proc → Outcome A) (components : List (Component Proc)) (part : ℕ) (why : ValueKind) : Type 0 where
   pub component : Component Proc
   pub stands : slice_get components part ≡ Some component
   pub lacks : told component ≡ Err why
-  pub first : (i : ℕ) (c : Component Proc) → i < part → slice_get components i ≡ Some c → (a : A) × (told c ≡ Ok a)
+  pub before : (told_before : List A) × (all_outcomes told (take part components) ≡ Ok told_before)

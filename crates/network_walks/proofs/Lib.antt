@@ -6,6 +6,5 @@ pub mod One
 pub mod Ordered
 pub mod Rows
 pub mod Runs
-pub mod Shapes
 pub mod Status
 pub mod Telling

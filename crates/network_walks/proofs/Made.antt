@@ -1,6 +1,7 @@
 -- Components with their tables, one after another, as a walk by numbers sees them.
-use Rattle.std.proofs.Common.{◌≡◌, ℕ, zero, suc, ◌+◌, ◌<◌, ◌≤◌, List, [], ◌∷◌, ◌++◌, length, take, get_or, refl, sym, ap, ap₂, ◌∙◌, add-one, arith}
-use Rattle.std.proofs.lemmas.List.{take_all}
+use Rattle.std.proofs.Common.{◌≡◌, ℕ, zero, suc, ◌+◌, ◌<◌, ◌≤◌, List, [], ◌∷◌, ◌++◌, length, drop, get_or, refl, sym, ap, ap₂, ◌∙◌, append_assoc, arith}
+use Rattle.csp_base.proofs.Standard.{append-nil, drop_all}
+use Rattle.csp_base.proofs.Lists.{drop_read}
 use Rattle.csp_program.specs.declared.processes.Proc.{Proc}
 use Rattle.csp_program.specs.declared.programs.Content.{Content}
 use Rattle.csp_steps.specs.Order.{AreTargets}
@@ -20,25 +21,18 @@ pub owns : (p : Content) (c : Component Proc) (t : ComponentTable) → HasTable 
 owns p c t has m e n step = (has.1.table.table.sound m n (visible e) step).step.1
 
 -- ---- while they are put together
-numbered_more : (cs : List (Component Proc)) (ts : List ComponentTable) (i : ℕ) (c : Component Proc) (t : ComponentTable) → i < length cs → i < length ts → c ≡ get_or cs i c → t ≡ get_or ts i t
-    → numbered (take (suc i) cs) (take (suc i) ts) ≡ numbered (take i cs) (take i ts) ++ one_numbered c t ∷ []
-numbered_more [] ts i c t below within is has = absurd (omega (arith, below))
-numbered_more (d ∷ cs) [] i c t below within is has = absurd (omega (arith, within))
-numbered_more (d ∷ cs) (u ∷ ts) zero c t below within is has = ap₂ (λ (x : Component Proc) (y : ComponentTable). one_numbered x y ∷ []) (sym is) (sym has)
-numbered_more (d ∷ cs) (u ∷ ts) (suc i) c t below within is has =
-    ap (λ (ns : List Numbered). one_numbered d u ∷ ns) (numbered_more cs ts i c t (omega (arith, below)) (omega (arith, within)) is has)
-
 module _ (p : Content) (cs : List (Component Proc)) (ts : List ComponentTable) (are : AreTablesOf p cs ts) where
-  pub one_made : (old new : List Numbered) (i : ℕ) (c : Component Proc) (t : ComponentTable) (n : Numbered) → old ≡ numbered (take i cs) (take i ts) → i < length cs → c ≡ get_or cs i c → t ≡ get_or ts i t
-      → n ≡ one_numbered c t → new ≡ old ++ n ∷ [] → new ≡ numbered (take (i + 1) cs) (take (i + 1) ts)
+  pub one_made : (old new : List Numbered) (i : ℕ) (c : Component Proc) (t : ComponentTable) (n : Numbered) → old ++ numbered (drop i cs) (drop i ts) ≡ numbered cs ts → i < length cs → c ≡ get_or cs i c
+      → t ≡ get_or ts i t → n ≡ one_numbered c t → new ≡ old ++ n ∷ [] → new ++ numbered (drop (i + 1) cs) (drop (i + 1) ts) ≡ numbered cs ts
   one_made old new i c t n so_far below is has made grew =
       let many : length cs ≡ length ts = as_many p whole_room cs ts are in
-      rw (add-one) (grew ∙ ap₂ (λ (a : List Numbered) (b : Numbered). a ++ b ∷ []) so_far made ∙ sym (numbered_more cs ts i c t below (omega (arith, many, below)) is has))
+      let left = numbered (drop (i + 1) cs) (drop (i + 1) ts) in
+      ap (λ (ns : List Numbered). ns ++ left) (grew ∙ ap (λ (k : Numbered). old ++ k ∷ []) made) ∙ append_assoc old (one_numbered c t ∷ []) left
+      ∙ ap (λ (ns : List Numbered). old ++ ns) (sym (ap₂ numbered (drop_read cs i c below is) (drop_read ts i t (omega (arith, many, below)) has))) ∙ so_far
 
-  pub all_made : (made : List Numbered) (i : ℕ) → made ≡ numbered (take i cs) (take i ts) → length cs ≤ i → made ≡ numbered cs ts
+  pub all_made : (made : List Numbered) (i : ℕ) → made ++ numbered (drop i cs) (drop i ts) ≡ numbered cs ts → length cs ≤ i → made ≡ numbered cs ts
   all_made made i so_far at_end =
-      let many : length cs ≡ length ts = as_many p whole_room cs ts are in
-      so_far ∙ ap₂ numbered (take_all i cs at_end) (take_all i ts (omega (arith, many, at_end)))
+      sym (append-nil made) ∙ sym (ap (λ (ds : List (Component Proc)). made ++ numbered ds (drop i ts)) (drop_all i cs at_end)) ∙ so_far
 
 pub as_few : (cs : List (Component Proc)) (ts : List ComponentTable) → length (numbered cs ts) ≤ length cs
 as_few [] ts = omega arith

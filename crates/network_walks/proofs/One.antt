@@ -11,7 +11,7 @@ use Rattle.network_walks.specs.Draws.{AreDrawn, DrawsTarget}
 use Rattle.network_walks.specs.Laws.{AreOneWalk, TheWalkIsOne}
 use Rattle.network_walks.specs.Moves.{Goes, Has}
 use Rattle.network_walks.proofs.Runs.{step_of}
-use Rattle.network_walks.proofs.Shapes.{same_network, step_shape}
+use Rattle.net_sound.proofs.Shape.{steps_are_told}
 
 -- ---- the options are one list
 not_before : (m : Move) → IsBefore m m → ⊥
@@ -104,7 +104,7 @@ module _ {T : Type 0} (Step : T → Label → T → Type 0) (Targets : T → Lab
   one_next : (t u v : Tree T) (y z w : ℕ) (m : Move) → Goes Step Targets t y m u z → Goes Step Targets t y m v w → (u ≡ v) × (z ≡ w)
   one_next t u v y z w m one other =
       let r = all_go m 0 y z w (leaves t) (leaves u) (leaves v) one.draws other.draws in
-      (same_network t u v (step_shape Step t (label m) u (step_of Step t m u one.takes)) (step_shape Step t (label m) v (step_of Step t m v other.takes)) r.0, r.1)
+      (steps_are_told Step t u v (label m) (label m) (step_of Step t m u one.takes) (step_of Step t m v other.takes) r.0, r.1)
 
   -- ---- walks
   -- there is no more to come: all steps are taken, or there is no option

@@ -1,6 +1,7 @@
 -- Targets by the numbers of terms and the terms themselves: where a table has the targets in order, what is drawn by number is drawn by term.
 use Rattle.std.proofs.Common.{◌≡◌, ℕ, zero, suc, ◌+◌, inl, inr, Bool, true, nat_eq, MatchBool, List, [], ◌∷◌, length, map, slice_get, Some, refl, sym, ap, subst, ◌∙◌, arith}
-use Rattle.csp_base.proofs.Standard.{MatchBool-at_false, MatchBool-at_true, cases_Bool, eqb-true, length-map, none-some, same_Some}
+use Rattle.csp_base.specs.Standard.{option_map}
+use Rattle.csp_base.proofs.Standard.{MatchBool-at_false, MatchBool-at_true, cases_Bool, eqb-true, length-map, none-some, same_Some, slice_get-map}
 use Rattle.csp_base.specs.Members.{has}
 use Rattle.csp_tables.specs.Prelude.{Label, Component, targets_in}
 use Rattle.local_tables.specs.Component.{IsInside}
@@ -12,11 +13,6 @@ use Rattle.network_walks.specs.Draws.{AreDrawn, DrawsTarget}
 use Rattle.network_walks.proofs.Rows.{Row, Stand, numbered_rows}
 
 -- ---- what stands at a place of a list, and of its image
-map_at : {X Y : Type 0} (f : X → Y) (xs : List X) (k : ℕ) (x : X) → slice_get xs k ≡ Some x → slice_get (map f xs) k ≡ Some (f x)
-map_at f [] k x at = absurd (none-some x at)
-map_at f (y ∷ xs) zero x at = ap (λ z. Some (f z)) (same_Some y x at)
-map_at f (y ∷ xs) (suc k) x at = map_at f xs k x at
-
 some_at : {X : Type 0} (xs : List X) (k : ℕ) (x : X) → slice_get (map (λ (y : X). Some y) xs) k ≡ Some (Some x) → slice_get xs k ≡ Some x
 some_at [] k x at = absurd (none-some (Some x) at)
 some_at (y ∷ xs) zero x at = same_Some (Some y) (Some x) at
@@ -47,7 +43,7 @@ module _ {T : Type 0} (Step : T → Label → T → Type 0) (Targets : T → Lab
   AllInOrder (r ∷ rows) = HasOrder r × AllInOrder rows
 
   there : (terms ts : List T) (ns : List ℕ) (k n : ℕ) (d : T) → map (λ n. slice_get terms n) ns ≡ map (λ t. Some t) ts → slice_get terms n ≡ Some d → slice_get ns k ≡ Some n → slice_get ts k ≡ Some d
-  there terms ts ns k n d same is at = some_at ts k d (sym (ap (λ l. slice_get l k) same) ∙ map_at (λ n. slice_get terms n) ns k n at ∙ ap Some is)
+  there terms ts ns k n d same is at = some_at ts k d (sym (ap (λ l. slice_get l k) same) ∙ slice_get-map (λ n. slice_get terms n) ns k ∙ ap (option_map (λ n. slice_get terms n)) at ∙ ap Some is)
 
   as_many_targets : (terms ts : List T) (ns : List ℕ) → map (λ n. slice_get terms n) ns ≡ map (λ t. Some t) ts → length ns ≡ length ts
   as_many_targets terms ts ns same = sym (length-map ns (λ n. slice_get terms n)) ∙ ap length same ∙ length-map ts (λ t. Some t)

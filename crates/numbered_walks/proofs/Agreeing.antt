@@ -5,7 +5,7 @@ use Rattle.csp_base.proofs.Standard.{cases_eq, eq-eqb, ne_eqb, or_left, or_right
 use Rattle.numbered_walks.proofs.Counting.{none_at}
 use Rattle.csp_base.proofs.Rising.{RisesFrom, has_below, rises_from_increasing}
 use Rattle.csp_base.specs.Members.{has}
-use Rattle.numbered_walks.specs.Agreements.{bit, is_agreed}
+use Rattle.numbered_walks.specs.Prelude.{bit, is_agreed}
 
 -- what is not 0 is within
 pub some_within : (xs : List ℕ) (i : ℕ) → 1 ≤ get_or xs i 0 → i < length xs
@@ -62,41 +62,40 @@ module _ (events left rest : List ℕ) (x : ℕ) (is : left ≡ x ∷ rest) (are
     within = λ e h. are.within e (ap (λ (xs : List ℕ). has xs e) is ∙ or_right (nat_eq x e) (has rest e) h);
   }
 
+  -- a count of this event alone changes, and so does what is left of it
+  one_counted : (old now new : List ℕ) (n : ℕ) (was is_now before after : ℕ → ℕ) → x < length now → new ≡ set now x n → ((e : ℕ) → get_or now e 0 + before e ≡ get_or old e 0 + was e)
+      → n + after x + was x ≡ get_or now x 0 + before x + is_now x → ((e : ℕ) → (e ≡ x → ⊥) → (after e ≡ before e) × (is_now e ≡ was e)) → (e : ℕ) → get_or new e 0 + after e ≡ get_or old e 0 + is_now e
+  one_counted old now new n was is_now before after within grown so_far here others e =
+      let read : get_or new e 0 ≡ get_or (set now x n) e 0 = ap (λ (ns : List ℕ). get_or ns e 0) grown in
+      let held = so_far e in
+      elim (cases_eq e x) as (λ _. get_or new e 0 + after e ≡ get_or old e 0 + is_now e) [
+        | inl same ↦
+            let changed = changed_at now x n e within same in
+            let moved : n + after e + was e ≡ get_or now e 0 + before e + is_now e = subst (λ k. n + after k + was k ≡ get_or now k 0 + before k + is_now k) (sym same) here in
+            omega (arith, read, changed, held, moved)
+        | inr other ↦
+            let kept = get_or-set_other now x e n 0 other in
+            let alike = others e other in
+            let first = alike.0 in
+            let second = alike.1 in
+            omega (arith, read, kept, held, first, second)
+      ]
+
   pub offered_more : (old now new : List ℕ) → x < length now → ((e : ℕ) → get_or now e 0 + bit (has left e) ≡ get_or old e 0 + bit (has events e)) → new ≡ set now x (get_or now x 0 + 1)
       → (e : ℕ) → get_or new e 0 + bit (has rest e) ≡ get_or old e 0 + bit (has events e)
-  offered_more old now new within before grown e =
-      let read : get_or new e 0 ≡ get_or (set now x (get_or now x 0 + 1)) e 0 = ap (λ (ns : List ℕ). get_or ns e 0) grown in
-      let was = before e in
-      elim (cases_eq e x) as (λ _. get_or new e 0 + bit (has rest e) ≡ get_or old e 0 + bit (has events e)) [
-        | inl same ↦
-            let changed = changed_at now x (get_or now x 0 + 1) e within same in
-            let at : get_or now x 0 ≡ get_or now e 0 = ap (λ j. get_or now j 0) (sym same) in
-            let one = here_left e same in
-            let none = here_gone e same in
-            omega (arith, read, changed, at, was, one, none)
-        | inr other ↦
-            let kept = get_or-set_other now x e (get_or now x 0 + 1) 0 other in
-            let alike = others_left e other in
-            omega (arith, read, kept, was, alike)
-      ]
+  offered_more old now new within before grown =
+      let one = here_left x refl in
+      let none = here_gone x refl in
+      one_counted old now new (get_or now x 0 + 1) (λ e. bit (has events e)) (λ e. bit (has events e)) (λ e. bit (has left e)) (λ e. bit (has rest e)) within grown before (omega (arith, one, none))
+      (λ e other. (sym (others_left e other), refl))
 
   pub withdrawn_more : (old now new : List ℕ) → x < length now → 1 ≤ get_or now x 0 → ((e : ℕ) → get_or now e 0 + bit (has events e) ≡ get_or old e 0 + bit (has left e)) → new ≡ set now x (get_or now x 0 - 1)
       → (e : ℕ) → get_or new e 0 + bit (has events e) ≡ get_or old e 0 + bit (has rest e)
-  withdrawn_more old now new within some before grown e =
-      let read : get_or new e 0 ≡ get_or (set now x (get_or now x 0 - 1)) e 0 = ap (λ (ns : List ℕ). get_or ns e 0) grown in
-      let was = before e in
-      elim (cases_eq e x) as (λ _. get_or new e 0 + bit (has events e) ≡ get_or old e 0 + bit (has rest e)) [
-        | inl same ↦
-            let changed = changed_at now x (get_or now x 0 - 1) e within same in
-            let at : get_or now x 0 ≡ get_or now e 0 = ap (λ j. get_or now j 0) (sym same) in
-            let one = here_left e same in
-            let none = here_gone e same in
-            omega (arith, read, changed, at, was, one, none, some)
-        | inr other ↦
-            let kept = get_or-set_other now x e (get_or now x 0 - 1) 0 other in
-            let alike = others_left e other in
-            omega (arith, read, kept, was, alike)
-      ]
+  withdrawn_more old now new within some before grown =
+      let one = here_left x refl in
+      let none = here_gone x refl in
+      one_counted old now new (get_or now x 0 - 1) (λ e. bit (has left e)) (λ e. bit (has rest e)) (λ e. bit (has events e)) (λ e. bit (has events e)) within grown before (omega (arith, one, none, some))
+      (λ e other. (refl, sym (others_left e other)))
 
   pub some_left : (old now : List ℕ) → ((e : ℕ) → bit (has events e) ≤ get_or old e 0) → ((e : ℕ) → get_or now e 0 + bit (has events e) ≡ get_or old e 0 + bit (has left e)) → 1 ≤ get_or now x 0
   some_left old now enough before = let all = enough x in let so_far = before x in let one = here_left x refl in omega (arith, all, so_far, one)

@@ -29,32 +29,23 @@ later test number x xs n p = record { element = p.element; place = suc p.place; 
 
 picks : {X : Type 0} (test : X → Bool) (number : X → ℕ) (xs : List X) (k n : ℕ) → slice_get (picked test number xs) k ≡ Some n → Picks test number xs n
 picks test number [] k n at = absurd (none-some n at)
-picks test number (x ∷ xs) zero n at = elim (cases_Bool (test x)) as (λ _. Picks test number (x ∷ xs) n) [
-  | inl here ↦ record {
-    element = x;
-    place = 0;
-    at = refl;
-    passes = here;
-    gives = same_Some (number x) n (subst (λ (b : Bool). slice_get (cond b (number x ∷ picked test number xs) (picked test number xs)) 0 ≡ Some n) here at);
-  }
-  | inr other ↦ later test number x xs n (picks test number xs 0 n (subst (λ (b : Bool). slice_get (cond b (number x ∷ picked test number xs) (picked test number xs)) 0 ≡ Some n) other at))
-]
-picks test number (x ∷ xs) (suc k) n at = elim (cases_Bool (test x)) as (λ _. Picks test number (x ∷ xs) n) [
-  | inl here ↦ later test number x xs n (picks test number xs k n (subst (λ (b : Bool). slice_get (cond b (number x ∷ picked test number xs) (picked test number xs)) (suc k) ≡ Some n) here at))
-  | inr other ↦ later test number x xs n (picks test number xs (suc k) n (subst (λ (b : Bool). slice_get (cond b (number x ∷ picked test number xs) (picked test number xs)) (suc k) ≡ Some n) other at))
-]
-
-more_picked : {X : Type 0} (test : X → Bool) (number : X → ℕ) (x : X) (xs : List X) → 0 < length (picked test number xs) → 0 < length (picked test number (x ∷ xs))
-more_picked test number x xs some = elim (cases_Bool (test x)) as (λ _. 0 < length (picked test number (x ∷ xs))) [
-  | inl here ↦ subst (λ (b : Bool). 0 < length (cond b (number x ∷ picked test number xs) (picked test number xs))) (sym here) (omega arith)
-  | inr other ↦ subst (λ (b : Bool). 0 < length (cond b (number x ∷ picked test number xs) (picked test number xs))) (sym other) some
-]
+picks test number (x ∷ xs) k n at = first (test x) refl k at (λ j there. picks test number xs j n there)
+  where
+    first : (b : Bool) → test x ≡ b → (j : ℕ) → slice_get (cond b (number x ∷ picked test number xs) (picked test number xs)) j ≡ Some n
+        → ((i : ℕ) → slice_get (picked test number xs) i ≡ Some n → Picks test number xs n) → Picks test number (x ∷ xs) n
+    first true here zero there rest = record { element = x; place = 0; at = refl; passes = here; gives = same_Some (number x) n there }
+    first true here (suc j) there rest = later test number x xs n (rest j there)
+    first false other j there rest = later test number x xs n (rest j there)
 
 some_picked : {X : Type 0} (test : X → Bool) (number : X → ℕ) (xs : List X) (k : ℕ) (x : X) → slice_get xs k ≡ Some x → test x ≡ true → 0 < length (picked test number xs)
 some_picked test number [] k x at passes = absurd (none-some x at)
 some_picked test number (y ∷ xs) zero x at passes =
     subst (λ (b : Bool). 0 < length (cond b (number y ∷ picked test number xs) (picked test number xs))) (sym (ap test (same_Some y x at) ∙ passes)) (omega arith)
-some_picked test number (y ∷ xs) (suc k) x at passes = more_picked test number y xs (some_picked test number xs k x at passes)
+some_picked test number (y ∷ xs) (suc k) x at passes = more (test y) (some_picked test number xs k x at passes)
+  where
+    more : (b : Bool) → 0 < length (picked test number xs) → 0 < length (cond b (number y ∷ picked test number xs) (picked test number xs))
+    more true some = omega arith
+    more false some = some
 
 -- ---- targets are steps
 pub target_steps : (raw : RawTable) (m : ℕ) (l : Label) (k n : ℕ) → slice_get (targets_in raw m l) k ≡ Some n → RawStep raw m l n

@@ -48,7 +48,7 @@ owner_counts e [] i below h = absurd (omega (arith, below))
 owner_counts e (c ∷ cs) zero below h = let one : bit (has c.alphabet e) ≡ 1 = ap bit h in omega (arith, one)
 owner_counts e (c ∷ cs) (suc i) below h = let rest = owner_counts e cs i (omega (arith, below)) h in omega (arith, rest)
 
-some_owner : (e : ℕ) (cs : List Numbered) → has_owner cs e ≡ true → 1 ≤ owner_count e cs
+pub some_owner : (e : ℕ) (cs : List Numbered) → has_owner cs e ≡ true → 1 ≤ owner_count e cs
 some_owner e [] h = absurd (false≢true h)
 some_owner e (c ∷ cs) h = elim (or_cases (has c.alphabet e) (has_owner cs e) h) [
   | inl first ↦ let one : bit (has c.alphabet e) ≡ 1 = ap bit first in omega (arith, one)

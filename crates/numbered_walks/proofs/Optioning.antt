@@ -1,6 +1,7 @@
 -- The marked components and the marked events are the options of a state, in their order.
 use Rattle.std.proofs.Common.{◌≡◌, ◌↔◌, ℕ, zero, suc, ◌+◌, ◌-◌, ◌<◌, ◌≤◌, ◌⊎◌, inl, inr, Bool, true, false, List, [], ◌∷◌, ◌++◌, length, map, take, get_or, slice_get, Some, refl, sym, ap, subst, ◌∙◌, arith}
-use Rattle.csp_base.proofs.Standard.{none-some, same_Some, length-append, length-map}
+use Rattle.csp_base.specs.Standard.{option_map}
+use Rattle.csp_base.proofs.Standard.{none-some, same_Some, length-append, length-map, slice_get-map, slice_get_within}
 use Rattle.containers.proofs.MembersLemmas.{slice_get-append_left}
 use Rattle.numbered_walks.proofs.Places.{as_many, marked_is, place_of_mark, places_rise}
 use Rattle.numbered_walks.specs.Prelude.{mark_count, marked, AreOptions, IsBefore, options, HasNone}
@@ -8,51 +9,38 @@ use Rattle.numbered_walks.specs.declared.moves.Move.{Move}
 use Rattle.csp_base.specs.Lists.{StandsIn}
 use Rattle.numbered_walks.specs.declared.moves.Move.TheVariants as move
 
-pub back_at : {X : Type 0} (xs ys : List X) (k : ℕ) (v : X) → slice_get ys k ≡ Some v → slice_get (xs ++ ys) (length xs + k) ≡ Some v
+back_at : {X : Type 0} (xs ys : List X) (k : ℕ) (v : X) → slice_get ys k ≡ Some v → slice_get (xs ++ ys) (length xs + k) ≡ Some v
 back_at [] ys k v at = let place : k ≡ 0 + k = omega arith in subst (λ j. slice_get ys j ≡ Some v) place at
 back_at (x ∷ xs) ys k v at = let place : suc (length xs + k) ≡ suc (length xs) + k = omega arith in subst (λ j. slice_get (x ∷ xs ++ ys) j ≡ Some v) place (back_at xs ys k v at)
 
-pub mapped_at : {X Y : Type 0} (f : X → Y) (xs : List X) (k : ℕ) (v : X) → slice_get xs k ≡ Some v → slice_get (map f xs) k ≡ Some (f v)
-mapped_at f [] k v at = absurd (none-some v at)
-mapped_at f (x ∷ xs) zero v at = ap Some (ap f (same_Some x v at))
-mapped_at f (x ∷ xs) (suc k) v at = mapped_at f xs k v at
+mapped_at : {X Y : Type 0} (f : X → Y) (xs : List X) (k : ℕ) (v : X) → slice_get xs k ≡ Some v → slice_get (map f xs) k ≡ Some (f v)
+mapped_at f xs k v at = slice_get-map f xs k ∙ ap (option_map f) at
 
--- where a value of two lists stands
-pub record InFront {X : Type 0} (xs : List X) (k : ℕ) (v : X) : Type 0 where
-  pub at : slice_get xs k ≡ Some v
+-- a value of two lists stands in one of them
+record InBack {X : Type 0} (xs ys : List X) (k : ℕ) (v : X) : Type 0 where
+  place : ℕ
+  is : k ≡ length xs + place
+  at : slice_get ys place ≡ Some v
 
-pub record InBack {X : Type 0} (xs ys : List X) (k : ℕ) (v : X) : Type 0 where
-  pub place : ℕ
-  pub is : k ≡ length xs + place
-  pub at : slice_get ys place ≡ Some v
-
-split_at : {X : Type 0} (xs ys : List X) (k : ℕ) (v : X) → slice_get (xs ++ ys) k ≡ Some v → InFront xs k v ⊎ InBack xs ys k v
+split_at : {X : Type 0} (xs ys : List X) (k : ℕ) (v : X) → slice_get (xs ++ ys) k ≡ Some v → (slice_get xs k ≡ Some v) ⊎ InBack xs ys k v
 split_at [] ys k v at = inr (record { place = k; is = omega arith; at = at })
-split_at (x ∷ xs) ys zero v at = inl (record { at = at })
+split_at (x ∷ xs) ys zero v at = inl at
 split_at (x ∷ xs) ys (suc k) v at = elim (split_at xs ys k v at) [
-  | inl front ↦ inl (record { at = front.at })
+  | inl front ↦ inl front
   | inr back ↦ inr (record { place = back.place; is = (let is = back.is in omega (arith, is)); at = back.at })
 ]
 
-pub record Mapped {X Y : Type 0} (f : X → Y) (xs : List X) (k : ℕ) (v : Y) : Type 0 where
-  pub value : X
-  pub at : slice_get xs k ≡ Some value
-  pub is : f value ≡ v
+record Mapped {X Y : Type 0} (f : X → Y) (xs : List X) (k : ℕ) (v : Y) : Type 0 where
+  value : X
+  at : slice_get xs k ≡ Some value
+  is : f value ≡ v
 
 mapped_from : {X Y : Type 0} (f : X → Y) (xs : List X) (k : ℕ) (v : Y) → slice_get (map f xs) k ≡ Some v → Mapped f xs k v
 mapped_from f [] k v at = absurd (none-some v at)
 mapped_from f (x ∷ xs) zero v at = record { value = x; at = refl; is = same_Some (f x) v at }
 mapped_from f (x ∷ xs) (suc k) v at = let rest = mapped_from f xs k v at in record { value = rest.value; at = rest.at; is = rest.is }
 
-place_below : {X : Type 0} (xs : List X) (k : ℕ) (v : X) → slice_get xs k ≡ Some v → k < length xs
-place_below [] k v at = absurd (none-some v at)
-place_below (x ∷ xs) zero v at = omega arith
-place_below (x ∷ xs) (suc k) v at = let rest = place_below xs k v at in omega (arith, rest)
-
 module _ (restless agreed : List Bool) where
-  silently : ℕ → Move
-  silently i = move.Silent i
-
   abbrev silents : List Move
   silents = map (λ i. move.Silent i) (marked restless)
 
@@ -80,7 +68,7 @@ module _ (restless agreed : List Bool) where
   module _ (Has : Move → Type 0) (silent : (i : ℕ) → (get_or restless i false ≡ true) ↔ Has (move.Silent i)) (event : (e : ℕ) → (get_or agreed e false ≡ true) ↔ Has (move.Event e)) where
     sound : (m : Move) (k : ℕ) → slice_get (options restless agreed) k ≡ Some m → Has m
     sound m k at = elim (split_at silents events k m at) [
-      | inl front ↦ let from = mapped_from (λ i. move.Silent i) (marked restless) k m front.at in subst Has from.is ((silent from.value).0 (marked_is restless k from.value from.at))
+      | inl front ↦ let from = mapped_from (λ i. move.Silent i) (marked restless) k m front in subst Has from.is ((silent from.value).0 (marked_is restless k from.value from.at))
       | inr back ↦ let from = mapped_from (λ e. move.Event e) (marked agreed) back.place m back.at in subst Has from.is ((event from.value).0 (marked_is agreed back.place from.value from.at))
     ]
 
@@ -94,16 +82,16 @@ module _ (restless agreed : List Bool) where
     order j k m n less at there = elim (split_at silents events j m at) [
       | inl front ↦ elim (split_at silents events k n there) [
         | inl front-2 ↦
-            let from = mapped_from (λ i. move.Silent i) (marked restless) j m front.at in
-            let to = mapped_from (λ i. move.Silent i) (marked restless) k n front-2.at in
+            let from = mapped_from (λ i. move.Silent i) (marked restless) j m front in
+            let to = mapped_from (λ i. move.Silent i) (marked restless) k n front-2 in
             subst (λ (x : Move). IsBefore x n) from.is (subst (λ (y : Move). IsBefore (move.Silent from.value) y) to.is (places_rise 0 restless j k from.value to.value less from.at to.at))
         | inr back ↦
-            let from = mapped_from (λ i. move.Silent i) (marked restless) j m front.at in
+            let from = mapped_from (λ i. move.Silent i) (marked restless) j m front in
             let to = mapped_from (λ e. move.Event e) (marked agreed) back.place n back.at in
             subst (λ (x : Move). IsBefore x n) from.is (subst (λ (y : Move). IsBefore (move.Silent from.value) y) to.is tt)
       ]
       | inr back ↦ elim (split_at silents events k n there) [
-        | inl front ↦ absurd (let low = back.is in let high = place_below silents k n front.at in omega (arith, low, high, less))
+        | inl front ↦ absurd (let low = back.is in let high = slice_get_within silents k n front in omega (arith, low, high, less))
         | inr back-2 ↦
             let from = mapped_from (λ e. move.Event e) (marked agreed) back.place m back.at in
             let to = mapped_from (λ e. move.Event e) (marked agreed) back-2.place n back-2.at in
@@ -121,7 +109,7 @@ module _ (restless agreed : List Bool) where
     pub none_counted : mark_count restless + mark_count agreed ≡ 0 → HasNone Has
     none_counted none m h =
         let at = complete m h in
-        let below = place_below (options restless agreed) at.0 m at.1 in
+        let below = slice_get_within (options restless agreed) at.0 m at.1 in
         let all = option_count in
         omega (arith, none, below, all)
 

@@ -1,50 +1,22 @@
 -- Components that move, one after another.
-use Rattle.std.proofs.Common.{◌≡◌, ◌↔◌, ℕ, zero, suc, ◌+◌, ◌<◌, ◌≤◌, inl, inr, Bool, true, false, ◌||◌, nat_eq, IsTrue, MatchBool, List, [], ◌∷◌, length, replicate, take, set, get_or, slice_get, Some, Result, Ok, Err, refl, sym, ap, subst, ◌∙◌, arith}
-use Rattle.std.specs.Result.{OnOk}
-use Rattle.csp_base.proofs.Standard.{cases_Bool, cases_eq, eq-eqb, eqb-true, false≢true, ne_eqb, or_cases, or_left, or_right, get_or-set_other, get_or-set_same, length-replicate, length-set, length-take, list_any_more, none-some, same_Some}
+use Rattle.std.proofs.Common.{◌≡◌, ◌↔◌, ℕ, zero, suc, ◌+◌, ◌<◌, ◌≤◌, inl, inr, Bool, true, false, ◌||◌, nat_eq, IsTrue, MatchBool, List, [], ◌∷◌, length, map, replicate, take, drop, set, get_or, Some, refl, sym, ap, subst, ◌∙◌, arith}
+use Rattle.csp_base.proofs.Standard.{cases_eq, eq-eqb, eqb-true, false≢true, ne_eqb, or_left, or_right, get_or-set_other, get_or-set_same, length-replicate, length-set, length-take, get_or_default, get_or_from_slice_get, slice_get-get_or, slice_get_within, drop_all, length-map}
 use Rattle.acceptances.proofs.Terms.{offers_by_test, unstable_by_step}
 use Rattle.acceptances.specs.OfferTests.{can_do, is_unstable}
-use Rattle.numbered_walks.proofs.Places.{marked_is, place_of_mark, places_rise, mark_within}
-use Rattle.numbered_walks.specs.Prelude.{marked, places_from, AreOwnerRows, IsAgreement, IsStanding, bit, component_at, is_agreed, offer_count, owner_count, owner_marks, AllCan, AllDo, AllDraw, Can, Goes, Has, Numbered, OneCan, OwnsItsSteps, first_terms, has_owner, AllGo, Does}
+use Rattle.numbered_walks.proofs.Places.{mark_within}
+use Rattle.numbered_walks.specs.Prelude.{marked, places_from, AreOwnerRows, IsAgreement, IsStanding, bit, component_at, is_agreed, offer_count, owner_count, owner_marks, AllCan, AllDo, AllDraw, Can, Goes, Has, Numbered, OneCan, OwnsItsSteps, first_terms, has_owner, AllGo, AllGoOn, Does, GoesOn, IsDrawn}
 use Rattle.numbered_walks.specs.declared.standing.Standing.{Standing}
-use Rattle.csp_base.proofs.Booleans.{same_tests, or_unless}
+use Rattle.csp_base.proofs.Lists.{drop_read}
+use Rattle.csp_base.proofs.Rising.{RisesFrom, RisesFrom-weaken, has_below}
 use Rattle.csp_base.specs.Members.{has}
 use Rattle.csp_tables.proofs.Listed.{passing}
-use Rattle.csp_tables.specs.Prelude.{silent, visible, RawStep, RawTable}
+use Rattle.csp_tables.specs.Prelude.{silent, visible, RawStep, RawTable, targets_in}
 use Rattle.numbered_walks.proofs.Agreeing.{some_within}
-use Rattle.numbered_walks.proofs.Drawing.{all_drawn, one_drawn}
+use Rattle.numbered_walks.proofs.Drawing.{all_drawn, drawn_steps, one_drawn}
+use Rattle.numbered_walks.proofs.Owning.{owner_counts_are}
 use Rattle.numbered_walks.proofs.Counting.{none_at}
-use Rattle.numbered_walks.proofs.Offering.{agreed_can, at_most_all, can_agreed, count_set, front_most, one_first, one_of_all, owner_counts}
+use Rattle.numbered_walks.proofs.Offering.{agreed_can, at_most_all, can_agreed, count_set, front_most, one_first, one_of_all, owner_counts, some_owner}
 use Rattle.numbered_walks.specs.declared.moves.Move.TheVariants as move
-
-match_false : (b : Bool) (P Q : Type 0) → b ≡ false → MatchBool b P Q → Q
-match_false b P Q is h = subst (λ (c : Bool). MatchBool c P Q) is h
-
--- ---- the component in a place
-pub component_is : (cs : List Numbered) (i : ℕ) (c : Numbered) → slice_get cs i ≡ Some c → component_at cs i ≡ c
-component_is [] i c at = absurd (none-some c at)
-component_is (d ∷ cs) zero c at = same_Some d c at
-component_is (d ∷ cs) (suc i) c at = component_is cs i c at
-
-pub term_is : (xs : List ℕ) (i x : ℕ) → slice_get xs i ≡ Some x → get_or xs i 0 ≡ x
-term_is [] i x at = absurd (none-some x at)
-term_is (y ∷ xs) zero x at = same_Some y x at
-term_is (y ∷ xs) (suc i) x at = term_is xs i x at
-
-pub component_there : (cs : List Numbered) (i : ℕ) → i < length cs → slice_get cs i ≡ Some (component_at cs i)
-component_there [] i below = absurd (omega (arith, below))
-component_there (d ∷ cs) zero below = refl
-component_there (d ∷ cs) (suc i) below = component_there cs i (omega (arith, below))
-
-pub term_there : (xs : List ℕ) (i : ℕ) → i < length xs → slice_get xs i ≡ Some (get_or xs i 0)
-term_there [] i below = absurd (omega (arith, below))
-term_there (x ∷ xs) zero below = refl
-term_there (x ∷ xs) (suc i) below = term_there xs i (omega (arith, below))
-
-place_below : {X : Type 0} (xs : List X) (k : ℕ) (v : X) → slice_get xs k ≡ Some v → k < length xs
-place_below [] k v at = absurd (none-some v at)
-place_below (x ∷ xs) zero v at = omega arith
-place_below (x ∷ xs) (suc k) v at = let rest = place_below xs k v at in omega (arith, rest)
 
 moves_by_test : (raw : RawTable) (n : ℕ) → is_unstable raw n ≡ true → (t : ℕ) × RawStep raw n silent t
 moves_by_test raw n test =
@@ -63,17 +35,17 @@ module _ (cs : List Numbered) (s : Standing) (is : IsStanding cs s) where
       let same = is.one_each in
       record {
         component = component_at cs i;
-        there = component_there cs i below;
+        there = slice_get-get_or cs i _ below;
         term = get_or s.terms.items i 0;
-        at = term_there s.terms.items i (omega (arith, below, same));
+        at = slice_get-get_or s.terms.items i 0 (omega (arith, below, same));
         can = moves_by_test (component_at cs i).table (get_or s.terms.items i 0) (sym (is.restless i below) ∙ mark);
       }
 
   moves_marked : (i : ℕ) → Has cs s.terms.items (move.Silent i) → get_or s.restless i false ≡ true
   moves_marked i can =
-      let below = place_below cs i can.component can.there in
+      let below = slice_get_within cs i can.component can.there in
       let test = unstable_by_step can.component.table can.term can.can.0 can.can.1 in
-      is.restless i below ∙ ap (λ (c : Numbered). is_unstable c.table (get_or s.terms.items i 0)) (component_is cs i can.component can.there) ∙ ap (is_unstable can.component.table) (term_is s.terms.items i can.term can.at) ∙ test
+      is.restless i below ∙ ap (λ (c : Numbered). is_unstable c.table (get_or s.terms.items i 0)) (get_or_from_slice_get cs i can.component _ can.there) ∙ ap (is_unstable can.component.table) (get_or_from_slice_get s.terms.items i can.term 0 can.at) ∙ test
 
   pub silent_marks : (i : ℕ) → (get_or s.restless i false ≡ true) ↔ Has cs s.terms.items (move.Silent i)
   silent_marks i = (marked_moves i, moves_marked i)
@@ -155,130 +127,108 @@ pub offers_there : (cs : List Numbered) (i : ℕ) (d : Numbered) (n x : ℕ) (ev
 offers_there cs i d n x events same term offers e = offers e ∙ ap (λ (c : Numbered). can_do c.table n e) (sym same) ∙ ap (λ m. can_do (component_at cs i).table m e) term
 
 -- ---- each owner of an event does it
--- the components in these places have done the event, and the others stay
-abbrev pub AreDone : List Numbered → ℕ → List ℕ → List ℕ → List ℕ → Type 0
-AreDone cs e places xs now = (i : ℕ) → i < length cs → MatchBool (has places i) (RawStep (component_at cs i).table (get_or xs i 0) (visible e) (get_or now i 0)) (get_or now i 0 ≡ get_or xs i 0)
+-- the components in these places can do the event where they stand
+abbrev pub AreReady : List Numbered → ℕ → List ℕ → List ℕ → Type 0
+AreReady cs e places now = (i : ℕ) → has places i ≡ true → (i < length cs) × Can (visible e) (component_at cs i) (get_or now i 0)
 
-pub none_done : (cs : List Numbered) (e : ℕ) (xs now : List ℕ) → now ≡ xs → AreDone cs e [] xs now
-none_done cs e xs now same i below = ap (λ (ns : List ℕ). get_or ns i 0) same
+-- a place is among the marked ones where it has a mark
+marked_rise : (k : ℕ) (ms : List Bool) → RisesFrom k (places_from k ms)
+marked_rise k [] = tt
+marked_rise k (true ∷ ms) = (omega arith, marked_rise (k + 1) ms)
+marked_rise k (false ∷ ms) = RisesFrom-weaken k (k + 1) (places_from (k + 1) ms) (omega arith) (marked_rise (k + 1) ms)
 
-module _ (cs : List Numbered) (e : ℕ) (places xs now next : List ℕ) (k i : ℕ) (inside : k < length places) (is : i ≡ get_or places k 0) (rise : (a b m n : ℕ) → a < b → slice_get places a ≡ Some m → slice_get places b ≡ Some n → m < n) where
-  here : slice_get places k ≡ Some i
-  here = term_there places k inside ∙ ap Some (sym is)
+has_marked : (k : ℕ) (ms : List Bool) (j p : ℕ) → p ≡ k + j → has (places_from k ms) p ≡ get_or ms j false
+has_marked k [] j p at = refl
+has_marked k (true ∷ ms) zero p at = or_left (nat_eq k p) (has (places_from (k + 1) ms) p) (eq-eqb k p (omega (arith, at)))
+has_marked k (true ∷ ms) (suc j) p at =
+    ap (λ (b : Bool). b || has (places_from (k + 1) ms) p) (ne_eqb k p (λ e. omega (arith, e, at))) ∙ has_marked (k + 1) ms j p (omega (arith, at))
+has_marked k (false ∷ ms) zero p at = has_below (k + 1) (places_from (k + 1) ms) p (marked_rise (k + 1) ms) (omega (arith, at))
+has_marked k (false ∷ ms) (suc j) p at = has_marked (k + 1) ms j p (omega (arith, at))
 
-  -- none of those before is this one
-  earlier : (n : ℕ) (ps : List ℕ) (j : ℕ) → has (take n ps) j ≡ true → (a : ℕ) × (a < n) × (slice_get ps a ≡ Some j)
-  earlier zero ps j h = absurd (false≢true h)
-  earlier (suc n) [] j h = absurd (false≢true h)
-  earlier (suc n) (p ∷ ps) j h = elim (or_cases (nat_eq p j) (has (take n ps) j) h) [
-    | inl first ↦ (0, omega arith, ap Some (eqb-true p j first))
-    | inr rest ↦ let r = earlier n ps j rest in let less : r.0 < n = r.1 in (suc r.0, omega (arith, less), r.2)
-  ]
+owner_can : (e : ℕ) (cs : List Numbered) (xs : List ℕ) (i : ℕ) → AllCan e cs xs → get_or (owner_marks e cs) i false ≡ true → (i < length cs) × Can (visible e) (component_at cs i) (get_or xs i 0)
+owner_can e [] xs i can h = absurd (false≢true h)
+owner_can e (c ∷ cs) [] i can h = absurd can
+owner_can e (c ∷ cs) (x ∷ xs) zero can h = (omega arith, can.0 h)
+owner_can e (c ∷ cs) (x ∷ xs) (suc i) can h = let rest = owner_can e cs xs i can.1 h in let below = rest.0 in (omega (arith, below), rest.1)
 
-  pub not_before : has (take k places) i ≡ false
-  not_before = elim (cases_Bool (has (take k places) i)) [
-    | inl was ↦ absurd (let r = earlier k places i was in let less = rise r.0 k i i r.1 r.2 here in omega (arith, less))
-    | inr was_not ↦ was_not
-  ]
+module _ (cs : List Numbered) (e : ℕ) (places : List ℕ) where
+  -- before the first of them
+  pub all_ready : (xs : List ℕ) → places ≡ marked (owner_marks e cs) → AllCan e cs xs → AreReady cs e places xs
+  all_ready xs are can i h = owner_can e cs xs i can (sym (has_marked 0 (owner_marks e cs) i i (omega arith)) ∙ sym (ap (λ (ps : List ℕ). has ps i) are) ∙ h)
 
-  more : (j : ℕ) → has (take (k + 1) places) j ≡ (has (take k places) j || nat_eq i j)
-  more j = list_any_more (λ (y : ℕ). nat_eq y j) places k 0 inside ∙ ap (λ (y : ℕ). has (take k places) j || nat_eq y j) (sym is)
+  pub owners_rise : places ≡ marked (owner_marks e cs) → RisesFrom 0 places
+  owners_rise are = subst (RisesFrom 0) (sym are) (marked_rise 0 (owner_marks e cs))
 
-  pub still_there : AreDone cs e (take k places) xs now → i < length cs → get_or now i 0 ≡ get_or xs i 0
-  still_there done below = match_false (has (take k places) i) _ _ not_before (done i below)
+  module _ (k i : ℕ) (inside : k < length places) (is : i ≡ get_or places k 0) where
+    next_place : drop k places ≡ i ∷ drop (k + 1) places
+    next_place = drop_read places k i inside (is ∙ get_or_default places k 0 i inside)
 
-  pub one_done : AreDone cs e (take k places) xs now → i < length cs → i < length now → (y : ℕ) → RawStep (component_at cs i).table (get_or now i 0) (visible e) y → next ≡ set now i y → AreDone cs e (take (k + 1) places) xs next
-  one_done done below stands y step moved j h = elim (cases_eq j i) as (λ _. MatchBool (has (take (k + 1) places) j) (RawStep (component_at cs j).table (get_or xs j 0) (visible e) (get_or next j 0)) (get_or next j 0 ≡ get_or xs j 0)) [
-    | inl same ↦
-        let now_has : has (take (k + 1) places) j ≡ true = more j ∙ or_right (has (take k places) j) (nat_eq i j) (eq-eqb i j (sym same)) in
-        let at : get_or next i 0 ≡ y = ap (λ (ns : List ℕ). get_or ns i 0) moved ∙ get_or-set_same now i y 0 stands in
-        let this : RawStep (component_at cs i).table (get_or xs i 0) (visible e) (get_or next i 0) = subst (λ n. RawStep (component_at cs i).table (get_or xs i 0) (visible e) n) (sym at) (subst (λ n. RawStep (component_at cs i).table n (visible e) y) (still_there done below) step) in
-        to_true (has (take (k + 1) places) j) _ _ now_has (subst (λ m. RawStep (component_at cs m).table (get_or xs m 0) (visible e) (get_or next m 0)) (sym same) this)
-    | inr other ↦
-        let same_has : has (take k places) j ≡ has (take (k + 1) places) j = sym (more j ∙ or_unless (has (take k places) j) (nat_eq i j) (ne_eqb i j (λ p. other (sym p)))) in
-        let at : get_or now j 0 ≡ get_or next j 0 = sym (ap (λ (ns : List ℕ). get_or ns j 0) moved ∙ get_or-set_other now i j y 0 other) in
-        subst (λ (b : Bool). MatchBool b (RawStep (component_at cs j).table (get_or xs j 0) (visible e) (get_or next j 0)) (get_or next j 0 ≡ get_or xs j 0)) same_has
-        (subst (λ n. MatchBool (has (take k places) j) (RawStep (component_at cs j).table (get_or xs j 0) (visible e) n) (n ≡ get_or xs j 0)) at (done j h))
-  ]
-    where
-      to_true : (b : Bool) (P Q : Type 0) → b ≡ true → P → MatchBool b P Q
-      to_true b P Q is p = subst (λ (c : Bool). MatchBool c P Q) (sym is) p
+    pub this_ready : (now : List ℕ) → AreReady cs e (drop k places) now → (i < length cs) × Can (visible e) (component_at cs i) (get_or now i 0)
+    this_ready now ready = ready i (ap (λ (ps : List ℕ). has ps i) next_place ∙ or_left (nat_eq i i) (has (drop (k + 1) places) i) (eq-eqb i i refl))
 
--- the owners are the marked ones
-pub owners_have : (cs : List Numbered) (e i : ℕ) → i < length cs → has (marked (owner_marks e cs)) i ≡ has (component_at cs i).alphabet e
-owners_have cs e i below = same_tests (has (marked (owner_marks e cs)) i) (has (component_at cs i).alphabet e)
-    (λ h. let r = listed_at (marked (owner_marks e cs)) i h in sym (mark_at cs i below) ∙ marked_is (owner_marks e cs) r.0 i r.1)
-    (λ h. listed (marked (owner_marks e cs)) _ i (place_of_mark (owner_marks e cs) i (mark_at cs i below ∙ h)))
+    rest_rises : RisesFrom 0 (drop k places) → RisesFrom (i + 1) (drop (k + 1) places)
+    rest_rises rises = (subst (RisesFrom 0) next_place rises).1
+
+    pub others_rise : RisesFrom 0 (drop k places) → RisesFrom 0 (drop (k + 1) places)
+    others_rise rises = RisesFrom-weaken 0 (i + 1) (drop (k + 1) places) (omega arith) (rest_rises rises)
+
+    pub others_ready : (now next : List ℕ) (n : ℕ) → RisesFrom 0 (drop k places) → next ≡ set now i n → AreReady cs e (drop k places) now → AreReady cs e (drop (k + 1) places) next
+    others_ready now next n rises moved ready j h =
+        let none : has (drop (k + 1) places) i ≡ false = has_below (i + 1) (drop (k + 1) places) i (rest_rises rises) (omega arith) in
+        let other : j ≡ i → ⊥ = λ same. false≢true (sym none ∙ ap (has (drop (k + 1) places)) (sym same) ∙ h) in
+        let was = ready j (ap (λ (ps : List ℕ). has ps j) next_place ∙ or_right (nat_eq i j) (has (drop (k + 1) places) j) h) in
+        (was.0, subst (Can (visible e) (component_at cs j)) (sym (ap (λ (ns : List ℕ). get_or ns j 0) moved ∙ get_or-set_other now i j n 0 other)) was.1)
+
+    pub goes_first : (now next ys : List ℕ) (y n w z : ℕ) → IsDrawn (targets_in (component_at cs i).table (get_or now i 0) (visible e)) y n w → next ≡ set now i n
+        → AllGo cs (visible e) (drop (k + 1) places) next w ys z → AllGo cs (visible e) (drop k places) now y ys z
+    goes_first now next ys y n w z drawn moved go =
+        subst (λ (ps : List ℕ). AllGo cs (visible e) ps now y ys z) (sym next_place) (n, w, drawn, subst (λ (us : List ℕ). AllGo cs (visible e) (drop (k + 1) places) us w ys z) moved go)
+
+  -- past the last of them
+  pub all_gone : (k : ℕ) (now : List ℕ) (y : ℕ) → length places ≤ k → AllGo cs (visible e) (drop k places) now y now y
+  all_gone k now y all = subst (λ (ps : List ℕ). AllGo cs (visible e) ps now y now y) (sym (drop_all k places all)) (refl, refl)
+
+-- what is drawn is done
+draws_do : (e k : ℕ) (cs : List Numbered) (xs ys : List ℕ) (y z : ℕ) → AllDraw (move.Event e) k cs y xs ys z → AllDo e cs xs ys
+draws_do e k [] [] [] y z draws = tt
+draws_do e k [] [] (n ∷ ns) y z draws = absurd draws
+draws_do e k [] (x ∷ xs) ys y z draws = absurd draws
+draws_do e k (c ∷ cs) [] ys y z draws = absurd draws
+draws_do e k (c ∷ cs) (x ∷ xs) [] y z draws = absurd draws
+draws_do e k (c ∷ cs) (x ∷ xs) (n ∷ ns) y z draws = (does (has c.alphabet e) draws.1, draws_do e (k + 1) cs xs ns draws.0 z draws.2)
   where
-    mark_at : (ds : List Numbered) (j : ℕ) → j < length ds → get_or (owner_marks e ds) j false ≡ has (component_at ds j).alphabet e
-    mark_at [] j h = absurd (omega (arith, h))
-    mark_at (d ∷ ds) zero h = refl
-    mark_at (d ∷ ds) (suc j) h = mark_at ds j (omega (arith, h))
-
-    listed_at : (ps : List ℕ) (j : ℕ) → has ps j ≡ true → (k : ℕ) × (slice_get ps k ≡ Some j)
-    listed_at [] j h = absurd (false≢true h)
-    listed_at (p ∷ ps) j h = elim (or_cases (nat_eq p j) (has ps j) h) [
-      | inl first ↦ (0, ap Some (eqb-true p j first))
-      | inr rest ↦ let r = listed_at ps j rest in (suc r.0, r.1)
-    ]
-
-    listed : (ps : List ℕ) (k j : ℕ) → slice_get ps k ≡ Some j → has ps j ≡ true
-    listed [] k j at = absurd (none-some j at)
-    listed (p ∷ ps) zero j at = or_left (nat_eq p j) (has ps j) (eq-eqb p j (same_Some p j at))
-    listed (p ∷ ps) (suc k) j at = or_right (nat_eq p j) (has ps j) (listed ps k j at)
-
--- an owner can do what all can
-pub owner_can : (e : ℕ) (cs : List Numbered) (xs : List ℕ) (i : ℕ) → AllCan e cs xs → i < length cs → has (component_at cs i).alphabet e ≡ true → Can (visible e) (component_at cs i) (get_or xs i 0)
-owner_can e [] xs i can below h = absurd (omega (arith, below))
-owner_can e (c ∷ cs) [] i can below h = absurd can
-owner_can e (c ∷ cs) (x ∷ xs) zero can below h = can.0 h
-owner_can e (c ∷ cs) (x ∷ xs) (suc i) can below h = owner_can e cs xs i can.1 (omega (arith, below)) h
-
--- once all owners have done it
-pub all_done : (e : ℕ) (cs : List Numbered) (xs now : List ℕ) → length xs ≡ length cs → length now ≡ length cs
-    → ((i : ℕ) → i < length cs → MatchBool (has (component_at cs i).alphabet e) (RawStep (component_at cs i).table (get_or xs i 0) (visible e) (get_or now i 0)) (get_or now i 0 ≡ get_or xs i 0)) → AllDo e cs xs now
-all_done e [] [] [] same also done = tt
-all_done e [] [] (y ∷ ys) same also done = absurd (omega (arith, also))
-all_done e [] (x ∷ xs) now same also done = absurd (omega (arith, same))
-all_done e (c ∷ cs) [] now same also done = absurd (omega (arith, same))
-all_done e (c ∷ cs) (x ∷ xs) [] same also done = absurd (omega (arith, also))
-all_done e (c ∷ cs) (x ∷ xs) (y ∷ ys) same also done =
-    (turned (has c.alphabet e) _ (done 0 (omega arith)), all_done e cs xs ys (omega (arith, same)) (omega (arith, also)) (λ i h. done (suc i) (omega (arith, h))))
-  where
-    turned : (b : Bool) (P : Type 0) → MatchBool b P (y ≡ x) → MatchBool b P (x ≡ y)
-    turned true P h = h
-    turned false P h = sym h
+    does : (b : Bool) → MatchBool b (IsDrawn (targets_in c.table x (visible e)) y n draws.0) ((x ≡ n) × (y ≡ draws.0)) → MatchBool b (RawStep c.table x (visible e) n) (x ≡ n)
+    does true drawn = drawn_steps c.table x (visible e) y n draws.0 drawn
+    does false stays = stays.0
 
 -- one component has moved silently
-pub one_does : (cs : List Numbered) (xs ys : List ℕ) (i y z : ℕ) → i < length cs → length xs ≡ length cs → Does cs i silent xs y ys z → Goes cs xs y (move.Silent i) ys z
-one_does cs xs ys i y z below same does = record {
+pub one_does : (cs : List Numbered) (old new : Standing) (i : ℕ) → i < length cs → length old.terms.items ≡ length cs → Does cs i silent old new → GoesOn cs (move.Silent i) old new
+one_does cs old new i below same does = record {
   takes = record {
     component = component_at cs i;
-    there = component_there cs i below;
-    term = get_or xs i 0;
-    at = term_there xs i (omega (arith, below, same));
+    there = slice_get-get_or cs i _ below;
+    term = get_or old.terms.items i 0;
+    at = slice_get-get_or old.terms.items i 0 (omega (arith, below, same));
     next = does.next;
-    step = does.step;
+    step = drawn_steps (component_at cs i).table (get_or old.terms.items i 0) silent old.drawn does.next new.drawn does.drawn;
     others = does.others;
   };
-  draws = subst (λ (l : List ℕ). AllDraw (move.Silent i) 0 cs y xs l z) (sym does.others) (one_drawn i 0 i cs xs y does.next z (omega arith) below same does.drawn);
+  draws = subst (λ (l : List ℕ). AllDraw (move.Silent i) 0 cs old.drawn old.terms.items l new.drawn) (sym does.others) (one_drawn i 0 i cs old.terms.items old.drawn does.next new.drawn (omega arith) below same does.drawn);
 }
 
 -- all owners have done an event
-pub all_go : (e : ℕ) (cs : List Numbered) (xs ys places : List ℕ) (y z : ℕ) → IsTrue (has_owner cs e) → length xs ≡ length cs → places ≡ marked (owner_marks e cs) → AllDo e cs xs ys → AllGo cs (visible e) places xs y ys z → Goes cs xs y (move.Event e) ys z
-all_go e cs xs ys places y z owned same are done gone = record {
-  takes = (owned, done);
-  draws = all_drawn e 0 cs xs ys y z same (subst (λ (l : List ℕ). AllGo cs (visible e) l xs y ys z) are gone);
-}
+pub all_go : (e : ℕ) (cs : List Numbered) (places : List ℕ) (old new : Standing) → IsTrue (has_owner cs e) → length old.terms.items ≡ length cs → places ≡ marked (owner_marks e cs) → AllGoOn cs (visible e) places old new
+    → GoesOn cs (move.Event e) old new
+all_go e cs places old new owned same are gone =
+    let draws = all_drawn e 0 cs old.terms.items new.terms.items old.drawn new.drawn same (subst (λ (l : List ℕ). AllGoOn cs (visible e) l old new) are gone) in
+    record { takes = (owned, draws_do e 0 cs old.terms.items new.terms.items old.drawn new.drawn draws); draws = draws }
 
 pub one_within : (cs : List Numbered) (xs : List ℕ) (i : ℕ) → OneCan cs xs i → i < length cs
-one_within cs xs i can = place_below cs i can.component can.there
+one_within cs xs i can = slice_get_within cs i can.component can.there
 
 -- ---- as loops read the components
 pub component_read : (cs : List Numbered) (i : ℕ) (c : Numbered) → i < length cs → c ≡ get_or cs i c → component_at cs i ≡ c
-component_read [] i c below is = absurd (omega (arith, below))
-component_read (d ∷ cs) zero c below is = sym is
-component_read (d ∷ cs) (suc i) c below is = component_read cs i c (omega (arith, below)) is
+component_read cs i c below is = get_or_default cs i _ c below ∙ sym is
 
 -- the components at their first terms
 module _ (cs : List Numbered) (k : ℕ) (c : Numbered) (below : k < length cs) (is : c ≡ get_or cs k c) where
@@ -315,14 +265,9 @@ module _ (cs : List Numbered) (k : ℕ) (c : Numbered) (below : k < length cs) (
       (λ i h. ap (λ (ms : List Bool). get_or ms i false) grown ∙ get_or-set_other old k i (is_unstable c.table 0) false (λ same. omega (arith, same, h)) ∙ before i h)
       (ap (λ (ms : List Bool). get_or ms k false) grown ∙ get_or-set_same old k (is_unstable c.table 0) false (omega (arith, count, below)))
 
-terms_first : (cs : List Numbered) (n : ℕ) → length cs ≡ n → replicate n 0 ≡ first_terms cs
-terms_first [] zero same = refl
-terms_first [] (suc n) same = absurd (omega (arith, same))
-terms_first (c ∷ cs) zero same = absurd (omega (arith, same))
-terms_first (c ∷ cs) (suc n) same = ap (λ (xs : List ℕ). 0 ∷ xs) (terms_first cs n (omega (arith, same)))
-
 pub terms_are_first : (cs : List Numbered) (terms : List ℕ) → terms ≡ replicate (length cs) 0 → terms ≡ first_terms cs
-terms_are_first cs terms is = is ∙ terms_first cs (length cs) refl
+terms_are_first [] terms is = is
+terms_are_first (c ∷ cs) terms is = is ∙ ap (λ (xs : List ℕ). 0 ∷ xs) (terms_are_first cs (replicate (length cs) 0) refl)
 
 pub first_form : (cs : List Numbered) (s : Standing) → s.terms.items ≡ replicate (length cs) 0 → length s.restless ≡ length cs → ((i : ℕ) → i < length cs → get_or s.restless i false ≡ is_unstable (component_at cs i).table 0)
     → ((i : ℕ) → i < length cs → 0 < (component_at cs i).table.count) → ((i : ℕ) → i < length cs → OwnsItsSteps (component_at cs i).alphabet (component_at cs i).table) → IsAgreement s.agreement
@@ -344,54 +289,8 @@ first_form cs s terms marks restless within own form owners offering small =
 
 -- an event that has an owner has a row
 pub row_there : (cs : List Numbered) (rows : List (List ℕ)) (e : ℕ) → AreOwnerRows cs rows → IsTrue (has_owner cs e) → e < length rows
-row_there cs rows e are owned = some_row rows e (λ none. no_marks cs (sym (are e) ∙ none) owned)
-  where
-    some_row : (rs : List (List ℕ)) (i : ℕ) → (get_or rs i [] ≡ [] → ⊥) → i < length rs
-    some_row [] i some = absurd (some refl)
-    some_row (r ∷ rs) zero some = omega arith
-    some_row (r ∷ rs) (suc i) some = let rest = some_row rs i some in omega (arith, rest)
-
-    marked_from : (k : ℕ) (ms : List Bool) (i : ℕ) → places_from k ms ≡ [] → get_or ms i false ≡ true → ⊥
-    marked_from k [] i none h = false≢true h
-    marked_from k (true ∷ ms) i none h = absurd (let no : length (places_from k (true ∷ ms)) ≡ 0 = ap length none in omega (arith, no))
-    marked_from k (false ∷ ms) zero none h = false≢true h
-    marked_from k (false ∷ ms) (suc i) none h = marked_from (k + 1) ms i none h
-
-    owner_place : (ds : List Numbered) → has_owner ds e ≡ true → (i : ℕ) × (get_or (owner_marks e ds) i false ≡ true)
-    owner_place [] h = absurd (false≢true h)
-    owner_place (d ∷ ds) h = elim (or_cases (has d.alphabet e) (has_owner ds e) h) [
-      | inl first ↦ (0, first)
-      | inr rest ↦ let r = owner_place ds rest in (suc r.0, r.1)
-    ]
-
-    no_marks : (ds : List Numbered) → marked (owner_marks e ds) ≡ [] → IsTrue (has_owner ds e) → ⊥
-    no_marks ds none h = let r = owner_place ds h in marked_from 0 (owner_marks e ds) r.0 none r.1
-
--- a place of a row of owners
-module _ (cs : List Numbered) (e : ℕ) (owners : List ℕ) (k : ℕ) (are : owners ≡ marked (owner_marks e cs)) (inside : k < length owners) where
-  there : slice_get (marked (owner_marks e cs)) k ≡ Some (get_or owners k 0)
-  there = subst (λ (ps : List ℕ). slice_get ps k ≡ Some (get_or owners k 0)) are (term_there owners k inside)
-
-  pub owner_within : get_or owners k 0 < length cs
-  owner_within = mark_inside cs (get_or owners k 0) (marked_is (owner_marks e cs) k (get_or owners k 0) there)
-    where
-      mark_inside : (ds : List Numbered) (i : ℕ) → get_or (owner_marks e ds) i false ≡ true → i < length ds
-      mark_inside [] i h = absurd (false≢true h)
-      mark_inside (d ∷ ds) zero h = omega arith
-      mark_inside (d ∷ ds) (suc i) h = let rest = mark_inside ds i h in omega (arith, rest)
-
-  pub owner_has : has (component_at cs (get_or owners k 0)).alphabet e ≡ true
-  owner_has = mark_has cs (get_or owners k 0) (marked_is (owner_marks e cs) k (get_or owners k 0) there)
-    where
-      mark_has : (ds : List Numbered) (i : ℕ) → get_or (owner_marks e ds) i false ≡ true → has (component_at ds i).alphabet e ≡ true
-      mark_has [] i h = absurd (false≢true h)
-      mark_has (d ∷ ds) zero h = h
-      mark_has (d ∷ ds) (suc i) h = mark_has ds i h
-
-  pub owners_rise : (a b m n : ℕ) → a < b → slice_get owners a ≡ Some m → slice_get owners b ≡ Some n → m < n
-  owners_rise = subst (λ (ps : List ℕ). (a b m n : ℕ) → a < b → slice_get ps a ≡ Some m → slice_get ps b ≡ Some n → m < n) (sym are) (places_rise 0 (owner_marks e cs))
-
--- what two clauses say of a call that ended well
-pub both_ok : {X E : Type 0} (P Q : Type 0) (r : Result X E) → OnOk r P → OnOk r Q → OnOk r (P × Q)
-both_ok P Q (Ok x) p q = (p, q)
-both_ok P Q (Err e) p q = tt
+row_there cs rows e are owned =
+    let some = some_owner e cs owned in
+    let count = owner_counts_are cs rows (map length rows) are refl e in
+    let within = some_within (map length rows) e (omega (arith, some, count)) in
+    omega (arith, within, length-map rows length)

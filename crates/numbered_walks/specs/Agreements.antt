@@ -1,16 +1,18 @@
 -- Which events all of their owners offer, by counting. (For private contracts: no public one cites this.)
 use Rattle.std.specs.Prelude.{◌≡◌, ℕ, ◌+◌, ◌<◌, ◌≤◌, ◌^◌, nat_eq, Bool, true, false, not, ◌&&◌, List, [], ◌∷◌, length, map, slice_index, slice_index_or}
 use Rattle.acceptances.specs.OfferTests.{can_do, is_unstable}
-use Rattle.numbered_walks.specs.Marks.{marked}
+use Rattle.numbered_walks.specs.Marks.{bit, marked}
 use Rattle.csp_base.specs.Members.{has}
 use Rattle.numbered_walks.specs.Numbered.{Numbered, OwnsItsSteps}
 use Rattle.numbered_walks.specs.declared.agreement.Agreement.{Agreement}
 use Rattle.numbered_walks.specs.declared.standing.Standing.{Standing}
 
--- 1 for a test that passes
-abbrev pub bit : Bool → ℕ
-bit true = 1
-bit false = 0
+-- how many components have the event, and how many offer it
+abbrev pub owners_of : Agreement → ℕ → ℕ
+owners_of a e = slice_index a.owners.items e
+
+abbrev pub offers_of : Agreement → ℕ → ℕ
+offers_of a e = slice_index a.offering.items e
 
 -- whether an event with so many owners, of which so many offer it, is offered by all of them
 abbrev pub is_agreed : ℕ → ℕ → Bool
@@ -20,7 +22,7 @@ is_agreed owners offering = nat_eq offering owners && not (nat_eq owners 0)
 pub record IsAgreement (a : Agreement) : Type 0 where
   pub offering : length a.offering.items ≡ length a.owners.items
   pub agreed : length a.agreed ≡ length a.owners.items
-  pub marks : (e : ℕ) → slice_index_or a.agreed e false ≡ is_agreed (slice_index a.owners.items e) (slice_index a.offering.items e)
+  pub marks : (e : ℕ) → slice_index_or a.agreed e false ≡ is_agreed (owners_of a e) (offers_of a e)
 
 -- the components that have the event, by their places
 abbrev pub owner_marks : ℕ → List Numbered → List Bool
@@ -53,6 +55,6 @@ pub record IsStanding (cs : List Numbered) (s : Standing) : Type 0 where
   pub marks : length s.restless ≡ length cs
   pub restless : (i : ℕ) → i < length cs → slice_index_or s.restless i false ≡ is_unstable (component_at cs i).table (slice_index s.terms.items i)
   pub agreement : IsAgreement s.agreement
-  pub owners : (e : ℕ) → slice_index s.agreement.owners.items e ≡ owner_count e cs
-  pub offering : (e : ℕ) → slice_index s.agreement.offering.items e ≡ offer_count e cs s.terms.items
+  pub owners : (e : ℕ) → owners_of s.agreement e ≡ owner_count e cs
+  pub offering : (e : ℕ) → offers_of s.agreement e ≡ offer_count e cs s.terms.items
   pub small : length s.agreement.owners.items ≤ 2 ^ 32

@@ -16,3 +16,8 @@ abbrev pub mark_count : List Bool → ℕ
 mark_count [] = 0
 mark_count (true ∷ marks) = mark_count marks + 1
 mark_count (false ∷ marks) = mark_count marks
+
+-- 1 for a mark
+abbrev pub bit : Bool → ℕ
+bit true = 1
+bit false = 0

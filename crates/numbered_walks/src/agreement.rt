@@ -3,7 +3,8 @@
 ghost use Rattle.std.specs.Prelude.{◌≡◌, ◌+◌, ◌-◌, ◌≤◌, ◌<◌, ℕ, IfOk, IsTrue, OnOk, length, map, replicate, slice_index, slice_set};
 ghost use Rattle.dl_limits.specs.declared.TheConstants.{MOST_COMPONENTS};
 ghost use Rattle.csp_base.specs.Members.{has};
-ghost use Rattle.numbered_walks.specs.Agreements.{IsAgreement, bit, is_agreed};
+ghost use Rattle.numbered_walks.specs.Agreements.{IsAgreement, is_agreed, offers_of, owners_of};
+ghost use Rattle.numbered_walks.specs.Marks.{bit};
 
 use crate::marks::CountedMarks;
 use containers::Items;
@@ -70,7 +71,7 @@ fn mark(agreement: &mut Agreement, place: usize)
     requires within { place < length agreement.old.owners.items }
     requires offering { length agreement.old.offering.items ≡ length agreement.old.owners.items }
     requires agreed { length agreement.old.agreed ≡ length agreement.old.owners.items }
-    ensures { agreement.new ≡ record agreement.old { agreed = slice_set agreement.old.agreed place (is_agreed (slice_index agreement.old.owners.items place) (slice_index agreement.old.offering.items place)) } }
+    ensures { agreement.new ≡ record agreement.old { agreed = slice_set agreement.old.agreed place (is_agreed (owners_of agreement.old place) (offers_of agreement.old place)) } }
 {
     let owners = agreement.owners[place];
     let agreed = agreement.offering[place] == owners && owners != 0;
@@ -81,10 +82,10 @@ fn mark(agreement: &mut Agreement, place: usize)
 fn offer(agreement: &mut Agreement, event: Event)
     requires form { IsAgreement agreement.old }
     requires within { event < length agreement.old.owners.items }
-    requires room { slice_index agreement.old.offering.items event < MOST_COMPONENTS }
+    requires room { offers_of agreement.old event < MOST_COMPONENTS }
     ensures form { IsAgreement agreement.new }
     ensures owners { agreement.new.owners.items ≡ agreement.old.owners.items }
-    ensures offering { agreement.new.offering.items ≡ slice_set agreement.old.offering.items event (slice_index agreement.old.offering.items event + 1) }
+    ensures offering { agreement.new.offering.items ≡ slice_set agreement.old.offering.items event (offers_of agreement.old event + 1) }
 {
     let place = event.0 as usize;
     agreement.offering[place] += 1;
@@ -94,10 +95,10 @@ fn offer(agreement: &mut Agreement, event: Event)
 // One component less offers the event.
 fn withdraw(agreement: &mut Agreement, event: Event)
     requires form { IsAgreement agreement.old }
-    requires some { 1 ≤ slice_index agreement.old.offering.items event }
+    requires some { 1 ≤ offers_of agreement.old event }
     ensures form { IsAgreement agreement.new }
     ensures owners { agreement.new.owners.items ≡ agreement.old.owners.items }
-    ensures offering { agreement.new.offering.items ≡ slice_set agreement.old.offering.items event (slice_index agreement.old.offering.items event - 1) }
+    ensures offering { agreement.new.offering.items ≡ slice_set agreement.old.offering.items event (offers_of agreement.old event - 1) }
 {
     let place = event.0 as usize;
     agreement.offering[place] -= 1;
@@ -113,11 +114,11 @@ pub(crate) fn exchange(
 ) -> Result<(), NoMemory>
     requires form { IsAgreement agreement.old }
     requires within { (e : ℕ) → IsTrue (has new.now e) → e < length agreement.old.owners.items }
-    requires some { (e : ℕ) → bit (has old.now e) ≤ slice_index agreement.old.offering.items e }
-    requires room { (e : ℕ) → slice_index agreement.old.offering.items e + bit (has new.now e) ≤ MOST_COMPONENTS + bit (has old.now e) }
+    requires some { (e : ℕ) → bit (has old.now e) ≤ offers_of agreement.old e }
+    requires room { (e : ℕ) → offers_of agreement.old e + bit (has new.now e) ≤ MOST_COMPONENTS + bit (has old.now e) }
     ensures form { OnOk result (IsAgreement agreement.new) }
     ensures owners { OnOk result (agreement.new.owners.items ≡ agreement.old.owners.items) }
-    ensures offering { OnOk result ((e : ℕ) → slice_index agreement.new.offering.items e + bit (has old.now e) ≡ slice_index agreement.old.offering.items e + bit (has new.now e)) }
+    ensures offering { OnOk result ((e : ℕ) → offers_of agreement.new e + bit (has old.now e) ≡ offers_of agreement.old e + bit (has new.now e)) }
 {
     if old == new {
         return Ok(());
@@ -138,10 +139,10 @@ pub(crate) fn exchange(
 pub(crate) fn offer_all(agreement: &mut Agreement, events: &EventSet)
     requires form { IsAgreement agreement.old }
     requires within { (e : ℕ) → IsTrue (has events.now e) → e < length agreement.old.owners.items }
-    requires room { (e : ℕ) → slice_index agreement.old.offering.items e + bit (has events.now e) ≤ MOST_COMPONENTS }
+    requires room { (e : ℕ) → offers_of agreement.old e + bit (has events.now e) ≤ MOST_COMPONENTS }
     ensures form { IsAgreement agreement.new }
     ensures owners { agreement.new.owners.items ≡ agreement.old.owners.items }
-    ensures offering { (e : ℕ) → slice_index agreement.new.offering.items e ≡ slice_index agreement.old.offering.items e + bit (has events.now e) }
+    ensures offering { (e : ℕ) → offers_of agreement.new e ≡ offers_of agreement.old e + bit (has events.now e) }
 {
     for event in events.iter() {
         offer(agreement, event);
@@ -151,10 +152,10 @@ pub(crate) fn offer_all(agreement: &mut Agreement, events: &EventSet)
 // Each of the events is offered by one component less.
 fn withdraw_all(agreement: &mut Agreement, events: &EventSet)
     requires form { IsAgreement agreement.old }
-    requires some { (e : ℕ) → bit (has events.now e) ≤ slice_index agreement.old.offering.items e }
+    requires some { (e : ℕ) → bit (has events.now e) ≤ offers_of agreement.old e }
     ensures form { IsAgreement agreement.new }
     ensures owners { agreement.new.owners.items ≡ agreement.old.owners.items }
-    ensures offering { (e : ℕ) → slice_index agreement.new.offering.items e + bit (has events.now e) ≡ slice_index agreement.old.offering.items e }
+    ensures offering { (e : ℕ) → offers_of agreement.new e + bit (has events.now e) ≡ offers_of agreement.old e }
 {
     for event in events.iter() {
         withdraw(agreement, event);

@@ -1,8 +1,8 @@
 //! Marks with counts.
 
-ghost use Rattle.std.specs.Prelude.{◌≡◌, ◌+◌, ◌*◌, ◌<◌, ◌^◌, Bool, Some, false, length, replicate, slice_get, slice_set, take, IfOk};
+ghost use Rattle.std.specs.Prelude.{◌≡◌, ◌+◌, ◌*◌, ◌<◌, ◌≤◌, ◌^◌, Bool, Some, false, length, replicate, slice_get, slice_set, take, IfOk};
 ghost use Rattle.numbered_walks.specs.Blocks.{AreBlockCounts};
-ghost use Rattle.numbered_walks.specs.Marks.{mark_count, marked};
+ghost use Rattle.numbered_walks.specs.Marks.{bit, mark_count, marked};
 
 use std::alloc::{AllocError, Global};
 use std::marker::Model;
@@ -69,17 +69,11 @@ impl CountedMarks {
         requires { number < length self.old }
         ensures { self.new ≡ slice_set self.old number mark }
     {
-        if self.marks[number] == mark {
-            return;
-        }
+        let old = self.marks[number];
+        let block = number / BLOCK;
         self.marks[number] = mark;
-        if mark {
-            self.counts[number / BLOCK] += 1;
-            self.total += 1;
-        } else {
-            self.counts[number / BLOCK] -= 1;
-            self.total -= 1;
-        }
+        self.counts[block] = recounted(self.counts[block], old, mark);
+        self.total = recounted(self.total, old, mark);
     }
 
     /// The marked number in the place `place` of their rising order, counted from 0.
@@ -90,6 +84,19 @@ impl CountedMarks {
     {
         let (block, left) = block_of(&self.marks, &self.counts, place);
         nth_from(&self.marks, block * BLOCK, left)
+    }
+}
+
+// How many are marked where so many were, and one has another mark.
+fn recounted(count: usize, old: bool, mark: bool) -> usize
+    requires some { bit old ≤ count }
+    requires room { count < 2 ^ 63 }
+    ensures { result + bit old ≡ count + bit mark }
+{
+    match (old, mark) {
+        (true, false) => count - 1,
+        (false, true) => count + 1,
+        (true, true) | (false, false) => count,
     }
 }
 

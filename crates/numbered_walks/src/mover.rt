@@ -41,8 +41,8 @@ impl<'a> Drop for Mover<'a> {
 impl<'a> Model for Mover<'a> {
     ghost use Rattle.csp_tables.specs.RawForm.{HasRawForm};
     ghost use Rattle.acceptances.specs.OfferTests.{AreOffers};
-    ghost use Rattle.numbered_walks.specs.Numbered.{Numbered, OwnsItsSteps};
     ghost use Rattle.numbered_walks.specs.Rows.{AreSilentRows, AreStepRows};
+    ghost use Rattle.numbered_walks.specs.Numbered.{Numbered, OwnsItsSteps};
 
     ghost Value = { Numbered };
 
@@ -138,7 +138,6 @@ impl<'a> Mover<'a> {
         requires term { term < self.now.table.count }
         requires can { Can silent self.now term }
         ensures drawn { IsDrawn (targets_in self.now.table term silent) number result.to result.number }
-        ensures step { RawStep self.now.table term silent result.to }
         ensures within { result.to < self.now.table.count }
     {
         drawn_silently(self.silent_targets(term), number)
@@ -149,7 +148,6 @@ impl<'a> Mover<'a> {
         requires term { term < self.now.table.count }
         requires can { Can (visible event) self.now term }
         ensures drawn { IsDrawn (targets_in self.now.table term (visible event)) number result.to result.number }
-        ensures step { RawStep self.now.table term (visible event) result.to }
         ensures within { result.to < self.now.table.count }
     {
         drawn_by(self.steps_by(term, event), number)

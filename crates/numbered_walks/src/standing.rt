@@ -2,11 +2,11 @@
 
 ghost use Rattle.std.specs.Prelude.{◌≡◌, ◌+◌, ◌≤◌, ◌<◌, ◌^◌, ◌↔◌, ℕ, false, IfNone, IfOk, IfSome, IsTrue, OnOk, Some, length, slice_get, slice_index, slice_index_or, slice_set};
 ghost use Rattle.acceptances.specs.OfferTests.{is_unstable, can_do};
-ghost use Rattle.numbered_walks.specs.Agreements.{AreOwnerRows, IsAgreement, IsStanding, bit, component_at, offer_count, owner_count, owner_marks};
-ghost use Rattle.numbered_walks.specs.Marks.{mark_count, marked};
-ghost use Rattle.numbered_walks.specs.Numbered.{AllCan, AllDo, Can, Goes, Has, OwnsItsSteps, first_terms};
+ghost use Rattle.numbered_walks.specs.Agreements.{AreOwnerRows, IsAgreement, IsStanding, component_at, offer_count, offers_of, owner_count, owner_marks, owners_of};
+ghost use Rattle.numbered_walks.specs.Marks.{mark_count, marked, bit};
+ghost use Rattle.numbered_walks.specs.Numbered.{AllCan, Can, Has, OwnsItsSteps, first_terms};
 ghost use Rattle.numbered_walks.specs.Numbers.{place_among};
-ghost use Rattle.numbered_walks.specs.Steps.{AllGo, Does, options};
+ghost use Rattle.numbered_walks.specs.Steps.{AllGoOn, Does, GoesOn, options};
 ghost use Rattle.numbered_walks.specs.Walks.{Chooses, HasNone};
 ghost use Rattle.csp_tables.specs.Label.Label.{silent, visible};
 ghost use Rattle.dl_limits.specs.declared.TheConstants.{MOST_COMPONENTS};
@@ -53,11 +53,11 @@ fn enter(
     requires term { term < mover.now.table.count }
     requires form { IsAgreement agreement.old }
     requires within { (e : ℕ) → IsTrue (can_do mover.now.table term e) → e < length agreement.old.owners.items }
-    requires room { (e : ℕ) → slice_index agreement.old.offering.items e + bit (can_do mover.now.table term e) ≤ MOST_COMPONENTS }
+    requires room { (e : ℕ) → offers_of agreement.old e + bit (can_do mover.now.table term e) ≤ MOST_COMPONENTS }
     ensures restless { restless.new ≡ slice_set restless.old place (is_unstable mover.now.table term) }
     ensures form { IsAgreement agreement.new }
     ensures owners { agreement.new.owners.items ≡ agreement.old.owners.items }
-    ensures offering { (e : ℕ) → slice_index agreement.new.offering.items e ≡ slice_index agreement.old.offering.items e + bit (can_do mover.now.table term e) }
+    ensures offering { (e : ℕ) → offers_of agreement.new e ≡ offers_of agreement.old e + bit (can_do mover.now.table term e) }
 {
     restless.set(place, mover.is_restless(term));
     offer_all(agreement, mover.offers(term));
@@ -67,12 +67,12 @@ fn enter(
 fn enter_all(restless: &mut CountedMarks, agreement: &mut Agreement, movers: &[Mover<'_>])
     requires few { length movers.now ≤ MOST_COMPONENTS }
     requires form { IsAgreement agreement.old }
-    requires none { (e : ℕ) → slice_index agreement.old.offering.items e ≡ 0 }
-    requires owners { (e : ℕ) → slice_index agreement.old.owners.items e ≡ owner_count e movers.now }
+    requires none { (e : ℕ) → offers_of agreement.old e ≡ 0 }
+    requires owners { (e : ℕ) → owners_of agreement.old e ≡ owner_count e movers.now }
     requires marks { length restless.old ≡ length movers.now }
     ensures form { IsAgreement agreement.new }
     ensures owners { agreement.new.owners.items ≡ agreement.old.owners.items }
-    ensures offering { (e : ℕ) → slice_index agreement.new.offering.items e ≡ offer_count e movers.now (first_terms movers.now) }
+    ensures offering { (e : ℕ) → offers_of agreement.new e ≡ offer_count e movers.now (first_terms movers.now) }
     ensures marks { length restless.new ≡ length movers.now }
     ensures restless { (i : ℕ) → i < length movers.now → slice_index_or restless.new i false ≡ is_unstable (component_at movers.now i).table 0 }
     ensures within { (i : ℕ) → i < length movers.now → 0 < (component_at movers.now i).table.count }
@@ -218,7 +218,7 @@ fn move_silently(
     requires place { place < length movers.now }
     requires can { Can silent (component_at movers.now place) (slice_index standing.old.terms.items place) }
     ensures form { OnOk result (IsStanding movers.now standing.new) }
-    ensures does { OnOk result (Does movers.now place silent standing.old.terms.items standing.old.drawn standing.new.terms.items standing.new.drawn) }
+    ensures does { OnOk result (Does movers.now place silent standing.old standing.new) }
 {
     let drawn = movers[place].draw_silently(standing.terms[place], standing.drawn);
     go_to(alloc, movers, standing, place, drawn)
@@ -237,7 +237,7 @@ fn do_event(
     requires place { place < length movers.now }
     requires can { Can (visible event) (component_at movers.now place) (slice_index standing.old.terms.items place) }
     ensures form { OnOk result (IsStanding movers.now standing.new) }
-    ensures does { OnOk result (Does movers.now place (visible event) standing.old.terms.items standing.old.drawn standing.new.terms.items standing.new.drawn) }
+    ensures does { OnOk result (Does movers.now place (visible event) standing.old standing.new) }
 {
     let drawn = movers[place].draw_by(standing.terms[place], event, standing.drawn);
     go_to(alloc, movers, standing, place, drawn)
@@ -256,8 +256,7 @@ fn do_together(
     requires owners { owners.now ≡ marked (owner_marks event movers.now) }
     requires can { AllCan event movers.now standing.old.terms.items }
     ensures form { OnOk result (IsStanding movers.now standing.new) }
-    ensures done { OnOk result (AllDo event movers.now standing.old.terms.items standing.new.terms.items) }
-    ensures gone { OnOk result (AllGo movers.now (visible event) owners.now standing.old.terms.items standing.old.drawn standing.new.terms.items standing.new.drawn) }
+    ensures gone { OnOk result (AllGoOn movers.now (visible event) owners.now standing.old standing.new) }
 {
     for place in owners {
         do_event(alloc, movers, standing, *place as usize, event)?;
@@ -278,7 +277,7 @@ pub(crate) fn take(
     requires owners { AreOwnerRows movers.now owners.now }
     requires has { Has movers.now standing.old.terms.items option.now }
     ensures form { OnOk result (IsStanding movers.now standing.new) }
-    ensures goes { OnOk result (Goes movers.now standing.old.terms.items standing.old.drawn option.now standing.new.terms.items standing.new.drawn) }
+    ensures goes { OnOk result (GoesOn movers.now option.now standing.old standing.new) }
 {
     match option {
         Move::Silent(place) => move_silently(alloc, movers, standing, *place as usize),

@@ -4,8 +4,8 @@ ghost use Rattle.std.specs.Prelude.{◌≡◌, ◌⊎◌, ◌≤◌, ◌<◌, If
 ghost use Rattle.dl_limits.specs.declared.TheConstants.{MOST_COMPONENTS};
 ghost use Rattle.numbered_walks.specs.Agreements.{AreOwnerRows, IsStanding};
 ghost use Rattle.numbered_walks.specs.Numbered.{Goes, Has, first_terms};
-ghost use Rattle.numbered_walks.specs.Steps.{IsAtEnd, IsStep};
-ghost use Rattle.numbered_walks.specs.Walks.{HasNone, IsWalk, IsWalkOf};
+ghost use Rattle.numbered_walks.specs.Steps.{IsAtEnd, IsStep, WalksOn};
+ghost use Rattle.numbered_walks.specs.Walks.{HasNone, IsWalkOf};
 
 use crate::mover::Mover;
 use crate::moves::{Move, Walk};
@@ -52,7 +52,7 @@ fn go(
     requires few { length movers.now ≤ MOST_COMPONENTS }
     requires owners { AreOwnerRows movers.now owners.now }
     ensures form { OnOk result (IsStanding movers.now standing.new) }
-    ensures walk { IfOk result (λ moves. IsWalk (Has movers.now) (Goes movers.now) seed standing.old.drawn standing.old.terms.items moves.items standing.new.terms.items standing.new.drawn) }
+    ensures walk { IfOk result (λ moves. WalksOn movers.now seed moves.items standing.old standing.new) }
     ensures count { IfOk result (λ moves. (length moves.items ≡ steps) ⊎ ((length moves.items < steps) × HasNone (Has movers.now standing.new.terms.items))) }
 {
     let mut moves = Vec::new(alloc);

@@ -1,5 +1,5 @@
 -- What the state of a resource's holder tells, and the conditions on a resource by tests of its exploration.
-use Rattle.std.proofs.Common.{◌≡◌, ℕ, suc, ◌-◌, ◌<◌, inl, inr, List, [], ◌∷◌, ◌++◌, length, Bool, true, false, not, ◌&&◌, ◌||◌, cond, IsTrue, nat_eq, refl, sym, ap, subst, ◌∙◌, arith, eq-eqb, ne_eqb}
+use Rattle.std.proofs.Common.{◌≡◌, ℕ, suc, ◌-◌, ◌<◌, inl, inr, List, [], ◌∷◌, ◌++◌, length, Option, None, Some, Bool, true, false, not, ◌&&◌, ◌||◌, cond, IsTrue, nat_eq, refl, sym, ap, subst, ◌∙◌, arith, eq-eqb, ne_eqb}
 use Rattle.std.specs.Prelude.{slice_index}
 use Rattle.csp_base.proofs.Standard.{cases_Bool, cases_eq, cond-true, cond-false, and_parts, and_from, both_ways, false≢true, same_Some}
 use Rattle.csp_base.specs.Prelude.{has, is_subset_of, inter_of}
@@ -12,26 +12,15 @@ use Rattle.design_rules.proofs.Shapes.{some_link, link_shared}
 use Rattle.observed_runs.specs.Prelude.{observed, LeadsTo, pair_at, holder_step, IsExploration}
 use Rattle.shape_links.specs.Setting.{Setting, node_of}
 use Rattle.shape_links.specs.Links.{AreOwners}
-use Rattle.resource_conditions.specs.Tests.{is_turn, are_turns, wanted_in, are_grants}
+use Rattle.resource_conditions.specs.Finding.{FindsRun}
+use Rattle.resource_conditions.specs.Tests.{is_turn, are_turns, wanted_in, are_grants, Keeps, meets}
+use Rattle.resource_conditions.specs.declared.resources.Asked.{Asked}
+use Rattle.resource_conditions.specs.declared.resources.Asked.TheVariants as asked
+use Rattle.shape_links.specs.Component.{IsDecided}
 use Rattle.resource_conditions.proofs.Sets.{in_both, of_both, all_possible, some_possible, all_at, some_at, either_of, neither_of}
 use Rattle.observed_runs.proofs.Leading.{observed_push}
 use Rattle.csp_base.proofs.Rising.{member_of_superset, is_subset_of_from_members}
 use Rattle.design_rules.proofs.Accepting.{at_place, each_set}
-
--- ---- what an exploration shows of runs
-
-module _ (table : List Node) (step : ℕ → ℕ → ℕ) (F : ℕ → ℕ → Bool) where
-  pub at_run : (s : List ℕ) (pair : ℕ × ℕ) (b : Bool) → LeadsTo table step 0 s pair → F pair.0 pair.1 ≡ b → F (end_of table 0 s) (observed step 0 s) ≡ b
-  at_run s pair b l h = ap (λ n. F n (observed step 0 s)) l.node ∙ ap (λ n. F pair.0 n) l.state ∙ h
-
-  pub every_run : (pairs : List (ℕ × ℕ)) → IsExploration table step 0 pairs → ((k : ℕ) → k < length pairs → F (pair_at pairs k).0 (pair_at pairs k).1 ≡ true) → (s : List ℕ) → IsRun table s → F (end_of table 0 s) (observed step 0 s) ≡ true
-  every_run pairs x all s run = let p = x.listed s run in at_run s (pair_at pairs p.0) true p.2 (all p.0 p.1)
-
--- each pair of an exploration has a node
-pub have_nodes : (g : Setting) (i : ℕ) (step : ℕ → ℕ → ℕ) (pairs : List (ℕ × ℕ)) → IsWellFormed g.shape → i < length g.shape.parts → IsExploration (part_at g.shape.parts i).table step 0 pairs → (k : ℕ) → k < length pairs → (pair_at pairs k).0 < length (part_at g.shape.parts i).table
-have_nodes g i step pairs w h x k below =
-    let r = x.reached k below in
-    subst (λ n. n < length (part_at g.shape.parts i).table) r.1.node (end_within (part_at g.shape.parts i) r.0 (part_form g.shape.parts i h w.form) r.1.follows)
 
 -- ---- the state of the holder
 
@@ -216,3 +205,15 @@ module _ (g : Setting) (i : ℕ) (holders : List ℕ) (w : IsWellFormed g.shape)
             let all = subst (λ M. IsWithin M (accepted g.shape i s x.0)) (sym (free_wanted (state_of s) (st.free free))) (grants.when_free _ (at_place g.shape i s x.0 accepts) free) in
             both_ways (is_subset_of (wanted_in g i (state_of s)) (accepted g.shape i s x.0)) n.1 (is_subset_of_from_members (wanted_in g i (state_of s)) (accepted g.shape i s x.0) all)
       ]
+
+  -- ---- what is asked, by the test of it after each run
+
+  not_met : (b : Bool) → (b ≡ true → ⊥) → b ≡ false
+  not_met true never = absurd (never refl)
+  not_met false never = refl
+
+  pub decided : (what : Asked) (run : Option (List ℕ)) → (use_at g.uses i).resource ≡ true → IsDecided g.shape i (λ s. meets what g i (end_of (part_at g.shape.parts i).table 0 s) (observed (holder_step holders) 0 s) ≡ true) run → FindsRun g.shape i (λ s. (use_at g.uses i).resource ≡ true → Keeps what g i s) run
+  decided asked.Turns None resource d = λ s _. used_in_turn (λ t runs. d t (record { part = h; follows = runs })) s
+  decided asked.Grants None resource d = λ s _. grants_all (λ t runs. d t (record { part = h; follows = runs })) s
+  decided asked.Turns (Some s) resource d = (d.0, λ keeps. not_in_turn s d.0.follows (not_met _ d.1) (keeps resource))
+  decided asked.Grants (Some s) resource d = (d.0, λ keeps. not_all_granted s d.0.follows (not_met _ d.1) (keeps resource))

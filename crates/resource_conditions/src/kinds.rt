@@ -1,30 +1,31 @@
 //! Whether links join users and resources, and whether a resource's sets part what it shares.
 
 ghost use Rattle.std.specs.Prelude.{◌≡◌, ◌<◌, IfErr, IfOk, MatchBool, OnOk, length, min};
+ghost use Rattle.csp_base.specs.Stops.{Tells};
 ghost use Rattle.resource_conditions.specs.Finding.{IsFirstWithout};
 ghost use Rattle.shape_links.specs.Setting.{KeepKinds};
 ghost use Rattle.resource_conditions.specs.Setting.{AreOtherKinds, HasLinked, HasParted, Breaks};
 
-use csp_base::{NoMemory, Trace};
+use csp_base::{NoMemory, Stop, Trace};
 use design_rules::{Condition, RuleFault};
 use shape_links::Setting;
 use std::alloc::Global;
 
 /// Succeeds where U1 holds, and else tells the first part that breaks it.
-pub fn check_kinds(alloc: Global, setting: &Setting<'_>) -> Result<(), RuleFault>
+pub fn check_kinds(alloc: Global, setting: &Setting<'_>) -> Result<(), Stop<RuleFault>>
     ensures kinds { OnOk result (KeepKinds setting.now) }
-    ensures fault { IfErr result (λ fault. Breaks setting.now fault) }
+    ensures fault { IfErr result (Tells (Breaks setting.now)) }
 {
     let _form = setting.shape();
     let unlinked = first_unlinked(setting);
     let unparted = first_unparted(alloc, setting)?;
     let part = smaller(unlinked, unparted);
     if part < setting.count() {
-        return Err(RuleFault::Broken {
+        return Err(Stop::Told(RuleFault::Broken {
             condition: Condition::Kinds,
             part,
             trace: Trace::new(alloc),
-        });
+        }));
     }
     Ok(())
 }
@@ -84,7 +85,7 @@ fn is_parted(alloc: Global, setting: &Setting<'_>, part: u32) -> Result<bool, No
         return Ok(false);
     }
     let told = uses.acquire().union(alloc, uses.release())?;
-    let alphabet = setting.prepared().component(part).alphabet();
+    let alphabet = setting.component(part).alphabet();
     let shared = alphabet.inter(alloc, setting.shape().vocabulary())?;
     if !told.is_subset(&shared) {
         return Ok(false);

@@ -1,14 +1,16 @@
 //! The rule as a whole.
 
 ghost use Rattle.std.specs.Prelude.{◌≡◌, ◌<◌, All, IfErr, IfOk, OnOk, length};
+ghost use Rattle.csp_base.specs.Stops.{Tells};
 ghost use Rattle.csp_tables.specs.Prelude.{TripleDisjoint, alphabets_of, IsWellFormed};
 ghost use Rattle.design_rules.specs.Prelude.{IsResource, KeepUses, ResourcesRise, AreResourceNumbers, IsResourceRanking, BreaksResource};
-ghost use Rattle.shape_links.specs.Setting.{KeepKinds};
-ghost use Rattle.resource_conditions.specs.Setting.{KeepGrants, KeepTurns, Breaks};
+ghost use Rattle.resource_conditions.specs.Setting.{Breaks};
 ghost use Rattle.rule_rankings.specs.ResourceRanks.{number_by};
 
+use crate::holdings::holdings;
 use crate::numbers::numbers;
-use crate::users::holdings;
+use crate::users::check_users;
+use csp_base::Stop;
 use csp_tables::{Ranking, Shape, UseSets};
 use design_rules::RuleFault;
 use digraph::Heights;
@@ -18,23 +20,23 @@ use shape_links::Setting;
 use std::alloc::Global;
 
 /// The ranking of a network of users and resources, or what breaks the rule.
-pub fn resource(alloc: Global, shape: &Shape, uses: &[UseSets]) -> Result<Ranking, RuleFault>
+pub fn resource(alloc: Global, shape: &Shape, uses: &[UseSets]) -> Result<Ranking, Stop<RuleFault>>
     requires form { IsWellFormed shape.now }
     requires apart { TripleDisjoint (alphabets_of shape.now.parts) }
     requires uses { length uses.now ≡ length shape.now.parts }
     ensures resource { OnOk result (IsResource shape.now uses.now) }
     ensures ranking { IfOk result (λ ranking. IsResourceRanking shape.now uses.now ranking) }
-    ensures fault { IfErr result (λ fault. BreaksResource shape.now uses.now fault) }
+    ensures fault { IfErr result (Tells (BreaksResource shape.now uses.now)) }
 {
     let setting = Setting::new(alloc, shape, uses)?;
     ranked(alloc, &setting)
 }
 
 // The same of a shape that is sorted out, with its resources.
-fn ranked(alloc: Global, setting: &Setting<'_>) -> Result<Ranking, RuleFault>
+fn ranked(alloc: Global, setting: &Setting<'_>) -> Result<Ranking, Stop<RuleFault>>
     ensures resource { OnOk result (IsResource setting.now.shape setting.now.uses) }
     ensures ranking { IfOk result (λ ranking. IsResourceRanking setting.now.shape setting.now.uses ranking) }
-    ensures fault { IfErr result (λ fault. Breaks setting.now fault) }
+    ensures fault { IfErr result (Tells (Breaks setting.now)) }
 {
     let heights = checked_numbers(alloc, setting)?;
     let ranking = resource_ranking(alloc, setting, &heights)?;
@@ -42,28 +44,18 @@ fn ranked(alloc: Global, setting: &Setting<'_>) -> Result<Ranking, RuleFault>
 }
 
 // The numbers of the resources, where the rule holds, and else what breaks it.
-fn checked_numbers(alloc: Global, setting: &Setting<'_>) -> Result<Heights, RuleFault>
+fn checked_numbers(alloc: Global, setting: &Setting<'_>) -> Result<Heights, Stop<RuleFault>>
     ensures keep { OnOk result (KeepUses setting.now.shape setting.now.uses) }
     ensures count { IfOk result (λ heights. length heights ≡ length setting.now.shape.parts) }
     ensures below { IfOk result (λ heights. All (λ height. height < length setting.now.shape.parts) heights) }
     ensures numbers { IfOk result (λ heights. AreResourceNumbers setting.now.shape setting.now.uses (number_by heights)) }
     ensures rise { IfOk result (λ heights. ResourcesRise setting.now.shape setting.now.uses (number_by heights)) }
-    ensures fault { IfErr result (λ fault. Breaks setting.now fault) }
-{
-    check_uses(alloc, setting)?;
-    let rows = holdings(alloc, setting)?;
-    numbers(alloc, setting, &rows)
-}
-
-// Succeeds where U1, U2 and U3 hold, and else tells the least that does not.
-fn check_uses(alloc: Global, setting: &Setting<'_>) -> Result<(), RuleFault>
-    ensures kinds { OnOk result (KeepKinds setting.now) }
-    ensures turns { OnOk result (KeepTurns setting.now) }
-    ensures grants { OnOk result (KeepGrants setting.now) }
-    ensures fault { IfErr result (λ fault. Breaks setting.now fault) }
+    ensures fault { IfErr result (Tells (Breaks setting.now)) }
 {
     check_kinds(alloc, setting)?;
     check_turns(alloc, setting)?;
     check_grants(alloc, setting)?;
-    Ok(())
+    check_users(alloc, setting)?;
+    let rows = holdings(alloc, setting)?;
+    numbers(alloc, setting, &rows)
 }

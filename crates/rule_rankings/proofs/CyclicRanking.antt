@@ -1,18 +1,18 @@
 -- The ranks and the laps of a cyclic network.
-use Rattle.std.proofs.Common.{◌≡◌, ℕ, zero, suc, ◌+◌, ◌<◌, ◌≤◌, inl, inr, pos, List, [], ◌∷◌, length, get_or, Bool, true, false, ◌&&◌, cond, max, IsTrue, nat_eq, nat_lt, sym, ap, subst, ◌∙◌, arith, eq-eqb, ne_eqb, lt-ltb}
-use Rattle.csp_base.proofs.Standard.{cases_Bool, cases_eq, cases_lt, cond-true, cond-false, and_from, or_cases, eqb-true, both_ways, false≢true, get_or_past, get_or_from_slice_get, slice_get_within}
+use Rattle.std.proofs.Common.{◌≡◌, ℕ, zero, suc, ◌+◌, ◌<◌, ◌≤◌, inl, inr, pos, List, [], ◌∷◌, ◌++◌, length, get_or, Bool, ◌&&◌, cond, max, IsTrue, nat_eq, nat_lt, sym, ap, subst, ◌∙◌, arith, eq-eqb, ne_eqb, lt-ltb}
+use Rattle.csp_base.proofs.Standard.{length-append, get_or_append_left, get_or-append_seam, cases_Bool, cases_eq, cases_lt, cond-true, cond-false, and_from, both_ways, get_or_from_slice_get, slice_get_within}
 use Rattle.csp_base.specs.Members.{has}
-use Rattle.csp_tables.specs.Prelude.{Node, node_at, is_possible, no_node, part_at, alphabets_of, TripleDisjoint, Meet, Shape, is_end, link_at, acceptance_at, IsWellFormed, IsOn, Ranking, PartRanks, AtMostOne, LapsFit, rank_at, lap_of}
-use Rattle.design_rules.specs.Prelude.{count_below, above_all, IsVertex, links_of, ReachesLink, AllKeepPlaces, NumbersRise, place_of, ends_lap, AreCyclicRanks}
+use Rattle.csp_tables.specs.Prelude.{node_at, is_possible, part_at, alphabets_of, TripleDisjoint, Shape, is_end, IsWellFormed, Ranking}
+use Rattle.design_rules.specs.Prelude.{count_below, above_all, links_of, ReachesLink, AllKeepPlaces, NumbersRise, place_of, ends_lap, AreCyclicRanks}
 use Rattle.design_rules.proofs.Counts.{count_mono}
-use Rattle.design_rules.proofs.RankCheck.{lap_absent}
 use Rattle.design_rules.proofs.Shapes.{link_shared}
 use Rattle.design_rules.proofs.Places.{reached_differ}
 use Rattle.design_rules.proofs.Cyclic.{earlier_place, place_below}
-use Rattle.shape_links.specs.Links.{IsOwner, ends_of}
-use Rattle.rule_rankings.proofs.RowsBelow.{no_ranks, as_many, other_rank, parts_fit, ranks_fit}
-use Rattle.rule_rankings.specs.CyclicRanks.{IsRank, IsGreatest, AreNodeLaps, ArePartRanks}
-use Rattle.rule_rankings.specs.Rows.{AreEach}
+use Rattle.shape_links.specs.Links.{ends_of}
+use Rattle.std.specs.Prelude.{slice_index}
+use Rattle.rule_rankings.proofs.RowsBelow.{fits, rank_is, others_zero, lap_is, lap_none, possible_node}
+use Rattle.rule_rankings.specs.CyclicRanks.{AreTops, IsRank, IsGreatest, IsLap}
+use Rattle.rule_rankings.specs.Rows.{AreAllRanked}
 use Rattle.shape_links.proofs.Links.{ends_sound, ends_complete, has_place, place_in, some_at, on_one}
 
 -- ---- the greatest number
@@ -109,76 +109,34 @@ module _ (shape : Shape) (number : ℕ → ℕ) (w : IsWellFormed shape) (triple
       lower : (a b c : ℕ) → a ≤ c → b ≡ c → (a ≡ b → ⊥) → a < b
       lower a b c le is ne = elim (cases_eq a b) [ inl same ↦ absurd (ne same) | inr k ↦ omega arith ]
 
-  -- ---- the ranking
+-- ---- the ranking
 
-  rank_row : (i n k : ℕ) (r : PartRanks) → ArePartRanks shape number i r → n < length (part_at shape.parts i).table → k < length (node_at (part_at shape.parts i).table n).accept → IsRank shape number (acceptance_at (part_at shape.parts i) n k) (rank_at r.ranks n k)
-  rank_row i n k r a h b = ((a.ranks_are).each n h).each k b
+pub cyclic_ranks : (shape : Shape) (number : ℕ → ℕ) (tops : List ℕ) (ranking : Ranking) → IsWellFormed shape → TripleDisjoint (alphabets_of shape.parts) → AllKeepPlaces shape → NumbersRise shape number → AreTops shape number (length shape.parts) tops → AreAllRanked (λ _. IsRank shape number) (λ i. IsLap shape number (slice_index tops i)) shape.parts ranking.parts → ranking.scale ≡ pos (above_all number (length shape.links)) → AreCyclicRanks shape number ranking
+cyclic_ranks shape number tops ranking w triple keep rise are all scale =
+    let rank = λ (_ : ℕ). IsRank shape number in
+    let lap = λ (i : ℕ). IsLap shape number (slice_index tops i) in
+    record {
+      fits = fits shape ranking rank lap all (λ i e n is. is.at_most);
+      scale = scale;
+      ranks = λ i n k l v h end m. (rank_is shape ranking rank lap all i n k v.part v.node v.listed).on_link l (on_one shape i n k w triple keep v.part v.node) v.shared h m;
+      others = others_zero shape ranking rank lap all (λ i M r is. is.other);
+      laps = λ i n e l h possible on.
+          let run = w.reached i n h (possible_node (part_at shape.parts i).table n e possible) in
+          let reach : ReachesLink shape i l run.run e = record { possible = record { runs = record { part = h; follows = run.follows }; next = subst (λ m. IsTrue (is_possible (node_at (part_at shape.parts i).table m).next e)) (sym run.leads) possible }; on = on } in
+          (lap_is shape ranking rank lap all i n e h possible).on_link l (record { within = on.within; event = on.event }) ∙ last_place shape number w triple keep rise i l (slice_index tops i) run.run e h (are.greatest i h) reach;
+      no_laps = λ i n e h hidden. lap_none shape ranking rank lap all i n e h (λ m is. is.other (λ l o. both_ways (has shape.vocabulary e) hidden (link_shared shape l w o.within e o.event)));
+    }
 
-  pub vertex_rank : (i n k l : ℕ) (r : PartRanks) → ArePartRanks shape number i r → IsVertex shape i n k → l < length shape.links → Meet (acceptance_at (part_at shape.parts i) n k) (link_at shape l).shared → rank_at r.ranks n k ≡ pos (number l)
-  vertex_rank i n k l r a v h m = (rank_row i n k r a v.node v.listed).on_link l (on_one shape i n k w triple keep v.part v.node) v.shared h m
+-- ---- the greatest number of each part's links
 
-  -- the lap of an event that is possible stands at the event's place
-  lap_found : (next : List (ℕ × ℕ)) (laps : List ℕ) (e : ℕ) → length next ≡ length laps → is_possible next e ≡ true → (k : ℕ) × (k < length next) × ((get_or next k (0, 0)).0 ≡ e) × (lap_of next laps e ≡ get_or laps k 0)
-  lap_found [] laps e many h = absurd (false≢true h)
-  lap_found (x ∷ xs) [] e many h = absurd (omega arith)
-  lap_found (x ∷ xs) (y ∷ ys) e many h = elim (cases_Bool (nat_eq x.0 e)) [
-    | inl same ↦ (0, omega arith, eqb-true x.0 e same, cond-true (nat_eq x.0 e) y (lap_of xs ys e) same)
-    | inr other ↦
-        let r = lap_found xs ys e (omega arith) (elim (or_cases (nat_eq x.0 e) (is_possible xs e) h) [ inl k ↦ absurd (both_ways (nat_eq x.0 e) other k) | inr k ↦ k ]) in
-        (suc r.0, (let b : r.0 < length xs = r.1 in omega arith), r.2, cond-false (nat_eq x.0 e) y (lap_of xs ys e) other ∙ r.3)
-  ]
-
-  laps_of_node : (i n : ℕ) (r : PartRanks) (a : ArePartRanks shape number i r) → n < length (part_at shape.parts i).table → AreNodeLaps shape number a.top (node_at (part_at shape.parts i).table n) (get_or r.laps n [])
-  laps_of_node i n r a h = (a.laps_are).each n h
-
-  possible_node : (i n e : ℕ) → is_possible (node_at (part_at shape.parts i).table n).next e ≡ true → n < length (part_at shape.parts i).table
-  possible_node i n e h = elim (cases_lt n (length (part_at shape.parts i).table)) [
-    | inl below ↦ below
-    | inr past ↦ absurd (false≢true (subst (λ (m : Node). is_possible m.next e ≡ true) (get_or_past (part_at shape.parts i).table n no_node past) h))
-  ]
-
-  pub shared_lap : (i n e l : ℕ) (r : PartRanks) → i < length shape.parts → ArePartRanks shape number i r → is_possible (node_at (part_at shape.parts i).table n).next e ≡ true → IsOn shape i l e → lap_of (node_at (part_at shape.parts i).table n).next (get_or r.laps n []) e ≡ ends_lap (place_of shape number i l) (links_of shape i)
-  shared_lap i n e l r h a possible on =
-      let below = possible_node i n e possible in
-      let laps = laps_of_node i n r a below in
-      let f = lap_found (node_at (part_at shape.parts i).table n).next (get_or r.laps n []) e laps.as_many possible in
-      let lap = (laps.each f.0 f.1).on_link l (subst (IsOwner shape l) (sym f.2) (record { within = on.within; event = on.event })) in
-      let run = w.reached i n h below in
-      let reach : ReachesLink shape i l run.run e = record { possible = record { runs = record { part = h; follows = run.follows }; next = subst (λ m. IsTrue (is_possible (node_at (part_at shape.parts i).table m).next e)) (sym run.leads) possible }; on = on } in
-      f.3 ∙ lap ∙ last_place i l a.top run.run e h a.greatest reach
-
-  pub hidden_lap : (i n e : ℕ) (r : PartRanks) → i < length shape.parts → ArePartRanks shape number i r → has shape.vocabulary e ≡ false → lap_of (node_at (part_at shape.parts i).table n).next (get_or r.laps n []) e ≡ 0
-  hidden_lap i n e r h a hidden = elim (cases_Bool (is_possible (node_at (part_at shape.parts i).table n).next e)) [
-    | inr no_step ↦ lap_absent (node_at (part_at shape.parts i).table n).next (get_or r.laps n []) e no_step
-    | inl possible ↦
-        let below = possible_node i n e possible in
-        let laps = laps_of_node i n r a below in
-        let f = lap_found (node_at (part_at shape.parts i).table n).next (get_or r.laps n []) e laps.as_many possible in
-        f.3 ∙ (laps.each f.0 f.1).other (λ l o. both_ways (has shape.vocabulary e) hidden (subst (λ x. has shape.vocabulary x ≡ true) f.2 (link_shared shape l w o.within (get_or (node_at (part_at shape.parts i).table n).next f.0 (0, 0)).0 o.event)))
-  ]
-
--- ---- how the ranking fits
-
-at_most_one : (ys : List ℕ) → ((k : ℕ) → k < length ys → get_or ys k 0 ≤ 1) → AtMostOne ys
-at_most_one [] h = tt
-at_most_one (y ∷ ys) h = (h 0 (omega arith), at_most_one ys (λ k l. h (suc k) (omega arith)))
-
-laps_fit : (shape : Shape) (number : ℕ → ℕ) (top : ℕ) (table : List Node) (rows : List (List ℕ)) → AreEach no_node [] (AreNodeLaps shape number top) table rows → LapsFit table rows
-laps_fit shape number top [] [] e = tt
-laps_fit shape number top [] (r ∷ rs) e = absurd (let many : length {A = Node} [] ≡ length (r ∷ rs) = e.as_many in omega arith)
-laps_fit shape number top (n ∷ ns) [] e = absurd (let many : length (n ∷ ns) ≡ length {A = List ℕ} [] = e.as_many in omega arith)
-laps_fit shape number top (n ∷ ns) (r ∷ rs) e =
-    let many : length (n ∷ ns) ≡ length (r ∷ rs) = e.as_many in
-    let first = e.each 0 (omega arith) in
-    let row : length n.next ≡ length r = first.as_many in
-    (as_many n.next r first.as_many, at_most_one r (λ k h. (first.each k (omega arith)).at_most), laps_fit shape number top ns rs (record { as_many = omega arith; each = λ k h. e.each (suc k) (omega arith) }))
-
-pub cyclic_ranks : (shape : Shape) (number : ℕ → ℕ) (ranking : Ranking) → IsWellFormed shape → TripleDisjoint (alphabets_of shape.parts) → AllKeepPlaces shape → NumbersRise shape number → length ranking.parts ≡ length shape.parts → ((i : ℕ) → i < length shape.parts → ArePartRanks shape number i (get_or ranking.parts i no_ranks)) → ranking.scale ≡ pos (above_all number (length shape.links)) → AreCyclicRanks shape number ranking
-cyclic_ranks shape number ranking w triple keep rise count each scale = record {
-  fits = parts_fit shape.parts ranking.parts count (λ i h. (ranks_fit (IsRank shape number) (part_at shape.parts i).table (get_or ranking.parts i no_ranks).ranks (each i h).ranks_are, laps_fit shape number (each i h).top (part_at shape.parts i).table (get_or ranking.parts i no_ranks).laps (each i h).laps_are));
-  scale = scale;
-  ranks = λ i n k l v h end m. vertex_rank shape number w triple keep rise i n k l (get_or ranking.parts i no_ranks) (each i v.part) v h m;
-  others = λ i n k h none. other_rank (IsRank shape number) shape i n k (get_or ranking.parts i no_ranks).ranks h (each i h).ranks_are (λ M rank r. r.other) none;
-  laps = λ i n e l h possible on. shared_lap shape number w triple keep rise i n e l (get_or ranking.parts i no_ranks) h (each i h) possible on;
-  no_laps = λ i n e h hidden. hidden_lap shape number w triple keep rise i n e (get_or ranking.parts i no_ranks) h (each i h) hidden;
+pub tops_more : (shape : Shape) (number : ℕ → ℕ) (n : ℕ) (tops more : List ℕ) (top : ℕ) → AreTops shape number n tops → IsGreatest number (ends_of shape n) top → more ≡ tops ++ top ∷ [] → AreTops shape number (n + 1) more
+tops_more shape number n tops more top are new is = record {
+  count = ap length is ∙ length-append tops (top ∷ []) ∙ ap (λ k. k + 1) are.count;
+  greatest = λ i h. elim (cases_lt i n) as (λ _. IsGreatest number (ends_of shape i) (slice_index more i)) [
+    | inl old ↦ subst (IsGreatest number (ends_of shape i)) (sym (ap (λ zs. get_or zs i 0) is ∙ get_or_append_left tops (top ∷ []) 0 i (omega (arith, are.count)))) (are.greatest i old)
+    | inr now ↦
+        let same : n ≡ i = omega arith in
+        let last : get_or more n 0 ≡ top = ap (λ zs. get_or zs n 0) is ∙ (ap (λ j. get_or (tops ++ top ∷ []) j 0) (sym are.count) ∙ get_or-append_seam tops top [] 0) in
+        subst (λ j. IsGreatest number (ends_of shape j) (slice_index more j)) same (subst (IsGreatest number (ends_of shape n)) (sym last) new)
+  ];
 }

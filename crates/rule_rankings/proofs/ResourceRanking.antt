@@ -4,14 +4,15 @@ use Rattle.std.specs.List.{list_any}
 use Rattle.csp_base.proofs.Standard.{cases_lt, cond-true, cond-false, and_parts, and_from, or_cases, or_left, or_right, both_ways, false≢true, get_or_past}
 use Rattle.dl_limits.specs.declared.TheConstants.{MOST_COMPONENTS}
 use Rattle.csp_base.specs.Members.{has}
-use Rattle.csp_tables.specs.Prelude.{node_at, end_of, part_at, IsNonEmpty, AreApart, IsWithin, acceptance_at, IsWellFormed, IsPossible, Accepts, accepted, UseSets, use_at, Ranking, PartRanks, rank_at}
+use Rattle.csp_tables.specs.Prelude.{end_of, part_at, IsNonEmpty, AreApart, IsWithin, IsWellFormed, IsPossible, Accepts, accepted, UseSets, use_at, Ranking}
 use Rattle.net_sound.proofs.Within.{part_form}
-use Rattle.design_rules.specs.Prelude.{is_held, acquires, KeepUses, top_number, AreResourceRanks}
+use Rattle.design_rules.specs.Prelude.{is_held, acquires, KeepUses, top_number, AreResourceRanks, rank_there}
 use Rattle.design_rules.proofs.Runs.{end_within}
 use Rattle.shape_links.specs.Setting.{Setting}
 use Rattle.shape_links.specs.Acquired.{is_acquired_by}
-use Rattle.rule_rankings.proofs.RowsBelow.{no_ranks, no_lap, no_laps_fit, other_rank, parts_fit, ranks_fit}
-use Rattle.rule_rankings.specs.ResourceRanks.{number_by, IsLeastAcquired, IsRank, ArePartRanks, HaveTop}
+use Rattle.rule_rankings.proofs.RowsBelow.{fits, rank_is, others_zero, lap_none}
+use Rattle.rule_rankings.specs.ResourceRanks.{number_by, IsLeastAcquired, IsRank, HaveTop}
+use Rattle.rule_rankings.specs.Rows.{AreAllRanked, NoLap}
 use Rattle.shape_links.proofs.Acquiring.{acquire_only}
 use Rattle.csp_base.proofs.Listed.{any_of, any_member}
 use Rattle.design_rules.proofs.Resource.{below_top}
@@ -150,12 +151,9 @@ held_is g number top i e M rank resource within member a is = record {
 
 -- ---- the ranking
 
-module _ (g : Setting) (number : ℕ → ℕ) (top : ℕ) (w : IsWellFormed g.shape) (keep : KeepUses g.shape g.uses) where
-  rank_row : (i n k : ℕ) (r : PartRanks) → ArePartRanks g number top i r → n < length (part_at g.shape.parts i).table → k < length (node_at (part_at g.shape.parts i).table n).accept → IsRank g number top i (acceptance_at (part_at g.shape.parts i) n k) (rank_at r.ranks n k)
-  rank_row i n k r a h b = ((a.ranks_are).each n h).each k b
-
-  rank_here : (i k : ℕ) (s : List ℕ) (r : PartRanks) → ArePartRanks g number top i r → Accepts g.shape i s k → IsRank g number top i (accepted g.shape i s k) (rank_at r.ranks (end_of (part_at g.shape.parts i).table 0 s) k)
-  rank_here i k s r a accepts = rank_row i (end_of (part_at g.shape.parts i).table 0 s) k r a (end_within (part_at g.shape.parts i) s (part_form g.shape.parts i accepts.runs.part w.form) accepts.runs.follows) accepts.listed
+module _ (g : Setting) (number : ℕ → ℕ) (top : ℕ) (ranking : Ranking) (w : IsWellFormed g.shape) (keep : KeepUses g.shape g.uses) (all : AreAllRanked (IsRank g number top) NoLap g.shape.parts ranking.parts) where
+  rank_here : (i k : ℕ) (s : List ℕ) → Accepts g.shape i s k → IsRank g number top i (accepted g.shape i s k) (rank_there g.shape ranking i s k)
+  rank_here i k s accepts = rank_is g.shape ranking (IsRank g number top) NoLap all i (end_of (part_at g.shape.parts i).table 0 s) k accepts.runs.part (end_within (part_at g.shape.parts i) s (part_form g.shape.parts i accepts.runs.part w.form) accepts.runs.follows) accepts.listed
 
   possible_of : (i k e : ℕ) (s : List ℕ) → Accepts g.shape i s k → has (accepted g.shape i s k) e ≡ true → IsPossible g.shape i s e
   possible_of i k e s accepts x = record { runs = accepts.runs; next = w.possible i (end_of (part_at g.shape.parts i).table 0 s) k e accepts.runs.part x }
@@ -171,15 +169,15 @@ module _ (g : Setting) (number : ℕ → ℕ) (top : ℕ) (w : IsWellFormed g.sh
       let release = sym (cond-true (is_held g.shape s) (has (use_at g.uses i).release e) (has (use_at g.uses i).acquire e) held) ∙ (keep.used i s resource).turn e (possible_of i k e s accepts x) (accepts.shared e x) in
       both_ways (has (use_at g.uses i).release e) (acquire_only g i e keep.kinds accepts.runs.part resource a).2 release
 
-  pub resource_ranks : (ranking : Ranking) → top ≡ top_number g.uses number (length g.shape.parts) → length ranking.parts ≡ length g.shape.parts → ((i : ℕ) → i < length g.shape.parts → ArePartRanks g number top i (get_or ranking.parts i no_ranks)) → ranking.scale ≡ pos 0 → AreResourceRanks g.shape g.uses number top ranking
-  resource_ranks ranking is count each scale = record {
+  pub resource_ranks : top ≡ top_number g.uses number (length g.shape.parts) → ranking.scale ≡ pos 0 → AreResourceRanks g.shape g.uses number top ranking
+  resource_ranks is scale = record {
     greatest = is;
-    fits = parts_fit g.shape.parts ranking.parts count (λ i h. (ranks_fit (IsRank g number top i) (part_at g.shape.parts i).table (get_or ranking.parts i no_ranks).ranks (each i h).ranks_are, no_laps_fit (part_at g.shape.parts i).table (get_or ranking.parts i no_ranks).laps (each i h).laps_are));
+    fits = fits g.shape ranking (IsRank g number top) NoLap all (λ i e n none. omega arith);
     scale = scale;
-    free = λ i s k resource a free. (rank_here i k s (get_or ranking.parts i no_ranks) (each i a.accepts.runs.part) a.accepts).free resource a.accepts.shared a.some (free_acquires i k s resource a.accepts free);
-    held = λ i s k resource a held. (rank_here i k s (get_or ranking.parts i no_ranks) (each i a.accepts.runs.part) a.accepts).held resource a.accepts.shared a.some (held_releases i k s resource a.accepts held);
-    acquiring = λ i s k j user a below acquired least. (rank_here i k s (get_or ranking.parts i no_ranks) (each i a.accepts.runs.part) a.accepts).acquiring j user a.accepts.shared below acquired least;
-    not_acquiring = λ i s k user a nothing. (rank_here i k s (get_or ranking.parts i no_ranks) (each i a.accepts.runs.part) a.accepts).not_acquiring user nothing;
-    others = λ i n k h none. other_rank (IsRank g number top i) g.shape i n k (get_or ranking.parts i no_ranks).ranks h (each i h).ranks_are (λ M rank r. r.other) none;
-    laps = λ i n e h. no_lap (part_at g.shape.parts i).table (get_or ranking.parts i no_ranks).laps n e (each i h).laps_are;
+    free = λ i s k resource a free. (rank_here i k s a.accepts).free resource a.accepts.shared a.some (free_acquires i k s resource a.accepts free);
+    held = λ i s k resource a held. (rank_here i k s a.accepts).held resource a.accepts.shared a.some (held_releases i k s resource a.accepts held);
+    acquiring = λ i s k j user a below acquired least. (rank_here i k s a.accepts).acquiring j user a.accepts.shared below acquired least;
+    not_acquiring = λ i s k user a nothing. (rank_here i k s a.accepts).not_acquiring user nothing;
+    others = others_zero g.shape ranking (IsRank g number top) NoLap all (λ i M r is. is.other);
+    laps = λ i n e h. lap_none g.shape ranking (IsRank g number top) NoLap all i n e h (λ m none. none);
   }

@@ -1,107 +1,116 @@
 -- Lists with one member for each of another, and rankings that fit their shape.
-use Rattle.std.proofs.Common.{◌≡◌, ℕ, suc, ◌+◌, ◌<◌, inl, inr, ℤ, pos, List, [], ◌∷◌, ◌++◌, length, get_or, replicate, nat_eq, refl, sym, ap, subst, ◌∙◌, arith}
-use Rattle.csp_base.proofs.Standard.{cases_Bool, cases_lt, cond-true, cond-false, length-append, get_or_append_left, get_or_past, get_or_read, get_or-append_seam}
-use Rattle.csp_tables.specs.Prelude.{Node, node_at, no_node, Part, part_at, IsNonEmpty, Shape, acceptance_at, IsWithin, PartRanks, AsMany, AtMostOne, RanksFit, LapsFit, PartsFit, rank_at, lap_of}
-use Rattle.design_rules.specs.Vertices.{IsVertex}
-use Rattle.rule_rankings.specs.Rows.{AreEach, AreNoLaps}
+use Rattle.std.proofs.Common.{◌≡◌, ℕ, suc, ◌+◌, ◌<◌, ◌≤◌, inl, inr, ℤ, pos, List, [], ◌∷◌, ◌++◌, length, get_or, true, nat_eq, ap, sym, subst, ◌∙◌, arith}
+use Rattle.std.proofs.lemmas.Bool.{cases_Bool, cases_lt, cond-true, cond-false, or_cases, both_ways, eqb-true, false≢true}
+use Rattle.std.proofs.lemmas.List.{length-append, get_or_append_left, get_or_past, get_or_read}
+use Rattle.std.proofs.Math.Seq.{get_or-append_seam}
+use Rattle.csp_tables.specs.Prelude.{Node, node_at, no_node, is_possible, part_at, IsNonEmpty, IsWithin, Shape, acceptance_at, Ranking, PartRanks, AsMany, AtMostOne, RanksFit, LapsFit, PartsFit, rank_at, lap_of}
+use Rattle.design_rules.specs.Prelude.{OthersRankZero, lap_at}
+use Rattle.design_rules.proofs.RankCheck.{lap_absent}
+use Rattle.rule_rankings.specs.Rows.{AreEach, AreRanks, AreLaps, AreAllRanked, HasLap}
+
+-- ---- lists that grow
 
 -- what is known of the first members
-pub record AreEachBelow {A B : Type 0} (a : A) (b : B) (P : A → B → Type 0) (n : ℕ) (xs : List A) (ys : List B) : Type 0 where
+pub record AreEachBelow {A B : Type 0} (a : A) (b : B) (P : ℕ → A → B → Type 0) (n : ℕ) (xs : List A) (ys : List B) : Type 0 where
   pub count : length ys ≡ n
-  pub each : (k : ℕ) → k < n → P (get_or xs k a) (get_or ys k b)
+  pub each : (k : ℕ) → k < n → P k (get_or xs k a) (get_or ys k b)
 
-pub below_more : {A B : Type 0} (a : A) (b : B) (P : A → B → Type 0) (n : ℕ) (xs : List A) (ys more : List B) (x : A) (y : B) → AreEachBelow a b P n xs ys → n < length xs → x ≡ get_or xs n x → P x y → more ≡ ys ++ y ∷ [] → AreEachBelow a b P (n + 1) xs more
+pub below_more : {A B : Type 0} (a : A) (b : B) (P : ℕ → A → B → Type 0) (n : ℕ) (xs : List A) (ys more : List B) (x : A) (y : B) → AreEachBelow a b P n xs ys → n < length xs → x ≡ get_or xs n x → P n x y → more ≡ ys ++ y ∷ [] → AreEachBelow a b P (n + 1) xs more
 below_more a b P n xs ys more x y e h at new is = record {
   count = ap length is ∙ length-append ys (y ∷ []) ∙ ap (λ k. k + 1) e.count;
   each = λ k below. elim (cases_lt k n) [
-    | inl old ↦ subst (P (get_or xs k a)) (sym (ap (λ zs. get_or zs k b) is ∙ get_or_append_left ys (y ∷ []) b k (omega (arith, e.count)))) (e.each k old)
+    | inl old ↦ subst (P k (get_or xs k a)) (sym (ap (λ zs. get_or zs k b) is ∙ get_or_append_left ys (y ∷ []) b k (omega (arith, e.count)))) (e.each k old)
     | inr now ↦
         let same : n ≡ k = omega arith in
         let last : get_or more n b ≡ y = ap (λ zs. get_or zs n b) is ∙ (ap (λ j. get_or (ys ++ y ∷ []) j b) (sym e.count) ∙ get_or-append_seam ys y [] b) in
-        subst (λ j. P (get_or xs j a) (get_or more j b)) same (subst (λ z. P z (get_or more n b)) (get_or_read xs n x h at a) (subst (P x) (sym last) new))
+        subst (λ j. P j (get_or xs j a) (get_or more j b)) same (subst (λ z. P n z (get_or more n b)) (get_or_read xs n x h at a) (subst (P n x) (sym last) new))
   ];
 }
 
-abbrev pub no_ranks : PartRanks
-no_ranks = record { ranks = []; laps = [] }
+-- ---- lists that fit one another
 
--- the ranks of one part more
-pub parts_more : (P : ℕ → PartRanks → Type 0) (n : ℕ) (rs : List PartRanks) (r : PartRanks) (more : List PartRanks) → length rs ≡ n → ((i : ℕ) → i < n → P i (get_or rs i no_ranks)) → P n r → more ≡ rs ++ r ∷ [] → (length more ≡ n + 1) × ((i : ℕ) → i < n + 1 → P i (get_or more i no_ranks))
-parts_more P n rs r more count each new is = (
-  ap length is ∙ length-append rs (r ∷ []) ∙ ap (λ k. k + 1) count,
-  λ i h. elim (cases_lt i n) [
-    | inl old ↦ subst (P i) (sym (ap (λ zs. get_or zs i no_ranks) is ∙ get_or_append_left rs (r ∷ []) no_ranks i (omega (arith, count)))) (each i old)
-    | inr now ↦
-        let same : n ≡ i = omega arith in
-        let last : get_or more n no_ranks ≡ r = ap (λ zs. get_or zs n no_ranks) is ∙ (ap (λ j. get_or (rs ++ r ∷ []) j no_ranks) (sym count) ∙ get_or-append_seam rs r [] no_ranks) in
-        subst (λ j. P j (get_or more j no_ranks)) same (subst (P n) (sym last) new)
-  ],
-)
+-- what fits member by member
+all_fit : {A B : Type 0} (a : A) (b : B) (P : A → B → Type 0) (Fit : List A → List B → Type 0) → Fit [] [] → ((x : A) (y : B) (xs : List A) (ys : List B) → P x y → Fit xs ys → Fit (x ∷ xs) (y ∷ ys)) → (xs : List A) (ys : List B) → AreEach a b (λ _. P) xs ys → Fit xs ys
+all_fit a b P Fit none more [] [] e = none
+all_fit a b P Fit none more [] (y ∷ ys) e = absurd (let many : 0 ≡ suc (length ys) = e.as_many in omega arith)
+all_fit a b P Fit none more (x ∷ xs) [] e = absurd (let many : suc (length xs) ≡ 0 = e.as_many in omega arith)
+all_fit a b P Fit none more (x ∷ xs) (y ∷ ys) e =
+    let many : suc (length xs) ≡ suc (length ys) = e.as_many in
+    more x y xs ys (e.each 0 (omega arith)) (all_fit a b P Fit none more xs ys (record { as_many = omega arith; each = λ k h. e.each (suc k) (omega arith) }))
 
-pub as_many : {A B : Type 0} (xs : List A) (ys : List B) → length xs ≡ length ys → AsMany xs ys
-as_many [] [] h = tt
-as_many [] (y ∷ ys) h = absurd (omega arith)
-as_many (x ∷ xs) [] h = absurd (omega arith)
-as_many (x ∷ xs) (y ∷ ys) h = as_many xs ys (omega arith)
+as_many : {A B : Type 0} (a : A) (b : B) (xs : List A) (ys : List B) → length xs ≡ length ys → AsMany xs ys
+as_many a b xs ys many = all_fit a b (λ _ _. Unit {0}) AsMany tt (λ _ _ _ _ _ rest. rest) xs ys (record { as_many = many; each = λ _ _. tt })
 
-pub parts_fit : (ps : List Part) (rs : List PartRanks) → length rs ≡ length ps → ((i : ℕ) → i < length ps → RanksFit (part_at ps i).table (get_or rs i no_ranks).ranks × LapsFit (part_at ps i).table (get_or rs i no_ranks).laps) → PartsFit ps rs
-parts_fit [] [] many h = tt
-parts_fit [] (r ∷ rs) many h = absurd (omega arith)
-parts_fit (p ∷ ps) [] many h = absurd (omega arith)
-parts_fit (p ∷ ps) (r ∷ rs) many h = let first = h 0 (omega arith) in (first.0, first.1, parts_fit ps rs (omega arith) (λ i l. h (suc i) (omega arith)))
+at_most_one : (ys : List ℕ) → ((k : ℕ) → k < length ys → get_or ys k 0 ≤ 1) → AtMostOne ys
+at_most_one [] h = tt
+at_most_one (y ∷ ys) h = (h 0 (omega arith), at_most_one ys (λ k l. h (suc k) (omega arith)))
 
--- ---- the ranks of a table
+ranks_fit : (rank : List ℕ → ℤ → Type 0) (table : List Node) (rows : List (List ℤ)) → AreRanks rank table rows → RanksFit table rows
+ranks_fit rank = all_fit no_node [] (λ node row. AreEach [] (pos 0) (λ _. rank) node.accept row) RanksFit tt (λ n r _ _ e rest. (as_many [] (pos 0) n.accept r e.as_many, rest))
 
-module _ (P : List ℕ → ℤ → Type 0) where
-  pub ranks_fit : (table : List Node) (rows : List (List ℤ)) → AreEach no_node [] (λ node ranks. AreEach [] (pos 0) P node.accept ranks) table rows → RanksFit table rows
-  ranks_fit [] [] e = tt
-  ranks_fit [] (r ∷ rs) e = absurd (let many : length {A = Node} [] ≡ length (r ∷ rs) = e.as_many in omega arith)
-  ranks_fit (n ∷ ns) [] e = absurd (let many : length (n ∷ ns) ≡ length {A = List ℤ} [] = e.as_many in omega arith)
-  ranks_fit (n ∷ ns) (r ∷ rs) e =
-      let many : length (n ∷ ns) ≡ length (r ∷ rs) = e.as_many in
-      (as_many n.accept r (e.each 0 (omega arith)).as_many, ranks_fit ns rs (record { as_many = omega arith; each = λ k h. e.each (suc k) (omega arith) }))
+laps_fit : (lap : ℕ → ℕ → Type 0) → ((e n : ℕ) → lap e n → n ≤ 1) → (table : List Node) (rows : List (List ℕ)) → AreLaps lap table rows → LapsFit table rows
+laps_fit lap small = all_fit no_node [] (λ node row. AreEach (0, 0) 0 (λ _. HasLap lap) node.next row) LapsFit tt (λ n r _ _ e rest.
+    let many : length n.next ≡ length r = e.as_many in
+    (as_many (0, 0) 0 n.next r e.as_many, at_most_one r (λ k h. small (get_or n.next k (0, 0)).0 (get_or r k 0) (e.each k (omega arith))), rest))
+
+-- ---- the lap of an event
+
+-- the lap of an event that is possible stands at the event's place
+lap_found : (lap : ℕ → ℕ → Type 0) (next : List (ℕ × ℕ)) (laps : List ℕ) (e : ℕ) → AreEach (0, 0) 0 (λ _. HasLap lap) next laps → is_possible next e ≡ true → lap e (lap_of next laps e)
+lap_found lap [] laps e are h = absurd (false≢true h)
+lap_found lap (x ∷ xs) [] e are h = absurd (let many : suc (length xs) ≡ 0 = are.as_many in omega arith)
+lap_found lap (x ∷ xs) (y ∷ ys) e are h = elim (cases_Bool (nat_eq x.0 e)) [
+  | inl same ↦ subst (lap e) (sym (cond-true (nat_eq x.0 e) y (lap_of xs ys e) same)) (subst (λ z. lap z y) (eqb-true x.0 e same) (are.each 0 (omega arith)))
+  | inr other ↦
+      let many : suc (length xs) ≡ suc (length ys) = are.as_many in
+      let later = elim (or_cases (nat_eq x.0 e) (is_possible xs e) h) as (λ _. is_possible xs e ≡ true) [ inl k ↦ absurd (both_ways (nat_eq x.0 e) other k) | inr k ↦ k ] in
+      subst (lap e) (sym (cond-false (nat_eq x.0 e) y (lap_of xs ys e) other)) (lap_found lap xs ys e (record { as_many = omega arith; each = λ k l. are.each (suc k) (omega arith) }) later)
+]
+
+pub possible_node : (table : List Node) (n e : ℕ) → is_possible (node_at table n).next e ≡ true → n < length table
+possible_node table n e h = elim (cases_lt n (length table)) [
+  | inl below ↦ below
+  | inr past ↦ absurd (false≢true (subst (λ (m : Node). is_possible m.next e ≡ true) (get_or_past table n no_node past) h))
+]
+
+-- ---- a ranking of all parts
+
+module _ (shape : Shape) (ranking : Ranking) (rank : ℕ → List ℕ → ℤ → Type 0) (lap : ℕ → ℕ → ℕ → Type 0) (all : AreAllRanked rank lap shape.parts ranking.parts) where
+  abbrev made : ℕ → PartRanks
+  made i = get_or ranking.parts i (record { ranks = []; laps = [] })
+
+  abbrev table : ℕ → List Node
+  table i = (part_at shape.parts i).table
+
+  pub fits : ((i e n : ℕ) → lap i e n → n ≤ 1) → PartsFit shape.parts ranking.parts
+  fits small =
+      let each : AreEach (record { alphabet = []; table = [] }) (record { ranks = []; laps = [] }) (λ _ p r. RanksFit p.table r.ranks × LapsFit p.table r.laps) shape.parts ranking.parts = record {
+        as_many = all.as_many;
+        each = λ i h. let a = all.each i h in (ranks_fit (rank i) (table i) (made i).ranks a.ranks, laps_fit (lap i) (small i) (table i) (made i).laps a.laps);
+      } in
+      all_fit (record { alphabet = []; table = [] }) (record { ranks = []; laps = [] }) (λ p r. RanksFit p.table r.ranks × LapsFit p.table r.laps) PartsFit tt (λ _ _ _ _ f rest. (f.0, f.1, rest)) shape.parts ranking.parts each
+
+  pub rank_is : (i n k : ℕ) → i < length shape.parts → n < length (part_at shape.parts i).table → k < length (node_at (part_at shape.parts i).table n).accept → rank i (acceptance_at (part_at shape.parts i) n k) (rank_at (made i).ranks n k)
+  rank_is i n k part node listed = ((all.each i part).ranks.each n node).each k listed
 
   -- what is no vertex has the rank of an acceptance that is empty or not in the vocabulary, or of none
-  pub other_rank : (shape : Shape) (i n k : ℕ) (ranks : List (List ℤ)) → i < length shape.parts → AreEach no_node [] (λ node row. AreEach [] (pos 0) P node.accept row) (part_at shape.parts i).table ranks
-      → ((M : List ℕ) (rank : ℤ) → P M rank → (IsWithin M shape.vocabulary → IsNonEmpty M → ⊥) → rank ≡ pos 0) → (IsVertex shape i n k → ⊥) → rank_at ranks n k ≡ pos 0
-  other_rank shape i n k ranks h are other none = elim (cases_lt n (length (part_at shape.parts i).table)) [
-    | inl node ↦ elim (cases_lt k (length (node_at (part_at shape.parts i).table n).accept)) [
-      | inl listed ↦ other (acceptance_at (part_at shape.parts i) n k) (rank_at ranks n k) ((are.each n node).each k listed) (λ within some. none (record { part = h; node = node; listed = listed; some = some; shared = within }))
-      | inr past ↦ get_or_past (get_or ranks n []) k (pos 0) (let many : length (node_at (part_at shape.parts i).table n).accept ≡ length (get_or ranks n []) = (are.each n node).as_many in omega arith)
-    ]
-    | inr past ↦ ap (λ (row : List ℤ). get_or row k (pos 0)) (get_or_past ranks n [] (let many : length (part_at shape.parts i).table ≡ length ranks = are.as_many in omega arith))
+  pub others_zero : ((i : ℕ) (M : List ℕ) (r : ℤ) → rank i M r → (IsWithin M shape.vocabulary → IsNonEmpty M → ⊥) → r ≡ pos 0) → OthersRankZero shape ranking
+  others_zero other i n k part none =
+      let ranks = (all.each i part).ranks in
+      elim (cases_lt n (length (table i))) [
+        | inl node ↦ elim (cases_lt k (length (node_at (table i) n).accept)) [
+          | inl listed ↦ other i (acceptance_at (part_at shape.parts i) n k) (rank_at (made i).ranks n k) (rank_is i n k part node listed) (λ within some. none (record { part = part; node = node; listed = listed; some = some; shared = within }))
+          | inr past ↦ get_or_past (get_or (made i).ranks n []) k (pos 0) (let many : length (node_at (table i) n).accept ≡ length (get_or (made i).ranks n []) = (ranks.each n node).as_many in omega arith)
+        ]
+        | inr past ↦ ap (λ (row : List ℤ). get_or row k (pos 0)) (get_or_past (made i).ranks n [] (let many : length (table i) ≡ length (made i).ranks = ranks.as_many in omega arith))
+      ]
+
+  pub lap_is : (i n e : ℕ) → i < length shape.parts → is_possible (node_at (part_at shape.parts i).table n).next e ≡ true → lap i e (lap_at shape ranking i n e)
+  lap_is i n e part possible = lap_found (lap i) (node_at (table i) n).next (get_or (made i).laps n []) e ((all.each i part).laps.each n (possible_node (table i) n e possible)) possible
+
+  -- an event has no lap where each lap that it may have is none
+  pub lap_none : (i n e : ℕ) → i < length shape.parts → ((m : ℕ) → lap i e m → m ≡ 0) → lap_at shape ranking i n e ≡ 0
+  lap_none i n e part nothing = elim (cases_Bool (is_possible (node_at (table i) n).next e)) [
+    | inl possible ↦ nothing (lap_at shape ranking i n e) (lap_is i n e part possible)
+    | inr never ↦ lap_absent (node_at (table i) n).next (get_or (made i).laps n []) e never
   ]
-
--- ---- no laps
-
-zeros_many : (next : List (ℕ × ℕ)) (laps : List ℕ) → laps ≡ replicate (length next) 0 → AsMany next laps × AtMostOne laps
-zeros_many next laps is = subst (λ ls. AsMany next ls × AtMostOne ls) (sym is) (go next)
-  where
-    go : (steps : List (ℕ × ℕ)) → AsMany {B = ℕ} steps (replicate (length steps) 0) × AtMostOne (replicate (length steps) 0)
-    go [] = (tt, tt)
-    go (x ∷ xs) = let r = go xs in (r.0, (omega arith, r.1))
-
-pub no_laps_fit : (table : List Node) (rows : List (List ℕ)) → AreEach no_node [] AreNoLaps table rows → LapsFit table rows
-no_laps_fit [] [] e = tt
-no_laps_fit [] (r ∷ rs) e = absurd (let many : length {A = Node} [] ≡ length (r ∷ rs) = e.as_many in omega arith)
-no_laps_fit (n ∷ ns) [] e = absurd (let many : length (n ∷ ns) ≡ length {A = List ℕ} [] = e.as_many in omega arith)
-no_laps_fit (n ∷ ns) (r ∷ rs) e =
-    let many : length (n ∷ ns) ≡ length (r ∷ rs) = e.as_many in
-    let first = zeros_many n.next r (e.each 0 (omega arith)) in
-    (first.0, first.1, no_laps_fit ns rs (record { as_many = omega arith; each = λ k h. e.each (suc k) (omega arith) }))
-
-zero_lap : (next : List (ℕ × ℕ)) (laps : List ℕ) (e : ℕ) → laps ≡ replicate (length next) 0 → lap_of next laps e ≡ 0
-zero_lap next laps e is = subst (λ ls. lap_of next ls e ≡ 0) (sym is) (go next)
-  where
-    go : (steps : List (ℕ × ℕ)) → lap_of steps (replicate (length steps) 0) e ≡ 0
-    go [] = refl
-    go (x ∷ xs) = elim (cases_Bool (nat_eq x.0 e)) [
-      | inl same ↦ cond-true (nat_eq x.0 e) 0 (lap_of xs (replicate (length xs) 0) e) same
-      | inr other ↦ cond-false (nat_eq x.0 e) 0 (lap_of xs (replicate (length xs) 0) e) other ∙ go xs
-    ]
-
-pub no_lap : (table : List Node) (laps : List (List ℕ)) (n e : ℕ) → AreEach no_node [] AreNoLaps table laps → lap_of (node_at table n).next (get_or laps n []) e ≡ 0
-no_lap table laps n e a = elim (cases_lt n (length table)) [
-  | inl below ↦ zero_lap (node_at table n).next (get_or laps n []) e (a.each n below)
-  | inr past ↦ ap (λ (node : Node). lap_of node.next (get_or laps n []) e) (get_or_past table n no_node past)
-]

@@ -1,9 +1,8 @@
 -- The ranks and laps of a part. (No rule's decider cites this.)
-use Rattle.std.specs.Prelude.{◌≡◌, ◌<◌, ◌≤◌, ℕ, ℤ, pos, List, [], IsTrue, length, nat_eq, if◌then◌else◌}
+use Rattle.std.specs.Prelude.{◌≡◌, ◌<◌, ◌≤◌, ℕ, ℤ, pos, List, IsTrue, length, nat_eq, slice_index, if◌then◌else◌}
 use Rattle.csp_base.specs.Members.{has}
-use Rattle.csp_tables.specs.Prelude.{part_at, IsNonEmpty, Meet, Node, no_node, IsWithin, Shape, link_at, PartRanks}
+use Rattle.csp_tables.specs.Prelude.{IsNonEmpty, Meet, IsWithin, Shape, link_at}
 use Rattle.shape_links.specs.Links.{IsOwner, IsOnOne, ends_of}
-use Rattle.rule_rankings.specs.Rows.{AreEach}
 
 -- the rank of an acceptance: the number of the link on which it lies, and 0 where it is empty or not in the vocabulary
 pub record IsRank (shape : Shape) (number : ℕ → ℕ) (M : List ℕ) (rank : ℤ) : Type 0 where
@@ -21,15 +20,7 @@ pub record IsLap (shape : Shape) (number : ℕ → ℕ) (top : ℕ) (event lap :
   pub other : ((l : ℕ) → IsOwner shape l event → ⊥) → lap ≡ 0
   pub at_most : lap ≤ 1
 
-abbrev pub AreNodeRanks : Shape → (ℕ → ℕ) → Node → List ℤ → Type 0
-AreNodeRanks shape number node ranks = AreEach [] (pos 0) (IsRank shape number) node.accept ranks
-
-abbrev pub AreNodeLaps : Shape → (ℕ → ℕ) → ℕ → Node → List ℕ → Type 0
-AreNodeLaps shape number top node laps = AreEach (0, 0) 0 (λ (step : ℕ × ℕ) lap. IsLap shape number top step.0 lap) node.next laps
-
--- the ranks and the laps of the part in place i
-pub record ArePartRanks (shape : Shape) (number : ℕ → ℕ) (i : ℕ) (ranks : PartRanks) : Type 0 where
-  pub top : ℕ
-  pub greatest : IsGreatest number (ends_of shape i) top
-  pub ranks_are : AreEach no_node [] (AreNodeRanks shape number) (part_at shape.parts i).table ranks.ranks
-  pub laps_are : AreEach no_node [] (AreNodeLaps shape number top) (part_at shape.parts i).table ranks.laps
+-- for each of the first n parts the greatest number of its links
+pub record AreTops (shape : Shape) (number : ℕ → ℕ) (n : ℕ) (tops : List ℕ) : Type 0 where
+  pub count : length tops ≡ n
+  pub greatest : (i : ℕ) → i < n → IsGreatest number (ends_of shape i) (slice_index tops i)

@@ -1,10 +1,9 @@
 -- The ranks and laps of a part. (No rule's decider cites this.)
-use Rattle.std.specs.Prelude.{◌≡◌, ◌<◌, ◌≤◌, ◌⊎◌, ◌+◌, ◌-◌, ◌*◌, ℕ, ℤ, pos, List, [], false, IsTrue, length, slice_index}
+use Rattle.std.specs.Prelude.{◌≡◌, ◌<◌, ◌≤◌, ◌⊎◌, ◌+◌, ◌-◌, ◌*◌, ℕ, ℤ, pos, List, false, IsTrue, length, slice_index}
 use Rattle.dl_limits.specs.declared.TheConstants.{MOST_COMPONENTS}
-use Rattle.csp_tables.specs.Prelude.{part_at, IsNonEmpty, AreApart, Node, no_node, IsWithin, PartRanks, use_at}
+use Rattle.csp_tables.specs.Prelude.{IsNonEmpty, AreApart, IsWithin, use_at}
 use Rattle.design_rules.specs.Prelude.{acquires, top_number}
-use Rattle.shape_links.specs.Setting.{Setting, IsResourcePart, IsUser}
-use Rattle.rule_rankings.specs.Rows.{AreEach, AreNoLaps}
+use Rattle.shape_links.specs.Setting.{Setting, IsResourcePart, IsUser, KeepKinds}
 
 -- a resource's number is one more than its height
 abbrev pub number_by : List ℕ → ℕ → ℕ
@@ -24,14 +23,6 @@ pub record IsRank (g : Setting) (number : ℕ → ℕ) (top i : ℕ) (M : List �
   pub acquiring : (j : ℕ) → IsUser g i → IsWithin M g.shape.vocabulary → j < length g.shape.parts → IsTrue (acquires g.uses M j) → ((m : ℕ) → m < length g.shape.parts → IsTrue (acquires g.uses M m) → number j ≤ number m) → rank ≡ pos (2 * (top - number j) + 2)
   pub not_acquiring : IsUser g i → ((m : ℕ) → m < length g.shape.parts → acquires g.uses M m ≡ false) → rank ≡ pos 0
 
-abbrev pub AreNodeRanks : Setting → (ℕ → ℕ) → ℕ → ℕ → Node → List ℤ → Type 0
-AreNodeRanks g number top i node ranks = AreEach [] (pos 0) (IsRank g number top i) node.accept ranks
-
--- the ranks and the laps of the part in place i
-pub record ArePartRanks (g : Setting) (number : ℕ → ℕ) (top i : ℕ) (ranks : PartRanks) : Type 0 where
-  pub ranks_are : AreEach no_node [] (AreNodeRanks g number top i) (part_at g.shape.parts i).table ranks.ranks
-  pub laps_are : AreEach no_node [] AreNoLaps (part_at g.shape.parts i).table ranks.laps
-
 -- The heights are those of the parts, and the top is the greatest number of a resource.
 pub record HaveTop (g : Setting) (heights : List ℕ) (top : ℕ) : Type 0 where
   pub count : length heights ≡ length g.shape.parts
@@ -39,3 +30,9 @@ pub record HaveTop (g : Setting) (heights : List ℕ) (top : ℕ) : Type 0 where
   pub above : (j : ℕ) → j < length g.shape.parts → IsResourcePart g j → number_by heights j ≤ top
   pub few : top ≤ MOST_COMPONENTS
   pub small : (j : ℕ) → number_by heights j ≤ MOST_COMPONENTS
+
+-- what is known of a part that can be ranked
+pub record CanRank (g : Setting) (heights : List ℕ) (top i : ℕ) : Type 0 where
+  pub kinds : KeepKinds g
+  pub top_is : HaveTop g heights top
+  pub part : i < length g.shape.parts

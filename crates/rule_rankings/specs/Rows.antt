@@ -1,12 +1,36 @@
--- Rows of ranks and of laps. (No rule's decider cites this.)
-use Rattle.std.specs.Prelude.{◌≡◌, ◌<◌, ℕ, List, length, get_or, replicate}
-use Rattle.csp_tables.specs.Table.{Node}
+-- Ranks and laps of all parts, whatever ranks an acceptance and tells the lap of an event. (No rule's decider cites this.)
+use Rattle.std.specs.Prelude.{◌≡◌, ◌<◌, ℕ, ℤ, pos, List, [], length, get_or}
+use Rattle.csp_tables.specs.Part.{Part}
+use Rattle.csp_tables.specs.Ranking.{PartRanks}
+use Rattle.csp_tables.specs.Table.{Node, no_node}
 
--- the two lists are as long, and P holds of what stands in them at each place
-pub record AreEach {A B : Type 0} (a : A) (b : B) (P : A → B → Type 0) (xs : List A) (ys : List B) : Type 0 where
+-- the two lists are as long, and P holds of each place and what stands there in them
+pub record AreEach {A B : Type 0} (a : A) (b : B) (P : ℕ → A → B → Type 0) (xs : List A) (ys : List B) : Type 0 where
   pub as_many : length xs ≡ length ys
-  pub each : (k : ℕ) → k < length xs → P (get_or xs k a) (get_or ys k b)
+  pub each : (k : ℕ) → k < length xs → P k (get_or xs k a) (get_or ys k b)
+
+-- the ranks of the acceptances of each node
+abbrev pub AreRanks : (List ℕ → ℤ → Type 0) → List Node → List (List ℤ) → Type 0
+AreRanks rank nodes rows = AreEach no_node [] (λ _ node row. AreEach [] (pos 0) (λ _. rank) node.accept row) nodes rows
+
+-- the lap of the event of a step
+abbrev pub HasLap : (ℕ → ℕ → Type 0) → ℕ × ℕ → ℕ → Type 0
+HasLap lap step n = lap step.0 n
+
+-- the laps of the events of each node
+abbrev pub AreLaps : (ℕ → ℕ → Type 0) → List Node → List (List ℕ) → Type 0
+AreLaps lap nodes rows = AreEach no_node [] (λ _ node row. AreEach (0, 0) 0 (λ _. HasLap lap) node.next row) nodes rows
+
+-- the ranks and the laps of a part
+pub record AreRanked (rank : List ℕ → ℤ → Type 0) (lap : ℕ → ℕ → Type 0) (part : Part) (made : PartRanks) : Type 0 where
+  pub ranks : AreRanks rank part.table made.ranks
+  pub laps : AreLaps lap part.table made.laps
+
+-- those of each part, by its place
+abbrev pub AreAllRanked : (ℕ → List ℕ → ℤ → Type 0) → (ℕ → ℕ → ℕ → Type 0) → List Part → List PartRanks → Type 0
+AreAllRanked rank lap parts made =
+    AreEach (record { alphabet = []; table = [] }) (record { ranks = []; laps = [] }) (λ i. AreRanked (rank i) (lap i)) parts made
 
 -- no event has a lap
-abbrev pub AreNoLaps : Node → List ℕ → Type 0
-AreNoLaps node laps = laps ≡ replicate (length node.next) 0
+abbrev pub NoLap : ℕ → ℕ → ℕ → Type 0
+NoLap i event lap = lap ≡ 0

@@ -1,26 +1,26 @@
 //! The ranking of a network of clients and servers.
 
-ghost use Rattle.std.specs.Prelude.{◌≡◌, ◌<◌, ◌≤◌, ◌*◌, [], All, pos, IfOk, length, map, slice_index};
-ghost use Rattle.dl_limits.specs.declared.TheConstants.{MOST_COMPONENTS};
-ghost use Rattle.csp_tables.specs.Prelude.{role_at, no_node};
+ghost use Rattle.std.specs.Prelude.{◌≡◌, ◌<◌, ◌≤◌, All, IfOk, length};
+ghost use Rattle.csp_tables.specs.Prelude.{role_at};
 ghost use Rattle.design_rules.specs.Prelude.{Serves, IsClientServerRanking};
-ghost use Rattle.digraph.specs.Walk.{AreHeights};
-ghost use Rattle.rule_rankings.specs.ClientServerRanks.{AreNodeRanks, ArePartRanks, IsRank, serving_rank};
-ghost use Rattle.rule_rankings.specs.Rows.{AreEach};
+ghost use Rattle.digraph.specs.Prelude.{AreHeights};
+ghost use Rattle.dl_limits.specs.declared.TheConstants.{MOST_COMPONENTS};
+ghost use Rattle.rule_rankings.specs.ClientServerRanks.{CanRank, IsRank, serving_rank};
+ghost use Rattle.rule_rankings.specs.Rows.{NoLap};
 
-use crate::rows::no_laps;
-use containers::Items;
-use csp_base::{EventSet, NoMemory};
-use csp_tables::{NormNode, PartRanks, Ranking, RoleSets, Shape};
+use crate::rows::{Ranks, rank_parts};
+use csp_base::{Event, EventSet, NoMemory};
+use csp_tables::{Ranking, RoleSets, Shape};
 use digraph::Heights;
 use shape_links::SortedShape;
 use std::alloc::Global;
 
-// The ranks of acceptances with requests to the component as a server, and of others.
+// What ranks clients and servers: their heights, and what is asked of them.
 #[derive(Clone, Copy)]
-struct Levels {
-    serving: i64,
-    asking: i64,
+struct Roles<'a> {
+    shape: &'a Shape,
+    roles: &'a [RoleSets],
+    heights: &'a Heights,
 }
 
 /// The ranking with these heights of the parts.
@@ -35,34 +35,40 @@ pub fn client_server_ranking(
     requires below { All (λ height. height < length prepared.now.parts) heights.now }
     ensures { IfOk result (λ ranking. IsClientServerRanking prepared.now roles.now ranking) }
 {
-    let mut parts = Items::new(alloc);
-    for part in 0..prepared.shape().parts().len() {
-        parts.push_made(part_ranks(alloc, prepared, roles, heights, part as u32))?;
-    }
-    Ok(Ranking::new(0, parts.into_vec()))
+    let shape = prepared.shape();
+    let ranks = Roles {
+        shape,
+        roles,
+        heights,
+    };
+    let parts = rank_parts(alloc, shape.parts(), &ranks)?;
+    Ok(Ranking::new(0, parts))
 }
 
-// The ranks and the laps of a part.
-fn part_ranks(
-    alloc: Global,
-    prepared: &SortedShape<'_>,
-    roles: &[RoleSets],
-    heights: &Heights,
-    part: u32,
-) -> Result<PartRanks, NoMemory>
-    requires part { part < length prepared.now.parts }
-    requires roles { length roles.now ≡ length prepared.now.parts }
-    requires count { length heights.now ≡ length prepared.now.parts }
-    requires below { slice_index heights.now part < length prepared.now.parts }
-    ensures { IfOk result (λ ranks. ArePartRanks prepared.now roles.now (slice_index heights.now) part ranks) }
-{
-    let shape = prepared.shape();
-    let levels = levels_of(shape, heights, part);
-    let nodes = prepared.component(part).table().nodes();
-    let requests = requests_of(roles, part);
-    let ranks = rank_rows(alloc, shape.vocabulary(), requests, levels, nodes)?;
-    let laps = no_laps(alloc, nodes)?;
-    Ok(PartRanks::new(ranks, laps))
+impl<'a> Ranks for Roles<'a> {
+    ghost can_rank = { λ r. CanRank r.shape.now r.roles.now r.heights.now };
+
+    ghost is_rank = { λ r. IsRank r.shape.now r.roles.now r.heights.now };
+
+    ghost is_lap = { λ _. NoLap };
+
+    fn rank(&self, part: u32, set: &EventSet) -> i64 {
+        if !set.is_subset(self.shape.vocabulary()) {
+            return 0;
+        }
+        let height = self.heights.of(part);
+        if set.meets(requests_of(self.roles, part)) {
+            return serving(self.shape.parts().len() as u32, height);
+        }
+        if set.is_empty() {
+            return 0;
+        }
+        i64::from(height)
+    }
+
+    fn lap(&self, _part: u32, _event: Event) -> u8 {
+        0
+    }
 }
 
 // The requests to the part as a server.
@@ -73,68 +79,11 @@ fn requests_of(roles: &[RoleSets], part: u32) -> &EventSet
     roles[part as usize].sreq()
 }
 
-// The ranks of a part of the shape, by its height.
-fn levels_of(shape: &Shape, heights: &Heights, part: u32) -> Levels
-    requires part { part < length heights.now }
-    requires few { length shape.now.parts ≤ MOST_COMPONENTS }
-    requires below { slice_index heights.now part < length shape.now.parts }
-    ensures serving { result.serving ≡ serving_rank (length shape.now.parts) (slice_index heights.now part) }
-    ensures asking { result.asking ≡ pos (slice_index heights.now part) }
+// The rank where there are requests, by the number of parts.
+fn serving(count: u32, height: u32) -> i64
+    requires few { count ≤ MOST_COMPONENTS }
+    requires below { height < count }
+    ensures { result ≡ serving_rank count height }
 {
-    let count = shape.parts().len() as u32;
-    let height = i64::from(heights.of(part));
-    Levels {
-        serving: 2 * i64::from(count) - height,
-        asking: height,
-    }
-}
-
-// For each node the ranks of its acceptances.
-fn rank_rows(
-    alloc: Global,
-    vocabulary: &EventSet,
-    requests: &EventSet,
-    levels: Levels,
-    nodes: &[NormNode],
-) -> Result<Vec<Vec<i64>>, NoMemory>
-    ensures { IfOk result (λ rows. AreEach no_node [] (AreNodeRanks vocabulary.now requests.now levels.serving levels.asking) nodes.now (map (λ row. row.items) rows.items)) }
-{
-    let mut rows = Items::new(alloc);
-    for node in nodes {
-        rows.push_made(rank_row(alloc, vocabulary, requests, levels, node.accept()))?;
-    }
-    Ok(rows.into_vec())
-}
-
-// The ranks of some acceptances.
-fn rank_row(
-    alloc: Global,
-    vocabulary: &EventSet,
-    requests: &EventSet,
-    levels: Levels,
-    accept: &[EventSet],
-) -> Result<Vec<i64>, NoMemory>
-    ensures { IfOk result (λ row. AreEach [] (pos 0) (IsRank vocabulary.now requests.now levels.serving levels.asking) accept.now row.items) }
-{
-    let mut row = Vec::new(alloc);
-    for set in accept {
-        row.push(rank_of(vocabulary, requests, levels, set))?;
-    }
-    Ok(row)
-}
-
-// The rank of an acceptance.
-fn rank_of(vocabulary: &EventSet, requests: &EventSet, levels: Levels, set: &EventSet) -> i64
-    ensures { IsRank vocabulary.now requests.now levels.serving levels.asking set.now result }
-{
-    if !set.is_subset(vocabulary) {
-        return 0;
-    }
-    if set.meets(requests) {
-        return levels.serving;
-    }
-    if set.is_empty() {
-        return 0;
-    }
-    levels.asking
+    2 * i64::from(count) - i64::from(height)
 }

@@ -1,21 +1,28 @@
 //! The ranking of a network of users and resources.
 
-ghost use Rattle.std.specs.Prelude.{◌≡◌, ◌<◌, ◌≤◌, ◌⊎◌, ◌+◌, ◌-◌, ◌*◌, if◌then◌else◌, [], ℕ, true, pos, min, All, IfOk, length, map};
+ghost use Rattle.std.specs.Prelude.{◌≡◌, ◌<◌, ◌≤◌, ◌⊎◌, ◌+◌, ◌-◌, ◌*◌, if◌then◌else◌, ℕ, true, pos, min, All, IfOk, length};
 ghost use Rattle.dl_limits.specs.declared.TheConstants.{MOST_COMPONENTS};
-ghost use Rattle.csp_tables.specs.Prelude.{use_at, no_node};
+ghost use Rattle.csp_tables.specs.Prelude.{use_at};
 ghost use Rattle.design_rules.specs.Prelude.{KeepUses, AreResourceRanks, top_number};
 ghost use Rattle.shape_links.specs.Acquired.{is_acquired_by};
-ghost use Rattle.rule_rankings.specs.ResourceRanks.{AreNodeRanks, ArePartRanks, HaveTop, IsLeastAcquired, IsRank, number_by};
-ghost use Rattle.rule_rankings.specs.Rows.{AreEach};
+ghost use Rattle.rule_rankings.specs.ResourceRanks.{CanRank, HaveTop, IsLeastAcquired, IsRank, number_by};
+ghost use Rattle.rule_rankings.specs.Rows.{NoLap};
 ghost use Rattle.shape_links.specs.Setting.{KeepKinds};
 
-use crate::rows::{larger, no_laps};
-use containers::Items;
+use crate::rows::{Ranks, larger, rank_parts};
 use csp_base::{Event, EventSet, NoMemory};
-use csp_tables::{NormNode, PartRanks, Ranking};
+use csp_tables::Ranking;
 use digraph::Heights;
 use shape_links::{Setting, acquired};
 use std::alloc::Global;
+
+// What ranks users and resources: the heights of the resources, and the greatest number of one.
+#[derive(Clone, Copy)]
+struct Numbers<'a> {
+    setting: &'a Setting<'a>,
+    heights: &'a Heights,
+    top: u32,
+}
 
 /// The ranking with the numbers that these heights of the resources give.
 pub fn resource_ranking(
@@ -28,13 +35,13 @@ pub fn resource_ranking(
     requires below { All (λ height. height < length setting.now.shape.parts) heights.now }
     ensures { IfOk result (λ ranking. AreResourceRanks setting.now.shape setting.now.uses (number_by heights.now) (top_number setting.now.uses (number_by heights.now) (length setting.now.shape.parts)) ranking) }
 {
-    let _form = setting.shape();
-    let top = top(setting, heights);
-    let mut parts = Items::new(alloc);
-    for part in 0..setting.count() {
-        parts.push_made(part_ranks(alloc, setting, heights, top, part))?;
-    }
-    Ok(Ranking::new(0, parts.into_vec()))
+    let ranks = Numbers {
+        setting,
+        heights,
+        top: top(setting, heights),
+    };
+    let parts = rank_parts(alloc, setting.shape().parts(), &ranks)?;
+    Ok(Ranking::new(0, parts))
 }
 
 // The greatest number of a resource, 0 if there is none.
@@ -49,13 +56,6 @@ fn top(setting: &Setting<'_>, heights: &Heights) -> u32
         top = larger(number, top);
     }
     top
-}
-
-// The smaller of the two.
-fn smaller(a: u32, b: u32) -> u32
-    ensures { result ≡ min a b }
-{
-    if a < b { a } else { b }
 }
 
 // The number of a resource, 0 for a user.
@@ -80,90 +80,33 @@ fn number(heights: &Heights, part: u32) -> u32
     heights.of(part) + 1
 }
 
-// The ranks and the laps of a part.
-fn part_ranks(
-    alloc: Global,
-    setting: &Setting<'_>,
-    heights: &Heights,
-    top: u32,
-    part: u32,
-) -> Result<PartRanks, NoMemory>
-    requires kinds { KeepKinds setting.now }
-    requires top { HaveTop setting.now heights.now top }
-    requires part { part < length setting.now.shape.parts }
-    ensures { IfOk result (λ ranks. ArePartRanks setting.now (number_by heights.now) top part ranks) }
-{
-    let nodes = setting.prepared().component(part).table().nodes();
-    let ranks = rank_rows(alloc, setting, heights, top, part, nodes)?;
-    let laps = no_laps(alloc, nodes)?;
-    Ok(PartRanks::new(ranks, laps))
-}
+impl<'a> Ranks for Numbers<'a> {
+    ghost can_rank = { λ n. CanRank n.setting.now n.heights.now n.top };
 
-// For each node the ranks of its acceptances.
-fn rank_rows(
-    alloc: Global,
-    setting: &Setting<'_>,
-    heights: &Heights,
-    top: u32,
-    part: u32,
-    nodes: &[NormNode],
-) -> Result<Vec<Vec<i64>>, NoMemory>
-    requires kinds { KeepKinds setting.now }
-    requires top { HaveTop setting.now heights.now top }
-    requires part { part < length setting.now.shape.parts }
-    ensures { IfOk result (λ rows. AreEach no_node [] (AreNodeRanks setting.now (number_by heights.now) top part) nodes.now (map (λ row. row.items) rows.items)) }
-{
-    let mut rows = Items::new(alloc);
-    for node in nodes {
-        rows.push_made(rank_row(alloc, setting, heights, top, part, node.accept()))?;
-    }
-    Ok(rows.into_vec())
-}
+    ghost is_rank = { λ n. IsRank n.setting.now (number_by n.heights.now) n.top };
 
-// The ranks of some acceptances.
-fn rank_row(
-    alloc: Global,
-    setting: &Setting<'_>,
-    heights: &Heights,
-    top: u32,
-    part: u32,
-    accept: &[EventSet],
-) -> Result<Vec<i64>, NoMemory>
-    requires kinds { KeepKinds setting.now }
-    requires top { HaveTop setting.now heights.now top }
-    requires part { part < length setting.now.shape.parts }
-    ensures { IfOk result (λ row. AreEach [] (pos 0) (IsRank setting.now (number_by heights.now) top part) accept.now row.items) }
-{
-    let mut row = Vec::new(alloc);
-    for set in accept {
-        row.push(rank_of(setting, heights, top, part, set))?;
-    }
-    Ok(row)
-}
+    ghost is_lap = { λ _. NoLap };
 
-// The rank of an acceptance of the part.
-fn rank_of(setting: &Setting<'_>, heights: &Heights, top: u32, part: u32, set: &EventSet) -> i64
-    requires kinds { KeepKinds setting.now }
-    requires top { HaveTop setting.now heights.now top }
-    requires part { part < length setting.now.shape.parts }
-    ensures { IsRank setting.now (number_by heights.now) top part set.now result }
-{
-    if !set.is_subset(setting.shape().vocabulary()) {
-        return 0;
+    fn rank(&self, part: u32, set: &EventSet) -> i64 {
+        if !set.is_subset(self.setting.shape().vocabulary()) {
+            return 0;
+        }
+        let Some(event) = set.first_from(Event(0)) else {
+            return 0;
+        };
+        let uses = self.setting.uses(part);
+        if !uses.is_resource() {
+            return user_rank(self.top, least_acquired(self, set));
+        }
+        if uses.acquire().contains(event) {
+            return rank(self.top, 2);
+        }
+        rank(self.top - number(self.heights, part), 1)
     }
-    let Some(event) = set.first_from(Event(0)) else {
-        return 0;
-    };
-    let uses = setting.uses(part);
-    if !uses.is_resource() {
-        let least = least_acquired(setting, heights, top, set);
-        return user_rank(top, least);
+
+    fn lap(&self, _part: u32, _event: Event) -> u8 {
+        0
     }
-    if uses.acquire().contains(event) {
-        return rank(top, 2);
-    }
-    let number = number(heights, part);
-    rank(top - number, 1)
 }
 
 // The rank of a user that acquires this least number, 0 where it acquires none.
@@ -188,14 +131,14 @@ fn rank(height: u32, more: u32) -> i64
 }
 
 // The least number of a resource that the set acquires, one more than the greatest number if there is none.
-fn least_acquired(setting: &Setting<'_>, heights: &Heights, top: u32, set: &EventSet) -> u32
-    requires kinds { KeepKinds setting.now }
-    requires top { HaveTop setting.now heights.now top }
-    ensures { IsLeastAcquired setting.now (number_by heights.now) top set.now result }
+fn least_acquired(numbers: &Numbers<'_>, set: &EventSet) -> u32
+    requires kinds { KeepKinds numbers.now.setting.now }
+    requires top { HaveTop numbers.now.setting.now numbers.now.heights.now numbers.now.top }
+    ensures { IsLeastAcquired numbers.now.setting.now (number_by numbers.now.heights.now) numbers.now.top set.now result }
 {
-    let mut least = top + 1;
+    let mut least = numbers.top + 1;
     for event in set.iter() {
-        least = with_event(setting, heights, least, event);
+        least = with_event(numbers.setting, numbers.heights, least, event);
     }
     least
 }
@@ -213,4 +156,11 @@ fn with_event(setting: &Setting<'_>, heights: &Heights, least: u32, event: Event
         return least;
     };
     smaller(number(heights, resource), least)
+}
+
+// The smaller of the two.
+fn smaller(a: u32, b: u32) -> u32
+    ensures { result ≡ min a b }
+{
+    if a < b { a } else { b }
 }

@@ -3,7 +3,7 @@ use Rattle.csp_tables.specs.Network.{leaves}
 use Rattle.net_sound.proofs.Parts.{one_part_each}
 use Rattle.process_steps.specs.ComponentStep.{ProcessStep}
 use Rattle.csp_base.specs.Stops.{Tells}
-use Rattle.comparison.proofs.Components.{all_conform, as_many, first_fails}
+use Rattle.comparison.proofs.Components.{all_conform, as_many, first_fails, same_events}
 use Rattle.comparison.specs.Conforming.{FailsToConform}
 use Rattle.comparison.proofs.conforming.check_components.Goals as goal
 
@@ -18,11 +18,15 @@ pub check_parts-requires-clause-as_many : goal.check_parts-requires-clause-as_ma
 check_parts-requires-clause-as_many c =
     as_many c.args.network.now.network c.args.specified.now.network _ _ (search rules) (search rules) c.requires
 
+pub check_parts-requires-clause-events : goal.check_parts-requires-clause-events
+check_parts-requires-clause-events c =
+    same_events c.args.network.now.network c.args.specified.now.network _ _ (search rules) (search rules) c.requires
+
 pub returns-in-Ok-clause-conform : goal.returns-in-Ok-clause-conform
 returns-in-Ok-clause-conform c = all_conform c.args.network.now.network c.args.specified.now.network c.parts.result.now c.parts-2.result.now (search rules) (search rules) c.requires c.in-Ok.ensures.conform
 
 pub returns-in-Err-clause-told : goal.returns-in-Err-clause-told
 returns-in-Err-clause-told c =
     subst (Tells (FailsToConform c.args.network.now.network c.args.specified.now.network)) (sym c.failure.ensures)
-    (first_fails c.args.network.now.network c.args.specified.now.network c.parts.result.now c.parts-2.result.now (search rules) (search rules) c.requires c.in-Err.place c.in-Err.fault
-    c.in-Err.ensures.within c.in-Err.ensures.earlier c.in-Err.ensures.fails)
+    (first_fails c.args.network.now.network c.args.specified.now.network c.parts.result.now c.parts-2.result.now (search rules) (search rules) c.requires c.in-Err.place c.in-Err.stop
+    c.in-Err.ensures.within c.in-Err.ensures.earlier c.in-Err.ensures.told)

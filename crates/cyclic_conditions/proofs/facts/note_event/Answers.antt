@@ -1,21 +1,24 @@
-use Rattle.std.proofs.Common.{◌≡◌, ◌∙◌, ap, sym}
-use Rattle.std.proofs.lemmas.Result.{err_from_is_err_and}
-use Rattle.cyclic_conditions.specs.declared.facts.FactFault.TheVariants.{Clash}
-use Rattle.cyclic_conditions.specs.Facts.{IsFact}
-use Rattle.cyclic_conditions.specs.declared.facts.Fact.{Fact}
-use Rattle.cyclic_conditions.proofs.Noting.{firsts_more, clashing, failed, same_fault}
+use Rattle.std.proofs.Common.{◌∙◌, sym, subst}
+use Rattle.std.proofs.lemmas.Result.{IfErr-weaker}
+use Rattle.csp_base.proofs.Standard.{on_ok_weaker, same_Some}
+use Rattle.observed_runs.specs.Prelude.{pair_at}
+use Rattle.cyclic_conditions.specs.Facts.{HasFirst}
+use Rattle.cyclic_conditions.proofs.LapPlaces.{place_within, event_noted, event_clashes}
 use Rattle.cyclic_conditions.proofs.facts.note_event.Goals as goal
 
-pub returns-in_ok-note-in-Some-clause-firsts : goal.returns-in_ok-note-in-Some-clause-firsts
-returns-in_ok-note-in-Some-clause-firsts c =
-    let fact : Fact = record { pair = c.args.pair; event = c.args.event; link = c.in-Some.link } in
-    let is : IsFact c.args.prepared.now c.args.part c.args.pairs.now c.args.place fact = record { within = c.requires.within; place = c.requires.is_place; possible = c.requires.possible; owner = c.owner.ensures.found c.in-Some.link c.in-Some.is } in
-    firsts_more c.args.prepared.now c.args.part c.args.pairs.now c.args.firsts.now c.note.new.firsts c.args.place fact c.requires.firsts is c.in_ok-note-in-Some.ensures.sound c.in_ok-note-in-Some.ensures.apart
+pub note-requires : goal.note-requires
+note-requires c = place_within c.args.laps.now c.requires.laps c.pairs.result.now c.args.pair c.args.firsts.now c.pairs.ensures c.requires.within c.requires.firsts
 
-pub returns-in_err-note-in-Some-clause-clash : goal.returns-in_err-note-in-Some-clause-clash
-returns-in_err-note-in-Some-clause-clash c f g h =
-    let w = err_from_is_err_and c.from_residual.result c.from_residual.ensures.1 in
-    let same : w.0 ≡ Clash f g = same_fault w.0 (Clash f g) (sym w.1 ∙ h) in
-    let told : c.note.result ≡ failed (Clash f g) = c.in_err-note-in-Some.was ∙ ap failed (sym w.2 ∙ same) in
-    clashing c.args.prepared.now c.args.part c.args.pairs.now c.args.firsts.now c.args.place (record { pair = c.args.pair; event = c.args.event; link = c.in-Some.link }) f g c.requires.firsts
-    (record { within = c.requires.within; place = c.requires.is_place; possible = c.requires.possible; owner = c.owner.ensures.found c.in-Some.link c.in-Some.is }) (c.note.ensures.clash f g told)
+pub returns-clause-more : goal.returns-clause-more
+returns-clause-more c = on_ok_weaker c.note.result (λ n. (event_noted c.args.laps.now c.requires.laps c.pairs.result.now c.args.pair c.args.event c.in-Some.link c.args.firsts.now c.note.new.firsts c.pairs.ensures c.requires.within c.requires.possible (c.owner.ensures.found c.in-Some.link c.in-Some.is) c.requires.firsts n).0) c.note.ensures.noted
+
+pub returns-clause-noted : goal.returns-clause-noted
+returns-clause-noted c = on_ok_weaker c.note.result
+    (λ n l o. subst (HasFirst c.note.new.firsts (pair_at c.args.laps.now.explored.pairs c.args.pair).1) (same_Some c.in-Some.link l (sym c.in-Some.is ∙ c.owner.ensures.owned l o))
+    (event_noted c.args.laps.now c.requires.laps c.pairs.result.now c.args.pair c.args.event c.in-Some.link c.args.firsts.now c.note.new.firsts c.pairs.ensures c.requires.within c.requires.possible (c.owner.ensures.found c.in-Some.link c.in-Some.is) c.requires.firsts n).1)
+    c.note.ensures.noted
+
+pub returns-clause-clash : goal.returns-clause-clash
+returns-clause-clash c = IfErr-weaker c.note.result _ _
+    (λ clash k. event_clashes c.args.laps.now c.requires.laps c.pairs.result.now c.args.pair c.args.event c.in-Some.link clash.here clash.there c.args.firsts.now c.pairs.ensures c.requires.within c.requires.possible (c.owner.ensures.found c.in-Some.link c.in-Some.is) c.requires.firsts k)
+    c.note.ensures.clash

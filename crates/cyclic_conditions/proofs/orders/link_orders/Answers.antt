@@ -1,17 +1,18 @@
 use Rattle.std.proofs.Common.{◌≡◌, length, ap, sym, subst, arith, inl, inr}
 use Rattle.csp_base.proofs.Standard.{cases_lt, err_from_is_err_and}
 use Rattle.std.specs.Prelude.{IfErr}
+use Rattle.csp_base.specs.Prelude.{Tells}
 use Rattle.csp_tables.specs.Prelude.{Shape, Part}
 use Rattle.design_rules.specs.Prelude.{KeepsPlaces, BreaksCyclic}
 use Rattle.cyclic_conditions.specs.Told.{IsBrokenOrder}
-use Rattle.cyclic_conditions.proofs.Laps.{breaks_there, orders_more}
+use Rattle.cyclic_conditions.proofs.LapPlaces.{breaks_there, orders_more}
 use Rattle.cyclic_conditions.proofs.orders.link_orders.Goals as goal
 
 pub returns-in_err-add_order-clause-fault : goal.returns-in_err-add_order-clause-fault
 returns-in_err-add_order-clause-fault c =
     let w = err_from_is_err_and c.from_residual.result c.from_residual.ensures.1 in
-    subst (λ r. IfErr r (λ fault. BreaksCyclic c.args.prepared.now fault)) (sym w.1)
-    (breaks_there c.args.prepared.now c.loop-part.part w.0 (λ j h. c.loop-part.invariant.keep j h) (subst (IsBrokenOrder c.args.prepared.now c.loop-part.part) (sym w.2) c.in_err-add_order.ensures.fault))
+    subst (λ r. IfErr r (Tells (BreaksCyclic c.args.prepared.now))) (sym w.1)
+    (breaks_there c.args.prepared.now c.loop-part.part w.0 (λ j h. c.loop-part.invariant.keep j h) (subst (Tells (IsBrokenOrder c.args.prepared.now c.loop-part.part)) (sym w.2) c.in_err-add_order.ensures.fault))
 
 pub loop-part-preserved : goal.loop-part-preserved
 loop-part-preserved c =

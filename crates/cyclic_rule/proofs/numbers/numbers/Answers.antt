@@ -1,9 +1,8 @@
-use Rattle.std.proofs.Common.{◌≡◌, ◌<◌, ℕ, List, map, length, ap, inl, inr, refl, sym, subst, Err}
-use Rattle.std.specs.Prelude.{slice_index, IfOk}
+use Rattle.std.proofs.Common.{◌<◌, ◌∙◌, ℕ, List, map, length, ap, sym, subst, Err}
+use Rattle.std.specs.Prelude.{slice_index}
 use Rattle.csp_tables.specs.Shape.{Shape}
 use Rattle.digraph.specs.Prelude.{HasArc, IsLeastCircle}
-use Rattle.design_rules.specs.Prelude.{MustPrecede, ends_of, BreaksCyclic}
-use Rattle.design_rules.specs.declared.rule_fault.RuleFault.TheVariants.{LinksCircle}
+use Rattle.design_rules.specs.Prelude.{MustPrecede, ends_of}
 use Rattle.shape_links.specs.Turned.{turned_circle}
 use Rattle.cyclic_rule.proofs.Chaining.{next_precedes, all_rise, chain_numbers}
 use Rattle.shape_links.proofs.Circles.{turned_least, circle_some}
@@ -21,8 +20,8 @@ returns-in-Ok-clause-chains c =
 pub returns-in-Ok-clause-rise : goal.returns-in-Ok-clause-rise
 returns-in-Ok-clause-rise c = all_rise c.args.prepared.now c.args.orders.now c.shape-form.ensures.form c.requires.keep c.requires.orders (slice_index c.in-Ok.heights) (λ l m x. c.in-Ok.ensures.falls m l (c.in_ok-rows.ensures.complete m l x))
 
-pub turned_ends-links-requires : goal.turned_ends-links-requires
-turned_ends-links-requires c =
+pub turned_ends-requires : goal.turned_ends-requires
+turned_ends-requires c =
     let it = c.in-Err-Circle.ensures.circle c.in-Err-Circle.circle (ap Err c.in-Err-Circle.field-0-is) in
     subst (λ (vs : List ℕ). 0 < length vs) (sym c.members.ensures) (circle_some (HasArc c.in_ok-rows.rows) c.in-Err-Circle.circle it)
 
@@ -30,16 +29,10 @@ pub returns-in-Err-Circle-clause-fault : goal.returns-in-Err-Circle-clause-fault
 returns-in-Err-Circle-clause-fault c =
     let shape = c.args.prepared.now in
     let it = c.in-Err-Circle.ensures.circle c.in-Err-Circle.circle (ap Err c.in-Err-Circle.field-0-is) in
-    let links = turned_circle c.members.result.now in
-    let disagree : BreaksCyclic shape (LinksCircle (map (ends_of shape) links)) = record {
+    record {
       order = c.requires.keep;
-      links = links;
+      links = turned_circle c.members.result.now;
       circle = subst (IsLeastCircle (MustPrecede shape)) (sym (ap turned_circle c.members.ensures))
           (turned_least (HasArc c.in_ok-rows.rows) (MustPrecede shape) (λ m l arc. next_precedes shape c.args.orders.now c.shape-form.ensures.form c.requires.keep c.requires.orders l m (c.in_ok-rows.ensures.sound m l arc)) c.in-Err-Circle.circle it);
-      are = refl;
-    } in
-    let told = subst (λ (z : Shape). IfOk c.turned_ends-links.result (λ made. made ≡ map (ends_of z) links)) c.shape-form.ensures.value c.turned_ends-links.ensures in
-    elim (c.links_circle.ensures (map (ends_of shape) links) told) as (λ _. BreaksCyclic shape c.links_circle.result) [
-      | inl want ↦ subst (BreaksCyclic shape) (sym want) tt
-      | inr is ↦ subst (BreaksCyclic shape) (sym is) disagree
-    ]
+      are = c.in_ok-links-in-Err-Circle.ensures ∙ ap (λ (z : Shape). map (ends_of z) (turned_circle c.members.result.now)) c.shape-form.ensures.value;
+    }

@@ -1,7 +1,7 @@
 use Rattle.std.proofs.Common.{◌≡◌, ◌+◌, ℕ, get_or}
 use Rattle.csp_base.specs.Members.{has}
 use Rattle.numbered_walks.proofs.Agreeing.{AreLeft}
-use Rattle.numbered_walks.specs.Agreements.{IsAgreement, bit}
+use Rattle.numbered_walks.specs.Prelude.{IsAgreement, bit}
 use Rattle.numbered_walks.proofs.agreement.offer_all.Given as goal
 
 abbrev pub invariant-loop-event : goal.invariant-loop-event

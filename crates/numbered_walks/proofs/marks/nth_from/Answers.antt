@@ -1,4 +1,5 @@
-use Rattle.numbered_walks.proofs.Counting.{found_mark, passed_mark, passed_none}
+use Rattle.std.proofs.Common.{true, false, arith}
+use Rattle.numbered_walks.proofs.Counting.{found_mark, passed_mark}
 use Rattle.numbered_walks.proofs.marks.nth_from.Goals as goal
 use Rattle.numbered_walks.proofs.marks.nth_from.Goals.{then-marks-number+else-left-eq0, else-marks-number}
 
@@ -9,6 +10,10 @@ pub loop-number-preserved : goal.loop-number-preserved
 loop-number-preserved c =
     elim c.if-marks-number.branch [
       | then-marks-number+else-left-eq0 w ↦
-          passed_mark c.args.marks.now c.loop-number.number c.loop-number.left c.if-marks-number.left _ c.loop-number-test.true w.if-marks-number.true w.if-left-eq0.false w.left-is c.loop-number.invariant
-      | else-marks-number w ↦ passed_none c.args.marks.now c.loop-number.number c.loop-number.left c.if-marks-number.left _ c.loop-number-test.true w.if-marks-number.false w.left-is c.loop-number.invariant
+          let is = w.left-is in
+          let some = w.if-left-eq0.false in
+          passed_mark c.args.marks.now c.loop-number.number c.loop-number.left c.if-marks-number.left _ true c.loop-number-test.true w.if-marks-number.true (omega (arith, is, some)) c.loop-number.invariant
+      | else-marks-number w ↦
+          let is = w.left-is in
+          passed_mark c.args.marks.now c.loop-number.number c.loop-number.left c.if-marks-number.left _ false c.loop-number-test.true w.if-marks-number.false (omega (arith, is)) c.loop-number.invariant
     ]

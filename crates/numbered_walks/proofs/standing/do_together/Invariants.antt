@@ -1,12 +1,15 @@
-use Rattle.std.proofs.Common.{take}
+use Rattle.std.proofs.Common.{ℕ, List, drop}
 use Rattle.csp_tables.specs.Label.Label.{visible}
+use Rattle.csp_base.proofs.Rising.{RisesFrom}
 use Rattle.numbered_walks.specs.Prelude.{IsStanding, AllGo}
-use Rattle.numbered_walks.proofs.Stepping.{AreDone}
+use Rattle.numbered_walks.proofs.Stepping.{AreReady}
 use Rattle.numbered_walks.proofs.standing.do_together.Given as goal
 
 abbrev pub invariant-loop-place : goal.invariant-loop-place
 invariant-loop-place l = record {
   form : IsStanding l.movers l.standing;
-  done : AreDone l.movers l.event (take l.place-index l.owners) l.initial.standing.terms.items l.standing.terms.items;
-  gone : AllGo l.movers (visible l.event) (take l.place-index l.owners) l.initial.standing.terms.items l.initial.standing.drawn l.standing.terms.items l.standing.drawn;
+  rises : RisesFrom 0 (drop l.place-index l.owners);
+  ready : AreReady l.movers l.event (drop l.place-index l.owners) l.standing.terms.items;
+  gone : (ys : List ℕ) (z : ℕ) → AllGo l.movers (visible l.event) (drop l.place-index l.owners) l.standing.terms.items l.standing.drawn ys z
+      → AllGo l.movers (visible l.event) l.owners l.initial.standing.terms.items l.initial.standing.drawn ys z;
 }

@@ -1,7 +1,7 @@
 use Rattle.std.proofs.Common.{◌<◌, ℕ, [], IsTrue, length, sym, subst, ◌∙◌}
 use Rattle.csp_base.proofs.Standard.{get_or_default, on_ok_weaker}
-use Rattle.numbered_walks.proofs.Stepping.{all_go, both_ok, one_does, one_within, row_there}
-use Rattle.numbered_walks.specs.Prelude.{Goes, Has, has_owner}
+use Rattle.numbered_walks.proofs.Stepping.{all_go, one_does, one_within, row_there}
+use Rattle.numbered_walks.specs.Prelude.{GoesOn, Has, has_owner}
 use Rattle.numbered_walks.specs.declared.moves.Move.{Move}
 use Rattle.numbered_walks.specs.declared.moves.Move.TheVariants as move
 use Rattle.numbered_walks.proofs.standing.take.Goals as goal
@@ -19,12 +19,13 @@ do_together-requires-clause-owners c =
 
 pub returns-in-Silent-clause-goes : goal.returns-in-Silent-clause-goes
 returns-in-Silent-clause-goes c =
-    let has_it = subst (λ (m : Move). Has c.args.movers.now c.args.standing.now.terms.items m) c.in-Silent.is c.requires.has in
+    let cs = c.args.movers.now in
+    let old = c.args.standing.now in
     let new = c.move_silently.new.standing in
+    let has_it = subst (λ (m : Move). Has cs old.terms.items m) c.in-Silent.is c.requires.has in
     on_ok_weaker c.move_silently.result
-    (λ does. subst (λ (m : Move). Goes c.args.movers.now c.args.standing.now.terms.items c.args.standing.now.drawn m new.terms.items new.drawn) (sym c.in-Silent.is)
-    (one_does c.args.movers.now c.args.standing.now.terms.items new.terms.items c.in-Silent.place c.args.standing.now.drawn new.drawn
-    (one_within c.args.movers.now c.args.standing.now.terms.items c.in-Silent.place has_it) c.requires.form.one_each does)) c.move_silently.ensures.does
+    (λ does. subst (λ (m : Move). GoesOn cs m old new) (sym c.in-Silent.is)
+    (one_does cs old new c.in-Silent.place (one_within cs old.terms.items c.in-Silent.place has_it) c.requires.form.one_each does)) c.move_silently.ensures.does
 
 pub returns-in-Event-clause-goes : goal.returns-in-Event-clause-goes
 returns-in-Event-clause-goes c =
@@ -36,7 +37,5 @@ returns-in-Event-clause-goes c =
     let below = row_there cs c.args.owners.now e c.requires.owners owned in
     let places = c.as_slice.ensures ∙ c.index-owners-event.is ∙ get_or_default c.args.owners.now e c.index-owners-event.result [] below ∙ c.requires.owners e in
     on_ok_weaker c.do_together.result
-    (λ both. subst (λ (m : Move). Goes cs old.terms.items old.drawn m new.terms.items new.drawn) (sym c.in-Event.is)
-    (subst (λ n. Goes cs old.terms.items old.drawn (move.Event n) new.terms.items new.drawn) c.event.view_is
-    (all_go e cs old.terms.items new.terms.items c.as_slice.result.now old.drawn new.drawn owned c.requires.form.one_each places both.0 both.1)))
-    (both_ok _ _ c.do_together.result c.do_together.ensures.done c.do_together.ensures.gone)
+    (λ gone. subst (λ (m : Move). GoesOn cs m old new) (sym c.in-Event.is)
+    (subst (λ n. GoesOn cs (move.Event n) old new) c.event.view_is (all_go e cs c.as_slice.result.now old new owned c.requires.form.one_each places gone))) c.do_together.ensures.gone

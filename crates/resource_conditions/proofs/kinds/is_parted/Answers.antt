@@ -1,6 +1,6 @@
 use Rattle.std.proofs.Common.{◌≡◌, ◌∙◌, ◌||◌, ◌&&◌, ℕ, List, ap, sym}
 use Rattle.csp_base.specs.Prelude.{has, meets_of}
-use Rattle.csp_tables.specs.Prelude.{Part, part_at, UseSets, use_at, Shape}
+use Rattle.csp_tables.specs.Prelude.{part_at, UseSets, use_at, Shape}
 use Rattle.resource_conditions.specs.Setting.{HasParted}
 use Rattle.resource_conditions.proofs.Joining.{parted, not_apart, not_within, not_all, match_of}
 use Rattle.resource_conditions.proofs.kinds.is_parted.Goals as goal
@@ -28,7 +28,7 @@ returns-then-not-is_subset c =
     let u = c.uses-uses.ensures in
     let resource = sym (c.is_resource.ensures ∙ ap (λ (x : UseSets). x.resource) u) ∙ c.if-not-is_resource.false in
     let told = read_union c.in_ok-told.told c.acquire-2.result.now c.release-2.result.now (use_at g.uses c.args.part).acquire (use_at g.uses c.args.part).release (c.acquire-2.ensures ∙ ap (λ (x : UseSets). x.acquire) u) (c.release-2.ensures ∙ ap (λ (x : UseSets). x.release) u) c.in_ok-told.ensures.members in
-    let shared = read_inter c.in_ok-shared.shared c.alphabet-alphabet.result.now c.vocabulary.result.now (part_at g.shape.parts c.args.part).alphabet g.shape.vocabulary (c.alphabet-alphabet.ensures ∙ ap (λ (p : Part). p.alphabet) c.component.ensures.value ∙ ap (λ (s : Shape). (part_at s.parts c.args.part).alphabet) c.prepared.ensures) (c.vocabulary.ensures ∙ ap (λ (s : Shape). s.vocabulary) c.shape.ensures.value) c.in_ok-shared.ensures.members in
+    let shared = read_inter c.in_ok-shared.shared c.alphabet-alphabet.result.now c.vocabulary.result.now (part_at g.shape.parts c.args.part).alphabet g.shape.vocabulary (c.alphabet-alphabet.ensures ∙ ap (λ (s : Shape). (part_at s.parts c.component.result.number).alphabet) c.component.ensures.shape ∙ ap (λ (n : ℕ). (part_at c.args.setting.now.shape.parts n).alphabet) c.component.ensures.number) (c.vocabulary.ensures ∙ ap (λ (s : Shape). s.vocabulary) c.shape.ensures.value) c.in_ok-shared.ensures.members in
     not_within g c.args.part c.in_ok-told.told c.in_ok-shared.shared told shared resource (sym c.is_subset.ensures ∙ c.if-not-is_subset.true)
 
 pub returns : goal.returns
@@ -37,7 +37,7 @@ returns c =
     let u = c.uses-uses.ensures in
     let resource = sym (c.is_resource.ensures ∙ ap (λ (x : UseSets). x.resource) u) ∙ c.if-not-is_resource.false in
     let told = read_union c.in_ok-told.told c.acquire-2.result.now c.release-2.result.now (use_at g.uses c.args.part).acquire (use_at g.uses c.args.part).release (c.acquire-2.ensures ∙ ap (λ (x : UseSets). x.acquire) u) (c.release-2.ensures ∙ ap (λ (x : UseSets). x.release) u) c.in_ok-told.ensures.members in
-    let shared = read_inter c.in_ok-shared.shared c.alphabet-alphabet.result.now c.vocabulary.result.now (part_at g.shape.parts c.args.part).alphabet g.shape.vocabulary (c.alphabet-alphabet.ensures ∙ ap (λ (p : Part). p.alphabet) c.component.ensures.value ∙ ap (λ (s : Shape). (part_at s.parts c.args.part).alphabet) c.prepared.ensures) (c.vocabulary.ensures ∙ ap (λ (s : Shape). s.vocabulary) c.shape.ensures.value) c.in_ok-shared.ensures.members in
+    let shared = read_inter c.in_ok-shared.shared c.alphabet-alphabet.result.now c.vocabulary.result.now (part_at g.shape.parts c.args.part).alphabet g.shape.vocabulary (c.alphabet-alphabet.ensures ∙ ap (λ (s : Shape). (part_at s.parts c.component.result.number).alphabet) c.component.ensures.shape ∙ ap (λ (n : ℕ). (part_at c.args.setting.now.shape.parts n).alphabet) c.component.ensures.number) (c.vocabulary.ensures ∙ ap (λ (s : Shape). s.vocabulary) c.shape.ensures.value) c.in_ok-shared.ensures.members in
     let a = c.acquire.ensures ∙ ap (λ (x : UseSets). x.acquire) u in
     let r = c.release.ensures ∙ ap (λ (x : UseSets). x.release) u in
     let apart = sym (c.meets.ensures ∙ ap (λ (xs : List ℕ). meets_of xs c.release.result.now) a ∙ ap (meets_of (use_at c.args.setting.now.uses c.args.part).acquire) r) ∙ c.if-meets.false in

@@ -1,4 +1,4 @@
-use Rattle.std.proofs.Common.{◌<◌, ℕ, List, length, ap, sym, subst, refl, arith, inl, inr, Err}
+use Rattle.std.proofs.Common.{◌<◌, ℕ, List, length, ap, sym, subst, refl, arith, ◌≡◌, ◌∙◌, Err}
 use Rattle.std.specs.Prelude.{slice_index}
 use Rattle.digraph.specs.Prelude.{HasArc, IsLeastCircle}
 use Rattle.digraph.proofs.WalkLaws.{same_longest}
@@ -6,7 +6,6 @@ use Rattle.design_rules.specs.Prelude.{IsHeldWhile, StandsAbove}
 use Rattle.design_rules.specs.declared.rule_fault.RuleFault.TheVariants.{ResourcesCircle}
 use Rattle.shape_links.specs.Turned.{turned_circle}
 use Rattle.shape_links.proofs.Circles.{turned_least, circle_some}
-use Rattle.resource_conditions.specs.Setting.{Breaks}
 use Rattle.resource_rule.proofs.numbers.numbers.Goals as goal
 
 pub returns-in-Ok-clause-numbers : goal.returns-in-Ok-clause-numbers
@@ -29,16 +28,13 @@ turned-requires c =
     let it = c.in-Err-Circle.ensures.circle c.in-Err-Circle.circle (ap Err c.in-Err-Circle.field-0-is) in
     subst (λ (vs : List ℕ). 0 < length vs) (sym c.members.ensures) (circle_some (HasArc c.args.rows.now) c.in-Err-Circle.circle it)
 
-pub returns-in-Err-Circle-clause-fault : goal.returns-in-Err-Circle-clause-fault
-returns-in-Err-Circle-clause-fault c =
+pub returns-in_ok-resources-in-Err-Circle-clause-fault : goal.returns-in_ok-resources-in-Err-Circle-clause-fault
+returns-in_ok-resources-in-Err-Circle-clause-fault c =
     let g = c.args.setting.now in
     let it = c.in-Err-Circle.ensures.circle c.in-Err-Circle.circle (ap Err c.in-Err-Circle.field-0-is) in
-    let in_circle : Breaks g (ResourcesCircle (turned_circle c.members.result.now)) = record {
+    let resources : c.in_ok-resources-in-Err-Circle.resources ≡ turned_circle c.in-Err-Circle.circle = c.in_ok-resources-in-Err-Circle.ensures ∙ ap turned_circle c.members.ensures in
+    record {
       keep_uses = c.requires.keep;
-      circle = subst (IsLeastCircle (IsHeldWhile g.shape g.uses)) (sym (ap turned_circle c.members.ensures))
+      circle = subst (IsLeastCircle (IsHeldWhile g.shape g.uses)) (sym resources)
           (turned_least (HasArc c.args.rows.now) (IsHeldWhile g.shape g.uses) (λ (x y : ℕ) arc. c.requires.sound x y arc) c.in-Err-Circle.circle it);
-    } in
-    elim (c.resources_circle.ensures (turned_circle c.members.result.now) c.turned.ensures) as (λ _. Breaks g c.resources_circle.result) [
-      | inl want ↦ subst (Breaks g) (sym want) tt
-      | inr is ↦ subst (Breaks g) (sym is) in_circle
-    ]
+    }

@@ -11,11 +11,6 @@ drawn_by-requires c =
     subst (λ n. 0 < n) (length-map c.steps_by.result.now (λ s. s.1))
     (subst (λ (l : List ℕ). 0 < length l) (sym c.steps_by.ensures.value) (has_target c.args.self.now.table c.args.term c.requires.can.0 (visible c.args.event) c.requires.can.1))
 
-pub returns-clause-step : goal.returns-clause-step
-returns-clause-step c =
-    drawn_steps c.args.self.now.table c.args.term (visible c.args.event) c.args.number c.drawn_by.result.to c.drawn_by.result.number
-    (subst (λ (l : List ℕ). IsDrawn l c.args.number c.drawn_by.result.to c.drawn_by.result.number) c.steps_by.ensures.value c.drawn_by.ensures)
-
 pub returns-clause-within : goal.returns-clause-within
 returns-clause-within c =
     let step = drawn_steps c.args.self.now.table c.args.term (visible c.args.event) c.args.number c.drawn_by.result.to c.drawn_by.result.number

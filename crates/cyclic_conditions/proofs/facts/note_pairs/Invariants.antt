@@ -1,9 +1,0 @@
-use Rattle.std.proofs.Common.{ℕ, ◌<◌}
-use Rattle.cyclic_conditions.specs.Facts.{AreFirsts, IsNoted}
-use Rattle.cyclic_conditions.proofs.facts.note_pairs.Given as goal
-
-abbrev pub invariant-loop-pair : goal.invariant-loop-pair
-invariant-loop-pair l = record {
-  firsts_are : AreFirsts l.prepared l.part l.pairs l.firsts;
-  noted : (p : ℕ) → p < l.pair → IsNoted l.prepared l.part l.pairs l.firsts p;
-}

@@ -1,0 +1,7 @@
+use Rattle.std.proofs.Common.{◌≡◌, Ok, take}
+use Rattle.process_steps.specs.Needed.{all_outcomes}
+use Rattle.network_layout.proofs.told.all_noted.Given as goal
+
+-- what is told of the components so far has values
+abbrev pub invariant-loop-part : goal.invariant-loop-part
+invariant-loop-part g l = all_outcomes (g.T.Noted.told l.program) (take l.part l.seats) ≡ Ok l.made

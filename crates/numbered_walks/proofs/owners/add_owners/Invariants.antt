@@ -1,6 +1,0 @@
-use Rattle.std.proofs.Common.{◌≡◌, ℕ, [], get_or, length, take}
-use Rattle.numbered_walks.specs.Prelude.{marked, owner_marks}
-use Rattle.numbered_walks.proofs.owners.add_owners.Given as goal
-
-abbrev pub invariant-loop-place : goal.invariant-loop-place
-invariant-loop-place l = record { rows : (e : ℕ) → get_or l.rows.items e [] ≡ marked (owner_marks e (take l.place l.movers)); one_each : length l.rows.items ≡ length l.initial.rows.items }

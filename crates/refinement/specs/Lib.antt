@@ -1,2 +1,0 @@
-pub mod Conforms
-pub mod Inherits

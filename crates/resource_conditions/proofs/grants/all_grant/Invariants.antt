@@ -1,6 +1,0 @@
-use Rattle.std.proofs.Common.{◌≡◌, true, take}
-use Rattle.resource_conditions.specs.Tests.{are_granted}
-use Rattle.resource_conditions.proofs.grants.all_grant.Given as goal
-
-abbrev pub invariant-loop-set : goal.invariant-loop-set
-invariant-loop-set l = are_granted l.vocabulary l.wanted (take l.set-index l.accept) ≡ true

@@ -1,0 +1,6 @@
+use Rattle.std.specs.Prelude.{slice_index}
+use Rattle.rule_rankings.specs.CyclicRanks.{AreTops}
+use Rattle.rule_rankings.proofs.cyclic.tops.Given as goal
+
+abbrev pub invariant-loop-part : goal.invariant-loop-part
+invariant-loop-part l = AreTops l.prepared (slice_index l.numbers) l.part l.tops.items

@@ -1,0 +1,50 @@
+use Rattle.std.proofs.Common.{◌≡◌, ◌∙◌, ◌+◌, ◌-◌, ◌*◌, List, ℕ, pos, nat_le, ap, sym, arith, to_z, of_z, w64}
+use Rattle.csp_base.proofs.Standard.{false≢true, ints}
+use Rattle.csp_base.specs.Prelude.{has, is_subset_of}
+use Rattle.csp_tables.specs.Prelude.{Shape, UseSets}
+use Rattle.rule_rankings.specs.ResourceRanks.{number_by}
+use Rattle.rule_rankings.proofs.ResourceRanking.{rank_outside, rank_empty, user_is, free_is, held_is}
+use Rattle.rule_rankings.proofs.resource.NumbersRanks.rank.Goals as goal
+use Rattle.csp_base.proofs.Listed.{find_has, none_found}
+use Rattle.csp_base.proofs.Rising.{member_of_superset, is_subset_of_from_members}
+
+pub returns-then-not-is_subset : goal.returns-then-not-is_subset
+returns-then-not-is_subset c =
+    let g = c.args.self.now.setting.now in
+    let subset = sym c.if-not-is_subset.true ∙ (c.is_subset.ensures ∙ ap (is_subset_of c.args.set.now) (c.vocabulary.ensures ∙ ap (λ (x : Shape). x.vocabulary) c.shape.ensures.value)) in
+    rank_outside g (number_by c.args.self.now.heights.now) c.args.self.now.top c.args.part c.args.set.now (λ within. false≢true (subset ∙ is_subset_of_from_members c.args.set.now g.shape.vocabulary within))
+
+pub returns-in_default : goal.returns-in_default
+returns-in_default c = rank_empty c.args.self.now.setting.now (number_by c.args.self.now.heights.now) c.args.self.now.top c.args.part c.args.set.now (λ e member. none_found c.args.set.now e (sym c.in_default.ensures.least) member)
+
+pub returns-then-not-is_resource : goal.returns-then-not-is_resource
+returns-then-not-is_resource c =
+    let g = c.args.self.now.setting.now in
+    let number = number_by c.args.self.now.heights.now in
+    let top = c.requires.top_is in
+    let subset = sym (c.is_subset.ensures ∙ ap (is_subset_of c.args.set.now) (c.vocabulary.ensures ∙ ap (λ (x : Shape). x.vocabulary) c.shape.ensures.value)) ∙ c.if-not-is_subset.false in
+    let user = sym (c.is_resource.ensures ∙ ap (λ (u : UseSets). u.resource) c.uses-uses.ensures) ∙ c.if-not-is_resource.true in
+    let same : to_z w64 (of_z w64 c.user_rank.result) ≡ c.user_rank.result = omega (arith, ints) in
+    user_is g number c.args.self.now.top c.args.part c.least_acquired.result c.args.set.now (to_z w64 (of_z w64 c.user_rank.result)) user c.least_acquired.ensures (c.in-Some.event, find_has (nat_le 0) c.args.set.now c.in-Some.event (sym c.in-Some.ensures.least)) (member_of_superset c.args.set.now g.shape.vocabulary subset) top.above
+    (λ low. same ∙ c.user_rank.ensures.some low) (λ high. same ∙ c.user_rank.ensures.none high)
+
+pub returns-then-contains : goal.returns-then-contains
+returns-then-contains c =
+    let g = c.args.self.now.setting.now in
+    let number = number_by c.args.self.now.heights.now in
+    let subset = sym (c.is_subset.ensures ∙ ap (is_subset_of c.args.set.now) (c.vocabulary.ensures ∙ ap (λ (x : Shape). x.vocabulary) c.shape.ensures.value)) ∙ c.if-not-is_subset.false in
+    let resource = sym (c.is_resource.ensures ∙ ap (λ (u : UseSets). u.resource) c.uses-uses.ensures) ∙ c.if-not-is_resource.false in
+    let acquire = sym (c.contains.ensures.member ∙ ap (λ (xs : List ℕ). has xs c.in-Some.event) (c.acquire.ensures ∙ ap (λ (u : UseSets). u.acquire) c.uses-uses.ensures)) ∙ c.if-contains.true in
+    let same : to_z w64 (of_z w64 c.rank.result) ≡ c.rank.result = omega (arith, ints) in
+    free_is g number c.args.self.now.top c.args.part c.in-Some.event c.args.set.now (to_z w64 (of_z w64 c.rank.result)) resource (member_of_superset c.args.set.now g.shape.vocabulary subset) (find_has (nat_le 0) c.args.set.now c.in-Some.event (sym c.in-Some.ensures.least)) acquire (same ∙ c.rank.ensures)
+
+pub returns : goal.returns
+returns c =
+    let g = c.args.self.now.setting.now in
+    let number = number_by c.args.self.now.heights.now in
+    let subset = sym (c.is_subset.ensures ∙ ap (is_subset_of c.args.set.now) (c.vocabulary.ensures ∙ ap (λ (x : Shape). x.vocabulary) c.shape.ensures.value)) ∙ c.if-not-is_subset.false in
+    let resource = sym (c.is_resource.ensures ∙ ap (λ (u : UseSets). u.resource) c.uses-uses.ensures) ∙ c.if-not-is_resource.false in
+    let acquire = sym (c.contains.ensures.member ∙ ap (λ (xs : List ℕ). has xs c.in-Some.event) (c.acquire.ensures ∙ ap (λ (u : UseSets). u.acquire) c.uses-uses.ensures)) ∙ c.if-contains.false in
+    let same : to_z w64 (of_z w64 c.rank-2.result) ≡ c.rank-2.result = omega (arith, ints) in
+    held_is g number c.args.self.now.top c.args.part c.in-Some.event c.args.set.now (to_z w64 (of_z w64 c.rank-2.result)) resource (member_of_superset c.args.set.now g.shape.vocabulary subset) (find_has (nat_le 0) c.args.set.now c.in-Some.event (sym c.in-Some.ensures.least)) acquire
+    (same ∙ (c.rank-2.ensures ∙ ap (λ (n : ℕ). pos (2 * (c.args.self.now.top - n) + 1)) c.number.ensures))
