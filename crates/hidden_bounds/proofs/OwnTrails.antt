@@ -35,10 +35,12 @@ module _ (Arc : ℕ → ℕ → Type 0) where
   pub leads_round : (trail : List ℕ) (w k : ℕ) → k < length trail → get_or trail k 0 ≡ w → ((j : ℕ) → j + 1 ≡ length trail → Arc (get_or trail j 0) w) → AreLinked trail → (vs : List ℕ) × IsCircle Arc vs
   leads_round trail w k within at follows linked =
       let size : length (drop k trail) ≡ length trail - k = length-drop k trail in
-      let read : (j : ℕ) → get_or (drop k trail) j 0 ≡ get_or trail (k + j) 0 = λ j. get_or-drop k trail j 0 in
-      (drop k trail, closed (drop k trail) (omega arith)
-      (λ j h. rw (read j, read (j + 1)) (let e : k + (j + 1) ≡ (k + j) + 1 = omega arith in rw e (linked (k + j) (omega arith))))
-      (rw (read (length (drop k trail) - 1), read 0) (let e : k + 0 ≡ k = omega arith in rw (e, at) (follows (k + (length (drop k trail) - 1)) (omega arith)))))
+      let read : (j : ℕ) → get_or (drop k trail) j 0 ≡ get_or trail (k + j) 0 = λ j. get_or-drop k trail j 0 in (
+        drop k trail,
+        closed (drop k trail) (omega arith)
+            (λ j h. rw (read j, read (j + 1)) (let e : k + (j + 1) ≡ (k + j) + 1 = omega arith in rw e (linked (k + j) (omega arith))))
+            (rw (read (length (drop k trail) - 1), read 0) (let e : k + 0 ≡ k = omega arith in rw (e, at) (follows (k + (length (drop k trail) - 1)) (omega arith)))),
+      )
 
   -- where it is found on the trail
   pub found_round : (trail items : List ℕ) (w : ℕ) (found : Bool) → items ≡ trail → IsAnyAnswer (λ y b. nat_eq y w ≡ b) items found → ((j : ℕ) → j + 1 ≡ length trail → Arc (get_or trail j 0) w) → AreLinked trail

@@ -11,8 +11,8 @@ mod scope;
 mod standings;
 
 pub use bounding::{HiddenBound, LoopFault, livelock};
-pub use ordering::Placed;
 use net_sound::Transitions;
+pub use ordering::Placed;
 
 /// The own graph of a component's table over the hidden events that none of the taken components has is that of the component: it has the same height, and
 /// a circle in it is one of the component.

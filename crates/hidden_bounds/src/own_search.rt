@@ -160,11 +160,7 @@ impl OwnSearch {
     }
 
     // Follows a step from the last term, or leaves the step or the term behind; or tells whether the trail leads round.
-    fn turn(
-        &mut self,
-        graph: &OwnGraph<'_>,
-        trail: &mut Vec<u32>,
-    ) -> Result<Option<bool>, NoMemory>
+    fn turn(&mut self, graph: &OwnGraph<'_>, trail: &mut Vec<u32>) -> Result<Option<bool>, NoMemory>
         requires trail { IsOwnTrail graph.now.table.now graph.now.events.now trail.old.items }
         ensures trail { OnOk result (IsOwnTrail graph.now.table.now graph.now.events.now trail.new.items) }
         ensures round { IfOk result (λ turn. turn ≡ Some true → GoesRoundItself graph.now.table.now graph.now.events.now) }
@@ -255,7 +251,10 @@ impl OwnSearch {
 // So many turns are enough.
 fn most_turns(table: &RawTable) -> usize {
     let steps = table.silent().len().saturating_add(table.steps().len());
-    (table.count() as usize).saturating_mul(2).saturating_add(steps).saturating_add(1)
+    (table.count() as usize)
+        .saturating_mul(2)
+        .saturating_add(steps)
+        .saturating_add(1)
 }
 
 // The last step of a term that is left, where one is.
@@ -276,8 +275,15 @@ fn last_silent(graph: &OwnGraph<'_>, term: u32, progress: Progress) -> Option<St
     if from != term {
         return None;
     }
-    let rest = Progress { silent: place, ..progress };
-    Some(Step { to, is_own: true, rest })
+    let rest = Progress {
+        silent: place,
+        ..progress
+    };
+    Some(Step {
+        to,
+        is_own: true,
+        rest,
+    })
 }
 
 fn last_by_event(graph: &OwnGraph<'_>, term: u32, progress: Progress) -> Option<Step>
@@ -288,6 +294,13 @@ fn last_by_event(graph: &OwnGraph<'_>, term: u32, progress: Progress) -> Option<
     if from != term {
         return None;
     }
-    let rest = Progress { steps: place, ..progress };
-    Some(Step { to, is_own: graph.events.contains(event), rest })
+    let rest = Progress {
+        steps: place,
+        ..progress
+    };
+    Some(Step {
+        to,
+        is_own: graph.events.contains(event),
+        rest,
+    })
 }
