@@ -1,3 +1,4 @@
 pub mod Adding
+pub mod InTurn
 pub mod Offering
 pub mod Using

@@ -3,7 +3,7 @@
 use Rattle.std.specs.Prelude.{◌<◌, ℕ, List, length, Bool, true, ◌&&◌, IsTrue, nat_eq, if◌then◌else◌}
 use Rattle.std.specs.List.{list_all, list_any}
 use Rattle.csp_base.specs.Prelude.{has, is_subset_of}
-use Rattle.csp_tables.specs.Prelude.{part_at, use_at, link_at, IsPossible, Accepts, accepted}
+use Rattle.csp_tables.specs.Prelude.{Joins, part_at, use_at, link_at, IsPossible, Accepts, accepted}
 use Rattle.observed_runs.specs.Prelude.{pair_at, parity_step, Found, AreFound, IsExploration}
 use Rattle.design_rules.specs.Resource.{holds}
 use Rattle.shape_links.specs.Setting.{Setting, node_of}
@@ -16,6 +16,10 @@ pub record WatchesLink (g : Setting) (i l : ℕ) (found : Found) : Type 0 where
 -- U4 on one link: after the run s the part i uses the resource j there in turn
 abbrev pub UsesLink : Setting → ℕ → ℕ → ℕ → List ℕ → Type 0
 UsesLink g i l j s = (e : ℕ) → IsPossible g.shape i s e → IsTrue (has (link_at g.shape l).shared e) → IsTrue (if holds g.shape l s then has (use_at g.uses j).release e else has (use_at g.uses j).acquire e)
+
+-- U4 at one event, by the links on which the part i holds a resource
+abbrev pub IsInTurn : Setting → ℕ → List ℕ → ℕ → Type 0
+IsInTurn g i held e = (j l : ℕ) → Joins g.shape i j l → IsTrue (has (link_at g.shape l).shared e) → IsTrue (if has held l then has (use_at g.uses j).release e else has (use_at g.uses j).acquire e)
 
 -- the part i offers the event in an acceptance in the vocabulary, while it holds the resource of its link l
 pub record IsOfferedHolding (g : Setting) (i l e : ℕ) : Type 0 where

@@ -5,6 +5,7 @@ mod holdings;
 mod numbers;
 mod offers;
 mod rule;
+mod told;
 mod users;
 
 pub use rule::resource;

@@ -10,6 +10,7 @@ ghost use Rattle.resource_conditions.specs.Setting.{Breaks, KeepGrants, KeepTurn
 ghost use Rattle.resource_rule.specs.Uses.{UsesLink, are_uses, is_use};
 ghost use Rattle.shape_links.specs.Setting.{IsUser, KeepKinds};
 
+use crate::told::uses_are_told;
 use csp_base::{Event, NoMemory, Stop, Trace};
 use design_rules::{Condition, RuleFault};
 use observed_runs::Parity;
@@ -52,6 +53,10 @@ fn broken_use(alloc: Global, setting: &Setting<'_>, part: u32) -> Result<Option<
     requires { part < length setting.now.shape.parts }
     ensures { IfOk result (FindsRun setting.now.shape part (UsesInTurn setting.now.shape setting.now.uses part)) }
 {
+    let told = uses_are_told(alloc, setting, part)?;
+    if told {
+        return Ok(None);
+    }
     let component = setting.component(part);
     for link in component.links() {
         if let Some(run) = broken_on(alloc, setting, part, *link)? {
@@ -86,9 +91,8 @@ fn broken_on(
 
 // The other end of a link of the part.
 pub(crate) fn other_end(setting: &Setting<'_>, part: u32, link: u32) -> u32
-    requires link { link < length setting.now.shape.links }
-    requires end { IsTrue (is_end setting.now.shape part link) }
-    ensures joins { Joins setting.now.shape part result link }
+    requires { link < length setting.now.shape.links }
+    ensures joins { IsTrue (is_end setting.now.shape part link) → Joins setting.now.shape part result link }
     ensures only { (j : ℕ) → Joins setting.now.shape part j link → j ≡ result }
     ensures within { result < length setting.now.shape.parts }
 {

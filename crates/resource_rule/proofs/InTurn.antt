@@ -1,0 +1,42 @@
+-- U4, where the nodes of a user tell what it holds there.
+use Rattle.std.proofs.Common.{◌≡◌, ◌<◌, ◌&&◌, ◌∙◌, ℕ, List, [], Bool, true, cond, length, get_or, ap, sym, subst, refl, arith}
+use Rattle.csp_base.specs.Prelude.{has}
+use Rattle.csp_tables.specs.Prelude.{IsRun, IsWellFormed, end_of, is_possible, link_at, part_at, use_at}
+use Rattle.design_rules.specs.Prelude.{count_in, holds, is_odd}
+use Rattle.design_rules.specs.Resource.{UsesInTurn}
+use Rattle.design_rules.proofs.Runs.{end_within}
+use Rattle.design_rules.proofs.Shapes.{link_shared}
+use Rattle.net_sound.proofs.Within.{part_form}
+use Rattle.observed_runs.proofs.Leading.{listed_step}
+use Rattle.observed_runs.specs.Prelude.{AreEnough, pair_at}
+use Rattle.shape_links.proofs.Links.{end_place, has_place}
+use Rattle.shape_links.specs.Links.{ends_of}
+use Rattle.shape_links.specs.Setting.{Setting, node_of}
+use Rattle.resource_rule.specs.Uses.{IsInTurn}
+
+module _ (g : Setting) (i : ℕ) (w : IsWellFormed g.shape) where
+  -- enough of a node's steps show that each event is in turn
+  pub each_in_turn : (held : List ℕ) (next some : List (ℕ × ℕ)) → AreEnough g.shape.vocabulary next some → ((k : ℕ) → k < length some → IsInTurn g i held (pair_at some k).0) → (e : ℕ) → is_possible next e ≡ true → IsInTurn g i held e
+  each_in_turn held next some enough each e possible j l joins on =
+      let s = listed_step next e possible in
+      let shared = link_shared g.shape l w joins.within e on in
+      let k = enough.seen s.place s.within (subst (λ x. has g.shape.vocabulary x ≡ true) (sym s.event) shared) in
+      subst (IsInTurn g i held) (ap (λ (p : ℕ × ℕ). p.0) k.is ∙ s.event) (each k.place k.within) j l joins on
+
+  -- after each run, by the links on which the part holds a resource at the run's node
+  pub told_turns : (watched : List ℕ) (held : List (List ℕ)) → i < length g.shape.parts → ((l : ℕ) → has (ends_of g.shape i) l ≡ true → has watched l ≡ true) → length held ≡ length (part_at g.shape.parts i).table
+      → ((s : List ℕ) (l : ℕ) → IsRun (part_at g.shape.parts i).table s → has (get_or held (end_of (part_at g.shape.parts i).table 0 s) []) l ≡ (has watched l && is_odd (count_in (link_at g.shape l).shared s)))
+      → ((n e : ℕ) → n < length held → is_possible (node_of g i n).next e ≡ true → IsInTurn g i (get_or held n []) e) → (s : List ℕ) → UsesInTurn g.shape g.uses i s
+  told_turns watched held h all count odd turns s j l e joins possible on =
+      let n = end_of (part_at g.shape.parts i).table 0 s in
+      let place = end_place g.shape i j l joins in
+      let mine = has_place (ends_of g.shape i) place.0 l place.2 in
+      let is = odd s l possible.runs.follows ∙ ap (λ b. b && holds g.shape l s) (all l mine) in
+      let below : end_of (part_at g.shape.parts i).table 0 s < length held = subst (λ k. end_of (part_at g.shape.parts i).table 0 s < k) (sym count) (end_within (part_at g.shape.parts i) s (part_form g.shape.parts i h w.form) possible.runs.follows) in
+      subst (λ b. cond b (has (use_at g.uses j).release e) (has (use_at g.uses j).acquire e) ≡ true) is (turns n e below possible.next j l joins on)
+
+-- what is told of an event's link is told of each link that has it
+pub turn_of : (g : Setting) (held : List ℕ) (e link other l j : ℕ) → link ≡ l → j ≡ other → cond (has held link) (has (use_at g.uses other).release e) (has (use_at g.uses other).acquire e) ≡ true → cond (has held l) (has (use_at g.uses j).release e) (has (use_at g.uses j).acquire e) ≡ true
+turn_of g held e link other l j same end test =
+    subst (λ k. cond (has held k) (has (use_at g.uses j).release e) (has (use_at g.uses j).acquire e) ≡ true) same
+    (subst (λ k. cond (has held link) (has (use_at g.uses k).release e) (has (use_at g.uses k).acquire e) ≡ true) (sym end) test)
