@@ -1,64 +1,68 @@
 -- From what holds at the pairs of an exploration to what holds after runs, and from links to parts.
 use Rattle.std.proofs.Common.{◌≡◌, ℕ, ◌<◌, ◌≤◌, ◌+◌, List, [], ◌∷◌, Bool, true, false, not, ◌&&◌, Option, Some, None, length, refl, sym, ap, subst, ◌∙◌, arith, inl, inr, ◌⊎◌, IsTrue}
-use Rattle.std.proofs.lemmas.Bool.{and_parts, both_ways, false≢true, cond-true, cond-false, and_from, cases_lt}
+use Rattle.std.specs.List.{list_any}
+use Rattle.csp_base.proofs.Standard.{and_parts, both_ways, cases_Bool, false≢true, cond-true, cond-false, and_from, not-true}
 use Rattle.csp_base.specs.Members.{has}
-use Rattle.csp_tables.specs.Prelude.{node_at, end_of, Part, part_at, sharers, AreApart, IsWithin, Shape, link_at, IsWellFormed, RunsTo, role_at}
-use Rattle.net_sound.proofs.Within.{part_form}
+use Rattle.csp_tables.specs.Prelude.{node_at, end_of, part_at, sharers, AreApart, IsWithin, Shape, link_at, IsWellFormed, RoleSets, RunsTo, role_at}
 use Rattle.design_rules.specs.Prelude.{count_in, is_odd, has_acknowledgements, is_open, BreaksRoles}
-use Rattle.design_rules.proofs.Runs.{end_within}
 use Rattle.design_rules.proofs.Shapes.{turned, first_end, link_within, link_shared}
-use Rattle.observed_runs.specs.Prelude.{LeadsTo, pair_at, IsExploration, parity_step}
+use Rattle.design_rules.proofs.Accepting.{at_place, each_set}
+use Rattle.observed_runs.specs.Prelude.{observed, parity_step}
+use Rattle.shape_links.proofs.Deciding.{decided_alike}
+use Rattle.shape_links.proofs.Watching.{off_link}
+use Rattle.shape_links.specs.Component.{IsDecided}
 use Rattle.client_server_conditions.specs.Network.{Network, IsLinked, Asks, Grants}
-use Rattle.client_server_conditions.specs.Nodes.{EachShared, HasAllOrNone}
-use Rattle.client_server_conditions.specs.Conditions.{Keeps, KeepsAt, KeepsOn, KeepsLinks, KeepsWhole, IsDecided, is_asked_of, is_open_at, node_in, KeepLesser, condition_of}
+use Rattle.client_server_conditions.specs.Nodes.{splits}
+use Rattle.client_server_conditions.specs.Tests.{keeps}
+use Rattle.client_server_conditions.specs.Conditions.{AreAcknowledgements, IsOnSide, Keeps, KeepsOn, KeepsLinks, KeepsWhole, is_asked_of, is_open_at, node_in, node_to, KeepLesser, condition_of}
 use Rattle.client_server_conditions.specs.declared.conditions.RunCondition.{RunCondition}
 use Rattle.client_server_conditions.specs.declared.conditions.RunCondition.TheVariants.{Turns, Service, Answers}
+use Rattle.client_server_conditions.proofs.Keeping.{keeps_at, passes}
+use Rattle.client_server_conditions.proofs.Looking.{none_splits, one_splits}
 use Rattle.client_server_conditions.proofs.Opening.{opened_is, HasSide}
-use Rattle.design_rules.proofs.Accepting.{at_place, each_set}
 
--- ---- explorations
+-- ---- decisions
 
-pub pair_node : (shape : Shape) (i : ℕ) (step : ℕ → ℕ → ℕ) (start : ℕ) (pairs : List (ℕ × ℕ)) → IsWellFormed shape → i < length shape.parts → IsExploration (part_at shape.parts i).table step start pairs → (k : ℕ) → k < length pairs → (pair_at pairs k).0 < length (part_at shape.parts i).table
-pair_node shape i step start pairs w h x k below =
-    let r = x.reached k below in
-    subst (λ n. n < length (part_at shape.parts i).table) r.1.node (end_within (part_at shape.parts i) r.0 (part_form shape.parts i h w.form) r.1.follows)
+module _ (network : Network) (i : ℕ) (run : Option (List ℕ)) where
+  -- on a link, by a test of nodes in the parity of the link's events
+  module _ (condition : RunCondition) (l : ℕ) (acknowledgements : List ℕ) (acknowledged : Bool) where
+    abbrev Kept : Shape → ℕ → List ℕ → List ℕ → RoleSets → Type 0
+    Kept shape k events shared roles =
+        IsDecided shape k (λ s. keeps condition shape.vocabulary shared roles acknowledgements (node_at (part_at shape.parts k).table (end_of (part_at shape.parts k).table 0 s)) (is_open_at acknowledged (observed (parity_step events) 0 s)) ≡ true) run
 
-abbrev pub Explores : Network → ℕ → ℕ → List (ℕ × ℕ) → Type 0
-Explores network i l pairs = IsExploration (part_at network.shape.parts i).table (parity_step (link_at network.shape l).shared) 0 pairs
+    pub decided_on : (shape : Shape) (k : ℕ) (events shared : List ℕ) (roles : RoleSets) → shape ≡ network.shape → k ≡ i → events ≡ (link_at network.shape l).shared → shared ≡ (link_at network.shape l).shared → roles ≡ role_at network.roles i → IsOnSide network condition i l → AreAcknowledgements network i l acknowledgements → acknowledged ≡ has_acknowledgements network.shape network.roles l → Kept shape k events shared roles → IsDecided network.shape i (KeepsOn network condition i l) run
+    decided_on shape k events shared roles shape_is k_is events_is shared_is roles_is side are is kept =
+        let S = (link_at network.shape l).shared in
+        let there : Kept network.shape i S S (role_at network.roles i) =
+        subst (Kept network.shape i S S) roles_is (subst (λ (x : List ℕ). Kept network.shape i S x roles) shared_is (subst (λ (x : List ℕ). Kept network.shape i x shared roles) events_is
+        (subst (λ (n : ℕ). Kept network.shape n events shared roles) k_is (subst (λ (x : Shape). Kept x k events shared roles) shape_is kept)))) in
+        let opened = λ (s : List ℕ). opened_is network l s acknowledged is in
+        decided_alike network.shape i _ (KeepsOn network condition i l) run
+        (λ s runs test _. keeps_at network i l (node_to network i s) (is_open network.shape network.roles l s) condition acknowledgements side are
+        (subst (λ o. keeps condition network.shape.vocabulary S (role_at network.roles i) acknowledgements (node_in network i (node_to network i s)) o ≡ true) (opened s) test))
+        (λ s runs keep. subst (λ o. keeps condition network.shape.vocabulary S (role_at network.roles i) acknowledgements (node_in network i (node_to network i s)) o ≡ true) (sym (opened s))
+        (passes network i l (node_to network i s) (is_open network.shape network.roles l s) condition acknowledgements side are (keep runs)))
+        there
 
-abbrev pub LeadsOn : Network → ℕ → ℕ → List ℕ → ℕ × ℕ → Type 0
-LeadsOn network i l s pair = LeadsTo (part_at network.shape.parts i).table (parity_step (link_at network.shape l).shared) 0 s pair
+  -- whatever the link
+  abbrev KeptWhole : Shape → ℕ → List ℕ → Type 0
+  KeptWhole shape k requests = IsDecided shape k (λ s. not (list_any (splits shape.vocabulary requests) (node_at (part_at shape.parts k).table (end_of (part_at shape.parts k).table 0 s)).accept) ≡ true) run
 
-module _ (network : Network) (condition : RunCondition) (i l : ℕ) where
-  pub keeps_each : (acknowledged : Bool) (pairs : List (ℕ × ℕ)) → acknowledged ≡ has_acknowledgements network.shape network.roles l → Explores network i l pairs → ((k : ℕ) → k < length pairs → KeepsAt network condition i l (pair_at pairs k).0 (is_open_at acknowledged (pair_at pairs k).1)) → (s : List ℕ) → KeepsOn network condition i l s
-  keeps_each acknowledged pairs is x each s runs =
-      let k = x.listed s runs.follows in
-      let n = end_of (part_at network.shape.parts i).table 0 s in
-      subst (λ o. KeepsAt network condition i l n o) (opened_is network l (part_at network.shape.parts i).table s (pair_at pairs k.0) acknowledged is k.2)
-      (subst (λ m. KeepsAt network condition i l m (is_open_at acknowledged (pair_at pairs k.0).1)) (sym k.2.node) (each k.0 k.1))
+  pub decided_whole : (shape : Shape) (k : ℕ) (requests : List ℕ) → shape ≡ network.shape → k ≡ i → requests ≡ (role_at network.roles i).sreq → KeptWhole shape k requests → IsDecided network.shape i (KeepsWhole network Service i) run
+  decided_whole shape k requests shape_is k_is requests_is kept =
+      let R = (role_at network.roles i).sreq in
+      let there : KeptWhole network.shape i R = subst (KeptWhole network.shape i) requests_is (subst (λ (n : ℕ). KeptWhole network.shape n requests) k_is (subst (λ (x : Shape). KeptWhole x k requests) shape_is kept)) in
+      decided_alike network.shape i _ (KeepsWhole network Service i) run
+      (λ s runs test _. none_splits network.shape.vocabulary R (node_in network i (node_to network i s)).accept (not-true _ test))
+      (λ s runs keep. elim (cases_Bool (list_any (splits network.shape.vocabulary R) (node_in network i (node_to network i s)).accept)) [
+        | inl some ↦ absurd (one_splits network.shape.vocabulary R (node_in network i (node_to network i s)).accept some (keep runs))
+        | inr none ↦ ap not none
+      ])
+      there
 
-  pub breaks_one : (acknowledged : Bool) (s : List ℕ) (pair : ℕ × ℕ) → acknowledged ≡ has_acknowledgements network.shape network.roles l → i < length network.shape.parts → LeadsOn network i l s pair → (KeepsAt network condition i l pair.0 (is_open_at acknowledged pair.1) → ⊥) → RunsTo network.shape i s × (KeepsOn network condition i l s → ⊥)
-  breaks_one acknowledged s pair is h leads breaks =
-      let runs : RunsTo network.shape i s = record { part = h; follows = leads.follows } in (
-        runs,
-        λ keeps. breaks
-            (subst (λ o. KeepsAt network condition i l pair.0 o) (sym (opened_is network l (part_at network.shape.parts i).table s pair acknowledged is leads))
-            (subst (λ m. KeepsAt network condition i l m (is_open network.shape network.roles l s)) leads.node (keeps runs))),
-      )
-
-abbrev pub SplitsNot : Network → ℕ → ℕ → Type 0
-SplitsNot network i n = EachShared (HasAllOrNone (role_at network.roles i).sreq) network.shape.vocabulary (node_in network i n).accept
-
-module _ (network : Network) (i : ℕ) (step : ℕ → ℕ → ℕ) (start : ℕ) where
-  pub whole_each : (pairs : List (ℕ × ℕ)) → IsExploration (part_at network.shape.parts i).table step start pairs → ((k : ℕ) → k < length pairs → SplitsNot network i (pair_at pairs k).0) → (s : List ℕ) → KeepsWhole network Service i s
-  whole_each pairs x each s runs = let k = x.listed s runs.follows in subst (λ m. SplitsNot network i m) (sym k.2.node) (each k.0 k.1)
-
-  pub whole_one : (s : List ℕ) (pair : ℕ × ℕ) → i < length network.shape.parts → LeadsTo (part_at network.shape.parts i).table step start s pair → (SplitsNot network i pair.0 → ⊥) → RunsTo network.shape i s × (KeepsWhole network Service i s → ⊥)
-  whole_one s pair h leads breaks =
-      let runs : RunsTo network.shape i s = record { part = h; follows = leads.follows } in (
-        runs,
-        λ keeps. breaks (subst (λ m. SplitsNot network i m) leads.node (keeps runs)),
-      )
+-- an event that is not shared is not on the link
+pub unseen : (network : Network) (l : ℕ) (shape : Shape) (shared : List ℕ) → IsWellFormed network.shape → l < length network.shape.links → shape ≡ network.shape → shared ≡ (link_at network.shape l).shared → (e : ℕ) → has shape.vocabulary e ≡ false → has shared e ≡ false
+unseen network l shape shared w h shape_is shared_is e out = ap (λ (xs : List ℕ). has xs e) shared_is ∙ off_link network.shape l e w h (ap (λ (s : Shape). has s.vocabulary e) (sym shape_is) ∙ out)
 
 -- ---- ends of which nothing is asked
 
@@ -90,6 +94,14 @@ not_asked network i l Service false acknowledged linked h side is not s runs = �
 not_asked network i l Answers true acknowledged linked h side is not s runs = λ o a. absurd (closed network l s (sym is ∙ not) o)
 not_asked network i l Answers false acknowledged linked h side is not s runs = λ o a. absurd (one_side network i l linked h a (side.server refl))
 
+-- and of which something is
+pub on_side : (network : Network) (i l : ℕ) (condition : RunCondition) (asks acknowledged : Bool) → HasSide network i l asks → is_asked_of condition asks acknowledged ≡ true → IsOnSide network condition i l
+on_side network i l Turns asks acknowledged side h = tt
+on_side network i l Service true acknowledged side h = absurd (false≢true h)
+on_side network i l Service false acknowledged side h = side.server refl
+on_side network i l Answers true acknowledged side h = side.client refl
+on_side network i l Answers false acknowledged side h = absurd (false≢true h)
+
 -- ---- from links to parts
 
 module _ (network : Network) (i : ℕ) (s : List ℕ) where
@@ -111,56 +123,26 @@ module _ (network : Network) (i : ℕ) (s : List ℕ) where
   keeps_whole Service keeps = λ runs k below within. keeps.all_or_none _ (at_place network.shape i s k (record { runs = runs; listed = below; shared = within }))
   keeps_whole Answers keeps = tt
 
-  no_whole : (condition : RunCondition) → (RunsTo network.shape i s → ⊥) → KeepsWhole network condition i s
-  no_whole Turns none = tt
-  no_whole Service none = λ runs. absurd (none runs)
-  no_whole Answers none = tt
-
-  -- what has no runs keeps each condition
-  pub keeps_beyond : (condition : RunCondition) → (RunsTo network.shape i s → ⊥) → Keeps network condition i s
-  keeps_beyond condition none = keeps_all condition (no_whole condition none) (λ l h end runs. absurd (none runs))
+  -- what is asked is asked of runs alone
+  pub keeps_by_runs : (condition : RunCondition) → (RunsTo network.shape i s → Keeps network condition i s) → Keeps network condition i s
+  keeps_by_runs Turns keep = keeps_all Turns tt (λ l h end runs. keeps_links Turns (keep runs) l h end runs)
+  keeps_by_runs Service keep = keeps_all Service (λ runs. keeps_whole Service (keep runs) runs) (λ l h end runs. keeps_links Service (keep runs) l h end runs)
+  keeps_by_runs Answers keep = keeps_all Answers tt (λ l h end runs. keeps_links Answers (keep runs) l h end runs)
 
 -- a decision on the links, where nothing else is asked, is one on the part
-pub decided_links : (network : Network) (condition : RunCondition) (i : ℕ) (run : Option (List ℕ)) → ((s : List ℕ) → KeepsWhole network condition i s) → IsDecided network.shape i (KeepsLinks network condition i) run → IsDecided network.shape i (Keeps network condition i) run
-decided_links network condition i None whole d = λ s. keeps_all network i s condition (whole s) (d s)
+pub decided_links : (network : Network) (condition : RunCondition) (i : ℕ) (run : Option (List ℕ)) → IsDecided network.shape i (KeepsWhole network condition i) None → IsDecided network.shape i (KeepsLinks network condition i) run → IsDecided network.shape i (Keeps network condition i) run
+decided_links network condition i None whole d = λ s runs. keeps_all network i s condition (whole s runs) (d s runs)
 decided_links network condition i (Some s) whole d = (d.0, λ keeps. d.1 (keeps_links network i s condition keeps))
 
-pub all_parts : (network : Network) (condition : RunCondition) (n : ℕ) → length network.shape.parts ≤ n → ((i : ℕ) (s : List ℕ) → i < n → Keeps network condition i s) → (i : ℕ) (s : List ℕ) → Keeps network condition i s
-all_parts network condition n all each i s = elim (cases_lt i n) [
-  | inl below ↦ each i s below
-  | inr past ↦ keeps_beyond network i s condition (λ runs. let h : i < length network.shape.parts = runs.part in omega arith)
-]
+-- the parts before n keep the condition
+abbrev pub KeepsBelow : Network → RunCondition → ℕ → Type 0
+KeepsBelow network condition n = (i : ℕ) (s : List ℕ) → i < n → RunsTo network.shape i s → Keeps network condition i s
+
+pub all_parts : (network : Network) (condition : RunCondition) (n : ℕ) → length network.shape.parts ≤ n → KeepsBelow network condition n → (i : ℕ) (s : List ℕ) → Keeps network condition i s
+all_parts network condition n all each i s = keeps_by_runs network i s condition (λ runs. each i s (let h : i < length network.shape.parts = runs.part in omega arith) runs)
 
 -- the first part that breaks the condition, where the lesser ones hold
-pub breaks_condition : (network : Network) (condition : RunCondition) (i : ℕ) (s : List ℕ) → IsLinked network → KeepLesser network condition → RunsTo network.shape i s → (Keeps network condition i s → ⊥) → ((j : ℕ) (t : List ℕ) → j < i → Keeps network condition j t) → BreaksRoles network.shape network.roles (condition_of condition) i s
-breaks_condition network Turns i s linked lesser runs broken first = (record { parted = linked.parted; linked = linked.linked }, record { runs = runs; broken = broken; first = first })
-breaks_condition network Service i s linked lesser runs broken first = (record { parted = linked.parted; linked = linked.linked }, lesser, record { runs = runs; broken = broken; first = first })
-breaks_condition network Answers i s linked lesser runs broken first = (record { parted = linked.parted; linked = linked.linked }, lesser.0, lesser.1, record { runs = runs; broken = broken; first = first })
-
--- ---- what an exploration gives
-
-pub explored_pairs : (network : Network) (i l : ℕ) (shape : Shape) (found pairs : List (ℕ × ℕ)) → shape ≡ network.shape → IsExploration (part_at shape.parts i).table (parity_step (link_at shape l).shared) 0 found → pairs ≡ found → Explores network i l pairs
-explored_pairs network i l shape found pairs is x same = subst (λ ps. Explores network i l ps) (sym same) (subst (λ (s : Shape). IsExploration (part_at s.parts i).table (parity_step (link_at s l).shared) 0 found) is x)
-
-pub found_run : (network : Network) (i l : ℕ) (shape : Shape) (s : List ℕ) (found pairs : List (ℕ × ℕ)) (k : ℕ) → shape ≡ network.shape → pairs ≡ found → LeadsTo (part_at shape.parts i).table (parity_step (link_at shape l).shared) 0 s (pair_at found k) → LeadsOn network i l s (pair_at pairs k)
-found_run network i l shape s found pairs k is same leads = subst (λ ps. LeadsOn network i l s (pair_at ps k)) (sym same) (subst (λ (x : Shape). LeadsTo (part_at x.parts i).table (parity_step (link_at x l).shared) 0 s (pair_at found k)) is leads)
-
--- the state of an observer of nothing
-abbrev pub still : ℕ → ℕ → ℕ
-still state e = state
-
-pub explored_nodes : (network : Network) (i : ℕ) (shape : Shape) (part : Part) (found pairs : List (ℕ × ℕ)) → shape ≡ network.shape → part ≡ part_at shape.parts i → IsExploration part.table still 0 found → pairs ≡ found → IsExploration (part_at network.shape.parts i).table still 0 pairs
-explored_nodes network i shape part found pairs is at x same = subst (λ ps. IsExploration (part_at network.shape.parts i).table still 0 ps) (sym same) (subst (λ (q : Part). IsExploration q.table still 0 found) (at ∙ ap (λ (s : Shape). part_at s.parts i) is) x)
-
-pub found_still : (network : Network) (i : ℕ) (shape : Shape) (part : Part) (s : List ℕ) (found pairs : List (ℕ × ℕ)) (k : ℕ) → shape ≡ network.shape → part ≡ part_at shape.parts i → pairs ≡ found → LeadsTo part.table still 0 s (pair_at found k) → LeadsTo (part_at network.shape.parts i).table still 0 s (pair_at pairs k)
-found_still network i shape part s found pairs k is at same leads = subst (λ ps. LeadsTo (part_at network.shape.parts i).table still 0 s (pair_at ps k)) (sym same) (subst (λ (q : Part). LeadsTo q.table still 0 s (pair_at found k)) (at ∙ ap (λ (x : Shape). part_at x.parts i) is) leads)
-
--- what is read of requests that are split
-abbrev pub Undivided : Shape → ℕ → List ℕ → ℕ → Type 0
-Undivided shape i requests n = EachShared (HasAllOrNone requests) shape.vocabulary (node_at (part_at shape.parts i).table n).accept
-
-pub undivided : (network : Network) (i : ℕ) (shape : Shape) (requests : List ℕ) (n : ℕ) → shape ≡ network.shape → requests ≡ (role_at network.roles i).sreq → Undivided shape i requests n → SplitsNot network i n
-undivided network i shape requests n is same u = subst (λ r. Undivided network.shape i r n) same (subst (λ (s : Shape). Undivided s i requests n) is u)
-
-pub divided : (network : Network) (i : ℕ) (shape : Shape) (requests : List ℕ) (n : ℕ) → shape ≡ network.shape → requests ≡ (role_at network.roles i).sreq → SplitsNot network i n → Undivided shape i requests n
-divided network i shape requests n is same u = subst (λ (s : Shape). Undivided s i requests n) (sym is) (subst (λ r. Undivided network.shape i r n) (sym same) u)
+pub breaks_condition : (network : Network) (condition : RunCondition) (i : ℕ) (s : List ℕ) → IsLinked network → KeepLesser network condition → RunsTo network.shape i s → (Keeps network condition i s → ⊥) → KeepsBelow network condition i → BreaksRoles network.shape network.roles (condition_of condition) i s
+breaks_condition network Turns i s linked lesser runs broken first = (record { parted = linked.parted; linked = linked.linked }, record { runs = runs; broken = broken; first = λ j t h. keeps_by_runs network j t Turns (first j t h) })
+breaks_condition network Service i s linked lesser runs broken first = (record { parted = linked.parted; linked = linked.linked }, lesser, record { runs = runs; broken = broken; first = λ j t h. keeps_by_runs network j t Service (first j t h) })
+breaks_condition network Answers i s linked lesser runs broken first = (record { parted = linked.parted; linked = linked.linked }, lesser.0, lesser.1, record { runs = runs; broken = broken; first = λ j t h. keeps_by_runs network j t Answers (first j t h) })

@@ -2,10 +2,10 @@
 use Rattle.std.proofs.Common.{◌≡◌, ℕ, suc, ◌+◌, List, [], ◌∷◌, Bool, true, false, not, ◌&&◌, ◌||◌, cond, IsTrue, nat_eq, inl, inr, refl, sym, ap, ◌∙◌, arith, eq-eqb}
 use Rattle.std.proofs.lemmas.Bool.{cases_Bool, and_from, or_left, false≢true, cond-true, cond-false, and_parts}
 use Rattle.csp_base.specs.Members.{has}
-use Rattle.csp_tables.specs.Prelude.{Node, Joins, link_at, role_at}
+use Rattle.csp_tables.specs.Prelude.{Joins, link_at, role_at}
 use Rattle.design_rules.specs.Prelude.{count_in, is_odd, has_acknowledgements, is_acknowledgement, is_open}
 use Rattle.design_rules.proofs.Counts.{count_more, count_same}
-use Rattle.observed_runs.specs.Prelude.{observed, LeadsTo, parity_step}
+use Rattle.observed_runs.specs.Prelude.{observed, parity_step}
 use Rattle.client_server_conditions.specs.Network.{Network, Asks, Grants}
 use Rattle.client_server_conditions.specs.Conditions.{AreAcknowledgements, is_open_at}
 use Rattle.csp_base.proofs.Booleans.{or_unless}
@@ -55,13 +55,12 @@ flip_false : (odd : Bool) → flip false odd ≡ odd
 flip_false true = refl
 flip_false false = refl
 
--- the state to which a run leads tells whether the link is open
-pub opened_is : (network : Network) (l : ℕ) (table : List Node) (s : List ℕ) (pair : ℕ × ℕ) (acknowledged : Bool) → acknowledged ≡ has_acknowledgements network.shape network.roles l → LeadsTo table (parity_step (link_at network.shape l).shared) 0 s pair → is_open_at acknowledged pair.1 ≡ is_open network.shape network.roles l s
-opened_is network l table s pair acknowledged is leads =
+-- the parity that a run leaves tells whether the link is open
+pub opened_is : (network : Network) (l : ℕ) (s : List ℕ) (acknowledged : Bool) → acknowledged ≡ has_acknowledgements network.shape network.roles l → is_open_at acknowledged (observed (parity_step (link_at network.shape l).shared) 0 s) ≡ is_open network.shape network.roles l s
+opened_is network l s acknowledged is =
     let S = (link_at network.shape l).shared in
-    let odd : nat_eq pair.1 1 ≡ is_odd (count_in (link_at network.shape l).shared s) =
-    ap (λ n. nat_eq n 1) (sym leads.state ∙ parity_counts S false s) ∙ is_one (flip false (is_odd (count_in S s))) ∙ flip_false (is_odd (count_in S s)) in
-    ap (λ a. a && nat_eq pair.1 1) is ∙ ap (λ b. has_acknowledgements network.shape network.roles l && b) odd
+    let odd : nat_eq (observed (parity_step (link_at network.shape l).shared) 0 s) 1 ≡ is_odd (count_in (link_at network.shape l).shared s) = ap (λ n. nat_eq n 1) (parity_counts S false s) ∙ is_one (flip false (is_odd (count_in S s))) ∙ flip_false (is_odd (count_in S s)) in
+    ap (λ a. a && nat_eq (observed (parity_step S) 0 s) 1) is ∙ ap (λ b. has_acknowledgements network.shape network.roles l && b) odd
 
 -- ---- acknowledgements
 

@@ -1,5 +1,5 @@
 -- What is read of a shape.
-use Rattle.std.proofs.Common.{◌≡◌, ℕ, ◌<◌, List, [], Bool, length, get_or, sym, ap, ◌∙◌, arith}
+use Rattle.std.proofs.Common.{◌≡◌, ℕ, ◌<◌, List, [], length, get_or, ap, ◌∙◌, arith}
 use Rattle.std.proofs.lemmas.List.{get_or_read}
 use Rattle.csp_tables.specs.Prelude.{RoleSets, role_at, IsWellFormed, Link, Shape, link_at}
 
@@ -28,7 +28,3 @@ module _ (shape : Shape) (roles : List RoleSets) (l : ℕ) (w : IsWellFormed sha
   right_role i role e at =
       let two = w.linked.links l inside in
       role_read roles (link_at shape l).right role (omega (arith, count, two.within)) (at ∙ ap (λ k. get_or roles k role) (e ∙ ap (λ (k : Link). k.right) there))
-
--- what a test of three values says of the values that they were read from
-pub read_three : {A B C : Type 0} (f : A → B → C → Bool) (a x : A) (b y : B) (d z : C) (r v : Bool) → r ≡ f a b d → a ≡ x → b ≡ y → d ≡ z → r ≡ v → f x y z ≡ v
-read_three f a x b y d z r v is p q s h = ap (λ w. f w y z) (sym p) ∙ ap (λ w. f a w z) (sym q) ∙ ap (f a b) (sym s) ∙ sym is ∙ h

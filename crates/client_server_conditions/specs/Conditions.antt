@@ -1,7 +1,7 @@
 -- S3, S4 and S5, each as what holds after every run of a part. (No rule's decider cites this.)
-use Rattle.std.specs.Prelude.{◌≡◌, ◌<◌, ℕ, List, Option, Some, None, Bool, true, not, ◌&&◌, nat_eq, IsTrue, length}
+use Rattle.std.specs.Prelude.{◌≡◌, ◌<◌, ℕ, List, Bool, true, not, ◌&&◌, nat_eq, IsTrue, length}
 use Rattle.csp_base.specs.Members.{has}
-use Rattle.csp_tables.specs.Prelude.{part_at, AreApart, Node, node_at, end_of, Shape, is_end, link_at, RunsTo, role_at}
+use Rattle.csp_tables.specs.Prelude.{part_at, AreApart, Node, node_at, end_of, is_end, link_at, RunsTo, role_at}
 use Rattle.design_rules.specs.Prelude.{is_acknowledgement, is_open, AllKeep}
 use Rattle.design_rules.specs.declared.condition.Condition.{Condition}
 use Rattle.design_rules.specs.ClientServer.{TakesTurns, ServesAll, TakesAnswers}
@@ -53,11 +53,6 @@ abbrev pub KeepsWhole : Network → RunCondition → ℕ → List ℕ → Type 0
 KeepsWhole network Turns i s = Unit {0}
 KeepsWhole network Service i s = RunsTo network.shape i s → EachShared (HasAllOrNone (role_at network.roles i).sreq) network.shape.vocabulary (node_in network i (node_to network i s)).accept
 KeepsWhole network Answers i s = Unit {0}
-
--- each run has the property, or here is a run that lacks it
-abbrev pub IsDecided : Shape → ℕ → (List ℕ → Type 0) → Option (List ℕ) → Type 0
-IsDecided shape i P None = (s : List ℕ) → P s
-IsDecided shape i P (Some s) = RunsTo shape i s × (P s → ⊥)
 
 -- the acknowledgements among the link's events, as the part has them
 abbrev pub AreAcknowledgements : Network → ℕ → ℕ → List ℕ → Type 0

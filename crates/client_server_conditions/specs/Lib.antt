@@ -2,3 +2,4 @@ pub mod Conditions
 pub mod Network
 pub mod Nodes
 pub mod Sides
+pub mod Tests

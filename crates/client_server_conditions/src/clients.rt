@@ -25,32 +25,14 @@ pub(crate) fn sides(
 {
     let mut sides = Vec::new(alloc);
     for link in 0..shape.links().len() {
-        let left_asks = known_side(alloc, shape, roles, link as u32)?;
+        let Some(left_asks) = side(alloc, shape, roles, link as u32)? else {
+            return Err(Stop::Told(no_client(alloc, shape, link as u32)));
+        };
         let Ok(()) = sides.push(left_asks) else {
             return Err(Stop::NoMemory);
         };
     }
     Ok(sides)
-}
-
-// Whether the left end of the link is its client, or that the link has none.
-fn known_side(
-    alloc: Global,
-    shape: &Shape,
-    roles: &[RoleSets],
-    link: u32,
-) -> Result<bool, Stop<RuleFault>>
-    requires form { IsWellFormed shape.now }
-    requires roles { length roles.now ≡ length shape.now.parts }
-    requires link { link < length shape.now.links }
-    ensures side { IfOk result (IsSide shape.now roles.now link) }
-    ensures fault { IfErr result (Tells (λ fault. (fault ≡ RuleFault.Broken Condition.Clients (link_at shape.now link).left [])
-        × IsSideOrNone shape.now roles.now link None)) }
-{
-    match side(alloc, shape, roles, link)? {
-        Some(left_asks) => Ok(left_asks),
-        None => Err(Stop::Told(no_client(alloc, shape, link))),
-    }
 }
 
 // The link has no client.

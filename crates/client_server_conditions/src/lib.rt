@@ -7,6 +7,7 @@ mod conditions;
 mod network;
 mod nodes;
 mod parted;
+mod required;
 mod runs;
 
 pub use conditions::RunCondition;

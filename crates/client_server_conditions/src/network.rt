@@ -96,7 +96,7 @@ impl<'a> Network<'a> {
         requires { part < length self.now.shape.parts }
         ensures { result.now ≡ ends_of self.now.shape part }
     {
-        self.prepared.links(part)
+        self.prepared.component(part).links()
     }
 
     /// Whether the part is the client on the link; it is the server elsewhere.

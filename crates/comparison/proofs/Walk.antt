@@ -6,7 +6,8 @@ use Rattle.network_layout.specs.Triple.{alphabets}
 use Rattle.network_stages.specs.Prelude.{Network, HasParts, HasTables}
 use Rattle.network_stages.specs.declared.component_tables.ComponentTable.{ComponentTable}
 use Rattle.report.proofs.Points.{at_halt, goes_on, halts_weaker}
-use Rattle.report.specs.Prelude.{passed, told, Answers, HaltsWith, Halt}
+use Rattle.report.specs.Prelude.{passed, told, Answers, HaltsWith}
+use Rattle.report.specs.declared.stop.Halt.{Halt}
 use Rattle.report.specs.declared.answer.Done.{Done}
 use Rattle.report.specs.declared.answer.Side.{Side}
 use Rattle.report.specs.declared.answer.Verdict.{Verdict}

@@ -5,12 +5,12 @@ use Rattle.csp_base.proofs.Standard.{cases_Bool, cases_lt, cond-true, cond-false
 use Rattle.csp_base.specs.Prelude.{Tells, has}
 use Rattle.csp_base.specs.declared.stop.Stop.{Stop}
 use Rattle.csp_base.specs.declared.stop.Stop.TheVariants as stop
-use Rattle.csp_tables.specs.Prelude.{node_at, is_possible, part_at, Shape, is_end}
+use Rattle.csp_tables.specs.Prelude.{node_at, is_possible, part_at, LinksAreOrdered, Shape, is_end}
 use Rattle.net_sound.proofs.Within.{part_form}
 use Rattle.design_rules.specs.Prelude.{count_in, count_below, BreaksOrder, Clash, links_of, ReachesLink, place_after, KeepsPlaces, BreaksCyclic}
 use Rattle.design_rules.specs.declared.rule_fault.RuleFault.{RuleFault}
 use Rattle.design_rules.specs.declared.rule_fault.RuleFault.TheVariants.{NoOrder}
-use Rattle.design_rules.proofs.Counts.{count_more, count_same}
+use Rattle.design_rules.proofs.Counts.{count_more, count_same, count_at_most}
 use Rattle.design_rules.proofs.Runs.{possible_within, end_within}
 use Rattle.design_rules.proofs.Places.{Keeping, IsAt, earlier, some_links, first_lap}
 use Rattle.observed_runs.specs.Prelude.{observed, LeadsTo, pair_at, lap_step}
@@ -240,6 +240,13 @@ orders_more shape n orders order more count each new is = (
 -- how many links a component has
 pub links_count : (shape : Shape) (i : ℕ) (links : List ℕ) → links ≡ ends_of shape i → length links ≡ links_of shape i
 links_count shape i links is = ap length is ∙ length-ends shape i (length shape.links)
+
+pub few_links : (shape other : Shape) (i : ℕ) (links : List ℕ) → links ≡ ends_of shape i → other ≡ shape → LinksAreOrdered other → length links < 2 ^ 32
+few_links shape other i links is same o =
+    let count : length links ≡ links_of shape i = links_count shape i links is in
+    let most : links_of shape i ≤ length shape.links = count_at_most (λ l. is_end shape i l) (length shape.links) in
+    let few : length shape.links < 2 ^ 32 = subst (λ (s : Shape). length s.links < 2 ^ 32) same o.links_numbered in
+    omega arith
 
 -- at first nothing is kept
 pub none_kept : (laps : Laps) (n : ℕ) (links : List ℕ) (firsts : List (Option Fact)) → links ≡ ends_of (shape_of laps) laps.component.number → n ≡ length links → firsts ≡ replicate n None → AreFirsts laps firsts

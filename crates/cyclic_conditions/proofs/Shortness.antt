@@ -1,10 +1,10 @@
 -- Acceptances that fall short of a link, and the first node of an end that has one.
-use Rattle.std.proofs.Common.{◌≡◌, ℕ, ◌+◌, ◌<◌, ◌≤◌, inl, inr, List, [], ◌∷◌, length, true, false, Option, Some, None, IsTrue, nat_eq, nat_le, refl, sym, ap, subst, ◌∙◌, arith}
+use Rattle.std.proofs.Common.{◌≡◌, ℕ, ◌+◌, ◌<◌, ◌≤◌, inl, inr, List, [], ◌∷◌, length, get_or, true, false, Option, Some, None, IsTrue, nat_eq, nat_le, refl, sym, ap, subst, ◌∙◌, arith}
 use Rattle.std.specs.List.{find}
 use Rattle.std.specs.Prelude.{replicate, slice_set, unwrap_or}
-use Rattle.csp_base.proofs.Standard.{cases_Bool, cases_eq, cases_lt, or_cases, eqb-true, both_ways, false≢true, or_right, get_or-replicate, get_or-set_same, get_or-set_other, get_or_past, length-replicate, length-set, none-some}
+use Rattle.csp_base.proofs.Standard.{cases_Bool, cases_eq, cases_lt, or_cases, eqb-true, both_ways, false≢true, or_right, get_or-replicate, get_or-set_same, get_or-set_other, get_or_past, length-replicate, get_or_read, length-set, none-some, same_Some}
 use Rattle.csp_base.specs.Prelude.{has, is_subset_of}
-use Rattle.csp_tables.specs.Prelude.{IsReached, IsRun, end_of, node_at, part_at, alphabets_of, TripleDisjoint, Shape, is_end, link_at, acceptance_at, IsWellFormed}
+use Rattle.csp_tables.specs.Prelude.{IsReached, IsRun, end_of, node_at, Part, part_at, alphabets_of, TripleDisjoint, Shape, is_end, link_at, acceptance_at, IsWellFormed}
 use Rattle.net_sound.proofs.Within.{part_form}
 use Rattle.design_rules.specs.Cyclic.{AllKeepPlaces, FallsShort, IsWholeEnd}
 use Rattle.design_rules.proofs.Runs.{possible_within, end_within}
@@ -54,15 +54,16 @@ short_lacks shape l M s h = both_ways (has M s.missing) s.lacks (member_of_super
 -- ---- one acceptance after another
 
 -- What is short by one acceptance is that of one link, which the part is an end of.
-pub short_end : (shape : Shape) (l i n k : ℕ) → IsWellFormed shape → TripleDisjoint (alphabets_of shape.parts) → IsShortBy shape l i n k → IsTrue (is_end shape i l)
+short_end : (shape : Shape) (l i n k : ℕ) → IsWellFormed shape → TripleDisjoint (alphabets_of shape.parts) → IsShortBy shape l i n k → IsTrue (is_end shape i l)
 short_end shape l i n k w triple s =
     let possible = w.possible i n k s.short.meets.event s.at.part s.short.meets.first in
     (owner_end shape i l s.short.meets.event w triple s.at.part (possible_within (part_at shape.parts i) n s.short.meets.event (part_form shape.parts i s.at.part w.form) possible) (record { within = s.short.link; event = s.short.meets.second })).end
 
 -- where no acceptance was seen yet
-pub none_seen : (shape : Shape) (n : ℕ) (shorts : Shorts) → IsWellFormed shape → n ≡ length shape.links → shorts.left.items ≡ replicate n None → shorts.right.items ≡ replicate n None → AreShorts shape (Before 0 0 0) shorts
-none_seen shape n shorts w count left right = record {
+pub none_seen : (shape : Shape) (n : ℕ) (shorts : Shorts) → IsWellFormed shape → TripleDisjoint (alphabets_of shape.parts) → n ≡ length shape.links → shorts.left.items ≡ replicate n None → shorts.right.items ≡ replicate n None → AreShorts shape (Before 0 0 0) shorts
+none_seen shape n shorts w triple count left right = record {
   form = w;
+  apart = triple;
   left_count = ap length left ∙ length-replicate n None ∙ count;
   right_count = ap length right ∙ length-replicate n None ∙ count;
   left = λ l. go l (link_at shape l).left (short_at shorts.left.items l) (ap (λ (xs : List (Option ℕ)). short_at xs l) left ∙ at_none l);
@@ -88,6 +89,7 @@ none_seen shape n shorts w count left right = record {
 all_seen : (shape : Shape) (seen more : ℕ → ℕ → ℕ → Type 0) (shorts : Shorts) → ((i n k : ℕ) → IsAcceptance shape i n k → more i n k → seen i n k) → AreShorts shape seen shorts → AreShorts shape more shorts
 all_seen shape seen more shorts back a = record {
   form = a.form;
+  apart = a.apart;
   left_count = a.left_count;
   right_count = a.right_count;
   left = λ l. go l (link_at shape l).left (short_at shorts.left.items l) (a.left l);
@@ -165,9 +167,10 @@ module _ (shape : Shape) (part node place : ℕ) where
   ]
 
   -- it falls short of no link
-  pub none_marked : (shorts : Shorts) → ((l : ℕ) → IsShortBy shape l part node place → ⊥) → AreShorts shape (Before part node place) shorts → AreShorts shape (Before part node (place + 1)) shorts
+  none_marked : (shorts : Shorts) → ((l : ℕ) → IsShortBy shape l part node place → ⊥) → AreShorts shape (Before part node place) shorts → AreShorts shape (Before part node (place + 1)) shorts
   none_marked shorts none a = record {
     form = a.form;
+    apart = a.apart;
     left_count = a.left_count;
     right_count = a.right_count;
     left = λ l. passed l (link_at shape l).left (short_at shorts.left.items l) (λ _. none l) (a.left l);
@@ -175,10 +178,11 @@ module _ (shape : Shape) (part node place : ℕ) where
   }
 
   -- it falls short of a link of which the part is the left end, or the right one
-  pub left_marked : (old new : Shorts) (l : ℕ) → (link_at shape l).left ≡ part → IsShortBy shape l part node place → ((m : ℕ) → IsShortBy shape m part node place → m ≡ l)
+  left_marked : (old new : Shorts) (l : ℕ) → (link_at shape l).left ≡ part → IsShortBy shape l part node place → ((m : ℕ) → IsShortBy shape m part node place → m ≡ l)
       → new.left.items ≡ slice_set old.left.items l (Some (unwrap_or (short_at old.left.items l) node)) → new.right.items ≡ old.right.items → AreShorts shape (Before part node place) old → AreShorts shape (Before part node (place + 1)) new
   left_marked old new l end s only left right a = record {
     form = a.form;
+    apart = a.apart;
     left_count = ap length left ∙ length-set old.left.items l (Some (unwrap_or (short_at old.left.items l) node)) ∙ a.left_count;
     right_count = ap length right ∙ a.right_count;
     left = λ m. subst (λ (xs : List (Option ℕ)). IsFirstShort shape (Before part node (place + 1)) m (link_at shape m).left (short_at xs m)) (sym left)
@@ -187,10 +191,11 @@ module _ (shape : Shape) (part node place : ℕ) where
         (passed m (link_at shape m).right (short_at old.right.items m) (λ other x. let is : (link_at shape l).right ≡ part = subst (λ k. (link_at shape k).right ≡ part) (only m x) other in let order : (link_at shape l).left < (link_at shape l).right = (a.form.linked.links l s.short.link).ordered in omega arith) (a.right m));
   }
 
-  pub right_marked : (old new : Shorts) (l : ℕ) → ((link_at shape l).left ≡ part → ⊥) → (link_at shape l).right ≡ part → IsShortBy shape l part node place → ((m : ℕ) → IsShortBy shape m part node place → m ≡ l)
+  right_marked : (old new : Shorts) (l : ℕ) → ((link_at shape l).left ≡ part → ⊥) → (link_at shape l).right ≡ part → IsShortBy shape l part node place → ((m : ℕ) → IsShortBy shape m part node place → m ≡ l)
       → new.right.items ≡ slice_set old.right.items l (Some (unwrap_or (short_at old.right.items l) node)) → new.left.items ≡ old.left.items → AreShorts shape (Before part node place) old → AreShorts shape (Before part node (place + 1)) new
   right_marked old new l order end s only right left a = record {
     form = a.form;
+    apart = a.apart;
     left_count = ap length left ∙ a.left_count;
     right_count = ap length right ∙ length-set old.right.items l (Some (unwrap_or (short_at old.right.items l) node)) ∙ a.right_count;
     left = λ m. subst (λ (xs : List (Option ℕ)). IsFirstShort shape (Before part node (place + 1)) m (link_at shape m).left (short_at xs m)) (sym left)
@@ -199,9 +204,42 @@ module _ (shape : Shape) (part node place : ℕ) where
         (marked (λ k. (link_at shape k).right) old.right.items l (subst (λ n. l < n) (sym a.right_count) s.short.link) end s only a.right m);
   }
 
+other_end : (shape : Shape) (i l : ℕ) → IsTrue (is_end shape i l) → ((link_at shape l).left ≡ i → ⊥) → (link_at shape l).right ≡ i
+other_end shape i l end ne = elim (or_cases (nat_eq (link_at shape l).left i) (nat_eq (link_at shape l).right i) end) [
+  | inl left ↦ absurd (ne (eqb-true (link_at shape l).left i left))
+  | inr right ↦ eqb-true (link_at shape l).right i right
+]
+
+-- ---- what is looked for in an acceptance
+
+-- an acceptance that is read
+pub accept_read : (shape : Shape) (i n k : ℕ) (accept : List (List ℕ)) (M : List ℕ) → accept ≡ (node_at (part_at shape.parts i).table n).accept → IsAcceptance shape i n k → M ≡ get_or accept k M → M ≡ acceptance_at (part_at shape.parts i) n k
+accept_read shape i n k accept M is at read = get_or_read accept k M (subst (λ (Ms : List (List ℕ)). k < length Ms) (sym is) at.listed) read [] ∙ ap (λ (Ms : List (List ℕ)). get_or Ms k []) is
+
+-- the link that was looked for in the set, which is this acceptance
+module _ (shape : Shape) (part node place : ℕ) (set : List ℕ) (is : set ≡ acceptance_at (part_at shape.parts part) node place) (at : IsAcceptance shape part node place) (keep : AllKeepPlaces shape)
+    (result : Option ℕ) (short : (l : ℕ) → result ≡ Some l → IsShort shape l set) (all : (l : ℕ) → IsOnOne shape set → IsShort shape l set → result ≡ Some l) (old : Shorts) (a : AreShorts shape (Before part node place) old) where
+  looked : (l : ℕ) → IsShortBy shape l part node place → result ≡ Some l
+  looked l s = all l (subst (IsOnOne shape) (sym is) (on_one shape part node place a.form a.apart keep at.part at.node)) (subst (IsShort shape l) (sym is) s.short)
+
+  short_by : (l : ℕ) → result ≡ Some l → IsShortBy shape l part node place
+  short_by l h = record { at = at; short = subst (IsShort shape l) is (short l h) }
+
+  only : (l : ℕ) → result ≡ Some l → (m : ℕ) → IsShortBy shape m part node place → m ≡ l
+  only l h m s = same_Some m l (sym (looked m s) ∙ h)
+
+  pub look_none : result ≡ None → AreShorts shape (Before part node (place + 1)) old
+  look_none h = none_marked shape part node place old (λ l s. none-some l (sym h ∙ looked l s)) a
+
+  pub look_left : (new : Shorts) (l : ℕ) → result ≡ Some l → (link_at shape l).left ≡ part → new.left.items ≡ slice_set old.left.items l (Some (unwrap_or (short_at old.left.items l) node)) → new.right.items ≡ old.right.items → AreShorts shape (Before part node (place + 1)) new
+  look_left new l h end left right = left_marked shape part node place old new l end (short_by l h) (only l h) left right a
+
+  pub look_right : (new : Shorts) (l : ℕ) → result ≡ Some l → ((link_at shape l).left ≡ part → ⊥) → new.right.items ≡ slice_set old.right.items l (Some (unwrap_or (short_at old.right.items l) node)) → new.left.items ≡ old.left.items → AreShorts shape (Before part node (place + 1)) new
+  look_right new l h end right left = right_marked shape part node place old new l end (other_end shape part l (short_end shape l part node place a.form a.apart (short_by l h)) end) (short_by l h) (only l h) right left a
+
 -- ---- ends that fall short
 
-pub short_falls : (shape : Shape) (l i n : ℕ) (s : List ℕ) → IsShortAt shape l i n → IsRun (part_at shape.parts i).table s → end_of (part_at shape.parts i).table 0 s ≡ n → FallsShort shape l i s
+short_falls : (shape : Shape) (l i n : ℕ) (s : List ℕ) → IsShortAt shape l i n → IsRun (part_at shape.parts i).table s → end_of (part_at shape.parts i).table 0 s ≡ n → FallsShort shape l i s
 short_falls shape l i n s x run leads =
     subst (λ m. IsShortAt shape l i m → FallsShort shape l i s) leads
     (λ y. record {
@@ -214,7 +252,7 @@ short_falls shape l i n s x run leads =
     })
     x
 
-pub falls_short_at : (shape : Shape) (l i : ℕ) (s : List ℕ) → IsWellFormed shape → l < length shape.links → FallsShort shape l i s → IsShortAt shape l i (end_of (part_at shape.parts i).table 0 s)
+falls_short_at : (shape : Shape) (l i : ℕ) (s : List ℕ) → IsWellFormed shape → l < length shape.links → FallsShort shape l i s → IsShortAt shape l i (end_of (part_at shape.parts i).table 0 s)
 falls_short_at shape l i s w h f = (
   f.accepts.place,
   record {
@@ -224,15 +262,22 @@ falls_short_at shape l i s w h f = (
 )
 
 -- the first node that falls short is reached
-pub short_reached : (shape : Shape) (l i n : ℕ) → IsWellFormed shape → IsShortAt shape l i n → IsReached (part_at shape.parts i).table n
+short_reached : (shape : Shape) (l i n : ℕ) → IsWellFormed shape → IsShortAt shape l i n → IsReached (part_at shape.parts i).table n
 short_reached shape l i n w x = w.reached i n x.1.at.part x.1.at.node
 
 -- an end of which no node falls short is whole
-pub whole : (shape : Shape) (l i : ℕ) → IsWellFormed shape → l < length shape.links → IsFirstShort shape (λ i n k. i < length shape.parts) l i None → IsWholeEnd shape l i
+whole : (shape : Shape) (l i : ℕ) → IsWellFormed shape → l < length shape.links → IsFirstShort shape (λ i n k. i < length shape.parts) l i None → IsWholeEnd shape l i
 whole shape l i w h none s f = let x = falls_short_at shape l i s w h f in none (end_of (part_at shape.parts i).table 0 s) x.0 x.1.at.part x.1
 
+pub end_whole : (shape : Shape) (l i : ℕ) (first : Option ℕ) → IsWellFormed shape → l < length shape.links → IsFirstShort shape (λ i n k. i < length shape.parts) l i first → first ≡ None → IsWholeEnd shape l i
+end_whole shape l i first w h x is = whole shape l i w h (subst (IsFirstShort shape (λ i n k. i < length shape.parts) l i) is x)
+
+-- a mark that is read
+pub mark_read : (nodes : List (Option ℕ)) (l : ℕ) (first : Option ℕ) → l < length nodes → first ≡ get_or nodes l first → short_at nodes l ≡ first
+mark_read nodes l first h read = sym (get_or_read nodes l first h read None)
+
 -- a run to the first node that does
-pub falls_first : (shape : Shape) (l i n : ℕ) (s : List ℕ) → IsWellFormed shape → l < length shape.links → IsFirstShort shape (λ i n k. i < length shape.parts) l i (Some n) → IsRun (part_at shape.parts i).table s → end_of (part_at shape.parts i).table 0 s ≡ n → FallsFirst shape l i s
+falls_first : (shape : Shape) (l i n : ℕ) (s : List ℕ) → IsWellFormed shape → l < length shape.links → IsFirstShort shape (λ i n k. i < length shape.parts) l i (Some n) → IsRun (part_at shape.parts i).table s → end_of (part_at shape.parts i).table 0 s ≡ n → FallsFirst shape l i s
 falls_first shape l i n s w h x run leads = record {
   falls = short_falls shape l i n s x.0 run leads;
   first = λ t f. elim (cases_lt (end_of (part_at shape.parts i).table 0 t) n) [
@@ -241,8 +286,12 @@ falls_first shape l i n s w h x run leads = record {
   ];
 }
 
-pub other_end : (shape : Shape) (i l : ℕ) → IsTrue (is_end shape i l) → ((link_at shape l).left ≡ i → ⊥) → (link_at shape l).right ≡ i
-other_end shape i l end ne = elim (or_cases (nat_eq (link_at shape l).left i) (nat_eq (link_at shape l).right i) end) [
-  | inl left ↦ absurd (ne (eqb-true (link_at shape l).left i left))
-  | inr right ↦ eqb-true (link_at shape l).right i right
-]
+-- the same, of a mark and a part that were read
+pub end_first : (shape : Shape) (l i n j : ℕ) (first : Option ℕ) (s : List ℕ) (p : Part) → IsWellFormed shape → l < length shape.links → IsFirstShort shape (λ i n k. i < length shape.parts) l i first → first ≡ Some n → j ≡ i → p ≡ part_at shape.parts j → IsRun p.table s → end_of p.table 0 s ≡ n → FallsFirst shape l i s
+end_first shape l i n j first s p w h x is same read run leads =
+    let at : p ≡ part_at shape.parts i = read ∙ ap (part_at shape.parts) same in
+    falls_first shape l i n s w h (subst (IsFirstShort shape (λ i n k. i < length shape.parts) l i) is x) (subst (λ (q : Part). IsRun q.table s) at run) (subst (λ (q : Part). end_of q.table 0 s ≡ n) at leads)
+
+pub end_reached : (shape : Shape) (l i n j : ℕ) (first : Option ℕ) (p : Part) → IsWellFormed shape → IsFirstShort shape (λ i n k. i < length shape.parts) l i first → first ≡ Some n → j ≡ i → p ≡ part_at shape.parts j → IsReached p.table n
+end_reached shape l i n j first p w x is same read =
+    subst (λ (q : Part). IsReached q.table n) (sym (read ∙ ap (part_at shape.parts) same)) (short_reached shape l i n w (subst (IsFirstShort shape (λ i n k. i < length shape.parts) l i) is x).0)

@@ -1,7 +1,7 @@
 -- The first node of each end of a link that falls short. (No rule's decider cites this.)
 use Rattle.std.specs.Prelude.{◌≡◌, ◌<◌, ◌⊎◌, ℕ, List, Option, Some, None, false, IsTrue, length, get_or}
 use Rattle.csp_base.specs.Prelude.{has}
-use Rattle.csp_tables.specs.Prelude.{node_at, part_at, Meet, IsWithin, Shape, link_at, acceptance_at, IsWellFormed}
+use Rattle.csp_tables.specs.Prelude.{node_at, part_at, Meet, IsWithin, Shape, link_at, acceptance_at, IsWellFormed, TripleDisjoint, alphabets_of}
 use Rattle.cyclic_conditions.specs.declared.shorts.Shorts.{Shorts}
 
 -- a set in the vocabulary has an event of the link and lacks another
@@ -43,6 +43,7 @@ short_at nodes l = get_or nodes l None
 -- for both ends of each link that node, or none
 pub record AreShorts (shape : Shape) (seen : ℕ → ℕ → ℕ → Type 0) (shorts : Shorts) : Type 0 where
   pub form : IsWellFormed shape
+  pub apart : TripleDisjoint (alphabets_of shape.parts)
   pub left_count : length shorts.left.items ≡ length shape.links
   pub right_count : length shorts.right.items ≡ length shape.links
   pub left : (l : ℕ) → IsFirstShort shape seen l (link_at shape l).left (short_at shorts.left.items l)

@@ -1,6 +1,6 @@
 -- What is told of a part without an order, and of a link without a whole end. (No rule's decider cites this.)
 use Rattle.std.specs.Prelude.{◌≡◌, ◌≤◌, ℕ, List}
-use Rattle.csp_tables.specs.Prelude.{end_of, part_at, Shape}
+use Rattle.csp_tables.specs.Prelude.{end_of, link_at, part_at, Shape}
 use Rattle.design_rules.specs.Cyclic.{FallsShort}
 use Rattle.design_rules.specs.Prelude.{BreaksOrder, ends_of}
 use Rattle.design_rules.specs.declared.rule_fault.RuleFault.{RuleFault}
@@ -18,5 +18,5 @@ pub record FallsFirst (shape : Shape) (l i : ℕ) (s : List ℕ) : Type 0 where
 
 -- both traces of a link that is told lead to such nodes
 abbrev pub TellsFirst : Shape → RuleFault → Type 0
-TellsFirst shape (NoWholeEnd i j s t) = (l : ℕ) × (ends_of shape l ≡ (i, j)) × FallsFirst shape l i s × FallsFirst shape l j t
+TellsFirst shape (NoWholeEnd i j s t) = (l : ℕ) × (ends_of shape l ≡ (i, j)) × FallsFirst shape l (link_at shape l).left s × FallsFirst shape l (link_at shape l).right t
 TellsFirst shape _ = ⊥

@@ -1,6 +1,6 @@
 //! Which link a component comes to at each place of its lap.
 
-ghost use Rattle.std.specs.Prelude.{◌≡◌, ◌<◌, ℕ, None, Some, IfErr, IfOk, IfSome, OnOk, length};
+ghost use Rattle.std.specs.Prelude.{◌≡◌, ◌<◌, ℕ, None, Some, IfErr, IfOk, IfSome, OnOk, length, replicate};
 ghost use Rattle.observed_runs.specs.Prelude.{pair_at};
 ghost use Rattle.cyclic_conditions.specs.Facts.{AreClashing, AreFirsts, AreMore, AreNoted, ClashesWith, HasFirst, IsNoted, IsNotedAt, IsPossibleAt, first_at, is_of_link, links_in_order};
 ghost use Rattle.cyclic_conditions.specs.Laps.{AreLaps};
@@ -24,6 +24,14 @@ pub(crate) struct Fact {
 pub(crate) struct Clash {
     pub(crate) here: Fact,
     pub(crate) there: Fact,
+}
+
+// For each of so many places no fact.
+pub(crate) fn no_facts(alloc: Global, count: usize) -> Result<Vec<Option<Fact>>, NoMemory>
+    ensures { IfOk result (λ firsts. firsts.items ≡ replicate count None) }
+{
+    let firsts = vec![in alloc; None; count]?;
+    Ok(firsts)
 }
 
 // Notes each link of which an event is possible at one of the pairs.

@@ -24,6 +24,7 @@ impl<'a> Laps<'a> {
         ensures component { IfOk result (λ laps. laps.component ≡ component.now) }
     {
         let shape = component.shape.shape();
+        let _links = shape.links();
         let lap = Lap::new(shape.vocabulary(), component.links().len() as u32);
         let explored = component.explore(alloc, &lap)?;
         Ok(Laps {

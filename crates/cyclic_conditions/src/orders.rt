@@ -8,7 +8,7 @@ ghost use Rattle.cyclic_conditions.specs.Laps.{AreLaps};
 ghost use Rattle.cyclic_conditions.specs.Orders.{AreOrders, IsOrder};
 ghost use Rattle.cyclic_conditions.specs.Told.{IsBrokenOrder};
 
-use crate::facts::{Clash, in_order, note_all};
+use crate::facts::{Clash, in_order, no_facts, note_all};
 use crate::laps::Laps;
 use containers::Items;
 use csp_base::{NoMemory, Stop};
@@ -74,7 +74,7 @@ fn order_along(alloc: Global, laps: &Laps<'_>) -> Result<Items<u32>, Stop<RuleFa
     ensures order { IfOk result (λ order. IsOrder laps.now.component.shape.now laps.now.component.number order) }
     ensures fault { IfErr result (Tells (IsBrokenOrder laps.now.component.shape.now laps.now.component.number)) }
 {
-    let mut firsts = vec![in alloc; None; laps.component.links().len()]?;
+    let mut firsts = no_facts(alloc, laps.component.links().len())?;
     match note_all(laps, &mut firsts) {
         Ok(()) => Ok(in_order(alloc, &firsts)?),
         Err(clash) => Err(Stop::Told(no_order(alloc, laps, clash)?)),

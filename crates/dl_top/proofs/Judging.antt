@@ -18,7 +18,8 @@ use Rattle.network_stages.specs.Prelude.{IsNetworkOf, Network, HasNoNetwork}
 use Rattle.report.proofs.Points.{weaker}
 use Rattle.csp_base.specs.Prelude.{Tells}
 use Rattle.csp_base.specs.declared.stop.Stop.{Stop}
-use Rattle.report.specs.Prelude.{Answers, Ends, Halt}
+use Rattle.report.specs.Prelude.{Answers, Ends}
+use Rattle.report.specs.declared.stop.Halt.{Halt}
 use Rattle.report.specs.declared.answer.Answer.{Answer}
 use Rattle.report.specs.declared.answer.Done.{Done}
 use Rattle.report.specs.declared.answer.Side.{Side}

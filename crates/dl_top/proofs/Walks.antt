@@ -5,7 +5,8 @@ use Rattle.std.proofs.lemmas.Result.{IfOk-weaker, err_from_is_err_and}
 use Rattle.report.proofs.Points.{weaker}
 use Rattle.csp_base.specs.Prelude.{Tells}
 use Rattle.csp_base.specs.declared.stop.Stop.{Stop}
-use Rattle.report.specs.Prelude.{Answers, Ends, IsEnd, IsVerdict, Halt}
+use Rattle.report.specs.Prelude.{Answers, Ends, IsEnd, IsVerdict}
+use Rattle.report.specs.declared.stop.Halt.{Halt}
 use Rattle.report.specs.declared.answer.Done.{Done}
 use Rattle.report.specs.declared.answer.Verdict.{Verdict}
 use Rattle.csp_base.specs.declared.stop.Stop.TheVariants as stop

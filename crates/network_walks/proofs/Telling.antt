@@ -10,7 +10,8 @@ use Rattle.numbered_walks.specs.Prelude.{Goes, Has, Numbered, first_terms, IsWal
 use Rattle.numbered_walks.specs.declared.moves.Move.{Move}
 use Rattle.process_steps.specs.ComponentStep.{ProcessStep}
 use Rattle.network_walks.specs.Tabled.{numbered}
-use Rattle.report.specs.Prelude.{Answers, Halt}
+use Rattle.report.specs.Prelude.{Answers}
+use Rattle.report.specs.declared.stop.Halt.{Halt}
 use Rattle.report.specs.declared.answer.Done.{Done}
 use Rattle.report.specs.declared.stop.Halt.TheVariants as halt
 use Rattle.network_walks.specs.Walked.{IsNetworkWalk, TellsWalk, walk_verdict}

@@ -2,7 +2,8 @@
 use Rattle.std.proofs.Common.{◌≡◌, Result, Ok, Err, refl, sym, subst}
 use Rattle.std.specs.Result.{IsErrAnd}
 use Rattle.std.proofs.lemmas.Result.{err_from_is_err_and}
-use Rattle.report.specs.Prelude.{Point, RefusedOr, UnprovedOr, passed, told, Answers, HaltsWith, refused, unproved, Halt}
+use Rattle.report.specs.Prelude.{Point, RefusedOr, UnprovedOr, passed, told, Answers, HaltsWith, refused, unproved}
+use Rattle.report.specs.declared.stop.Halt.{Halt}
 use Rattle.report.specs.declared.answer.Done.{Done}
 use Rattle.report.specs.declared.answer.Refusal.{Refusal}
 use Rattle.report.specs.declared.answer.Shortfall.{Shortfall}

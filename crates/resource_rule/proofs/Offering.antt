@@ -3,11 +3,13 @@ use Rattle.std.proofs.Common.{◌≡◌, ℕ, suc, ◌<◌, inl, inr, ◌⊎◌,
 use Rattle.std.specs.List.{list_any}
 use Rattle.csp_base.proofs.Standard.{cases_Bool, cond-true, and_parts, and_from, or_cases, or_left, or_right, eqb-true, false≢true, list_any_at}
 use Rattle.csp_base.specs.Prelude.{has, is_subset_of}
-use Rattle.csp_tables.specs.Prelude.{acceptances_after, part_at, Joins, accepted, use_at}
+use Rattle.csp_tables.specs.Prelude.{IsWellFormed, acceptances_after, part_at, Joins, accepted, use_at}
 use Rattle.design_rules.specs.Resource.{holds, acquires, IsHeldWhile}
 use Rattle.observed_runs.specs.Prelude.{pair_at, Found}
 use Rattle.shape_links.specs.Setting.{Setting, IsUser, node_of}
-use Rattle.resource_rule.specs.Uses.{is_offered, is_offered_at, WatchesLink, IsOfferedHolding}
+use Rattle.net_sound.proofs.Within.{part_form}
+use Rattle.design_rules.proofs.Runs.{end_within}
+use Rattle.resource_rule.specs.Uses.{HaveNodes, is_offered, is_offered_at, WatchesLink, IsOfferedHolding}
 use Rattle.shape_links.proofs.Acquiring.{is_part}
 use Rattle.resource_conditions.proofs.Sets.{any_at}
 use Rattle.resource_rule.proofs.Using.{parity_is}
@@ -35,6 +37,12 @@ any_pair test (p ∷ ps) some = elim (or_cases (test p) (list_any test ps) some)
   | inl here ↦ (0, omega arith, here)
   | inr later ↦ let r = any_pair test ps later in (suc r.0, (let h : r.0 < length ps = r.1 in omega arith), r.2)
 ]
+
+-- each pair of an exploration has a node
+pub have_nodes : (g : Setting) (i l : ℕ) (found : Found) → IsWellFormed g.shape → i < length g.shape.parts → WatchesLink g i l found → HaveNodes g i found.pairs
+have_nodes g i l found w h x k below =
+    let r = x.explored.reached k below in
+    subst (λ n. n < length (part_at g.shape.parts i).table) r.1.node (end_within (part_at g.shape.parts i) r.0 (part_form g.shape.parts i h w.form) r.1.follows)
 
 -- ---- what is offered while a resource is held
 

@@ -1,13 +1,15 @@
 -- What the parity of a link tells, and the condition on a user by tests of its explorations.
-use Rattle.std.proofs.Common.{◌≡◌, ℕ, suc, ◌+◌, ◌<◌, inl, inr, List, [], ◌∷◌, length, Bool, true, false, not, cond, nat_eq, refl, sym, ap, ◌∙◌, arith}
+use Rattle.std.proofs.Common.{◌≡◌, ℕ, suc, ◌+◌, ◌<◌, inl, inr, List, [], ◌∷◌, length, Option, None, Some, Bool, true, false, not, cond, nat_eq, refl, sym, ap, subst, ◌∙◌, arith}
 use Rattle.std.proofs.lemmas.Bool.{cases_Bool, cond-true, cond-false, both_ways}
 use Rattle.csp_base.specs.Members.{has}
-use Rattle.csp_tables.specs.Prelude.{IsRun, end_of, part_at, link_at, use_at}
+use Rattle.csp_tables.specs.Prelude.{IsRun, Joins, Shape, end_of, part_at, link_at, use_at}
 use Rattle.design_rules.specs.Prelude.{count_in, is_odd, holds}
 use Rattle.observed_runs.specs.Prelude.{observed, parity_step}
 use Rattle.shape_links.specs.Setting.{Setting, node_of}
 use Rattle.resource_rule.specs.Uses.{is_use, are_uses, UsesLink}
 use Rattle.resource_conditions.proofs.Sets.{all_possible, some_possible}
+use Rattle.resource_conditions.specs.Finding.{FindsRun}
+use Rattle.shape_links.specs.Component.{IsDecided}
 
 -- ---- parities
 
@@ -86,3 +88,18 @@ module _ (g : Setting) (i l j : ℕ) (h : i < length g.shape.parts) where
       let x = some_possible (is_use g l j (parity_of s)) (node_of g i (end_of (part_at g.shape.parts i).table 0 s)).next broken in
       let on = is_on_link (parity_of s) x.0 x.2 in
       both_ways (is_use g l j (parity_of s) x.0) x.2 (use_is s x.0 on ∙ used x.0 (record { runs = record { part = h; follows = run }; next = x.1 }) on)
+
+  -- ---- U4 on one link, by the test of it after each run
+
+  not_met : (b : Bool) → (b ≡ true → ⊥) → b ≡ false
+  not_met true never = absurd (never refl)
+  not_met false never = refl
+
+  pub decided_use : Joins g.shape i j l → ((k : ℕ) → Joins g.shape i k l → k ≡ j) → (run : Option (List ℕ)) → IsDecided g.shape i (λ s. are_uses g i l j (end_of (part_at g.shape.parts i).table 0 s, observed (parity_step (link_at g.shape l).shared) 0 s) ≡ true) run → FindsRun g.shape i (λ s. (k : ℕ) → Joins g.shape i k l → UsesLink g i l k s) run
+  decided_use joins only None d = λ s k other. subst (λ n. UsesLink g i l n s) (sym (only k other)) (uses_link (λ t runs. d t (record { part = h; follows = runs })) s)
+  decided_use joins only (Some s) d = (d.0, λ used. not_in_use s d.0.follows (not_met _ d.1) (used j joins))
+
+-- what is found of a condition is found of it where it is asked
+pub found_of : (shape : Shape) (i : ℕ) (U : Type 0) (P : List ℕ → Type 0) (run : Option (List ℕ)) → U → FindsRun shape i P run → FindsRun shape i (λ s. U → P s) run
+found_of shape i U P None u found = λ s _. found s
+found_of shape i U P (Some s) u found = (found.0, λ p. found.1 (p u))

@@ -4,7 +4,7 @@ use Rattle.std.specs.Prelude.{ℕ, List, Bool, true, ◌&&◌, IsTrue, nat_eq, i
 use Rattle.std.specs.List.{list_all, list_any}
 use Rattle.csp_base.specs.Prelude.{has, is_subset_of}
 use Rattle.csp_tables.specs.Prelude.{part_at, use_at, link_at, IsPossible, Accepts, accepted}
-use Rattle.observed_runs.specs.Prelude.{parity_step, Found, AreFound, IsExploration}
+use Rattle.observed_runs.specs.Prelude.{pair_at, parity_step, Found, AreFound, IsExploration}
 use Rattle.design_rules.specs.Resource.{holds}
 use Rattle.shape_links.specs.Setting.{Setting, node_of}
 
@@ -40,3 +40,7 @@ is_offered vocabulary accept e = list_any (λ M. is_subset_of M vocabulary && ha
 -- whether the event is offered by the part i at one of the pairs with the state 1
 abbrev pub is_offered_at : Setting → ℕ → List (ℕ × ℕ) → ℕ → Bool
 is_offered_at g i pairs e = list_any (λ (pair : ℕ × ℕ). nat_eq pair.1 1 && is_offered g.shape.vocabulary (node_of g i pair.0).accept e) pairs
+
+-- each pair has a node of the part i
+abbrev pub HaveNodes : Setting → ℕ → List (ℕ × ℕ) → Type 0
+HaveNodes g i pairs = (k : ℕ) → k < length pairs → (pair_at pairs k).0 < length (part_at g.shape.parts i).table

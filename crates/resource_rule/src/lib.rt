@@ -1,6 +1,7 @@
 //! The rule of users and resources, decided over the shape of a network: its ranking, or what breaks the rule.
 #![tactic(auto)]
 
+mod holdings;
 mod numbers;
 mod offers;
 mod rule;

@@ -5,10 +5,9 @@ ghost use Rattle.csp_base.specs.Prelude.{has, is_subset_of};
 ghost use Rattle.csp_tables.specs.Part.{part_at};
 ghost use Rattle.design_rules.specs.Resource.{acquires};
 ghost use Rattle.digraph.specs.Digraph.{has_arc};
-ghost use Rattle.resource_conditions.specs.Finding.{HaveNodes};
 ghost use Rattle.shape_links.specs.Acquired.{is_acquired_by};
 ghost use Rattle.shape_links.specs.Setting.{KeepKinds, node_of};
-ghost use Rattle.resource_rule.specs.Uses.{is_offered, is_offered_at};
+ghost use Rattle.resource_rule.specs.Uses.{HaveNodes, is_offered, is_offered_at};
 
 use csp_base::{Event, EventSet, NoMemory};
 use digraph::Rows;
@@ -71,8 +70,9 @@ fn with_pair(
     if state != 1 {
         return Ok(events);
     }
-    let accept = setting.node(part, node).accept();
-    with_offers(alloc, setting.shape().vocabulary(), accept, events)
+    let component = setting.component(part);
+    let vocabulary = setting.shape().vocabulary();
+    with_offers(alloc, vocabulary, component.node(node).accept(), events)
 }
 
 // The events, and those of the acceptances that lie in the vocabulary.

@@ -4,12 +4,12 @@ ghost use Rattle.std.specs.Prelude.{◌≡◌, ◌<◌, All, IfErr, IfOk, OnOk, 
 ghost use Rattle.csp_base.specs.Stops.{Tells};
 ghost use Rattle.csp_tables.specs.Prelude.{TripleDisjoint, alphabets_of, IsWellFormed};
 ghost use Rattle.design_rules.specs.Prelude.{IsResource, KeepUses, ResourcesRise, AreResourceNumbers, IsResourceRanking, BreaksResource};
-ghost use Rattle.shape_links.specs.Setting.{KeepKinds};
-ghost use Rattle.resource_conditions.specs.Setting.{KeepGrants, KeepTurns, Breaks};
+ghost use Rattle.resource_conditions.specs.Setting.{Breaks};
 ghost use Rattle.rule_rankings.specs.ResourceRanks.{number_by};
 
+use crate::holdings::holdings;
 use crate::numbers::numbers;
-use crate::users::holdings;
+use crate::users::check_users;
 use csp_base::Stop;
 use csp_tables::{Ranking, Shape, UseSets};
 use design_rules::RuleFault;
@@ -52,20 +52,10 @@ fn checked_numbers(alloc: Global, setting: &Setting<'_>) -> Result<Heights, Stop
     ensures rise { IfOk result (λ heights. ResourcesRise setting.now.shape setting.now.uses (number_by heights)) }
     ensures fault { IfErr result (Tells (Breaks setting.now)) }
 {
-    check_uses(alloc, setting)?;
-    let rows = holdings(alloc, setting)?;
-    numbers(alloc, setting, &rows)
-}
-
-// Succeeds where U1, U2 and U3 hold, and else tells the least that does not.
-fn check_uses(alloc: Global, setting: &Setting<'_>) -> Result<(), Stop<RuleFault>>
-    ensures kinds { OnOk result (KeepKinds setting.now) }
-    ensures turns { OnOk result (KeepTurns setting.now) }
-    ensures grants { OnOk result (KeepGrants setting.now) }
-    ensures fault { IfErr result (Tells (Breaks setting.now)) }
-{
     check_kinds(alloc, setting)?;
     check_turns(alloc, setting)?;
     check_grants(alloc, setting)?;
-    Ok(())
+    check_users(alloc, setting)?;
+    let rows = holdings(alloc, setting)?;
+    numbers(alloc, setting, &rows)
 }

@@ -1,6 +1,6 @@
 -- The ranks and the laps of a cyclic network.
-use Rattle.std.proofs.Common.{◌≡◌, ℕ, zero, suc, ◌+◌, ◌<◌, ◌≤◌, inl, inr, pos, List, length, get_or, Bool, ◌&&◌, cond, max, IsTrue, nat_eq, nat_lt, sym, ap, subst, ◌∙◌, arith, eq-eqb, ne_eqb, lt-ltb}
-use Rattle.csp_base.proofs.Standard.{cases_Bool, cases_eq, cases_lt, cond-true, cond-false, and_from, both_ways, get_or_from_slice_get, slice_get_within}
+use Rattle.std.proofs.Common.{◌≡◌, ℕ, zero, suc, ◌+◌, ◌<◌, ◌≤◌, inl, inr, pos, List, [], ◌∷◌, ◌++◌, length, get_or, Bool, ◌&&◌, cond, max, IsTrue, nat_eq, nat_lt, sym, ap, subst, ◌∙◌, arith, eq-eqb, ne_eqb, lt-ltb}
+use Rattle.csp_base.proofs.Standard.{length-append, get_or_append_left, get_or-append_seam, cases_Bool, cases_eq, cases_lt, cond-true, cond-false, and_from, both_ways, get_or_from_slice_get, slice_get_within}
 use Rattle.csp_base.specs.Members.{has}
 use Rattle.csp_tables.specs.Prelude.{node_at, is_possible, part_at, alphabets_of, TripleDisjoint, Shape, is_end, IsWellFormed, Ranking}
 use Rattle.design_rules.specs.Prelude.{count_below, above_all, links_of, ReachesLink, AllKeepPlaces, NumbersRise, place_of, ends_lap, AreCyclicRanks}
@@ -126,3 +126,17 @@ cyclic_ranks shape number tops ranking w triple keep rise are all scale =
           (lap_is shape ranking rank lap all i n e h possible).on_link l (record { within = on.within; event = on.event }) ∙ last_place shape number w triple keep rise i l (slice_index tops i) run.run e h (are.greatest i h) reach;
       no_laps = λ i n e h hidden. lap_none shape ranking rank lap all i n e h (λ m is. is.other (λ l o. both_ways (has shape.vocabulary e) hidden (link_shared shape l w o.within e o.event)));
     }
+
+-- ---- the greatest number of each part's links
+
+pub tops_more : (shape : Shape) (number : ℕ → ℕ) (n : ℕ) (tops more : List ℕ) (top : ℕ) → AreTops shape number n tops → IsGreatest number (ends_of shape n) top → more ≡ tops ++ top ∷ [] → AreTops shape number (n + 1) more
+tops_more shape number n tops more top are new is = record {
+  count = ap length is ∙ length-append tops (top ∷ []) ∙ ap (λ k. k + 1) are.count;
+  greatest = λ i h. elim (cases_lt i n) as (λ _. IsGreatest number (ends_of shape i) (slice_index more i)) [
+    | inl old ↦ subst (IsGreatest number (ends_of shape i)) (sym (ap (λ zs. get_or zs i 0) is ∙ get_or_append_left tops (top ∷ []) 0 i (omega (arith, are.count)))) (are.greatest i old)
+    | inr now ↦
+        let same : n ≡ i = omega arith in
+        let last : get_or more n 0 ≡ top = ap (λ zs. get_or zs n 0) is ∙ (ap (λ j. get_or (tops ++ top ∷ []) j 0) (sym are.count) ∙ get_or-append_seam tops top [] 0) in
+        subst (λ j. IsGreatest number (ends_of shape j) (slice_index more j)) same (subst (IsGreatest number (ends_of shape n)) (sym last) new)
+  ];
+}

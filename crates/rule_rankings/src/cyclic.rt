@@ -3,6 +3,7 @@
 ghost use Rattle.std.specs.Prelude.{◌≡◌, ◌<◌, ◌≤◌, ◌^◌, ℕ, pos, IfOk, IsTrue, length, slice_index, max};
 ghost use Rattle.csp_base.specs.Members.{has};
 ghost use Rattle.design_rules.specs.Prelude.{above_all, AllKeepPlaces, NumbersRise, AreCyclicRanks};
+ghost use Rattle.shape_links.specs.Links.{ends_of};
 ghost use Rattle.rule_rankings.specs.CyclicRanks.{AreTops, IsGreatest, IsLap, IsRank};
 
 use crate::rows::{Ranks, larger, rank_parts};
@@ -48,9 +49,19 @@ fn tops(alloc: Global, prepared: &SortedShape<'_>, numbers: &Heights) -> Result<
 {
     let mut tops = Vec::new(alloc);
     for part in 0..prepared.shape().parts().len() {
-        tops.push(greatest(numbers, prepared.links(part as u32)))?;
+        tops.push(top(prepared, numbers, part as u32))?;
     }
     Ok(tops)
+}
+
+// The greatest number of the part's links.
+fn top(prepared: &SortedShape<'_>, numbers: &Heights, part: u32) -> u32
+    requires count { length numbers.now ≡ length prepared.now.links }
+    requires part { part < length prepared.now.parts }
+    ensures { IsGreatest (slice_index numbers.now) (ends_of prepared.now part) result }
+{
+    let component = prepared.component(part);
+    greatest(numbers, component.links())
 }
 
 // The greatest number of the links.

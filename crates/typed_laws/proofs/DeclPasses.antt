@@ -1,11 +1,9 @@
 -- No fault of declarations is told exactly where all that they say passes and no definition of data is too deep.
 use Rattle.std.proofs.Common.{◌≡◌, ℕ, Bool, true, false, ◌||◌, Option, Some, None, List, [], ◌∷◌, ◌++◌, length, map, refl, ◌∙◌, ap, option_map}
 use Rattle.std.specs.List.{list_any}
-use Rattle.csp_text.specs.declared.script.Decl.{Decl}
 use Rattle.script_names.specs.declared.fault.ResolveFault.TheVariants as fault
 use Rattle.script_names.specs.Prelude.{unknown_name, repeated_name, is_wrong_kind, wrong_count, is_inside, Counts, Meanings, Name, counted, meanings_of, none_yet, bodies_from, counts_of, decl_says, fault_in, fault_of, first_fault, first_name, first_there, next_definition, too_deep, when_any}
-use Rattle.script_names.specs.declared.kinds.Kind.{Kind}
-use Rattle.script_names.specs.declared.occurrence.Occurrence.{Occurrence}
+use Rattle.typed_laws.proofs.Sources.{Decl, Kind, Occurrence}
 use Rattle.typed_laws.proofs.Faultless.{AllFine, first_faultless, none_first, none_later, none_of_map, rest_faultless}
 use Rattle.typed_laws.proofs.Passing.{AllPass, Passes}
 

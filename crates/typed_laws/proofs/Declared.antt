@@ -1,20 +1,13 @@
 -- What the rules of declarations put into a program is what the functions give: the content, the field sets, and how deep the bodies reach.
-use Rattle.std.proofs.Common.{◌≡◌, ℕ, zero, suc, ◌+◌, false, Option, None, Ok, List, [], ◌∷◌, ◌++◌, length, map, replicate, refl, sym, ◌∙◌, ap, arith}
+use Rattle.std.proofs.Common.{◌≡◌, ℕ, zero, suc, ◌+◌, false, Option, Ok, List, [], ◌∷◌, ◌++◌, length, map, replicate, refl, sym, ◌∙◌, ap, arith}
 use Rattle.std.specs.Prelude.{slice_get}
 use Rattle.std.specs.List.{flat_map}
-use Rattle.csp_atoms.specs.declared.atom.Atom.{Atom}
-use Rattle.csp_text.specs.declared.script.Decl.{Decl}
-use Rattle.csp_text.specs.declared.tree.Tree.{Tree}
 use Rattle.csp_text.specs.declared.script.Decl.TheVariants as decl
-use Rattle.csp_program.specs.declared.expressions.Expr.{Expr}
-use Rattle.csp_program.specs.declared.programs.Content.{Content}
-use Rattle.csp_program.specs.declared.programs.Def.{Def}
 use Rattle.csp_program.specs.declared.programs.Body.TheVariants as body
-use Rattle.script_names.specs.Prelude.{body_of, channels_of, constants_of, definitions_from, first_assertion, resources_of, roles_of, root_of, definition_depth, depth_at, Declares, deepest, depth_within, said_by, kind_class, kind_network, field_sets, Counts, Meanings, Name, counted, and_next, channel_sets, told_in, numbers_from, parameters, bodies_from, body_place, expanded_body, definition_number, exprs, reading, tree_says}
-use Rattle.script_names.specs.declared.kinds.Kind.{Kind}
-use Rattle.script_names.specs.declared.occurrence.Occurrence.{Occurrence}
+use Rattle.script_names.specs.Prelude.{body_of, channels_of, constants_of, definitions_from, first_assertion, resources_of, roles_of, root_of, definition_depth, depth_at, Declares, channels_of_types, deepest, depth_within, said_by, kind_class, kind_network, field_sets, Counts, Meanings, Name, counted, and_next, channel_sets, told_in, numbers_from, parameters, bodies_from, body_place, expanded_body, definition_number, exprs, reading, tree_says}
 use Rattle.script_names.specs.Declaring as d
 use Rattle.script_names.proofs.Scopes.{names_of-parameters}
+use Rattle.typed_laws.proofs.Sources.{Atom, Content, Decl, Def, Expr, Kind, Occurrence, Tree}
 use Rattle.typed_laws.proofs.ExprsAre.{expr_is, exprs_are}
 use Rattle.typed_laws.proofs.NetsAre.{net_is}
 use Rattle.typed_laws.proofs.Passing.{data_at}
@@ -35,139 +28,75 @@ module _ (m : Meanings) (ks : List Kind) where
   abbrev pub types_of : List Tree → List Expr
   types_of types = exprs (map (reading m ks) types) [] 0
 
-  -- the functions give this content
-  pub record ContentIs (n : Counts) (decls : List Decl) (p : Content) : Type 0 where
-    pub events : [] ≡ p.events
-    pub channels : flat_map (channels_of m ks) decls ≡ p.channels
-    pub consts : flat_map (constants_of m ks) decls ≡ p.consts
-    pub defs : definitions_from m ks n decls ≡ p.defs
-    pub roles : flat_map (roles_of m ks) decls ≡ p.roles
-    pub resources : flat_map (resources_of m ks) decls ≡ p.resources
-    pub root : root_of m ks (first_assertion decls) ≡ p.root
+  -- what the functions give of declarations after so many of each kind
+  abbrev pub given : Counts → List Decl → Content
+  given n decls = record {
+    events = [];
+    channels = flat_map (channels_of m ks) decls;
+    consts = flat_map (constants_of m ks) decls;
+    defs = definitions_from m ks n decls;
+    roles = flat_map (roles_of m ks) decls;
+    resources = flat_map (resources_of m ks) decls;
+    root = root_of m ks (first_assertion decls);
+  }
 
-  -- what a definition defines whose kind is this
-  abbrev defined_as : Name → List Name → Tree → Option Kind → Def
-  defined_as x params t kind = record {
-    name = x;
-    params = numbers_from 0 (length params);
-    body = body_of m ks (kind_class kind) (kind_network kind) (reading m ks t) (length params) (parameters 0 params);
+  -- a definition whose kind is this, in front of others
+  abbrev pub defined_as : Name → List Name → Tree → Content → Option Kind → Content
+  defined_as x params t p kind = record p {
+    defs = record {
+      name = x;
+      params = numbers_from 0 (length params);
+      body = body_of m ks (kind_class kind) (kind_network kind) (reading m ks t) (length params) (parameters 0 params);
+    } ∷ p.defs;
   }
 
   pub content_is : {whole : Content} {HasSets : List Expr → List (List Atom) → Type 0} {n : Counts} {decls : List Decl} {p : Content} {sets : List (List (List Atom))}
-      → Declares m ks whole HasSets n decls p sets → ContentIs n decls p
-  content_is d.nothing = record
-      { events = refl; channels = refl; consts = refl; defs = refl; roles = refl; resources = refl; root = refl }
+      → Declares m ks whole HasSets n decls p sets → given n decls ≡ p
+  content_is d.nothing = refl
   content_is (d.channels {xs = xs} typed fits rest) =
       let w = (exprs_are m ks typed).value in let v = content_is rest in
-      record {
-        events = v.events;
-        channels = λ j. map (λ x. record { name = x; types = w j; fields = None; first = 0 }) xs ++ v.channels j;
-        consts = v.consts;
-        defs = v.defs;
-        roles = v.roles;
-        resources = v.resources;
-        root = v.root;
-      }
+      λ j. record (v j) { channels = channels_of_types xs (w j) ++ (v j).channels }
   content_is (d.datatype {n = n} {x = x} {cs = cs} rest) =
       let v = content_is rest in
-      record {
-        events = v.events;
-        channels = v.channels;
-        consts = ap (λ zs. cs ++ zs) v.consts;
-        defs = ap (λ zs. record { name = x; params = []; body = body.Datatype (numbers_from n.constants (length cs)) } ∷ zs) v.defs;
-        roles = v.roles;
-        resources = v.resources;
-        root = v.root;
+      λ j. record (v j) {
+        consts = cs ++ (v j).consts;
+        defs = record { name = x; params = []; body = body.Datatype (numbers_from n.constants (length cs)) } ∷ (v j).defs;
       }
   content_is (d.nametype {x = x} h deep rest) =
       let w = (expr_is m ks h).value in let v = content_is rest in
-      record {
-        events = v.events;
-        channels = v.channels;
-        consts = v.consts;
-        defs = λ j. record { name = x; params = []; body = body.Nametype (w j) } ∷ v.defs j;
-        roles = v.roles;
-        resources = v.resources;
-        root = v.root;
-      }
+      λ j. record (v j) { defs = record { name = x; params = []; body = body.Nametype (w j) } ∷ (v j).defs }
   content_is (d.data_definition {n = n} {x = x} {params = params} {t = t} {decls = decls} ps is h deep rest) =
       let w = (expr_is m ks h).value in let v = content_is rest in
-      record {
-        events = v.events;
-        channels = v.channels;
-        consts = v.consts;
-        defs = ap (λ o. defined_as x params t o ∷ definitions_from m ks (counted n (decl.Define x params t)) decls) is
-            ∙ (λ j. record { name = x; params = numbers_from 0 (length params); body = body.Datum (w j) } ∷ v.defs j);
-        roles = v.roles;
-        resources = v.resources;
-        root = v.root;
-      }
+      ap (defined_as x params t (given (counted n (decl.Define x params t)) decls)) is
+      ∙ (λ j. record (v j) { defs = record { name = x; params = numbers_from 0 (length params); body = body.Datum (w j) } ∷ (v j).defs })
   content_is (d.process_definition {n = n} {x = x} {params = params} {t = t} {decls = decls} ps is h rest) =
       let w = (proc_is m ks h).value in let v = content_is rest in
-      record {
-        events = v.events;
-        channels = v.channels;
-        consts = v.consts;
-        defs = ap (λ o. defined_as x params t o ∷ definitions_from m ks (counted n (decl.Define x params t)) decls) is
-            ∙ (λ j. record { name = x; params = numbers_from 0 (length params); body = body.Process (w j) } ∷ v.defs j);
-        roles = v.roles;
-        resources = v.resources;
-        root = v.root;
-      }
+      ap (defined_as x params t (given (counted n (decl.Define x params t)) decls)) is
+      ∙ (λ j. record (v j) { defs = record { name = x; params = numbers_from 0 (length params); body = body.Process (w j) } ∷ (v j).defs })
   content_is (d.network_definition {n = n} {x = x} {params = params} {t = t} {decls = decls} ps is h rest) =
       let w = (net_is m ks h).value in let v = content_is rest in
-      record {
-        events = v.events;
-        channels = v.channels;
-        consts = v.consts;
-        defs = ap (λ o. defined_as x params t o ∷ definitions_from m ks (counted n (decl.Define x params t)) decls) is
-            ∙ (λ j. record { name = x; params = numbers_from 0 (length params); body = body.Network (w j) } ∷ v.defs j);
-        roles = v.roles;
-        resources = v.resources;
-        root = v.root;
-      }
-  content_is (d.assertion h rest) =
-      let v = content_is rest in
-      record {
-        events = v.events;
-        channels = v.channels;
-        consts = v.consts;
-        defs = v.defs;
-        roles = v.roles;
-        resources = v.resources;
-        root = (net_is m ks h).value;
-      }
+      ap (defined_as x params t (given (counted n (decl.Define x params t)) decls)) is
+      ∙ (λ j. record (v j) { defs = record { name = x; params = numbers_from 0 (length params); body = body.Network (w j) } ∷ (v j).defs })
+  content_is (d.assertion h rest) = let v = content_is rest in λ j. record (v j) { root = (net_is m ks h).value j }
   content_is (d.roles process creq cack sreq sack rest) =
       let v = content_is rest in
-      record {
-        events = v.events;
-        channels = v.channels;
-        consts = v.consts;
-        defs = v.defs;
-        roles = λ j. record {
+      λ j. record (v j) {
+        roles = record {
           process = definition_number (process.means j);
           creq = definition_number (creq.means j);
           cack = definition_number (cack.means j);
           sreq = definition_number (sreq.means j);
           sack = definition_number (sack.means j);
-        } ∷ v.roles j;
-        resources = v.resources;
-        root = v.root;
+        } ∷ (v j).roles;
       }
   content_is (d.resource process acquire release rest) =
       let v = content_is rest in
-      record {
-        events = v.events;
-        channels = v.channels;
-        consts = v.consts;
-        defs = v.defs;
-        roles = v.roles;
-        resources = λ j. record {
+      λ j. record (v j) {
+        resources = record {
           process = definition_number (process.means j);
           acquire = definition_number (acquire.means j);
           release = definition_number (release.means j);
-        } ∷ v.resources j;
-        root = v.root;
+        } ∷ (v j).resources;
       }
 
   -- and these field sets

@@ -2,15 +2,9 @@
 use Rattle.std.proofs.Common.{◌≡◌, ℕ, ◌+◌, ◌<◌, List, [], ◌∷◌, ◌++◌, map, sym, ◌∙◌, ap, arith}
 use Rattle.std.specs.Prelude.{max}
 use Rattle.csp_program.specs.Prelude.{gen_depth_of_layer, part_depth_of_layer}
-use Rattle.csp_program.specs.declared.expressions.EventPart.{EventPart}
-use Rattle.csp_program.specs.declared.expressions.Expr.{Expr}
-use Rattle.csp_program.specs.declared.expressions.Expr.TheFolds.{fold-roll-Expr, fold-roll-Gen, fold-roll-EventPart, map-Expr, map-Gen}
-use Rattle.csp_program.specs.declared.expressions.Expr.TheOpen.{Expr-F, Gen-F}
-use Rattle.csp_program.specs.declared.expressions.Expr.TheViews.{roll-Expr, roll-Gen}
-use Rattle.csp_program.specs.declared.expressions.Gen.{Gen}
 use Rattle.csp_base.specs.Lists.{greatest}
 use Rattle.script_names.specs.Prelude.{expanded_depth, expanded_depth_of_layer, gen_expanded_depth, part_expanded_depth, deepest, reach, Name, event_part}
-use Rattle.script_names.specs.declared.occurrence.Occurrence.{Occurrence}
+use Rattle.typed_laws.proofs.Sources.{EventPart, Expr, Expr-F, Gen, Gen-F, Occurrence, fold-roll-EventPart, fold-roll-Expr, fold-roll-Gen, map-Expr, map-Gen, roll-Expr, roll-Gen}
 
 max_assoc : (a b c : ℕ) → max a (max b c) ≡ max (max a b) c
 max_assoc a b c = omega arith

@@ -3,38 +3,22 @@ use Rattle.std.proofs.Common.{◌≡◌, ℕ, ◌+◌, ◌<◌, pos, Bool, true,
 use Rattle.std.specs.Prelude.{max}
 use Rattle.std.proofs.lemmas.List.{length-map}
 use Rattle.csp_base.specs.Lists.{greatest}
-use Rattle.csp_text.specs.declared.tree.EventTree.{EventTree}
-use Rattle.csp_text.specs.declared.tree.FieldTree.{FieldTree}
-use Rattle.csp_text.specs.declared.tree.FieldTree.TheFolds.{fold-roll-GenTree, fold-roll-PartTree, fold-roll-Tree}
-use Rattle.csp_text.specs.declared.tree.FieldTree.TheOpen.{GenTree-F, Tree-F}
-use Rattle.csp_text.specs.declared.tree.FieldTree.TheViews.{roll-GenTree, roll-Tree}
-use Rattle.csp_text.specs.declared.tree.GenTree.{GenTree}
-use Rattle.csp_text.specs.declared.tree.PartTree.{PartTree}
-use Rattle.csp_text.specs.declared.tree.Tree.{Tree}
 use Rattle.csp_text.specs.declared.tree.GenTree.TheVariants as generator
 use Rattle.csp_text.specs.declared.tree.Tree.TheVariants as tree
-use Rattle.csp_program.specs.declared.expressions.EventPart.{EventPart}
-use Rattle.csp_program.specs.declared.expressions.Expr.{Expr}
-use Rattle.csp_program.specs.declared.expressions.Expr.TheOpen.{Expr-F, Gen-F}
-use Rattle.csp_program.specs.declared.expressions.Gen.{Gen}
-use Rattle.csp_program.specs.declared.processes.Field.{Field}
 use Rattle.csp_program.specs.declared.expressions.Expr.TheVariants as expr
 use Rattle.csp_program.specs.declared.expressions.Gen.TheVariants as gen_of
 use Rattle.script_names.specs.declared.kinds.Class.TheVariants as class
 use Rattle.script_names.specs.declared.kinds.Entity.TheVariants as entity
-use Rattle.script_names.specs.Prelude.{expanded_depth, gen_expanded_depth, part_expanded_depth, below, deepest, when, Meanings, Name, sense_in, Binder, Fields, Said, all_say, event_says_of_layer, field_says_of_layer, gen_says_of_layer, in_turn, part_says, part_says_of_layer, tree_says, tree_says_of_layer, Scope, names_of, with, Binding, Front, Reading, all_bind, bindings, bindings_bind, channel_number, definition_number, event_of_layer, exprs, field_of_layer, gen_of_layer, named, part, part_of_layer, parts, parts_bind, reading, reading_of_layer, under, AreExprs, AreFronts, AreGens, IsExpr, IsFront, Means, event_part, part_tree}
-use Rattle.script_names.specs.declared.kinds.Kind.{Kind}
-use Rattle.script_names.specs.declared.kinds.Place.{Place}
-use Rattle.script_names.specs.declared.kinds.Sense.{Sense}
-use Rattle.script_names.specs.declared.occurrence.Occurrence.TheVariants.{Binds, Form, Uses}
+use Rattle.script_names.specs.Prelude.{expanded_depth, gen_expanded_depth, part_expanded_depth, below, deepest, when, Meanings, Name, sense_in, Binder, Fields, Said, all_say, in_turn, part_says, tree_says, Scope, names_of, with, Binding, Front, Reading, all_bind, bindings, bindings_bind, channel_number, definition_number, exprs, named, part, parts, parts_bind, reading, under, AreExprs, AreFronts, AreGens, IsExpr, IsFront, event_part}
 use Rattle.script_names.specs.declared.kinds.Sense.TheVariants as sense
 use Rattle.script_names.specs.declared.kinds.Use.TheVariants as how
 use Rattle.script_names.specs.Says as says
 use Rattle.script_names.specs.Typing as t
+use Rattle.typed_laws.proofs.Sources.{Binds, EventPart, Expr, Expr-F, Form, Gen, Gen-F, GenTree, GenTree-F, Kind, PartTree, Place, Sense, Tree, Tree-F, Uses}
+use Rattle.typed_laws.proofs.Trees.{at_gen, at_part, at_tree, of_gen, of_part, reads, saying}
 use Rattle.typed_laws.proofs.Deep.{above, below_form, expr_layer, gen_layer, none_below, one_below, part_layer, two_below}
-use Rattle.typed_laws.proofs.Making.{gen_reading, gen_reading_layer, gen_says, gen_says_layer, part_reading, part_tree_says, reading_layer, says_layer}
 use Rattle.typed_laws.proofs.Passing.{AllPass, Passes, data_at, form_passes, join, join_three, use_passes}
-use Rattle.typed_laws.proofs.ScopeNames.{names_with}
+use Rattle.typed_laws.proofs.ScopeNames.{add_names, gen_names, names_with}
 use Rattle.typed_laws.proofs.Senses.{bind_passes, bound_is, bound_passes, call_passes, constant_passes, definition_passes, dotted_passes, event_passes, means_is, set_passes}
 
 pub add_next : (n a b i k : ℕ) → n + a ≡ i → i + b ≡ k → n + (a + b) ≡ k
@@ -88,7 +72,6 @@ module _ (m : Meanings) (ks : List Kind) where
   pub record GensAre (bs : List Binder) (gs : List (Binding Gen)) (scope : Scope) (n : ℕ) (es : List Gen) (inner : Scope) (k : ℕ) : Type 0 where
     pub value : bindings gs scope n ≡ es
     pub after : under gs scope n ≡ inner
-    pub names : says.under bs (names_of scope) ≡ names_of inner
     pub next : n + bindings_bind gs ≡ k
     pub passes : (place : Place) → AllPass m ks (in_turn bs place (names_of scope))
     pub deep : (f : ℕ → ℕ) (place : Place) → max place.level (deepest f (in_turn bs place (names_of scope))) ≡ place.level + greatest (map (gen_expanded_depth f) es)
@@ -114,38 +97,10 @@ module _ (m : Meanings) (ks : List Kind) where
   begins_passes x c n k left h =
       record { fine = record { known = refl; kind = refl; count = ap (λ b. when b x) (some_left k left n h); inside = refl }; once = refl }
 
-  -- ---- one layer
-
-  pub tree_layer : (P : Said → Reading → Type 0) (d : Tree-F FieldTree GenTree Tree EventTree PartTree) {a : Tree} → roll-Tree d ≡ a
-      → P (says_layer m ks d) (reading_layer m ks d) → P (tree_says m a) (reading m ks a)
-  tree_layer P d is h =
-      subst (λ z. P (tree_says m z) (reading m ks z)) is
-      (subst (λ z. P z (reading m ks (roll-Tree d)))
-      (sym (fold-roll-Tree Binder Binder Said (Fields Binder) (Fields Said) (field_says_of_layer m) (gen_says_of_layer m) (tree_says_of_layer m) (event_says_of_layer m) (part_says_of_layer m) d))
-      (subst (λ z. P (says_layer m ks d) z)
-      (sym (fold-roll-Tree (Binding Field) (Binding Gen) Reading (Front (Binding Field)) (Front Reading) (field_of_layer m ks) (gen_of_layer m ks) (reading_of_layer m ks) (event_of_layer m ks) (part_of_layer m ks) d))
-      h))
-
-  gen_tree_layer : (P : Binder → Binding Gen → Type 0) (d : GenTree-F FieldTree GenTree Tree EventTree PartTree) {a : GenTree} → roll-GenTree d ≡ a
-      → P (gen_says_layer m ks d) (gen_reading_layer m ks d)
-      → P (gen_says m ks a) (gen_reading m ks a)
-  gen_tree_layer P d is h =
-      subst (λ z. P (gen_says m ks z) (gen_reading m ks z)) is
-      (subst (λ z. P z (gen_reading m ks (roll-GenTree d)))
-      (sym (fold-roll-GenTree Binder Binder Said (Fields Binder) (Fields Said) (field_says_of_layer m) (gen_says_of_layer m) (tree_says_of_layer m) (event_says_of_layer m) (part_says_of_layer m) d))
-      (subst (P (gen_says_layer m ks d))
-      (sym (fold-roll-GenTree (Binding Field) (Binding Gen) Reading (Front (Binding Field)) (Front Reading) (field_of_layer m ks) (gen_of_layer m ks) (reading_of_layer m ks) (event_of_layer m ks) (part_of_layer m ks) d))
-      h))
-
-  part_tree_layer : (P : Fields Said → Front Reading → Type 0) (x : Name) (items : List Tree)
-      → P (record { name = x; fields = map (tree_says m) items }) (record { name = x; fields = map (reading m ks) items })
-      → P (part_tree_says m ks (part_tree x items)) (part_reading m ks (part_tree x items))
-  part_tree_layer P x items h =
-      subst (λ z. P z (part_reading m ks (part_tree x items)))
-      (sym (fold-roll-PartTree Binder Binder Said (Fields Binder) (Fields Said) (field_says_of_layer m) (gen_says_of_layer m) (tree_says_of_layer m) (event_says_of_layer m) (part_says_of_layer m) (record { name = x; fields = items })))
-      (subst (λ z. P (record { name = x; fields = map (tree_says m) items }) z)
-      (sym (fold-roll-PartTree (Binding Field) (Binding Gen) Reading (Front (Binding Field)) (Front Reading) (field_of_layer m ks) (gen_of_layer m ks) (reading_of_layer m ks) (event_of_layer m ks) (part_of_layer m ks) (record { name = x; fields = items })))
-      h)
+  -- what generators add to a scope is what they say that they bind
+  pub names_after : (ts : List GenTree) (scope : Scope) (n : ℕ) {inner : Scope} → under (map (of_gen (reads m ks)) ts) scope n ≡ inner
+      → names_of inner ≡ says.under (map (of_gen (saying m ks)) ts) (names_of scope)
+  names_after ts scope n h = ap names_of (sym h) ∙ add_names (of_gen (saying m ks)) (of_gen (reads m ks)) (gen_names m ks) ts scope n
 
   -- ---- forms of data
 
@@ -183,38 +138,38 @@ module _ (m : Meanings) (ks : List Kind) where
   mutual
     pub expr_is : {scope : Scope} {n k : ℕ} {a : Tree} {e : Expr} → IsExpr m ks scope n a e k → ExprIs (tree_says m a) (reading m ks a) scope n e k
     expr_is {scope} {n} (t.number {k = k}) =
-        tree_layer (λ s r. ExprIs s r scope n (expr.Num (pos k)) n) (Tree-F.Num k) (tree.rolls-Num _)
+        at_tree m ks (λ _ s r. ExprIs s r scope n (expr.Num (pos k)) n) (Tree-F.Num k) (tree.rolls-Num _)
         (leaf_is _ scope n (expr.Num (pos k)) refl refl (λ f. expr_layer f (Expr-F.Num (pos k)) (expr.rolls-Num _)))
     expr_is {scope} {n} t.truth =
-        tree_layer (λ s r. ExprIs s r scope n (expr.Truth true) n) Tree-F.True tree.rolls-True
+        at_tree m ks (λ _ s r. ExprIs s r scope n (expr.Truth true) n) Tree-F.True tree.rolls-True
         (leaf_is _ scope n (expr.Truth true) refl refl (λ f. expr_layer f (Expr-F.Truth true) (expr.rolls-Truth _)))
     expr_is {scope} {n} t.falsehood =
-        tree_layer (λ s r. ExprIs s r scope n (expr.Truth false) n) Tree-F.False tree.rolls-False
+        at_tree m ks (λ _ s r. ExprIs s r scope n (expr.Truth false) n) Tree-F.False tree.rolls-False
         (leaf_is _ scope n (expr.Truth false) refl refl (λ f. expr_layer f (Expr-F.Truth false) (expr.rolls-Truth _)))
     expr_is {scope} {n} (t.bound {b = b} {x = x} h) =
-        tree_layer (λ s r. ExprIs s r scope n (expr.Bound b) n) (Tree-F.Name x) (tree.rolls-Name _)
+        at_tree m ks (λ _ s r. ExprIs s r scope n (expr.Bound b) n) (Tree-F.Name x) (tree.rolls-Name _)
         (alone_is _ scope n x sense.Bound (expr.Bound b) (bound_is m ks scope x b h) (ap (λ o. named o (m x)) h) refl (bound_passes m ks x)
         (λ f. expr_layer f (Expr-F.Bound b) (expr.rolls-Bound _)))
     expr_is {scope} {n} (t.event {c = c} {x = x} h) =
-        tree_layer (λ s r. ExprIs s r scope n (expr.Event c []) n) (Tree-F.Name x) (tree.rolls-Name _)
+        at_tree m ks (λ _ s r. ExprIs s r scope n (expr.Event c []) n) (Tree-F.Name x) (tree.rolls-Name _)
         (alone_is _ scope n x (sense.Declared (entity.Channel c 0)) (expr.Event c []) (means_is m ks scope x (entity.Channel c 0) h)
         (ap (λ o. named o (m x)) h.0 ∙ ap (named None) h.1) refl (event_passes m ks x c) (λ f. expr_layer f (Expr-F.Event c []) (expr.rolls-Event _ _)))
     expr_is {scope} {n} (t.constant {k = k} {x = x} h) =
-        tree_layer (λ s r. ExprIs s r scope n (expr.Const k) n) (Tree-F.Name x) (tree.rolls-Name _)
+        at_tree m ks (λ _ s r. ExprIs s r scope n (expr.Const k) n) (Tree-F.Name x) (tree.rolls-Name _)
         (alone_is _ scope n x (sense.Declared (entity.Constant k)) (expr.Const k) (means_is m ks scope x (entity.Constant k) h)
         (ap (λ o. named o (m x)) h.0 ∙ ap (named None) h.1) refl (constant_passes m ks x k) (λ f. expr_layer f (Expr-F.Const k) (expr.rolls-Const _)))
     expr_is {scope} {n} (t.datum {d = d} {x = x} h is) =
-        tree_layer (λ s r. ExprIs s r scope n (expr.Call d []) n) (Tree-F.Name x) (tree.rolls-Name _)
+        at_tree m ks (λ _ s r. ExprIs s r scope n (expr.Call d []) n) (Tree-F.Name x) (tree.rolls-Name _)
         (alone_is _ scope n x (sense.Declared (entity.Definition d 0)) (expr.Call d []) (means_is m ks scope x (entity.Definition d 0) h)
         (ap (λ o. named o (m x)) h.0 ∙ ap (named None) h.1) refl (λ b l. definition_passes m ks x d _ (data_at b l) is refl refl)
         (λ f. expr_layer f (Expr-F.Call d []) (expr.rolls-Call _ _) ∙ or_none (f d)))
     expr_is {scope} {n} (t.named_set {d = d} {x = x} h) =
-        tree_layer (λ s r. ExprIs s r scope n (expr.SetName d) n) (Tree-F.Name x) (tree.rolls-Name _)
+        at_tree m ks (λ _ s r. ExprIs s r scope n (expr.SetName d) n) (Tree-F.Name x) (tree.rolls-Name _)
         (alone_is _ scope n x (sense.Declared (entity.Set d)) (expr.SetName d) (means_is m ks scope x (entity.Set d) h)
         (ap (λ o. named o (m x)) h.0 ∙ ap (named None) h.1) refl (set_passes m ks x d) (λ f. expr_layer f (Expr-F.SetName d) (expr.rolls-SetName _)))
     expr_is {scope} {n} {k} (t.call {d = d} {f = x} {args = args} {es = es} h is g) =
         let w = exprs_are g in
-        tree_layer (λ s r. ExprIs s r scope n (expr.Call d es) k) (Tree-F.Call x args) (tree.rolls-Call _ _) (record {
+        at_tree m ks (λ _ s r. ExprIs s r scope n (expr.Call d es) k) (Tree-F.Call x args) (tree.rolls-Call _ _) (record {
           value = λ i. expr.Call (ap definition_number h.1 i) (w.value i);
           next = w.next;
           passes = λ b l. (
@@ -231,7 +186,7 @@ module _ (m : Meanings) (ks : List Kind) where
         })
     expr_is {scope} {n} {k} (t.dotted {c = c} {x = x} {fields = fields} {es = es} h g) =
         let w = exprs_are g in
-        tree_layer (λ s r. ExprIs s r scope n (expr.Event c es) k) (Tree-F.«Tree::Dot» x fields) (tree.rolls-Dot _ _)
+        at_tree m ks (λ _ s r. ExprIs s r scope n (expr.Event c es) k) (Tree-F.«Tree::Dot» x fields) (tree.rolls-Dot _ _)
         (form_is _ _ scope n (expr.Event c es) k (λ f. greatest (map (expanded_depth f) es))
         (λ i. expr.Event (ap channel_number h.1 i) (w.value i)) w.next
         (λ b l. (
@@ -243,29 +198,29 @@ module _ (m : Meanings) (ks : List Kind) where
         (λ f. expr_layer f (Expr-F.Event c es) (expr.rolls-Event _ _)))
     expr_is {scope} {n} {k} (t.negative {a = a} {e = e} h) =
         let w = expr_is h in
-        tree_layer (λ s r. ExprIs s r scope n (expr.Neg e) k) (Tree-F.Neg a) (tree.rolls-Neg _)
+        at_tree m ks (λ _ s r. ExprIs s r scope n (expr.Neg e) k) (Tree-F.Neg a) (tree.rolls-Neg _)
         (form_is _ _ scope n (expr.Neg e) k (λ f. expanded_depth f e) (ap expr.Neg w.value) w.next (λ b l. w.passes false (l + 1))
         (λ f b l. one_below _ _ _ (w.deep f false (l + 1))) (λ f. expr_layer f (Expr-F.Neg e) (expr.rolls-Neg _)))
     expr_is {scope} {n} {k} (t.negation {a = a} {e = e} h) =
         let w = expr_is h in
-        tree_layer (λ s r. ExprIs s r scope n (expr.Not e) k) (Tree-F.Not a) (tree.rolls-Not _)
+        at_tree m ks (λ _ s r. ExprIs s r scope n (expr.Not e) k) (Tree-F.Not a) (tree.rolls-Not _)
         (form_is _ _ scope n (expr.Not e) k (λ f. expanded_depth f e) (ap expr.Not w.value) w.next (λ b l. w.passes false (l + 1))
         (λ f b l. one_below _ _ _ (w.deep f false (l + 1))) (λ f. expr_layer f (Expr-F.Not e) (expr.rolls-Not _)))
     expr_is {scope} {n} {k} (t.binary {i = i} {op = op} {a = a} {b = b} {e = e} {f = g} h h') =
         let w = expr_is h in let v = expr_is h' in
-        tree_layer (λ s r. ExprIs s r scope n (expr.Binary op e g) k) (Tree-F.Binary op a b) (tree.rolls-Binary _ _ _)
+        at_tree m ks (λ _ s r. ExprIs s r scope n (expr.Binary op e g) k) (Tree-F.Binary op a b) (tree.rolls-Binary _ _ _)
         (form_is _ _ scope n (expr.Binary op e g) k (λ f. max (expanded_depth f e) (expanded_depth f g))
         (λ j. expr.Binary op (w.value j) ((ap ((reading m ks b).expr scope) w.next ∙ v.value) j)) (add_next _ _ _ _ _ w.next v.next)
-        (λ c l. join m ks _ _ (w.passes false (l + 1)) (v.passes false (l + 1)))
+        (λ c l. join (Passes m ks) _ _ (w.passes false (l + 1)) (v.passes false (l + 1)))
         (λ f c l. two_below f _ _ _ _ _ (one_below _ _ _ (w.deep f false (l + 1))) (one_below _ _ _ (v.deep f false (l + 1))))
         (λ f. expr_layer f (Expr-F.Binary op e g) (expr.rolls-Binary _ _ _)))
     expr_is {scope} {n} {k} (t.expr_if {c = c} {a = a} {b = b} {g = g} {e = e} {f = e'} h h' h'') =
         let u = expr_is h in let w = expr_is h' in let v = expr_is h'' in
-        tree_layer (λ s r. ExprIs s r scope n (expr.If g e e') k) (Tree-F.If c a b) (tree.rolls-If _ _ _) (record {
+        at_tree m ks (λ _ s r. ExprIs s r scope n (expr.If g e e') k) (Tree-F.If c a b) (tree.rolls-If _ _ _) (record {
           value = λ j. expr.If (u.value j) ((ap ((reading m ks a).expr scope) u.next ∙ w.value) j)
               ((ap (λ z. (reading m ks b).expr scope (z + (reading m ks a).binds)) u.next ∙ ap ((reading m ks b).expr scope) w.next ∙ v.value) j);
           next = add_three _ _ _ _ _ _ _ u.next w.next v.next;
-          passes = λ z l. join_three m ks _ _ _ (u.passes false (l + 1)) (w.passes z (l + 1)) (v.passes z (l + 1));
+          passes = λ z l. join_three (Passes m ks) _ _ _ (u.passes false (l + 1)) (w.passes z (l + 1)) (v.passes z (l + 1));
           deep = λ f z l. above l _ (max (expanded_depth f g) (max (expanded_depth f e) (expanded_depth f e')))
               (two_below f _ _ _ _ _ (one_below _ _ _ (u.deep f false (l + 1)))
               (two_below f _ _ _ _ _ (one_below _ _ _ (w.deep f z (l + 1))) (one_below _ _ _ (v.deep f z (l + 1))))) (some_of _ _ (u.some f))
@@ -275,50 +230,50 @@ module _ (m : Meanings) (ks : List Kind) where
         })
     expr_is {scope} {n} {k} (t.display {items = items} {es = es} g) =
         let w = exprs_are g in
-        tree_layer (λ s r. ExprIs s r scope n (expr.Display es) k) (Tree-F.Display items) (tree.rolls-Display _)
+        at_tree m ks (λ _ s r. ExprIs s r scope n (expr.Display es) k) (Tree-F.Display items) (tree.rolls-Display _)
         (form_is _ _ scope n (expr.Display es) k (λ f. greatest (map (expanded_depth f) es)) (ap expr.Display w.value) w.next (λ b l. w.passes false (l + 1))
         (λ f b l. w.deep f false (l + 1)) (λ f. expr_layer f (Expr-F.Display es) (expr.rolls-Display _)))
     expr_is {scope} {n} {k} (t.range {a = a} {b = b} {e = e} {f = g} h h') =
         let w = expr_is h in let v = expr_is h' in
-        tree_layer (λ s r. ExprIs s r scope n (expr.Range e g) k) (Tree-F.Range a b) (tree.rolls-Range _ _)
+        at_tree m ks (λ _ s r. ExprIs s r scope n (expr.Range e g) k) (Tree-F.Range a b) (tree.rolls-Range _ _)
         (form_is _ _ scope n (expr.Range e g) k (λ f. max (expanded_depth f e) (expanded_depth f g))
         (λ j. expr.Range (w.value j) ((ap ((reading m ks b).expr scope) w.next ∙ v.value) j)) (add_next _ _ _ _ _ w.next v.next)
-        (λ c l. join m ks _ _ (w.passes false (l + 1)) (v.passes false (l + 1)))
+        (λ c l. join (Passes m ks) _ _ (w.passes false (l + 1)) (v.passes false (l + 1)))
         (λ f c l. two_below f _ _ _ _ _ (one_below _ _ _ (w.deep f false (l + 1))) (one_below _ _ _ (v.deep f false (l + 1))))
         (λ f. expr_layer f (Expr-F.Range e g) (expr.rolls-Range _ _)))
     expr_is {scope} {n} {k} (t.comprehension {inner = inner} {i = i} {items = items} {gens = gens} {es = es} {gs = gs} h h') =
         let w = exprs_are h in let v = gens_are h' in
-        tree_layer (λ s r. ExprIs s r scope n (expr.Comp es gs) k) (Tree-F.Comp items gens) (tree.rolls-Comp _ _)
+        at_tree m ks (λ _ s r. ExprIs s r scope n (expr.Comp es gs) k) (Tree-F.Comp items gens) (tree.rolls-Comp _ _)
         (form_is _ _ scope n (expr.Comp es gs) k (λ f. max (greatest (map (expanded_depth f) es)) (greatest (map (gen_expanded_depth f) gs)))
         (λ j. expr.Comp
-        ((ap (λ z. exprs (map (reading m ks) items) z n) (ap (under (map (gen_reading m ks) gens) scope) w.next ∙ v.after) ∙ w.value) j)
-        ((ap (bindings (map (gen_reading m ks) gens) scope) w.next ∙ v.value) j)) (add_next _ _ _ _ _ w.next v.next)
-        (λ b l. join m ks _ _ (subst (λ z. AllPass m ks (all_say (map (tree_says m) items) (data_at false (l + 1)) z)) (sym v.names) (w.passes false (l + 1)))
+        ((ap (λ z. exprs (map (reading m ks) items) z n) (ap (under (map (of_gen (reads m ks)) gens) scope) w.next ∙ v.after) ∙ w.value) j)
+        ((ap (bindings (map (of_gen (reads m ks)) gens) scope) w.next ∙ v.value) j)) (add_next _ _ _ _ _ w.next v.next)
+        (λ b l. join (Passes m ks) _ _ (subst (λ z. AllPass m ks (all_say (map (tree_says m) items) (data_at false (l + 1)) z)) (names_after gens scope i v.after) (w.passes false (l + 1)))
         (v.passes (data_at b l)))
         (λ f b l. two_below f _ _ _ _ _
         (subst (λ z. max (l + 1) (deepest f (all_say (map (tree_says m) items) (data_at false (l + 1 + 1)) z)) ≡ (l + 1) + greatest (map (expanded_depth f) es))
-        (sym v.names) (w.deep f false (l + 1))) (v.deep f (data_at b (l + 1))))
+        (names_after gens scope i v.after) (w.deep f false (l + 1))) (v.deep f (data_at b (l + 1))))
         (λ f. expr_layer f (Expr-F.Comp es gs) (expr.rolls-Comp _ _)))
     expr_is {scope} {n} {k} (t.product {inner = inner} {i = i} {parts = ps} {gens = gens} {fronts = fs} {gs = gs} h h') =
         let w = fronts_are h in let v = gens_are h' in
-        tree_layer (λ s r. ExprIs s r scope n (expr.Product fs gs) k) (Tree-F.Product ps gens) (tree.rolls-Product _ _)
+        at_tree m ks (λ _ s r. ExprIs s r scope n (expr.Product fs gs) k) (Tree-F.Product ps gens) (tree.rolls-Product _ _)
         (form_is _ _ scope n (expr.Product fs gs) k (λ f. max (greatest (map (part_expanded_depth f) fs)) (greatest (map (gen_expanded_depth f) gs)))
         (λ j. expr.Product
-        ((ap (λ z. parts m ks (map (part_reading m ks) ps) z n) (ap (under (map (gen_reading m ks) gens) scope) w.next ∙ v.after) ∙ w.value) j)
-        ((ap (bindings (map (gen_reading m ks) gens) scope) w.next ∙ v.value) j)) (add_next _ _ _ _ _ w.next v.next)
-        (λ b l. join m ks _ _
-        (subst (λ z. AllPass m ks (all_say (map (part_says m) (map (part_tree_says m ks) ps)) (data_at b l) z)) (sym v.names) (w.passes (data_at b l)))
+        ((ap (λ z. parts m ks (map (of_part (reads m ks)) ps) z n) (ap (under (map (of_gen (reads m ks)) gens) scope) w.next ∙ v.after) ∙ w.value) j)
+        ((ap (bindings (map (of_gen (reads m ks)) gens) scope) w.next ∙ v.value) j)) (add_next _ _ _ _ _ w.next v.next)
+        (λ b l. join (Passes m ks) _ _
+        (subst (λ z. AllPass m ks (all_say (map (part_says m) (map (of_part (saying m ks)) ps)) (data_at b l) z)) (names_after gens scope i v.after) (w.passes (data_at b l)))
         (v.passes (data_at b l)))
         (λ f b l. two_below f _ _ _ _ _
-        (subst (λ z. max (l + 1) (deepest f (all_say (map (part_says m) (map (part_tree_says m ks) ps)) (data_at b (l + 1)) z))
-        ≡ (l + 1) + greatest (map (part_expanded_depth f) fs)) (sym v.names) (w.deep f (data_at b (l + 1)))) (v.deep f (data_at b (l + 1))))
+        (subst (λ z. max (l + 1) (deepest f (all_say (map (part_says m) (map (of_part (saying m ks)) ps)) (data_at b (l + 1)) z))
+        ≡ (l + 1) + greatest (map (part_expanded_depth f) fs)) (names_after gens scope i v.after) (w.deep f (data_at b (l + 1)))) (v.deep f (data_at b (l + 1))))
         (λ f. expr_layer f (Expr-F.Product fs gs) (expr.rolls-Product _ _)))
     expr_is {scope} {n} {k} (t.set_operator {op = op} {a = a} {b = b} {e = e} {f = g} h h') =
         let w = expr_is h in let v = expr_is h' in
-        tree_layer (λ s r. ExprIs s r scope n (expr.SetOp op e g) k) (Tree-F.SetOp op a b) (tree.rolls-SetOp _ _ _)
+        at_tree m ks (λ _ s r. ExprIs s r scope n (expr.SetOp op e g) k) (Tree-F.SetOp op a b) (tree.rolls-SetOp _ _ _)
         (form_is _ _ scope n (expr.SetOp op e g) k (λ f. max (expanded_depth f e) (expanded_depth f g))
         (λ j. expr.SetOp op (w.value j) ((ap ((reading m ks b).expr scope) w.next ∙ v.value) j)) (add_next _ _ _ _ _ w.next v.next)
-        (λ c l. join m ks _ _ (w.passes false (l + 1)) (v.passes false (l + 1)))
+        (λ c l. join (Passes m ks) _ _ (w.passes false (l + 1)) (v.passes false (l + 1)))
         (λ f c l. two_below f _ _ _ _ _ (one_below _ _ _ (w.deep f false (l + 1))) (one_below _ _ _ (v.deep f false (l + 1))))
         (λ f. expr_layer f (Expr-F.SetOp op e g) (expr.rolls-SetOp _ _ _)))
 
@@ -330,53 +285,51 @@ module _ (m : Meanings) (ks : List Kind) where
         record {
           value = λ j. w.value j ∷ (ap (exprs (map (reading m ks) ts) scope) w.next ∙ v.value) j;
           next = add_next _ _ _ _ _ w.next v.next;
-          passes = λ b l. join m ks _ _ (w.passes b l) (v.passes b l);
+          passes = λ b l. join (Passes m ks) _ _ (w.passes b l) (v.passes b l);
           deep = λ f b l. two_below f _ _ _ _ _ (one_below _ _ _ (w.deep f b l)) (v.deep f b l);
         }
 
     pub gens_are : {scope inner : Scope} {n k : ℕ} {ts : List GenTree} {gs : List Gen} → AreGens m ks scope n ts gs inner k
-        → GensAre (map (gen_says m ks) ts) (map (gen_reading m ks) ts) scope n gs inner k
+        → GensAre (map (of_gen (saying m ks)) ts) (map (of_gen (reads m ks)) ts) scope n gs inner k
     gens_are {scope} {inner} {n} t.no_gens =
-        record { value = refl; after = refl; names = refl; next = none_next n; passes = λ place. tt; deep = λ f place. none_below place.level }
+        record { value = refl; after = refl; next = none_next n; passes = λ place. tt; deep = λ f place. none_below place.level }
     gens_are {scope} {inner} {n} {k} (t.from {i = i} {x = x} {s = a} {e = e} {gens = ts} {gs = gs} free h h') =
         let w = expr_is h in let v = gens_are h' in
-        gen_tree_layer (λ b g. GensAre (b ∷ map (gen_says m ks) ts) (g ∷ map (gen_reading m ks) ts) scope n (gen_of.From n e ∷ gs) inner k)
+        at_gen m ks (λ _ b g. GensAre (b ∷ map (of_gen (saying m ks)) ts) (g ∷ map (of_gen (reads m ks)) ts) scope n (gen_of.From n e ∷ gs) inner k)
         (GenTree-F.From x a) (generator.rolls-From _ _) (record {
-          value = λ j. ap (gen_of.From n) w.value j ∷ (ap (bindings (map (gen_reading m ks) ts) (with scope x n)) (one_next _ _ _ w.next) ∙ v.value) j;
-          after = ap (under (map (gen_reading m ks) ts) (with scope x n)) (one_next _ _ _ w.next) ∙ v.after;
-          names = ap (says.under (map (gen_says m ks) ts)) (sym (names_with scope x n)) ∙ v.names;
+          value = λ j. ap (gen_of.From n) w.value j ∷ (ap (bindings (map (of_gen (reads m ks)) ts) (with scope x n)) (one_next _ _ _ w.next) ∙ v.value) j;
+          after = ap (under (map (of_gen (reads m ks)) ts) (with scope x n)) (one_next _ _ _ w.next) ∙ v.after;
           next = add_next _ _ _ _ _ (one_next _ _ _ w.next) v.next;
           passes = λ place. (
             bind_passes m ks x free,
-            join m ks _ _ (w.passes false (place.level + 1))
-                (subst (λ z. AllPass m ks (in_turn (map (gen_says m ks) ts) place z)) (names_with scope x n) (v.passes place)),
+            join (Passes m ks) _ _ (w.passes false (place.level + 1))
+                (subst (λ z. AllPass m ks (in_turn (map (of_gen (saying m ks)) ts) place z)) (names_with scope x n) (v.passes place)),
           );
           deep = λ f place. two_below f place.level (Binds x false ∷ tree_says m a (data_at false (place.level + 1)) (names_of scope)) _ _ _
               (one_below _ _ _ (zero_or _ ∙ w.deep f false place.level ∙ ap (λ z. place.level + z) (sym (gen_layer f (Gen-F.From n e) (gen_of.rolls-From _ _)))))
-              (subst (λ z. max place.level (deepest f (in_turn (map (gen_says m ks) ts) place z)) ≡ place.level + greatest (map (gen_expanded_depth f) gs))
+              (subst (λ z. max place.level (deepest f (in_turn (map (of_gen (saying m ks)) ts) place z)) ≡ place.level + greatest (map (gen_expanded_depth f) gs))
               (names_with scope x n) (v.deep f place));
         })
     gens_are {scope} {inner} {n} {k} (t.condition {i = i} {c = c} {e = e} {gens = ts} {gs = gs} h h') =
         let w = expr_is h in let v = gens_are h' in
-        gen_tree_layer (λ b g. GensAre (b ∷ map (gen_says m ks) ts) (g ∷ map (gen_reading m ks) ts) scope n (gen_of.Cond e ∷ gs) inner k)
+        at_gen m ks (λ _ b g. GensAre (b ∷ map (of_gen (saying m ks)) ts) (g ∷ map (of_gen (reads m ks)) ts) scope n (gen_of.Cond e ∷ gs) inner k)
         (GenTree-F.Cond c) (generator.rolls-Cond _) (record {
-          value = λ j. ap gen_of.Cond w.value j ∷ (ap (bindings (map (gen_reading m ks) ts) scope) w.next ∙ v.value) j;
-          after = ap (under (map (gen_reading m ks) ts) scope) w.next ∙ v.after;
-          names = ap (says.under (map (gen_says m ks) ts)) (append-nil (names_of scope)) ∙ v.names;
+          value = λ j. ap gen_of.Cond w.value j ∷ (ap (bindings (map (of_gen (reads m ks)) ts) scope) w.next ∙ v.value) j;
+          after = ap (under (map (of_gen (reads m ks)) ts) scope) w.next ∙ v.after;
           next = add_next _ _ _ _ _ w.next v.next;
-          passes = λ place. join m ks _ _ (w.passes false (place.level + 1))
-              (subst (λ z. AllPass m ks (in_turn (map (gen_says m ks) ts) place z)) (sym (append-nil (names_of scope))) (v.passes place));
+          passes = λ place. join (Passes m ks) _ _ (w.passes false (place.level + 1))
+              (subst (λ z. AllPass m ks (in_turn (map (of_gen (saying m ks)) ts) place z)) (sym (append-nil (names_of scope))) (v.passes place));
           deep = λ f place. two_below f place.level (tree_says m c (data_at false (place.level + 1)) (names_of scope)) _ _ _
               (one_below _ _ _ (w.deep f false place.level ∙ ap (λ z. place.level + z) (sym (gen_layer f (Gen-F.Cond e) (gen_of.rolls-Cond _)))))
-              (subst (λ z. max place.level (deepest f (in_turn (map (gen_says m ks) ts) place z)) ≡ place.level + greatest (map (gen_expanded_depth f) gs))
+              (subst (λ z. max place.level (deepest f (in_turn (map (of_gen (saying m ks)) ts) place z)) ≡ place.level + greatest (map (gen_expanded_depth f) gs))
               (sym (append-nil (names_of scope))) (v.deep f place));
         })
 
     pub front_is : {scope : Scope} {n left k : ℕ} {a : PartTree} {e : EventPart} → IsFront m ks scope n a e left k
-        → FrontIs (part_tree_says m ks a) (part_reading m ks a) scope n e left k
+        → FrontIs (of_part (saying m ks) a) (of_part (reads m ks) a) scope n e left k
     front_is {scope} {n} {left} {k} (t.front {c = c} {fields = fields} {x = x} {items = items} {es = es} h count g) =
         let w = exprs_are g in
-        part_tree_layer (λ s r. FrontIs s r scope n (event_part c es) left k) x items (record {
+        at_part m ks (λ s r. FrontIs s r scope n (event_part c es) left k) x items (record {
           value = λ j. event_part (ap channel_number h.1 j) (w.value j);
           next = w.next;
           channel = c;
@@ -392,13 +345,13 @@ module _ (m : Meanings) (ks : List Kind) where
         })
 
     pub fronts_are : {scope : Scope} {n k : ℕ} {ts : List PartTree} {es : List EventPart} → AreFronts m ks scope n ts es k
-        → FrontsAre (map (part_tree_says m ks) ts) (map (part_reading m ks) ts) scope n es k
+        → FrontsAre (map (of_part (saying m ks)) ts) (map (of_part (reads m ks)) ts) scope n es k
     fronts_are {scope} {n} t.no_fronts = record { value = refl; next = none_next n; passes = λ place. tt; deep = λ f place. none_below place.level }
     fronts_are {scope} {n} {k} (t.more_fronts {t = a} {f = e} {ts = ts} {fs = es} h h') =
         let w = front_is h in let v = fronts_are h' in
         record {
-          value = λ j. w.value j ∷ (ap (parts m ks (map (part_reading m ks) ts) scope) w.next ∙ v.value) j;
+          value = λ j. w.value j ∷ (ap (parts m ks (map (of_part (reads m ks)) ts) scope) w.next ∙ v.value) j;
           next = add_next _ _ _ _ _ w.next v.next;
-          passes = λ place. join m ks (part_says m (part_tree_says m ks a) place (names_of scope)) _ (w.passes place) (v.passes place);
-          deep = λ f place. two_below f place.level (part_says m (part_tree_says m ks a) place (names_of scope)) _ _ _ (w.deep f place) (v.deep f place);
+          passes = λ place. join (Passes m ks) (part_says m (of_part (saying m ks) a) place (names_of scope)) _ (w.passes place) (v.passes place);
+          deep = λ f place. two_below f place.level (part_says m (of_part (saying m ks) a) place (names_of scope)) _ _ _ (w.deep f place) (v.deep f place);
         }

@@ -1,13 +1,11 @@
 -- What a faultless declaration says: no occurrence in it is at fault, and a definition of data is not too deep.
 use Rattle.std.proofs.Common.{◌≡◌, ℕ, Bool, true, false, Option, Some, None, List, [], ◌∷◌, ◌++◌, length, map, refl, option_map}
 use Rattle.std.specs.List.{list_any}
-use Rattle.csp_text.specs.declared.script.Decl.{Decl}
 use Rattle.script_names.specs.Prelude.{unknown_name, repeated_name, is_wrong_kind, wrong_count, is_inside, Name, meanings_of, bodies_from, decl_says, fault_in, fault_of, first_fault, first_name, first_there, next_definition, too_deep, when_any}
-use Rattle.script_names.specs.declared.fault.ResolveFault.{ResolveFault}
-use Rattle.script_names.specs.declared.kinds.Kind.{Kind}
-use Rattle.script_names.specs.declared.occurrence.Occurrence.{Occurrence}
 use Rattle.script_names.specs.declared.fault.ResolveFault.TheVariants as fault
 use Rattle.csp_base.proofs.Booleans.{or_first_false, or_second_false}
+use Rattle.csp_program.proofs.Forms.{Every}
+use Rattle.typed_laws.proofs.Sources.{Decl, Kind, Occurrence, ResolveFault}
 
 -- an occurrence that is not at fault
 pub record IsFine (ks : List Kind) (o : Occurrence Name) : Type 0 where
@@ -17,26 +15,7 @@ pub record IsFine (ks : List Kind) (o : Occurrence Name) : Type 0 where
   pub inside : is_inside ks o ≡ false
 
 abbrev pub AllFine : List Kind → List (Occurrence Name) → Type 0
-AllFine ks [] = Unit {0}
-AllFine ks (o ∷ os) = IsFine ks o × AllFine ks os
-
-pub fine_left : (ks : List Kind) (os ps : List (Occurrence Name)) → AllFine ks (os ++ ps) → AllFine ks os
-fine_left ks [] ps h = tt
-fine_left ks (o ∷ os) ps h = (h.0, fine_left ks os ps h.1)
-
-pub fine_right : (ks : List Kind) (os ps : List (Occurrence Name)) → AllFine ks (os ++ ps) → AllFine ks ps
-fine_right ks [] ps h = h
-fine_right ks (o ∷ os) ps h = fine_right ks os ps h.1
-
-pub fine_two : (ks : List Kind) (os ps : List (Occurrence Name)) → AllFine ks (os ++ ps) → AllFine ks os × AllFine ks ps
-fine_two ks os ps h = (fine_left ks os ps h, fine_right ks os ps h)
-
-pub fine_three : (ks : List Kind) (os ps qs : List (Occurrence Name)) → AllFine ks (os ++ (ps ++ qs)) → AllFine ks os × AllFine ks ps × AllFine ks qs
-fine_three ks os ps qs h = let w = fine_two ks ps qs (fine_right ks os (ps ++ qs) h) in (fine_left ks os (ps ++ qs) h, w.0, w.1)
-
-pub fine_four : (ks : List Kind) (os ps qs rs : List (Occurrence Name)) → AllFine ks (os ++ (ps ++ (qs ++ rs)))
-    → AllFine ks os × AllFine ks ps × AllFine ks qs × AllFine ks rs
-fine_four ks os ps qs rs h = let w = fine_three ks ps qs rs (fine_right ks os (ps ++ (qs ++ rs)) h) in (fine_left ks os (ps ++ (qs ++ rs)) h, w.0, w.1, w.2)
+AllFine ks os = Every (IsFine ks) os
 
 pub none_first : {A : Type 0} (o : Option A) (os : List (Option A)) → first_there (o ∷ os) ≡ None → o ≡ None
 none_first None os h = refl

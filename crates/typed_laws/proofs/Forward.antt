@@ -1,26 +1,18 @@
 -- Where declarations are put into a program by the rules, all that they say passes, and no definition of data is too deep.
-use Rattle.std.proofs.Common.{◌≡◌, ℕ, Bool, true, false, ◌&&◌, Some, List, [], ◌∷◌, refl, sym, ◌∙◌, ap, subst}
+use Rattle.std.proofs.Common.{◌≡◌, ℕ, false, ◌&&◌, Some, List, [], ◌∷◌, refl, sym, ◌∙◌, ap, subst}
 use Rattle.std.specs.Prelude.{slice_get}
-use Rattle.csp_atoms.specs.declared.atom.Atom.{Atom}
-use Rattle.csp_text.specs.declared.script.Decl.{Decl}
-use Rattle.csp_text.specs.declared.tree.Tree.{Tree}
 use Rattle.csp_text.specs.declared.script.Decl.TheVariants as decl
-use Rattle.csp_program.specs.declared.expressions.Expr.{Expr}
-use Rattle.csp_program.specs.declared.programs.Content.{Content}
-use Rattle.script_names.specs.declared.kinds.Class.TheVariants as class
 use Rattle.script_names.specs.declared.kinds.Entity.TheVariants as entity
-use Rattle.script_names.specs.Prelude.{IsShallow, Declares, IsAnnotated, IsEventSet, clashes, kind_class, Counts, Meanings, Name, meanings_of, names_declared, none_yet, sense_in, sense_of, tree_says, names_of, parameters, body_place, bodies_from, counts_of, declared_after, is_data, is_deep, next_definition, too_deep, types_say, AreExprs}
-use Rattle.script_names.specs.declared.kinds.Kind.{Kind}
-use Rattle.script_names.specs.declared.occurrence.Occurrence.{Occurrence}
-use Rattle.script_names.specs.declared.occurrence.Occurrence.TheVariants.{Uses}
+use Rattle.script_names.specs.Prelude.{AreParameters, IsShallow, Declares, IsAnnotated, IsEventSet, clashes, kind_class, Counts, Meanings, Name, meanings_of, names_declared, none_yet, sense_in, sense_of, tree_says, names_of, parameters, body_place, bodies_from, counts_of, declared_after, is_data, is_deep, next_definition, types_say, AreExprs}
 use Rattle.script_names.specs.declared.kinds.Need.TheVariants as need
 use Rattle.script_names.specs.declared.kinds.Sense.TheVariants as sense
 use Rattle.script_names.specs.declared.kinds.Use.TheVariants as how
 use Rattle.script_names.specs.Declaring as d
-use Rattle.script_names.specs.Typing as t
 use Rattle.script_names.proofs.Scopes.{names_of-parameters}
-use Rattle.typed_laws.proofs.DeclPasses.{EachPasses, counted_on}
-use Rattle.typed_laws.proofs.ExprsAre.{expr_is}
+use Rattle.typed_laws.proofs.Sources.{Atom, Content, Decl, Expr, Kind, Occurrence, Tree, Uses}
+use Rattle.typed_laws.proofs.Back.{types_are}
+use Rattle.typed_laws.proofs.DeclPasses.{DeclPasses, EachPasses, counted_on}
+use Rattle.typed_laws.proofs.ExprsAre.{expr_is, exprs_are}
 use Rattle.typed_laws.proofs.NetsAre.{net_is}
 use Rattle.typed_laws.proofs.OnceLaws.{parameters_pass}
 use Rattle.typed_laws.proofs.OnceSaid.{EachOnceSaid}
@@ -28,16 +20,11 @@ use Rattle.typed_laws.proofs.Passing.{AllPass, Passes, join, use_passes}
 use Rattle.typed_laws.proofs.ProcsAre.{proc_is}
 use Rattle.typed_laws.proofs.Senses.{none_of_count}
 
-and_false : (a b : Bool) → b ≡ false → (a && b) ≡ false
-and_false true b h = h
-and_false false b h = refl
-
 module _ (m : Meanings) (ks : List Kind) where
   -- ---- what declarations say beside what stands once
 
-  types_pass : {n k : ℕ} {types : List Tree} {es : List Expr} → AreExprs m ks [] n types es k → AllPass m ks (types_say m types)
-  types_pass t.no_exprs = tt
-  types_pass (t.more_exprs h g) = join m ks _ _ ((expr_is m ks h).passes false 1) (types_pass g)
+  types_pass : {k : ℕ} (types : List Tree) {es : List Expr} → AreExprs m ks [] 0 types es k → AllPass m ks (types_say m types)
+  types_pass types h = subst (AllPass m ks) (sym (types_are m types)) ((exprs_are m ks h).passes false 1)
 
   -- the process of an annotation
   process_passes : (x : Name) (e k : ℕ) → IsAnnotated m ks x e k → Passes m ks (Uses x (sense_in m [] x) how.Annotated)
@@ -74,53 +61,40 @@ module _ (script : List Decl) (ks : List Kind) where
       (subst (λ o. AllPass m ks (tree_says m a (body_place o) params)) (sym is)
       (subst (λ names. AllPass m ks (tree_says m a (body_place (Some kind)) names)) (names_of-parameters 0 params) h))
 
-  -- a definition of a process is no deep definition of data
-  process_shallow : (earlier : List Decl) (n : Counts) (x : Name) (params : List Name) (a : Tree) (network : Bool) → counts_of none_yet earlier ≡ n
-      → slice_get ks n.definitions ≡ Some (record { class = class.Process; network = network })
-      → too_deep ks bodies (next_definition earlier) (decl.Define x params a) ≡ false
-  process_shallow earlier n x params a network at is =
-      ap (λ c. is_data (kind_class (slice_get ks c.definitions)) && is_deep ks bodies c.definitions) at
-      ∙ ap (λ o. is_data (kind_class o) && is_deep ks bodies n.definitions) is
+  definition_passes : (earlier : List Decl) (n : Counts) (x : Name) (params : List Name) (a : Tree) (kind : Kind) → counts_of none_yet earlier ≡ n
+      → slice_get ks n.definitions ≡ Some kind → AllPass m ks (declared_after (names_declared earlier) (x ∷ [])) → AreParameters m ks params
+      → AllPass m ks (tree_says m a (body_place (Some kind)) (names_of (parameters 0 params))) → (is_data kind.class && is_deep ks bodies n.definitions) ≡ false
+      → DeclPasses script ks earlier (decl.Define x params a)
+  definition_passes earlier n x params a kind at is once ps body shallow = record {
+    passes = join (Passes m ks) (declared_after (names_declared earlier) (x ∷ [])) _ once
+        (join (Passes m ks) _ _ (parameters_pass m ks params ps) (body_passes earlier n params a kind at is body));
+    shallow = ap (λ c. is_data (kind_class (slice_get ks c.definitions)) && is_deep ks bodies c.definitions) at
+        ∙ ap (λ o. is_data (kind_class o) && is_deep ks bodies n.definitions) is ∙ shallow;
+  }
 
   pub passes_each : {whole : Content} {HasSets : List Expr → List (List Atom) → Type 0} {n : Counts} {decls : List Decl} {p : Content} {sets : List (List (List Atom))}
       → Declares m ks whole HasSets n decls p sets → (earlier : List Decl) → counts_of none_yet earlier ≡ n → EachOnceSaid m ks earlier decls
       → ((i : ℕ) → IsShallow whole i → is_deep ks bodies i ≡ false) → EachPasses script ks earlier decls
   passes_each d.nothing earlier at once deep = tt
-  passes_each {n = n} (d.channels typed fits rest) earlier at once deep =
-      (record { passes = join m ks _ _ once.0 (types_pass m ks typed); shallow = refl }, passes_each rest _ (counted_on earlier _ n at) once.1 deep)
+  passes_each {n = n} (d.channels {types = types} typed fits rest) earlier at once deep =
+      (record { passes = join (Passes m ks) _ _ once.0 (types_pass m ks types typed); shallow = refl }, passes_each rest _ (counted_on earlier _ n at) once.1 deep)
   passes_each {n = n} (d.datatype rest) earlier at once deep =
       (record { passes = once.0; shallow = refl }, passes_each rest _ (counted_on earlier _ n at) once.1 deep)
   passes_each {n = n} (d.nametype {x = x} h shallow rest) earlier at once deep = (
     record {
-      passes = join m ks (declared_after (names_declared earlier) (x ∷ [])) _ once.0 ((expr_is m ks h).passes false 1);
+      passes = join (Passes m ks) (declared_after (names_declared earlier) (x ∷ [])) _ once.0 ((expr_is m ks h).passes false 1);
       shallow = ap (λ c. is_deep ks bodies c.definitions) at ∙ deep n.definitions shallow;
     },
     passes_each rest _ (counted_on earlier _ n at) once.1 deep,
   )
   passes_each {n = n} (d.data_definition {x = x} {params = params} {t = a} ps is h shallow rest) earlier at once deep = (
-    record {
-      passes = join m ks (declared_after (names_declared earlier) (x ∷ [])) _ once.0
-          (join m ks _ _ (parameters_pass m ks params ps) (body_passes earlier n params a _ at is ((expr_is m ks h).passes false 1)));
-      shallow = and_false _ _ (ap (λ c. is_deep ks bodies c.definitions) at ∙ deep n.definitions shallow);
-    },
+    definition_passes earlier n x params a _ at is once.0 ps ((expr_is m ks h).passes false 1) (deep n.definitions shallow),
     passes_each rest _ (counted_on earlier _ n at) once.1 deep,
   )
-  passes_each {n = n} (d.process_definition {x = x} {params = params} {t = a} ps is h rest) earlier at once deep = (
-    record {
-      passes = join m ks (declared_after (names_declared earlier) (x ∷ [])) _ once.0
-          (join m ks _ _ (parameters_pass m ks params ps) (body_passes earlier n params a _ at is ((proc_is m ks h).passes false 1)));
-      shallow = process_shallow earlier n x params a false at is;
-    },
-    passes_each rest _ (counted_on earlier _ n at) once.1 deep,
-  )
-  passes_each {n = n} (d.network_definition {x = x} {params = params} {t = a} ps is h rest) earlier at once deep = (
-    record {
-      passes = join m ks (declared_after (names_declared earlier) (x ∷ [])) _ once.0
-          (join m ks _ _ (parameters_pass m ks params ps) (body_passes earlier n params a _ at is ((net_is m ks h).passes 1)));
-      shallow = process_shallow earlier n x params a true at is;
-    },
-    passes_each rest _ (counted_on earlier _ n at) once.1 deep,
-  )
+  passes_each {n = n} (d.process_definition {x = x} {params = params} {t = a} ps is h rest) earlier at once deep =
+      (definition_passes earlier n x params a _ at is once.0 ps ((proc_is m ks h).passes false 1) refl, passes_each rest _ (counted_on earlier _ n at) once.1 deep)
+  passes_each {n = n} (d.network_definition {x = x} {params = params} {t = a} ps is h rest) earlier at once deep =
+      (definition_passes earlier n x params a _ at is once.0 ps ((net_is m ks h).passes 1) refl, passes_each rest _ (counted_on earlier _ n at) once.1 deep)
   passes_each {n = n} (d.assertion h rest) earlier at once deep =
       (record { passes = (net_is m ks h).passes 1; shallow = refl }, passes_each rest _ (counted_on earlier _ n at) once.1 deep)
   passes_each {n = n} (d.roles process creq cack sreq sack rest) earlier at once deep = (

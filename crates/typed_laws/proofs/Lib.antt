@@ -1,11 +1,11 @@
-pub mod Formed
-pub mod Making
+mod Sources
+pub mod Trees
 pub mod Faultless
 pub mod ScopeNames
+pub mod Ends
 pub mod Classes
 pub mod Passing
 pub mod Senses
-pub mod DefUses
 pub mod Uses
 pub mod Deep
 pub mod ExprsAre

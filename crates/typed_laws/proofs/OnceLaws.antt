@@ -5,13 +5,11 @@ use Rattle.csp_base.specs.Standard.{Decides, flat_map}
 use Rattle.csp_base.proofs.Standard.{Decides-eqb, map-append, list_any-append, slice_eq-Decides}
 use Rattle.csp_base.proofs.Booleans.{or_first_false, or_second_false}
 use Rattle.csp_base.specs.Lists.{EachOnce}
-use Rattle.csp_text.specs.declared.script.Decl.{Decl}
 use Rattle.csp_text.specs.declared.script.Decl.TheVariants as decl
 use Rattle.script_names.specs.Prelude.{AreParameters, is_constant, when, Counts, Meanings, Name, channels_from, constants_from, counted, declared_from, is_among, names_declared, none_yet, same_name, AreOnce, with_roles, with_uses, declared_after, parameters_after, MayBind}
-use Rattle.script_names.specs.declared.kinds.Entity.{Entity}
-use Rattle.script_names.specs.declared.kinds.Kind.{Kind}
-use Rattle.typed_laws.proofs.DefUses.{when_none}
+use Rattle.typed_laws.proofs.Sources.{Decl, Entity, Kind}
 use Rattle.typed_laws.proofs.Passing.{AllPass}
+use Rattle.typed_laws.proofs.Uses.{when_none}
 use Rattle.typed_laws.proofs.Senses.{no_constant}
 
 same_decides : (x y : Name) → Decides (same_name x y) (x ≡ y)
@@ -133,9 +131,7 @@ names_from n (decl.Datatype x cs ∷ decls) =
     (constant_names n.constants cs) (names_from (counted n (decl.Datatype x cs)) decls))
 names_from n (decl.Nametype x t ∷ decls) = ap (λ z. x ∷ z) (names_from (counted n (decl.Nametype x t)) decls)
 names_from n (decl.Define x params t ∷ decls) = ap (λ z. x ∷ z) (names_from (counted n (decl.Define x params t)) decls)
-names_from n (decl.Assert t ∷ decls) = names_from n decls
-names_from n (decl.Roles names ∷ decls) = names_from n decls
-names_from n (decl.Resource names ∷ decls) = names_from n decls
+names_from n (_ ∷ decls) = names_from n decls
 
 pub names_are : (decls : List Decl) → names_declared decls ≡ flat_map names_of_decl decls
 names_are decls = names_from none_yet decls

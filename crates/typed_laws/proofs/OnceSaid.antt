@@ -1,12 +1,9 @@
 -- What a declaration says of names that may stand once: those that it declares, and the process that it annotates.
 use Rattle.std.proofs.Common.{List, [], ◌∷◌, ◌++◌}
 use Rattle.std.specs.List.{flat_map}
-use Rattle.csp_text.specs.declared.script.Decl.{Decl}
 use Rattle.csp_text.specs.declared.script.Decl.TheVariants as decl
 use Rattle.script_names.specs.Prelude.{Meanings, Name, is_among, names_declared, with_roles, with_uses, declared_after}
-use Rattle.script_names.specs.declared.kinds.Kind.{Kind}
-use Rattle.script_names.specs.declared.occurrence.Occurrence.{Occurrence}
-use Rattle.script_names.specs.declared.occurrence.Occurrence.TheVariants.{Notes}
+use Rattle.typed_laws.proofs.Sources.{Decl, Kind, Notes, Occurrence}
 use Rattle.typed_laws.proofs.Passing.{AllPass}
 
 -- a declaration that stands after these others

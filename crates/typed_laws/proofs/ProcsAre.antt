@@ -1,38 +1,24 @@
 -- Where a tree is a process by the rules of typing, it is read as that process and passes.
 use Rattle.std.proofs.Common.{◌≡◌, ℕ, zero, suc, ◌+◌, ◌-◌, Bool, true, false, not, ◌||◌, nat_eq, nat_lt, Some, None, List, [], ◌∷◌, length, map, refl, sym, ◌∙◌, ap, subst, append-nil, arith}
 use Rattle.csp_base.proofs.Standard.{eq-eqb, length-map}
-use Rattle.csp_text.specs.declared.tree.EventTree.{EventTree}
-use Rattle.csp_text.specs.declared.tree.FieldTree.{FieldTree}
-use Rattle.csp_text.specs.declared.tree.FieldTree.TheFolds.{fold-roll-EventTree, fold-roll-FieldTree}
-use Rattle.csp_text.specs.declared.tree.FieldTree.TheOpen.{FieldTree-F, Tree-F}
-use Rattle.csp_text.specs.declared.tree.FieldTree.TheViews.{roll-FieldTree}
-use Rattle.csp_text.specs.declared.tree.GenTree.{GenTree}
-use Rattle.csp_text.specs.declared.tree.PartTree.{PartTree}
-use Rattle.csp_text.specs.declared.tree.Tree.{Tree}
 use Rattle.csp_text.specs.declared.tree.FieldTree.TheVariants as text
 use Rattle.csp_text.specs.declared.tree.Tree.TheVariants as tree
-use Rattle.csp_program.specs.declared.expressions.EventPart.{EventPart}
-use Rattle.csp_program.specs.declared.expressions.Gen.{Gen}
-use Rattle.csp_program.specs.declared.processes.Field.{Field}
-use Rattle.csp_program.specs.declared.processes.Proc.{Proc}
 use Rattle.csp_program.specs.declared.processes.Field.TheVariants as field
 use Rattle.csp_program.specs.declared.processes.Head.TheVariants as head
 use Rattle.csp_program.specs.declared.processes.Proc.TheVariants as proc
 use Rattle.script_names.specs.declared.kinds.Class.TheVariants as class
 use Rattle.script_names.specs.declared.kinds.Entity.TheVariants as entity
-use Rattle.script_names.specs.Prelude.{is_network, kind_network, when, Meanings, Name, Binder, Fields, Said, all_say, event_says_of_layer, field_says_of_layer, gen_says_of_layer, in_turn, pair_says, part_says, part_says_of_layer, tree_says, tree_says_of_layer, Scope, names_of, with, Binding, Front, Reading, all_bind, bindings, bindings_bind, definition_number, channel_number, event_of_layer, field_of_layer, gen_of_layer, head_of, pairs, pairs_bind, part, part_of_layer, procs, reading, reading_of_layer, under, AreFields, ArePairs, AreProcs, IsProc, event_tree}
-use Rattle.script_names.specs.declared.kinds.Kind.{Kind}
-use Rattle.script_names.specs.declared.kinds.Place.{Place}
-use Rattle.script_names.specs.declared.kinds.Sense.{Sense}
-use Rattle.script_names.specs.declared.occurrence.Occurrence.TheVariants.{Form, Uses}
+use Rattle.script_names.specs.Typed.{put}
+use Rattle.script_names.specs.Prelude.{data_in, is_network, kind_network, when, Meanings, Name, Binder, Fields, Said, all_say, in_turn, pair_says, part_says, tree_says, tree_says_of_layer, Scope, names_of, with, Binding, Front, Reading, all_bind, bindings, bindings_bind, definition_number, channel_number, head_of, pairs, pairs_bind, part, procs, reading, reading_of_layer, under, AreFields, ArePairs, AreProcs, IsProc, event_tree}
 use Rattle.script_names.specs.declared.kinds.Sense.TheVariants as sense
 use Rattle.script_names.specs.declared.kinds.Use.TheVariants as how
 use Rattle.script_names.specs.Says as says
 use Rattle.script_names.specs.Typing as t
-use Rattle.typed_laws.proofs.ExprsAre.{add_next, add_three, expr_is, exprs_are, front_is, gens_are, none_next, one_next, tree_layer}
-use Rattle.typed_laws.proofs.Making.{event_reading, event_says, field_reading, field_reading_layer, field_says, field_says_layer, gen_reading, part_reading, part_tree_says}
+use Rattle.typed_laws.proofs.Sources.{EventPart, Expr, Field, FieldTree, FieldTree-F, Form, Kind, PartTree, Place, Proc, Sense, Tree, Tree-F, Uses}
+use Rattle.typed_laws.proofs.Trees.{at_event, at_field, at_tree, of_field, of_gen, of_part, reads, saying}
+use Rattle.typed_laws.proofs.ExprsAre.{ExprIs, add_next, add_three, expr_is, exprs_are, front_is, gens_are, names_after, none_next, one_next}
 use Rattle.typed_laws.proofs.Passing.{AllPass, Passes, form_passes, join, join_three, process_at, use_passes}
-use Rattle.typed_laws.proofs.ScopeNames.{names_with}
+use Rattle.typed_laws.proofs.ScopeNames.{add_names, field_names, names_with}
 use Rattle.typed_laws.proofs.Senses.{bind_passes, bound_is, call_passes, definition_passes, means_is, none_of_count}
 
 add_one_two : (n a b i k : ℕ) → (n + 1) + a ≡ i → i + b ≡ k → n + (1 + a + b) ≡ k
@@ -63,7 +49,6 @@ module _ (m : Meanings) (ks : List Kind) where
   pub record FieldsAre (bs : List Binder) (gs : List (Binding Field)) (scope : Scope) (n : ℕ) (fs : List Field) (inner : Scope) (k : ℕ) : Type 0 where
     pub value : bindings gs scope n ≡ fs
     pub after : under gs scope n ≡ inner
-    pub names : says.under bs (names_of scope) ≡ names_of inner
     pub next : n + bindings_bind gs ≡ k
     pub passes : (place : Place) → AllPass m ks (in_turn bs place (names_of scope))
 
@@ -72,26 +57,6 @@ module _ (m : Meanings) (ks : List Kind) where
     pub value : pairs m ks rs scope n ≡ fs
     pub next : n + pairs_bind rs ≡ k
     pub passes : (place : Place) → AllPass m ks (all_say (map (pair_says m) ss) place (names_of scope))
-
-  field_tree_layer : (P : Binder → Binding Field → Type 0) (d : FieldTree-F FieldTree GenTree Tree EventTree PartTree) {a : FieldTree} → roll-FieldTree d ≡ a
-      → P (field_says_layer m ks d) (field_reading_layer m ks d) → P (field_says m ks a) (field_reading m ks a)
-  field_tree_layer P d is h =
-      subst (λ z. P (field_says m ks z) (field_reading m ks z)) is
-      (subst (λ z. P z (field_reading m ks (roll-FieldTree d)))
-      (sym (fold-roll-FieldTree Binder Binder Said (Fields Binder) (Fields Said) (field_says_of_layer m) (gen_says_of_layer m) (tree_says_of_layer m) (event_says_of_layer m) (part_says_of_layer m) d))
-      (subst (P (field_says_layer m ks d))
-      (sym (fold-roll-FieldTree (Binding Field) (Binding Gen) Reading (Front (Binding Field)) (Front Reading) (field_of_layer m ks) (gen_of_layer m ks) (reading_of_layer m ks) (event_of_layer m ks) (part_of_layer m ks) d))
-      h))
-
-  event_tree_layer : (P : Fields Binder → Front (Binding Field) → Type 0) (x : Name) (ts : List FieldTree)
-      → P (record { name = x; fields = map (field_says m ks) ts }) (record { name = x; fields = map (field_reading m ks) ts })
-      → P (event_says m ks (event_tree x ts)) (event_reading m ks (event_tree x ts))
-  event_tree_layer P x ts h =
-      subst (λ z. P z (event_reading m ks (event_tree x ts)))
-      (sym (fold-roll-EventTree Binder Binder Said (Fields Binder) (Fields Said) (field_says_of_layer m) (gen_says_of_layer m) (tree_says_of_layer m) (event_says_of_layer m) (part_says_of_layer m) (record { name = x; fields = ts })))
-      (subst (λ z. P (record { name = x; fields = map (field_says m ks) ts }) z)
-      (sym (fold-roll-EventTree (Binding Field) (Binding Gen) Reading (Front (Binding Field)) (Front Reading) (field_of_layer m ks) (gen_of_layer m ks) (reading_of_layer m ks) (event_of_layer m ks) (part_of_layer m ks) (record { name = x; fields = ts })))
-      h)
 
   renamed_passes : (x : Name) (s z : Sense) (c n c' n' k k' left : ℕ) → s ≡ sense.Declared (entity.Channel c n)
       → z ≡ sense.Declared (entity.Channel c' n') → k + left ≡ n → k' + left ≡ n' → Passes m ks (Uses x s (how.Renamed k z k'))
@@ -126,73 +91,73 @@ module _ (m : Meanings) (ks : List Kind) where
     passes = λ b l. (form_passes m ks class.Process (process_at b l) refl, passes b l);
   }
 
+  -- what fields add to a scope is what they say that they bind
+  names_after_fields : (ts : List FieldTree) (scope : Scope) (n : ℕ) {inner : Scope} → under (map (of_field (reads m ks)) ts) scope n ≡ inner
+      → names_of inner ≡ says.under (map (of_field (saying m ks)) ts) (names_of scope)
+  names_after_fields ts scope n h = ap names_of (sym h) ∙ add_names (of_field (saying m ks)) (of_field (reads m ks)) (field_names m ks) ts scope n
+
+  -- a field that puts a value, in front of others
+  put_is : {s : Said} {r : Reading} {scope inner : Scope} {n i k : ℕ} {e : Expr} {fs : List Field} (ts : List FieldTree) → ExprIs m ks s r scope n e i
+      → FieldsAre (map (of_field (saying m ks)) ts) (map (of_field (reads m ks)) ts) scope i fs inner k
+      → FieldsAre (record { names = []; says = λ place names. s (data_in place) names } ∷ map (of_field (saying m ks)) ts)
+      (put m ks r ∷ map (of_field (reads m ks)) ts) scope n (field.Put e ∷ fs) inner k
+  put_is {scope = scope} ts w v = record {
+    value = λ j. ap field.Put w.value j ∷ (ap (bindings (map (of_field (reads m ks)) ts) scope) w.next ∙ v.value) j;
+    after = ap (under (map (of_field (reads m ks)) ts) scope) w.next ∙ v.after;
+    next = add_next _ _ _ _ _ w.next v.next;
+    passes = λ place. join (Passes m ks) _ _ (w.passes false (place.level + 1))
+        (subst (λ z. AllPass m ks (in_turn (map (of_field (saying m ks)) ts) place z)) (sym (append-nil (names_of scope))) (v.passes place));
+  }
+
   pub fields_are : {scope inner : Scope} {n k : ℕ} {ts : List FieldTree} {fs : List Field} → AreFields m ks scope n ts fs inner k
-      → FieldsAre (map (field_says m ks) ts) (map (field_reading m ks) ts) scope n fs inner k
-  fields_are {scope} {inner} {n} t.no_fields = record { value = refl; after = refl; names = refl; next = none_next n; passes = λ place. tt }
+      → FieldsAre (map (of_field (saying m ks)) ts) (map (of_field (reads m ks)) ts) scope n fs inner k
+  fields_are {scope} {inner} {n} t.no_fields = record { value = refl; after = refl; next = none_next n; passes = λ place. tt }
   fields_are {scope} {inner} {n} {k} (t.dot {a = a} {e = e} {ts = ts} {fs = fs} h h') =
-      let w = expr_is m ks h in let v = fields_are h' in
-      field_tree_layer (λ b g. FieldsAre (b ∷ map (field_says m ks) ts) (g ∷ map (field_reading m ks) ts) scope n (field.Put e ∷ fs) inner k)
-      (FieldTree-F.«FieldTree::Dot» a) (text.rolls-Dot _) (record {
-        value = λ j. ap field.Put w.value j ∷ (ap (bindings (map (field_reading m ks) ts) scope) w.next ∙ v.value) j;
-        after = ap (under (map (field_reading m ks) ts) scope) w.next ∙ v.after;
-        names = ap (says.under (map (field_says m ks) ts)) (append-nil (names_of scope)) ∙ v.names;
-        next = add_next _ _ _ _ _ w.next v.next;
-        passes = λ place. join m ks _ _ (w.passes false (place.level + 1))
-            (subst (λ z. AllPass m ks (in_turn (map (field_says m ks) ts) place z)) (sym (append-nil (names_of scope))) (v.passes place));
-      })
+      at_field m ks (λ _ b g. FieldsAre (b ∷ map (of_field (saying m ks)) ts) (g ∷ map (of_field (reads m ks)) ts) scope n (field.Put e ∷ fs) inner k)
+      (FieldTree-F.«FieldTree::Dot» a) (text.rolls-Dot _) (put_is ts (expr_is m ks h) (fields_are h'))
   fields_are {scope} {inner} {n} {k} (t.output {a = a} {e = e} {ts = ts} {fs = fs} h h') =
-      let w = expr_is m ks h in let v = fields_are h' in
-      field_tree_layer (λ b g. FieldsAre (b ∷ map (field_says m ks) ts) (g ∷ map (field_reading m ks) ts) scope n (field.Put e ∷ fs) inner k)
-      (FieldTree-F.Output a) (text.rolls-Output _) (record {
-        value = λ j. ap field.Put w.value j ∷ (ap (bindings (map (field_reading m ks) ts) scope) w.next ∙ v.value) j;
-        after = ap (under (map (field_reading m ks) ts) scope) w.next ∙ v.after;
-        names = ap (says.under (map (field_says m ks) ts)) (append-nil (names_of scope)) ∙ v.names;
-        next = add_next _ _ _ _ _ w.next v.next;
-        passes = λ place. join m ks _ _ (w.passes false (place.level + 1))
-            (subst (λ z. AllPass m ks (in_turn (map (field_says m ks) ts) place z)) (sym (append-nil (names_of scope))) (v.passes place));
-      })
+      at_field m ks (λ _ b g. FieldsAre (b ∷ map (of_field (saying m ks)) ts) (g ∷ map (of_field (reads m ks)) ts) scope n (field.Put e ∷ fs) inner k)
+      (FieldTree-F.Output a) (text.rolls-Output _) (put_is ts (expr_is m ks h) (fields_are h'))
   fields_are {scope} {inner} {n} {k} (t.input {x = x} {ts = ts} {fs = fs} free h') =
       let v = fields_are h' in
-      field_tree_layer (λ b g. FieldsAre (b ∷ map (field_says m ks) ts) (g ∷ map (field_reading m ks) ts) scope n (field.Get n None ∷ fs) inner k)
+      at_field m ks (λ _ b g. FieldsAre (b ∷ map (of_field (saying m ks)) ts) (g ∷ map (of_field (reads m ks)) ts) scope n (field.Get n None ∷ fs) inner k)
       (FieldTree-F.Input x None) (text.rolls-Input _ _) (record {
         value = λ j. field.Get n None ∷ v.value j;
         after = v.after;
-        names = ap (says.under (map (field_says m ks) ts)) (sym (names_with scope x n)) ∙ v.names;
         next = add_next _ _ _ _ _ refl v.next;
         passes = λ place. (
           bind_passes m ks x free,
-          subst (λ z. AllPass m ks (in_turn (map (field_says m ks) ts) place z)) (names_with scope x n) (v.passes place),
+          subst (λ z. AllPass m ks (in_turn (map (of_field (saying m ks)) ts) place z)) (names_with scope x n) (v.passes place),
         );
       })
   fields_are {scope} {inner} {n} {k} (t.input_from {x = x} {s = a} {e = e} {ts = ts} {fs = fs} free h h') =
       let w = expr_is m ks h in let v = fields_are h' in
-      field_tree_layer (λ b g. FieldsAre (b ∷ map (field_says m ks) ts) (g ∷ map (field_reading m ks) ts) scope n (field.Get n (Some e) ∷ fs) inner k)
+      at_field m ks (λ _ b g. FieldsAre (b ∷ map (of_field (saying m ks)) ts) (g ∷ map (of_field (reads m ks)) ts) scope n (field.Get n (Some e) ∷ fs) inner k)
       (FieldTree-F.Input x (Some a)) (text.rolls-Input _ _) (record {
-        value = λ j. ap (λ z. field.Get n (Some z)) w.value j ∷ (ap (bindings (map (field_reading m ks) ts) (with scope x n)) (one_next _ _ _ w.next) ∙ v.value) j;
-        after = ap (under (map (field_reading m ks) ts) (with scope x n)) (one_next _ _ _ w.next) ∙ v.after;
-        names = ap (says.under (map (field_says m ks) ts)) (sym (names_with scope x n)) ∙ v.names;
+        value = λ j. ap (λ z. field.Get n (Some z)) w.value j ∷ (ap (bindings (map (of_field (reads m ks)) ts) (with scope x n)) (one_next _ _ _ w.next) ∙ v.value) j;
+        after = ap (under (map (of_field (reads m ks)) ts) (with scope x n)) (one_next _ _ _ w.next) ∙ v.after;
         next = add_next _ _ _ _ _ (one_next _ _ _ w.next) v.next;
         passes = λ place. (
           bind_passes m ks x free,
-          join m ks _ _ (w.passes false (place.level + 1))
-              (subst (λ z. AllPass m ks (in_turn (map (field_says m ks) ts) place z)) (names_with scope x n) (v.passes place)),
+          join (Passes m ks) _ _ (w.passes false (place.level + 1))
+              (subst (λ z. AllPass m ks (in_turn (map (of_field (saying m ks)) ts) place z)) (names_with scope x n) (v.passes place)),
         );
       })
 
   pub pairs_are : {scope : Scope} {n k : ℕ} {ts : List (PartTree × PartTree)} {fs : List (EventPart × EventPart)} → ArePairs m ks scope n ts fs k
-      → PairsAre (map (λ p. (part_tree_says m ks p.0, part_tree_says m ks p.1)) ts) (map (λ p. (part_reading m ks p.0, part_reading m ks p.1)) ts) scope n fs k
+      → PairsAre (map (λ p. (of_part (saying m ks) p.0, of_part (saying m ks) p.1)) ts) (map (λ p. (of_part (reads m ks) p.0, of_part (reads m ks) p.1)) ts) scope n fs k
   pairs_are {scope} {n} t.no_pairs = record { value = refl; next = none_next n; passes = λ place. tt }
   pairs_are {scope} {n} {k} (t.more_pairs {left = left} {old = a} {new = b} {f = f} {g = g} {ts = ts} {fs = fs} h h' h'') =
       let u = front_is m ks h in let w = front_is m ks h' in let v = pairs_are h'' in
-      let rest = map (λ (p : PartTree × PartTree). (part_reading m ks p.0, part_reading m ks p.1)) ts in
+      let rest = map (λ (p : PartTree × PartTree). (of_part (reads m ks) p.0, of_part (reads m ks) p.1)) ts in
       record {
-        value = λ j. (u.value j, (ap (part m ks (part_reading m ks b) scope) u.next ∙ w.value) j)
-            ∷ (ap (λ z. pairs m ks rest scope (z + all_bind (part_reading m ks b).fields)) u.next ∙ ap (pairs m ks rest scope) w.next ∙ v.value) j;
+        value = λ j. (u.value j, (ap (part m ks (of_part (reads m ks) b) scope) u.next ∙ w.value) j)
+            ∷ (ap (λ z. pairs m ks rest scope (z + all_bind (of_part (reads m ks) b).fields)) u.next ∙ ap (pairs m ks rest scope) w.next ∙ v.value) j;
         next = add_three _ _ _ _ _ _ _ u.next w.next v.next;
-        passes = λ place. join m ks (pair_says m (part_tree_says m ks a, part_tree_says m ks b) place (names_of scope)) _ (
-          renamed_passes (part_tree_says m ks a).name _ _ u.channel u.fields w.channel w.fields (length (part_tree_says m ks a).fields)
-              (length (part_tree_says m ks b).fields) left u.means w.means u.count w.count,
-          join m ks (part_says m (part_tree_says m ks a) place (names_of scope)) (part_says m (part_tree_says m ks b) place (names_of scope))
+        passes = λ place. join (Passes m ks) (pair_says m (of_part (saying m ks) a, of_part (saying m ks) b) place (names_of scope)) _ (
+          renamed_passes (of_part (saying m ks) a).name _ _ u.channel u.fields w.channel w.fields (length (of_part (saying m ks) a).fields)
+              (length (of_part (saying m ks) b).fields) left u.means w.means u.count w.count,
+          join (Passes m ks) (part_says m (of_part (saying m ks) a) place (names_of scope)) (part_says m (of_part (saying m ks) b) place (names_of scope))
               (u.passes place) (w.passes place),
         ) (v.passes place);
       }
@@ -200,11 +165,11 @@ module _ (m : Meanings) (ks : List Kind) where
   mutual
     pub proc_is : {scope : Scope} {n k : ℕ} {a : Tree} {q : Proc} → IsProc m ks scope n a q k → ProcIs (tree_says m a) (reading m ks a) scope n q k
     proc_is {scope} {n} t.stop =
-        tree_layer m ks (λ s r. ProcIs s r scope n proc.Stop n) Tree-F.Stop tree.rolls-Stop (form_is (λ place names. []) _ scope n proc.Stop n refl (none_next n) refl (λ b l. tt))
+        at_tree m ks (λ _ s r. ProcIs s r scope n proc.Stop n) Tree-F.Stop tree.rolls-Stop (form_is (λ place names. []) _ scope n proc.Stop n refl (none_next n) refl (λ b l. tt))
     proc_is {scope} {n} t.skip =
-        tree_layer m ks (λ s r. ProcIs s r scope n proc.Skip n) Tree-F.Skip tree.rolls-Skip (form_is (λ place names. []) _ scope n proc.Skip n refl (none_next n) refl (λ b l. tt))
+        at_tree m ks (λ _ s r. ProcIs s r scope n proc.Skip n) Tree-F.Skip tree.rolls-Skip (form_is (λ place names. []) _ scope n proc.Skip n refl (none_next n) refl (λ b l. tt))
     proc_is {scope} {n} (t.process {d = d} {x = x} h is) =
-        tree_layer m ks (λ s r. ProcIs s r scope n (proc.Call d []) n) (Tree-F.Name x) (tree.rolls-Name _) (record {
+        at_tree m ks (λ _ s r. ProcIs s r scope n (proc.Call d []) n) (Tree-F.Name x) (tree.rolls-Name _) (record {
           value = ap (λ e. proc.Call (definition_number e) []) h.1;
           next = none_next n;
           leaf = ap (is_network ks) (means_is m ks scope x (entity.Definition d 0) h) ∙ ap kind_network is;
@@ -212,7 +177,7 @@ module _ (m : Meanings) (ks : List Kind) where
         })
     proc_is {scope} {n} {k} (t.process_call {d = d} {f = x} {args = args} {es = es} h is g) =
         let w = exprs_are m ks g in
-        tree_layer m ks (λ s r. ProcIs s r scope n (proc.Call d es) k) (Tree-F.Call x args) (tree.rolls-Call _ _) (record {
+        at_tree m ks (λ _ s r. ProcIs s r scope n (proc.Call d es) k) (Tree-F.Call x args) (tree.rolls-Call _ _) (record {
           value = λ i. proc.Call (ap definition_number h.1 i) (w.value i);
           next = w.next;
           leaf = ap (is_network ks) (means_is m ks scope x (entity.Definition d (length args)) h) ∙ ap kind_network is;
@@ -224,31 +189,31 @@ module _ (m : Meanings) (ks : List Kind) where
         })
     proc_is {scope} {n} {k} (t.proc_if {c = c} {p = a} {q = b} {e = e} {r = p} {s = q} h h' h'') =
         let u = expr_is m ks h in let w = proc_is h' in let v = proc_is h'' in
-        tree_layer m ks (λ s r. ProcIs s r scope n (proc.If e p q) k) (Tree-F.If c a b) (tree.rolls-If _ _ _) (record {
+        at_tree m ks (λ _ s r. ProcIs s r scope n (proc.If e p q) k) (Tree-F.If c a b) (tree.rolls-If _ _ _) (record {
           value = λ j. proc.If (u.value j) ((ap ((reading m ks a).proc scope) u.next ∙ w.value) j)
               ((ap (λ z. (reading m ks b).proc scope (z + (reading m ks a).binds)) u.next ∙ ap ((reading m ks b).proc scope) w.next ∙ v.value) j);
           next = add_three _ _ _ _ _ _ _ u.next w.next v.next;
           leaf = λ j. w.leaf j || v.leaf j;
-          passes = λ z l. join_three m ks _ _ _ (u.passes false (l + 1)) (w.passes z (l + 1)) (v.passes z (l + 1));
+          passes = λ z l. join_three (Passes m ks) _ _ _ (u.passes false (l + 1)) (w.passes z (l + 1)) (v.passes z (l + 1));
         })
     proc_is {scope} {n} {k} (t.prefix {c = c} {x = x} {ts = ts} {fs = fs} {p = a} {q = q} h g h') =
         let w = fields_are g in let v = proc_is h' in
-        tree_layer m ks (λ s r. ProcIs s r scope n (proc.Prefix (head.Channel c) fs q) k) (Tree-F.Prefix (event_tree x ts) a) (tree.rolls-Prefix _ _)
-        (event_tree_layer (λ b f. ProcIs (tree_says_of_layer m (Tree-F.Prefix b (tree_says m a))) (reading_of_layer m ks (Tree-F.Prefix f (reading m ks a)))
+        at_tree m ks (λ _ s r. ProcIs s r scope n (proc.Prefix (head.Channel c) fs q) k) (Tree-F.Prefix (event_tree x ts) a) (tree.rolls-Prefix _ _)
+        (at_event m ks (λ b f. ProcIs (tree_says_of_layer m (Tree-F.Prefix b (tree_says m a))) (reading_of_layer m ks (Tree-F.Prefix f (reading m ks a)))
         scope n (proc.Prefix (head.Channel c) fs q) k) x ts
         (form_is _ _ scope n (proc.Prefix (head.Channel c) fs q) k
         (λ j. proc.Prefix ((ap (λ o. head_of o (m x)) h.0 ∙ ap (λ e. head.Channel (channel_number e)) h.1) j) (w.value j)
-        ((ap (λ z. (reading m ks a).proc z (n + bindings_bind (map (field_reading m ks) ts))) w.after ∙ ap ((reading m ks a).proc _) w.next ∙ v.value) j))
+        ((ap (λ z. (reading m ks a).proc z (n + bindings_bind (map (of_field (reads m ks)) ts))) w.after ∙ ap ((reading m ks a).proc _) w.next ∙ v.value) j))
         (add_next _ _ _ _ _ w.next v.next) refl
         (λ b l. (
           use_passes m ks x _ _ _ (means_is m ks scope x (entity.Channel c (length ts)) h)
-              (head_passes x c (length ts) (length (map (field_says m ks) ts)) (length-map ts (field_says m ks))),
-          join m ks _ _ (w.passes (process_at b l)) (subst (λ z. AllPass m ks (tree_says m a (process_at false (l + 1)) z)) (sym w.names) (v.passes false (l + 1))),
+              (head_passes x c (length ts) (length (map (of_field (saying m ks)) ts)) (length-map ts (of_field (saying m ks)))),
+          join (Passes m ks) _ _ (w.passes (process_at b l)) (subst (λ z. AllPass m ks (tree_says m a (process_at false (l + 1)) z)) (names_after_fields ts scope n w.after) (v.passes false (l + 1))),
         ))))
     proc_is {scope} {n} {k} (t.bound_prefix {b = b} {x = x} {p = a} {q = q} h h') =
         let v = proc_is h' in
-        tree_layer m ks (λ s r. ProcIs s r scope n (proc.Prefix (head.Bound b) [] q) k) (Tree-F.Prefix (event_tree x []) a) (tree.rolls-Prefix _ _)
-        (event_tree_layer (λ z f. ProcIs (tree_says_of_layer m (Tree-F.Prefix z (tree_says m a))) (reading_of_layer m ks (Tree-F.Prefix f (reading m ks a)))
+        at_tree m ks (λ _ s r. ProcIs s r scope n (proc.Prefix (head.Bound b) [] q) k) (Tree-F.Prefix (event_tree x []) a) (tree.rolls-Prefix _ _)
+        (at_event m ks (λ z f. ProcIs (tree_says_of_layer m (Tree-F.Prefix z (tree_says m a))) (reading_of_layer m ks (Tree-F.Prefix f (reading m ks a)))
         scope n (proc.Prefix (head.Bound b) [] q) k) x []
         (form_is _ _ scope n (proc.Prefix (head.Bound b) [] q) k
         (λ j. proc.Prefix (ap (λ o. head_of o (m x)) h j) [] ((ap ((reading m ks a).proc scope) (none_next n) ∙ v.value) j))
@@ -256,58 +221,58 @@ module _ (m : Meanings) (ks : List Kind) where
         (λ z l. (use_passes m ks x _ _ _ (bound_is m ks scope x b h) (bound_head_passes x), v.passes false (l + 1)))))
     proc_is {scope} {n} {k} (t.guard {c = c} {p = a} {e = e} {q = q} h h') =
         let w = expr_is m ks h in let v = proc_is h' in
-        tree_layer m ks (λ s r. ProcIs s r scope n (proc.Guard e q) k) (Tree-F.Guard c a) (tree.rolls-Guard _ _)
+        at_tree m ks (λ _ s r. ProcIs s r scope n (proc.Guard e q) k) (Tree-F.Guard c a) (tree.rolls-Guard _ _)
         (form_is _ _ scope n (proc.Guard e q) k (λ j. proc.Guard (w.value j) ((ap ((reading m ks a).proc scope) w.next ∙ v.value) j))
-        (add_next _ _ _ _ _ w.next v.next) refl (λ b l. join m ks _ _ (w.passes false (l + 1)) (v.passes false (l + 1))))
+        (add_next _ _ _ _ _ w.next v.next) refl (λ b l. join (Passes m ks) _ _ (w.passes false (l + 1)) (v.passes false (l + 1))))
     proc_is {scope} {n} {k} (t.external {ps = ps} {qs = qs} g) =
         let w = procs_are g in
-        tree_layer m ks (λ s r. ProcIs s r scope n (proc.External qs) k) (Tree-F.External ps) (tree.rolls-External _)
+        at_tree m ks (λ _ s r. ProcIs s r scope n (proc.External qs) k) (Tree-F.External ps) (tree.rolls-External _)
         (form_is _ _ scope n (proc.External qs) k (ap proc.External w.value) w.next refl (λ b l. w.passes false (l + 1)))
     proc_is {scope} {n} {k} (t.internal {ps = ps} {qs = qs} g) =
         let w = procs_are g in
-        tree_layer m ks (λ s r. ProcIs s r scope n (proc.Internal qs) k) (Tree-F.Internal ps) (tree.rolls-Internal _)
+        at_tree m ks (λ _ s r. ProcIs s r scope n (proc.Internal qs) k) (Tree-F.Internal ps) (tree.rolls-Internal _)
         (form_is _ _ scope n (proc.Internal qs) k (ap proc.Internal w.value) w.next refl (λ b l. w.passes false (l + 1)))
     proc_is {scope} {n} {k} (t.each_external {x = x} {s = a} {p = b} {e = e} {q = q} free h h') =
         let w = expr_is m ks h in let v = proc_is h' in
-        tree_layer m ks (λ s r. ProcIs s r scope n (proc.EachExternal n e q) k) (Tree-F.EachExternal x a b) (tree.rolls-EachExternal _ _ _)
+        at_tree m ks (λ _ s r. ProcIs s r scope n (proc.EachExternal n e q) k) (Tree-F.EachExternal x a b) (tree.rolls-EachExternal _ _ _)
         (form_is _ _ scope n (proc.EachExternal n e q) k (λ j. proc.EachExternal n (w.value j) ((ap ((reading m ks b).proc (with scope x n)) w.next ∙ v.value) j))
         (add_one_two _ _ _ _ _ w.next v.next) refl (λ z l. (
           bind_passes m ks x free,
-          join m ks _ _ (w.passes false (l + 1))
+          join (Passes m ks) _ _ (w.passes false (l + 1))
               (subst (λ y. AllPass m ks (tree_says m b (process_at false (l + 1)) y)) (names_with scope x n) (v.passes false (l + 1))),
         )))
     proc_is {scope} {n} {k} (t.each_internal {x = x} {s = a} {p = b} {e = e} {q = q} free h h') =
         let w = expr_is m ks h in let v = proc_is h' in
-        tree_layer m ks (λ s r. ProcIs s r scope n (proc.EachInternal n e q) k) (Tree-F.EachInternal x a b) (tree.rolls-EachInternal _ _ _)
+        at_tree m ks (λ _ s r. ProcIs s r scope n (proc.EachInternal n e q) k) (Tree-F.EachInternal x a b) (tree.rolls-EachInternal _ _ _)
         (form_is _ _ scope n (proc.EachInternal n e q) k (λ j. proc.EachInternal n (w.value j) ((ap ((reading m ks b).proc (with scope x n)) w.next ∙ v.value) j))
         (add_one_two _ _ _ _ _ w.next v.next) refl (λ z l. (
           bind_passes m ks x free,
-          join m ks _ _ (w.passes false (l + 1))
+          join (Passes m ks) _ _ (w.passes false (l + 1))
               (subst (λ y. AllPass m ks (tree_says m b (process_at false (l + 1)) y)) (names_with scope x n) (v.passes false (l + 1))),
         )))
     proc_is {scope} {n} {k} (t.sequence {p = a} {q = b} {r = p} {s = q} h h') =
         let w = proc_is h in let v = proc_is h' in
-        tree_layer m ks (λ s r. ProcIs s r scope n (proc.Seq p q) k) (Tree-F.Seq a b) (tree.rolls-Seq _ _)
+        at_tree m ks (λ _ s r. ProcIs s r scope n (proc.Seq p q) k) (Tree-F.Seq a b) (tree.rolls-Seq _ _)
         (form_is _ _ scope n (proc.Seq p q) k (λ j. proc.Seq (w.value j) ((ap ((reading m ks b).proc scope) w.next ∙ v.value) j))
-        (add_next _ _ _ _ _ w.next v.next) refl (λ z l. join m ks _ _ (w.passes false (l + 1)) (v.passes false (l + 1))))
+        (add_next _ _ _ _ _ w.next v.next) refl (λ z l. join (Passes m ks) _ _ (w.passes false (l + 1)) (v.passes false (l + 1))))
     proc_is {scope} {n} {k} (t.hide {p = a} {s = b} {q = q} {e = e} h h') =
         let w = proc_is h in let v = expr_is m ks h' in
-        tree_layer m ks (λ s r. ProcIs s r scope n (proc.Hide q e) k) (Tree-F.Hide a b) (tree.rolls-Hide _ _)
+        at_tree m ks (λ _ s r. ProcIs s r scope n (proc.Hide q e) k) (Tree-F.Hide a b) (tree.rolls-Hide _ _)
         (form_is _ _ scope n (proc.Hide q e) k (λ j. proc.Hide (w.value j) ((ap ((reading m ks b).expr scope) w.next ∙ v.value) j))
-        (add_next _ _ _ _ _ w.next v.next) refl (λ z l. join m ks _ _ (w.passes false (l + 1)) (v.passes false (l + 1))))
-    proc_is {scope} {n} {k} (t.rename {i = i} {p = a} {q = q} {pairs = ps} {fs = fs} {gens = gens} {gs = gs} h g h') =
+        (add_next _ _ _ _ _ w.next v.next) refl (λ z l. join (Passes m ks) _ _ (w.passes false (l + 1)) (v.passes false (l + 1))))
+    proc_is {scope} {n} {k} (t.rename {i = i} {j = j} {p = a} {q = q} {pairs = ps} {fs = fs} {gens = gens} {gs = gs} h g h') =
         let u = proc_is h in let w = pairs_are g in let v = gens_are m ks h' in
-        let fronts = map (λ (p : PartTree × PartTree). (part_reading m ks p.0, part_reading m ks p.1)) ps in
-        tree_layer m ks (λ s r. ProcIs s r scope n (proc.Rename q fs gs) k) (Tree-F.Rename a ps gens) (tree.rolls-Rename _ _ _)
+        let fronts = map (λ (p : PartTree × PartTree). (of_part (reads m ks) p.0, of_part (reads m ks) p.1)) ps in
+        at_tree m ks (λ _ s r. ProcIs s r scope n (proc.Rename q fs gs) k) (Tree-F.Rename a ps gens) (tree.rolls-Rename _ _ _)
         (form_is _ _ scope n (proc.Rename q fs gs) k
         (λ j. proc.Rename (u.value j)
-        ((ap (λ z. pairs m ks fronts (under (map (gen_reading m ks) gens) scope (z + pairs_bind fronts)) z) u.next
-        ∙ ap (λ z. pairs m ks fronts z i) (ap (under (map (gen_reading m ks) gens) scope) w.next ∙ v.after) ∙ w.value) j)
-        ((ap (λ z. bindings (map (gen_reading m ks) gens) scope (z + pairs_bind fronts)) u.next ∙ ap (bindings (map (gen_reading m ks) gens) scope) w.next ∙ v.value) j))
+        ((ap (λ z. pairs m ks fronts (under (map (of_gen (reads m ks)) gens) scope (z + pairs_bind fronts)) z) u.next
+        ∙ ap (λ z. pairs m ks fronts z i) (ap (under (map (of_gen (reads m ks)) gens) scope) w.next ∙ v.after) ∙ w.value) j)
+        ((ap (λ z. bindings (map (of_gen (reads m ks)) gens) scope (z + pairs_bind fronts)) u.next ∙ ap (bindings (map (of_gen (reads m ks)) gens) scope) w.next ∙ v.value) j))
         (add_three _ _ _ _ _ _ _ u.next w.next v.next) refl
-        (λ b l. join_three m ks _ _ _ (u.passes false (l + 1))
-        (subst (λ z. AllPass m ks (all_say (map (pair_says m) (map (λ (p : PartTree × PartTree). (part_tree_says m ks p.0, part_tree_says m ks p.1)) ps)) (process_at b l) z))
-        (sym v.names) (w.passes (process_at b l))) (v.passes (process_at b l))))
+        (λ b l. join_three (Passes m ks) _ _ _ (u.passes false (l + 1))
+        (subst (λ z. AllPass m ks (all_say (map (pair_says m) (map (λ (p : PartTree × PartTree). (of_part (saying m ks) p.0, of_part (saying m ks) p.1)) ps)) (process_at b l) z))
+        (names_after m ks gens scope j v.after) (w.passes (process_at b l))) (v.passes (process_at b l))))
 
     pub procs_are : {scope : Scope} {n k : ℕ} {ts : List Tree} {qs : List Proc} → AreProcs m ks scope n ts qs k
         → ProcsAre (map (tree_says m) ts) (map (reading m ks) ts) scope n qs k
@@ -317,5 +282,5 @@ module _ (m : Meanings) (ks : List Kind) where
         record {
           value = λ j. w.value j ∷ (ap (procs (map (reading m ks) ts) scope) w.next ∙ v.value) j;
           next = add_next _ _ _ _ _ w.next v.next;
-          passes = λ b l. join m ks _ _ (w.passes b l) (v.passes b l);
+          passes = λ b l. join (Passes m ks) _ _ (w.passes b l) (v.passes b l);
         }

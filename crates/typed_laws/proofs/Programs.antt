@@ -2,27 +2,18 @@
 use Rattle.std.proofs.Common.{◌≡◌, ℕ, zero, suc, ◌+◌, ◌≤◌, Bool, true, false, nat_le, nat_lt, IsTrue, Option, Some, None, Ok, Err, List, [], ◌∷◌, ◌++◌, length, refl, sym, ◌∙◌, ap, subst, arith}
 use Rattle.std.specs.Prelude.{if◌then◌else◌, slice_get}
 use Rattle.std.specs.List.{flat_map}
-use Rattle.dl_limits.specs.declared.TheConstants.{MOST_DATA_DEPTH, MOST_EVENTS}
-use Rattle.csp_atoms.specs.declared.atom.Atom.{Atom}
 use Rattle.csp_base.specs.Lists.{StandsIn}
-use Rattle.csp_text.specs.declared.script.Decl.{Decl}
-use Rattle.csp_text.specs.declared.script.Script.{Script}
-use Rattle.csp_text.specs.declared.tree.Tree.{Tree}
 use Rattle.csp_text.specs.declared.script.Decl.TheVariants as decl
-use Rattle.csp_program.specs.declared.expressions.Expr.{Expr}
-use Rattle.csp_program.specs.declared.programs.Content.{Content}
-use Rattle.script_names.specs.Prelude.{first_assertion, plain_content, IsShallow, definition_depth, Declares, nothing_yet, depth_within, when, field_sets, AreKinds, script_ends, Meanings, Name, is_among, meanings_of, names_declared, none_yet, AreOnce, with_roles, with_uses, IsProgram, all_events, with_events, with_sets, Answer, and_next, channel_sets, resolved, types_of, with_names, with_root, with_table, tree_says, bodies_from, body_place, data_place, declared_after, is_deep, name_fault, next_definition, parameters_after, types_say}
-use Rattle.script_names.specs.declared.fault.ResolveFault.{ResolveFault}
-use Rattle.script_names.specs.declared.kinds.Kind.{Kind}
-use Rattle.script_names.specs.declared.occurrence.Occurrence.TheVariants.{Notes}
+use Rattle.script_names.specs.Prelude.{first_assertion, plain_content, IsShallow, definition_depth, Declares, nothing_yet, depth_within, when, field_sets, AreKinds, script_ends, Meanings, Name, is_among, meanings_of, names_declared, none_yet, AreOnce, with_roles, with_uses, IsProgram, all_events, with_events, with_sets, Answer, and_next, channel_sets, resolved, types_of, with_names, with_root, with_table, bodies_from, declared_after, is_deep, name_fault, types_say, decl_says}
+use Rattle.typed_laws.proofs.Sources.{Atom, Content, Decl, Expr, Kind, MOST_DATA_DEPTH, MOST_EVENTS, Notes, ResolveFault, Script, Tree}
 use Rattle.typed_laws.proofs.Back.{SetsFor, any_sets, declares, sets_for, sets_for_any}
 use Rattle.typed_laws.proofs.Declared.{bodies_are, content_is, depths_agree, sets_are}
 use Rattle.typed_laws.proofs.DeclPasses.{EachPasses, each_passes, no_fault}
-use Rattle.typed_laws.proofs.DefUses.{when_none}
 use Rattle.typed_laws.proofs.Forward.{passes_each}
+use Rattle.typed_laws.proofs.Uses.{when_none}
 use Rattle.typed_laws.proofs.OnceLaws.{EachFresh, FreshFrom, are_once, declared_fresh, fresh_declared, names_are, names_of_decl, once_names, once_roles, once_uses}
-use Rattle.typed_laws.proofs.OnceSaid.{EachOnceSaid}
-use Rattle.typed_laws.proofs.Passing.{AllPass, Passes, pass_three, pass_two}
+use Rattle.typed_laws.proofs.OnceSaid.{EachOnceSaid, once_says}
+use Rattle.typed_laws.proofs.Passing.{AllPass, Passes, two_parts}
 use Rattle.typed_laws.proofs.ScriptKinds.{have_kinds, kind_is}
 
 none_more : (n : ℕ) → 0 + n ≡ n
@@ -45,25 +36,16 @@ module _ (script : List Decl) (ks : List Kind) where
   fresh_names : (earlier : List Decl) (xs : List Name) → AllPass m ks (declared_after (names_declared earlier) xs) → FreshFrom (flat_map names_of_decl earlier) xs
   fresh_names earlier xs h = subst (λ z. FreshFrom z xs) (names_are earlier) (declared_fresh m ks (names_declared earlier) xs h)
 
+  names_fresh : (earlier : List Decl) (d : Decl) → AllPass m ks (decl_says m ks earlier d) → FreshFrom (flat_map names_of_decl earlier) (names_of_decl d)
+  names_fresh earlier (decl.Channel xs types) h = fresh_names earlier xs (two_parts (Passes m ks) (declared_after (names_declared earlier) xs) (types_say m types) h).0
+  names_fresh earlier (decl.Datatype x cs) h = fresh_names earlier (x ∷ cs) h
+  names_fresh earlier (decl.Nametype x a) h = fresh_names earlier (x ∷ []) (two_parts (Passes m ks) (declared_after (names_declared earlier) (x ∷ [])) _ h).0
+  names_fresh earlier (decl.Define x params a) h = fresh_names earlier (x ∷ []) (two_parts (Passes m ks) (declared_after (names_declared earlier) (x ∷ [])) _ h).0
+  names_fresh earlier _ h = tt
+
   names_once : (earlier rest : List Decl) → EachPasses script ks earlier rest → EachFresh names_of_decl earlier rest
   names_once earlier [] h = tt
-  names_once earlier (decl.Channel xs types ∷ rest) h = (
-    fresh_names earlier xs (pass_two m ks (declared_after (names_declared earlier) xs) (types_say m types) h.0.passes).0,
-    names_once (earlier ++ decl.Channel xs types ∷ []) rest h.1,
-  )
-  names_once earlier (decl.Datatype x cs ∷ rest) h = (fresh_names earlier (x ∷ cs) h.0.passes, names_once (earlier ++ decl.Datatype x cs ∷ []) rest h.1)
-  names_once earlier (decl.Nametype x a ∷ rest) h = (
-    fresh_names earlier (x ∷ []) (pass_two m ks (declared_after (names_declared earlier) (x ∷ [])) (tree_says m a data_place []) h.0.passes).0,
-    names_once (earlier ++ decl.Nametype x a ∷ []) rest h.1,
-  )
-  names_once earlier (decl.Define x params a ∷ rest) h = (
-    fresh_names earlier (x ∷ []) (pass_three m ks (declared_after (names_declared earlier) (x ∷ [])) (parameters_after [] params)
-        (tree_says m a (body_place (slice_get ks (next_definition earlier))) params) h.0.passes).0,
-    names_once (earlier ++ decl.Define x params a ∷ []) rest h.1,
-  )
-  names_once earlier (decl.Assert a ∷ rest) h = (tt, names_once (earlier ++ decl.Assert a ∷ []) rest h.1)
-  names_once earlier (decl.Roles names ∷ rest) h = (tt, names_once (earlier ++ decl.Roles names ∷ []) rest h.1)
-  names_once earlier (decl.Resource names ∷ rest) h = (tt, names_once (earlier ++ decl.Resource names ∷ []) rest h.1)
+  names_once earlier (d ∷ rest) h = (names_fresh earlier d h.0.passes, names_once (earlier ++ d ∷ []) rest h.1)
 
   roles_once : (earlier rest : List Decl) → EachPasses script ks earlier rest → EachFresh with_roles earlier rest
   roles_once earlier [] h = tt
@@ -110,12 +92,7 @@ module _ (script : List Decl) (ks : List Kind) where
 asserted : (decls : List Decl) (a : Tree) → first_assertion decls ≡ Some a → StandsIn decls (decl.Assert a)
 asserted [] a h = absurd (cc)
 asserted (decl.Assert b ∷ decls) a h = let e : b ≡ a = cc in (0, ap (λ z. Some (decl.Assert z)) e)
-asserted (decl.Channel xs types ∷ decls) a h = let w = asserted decls a h in (suc w.0, w.1)
-asserted (decl.Datatype x cs ∷ decls) a h = let w = asserted decls a h in (suc w.0, w.1)
-asserted (decl.Nametype x t ∷ decls) a h = let w = asserted decls a h in (suc w.0, w.1)
-asserted (decl.Define x params t ∷ decls) a h = let w = asserted decls a h in (suc w.0, w.1)
-asserted (decl.Roles names ∷ decls) a h = let w = asserted decls a h in (suc w.0, w.1)
-asserted (decl.Resource names ∷ decls) a h = let w = asserted decls a h in (suc w.0, w.1)
+asserted (_ ∷ decls) a h = let w = asserted decls a h in (suc w.0, w.1)
 
 -- the parts of an answer that is a program
 pub record Parts (script : List Decl) (ks : List Kind) (p : Content) : Type 0 where
@@ -172,18 +149,8 @@ faultless_is_program script ks p are h =
 some_asserted : (decls : List Decl) (k : ℕ) (a : Tree) → slice_get decls k ≡ Some (decl.Assert a) → (b : Tree) × (first_assertion decls ≡ Some b)
 some_asserted [] k a h = absurd (cc)
 some_asserted (decl.Assert b ∷ decls) k a h = (b, refl)
-some_asserted (decl.Channel xs types ∷ decls) zero a h = absurd (cc)
-some_asserted (decl.Channel xs types ∷ decls) (suc k) a h = some_asserted decls k a h
-some_asserted (decl.Datatype x cs ∷ decls) zero a h = absurd (cc)
-some_asserted (decl.Datatype x cs ∷ decls) (suc k) a h = some_asserted decls k a h
-some_asserted (decl.Nametype x t ∷ decls) zero a h = absurd (cc)
-some_asserted (decl.Nametype x t ∷ decls) (suc k) a h = some_asserted decls k a h
-some_asserted (decl.Define x params t ∷ decls) zero a h = absurd (cc)
-some_asserted (decl.Define x params t ∷ decls) (suc k) a h = some_asserted decls k a h
-some_asserted (decl.Roles names ∷ decls) zero a h = absurd (cc)
-some_asserted (decl.Roles names ∷ decls) (suc k) a h = some_asserted decls k a h
-some_asserted (decl.Resource names ∷ decls) zero a h = absurd (cc)
-some_asserted (decl.Resource names ∷ decls) (suc k) a h = some_asserted decls k a h
+some_asserted (_ ∷ decls) zero a h = absurd (cc)
+some_asserted (_ ∷ decls) (suc k) a h = some_asserted decls k a h
 
 if_true : (b : Bool) (x y : Answer Content) → b ≡ true → (if b then x else y) ≡ x
 if_true b x y h = ap (λ z. if z then x else y) h
@@ -201,22 +168,20 @@ module _ (m : Meanings) (ks : List Kind) where
   names_said : (earlier : List Decl) (xs : List Name) → FreshFrom (flat_map names_of_decl earlier) xs → AllPass m ks (declared_after (names_declared earlier) xs)
   names_said earlier xs h = fresh_declared m ks (names_declared earlier) xs (subst (λ z. FreshFrom z xs) (sym (names_are earlier)) h)
 
+  said_once : (earlier : List Decl) (d : Decl) → FreshFrom (flat_map names_of_decl earlier) (names_of_decl d)
+      → FreshFrom (flat_map with_roles earlier) (with_roles d) → FreshFrom (flat_map with_uses earlier) (with_uses d) → AllPass m ks (once_says earlier d)
+  said_once earlier (decl.Channel xs types) h g k = names_said earlier xs h
+  said_once earlier (decl.Datatype x cs) h g k = names_said earlier (x ∷ cs) h
+  said_once earlier (decl.Nametype x a) h g k = names_said earlier (x ∷ []) h
+  said_once earlier (decl.Define x params a) h g k = names_said earlier (x ∷ []) h
+  said_once earlier (decl.Assert a) h g k = tt
+  said_once earlier (decl.Roles names) h g k = (note_passes names.process _ g.0, tt)
+  said_once earlier (decl.Resource names) h g k = (note_passes names.process _ k.0, tt)
+
   each_said : (earlier rest : List Decl) → EachFresh names_of_decl earlier rest → EachFresh with_roles earlier rest → EachFresh with_uses earlier rest
       → EachOnceSaid m ks earlier rest
   each_said earlier [] h g k = tt
-  each_said earlier (decl.Channel xs types ∷ rest) h g k =
-      (names_said earlier xs h.0, each_said (earlier ++ decl.Channel xs types ∷ []) rest h.1 g.1 k.1)
-  each_said earlier (decl.Datatype x cs ∷ rest) h g k =
-      (names_said earlier (x ∷ cs) h.0, each_said (earlier ++ decl.Datatype x cs ∷ []) rest h.1 g.1 k.1)
-  each_said earlier (decl.Nametype x a ∷ rest) h g k =
-      (names_said earlier (x ∷ []) h.0, each_said (earlier ++ decl.Nametype x a ∷ []) rest h.1 g.1 k.1)
-  each_said earlier (decl.Define x params a ∷ rest) h g k =
-      (names_said earlier (x ∷ []) h.0, each_said (earlier ++ decl.Define x params a ∷ []) rest h.1 g.1 k.1)
-  each_said earlier (decl.Assert a ∷ rest) h g k = (tt, each_said (earlier ++ decl.Assert a ∷ []) rest h.1 g.1 k.1)
-  each_said earlier (decl.Roles names ∷ rest) h g k =
-      ((note_passes names.process _ g.0.0, tt), each_said (earlier ++ decl.Roles names ∷ []) rest h.1 g.1 k.1)
-  each_said earlier (decl.Resource names ∷ rest) h g k =
-      ((note_passes names.process _ k.0.0, tt), each_said (earlier ++ decl.Resource names ∷ []) rest h.1 g.1 k.1)
+  each_said earlier (d ∷ rest) h g k = (said_once earlier d h.0 g.0 k.0, each_said (earlier ++ d ∷ []) rest h.1 g.1 k.1)
 
 module _ (script : Script) (p : Content) (h : IsProgram script p) where
   abbrev decls : List Decl
@@ -230,17 +195,7 @@ module _ (script : Script) (p : Content) (h : IsProgram script p) where
       (depths_agree (bodies_from (meanings_of decls) h.kinds 0 decls) h.plain.defs (bodies_are (meanings_of decls) h.kinds h.declared) (MOST_DATA_DEPTH + 1) i) low))
 
   same_content : plain_content decls h.kinds ≡ h.plain
-  same_content =
-      let v = content_is (meanings_of decls) h.kinds h.declared in
-      λ i. record {
-        events = v.events i;
-        channels = v.channels i;
-        consts = v.consts i;
-        defs = v.defs i;
-        roles = v.roles i;
-        resources = v.resources i;
-        root = v.root i;
-      }
+  same_content = content_is (meanings_of decls) h.kinds h.declared
 
   abbrev tail : Content → Answer Content
   tail q = and_next (channel_sets q (types_of decls h.kinds) 0 decls) (λ all. with_table q all)

@@ -1,46 +1,42 @@
 -- The names of scopes: what a binder says that it binds is what it adds to the scope.
-use Rattle.std.proofs.Common.{◌≡◌, ℕ, ◌+◌, Bool, true, false, ◌||◌, Option, Some, None, List, [], ◌∷◌, ◌++◌, refl, sym, subst, ◌∙◌, ap, append-nil}
+use Rattle.std.proofs.Common.{◌≡◌, ℕ, ◌+◌, Bool, true, false, ◌||◌, Option, Some, None, List, [], ◌∷◌, ◌++◌, map, refl, sym, ◌∙◌, ap, append-nil}
 use Rattle.std.specs.Prelude.{if◌then◌else◌}
-use Rattle.csp_program.specs.declared.expressions.Gen.{Gen}
-use Rattle.csp_program.specs.declared.processes.Field.{Field}
-use Rattle.csp_text.specs.declared.tree.FieldTree.{FieldTree}
-use Rattle.csp_text.specs.declared.tree.GenTree.{GenTree}
-use Rattle.script_names.specs.Prelude.{Name, Meanings, is_among, same_name, sense_in, sense_of, Binder, Said, Binding, Scope, names_of, number_of, or_else, under, with}
-use Rattle.script_names.specs.declared.kinds.Kind.{Kind}
-use Rattle.script_names.specs.declared.kinds.Place.{Place}
-use Rattle.script_names.specs.declared.kinds.Sense.{Sense}
+use Rattle.script_names.specs.Prelude.{Name, Meanings, is_among, same_name, sense_in, sense_of, Binder, Binding, Scope, names_of, number_of, or_else, under, with}
 use Rattle.script_names.specs.declared.kinds.Sense.TheVariants as sense
 use Rattle.script_names.specs.Says as says
-use Rattle.typed_laws.proofs.Formed.{FieldRead, FieldsRead, GenRead, GensRead}
-use Rattle.typed_laws.proofs.Formed as f
-use Rattle.typed_laws.proofs.Faultless.{AllFine}
+use Rattle.typed_laws.proofs.Sources.{FieldTree, FieldTree-F, GenTree, GenTree-F, Kind, Sense, out-FieldTree, out-GenTree, roll-out-FieldTree, roll-out-GenTree}
+use Rattle.typed_laws.proofs.Trees.{FieldLayer, GenLayer, at_field, at_gen, field_layer, gen_layer, of_field, of_gen, reads, saying}
 
 pub names_with : (scope : Scope) (x : Name) (n : ℕ) → names_of (with scope x n) ≡ names_of scope ++ x ∷ []
 names_with [] x n = refl
 names_with (b ∷ scope) x n = ap (λ l. b.0 ∷ l) (names_with scope x n)
 
+-- what a binder says that it binds is what it adds
+abbrev pub AddsNames : {B : Type 0} → Binder → Binding B → Type 0
+AddsNames b g = (scope : Scope) (n : ℕ) → names_of (g.after scope n) ≡ names_of scope ++ b.names
+
+pub add_names : {T B : Type 0} (said : T → Binder) (read : T → Binding B) → ((t : T) → AddsNames (said t) (read t)) → (ts : List T) (scope : Scope) (n : ℕ)
+    → names_of (under (map read ts) scope n) ≡ says.under (map said ts) (names_of scope)
+add_names said read one [] scope n = refl
+add_names said read one (t ∷ ts) scope n =
+    add_names said read one ts ((read t).after scope n) (n + (read t).binds) ∙ ap (says.under (map said ts)) (one t scope n)
+
 module _ (m : Meanings) (ks : List Kind) where
-  pub field_names : {t : FieldTree} {b : Binder} {g : Binding Field} → FieldRead m ks t b g → (scope : Scope) (n : ℕ) → names_of (g.after scope n) ≡ names_of scope ++ b.names
-  field_names (f.dot h) scope n = sym (append-nil (names_of scope))
-  field_names (f.output h) scope n = sym (append-nil (names_of scope))
-  field_names (f.input x) scope n = names_with scope x n
-  field_names (f.input_from x h) scope n = names_with scope x n
+  field_layer_names : (d : FieldLayer) → AddsNames (field_layer (saying m ks) d) (field_layer (reads m ks) d)
+  field_layer_names (FieldTree-F.«FieldTree::Dot» a) scope n = sym (append-nil (names_of scope))
+  field_layer_names (FieldTree-F.Output a) scope n = sym (append-nil (names_of scope))
+  field_layer_names (FieldTree-F.Input x None) scope n = names_with scope x n
+  field_layer_names (FieldTree-F.Input x (Some s)) scope n = names_with scope x n
 
-  pub gen_names : {t : GenTree} {b : Binder} {g : Binding Gen} → GenRead m ks t b g → (scope : Scope) (n : ℕ) → names_of (g.after scope n) ≡ names_of scope ++ b.names
-  gen_names (f.from x h) scope n = names_with scope x n
-  gen_names (f.condition h) scope n = sym (append-nil (names_of scope))
+  pub field_names : (t : FieldTree) → AddsNames (of_field (saying m ks) t) (of_field (reads m ks) t)
+  field_names t = at_field m ks (λ t b g. AddsNames b g) (out-FieldTree t) (roll-out-FieldTree t) (field_layer_names (out-FieldTree t))
 
-  pub fields_names : {ts : List FieldTree} {bs : List Binder} {gs : List (Binding Field)} → FieldsRead m ks ts bs gs → (scope : Scope) (n : ℕ)
-      → names_of (under gs scope n) ≡ says.under bs (names_of scope)
-  fields_names f.no_fields scope n = refl
-  fields_names (f.more_fields {f = g} {bs = bs} h hs) scope n =
-      fields_names hs (g.after scope n) (n + g.binds) ∙ ap (says.under bs) (field_names h scope n)
+  gen_layer_names : (d : GenLayer) → AddsNames (gen_layer (saying m ks) d) (gen_layer (reads m ks) d)
+  gen_layer_names (GenTree-F.From x s) scope n = names_with scope x n
+  gen_layer_names (GenTree-F.Cond c) scope n = sym (append-nil (names_of scope))
 
-  pub gens_names : {ts : List GenTree} {bs : List Binder} {gs : List (Binding Gen)} → GensRead m ks ts bs gs → (scope : Scope) (n : ℕ)
-      → names_of (under gs scope n) ≡ says.under bs (names_of scope)
-  gens_names f.no_gens scope n = refl
-  gens_names (f.more_gens {g = g} {bs = bs} h hs) scope n =
-      gens_names hs (g.after scope n) (n + g.binds) ∙ ap (says.under bs) (gen_names h scope n)
+  pub gen_names : (t : GenTree) → AddsNames (of_gen (saying m ks) t) (of_gen (reads m ks) t)
+  gen_names t = at_gen m ks (λ t b g. AddsNames b g) (out-GenTree t) (roll-out-GenTree t) (gen_layer_names (out-GenTree t))
 
 -- a name is bound, with its number, or it is what it is declared as
 pub data NameIs (m : Meanings) (x : Name) : Option ℕ → Sense → Type 0 where
@@ -71,8 +67,3 @@ name_of_bound m x unbound = is_free
 
 pub name_is : (m : Meanings) (scope : Scope) (x : Name) → NameIs m x (number_of scope x) (sense_in m (names_of scope) x)
 name_is m scope x = name_of_bound m x (same_bound scope x)
-
--- what is fine under the names that are said is fine under the names of the scope
-pub renamed : (ks : List Kind) (s : Said) (place : Place) (names : List Name) (scope : Scope) → names_of scope ≡ names → AllFine ks (s place names)
-    → AllFine ks (s place (names_of scope))
-renamed ks s place names scope is fine = subst (λ z. AllFine ks (s place z)) (sym is) fine

@@ -3,30 +3,18 @@ use Rattle.std.proofs.Common.{◌≡◌, ℕ, zero, suc, ◌+◌, ◌<◌, ◌�
 use Rattle.std.specs.Prelude.{slice_get}
 use Rattle.csp_base.specs.Standard.{flat_map, lookup}
 use Rattle.std.proofs.lemmas.Option.{slice_get_within}
-use Rattle.csp_text.specs.declared.script.Decl.{Decl}
-use Rattle.csp_text.specs.declared.tree.Tree.{Tree}
 use Rattle.csp_text.specs.declared.script.Decl.TheVariants as decl
-use Rattle.script_names.specs.Prelude.{clashes, kind_class, kind_network, AreKinds, LeadsTo, body_ends, end_of_call, end_of_name, ends, ends_at, script_ends, Counts, Entities, Meanings, Name, channels_from, constants_from, counted, declared_from, meanings_of, none_yet, same_name, Said, tree_says, body_place, counts_of, declared_after, name_fault, names_declared, need_of, next_definition, parameters_after, Reading}
-use Rattle.script_names.specs.declared.kinds.Class.{Class}
-use Rattle.script_names.specs.declared.kinds.End.{End}
-use Rattle.script_names.specs.declared.kinds.Entity.{Entity}
-use Rattle.script_names.specs.declared.kinds.Kind.{Kind}
-use Rattle.script_names.specs.declared.kinds.Sense.{Sense}
-use Rattle.script_names.specs.declared.occurrence.Occurrence.TheVariants.{Uses}
+use Rattle.script_names.specs.Prelude.{clashes, kind_class, kind_network, AreKinds, LeadsTo, body_ends, ends, ends_at, script_ends, Counts, Entities, Meanings, Name, channels_from, constants_from, counted, declared_from, meanings_of, none_yet, same_name, tree_says, body_place, counts_of, declared_after, name_fault, names_declared, need_of, next_definition, parameters_after}
 use Rattle.script_names.specs.Kinds.LeadsTo.{here, beyond}
 use Rattle.script_names.specs.declared.kinds.Class.TheVariants as class
 use Rattle.script_names.specs.declared.kinds.End.TheVariants as end
 use Rattle.script_names.specs.declared.kinds.Entity.TheVariants as entity
 use Rattle.script_names.specs.declared.kinds.Need.TheVariants as need
-use Rattle.script_names.specs.declared.kinds.Sense.TheVariants as sense
-use Rattle.script_names.specs.declared.kinds.Use.TheVariants as how
+use Rattle.typed_laws.proofs.Sources.{Class, Decl, End, Entity, Kind, Tree}
 use Rattle.typed_laws.proofs.Classes.{IsClass, has_class, script_known}
 use Rattle.typed_laws.proofs.DeclPasses.{EachPasses, counted_on, each_passes}
-use Rattle.typed_laws.proofs.Faultless.{AllFine, IsFine, fine_three}
-use Rattle.typed_laws.proofs.Formed.{Ends, Reads}
-use Rattle.typed_laws.proofs.Formed as f
-use Rattle.typed_laws.proofs.Making.{made}
-use Rattle.typed_laws.proofs.Passing.{AllPass, all_fine_of, data_at, pass_three}
+use Rattle.typed_laws.proofs.Ends.{AllFit, ends_fit, fit_at}
+use Rattle.typed_laws.proofs.Passing.{AllPass, Passes, all_fine_of, data_at, three_parts}
 use Rattle.typed_laws.proofs.Uses.{HaveKinds, KindIs, of_data, of_network, of_process}
 
 pub kind_at : (ks : List Kind) (d : ℕ) → d < length ks → (kind : Kind) × (slice_get ks d ≡ Some kind)
@@ -127,94 +115,36 @@ module _ (bound : ℕ) where
 
 -- ---- the ends of data
 
-module _ (ks : List Kind) where
-  -- an end of a body of data: of data, or the use of what is no process
-  abbrev IsDataEnd : End → Type 0
-  IsDataEnd (end.Use d) = clashes (kind_class (slice_get ks d)) need.Data ≡ false
-  IsDataEnd end.Process = ⊥
-  IsDataEnd end.Parallel = ⊥
-  IsDataEnd _ = Unit {0}
-
-  abbrev AllDataEnds : List End → Type 0
-  AllDataEnds [] = Unit {0}
-  AllDataEnds (e ∷ es) = IsDataEnd e × AllDataEnds es
-
-  data_append : (es gs : List End) → AllDataEnds es → AllDataEnds gs → AllDataEnds (es ++ gs)
-  data_append [] gs h g = g
-  data_append (e ∷ es) gs h g = (h.0, data_append es gs h.1 g)
-
-  name_end : (x : Name) (s : Sense) (b : Bool) (l : ℕ) → IsFine ks (Uses x s (how.Alone (data_at b l))) → IsDataEnd (end_of_name s)
-  name_end x (sense.Declared (entity.Definition d n)) b l h = h.kind
-  name_end x _ b l h = tt
-
-  call_end : (x : Name) (s : Sense) (n : ℕ) (b : Bool) (l : ℕ) → IsFine ks (Uses x s (how.Called n (data_at b l))) → IsDataEnd (end_of_call s)
-  call_end x (sense.Declared (entity.Definition d k)) n b l h = h.kind
-  call_end x _ n b l h = tt
-
-  module _ (m : Meanings) where
-    data_ends : {t : Tree} {s : Said} {r : Reading} {e : Ends} → Reads m ks t s r e → (b : Bool) (l : ℕ) (names : List Name)
-        → AllFine ks (s (data_at b l) names) → AllDataEnds (e names)
-    data_ends (f.name x) b l names h = (name_end x _ b l h.0, tt)
-    data_ends (f.call x {args = ss} g) b l names h = (call_end x _ (length ss) b l h.0, tt)
-    data_ends (f.either_part {p'' = e} {q'' = e'} g k j) b l names h =
-        let w = fine_three ks _ _ _ h in data_append (e names) (e' names) (data_ends k b (l + 1) names w.1) (data_ends j b (l + 1) names w.2)
-    data_ends (f.num k) b l names h = (tt, tt)
-    data_ends f.truth b l names h = (tt, tt)
-    data_ends f.falsehood b l names h = (tt, tt)
-    data_ends (f.dotted c g) b l names h = (tt, tt)
-    data_ends (f.negative g) b l names h = (tt, tt)
-    data_ends (f.negated g) b l names h = (tt, tt)
-    data_ends (f.binary op g k) b l names h = (tt, tt)
-    data_ends (f.display g) b l names h = (tt, tt)
-    data_ends (f.span g k) b l names h = (tt, tt)
-    data_ends (f.comprehension g k) b l names h = (tt, tt)
-    data_ends (f.production g k) b l names h = (tt, tt)
-    data_ends (f.set_operator op g k) b l names h = (tt, tt)
-    data_ends _ b l names h = absurd (let g = h.0.kind in cc)
-
-  data_at_end : (es : List End) (k : ℕ) (e : End) → AllDataEnds es → slice_get es k ≡ Some e → IsDataEnd e
-  data_at_end [] k e h g = absurd (cc)
-  data_at_end (a ∷ es) zero e h g = let i : a ≡ e = cc in subst IsDataEnd i h.0
-  data_at_end (a ∷ es) (suc k) e h g = data_at_end es k e h.1 g
-
 module _ (script : List Decl) (ks : List Kind) where
   abbrev m : Meanings
   m = meanings_of script
 
   body_data : (t : Tree) (params : List Name) (c : Class) (network : Bool) → c ≡ class.Data
-      → AllPass m ks (tree_says m t (record { need = need_of c; network = network; level = 1 }) params) → AllDataEnds ks (ends m params t)
-  body_data t params class.Data network is h = data_ends ks m (made m ks t) network 1 params (all_fine_of m ks _ h)
-  body_data t params class.Process network is h = absurd (cc)
-  body_data t params class.Unknown network is h = absurd (cc)
+      → AllPass m ks (tree_says m t (record { need = need_of c; network = network; level = 1 }) params) → AllFit ks need.Data (ends m params t)
+  body_data t params class.Data network is h = ends_fit ks m t (data_at network 1) params (all_fine_of m ks _ h)
+  body_data t params _ network is h = absurd (cc)
+
+  one_less_far : (n i : ℕ) → kind_class (slice_get ks (n + suc i)) ≡ class.Data → kind_class (slice_get ks (n + 1 + i)) ≡ class.Data
+  one_less_far n i c = ap (λ z. kind_class (slice_get ks z)) (one_on n i) ∙ c
 
   ends_from : (earlier rest : List Decl) (n : Counts) → counts_of none_yet earlier ≡ n → EachPasses script ks earlier rest → (i : ℕ)
-      → kind_class (slice_get ks (n.definitions + i)) ≡ class.Data → AllDataEnds ks (ends_at (slice_get (flat_map (body_ends m) rest) i))
+      → kind_class (slice_get ks (n.definitions + i)) ≡ class.Data → AllFit ks need.Data (ends_at (slice_get (flat_map (body_ends m) rest) i))
   ends_from earlier [] n is h i c = tt
   ends_from earlier (decl.Define x params t ∷ rest) n is h zero c =
-      let w = pass_three m ks (declared_after (names_declared earlier) (x ∷ [])) (parameters_after [] params)
+      let w = three_parts (Passes m ks) (declared_after (names_declared earlier) (x ∷ [])) (parameters_after [] params)
       (tree_says m t (body_place (slice_get ks (next_definition earlier))) params) h.0.passes in
       let same : next_definition earlier ≡ n.definitions + 0 = ap (λ (z : Counts). z.definitions) is ∙ no_more n.definitions in
       body_data t params (kind_class (slice_get ks (next_definition earlier))) (kind_network (slice_get ks (next_definition earlier)))
       (ap (λ z. kind_class (slice_get ks z)) same ∙ c) w.2
-  ends_from earlier (decl.Define x params t ∷ rest) n is h (suc i) c =
-      ends_from (earlier ++ decl.Define x params t ∷ []) rest (counted n (decl.Define x params t)) (counted_on earlier (decl.Define x params t) n is) h.1 i
-      (ap (λ z. kind_class (slice_get ks z)) (one_on n.definitions i) ∙ c)
   ends_from earlier (decl.Nametype x t ∷ rest) n is h zero c = (tt, tt)
-  ends_from earlier (decl.Nametype x t ∷ rest) n is h (suc i) c =
-      ends_from (earlier ++ decl.Nametype x t ∷ []) rest (counted n (decl.Nametype x t)) (counted_on earlier (decl.Nametype x t) n is) h.1 i
-      (ap (λ z. kind_class (slice_get ks z)) (one_on n.definitions i) ∙ c)
   ends_from earlier (decl.Datatype x cs ∷ rest) n is h zero c = (tt, tt)
+  ends_from earlier (decl.Define x params t ∷ rest) n is h (suc i) c =
+      ends_from (earlier ++ decl.Define x params t ∷ []) rest _ (counted_on earlier (decl.Define x params t) n is) h.1 i (one_less_far n.definitions i c)
+  ends_from earlier (decl.Nametype x t ∷ rest) n is h (suc i) c =
+      ends_from (earlier ++ decl.Nametype x t ∷ []) rest _ (counted_on earlier (decl.Nametype x t) n is) h.1 i (one_less_far n.definitions i c)
   ends_from earlier (decl.Datatype x cs ∷ rest) n is h (suc i) c =
-      ends_from (earlier ++ decl.Datatype x cs ∷ []) rest (counted n (decl.Datatype x cs)) (counted_on earlier (decl.Datatype x cs) n is) h.1 i
-      (ap (λ z. kind_class (slice_get ks z)) (one_on n.definitions i) ∙ c)
-  ends_from earlier (decl.Channel xs types ∷ rest) n is h i c =
-      ends_from (earlier ++ decl.Channel xs types ∷ []) rest (counted n (decl.Channel xs types)) (counted_on earlier (decl.Channel xs types) n is) h.1 i c
-  ends_from earlier (decl.Assert t ∷ rest) n is h i c =
-      ends_from (earlier ++ decl.Assert t ∷ []) rest n (counted_on earlier (decl.Assert t) n is) h.1 i c
-  ends_from earlier (decl.Roles names ∷ rest) n is h i c =
-      ends_from (earlier ++ decl.Roles names ∷ []) rest n (counted_on earlier (decl.Roles names) n is) h.1 i c
-  ends_from earlier (decl.Resource names ∷ rest) n is h i c =
-      ends_from (earlier ++ decl.Resource names ∷ []) rest n (counted_on earlier (decl.Resource names) n is) h.1 i c
+      ends_from (earlier ++ decl.Datatype x cs ∷ []) rest _ (counted_on earlier (decl.Datatype x cs) n is) h.1 i (one_less_far n.definitions i c)
+  ends_from earlier (d ∷ rest) n is h i c = ends_from (earlier ++ d ∷ []) rest (counted n d) (counted_on earlier d n is) h.1 i c
 
   -- ---- a definition of data is no network
 
@@ -226,17 +156,17 @@ module _ (script : List Decl) (ks : List Kind) where
     is_class d h =
         let one : length ks ≡ length all = are.one_each in
         let found = kind_at ks d (omega (arith, h, one)) in
-        subst (λ o. IsClass (kind_class o)) (sym found.1) (has_class all ks d found.0 (script_known script ks [] script none) are found.1)
+        subst (λ o. IsClass (kind_class o)) (sym found.1) (has_class ks all d found.0 (script_known ks script [] script none) are found.1)
 
-    ends_of_data : (d : ℕ) → kind_class (slice_get ks d) ≡ class.Data → AllDataEnds ks (ends_at (slice_get all d))
+    ends_of_data : (d : ℕ) → kind_class (slice_get ks d) ≡ class.Data → AllFit ks need.Data (ends_at (slice_get all d))
     ends_of_data d c =
         ends_from [] script none_yet refl (each_passes script ks [] script none) d (ap (λ z. kind_class (slice_get ks z)) (none_on d) ∙ c)
 
     leads_nowhere : {d : ℕ} → LeadsTo end.Parallel all d → kind_class (slice_get ks d) ≡ class.Data → ⊥
-    leads_nowhere (here d k g) c = data_at_end ks (ends_at (slice_get all d)) k end.Parallel (ends_of_data d c) g
+    leads_nowhere (here d k g) c = fit_at ks need.Data (ends_at (slice_get all d)) k end.Parallel (ends_of_data d c) g
     leads_nowhere (beyond d k next g l) c =
         leads_nowhere l (data_class ks (kind_class (slice_get ks next)) (is_class next (leads_within l))
-        (data_at_end ks (ends_at (slice_get all d)) k (end.Use next) (ends_of_data d c) g))
+        (fit_at ks need.Data (ends_at (slice_get all d)) k (end.Use next) (ends_of_data d c) g))
 
     no_network : (d : ℕ) (kind : Kind) → slice_get ks d ≡ Some kind → kind.class ≡ class.Data → (b : Bool) → kind.network ≡ b → kind.network ≡ false
     no_network d kind at c true is = absurd (leads_nowhere ((are.each d kind at).network.0 is) (ap kind_class at ∙ c))

@@ -3,14 +3,10 @@ use Rattle.std.proofs.Common.{◌≡◌, ℕ, Bool, false, not, ◌&&◌, nat_eq
 use Rattle.std.specs.Prelude.{slice_get}
 use Rattle.std.proofs.lemmas.Bool.{eq-eqb}
 use Rattle.script_names.specs.Prelude.{clashes, is_constant, kind_class, kind_network, when, Meanings, Name, sense_in, sense_of, Scope, names_of, number_of, MayBind, Means}
-use Rattle.script_names.specs.declared.kinds.Entity.{Entity}
-use Rattle.script_names.specs.declared.kinds.Kind.{Kind}
-use Rattle.script_names.specs.declared.kinds.Place.{Place}
-use Rattle.script_names.specs.declared.kinds.Sense.{Sense}
-use Rattle.script_names.specs.declared.occurrence.Occurrence.TheVariants.{Binds, Uses}
 use Rattle.script_names.specs.declared.kinds.Entity.TheVariants as entity
 use Rattle.script_names.specs.declared.kinds.Sense.TheVariants as sense
 use Rattle.script_names.specs.declared.kinds.Use.TheVariants as how
+use Rattle.typed_laws.proofs.Sources.{Binds, Entity, Kind, Place, Sense, Uses}
 use Rattle.typed_laws.proofs.Passing.{Passes, data_at}
 use Rattle.typed_laws.proofs.ScopeNames.{NameIs, is_bound, is_free, name_is}
 

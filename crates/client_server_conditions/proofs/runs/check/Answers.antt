@@ -1,7 +1,8 @@
 use Rattle.std.proofs.Common.{◌≡◌, ◌∙◌, ◌≤◌, ℕ, List, Option, Some, ap, sym, subst, length, arith}
-use Rattle.design_rules.specs.ClientServerFaults.{BreaksRoles}
-use Rattle.client_server_conditions.specs.Conditions.{IsDecided, Keeps}
 use Rattle.csp_tables.specs.Prelude.{Part, Shape}
+use Rattle.design_rules.specs.Prelude.{BreaksRoles}
+use Rattle.shape_links.specs.Component.{IsDecided}
+use Rattle.client_server_conditions.specs.Conditions.{Keeps}
 use Rattle.client_server_conditions.proofs.Deciding.{all_parts, breaks_condition}
 use Rattle.client_server_conditions.proofs.runs.check.Goals as goal
 

@@ -1,6 +1,7 @@
 use Rattle.std.proofs.Common.{◌≡◌, ◌≤◌, ◌<◌, ℕ, List, Option, Some, ap, subst, get_or, length, arith}
-use Rattle.std.proofs.lemmas.Option.{slice_get_within, get_or_from_slice_get}
-use Rattle.client_server_conditions.specs.Conditions.{IsDecided, KeepsOn}
+use Rattle.csp_base.proofs.Standard.{slice_get_within, get_or_from_slice_get}
+use Rattle.shape_links.specs.Component.{IsDecided}
+use Rattle.client_server_conditions.specs.Conditions.{KeepsOn}
 use Rattle.shape_links.specs.Links.{ends_of}
 use Rattle.shape_links.proofs.Links.{end_here, ends_complete, place_in}
 use Rattle.client_server_conditions.proofs.runs.links_run.Goals as goal
@@ -19,10 +20,10 @@ returns-in-Some c =
     (d.0, λ keeps. d.1 (keeps link e.0 e.1))
 
 pub returns : goal.returns
-returns c s l h end runs =
+returns c s ran l h end runs =
     let p = place_in (ends_of c.args.network.now.shape c.args.part) l (ends_complete c.args.network.now.shape c.args.part (length c.args.network.now.shape.links) l h end) in
     let many : length c.links-link-items.result.now ≡ length (ends_of c.args.network.now.shape c.args.part) = ap (length {A = ℕ}) c.links-link-items.ensures in
     let last : length c.links-link-items.result.now ≤ c.loop-link.link-index = c.loop-link-test.false in
     let below : p.0 < length (ends_of c.args.network.now.shape c.args.part) = slice_get_within (ends_of c.args.network.now.shape c.args.part) p.0 l p.1 in
     let at = get_or_from_slice_get (ends_of c.args.network.now.shape c.args.part) p.0 l 0 p.1 in
-    subst (λ (m : ℕ). KeepsOn c.args.network.now c.args.condition c.args.part m s) at (c.loop-link.invariant p.0 s (omega arith)) runs
+    subst (λ (m : ℕ). KeepsOn c.args.network.now c.args.condition c.args.part m s) at (c.loop-link.invariant p.0 s (omega arith) ran) runs

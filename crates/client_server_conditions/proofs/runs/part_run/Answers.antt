@@ -1,8 +1,9 @@
 use Rattle.std.proofs.Common.{ℕ, List, Option, Some, None, subst}
-use Rattle.client_server_conditions.specs.Conditions.{IsDecided, Keeps, KeepsLinks, KeepsWhole}
+use Rattle.shape_links.specs.Component.{IsDecided}
+use Rattle.client_server_conditions.specs.Conditions.{Keeps, KeepsLinks, KeepsWhole}
 use Rattle.client_server_conditions.proofs.Deciding.{keeps_whole, decided_links}
 use Rattle.client_server_conditions.proofs.runs.part_run.Goals as goal
-use Rattle.std.proofs.lemmas.Result.{IfOk-weaker}
+use Rattle.csp_base.proofs.Standard.{IfOk-weaker}
 
 pub returns-in-Some : goal.returns-in-Some
 returns-in-Some c =

@@ -1,6 +1,7 @@
 use Rattle.std.proofs.Common.{sym, subst}
 use Rattle.std.specs.Prelude.{IfOk}
-use Rattle.client_server_conditions.specs.Conditions.{IsDecided, KeepsWhole}
+use Rattle.shape_links.specs.Component.{IsDecided}
+use Rattle.client_server_conditions.specs.Conditions.{KeepsWhole}
 use Rattle.client_server_conditions.proofs.runs.whole_run.Goals as goal
 
 pub returns-in-Service : goal.returns-in-Service

@@ -6,7 +6,7 @@ use Rattle.cyclic_conditions.proofs.facts.note.Goals as goal
 pub returns-in-Some-clause-clash : goal.returns-in-Some-clause-clash
 returns-in-Some-clause-clash c =
     let at : first_at c.args.firsts.now c.args.place ≡ Some c.in-Some.first = get_or_default c.args.firsts.now c.args.place None _ c.requires ∙ c.in-Some.is in
-    (refl, c.args.place, at, inl (refl, λ e. c.if-first-fact.false (sym e)))
+    (refl, (c.args.place, at, inl (refl, λ e. c.if-first-fact.false (sym e))))
 
 pub returns-clause-noted : goal.returns-clause-noted
 returns-clause-noted c =

@@ -1,13 +1,34 @@
+use Rattle.std.proofs.Common.{◌≡◌, ◌∙◌, ℕ, List, Option, Some, ap, sym, refl}
+use Rattle.std.specs.Prelude.{slice_set, unwrap_or}
+use Rattle.csp_tables.specs.Prelude.{Link, Node}
+use Rattle.cyclic_conditions.specs.Shorts.{short_at}
+use Rattle.cyclic_conditions.proofs.Shortness.{accept_read, look_none, look_left, look_right}
 use Rattle.cyclic_conditions.proofs.shorts.mark_set.Goals as goal
 
 pub returns-in_default : goal.returns-in_default
-returns-in_default c = ?
+returns-in_default c =
+    let shape = c.args.component.now.shape.now in
+    let i = c.args.component.now.number in
+    let is = accept_read shape i c.args.node c.args.place c.accept.result.now c.index-accept-place.result (c.accept.ensures ∙ ap (λ (m : Node). m.accept) c.node.ensures) c.requires.at c.index-accept-place.is in
+    look_none shape i c.args.node c.args.place c.index-accept-place.result is c.requires.at c.requires.keep c.short_link.result c.short_link.ensures.short c.short_link.ensures.all c.args.shorts.now c.requires.shorts c.in_default.is
 
 pub link-requires : goal.link-requires
 link-requires c = (c.short_link.ensures.short c.in-Some.link c.in-Some.is).link
 
 pub returns-then-left-component : goal.returns-then-left-component
-returns-then-left-component c = ?
+returns-then-left-component c =
+    let shape = c.args.component.now.shape.now in
+    let i = c.args.component.now.number in
+    let is = accept_read shape i c.args.node c.args.place c.accept.result.now c.index-accept-place.result (c.accept.ensures ∙ ap (λ (m : Node). m.accept) c.node.ensures) c.requires.at c.index-accept-place.is in
+    look_left shape i c.args.node c.args.place c.index-accept-place.result is c.requires.at c.requires.keep c.short_link.result c.short_link.ensures.short c.short_link.ensures.all c.args.shorts.now c.requires.shorts
+    _ c.in-Some.link c.in-Some.is (sym (c.left.ensures.value ∙ ap (λ (k : Link). k.left) c.link.ensures) ∙ c.if-left-component.true)
+    (c.mark.ensures ∙ ap (λ (xs : List (Option ℕ)). slice_set xs c.in-Some.link (Some (unwrap_or (short_at xs c.in-Some.link) c.args.node))) c.deref_mut.ensures.value) refl
 
 pub returns-else-left-component : goal.returns-else-left-component
-returns-else-left-component c = ?
+returns-else-left-component c =
+    let shape = c.args.component.now.shape.now in
+    let i = c.args.component.now.number in
+    let is = accept_read shape i c.args.node c.args.place c.accept.result.now c.index-accept-place.result (c.accept.ensures ∙ ap (λ (m : Node). m.accept) c.node.ensures) c.requires.at c.index-accept-place.is in
+    look_right shape i c.args.node c.args.place c.index-accept-place.result is c.requires.at c.requires.keep c.short_link.result c.short_link.ensures.short c.short_link.ensures.all c.args.shorts.now c.requires.shorts
+    _ c.in-Some.link c.in-Some.is (λ same. c.if-left-component.false (c.left.ensures.value ∙ ap (λ (k : Link). k.left) c.link.ensures ∙ same))
+    (c.mark-else-left-component.ensures ∙ ap (λ (xs : List (Option ℕ)). slice_set xs c.in-Some.link (Some (unwrap_or (short_at xs c.in-Some.link) c.args.node))) c.deref_mut-else-left-component.ensures.value) refl

@@ -1,7 +1,15 @@
+use Rattle.std.proofs.Common.{◌≡◌, length, ap, arith, inl, inr, subst}
+use Rattle.csp_base.proofs.Standard.{cases_lt}
+use Rattle.csp_tables.specs.Prelude.{Link, Shape}
+use Rattle.design_rules.specs.Prelude.{HasWholeEnd}
 use Rattle.cyclic_conditions.proofs.whole.check_ends.Goals as goal
 
 pub loop-link-preserved : goal.loop-link-preserved
-loop-link-preserved c = ?
+loop-link-preserved c m h =
+    elim (cases_lt m c.loop-link.link) as (λ _. HasWholeEnd c.args.prepared.now m) [
+      | inl old ↦ c.loop-link.invariant m old
+      | inr now ↦ subst (HasWholeEnd c.args.prepared.now) (let same : c.loop-link.link ≡ m = omega arith in same) c.in_ok-check_link.ensures.whole
+    ]
 
 pub returns-clause-whole : goal.returns-clause-whole
-returns-clause-whole c = ?
+returns-clause-whole c m h = c.loop-link.invariant m (omega (arith, c.loop-link-test.false, ap (length {A = Link}) c.links-link-end.ensures.value, ap (λ (x : Shape). length x.links) c.shape.ensures.value))

@@ -1,6 +1,12 @@
+use Rattle.std.proofs.Common.{◌++◌, List, ap}
 use Rattle.network_stages.proofs.Tabling.{placed, still_within}
+use Rattle.numbered_walks.specs.Numbered.{Numbered}
+use Rattle.network_walks.specs.Tabled.{numbered}
 use Rattle.network_walks.proofs.Made.{all_made, one_made}
 use Rattle.network_walks.proofs.movers.movers.Goals as goal
+
+pub loop-place-init : goal.loop-place-init
+loop-place-init c = ap (λ (ns : List Numbered). ns ++ numbered c.args.seats.now c.args.tables.now) c.new-made.ensures.items
 
 pub bounds-tables-place : goal.bounds-tables-place
 bounds-tables-place c = still_within c.args.program.now c.args.seats.now c.args.tables.now c.requires.tables _ c.loop-place-test.true

@@ -1,9 +1,6 @@
-use Rattle.std.proofs.Common.{◌≡◌, ◌<◌, ℕ, List, true, length, sym, subst}
-use Rattle.csp_base.specs.Members.{has}
-use Rattle.shape_links.proofs.Links.{ends_sound}
+use Rattle.std.specs.Prelude.{slice_index}
+use Rattle.rule_rankings.proofs.CyclicRanking.{tops_more}
 use Rattle.rule_rankings.proofs.cyclic.tops.Goals as goal
 
-pub greatest-requires : goal.greatest-requires
-greatest-requires c l h =
-    let end = ends_sound c.args.prepared.now c.loop-part.part (length c.args.prepared.now.links) l (subst (λ (xs : List ℕ). has xs l ≡ true) c.links.ensures h) in
-    subst (λ (n : ℕ). l < n) (sym c.requires) end.0
+pub loop-part-preserved : goal.loop-part-preserved
+loop-part-preserved c = tops_more c.args.prepared.now (slice_index c.args.numbers.now) c.loop-part.part c.loop-part.tops.items c.push.new.self.items c.top.result c.loop-part.invariant c.top.ensures c.in_ok-push.ensures.items

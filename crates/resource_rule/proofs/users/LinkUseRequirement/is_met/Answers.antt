@@ -1,0 +1,18 @@
+use Rattle.std.proofs.Common.{◌∙◌, ℕ, subst}
+use Rattle.std.proofs.lemmas.Bool.{cond-false}
+use Rattle.csp_base.specs.Members.{has}
+use Rattle.csp_tables.specs.Prelude.{Shape, link_at, node_at, part_at}
+use Rattle.observed_runs.specs.Prelude.{AreEnough}
+use Rattle.shape_links.specs.Setting.{node_of}
+use Rattle.shape_links.proofs.Watching.{all_enough, off_link}
+use Rattle.resource_rule.specs.Uses.{is_use}
+use Rattle.resource_rule.proofs.users.LinkUseRequirement.is_met.Goals as goal
+
+pub returns : goal.returns
+returns c =
+    let u = c.args.self.now in
+    let g = c.args.self.now.setting.now in
+    let at = λ (s : Shape) (n : ℕ). AreEnough s.vocabulary (node_at (part_at s.parts n).table c.args.node).next c.steps.result.now in
+    let enough = subst (λ (s : Shape). at s c.args.self.now.part) c.component-component.ensures.shape (subst (λ (n : ℕ). at c.component-component.result.shape.now n) c.component-component.ensures.number c.steps.ensures) in
+    c.all_uses.ensures ∙ all_enough g.shape.vocabulary (node_of g u.part c.args.node).next c.steps.result.now (λ (step : ℕ × ℕ). is_use g u.link u.other c.args.state step.0) enough
+    (λ x out. cond-false (has (link_at g.shape u.link).shared x.0) _ _ (off_link g.shape u.link x.0 c.shape-form.ensures.form u.link_within out))

@@ -1,0 +1,9 @@
+use Rattle.std.proofs.Common.{◌≡◌, ◌<◌, ℕ, List, Some}
+use Rattle.std.specs.Prelude.{slice_get}
+use Rattle.csp_tables.specs.Prelude.{Joins}
+use Rattle.shape_links.specs.Links.{ends_of}
+use Rattle.resource_rule.specs.Uses.{UsesLink}
+use Rattle.resource_rule.proofs.users.broken_use.Given as goal
+
+abbrev pub invariant-loop-link : goal.invariant-loop-link
+invariant-loop-link l = (k n j : ℕ) (s : List ℕ) → k < l.link-index → slice_get (ends_of l.setting.shape l.part) k ≡ Some n → Joins l.setting.shape l.part j n → UsesLink l.setting l.part n j s

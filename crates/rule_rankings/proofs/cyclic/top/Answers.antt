@@ -1,0 +1,19 @@
+use Rattle.std.proofs.Common.{◌≡◌, ◌∙◌, ◌<◌, ℕ, List, true, length, ap, sym, subst}
+use Rattle.std.specs.Prelude.{slice_index}
+use Rattle.csp_base.specs.Members.{has}
+use Rattle.csp_tables.specs.Prelude.{Shape}
+use Rattle.shape_links.specs.Links.{ends_of}
+use Rattle.shape_links.proofs.Links.{ends_sound}
+use Rattle.rule_rankings.specs.CyclicRanks.{IsGreatest}
+use Rattle.rule_rankings.proofs.cyclic.top.Goals as goal
+
+pub greatest-requires : goal.greatest-requires
+greatest-requires c l h =
+    let ends = c.links.ensures ∙ ap (λ (s : Shape). ends_of s c.component-component.result.number) c.component-component.ensures.shape ∙ ap (ends_of c.args.prepared.now) c.component-component.ensures.number in
+    let end = ends_sound c.args.prepared.now c.args.part (length c.args.prepared.now.links) l (subst (λ (xs : List ℕ). has xs l ≡ true) ends h) in
+    subst (λ (n : ℕ). l < n) (sym c.requires.count) end.0
+
+pub returns : goal.returns
+returns c =
+    let ends = c.links.ensures ∙ ap (λ (s : Shape). ends_of s c.component-component.result.number) c.component-component.ensures.shape ∙ ap (ends_of c.args.prepared.now) c.component-component.ensures.number in
+    subst (λ (ls : List ℕ). IsGreatest (slice_index c.args.numbers.now) ls c.greatest.result) ends c.greatest.ensures
