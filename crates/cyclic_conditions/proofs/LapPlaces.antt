@@ -12,8 +12,8 @@ use Rattle.design_rules.specs.declared.rule_fault.RuleFault.{RuleFault}
 use Rattle.design_rules.specs.declared.rule_fault.RuleFault.TheVariants.{NoOrder}
 use Rattle.design_rules.proofs.Counts.{count_more, count_same, count_at_most}
 use Rattle.design_rules.proofs.Runs.{possible_within, end_within}
-use Rattle.design_rules.proofs.Places.{Keeping, IsAt, earlier, some_links, first_lap}
-use Rattle.observed_runs.specs.Prelude.{observed, LeadsTo, pair_at, lap_step}
+use Rattle.design_rules.proofs.Places.{IsAt, earlier, some_links, first_lap}
+use Rattle.observed_runs.specs.Prelude.{observed, pair_at, lap_step}
 use Rattle.shape_links.specs.Links.{IsOwner, ends_below, ends_of}
 use Rattle.shape_links.proofs.Links.{owner_end}
 use Rattle.cyclic_conditions.specs.Facts.{IsFact, IsPossibleAt, HasFirst, AreFirsts, AreMore, AreNoted, IsNotedAt, ClashesWith, Disagree, AreClashing, first_at, links_in_order}

@@ -1,15 +1,15 @@
 -- Acceptances that fall short of a link, and the first node of an end that has one.
-use Rattle.std.proofs.Common.{◌≡◌, ℕ, ◌+◌, ◌<◌, ◌≤◌, inl, inr, List, [], ◌∷◌, length, get_or, true, false, Option, Some, None, IsTrue, nat_eq, nat_le, refl, sym, ap, subst, ◌∙◌, arith}
+use Rattle.std.proofs.Common.{◌≡◌, ℕ, ◌+◌, ◌<◌, inl, inr, List, [], ◌∷◌, length, get_or, true, false, Option, Some, None, IsTrue, nat_eq, nat_le, refl, sym, ap, subst, ◌∙◌, arith}
 use Rattle.std.specs.List.{find}
-use Rattle.std.specs.Prelude.{replicate, slice_set, unwrap_or}
-use Rattle.csp_base.proofs.Standard.{cases_Bool, cases_eq, cases_lt, or_cases, eqb-true, both_ways, false≢true, or_right, get_or-replicate, get_or-set_same, get_or-set_other, get_or_past, length-replicate, get_or_read, length-set, none-some, same_Some}
+use Rattle.std.specs.Prelude.{slice_set, unwrap_or}
+use Rattle.csp_base.proofs.Standard.{cases_Bool, cases_eq, cases_lt, or_cases, eqb-true, both_ways, false≢true, or_right, get_or-set_same, get_or-set_other, get_or_read, length-set, none-some, same_Some}
 use Rattle.csp_base.specs.Prelude.{has, is_subset_of}
 use Rattle.csp_tables.specs.Prelude.{IsReached, IsRun, end_of, node_at, Part, part_at, alphabets_of, TripleDisjoint, Shape, is_end, link_at, acceptance_at, IsWellFormed}
 use Rattle.net_sound.proofs.Within.{part_form}
 use Rattle.design_rules.specs.Cyclic.{AllKeepPlaces, FallsShort, IsWholeEnd}
 use Rattle.design_rules.proofs.Runs.{possible_within, end_within}
 use Rattle.shape_links.specs.Links.{IsOwner, IsOnOne}
-use Rattle.cyclic_conditions.specs.Shorts.{IsShort, IsAcceptance, IsShortBy, IsShortAt, Before, IsFirstShort, short_at, AreShorts, AreAllShorts}
+use Rattle.cyclic_conditions.specs.Shorts.{IsShort, IsAcceptance, IsShortBy, IsShortAt, Before, IsFirstShort, short_at, AreShorts}
 use Rattle.cyclic_conditions.specs.Told.{FallsFirst}
 use Rattle.cyclic_conditions.specs.declared.shorts.Shorts.{Shorts}
 use Rattle.shape_links.proofs.Links.{on_one, owner_end}
@@ -58,79 +58,6 @@ short_end : (shape : Shape) (l i n k : ℕ) → IsWellFormed shape → TripleDis
 short_end shape l i n k w triple s =
     let possible = w.possible i n k s.short.meets.event s.at.part s.short.meets.first in
     (owner_end shape i l s.short.meets.event w triple s.at.part (possible_within (part_at shape.parts i) n s.short.meets.event (part_form shape.parts i s.at.part w.form) possible) (record { within = s.short.link; event = s.short.meets.second })).end
-
--- where no acceptance was seen yet
-pub none_seen : (shape : Shape) (n : ℕ) (shorts : Shorts) → IsWellFormed shape → TripleDisjoint (alphabets_of shape.parts) → n ≡ length shape.links → shorts.left.items ≡ replicate n None → shorts.right.items ≡ replicate n None → AreShorts shape (Before 0 0 0) shorts
-none_seen shape n shorts w triple count left right = record {
-  form = w;
-  apart = triple;
-  left_count = ap length left ∙ length-replicate n None ∙ count;
-  right_count = ap length right ∙ length-replicate n None ∙ count;
-  left = λ l. go l (link_at shape l).left (short_at shorts.left.items l) (ap (λ (xs : List (Option ℕ)). short_at xs l) left ∙ at_none l);
-  right = λ l. go l (link_at shape l).right (short_at shorts.right.items l) (ap (λ (xs : List (Option ℕ)). short_at xs l) right ∙ at_none l);
-}
-  where
-    at_none : (l : ℕ) → short_at (replicate n None) l ≡ None
-    at_none l = elim (cases_lt l n) [
-      | inl h ↦ get_or-replicate n l None None h
-      | inr h ↦ get_or_past (replicate n None) l None (let count_is : length {A = Option ℕ} (replicate n None) ≡ n = length-replicate n None in omega arith)
-    ]
-
-    nothing : (i n k : ℕ) → Before 0 0 0 i n k → ⊥
-    nothing i n k (inl less) = omega arith
-    nothing i n k (inr (same, inl less)) = omega arith
-    nothing i n k (inr (same, inr (here, less))) = omega arith
-
-    go : (l i : ℕ) (first : Option ℕ) → first ≡ None → IsFirstShort shape (Before 0 0 0) l i first
-    go l i None h = λ n k seen s. nothing i n k seen
-    go l i (Some n) h = absurd (none-some n (sym h))
-
--- what was not seen before is no acceptance
-all_seen : (shape : Shape) (seen more : ℕ → ℕ → ℕ → Type 0) (shorts : Shorts) → ((i n k : ℕ) → IsAcceptance shape i n k → more i n k → seen i n k) → AreShorts shape seen shorts → AreShorts shape more shorts
-all_seen shape seen more shorts back a = record {
-  form = a.form;
-  apart = a.apart;
-  left_count = a.left_count;
-  right_count = a.right_count;
-  left = λ l. go l (link_at shape l).left (short_at shorts.left.items l) (a.left l);
-  right = λ l. go l (link_at shape l).right (short_at shorts.right.items l) (a.right l);
-}
-  where
-    go : (l i : ℕ) (first : Option ℕ) → IsFirstShort shape seen l i first → IsFirstShort shape more l i first
-    go l i None none = λ n k m s. none n k (back i n k s.at m) s
-    go l i (Some n) first = first
-
--- all acceptances of a node, all nodes of a part, all parts were seen
-pub node_seen : (shape : Shape) (p n K : ℕ) (shorts : Shorts) → length (node_at (part_at shape.parts p).table n).accept ≤ K → AreShorts shape (Before p n K) shorts → AreShorts shape (Before p (n + 1) 0) shorts
-node_seen shape p n K shorts all = all_seen shape (Before p n K) (Before p (n + 1) 0) shorts back
-  where
-    back : (i m k : ℕ) → IsAcceptance shape i m k → Before p (n + 1) 0 i m k → Before p n K i m k
-    back i m k at (inl less) = inl less
-    back i m k at (inr (same, inl below)) = elim (cases_lt m n) [
-      | inl less ↦ inr (same, inl less)
-      | inr most ↦
-          let here : m ≡ n = omega arith in
-          let listed : k < length (node_at (part_at shape.parts p).table n).accept = subst (λ x. k < length (node_at (part_at shape.parts p).table x).accept) here (subst (λ j. k < length (node_at (part_at shape.parts j).table m).accept) same at.listed) in
-          inr (same, inr (here, omega arith))
-    ]
-    back i m k at (inr (same, inr (here, less))) = absurd (omega arith)
-
-pub part_seen : (shape : Shape) (p N : ℕ) (shorts : Shorts) → length (part_at shape.parts p).table ≤ N → AreShorts shape (Before p N 0) shorts → AreShorts shape (Before (p + 1) 0 0) shorts
-part_seen shape p N shorts all = all_seen shape (Before p N 0) (Before (p + 1) 0 0) shorts back
-  where
-    back : (i n k : ℕ) → IsAcceptance shape i n k → Before (p + 1) 0 0 i n k → Before p N 0 i n k
-    back i n k at (inl below) = elim (cases_lt i p) [
-      | inl less ↦ inl less
-      | inr most ↦
-          let same : i ≡ p = omega arith in
-          let node : n < length (part_at shape.parts p).table = subst (λ j. n < length (part_at shape.parts j).table) same at.node in
-          inr (same, inl (omega arith))
-    ]
-    back i n k at (inr (same, inl less)) = absurd (omega arith)
-    back i n k at (inr (same, inr (here, less))) = absurd (omega arith)
-
-pub parts_seen : (shape : Shape) (P : ℕ) (shorts : Shorts) → length shape.parts ≤ P → AreShorts shape (Before P 0 0) shorts → AreAllShorts shape shorts
-parts_seen shape P shorts all = all_seen shape (Before P 0 0) (λ i n k. i < length shape.parts) shorts (λ i n k at less. inl (omega arith))
 
 module _ (shape : Shape) (part node place : ℕ) where
   -- an acceptance that falls short of no such link

@@ -8,7 +8,6 @@ use Rattle.csp_program.specs.declared.processes.Proc.{Proc}
 use Rattle.csp_tables.specs.Network.{Component, Tree, Operands, leaves, leaves_of_operands}
 use Rattle.csp_tables.specs.Network.Tree.{parallel}
 use Rattle.csp_tables.specs.Network.Operands.{none, operand}
-use Rattle.network_trees.proofs.Steps.{had}
 use Rattle.network_trees.specs.Joint.{joint}
 use Rattle.network_trees.specs.NetworkOf.{Walked, each_operand, events_under, goes_on, operand_first, side_by_side, tree_within, with_value}
 use Rattle.network_trees.specs.declared.fault.LayoutFault.{LayoutFault}
@@ -44,9 +43,19 @@ one_before : (o : Walked (Operands Proc)) (so_far : Operands Proc) (a : List ℕ
 one_before (Ok os) so_far a t = ap (λ all. Ok all) (sym (before-last so_far a t os))
 one_before (Err f) so_far a t = refl
 
-same_fault : {A B C D : Type 0} (o : Outcome A) (g : A → Walked B) (next : B → Walked C) (f : LayoutFault) → with_value o g ≡ Err f → with_value o (λ a. goes_on (g a) next) ≡ Err f
-same_fault (Ok a) g next f is = ap (λ o. goes_on o next) is
+same_fault : {A B C : Type 0} (o : Outcome A) (g : A → Walked B) (next : A → B → Walked C) (f : LayoutFault) → with_value o g ≡ Err f → with_value o (λ a. goes_on (g a) (next a)) ≡ Err f
+same_fault (Ok a) g next f is = ap (λ o. goes_on o (next a)) is
 same_fault (Err why) g next f is = cc
+
+-- a value was found, from which the next step came to b
+record Had {A B : Type 0} (first : Outcome A) (next : A → Walked B) (b : B) : Type 0 where
+  value : A
+  is : first ≡ Ok value
+  rest : next value ≡ Ok b
+
+had : {A B : Type 0} (first : Outcome A) (next : A → Walked B) (b : B) → with_value first next ≡ Ok b → Had first next b
+had (Ok a) next b h = record { value = a; is = refl; rest = h }
+had (Err k) next b h = absurd cc
 
 module _ (s : Place) (x : ℕ) (o : Operand) where
   -- the operands for these values, where k components come before
@@ -76,20 +85,21 @@ module _ (s : Place) (x : ℕ) (o : Operand) where
       }
 
   module _ (vs : List Atom) (i : ℕ) (v : Atom) (old mid : List (Component Proc)) (events : List ℕ) (far : EachSoFar vs (drop i vs) old mid events) (lt : i < length vs) (is : v ≡ get_or vs i v) where
-    one : Walked (Tree Proc)
+    abbrev pub one : Walked (Tree Proc)
     one = one_operand (with_name s x v) o (length mid)
 
-    rest : ℕ → Walked (Operands Proc)
+    abbrev pub rest : ℕ → Walked (Operands Proc)
     rest = each (drop (i + 1) vs)
 
     now_next : each vs (length old) ≡ goes_on (each (v ∷ drop (i + 1) vs) (length mid)) (λ os. Ok (before far.so_far os))
     now_next = far.split ∙ ap (λ ws. goes_on (each ws (length mid)) (λ os. Ok (before far.so_far os))) (drop_read vs i v lt is)
 
     pub each_fault : (f : LayoutFault) → one ≡ Err f → operands_each s x o vs (length old) ≡ Err f
-    unfolding operands_each one_operand operand_walked each one rest
+    unfolding operands_each one_operand operand_walked each
     each_fault f bad =
         ap (side_by_side s.program (tree_within s.program s.levels)) (now_next ∙ ap (λ os. goes_on os (λ os. Ok (before far.so_far os)))
-        (same_fault (events_under s.program (with_name s x v).env o.alphabet.now) (λ alphabet. operand_walked (with_name s x v) alphabet o.net.now (length mid)) _ f bad))
+        (same_fault (events_under s.program (with_name s x v).env o.alphabet.now) (λ alphabet. operand_walked (with_name s x v) alphabet o.net.now (length mid))
+        (λ alphabet tree. goes_on (rest (length mid + length (leaves tree))) (λ os. Ok (operand alphabet tree os))) f bad))
 
     -- the alphabet of the next one, and what follows
     record OneMade (tree : Tree Proc) : Type 0 where
@@ -97,13 +107,14 @@ module _ (s : Place) (x : ℕ) (o : Operand) where
       next : each (v ∷ drop (i + 1) vs) (length mid) ≡ goes_on (rest (length mid + length (leaves tree))) (λ os. Ok (operand alphabet tree os))
 
     one_made : (tree : Tree Proc) → one ≡ Ok tree → OneMade tree
-    unfolding one_operand each one rest
+    unfolding one_operand each
     one_made tree made =
         let at = with_name s x v in
         let found = had (events_under s.program at.env o.alphabet.now) (λ alphabet. operand_walked at alphabet o.net.now (length mid)) tree made in
         record {
           alphabet = found.value;
-          next = rw found.is (first_made at found.value o.net.now (length mid) rest tree found.rest);
+          next = ap (λ os. with_value os (λ alphabet. operand_first s.program (tree_within s.program s.levels) (length mid) alphabet at.env o.net.now rest)) found.is ∙
+              first_made at found.value o.net.now (length mid) rest tree found.rest;
         }
 
     pub each_next : (new : List (Component Proc)) (next all : List ℕ) → IsLaid one mid new next → all ≡ union_of events next → EachSoFar vs (drop (i + 1) vs) old new all

@@ -1,18 +1,22 @@
 -- What the walk has laid out, from what it has laid out below.
-use Rattle.std.proofs.Common.{◌≡◌, ℕ, ◌+◌, ◌-◌, ◌<◌, ◌≤◌, if◌then◌else◌, Ok, Err, List, [], ◌∷◌, ◌++◌, length, ap, sym, ◌∙◌, subst, arith, append_assoc, append-nil}
+use Rattle.std.proofs.Common.{◌≡◌, ℕ, ◌+◌, ◌<◌, if◌then◌else◌, Ok, Err, List, [], ◌∷◌, ◌++◌, length, ap, sym, ◌∙◌, subst, append_assoc, append-nil}
 use Rattle.std.proofs.lemmas.Bool.{lt-ltb}
 use Rattle.std.proofs.lemmas.List.{length-append}
 use Rattle.csp_base.specs.Events.{union_of}
-use Rattle.csp_program.specs.declared.expressions.Expr.{Expr}
 use Rattle.csp_program.specs.declared.networks.Net.{Net}
 use Rattle.csp_program.specs.declared.processes.Proc.{Proc}
 use Rattle.csp_tables.specs.Network.{Component, Tree, Operands, leaves}
 use Rattle.csp_tables.specs.Network.Tree.{leaf, parallel}
 use Rattle.csp_tables.specs.Network.Operands.{none, operand}
 use Rattle.network_trees.specs.Joint.{joint}
-use Rattle.network_trees.specs.NetworkOf.{Walked, events_under, goes_on, operand_first, side_by_side, tree_within, two_operands, with_value}
+use Rattle.network_trees.specs.NetworkOf.{Walked, events_under, goes_on, operand_first, side_by_side, tree_within}
+use Rattle.network_trees.specs.declared.fault.LayoutFault.{LayoutFault}
 use Rattle.network_trees.specs.declared.fault.LayoutFault.TheVariants as fault
-use Rattle.network_layout.specs.Lays.{IsLaid, Place, component, operand_walked, pair_walked, seated}
+use Rattle.csp_base.specs.declared.stop.Stop.{Stop}
+use Rattle.csp_base.specs.declared.stop.Stop.TheVariants as stop
+use Rattle.std.specs.Prelude.{Result}
+use Rattle.std.specs.Result.{IsErrAnd}
+use Rattle.network_layout.specs.Lays.{Fails, IsLaid, Lays, Place, component, operand_walked, node, pair_walked, seated}
 use Rattle.network_layout.specs.declared.walk.Operand.{Operand}
 use Rattle.network_layout.proofs.Together.{joint-append}
 
@@ -29,6 +33,13 @@ component_laid s old new alphabet q events lt grown together =
 -- how far the seats grew
 pub grown_by : (outcome : Walked (Tree Proc)) (old new : List (Component Proc)) (events : List ℕ) (laid : IsLaid outcome old new events) → length new ≡ length old + length (leaves laid.tree)
 grown_by outcome old new events laid = ap length laid.seats ∙ length-append old (leaves laid.tree)
+
+-- a fault of a part is a fault of the whole
+pub passes : (r : Result (List ℕ) (Stop LayoutFault)) (s : Stop LayoutFault) (part : Walked (Tree Proc)) (walk : ℕ → Walked (Tree Proc)) (old new : List (Component Proc))
+    → IsErrAnd r (λ t. t ≡ s) → Fails part s → ((f : LayoutFault) → part ≡ Err f → walk (length old) ≡ Err f) → Lays r walk old new
+passes (Ok events) s part walk old new is fails whole = absurd is
+passes (Err t) stop.NoMemory part walk old new is fails whole = subst (Fails (walk (length old))) (sym is) tt
+passes (Err t) (stop.Told f) part walk old new is fails whole = subst (Fails (walk (length old))) (sym is) (whole f fails)
 
 module _ (s : Place) (alphabet : List ℕ) (n : Net) where
   pub first_made : (k : ℕ) (others : ℕ → Walked (Operands Proc)) (tree : Tree Proc) → operand_walked s alphabet n k ≡ Ok tree

@@ -1,5 +1,5 @@
 -- Events in one, two and three alphabets, and the components that have the first event in three.
-use Rattle.std.proofs.Common.{◌≡◌, ℕ, ◌+◌, ◌<◌, ◌≤◌, Bool, true, false, ◌||◌, ◌&&◌, if◌then◌else◌, Some, None, List, [], ◌∷◌, ◌++◌, length, take, drop, get_or, refl, ap, ap₂, sym, ◌∙◌, subst, arith, append_assoc}
+use Rattle.std.proofs.Common.{◌≡◌, ℕ, ◌+◌, ◌<◌, ◌≤◌, Bool, true, false, ◌||◌, ◌&&◌, if◌then◌else◌, Some, None, List, [], ◌∷◌, ◌++◌, length, take, drop, get_or, refl, ap, sym, ◌∙◌, subst, arith, append_assoc}
 use Rattle.std.specs.Prelude.{nat_le}
 use Rattle.std.specs.List.{find}
 use Rattle.std.specs.List.Sorted.{IsStrictlyIncreasing}
@@ -14,7 +14,6 @@ use Rattle.csp_tables.specs.Network.{Component}
 use Rattle.csp_tables.specs.Part.{TripleDisjoint, sharers}
 use Rattle.network_layout.specs.Triple.{AreCrowded, AreIn, IsCounted, SharesEvent, alphabets, holders}
 use Rattle.network_layout.specs.declared.triple.Counted.{Counted}
-use Rattle.network_layout.specs.declared.triple.TripleFault.{TripleFault}
 
 -- ---- one alphabet more
 
@@ -94,8 +93,8 @@ module _ (rows : List (List ℕ)) (crowded : List ℕ) (are : AreCrowded rows cr
     shared i j k are_first = record { least = λ d lt. few d (first.least d lt); first = are_first }
 
 -- the first three of a list
-pub first_three : (xs : List ℕ) (a b c : ℕ) → 3 ≤ length xs → get_or xs 0 a ≡ a → get_or xs 1 b ≡ b → get_or xs 2 c ≡ c → take 3 xs ≡ a ∷ b ∷ c ∷ []
-first_three (x ∷ y ∷ z ∷ xs) a b c many first second third = cc
-first_three (x ∷ y ∷ []) a b c many first second third = absurd (omega arith)
-first_three (x ∷ []) a b c many first second third = absurd (omega arith)
-first_three [] a b c many first second third = absurd (omega arith)
+pub first_three : (xs : List ℕ) → 3 ≤ length xs → take 3 xs ≡ get_or xs 0 0 ∷ get_or xs 1 0 ∷ get_or xs 2 0 ∷ []
+first_three (x ∷ y ∷ z ∷ xs) many = refl
+first_three (x ∷ y ∷ []) many = absurd (omega arith)
+first_three (x ∷ []) many = absurd (omega arith)
+first_three [] many = absurd (omega arith)

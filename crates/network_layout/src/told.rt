@@ -1,7 +1,8 @@
 //! The sets that a program tells of its components.
 
-ghost use Rattle.std.specs.Prelude.{◌≡◌, [], false, IfErr, IfOk, Ok, Some};
+ghost use Rattle.std.specs.Prelude.{◌≡◌, [], false, IfErr, IfOk, Ok, Some, ◌≤◌, length};
 ghost use Rattle.std.specs.Option.{option_copied};
+ghost use Rattle.dl_limits.specs.declared.TheConstants.{MOST_COMPONENTS};
 ghost use Rattle.csp_base.specs.Stops.{Tells};
 ghost use Rattle.csp_program.specs.Outcome.{Outcome};
 ghost use Rattle.csp_program.specs.declared.processes.Proc.{Proc};
@@ -169,13 +170,14 @@ fn untold(fault: EvalFault, part: u32) -> Stop<NotedFault>
 fn all_noted<T: Noted>(
     alloc: Global,
     program: &Program,
-    layout: &Layout,
+    seats: &[Seat],
 ) -> Result<Items<T>, Stop<NotedFault>>
-    ensures told { IfOk result (λ told. all_outcomes (T.told program.now) layout.now ≡ Ok told) }
-    ensures fault { IfErr result (Tells (IsUntold (T.told program.now) layout.now)) }
+    requires { length seats.now ≤ MOST_COMPONENTS }
+    ensures told { IfOk result (λ told. all_outcomes (T.told program.now) seats.now ≡ Ok told) }
+    ensures fault { IfErr result (Tells (IsUntold (T.told program.now) seats.now)) }
 {
     let mut made = Items::new(alloc);
-    for (part, seat) in layout.seats().iter().enumerate() {
+    for (part, seat) in seats.iter().enumerate() {
         match T::of_seat(alloc, program, seat) {
             Ok(sets) => made.push(sets)?,
             Err(fault) => return Err(untold(fault, part as u32)),
@@ -194,7 +196,7 @@ pub fn roles_of(
     ensures told { IfOk result (λ told. all_outcomes (component_roles program.now) layout.now ≡ Ok told) }
     ensures fault { IfErr result (Tells (IsUntold (component_roles program.now) layout.now)) }
 {
-    all_noted(alloc, program, layout)
+    all_noted(alloc, program, layout.seats())
 }
 
 /// How the components are used as resources, by what a program tells of them. Faults are those of `roles_of`.
@@ -206,5 +208,5 @@ pub fn uses_of(
     ensures told { IfOk result (λ told. all_outcomes (component_uses program.now) layout.now ≡ Ok told) }
     ensures fault { IfErr result (Tells (IsUntold (component_uses program.now) layout.now)) }
 {
-    all_noted(alloc, program, layout)
+    all_noted(alloc, program, layout.seats())
 }

@@ -45,10 +45,13 @@ fn count(alloc: Global, counted: &Counted, alphabet: &EventSet) -> Result<Counte
 {
     let again = counted.once.inter(alloc, alphabet)?;
     let more = counted.twice.inter(alloc, alphabet)?;
+    let once = counted.once.union(alloc, alphabet)?;
+    let twice = counted.twice.union(alloc, &again)?;
+    let thrice = counted.thrice.union(alloc, &more)?;
     Ok(Counted {
-        once: counted.once.union(alloc, alphabet)?,
-        twice: counted.twice.union(alloc, &again)?,
-        thrice: counted.thrice.union(alloc, &more)?,
+        once,
+        twice,
+        thrice,
     })
 }
 
@@ -90,7 +93,7 @@ pub fn triple_disjoint(alloc: Global, layout: &Layout) -> Result<(), Stop<Triple
         return Ok(());
     };
     let holders = holders(alloc, seats, event)?;
-    let parts = holders.as_slice();
-    let parts = (parts[0], parts[1], parts[2]);
+    let found = holders.as_slice();
+    let parts = (found[0], found[1], found[2]);
     Err(Stop::Told(TripleFault { event, parts }))
 }

@@ -202,7 +202,7 @@ fn walk_operand(scope: &Scope<'_>, net: &Net, alphabet: &EventSet, seats: &mut L
 
 // Two operands.
 #[cycle(walk)]
-#[tactic(auto, unfolding(crate::specs::Lays::node, crate::specs::Lays::two))]
+#[tactic(auto, unfolding(crate::specs::Lays::node, crate::specs::Lays::operand_walked))]
 fn walk_pair(scope: &Scope<'_>, left: &Operand<'_>, right: &Operand<'_>, seats: &mut Layout) -> Laid
     ensures { Lays result (pair_walked (place_of scope.now) left.now right.now) seats.old seats.new }
 {

@@ -3,7 +3,7 @@
 ghost use Rattle.std.specs.Prelude.{◌≡◌, ◌++◌, ◌+◌, ◌<◌, ◌∷◌, [], IfOk, OnOk, codes};
 ghost use Rattle.csp_base.specs.Standard.{flat_map, decimal, signed_decimal};
 ghost use Rattle.report.specs.Lines.{events_text, more_events_text, numbers_text, set_text, trace_text};
-ghost use Rattle.report.specs.Parts.{part_text, parts_text};
+ghost use Rattle.report.specs.Parts.{part_text, parts_text, value_text, words_text};
 ghost use Rattle.report.specs.EventText.{event_text};
 ghost use Rattle.csp_base.specs.Texts.{line};
 
@@ -12,25 +12,25 @@ use csp_base::{Bytes, Event, EventSet, Members, NoMemory};
 use csp_program::Content;
 use std::alloc::Global;
 
-// A part of a line.
+// A part of a line: words, and what stands after them.
 #[derive(Clone, Copy)]
 pub(crate) enum Part<'a> {
-    // A text.
+    // Nothing.
     Text(&'a [u8]),
     // A number.
-    Number(u32),
+    Number(&'a [u8], u32),
     // A number that may be larger.
-    Count(u64),
+    Count(&'a [u8], u64),
     // A number, with its sign where it is below 0.
-    Signed(i64),
+    Signed(&'a [u8], i64),
     // Numbers, with a blank before each.
-    Numbers(&'a [u32]),
+    Numbers(&'a [u8], &'a [u32]),
     // An event of a program.
-    Event(&'a Content, Event),
+    Event(&'a [u8], &'a Content, Event),
     // Events of a program in their order.
-    Trace(&'a Content, &'a [Event]),
+    Trace(&'a [u8], &'a Content, &'a [Event]),
     // A set of events of a program.
-    Set(&'a Content, &'a EventSet),
+    Set(&'a [u8], &'a Content, &'a EventSet),
 }
 
 // Adds a digit.
@@ -151,20 +151,44 @@ fn push_set(report: &mut Bytes, content: &Content, set: &EventSet) -> Result<(),
     report.push(b'}')
 }
 
+// Adds what stands after the words of a part.
+fn push_value(report: &mut Bytes, part: &Part<'_>) -> Result<(), NoMemory>
+    ensures { OnOk result (report.new ≡ report.old ++ value_text part.now) }
+{
+    match part {
+        Part::Text(_) => Ok(()),
+        Part::Number(_, number) => push_number(report, u64::from(*number)),
+        Part::Count(_, count) => push_number(report, *count),
+        Part::Signed(_, number) => push_signed(report, *number),
+        Part::Numbers(_, numbers) => push_numbers(report, numbers),
+        Part::Event(_, content, event) => push_event(report, content, *event),
+        Part::Trace(_, content, events) => push_trace(report, content, events),
+        Part::Set(_, content, set) => push_set(report, content, set),
+    }
+}
+
+// The words of a part.
+fn words<'a>(part: &Part<'a>) -> &'a [u8]
+    ensures { result.now ≡ words_text part.now }
+{
+    match part {
+        Part::Text(words)
+        | Part::Number(words, _)
+        | Part::Count(words, _)
+        | Part::Signed(words, _)
+        | Part::Numbers(words, _)
+        | Part::Event(words, _, _)
+        | Part::Trace(words, _, _)
+        | Part::Set(words, _, _) => words,
+    }
+}
+
 // Adds a part.
 fn push_part(report: &mut Bytes, part: &Part<'_>) -> Result<(), NoMemory>
     ensures { OnOk result (report.new ≡ report.old ++ part_text part.now) }
 {
-    match part {
-        Part::Text(text) => report.extend_from_slice(text),
-        Part::Number(number) => push_number(report, u64::from(*number)),
-        Part::Count(count) => push_number(report, *count),
-        Part::Signed(number) => push_signed(report, *number),
-        Part::Numbers(numbers) => push_numbers(report, numbers),
-        Part::Event(content, event) => push_event(report, content, *event),
-        Part::Trace(content, events) => push_trace(report, content, events),
-        Part::Set(content, set) => push_set(report, content, set),
-    }
+    report.extend_from_slice(words(part))?;
+    push_value(report, part)
 }
 
 // Adds parts, one after another.
@@ -193,18 +217,11 @@ pub(crate) fn push_line(report: &mut Bytes, parts: &[Part<'_>]) -> Result<(), No
     report.push(b'\n')
 }
 
-// Adds a text with a number after it.
-pub(crate) fn push_numbered(report: &mut Bytes, text: &[u8], number: u32) -> Result<(), NoMemory>
-    ensures { OnOk result (report.new ≡ report.old ++ (text.now ++ decimal number)) }
-{
-    push_text(report, &[Part::Text(text), Part::Number(number)])
-}
-
 // Adds the line of a text with a number after it.
 pub(crate) fn push_count(report: &mut Bytes, text: &[u8], count: u64) -> Result<(), NoMemory>
     ensures { OnOk result (report.new ≡ report.old ++ line (text.now ++ decimal count)) }
 {
-    push_line(report, &[Part::Text(text), Part::Count(count)])
+    push_line(report, &[Part::Count(text, count)])
 }
 
 // The line of these parts.

@@ -6,7 +6,7 @@ ghost use Rattle.report.specs.Sides.{side_line, side_name};
 ghost use Rattle.report.specs.Report.{rule_text};
 
 use crate::answer::{Side, Site};
-use crate::lines::push_numbered;
+use crate::lines::{Part, push_text};
 use csp_base::{Bytes, NoMemory};
 use csp_program::ValueKind;
 use csp_tables::Rule;
@@ -62,8 +62,11 @@ pub(crate) fn push_site(report: &mut Bytes, site: Site) -> Result<(), NoMemory>
 {
     match site {
         Site::Network => report.extend_from_slice(b" in the network"),
-        Site::Component(i) => push_numbered(report, b" in component ", i),
-        Site::Annotation(i) => push_numbered(report, b" in the annotation of component ", i),
+        Site::Component(i) => push_text(report, &[Part::Number(b" in component ", i)]),
+        Site::Annotation(i) => push_text(
+            report,
+            &[Part::Number(b" in the annotation of component ", i)],
+        ),
         Site::HiddenSet => report.extend_from_slice(b" in the hidden set"),
     }
 }

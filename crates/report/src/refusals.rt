@@ -8,7 +8,7 @@ ghost use Rattle.report.specs.Sides.{side_line};
 ghost use Rattle.report.specs.Report.{refused_text};
 
 use crate::answer::{Refusal, Side, Site, TextFault};
-use crate::lines::{Part, one_line, push_numbered, push_text};
+use crate::lines::{Part, one_line, push_text};
 use crate::printed::{kind_name, push_site, side_line, side_name};
 use csp_base::{Bytes, Event, NoMemory};
 use csp_program::{Content, ValueKind};
@@ -41,12 +41,9 @@ fn push_differing(
     push_text(
         report,
         &[
-            Part::Text(b"14 components "),
-            Part::Number(first),
-            Part::Text(b" to "),
-            Part::Count(last),
-            Part::Text(b" differ from their alphabet at "),
-            Part::Event(content, event),
+            Part::Number(b"14 components ", first),
+            Part::Count(b" to ", last),
+            Part::Event(b" differ from their alphabet at ", content, event),
         ],
     )
 }
@@ -65,34 +62,12 @@ fn push_nesting(
         return push_text(
             report,
             &[
-                Part::Text(b"14 an empty operand has "),
-                Part::Event(content, event),
+                Part::Event(b"14 an empty operand has ", content, event),
                 Part::Text(b" in its alphabet"),
             ],
         );
     }
     push_differing(report, content, first, count - 1, event)
-}
-
-// Adds a name that is at fault in a declaration.
-fn push_name<'a>(
-    report: &mut Bytes,
-    before: &'a [u8],
-    name: &'a [u8],
-    after: &'a [u8],
-    inside: u32,
-) -> Result<(), NoMemory>
-    ensures { OnOk result (report.new ≡ report.old ++ (before.now ++ name.now ++ after.now ++ decimal inside)) }
-{
-    push_text(
-        report,
-        &[
-            Part::Text(before),
-            Part::Text(name),
-            Part::Text(after),
-            Part::Number(inside),
-        ],
-    )
 }
 
 // Adds why a script has no program.
@@ -101,93 +76,59 @@ fn push_program_fault(report: &mut Bytes, fault: &ResolveFault) -> Result<(), No
 {
     match fault {
         ResolveFault::NoAssert => report.extend_from_slice(b"3 no deadlock assertion"),
-        ResolveFault::Unknown { inside, name } => push_name(
+        ResolveFault::Unknown { inside, name } => push_text(
             report,
-            b"4 unknown name ",
-            name.as_slice(),
-            b" in declaration ",
-            *inside,
+            &[
+                Part::Text(b"4 unknown name "),
+                Part::Text(name.as_slice()),
+                Part::Number(b" in declaration ", *inside),
+            ],
         ),
-        ResolveFault::Twice { inside, name } => push_name(
+        ResolveFault::Twice { inside, name } => push_text(
             report,
-            b"5 name ",
-            name.as_slice(),
-            b" is declared twice in declaration ",
-            *inside,
+            &[
+                Part::Text(b"5 name "),
+                Part::Text(name.as_slice()),
+                Part::Number(b" is declared twice in declaration ", *inside),
+            ],
         ),
         ResolveFault::WrongKind { inside } => {
-            push_numbered(report, b"6 wrong kind in declaration ", *inside)
+            push_text(
+                report,
+                &[Part::Number(b"6 wrong kind in declaration ", *inside)],
+            )
         }
-        ResolveFault::WrongCount { inside, name } => push_name(
+        ResolveFault::WrongCount { inside, name } => push_text(
             report,
-            b"7 wrong count for ",
-            name.as_slice(),
-            b" in declaration ",
-            *inside,
+            &[
+                Part::Text(b"7 wrong count for "),
+                Part::Text(name.as_slice()),
+                Part::Number(b" in declaration ", *inside),
+            ],
         ),
-        ResolveFault::ParallelInside { inside } => push_numbered(
+        ResolveFault::ParallelInside { inside } => push_text(
             report,
-            b"8 parallel inside a component in declaration ",
-            *inside,
+            &[Part::Number(b"8 parallel inside a component in declaration ", *inside)],
         ),
         ResolveFault::EventLimit { count } => push_text(
             report,
-            &[
-                Part::Text(b"9 there are "),
-                Part::Count(*count),
-                Part::Text(b" events"),
-            ],
+            &[Part::Count(b"9 there are ", *count), Part::Text(b" events")],
         ),
         ResolveFault::DataDepth { inside } => {
-            push_numbered(report, b"33 data too deep in declaration ", *inside)
+            push_text(
+                report,
+                &[Part::Number(b"33 data too deep in declaration ", *inside)],
+            )
         }
         ResolveFault::Value { inside, kind } => push_text(
             report,
             &[
                 Part::Text(b"2 value fault "),
                 Part::Text(kind_name(*kind)),
-                Part::Text(b" in declaration "),
-                Part::Number(*inside),
+                Part::Number(b" in declaration ", *inside),
             ],
         ),
     }
-}
-
-// Adds a number between two texts.
-fn push_between<'a>(
-    report: &mut Bytes,
-    before: &'a [u8],
-    number: u32,
-    after: &'a [u8],
-) -> Result<(), NoMemory>
-    ensures { OnOk result (report.new ≡ report.old ++ (before.now ++ decimal number ++ after.now)) }
-{
-    push_text(
-        report,
-        &[Part::Text(before), Part::Number(number), Part::Text(after)],
-    )
-}
-
-// Adds, between two texts, that a component has more than so many.
-fn push_many<'a>(
-    report: &mut Bytes,
-    before: &'a [u8],
-    i: u32,
-    most: usize,
-    after: &'a [u8],
-) -> Result<(), NoMemory>
-    ensures { OnOk result (report.new ≡ report.old ++ (before.now ++ decimal i ++ codes " has more than " ++ decimal most ++ after.now)) }
-{
-    push_text(
-        report,
-        &[
-            Part::Text(before),
-            Part::Number(i),
-            Part::Text(b" has more than "),
-            Part::Count(most as u64),
-            Part::Text(after),
-        ],
-    )
 }
 
 // Adds why a component has no normal table.
@@ -201,38 +142,58 @@ fn push_component_fault<'a>(
 {
     match fault {
         ComponentFault::Value { kind } => push_value(report, *kind, Site::Component(i)),
-        ComponentFault::TermCount => push_many(report, b"10 component ", i, MOST_TERMS, b" terms"),
+        ComponentFault::TermCount => push_text(
+            report,
+            &[
+                Part::Number(b"10 component ", i),
+                Part::Count(b" has more than ", MOST_TERMS as u64),
+                Part::Text(b" terms"),
+            ],
+        ),
         ComponentFault::TermDepth => push_text(
             report,
             &[
-                Part::Text(b"10 component "),
-                Part::Number(i),
-                Part::Text(b" has a term of depth over "),
-                Part::Number(MOST_TERM_DEPTH),
+                Part::Number(b"10 component ", i),
+                Part::Number(b" has a term of depth over ", MOST_TERM_DEPTH),
             ],
         ),
         ComponentFault::TermTotal => {
-            push_between(
+            push_text(
                 report,
-                b"10 component ",
-                i,
-                b" has terms that are too large",
+                &[
+                    Part::Number(b"10 component ", i),
+                    Part::Text(b" has terms that are too large"),
+                ],
             )
         }
         ComponentFault::StepCount => {
-            push_between(report, b"11 component ", i, b" has too many steps")
+            push_text(
+                report,
+                &[
+                    Part::Number(b"11 component ", i),
+                    Part::Text(b" has too many steps"),
+                ],
+            )
         }
-        ComponentFault::Diverges => push_between(report, b"12 component ", i, b" diverges"),
+        ComponentFault::Diverges => push_text(
+            report,
+            &[Part::Number(b"12 component ", i), Part::Text(b" diverges")],
+        ),
         ComponentFault::SubsetLimit => {
-            push_many(report, b"13 component ", i, MOST_SETS, b" sets of terms")
+            push_text(
+                report,
+                &[
+                    Part::Number(b"13 component ", i),
+                    Part::Count(b" has more than ", MOST_SETS as u64),
+                    Part::Text(b" sets of terms"),
+                ],
+            )
         }
         ComponentFault::Terminates { trace } => push_text(
             report,
             &[
-                Part::Text(b"19 component "),
-                Part::Number(i),
-                Part::Text(b" can terminate after "),
-                Part::Trace(content, trace.as_slice()),
+                Part::Number(b"19 component ", i),
+                Part::Trace(b" can terminate after ", content, trace.as_slice()),
             ],
         ),
     }
@@ -257,16 +218,14 @@ fn push_network_fault(
         LayoutFault::ComponentLimit => push_text(
             report,
             &[
-                Part::Text(b"16 more than "),
-                Part::Count(MOST_COMPONENTS as u64),
+                Part::Count(b"16 more than ", MOST_COMPONENTS as u64),
                 Part::Text(b" components"),
             ],
         ),
         LayoutFault::NetworkDepth => {
-            push_numbered(
+            push_text(
                 report,
-                b"34 the network is nested deeper than ",
-                MOST_NETWORK_DEPTH,
+                &[Part::Number(b"34 the network is nested deeper than ", MOST_NETWORK_DEPTH)],
             )
         }
     }
@@ -288,10 +247,8 @@ fn push_text_fault(report: &mut Bytes, side: Side, fault: &TextFault) -> Result<
         TextFault::NoScript { at } => push_text(
             report,
             &[
-                Part::Text(b"1 no script near line "),
-                Part::Number(at.line),
-                Part::Text(b" column "),
-                Part::Number(at.column),
+                Part::Number(b"1 no script near line ", at.line),
+                Part::Number(b" column ", at.column),
             ],
         ),
         TextFault::Unresolved(fault) => push_program_fault(report, fault),
@@ -309,19 +266,30 @@ fn push_refusal(report: &mut Bytes, content: &Content, refusal: &Refusal) -> Res
             push_component_fault(report, content, *component, fault)
         }
         Refusal::NoComponent { count } => {
-            push_between(report, b"35 there are ", *count, b" components")
+            push_text(
+                report,
+                &[
+                    Part::Number(b"35 there are ", *count),
+                    Part::Text(b" components"),
+                ],
+            )
         }
         Refusal::DifferentEvents { number } => {
-            push_numbered(report, b"41 the events differ at number ", *number)
+            push_text(
+                report,
+                &[Part::Number(b"41 the events differ at number ", *number)],
+            )
         }
         Refusal::DifferentComponents { component } => {
-            push_numbered(report, b"42 components differ at ", *component)
+            push_text(
+                report,
+                &[Part::Number(b"42 components differ at ", *component)],
+            )
         }
         Refusal::NoSet => report.extend_from_slice(b"37 no such set"),
-        Refusal::BoundLimit { component } => push_numbered(
+        Refusal::BoundLimit { component } => push_text(
             report,
-            b"38 hidden bound passes 64 bits at component ",
-            *component,
+            &[Part::Number(b"38 hidden bound passes 64 bits at component ", *component)],
         ),
     }
 }

@@ -19,12 +19,11 @@ fn push_move(report: &mut Bytes, content: &Content, step: &Move) -> Result<(), N
         Move::Silent(component) => push_line(
             report,
             &[
-                Part::Text(b"component "),
-                Part::Number(*component),
+                Part::Number(b"component ", *component),
                 Part::Text(b" silent"),
             ],
         ),
-        Move::Event(event) => push_line(report, &[Part::Event(content, *event)]),
+        Move::Event(event) => push_line(report, &[Part::Event(b"", content, *event)]),
     }
 }
 
@@ -44,11 +43,7 @@ fn head(alloc: Global, count: usize) -> Result<Bytes, NoMemory>
 {
     let made = written_line(
         alloc,
-        &[
-            Part::Text(b"run of "),
-            Part::Count(count as u64),
-            Part::Text(b" steps"),
-        ],
+        &[Part::Count(b"run of ", count as u64), Part::Text(b" steps")],
     )?;
     Ok(made)
 }

@@ -17,12 +17,7 @@ fn push_link(report: &mut Bytes, link: &(u32, u32)) -> Result<(), NoMemory>
 {
     push_line(
         report,
-        &[
-            Part::Text(b"link "),
-            Part::Number(link.0),
-            Part::Text(b" "),
-            Part::Number(link.1),
-        ],
+        &[Part::Number(b"link ", link.0), Part::Number(b" ", link.1)],
     )
 }
 
@@ -53,10 +48,8 @@ fn push_open_link(report: &mut Bytes, left: u32, right: u32) -> Result<(), NoMem
     push_line(
         report,
         &[
-            Part::Text(b"25 link "),
-            Part::Number(left),
-            Part::Text(b" "),
-            Part::Number(right),
+            Part::Number(b"25 link ", left),
+            Part::Number(b" ", right),
             Part::Text(b" has no full end"),
         ],
     )
@@ -74,10 +67,8 @@ fn push_end<'a>(
     push_line(
         report,
         &[
-            Part::Text(b"component "),
-            Part::Number(component),
-            Part::Text(b" after "),
-            Part::Trace(content, trace),
+            Part::Number(b"component ", component),
+            Part::Trace(b" after ", content, trace),
         ],
     )
 }
@@ -125,12 +116,9 @@ fn push_broken_rule<'a>(
         RuleFault::NoOrder { part, trace, event } => push_line(
             report,
             &[
-                Part::Text(b"23 component "),
-                Part::Number(*part),
-                Part::Text(b" breaks C1 after "),
-                Part::Trace(content, trace.as_slice()),
-                Part::Text(b" by "),
-                Part::Event(content, *event),
+                Part::Number(b"23 component ", *part),
+                Part::Trace(b" breaks C1 after ", content, trace.as_slice()),
+                Part::Event(b" by ", content, *event),
             ],
         ),
         RuleFault::LinksCircle { links } => push_circle(report, links.as_slice()),
@@ -152,27 +140,19 @@ fn push_broken_rule<'a>(
             report,
             &[
                 Part::Text(condition_number(*condition)),
-                Part::Text(b" component "),
-                Part::Number(*part),
+                Part::Number(b" component ", *part),
                 Part::Text(b" breaks "),
                 Part::Text(condition_name(*condition)),
-                Part::Text(b" after "),
-                Part::Trace(content, trace.as_slice()),
+                Part::Trace(b" after ", content, trace.as_slice()),
             ],
         ),
         RuleFault::ClientsCircle { clients } => push_line(
             report,
-            &[
-                Part::Text(b"27 clients in a circle"),
-                Part::Numbers(clients.as_slice()),
-            ],
+            &[Part::Numbers(b"27 clients in a circle", clients.as_slice())],
         ),
         RuleFault::ResourcesCircle { resources } => push_line(
             report,
-            &[
-                Part::Text(b"29 resources in a circle"),
-                Part::Numbers(resources.as_slice()),
-            ],
+            &[Part::Numbers(b"29 resources in a circle", resources.as_slice())],
         ),
     }
 }
@@ -189,51 +169,38 @@ pub(crate) fn push_shortfall<'a>(
         Shortfall::NotTripleDisjoint { event, components } => push_line(
             report,
             &[
-                Part::Text(b"20 event "),
-                Part::Event(content, *event),
-                Part::Text(b" is in alphabets "),
-                Part::Number(components.0),
-                Part::Text(b" "),
-                Part::Number(components.1),
-                Part::Text(b" "),
-                Part::Number(components.2),
+                Part::Event(b"20 event ", content, *event),
+                Part::Number(b" is in alphabets ", components.0),
+                Part::Number(b" ", components.1),
+                Part::Number(b" ", components.2),
             ],
         ),
         Shortfall::Stops { component, trace } => push_line(
             report,
             &[
-                Part::Text(b"21 component "),
-                Part::Number(*component),
-                Part::Text(b" can stop after "),
-                Part::Trace(content, trace.as_slice()),
+                Part::Number(b"21 component ", *component),
+                Part::Trace(b" can stop after ", content, trace.as_slice()),
             ],
         ),
         Shortfall::Breaks(fault) => push_broken_rule(report, content, fault),
         Shortfall::Outside { component, trace } => push_line(
             report,
             &[
-                Part::Text(b"43 component "),
-                Part::Number(*component),
-                Part::Text(b" does "),
-                Part::Trace(content, trace.as_slice()),
+                Part::Number(b"43 component ", *component),
+                Part::Trace(b" does ", content, trace.as_slice()),
                 Part::Text(b" outside its specification"),
             ],
         ),
         Shortfall::Refuses { component, trace } => push_line(
             report,
             &[
-                Part::Text(b"44 component "),
-                Part::Number(*component),
-                Part::Text(b" refuses too much after "),
-                Part::Trace(content, trace.as_slice()),
+                Part::Number(b"44 component ", *component),
+                Part::Trace(b" refuses too much after ", content, trace.as_slice()),
             ],
         ),
         Shortfall::NoOrder { components } => push_line(
             report,
-            &[
-                Part::Text(b"39 no order for components"),
-                Part::Numbers(components.as_slice()),
-            ],
+            &[Part::Numbers(b"39 no order for components", components.as_slice())],
         ),
     }
 }

@@ -23,11 +23,9 @@ fn push_step(
     push_line(
         report,
         &[
-            Part::Count(node),
-            Part::Text(b" "),
-            Part::Event(content, step.0),
-            Part::Text(b" -> "),
-            Part::Number(step.1),
+            Part::Count(b"", node),
+            Part::Event(b" ", content, step.0),
+            Part::Number(b" -> ", step.1),
         ],
     )
 }
@@ -44,9 +42,8 @@ fn push_offer<'a>(
     push_line(
         report,
         &[
-            Part::Count(node),
-            Part::Text(b" accepts "),
-            Part::Set(content, set),
+            Part::Count(b"", node),
+            Part::Set(b" accepts ", content, set),
         ],
     )
 }
@@ -112,10 +109,8 @@ fn head(alloc: Global, component: u32, count: u32, nodes: usize) -> Result<Bytes
     let mut made = written_line(
         alloc,
         &[
-            Part::Text(b"component "),
-            Part::Number(component),
-            Part::Text(b" of "),
-            Part::Number(count),
+            Part::Number(b"component ", component),
+            Part::Number(b" of ", count),
         ],
     )?;
     push_count(&mut made, b"nodes ", nodes as u64)?;

@@ -36,10 +36,7 @@ fn deadlock_free(
     push_count(&mut made, b"components ", u64::from(components))?;
     push_count(&mut made, b"nodes ", u64::from(nodes))?;
     push_count(&mut made, b"silent bound ", u64::from(bound))?;
-    push_line(
-        &mut made,
-        &[Part::Text(b"greatest rank "), Part::Signed(greatest_rank)],
-    )?;
+    push_line(&mut made, &[Part::Signed(b"greatest rank ", greatest_rank)])?;
     Ok(made)
 }
 

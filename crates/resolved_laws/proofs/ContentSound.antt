@@ -6,25 +6,18 @@ use Rattle.csp_base.proofs.Booleans.{is_or_first, is_or_second}
 use Rattle.csp_base.specs.Prelude.{EachOnce, has}
 use Rattle.csp_program.proofs.Forms.{Every}
 use Rattle.csp_program.specs.Prelude.{body_bound, def_bound, exprs_bound, Names, IsClosed, any_of, expr_free, AllClosed, IsClosedBody, body_free, body_in_order, def_in_order, expr_in_order, is_component, is_datum, is_process, note_fits, param_count, resource_in_order, roles_in_order, set_fits, takes, all_true, body_uses}
-use Rattle.csp_program.specs.declared.expressions.Expr.{Expr}
-use Rattle.csp_program.specs.declared.programs.Body.{Body}
-use Rattle.csp_program.specs.declared.programs.Channel.{Channel}
-use Rattle.csp_program.specs.declared.programs.Content.{Content}
-use Rattle.csp_program.specs.declared.programs.Def.{Def}
 use Rattle.csp_program.specs.InOrder as order
-use Rattle.csp_atoms.specs.declared.atom.Atom.{Atom}
 use Rattle.csp_program.specs.declared.programs.Body.TheVariants as body
-use Rattle.csp_text.specs.declared.script.Decl.{Decl}
 use Rattle.script_names.specs.declared.kinds.Class.TheVariants as class
 use Rattle.script_names.specs.declared.kinds.Entity.TheVariants as entity
 use Rattle.script_names.specs.Prelude.{IsShallow, Declares, IsAnnotated, IsEventSet, channels_of_types, Counts, Meanings, Name, numbers_from, parameters}
-use Rattle.script_names.specs.declared.kinds.Kind.{Kind}
 use Rattle.script_names.specs.Declaring as d
+use Rattle.resolved_laws.proofs.Sources.{Atom, Body, Channel, Content, Decl, Def, Expr, Kind}
 use Rattle.resolved_laws.proofs.Booleans.{and, two}
 use Rattle.resolved_laws.proofs.Declared.{Fits}
 use Rattle.resolved_laws.proofs.InTurn.{InTurn, Rises, each_once, joins, none}
 use Rattle.resolved_laws.proofs.TypedExprs.{expr_sound, exprs_sound}
-use Rattle.resolved_laws.proofs.TypedProcs.{NetSound, leaf_sound, net_sound, proc_sound, stop_sound}
+use Rattle.resolved_laws.proofs.TypedProcs.{NetSound, net_sound, proc_sound, stop_sound}
 use Rattle.resolved_laws.proofs.Within.{IsWithin, numbers_of}
 
 pub nothing_free : (free : Names) → IsWithin free [] → IsClosed free
@@ -126,6 +119,11 @@ module _ (m : Meanings) (ks : List Kind) (p whole : Content) (fits : Fits m ks p
     pub last : ℕ
     pub root : NetSound m ks p fits [] 0 q.root last
 
+  -- with one definition more in front
+  with_def : {n next : Counts} {q : Content} {def : Def} → DefSound n.definitions def × DefsSound (n.definitions + 1) q.defs → Sound next q
+      → Sound n (record q { defs = def ∷ q.defs })
+  with_def w v = record { channels = v.channels; defs = w; roles = v.roles; resources = v.resources; last = v.last; root = v.root }
+
   channels_sound : (xs : List Name) (es : List Expr) (rest : List Channel) → ChannelSound (record { name = []; types = es; fields = None; first = 0 })
       → Every ChannelSound rest → Every ChannelSound (channels_of_types xs es ++ rest)
   channels_sound [] es rest h g = g
@@ -133,7 +131,7 @@ module _ (m : Meanings) (ks : List Kind) (p whole : Content) (fits : Fits m ks p
 
   pub content_sound : {HasSets : List Expr → List (List Atom) → Type 0} {n : Counts} {decls : List Decl} {q : Content} {all : List (List (List Atom))}
       → Declares m ks whole HasSets n decls q all → n.constants + length q.consts ≡ length p.consts → Sound n q
-  content_sound d.nothing h = record { channels = tt; defs = tt; roles = refl; resources = refl; last = 0; root = leaf_sound m ks p fits (stop_sound m ks p fits) }
+  content_sound d.nothing h = record { channels = tt; defs = tt; roles = refl; resources = refl; last = 0; root = stop_sound m ks p fits }
   content_sound (d.channels {xs = xs} {es = es} {p = q} g found l) h =
       let w = exprs_sound m ks p fits g in let v = content_sound l h in record {
         channels = channels_sound xs es q.channels (record { order = w.order; closed = all_closed es w.free; once = each_once w.turn }) v.channels;
@@ -163,41 +161,17 @@ module _ (m : Meanings) (ks : List Kind) (p whole : Content) (fits : Fits m ks p
         root = v.root;
       }
   content_sound {n} (d.nametype {m = k} {x = x} {e = e} g s l) h =
-      let w = expr_sound m ks p fits g in let v = content_sound l h in record {
-        channels = v.channels;
-        defs = (def_sound n.definitions x [] (body.Nametype e) k (and refl w.order) w.free w.turn (λ j t. s), v.defs);
-        roles = v.roles;
-        resources = v.resources;
-        last = v.last;
-        root = v.root;
-      }
+      let w = expr_sound m ks p fits g in let v = content_sound l h in
+      with_def (def_sound n.definitions x [] (body.Nametype e) k (and refl w.order) w.free w.turn (λ j t. s), v.defs) v
   content_sound {n} (d.data_definition {m = k} {x = x} {params = xs} {e = e} ps is g s l) h =
-      let w = expr_sound m ks p fits g in let v = content_sound l h in record {
-        channels = v.channels;
-        defs = (def_sound n.definitions x xs (body.Datum e) k w.order w.free w.turn (λ j t. s), v.defs);
-        roles = v.roles;
-        resources = v.resources;
-        last = v.last;
-        root = v.root;
-      }
+      let w = expr_sound m ks p fits g in let v = content_sound l h in
+      with_def (def_sound n.definitions x xs (body.Datum e) k w.order w.free w.turn (λ j t. s), v.defs) v
   content_sound {n} (d.process_definition {m = k} {x = x} {params = xs} {q = r} ps is g l) h =
-      let w = proc_sound m ks p fits g in let v = content_sound l h in record {
-        channels = v.channels;
-        defs = (def_sound n.definitions x xs (body.Process r) k w.order w.free w.turn (λ j t. absurd (false≢true t)), v.defs);
-        roles = v.roles;
-        resources = v.resources;
-        last = v.last;
-        root = v.root;
-      }
+      let w = proc_sound m ks p fits g in let v = content_sound l h in
+      with_def (def_sound n.definitions x xs (body.Process r) k w.order w.free w.turn (λ j t. absurd (false≢true t)), v.defs) v
   content_sound {n} (d.network_definition {m = k} {x = x} {params = xs} {w = r} ps is g l) h =
-      let w = net_sound m ks p fits g in let v = content_sound l h in record {
-        channels = v.channels;
-        defs = (def_sound n.definitions x xs (body.Network r) k w.order w.free w.turn (λ j t. absurd (false≢true t)), v.defs);
-        roles = v.roles;
-        resources = v.resources;
-        last = v.last;
-        root = v.root;
-      }
+      let w = net_sound m ks p fits g in let v = content_sound l h in
+      with_def (def_sound n.definitions x xs (body.Network r) k w.order w.free w.turn (λ j t. absurd (false≢true t)), v.defs) v
   content_sound (d.assertion {m = k} g l) h =
       let v = content_sound l h in
       record { channels = v.channels; defs = v.defs; roles = v.roles; resources = v.resources; last = k; root = net_sound m ks p fits g }

@@ -3,12 +3,10 @@ use Rattle.std.proofs.Common.{◌≡◌, ℕ, ◌+◌, ◌-◌, nat_eq, nat_lt, 
 use Rattle.std.specs.Prelude.{slice_get}
 use Rattle.std.proofs.lemmas.Bool.{false≢true, eqb-true}
 use Rattle.csp_program.specs.Prelude.{field_count, is_datum, is_process, is_set_name, takes, with_fields}
-use Rattle.csp_program.specs.declared.programs.Channel.{Channel}
-use Rattle.csp_program.specs.declared.programs.Content.{Content}
 use Rattle.csp_program.specs.InOrder as order
 use Rattle.script_names.specs.declared.kinds.Entity.TheVariants as entity
 use Rattle.script_names.specs.Prelude.{Meanings, Name, IsData, IsNetwork, IsProcess}
-use Rattle.script_names.specs.declared.kinds.Kind.{Kind}
+use Rattle.resolved_laws.proofs.Sources.{Channel, Content, Kind}
 
 pub record Fits (m : Meanings) (ks : List Kind) (p : Content) : Type 0 where
   pub channel : (x : Name) (c n : ℕ) → m x ≡ Some (entity.Channel c n) → IsTrue (with_fields (λ k. nat_eq k n) (slice_get p.channels c))

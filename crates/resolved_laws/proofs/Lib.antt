@@ -1,7 +1,9 @@
+mod Sources
 mod Booleans
 mod Within
 mod InTurn
 mod Declared
+mod Sound
 mod TypedExprs
 mod TypedProcs
 mod UsesBelow

@@ -4,26 +4,17 @@ use Rattle.std.specs.Prelude.{slice_get}
 use Rattle.std.specs.Map.{lookup}
 use Rattle.csp_base.proofs.Standard.{eq-eqb, lt-ltb, length-append}
 use Rattle.csp_program.specs.Prelude.{is_datum, is_process, is_set_name, takes, with_fields}
-use Rattle.csp_program.specs.declared.expressions.Expr.{Expr}
-use Rattle.csp_program.specs.declared.programs.Body.{Body}
-use Rattle.csp_program.specs.declared.programs.Channel.{Channel}
-use Rattle.csp_program.specs.declared.programs.Content.{Content}
-use Rattle.csp_program.specs.declared.programs.Def.{Def}
 use Rattle.csp_program.specs.InOrder as order
-use Rattle.csp_atoms.specs.declared.atom.Atom.{Atom}
 use Rattle.csp_program.specs.declared.programs.Body.TheVariants as body
-use Rattle.csp_text.specs.declared.script.Decl.{Decl}
-use Rattle.csp_text.specs.declared.tree.Tree.{Tree}
 use Rattle.csp_text.specs.declared.script.Decl.TheVariants as decl
 use Rattle.script_names.specs.declared.kinds.Class.TheVariants as class
-use Rattle.script_names.specs.Prelude.{Declares, channels_of_types, kind_class, kind_network, Counts, Entities, Meanings, Name, channels_from, constants_from, counted, declared_from, meanings_of, none_yet, same_name, numbers_from, AreExprs, IsData, IsNetwork, IsProcess}
-use Rattle.script_names.specs.declared.kinds.Entity.{Entity}
-use Rattle.script_names.specs.declared.kinds.Kind.{Kind}
+use Rattle.script_names.specs.Prelude.{Declares, channels_of_types, kind_class, kind_network, Counts, Entities, Meanings, Name, channels_from, constants_from, counted, declared_from, meanings_of, none_yet, same_name, numbers_from, IsData, IsNetwork, IsProcess}
 use Rattle.script_names.specs.declared.kinds.Entity.TheVariants as entity
 use Rattle.script_names.specs.Declaring as d
-use Rattle.script_names.specs.Typing as t
+use Rattle.resolved_laws.proofs.Sources.{Atom, Body, Channel, Content, Decl, Def, Entity, Expr, Kind}
 use Rattle.resolved_laws.proofs.Booleans.{and}
 use Rattle.resolved_laws.proofs.Declared.{Fits}
+use Rattle.resolved_laws.proofs.Sound.{count_exprs}
 
 -- the rest of a list stands in it from the place n on
 abbrev pub StandsFrom : {X : Type 0} → List X → ℕ → List X → Type 0
@@ -41,10 +32,6 @@ is_less n k h = lt-ltb n k h
 pub length_numbers : (n k : ℕ) → length (numbers_from n k) ≡ k
 length_numbers n zero = refl
 length_numbers n (suc k) = ap (λ i. suc i) (length_numbers (n + 1) k)
-
-pub count_exprs : {m : Meanings} {ks : List Kind} {n k : ℕ} {ts : List Tree} {es : List Expr} → AreExprs m ks [] n ts es k → length ts ≡ length es
-count_exprs t.no_exprs = refl
-count_exprs (t.more_exprs h g) = ap (λ i. suc i) (count_exprs g)
 
 module _ (m : Meanings) (ks : List Kind) (p : Content) where
   -- the kinds of a definition that is there with n parameters

@@ -2,8 +2,8 @@
 use Rattle.std.proofs.Common.{◌≡◌, ℕ, zero, suc, ◌+◌, ◌<◌, ◌≤◌, IsTrue, List, subst, arith}
 use Rattle.std.specs.Prelude.{slice_get}
 use Rattle.csp_program.specs.Prelude.{Reaches, def_uses, by_use, by_way}
-use Rattle.csp_program.specs.declared.programs.Def.{Def}
 use Rattle.script_names.specs.DataDepth.{definition_depth, depth_at}
+use Rattle.resolved_laws.proofs.Sources.{Def}
 use Rattle.resolved_laws.proofs.UsesBelow.{use_below}
 
 module _ (defs : List Def) where

@@ -5,21 +5,12 @@ use Rattle.std.specs.Prelude.{Result, if◌then◌else◌, slice_get}
 use Rattle.std.specs.List.{flat_map}
 use Rattle.csp_base.proofs.Standard.{false≢true, eq-eqb, length-map, sum-map, sum_by-cons}
 use Rattle.csp_atoms.specs.Prelude.{is_set}
-use Rattle.csp_atoms.specs.declared.atom.Atom.{Atom}
-use Rattle.csp_atoms.specs.declared.value.Value.{Value}
-use Rattle.csp_atoms.specs.declared.value.Value.TheVariants.{One, Many}
 use Rattle.csp_atoms.specs.declared.atom.Atom.TheVariants as atom
 use Rattle.csp_program.specs.Prelude.{first_event, row_count, event_of, events_from_channel, rows, IsInOrder, atom_in_order, channel_in_order, expr_in_order, has_sets, is_field_value, set_in_order, sets_in_order, value_in_order, all_true, Outcome, and_then, value_of}
-use Rattle.csp_program.specs.declared.expressions.Expr.{Expr}
-use Rattle.csp_program.specs.declared.kinds.ValueKind.{ValueKind}
 use Rattle.csp_program.specs.declared.kinds.ValueKind.TheVariants.{Kind}
-use Rattle.csp_program.specs.declared.programs.Channel.{Channel}
-use Rattle.csp_program.specs.declared.programs.Content.{Content}
-use Rattle.csp_text.specs.declared.script.Decl.{Decl}
-use Rattle.csp_text.specs.declared.tree.Tree.{Tree}
 use Rattle.csp_text.specs.declared.script.Decl.TheVariants as decl
 use Rattle.script_names.specs.Prelude.{channels_of, Meanings, Name, Answer, all_events, and_next, channel_sets, field_set, field_sets, may_be_field, told_in, with_sets, exprs, reading}
-use Rattle.script_names.specs.declared.kinds.Kind.{Kind as DefinitionKind}
+use Rattle.resolved_laws.proofs.Sources.{Atom, Channel, Content, Decl, Expr, Kind as DefinitionKind, Many, One, Tree, Value, ValueKind}
 use Rattle.resolved_laws.proofs.Whole.{SameTypes}
 use Rattle.value_laws.proofs.RowNumbers.{length-rows}
 use Rattle.value_laws.proofs.ValuesInOrder.{values_are_in_order}

@@ -2,16 +2,10 @@
 use Rattle.std.proofs.Common.{◌≡◌, ℕ, ◌+◌, ◌<◌, ◌≤◌, ◌^◌, Bool, true, false, nat_le, IsTrue, Option, Some, None, Ok, Err, List, length, refl, sym, ◌∙◌, subst, inl, arith}
 use Rattle.std.specs.Prelude.{if◌then◌else◌, slice_get}
 use Rattle.std.specs.List.{flat_map}
-use Rattle.csp_atoms.specs.declared.atom.Atom.{Atom}
 use Rattle.csp_program.specs.Prelude.{first_event, event_table, IsInOrder}
-use Rattle.csp_program.specs.declared.programs.Channel.{Channel}
-use Rattle.csp_program.specs.declared.programs.Content.{Content}
-use Rattle.csp_text.specs.declared.script.Decl.{Decl}
-use Rattle.csp_text.specs.declared.tree.Tree.{Tree}
 use Rattle.script_names.specs.Prelude.{channels_of, first_assertion, plain_content, AreKinds, meanings_of, all_events, and_next, channel_sets, types_of, with_events, with_names, with_root, with_sets, with_table, name_fault}
-use Rattle.script_names.specs.declared.fault.ResolveFault.{ResolveFault}
-use Rattle.script_names.specs.declared.kinds.Kind.{Kind}
 use Rattle.typed_laws.proofs.Back.{any_sets}
+use Rattle.resolved_laws.proofs.Sources.{Atom, Channel, Content, Decl, Kind, ResolveFault, Tree}
 use Rattle.resolved_laws.specs.Laws.{HasFew, ResolvedIsInOrder}
 use Rattle.resolved_laws.proofs.Sets.{HaveSets, IsNext, count_events, firsts_kept, have_all, have_sets, next_ok, ok_same, sets_in_place, sets_same}
 use Rattle.resolved_laws.proofs.Whole.{SameTypes, in_order, plain_declares, plain_is_in_order, same_length, with_channels}

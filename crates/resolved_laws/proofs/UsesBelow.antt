@@ -6,16 +6,9 @@ use Rattle.csp_base.specs.Lists.{greatest}
 use Rattle.csp_program.proofs.Forms.{Every, ExprHas, GenHas, PartHas, each_expr}
 use Rattle.csp_program.proofs.UsesWithin.{gen_uses, part_uses}
 use Rattle.csp_program.specs.Prelude.{gen_depth_of_layer, part_depth_of_layer, Names, any_of, either, nowhere, body_uses, def_uses, expr_uses, expr_uses_of_layer, gen_uses_of_layer, part_uses_of_layer}
-use Rattle.csp_program.specs.declared.expressions.EventPart.{EventPart}
-use Rattle.csp_program.specs.declared.expressions.Expr.{Expr}
-use Rattle.csp_program.specs.declared.expressions.Expr.TheFolds.{fold-roll-Expr, fold-roll-Gen, fold-roll-EventPart, map-Expr, map-Gen}
-use Rattle.csp_program.specs.declared.expressions.Expr.TheOpen.{Expr-F, Gen-F, EventPart-F}
-use Rattle.csp_program.specs.declared.expressions.Expr.TheViews.{roll-Expr, roll-Gen, roll-EventPart}
-use Rattle.csp_program.specs.declared.expressions.Gen.{Gen}
-use Rattle.csp_program.specs.declared.programs.Body.{Body}
-use Rattle.csp_program.specs.declared.programs.Def.{Def}
 use Rattle.csp_program.specs.declared.programs.Body.TheVariants as body
 use Rattle.script_names.specs.DataDepth.{body_depth, depth_at, expanded_depth, expanded_depth_of_layer, gen_expanded_depth, part_expanded_depth}
+use Rattle.resolved_laws.proofs.Sources.{Body, Def, EventPart, EventPart-F, Expr, Expr-F, Gen, Gen-F, fold-roll-EventPart, fold-roll-Expr, fold-roll-Gen, map-Expr, map-Gen, roll-EventPart, roll-Expr, roll-Gen}
 
 module _ (f : ℕ → ℕ) where
   -- each of these definitions is less deep than n

@@ -6,16 +6,9 @@ use Rattle.std.proofs.lemmas.Bool.{eq-eqb, false≢true}
 use Rattle.csp_base.specs.Lists.{EachOnce}
 use Rattle.csp_program.proofs.Forms.{Every}
 use Rattle.csp_program.specs.Prelude.{def_bound, exprs_bound, KeepFirsts, event_count, first_event, AllClosed, AllClosedBodies, AllClosedTypes, IsEventTable, IsInOrder, channel_in_order, def_in_order, expr_in_order, lacks_sets, sets_in_order, with_fields, all_true, def_uses}
-use Rattle.csp_program.specs.declared.programs.Channel.{Channel}
-use Rattle.csp_program.specs.declared.programs.Content.{Content}
-use Rattle.csp_program.specs.declared.programs.Def.{Def}
-use Rattle.csp_program.specs.declared.programs.EventInfo.{EventInfo}
-use Rattle.csp_text.specs.declared.script.Decl.{Decl}
-use Rattle.csp_text.specs.declared.tree.Tree.{Tree}
 use Rattle.csp_text.specs.declared.script.Decl.TheVariants as decl
-use Rattle.dl_limits.specs.declared.TheConstants.{MOST_DATA_DEPTH}
 use Rattle.script_names.specs.Prelude.{channels_of, plain_content, IsShallow, AreKinds, Meanings, Name, meanings_of, none_yet, name_fault, Declares}
-use Rattle.script_names.specs.declared.kinds.Kind.{Kind}
+use Rattle.resolved_laws.proofs.Sources.{Atom, Channel, Content, Decl, Def, EventInfo, Kind, MOST_DATA_DEPTH, Tree}
 use Rattle.resolved_laws.specs.Laws.{PlainIsInOrder}
 use Rattle.resolved_laws.proofs.Booleans.{and, two}
 use Rattle.resolved_laws.proofs.ContentSound.{ChannelSound, DefsSound, Sound, content_sound, nothing_free}
@@ -26,7 +19,6 @@ use Rattle.resolved_laws.proofs.NoCircle.{none_reaches_itself}
 use Rattle.typed_laws.proofs.Back.{any_sets, sets_for_any}
 use Rattle.typed_laws.proofs.Declared.{types_of}
 use Rattle.typed_laws.proofs.Programs.{puts}
-use Rattle.csp_atoms.specs.declared.atom.Atom.{Atom}
 use Rattle.csp_base.proofs.Booleans.{is_and}
 
 -- channels of the same types

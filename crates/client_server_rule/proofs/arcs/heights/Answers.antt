@@ -1,8 +1,7 @@
-use Rattle.std.proofs.Common.{ℕ, length, ap, inl, inr, sym, subst, Err}
+use Rattle.std.proofs.Common.{◌∙◌, ℕ, length, ap, sym, subst, Err}
 use Rattle.digraph.specs.Prelude.{HasArc, IsLeastCircle, AreHeights}
 use Rattle.digraph.proofs.WalkLaws.{same_heights, same_no_circle, same_least_circle}
 use Rattle.design_rules.specs.Prelude.{Serves, BreaksClientServer}
-use Rattle.design_rules.specs.declared.rule_fault.RuleFault.TheVariants.{ClientsCircle}
 use Rattle.client_server_rule.proofs.arcs.heights.Goals as goal
 
 pub returns-in-Ok-clause-heights : goal.returns-in-Ok-clause-heights
@@ -16,15 +15,9 @@ returns-in-Ok-clause-no_circle c = same_no_circle (HasArc c.in_ok-rows.rows) (Se
 
 pub returns-in-Err-Circle-clause-fault : goal.returns-in-Err-Circle-clause-fault
 returns-in-Err-Circle-clause-fault c =
-    let shape = c.args.network.now.shape in
-    let roles = c.args.network.now.roles in
+    let serves = Serves c.args.network.now.shape c.args.network.now.roles in
     let it = c.in-Err-Circle.ensures.circle c.in-Err-Circle.circle (ap Err c.in-Err-Circle.field-0-is) in
-    let in_circle : BreaksClientServer shape roles (ClientsCircle c.members.result.now) = record {
+    record {
       keep_roles = c.requires;
-      circle = subst (IsLeastCircle (Serves c.args.network.now.shape c.args.network.now.roles)) (sym c.members.ensures)
-          (same_least_circle (HasArc c.in_ok-rows.rows) (Serves c.args.network.now.shape c.args.network.now.roles) c.in_ok-rows.ensures.sound c.in-Err-Circle.circle it);
-    } in
-    elim (c.clients_circle.ensures c.members.result.now c.from_slice.ensures) as (λ _. BreaksClientServer shape roles c.clients_circle.result) [
-      | inl want ↦ subst (BreaksClientServer shape roles) (sym want) tt
-      | inr is ↦ subst (BreaksClientServer shape roles) (sym is) in_circle
-    ]
+      circle = subst (IsLeastCircle serves) (sym (c.in_ok-clients-in-Err-Circle.ensures ∙ c.members.ensures)) (same_least_circle (HasArc c.in_ok-rows.rows) serves c.in_ok-rows.ensures.sound c.in-Err-Circle.circle it);
+    }

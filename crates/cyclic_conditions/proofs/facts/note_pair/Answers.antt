@@ -1,4 +1,4 @@
-use Rattle.std.proofs.Common.{◌≡◌, ◌<◌, ◌≤◌, ◌∙◌, ℕ, List, ap, sym, subst, arith, inl, inr, length}
+use Rattle.std.proofs.Common.{◌≡◌, ◌≤◌, ◌∙◌, ℕ, List, ap, sym, subst, arith, inl, inr, length}
 use Rattle.csp_base.proofs.Standard.{cases_lt, get_or_read}
 use Rattle.csp_tables.specs.Prelude.{node_at}
 use Rattle.observed_runs.specs.Prelude.{AreEnough, pair_at}

@@ -1,5 +1,7 @@
-use Rattle.std.proofs.Common.{◌∙◌, length, ap, sym, subst, refl}
+use Rattle.std.proofs.Common.{◌≡◌, ◌∙◌, Option, length, ap, sym, subst, refl, arith}
+use Rattle.std.proofs.lemmas.List.{with_items_is}
 use Rattle.cyclic_conditions.specs.Facts.{links_in_order}
+use Rattle.cyclic_conditions.specs.declared.facts.Fact.{Fact}
 use Rattle.cyclic_conditions.specs.Orders.{IsOrder}
 use Rattle.cyclic_conditions.proofs.LapPlaces.{keeps, is_order, none_kept}
 use Rattle.cyclic_conditions.proofs.orders.order_along.Goals as goal
@@ -13,5 +15,6 @@ returns-in-Ok-clause-keeps c = keeps c.args.laps.now c.requires c.note_all.new.f
 pub returns-in-Ok-clause-order : goal.returns-in-Ok-clause-order
 returns-in-Ok-clause-order c =
     let laps = c.args.laps.now in
-    subst (IsOrder laps.component.shape.now laps.component.number) (sym (c.in_ok-in_order-in-Ok.ensures ∙ ap links_in_order c.deref.ensures.value))
+    let count : length c.note_all.new.firsts ≡ c.in_ok-firsts.firsts.len = omega (arith, c.note_all.auto.firsts, ap (length {A = Option Fact}) c.deref_mut.ensures.value, c.in_ok-firsts.firsts.ok.0) in
+    subst (IsOrder laps.component.shape.now laps.component.number) (sym (c.in_ok-in_order-in-Ok.ensures ∙ ap links_in_order (c.deref.ensures.value ∙ with_items_is c.in_ok-firsts.firsts c.note_all.new.firsts count)))
     (is_order laps c.requires c.note_all.new.firsts c.in-Ok.ensures.firsts c.in-Ok.ensures.noted)

@@ -1,4 +1,6 @@
-use Rattle.std.proofs.Common.{◌≡◌, ◌∙◌, ℕ, List, Option, Some, ap, sym, refl}
+use Rattle.std.proofs.Common.{◌≡◌, ◌∙◌, ℕ, List, Option, Some, length, ap, sym, refl, arith}
+use Rattle.std.proofs.lemmas.List.{with_items_is}
+use Rattle.std.specs.Vec.{with_items}
 use Rattle.std.specs.Prelude.{slice_set, unwrap_or}
 use Rattle.csp_tables.specs.Prelude.{Link, Node}
 use Rattle.cyclic_conditions.specs.Shorts.{short_at}
@@ -20,15 +22,17 @@ returns-then-left-component c =
     let shape = c.args.component.now.shape.now in
     let i = c.args.component.now.number in
     let is = accept_read shape i c.args.node c.args.place c.accept.result.now c.index-accept-place.result (c.accept.ensures ∙ ap (λ (m : Node). m.accept) c.node.ensures) c.requires.at c.index-accept-place.is in
+    let count : length c.mark.new.nodes ≡ c.args.shorts.now.left.len = omega (arith, c.mark.auto.nodes, ap (length {A = Option ℕ}) c.deref_mut.ensures.value, c.args.shorts.now.left.ok.0) in
     look_left shape i c.args.node c.args.place c.index-accept-place.result is c.requires.at c.requires.keep c.short_link.result c.short_link.ensures.short c.short_link.ensures.all c.args.shorts.now c.requires.shorts
-    _ c.in-Some.link c.in-Some.is (sym (c.left.ensures.value ∙ ap (λ (k : Link). k.left) c.link.ensures) ∙ c.if-left-component.true)
-    (c.mark.ensures ∙ ap (λ (xs : List (Option ℕ)). slice_set xs c.in-Some.link (Some (unwrap_or (short_at xs c.in-Some.link) c.args.node))) c.deref_mut.ensures.value) refl
+    (record { left = with_items c.args.shorts.now.left c.mark.new.nodes; right = c.args.shorts.now.right }) c.in-Some.link c.in-Some.is (sym (c.left.ensures.value ∙ ap (λ (k : Link). k.left) c.link.ensures) ∙ c.if-left-component.true)
+    (with_items_is c.args.shorts.now.left c.mark.new.nodes count ∙ c.mark.ensures ∙ ap (λ (xs : List (Option ℕ)). slice_set xs c.in-Some.link (Some (unwrap_or (short_at xs c.in-Some.link) c.args.node))) c.deref_mut.ensures.value) refl
 
 pub returns-else-left-component : goal.returns-else-left-component
 returns-else-left-component c =
     let shape = c.args.component.now.shape.now in
     let i = c.args.component.now.number in
     let is = accept_read shape i c.args.node c.args.place c.accept.result.now c.index-accept-place.result (c.accept.ensures ∙ ap (λ (m : Node). m.accept) c.node.ensures) c.requires.at c.index-accept-place.is in
+    let count : length c.mark-else-left-component.new.nodes ≡ c.args.shorts.now.right.len = omega (arith, c.mark-else-left-component.auto.nodes, ap (length {A = Option ℕ}) c.deref_mut-else-left-component.ensures.value, c.args.shorts.now.right.ok.0) in
     look_right shape i c.args.node c.args.place c.index-accept-place.result is c.requires.at c.requires.keep c.short_link.result c.short_link.ensures.short c.short_link.ensures.all c.args.shorts.now c.requires.shorts
-    _ c.in-Some.link c.in-Some.is (λ same. c.if-left-component.false (c.left.ensures.value ∙ ap (λ (k : Link). k.left) c.link.ensures ∙ same))
-    (c.mark-else-left-component.ensures ∙ ap (λ (xs : List (Option ℕ)). slice_set xs c.in-Some.link (Some (unwrap_or (short_at xs c.in-Some.link) c.args.node))) c.deref_mut-else-left-component.ensures.value) refl
+    (record { left = c.args.shorts.now.left; right = with_items c.args.shorts.now.right c.mark-else-left-component.new.nodes }) c.in-Some.link c.in-Some.is (λ same. c.if-left-component.false (c.left.ensures.value ∙ ap (λ (k : Link). k.left) c.link.ensures ∙ same))
+    (with_items_is c.args.shorts.now.right c.mark-else-left-component.new.nodes count ∙ c.mark-else-left-component.ensures ∙ ap (λ (xs : List (Option ℕ)). slice_set xs c.in-Some.link (Some (unwrap_or (short_at xs c.in-Some.link) c.args.node))) c.deref_mut-else-left-component.ensures.value) refl

@@ -1,4 +1,4 @@
-use Rattle.std.proofs.Common.{◌≡◌, ◌<◌, ◌∙◌, Some, None, inl, inr, ap, sym, subst}
+use Rattle.std.proofs.Common.{◌≡◌, ◌<◌, ◌∙◌, inl, inr, ap, sym, subst}
 use Rattle.csp_tables.specs.Prelude.{Link, Shape, link_at, part_at}
 use Rattle.cyclic_conditions.specs.Shorts.{short_at}
 use Rattle.cyclic_conditions.specs.Told.{FallsFirst}
