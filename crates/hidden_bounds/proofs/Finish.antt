@@ -1,14 +1,17 @@
 -- The order and its end, as a call tells them.
-use Rattle.std.proofs.Common.{◌≡◌, ◌⊎◌, ◌≢◌, ℕ, zero, suc, ◌+◌, ◌<◌, Bool, true, false, ◌&&◌, IsTrue, Result, IfErr, List, [], ◌∷◌, ◌++◌, length, take, drop, replicate, refl, sym, ap, subst, ◌∙◌, arith, inl, inr}
+use Rattle.std.proofs.Common.{◌≡◌, ◌⊎◌, ◌≢◌, ℕ, zero, suc, ◌+◌, ◌<◌, Bool, true, false, ◌&&◌, IsTrue, Result, IfErr, List, [], ◌∷◌, ◌++◌, length, replicate, refl, sym, ap, subst, ◌∙◌, arith, inl, inr}
 use Rattle.std.specs.Prelude.{◌↔◌}
 use Rattle.std.specs.Result.{IsErrAnd}
-use Rattle.csp_base.proofs.Standard.{err_from_is_err_and, false≢true, length-replicate, take-append-le, take_all, none-some, slice_get_within}
+use Rattle.csp_base.proofs.Standard.{err_from_is_err_and, false≢true, length-replicate, none-some, slice_get_within}
 use Rattle.csp_base.specs.Members.{has}
+use Rattle.csp_base.specs.Stops.{Tells}
+use Rattle.csp_base.specs.declared.stop.Stop.{Stop}
+use Rattle.csp_base.specs.declared.stop.Stop.TheVariants as stop
 use Rattle.csp_base.proofs.Listed.{has_first}
 use Rattle.csp_tables.specs.Prelude.{Label, Component}
 use Rattle.hidden_steps.specs.Order.{AreTaken, HasNoOrder, IsAmong, IsOrder, hidden_bound}
-use Rattle.own_graphs.specs.Exact.{AreOpen}
-use Rattle.hidden_bounds.specs.Prelude.{IsBound, TellsLoop, IsSoFar, IsTakenAll, IsTakenFar, left_from, standing_at, TellsSum, taken_in}
+use Rattle.hidden_bounds.specs.Exact.{AreOpen}
+use Rattle.hidden_bounds.specs.Prelude.{IsBound, TellsLoop, AreKnown, IsSoFar, IsTakenFar, left_from, standing_at, TellsSum, taken_in}
 use Rattle.hidden_bounds.specs.declared.bounding.HiddenBound.{HiddenBound}
 use Rattle.hidden_bounds.specs.declared.bounding.LoopFault.{LoopFault}
 use Rattle.hidden_bounds.specs.declared.ordering.Placed.{Placed}
@@ -38,11 +41,11 @@ first_of [] some = absurd (some refl)
 first_of (p ∷ rest) some = (p, has_first p rest)
 
 module _ {T : Type 0} (Step : T → Label → T → Type 0) (hidden : List ℕ) (cs : List (Component T)) where
-  -- the fault of a sum
-  sum_told : (order : List Placed) (f : LoopFault) → IsOrder Step hidden cs (taken_in cs order) → TellsSum hidden cs order f → TellsLoop Step hidden cs f
-  sum_told order fault.NoMemory all tells = tt
-  sum_told order (fault.NoOrder parts) all tells = absurd tells
-  sum_told order (fault.BoundLimit part) all tells = record { order = taken_in cs order; is = all; passes = tells }
+  -- why there is no sum
+  sum_told : (order : List Placed) (why : Stop LoopFault) → IsOrder Step hidden cs (taken_in cs order) → Tells (TellsSum hidden cs order) why → Tells (TellsLoop Step hidden cs) why
+  sum_told order stop.NoMemory all tells = tt
+  sum_told order (stop.Told (fault.NoOrder parts)) all tells = absurd tells
+  sum_told order (stop.Told (fault.BoundLimit part)) all tells = record { order = taken_in cs order; is = all; passes = tells }
 
   -- before the first is taken
   pub nothing_taken : (left : List ℕ) (n : ℕ) → left ≡ hidden → n ≡ length cs → IsSoFar Step hidden cs [] left (replicate n standing.Unknown)
@@ -64,22 +67,20 @@ module _ {T : Type 0} (Step : T → Label → T → Type 0) (hidden : List ℕ) 
       subst (λ (o : List Placed). IsSoFar Step hidden cs o left ss) (sym none) (subst (IsSoFar Step hidden cs [] left) (sym unknown) (nothing_taken left n same many))
 
   -- where no component is free any more
-  pub all_taken_far : (order : List Placed) (ss : List Standing) → IsTakenAll Step hidden cs order ss → IsTakenFar Step hidden cs order (left_from 0 ss)
-  all_taken_far order ss all =
-      let so_far = all.so_far in
-      record {
-        taken = so_far.taken;
-        within = so_far.within;
-        none_free = none_is_free Step hidden cs order all.left ss so_far all.known;
-        each = λ i within.
-            by_taken (standing_at ss i) (IsAmong i (taken_in cs order) ⊎ IsTrue (has (left_from 0 ss) i)) (λ is. inl (so_far.among i is))
-            (λ waits. inr (ap (has (left_from 0 ss)) (omega arith) ∙ listed_at 0 ss i (subst (λ n. i < n) (sym so_far.one_each) within) waits));
-        left = λ i listed.
-            let r = stands_at 0 ss i listed in
-            let here : i ≡ r.0 = (let e : i ≡ 0 + r.0 = r.1 in omega arith) in
-            (subst (λ n. i < n) so_far.one_each (subst (λ j. j < length ss) (sym here) r.2), λ among. r.3 (ap (standing_at ss) (sym here) ∙ so_far.marked i among));
-        rising = left_increases ss;
-      }
+  pub all_taken_far : (order : List Placed) (left : List ℕ) (ss : List Standing) (parts : List ℕ) → IsSoFar Step hidden cs order left ss → AreKnown ss → parts ≡ left_from 0 ss → IsTakenFar Step hidden cs order parts
+  all_taken_far order left ss parts so_far known are = subst (IsTakenFar Step hidden cs order) (sym are) (record {
+    taken = so_far.taken;
+    within = so_far.within;
+    none_free = none_is_free Step hidden cs order left ss so_far known;
+    each = λ i within.
+        by_taken (standing_at ss i) (IsAmong i (taken_in cs order) ⊎ IsTrue (has (left_from 0 ss) i)) (λ is. inl (so_far.among i is))
+        (λ waits. inr (ap (has (left_from 0 ss)) (omega arith) ∙ listed_at 0 ss i (subst (λ n. i < n) (sym so_far.one_each) within) waits));
+    left = λ i listed.
+        let r = stands_at 0 ss i listed in
+        let here : i ≡ r.0 = (let e : i ≡ 0 + r.0 = r.1 in omega arith) in
+        (subst (λ n. i < n) so_far.one_each (subst (λ j. j < length ss) (sym here) r.2), λ among. r.3 (ap (standing_at ss) (sym here) ∙ so_far.marked i among));
+    rising = left_increases ss;
+  })
 
   module _ (order : List Placed) (parts : List ℕ) (far : IsTakenFar Step hidden cs order parts) where
     pub all_are_taken : parts ≡ [] → IsOrder Step hidden cs (taken_in cs order)
@@ -111,12 +112,8 @@ module _ {T : Type 0} (Step : T → Label → T → Type 0) (hidden : List ℕ) 
     bound = sum_is;
   }
 
-  pub fault_told : {A : Type 0} (r : Result A LoopFault) (order : List Placed) (parts : List ℕ) (f : LoopFault) (empty : Bool) → IsErrAnd r (λ t. t ≡ f) → IsTakenFar Step hidden cs order parts
-      → IsTrue empty ↔ (parts ≡ []) → empty ≡ true → TellsSum hidden cs order f → IfErr r (TellsLoop Step hidden cs)
-  fault_told r order parts f empty exit far is none tells =
+  pub fault_told : {A : Type 0} (r : Result A (Stop LoopFault)) (order : List Placed) (parts : List ℕ) (why : Stop LoopFault) (empty : Bool) → IsErrAnd r (λ t. t ≡ why) → IsTakenFar Step hidden cs order parts
+      → IsTrue empty ↔ (parts ≡ []) → empty ≡ true → Tells (TellsSum hidden cs order) why → IfErr r (Tells (TellsLoop Step hidden cs))
+  fault_told r order parts why empty exit far is none tells =
       let p = err_from_is_err_and r exit in
-      subst (λ x. IfErr x (TellsLoop Step hidden cs)) (sym p.1) (subst (TellsLoop Step hidden cs) (sym p.2) (sum_told order f (all_are_taken order parts far (is.0 none)) tells))
-
--- what was written of a vector is what is read of it
-pub written : (n : ℕ) (xs ys : List Standing) → length xs ≡ n → take n (xs ++ drop (length xs) ys) ≡ xs
-written n xs ys size = take-append-le n xs (drop (length xs) ys) (omega arith) ∙ take_all n xs (omega arith)
+      subst (λ x. IfErr x (Tells (TellsLoop Step hidden cs))) (sym p.1) (subst (Tells (TellsLoop Step hidden cs)) (sym p.2) (sum_told order why (all_are_taken order parts far (is.0 none)) tells))

@@ -6,7 +6,7 @@ use Rattle.csp_base.proofs.SetLaws.{has-diff_of}
 use Rattle.csp_base.proofs.Lists.{push_cases}
 use Rattle.csp_tables.specs.Prelude.{Label, Component}
 use Rattle.hidden_steps.specs.Order.{AreTaken, GoesRound, IsAmong, IsNext, Taken, is_passed}
-use Rattle.own_graphs.specs.Exact.{AreOpen}
+use Rattle.hidden_bounds.specs.Exact.{AreOpen}
 use Rattle.hidden_bounds.specs.Prelude.{AreKnown, AreReopened, IsLeastFree, IsSoFar, StayKnown, one_waiting, reopened_to, standing_at, waiting, alphabet_at, alphabet_of, taken_at, taken_in}
 use Rattle.hidden_bounds.specs.declared.ordering.Placed.{Placed}
 use Rattle.hidden_bounds.specs.declared.standings.Standing.{Standing}

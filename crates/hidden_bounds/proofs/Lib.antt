@@ -1,3 +1,6 @@
+pub mod OwnGraphs
+pub mod OwnTrails
+pub mod Carried
 pub mod Taken
 pub mod Known
 pub mod Left

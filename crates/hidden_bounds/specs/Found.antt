@@ -33,6 +33,5 @@ module _ {T : Type 0} (Step : T → Label → T → Type 0) (hidden : List ℕ) 
 
   -- what a fault tells
   abbrev pub TellsLoop : LoopFault → Type 0
-  TellsLoop fault.NoMemory = Unit {0}
   TellsLoop (fault.NoOrder parts) = HasNoOrder Step hidden cs parts
   TellsLoop (fault.BoundLimit part) = PassesLimit part

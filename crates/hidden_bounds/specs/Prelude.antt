@@ -2,5 +2,5 @@
 pub use Rattle.hidden_bounds.specs.Taking.{AreWithin, alphabet_at, alphabet_of, taken_at}
 unfoldable pub use Rattle.hidden_bounds.specs.Taking.{taken_in}
 pub use Rattle.hidden_bounds.specs.Found.{IsBound, PassesAt, TellsLoop, placed}
-pub use Rattle.hidden_bounds.specs.Standings.{AreKnown, AreReopened, IsFreeHere, IsKnown, IsLeastFree, IsSoFar, IsTakenAll, IsTakenFar, StayKnown, left_from, left_one, one_waiting, reopened_to, standing_at, waiting}
+pub use Rattle.hidden_bounds.specs.Standings.{AreKnown, AreReopened, IsFreeHere, IsKnown, IsLeastFree, IsSoFar, IsTakenFar, StayKnown, left_from, left_one, one_waiting, reopened_to, standing_at, waiting}
 pub use Rattle.hidden_bounds.specs.Sums.{AreBounds, IsNextSum, TellsSum, bound_at, sum_before}

@@ -4,7 +4,7 @@ use Rattle.std.specs.List.Sorted.{IsStrictlyIncreasing}
 use Rattle.csp_base.specs.Events.{has, meets_of}
 use Rattle.csp_tables.specs.Prelude.{Label, Component}
 use Rattle.hidden_steps.specs.Order.{AreTaken, GoesRound, IsAmong, IsHeight}
-use Rattle.own_graphs.specs.Exact.{AreOpen}
+use Rattle.hidden_bounds.specs.Exact.{AreOpen}
 use Rattle.hidden_bounds.specs.Taking.{AreWithin, alphabet_at, taken_in}
 use Rattle.hidden_bounds.specs.declared.ordering.Placed.{Placed}
 use Rattle.hidden_bounds.specs.declared.standings.Standing.{Standing}
@@ -88,12 +88,6 @@ module _ {T : Type 0} (Step : T → Label → T → Type 0) (hidden : List ℕ) 
     pub within : p.part < length cs
     pub free : IsFreeHere order standings p.part p.height
     pub least : (j : ℕ) → j < p.part → IsKnown standings j
-
-  -- the same, where no component is free any more
-  pub record IsTakenAll (order : List Placed) (standings : List Standing) : Type 0 where
-    pub left : List ℕ
-    pub so_far : IsSoFar order left standings
-    pub known : AreKnown standings
 
   -- Components are taken in this order as long as one is free, and those are left.
   pub record IsTakenFar (order : List Placed) (parts : List ℕ) : Type 0 where

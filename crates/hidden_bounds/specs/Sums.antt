@@ -27,6 +27,5 @@ module _ {T : Type 0} (hidden : List ℕ) (cs : List (Component T)) (order : Lis
     pub sum : total ≡ sum_before (k + 1)
 
   abbrev pub TellsSum : LoopFault → Type 0
-  TellsSum fault.NoMemory = Unit {0}
   TellsSum (fault.NoOrder parts) = ⊥
   TellsSum (fault.BoundLimit part) = PassesAt hidden (taken_in cs order) part

@@ -1,6 +1,7 @@
 //! The bound on hidden events.
 
 ghost use Rattle.std.specs.Prelude.{◌≡◌, ◌≤◌, ◌<◌, ◌+◌, ◌*◌, ◌^◌, ◌++◌, ◌∷◌, [], suc, length, take, slice_get, if◌then◌else◌, IfErr, IfNone, IfOk, IfSome, OnOk, Some};
+ghost use Rattle.csp_base.specs.Stops.{Tells};
 ghost use Rattle.dl_limits.specs.declared.TheConstants.{MOST_COMPONENTS};
 ghost use Rattle.hidden_steps.specs.Order as meant;
 ghost use Rattle.network_stages.specs.Tables.{AreTablesOf};
@@ -13,7 +14,7 @@ ghost use Rattle.hidden_bounds.specs.declared.ordering.Placed.{Placed as PlacedV
 use crate::ordering::{Placed, order_of};
 use crate::scope::{Scope, hidden_of, shares};
 use containers::Items;
-use csp_base::{EventSet, NoMemory};
+use csp_base::{EventSet, NoMemory, Stop};
 use csp_program::Program;
 use network_layout::Seat;
 use network_stages::ComponentTable;
@@ -40,8 +41,6 @@ impl Drop for HiddenBound {
 /// Why no bound is told.
 #[derive(Drop)]
 pub enum LoopFault {
-    /// Memory ran out.
-    NoMemory,
     /// Some components are not taken.
     NoOrder {
         /// These, rising.
@@ -52,17 +51,6 @@ pub enum LoopFault {
         /// The component in the order at which they first do.
         part: u32,
     },
-}
-
-impl From<NoMemory> for LoopFault {
-    ghost use Rattle.std.specs.Prelude.{◌≡◌};
-    ghost use Rattle.hidden_bounds.specs.declared.bounding.LoopFault.TheVariants as fault;
-
-    ghost from_gives = { λ _ e. e ≡ fault.NoMemory };
-
-    fn from(_error: NoMemory) -> LoopFault {
-        LoopFault::NoMemory
-    }
 }
 
 // A number where it counts, and else 0.
@@ -148,10 +136,10 @@ fn add(bounds: &mut Vec<u64>, bound: u64) -> Result<(), NoMemory>
 }
 
 // The bounds of all components in their order, added up.
-fn add_up(scope: &Scope<'_>, order: &[Placed]) -> Result<u64, LoopFault>
+fn add_up(scope: &Scope<'_>, order: &[Placed]) -> Result<u64, Stop<LoopFault>>
     requires within { AreWithin (length scope.now.seats.now) order.now }
     ensures total { IfOk result (λ total. total ≡ meant.hidden_bound scope.now.hidden.now (taken_in scope.now.seats.now order.now)) }
-    ensures told { IfErr result (TellsSum scope.now.hidden.now scope.now.seats.now order.now) }
+    ensures told { IfErr result (Tells (TellsSum scope.now.hidden.now scope.now.seats.now order.now)) }
 {
     let mut bounds = Vec::new(scope.alloc);
     let mut total: u64 = 0;
@@ -162,9 +150,9 @@ fn add_up(scope: &Scope<'_>, order: &[Placed]) -> Result<u64, LoopFault>
                 total = sum;
             }
             None => {
-                return Err(LoopFault::BoundLimit {
+                return Err(Stop::Told(LoopFault::BoundLimit {
                     part: order[place].part,
-                });
+                }));
             }
         }
     }
@@ -182,11 +170,11 @@ pub fn livelock(
     seats: &[Seat],
     tables: &[ComponentTable],
     hidden: &EventSet,
-) -> Result<HiddenBound, LoopFault>
+) -> Result<HiddenBound, Stop<LoopFault>>
     requires tables { AreTablesOf program.now seats.now tables.now }
     requires few { length seats.now ≤ MOST_COMPONENTS }
     ensures bound { IfOk result (IsBound (ProcessStep program.now) hidden.now seats.now) }
-    ensures told { IfErr result (TellsLoop (ProcessStep program.now) hidden.now seats.now) }
+    ensures told { IfErr result (Tells (TellsLoop (ProcessStep program.now) hidden.now seats.now)) }
 {
     let scope = Scope {
         alloc,
@@ -198,7 +186,7 @@ pub fn livelock(
     let (order, parts) = order_of(&scope)?;
     let parts = Items::from_vec(parts);
     if !parts.is_empty() {
-        return Err(LoopFault::NoOrder { parts });
+        return Err(Stop::Told(LoopFault::NoOrder { parts }));
     }
     let bound = add_up(&scope, order.as_slice())?;
     Ok(HiddenBound {

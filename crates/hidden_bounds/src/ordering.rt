@@ -2,14 +2,17 @@
 
 ghost use Rattle.std.specs.Prelude.{◌≡◌, ◌≤◌, ◌<◌, ◌+◌, true, false, length, IfNone, IfOk, IfSome, OnOk};
 ghost use Rattle.dl_limits.specs.declared.TheConstants.{MOST_COMPONENTS};
-ghost use Rattle.network_stages.specs.Tables.{AreTablesOf};
-ghost use Rattle.process_steps.specs.ComponentStep.{ProcessStep};
-ghost use Rattle.hidden_bounds.specs.Standings.{AreKnown, AreReopened, IsFreeHere, IsKnown, IsLeastFree, IsSoFar, IsTakenAll, IsTakenFar, StayKnown, one_more, waiting};
+ghost use Rattle.hidden_bounds.specs.Standings.{AreKnown, AreReopened, IsKnown, StayKnown, one_more, waiting};
+ghost use Rattle.hidden_bounds.specs.Own.{GoesRoundItself, IsOwnHeight};
+ghost use Rattle.hidden_bounds.specs.Scopes.{AreTakenFar, IsFree, IsLeast, IsScope, IsTaking};
 
+use crate::own_graph::own_height;
+use crate::own_search::OwnSearch;
 use crate::scope::{Scope, hidden_of, shares};
 use crate::standings::{Standing, left_over, reopened};
 use csp_base::{EventSet, NoMemory};
-use own_graphs::own_height;
+use csp_tables::RawTable;
+use std::alloc::Global;
 
 /// A component that is taken.
 #[derive(Clone, Copy)]
@@ -20,154 +23,178 @@ pub struct Placed {
     pub height: u32,
 }
 
-// The height of a component of which nothing is known, where it is free. Where it isn't, that is known from now on.
-fn look_at(
-    scope: &Scope<'_>,
-    order: &[Placed],
-    left: &EventSet,
-    standings: &mut [Standing],
-    part: usize,
-) -> Result<Option<u32>, NoMemory>
-    requires tables { AreTablesOf scope.now.program.now scope.now.seats.now scope.now.tables.now }
-    requires so_far { IsSoFar (ProcessStep scope.now.program.now) scope.now.hidden.now scope.now.seats.now order.now left.now standings.old }
-    requires within { part < length standings.old }
-    requires listed { part < length scope.now.tables.now }
-    ensures so_far { OnOk result (IsSoFar (ProcessStep scope.now.program.now) scope.now.hidden.now scope.now.seats.now order.now left.now standings.new) }
-    ensures stay { OnOk result (StayKnown standings.old standings.new) }
-    ensures free { IfOk result (λ found. IfSome found (IsFreeHere (ProcessStep scope.now.program.now) scope.now.hidden.now scope.now.seats.now order.now standings.new part)) }
-    ensures known { IfOk result (λ found. IfNone found (IsKnown standings.new part)) }
-{
-    let _order = order;
-    let _program = scope.program;
-    if standings[part] != Standing::Unknown {
-        return Ok(None);
-    }
-    match own_height(scope.alloc, &scope.tables[part].local.table, left)? {
-        Some(height) => Ok(Some(height)),
-        None => {
-            standings[part] = Standing::Round;
-            Ok(None)
+// What is known while components are taken.
+#[derive(Drop)]
+struct Taking {
+    // Those that are taken, in their order.
+    order: Vec<Placed>,
+    // The hidden events that none of them has.
+    left: EventSet,
+    // What is known of each component.
+    standings: Vec<Standing>,
+    // The search in its own graph.
+    searches: Vec<OwnSearch>,
+}
+
+impl Taking {
+    // The height of a component of which nothing is known, where it is free. Where it isn't, that is known from now on.
+    fn look_at(&mut self, scope: &Scope<'_>, part: usize) -> Result<Option<u32>, NoMemory>
+        requires scope { IsScope scope.now }
+        requires so_far { IsTaking scope.now self.old }
+        requires within { part < length self.old.standings.items }
+        ensures so_far { OnOk result (IsTaking scope.now self.new) }
+        ensures stay { OnOk result (StayKnown self.old.standings.items self.new.standings.items) }
+        ensures free { IfOk result (λ found. IfSome found (IsFree scope.now self.new part)) }
+        ensures known { IfOk result (λ found. IfNone found (IsKnown self.new.standings.items part)) }
+    {
+        let _program = scope.program;
+        if self.standings[part] != Standing::Unknown {
+            return Ok(None);
         }
+        let table = &scope.tables[part].local.table;
+        match height_by(scope.alloc, table, &self.left, self.searches.get_mut(part))? {
+            Some(height) => Ok(Some(height)),
+            None => {
+                self.standings[part] = Standing::Round;
+                Ok(None)
+            }
+        }
+    }
+
+    // The least component that is free over those taken, if there is one.
+    fn next_free(&mut self, scope: &Scope<'_>) -> Result<Option<Placed>, NoMemory>
+        requires scope { IsScope scope.now }
+        requires so_far { IsTaking scope.now self.old }
+        ensures so_far { OnOk result (IsTaking scope.now self.new) }
+        ensures stay { OnOk result (StayKnown self.old.standings.items self.new.standings.items) }
+        ensures free { IfOk result (λ found. IfSome found (IsLeast scope.now self.new)) }
+        ensures known { IfOk result (λ found. IfNone found (AreKnown self.new.standings.items)) }
+    {
+        for part in 0..scope.seats.len() {
+            match self.look_at(scope, part)? {
+                Some(height) => {
+                    return Ok(Some(Placed {
+                        part: part as u32,
+                        height,
+                    }));
+                }
+                None => {}
+            }
+        }
+        Ok(None)
+    }
+
+    // The next component is taken.
+    fn take(&mut self, scope: &Scope<'_>, placed: Placed) -> Result<(), NoMemory>
+        requires scope { IsScope scope.now }
+        requires so_far { IsTaking scope.now self.old }
+        requires least { IsLeast scope.now self.old placed }
+        ensures so_far { OnOk result (IsTaking scope.now self.new) }
+        ensures fewer { OnOk result (waiting self.new.standings.items < waiting self.old.standings.items) }
+    {
+        let events = hidden_of(scope, placed.part)?;
+        let alphabet = scope.seats[placed.part as usize].alphabet();
+        let rest = self.left.diff(scope.alloc, alphabet)?;
+        self.order.push(placed)?;
+        self.left = rest;
+        self.standings[placed.part as usize] = Standing::Taken;
+        reopen(scope, &events, &mut self.standings);
+        Ok(())
+    }
+
+    // Takes the least component that is free, if there is one.
+    fn take_next(&mut self, scope: &Scope<'_>) -> Result<bool, NoMemory>
+        requires scope { IsScope scope.now }
+        requires so_far { IsTaking scope.now self.old }
+        ensures so_far { OnOk result (IsTaking scope.now self.new) }
+        ensures known { IfOk result (λ more. more ≡ false → AreKnown self.new.standings.items) }
+        ensures fewer { IfOk result (λ more. waiting self.new.standings.items + one_more more ≤ waiting self.old.standings.items) }
+    {
+        match self.next_free(scope)? {
+            Some(placed) => {
+                self.take(scope, placed)?;
+                Ok(true)
+            }
+            None => Ok(false),
+        }
+    }
+
+    // Takes components as long as one is free.
+    fn take_all(&mut self, scope: &Scope<'_>) -> Result<(), NoMemory>
+        requires scope { IsScope scope.now }
+        requires so_far { IsTaking scope.now self.old }
+        ensures so_far { OnOk result (IsTaking scope.now self.new) }
+        ensures known { OnOk result (AreKnown self.new.standings.items) }
+    {
+        let mut more = true;
+        while more {
+            more = self.take_next(scope)?;
+        }
+        Ok(())
     }
 }
 
-// The least component that is free over those taken, if there is one.
-fn next_free(
-    scope: &Scope<'_>,
-    order: &[Placed],
+// The height of an own graph, by the search that is kept for the component.
+fn height_by(
+    alloc: Global,
+    table: &RawTable,
     left: &EventSet,
-    standings: &mut [Standing],
-) -> Result<Option<Placed>, NoMemory>
-    requires tables { AreTablesOf scope.now.program.now scope.now.seats.now scope.now.tables.now }
-    requires few { length scope.now.seats.now ≤ MOST_COMPONENTS }
-    requires so_far { IsSoFar (ProcessStep scope.now.program.now) scope.now.hidden.now scope.now.seats.now order.now left.now standings.old }
-    ensures so_far { OnOk result (IsSoFar (ProcessStep scope.now.program.now) scope.now.hidden.now scope.now.seats.now order.now left.now standings.new) }
-    ensures stay { OnOk result (StayKnown standings.old standings.new) }
-    ensures free { IfOk result (λ found. IfSome found (IsLeastFree (ProcessStep scope.now.program.now) scope.now.hidden.now scope.now.seats.now order.now standings.new)) }
-    ensures known { IfOk result (λ found. IfNone found (AreKnown standings.new)) }
+    search: Option<&mut OwnSearch>,
+) -> Result<Option<u32>, NoMemory>
+    ensures height { IfOk result (λ found. IfSome found (IsOwnHeight table.now left.now)) }
+    ensures round { IfOk result (λ found. IfNone found (GoesRoundItself table.now left.now)) }
 {
-    for part in 0..standings.len() {
-        match look_at(scope, order, left, standings, part)? {
-            Some(height) => {
-                return Ok(Some(Placed {
-                    part: part as u32,
-                    height,
-                }));
-            }
-            None => {}
-        }
+    match search {
+        Some(search) => search.height(alloc, table, left),
+        None => own_height(alloc, table, left),
     }
-    Ok(None)
 }
 
 // Components that have one of these events may be free from now on.
-fn reopen(scope: &Scope<'_>, events: &EventSet, standings: &mut [Standing])
-    requires as_many { length standings.old ≡ length scope.now.seats.now }
+fn reopen(scope: &Scope<'_>, events: &EventSet, standings: &mut Vec<Standing>)
+    requires as_many { length standings.old.items ≡ length scope.now.seats.now }
     requires few { length scope.now.seats.now ≤ MOST_COMPONENTS }
-    ensures as_many { length standings.new ≡ length standings.old }
-    ensures reopened { AreReopened scope.now.seats.now events.now standings.old standings.new }
+    ensures as_many { length standings.new.items ≡ length standings.old.items }
+    ensures reopened { AreReopened scope.now.seats.now events.now standings.old.items standings.new.items }
 {
     for part in 0..standings.len() {
         standings[part] = reopened(standings[part], shares(scope, part as u32, events));
     }
 }
 
-// The next component is taken. The answer is the events that are hidden and that no taken component has.
-fn take(
-    scope: &Scope<'_>,
-    placed: Placed,
-    left: &EventSet,
-    order: &mut Vec<Placed>,
-    standings: &mut [Standing],
-) -> Result<EventSet, NoMemory>
-    requires few { length scope.now.seats.now ≤ MOST_COMPONENTS }
-    requires so_far { IsSoFar (ProcessStep scope.now.program.now) scope.now.hidden.now scope.now.seats.now order.old.items left.now standings.old }
-    requires least { IsLeastFree (ProcessStep scope.now.program.now) scope.now.hidden.now scope.now.seats.now order.old.items standings.old placed }
-    ensures so_far { IfOk result (λ rest. IsSoFar (ProcessStep scope.now.program.now) scope.now.hidden.now scope.now.seats.now order.new.items rest standings.new) }
-    ensures fewer { OnOk result (waiting standings.new < waiting standings.old) }
-{
-    let events = hidden_of(scope, placed.part)?;
-    let rest = left.diff(scope.alloc, scope.seats[placed.part as usize].alphabet())?;
-    order.push(placed)?;
-    standings[placed.part as usize] = Standing::Taken;
-    reopen(scope, &events, standings);
-    Ok(rest)
+// A search for each component.
+fn no_searches(alloc: Global, count: usize) -> Result<Vec<OwnSearch>, NoMemory> {
+    let mut searches = Vec::new(alloc);
+    for _part in 0..count {
+        searches.push(OwnSearch::new(alloc))?;
+    }
+    Ok(searches)
 }
 
-// Takes the least component that is free, if there is one.
-fn take_next(
-    scope: &Scope<'_>,
-    left: &mut EventSet,
-    order: &mut Vec<Placed>,
-    standings: &mut [Standing],
-) -> Result<bool, NoMemory>
-    requires tables { AreTablesOf scope.now.program.now scope.now.seats.now scope.now.tables.now }
-    requires few { length scope.now.seats.now ≤ MOST_COMPONENTS }
-    requires so_far { IsSoFar (ProcessStep scope.now.program.now) scope.now.hidden.now scope.now.seats.now order.old.items left.old standings.old }
-    ensures so_far { OnOk result (IsSoFar (ProcessStep scope.now.program.now) scope.now.hidden.now scope.now.seats.now order.new.items left.new standings.new) }
-    ensures known { IfOk result (λ more. more ≡ false → AreKnown standings.new) }
-    ensures fewer { IfOk result (λ more. waiting standings.new + one_more more ≤ waiting standings.old) }
+// Before the first component is taken.
+fn nothing_taken(scope: &Scope<'_>) -> Result<Taking, NoMemory>
+    ensures { IfOk result (IsTaking scope.now) }
 {
-    let next = next_free(scope, order.as_slice(), left, standings)?;
-    match next {
-        Some(placed) => {
-            *left = take(scope, placed, left, order, standings)?;
-            Ok(true)
-        }
-        None => Ok(false),
-    }
-}
-
-// Takes components as long as one is free.
-fn take_all(
-    scope: &Scope<'_>,
-    left: EventSet,
-    order: &mut Vec<Placed>,
-    standings: &mut [Standing],
-) -> Result<(), NoMemory>
-    requires tables { AreTablesOf scope.now.program.now scope.now.seats.now scope.now.tables.now }
-    requires few { length scope.now.seats.now ≤ MOST_COMPONENTS }
-    requires so_far { IsSoFar (ProcessStep scope.now.program.now) scope.now.hidden.now scope.now.seats.now order.old.items left standings.old }
-    ensures so_far { OnOk result (IsTakenAll (ProcessStep scope.now.program.now) scope.now.hidden.now scope.now.seats.now order.new.items standings.new) }
-{
-    let mut left = left;
-    let mut more = true;
-    while more {
-        more = take_next(scope, &mut left, order, standings)?;
-    }
-    Ok(())
+    let _program = scope.program;
+    let order = Vec::new(scope.alloc);
+    let left = scope.hidden.try_clone(scope.alloc)?;
+    let standings = vec![in scope.alloc; Standing::Unknown; scope.seats.len()]?;
+    let searches = no_searches(scope.alloc, scope.seats.len())?;
+    Ok(Taking {
+        order,
+        left,
+        standings,
+        searches,
+    })
 }
 
 // The order in which components are taken as long as one is free, and those that are left.
 pub(crate) fn order_of(scope: &Scope<'_>) -> Result<(Vec<Placed>, Vec<u32>), NoMemory>
-    requires tables { AreTablesOf scope.now.program.now scope.now.seats.now scope.now.tables.now }
-    requires few { length scope.now.seats.now ≤ MOST_COMPONENTS }
-    ensures { IfOk result (λ made. IsTakenFar (ProcessStep scope.now.program.now) scope.now.hidden.now scope.now.seats.now made.0.items made.1.items) }
+    requires { IsScope scope.now }
+    ensures { IfOk result (λ made. AreTakenFar scope.now made.0.items made.1.items) }
 {
-    let mut order = Vec::new(scope.alloc);
-    let mut standings = vec![in scope.alloc; Standing::Unknown; scope.seats.len()]?;
-    let left = scope.hidden.try_clone(scope.alloc)?;
-    take_all(scope, left, &mut order, &mut standings)?;
-    let parts = left_over(scope.alloc, standings.as_slice())?;
-    Ok((order, parts))
+    let mut taking = nothing_taken(scope)?;
+    taking.take_all(scope)?;
+    let parts = left_over(scope.alloc, taking.standings.as_slice())?;
+    Ok((taking.order, parts))
 }

@@ -10,12 +10,15 @@ use Rattle.process_steps.specs.ComponentStep.{ProcessStep}
 use Rattle.report.specs.Prelude.{passed, told}
 use Rattle.report.specs.declared.answer.Done.{Done}
 use Rattle.csp_base.specs.Stops.{Tells}
+use Rattle.csp_base.specs.declared.stop.Stop.{Stop}
+use Rattle.csp_base.specs.declared.stop.Stop.TheVariants as stop
+use Rattle.report.specs.Stops.{HaltsWith}
 use Rattle.report.specs.declared.answer.Done.TheVariants as done
 use Rattle.report.specs.declared.answer.Refusal.TheVariants as refusal
 use Rattle.report.specs.declared.answer.Shortfall.TheVariants as shortfall
 use Rattle.report.specs.declared.answer.Verdict.TheVariants as verdict
 use Rattle.livelock.specs.Bounded.{OrderDecides}
-use Rattle.livelock.specs.Stopping.{stop_of_fault}
+use Rattle.livelock.specs.Stopping.{halt_of}
 
 module _ (network : Network) (events : List ℕ) where
   pub bound_decides : (found : HiddenBound) → IsBound (ProcessStep network.program) events (leaves network.tree) found → found.bound < 2 ^ 64
@@ -23,8 +26,8 @@ module _ (network : Network) (events : List ℕ) where
   unfolding OrderDecides
   bound_decides found is fits what same = passed is.order is.is (passed found.bound (is.bound, fits) (ap verdict.Done same))
 
-  pub fault_decides : (f : LoopFault) → TellsLoop (ProcessStep network.program) events (leaves network.tree) f → Tells (OrderDecides network events) (stop_of_fault f)
+  pub fault_decides : (why : Stop LoopFault) → Tells (TellsLoop (ProcessStep network.program) events (leaves network.tree)) why → HaltsWith (OrderDecides network events) (halt_of why)
   unfolding OrderDecides
-  fault_decides fault.NoMemory tells = tt
-  fault_decides (fault.NoOrder parts) tells = told (shortfall.NoOrder parts) (parts, tells, refl) refl
-  fault_decides (fault.BoundLimit part) tells = passed tells.order tells.is (told (refusal.BoundLimit part) (part, tells.passes, refl) refl)
+  fault_decides stop.NoMemory tells = tt
+  fault_decides (stop.Told (fault.NoOrder parts)) tells = told (shortfall.NoOrder parts) (parts, tells, refl) refl
+  fault_decides (stop.Told (fault.BoundLimit part)) tells = passed tells.order tells.is (told (refusal.BoundLimit part) (part, tells.passes, refl) refl)

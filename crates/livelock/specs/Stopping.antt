@@ -7,6 +7,7 @@ use Rattle.report.specs.declared.answer.Refusal.TheVariants as refusal
 use Rattle.report.specs.declared.answer.Shortfall.TheVariants as shortfall
 use Rattle.report.specs.declared.answer.Side.TheVariants as side
 use Rattle.report.specs.declared.answer.Site.TheVariants as site
+use Rattle.report.specs.declared.answer.Verdict.{Verdict}
 use Rattle.report.specs.declared.answer.Verdict.TheVariants as verdict
 use Rattle.report.specs.declared.stop.Halt.TheVariants as halt
 use Rattle.csp_base.specs.declared.stop.Stop.{Stop}
@@ -18,8 +19,11 @@ abbrev pub stop_without_value : EvalFault → Stop Refusal
 stop_without_value value.NoMemory = stop.NoMemory
 stop_without_value (value.Value kind) = stop.Told (refusal.Value kind site.HiddenSet)
 
--- how a fault of the bound is told
-abbrev pub stop_of_fault : LoopFault → Halt
-stop_of_fault fault.NoMemory = halt.NoMemory
-stop_of_fault (fault.NoOrder parts) = halt.Told (verdict.NotProved (shortfall.NoOrder parts))
-stop_of_fault (fault.BoundLimit part) = halt.Told (verdict.Refused side.Script (refusal.BoundLimit part))
+-- the verdict on a network that has no bound
+abbrev pub verdict_of : LoopFault → Verdict
+verdict_of (fault.NoOrder parts) = verdict.NotProved (shortfall.NoOrder parts)
+verdict_of (fault.BoundLimit part) = verdict.Refused side.Script (refusal.BoundLimit part)
+
+abbrev pub halt_of : Stop LoopFault → Halt
+halt_of stop.NoMemory = halt.NoMemory
+halt_of (stop.Told f) = halt.Told (verdict_of f)

@@ -5,28 +5,36 @@ ghost use Rattle.csp_tables.specs.Network.{leaves};
 ghost use Rattle.report.specs.Stops.{Answers};
 ghost use Rattle.report.specs.declared.answer.Done.TheVariants as done;
 ghost use Rattle.livelock.specs.Bounded.{IsBounded, OrderDecides};
-ghost use Rattle.livelock.specs.Stopping.{stop_of_fault};
+ghost use Rattle.livelock.specs.Stopping.{halt_of, verdict_of};
 
 use crate::named::{expression_named, hidden_set};
-use csp_base::EventSet;
+use csp_base::{EventSet, Stop};
 use hidden_bounds::{LoopFault, livelock};
 use network_stages::{Spelled, Tabled, make_tables};
 use report::{Done, Halt, Refusal, Shortfall, Side, Verdict};
 use std::alloc::Global;
 
-// How it is told why no bound is printed.
-fn no_bound(fault: LoopFault) -> Halt
-    ensures { result ≡ stop_of_fault fault }
+// The verdict on a network that has no bound.
+fn unbounded(fault: LoopFault) -> Verdict
+    ensures { result ≡ verdict_of fault }
 {
     match fault {
-        LoopFault::NoMemory => Halt::NoMemory,
         LoopFault::NoOrder { parts } => {
-            Halt::Told(Verdict::NotProved(Shortfall::NoOrder { components: parts }))
+            Verdict::NotProved(Shortfall::NoOrder { components: parts })
         }
-        LoopFault::BoundLimit { part } => Halt::Told(Verdict::Refused(
-            Side::Script,
-            Refusal::BoundLimit { component: part },
-        )),
+        LoopFault::BoundLimit { part } => {
+            Verdict::Refused(Side::Script, Refusal::BoundLimit { component: part })
+        }
+    }
+}
+
+// How it is told why no bound is printed.
+fn no_bound(why: Stop<LoopFault>) -> Halt
+    ensures { result ≡ halt_of why }
+{
+    match why {
+        Stop::NoMemory => Halt::NoMemory,
+        Stop::Told(fault) => Halt::Told(unbounded(fault)),
     }
 }
 
@@ -54,7 +62,7 @@ fn bound_with(alloc: Global, tabled: &Tabled<'_>, events: &EventSet) -> Result<D
         events,
     ) {
         Ok(found) => Ok(livelock_free(network, found.bound)),
-        Err(fault) => Err(no_bound(fault)),
+        Err(why) => Err(no_bound(why)),
     }
 }
 

@@ -1,6 +1,6 @@
 -- U4, and what a user offers while it holds a resource, on its runs and as tests of a node and of the parity of a link's events.
 -- (For private contracts: no public one cites this.)
-use Rattle.std.specs.Prelude.{ℕ, List, Bool, true, ◌&&◌, IsTrue, nat_eq, if◌then◌else◌}
+use Rattle.std.specs.Prelude.{◌<◌, ℕ, List, length, Bool, true, ◌&&◌, IsTrue, nat_eq, if◌then◌else◌}
 use Rattle.std.specs.List.{list_all, list_any}
 use Rattle.csp_base.specs.Prelude.{has, is_subset_of}
 use Rattle.csp_tables.specs.Prelude.{part_at, use_at, link_at, IsPossible, Accepts, accepted}

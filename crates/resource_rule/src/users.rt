@@ -75,7 +75,7 @@ fn broken_on(
 {
     let _form = setting.shape();
     let uses = LinkUse {
-        setting,
+        setting: &*setting,
         part,
         link,
         other: other_end(setting, part, link),

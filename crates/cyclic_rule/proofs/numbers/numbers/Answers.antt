@@ -34,5 +34,5 @@ returns-in-Err-Circle-clause-fault c =
       links = turned_circle c.members.result.now;
       circle = subst (IsLeastCircle (MustPrecede shape)) (sym (ap turned_circle c.members.ensures))
           (turned_least (HasArc c.in_ok-rows.rows) (MustPrecede shape) (λ m l arc. next_precedes shape c.args.orders.now c.shape-form.ensures.form c.requires.keep c.requires.orders l m (c.in_ok-rows.ensures.sound m l arc)) c.in-Err-Circle.circle it);
-      are = c.in_ok-links.ensures ∙ ap (λ (z : Shape). map (ends_of z) (turned_circle c.members.result.now)) c.shape-form.ensures.value;
+      are = c.in_ok-links-in-Err-Circle.ensures ∙ ap (λ (z : Shape). map (ends_of z) (turned_circle c.members.result.now)) c.shape-form.ensures.value;
     }

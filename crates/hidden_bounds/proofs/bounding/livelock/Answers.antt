@@ -1,10 +1,14 @@
 use Rattle.std.proofs.Common.{◌≡◌, List, ap, subst, sym, ◌∙◌}
+use Rattle.csp_base.specs.Stops.{Tells}
 use Rattle.process_steps.specs.ComponentStep.{ProcessStep}
 use Rattle.hidden_bounds.specs.Prelude.{IsTakenFar, TellsSum, taken_in}
 use Rattle.hidden_bounds.specs.declared.ordering.Placed.{Placed}
 use Rattle.hidden_steps.specs.Order.{hidden_bound}
 use Rattle.hidden_bounds.proofs.Finish.{bound_told, fault_told, some_are_left}
 use Rattle.hidden_bounds.proofs.bounding.livelock.Goals as goal
+
+pub order_of-requires : goal.order_of-requires
+order_of-requires c = record { tables = c.requires.tables; few = c.requires.few }
 
 pub returns-then-not-is_empty-clause-told : goal.returns-then-not-is_empty-clause-told
 returns-then-not-is_empty-clause-told c =
@@ -14,7 +18,7 @@ returns-then-not-is_empty-clause-told c =
 pub returns-in_err-bound-clause-told : goal.returns-in_err-bound-clause-told
 returns-in_err-bound-clause-told c =
     let far = subst (IsTakenFar (ProcessStep c.args.program.now) c.args.hidden.now c.args.seats.now c.in_ok-order.order.items) (sym c.from_vec-parts.ensures) c.in_ok-order.ensures in
-    let tells = subst (λ (o : List Placed). TellsSum c.args.hidden.now c.args.seats.now o c.in_err-bound.field-0.0) c.as_slice.ensures.value c.in_err-bound.ensures.told in
+    let tells = subst (λ (o : List Placed). Tells (TellsSum c.args.hidden.now c.args.seats.now o) c.in_err-bound.field-0.0) c.as_slice.ensures.value c.in_err-bound.ensures.told in
     fault_told (ProcessStep c.args.program.now) c.args.hidden.now c.args.seats.now c.from_residual-in_err-bound.result c.in_ok-order.order.items c.from_vec-parts.result c.in_err-bound.field-0.0 c.is_empty.result
     c.from_residual-in_err-bound.ensures.1 far c.is_empty.ensures c.if-not-is_empty.false tells
 

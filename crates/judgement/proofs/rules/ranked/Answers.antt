@@ -30,8 +30,8 @@ returns-in-Ok-clause-met c =
 pub returns-in-Ok-clause-ranks : goal.returns-in-Ok-clause-ranks
 returns-in-Ok-clause-ranks c = subst (λ (shape : Shape). Ranks c.args.rule.now shape c.in-Ok.ranking) c.shape-shape.ensures.shape c.in-Ok.ensures.ranking
 
-pub returns-in-Err-in-Told-clause-told : goal.returns-in-Err-in-Told-clause-told
-returns-in-Err-in-Told-clause-told c =
+pub returns-in-Err-Told-clause-told : goal.returns-in-Err-Told-clause-told
+returns-in-Err-Told-clause-told c =
     let network = c.args.shaped.now.network in
     let apart : IsApart network c.shape-shape.result.now = subst (IsApart network) (sym c.shape-shape.ensures.shape) c.shape-shape.ensures.apart in
-    network_broken network c.shape-shape.result.now apart.is c.args.rule.now c.in-Err.in-Told.fault c.in-Err.ensures.fault
+    network_broken network c.shape-shape.result.now apart.is c.args.rule.now c.in-Err-Told.fault (rw c.in-Err-Told.field-0-is at c.in-Err-Told.ensures.fault)

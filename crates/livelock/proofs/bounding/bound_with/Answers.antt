@@ -7,4 +7,4 @@ returns-in-Ok c =
     bound_decides c.args.tabled.now.network c.args.events.now c.in-Ok.found (search rules) c.livelock_free.ensures.fits c.livelock_free.result (search rules)
 
 pub returns-in-Err : goal.returns-in-Err
-returns-in-Err c = rw c.no_bound.ensures (fault_decides c.args.tabled.now.network c.args.events.now c.in-Err.fault (search rules))
+returns-in-Err c = rw c.no_bound.ensures (fault_decides c.args.tabled.now.network c.args.events.now c.in-Err.why (search rules))

@@ -19,10 +19,10 @@ returns c =
     let new = c.add_offered.new.rows in
     let other = c.other_end-other.result in
     IfOk-weaker c.add_offered.result _ _ (λ _ w.
-        let are = λ (e : ℕ). w.1 e ∙ ap (λ (ps : List (ℕ × ℕ)). is_offered_at c.args.setting.now c.args.part ps e) c.pairs.ensures in
-        record {
-          count = c.add_offered.ensures.count;
-          sound = λ j m arc. arc_sound g c.args.part c.args.link c.in_ok-explored.explored c.requires.part c.in_ok-explored.ensures other w.0 (has_arc old) (has_arc new) c.requires.user c.shape-form.ensures.uses c.other_end-other.ensures.joins c.other_end-other.ensures.only are w.2 j m arc;
-          kept = λ j m arc. w.2 j m ∙ or_left (has_arc old j m) (acquires g.uses w.0 j && nat_eq other m) arc;
-          complete = λ j m h of. arc_complete g c.args.part c.args.link c.in_ok-explored.explored c.requires.part c.in_ok-explored.ensures other w.0 (has_arc old) (has_arc new) c.requires.user c.shape-form.ensures.uses c.other_end-other.ensures.joins c.other_end-other.ensures.only are w.2 j m h of.0 of.1;
-        }) c.add_offered.ensures.arcs
+    let are = λ (e : ℕ). w.1 e ∙ ap (λ (ps : List (ℕ × ℕ)). is_offered_at c.args.setting.now c.args.part ps e) c.pairs.ensures in
+    record {
+      count = c.add_offered.ensures.count;
+      sound = λ j m arc. arc_sound g c.args.part c.args.link c.in_ok-explored.explored c.requires.part c.in_ok-explored.ensures other w.0 (has_arc old) (has_arc new) c.requires.user c.shape-form.ensures.uses c.other_end-other.ensures.joins c.other_end-other.ensures.only are w.2 j m arc;
+      kept = λ j m arc. w.2 j m ∙ or_left (has_arc old j m) (acquires g.uses w.0 j && nat_eq other m) arc;
+      complete = λ j m h of. arc_complete g c.args.part c.args.link c.in_ok-explored.explored c.requires.part c.in_ok-explored.ensures other w.0 (has_arc old) (has_arc new) c.requires.user c.shape-form.ensures.uses c.other_end-other.ensures.joins c.other_end-other.ensures.only are w.2 j m h of.0 of.1;
+    }) c.add_offered.ensures.arcs

@@ -28,11 +28,11 @@ turned-requires c =
     let it = c.in-Err-Circle.ensures.circle c.in-Err-Circle.circle (ap Err c.in-Err-Circle.field-0-is) in
     subst (λ (vs : List ℕ). 0 < length vs) (sym c.members.ensures) (circle_some (HasArc c.args.rows.now) c.in-Err-Circle.circle it)
 
-pub returns-in-Err-Circle-clause-fault : goal.returns-in-Err-Circle-clause-fault
-returns-in-Err-Circle-clause-fault c =
+pub returns-in_ok-resources-in-Err-Circle-clause-fault : goal.returns-in_ok-resources-in-Err-Circle-clause-fault
+returns-in_ok-resources-in-Err-Circle-clause-fault c =
     let g = c.args.setting.now in
     let it = c.in-Err-Circle.ensures.circle c.in-Err-Circle.circle (ap Err c.in-Err-Circle.field-0-is) in
-    let resources : c.in_ok-resources.resources ≡ turned_circle c.in-Err-Circle.circle = c.in_ok-resources.ensures ∙ ap turned_circle c.members.ensures in
+    let resources : c.in_ok-resources-in-Err-Circle.resources ≡ turned_circle c.in-Err-Circle.circle = c.in_ok-resources-in-Err-Circle.ensures ∙ ap turned_circle c.members.ensures in
     record {
       keep_uses = c.requires.keep;
       circle = subst (IsLeastCircle (IsHeldWhile g.shape g.uses)) (sym resources)

@@ -25,7 +25,7 @@ returns c =
     let shared : c.new.result.events.now ≡ (link_at c.args.setting.now.shape c.args.link).shared = c.new.ensures ∙ c.shared.ensures ∙ ap (λ (k : Link). k.shared) c.link.ensures in
     let at = λ (run : Option (List ℕ)) (s : Shape) (n : ℕ) (S : List ℕ). IsDecided s n (λ t. are_uses g i l j (end_of (part_at s.parts n).table 0 t, observed (parity_step S) 0 t) ≡ true) run in
     IfOk-weaker c.failing_run.result _ _ (λ (run : Option (List ℕ)) d.
-        decided_use g i l j c.requires.part c.other_end.ensures.joins c.other_end.ensures.only run
-        (subst (λ (s : Shape). at run s i (link_at g.shape l).shared) c.component-component.ensures.shape
-        (subst (λ (n : ℕ). at run component.shape.now n (link_at g.shape l).shared) c.component-component.ensures.number
-        (subst (λ (S : List ℕ). at run component.shape.now component.number S) shared d)))) c.failing_run.ensures
+    decided_use g i l j c.requires.part c.other_end.ensures.joins c.other_end.ensures.only run
+    (subst (λ (s : Shape). at run s i (link_at g.shape l).shared) c.component-component.ensures.shape
+    (subst (λ (n : ℕ). at run component.shape.now n (link_at g.shape l).shared) c.component-component.ensures.number
+    (subst (λ (S : List ℕ). at run component.shape.now component.number S) shared d)))) c.failing_run.ensures

@@ -43,4 +43,7 @@ returns c s j n e joins possible on =
     c.loop-link.invariant x.0 n j s (omega arith) x.2 joins e possible on
 
 pub returns-in-Some : goal.returns-in-Some
-returns-in-Some c = (c.in_ok-run.ensures.0, λ used. c.in_ok-run.ensures.1 (λ j joins e possible on. used j (get_or c.links-link-items.result.now c.loop-link.link-index 0) e joins possible on))
+returns-in-Some c =
+    let link = get_or c.links-link-items.result.now c.loop-link.link-index 0 in
+    let found = subst (FindsRun c.args.setting.now.shape c.args.part (λ s. (j : ℕ) → Joins c.args.setting.now.shape c.args.part j link → UsesLink c.args.setting.now c.args.part link j s)) c.in-Some.is c.in_ok-run.ensures in
+    (found.0, λ used. found.1 (λ j joins e possible on. used j link e joins possible on))

@@ -1,0 +1,14 @@
+use Rattle.std.proofs.Common.{refl}
+use Rattle.hidden_bounds.proofs.OwnGraphs.{height_of, round_of}
+use Rattle.hidden_bounds.specs.Own.{AreOwnRows}
+use Rattle.hidden_bounds.proofs.own_graph.own_height.Goals as goal
+
+pub returns-in-Ok-clause-height : goal.returns-in-Ok-clause-height
+returns-in-Ok-clause-height c =
+    let rows : AreOwnRows c.args.table.now c.args.events.now c.in_ok-rows.rows = c.in_ok-rows.ensures in
+    rw (c.greatest_of.ensures, c.as_slice.ensures) (height_of c.args.table.now c.args.events.now c.in_ok-rows.rows rows c.in-Ok.heights c.count-form.ensures.form.first c.in-Ok.ensures.heights)
+
+pub returns-in-Err-Circle-clause-round : goal.returns-in-Err-Circle-clause-round
+returns-in-Err-Circle-clause-round c =
+    let rows : AreOwnRows c.args.table.now c.args.events.now c.in_ok-rows.rows = c.in_ok-rows.ensures in
+    (c.in-Err-Circle._circle, round_of c.args.table.now c.args.events.now c.in_ok-rows.rows rows c.in-Err-Circle._circle (c.in-Err-Circle.ensures.circle c.in-Err-Circle._circle (rw c.in-Err-Circle.field-0-is refl)).circle)
