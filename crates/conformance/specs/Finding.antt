@@ -1,15 +1,9 @@
 -- What is looked for in the pairs of a table's node and a node of its specification to which runs lead. (For private contracts: no public one cites
 -- this.)
 use Rattle.std.specs.Prelude.{◌<◌, ◌≤◌, ℕ, List, [], length, get_or}
-use Rattle.csp_tables.specs.Prelude.{Part, Node, node_at}
-use Rattle.observed_runs.specs.Prelude.{pair_at, AreFound, Found, IsExploration}
+use Rattle.csp_tables.specs.Prelude.{Node, node_at}
+use Rattle.observed_runs.specs.Prelude.{pair_at}
 use Rattle.conformance.specs.Conforming.{HasWithin}
-use Rattle.conformance.specs.Following.{follow_step}
-
--- the pairs to which the runs of the part lead, in its table and in that of its specification
-pub record Follows (part specified : Part) (found : Found) : Type 0 where
-  pub explored : IsExploration part.table (follow_step part.alphabet specified.table) 0 found.pairs
-  pub origins : AreFound part.table (follow_step part.alphabet specified.table) 0 found
 
 -- the first n pairs are at a node of the specification
 abbrev pub AreInside : List Node → List (ℕ × ℕ) → ℕ → Type 0

@@ -4,9 +4,10 @@ ghost use Rattle.std.specs.Prelude.{◌≡◌, ◌<◌, ℕ, IfErr, IfNone, IfOk
 ghost use Rattle.std.specs.Bool.{OnFalse, OnTrue};
 ghost use Rattle.csp_base.specs.Stops.{Tells};
 ghost use Rattle.csp_tables.specs.Form.{HasForm};
-ghost use Rattle.observed_runs.specs.Observed.{pair_at};
+ghost use Rattle.observed_runs.specs.Prelude.{AreFound, IsExploration, pair_at};
 ghost use Rattle.conformance.specs.Conforming.{TableConforms};
-ghost use Rattle.conformance.specs.Finding.{AcceptsAt, AllAccept, AreInside, Follows, IsFirstOutside, RefusesAt};
+ghost use Rattle.conformance.specs.Finding.{AcceptsAt, AllAccept, AreInside, IsFirstOutside, RefusesAt};
+ghost use Rattle.conformance.specs.Following.{follow_step};
 ghost use Rattle.conformance.specs.Told.{Fails};
 
 use crate::alike::{alike_nodes, alike_number};
@@ -31,13 +32,14 @@ pub(crate) fn conform(
     ensures told { IfErr result (Tells (Fails part.now.table specified.now.table)) }
 {
     let explored = followed(alloc, part, specified)?;
-    if let Some(place) = outside_place(specified, explored.pairs()) {
+    let pairs = explored.pairs();
+    if let Some(place) = outside_place(specified, pairs) {
         let (earlier, event) = explored.origin(place);
         let mut trace = explored.run_to(alloc, earlier)?;
         trace.push(event)?;
         return Err(Stop::Told(ConformFault::Outside { trace }));
     }
-    if let Some(place) = refusing_place(alloc, part, specified, explored.pairs())? {
+    if let Some(place) = refusing_place(alloc, part, specified, pairs)? {
         let trace = explored.run_to(alloc, place)?;
         return Err(Stop::Told(ConformFault::Refuses { trace }));
     }
@@ -48,7 +50,8 @@ pub(crate) fn conform(
 fn followed(alloc: Global, part: &Part, specified: &Part) -> Result<Explored, NoMemory>
     requires form { HasForm part.now }
     requires specified_form { HasForm specified.now }
-    ensures { IfOk result (Follows part.now specified.now) }
+    ensures pairs { IfOk result (λ made. IsExploration part.now.table (follow_step part.now.alphabet specified.now.table) 0 made.pairs) }
+    ensures found { IfOk result (λ made. AreFound part.now.table (follow_step part.now.alphabet specified.now.table) 0 made) }
 {
     let rows = steps_of(alloc, part, part.alphabet())?;
     let follower = Follower::new(part.alphabet(), specified);

@@ -6,6 +6,7 @@ ghost use Rattle.csp_tables.specs.Prelude.{HasForm, StepsHaveForm, node_at};
 use csp_tables::{NormNode, Part};
 
 // The node of the part with this number, if there is one.
+#[tactic(auto, using(crate::proofs::Following::past_end, crate::proofs::Following::steps_form))]
 pub(crate) fn node_of(part: &Part, number: u32) -> Option<&NormNode>
     ensures there { IfSome result (λ node. number < length part.now.table) }
     ensures node { IfSome result (λ node. node.now ≡ node_at part.now.table number) }

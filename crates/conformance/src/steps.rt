@@ -35,6 +35,7 @@ fn is_found(set: &EventSet, others: &[EventSet]) -> bool
 }
 
 // Whether the set contains one of the others. Where these are many, an equal one is looked for first.
+#[tactic(auto, using(crate::proofs::Searching::one_more_not, crate::proofs::Searching::read_within))]
 fn contains_one(set: &EventSet, others: &[EventSet]) -> bool
     ensures { MatchBool result (HasWithin others.now set.now) (HasWithin others.now set.now → ⊥) }
 {
