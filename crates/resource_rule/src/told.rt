@@ -13,7 +13,11 @@ use shape_links::Setting;
 use std::alloc::Global;
 
 // Whether each node of the part tells on which links it holds a resource there, and each event is in turn.
-pub(crate) fn uses_are_told(alloc: Global, setting: &Setting<'_>, part: u32) -> Result<bool, NoMemory>
+pub(crate) fn uses_are_told(
+    alloc: Global,
+    setting: &Setting<'_>,
+    part: u32,
+) -> Result<bool, NoMemory>
     requires { part < length setting.now.shape.parts }
     ensures { IfOk result (λ told. told ≡ true → (s : List ℕ) → UsesInTurn setting.now.shape setting.now.uses part s) }
 {
