@@ -4,7 +4,7 @@ use Rattle.std.specs.List.{IsFirstBest}
 use Rattle.std.proofs.lemmas.List.{length-append, length-take-le, length-drop, get_or-take, get_or-drop, get_or_append_left, get_or-append_right}
 use Rattle.std.proofs.lemmas.Bool.{cases_lt, ltb-false}
 use Rattle.digraph.specs.Prelude.{Digraph, HasArc, IsCircle, IsLeastCircle}
-use Rattle.circles.specs.Turn.{IsTurnedFrom}
+use Rattle.digraph.specs.Turn.{IsTurnedFrom}
 use Rattle.digraph.proofs.WalkLaws.{Leads-from_places}
 
 -- a circle of distinct vertices, place by place

@@ -2,7 +2,7 @@
 
 ghost use Rattle.std.specs.Prelude.{◌≡◌, ℕ, ◌<◌, length, slice_index, nat_lt, IfOk};
 ghost use Rattle.std.specs.List.{IsFirstBest};
-ghost use Rattle.circles.specs.Turn.{IsTurnedFrom};
+ghost use Rattle.digraph.specs.Turn.{IsTurnedFrom};
 
 use std::alloc::{AllocError, Global};
 use std::marker::Model;
