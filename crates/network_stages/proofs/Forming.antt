@@ -1,14 +1,8 @@
 -- The links and the vocabulary of parts are those of a shape.
-use Rattle.std.proofs.Common.{◌≡◌, ℕ, suc, ◌<◌, ◌≤◌, inl, inr, List, [], ◌∷◌, length, true, IsTrue, sym, subst, ◌∙◌, arith}
-use Rattle.csp_base.proofs.Standard.{or_cases, false≢true, list_any_at}
-use Rattle.csp_base.specs.Members.{has}
-use Rattle.csp_tables.specs.Prelude.{Part, part_at, alphabets_of, sharers, Link, IsLinked, LinksAreOrdered}
-use Rattle.net_sound.proofs.Sharers.{at_two}
-use Rattle.network_stages.specs.Rows.{row_at, AreRows, has_event, any_has_event, AreLinksBefore, IsVocabulary}
+use Rattle.network_stages.proofs.Prelude.{◌≡◌, ℕ, suc, ◌<◌, ◌≤◌, inl, inr, List, [], ◌∷◌, length, true, IsTrue, sym, subst, ◌∙◌, arith, or_cases, false≢true, list_any_at, has, Part, part_at, alphabets_of, sharers, Link, IsLinked, LinksAreOrdered, at_two, row_at, AreRows, has_event, any_has_event, AreLinksBefore, IsVocabulary, pair_at}
 use Rattle.network_stages.proofs.Sharing.{two_owners}
 use Rattle.network_stages.proofs.Linking.{pair_of, of_pair}
 use Rattle.network_stages.proofs.Counting.{few_links}
-use Rattle.observed_runs.specs.Observed.{pair_at}
 
 -- ---- the vocabulary
 

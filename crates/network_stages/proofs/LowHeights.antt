@@ -1,16 +1,7 @@
 -- The heights of a table are below the number of its terms: below each height stand all lower ones, each at a term of its own.
-use Rattle.std.proofs.Common.{◌≡◌, ℕ, zero, suc, ◌+◌, ◌-◌, ◌*◌, ◌<◌, ◌≤◌, List, [], ◌∷◌, Some, slice_get, get_or, length, min, take, refl, ap, subst, ◌∙◌, inl, inr, arith}
-use Rattle.csp_base.proofs.Standard.{cases_lt, none-some, same_Some, slice_get-get_or, slice_get_within}
-use Rattle.csp_program.specs.declared.processes.Proc.{Proc}
-use Rattle.csp_program.specs.declared.programs.Content.{Content}
-use Rattle.csp_tables.specs.Prelude.{silent, Component, SilentStep, RawStep}
-use Rattle.digraph.specs.Walk.{AreHeights, Walk}
-use Rattle.local_tables.specs.Room.{Room}
-use Rattle.net_sound.specs.Heights.{sum_of_greatest}
-use Rattle.network_stages.specs.Prelude.{AreTablesOf, AreTablesWithin, IsTableWithin, room_after, whole_room}
-use Rattle.network_stages.specs.declared.component_tables.ComponentTable.{ComponentTable}
+use Rattle.network_stages.proofs.Prelude.{◌≡◌, ℕ, zero, suc, ◌+◌, ◌-◌, ◌*◌, ◌<◌, ◌≤◌, List, [], ◌∷◌, Some, slice_get, get_or, length, min, take, refl, ap, subst, ◌∙◌, inl, inr, arith, cases_lt, none-some, same_Some, slice_get-get_or, slice_get_within, Proc, Content, silent, Component, SilentStep, RawStep, Walk, Room, sum_of_greatest, AreTablesOf, AreTablesWithin, IsTableWithin, room_after, whole_room, ComponentTable, greatest}
+use Rattle.digraph.specs.Walk.{AreHeights}
 use Rattle.network_stages.proofs.HeightSums.{all_heights, one_sum}
-use Rattle.csp_base.specs.Lists.{greatest}
 
 -- how many of the numbers are below m
 abbrev below : ℕ → List ℕ → ℕ

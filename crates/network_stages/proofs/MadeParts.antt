@@ -1,18 +1,6 @@
 -- Parts of components, one after another: each is the normal table of its component's table.
-use Rattle.std.proofs.Common.{◌≡◌, inl, inr, ℕ, ◌+◌, ◌<◌, ◌≤◌, List, [], ◌∷◌, ◌++◌, length, take, get_or, slice_get, Some, refl, sym, ap, subst, ◌∙◌, add-one, arith}
-use Rattle.csp_base.proofs.Standard.{take-suc, cases_eq, take_all, same_Some, slice_get-get_or}
-use Rattle.csp_program.specs.declared.processes.Proc.{Proc}
-use Rattle.csp_program.specs.declared.programs.Content.{Content}
-use Rattle.csp_tables.specs.Prelude.{HasForm, HaveForm, Component, ComponentStep, IsNormalTable, Part, RawStep, ArePartsOf, IsPartOf, Node}
-use Rattle.net_sound.proofs.FormOfTables.{table_has_form}
-use Rattle.net_sound.proofs.Normal.{normal_tables_carry_over}
-use Rattle.network_stages.specs.Prelude.{AreTablesOf, HasTable, HasManySets, HaveFewSets, HaveFewSetsBefore, HasNoPart, HaveNoParts}
-use Rattle.network_stages.specs.declared.component_tables.ComponentTable.{ComponentTable}
-use Rattle.process_steps.specs.ComponentStep.{ProcessStep}
+use Rattle.network_stages.proofs.Prelude.{◌≡◌, inl, inr, ℕ, ◌+◌, ◌<◌, ◌≤◌, List, [], ◌∷◌, ◌++◌, length, take, get_or, slice_get, Some, refl, sym, ap, subst, ◌∙◌, add-one, arith, take-suc, cases_eq, take_all, same_Some, slice_get-get_or, Proc, Content, HasForm, HaveForm, Component, ComponentStep, IsNormalTable, Part, RawStep, ArePartsOf, IsPartOf, Node, table_has_form, normal_tables_carry_over, AreTablesOf, HasTable, HasManySets, HaveFewSets, HaveFewSetsBefore, HasNoPart, HaveNoParts, ComponentTable, ProcessStep, Tells, Stop, Refusal}
 use Rattle.process_steps.specs.declared.component_fault.ComponentFault.TheVariants as fault
-use Rattle.csp_base.specs.Prelude.{Tells}
-use Rattle.csp_base.specs.declared.stop.Stop.{Stop}
-use Rattle.report.specs.declared.answer.Refusal.{Refusal}
 use Rattle.report.specs.declared.answer.Refusal.TheVariants as refusal
 use Rattle.csp_base.specs.declared.stop.Stop.TheVariants as stop
 

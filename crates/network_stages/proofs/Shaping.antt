@@ -1,13 +1,7 @@
 -- The parts of a network's components, linked, are its shape.
-use Rattle.std.proofs.Common.{◌≡◌, ℕ, zero, suc, ◌<◌, ◌≤◌, List, [], ◌∷◌, length, refl, sym, ap, subst, ◌∙◌, arith}
-use Rattle.csp_program.specs.declared.processes.Proc.{Proc}
-use Rattle.csp_program.specs.declared.programs.Content.{Content}
-use Rattle.csp_tables.specs.Prelude.{HaveForm, Component, leaves, Part, TripleDisjoint, alphabets_of, part_at, IsLinked, Shape, ArePartsOf}
-use Rattle.net_sound.proofs.Parts.{one_part_each}
+use Rattle.network_stages.proofs.Prelude.{◌≡◌, ℕ, zero, suc, ◌<◌, ◌≤◌, List, [], ◌∷◌, length, refl, sym, ap, subst, ◌∙◌, arith, Proc, Content, HaveForm, Component, leaves, Part, TripleDisjoint, alphabets_of, part_at, IsLinked, Shape, ArePartsOf, one_part_each, IsSpelled, Network, IsApart, HasParts, ProcessStep}
 use Rattle.network_layout.specs.Triple.{alphabets}
-use Rattle.network_stages.specs.Prelude.{IsSpelled, Network, IsApart, HasParts}
 use Rattle.network_stages.proofs.Spelling.{few_components}
-use Rattle.process_steps.specs.ComponentStep.{ProcessStep}
 
 -- parts have the alphabets of their components
 same_alphabets : (p : Content) (cs : List (Component Proc)) (ps : List Part) → ArePartsOf (ProcessStep p) cs ps → alphabets cs ≡ alphabets_of ps

@@ -1,17 +1,6 @@
 -- Tables of components, one after another.
-use Rattle.std.proofs.Common.{◌≡◌, ℕ, zero, suc, ◌+◌, ◌<◌, ◌≤◌, ◌-◌, List, [], ◌∷◌, ◌++◌, length, take, get_or, slice_get, Some, Result, Ok, Err, IfErr, refl, sym, ap, subst, ◌∙◌, add-one, arith, inr}
-use Rattle.csp_base.proofs.Standard.{take-suc, none-some, same_Some, slice_get-get_or, length_push, take_all}
-use Rattle.csp_program.specs.declared.processes.Proc.{Proc}
-use Rattle.csp_program.specs.declared.programs.Content.{Content}
-use Rattle.csp_tables.specs.Network.{Component}
-use Rattle.local_tables.specs.Prelude.{IsLocalTable, Room}
+use Rattle.network_stages.proofs.Prelude.{◌≡◌, ℕ, zero, suc, ◌+◌, ◌<◌, ◌≤◌, ◌-◌, List, [], ◌∷◌, ◌++◌, length, take, get_or, slice_get, Some, Result, Ok, Err, IfErr, refl, sym, ap, subst, ◌∙◌, add-one, arith, inr, take-suc, none-some, same_Some, slice_get-get_or, length_push, take_all, Proc, Content, Component, IsLocalTable, Room, LocalTable, HasFault, TellsHere, TellsRound, at_component, HaveNoTables, AreTablesOf, AreTablesWithin, HasTable, IsTableWithin, room_after, room_left, whole_room, ComponentTable, Tells, Stop, Refusal}
 use Rattle.local_tables.specs.declared.fault.Unexplored.{Unexplored}
-use Rattle.local_tables.specs.declared.local_table.LocalTable.{LocalTable}
-use Rattle.network_stages.specs.Prelude.{HasFault, TellsHere, TellsRound, at_component, HaveNoTables, AreTablesOf, AreTablesWithin, HasTable, IsTableWithin, room_after, room_left, whole_room}
-use Rattle.network_stages.specs.declared.component_tables.ComponentTable.{ComponentTable}
-use Rattle.csp_base.specs.Prelude.{Tells}
-use Rattle.csp_base.specs.declared.stop.Stop.{Stop}
-use Rattle.report.specs.declared.answer.Refusal.{Refusal}
 use Rattle.local_tables.specs.declared.fault.Unexplored.TheVariants as unexplored
 
 module _ (p : Content) where

@@ -1,5 +1,4 @@
-use Rattle.std.proofs.Common.{◌≡◌, ℕ, take}
-use Rattle.csp_base.specs.Prelude.{has, AreBlocks, events_of}
+use Rattle.csp_base.proofs.Prelude.{◌≡◌, ℕ, take, has, AreBlocks, events_of}
 use Rattle.csp_base.proofs.blocks.collected.Given as goal
 
 abbrev pub invariant-loop-event : goal.invariant-loop-event

@@ -1,8 +1,7 @@
-use Rattle.std.proofs.Common.{refl, sym, ap, ap₂, ◌∙◌}
+use Rattle.dl_top.proofs.Prelude.{refl, sym, ap, ap₂, ◌∙◌, IsLoad}
 use Rattle.command_words.specs.declared.request.Request.TheVariants as request
 use Rattle.dl_top.proofs.Loading.{names_none, same_request}
 use Rattle.dl_top.proofs.Walks.{ends_weaker}
-use Rattle.dl_top.specs.Cause.{IsLoad}
 use Rattle.dl_top.proofs.load.answered.Goals as goal
 
 pub returns-in-Show-clause-calls : goal.returns-in-Show-clause-calls

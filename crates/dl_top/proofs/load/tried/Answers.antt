@@ -1,10 +1,7 @@
-use Rattle.std.proofs.Common.{List, [], ℕ, subst, ◌∙◌, arith}
-use Rattle.command_words.specs.declared.request.Job.TheVariants.{Check}
+use Rattle.dl_top.proofs.Prelude.{List, [], ℕ, subst, ◌∙◌, arith, Check, Rule, TextsCallFor, TextCallsFor, trial_text}
 use Rattle.command_words.specs.declared.request.Request.TheVariants as request
-use Rattle.csp_tables.specs.declared.rule.Rule.{Rule}
 use Rattle.dl_top.proofs.Lengths.{trial_is_short}
 use Rattle.dl_top.proofs.Walks.{at_short}
-use Rattle.dl_top.specs.Prelude.{TextsCallFor, TextCallsFor, trial_text}
 use Rattle.dl_top.proofs.load.tried.Goals as goal
 
 pub judge-requires : goal.judge-requires

@@ -1,8 +1,5 @@
-use Rattle.std.proofs.Common.{◌∙◌, rules, subst}
-use Rattle.network_stages.specs.Prelude.{Network, StaysBusy}
-use Rattle.report.proofs.Points.{exits, goes_on}
+use Rattle.judgement.proofs.Prelude.{◌∙◌, rules, subst, Network, StaysBusy, exits, goes_on, IsJudged, RuleDecides}
 use Rattle.report.specs.Stops.{Answers}
-use Rattle.judgement.specs.Judged.{IsJudged, RuleDecides}
 use Rattle.judgement.proofs.judging.judged.Goals as goal
 
 pub returns-in_err-tabled : goal.returns-in_err-tabled

@@ -1,15 +1,9 @@
-use Rattle.std.proofs.Common.{ap, rules, subst}
+use Rattle.judgement.proofs.Prelude.{ap, rules, subst, Network, ProcessStep, at_refusal, at_shortfall, goes_on, greatest_rank, RuleDecides, HasUntold, Notes}
 use Rattle.design_rules.proofs.GreatestRanks.{rankings_have_greatest_rank}
-use Rattle.network_stages.specs.Networks.{Network}
-use Rattle.process_steps.specs.ComponentStep.{ProcessStep}
-use Rattle.report.proofs.Points.{at_refusal, at_shortfall, goes_on}
 use Rattle.report.specs.Points.Point.{passed}
 use Rattle.csp_base.specs.Stops.{Tells}
 use Rattle.report.specs.declared.answer.Side.TheVariants as side
 use Rattle.report.specs.declared.answer.Verdict.TheVariants as verdict
-use Rattle.design_rules.specs.RankCounts.{greatest_rank}
-use Rattle.judgement.specs.Judged.{RuleDecides}
-use Rattle.judgement.specs.Noted.{HasUntold, Notes}
 use Rattle.judgement.proofs.Living.{live}
 use Rattle.judgement.proofs.Notes.{has_notes}
 use Rattle.judgement.proofs.judging.ruled.Goals as goal

@@ -1,11 +1,5 @@
-use Rattle.std.proofs.Common.{subst, sym}
-use Rattle.csp_tables.specs.Prelude.{leaves, TripleDisjoint, alphabets_of, IsWellFormed, Shape}
-use Rattle.design_rules.proofs.Readings.{networks_meet}
-use Rattle.design_rules.specs.Rules.{HasNotes, Ranks}
-use Rattle.net_sound.proofs.FormOfTables.{shapes_are_well_formed}
+use Rattle.judgement.proofs.Prelude.{subst, sym, leaves, TripleDisjoint, alphabets_of, IsWellFormed, Shape, networks_meet, HasNotes, Ranks, shapes_are_well_formed, IsApart, ProcessStep}
 use Rattle.network_stages.proofs.Shaping.{parts_apart}
-use Rattle.network_stages.specs.Shapes.{IsApart}
-use Rattle.process_steps.specs.ComponentStep.{ProcessStep}
 use Rattle.judgement.proofs.Broken.{network_broken}
 use Rattle.judgement.proofs.rules.ranked.Goals as goal
 

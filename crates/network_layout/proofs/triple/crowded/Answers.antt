@@ -1,5 +1,4 @@
-use Rattle.std.proofs.Common.{arith, subst, take, ◌++◌, ◌∷◌, []}
-use Rattle.network_layout.specs.Triple.{IsCounted, alphabets}
+use Rattle.network_layout.proofs.Prelude.{arith, subst, take, ◌++◌, ◌∷◌, [], IsCounted, alphabets}
 use Rattle.network_layout.proofs.Triples.{counted_seat}
 use Rattle.network_layout.proofs.triple.crowded.Goals as goal
 

@@ -1,5 +1,4 @@
-use Rattle.std.proofs.Common.{take}
-use Rattle.network_layout.specs.Triple.{IsCounted, alphabets}
+use Rattle.network_layout.proofs.Prelude.{take, IsCounted, alphabets}
 use Rattle.network_layout.proofs.triple.crowded.Given as goal
 
 -- the alphabets so far are counted

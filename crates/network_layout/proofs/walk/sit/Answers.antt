@@ -1,7 +1,5 @@
-use Rattle.std.proofs.Common.{ap, arith, length, ◌<◌, ◌∙◌}
+use Rattle.network_layout.proofs.Prelude.{ap, arith, length, ◌<◌, ◌∙◌, union_of, component, place_of}
 use Rattle.csp_base.proofs.Results.{pushed}
-use Rattle.csp_base.specs.Events.{union_of}
-use Rattle.network_layout.specs.Lays.{component, place_of}
 use Rattle.network_layout.proofs.Laid.{component_laid}
 use Rattle.network_layout.proofs.walk.sit.Goals as goal
 

@@ -1,5 +1,4 @@
-use Rattle.std.proofs.Common.{arith, subst, sym}
-use Rattle.network_stages.specs.Tables.{whole_room}
+use Rattle.network_stages.proofs.Prelude.{arith, subst, sym, whole_room}
 use Rattle.network_stages.proofs.Tabling.{AreMade, first_fault, none_made, one_made}
 use Rattle.network_stages.proofs.component_tables.tables_from.Goals as goal
 

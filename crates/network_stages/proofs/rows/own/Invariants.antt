@@ -1,5 +1,4 @@
-use Rattle.std.proofs.Common.{◌≡◌, ◌+◌, ◌-◌, ℕ, vec_len}
-use Rattle.network_stages.specs.Rows.{owner_of}
+use Rattle.network_stages.proofs.Prelude.{◌≡◌, ◌+◌, ◌-◌, ℕ, vec_len, owner_of}
 use Rattle.network_stages.proofs.rows.own.Given as goal
 
 abbrev pub invariant-loop-owners : goal.invariant-loop-owners

@@ -1,5 +1,4 @@
-use Rattle.std.proofs.Common.{length, sym, subst}
-use Rattle.network_stages.specs.Rows.{AreRows}
+use Rattle.network_stages.proofs.Prelude.{length, sym, subst, AreRows}
 use Rattle.network_stages.proofs.shapes.joined.Goals as goal
 
 pub returns-clause-links : goal.returns-clause-links

@@ -1,6 +1,4 @@
-use Rattle.std.proofs.Common.{◌≤◌, List, length, sym, subst, ◌∙◌}
-use Rattle.csp_tables.specs.Prelude.{leaves, Part, TripleDisjoint, alphabets_of}
-use Rattle.network_stages.specs.Prelude.{IsSpelled, Network, IsApart}
+use Rattle.network_stages.proofs.Prelude.{◌≤◌, List, length, sym, subst, ◌∙◌, leaves, Part, TripleDisjoint, alphabets_of, IsSpelled, Network, IsApart}
 use Rattle.network_stages.proofs.Shaping.{few_parts, is_apart, no_three, parts_apart}
 use Rattle.network_stages.proofs.shapes.make_shape.Goals as goal
 

@@ -1,6 +1,4 @@
-use Rattle.std.proofs.Common.{subst}
-use Rattle.csp_program.specs.declared.programs.Content.{Content}
-use Rattle.network_stages.specs.Networks.{AreSeatsOf}
+use Rattle.network_stages.proofs.Prelude.{subst, Content, AreSeatsOf}
 use Rattle.network_stages.proofs.Spelling.{seats_of}
 use Rattle.network_stages.proofs.spelled.seated.Goals as goal
 

@@ -1,7 +1,4 @@
-use Rattle.std.proofs.Common.{◌≤◌, List, length, sym, subst}
-use Rattle.csp_program.specs.declared.processes.Proc.{Proc}
-use Rattle.csp_tables.specs.Network.{Component, leaves}
-use Rattle.network_stages.specs.Prelude.{Network, HasTables}
+use Rattle.network_stages.proofs.Prelude.{◌≤◌, List, length, sym, subst, Proc, Component, leaves, Network, HasTables}
 use Rattle.network_stages.proofs.Tabling.{few_tables}
 use Rattle.network_stages.proofs.tabled.Tabled.silent_bound.Goals as goal
 
