@@ -1,4 +1,5 @@
 pub mod Adding
+pub mod Holding
 pub mod InTurn
 pub mod Offering
 pub mod Using

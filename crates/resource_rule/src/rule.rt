@@ -48,7 +48,8 @@ fn checked_numbers(alloc: Global, setting: &Setting<'_>) -> Result<Heights, Stop
     ensures keep { OnOk result (KeepUses setting.now.shape setting.now.uses) }
     ensures count { IfOk result (λ heights. length heights ≡ length setting.now.shape.parts) }
     ensures below { IfOk result (λ heights. All (λ height. height < length setting.now.shape.parts) heights) }
-    ensures numbers { IfOk result (λ heights. AreResourceNumbers setting.now.shape setting.now.uses (number_by heights)) }
+    ensures numbers { IfOk result (λ heights.
+        AreResourceNumbers setting.now.shape setting.now.uses (number_by heights)) }
     ensures rise { IfOk result (λ heights. ResourcesRise setting.now.shape setting.now.uses (number_by heights)) }
     ensures fault { IfErr result (Tells (Breaks setting.now)) }
 {

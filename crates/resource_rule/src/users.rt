@@ -76,7 +76,8 @@ fn broken_on(
     requires part { part < length setting.now.shape.parts }
     requires link { link < length setting.now.shape.links }
     requires end { IsTrue (is_end setting.now.shape part link) }
-    ensures { IfOk result (FindsRun setting.now.shape part (λ s. (j : ℕ) → Joins setting.now.shape part j link → UsesLink setting.now part link j s)) }
+    ensures { IfOk result (FindsRun setting.now.shape part (λ s. (j : ℕ) → Joins setting.now.shape part j link
+        → UsesLink setting.now part link j s)) }
 {
     let _form = setting.shape();
     let uses = LinkUse {
@@ -130,7 +131,8 @@ impl<'a> Requirement for LinkUse<'a> {
 
 // Whether the event of each of the steps, if it is on the link, is in turn.
 fn all_uses(link: &LinkUse<'_>, state: u32, steps: &[(Event, u32)]) -> bool
-    ensures { result ≡ list_all (λ (step : ℕ × ℕ). is_use link.now.setting.now link.now.link link.now.other state step.0) steps.now }
+    ensures { result ≡ list_all (λ (step : ℕ × ℕ).
+        is_use link.now.setting.now link.now.link link.now.other state step.0) steps.now }
 {
     for (event, _) in steps {
         if !use_in_turn(link, state, *event) {

@@ -3,7 +3,6 @@ use Rattle.std.specs.Prelude.{slice_index}
 use Rattle.digraph.specs.Prelude.{HasArc, IsLeastCircle}
 use Rattle.digraph.proofs.WalkLaws.{same_longest}
 use Rattle.design_rules.specs.Prelude.{IsHeldWhile, StandsAbove}
-use Rattle.design_rules.specs.declared.rule_fault.RuleFault.TheVariants.{ResourcesCircle}
 use Rattle.shape_links.specs.Turned.{turned_circle}
 use Rattle.shape_links.proofs.Circles.{turned_least, circle_some}
 use Rattle.resource_rule.proofs.numbers.numbers.Goals as goal

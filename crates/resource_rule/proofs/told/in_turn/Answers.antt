@@ -1,4 +1,4 @@
-use Rattle.std.proofs.Common.{◌≡◌, ◌∙◌, ℕ, List, ap, refl, sym, subst}
+use Rattle.std.proofs.Common.{◌∙◌, ℕ, List, ap, refl, sym, subst}
 use Rattle.csp_base.proofs.Standard.{cond-false, cond-true, none-some, same_Some}
 use Rattle.csp_base.specs.Prelude.{has}
 use Rattle.csp_tables.specs.Prelude.{Joins, UseSets, use_at}

@@ -1,4 +1,4 @@
-use Rattle.std.proofs.Common.{◌≤◌, ◌<◌, ℕ, length, subst, arith, below_more}
+use Rattle.std.proofs.Common.{◌≤◌, ℕ, length, subst, arith, below_more}
 use Rattle.csp_base.proofs.Standard.{get_or_read}
 use Rattle.csp_tables.specs.Prelude.{Shape, node_at, part_at}
 use Rattle.observed_runs.specs.Prelude.{AreEnough}

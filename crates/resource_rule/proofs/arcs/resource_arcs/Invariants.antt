@@ -1,0 +1,6 @@
+use Rattle.std.proofs.Common.{[], get_or, length, replicate}
+use Rattle.resource_rule.specs.Holdings.{AddsArcs, Below, LeadsToHeld}
+use Rattle.resource_rule.proofs.arcs.resource_arcs.Given as goal
+
+abbrev pub invariant-loop-link : goal.invariant-loop-link
+invariant-loop-link l = AddsArcs (Below (λ k. LeadsToHeld l.setting k (get_or l.sets k [])) l.link) (replicate (length l.setting.shape.parts) []) l.rows

@@ -1,0 +1,12 @@
+use Rattle.std.proofs.Common.{◌≡◌, ◌||◌, ◌&&◌, ℕ, length}
+use Rattle.std.specs.List.{list_any}
+use Rattle.csp_base.specs.Members.{has}
+use Rattle.digraph.specs.Prelude.{has_arc}
+use Rattle.resource_rule.specs.Holdings.{is_acquiring}
+use Rattle.resource_rule.proofs.sets.add_held.Given as goal
+
+abbrev pub invariant-loop-event : goal.invariant-loop-event
+invariant-loop-event l = record {
+  count : length l.sets ≡ length l.initial.sets;
+  arcs : (k x : ℕ) → (has_arc l.sets k x || (list_any (is_acquiring l.setting k) l.event-iterator && has l.held x)) ≡ (has_arc l.initial.sets k x || (list_any (is_acquiring l.setting k) l.offers && has l.held x));
+}
