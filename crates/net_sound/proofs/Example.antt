@@ -22,16 +22,13 @@ IsAwake at_one = Unit {0}
 
 awake_after : (x : Turn) (l : Label) (y : Turn) → TurnStep x l y → IsAwake y
 awake_after waking silent y h = subst IsAwake (sym h) tt
-awake_after waking (visible e) y h = absurd h
-awake_after at_zero silent y h = absurd h
 awake_after at_zero (visible e) y h = subst IsAwake (sym h.1) tt
-awake_after at_one silent y h = absurd h
 awake_after at_one (visible e) y h = subst IsAwake (sym h.1) tt
+awake_after _ _ y h = absurd h
 
 awake_is_stable : (x y : Turn) → IsAwake x → TurnStep x silent y → ⊥
 awake_is_stable waking y a h = a
-awake_is_stable at_zero y a h = h
-awake_is_stable at_one y a h = h
+awake_is_stable _ y a h = h
 
 step_awake : (s : Component Turn) (l : Label) (t : Component Turn) → ComponentStep TurnStep s l t → IsAwake t.term
 step_awake s silent t h = awake_after s.term silent t.term h.1
@@ -87,8 +84,7 @@ node_of at_one = 1
 
 silent_node : (x y : Turn) → TurnStep x silent y → node_of x ≡ node_of y
 silent_node waking y h = sym (ap node_of h)
-silent_node at_zero y h = absurd h
-silent_node at_one y h = absurd h
+silent_node _ y h = absurd h
 
 abbrev Leads : ℕ → ℕ → ℕ → Type 0
 Leads n e m = (is_run turns.table n (e ∷ []) ≡ true) × (node_after turns.table n e ≡ m)

@@ -162,12 +162,11 @@ module _ {T : Type 0} (Step : T → Label → T → Type 0) (c : Component T) (m
 have_form : {T : Type 0} (Step : T → Label → T → Type 0) (cs : List (Component T)) (ps : List Part) → ArePartsOf Step cs ps
     → ((i : ℕ) → i < length ps → length (part_at ps i).table ≤ MOST_SETS) → HaveForm ps
 have_form Step [] [] parts nodes = tt
-have_form Step [] (p ∷ ps) parts nodes = absurd parts
-have_form Step (c ∷ cs) [] parts nodes = absurd parts
 have_form Step (c ∷ cs) (p ∷ ps) parts nodes = (
   subst (λ al. HasForm (record { alphabet = al; table = p.table })) parts.0.alphabet (table_has_form Step c MOST_TERMS p.table parts.0.table (nodes 0 (omega arith))),
   have_form Step cs ps parts.1 (λ i less. nodes (suc i) (omega arith)),
 )
+have_form Step _ _ parts nodes = absurd parts
 
 pub shapes_are_well_formed : {T : Type 0} (Step : T → Label → T → Type 0) → ShapesAreWellFormed Step
 shapes_are_well_formed Step tree shape is =

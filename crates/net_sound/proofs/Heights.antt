@@ -64,6 +64,5 @@ heights_are_exact Step c terms raw heights t hs =
 
 pub heights_add_up : {T : Type 0} (Step : T → Label → T → Type 0) → HeightsAddUp Step
 heights_add_up Step [] [] h = refl
-heights_add_up Step [] (x ∷ xs) h = absurd h
-heights_add_up Step (c ∷ cs) [] h = absurd h
 heights_add_up Step (c ∷ cs) (x ∷ xs) h = (greatest x, sum_of_greatest xs, heights_are_exact Step c h.0.terms h.0.raw x h.0.table h.0.are_heights, heights_add_up Step cs xs h.1, refl)
+heights_add_up Step _ _ h = absurd h

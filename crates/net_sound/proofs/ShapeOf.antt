@@ -25,9 +25,8 @@ part_behaves Step c p busy is = subst (λ (al : List ℕ). HasBehaviour Step c (
 
 parts_behave : {T : Type 0} (Step : T → Label → T → Type 0) (cs : List (Component T)) (ps : List Part) → ArePartsOf Step cs ps → AreBusy Step cs → HaveBehaviours Step cs ps
 parts_behave Step [] [] parts busy = tt
-parts_behave Step [] (p ∷ ps) parts busy = absurd parts
-parts_behave Step (c ∷ cs) [] parts busy = absurd parts
 parts_behave Step (c ∷ cs) (p ∷ ps) parts busy = (part_behaves Step c p (busy 0 c refl) parts.0, parts_behave Step cs ps parts.1 (λ i d at. busy (suc i) d at))
+parts_behave Step _ _ parts busy = absurd parts
 
 pub shapes_behave : {T : Type 0} (Step : T → Label → T → Type 0) → ShapesBehave Step
 shapes_behave Step tree shape is busy = parts_behave Step (leaves tree) shape.parts is.parts busy
