@@ -13,8 +13,7 @@ runs i zero = []
 runs i (suc n) = 0 ∷ []
 
 pub pair_form : IsWellFormed pair
-pair_form = well_formed pair runs (λ i j. 0)
-    (record { least = refl; most = refl; form = refl; few = refl; possible = refl; reached = refl; links = refl; all_links = refl; links_rise = refl; shared = refl; vocabulary = refl })
+pair_form = (well_formed pair runs (λ i j. 0)).shows refl
 
 -- the link is open at the second node
 abbrev told : ℕ → ℕ → ℕ → Bool

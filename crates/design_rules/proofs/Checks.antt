@@ -1,8 +1,9 @@
 -- Tests of written-out lists that compute: what passes a test throughout has the property everywhere. For examples.
-use Rattle.std.proofs.Common.{◌≡◌, ℕ, zero, suc, ◌+◌, ◌<◌, ◌≤◌, ◌⊎◌, inl, inr, List, [], ◌∷◌, ◌++◌, length, get_or, Bool, true, false, not, ◌&&◌, cond, nat_eq, refl, sym, ap, subst, ◌∙◌, arith, eqb-true, eq-eqb}
+use Rattle.std.proofs.Common.{◌≡◌, ℕ, zero, suc, ◌+◌, ◌<◌, ◌≤◌, ◌⊎◌, inl, inr, List, [], ◌∷◌, ◌++◌, length, get_or, Bool, true, false, not, ◌&&◌, cond, nat_eq, nat_le, nat_lt, refl, sym, ap, subst, ◌∙◌, arith, eqb-true, eq-eqb, leb-true, ltb-true}
+use Rattle.csp_base.proofs.Standard.{get_or-eq_default}
 use Rattle.std.proofs.lemmas.Bool.{cases_Bool, cases_eq, cases_lt, and_parts, and_from, or_cases, or_left, or_right, both_ways, false≢true, cond-true, cond-false}
 use Rattle.csp_base.specs.Members.{has}
-use Rattle.csp_tables.specs.Prelude.{Node, node_at, is_possible, target, node_after, IsRun, end_of, part_at, sharers, Shape}
+use Rattle.csp_tables.specs.Prelude.{Node, no_node, node_at, is_possible, target, node_after, IsRun, end_of, part_at, sharers, Shape}
 use Rattle.design_rules.specs.Prelude.{count_in, is_odd, PartShared}
 use Rattle.design_rules.proofs.Holders.{odd_more, odd_same}
 use Rattle.design_rules.proofs.Runs.{run_induction}
@@ -46,6 +47,60 @@ set_passes test [] k h l = absurd (omega arith)
 set_passes test (M ∷ Ms) zero h l = (and_parts (test M) (all_sets test Ms) h).0
 set_passes test (M ∷ Ms) (suc k) h l = set_passes test Ms k (and_parts (test M) (all_sets test Ms) h).1 (omega arith)
 
+pub any_set : (test : List ℕ → Bool) (Ms : List (List ℕ)) (k : ℕ) → test [] ≡ true → all_sets test Ms ≡ true → test (get_or Ms k []) ≡ true
+any_set test [] k past h = past
+any_set test (M ∷ Ms) zero past h = (and_parts (test M) (all_sets test Ms) h).0
+any_set test (M ∷ Ms) (suc k) past h = any_set test Ms k past (and_parts (test M) (all_sets test Ms) h).1
+
+-- ---- tests with what they show
+
+pub record Test (P : Type 0) : Type 0 where
+  pub passes : Bool
+  pub shows : passes ≡ true → P
+
+abbrev pub shown : {P Q : Type 0} → Test P → (P → Q) → Test Q
+shown p f = record { passes = p.passes; shows = λ h. f (p.shows h) }
+
+abbrev pub always : Test (Unit {0})
+always = record { passes = true; shows = λ h. tt }
+
+abbrev pub never : Test ⊥
+never = record { passes = false; shows = λ h. false≢true h }
+
+abbrev pub is_true : (b : Bool) → Test (b ≡ true)
+is_true b = record { passes = b; shows = λ h. h }
+
+abbrev pub same : (m n : ℕ) → Test (m ≡ n)
+same m n = record { passes = nat_eq m n; shows = eqb-true m n }
+
+abbrev pub less : (m n : ℕ) → Test (m < n)
+less m n = record { passes = nat_lt m n; shows = ltb-true m n }
+
+abbrev pub at_most : (m n : ℕ) → Test (m ≤ n)
+at_most m n = record { passes = nat_le m n; shows = leb-true m n }
+
+abbrev pub both : {P Q : Type 0} → Test P → Test Q → Test (P × Q)
+both p q = record { passes = p.passes && q.passes; shows = λ h. let x = and_parts p.passes q.passes h in (p.shows x.0, q.shows x.1) }
+
+abbrev pub three : {P Q R : Type 0} → Test P → Test Q → Test R → Test (P × Q × R)
+three p q r = shown (both p (both q r)) (λ h. (h.0, h.1.0, h.1.1))
+
+abbrev pub four : {P Q R S : Type 0} → Test P → Test Q → Test R → Test S → Test (P × Q × R × S)
+four p q r s = shown (both (both p q) (both r s)) (λ h. (h.0.0, h.0.1, h.1.0, h.1.1))
+
+abbrev pub when : {P : Type 0} (b : Bool) → Test P → Test (b ≡ true → P)
+when b p = record { passes = implies b p.passes; shows = λ h k. p.shows (implied b p.passes h k) }
+
+abbrev pub below : {P : ℕ → Type 0} (n : ℕ) → ((i : ℕ) → Test (P i)) → Test ((i : ℕ) → i < n → P i)
+below n p = record { passes = all_below (λ i. (p i).passes) n; shows = λ h i less. (p i).shows (below_passes (λ j. (p j).passes) n i h less) }
+
+abbrev pub members : {P : ℕ → Type 0} (M : List ℕ) → ((e : ℕ) → Test (P e)) → Test ((e : ℕ) → has M e ≡ true → P e)
+members M p = record { passes = all_in (λ e. (p e).passes) M; shows = λ h e there. (p e).shows (member_passes (λ x. (p x).passes) M e h there) }
+
+-- of each set, and of the empty one that stands past the end
+abbrev pub sets : {P : List ℕ → Type 0} (Ms : List (List ℕ)) (p : (M : List ℕ) → Test (P M)) → (p []).passes ≡ true → Test ((k : ℕ) → P (get_or Ms k []))
+sets Ms p past = record { passes = all_sets (λ M. (p M).passes) Ms; shows = λ h k. (p (get_or Ms k [])).shows (any_set (λ M. (p M).passes) Ms k past h) }
+
 -- ---- nodes and steps
 
 abbrev all_of_steps : (ℕ → ℕ → Bool) → List (ℕ × ℕ) → Bool
@@ -68,31 +123,26 @@ step_of test (step ∷ steps) e h k =
 abbrev pub all_steps : (ℕ → ℕ → ℕ → Bool) → List Node → Bool
 all_steps test table = all_below (λ n. all_of_steps (test n) (node_at table n).next) (length table)
 
-pub past_end : (table : List Node) (n : ℕ) → length table ≤ n → node_at table n ≡ record { next = []; accept = [] }
-past_end [] n h = refl
-past_end (node ∷ nodes) zero h = absurd (omega arith)
-past_end (node ∷ nodes) (suc n) h = past_end nodes n (omega arith)
+-- a test that a node past the end passes too
+pub node_passes : (test : ℕ → Node → Bool) (table : List Node) (n : ℕ) → ((m : ℕ) → test m no_node ≡ true) → all_below (λ m. test m (node_at table m)) (length table) ≡ true → test n (node_at table n) ≡ true
+node_passes test table n past h =
+    elim (cases_lt n (length table)) [
+      | inl less ↦ below_passes (λ m. test m (node_at table m)) (length table) n h less
+      | inr more ↦ subst (λ node. test n node ≡ true) (sym (get_or-eq_default table no_node more)) (past n)
+    ]
+
+abbrev pub nodes : {P : Node → Type 0} (table : List Node) (p : (node : Node) → Test (P node)) → (p no_node).passes ≡ true → Test ((n : ℕ) → P (node_at table n))
+nodes table p past = record { passes = all_below (λ n. (p (node_at table n)).passes) (length table); shows = λ h n. (p (node_at table n)).shows (node_passes (λ m node. (p node).passes) table n (λ m. past) h) }
 
 pub step_passes : (test : ℕ → ℕ → ℕ → Bool) (table : List Node) (n e : ℕ) → all_steps test table ≡ true → is_possible (node_at table n).next e ≡ true → test n e (node_after table n e) ≡ true
-step_passes test table n e h k =
-    elim (cases_lt n (length table)) [
-      | inl less ↦ step_of (test n) (node_at table n).next e (below_passes (λ m. all_of_steps (test m) (node_at table m).next) (length table) n h less) k
-      | inr more ↦ absurd (false≢true (subst (λ x. is_possible x.next e ≡ true) (past_end table n more) k))
-    ]
+step_passes test table n e h k = step_of (test n) (node_at table n).next e (node_passes (λ m node. all_of_steps (test m) node.next) table n (λ m. refl) h) k
 
 -- every acceptance of the table, with its node
 abbrev pub all_accepted : (ℕ → List ℕ → Bool) → List Node → Bool
 all_accepted test table = all_below (λ n. all_sets (test n) (node_at table n).accept) (length table)
 
 pub accepted_passes : (test : ℕ → List ℕ → Bool) (table : List Node) (n k : ℕ) → all_accepted test table ≡ true → k < length (node_at table n).accept → test n (get_or (node_at table n).accept k []) ≡ true
-accepted_passes test table n k h l =
-    elim (cases_lt n (length table)) [
-      | inl less ↦ set_passes (test n) (node_at table n).accept k (below_passes (λ m. all_sets (test m) (node_at table m).accept) (length table) n h less) l
-      | inr more ↦ absurd (none (subst (λ x. k < length x.accept) (past_end table n more) l))
-    ]
-  where
-    none : k < length {A = List ℕ} [] → ⊥
-    none h = omega arith
+accepted_passes test table n k h l = set_passes (test n) (node_at table n).accept k (node_passes (λ m node. all_sets (test m) node.accept) table n (λ m. refl) h) l
 
 -- ---- what is observed along runs
 

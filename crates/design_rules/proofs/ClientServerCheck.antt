@@ -8,7 +8,7 @@ use Rattle.digraph.specs.Walk.{IsLongestWalk}
 use Rattle.design_rules.specs.Prelude.{IsClientOn, has_acknowledgements, is_open, is_request, is_acknowledgement, Serves, KeepRoles, IsClientServerRanking}
 use Rattle.design_rules.proofs.Shapes.{turned, first_end}
 use Rattle.design_rules.proofs.Checks.{implies, implied, all_below, below_passes, all_in, member_passes, passes_in, all_steps, step_passes, all_accepted, accepted_passes, same_truth, same_truth_is, next_parity, parity_told, parts_shared, parts_shared_is}
-use Rattle.design_rules.proofs.RankCheck.{parts_fit, fits_is, ranks_equal, all_vertices, vertex_passes, others_zero, others_zero_is, no_laps, no_laps_is}
+use Rattle.design_rules.proofs.RankCheck.{parts_fit, ranks_equal, all_vertices, vertex_passes, others_zero, others_zero_is, no_laps, no_laps_is}
 use Rattle.design_rules.proofs.Accepting.{each_set}
 
 abbrev sets_of : List RoleSets → ℕ → List (List ℕ)
@@ -85,23 +85,23 @@ keep_roles shape roles told c = record {
 }
 
 pub record IsTestedRoleRanking (shape : Shape) (roles : List RoleSets) (height : ℕ → ℕ) (ranking : Ranking) : Type 0 where
-  pub fits : parts_fit shape.parts ranking.parts ≡ true
+  pub fits : (parts_fit shape.parts ranking.parts).passes ≡ true
   pub scale : int_eq ranking.scale (pos 0) ≡ true
   pub serving : all_vertices shape (λ i n k. all_in (λ e. implies (has (role_at roles i).sreq e) (int_eq (rank_at (part_ranks ranking i).ranks n k) (pos (2 * length shape.parts) -ℤ pos (height i)))) (acceptance_at (part_at shape.parts i) n k)) ≡ true
   pub asking : all_vertices shape (λ i n k. implies (apart_test (role_at roles i).sreq (acceptance_at (part_at shape.parts i) n k)) (int_eq (rank_at (part_ranks ranking i).ranks n k) (pos (height i)))) ≡ true
   pub others : others_zero shape ranking ≡ true
-  pub laps : no_laps shape ranking ≡ true
+  pub laps : no_laps shape ranking (λ e. false) ≡ true
 
 pub role_ranking : (shape : Shape) (roles : List RoleSets) (height : ℕ → ℕ) (ranking : Ranking) → ((i : ℕ) → i < length shape.parts → IsLongestWalk (Serves shape roles) i (height i)) → IsTestedRoleRanking shape roles height ranking → IsClientServerRanking shape roles ranking
 role_ranking shape roles height ranking heights c = record {
   height = height;
   heights = heights;
-  fits = fits_is shape ranking c.fits;
+  fits = (parts_fit shape.parts ranking.parts).shows c.fits;
   scale = ranks_equal _ _ c.scale;
   serving = λ i n k v meet. ranks_equal _ _ (implied _ _ (member_passes _ (acceptance_at (part_at shape.parts i) n k) meet.event (vertex_passes shape _ i n k c.serving v.part v.listed) meet.first) meet.second);
   asking = λ i n k v apart. ranks_equal _ _ (implied _ _ (vertex_passes shape _ i n k c.asking v.part v.listed) (passes_in _ (acceptance_at (part_at shape.parts i) n k) (λ e m. none (has (role_at roles i).sreq e) (apart e m))));
-  others = others_zero_is shape ranking c.fits c.others;
-  laps = no_laps_is shape ranking c.laps;
+  others = others_zero_is shape ranking ((parts_fit shape.parts ranking.parts).shows c.fits) c.others;
+  laps = λ i n e h. no_laps_is shape ranking (λ x. false) c.laps i n e h refl;
 }
   where
     none : (b : Bool) → (b ≡ true → ⊥) → not b ≡ true

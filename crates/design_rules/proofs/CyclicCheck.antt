@@ -8,7 +8,7 @@ use Rattle.design_rules.specs.Prelude.{above_all, lap_at, links_of, place_after,
 use Rattle.design_rules.proofs.Counts.{count_push_more, count_push_same}
 use Rattle.design_rules.proofs.Accepting.{each_set}
 use Rattle.design_rules.proofs.Checks.{implies, implied, all_below, below_passes, all_in, member_passes, all_steps, step_passes, all_accepted, accepted_passes, observed}
-use Rattle.design_rules.proofs.RankCheck.{parts_fit, fits_is, ranks_equal, all_vertices, vertex_passes, others_zero, others_zero_is, lap_passes, no_hidden_laps, no_hidden_laps_is}
+use Rattle.design_rules.proofs.RankCheck.{parts_fit, ranks_equal, all_vertices, vertex_passes, others_zero, others_zero_is, lap_passes, no_laps, no_laps_is}
 
 abbrev next_place : Shape → ℕ → ℕ → ℕ → ℕ
 next_place shape i c e = cond (has shape.vocabulary e) ((c + 1) % links_of shape i) c
@@ -75,21 +75,21 @@ numbered_cyclic shape number told c = record {
 -- ---- the ranking
 
 pub record IsTestedRanking (shape : Shape) (number : ℕ → ℕ) (ranking : Ranking) : Type 0 where
-  pub fits : parts_fit shape.parts ranking.parts ≡ true
+  pub fits : (parts_fit shape.parts ranking.parts).passes ≡ true
   pub scale : int_eq ranking.scale (pos (above_all number (length shape.links))) ≡ true
   pub ranks : all_vertices shape (λ i n k. all_below (λ l. implies (is_end shape i l) (all_in (λ e. implies (has (link_at shape l).shared e) (int_eq (rank_at (part_ranks ranking i).ranks n k) (pos (number l)))) (acceptance_at (part_at shape.parts i) n k))) (length shape.links)) ≡ true
   pub others : others_zero shape ranking ≡ true
   pub laps : all_below (λ l. all_below (λ i. all_steps (λ n e t. implies (on_own shape i l e) (nat_eq (lap_at shape ranking i n e) (ends_lap (place_of shape number i l) (links_of shape i)))) (part_at shape.parts i).table) (length shape.parts)) (length shape.links) ≡ true
-  pub no_hidden : no_hidden_laps shape ranking ≡ true
+  pub no_hidden : no_laps shape ranking (has shape.vocabulary) ≡ true
 
 pub cyclic_ranks : (shape : Shape) (number : ℕ → ℕ) (ranking : Ranking) → IsTestedRanking shape number ranking → AreCyclicRanks shape number ranking
 cyclic_ranks shape number ranking c = record {
-  fits = fits_is shape ranking c.fits;
+  fits = (parts_fit shape.parts ranking.parts).shows c.fits;
   scale = ranks_equal _ _ c.scale;
   ranks = λ i n k l v h end meet. ranks_equal _ _ (implied _ _ (member_passes _ (acceptance_at (part_at shape.parts i) n k) meet.event (implied _ _ (below_passes _ (length shape.links) l (vertex_passes shape _ i n k c.ranks v.part v.listed) h) end) meet.first) meet.second);
-  others = others_zero_is shape ranking c.fits c.others;
+  others = others_zero_is shape ranking ((parts_fit shape.parts ranking.parts).shows c.fits) c.others;
   laps = λ i n e l h possible on.
       let own : on_own shape i l e ≡ true = and_from _ _ on.end on.event in
       eqb-true _ _ (implied _ _ (lap_passes shape ranking (λ j m x lap. implies (on_own shape j l x) (nat_eq lap (ends_lap (place_of shape number j l) (links_of shape j)))) i n e (below_passes _ (length shape.links) l c.laps on.within) h possible) own);
-  no_laps = no_hidden_laps_is shape ranking c.no_hidden;
+  no_laps = no_laps_is shape ranking (has shape.vocabulary) c.no_hidden;
 }

@@ -7,7 +7,7 @@ use Rattle.csp_tables.specs.Prelude.{end_of, part_at, Shape, link_at, is_end, ac
 use Rattle.design_rules.specs.Prelude.{count_in, is_odd, is_held, last_from, IsHolder, holds, KeepUses, acquires, ResourcesRise, top_number, AreResourceRanks}
 use Rattle.design_rules.proofs.Holders.{last_more, last_same, odd_more, odd_same}
 use Rattle.design_rules.proofs.Checks.{implies, implied, all_below, below_passes, passes_below, all_in, member_passes, all_steps, step_passes, all_accepted, accepted_passes, same_truth, same_truth_is, next_parity, parity_told, parts_shared, parts_shared_is, observed}
-use Rattle.design_rules.proofs.RankCheck.{parts_fit, fits_is, ranks_equal, all_vertices, vertex_passes, others_zero, others_zero_is, no_laps, no_laps_is}
+use Rattle.design_rules.proofs.RankCheck.{parts_fit, ranks_equal, all_vertices, vertex_passes, others_zero, others_zero_is, no_laps, no_laps_is}
 use Rattle.design_rules.proofs.Accepting.{each_set}
 
 -- ---- what tells the holder: the last shared event while there was an odd number of them
@@ -199,24 +199,24 @@ resources_rise shape uses number held parity c h m j x =
 -- Each test is true by computation. A user's acceptance acquires one resource at most.
 pub record IsTestedUseRanking (shape : Shape) (uses : List UseSets) (number : ℕ → ℕ) (top : ℕ) (held : ℕ → ℕ → Option ℕ) (ranking : Ranking) : Type 0 where
   pub greatest : nat_eq top (top_number uses number (length shape.parts)) ≡ true
-  pub fits : parts_fit shape.parts ranking.parts ≡ true
+  pub fits : (parts_fit shape.parts ranking.parts).passes ≡ true
   pub scale : int_eq ranking.scale (pos 0) ≡ true
   pub while_free : all_vertices shape (λ i n k. implies ((use_at uses i).resource && not (is_some (held i n))) (int_eq (rank_at (part_ranks ranking i).ranks n k) (pos (2 * top + 2)))) ≡ true
   pub while_held : all_vertices shape (λ i n k. implies ((use_at uses i).resource && is_some (held i n)) (int_eq (rank_at (part_ranks ranking i).ranks n k) (pos (2 * (top - number i) + 1)))) ≡ true
   pub acquiring : all_parts shape (λ j. all_vertices shape (λ i n k. implies (not (use_at uses i).resource && acquires uses (acceptance_at (part_at shape.parts i) n k) j) (int_eq (rank_at (part_ranks ranking i).ranks n k) (pos (2 * (top - number j) + 2))))) ≡ true
   pub not_acquiring : all_vertices shape (λ i n k. implies (not (use_at uses i).resource && all_parts shape (λ m. not (acquires uses (acceptance_at (part_at shape.parts i) n k) m))) (int_eq (rank_at (part_ranks ranking i).ranks n k) (pos 0))) ≡ true
   pub others : others_zero shape ranking ≡ true
-  pub laps : no_laps shape ranking ≡ true
+  pub laps : no_laps shape ranking (λ e. false) ≡ true
 
 pub use_ranks : (shape : Shape) (uses : List UseSets) (number : ℕ → ℕ) (top : ℕ) (held : ℕ → ℕ → Option ℕ) (parity : ℕ → ℕ → ℕ → Bool) (ranking : Ranking) → IsTestedUses shape uses held parity → IsTestedUseRanking shape uses number top held ranking → AreResourceRanks shape uses number top ranking
 use_ranks shape uses number top held parity ranking c r = record {
   greatest = eqb-true _ _ r.greatest;
-  fits = fits_is shape ranking r.fits;
+  fits = (parts_fit shape.parts ranking.parts).shows r.fits;
   scale = ranks_equal _ _ r.scale;
   free = λ i s k res a even. ranks_equal _ _ (implied _ _ (vertex_passes shape _ i (end_of (part_at shape.parts i).table 0 s) k r.while_free a.accepts.runs.part a.accepts.listed) (and_from _ _ res (not_from_false _ (sym (is_held_told shape uses held parity c i s res a.accepts.runs) ∙ even))));
   held = λ i s k res a odd. ranks_equal _ _ (implied _ _ (vertex_passes shape _ i (end_of (part_at shape.parts i).table 0 s) k r.while_held a.accepts.runs.part a.accepts.listed) (and_from _ _ res (sym (is_held_told shape uses held parity c i s res a.accepts.runs) ∙ odd)));
   acquiring = λ i s k j u a h m least. ranks_equal _ _ (implied _ _ (vertex_passes shape _ i (end_of (part_at shape.parts i).table 0 s) k (below_passes _ (length shape.parts) j r.acquiring h) a.accepts.runs.part a.accepts.listed) (and_from _ _ (not_from_false _ u) m));
   not_acquiring = λ i s k u a nothing. ranks_equal _ _ (implied _ _ (vertex_passes shape _ i (end_of (part_at shape.parts i).table 0 s) k r.not_acquiring a.accepts.runs.part a.accepts.listed) (and_from _ _ (not_from_false _ u) (passes_below _ (length shape.parts) (λ m h. not_from_false _ (nothing m h)))));
-  others = others_zero_is shape ranking r.fits r.others;
-  laps = no_laps_is shape ranking r.laps;
+  others = others_zero_is shape ranking ((parts_fit shape.parts ranking.parts).shows r.fits) r.others;
+  laps = λ i n e h. no_laps_is shape ranking (λ x. false) r.laps i n e h refl;
 }

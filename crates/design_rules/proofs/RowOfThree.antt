@@ -22,8 +22,7 @@ abbrev told : ℕ → ℕ → ℕ
 told i n = n
 
 row_form : IsWellFormed row_of_three
-row_form = well_formed row_of_three runs link_of
-    (record { least = refl; most = refl; form = refl; few = refl; possible = refl; reached = refl; links = refl; all_links = refl; links_rise = refl; shared = refl; vocabulary = refl })
+row_form = (well_formed row_of_three runs link_of).shows refl
 
 row_tested : IsTestedCyclic row_of_three (λ l. l) told
 row_tested = record { apart = λ l m same. same; start = refl; steps = refl; order = refl; full = refl }

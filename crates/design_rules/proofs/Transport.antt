@@ -147,9 +147,7 @@ breaks_cyclic x y a (LinksCircle ends) h = record {
   circle = same_least_circle (MustPrecede x.shape x.does) (MustPrecede y.shape y.does) (must_precede x y a) h.links h.circle;
   are = h.are ∙ all_ends x.shape y.shape a.outline h.links;
 }
-breaks_cyclic x y a (Broken which i s) h = absurd h
-breaks_cyclic x y a (ClientsCircle clients) h = absurd h
-breaks_cyclic x y a (ResourcesCircle resources) h = absurd h
+breaks_cyclic x y a _ h = absurd h
 
 -- ---- components that break what is asked of each
 
@@ -235,15 +233,12 @@ module _ (roles : List RoleSets) where
   breaks_roles x y a _ i s h = h
 
   breaks_client_server : (x y : Seen) → Alike x y → (fault : RuleFault) → BreaksClientServerRule x.shape x.does roles fault → BreaksClientServerRule y.shape y.does roles fault
-  breaks_client_server x y a (NoOrder i s e) h = absurd h
-  breaks_client_server x y a (NoWholeEnd i j s t) h = absurd h
   breaks_client_server x y a (Broken which i s) h = breaks_roles x y a which i s h
-  breaks_client_server x y a (LinksCircle ends) h = absurd h
   breaks_client_server x y a (ClientsCircle clients) h = record {
     keep_roles = keep_roles x y a h.keep_roles;
     circle = same_least_circle (Serves x.shape roles) (Serves y.shape roles) (each_serves x.shape y.shape a.outline roles) clients h.circle;
   }
-  breaks_client_server x y a (ResourcesCircle resources) h = absurd h
+  breaks_client_server x y a _ h = absurd h
 
 -- ---- the rule of users and resources
 
@@ -353,15 +348,12 @@ module _ (uses : List UseSets) where
   breaks_uses x y a _ i s h = h
 
   breaks_resource : (x y : Seen) → Alike x y → (fault : RuleFault) → BreaksResourceRule x.shape x.does uses fault → BreaksResourceRule y.shape y.does uses fault
-  breaks_resource x y a (NoOrder i s e) h = absurd h
-  breaks_resource x y a (NoWholeEnd i j s t) h = absurd h
   breaks_resource x y a (Broken which i s) h = breaks_uses x y a which i s h
-  breaks_resource x y a (LinksCircle ends) h = absurd h
-  breaks_resource x y a (ClientsCircle clients) h = absurd h
   breaks_resource x y a (ResourcesCircle resources) h = record {
     keep_uses = keep_uses x y a h.keep_uses;
     circle = same_least_circle (IsHeldWhile x.shape x.does uses) (IsHeldWhile y.shape y.does uses) (held_while x y a) resources h.circle;
   }
+  breaks_resource x y a _ h = absurd h
 
 -- ---- a rule with its notes
 

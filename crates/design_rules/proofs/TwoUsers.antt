@@ -31,8 +31,7 @@ link_of (suc i) (suc (suc zero)) = 2
 link_of (suc i) j = 3
 
 form : IsWellFormed two_users
-form = well_formed two_users runs link_of
-    (record { least = refl; most = refl; form = refl; few = refl; possible = refl; reached = refl; links = refl; all_links = refl; links_rise = refl; shared = refl; vocabulary = refl })
+form = (well_formed two_users runs link_of).shows refl
 
 -- a resource is held at its second node by the first user, and at its third by the second
 abbrev held : ℕ → ℕ → Option ℕ
@@ -103,7 +102,7 @@ numbers (suc (suc (suc (suc j)))) h r = absurd (omega arith)
 pub two_users_are_resource : TwoUsersAreResource
 two_users_are_resource = record {
   form = form;
-  triple = triple_disjoint two_users refl;
+  triple = (triple_disjoint two_users).shows refl;
   rule = record { keep_uses = keep_uses two_users two_users_uses held parity tested; ordered = record { number = number; rise = rise } };
   ranking = record { number = number; numbers = numbers; top = 2; ranks = use_ranks two_users two_users_uses number 2 held parity two_users_ranking tested (record { greatest = refl; fits = refl; scale = refl; while_free = refl; while_held = refl; acquiring = refl; not_acquiring = refl; others = refl; laps = refl }) };
 }
