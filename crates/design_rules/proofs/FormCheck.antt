@@ -1,9 +1,9 @@
 -- A test that shows a written-out shape well formed: it is true by computation.
-use Rattle.std.proofs.Common.{◌≡◌, ℕ, ◌<◌, ◌≤◌, ◌⊎◌, inl, inr, List, [], ◌∷◌, length, get_or, ◌||◌, nat_le, refl, arith, le-leb}
-use Rattle.std.proofs.lemmas.Bool.{cases_lt, or_cases}
+use Rattle.std.proofs.Common.{◌≡◌, ℕ, ◌<◌, ◌≤◌, inl, inr, List, [], ◌∷◌, length, get_or, true, nat_le, refl, subst, arith, le-leb}
+use Rattle.csp_base.proofs.Standard.{cases_lt, false≢true, get_or-eq_default}
 use Rattle.csp_base.specs.Members.{has}
 use Rattle.csp_tables.specs.Prelude.{Node, node_at, is_possible, is_run, IsReached, end_of, Part, part_at, alphabets_of, sharers, TripleDisjoint, BeginsAbove, StepsHaveForm, AreWithin, NodesHaveForm, HasForm, HaveForm, Shape, link_at, JoinsTwo, AreJoined, IsBelow, IsLinked, IsWellFormed}
-use Rattle.design_rules.proofs.Checks.{Test, shown, always, is_true, same, less, at_most, both, three, four, when, below, members, sets, nodes}
+use Rattle.design_rules.proofs.Checks.{Test, shown, always, is_true, same, less, at_most, both, three, four, either, when, below, members, within, sets, nodes}
 use Rattle.design_rules.proofs.Shapes.{sharer}
 
 -- ---- the form of tables
@@ -18,7 +18,7 @@ steps_form a m (step ∷ steps) = four (is_true (has a step.0)) (less step.1 m) 
 
 abbrev are_within : (a : List ℕ) (Ms : List (List ℕ)) → Test (AreWithin a Ms)
 are_within a [] = always
-are_within a (M ∷ Ms) = both (members M (λ e. is_true (has a e))) (are_within a Ms)
+are_within a (M ∷ Ms) = both (within M a) (are_within a Ms)
 
 abbrev nodes_form : (a : List ℕ) (m : ℕ) (ns : List Node) → Test (NodesHaveForm a m ns)
 nodes_form a m [] = always
@@ -53,9 +53,6 @@ abbrev joined : (shape : Shape) (l i j : ℕ) → Test (AreJoined shape i j)
 joined shape l i j =
     shown (three (less l (length shape.links)) (same (link_at shape l).left i) (same (link_at shape l).right j)) (λ h. record { link = l; within = h.0; left = h.1; right = h.2 })
 
-abbrev either : {P Q : Type 0} → Test P → Test Q → Test (P ⊎ Q)
-either p q = record { passes = p.passes || q.passes; shows = λ h. elim (or_cases p.passes q.passes h) [ inl x ↦ inl (p.shows x) | inr x ↦ inr (q.shows x) ] }
-
 abbrev is_below : (shape : Shape) (l m : ℕ) → Test (IsBelow (link_at shape l) (link_at shape m))
 is_below shape l m = either (less (link_at shape l).left (link_at shape m).left) (both (same (link_at shape l).left (link_at shape m).left) (less (link_at shape l).right (link_at shape m).right))
 
@@ -84,6 +81,12 @@ linked shape link_of =
 abbrev reached : (table : List Node) (run : List ℕ) (n : ℕ) → Test (IsReached table n)
 reached table run n = shown (both (is_true (is_run table 0 run)) (same (end_of table 0 run) n)) (λ h. record { run = run; follows = h.0; leads = h.1 })
 
+pub in_any : (P : ℕ → Type 0) (Ms : List (List ℕ)) → ((k : ℕ) → k < length Ms → (e : ℕ) → has (get_or Ms k []) e ≡ true → P e) → (k e : ℕ) → has (get_or Ms k []) e ≡ true → P e
+in_any P Ms h k e there = elim (cases_lt k (length Ms)) [
+  | inl less ↦ h k less e there
+  | inr past ↦ absurd (false≢true (subst (λ (M : List ℕ). has M e ≡ true) (get_or-eq_default Ms [] past) there))
+]
+
 -- it is told how nodes are reached
 abbrev pub well_formed : (shape : Shape) (runs : ℕ → ℕ → List ℕ) (link_of : ℕ → ℕ → ℕ) → Test (IsWellFormed shape)
 well_formed shape runs link_of =
@@ -91,10 +94,10 @@ well_formed shape runs link_of =
     (both
     (both (linked shape link_of) (have_form shape.parts))
     (three
-    (below (length shape.parts) (λ i. nodes (part_at shape.parts i).table (λ node. at_most (length node.accept) 16384) refl))
-    (below (length shape.parts) (λ i. nodes (part_at shape.parts i).table (λ node. sets node.accept (λ M. members M (λ e. is_true (is_possible node.next e))) refl) refl))
+    (below (length shape.parts) (λ i. nodes (part_at shape.parts i).table (λ n node. at_most (length node.accept) 16384) (λ n. refl)))
+    (below (length shape.parts) (λ i. nodes (part_at shape.parts i).table (λ n node. sets node.accept (λ M. members M (λ e. is_true (is_possible node.next e)))) (λ n. refl)))
     (below (length shape.parts) (λ i. below (length (part_at shape.parts i).table) (λ n. reached (part_at shape.parts i).table (runs i n) n)))))
-    (λ h. record { linked = h.0.0; form = h.0.1; few = λ i n here. h.1.0 i here n; possible = λ i n k e here there. h.1.1 i here n k e there; reached = λ i n here less. h.1.2 i here n less })
+    (λ h. record { linked = h.0.0; form = h.0.1; few = λ i n here. h.1.0 i here n; possible = λ i n k e here. in_any (λ x. is_possible (node_at (part_at shape.parts i).table n).next x ≡ true) (node_at (part_at shape.parts i).table n).accept (h.1.1 i here n) k e; reached = λ i n here less. h.1.2 i here n less })
 
 abbrev pub triple_disjoint : (shape : Shape) → Test (TripleDisjoint (alphabets_of shape.parts))
 triple_disjoint shape =

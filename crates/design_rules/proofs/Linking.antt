@@ -208,7 +208,7 @@ blank_alphabet (p ∷ ps) zero = refl
 blank_alphabet (p ∷ ps) (suc i) = blank_alphabet ps i
 
 -- an event with a sharer is in one of the alphabets
-some_alphabet : (as' : List (List ℕ)) (e : ℕ) → 1 ≤ sharers as' e → has (flat_map (λ alphabet. alphabet) as') e ≡ true
+pub some_alphabet : (as' : List (List ℕ)) (e : ℕ) → 1 ≤ sharers as' e → has (flat_map (λ alphabet. alphabet) as') e ≡ true
 some_alphabet [] e h = absurd (omega arith)
 some_alphabet (a ∷ others) e h = has-append a (flat_map (λ alphabet. alphabet) others) e ∙ elim (cases_Bool (has a e)) [
   | inl own ↦ or_left (has a e) (has (flat_map (λ alphabet. alphabet) others) e) own
