@@ -10,7 +10,7 @@ use Rattle.csp_tables.specs.Prelude.{IsWithin, AreApart, Meet, Node, no_node, no
 use Rattle.design_rules.specs.Prelude.{count_in, is_odd, PartShared}
 use Rattle.design_rules.proofs.Holders.{odd_more, odd_same}
 use Rattle.design_rules.proofs.Linking.{some_alphabet}
-use Rattle.design_rules.proofs.Runs.{possible_after, run_induction}
+use Rattle.design_rules.proofs.Runs.{run_induction}
 use Rattle.csp_tables.proofs.Runs.{end_push}
 
 pub record Test (P : Type 0) : Type 0 where

@@ -8,7 +8,7 @@ use Rattle.csp_base.specs.Members.{has}
 use Rattle.csp_base.proofs.Listed.{any_of, any_member}
 use Rattle.csp_tables.specs.Prelude.{Shape, link_at, RoleSets, UseSets, use_at}
 use Rattle.digraph.proofs.WalkLaws.{same_least_circle}
-use Rattle.design_rules.specs.Prelude.{SameOutline, Agree, Behaviours, place_after, CanBeNumbered, FallsShort, IsFullEnd, IsNumberedCyclic, is_acknowledgement, is_request, TakesTurns, ServesAll, TakesAnswers, Serves, IsUsedInTurn, GrantsAll, UsesInTurn, acquires, CanBeOrdered, KeepsHolder, KeepsGrants, KeepsTurns, AllKeep, IsFirstBroken, MeetsRule, BreaksRule, BreaksCyclicRule, BreaksClientServerRule, BreaksResourceRule, Condition, NotedRule, Cyclic, ClientServer, Resource, RuleFault, NoOrder, NoWholeEnd, Broken, LinksCircle, ClientsCircle, ResourcesCircle}
+use Rattle.design_rules.specs.Prelude.{SameOutline, Agree, Behaviours, place_after, CanBeNumbered, FallsShort, IsFullEnd, IsNumberedCyclic, is_acknowledgement, is_request, TakesTurns, ServesAll, TakesAnswers, Serves, IsUsedInTurn, GrantsAll, UsesInTurn, acquires, CanBeOrdered, KeepsHolder, KeepsGrants, KeepsTurns, IsFirstBroken, MeetsRule, BreaksRule, BreaksCyclicRule, BreaksClientServerRule, BreaksResourceRule, Condition, NotedRule, Cyclic, ClientServer, Resource, RuleFault, NoOrder, NoWholeEnd, Broken, LinksCircle, ClientsCircle, ResourcesCircle}
 use Rattle.design_rules.specs.CyclicRule.{ReachesLink, KeepsPlaces, AllKeepPlaces, MustPrecede, IsWholeEnd, HasWholeEnd, IsCyclic}
 use Rattle.design_rules.specs.CyclicRuleFaults.{BreaksOrder}
 use Rattle.design_rules.specs.ClientServerRule.{KeepRoles, IsClientServer}
