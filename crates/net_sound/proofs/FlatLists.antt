@@ -1,8 +1,5 @@
 -- Flat steps over lists of components: lists put together and taken apart, and what a step keeps.
-use Rattle.std.proofs.Common.{◌≡◌, ℕ, ◌⊎◌, inl, inr, List, [], ◌∷◌, ◌++◌, map, Bool, true, false, ◌||◌, MatchBool, refl, sym, ap, ap₂, ◌∙◌}
-use Rattle.std.proofs.lemmas.Bool.{MatchBool-at_false, or_parts, false≢true}
-use Rattle.csp_base.specs.Members.{has}
-use Rattle.csp_tables.specs.Prelude.{Label, silent, visible, Component, ComponentStep, in_some_component, OneMoves, AllTakePart, FlatStep}
+use Rattle.net_sound.proofs.Prelude.{◌≡◌, ℕ, ◌⊎◌, inl, inr, List, [], ◌∷◌, ◌++◌, map, Bool, true, false, ◌||◌, MatchBool, refl, sym, ap, ap₂, ◌∙◌, MatchBool-at_false, or_parts, false≢true, has, Label, silent, visible, Component, ComponentStep, in_some_component, OneMoves, AllTakePart, FlatStep}
 
 abbrev pub alphabets : {T : Type 0} → List (Component T) → List (List ℕ)
 alphabets cs = map (λ c. c.alphabet) cs

@@ -1,10 +1,5 @@
 -- In a well-nested tree the steps of the tree are the flat steps over its leaves, and a step keeps the nesting.
-use Rattle.std.proofs.Common.{◌≡◌, ℕ, inl, inr, List, [], ◌∷◌, ◌++◌, false, ◌||◌, refl, sym, ap, ap₂, subst, ◌∙◌}
-use Rattle.std.proofs.lemmas.Bool.{MatchBool-at_true, or_cases, or_left, false≢true, cases_Bool}
-use Rattle.csp_base.specs.Members.{has}
-use Rattle.csp_base.proofs.Booleans.{or_regroup}
-use Rattle.csp_tables.specs.Prelude.{Label, silent, visible, Component, ComponentStep, Tree, Operands, in_some_alphabet, NetworkStep, OneSilent, AllTogether, leaves, leaves_of_operands, leaf, parallel, none, operand, in_some_component, OneMoves, AllTakePart, FlatStep, WellNested, OperandsWellNested}
-use Rattle.net_sound.specs.Flattening.{StepsToLeaves, TreeStepsAreFlat, FlatStepsAreTreeSteps, StepsKeepNesting, StepsKeepAlphabets}
+use Rattle.net_sound.proofs.Prelude.{◌≡◌, ℕ, inl, inr, List, [], ◌∷◌, ◌++◌, false, ◌||◌, refl, sym, ap, ap₂, subst, ◌∙◌, MatchBool-at_true, or_cases, or_left, false≢true, cases_Bool, has, or_regroup, Label, silent, visible, Component, ComponentStep, Tree, Operands, in_some_alphabet, NetworkStep, OneSilent, AllTogether, leaves, leaves_of_operands, leaf, parallel, none, operand, in_some_component, OneMoves, AllTakePart, FlatStep, WellNested, OperandsWellNested, StepsToLeaves, TreeStepsAreFlat, FlatStepsAreTreeSteps, StepsKeepNesting, StepsKeepAlphabets}
 use Rattle.net_sound.proofs.FlatLists.{alphabets, by_test, match_true, match_false, moves_left, moves_right, all_append, all_stay, all_stayed, moves_split, all_split, flat_alphabets, same_some}
 
 -- an event is in an operand's alphabet exactly where it is in a component's

@@ -1,9 +1,6 @@
 -- Silent walks of a component and of its numbered table.
-use Rattle.std.proofs.Common.{◌≡◌, ℕ, zero, suc, ◌<◌, ◌≤◌, List, [], ◌∷◌, Some, slice_get, get_or, length, replicate, refl, subst, arith, inl, inr}
-use Rattle.csp_base.proofs.Standard.{cases_lt, slice_get_within}
-use Rattle.csp_tables.specs.Prelude.{Label, silent, Silently, Component, ComponentStep, RawTable, RawStep, standing_at, IsTableOf}
+use Rattle.net_sound.proofs.Prelude.{◌≡◌, ℕ, zero, suc, ◌<◌, ◌≤◌, List, [], ◌∷◌, Some, slice_get, get_or, length, replicate, refl, subst, arith, inl, inr, cases_lt, slice_get_within, Label, silent, Silently, Component, ComponentStep, RawTable, RawStep, standing_at, IsTableOf, silent_path, path_silent}
 use Rattle.net_sound.specs.Heights.{HeightsAreExact, HeightsAddUp, sum_of_greatest}
-use Rattle.csp_tables.proofs.SilentPaths.{silent_path, path_silent}
 use Rattle.net_sound.proofs.Numbered.{run_down, run_up, stands}
 use Rattle.csp_base.proofs.Lists.{slice_get_some}
 use Rattle.csp_base.specs.Lists.{greatest}

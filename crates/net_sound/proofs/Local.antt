@@ -1,9 +1,6 @@
 -- What a run of the network is for each of its components: steps of that component alone, whose events are the run's
 -- events in the component's alphabet. And how many of the silent steps in a row are the component's.
-use Rattle.std.proofs.Common.{◌≡◌, ℕ, zero, suc, ◌+◌, ◌≤◌, inl, inr, List, [], ◌∷◌, MatchBool, refl, sym, ap, subst, ◌∙◌, arith}
-use Rattle.std.proofs.lemmas.Bool.{cond-true, cond-false}
-use Rattle.csp_base.specs.Members.{has}
-use Rattle.csp_tables.specs.Prelude.{Label, silent, visible, Path, Reached, Silently, Component, ComponentStep, Tree, NetworkStep, leaves, OneMoves, AllTakePart, FlatStep, WellNested, IsSilentBound, visible_events, After, project}
+use Rattle.net_sound.proofs.Prelude.{◌≡◌, ℕ, zero, suc, ◌+◌, ◌≤◌, inl, inr, List, [], ◌∷◌, MatchBool, refl, sym, ap, subst, ◌∙◌, arith, cond-true, cond-false, has, Label, silent, visible, Path, Reached, Silently, Component, ComponentStep, Tree, NetworkStep, leaves, OneMoves, AllTakePart, FlatStep, WellNested, IsSilentBound, visible_events, After, project}
 use Rattle.net_sound.proofs.FlatLists.{by_test, step_alphabet}
 use Rattle.net_sound.proofs.Flattening.{forth, kept}
 

@@ -1,8 +1,5 @@
 -- A component and its numbered table do the same, so the normal table of the one is that of the other.
-use Rattle.std.proofs.Common.{◌≡◌, ◌↔◌, ℕ, List, [], ◌++◌, Some, slice_get, get_or, refl, sym, subst, ◌∙◌}
-use Rattle.std.proofs.lemmas.Option.{same_Some}
-use Rattle.csp_tables.specs.Prelude.{Label, silent, visible, Stable, Component, ComponentStep, IsTrace, IsStableOffer, IsAcceptance, HaveSameFuture, RawTable, RawStep, standing_at, IsTableOf, acceptances_after, OffersAcceptance}
-use Rattle.net_sound.specs.Normal.{NormalTablesCarryOver}
+use Rattle.net_sound.proofs.Prelude.{◌≡◌, ◌↔◌, ℕ, List, [], ◌++◌, Some, slice_get, get_or, refl, sym, subst, ◌∙◌, same_Some, Label, silent, visible, Stable, Component, ComponentStep, IsTrace, IsStableOffer, IsAcceptance, HaveSameFuture, RawTable, RawStep, standing_at, IsTableOf, acceptances_after, OffersAcceptance, NormalTablesCarryOver}
 use Rattle.net_sound.proofs.Numbered.{run_down, run_up, stands}
 
 -- a step of the table from the term x is a step of the component that stands there

@@ -1,7 +1,5 @@
 -- The parts of a network and its components, place by place.
-use Rattle.std.proofs.Common.{◌≡◌, ℕ, zero, suc, ◌<◌, List, [], ◌∷◌, Some, slice_get, length, refl, sym, subst, ◌∙◌, arith}
-use Rattle.std.proofs.lemmas.Option.{same_Some, slice_get_within}
-use Rattle.csp_tables.specs.Prelude.{Label, Component, Part, part_at, IsPartOf, ArePartsOf}
+use Rattle.net_sound.proofs.Prelude.{◌≡◌, ℕ, zero, suc, ◌<◌, List, [], ◌∷◌, Some, slice_get, length, refl, sym, subst, ◌∙◌, arith, same_Some, slice_get_within, Label, Component, Part, part_at, IsPartOf, ArePartsOf}
 
 pub one_part_each : {T : Type 0} (Step : T → Label → T → Type 0) (cs : List (Component T)) (ps : List Part) → ArePartsOf Step cs ps → length cs ≡ length ps
 one_part_each Step [] [] parts = refl

@@ -1,8 +1,5 @@
 -- The tree that a step leads to is told by its leaves, since a step keeps the tree's shape.
-use Rattle.std.proofs.Common.{◌≡◌, ℕ, ◌+◌, inl, inr, List, [], ◌∷◌, ◌++◌, length, refl, sym, ap, ap₂, subst, ◌∙◌, arith, length-append}
-use Rattle.csp_base.specs.Members.{has}
-use Rattle.csp_tables.specs.Prelude.{Label, silent, visible, Tree, Operands, NetworkStep, OneSilent, AllTogether, leaves, leaves_of_operands, leaf, parallel, none, operand}
-use Rattle.net_sound.specs.Flattening.{StepsAreToldByLeaves}
+use Rattle.net_sound.proofs.Prelude.{◌≡◌, ℕ, ◌+◌, inl, inr, List, [], ◌∷◌, ◌++◌, length, refl, sym, ap, ap₂, subst, ◌∙◌, arith, length-append, has, Label, silent, visible, Tree, Operands, NetworkStep, OneSilent, AllTogether, leaves, leaves_of_operands, leaf, parallel, none, operand, StepsAreToldByLeaves}
 use Rattle.net_sound.proofs.FlatLists.{by_test}
 
 abbrev mutual

@@ -4,11 +4,7 @@
 -- table. The silent steps in a row from there are shared out among the components. If there is none, each component is
 -- stable, so it offers every event of an acceptance of the node where its table is, and that acceptance is not empty. Since
 -- ranks fall along ungranted requests, an event is agreed by all that have it. Each of them offers it, so the network has it.
-use Rattle.std.proofs.Common.{◌≡◌, ℕ, zero, suc, ◌<◌, inl, inr, List, [], ◌∷◌, Some, slice_get, get_or, length, IsTrue, MatchBool, replicate, refl, sym, ap, ap₂, subst, ◌∙◌, arith}
-use Rattle.csp_base.proofs.Standard.{cases_Bool, or_left, or_right, get_or_from_slice_get, slice_get_within, none-some, same_Some}
-use Rattle.csp_base.specs.Members.{has}
-use Rattle.csp_tables.specs.Prelude.{Label, silent, visible, Path, Stable, Component, ComponentStep, Tree, NetworkStep, leaves, in_some_component, OneMoves, AllTakePart, FlatStep, visible_events, After, Offers, Part, part_at, alphabets_of, project, IsNonEmpty, TripleDisjoint, Follows, Stands, AllStand, IsAgreed, acceptance, acceptances_of, OffersAcceptance, HasBehaviour, HaveBehaviours, Ranking, IsGoodRanking}
-use Rattle.csp_tables.proofs.SilentPaths.{silent_path, path_silent}
+use Rattle.net_sound.proofs.Prelude.{◌≡◌, ℕ, zero, suc, ◌<◌, inl, inr, List, [], ◌∷◌, Some, slice_get, get_or, length, IsTrue, MatchBool, replicate, refl, sym, ap, ap₂, subst, ◌∙◌, arith, cases_Bool, or_left, or_right, get_or_from_slice_get, slice_get_within, none-some, same_Some, has, Label, silent, visible, Path, Stable, Component, ComponentStep, Tree, NetworkStep, leaves, in_some_component, OneMoves, AllTakePart, FlatStep, visible_events, After, Offers, Part, part_at, alphabets_of, project, IsNonEmpty, TripleDisjoint, Follows, Stands, AllStand, IsAgreed, acceptance, acceptances_of, OffersAcceptance, HasBehaviour, HaveBehaviours, Ranking, IsGoodRanking, silent_path, path_silent}
 use Rattle.net_sound.specs.Projection.{ComesAlong, RunsAreTraces, RunsAreJoint, SilenceIsBounded}
 use Rattle.net_sound.specs.Heart.{GoodRankingsMeanLive}
 use Rattle.net_sound.proofs.FlatLists.{alphabets, match_true, match_false, step_alphabet}
