@@ -62,21 +62,18 @@ count_more S e s h = cond-true (has S e) (count_in S s + 1) (count_in S s) h
 pub count_same : (S : List ℕ) (e : ℕ) (s : List ℕ) → has S e ≡ false → count_in S (e ∷ s) ≡ count_in S s
 count_same S e s h = cond-false (has S e) (count_in S s + 1) (count_in S s) h
 
+count_append : (S u v : List ℕ) → count_in S (u ++ v) ≡ count_in S u + count_in S v
+count_append S [] v = omega arith
+count_append S (x ∷ u) v = elim (cases_Bool (has S x)) [
+  | inl k ↦ omega (arith, count_more S x (u ++ v) k, count_more S x u k, count_append S u v)
+  | inr k ↦ omega (arith, count_same S x (u ++ v) k, count_same S x u k, count_append S u v)
+]
+
 pub count_push_more : (S u : List ℕ) (e : ℕ) → has S e ≡ true → count_in S (u ++ e ∷ []) ≡ count_in S u + 1
-count_push_more S [] e h = count_more S e [] h
-count_push_more S (x ∷ u) e h =
-    elim (cases_Bool (has S x)) [
-      | inl k ↦ omega (arith, count_more S x (u ++ e ∷ []) k, count_more S x u k, count_push_more S u e h)
-      | inr k ↦ omega (arith, count_same S x (u ++ e ∷ []) k, count_same S x u k, count_push_more S u e h)
-    ]
+count_push_more S u e h = omega (arith, count_append S u (e ∷ []), count_more S e [] h)
 
 pub count_push_same : (S u : List ℕ) (e : ℕ) → has S e ≡ false → count_in S (u ++ e ∷ []) ≡ count_in S u
-count_push_same S [] e h = count_same S e [] h
-count_push_same S (x ∷ u) e h =
-    elim (cases_Bool (has S x)) [
-      | inl k ↦ omega (arith, count_more S x (u ++ e ∷ []) k, count_more S x u k, count_push_same S u e h)
-      | inr k ↦ omega (arith, count_same S x (u ++ e ∷ []) k, count_same S x u k, count_push_same S u e h)
-    ]
+count_push_same S u e h = omega (arith, count_append S u (e ∷ []), count_same S e [] h)
 
 -- a projection keeps the events of a set that is within the alphabet
 pub count_project : (S A s : List ℕ) → IsWithin S A → count_in S (project A s) ≡ count_in S s

@@ -56,9 +56,8 @@ vertex_or_not shape i n k here =
 
 fits_count : (ps : List Part) (rs : List PartRanks) → PartsFit ps rs → length rs ≡ length ps
 fits_count [] [] fits = refl
-fits_count [] (r ∷ rs) fits = absurd fits
-fits_count (p ∷ ps) [] fits = absurd fits
 fits_count (p ∷ ps) (r ∷ rs) fits = let rest = fits_count ps rs fits.2 in omega (arith, rest)
+fits_count _ _ fits = absurd fits
 
 -- what the ranking of a rule says
 record Ranked (rule : NotedRule) (shape : Shape) (ranking : Ranking) : Type 0 where

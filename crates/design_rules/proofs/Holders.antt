@@ -53,10 +53,7 @@ other_end shape i l e w on =
     ]
 
 same_ends : (a b c d i p : ℕ) → a < b → c < d → (a ≡ i) × (b ≡ p) ⊎ (a ≡ p) × (b ≡ i) → (c ≡ i) × (d ≡ p) ⊎ (c ≡ p) × (d ≡ i) → (a ≡ c) × (b ≡ d)
-same_ends a b c d i p h k (inl x) (inl y) = let e : a ≡ i = x.0 in let f : b ≡ p = x.1 in let g : c ≡ i = y.0 in let j : d ≡ p = y.1 in omega arith
-same_ends a b c d i p h k (inl x) (inr y) = let e : a ≡ i = x.0 in let f : b ≡ p = x.1 in let g : c ≡ p = y.0 in let j : d ≡ i = y.1 in omega arith
-same_ends a b c d i p h k (inr x) (inl y) = let e : a ≡ p = x.0 in let f : b ≡ i = x.1 in let g : c ≡ i = y.0 in let j : d ≡ p = y.1 in omega arith
-same_ends a b c d i p h k (inr x) (inr y) = let e : a ≡ p = x.0 in let f : b ≡ i = x.1 in let g : c ≡ p = y.0 in let j : d ≡ i = y.1 in omega arith
+same_ends a b c d i p h k x y = (omega (arith, x, y), omega (arith, x, y))
 
 not_below : (shape : Shape) (l m : ℕ) → (link_at shape l).left ≡ (link_at shape m).left → (link_at shape l).right ≡ (link_at shape m).right → IsBelow (link_at shape l) (link_at shape m) → ⊥
 not_below shape l m a b (inl h) = omega arith

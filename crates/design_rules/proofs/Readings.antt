@@ -25,10 +25,9 @@ run_pop table n (x ∷ s) e h =
 -- the components have the alphabets of the parts
 same_alphabets : {T : Type 0} (Step : T → Label → T → Type 0) (cs : List (Component T)) (ps : List Part) → ArePartsOf Step cs ps → alphabets_of ps ≡ map (λ (c : Component T). c.alphabet) cs
 same_alphabets Step [] [] parts = refl
-same_alphabets Step [] (p ∷ ps) parts = absurd parts
-same_alphabets Step (c ∷ cs) [] parts = absurd parts
 same_alphabets {T} Step (c ∷ cs) (p ∷ ps) parts =
     ap (λ (a : List ℕ). a ∷ alphabets_of ps) (sym parts.0.alphabet) ∙ ap (λ (others : List (List ℕ)). c.alphabet ∷ others) (same_alphabets Step cs ps parts.1)
+same_alphabets Step _ _ parts = absurd parts
 
 -- of a vocabulary the members count
 module _ {T : Type 0} (Step : T → Label → T → Type 0) (cs : List (Component T)) (shape : Shape) (parts : ArePartsOf Step cs shape.parts) (vocabulary : List ℕ)

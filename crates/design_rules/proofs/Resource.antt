@@ -6,7 +6,7 @@ use Rattle.csp_base.specs.Members.{has}
 use Rattle.design_rules.specs.Prelude.{is_odd, is_held, holds, acquires, KeepUses, IsHeldWhile, ResourcesRise, AreResourceNumbers, top_number, rank_there, AcceptsSome, AreResourceRanks, ResourceRanksFall, OrderedRanksFall}
 use Rattle.csp_tables.specs.Prelude.{part_at, alphabets_of, TripleDisjoint, Shape, Joins, link_at, IsWellFormed, accepted, UseSets, use_at, Ranking, rank_after, lead}
 use Rattle.net_sound.proofs.Finite.{below_suc}
-use Rattle.design_rules.proofs.Shapes.{turned, first_end, link_events, own_run, Side, Request, request}
+use Rattle.design_rules.proofs.Shapes.{turned, first_end, joins_within, link_events, own_run, Side, Request, request}
 use Rattle.design_rules.proofs.Holders.{Resource, turns, one_link}
 use Rattle.design_rules.proofs.ClientServer.{no_scale}
 use Rattle.csp_base.proofs.Listed.{any_of}
@@ -218,22 +218,13 @@ ordered_ranks_fall shape uses number top ranking w triple uses_are rise positive
 
 -- ---- longest chains
 
--- what is held is a resource among the parts
-held_within : (shape : Shape) (uses : List UseSets) (m j : ℕ) → IsWellFormed shape → KeepUses shape uses → IsHeldWhile shape uses m j → (m < length shape.parts) × ((use_at uses m).resource ≡ true)
-held_within shape uses m j w a h =
-    let t = w.linked.links h.link h.joins.within in
-    let order : (link_at shape h.link).left < (link_at shape h.link).right = t.ordered in
-    let inside : (link_at shape h.link).right < length shape.parts = t.within in
-    let kind = turn_over (use_at uses h.user).resource (use_at uses m).resource (other_kind shape uses h.user m h.link a h.joins) ∙ ap not h.is_user in
-    elim h.joins.ends [
-      | inl e ↦ let f : (link_at shape h.link).right ≡ m = e.1 in (omega arith, kind)
-      | inr e ↦ let f : (link_at shape h.link).left ≡ m = e.0 in (omega arith, kind)
-    ]
+-- what is held is a resource
+held_resource : (shape : Shape) (uses : List UseSets) (m j : ℕ) → KeepUses shape uses → IsHeldWhile shape uses m j → (use_at uses m).resource ≡ true
+held_resource shape uses m j a h = turn_over (use_at uses h.user).resource (use_at uses m).resource (other_kind shape uses h.user m h.link a h.joins) ∙ ap not h.is_user
 
 pub chains_rise : (shape : Shape) (uses : List UseSets) (number : ℕ → ℕ) → IsWellFormed shape → KeepUses shape uses → AreResourceNumbers shape uses number → ResourcesRise shape uses number
 chains_rise shape uses number w a numbers m j h =
-    let held = held_within shape uses m j w a h in
-    let low = numbers m held.0 held.1 in
+    let low = numbers m (joins_within shape h.user m h.link w h.joins) (held_resource shape uses m j a h) in
     let high = numbers j h.within (acquired_resource uses h.acceptance j h.acquiring) in
     let more : suc low.below ≤ high.below = high.longest.most (suc low.below) low.longest.end (m, h, low.longest.attained) in
     let x : number m ≡ low.below + 1 = low.number in
@@ -245,5 +236,3 @@ resource_ranks_fall shape uses ranking w triple rule r =
     ordered_ranks_fall shape uses r.number r.top ranking w triple rule.keep_uses (chains_rise shape uses r.number w rule.keep_uses r.numbers)
     (λ i h resource. let n = r.numbers i h resource in let x : r.number i ≡ n.below + 1 = n.number in omega arith)
     r.ranks
-
--- ---- faults

@@ -58,6 +58,14 @@ first_end shape i j l h =
       | inr k ↦ or_right (nat_eq (link_at shape l).left i) (nat_eq (link_at shape l).right i) (eq-eqb (link_at shape l).right i k.1)
     ]
 
+-- what a link joins is within
+pub joins_within : (shape : Shape) (i j l : ℕ) → IsWellFormed shape → Joins shape i j l → j < length shape.parts
+joins_within shape i j l w h =
+    let t = w.linked.links l h.within in
+    let order : (link_at shape l).left < (link_at shape l).right = t.ordered in
+    let inside : (link_at shape l).right < length shape.parts = t.within in
+    elim h.ends [ inl e ↦ let is : (link_at shape l).right ≡ j = e.1 in omega arith | inr e ↦ let is : (link_at shape l).left ≡ j = e.0 in omega arith ]
+
 joined : (shape : Shape) (i j : ℕ) → AreJoined shape i j → (l : ℕ) × Joins shape i j l
 joined shape i j a = (a.link, record { within = a.within; ends = inl (a.left, a.right) })
 

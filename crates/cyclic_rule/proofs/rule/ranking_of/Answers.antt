@@ -1,5 +1,5 @@
 use Rattle.std.specs.Prelude.{slice_index}
-use Rattle.cyclic_rule.proofs.rule.ranked.Goals as goal
+use Rattle.cyclic_rule.proofs.rule.ranking_of.Goals as goal
 
 pub returns-clause-cyclic : goal.returns-clause-cyclic
 returns-clause-cyclic c =
