@@ -1,15 +1,8 @@
 -- The next component is determined by those taken before it: it is the least free one, and its height is one number. So two takings go the same way, as far
 -- as both go; and one over which none is free goes as far as any.
-use Rattle.std.proofs.Common.{◌≡◌, ◌⊎◌, ◌≤◌, ℕ, zero, suc, List, [], ◌∷◌, slice_get, IsTrue, refl, sym, ap, ap₂, subst, ◌∙◌, arith, inl, inr}
-use Rattle.csp_base.proofs.Standard.{cases_lt, same_Some}
-use Rattle.csp_base.specs.Members.{has}
-use Rattle.csp_base.proofs.Booleans.{same_tests}
-use Rattle.csp_base.proofs.Lists.{slice_get_some}
+use Rattle.hidden_steps.proofs.Prelude.{◌≡◌, ◌⊎◌, ◌≤◌, ℕ, zero, suc, List, [], ◌∷◌, slice_get, IsTrue, refl, sym, ap, ap₂, subst, ◌∙◌, arith, inl, inr, cases_lt, same_Some, has, same_tests, slice_get_some, Label, Component, Walk, AreTaken, GoesRound, HasNoOrder, IsAmong, IsHeight, IsNext, IsNotFree, IsOrder, OwnStep, Taken, hidden_bound}
 use Rattle.csp_base.proofs.SetLaws.{same_set}
-use Rattle.csp_tables.specs.Prelude.{Label, Component}
-use Rattle.digraph.specs.Walk.{Walk}
 use Rattle.hidden_steps.specs.Agreeing.{IsFrontOf}
-use Rattle.hidden_steps.specs.Order.{AreTaken, GoesRound, HasNoOrder, IsAmong, IsHeight, IsNext, IsNotFree, IsOrder, OwnStep, Taken, hidden_bound}
 
 -- ---- walks round a circle get as long as may be
 

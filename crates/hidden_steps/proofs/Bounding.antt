@@ -1,18 +1,9 @@
 -- The bounds of the taken components, by induction over the order.
-use Rattle.std.proofs.Common.{◌≡◌, ◌≤◌, ◌+◌, ◌*◌, ℕ, zero, suc, inl, inr, List, [], ◌∷◌, Some, slice_get, length, Bool, true, false, ◌&&◌, ◌||◌, not, nat_eq, IsTrue, if◌then◌else◌, refl, sym, ap, subst, ◌∙◌, arith}
-use Rattle.csp_base.proofs.Standard.{mul-le-mul_left, cases_Bool, cond-true, cond-false, false≢true, or_cases, or_left, or_right, nat_tests, none-some, same_Some}
-use Rattle.digraph.specs.Walk.{Walk}
-use Rattle.csp_base.specs.Members.{has}
-use Rattle.csp_base.proofs.Booleans.{and_false, is_and}
+use Rattle.hidden_steps.proofs.Prelude.{◌≡◌, ◌≤◌, ◌+◌, ◌*◌, ℕ, zero, suc, inl, inr, List, [], ◌∷◌, Some, slice_get, length, Bool, true, false, ◌&&◌, ◌||◌, not, nat_eq, IsTrue, if◌then◌else◌, refl, sym, ap, subst, ◌∙◌, arith, mul-le-mul_left, cases_Bool, cond-true, cond-false, false≢true, or_cases, or_left, or_right, nat_tests, none-some, same_Some, Walk, has, and_false, is_and, slice_get_some, in_some_component, FlatStep, Label, silent, visible, Component, ComponentStep, NetworkStep, Tree, leaves, project, Path, Reached, After, visible_events, WellNested, alphabets, flat_alphabets, HiddenStep, HiddenStepsAreBounded, AreTaken, IsAmong, IsNext, IsOrder, Taken, bound_over, hidden_bound, is_passed, share_hidden, shared_bounds}
 use Rattle.csp_base.proofs.Listed.{any_of}
-use Rattle.csp_base.proofs.Lists.{slice_get_some}
-use Rattle.csp_tables.specs.Prelude.{in_some_component, FlatStep, Label, silent, visible, Component, ComponentStep, NetworkStep, Tree, leaves, project, Path, Reached, After, visible_events, WellNested}
-use Rattle.net_sound.proofs.FlatLists.{alphabets, flat_alphabets}
 use Rattle.net_sound.proofs.Flattening.{forth, kept}
 use Rattle.net_sound.proofs.Local.{AllAfter, all_after, run_forth, run_kept}
 use Rattle.net_sound.proofs.Soundness.{path_alphabet}
-use Rattle.hidden_steps.specs.Bounded.{HiddenStep, HiddenStepsAreBounded}
-use Rattle.hidden_steps.specs.Order.{AreTaken, IsAmong, IsNext, IsOrder, Taken, bound_over, hidden_bound, is_passed, share_hidden, shared_bounds}
 use Rattle.hidden_steps.proofs.Counting.{count, count_all, count_le, count_le_sum, count_none, one, Each}
 use Rattle.hidden_steps.proofs.Moves.{Along, AllAlong, AreMoves, Move, has_moves, moves_along}
 use Rattle.hidden_steps.proofs.Moves.Move.{event, quiet}

@@ -1,11 +1,5 @@
 -- A run of silent and hidden steps as a list of moves, which each component goes along with.
-use Rattle.std.proofs.Common.{◌≡◌, ◌<◌, ◌+◌, ◌≤◌, ℕ, zero, suc, inl, inr, List, [], ◌∷◌, length, true, false, nat_eq, IsTrue, MatchBool, refl, sym, ap, subst, ◌∙◌, arith}
-use Rattle.csp_base.proofs.Standard.{eq-eqb, length-map, ne_eqb}
-use Rattle.digraph.specs.Walk.{Walk}
-use Rattle.csp_base.specs.Members.{has}
-use Rattle.csp_tables.specs.Prelude.{Label, silent, visible, Component, ComponentStep, in_some_component, OneMoves, AllTakePart, FlatStep}
-use Rattle.net_sound.proofs.FlatLists.{alphabets, flat_alphabets, match_true, match_false, same_some}
-use Rattle.hidden_steps.specs.Bounded.{HiddenStep}
+use Rattle.hidden_steps.proofs.Prelude.{◌≡◌, ◌<◌, ◌+◌, ◌≤◌, ℕ, zero, suc, inl, inr, List, [], ◌∷◌, length, true, false, nat_eq, IsTrue, MatchBool, refl, sym, ap, subst, ◌∙◌, arith, eq-eqb, length-map, ne_eqb, Walk, has, Label, silent, visible, Component, ComponentStep, in_some_component, OneMoves, AllTakePart, FlatStep, alphabets, flat_alphabets, match_true, match_false, same_some, HiddenStep}
 
 -- a component moves silently, or an event happens
 pub data Move : Type 0 where

@@ -1,12 +1,6 @@
 -- The moves of a component's own: silent ones, and events that none of the taken components has. Between two shared ones it walks its own graph.
-use Rattle.std.proofs.Common.{◌≡◌, ◌≤◌, ◌+◌, ◌*◌, ℕ, suc, inl, inr, List, [], ◌∷◌, ◌++◌, Bool, true, false, ◌&&◌, not, nat_eq, refl, sym, ap, subst, ◌∙◌, arith}
-use Rattle.std.proofs.lemmas.Bool.{cases_Bool}
+use Rattle.hidden_steps.proofs.Prelude.{◌≡◌, ◌≤◌, ◌+◌, ◌*◌, ℕ, suc, inl, inr, List, [], ◌∷◌, ◌++◌, Bool, true, false, ◌&&◌, not, nat_eq, refl, sym, ap, subst, ◌∙◌, arith, cases_Bool, Walk, has, Label, silent, visible, Component, ComponentStep, Path, Reached, by_test, step_alphabet, OwnEvent, OwnStep, Taken, is_passed}
 use Rattle.digraph.proofs.WalkLaws.{Walk-arc}
-use Rattle.digraph.specs.Walk.{Walk}
-use Rattle.csp_base.specs.Members.{has}
-use Rattle.csp_tables.specs.Prelude.{Label, silent, visible, Component, ComponentStep, Path, Reached}
-use Rattle.net_sound.proofs.FlatLists.{by_test, step_alphabet}
-use Rattle.hidden_steps.specs.Order.{OwnEvent, OwnStep, Taken, is_passed}
 use Rattle.hidden_steps.proofs.Moves.{Along, AreMoves, Move}
 use Rattle.hidden_steps.proofs.Moves.Move.{event, quiet}
 use Rattle.hidden_steps.proofs.Counting.{count}
