@@ -1,21 +1,15 @@
 -- The field sets that the types of channels have are in order, there is one for each field, and the event table of the channels with them is numbered
 -- by its places.
-use Rattle.std.proofs.Common.{◌≡◌, ℕ, zero, suc, ◌+◌, Bool, true, false, ◌&&◌, nat_eq, IsTrue, Some, Ok, Err, List, [], ◌∷◌, ◌++◌, length, map, replicate, refl, sym, ◌∙◌, ap, subst, arith, length-append}
-use Rattle.std.specs.Prelude.{Result, if◌then◌else◌, slice_get}
-use Rattle.std.specs.List.{flat_map}
-use Rattle.csp_base.proofs.Standard.{false≢true, eq-eqb, length-map, sum-map, sum_by-cons}
+use Rattle.resolved_laws.proofs.Sources.{◌≡◌, ℕ, zero, suc, ◌+◌, Bool, true, false, ◌&&◌, nat_eq, IsTrue, Some, Ok, Err, List, [], ◌∷◌, ◌++◌, length, map, replicate, refl, sym, ◌∙◌, ap, subst, arith, Result, if◌then◌else◌, slice_get, flat_map, length-map, sum-map, sum_by-cons, first_event, row_count, event_of, events_from_channel, rows, IsInOrder, atom_in_order, channel_in_order, expr_in_order, has_sets, is_field_value, set_in_order, sets_in_order, value_in_order, all_true, Outcome, and_then, value_of, channels_of, Meanings, Name, Answer, all_events, and_next, channel_sets, field_set, field_sets, may_be_field, told_in, with_sets, exprs, reading, Atom, Channel, Content, Decl, Expr, Many, One, Tree, Value, ValueKind, is_and}
+use Rattle.std.proofs.Common.{length-append}
+use Rattle.csp_base.proofs.Standard.{false≢true, eq-eqb}
 use Rattle.csp_atoms.specs.Prelude.{is_set}
-use Rattle.csp_atoms.specs.declared.atom.Atom.TheVariants as atom
-use Rattle.csp_program.specs.Prelude.{first_event, row_count, event_of, events_from_channel, rows, IsInOrder, atom_in_order, channel_in_order, expr_in_order, has_sets, is_field_value, set_in_order, sets_in_order, value_in_order, all_true, Outcome, and_then, value_of}
 use Rattle.csp_program.specs.declared.kinds.ValueKind.TheVariants.{Kind}
-use Rattle.csp_text.specs.declared.script.Decl.TheVariants as decl
-use Rattle.script_names.specs.Prelude.{channels_of, Meanings, Name, Answer, all_events, and_next, channel_sets, field_set, field_sets, may_be_field, told_in, with_sets, exprs, reading}
-use Rattle.resolved_laws.proofs.Sources.{Atom, Channel, Content, Decl, Expr, Kind as DefinitionKind, Many, One, Tree, Value, ValueKind}
+use Rattle.resolved_laws.proofs.Sources.{Kind as DefinitionKind}
 use Rattle.resolved_laws.proofs.Whole.{SameTypes}
 use Rattle.value_laws.proofs.RowNumbers.{length-rows}
 use Rattle.value_laws.proofs.ValuesInOrder.{values_are_in_order}
 use Rattle.resolved_laws.proofs.Booleans.{two}
-use Rattle.csp_base.proofs.Booleans.{is_and}
 
 -- ---- outcomes and answers
 
@@ -47,8 +41,8 @@ if_ok false x y k h = absurd (cc)
 
 module _ (p : Content) where
   value_ordered : (a : Atom) → IsTrue (may_be_field a) → IsTrue (atom_in_order p a) → IsTrue (is_field_value p a)
-  value_ordered (atom.Num n) h g = refl
-  value_ordered (atom.Const k) h g = g
+  value_ordered (Atom.Num n) h g = refl
+  value_ordered (Atom.Const k) h g = g
   value_ordered _ h g = absurd (false≢true h)
 
   values_ordered : (atoms : List Atom) → IsTrue (all_true (map may_be_field atoms)) → IsTrue (all_true (map (atom_in_order p) atoms))
@@ -98,13 +92,13 @@ module _ (p : Content) (whole : IsInOrder p) (m : Meanings) (ks : List Definitio
   types_read types = exprs (map (reading m ks) types) [] 0
 
   sets_here : (xs : List Name) (types : List Tree) (sets : List (List Atom)) (rest : List Channel) (all : List (List (List Atom)))
-      → IsTrue (all_true (map (channel_in_order p) (channels_of m ks (decl.Channel xs types) ++ rest))) → field_sets p (types_read types) ≡ Ok sets
-      → (IsTrue (all_true (map (channel_in_order p) rest)) → HaveSets p rest all) → HaveSets p (channels_of m ks (decl.Channel xs types) ++ rest)
+      → IsTrue (all_true (map (channel_in_order p) (channels_of m ks (Decl.Channel xs types) ++ rest))) → field_sets p (types_read types) ≡ Ok sets
+      → (IsTrue (all_true (map (channel_in_order p) rest)) → HaveSets p rest all) → HaveSets p (channels_of m ks (Decl.Channel xs types) ++ rest)
       (replicate (length xs) sets ++ all)
   sets_here [] types sets rest all o h k = k o
   sets_here (x ∷ xs) types sets rest all o h k =
       let o' = two (all_true (map (expr_in_order p) (types_read types)) && true)
-      (all_true (map (channel_in_order p) (channels_of m ks (decl.Channel xs types) ++ rest))) o in (
+      (all_true (map (channel_in_order p) (channels_of m ks (Decl.Channel xs types) ++ rest))) o in (
         sets_ordered p whole (types_read types) sets ((two (all_true (map (expr_in_order p) (types_read types))) true o'.0).0) h,
         sets_here xs types sets rest
             all o'.1 h k,
@@ -113,11 +107,11 @@ module _ (p : Content) (whole : IsInOrder p) (m : Meanings) (ks : List Definitio
   pub have_sets : (i : ℕ) (decls : List Decl) (all : List (List (List Atom))) → IsTrue (all_true (map (channel_in_order p) (flat_map (channels_of m ks) decls)))
       → channel_sets p types_read i decls ≡ Ok all → HaveSets p (flat_map (channels_of m ks) decls) all
   have_sets i [] all o h = let e : [] ≡ all = ok_same h in subst (HaveSets p []) e tt
-  have_sets i (decl.Channel xs types ∷ decls) all o h =
+  have_sets i (Decl.Channel xs types ∷ decls) all o h =
       let a = next_ok (told_in i (field_sets p (types_read types)))
       (λ sets. and_next (channel_sets p types_read (i + 1) decls) (λ rest. Ok (replicate (length xs) sets ++ rest))) all h in
       let b = next_ok (channel_sets p types_read (i + 1) decls) (λ rest. Ok (replicate (length xs) a.first ++ rest)) all a.after in
-      subst (HaveSets p (channels_of m ks (decl.Channel xs types) ++ flat_map (channels_of m ks) decls)) (ok_same b.after)
+      subst (HaveSets p (channels_of m ks (Decl.Channel xs types) ++ flat_map (channels_of m ks) decls)) (ok_same b.after)
       (sets_here xs types a.first (flat_map (channels_of m ks) decls) b.first o (told_ok i (field_sets p (types_read types)) a.first a.is)
       (λ z. have_sets (i + 1) decls b.first z b.is))
   have_sets i (_ ∷ decls) all o h = have_sets (i + 1) decls all o h

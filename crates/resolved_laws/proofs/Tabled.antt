@@ -1,12 +1,5 @@
 -- The program of a script is in order.
-use Rattle.std.proofs.Common.{◌≡◌, ℕ, ◌+◌, ◌<◌, ◌≤◌, ◌^◌, Bool, true, false, nat_le, IsTrue, Option, Some, None, Ok, Err, List, length, refl, sym, ◌∙◌, subst, inl, arith}
-use Rattle.std.specs.Prelude.{if◌then◌else◌, slice_get}
-use Rattle.std.specs.List.{flat_map}
-use Rattle.csp_program.specs.Prelude.{first_event, event_table, IsInOrder}
-use Rattle.script_names.specs.Prelude.{channels_of, first_assertion, plain_content, AreKinds, meanings_of, all_events, and_next, channel_sets, types_of, with_events, with_names, with_root, with_sets, with_table, name_fault}
-use Rattle.typed_laws.proofs.Back.{any_sets}
-use Rattle.resolved_laws.proofs.Sources.{Atom, Channel, Content, Decl, Kind, ResolveFault, Tree}
-use Rattle.resolved_laws.specs.Laws.{HasFew, ResolvedIsInOrder}
+use Rattle.resolved_laws.proofs.Sources.{◌≡◌, ℕ, ◌+◌, ◌<◌, ◌≤◌, ◌^◌, Bool, true, false, nat_le, IsTrue, Option, Some, None, Ok, Err, List, length, refl, sym, ◌∙◌, subst, inl, arith, if◌then◌else◌, slice_get, flat_map, first_event, event_table, IsInOrder, channels_of, first_assertion, plain_content, AreKinds, meanings_of, all_events, and_next, channel_sets, types_of, with_events, with_names, with_root, with_sets, with_table, name_fault, any_sets, Atom, Channel, Content, Decl, Kind, ResolveFault, Tree, HasFew, ResolvedIsInOrder}
 use Rattle.resolved_laws.proofs.Sets.{HaveSets, IsNext, count_events, firsts_kept, have_all, have_sets, next_ok, ok_same, sets_in_place, sets_same}
 use Rattle.resolved_laws.proofs.Whole.{SameTypes, in_order, plain_declares, plain_is_in_order, same_length, with_channels}
 
