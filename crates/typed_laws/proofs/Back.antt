@@ -22,7 +22,7 @@ SetsFor HasSets types_of (Decl.Channel xs types ∷ decls) all =
     × (replicate (length xs) sets ++ others ≡ all)
 SetsFor HasSets types_of (_ ∷ decls) all = SetsFor HasSets types_of decls all
 
-ok_is : {A : Type 0} {E : Type 0} {x y : A} → ◌≡◌ {A = Result A E} (Ok x) (Ok y) → x ≡ y
+pub ok_is : {A : Type 0} {E : Type 0} {x y : A} → ◌≡◌ {A = Result A E} (Ok x) (Ok y) → x ≡ y
 ok_is h = cc
 
 pub record SetsOf {A : Type 0} (k : ℕ) (o : Outcome A) (r : Answer (List A)) (all : List A) : Type 0 where
