@@ -4,13 +4,14 @@ use Rattle.network_trees.specs.declared.fault.LayoutFault.TheVariants as fault
 use Rattle.csp_base.specs.declared.stop.Stop.TheVariants as stop
 use Rattle.std.specs.Result.{IsErrAnd}
 use Rattle.network_layout.proofs.Together.{joint-append}
+use Rattle.dl_limits.specs.declared.TheConstants.{MOST_COMPONENTS}
 
-pub component_laid : (s : Place) (old new : List (Component Proc)) (alphabet : List ℕ) (q : Proc) (events : List ℕ) → length old < 512
+pub component_laid : (s : Place) (old new : List (Component Proc)) (alphabet : List ℕ) (q : Proc) (events : List ℕ) → length old < MOST_COMPONENTS
     → new ≡ old ++ component s alphabet q ∷ [] → events ≡ union_of alphabet [] → IsLaid (seated s alphabet q (length old)) old new events
 component_laid s old new alphabet q events lt grown together =
     record {
       tree = leaf (component s alphabet q);
-      made = ap (λ b. if b then Ok (leaf (component s alphabet q)) else Err fault.ComponentLimit) (lt-ltb (length old) 512 lt);
+      made = ap (λ b. if b then Ok (leaf (component s alphabet q)) else Err fault.ComponentLimit) (lt-ltb (length old) MOST_COMPONENTS lt);
       seats = grown;
       together = together;
     }

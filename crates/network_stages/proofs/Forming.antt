@@ -3,6 +3,7 @@ use Rattle.network_stages.proofs.Prelude.{◌≡◌, ℕ, suc, ◌<◌, ◌≤�
 use Rattle.network_stages.proofs.Sharing.{two_owners}
 use Rattle.network_stages.proofs.Linking.{pair_of, of_pair}
 use Rattle.network_stages.proofs.Counting.{few_links}
+use Rattle.dl_limits.specs.declared.TheConstants.{MOST_COMPONENTS}
 
 -- ---- the vocabulary
 
@@ -47,7 +48,7 @@ module _ (parts : List Part) (rows : List (List (ℕ × ℕ))) (are : AreRows pa
 
 -- ---- the whole
 
-pub ordered : (parts : List Part) (links : List Link) (vocabulary : List ℕ) → length parts ≤ 512 → AreLinksBefore parts (length parts) 0 links
+pub ordered : (parts : List Part) (links : List Link) (vocabulary : List ℕ) → length parts ≤ MOST_COMPONENTS → AreLinksBefore parts (length parts) 0 links
     → LinksAreOrdered (record { parts = parts; links = links; vocabulary = vocabulary })
 ordered parts links vocabulary few a = record {
   parts_numbered = omega arith;
@@ -55,7 +56,7 @@ ordered parts links vocabulary few a = record {
   links_rise = a.rise;
 }
 
-pub is_linked : (parts : List Part) (links : List Link) (vocabulary : List ℕ) → 1 ≤ length parts → length parts ≤ 512
+pub is_linked : (parts : List Part) (links : List Link) (vocabulary : List ℕ) → 1 ≤ length parts → length parts ≤ MOST_COMPONENTS
     → AreLinksBefore parts (length parts) 0 links → IsVocabulary parts vocabulary
     → IsLinked (record { parts = parts; links = links; vocabulary = vocabulary })
 is_linked parts links vocabulary least most a is = record {

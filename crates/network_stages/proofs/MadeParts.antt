@@ -3,6 +3,7 @@ use Rattle.network_stages.proofs.Prelude.{◌≡◌, inl, inr, ℕ, ◌+◌, ◌
 use Rattle.process_steps.specs.declared.component_fault.ComponentFault.TheVariants as fault
 use Rattle.report.specs.declared.answer.Refusal.TheVariants as refusal
 use Rattle.csp_base.specs.declared.stop.Stop.TheVariants as stop
+use Rattle.dl_limits.specs.declared.TheConstants.{MOST_SETS, MOST_TERMS}
 
 -- a table with at most so many acceptances at a node has at most more
 with_more : {S : Type 0} (Step : S → _ → S → Type 0) (start : S) (few most : ℕ) (table : List Node) → few ≤ most → IsNormalTable Step start few table → IsNormalTable Step start most table
@@ -18,16 +19,16 @@ with_more Step start few most table more normal = record {
 
 -- the normal table of a component's table makes the component's part
 pub is_part : (p : Content) (c : Component Proc) (t : ComponentTable) (alphabet : List ℕ) (table : List Node) (part : Part) → HasTable p c t → alphabet ≡ c.alphabet
-    → IsNormalTable (RawStep t.local.table) 0 t.local.table.count table → length table ≤ 2048 → part ≡ record { alphabet = alphabet; table = table }
+    → IsNormalTable (RawStep t.local.table) 0 t.local.table.count table → length table ≤ MOST_SETS → part ≡ record { alphabet = alphabet; table = table }
     → IsPartOf (ProcessStep p) c part × HasForm part
 is_part p c t alphabet table part (room, has) same normal few is =
     let count = has.table.table.count in
     let terms = has.table.few in
     let carried = normal_tables_carry_over (ProcessStep p) c has.table.terms t.local.table t.local.table.count table has.table.table normal in
-    let whole = with_more (ComponentStep (ProcessStep p)) c t.local.table.count 16384 table (omega (arith, count, terms)) carried in
+    let whole = with_more (ComponentStep (ProcessStep p)) c t.local.table.count MOST_TERMS table (omega (arith, count, terms)) carried in
     let made : Part = record { alphabet = c.alphabet; table = table } in
     let one : part ≡ made = is ∙ ap (λ (al : List ℕ). let q : Part = record { alphabet = al; table = table } in q) same in
-    subst (λ (q : Part). IsPartOf (ProcessStep p) c q × HasForm q) (sym one) (record { alphabet = refl; table = whole }, table_has_form (ProcessStep p) c 16384 table whole few)
+    subst (λ (q : Part). IsPartOf (ProcessStep p) c q × HasForm q) (sym one) (record { alphabet = refl; table = whole }, table_has_form (ProcessStep p) c MOST_TERMS table whole few)
 
 -- ---- one more part
 

@@ -8,6 +8,7 @@ use Rattle.report.specs.declared.answer.Answer.{Answer}
 use Rattle.report.specs.declared.answer.Side.{Side}
 use Rattle.csp_base.specs.declared.stop.Stop.TheVariants as stop
 use Rattle.script_names.specs.Program.{IsProgram}
+use Rattle.dl_limits.specs.declared.TheConstants.{MOST_COMPONENTS}
 
 tree_is : (p : Content) (tree : Tree Proc) → network_of p ≡ Ok tree → tree_at p ≡ tree
 unfolding tree_at
@@ -22,10 +23,10 @@ seats_of p seats laid =
     }
 
 -- a network has at most 512 components
-pub few_components : (network : Network) → IsSpelled network → length (leaves network.tree) ≤ 512
+pub few_components : (network : Network) → IsSpelled network → length (leaves network.tree) ≤ MOST_COMPONENTS
 few_components network spelled =
     let made = network_is_tree network.program network.tree spelled in
-    let few : 0 + length (leaves network.tree) ≤ 512 = made.0.few in
+    let few : 0 + length (leaves network.tree) ≤ MOST_COMPONENTS = made.0.few in
     omega (arith, few)
 
 -- a script whose program spells no network has none
