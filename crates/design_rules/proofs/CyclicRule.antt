@@ -47,10 +47,7 @@ apart_differ shape number i l m h k x y ne same =
     ne (sym (mod-mul-add (number l) (length shape.links) l h) ∙ ap (λ n. n % length shape.links) same ∙ mod-mul-add (number m) (length shape.links) m k)
 
 pub less_by : (a b n l m : ℕ) → a < b → l < n → a * n + l < b * n + m
-less_by a b n l m less below =
-    let d = b - (a + 1) in
-    let is : b ≡ a + 1 + (b - (a + 1)) = omega arith in
-    subst (λ c. a * n + l < c * n + m) (sym is) (omega arith)
+less_by a b n l m less below = grind (arith)
 
 apart_rise : (shape : Shape) (number : ℕ → ℕ) → NumbersRise shape number → NumbersRise shape (apart_number shape number)
 apart_rise shape number rise l m before = less_by (number l) (number m) (length shape.links) l m (rise l m before) before.reaches.on.within

@@ -51,7 +51,7 @@ pub below_top : (uses : List UseSets) (number : ℕ → ℕ) (n j : ℕ) → j <
 below_top uses number zero j h r = absurd (omega arith)
 below_top uses number (suc n) j h r =
     elim (cases_eq j n) [
-      | inl e ↦ let own : cond (use_at uses n).resource (number n) 0 ≡ number n = cond-true (use_at uses n).resource (number n) 0 (subst (λ k. (use_at uses k).resource ≡ true) e r) in let same : number j ≡ number n = ap number e in omega arith
+      | inl e ↦ let is : (use_at uses n).resource ≡ true = subst (λ k. (use_at uses k).resource ≡ true) e r in grind (arith)
       | inr ne ↦ let rest : number j ≤ top_number uses number n = below_top uses number n j (omega arith) r in omega arith
     ]
 
