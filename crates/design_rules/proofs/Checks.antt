@@ -157,11 +157,7 @@ pub parity_told : (table : List Node) (S : List ℕ) (told : ℕ → Bool) → f
 parity_told table S told start steps = observed table (λ u. is_odd (count_in S u)) (next_parity S) told (record { start = start; goes_on = goes_on; steps = steps })
   where
     goes_on : (u : List ℕ) (e : ℕ) → is_odd (count_in S (u ++ e ∷ [])) ≡ next_parity S (is_odd (count_in S u)) e
-    goes_on u e =
-        elim (cases_Bool (has S e)) [
-          | inl there ↦ odd_more S u e there ∙ sym (cond-true (has S e) (not (is_odd (count_in S u))) (is_odd (count_in S u)) there)
-          | inr strange ↦ odd_same S u e strange ∙ sym (cond-false (has S e) (not (is_odd (count_in S u))) (is_odd (count_in S u)) strange)
-        ]
+    goes_on u e = grind (arith, odd_more S u e, odd_same S u e)
 
 abbrev part_test : (shape : Shape) (i : ℕ) (others : List (List ℕ)) (e : ℕ) → Test (sharers others e ≡ cond (has (part_at shape.parts i).alphabet e && has shape.vocabulary e) 1 0)
 part_test shape i others e = same (sharers others e) (cond (has (part_at shape.parts i).alphabet e && has shape.vocabulary e) 1 0)

@@ -66,15 +66,9 @@ count_push_same S u e h = omega (arith, count_append S u (e ∷ []), count_same 
 pub count_project : (S A s : List ℕ) → IsWithin S A → count_in S (project A s) ≡ count_in S s
 count_project S A [] w = refl
 count_project S A (e ∷ s) w =
-    elim (cases_Bool (has A e)) [
-      | inl there ↦ ap (count_in S) (cond-true (has A e) (e ∷ project A s) (project A s) there) ∙ ap (λ n. cond (has S e) (n + 1) n) (count_project S A s w)
-      | inr strange ↦
-          ap (count_in S) (cond-false (has A e) (e ∷ project A s) (project A s) strange) ∙ count_project S A s w
-          ∙ sym (count_same S e s (absent strange))
-    ]
-  where
-    absent : has A e ≡ false → has S e ≡ false
-    absent strange = elim (cases_Bool (has S e)) [ inl k ↦ absurd (both_ways (has A e) strange (w e k)) | inr k ↦ k ]
+    let rest : count_in S (project A s) ≡ count_in S s = count_project S A s w in
+    let here : IsTrue (has S e) → IsTrue (has A e) = w e in
+    grind (arith)
 
 -- ---- whole laps of k places
 

@@ -55,19 +55,16 @@ abbrev From : ℕ → ℕ → ℕ → ℕ → Type 0
 From i j k l = (i < k) ⊎ ((i ≡ k) × (j ≤ l))
 
 from_first : (k l : ℕ) → k < l → From 0 1 k l
-from_first zero l less = inr (refl, less)
-from_first (suc k) l less = inl (omega arith)
+from_first k l less = grind (arith)
 
 from_row : (i n k l : ℕ) → k < l → l < n → From i n k l → From (suc i) (suc (suc i)) k l
-from_row i n k l less within f = elim (cases_eq (suc i) k) [ inl same ↦ inr (same, omega arith) | inr other ↦ inl (omega (arith, f)) ]
+from_row i n k l less within f = grind (arith)
 
 from_over : (i j k l : ℕ) → From i j k l → (i ≡ k → j ≡ l → ⊥) → From i (suc j) k l
-from_over i j k l (inl less) other = inl less
-from_over i j k l (inr same) other = inr (same.0, let le : j ≤ l = same.1 in elim (cases_eq j l) [ inl here ↦ absurd (other same.0 here) | inr ne ↦ omega arith ])
+from_over i j k l f other = grind (arith)
 
 from_back : (i j k l : ℕ) → From i (suc j) k l → From i j k l
-from_back i j k l (inl less) = inl less
-from_back i j k l (inr same) = inr (same.0, let le : suc j ≤ l = same.1 in omega arith)
+from_back i j k l f = grind (arith)
 
 from_below : (i n k l : ℕ) → From (suc i) (suc (suc i)) k l → From i n k l
 from_below i n k l f = inl (omega (arith, f))

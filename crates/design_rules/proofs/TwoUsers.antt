@@ -65,10 +65,7 @@ rise : ResourcesRise two_users two_users_uses number
 rise = (rises two_users two_users_uses number held parity told).shows refl
 
 positive : (j : ℕ) → 1 ≤ number j
-positive zero = omega arith
-positive (suc zero) = omega arith
-positive (suc (suc zero)) = omega arith
-positive (suc (suc (suc j))) = omega arith
+positive j = grind (arith)
 
 bound : (j n k : ℕ) → Walk (StandsAbove two_users two_users_uses) n j k → n ≤ number j - 1
 bound = λ j n k w. walk_bound (StandsAbove two_users two_users_uses) (λ x. number x - 1) (λ x y a. let less : number y < number x = rise y x a in let some : 1 ≤ number y = positive y in omega arith) n j k w
