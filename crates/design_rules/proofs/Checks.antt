@@ -1,17 +1,9 @@
 -- Tests of written-out shapes: each computes, and has what it shows. For examples.
-use Rattle.std.proofs.Common.{◌≡◌, ℕ, zero, suc, ◌+◌, ◌<◌, ◌≤◌, ◌⊎◌, inl, inr, ℤ, List, [], ◌∷◌, ◌++◌, length, get_or, Bool, true, false, not, ◌&&◌, ◌||◌, cond, nat_eq, nat_le, nat_lt, refl, sym, ap, subst, ◌∙◌, arith, eqb-true, leb-true, ltb-true}
-use Rattle.std.proofs.lemmas.Bool.{cases_Bool, cases_eq, cases_lt, and_parts, and_from, or_cases, both_ways, false≢true, cond-true, cond-false, not-true}
-use Rattle.std.specs.List.{flat_map, list_any}
+use Rattle.design_rules.proofs.Prelude.{◌≡◌, ℕ, zero, suc, ◌+◌, ◌<◌, ◌≤◌, ◌⊎◌, inl, inr, ℤ, List, [], ◌∷◌, ◌++◌, length, get_or, Bool, true, false, not, ◌&&◌, ◌||◌, cond, nat_eq, nat_le, nat_lt, refl, sym, ap, subst, ◌∙◌, arith, eqb-true, leb-true, ltb-true, cases_Bool, cases_eq, cases_lt, and_parts, and_from, or_cases, both_ways, false≢true, cond-true, cond-false, not-true, flat_map, list_any, get_or-eq_default, Decides-int_eq, has, any_member, IsWithin, AreApart, Meet, Node, no_node, node_at, is_possible, target, node_after, IsRun, end_of, part_at, sharers, Shape, count_in, is_odd, PartShared, end_push}
 use Rattle.std.specs.Ordering.{int_eq}
-use Rattle.csp_base.proofs.Standard.{get_or-eq_default, Decides-int_eq}
-use Rattle.csp_base.specs.Members.{has}
-use Rattle.csp_base.proofs.Listed.{any_member}
-use Rattle.csp_tables.specs.Prelude.{IsWithin, AreApart, Meet, Node, no_node, node_at, is_possible, target, node_after, IsRun, end_of, part_at, sharers, Shape}
-use Rattle.design_rules.specs.Prelude.{count_in, is_odd, PartShared}
 use Rattle.design_rules.proofs.Holders.{odd_more, odd_same}
 use Rattle.design_rules.proofs.Linking.{some_alphabet}
 use Rattle.design_rules.proofs.Runs.{run_induction}
-use Rattle.csp_tables.proofs.Runs.{end_push}
 
 pub record Test (P : Type 0) : Type 0 where
   pub passes : Bool

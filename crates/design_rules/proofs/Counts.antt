@@ -1,9 +1,5 @@
 -- Counts: of numbers that pass a test, of events in a set; and whole laps of a count.
-use Rattle.std.proofs.Common.{◌≡◌, ℕ, zero, suc, ◌+◌, ◌*◌, ◌/◌, ◌%◌, ◌<◌, ◌≤◌, inl, inr, List, [], ◌∷◌, ◌++◌, Bool, true, false, not, ◌&&◌, cond, IsTrue, nat_eq, refl, sym, ap, subst, ◌∙◌, arith, eq-eqb, ne_eqb}
-use Rattle.csp_base.proofs.Standard.{cases_Bool, cases_eq, cond-true, cond-false, both_ways, and-true, and-false, div-add-mod', div-mul-add, mod-mul-add}
-use Rattle.csp_base.specs.Members.{has}
-use Rattle.design_rules.specs.Counts.{count_below, count_in, above_all}
-use Rattle.csp_tables.specs.Prelude.{project, IsWithin}
+use Rattle.design_rules.proofs.Prelude.{◌≡◌, ℕ, zero, suc, ◌+◌, ◌*◌, ◌/◌, ◌%◌, ◌<◌, ◌≤◌, inl, inr, List, [], ◌∷◌, ◌++◌, Bool, true, false, not, ◌&&◌, cond, IsTrue, nat_eq, refl, sym, ap, subst, ◌∙◌, arith, eq-eqb, ne_eqb, cases_Bool, cases_eq, cond-true, cond-false, both_ways, and-true, and-false, div-add-mod', div-mul-add, mod-mul-add, has, count_below, count_in, above_all, project, IsWithin}
 
 -- ---- numbers that pass a test
 

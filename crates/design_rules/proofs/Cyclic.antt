@@ -1,11 +1,5 @@
 -- The ranking of a cyclic network falls along ungranted requests.
-use Rattle.std.proofs.Common.{◌≡◌, ℕ, ◌+◌, ◌*◌, ◌/◌, ◌%◌, ◌<◌, ◌≤◌, inl, inr, ℤ, pos, ◌+ℤ◌, ◌-ℤ◌, ◌*ℤ◌, ◌<ℤ◌, List, [], ◌∷◌, ◌++◌, length, ◌&&◌, cond, nat_lt, IsTrue, sym, ap, subst, ◌∙◌, arith, eq-eqb, ne_eqb, le-ltb, lt-ltb, ltb-true}
-use Rattle.csp_base.proofs.Standard.{cases_Bool, cases_eq, cases_lt, cases_order, and_parts, and_from, and_right, both_ways, ints, mod_below, div-eq_of_lt, mod-eq_of_lt}
-use lib.IntN.{+ℤ_invr, *ℤ-zero}
-use Rattle.csp_base.specs.Members.{has}
-use Rattle.design_rules.specs.Prelude.{count_in, above_all, links_of, IsWholeEnd, HasWholeEnd, place_after, by_tables, place_of, IsNext, KeepsOrder, ReachedLinksDiffer, AreCyclicRanks, ends_lap}
-use Rattle.csp_tables.specs.Prelude.{IsRun, end_of, part_at, Meet, IsWithin, Shape, Joins, link_at, is_end, IsWellFormed, RunsTo, IsPossible, Accepts, accepted, IsOn, Ranking, part_ranks, rank_after, laps_from, lead, Falls}
-use Rattle.net_sound.proofs.Within.{part_form}
+use Rattle.design_rules.proofs.Prelude.{◌≡◌, ℕ, ◌+◌, ◌*◌, ◌/◌, ◌%◌, ◌<◌, ◌≤◌, inl, inr, ℤ, pos, ◌+ℤ◌, ◌-ℤ◌, ◌*ℤ◌, ◌<ℤ◌, List, [], ◌∷◌, ◌++◌, length, ◌&&◌, cond, nat_lt, IsTrue, sym, ap, subst, ◌∙◌, arith, eq-eqb, ne_eqb, le-ltb, lt-ltb, ltb-true, cases_Bool, cases_eq, cases_lt, cases_order, and_parts, and_from, and_right, both_ways, ints, mod_below, div-eq_of_lt, mod-eq_of_lt, +ℤ_invr, *ℤ-zero, has, count_in, above_all, links_of, IsWholeEnd, HasWholeEnd, place_after, by_tables, place_of, IsNext, KeepsOrder, ReachedLinksDiffer, AreCyclicRanks, ends_lap, IsRun, end_of, part_at, Meet, IsWithin, Shape, Joins, link_at, is_end, IsWellFormed, RunsTo, IsPossible, Accepts, accepted, IsOn, Ranking, part_ranks, rank_after, laps_from, lead, Falls, part_form}
 use Rattle.design_rules.proofs.Counts.{count_strict, below_all, count_push_more, count_push_same, lap_over, lap_on}
 use Rattle.design_rules.proofs.Runs.{possible_after, run_induction, laps_push, possible_within}
 use Rattle.design_rules.proofs.Shapes.{turned, first_end, link_shared, some_link, link_events, own_run, own_end, Request, request}

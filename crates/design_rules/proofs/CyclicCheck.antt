@@ -1,9 +1,5 @@
 -- Tests that show a written-out shape cyclic, with its ranking. For examples.
-use Rattle.std.proofs.Common.{arith, ◌≡◌, ℕ, ◌+◌, ◌%◌, ◌<◌, inl, inr, pos, List, [], ◌∷◌, ◌++◌, length, Bool, true, ◌&&◌, cond, nat_eq, sym, ap, ◌∙◌, eq-eqb}
-use Rattle.csp_base.proofs.Standard.{cases_Bool, and_from, cond-true, cond-false, mod-add-mod}
-use Rattle.csp_base.specs.Members.{has}
-use Rattle.csp_tables.specs.Prelude.{node_at, node_after, is_possible, end_of, part_at, IsWithin, Shape, link_at, is_end, acceptance_at, RunsTo, Ranking, part_ranks, rank_at}
-use Rattle.design_rules.specs.Prelude.{above_all, lap_at, links_of, place_after, by_tables, place_of, KeepsOrder, IsFullEnd, HasFullEnds, ends_lap, AreCyclicRanks}
+use Rattle.design_rules.proofs.Prelude.{arith, ◌≡◌, ℕ, ◌+◌, ◌%◌, ◌<◌, inl, inr, pos, List, [], ◌∷◌, ◌++◌, length, Bool, true, ◌&&◌, cond, nat_eq, sym, ap, ◌∙◌, eq-eqb, cases_Bool, and_from, cond-true, cond-false, mod-add-mod, has, node_at, node_after, is_possible, end_of, part_at, IsWithin, Shape, link_at, is_end, acceptance_at, RunsTo, Ranking, part_ranks, rank_at, above_all, lap_at, links_of, place_after, by_tables, place_of, KeepsOrder, IsFullEnd, HasFullEnds, ends_lap, AreCyclicRanks}
 use Rattle.design_rules.proofs.Counts.{count_push_more, count_push_same}
 use Rattle.design_rules.proofs.Accepting.{each_set}
 use Rattle.design_rules.proofs.Checks.{Test, shown, same, same_rank, both, three, either, when, below, members, within, steps, accepted, observed}

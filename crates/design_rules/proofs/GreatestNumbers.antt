@@ -1,10 +1,6 @@
 -- The greatest number of a ranking: no rank at a place is above it, and it is 0 or the rank at some place.
-use Rattle.std.proofs.Common.{◌≡◌, ℕ, zero, suc, ◌≤◌, ◌⊎◌, inl, inr, ℤ, pos, max, List, [], ◌∷◌, ◌++◌, get_or, refl, sym, ◌∙◌, arith}
-use Rattle.std.proofs.lemmas.Bool.{cases_lt}
-use Rattle.std.specs.List.{flat_map}
-use Rattle.csp_tables.specs.Ranking.{PartRanks, Ranking, part_ranks, rank_at}
-use Rattle.csp_base.specs.Lists.{natural}
-use Rattle.design_rules.specs.RankCounts.{greatest_from, greatest_rank}
+use Rattle.design_rules.proofs.Prelude.{◌≡◌, ℕ, zero, suc, ◌≤◌, ◌⊎◌, inl, inr, ℤ, pos, max, List, [], ◌∷◌, ◌++◌, get_or, refl, sym, ◌∙◌, arith, cases_lt, flat_map, PartRanks, Ranking, part_ranks, rank_at, natural, greatest_rank}
+use Rattle.design_rules.specs.RankCounts.{greatest_from}
 
 greatest_append : (m : ℕ) (xs ys : List ℤ) → greatest_from m (xs ++ ys) ≡ greatest_from (greatest_from m xs) ys
 greatest_append m [] ys = refl

@@ -1,9 +1,5 @@
 -- Tests that show a written-out shape one of users and resources, with its ranking. For examples.
-use Rattle.std.proofs.Common.{arith, ◌≡◌, ℕ, ◌+◌, ◌-◌, ◌*◌, ◌<◌, inl, inr, pos, List, [], ◌∷◌, ◌++◌, length, Option, Some, None, Bool, true, false, not, ◌&&◌, cond, nat_eq, refl, sym, ap, subst, ◌∙◌, eq-eqb, IsTrue}
-use Rattle.std.proofs.lemmas.Bool.{cases_Bool, and_from, cond-true, cond-false}
-use Rattle.csp_base.specs.Members.{has}
-use Rattle.csp_tables.specs.Prelude.{node_at, node_after, is_possible, end_of, part_at, Shape, link_at, is_end, acceptance_at, RunsTo, UseSets, use_at, Ranking, part_ranks, rank_at}
-use Rattle.design_rules.specs.Prelude.{count_in, is_odd, is_held, last_from, IsHolder, holds, KeepUses, acquires, ResourcesRise, top_number, AreResourceRanks}
+use Rattle.design_rules.proofs.Prelude.{arith, ◌≡◌, ℕ, ◌+◌, ◌-◌, ◌*◌, ◌<◌, inl, inr, pos, List, [], ◌∷◌, ◌++◌, length, Option, Some, None, Bool, true, false, not, ◌&&◌, cond, nat_eq, refl, sym, ap, subst, ◌∙◌, eq-eqb, IsTrue, cases_Bool, and_from, cond-true, cond-false, has, node_at, node_after, is_possible, end_of, part_at, Shape, link_at, is_end, acceptance_at, RunsTo, UseSets, use_at, Ranking, part_ranks, rank_at, count_in, is_odd, is_held, last_from, IsHolder, holds, KeepUses, acquires, ResourcesRise, top_number, AreResourceRanks}
 use Rattle.design_rules.proofs.Holders.{last_more, last_same, odd_more, odd_same}
 use Rattle.design_rules.proofs.Checks.{Test, shown, always, never, is_true, is_false, same_truth, same, less, same_rank, both, three, four, when, unless, below, below_passes, members, within, steps, accepted, observed, next_parity, parity_told, parts_shared}
 use Rattle.design_rules.proofs.RankCheck.{parts_fit, vertices, others_zero, no_laps}

@@ -1,9 +1,6 @@
 -- Two users that acquire two resources in the same order meet the rule of users and resources.
-use Rattle.std.proofs.Common.{ℕ, zero, suc, ◌-◌, ◌<◌, ◌≤◌, inl, List, [], ◌∷◌, Option, Some, None, Bool, true, false, refl, arith}
-use Rattle.std.proofs.lemmas.Bool.{false≢true}
-use Rattle.csp_tables.specs.Shape.{IsWellFormed}
-use Rattle.digraph.specs.Walk.{Walk}
-use Rattle.design_rules.specs.Prelude.{IsHeldWhile, ResourcesRise, StandsAbove, AreResourceNumbers, two_users, two_users_uses, two_users_ranking, TwoUsersAreResource}
+use Rattle.design_rules.proofs.Prelude.{ℕ, zero, suc, ◌-◌, ◌<◌, ◌≤◌, inl, List, [], ◌∷◌, Option, Some, None, Bool, true, false, refl, arith, false≢true, IsWellFormed, Walk, IsHeldWhile, ResourcesRise, AreResourceNumbers, two_users, two_users_uses, two_users_ranking, TwoUsersAreResource}
+use Rattle.design_rules.specs.Prelude.{StandsAbove}
 use Rattle.design_rules.proofs.Walks.{walk_bound}
 use Rattle.design_rules.proofs.Checks.{within}
 use Rattle.design_rules.proofs.FormCheck.{well_formed, triple_disjoint}
