@@ -1,9 +1,5 @@
 -- A client and a server with requests and acknowledgements on their link meet the rule of clients and servers.
-use Rattle.std.proofs.Common.{◌≡◌, ℕ, zero, suc, ◌<◌, ◌≤◌, ◌⊎◌, inl, inr, List, [], ◌∷◌, length, Bool, true, false, refl, sym, subst, arith}
-use Rattle.std.proofs.lemmas.Bool.{false≢true}
-use Rattle.csp_tables.specs.Shape.{link_at, IsWellFormed}
-use Rattle.digraph.specs.Walk.{Walk, IsLongestWalk}
-use Rattle.design_rules.specs.Prelude.{IsClientOn, Serves, KeepRoles, pair, pair_roles, pair_ranking, PairIsClientServer}
+use Rattle.design_rules.proofs.Prelude.{◌≡◌, ℕ, zero, suc, ◌<◌, ◌≤◌, ◌⊎◌, inl, inr, List, [], ◌∷◌, length, Bool, true, false, refl, sym, subst, arith, false≢true, link_at, IsWellFormed, Walk, IsLongestWalk, IsClientOn, Serves, KeepRoles, pair, pair_roles, pair_ranking, PairIsClientServer}
 use Rattle.design_rules.proofs.Walks.{no_circle}
 use Rattle.design_rules.proofs.FormCheck.{well_formed}
 use Rattle.design_rules.proofs.ClientServerCheck.{keep_roles, role_ranking}

@@ -1,17 +1,9 @@
 -- Tests of written-out shapes: each computes, and has what it shows. For examples.
-use Rattle.std.proofs.Common.{◌≡◌, ℕ, zero, suc, ◌+◌, ◌<◌, ◌≤◌, ◌⊎◌, inl, inr, ℤ, List, [], ◌∷◌, ◌++◌, length, get_or, Bool, true, false, not, ◌&&◌, ◌||◌, cond, nat_eq, nat_le, nat_lt, refl, sym, ap, subst, ◌∙◌, arith, eqb-true, leb-true, ltb-true}
-use Rattle.std.proofs.lemmas.Bool.{cases_Bool, cases_eq, cases_lt, and_parts, and_from, or_cases, both_ways, false≢true, cond-true, cond-false, not-true}
-use Rattle.std.specs.List.{flat_map, list_any}
+use Rattle.design_rules.proofs.Prelude.{◌≡◌, ℕ, zero, suc, ◌+◌, ◌<◌, ◌≤◌, ◌⊎◌, inl, inr, ℤ, List, [], ◌∷◌, ◌++◌, length, get_or, Bool, true, false, not, ◌&&◌, ◌||◌, cond, nat_eq, nat_le, nat_lt, refl, sym, ap, subst, ◌∙◌, arith, eqb-true, leb-true, ltb-true, cases_Bool, cases_eq, cases_lt, and_parts, and_from, or_cases, both_ways, false≢true, cond-true, cond-false, not-true, flat_map, list_any, get_or-eq_default, Decides-int_eq, has, any_member, IsWithin, AreApart, Meet, Node, no_node, node_at, is_possible, target, node_after, IsRun, end_of, part_at, sharers, Shape, count_in, is_odd, PartShared, end_push}
 use Rattle.std.specs.Ordering.{int_eq}
-use Rattle.csp_base.proofs.Standard.{get_or-eq_default, Decides-int_eq}
-use Rattle.csp_base.specs.Members.{has}
-use Rattle.csp_base.proofs.Listed.{any_member}
-use Rattle.csp_tables.specs.Prelude.{IsWithin, AreApart, Meet, Node, no_node, node_at, is_possible, target, node_after, IsRun, end_of, part_at, sharers, Shape}
-use Rattle.design_rules.specs.Prelude.{count_in, is_odd, PartShared}
 use Rattle.design_rules.proofs.Holders.{odd_more, odd_same}
 use Rattle.design_rules.proofs.Linking.{some_alphabet}
 use Rattle.design_rules.proofs.Runs.{run_induction}
-use Rattle.csp_tables.proofs.Runs.{end_push}
 
 pub record Test (P : Type 0) : Type 0 where
   pub passes : Bool
@@ -157,11 +149,7 @@ pub parity_told : (table : List Node) (S : List ℕ) (told : ℕ → Bool) → f
 parity_told table S told start steps = observed table (λ u. is_odd (count_in S u)) (next_parity S) told (record { start = start; goes_on = goes_on; steps = steps })
   where
     goes_on : (u : List ℕ) (e : ℕ) → is_odd (count_in S (u ++ e ∷ [])) ≡ next_parity S (is_odd (count_in S u)) e
-    goes_on u e =
-        elim (cases_Bool (has S e)) [
-          | inl there ↦ odd_more S u e there ∙ sym (cond-true (has S e) (not (is_odd (count_in S u))) (is_odd (count_in S u)) there)
-          | inr strange ↦ odd_same S u e strange ∙ sym (cond-false (has S e) (not (is_odd (count_in S u))) (is_odd (count_in S u)) strange)
-        ]
+    goes_on u e = grind (arith, odd_more S u e, odd_same S u e)
 
 abbrev part_test : (shape : Shape) (i : ℕ) (others : List (List ℕ)) (e : ℕ) → Test (sharers others e ≡ cond (has (part_at shape.parts i).alphabet e && has shape.vocabulary e) 1 0)
 part_test shape i others e = same (sharers others e) (cond (has (part_at shape.parts i).alphabet e && has shape.vocabulary e) 1 0)

@@ -1,11 +1,5 @@
 -- The ranking of a client-server network falls along ungranted requests.
-use Rattle.std.proofs.Common.{◌≡◌, ℕ, ◌*◌, ◌<◌, ◌⊎◌, inl, inr, ℤ, pos, ◌+ℤ◌, ◌-ℤ◌, ◌*ℤ◌, ◌<ℤ◌, List, length, true, false, ◌&&◌, sym, ap, subst, ◌∙◌, arith}
-use Rattle.csp_base.proofs.Standard.{cases_Bool, or_cases, both_ways, cond-true, cond-false, ints}
-use lib.IntN.{zero-*ℤ}
-use Rattle.csp_base.specs.Members.{has}
-use Rattle.design_rules.specs.Prelude.{is_odd, IsClientOn, has_acknowledgements, is_open, is_request, is_acknowledgement, Serves, KeepRoles, IsClientServerRanking, ClientServerRanksFall}
-use Rattle.csp_tables.specs.Prelude.{part_at, Meet, AreApart, Shape, Joins, link_at, IsWellFormed, accepted, IsPossible, IsOn, RoleSets, role_at, Ranking, rank_after, lead}
-use Rattle.net_sound.proofs.Finite.{search_list}
+use Rattle.design_rules.proofs.Prelude.{◌≡◌, ℕ, ◌*◌, ◌<◌, ◌⊎◌, inl, inr, ℤ, pos, ◌+ℤ◌, ◌-ℤ◌, ◌*ℤ◌, ◌<ℤ◌, List, length, true, false, ◌&&◌, sym, ap, subst, ◌∙◌, arith, cases_Bool, or_cases, both_ways, cond-true, cond-false, ints, zero-*ℤ, has, is_odd, IsClientOn, has_acknowledgements, is_open, is_request, is_acknowledgement, Serves, KeepRoles, IsClientServerRanking, ClientServerRanksFall, part_at, Meet, AreApart, Shape, Joins, link_at, IsWellFormed, accepted, IsPossible, IsOn, RoleSets, role_at, Ranking, rank_after, lead, search_list}
 use Rattle.design_rules.proofs.Walks.{Graph, falls, height_below}
 use Rattle.design_rules.proofs.Shapes.{turned, first_end, joins_within, link_events, own_run, own_end, Side, Request, request}
 use Rattle.design_rules.proofs.Accepting.{at_place}

@@ -1,10 +1,5 @@
 -- Tests that show a written-out shape one of clients and servers, with its ranking. For examples.
-use Rattle.std.proofs.Common.{◌≡◌, ℕ, ◌*◌, ◌<◌, inl, inr, pos, ◌-ℤ◌, List, [], ◌∷◌, length, Bool, true, false, ◌&&◌, cond, sym, ap, ◌∙◌, IsTrue, ◌⊎◌, refl}
-use Rattle.std.proofs.lemmas.Bool.{and_from}
-use Rattle.csp_base.specs.Members.{has}
-use Rattle.csp_tables.specs.Prelude.{node_at, node_after, is_possible, end_of, part_at, AreApart, IsWithin, Shape, link_at, is_end, acceptance_at, RunsTo, RoleSets, role_at, Ranking, part_ranks, rank_at}
-use Rattle.digraph.specs.Walk.{IsLongestWalk}
-use Rattle.design_rules.specs.Prelude.{IsClientOn, has_acknowledgements, is_open, is_request, is_acknowledgement, Serves, KeepRoles, IsClientServerRanking}
+use Rattle.design_rules.proofs.Prelude.{◌≡◌, ℕ, ◌*◌, ◌<◌, inl, inr, pos, ◌-ℤ◌, List, [], ◌∷◌, length, Bool, true, false, ◌&&◌, cond, sym, ap, ◌∙◌, IsTrue, ◌⊎◌, refl, and_from, has, node_at, node_after, is_possible, end_of, part_at, AreApart, IsWithin, Shape, link_at, is_end, acceptance_at, RunsTo, RoleSets, role_at, Ranking, part_ranks, rank_at, IsLongestWalk, IsClientOn, has_acknowledgements, is_open, is_request, is_acknowledgement, Serves, KeepRoles, IsClientServerRanking}
 use Rattle.design_rules.proofs.Shapes.{turned, first_end}
 use Rattle.design_rules.proofs.Checks.{Test, shown, is_true, is_false, same_truth, same_rank, both, three, four, either, when, below, members, within, apart, meets, ends, steps, accepted, next_parity, parity_told, parts_shared}
 use Rattle.design_rules.proofs.RankCheck.{parts_fit, vertices, others_zero, no_laps}

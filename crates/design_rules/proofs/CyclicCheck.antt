@@ -1,9 +1,5 @@
 -- Tests that show a written-out shape cyclic, with its ranking. For examples.
-use Rattle.std.proofs.Common.{◌≡◌, ℕ, ◌+◌, ◌%◌, ◌<◌, inl, inr, pos, List, [], ◌∷◌, ◌++◌, length, Bool, true, ◌&&◌, cond, nat_eq, sym, ap, ◌∙◌, eq-eqb}
-use Rattle.csp_base.proofs.Standard.{cases_Bool, and_from, cond-true, cond-false, mod-add-mod}
-use Rattle.csp_base.specs.Members.{has}
-use Rattle.csp_tables.specs.Prelude.{node_at, node_after, is_possible, end_of, part_at, IsWithin, Shape, link_at, is_end, acceptance_at, RunsTo, Ranking, part_ranks, rank_at}
-use Rattle.design_rules.specs.Prelude.{above_all, lap_at, links_of, place_after, by_tables, place_of, KeepsOrder, IsFullEnd, HasFullEnds, ends_lap, AreCyclicRanks}
+use Rattle.design_rules.proofs.Prelude.{arith, ◌≡◌, ℕ, ◌+◌, ◌%◌, ◌<◌, inl, inr, pos, List, [], ◌∷◌, ◌++◌, length, Bool, true, ◌&&◌, cond, nat_eq, sym, ap, ◌∙◌, eq-eqb, cases_Bool, and_from, cond-true, cond-false, mod-add-mod, has, node_at, node_after, is_possible, end_of, part_at, IsWithin, Shape, link_at, is_end, acceptance_at, RunsTo, Ranking, part_ranks, rank_at, above_all, lap_at, links_of, place_after, by_tables, place_of, KeepsOrder, IsFullEnd, HasFullEnds, ends_lap, AreCyclicRanks}
 use Rattle.design_rules.proofs.Counts.{count_push_more, count_push_same}
 use Rattle.design_rules.proofs.Accepting.{each_set}
 use Rattle.design_rules.proofs.Checks.{Test, shown, same, same_rank, both, three, either, when, below, members, within, steps, accepted, observed}
@@ -30,15 +26,7 @@ place_told shape told c i s runs =
     observed (part_at shape.parts i).table (λ u. place_after shape u % links_of shape i) (next_place shape i) (told i) (record { start = c.start i runs.part; goes_on = goes_on; steps = c.steps i runs.part }) s runs.follows
   where
     goes_on : (u : List ℕ) (e : ℕ) → place_after shape (u ++ e ∷ []) % links_of shape i ≡ next_place shape i (place_after shape u % links_of shape i) e
-    goes_on u e =
-        elim (cases_Bool (has shape.vocabulary e)) [
-          | inl v ↦
-              ap (λ n. n % links_of shape i) (count_push_more shape.vocabulary u e v) ∙ sym (mod-add-mod (place_after shape u) (links_of shape i) 1)
-              ∙ sym (cond-true (has shape.vocabulary e) ((place_after shape u % links_of shape i + 1) % links_of shape i) (place_after shape u % links_of shape i) v)
-          | inr hidden ↦
-              ap (λ n. n % links_of shape i) (count_push_same shape.vocabulary u e hidden)
-              ∙ sym (cond-false (has shape.vocabulary e) ((place_after shape u % links_of shape i + 1) % links_of shape i) (place_after shape u % links_of shape i) hidden)
-        ]
+    goes_on u e = grind (arith, count_push_more shape.vocabulary u e, count_push_same shape.vocabulary u e, mod-add-mod (place_after shape u) (links_of shape i) 1)
 
 abbrev on_own : Shape → ℕ → ℕ → ℕ → Bool
 on_own shape i l e = is_end shape i l && has (link_at shape l).shared e

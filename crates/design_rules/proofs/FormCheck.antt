@@ -1,8 +1,5 @@
 -- A test that shows a written-out shape well formed: it is true by computation.
-use Rattle.std.proofs.Common.{◌≡◌, ℕ, ◌<◌, inl, inr, List, [], ◌∷◌, length, get_or, true, nat_le, refl, subst, arith, le-leb}
-use Rattle.csp_base.proofs.Standard.{cases_lt, false≢true, get_or-eq_default}
-use Rattle.csp_base.specs.Members.{has}
-use Rattle.csp_tables.specs.Prelude.{Node, node_at, is_possible, is_run, IsReached, end_of, Part, part_at, alphabets_of, sharers, TripleDisjoint, BeginsAbove, StepsHaveForm, AreWithin, NodesHaveForm, HaveForm, Shape, link_at, JoinsTwo, AreJoined, IsBelow, IsLinked, IsWellFormed}
+use Rattle.design_rules.proofs.Prelude.{◌≡◌, ℕ, ◌<◌, inl, inr, List, [], ◌∷◌, length, get_or, true, nat_le, refl, subst, arith, le-leb, cases_lt, false≢true, get_or-eq_default, has, Node, node_at, is_possible, is_run, IsReached, end_of, Part, part_at, alphabets_of, sharers, TripleDisjoint, BeginsAbove, StepsHaveForm, AreWithin, NodesHaveForm, HaveForm, Shape, link_at, JoinsTwo, AreJoined, IsBelow, IsLinked, IsWellFormed}
 use Rattle.design_rules.proofs.Checks.{Test, shown, always, is_true, same, less, at_most, both, three, four, either, when, below, members, within, sets, nodes}
 use Rattle.design_rules.proofs.Shapes.{sharer}
 

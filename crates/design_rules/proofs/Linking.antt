@@ -1,16 +1,8 @@
 -- The outline of a well-formed shape is what its alphabets say: who goes over the pairs of parts in order meets the shape's links, which rise strictly and join
 -- exactly the pairs that share events, one after another.
-use Rattle.std.proofs.Common.{◌≡◌, ℕ, zero, suc, ◌+◌, ◌<◌, ◌≤◌, ◌⊎◌, inl, inr, List, [], ◌∷◌, ◌++◌, length, map, get_or, Bool, true, false, ◌&&◌, cond, nat_le, IsTrue, refl, sym, ap, subst, ◌∙◌, arith}
-use Rattle.std.specs.List.{flat_map}
-use Rattle.std.proofs.lemmas.Bool.{cases_Bool, cases_eq, and_parts, and_from, or_left, or_right, le-leb, leb-true, false≢true}
-use Rattle.csp_base.specs.Prelude.{has, inter_of, meets_of}
-use Rattle.csp_base.proofs.Booleans.{same_tests}
-use Rattle.csp_base.proofs.Listed.{any_member}
+use Rattle.design_rules.proofs.Prelude.{◌≡◌, ℕ, zero, suc, ◌+◌, ◌<◌, ◌≤◌, ◌⊎◌, inl, inr, List, [], ◌∷◌, ◌++◌, length, map, get_or, Bool, true, false, ◌&&◌, cond, nat_le, IsTrue, refl, sym, ap, subst, ◌∙◌, arith, flat_map, cases_Bool, cases_eq, and_parts, and_from, or_left, or_right, le-leb, leb-true, false≢true, has, inter_of, meets_of, same_tests, any_member, sharers_other, Part, part_at, alphabets_of, sharers, Meet, Link, Shape, IsBelow, link_at, IsLinked, SameOutline, links_with, links_from, vocabulary_of, outline_of}
 use Rattle.csp_base.proofs.Rising.{has-append, has-filter, meets_of_from_member}
 use Rattle.csp_base.proofs.SetLaws.{has-inter_of}
-use Rattle.csp_tables.proofs.Runs.{sharers_other}
-use Rattle.csp_tables.specs.Prelude.{Part, part_at, alphabets_of, sharers, Meet, Link, Shape, IsBelow, link_at, IsLinked}
-use Rattle.design_rules.specs.Prelude.{SameOutline, links_with, links_from, vocabulary_of, outline_of}
 
 abbrev link_in : List Link → ℕ → Link
 link_in links l = get_or links l (record { left = 0; right = 0; shared = [] })
@@ -55,19 +47,16 @@ abbrev From : ℕ → ℕ → ℕ → ℕ → Type 0
 From i j k l = (i < k) ⊎ ((i ≡ k) × (j ≤ l))
 
 from_first : (k l : ℕ) → k < l → From 0 1 k l
-from_first zero l less = inr (refl, less)
-from_first (suc k) l less = inl (omega arith)
+from_first k l less = grind (arith)
 
 from_row : (i n k l : ℕ) → k < l → l < n → From i n k l → From (suc i) (suc (suc i)) k l
-from_row i n k l less within f = elim (cases_eq (suc i) k) [ inl same ↦ inr (same, omega arith) | inr other ↦ inl (omega (arith, f)) ]
+from_row i n k l less within f = grind (arith)
 
 from_over : (i j k l : ℕ) → From i j k l → (i ≡ k → j ≡ l → ⊥) → From i (suc j) k l
-from_over i j k l (inl less) other = inl less
-from_over i j k l (inr same) other = inr (same.0, let le : j ≤ l = same.1 in elim (cases_eq j l) [ inl here ↦ absurd (other same.0 here) | inr ne ↦ omega arith ])
+from_over i j k l f other = grind (arith)
 
 from_back : (i j k l : ℕ) → From i (suc j) k l → From i j k l
-from_back i j k l (inl less) = inl less
-from_back i j k l (inr same) = inr (same.0, let le : suc j ≤ l = same.1 in omega arith)
+from_back i j k l f = grind (arith)
 
 from_below : (i n k l : ℕ) → From (suc i) (suc (suc i)) k l → From i n k l
 from_below i n k l f = inl (omega (arith, f))

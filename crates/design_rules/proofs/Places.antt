@@ -1,11 +1,6 @@
 -- A part that keeps places comes to each link that it reaches at one place of its lap, and with numbers that rise along its
 -- order as many of its links stand before that link.
-use Rattle.std.proofs.Common.{◌≡◌, ℕ, ◌+◌, ◌%◌, ◌<◌, ◌≤◌, inl, inr, List, [], ◌∷◌, ◌++◌, length, false, ◌&&◌, nat_lt, IsTrue, refl, sym, ap, subst, ◌∙◌, arith, ltb-true, lt-ltb}
-use Rattle.csp_base.proofs.Standard.{cases_Bool, cases_eq, cases_lt, cases_order, and_parts, and_from, false≢true, mod_below, mod-eq_of_lt, mod-le}
-use Rattle.csp_base.specs.Members.{has}
-use Rattle.csp_tables.specs.Prelude.{IsRun, end_of, part_at, Shape, is_end, IsWellFormed, RunsTo}
-use Rattle.net_sound.proofs.Within.{part_form}
-use Rattle.design_rules.specs.Prelude.{IsReachedAt, count_below, links_of, ReachesLink, place_after, SamePlace, KeepsPlaces, MustPrecede, place_of}
+use Rattle.design_rules.proofs.Prelude.{◌≡◌, ℕ, ◌+◌, ◌%◌, ◌<◌, ◌≤◌, inl, inr, List, [], ◌∷◌, ◌++◌, length, false, ◌&&◌, nat_lt, IsTrue, refl, sym, ap, subst, ◌∙◌, arith, ltb-true, lt-ltb, cases_Bool, cases_eq, cases_lt, cases_order, and_parts, and_from, false≢true, mod_below, mod-eq_of_lt, mod-le, has, IsRun, end_of, part_at, Shape, is_end, IsWellFormed, RunsTo, part_form, IsReachedAt, count_below, links_of, ReachesLink, place_after, SamePlace, KeepsPlaces, MustPrecede, place_of}
 use Rattle.design_rules.proofs.Counts.{count_placed, count_strict, count_push_more, count_push_same}
 use Rattle.design_rules.proofs.Runs.{possible_after, run_induction, possible_within}
 use Rattle.design_rules.proofs.Shapes.{some_link}

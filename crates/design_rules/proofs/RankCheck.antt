@@ -1,9 +1,5 @@
 -- Tests of a written-out ranking: that it fits, that all but vertices rank 0, and which laps it has. For examples.
-use Rattle.std.proofs.Common.{◌≡◌, ℕ, zero, suc, ◌<◌, ◌≤◌, inl, inr, ℤ, pos, List, [], ◌∷◌, length, get_or, Bool, true, false, nat_eq, refl, ◌∙◌, arith}
-use Rattle.std.proofs.lemmas.Bool.{cases_Bool, cases_lt, or_parts, cond-false}
-use Rattle.csp_base.specs.Members.{has}
-use Rattle.csp_tables.specs.Prelude.{IsWithin, Node, node_at, is_possible, Part, part_at, Shape, acceptance_at, PartRanks, Ranking, AsMany, AtMostOne, RanksFit, LapsFit, PartsFit, Fits, part_ranks, rank_at, lap_of}
-use Rattle.design_rules.specs.Vertices.{OthersRankZero, lap_at}
+use Rattle.design_rules.proofs.Prelude.{◌≡◌, ℕ, zero, suc, ◌<◌, ◌≤◌, inl, inr, ℤ, pos, List, [], ◌∷◌, length, get_or, Bool, true, false, nat_eq, refl, ◌∙◌, arith, cases_Bool, cases_lt, or_parts, cond-false, has, IsWithin, Node, node_at, is_possible, Part, part_at, Shape, acceptance_at, PartRanks, Ranking, AsMany, AtMostOne, RanksFit, LapsFit, PartsFit, Fits, part_ranks, rank_at, lap_of, OthersRankZero, lap_at}
 use Rattle.design_rules.proofs.Checks.{Test, shown, always, never, is_true, same, less, at_most, same_rank, both, three, either, unless, below, within, nodes, steps}
 
 -- ---- as many numbers as the tables ask for

@@ -1,7 +1,5 @@
 -- What each fault tells refutes the rule.
-use Rattle.std.proofs.Common.{ℕ, List, inl, inr}
-use Rattle.csp_tables.specs.Prelude.{Shape, RoleSets, UseSets}
-use Rattle.design_rules.specs.Prelude.{KeepsPlaces, IsCyclic, MustPrecede, BreaksOrder, IsClientServer, BreaksRoles, IsResource, IsHeldWhile, BreaksUses, BreaksCyclic, BreaksClientServer, BreaksResource, FaultsRefute, Condition, Cyclic, ClientServer, Resource, RuleFault, NoOrder, NoWholeEnd, Broken, LinksCircle, ClientsCircle, ResourcesCircle}
+use Rattle.design_rules.proofs.Prelude.{ℕ, List, inl, inr, Shape, RoleSets, UseSets, KeepsPlaces, IsCyclic, MustPrecede, BreaksOrder, IsClientServer, BreaksRoles, IsResource, IsHeldWhile, BreaksUses, BreaksCyclic, BreaksClientServer, BreaksResource, FaultsRefute, Condition, Cyclic, ClientServer, Resource, RuleFault, NoOrder, NoWholeEnd, Broken, LinksCircle, ClientsCircle, ResourcesCircle}
 use Rattle.design_rules.specs.declared.condition.Condition.TheVariants as condition
 use Rattle.design_rules.proofs.Walks.{no_circle}
 

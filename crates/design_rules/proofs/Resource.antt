@@ -1,15 +1,8 @@
 -- The ranking of a network of users and resources falls along ungranted requests.
-use Rattle.std.proofs.Common.{◌≡◌, ℕ, zero, suc, ◌+◌, ◌-◌, ◌*◌, ◌<◌, ◌≤◌, ◌⊎◌, inl, inr, ℤ, pos, ◌<ℤ◌, List, length, Bool, true, false, not, cond, IsTrue, refl, sym, ap, subst, ◌∙◌, arith}
-use Rattle.csp_base.proofs.Standard.{cases_Bool, cases_lt, cases_eq, both_ways, and_parts, and_from, cond-true, cond-false, ints}
-use Rattle.std.specs.List.{list_any}
-use Rattle.csp_base.specs.Members.{has}
-use Rattle.design_rules.specs.Prelude.{is_odd, is_held, holds, acquires, KeepUses, IsHeldWhile, ResourcesRise, AreResourceNumbers, top_number, rank_there, AcceptsSome, AreResourceRanks, ResourceRanksFall, OrderedRanksFall}
-use Rattle.csp_tables.specs.Prelude.{part_at, alphabets_of, TripleDisjoint, Shape, Joins, link_at, IsWellFormed, accepted, UseSets, use_at, Ranking, rank_after, lead}
-use Rattle.net_sound.proofs.Finite.{below_suc}
+use Rattle.design_rules.proofs.Prelude.{◌≡◌, ℕ, zero, suc, ◌+◌, ◌-◌, ◌*◌, ◌<◌, ◌≤◌, ◌⊎◌, inl, inr, ℤ, pos, ◌<ℤ◌, List, length, Bool, true, false, not, cond, IsTrue, refl, sym, ap, subst, ◌∙◌, arith, cases_Bool, cases_lt, cases_eq, both_ways, and_parts, and_from, cond-true, cond-false, ints, list_any, has, is_odd, is_held, holds, acquires, KeepUses, IsHeldWhile, ResourcesRise, AreResourceNumbers, top_number, rank_there, AcceptsSome, AreResourceRanks, ResourceRanksFall, OrderedRanksFall, part_at, alphabets_of, TripleDisjoint, Shape, Joins, link_at, IsWellFormed, accepted, UseSets, use_at, Ranking, rank_after, lead, below_suc, any_of}
 use Rattle.design_rules.proofs.Shapes.{turned, first_end, joins_within, link_events, own_run, Side, Request, request}
 use Rattle.design_rules.proofs.Holders.{Resource, turns, one_link}
 use Rattle.design_rules.proofs.ClientServer.{no_scale}
-use Rattle.csp_base.proofs.Listed.{any_of}
 use Rattle.design_rules.proofs.Accepting.{at_place}
 
 -- ---- what is acquired
@@ -51,7 +44,7 @@ pub below_top : (uses : List UseSets) (number : ℕ → ℕ) (n j : ℕ) → j <
 below_top uses number zero j h r = absurd (omega arith)
 below_top uses number (suc n) j h r =
     elim (cases_eq j n) [
-      | inl e ↦ let own : cond (use_at uses n).resource (number n) 0 ≡ number n = cond-true (use_at uses n).resource (number n) 0 (subst (λ k. (use_at uses k).resource ≡ true) e r) in let same : number j ≡ number n = ap number e in omega arith
+      | inl e ↦ let is : (use_at uses n).resource ≡ true = subst (λ k. (use_at uses k).resource ≡ true) e r in grind (arith)
       | inr ne ↦ let rest : number j ≤ top_number uses number n = below_top uses number n j (omega arith) r in omega arith
     ]
 

@@ -1,9 +1,5 @@
 -- Tests that show a written-out shape one of users and resources, with its ranking. For examples.
-use Rattle.std.proofs.Common.{◌≡◌, ℕ, ◌+◌, ◌-◌, ◌*◌, ◌<◌, inl, inr, pos, List, [], ◌∷◌, ◌++◌, length, Option, Some, None, Bool, true, false, not, ◌&&◌, cond, nat_eq, refl, sym, ap, subst, ◌∙◌, eq-eqb, IsTrue}
-use Rattle.std.proofs.lemmas.Bool.{cases_Bool, and_from, cond-true, cond-false}
-use Rattle.csp_base.specs.Members.{has}
-use Rattle.csp_tables.specs.Prelude.{node_at, node_after, is_possible, end_of, part_at, Shape, link_at, is_end, acceptance_at, RunsTo, UseSets, use_at, Ranking, part_ranks, rank_at}
-use Rattle.design_rules.specs.Prelude.{count_in, is_odd, is_held, last_from, IsHolder, holds, KeepUses, acquires, ResourcesRise, top_number, AreResourceRanks}
+use Rattle.design_rules.proofs.Prelude.{arith, ◌≡◌, ℕ, ◌+◌, ◌-◌, ◌*◌, ◌<◌, inl, inr, pos, List, [], ◌∷◌, ◌++◌, length, Option, Some, None, Bool, true, false, not, ◌&&◌, cond, nat_eq, refl, sym, ap, subst, ◌∙◌, eq-eqb, IsTrue, cases_Bool, and_from, cond-true, cond-false, has, node_at, node_after, is_possible, end_of, part_at, Shape, link_at, is_end, acceptance_at, RunsTo, UseSets, use_at, Ranking, part_ranks, rank_at, count_in, is_odd, is_held, last_from, IsHolder, holds, KeepUses, acquires, ResourcesRise, top_number, AreResourceRanks}
 use Rattle.design_rules.proofs.Holders.{last_more, last_same, odd_more, odd_same}
 use Rattle.design_rules.proofs.Checks.{Test, shown, always, never, is_true, is_false, same_truth, same, less, same_rank, both, three, four, when, unless, below, below_passes, members, within, steps, accepted, observed, next_parity, parity_told, parts_shared}
 use Rattle.design_rules.proofs.RankCheck.{parts_fit, vertices, others_zero, no_laps}
@@ -18,23 +14,7 @@ abbrev next_held : List ℕ → Bool × Option ℕ → ℕ → Bool × Option �
 next_held V o e = cond (has V e) (not o.0, cond o.0 None (Some e)) o
 
 held_goes_on : (V u : List ℕ) (e : ℕ) → held_with V (u ++ e ∷ []) ≡ next_held V (held_with V u) e
-held_goes_on V u e =
-    elim (cases_Bool (has V e)) [
-      | inl there ↦
-          paired (odd_more V u e there)
-          (ap (λ b. cond b (last_from None V (u ++ e ∷ [])) None) (odd_more V u e there) ∙ ap (λ o. cond (not (is_odd (count_in V u))) o None) (last_more V u e there) ∙ turned (is_odd (count_in V u)) (Some e))
-          ∙ sym (cond-true (has V e) (not (is_odd (count_in V u)), cond (is_odd (count_in V u)) None (Some e)) (held_with V u) there)
-      | inr strange ↦
-          paired (odd_same V u e strange) (ap (λ b. cond b (last_from None V (u ++ e ∷ [])) None) (odd_same V u e strange) ∙ ap (λ o. cond (is_odd (count_in V u)) o None) (last_same V u e strange))
-          ∙ sym (cond-false (has V e) (not (is_odd (count_in V u)), cond (is_odd (count_in V u)) None (Some e)) (held_with V u) strange)
-    ]
-  where
-    paired : {a b : Bool} {x y : Option ℕ} → a ≡ b → x ≡ y → ◌≡◌ {A = Bool × Option ℕ} (a, x) (b, y)
-    paired p q = λ i. (p i, q i)
-
-    turned : (b : Bool) (x : Option ℕ) → cond (not b) x None ≡ cond b None x
-    turned true x = refl
-    turned false x = refl
+held_goes_on V u e = grind (arith, odd_more V u e, odd_same V u e, last_more V u e, last_same V u e)
 
 abbrev is_some : Option ℕ → Bool
 is_some (Some x) = true

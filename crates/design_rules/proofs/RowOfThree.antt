@@ -1,8 +1,5 @@
 -- Four components in a row are cyclic, and the ranking by the places of their three links is the one by longest chains.
-use Rattle.std.proofs.Common.{◌≡◌, ℕ, zero, suc, ◌%◌, ◌<◌, List, [], ◌∷◌, refl, arith}
-use Rattle.csp_tables.specs.Shape.{IsWellFormed}
-use Rattle.digraph.specs.Walk.{Walk}
-use Rattle.design_rules.specs.Prelude.{place_after, by_tables, KeepsOrder, IsNumberedCyclic, MustPrecede, NumbersRise, IsCyclic, ComesAfter, AreChainNumbers, row_of_three, row_ranking, RowIsCyclic}
+use Rattle.design_rules.proofs.Prelude.{◌≡◌, ℕ, zero, suc, ◌%◌, ◌<◌, List, [], ◌∷◌, refl, arith, IsWellFormed, Walk, place_after, by_tables, KeepsOrder, IsNumberedCyclic, MustPrecede, NumbersRise, IsCyclic, ComesAfter, AreChainNumbers, row_of_three, row_ranking, RowIsCyclic}
 use Rattle.design_rules.proofs.Walks.{walk_bound}
 use Rattle.design_rules.proofs.FormCheck.{well_formed}
 use Rattle.design_rules.proofs.CyclicCheck.{keeps_order, full_ends, cyclic_ranks}

@@ -1,14 +1,7 @@
 -- What a well-formed shape gives: the links of shared events, and what an ungranted request is in it.
-use Rattle.std.proofs.Common.{◌≡◌, ℕ, zero, suc, ◌<◌, ◌≤◌, inl, inr, List, [], ◌∷◌, length, IsTrue, nat_eq, sym, subst, arith, eq-eqb}
-use Rattle.std.proofs.lemmas.Bool.{cases_Bool, cases_order, or_cases, or_left, or_right, eqb-true}
-use Rattle.csp_base.specs.Members.{has}
-use Rattle.design_rules.specs.Prelude.{count_in, IsVertex}
-use Rattle.csp_tables.specs.Prelude.{end_of, Part, part_at, alphabets_of, sharers, project, IsShared, AreApart, IsWithin, Stands, acceptance, IsUngranted, Shape, link_at, is_end, IsWellFormed, Joins, AreJoined, RunsTo, IsPossible, Accepts, accepted, IsOn}
-use Rattle.net_sound.proofs.Sharers.{at_two}
-use Rattle.net_sound.proofs.Within.{acceptance_within, part_form}
+use Rattle.design_rules.proofs.Prelude.{◌≡◌, ℕ, zero, suc, ◌<◌, ◌≤◌, inl, inr, List, [], ◌∷◌, length, IsTrue, nat_eq, sym, subst, arith, eq-eqb, cases_Bool, cases_order, or_cases, or_left, or_right, eqb-true, has, count_in, IsVertex, end_of, Part, part_at, alphabets_of, sharers, project, IsShared, AreApart, IsWithin, Stands, acceptance, IsUngranted, Shape, link_at, is_end, IsWellFormed, Joins, AreJoined, RunsTo, IsPossible, Accepts, accepted, IsOn, at_two, acceptance_within, part_form, sharers_own, sharers_other}
 use Rattle.design_rules.proofs.Counts.{count_project}
 use Rattle.design_rules.proofs.Runs.{end_within}
-use Rattle.csp_tables.proofs.Runs.{sharers_own, sharers_other}
 
 -- ---- who shares an event
 

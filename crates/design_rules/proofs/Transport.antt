@@ -1,14 +1,7 @@
 -- Networks that are alike meet the same rules and break them in the same way: their outlines are the same, and their components behave alike. Each condition
 -- is made of traces, possible events and acceptances by "for each" and "there is", so it is carried over part by part; where it stands behind an
 -- arrow, it is carried the other way. Of an acceptance the members alone are looked at.
-use Rattle.std.proofs.Common.{◌≡◌, ℕ, ◌<◌, inl, inr, ◌⊎◌, List, cond, IsTrue, sym, ap, subst, ◌∙◌}
-use Rattle.std.proofs.lemmas.Bool.{and_parts, and_from}
-use Rattle.std.specs.List.{list_any}
-use Rattle.csp_base.specs.Members.{has}
-use Rattle.csp_base.proofs.Listed.{any_of, any_member}
-use Rattle.csp_tables.specs.Prelude.{Shape, link_at, RoleSets, UseSets, use_at}
-use Rattle.digraph.proofs.WalkLaws.{same_least_circle}
-use Rattle.design_rules.specs.Prelude.{SameOutline, Agree, Behaviours, place_after, CanBeNumbered, FallsShort, IsFullEnd, IsNumberedCyclic, is_acknowledgement, is_request, TakesTurns, ServesAll, TakesAnswers, Serves, IsUsedInTurn, GrantsAll, UsesInTurn, acquires, CanBeOrdered, KeepsHolder, KeepsGrants, KeepsTurns, IsFirstBroken, MeetsRule, BreaksRule, BreaksCyclicRule, BreaksClientServerRule, BreaksResourceRule, Condition, NotedRule, Cyclic, ClientServer, Resource, RuleFault, NoOrder, NoWholeEnd, Broken, LinksCircle, ClientsCircle, ResourcesCircle}
+use Rattle.design_rules.proofs.Prelude.{◌≡◌, ℕ, ◌<◌, inl, inr, ◌⊎◌, List, cond, IsTrue, sym, ap, subst, ◌∙◌, and_parts, and_from, list_any, has, any_of, any_member, Shape, link_at, RoleSets, UseSets, use_at, same_least_circle, SameOutline, Agree, Behaviours, place_after, CanBeNumbered, FallsShort, IsFullEnd, IsNumberedCyclic, is_acknowledgement, is_request, TakesTurns, ServesAll, TakesAnswers, Serves, IsUsedInTurn, GrantsAll, UsesInTurn, acquires, CanBeOrdered, KeepsHolder, KeepsGrants, KeepsTurns, IsFirstBroken, MeetsRule, BreaksRule, BreaksCyclicRule, BreaksClientServerRule, BreaksResourceRule, Condition, NotedRule, Cyclic, ClientServer, Resource, RuleFault, NoOrder, NoWholeEnd, Broken, LinksCircle, ClientsCircle, ResourcesCircle}
 use Rattle.design_rules.specs.CyclicRule.{ReachesLink, KeepsPlaces, AllKeepPlaces, MustPrecede, IsWholeEnd, HasWholeEnd, IsCyclic}
 use Rattle.design_rules.specs.CyclicRuleFaults.{BreaksOrder}
 use Rattle.design_rules.specs.ClientServerRule.{KeepRoles, IsClientServer}

@@ -1,9 +1,6 @@
 -- Two users that acquire two resources in the same order meet the rule of users and resources.
-use Rattle.std.proofs.Common.{ℕ, zero, suc, ◌-◌, ◌<◌, ◌≤◌, inl, List, [], ◌∷◌, Option, Some, None, Bool, true, false, refl, arith}
-use Rattle.std.proofs.lemmas.Bool.{false≢true}
-use Rattle.csp_tables.specs.Shape.{IsWellFormed}
-use Rattle.digraph.specs.Walk.{Walk}
-use Rattle.design_rules.specs.Prelude.{IsHeldWhile, ResourcesRise, StandsAbove, AreResourceNumbers, two_users, two_users_uses, two_users_ranking, TwoUsersAreResource}
+use Rattle.design_rules.proofs.Prelude.{ℕ, zero, suc, ◌-◌, ◌<◌, ◌≤◌, inl, List, [], ◌∷◌, Option, Some, None, Bool, true, false, refl, arith, false≢true, IsWellFormed, Walk, IsHeldWhile, ResourcesRise, AreResourceNumbers, two_users, two_users_uses, two_users_ranking, TwoUsersAreResource}
+use Rattle.design_rules.specs.Prelude.{StandsAbove}
 use Rattle.design_rules.proofs.Walks.{walk_bound}
 use Rattle.design_rules.proofs.Checks.{within}
 use Rattle.design_rules.proofs.FormCheck.{well_formed, triple_disjoint}
@@ -65,10 +62,7 @@ rise : ResourcesRise two_users two_users_uses number
 rise = (rises two_users two_users_uses number held parity told).shows refl
 
 positive : (j : ℕ) → 1 ≤ number j
-positive zero = omega arith
-positive (suc zero) = omega arith
-positive (suc (suc zero)) = omega arith
-positive (suc (suc (suc j))) = omega arith
+positive j = grind (arith)
 
 bound : (j n k : ℕ) → Walk (StandsAbove two_users two_users_uses) n j k → n ≤ number j - 1
 bound = λ j n k w. walk_bound (StandsAbove two_users two_users_uses) (λ x. number x - 1) (λ x y a. let less : number y < number x = rise y x a in let some : 1 ≤ number y = positive y in omega arith) n j k w
