@@ -1,8 +1,7 @@
-use Rattle.std.proofs.Common.{sym, ◌∙◌}
-use Rattle.name_tables.specs.Ends.{rows}
+use Rattle.definition_kinds.proofs.Prelude.{sym, ◌∙◌, rows}
 use Rattle.definition_kinds.proofs.FoundLaws.{rows-length}
 use Rattle.definition_kinds.proofs.LeadingLaws.{are_leading}
-use Rattle.definition_kinds.proofs.leading.reached.Goals as goal
+use Rattle.definition_kinds.proofs.leading.vertices_from.Goals as goal
 
 pub returns : goal.returns
 returns c =
