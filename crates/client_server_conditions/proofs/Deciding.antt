@@ -1,22 +1,7 @@
 -- From what holds at the pairs of an exploration to what holds after runs, and from links to parts.
-use Rattle.std.proofs.Common.{◌≡◌, ℕ, ◌<◌, ◌≤◌, ◌+◌, List, [], ◌∷◌, Bool, true, false, not, ◌&&◌, Option, Some, None, length, refl, sym, ap, subst, ◌∙◌, arith, inl, inr, ◌⊎◌, IsTrue}
-use Rattle.std.specs.List.{list_any}
-use Rattle.csp_base.proofs.Standard.{and_parts, both_ways, cases_Bool, false≢true, cond-true, cond-false, and_from, not-true}
-use Rattle.csp_base.specs.Members.{has}
-use Rattle.csp_tables.specs.Prelude.{node_at, end_of, part_at, sharers, AreApart, IsWithin, Shape, link_at, IsWellFormed, RoleSets, RunsTo, role_at}
-use Rattle.design_rules.specs.Prelude.{count_in, is_odd, has_acknowledgements, is_open, BreaksRoles}
-use Rattle.design_rules.proofs.Shapes.{turned, first_end, link_within, link_shared}
+use Rattle.client_server_conditions.proofs.Prelude.{◌≡◌, ℕ, ◌<◌, ◌≤◌, ◌+◌, List, [], ◌∷◌, Bool, true, false, not, ◌&&◌, Option, Some, None, length, refl, sym, ap, subst, ◌∙◌, arith, inl, inr, ◌⊎◌, IsTrue, list_any, and_parts, both_ways, cases_Bool, false≢true, cond-true, cond-false, and_from, not-true, has, node_at, end_of, part_at, sharers, AreApart, IsWithin, Shape, link_at, IsWellFormed, RoleSets, RunsTo, role_at, count_in, is_odd, has_acknowledgements, is_open, BreaksRoles, turned, first_end, link_within, link_shared, observed, parity_step, off_link, IsDecided, Network, IsLinked, Asks, Grants, splits, keeps, AreAcknowledgements, IsOnSide, Keeps, KeepsOn, KeepsLinks, KeepsWhole, is_asked_of, is_open_at, node_in, node_to, KeepLesser, condition_of, RunCondition, Turns, Service, Answers}
 use Rattle.design_rules.proofs.Accepting.{at_place, each_set}
-use Rattle.observed_runs.specs.Prelude.{observed, parity_step}
 use Rattle.shape_links.proofs.Deciding.{decided_alike}
-use Rattle.shape_links.proofs.Watching.{off_link}
-use Rattle.shape_links.specs.Component.{IsDecided}
-use Rattle.client_server_conditions.specs.Network.{Network, IsLinked, Asks, Grants}
-use Rattle.client_server_conditions.specs.Nodes.{splits}
-use Rattle.client_server_conditions.specs.Tests.{keeps}
-use Rattle.client_server_conditions.specs.Conditions.{AreAcknowledgements, IsOnSide, Keeps, KeepsOn, KeepsLinks, KeepsWhole, is_asked_of, is_open_at, node_in, node_to, KeepLesser, condition_of}
-use Rattle.client_server_conditions.specs.declared.conditions.RunCondition.{RunCondition}
-use Rattle.client_server_conditions.specs.declared.conditions.RunCondition.TheVariants.{Turns, Service, Answers}
 use Rattle.client_server_conditions.proofs.Keeping.{keeps_at, passes}
 use Rattle.client_server_conditions.proofs.Looking.{none_splits, one_splits}
 use Rattle.client_server_conditions.proofs.Opening.{opened_is, HasSide}

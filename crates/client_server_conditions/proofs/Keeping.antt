@@ -1,31 +1,14 @@
 -- What the conditions ask of a part on a link, and what tests of a node say of it.
-use Rattle.std.proofs.Common.{◌≡◌, ℕ, List, Bool, true, false, inl, inr, sym, ◌∙◌}
-use Rattle.std.specs.List.{list_any}
-use Rattle.csp_base.proofs.Booleans.{and_second_false}
-use Rattle.csp_base.proofs.Standard.{and_parts, and_from, cases_Bool, or_cases, or_left, both_ways, not-false, not-true}
-use Rattle.csp_base.specs.Members.{has}
-use Rattle.csp_tables.specs.Prelude.{IsWithin, link_at, role_at}
-use Rattle.design_rules.specs.Prelude.{is_acknowledgement}
-use Rattle.client_server_conditions.specs.Network.{Network, Asks}
-use Rattle.client_server_conditions.specs.Nodes.{takes, refuses}
-use Rattle.client_server_conditions.specs.Tests.{keeps}
-use Rattle.client_server_conditions.specs.Conditions.{KeepsAt, HasAnswers, IsOnSide, node_in, AreAcknowledgements}
-use Rattle.client_server_conditions.specs.declared.conditions.RunCondition.{RunCondition}
-use Rattle.client_server_conditions.specs.declared.conditions.RunCondition.TheVariants.{Turns, Service, Answers}
+use Rattle.client_server_conditions.proofs.Prelude.{◌≡◌, ℕ, List, Bool, true, false, inl, inr, sym, ◌∙◌, list_any, and_second_false, and_parts, and_from, cases_Bool, not-false, not-true, has, IsWithin, link_at, role_at, Network, takes, refuses, keeps, KeepsAt, HasAnswers, IsOnSide, node_in, AreAcknowledgements, RunCondition, Turns, Service, Answers}
 use Rattle.client_server_conditions.proofs.Looking.{in_turn, out_of_turn, none_takes, one_takes, none_refuses, one_refuses}
 
 module _ (network : Network) (i l n : ℕ) (opened : Bool) where
-  -- a client's acknowledgements on the link
+  -- the acceptance has the acknowledgements of the link where it has their set
   client_acks : (acks : List ℕ) → AreAcknowledgements network i l acks → (M : List ℕ) → IsWithin acks M → HasAnswers network i l M
-  client_acks acks are M within e on ack = within e (are e ∙ and_from (has (link_at network.shape l).shared e) (is_acknowledgement network.roles i e) on (or_left (has (role_at network.roles i).cack e) (has (role_at network.roles i).sack e) ack))
+  client_acks acks are M within e on ack = within e (are e ∙ and_from (has (link_at network.shape l).shared e) (has (role_at network.roles i).cack e) on ack)
 
-  acks_client : (acks : List ℕ) → AreAcknowledgements network i l acks → Asks network i l → (M : List ℕ) → HasAnswers network i l M → IsWithin acks M
-  acks_client acks are a M all e h =
-      let p = and_parts (has (link_at network.shape l).shared e) (is_acknowledgement network.roles i e) (sym (are e) ∙ h) in
-      elim (or_cases (has (role_at network.roles i).cack e) (has (role_at network.roles i).sack e) p.1) [
-        | inl ack ↦ all e p.0 ack
-        | inr served ↦ absurd (both_ways (has (role_at network.roles i).sack e) (a.client.no_service e p.0).1 served)
-      ]
+  acks_client : (acks : List ℕ) → AreAcknowledgements network i l acks → (M : List ℕ) → HasAnswers network i l M → IsWithin acks M
+  acks_client acks are M all e h = let p = and_parts (has (link_at network.shape l).shared e) (has (role_at network.roles i).cack e) (sym (are e) ∙ h) in all e p.0 p.1
 
   -- the test of the node of this part on this link
   abbrev test : RunCondition → List ℕ → Bool
@@ -43,7 +26,7 @@ module _ (network : Network) (i l n : ℕ) (opened : Bool) where
       one_takes network.shape.vocabulary (role_at network.roles i).sreq (node_in network i n).accept p.1 (k p.0 side)
   fails_at Answers acks side are h k =
       let p = and_parts opened (list_any (refuses network.shape.vocabulary acks) (node_in network i n).accept) (not-false _ h) in
-      one_refuses network.shape.vocabulary acks (node_in network i n).accept p.1 (λ q below within. acks_client acks are side _ (k p.0 side q below within))
+      one_refuses network.shape.vocabulary acks (node_in network i n).accept p.1 (λ q below within. acks_client acks are _ (k p.0 side q below within))
 
   pub passes : (condition : RunCondition) (acks : List ℕ) → IsOnSide network condition i l → AreAcknowledgements network i l acks → KeepsAt network condition i l n opened → test condition acks ≡ true
   passes condition acks side are k = elim (cases_Bool (test condition acks)) [ inl yet ↦ yet | inr fails ↦ absurd (fails_at condition acks side are fails k) ]

@@ -3,6 +3,7 @@ pub mod Keeping
 pub mod Looking
 pub mod OpenLinks
 pub mod Opening
+pub mod Prelude
 pub mod Reading
 pub mod Sets
 pub mod Sides

@@ -1,12 +1,5 @@
 -- What one node shows, read off its tests.
-use Rattle.std.proofs.Common.{◌≡◌, ℕ, zero, suc, List, [], ◌∷◌, Bool, true, false, not, ◌&&◌, nat_eq, inl, inr, refl, ap, subst, arith, eq-eqb}
-use Rattle.std.specs.List.{list_any}
-use Rattle.std.proofs.lemmas.Bool.{cases_Bool, and_parts, and_from, or_cases, or_left, or_right, eqb-true, both_ways, false≢true, not-true, or_parts}
-use Rattle.csp_base.specs.Prelude.{has, is_subset_of, meets_of}
-use Rattle.csp_base.proofs.SetLaws.{common_member, member_of_superset, is_subset_of_from_members, meets_of_from_member}
-use Rattle.csp_tables.specs.Prelude.{is_possible, AreApart, IsWithin, RoleSets}
-use Rattle.client_server_conditions.specs.Nodes.{is_in_turn, AreInTurn, EachShared, HasAllOrNone, splits, takes, refuses, is_out_of_turn}
-use Rattle.csp_base.proofs.Booleans.{and_second_false}
+use Rattle.client_server_conditions.proofs.Prelude.{◌≡◌, ℕ, zero, suc, List, [], ◌∷◌, Bool, true, false, not, ◌&&◌, nat_eq, inl, inr, refl, ap, subst, arith, eq-eqb, list_any, cases_Bool, and_parts, and_from, or_cases, or_left, or_right, eqb-true, both_ways, false≢true, not-true, or_parts, has, is_subset_of, meets_of, common_member, member_of_superset, is_subset_of_from_members, meets_of_from_member, is_possible, AreApart, IsWithin, RoleSets, is_in_turn, AreInTurn, EachShared, HasAllOrNone, splits, takes, refuses, is_out_of_turn, and_second_false}
 use Rattle.csp_base.proofs.Rising.{member_of_superset, is_subset_of_from_members}
 
 -- ---- steps

@@ -1,26 +1,11 @@
 -- What a condition asks of a part on all its links at once, where its nodes tell which of them are open.
-use Rattle.std.proofs.Common.{◌≡◌, ℕ, ◌<◌, ◌+◌, List, [], ◌∷◌, Bool, true, false, ◌&&◌, ◌||◌, nat_eq, length, get_or, inl, inr, IsTrue, refl, sym, ap, subst, ◌∙◌, arith, eq-eqb, eqb-true}
-use Rattle.std.specs.List.{list_any}
-use Rattle.csp_base.proofs.Standard.{and_from, and_parts, both_ways, cases_Bool, cases_lt, or_cases, or_left, or_right}
-use Rattle.csp_base.specs.Prelude.{has, meets_of}
-use Rattle.csp_tables.specs.Prelude.{AreApart, IsRun, IsWithin, RunsTo, end_of, is_end, is_possible, link_at, part_at, role_at}
-use Rattle.design_rules.specs.Prelude.{count_in, has_acknowledgements, is_odd, is_open}
+use Rattle.client_server_conditions.proofs.Prelude.{◌≡◌, ℕ, ◌<◌, ◌+◌, List, [], ◌∷◌, Bool, true, false, ◌&&◌, ◌||◌, nat_eq, length, get_or, inl, inr, IsTrue, refl, sym, ap, subst, ◌∙◌, arith, eq-eqb, eqb-true, list_any, and_from, and_parts, both_ways, cases_Bool, cases_lt, or_cases, or_left, or_right, has, AreApart, IsRun, RunsTo, end_of, is_end, link_at, part_at, role_at, count_in, has_acknowledgements, is_odd, is_open, link_shared, part_form, AreEnough, pair_at, IsOwner, AreAcknowledgements, HasAnswers, IsOnSide, KeepsAt, KeepsLinks, is_asked_of, node_to, AreWatched, IsAsked, is_acknowledged, IsLinked, Network, AreInTurn, EachShared, is_in_turn, refuses, takes, RunCondition, Turns, Service, Answers}
 use Rattle.design_rules.proofs.Runs.{end_within}
-use Rattle.design_rules.proofs.Shapes.{link_shared}
-use Rattle.net_sound.proofs.Within.{part_form}
 use Rattle.observed_runs.proofs.Leading.{listed_step}
-use Rattle.observed_runs.specs.Prelude.{AreEnough, pair_at}
-use Rattle.shape_links.specs.Links.{IsOwner}
 use Rattle.client_server_conditions.proofs.Deciding.{one_side}
 use Rattle.client_server_conditions.proofs.Looking.{none_refuses, none_takes}
 use Rattle.client_server_conditions.proofs.Opening.{HasSide}
-use Rattle.client_server_conditions.specs.Conditions.{HasAnswers, IsOnSide, KeepsAt, KeepsLinks, is_asked_of, node_in, node_to}
-use Rattle.client_server_conditions.specs.Duties.{AreWatched, IsAsked, is_acknowledged}
-use Rattle.client_server_conditions.specs.Network.{IsLinked, Network}
-use Rattle.client_server_conditions.specs.Nodes.{AreInTurn, EachShared, is_in_turn, refuses, takes}
-use Rattle.client_server_conditions.specs.declared.conditions.RunCondition.{RunCondition}
 use Rattle.client_server_conditions.specs.declared.duty.Duty.{Duty}
-use Rattle.client_server_conditions.specs.declared.conditions.RunCondition.TheVariants.{Turns, Service, Answers}
 
 -- ---- the links that are watched
 
@@ -86,7 +71,7 @@ none_taken V R V₀ R₀ accept accept₀ v r a h =
     subst (EachShared (λ M. AreApart M R) V) a (subst (λ (W : List ℕ). EachShared (λ M. AreApart M R) W accept₀) v (subst (λ (S : List ℕ). EachShared (λ M. AreApart M S) V₀ accept₀) r (none_takes V₀ R₀ accept₀ h)))
 
 -- all acknowledgements of the link are taken
-pub all_taken : (network : Network) (i l : ℕ) (acks V₀ : List ℕ) (accept accept₀ : List (List ℕ)) → V₀ ≡ network.shape.vocabulary → accept₀ ≡ accept → ((e : ℕ) → has acks e ≡ (has (link_at network.shape l).shared e && has (role_at network.roles i).cack e)) → list_any (refuses V₀ acks) accept₀ ≡ false → EachShared (HasAnswers network i l) network.shape.vocabulary accept
+pub all_taken : (network : Network) (i l : ℕ) (acks V₀ : List ℕ) (accept accept₀ : List (List ℕ)) → V₀ ≡ network.shape.vocabulary → accept₀ ≡ accept → AreAcknowledgements network i l acks → list_any (refuses V₀ acks) accept₀ ≡ false → EachShared (HasAnswers network i l) network.shape.vocabulary accept
 all_taken network i l acks V₀ accept accept₀ v a are h =
     subst (EachShared (HasAnswers network i l) network.shape.vocabulary) a (subst (λ (W : List ℕ). EachShared (HasAnswers network i l) W accept₀) v
     (λ k below within e on ack. none_refuses V₀ acks accept₀ h k below within e (are e ∙ and_from (has (link_at network.shape l).shared e) (has (role_at network.roles i).cack e) on ack)))
@@ -107,9 +92,9 @@ module _ (network : Network) (condition : RunCondition) (i : ℕ) where
       → (s : List ℕ) → RunsTo network.shape i s → KeepsLinks network condition i s
   kept_after watched opened linked h count watches odd keeps s ran l within end runs =
       on_its_side condition l (node_to network i s) (is_open network.shape network.roles l s) (λ side.
-        let is : has (get_or opened (node_to network i s) []) l ≡ is_open network.shape network.roles l s = odd s l runs.follows ∙ ap (λ b. b && is_odd (count_in (link_at network.shape l).shared s)) (watches l within end side) in
-        let below : node_to network i s < length opened = subst (λ k. node_to network i s < k) (sym count) (end_within (part_at network.shape.parts i) s (part_form network.shape.parts i h linked.form.form) runs.follows) in
-        subst (KeepsAt network condition i l (node_to network i s)) is (keeps (node_to network i s) below l within))
+      let is : has (get_or opened (node_to network i s) []) l ≡ is_open network.shape network.roles l s = odd s l runs.follows ∙ ap (λ b. b && is_odd (count_in (link_at network.shape l).shared s)) (watches l within end side) in
+      let below : node_to network i s < length opened = subst (λ k. node_to network i s < k) (sym count) (end_within (part_at network.shape.parts i) s (part_form network.shape.parts i h linked.form.form) runs.follows) in
+      subst (KeepsAt network condition i l (node_to network i s)) is (keeps (node_to network i s) below l within))
 
 -- of the links of which something is asked, the watched ones are those with acknowledgements
 pub watched_exactly : (d : Duty) (watched : List ℕ) → AreWatched d watched → (l : ℕ) → l < length d.network.now.shape.links → IsTrue (is_end d.network.now.shape d.part l) → IsAsked d l → has watched l ≡ is_acknowledged d l

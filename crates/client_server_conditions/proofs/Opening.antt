@@ -1,16 +1,6 @@
 -- When a link is open, as the exploration of one end shows it; and which events of the link are acknowledgements.
-use Rattle.std.proofs.Common.{◌≡◌, ℕ, suc, ◌+◌, List, [], ◌∷◌, Bool, true, false, not, ◌&&◌, ◌||◌, cond, IsTrue, nat_eq, inl, inr, refl, sym, ap, ◌∙◌, arith, eq-eqb}
-use Rattle.std.specs.List.{list_any}
-use Rattle.std.proofs.lemmas.Bool.{cases_Bool, and_from, or_cases, or_left, or_right, false≢true, cond-true, cond-false, and_parts}
-use Rattle.csp_base.proofs.SetLaws.{common_member, meets_of_from_member}
-use Rattle.csp_base.specs.Prelude.{has, meets_of}
-use Rattle.csp_tables.specs.Prelude.{Joins, RoleSets, link_at, role_at}
-use Rattle.design_rules.specs.Prelude.{count_in, is_odd, has_acknowledgements, is_acknowledgement, is_open}
+use Rattle.client_server_conditions.proofs.Prelude.{◌≡◌, ℕ, suc, ◌+◌, List, [], ◌∷◌, Bool, true, false, not, ◌&&◌, ◌||◌, cond, IsTrue, nat_eq, inl, inr, refl, sym, ap, ◌∙◌, arith, list_any, cases_Bool, or_cases, or_left, or_right, false≢true, cond-true, cond-false, common_member, meets_of_from_member, has, meets_of, Joins, RoleSets, link_at, role_at, count_in, is_odd, has_acknowledgements, is_acknowledgement, is_open, observed, parity_step, Network, Asks, Grants, is_open_at, or_unless}
 use Rattle.design_rules.proofs.Counts.{count_more, count_same}
-use Rattle.observed_runs.specs.Prelude.{observed, parity_step}
-use Rattle.client_server_conditions.specs.Network.{Network, Asks, Grants}
-use Rattle.client_server_conditions.specs.Conditions.{AreAcknowledgements, is_open_at}
-use Rattle.csp_base.proofs.Booleans.{or_unless}
 use Rattle.csp_base.proofs.Listed.{any_member, any_of}
 
 -- ---- parities
@@ -125,23 +115,5 @@ module _ (network : Network) (i l : ℕ) where
   pub acknowledged_meets : (asks : Bool) (S : List ℕ) (mine : RoleSets) → HasSide asks → S ≡ (link_at network.shape l).shared → mine ≡ role_at network.roles i → (meets_of S mine.cack || meets_of S mine.sack) ≡ has_acknowledgements network.shape network.roles l
   acknowledged_meets asks S mine side S_is mine_is =
       either_met S mine.cack mine.sack for_ends (λ e on.
-        ends_are asks e side (ap (λ (T : List ℕ). has T e) (sym S_is) ∙ on) ∙ ap (λ (r : RoleSets). has r.cack e || has r.sack e) (sym mine_is))
+      ends_are asks e side (ap (λ (T : List ℕ). has T e) (sym S_is) ∙ on) ∙ ap (λ (r : RoleSets). has r.cack e || has r.sack e) (sym mine_is))
       ∙ ap (list_any for_ends) S_is
-
-  -- the link has acknowledgements where its set of them is not empty
-  some_first : (xs : List ℕ) → (xs ≡ [] → ⊥) → (e : ℕ) × IsTrue (has xs e)
-  some_first [] h = absurd (h refl)
-  some_first (x ∷ xs) h = (x, or_left (nat_eq x x) (has xs x) (eq-eqb x x refl))
-
-  pub acknowledged_is : (asks : Bool) (M : List ℕ) (empty : Bool) → HasSide asks → AreAcknowledgements network i l M → (empty ≡ true → M ≡ []) × (M ≡ [] → empty ≡ true) → not empty ≡ has_acknowledgements network.shape network.roles l
-  acknowledged_is asks M true side are is = elim (cases_Bool (has_acknowledgements network.shape network.roles l)) [
-    | inr none ↦ sym none
-    | inl some ↦
-        let x = any_member for_ends (link_at network.shape l).shared some in
-        let member : has M x.0 ≡ true = are x.0 ∙ and_from (has (link_at network.shape l).shared x.0) (is_acknowledgement network.roles i x.0) x.1 (sym (ends_are asks x.0 side x.1) ∙ x.2) in
-        absurd (false≢true (ap (λ (zs : List ℕ). has zs x.0) (sym (is.0 refl)) ∙ member))
-  ]
-  acknowledged_is asks M false side are is =
-      let x = some_first M (λ none. false≢true (is.1 none)) in
-      let p = and_parts (has (link_at network.shape l).shared x.0) (is_acknowledgement network.roles i x.0) (sym (are x.0) ∙ x.1) in
-      sym (any_of for_ends (link_at network.shape l).shared x.0 p.0 (ends_are asks x.0 side p.0 ∙ p.1))

@@ -1,7 +1,5 @@
 -- What is read of a shape.
-use Rattle.std.proofs.Common.{◌≡◌, ℕ, ◌<◌, List, [], length, get_or, ap, ◌∙◌, arith}
-use Rattle.std.proofs.lemmas.List.{get_or_read}
-use Rattle.csp_tables.specs.Prelude.{RoleSets, role_at, IsWellFormed, Link, Shape, link_at}
+use Rattle.client_server_conditions.proofs.Prelude.{◌≡◌, ℕ, ◌<◌, List, [], IsTrue, length, get_or, sym, ap, subst, ◌∙◌, arith, get_or_from_slice_get, slice_get_within, get_or_read, RoleSets, role_at, IsWellFormed, Link, Shape, is_end, link_at, ends_complete, place_in, ends_of}
 
 pub link_read : (shape : Shape) (links : List Link) (k : ℕ) (link : Link) → links ≡ shape.links → k < length shape.links → link ≡ get_or links k link → link ≡ link_at shape k
 link_read shape links k link is h at = get_or_read shape.links k link h (at ∙ ap (λ (ls : List Link). get_or ls k link) is) (record { left = 0; right = 0; shared = [] })
@@ -28,3 +26,9 @@ module _ (shape : Shape) (roles : List RoleSets) (l : ℕ) (w : IsWellFormed sha
   right_role i role e at =
       let two = w.linked.links l inside in
       role_read roles (link_at shape l).right role (omega (arith, count, two.within)) (at ∙ ap (λ k. get_or roles k role) (e ∙ ap (λ (k : Link). k.right) there))
+
+-- a link of the part stands among its links
+pub end_listed : (shape : Shape) (i l : ℕ) (links : List ℕ) → links ≡ ends_of shape i → l < length shape.links → IsTrue (is_end shape i l) → (k : ℕ) × (k < length links) × (get_or (ends_of shape i) k 0 ≡ l)
+end_listed shape i l links is h end =
+    let p = place_in (ends_of shape i) l (ends_complete shape i (length shape.links) l h end) in
+    (p.0, subst (λ (xs : List ℕ). p.0 < length xs) (sym is) (slice_get_within (ends_of shape i) p.0 l p.1), get_or_from_slice_get (ends_of shape i) p.0 l 0 p.1)

@@ -1,11 +1,5 @@
 -- Sets of events as tests.
-use Rattle.std.proofs.Common.{◌≡◌, ℕ, ◌+◌, ◌≤◌, List, Bool, true, false, ◌&&◌, ◌||◌, cond, inl, inr, refl, sym, ap, ◌∙◌, arith}
-use Rattle.std.proofs.lemmas.Bool.{cases_Bool, and_from, and_parts, false≢true, both_ways}
-use Rattle.csp_base.specs.Prelude.{has, is_subset_of, meets_of}
-use Rattle.csp_base.proofs.SetLaws.{common_member, member_of_superset, is_subset_of_from_members, meets_of_from_member}
-use Rattle.csp_tables.specs.Roles.{RoleSets}
-use Rattle.client_server_conditions.specs.Sides.{PartOwn, AgreeOn, LacksAll}
-use Rattle.csp_base.proofs.Booleans.{and_second_false}
+use Rattle.client_server_conditions.proofs.Prelude.{◌≡◌, ℕ, ◌+◌, ◌≤◌, List, Bool, true, false, ◌&&◌, ◌||◌, cond, inl, inr, refl, sym, ap, ◌∙◌, arith, cases_Bool, and_from, and_parts, false≢true, both_ways, has, is_subset_of, meets_of, common_member, member_of_superset, is_subset_of_from_members, meets_of_from_member, RoleSets, PartOwn, AgreeOn, LacksAll, and_second_false}
 
 -- ---- none in common
 

@@ -1,11 +1,5 @@
 -- The ends of links.
-use Rattle.std.proofs.Common.{◌≡◌, ℕ, ◌+◌, ◌<◌, List, [], ◌∷◌, ◌++◌, Bool, true, false, not, nat_eq, IsTrue, length, get_or, inl, inr, refl, sym, ap, subst, ◌∙◌, arith}
-use Rattle.csp_base.proofs.Standard.{cases_lt, or_cases, both_ways, eqb-true, false≢true, length-append, get_or_append_left, get_or_read, get_or-append_seam}
-use mathlib.Core.Bool.{beq}
-use Rattle.csp_tables.specs.Prelude.{Link, Shape, is_end, link_at, RoleSets, role_at}
-use Rattle.design_rules.specs.ClientServer.{HasClient, IsClientOn}
-use Rattle.client_server_conditions.specs.Network.{Network, Asks, Grants}
-use Rattle.client_server_conditions.specs.Sides.{AreSides, IsClient, IsSide}
+use Rattle.client_server_conditions.proofs.Prelude.{◌≡◌, ℕ, ◌+◌, ◌<◌, List, [], ◌∷◌, ◌++◌, Bool, true, false, not, nat_eq, IsTrue, length, get_or, inl, inr, refl, sym, ap, subst, ◌∙◌, arith, cases_lt, or_cases, both_ways, eqb-true, false≢true, length-append, get_or_append_left, get_or_read, get_or-append_seam, beq, Link, Shape, is_end, link_at, RoleSets, role_at, HasClient, IsClientOn, Network, Asks, Grants, AreSides, IsClient, IsSide}
 use Rattle.client_server_conditions.proofs.Reading.{link_read}
 
 -- the side of one link more

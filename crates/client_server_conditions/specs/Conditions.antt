@@ -2,7 +2,7 @@
 use Rattle.std.specs.Prelude.{◌≡◌, ◌<◌, ℕ, List, Bool, true, not, ◌&&◌, nat_eq, IsTrue, length}
 use Rattle.csp_base.specs.Members.{has}
 use Rattle.csp_tables.specs.Prelude.{part_at, AreApart, Node, node_at, end_of, is_end, link_at, RunsTo, role_at}
-use Rattle.design_rules.specs.Prelude.{is_acknowledgement, is_open, AllKeep}
+use Rattle.design_rules.specs.Prelude.{is_open, AllKeep}
 use Rattle.design_rules.specs.declared.condition.Condition.{Condition}
 use Rattle.design_rules.specs.ClientServer.{TakesTurns, ServesAll, TakesAnswers}
 use Rattle.client_server_conditions.specs.Network.{Network, Asks, Grants}
@@ -54,9 +54,9 @@ KeepsWhole network Turns i s = Unit {0}
 KeepsWhole network Service i s = RunsTo network.shape i s → EachShared (HasAllOrNone (role_at network.roles i).sreq) network.shape.vocabulary (node_in network i (node_to network i s)).accept
 KeepsWhole network Answers i s = Unit {0}
 
--- the acknowledgements among the link's events, as the part has them
+-- the acknowledgements to the part among the link's events
 abbrev pub AreAcknowledgements : Network → ℕ → ℕ → List ℕ → Type 0
-AreAcknowledgements network i l events = (e : ℕ) → has events e ≡ (has (link_at network.shape l).shared e && is_acknowledgement network.roles i e)
+AreAcknowledgements network i l events = (e : ℕ) → has events e ≡ (has (link_at network.shape l).shared e && has (role_at network.roles i).cack e)
 
 -- whether the condition asks anything of an end of a link: of which side it is, and whether the link has acknowledgements
 abbrev pub is_asked_of : RunCondition → Bool → Bool → Bool

@@ -1,15 +1,25 @@
 -- What a condition asks of a part on all its links at once, by the links that are open at a node. (No rule's decider cites this.)
-use Rattle.std.specs.Prelude.{◌≡◌, ◌<◌, ℕ, List, Bool, true, IsTrue, length}
+use Rattle.std.specs.Prelude.{◌≡◌, ◌<◌, ℕ, List, Bool, true, [], Option, IsTrue, get_or, length}
 use Rattle.csp_base.specs.Members.{has}
 use Rattle.csp_tables.specs.Prelude.{Node, RunsTo, is_end, part_at, role_at}
 use Rattle.design_rules.specs.Prelude.{has_acknowledgements}
+use Rattle.shape_links.specs.Component.{IsDecided}
 use Rattle.shape_links.specs.Links.{IsOwner}
-use Rattle.client_server_conditions.specs.Conditions.{IsOnSide, KeepsAt, KeepsLinks}
-use Rattle.client_server_conditions.specs.Nodes.{is_in_turn}
+use Rattle.client_server_conditions.specs.Conditions.{HasAnswers, IsOnSide, KeepsAt, KeepsLinks, node_in}
+use Rattle.client_server_conditions.specs.Network.{Network}
+use Rattle.client_server_conditions.specs.Nodes.{EachShared, is_in_turn}
+use Rattle.client_server_conditions.specs.declared.conditions.RunCondition.{RunCondition}
 use Rattle.client_server_conditions.specs.declared.duty.Duty.{Duty}
 
 abbrev pub table_at : Duty → List Node
 table_at d = (part_at d.network.now.shape.parts d.part).table
+
+abbrev pub node_of : Duty → ℕ → Node
+node_of d n = node_in d.network.now d.part n
+
+-- P holds after each run of the part, or here is a run after which it does not
+abbrev pub Decides : Duty → (Network → RunCondition → ℕ → List ℕ → Type 0) → Option (List ℕ) → Type 0
+Decides d P run = IsDecided d.network.now.shape d.part (P d.network.now d.condition d.part) run
 
 -- after each run the part keeps on each link what is asked
 abbrev pub LinksAreKept : Duty → Type 0
@@ -27,9 +37,17 @@ pub record AreWatched (d : Duty) (watched : List ℕ) : Type 0 where
   pub sound : (l : ℕ) → has watched l ≡ true → IsAsked d l → is_acknowledged d l ≡ true
   pub complete : (l : ℕ) → l < length d.network.now.shape.links → IsTrue (is_end d.network.now.shape d.part l) → IsAsked d l → is_acknowledged d l ≡ true → has watched l ≡ true
 
--- the node keeps what is asked on each link, where those of the set are open
-abbrev pub KeepsAtNode : Duty → ℕ → List ℕ → Type 0
-KeepsAtNode d n opened = (l : ℕ) → l < length d.network.now.shape.links → KeepsAt d.network.now d.condition d.part l n (has opened l)
+-- the node keeps what the condition asks on each link, where those of the set are open
+abbrev pub KeepsOpened : Duty → RunCondition → ℕ → List ℕ → Type 0
+KeepsOpened d condition n opened = (l : ℕ) → l < length d.network.now.shape.links → KeepsAt d.network.now condition d.part l n (has opened l)
+
+-- each node keeps what is asked, where the links of its set are open
+abbrev pub KeepEach : Duty → List (List ℕ) → Type 0
+KeepEach d opened = (n : ℕ) → n < length opened → KeepsOpened d d.condition n (get_or opened n [])
+
+-- the acceptances of the node have all acknowledgements of the link
+abbrev pub TakesAnswers : Duty → ℕ → ℕ → Type 0
+TakesAnswers d n l = EachShared (HasAnswers d.network.now d.part l) d.network.now.shape.vocabulary (node_of d n).accept
 
 -- the event is in turn on its link, where those of the set are open
 abbrev pub IsInTurn : Duty → List ℕ → ℕ → Type 0

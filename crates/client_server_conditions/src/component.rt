@@ -3,8 +3,7 @@
 ghost use Rattle.std.specs.Prelude.{◌≡◌, ◌<◌, length};
 ghost use Rattle.csp_tables.specs.Prelude.{role_at};
 ghost use Rattle.observed_runs.specs.Prelude.{AreEnough};
-ghost use Rattle.client_server_conditions.specs.Conditions.{node_in};
-ghost use Rattle.client_server_conditions.specs.Duties.{table_at};
+ghost use Rattle.client_server_conditions.specs.Duties.{node_of, table_at};
 
 use crate::duty::Duty;
 use csp_base::{Event, EventSet};
@@ -37,7 +36,7 @@ impl<'a> Duty<'a> {
     // The acceptances of its node.
     pub(crate) fn accept(&self, node: u32) -> &'a [EventSet]
         requires { node < length (table_at self.now) }
-        ensures { result.now ≡ (node_in self.now.network.now self.now.part node).accept }
+        ensures { result.now ≡ (node_of self.now node).accept }
     {
         self.component().node(node).accept()
     }
@@ -45,7 +44,7 @@ impl<'a> Duty<'a> {
     // The steps of its node that an observer of shared events has to follow.
     pub(crate) fn steps(&self, node: u32) -> &'a [(Event, u32)]
         requires { node < length (table_at self.now) }
-        ensures { AreEnough self.now.network.now.shape.vocabulary (node_in self.now.network.now self.now.part node).next result.now }
+        ensures { AreEnough self.now.network.now.shape.vocabulary (node_of self.now node).next result.now }
     {
         self.component().steps(node)
     }

@@ -34,7 +34,8 @@ impl<'a> Model for Network<'a> {
 
     ghost view = { λ n. record { shape = n.prepared; roles = n.roles.now } };
 
-    ghost invariant = { λ n. IsLinked (record { shape = n.prepared; roles = n.roles.now }) × AreSides n.prepared n.roles.now (length n.prepared.links) n.sides.items };
+    ghost invariant = { λ n. IsLinked (record { shape = n.prepared; roles = n.roles.now })
+        × AreSides n.prepared n.roles.now (length n.prepared.links) n.sides.items };
 }
 
 impl<'a> Network<'a> {

@@ -1,11 +1,10 @@
 //! What a condition asks of a component on all its links at once, where its nodes tell which of them are open.
 
-ghost use Rattle.std.specs.Prelude.{◌≡◌, ◌<◌, ◌||◌, ◌&&◌, ℕ, [], true, nat_eq, IsTrue, IfOk, OnOk, get_or, length};
+ghost use Rattle.std.specs.Prelude.{◌≡◌, ◌<◌, ◌||◌, ◌&&◌, ℕ, true, nat_eq, IsTrue, IfOk, OnOk, length};
 ghost use Rattle.csp_base.specs.Prelude.{has};
 ghost use Rattle.csp_tables.specs.Prelude.{is_end};
-ghost use Rattle.client_server_conditions.specs.Conditions.{HasAnswers, KeepsAt, node_in};
-ghost use Rattle.client_server_conditions.specs.Duties.{AreWatched, IsAsked, IsInTurn, KeepsAtNode, LinksAreKept, is_acknowledged, table_at};
-ghost use Rattle.client_server_conditions.specs.Nodes.{EachShared};
+ghost use Rattle.client_server_conditions.specs.Duties.{AreWatched, IsAsked, IsInTurn, KeepEach, KeepsOpened};
+ghost use Rattle.client_server_conditions.specs.Duties.{LinksAreKept, TakesAnswers, is_acknowledged, table_at};
 
 use crate::conditions::RunCondition;
 use crate::duty::Duty;
@@ -57,7 +56,7 @@ impl<'a> Duty<'a> {
     // Whether each node keeps what is asked, where the links of its set are open.
     fn each_node_keeps(&self, alloc: Global, opened: &[EventSet]) -> Result<bool, NoMemory>
         requires { length opened.now ≡ length (table_at self.now) }
-        ensures { IfOk result (λ kept. kept ≡ true → (n : ℕ) → n < length opened.now → KeepsAtNode self.now n (get_or opened.now n [])) }
+        ensures { IfOk result (λ kept. kept ≡ true → KeepEach self.now opened.now) }
     {
         let _linked = self.network.shape();
         for node in 0..opened.len() {
@@ -71,7 +70,7 @@ impl<'a> Duty<'a> {
     // Whether the node keeps what is asked, where these links are open.
     fn keeps_at_node(&self, alloc: Global, node: u32, opened: &EventSet) -> Result<bool, NoMemory>
         requires { node < length (table_at self.now) }
-        ensures { IfOk result (λ kept. kept ≡ true → KeepsAtNode self.now node opened.now) }
+        ensures { IfOk result (λ kept. kept ≡ true → KeepsOpened self.now self.now.condition node opened.now) }
     {
         match self.condition {
             RunCondition::Turns => Ok(self.takes_turns(node, opened)),
@@ -83,8 +82,7 @@ impl<'a> Duty<'a> {
     // Whether each event that is possible is in turn on its link.
     fn takes_turns(&self, node: u32, opened: &EventSet) -> bool
         requires { node < length (table_at self.now) }
-        ensures { result ≡ true → (l : ℕ) → l < length self.now.network.now.shape.links
-            → KeepsAt self.now.network.now RunCondition.Turns self.now.part l node (has opened.now l) }
+        ensures { result ≡ true → KeepsOpened self.now RunCondition.Turns node opened.now }
     {
         let _linked = self.network.shape();
         for (event, _) in self.steps(node) {
@@ -108,7 +106,7 @@ impl<'a> Duty<'a> {
     // Whether no link is open, or no request is taken.
     fn serves_while_closed(&self, node: u32, opened: &EventSet) -> bool
         requires { node < length (table_at self.now) }
-        ensures { result ≡ true → (l : ℕ) → KeepsAt self.now.network.now RunCondition.Service self.now.part l node (has opened.now l) }
+        ensures { result ≡ true → KeepsOpened self.now RunCondition.Service node opened.now }
     {
         if opened.is_empty() {
             return true;
@@ -119,7 +117,7 @@ impl<'a> Duty<'a> {
     // Whether each acknowledgement of each open link is taken.
     fn takes_answers(&self, alloc: Global, node: u32, opened: &EventSet) -> Result<bool, NoMemory>
         requires { node < length (table_at self.now) }
-        ensures { IfOk result (λ kept. kept ≡ true → (l : ℕ) → KeepsAt self.now.network.now RunCondition.Answers self.now.part l node (has opened.now l)) }
+        ensures { IfOk result (λ kept. kept ≡ true → KeepsOpened self.now RunCondition.Answers node opened.now) }
     {
         for link in opened.iter() {
             if !self.takes_answers_on(alloc, node, link.0)? {
@@ -132,8 +130,7 @@ impl<'a> Duty<'a> {
     // Whether each acknowledgement of the link is taken.
     fn takes_answers_on(&self, alloc: Global, node: u32, link: u32) -> Result<bool, NoMemory>
         requires { node < length (table_at self.now) }
-        ensures { IfOk result (λ kept. kept ≡ true → EachShared (HasAnswers self.now.network.now self.now.part link)
-            self.now.network.now.shape.vocabulary (node_in self.now.network.now self.now.part node).accept) }
+        ensures { IfOk result (λ kept. kept ≡ true → TakesAnswers self.now node link) }
     {
         let count = self.network.shape().links().len();
         if link as usize >= count {

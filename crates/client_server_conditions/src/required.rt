@@ -31,8 +31,8 @@ impl<'a> OnLink<'a> {
     // Whether the node keeps the condition where the link is open or not.
     fn keeps(&self, node: u32, opened: bool) -> bool
         requires { node < length (table_of self.now.component) }
-        ensures { result ≡ keeps self.now.condition self.now.component.shape.now.vocabulary self.now.shared.now self.now.roles.now
-            self.now.acknowledgements.now (node_at (table_of self.now.component) node) opened }
+        ensures { result ≡ keeps self.now.condition self.now.component.shape.now.vocabulary self.now.shared.now
+            self.now.roles.now self.now.acknowledgements.now (node_at (table_of self.now.component) node) opened }
     {
         let vocabulary = self.component.shape.shape().vocabulary();
         let accept = self.component.node(node).accept();
@@ -52,8 +52,9 @@ impl<'a> OnLink<'a> {
 impl<'a> Requirement for OnLink<'a> {
     ghost nodes = { λ required. length (table_of required.component) };
 
-    ghost meets = { λ required node state. keeps required.condition required.component.shape.now.vocabulary required.shared.now required.roles.now
-        required.acknowledgements.now (node_at (table_of required.component) node) (required.acknowledged && nat_eq state 1) };
+    ghost meets = { λ required node state. keeps required.condition required.component.shape.now.vocabulary
+        required.shared.now required.roles.now required.acknowledgements.now (node_at (table_of required.component) node)
+        (required.acknowledged && nat_eq state 1) };
 
     fn is_met(&self, node: u32, state: u32) -> Result<bool, NoMemory> {
         Ok(self.keeps(node, self.acknowledged && state == 1))
@@ -70,7 +71,8 @@ pub(crate) struct Undivided<'a> {
 impl<'a> Requirement for Undivided<'a> {
     ghost nodes = { λ required. length (table_of required.component) };
 
-    ghost meets = { λ required node _. not (list_any (splits required.component.shape.now.vocabulary required.requests.now) (node_at (table_of required.component) node).accept) };
+    ghost meets = { λ required node _. not (list_any (splits required.component.shape.now.vocabulary required.requests.now)
+        (node_at (table_of required.component) node).accept) };
 
     fn is_met(&self, node: u32, _state: u32) -> Result<bool, NoMemory> {
         let vocabulary = self.component.shape.shape().vocabulary();

@@ -2,9 +2,9 @@
 
 ghost use Rattle.std.specs.Prelude.{◌≡◌, ◌<◌, ◌⊎◌, ℕ, All, IfErr, IfOk, OnOk, length};
 ghost use Rattle.csp_base.specs.Prelude.{Tells};
-ghost use Rattle.design_rules.specs.Prelude.{KeepRoles, Serves, BreaksClientServer};
-ghost use Rattle.digraph.specs.Prelude.{HasNoCircle, HasArc, AreHeights};
-ghost use Rattle.client_server_rule.specs.Serving.{ServesOn};
+ghost use Rattle.design_rules.specs.Prelude.{KeepRoles, BreaksClientServer};
+ghost use Rattle.digraph.specs.Prelude.{HasNoCircle, HasArc};
+ghost use Rattle.client_server_rule.specs.Serving.{HaveHeights, ServesIn, ServesOn};
 
 use client_server_conditions::Network;
 use containers::Items;
@@ -16,9 +16,9 @@ use std::alloc::Global;
 // For each part the greatest number of arcs in a walk from it to servers.
 pub(crate) fn heights(alloc: Global, network: &Network<'_>) -> Result<Heights, Stop<RuleFault>>
     requires { KeepRoles network.now.shape network.now.roles }
-    ensures heights { IfOk result (λ heights. AreHeights (Serves network.now.shape network.now.roles) (length network.now.shape.parts) heights) }
+    ensures heights { IfOk result (HaveHeights network.now) }
     ensures below { IfOk result (λ heights. All (λ height. height < length network.now.shape.parts) heights) }
-    ensures no_circle { OnOk result (HasNoCircle (Serves network.now.shape network.now.roles)) }
+    ensures no_circle { OnOk result (HasNoCircle (ServesIn network.now)) }
     ensures fault { IfErr result (Tells (λ fault. BreaksClientServer network.now.shape network.now.roles fault)) }
 {
     let rows = arcs(alloc, network)?;
@@ -35,8 +35,8 @@ pub(crate) fn heights(alloc: Global, network: &Network<'_>) -> Result<Heights, S
 // An arc from each client to each of its servers.
 fn arcs(alloc: Global, network: &Network<'_>) -> Result<Rows, NoMemory>
     ensures count { IfOk result (λ rows. length rows ≡ length network.now.shape.parts) }
-    ensures sound { IfOk result (λ rows. (i j : ℕ) → HasArc rows i j → Serves network.now.shape network.now.roles i j) }
-    ensures complete { IfOk result (λ rows. (i j : ℕ) → Serves network.now.shape network.now.roles i j → HasArc rows i j) }
+    ensures sound { IfOk result (λ rows. (i j : ℕ) → HasArc rows i j → ServesIn network.now i j) }
+    ensures complete { IfOk result (λ rows. (i j : ℕ) → ServesIn network.now i j → HasArc rows i j) }
 {
     let shape = network.shape();
     let mut rows = Rows::new(alloc, shape.parts().len() as u32)?;

@@ -3,8 +3,9 @@
 ghost use Rattle.std.specs.Prelude.{◌≡◌, ◌<◌, All, IfErr, IfOk, OnOk, length};
 ghost use Rattle.csp_base.specs.Prelude.{Tells};
 ghost use Rattle.csp_tables.specs.Prelude.{TripleDisjoint, alphabets_of, IsWellFormed};
-ghost use Rattle.design_rules.specs.Prelude.{IsClientServer, KeepRoles, Serves, IsClientServerRanking, BreaksClientServer};
-ghost use Rattle.digraph.specs.Prelude.{HasNoCircle, AreHeights};
+ghost use Rattle.design_rules.specs.Prelude.{IsClientServer, KeepRoles, IsClientServerRanking, BreaksClientServer};
+ghost use Rattle.digraph.specs.Prelude.{HasNoCircle};
+ghost use Rattle.client_server_rule.specs.Serving.{HaveHeights, ServesIn};
 
 use crate::arcs::heights;
 use client_server_conditions::{Network, RunCondition, check};
@@ -29,11 +30,11 @@ pub fn client_server(
     ensures fault { IfErr result (Tells (λ fault. BreaksClientServer shape.now roles.now fault)) }
 {
     let network = Network::new(alloc, shape, roles)?;
-    ranked(alloc, &network)
+    ranking_of(alloc, &network)
 }
 
 // The same of a network in which S1 and S2 hold.
-fn ranked(alloc: Global, network: &Network<'_>) -> Result<Ranking, Stop<RuleFault>>
+fn ranking_of(alloc: Global, network: &Network<'_>) -> Result<Ranking, Stop<RuleFault>>
     ensures client_server { OnOk result (IsClientServer network.now.shape network.now.roles) }
     ensures ranking { IfOk result (λ ranking. IsClientServerRanking network.now.shape network.now.roles ranking) }
     ensures fault { IfErr result (Tells (λ fault. BreaksClientServer network.now.shape network.now.roles fault)) }
@@ -46,9 +47,9 @@ fn ranked(alloc: Global, network: &Network<'_>) -> Result<Ranking, Stop<RuleFaul
 // The heights of the parts, where S3, S4, S5 and S6 hold, and else the least that does not.
 fn checked_heights(alloc: Global, network: &Network<'_>) -> Result<Heights, Stop<RuleFault>>
     ensures keep { OnOk result (KeepRoles network.now.shape network.now.roles) }
-    ensures heights { IfOk result (λ heights. AreHeights (Serves network.now.shape network.now.roles) (length network.now.shape.parts) heights) }
+    ensures heights { IfOk result (HaveHeights network.now) }
     ensures below { IfOk result (λ heights. All (λ height. height < length network.now.shape.parts) heights) }
-    ensures no_circle { OnOk result (HasNoCircle (Serves network.now.shape network.now.roles)) }
+    ensures no_circle { OnOk result (HasNoCircle (ServesIn network.now)) }
     ensures fault { IfErr result (Tells (λ fault. BreaksClientServer network.now.shape network.now.roles fault)) }
 {
     let _linked = network.shape();

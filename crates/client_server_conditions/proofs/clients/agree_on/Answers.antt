@@ -1,5 +1,4 @@
-use Rattle.std.proofs.Common.{◌∙◌, sym}
-use Rattle.std.proofs.lemmas.Bool.{false≢true}
+use Rattle.client_server_conditions.proofs.Prelude.{◌∙◌, sym, false≢true}
 use Rattle.client_server_conditions.proofs.Sets.{agree_on, agree_within, agree_turned}
 use Rattle.client_server_conditions.proofs.clients.agree_on.Goals as goal
 

@@ -1,7 +1,4 @@
-use Rattle.std.proofs.Common.{◌≡◌, ◌∙◌, ℕ, List, Bool, true, false, not, refl, sym, subst}
-use Rattle.std.proofs.lemmas.Bool.{false≢true, not-true}
-use Rattle.csp_base.specs.Events.{meets_of}
-use Rattle.client_server_conditions.specs.Sides.{LacksAll}
+use Rattle.client_server_conditions.proofs.Prelude.{◌≡◌, ◌∙◌, ℕ, List, Bool, true, false, not, refl, sym, subst, false≢true, not-true, meets_of, LacksAll}
 use Rattle.client_server_conditions.proofs.Sets.{lacks_all, meets_none}
 use Rattle.client_server_conditions.proofs.clients.no_other.Goals as goal
 

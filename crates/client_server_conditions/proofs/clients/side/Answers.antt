@@ -1,6 +1,4 @@
-use Rattle.std.proofs.Common.{◌≡◌, inl, inr}
-use Rattle.csp_tables.specs.Prelude.{role_at, link_at}
-use Rattle.std.proofs.lemmas.Bool.{both_ways}
+use Rattle.client_server_conditions.proofs.Prelude.{◌≡◌, inl, inr, role_at, link_at, both_ways}
 use Rattle.client_server_conditions.proofs.Reading.{left_role, right_role, shared_there}
 use Rattle.client_server_conditions.proofs.Sides.{client_on, client_read}
 use Rattle.client_server_conditions.proofs.clients.side.Goals as goal

@@ -1,7 +1,4 @@
-use Rattle.std.proofs.Common.{◌<◌, Bool, List, Option, length, refl, sym, subst}
-use Rattle.csp_tables.specs.Prelude.{Link}
-use Rattle.design_rules.specs.Prelude.{BreaksClientServer}
-use Rattle.client_server_conditions.specs.Sides.{IsSideOrNone}
+use Rattle.client_server_conditions.proofs.Prelude.{◌<◌, Bool, List, Option, length, refl, sym, subst, Link, BreaksClientServer, IsSideOrNone}
 use Rattle.client_server_conditions.proofs.Sides.{sides_more, side_client}
 use Rattle.client_server_conditions.proofs.clients.sides.Goals as goal
 

@@ -1,6 +1,4 @@
-use Rattle.std.proofs.Common.{◌≡◌, ◌∙◌, ◌&&◌, ◌||◌, Bool, List, ℕ, true, false, nat_eq, ap, refl, sym}
-use Rattle.csp_base.proofs.SetLaws.{has-with_member}
-use Rattle.csp_base.specs.Prelude.{has}
+use Rattle.client_server_conditions.proofs.Prelude.{◌≡◌, ◌∙◌, ◌&&◌, ◌||◌, Bool, List, ℕ, true, false, nat_eq, ap, refl, sym, has-with_member, has}
 use Rattle.client_server_conditions.proofs.open_links.insert_if.Goals as goal
 
 swapped : (a b : Bool) → (a || b) ≡ (b || a)

@@ -1,5 +1,4 @@
-use Rattle.std.proofs.Common.{ℕ, ◌<◌}
-use Rattle.design_rules.specs.ClientServer.{HasRoles}
+use Rattle.client_server_conditions.proofs.Prelude.{ℕ, ◌<◌, HasRoles}
 use Rattle.client_server_conditions.proofs.parted.check_parted.Given as goal
 
 abbrev pub invariant-loop-part : goal.invariant-loop-part

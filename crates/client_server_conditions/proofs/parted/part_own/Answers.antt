@@ -1,7 +1,4 @@
-use Rattle.std.proofs.Common.{◌≡◌, ◌∙◌, ◌||◌, ℕ, List, Bool, true, false, sym, ap}
-use Rattle.std.proofs.lemmas.Bool.{false≢true}
-use Rattle.csp_base.specs.Prelude.{has, meets_of}
-use Rattle.csp_tables.specs.Roles.{RoleSets}
+use Rattle.client_server_conditions.proofs.Prelude.{◌≡◌, ◌∙◌, ◌||◌, ℕ, List, Bool, true, false, sym, ap, false≢true, has, meets_of, RoleSets}
 use Rattle.client_server_conditions.proofs.Sets.{AreUnions, meets_none, parts_own, own_client, own_server, own_apart, own_within}
 use Rattle.client_server_conditions.proofs.parted.part_own.Goals as goal
 

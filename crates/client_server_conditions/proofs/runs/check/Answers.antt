@@ -1,8 +1,4 @@
-use Rattle.std.proofs.Common.{◌≡◌, ◌∙◌, ◌≤◌, ℕ, List, Option, Some, ap, sym, subst, length, arith}
-use Rattle.csp_tables.specs.Prelude.{Part, Shape}
-use Rattle.design_rules.specs.Prelude.{BreaksRoles}
-use Rattle.shape_links.specs.Component.{IsDecided}
-use Rattle.client_server_conditions.specs.Conditions.{Keeps}
+use Rattle.client_server_conditions.proofs.Prelude.{◌≡◌, ◌∙◌, ◌≤◌, ℕ, List, Option, Some, ap, sym, subst, length, arith, Part, Shape, BreaksRoles, IsDecided, Keeps}
 use Rattle.client_server_conditions.proofs.Deciding.{all_parts, breaks_condition}
 use Rattle.client_server_conditions.proofs.runs.check.Goals as goal
 

@@ -1,7 +1,4 @@
-use Rattle.std.proofs.Common.{◌≡◌, ◌≤◌, ◌<◌, ℕ, List, [], get_or, length, subst, arith, below_more}
-use Rattle.csp_base.proofs.Standard.{get_or_read}
-use Rattle.net_sound.proofs.Within.{part_form}
-use Rattle.client_server_conditions.specs.Duties.{KeepsAtNode}
+use Rattle.client_server_conditions.proofs.Prelude.{◌≤◌, ◌<◌, [], length, subst, arith, below_more, get_or_read, part_form, KeepsOpened}
 use Rattle.client_server_conditions.proofs.duty.Duty.each_node_keeps.Goals as goal
 
 pub overflow_cast-node : goal.overflow_cast-node
@@ -13,7 +10,7 @@ overflow_cast-node c =
 pub loop-node-preserved : goal.loop-node-preserved
 loop-node-preserved c =
     let at = get_or_read c.args.opened.now c.loop-node.node c.index-opened-node.result c.loop-node-test.true c.index-opened-node.is [] in
-    below_more _ _ c.loop-node.invariant (subst (KeepsAtNode c.args.self.now c.loop-node.node) at (c.in_ok-keeps_at_node.ensures c.if-not-branch.false))
+    below_more _ _ c.loop-node.invariant (subst (KeepsOpened c.args.self.now c.args.self.now.condition c.loop-node.node) at (c.in_ok-keeps_at_node.ensures c.if-not-branch.false))
 
 pub returns : goal.returns
 returns c _ n h =

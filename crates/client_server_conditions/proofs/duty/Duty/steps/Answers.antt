@@ -1,6 +1,4 @@
-use Rattle.std.proofs.Common.{ℕ, subst}
-use Rattle.csp_tables.specs.Prelude.{Shape, node_at, part_at}
-use Rattle.observed_runs.specs.Prelude.{AreEnough}
+use Rattle.client_server_conditions.proofs.Prelude.{ℕ, subst, Shape, node_at, part_at, AreEnough}
 use Rattle.client_server_conditions.proofs.duty.Duty.steps.Goals as goal
 
 pub returns : goal.returns

@@ -1,8 +1,4 @@
-use Rattle.std.proofs.Common.{◌≡◌, ◌∙◌, ◌&&◌, List, ℕ, ap, sym}
-use Rattle.csp_base.proofs.Standard.{not-true}
-use Rattle.csp_base.specs.Prelude.{has}
-use Rattle.csp_tables.specs.Prelude.{Link, RoleSets, Shape, link_at, role_at}
-use Rattle.client_server_conditions.specs.Conditions.{node_in}
+use Rattle.client_server_conditions.proofs.Prelude.{◌∙◌, ◌&&◌, List, ℕ, ap, sym, not-true, has, Link, RoleSets, Shape, link_at, node_in}
 use Rattle.client_server_conditions.proofs.OpenLinks.{all_taken}
 use Rattle.client_server_conditions.proofs.duty.Duty.takes_answers_on.Goals as goal
 

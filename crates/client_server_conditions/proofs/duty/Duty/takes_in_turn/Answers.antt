@@ -1,9 +1,4 @@
-use Rattle.std.proofs.Common.{◌≡◌, ◌∙◌, Bool, List, ℕ, true, ap, subst, sym}
-use Rattle.csp_base.proofs.Standard.{none-some, same_Some}
-use Rattle.csp_base.specs.Prelude.{has}
-use Rattle.csp_tables.specs.Prelude.{RoleSets, Shape}
-use Rattle.shape_links.specs.Links.{IsOwner}
-use Rattle.client_server_conditions.specs.Nodes.{is_in_turn}
+use Rattle.client_server_conditions.proofs.Prelude.{◌∙◌, Bool, ap, subst, sym, none-some, same_Some, has, RoleSets, Shape, IsOwner, is_in_turn}
 use Rattle.client_server_conditions.proofs.duty.Duty.takes_in_turn.Goals as goal
 
 pub returns-in_default : goal.returns-in_default

@@ -1,8 +1,4 @@
-use Rattle.std.proofs.Common.{◌≤◌, ◌<◌, ℕ, length, subst, arith, below_more}
-use Rattle.csp_base.proofs.Standard.{get_or_read}
-use Rattle.csp_base.specs.Prelude.{has}
-use Rattle.client_server_conditions.specs.Conditions.{node_in}
-use Rattle.client_server_conditions.specs.Duties.{IsInTurn}
+use Rattle.client_server_conditions.proofs.Prelude.{◌≤◌, ℕ, length, subst, arith, below_more, get_or_read, has, node_in, IsInTurn}
 use Rattle.client_server_conditions.proofs.OpenLinks.{each_in_turn}
 use Rattle.client_server_conditions.proofs.duty.Duty.takes_turns.Goals as goal
 

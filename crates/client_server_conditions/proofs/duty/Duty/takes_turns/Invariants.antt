@@ -1,6 +1,4 @@
-use Rattle.std.proofs.Common.{◌<◌, ℕ}
-use Rattle.observed_runs.specs.Prelude.{pair_at}
-use Rattle.client_server_conditions.specs.Duties.{IsInTurn}
+use Rattle.client_server_conditions.proofs.Prelude.{◌<◌, ℕ, pair_at, IsInTurn}
 use Rattle.client_server_conditions.proofs.duty.Duty.takes_turns.Given as goal
 
 abbrev pub invariant-loop-event : goal.invariant-loop-event

@@ -1,10 +1,6 @@
-use Rattle.std.proofs.Common.{◌≡◌, ◌≤◌, ◌<◌, ℕ, List, true, ap, get_or, length, subst, sym, arith}
-use Rattle.csp_base.proofs.Standard.{get_or_from_slice_get, slice_get_within}
-use Rattle.csp_base.specs.Prelude.{has}
-use Rattle.shape_links.specs.Links.{ends_of}
-use Rattle.shape_links.proofs.Links.{end_here, ends_complete, place_in}
-use Rattle.client_server_conditions.specs.Duties.{IsAsked, is_acknowledged}
+use Rattle.client_server_conditions.proofs.Prelude.{◌≡◌, ◌≤◌, ℕ, List, true, ap, get_or, length, subst, sym, arith, has, ends_of, end_here, IsAsked, is_acknowledged}
 use Rattle.client_server_conditions.proofs.OpenLinks.{one_more}
+use Rattle.client_server_conditions.proofs.Reading.{end_listed}
 use Rattle.client_server_conditions.proofs.duty.Duty.watched_links.Goals as goal
 
 pub watches-watches-requires-clause-link : goal.watches-watches-requires-clause-link
@@ -25,12 +21,8 @@ returns c =
     record {
       sound = c.loop-link.invariant.sound;
       complete = λ l h end asked passes.
-          let ends = ends_of c.args.self.now.network.now.shape c.args.self.now.part in
-          let p = place_in (ends_of c.args.self.now.network.now.shape c.args.self.now.part) l (ends_complete c.args.self.now.network.now.shape c.args.self.now.part (length c.args.self.now.network.now.shape.links) l h end) in
-          let many : length c.links-link-items.result.now ≡ length (ends_of c.args.self.now.network.now.shape c.args.self.now.part) = ap (length {A = ℕ}) c.links-link-items.ensures in
+          let p = end_listed c.args.self.now.network.now.shape c.args.self.now.part l c.links-link-items.result.now c.links-link-items.ensures h end in
           let last : length c.links-link-items.result.now ≤ c.loop-link.link-index = c.loop-link-test.false in
-          let below : p.0 < length (ends_of c.args.self.now.network.now.shape c.args.self.now.part) = slice_get_within ends p.0 l p.1 in
-          let at : get_or (ends_of c.args.self.now.network.now.shape c.args.self.now.part) p.0 0 ≡ l = get_or_from_slice_get ends p.0 l 0 p.1 in
-          subst (λ (m : ℕ). has c.loop-link.watched m ≡ true) at
-          (c.loop-link.invariant.complete p.0 (omega arith) (subst (IsAsked d) (sym at) asked) (subst (λ (m : ℕ). is_acknowledged d m ≡ true) (sym at) passes));
+          subst (λ (m : ℕ). has c.loop-link.watched m ≡ true) p.2
+          (c.loop-link.invariant.complete p.0 (omega (arith, p.1)) (subst (IsAsked d) (sym p.2) asked) (subst (λ (m : ℕ). is_acknowledged d m ≡ true) (sym p.2) passes));
     }

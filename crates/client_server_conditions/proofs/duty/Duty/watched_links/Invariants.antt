@@ -1,6 +1,4 @@
-use Rattle.std.proofs.Common.{get_or}
-use Rattle.shape_links.specs.Links.{ends_of}
-use Rattle.client_server_conditions.specs.Duties.{IsAsked, is_acknowledged}
+use Rattle.client_server_conditions.proofs.Prelude.{get_or, ends_of, IsAsked, is_acknowledged}
 use Rattle.client_server_conditions.proofs.OpenLinks.{AreChosen}
 use Rattle.client_server_conditions.proofs.duty.Duty.watched_links.Given as goal
 

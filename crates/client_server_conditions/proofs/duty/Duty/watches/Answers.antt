@@ -1,5 +1,4 @@
-use Rattle.std.proofs.Common.{◌≡◌, ◌∙◌, ◌&&◌, Bool, ap, sym}
-use Rattle.csp_tables.specs.Prelude.{Link, Shape, link_at}
+use Rattle.client_server_conditions.proofs.Prelude.{◌∙◌, ◌&&◌, Bool, ap, sym, Link, Shape, link_at}
 use Rattle.client_server_conditions.proofs.Opening.{HasSide, acknowledged_meets}
 use Rattle.client_server_conditions.proofs.OpenLinks.{asked_where}
 use Rattle.client_server_conditions.proofs.duty.Duty.watches.Goals as goal

@@ -1,6 +1,4 @@
-use Rattle.std.proofs.Common.{◌∙◌, ℕ, nat_eq, sym, ap}
-use mathlib.Core.Bool.{beq}
-use Rattle.csp_tables.specs.Shape.{Shape}
+use Rattle.client_server_conditions.proofs.Prelude.{◌∙◌, ℕ, nat_eq, sym, ap, beq, Shape}
 use Rattle.client_server_conditions.proofs.Sides.{asks_is, grants_is, read_end}
 use Rattle.client_server_conditions.proofs.network.Network.asks.Goals as goal
 

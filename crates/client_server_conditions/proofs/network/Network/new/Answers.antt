@@ -1,7 +1,4 @@
-use Rattle.std.proofs.Common.{length, subst, sym}
-use Rattle.csp_tables.specs.Shape.{Shape}
-use Rattle.client_server_conditions.specs.Network.{IsLinked}
-use Rattle.client_server_conditions.specs.Sides.{AreSides}
+use Rattle.client_server_conditions.proofs.Prelude.{length, subst, sym, Shape, IsLinked, AreSides}
 use Rattle.client_server_conditions.proofs.Sides.{side_client}
 use Rattle.client_server_conditions.proofs.network.Network.new.Goals as goal
 

@@ -1,10 +1,4 @@
-use Rattle.std.proofs.Common.{◌∙◌, ◌&&◌, Bool, not, sym, ap}
-use Rattle.csp_tables.specs.Prelude.{node_at}
-use Rattle.shape_links.proofs.Watching.{any_enough}
-use Rattle.shape_links.specs.Component.{table_of}
-use Rattle.client_server_conditions.specs.Nodes.{is_in_turn, is_out_of_turn}
-use Rattle.client_server_conditions.specs.Tests.{keeps}
-use Rattle.client_server_conditions.specs.declared.conditions.RunCondition.{RunCondition}
+use Rattle.client_server_conditions.proofs.Prelude.{◌∙◌, ◌&&◌, Bool, not, sym, ap, node_at, any_enough, table_of, is_in_turn, is_out_of_turn, keeps, RunCondition}
 use Rattle.client_server_conditions.proofs.required.OnLink.keeps.Goals as goal
 
 pub returns-in-Turns : goal.returns-in-Turns
