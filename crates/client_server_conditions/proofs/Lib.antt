@@ -1,6 +1,7 @@
 pub mod Deciding
 pub mod Keeping
 pub mod Looking
+pub mod OpenLinks
 pub mod Opening
 pub mod Reading
 pub mod Sets

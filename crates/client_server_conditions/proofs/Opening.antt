@@ -1,8 +1,10 @@
 -- When a link is open, as the exploration of one end shows it; and which events of the link are acknowledgements.
 use Rattle.std.proofs.Common.{◌≡◌, ℕ, suc, ◌+◌, List, [], ◌∷◌, Bool, true, false, not, ◌&&◌, ◌||◌, cond, IsTrue, nat_eq, inl, inr, refl, sym, ap, ◌∙◌, arith, eq-eqb}
-use Rattle.std.proofs.lemmas.Bool.{cases_Bool, and_from, or_left, false≢true, cond-true, cond-false, and_parts}
-use Rattle.csp_base.specs.Members.{has}
-use Rattle.csp_tables.specs.Prelude.{Joins, link_at, role_at}
+use Rattle.std.specs.List.{list_any}
+use Rattle.std.proofs.lemmas.Bool.{cases_Bool, and_from, or_cases, or_left, or_right, false≢true, cond-true, cond-false, and_parts}
+use Rattle.csp_base.proofs.SetLaws.{common_member, meets_of_from_member}
+use Rattle.csp_base.specs.Prelude.{has, meets_of}
+use Rattle.csp_tables.specs.Prelude.{Joins, RoleSets, link_at, role_at}
 use Rattle.design_rules.specs.Prelude.{count_in, is_odd, has_acknowledgements, is_acknowledgement, is_open}
 use Rattle.design_rules.proofs.Counts.{count_more, count_same}
 use Rattle.observed_runs.specs.Prelude.{observed, parity_step}
@@ -64,6 +66,25 @@ opened_is network l s acknowledged is =
 
 -- ---- acknowledgements
 
+both_or_neither : (a b : Bool) → (a ≡ true → b ≡ true) → (b ≡ true → a ≡ true) → a ≡ b
+both_or_neither true b to from = sym (to refl)
+both_or_neither false true to from = from refl
+both_or_neither false false to from = refl
+
+-- a set meets one of two others where one of its members is in either
+either_met : (S A B : List ℕ) (test : ℕ → Bool) → ((e : ℕ) → has S e ≡ true → test e ≡ (has A e || has B e)) → (meets_of S A || meets_of S B) ≡ list_any test S
+either_met S A B test same = both_or_neither (meets_of S A || meets_of S B) (list_any test S)
+    (λ meets. elim (or_cases (meets_of S A) (meets_of S B) meets) [
+      | inl first ↦ let x = common_member S A first in any_of test S x.0 x.1 (same x.0 x.1 ∙ or_left (has A x.0) (has B x.0) x.2)
+      | inr second ↦ let x = common_member S B second in any_of test S x.0 x.1 (same x.0 x.1 ∙ or_right (has A x.0) (has B x.0) x.2)
+    ])
+    (λ some.
+    let x = any_member test S some in
+    elim (or_cases (has A x.0) (has B x.0) (sym (same x.0 x.1) ∙ x.2)) [
+      | inl first ↦ or_left (meets_of S A) (meets_of S B) (meets_of_from_member S A x.0 x.1 first)
+      | inr second ↦ or_right (meets_of S A) (meets_of S B) (meets_of_from_member S B x.0 x.1 second)
+    ])
+
 none_first : (a b : Bool) → a ≡ false → (a || b) ≡ b
 none_first true b h = absurd (false≢true (sym h))
 none_first false b h = refl
@@ -99,6 +120,13 @@ module _ (network : Network) (i l : ℕ) where
   ends_are : (asks : Bool) (e : ℕ) → HasSide asks → IsTrue (has (link_at network.shape l).shared e) → for_ends e ≡ is_acknowledgement network.roles i e
   ends_are true e h on = ends_ask e (h.client refl) on
   ends_are false e h on = ends_grant e (h.server refl) on
+
+  -- the link has acknowledgements where some of its events are such of the part
+  pub acknowledged_meets : (asks : Bool) (S : List ℕ) (mine : RoleSets) → HasSide asks → S ≡ (link_at network.shape l).shared → mine ≡ role_at network.roles i → (meets_of S mine.cack || meets_of S mine.sack) ≡ has_acknowledgements network.shape network.roles l
+  acknowledged_meets asks S mine side S_is mine_is =
+      either_met S mine.cack mine.sack for_ends (λ e on.
+        ends_are asks e side (ap (λ (T : List ℕ). has T e) (sym S_is) ∙ on) ∙ ap (λ (r : RoleSets). has r.cack e || has r.sack e) (sym mine_is))
+      ∙ ap (list_any for_ends) S_is
 
   -- the link has acknowledgements where its set of them is not empty
   some_first : (xs : List ℕ) → (xs ≡ [] → ⊥) → (e : ℕ) × IsTrue (has xs e)

@@ -1,4 +1,5 @@
 pub mod Conditions
+pub mod Duties
 pub mod Network
 pub mod Nodes
 pub mod Sides

@@ -3,9 +3,12 @@
 #![tactic(auto)]
 
 mod clients;
+mod component;
 mod conditions;
+mod duty;
 mod network;
 mod nodes;
+mod open_links;
 mod parted;
 mod required;
 mod runs;

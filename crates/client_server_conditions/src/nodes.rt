@@ -1,7 +1,8 @@
 //! What one node of a component's table shows: what is out of turn there, and how requests and acknowledgements are accepted.
 
-ghost use Rattle.std.specs.Prelude.{◌≡◌};
+ghost use Rattle.std.specs.Prelude.{◌≡◌, ◌||◌};
 ghost use Rattle.std.specs.List.{list_any};
+ghost use Rattle.csp_base.specs.Prelude.{meets_of};
 ghost use Rattle.client_server_conditions.specs.Nodes.{is_in_turn, is_out_of_turn, refuses, splits, takes};
 
 use csp_base::{Event, EventSet};
@@ -20,13 +21,20 @@ pub(crate) fn some_out_of_turn(
 }
 
 // Whether the event is an acknowledgement, where the link is open, or a request, where it is closed.
-fn in_turn(roles: &RoleSets, event: Event, opened: bool) -> bool
+pub(crate) fn in_turn(roles: &RoleSets, event: Event, opened: bool) -> bool
     ensures { result ≡ is_in_turn roles.now opened event }
 {
     if opened {
         return roles.cack().contains(event) || roles.sack().contains(event);
     }
     roles.creq().contains(event) || roles.sreq().contains(event)
+}
+
+// Whether some of these events, those of a link, is an acknowledgement.
+pub(crate) fn some_acknowledged(shared: &EventSet, roles: &RoleSets) -> bool
+    ensures { result ≡ (meets_of shared.now roles.now.cack || meets_of shared.now roles.now.sack) }
+{
+    shared.meets(roles.cack()) || shared.meets(roles.sack())
 }
 
 // Whether some acceptance in the vocabulary has a request and not all of them.

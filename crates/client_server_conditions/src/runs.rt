@@ -9,6 +9,7 @@ ghost use Rattle.client_server_conditions.specs.Conditions.{AreAcknowledgements,
 ghost use Rattle.client_server_conditions.specs.Network.{Asks, Grants};
 
 use crate::conditions::RunCondition;
+use crate::duty::Duty;
 use crate::network::Network;
 use crate::required::{OnLink, Undivided};
 use csp_base::{EventSet, NoMemory, Stop, Trace};
@@ -95,6 +96,14 @@ fn links_run(
     requires { part < length network.now.shape.parts }
     ensures { IfOk result (λ run. IsDecided network.now.shape part (KeepsLinks network.now condition part) run) }
 {
+    let duty = Duty {
+        network,
+        condition,
+        part,
+    };
+    if duty.is_kept_by_nodes(alloc)? {
+        return Ok(None);
+    }
     for link in network.links(part) {
         let run = link_run(alloc, network, condition, part, *link)?;
         if let Some(trace) = run {

@@ -1,18 +1,18 @@
 -- The places of a component's lap, as its laps show them.
 use Rattle.std.proofs.Common.{◌≡◌, ℕ, zero, suc, ◌+◌, ◌-◌, ◌%◌, ◌^◌, ◌<◌, ◌≤◌, inl, inr, List, [], ◌∷◌, ◌++◌, length, cond, Option, Some, None, IsTrue, nat_lt, refl, sym, ap, subst, ◌∙◌, arith, lt-ltb, le-ltb}
 use Rattle.std.specs.Prelude.{replicate, slice_get}
-use Rattle.csp_base.proofs.Standard.{cases_Bool, cases_lt, cond-true, cond-false, length-append, get_or_append_left, get_or-append_seam, mod_below, mod-eq_of_lt, add-mod_left, none-some, same_Some, get_or-replicate, get_or_past, length-replicate}
+use Rattle.csp_base.proofs.Standard.{cases_Bool, cases_lt, cond-true, cond-false, length-append, get_or_append_left, get_or-append_seam, mod_below, mod-eq_of_lt, add-mod_left, none-some, same_Some, slice_get_within, get_or-replicate, get_or_past, length-replicate}
 use Rattle.csp_base.specs.Prelude.{Tells, has}
 use Rattle.csp_base.specs.declared.stop.Stop.{Stop}
 use Rattle.csp_base.specs.declared.stop.Stop.TheVariants as stop
 use Rattle.csp_tables.specs.Prelude.{node_at, is_possible, part_at, LinksAreOrdered, Shape, is_end}
 use Rattle.net_sound.proofs.Within.{part_form}
-use Rattle.design_rules.specs.Prelude.{count_in, count_below, BreaksOrder, Clash, links_of, ReachesLink, place_after, KeepsPlaces, BreaksCyclic}
+use Rattle.design_rules.specs.Prelude.{count_in, count_below, BreaksOrder, Clash, IsReachedAt, links_of, ReachesLink, place_after, KeepsPlaces, BreaksCyclic}
 use Rattle.design_rules.specs.declared.rule_fault.RuleFault.{RuleFault}
 use Rattle.design_rules.specs.declared.rule_fault.RuleFault.TheVariants.{NoOrder}
 use Rattle.design_rules.proofs.Counts.{count_more, count_same, count_at_most}
 use Rattle.design_rules.proofs.Runs.{possible_within, end_within}
-use Rattle.design_rules.proofs.Places.{IsAt, earlier, some_links, first_lap}
+use Rattle.design_rules.proofs.Places.{earlier, some_links, first_lap}
 use Rattle.observed_runs.specs.Prelude.{observed, pair_at, lap_step}
 use Rattle.shape_links.specs.Links.{IsOwner, ends_below, ends_of}
 use Rattle.shape_links.proofs.Links.{owner_end}
@@ -152,16 +152,16 @@ module _ (laps : Laps) (x : AreLaps laps) (firsts : List (Option Fact)) (a : Are
         λ place. same_kept (place_of laps s) l m here (subst (λ q. HasFirst firsts q m) (sym place) there),
       )
 
-  at_place : (q l : ℕ) → HasFirst firsts q l → IsAt (shape_of laps) laps.component.number q l
+  at_place : (q l : ℕ) → HasFirst firsts q l → IsReachedAt (shape_of laps) laps.component.number q l
   at_place q l y =
       let shape = (shape_of laps) in
       let i = laps.component.number in
       let f = a.sound q y.fact y.kept in
       let run = x.explored.reached y.fact.pair f.within in
       let r = fact_reach laps x q y.fact run.0 f run.1 in
-      subst (λ n. IsAt shape i q n) y.link (subst (λ n. IsAt shape i n y.fact.link) r.1 (first_lap shape i y.fact.link run.0 y.fact.event (record { form = x.form; keeps = keeps }) r.0))
+      subst (λ n. IsReachedAt shape i q n) y.link (subst (λ n. IsReachedAt shape i n y.fact.link) r.1 (first_lap shape i y.fact.link run.0 y.fact.event (record { form = x.form; keeps = keeps }) r.0))
 
-  kept_at : (q l : ℕ) → q < links_along laps → IsAt (shape_of laps) laps.component.number q l → HasFirst firsts q l
+  kept_at : (q l : ℕ) → q < links_along laps → IsReachedAt (shape_of laps) laps.component.number q l → HasFirst firsts q l
   kept_at q l h y = subst (λ n. HasFirst firsts n l) (ap (λ n. n % links_along laps) y.place ∙ mod-eq_of_lt h) (kept l y.run y.event y.reaches)
 
   pub is_order : IsOrder (shape_of laps) laps.component.number (links_in_order firsts)
@@ -169,20 +169,15 @@ module _ (laps : Laps) (x : AreLaps laps) (firsts : List (Option Fact)) (a : Are
     listed = λ q l h.
         let y = in_order_first firsts q l h in
         let below : q < length firsts = first_within firsts q l y in
-        let z = at_place q l y in
-        (omega (arith, a.count), record { run = z.run; event = z.event; reaches = z.reaches; place = z.place });
+        (omega (arith, a.count), at_place q l y);
     all = λ q l h y. in_order_all firsts q l (λ r k.
         let e = earlier (shape_of laps) laps.component.number x.form y.run y.reaches.possible.runs r (let p : place_after (shape_of laps) y.run ≡ q = y.place in omega arith) in
         (e.0, kept_at r e.0 (omega arith) e.1))
-        (kept_at q l h (record { run = y.run; event = y.event; reaches = y.reaches; place = y.place }));
+        (kept_at q l h y);
   }
     where
       in_order_first : (fs : List (Option Fact)) (q l : ℕ) → slice_get (links_in_order fs) q ≡ Some l → HasFirst fs q l
-      in_order_first [] q l h = absurd (nothing q h)
-        where
-          nothing : (k : ℕ) → slice_get {X = ℕ} [] k ≡ Some l → ⊥
-          nothing zero e = cc
-          nothing (suc k) e = cc
+      in_order_first [] q l h = absurd (let w : q < length {A = ℕ} [] = slice_get_within [] q l h in omega arith)
       in_order_first (None ∷ fs) zero l h = absurd (cc)
       in_order_first (None ∷ fs) (suc q) l h = absurd (cc)
       in_order_first (Some f ∷ fs) zero l h = record { fact = f; kept = refl; link = cc }
@@ -211,13 +206,9 @@ keeps_none shape i none l m s t e f a b = let some : 0 < links_of shape i = some
 
 pub order_none : (shape : Shape) (i : ℕ) → links_of shape i ≡ 0 → IsOrder shape i []
 order_none shape i none = record {
-  listed = λ q l h. absurd (nothing q l h);
+  listed = λ q l h. absurd (let w : q < length {A = ℕ} [] = slice_get_within [] q l h in omega arith);
   all = λ q l h y. absurd (omega arith);
 }
-  where
-    nothing : (k l : ℕ) → slice_get {X = ℕ} [] k ≡ Some l → ⊥
-    nothing zero l e = cc
-    nothing (suc k) l e = cc
 
 -- the first part that has no order
 pub breaks_there : (shape : Shape) (i : ℕ) (fault : Stop RuleFault) → ((j : ℕ) → j < i → KeepsPlaces shape j) → Tells (IsBrokenOrder shape i) fault → Tells (BreaksCyclic shape) fault

@@ -1,12 +1,6 @@
 -- The steps of a node, group by group.
-use Rattle.std.proofs.Common.{◌≡◌, ℕ, zero, suc, ◌+◌, ◌<◌, ◌≤◌, inl, inr, Bool, true, false, ◌||◌, nat_eq, IsTrue, List, [], ◌∷◌, ◌++◌, length, get_or, take, refl, sym, ap, subst, ◌∙◌, arith, eq-eqb}
-use Rattle.std.specs.Prelude.{map}
+use Rattle.determinise.proofs.Prelude.{◌≡◌, ℕ, zero, suc, ◌+◌, ◌<◌, ◌≤◌, inl, inr, Bool, true, false, ◌||◌, nat_eq, IsTrue, List, [], ◌∷◌, ◌++◌, length, get_or, take, refl, sym, ap, subst, ◌∙◌, arith, eq-eqb, map, cases_lt, cases_Bool, eqb-true, false≢true, or_left, or_right, cond-true, cond-false, take_all, get_or_append_left, length-append, get_or-append_seam, RawTable, is_possible, target, targets_of_steps, MeetsInOrder, has_event, IsNextSet, set_at, AreMoreSets, IsSomeNextSet, LeadsToSet, AreNodeSteps, IsSilentClosure}
 use Rattle.std.specs.List.Sorted.{IsStrictlyIncreasing}
-use Rattle.csp_base.proofs.Standard.{cases_lt, cases_Bool, eqb-true, false≢true, or_left, or_right, cond-true, cond-false, take_all, get_or_append_left, length-append, get_or-append_seam}
-use Rattle.csp_tables.specs.Prelude.{RawTable, is_possible, target, targets_of_steps, MeetsInOrder}
-use Rattle.term_sets.specs.Moves.{has_event, IsNextSet}
-use Rattle.determinise.specs.Progress.{set_at, AreMoreSets, IsSomeNextSet, LeadsToSet, AreNodeSteps}
-use Rattle.term_sets.specs.TermSets.{IsSilentClosure}
 use Rattle.determinise.proofs.Groups.{IsGroup, event_at, group_targets, event_place, events_more, next_of_group, some_next}
 use Rattle.determinise.proofs.MoreSets.{no_more, more_then_more, more_of_kind, meets_then}
 

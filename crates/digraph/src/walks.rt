@@ -1,13 +1,13 @@
 //! The longest walks of a digraph, or a circle where they have no end.
 
 ghost use Rattle.std.specs.Prelude.{◌≡◌, ℕ, ◌+◌, ◌-◌, ◌<◌, ◌≤◌, ◌↔◌, List, [], true, false, length, map, max, slice_index, All, IfOk, OnOk};
-ghost use Rattle.circles.specs.Turn.{IsTurnedFrom};
+ghost use Rattle.digraph.specs.Turn.{IsTurnedFrom};
 ghost use Rattle.digraph.specs.Prelude.{targets_of, HasArc, InRange, IsLongestWalk, AreHeights, HasNoCircle, IsLeastCircle, IsSearch, IsStep, height_of, mark_at};
 
+use crate::circle::circle_from;
 use crate::fault::Fault;
 use crate::heights::Heights;
 use crate::rows::Rows;
-use circles::circle_from;
 use std::alloc::{AllocError, Global};
 
 // How far the search is with a vertex.

@@ -1,11 +1,6 @@
 -- What is counted of events, while components offer more or fewer.
-use Rattle.std.proofs.Common.{◌≡◌, ℕ, zero, suc, ◌+◌, ◌-◌, ◌<◌, ◌≤◌, inl, inr, Bool, true, false, not, ◌&&◌, ◌||◌, nat_eq, IsTrue, List, [], ◌∷◌, length, replicate, set, get_or, refl, sym, ap, subst, ◌∙◌, arith}
-use Rattle.std.specs.List.Sorted.{IsStrictlyIncreasing}
-use Rattle.csp_base.proofs.Standard.{cases_eq, eq-eqb, ne_eqb, or_left, or_right, get_or-set_other, get_or-set_same}
+use Rattle.numbered_walks.proofs.Prelude.{◌≡◌, ℕ, zero, suc, ◌+◌, ◌-◌, ◌<◌, ◌≤◌, inl, inr, Bool, true, false, not, ◌&&◌, ◌||◌, nat_eq, IsTrue, List, [], ◌∷◌, length, replicate, set, get_or, refl, sym, ap, subst, ◌∙◌, arith, IsStrictlyIncreasing, cases_eq, eq-eqb, ne_eqb, or_left, or_right, get_or-set_other, get_or-set_same, RisesFrom, has_below, rises_from_increasing, has, bit, is_agreed}
 use Rattle.numbered_walks.proofs.Counting.{none_at}
-use Rattle.csp_base.proofs.Rising.{RisesFrom, has_below, rises_from_increasing}
-use Rattle.csp_base.specs.Members.{has}
-use Rattle.numbered_walks.specs.Prelude.{bit, is_agreed}
 
 -- what is not 0 is within
 pub some_within : (xs : List ℕ) (i : ℕ) → 1 ≤ get_or xs i 0 → i < length xs
@@ -114,8 +109,3 @@ taken_apart true true = refl
 taken_apart true false = refl
 taken_apart false true = refl
 taken_apart false false = refl
-
-pub fewer_apart : (a b : Bool) → bit (a && not b) ≤ bit a
-fewer_apart true true = omega arith
-fewer_apart true false = omega arith
-fewer_apart false b = omega arith

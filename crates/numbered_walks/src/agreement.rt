@@ -15,21 +15,11 @@ use std::alloc::Global;
 const FEW_BLOCKS: usize = 2;
 
 /// For each event how many components have it, and how many of them offer it now; marked are the events that all of them offer.
+#[derive(Drop)]
 pub(crate) struct Agreement {
     owners: Vec<usize>,
     offering: Vec<usize>,
     agreed: CountedMarks,
-}
-
-// By hand, so that a function that ends one calls this and proves no end of its own.
-impl Drop for Agreement {
-    fn drop(self) {
-        let Agreement {
-            owners: _owners,
-            offering: _offering,
-            agreed: _agreed,
-        } = self;
-    }
 }
 
 // How many owners each event has.

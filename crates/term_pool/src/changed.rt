@@ -2,10 +2,7 @@
 
 ghost use Rattle.std.specs.Prelude.{◌≡◌, ◌<◌, length, map, slice_get, IfOk, Some};
 ghost use Rattle.csp_program.specs.Substitution.{expr_with, fields_with, gens_with, given_by, head_with, pair_with, past};
-ghost use Rattle.term_pool.specs.Entries.{arguments_at, choice_at, entry_layer, expr_at, fields_at, gens_at, head_at, pairs_at, Fits, PartsStart};
-ghost use Rattle.term_pool.specs.First.{node_with_first, other_first};
-ghost use Rattle.term_pool.specs.Moved.{id_or, moved};
-ghost use Rattle.term_pool.specs.Substituted.{own_with};
+ghost use Rattle.term_pool.specs.Prelude.{arguments_at, choice_at, entry_layer, expr_at, fields_at, gens_at, head_at, pairs_at, Fits, PartsStart, node_with_first, other_first, id_or, moved, own_with};
 
 use crate::entry::Entry;
 use crate::own_parts::{OwnParts, keep_choice};

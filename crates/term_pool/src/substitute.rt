@@ -3,10 +3,7 @@
 ghost use Rattle.std.specs.Prelude.{◌≡◌, ◌<◌, [], ◌∷◌, true, length, map, nat_eq, slice_get, IfOk, OnOk, OnErr, Some};
 ghost use Rattle.std.specs.HashMap.{get, IsUnchanged, Updates};
 ghost use Rattle.csp_program.specs.Substitution.{given_by, proc_with};
-ghost use Rattle.term_pool.specs.Pooled.{parts};
-ghost use Rattle.term_pool.specs.Put.{Grows, StandAt};
-ghost use Rattle.term_pool.specs.Substituted.{all_with, AreMade};
-ghost use Rattle.term_pool.specs.Trees.{all_below, tree_at};
+ghost use Rattle.term_pool.specs.Prelude.{parts, Grows, StandAt, all_with, AreMade, all_below, tree_at};
 
 use crate::pool::Pool;
 use crate::under::{left_at, places_of};

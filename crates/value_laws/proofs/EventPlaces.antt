@@ -1,22 +1,9 @@
 -- The events that begin with a row, by their places.
-use Rattle.std.proofs.Common.{◌≡◌, ℕ, zero, suc, ◌+◌, ◌*◌, ◌<◌, ◌≤◌, Bool, true, false, cond, nat_eq, IsTrue, Option, Some, None, Ok, Err, List, [], ◌∷◌, ◌++◌, map, length, drop, take, refl, sym, ◌∙◌, ap, subst, arith}
-use Rattle.std.specs.Prelude.{slice_get}
-use Rattle.csp_base.proofs.Standard.{eqb-true, false≢true, append-nil, length-append, slice_get_within}
-use Rattle.csp_atoms.specs.Prelude.{same}
-use Rattle.csp_atoms.specs.declared.atom.Atom.{Atom}
-use Rattle.csp_atoms.specs.declared.value.Value.{Value}
-use Rattle.csp_atoms.specs.declared.value.Value.TheVariants.{One}
-use Rattle.csp_atoms.proofs.OrderLaws.{same_exact, same_itself}
-use Rattle.csp_base.proofs.Booleans.{is_first, is_second}
-use Rattle.csp_program.specs.Prelude.{event_count, first_event, row_count, begins, begins_with, channel_events, event_of, event_table, events_from_channel, events_with, places_from, rows, Outcome, and_then, Env, Meaning, front_events, one_event, row_in, row_of, sets_of}
-use Rattle.csp_program.specs.declared.programs.Channel.{Channel}
-use Rattle.csp_program.specs.declared.programs.EventInfo.{EventInfo}
-use Rattle.value_laws.specs.Prelude.{HasSets, HaveValues, StandsAt, computed_number, ChannelsFit, EventsAreFound, events_each, fields_number, first_of, front_count, front_number, span}
+use Rattle.value_laws.proofs.Prelude.{◌≡◌, ℕ, zero, suc, ◌+◌, ◌*◌, ◌<◌, ◌≤◌, Bool, true, false, cond, nat_eq, IsTrue, Option, Some, None, Ok, Err, List, [], ◌∷◌, ◌++◌, map, length, drop, take, refl, sym, ◌∙◌, ap, subst, arith, slice_get, eqb-true, false≢true, append-nil, length-append, slice_get_within, same, Atom, Value, One, same_exact, same_itself, is_first, is_second, event_count, first_event, row_count, begins, begins_with, channel_events, event_of, event_table, events_from_channel, events_with, places_from, rows, Outcome, and_then, Env, Meaning, front_events, one_event, row_in, row_of, sets_of, Channel, EventInfo, HasSets, HaveValues, StandsAt, computed_number, ChannelsFit, EventsAreFound, events_each, fields_number, first_of, front_count, front_number, span, came_through}
 use Rattle.value_laws.proofs.Lists.{same_outcome}
 use Rattle.value_laws.proofs.RowNumbers.{Numbered, length-rows, no_fields, numbered, placed, refused}
 use Rattle.value_laws.proofs.TablePlaces.{beginners_back, beginners_forth, length-channel_events, of_table, same_values, summed_number, to_computed}
 use Rattle.csp_atoms.specs.declared.atom.Atom.TheVariants as atom
-use Rattle.csp_program.proofs.Outcomes.{came_through}
 
 -- ---- what begins with a row
 

@@ -1,22 +1,7 @@
 -- What the walk over all bindings gathers.
-use Rattle.std.proofs.Common.{◌≡◌, ◌+◌, ◌≤◌, ◌⊎◌, Bool, true, false, cond, IsTrue, Ok, Err, List, [], ◌∷◌, length, refl, sym, ◌∙◌, ap, subst, inl, inr, arith}
-use Rattle.std.specs.Prelude.{◌↔◌, nat_le, nat_lt}
-use Rattle.std.proofs.lemmas.Bool.{false≢true, leb-true, or_cases}
-use Rattle.csp_atoms.specs.Prelude.{same, fits, has_atom, with_atom}
-use Rattle.csp_atoms.specs.declared.atom.Atom.{Atom}
-use Rattle.csp_atoms.specs.declared.value.Value.{Value}
-use Rattle.csp_atoms.specs.declared.value.Value.TheVariants.{One, Many}
-use Rattle.csp_atoms.proofs.MemberLaws.{has-with_atom}
-use Rattle.csp_atoms.proofs.OrderLaws.{same_exact, same_itself}
-use Rattle.csp_atoms.proofs.SetLaws.{IsAtomSet-with_atom}
-use Rattle.csp_program.specs.Prelude.{added, limited, Outcome, and_then, Env, Gathered, Meaning, Turn, as_atom, comprehension, gathered, items_added, over, as_set, truth, as_truth, walked}
-use Rattle.csp_program.specs.declared.kinds.ValueKind.{ValueKind}
-use Rattle.csp_program.specs.declared.kinds.ValueKind.TheVariants.{Kind, SetLimit}
-use Rattle.value_laws.specs.Bindings.{IsBinding, IsItem, IsSetValue}
+use Rattle.value_laws.proofs.Prelude.{◌≡◌, ◌+◌, ◌≤◌, ◌⊎◌, Bool, true, false, cond, IsTrue, Ok, Err, List, [], ◌∷◌, length, refl, sym, ◌∙◌, ap, subst, inl, inr, arith, ◌↔◌, nat_le, nat_lt, false≢true, leb-true, or_cases, same, fits, has_atom, with_atom, Atom, Value, One, Many, has-with_atom, same_exact, same_itself, IsAtomSet-with_atom, added, limited, Outcome, and_then, Env, Gathered, Meaning, Turn, as_atom, comprehension, gathered, items_added, over, as_set, truth, as_truth, walked, ValueKind, Kind, SetLimit, IsBinding, IsItem, IsSetValue, is_or_first, is_or_second, came_through}
 use Rattle.value_laws.proofs.Lists.{same_outcome}
 use Rattle.csp_atoms.specs.declared.atom.Atom.TheVariants as atom
-use Rattle.csp_base.proofs.Booleans.{is_or_first, is_or_second}
-use Rattle.csp_program.proofs.Outcomes.{came_through}
 
 -- ---- kinds that were found
 

@@ -1,6 +1,4 @@
-use Rattle.std.proofs.Common.{◌-◌, ◌≤◌, length}
-use Rattle.determinise.specs.Known.{IsReady}
-use Rattle.determinise.specs.Progress.{AreNodesSoFar, AreReachedSets}
+use Rattle.determinise.proofs.Prelude.{◌-◌, ◌≤◌, length, IsReady, AreNodesSoFar, AreReachedSets}
 use Rattle.determinise.proofs.explore.explore.Given as goal
 
 abbrev pub invariant-loop-alloc : goal.invariant-loop-alloc
