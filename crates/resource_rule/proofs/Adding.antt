@@ -1,10 +1,6 @@
 -- Arcs that are added: none, those that pass a test, and those of one number after the other.
-use Rattle.std.proofs.Common.{◌≡◌, ◌<◌, ◌+◌, ◌||◌, ◌&&◌, inl, inr, ℕ, zero, suc, List, [], Bool, true, false, nat_eq, replicate, get_or, length, refl, sym, ap, subst, ◌∙◌, arith}
-use Rattle.csp_base.proofs.Standard.{cases_eq, cases_lt, false≢true, get_or_read, ne_eqb, or-false, or_cases, or_left, or_right}
-use Rattle.csp_base.specs.Prelude.{has, is_subset_of}
-use Rattle.digraph.specs.Prelude.{has_arc}
+use Rattle.resource_rule.proofs.Prelude.{◌≡◌, ◌<◌, ◌+◌, ◌||◌, ◌&&◌, inl, inr, ℕ, zero, suc, List, [], Bool, true, false, nat_eq, replicate, get_or, length, refl, sym, ap, subst, ◌∙◌, arith, cases_eq, cases_lt, false≢true, get_or_read, ne_eqb, or-false, or_cases, or_left, or_right, has, is_subset_of, has_arc, AddsArcs, Below}
 use Rattle.resource_rule.proofs.Offering.{absorbed}
-use Rattle.resource_rule.specs.Holdings.{AddsArcs, Below}
 
 -- there is no arc at first
 pub no_arc : (n j m : ℕ) → has_arc (replicate n []) j m ≡ true → ⊥

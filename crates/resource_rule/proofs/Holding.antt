@@ -1,25 +1,9 @@
 -- Which resources users hold while they offer to acquire others: as sets of links, and as arcs.
-use Rattle.std.proofs.Common.{◌≡◌, ◌<◌, ◌≤◌, ◌&&◌, ◌||◌, ◌∙◌, ℕ, List, [], ◌∷◌, true, false, not, IsTrue, length, get_or, replicate, nat_eq, inl, inr, ap, refl, sym, subst, arith, eq-eqb, eqb-true}
-use Rattle.std.specs.List.{list_any}
-use Rattle.csp_base.proofs.Listed.{any_of, any_member}
-use Rattle.csp_base.proofs.Standard.{and_from, and_parts, cases_Bool, cases_lt, cond-false, cond-true, false≢true, get_or_from_slice_get, not-false, or_cases, or_left, slice_get_within}
-use Rattle.csp_base.specs.Prelude.{has}
-use Rattle.csp_tables.specs.Prelude.{IsWellFormed, Joins, Link, TripleDisjoint, accepted, alphabets_of, end_of, is_end, link_at, part_at, use_at}
+use Rattle.resource_rule.proofs.Prelude.{◌≡◌, ◌<◌, ◌≤◌, ◌&&◌, ◌||◌, ◌∙◌, ℕ, List, [], ◌∷◌, true, false, not, IsTrue, length, get_or, replicate, nat_eq, inl, inr, ap, refl, sym, subst, arith, eq-eqb, eqb-true, list_any, any_of, any_member, and_from, and_parts, cases_Bool, cases_lt, cond-false, cond-true, false≢true, get_or_from_slice_get, not-false, or_cases, or_left, slice_get_within, has, IsWellFormed, Joins, Link, TripleDisjoint, accepted, alphabets_of, end_of, is_end, link_at, part_at, use_at, end_within, first_end, IsHeldWhile, holds, part_form, HasArc, has_arc, AddsArcs, AreHeld, Below, HoldsWhile, LeadsToHeld, LeadsToSome, OffersWhile, is_acquiring, resource_of, IsOfferedHolding, WatchesLink, is_offered, is_offered_at, Found, ends_complete, ends_sound, link_past, place_in, ends_of, IsUser, KeepKinds, Setting, node_of}
 use Rattle.design_rules.proofs.Accepting.{at_place}
-use Rattle.design_rules.proofs.Runs.{end_within}
-use Rattle.design_rules.proofs.Shapes.{first_end}
-use Rattle.design_rules.specs.Resource.{IsHeldWhile, holds}
-use Rattle.net_sound.proofs.Within.{part_form}
-use Rattle.digraph.specs.Prelude.{HasArc, has_arc}
 use Rattle.resource_rule.proofs.Adding.{adds_tested, no_arc}
 use Rattle.resource_rule.proofs.Offering.{offer_complete, offer_sound, offered_complete, offered_sound}
-use Rattle.resource_rule.specs.Holdings.{AddsArcs, AreHeld, Below, HoldsWhile, LeadsToHeld, LeadsToSome, OffersWhile, is_acquiring, resource_of}
-use Rattle.resource_rule.specs.Uses.{IsOfferedHolding, WatchesLink, is_offered, is_offered_at}
-use Rattle.observed_runs.specs.Prelude.{Found}
 use Rattle.shape_links.proofs.Acquiring.{acquired_link, is_part}
-use Rattle.shape_links.proofs.Links.{ends_complete, ends_sound, link_past, place_in}
-use Rattle.shape_links.specs.Links.{ends_of}
-use Rattle.shape_links.specs.Setting.{IsUser, KeepKinds, Setting, node_of}
 
 -- ---- the resource of a link
 

@@ -1,21 +1,9 @@
 -- U4, where the nodes of a user tell what it holds there.
-use Rattle.std.proofs.Common.{◌≡◌, ◌<◌, ◌&&◌, ◌∙◌, ℕ, List, [], true, cond, length, get_or, ap, sym, subst}
-use Rattle.csp_base.specs.Prelude.{has}
-use Rattle.csp_tables.specs.Prelude.{IsRun, IsWellFormed, Shape, end_of, is_possible, link_at, part_at, use_at}
-use Rattle.design_rules.specs.Prelude.{count_in, holds, is_odd}
-use Rattle.design_rules.specs.Resource.{UsesInTurn}
-use Rattle.design_rules.proofs.Runs.{end_within}
-use Rattle.design_rules.proofs.Shapes.{link_shared}
-use Rattle.net_sound.proofs.Within.{part_form}
+use Rattle.resource_rule.proofs.Prelude.{◌≡◌, ◌<◌, ◌&&◌, ◌∙◌, ℕ, List, [], true, cond, length, get_or, ap, sym, subst, has, IsRun, IsWellFormed, Shape, end_of, is_possible, link_at, part_at, use_at, count_in, is_odd, UsesInTurn, end_within, link_shared, part_form, AreEnough, pair_at, end_place, has_place, ends_of, Setting, node_of, AreHeld, IsInTurn}
+use Rattle.design_rules.specs.Prelude.{holds}
 use Rattle.observed_runs.proofs.Leading.{listed_step}
-use Rattle.observed_runs.specs.Prelude.{AreEnough, pair_at}
-use Rattle.shape_links.proofs.Links.{end_place, has_place}
-use Rattle.shape_links.specs.Links.{ends_of}
 use Rattle.shape_links.specs.OddLinks.{AreOddLinks}
 use Rattle.shape_links.specs.declared.component.Component.{Component}
-use Rattle.shape_links.specs.Setting.{Setting, node_of}
-use Rattle.resource_rule.specs.Holdings.{AreHeld}
-use Rattle.resource_rule.specs.Uses.{IsInTurn}
 
 module _ (g : Setting) (i : ℕ) (w : IsWellFormed g.shape) where
   -- enough of a node's steps show that each event is in turn
@@ -27,8 +15,8 @@ module _ (g : Setting) (i : ℕ) (w : IsWellFormed g.shape) where
       subst (IsInTurn g i held) (ap (λ (p : ℕ × ℕ). p.0) k.is ∙ s.event) (each k.place k.within) j l joins on
 
   -- after each run, by the links on which the part holds a resource at the run's node
-  pub told_turns : (held : List (List ℕ)) → i < length g.shape.parts → AreHeld g i held → ((n e : ℕ) → n < length held → is_possible (node_of g i n).next e ≡ true → IsInTurn g i (get_or held n []) e) → (s : List ℕ) → UsesInTurn g.shape g.uses i s
-  told_turns held h are turns s j l e joins possible on =
+  pub turns_at_nodes : (held : List (List ℕ)) → i < length g.shape.parts → AreHeld g i held → ((n e : ℕ) → n < length held → is_possible (node_of g i n).next e ≡ true → IsInTurn g i (get_or held n []) e) → (s : List ℕ) → UsesInTurn g.shape g.uses i s
+  turns_at_nodes held h are turns s j l e joins possible on =
       let n = end_of (part_at g.shape.parts i).table 0 s in
       let place = end_place g.shape i j l joins in
       let mine = has_place (ends_of g.shape i) place.0 l place.2 in

@@ -1,18 +1,7 @@
 -- What a user offers while it holds a resource.
-use Rattle.std.proofs.Common.{◌≡◌, ℕ, suc, ◌<◌, inl, inr, List, [], ◌∷◌, length, Bool, true, false, ◌&&◌, ◌||◌, cond, nat_eq, refl, sym, subst, ◌∙◌, arith, eq-eqb}
-use Rattle.std.specs.List.{list_any}
+use Rattle.resource_rule.proofs.Prelude.{◌≡◌, ℕ, suc, ◌<◌, inl, inr, List, [], ◌∷◌, length, Bool, true, false, ◌&&◌, ◌||◌, cond, nat_eq, refl, sym, subst, ◌∙◌, arith, eq-eqb, list_any, cases_Bool, cond-true, and_parts, and_from, or_cases, or_left, eqb-true, false≢true, list_any_at, has, is_subset_of, IsRun, IsWellFormed, acceptances_after, accepted, end_of, part_at, end_within, holds, part_form, pair_at, Found, any_at, HaveNodes, is_offered, is_offered_at, WatchesLink, IsOfferedHolding, Setting, node_of}
 use Rattle.csp_base.proofs.Rising.{member_of_superset, is_subset_of_from_members}
-use Rattle.csp_base.proofs.Standard.{cases_Bool, cond-true, and_parts, and_from, or_cases, or_left, eqb-true, false≢true, list_any_at}
-use Rattle.csp_base.specs.Prelude.{has, is_subset_of}
-use Rattle.csp_tables.specs.Prelude.{IsRun, IsWellFormed, acceptances_after, accepted, end_of, part_at}
-use Rattle.design_rules.proofs.Runs.{end_within}
-use Rattle.design_rules.specs.Resource.{holds}
-use Rattle.net_sound.proofs.Within.{part_form}
-use Rattle.observed_runs.specs.Prelude.{pair_at, Found}
-use Rattle.resource_conditions.proofs.Sets.{any_at}
 use Rattle.resource_rule.proofs.Using.{parity_is}
-use Rattle.resource_rule.specs.Uses.{HaveNodes, is_offered, is_offered_at, WatchesLink, IsOfferedHolding}
-use Rattle.shape_links.specs.Setting.{Setting, node_of}
 
 -- ---- events that are collected
 

@@ -9,9 +9,9 @@ ghost use Rattle.resource_rule.specs.Uses.{WatchesLink};
 ghost use Rattle.shape_links.specs.Setting.{IsUser, KeepKinds};
 
 use crate::arcs::resource_arcs;
-use crate::offers::{node_offers, offered};
+use crate::offers::{node_offers, pair_offers};
 use crate::sets::{add_held, empty_sets};
-use crate::told::held_links;
+use crate::nodes::held_links;
 use csp_base::{Event, EventSet, NoMemory};
 use digraph::Rows;
 use observed_runs::{Explored, Parity};
@@ -133,7 +133,7 @@ fn add_link(
 {
     let _form = setting.shape();
     let explored = link_explored(alloc, setting, part, link)?;
-    let offers = offered(alloc, setting, part, explored.pairs())?;
+    let offers = pair_offers(alloc, setting, part, explored.pairs())?;
     let held = EventSet::from_events(alloc, &[Event(link)])?;
     add_held(alloc, setting, &offers, &held, sets)
 }

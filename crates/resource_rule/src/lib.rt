@@ -3,11 +3,11 @@
 
 mod arcs;
 mod holdings;
+mod nodes;
 mod numbers;
 mod offers;
 mod rule;
 mod sets;
-mod told;
 mod users;
 
 pub use rule::resource;

@@ -11,7 +11,7 @@ use shape_links::Setting;
 use std::alloc::Global;
 
 // The events of the acceptances in the vocabulary at the pairs with the state 1.
-pub(crate) fn offered(
+pub(crate) fn pair_offers(
     alloc: Global,
     setting: &Setting<'_>,
     part: u32,

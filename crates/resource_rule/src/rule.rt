@@ -29,11 +29,11 @@ pub fn resource(alloc: Global, shape: &Shape, uses: &[UseSets]) -> Result<Rankin
     ensures fault { IfErr result (Tells (BreaksResource shape.now uses.now)) }
 {
     let setting = Setting::new(alloc, shape, uses)?;
-    ranked(alloc, &setting)
+    setting_ranking(alloc, &setting)
 }
 
 // The same of a shape that is sorted out, with its resources.
-fn ranked(alloc: Global, setting: &Setting<'_>) -> Result<Ranking, Stop<RuleFault>>
+fn setting_ranking(alloc: Global, setting: &Setting<'_>) -> Result<Ranking, Stop<RuleFault>>
     ensures resource { OnOk result (IsResource setting.now.shape setting.now.uses) }
     ensures ranking { IfOk result (λ ranking. IsResourceRanking setting.now.shape setting.now.uses ranking) }
     ensures fault { IfErr result (Tells (Breaks setting.now)) }

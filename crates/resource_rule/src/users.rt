@@ -10,7 +10,7 @@ ghost use Rattle.resource_conditions.specs.Setting.{Breaks, KeepGrants, KeepTurn
 ghost use Rattle.resource_rule.specs.Uses.{UsesLink, are_uses, is_use};
 ghost use Rattle.shape_links.specs.Setting.{IsUser, KeepKinds};
 
-use crate::told::uses_are_told;
+use crate::nodes::turns_by_nodes;
 use csp_base::{Event, NoMemory, Stop, Trace};
 use design_rules::{Condition, RuleFault};
 use observed_runs::Parity;
@@ -53,8 +53,8 @@ fn broken_use(alloc: Global, setting: &Setting<'_>, part: u32) -> Result<Option<
     requires { part < length setting.now.shape.parts }
     ensures { IfOk result (FindsRun setting.now.shape part (UsesInTurn setting.now.shape setting.now.uses part)) }
 {
-    let told = uses_are_told(alloc, setting, part)?;
-    if told {
+    let in_turn = turns_by_nodes(alloc, setting, part)?;
+    if in_turn {
         return Ok(None);
     }
     let component = setting.component(part);

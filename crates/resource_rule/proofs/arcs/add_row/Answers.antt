@@ -1,11 +1,5 @@
-use Rattle.std.proofs.Common.{◌≡◌, ◌∙◌, ◌||◌, ◌&&◌, ℕ, List, nat_eq, subst, sym, true}
-use Rattle.std.specs.List.{list_any}
-use Rattle.csp_base.proofs.Listed.{has_first}
-use Rattle.csp_base.proofs.Standard.{or_right}
-use Rattle.csp_base.specs.Prelude.{has}
-use Rattle.digraph.specs.Prelude.{has_arc}
+use Rattle.resource_rule.proofs.Prelude.{◌≡◌, ◌∙◌, ◌||◌, ◌&&◌, ℕ, List, nat_eq, subst, sym, true, list_any, has_first, or_right, has, has_arc, resource_of}
 use Rattle.resource_rule.proofs.Adding.{one_more_test}
-use Rattle.resource_rule.specs.Holdings.{resource_of}
 use Rattle.resource_rule.proofs.arcs.add_row.Goals as goal
 
 pub add_arc-requires-clause-link : goal.add_arc-requires-clause-link

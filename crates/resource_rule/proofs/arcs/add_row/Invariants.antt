@@ -1,8 +1,4 @@
-use Rattle.std.proofs.Common.{◌≡◌, ◌<◌, ◌||◌, ◌&&◌, ℕ, IsTrue, length, nat_eq}
-use Rattle.std.specs.List.{list_any}
-use Rattle.csp_base.specs.Members.{has}
-use Rattle.digraph.specs.Prelude.{has_arc}
-use Rattle.resource_rule.specs.Holdings.{resource_of}
+use Rattle.resource_rule.proofs.Prelude.{◌≡◌, ◌<◌, ◌||◌, ◌&&◌, ℕ, IsTrue, length, nat_eq, list_any, has, has_arc, resource_of}
 use Rattle.resource_rule.proofs.arcs.add_row.Given as goal
 
 abbrev pub invariant-loop-event : goal.invariant-loop-event

@@ -1,10 +1,6 @@
-use Rattle.std.proofs.Common.{◌≡◌, ◌<◌, ◌∙◌, ℕ, List, [], ap, get_or, length, replicate, subst, true, arith}
-use Rattle.csp_base.proofs.Standard.{get_or_read}
-use Rattle.csp_base.specs.Prelude.{has}
-use Rattle.csp_tables.specs.Prelude.{Link, Shape}
+use Rattle.resource_rule.proofs.Prelude.{◌≡◌, ◌<◌, ◌∙◌, ℕ, List, [], ap, get_or, length, replicate, subst, true, arith, get_or_read, has, Link, Shape, AddsArcs, LeadsToHeld}
 use Rattle.resource_rule.proofs.Adding.{adds_more}
 use Rattle.resource_rule.proofs.Holding.{row_adds}
-use Rattle.resource_rule.specs.Holdings.{AddsArcs, LeadsToHeld}
 use Rattle.resource_rule.proofs.arcs.resource_arcs.Goals as goal
 
 pub add_row-requires-clause-within : goal.add_row-requires-clause-within

@@ -1,5 +1,4 @@
-use Rattle.std.proofs.Common.{[], get_or, length, replicate}
-use Rattle.resource_rule.specs.Holdings.{AddsArcs, Below, LeadsToHeld}
+use Rattle.resource_rule.proofs.Prelude.{[], get_or, length, replicate, AddsArcs, Below, LeadsToHeld}
 use Rattle.resource_rule.proofs.arcs.resource_arcs.Given as goal
 
 abbrev pub invariant-loop-link : goal.invariant-loop-link

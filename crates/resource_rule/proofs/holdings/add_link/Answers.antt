@@ -1,16 +1,11 @@
-use Rattle.std.proofs.Common.{◌≡◌, ◌∙◌, ◌&&◌, ℕ, List, ap, sym, subst}
-use Rattle.std.specs.List.{list_any}
-use Rattle.std.proofs.lemmas.Result.{IfOk-weaker}
-use Rattle.csp_base.specs.Prelude.{has}
+use Rattle.resource_rule.proofs.Prelude.{◌≡◌, ◌∙◌, ◌&&◌, ℕ, List, ap, sym, subst, list_any, IfOk-weaker, has, HoldsWhile, is_acquiring, HaveNodes, is_offered_at}
 use Rattle.resource_rule.proofs.Adding.{adds_tested}
 use Rattle.resource_rule.proofs.Holding.{link_complete, link_sound}
 use Rattle.resource_rule.proofs.Offering.{have_nodes}
-use Rattle.resource_rule.specs.Holdings.{HoldsWhile, is_acquiring}
-use Rattle.resource_rule.specs.Uses.{HaveNodes, is_offered_at}
 use Rattle.resource_rule.proofs.holdings.add_link.Goals as goal
 
-pub offered-requires-clause-nodes : goal.offered-requires-clause-nodes
-offered-requires-clause-nodes c =
+pub pair_offers-requires-clause-nodes : goal.pair_offers-requires-clause-nodes
+pair_offers-requires-clause-nodes c =
     let g = c.args.setting.now in
     subst (HaveNodes g c.args.part) (sym c.pairs.ensures) (have_nodes g c.args.part c.args.link c.in_ok-explored.explored c.shape-form.ensures.form c.requires.part c.in_ok-explored.ensures)
 

@@ -1,10 +1,6 @@
-use Rattle.std.proofs.Common.{◌≡◌, ◌<◌, ◌≤◌, ◌∙◌, ℕ, List, get_or, length, ap, subst, arith}
-use Rattle.csp_tables.specs.Prelude.{Shape}
+use Rattle.resource_rule.proofs.Prelude.{◌≡◌, ◌<◌, ◌≤◌, ◌∙◌, ℕ, List, get_or, length, ap, subst, arith, Shape, AddsArcs, Below, HoldsWhile, ends_of, end_here}
 use Rattle.resource_rule.proofs.Adding.{adds_alike, adds_below_none, adds_more}
 use Rattle.resource_rule.proofs.Holding.{place_of_end}
-use Rattle.resource_rule.specs.Holdings.{AddsArcs, Below, HoldsWhile}
-use Rattle.shape_links.specs.Links.{ends_of}
-use Rattle.shape_links.proofs.Links.{end_here}
 use Rattle.resource_rule.proofs.holdings.add_links.Goals as goal
 
 pub add_link-requires-clause-link : goal.add_link-requires-clause-link

@@ -1,6 +1,4 @@
-use Rattle.std.proofs.Common.{◌≡◌, get_or}
-use Rattle.resource_rule.specs.Holdings.{AddsArcs, Below, HoldsWhile}
-use Rattle.shape_links.specs.Links.{ends_of}
+use Rattle.resource_rule.proofs.Prelude.{◌≡◌, get_or, AddsArcs, Below, HoldsWhile, ends_of}
 use Rattle.resource_rule.proofs.holdings.add_links.Given as goal
 
 abbrev pub invariant-loop-link : goal.invariant-loop-link

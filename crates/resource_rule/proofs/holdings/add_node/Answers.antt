@@ -1,11 +1,6 @@
-use Rattle.std.proofs.Common.{◌&&◌, List, ℕ, ap, sym, ◌∙◌}
-use Rattle.std.specs.List.{list_any}
-use Rattle.std.proofs.lemmas.Result.{IfOk-weaker}
-use Rattle.csp_base.proofs.Standard.{false≢true}
-use Rattle.csp_base.specs.Prelude.{has}
+use Rattle.resource_rule.proofs.Prelude.{◌&&◌, List, ℕ, ap, sym, ◌∙◌, list_any, IfOk-weaker, false≢true, has, OffersWhile, is_acquiring}
 use Rattle.resource_rule.proofs.Adding.{adds_none, adds_tested}
 use Rattle.resource_rule.proofs.Holding.{node_complete, node_sound}
-use Rattle.resource_rule.specs.Holdings.{OffersWhile, is_acquiring}
 use Rattle.resource_rule.proofs.holdings.add_node.Goals as goal
 
 pub returns-then-is_empty : goal.returns-then-is_empty

@@ -1,9 +1,6 @@
-use Rattle.std.proofs.Common.{◌<◌, ◌≤◌, [], ℕ, List, get_or, length, subst, arith}
-use Rattle.csp_base.proofs.Standard.{get_or_read}
-use Rattle.net_sound.proofs.Within.{part_form}
+use Rattle.resource_rule.proofs.Prelude.{◌<◌, ◌≤◌, [], ℕ, List, get_or, length, subst, arith, get_or_read, part_form, AddsArcs, Below, HoldsWhile, OffersWhile}
 use Rattle.resource_rule.proofs.Adding.{adds_alike, adds_below_none, adds_more}
 use Rattle.resource_rule.proofs.Holding.{nodes_complete, nodes_sound}
-use Rattle.resource_rule.specs.Holdings.{AddsArcs, Below, HoldsWhile, OffersWhile}
 use Rattle.resource_rule.proofs.holdings.add_nodes.Goals as goal
 
 pub overflow_cast-node : goal.overflow_cast-node

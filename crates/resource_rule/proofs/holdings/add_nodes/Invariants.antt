@@ -1,5 +1,4 @@
-use Rattle.std.proofs.Common.{[], get_or}
-use Rattle.resource_rule.specs.Holdings.{AddsArcs, Below, OffersWhile}
+use Rattle.resource_rule.proofs.Prelude.{[], get_or, AddsArcs, Below, OffersWhile}
 use Rattle.resource_rule.proofs.holdings.add_nodes.Given as goal
 
 abbrev pub invariant-loop-node : goal.invariant-loop-node

@@ -1,9 +1,5 @@
-use Rattle.std.proofs.Common.{◌∙◌, List, ℕ, ap, sym, subst}
-use Rattle.std.specs.Prelude.{IfSome}
-use Rattle.csp_base.proofs.Standard.{both_ways}
-use Rattle.csp_tables.specs.Prelude.{UseSets, use_at}
+use Rattle.resource_rule.proofs.Prelude.{◌∙◌, List, ℕ, ap, sym, subst, IfSome, both_ways, UseSets, use_at, AreHeld, HoldsWhile}
 use Rattle.resource_rule.proofs.Adding.{adds_none}
-use Rattle.resource_rule.specs.Holdings.{AreHeld, HoldsWhile}
 use Rattle.resource_rule.proofs.holdings.add_part.Goals as goal
 
 pub returns-then-is_resource : goal.returns-then-is_resource

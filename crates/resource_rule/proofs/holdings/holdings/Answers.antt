@@ -1,11 +1,7 @@
-use Rattle.std.proofs.Common.{◌<◌, ◌≤◌, ◌+◌, ◌∙◌, ℕ, [], List, ap, length, replicate, subst, sym, arith}
+use Rattle.resource_rule.proofs.Prelude.{◌<◌, ◌≤◌, ◌+◌, ◌∙◌, ℕ, [], List, ap, length, replicate, subst, sym, arith, IfOk-weaker, Link, Shape, HasArc, AddsArcs, Below, HoldsWhile, LeadsToSome}
 use Rattle.std.proofs.lemmas.List.{length-replicate, with_items_is}
-use Rattle.std.proofs.lemmas.Result.{IfOk-weaker}
-use Rattle.csp_tables.specs.Prelude.{Link, Shape}
-use Rattle.digraph.specs.Prelude.{HasArc}
 use Rattle.resource_rule.proofs.Adding.{adds_below_none, adds_more}
 use Rattle.resource_rule.proofs.Holding.{arcs_complete, arcs_sound, members_within}
-use Rattle.resource_rule.specs.Holdings.{AddsArcs, Below, HoldsWhile, LeadsToSome}
 use Rattle.resource_rule.proofs.holdings.holdings.Goals as goal
 
 pub loop-part-init : goal.loop-part-init

@@ -1,5 +1,4 @@
-use Rattle.std.proofs.Common.{[], length, replicate}
-use Rattle.resource_rule.specs.Holdings.{AddsArcs, Below, HoldsWhile}
+use Rattle.resource_rule.proofs.Prelude.{[], length, replicate, AddsArcs, Below, HoldsWhile}
 use Rattle.resource_rule.proofs.holdings.holdings.Given as goal
 
 abbrev pub invariant-loop-part : goal.invariant-loop-part

@@ -1,8 +1,5 @@
-use Rattle.std.proofs.Common.{◌≡◌, ◌∙◌, ℕ, List, ap, sym, subst}
+use Rattle.resource_rule.proofs.Prelude.{◌≡◌, ◌∙◌, ℕ, List, ap, sym, subst, part_at, Link, Shape, link_at, SeesOnly, AreFound, Found, IsExploration, parity_step, parity_only}
 use Rattle.csp_base.proofs.Results.{if_both}
-use Rattle.csp_tables.specs.Prelude.{part_at, Link, Shape, link_at}
-use Rattle.observed_runs.specs.Prelude.{SeesOnly, AreFound, Found, IsExploration, parity_step}
-use Rattle.shape_links.proofs.Watching.{parity_only}
 use Rattle.resource_rule.proofs.holdings.link_explored.Goals as goal
 
 pub explore-requires : goal.explore-requires

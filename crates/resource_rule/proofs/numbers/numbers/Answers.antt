@@ -1,8 +1,5 @@
-use Rattle.std.proofs.Common.{◌<◌, ℕ, List, length, ap, sym, subst, refl, arith, ◌≡◌, ◌∙◌, Err}
-use Rattle.std.specs.Prelude.{slice_index}
-use Rattle.digraph.specs.Prelude.{HasArc, IsLeastCircle}
+use Rattle.resource_rule.proofs.Prelude.{◌<◌, ℕ, List, length, ap, sym, subst, refl, arith, ◌≡◌, ◌∙◌, Err, slice_index, HasArc, IsLeastCircle, IsHeldWhile, StandsAbove}
 use Rattle.digraph.proofs.WalkLaws.{same_longest}
-use Rattle.design_rules.specs.Prelude.{IsHeldWhile, StandsAbove}
 use Rattle.shape_links.specs.Turned.{turned_circle}
 use Rattle.shape_links.proofs.Circles.{turned_least, circle_some}
 use Rattle.resource_rule.proofs.numbers.numbers.Goals as goal

@@ -1,8 +1,4 @@
-use Rattle.std.proofs.Common.{◌≡◌, ◌||◌, ◌&&◌, ℕ, length}
-use Rattle.std.specs.List.{list_any}
-use Rattle.csp_base.specs.Members.{has}
-use Rattle.digraph.specs.Prelude.{has_arc}
-use Rattle.resource_rule.specs.Holdings.{is_acquiring}
+use Rattle.resource_rule.proofs.Prelude.{◌≡◌, ◌||◌, ◌&&◌, ℕ, length, list_any, has, has_arc, is_acquiring}
 use Rattle.resource_rule.proofs.sets.add_held.Given as goal
 
 abbrev pub invariant-loop-event : goal.invariant-loop-event

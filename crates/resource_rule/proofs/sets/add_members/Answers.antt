@@ -1,5 +1,4 @@
-use Rattle.std.proofs.Common.{◌≡◌, ◌∙◌, sym, subst, true}
-use Rattle.csp_base.specs.Prelude.{is_subset_of}
+use Rattle.resource_rule.proofs.Prelude.{◌≡◌, ◌∙◌, sym, subst, true, is_subset_of}
 use Rattle.resource_rule.proofs.Adding.{kept_row}
 use Rattle.resource_rule.proofs.sets.add_members.Goals as goal
 

@@ -1,11 +1,4 @@
-use Rattle.std.proofs.Common.{◌≡◌, ◌<◌, ◌≤◌, ◌∙◌, ℕ, Some, length, get_or, inl, inr, ap, sym, subst, arith}
-use Rattle.std.specs.Prelude.{slice_get}
-use Rattle.csp_base.proofs.Standard.{cases_lt}
-use Rattle.csp_tables.specs.Prelude.{Joins, Shape}
-use Rattle.resource_conditions.specs.Finding.{FindsRun}
-use Rattle.resource_rule.specs.Uses.{UsesLink}
-use Rattle.shape_links.specs.Links.{ends_of}
-use Rattle.shape_links.proofs.Links.{end_here, end_place, same_end}
+use Rattle.resource_rule.proofs.Prelude.{◌≡◌, ◌<◌, ◌≤◌, ◌∙◌, ℕ, Some, length, get_or, inl, inr, ap, sym, subst, arith, slice_get, cases_lt, Joins, Shape, FindsRun, UsesLink, ends_of, end_here, end_place, same_end}
 use Rattle.resource_rule.proofs.users.broken_use.Goals as goal
 
 pub broken_on-requires-clause-link : goal.broken_on-requires-clause-link

@@ -1,11 +1,7 @@
-use Rattle.std.proofs.Common.{◌∙◌, ℕ, List, ap}
+use Rattle.resource_rule.proofs.Prelude.{◌∙◌, ℕ, List, ap, IfOk-weaker, has, Shape, ends_of}
 use Rattle.std.proofs.lemmas.Option.{IfSome_then}
-use Rattle.std.proofs.lemmas.Result.{IfOk-weaker}
-use Rattle.csp_base.specs.Prelude.{has}
-use Rattle.csp_tables.specs.Prelude.{Shape}
-use Rattle.shape_links.specs.Links.{ends_of}
 use Rattle.resource_rule.proofs.InTurn.{held_where_odd}
-use Rattle.resource_rule.proofs.told.held_links.Goals as goal
+use Rattle.resource_rule.proofs.nodes.held_links.Goals as goal
 
 pub returns : goal.returns
 returns c =

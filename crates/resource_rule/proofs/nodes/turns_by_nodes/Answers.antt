@@ -1,11 +1,6 @@
-use Rattle.std.proofs.Common.{◌≡◌, ◌<◌, ◌∙◌, ℕ, List, [], ap, get_or, length, subst, true}
-use Rattle.std.specs.Prelude.{IfSome}
-use Rattle.csp_tables.specs.Prelude.{is_possible}
-use Rattle.shape_links.specs.Setting.{node_of}
-use Rattle.resource_rule.specs.Holdings.{AreHeld}
-use Rattle.resource_rule.specs.Uses.{IsInTurn}
-use Rattle.resource_rule.proofs.InTurn.{told_turns}
-use Rattle.resource_rule.proofs.told.uses_are_told.Goals as goal
+use Rattle.resource_rule.proofs.Prelude.{◌≡◌, ◌<◌, ◌∙◌, ℕ, List, [], ap, get_or, length, subst, true, IfSome, is_possible, node_of, AreHeld, IsInTurn}
+use Rattle.resource_rule.proofs.InTurn.{turns_at_nodes}
+use Rattle.resource_rule.proofs.nodes.turns_by_nodes.Goals as goal
 
 pub all_in_turn-requires-clause-count : goal.all_in_turn-requires-clause-count
 all_in_turn-requires-clause-count c =
@@ -18,4 +13,4 @@ returns-in-Some c told s =
     let i = c.args.part in
     let are = subst (λ o. IfSome o (λ sets. AreHeld c.args.setting.now c.args.part sets.items)) c.in-Some.is c.in_ok-held.ensures in
     let turns = subst (λ (xs : List (List ℕ)). (n e : ℕ) → n < length xs → is_possible (node_of g i n).next e ≡ true → IsInTurn g i (get_or xs n []) e) c.as_slice.ensures.value (c.all_in_turn.ensures told) in
-    told_turns g i c.shape-form.ensures.form c.in-Some.held.items c.requires are turns s
+    turns_at_nodes g i c.shape-form.ensures.form c.in-Some.held.items c.requires are turns s

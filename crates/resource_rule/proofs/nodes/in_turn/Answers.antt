@@ -1,9 +1,6 @@
-use Rattle.std.proofs.Common.{◌∙◌, ℕ, List, ap, refl, sym, subst}
-use Rattle.csp_base.proofs.Standard.{cond-false, cond-true, none-some, same_Some}
-use Rattle.csp_base.specs.Prelude.{has}
-use Rattle.csp_tables.specs.Prelude.{Joins, UseSets, use_at}
+use Rattle.resource_rule.proofs.Prelude.{◌∙◌, ℕ, List, ap, refl, sym, subst, cond-false, cond-true, none-some, same_Some, has, Joins, UseSets, use_at}
 use Rattle.resource_rule.proofs.InTurn.{turn_of}
-use Rattle.resource_rule.proofs.told.in_turn.Goals as goal
+use Rattle.resource_rule.proofs.nodes.in_turn.Goals as goal
 
 pub other_end-requires : goal.other_end-requires
 other_end-requires c = (c.in-Some.ensures.found c.in-Some.link refl).within

@@ -1,11 +1,6 @@
-use Rattle.std.proofs.Common.{◌≤◌, ℕ, length, subst, arith, below_more}
-use Rattle.csp_base.proofs.Standard.{get_or_read}
-use Rattle.csp_tables.specs.Prelude.{Shape, node_at, part_at}
-use Rattle.observed_runs.specs.Prelude.{AreEnough}
-use Rattle.shape_links.specs.Setting.{node_of}
-use Rattle.resource_rule.specs.Uses.{IsInTurn}
+use Rattle.resource_rule.proofs.Prelude.{◌≤◌, ℕ, length, subst, arith, below_more, get_or_read, Shape, node_at, part_at, AreEnough, node_of, IsInTurn}
 use Rattle.resource_rule.proofs.InTurn.{each_in_turn}
-use Rattle.resource_rule.proofs.told.node_in_turn.Goals as goal
+use Rattle.resource_rule.proofs.nodes.node_in_turn.Goals as goal
 
 pub loop-event-preserved : goal.loop-event-preserved
 loop-event-preserved c =

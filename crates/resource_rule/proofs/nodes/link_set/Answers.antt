@@ -1,8 +1,6 @@
-use Rattle.std.proofs.Common.{◌∙◌, ◌||◌, ℕ, List, ap, get_or, nat_eq, sym, take}
+use Rattle.resource_rule.proofs.Prelude.{◌∙◌, ◌||◌, ℕ, List, ap, get_or, nat_eq, sym, take, list_any_more, or_comm, has}
 use Rattle.csp_base.proofs.SetLaws.{has-with_member}
-use Rattle.csp_base.proofs.Standard.{list_any_more, or_comm}
-use Rattle.csp_base.specs.Prelude.{has}
-use Rattle.resource_rule.proofs.told.link_set.Goals as goal
+use Rattle.resource_rule.proofs.nodes.link_set.Goals as goal
 
 pub loop-link-preserved : goal.loop-link-preserved
 loop-link-preserved c x =

@@ -14,13 +14,13 @@ use shape_links::Setting;
 use std::alloc::Global;
 
 // Whether each node of the part tells on which links it holds a resource there, and each event is in turn.
-pub(crate) fn uses_are_told(
+pub(crate) fn turns_by_nodes(
     alloc: Global,
     setting: &Setting<'_>,
     part: u32,
 ) -> Result<bool, NoMemory>
     requires { part < length setting.now.shape.parts }
-    ensures { IfOk result (λ told. told ≡ true → (s : List ℕ) → UsesInTurn setting.now.shape setting.now.uses part s) }
+    ensures { IfOk result (λ in_turn. in_turn ≡ true → (s : List ℕ) → UsesInTurn setting.now.shape setting.now.uses part s) }
 {
     let _form = setting.shape();
     match held_links(alloc, setting, part)? {

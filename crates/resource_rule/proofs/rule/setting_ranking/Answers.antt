@@ -1,7 +1,7 @@
 use Rattle.std.proofs.Common.{length}
 use Rattle.design_rules.specs.ResourceRanking.{top_number}
 use Rattle.rule_rankings.specs.ResourceRanks.{number_by}
-use Rattle.resource_rule.proofs.rule.ranked.Goals as goal
+use Rattle.resource_rule.proofs.rule.setting_ranking.Goals as goal
 
 pub returns-clause-resource : goal.returns-clause-resource
 returns-clause-resource c =

@@ -1,10 +1,5 @@
-use Rattle.std.proofs.Common.{◌≡◌, ◌<◌, ℕ, List, [], true, get_or, length, inl, inr, sym, subst, arith}
-use Rattle.csp_base.proofs.Standard.{cases_lt, get_or_read}
-use Rattle.csp_tables.specs.Prelude.{is_possible}
-use Rattle.net_sound.proofs.Within.{part_form}
-use Rattle.shape_links.specs.Setting.{node_of}
-use Rattle.resource_rule.specs.Uses.{IsInTurn}
-use Rattle.resource_rule.proofs.told.all_in_turn.Goals as goal
+use Rattle.resource_rule.proofs.Prelude.{◌≡◌, ◌<◌, ℕ, List, [], true, get_or, length, inl, inr, sym, subst, arith, cases_lt, get_or_read, is_possible, part_form, node_of, IsInTurn}
+use Rattle.resource_rule.proofs.nodes.all_in_turn.Goals as goal
 
 pub overflow_cast-node : goal.overflow_cast-node
 overflow_cast-node c =
