@@ -1,7 +1,7 @@
 -- The places of a component's lap, as its laps show them.
-use Rattle.std.proofs.Common.{◌≡◌, ℕ, zero, suc, ◌+◌, ◌-◌, ◌%◌, ◌^◌, ◌<◌, ◌≤◌, inl, inr, List, [], ◌∷◌, ◌++◌, length, cond, Option, Some, None, IsTrue, nat_lt, refl, sym, ap, subst, ◌∙◌, arith, lt-ltb, le-ltb}
+use Rattle.std.proofs.Common.{Bool, ◌≡◌, ℕ, zero, suc, ◌+◌, ◌-◌, ◌%◌, ◌^◌, ◌<◌, ◌≤◌, inl, inr, List, [], ◌∷◌, ◌++◌, length, cond, Option, Some, None, IsTrue, nat_lt, refl, sym, ap, subst, ◌∙◌, arith}
 use Rattle.std.specs.Prelude.{replicate, slice_get}
-use Rattle.csp_base.proofs.Standard.{cases_Bool, cases_lt, cond-true, cond-false, length-append, get_or_append_left, get_or-append_seam, mod_below, mod-eq_of_lt, add-mod_left, none-some, same_Some, slice_get_within, get_or-replicate, get_or_past, length-replicate}
+use Rattle.csp_base.proofs.Standard.{cases_lt, length-append, get_or_append_left, get_or-append_seam, mod_below, mod-eq_of_lt, add-mod_left, none-some, same_Some, slice_get_within, get_or-replicate, get_or_past, length-replicate}
 use Rattle.csp_base.specs.Prelude.{Tells, has}
 use Rattle.csp_base.specs.declared.stop.Stop.{Stop}
 use Rattle.csp_base.specs.declared.stop.Stop.TheVariants as stop
@@ -10,7 +10,7 @@ use Rattle.net_sound.proofs.Within.{part_form}
 use Rattle.design_rules.specs.Prelude.{count_in, count_below, BreaksOrder, Clash, IsReachedAt, links_of, ReachesLink, place_after, KeepsPlaces, BreaksCyclic}
 use Rattle.design_rules.specs.declared.rule_fault.RuleFault.{RuleFault}
 use Rattle.design_rules.specs.declared.rule_fault.RuleFault.TheVariants.{NoOrder}
-use Rattle.design_rules.proofs.Counts.{count_more, count_same, count_at_most}
+use Rattle.design_rules.proofs.Counts.{count_at_most}
 use Rattle.design_rules.proofs.Runs.{possible_within, end_within}
 use Rattle.design_rules.proofs.Places.{earlier, some_links, first_lap}
 use Rattle.observed_runs.specs.Prelude.{observed, pair_at, lap_step}
@@ -27,26 +27,15 @@ use Rattle.cyclic_conditions.proofs.Noting.{first_within, one_more, clashing}
 
 -- ---- places
 
+lap_one : (on : Bool) (c last m n : ℕ) → c ≤ last → n ≡ cond on (m + 1) m → (cond on (cond (nat_lt c last) (c + 1) 0) c + m) % (last + 1) ≡ (c + n) % (last + 1)
+lap_one on c last m n h is = grind (arith, add-mod_left (last + 1) m)
+
+lap_within : (on : Bool) (c last : ℕ) → c ≤ last → cond on (cond (nat_lt c last) (c + 1) 0) c ≤ last
+lap_within on c last h = grind (arith)
+
 pub lap_counts : (V : List ℕ) (last c : ℕ) (s : List ℕ) → c ≤ last → observed (lap_step V last) c s ≡ (c + count_in V s) % (last + 1)
 lap_counts V last c [] h = sym (ap (λ n. n % (last + 1)) (let e : c + 0 ≡ c = omega arith in e) ∙ mod-eq_of_lt (omega arith))
-lap_counts V last c (e ∷ s) h =
-    elim (cases_Bool (has V e)) [
-      | inl on ↦
-          let step = cond-true (has V e) (cond (nat_lt c last) (c + 1) 0) c on in
-          let more : count_in V (e ∷ s) ≡ count_in V s + 1 = count_more V e s on in
-          elim (cases_lt c last) [
-            | inl less ↦
-                let to : lap_step V last c e ≡ c + 1 = step ∙ cond-true (nat_lt c last) (c + 1) 0 (lt-ltb c last less) in
-                ap (λ n. observed (lap_step V last) n s) to ∙ lap_counts V last (c + 1) s (omega arith) ∙ ap (λ n. n % (last + 1)) (let i : c + 1 + count_in V s ≡ c + count_in V (e ∷ s) = omega (arith, more) in i)
-            | inr most ↦
-                let to : lap_step V last c e ≡ 0 = step ∙ cond-false (nat_lt c last) (c + 1) 0 (le-ltb c last most) in
-                ap (λ n. observed (lap_step V last) n s) to ∙ lap_counts V last 0 s (omega arith) ∙ ap (λ n. n % (last + 1)) (let i : 0 + count_in V s ≡ count_in V s = omega arith in i)
-                ∙ (sym (add-mod_left (last + 1) (count_in V s)) ∙ ap (λ n. n % (last + 1)) (let i : last + 1 + count_in V s ≡ c + count_in V (e ∷ s) = omega (arith, more) in i))
-          ]
-      | inr off ↦
-          let to : lap_step V last c e ≡ c = cond-false (has V e) (cond (nat_lt c last) (c + 1) 0) c off in
-          ap (λ n. observed (lap_step V last) n s) to ∙ lap_counts V last c s h ∙ ap (λ n. (c + n) % (last + 1)) (sym (count_same V e s off))
-    ]
+lap_counts V last c (e ∷ s) h = lap_counts V last (lap_step V last c e) s (lap_within (has V e) c last h) ∙ lap_one (has V e) c last (count_in V s) (count_in V (e ∷ s)) h refl
 
 -- the place of the lap to which a run leads
 abbrev place_of : Laps → List ℕ → ℕ
@@ -194,11 +183,7 @@ module _ (laps : Laps) (x : AreLaps laps) (firsts : List (Option Fact)) (a : Are
 
 pub length-ends : (shape : Shape) (i n : ℕ) → length (ends_below shape i n) ≡ count_below (λ l. is_end shape i l) n
 length-ends shape i zero = refl
-length-ends shape i (suc n) =
-    elim (cases_Bool (is_end shape i n)) [
-      | inl h ↦ ap length (cond-true (is_end shape i n) (ends_below shape i n ++ n ∷ []) (ends_below shape i n) h) ∙ length-append (ends_below shape i n) (n ∷ []) ∙ (ap (λ k. k + 1) (length-ends shape i n) ∙ sym (cond-true (is_end shape i n) (count_below (λ l. is_end shape i l) n + 1) (count_below (λ l. is_end shape i l) n) h))
-      | inr h ↦ ap length (cond-false (is_end shape i n) (ends_below shape i n ++ n ∷ []) (ends_below shape i n) h) ∙ (length-ends shape i n ∙ sym (cond-false (is_end shape i n) (count_below (λ l. is_end shape i l) n + 1) (count_below (λ l. is_end shape i l) n) h))
-    ]
+length-ends shape i (suc n) = let rest : length (ends_below shape i n) ≡ count_below (λ l. is_end shape i l) n = length-ends shape i n in grind (arith, length-append)
 
 -- a part without links
 pub keeps_none : (shape : Shape) (i : ℕ) → links_of shape i ≡ 0 → KeepsPlaces shape i
