@@ -46,7 +46,8 @@ fn enter(
     ensures restless { restless.new ≡ slice_set restless.old place (is_unstable mover.now.table term) }
     ensures form { IsAgreement agreement.new }
     ensures owners { agreement.new.owners.items ≡ agreement.old.owners.items }
-    ensures offering { (e : ℕ) → offers_of agreement.new e ≡ offers_of agreement.old e + bit (can_do mover.now.table term e) }
+    ensures offering { (e : ℕ) → offers_of agreement.new e
+        ≡ offers_of agreement.old e + bit (can_do mover.now.table term e) }
 {
     restless.set(place, mover.is_restless(term));
     offer_all(agreement, mover.offers(term));
@@ -63,9 +64,11 @@ fn enter_all(restless: &mut CountedMarks, agreement: &mut Agreement, movers: &[M
     ensures owners { agreement.new.owners.items ≡ agreement.old.owners.items }
     ensures offering { (e : ℕ) → offers_of agreement.new e ≡ offer_count e movers.now (first_terms movers.now) }
     ensures marks { length restless.new ≡ length movers.now }
-    ensures restless { (i : ℕ) → i < length movers.now → slice_index_or restless.new i false ≡ is_unstable (component_at movers.now i).table 0 }
+    ensures restless { (i : ℕ) → i < length movers.now → slice_index_or restless.new i false
+        ≡ is_unstable (component_at movers.now i).table 0 }
     ensures within { (i : ℕ) → i < length movers.now → 0 < (component_at movers.now i).table.count }
-    ensures own { (i : ℕ) → i < length movers.now → OwnsItsSteps (component_at movers.now i).alphabet (component_at movers.now i).table }
+    ensures own { (i : ℕ) → i < length movers.now → OwnsItsSteps (component_at movers.now i).alphabet
+        (component_at movers.now i).table }
 {
     for (place, mover) in movers.iter().enumerate() {
         let _alphabet = mover.alphabet();
