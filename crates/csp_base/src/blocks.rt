@@ -77,7 +77,8 @@ pub(crate) fn merge_blocks(
     requires left_blocks { AreBlocks left.now }
     requires right_blocks { AreBlocks right.now }
     ensures blocks { IfOk result (λ made. AreBlocks made.items) }
-    ensures members { IfOk result (λ made. (x : ℕ) → has (events_of made.items) x ≡ keeps operation (has (events_of left.now) x) (has (events_of right.now) x)) }
+    ensures members { IfOk result (λ made. (x : ℕ)
+        → has (events_of made.items) x ≡ keeps operation (has (events_of left.now) x) (has (events_of right.now) x)) }
 {
     let mut made = Vec::new(alloc);
     let mut first = left;
@@ -146,8 +147,10 @@ fn gives_any(operation: SetOp, left: &[(u32, u64)], right: &[(u32, u64)]) -> boo
     requires of_left { keeps operation false true ≡ false }
     requires left_blocks { AreBlocks left.now }
     requires right_blocks { AreBlocks right.now }
-    ensures found { OnTrue result ((x : ℕ) × (keeps operation (has (events_of left.now) x) (has (events_of right.now) x) ≡ true)) }
-    ensures none { OnFalse result ((x : ℕ) → keeps operation (has (events_of left.now) x) (has (events_of right.now) x) ≡ false) }
+    ensures found { OnTrue result ((x : ℕ)
+        × (keeps operation (has (events_of left.now) x) (has (events_of right.now) x) ≡ true)) }
+    ensures none { OnFalse result ((x : ℕ) → keeps operation (has (events_of left.now) x) (has (events_of right.now) x)
+        ≡ false) }
 {
     let mut first = left;
     let mut second = right;
@@ -220,7 +223,8 @@ pub(crate) fn first_from(blocks: &[(u32, u64)], event: u32) -> Option<u32>
 pub(crate) fn include(blocks: &mut Vec<(u32, u64)>, event: u32) -> Result<(), NoMemory>
     requires { AreBlocks blocks.old.items }
     ensures blocks { AreBlocks blocks.new.items }
-    ensures members { OnOk result ((x : ℕ) → has (events_of blocks.new.items) x ≡ (event == x || has (events_of blocks.old.items) x)) }
+    ensures members { OnOk result ((x : ℕ) → has (events_of blocks.new.items) x
+        ≡ (event == x || has (events_of blocks.old.items) x)) }
     ensures err { OnErr result (blocks.new.items ≡ blocks.old.items) }
 {
     let number = event / 64;

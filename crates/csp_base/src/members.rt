@@ -47,7 +47,8 @@ fn without_empty_block(number: u32, word: u64, rest: &[(u32, u64)]) -> (u32, u64
     requires rest { AreBlocksFrom (number + 1) rest.now }
     ensures number { result.0 < 2 ^ 26 }
     ensures rest { AreBlocksFrom (result.0 + 1) result.2.now }
-    ensures events { word_events 64 (64 * result.0) result.1 ++ events_of result.2.now ≡ word_events 64 (64 * number) word ++ events_of rest.now }
+    ensures events { word_events 64 (64 * result.0) result.1 ++ events_of result.2.now
+        ≡ word_events 64 (64 * number) word ++ events_of rest.now }
     ensures none { result.1 ≡ 0 → word_events 64 (64 * number) word ++ events_of rest.now ≡ [] }
 {
     if word != 0 {

@@ -68,14 +68,16 @@ module _ (g : Setting) (i : ℕ) (h : i < length g.shape.parts) (user : IsUser g
     nodes_complete k l x =
         let run = x.offered.accepts.runs.follows in
         let n = end_of (part_at g.shape.parts i).table 0 x.offered.run in
-        let listed = ends_complete g.shape i (length g.shape.links) l x.within x.end in
-        (n, subst (λ c. end_of (part_at g.shape.parts i).table 0 x.offered.run < c) (sym are.count) (end_within (part_at g.shape.parts i) x.offered.run (part_form g.shape.parts i h w.form) run),
-        record {
-          event = x.event;
-          offered = offer_complete g i l h x.event x.offered;
-          acquiring = x.acquiring;
-          holding = are.each x.offered.run l run ∙ and_from (has (ends_of g.shape i) l) (holds g.shape l x.offered.run) listed x.offered.holding;
-        })
+        let listed = ends_complete g.shape i (length g.shape.links) l x.within x.end in (
+          n,
+          subst (λ c. end_of (part_at g.shape.parts i).table 0 x.offered.run < c) (sym are.count) (end_within (part_at g.shape.parts i) x.offered.run (part_form g.shape.parts i h w.form) run),
+          record {
+            event = x.event;
+            offered = offer_complete g i l h x.event x.offered;
+            acquiring = x.acquiring;
+            holding = are.each x.offered.run l run ∙ and_from (has (ends_of g.shape i) l) (holds g.shape l x.offered.run) listed x.offered.holding;
+          },
+        )
 
   -- on one link, by the exploration with its parity
   module _ (link : ℕ) (within : link < length g.shape.links) (end : IsTrue (is_end g.shape i link)) (found : Found) (x : WatchesLink g i link found) (offers held : List ℕ) (are : (e : ℕ) → has offers e ≡ is_offered_at g i found.pairs e) (one : (l : ℕ) → has held l ≡ has (link ∷ []) l) where
@@ -136,17 +138,19 @@ module _ (g : Setting) (w : IsWellFormed g.shape) (triple : TripleDisjoint (alph
       let q = and_parts (use_at g.uses j).resource (list_any (λ e. has (use_at g.uses j).acquire e) x.acceptance) x.acquiring in
       let e = any_member (λ e. has (use_at g.uses j).acquire e) x.acceptance q.1 in
       let k = acquired_link g w triple count kinds j e.0 (and_from (use_at g.uses j).resource (has (use_at g.uses j).acquire e.0) q.0 e.2) in
-      let of = end_resource g kinds j k.0 k.1.within k.2 q.0 in
-      (k.0,
-      record {
-        user = x.is_user;
-        within = x.joins.within;
-        end = first_end g.shape x.user m x.link x.joins;
-        event = e.0;
-        offered = record { run = x.run; place = x.accepts.place; accepts = x.accepts.at; holding = x.holding; offered = subst (λ M. has M e.0 ≡ true) (sym x.accepts.is) e.1 };
-        acquiring = and_from (has (link_at g.shape k.0).shared e.0) (has (use_at g.uses (resource_of g k.0)).acquire e.0) k.1.event (subst (λ n. has (use_at g.uses n).acquire e.0 ≡ true) (sym of) e.2);
-      },
-      of, joined_resource g kinds x.user m x.link x.is_user x.joins)
+      let of = end_resource g kinds j k.0 k.1.within k.2 q.0 in (
+        k.0,
+        record {
+          user = x.is_user;
+          within = x.joins.within;
+          end = first_end g.shape x.user m x.link x.joins;
+          event = e.0;
+          offered = record { run = x.run; place = x.accepts.place; accepts = x.accepts.at; holding = x.holding; offered = subst (λ M. has M e.0 ≡ true) (sym x.accepts.is) e.1 };
+          acquiring = and_from (has (link_at g.shape k.0).shared e.0) (has (use_at g.uses (resource_of g k.0)).acquire e.0) k.1.event (subst (λ n. has (use_at g.uses n).acquire e.0 ≡ true) (sym of) e.2);
+        },
+        of,
+        joined_resource g kinds x.user m x.link x.is_user x.joins,
+      )
 
   -- the arcs of all links, by the sets of all users
   module _ (n : ℕ) (sets rows : List (List ℕ)) (gathered : AddsArcs (Below (HoldsWhile g) n) (replicate (length g.shape.links) []) sets) (adds : AddsArcs (LeadsToSome g sets) (replicate (length g.shape.parts) []) rows) where

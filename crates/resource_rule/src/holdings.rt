@@ -9,9 +9,9 @@ ghost use Rattle.resource_rule.specs.Uses.{WatchesLink};
 ghost use Rattle.shape_links.specs.Setting.{IsUser, KeepKinds};
 
 use crate::arcs::resource_arcs;
+use crate::nodes::held_links;
 use crate::offers::{node_offers, pair_offers};
 use crate::sets::{add_held, empty_sets};
-use crate::nodes::held_links;
 use csp_base::{Event, EventSet, NoMemory};
 use digraph::Rows;
 use observed_runs::{Explored, Parity};

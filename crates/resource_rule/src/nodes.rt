@@ -20,7 +20,8 @@ pub(crate) fn turns_by_nodes(
     part: u32,
 ) -> Result<bool, NoMemory>
     requires { part < length setting.now.shape.parts }
-    ensures { IfOk result (λ in_turn. in_turn ≡ true → (s : List ℕ) → UsesInTurn setting.now.shape setting.now.uses part s) }
+    ensures { IfOk result (λ in_turn. in_turn ≡ true → (s : List ℕ)
+        → UsesInTurn setting.now.shape setting.now.uses part s) }
 {
     let _form = setting.shape();
     match held_links(alloc, setting, part)? {
