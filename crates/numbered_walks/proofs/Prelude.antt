@@ -1,5 +1,5 @@
 -- What the proofs of this crate cite of the crates below, and of its own definitions.
-pub use Rattle.acceptances.proofs.Terms.{events_after, length_after, offers_by_test, rising_after, step_from, test_by_offers, test_by_stable, unstable_by_step}
+pub use Rattle.acceptances.proofs.Terms.{offers_by_test, step_from, test_by_offers, test_by_stable, unstable_by_step}
 pub use Rattle.acceptances.specs.OfferTests.{can_do, is_unstable}
 pub use Rattle.csp_base.proofs.Lists.{drop_read, map_push, take_read}
 pub use Rattle.csp_base.proofs.Rising.{RisesFrom, RisesFrom-weaken, has_below, rises_from_increasing}
