@@ -1,6 +1,5 @@
 -- What one node shows, read off its tests.
-use Rattle.client_server_conditions.proofs.Prelude.{◌≡◌, ℕ, zero, suc, List, [], ◌∷◌, Bool, true, false, not, ◌&&◌, nat_eq, inl, inr, refl, ap, subst, arith, eq-eqb, list_any, cases_Bool, and_parts, and_from, or_cases, or_left, or_right, eqb-true, both_ways, false≢true, not-true, or_parts, has, is_subset_of, meets_of, common_member, member_of_superset, is_subset_of_from_members, meets_of_from_member, is_possible, AreApart, IsWithin, RoleSets, is_in_turn, AreInTurn, EachShared, HasAllOrNone, splits, takes, refuses, is_out_of_turn, and_second_false}
-use Rattle.csp_base.proofs.Rising.{member_of_superset, is_subset_of_from_members}
+use Rattle.client_server_conditions.proofs.Prelude.{◌≡◌, ℕ, zero, suc, List, [], ◌∷◌, Bool, true, false, not, ◌&&◌, nat_eq, inl, inr, refl, ap, subst, arith, eq-eqb, list_any, cases_Bool, and_parts, and_from, or_cases, or_left, or_right, eqb-true, both_ways, false≢true, not-false, not-true, or_parts, has, is_subset_of, meets_of, common_member, member_of_superset, is_subset_of_from_members, meets_of_from_member, is_possible, AreApart, IsWithin, RoleSets, is_in_turn, AreInTurn, EachShared, HasAllOrNone, splits, takes, refuses, is_out_of_turn, and_second_false}
 
 -- ---- steps
 
@@ -29,77 +28,61 @@ out_of_turn (step ∷ next) shared roles opened h turns = elim (or_cases (is_out
 
 -- ---- acceptances
 
-pub each_none : (P : List ℕ → Type 0) (V : List ℕ) (test : List ℕ → Bool) → ((M : List ℕ) → test M ≡ false → IsWithin M V → P M) → (accept : List (List ℕ)) → list_any test accept ≡ false → EachShared P V accept
-each_none P V test keeps [] h k below within = absurd (omega arith)
-each_none P V test keeps (M ∷ Ms) h zero below within = keeps M (or_parts (test M) (list_any test Ms) h).0 within
-each_none P V test keeps (M ∷ Ms) h (suc k) below within = each_none P V test keeps Ms (or_parts (test M) (list_any test Ms) h).1 k (omega arith) within
+-- those in the vocabulary, where none of them, or one, is bad
+module _ (P : List ℕ → Type 0) (V : List ℕ) (bad : List ℕ → Bool) where
+  abbrev is_bad : List ℕ → Bool
+  is_bad M = is_subset_of M V && bad M
 
-pub each_some : (P : List ℕ → Type 0) (V : List ℕ) (test : List ℕ → Bool) → ((M : List ℕ) → test M ≡ true → IsWithin M V × (P M → ⊥)) → (accept : List (List ℕ)) → list_any test accept ≡ true → EachShared P V accept → ⊥
-each_some P V test breaks [] h each = false≢true h
-each_some P V test breaks (M ∷ Ms) h each = elim (or_cases (test M) (list_any test Ms) h) [
-  | inl here ↦ let b = breaks M here in b.1 (each 0 (omega arith) b.0)
-  | inr later ↦ each_some P V test breaks Ms later (λ k below within. each (suc k) (omega arith) within)
-]
+  pub each_none : ((M : List ℕ) → bad M ≡ false → P M) → (accept : List (List ℕ)) → list_any is_bad accept ≡ false → EachShared P V accept
+  each_none keeps [] h k below within = absurd (omega arith)
+  each_none keeps (M ∷ Ms) h zero below within = keeps M (and_second_false (is_subset_of M V) (bad M) (or_parts (is_bad M) (list_any is_bad Ms) h).0 (is_subset_of_from_members M V within))
+  each_none keeps (M ∷ Ms) h (suc k) below within = each_none keeps Ms (or_parts (is_bad M) (list_any is_bad Ms) h).1 k (omega arith) within
 
-takes_none : (V R M : List ℕ) → takes V R M ≡ false → IsWithin M V → AreApart M R
-takes_none V R M h within e m r = both_ways (meets_of M R) (and_second_false (is_subset_of M V) (meets_of M R) h (is_subset_of_from_members M V within)) (meets_of_from_member M R e m r)
+  pub each_some : ((M : List ℕ) → bad M ≡ true → P M → ⊥) → (accept : List (List ℕ)) → list_any is_bad accept ≡ true → EachShared P V accept → ⊥
+  each_some breaks [] h each = false≢true h
+  each_some breaks (M ∷ Ms) h each = elim (or_cases (is_bad M) (list_any is_bad Ms) h) [
+    | inl here ↦ let p = and_parts (is_subset_of M V) (bad M) here in breaks M p.1 (each 0 (omega arith) (member_of_superset M V p.0))
+    | inr later ↦ each_some breaks Ms later (λ k below within. each (suc k) (omega arith) within)
+  ]
 
-takes_some : (V R M : List ℕ) → takes V R M ≡ true → IsWithin M V × (AreApart M R → ⊥)
-takes_some V R M h =
-    let p = and_parts (is_subset_of M V) (meets_of M R) h in
-    let x = common_member M R p.1 in
-    (member_of_superset M V p.0, λ apart. apart x.0 x.1 x.2)
+module _ (V R : List ℕ) where
+  apart : (M : List ℕ) → meets_of M R ≡ false → AreApart M R
+  apart M h e m r = both_ways (meets_of M R) h (meets_of_from_member M R e m r)
 
-splits_none : (V R M : List ℕ) → splits V R M ≡ false → IsWithin M V → HasAllOrNone R M
-splits_none V R M h within =
-    let rest = and_second_false (is_subset_of M V) (meets_of M R && not (is_subset_of R M)) h (is_subset_of_from_members M V within) in
-    elim (cases_Bool (meets_of M R)) [
-      | inl meets ↦ elim (cases_Bool (is_subset_of R M)) [
-        | inl all ↦ inl (member_of_superset R M all)
-        | inr lacks ↦ absurd (both_ways (meets_of M R && not (is_subset_of R M)) rest (and_from (meets_of M R) (not (is_subset_of R M)) meets (ap not lacks)))
-      ]
-      | inr apart ↦ inr (λ e m r. both_ways (meets_of M R) apart (meets_of_from_member M R e m r))
-    ]
+  not_apart : (M : List ℕ) → meets_of M R ≡ true → AreApart M R → ⊥
+  not_apart M h apart = let x = common_member M R h in apart x.0 x.1 x.2
 
-splits_some : (V R M : List ℕ) → splits V R M ≡ true → IsWithin M V × (HasAllOrNone R M → ⊥)
-splits_some V R M h =
-    let p = and_parts (is_subset_of M V) (meets_of M R && not (is_subset_of R M)) h in
-    let q = and_parts (meets_of M R) (not (is_subset_of R M)) p.1 in
-    let x = common_member M R q.0 in (
-      member_of_superset M V p.0,
-      λ either. elim either [
-        | inl all ↦ both_ways (is_subset_of R M) (not-true (is_subset_of R M) q.1) (is_subset_of_from_members R M all)
-        | inr apart ↦ apart x.0 x.1 x.2
-      ],
-    )
+  has_all : (M : List ℕ) → not (is_subset_of R M) ≡ false → IsWithin R M
+  has_all M h = member_of_superset R M (not-false (is_subset_of R M) h)
 
-refuses_none : (V A M : List ℕ) → refuses V A M ≡ false → IsWithin M V → IsWithin A M
-refuses_none V A M h within = elim (cases_Bool (is_subset_of A M)) [
-  | inl all ↦ member_of_superset A M all
-  | inr lacks ↦ absurd (both_ways (not (is_subset_of A M)) (and_second_false (is_subset_of M V) (not (is_subset_of A M)) h (is_subset_of_from_members M V within)) (ap not lacks))
-]
+  lacks_some : (M : List ℕ) → not (is_subset_of R M) ≡ true → IsWithin R M → ⊥
+  lacks_some M h all = both_ways (is_subset_of R M) (not-true (is_subset_of R M) h) (is_subset_of_from_members R M all)
 
-refuses_some : (V A M : List ℕ) → refuses V A M ≡ true → IsWithin M V × (IsWithin A M → ⊥)
-refuses_some V A M h =
-    let p = and_parts (is_subset_of M V) (not (is_subset_of A M)) h in
-    (member_of_superset M V p.0, λ all. both_ways (is_subset_of A M) (not-true (is_subset_of A M) p.1) (is_subset_of_from_members A M all))
+  all_or_none : (M : List ℕ) → (meets_of M R && not (is_subset_of R M)) ≡ false → HasAllOrNone R M
+  all_or_none M h = elim (cases_Bool (meets_of M R)) [
+    | inl meets ↦ inl (has_all M (and_second_false (meets_of M R) (not (is_subset_of R M)) h meets))
+    | inr none ↦ inr (apart M none)
+  ]
 
--- ---- all acceptances of a node
+  some_not_all : (M : List ℕ) → (meets_of M R && not (is_subset_of R M)) ≡ true → HasAllOrNone R M → ⊥
+  some_not_all M h either =
+      let p = and_parts (meets_of M R) (not (is_subset_of R M)) h in
+      elim either [ inl all ↦ lacks_some M p.1 all | inr none ↦ not_apart M p.0 none ]
 
-pub none_takes : (V R : List ℕ) (accept : List (List ℕ)) → list_any (takes V R) accept ≡ false → EachShared (λ M. AreApart M R) V accept
-none_takes V R accept h = each_none (λ M. AreApart M R) V (takes V R) (takes_none V R) accept h
+  pub none_takes : (accept : List (List ℕ)) → list_any (takes V R) accept ≡ false → EachShared (λ M. AreApart M R) V accept
+  none_takes = each_none (λ M. AreApart M R) V (λ M. meets_of M R) apart
 
-pub one_takes : (V R : List ℕ) (accept : List (List ℕ)) → list_any (takes V R) accept ≡ true → EachShared (λ M. AreApart M R) V accept → ⊥
-one_takes V R accept h = each_some (λ M. AreApart M R) V (takes V R) (takes_some V R) accept h
+  pub one_takes : (accept : List (List ℕ)) → list_any (takes V R) accept ≡ true → EachShared (λ M. AreApart M R) V accept → ⊥
+  one_takes = each_some (λ M. AreApart M R) V (λ M. meets_of M R) not_apart
 
-pub none_splits : (V R : List ℕ) (accept : List (List ℕ)) → list_any (splits V R) accept ≡ false → EachShared (HasAllOrNone R) V accept
-none_splits V R accept h = each_none (HasAllOrNone R) V (splits V R) (splits_none V R) accept h
+  pub none_splits : (accept : List (List ℕ)) → list_any (splits V R) accept ≡ false → EachShared (HasAllOrNone R) V accept
+  none_splits = each_none (HasAllOrNone R) V (λ M. meets_of M R && not (is_subset_of R M)) all_or_none
 
-pub one_splits : (V R : List ℕ) (accept : List (List ℕ)) → list_any (splits V R) accept ≡ true → EachShared (HasAllOrNone R) V accept → ⊥
-one_splits V R accept h = each_some (HasAllOrNone R) V (splits V R) (splits_some V R) accept h
+  pub one_splits : (accept : List (List ℕ)) → list_any (splits V R) accept ≡ true → EachShared (HasAllOrNone R) V accept → ⊥
+  one_splits = each_some (HasAllOrNone R) V (λ M. meets_of M R && not (is_subset_of R M)) some_not_all
 
-pub none_refuses : (V A : List ℕ) (accept : List (List ℕ)) → list_any (refuses V A) accept ≡ false → EachShared (IsWithin A) V accept
-none_refuses V A accept h = each_none (IsWithin A) V (refuses V A) (refuses_none V A) accept h
+  pub none_refuses : (accept : List (List ℕ)) → list_any (refuses V R) accept ≡ false → EachShared (IsWithin R) V accept
+  none_refuses = each_none (IsWithin R) V (λ M. not (is_subset_of R M)) has_all
 
-pub one_refuses : (V A : List ℕ) (accept : List (List ℕ)) → list_any (refuses V A) accept ≡ true → EachShared (IsWithin A) V accept → ⊥
-one_refuses V A accept h = each_some (IsWithin A) V (refuses V A) (refuses_some V A) accept h
+  pub one_refuses : (accept : List (List ℕ)) → list_any (refuses V R) accept ≡ true → EachShared (IsWithin R) V accept → ⊥
+  one_refuses = each_some (IsWithin R) V (λ M. not (is_subset_of R M)) lacks_some
