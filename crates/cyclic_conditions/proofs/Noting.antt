@@ -1,20 +1,8 @@
 -- Facts that are kept by the places of a lap.
-use Rattle.std.proofs.Common.{arith, ◌≡◌, ℕ, ◌<◌, inl, inr, ◌⊎◌, List, length, Option, Some, None, true, refl, sym, ap, subst, ◌∙◌}
-use Rattle.std.specs.Prelude.{slice_set}
-use Rattle.csp_base.proofs.Standard.{cases_eq, cases_lt, get_or-set_same, get_or-set_other, get_or_past, length-set, none-some}
-use Rattle.csp_base.specs.Prelude.{has}
-use Rattle.csp_tables.specs.Prelude.{node_at, part_at}
+use Rattle.cyclic_conditions.proofs.Prelude.{arith, ◌≡◌, ℕ, ◌<◌, inl, inr, ◌⊎◌, List, length, Option, Some, None, true, refl, sym, ap, subst, ◌∙◌, slice_set, cases_eq, cases_lt, get_or-set_same, get_or-set_other, get_or_past, length-set, none-some, has, node_at, part_at, part_form, AreEnough, pair_at, IsOwner, IsFact, IsPossibleAt, first_at, HasFirst, AreFirsts, AreMore, IsNoted, IsNotedAt, Disagree, AreClashing, ClashesWith, Fact, table_of, AreLaps, shape_of, Laps}
 use Rattle.csp_tables.proofs.Runs.{node_form}
-use Rattle.net_sound.proofs.Within.{part_form}
 use Rattle.design_rules.proofs.Shapes.{link_shared}
-use Rattle.observed_runs.specs.Prelude.{AreEnough, pair_at}
 use Rattle.observed_runs.proofs.Leading.{listed_step, step_listed}
-use Rattle.shape_links.specs.Links.{IsOwner}
-use Rattle.cyclic_conditions.specs.Facts.{IsFact, IsPossibleAt, first_at, HasFirst, AreFirsts, AreMore, IsNoted, IsNotedAt, Disagree, AreClashing, ClashesWith}
-use Rattle.cyclic_conditions.specs.declared.facts.Fact.{Fact}
-use Rattle.shape_links.specs.Component.{table_of}
-use Rattle.cyclic_conditions.specs.Laps.{AreLaps, shape_of}
-use Rattle.cyclic_conditions.specs.declared.laps.Laps.{Laps}
 
 -- a kept fact stands within the list
 pub first_within : (firsts : List (Option Fact)) (r l : ℕ) → HasFirst firsts r l → r < length firsts

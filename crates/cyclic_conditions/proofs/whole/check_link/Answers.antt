@@ -1,7 +1,5 @@
-use Rattle.std.proofs.Common.{◌≡◌, ◌∙◌, inl, inr, ap, sym}
-use Rattle.csp_tables.specs.Prelude.{Link, Shape, link_at, part_at}
+use Rattle.cyclic_conditions.proofs.Prelude.{◌≡◌, ◌∙◌, inl, inr, ap, sym, Link, Shape, link_at, part_at, FallsFirst}
 use Rattle.design_rules.specs.Prelude.{ends_of}
-use Rattle.cyclic_conditions.specs.Told.{FallsFirst}
 use Rattle.cyclic_conditions.proofs.Shortness.{end_first, end_reached, end_whole}
 use Rattle.cyclic_conditions.proofs.whole.check_link.Goals as goal
 
