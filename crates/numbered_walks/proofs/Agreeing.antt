@@ -1,5 +1,5 @@
 -- What is counted of events, while components offer more or fewer.
-use Rattle.numbered_walks.proofs.Prelude.{◌≡◌, ℕ, zero, suc, ◌+◌, ◌-◌, ◌<◌, ◌≤◌, inl, inr, Bool, not, ◌||◌, nat_eq, IsTrue, List, [], ◌∷◌, length, set, get_or, refl, sym, ap, subst, ◌∙◌, arith, IsStrictlyIncreasing, cases_eq, eq-eqb, ne_eqb, or_left, or_right, get_or-set_other, get_or-set_same, RisesFrom, has_below, rises_from_increasing, has, bit}
+use Rattle.numbered_walks.proofs.Prelude.{◌≡◌, ℕ, zero, suc, ◌+◌, ◌-◌, ◌<◌, ◌≤◌, inl, inr, Bool, ◌||◌, nat_eq, IsTrue, List, [], ◌∷◌, length, set, get_or, refl, sym, ap, subst, ◌∙◌, arith, IsStrictlyIncreasing, cases_eq, eq-eqb, ne_eqb, or_left, or_right, get_or-set_other, get_or-set_same, RisesFrom, has_below, rises_from_increasing, has, bit}
 
 -- what is not 0 is within
 pub some_within : (xs : List ℕ) (i : ℕ) → 1 ≤ get_or xs i 0 → i < length xs
