@@ -1,5 +1,5 @@
 -- A table that follows the runs of another one: where it stands, and what the pairs to which runs lead say of both.
-use Rattle.conformance.proofs.Prelude.{◌≡◌, ℕ, zero, suc, ◌<◌, ◌≤◌, inl, inr, List, [], ◌∷◌, ◌++◌, length, get_or, true, false, IsTrue, nat_eq, Option, Some, None, refl, sym, ap, subst, ◌∙◌, arith, slice_get, and_from, and_parts, cases_Bool, cond-true, cond-false, eqb-true, false≢true, get_or_past, get_or_from_slice_get, or_cases, slice_get_cases, has, HasForm, StepsHaveForm, Part, Node, IsRun, acceptances_after, end_of, is_possible, is_run, no_node, node_after, node_at, node_form, run_push, Found, IsExploration, StepsTo, LeadsTo, observed, pair_at, listed_step, step_within, HasWithin, RefusesAfter, RunsOutside, TableConforms, AllAccept, AreInside, RefusesAt, follow_step}
+use Rattle.conformance.proofs.Prelude.{◌≡◌, ℕ, ◌<◌, ◌≤◌, inl, inr, List, [], ◌∷◌, ◌++◌, length, get_or, true, false, IsTrue, nat_eq, Option, Some, None, refl, sym, ap, subst, ◌∙◌, arith, slice_get, and_from, and_parts, cases_Bool, cond-true, cond-false, eqb-true, false≢true, get_or_past, get_or_from_slice_get, or_cases, slice_get_cases, has, HasForm, StepsHaveForm, Part, Node, IsRun, acceptances_after, end_of, is_possible, is_run, no_node, node_after, node_at, node_form, run_push, Found, IsExploration, StepsTo, LeadsTo, observed, pair_at, listed_step, step_within, HasWithin, RefusesAfter, RunsOutside, TableConforms, AllAccept, AreInside, RefusesAt, follow_step}
 
 -- ---- nodes
 

@@ -1,5 +1,5 @@
 -- Places of events in an alphabet, found one after another.
-use Rattle.conformance.proofs.Prelude.{◌≡◌, ℕ, suc, ◌+◌, ◌<◌, ◌≤◌, inl, inr, List, [], ◌∷◌, length, get_or, IsTrue, nat_eq, sym, ap, subst, ◌∙◌, arith, slice_index, cases_eq, cases_lt, eqb-true, false≢true, or_cases, has, IsOneToOne}
+use Rattle.conformance.proofs.Prelude.{◌≡◌, ℕ, suc, ◌<◌, ◌≤◌, inl, inr, List, [], ◌∷◌, length, get_or, IsTrue, nat_eq, sym, ap, subst, ◌∙◌, arith, slice_index, eqb-true, false≢true, or_cases, has, IsOneToOne}
 
 -- At the number of the event in the place k stands a place at which it is.
 pub record IsPlace (events places : List ℕ) (k : ℕ) : Type 0 where

@@ -1,5 +1,5 @@
 -- The bounds of the taken components, by induction over the order.
-use Rattle.hidden_steps.proofs.Prelude.{◌≡◌, ◌≤◌, ◌+◌, ◌*◌, ℕ, zero, suc, inl, inr, List, [], ◌∷◌, Some, slice_get, length, Bool, true, false, ◌&&◌, ◌||◌, not, nat_eq, IsTrue, if◌then◌else◌, refl, sym, ap, subst, ◌∙◌, arith, mul-le-mul_left, cases_Bool, cond-true, cond-false, false≢true, or_cases, or_left, or_right, nat_tests, none-some, same_Some, Walk, has, and_false, is_and, slice_get_some, in_some_component, FlatStep, Label, silent, visible, Component, ComponentStep, NetworkStep, Tree, leaves, project, Path, Reached, After, visible_events, WellNested, alphabets, flat_alphabets, HiddenStep, HiddenStepsAreBounded, AreTaken, IsAmong, IsNext, IsOrder, Taken, bound_over, hidden_bound, is_passed, share_hidden, shared_bounds}
+use Rattle.hidden_steps.proofs.Prelude.{◌≡◌, ◌≤◌, ◌+◌, ◌*◌, ℕ, zero, suc, inl, inr, List, [], ◌∷◌, Some, slice_get, length, Bool, true, false, ◌&&◌, ◌||◌, not, nat_eq, IsTrue, refl, sym, ap, subst, ◌∙◌, arith, mul-le-mul_left, cases_Bool, cond-true, cond-false, false≢true, or_cases, or_left, or_right, nat_tests, none-some, same_Some, Walk, has, and_false, is_and, slice_get_some, in_some_component, FlatStep, Label, silent, visible, Component, ComponentStep, NetworkStep, Tree, leaves, project, Path, Reached, After, visible_events, WellNested, alphabets, flat_alphabets, HiddenStep, HiddenStepsAreBounded, AreTaken, IsAmong, IsNext, IsOrder, Taken, bound_over, hidden_bound, is_passed, share_hidden, shared_bounds}
 use Rattle.csp_base.proofs.Listed.{any_of}
 use Rattle.net_sound.proofs.Flattening.{forth, kept}
 use Rattle.net_sound.proofs.Local.{AllAfter, all_after, run_forth, run_kept}

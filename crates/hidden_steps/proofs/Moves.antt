@@ -1,5 +1,5 @@
 -- A run of silent and hidden steps as a list of moves, which each component goes along with.
-use Rattle.hidden_steps.proofs.Prelude.{◌≡◌, ◌<◌, ◌+◌, ◌≤◌, ℕ, zero, suc, inl, inr, List, [], ◌∷◌, length, true, false, nat_eq, IsTrue, MatchBool, refl, sym, ap, subst, ◌∙◌, arith, eq-eqb, length-map, ne_eqb, Walk, has, Label, silent, visible, Component, ComponentStep, in_some_component, OneMoves, AllTakePart, FlatStep, alphabets, flat_alphabets, match_true, match_false, same_some, HiddenStep}
+use Rattle.hidden_steps.proofs.Prelude.{◌≡◌, ◌<◌, ◌+◌, ◌≤◌, ℕ, zero, suc, inl, inr, List, [], ◌∷◌, length, nat_eq, IsTrue, MatchBool, refl, sym, ap, subst, ◌∙◌, arith, eq-eqb, length-map, ne_eqb, Walk, has, Label, silent, visible, Component, ComponentStep, in_some_component, OneMoves, AllTakePart, FlatStep, alphabets, flat_alphabets, match_true, match_false, same_some, HiddenStep}
 
 -- a component moves silently, or an event happens
 pub data Move : Type 0 where

@@ -1,5 +1,5 @@
 -- Targets that are drawn: they are steps, and a move draws for each component that takes part.
-use Rattle.numbered_walks.proofs.Prelude.{◌≡◌, ℕ, zero, suc, ◌+◌, ◌<◌, inl, inr, Bool, true, false, not, ◌&&◌, nat_eq, cond, MatchBool, Some, List, [], ◌∷◌, ◌++◌, length, map, set, get_or, slice_get, refl, sym, ap, ap₂, subst, ◌∙◌, arith, first_so, second_so, MatchBool-at_false, MatchBool-at_true, cases_Bool, eq-eqb, eqb-true, ne_eqb, none-some, same_Some, length-map, test_by_stable, unstable_by_step, is_unstable, marked, places_from, component_at, owner_marks, IsDrawn, AllDraw, Numbered, next_number, place_among, targets, AllGo, has, Label, silent, visible, RawStep, RawTable, targets_in}
+use Rattle.numbered_walks.proofs.Prelude.{◌≡◌, ℕ, zero, suc, ◌+◌, ◌<◌, inl, inr, Bool, true, false, not, ◌&&◌, nat_eq, cond, MatchBool, Some, List, [], ◌∷◌, length, map, set, get_or, slice_get, refl, sym, ap, ap₂, subst, ◌∙◌, arith, first_so, second_so, MatchBool-at_false, MatchBool-at_true, cases_Bool, eq-eqb, eqb-true, ne_eqb, none-some, same_Some, length-map, test_by_stable, unstable_by_step, is_unstable, marked, places_from, component_at, owner_marks, IsDrawn, AllDraw, Numbered, next_number, place_among, targets, AllGo, has, Label, silent, visible, RawStep, RawTable, targets_in}
 use Rattle.numbered_walks.proofs.Rowing.{event_picked, picked, silent_picked}
 use Rattle.numbered_walks.specs.declared.moves.Move.TheVariants as move
 

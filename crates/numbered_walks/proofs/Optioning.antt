@@ -1,5 +1,5 @@
 -- The marked components and the marked events are the options of a state, in their order.
-use Rattle.numbered_walks.proofs.Prelude.{◌≡◌, ◌↔◌, ℕ, zero, suc, ◌+◌, ◌-◌, ◌<◌, ◌≤◌, ◌⊎◌, inl, inr, Bool, true, false, nat_eq, List, [], ◌∷◌, ◌++◌, length, map, take, get_or, slice_get, Some, refl, sym, ap, subst, ◌∙◌, arith, option_map, eq-eqb, eqb-true, none-some, same_Some, length-append, length-map, slice_get-map, slice_get_within, mark_count, marked, AreOptions, IsBefore, options, HasNone, Move}
+use Rattle.numbered_walks.proofs.Prelude.{◌≡◌, ◌↔◌, ℕ, zero, suc, ◌+◌, ◌-◌, ◌<◌, ◌≤◌, ◌⊎◌, inl, inr, Bool, true, false, nat_eq, List, [], ◌∷◌, ◌++◌, length, map, take, get_or, slice_get, Some, refl, ap, subst, ◌∙◌, arith, option_map, eq-eqb, eqb-true, none-some, same_Some, length-append, length-map, slice_get-map, slice_get_within, mark_count, marked, AreOptions, IsBefore, options, HasNone, Move}
 use Rattle.containers.proofs.MembersLemmas.{slice_get-append_left}
 use Rattle.numbered_walks.proofs.Places.{as_many, marked_is, place_of_mark, places_rise}
 use Rattle.csp_base.specs.Lists.{StandsIn}

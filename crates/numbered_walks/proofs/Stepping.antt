@@ -1,5 +1,5 @@
 -- Components that move, one after another.
-use Rattle.numbered_walks.proofs.Prelude.{◌≡◌, ◌↔◌, ℕ, zero, suc, ◌+◌, ◌<◌, ◌≤◌, inl, inr, Bool, true, false, ◌||◌, nat_eq, IsTrue, MatchBool, List, [], ◌∷◌, length, map, replicate, take, drop, set, get_or, slice_get, Some, refl, sym, ap, subst, ◌∙◌, arith, cases_eq, eq-eqb, eqb-true, false≢true, ne_eqb, or_left, or_right, get_or-set_other, get_or-set_same, length-replicate, length-set, length-take, get_or_default, get_or_from_slice_get, slice_get-get_or, slice_get_within, drop_all, length-map, offers_by_test, unstable_by_step, can_do, is_unstable, marked, places_from, AreOptions, AreOwnerRows, HasNone, IsAgreement, IsStanding, bit, component_at, is_agreed, offer_count, owner_count, owner_marks, AllCan, AllDo, AllDraw, Can, Goes, Has, Numbered, OneCan, OwnsItsSteps, first_terms, has_owner, AllGo, AllGoOn, Does, GoesOn, IsDrawn, options, Move, Standing, drop_read, RisesFrom, RisesFrom-weaken, has_below, has, passing, silent, visible, RawStep, RawTable, targets_in}
+use Rattle.numbered_walks.proofs.Prelude.{◌≡◌, ◌↔◌, ℕ, zero, suc, ◌+◌, ◌<◌, ◌≤◌, inl, inr, Bool, true, false, ◌||◌, nat_eq, IsTrue, MatchBool, List, [], ◌∷◌, length, map, replicate, take, drop, set, get_or, slice_get, Some, refl, sym, ap, subst, ◌∙◌, arith, cases_eq, eq-eqb, eqb-true, false≢true, ne_eqb, or_left, or_right, get_or-set_other, get_or-set_same, length-replicate, length-set, length-take, get_or_default, get_or_from_slice_get, slice_get-get_or, slice_get_within, drop_all, length-map, offers_by_test, unstable_by_step, can_do, is_unstable, marked, places_from, AreOptions, AreOwnerRows, HasNone, IsAgreement, IsStanding, bit, component_at, is_agreed, offer_count, owner_count, owner_marks, AllCan, AllDo, AllDraw, Can, Has, Numbered, OneCan, OwnsItsSteps, first_terms, has_owner, AllGo, AllGoOn, Does, GoesOn, IsDrawn, options, Move, Standing, drop_read, RisesFrom, RisesFrom-weaken, has_below, has, passing, silent, visible, RawStep, RawTable, targets_in}
 use Rattle.numbered_walks.proofs.Places.{mark_within}
 use Rattle.numbered_walks.proofs.Agreeing.{some_within}
 use Rattle.numbered_walks.proofs.Drawing.{all_drawn, drawn_steps, one_drawn}
