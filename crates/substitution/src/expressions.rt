@@ -31,7 +31,7 @@ pub(crate) fn pass(values: &mut Values<'_>, generator: &Gen) -> Result<(), NoMem
 }
 
 /// The expression with the values in place of the names, wherever these are free.
-#[tactic(auto, using(crate::proofs::Forms::expr_forms))]
+#[tactic(auto, using(crate::proofs::Forms::expr_out, csp_program::specs::declared::expressions::Expr::the_lemmas))]
 #[cycle(put_expr)]
 pub fn put_expr(alloc: Global, expr: &Expr, values: &Values<'_>) -> Result<Expr, NoMemory>
     ensures { IfOk result (λ made. made ≡ expr_with (given_by values.now) expr.now) }

@@ -12,7 +12,7 @@ use csp_program::{EventPart, Expr, Field, Gen, Head, Proc};
 use std::alloc::Global;
 
 /// The process with the values in place of the names, wherever these are free.
-#[tactic(auto, using(crate::proofs::Forms::proc_forms))]
+#[tactic(auto, using(crate::proofs::Forms::proc_out, csp_program::specs::declared::processes::Proc::the_lemmas))]
 #[cycle(put_proc)]
 pub fn put_proc(alloc: Global, proc: &Proc, values: &Values<'_>) -> Result<Proc, NoMemory>
     ensures { IfOk result (λ made. made ≡ proc_with (given_by values.now) proc.now) }
