@@ -5,10 +5,7 @@ ghost use Rattle.csp_program.specs.Prelude.{joined};
 ghost use Rattle.csp_program.specs.declared.programs.Content.{Content};
 ghost use Rattle.csp_program.specs.declared.processes.Proc.TheVariants as proc;
 ghost use Rattle.term_pool.specs.Prelude.{with_first, IsFront, tree_at};
-ghost use Rattle.csp_steps.specs.Computed.{all_within, AreMoves, GivesMoves, IsMove};
-ghost use Rattle.csp_steps.specs.Effect.{effect_as, hides, labels_by, last_by, moves_of, renamed_labels, IsWithin, around as made_around};
-ghost use Rattle.csp_steps.specs.Evaluated.{AreNoted, Fits, IsNumbered};
-ghost use Rattle.csp_steps.specs.Listed.{seen};
+ghost use Rattle.csp_steps.specs.Prelude.{all_within, AreMoves, GivesMoves, IsMove, effect_as, hides, labels_by, last_by, moves_of, renamed_labels, IsWithin, around as made_around, AreNoted, Fits, IsNumbered, seen};
 ghost use Rattle.csp_steps.specs.declared.operator.Operator.{Operator as Kept};
 ghost use Rattle.step_values.specs.Images.{becomes};
 

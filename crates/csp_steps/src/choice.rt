@@ -7,8 +7,7 @@ ghost use Rattle.csp_program.specs.declared.processes.Proc.TheVariants as proc;
 ghost use Rattle.process_steps.specs.Step as meant;
 ghost use Rattle.process_steps.specs.StepList as lists;
 ghost use Rattle.term_pool.specs.Prelude.{IsFront, all_below, tree_at};
-ghost use Rattle.csp_steps.specs.Computed.{all_within, AreAt, AreMoves, IsMove};
-ghost use Rattle.csp_steps.specs.Listed.{seen};
+ghost use Rattle.csp_steps.specs.Prelude.{all_within, AreAt, AreMoves, IsMove, seen};
 
 use crate::step::StepTo;
 use containers::Items;

@@ -6,8 +6,7 @@ ghost use Rattle.csp_program.specs.declared.processes.Proc.{Proc as Process};
 ghost use Rattle.csp_program.specs.declared.programs.Content.{Content};
 ghost use Rattle.process_steps.specs.StepList.{steps_of};
 ghost use Rattle.term_pool.specs.Prelude.{IsFront, tree_at};
-ghost use Rattle.csp_steps.specs.Computed.{AreEach};
-ghost use Rattle.csp_steps.specs.Evaluated.{body_of, AreBodies, Fits, GivesNumber};
+ghost use Rattle.csp_steps.specs.Prelude.{AreEach, body_of, AreBodies, Fits, GivesNumber};
 
 use crate::operator::{Operator, operator_at};
 use crate::sets::Sets;

@@ -7,8 +7,7 @@ ghost use Rattle.process_steps.specs.Prefix as meant;
 ghost use Rattle.value_laws.specs.Numbers.{field_place};
 ghost use Rattle.value_operators.specs.Env.{with_bound};
 ghost use Rattle.value_operators.specs.Gives.{Gives};
-ghost use Rattle.csp_steps.specs.Evaluated.{AreSets};
-ghost use Rattle.csp_steps.specs.Walked.{is_blocked, is_plain, next_weight, number_with, turn_ways, ways_by_number, weight, GivesNext};
+ghost use Rattle.csp_steps.specs.Prelude.{AreSets, is_blocked, is_plain, next_weight, number_with, turn_ways, ways_by_number, weight, GivesNext};
 
 use crate::sets::{Sets, known_set};
 use crate::walk::{Input, Turn};

@@ -10,8 +10,7 @@ ghost use Rattle.csp_program.specs.declared.programs.Content.{Content};
 ghost use Rattle.process_steps.specs.Needed as need;
 ghost use Rattle.process_steps.specs.Ways as meant;
 ghost use Rattle.term_pool.specs.Prelude.{IsFront, all_below, tree_at};
-ghost use Rattle.csp_steps.specs.Computed.{GivesLook};
-ghost use Rattle.csp_steps.specs.Evaluated.{AreSets, Fits};
+ghost use Rattle.csp_steps.specs.Prelude.{GivesLook, AreSets, Fits};
 ghost use Rattle.step_values.specs.Starts.{IsStart};
 ghost use Rattle.value_operators.specs.Gives.{Gives};
 

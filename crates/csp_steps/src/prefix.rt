@@ -7,10 +7,7 @@ ghost use Rattle.csp_program.specs.declared.programs.Content.{Content};
 ghost use Rattle.process_steps.specs.Prefix as meant;
 ghost use Rattle.term_pool.specs.Prelude.{IsFront, tree_at};
 ghost use Rattle.value_operators.specs.Env.{with_bound};
-ghost use Rattle.csp_steps.specs.Computed.{all_within, AreMoves, GivesMoves};
-ghost use Rattle.csp_steps.specs.Evaluated.{AreSets};
-ghost use Rattle.csp_steps.specs.Listed.{seen};
-ghost use Rattle.csp_steps.specs.Walked.{filled, input_ways, nth_event, turned_ways, turned_weight, way_move, ways_by_number, weight, GivesRound, GivesTurned, IsSound, IsTaken};
+ghost use Rattle.csp_steps.specs.Prelude.{all_within, AreMoves, GivesMoves, AreSets, seen, filled, input_ways, nth_event, turned_ways, turned_weight, way_move, ways_by_number, weight, GivesRound, GivesTurned, IsSound, IsTaken};
 
 use crate::fields::{Filling, Next, are_blocked, next_of, number_after};
 use crate::sets::Sets;
