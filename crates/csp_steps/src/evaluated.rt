@@ -131,9 +131,12 @@ pub(crate) fn body_place(
     number: u32,
     body: &Proc,
 ) -> Result<ProcId, NoMemory>
-    ensures process { (p : Content) → AreBodies p pool.old bodies.old → body_of (slice_get p.defs number) ≡ Some body.now → IfOk result (λ id. slice_get pool.new id.0 ≡ Some body.now) }
+    ensures process { (p : Content) → AreBodies p pool.old bodies.old
+        → body_of (slice_get p.defs number) ≡ Some body.now
+        → IfOk result (λ id. slice_get pool.new id.0 ≡ Some body.now) }
     ensures front { IsFront pool.old pool.new }
-    ensures bodies { (p : Content) → AreBodies p pool.old bodies.old → body_of (slice_get p.defs number) ≡ Some body.now → OnOk result (AreBodies p pool.new bodies.new) }
+    ensures bodies { (p : Content) → AreBodies p pool.old bodies.old
+        → body_of (slice_get p.defs number) ≡ Some body.now → OnOk result (AreBodies p pool.new bodies.new) }
 {
     if let Some(place) = known(bodies, number as usize) {
         return Ok(ProcId(place));
@@ -149,7 +152,8 @@ pub(crate) fn known_steps(
     evaluated: &Evaluated,
     id: ProcId,
 ) -> Result<Option<Items<StepTo>>, NoMemory>
-    ensures { (p : Content) → (trees : List Process) → Fits p trees evaluated.now → IfOk result (λ found. IfSome found (λ steps. AreEach trees steps (steps_of p (tree_at trees id)))) }
+    ensures { (p : Content) → (trees : List Process) → Fits p trees evaluated.now
+        → IfOk result (λ found. IfSome found (λ steps. AreEach trees steps (steps_of p (tree_at trees id)))) }
 {
     let Some(number) = known(&evaluated.stepped, id.0) else {
         return Ok(None);
@@ -182,7 +186,8 @@ pub(crate) fn keep_steps(
     id: ProcId,
     steps: &[StepTo],
 ) -> Result<(), NoMemory>
-    ensures { (p : Content) → (trees : List Process) → Fits p trees evaluated.old → id.0 < length trees → AreEach trees steps.now (steps_of p (tree_at trees id)) → OnOk result (Fits p trees evaluated.new) }
+    ensures { (p : Content) → (trees : List Process) → Fits p trees evaluated.old → id.0 < length trees
+        → AreEach trees steps.now (steps_of p (tree_at trees id)) → OnOk result (Fits p trees evaluated.new) }
 {
     make_room(alloc, evaluated, steps.len());
     let copy = Items::from_slice(alloc, steps)?;

@@ -36,7 +36,8 @@ fn is_given(given: &Option<AtomSet>, atom: Atom) -> bool
 
 // What comes after an input that takes the value at a place; nothing, where it may not take it.
 fn turn_after<'a>(input: &Input<'a>, place: usize, atom: &Atom) -> Option<Turn<'a>>
-    ensures ways { (p : Content) → (env : Env) → turned_ways p ((input.now.name, value.One atom.now) ∷ env) result ≡ input_ways p env input.now place atom.now }
+    ensures ways { (p : Content) → (env : Env) → turned_ways p ((input.now.name, value.One atom.now) ∷ env) result
+        ≡ input_ways p env input.now place atom.now }
     ensures less { turned_weight result ≤ weight input.now.sets.now }
 {
     if !is_given(&input.given, *atom) {
@@ -141,7 +142,8 @@ fn add_way(
 ) -> Result<(), NoMemory>
     requires to { to.0 < length pool.old }
     requires within { all_within (length pool.old) steps.old ≡ true }
-    ensures steps { OnOk result (AreMoves pool.new steps.new (map (seen pool.old) steps.old ++ way_move filling.now.first (tree_at pool.old to) (with_bound bound.now [], number) ∷ [])) }
+    ensures steps { OnOk result (AreMoves pool.new steps.new (map (seen pool.old) steps.old
+        ++ way_move filling.now.first (tree_at pool.old to) (with_bound bound.now [], number) ∷ [])) }
     ensures front { IsFront pool.old pool.new }
 {
     let values = Values::bound(filling.alloc, bound);
@@ -193,7 +195,8 @@ pub(crate) fn prefix_steps(
     requires within { to.0 < length pool.old }
     requires sets { AreSets program.now sets.old }
     ensures sets { OnOk result (AreSets program.now sets.new) }
-    ensures steps { GivesMoves pool.new result (filled [] start.now.first (tree_at pool.old to) (ways_by_number program.now start.now.sets.now fields.now [] 0)) }
+    ensures steps { GivesMoves pool.new result (filled [] start.now.first (tree_at pool.old to)
+        (ways_by_number program.now start.now.sets.now fields.now [] 0)) }
     ensures front { IsFront pool.old pool.new }
 {
     let mut steps = Items::new(alloc);

@@ -72,7 +72,8 @@ fn steps_of_operands(
 ) -> Result<Items<StepTo>, EvalFault>
     requires within { all_below (length pool.old) ids.now ≡ true }
     requires fits { Fits program.now pool.old evaluated.old }
-    ensures steps { GivesEach pool.new result (steps_of_choice program.now (steps_of program.now) (map (tree_at pool.old) ids.now)) }
+    ensures steps { GivesEach pool.new result (steps_of_choice program.now (steps_of program.now)
+        (map (tree_at pool.old) ids.now)) }
     ensures front { IsFront pool.old pool.new }
     ensures fits { OnOk result (Fits program.now pool.new evaluated.new) }
 {

@@ -3,6 +3,7 @@ use Rattle.determinise.proofs.Prelude.{◌≡◌, ℕ, zero, suc, ◌+◌, ◌<�
 use Rattle.std.specs.List.Sorted.{IsStrictlyIncreasing}
 use Rattle.determinise.proofs.Groups.{IsGroup, event_at, group_targets, event_place, events_more, next_of_group, some_next}
 use Rattle.determinise.proofs.MoreSets.{no_more, more_then_more, more_of_kind, meets_then}
+use Rattle.dl_limits.specs.declared.TheConstants.{MOST_SETS}
 
 abbrev events_of_steps : List (ℕ × ℕ) → List ℕ
 events_of_steps next = map (λ step. step.0) next
@@ -75,9 +76,9 @@ pub record AreStepsSoFar (raw : RawTable) (moves : List (ℕ × ℕ)) (at : ℕ)
   pub rising : IsStrictlyIncreasing (events_of_steps next)
   pub order : MeetsInOrder (length old) (targets_of_steps next) (length sets)
   pub more : AreMoreSets (IsSomeNextSet raw moves) old sets
-  pub few : length sets ≤ 2048
+  pub few : length sets ≤ MOST_SETS
 
-pub no_steps : (raw : RawTable) (moves : List (ℕ × ℕ)) (sets : List (List ℕ)) → length sets ≤ 2048 → AreStepsSoFar raw moves 0 sets sets []
+pub no_steps : (raw : RawTable) (moves : List (ℕ × ℕ)) (sets : List (List ℕ)) → length sets ≤ MOST_SETS → AreStepsSoFar raw moves 0 sets sets []
 no_steps raw moves sets few = record {
   within = omega arith;
   boundary = λ j k early a b. absurd (omega arith);
@@ -96,7 +97,7 @@ module _ (raw : RawTable) (moves : List (ℕ × ℕ)) (from to n : ℕ) (old bef
   kept_step : (e m : ℕ) → LeadsToSet raw moves before e m → LeadsToSet raw moves after e m
   kept_step e m l = record { within = omega (arith, l.within, more.longer); is = subst (IsNextSet raw moves e) (sym (more.kept m l.within)) l.is }
 
-  pub steps_more : n < length after → IsSilentClosure raw (group_targets moves from to) (set_at after n) → MeetsInOrder (length before) (n ∷ []) (length after) → length after ≤ 2048 → AreStepsSoFar raw moves to old after (next ++ (event_at moves from, n) ∷ [])
+  pub steps_more : n < length after → IsSilentClosure raw (group_targets moves from to) (set_at after n) → MeetsInOrder (length before) (n ∷ []) (length after) → length after ≤ MOST_SETS → AreStepsSoFar raw moves to old after (next ++ (event_at moves from, n) ∷ [])
   steps_more below closure order few = record {
     within = g.within;
     boundary = λ j k early late inside. elim (cases_lt j from) as (λ _. event_at moves j < event_at moves k) [

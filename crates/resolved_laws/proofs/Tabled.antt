@@ -4,13 +4,14 @@ use Rattle.typed_laws.proofs.Back.{sets_for}
 use Rattle.typed_laws.proofs.Programs.{parts}
 use Rattle.resolved_laws.proofs.Sets.{HaveSets, count_events, firsts_kept, have_all, have_sets, sets_in_place, sets_same}
 use Rattle.resolved_laws.proofs.Whole.{SameTypes, in_order, plain_declares, plain_is_in_order, same_length, with_channels}
+use Rattle.dl_limits.specs.declared.TheConstants.{MOST_EVENTS}
 
-few_enough : (n k : ℕ) → n ≡ k → k ≤ 16384 → n < 2 ^ 32
+few_enough : (n k : ℕ) → n ≡ k → k ≤ MOST_EVENTS → n < 2 ^ 32
 few_enough n k e h = omega (arith, h, e)
 
 module _ (decls : List Decl) (ks : List Kind) (are : AreKinds decls ks) (none : name_fault decls ks ≡ None) (few : HasFew (plain_content decls ks))
     (all : List (List (List Atom))) (found : channel_sets (plain_content decls ks) (types_of decls ks) 0 decls ≡ Ok all)
-    (enough : all_events all ≤ 16384) where
+    (enough : all_events all ≤ MOST_EVENTS) where
   abbrev whole : IsInOrder (plain_content decls ks)
   whole = plain_is_in_order decls ks are none few
 

@@ -33,7 +33,8 @@ fn choice_with_first(
 ) -> Result<usize, NoMemory>
     requires within { place < length parts.old.choices }
     ensures start { PartsStart parts.old parts.new }
-    ensures made { IfOk result (λ made. slice_get parts.new.choices made ≡ Some (other_first (choice_at parts.old place) below)) }
+    ensures made { IfOk result (λ made. slice_get parts.new.choices made
+        ≡ Some (other_first (choice_at parts.old place) below)) }
 {
     let made = with_other_first(alloc, parts.choices.get(place).as_slice(), below);
     parts.choices.keep_made(made)
@@ -50,7 +51,8 @@ pub(crate) fn entry_with_first(
     requires fits { Fits parts.old entry }
     ensures start { PartsStart parts.old parts.new }
     ensures fits { IfOk result (Fits parts.new) }
-    ensures layer { IfOk result (λ made. entry_layer parts.new made ≡ node_with_first (entry_layer parts.old entry) below) }
+    ensures layer { IfOk result (λ made. entry_layer parts.new made
+        ≡ node_with_first (entry_layer parts.old entry) below) }
 {
     match entry {
         Entry::Stop => Ok(Entry::Stop),
@@ -120,7 +122,8 @@ fn put_expr(
 ) -> Result<usize, NoMemory>
     requires { place < length parts.old.exprs }
     ensures start { PartsStart parts.old parts.new }
-    ensures made { IfOk result (λ made. slice_get parts.new.exprs made ≡ Some (expr_with (given_by values.now) (expr_at parts.old place))) }
+    ensures made { IfOk result (λ made. slice_get parts.new.exprs made
+        ≡ Some (expr_with (given_by values.now) (expr_at parts.old place))) }
 {
     put_values(&mut parts.exprs, alloc, place, values)
 }
@@ -134,7 +137,8 @@ fn put_arguments(
 ) -> Result<usize, NoMemory>
     requires { place < length parts.old.arguments }
     ensures start { PartsStart parts.old parts.new }
-    ensures made { IfOk result (λ made. slice_get parts.new.arguments made ≡ Some (map (expr_with (given_by values.now)) (arguments_at parts.old place))) }
+    ensures made { IfOk result (λ made. slice_get parts.new.arguments made
+        ≡ Some (map (expr_with (given_by values.now)) (arguments_at parts.old place))) }
 {
     put_values(&mut parts.arguments, alloc, place, values)
 }
@@ -150,7 +154,8 @@ pub(crate) fn made_entry(
     requires fits { Fits parts.old entry }
     ensures start { PartsStart parts.old parts.new }
     ensures fits { IfOk result (Fits parts.new) }
-    ensures layer { IfOk result (λ made. entry_layer parts.new made ≡ moved (own_with (given_by values.now) (entry_layer parts.old entry)) ids.now) }
+    ensures layer { IfOk result (λ made. entry_layer parts.new made
+        ≡ moved (own_with (given_by values.now) (entry_layer parts.old entry)) ids.now) }
 {
     let entry = put_own(parts, alloc, entry, values)?;
     with_places(parts, alloc, entry, ids)
@@ -167,7 +172,8 @@ fn put_own(
     requires fits { Fits parts.old entry }
     ensures start { PartsStart parts.old parts.new }
     ensures fits { IfOk result (Fits parts.new) }
-    ensures layer { IfOk result (λ made. entry_layer parts.new made ≡ own_with (given_by values.now) (entry_layer parts.old entry)) }
+    ensures layer { IfOk result (λ made. entry_layer parts.new made
+        ≡ own_with (given_by values.now) (entry_layer parts.old entry)) }
 {
     match entry {
         Entry::Prefix(head, fields, p) => {
@@ -213,8 +219,10 @@ fn put_prefix(
     requires head { head < length parts.old.heads }
     requires fields { fields < length parts.old.fields }
     ensures start { PartsStart parts.old parts.new }
-    ensures heads { IfOk result (λ own. slice_get parts.new.heads own.0 ≡ Some (head_with (given_by values.now) (head_at parts.old head))) }
-    ensures fields { IfOk result (λ own. slice_get parts.new.fields own.1 ≡ Some (fields_with (given_by values.now) (fields_at parts.old fields))) }
+    ensures heads { IfOk result (λ own. slice_get parts.new.heads own.0
+        ≡ Some (head_with (given_by values.now) (head_at parts.old head))) }
+    ensures fields { IfOk result (λ own. slice_get parts.new.fields own.1
+        ≡ Some (fields_with (given_by values.now) (fields_at parts.old fields))) }
 {
     let head = put_values(&mut parts.heads, alloc, head, values)?;
     let fields = put_values(&mut parts.fields, alloc, fields, values)?;
@@ -232,8 +240,10 @@ fn put_renaming(
     requires pairs { pairs < length parts.old.pairs }
     requires gens { gens < length parts.old.gens }
     ensures start { PartsStart parts.old parts.new }
-    ensures pairs { IfOk result (λ own. slice_get parts.new.pairs own.0 ≡ Some (map (pair_with (past (gens_at parts.old gens) (given_by values.now))) (pairs_at parts.old pairs))) }
-    ensures gens { IfOk result (λ own. slice_get parts.new.gens own.1 ≡ Some (gens_with (given_by values.now) (gens_at parts.old gens))) }
+    ensures pairs { IfOk result (λ own. slice_get parts.new.pairs own.0
+        ≡ Some (map (pair_with (past (gens_at parts.old gens) (given_by values.now))) (pairs_at parts.old pairs))) }
+    ensures gens { IfOk result (λ own. slice_get parts.new.gens own.1
+        ≡ Some (gens_with (given_by values.now) (gens_at parts.old gens))) }
 {
     let old_pairs = parts.pairs.get(pairs).as_slice();
     let old_gens = parts.gens.get(gens).as_slice();

@@ -95,7 +95,8 @@ pub(crate) fn put_first_in(
     requires id { id.0 < length (trees_in nodes.old) }
     requires below { below.0 < length (trees_in nodes.old) }
     ensures kept { AreKept nodes.new }
-    ensures puts { Puts (trees_in nodes.old) (trees_in nodes.new) result (with_first (tree_at (trees_in nodes.old) id) (tree_at (trees_in nodes.old) below)) }
+    ensures puts { Puts (trees_in nodes.old) (trees_in nodes.new) result
+        (with_first (tree_at (trees_in nodes.old) id) (tree_at (trees_in nodes.old) below)) }
 {
     let entry = entry_at(nodes, id);
     let made = entry_with_first(&mut nodes.parts, alloc, entry, below);
@@ -114,9 +115,11 @@ pub(crate) fn put_made_in(
 ) -> Result<ProcId, NoMemory>
     requires kept { AreKept nodes.old }
     requires within { id.0 < length (trees_in nodes.old) }
-    requires made { StandAt (trees_in nodes.old) ids.now (pooled.parts (proc_with (given_by values.now) (tree_at (trees_in nodes.old) id))) }
+    requires made { StandAt (trees_in nodes.old) ids.now
+        (pooled.parts (proc_with (given_by values.now) (tree_at (trees_in nodes.old) id))) }
     ensures kept { AreKept nodes.new }
-    ensures puts { Puts (trees_in nodes.old) (trees_in nodes.new) result (proc_with (given_by values.now) (tree_at (trees_in nodes.old) id)) }
+    ensures puts { Puts (trees_in nodes.old) (trees_in nodes.new) result
+        (proc_with (given_by values.now) (tree_at (trees_in nodes.old) id)) }
 {
     let entry = entry_at(nodes, id);
     let made = made_entry(&mut nodes.parts, alloc, entry, ids, values);

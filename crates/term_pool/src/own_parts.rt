@@ -33,7 +33,8 @@ pub(crate) struct OwnParts {
 
 /// No parts. They are found by their hashes under this key, and take no memory yet.
 pub(crate) fn no_parts(alloc: Global, key: QuickKey) -> OwnParts
-    ensures { result ≡ record { heads = []; fields = []; exprs = []; arguments = []; pairs = []; gens = []; choices = [] } }
+    ensures { result
+        ≡ record { heads = []; fields = []; exprs = []; arguments = []; pairs = []; gens = []; choices = [] } }
 {
     OwnParts {
         heads: Store::new(alloc, key),

@@ -168,7 +168,8 @@ impl Pool {
     /// sub-processes, each of them once. Where memory fails some of them are put.
     pub fn put_all_in(&mut self, id: ProcId, values: &Values<'_>) -> Result<ProcId, NoMemory>
         requires { id.0 < length self.old }
-        ensures process { IfOk result (λ made. slice_get self.new made.0 ≡ Some (proc_with (given_by values.now) (tree_at self.old id))) }
+        ensures process { IfOk result (λ made. slice_get self.new made.0
+            ≡ Some (proc_with (given_by values.now) (tree_at self.old id))) }
         ensures front { IsFront self.old self.new }
         ensures known { Has self.old (proc_with (given_by values.now) (tree_at self.old id)) → self.new ≡ self.old }
         ensures only { AddsParts self.old self.new (proc_with (given_by values.now) (tree_at self.old id)) }

@@ -51,7 +51,8 @@ pub(crate) fn substitute_at(
 ) -> Result<ProcId, NoMemory>
     requires within { id.now.0 < length pool.old }
     requires visited { AreMade (given_by values.now) pool.old visited.old }
-    ensures process { IfOk result (λ made. slice_get pool.new made.0 ≡ Some (proc_with (given_by values.now) (tree_at pool.old id.now))) }
+    ensures process { IfOk result (λ made. slice_get pool.new made.0
+        ≡ Some (proc_with (given_by values.now) (tree_at pool.old id.now))) }
     ensures grows { Grows pool.old pool.new (proc_with (given_by values.now) (tree_at pool.old id.now) ∷ []) }
     ensures visited { AreMade (given_by values.now) pool.new visited.new }
 {
@@ -77,7 +78,8 @@ fn put_layer(
 ) -> Result<ProcId, NoMemory>
     requires within { id.0 < length pool.old }
     requires visited { AreMade (given_by values.now) pool.old visited.old }
-    ensures process { IfOk result (λ made. slice_get pool.new made.0 ≡ Some (proc_with (given_by values.now) (tree_at pool.old id))) }
+    ensures process { IfOk result (λ made. slice_get pool.new made.0
+        ≡ Some (proc_with (given_by values.now) (tree_at pool.old id))) }
     ensures grows { Grows pool.old pool.new (proc_with (given_by values.now) (tree_at pool.old id) ∷ []) }
     ensures visited { AreMade (given_by values.now) pool.new visited.new }
 {
@@ -96,7 +98,8 @@ fn put_below(
 ) -> Result<Items<ProcId>, NoMemory>
     requires within { id.0 < length pool.old }
     requires visited { AreMade (given_by values.now) pool.old visited.old }
-    ensures places { IfOk result (λ made. StandAt pool.new made (parts (proc_with (given_by values.now) (tree_at pool.old id)))) }
+    ensures places { IfOk result (λ made. StandAt pool.new made
+        (parts (proc_with (given_by values.now) (tree_at pool.old id)))) }
     ensures grows { Grows pool.old pool.new (parts (proc_with (given_by values.now) (tree_at pool.old id))) }
     ensures visited { AreMade (given_by values.now) pool.new visited.new }
 {

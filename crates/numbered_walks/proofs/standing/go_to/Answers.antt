@@ -1,6 +1,7 @@
 use Rattle.numbered_walks.proofs.Prelude.{◌≤◌, Bool, get_or, set, refl, sym, ap, subst, ◌∙◌, arith, can_do, is_unstable, bit, component_at, Numbered}
 use Rattle.numbered_walks.proofs.Stepping.{component_read, offered, offers_read, offers_within, put_there, room_there, term_read}
 use Rattle.numbered_walks.proofs.standing.go_to.Goals as goal
+use Rattle.dl_limits.specs.declared.TheConstants.{MOST_COMPONENTS}
 
 pub exchange-requires : goal.exchange-requires
 exchange-requires c =
@@ -17,7 +18,7 @@ exchange-requires c =
       within = λ e h. offers_within cs s form place here c.args.drawn.to e (sym (new e) ∙ h);
       some = λ e. subst (λ (b : Bool). bit b ≤ get_or s.agreement.offering.items e 0) (sym (old e ∙ ap (λ n. can_do (component_at cs place).table n e) term)) (offered cs s form place here e);
       room = λ e.
-          let room = room_there cs s form place here c.args.drawn.to e 512 c.requires.few in
+          let room = room_there cs s form place here c.args.drawn.to e MOST_COMPONENTS c.requires.few in
           let old_bit = ap bit (old e ∙ ap (λ n. can_do (component_at cs place).table n e) term) in
           let new_bit = ap bit (new e) in
           omega (arith, room, old_bit, new_bit);
