@@ -1,5 +1,6 @@
 -- The numbers that are counted while declarations are read.
-use Rattle.name_tables.specs.Prelude.{ℕ, ◌+◌, Counts}
+use Rattle.std.specs.Prelude.{◌+◌}
+use Rattle.name_tables.specs.Prelude.{ℕ, Counts}
 use Rattle.name_tables.specs.declared.declared.Numbers.{Numbers}
 
 abbrev pub counts : Numbers → Counts

@@ -1,5 +1,6 @@
 -- What a scope keeps of the names that it has bound.
-use Rattle.name_tables.specs.Prelude.{◌≡◌, ℕ, if◌then◌else◌, Option, List, [], ◌∷◌, ◌++◌, Name, same_name, Scope, number_of}
+use Rattle.std.specs.Prelude.{◌≡◌, if◌then◌else◌, ◌∷◌, ◌++◌}
+use Rattle.name_tables.specs.Prelude.{ℕ, Option, List, [], Name, same_name, Scope, number_of}
 use Rattle.std.specs.BTreeMap.{BTreeMap}
 use Rattle.name_tables.specs.declared.scope.Binding.{Binding}
 use Rattle.name_tables.specs.Spelling.{Spelling, at_name}

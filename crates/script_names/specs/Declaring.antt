@@ -2,7 +2,8 @@
 -- `Declares n decls p sets` says that these declarations put p into the program, and that its channels have these field sets. Channels, constants
 -- and definitions were declared before them as often as n says. `whole` is what all declarations put into the program: in it types are evaluated
 -- and uses expanded. `HasSets types sets` says which field sets a channel of these types has.
-use Rattle.script_names.specs.Sources.{◌≡◌, ℕ, Bool, Some, None, List, [], ◌∷◌, ◌++◌, length, map, replicate, slice_get, Atom, EachOnce, StandsIn, Decl, Tree, Expr, Net, Proc, Channel, Content, Kind, Body, Class, Entity}
+use Rattle.std.specs.Prelude.{◌≡◌, ◌∷◌, ◌++◌}
+use Rattle.script_names.specs.Sources.{ℕ, Bool, Some, None, List, [], length, map, replicate, slice_get, Atom, EachOnce, StandsIn, Decl, Tree, Expr, Net, Proc, Channel, Content, Kind, Body, Class, Entity}
 use Rattle.csp_text.specs.declared.token.ResourceNames.{ResourceNames}
 use Rattle.csp_text.specs.declared.token.RolesNames.{RolesNames}
 use Rattle.csp_program.specs.declared.networks.Net.TheVariants as net

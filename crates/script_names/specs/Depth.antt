@@ -1,6 +1,7 @@
 -- The depth of definitions of data with all of their uses expanded: a use is one node above the body that it names and above its arguments. Uses of
 -- processes are not expanded, and the name of a datatype is a node without parts.
-use Rattle.script_names.specs.Sources.{Sense, ℕ, zero, suc, ◌+◌, max, Option, Some, None, List, [], ◌∷◌, slice_get, Occurrence, Uses, Form, Parallel, Use, Entity}
+use Rattle.std.specs.Prelude.{◌+◌, ◌∷◌}
+use Rattle.script_names.specs.Sources.{Sense, ℕ, zero, suc, max, Option, Some, None, List, [], slice_get, Occurrence, Uses, Form, Parallel, Use, Entity}
 use Rattle.script_names.specs.Names.{Name}
 
 module _ (depth_of : ℕ → ℕ) where

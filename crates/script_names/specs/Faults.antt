@@ -1,5 +1,6 @@
 -- The faults of a declaration, from what it says: one line for each case.
-use Rattle.script_names.specs.Sources.{Sense, Need, ℕ, zero, suc, ◌-◌, Bool, true, false, not, ◌&&◌, ◌||◌, nat_eq, nat_lt, if◌then◌else◌, Option, Some, None, List, slice_get, Class, Entity, Kind, Occurrence, Declares, Binds, Notes, Uses, Form, Parallel, Use}
+use Rattle.std.specs.Prelude.{◌-◌, ◌&&◌, ◌||◌, if◌then◌else◌}
+use Rattle.script_names.specs.Sources.{Sense, Need, ℕ, zero, suc, Bool, true, false, not, nat_eq, nat_lt, Option, Some, None, List, slice_get, Class, Entity, Kind, Occurrence, Declares, Binds, Notes, Uses, Form, Parallel, Use}
 use Rattle.script_names.specs.Names.{Name, Meanings}
 
 abbrev pub is_bound : Sense → Bool

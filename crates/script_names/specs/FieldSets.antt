@@ -1,5 +1,6 @@
 -- The values of the fields of channels: those of their types, which are sets of numbers and constants.
-use Rattle.script_names.specs.Sources.{Bool, true, false, if◌then◌else◌, Ok, Err, List, [], ◌∷◌, map, Atom, all_true, Outcome, and_then, as_set, value_of, Expr, Content}
+use Rattle.std.specs.Prelude.{if◌then◌else◌, ◌∷◌}
+use Rattle.script_names.specs.Sources.{Bool, true, false, Ok, Err, List, [], map, Atom, all_true, Outcome, and_then, as_set, value_of, Expr, Content}
 use Rattle.csp_atoms.specs.declared.value.Value.{Value}
 use Rattle.csp_program.specs.declared.kinds.ValueKind.TheVariants.{Kind}
 

@@ -1,5 +1,6 @@
 -- What the definitions of a script are: the class of each, and which of them are network definitions.
-use Rattle.script_names.specs.Sources.{Sense, ◌≡◌, ℕ, IsTrue, ◌↔◌, Option, Some, None, List, [], ◌∷◌, ◌++◌, length, map, take, slice_get, flat_map, Decl, fold-Tree, Tree-F, Tree, Class, Kind, Entity}
+use Rattle.std.specs.Prelude.{◌≡◌, ◌↔◌, ◌∷◌, ◌++◌}
+use Rattle.script_names.specs.Sources.{Sense, ℕ, IsTrue, Option, Some, None, List, [], length, map, take, slice_get, flat_map, Decl, fold-Tree, Tree-F, Tree, Class, Kind, Entity}
 use Rattle.script_names.specs.declared.kinds.End.{End}
 use Rattle.script_names.specs.Names.{Name, Meanings, sense_in, meanings_of}
 

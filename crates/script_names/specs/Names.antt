@@ -1,6 +1,7 @@
 -- What the names of a script stand for: a name that is bound hides a declared one, and a declared name is what its first declaration makes it.
 -- Channels, constants and definitions are numbered from 0 in the order of their declarations; nametypes and datatypes are definitions too.
-use Rattle.script_names.specs.Sources.{Sense, ℕ, ◌+◌, Bool, nat_eq, if◌then◌else◌, Option, Some, None, List, [], ◌∷◌, ◌++◌, length, map, pointwise, lookup, is_member, Decl, Entity}
+use Rattle.std.specs.Prelude.{◌+◌, if◌then◌else◌, ◌∷◌, ◌++◌}
+use Rattle.script_names.specs.Sources.{Sense, ℕ, Bool, nat_eq, Option, Some, None, List, [], length, map, pointwise, lookup, is_member, Decl, Entity}
 
 -- a name is the list of its bytes
 abbrev pub Name : Type 0

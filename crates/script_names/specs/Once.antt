@@ -1,5 +1,6 @@
 -- No name is declared twice, and no process is annotated twice by one kind of annotation.
-use Rattle.script_names.specs.Sources.{List, [], ◌∷◌, flat_map, EachOnce, Decl}
+use Rattle.std.specs.Prelude.{◌∷◌}
+use Rattle.script_names.specs.Sources.{List, [], flat_map, EachOnce, Decl}
 use Rattle.script_names.specs.Names.{Name, names_declared}
 
 -- the processes with an annotation of roles, and those with one of a resource

@@ -1,5 +1,6 @@
 -- The program of a script.
-use Rattle.script_names.specs.Sources.{◌≡◌, ℕ, ◌+◌, ◌≤◌, Some, Ok, List, [], ◌∷◌, sum, map, MOST_EVENTS, Atom, StandsIn, row_count, event_table, Channel, Content, Decl, Script, Tree, Kind}
+use Rattle.std.specs.Prelude.{◌≡◌, ◌+◌, ◌≤◌, ◌∷◌}
+use Rattle.script_names.specs.Sources.{ℕ, Some, Ok, List, [], sum, map, MOST_EVENTS, Atom, StandsIn, row_count, event_table, Channel, Content, Decl, Script, Tree, Kind}
 use Rattle.script_names.specs.Declaring.{Declares}
 use Rattle.script_names.specs.FieldSets.{field_sets}
 use Rattle.script_names.specs.Kinds.{AreKinds}

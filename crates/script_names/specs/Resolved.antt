@@ -1,6 +1,7 @@
 -- The program of a script, or why it has none. In this order: no deadlock assertion is in the script; a declaration has a name fault; the type of a
 -- channel's field has no value that fits; there are too many events.
-use Rattle.script_names.specs.Sources.{◌≡◌, ℕ, ◌+◌, ◌-◌, ◌^◌, min, nat_le, if◌then◌else◌, Option, Some, None, Result, Ok, Err, List, [], ◌∷◌, ◌++◌, length, map, replicate, MOST_EVENTS, Atom, Outcome, Expr, Content, Decl, Script, Tree, ResolveFault}
+use Rattle.std.specs.Prelude.{◌≡◌, ◌+◌, ◌-◌, ◌^◌, if◌then◌else◌, ◌∷◌, ◌++◌}
+use Rattle.script_names.specs.Sources.{ℕ, min, nat_le, Option, Some, None, Result, Ok, Err, List, [], length, map, replicate, MOST_EVENTS, Atom, Outcome, Expr, Content, Decl, Script, Tree, ResolveFault}
 use Rattle.script_names.specs.declared.fault.Unresolved.{Unresolved}
 use Rattle.script_names.specs.declared.kinds.Kind.{Kind as DefinitionKind}
 use Rattle.script_names.specs.Contents.{first_assertion, plain_content}

@@ -1,6 +1,7 @@
 -- What trees say at their names and forms, in the order of their tokens. The items of a comprehension, the parts of `{| |}` and the pairs of a
 -- renaming stand before its generators and under the names that these bind.
-use Rattle.script_names.specs.Sources.{Place, ◌+◌, true, false, Some, None, List, [], ◌∷◌, ◌++◌, length, map, fold-Tree, FieldTree-F, GenTree-F, Tree-F, EventTree-F, PartTree-F, Tree, Occurrence, Binds, Uses, Form, Parallel, Need, Use, Class}
+use Rattle.std.specs.Prelude.{◌+◌, ◌∷◌, ◌++◌}
+use Rattle.script_names.specs.Sources.{Place, true, false, Some, None, List, [], length, map, fold-Tree, FieldTree-F, GenTree-F, Tree-F, EventTree-F, PartTree-F, Tree, Occurrence, Binds, Uses, Form, Parallel, Need, Use, Class}
 use Rattle.script_names.specs.Names.{Name, Meanings, sense_in}
 
 -- what is said under these bound names

@@ -32,4 +32,4 @@ pub use Rattle.script_names.specs.declared.kinds.Use.{Use}
 pub use Rattle.script_names.specs.declared.occurrence.Occurrence.{Occurrence}
 pub use Rattle.script_names.specs.declared.occurrence.Occurrence.TheVariants.{Binds, Declares, Form, Notes, Parallel, Uses}
 pub use Rattle.std.specs.List.{flat_map}
-pub use Rattle.std.specs.Prelude.{Bool, Err, IsTrue, List, None, Ok, Option, Result, Some, [], false, if◌then◌else◌, length, map, max, min, nat_eq, nat_le, nat_lt, not, pos, replicate, slice_get, suc, sum, take, true, zero, ℕ, ◌&&◌, ◌++◌, ◌+◌, ◌-◌, ◌^◌, ◌||◌, ◌↔◌, ◌∷◌, ◌≡◌, ◌≤◌}
+pub use Rattle.std.specs.Prelude.{Bool, Err, IsTrue, List, None, Ok, Option, Result, Some, [], false, length, map, max, min, nat_eq, nat_le, nat_lt, not, pos, replicate, slice_get, suc, sum, take, true, zero, ℕ}

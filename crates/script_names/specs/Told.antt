@@ -1,5 +1,6 @@
 -- The name fault of a script: that of the first declaration which has one, there the one with the least number, there at the first name.
-use Rattle.script_names.specs.Sources.{MOST_DATA_DEPTH, Need, Place, ℕ, ◌+◌, Bool, true, false, ◌&&◌, nat_lt, if◌then◌else◌, Option, Some, None, List, [], ◌∷◌, ◌++◌, length, map, slice_get, list_any, option_map, Decl, Tree, ResolveFault, Class, Kind, Occurrence, Declares, Binds, Notes, Uses, Use}
+use Rattle.std.specs.Prelude.{◌+◌, ◌&&◌, if◌then◌else◌, ◌∷◌, ◌++◌}
+use Rattle.script_names.specs.Sources.{MOST_DATA_DEPTH, Need, Place, ℕ, Bool, true, false, nat_lt, Option, Some, None, List, [], length, map, slice_get, list_any, option_map, Decl, Tree, ResolveFault, Class, Kind, Occurrence, Declares, Binds, Notes, Uses, Use}
 use Rattle.csp_base.specs.Standard.{flat_map}
 use Rattle.script_names.specs.Depth.{depth_within}
 use Rattle.script_names.specs.Faults.{unknown_name, repeated_name, is_wrong_kind, wrong_count, is_inside, kind_class, kind_network}

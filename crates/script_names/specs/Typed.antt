@@ -1,7 +1,8 @@
 -- Trees as expressions, processes and networks, once each of their names has its meaning. Bound names are numbered in the order of their binding
 -- tokens: a tree whose first binding token has the number n binds the numbers from n on. A tree of which a name has no meaning at its place is
 -- given some expression or process; no faultless script has one.
-use Rattle.script_names.specs.Sources.{ℕ, ◌+◌, pos, Bool, true, false, ◌||◌, if◌then◌else◌, Option, Some, None, List, [], ◌∷◌, fold-Tree, FieldTree-F, GenTree-F, Tree-F, EventTree-F, PartTree-F, Tree, EventPart, Expr, roll-EventPart, Gen, Net, Field, Proc, Entity, Kind, Head}
+use Rattle.std.specs.Prelude.{◌+◌, ◌||◌, if◌then◌else◌, ◌∷◌}
+use Rattle.script_names.specs.Sources.{ℕ, pos, Bool, true, false, Option, Some, None, List, [], fold-Tree, FieldTree-F, GenTree-F, Tree-F, EventTree-F, PartTree-F, Tree, EventPart, Expr, roll-EventPart, Gen, Net, Field, Proc, Entity, Kind, Head}
 use Rattle.csp_program.specs.declared.expressions.Expr.TheVariants as expr
 use Rattle.csp_program.specs.declared.expressions.Gen.TheVariants as generator
 use Rattle.csp_program.specs.declared.networks.Net.TheVariants as net

@@ -3,7 +3,8 @@
 -- `IsExpr scope n t e m` says that the tree t is the expression e under these bound names; the other families say the same of their kind of tree. Bound
 -- names are numbered in the order of their binding tokens: those of t have the numbers from n on, and m is the number of the next one after t. The
 -- items of a comprehension, the parts of `{| |}` and the pairs of a renaming stand before its generators and under the names that these bind.
-use Rattle.script_names.specs.Sources.{◌≡◌, ℕ, ◌+◌, pos, true, false, Some, None, List, [], ◌∷◌, length, slice_get, Tree, EventPart, Expr, roll-EventPart, Gen, Net, Field, Proc, Entity, Kind, Head, Class}
+use Rattle.std.specs.Prelude.{◌≡◌, ◌+◌, ◌∷◌}
+use Rattle.script_names.specs.Sources.{ℕ, pos, true, false, Some, None, List, [], length, slice_get, Tree, EventPart, Expr, roll-EventPart, Gen, Net, Field, Proc, Entity, Kind, Head, Class}
 use Rattle.csp_base.specs.declared.operators.BinOp.{BinOp}
 use Rattle.csp_base.specs.declared.operators.SetOp.{SetOp}
 use Rattle.csp_text.specs.declared.tree.EventTree.{EventTree, roll-EventTree}
