@@ -1,5 +1,6 @@
 -- What was found of definitions, as their kinds. Only the private contracts of this crate cite it.
-use Rattle.definition_kinds.specs.Prelude.{◌≡◌, ℕ, if◌then◌else◌, Some, List, length, slice_get, first_ends, End}
+use Rattle.std.specs.Prelude.{◌≡◌, if◌then◌else◌}
+use Rattle.definition_kinds.specs.Prelude.{ℕ, Some, List, length, slice_get, first_ends, End}
 use Rattle.script_names.specs.declared.kinds.Class.{Class}
 use Rattle.script_names.specs.declared.kinds.Kind.{Kind}
 use Rattle.definition_kinds.specs.Sources.{AreLeading, marked}
