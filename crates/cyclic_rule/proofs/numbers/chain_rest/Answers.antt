@@ -1,10 +1,5 @@
-use Rattle.std.proofs.Common.{◌≡◌, ◌≤◌, ◌∙◌, ℕ, Some, length, get_or, false, refl, sym, subst, arith, inl, inr}
-use Rattle.std.specs.Prelude.{slice_get}
-use Rattle.csp_base.proofs.Standard.{cases_lt, get_or_from_slice_get, slice_get_within}
-use Rattle.csp_base.specs.Members.{has}
-use Rattle.digraph.specs.Digraph.{HasArc}
+use Rattle.cyclic_rule.proofs.Prelude.{◌≡◌, ◌≤◌, ◌∙◌, ℕ, Some, length, get_or, false, refl, sym, subst, arith, inl, inr, slice_get, cases_lt, get_or_from_slice_get, slice_get_within, has, HasArc, place_in}
 use Rattle.cyclic_rule.proofs.Chaining.{rest_is, rest_last}
-use Rattle.shape_links.proofs.Links.{place_in}
 use Rattle.cyclic_rule.proofs.numbers.chain_rest.Goals as goal
 
 pub loop-link-preserved : goal.loop-link-preserved

@@ -1,7 +1,4 @@
-use Rattle.std.proofs.Common.{◌∙◌, ap, length}
-use Rattle.csp_tables.specs.Prelude.{Shape}
-use Rattle.digraph.specs.Digraph.{HasArc}
-use Rattle.shape_links.specs.Links.{ends_of}
+use Rattle.cyclic_rule.proofs.Prelude.{◌∙◌, ap, length, Shape, HasArc, ends_of}
 use Rattle.cyclic_rule.proofs.Chaining.{order_all, order_read, ends_all, chains_more}
 use Rattle.cyclic_rule.proofs.numbers.chains.Goals as goal
 
