@@ -42,7 +42,12 @@ pub(crate) fn node_offers(
 {
     let component = setting.component(part);
     let vocabulary = setting.shape().vocabulary();
-    with_offers(alloc, vocabulary, component.node(node).accept(), EventSet::new(alloc))
+    with_offers(
+        alloc,
+        vocabulary,
+        component.node(node).accept(),
+        EventSet::new(alloc),
+    )
 }
 
 // The events, and what is offered at the pair if its state is 1.
