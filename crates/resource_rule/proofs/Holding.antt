@@ -1,5 +1,5 @@
 -- Which resources users hold while they offer to acquire others: as sets of links, and as arcs.
-use Rattle.resource_rule.proofs.Prelude.{◌≡◌, ◌<◌, ◌≤◌, ◌&&◌, ◌||◌, ◌∙◌, ℕ, List, [], ◌∷◌, true, false, not, IsTrue, length, get_or, replicate, nat_eq, inl, inr, ap, refl, sym, subst, arith, eq-eqb, eqb-true, list_any, any_of, any_member, and_from, and_parts, cases_Bool, cases_lt, cond-false, cond-true, false≢true, get_or_from_slice_get, not-false, or_cases, or_left, slice_get_within, has, IsWellFormed, Joins, Link, TripleDisjoint, accepted, alphabets_of, end_of, is_end, link_at, part_at, use_at, end_within, first_end, IsHeldWhile, holds, part_form, HasArc, has_arc, AddsArcs, AreHeld, Below, HoldsWhile, LeadsToHeld, LeadsToSome, OffersWhile, is_acquiring, resource_of, IsOfferedHolding, WatchesLink, is_offered, is_offered_at, Found, ends_complete, ends_sound, link_past, place_in, ends_of, IsUser, KeepKinds, Setting, node_of}
+use Rattle.resource_rule.proofs.Prelude.{◌≡◌, ◌<◌, ◌≤◌, ◌&&◌, ◌||◌, ◌∙◌, ℕ, List, [], ◌∷◌, true, false, not, IsTrue, length, get_or, replicate, nat_eq, inl, inr, ap, refl, sym, subst, arith, eq-eqb, eqb-true, list_any, any_of, any_member, and_from, and_parts, cases_Bool, cases_lt, cond-false, cond-true, false≢true, get_or_from_slice_get, not-false, or_cases, or_left, slice_get_within, has, IsWellFormed, Joins, Link, TripleDisjoint, accepted, alphabets_of, end_of, is_end, link_at, part_at, use_at, end_within, first_end, IsHeldWhile, holds, part_form, HasArc, has_arc, AddsArcs, AreHeld, Below, HoldsWhile, LeadsToHeld, LeadsToSome, OffersWhile, is_acquiring, resource_of, IsOfferedHolding, WatchesLink, is_offered, is_offered_at, ends_complete, ends_sound, link_past, place_in, ends_of, IsUser, KeepKinds, Setting, node_of}
 use Rattle.design_rules.proofs.Accepting.{at_place}
 use Rattle.resource_rule.proofs.Adding.{adds_tested, no_arc}
 use Rattle.resource_rule.proofs.Offering.{offer_complete, offer_sound, offered_complete, offered_sound}
@@ -80,19 +80,19 @@ module _ (g : Setting) (i : ℕ) (h : i < length g.shape.parts) (user : IsUser g
         )
 
   -- on one link, by the exploration with its parity
-  module _ (link : ℕ) (within : link < length g.shape.links) (end : IsTrue (is_end g.shape i link)) (found : Found) (x : WatchesLink g i link found) (offers held : List ℕ) (are : (e : ℕ) → has offers e ≡ is_offered_at g i found.pairs e) (one : (l : ℕ) → has held l ≡ has (link ∷ []) l) where
+  module _ (link : ℕ) (within : link < length g.shape.links) (end : IsTrue (is_end g.shape i link)) (pairs : List (ℕ × ℕ)) (x : WatchesLink g i link pairs) (offers held : List ℕ) (are : (e : ℕ) → has offers e ≡ is_offered_at g i pairs e) (one : (l : ℕ) → has held l ≡ has (link ∷ []) l) where
     pub link_sound : (k l : ℕ) → (list_any (is_acquiring g k) offers && has held l) ≡ true → (link ≡ l) × HoldsWhile g i k l
     link_sound k l both =
         let p = and_parts (list_any (is_acquiring g k) offers) (has held l) both in
         let e = any_member (is_acquiring g k) offers p.0 in
         let same : link ≡ l = elim (or_cases (nat_eq link l) false (sym (one l) ∙ p.1)) [ inl same ↦ eqb-true link l same | inr never ↦ absurd (false≢true never) ] in
-        (same, subst (HoldsWhile g i k) same (record { user = user; within = within; end = end; event = e.0; offered = offered_sound g i link h found x e.0 (sym (are e.0) ∙ e.1); acquiring = e.2 }))
+        (same, subst (HoldsWhile g i k) same (record { user = user; within = within; end = end; event = e.0; offered = offered_sound g i link h pairs x e.0 (sym (are e.0) ∙ e.1); acquiring = e.2 }))
 
     pub link_complete : (k l : ℕ) → (link ≡ l) × HoldsWhile g i k l → (list_any (is_acquiring g k) offers && has held l) ≡ true
     link_complete k l of =
         let o = subst (λ n. IsOfferedHolding g i n of.1.event) (sym of.0) of.1.offered in
         and_from (list_any (is_acquiring g k) offers) (has held l)
-        (any_of (is_acquiring g k) offers of.1.event (are of.1.event ∙ offered_complete g i link h found x of.1.event o) of.1.acquiring)
+        (any_of (is_acquiring g k) offers of.1.event (are of.1.event ∙ offered_complete g i link h pairs x of.1.event o) of.1.acquiring)
         (one l ∙ or_left (nat_eq link l) false (eq-eqb link l of.0))
 
 -- the place of a link that is held among those of its user

@@ -1,5 +1,5 @@
 -- What a user offers while it holds a resource.
-use Rattle.resource_rule.proofs.Prelude.{◌≡◌, ℕ, suc, ◌<◌, inl, inr, List, [], ◌∷◌, length, Bool, true, false, ◌&&◌, ◌||◌, cond, nat_eq, refl, sym, subst, ◌∙◌, arith, eq-eqb, list_any, cases_Bool, cond-true, and_parts, and_from, or_cases, or_left, eqb-true, false≢true, list_any_at, has, is_subset_of, IsRun, IsWellFormed, acceptances_after, accepted, end_of, part_at, end_within, holds, part_form, pair_at, Found, any_at, HaveNodes, is_offered, is_offered_at, WatchesLink, IsOfferedHolding, Setting, node_of}
+use Rattle.resource_rule.proofs.Prelude.{◌≡◌, ℕ, suc, ◌<◌, inl, inr, List, [], ◌∷◌, length, Bool, true, false, ◌&&◌, ◌||◌, cond, nat_eq, refl, sym, subst, ◌∙◌, arith, eq-eqb, list_any, cases_Bool, cond-true, and_parts, and_from, or_cases, or_left, eqb-true, false≢true, list_any_at, has, is_subset_of, IsRun, IsWellFormed, acceptances_after, accepted, end_of, part_at, end_within, holds, part_form, pair_at, any_at, HaveNodes, is_offered, is_offered_at, WatchesLink, IsOfferedHolding, Setting, node_of}
 use Rattle.csp_base.proofs.Rising.{member_of_superset, is_subset_of_from_members}
 use Rattle.resource_rule.proofs.Using.{parity_is}
 
@@ -25,9 +25,9 @@ any_pair test (p ∷ ps) some = elim (or_cases (test p) (list_any test ps) some)
 ]
 
 -- each pair of an exploration has a node
-pub have_nodes : (g : Setting) (i l : ℕ) (found : Found) → IsWellFormed g.shape → i < length g.shape.parts → WatchesLink g i l found → HaveNodes g i found.pairs
-have_nodes g i l found w h x k below =
-    let r = x.explored.reached k below in
+pub have_nodes : (g : Setting) (i l : ℕ) (pairs : List (ℕ × ℕ)) → IsWellFormed g.shape → i < length g.shape.parts → WatchesLink g i l pairs → HaveNodes g i pairs
+have_nodes g i l pairs w h x k below =
+    let r = x.reached k below in
     subst (λ n. n < length (part_at g.shape.parts i).table) r.1.node (end_within (part_at g.shape.parts i) r.0 (part_form g.shape.parts i h w.form) r.1.follows)
 
 -- ---- what is offered while a resource is held
@@ -60,17 +60,17 @@ module _ (g : Setting) (i l : ℕ) (h : i < length g.shape.parts) where
       (and_from (is_subset_of (accepted g.shape i o.run o.place) g.shape.vocabulary) (has (accepted g.shape i o.run o.place) e) (is_subset_of_from_members (accepted g.shape i o.run o.place) g.shape.vocabulary o.accepts.shared) o.offered)
 
   -- at the pairs of the exploration with the link's parity
-  module _ (found : Found) (x : WatchesLink g i l found) where
-    pub offered_sound : (e : ℕ) → is_offered_at g i found.pairs e ≡ true → IsOfferedHolding g i l e
+  module _ (pairs : List (ℕ × ℕ)) (x : WatchesLink g i l pairs) where
+    pub offered_sound : (e : ℕ) → is_offered_at g i pairs e ≡ true → IsOfferedHolding g i l e
     offered_sound e some =
-        let k = any_pair (λ (pair : ℕ × ℕ). nat_eq pair.1 1 && offers pair.0 e) found.pairs some in
-        let p = and_parts (nat_eq (pair_at found.pairs k.0).1 1) (offers (pair_at found.pairs k.0).0 e) k.2 in
-        let s = x.explored.reached k.0 k.1 in
-        offer_sound s.0 (pair_at found.pairs k.0).0 e s.1.follows s.1.node (one_is (holds g.shape l s.0) (sym (parity_is g l s.0) ∙ s.1.state ∙ eqb-true (pair_at found.pairs k.0).1 1 p.0)) p.1
+        let k = any_pair (λ (pair : ℕ × ℕ). nat_eq pair.1 1 && offers pair.0 e) pairs some in
+        let p = and_parts (nat_eq (pair_at pairs k.0).1 1) (offers (pair_at pairs k.0).0 e) k.2 in
+        let s = x.reached k.0 k.1 in
+        offer_sound s.0 (pair_at pairs k.0).0 e s.1.follows s.1.node (one_is (holds g.shape l s.0) (sym (parity_is g l s.0) ∙ s.1.state ∙ eqb-true (pair_at pairs k.0).1 1 p.0)) p.1
 
-    pub offered_complete : (e : ℕ) → IsOfferedHolding g i l e → is_offered_at g i found.pairs e ≡ true
+    pub offered_complete : (e : ℕ) → IsOfferedHolding g i l e → is_offered_at g i pairs e ≡ true
     offered_complete e o =
-        let p = x.explored.listed o.run o.accepts.runs.follows in
+        let p = x.listed o.run o.accepts.runs.follows in
         let there = subst (λ n. offers n e ≡ true) p.2.node (offer_complete e o) in
         let one = sym p.2.state ∙ parity_is g l o.run ∙ cond-true (holds g.shape l o.run) 1 0 o.holding in
-        list_any_at (λ (pair : ℕ × ℕ). nat_eq pair.1 1 && offers pair.0 e) found.pairs p.0 (0, 0) p.1 (and_from (nat_eq (pair_at found.pairs p.0).1 1) (offers (pair_at found.pairs p.0).0 e) (eq-eqb (pair_at found.pairs p.0).1 1 one) there)
+        list_any_at (λ (pair : ℕ × ℕ). nat_eq pair.1 1 && offers pair.0 e) pairs p.0 (0, 0) p.1 (and_from (nat_eq (pair_at pairs p.0).1 1) (offers (pair_at pairs p.0).0 e) (eq-eqb (pair_at pairs p.0).1 1 one) there)

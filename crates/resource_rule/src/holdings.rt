@@ -8,10 +8,10 @@ ghost use Rattle.resource_rule.specs.Holdings.{AddsArcs, AreHeld, HoldsWhile, Of
 ghost use Rattle.resource_rule.specs.Uses.{WatchesLink};
 ghost use Rattle.shape_links.specs.Setting.{IsUser, KeepKinds};
 
-use crate::arcs::resource_arcs;
+use crate::link_sets::{add_held, empty_sets, resource_arcs};
 use crate::nodes::held_links;
 use crate::offers::{node_offers, pair_offers};
-use crate::sets::{add_held, empty_sets};
+use crate::users::links_of;
 use csp_base::{Event, EventSet, NoMemory};
 use digraph::Rows;
 use observed_runs::{Explored, Parity};
@@ -109,8 +109,7 @@ fn add_links(
     requires count { length sets.old ≡ length setting.now.shape.links }
     ensures { OnOk result (AddsArcs (HoldsWhile setting.now part) sets.old sets.new) }
 {
-    let component = setting.component(part);
-    for link in component.links() {
+    for link in links_of(setting, part) {
         add_link(alloc, setting, part, *link, sets)?;
     }
     Ok(())
@@ -147,7 +146,7 @@ fn link_explored(
 ) -> Result<Explored, NoMemory>
     requires part { part < length setting.now.shape.parts }
     requires link { link < length setting.now.shape.links }
-    ensures { IfOk result (λ explored. WatchesLink setting.now part link explored) }
+    ensures { IfOk result (λ explored. WatchesLink setting.now part link explored.pairs) }
 {
     let _form = setting.shape();
     let parity = Parity::new(setting.link(link).shared());

@@ -8,7 +8,7 @@ ghost use Rattle.resource_rule.specs.Holdings.{AreHeld};
 ghost use Rattle.resource_rule.specs.Uses.{IsInTurn};
 ghost use Rattle.shape_links.specs.Setting.{node_of};
 
-use crate::users::other_end;
+use crate::users::{links_of, other_end};
 use csp_base::{Event, EventSet, NoMemory};
 use shape_links::Setting;
 use std::alloc::Global;
@@ -40,7 +40,7 @@ pub(crate) fn held_links(
     ensures { IfOk result (λ held. IfSome held (λ sets. AreHeld setting.now part sets.items)) }
 {
     let component = setting.component(part);
-    let links = link_set(alloc, component.links())?;
+    let links = link_set(alloc, links_of(setting, part))?;
     component.odd_links(alloc, &links)
 }
 

@@ -8,6 +8,7 @@ ghost use Rattle.design_rules.specs.Resource.{UsesInTurn};
 ghost use Rattle.resource_conditions.specs.Finding.{FindsRun};
 ghost use Rattle.resource_conditions.specs.Setting.{Breaks, KeepGrants, KeepTurns, UsersKeepTurns};
 ghost use Rattle.resource_rule.specs.Uses.{UsesLink, are_uses, is_use};
+ghost use Rattle.shape_links.specs.Links.{ends_of};
 ghost use Rattle.shape_links.specs.Setting.{IsUser, KeepKinds};
 
 use crate::nodes::turns_by_nodes;
@@ -57,8 +58,7 @@ fn broken_use(alloc: Global, setting: &Setting<'_>, part: u32) -> Result<Option<
     if in_turn {
         return Ok(None);
     }
-    let component = setting.component(part);
-    for link in component.links() {
+    for link in links_of(setting, part) {
         if let Some(run) = broken_on(alloc, setting, part, *link)? {
             return Ok(Some(run));
         }
@@ -88,6 +88,14 @@ fn broken_on(
     };
     let component = setting.component(part);
     component.failing_run(alloc, &Parity::new(setting.link(link).shared()), &uses)
+}
+
+// The links of the part, in rising order.
+pub(crate) fn links_of<'a>(setting: &'a Setting<'_>, part: u32) -> &'a [u32]
+    requires { part < length setting.now.shape.parts }
+    ensures { result.now ≡ ends_of setting.now.shape part }
+{
+    setting.component(part).links()
 }
 
 // The other end of a link of the part.

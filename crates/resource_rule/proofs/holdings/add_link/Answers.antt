@@ -7,7 +7,7 @@ use Rattle.resource_rule.proofs.holdings.add_link.Goals as goal
 pub pair_offers-requires-clause-nodes : goal.pair_offers-requires-clause-nodes
 pair_offers-requires-clause-nodes c =
     let g = c.args.setting.now in
-    subst (HaveNodes g c.args.part) (sym c.pairs.ensures) (have_nodes g c.args.part c.args.link c.in_ok-explored.explored c.shape-form.ensures.form c.requires.part c.in_ok-explored.ensures)
+    subst (HaveNodes g c.args.part) (sym c.pairs.ensures) (have_nodes g c.args.part c.args.link c.in_ok-explored.explored.pairs c.shape-form.ensures.form c.requires.part c.in_ok-explored.ensures)
 
 pub returns : goal.returns
 returns c =
@@ -16,9 +16,9 @@ returns c =
     let r = c.requires in
     let offers = c.in_ok-offers.offers in
     let held = c.in_ok-held.held in
-    let found = c.in_ok-explored.explored in
+    let pairs = c.in_ok-explored.explored.pairs in
     let are = λ (e : ℕ). c.in_ok-offers.ensures e ∙ ap (λ (ps : List (ℕ × ℕ)). is_offered_at c.args.setting.now c.args.part ps e) c.pairs.ensures in
     IfOk-weaker c.add_held.result _ _ (λ _ is.
     adds_tested (λ k l. (c.args.link ≡ l) × HoldsWhile c.args.setting.now c.args.part k l) (λ k l. list_any (is_acquiring c.args.setting.now k) c.in_ok-offers.offers && has c.in_ok-held.held l) c.args.sets.now c.add_held.new.sets c.add_held.ensures.count is
-    (link_sound g i r.part r.user c.args.link r.link r.end found c.in_ok-explored.ensures offers held are c.in_ok-held.ensures.members)
-    (link_complete g i r.part r.user c.args.link r.link r.end found c.in_ok-explored.ensures offers held are c.in_ok-held.ensures.members)) c.add_held.ensures.arcs
+    (link_sound g i r.part r.user c.args.link r.link r.end pairs c.in_ok-explored.ensures offers held are c.in_ok-held.ensures.members)
+    (link_complete g i r.part r.user c.args.link r.link r.end pairs c.in_ok-explored.ensures offers held are c.in_ok-held.ensures.members)) c.add_held.ensures.arcs

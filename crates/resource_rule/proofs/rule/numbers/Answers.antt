@@ -2,7 +2,7 @@ use Rattle.resource_rule.proofs.Prelude.{◌<◌, ℕ, List, length, ap, sym, su
 use Rattle.digraph.proofs.WalkLaws.{same_longest}
 use Rattle.shape_links.specs.Turned.{turned_circle}
 use Rattle.shape_links.proofs.Circles.{turned_least, circle_some}
-use Rattle.resource_rule.proofs.numbers.numbers.Goals as goal
+use Rattle.resource_rule.proofs.rule.numbers.Goals as goal
 
 pub returns-in-Ok-clause-numbers : goal.returns-in-Ok-clause-numbers
 returns-in-Ok-clause-numbers c j h _ =

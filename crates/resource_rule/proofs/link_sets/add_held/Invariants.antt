@@ -1,5 +1,5 @@
 use Rattle.resource_rule.proofs.Prelude.{◌≡◌, ◌||◌, ◌&&◌, ℕ, length, list_any, has, has_arc, is_acquiring}
-use Rattle.resource_rule.proofs.sets.add_held.Given as goal
+use Rattle.resource_rule.proofs.link_sets.add_held.Given as goal
 
 abbrev pub invariant-loop-event : goal.invariant-loop-event
 invariant-loop-event l = record {

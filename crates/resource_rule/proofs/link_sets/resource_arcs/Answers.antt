@@ -1,7 +1,7 @@
 use Rattle.resource_rule.proofs.Prelude.{◌≡◌, ◌<◌, ◌∙◌, ℕ, List, [], ap, get_or, length, replicate, subst, true, arith, get_or_read, has, Link, Shape, AddsArcs, LeadsToHeld}
 use Rattle.resource_rule.proofs.Adding.{adds_more}
 use Rattle.resource_rule.proofs.Holding.{row_adds}
-use Rattle.resource_rule.proofs.arcs.resource_arcs.Goals as goal
+use Rattle.resource_rule.proofs.link_sets.resource_arcs.Goals as goal
 
 pub add_row-requires-clause-within : goal.add_row-requires-clause-within
 add_row-requires-clause-within c l listed =

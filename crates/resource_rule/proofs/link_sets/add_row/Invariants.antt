@@ -1,5 +1,5 @@
 use Rattle.resource_rule.proofs.Prelude.{◌≡◌, ◌<◌, ◌||◌, ◌&&◌, ℕ, IsTrue, length, nat_eq, list_any, has, has_arc, resource_of}
-use Rattle.resource_rule.proofs.arcs.add_row.Given as goal
+use Rattle.resource_rule.proofs.link_sets.add_row.Given as goal
 
 abbrev pub invariant-loop-event : goal.invariant-loop-event
 invariant-loop-event l = record {

@@ -1,6 +1,6 @@
 use Rattle.resource_rule.proofs.Prelude.{◌≡◌, ◌∙◌, ◌||◌, ◌&&◌, ℕ, List, nat_eq, subst, sym, true, list_any, has_first, or_right, has, has_arc, resource_of}
 use Rattle.resource_rule.proofs.Adding.{one_more_test}
-use Rattle.resource_rule.proofs.arcs.add_row.Goals as goal
+use Rattle.resource_rule.proofs.link_sets.add_row.Goals as goal
 
 pub add_arc-requires-clause-link : goal.add_arc-requires-clause-link
 add_arc-requires-clause-link c = c.loop-event.invariant.within c.in-Some.event (subst (λ (xs : List ℕ). has xs c.in-Some.event ≡ true) (sym c.in-Some.ensures.steps) (has_first c.in-Some.event c.next.new.self))
