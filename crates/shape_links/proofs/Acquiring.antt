@@ -1,12 +1,5 @@
 -- Each event acquires at most one resource, which is an end of its link.
-use Rattle.std.proofs.Common.{◌≡◌, ℕ, ◌+◌, ◌<◌, inl, inr, ◌⊎◌, [], length, Bool, true, false, not, ◌&&◌, cond, IsTrue, nat_eq, refl, sym, ap, subst, ◌∙◌, arith, eqb-true}
-use Rattle.csp_base.proofs.Standard.{cases_lt, and_parts, or_cases, both_ways, false≢true, get_or_past}
-use Rattle.csp_base.specs.Members.{has}
-use Rattle.csp_tables.specs.Prelude.{part_at, alphabets_of, TripleDisjoint, is_end, link_at, IsWellFormed, UseSets, use_at}
-use Rattle.design_rules.proofs.Shapes.{some_link}
-use Rattle.shape_links.specs.Setting.{Setting, KeepKinds}
-use Rattle.shape_links.specs.Links.{IsOwner}
-use Rattle.shape_links.specs.Acquired.{is_acquired_by}
+use Rattle.shape_links.proofs.Prelude.{◌≡◌, ℕ, ◌+◌, ◌<◌, inl, inr, ◌⊎◌, [], length, Bool, true, false, not, ◌&&◌, cond, IsTrue, nat_eq, refl, sym, ap, subst, ◌∙◌, arith, eqb-true, cases_lt, and_parts, or_cases, both_ways, false≢true, get_or_past, has, part_at, alphabets_of, TripleDisjoint, is_end, link_at, IsWellFormed, UseSets, use_at, some_link, Setting, KeepKinds, IsOwner, is_acquired_by}
 use Rattle.shape_links.proofs.Links.{one_owner}
 
 pub is_part : (g : Setting) (j : ℕ) → length g.uses ≡ length g.shape.parts → (use_at g.uses j).resource ≡ true → j < length g.shape.parts

@@ -1,7 +1,5 @@
 -- Circles, passed the other way round.
-use Rattle.std.proofs.Common.{◌≡◌, ℕ, zero, suc, ◌-◌, ◌<◌, inl, inr, List, [], ◌∷◌, ◌++◌, length, get_or, take, drop, sym, ap, subst, ◌∙◌, refl, arith}
-use Rattle.std.specs.Prelude.{reverse}
-use Rattle.csp_base.proofs.Standard.{cases_eq, get_or-reverse, length-reverse, reverse-append, drop-append_seam, take-append_seam}
+use Rattle.shape_links.proofs.Prelude.{◌≡◌, ℕ, zero, suc, ◌-◌, ◌<◌, inl, inr, List, [], ◌∷◌, ◌++◌, length, get_or, take, drop, sym, ap, subst, ◌∙◌, refl, arith, reverse, cases_eq, get_or-reverse, length-reverse, reverse-append, drop-append_seam, take-append_seam}
 use Rattle.digraph.specs.Circle.{Leads, IsLeastCircle}
 use Rattle.shape_links.specs.Turned.{turned_circle}
 

@@ -3,4 +3,5 @@ pub mod Circles
 pub mod Deciding
 pub mod Links
 pub mod OddLinks
+pub mod Prelude
 pub mod Watching

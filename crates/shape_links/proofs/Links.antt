@@ -1,17 +1,9 @@
 -- The link of an event, the links of a part, and what is read of a shape.
-use Rattle.std.proofs.Common.{◌≡◌, ℕ, zero, suc, ◌+◌, ◌<◌, ◌≤◌, inl, inr, List, [], ◌∷◌, ◌++◌, length, get_or, cond, true, false, Some, IsTrue, nat_eq, refl, sym, ap, subst, ◌∙◌, arith, eq-eqb}
-use Rattle.std.specs.Prelude.{slice_get, slice_index}
-use Rattle.csp_base.proofs.Standard.{cases_Bool, cases_eq, cond-true, cond-false, or_cases, or_left, or_right, eqb-true, both_ways, false≢true, list_any-append, slice_get_within, get_or_from_slice_get, get_or_read, get_or_past}
-use Rattle.csp_base.specs.Members.{has}
-use Rattle.csp_tables.specs.Prelude.{Part, part_at, alphabets_of, sharers, TripleDisjoint, node_at, is_possible, Link, Shape, Joins, is_end, link_at, acceptance_at, IsWellFormed, IsOn}
+use Rattle.shape_links.proofs.Prelude.{◌≡◌, ℕ, zero, suc, ◌+◌, ◌<◌, ◌≤◌, inl, inr, List, [], ◌∷◌, ◌++◌, length, get_or, cond, true, false, Some, IsTrue, nat_eq, refl, sym, ap, subst, ◌∙◌, arith, eq-eqb, slice_get, slice_index, cases_Bool, cases_eq, cond-true, cond-false, or_cases, or_left, or_right, eqb-true, both_ways, false≢true, list_any-append, slice_get_within, get_or_from_slice_get, get_or_read, get_or_past, has, Part, part_at, alphabets_of, sharers, TripleDisjoint, node_at, is_possible, Link, Shape, Joins, is_end, link_at, acceptance_at, IsWellFormed, IsOn, part_form, possible_within, first_end, sharer, some_link, IsOwner, IsOnOne, AreOwners, ends_below, ends_of}
 use Rattle.net_sound.proofs.Sharers.{at_three}
-use Rattle.net_sound.proofs.Within.{part_form}
 use Rattle.design_rules.specs.Cyclic.{AllKeepPlaces, ReachesLink}
 use Rattle.design_rules.proofs.Holders.{one_link}
 use Rattle.design_rules.proofs.Places.{one_link_at}
-use Rattle.design_rules.proofs.Runs.{possible_within}
-use Rattle.design_rules.proofs.Shapes.{first_end, sharer, some_link}
-use Rattle.shape_links.specs.Links.{IsOwner, IsOnOne, AreOwners, ends_below, ends_of}
 use Rattle.csp_base.proofs.Listed.{has_push_cases}
 
 -- a part that has the event is an end of the link that has it

@@ -1,23 +1,13 @@
 -- Of which links a run has an odd number of events, step by step.
-use Rattle.std.proofs.Common.{◌≡◌, ℕ, suc, ◌+◌, ◌<◌, List, [], ◌∷◌, ◌++◌, Bool, true, false, not, ◌&&◌, cond, IsTrue, length, get_or, nat_eq, inl, inr, refl, sym, ap, subst, ◌∙◌, arith, eqb-true}
+use Rattle.shape_links.proofs.Prelude.{◌≡◌, ℕ, suc, ◌+◌, ◌<◌, List, [], ◌∷◌, ◌++◌, Bool, true, false, not, ◌&&◌, cond, IsTrue, length, get_or, nat_eq, inl, inr, refl, sym, ap, subst, ◌∙◌, arith, eqb-true, and_parts, cases_Bool, cases_lt, both_ways, false≢true, has, IsWellFormed, Link, Shape, end_of, is_possible, link_at, node_after, node_at, part_at, end_within, run_induction, part_form, AreEnough, pair_at, table_of, IsOwner, AreOddLinks, IsTurned, Component}
 use Rattle.csp_base.proofs.Booleans.{and_false}
-use Rattle.csp_base.proofs.Standard.{and_parts, cases_Bool, cases_lt, both_ways, false≢true}
 use Rattle.csp_base.specs.Standard.{pointwise}
-use Rattle.csp_base.specs.Prelude.{has}
 use Rattle.csp_tables.proofs.Runs.{end_push, node_form}
-use Rattle.csp_tables.specs.Prelude.{IsWellFormed, Link, Shape, end_of, is_possible, link_at, node_after, node_at, part_at}
 use Rattle.design_rules.proofs.Counts.{count_push_more, count_push_same}
-use Rattle.design_rules.proofs.Runs.{end_within, run_induction}
 use Rattle.design_rules.specs.Prelude.{count_in, is_odd}
-use Rattle.net_sound.proofs.Within.{part_form}
 use Rattle.observed_runs.proofs.Leading.{listed_step, step_within}
-use Rattle.observed_runs.specs.Prelude.{AreEnough, pair_at}
 use Rattle.shape_links.proofs.Links.{link_past}
 use Rattle.shape_links.proofs.Watching.{off_link}
-use Rattle.shape_links.specs.Component.{table_of}
-use Rattle.shape_links.specs.Links.{IsOwner}
-use Rattle.shape_links.specs.OddLinks.{AreOddLinks, IsTurned}
-use Rattle.shape_links.specs.declared.component.Component.{Component}
 
 -- nothing comes or goes by an event that is not on the link, or on one that is not watched
 unturned : (w on x : Bool) → (on ≡ true → w ≡ false) → cond (w && on) (not x) x ≡ x

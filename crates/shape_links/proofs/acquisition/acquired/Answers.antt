@@ -1,7 +1,4 @@
-use Rattle.std.proofs.Common.{◌≡◌, ◌∙◌, Some, true, false, ap, sym, subst, refl}
-use Rattle.std.proofs.lemmas.Option.{none-some}
-use Rattle.csp_tables.specs.Shape.{Link}
-use Rattle.shape_links.specs.Acquired.{is_acquired_by}
+use Rattle.shape_links.proofs.Prelude.{◌≡◌, ◌∙◌, Some, true, false, ap, sym, subst, refl, none-some, Link, is_acquired_by}
 use Rattle.shape_links.proofs.Acquiring.{acquired_link, at_left, at_right, at_none}
 use Rattle.shape_links.proofs.acquisition.acquired.Goals as goal
 

@@ -1,5 +1,4 @@
-use Rattle.std.proofs.Common.{◌≡◌, ◌-◌, ◌∙◌, ◌++◌, List, ℕ, length, drop, take, ap}
-use Rattle.std.specs.Prelude.{reverse}
+use Rattle.shape_links.proofs.Prelude.{◌≡◌, ◌-◌, ◌∙◌, ◌++◌, List, ℕ, length, drop, take, ap, reverse}
 use Rattle.shape_links.proofs.Circles.{turned_by}
 use Rattle.shape_links.proofs.circle.turned.Goals as goal
 

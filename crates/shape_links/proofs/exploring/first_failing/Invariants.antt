@@ -1,5 +1,4 @@
-use Rattle.std.proofs.Common.{◌≡◌, ℕ, ◌<◌, true}
-use Rattle.observed_runs.specs.Prelude.{pair_at}
+use Rattle.shape_links.proofs.Prelude.{◌≡◌, ℕ, ◌<◌, true, pair_at}
 use Rattle.shape_links.proofs.exploring.first_failing.Given as goal
 
 abbrev pub invariant-loop-place : goal.invariant-loop-place

@@ -1,7 +1,4 @@
-use Rattle.std.proofs.Common.{◌≡◌, ◌<◌, ◌≤◌, ◌∙◌, [], length, sym, arith}
-use Rattle.csp_base.proofs.Standard.{get_or_read}
-use Rattle.net_sound.proofs.Within.{part_form}
-use Rattle.shape_links.specs.Component.{table_of}
+use Rattle.shape_links.proofs.Prelude.{◌≡◌, ◌<◌, ◌≤◌, ◌∙◌, [], length, sym, arith, get_or_read, part_form, table_of}
 use Rattle.shape_links.proofs.OddLinks.{odd_after}
 use Rattle.shape_links.proofs.odd_links.are_kept.Goals as goal
 

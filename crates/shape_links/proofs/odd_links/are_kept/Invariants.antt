@@ -1,7 +1,4 @@
-use Rattle.std.proofs.Common.{ℕ, ◌<◌, [], IsTrue, get_or}
-use Rattle.csp_tables.specs.Prelude.{is_possible, node_after, node_at}
-use Rattle.shape_links.specs.Component.{table_of}
-use Rattle.shape_links.specs.OddLinks.{IsTurned}
+use Rattle.shape_links.proofs.Prelude.{ℕ, ◌<◌, [], IsTrue, get_or, is_possible, node_after, node_at, table_of, IsTurned}
 use Rattle.shape_links.proofs.odd_links.are_kept.Given as goal
 
 abbrev pub invariant-loop-node : goal.invariant-loop-node

@@ -1,7 +1,4 @@
-use Rattle.std.proofs.Common.{◌≡◌, ◌<◌, ◌≤◌, ◌∙◌, ℕ, [], length, ap, sym, arith, below_more}
-use Rattle.csp_base.proofs.Standard.{get_or_read, not-false}
-use Rattle.observed_runs.specs.Prelude.{pair_at}
-use Rattle.shape_links.specs.Component.{table_of}
+use Rattle.shape_links.proofs.Prelude.{◌≡◌, ◌<◌, ◌≤◌, ◌∙◌, ℕ, [], length, ap, sym, arith, below_more, get_or_read, not-false, pair_at, table_of}
 use Rattle.shape_links.proofs.OddLinks.{all_turned, kept_step, step_below}
 use Rattle.shape_links.proofs.odd_links.is_kept_from.Goals as goal
 

@@ -1,6 +1,4 @@
-use Rattle.std.proofs.Common.{ℕ, ◌<◌, [], get_or}
-use Rattle.observed_runs.specs.Prelude.{pair_at}
-use Rattle.shape_links.specs.OddLinks.{IsTurned}
+use Rattle.shape_links.proofs.Prelude.{ℕ, ◌<◌, [], get_or, pair_at, IsTurned}
 use Rattle.shape_links.proofs.odd_links.is_kept_from.Given as goal
 
 abbrev pub invariant-loop-event : goal.invariant-loop-event

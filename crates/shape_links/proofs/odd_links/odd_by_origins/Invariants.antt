@@ -1,5 +1,4 @@
-use Rattle.std.proofs.Common.{◌≡◌, length}
-use Rattle.shape_links.specs.Component.{table_of}
+use Rattle.shape_links.proofs.Prelude.{◌≡◌, length, table_of}
 use Rattle.shape_links.proofs.odd_links.odd_by_origins.Given as goal
 
 abbrev pub invariant-loop-place : goal.invariant-loop-place

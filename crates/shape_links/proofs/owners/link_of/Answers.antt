@@ -1,6 +1,5 @@
-use Rattle.std.proofs.Common.{◌≡◌, ◌-◌, ◌∙◌, suc, sym, arith}
+use Rattle.shape_links.proofs.Prelude.{◌≡◌, ◌-◌, ◌∙◌, suc, sym, arith, same_Some}
 use Rattle.shape_links.proofs.owners.link_of.Goals as goal
-use Rattle.std.proofs.lemmas.Option.{same_Some}
 
 pub returns-clause-found : goal.returns-clause-found
 returns-clause-found c shape l are h =

@@ -1,7 +1,4 @@
-use Rattle.std.proofs.Common.{◌≡◌, ◌+◌, ◌<◌, ◌≤◌, ℕ, List, length, cond, sym, ap, subst, ◌∙◌}
-use Rattle.std.specs.Prelude.{slice_index}
-use Rattle.csp_base.specs.Members.{has}
-use Rattle.csp_tables.specs.Shape.{Link, link_at}
+use Rattle.shape_links.proofs.Prelude.{◌≡◌, ◌+◌, ◌<◌, ◌≤◌, ℕ, List, length, cond, sym, ap, subst, ◌∙◌, slice_index, has, Link, link_at}
 use Rattle.shape_links.proofs.Links.{owners_more, all_owners, link_read}
 use Rattle.shape_links.proofs.owners.links_of_events.Goals as goal
 

@@ -1,5 +1,4 @@
-use Rattle.std.proofs.Common.{◌≡◌, ◌+◌, ◌-◌, ℕ, vec_len}
-use Rattle.std.specs.Prelude.{slice_index}
+use Rattle.shape_links.proofs.Prelude.{◌≡◌, ◌+◌, ◌-◌, ℕ, vec_len, slice_index}
 use Rattle.shape_links.proofs.owners.own.Given as goal
 
 abbrev pub invariant-loop-owners : goal.invariant-loop-owners

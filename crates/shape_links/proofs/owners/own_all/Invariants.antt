@@ -1,6 +1,4 @@
-use Rattle.std.proofs.Common.{◌≡◌, ℕ, cond}
-use Rattle.std.specs.Prelude.{slice_index}
-use Rattle.csp_base.specs.Members.{has}
+use Rattle.shape_links.proofs.Prelude.{◌≡◌, ℕ, cond, slice_index, has}
 use Rattle.shape_links.proofs.owners.own_all.Given as goal
 
 abbrev pub invariant-loop-event : goal.invariant-loop-event

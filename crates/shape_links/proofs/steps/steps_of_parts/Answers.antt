@@ -1,7 +1,4 @@
-use Rattle.std.proofs.Common.{◌≡◌, ◌≤◌, ℕ, List, length, ap, subst, arith}
-use Rattle.csp_tables.specs.Part.{Part}
-use Rattle.observed_runs.specs.Enough.{HaveEnough}
-use Rattle.shape_links.specs.Links.{AreSteps}
+use Rattle.shape_links.proofs.Prelude.{◌≡◌, ◌≤◌, ℕ, List, length, ap, subst, arith, Part, HaveEnough, AreSteps}
 use Rattle.shape_links.proofs.Watching.{part_has_form, steps_more}
 use Rattle.shape_links.proofs.steps.steps_of_parts.Goals as goal
 

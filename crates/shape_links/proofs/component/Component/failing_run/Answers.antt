@@ -1,6 +1,4 @@
-use Rattle.std.proofs.Common.{◌<◌, ◌≤◌, ℕ, List, length, sym, subst, arith}
-use Rattle.observed_runs.specs.Prelude.{IsExploration, pair_at}
-use Rattle.shape_links.specs.Component.{IsFirstFailing, table_of}
+use Rattle.shape_links.proofs.Prelude.{◌<◌, ◌≤◌, ℕ, List, length, sym, subst, arith, IsExploration, pair_at, IsFirstFailing, table_of}
 use Rattle.shape_links.proofs.Deciding.{decided_run, pair_within}
 use Rattle.shape_links.proofs.component.Component.failing_run.Goals as goal
 

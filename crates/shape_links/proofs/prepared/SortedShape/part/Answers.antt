@@ -1,6 +1,4 @@
-use Rattle.std.proofs.Common.{◌∙◌, ap, sym, subst}
-use Rattle.csp_tables.specs.Prelude.{HasForm, Shape}
-use Rattle.net_sound.proofs.Within.{part_form}
+use Rattle.shape_links.proofs.Prelude.{◌∙◌, ap, sym, subst, HasForm, Shape, part_form}
 use Rattle.shape_links.proofs.Links.{part_read}
 use Rattle.shape_links.proofs.prepared.SortedShape.part.Goals as goal
 

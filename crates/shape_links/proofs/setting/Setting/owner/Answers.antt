@@ -1,6 +1,4 @@
-use Rattle.std.proofs.Common.{subst}
-use Rattle.shape_links.specs.Setting.{Setting}
-use Rattle.shape_links.specs.Links.{IsOwner}
+use Rattle.shape_links.proofs.Prelude.{subst, Setting, IsOwner}
 use Rattle.shape_links.proofs.setting.Setting.owner.Goals as goal
 
 pub returns-clause-found : goal.returns-clause-found
