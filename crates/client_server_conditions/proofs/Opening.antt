@@ -1,5 +1,5 @@
 -- When a link is open, as the exploration of one end shows it; and which events of the link are acknowledgements.
-use Rattle.client_server_conditions.proofs.Prelude.{◌≡◌, ℕ, suc, ◌+◌, List, [], ◌∷◌, Bool, true, false, not, ◌&&◌, ◌||◌, cond, IsTrue, nat_eq, inl, inr, refl, sym, ap, ◌∙◌, arith, list_any, cases_Bool, or_cases, or_left, or_right, false≢true, cond-true, cond-false, common_member, meets_of_from_member, has, meets_of, Joins, RoleSets, link_at, role_at, count_in, is_odd, has_acknowledgements, is_acknowledgement, is_open, observed, parity_step, Network, Asks, Grants, is_open_at, or_unless}
+use Rattle.client_server_conditions.proofs.Prelude.{◌≡◌, ℕ, suc, List, [], ◌∷◌, Bool, true, false, not, ◌&&◌, ◌||◌, cond, IsTrue, nat_eq, inl, inr, refl, sym, ap, ◌∙◌, arith, list_any, cases_Bool, or_cases, or_left, or_right, false≢true, cond-true, cond-false, common_member, meets_of_from_member, has, meets_of, Joins, RoleSets, link_at, role_at, count_in, is_odd, has_acknowledgements, is_acknowledgement, is_open, observed, parity_step, Network, Asks, Grants, is_open_at, or_unless}
 use Rattle.design_rules.proofs.Counts.{count_more, count_same}
 use Rattle.csp_base.proofs.Listed.{any_member, any_of}
 
@@ -8,50 +8,36 @@ use Rattle.csp_base.proofs.Listed.{any_member, any_of}
 abbrev number : Bool → ℕ
 number b = cond b 1 0
 
-is_one : (b : Bool) → nat_eq (number b) 1 ≡ b
-is_one true = refl
-is_one false = refl
+turned : (S : List ℕ) (e : ℕ) (b : Bool) → has S e ≡ true → parity_step S (number b) e ≡ number (not b)
+turned S e true on = cond-true (has S e) 0 1 on
+turned S e false on = cond-true (has S e) 1 0 on
 
-turned : (b : Bool) → cond (nat_eq (number b) 0) 1 0 ≡ number (not b)
-turned true = refl
-turned false = refl
+again : (b odd : Bool) → cond odd (not (not b)) (not b) ≡ cond (not odd) (not b) b
+again true true = refl
+again false true = refl
+again b false = refl
 
--- the parity after another odd or even number
-abbrev flip : Bool → Bool → Bool
-flip b odd = cond odd (not b) b
-
-flip_not : (b odd : Bool) → flip (not b) odd ≡ flip b (not odd)
-flip_not true true = refl
-flip_not true false = refl
-flip_not false true = refl
-flip_not false false = refl
-
-odd_next : (S : List ℕ) (e : ℕ) (s : List ℕ) → has S e ≡ true → is_odd (count_in S (e ∷ s)) ≡ not (is_odd (count_in S s))
-odd_next S e s on = ap is_odd (count_more S e s on ∙ plus_one (count_in S s))
-  where
-    plus_one : (n : ℕ) → n + 1 ≡ suc n
-    plus_one n = omega arith
-
-parity_counts : (S : List ℕ) (b : Bool) (s : List ℕ) → observed (parity_step S) (number b) s ≡ number (flip b (is_odd (count_in S s)))
-parity_counts S b [] = refl
+-- the state after a run from an odd or even state, by whether the number of its events is odd
+parity_counts : (S : List ℕ) (b : Bool) (s : List ℕ) → nat_eq (observed (parity_step S) (number b) s) 1 ≡ cond (is_odd (count_in S s)) (not b) b
+parity_counts S true [] = refl
+parity_counts S false [] = refl
 parity_counts S b (e ∷ s) = elim (cases_Bool (has S e)) [
   | inl on ↦
-      let to : parity_step S (number b) e ≡ number (not b) = cond-true (has S e) (cond (nat_eq (number b) 0) 1 0) (number b) on ∙ turned b in
-      ap (λ n. observed (parity_step S) n s) to ∙ parity_counts S (not b) s ∙ ap number (flip_not b (is_odd (count_in S s)) ∙ ap (flip b) (sym (odd_next S e s on)))
+      let more : count_in S (e ∷ s) ≡ suc (count_in S s) = omega (arith, count_more S e s on) in
+      ap (λ n. nat_eq (observed (parity_step S) n s) 1) (turned S e b on) ∙ parity_counts S (not b) s ∙ again b (is_odd (count_in S s)) ∙ ap (λ n. cond (is_odd n) (not b) b) (sym more)
   | inr off ↦
-      let to : parity_step S (number b) e ≡ number b = cond-false (has S e) (cond (nat_eq (number b) 0) 1 0) (number b) off in
-      ap (λ n. observed (parity_step S) n s) to ∙ parity_counts S b s ∙ ap (λ n. number (flip b (is_odd n))) (sym (count_same S e s off))
+      ap (λ n. nat_eq (observed (parity_step S) n s) 1) (cond-false (has S e) (cond (nat_eq (number b) 0) 1 0) (number b) off) ∙ parity_counts S b s ∙ ap (λ n. cond (is_odd n) (not b) b) (sym (count_same S e s off))
 ]
 
-flip_false : (odd : Bool) → flip false odd ≡ odd
-flip_false true = refl
-flip_false false = refl
+itself : (b : Bool) → cond b true false ≡ b
+itself true = refl
+itself false = refl
 
 -- the parity that a run leaves tells whether the link is open
 pub opened_is : (network : Network) (l : ℕ) (s : List ℕ) (acknowledged : Bool) → acknowledged ≡ has_acknowledgements network.shape network.roles l → is_open_at acknowledged (observed (parity_step (link_at network.shape l).shared) 0 s) ≡ is_open network.shape network.roles l s
 opened_is network l s acknowledged is =
     let S = (link_at network.shape l).shared in
-    let odd : nat_eq (observed (parity_step (link_at network.shape l).shared) 0 s) 1 ≡ is_odd (count_in (link_at network.shape l).shared s) = ap (λ n. nat_eq n 1) (parity_counts S false s) ∙ is_one (flip false (is_odd (count_in S s))) ∙ flip_false (is_odd (count_in S s)) in
+    let odd : nat_eq (observed (parity_step (link_at network.shape l).shared) 0 s) 1 ≡ is_odd (count_in (link_at network.shape l).shared s) = parity_counts S false s ∙ itself (is_odd (count_in S s)) in
     ap (λ a. a && nat_eq (observed (parity_step S) 0 s) 1) is ∙ ap (λ b. has_acknowledgements network.shape network.roles l && b) odd
 
 -- ---- acknowledgements
@@ -75,6 +61,12 @@ either_met S A B test same = both_or_neither (meets_of S A || meets_of S B) (lis
       | inr second ↦ or_right (meets_of S A) (meets_of S B) (meets_of_from_member S B x.0 x.1 second)
     ])
 
+pub swapped : (a b : Bool) → (a || b) ≡ (b || a)
+swapped true true = refl
+swapped true false = refl
+swapped false true = refl
+swapped false false = refl
+
 none_first : (a b : Bool) → a ≡ false → (a || b) ≡ b
 none_first true b h = absurd (false≢true (sym h))
 none_first false b h = refl
@@ -89,12 +81,6 @@ module _ (network : Network) (i l : ℕ) where
     | inl x ↦ ap (λ p. has (role_at network.roles p).cack e || has (role_at network.roles (link_at network.shape l).right).cack e) x.0 ∙ ap (λ p. has (role_at network.roles j).cack e || has (role_at network.roles p).cack e) x.1
     | inr x ↦ ap (λ p. has (role_at network.roles p).cack e || has (role_at network.roles (link_at network.shape l).right).cack e) x.0 ∙ ap (λ p. has (role_at network.roles k).cack e || has (role_at network.roles p).cack e) x.1 ∙ swapped (has (role_at network.roles k).cack e) (has (role_at network.roles j).cack e)
   ]
-    where
-      swapped : (a b : Bool) → (a || b) ≡ (b || a)
-      swapped true true = refl
-      swapped true false = refl
-      swapped false true = refl
-      swapped false false = refl
 
   ends_ask : (e : ℕ) → Asks network i l → IsTrue (has (link_at network.shape l).shared e) → for_ends e ≡ is_acknowledgement network.roles i e
   ends_ask e a on = for_both i a.server e a.joins ∙ or_unless (has (role_at network.roles i).cack e) (has (role_at network.roles a.server).cack e) (a.client.no_asking e on).1 ∙ sym (or_unless (has (role_at network.roles i).cack e) (has (role_at network.roles i).sack e) (a.client.no_service e on).1)

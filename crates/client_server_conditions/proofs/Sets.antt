@@ -69,16 +69,11 @@ record IsOneOf (a b c d w : Bool) : Type 0 where
   all : ((a || b) || (c || d)) ≡ w
 
 one_of : (a b c d w : Bool) → count a b c d ≡ one w → IsOneOf a b c d w
-one_of true true true true w h = absurd (omega (arith, at_most_one w))
-one_of true true true false w h = absurd (omega (arith, at_most_one w))
-one_of true true false true w h = absurd (omega (arith, at_most_one w))
-one_of true true false false w h = absurd (omega (arith, at_most_one w))
-one_of true false true true w h = absurd (omega (arith, at_most_one w))
-one_of true false true false w h = absurd (omega (arith, at_most_one w))
+one_of true true c d w h = absurd (omega (arith, at_most_one w))
+one_of true false true d w h = absurd (omega (arith, at_most_one w))
 one_of true false false true w h = absurd (omega (arith, at_most_one w))
 one_of true false false false w h = record { client = refl; server = refl; apart = refl; all = true_one w h }
-one_of false true true true w h = absurd (omega (arith, at_most_one w))
-one_of false true true false w h = absurd (omega (arith, at_most_one w))
+one_of false true true d w h = absurd (omega (arith, at_most_one w))
 one_of false true false true w h = absurd (omega (arith, at_most_one w))
 one_of false true false false w h = record { client = refl; server = refl; apart = refl; all = true_one w h }
 one_of false false true true w h = absurd (omega (arith, at_most_one w))

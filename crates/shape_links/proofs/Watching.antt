@@ -1,10 +1,7 @@
 -- Observers of links see shared events alone. And enough of a node's steps show what is shared there.
-use Rattle.shape_links.proofs.Prelude.{◌≡◌, ℕ, suc, ◌+◌, ◌-◌, ◌<◌, inl, inr, List, [], ◌∷◌, ◌++◌, length, get_or, Bool, true, false, ◌&&◌, nat_eq, sym, ap, subst, ◌∙◌, arith, eq-eqb, slice_index, length-append, get_or_append_left, get_or-append_seam, cases_Bool, cases_eq, cases_lt, cond-true, cond-false, and_from, or_cases, both_ways, false≢true, list_any_at, list_all_at, has, HasForm, Part, part_at, Shape, IsWellFormed, link_at, part_form, link_shared, SeesOnly, AreEnough, HaveEnough, pair_at, lap_step, parity_step, holder_step, AreOwners, AreSteps}
+use Rattle.shape_links.proofs.Prelude.{◌≡◌, ℕ, suc, ◌+◌, ◌-◌, ◌<◌, inl, inr, List, [], ◌∷◌, ◌++◌, length, get_or, Bool, true, false, ◌&&◌, nat_eq, sym, ap, subst, ◌∙◌, arith, eq-eqb, slice_index, length-append, get_or_append_left, get_or-append_seam, cases_Bool, cases_eq, cases_lt, cond-true, cond-false, and_from, or_cases, both_ways, false≢true, list_any_at, list_all_at, has, HasForm, Part, part_at, Shape, IsWellFormed, link_at, part_form, link_shared, SeesOnly, AreEnough, HaveEnough, pair_at, parity_step, holder_step, AreOwners, AreSteps}
 use Rattle.std.specs.List.{list_all, list_any}
 use Rattle.shape_links.proofs.Links.{part_read}
-
-pub lap_only : (V : List ℕ) (last : ℕ) → SeesOnly V (lap_step V last)
-lap_only V last state e out = cond-false (has V e) _ state out
 
 -- an event that is not shared is on no link
 pub off_link : (shape : Shape) (l e : ℕ) → IsWellFormed shape → l < length shape.links → has shape.vocabulary e ≡ false → has (link_at shape l).shared e ≡ false

@@ -1,11 +1,6 @@
-use Rattle.client_server_conditions.proofs.Prelude.{◌≡◌, ◌∙◌, ◌&&◌, ◌||◌, Bool, List, ℕ, true, false, nat_eq, ap, refl, sym, has-with_member, has}
+use Rattle.client_server_conditions.proofs.Prelude.{◌∙◌, ◌&&◌, ◌||◌, Bool, List, ℕ, nat_eq, ap, sym, has-with_member, has}
+use Rattle.client_server_conditions.proofs.Opening.{swapped}
 use Rattle.client_server_conditions.proofs.open_links.insert_if.Goals as goal
-
-swapped : (a b : Bool) → (a || b) ≡ (b || a)
-swapped true true = refl
-swapped true false = refl
-swapped false true = refl
-swapped false false = refl
 
 pub returns : goal.returns
 returns c l =
