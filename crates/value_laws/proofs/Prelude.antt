@@ -26,7 +26,7 @@ pub use Rattle.csp_program.specs.declared.programs.Channel.{Channel}
 pub use Rattle.csp_program.specs.declared.programs.Content.{Content}
 pub use Rattle.csp_program.specs.declared.programs.Def.{Def}
 pub use Rattle.csp_program.specs.declared.programs.EventInfo.{EventInfo}
-pub use Rattle.std.proofs.Common.{Bool, Err, IsTrue, List, None, Ok, Option, Some, [], ap, arith, cond, drop, eqb, false, inl, inr, length, map, nat_eq, not, refl, subst, suc, sym, take, true, zero, ℕ, ◌&&◌, ◌*◌, ◌++◌, ◌+◌, ◌-◌, ◌<◌, ◌^◌, ◌∙◌, ◌∷◌, ◌≡◌, ◌≤◌, ◌⊎◌}
+pub use Rattle.std.proofs.Common.{Bool, Err, IsTrue, List, None, Ok, Option, Some, [], ap, arith, cond, drop, eq-eqb, eqb, false, inl, inr, length, map, nat_eq, not, refl, subst, suc, sym, take, true, zero, ℕ, ◌&&◌, ◌*◌, ◌++◌, ◌+◌, ◌-◌, ◌<◌, ◌^◌, ◌∙◌, ◌∷◌, ◌≡◌, ◌≤◌, ◌⊎◌}
 pub use Rattle.std.proofs.lemmas.Bool.{cases_eq, false≢true, leb-true}
 pub use Rattle.std.specs.Option.{option_map}
 pub use Rattle.std.specs.Prelude.{int_le, int_lt, is_none, is_some, nat_le, nat_lt, neg_ℤ, negsuc, pos, slice_get, ℤ, ◌*ℤ◌, ◌+ℤ◌, ◌-ℤ◌, ◌<ℤ◌, ◌↔◌}
