@@ -5,4 +5,4 @@ mod least;
 mod offers;
 mod rows;
 
-pub use offers::Offers;
+pub use offers::{Offers, event_sets};

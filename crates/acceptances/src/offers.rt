@@ -75,8 +75,8 @@ fn unstable_marks(alloc: Global, table: &RawTable) -> Result<Vec<bool>, NoMemory
     Ok(marks)
 }
 
-// For each term the set of the events of its steps.
-fn event_sets(alloc: Global, table: &RawTable) -> Result<Vec<EventSet>, NoMemory>
+/// For each term the set of the events of its steps.
+pub fn event_sets(alloc: Global, table: &RawTable) -> Result<Vec<EventSet>, NoMemory>
     ensures { IfOk result (λ sets. AreOffers table.now sets.items) }
 {
     let mut sets = empty_sets(alloc, table.count())?;

@@ -51,7 +51,8 @@ fn arc(rows: &mut Rows, network: &Network<'_>, link: u32) -> Result<(), NoMemory
     requires link { link < length network.now.shape.links }
     requires count { length rows.old ≡ length network.now.shape.parts }
     ensures count { length rows.new ≡ length rows.old }
-    ensures sound { OnOk result ((i j : ℕ) → HasArc rows.new i j → HasArc rows.old i j ⊎ ServesOn network.now link i j) }
+    ensures sound { OnOk result ((i j : ℕ) → HasArc rows.new i j
+        → HasArc rows.old i j ⊎ ServesOn network.now link i j) }
     ensures kept { OnOk result ((i j : ℕ) → HasArc rows.old i j → HasArc rows.new i j) }
     ensures complete { OnOk result ((i j : ℕ) → ServesOn network.now link i j → HasArc rows.new i j) }
 {

@@ -1,27 +1,14 @@
 -- From the parts of two networks to their components: which conform, and which is the first that does not.
-use Rattle.std.proofs.Common.{◌≡◌, ℕ, suc, ◌<◌, inl, inr, List, [], ◌∷◌, get_or, length, Some, refl, sym, ap, subst, ◌∙◌, arith}
-use Rattle.std.specs.Prelude.{slice_get}
-use Rattle.csp_base.proofs.Standard.{get_or_read, same_Some}
+use Rattle.comparison.proofs.Prelude.{◌≡◌, ℕ, suc, ◌<◌, inl, inr, List, [], ◌∷◌, get_or, length, Some, refl, sym, ap, subst, ◌∙◌, arith, slice_get, get_or_read, same_Some, tables_tell, Proc, Content, HasForm, HaveForm, Component, leaves, Part, part_at, IsPartOf, component_of, one_part_each, part_of, part_within, alphabets, HasSilentBound, IsLive, IsSpelled, Network, HasParts, ProcessStep, AllConform, Conforms, Tells, ComponentsConform, ConformBefore, FailsToConform, HaveSameEvents, StandsFirst, failure}
 use Rattle.conformance.specs.Conforming.{TableConforms}
 use Rattle.conformance.specs.Told.{Fails}
 use Rattle.conformance.specs.declared.fault.ConformFault.{ConformFault}
 use Rattle.conformance.specs.declared.fault.ConformFault.TheVariants as fault
-use Rattle.conformance.proofs.Telling.{tables_tell}
-use Rattle.csp_program.specs.declared.processes.Proc.{Proc}
-use Rattle.csp_program.specs.declared.programs.Content.{Content}
-use Rattle.csp_tables.specs.Prelude.{HasForm, HaveForm, Component, leaves, Part, part_at, IsPartOf}
-use Rattle.net_sound.proofs.Parts.{component_of, one_part_each, part_of, part_within}
 use Rattle.net_sound.proofs.Within.{part_form}
-use Rattle.network_layout.specs.Triple.{alphabets}
-use Rattle.network_stages.specs.Prelude.{HasSilentBound, IsLive, IsSpelled, Network, HasParts}
 use Rattle.network_trees.proofs.InOrder.{network_is_tree}
-use Rattle.process_steps.specs.ComponentStep.{ProcessStep}
-use Rattle.conformance.specs.Conforms.{AllConform, Conforms}
 use Rattle.conformance.proofs.Inheriting.{conforming_networks_are_live}
-use Rattle.csp_base.specs.Stops.{Tells}
 use Rattle.csp_base.specs.declared.stop.Stop.{Stop}
 use Rattle.csp_base.specs.declared.stop.Stop.TheVariants as stop
-use Rattle.comparison.specs.Conforming.{ComponentsConform, ConformBefore, FailsToConform, HaveSameEvents, StandsFirst, failure}
 use Rattle.comparison.proofs.Lists.{alphabet_there, as_many_alphabets}
 
 -- component by component

@@ -1,4 +1,6 @@
 pub mod Components
 pub mod Lists
 pub mod Matching
+pub mod Naming
+pub mod Prelude
 pub mod Walk

@@ -1,13 +1,6 @@
 -- Lists that agree or differ at some place.
-use Rattle.std.proofs.Common.{◌≡◌, ℕ, suc, ◌<◌, ◌≤◌, inl, inr, List, [], ◌∷◌, length, Bool, true, false, MatchBool, nat_eq, Option, Some, None, refl, sym, ap, ap₂, ◌∙◌, arith}
-use Rattle.std.specs.Prelude.{slice_get}
-use Rattle.csp_base.specs.Standard.{option_map, bytes_decides, pointwise}
-use Rattle.csp_base.proofs.Standard.{cases_lt, false≢true, length-map, same_Some, slice_get-map, slice_get_past}
-use Rattle.csp_program.specs.declared.processes.Proc.{Proc}
-use Rattle.csp_program.specs.declared.programs.Content.{Content}
-use Rattle.csp_tables.specs.Network.{Component}
-use Rattle.network_layout.specs.Triple.{alphabets}
-use Rattle.comparison.specs.Agreement.{printed_events}
+use Rattle.comparison.proofs.Prelude.{◌≡◌, ℕ, suc, ◌<◌, ◌≤◌, inl, inr, List, [], ◌∷◌, length, Bool, true, false, MatchBool, nat_eq, Option, Some, None, refl, sym, ap, ap₂, ◌∙◌, arith, slice_get, option_map, bytes_decides, cases_lt, false≢true, length-map, same_Some, slice_get-map, slice_get_past, Proc, Content, Component, alphabets, printed_events}
+use Rattle.csp_base.specs.Standard.{pointwise}
 
 -- lists that agree at each place are the same
 pub same_everywhere : {X : Type 0} (xs ys : List X) → ((k : ℕ) → slice_get xs k ≡ slice_get ys k) → xs ≡ ys

@@ -1,24 +1,12 @@
 -- A verdict on a network and its specification tells a fault by which they do not match, or that they match.
-use Rattle.std.proofs.Common.{◌≡◌, ◌↔◌, ℕ, zero, suc, List, [], ◌∷◌, Some, slice_get, inl, inr, sym, ap, subst}
-use Rattle.std.proofs.lemmas.Option.{none-some, same_Some, slice_get_within}
-use Rattle.conformance.proofs.Telling.{faults_refute}
-use Rattle.csp_tables.specs.Prelude.{Label, Component, leaves}
-use Rattle.network_layout.specs.Triple.{alphabets}
+use Rattle.comparison.proofs.Prelude.{◌≡◌, ◌↔◌, ℕ, zero, suc, List, [], ◌∷◌, Some, slice_get, inl, inr, sym, ap, subst, same_Some, faults_refute, Label, Component, leaves, alphabets, Network, HaveFewSets, HasNoParts, ProcessStep, AllConform, Conforms, Point, passed, told, verdict_status, Side, Verdict, DifferFirstAt, printed_events, ConformanceDecides, IsCompared, IsConforming, PartsOr, ComponentsConform, FailsToConform}
+use Rattle.std.proofs.lemmas.Option.{none-some, slice_get_within}
 use Rattle.network_stages.proofs.Excluded.{faults_exclude_tables}
-use Rattle.network_stages.specs.Prelude.{Network, HaveFewSets, HasNoParts}
-use Rattle.process_steps.specs.ComponentStep.{ProcessStep}
-use Rattle.conformance.specs.Conforms.{AllConform, Conforms}
-use Rattle.report.specs.Prelude.{Point, passed, told, verdict_status}
 use Rattle.report.specs.declared.answer.Refusal.{Refusal}
 use Rattle.report.specs.declared.answer.Shortfall.{Shortfall}
-use Rattle.report.specs.declared.answer.Side.{Side}
-use Rattle.report.specs.declared.answer.Verdict.{Verdict}
 use Rattle.report.specs.declared.answer.Side.TheVariants as side
 use Rattle.report.specs.declared.answer.Verdict.TheVariants as verdict
-use Rattle.comparison.specs.Agreement.{DifferFirstAt, printed_events}
-use Rattle.comparison.specs.Compared.{ConformanceDecides, IsCompared, IsConforming, PartsOr}
 use Rattle.comparison.specs.Complete.{ComparisonIsExact, IsWithinLimits, Matches}
-use Rattle.comparison.specs.Conforming.{ComponentsConform, FailsToConform}
 
 -- ---- each of the faults excludes its point
 

@@ -1,19 +1,10 @@
 -- The spine of a comparison: what a walk answers that is past some of its points, and one that stops at the parts of a network.
-use Rattle.std.proofs.Common.{◌≡◌, List, Result}
+use Rattle.comparison.proofs.Prelude.{◌≡◌, List, Result, leaves, Part, alphabets, Network, HasParts, HasTables, at_halt, goes_on, halts_weaker, passed, told, Answers, HaltsWith, Side, Verdict, printed_events, ConformanceDecides, IsCompared, PartsOr}
 use Rattle.std.specs.Result.{IsErrAnd}
-use Rattle.csp_tables.specs.Prelude.{leaves, Part}
-use Rattle.network_layout.specs.Triple.{alphabets}
-use Rattle.network_stages.specs.Prelude.{Network, HasParts, HasTables}
 use Rattle.network_stages.specs.declared.component_tables.ComponentTable.{ComponentTable}
-use Rattle.report.proofs.Points.{at_halt, goes_on, halts_weaker}
-use Rattle.report.specs.Prelude.{passed, told, Answers, HaltsWith}
 use Rattle.report.specs.declared.stop.Halt.{Halt}
 use Rattle.report.specs.declared.answer.Done.{Done}
-use Rattle.report.specs.declared.answer.Side.{Side}
-use Rattle.report.specs.declared.answer.Verdict.{Verdict}
 use Rattle.report.specs.declared.answer.Side.TheVariants as side
-use Rattle.comparison.specs.Agreement.{printed_events}
-use Rattle.comparison.specs.Compared.{ConformanceDecides, IsCompared, PartsOr}
 
 -- a fault at these points is one whatever follows
 fails : (s : Side) (network : Network) (Then : Verdict → Type 0) (v : Verdict) → PartsOr s network (λ w. ⊥) v → PartsOr s network Then v

@@ -46,7 +46,8 @@ fn check_parts(
     ensures conform { OnOk result (ConformBefore parts.now specified.now (length parts.now)) }
     ensures within { IfErr result (λ f. f.0 < length parts.now) }
     ensures earlier { IfErr result (λ f. ConformBefore parts.now specified.now f.0) }
-    ensures told { IfErr result (λ f. Tells (Fails (part_at parts.now f.0).table (part_at specified.now f.0).table) f.1) }
+    ensures told { IfErr result (λ f. Tells (Fails (part_at parts.now f.0).table
+        (part_at specified.now f.0).table) f.1) }
 {
     let mut conforming = ConformingParts::new(alloc);
     for place in 0..parts.len() {

@@ -2,8 +2,9 @@
 
 ghost use Rattle.std.specs.Prelude.{◌≡◌, ◌≤◌, ◌<◌, IfErr, IfNone, IfOk, IfSome, MatchBool, OnOk, length, slice_get};
 ghost use Rattle.csp_base.specs.Stops.{Tells};
-ghost use Rattle.comparison.specs.Agreement.{DifferFirstAt, HaveOtherEvents, printed_events};
+ghost use Rattle.comparison.specs.Agreement.{AgreeAt, EventsDifferAt, HaveOtherEvents, printed_events};
 
+use crate::names::{have_same_names, is_same_event};
 use csp_base::{Bytes, Event, NoMemory, Stop};
 use csp_program::Program;
 use report::{Refusal, event_text};
@@ -26,10 +27,14 @@ pub(crate) fn check_events(
 
 // The least number at which the printed events of the programs differ, if they do.
 fn first_other(alloc: Global, program: &Program, other: &Program) -> Result<Option<u32>, NoMemory>
-    ensures differ { IfOk result (λ found. IfSome found (DifferFirstAt (printed_events program.now) (printed_events other.now))) }
+    ensures differ { IfOk result (λ found. IfSome found (EventsDifferAt program.now other.now)) }
     ensures same { IfOk result (λ found. IfNone found (printed_events program.now ≡ printed_events other.now)) }
 {
+    let same_names = have_same_names(program.content(), other.content());
     for number in 0..most_events(program, other) {
+        if same_names && is_same_event(program.content(), other.content(), number) {
+            continue;
+        }
         if !same_event(alloc, program, other, number)? {
             return Ok(Some(number));
         }
@@ -54,8 +59,8 @@ fn same_event(
     other: &Program,
     number: u32,
 ) -> Result<bool, NoMemory>
-    ensures { IfOk result (λ same. MatchBool same (slice_get (printed_events program.now) number ≡ slice_get (printed_events other.now) number)
-        (slice_get (printed_events program.now) number ≡ slice_get (printed_events other.now) number → ⊥)) }
+    ensures { IfOk result (λ same. MatchBool same (AgreeAt program.now other.now number)
+        (AgreeAt program.now other.now number → ⊥)) }
 {
     let text = printed(alloc, program, number)?;
     let other_text = printed(alloc, other, number)?;

@@ -7,6 +7,7 @@ mod comparing;
 mod conforming;
 mod events;
 mod laws;
+mod names;
 
 pub use comparing::compared;
 pub use laws::comparison_is_exact;

@@ -1,12 +1,6 @@
 -- Runs of components by themselves, put together to a run of the network: the same events in the same order, each component with those of its
 -- alphabet, and silent steps between.
-use Rattle.std.proofs.Common.{◌≡◌, ℕ, inl, inr, List, [], ◌∷◌, ◌++◌, true, IsTrue, MatchBool, refl, sym, ap, ap₂, subst, ◌∙◌}
-use Rattle.std.proofs.lemmas.Bool.{cases_Bool, cond-true, cond-false}
-use Rattle.csp_base.specs.Members.{has}
-use Rattle.csp_tables.specs.Prelude.{Label, silent, visible, Path, Component, ComponentStep, NetworkStep, Tree, leaves, in_some_component, AllTakePart, FlatStep, project, visible_events, After, WellNested}
-use Rattle.net_sound.proofs.FlatLists.{alphabets, flat_alphabets, match_true, match_false, same_some, step_alphabet}
-use Rattle.net_sound.proofs.Flattening.{back, kept}
-use Rattle.net_sound.proofs.Local.{AllAfter}
+use Rattle.conformance.proofs.Prelude.{◌≡◌, ℕ, inl, inr, List, [], ◌∷◌, ◌++◌, true, IsTrue, MatchBool, refl, sym, ap, ap₂, subst, ◌∙◌, cases_Bool, cond-true, cond-false, has, Label, silent, visible, Path, Component, ComponentStep, NetworkStep, Tree, leaves, in_some_component, AllTakePart, FlatStep, project, visible_events, After, WellNested, alphabets, flat_alphabets, match_true, match_false, same_some, step_alphabet, back, kept, AllAfter, path_alphabet}
 
 -- ---- paths
 
@@ -73,10 +67,6 @@ record AllApart {T : Type 0} (Step : T → Label → T → Type 0) (cs : List (C
   rest : AllAfter Step s after ds
   same : alphabets cs ≡ alphabets before
 
-quiet_alphabet : {T : Type 0} (Step : T → Label → T → Type 0) (ls : List Label) (c d : Component T) → Path (ComponentStep Step) c ls d → c.alphabet ≡ d.alphabet
-quiet_alphabet Step [] c d h = ap (λ (x : Component _). x.alphabet) h
-quiet_alphabet Step (l ∷ ls) c d h = step_alphabet Step c l h.0 h.1 ∙ quiet_alphabet Step ls h.0 d h.2
-
 -- one component before, at and after an event of the network, which it takes part in or not
 record OneApart {T : Type 0} (Step : T → Label → T → Type 0) (c : Component T) (e : ℕ) (s : List ℕ) (d : Component T) : Type 0 where
   before : Component T
@@ -91,7 +81,7 @@ one_apart Step c e s d a =
     elim (cases_Bool (has c.alphabet e)) [
       | inl owned ↦
           let r = taken_apart (ComponentStep Step) a.0 c d e (project c.alphabet s) a.1 (a.2 ∙ cond-true (has c.alphabet e) (e ∷ project c.alphabet s) (project c.alphabet s) owned) in
-          let same : c.alphabet ≡ r.before.alphabet = quiet_alphabet Step r.quiet.labels c r.before r.quiet.path in
+          let same : c.alphabet ≡ r.before.alphabet = path_alphabet Step r.quiet.labels c r.before r.quiet.path in
           let then : r.before.alphabet ≡ r.after.alphabet = step_alphabet Step r.before (visible e) r.after r.step in
           record {
             before = r.before;

@@ -1,12 +1,6 @@
 -- What has the same key conforms alike.
-use Rattle.std.proofs.Common.{◌≡◌, ℕ, zero, suc, ◌⊎◌, inl, inr, List, [], ◌∷◌, ◌++◌, length, map, Bool, Some, refl, sym, ap₂, subst, ◌∙◌, arith, append_assoc, append-nil}
-use Rattle.std.specs.Prelude.{slice_get}
-use Rattle.csp_base.specs.Standard.{flat_map, is_member}
-use Rattle.csp_base.proofs.Standard.{cases_Bool, cond-false, cond-true, none-some, same_Some}
+use Rattle.conformance.proofs.Prelude.{◌≡◌, ℕ, zero, suc, ◌⊎◌, inl, inr, List, [], ◌∷◌, ◌++◌, length, map, Bool, Some, refl, sym, ap₂, subst, ◌∙◌, arith, append_assoc, append-nil, slice_get, flat_map, is_member, cases_Bool, cond-false, cond-true, none-some, same_Some, NodesHaveForm, Node, Part, AreMatched, TableConforms, AllKeysConform, IsKey, KeyConforms, event_code, listed, node_code, set_code, step_code, table_code}
 use Rattle.containers.specs.Members.{with_new}
-use Rattle.csp_tables.specs.Prelude.{NodesHaveForm, Node, Part}
-use Rattle.conformance.specs.Conforming.{AreMatched, TableConforms}
-use Rattle.conformance.specs.Keys.{AllKeysConform, IsKey, KeyConforms, event_code, listed, node_code, set_code, step_code, table_code}
 use Rattle.conformance.proofs.Renaming.{back, renamed, renamed_node, renamed_step, there}
 
 -- Two codes, whatever follows each, are the same only where what they tell and what follows are the same.

@@ -1,15 +1,5 @@
 -- A table that follows the runs of another one: where it stands, and what the pairs to which runs lead say of both.
-use Rattle.std.proofs.Common.{◌≡◌, ℕ, zero, suc, ◌<◌, ◌≤◌, inl, inr, List, [], ◌∷◌, ◌++◌, length, get_or, true, false, IsTrue, Option, Some, None, refl, sym, ap, subst, ◌∙◌, arith}
-use Rattle.std.specs.Prelude.{slice_get}
-use Rattle.csp_base.proofs.Standard.{and_from, and_parts, cases_Bool, cond-true, cond-false, get_or_past, get_or_from_slice_get, slice_get_cases}
-use Rattle.csp_base.specs.Members.{has}
-use Rattle.csp_tables.specs.Prelude.{HasForm, StepsHaveForm, Part, Node, IsRun, acceptances_after, end_of, is_possible, is_run, no_node, node_after, node_at}
-use Rattle.csp_tables.proofs.Runs.{node_form, run_push}
-use Rattle.observed_runs.specs.Prelude.{Found, IsExploration, StepsTo, LeadsTo, observed, pair_at}
-use Rattle.observed_runs.proofs.Leading.{listed_step, step_within}
-use Rattle.conformance.specs.Conforming.{HasWithin, RefusesAfter, RunsOutside, TableConforms}
-use Rattle.conformance.specs.Finding.{AllAccept, AreInside, RefusesAt}
-use Rattle.conformance.specs.Following.{follow_step}
+use Rattle.conformance.proofs.Prelude.{◌≡◌, ℕ, ◌<◌, ◌≤◌, inl, inr, List, [], ◌∷◌, ◌++◌, length, get_or, true, false, IsTrue, nat_eq, Option, Some, None, refl, sym, ap, subst, ◌∙◌, arith, slice_get, and_from, and_parts, cases_Bool, cond-true, cond-false, eqb-true, false≢true, get_or_past, get_or_from_slice_get, or_cases, slice_get_cases, has, HasForm, StepsHaveForm, Part, Node, IsRun, acceptances_after, end_of, is_possible, is_run, no_node, node_after, node_at, node_form, run_push, Found, IsExploration, StepsTo, LeadsTo, observed, pair_at, listed_step, step_within, HasWithin, RefusesAfter, RunsOutside, TableConforms, AllAccept, AreInside, RefusesAt, follow_step}
 
 -- ---- nodes
 
@@ -19,19 +9,19 @@ past_end table n none = elim (slice_get_cases table n).1 [ inl x ↦ absurd (let
 pub steps_form : (p : Part) (n : ℕ) (node : Node) → HasForm p → slice_get p.table n ≡ Some node → StepsHaveForm p.alphabet (length p.table) node.next
 steps_form p n node form at = subst (λ (x : Node). StepsHaveForm p.alphabet (length p.table) x.next) (get_or_from_slice_get p.table n node no_node at) (node_form p.alphabet (length p.table) p.table n form.nodes)
 
-step_known : (a : List ℕ) (m : ℕ) (steps : List (ℕ × ℕ)) (k : ℕ) → StepsHaveForm a m steps → k < length steps → IsTrue (has a (get_or steps k (0, 0)).0)
-step_known a m [] k form h = absurd (omega arith)
-step_known a m (step ∷ steps) zero form h = form.0
-step_known a m (step ∷ steps) (suc k) form h = step_known a m steps k form.3 (omega arith)
+pub possible_known : (a : List ℕ) (m : ℕ) (steps : List (ℕ × ℕ)) (e : ℕ) → StepsHaveForm a m steps → is_possible steps e ≡ true → has a e ≡ true
+possible_known a m [] e form h = absurd (false≢true h)
+possible_known a m (s ∷ steps) e form h = elim (or_cases (nat_eq s.0 e) (is_possible steps e) h) [
+  | inl here ↦ subst (λ x. IsTrue (has a x)) (eqb-true s.0 e here) form.0
+  | inr later ↦ possible_known a m steps e form.3 later
+]
 
 module _ (p : Part) (form : HasForm p) where
   of_form : (n : ℕ) → StepsHaveForm p.alphabet (length p.table) (node_at p.table n).next
   of_form n = node_form p.alphabet (length p.table) p.table n form.nodes
 
-  possible_known : (n e : ℕ) → is_possible (node_at p.table n).next e ≡ true → has p.alphabet e ≡ true
-  possible_known n e h =
-      let at = listed_step (node_at p.table n).next e h in
-      subst (λ x. has p.alphabet x ≡ true) at.event (step_known p.alphabet (length p.table) (node_at p.table n).next at.place (of_form n) at.within)
+  event_known : (n e : ℕ) → is_possible (node_at p.table n).next e ≡ true → has p.alphabet e ≡ true
+  event_known n e h = possible_known p.alphabet (length p.table) (node_at p.table n).next e (of_form n) h
 
   after_within : (n e : ℕ) → is_possible (node_at p.table n).next e ≡ true → node_after p.table n e < length p.table
   after_within n e h =
@@ -50,11 +40,11 @@ run_last table n (x ∷ s) e h = run_last table (node_after table n x) s e (and_
 module _ (p q : Part) (form : HasForm p) (other : HasForm q) where
   step_on : (n m e : ℕ) → is_possible (node_at p.table n).next e ≡ true → is_possible (node_at q.table m).next e ≡ true → follow_step p.alphabet q.table m e ≡ node_after q.table m e
   step_on n m e here there =
-      cond-true (has p.alphabet e) _ _ (possible_known p form n e here) ∙ cond-true (is_possible (node_at q.table m).next e) _ _ there
+      cond-true (has p.alphabet e) _ _ (event_known p form n e here) ∙ cond-true (is_possible (node_at q.table m).next e) _ _ there
 
   step_out : (n m e : ℕ) → is_possible (node_at p.table n).next e ≡ true → is_possible (node_at q.table m).next e ≡ false → follow_step p.alphabet q.table m e ≡ length q.table
   step_out n m e here there =
-      cond-true (has p.alphabet e) _ _ (possible_known p form n e here) ∙ cond-false (is_possible (node_at q.table m).next e) _ _ there
+      cond-true (has p.alphabet e) _ _ (event_known p form n e here) ∙ cond-false (is_possible (node_at q.table m).next e) _ _ there
 
   -- past the end there is no way back
   step_past : (e : ℕ) → follow_step p.alphabet q.table (length q.table) e ≡ length q.table

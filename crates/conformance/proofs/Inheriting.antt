@@ -1,13 +1,6 @@
 -- The freedom from deadlock that a network inherits from a specified one.
-use Rattle.std.proofs.Common.{◌≡◌, ℕ, inl, inr, List, [], ◌∷◌, ◌||◌, IsTrue, MatchBool, get_or, true, false, refl, sym, ap, ap₂, subst, ◌∙◌}
-use Rattle.std.proofs.lemmas.Option.{get_or_from_slice_get, slice_get_within}
-use Rattle.csp_base.specs.Members.{has}
-use Rattle.csp_tables.specs.Prelude.{Label, silent, visible, Path, Stable, Component, ComponentStep, NetworkStep, leaves, in_some_component, OneMoves, AllTakePart, Part, project, ArePartsOf, IsPartOf, acceptances_after, visible_events, After, IsAcceptance, Offers}
-use Rattle.net_sound.proofs.FlatLists.{alphabets, by_test, match_true, match_false, step_alphabet}
-use Rattle.net_sound.proofs.Flattening.{back, forth}
-use Rattle.net_sound.proofs.Local.{AllAfter, all_after, run_forth, run_kept}
-use Rattle.net_sound.proofs.Soundness.{silence_is_bounded}
-use Rattle.conformance.specs.Conforms.{AllConform, Conforms}
+use Rattle.conformance.proofs.Prelude.{◌≡◌, ℕ, inl, inr, List, [], ◌∷◌, ◌||◌, IsTrue, MatchBool, get_or, true, false, refl, sym, ap, ap₂, subst, ◌∙◌, get_or_from_slice_get, has, Label, silent, visible, Stable, Component, ComponentStep, NetworkStep, leaves, in_some_component, OneMoves, AllTakePart, Part, project, ArePartsOf, IsPartOf, acceptances_after, visible_events, After, IsAcceptance, Offers, alphabets, by_test, match_true, match_false, back, forth, AllAfter, all_after, run_forth, run_kept, path_alphabet, silence_is_bounded, AllConform, Conforms}
+use Rattle.std.proofs.lemmas.Option.{slice_get_within}
 use Rattle.conformance.specs.Inherits.{ConformingNetworksAreLive}
 use Rattle.conformance.proofs.Composing.{composed, owned_along, run_back, run_owned}
 
@@ -26,10 +19,6 @@ none_moves Step [] es st h = h
 none_moves Step (d ∷ ds) [] st h = h
 none_moves Step (d ∷ ds) (e ∷ es) st (inl h) = st.0 e h.0
 none_moves Step (d ∷ ds) (e ∷ es) st (inr h) = none_moves Step ds es st.1 h.1
-
-path_alphabet : {T : Type 0} (Step : T → Label → T → Type 0) (ls : List Label) (c d : Component T) → Path (ComponentStep Step) c ls d → c.alphabet ≡ d.alphabet
-path_alphabet Step [] c d h = ap (λ (x : Component _). x.alphabet) h
-path_alphabet Step (l ∷ ls) c d h = step_alphabet Step c l h.0 h.1 ∙ path_alphabet Step ls h.0 d h.2
 
 -- ---- where a specification can stand, after the same events
 

@@ -1,9 +1,5 @@
 -- Places of events in an alphabet, found one after another.
-use Rattle.std.proofs.Common.{◌≡◌, ℕ, suc, ◌+◌, ◌<◌, ◌≤◌, inl, inr, List, [], ◌∷◌, length, get_or, IsTrue, nat_eq, sym, ap, subst, ◌∙◌, arith}
-use Rattle.std.specs.Prelude.{slice_index}
-use Rattle.csp_base.proofs.Standard.{cases_eq, cases_lt, eqb-true, false≢true, or_cases}
-use Rattle.csp_base.specs.Members.{has}
-use Rattle.conformance.specs.Keys.{IsOneToOne}
+use Rattle.conformance.proofs.Prelude.{◌≡◌, ℕ, suc, ◌<◌, ◌≤◌, inl, inr, List, [], ◌∷◌, length, get_or, IsTrue, nat_eq, sym, ap, subst, ◌∙◌, arith, slice_index, eqb-true, false≢true, or_cases, has, IsOneToOne}
 
 -- At the number of the event in the place k stands a place at which it is.
 pub record IsPlace (events places : List ℕ) (k : ℕ) : Type 0 where
@@ -12,16 +8,6 @@ pub record IsPlace (events places : List ℕ) (k : ℕ) : Type 0 where
 -- the same of each event before the place n
 abbrev pub ArePlaces : List ℕ → ℕ → List ℕ → Type 0
 ArePlaces events n places = (k : ℕ) → k < n → IsPlace events places k
-
-pub one_more_place : (events places more : List ℕ) (n x : ℕ) → x ≡ get_or events n 0 → slice_index more x ≡ n → ((e : ℕ) → (e ≡ x → ⊥) → slice_index more e ≡ slice_index places e)
-    → ArePlaces events n places → ArePlaces events (n + 1) more
-one_more_place events places more n x at put others all k less = elim (cases_eq (get_or events k 0) x) [
-  | inl same ↦ record { here = ap (λ e. get_or events (slice_index more e) 0) same ∙ ap (λ i. get_or events i 0) put ∙ sym at ∙ sym same }
-  | inr other ↦ elim (cases_lt k n) [
-    | inl old ↦ record { here = ap (λ i. get_or events i 0) (others (get_or events k 0) other) ∙ (all k old).here }
-    | inr new ↦ absurd (other (let e : k ≡ n = omega arith in ap (λ i. get_or events i 0) e ∙ sym at))
-  ]
-]
 
 -- where a member stands
 member_place : (xs : List ℕ) (e : ℕ) → IsTrue (has xs e) → (k : ℕ) × (k < length xs) × (get_or xs k 0 ≡ e)

@@ -3,6 +3,7 @@ pub mod Decoding
 pub mod Following
 pub mod Inheriting
 pub mod Keying
+pub mod Prelude
 pub mod Renaming
 pub mod Searching
 pub mod Standing

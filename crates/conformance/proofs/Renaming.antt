@@ -1,12 +1,7 @@
 -- Tables with other numbers for their events, one number for each event of an alphabet, conform to each other as the tables do.
-use Rattle.std.proofs.Common.{◌≡◌, ℕ, zero, suc, ◌<◌, List, [], ◌∷◌, ◌||◌, ◌&&◌, if◌then◌else◌, length, map, get_or, true, IsTrue, Bool, nat_eq, refl, sym, ap, ap₂, subst, ◌∙◌, inl, inr, eq-eqb}
+use Rattle.conformance.proofs.Prelude.{◌≡◌, ℕ, zero, suc, ◌<◌, List, [], ◌∷◌, ◌||◌, ◌&&◌, if◌then◌else◌, length, map, get_or, true, IsTrue, Bool, nat_eq, refl, sym, ap, ap₂, subst, ◌∙◌, inl, inr, eq-eqb, and_parts, cases_Bool, eqb-true, false≢true, length-map, or_cases, or_left, or_right, has, StepsHaveForm, AreWithin, NodesHaveForm, Node, IsRun, acceptances_after, end_of, is_possible, is_run, node_after, node_at, target, IsWithin, node_form, HasWithin, TableConforms, IsOneToOne}
 use Rattle.std.proofs.Math.ListN.{get_or-map as map-at}
-use Rattle.csp_base.proofs.Standard.{and_parts, cases_Bool, eqb-true, false≢true, length-map, or_cases, or_left, or_right}
-use Rattle.csp_base.specs.Members.{has}
-use Rattle.csp_tables.specs.Prelude.{StepsHaveForm, AreWithin, NodesHaveForm, Node, IsRun, acceptances_after, end_of, is_possible, is_run, node_after, node_at, target, IsWithin}
-use Rattle.csp_tables.proofs.Runs.{node_form}
-use Rattle.conformance.specs.Conforming.{HasWithin, TableConforms}
-use Rattle.conformance.specs.Keys.{IsOneToOne}
+use Rattle.conformance.proofs.Following.{possible_known}
 
 abbrev pub renamed_step : (ℕ → ℕ) → ℕ × ℕ → ℕ × ℕ
 renamed_step g step = (g step.0, step.1)
@@ -47,13 +42,6 @@ module _ (a : List ℕ) (g : ℕ → ℕ) (one : IsOneToOne a g) where
   possible_from m (s ∷ steps) x form h = elim (or_cases (nat_eq (g s.0) x) (is_possible (renamed_steps g steps) x) h) [
     | inl here ↦ (s.0, form.0, eqb-true (g s.0) x here)
     | inr later ↦ possible_from m steps x form.3 later
-  ]
-
-  known : (m : ℕ) (steps : List (ℕ × ℕ)) (e : ℕ) → StepsHaveForm a m steps → is_possible steps e ≡ true → IsTrue (has a e)
-  known m [] e form h = absurd (false≢true h)
-  known m (s ∷ steps) e form h = elim (or_cases (nat_eq s.0 e) (is_possible steps e) h) [
-    | inl here ↦ subst (λ x. IsTrue (has a x)) (eqb-true s.0 e here) form.0
-    | inr later ↦ known m steps e form.3 later
   ]
 
   -- ---- sets
@@ -121,7 +109,7 @@ module _ (a : List ℕ) (g : ℕ → ℕ) (one : IsOneToOne a g) where
     run_events n [] run = tt
     run_events n (e ∷ s) run =
         let p = and_parts (is_possible (node_at T n).next e) (is_run T (node_after T n e) s) run in
-        (known m (node_at T n).next e (steps_form n) p.0, run_events (node_after T n e) s p.1)
+        (possible_known a m (node_at T n).next e (steps_form n) p.0, run_events (node_after T n e) s p.1)
 
     possible_at : (n e : ℕ) → IsTrue (has a e) → is_possible (node_at U n).next (g e) ≡ is_possible (node_at T n).next e
     possible_at n e h = ap (λ (x : Node). is_possible x.next (g e)) (node_same T n) ∙ possible_same m (node_at T n).next e (steps_form n) h

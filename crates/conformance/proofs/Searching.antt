@@ -1,12 +1,7 @@
 -- An event is looked for in the steps of a node, which rise.
-use Rattle.std.proofs.Common.{◌≡◌, ℕ, zero, suc, ◌+◌, ◌<◌, ◌≤◌, inl, inr, List, [], ◌∷◌, length, get_or, true, false, IsTrue, Some, None, sym, ap, subst, ◌∙◌, arith, if◌then◌else◌, Less, Equal, Greater}
-use Rattle.csp_base.specs.Standard.{IsNonDecreasingBy, IsPartitionPoint, is_eq, nat_cmp, ordering_index, bytes_decides, slice_cmp, texts_ties}
-use Rattle.csp_base.proofs.Standard.{cases_Bool, cases_lt, cond-true, cond-false, false≢true, nat_tests, get_or_default, get_or_read}
-use Rattle.csp_base.specs.Prelude.{is_subset_of, has}
+use Rattle.conformance.proofs.Prelude.{◌≡◌, ℕ, zero, suc, ◌+◌, ◌<◌, ◌≤◌, inl, inr, List, [], ◌∷◌, length, get_or, true, false, IsTrue, Some, None, sym, ap, subst, ◌∙◌, arith, if◌then◌else◌, Less, Equal, Greater, IsNonDecreasingBy, IsPartitionPoint, is_eq, nat_cmp, ordering_index, bytes_decides, slice_cmp, texts_ties, cases_Bool, cases_lt, cond-true, cond-false, false≢true, nat_tests, get_or_default, get_or_read, has, IsWithin, is_possible, target, BeginsAbove, StepsHaveForm, HasWithin, listed_step, step_listed}
+use Rattle.csp_base.specs.Prelude.{is_subset_of}
 use Rattle.csp_base.proofs.SetLaws.{is_subset_of_from_members, member_of_superset}
-use Rattle.csp_tables.specs.Prelude.{IsWithin, is_possible, target, BeginsAbove, StepsHaveForm}
-use Rattle.conformance.specs.Conforming.{HasWithin}
-use Rattle.observed_runs.proofs.Leading.{listed_step, step_listed}
 
 higher : (a b x : ℕ) → a ≤ b → ordering_index (nat_cmp a x) ≤ ordering_index (nat_cmp b x)
 higher a b x le = grind (arith, nat_tests)
@@ -70,9 +65,6 @@ same_set M N equal = (bytes_decides M N).0 (texts_ties M N ∙ ap is_eq equal)
 pub found_within : (sets : List (List ℕ)) (M : List ℕ) (k : ℕ) → k < length sets → ((d : List ℕ) → slice_cmp nat_cmp (get_or sets k d) M ≡ Equal) → HasWithin sets M
 found_within sets M k h equal = record { place = k; within = h; lies = λ e x. subst (λ N. IsTrue (has N e)) (same_set (get_or sets k []) M (equal [])) x }
 
-pub subset_within : (M N : List ℕ) → is_subset_of M N ≡ true → IsWithin M N
-subset_within M N h e x = member_of_superset M N h e x
-
 -- one more of the sets does not lie within M
 pub one_more_not : (sets : List (List ℕ)) (M N : List ℕ) (n : ℕ) → n < length sets → N ≡ get_or sets n N → is_subset_of N M ≡ false → ((k : ℕ) → k < n → IsWithin (get_or sets k []) M → ⊥)
     → (k : ℕ) → k < n + 1 → IsWithin (get_or sets k []) M → ⊥
@@ -85,4 +77,4 @@ one_more_not sets M N n h read not_there before k less within = elim (cases_lt k
 ]
 
 pub read_within : (sets : List (List ℕ)) (M N : List ℕ) (n : ℕ) → n < length sets → N ≡ get_or sets n N → is_subset_of N M ≡ true → HasWithin sets M
-read_within sets M N n h read there = record { place = n; within = h; lies = subst (λ X. IsWithin X M) (get_or_read sets n N h read []) (subset_within N M there) }
+read_within sets M N n h read there = record { place = n; within = h; lies = subst (λ X. IsWithin X M) (get_or_read sets n N h read []) (member_of_superset N M there) }

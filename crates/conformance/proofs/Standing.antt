@@ -1,10 +1,7 @@
 -- Nodes with the same acceptances, in place of each other.
-use Rattle.std.proofs.Common.{◌≡◌, ℕ, List, [], ◌∷◌, ◌++◌, length, get_or, true, nat_eq, subst, sym, refl, arith, inl, inr}
-use Rattle.csp_base.proofs.Standard.{cases_lt, eqb-true, get_or_append_left, get_or_past, length-append, get_or-append_seam}
+use Rattle.conformance.proofs.Prelude.{◌≡◌, ℕ, List, [], ◌∷◌, ◌++◌, length, get_or, true, nat_eq, subst, sym, refl, arith, inl, inr, cases_lt, eqb-true, get_or_append_left, get_or_past, length-append, get_or-append_seam, Node, AreAlike, IsAlike}
 use Rattle.std.specs.Cmp.Lexicographic.{pointwise}
 use Rattle.containers.specs.Exact.{IsExact-pointwise}
-use Rattle.csp_tables.specs.Table.{Node}
-use Rattle.conformance.specs.Alike.{AreAlike, IsAlike}
 
 pub same_sets : (sets others : List (List ℕ)) → pointwise (pointwise nat_eq) sets others ≡ true → sets ≡ others
 same_sets = IsExact-pointwise (pointwise nat_eq) (IsExact-pointwise nat_eq eqb-true)

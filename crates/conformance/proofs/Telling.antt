@@ -1,18 +1,8 @@
 -- What the normal tables of components tell of the components.
-use Rattle.std.proofs.Common.{◌≡◌, ℕ, List, [], get_or, IsTrue, subst}
-use Rattle.csp_base.specs.Members.{has}
-use Rattle.csp_tables.specs.Prelude.{Label, Component, ComponentStep, Part, IsPartOf, IsRun, acceptances_after, IsTrace}
-use Rattle.conformance.specs.Conforms.{AcceptsWithin, Conforms}
-use Rattle.conformance.specs.Conforming.{HasWithin, RefusesAfter, RunsOutside, TableConforms}
+use Rattle.conformance.proofs.Prelude.{◌≡◌, ℕ, List, [], get_or, IsTrue, subst, has, Label, Component, ComponentStep, Part, IsPartOf, acceptances_after, IsTrace, AcceptsWithin, Conforms, HasWithin, RefusesAfter, RunsOutside, TableConforms}
 use Rattle.conformance.specs.Failing.{FaultsRefute, GoesOutside, RefusesTooMuch, TablesTell}
 
 module _ {T : Type 0} (Step : T → Label → T → Type 0) (c : Component T) (p : Part) (of : IsPartOf Step c p) where
-  pub trace_runs : (s : List ℕ) → IsTrace (ComponentStep Step) c s → IsRun p.table s
-  trace_runs s h = (of.table.traces s).0 h
-
-  pub run_traces : (s : List ℕ) → IsRun p.table s → IsTrace (ComponentStep Step) c s
-  run_traces s h = (of.table.traces s).1 h
-
   -- a set of the table that lies within M is an acceptance within M
   pub accepts_within : (s M : List ℕ) → IsTrace (ComponentStep Step) c s → HasWithin (acceptances_after p.table s) M → AcceptsWithin (ComponentStep Step) c s M
   accepts_within s M trace h = record { set = get_or (acceptances_after p.table s) h.place []; acceptance = of.table.acceptances.sound s h.place trace h.within; within = h.lies }
@@ -30,12 +20,12 @@ module _ {T U : Type 0} (Step : T → Label → T → Type 0) (Specified : U →
   conforms : (c : Component T) (d : Component U) (p q : Part) → IsPartOf Step c p → IsPartOf Specified d q → c.alphabet ≡ d.alphabet → TableConforms p.table q.table → Conforms Step Specified c d
   conforms c d p q of other alphabet h = record {
     alphabet = alphabet;
-    traces = λ s t. run_traces Specified d q other s (h.runs s (trace_runs Step c p of s t));
+    traces = λ s t. (other.table.traces s).1 (h.runs s ((of.table.traces s).0 t));
     acceptances = λ s M accepted.
         let trace : IsTrace (ComponentStep Step) c s = (accepted.offer.state, accepted.offer.reached) in
-        let run = trace_runs Step c p of s trace in
+        let run = (of.table.traces s).0 trace in
         let l = of.table.acceptances.complete s M accepted in
-        accepts_within Specified d q other s M (run_traces Specified d q other s (h.runs s run))
+        accepts_within Specified d q other s M ((other.table.traces s).1 (h.runs s run))
         (within_same (acceptances_after q.table s) (get_or (acceptances_after p.table s) l.place []) M l.members (h.acceptances s l.place run l.within));
   }
 
@@ -44,16 +34,16 @@ module _ {T U : Type 0} (Step : T → Label → T → Type 0) (Specified : U →
     front = h.front;
     last = h.last;
     is = h.is;
-    inside = run_traces Specified d q other h.front h.inside;
-    does = run_traces Step c p of s h.runs;
-    outside = λ t. h.outside (trace_runs Specified d q other s t);
+    inside = (other.table.traces h.front).1 h.inside;
+    does = (of.table.traces s).1 h.runs;
+    outside = λ t. h.outside ((other.table.traces s).0 t);
   }
 
   refuses : (c : Component T) (d : Component U) (p q : Part) (s : List ℕ) → IsPartOf Step c p → IsPartOf Specified d q → RefusesAfter p.table q.table s → RefusesTooMuch Step Specified c d s
   refuses c d p q s of other h = record {
-    inside = λ t k. run_traces Specified d q other t (h.inside t (trace_runs Step c p of t k));
+    inside = λ t k. (other.table.traces t).1 (h.inside t ((of.table.traces t).0 k));
     acceptance = get_or (acceptances_after p.table s) h.place [];
-    accepts = of.table.acceptances.sound s h.place (run_traces Step c p of s h.runs) h.within;
+    accepts = of.table.acceptances.sound s h.place ((of.table.traces s).1 h.runs) h.within;
     refuses = λ k. h.refuses (has_within Specified d q other s (get_or (acceptances_after p.table s) h.place []) k);
   }
 

@@ -50,8 +50,10 @@ pub(crate) fn conform(
 fn followed(alloc: Global, part: &Part, specified: &Part) -> Result<Explored, NoMemory>
     requires form { HasForm part.now }
     requires specified_form { HasForm specified.now }
-    ensures pairs { IfOk result (λ made. IsExploration part.now.table (follow_step part.now.alphabet specified.now.table) 0 made.pairs) }
-    ensures found { IfOk result (λ made. AreFound part.now.table (follow_step part.now.alphabet specified.now.table) 0 made) }
+    ensures pairs { IfOk result (λ made. IsExploration part.now.table
+        (follow_step part.now.alphabet specified.now.table) 0 made.pairs) }
+    ensures found { IfOk result (λ made. AreFound part.now.table
+        (follow_step part.now.alphabet specified.now.table) 0 made) }
 {
     let rows = steps_of(alloc, part, part.alphabet())?;
     let follower = Follower::new(part.alphabet(), specified);
@@ -80,8 +82,10 @@ fn refusing_place(
     pairs: &[(u32, u32)],
 ) -> Result<Option<usize>, NoMemory>
     ensures within { IfOk result (λ found. IfSome found (λ k. k < length pairs.now)) }
-    ensures refuses { IfOk result (λ found. IfSome found (λ k. RefusesAt part.now.table specified.now.table (pair_at pairs.now k))) }
-    ensures none { IfOk result (λ found. IfNone found (AllAccept part.now.table specified.now.table pairs.now (length pairs.now))) }
+    ensures refuses { IfOk result (λ found. IfSome found
+        (λ k. RefusesAt part.now.table specified.now.table (pair_at pairs.now k))) }
+    ensures none { IfOk result (λ found. IfNone found
+        (AllAccept part.now.table specified.now.table pairs.now (length pairs.now))) }
 {
     let lefts = alike_nodes(alloc, part)?;
     let rights = alike_nodes(alloc, specified)?;
@@ -106,7 +110,8 @@ fn refuses_newly(
     requires { AllAccept part.now.table specified.now.table accepted.old (length accepted.old) }
     ensures refuses { IfOk result (λ refuses. OnTrue refuses (RefusesAt part.now.table specified.now.table pair)) }
     ensures accepts { IfOk result (λ refuses. OnFalse refuses (AcceptsAt part.now.table specified.now.table pair)) }
-    ensures accepted { IfOk result (λ refuses. OnFalse refuses (AllAccept part.now.table specified.now.table accepted.new (length accepted.new))) }
+    ensures accepted { IfOk result (λ refuses. OnFalse refuses
+        (AllAccept part.now.table specified.now.table accepted.new (length accepted.new))) }
 {
     if !accepted.insert(pair)? {
         return Ok(false);
@@ -116,7 +121,8 @@ fn refuses_newly(
 
 // Whether an acceptance of the pair's first node contains none of its second, if it has a second.
 fn refuses_at(part: &Part, specified: &Part, pair: (u32, u32)) -> bool
-    ensures { MatchBool result (RefusesAt part.now.table specified.now.table pair) (AcceptsAt part.now.table specified.now.table pair) }
+    ensures { MatchBool result (RefusesAt part.now.table specified.now.table pair)
+        (AcceptsAt part.now.table specified.now.table pair) }
 {
     let Some(node) = node_of(part, pair.0) else {
         return false;

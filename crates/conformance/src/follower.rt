@@ -54,7 +54,8 @@ impl<'a> Observer for Follower<'a> {
 // The node to which the event leads from the node with this number; past the end, where it is not possible.
 fn next_node(part: &Part, number: u32, event: Event) -> u32
     requires { HasForm part.now }
-    ensures { result ≡ (if is_possible (node_at part.now.table number).next event then node_after part.now.table number event else length part.now.table) }
+    ensures { result ≡ (if is_possible (node_at part.now.table number).next event
+        then node_after part.now.table number event else length part.now.table) }
 {
     let past = part.table().len() as u32;
     let Some(node) = node_of(part, number) else {

@@ -34,7 +34,8 @@ fn places_of(alloc: Global, alphabet: &EventSet) -> Result<Vec<usize>, NoMemory>
 // Puts the place at the number of the event.
 fn put(places: &mut Vec<usize>, event: Event, place: usize) -> Result<(), NoMemory>
     ensures put { OnOk result (slice_index places.new.items event ≡ place) }
-    ensures others { OnOk result ((e : ℕ) → (e ≡ event → ⊥) → slice_index places.new.items e ≡ slice_index places.old.items e) }
+    ensures others { OnOk result ((e : ℕ) → (e ≡ event → ⊥) → slice_index places.new.items e
+        ≡ slice_index places.old.items e) }
 {
     while places.len() <= event.0 as usize {
         places.push(0)?;

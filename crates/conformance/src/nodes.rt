@@ -10,7 +10,8 @@ use csp_tables::{NormNode, Part};
 pub(crate) fn node_of(part: &Part, number: u32) -> Option<&NormNode>
     ensures there { IfSome result (λ node. number < length part.now.table) }
     ensures node { IfSome result (λ node. node.now ≡ node_at part.now.table number) }
-    ensures form { HasForm part.now → IfSome result (λ node. StepsHaveForm part.now.alphabet (length part.now.table) node.now.next) }
+    ensures form { HasForm part.now → IfSome result
+        (λ node. StepsHaveForm part.now.alphabet (length part.now.table) node.now.next) }
     ensures past { IfNone result (length part.now.table ≤ number) }
 {
     match part.table().get(number) {

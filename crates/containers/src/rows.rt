@@ -19,7 +19,8 @@ pub fn empty_rows<T: Drop>(alloc: Global, count: usize) -> Result<Vec<Items<T>>,
 /// Puts `item` at the end of the row at `place`.
 pub fn push_at<T: Drop>(rows: &mut Vec<Items<T>>, place: usize, item: T) -> Result<(), AllocError>
     requires { place < length rows.old.items }
-    ensures { OnOk result (rows.new.items ≡ slice_set rows.old.items place (slice_index_or rows.old.items place [] ++ item ∷ [])) }
+    ensures { OnOk result (rows.new.items ≡ slice_set rows.old.items place (slice_index_or rows.old.items place []
+        ++ item ∷ [])) }
 {
     rows[place].push(item)?;
     Ok(())

@@ -1,8 +1,5 @@
 -- Laws of sets of events as atoms.
-use Rattle.std.proofs.Common.{◌≡◌, ℕ, zero, suc, ◌+◌, ◌<◌, ◌≤◌, refl, sym, ◌∙◌, ap, List, [], ◌∷◌, ◌++◌, length, get_or, take, Option, Some, None, arith}
-use Rattle.std.proofs.lemmas.List.{take_more, take_all}
-use Rattle.csp_atoms.specs.Prelude.{event_atoms, event_number, event_numbers, both_events}
-use Rattle.csp_atoms.specs.declared.atom.Atom.{Atom}
+use Rattle.csp_atoms.proofs.Prelude.{◌≡◌, ℕ, zero, suc, ◌+◌, ◌<◌, ◌≤◌, refl, sym, ◌∙◌, ap, List, [], ◌∷◌, ◌++◌, length, get_or, take, Option, Some, None, arith, take_more, take_all, event_atoms, event_number, event_numbers, both_events, Atom}
 use Rattle.csp_atoms.specs.declared.atom.Atom.TheVariants as atom
 
 pub event_atoms-append : (xs ys : List ℕ) → event_atoms (xs ++ ys) ≡ event_atoms xs ++ event_atoms ys

@@ -3,6 +3,7 @@ pub mod ListLaws
 pub mod MemberLaws
 pub mod MergeLaws
 pub mod OrderLaws
+pub mod Prelude
 pub mod SearchLaws
 pub mod SetLaws
 pub mod SetTest

@@ -1,8 +1,5 @@
 -- Laws of sets of atoms as rising lists.
-use Rattle.std.proofs.Common.{◌≡◌, ℕ, Bool, true, false, cond, refl, sym, ap, subst, List, [], ◌∷◌, None}
-use Rattle.std.specs.List.{filter}
-use Rattle.csp_atoms.specs.Prelude.{kind_of, less, AllAbove, IsRising, AllOfKind, IsOneKind, has_atom, place_of, with_atom, union_of, one_more}
-use Rattle.csp_atoms.specs.declared.atom.Atom.{Atom}
+use Rattle.csp_atoms.proofs.Prelude.{◌≡◌, ℕ, Bool, true, false, cond, refl, sym, ap, subst, List, [], ◌∷◌, None, filter, kind_of, less, AllAbove, IsRising, AllOfKind, IsOneKind, has_atom, place_of, with_atom, union_of, one_more, Atom}
 use Rattle.csp_atoms.proofs.OrderLaws.{less-trans, before_from_less}
 
 -- ---- atoms that come before a list

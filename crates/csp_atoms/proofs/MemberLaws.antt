@@ -1,12 +1,7 @@
 -- The members of the results of operations on sets of atoms.
-use Rattle.std.proofs.Common.{◌≡◌, Bool, true, false, not, cond, ◌&&◌, ◌||◌, refl, sym, ◌∙◌, ap, subst, inl, inr, List, [], ◌∷◌}
-use Rattle.std.specs.List.{filter}
-use Rattle.std.proofs.lemmas.Bool.{false≢true, true≢false}
-use Rattle.csp_atoms.specs.Prelude.{same, AllAbove, IsRising, has_atom, with_atom, union_of, inter_of, diff_of}
-use Rattle.csp_atoms.specs.declared.atom.Atom.{Atom}
+use Rattle.csp_atoms.proofs.Prelude.{◌≡◌, Bool, true, false, not, cond, ◌&&◌, ◌||◌, refl, sym, ◌∙◌, ap, subst, inl, inr, List, [], ◌∷◌, filter, false≢true, true≢false, same, AllAbove, IsRising, has_atom, with_atom, union_of, inter_of, diff_of, Atom, or_regroup, and_false, or_swap, or_again}
 use Rattle.csp_atoms.proofs.OrderLaws.{same_exact, same_itself, less_itself, before_from_less, cases_atoms}
 use Rattle.csp_atoms.proofs.ListLaws.{has_not_before, AllAbove-trans}
-use Rattle.csp_base.proofs.Booleans.{or_regroup, and_false, or_swap, or_again}
 
 pub has-with_atom : (xs : List Atom) (a z : Atom) → has_atom (with_atom xs a) z ≡ (same a z || has_atom xs z)
 has-with_atom [] a z = refl

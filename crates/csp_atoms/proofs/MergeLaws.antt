@@ -1,9 +1,5 @@
 -- One step of a merge of two rising lists of atoms.
-use Rattle.std.proofs.Common.{◌≡◌, ◌+◌, ◌<◌, ◌≤◌, Bool, true, false, not, cond, refl, sym, ◌∙◌, ap, subst, inl, inr, ◌⊎◌, List, [], ◌∷◌, ◌++◌, length, Some, None, arith, append_assoc}
-use Rattle.std.specs.List.{filter}
-use Rattle.std.proofs.lemmas.List.{append-nil}
-use Rattle.csp_atoms.specs.Prelude.{less, same, AllAbove, IsRising, has_atom, with_atom, union_of, result_of, least_of, begins_with, rest_after, with_last}
-use Rattle.csp_atoms.specs.declared.atom.Atom.{Atom}
+use Rattle.csp_atoms.proofs.Prelude.{◌≡◌, ◌+◌, ◌<◌, ◌≤◌, Bool, true, false, not, cond, refl, sym, ◌∙◌, ap, subst, inl, inr, ◌⊎◌, List, [], ◌∷◌, ◌++◌, length, Some, None, arith, append_assoc, filter, append-nil, less, same, AllAbove, IsRising, has_atom, with_atom, union_of, result_of, least_of, begins_with, rest_after, with_last, Atom}
 use Rattle.csp_base.specs.Prelude.{keeps}
 use Rattle.csp_base.specs.declared.operators.SetOp.{SetOp}
 use Rattle.csp_base.specs.declared.operators.SetOp.TheVariants.{Union, Inter, Diff}

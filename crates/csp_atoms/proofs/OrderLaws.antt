@@ -1,10 +1,5 @@
 -- Laws of the order of atoms.
-use Rattle.std.proofs.Common.{◌≡◌, Bool, true, false, refl, ◌∙◌, ap, inl, inr, ◌⊎◌, arith}
-use Rattle.std.specs.Prelude.{ℤ, pos, ◌<ℤ◌}
-use Rattle.csp_base.proofs.Standard.{false≢true, ints, nat_cmp_total, int_cmp_total, on_total, then_total, tied_itself, int_ranked}
-use Rattle.csp_base.specs.Standard.{IsTotalOrder, Ordering, Less, Equal, Greater, int_cmp, is_lt, is_eq, ordering_reverse}
-use Rattle.csp_atoms.specs.Prelude.{kind_of, atom_number, order_of, less, same}
-use Rattle.csp_atoms.specs.declared.atom.Atom.{Atom}
+use Rattle.csp_atoms.proofs.Prelude.{◌≡◌, Bool, true, false, refl, ◌∙◌, ap, inl, inr, ◌⊎◌, arith, ℤ, pos, ◌<ℤ◌, false≢true, ints, nat_cmp_total, int_cmp_total, on_total, then_total, tied_itself, int_ranked, IsTotalOrder, Ordering, Less, Equal, Greater, int_cmp, is_lt, is_eq, ordering_reverse, kind_of, atom_number, order_of, less, same, Atom}
 use Rattle.csp_atoms.specs.declared.atom.Atom.TheVariants as atom
 
 pub order_total : IsTotalOrder order_of

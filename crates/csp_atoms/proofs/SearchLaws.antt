@@ -1,9 +1,5 @@
 -- Laws of binary search in a rising list of atoms.
-use Rattle.std.proofs.Common.{◌≡◌, ℕ, zero, suc, ◌<◌, ◌≤◌, Bool, true, false, cond, ◌||◌, refl, sym, ◌∙◌, ap, subst, inl, inr, List, [], ◌∷◌, length, get_or, Option, Some, None, arith}
-use Rattle.csp_base.specs.Standard.{insert, is_some}
-use Rattle.std.proofs.lemmas.Bool.{false≢true, true≢false}
-use Rattle.csp_atoms.specs.Prelude.{less, same, count_before, stands_at, AllAbove, IsRising, has_atom, place_of, with_atom, one_more}
-use Rattle.csp_atoms.specs.declared.atom.Atom.{Atom}
+use Rattle.csp_atoms.proofs.Prelude.{◌≡◌, ℕ, zero, suc, ◌<◌, ◌≤◌, Bool, true, false, cond, ◌||◌, refl, sym, ◌∙◌, ap, subst, inl, inr, List, [], ◌∷◌, length, get_or, Option, Some, None, arith, insert, is_some, false≢true, true≢false, less, same, count_before, stands_at, AllAbove, IsRising, has_atom, place_of, with_atom, one_more, Atom}
 use Rattle.csp_atoms.proofs.OrderLaws.{same_itself, less-trans, less_itself, before_from_less, cases_atoms}
 use Rattle.csp_atoms.proofs.ListLaws.{AllAbove-trans, place_not_before}
 

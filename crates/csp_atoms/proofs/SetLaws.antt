@@ -1,11 +1,6 @@
 -- Results of operations on sets of atoms are sets of atoms.
-use Rattle.std.proofs.Common.{◌≡◌, ℕ, ◌+◌, ◌<◌, ◌≤◌, Bool, true, refl, sym, ◌∙◌, ap, subst, List, [], ◌∷◌, Option, Some, arith}
-use Rattle.std.specs.Prelude.{pos}
-use Rattle.csp_base.proofs.Standard.{false≢true, eqb-true, int_ranked, ints}
-use Rattle.csp_base.specs.Standard.{filter, IsStrictlyIncreasing, int_cmp, is_lt, Ordering, Less, Equal, Greater}
+use Rattle.csp_atoms.proofs.Prelude.{◌≡◌, ℕ, ◌+◌, ◌<◌, Bool, true, refl, sym, ◌∙◌, ap, subst, List, [], ◌∷◌, Option, Some, arith, pos, false≢true, eqb-true, int_ranked, ints, filter, IsStrictlyIncreasing, int_cmp, is_lt, Ordering, Less, Equal, Greater, kind_of, less, AllAbove, IsRising, AllOfKind, IsOneKind, IsAtomSet, with_atom, union_of, fits, alike, event_atoms, event_numbers, Atom}
 use Rattle.csp_base.proofs.Rising.{RisesFrom, increasing_from_rises}
-use Rattle.csp_atoms.specs.Prelude.{kind_of, less, AllAbove, IsRising, AllOfKind, IsOneKind, IsAtomSet, with_atom, union_of, fits, alike, event_atoms, event_numbers}
-use Rattle.csp_atoms.specs.declared.atom.Atom.{Atom}
 use Rattle.csp_atoms.specs.declared.atom.Atom.TheVariants as atom
 use Rattle.csp_atoms.proofs.EventLaws.{atoms_of_numbers}
 use Rattle.csp_atoms.proofs.ListLaws.{IsRising-with_atom, IsRising-union_of, IsRising-filter, IsOneKind-filter, kind_with_atom, kind_union_of, kind_first, one_kind}
@@ -34,29 +29,14 @@ IsAtomSet-filter p xs r = (IsRising-filter p xs r.0, IsOneKind-filter p xs r.1)
 
 -- ---- sets of events
 
-events_less : (o : Ordering) (d e : ℕ) → o ≡ int_cmp (pos d) (pos e) → d < e → is_lt o ≡ true
-events_less Less d e is l = refl
-events_less Equal d e is l = let h : pos d ≡ pos e = int_ranked (pos d) (pos e) Equal is in absurd (omega (arith, ints))
-events_less Greater d e is l = let h = int_ranked (pos d) (pos e) Greater is in absurd (omega (arith, ints, h))
-
 events_rise : (o : Ordering) (d e : ℕ) → o ≡ int_cmp (pos d) (pos e) → is_lt o ≡ true → d < e
 events_rise Less d e is h = let l = int_ranked (pos d) (pos e) Less is in omega (arith, ints, l)
 events_rise Equal d e is h = absurd (false≢true h)
 events_rise Greater d e is h = absurd (false≢true h)
 
-less_event : (d e : ℕ) → d < e → less (atom.Event d) (atom.Event e) ≡ true
-unfolding less
-less_event d e l = events_less (int_cmp (pos d) (pos e)) d e refl l
-
 below_event : (d e : ℕ) → less (atom.Event d) (atom.Event e) ≡ true → d < e
 unfolding less
 below_event d e h = events_rise (int_cmp (pos d) (pos e)) d e refl h
-
-events_above : (d n : ℕ) (es : List ℕ) → d < n → RisesFrom n es → AllAbove (atom.Event d) (event_atoms es)
-events_above d n [] l r = tt
-events_above d n (e ∷ es) l r =
-    let h : n ≤ e = r.0 in
-    (less_event d e (omega arith), events_above d (e + 1) es (omega arith) r.1)
 
 increase_from : (d : ℕ) (es : List ℕ) → AllAbove (atom.Event d) (event_atoms es) → IsRising (event_atoms es) → RisesFrom (d + 1) es
 increase_from d [] a r = tt

@@ -1,10 +1,6 @@
 -- The test for a set says what is true of each set.
-use Rattle.std.proofs.Common.{◌&&◌, IsTrue, List, [], ◌∷◌, refl, sym}
-use Rattle.std.proofs.lemmas.Bool.{eq-eqb, eqb-true}
-use Rattle.csp_atoms.specs.Prelude.{kind_of, less, same_kind, AllAbove, AllOfKind, IsAtomSet, is_set, leads}
-use Rattle.csp_atoms.specs.declared.atom.Atom.{Atom}
+use Rattle.csp_atoms.proofs.Prelude.{◌&&◌, IsTrue, List, [], ◌∷◌, refl, sym, eq-eqb, eqb-true, kind_of, less, same_kind, AllAbove, AllOfKind, IsAtomSet, is_set, leads, Atom, is_and, is_first, is_second}
 use Rattle.csp_atoms.proofs.ListLaws.{one_kind}
-use Rattle.csp_base.proofs.Booleans.{is_and, is_first, is_second}
 
 leads_all : (a : Atom) (xs : List Atom) → AllAbove a xs → AllOfKind (kind_of a) xs → IsTrue (leads a xs)
 leads_all a [] above kind = refl

@@ -121,7 +121,8 @@ impl AtomSet {
     /// The atoms of either set, if they are of one kind.
     pub fn union(&self, alloc: Global, other: &AtomSet) -> Result<AtomSet, AtomSetError>
         ensures value { IfOk result (λ made. made ≡ union_of self.now other.now) }
-        ensures members { IfOk result (λ made. (a : Atom) → has_atom made a ≡ (has_atom self.now a || has_atom other.now a)) }
+        ensures members { IfOk result (λ made. (a : Atom)
+            → has_atom made a ≡ (has_atom self.now a || has_atom other.now a)) }
         ensures set { IfOk result IsAtomSet }
         ensures mixed { IsErrOf result AtomSetError.MixedKinds ↔ (alike self.now other.now ≡ false) }
     {
@@ -142,7 +143,8 @@ impl AtomSet {
     /// The atoms of both sets.
     pub fn inter(&self, alloc: Global, other: &AtomSet) -> Result<AtomSet, NoMemory>
         ensures value { IfOk result (λ made. made ≡ inter_of self.now other.now) }
-        ensures members { IfOk result (λ made. (a : Atom) → has_atom made a ≡ (has_atom self.now a && has_atom other.now a)) }
+        ensures members { IfOk result (λ made. (a : Atom)
+            → has_atom made a ≡ (has_atom self.now a && has_atom other.now a)) }
         ensures set { IfOk result IsAtomSet }
     {
         let atoms = sorted::merged(
@@ -159,7 +161,8 @@ impl AtomSet {
     /// The atoms of this set that are no members of the other.
     pub fn diff(&self, alloc: Global, other: &AtomSet) -> Result<AtomSet, NoMemory>
         ensures value { IfOk result (λ made. made ≡ diff_of self.now other.now) }
-        ensures members { IfOk result (λ made. (a : Atom) → has_atom made a ≡ (has_atom self.now a && not (has_atom other.now a))) }
+        ensures members { IfOk result (λ made. (a : Atom)
+            → has_atom made a ≡ (has_atom self.now a && not (has_atom other.now a))) }
         ensures set { IfOk result IsAtomSet }
     {
         let atoms = sorted::merged(

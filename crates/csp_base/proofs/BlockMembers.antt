@@ -1,8 +1,6 @@
 -- The events of blocks, by the words of the blocks.
-use Rattle.std.proofs.Common.{◌≡◌, ℕ, ◌+◌, ◌-◌, ◌*◌, ◌/◌, ◌%◌, ◌^◌, ◌<◌, ◌≤◌, true, false, ◌||◌, List, [], ◌∷◌, ◌++◌, length, refl, sym, ap, inl, inr, le_refl, ◌∙◌, subst, arith}
+use Rattle.csp_base.proofs.Prelude.{◌≡◌, ℕ, ◌+◌, ◌-◌, ◌*◌, ◌/◌, ◌%◌, ◌^◌, ◌<◌, ◌≤◌, true, false, ◌||◌, List, [], ◌∷◌, ◌++◌, length, refl, sym, ap, inl, inr, le_refl, ◌∙◌, subst, arith, ◌==◌, has, has_bit, word_events, events_of, word_at, AreBlocksFrom}
 use Rattle.csp_base.proofs.Standard.{cases_lt, cases_order, eq-eqb, ne_eqb, false≢true, bit_at-zero, or-false}
-use Rattle.std.specs.Prelude.{◌==◌}
-use Rattle.csp_base.specs.Prelude.{has, has_bit, word_events, events_of, word_at, AreBlocksFrom}
 use Rattle.csp_base.proofs.Rising.{RisesFrom, RisesFrom-weaken, RisesFrom-append, has_below, has-append}
 use Rattle.csp_base.proofs.Words.{RisesFrom-word_events, word_events_above, has-word_events}
 

@@ -1,7 +1,5 @@
 -- Laws of truth values that the kit's library does not state, or states the other way round.
-use Rattle.std.proofs.Common.{◌≡◌, Bool, true, false, ◌&&◌, ◌||◌, refl, sym}
-use Rattle.std.specs.Prelude.{IsTrue}
-use Rattle.std.proofs.lemmas.Bool.{false≢true}
+use Rattle.csp_base.proofs.Prelude.{◌≡◌, Bool, true, false, ◌&&◌, ◌||◌, refl, sym, IsTrue, false≢true}
 
 -- ---- equations
 

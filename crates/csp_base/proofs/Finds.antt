@@ -1,9 +1,6 @@
 -- The first event from one on.
-use Rattle.std.proofs.Common.{◌≡◌, ℕ, suc, ◌+◌, ◌-◌, ◌*◌, ◌/◌, ◌%◌, ◌^◌, ◌<◌, ◌≤◌, Bool, true, false, ◌&&◌, eqb, leb, List, [], ◌∷◌, ◌++◌, length, get_or, Some, refl, sym, ap, ◌⊎◌, inl, inr, le_refl, ◌∙◌, subst, add-one, arith, append_assoc}
+use Rattle.csp_base.proofs.Prelude.{◌≡◌, ℕ, suc, ◌+◌, ◌-◌, ◌*◌, ◌/◌, ◌%◌, ◌^◌, ◌<◌, ◌≤◌, Bool, true, false, ◌&&◌, eqb, leb, List, [], ◌∷◌, ◌++◌, length, get_or, Some, refl, sym, ap, ◌⊎◌, inl, inr, le_refl, ◌∙◌, subst, add-one, arith, append_assoc, find, w64, count_trailing_zeros, ◌==◌, bit_and, has, has_bit, word_at, word_events, AreBlocksFrom, events_of, first_word, rest_after}
 use Rattle.csp_base.proofs.Standard.{cases_eq, cases_lt, eq-eqb, le-leb, or_left, false≢true, and_right, bit_at-trailing_zeros, ones_shl, bit_at_mask_inside, bit_at_mask_below, and_le_l, shr_lt}
-use Rattle.csp_base.specs.Standard.{find, w64, count_trailing_zeros}
-use Rattle.std.specs.Prelude.{◌==◌, bit_and}
-use Rattle.csp_base.specs.Prelude.{has, has_bit, word_at, word_events, AreBlocksFrom, events_of, first_word, rest_after}
 use Rattle.csp_base.proofs.Rising.{RisesFrom, has_below, find_from_member, find_from_none}
 use Rattle.csp_base.proofs.BlockMembers.{AreBlocksFrom-weaken, word_at_below, word_at_first, has-events_of_at, has-events_of, RisesFrom-events_of, has_bit-zero}
 use Rattle.csp_base.proofs.MergeSteps.{first_word-word_at, has_bit-and, word_at-lt, AreBlocksFrom-rest_after, word_at-rest_after}

@@ -1,9 +1,6 @@
 -- One more event in a list of blocks.
-use Rattle.std.proofs.Common.{◌≡◌, ℕ, zero, suc, ◌+◌, ◌*◌, ◌/◌, ◌%◌, ◌^◌, ◌<◌, ◌≤◌, cond, ◌||◌, eqb, List, [], ◌∷◌, ◌++◌, length, take, drop, set, refl, sym, ap, ◌⊎◌, inl, inr, ◌∙◌, subst, arith}
+use Rattle.csp_base.proofs.Prelude.{◌≡◌, ℕ, zero, suc, ◌+◌, ◌*◌, ◌/◌, ◌%◌, ◌^◌, ◌<◌, ◌≤◌, cond, ◌||◌, eqb, List, [], ◌∷◌, ◌++◌, length, take, drop, set, refl, sym, ap, ◌⊎◌, inl, inr, ◌∙◌, subst, arith, or_zero_l, w64, ◌==◌, bit_or, has, has_bit, word_at, AreBlocksFrom, events_of, first_word, end_from}
 use Rattle.csp_base.proofs.Standard.{cases_eq, eq-eqb, ne_eqb, or_left, bit_at_set_same, bit_at_set_other, or_lt, le_or_l, pow_pos, pow_mono, take-append-drop, set_split, drop-cons}
-use Rattle.csp_base.specs.Standard.{or_zero_l, w64}
-use Rattle.std.specs.Prelude.{◌==◌, bit_or}
-use Rattle.csp_base.specs.Prelude.{has, has_bit, word_at, AreBlocksFrom, events_of, first_word, end_from}
 use Rattle.csp_base.proofs.BlockMembers.{word_at-append, word_at_first, word_at_later, has-events_of_at}
 use Rattle.csp_base.proofs.MergeSteps.{first_word-word_at}
 use Rattle.csp_base.proofs.Places.{AreBlocksFrom-append, AreBlocksFrom-take, word_at_past}

@@ -9,6 +9,7 @@ pub mod LowestBit
 pub mod MergeSteps
 pub mod OrderLemmas
 pub mod Places
+pub mod Prelude
 pub mod Results
 pub mod Rising
 pub mod SetLaws

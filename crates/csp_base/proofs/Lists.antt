@@ -1,8 +1,5 @@
 -- Laws of lists: one item more at the end, and what is left where items were read one after another.
-use Rattle.std.proofs.Common.{◌≡◌, ℕ, zero, suc, ◌+◌, ◌<◌, true, nat_eq, List, [], ◌∷◌, ◌++◌, map, length, get_or, take, drop, Some, refl, sym, ap, inl, inr, ◌∙◌, add-one, append_assoc, append-nil, take-suc, drop-cons, arith, eq-eqb}
-use Rattle.std.specs.Prelude.{◌⊎◌, slice_get}
-use Rattle.csp_base.specs.Standard.{flat_map, pointwise}
-use Rattle.std.proofs.lemmas.Bool.{and_from}
+use Rattle.csp_base.proofs.Prelude.{◌≡◌, ℕ, zero, suc, ◌+◌, ◌<◌, true, nat_eq, List, [], ◌∷◌, ◌++◌, map, length, get_or, take, drop, Some, refl, sym, ap, inl, inr, ◌∙◌, add-one, append_assoc, append-nil, take-suc, drop-cons, arith, eq-eqb, ◌⊎◌, slice_get, flat_map, pointwise, and_from}
 
 -- ---- items that are read one after another
 

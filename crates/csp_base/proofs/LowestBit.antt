@@ -1,9 +1,6 @@
 -- The first event of a word, and the word without it.
-use Rattle.std.proofs.Common.{◌≡◌, ℕ, ◌+◌, ◌-◌, ◌*◌, ◌%◌, ◌^◌, ◌<◌, ◌≤◌, true, false, ◌||◌, eqb, List, [], ◌∷◌, refl, sym, ap, ◌⊎◌, inl, inr, ◌∙◌, arith}
+use Rattle.csp_base.proofs.Prelude.{◌≡◌, ℕ, ◌+◌, ◌-◌, ◌*◌, ◌%◌, ◌^◌, ◌<◌, ◌≤◌, true, false, ◌||◌, eqb, List, [], ◌∷◌, refl, sym, ap, ◌⊎◌, inl, inr, ◌∙◌, arith, bit_not, w64, count_trailing_zeros, ◌==◌, bit_and, has, has_bit, word_events}
 use Rattle.csp_base.proofs.Standard.{cases_eq, cases_lt, eq-eqb, ne_eqb, or_from, or_left, false≢true, bit_at_clear_same, bit_at_clear_other}
-use Rattle.csp_base.specs.Standard.{bit_not, w64, count_trailing_zeros}
-use Rattle.std.specs.Prelude.{◌==◌, bit_and}
-use Rattle.csp_base.specs.Prelude.{has, has_bit, word_events}
 use Rattle.csp_base.proofs.Rising.{RisesFrom, has_below, same_members}
 use Rattle.csp_base.proofs.Words.{RisesFrom-word_events, word_events_above, has-word_events}
 use Rattle.csp_base.proofs.Finds.{lowest_bit}

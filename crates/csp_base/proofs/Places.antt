@@ -1,7 +1,5 @@
 -- Places in a list of blocks: what stands before one, and from it on.
-use Rattle.std.proofs.Common.{◌≡◌, ℕ, zero, suc, ◌+◌, ◌/◌, ◌%◌, ◌<◌, ◌≤◌, List, [], ◌∷◌, ◌++◌, length, take, drop, get_or, refl, sym, ap, le_refl, ◌∙◌, add-one, arith}
-use Rattle.std.proofs.lemmas.List.{take-append-drop}
-use Rattle.csp_base.specs.Prelude.{has_bit, word_at, AreBlocksFrom, events_of, has, first_word, end_from}
+use Rattle.csp_base.proofs.Prelude.{◌≡◌, ℕ, zero, suc, ◌+◌, ◌/◌, ◌%◌, ◌<◌, ◌≤◌, List, [], ◌∷◌, ◌++◌, length, take, drop, get_or, refl, sym, ap, le_refl, ◌∙◌, add-one, arith, take-append-drop, has_bit, word_at, AreBlocksFrom, events_of, has, first_word, end_from}
 use Rattle.csp_base.proofs.BlockMembers.{word_at-append, word_at_later, has-events_of_at}
 use Rattle.csp_base.proofs.MergeSteps.{first_word-word_at}
 

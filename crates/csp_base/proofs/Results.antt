@@ -1,6 +1,5 @@
 -- Results: what follows from what several calls say of one, and what is made of it.
-use Rattle.std.proofs.Common.{◌≡◌, Result, Ok, Err, List, [], ◌∷◌, ◌++◌, ap, sym, subst, ◌∙◌}
-use Rattle.std.specs.Prelude.{IfOk, IsOkAnd, MatchResult, OnOk, OnErr}
+use Rattle.csp_base.proofs.Prelude.{◌≡◌, Result, Ok, Err, List, [], ◌∷◌, ◌++◌, ap, sym, subst, ◌∙◌, IfOk, IsOkAnd, MatchResult, OnOk, OnErr}
 
 -- ---- several facts of each success
 

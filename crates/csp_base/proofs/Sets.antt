@@ -1,8 +1,6 @@
 -- What the blocks of a set say of the set.
-use Rattle.std.proofs.Common.{◌≡◌, ℕ, Bool, ◌&&◌, false, eqb, List, [], ◌∷◌, length, IsTrue, sym, subst, ap, ◌∙◌, arith}
+use Rattle.csp_base.proofs.Prelude.{◌≡◌, ℕ, Bool, ◌&&◌, false, eqb, List, [], ◌∷◌, length, IsTrue, sym, subst, ap, ◌∙◌, arith, IsStrictlyIncreasing, pointwise, pointwise_decides, bytes_decides, Decides, has, AreBlocks, events_of, blocks_of}
 use Rattle.csp_base.proofs.Standard.{false≢true, ne_eqb, same_from_decides, eqb-true, eq-eqb, and_parts, and_from}
-use Rattle.csp_base.specs.Standard.{IsStrictlyIncreasing, pointwise, pointwise_decides, bytes_decides, Decides}
-use Rattle.csp_base.specs.Prelude.{has, AreBlocks, events_of, blocks_of}
 use Rattle.csp_base.proofs.BlocksOf.{blocks_of-events_of}
 use Rattle.csp_base.proofs.Rising.{RisesFrom, increasing_from_rises}
 use Rattle.csp_base.proofs.BlockMembers.{RisesFrom-events_of}

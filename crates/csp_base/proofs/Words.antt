@@ -1,8 +1,6 @@
 -- The events of one word: its members are its bits.
-use Rattle.std.proofs.Common.{◌≡◌, ℕ, zero, suc, ◌+◌, ◌/◌, ◌<◌, ◌≤◌, Bool, true, false, cond, List, [], ◌∷◌, refl, sym, ap, le_refl, ◌∙◌, subst, arith}
+use Rattle.csp_base.proofs.Prelude.{◌≡◌, ℕ, zero, suc, ◌+◌, ◌/◌, ◌<◌, ◌≤◌, Bool, true, false, cond, List, [], ◌∷◌, refl, sym, ap, le_refl, ◌∙◌, subst, arith, ◌==◌, has, has_bit, word_events}
 use Rattle.csp_base.proofs.Standard.{eq-eqb, ne_eqb, bit_at-suc}
-use Rattle.std.specs.Prelude.{◌==◌}
-use Rattle.csp_base.specs.Prelude.{has, has_bit, word_events}
 use Rattle.csp_base.proofs.Rising.{RisesFrom, RisesFrom-weaken, has_below}
 
 word_events-step : (n from w : ℕ) → word_events (suc n) from w ≡ cond (has_bit w 0) (from ∷ word_events n (from + 1) (w / 2)) (word_events n (from + 1) (w / 2))

@@ -10,7 +10,7 @@ use crate::operators::SetOp;
 use std::alloc::Global;
 
 /// The word of the result at one block, from the words of both sets there.
-fn combined(operation: SetOp, left: u64, right: u64) -> u64
+fn combine_words(operation: SetOp, left: u64, right: u64) -> u64
     ensures { result ≡ combined_of operation left right }
 {
     match operation {
@@ -68,7 +68,7 @@ fn push_word(blocks: &mut Vec<(u32, u64)>, number: u32, word: u64) -> Result<(),
 }
 
 /// The blocks of the operation on both, in a walk over both.
-pub(crate) fn merged(
+pub(crate) fn merge_blocks(
     alloc: Global,
     operation: SetOp,
     left: &[(u32, u64)],
@@ -77,14 +77,15 @@ pub(crate) fn merged(
     requires left_blocks { AreBlocks left.now }
     requires right_blocks { AreBlocks right.now }
     ensures blocks { IfOk result (λ made. AreBlocks made.items) }
-    ensures members { IfOk result (λ made. (x : ℕ) → has (events_of made.items) x ≡ keeps operation (has (events_of left.now) x) (has (events_of right.now) x)) }
+    ensures members { IfOk result (λ made. (x : ℕ)
+        → has (events_of made.items) x ≡ keeps operation (has (events_of left.now) x) (has (events_of right.now) x)) }
 {
     let mut made = Vec::new(alloc);
     let mut first = left;
     let mut second = right;
     while first.len() + second.len() > 0 {
         let number = least_number(first, second);
-        let word = combined(
+        let word = combine_words(
             operation,
             word_at_front(first, number),
             word_at_front(second, number),
@@ -146,15 +147,17 @@ fn gives_any(operation: SetOp, left: &[(u32, u64)], right: &[(u32, u64)]) -> boo
     requires of_left { keeps operation false true ≡ false }
     requires left_blocks { AreBlocks left.now }
     requires right_blocks { AreBlocks right.now }
-    ensures found { OnTrue result ((x : ℕ) × (keeps operation (has (events_of left.now) x) (has (events_of right.now) x) ≡ true)) }
-    ensures none { OnFalse result ((x : ℕ) → keeps operation (has (events_of left.now) x) (has (events_of right.now) x) ≡ false) }
+    ensures found { OnTrue result ((x : ℕ)
+        × (keeps operation (has (events_of left.now) x) (has (events_of right.now) x) ≡ true)) }
+    ensures none { OnFalse result ((x : ℕ) → keeps operation (has (events_of left.now) x) (has (events_of right.now) x)
+        ≡ false) }
 {
     let mut first = left;
     let mut second = right;
     while !first.is_empty() {
         let number = first[0].0;
         second = ahead(second, number);
-        if combined(operation, first[0].1, word_at_front(second, number)) != 0 {
+        if combine_words(operation, first[0].1, word_at_front(second, number)) != 0 {
             return true;
         }
         first = &first[1..];
@@ -220,7 +223,8 @@ pub(crate) fn first_from(blocks: &[(u32, u64)], event: u32) -> Option<u32>
 pub(crate) fn include(blocks: &mut Vec<(u32, u64)>, event: u32) -> Result<(), NoMemory>
     requires { AreBlocks blocks.old.items }
     ensures blocks { AreBlocks blocks.new.items }
-    ensures members { OnOk result ((x : ℕ) → has (events_of blocks.new.items) x ≡ (event == x || has (events_of blocks.old.items) x)) }
+    ensures members { OnOk result ((x : ℕ) → has (events_of blocks.new.items) x
+        ≡ (event == x || has (events_of blocks.old.items) x)) }
     ensures err { OnErr result (blocks.new.items ≡ blocks.old.items) }
 {
     let number = event / 64;
@@ -245,7 +249,7 @@ pub(crate) fn same(left: &[(u32, u64)], right: &[(u32, u64)]) -> bool
 }
 
 /// The blocks of the given events, in any order.
-pub(crate) fn collected(alloc: Global, events: &[Event]) -> Result<Vec<(u32, u64)>, NoMemory>
+pub(crate) fn blocks_of_events(alloc: Global, events: &[Event]) -> Result<Vec<(u32, u64)>, NoMemory>
     ensures blocks { IfOk result (λ made. AreBlocks made.items) }
     ensures members { IfOk result (λ made. (x : ℕ) → has (events_of made.items) x ≡ has events.now x) }
 {

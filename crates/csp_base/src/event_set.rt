@@ -67,7 +67,7 @@ impl EventSet {
         ensures members { IfOk result (λ made. (x : ℕ) → has made x ≡ has events.now x) }
         ensures rising { IfOk result IsStrictlyIncreasing }
     {
-        let blocks = blocks::collected(alloc, events)?;
+        let blocks = blocks::blocks_of_events(alloc, events)?;
         Ok(EventSet { blocks })
     }
 
@@ -76,7 +76,7 @@ impl EventSet {
         requires { IsStrictlyIncreasing events.now }
         ensures { IfOk result (λ made. made ≡ events.now) }
     {
-        let blocks = blocks::collected(alloc, events)?;
+        let blocks = blocks::blocks_of_events(alloc, events)?;
         Ok(EventSet { blocks })
     }
 
@@ -134,7 +134,7 @@ impl EventSet {
         ensures members { IfOk result (λ made. (x : ℕ) → has made x ≡ (has self.now x || has other.now x)) }
         ensures rising { IfOk result IsStrictlyIncreasing }
     {
-        let blocks = blocks::merged(alloc, SetOp::Union, &self.blocks, &other.blocks)?;
+        let blocks = blocks::merge_blocks(alloc, SetOp::Union, &self.blocks, &other.blocks)?;
         Ok(EventSet { blocks })
     }
 
@@ -144,7 +144,7 @@ impl EventSet {
         ensures members { IfOk result (λ made. (x : ℕ) → has made x ≡ (has self.now x && has other.now x)) }
         ensures rising { IfOk result IsStrictlyIncreasing }
     {
-        let blocks = blocks::merged(alloc, SetOp::Inter, &self.blocks, &other.blocks)?;
+        let blocks = blocks::merge_blocks(alloc, SetOp::Inter, &self.blocks, &other.blocks)?;
         Ok(EventSet { blocks })
     }
 
@@ -154,7 +154,7 @@ impl EventSet {
         ensures members { IfOk result (λ made. (x : ℕ) → has made x ≡ (has self.now x && not (has other.now x))) }
         ensures rising { IfOk result IsStrictlyIncreasing }
     {
-        let blocks = blocks::merged(alloc, SetOp::Diff, &self.blocks, &other.blocks)?;
+        let blocks = blocks::merge_blocks(alloc, SetOp::Diff, &self.blocks, &other.blocks)?;
         Ok(EventSet { blocks })
     }
 

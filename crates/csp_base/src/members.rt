@@ -42,12 +42,13 @@ fn first_block(blocks: &[(u32, u64)]) -> (u32, u64, &[(u32, u64)])
 }
 
 /// The same events, where the first block has one unless there are none.
-fn settled(number: u32, word: u64, rest: &[(u32, u64)]) -> (u32, u64, &[(u32, u64)])
+fn without_empty_block(number: u32, word: u64, rest: &[(u32, u64)]) -> (u32, u64, &[(u32, u64)])
     requires number { number < 2 ^ 26 }
     requires rest { AreBlocksFrom (number + 1) rest.now }
     ensures number { result.0 < 2 ^ 26 }
     ensures rest { AreBlocksFrom (result.0 + 1) result.2.now }
-    ensures events { word_events 64 (64 * result.0) result.1 ++ events_of result.2.now ≡ word_events 64 (64 * number) word ++ events_of rest.now }
+    ensures events { word_events 64 (64 * result.0) result.1 ++ events_of result.2.now
+        ≡ word_events 64 (64 * number) word ++ events_of rest.now }
     ensures none { result.1 ≡ 0 → word_events 64 (64 * number) word ++ events_of rest.now ≡ [] }
 {
     if word != 0 {
@@ -83,7 +84,7 @@ impl<'a> Iterator for Members<'a> {
     ghost remaining = { item_count (λ m. m) };
 
     fn next(&mut self) -> Option<Event> {
-        let (number, word, rest) = settled(self.number, self.word, self.rest);
+        let (number, word, rest) = without_empty_block(self.number, self.word, self.rest);
         if word == 0 {
             return None;
         }

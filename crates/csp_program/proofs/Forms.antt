@@ -1,5 +1,5 @@
--- Inductions over expressions, processes and networks by their forms: what each form has whose parts have it, all have. A form that is new gets a
--- clause of `ExprHas`, `ProcHas` or `NetHas`, and one beside it.
+-- Inductions over expressions and processes by their forms: what each form has whose parts have it, all have. A form that is new gets a clause of
+-- `ExprHas` or `ProcHas`, and one beside it.
 use Rattle.std.proofs.Common.{◌≡◌, List, [], ◌∷◌, map, subst}
 use Rattle.csp_program.specs.declared.expressions.EventPart.{EventPart}
 use Rattle.csp_program.specs.declared.expressions.Expr.{Expr}
@@ -7,10 +7,6 @@ use Rattle.csp_program.specs.declared.expressions.Expr.TheFolds.{ind-Expr, ind-G
 use Rattle.csp_program.specs.declared.expressions.Expr.TheOpen.{Expr-F, Gen-F, EventPart-F}
 use Rattle.csp_program.specs.declared.expressions.Expr.TheViews.{roll-Expr, roll-Gen, roll-EventPart}
 use Rattle.csp_program.specs.declared.expressions.Gen.{Gen}
-use Rattle.csp_program.specs.declared.networks.Net.{Net}
-use Rattle.csp_program.specs.declared.networks.Net.TheFolds.{ind-Net, map-Net}
-use Rattle.csp_program.specs.declared.networks.Net.TheOpen.{Net-F}
-use Rattle.csp_program.specs.declared.networks.Net.TheViews.{roll-Net}
 use Rattle.csp_program.specs.declared.processes.Proc.{Proc}
 use Rattle.csp_program.specs.declared.processes.Proc.TheFolds.{ind-Proc, map-Proc}
 use Rattle.csp_program.specs.declared.processes.Proc.TheOpen.{Proc-F}
@@ -132,19 +128,3 @@ module _ (P : Proc → Type 0) where
 
   pub each_proc : ((d : Proc-F Proc) → ProcHas d → P (roll-Proc d)) → (p : Proc) → P p
   each_proc of_proc = ind-Proc P (λ z y is. of_proc z (subst ProcHas is (processes_have y)))
-
-module _ (P : Net → Type 0) where
-  abbrev pub NetHas : Net-F Net → Type 0
-  NetHas (Net-F.If c n m) = P n × P m
-  NetHas (Net-F.Pair n a b m) = P n × P m
-  NetHas (Net-F.Each y s a n) = P n
-  NetHas d = Unit {0}
-
-  networks_have : (y : Net-F (Known P)) → NetHas (map-Net (Known P) Net (λ n. n.0) y)
-  networks_have (Net-F.If c n m) = (n.1, m.1)
-  networks_have (Net-F.Pair n a b m) = (n.1, m.1)
-  networks_have (Net-F.Each y s a n) = n.1
-  networks_have d = tt
-
-  pub each_net : ((d : Net-F Net) → NetHas d → P (roll-Net d)) → (n : Net) → P n
-  each_net of_net = ind-Net P (λ z y is. of_net z (subst NetHas is (networks_have y)))

@@ -1,11 +1,10 @@
 -- `==` on the parts of processes is equality.
-use Rattle.std.specs.Prelude.{◌≡◌, Bool, true, false, ◌&&◌, nat_eq, Some, None}
+use Rattle.std.specs.Prelude.{◌≡◌, Bool, true, false, nat_eq, Some, None}
 use Rattle.std.proofs.Common.{ap}
 use Rattle.std.proofs.lemmas.Bool.{eqb-true, false≢true}
 use Rattle.std.specs.Cmp.{first_so, second_so}
 use Rattle.csp_atoms.specs.Exact.{exact_value}
-use Rattle.csp_program.specs.declared.expressions.EventPart.{EventPart}
-use Rattle.csp_program.specs.ExactExpr.{eq_expr, eq_part, exact_expr, exact_part}
+use Rattle.csp_program.specs.ExactExpr.{eq_expr, exact_expr}
 use Rattle.csp_program.specs.contracts.processes.HeadPartialEq.TheImpl as heads
 use Rattle.csp_program.specs.contracts.processes.FieldPartialEq.TheImpl as fields
 use Rattle.csp_program.specs.declared.processes.Field.{Field}
@@ -18,9 +17,6 @@ eq_head = (heads.ghosts).eq
 
 abbrev pub eq_field : Field → Field → Bool
 eq_field = (fields.ghosts).eq
-
-abbrev pub eq_pair : EventPart × EventPart → EventPart × EventPart → Bool
-eq_pair p q = eq_part p.0 q.0 && eq_part p.1 q.1
 
 pub exact_head : (x y : Head) → eq_head x y ≡ true → x ≡ y
 exact_head (head.Channel c) (head.Channel d) h = ap head.Channel (eqb-true c d h)
@@ -36,9 +32,3 @@ exact_field (field.Get x None) (field.Get y None) h = λ i. field.Get (eqb-true 
 exact_field (field.Get x None) (field.Get y (Some t)) h = absurd (false≢true (second_so (nat_eq x y) false h))
 exact_field (field.Get x (Some s)) (field.Get y None) h = absurd (false≢true (second_so (nat_eq x y) false h))
 exact_field x y h = absurd (false≢true h)
-
-pub exact_pair : (x y : EventPart × EventPart) → eq_pair x y ≡ true → x ≡ y
-exact_pair x y h = λ i. (
-  exact_part x.0 y.0 (first_so (eq_part x.0 y.0) (eq_part x.1 y.1) h) i,
-  exact_part x.1 y.1 (second_so (eq_part x.0 y.0) (eq_part x.1 y.1) h) i,
-)

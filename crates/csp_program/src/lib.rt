@@ -5,9 +5,7 @@ pub mod copies;
 mod exact;
 pub mod expressions;
 pub mod kinds;
-pub mod net_copies;
 pub mod networks;
-pub mod proc_copies;
 pub mod processes;
 pub mod programs;
 

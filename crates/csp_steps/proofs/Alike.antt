@@ -1,23 +1,10 @@
 -- The steps of a process, each where it first stands, from those of the processes below: of a list only the firsts count.
-use Rattle.std.proofs.Common.{◌≡◌, ◌⊎◌, inl, inr, ℕ, ◌<◌, true, Some, Ok, Err, List, [], ◌∷◌, map, length, refl, ap, sym, ◌∙◌, subst}
-use Rattle.std.proofs.lemmas.Bool.{and_from, lt-ltb}
-use Rattle.std.specs.Prelude.{IfOk, IfSome, nat_lt, OnOk, Option, Result}
-use Rattle.std.specs.Result.{IsErrAnd}
-use Rattle.csp_base.specs.Lists.{StandsIn}
-use Rattle.csp_program.specs.Prelude.{Outcome, and_then}
-use Rattle.csp_program.specs.declared.kinds.ValueKind.{ValueKind}
-use Rattle.csp_program.specs.declared.processes.Proc.{Proc}
-use Rattle.csp_program.specs.declared.programs.Content.{Content}
-use Rattle.process_steps.proofs.Members.{Among, placed}
-use Rattle.process_steps.specs.StepList.{Move, steps_of}
-use Rattle.value_operators.specs.declared.fault.EvalFault.{EvalFault}
+use Rattle.csp_steps.proofs.Prelude.{◌≡◌, ◌⊎◌, inl, inr, ℕ, ◌<◌, true, Some, Ok, Err, List, [], ◌∷◌, map, length, refl, ap, sym, ◌∙◌, subst, and_from, lt-ltb, IfOk, IfSome, nat_lt, OnOk, Option, Result, IsErrAnd, StandsIn, Outcome, and_then, ValueKind, Proc, Content, placed, Move, steps_of, EvalFault, all_within, AreAdded, AreEach, GivesEach, GivesMoves, IsListing, all_moves, around, effect_of, moves_of, AreStepsOf, FaultIs, seen, AreFirsts, AreFirstsAfter, StepTo, AreDifferent, tree_at}
+use Rattle.process_steps.proofs.Members.{Among}
 use Rattle.value_operators.specs.declared.fault.EvalFault.TheVariants as fault
-use Rattle.csp_steps.specs.Prelude.{all_within, AreAdded, AreEach, GivesEach, GivesMoves, IsListing, all_moves, around, effect_of, moves_of, AreStepsOf, FaultIs, seen, AreFirsts, AreFirstsAfter}
-use Rattle.csp_steps.specs.declared.step.StepTo.{StepTo}
 use Rattle.csp_steps.proofs.Computing.{passed}
 use Rattle.csp_steps.proofs.Firsts.{firsts_back, firsts_map, joined_firsts, stands_either, stands_none}
 use Rattle.csp_steps.proofs.Places.{standing, within_of}
-use Rattle.term_pool.specs.Prelude.{AreDifferent, tree_at}
 
 -- ---- lists with the same firsts
 

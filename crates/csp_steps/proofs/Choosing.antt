@@ -1,25 +1,8 @@
 -- The steps of an operand of a choice.
-use Rattle.std.proofs.Common.{◌≡◌, ℕ, ◌+◌, ◌<◌, ◌≤◌, true, nat_lt, zero, suc, Ok, Err, Some, List, [], ◌∷◌, ◌++◌, map, length, get_or, slice_get, slice_set, take, drop, refl, ap, sym, ◌∙◌, subst, arith}
-use Rattle.csp_base.proofs.Standard.{lt-ltb, and_from, get_or-map, length-map, map-append, map-set, take_all, slice_get_within}
-use Rattle.std.specs.Cmp.{first_so, second_so}
-use Rattle.csp_program.specs.Prelude.{proc_depth, Outcome, and_then, one, proc_with}
-use Rattle.csp_program.specs.declared.kinds.ValueKind.{ValueKind}
-use Rattle.csp_program.specs.declared.processes.Proc.{Proc}
-use Rattle.csp_program.specs.declared.programs.Content.{Content}
-use Rattle.csp_atoms.specs.declared.atom.Atom.{Atom}
-use Rattle.csp_atoms.specs.declared.value.Value.TheVariants.{One}
-use Rattle.process_steps.specs.Prelude.{each_put, Move, in_choice, steps_of, steps_of_choice}
-use Rattle.term_pool.proofs.PutLemmas.{at}
-use Rattle.term_pool.specs.Prelude.{AreDifferent, IsFront, all_below, tree_at}
-use Rattle.pool_parts.specs.declared.place.ProcId.{ProcId}
-use Rattle.csp_steps.specs.Prelude.{all_within, AreAdded, AreAt, AreEach, AreMoves, IsMove, seen, AreFirsts, AreFirstsAfter, none}
-use Rattle.csp_steps.specs.declared.step.StepTo.{StepTo}
-use Rattle.step_values.proofs.Lists.{left, left_all, left_end, left_fault, left_next}
+use Rattle.csp_steps.proofs.Prelude.{◌≡◌, ℕ, ◌+◌, ◌<◌, ◌≤◌, true, nat_lt, zero, suc, Ok, Err, Some, List, [], ◌∷◌, ◌++◌, map, length, get_or, slice_get, slice_set, take, drop, refl, ap, sym, ◌∙◌, subst, arith, lt-ltb, and_from, get_or-map, length-map, map-append, map-set, take_all, slice_get_within, first_so, second_so, proc_depth, Outcome, and_then, one, proc_with, ValueKind, Proc, Content, Atom, One, each_put, Move, in_choice, steps_of, steps_of_choice, at, AreDifferent, IsFront, all_below, tree_at, ProcId, all_within, AreAdded, AreAt, AreEach, AreMoves, IsMove, seen, AreFirsts, AreFirstsAfter, none, StepTo, left, left_all, left_end, left_fault, left_next, take_read, map_push, greatest}
 use Rattle.csp_steps.proofs.Alike.{added_within, seen_firsts}
 use Rattle.csp_steps.proofs.Firsts.{firsts_append, map_firsts}
 use Rattle.csp_steps.proofs.Places.{all_within_stay, at_stay, below_at, front_both, one_place, seen_stay, still_within, tree_stays, trees_stay}
-use Rattle.csp_base.proofs.Lists.{take_read, map_push}
-use Rattle.csp_base.specs.Lists.{greatest}
 
 abbrev pub of_operand : Content → List Proc → ℕ → Proc → Outcome (List Move)
 of_operand p qs k q = and_then (steps_of p q) (λ moves. Ok (map (λ m. in_choice qs k m.0 m.1) moves))

@@ -1,30 +1,7 @@
 -- What a call answers for a whole, from what calls answer for its parts.
-use Rattle.std.proofs.Common.{◌≡◌, ℕ, ◌+◌, ◌<◌, ◌≤◌, Ok, Err, List, [], ◌∷◌, ◌++◌, map, take, length, get_or, ap, sym, ◌∙◌, subst, append_assoc}
-use Rattle.std.specs.Prelude.{Result}
-use Rattle.std.specs.Result.{IsErrAnd}
-use Rattle.csp_program.specs.Prelude.{joined, Outcome}
-use Rattle.csp_program.specs.declared.kinds.ValueKind.{ValueKind}
-use Rattle.csp_program.specs.declared.processes.Proc.{Proc}
-use Rattle.csp_program.specs.declared.programs.Content.{Content}
-use Rattle.process_steps.specs.Prelude.{Move, Among}
-use Rattle.term_pool.specs.Pooled.{IsFront}
-use Rattle.value_operators.specs.Prelude.{Gives}
-use Rattle.value_operators.specs.declared.fault.EvalFault.{EvalFault}
+use Rattle.csp_steps.proofs.Prelude.{◌≡◌, ℕ, ◌+◌, ◌<◌, ◌≤◌, Ok, Err, List, [], ◌∷◌, ◌++◌, map, take, length, get_or, ap, sym, ◌∙◌, subst, append_assoc, Result, IsErrAnd, joined, Outcome, ValueKind, Proc, Content, Move, Among, IsFront, Gives, EvalFault, GivesStart, Answers, AreMoves, IsFault, IsMove, seen, StepTo, joined_push, take_read, map_push, take_all}
 use Rattle.value_operators.specs.declared.fault.EvalFault.TheVariants as fault
-use Rattle.step_values.specs.Starts.{GivesStart}
-use Rattle.csp_steps.specs.Prelude.{Answers, AreMoves, GivesMoves, IsFault, IsListing, IsMove, seen}
-use Rattle.csp_steps.specs.declared.step.StepTo.{StepTo}
-use Rattle.step_values.proofs.Lists.{joined_push}
 use Rattle.csp_steps.proofs.Places.{moves_stay, one_move}
-use Rattle.csp_base.proofs.Lists.{take_read, map_push}
-use Rattle.std.proofs.lemmas.List.{take_all}
-
--- steps that are these moves, where the outcome is the moves
-pub listing : (trees : List Proc) (steps : List StepTo) (moves : List Move) (o : Outcome (List Move)) → o ≡ Ok moves → AreMoves trees steps moves → IsListing trees steps o
-listing trees steps moves o e h = record { same = e ∙ ap (λ ms. Ok ms) (sym h.same); within = h.within }
-
-pub same_moves : (trees : List Proc) (r : Result (List StepTo) EvalFault) (o o' : Outcome (List Move)) → o ≡ o' → GivesMoves trees r o' → GivesMoves trees r o
-same_moves trees r o o' e h = subst (GivesMoves trees r) (sym e) h
 
 -- ---- faults that are handed on
 

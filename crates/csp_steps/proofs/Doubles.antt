@@ -1,13 +1,8 @@
 -- Steps that are added one after another to those that are numbered.
-use Rattle.std.proofs.Common.{◌≡◌, ℕ, ◌+◌, ◌<◌, ◌≤◌, Bool, true, false, cond, Some, List, [], ◌∷◌, ◌++◌, take, length, get_or, slice_get, refl, ap, sym, ◌∙◌, subst, append_assoc, append-nil}
-use Rattle.csp_base.proofs.Standard.{false≢true, take_all, any_passes_from_place}
+use Rattle.csp_steps.proofs.Prelude.{◌≡◌, ℕ, ◌+◌, ◌<◌, ◌≤◌, Bool, true, false, cond, Some, List, [], ◌∷◌, ◌++◌, take, length, get_or, slice_get, refl, ap, sym, ◌∙◌, subst, append_assoc, append-nil, false≢true, take_all, any_passes_from_place, AreAdded, eq_step, AreFirsts, AreFirstsAfter, none, again, first, laws-law, StepTo, take_read, StandsIn}
 use Rattle.std.specs.Set.{is_member}
 use Rattle.containers.specs.Members.{with_new}
-use Rattle.csp_steps.specs.Prelude.{AreAdded, eq_step, AreFirsts, AreFirstsAfter, none, again, first, laws-law}
-use Rattle.csp_steps.specs.declared.step.StepTo.{StepTo}
 use Rattle.csp_steps.proofs.Firsts.{firsts_append}
-use Rattle.csp_base.proofs.Lists.{take_read}
-use Rattle.csp_base.specs.Lists.{StandsIn}
 
 unknown : (xs : List StepTo) (s : StepTo) → is_member eq_step xs s ≡ false → StandsIn xs s → ⊥
 unknown xs s new h = false≢true (sym new ∙ any_passes_from_place (eq_step s) xs h.0 s h.1 (laws-law.refl s))

@@ -1,30 +1,11 @@
 -- What a hiding, a renaming and a sequence make of steps. The process after a step that is no end has the same operator.
-use Rattle.std.proofs.Common.{◌≡◌, ℕ, ◌<◌, if◌then◌else◌, Ok, Err, List, [], ◌∷◌, ◌++◌, map, length, refl, ap, sym, ◌∙◌}
+use Rattle.csp_steps.proofs.Prelude.{◌≡◌, ℕ, ◌<◌, if◌then◌else◌, Ok, Err, List, [], ◌∷◌, ◌++◌, map, length, refl, ap, sym, ◌∙◌, joined, Outcome, and_then, EventPart, Expr, Gen, ValueKind, Kind, Proc, Proc-F, Content, ProcId, events_in, Renamed, images, renaming_in, Move, in_hiding, in_renaming, in_sequence, Label, Silent, Visible, Tick, becomes, KeepsOutcome, layer_with_first, with_first, shown, IsFront, tree_of, Node, all_moves, around, effect_of, effect_of_layer, hidden_labels, labels_by, last_by, moves_of, renamed_labels, Does, Effect, IsWithin, Operator, StepTo}
 use Rattle.csp_base.specs.Members.{has}
-use Rattle.csp_program.specs.Prelude.{joined, Outcome, and_then}
-use Rattle.csp_program.specs.declared.expressions.EventPart.{EventPart}
-use Rattle.csp_program.specs.declared.expressions.Expr.{Expr}
-use Rattle.csp_program.specs.declared.expressions.Gen.{Gen}
-use Rattle.csp_program.specs.declared.kinds.ValueKind.{ValueKind}
-use Rattle.csp_program.specs.declared.kinds.ValueKind.TheVariants.{Kind}
-use Rattle.csp_program.specs.declared.processes.Proc.{Proc}
-use Rattle.csp_program.specs.declared.processes.Proc.TheOpen.{Proc-F}
 use Rattle.csp_program.specs.declared.processes.Proc.TheViews.{out-Proc, out-roll-Proc, roll-Proc}
-use Rattle.csp_program.specs.declared.programs.Content.{Content}
 use Rattle.csp_program.specs.declared.processes.Proc.TheVariants as proc
-use Rattle.pool_parts.specs.declared.place.ProcId.{ProcId}
-use Rattle.process_steps.specs.Prelude.{events_in, Renamed, images, renaming_in, Move, in_hiding, in_renaming, in_sequence}
-use Rattle.process_steps.specs.declared.label.Label.{Label}
-use Rattle.process_steps.specs.declared.label.Label.TheVariants.{Silent, Visible, Tick}
-use Rattle.step_values.specs.Images.{becomes, KeepsOutcome}
 use Rattle.step_values.specs.declared.images.Images.{Images}
 use Rattle.term_pool.proofs.NodeLemmas.{layer_of, layer_out}
-use Rattle.term_pool.specs.Prelude.{layer_with_first, with_first, shown, IsFront, tree_of}
-use Rattle.term_pool.specs.declared.node.Node.{Node}
 use Rattle.term_pool.specs.declared.node.Node.TheVariants as node
-use Rattle.csp_steps.specs.Prelude.{all_moves, around, effect_of, effect_of_layer, hidden_labels, labels_by, last_by, moves_of, renamed_labels, Does, Effect, IsWithin}
-use Rattle.csp_steps.specs.declared.operator.Operator.{Operator}
-use Rattle.csp_steps.specs.declared.step.StepTo.{StepTo}
 use Rattle.csp_steps.specs.declared.operator.Operator.TheVariants as operator
 use Rattle.csp_steps.proofs.Places.{still_within, tree_stays}
 

@@ -1,17 +1,8 @@
 -- The body of a definition, with values in place of its parameters.
-use Rattle.std.proofs.Common.{◌≡◌, ℕ, Option, Some, List, slice_get, ap, sym, ◌∙◌, subst}
-use Rattle.csp_atoms.specs.declared.value.Value.{Value}
-use Rattle.csp_program.specs.Prelude.{Outcome, given_by, proc_with, bound_to}
-use Rattle.csp_program.specs.declared.processes.Proc.{Proc}
+use Rattle.csp_steps.proofs.Prelude.{◌≡◌, ℕ, Option, Some, List, slice_get, ap, sym, ◌∙◌, subst, Value, Outcome, given_by, proc_with, bound_to, Proc, Content, called, process_of, at, tree_at, ProcId, IsPlaceOf, body_of, process_body}
 use Rattle.csp_program.specs.declared.programs.Body.{Body}
-use Rattle.csp_program.specs.declared.programs.Content.{Content}
 use Rattle.csp_program.specs.declared.programs.Def.{Def}
 use Rattle.csp_program.specs.declared.programs.Body.TheVariants as body
-use Rattle.process_steps.specs.Needed.{called, process_of}
-use Rattle.term_pool.proofs.PutLemmas.{at}
-use Rattle.term_pool.specs.Trees.{tree_at}
-use Rattle.pool_parts.specs.declared.place.ProcId.{ProcId}
-use Rattle.csp_steps.specs.Prelude.{IsPlaceOf, body_of, process_body}
 use Rattle.csp_steps.proofs.Places.{found}
 
 -- the body of a definition

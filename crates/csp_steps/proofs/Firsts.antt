@@ -1,9 +1,5 @@
 -- The different values of a list, in the order in which they first stand there.
-use Rattle.std.proofs.Common.{◌≡◌, ◌⊎◌, inl, inr, zero, suc, ◌<◌, Some, List, [], ◌∷◌, ◌++◌, map, length, refl, ap, sym, ◌∙◌, subst, append-nil, arith}
-use Rattle.csp_base.specs.Lists.{EachOnce, StandsIn}
-use Rattle.csp_program.specs.Lists.{joined}
-use Rattle.process_steps.proofs.Members.{at_place, from_map, in_either, in_left, in_map, in_right, placed}
-use Rattle.csp_steps.specs.Prelude.{AreFirsts, AreFirstsAfter, none, again, first}
+use Rattle.csp_steps.proofs.Prelude.{◌≡◌, ◌⊎◌, inl, inr, zero, suc, ◌<◌, Some, List, [], ◌∷◌, ◌++◌, map, length, refl, ap, sym, ◌∙◌, subst, append-nil, arith, EachOnce, StandsIn, joined, at_place, from_map, in_either, in_left, in_map, in_right, placed, AreFirsts, AreFirstsAfter, none, again, first}
 
 -- ---- what stands in a list
 

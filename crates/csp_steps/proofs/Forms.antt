@@ -1,40 +1,13 @@
 -- The steps of each form of a process, as a look at it finds them, and how deep the processes below it are.
-use Rattle.std.proofs.Common.{◌≡◌, ℕ, suc, ◌<◌, true, false, if◌then◌else◌, Ok, Err, List, [], ◌∷◌, map, length, slice_get, refl, ap, sym, ◌∙◌, subst, arith}
-use Rattle.std.proofs.lemmas.Bool.{ltb-true, lt-ltb, and_from}
-use Rattle.std.specs.Cmp.{first_so, second_so}
-use Rattle.std.specs.Prelude.{Result, nat_lt}
-use Rattle.csp_program.specs.Prelude.{proc_depth, and_then, given_by, proc_with}
-use Rattle.csp_program.specs.declared.expressions.EventPart.{EventPart}
-use Rattle.csp_program.specs.declared.expressions.Expr.{Expr}
-use Rattle.csp_program.specs.declared.expressions.Gen.{Gen}
-use Rattle.csp_program.specs.declared.kinds.ValueKind.{ValueKind}
-use Rattle.csp_program.specs.declared.kinds.ValueKind.TheVariants.{EmptyChoice}
-use Rattle.csp_program.specs.declared.processes.Field.{Field}
+use Rattle.csp_steps.proofs.Prelude.{◌≡◌, ℕ, suc, ◌<◌, true, false, if◌then◌else◌, Ok, Err, List, [], ◌∷◌, map, length, slice_get, refl, ap, sym, ◌∙◌, subst, arith, ltb-true, lt-ltb, and_from, first_so, second_so, Result, nat_lt, proc_depth, and_then, given_by, proc_with, EventPart, Expr, Gen, ValueKind, EmptyChoice, Field, Proc, Proc-F, Content, Atom, Value, arguments_in, called, set_in, truth_in, Among, event_among, of_head, sets_among, ways_to_fill, each_put, silent_to, some_silent_to, steps_of, steps_of_choice, Label, Silent, Visible, Tick, all_below, places, places_below, tree_at, tree_of, Node, ProcId, EvalFault, IsStart, filled, ways_by_number, all_within, AreAround, AreAt, AreOfChoice, AreThoseAt, GivesLook, IsListing, IsPlaceOf, seen, Look, StepTo, greatest}
 use Rattle.csp_program.specs.declared.processes.Head.{Head}
-use Rattle.csp_program.specs.declared.processes.Proc.{Proc}
-use Rattle.csp_program.specs.declared.processes.Proc.TheOpen.{Proc-F}
-use Rattle.csp_program.specs.declared.programs.Content.{Content}
-use Rattle.csp_atoms.specs.declared.atom.Atom.{Atom}
-use Rattle.csp_atoms.specs.declared.value.Value.{Value}
 use Rattle.csp_program.specs.declared.processes.Proc.TheVariants as proc
 use Rattle.process_steps.proofs.Depths.{depth_of, layer_depth, put_depths}
 use Rattle.process_steps.proofs.Equations as forms
-use Rattle.process_steps.specs.Prelude.{arguments_in, called, set_in, truth_in, Among, event_among, of_head, sets_among, ways_to_fill, each_put, silent_to, some_silent_to, steps_of, steps_of_choice}
-use Rattle.process_steps.specs.declared.label.Label.{Label}
-use Rattle.process_steps.specs.declared.label.Label.TheVariants.{Silent, Visible, Tick}
-use Rattle.term_pool.specs.Prelude.{all_below, places, places_below, tree_at, tree_of}
-use Rattle.term_pool.specs.declared.node.Node.{Node}
-use Rattle.pool_parts.specs.declared.place.ProcId.{ProcId}
-use Rattle.value_operators.specs.declared.fault.EvalFault.{EvalFault}
-use Rattle.step_values.specs.Starts.{IsStart}
 use Rattle.step_values.specs.declared.heads.Start.{Start}
-use Rattle.csp_steps.specs.Prelude.{filled, ways_by_number, all_within, AreAround, AreAt, AreOfChoice, AreThoseAt, GivesLook, IsListing, IsPlaceOf, seen}
-use Rattle.csp_steps.specs.declared.look.Look.{Look}
-use Rattle.csp_steps.specs.declared.step.StepTo.{StepTo}
 use Rattle.csp_steps.proofs.Effects.{around_hide, around_rename, around_sequence}
 use Rattle.csp_steps.proofs.Numbered.{moves_by_number}
 use Rattle.term_pool.proofs.TreeLemmas.{all_below_more}
-use Rattle.csp_base.specs.Lists.{greatest}
 
 less-Guard : (c : Expr) (q : Proc) → proc_depth q < proc_depth (proc.Guard c q)
 unfolding layer_depth

@@ -10,6 +10,7 @@ pub mod Looking
 pub mod Noting
 pub mod Numbered
 pub mod Places
+pub mod Prelude
 pub mod Rounds
 pub mod SetLemmas
 pub mod Targets

@@ -1,16 +1,6 @@
 -- The steps of a process, from what a look at it has found.
-use Rattle.std.proofs.Common.{◌≡◌, ◌+◌, ◌*◌, ◌<◌, Ok, true, List, [], map, length, refl, ap, sym, ◌∙◌, subst, arith}
-use Rattle.csp_program.specs.Prelude.{proc_depth, Outcome, and_then}
-use Rattle.csp_program.specs.declared.processes.Proc.{Proc}
-use Rattle.csp_program.specs.declared.programs.Content.{Content}
-use Rattle.process_steps.specs.StepList.{Move, steps_of, steps_of_choice}
-use Rattle.term_pool.specs.Trees.{all_below, tree_at}
-use Rattle.pool_parts.specs.declared.place.ProcId.{ProcId}
-use Rattle.csp_steps.specs.Prelude.{AreAround, AreOfChoice, AreThoseAt, IsListing, IsLook, around}
-use Rattle.csp_steps.specs.declared.look.Look.{Look}
-use Rattle.csp_steps.specs.declared.step.StepTo.{StepTo}
+use Rattle.csp_steps.proofs.Prelude.{◌≡◌, ◌+◌, ◌*◌, ◌<◌, Ok, true, List, [], map, length, refl, ap, sym, ◌∙◌, subst, arith, proc_depth, Outcome, and_then, Proc, Content, Move, steps_of, steps_of_choice, all_below, tree_at, ProcId, AreAround, AreOfChoice, AreThoseAt, IsListing, IsLook, around, Look, StepTo, greatest}
 use Rattle.csp_steps.specs.declared.look.Look.TheVariants as look
-use Rattle.csp_base.specs.Lists.{greatest}
 
 module _ (p : Content) (trees : List Proc) (t : Proc) (found : Look) (h : IsLook p trees found t) where
   pub these : (steps : List StepTo) → found ≡ look.Steps steps → IsListing trees steps (steps_of p t)

@@ -1,24 +1,10 @@
 -- What is kept of evaluations stays true where the pool grows, and where more is kept.
-use Rattle.std.proofs.Common.{◌≡◌, ℕ, ◌<◌, Bool, true, false, cond, nat_eq, Option, Some, None, Ok, Err, List, [], ◌∷◌, ◌++◌, length, slice_get, refl, ap, sym, ◌∙◌, subst}
-use Rattle.std.proofs.lemmas.Bool.{eqb-true}
+use Rattle.csp_steps.proofs.Prelude.{◌≡◌, ℕ, ◌<◌, Bool, true, false, cond, nat_eq, Option, Some, None, Ok, Err, List, [], ◌∷◌, ◌++◌, length, slice_get, refl, ap, sym, ◌∙◌, subst, eqb-true, OnOk, Result, Outcome, Proc, Content, Move, steps_of, at, with_first, IsFront, tree_at, ProcId, AreEach, AreFirsts, Does, body_of, AreBodies, AreKept, AreNoted, Fits, HasNumber, HasValue, IsNumbered, StandsAs, Evaluated, Operator, StepTo, slice_get_last}
 use Rattle.csp_base.specs.Standard.{HashMap, get, IsEmpty, Updates, lookup}
-use Rattle.std.specs.Prelude.{OnOk, Result}
 use Rattle.containers.proofs.MembersLemmas.{slice_get-append_left}
-use Rattle.csp_program.specs.Prelude.{Outcome}
-use Rattle.csp_program.specs.declared.processes.Proc.{Proc}
-use Rattle.csp_program.specs.declared.programs.Content.{Content}
-use Rattle.process_steps.specs.StepList.{Move, steps_of}
-use Rattle.term_pool.proofs.PutLemmas.{at}
-use Rattle.term_pool.specs.Prelude.{with_first, IsFront, tree_at}
-use Rattle.pool_parts.specs.declared.place.ProcId.{ProcId}
-use Rattle.csp_steps.specs.Prelude.{AreEach, AreFirsts, Does, body_of, AreBodies, AreKept, AreNoted, Fits, HasNumber, HasValue, IsNumbered, StandsAs}
 use Rattle.csp_steps.specs.declared.around.Round.{Round}
-use Rattle.csp_steps.specs.declared.evaluated.Evaluated.{Evaluated}
-use Rattle.csp_steps.specs.declared.operator.Operator.{Operator}
-use Rattle.csp_steps.specs.declared.step.StepTo.{StepTo}
 use Rattle.csp_steps.proofs.Effects.{does_kept, does_stay}
 use Rattle.csp_steps.proofs.Places.{all_within_stay, front_both, seen_stay, standing, tree_stays}
-use Rattle.csp_base.proofs.Lists.{slice_get_last}
 
 -- one key more has a number
 at_key : (P : ℕ → ℕ → Type 0) (k n : ℕ) → P k n → (q m : ℕ) (before : Option ℕ) → (before ≡ Some m → P q m) → (b : Bool) → nat_eq k q ≡ b → cond b (Some n) before ≡ Some m → P q m

@@ -1,25 +1,11 @@
 -- The ways to fill fields, by the values of their events and by the numbers of their events.
-use Rattle.std.proofs.Common.{◌≡◌, ℕ, zero, suc, ◌+◌, ◌*◌, ◌^◌, ◌<◌, ◌≤◌, Bool, true, false, cond, Option, Some, None, Ok, Err, List, [], ◌∷◌, ◌++◌, map, length, slice_get, refl, ap, sym, ◌∙◌, subst, append_assoc, append-nil, arith}
-use Rattle.std.specs.Prelude.{is_some, if◌then◌else◌}
-use Rattle.csp_base.proofs.Standard.{map-append, slice_get_within}
+use Rattle.csp_steps.proofs.Prelude.{◌≡◌, ℕ, zero, suc, ◌+◌, ◌*◌, ◌^◌, ◌<◌, ◌≤◌, Bool, true, false, cond, Option, Some, None, Ok, Err, List, [], ◌∷◌, ◌++◌, map, length, slice_get, refl, ap, sym, ◌∙◌, subst, append_assoc, append-nil, arith, is_some, if◌then◌else◌, map-append, slice_get_within, Atom, Value, One, Many, row_count, rows, Outcome, and_then, given_by, proc_with, Env, in_field, ValueKind, OutsideChannel, Field, Proc, Content, each_joined, given_under, is_given, value_under, ways_to_fill, where_given, Move, Visible, nth_event, number_with, way_move, ways_by_number}
 use Rattle.csp_atoms.proofs.SearchLaws.{has_place}
 use Rattle.csp_atoms.specs.Prelude.{has_atom, place_of}
-use Rattle.csp_atoms.specs.declared.atom.Atom.{Atom}
-use Rattle.csp_atoms.specs.declared.value.Value.{Value}
-use Rattle.csp_atoms.specs.declared.value.Value.TheVariants.{One, Many}
-use Rattle.csp_program.specs.Prelude.{row_count, rows, Outcome, and_then, given_by, proc_with, Env, in_field}
-use Rattle.csp_program.specs.declared.kinds.ValueKind.{ValueKind}
-use Rattle.csp_program.specs.declared.kinds.ValueKind.TheVariants.{OutsideChannel}
-use Rattle.csp_program.specs.declared.processes.Field.{Field}
-use Rattle.csp_program.specs.declared.processes.Proc.{Proc}
-use Rattle.csp_program.specs.declared.programs.Content.{Content}
 use Rattle.csp_program.specs.declared.processes.Field.TheVariants as field
-use Rattle.process_steps.specs.Prelude.{each_joined, given_under, is_given, value_under, ways_to_fill, where_given, Move}
-use Rattle.process_steps.specs.declared.label.Label.TheVariants.{Visible}
 use Rattle.process_steps.specs.Ways as ways
 use Rattle.value_laws.proofs.RowNumbers.{field_found, length-rows, to_rows}
 use Rattle.value_laws.specs.Numbers.{field_place, found_place}
-use Rattle.csp_steps.specs.Walked.{nth_event, number_with, way_move, ways_by_number}
 
 no_place : (o : Option ℕ) (why : ValueKind) → found_place o ≡ Err why → (o ≡ None) × (OutsideChannel ≡ why)
 no_place None why h = (refl, cc)

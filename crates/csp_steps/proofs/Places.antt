@@ -1,15 +1,6 @@
 -- What stays where the list of processes of a pool grows at its end.
-use Rattle.std.proofs.Common.{◌≡◌, ℕ, zero, suc, ◌<◌, true, nat_lt, Some, Ok, List, [], ◌∷◌, ◌++◌, map, length, get_or, slice_get, refl, ap, sym, ◌∙◌, subst, arith}
-use Rattle.csp_base.proofs.Standard.{ltb-true, lt-ltb, and_from, slice_get-get_or, slice_get_within, get_or_from_slice_get}
-use Rattle.std.specs.Cmp.{first_so, second_so}
-use Rattle.csp_program.specs.declared.processes.Proc.{Proc}
+use Rattle.csp_steps.proofs.Prelude.{◌≡◌, ℕ, zero, suc, ◌<◌, true, nat_lt, Some, Ok, List, [], ◌∷◌, ◌++◌, map, length, get_or, slice_get, refl, ap, sym, ◌∙◌, subst, arith, ltb-true, lt-ltb, and_from, slice_get-get_or, slice_get_within, get_or_from_slice_get, first_so, second_so, Proc, Move, at, IsFront, all_below, tree_at, ProcId, all_within, AreAt, AreMoves, IsMove, IsPlaceOf, seen, StepTo}
 use Rattle.csp_program.specs.declared.processes.Proc.TheVariants as proc
-use Rattle.process_steps.specs.StepList.{Move}
-use Rattle.term_pool.proofs.PutLemmas.{at}
-use Rattle.term_pool.specs.Prelude.{IsFront, StandAt, all_below, tree_at}
-use Rattle.pool_parts.specs.declared.place.ProcId.{ProcId}
-use Rattle.csp_steps.specs.Prelude.{all_within, AreAt, AreMoves, IsMove, IsPlaceOf, seen}
-use Rattle.csp_steps.specs.declared.step.StepTo.{StepTo}
 
 pub front_same : (trees : List Proc) → IsFront trees trees
 front_same trees k t h = h
@@ -107,12 +98,6 @@ pub within_at : (count : ℕ) (steps : List StepTo) (k : ℕ) (d : StepTo) → a
 within_at count [] k d h lt = absurd (omega (arith, lt))
 within_at count (s ∷ steps) zero d h lt = ltb-true s.to.0 count (first_so (nat_lt s.to.0 count) (all_within count steps) h)
 within_at count (s ∷ steps) (suc k) d h lt = within_at count steps k d (second_so (nat_lt s.to.0 count) (all_within count steps) h) (omega (arith, lt))
-
--- places at which processes stand, as the pool's nodes want them
-pub stand_at : (trees : List Proc) (ids : List ProcId) → all_below (length trees) ids ≡ true → StandAt trees ids (map (tree_at trees) ids)
-stand_at trees [] h = tt
-stand_at trees (id ∷ ids) h =
-    (standing trees id (ltb-true id.0 (length trees) (first_so (nat_lt id.0 (length trees)) (all_below (length trees) ids) h)), stand_at trees ids (second_so (nat_lt id.0 (length trees)) (all_below (length trees) ids) h))
 
 pub within_of : (count : ℕ) (steps : List StepTo) (k : ℕ) (s : StepTo) → all_within count steps ≡ true → slice_get steps k ≡ Some s → s.to.0 < count
 within_of count [] k s h g = cc

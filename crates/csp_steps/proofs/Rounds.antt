@@ -1,17 +1,5 @@
 -- Loops that make of the steps of a process those of an operator round it: the next step.
-use Rattle.std.proofs.Common.{◌≡◌, ℕ, ◌+◌, ◌<◌, true, Some, List, [], ◌∷◌, ◌++◌, map, take, length, get_or, slice_get, refl, sym, ◌∙◌, subst}
-use Rattle.csp_base.proofs.Standard.{lt-ltb, and_from, slice_get_within, map-append}
-use Rattle.std.specs.Cmp.{first_so, second_so}
-use Rattle.std.specs.Prelude.{nat_lt}
-use Rattle.csp_program.specs.declared.processes.Proc.{Proc}
-use Rattle.process_steps.specs.Prelude.{Move, in_choice}
-use Rattle.process_steps.specs.declared.label.Label.{Label}
-use Rattle.term_pool.proofs.PutLemmas.{at}
-use Rattle.term_pool.specs.Prelude.{IsFront, all_below, tree_at}
-use Rattle.pool_parts.specs.declared.place.ProcId.{ProcId}
-use Rattle.csp_steps.specs.Prelude.{all_within, AreMoves, IsMove, all_moves, effect_as, labels_by, moves_of, IsWithin, seen}
-use Rattle.csp_steps.specs.declared.operator.Operator.{Operator}
-use Rattle.csp_steps.specs.declared.step.StepTo.{StepTo}
+use Rattle.csp_steps.proofs.Prelude.{◌≡◌, ℕ, ◌+◌, ◌<◌, true, Some, List, [], ◌∷◌, ◌++◌, map, take, length, get_or, slice_get, refl, sym, ◌∙◌, subst, lt-ltb, and_from, slice_get_within, map-append, first_so, second_so, nat_lt, Proc, Move, in_choice, Label, at, IsFront, all_below, tree_at, ProcId, all_within, AreMoves, IsMove, all_moves, effect_as, labels_by, moves_of, IsWithin, seen, Operator, StepTo}
 use Rattle.csp_steps.proofs.Computing.{next_move, next_moves}
 use Rattle.csp_steps.proofs.Effects.{last_stays}
 use Rattle.csp_steps.proofs.Places.{all_within_stay, moves_stay, one_move, seen_stay, still_within, tree_stays, trees_stay, within_at}

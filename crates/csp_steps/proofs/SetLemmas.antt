@@ -1,16 +1,5 @@
 -- Sets that are kept: one more, and the one that is kept for an expression.
-use Rattle.std.proofs.Common.{◌≡◌, ℕ, zero, suc, Bool, true, false, cond, not, Some, Ok, Err, List, [], ◌∷◌, ◌++◌, map, slice_get, refl, ap, sym, ◌∙◌}
-use Rattle.std.proofs.lemmas.List.{map-append}
-use Rattle.std.specs.Prelude.{OnOk, Result}
-use Rattle.csp_atoms.specs.declared.atom.Atom.{Atom}
-use Rattle.csp_program.specs.Prelude.{Outcome}
-use Rattle.csp_program.specs.declared.expressions.Expr.{Expr}
-use Rattle.csp_program.specs.declared.processes.Proc.{Proc}
-use Rattle.csp_program.specs.declared.programs.Content.{Content}
-use Rattle.process_steps.specs.Needed.{set_in}
-use Rattle.term_pool.specs.Pooled.{IsFront}
-use Rattle.csp_steps.specs.Prelude.{AreSets, Fits, HasSet, HasValue}
-use Rattle.csp_steps.specs.declared.evaluated.Evaluated.{Evaluated}
+use Rattle.csp_steps.proofs.Prelude.{◌≡◌, ℕ, zero, suc, Bool, true, false, cond, not, Some, Ok, Err, List, [], ◌∷◌, ◌++◌, map, slice_get, refl, ap, sym, ◌∙◌, map-append, OnOk, Result, Atom, Outcome, Expr, Proc, Content, set_in, IsFront, AreSets, Fits, HasSet, HasValue, Evaluated}
 use Rattle.csp_steps.specs.declared.sets.Sets.{Sets}
 use Rattle.csp_steps.proofs.Noting.{fits_stay, fits_then}
 

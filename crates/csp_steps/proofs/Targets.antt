@@ -1,18 +1,9 @@
 -- The different processes to which a process goes by a label.
-use Rattle.std.proofs.Common.{◌≡◌, ◌⊎◌, inl, inr, ℕ, zero, suc, Bool, true, false, cond, Some, Ok, List, [], ◌∷◌, map, slice_get, refl, ap, sym, ◌∙◌, subst, eq-eqb}
-use Rattle.std.proofs.lemmas.Bool.{eqb-true, false≢true}
-use Rattle.csp_base.specs.Lists.{StandsIn}
-use Rattle.csp_program.specs.Prelude.{Outcome}
-use Rattle.csp_program.specs.declared.processes.Proc.{Proc}
-use Rattle.csp_program.specs.declared.programs.Content.{Content}
+use Rattle.csp_steps.proofs.Prelude.{◌≡◌, ◌⊎◌, inl, inr, Bool, true, false, cond, Ok, List, [], ◌∷◌, refl, ap, sym, ◌∙◌, subst, eq-eqb, eqb-true, false≢true, StandsIn, Outcome, Proc, Content, ProcessStep, Move, steps_of, Silent, Visible, Tick, seen, AreFirsts, AreFirstsAfter, AreTargets, goals, is_by, none, again, first}
 use Rattle.csp_tables.specs.Prelude.{Label, silent, visible}
 use Rattle.process_steps.proofs.Listed.{lists_are}
-use Rattle.process_steps.specs.Prelude.{ProcessStep, ListsMove, Move, steps_of}
-use Rattle.process_steps.specs.declared.label.Label.TheVariants.{Silent, Visible, Tick}
 use Rattle.process_steps.specs.declared.label.Label.{Label as ProcessLabel}
-use Rattle.csp_steps.specs.Prelude.{AreStepsOf, seen, AreFirsts, AreFirstsAfter, AreTargets, goals, is_by, none, again, first}
-use Rattle.csp_steps.specs.declared.step.StepTo.{StepTo}
-use Rattle.csp_steps.proofs.Firsts.{firsts_back, firsts_once, firsts_one, firsts_there, stands_cases, stands_first, stands_later, stands_none}
+use Rattle.csp_steps.proofs.Firsts.{firsts_back, firsts_one, firsts_there, stands_cases, stands_first, stands_later, stands_none}
 
 -- ---- steps by a label
 
@@ -78,23 +69,6 @@ firsts_goals l (m ∷ xs) seen ys (first a b c d h r) = cases (is_by l m.0) refl
         → AreFirstsAfter (cond t (m.1 ∷ goals l xs) (goals l xs)) (goals l seen) (cond t (m.1 ∷ goals l d) (goals l d))
     cases true e rest = first m.1 (goals l xs) (goals l seen) (goals l d) (new e) rest
     cases false e rest = rest
-
--- ---- the steps at places
-
-module _ (p : Content) (trees : List Proc) (t : Proc) (steps : List StepTo) (are : AreStepsOf p trees t steps) where
-  pub listed_there : (l : ProcessLabel) (u : Proc) → ListsMove are.moves l u → ListsMove (map (seen trees) steps) l u
-  listed_there l u h = elim (firsts_there are.moves [] (map (seen trees) steps) are.firsts (l, u) h) [ inl before ↦ absurd (stands_none (l, u) before) | inr there ↦ there ]
-
-  pub listed_back : (l : ProcessLabel) (u : Proc) → ListsMove (map (seen trees) steps) l u → ListsMove are.moves l u
-  listed_back l u h = firsts_back are.moves [] (map (seen trees) steps) are.firsts (l, u) h
-
-  pub listed_once : (i j : ℕ) (s : StepTo) → slice_get steps i ≡ Some s → slice_get steps j ≡ Some s → i ≡ j
-  listed_once i j s h g = firsts_once are.moves [] (map (seen trees) steps) are.firsts i j (seen trees s) (at steps i s h) (at steps j s g)
-    where
-      at : (ss : List StepTo) (k : ℕ) (s : StepTo) → slice_get ss k ≡ Some s → slice_get (map (seen trees) ss) k ≡ Some (seen trees s)
-      at [] k s h = cc
-      at (r ∷ ss) zero s h = let e : r ≡ s = cc in ap (λ z. Some (seen trees z)) e
-      at (r ∷ ss) (suc k) s h = at ss k s h
 
 -- ---- the targets of a process
 

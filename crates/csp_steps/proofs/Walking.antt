@@ -1,20 +1,7 @@
 -- What walks over the ways to fill fields come to, as they go on.
-use Rattle.std.proofs.Common.{◌≡◌, ℕ, zero, suc, ◌+◌, ◌<◌, ◌≤◌, true, Option, Some, None, Ok, Err, List, [], ◌∷◌, ◌++◌, map, drop, length, slice_get, refl, ap, sym, ◌∙◌, arith, append_assoc, append-nil}
-use Rattle.csp_base.proofs.Lists.{map_push}
-use Rattle.csp_atoms.specs.declared.atom.Atom.{Atom}
-use Rattle.csp_atoms.specs.declared.value.Value.TheVariants.{One}
-use Rattle.csp_program.specs.Prelude.{Outcome, Env}
-use Rattle.csp_program.specs.declared.processes.Field.{Field}
-use Rattle.csp_program.specs.declared.processes.Proc.{Proc}
-use Rattle.csp_program.specs.declared.programs.Content.{Content}
+use Rattle.csp_steps.proofs.Prelude.{◌≡◌, ℕ, zero, suc, ◌+◌, ◌<◌, ◌≤◌, true, Option, Some, None, Ok, Err, List, [], ◌∷◌, ◌++◌, map, drop, length, slice_get, refl, ap, sym, ◌∙◌, arith, append_assoc, append-nil, map_push, Atom, One, Outcome, Env, Field, Proc, Content, ProcId, each_joined, Move, where_given, IsFront, tree_at, with_bound, AreMoves, seen, filled, frames_left, frames_weight, input_ways, is_blocked, name_of, number_with, then_ways, turn_ways, turned_ways, turned_weight, values_left, values_weight, walk_moves, walk_ways, way_move, ways_by_number, weight, HasGone, HasTurned, IsBegun, IsSound, IsTaken, Way, StepTo}
 use Rattle.csp_program.specs.declared.processes.Field.TheVariants as field
-use Rattle.pool_parts.specs.declared.place.ProcId.{ProcId}
-use Rattle.process_steps.specs.Prelude.{each_joined, Move, where_given}
-use Rattle.term_pool.specs.Prelude.{IsFront, tree_at}
 use Rattle.value_operators.proofs.NameLaws.{with_bound-last}
-use Rattle.value_operators.specs.Env.{with_bound}
-use Rattle.csp_steps.specs.Prelude.{AreMoves, seen, filled, frames_left, frames_weight, input_ways, is_blocked, name_of, number_with, then_ways, turn_ways, turned_ways, turned_weight, values_left, values_weight, walk_moves, walk_ways, way_move, ways_by_number, weight, HasGone, HasTurned, IsBegun, IsSound, IsTaken, Way}
-use Rattle.csp_steps.specs.declared.step.StepTo.{StepTo}
 use Rattle.csp_steps.specs.declared.walk.Frame.{Frame}
 use Rattle.csp_steps.specs.declared.walk.Input.{Input}
 use Rattle.csp_steps.specs.declared.walk.Turn.{Turn}

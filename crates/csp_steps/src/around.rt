@@ -5,10 +5,7 @@ ghost use Rattle.csp_program.specs.Prelude.{joined};
 ghost use Rattle.csp_program.specs.declared.programs.Content.{Content};
 ghost use Rattle.csp_program.specs.declared.processes.Proc.TheVariants as proc;
 ghost use Rattle.term_pool.specs.Prelude.{with_first, IsFront, tree_at};
-ghost use Rattle.csp_steps.specs.Computed.{all_within, AreMoves, GivesMoves, IsMove};
-ghost use Rattle.csp_steps.specs.Effect.{effect_as, hides, labels_by, last_by, moves_of, renamed_labels, IsWithin, around as made_around};
-ghost use Rattle.csp_steps.specs.Evaluated.{AreNoted, Fits, IsNumbered};
-ghost use Rattle.csp_steps.specs.Listed.{seen};
+ghost use Rattle.csp_steps.specs.Prelude.{all_within, AreMoves, GivesMoves, IsMove, effect_as, hides, labels_by, last_by, moves_of, renamed_labels, IsWithin, around as made_around, AreNoted, Fits, IsNumbered, seen};
 ghost use Rattle.csp_steps.specs.declared.operator.Operator.{Operator as Kept};
 ghost use Rattle.step_values.specs.Images.{becomes};
 
@@ -102,7 +99,8 @@ fn add_renamed(
     to: ProcId,
     steps: &mut Items<StepTo>,
 ) -> Result<(), NoMemory>
-    ensures { OnOk result (steps.new ≡ steps.old ++ map (λ l. record { label = l; to = to }) (renamed_labels (becomes images.now) label)) }
+    ensures { OnOk result (steps.new ≡ steps.old ++ map (λ l.
+        record { label = l; to = to }) (renamed_labels (becomes images.now) label)) }
 {
     match label {
         Label::Visible(event) => {
@@ -123,7 +121,8 @@ fn add_seen(
     to: ProcId,
     steps: &mut Items<StepTo>,
 ) -> Result<(), NoMemory>
-    ensures { OnOk result (steps.new ≡ steps.old ++ map (λ l. record { label = l; to = to }) (labels_by operator.now label)) }
+    ensures { OnOk result (steps.new ≡ steps.old ++ map (λ l.
+        record { label = l; to = to }) (labels_by operator.now label)) }
 {
     match operator {
         Operator::Hide(hidden) => steps.push(StepTo {
@@ -147,9 +146,12 @@ fn add_going(
     requires id { round.now.id.0 < length pool.old }
     requires below { step.to.0 < length pool.old }
     requires within { all_within (length pool.old) steps.old ≡ true }
-    ensures steps { OnOk result (AreMoves pool.new steps.new (map (seen pool.old) steps.old ++ map (λ l. (l, with_first (tree_at pool.old round.now.id) (tree_at pool.old step.to))) (labels_by round.now.operator.now step.label))) }
+    ensures steps { OnOk result (AreMoves pool.new steps.new (map (seen pool.old) steps.old
+        ++ map (λ l. (l, with_first (tree_at pool.old round.now.id) (tree_at pool.old step.to)))
+        (labels_by round.now.operator.now step.label))) }
     ensures front { IsFront pool.old pool.new }
-    ensures noted { (p : Content) → (operators : List Kept) → IsNumbered p pool.old operators round.now → AreNoted p pool.old operators places.old → OnOk result (AreNoted p pool.new operators places.new) }
+    ensures noted { (p : Content) → (operators : List Kept) → IsNumbered p pool.old operators round.now
+        → AreNoted p pool.old operators places.old → OnOk result (AreNoted p pool.new operators places.new) }
 {
     let to = pool.put_with_first(round.id, step.to)?;
     keep(places, to.0, round.number)?;
@@ -170,9 +172,12 @@ fn add_made(
     requires operator { IsWithin (length pool.old) round.now.operator.now }
     requires below { step.to.0 < length pool.old }
     requires within { all_within (length pool.old) steps.old ≡ true }
-    ensures steps { OnOk result (AreMoves pool.new steps.new (map (seen pool.old) steps.old ++ moves_of (effect_as pool.old round.now.operator.now) (tree_at pool.old round.now.id) step.label (tree_at pool.old step.to))) }
+    ensures steps { OnOk result (AreMoves pool.new steps.new (map (seen pool.old) steps.old
+        ++ moves_of (effect_as pool.old round.now.operator.now) (tree_at pool.old round.now.id) step.label
+        (tree_at pool.old step.to))) }
     ensures front { IsFront pool.old pool.new }
-    ensures noted { (p : Content) → (operators : List Kept) → IsNumbered p pool.old operators round.now → AreNoted p pool.old operators places.old → OnOk result (AreNoted p pool.new operators places.new) }
+    ensures noted { (p : Content) → (operators : List Kept) → IsNumbered p pool.old operators round.now
+        → AreNoted p pool.old operators places.old → OnOk result (AreNoted p pool.new operators places.new) }
 {
     match step.label {
         Label::Tick => {
@@ -198,9 +203,12 @@ fn made_of(
     requires id { round.now.id.0 < length pool.old }
     requires operator { IsWithin (length pool.old) round.now.operator.now }
     requires below { all_within (length pool.old) below.now ≡ true }
-    ensures steps { IfOk result (λ made. AreMoves pool.new made (joined (map (λ m. moves_of (effect_as pool.old round.now.operator.now) (tree_at pool.old round.now.id) m.0 m.1) (map (seen pool.old) below.now)))) }
+    ensures steps { IfOk result (λ made. AreMoves pool.new made
+        (joined (map (λ m. moves_of (effect_as pool.old round.now.operator.now)
+        (tree_at pool.old round.now.id) m.0 m.1) (map (seen pool.old) below.now)))) }
     ensures front { IsFront pool.old pool.new }
-    ensures noted { (p : Content) → (operators : List Kept) → IsNumbered p pool.old operators round.now → AreNoted p pool.old operators places.old → OnOk result (AreNoted p pool.new operators places.new) }
+    ensures noted { (p : Content) → (operators : List Kept) → IsNumbered p pool.old operators round.now
+        → AreNoted p pool.old operators places.old → OnOk result (AreNoted p pool.new operators places.new) }
 {
     let mut steps = Items::new(alloc);
     for step in below {
@@ -221,7 +229,8 @@ pub(crate) fn around(
     requires within { id.0 < length pool.old }
     requires below { all_within (length pool.old) below.now ≡ true }
     requires fits { Fits program.now pool.old evaluated.old }
-    ensures steps { GivesMoves pool.new result (made_around program.now (tree_at pool.old id) (map (seen pool.old) below.now)) }
+    ensures steps { GivesMoves pool.new result (made_around program.now (tree_at pool.old id)
+        (map (seen pool.old) below.now)) }
     ensures front { IsFront pool.old pool.new }
     ensures fits { OnOk result (Fits program.now pool.new evaluated.new) }
 {

@@ -7,8 +7,7 @@ ghost use Rattle.csp_program.specs.declared.processes.Proc.TheVariants as proc;
 ghost use Rattle.process_steps.specs.Step as meant;
 ghost use Rattle.process_steps.specs.StepList as lists;
 ghost use Rattle.term_pool.specs.Prelude.{IsFront, all_below, tree_at};
-ghost use Rattle.csp_steps.specs.Computed.{all_within, AreAt, AreMoves, IsMove};
-ghost use Rattle.csp_steps.specs.Listed.{seen};
+ghost use Rattle.csp_steps.specs.Prelude.{all_within, AreAt, AreMoves, IsMove, seen};
 
 use crate::step::StepTo;
 use containers::Items;
@@ -29,7 +28,8 @@ fn put_atom(
     id: ProcId,
 ) -> Result<ProcId, NoMemory>
     requires within { id.0 < length pool.old }
-    ensures process { IfOk result (λ made. slice_get pool.new made.0 ≡ Some (proc_with (one name (value.One atom)) (tree_at pool.old id))) }
+    ensures process { IfOk result (λ made. slice_get pool.new made.0
+        ≡ Some (proc_with (one name (value.One atom)) (tree_at pool.old id))) }
     ensures front { IsFront pool.old pool.new }
 {
     let bound = (name, atom);
@@ -82,7 +82,8 @@ fn with_operand(
     requires operands { all_below (length pool.old) ids.now ≡ true }
     requires index { index < length ids.now }
     requires within { id.0 < length pool.old }
-    ensures process { IfOk result (λ made. slice_get pool.new made.0 ≡ Some (proc.External (slice_set (map (tree_at pool.old) ids.now) index (tree_at pool.old id)))) }
+    ensures process { IfOk result (λ made. slice_get pool.new made.0
+        ≡ Some (proc.External (slice_set (map (tree_at pool.old) ids.now) index (tree_at pool.old id)))) }
     ensures front { IsFront pool.old pool.new }
 {
     let operands = with_place(alloc, ids, index, id)?;
@@ -100,7 +101,8 @@ fn in_choice(
     requires operands { all_below (length pool.old) ids.now ≡ true }
     requires index { index < length ids.now }
     requires within { step.to.0 < length pool.old }
-    ensures move_ { IfOk result (λ made. IsMove pool.new made (lists.in_choice (map (tree_at pool.old) ids.now) index step.label (tree_at pool.old step.to))) }
+    ensures move_ { IfOk result (λ made. IsMove pool.new made
+        (lists.in_choice (map (tree_at pool.old) ids.now) index step.label (tree_at pool.old step.to))) }
     ensures front { IsFront pool.old pool.new }
 {
     match step.label {
@@ -127,7 +129,8 @@ pub(crate) fn of_operand(
     requires operands { all_below (length pool.old) ids.now ≡ true }
     requires index { index < length ids.now }
     requires below { all_within (length pool.old) below.now ≡ true }
-    ensures steps { IfOk result (λ made. AreMoves pool.new made (map (λ m. lists.in_choice (map (tree_at pool.old) ids.now) index m.0 m.1) (map (seen pool.old) below.now))) }
+    ensures steps { IfOk result (λ made. AreMoves pool.new made
+        (map (λ m. lists.in_choice (map (tree_at pool.old) ids.now) index m.0 m.1) (map (seen pool.old) below.now))) }
     ensures front { IsFront pool.old pool.new }
 {
     let mut steps = Items::new(alloc);

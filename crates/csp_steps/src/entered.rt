@@ -3,8 +3,7 @@
 ghost use Rattle.std.specs.Prelude.{slice_get, OnOk};
 ghost use Rattle.process_steps.specs.Needed as meant;
 ghost use Rattle.term_pool.specs.Pooled.{IsFront};
-ghost use Rattle.csp_steps.specs.Computed.{GivesPlace};
-ghost use Rattle.csp_steps.specs.Evaluated.{Fits};
+ghost use Rattle.csp_steps.specs.Prelude.{GivesPlace, Fits};
 
 use crate::evaluated::{Evaluated, body_place};
 use csp_atoms::Value;

@@ -6,8 +6,7 @@ ghost use Rattle.csp_program.specs.declared.processes.Proc.{Proc as Process};
 ghost use Rattle.csp_program.specs.declared.programs.Content.{Content};
 ghost use Rattle.process_steps.specs.StepList.{steps_of};
 ghost use Rattle.term_pool.specs.Prelude.{IsFront, tree_at};
-ghost use Rattle.csp_steps.specs.Computed.{AreEach};
-ghost use Rattle.csp_steps.specs.Evaluated.{body_of, AreBodies, Fits, GivesNumber};
+ghost use Rattle.csp_steps.specs.Prelude.{AreEach, body_of, AreBodies, Fits, GivesNumber};
 
 use crate::operator::{Operator, operator_at};
 use crate::sets::Sets;
@@ -132,9 +131,12 @@ pub(crate) fn body_place(
     number: u32,
     body: &Proc,
 ) -> Result<ProcId, NoMemory>
-    ensures process { (p : Content) → AreBodies p pool.old bodies.old → body_of (slice_get p.defs number) ≡ Some body.now → IfOk result (λ id. slice_get pool.new id.0 ≡ Some body.now) }
+    ensures process { (p : Content) → AreBodies p pool.old bodies.old
+        → body_of (slice_get p.defs number) ≡ Some body.now
+        → IfOk result (λ id. slice_get pool.new id.0 ≡ Some body.now) }
     ensures front { IsFront pool.old pool.new }
-    ensures bodies { (p : Content) → AreBodies p pool.old bodies.old → body_of (slice_get p.defs number) ≡ Some body.now → OnOk result (AreBodies p pool.new bodies.new) }
+    ensures bodies { (p : Content) → AreBodies p pool.old bodies.old
+        → body_of (slice_get p.defs number) ≡ Some body.now → OnOk result (AreBodies p pool.new bodies.new) }
 {
     if let Some(place) = known(bodies, number as usize) {
         return Ok(ProcId(place));
@@ -150,7 +152,8 @@ pub(crate) fn known_steps(
     evaluated: &Evaluated,
     id: ProcId,
 ) -> Result<Option<Items<StepTo>>, NoMemory>
-    ensures { (p : Content) → (trees : List Process) → Fits p trees evaluated.now → IfOk result (λ found. IfSome found (λ steps. AreEach trees steps (steps_of p (tree_at trees id)))) }
+    ensures { (p : Content) → (trees : List Process) → Fits p trees evaluated.now
+        → IfOk result (λ found. IfSome found (λ steps. AreEach trees steps (steps_of p (tree_at trees id)))) }
 {
     let Some(number) = known(&evaluated.stepped, id.0) else {
         return Ok(None);
@@ -183,7 +186,8 @@ pub(crate) fn keep_steps(
     id: ProcId,
     steps: &[StepTo],
 ) -> Result<(), NoMemory>
-    ensures { (p : Content) → (trees : List Process) → Fits p trees evaluated.old → id.0 < length trees → AreEach trees steps.now (steps_of p (tree_at trees id)) → OnOk result (Fits p trees evaluated.new) }
+    ensures { (p : Content) → (trees : List Process) → Fits p trees evaluated.old → id.0 < length trees
+        → AreEach trees steps.now (steps_of p (tree_at trees id)) → OnOk result (Fits p trees evaluated.new) }
 {
     make_room(alloc, evaluated, steps.len());
     let copy = Items::from_slice(alloc, steps)?;

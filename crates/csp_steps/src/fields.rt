@@ -7,8 +7,7 @@ ghost use Rattle.process_steps.specs.Prefix as meant;
 ghost use Rattle.value_laws.specs.Numbers.{field_place};
 ghost use Rattle.value_operators.specs.Env.{with_bound};
 ghost use Rattle.value_operators.specs.Gives.{Gives};
-ghost use Rattle.csp_steps.specs.Evaluated.{AreSets};
-ghost use Rattle.csp_steps.specs.Walked.{is_blocked, is_plain, next_weight, number_with, turn_ways, ways_by_number, weight, GivesNext};
+ghost use Rattle.csp_steps.specs.Prelude.{AreSets, is_blocked, is_plain, next_weight, number_with, turn_ways, ways_by_number, weight, GivesNext};
 
 use crate::sets::{Sets, known_set};
 use crate::walk::{Input, Turn};
@@ -141,7 +140,8 @@ fn number_with_output(
     output: &Expr,
     number: u64,
 ) -> Result<u64, EvalFault>
-    ensures { Gives result (and_then (meant.value_under filling.now.program.now (with_bound bound.now []) output.now) (λ v. and_then (field_place set.now v) (λ k. Ok (number_with number set.now k)))) }
+    ensures { Gives result (and_then (meant.value_under filling.now.program.now (with_bound bound.now []) output.now)
+        (λ v. and_then (field_place set.now v) (λ k. Ok (number_with number set.now k)))) }
 {
     let value = value_under(filling, bound, output)?;
     let place = place_in(set, &value)?;
@@ -168,7 +168,8 @@ pub(crate) fn next_of<'a>(
 ) -> Result<Next<'a>, EvalFault>
     requires { AreSets filling.now.program.now kept.old }
     ensures kept { OnOk result (AreSets filling.now.program.now kept.new) }
-    ensures next { GivesNext filling.now.program.now (with_bound bound.now []) result (turn_ways filling.now.program.now (with_bound bound.now []) turn.now) }
+    ensures next { GivesNext filling.now.program.now (with_bound bound.now []) result
+        (turn_ways filling.now.program.now (with_bound bound.now []) turn.now) }
     ensures less { IfOk result (λ next. next_weight next ≤ weight turn.now.sets.now) }
 {
     let mut sets = turn.sets;

@@ -10,8 +10,7 @@ ghost use Rattle.csp_program.specs.declared.programs.Content.{Content};
 ghost use Rattle.process_steps.specs.Needed as need;
 ghost use Rattle.process_steps.specs.Ways as meant;
 ghost use Rattle.term_pool.specs.Prelude.{IsFront, all_below, tree_at};
-ghost use Rattle.csp_steps.specs.Computed.{GivesLook};
-ghost use Rattle.csp_steps.specs.Evaluated.{AreSets, Fits};
+ghost use Rattle.csp_steps.specs.Prelude.{GivesLook, AreSets, Fits};
 ghost use Rattle.step_values.specs.Starts.{IsStart};
 ghost use Rattle.value_operators.specs.Gives.{Gives};
 
@@ -61,7 +60,8 @@ fn one_step(alloc: Global, label: Label, to: ProcId) -> Result<Items<StepTo>, No
 
 // A guard.
 fn look_guard(alloc: Global, program: &Program, c: &Expr, id: ProcId) -> Result<Look, EvalFault>
-    ensures { (trees : List Process) → id.0 < length trees → GivesLook program.now trees result (proc.Guard c.now (tree_at trees id)) }
+    ensures { (trees : List Process) → id.0 < length trees
+        → GivesLook program.now trees result (proc.Guard c.now (tree_at trees id)) }
 {
     let holds = truth_in(alloc, program, c)?;
     if holds {
@@ -79,7 +79,8 @@ fn look_if(
     first: ProcId,
     second: ProcId,
 ) -> Result<Look, EvalFault>
-    ensures { (trees : List Process) → first.0 < length trees → second.0 < length trees → GivesLook program.now trees result (proc.If c.now (tree_at trees first) (tree_at trees second)) }
+    ensures { (trees : List Process) → first.0 < length trees → second.0 < length trees
+        → GivesLook program.now trees result (proc.If c.now (tree_at trees first) (tree_at trees second)) }
 {
     let holds = truth_in(alloc, program, c)?;
     if holds {
@@ -90,7 +91,8 @@ fn look_if(
 
 // A choice that the process makes by itself.
 fn look_internal(alloc: Global, ids: &[ProcId]) -> Result<Look, EvalFault>
-    ensures { (trees : List Process) → (p : Content) → all_below (length trees) ids.now ≡ true → GivesLook p trees result (proc.Internal (map (tree_at trees) ids.now)) }
+    ensures { (trees : List Process) → (p : Content) → all_below (length trees) ids.now ≡ true
+        → GivesLook p trees result (proc.Internal (map (tree_at trees) ids.now)) }
 {
     let steps = silent_to(alloc, ids)?;
     Ok(Look::Steps(steps))
@@ -119,7 +121,9 @@ fn look_prefix(
     requires within { id.0 < length pool.old }
     requires sets { AreSets program.now sets.old }
     ensures sets { OnOk result (AreSets program.now sets.new) }
-    ensures look { (head : LogicHead) → (written : List LogicField) → IfOk fields (λ fs. fs ≡ written) → (among : meant.Among) → meant.of_head program.now head ≡ Ok among → IsStart program.now start.now among → GivesLook program.now pool.new result (proc.Prefix head written (tree_at pool.old id)) }
+    ensures look { (head : LogicHead) → (written : List LogicField) → IfOk fields (λ fs. fs ≡ written)
+        → (among : meant.Among) → meant.of_head program.now head ≡ Ok among → IsStart program.now start.now among
+        → GivesLook program.now pool.new result (proc.Prefix head written (tree_at pool.old id)) }
     ensures front { IsFront pool.old pool.new }
 {
     let fields = fields?;
@@ -129,7 +133,8 @@ fn look_prefix(
 
 // A choice between processes.
 fn look_external(alloc: Global, ids: &[ProcId]) -> Result<Look, EvalFault>
-    ensures { (trees : List Process) → (p : Content) → all_below (length trees) ids.now ≡ true → GivesLook p trees result (proc.External (map (tree_at trees) ids.now)) }
+    ensures { (trees : List Process) → (p : Content) → all_below (length trees) ids.now ≡ true
+        → GivesLook p trees result (proc.External (map (tree_at trees) ids.now)) }
 {
     let ids = Items::from_slice(alloc, ids)?;
     Ok(Look::Choice(ids))
@@ -144,7 +149,8 @@ fn look_each_external(
     id: ProcId,
 ) -> Result<Look, EvalFault>
     requires within { id.0 < length pool.old }
-    ensures look { (p : Content) → (s : Expression) → need.set_in p s ≡ Ok atoms.now → GivesLook p pool.new result (proc.EachExternal name s (tree_at pool.old id)) }
+    ensures look { (p : Content) → (s : Expression) → need.set_in p s ≡ Ok atoms.now
+        → GivesLook p pool.new result (proc.EachExternal name s (tree_at pool.old id)) }
     ensures front { IsFront pool.old pool.new }
 {
     let ids = each_put(alloc, pool, name, atoms, id)?;
@@ -160,7 +166,8 @@ fn look_each_internal(
     id: ProcId,
 ) -> Result<Look, EvalFault>
     requires within { id.0 < length pool.old }
-    ensures look { (p : Content) → (s : Expression) → need.set_in p s ≡ Ok atoms.now → GivesLook p pool.new result (proc.EachInternal name s (tree_at pool.old id)) }
+    ensures look { (p : Content) → (s : Expression) → need.set_in p s ≡ Ok atoms.now
+        → GivesLook p pool.new result (proc.EachInternal name s (tree_at pool.old id)) }
     ensures front { IsFront pool.old pool.new }
 {
     if atoms.is_empty() {
@@ -181,7 +188,8 @@ fn look_call(
     values: Result<Items<Value>, EvalFault>,
 ) -> Result<Look, EvalFault>
     requires fits { Fits program.now pool.old evaluated.old }
-    ensures look { (args : List Expression) → Gives values (need.arguments_in program.now args) → GivesLook program.now pool.new result (proc.Call def args) }
+    ensures look { (args : List Expression) → Gives values (need.arguments_in program.now args)
+        → GivesLook program.now pool.new result (proc.Call def args) }
     ensures front { IsFront pool.old pool.new }
     ensures fits { OnOk result (Fits program.now pool.new evaluated.new) }
 {

@@ -1,8 +1,7 @@
 //! Each step once, where it first stands.
 
 ghost use Rattle.std.specs.Prelude.{◌≡◌, IfOk, OnOk};
-ghost use Rattle.csp_steps.specs.Computed.{AreAdded};
-ghost use Rattle.csp_steps.specs.Order.{AreFirsts};
+ghost use Rattle.csp_steps.specs.Prelude.{AreAdded, AreFirsts};
 
 use crate::step::StepTo;
 use containers::{Items, Numbering};

@@ -7,10 +7,7 @@ ghost use Rattle.csp_program.specs.declared.programs.Content.{Content};
 ghost use Rattle.process_steps.specs.Prefix as meant;
 ghost use Rattle.term_pool.specs.Prelude.{IsFront, tree_at};
 ghost use Rattle.value_operators.specs.Env.{with_bound};
-ghost use Rattle.csp_steps.specs.Computed.{all_within, AreMoves, GivesMoves};
-ghost use Rattle.csp_steps.specs.Evaluated.{AreSets};
-ghost use Rattle.csp_steps.specs.Listed.{seen};
-ghost use Rattle.csp_steps.specs.Walked.{filled, input_ways, nth_event, turned_ways, turned_weight, way_move, ways_by_number, weight, GivesRound, GivesTurned, IsSound, IsTaken};
+ghost use Rattle.csp_steps.specs.Prelude.{all_within, AreMoves, GivesMoves, AreSets, seen, filled, input_ways, nth_event, turned_ways, turned_weight, way_move, ways_by_number, weight, GivesRound, GivesTurned, IsSound, IsTaken};
 
 use crate::fields::{Filling, Next, are_blocked, next_of, number_after};
 use crate::sets::Sets;
@@ -39,7 +36,8 @@ fn is_given(given: &Option<AtomSet>, atom: Atom) -> bool
 
 // What comes after an input that takes the value at a place; nothing, where it may not take it.
 fn turn_after<'a>(input: &Input<'a>, place: usize, atom: &Atom) -> Option<Turn<'a>>
-    ensures ways { (p : Content) → (env : Env) → turned_ways p ((input.now.name, value.One atom.now) ∷ env) result ≡ input_ways p env input.now place atom.now }
+    ensures ways { (p : Content) → (env : Env) → turned_ways p ((input.now.name, value.One atom.now) ∷ env) result
+        ≡ input_ways p env input.now place atom.now }
     ensures less { turned_weight result ≤ weight input.now.sets.now }
 {
     if !is_given(&input.given, *atom) {
@@ -144,7 +142,8 @@ fn add_way(
 ) -> Result<(), NoMemory>
     requires to { to.0 < length pool.old }
     requires within { all_within (length pool.old) steps.old ≡ true }
-    ensures steps { OnOk result (AreMoves pool.new steps.new (map (seen pool.old) steps.old ++ way_move filling.now.first (tree_at pool.old to) (with_bound bound.now [], number) ∷ [])) }
+    ensures steps { OnOk result (AreMoves pool.new steps.new (map (seen pool.old) steps.old
+        ++ way_move filling.now.first (tree_at pool.old to) (with_bound bound.now [], number) ∷ [])) }
     ensures front { IsFront pool.old pool.new }
 {
     let values = Values::bound(filling.alloc, bound);
@@ -196,7 +195,8 @@ pub(crate) fn prefix_steps(
     requires within { to.0 < length pool.old }
     requires sets { AreSets program.now sets.old }
     ensures sets { OnOk result (AreSets program.now sets.new) }
-    ensures steps { GivesMoves pool.new result (filled [] start.now.first (tree_at pool.old to) (ways_by_number program.now start.now.sets.now fields.now [] 0)) }
+    ensures steps { GivesMoves pool.new result (filled [] start.now.first (tree_at pool.old to)
+        (ways_by_number program.now start.now.sets.now fields.now [] 0)) }
     ensures front { IsFront pool.old pool.new }
 {
     let mut steps = Items::new(alloc);

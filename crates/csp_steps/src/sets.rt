@@ -60,7 +60,8 @@ fn make_room(alloc: Global, program: &Program, sets: &mut Sets, more: usize)
 
 // Keeps the set that an expression is worth: its number.
 fn keep_set(alloc: Global, sets: &mut Sets, expr: &Expr, atoms: AtomSet) -> Result<usize, NoMemory>
-    ensures { (p : Content) → AreSets p sets.old → need.set_in p expr.now ≡ Ok atoms → IfOk result (λ number. HasSet p sets.new number expr.now) }
+    ensures { (p : Content) → AreSets p sets.old → need.set_in p expr.now ≡ Ok atoms
+        → IfOk result (λ number. HasSet p sets.new number expr.now) }
 {
     let copy = copy_expr(alloc, expr)?;
     let (number, is_new) = sets.exprs.insert_full(copy)?;

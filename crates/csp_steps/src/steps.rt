@@ -3,9 +3,7 @@
 ghost use Rattle.std.specs.Prelude.{◌≡◌, ◌<◌, true, length, map, IfOk, OnOk};
 ghost use Rattle.process_steps.specs.StepList.{steps_of, steps_of_choice};
 ghost use Rattle.term_pool.specs.Prelude.{IsFront, all_below, tree_at};
-ghost use Rattle.csp_steps.specs.Computed.{GivesEach};
-ghost use Rattle.csp_steps.specs.Evaluated.{Fits};
-ghost use Rattle.csp_steps.specs.Listed.{AreStepsOf, FaultIs};
+ghost use Rattle.csp_steps.specs.Prelude.{GivesEach, Fits, AreStepsOf, FaultIs};
 
 use crate::around::around;
 use crate::choice::of_operand;
@@ -74,7 +72,8 @@ fn steps_of_operands(
 ) -> Result<Items<StepTo>, EvalFault>
     requires within { all_below (length pool.old) ids.now ≡ true }
     requires fits { Fits program.now pool.old evaluated.old }
-    ensures steps { GivesEach pool.new result (steps_of_choice program.now (steps_of program.now) (map (tree_at pool.old) ids.now)) }
+    ensures steps { GivesEach pool.new result (steps_of_choice program.now (steps_of program.now)
+        (map (tree_at pool.old) ids.now)) }
     ensures front { IsFront pool.old pool.new }
     ensures fits { OnOk result (Fits program.now pool.new evaluated.new) }
 {

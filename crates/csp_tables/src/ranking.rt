@@ -33,7 +33,11 @@ impl Model for PartRanks {
 impl PartRanks {
     /// The ranks for each node, and the laps for each node.
     pub fn new(ranks: Vec<Vec<i64>>, laps: Vec<Vec<u8>>) -> PartRanks
-        ensures { result ≡ record { ranks = map (λ row. row.items) ranks.items; laps = map (λ row. row.items) laps.items } }
+        ensures { result ≡ record {
+          ranks = map (λ row. row.items) ranks.items;
+          laps = map (λ row.
+              row.items) laps.items;
+        } }
     {
         PartRanks { ranks, laps }
     }

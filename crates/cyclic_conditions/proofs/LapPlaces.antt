@@ -1,52 +1,24 @@
 -- The places of a component's lap, as its laps show them.
-use Rattle.std.proofs.Common.{◌≡◌, ℕ, zero, suc, ◌+◌, ◌-◌, ◌%◌, ◌^◌, ◌<◌, ◌≤◌, inl, inr, List, [], ◌∷◌, ◌++◌, length, cond, Option, Some, None, IsTrue, nat_lt, refl, sym, ap, subst, ◌∙◌, arith, lt-ltb, le-ltb}
-use Rattle.std.specs.Prelude.{replicate, slice_get}
-use Rattle.csp_base.proofs.Standard.{cases_Bool, cases_lt, cond-true, cond-false, length-append, get_or_append_left, get_or-append_seam, mod_below, mod-eq_of_lt, add-mod_left, none-some, same_Some, get_or-replicate, get_or_past, length-replicate}
-use Rattle.csp_base.specs.Prelude.{Tells, has}
+use Rattle.cyclic_conditions.proofs.Prelude.{Bool, ◌≡◌, ℕ, zero, suc, ◌+◌, ◌-◌, ◌%◌, ◌^◌, ◌<◌, ◌≤◌, inl, inr, List, [], ◌∷◌, ◌++◌, length, cond, Option, Some, None, IsTrue, nat_lt, refl, sym, ap, subst, ◌∙◌, arith, replicate, slice_get, cases_lt, length-append, get_or_append_left, get_or-append_seam, mod_below, mod-eq_of_lt, add-mod_left, none-some, same_Some, slice_get_within, get_or-replicate, get_or_past, length-replicate, Tells, has, node_at, is_possible, part_at, LinksAreOrdered, Shape, is_end, part_form, count_in, count_below, BreaksOrder, Clash, IsReachedAt, links_of, ReachesLink, place_after, KeepsPlaces, BreaksCyclic, possible_within, end_within, observed, pair_at, lap_step, IsOwner, ends_below, ends_of, owner_end, IsFact, IsPossibleAt, HasFirst, AreFirsts, AreMore, AreNoted, IsNotedAt, ClashesWith, Disagree, AreClashing, first_at, links_in_order, IsOrder, order_at, IsBrokenOrder, Fact, table_of, AreLaps, Leads, links_along, shape_of, Laps}
 use Rattle.csp_base.specs.declared.stop.Stop.{Stop}
 use Rattle.csp_base.specs.declared.stop.Stop.TheVariants as stop
-use Rattle.csp_tables.specs.Prelude.{node_at, is_possible, part_at, LinksAreOrdered, Shape, is_end}
-use Rattle.net_sound.proofs.Within.{part_form}
-use Rattle.design_rules.specs.Prelude.{count_in, count_below, BreaksOrder, Clash, links_of, ReachesLink, place_after, KeepsPlaces, BreaksCyclic}
 use Rattle.design_rules.specs.declared.rule_fault.RuleFault.{RuleFault}
 use Rattle.design_rules.specs.declared.rule_fault.RuleFault.TheVariants.{NoOrder}
-use Rattle.design_rules.proofs.Counts.{count_more, count_same, count_at_most}
-use Rattle.design_rules.proofs.Runs.{possible_within, end_within}
-use Rattle.design_rules.proofs.Places.{IsAt, earlier, some_links, first_lap}
-use Rattle.observed_runs.specs.Prelude.{observed, pair_at, lap_step}
-use Rattle.shape_links.specs.Links.{IsOwner, ends_below, ends_of}
-use Rattle.shape_links.proofs.Links.{owner_end}
-use Rattle.cyclic_conditions.specs.Facts.{IsFact, IsPossibleAt, HasFirst, AreFirsts, AreMore, AreNoted, IsNotedAt, ClashesWith, Disagree, AreClashing, first_at, links_in_order}
-use Rattle.cyclic_conditions.specs.Orders.{IsOrder, order_at}
-use Rattle.cyclic_conditions.specs.Told.{IsBrokenOrder}
-use Rattle.cyclic_conditions.specs.declared.facts.Fact.{Fact}
-use Rattle.shape_links.specs.Component.{table_of}
-use Rattle.cyclic_conditions.specs.Laps.{AreLaps, Leads, links_along, shape_of}
-use Rattle.cyclic_conditions.specs.declared.laps.Laps.{Laps}
+use Rattle.design_rules.proofs.Counts.{count_at_most}
+use Rattle.design_rules.proofs.Places.{earlier, some_links, first_lap}
 use Rattle.cyclic_conditions.proofs.Noting.{first_within, one_more, clashing}
 
 -- ---- places
 
+lap_one : (on : Bool) (c last m n : ℕ) → c ≤ last → n ≡ cond on (m + 1) m → (cond on (cond (nat_lt c last) (c + 1) 0) c + m) % (last + 1) ≡ (c + n) % (last + 1)
+lap_one on c last m n h is = grind (arith, add-mod_left (last + 1) m)
+
+lap_within : (on : Bool) (c last : ℕ) → c ≤ last → cond on (cond (nat_lt c last) (c + 1) 0) c ≤ last
+lap_within on c last h = grind (arith)
+
 pub lap_counts : (V : List ℕ) (last c : ℕ) (s : List ℕ) → c ≤ last → observed (lap_step V last) c s ≡ (c + count_in V s) % (last + 1)
 lap_counts V last c [] h = sym (ap (λ n. n % (last + 1)) (let e : c + 0 ≡ c = omega arith in e) ∙ mod-eq_of_lt (omega arith))
-lap_counts V last c (e ∷ s) h =
-    elim (cases_Bool (has V e)) [
-      | inl on ↦
-          let step = cond-true (has V e) (cond (nat_lt c last) (c + 1) 0) c on in
-          let more : count_in V (e ∷ s) ≡ count_in V s + 1 = count_more V e s on in
-          elim (cases_lt c last) [
-            | inl less ↦
-                let to : lap_step V last c e ≡ c + 1 = step ∙ cond-true (nat_lt c last) (c + 1) 0 (lt-ltb c last less) in
-                ap (λ n. observed (lap_step V last) n s) to ∙ lap_counts V last (c + 1) s (omega arith) ∙ ap (λ n. n % (last + 1)) (let i : c + 1 + count_in V s ≡ c + count_in V (e ∷ s) = omega (arith, more) in i)
-            | inr most ↦
-                let to : lap_step V last c e ≡ 0 = step ∙ cond-false (nat_lt c last) (c + 1) 0 (le-ltb c last most) in
-                ap (λ n. observed (lap_step V last) n s) to ∙ lap_counts V last 0 s (omega arith) ∙ ap (λ n. n % (last + 1)) (let i : 0 + count_in V s ≡ count_in V s = omega arith in i)
-                ∙ (sym (add-mod_left (last + 1) (count_in V s)) ∙ ap (λ n. n % (last + 1)) (let i : last + 1 + count_in V s ≡ c + count_in V (e ∷ s) = omega (arith, more) in i))
-          ]
-      | inr off ↦
-          let to : lap_step V last c e ≡ c = cond-false (has V e) (cond (nat_lt c last) (c + 1) 0) c off in
-          ap (λ n. observed (lap_step V last) n s) to ∙ lap_counts V last c s h ∙ ap (λ n. (c + n) % (last + 1)) (sym (count_same V e s off))
-    ]
+lap_counts V last c (e ∷ s) h = lap_counts V last (lap_step V last c e) s (lap_within (has V e) c last h) ∙ lap_one (has V e) c last (count_in V s) (count_in V (e ∷ s)) h refl
 
 -- the place of the lap to which a run leads
 abbrev place_of : Laps → List ℕ → ℕ
@@ -152,16 +124,16 @@ module _ (laps : Laps) (x : AreLaps laps) (firsts : List (Option Fact)) (a : Are
         λ place. same_kept (place_of laps s) l m here (subst (λ q. HasFirst firsts q m) (sym place) there),
       )
 
-  at_place : (q l : ℕ) → HasFirst firsts q l → IsAt (shape_of laps) laps.component.number q l
+  at_place : (q l : ℕ) → HasFirst firsts q l → IsReachedAt (shape_of laps) laps.component.number q l
   at_place q l y =
       let shape = (shape_of laps) in
       let i = laps.component.number in
       let f = a.sound q y.fact y.kept in
       let run = x.explored.reached y.fact.pair f.within in
       let r = fact_reach laps x q y.fact run.0 f run.1 in
-      subst (λ n. IsAt shape i q n) y.link (subst (λ n. IsAt shape i n y.fact.link) r.1 (first_lap shape i y.fact.link run.0 y.fact.event (record { form = x.form; keeps = keeps }) r.0))
+      subst (λ n. IsReachedAt shape i q n) y.link (subst (λ n. IsReachedAt shape i n y.fact.link) r.1 (first_lap shape i y.fact.link run.0 y.fact.event (record { form = x.form; keeps = keeps }) r.0))
 
-  kept_at : (q l : ℕ) → q < links_along laps → IsAt (shape_of laps) laps.component.number q l → HasFirst firsts q l
+  kept_at : (q l : ℕ) → q < links_along laps → IsReachedAt (shape_of laps) laps.component.number q l → HasFirst firsts q l
   kept_at q l h y = subst (λ n. HasFirst firsts n l) (ap (λ n. n % links_along laps) y.place ∙ mod-eq_of_lt h) (kept l y.run y.event y.reaches)
 
   pub is_order : IsOrder (shape_of laps) laps.component.number (links_in_order firsts)
@@ -169,20 +141,15 @@ module _ (laps : Laps) (x : AreLaps laps) (firsts : List (Option Fact)) (a : Are
     listed = λ q l h.
         let y = in_order_first firsts q l h in
         let below : q < length firsts = first_within firsts q l y in
-        let z = at_place q l y in
-        (omega (arith, a.count), record { run = z.run; event = z.event; reaches = z.reaches; place = z.place });
+        (omega (arith, a.count), at_place q l y);
     all = λ q l h y. in_order_all firsts q l (λ r k.
         let e = earlier (shape_of laps) laps.component.number x.form y.run y.reaches.possible.runs r (let p : place_after (shape_of laps) y.run ≡ q = y.place in omega arith) in
         (e.0, kept_at r e.0 (omega arith) e.1))
-        (kept_at q l h (record { run = y.run; event = y.event; reaches = y.reaches; place = y.place }));
+        (kept_at q l h y);
   }
     where
       in_order_first : (fs : List (Option Fact)) (q l : ℕ) → slice_get (links_in_order fs) q ≡ Some l → HasFirst fs q l
-      in_order_first [] q l h = absurd (nothing q h)
-        where
-          nothing : (k : ℕ) → slice_get {X = ℕ} [] k ≡ Some l → ⊥
-          nothing zero e = cc
-          nothing (suc k) e = cc
+      in_order_first [] q l h = absurd (let w : q < length {A = ℕ} [] = slice_get_within [] q l h in omega arith)
       in_order_first (None ∷ fs) zero l h = absurd (cc)
       in_order_first (None ∷ fs) (suc q) l h = absurd (cc)
       in_order_first (Some f ∷ fs) zero l h = record { fact = f; kept = refl; link = cc }
@@ -199,11 +166,7 @@ module _ (laps : Laps) (x : AreLaps laps) (firsts : List (Option Fact)) (a : Are
 
 pub length-ends : (shape : Shape) (i n : ℕ) → length (ends_below shape i n) ≡ count_below (λ l. is_end shape i l) n
 length-ends shape i zero = refl
-length-ends shape i (suc n) =
-    elim (cases_Bool (is_end shape i n)) [
-      | inl h ↦ ap length (cond-true (is_end shape i n) (ends_below shape i n ++ n ∷ []) (ends_below shape i n) h) ∙ length-append (ends_below shape i n) (n ∷ []) ∙ (ap (λ k. k + 1) (length-ends shape i n) ∙ sym (cond-true (is_end shape i n) (count_below (λ l. is_end shape i l) n + 1) (count_below (λ l. is_end shape i l) n) h))
-      | inr h ↦ ap length (cond-false (is_end shape i n) (ends_below shape i n ++ n ∷ []) (ends_below shape i n) h) ∙ (length-ends shape i n ∙ sym (cond-false (is_end shape i n) (count_below (λ l. is_end shape i l) n + 1) (count_below (λ l. is_end shape i l) n) h))
-    ]
+length-ends shape i (suc n) = let rest : length (ends_below shape i n) ≡ count_below (λ l. is_end shape i l) n = length-ends shape i n in grind (arith, length-append)
 
 -- a part without links
 pub keeps_none : (shape : Shape) (i : ℕ) → links_of shape i ≡ 0 → KeepsPlaces shape i
@@ -211,13 +174,9 @@ keeps_none shape i none l m s t e f a b = let some : 0 < links_of shape i = some
 
 pub order_none : (shape : Shape) (i : ℕ) → links_of shape i ≡ 0 → IsOrder shape i []
 order_none shape i none = record {
-  listed = λ q l h. absurd (nothing q l h);
+  listed = λ q l h. absurd (let w : q < length {A = ℕ} [] = slice_get_within [] q l h in omega arith);
   all = λ q l h y. absurd (omega arith);
 }
-  where
-    nothing : (k l : ℕ) → slice_get {X = ℕ} [] k ≡ Some l → ⊥
-    nothing zero l e = cc
-    nothing (suc k) l e = cc
 
 -- the first part that has no order
 pub breaks_there : (shape : Shape) (i : ℕ) (fault : Stop RuleFault) → ((j : ℕ) → j < i → KeepsPlaces shape j) → Tells (IsBrokenOrder shape i) fault → Tells (BreaksCyclic shape) fault

@@ -1,3 +1,4 @@
 pub mod LapPlaces
 pub mod Noting
+pub mod Prelude
 pub mod Shortness

@@ -1,20 +1,8 @@
 -- Facts that are kept by the places of a lap.
-use Rattle.std.proofs.Common.{◌≡◌, ℕ, ◌<◌, inl, inr, ◌⊎◌, List, length, Option, Some, None, true, refl, sym, ap, subst, ◌∙◌}
-use Rattle.std.specs.Prelude.{slice_set}
-use Rattle.csp_base.proofs.Standard.{cases_eq, cases_lt, get_or-set_same, get_or-set_other, get_or_past, length-set, none-some, same_Some}
-use Rattle.csp_base.specs.Prelude.{has}
-use Rattle.csp_tables.specs.Prelude.{node_at, part_at}
+use Rattle.cyclic_conditions.proofs.Prelude.{arith, ◌≡◌, ℕ, ◌<◌, inl, inr, ◌⊎◌, List, length, Option, Some, None, true, refl, sym, ap, subst, ◌∙◌, slice_set, cases_eq, cases_lt, get_or-set_same, get_or-set_other, get_or_past, length-set, none-some, has, node_at, part_at, part_form, AreEnough, pair_at, IsOwner, IsFact, IsPossibleAt, first_at, HasFirst, AreFirsts, AreMore, IsNoted, IsNotedAt, Disagree, AreClashing, ClashesWith, Fact, table_of, AreLaps, shape_of, Laps}
 use Rattle.csp_tables.proofs.Runs.{node_form}
-use Rattle.net_sound.proofs.Within.{part_form}
 use Rattle.design_rules.proofs.Shapes.{link_shared}
-use Rattle.observed_runs.specs.Prelude.{AreEnough, pair_at}
 use Rattle.observed_runs.proofs.Leading.{listed_step, step_listed}
-use Rattle.shape_links.specs.Links.{IsOwner}
-use Rattle.cyclic_conditions.specs.Facts.{IsFact, IsPossibleAt, first_at, HasFirst, AreFirsts, AreMore, IsNoted, IsNotedAt, Disagree, AreClashing, ClashesWith}
-use Rattle.cyclic_conditions.specs.declared.facts.Fact.{Fact}
-use Rattle.shape_links.specs.Component.{table_of}
-use Rattle.cyclic_conditions.specs.Laps.{AreLaps, shape_of}
-use Rattle.cyclic_conditions.specs.declared.laps.Laps.{Laps}
 
 -- a kept fact stands within the list
 pub first_within : (firsts : List (Option Fact)) (r l : ℕ) → HasFirst firsts r l → r < length firsts
@@ -24,10 +12,7 @@ first_within firsts r l x = elim (cases_lt r (length firsts)) [ inl h ↦ h | in
 
 module _ (firsts : List (Option Fact)) (place : ℕ) (fact : Fact) (within : place < length firsts) where
   set_sound : (q : ℕ) (f : Fact) → first_at (slice_set firsts place (Some fact)) q ≡ Some f → (first_at firsts q ≡ Some f) ⊎ ((q ≡ place) × (f ≡ fact))
-  set_sound q f h = elim (cases_eq q place) [
-    | inl same ↦ inr (same, sym (same_Some fact f (sym (get_or-set_same firsts place (Some fact) None within) ∙ subst (λ p. first_at (slice_set firsts place (Some fact)) p ≡ Some f) same h)))
-    | inr other ↦ inl (sym (get_or-set_other firsts place q (Some fact) None other) ∙ h)
-  ]
+  set_sound q f h = grind (arith, get_or-set_same firsts place (Some fact) None within, get_or-set_other firsts place q (Some fact) None)
 
   old_first : (q l : ℕ) → HasFirst (slice_set firsts place (Some fact)) q l → HasFirst firsts q l ⊎ ((q ≡ place) × (fact.link ≡ l))
   old_first q l x = elim (set_sound q x.fact x.kept) [
@@ -48,10 +33,7 @@ module _ (firsts : List (Option Fact)) (place : ℕ) (fact : Fact) (within : pla
   ]
 
   set_keeps : first_at firsts place ≡ None → (q l : ℕ) → HasFirst firsts q l → HasFirst (slice_set firsts place (Some fact)) q l
-  set_keeps none q l x = elim (cases_eq q place) [
-    | inl same ↦ absurd (none-some x.fact (sym none ∙ subst (λ p. first_at firsts p ≡ Some x.fact) same x.kept))
-    | inr other ↦ record { fact = x.fact; kept = get_or-set_other firsts place q (Some fact) None other ∙ x.kept; link = x.link }
-  ]
+  set_keeps none q l x = record { fact = x.fact; kept = grind (arith, get_or-set_other firsts place q (Some fact) None, x.kept); link = x.link }
 
 -- what is known of the kept facts once one more was noted
 pub one_more : (laps : Laps) (place : ℕ) (fact : Fact) (old new : List (Option Fact)) → place < length old → AreFirsts laps old → IsFact laps place fact → IsNotedAt place fact old new → AreMore laps old new × HasFirst new place fact.link

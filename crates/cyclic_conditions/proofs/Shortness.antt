@@ -1,19 +1,7 @@
 -- Acceptances that fall short of a link, and the first node of an end that has one.
-use Rattle.std.proofs.Common.{◌≡◌, ℕ, ◌+◌, ◌<◌, inl, inr, List, [], ◌∷◌, length, get_or, true, false, Option, Some, None, IsTrue, nat_eq, nat_le, refl, sym, ap, subst, ◌∙◌, arith}
+use Rattle.cyclic_conditions.proofs.Prelude.{◌≡◌, ℕ, ◌+◌, ◌<◌, inl, inr, List, [], ◌∷◌, length, get_or, true, false, Option, Some, None, IsTrue, nat_eq, nat_le, refl, sym, ap, subst, ◌∙◌, arith, slice_set, unwrap_or, cases_Bool, cases_eq, cases_lt, both_ways, false≢true, or_right, get_or-set_same, get_or-set_other, get_or_read, length-set, none-some, same_Some, has, is_subset_of, IsReached, IsRun, end_of, node_at, Part, part_at, alphabets_of, TripleDisjoint, Shape, is_end, link_at, acceptance_at, IsWellFormed, part_form, AllKeepPlaces, FallsShort, IsWholeEnd, possible_within, end_within, IsOwner, IsOnOne, IsShort, IsAcceptance, IsShortBy, IsShortAt, Before, IsFirstShort, short_at, AreShorts, FallsFirst, on_one, owner_end, find_has, has_first}
 use Rattle.std.specs.List.{find}
-use Rattle.std.specs.Prelude.{slice_set, unwrap_or}
-use Rattle.csp_base.proofs.Standard.{cases_Bool, cases_eq, cases_lt, or_cases, eqb-true, both_ways, false≢true, or_right, get_or-set_same, get_or-set_other, get_or_read, length-set, none-some, same_Some}
-use Rattle.csp_base.specs.Prelude.{has, is_subset_of}
-use Rattle.csp_tables.specs.Prelude.{IsReached, IsRun, end_of, node_at, Part, part_at, alphabets_of, TripleDisjoint, Shape, is_end, link_at, acceptance_at, IsWellFormed}
-use Rattle.net_sound.proofs.Within.{part_form}
-use Rattle.design_rules.specs.Cyclic.{AllKeepPlaces, FallsShort, IsWholeEnd}
-use Rattle.design_rules.proofs.Runs.{possible_within, end_within}
-use Rattle.shape_links.specs.Links.{IsOwner, IsOnOne}
-use Rattle.cyclic_conditions.specs.Shorts.{IsShort, IsAcceptance, IsShortBy, IsShortAt, Before, IsFirstShort, short_at, AreShorts}
-use Rattle.cyclic_conditions.specs.Told.{FallsFirst}
 use Rattle.cyclic_conditions.specs.declared.shorts.Shorts.{Shorts}
-use Rattle.shape_links.proofs.Links.{on_one, owner_end}
-use Rattle.csp_base.proofs.Listed.{find_has, has_first}
 use Rattle.csp_base.proofs.Booleans.{and_second_false}
 use Rattle.csp_base.proofs.Rising.{member_of_superset, is_subset_of_from_members}
 use Rattle.design_rules.proofs.Accepting.{at_place, set_shared}
@@ -132,10 +120,7 @@ module _ (shape : Shape) (part node place : ℕ) where
   }
 
 other_end : (shape : Shape) (i l : ℕ) → IsTrue (is_end shape i l) → ((link_at shape l).left ≡ i → ⊥) → (link_at shape l).right ≡ i
-other_end shape i l end ne = elim (or_cases (nat_eq (link_at shape l).left i) (nat_eq (link_at shape l).right i) end) [
-  | inl left ↦ absurd (ne (eqb-true (link_at shape l).left i left))
-  | inr right ↦ eqb-true (link_at shape l).right i right
-]
+other_end shape i l end ne = grind (arith)
 
 -- ---- what is looked for in an acceptance
 
@@ -196,12 +181,14 @@ short_reached shape l i n w x = w.reached i n x.1.at.part x.1.at.node
 whole : (shape : Shape) (l i : ℕ) → IsWellFormed shape → l < length shape.links → IsFirstShort shape (λ i n k. i < length shape.parts) l i None → IsWholeEnd shape l i
 whole shape l i w h none s f = let x = falls_short_at shape l i s w h f in none (end_of (part_at shape.parts i).table 0 s) x.0 x.1.at.part x.1
 
-pub end_whole : (shape : Shape) (l i : ℕ) (first : Option ℕ) → IsWellFormed shape → l < length shape.links → IsFirstShort shape (λ i n k. i < length shape.parts) l i first → first ≡ None → IsWholeEnd shape l i
-end_whole shape l i first w h x is = whole shape l i w h (subst (IsFirstShort shape (λ i n k. i < length shape.parts) l i) is x)
-
 -- a mark that is read
-pub mark_read : (nodes : List (Option ℕ)) (l : ℕ) (first : Option ℕ) → l < length nodes → first ≡ get_or nodes l first → short_at nodes l ≡ first
-mark_read nodes l first h read = sym (get_or_read nodes l first h read None)
+mark_read : (shape : Shape) (l i : ℕ) (nodes : List (Option ℕ)) (first : Option ℕ) → l < length shape.links → length nodes ≡ length shape.links → IsFirstShort shape (λ i n k. i < length shape.parts) l i (short_at nodes l)
+    → first ≡ get_or nodes l first → IsFirstShort shape (λ i n k. i < length shape.parts) l i first
+mark_read shape l i nodes first h count x read = subst (IsFirstShort shape (λ i n k. i < length shape.parts) l i) (sym (get_or_read nodes l first (subst (λ n. l < n) (sym count) h) read None)) x
+
+pub end_whole : (shape : Shape) (l i : ℕ) (nodes : List (Option ℕ)) (first : Option ℕ) → IsWellFormed shape → l < length shape.links → length nodes ≡ length shape.links → IsFirstShort shape (λ i n k. i < length shape.parts) l i (short_at nodes l)
+    → first ≡ get_or nodes l first → first ≡ None → IsWholeEnd shape l i
+end_whole shape l i nodes first w h count x read is = whole shape l i w h (subst (IsFirstShort shape (λ i n k. i < length shape.parts) l i) is (mark_read shape l i nodes first h count x read))
 
 -- a run to the first node that does
 falls_first : (shape : Shape) (l i n : ℕ) (s : List ℕ) → IsWellFormed shape → l < length shape.links → IsFirstShort shape (λ i n k. i < length shape.parts) l i (Some n) → IsRun (part_at shape.parts i).table s → end_of (part_at shape.parts i).table 0 s ≡ n → FallsFirst shape l i s
@@ -214,11 +201,15 @@ falls_first shape l i n s w h x run leads = record {
 }
 
 -- the same, of a mark and a part that were read
-pub end_first : (shape : Shape) (l i n j : ℕ) (first : Option ℕ) (s : List ℕ) (p : Part) → IsWellFormed shape → l < length shape.links → IsFirstShort shape (λ i n k. i < length shape.parts) l i first → first ≡ Some n → j ≡ i → p ≡ part_at shape.parts j → IsRun p.table s → end_of p.table 0 s ≡ n → FallsFirst shape l i s
-end_first shape l i n j first s p w h x is same read run leads =
-    let at : p ≡ part_at shape.parts i = read ∙ ap (part_at shape.parts) same in
-    falls_first shape l i n s w h (subst (IsFirstShort shape (λ i n k. i < length shape.parts) l i) is x) (subst (λ (q : Part). IsRun q.table s) at run) (subst (λ (q : Part). end_of q.table 0 s ≡ n) at leads)
+module _ (shape : Shape) (l i n j : ℕ) (nodes : List (Option ℕ)) (first : Option ℕ) (p : Part) (w : IsWellFormed shape) (h : l < length shape.links) (count : length nodes ≡ length shape.links)
+    (x : IsFirstShort shape (λ i n k. i < length shape.parts) l i (short_at nodes l)) (mark : first ≡ get_or nodes l first) (is : first ≡ Some n) (same : j ≡ i) (read : p ≡ part_at shape.parts j) where
+  marked_first : IsFirstShort shape (λ i n k. i < length shape.parts) l i (Some n)
+  marked_first = subst (IsFirstShort shape (λ i n k. i < length shape.parts) l i) is (mark_read shape l i nodes first h count x mark)
 
-pub end_reached : (shape : Shape) (l i n j : ℕ) (first : Option ℕ) (p : Part) → IsWellFormed shape → IsFirstShort shape (λ i n k. i < length shape.parts) l i first → first ≡ Some n → j ≡ i → p ≡ part_at shape.parts j → IsReached p.table n
-end_reached shape l i n j first p w x is same read =
-    subst (λ (q : Part). IsReached q.table n) (sym (read ∙ ap (part_at shape.parts) same)) (short_reached shape l i n w (subst (IsFirstShort shape (λ i n k. i < length shape.parts) l i) is x).0)
+  pub end_reached : IsReached p.table n
+  end_reached = subst (λ (q : Part). IsReached q.table n) (sym (read ∙ ap (part_at shape.parts) same)) (short_reached shape l i n w marked_first.0)
+
+  pub end_first : (s : List ℕ) → IsRun p.table s → end_of p.table 0 s ≡ n → FallsFirst shape l i s
+  end_first s run leads =
+      let at : p ≡ part_at shape.parts i = read ∙ ap (part_at shape.parts) same in
+      falls_first shape l i n s w h marked_first (subst (λ (q : Part). IsRun q.table s) at run) (subst (λ (q : Part). end_of q.table 0 s ≡ n) at leads)

@@ -39,6 +39,10 @@ pub record AreMore (laps : Laps) (old new : List (Option Fact)) : Type 0 where
   pub firsts : AreFirsts laps new
   pub keeps : (q l : ℕ) → HasFirst old q l → HasFirst new q l
 
+-- the link of the event, if it has one, is kept at the place of the pair p
+abbrev pub IsEventNoted : Laps → List (Option Fact) → ℕ → ℕ → Type 0
+IsEventNoted laps firsts p e = (l : ℕ) → IsOwner (shape_of laps) l e → HasFirst firsts (pair_at laps.explored.pairs p).1 l
+
 -- all that is possible at the pair p is kept
 abbrev pub IsNoted : Laps → List (Option Fact) → ℕ → Type 0
 IsNoted laps firsts p = (e l : ℕ) → IsPossibleAt laps p e → IsOwner (shape_of laps) l e → HasFirst firsts (pair_at laps.explored.pairs p).1 l

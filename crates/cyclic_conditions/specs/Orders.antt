@@ -1,14 +1,7 @@
 -- The order in which a part first comes to the links that it reaches. (No rule's decider cites this.)
 use Rattle.std.specs.Prelude.{◌≡◌, ◌<◌, ℕ, List, [], Some, length, slice_get, slice_index_or}
 use Rattle.csp_tables.specs.Shape.{Shape}
-use Rattle.design_rules.specs.Cyclic.{links_of, ReachesLink, place_after}
-
--- the part reaches the link at this place
-pub record IsReachedAt (shape : Shape) (i q l : ℕ) : Type 0 where
-  pub run : List ℕ
-  pub event : ℕ
-  pub reaches : ReachesLink shape i l run event
-  pub place : place_after shape run ≡ q
+use Rattle.design_rules.specs.Cyclic.{IsReachedAt, links_of}
 
 -- in the first lap the part reaches exactly these links, each at its place of the list
 pub record IsOrder (shape : Shape) (i : ℕ) (order : List ℕ) : Type 0 where

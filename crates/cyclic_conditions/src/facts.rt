@@ -1,10 +1,8 @@
 //! Which link a component comes to at each place of its lap.
 
 ghost use Rattle.std.specs.Prelude.{◌≡◌, ◌<◌, ℕ, None, Some, IfErr, IfOk, IfSome, OnOk, length, replicate};
-ghost use Rattle.observed_runs.specs.Prelude.{pair_at};
-ghost use Rattle.cyclic_conditions.specs.Facts.{AreClashing, AreFirsts, AreMore, AreNoted, ClashesWith, HasFirst, IsNoted, IsNotedAt, IsPossibleAt, first_at, is_of_link, links_in_order};
+ghost use Rattle.cyclic_conditions.specs.Facts.{AreClashing, AreFirsts, AreMore, AreNoted, ClashesWith, HasFirst, IsEventNoted, IsNoted, IsNotedAt, IsPossibleAt, first_at, is_of_link, links_in_order};
 ghost use Rattle.cyclic_conditions.specs.Laps.{AreLaps};
-ghost use Rattle.shape_links.specs.Links.{IsOwner};
 
 use crate::laps::Laps;
 use containers::Items;
@@ -76,7 +74,7 @@ fn note_event(
     requires possible { IsPossibleAt laps.now pair event }
     requires firsts { AreFirsts laps.now firsts.old }
     ensures more { OnOk result (AreMore laps.now firsts.old firsts.new) }
-    ensures noted { OnOk result ((l : ℕ) → IsOwner laps.now.component.shape.now l event → HasFirst firsts.new (pair_at laps.now.explored.pairs pair).1 l) }
+    ensures noted { OnOk result (IsEventNoted laps.now firsts.new pair event) }
     ensures clash { IfErr result (λ clash. AreClashing laps.now clash.here clash.there) }
 {
     let Some(link) = laps.component.shape.owner(event) else {

@@ -43,7 +43,8 @@ fn add_order(
 ) -> Result<(), Stop<RuleFault>>
     requires { part < length prepared.now.parts }
     ensures keeps { OnOk result (KeepsPlaces prepared.now part) }
-    ensures order { OnOk result ((order : List ℕ) × IsOrder prepared.now part order × (orders.new.items ≡ orders.old.items ++ order ∷ [])) }
+    ensures order { OnOk result ((order : List ℕ) × IsOrder prepared.now part order
+        × (orders.new.items ≡ orders.old.items ++ order ∷ [])) }
     ensures fault { IfErr result (Tells (IsBrokenOrder prepared.now part)) }
 {
     let order = order_of(alloc, &prepared.component(part))?;

@@ -1,18 +1,10 @@
 -- Numbers that rise from each link to the next one of a part rise along all orders.
-use Rattle.std.proofs.Common.{◌≡◌, ℕ, zero, suc, ◌+◌, ◌-◌, ◌%◌, ◌<◌, ◌≤◌, inl, inr, ◌⊎◌, List, [], length, get_or, true, false, Some, sym, ap, subst, ◌∙◌, arith}
-use Rattle.std.specs.Prelude.{slice_get}
-use Rattle.csp_base.proofs.Standard.{cases_Bool, cases_eq, both_ways, get_or_read, slice_get_within, get_or_from_slice_get, same_Some, mod_below, mod-le}
-use Rattle.csp_base.specs.Members.{has}
-use Rattle.csp_tables.specs.Shape.{Shape, IsWellFormed}
+use Rattle.cyclic_rule.proofs.Prelude.{◌≡◌, ℕ, zero, suc, ◌+◌, ◌-◌, ◌%◌, ◌<◌, ◌≤◌, inl, inr, List, [], length, get_or, true, false, Some, sym, ap, subst, ◌∙◌, arith, slice_get, cases_Bool, cases_eq, both_ways, get_or_read, slice_get_within, get_or_from_slice_get, same_Some, mod_below, mod-le, has, Shape, IsWellFormed, links_of, place_after, AllKeepPlaces, MustPrecede, NumbersRise, ComesAfter, AreChainNumbers, ends_of, Adds, IsNextIn, IsRestAfter, ComesNext, IsNextAt, ends_sound, ends_complete, place_in, has_place, some_at}
 use Rattle.digraph.specs.Walk.{IsLongestWalk}
 use Rattle.digraph.proofs.WalkLaws.{same_walk}
-use Rattle.design_rules.specs.Prelude.{links_of, place_after, AllKeepPlaces, MustPrecede, NumbersRise, ComesAfter, AreChainNumbers}
-use Rattle.design_rules.proofs.Places.{Keeping, IsAt, some_links, first_lap, precedes, precedes_rest}
+use Rattle.design_rules.proofs.Places.{Keeping, some_links, first_lap, precedes, precedes_rest}
 use Rattle.design_rules.proofs.Walks.{walk_bound}
-use Rattle.shape_links.specs.Links.{ends_of}
 use Rattle.cyclic_conditions.specs.Orders.{IsOrder, order_at, AreOrders}
-use Rattle.cyclic_rule.specs.Chains.{IsNextIn, IsRestAfter, ComesNext, IsNextAt}
-use Rattle.shape_links.proofs.Links.{ends_sound, ends_complete, place_in, has_place, some_at}
 use Rattle.csp_base.proofs.Listed.{has_at}
 
 -- ---- orders and numbers
@@ -21,27 +13,21 @@ module _ (shape : Shape) (orders : List (List ℕ)) (w : IsWellFormed shape) (ke
   keeping : (i : ℕ) → i < length shape.parts → Keeping shape i
   keeping i h = record { form = w; keeps = keep i h }
 
-  at_order : (i q l : ℕ) → i < length shape.parts → slice_get (order_at orders i) q ≡ Some l → (q < links_of shape i) × IsAt shape i q l
-  at_order i q l h at = let r = (a.each i h).listed q l at in (r.0, record { run = r.1.run; event = r.1.event; reaches = r.1.reaches; place = r.1.place })
-
-  order_is : (i q l : ℕ) → i < length shape.parts → q < links_of shape i → IsAt shape i q l → slice_get (order_at orders i) q ≡ Some l
-  order_is i q l h below at = (a.each i h).all q l below (record { run = at.run; event = at.event; reaches = at.reaches; place = at.place })
-
   -- a link must come before the one that comes next after it
   pub next_precedes : (l m : ℕ) → IsNextAt shape orders (length shape.parts) l m → MustPrecede shape l m
   next_precedes l m x = go x.next
     where
       go : ComesNext (order_at orders x.part) (ends_of shape x.part) l m → MustPrecede shape l m
       go (inl n) =
-          let first = at_order x.part n.place l x.within n.first in
-          let second = at_order x.part (n.place + 1) m x.within n.second in
+          let first = (a.each x.part x.within).listed n.place l n.first in
+          let second = (a.each x.part x.within).listed (n.place + 1) m n.second in
           precedes shape x.part n.place (n.place + 1) l m (keeping x.part x.within) (omega arith) second.0 first.1 second.1
       go (inr n) =
-          let last = at_order x.part n.place l x.within n.last in
+          let last = (a.each x.part x.within).listed n.place l n.last in
           let end = ends_sound shape x.part (length shape.links) m n.link in
           precedes_rest shape x.part n.place l m (keeping x.part x.within) last.0 last.1 end.0 end.1
           (λ same. both_ways (has (order_at orders x.part) m) n.absent (subst (λ k. has (order_at orders x.part) k ≡ true) same (has_place (order_at orders x.part) n.place l n.last)))
-          (λ q less at. both_ways (has (order_at orders x.part) m) n.absent (has_place (order_at orders x.part) q m (order_is x.part q m x.within (let below : n.place < links_of shape x.part = last.0 in omega arith) at)))
+          (λ q less at. both_ways (has (order_at orders x.part) m) n.absent (has_place (order_at orders x.part) q m ((a.each x.part x.within).all q m (let below : n.place < links_of shape x.part = last.0 in omega arith) at)))
 
   -- numbers that rise from each link to the next one
   module _ (number : ℕ → ℕ) (next : (l m : ℕ) → IsNextAt shape orders (length shape.parts) l m → number l < number m) where
@@ -65,11 +51,11 @@ module _ (shape : Shape) (orders : List (List ℕ)) (w : IsWellFormed shape) (ke
         let q = place_after shape b.run % links_of shape b.part in
         let below : place_after shape b.run % links_of shape b.part < links_of shape b.part = mod_below (place_after shape b.run) (links_of shape b.part) k in
         let small : place_after shape b.run % links_of shape b.part ≤ place_after shape b.run = mod-le (place_after shape b.run) (links_of shape b.part) in
-        let at = order_is b.part (place_after shape b.run % links_of shape b.part) l h below (first_lap shape b.part l b.run b.event (keeping b.part h) b.reaches) in
+        let at = (a.each b.part h).all (place_after shape b.run % links_of shape b.part) l below (first_lap shape b.part l b.run b.event (keeping b.part h) b.reaches) in
         elim (cases_Bool (has (order_at orders b.part) m)) [
           | inl there ↦
               let r = place_in (order_at orders b.part) m there in
-              let x = at_order b.part r.0 m h r.1 in
+              let x = (a.each b.part h).listed r.0 m r.1 in
               let later : place_after shape b.run < place_after shape x.1.run = b.later x.1.run x.1.event x.1.reaches in
               let place : place_after shape x.1.run ≡ r.0 = x.1.place in
               rises b.part (place_after shape b.run % links_of shape b.part) r.0 l m h at r.1 (omega arith)
@@ -142,14 +128,13 @@ rest_last order ends last l m at r =
 -- the arcs of one part more
 pub chains_more : (shape : Shape) (orders : List (List ℕ)) (n : ℕ) (first second ends : List ℕ) (A B D : ℕ → ℕ → Type 0) → first ≡ order_at orders n → second ≡ order_at orders n → ends ≡ ends_of shape n
     → ((m k : ℕ) → A m k → IsNextAt shape orders n k m) → ((m k : ℕ) → IsNextAt shape orders n k m → A m k)
-    → ((m k : ℕ) → B m k → A m k ⊎ IsNextIn first k m) → ((m k : ℕ) → A m k → B m k) → ((m k : ℕ) → IsNextIn first k m → B m k)
-    → ((m k : ℕ) → D m k → B m k ⊎ IsRestAfter second ends k m) → ((m k : ℕ) → B m k → D m k) → ((m k : ℕ) → IsRestAfter second ends k m → D m k)
+    → Adds A (IsNextIn first) B → Adds B (IsRestAfter second ends) D
     → ((m k : ℕ) → D m k → IsNextAt shape orders (n + 1) k m) × ((m k : ℕ) → IsNextAt shape orders (n + 1) k m → D m k)
-chains_more shape orders n first second ends A B D f s e a_sound a_all b_sound b_kept b_all d_sound d_kept d_all = (sound, complete)
+chains_more shape orders n first second ends A B D f s e a_sound a_all b d = (sound, complete)
   where
     sound : (m k : ℕ) → D m k → IsNextAt shape orders (n + 1) k m
-    sound m k arc = elim (d_sound m k arc) [
-      | inl old ↦ elim (b_sound m k old) [
+    sound m k arc = elim (d.sound m k arc) [
+      | inl old ↦ elim (b.sound m k old) [
         | inl older ↦ let x = a_sound m k older in record { part = x.part; within = let h : x.part < n = x.within in omega arith; next = x.next }
         | inr next ↦ record { part = n; within = omega arith; next = inl (subst (λ o. IsNextIn o k m) f next) }
       ]
@@ -157,11 +142,11 @@ chains_more shape orders n first second ends A B D f s e a_sound a_all b_sound b
     ]
 
     now : (m k : ℕ) → ComesNext (order_at orders n) (ends_of shape n) k m → D m k
-    now m k (inl next) = d_kept m k (b_all m k (subst (λ o. IsNextIn o k m) (sym f) next))
-    now m k (inr rest) = d_all m k (subst (λ es. IsRestAfter second es k m) (sym e) (subst (λ o. IsRestAfter o (ends_of shape n) k m) (sym s) rest))
+    now m k (inl next) = d.kept m k (b.complete m k (subst (λ o. IsNextIn o k m) (sym f) next))
+    now m k (inr rest) = d.complete m k (subst (λ es. IsRestAfter second es k m) (sym e) (subst (λ o. IsRestAfter o (ends_of shape n) k m) (sym s) rest))
 
     complete : (m k : ℕ) → IsNextAt shape orders (n + 1) k m → D m k
     complete m k x = elim (cases_eq x.part n) [
       | inl here ↦ now m k (subst (λ i. ComesNext (order_at orders i) (ends_of shape i) k m) here x.next)
-      | inr before ↦ d_kept m k (b_kept m k (a_all m k (record { part = x.part; within = let h : x.part < n + 1 = x.within in omega arith; next = x.next })))
+      | inr before ↦ d.kept m k (b.kept m k (a_all m k (record { part = x.part; within = let h : x.part < n + 1 = x.within in omega arith; next = x.next })))
     ]

@@ -1,10 +1,10 @@
 //! The numbers of the links: how many must come before each, in a chain.
 
-ghost use Rattle.std.specs.Prelude.{◌≡◌, ◌<◌, ◌⊎◌, ℕ, All, false, IfErr, IfOk, OnOk, length, slice_index};
+ghost use Rattle.std.specs.Prelude.{◌≡◌, ◌<◌, All, IfErr, IfOk, OnOk, length, slice_index};
 ghost use Rattle.csp_base.specs.Prelude.{Tells, has};
 ghost use Rattle.digraph.specs.Digraph.{HasArc};
 ghost use Rattle.design_rules.specs.Prelude.{AllKeepPlaces, NumbersRise, AreChainNumbers, BreaksCyclic};
-ghost use Rattle.cyclic_rule.specs.Chains.{IsNextAt, IsNextIn, IsRestAfter};
+ghost use Rattle.cyclic_rule.specs.Chains.{Adds, AreChains, IsNextIn, IsRest, IsRestAfter};
 ghost use Rattle.cyclic_conditions.specs.Orders.{AreOrders};
 
 use crate::ends::turned_ends;
@@ -47,9 +47,7 @@ fn chains(
     orders: &[Items<u32>],
 ) -> Result<Rows, NoMemory>
     requires { AreOrders prepared.now orders.now }
-    ensures count { IfOk result (λ rows. length rows ≡ length prepared.now.links) }
-    ensures sound { IfOk result (λ rows. (m l : ℕ) → HasArc rows m l → IsNextAt prepared.now orders.now (length prepared.now.parts) l m) }
-    ensures complete { IfOk result (λ rows. (m l : ℕ) → IsNextAt prepared.now orders.now (length prepared.now.parts) l m → HasArc rows m l) }
+    ensures { IfOk result (AreChains prepared.now orders.now) }
 {
     let count = prepared.shape().links().len();
     let mut rows = Rows::new(alloc, count as u32)?;
@@ -65,9 +63,7 @@ fn chains(
 fn chain(rows: &mut Rows, order: &[u32]) -> Result<(), NoMemory>
     requires { All (λ l. l < length rows.old) order.now }
     ensures count { length rows.new ≡ length rows.old }
-    ensures sound { OnOk result ((m l : ℕ) → HasArc rows.new m l → HasArc rows.old m l ⊎ IsNextIn order.now l m) }
-    ensures kept { OnOk result ((m l : ℕ) → HasArc rows.old m l → HasArc rows.new m l) }
-    ensures complete { OnOk result ((m l : ℕ) → IsNextIn order.now l m → HasArc rows.new m l) }
+    ensures arcs { OnOk result (Adds (HasArc rows.old) (IsNextIn order.now) (HasArc rows.new)) }
 {
     for place in 1..order.len() {
         rows.add_arc(order[place], order[place - 1])?;
@@ -80,9 +76,7 @@ fn chain_rest(rows: &mut Rows, order: &[u32], ends: &[u32]) -> Result<(), NoMemo
     requires order { All (λ l. l < length rows.old) order.now }
     requires ends { All (λ l. l < length rows.old) ends.now }
     ensures count { length rows.new ≡ length rows.old }
-    ensures sound { OnOk result ((m l : ℕ) → HasArc rows.new m l → HasArc rows.old m l ⊎ IsRestAfter order.now ends.now l m) }
-    ensures kept { OnOk result ((m l : ℕ) → HasArc rows.old m l → HasArc rows.new m l) }
-    ensures complete { OnOk result ((m l : ℕ) → IsRestAfter order.now ends.now l m → HasArc rows.new m l) }
+    ensures arcs { OnOk result (Adds (HasArc rows.old) (IsRestAfter order.now ends.now) (HasArc rows.new)) }
 {
     let Some(last) = order.last() else {
         return Ok(());
@@ -98,9 +92,7 @@ fn rest_arc(rows: &mut Rows, order: &[u32], link: u32, last: u32) -> Result<(), 
     requires link { link < length rows.old }
     requires last { last < length rows.old }
     ensures count { length rows.new ≡ length rows.old }
-    ensures sound { OnOk result ((m l : ℕ) → HasArc rows.new m l → HasArc rows.old m l ⊎ ((m ≡ link) × (l ≡ last) × (has order.now link ≡ false))) }
-    ensures kept { OnOk result ((m l : ℕ) → HasArc rows.old m l → HasArc rows.new m l) }
-    ensures complete { OnOk result (has order.now link ≡ false → HasArc rows.new link last) }
+    ensures arcs { OnOk result (Adds (HasArc rows.old) (IsRest order.now link last) (HasArc rows.new)) }
 {
     if contains(order, link) {
         return Ok(());

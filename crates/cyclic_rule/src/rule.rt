@@ -24,11 +24,11 @@ pub fn cyclic(alloc: Global, shape: &Shape) -> Result<Ranking, Stop<RuleFault>>
     ensures fault { IfErr result (Tells (BreaksCyclic shape.now)) }
 {
     let prepared = SortedShape::new(alloc, shape)?;
-    ranked(alloc, &prepared)
+    ranking_of(alloc, &prepared)
 }
 
 // The same of a shape that is prepared.
-fn ranked(alloc: Global, prepared: &SortedShape<'_>) -> Result<Ranking, Stop<RuleFault>>
+fn ranking_of(alloc: Global, prepared: &SortedShape<'_>) -> Result<Ranking, Stop<RuleFault>>
     ensures cyclic { OnOk result (IsCyclic prepared.now) }
     ensures ranking { IfOk result (λ ranking. IsCyclicRanking prepared.now ranking) }
     ensures fault { IfErr result (Tells (BreaksCyclic prepared.now)) }

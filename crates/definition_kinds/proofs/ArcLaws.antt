@@ -1,12 +1,5 @@
 -- What arcs there are once more ends were gone over.
-use Rattle.std.proofs.Common.{◌≡◌, ℕ, ◌+◌, ◌<◌, Bool, true, false, ◌&&◌, ◌||◌, nat_eq, nat_lt, List, length, take, get_or, refl, sym, ap, ◌∙◌, arith}
-use Rattle.std.specs.Prelude.{Some, slice_get, Vec}
-use Rattle.csp_base.specs.Standard.{option_map, Global}
-use Rattle.csp_base.proofs.Standard.{nat_tests, false≢true, eqb-true, list_any_more, slice_get_read, slice_get-map}
-use Rattle.script_names.specs.Prelude.{ends_at}
-use Rattle.script_names.specs.declared.kinds.End.{End}
-use Rattle.name_tables.specs.Ends.{rows}
-use Rattle.definition_kinds.specs.Sources.{comes_from, some_from}
+use Rattle.definition_kinds.proofs.Prelude.{◌≡◌, ℕ, ◌+◌, ◌<◌, Bool, true, false, ◌&&◌, ◌||◌, nat_eq, nat_lt, List, length, take, get_or, refl, sym, ap, ◌∙◌, arith, Some, slice_get, Vec, option_map, Global, nat_tests, false≢true, eqb-true, list_any_more, slice_get_read, slice_get-map, ends_at, End, rows, comes_from, some_from}
 
 -- one end more
 one_more : (now before first t x e : Bool) → now ≡ (before || (x && e)) → before ≡ (first || (t && e)) → now ≡ (first || ((t || x) && e))

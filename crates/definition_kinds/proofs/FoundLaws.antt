@@ -1,19 +1,8 @@
 -- What definitions are, from what is found of them.
-use Rattle.std.proofs.Common.{◌≡◌, ℕ, suc, ◌+◌, ◌<◌, Bool, false, List, [], ◌∷◌, ◌++◌, inl, inr, length, take, get_or, refl, sym, ap, ◌∙◌, subst, arith}
-use Rattle.std.specs.Prelude.{slice_get, Vec, ◌↔◌, IsTrue, if◌then◌else◌}
-use Rattle.csp_base.specs.Standard.{flat_map, Global}
-use Rattle.csp_base.proofs.Standard.{fun_ext, get_or-append_seam, cases_Bool, cases_lt, false≢true, get_or_append_left, length-append, take_more, slice_get_within}
-use Rattle.csp_base.specs.Members.{has}
-use Rattle.csp_text.specs.declared.script.Decl.{Decl}
-use Rattle.script_names.specs.declared.kinds.Class.TheVariants as class
-use Rattle.script_names.specs.Prelude.{AreKindsOf, HasClass, LeadsTo, body_ends, first_ends, script_ends, Entities, declared, first_of, meanings_of}
-use Rattle.script_names.specs.declared.kinds.End.{End}
+use Rattle.definition_kinds.proofs.Prelude.{◌≡◌, ℕ, suc, ◌+◌, ◌<◌, Bool, false, List, [], ◌∷◌, ◌++◌, inl, inr, length, take, get_or, refl, sym, ap, ◌∙◌, subst, arith, slice_get, Vec, ◌↔◌, IsTrue, if◌then◌else◌, flat_map, Global, fun_ext, get_or-append_seam, cases_Bool, cases_lt, false≢true, get_or_append_left, length-append, take_more, slice_get_within, has, Decl, AreKindsOf, HasClass, LeadsTo, body_ends, first_ends, script_ends, Entities, declared, first_of, meanings_of, End, rows, AreLeading, AreReached, marked, Class}
 use Rattle.script_names.specs.declared.kinds.Kind.{Kind}
-use Rattle.script_names.specs.declared.kinds.End.TheVariants as end
-use Rattle.name_tables.specs.Ends.{rows}
 use Rattle.name_tables.specs.Firsts.{SameFirsts}
 use Rattle.definition_kinds.specs.declared.kinds.Found.{Found}
-use Rattle.definition_kinds.specs.Sources.{AreLeading, AreReached, marked}
 use Rattle.definition_kinds.specs.Found.{AreFound, IsFound, class_found, kind_found}
 use Rattle.csp_base.proofs.Lists.{push_cases}
 
@@ -62,13 +51,13 @@ module _ (all : List (List End)) (found : Found) (is : IsFound all found) (d : �
   class_is : HasClass all d (class_found found d)
   class_is =
       elim (cases_Bool (marked found.data.items d)) as (λ _. HasClass all d (class_found found d)) [
-        | inl data_here ↦ subst (HasClass all d) (sym (ap (λ b. if b then class.Data else (if marked found.nothing.items d then class.Unknown else class.Process)) data_here)) ((is.data_found d firsts_within).0 data_here)
+        | inl data_here ↦ subst (HasClass all d) (sym (ap (λ b. if b then Class.Data else (if marked found.nothing.items d then Class.Unknown else Class.Process)) data_here)) ((is.data_found d firsts_within).0 data_here)
         | inr no_data ↦
             elim (cases_Bool (marked found.nothing.items d)) as (λ _. HasClass all d (class_found found d)) [
               | inl nothing_here ↦
-                  subst (HasClass all d) (sym (λ i. if no_data i then class.Data else (if nothing_here i then class.Unknown else class.Process))) ((is.nothing_found d firsts_within).0 nothing_here)
+                  subst (HasClass all d) (sym (λ i. if no_data i then Class.Data else (if nothing_here i then Class.Unknown else Class.Process))) ((is.nothing_found d firsts_within).0 nothing_here)
               | inr no_nothing ↦
-                  subst (HasClass all d) (sym (λ i. if no_data i then class.Data else (if no_nothing i then class.Unknown else class.Process)))
+                  subst (HasClass all d) (sym (λ i. if no_data i then Class.Data else (if no_nothing i then Class.Unknown else Class.Process)))
                   (never (marked found.data.items d) no_data (is.data_found d firsts_within).1, never (marked found.nothing.items d) no_nothing (is.nothing_found d firsts_within).1)
             ]
       ]
@@ -82,7 +71,7 @@ are_kinds all found kinds count count_is is each = record {
       let within : d < length all = let below = slice_get_within kinds d kind at in let e = each.one_each in omega arith in
       record {
         class = subst (HasClass all d) (ap (λ (k : Kind). k.class) (sym kind_is)) (class_is all found is d within);
-        network = subst (λ (b : Bool). IsTrue b ↔ LeadsTo end.Parallel all d) (ap (λ (k : Kind). k.network) (sym kind_is)) (is.networks_found d within);
+        network = subst (λ (b : Bool). IsTrue b ↔ LeadsTo End.Parallel all d) (ap (λ (k : Kind). k.network) (sym kind_is)) (is.networks_found d within);
       };
 }
 

@@ -1,14 +1,8 @@
 -- Following ends is walking over arcs that are turned round.
-use Rattle.std.proofs.Common.{◌≡◌, ◌↔◌, ℕ, zero, suc, ◌<◌, true, false, nat_eq, eq-eqb, IsTrue, List, [], ◌∷◌, ◌⊎◌, inl, inr, length, refl, sym, ap, ◌∙◌, subst, arith}
-use Rattle.std.specs.Prelude.{Some, None, slice_get}
-use Rattle.csp_base.proofs.Standard.{or_cases, or_left, eqb-true, false≢true, cases_lt, lt-ltb, ltb-true, slice_get_past, any_passes_from_place}
-use Rattle.csp_base.specs.Members.{has}
+use Rattle.definition_kinds.proofs.Prelude.{◌≡◌, ℕ, zero, suc, ◌<◌, true, false, nat_eq, eq-eqb, List, [], ◌∷◌, ◌⊎◌, inl, inr, length, refl, sym, ap, ◌∙◌, subst, arith, Some, None, slice_get, or_cases, or_left, eqb-true, false≢true, cases_lt, lt-ltb, ltb-true, slice_get_past, any_passes_from_place, has, LeadsTo, here, beyond, ends_at, End, AreReached, comes_from, is_last, some_from}
+use Rattle.std.proofs.Common.{◌↔◌, IsTrue}
 use Rattle.digraph.specs.Prelude.{Digraph, has_arc, HasArc, Walk, Reaches, ReachesFrom}
 use Rattle.digraph.proofs.WalkLaws.{Reaches-arc, Reaches-itself}
-use Rattle.script_names.specs.Prelude.{LeadsTo, here, beyond, ends_at}
-use Rattle.script_names.specs.declared.kinds.End.{End}
-use Rattle.script_names.specs.declared.kinds.End.TheVariants as end
-use Rattle.definition_kinds.specs.Sources.{AreReached, comes_from, is_last, some_from}
 use Rattle.definition_kinds.proofs.SourceLaws.{from_last, from_use, place_of, source_cases}
 
 only_source : (n s : ℕ) → has (n ∷ []) s ≡ true → s ≡ n
@@ -29,7 +23,7 @@ module _ (g : Digraph) (target : End) (all : List (List End)) (n : ℕ) (count :
 
   inside : {d : ℕ} → LeadsTo target all d → d < n
   inside (here d k at) = has_end d k target at
-  inside (beyond d k next at l) = has_end d k (end.Use next) at
+  inside (beyond d k next at l) = has_end d k (End.Use next) at
 
   step : (x z : ℕ) → (x ≡ n) ⊎ LeadsTo target all x → HasArc g x z → LeadsTo target all z
   step x z s arc =
@@ -52,7 +46,7 @@ module _ (g : Digraph) (target : End) (all : List (List End)) (n : ℕ) (count :
       (arcs n d ∙ any_passes_from_place (comes_from n target n) (ends_at (slice_get all d)) k target at (from_last n target last))
   reached (beyond d k next at l) =
       Reaches-arc (HasArc g) n next d (reached l)
-      (arcs next d ∙ any_passes_from_place (comes_from n target next) (ends_at (slice_get all d)) k (end.Use next) at (from_use n target next (lt-ltb next n (inside l))))
+      (arcs next d ∙ any_passes_from_place (comes_from n target next) (ends_at (slice_get all d)) k (End.Use next) at (from_use n target next (lt-ltb next n (inside l))))
 
   pub are_leading : (found : List ℕ) → ((v : ℕ) → IsTrue (has found v) ↔ ReachesFrom (HasArc g) (n ∷ []) v) → AreReached target all found
   are_leading found members d below = (

@@ -1,3 +1,4 @@
+mod Prelude
 pub mod LeadingLaws
 pub mod SourceLaws
 pub mod ArcLaws

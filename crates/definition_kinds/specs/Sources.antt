@@ -1,21 +1,19 @@
 -- What the search for kinds goes by: the vertex that an arc for an end comes from, and what is found. Only the private contracts of this crate cite it.
-use Rattle.std.specs.Prelude.{◌<◌, ◌↔◌, ℕ, Bool, true, false, nat_eq, nat_lt, if◌then◌else◌, IsTrue, Option, Some, None, List, length, slice_index_or}
+use Rattle.std.specs.Prelude.{◌<◌, ◌↔◌, if◌then◌else◌}
+use Rattle.definition_kinds.specs.Prelude.{ℕ, Bool, true, false, nat_eq, nat_lt, IsTrue, Option, Some, None, List, length, slice_index_or, LeadsTo, End}
 use Rattle.std.specs.List.{list_any}
 use Rattle.csp_base.specs.Members.{has}
-use Rattle.script_names.specs.Prelude.{LeadsTo}
-use Rattle.script_names.specs.declared.kinds.End.{End}
-use Rattle.script_names.specs.declared.kinds.End.TheVariants as end
 
 -- whether an end is the one that is looked for, and no use
 abbrev pub is_last : End → End → Bool
-is_last end.Data end.Data = true
-is_last end.Nothing end.Nothing = true
-is_last end.Parallel end.Parallel = true
+is_last End.Data End.Data = true
+is_last End.Nothing End.Nothing = true
+is_last End.Parallel End.Parallel = true
 is_last _ _ = false
 
 -- the vertex that an end comes from: the definition that it uses, or the vertex n for the end that is looked for
 abbrev pub source_of : ℕ → End → End → Option ℕ
-source_of n target (end.Use d) = if nat_lt d n then Some d else None
+source_of n target (End.Use d) = if nat_lt d n then Some d else None
 source_of n target e = if is_last target e then Some n else None
 
 abbrev pub is_vertex : ℕ → Option ℕ → Bool

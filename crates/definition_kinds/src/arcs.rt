@@ -45,7 +45,8 @@ fn add_end(rows: &mut Rows, count: u32, target: End, d: u32, end: End) -> Result
     requires count { length rows.old ≡ count + 1 }
     requires in_range { d < count }
     ensures len { length rows.new ≡ length rows.old }
-    ensures arcs { OnOk result ((v w : ℕ) → has_arc rows.new v w ≡ (has_arc rows.old v w || (meant.comes_from count target v end && nat_eq w d))) }
+    ensures arcs { OnOk result ((v w : ℕ) →
+        has_arc rows.new v w ≡ (has_arc rows.old v w || (meant.comes_from count target v end && nat_eq w d))) }
 {
     match source_of(count, target, end) {
         Some(v) => {
@@ -61,7 +62,8 @@ fn add_ends(rows: &mut Rows, count: u32, target: End, d: u32, ends: &[End]) -> R
     requires count { length rows.old ≡ count + 1 }
     requires in_range { d < count }
     ensures len { length rows.new ≡ length rows.old }
-    ensures arcs { OnOk result ((v w : ℕ) → has_arc rows.new v w ≡ (has_arc rows.old v w || (meant.some_from count target v ends.now && nat_eq w d))) }
+    ensures arcs { OnOk result ((v w : ℕ) →
+        has_arc rows.new v w ≡ (has_arc rows.old v w || (meant.some_from count target v ends.now && nat_eq w d))) }
 {
     for end in ends {
         add_end(rows, count, target, d, *end)?;
@@ -87,7 +89,8 @@ pub fn turned_round(
     requires count { length all.now ≡ count }
     requires few { count ≤ MOST_BYTES }
     ensures len { IfOk result (λ made. length made ≡ count + 1) }
-    ensures arcs { IfOk result (λ made. (v w : ℕ) → has_arc made v w ≡ meant.some_from count target v (ends_at (slice_get (rows all.now) w))) }
+    ensures arcs { IfOk result (λ made. (v w : ℕ) →
+        has_arc made v w ≡ meant.some_from count target v (ends_at (slice_get (rows all.now) w))) }
 {
     let mut rows = no_arcs(alloc, count)?;
     let mut d: u32 = 0;

@@ -22,13 +22,13 @@ pub fn leading(alloc: Global, all: &[Vec<End>], target: End) -> Result<Vec<bool>
     ensures { IfOk result (λ marks. AreLeading target (rows all.now) marks.items) }
 {
     let count = all.len() as u32;
-    let found = reached(alloc, all, count, target)?;
+    let found = vertices_from(alloc, all, count, target)?;
     let marks = marks_of(alloc, &found, count)?;
     Ok(marks)
 }
 
 // The vertices that are reached from the one that stands for the target.
-fn reached(
+fn vertices_from(
     alloc: Global,
     all: &[Vec<End>],
     count: u32,

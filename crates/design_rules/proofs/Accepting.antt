@@ -1,7 +1,5 @@
 -- The acceptances of a shape's parts, by their places and as sets.
-use Rattle.std.proofs.Common.{ℕ, List, refl, subst}
-use Rattle.csp_tables.specs.Prelude.{IsWithin, Shape, Accepts, accepted}
-use Rattle.design_rules.specs.ByTables.{AcceptsSet}
+use Rattle.design_rules.proofs.Prelude.{ℕ, List, refl, subst, IsWithin, Shape, Accepts, accepted, AcceptsSet}
 
 -- the acceptance in a place, as a set
 pub at_place : (shape : Shape) (i : ℕ) (s : List ℕ) (k : ℕ) → Accepts shape i s k → AcceptsSet shape i s (accepted shape i s k)

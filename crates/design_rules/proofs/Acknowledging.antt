@@ -1,9 +1,5 @@
 -- A client and a server with requests and acknowledgements on their link meet the rule of clients and servers.
-use Rattle.std.proofs.Common.{◌≡◌, ℕ, zero, suc, ◌<◌, ◌≤◌, ◌⊎◌, inl, inr, List, [], ◌∷◌, length, Bool, true, false, refl, sym, subst, arith}
-use Rattle.std.proofs.lemmas.Bool.{false≢true}
-use Rattle.csp_tables.specs.Shape.{link_at, IsWellFormed}
-use Rattle.digraph.specs.Walk.{Walk, IsLongestWalk}
-use Rattle.design_rules.specs.Prelude.{IsClientOn, Serves, KeepRoles, pair, pair_roles, pair_ranking, PairIsClientServer}
+use Rattle.design_rules.proofs.Prelude.{◌≡◌, ℕ, zero, suc, ◌<◌, ◌≤◌, ◌⊎◌, inl, inr, List, [], ◌∷◌, length, Bool, true, false, refl, sym, subst, arith, false≢true, link_at, IsWellFormed, Walk, IsLongestWalk, IsClientOn, Serves, KeepRoles, pair, pair_roles, pair_ranking, PairIsClientServer}
 use Rattle.design_rules.proofs.Walks.{no_circle}
 use Rattle.design_rules.proofs.FormCheck.{well_formed}
 use Rattle.design_rules.proofs.ClientServerCheck.{keep_roles, role_ranking}
@@ -13,8 +9,7 @@ runs i zero = []
 runs i (suc n) = 0 ∷ []
 
 pub pair_form : IsWellFormed pair
-pair_form = well_formed pair runs (λ i j. 0)
-    (record { least = refl; most = refl; form = refl; few = refl; possible = refl; reached = refl; links = refl; all_links = refl; links_rise = refl; shared = refl; vocabulary = refl })
+pair_form = (well_formed pair runs (λ i j. 0)).shows refl
 
 -- the link is open at the second node
 abbrev told : ℕ → ℕ → ℕ → Bool
@@ -22,7 +17,7 @@ told i l zero = false
 told i l (suc n) = true
 
 pair_keeps_roles : KeepRoles pair pair_roles
-pair_keeps_roles = keep_roles pair pair_roles told (record { start = refl; steps = refl; parted = refl; linked = refl; turns = refl; all_or_none = refl; none_while_open = refl; answers = refl })
+pair_keeps_roles = (keep_roles pair pair_roles told).shows refl
 
 link_is : (l : ℕ) → l < length pair.links → l ≡ 0
 link_is l h = omega arith
@@ -61,5 +56,5 @@ pub pair_is_client_server : PairIsClientServer
 pair_is_client_server = record {
   form = pair_form;
   rule = record { keep_roles = pair_keeps_roles; no_circle = no_circle (Serves pair pair_roles) (λ i. i) (λ x y a. let p : x ≡ 0 = (arc_is x y a).0 in let q : y ≡ 1 = (arc_is x y a).1 in omega arith) };
-  ranking = role_ranking pair pair_roles height pair_ranking heights (record { fits = refl; scale = refl; serving = refl; asking = refl; others = refl; laps = refl });
+  ranking = (role_ranking pair pair_roles height pair_ranking heights).shows refl;
 }

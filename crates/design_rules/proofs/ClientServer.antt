@@ -1,13 +1,7 @@
 -- The ranking of a client-server network falls along ungranted requests.
-use Rattle.std.proofs.Common.{◌≡◌, ℕ, ◌*◌, ◌<◌, ◌⊎◌, inl, inr, ℤ, pos, ◌+ℤ◌, ◌-ℤ◌, ◌*ℤ◌, ◌<ℤ◌, List, length, true, false, ◌&&◌, sym, ap, subst, ◌∙◌, arith}
-use Rattle.csp_base.proofs.Standard.{cases_Bool, or_cases, both_ways, cond-true, cond-false, ints}
-use lib.IntN.{zero-*ℤ}
-use Rattle.csp_base.specs.Members.{has}
-use Rattle.design_rules.specs.Prelude.{is_odd, IsClientOn, has_acknowledgements, is_open, is_request, is_acknowledgement, Serves, KeepRoles, IsClientServerRanking, ClientServerRanksFall}
-use Rattle.csp_tables.specs.Prelude.{part_at, Meet, AreApart, Shape, Joins, link_at, IsWellFormed, accepted, IsPossible, IsOn, RoleSets, role_at, Ranking, rank_after, lead}
-use Rattle.net_sound.proofs.Finite.{search_list}
+use Rattle.design_rules.proofs.Prelude.{◌≡◌, ℕ, ◌*◌, ◌<◌, ◌⊎◌, inl, inr, ℤ, pos, ◌+ℤ◌, ◌-ℤ◌, ◌*ℤ◌, ◌<ℤ◌, List, length, true, false, ◌&&◌, sym, ap, subst, ◌∙◌, arith, cases_Bool, or_cases, both_ways, cond-true, cond-false, ints, zero-*ℤ, has, is_odd, IsClientOn, has_acknowledgements, is_open, is_request, is_acknowledgement, Serves, KeepRoles, IsClientServerRanking, ClientServerRanksFall, part_at, Meet, AreApart, Shape, Joins, link_at, IsWellFormed, accepted, IsPossible, IsOn, RoleSets, role_at, Ranking, rank_after, lead, search_list}
 use Rattle.design_rules.proofs.Walks.{Graph, falls, height_below}
-use Rattle.design_rules.proofs.Shapes.{turned, first_end, link_events, own_run, own_end, Side, Request, request}
+use Rattle.design_rules.proofs.Shapes.{turned, first_end, joins_within, link_events, own_run, own_end, Side, Request, request}
 use Rattle.design_rules.proofs.Accepting.{at_place}
 
 pub meet_or_apart : (M N : List ℕ) → Meet M N ⊎ AreApart M N
@@ -17,19 +11,8 @@ meet_or_apart M N =
       | inr none ↦ inr (λ e m n. both_ways (has N e) (none e m) n)
     ]
 
--- an arc's server is a part
-server_within : (shape : Shape) (roles : List RoleSets) → IsWellFormed shape → (i j : ℕ) → Serves shape roles i j → j < length shape.parts
-server_within shape roles w i j a =
-    let t = w.linked.links a.link a.joins.within in
-    let order : (link_at shape a.link).left < (link_at shape a.link).right = t.ordered in
-    let inside : (link_at shape a.link).right < length shape.parts = t.within in
-    elim a.joins.ends [
-      | inl e ↦ let f : (link_at shape a.link).right ≡ j = e.1 in omega arith
-      | inr e ↦ let f : (link_at shape a.link).left ≡ j = e.0 in omega arith
-    ]
-
 pub graph : (shape : Shape) (roles : List RoleSets) (ranking : Ranking) → IsWellFormed shape → (r : IsClientServerRanking shape roles ranking) → Graph (Serves shape roles) r.height (length shape.parts)
-graph shape roles ranking w r = record { within = server_within shape roles w; longest = r.heights }
+graph shape roles ranking w r = record { within = λ i j a. joins_within shape i j a.link w a.joins; longest = r.heights }
 
 -- the rank of one side: twice the number of parts less the height, or the height
 abbrev high : Shape → (ℕ → ℕ) → ℕ → ℤ

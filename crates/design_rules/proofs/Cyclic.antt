@@ -1,11 +1,5 @@
 -- The ranking of a cyclic network falls along ungranted requests.
-use Rattle.std.proofs.Common.{◌≡◌, ℕ, ◌+◌, ◌*◌, ◌/◌, ◌%◌, ◌<◌, ◌≤◌, inl, inr, ℤ, pos, ◌+ℤ◌, ◌-ℤ◌, ◌*ℤ◌, ◌<ℤ◌, List, [], ◌∷◌, ◌++◌, length, ◌&&◌, cond, nat_lt, IsTrue, sym, ap, subst, ◌∙◌, arith, eq-eqb, ne_eqb, le-ltb, lt-ltb, ltb-true}
-use Rattle.csp_base.proofs.Standard.{cases_Bool, cases_eq, cases_lt, cases_order, and_parts, and_from, and_right, both_ways, ints, mod_below, div-eq_of_lt, mod-eq_of_lt}
-use lib.IntN.{+ℤ_invr, *ℤ-zero}
-use Rattle.csp_base.specs.Members.{has}
-use Rattle.design_rules.specs.Prelude.{count_in, above_all, links_of, IsWholeEnd, HasWholeEnd, place_after, by_tables, place_of, IsNext, KeepsOrder, ReachedLinksDiffer, AreCyclicRanks, ends_lap}
-use Rattle.csp_tables.specs.Prelude.{IsRun, end_of, part_at, Meet, IsWithin, Shape, Joins, link_at, is_end, IsWellFormed, RunsTo, IsPossible, Accepts, accepted, IsOn, Ranking, part_ranks, rank_after, laps_from, lead, Falls}
-use Rattle.net_sound.proofs.Within.{part_form}
+use Rattle.design_rules.proofs.Prelude.{◌≡◌, ℕ, ◌+◌, ◌*◌, ◌/◌, ◌%◌, ◌<◌, ◌≤◌, inl, inr, ℤ, pos, ◌+ℤ◌, ◌-ℤ◌, ◌*ℤ◌, ◌<ℤ◌, List, [], ◌∷◌, ◌++◌, length, ◌&&◌, cond, nat_lt, IsTrue, sym, ap, subst, ◌∙◌, arith, eq-eqb, ne_eqb, le-ltb, lt-ltb, ltb-true, cases_Bool, cases_eq, cases_lt, cases_order, and_parts, and_from, and_right, both_ways, ints, mod_below, div-eq_of_lt, mod-eq_of_lt, +ℤ_invr, *ℤ-zero, has, count_in, above_all, links_of, IsWholeEnd, HasWholeEnd, place_after, by_tables, place_of, IsNext, KeepsOrder, ReachedLinksDiffer, AreCyclicRanks, ends_lap, IsRun, end_of, part_at, Meet, IsWithin, Shape, Joins, link_at, is_end, IsWellFormed, RunsTo, IsPossible, Accepts, accepted, IsOn, Ranking, part_ranks, rank_after, laps_from, lead, Falls, part_form}
 use Rattle.design_rules.proofs.Counts.{count_strict, below_all, count_push_more, count_push_same, lap_over, lap_on}
 use Rattle.design_rules.proofs.Runs.{possible_after, run_induction, laps_push, possible_within}
 use Rattle.design_rules.proofs.Shapes.{turned, first_end, link_shared, some_link, link_events, own_run, own_end, Request, request}
@@ -41,65 +35,18 @@ places_differ shape number i l m h k x y ne same =
 abbrev passed : ℕ → ℕ → ℕ
 passed p r = cond (nat_lt p r) 1 0
 
-passed_yes : (p r : ℕ) → p < r → passed p r ≡ 1
-passed_yes p r h = ap (λ b. cond b 1 0) (lt-ltb p r h)
-
-passed_no : (p r : ℕ) → r ≤ p → passed p r ≡ 0
-passed_no p r h = ap (λ b. cond b 1 0) (le-ltb p r h)
-
 -- of t shared events, with k links, this many are on the link with place p
 abbrev IsBalanced : ℕ → ℕ → ℕ → ℕ → Type 0
 IsBalanced c t k p = c ≡ t / k + passed p (t % k)
 
 balanced_on : (c t k p : ℕ) → p < k → p ≡ t % k → IsBalanced c t k p → IsBalanced (c + 1) (t + 1) k p
-balanced_on c t k p below next h =
-    let now : passed p (t % k) ≡ 0 = passed_no p (t % k) (omega arith) in
-    elim (cases_eq (t % k + 1) k) [
-      | inl last ↦
-          let d = lap_over t k last in
-          let q : (t + 1) / k ≡ t / k + 1 = d.0 in
-          let then : passed p ((t + 1) % k) ≡ 0 = passed_no p ((t + 1) % k) (let r : (t + 1) % k ≡ 0 = d.1 in omega arith) in
-          omega (arith, q, then, now, h)
-      | inr inside ↦
-          let d = lap_on t k (omega arith) in
-          let q : (t + 1) / k ≡ t / k = d.0 in
-          let then : passed p ((t + 1) % k) ≡ 1 = passed_yes p ((t + 1) % k) (let r : (t + 1) % k ≡ t % k + 1 = d.1 in omega arith) in
-          omega (arith, q, then, now, h)
-    ]
+balanced_on c t k p below next h = grind (arith, lap_over, lap_on)
 
 balanced_off : (c t k p : ℕ) → p < k → t % k < k → (p ≡ t % k → ⊥) → IsBalanced c t k p → IsBalanced c (t + 1) k p
-balanced_off c t k p below within other h =
-    elim (cases_eq (t % k + 1) k) [
-      | inl last ↦
-          let d = lap_over t k last in
-          let q : (t + 1) / k ≡ t / k + 1 = d.0 in
-          let now : passed p (t % k) ≡ 1 = passed_yes p (t % k) (omega arith) in
-          let then : passed p ((t + 1) % k) ≡ 0 = passed_no p ((t + 1) % k) (let r : (t + 1) % k ≡ 0 = d.1 in omega arith) in
-          omega (arith, q, then, now, h)
-      | inr inside ↦
-          let d = lap_on t k (omega arith) in
-          let q : (t + 1) / k ≡ t / k = d.0 in
-          let r : (t + 1) % k ≡ t % k + 1 = d.1 in
-          let same : passed p ((t + 1) % k) ≡ passed p (t % k) = still p (t % k) ((t + 1) % k) r other in
-          omega (arith, q, same, h)
-    ]
-  where
-    still : (p r s : ℕ) → s ≡ r + 1 → (p ≡ r → ⊥) → passed p s ≡ passed p r
-    still p r s e ne =
-        elim (cases_lt p r) [
-          | inl less ↦ passed_yes p s (omega arith) ∙ sym (passed_yes p r less)
-          | inr more ↦ passed_no p s (omega arith) ∙ sym (passed_no p r more)
-        ]
-
-none_done : (k : ℕ) → 0 < k → (0 / k ≡ 0) × (0 % k ≡ 0)
-none_done k h = (div-eq_of_lt h, mod-eq_of_lt h)
+balanced_off c t k p below within other h = grind (arith, lap_over, lap_on)
 
 balanced_none : (k p : ℕ) → p < k → IsBalanced 0 0 k p
-balanced_none k p below =
-    let d = none_done k (omega arith) in
-    let q : 0 / k ≡ 0 = d.0 in
-    let none : passed p (0 % k) ≡ 0 = passed_no p (0 % k) (let r : 0 % k ≡ 0 = d.1 in omega arith) in
-    omega (arith, q, none)
+balanced_none k p below = grind (arith, div-eq_of_lt, mod-eq_of_lt)
 
 -- what is used of the rule
 pub record Ordered (shape : Shape) (number : ℕ → ℕ) : Type 0 where
@@ -154,17 +101,7 @@ balanced shape number i l o h end s run =
 -- ---- laps
 
 lap_step : (a t k p : ℕ) → p ≡ t % k → t % k < k → a ≡ t / k → a + ends_lap p k ≡ (t + 1) / k
-lap_step a t k p next within h =
-    elim (cases_eq (p + 1) k) [
-      | inl last ↦
-          let one : ends_lap p k ≡ 1 = ap (λ b. cond b 1 0) (eq-eqb (p + 1) k last) in
-          let q : (t + 1) / k ≡ t / k + 1 = (lap_over t k (omega arith)).0 in
-          omega (arith, one, q, h)
-      | inr inside ↦
-          let none : ends_lap p k ≡ 0 = ap (λ b. cond b 1 0) (ne_eqb (p + 1) k inside) in
-          let q : (t + 1) / k ≡ t / k = (lap_on t k (omega arith)).0 in
-          omega (arith, none, q, h)
-    ]
+lap_step a t k p next within h = grind (arith, lap_over, lap_on)
 
 abbrev laps_in : Shape → Ranking → ℕ → List ℕ → ℕ
 laps_in shape ranking i u = laps_from (part_at shape.parts i).table (part_ranks ranking i).laps 0 u
@@ -192,7 +129,7 @@ laps_step shape number ranking i o r some u e possible b =
 laps_are : (shape : Shape) (number : ℕ → ℕ) (ranking : Ranking) (i : ℕ) → Ordered shape number → AreCyclicRanks shape number ranking → 0 < links_of shape i → (s : List ℕ) → RunsTo shape i s → LapsAt shape ranking i s
 laps_are shape number ranking i o r some s run =
     run_induction (part_at shape.parts i).table (LapsAt shape ranking i)
-    (sym (none_done (links_of shape i) some).0)
+    (sym (div-eq_of_lt some))
     (λ u e f possible b. laps_step shape number ranking i o r some u e (possible_at shape i u e run.part f possible) b)
     s run.follows
 
@@ -257,12 +194,20 @@ numbers shape number ranking s i j l o r joins ri rj next =
     let ej = first_end shape j i l (turned shape i j l joins) in
     let pi : place_of shape number i l < links_of shape i = place_below shape number i l h ei in
     let pj : place_of shape number j l < links_of shape j = place_below shape number j l h ej in
-    let bi : count_in (link_at shape l).shared (own_run shape s i) ≡ place_after shape (own_run shape s i) / links_of shape i + passed (place_of shape number i l) (place_after shape (own_run shape s i) % links_of shape i) = balanced shape number i l o h ei (own_run shape s i) ri in
-    let bj : count_in (link_at shape l).shared (own_run shape s j) ≡ place_after shape (own_run shape s j) / links_of shape j + passed (place_of shape number j l) (place_after shape (own_run shape s j) % links_of shape j) = balanced shape number j l o h ej (own_run shape s j) rj in
-    let li : laps_in shape ranking i (own_run shape s i) ≡ place_after shape (own_run shape s i) / links_of shape i = laps_are shape number ranking i o r (omega arith) (own_run shape s i) ri in
-    let lj : laps_in shape ranking j (own_run shape s j) ≡ place_after shape (own_run shape s j) / links_of shape j = laps_are shape number ranking j o r (omega arith) (own_run shape s j) rj in
-    let none : passed (place_of shape number i l) (place_after shape (own_run shape s i) % links_of shape i) ≡ 0 = passed_no (place_of shape number i l) (place_after shape (own_run shape s i) % links_of shape i) (omega arith) in
-    record { behind = omega (arith, bi, bj, li, lj, none, link_events shape i l s o.form h ei, link_events shape j l s o.form h ej) }
+    let bi = balanced shape number i l o h ei (own_run shape s i) ri in
+    let bj = balanced shape number j l o h ej (own_run shape s j) rj in
+    let li = laps_are shape number ranking i o r (omega arith) (own_run shape s i) ri in
+    let lj = laps_are shape number ranking j o r (omega arith) (own_run shape s j) rj in
+    record { behind = behind _ _ _ _ _ _ _ _ _ _ _ bi bj li lj next (link_events shape i l s o.form h ei) (link_events shape j l s o.form h ej) }
+  where
+    behind : (ci cj c ti tj li lj pi pj ki kj : ℕ) → ci ≡ ti / ki + passed pi (ti % ki) → cj ≡ tj / kj + passed pj (tj % kj) → li ≡ ti / ki → lj ≡ tj / kj → pi ≡ ti % ki → ci ≡ c → cj ≡ c → li ≡ lj + passed pj (tj % kj)
+    behind ci cj c ti tj li lj pi pj ki kj bi bj ei ej next a b = grind (arith)
+
+not_past : (a b p q r : ℕ) → a ≡ b + passed p r → q ≡ r → q < p → a ≡ b
+not_past a b p q r h next less = grind (arith)
+
+past : (a b p q r : ℕ) → a ≡ b + passed p r → q ≡ r → p < q → a ≡ b + 1
+past a b p q r h next less = grind (arith)
 
 pub ordered_ranks_fall : (shape : Shape) (number : ℕ → ℕ) (ranking : Ranking) → Ordered shape number → AreCyclicRanks shape number ranking → Falls shape.parts ranking
 ordered_ranks_fall shape number ranking o ranks s i j k l u =
@@ -289,12 +234,10 @@ ordered_ranks_fall shape number ranking o ranks s i j k l u =
           | inl same ↦ absurd (ne same)
           | inr order ↦ elim order [
             | inl less ↦
-                let p : place_of shape number j m < place_of shape number j l = earlier_place shape number j m l g y less in
-                let not_yet : passed (place_of shape number j l) (place_after shape (own_run shape s j) % links_of shape j) ≡ 0 = passed_no (place_of shape number j l) (place_after shape (own_run shape s j) % links_of shape j) (omega (arith, next, p)) in
-                same_lap (number l) (number m) (above_all number (length shape.links)) (laps_in shape ranking i (own_run shape s i)) (laps_in shape ranking j (own_run shape s j)) less (omega (arith, n.behind, not_yet))
+                let p = earlier_place shape number j m l g y less in
+                same_lap (number l) (number m) (above_all number (length shape.links)) (laps_in shape ranking i (own_run shape s i)) (laps_in shape ranking j (own_run shape s j)) less (not_past _ _ _ _ _ n.behind next p)
             | inr more ↦
-                let p : place_of shape number j l < place_of shape number j m = earlier_place shape number j l m h x more in
-                let past : passed (place_of shape number j l) (place_after shape (own_run shape s j) % links_of shape j) ≡ 1 = passed_yes (place_of shape number j l) (place_after shape (own_run shape s j) % links_of shape j) (omega (arith, next, p)) in
-                lap_ahead (number l) (number m) (above_all number (length shape.links)) (laps_in shape ranking i (own_run shape s i)) (laps_in shape ranking j (own_run shape s j)) above (omega (arith, n.behind, past))
+                let p = earlier_place shape number j l m h x more in
+                lap_ahead (number l) (number m) (above_all number (length shape.links)) (laps_in shape ranking i (own_run shape s i)) (laps_in shape ranking j (own_run shape s j)) above (past _ _ _ _ _ n.behind next p)
           ]
         ]

@@ -1,10 +1,5 @@
 -- The laws of the cyclic rule: its ranking falls, each fault breaks it, and it is the rule by numbers.
-use Rattle.std.proofs.Common.{◌≡◌, ℕ, suc, ◌+◌, ◌-◌, ◌*◌, ◌%◌, ◌<◌, ◌≤◌, inl, inr, List, length, IsTrue, refl, sym, ap, subst, ◌∙◌, arith, eq-eqb, nat_eq}
-use Rattle.csp_base.proofs.Standard.{cases_eq, cases_order, both_ways, or_left, or_right, mod-mul-add, mod-eq_of_lt, mod-le}
-use Rattle.csp_base.specs.Members.{has}
-use Rattle.digraph.specs.Walk.{Walk}
-use Rattle.csp_tables.specs.Prelude.{end_of, part_at, Meet, Shape, is_end, link_at, IsWellFormed, IsPossible, Accepts, accepted, IsBusyShape, IsWithin}
-use Rattle.design_rules.specs.Prelude.{KeepsPlaces, links_of, ReachesLink, place_after, AllKeepPlaces, NumbersRise, IsWholeEnd, HasWholeEnd, IsCyclic, by_tables, place_of, IsNext, LinksDiffer, KeepsOrder, IsFullEnd, HasFullEnds, HasOrder, IsNumberedCyclic, AreChainNumbers, ComesAfter, CyclicRanksFall, NumberedRanksFall, ReachedRanksFall, IsRuleByNumbers}
+use Rattle.design_rules.proofs.Prelude.{◌≡◌, ℕ, suc, ◌+◌, ◌-◌, ◌*◌, ◌%◌, ◌<◌, ◌≤◌, inl, inr, List, length, IsTrue, refl, sym, ap, subst, ◌∙◌, arith, eq-eqb, nat_eq, cases_eq, cases_order, both_ways, or_left, or_right, mod-mul-add, mod-eq_of_lt, mod-le, has, Walk, end_of, part_at, Meet, Shape, is_end, link_at, IsWellFormed, IsPossible, Accepts, accepted, IsBusyShape, IsWithin, KeepsPlaces, links_of, ReachesLink, place_after, AllKeepPlaces, NumbersRise, IsWholeEnd, HasWholeEnd, IsCyclic, by_tables, place_of, IsNext, LinksDiffer, KeepsOrder, IsFullEnd, HasFullEnds, HasOrder, IsNumberedCyclic, AreChainNumbers, ComesAfter, CyclicRanksFall, NumberedRanksFall, ReachedRanksFall, IsRuleByNumbers}
 use Rattle.design_rules.proofs.Accepting.{each_set}
 use Rattle.design_rules.proofs.Cyclic.{place_below, places_differ, earlier_place, Ordered, next_link, whole_has, ordered_ranks_fall}
 use Rattle.design_rules.proofs.Places.{Keeping, earlier, place_is, reached_differ}
@@ -47,10 +42,7 @@ apart_differ shape number i l m h k x y ne same =
     ne (sym (mod-mul-add (number l) (length shape.links) l h) ∙ ap (λ n. n % length shape.links) same ∙ mod-mul-add (number m) (length shape.links) m k)
 
 pub less_by : (a b n l m : ℕ) → a < b → l < n → a * n + l < b * n + m
-less_by a b n l m less below =
-    let d = b - (a + 1) in
-    let is : b ≡ a + 1 + (b - (a + 1)) = omega arith in
-    subst (λ c. a * n + l < c * n + m) (sym is) (omega arith)
+less_by a b n l m less below = grind (arith)
 
 apart_rise : (shape : Shape) (number : ℕ → ℕ) → NumbersRise shape number → NumbersRise shape (apart_number shape number)
 apart_rise shape number rise l m before = less_by (number l) (number m) (length shape.links) l m (rise l m before) before.reaches.on.within

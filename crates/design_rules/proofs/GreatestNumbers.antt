@@ -1,10 +1,6 @@
 -- The greatest number of a ranking: no rank at a place is above it, and it is 0 or the rank at some place.
-use Rattle.std.proofs.Common.{◌≡◌, ℕ, zero, suc, ◌≤◌, ◌⊎◌, inl, inr, ℤ, pos, max, List, [], ◌∷◌, ◌++◌, get_or, refl, sym, ◌∙◌, arith}
-use Rattle.std.proofs.lemmas.Bool.{cases_lt}
-use Rattle.std.specs.List.{flat_map}
-use Rattle.csp_tables.specs.Ranking.{PartRanks, Ranking, part_ranks, rank_at}
-use Rattle.csp_base.specs.Lists.{natural}
-use Rattle.design_rules.specs.RankCounts.{greatest_from, greatest_rank}
+use Rattle.design_rules.proofs.Prelude.{◌≡◌, ℕ, zero, suc, ◌≤◌, ◌⊎◌, inl, inr, ℤ, pos, max, List, [], ◌∷◌, ◌++◌, get_or, refl, sym, ◌∙◌, arith, cases_lt, flat_map, PartRanks, Ranking, part_ranks, rank_at, natural, greatest_rank}
+use Rattle.design_rules.specs.RankCounts.{greatest_from}
 
 greatest_append : (m : ℕ) (xs ys : List ℤ) → greatest_from m (xs ++ ys) ≡ greatest_from (greatest_from m xs) ys
 greatest_append m [] ys = refl
@@ -36,15 +32,8 @@ module _ {X J : Type 0} (f : X → List ℤ) (at : X → J → ℤ) (d : X) (non
     (had : (m : ℕ) (x : X) → (greatest_from m (f x) ≡ m) ⊎ (j : J) × (natural (at x j) ≡ greatest_from m (f x))) where
   in_whole : (m : ℕ) (xs : List X) (i : ℕ) (j : J) → natural (at (get_or xs i d) j) ≤ greatest_from m (flat_map f xs)
   in_whole m [] i j = let z = none j in omega (arith, z)
-  in_whole m (x ∷ xs) zero j =
-      let own = bound m x j in
-      let rest = at_least (greatest_from m (f x)) (flat_map f xs) in
-      let all = greatest_append m (f x) (flat_map f xs) in
-      omega (arith, own, rest, all)
-  in_whole m (x ∷ xs) (suc i) j =
-      let rest = in_whole (greatest_from m (f x)) xs i j in
-      let all = greatest_append m (f x) (flat_map f xs) in
-      omega (arith, rest, all)
+  in_whole m (x ∷ xs) zero j = omega (arith, bound m x j, at_least (greatest_from m (f x)) (flat_map f xs), greatest_append m (f x) (flat_map f xs))
+  in_whole m (x ∷ xs) (suc i) j = omega (arith, in_whole (greatest_from m (f x)) xs i j, greatest_append m (f x) (flat_map f xs))
 
   whole_has : (m : ℕ) (xs : List X) → (greatest_from m (flat_map f xs) ≡ m) ⊎ (i : ℕ) × (j : J) × (natural (at (get_or xs i d) j) ≡ greatest_from m (flat_map f xs))
   whole_has m [] = inl refl

@@ -3,16 +3,7 @@
 -- At an acceptance in the vocabulary that is not empty the ranking has exactly the rank by the rule, since longest walks have one length; everywhere else it
 -- has 0. And each such acceptance has a rank. So the greatest number is attained there, or it is 0. The ranks by tables are those by steps, since the shape
 -- and the network are alike.
-use Rattle.std.proofs.Common.{◌≡◌, ℕ, zero, suc, ◌+◌, ◌-◌, ◌*◌, ◌<◌, ◌≤◌, ◌⊎◌, inl, inr, pos, ◌-ℤ◌, max, List, [], ◌∷◌, length, true, false, cond, IsTrue, nat_eq, refl, sym, ap, ap₂, subst, ◌∙◌, arith, eq-eqb}
-use Rattle.csp_base.proofs.Standard.{cases_Bool, cases_lt, both_ways, or_left, false≢true, ints, get_or-eq_default}
-use Rattle.csp_base.specs.Prelude.{has, natural}
-use Rattle.digraph.specs.Walk.{IsLongestWalk}
-use Rattle.digraph.proofs.WalkLaws.{same_longest}
-use Rattle.csp_tables.specs.Prelude.{Label, node_at, end_of, IsWithin, Part, part_at, IsNonEmpty, RoleSets, UseSets, role_at, use_at, Shape, IsWellFormed, acceptance_at, accepted, PartRanks, Ranking, Fits, PartsFit, part_ranks, rank_at}
-use Rattle.net_sound.proofs.Finite.{search_list}
-use Rattle.net_sound.proofs.FormOfTables.{shapes_are_well_formed}
-use Rattle.net_sound.proofs.Within.{part_form}
-use Rattle.design_rules.specs.Prelude.{by_tables, Serves, IsClientServerRanking, IsCyclicRanking, top_number, RanksByNumber, RanksAs, HasRank, IsGreatestRank, free, held, acquiring, idle, greatest_rank, RankingsHaveGreatestRank, rank_there, AcceptsSome, AreResourceRanks, IsResourceRanking, acquires, is_held, Ranks, IsVertex, OthersRankZero, NotedRule, Cyclic, ClientServer, Resource}
+use Rattle.design_rules.proofs.Prelude.{◌≡◌, ℕ, zero, suc, ◌+◌, ◌-◌, ◌*◌, ◌<◌, ◌≤◌, ◌⊎◌, inl, inr, pos, ◌-ℤ◌, max, List, [], ◌∷◌, length, true, false, cond, IsTrue, nat_eq, refl, sym, ap, ap₂, subst, ◌∙◌, arith, eq-eqb, cases_Bool, cases_lt, both_ways, or_left, false≢true, ints, get_or-eq_default, has, natural, IsLongestWalk, same_longest, Label, node_at, end_of, IsWithin, Part, part_at, IsNonEmpty, RoleSets, UseSets, role_at, use_at, Shape, IsWellFormed, acceptance_at, accepted, PartRanks, Ranking, Fits, PartsFit, part_ranks, rank_at, search_list, shapes_are_well_formed, part_form, by_tables, Serves, IsClientServerRanking, IsCyclicRanking, top_number, RanksByNumber, RanksAs, HasRank, IsGreatestRank, free, held, acquiring, idle, greatest_rank, RankingsHaveGreatestRank, rank_there, AcceptsSome, AreResourceRanks, IsResourceRanking, acquires, is_held, Ranks, IsVertex, OthersRankZero, NotedRule, Cyclic, ClientServer, Resource}
 use Rattle.design_rules.specs.GreatestRank.{ComesAfter, StandsAbove}
 use Rattle.design_rules.proofs.Accepting.{at_place}
 use Rattle.design_rules.proofs.ClientServer.{graph, meet_or_apart}
@@ -56,9 +47,8 @@ vertex_or_not shape i n k here =
 
 fits_count : (ps : List Part) (rs : List PartRanks) → PartsFit ps rs → length rs ≡ length ps
 fits_count [] [] fits = refl
-fits_count [] (r ∷ rs) fits = absurd fits
-fits_count (p ∷ ps) [] fits = absurd fits
 fits_count (p ∷ ps) (r ∷ rs) fits = let rest = fits_count ps rs fits.2 in omega (arith, rest)
+fits_count _ _ fits = absurd fits
 
 -- what the ranking of a rule says
 record Ranked (rule : NotedRule) (shape : Shape) (ranking : Ranking) : Type 0 where

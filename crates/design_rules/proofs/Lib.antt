@@ -16,6 +16,7 @@ pub mod Live
 pub mod OneOrder
 pub mod Outlines
 pub mod Places
+pub mod Prelude
 pub mod RankCheck
 pub mod Readings
 pub mod Refuting

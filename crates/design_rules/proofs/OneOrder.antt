@@ -1,9 +1,5 @@
 -- A part that keeps places has an order that it keeps: its reached links by their places, and the others after them.
-use Rattle.std.proofs.Common.{◌≡◌, ℕ, zero, suc, ◌+◌, ◌*◌, ◌%◌, ◌<◌, ◌≤◌, ◌⊎◌, inl, inr, List, length, refl, sym, ap, subst, ◌∙◌, arith}
-use Rattle.csp_base.proofs.Standard.{cases_lt, mod-mul-add, mod_below, mod-le}
-use Rattle.csp_tables.specs.Shape.{Shape}
-use Rattle.net_sound.proofs.Finite.{below_suc}
-use Rattle.design_rules.specs.Prelude.{links_of, ReachesLink, place_after, KeepsPlaces, by_tables, HasOrder, PlacesAreOrders}
+use Rattle.design_rules.proofs.Prelude.{◌≡◌, ℕ, zero, suc, ◌+◌, ◌*◌, ◌%◌, ◌<◌, ◌≤◌, ◌⊎◌, inl, inr, List, length, refl, sym, ap, subst, ◌∙◌, arith, cases_lt, mod-mul-add, mod_below, mod-le, Shape, below_suc, links_of, ReachesLink, place_after, KeepsPlaces, by_tables, HasOrder, PlacesAreOrders}
 use Rattle.design_rules.proofs.Places.{Keeping, some_links, one_place_of, first_lap, RiseAt, place_is}
 use Rattle.design_rules.proofs.CyclicRule.{less_by, order_keeps}
 

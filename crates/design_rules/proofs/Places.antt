@@ -1,11 +1,6 @@
 -- A part that keeps places comes to each link that it reaches at one place of its lap, and with numbers that rise along its
 -- order as many of its links stand before that link.
-use Rattle.std.proofs.Common.{◌≡◌, ℕ, ◌+◌, ◌%◌, ◌<◌, ◌≤◌, inl, inr, List, [], ◌∷◌, ◌++◌, length, false, ◌&&◌, nat_lt, IsTrue, refl, sym, ap, subst, ◌∙◌, arith, ltb-true, lt-ltb}
-use Rattle.csp_base.proofs.Standard.{cases_Bool, cases_eq, cases_lt, cases_order, and_parts, and_from, false≢true, mod_below, mod-eq_of_lt, mod-le}
-use Rattle.csp_base.specs.Members.{has}
-use Rattle.csp_tables.specs.Prelude.{IsRun, end_of, part_at, Shape, is_end, IsWellFormed, RunsTo}
-use Rattle.net_sound.proofs.Within.{part_form}
-use Rattle.design_rules.specs.Prelude.{count_below, links_of, ReachesLink, place_after, SamePlace, KeepsPlaces, MustPrecede, place_of}
+use Rattle.design_rules.proofs.Prelude.{◌≡◌, ℕ, ◌+◌, ◌%◌, ◌<◌, ◌≤◌, inl, inr, List, [], ◌∷◌, ◌++◌, length, false, ◌&&◌, nat_lt, IsTrue, refl, sym, ap, subst, ◌∙◌, arith, ltb-true, lt-ltb, cases_Bool, cases_eq, cases_lt, cases_order, and_parts, and_from, false≢true, mod_below, mod-eq_of_lt, mod-le, has, IsRun, end_of, part_at, Shape, is_end, IsWellFormed, RunsTo, part_form, IsReachedAt, count_below, links_of, ReachesLink, place_after, SamePlace, KeepsPlaces, MustPrecede, place_of}
 use Rattle.design_rules.proofs.Counts.{count_placed, count_strict, count_push_more, count_push_same}
 use Rattle.design_rules.proofs.Runs.{possible_after, run_induction, possible_within}
 use Rattle.design_rules.proofs.Shapes.{some_link}
@@ -25,21 +20,14 @@ one_place_of shape i l s t e f keeps a b = (keeps l l s t e f a b).0 refl
 
 -- ---- earlier places
 
--- the part reaches the link at this place
-pub record IsAt (shape : Shape) (i q l : ℕ) : Type 0 where
-  pub run : List ℕ
-  pub event : ℕ
-  pub reaches : ReachesLink shape i l run event
-  pub place : place_after shape run ≡ q
-
-pub reached_at : (shape : Shape) (i l : ℕ) (s : List ℕ) (e : ℕ) → ReachesLink shape i l s e → IsAt shape i (place_after shape s) l
+pub reached_at : (shape : Shape) (i l : ℕ) (s : List ℕ) (e : ℕ) → ReachesLink shape i l s e → IsReachedAt shape i (place_after shape s) l
 reached_at shape i l s e a = record { run = s; event = e; reaches = a; place = refl }
 
 -- at each earlier place the part reached some link
-pub earlier : (shape : Shape) (i : ℕ) → IsWellFormed shape → (s : List ℕ) → RunsTo shape i s → (q : ℕ) → q < place_after shape s → (l : ℕ) × IsAt shape i q l
-earlier shape i w s runs = run_induction (part_at shape.parts i).table (λ u. (q : ℕ) → q < place_after shape u → (l : ℕ) × IsAt shape i q l) (λ q h. absurd (omega arith)) step s runs.follows
+pub earlier : (shape : Shape) (i : ℕ) → IsWellFormed shape → (s : List ℕ) → RunsTo shape i s → (q : ℕ) → q < place_after shape s → (l : ℕ) × IsReachedAt shape i q l
+earlier shape i w s runs = run_induction (part_at shape.parts i).table (λ u. (q : ℕ) → q < place_after shape u → (l : ℕ) × IsReachedAt shape i q l) (λ q h. absurd (omega arith)) step s runs.follows
   where
-    step : (u : List ℕ) (e : ℕ) → IsRun (part_at shape.parts i).table u → IsTrue (possible_after (part_at shape.parts i).table u e) → ((q : ℕ) → q < place_after shape u → (l : ℕ) × IsAt shape i q l) → (q : ℕ) → q < place_after shape (u ++ e ∷ []) → (l : ℕ) × IsAt shape i q l
+    step : (u : List ℕ) (e : ℕ) → IsRun (part_at shape.parts i).table u → IsTrue (possible_after (part_at shape.parts i).table u e) → ((q : ℕ) → q < place_after shape u → (l : ℕ) × IsReachedAt shape i q l) → (q : ℕ) → q < place_after shape (u ++ e ∷ []) → (l : ℕ) × IsReachedAt shape i q l
     step u e r possible rest q h =
         elim (cases_Bool (has shape.vocabulary e)) [
           | inl v ↦
@@ -64,7 +52,7 @@ some_links shape i l h end =
     omega arith
 
 -- a link that is reached is reached in the first lap, at its own place
-pub first_lap : (shape : Shape) (i l : ℕ) (s : List ℕ) (e : ℕ) → Keeping shape i → ReachesLink shape i l s e → IsAt shape i (place_after shape s % links_of shape i) l
+pub first_lap : (shape : Shape) (i l : ℕ) (s : List ℕ) (e : ℕ) → Keeping shape i → ReachesLink shape i l s e → IsReachedAt shape i (place_after shape s % links_of shape i) l
 first_lap shape i l s e g a =
     let k = links_of shape i in
     let c = place_after shape s in
@@ -74,17 +62,17 @@ first_lap shape i l s e g a =
       | inl less ↦
           let x = earlier shape i g.form s a.possible.runs (place_after shape s % links_of shape i) less in
           let same : SamePlace shape i x.1.run s = ap (λ n. n % links_of shape i) x.1.place ∙ mod-eq_of_lt below in
-          subst (IsAt shape i (place_after shape s % links_of shape i)) (one_link_at shape i x.0 l x.1.run s x.1.event e g.keeps x.1.reaches a same) x.1
+          subst (IsReachedAt shape i (place_after shape s % links_of shape i)) (one_link_at shape i x.0 l x.1.run s x.1.event e g.keeps x.1.reaches a same) x.1
       | inr most ↦
           let small : place_after shape s < links_of shape i = lap_zero (place_after shape s) (links_of shape i) (omega arith) below in
-          subst (λ q. IsAt shape i q l) (sym (mod-eq_of_lt small)) (reached_at shape i l s e a)
+          subst (λ q. IsReachedAt shape i q l) (sym (mod-eq_of_lt small)) (reached_at shape i l s e a)
     ]
   where
     lap_zero : (c k : ℕ) → c ≤ c % k → c % k < k → c < k
     lap_zero c k h b = omega arith
 
 -- a link that is reached at a place of the first lap is reached at no earlier place
-pub no_earlier : (shape : Shape) (i l q : ℕ) (t : List ℕ) (f : ℕ) → Keeping shape i → q < links_of shape i → IsAt shape i q l → ReachesLink shape i l t f → (place_after shape t % links_of shape i ≡ q) × (q ≤ place_after shape t)
+pub no_earlier : (shape : Shape) (i l q : ℕ) (t : List ℕ) (f : ℕ) → Keeping shape i → q < links_of shape i → IsReachedAt shape i q l → ReachesLink shape i l t f → (place_after shape t % links_of shape i ≡ q) × (q ≤ place_after shape t)
 no_earlier shape i l q t f g below x a =
     let same : SamePlace shape i t x.run = one_place_of shape i l t x.run f x.event g.keeps a x.reaches in
     let is : place_after shape t % links_of shape i ≡ q = same ∙ ap (λ n. n % links_of shape i) x.place ∙ mod-eq_of_lt below in
@@ -100,7 +88,7 @@ abbrev pub RiseAt : Shape → ℕ → (ℕ → ℕ) → Type 0
 RiseAt shape i number = (l m : ℕ) → (before : MustPrecede shape l m) → before.part ≡ i → number l < number m
 
 -- of two links that are reached in the first lap, the one at the earlier place must come before the other
-pub precedes : (shape : Shape) (i q r l m : ℕ) → Keeping shape i → q < r → r < links_of shape i → IsAt shape i q l → IsAt shape i r m → MustPrecede shape l m
+pub precedes : (shape : Shape) (i q r l m : ℕ) → Keeping shape i → q < r → r < links_of shape i → IsReachedAt shape i q l → IsReachedAt shape i r m → MustPrecede shape l m
 precedes shape i q r l m g less below x y = record {
   part = i;
   run = x.run;
@@ -112,7 +100,7 @@ precedes shape i q r l m g less below x y = record {
 }
 
 -- a link of the part that is at no place up to that of l must come after l
-pub precedes_rest : (shape : Shape) (i p l m : ℕ) → Keeping shape i → p < links_of shape i → IsAt shape i p l → m < length shape.links → IsTrue (is_end shape i m) → (l ≡ m → ⊥) → ((q : ℕ) → q < p → IsAt shape i q m → ⊥) → MustPrecede shape l m
+pub precedes_rest : (shape : Shape) (i p l m : ℕ) → Keeping shape i → p < links_of shape i → IsReachedAt shape i p l → m < length shape.links → IsTrue (is_end shape i m) → (l ≡ m → ⊥) → ((q : ℕ) → q < p → IsReachedAt shape i q m → ⊥) → MustPrecede shape l m
 precedes_rest shape i p l m g below x within end other none = record {
   part = i;
   run = x.run;
@@ -139,7 +127,7 @@ place_is shape number i l s e g rise a =
     let p = place_after shape s % links_of shape i in
     let below : place_after shape s % links_of shape i < links_of shape i = mod_below (place_after shape s) (links_of shape i) (some_links shape i l a.on.within a.on.end) in
     let own = first_lap shape i l s e g a in
-    count_placed (λ m. is_end shape i m && nat_lt (number m) (number l)) (length shape.links) (λ q m. IsAt shape i q m) p
+    count_placed (λ m. is_end shape i m && nat_lt (number m) (number l)) (length shape.links) (λ q m. IsReachedAt shape i q m) p
     (record {
       some = λ q h. earlier shape i g.form own.run own.reaches.possible.runs q (let place : place_after shape own.run ≡ place_after shape s % links_of shape i = own.place in omega arith);
       one = λ q m n h x y. one_link_at shape i m n x.run y.run x.event y.event g.keeps x.reaches y.reaches (ap (λ c. c % links_of shape i) (x.place ∙ sym y.place));
@@ -151,7 +139,7 @@ place_is shape number i l s e g rise a =
     below_lap : (q : ℕ) → q < place_after shape s % links_of shape i → place_after shape s % links_of shape i < links_of shape i → q < links_of shape i
     below_lap q h b = omega arith
 
-    not_above : (m : ℕ) → m < length shape.links → IsTrue (is_end shape i m) → number m < number l → place_after shape s % links_of shape i < links_of shape i → IsAt shape i (place_after shape s % links_of shape i) l → ((q : ℕ) → q < place_after shape s % links_of shape i → IsAt shape i q m → ⊥) → ⊥
+    not_above : (m : ℕ) → m < length shape.links → IsTrue (is_end shape i m) → number m < number l → place_after shape s % links_of shape i < links_of shape i → IsReachedAt shape i (place_after shape s % links_of shape i) l → ((q : ℕ) → q < place_after shape s % links_of shape i → IsReachedAt shape i q m → ⊥) → ⊥
     not_above m h end less below own none =
         let more : number l < number m = rise l m (precedes_rest shape i (place_after shape s % links_of shape i) l m g below own h end (λ same. let e : number l ≡ number m = ap number same in omega arith) none) refl in
         omega arith
@@ -162,7 +150,7 @@ unfolding precedes precedes_rest
 reached_differ shape number i l m s e g rise a h end other same =
     let below : place_after shape s % links_of shape i < links_of shape i = mod_below (place_after shape s) (links_of shape i) (some_links shape i l a.on.within a.on.end) in
     let own = first_lap shape i l s e g a in
-    let none = λ (q : ℕ) (less : q < place_after shape s % links_of shape i) (x : IsAt shape i q m). let before : number m < number l = rise m l (precedes shape i q (place_after shape s % links_of shape i) m l g less below x own) refl in lower before in
+    let none = λ (q : ℕ) (less : q < place_after shape s % links_of shape i) (x : IsReachedAt shape i q m). let before : number m < number l = rise m l (precedes shape i q (place_after shape s % links_of shape i) m l g less below x own) refl in lower before in
     let after : number l < number m = rise l m (precedes_rest shape i (place_after shape s % links_of shape i) l m g below own h end other none) refl in
     omega arith
   where

@@ -1,13 +1,7 @@
 -- Over the shape of a network, the components' own steps and the parts' tables tell the same traces, the same events after each, and the same acceptances.
-use Rattle.std.proofs.Common.{◌≡◌, ℕ, List, [], ◌∷◌, ◌++◌, map, true, refl, sym, ap, subst, ◌∙◌}
-use Rattle.std.proofs.lemmas.Bool.{and_parts, and_from}
-use Rattle.csp_base.specs.Members.{has}
-use Rattle.csp_tables.specs.Prelude.{Label, Component, ComponentStep, Tree, leaves, IsAcceptance, Node, node_at, node_after, is_possible, is_run, end_of, Part, part_at, alphabets_of, Shape, ArePartsOf, IsShapeOf, RunsTo, IsPossible, Accepts, accepted}
-use Rattle.csp_tables.proofs.Runs.{run_push}
-use Rattle.net_sound.proofs.FormOfTables.{shapes_are_well_formed}
+use Rattle.design_rules.proofs.Prelude.{◌≡◌, ℕ, List, [], ◌∷◌, ◌++◌, map, true, refl, sym, ap, subst, ◌∙◌, and_parts, and_from, has, Label, Component, ComponentStep, Tree, leaves, IsAcceptance, Node, node_at, node_after, is_possible, is_run, end_of, Part, part_at, alphabets_of, Shape, ArePartsOf, IsShapeOf, RunsTo, IsPossible, Accepts, accepted, run_push, shapes_are_well_formed, SameOutline, AcceptsSame, OutlinesAgree, ReadingsAgree, NetworksMeet, NetworksBreak, NetworkFaultsRefute, HasTrace, HasAcceptance, by_steps, AcceptsSet, by_tables, NetworksAreNumbered, outline, outline_of, Cyclic}
 use Rattle.net_sound.proofs.ShapeOf.{shapes_are_busy}
 use Rattle.net_sound.proofs.Parts.{component_of, part_of, part_within}
-use Rattle.design_rules.specs.Prelude.{SameOutline, AcceptsSame, OutlinesAgree, ReadingsAgree, NetworksMeet, NetworksBreak, NetworkFaultsRefute, HasTrace, HasAcceptance, by_steps, AcceptsSet, by_tables, NetworksAreNumbered, outline, outline_of, Cyclic}
 use Rattle.design_rules.proofs.Accepting.{at_place, set_shared}
 use Rattle.design_rules.proofs.Refuting.{faults_refute}
 use Rattle.design_rules.proofs.CyclicRule.{is_rule_by_numbers}
@@ -25,10 +19,9 @@ run_pop table n (x ∷ s) e h =
 -- the components have the alphabets of the parts
 same_alphabets : {T : Type 0} (Step : T → Label → T → Type 0) (cs : List (Component T)) (ps : List Part) → ArePartsOf Step cs ps → alphabets_of ps ≡ map (λ (c : Component T). c.alphabet) cs
 same_alphabets Step [] [] parts = refl
-same_alphabets Step [] (p ∷ ps) parts = absurd parts
-same_alphabets Step (c ∷ cs) [] parts = absurd parts
 same_alphabets {T} Step (c ∷ cs) (p ∷ ps) parts =
     ap (λ (a : List ℕ). a ∷ alphabets_of ps) (sym parts.0.alphabet) ∙ ap (λ (others : List (List ℕ)). c.alphabet ∷ others) (same_alphabets Step cs ps parts.1)
+same_alphabets Step _ _ parts = absurd parts
 
 -- of a vocabulary the members count
 module _ {T : Type 0} (Step : T → Label → T → Type 0) (cs : List (Component T)) (shape : Shape) (parts : ArePartsOf Step cs shape.parts) (vocabulary : List ℕ)

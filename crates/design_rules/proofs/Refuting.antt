@@ -1,7 +1,5 @@
 -- What each fault tells refutes the rule.
-use Rattle.std.proofs.Common.{◌≡◌, ℕ, List, inl, inr, refl}
-use Rattle.csp_tables.specs.Prelude.{Shape, RoleSets, UseSets}
-use Rattle.design_rules.specs.Prelude.{KeepsPlaces, IsCyclic, MustPrecede, BreaksOrder, IsClientServer, BreaksRoles, IsResource, IsHeldWhile, BreaksUses, BreaksCyclic, BreaksClientServer, BreaksResource, FaultsRefute, Condition, Cyclic, ClientServer, Resource, RuleFault, NoOrder, NoWholeEnd, Broken, LinksCircle, ClientsCircle, ResourcesCircle}
+use Rattle.design_rules.proofs.Prelude.{ℕ, List, inl, inr, Shape, RoleSets, UseSets, KeepsPlaces, IsCyclic, MustPrecede, BreaksOrder, IsClientServer, BreaksRoles, IsResource, IsHeldWhile, BreaksUses, BreaksCyclic, BreaksClientServer, BreaksResource, FaultsRefute, Condition, Cyclic, ClientServer, Resource, RuleFault, NoOrder, NoWholeEnd, Broken, LinksCircle, ClientsCircle, ResourcesCircle}
 use Rattle.design_rules.specs.declared.condition.Condition.TheVariants as condition
 use Rattle.design_rules.proofs.Walks.{no_circle}
 
@@ -14,10 +12,8 @@ clashing shape i s e keeps b =
 cyclic_refuted : (shape : Shape) (fault : RuleFault) → IsCyclic shape → BreaksCyclic shape fault → ⊥
 cyclic_refuted shape (NoOrder i s e) rule told = clashing shape i s e (rule.order i told.breaks.reaches.possible.runs.part) told.breaks
 cyclic_refuted shape (NoWholeEnd i j s t) rule told = elim (rule.whole told.link told.within) [ inl left ↦ left s told.left | inr right ↦ right t told.right ]
-cyclic_refuted shape (Broken condition i s) rule told = told
 cyclic_refuted shape (LinksCircle ends) rule told = no_circle (MustPrecede shape) rule.numbered.number rule.numbered.rise told.links told.circle.circle
-cyclic_refuted shape (ClientsCircle clients) rule told = told
-cyclic_refuted shape (ResourcesCircle resources) rule told = told
+cyclic_refuted shape _ rule told = told
 
 roles_refuted : (shape : Shape) (roles : List RoleSets) (condition : Condition) (i : ℕ) (s : List ℕ) → IsClientServer shape roles → BreaksRoles shape roles condition i s → ⊥
 roles_refuted shape roles condition.Roles i s rule told = told.1.broken (rule.keep_roles.parted i told.1.within)
@@ -28,12 +24,9 @@ roles_refuted shape roles condition.Answers i s rule told = told.3.broken (rule.
 roles_refuted shape roles _ i s rule told = told
 
 client_server_refuted : (shape : Shape) (roles : List RoleSets) (fault : RuleFault) → IsClientServer shape roles → BreaksClientServer shape roles fault → ⊥
-client_server_refuted shape roles (NoOrder i s e) rule told = told
-client_server_refuted shape roles (NoWholeEnd i j s t) rule told = told
 client_server_refuted shape roles (Broken condition i s) rule told = roles_refuted shape roles condition i s rule told
-client_server_refuted shape roles (LinksCircle ends) rule told = told
 client_server_refuted shape roles (ClientsCircle clients) rule told = rule.no_circle clients told.circle.circle
-client_server_refuted shape roles (ResourcesCircle resources) rule told = told
+client_server_refuted shape roles _ rule told = told
 
 uses_refuted : (shape : Shape) (uses : List UseSets) (condition : Condition) (i : ℕ) (s : List ℕ) → IsResource shape uses → BreaksUses shape uses condition i s → ⊥
 uses_refuted shape uses condition.Kinds i s rule told = told.1.broken (record { linked = λ l h left. rule.keep_uses.kinds.linked l h; parted = rule.keep_uses.kinds.parted i told.1.within })
@@ -43,12 +36,9 @@ uses_refuted shape uses condition.Uses i s rule told = told.3.broken (rule.keep_
 uses_refuted shape uses _ i s rule told = told
 
 resource_refuted : (shape : Shape) (uses : List UseSets) (fault : RuleFault) → IsResource shape uses → BreaksResource shape uses fault → ⊥
-resource_refuted shape uses (NoOrder i s e) rule told = told
-resource_refuted shape uses (NoWholeEnd i j s t) rule told = told
 resource_refuted shape uses (Broken condition i s) rule told = uses_refuted shape uses condition i s rule told
-resource_refuted shape uses (LinksCircle ends) rule told = told
-resource_refuted shape uses (ClientsCircle clients) rule told = told
 resource_refuted shape uses (ResourcesCircle resources) rule told = no_circle (IsHeldWhile shape uses) rule.ordered.number rule.ordered.rise resources told.circle.circle
+resource_refuted shape uses _ rule told = told
 
 pub faults_refute : FaultsRefute
 faults_refute Cyclic shape fault rule told = cyclic_refuted shape fault rule told

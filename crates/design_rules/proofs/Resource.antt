@@ -1,15 +1,8 @@
 -- The ranking of a network of users and resources falls along ungranted requests.
-use Rattle.std.proofs.Common.{◌≡◌, ℕ, zero, suc, ◌+◌, ◌-◌, ◌*◌, ◌<◌, ◌≤◌, ◌⊎◌, inl, inr, ℤ, pos, ◌<ℤ◌, List, length, Bool, true, false, not, cond, IsTrue, refl, sym, ap, subst, ◌∙◌, arith}
-use Rattle.csp_base.proofs.Standard.{cases_Bool, cases_lt, cases_eq, both_ways, and_parts, and_from, cond-true, cond-false, ints}
-use Rattle.std.specs.List.{list_any}
-use Rattle.csp_base.specs.Members.{has}
-use Rattle.design_rules.specs.Prelude.{is_odd, is_held, holds, acquires, KeepUses, IsHeldWhile, ResourcesRise, AreResourceNumbers, top_number, rank_there, AcceptsSome, AreResourceRanks, ResourceRanksFall, OrderedRanksFall}
-use Rattle.csp_tables.specs.Prelude.{part_at, alphabets_of, TripleDisjoint, Shape, Joins, link_at, IsWellFormed, accepted, UseSets, use_at, Ranking, rank_after, lead}
-use Rattle.net_sound.proofs.Finite.{below_suc}
-use Rattle.design_rules.proofs.Shapes.{turned, first_end, link_events, own_run, Side, Request, request}
+use Rattle.design_rules.proofs.Prelude.{◌≡◌, ℕ, zero, suc, ◌+◌, ◌-◌, ◌*◌, ◌<◌, ◌≤◌, ◌⊎◌, inl, inr, ℤ, pos, ◌<ℤ◌, List, length, Bool, true, false, not, cond, IsTrue, refl, sym, ap, subst, ◌∙◌, arith, cases_Bool, cases_lt, cases_eq, both_ways, and_parts, and_from, cond-true, cond-false, ints, list_any, has, is_odd, is_held, holds, acquires, KeepUses, IsHeldWhile, ResourcesRise, AreResourceNumbers, top_number, rank_there, AcceptsSome, AreResourceRanks, ResourceRanksFall, OrderedRanksFall, part_at, alphabets_of, TripleDisjoint, Shape, Joins, link_at, IsWellFormed, accepted, UseSets, use_at, Ranking, rank_after, lead, below_suc, any_of}
+use Rattle.design_rules.proofs.Shapes.{turned, first_end, joins_within, link_events, own_run, Side, Request, request}
 use Rattle.design_rules.proofs.Holders.{Resource, turns, one_link}
 use Rattle.design_rules.proofs.ClientServer.{no_scale}
-use Rattle.csp_base.proofs.Listed.{any_of}
 use Rattle.design_rules.proofs.Accepting.{at_place}
 
 -- ---- what is acquired
@@ -51,7 +44,7 @@ pub below_top : (uses : List UseSets) (number : ℕ → ℕ) (n j : ℕ) → j <
 below_top uses number zero j h r = absurd (omega arith)
 below_top uses number (suc n) j h r =
     elim (cases_eq j n) [
-      | inl e ↦ let own : cond (use_at uses n).resource (number n) 0 ≡ number n = cond-true (use_at uses n).resource (number n) 0 (subst (λ k. (use_at uses k).resource ≡ true) e r) in let same : number j ≡ number n = ap number e in omega arith
+      | inl e ↦ let is : (use_at uses n).resource ≡ true = subst (λ k. (use_at uses k).resource ≡ true) e r in grind (arith)
       | inr ne ↦ let rest : number j ≤ top_number uses number n = below_top uses number n j (omega arith) r in omega arith
     ]
 
@@ -218,22 +211,13 @@ ordered_ranks_fall shape uses number top ranking w triple uses_are rise positive
 
 -- ---- longest chains
 
--- what is held is a resource among the parts
-held_within : (shape : Shape) (uses : List UseSets) (m j : ℕ) → IsWellFormed shape → KeepUses shape uses → IsHeldWhile shape uses m j → (m < length shape.parts) × ((use_at uses m).resource ≡ true)
-held_within shape uses m j w a h =
-    let t = w.linked.links h.link h.joins.within in
-    let order : (link_at shape h.link).left < (link_at shape h.link).right = t.ordered in
-    let inside : (link_at shape h.link).right < length shape.parts = t.within in
-    let kind = turn_over (use_at uses h.user).resource (use_at uses m).resource (other_kind shape uses h.user m h.link a h.joins) ∙ ap not h.is_user in
-    elim h.joins.ends [
-      | inl e ↦ let f : (link_at shape h.link).right ≡ m = e.1 in (omega arith, kind)
-      | inr e ↦ let f : (link_at shape h.link).left ≡ m = e.0 in (omega arith, kind)
-    ]
+-- what is held is a resource
+held_resource : (shape : Shape) (uses : List UseSets) (m j : ℕ) → KeepUses shape uses → IsHeldWhile shape uses m j → (use_at uses m).resource ≡ true
+held_resource shape uses m j a h = turn_over (use_at uses h.user).resource (use_at uses m).resource (other_kind shape uses h.user m h.link a h.joins) ∙ ap not h.is_user
 
 pub chains_rise : (shape : Shape) (uses : List UseSets) (number : ℕ → ℕ) → IsWellFormed shape → KeepUses shape uses → AreResourceNumbers shape uses number → ResourcesRise shape uses number
 chains_rise shape uses number w a numbers m j h =
-    let held = held_within shape uses m j w a h in
-    let low = numbers m held.0 held.1 in
+    let low = numbers m (joins_within shape h.user m h.link w h.joins) (held_resource shape uses m j a h) in
     let high = numbers j h.within (acquired_resource uses h.acceptance j h.acquiring) in
     let more : suc low.below ≤ high.below = high.longest.most (suc low.below) low.longest.end (m, h, low.longest.attained) in
     let x : number m ≡ low.below + 1 = low.number in
@@ -245,5 +229,3 @@ resource_ranks_fall shape uses ranking w triple rule r =
     ordered_ranks_fall shape uses r.number r.top ranking w triple rule.keep_uses (chains_rise shape uses r.number w rule.keep_uses r.numbers)
     (λ i h resource. let n = r.numbers i h resource in let x : r.number i ≡ n.below + 1 = n.number in omega arith)
     r.ranks
-
--- ---- faults

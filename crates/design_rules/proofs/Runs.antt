@@ -1,9 +1,5 @@
 -- Runs of a table, one event after another at their end.
-use Rattle.std.proofs.Common.{◌≡◌, ℕ, ◌+◌, ◌<◌, ◌≤◌, inl, inr, List, [], ◌∷◌, ◌++◌, length, get_or, Bool, true, false, IsTrue, nat_eq, refl, sym, subst, arith, append_assoc, append-nil}
-use Rattle.std.proofs.lemmas.Bool.{and_parts, or_cases, eqb-true, false≢true, cases_Bool, cond-true, cond-false, both_ways}
-use Rattle.csp_base.specs.Members.{has}
-use Rattle.csp_tables.specs.Prelude.{Node, node_at, is_possible, target, node_after, is_run, IsRun, end_of, Part, HasForm, StepsHaveForm, laps_from, lap_of}
-use Rattle.csp_tables.proofs.Runs.{run_push, end_push, node_form}
+use Rattle.design_rules.proofs.Prelude.{◌≡◌, ℕ, ◌+◌, ◌<◌, ◌≤◌, inl, inr, List, [], ◌∷◌, ◌++◌, length, get_or, Bool, true, false, IsTrue, nat_eq, refl, sym, subst, arith, append_assoc, append-nil, and_parts, or_cases, eqb-true, false≢true, cases_Bool, cond-true, cond-false, both_ways, has, Node, node_at, is_possible, target, node_after, is_run, IsRun, end_of, Part, HasForm, StepsHaveForm, laps_from, lap_of, run_push, end_push, node_form}
 
 abbrev pub possible_after : List Node → List ℕ → ℕ → Bool
 possible_after table u e = is_possible (node_at table (end_of table 0 u)).next e

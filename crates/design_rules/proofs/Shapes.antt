@@ -1,14 +1,7 @@
 -- What a well-formed shape gives: the links of shared events, and what an ungranted request is in it.
-use Rattle.std.proofs.Common.{◌≡◌, ℕ, zero, suc, ◌<◌, ◌≤◌, inl, inr, List, [], ◌∷◌, length, IsTrue, nat_eq, sym, subst, arith, eq-eqb}
-use Rattle.std.proofs.lemmas.Bool.{cases_Bool, cases_order, or_cases, or_left, or_right, eqb-true}
-use Rattle.csp_base.specs.Members.{has}
-use Rattle.design_rules.specs.Prelude.{count_in, IsVertex}
-use Rattle.csp_tables.specs.Prelude.{end_of, Part, part_at, alphabets_of, sharers, project, IsShared, AreApart, IsWithin, Stands, acceptance, IsUngranted, Shape, link_at, is_end, IsWellFormed, Joins, AreJoined, RunsTo, IsPossible, Accepts, accepted, IsOn}
-use Rattle.net_sound.proofs.Sharers.{at_two}
-use Rattle.net_sound.proofs.Within.{acceptance_within, part_form}
+use Rattle.design_rules.proofs.Prelude.{◌≡◌, ℕ, zero, suc, ◌<◌, ◌≤◌, inl, inr, List, [], ◌∷◌, length, IsTrue, nat_eq, sym, subst, arith, eq-eqb, cases_Bool, cases_order, or_cases, or_left, or_right, eqb-true, has, count_in, IsVertex, end_of, Part, part_at, alphabets_of, sharers, project, IsShared, AreApart, IsWithin, Stands, acceptance, IsUngranted, Shape, link_at, is_end, IsWellFormed, Joins, AreJoined, RunsTo, IsPossible, Accepts, accepted, IsOn, at_two, acceptance_within, part_form, sharers_own, sharers_other}
 use Rattle.design_rules.proofs.Counts.{count_project}
 use Rattle.design_rules.proofs.Runs.{end_within}
-use Rattle.csp_tables.proofs.Runs.{sharers_own, sharers_other}
 
 -- ---- who shares an event
 
@@ -57,6 +50,14 @@ first_end shape i j l h =
       | inl k ↦ or_left (nat_eq (link_at shape l).left i) (nat_eq (link_at shape l).right i) (eq-eqb (link_at shape l).left i k.0)
       | inr k ↦ or_right (nat_eq (link_at shape l).left i) (nat_eq (link_at shape l).right i) (eq-eqb (link_at shape l).right i k.1)
     ]
+
+-- what a link joins is within
+pub joins_within : (shape : Shape) (i j l : ℕ) → IsWellFormed shape → Joins shape i j l → j < length shape.parts
+joins_within shape i j l w h =
+    let t = w.linked.links l h.within in
+    let order : (link_at shape l).left < (link_at shape l).right = t.ordered in
+    let inside : (link_at shape l).right < length shape.parts = t.within in
+    elim h.ends [ inl e ↦ let is : (link_at shape l).right ≡ j = e.1 in omega arith | inr e ↦ let is : (link_at shape l).left ≡ j = e.0 in omega arith ]
 
 joined : (shape : Shape) (i j : ℕ) → AreJoined shape i j → (l : ℕ) × Joins shape i j l
 joined shape i j a = (a.link, record { within = a.within; ends = inl (a.left, a.right) })

@@ -1,14 +1,7 @@
 -- Networks that are alike meet the same rules and break them in the same way: their outlines are the same, and their components behave alike. Each condition
 -- is made of traces, possible events and acceptances by "for each" and "there is", so it is carried over part by part; where it stands behind an
 -- arrow, it is carried the other way. Of an acceptance the members alone are looked at.
-use Rattle.std.proofs.Common.{◌≡◌, ℕ, ◌<◌, inl, inr, ◌⊎◌, List, cond, IsTrue, sym, ap, subst, ◌∙◌}
-use Rattle.std.proofs.lemmas.Bool.{and_parts, and_from}
-use Rattle.std.specs.List.{list_any}
-use Rattle.csp_base.specs.Members.{has}
-use Rattle.csp_base.proofs.Listed.{any_of, any_member}
-use Rattle.csp_tables.specs.Prelude.{Shape, link_at, RoleSets, UseSets, use_at}
-use Rattle.digraph.proofs.WalkLaws.{same_least_circle}
-use Rattle.design_rules.specs.Prelude.{SameOutline, Agree, Behaviours, place_after, CanBeNumbered, FallsShort, IsFullEnd, IsNumberedCyclic, is_acknowledgement, is_request, TakesTurns, ServesAll, TakesAnswers, Serves, IsUsedInTurn, GrantsAll, UsesInTurn, acquires, CanBeOrdered, KeepsHolder, KeepsGrants, KeepsTurns, AllKeep, IsFirstBroken, MeetsRule, BreaksRule, BreaksCyclicRule, BreaksClientServerRule, BreaksResourceRule, Condition, NotedRule, Cyclic, ClientServer, Resource, RuleFault, NoOrder, NoWholeEnd, Broken, LinksCircle, ClientsCircle, ResourcesCircle}
+use Rattle.design_rules.proofs.Prelude.{◌≡◌, ℕ, ◌<◌, inl, inr, ◌⊎◌, List, cond, IsTrue, sym, ap, subst, ◌∙◌, and_parts, and_from, list_any, has, any_of, any_member, Shape, link_at, RoleSets, UseSets, use_at, same_least_circle, SameOutline, Agree, Behaviours, place_after, CanBeNumbered, FallsShort, IsFullEnd, IsNumberedCyclic, is_acknowledgement, is_request, TakesTurns, ServesAll, TakesAnswers, Serves, IsUsedInTurn, GrantsAll, UsesInTurn, acquires, CanBeOrdered, KeepsHolder, KeepsGrants, KeepsTurns, IsFirstBroken, MeetsRule, BreaksRule, BreaksCyclicRule, BreaksClientServerRule, BreaksResourceRule, Condition, NotedRule, Cyclic, ClientServer, Resource, RuleFault, NoOrder, NoWholeEnd, Broken, LinksCircle, ClientsCircle, ResourcesCircle}
 use Rattle.design_rules.specs.CyclicRule.{ReachesLink, KeepsPlaces, AllKeepPlaces, MustPrecede, IsWholeEnd, HasWholeEnd, IsCyclic}
 use Rattle.design_rules.specs.CyclicRuleFaults.{BreaksOrder}
 use Rattle.design_rules.specs.ClientServerRule.{KeepRoles, IsClientServer}
@@ -147,14 +140,9 @@ breaks_cyclic x y a (LinksCircle ends) h = record {
   circle = same_least_circle (MustPrecede x.shape x.does) (MustPrecede y.shape y.does) (must_precede x y a) h.links h.circle;
   are = h.are ∙ all_ends x.shape y.shape a.outline h.links;
 }
-breaks_cyclic x y a (Broken which i s) h = absurd h
-breaks_cyclic x y a (ClientsCircle clients) h = absurd h
-breaks_cyclic x y a (ResourcesCircle resources) h = absurd h
+breaks_cyclic x y a _ h = absurd h
 
 -- ---- components that break what is asked of each
-
-all_keep : (F G : ℕ → List ℕ → Type 0) → ((i : ℕ) (s : List ℕ) → F i s → G i s) → AllKeep F → AllKeep G
-all_keep F G f h i s = f i s (h i s)
 
 first_broken : (b c : Behaviours) → Agree b c → (F G : ℕ → List ℕ → Type 0) → ((i : ℕ) (s : List ℕ) → F i s → G i s) → ((i : ℕ) (s : List ℕ) → G i s → F i s)
     → (i : ℕ) (s : List ℕ) → IsFirstBroken b F i s → IsFirstBroken c G i s
@@ -207,43 +195,31 @@ module _ (roles : List RoleSets) where
   is_client_server : (x y : Seen) → Alike x y → IsClientServer x.shape x.does roles → IsClientServer y.shape y.does roles
   is_client_server x y a h = record { keep_roles = keep_roles x y a h.keep_roles; no_circle = no_circle x.shape y.shape a.outline roles h.no_circle }
 
-  abbrev turns_of : Seen → ℕ → List ℕ → Type 0
-  turns_of x = TakesTurns x.shape x.does roles
-
-  abbrev service_of : Seen → ℕ → List ℕ → Type 0
-  service_of x = ServesAll x.shape x.does roles
-
-  abbrev answers_of : Seen → ℕ → List ℕ → Type 0
-  answers_of x = TakesAnswers x.shape x.does roles
-
   breaks_roles : (x y : Seen) → Alike x y → (which : Condition) (i : ℕ) (s : List ℕ) → BreaksRoles x.shape x.does roles which i s → BreaksRoles y.shape y.does roles which i s
   breaks_roles x y a condition.Roles i s h = (h.0, lacks_roles x.shape y.shape a.outline roles i h.1)
   breaks_roles x y a condition.Clients i s h = (h.0, lacks_client x.shape y.shape a.outline roles i h.1)
   breaks_roles x y a condition.Turns i s h =
-      (have_clients x.shape y.shape a.outline roles h.0, first_broken x.does y.does a.agree (turns_of x) (turns_of y) (takes_turns x y a) (takes_turns y x (turned x y a)) i s h.1)
+      (have_clients x.shape y.shape a.outline roles h.0, first_broken x.does y.does a.agree _ _ (takes_turns x y a) (takes_turns y x (turned x y a)) i s h.1)
   breaks_roles x y a condition.Service i s h = (
     have_clients x.shape y.shape a.outline roles h.0,
-    all_keep (turns_of x) (turns_of y) (takes_turns x y a) h.1,
-    first_broken x.does y.does a.agree (service_of x) (service_of y) (serves_all x y a) (serves_all y x (turned x y a)) i s h.2,
+    λ j t. takes_turns x y a j t (h.1 j t),
+    first_broken x.does y.does a.agree _ _ (serves_all x y a) (serves_all y x (turned x y a)) i s h.2,
   )
   breaks_roles x y a condition.Answers i s h = (
     have_clients x.shape y.shape a.outline roles h.0,
-    all_keep (turns_of x) (turns_of y) (takes_turns x y a) h.1,
-    all_keep (service_of x) (service_of y) (serves_all x y a) h.2,
-    first_broken x.does y.does a.agree (answers_of x) (answers_of y) (takes_answers x y a) (takes_answers y x (turned x y a)) i s h.3,
+    λ j t. takes_turns x y a j t (h.1 j t),
+    λ j t. serves_all x y a j t (h.2 j t),
+    first_broken x.does y.does a.agree _ _ (takes_answers x y a) (takes_answers y x (turned x y a)) i s h.3,
   )
   breaks_roles x y a _ i s h = h
 
   breaks_client_server : (x y : Seen) → Alike x y → (fault : RuleFault) → BreaksClientServerRule x.shape x.does roles fault → BreaksClientServerRule y.shape y.does roles fault
-  breaks_client_server x y a (NoOrder i s e) h = absurd h
-  breaks_client_server x y a (NoWholeEnd i j s t) h = absurd h
   breaks_client_server x y a (Broken which i s) h = breaks_roles x y a which i s h
-  breaks_client_server x y a (LinksCircle ends) h = absurd h
   breaks_client_server x y a (ClientsCircle clients) h = record {
     keep_roles = keep_roles x y a h.keep_roles;
     circle = same_least_circle (Serves x.shape roles) (Serves y.shape roles) (each_serves x.shape y.shape a.outline roles) clients h.circle;
   }
-  breaks_client_server x y a (ResourcesCircle resources) h = absurd h
+  breaks_client_server x y a _ h = absurd h
 
 -- ---- the rule of users and resources
 
@@ -326,42 +302,30 @@ module _ (uses : List UseSets) where
   is_resource : (x y : Seen) → Alike x y → IsResource x.shape x.does uses → IsResource y.shape y.does uses
   is_resource x y a h = record { keep_uses = keep_uses x y a h.keep_uses; ordered = can_be_ordered x y a h.ordered }
 
-  abbrev holders_of : Seen → ℕ → List ℕ → Type 0
-  holders_of x = KeepsHolder x.shape x.does uses
-
-  abbrev grants_of : Seen → ℕ → List ℕ → Type 0
-  grants_of x = KeepsGrants x.shape x.does uses
-
-  abbrev use_turns_of : Seen → ℕ → List ℕ → Type 0
-  use_turns_of x = KeepsTurns x.shape x.does uses
-
   breaks_uses : (x y : Seen) → Alike x y → (which : Condition) (i : ℕ) (s : List ℕ) → BreaksUses x.shape x.does uses which i s → BreaksUses y.shape y.does uses which i s
   breaks_uses x y a condition.Kinds i s h = (h.0, lacks_kind x.shape y.shape a.outline uses i h.1)
   breaks_uses x y a condition.Holders i s h =
-      (have_kinds x.shape y.shape a.outline uses h.0, first_broken x.does y.does a.agree (holders_of x) (holders_of y) (keeps_holder x y a) (keeps_holder y x (turned x y a)) i s h.1)
+      (have_kinds x.shape y.shape a.outline uses h.0, first_broken x.does y.does a.agree _ _ (keeps_holder x y a) (keeps_holder y x (turned x y a)) i s h.1)
   breaks_uses x y a condition.Grants i s h = (
     have_kinds x.shape y.shape a.outline uses h.0,
-    all_keep (holders_of x) (holders_of y) (keeps_holder x y a) h.1,
-    first_broken x.does y.does a.agree (grants_of x) (grants_of y) (keeps_grants x y a) (keeps_grants y x (turned x y a)) i s h.2,
+    λ j t. keeps_holder x y a j t (h.1 j t),
+    first_broken x.does y.does a.agree _ _ (keeps_grants x y a) (keeps_grants y x (turned x y a)) i s h.2,
   )
   breaks_uses x y a condition.Uses i s h = (
     have_kinds x.shape y.shape a.outline uses h.0,
-    all_keep (holders_of x) (holders_of y) (keeps_holder x y a) h.1,
-    all_keep (grants_of x) (grants_of y) (keeps_grants x y a) h.2,
-    first_broken x.does y.does a.agree (use_turns_of x) (use_turns_of y) (keeps_turns x y a) (keeps_turns y x (turned x y a)) i s h.3,
+    λ j t. keeps_holder x y a j t (h.1 j t),
+    λ j t. keeps_grants x y a j t (h.2 j t),
+    first_broken x.does y.does a.agree _ _ (keeps_turns x y a) (keeps_turns y x (turned x y a)) i s h.3,
   )
   breaks_uses x y a _ i s h = h
 
   breaks_resource : (x y : Seen) → Alike x y → (fault : RuleFault) → BreaksResourceRule x.shape x.does uses fault → BreaksResourceRule y.shape y.does uses fault
-  breaks_resource x y a (NoOrder i s e) h = absurd h
-  breaks_resource x y a (NoWholeEnd i j s t) h = absurd h
   breaks_resource x y a (Broken which i s) h = breaks_uses x y a which i s h
-  breaks_resource x y a (LinksCircle ends) h = absurd h
-  breaks_resource x y a (ClientsCircle clients) h = absurd h
   breaks_resource x y a (ResourcesCircle resources) h = record {
     keep_uses = keep_uses x y a h.keep_uses;
     circle = same_least_circle (IsHeldWhile x.shape x.does uses) (IsHeldWhile y.shape y.does uses) (held_while x y a) resources h.circle;
   }
+  breaks_resource x y a _ h = absurd h
 
 -- ---- a rule with its notes
 

@@ -1,14 +1,10 @@
 -- Two users that acquire two resources in the same order meet the rule of users and resources.
-use Rattle.std.proofs.Common.{◌≡◌, ℕ, zero, suc, ◌-◌, ◌<◌, ◌≤◌, inl, List, [], ◌∷◌, Option, Some, None, Bool, true, false, refl, arith}
-use Rattle.std.proofs.lemmas.Bool.{false≢true}
-use Rattle.csp_base.specs.Members.{has}
-use Rattle.csp_tables.specs.Shape.{IsWellFormed}
-use Rattle.digraph.specs.Walk.{Walk}
-use Rattle.design_rules.specs.Prelude.{IsHeldWhile, ResourcesRise, StandsAbove, AreResourceNumbers, two_users, two_users_uses, two_users_ranking, TwoUsersAreResource}
+use Rattle.design_rules.proofs.Prelude.{ℕ, zero, suc, ◌-◌, ◌<◌, ◌≤◌, inl, List, [], ◌∷◌, Option, Some, None, Bool, true, false, refl, arith, false≢true, IsWellFormed, Walk, IsHeldWhile, ResourcesRise, AreResourceNumbers, two_users, two_users_uses, two_users_ranking, TwoUsersAreResource}
+use Rattle.design_rules.specs.Prelude.{StandsAbove}
 use Rattle.design_rules.proofs.Walks.{walk_bound}
-use Rattle.design_rules.proofs.Checks.{member_passes}
+use Rattle.design_rules.proofs.Checks.{within}
 use Rattle.design_rules.proofs.FormCheck.{well_formed, triple_disjoint}
-use Rattle.design_rules.proofs.ResourceCheck.{IsTestedUses, keep_uses, resources_rise, use_ranks}
+use Rattle.design_rules.proofs.ResourceCheck.{UsesTold, uses_told, keep_uses, rises, use_ranks}
 
 -- how the nodes are reached: of the users, and of the resources
 abbrev runs : ℕ → ℕ → List ℕ
@@ -31,8 +27,7 @@ link_of (suc i) (suc (suc zero)) = 2
 link_of (suc i) j = 3
 
 form : IsWellFormed two_users
-form = well_formed two_users runs link_of
-    (record { least = refl; most = refl; form = refl; few = refl; possible = refl; reached = refl; links = refl; all_links = refl; links_rise = refl; shared = refl; vocabulary = refl })
+form = (well_formed two_users runs link_of).shows refl
 
 -- a resource is held at its second node by the first user, and at its third by the second
 abbrev held : ℕ → ℕ → Option ℕ
@@ -56,21 +51,18 @@ parity (suc zero) (suc (suc zero)) n = holding 0 n
 parity (suc zero) (suc (suc (suc zero))) n = holding 1 n
 parity i l n = false
 
-tested : IsTestedUses two_users two_users_uses held parity
-tested = record { linked = refl; parted = refl; held_start = refl; held_steps = refl; parity_start = refl; parity_steps = refl; turn = refl; by_holder = refl; when_free = refl; when_held = refl; uses_left = refl; uses_right = refl }
+told : UsesTold two_users two_users_uses held parity
+told = (uses_told two_users two_users_uses held parity).shows refl
 
 abbrev number : ℕ → ℕ
 number (suc (suc (suc j))) = 2
 number j = 1
 
 rise : ResourcesRise two_users two_users_uses number
-rise = resources_rise two_users two_users_uses number held parity tested refl
+rise = (rises two_users two_users_uses number held parity told).shows refl
 
 positive : (j : ℕ) → 1 ≤ number j
-positive zero = omega arith
-positive (suc zero) = omega arith
-positive (suc (suc zero)) = omega arith
-positive (suc (suc (suc j))) = omega arith
+positive j = grind (arith)
 
 bound : (j n k : ℕ) → Walk (StandsAbove two_users two_users_uses) n j k → n ≤ number j - 1
 bound = λ j n k w. walk_bound (StandsAbove two_users two_users_uses) (λ x. number x - 1) (λ x y a. let less : number y < number x = rise y x a in let some : 1 ≤ number y = positive y in omega arith) n j k w
@@ -83,15 +75,12 @@ held_first = record {
   run = 0 ∷ [];
   acceptance = 4 ∷ [];
   is_user = refl;
-  accepts = record { place = 0; at = record { runs = record { part = omega arith; follows = refl }; listed = omega arith; shared = λ e h. shared e h }; is = refl };
+  accepts = record { place = 0; at = record { runs = record { part = omega arith; follows = refl }; listed = omega arith; shared = (within (4 ∷ []) two_users.vocabulary).shows refl }; is = refl };
   within = omega arith;
   acquiring = refl;
   joins = record { within = omega arith; ends = inl (refl, refl) };
   holding = refl;
 }
-  where
-    shared : (e : ℕ) → has (4 ∷ []) e ≡ true → has two_users.vocabulary e ≡ true
-    shared e h = member_passes (has two_users.vocabulary) (4 ∷ []) e refl h
 
 numbers : AreResourceNumbers two_users two_users_uses number
 numbers zero h r = absurd (false≢true r)
@@ -103,7 +92,7 @@ numbers (suc (suc (suc (suc j)))) h r = absurd (omega arith)
 pub two_users_are_resource : TwoUsersAreResource
 two_users_are_resource = record {
   form = form;
-  triple = triple_disjoint two_users refl;
-  rule = record { keep_uses = keep_uses two_users two_users_uses held parity tested; ordered = record { number = number; rise = rise } };
-  ranking = record { number = number; numbers = numbers; top = 2; ranks = use_ranks two_users two_users_uses number 2 held parity two_users_ranking tested (record { greatest = refl; fits = refl; scale = refl; while_free = refl; while_held = refl; acquiring = refl; not_acquiring = refl; others = refl; laps = refl }) };
+  triple = (triple_disjoint two_users).shows refl;
+  rule = record { keep_uses = (keep_uses two_users two_users_uses held parity told).shows refl; ordered = record { number = number; rise = rise } };
+  ranking = record { number = number; numbers = numbers; top = 2; ranks = (use_ranks two_users two_users_uses number 2 held parity two_users_ranking told).shows refl };
 }

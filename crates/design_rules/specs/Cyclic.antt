@@ -1,5 +1,5 @@
 -- The rule of cyclic networks, read by the tables of a shape: what its decider decides.
-use Rattle.std.specs.Prelude.{ℕ, List}
+use Rattle.std.specs.Prelude.{◌≡◌, ℕ, List}
 use Rattle.csp_tables.specs.Shape.{Shape}
 use Rattle.design_rules.specs.ByTables.{by_tables}
 pub use Rattle.design_rules.specs.CyclicRule.{links_of, place_after, SamePlace}
@@ -7,6 +7,13 @@ use Rattle.design_rules.specs.CyclicRule as rule
 
 abbrev pub ReachesLink : Shape → ℕ → ℕ → List ℕ → ℕ → Type 0
 ReachesLink shape = rule.ReachesLink shape (by_tables shape)
+
+-- the component reaches the link at this place
+pub record IsReachedAt (shape : Shape) (i q l : ℕ) : Type 0 where
+  pub run : List ℕ
+  pub event : ℕ
+  pub reaches : ReachesLink shape i l run event
+  pub place : place_after shape run ≡ q
 
 abbrev pub KeepsPlaces : Shape → ℕ → Type 0
 KeepsPlaces shape = rule.KeepsPlaces shape (by_tables shape)

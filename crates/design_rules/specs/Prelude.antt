@@ -10,7 +10,7 @@ pub use Rattle.design_rules.specs.ClientServerRanking.{IsClientServerRanking}
 pub use Rattle.design_rules.specs.ClientServerRule.{HasClient, HasRoles, IsClientOn, Serves, ServesAll, TakesAnswers, TakesTurns, has_acknowledgements, is_acknowledgement, is_open, is_request}
 pub use Rattle.design_rules.specs.ClientServerRuleFaults.{HaveClients, LacksClient, LacksRoles}
 pub use Rattle.design_rules.specs.Counts.{above_all, count_below, count_in, is_odd}
-pub use Rattle.design_rules.specs.Cyclic.{AllKeepPlaces, HasWholeEnd, IsCyclic, IsWholeEnd, KeepsPlaces, MustPrecede, NumbersRise, ReachesLink}
+pub use Rattle.design_rules.specs.Cyclic.{AllKeepPlaces, HasWholeEnd, IsCyclic, IsReachedAt, IsWholeEnd, KeepsPlaces, MustPrecede, NumbersRise, ReachesLink}
 pub use Rattle.design_rules.specs.CyclicFaults.{BreaksOrder}
 pub use Rattle.design_rules.specs.CyclicLaws.{CyclicRanksFall, IsRuleByNumbers, NetworksAreNumbered, NumberedRanksFall, PlacesAreOrders, ReachedRanksFall}
 pub use Rattle.design_rules.specs.CyclicNumbered.{HasFullEnds, HasOrder, IsFullEnd, IsNext, IsNumberedCyclic, KeepsOrder, LinksDiffer, ReachedLinksDiffer, place_of}

@@ -1,17 +1,7 @@
 -- How many sets traces lead to.
-use Rattle.std.proofs.Common.{◌≡◌, ℕ, zero, suc, ◌+◌, ◌<◌, ◌≤◌, inl, inr, true, false, nat_eq, IsTrue, List, [], ◌∷◌, ◌++◌, length, get_or, refl, sym, ap, subst, ◌∙◌, arith}
-use Rattle.std.specs.Prelude.{map}
-use Rattle.csp_base.specs.Standard.{list_any, IsDistinct, IsStrictlyIncreasing}
-use Rattle.csp_base.proofs.Standard.{cases_lt, cases_Bool, eqb-true, get_or_append_left, length-append, get_or-map, length-map, IsDistinct-from_apart, length-le_from_distinct_below, get_or-append_seam}
-use Rattle.csp_base.specs.Members.{has}
+use Rattle.determinise.proofs.Prelude.{◌≡◌, ℕ, zero, suc, ◌+◌, ◌<◌, ◌≤◌, inl, inr, true, false, nat_eq, IsTrue, List, [], ◌∷◌, ◌++◌, length, get_or, refl, sym, ap, subst, ◌∙◌, arith, map, list_any, IsDistinct, IsStrictlyIncreasing, cases_lt, cases_Bool, eqb-true, get_or_append_left, length-append, get_or-map, length-map, IsDistinct-from_apart, length-le_from_distinct_below, get_or-append_seam, has, RawTable, RawStep, Node, end_of, HaveSameStates, ReachesSets, set_at, AreReachedSets, AreNodesSoFar, IsSetAfter, any_place, same_tests}
 use Rattle.csp_base.proofs.Rising.{rises_from_increasing, same_members}
-use Rattle.csp_tables.specs.Prelude.{RawTable, RawStep, Node, end_of}
-use Rattle.determinise.specs.ManySets.{HaveSameStates, ReachesSets}
-use Rattle.determinise.specs.Progress.{set_at, AreReachedSets, AreNodesSoFar}
-use Rattle.term_sets.specs.TermSets.{IsSetAfter}
-use Rattle.term_sets.proofs.MoveLists.{any_place}
 use Rattle.determinise.proofs.Runs.{ends_at}
-use Rattle.csp_base.proofs.Booleans.{same_tests}
 
 -- traces to the first sets
 record TracesTo (raw : RawTable) (sets : List (List ℕ)) (n : ℕ) : Type 0 where

@@ -1,14 +1,7 @@
 -- Traces lead from set to set, and the nodes of the sets come one after another.
-use Rattle.std.proofs.Common.{◌≡◌, ℕ, ◌<◌, inl, inr, true, nat_eq, IsTrue, List, [], ◌∷◌, ◌++◌, length, get_or, take, sym, ap, subst, ◌∙◌, arith, eq-eqb}
-use Rattle.csp_base.proofs.Standard.{cases_lt, eqb-true, flat_map-append, append-nil, get_or_append_left, length-append, take-append-le, take_all, list_any_at, get_or-append_seam}
-use Rattle.csp_base.specs.Members.{has}
-use Rattle.csp_tables.specs.Prelude.{visible, After, RawTable, RawStep, Node, target, node_at, targets_of_steps, targets_of_nodes, MeetsInOrder, MeetsUpTo}
+use Rattle.determinise.proofs.Prelude.{◌≡◌, ℕ, ◌<◌, inl, inr, true, nat_eq, IsTrue, List, [], ◌∷◌, ◌++◌, length, get_or, take, sym, ap, subst, ◌∙◌, arith, eq-eqb, cases_lt, eqb-true, flat_map-append, append-nil, get_or_append_left, length-append, take-append-le, take_all, list_any_at, get_or-append_seam, has, visible, After, RawTable, RawStep, Node, target, node_at, targets_of_steps, targets_of_nodes, MeetsInOrder, MeetsUpTo, has_event, has_move, AreMovesOf, IsNextSet, set_at, IsReachedFromSet, AreMoreSets, AreNodeSteps, IsNodeOf, AreReachedSets, AreNodesSoFar, IsTermSet, IsSetAfter, any_place, place_of_move, listed_at}
 use Rattle.csp_tables.proofs.Listed.{step_listed, listed_step}
-use Rattle.term_sets.specs.Moves.{has_event, has_move, AreMovesOf, IsNextSet}
-use Rattle.determinise.specs.Progress.{set_at, IsReachedFromSet, AreMoreSets, AreNodeSteps, IsNodeOf, AreReachedSets, AreNodesSoFar}
-use Rattle.term_sets.specs.TermSets.{IsTermSet, IsSetAfter}
 use Rattle.term_sets.proofs.Traces.{After-none, After-event, After-append, After-cut, After-first}
-use Rattle.term_sets.proofs.MoveLists.{any_place, place_of_move, listed_at}
 use Rattle.determinise.proofs.MoreSets.{meets_then}
 
 -- ---- events and moves

@@ -1,15 +1,5 @@
 -- Steps in the order of their events, cut into groups of one event.
-use Rattle.std.proofs.Common.{◌≡◌, ℕ, zero, suc, ◌+◌, ◌-◌, ◌<◌, ◌≤◌, inl, inr, true, not, ◌||◌, nat_eq, List, [], ◌∷◌, length, get_or, take, drop, refl, sym, ap, subst, ◌∙◌, arith, eq-eqb}
-use Rattle.std.specs.Prelude.{map}
-use Rattle.csp_base.specs.Standard.{All, IsNonDecreasingBy}
-use Rattle.csp_base.proofs.Standard.{cases_lt, eqb-true, false≢true, or_left, or_right, or_cases, get_or-take, get_or-drop, length-take, length-drop, get_or-map, length-map, get_or_default, take_all, list_any_at}
-use Rattle.csp_base.specs.Members.{has}
-use Rattle.csp_tables.specs.Prelude.{RawTable, targets_of_steps}
-use Rattle.term_sets.specs.Moves.{has_event, has_move, IsNextSet}
-use Rattle.determinise.specs.Progress.{IsSomeNextSet}
-use Rattle.term_sets.specs.TermSets.{IsSilentClosure}
-use Rattle.term_sets.proofs.MoveLists.{any_place, place_of_move, listed_at}
-use Rattle.csp_base.proofs.Booleans.{same_tests}
+use Rattle.determinise.proofs.Prelude.{◌≡◌, ℕ, zero, suc, ◌+◌, ◌-◌, ◌<◌, ◌≤◌, inl, inr, true, not, ◌||◌, nat_eq, List, [], ◌∷◌, length, get_or, take, drop, refl, sym, ap, subst, ◌∙◌, arith, eq-eqb, map, All, IsNonDecreasingBy, cases_lt, eqb-true, false≢true, or_left, or_right, or_cases, get_or-take, get_or-drop, length-take, length-drop, get_or-map, length-map, get_or_default, take_all, list_any_at, has, RawTable, targets_of_steps, has_event, has_move, IsNextSet, IsSomeNextSet, IsSilentClosure, any_place, place_of_move, listed_at, same_tests}
 
 -- the event and the target in a place
 abbrev pub event_at : List (ℕ × ℕ) → ℕ → ℕ

@@ -1,13 +1,5 @@
 -- Sets that are known by their starts: as more sets are numbered, and as one more becomes known.
-use Rattle.std.proofs.Common.{◌≡◌, ℕ, ◌+◌, ◌<◌, inl, inr, false, nat_eq, Some, List, [], ◌∷◌, ◌++◌, length, get_or, sym, ap, subst, ◌∙◌, arith}
-use Rattle.std.specs.Prelude.{slice_get}
-use Rattle.csp_base.specs.Standard.{is_member, pointwise}
-use Rattle.csp_base.proofs.Standard.{cases_lt, cond-false, get_or_append_left, get_or_default, length-append, get_or-append_seam, slice_get_within, get_or_from_slice_get}
-use Rattle.containers.specs.Members.{with_new}
-use Rattle.csp_tables.specs.RawTable.{RawTable}
-use Rattle.term_sets.specs.TermSets.{IsSilentClosure}
-use Rattle.determinise.specs.Known.{AreKnown}
-use Rattle.determinise.specs.Progress.{set_at, AreMoreSets}
+use Rattle.determinise.proofs.Prelude.{◌≡◌, ℕ, ◌+◌, ◌<◌, inl, inr, false, nat_eq, Some, List, [], ◌∷◌, ◌++◌, length, get_or, sym, ap, subst, ◌∙◌, arith, slice_get, is_member, pointwise, cases_lt, cond-false, get_or_append_left, get_or_default, length-append, get_or-append_seam, slice_get_within, get_or_from_slice_get, with_new, RawTable, IsSilentClosure, AreKnown, set_at, AreMoreSets}
 
 module _ (raw : RawTable) (starts : List (List ℕ)) (numbers : List ℕ) where
   pub known_kept : (P : List ℕ → Type 0) (old new : List (List ℕ)) → AreMoreSets P old new → AreKnown raw old starts numbers → AreKnown raw new starts numbers

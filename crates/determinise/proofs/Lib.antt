@@ -1,7 +1,8 @@
-pub mod MoreSets
-pub mod Groups
-pub mod NodeSteps
-pub mod Exploring
-pub mod Runs
 pub mod Counting
+pub mod Exploring
+pub mod Groups
 pub mod KnownSets
+pub mod MoreSets
+pub mod NodeSteps
+pub mod Prelude
+pub mod Runs

@@ -1,14 +1,9 @@
 -- The steps of a node, group by group.
-use Rattle.std.proofs.Common.{◌≡◌, ℕ, zero, suc, ◌+◌, ◌<◌, ◌≤◌, inl, inr, Bool, true, false, ◌||◌, nat_eq, IsTrue, List, [], ◌∷◌, ◌++◌, length, get_or, take, refl, sym, ap, subst, ◌∙◌, arith, eq-eqb}
-use Rattle.std.specs.Prelude.{map}
+use Rattle.determinise.proofs.Prelude.{◌≡◌, ℕ, zero, suc, ◌+◌, ◌<◌, ◌≤◌, inl, inr, Bool, true, false, ◌||◌, nat_eq, IsTrue, List, [], ◌∷◌, ◌++◌, length, get_or, take, refl, sym, ap, subst, ◌∙◌, arith, eq-eqb, map, cases_lt, cases_Bool, eqb-true, false≢true, or_left, or_right, cond-true, cond-false, take_all, get_or_append_left, length-append, get_or-append_seam, RawTable, is_possible, target, targets_of_steps, MeetsInOrder, has_event, IsNextSet, set_at, AreMoreSets, IsSomeNextSet, LeadsToSet, AreNodeSteps, IsSilentClosure}
 use Rattle.std.specs.List.Sorted.{IsStrictlyIncreasing}
-use Rattle.csp_base.proofs.Standard.{cases_lt, cases_Bool, eqb-true, false≢true, or_left, or_right, cond-true, cond-false, take_all, get_or_append_left, length-append, get_or-append_seam}
-use Rattle.csp_tables.specs.Prelude.{RawTable, is_possible, target, targets_of_steps, MeetsInOrder}
-use Rattle.term_sets.specs.Moves.{has_event, IsNextSet}
-use Rattle.determinise.specs.Progress.{set_at, AreMoreSets, IsSomeNextSet, LeadsToSet, AreNodeSteps}
-use Rattle.term_sets.specs.TermSets.{IsSilentClosure}
 use Rattle.determinise.proofs.Groups.{IsGroup, event_at, group_targets, event_place, events_more, next_of_group, some_next}
 use Rattle.determinise.proofs.MoreSets.{no_more, more_then_more, more_of_kind, meets_then}
+use Rattle.dl_limits.specs.declared.TheConstants.{MOST_SETS}
 
 abbrev events_of_steps : List (ℕ × ℕ) → List ℕ
 events_of_steps next = map (λ step. step.0) next
@@ -81,9 +76,9 @@ pub record AreStepsSoFar (raw : RawTable) (moves : List (ℕ × ℕ)) (at : ℕ)
   pub rising : IsStrictlyIncreasing (events_of_steps next)
   pub order : MeetsInOrder (length old) (targets_of_steps next) (length sets)
   pub more : AreMoreSets (IsSomeNextSet raw moves) old sets
-  pub few : length sets ≤ 2048
+  pub few : length sets ≤ MOST_SETS
 
-pub no_steps : (raw : RawTable) (moves : List (ℕ × ℕ)) (sets : List (List ℕ)) → length sets ≤ 2048 → AreStepsSoFar raw moves 0 sets sets []
+pub no_steps : (raw : RawTable) (moves : List (ℕ × ℕ)) (sets : List (List ℕ)) → length sets ≤ MOST_SETS → AreStepsSoFar raw moves 0 sets sets []
 no_steps raw moves sets few = record {
   within = omega arith;
   boundary = λ j k early a b. absurd (omega arith);
@@ -102,7 +97,7 @@ module _ (raw : RawTable) (moves : List (ℕ × ℕ)) (from to n : ℕ) (old bef
   kept_step : (e m : ℕ) → LeadsToSet raw moves before e m → LeadsToSet raw moves after e m
   kept_step e m l = record { within = omega (arith, l.within, more.longer); is = subst (IsNextSet raw moves e) (sym (more.kept m l.within)) l.is }
 
-  pub steps_more : n < length after → IsSilentClosure raw (group_targets moves from to) (set_at after n) → MeetsInOrder (length before) (n ∷ []) (length after) → length after ≤ 2048 → AreStepsSoFar raw moves to old after (next ++ (event_at moves from, n) ∷ [])
+  pub steps_more : n < length after → IsSilentClosure raw (group_targets moves from to) (set_at after n) → MeetsInOrder (length before) (n ∷ []) (length after) → length after ≤ MOST_SETS → AreStepsSoFar raw moves to old after (next ++ (event_at moves from, n) ∷ [])
   steps_more below closure order few = record {
     within = g.within;
     boundary = λ j k early late inside. elim (cases_lt j from) as (λ _. event_at moves j < event_at moves k) [

@@ -1,11 +1,5 @@
 -- Runs of the table of all sets are the traces of the numbered table, and its acceptances are theirs.
-use Rattle.std.proofs.Common.{◌≡◌, ℕ, ◌<◌, true, IsTrue, List, [], ◌∷◌, ◌++◌, length, get_or, refl, sym, subst, ◌∙◌}
-use Rattle.csp_base.specs.Standard.{first_so, second_so, All}
-use Rattle.csp_base.proofs.Standard.{append-nil, append_assoc, get_or_default, and_from}
-use Rattle.csp_tables.specs.Prelude.{IsTrace, IsStableOffer, IsAcceptance, RawTable, RawStep, IsOfferOf, IsMinimalOffer, Node, is_possible, node_at, node_after, is_run, end_of, acceptances_after, IsBreadthFirst, MeetsUpTo, HasAcceptances, IsRisingNode}
-use Rattle.determinise.specs.Determinised.{FollowsTraces, AreDifferentSets}
-use Rattle.determinise.specs.Progress.{set_at, AreNodeSteps, IsNodeOf, AreReachedSets, AreNodesSoFar}
-use Rattle.term_sets.specs.TermSets.{IsSetAfter}
+use Rattle.determinise.proofs.Prelude.{◌≡◌, ℕ, ◌<◌, true, IsTrue, List, [], ◌∷◌, ◌++◌, length, get_or, refl, sym, subst, ◌∙◌, first_so, second_so, All, append-nil, append_assoc, get_or_default, and_from, IsTrace, IsStableOffer, IsAcceptance, RawTable, RawStep, IsOfferOf, IsMinimalOffer, Node, is_possible, node_at, node_after, is_run, end_of, acceptances_after, IsBreadthFirst, MeetsUpTo, HasAcceptances, IsRisingNode, FollowsTraces, AreDifferentSets, set_at, AreNodeSteps, IsNodeOf, AreReachedSets, AreNodesSoFar, IsSetAfter}
 use Rattle.determinise.proofs.Exploring.{move_after, next_after, event_of_move}
 
 -- ---- acceptances of a set are those after its trace

@@ -43,7 +43,9 @@ impl Known {
 
     // Lets all lists go where there is no room for more.
     fn make_room(&mut self, alloc: Global)
-        ensures known { (raw : RawSteps) (sets : List (List ℕ)) → AreKnown raw sets self.old.starts self.old.numbers.items → AreKnown raw sets self.new.starts self.new.numbers.items }
+        ensures known { (raw : RawSteps) (sets : List (List ℕ))
+            → AreKnown raw sets self.old.starts self.old.numbers.items
+            → AreKnown raw sets self.new.starts self.new.numbers.items }
         ensures marks { self.new.marks ≡ self.old.marks }
     {
         if self.room == 0 {
@@ -56,8 +58,11 @@ impl Known {
     // The number of the set of a list, where it is known.
     pub(crate) fn find(&self, starts: &Items<u32>) -> Option<u32>
         requires { length self.now.numbers.items ≡ length self.now.starts }
-        ensures within { (raw : RawSteps) (sets : List (List ℕ)) → AreKnown raw sets self.now.starts self.now.numbers.items → IfSome result (λ n. n < length sets) }
-        ensures set { (raw : RawSteps) (sets : List (List ℕ)) → AreKnown raw sets self.now.starts self.now.numbers.items → IfSome result (λ n. IsSilentClosure raw starts.now (set_at sets n)) }
+        ensures within { (raw : RawSteps) (sets : List (List ℕ))
+            → AreKnown raw sets self.now.starts self.now.numbers.items → IfSome result (λ n. n < length sets) }
+        ensures set { (raw : RawSteps) (sets : List (List ℕ))
+            → AreKnown raw sets self.now.starts self.now.numbers.items
+            → IfSome result (λ n. IsSilentClosure raw starts.now (set_at sets n)) }
     {
         if self.numbers.is_empty() {
             return None;
@@ -76,7 +81,10 @@ impl Known {
         number: u32,
         terms: usize,
     ) -> Result<(), NoMemory>
-        ensures known { (raw : RawSteps) (sets : List (List ℕ)) → AreKnown raw sets self.old.starts self.old.numbers.items → number < length sets → IsSilentClosure raw starts (set_at sets number) → OnOk result (AreKnown raw sets self.new.starts self.new.numbers.items) }
+        ensures known { (raw : RawSteps) (sets : List (List ℕ))
+            → AreKnown raw sets self.old.starts self.old.numbers.items → number < length sets
+            → IsSilentClosure raw starts (set_at sets number)
+            → OnOk result (AreKnown raw sets self.new.starts self.new.numbers.items) }
         ensures marks { self.new.marks ≡ self.old.marks }
     {
         if terms < MANY_TERMS {

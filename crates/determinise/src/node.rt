@@ -29,7 +29,8 @@ pub(crate) fn node_of(
     requires few { length sets.old ≤ MOST_SETS }
     requires ready { IsReady table.now sets.old known.old }
     ensures node { IfOk result (λ node. IsNodeOf table.now sets.new (set_at sets.old place) node) }
-    ensures order { IfOk result (λ node. MeetsInOrder (length sets.old) (targets_of_steps node.next) (length sets.new)) }
+    ensures order { IfOk result (λ node. MeetsInOrder (length sets.old) (targets_of_steps node.next)
+        (length sets.new)) }
     ensures more { AreMoreSets (IsReachedFromSet table.now (set_at sets.old place)) sets.old sets.new }
     ensures few { OnOk result (length sets.new ≤ MOST_SETS) }
     ensures ready { OnOk result (IsReady table.now sets.new known.new) }
@@ -69,7 +70,8 @@ fn next_at(
     requires few { length sets.old ≤ MOST_SETS }
     requires ready { IsReady table.now sets.old known.old }
     ensures steps { IfOk result (λ next. AreStepsOf table.now sets.new (set_at sets.old place) next.items) }
-    ensures order { IfOk result (λ next. MeetsInOrder (length sets.old) (targets_of_steps next.items) (length sets.new)) }
+    ensures order { IfOk result (λ next. MeetsInOrder (length sets.old) (targets_of_steps next.items)
+        (length sets.new)) }
     ensures more { AreMoreSets (IsReachedFromSet table.now (set_at sets.old place)) sets.old sets.new }
     ensures few { OnOk result (length sets.new ≤ MOST_SETS) }
     ensures ready { OnOk result (IsReady table.now sets.new known.new) }

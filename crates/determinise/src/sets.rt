@@ -31,7 +31,8 @@ pub(crate) fn next_steps(
     requires few { length sets.old ≤ MOST_SETS }
     requires ready { IsReady table.now sets.old known.old }
     ensures steps { IfOk result (λ next. AreNodeSteps table.now moves.now sets.new next.items) }
-    ensures order { IfOk result (λ next. MeetsInOrder (length sets.old) (targets_of_steps next.items) (length sets.new)) }
+    ensures order { IfOk result (λ next. MeetsInOrder (length sets.old) (targets_of_steps next.items)
+        (length sets.new)) }
     ensures more { AreMoreSets (IsSomeNextSet table.now moves.now) sets.old sets.new }
     ensures few { OnOk result (length sets.new ≤ MOST_SETS) }
     ensures ready { OnOk result (IsReady table.now sets.new known.new) }
@@ -55,8 +56,10 @@ fn group_end(moves: &[(Event, u32)], at: usize) -> usize
     requires order { IsNonDecreasingBy (λ step. step.0) moves.now }
     ensures past { at < result }
     ensures within { result ≤ length moves.now }
-    ensures same { (k : ℕ) → at ≤ k → k < result → (slice_index_or moves.now k (0, 0)).0 ≡ (slice_index_or moves.now at (0, 0)).0 }
-    ensures above { (k : ℕ) → result ≤ k → k < length moves.now → (slice_index_or moves.now at (0, 0)).0 < (slice_index_or moves.now k (0, 0)).0 }
+    ensures same { (k : ℕ) → at ≤ k → k < result → (slice_index_or moves.now k (0, 0)).0
+        ≡ (slice_index_or moves.now at (0, 0)).0 }
+    ensures above { (k : ℕ) → result ≤ k → k < length moves.now
+        → (slice_index_or moves.now at (0, 0)).0 < (slice_index_or moves.now k (0, 0)).0 }
 {
     for end in at + 1..moves.len() {
         if moves[end].0 != moves[at].0 {

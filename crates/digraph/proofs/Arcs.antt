@@ -1,9 +1,5 @@
 -- What an arc that is added changes, and where arcs begin and end.
-use Rattle.std.proofs.Common.{◌≡◌, ℕ, ◌<◌, ◌==◌, ◌&&◌, ◌||◌, nat_eq, eq-eqb, List, Result, OnOk, OnErr, Ok, Err, ◌∷◌, ◌++◌, length, set, get_or, refl, sym, ap, ◌∙◌, inl, inr, get_or-set_same, get_or-set_other, []}
-use Rattle.csp_base.specs.Standard.{All, AllocError}
-use Rattle.csp_base.specs.Members.{has}
-use Rattle.csp_base.proofs.Standard.{length-set, set-get_or, get_or_past, get_or_read, get_or_default, list_any-append, list_any_at, Any-from_list_any, cases_eq, cases_lt, or_cases, and_parts, eqb-true, ne_eqb, false≢true, nat_eq_equiv, or-false}
-use Rattle.digraph.specs.Digraph.{Digraph, targets_of, has_arc, HasArc, InRange}
+use Rattle.digraph.proofs.Prelude.{◌≡◌, ℕ, ◌<◌, ◌==◌, ◌&&◌, ◌||◌, nat_eq, eq-eqb, List, Result, OnOk, OnErr, Ok, Err, ◌∷◌, ◌++◌, length, set, get_or, refl, sym, ap, ◌∙◌, inl, inr, get_or-set_same, get_or-set_other, [], All, AllocError, has, length-set, set-get_or, get_or_past, get_or_read, get_or_default, list_any-append, list_any_at, Any-from_list_any, cases_eq, cases_lt, or_cases, and_parts, eqb-true, ne_eqb, false≢true, nat_eq_equiv, or-false, Digraph, targets_of, has_arc, HasArc, InRange}
 
 -- an arc begins at a vertex
 pub HasArc-from : (g : Digraph) (v w : ℕ) → HasArc g v w → v < length g

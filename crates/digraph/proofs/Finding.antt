@@ -1,8 +1,5 @@
 -- What is found once each vertex is done.
-use Rattle.std.proofs.Common.{◌≡◌, ◌≢◌, ℕ, ◌<◌, ◌≤◌, List, [], length, map, get_or, refl, ap, ◌∙◌, true, arith}
-use Rattle.std.specs.List.{All}
-use Rattle.csp_base.proofs.Standard.{get_or_default, length-map, get_or-map, count_by-le-length}
-use Rattle.digraph.specs.Prelude.{Mark, New, Open, Done, Digraph, HasArc, IsLongestWalk, AreHeights, AreMarks, IsMarked, mark_at, is_open, is_done, height_of, done_count}
+use Rattle.digraph.proofs.Prelude.{◌≡◌, ◌≢◌, ℕ, ◌<◌, ◌≤◌, List, [], length, map, get_or, refl, ap, ◌∙◌, true, arith, All, get_or_default, length-map, get_or-map, count_by-le-length, Mark, New, Open, Done, Digraph, HasArc, IsLongestWalk, AreHeights, AreMarks, IsMarked, mark_at, is_open, is_done, height_of, done_count}
 
 -- a vertex that is met and not open is done
 done_then : (g : Digraph) (marks : List Mark) (v : ℕ) (m : Mark) → m ≢ New → (is_open m ≡ true → ⊥) → IsMarked g marks v m → IsLongestWalk (HasArc g) v (height_of m) × (height_of m < done_count marks)

@@ -1,8 +1,5 @@
 -- Heights fall along arcs, so no circle has heights.
-use Rattle.std.proofs.Common.{◌≡◌, ℕ, zero, suc, ◌+◌, ◌<◌, ◌≤◌, List, [], ◌∷◌, length, get_or, refl, inl, inr, ◌↔◌, IsTrue, true, nat_eq, eq-eqb, arith}
-use Rattle.csp_base.proofs.Standard.{cases_lt, false≢true, list_any_at}
-use Rattle.csp_base.specs.Members.{has}
-use Rattle.digraph.specs.Prelude.{Digraph, targets_of, HasArc, InRange, Walk, IsLongestWalk, AreHeights, IsCircle}
+use Rattle.digraph.proofs.Prelude.{◌≡◌, ℕ, zero, suc, ◌+◌, ◌<◌, ◌≤◌, List, [], ◌∷◌, length, get_or, refl, inl, inr, ◌↔◌, IsTrue, true, nat_eq, eq-eqb, arith, cases_lt, false≢true, list_any_at, has, Digraph, targets_of, HasArc, InRange, Walk, IsLongestWalk, AreHeights, IsCircle}
 use Rattle.digraph.proofs.Arcs.{HasArc-from}
 use Rattle.digraph.proofs.WalkLaws.{no_longest, first_arc}
 

@@ -1,11 +1,12 @@
-pub mod Listing
 pub mod Arcs
-pub mod WalkLaws
-pub mod HeightLaws
-mod Results
-mod Marks
-mod Trails
-mod Stepping
 mod Finding
-mod Turning
+pub mod HeightLaws
+pub mod Listing
+mod Marks
+pub mod Prelude
 pub mod Reaching
+mod Results
+mod Stepping
+mod Trails
+mod Turning
+pub mod WalkLaws

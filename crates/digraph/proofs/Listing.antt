@@ -1,8 +1,6 @@
 -- A number is listed where std's test finds it, which has its operands the other way round.
-use Rattle.std.proofs.Common.{◌≡◌, ℕ, ◌||◌, nat_eq, List, [], ◌∷◌, refl}
+use Rattle.digraph.proofs.Prelude.{◌≡◌, ℕ, ◌||◌, nat_eq, List, [], ◌∷◌, refl, nat_eq_equiv, has}
 use Rattle.std.specs.Set.{is_member}
-use Rattle.std.proofs.lemmas.Cmp.{nat_eq_equiv}
-use Rattle.csp_base.specs.Members.{has}
 
 pub same_has : (xs : List ℕ) (x : ℕ) → has xs x ≡ is_member nat_eq xs x
 same_has [] x = refl

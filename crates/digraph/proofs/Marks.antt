@@ -1,8 +1,5 @@
 -- One mark changes, of a vertex that is not done.
-use Rattle.std.proofs.Common.{◌≡◌, ◌≢◌, ℕ, ◌+◌, ◌<◌, cond, List, length, set, refl, sym, ap, ◌∙◌, false, true, inl, inr, ◌⊎◌, arith, get_or-set_same, get_or-set_other}
-use Rattle.std.specs.List.{sum_by}
-use Rattle.csp_base.proofs.Standard.{length-set, sum_by-set, cases_eq, false≢true}
-use Rattle.digraph.specs.Prelude.{Mark, New, Open, Done, Digraph, AreMarks, IsMarked, IsTrail, mark_at, is_done, done_count, mark_work}
+use Rattle.digraph.proofs.Prelude.{◌≡◌, ◌≢◌, ℕ, ◌+◌, ◌<◌, cond, List, length, set, refl, sym, ap, ◌∙◌, false, true, inl, inr, ◌⊎◌, arith, get_or-set_same, get_or-set_other, sum_by, length-set, sum_by-set, cases_eq, false≢true, Mark, New, Open, Done, Digraph, AreMarks, IsMarked, IsTrail, mark_at, is_done, done_count, mark_work}
 
 abbrev weight : Mark → ℕ
 weight m = cond (is_done m) 1 0

@@ -1,8 +1,5 @@
 -- The steps of a search: to a new vertex, past a target that is done, and back from a vertex whose targets were all looked at.
-use Rattle.std.proofs.Common.{◌≡◌, ◌≢◌, ℕ, zero, suc, ◌+◌, ◌-◌, ◌^◌, ◌<◌, ◌≤◌, List, [], ◌∷◌, ◌++◌, length, set, take, get_or, max, refl, sym, ap, ◌∙◌, true, inl, inr, arith, below_more}
-use Rattle.std.specs.List.{sum_by}
-use Rattle.csp_base.proofs.Standard.{get_or_default, get_or-le-sum_by, count_by-le-length, cases_lt, false≢true}
-use Rattle.digraph.specs.Prelude.{Mark, New, Open, Done, Search, Digraph, targets_of, HasArc, Walk, IsLongestWalk, AreMarks, IsOpen, IsStep, mark_at, is_open, is_done, done_count, work_left}
+use Rattle.digraph.proofs.Prelude.{◌≡◌, ◌≢◌, ℕ, zero, suc, ◌+◌, ◌-◌, ◌^◌, ◌<◌, ◌≤◌, List, [], ◌∷◌, ◌++◌, length, set, take, get_or, max, refl, sym, ap, ◌∙◌, true, inl, inr, arith, below_more, sum_by, get_or_default, get_or-le-sum_by, count_by-le-length, cases_lt, false≢true, Mark, New, Open, Done, Search, Digraph, targets_of, HasArc, Walk, IsLongestWalk, AreMarks, IsOpen, IsStep, mark_at, is_open, is_done, done_count, work_left}
 use Rattle.digraph.proofs.Arcs.{HasArc-at, place_of_arc}
 use Rattle.digraph.proofs.Marks.{done_then, less_work_then, marks_then}
 use Rattle.digraph.proofs.Trails.{open_within, trail_same, trail_longer, trail_shorter}

@@ -1,7 +1,5 @@
 -- The trail, when the mark of one vertex changes.
-use Rattle.std.proofs.Common.{◌≡◌, ◌≢◌, ℕ, ◌+◌, ◌-◌, ◌<◌, List, [], ◌∷◌, ◌++◌, length, set, take, get_or, refl, sym, ap, ◌∙◌, false, true, inl, inr, ◌⊎◌, arith}
-use Rattle.csp_base.proofs.Standard.{length_push, length-take-le, get_or-take, get_or_append_left, get_or_push, get_or_past, cases_lt, false≢true}
-use Rattle.digraph.specs.Prelude.{Mark, New, Digraph, HasArc, IsTrail, mark_at, is_open}
+use Rattle.digraph.proofs.Prelude.{◌≡◌, ◌≢◌, ℕ, ◌+◌, ◌-◌, ◌<◌, List, [], ◌∷◌, ◌++◌, length, set, take, get_or, refl, sym, ap, ◌∙◌, false, true, inl, inr, ◌⊎◌, arith, length_push, length-take-le, get_or-take, get_or_append_left, get_or_push, get_or_past, cases_lt, false≢true, Mark, New, Digraph, HasArc, IsTrail, mark_at, is_open}
 use Rattle.digraph.proofs.Marks.{mark_then}
 
 -- an open vertex has a mark

@@ -1,6 +1,5 @@
 -- Walks, heights and circles over any relation of arcs.
-use Rattle.std.proofs.Common.{◌≡◌, ℕ, zero, suc, ◌+◌, ◌<◌, ◌≤◌, List, [], ◌∷◌, length, get_or, refl, sym, subst, arith}
-use Rattle.digraph.specs.Prelude.{Walk, Reaches, IsLongestWalk, AreHeights, Leads, IsCircle, HasNoCircle, IsLeastCircle}
+use Rattle.digraph.proofs.Prelude.{◌≡◌, ℕ, zero, suc, ◌+◌, ◌<◌, ◌≤◌, List, [], ◌∷◌, length, get_or, refl, sym, subst, arith, Walk, Reaches, IsLongestWalk, AreHeights, Leads, IsCircle, HasNoCircle, IsLeastCircle}
 
 -- one arc more at the end of a walk
 pub Walk-arc : {V : Type 0} (Arc : V → V → Type 0) (n : ℕ) (x y z : V) → Walk Arc n x y → Arc y z → Walk Arc (suc n) x z

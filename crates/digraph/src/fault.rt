@@ -1,6 +1,6 @@
 //! Why a digraph has no heights.
 
-use circles::Circle;
+use crate::circle::Circle;
 use std::alloc::AllocError;
 
 /// Why a digraph has no heights, or none were found.

@@ -1,13 +1,14 @@
 //! Digraphs as rows of targets: the longest walk from each vertex or a circle, and the vertices that walks reach.
 #![tactic(auto)]
 
+mod circle;
 mod fault;
 mod heights;
 mod reach;
 mod rows;
 mod walks;
 
-pub use circles::Circle;
+pub use circle::Circle;
 pub use fault::Fault;
 pub use heights::Heights;
 pub use reach::reachable_from;

@@ -19,7 +19,8 @@ pub fn reachable_from(
     sources: &[u32],
 ) -> Result<Numbering<u32>, AllocError>
     requires { All (λ v. v < length rows.now) sources.now }
-    ensures members { IfOk result (λ found. (v : ℕ) → IsTrue (has found v) ↔ ReachesFrom (HasArc rows.now) sources.now v) }
+    ensures members { IfOk result (λ found. (v : ℕ)
+        → IsTrue (has found v) ↔ ReachesFrom (HasArc rows.now) sources.now v) }
     ensures distinct { IfOk result (IsDistinct nat_eq) }
     ensures order { IfOk result (λ found. found ≡ found_over rows.now sources.now found) }
     ensures below { IfOk result (All (λ v. v < length rows.now)) }

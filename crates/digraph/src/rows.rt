@@ -64,7 +64,8 @@ impl Rows {
         requires from { from < length self.old }
         requires to { to < length self.old }
         ensures row { OnOk result (self.new ≡ slice_set self.old from (targets_of self.old from ++ to ∷ [])) }
-        ensures arcs { OnOk result ((v w : ℕ) → has_arc self.new v w ≡ (has_arc self.old v w || (v == from && w == to))) }
+        ensures arcs { OnOk result ((v w : ℕ) → has_arc self.new v w
+            ≡ (has_arc self.old v w || (v == from && w == to))) }
         ensures err { OnErr result (self.new ≡ self.old) }
         ensures len { length self.new ≡ length self.old }
     {
@@ -75,7 +76,8 @@ impl Rows {
 // Adds a target at the end of a row.
 fn push_target(rows: &mut Vec<Items<u32>>, from: usize, to: u32) -> Result<(), AllocError>
     requires { from < length rows.old.items }
-    ensures ok { OnOk result (rows.new.items ≡ slice_set rows.old.items from (targets_of rows.old.items from ++ to ∷ [])) }
+    ensures ok { OnOk result (rows.new.items ≡ slice_set rows.old.items from (targets_of rows.old.items from
+        ++ to ∷ [])) }
     ensures err { OnErr result (rows.new.items ≡ rows.old.items) }
     ensures len { length rows.new.items ≡ length rows.old.items }
 {

@@ -1,13 +1,13 @@
 //! The longest walks of a digraph, or a circle where they have no end.
 
 ghost use Rattle.std.specs.Prelude.{◌≡◌, ℕ, ◌+◌, ◌-◌, ◌<◌, ◌≤◌, ◌↔◌, List, [], true, false, length, map, max, slice_index, All, IfOk, OnOk};
-ghost use Rattle.circles.specs.Turn.{IsTurnedFrom};
+ghost use Rattle.digraph.specs.Turn.{IsTurnedFrom};
 ghost use Rattle.digraph.specs.Prelude.{targets_of, HasArc, InRange, IsLongestWalk, AreHeights, HasNoCircle, IsLeastCircle, IsSearch, IsStep, height_of, mark_at};
 
+use crate::circle::circle_from;
 use crate::fault::Fault;
 use crate::heights::Heights;
 use crate::rows::Rows;
-use circles::circle_from;
 use std::alloc::{AllocError, Global};
 
 // How far the search is with a vertex.
@@ -50,15 +50,19 @@ pub fn longest_walks(alloc: Global, rows: &Rows) -> Result<Heights, Fault>
     ensures no_circle { OnOk result (HasNoCircle (HasArc rows.now)) }
 
     // Heights fall along each arc, by one along some arc from each vertex with arcs, and are 0 just where none leaves.
-    ensures falls { IfOk result (λ heights. (v w : ℕ) → HasArc rows.now v w → slice_index heights w < slice_index heights v) }
+    ensures falls { IfOk result (λ heights. (v w : ℕ) → HasArc rows.now v w
+        → slice_index heights w < slice_index heights v) }
     ensures steps { IfOk result (λ heights. (v : ℕ) → v < length rows.now → 0 < slice_index heights v
         → (w : ℕ) × HasArc rows.now v w × (slice_index heights v ≡ slice_index heights w + 1)) }
-    ensures sinks { IfOk result (λ heights. (v : ℕ) → v < length rows.now → (slice_index heights v ≡ 0) ↔ (targets_of rows.now v ≡ [])) }
+    ensures sinks { IfOk result (λ heights. (v : ℕ) → v < length rows.now
+        → (slice_index heights v ≡ 0) ↔ (targets_of rows.now v ≡ [])) }
     ensures below { IfOk result (λ heights. All (λ height. height < length rows.now) heights) }
 
     ensures circle { (vs : List ℕ) → result ≡ Err (Fault.Circle vs) → IsLeastCircle (HasArc rows.now) vs }
-    ensures unbounded { (vs : List ℕ) → result ≡ Err (Fault.Circle vs) → All (λ v. (n : ℕ) → ¬ IsLongestWalk (HasArc rows.now) v n) vs }
-    ensures no_heights { (vs : List ℕ) → result ≡ Err (Fault.Circle vs) → (heights : List ℕ) → ¬ AreHeights (HasArc rows.now) (length rows.now) heights }
+    ensures unbounded { (vs : List ℕ) → result ≡ Err (Fault.Circle vs)
+        → All (λ v. (n : ℕ) → ¬ IsLongestWalk (HasArc rows.now) v n) vs }
+    ensures no_heights { (vs : List ℕ) → result ≡ Err (Fault.Circle vs) → (heights : List ℕ)
+        → ¬ AreHeights (HasArc rows.now) (length rows.now) heights }
 {
     let heights = find_heights(alloc, rows)?;
     Ok(heights)
@@ -178,7 +182,8 @@ impl Search {
         requires search { IsSearch rows.now self.old }
         requires vertex { w < length rows.now }
         requires new { mark_at self.old.marks.items w ≡ Mark.New }
-        requires follows { (k : ℕ) → k + 1 ≡ length self.old.trail.items → HasArc rows.now (slice_index self.old.trail.items k) w }
+        requires follows { (k : ℕ) → k + 1 ≡ length self.old.trail.items
+            → HasArc rows.now (slice_index self.old.trail.items k) w }
         ensures { OnOk result (IsStep rows.now self.old self.new) }
     {
         self.trail.push(w)?;

@@ -3,7 +3,7 @@
 ghost use Rattle.std.specs.Prelude.{◌≡◌, ◌<◌, ◌^◌};
 ghost use Rattle.dl_outside.specs.FaultPlan.{new_plan, fails_next, after_call};
 
-use crate::count::raised;
+use crate::count::raise;
 use std::marker::Model;
 
 /// The numbers of the calls that are to fail, and how many calls there were and failed.
@@ -47,7 +47,7 @@ impl PlannedFaults {
         // The count stops at `u32::MAX`: a plan that names it would fail for ever, so no call of that number fails.
         let fails = self.calls < u32::MAX && self.failing.contains(&self.calls);
         if fails {
-            self.fault_count = raised(self.fault_count);
+            self.fault_count = raise(self.fault_count);
         }
         fails
     }

@@ -4,7 +4,7 @@ ghost use Rattle.std.specs.Prelude.{◌≡◌, ◌≢◌, ◌≤◌, ◌⊎◌, 
 ghost use Rattle.std.specs.Str.{IsUtf8};
 ghost use Rattle.dl_outside.specs.Prelude.{one_more, FileAnswers, GaveFile, OpenAnswers, ReadAnswers, ReadsOn};
 
-use crate::count::raised;
+use crate::count::raise;
 use crate::shelf::{LoadFault, Shelf};
 use csp_base::Bytes;
 use std::alloc::Global;
@@ -46,13 +46,13 @@ fn open_file<R: Files>(files: &R, name: &[u8], faults: &mut u64) -> Result<R::Fi
     ensures no_text { ¬ (IsUtf8 name.now) → result ≡ Err LoadFault.Missing }
 {
     let Ok(path) = str::from_utf8(name) else {
-        *faults = raised(*faults);
+        *faults = raise(*faults);
         return Err(LoadFault::Missing);
     };
     match File::open(files, path) {
         Ok(file) => Ok(file),
         Err(error) => {
-            *faults = raised(*faults);
+            *faults = raise(*faults);
             Err(fault_of(error.kind()))
         }
     }
@@ -70,12 +70,12 @@ fn fault_of(kind: ErrorKind) -> LoadFault
 }
 
 /// Counts a fault: a read failed, or gave more bytes than are counted.
-fn failed(faults: &mut u64) -> LoadFault
+fn count_failure(faults: &mut u64) -> LoadFault
     ensures fault { result ≡ LoadFault.Failed }
     ensures counted { faults.new ≡ one_more faults.old }
     ensures never_falls { faults.old ≤ faults.new }
 {
-    *faults = raised(*faults);
+    *faults = raise(*faults);
     LoadFault::Failed
 }
 
@@ -94,7 +94,7 @@ fn read_piece<R: Read>(
     let mut piece = [0u8; 4096];
     match reader.read(&mut piece) {
         Ok(count) => append(&piece[..count], text, faults, taken),
-        Err(_) => Err(failed(faults)),
+        Err(_) => Err(count_failure(faults)),
     }
 }
 
@@ -111,7 +111,7 @@ fn append(
     ensures never_falls { faults.old ≤ faults.new }
 {
     let Some(counted) = taken.checked_add(piece.len() as u64) else {
-        return Err(failed(faults));
+        return Err(count_failure(faults));
     };
     *taken = counted;
     text.extend_from_slice(piece)?;

@@ -3,7 +3,7 @@
 ghost use Rattle.std.specs.Prelude.{◌≡◌, ◌+◌, ◌≤◌, ◌∷◌, length, None, IfSome, IfNone};
 ghost use Rattle.dl_outside.specs.QuietShelf.{HasNoNext, QuietAnswers, TurnsTo};
 
-use crate::count::raised;
+use crate::count::raise;
 use crate::shelf::{LoadFault, Shelf};
 use csp_base::Bytes;
 use std::alloc::Global;
@@ -66,7 +66,7 @@ impl Shelf for QuietShelf {
     {
         match take_next(&mut self.answers, &mut self.taken_count) {
             None => {
-                self.fault_count = raised(self.fault_count);
+                self.fault_count = raise(self.fault_count);
                 Err(LoadFault::Failed)
             }
             Some(text) if text.len() > limit as usize => Err(LoadFault::TooLong),

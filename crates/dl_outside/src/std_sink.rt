@@ -3,7 +3,7 @@
 ghost use Rattle.std.specs.Prelude.{◌≡◌, ◌≤◌, length, None};
 ghost use Rattle.dl_outside.specs.StdSink.{PrintAnswers};
 
-use crate::count::raised;
+use crate::count::raise;
 use crate::sink::{Sink, SinkFault};
 use std::marker::Model;
 
@@ -68,7 +68,7 @@ impl<P: Print> Sink for StdSink<'_, P> {
     {
         let printed = print_bytes(self.output, piece);
         if printed < piece.len() {
-            self.fault_count = raised(self.fault_count);
+            self.fault_count = raise(self.fault_count);
         }
         if printed == 0 && !piece.is_empty() {
             return Err(SinkFault::Failed);

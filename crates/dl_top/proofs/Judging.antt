@@ -1,33 +1,14 @@
 -- What was read of texts is what they call for.
-use Rattle.std.proofs.Common.{◌≡◌, ℕ, List, Result, IfErr, IfOk, inl, inr, refl, sym, ap, subst}
-use Rattle.std.specs.Result.{IsErrAnd}
-use Rattle.std.proofs.lemmas.Result.{IfErr-weaker, IfOk-weaker, err_from_is_err_and}
-use Rattle.command_words.specs.declared.request.Job.{Job}
-use Rattle.command_words.specs.declared.request.Job.TheVariants.{Livelock}
-use Rattle.comparison.specs.Compared.{IsCompared}
+use Rattle.dl_top.proofs.Prelude.{◌≡◌, ℕ, List, Result, IfErr, IfOk, inl, inr, refl, sym, ap, subst, IsErrAnd, IfErr-weaker, IfOk-weaker, err_from_is_err_and, Job, Livelock, IsCompared, Script, EachTextSpellsOneScript, Spells, IsBounded, IsNetworkOf, Network, HasNoNetwork, weaker, Tells, Stop, Answers, Ends, Halt, Answer, Done, Side, Verdict, IsDecided, NetworkDecides, SpellsNoNetwork, SpellsNoScript, SpellsOnlyNetwork, SpellsOnlyScript, TextCallsFor, TextIsShown, TextsCompare, no_script}
 use Rattle.csp_text.specs.Prelude.{IfNoScript}
 use Rattle.csp_text.specs.declared.fault.ParseFault.{ParseFault}
-use Rattle.csp_text.specs.declared.script.Script.{Script}
 use Rattle.csp_text.specs.declared.fault.ParseFault.TheVariants as fault
 use Rattle.csp_parser.specs.Places.{IsPlaceOf}
-use Rattle.csp_parser.specs.Spells.{EachTextSpellsOneScript, Spells}
 use Rattle.csp_program.specs.declared.programs.Content.{Content}
 use Rattle.judgement.proofs.OneNetwork.{one_network}
-use Rattle.livelock.specs.Bounded.{IsBounded}
-use Rattle.network_stages.specs.Prelude.{IsNetworkOf, Network, HasNoNetwork}
-use Rattle.report.proofs.Points.{weaker}
-use Rattle.csp_base.specs.Prelude.{Tells}
-use Rattle.csp_base.specs.declared.stop.Stop.{Stop}
-use Rattle.report.specs.Prelude.{Answers, Ends}
-use Rattle.report.specs.declared.stop.Halt.{Halt}
-use Rattle.report.specs.declared.answer.Answer.{Answer}
-use Rattle.report.specs.declared.answer.Done.{Done}
-use Rattle.report.specs.declared.answer.Side.{Side}
-use Rattle.report.specs.declared.answer.Verdict.{Verdict}
 use Rattle.report.specs.declared.answer.Answer.TheVariants as answer
 use Rattle.report.specs.declared.answer.Side.TheVariants as side
 use Rattle.dl_top.proofs.Walks.{at_end}
-use Rattle.dl_top.specs.Prelude.{IsDecided, NetworkDecides, SpellsNoNetwork, SpellsNoScript, SpellsOnlyNetwork, SpellsOnlyScript, TextCallsFor, TextIsShown, TextsCompare, no_script}
 
 -- ---- one text
 

@@ -1,32 +1,15 @@
 -- Texts that are loaded one after another, and the reply for which they call.
-use Rattle.std.proofs.Common.{◌≡◌, ◌≤◌, ℕ, List, [], ◌∷◌, Option, None, Some, Result, Ok, Err, IfNone, IfSome, inl, inr, refl, sym, ap, subst, ◌∙◌, arith}
-use Rattle.std.specs.Prelude.{length}
-use Rattle.std.specs.Result.{IsErrAnd}
-use Rattle.std.proofs.lemmas.Option.{same_Some}
-use Rattle.command_words.specs.Prelude.{Asks, IsNoRequest, names, trial_of}
-use Rattle.command_words.specs.declared.request.Request.{Request}
-use Rattle.command_words.specs.declared.request.Trial.{Trial}
+use Rattle.dl_top.proofs.Prelude.{◌≡◌, ◌≤◌, ℕ, List, [], ◌∷◌, Option, None, Some, Result, Ok, Err, IfNone, IfSome, inl, inr, refl, sym, ap, subst, ◌∙◌, arith, length, IsErrAnd, same_Some, Asks, IsNoRequest, names, trial_of, Request, Trial, MOST_BYTES, Counts, HasRisen, AnswersTold, LoadAnswers, text_of, NamedText, weaker, status, Ends, IsEnd, Answer, Side, Tells, Stop, CallsFor, HoldsAll, HoldsAllNamed, IsLoad, Loaded, LoadsHeld, MayGive, Replies, TellsLoad, TextsCallFor, HoldWithin, HaveGiven, IsUnloaded, plain, reply_status, Reply}
 use Rattle.command_words.proofs.AskOnce.{words_ask_once}
 use Rattle.command_words.specs.declared.request.Request.TheVariants as request
-use Rattle.dl_limits.specs.declared.TheConstants.{MOST_BYTES}
-use Rattle.dl_outside.specs.Prelude.{Counts, HasRisen, AnswersTold, LoadAnswers, text_of}
 use Rattle.dl_outside.specs.declared.shelf.LoadFault.{LoadFault}
 use Rattle.dl_outside.specs.declared.shelf.LoadFault.TheVariants.{Missing, TooLong, Failed, NoMemory}
-use Rattle.dl_outside.specs.declared.texts.NamedText.{NamedText}
-use Rattle.report.proofs.Points.{weaker}
-use Rattle.report.specs.Prelude.{status, Ends, IsEnd}
-use Rattle.report.specs.declared.answer.Answer.{Answer}
 use Rattle.report.specs.declared.answer.OutsideFault.{OutsideFault}
-use Rattle.report.specs.declared.answer.Side.{Side}
-use Rattle.csp_base.specs.Prelude.{Tells}
-use Rattle.csp_base.specs.declared.stop.Stop.{Stop}
 use Rattle.report.specs.declared.answer.Answer.TheVariants as answer
 use Rattle.report.specs.declared.answer.Side.TheVariants as side
 use Rattle.report.specs.declared.answer.Verdict.TheVariants as verdict
 use Rattle.dl_top.proofs.Promising.{IsInside, inside}
 use Rattle.dl_top.proofs.Walks.{at_end, is_end}
-use Rattle.dl_top.specs.Prelude.{CallsFor, HoldsAll, HoldsAllNamed, IsLoad, Loaded, LoadsHeld, MayGive, Replies, TellsLoad, TextsCallFor, HoldWithin, HaveGiven, IsUnloaded, plain, reply_status}
-use Rattle.dl_top.specs.declared.reply.Reply.{Reply}
 
 -- ---- one load
 

@@ -1,11 +1,8 @@
 -- Pieces that are sent one after another.
-use Rattle.std.proofs.Common.{◌≡◌, ℕ, ◌+◌, ◌-◌, ◌≤◌, List, ◌++◌, length, take, drop, Option, None, Some, Ok, Err, sym, ◌∙◌, ap, arith, subst, append_assoc, length-drop}
-use Rattle.csp_base.proofs.Standard.{take-append-drop, length-take-le, take_rest, take-append-add}
+use Rattle.dl_top.proofs.Prelude.{◌≡◌, ℕ, ◌+◌, ◌-◌, ◌≤◌, List, ◌++◌, length, take, drop, Option, None, Some, Ok, Err, sym, ◌∙◌, ap, arith, subst, append_assoc, length-drop, take-append-drop, length-take-le, take_rest, take-append-add, GrowsBy, WriteAnswers, GrowsByFront}
 use Rattle.std.specs.Option.{option_map}
-use Rattle.dl_outside.specs.Prelude.{GrowsBy, WriteAnswers}
 use Rattle.dl_outside.specs.declared.sink.SinkFault.{SinkFault}
 use Rattle.dl_outside.specs.declared.sink.SinkFault.TheVariants.{Failed, NoMemory}
-use Rattle.dl_top.specs.Ending.{GrowsByFront}
 
 -- a front in two parts
 take_two : (n k : ℕ) (xs : List ℕ) → n ≤ length xs → take (n + k) xs ≡ take n xs ++ take k (drop n xs)

@@ -1,14 +1,5 @@
 -- Walks that end with an answer: where they stop, and to what they come.
-use Rattle.std.proofs.Common.{◌≡◌, Result, Ok, Err, IfOk, sym, subst}
-use Rattle.std.specs.Result.{IsErrAnd}
-use Rattle.std.proofs.lemmas.Result.{IfOk-weaker, err_from_is_err_and}
-use Rattle.report.proofs.Points.{weaker}
-use Rattle.csp_base.specs.Prelude.{Tells}
-use Rattle.csp_base.specs.declared.stop.Stop.{Stop}
-use Rattle.report.specs.Prelude.{Answers, Ends, IsEnd, IsVerdict}
-use Rattle.report.specs.declared.stop.Halt.{Halt}
-use Rattle.report.specs.declared.answer.Done.{Done}
-use Rattle.report.specs.declared.answer.Verdict.{Verdict}
+use Rattle.dl_top.proofs.Prelude.{◌≡◌, Result, Ok, Err, IfOk, sym, subst, IsErrAnd, IfOk-weaker, err_from_is_err_and, weaker, Tells, Stop, Answers, Ends, IsEnd, IsVerdict, Halt, Done, Verdict}
 use Rattle.csp_base.specs.declared.stop.Stop.TheVariants as stop
 use Rattle.report.specs.declared.stop.Halt.TheVariants as halt
 

@@ -22,14 +22,14 @@ use containers::Key;
 use csp_base::{NoMemory, Stop};
 use csp_parser::{each_text_spells_one_script, read};
 use csp_text::{ParseFault, Script};
-use judgement::judged;
+use judgement::judge_by;
 use livelock::bounded;
 use network_stages::{Spelled, spell_network};
-use network_walks::walked;
+use network_walks::walk_network;
 use report::{Answer, Done, Halt, Side, TextFault, ended, finished};
 use script_printer::print_script;
 use std::alloc::Global;
-use tabulation::tabulated;
+use tabulation::tabulate;
 
 // Why a walk stops at a text of this side that is no script.
 fn unread(side: Side, fault: ParseFault) -> Stop<Answer>
@@ -70,13 +70,13 @@ fn spell(alloc: Global, side: Side, text: &[u8]) -> Result<Spelled, Stop<Answer>
 }
 
 // What a network decides with which this is to be done.
-fn decided(alloc: Global, job: &Job, network: &Spelled) -> Result<Done, Halt>
+fn decide_job(alloc: Global, job: &Job, network: &Spelled) -> Result<Done, Halt>
     ensures { Answers (NetworkDecides job.now network.now) result }
 {
     match job {
-        Job::Check(rule) => judged(alloc, *rule, network),
-        Job::Table(index) => tabulated(alloc, *index, network),
-        Job::Run { seed, steps } => walked(alloc, network, *seed, *steps),
+        Job::Check(rule) => judge_by(alloc, *rule, network),
+        Job::Table(index) => tabulate(alloc, *index, network),
+        Job::Run { seed, steps } => walk_network(alloc, network, *seed, *steps),
         Job::Livelock(set) => bounded(alloc, network, set.as_slice()),
     }
 }
@@ -87,7 +87,7 @@ fn text_decided(alloc: Global, job: &Job, text: &[u8]) -> Result<Answer, Stop<An
     ensures { Ends (TextCallsFor text.now job.now) result }
 {
     let network = spell(alloc, Side::Script, text)?;
-    let verdict = finished(decided(alloc, job, &network))?;
+    let verdict = finished(decide_job(alloc, job, &network))?;
     Ok(Answer::Decided(network.into_program(), verdict))
 }
 

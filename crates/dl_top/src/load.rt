@@ -24,7 +24,7 @@ use report::{Answer, OutsideFault, Side, TextFault, ended};
 use std::alloc::Global;
 
 // How it is told that the text of this side can't be loaded.
-fn unloaded(side: Side, fault: LoadFault) -> Stop<Answer>
+fn load_fault(side: Side, fault: LoadFault) -> Stop<Answer>
     ensures { Tells (TellsLoad side fault) result }
 {
     match fault {
@@ -50,12 +50,12 @@ fn load<S: Shelf>(
 {
     match shelf.load(alloc, name, MOST_BYTES) {
         Ok(text) => Ok(text),
-        Err(fault) => Err(unloaded(side, fault)),
+        Err(fault) => Err(load_fault(side, fault)),
     }
 }
 
 // The answer to a request to show the script of this name.
-fn shown<S: Shelf>(alloc: Global, name: &[u8], shelf: &mut S) -> Result<Answer, Stop<Answer>>
+fn answer_show<S: Shelf>(alloc: Global, name: &[u8], shelf: &mut S) -> Result<Answer, Stop<Answer>>
     ensures calls { Ends (Loaded (IsLoad S.texts S.counts S.gives) side.Script shelf.old shelf.new
         (name.now ∷ []) (TextsCallFor (asking.Show name.now))) result }
     ensures texts_stay { S.texts shelf.new ≡ S.texts shelf.old }
@@ -67,7 +67,7 @@ fn shown<S: Shelf>(alloc: Global, name: &[u8], shelf: &mut S) -> Result<Answer, 
 }
 
 // The answer to a request to do this with the network of the script of this name.
-fn scripted<S: Shelf>(
+fn answer_script<S: Shelf>(
     alloc: Global,
     job: &Job,
     name: &[u8],
@@ -102,7 +102,7 @@ fn conforming<S: Shelf>(
 }
 
 // The answer to a trial.
-fn tried(alloc: Global, trial: Trial) -> Result<Answer, Stop<Answer>>
+fn answer_trial(alloc: Global, trial: Trial) -> Result<Answer, Stop<Answer>>
     ensures { Ends (TextsCallFor (asking.Trial trial) []) result }
 {
     let text = family_script(alloc, trial.family, trial.size)?;
@@ -111,7 +111,7 @@ fn tried(alloc: Global, trial: Trial) -> Result<Answer, Stop<Answer>>
 }
 
 // The answer to a request. Nothing is loaded where it names no script.
-fn answered<S: Shelf>(
+fn answer_request<S: Shelf>(
     alloc: Global,
     request: &Request,
     shelf: &mut S,
@@ -123,9 +123,9 @@ fn answered<S: Shelf>(
     ensures never_fall { NeverFall (S.counts shelf.old) (S.counts shelf.new) }
 {
     match request {
-        Request::Show(name) => shown(alloc, name.as_slice(), shelf),
-        Request::Script(job, name) => scripted(alloc, job, name.as_slice(), shelf),
-        Request::Trial(trial) => tried(alloc, *trial),
+        Request::Show(name) => answer_show(alloc, name.as_slice(), shelf),
+        Request::Script(job, name) => answer_script(alloc, job, name.as_slice(), shelf),
+        Request::Trial(trial) => answer_trial(alloc, *trial),
         Request::Conform(script, specification) => {
             conforming(alloc, script.as_slice(), specification.as_slice(), shelf)
         }
@@ -147,7 +147,7 @@ fn reply_to<S: Shelf>(alloc: Global, words: &Words, shelf: &mut S) -> Result<Rep
         });
     };
     let trial = request.trial();
-    match ended(answered(alloc, &request, shelf)) {
+    match ended(answer_request(alloc, &request, shelf)) {
         Ok(answer) => Ok(Reply { trial, answer }),
         Err(error) => Err(error),
     }

@@ -1,13 +1,8 @@
 -- Steps in lists: where they stand, the rows of incoming steps, and steps that are gathered.
-use Rattle.std.proofs.Common.{◌≡◌, ℕ, zero, suc, ◌+◌, ◌<◌, inl, inr, List, [], ◌∷◌, length, get_or, Bool, true, false, ◌||◌, ◌&&◌, nat_eq, refl, sym, ap, ◌∙◌, subst, arith}
-use Rattle.std.specs.Prelude.{◌↔◌}
-use Rattle.csp_base.specs.Standard.{All, Contains, IsPermutation}
-use Rattle.csp_base.proofs.Standard.{cases_eq, or_cases, or_left, or_right, and_parts, and_from, eqb-true, eq-eqb, ne_eqb, false≢true, Contains-permutation, IsPermutation-sym}
-use Rattle.csp_tables.specs.Table.{Node, node_at, is_possible, target, node_after}
-use Rattle.equal_futures.specs.Future.{StepsRise, NodesRise}
-use Rattle.equal_futures.specs.Arrows.{has_arrow, AreFrom, AreAdded, AreIncoming}
+use Rattle.equal_futures.proofs.Prelude.{◌≡◌, ℕ, zero, suc, ◌+◌, ◌<◌, inl, inr, List, [], ◌∷◌, length, get_or, Bool, true, false, ◌||◌, ◌&&◌, nat_eq, refl, sym, ap, ◌∙◌, subst, arith, ◌↔◌, Contains, IsPermutation, cases_eq, or_cases, or_left, or_right, and_parts, eqb-true, eq-eqb, ne_eqb, false≢true, Contains-permutation, IsPermutation-sym, Node, node_at, is_possible, target, node_after, StepsRise, NodesRise, has_arrow, AreFrom, AreAdded, AreIncoming, same_tests}
+use Rattle.csp_base.specs.Standard.{All}
+use Rattle.csp_base.proofs.Standard.{and_from}
 use Rattle.equal_futures.proofs.RowLists.{once}
-use Rattle.csp_base.proofs.Booleans.{same_tests}
 
 -- where a step stands
 pub step_place : (steps : List (ℕ × ℕ)) (e i : ℕ) → has_arrow steps e i ≡ true → (k : ℕ) × (k < length steps) × ((get_or steps k (0, 0)).0 ≡ e) × ((get_or steps k (0, 0)).1 ≡ i)

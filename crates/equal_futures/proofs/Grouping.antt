@@ -1,13 +1,7 @@
 -- Steps that are sorted by event are taken group by group, each event once.
-use Rattle.std.proofs.Common.{◌≡◌, ℕ, zero, suc, ◌+◌, ◌-◌, ◌<◌, ◌≤◌, inl, inr, List, [], ◌∷◌, length, get_or, take, drop, true, nat_eq, refl, sym, ap, ◌∙◌, subst, arith}
-use Rattle.std.specs.Prelude.{◌↔◌}
-use Rattle.csp_base.specs.Standard.{All, IsNonDecreasingBy, IsPermutation}
-use Rattle.csp_base.proofs.Standard.{cases_lt, or_cases, or_left, or_right, eqb-true, eq-eqb, false≢true, length-take-le, length-drop, get_or-take, get_or-drop}
-use Rattle.equal_futures.specs.Arrows.{IsSplitByEvents, AreFrom, has_arrow, event_at}
-use Rattle.partitions.specs.Blocks.{State, HasBlocks, IsCalm, IsOnward, IsSplit, block_at, is_source}
-use Rattle.partitions.proofs.Splitting.{onward_trans}
+use Rattle.equal_futures.proofs.Prelude.{◌≡◌, ℕ, zero, suc, ◌+◌, ◌-◌, ◌<◌, ◌≤◌, inl, inr, List, [], ◌∷◌, length, get_or, take, drop, true, nat_eq, refl, sym, ap, ◌∙◌, subst, arith, ◌↔◌, IsNonDecreasingBy, IsPermutation, cases_lt, or_cases, or_left, or_right, eqb-true, eq-eqb, false≢true, length-take-le, length-drop, get_or-take, get_or-drop, IsSplitByEvents, AreFrom, has_arrow, event_at, State, HasBlocks, IsCalm, IsOnward, IsSplit, block_at, is_source, onward_trans, same_tests}
+use Rattle.csp_base.specs.Standard.{All}
 use Rattle.equal_futures.proofs.Gathering.{step_place, step_at, permuted, all_sources}
-use Rattle.csp_base.proofs.Booleans.{same_tests}
 
 -- the events before a place are done, and don't come again
 pub record AreSplitUpTo (n : ℕ) (s t : State) (steps : List (ℕ × ℕ)) (from : ℕ) : Type 0 where

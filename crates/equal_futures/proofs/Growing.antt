@@ -1,6 +1,5 @@
 -- How many numbers are seen.
-use Rattle.std.proofs.Common.{ℕ, ◌+◌, ◌≤◌, inl, inr, List, [], ◌∷◌, length, arith}
-use Rattle.equal_futures.specs.Future.{SeenInOrder}
+use Rattle.equal_futures.proofs.Prelude.{ℕ, ◌+◌, ◌≤◌, inl, inr, List, [], ◌∷◌, length, arith, SeenInOrder}
 
 -- no more numbers than places
 pub few_seen : (seen : ℕ) (xs : List ℕ) (count : ℕ) → SeenInOrder seen xs count → count ≤ seen + length xs

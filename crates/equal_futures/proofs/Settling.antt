@@ -1,18 +1,9 @@
 -- Refinement by splitters: between two splitters the partition is stable under each block that doesn't wait.
-use Rattle.std.proofs.Common.{◌≡◌, ℕ, ◌<◌, inl, inr, List, [], length, get_or, true, false, ◌&&◌, nat_eq, nat_lt, refl, sym, ap, ◌∙◌, subst}
-use Rattle.std.specs.Prelude.{slice_index, slice_index_or, ◌↔◌}
-use Rattle.std.specs.List.{All}
-use Rattle.csp_base.proofs.Standard.{cases_eq, eqb-true, eq-eqb, lt-ltb, ltb-true, and_parts, both_ways, get_or_default}
+use Rattle.equal_futures.proofs.Prelude.{◌≡◌, ℕ, ◌<◌, inl, inr, List, [], length, get_or, true, false, ◌&&◌, nat_eq, nat_lt, refl, sym, ap, ◌∙◌, subst, slice_index, slice_index_or, ◌↔◌, All, cases_eq, eqb-true, eq-eqb, lt-ltb, ltb-true, and_parts, get_or_default, Node, node_at, is_possible, node_after, AreAllFrom, IsSplitByBlock, IsSplitByMarks, HaveEqualFuture, AreFutureClasses, NodesRise, AreRenumbered, IsSplitByEvents, AreMarkSteps, AreIncoming, AreGathered, AreFrom, has_arrow, State, HasBlocks, IsCalm, IsWhole, IsTaken, block_at, waits, same_tests}
+use Rattle.csp_base.proofs.Standard.{both_ways}
 use Rattle.csp_base.specs.Members.{has}
-use Rattle.csp_tables.specs.Table.{Node, node_at, is_possible, node_after}
-use Rattle.equal_futures.specs.Splits.{AreAllFrom, IsSplitByBlock, IsSplitByMarks}
-use Rattle.equal_futures.specs.Future.{HaveEqualFuture, AreFutureClasses, NodesRise}
-use Rattle.equal_futures.specs.Renumbered.{AreRenumbered}
-use Rattle.equal_futures.specs.Arrows.{IsSplitByEvents, AreMarkSteps, AreIncoming, AreGathered, AreFrom, has_arrow}
-use Rattle.partitions.specs.Blocks.{State, HasBlocks, IsCalm, IsWhole, IsTaken, block_at, waits}
 use Rattle.equal_futures.proofs.RowLists.{target_below}
 use Rattle.equal_futures.proofs.Futures.{same_marks, same_events, future_after, AreStable, future_from_stable}
-use Rattle.csp_base.proofs.Booleans.{same_tests}
 use Rattle.csp_base.proofs.Listed.{any_of, has_at, any_member}
 
 pub future_sym : (nodes : List Node) (marks : List ℕ) (i j : ℕ) → HaveEqualFuture nodes marks i j → HaveEqualFuture nodes marks j i

@@ -41,7 +41,8 @@ fn split_by_marks(alloc: Global, marks: &[u32], partition: &mut Partition) -> Re
     requires blocks { HasBlocks (count_of partition.old) (state_of partition.old) }
     requires calm { IsCalm (state_of partition.old) }
     requires marks { length marks.now ≡ count_of partition.old }
-    ensures { OnOk result (IsSplitByMarks (count_of partition.old) (state_of partition.old) (state_of partition.new) marks.now) }
+    ensures { OnOk result (IsSplitByMarks (count_of partition.old) (state_of partition.old)
+        (state_of partition.new) marks.now) }
 {
     let mut steps = with_marks(alloc, marks)?;
     split_by_events(alloc, partition, &mut steps)
@@ -60,7 +61,8 @@ fn split_by_block(
     requires block { block < length partition.old.firsts.items }
     requires rows { length rows.now ≡ count_of partition.old }
     requires sources { AreAllFrom (count_of partition.old) rows.now }
-    ensures { OnOk result (IsSplitByBlock (count_of partition.old) (state_of partition.old) (state_of partition.new) rows.now block) }
+    ensures { OnOk result (IsSplitByBlock (count_of partition.old) (state_of partition.old)
+        (state_of partition.new) rows.now block) }
 {
     let mut steps = entering(alloc, rows, partition.members(block))?;
     split_by_events(alloc, partition, &mut steps)
@@ -131,7 +133,8 @@ fn split_by_events(
     requires blocks { HasBlocks (count_of partition.old) (state_of partition.old) }
     requires calm { IsCalm (state_of partition.old) }
     requires sources { AreFrom (count_of partition.old) steps.old.items }
-    ensures { OnOk result (IsSplitByEvents (count_of partition.old) (state_of partition.old) (state_of partition.new) steps.old.items) }
+    ensures { OnOk result (IsSplitByEvents (count_of partition.old) (state_of partition.old)
+        (state_of partition.new) steps.old.items) }
 {
     steps.sort_unstable_by_key(|step| step.0);
     split_by_groups(alloc, partition, steps.as_slice())?;
@@ -148,7 +151,8 @@ fn split_by_groups(
     requires calm { IsCalm (state_of partition.old) }
     requires sources { AreFrom (count_of partition.old) steps.now }
     requires sorted { IsNonDecreasingBy (λ step. step.0) steps.now }
-    ensures { OnOk result (IsSplitByEvents (count_of partition.old) (state_of partition.old) (state_of partition.new) steps.now) }
+    ensures { OnOk result (IsSplitByEvents (count_of partition.old) (state_of partition.old)
+        (state_of partition.new) steps.now) }
 {
     let mut from = 0;
     while from < steps.len() {

@@ -1,14 +1,5 @@
 -- How many events channels have, counted to the end of a type, and those of the channels that are left.
-use Rattle.std.proofs.Common.{◌≡◌, ℕ, zero, suc, ◌+◌, ◌*◌, ◌<◌, ◌≤◌, min, Ok, Err, List, [], ◌∷◌, ◌++◌, length, length-append, map, replicate, drop, get_or, ap, sym, ◌∙◌, arith}
-use Rattle.std.specs.Prelude.{Result, Some, IfOk, OnOk, slice_get}
-use Rattle.csp_base.proofs.Standard.{get_or_from_slice_get, slice_get_within, sum_by-cons}
-use Rattle.csp_atoms.specs.declared.atom.Atom.{Atom}
-use Rattle.csp_program.specs.Prelude.{row_count}
-use Rattle.csp_program.specs.declared.programs.Channel.{Channel}
-use Rattle.event_tables.specs.declared.sets.SharedSets.{SharedSets}
-use Rattle.event_tables.specs.Spread.{events_left, spread}
-use Rattle.script_names.specs.Resolved.{all_events}
-use Rattle.csp_base.proofs.Lists.{drop_read}
+use Rattle.event_tables.proofs.Prelude.{◌≡◌, ℕ, zero, suc, ◌+◌, ◌*◌, ◌<◌, ◌≤◌, min, Ok, Err, List, [], ◌∷◌, ◌++◌, length, length-append, map, replicate, drop, get_or, ap, sym, ◌∙◌, arith, Result, Some, IfOk, OnOk, slice_get, get_or_from_slice_get, slice_get_within, sum_by-cons, Atom, row_count, Channel, SharedSets, events_left, spread, all_events, drop_read}
 
 pub events_of_copies : (n : ℕ) (sets : List (List Atom)) (rest : List (List (List Atom))) → all_events (replicate n sets ++ rest) ≡ n * row_count sets + all_events rest
 events_of_copies zero sets rest = omega arith

@@ -1,10 +1,5 @@
 -- The lists that take one value from each set, made from the first set on.
-use Rattle.std.proofs.Common.{◌≡◌, ℕ, ◌+◌, ◌<◌, ◌≤◌, List, [], ◌∷◌, ◌++◌, length, map, drop, get_or, refl, sym, ap, ◌∙◌, arith, append_assoc}
-use Rattle.csp_base.proofs.Standard.{drop_of_length-le, append-nil, map-append}
-use Rattle.csp_atoms.specs.declared.atom.Atom.{Atom}
-use Rattle.csp_program.specs.Prelude.{row_count, rows, joined}
-use Rattle.event_tables.specs.Spread.{extended}
-use Rattle.csp_base.proofs.Lists.{drop_read}
+use Rattle.event_tables.proofs.Prelude.{◌≡◌, ℕ, ◌+◌, ◌<◌, ◌≤◌, List, [], ◌∷◌, ◌++◌, length, map, drop, get_or, refl, sym, ap, ◌∙◌, arith, append_assoc, drop_of_length-le, append-nil, map-append, Atom, row_count, rows, joined, extended, drop_read}
 
 abbrev Row : Type 0
 Row = List Atom

@@ -25,16 +25,17 @@ pub fn fill_events(
 ) -> Result<(), NoMemory>
     requires channels { length content.old.channels ≤ MOST_BYTES }
     requires events { meant.all_events (spread shared.now) < 2 ^ 32 }
-    ensures { OnOk result (content.new ≡ meant.with_events content.old (meant.with_sets 0 content.old.channels (spread shared.now))) }
+    ensures { OnOk result (content.new
+        ≡ meant.with_events content.old (meant.with_sets 0 content.old.channels (spread shared.now))) }
 {
     let channels = replace(&mut content.channels, Items::new(alloc));
-    content.channels = filled(alloc, channels, shared)?;
+    content.channels = fill(alloc, channels, shared)?;
     content.events = event_table(alloc, content.channels.as_slice())?;
     Ok(())
 }
 
 // The channels with the field sets that the channels of each declaration share.
-fn filled(
+fn fill(
     alloc: Global,
     channels: Items<Channel>,
     shared: &[SharedSets],
@@ -73,7 +74,8 @@ fn add_channel(
     all: &[&[AtomSet]],
 ) -> Result<u32, NoMemory>
     requires { events_left first made.old (lent all.now) < 2 ^ 32 }
-    ensures few { IfOk result (λ next. events_left next made.new (lent all.now) ≤ events_left first made.old (lent all.now)) }
+    ensures few { IfOk result (λ next.
+        events_left next made.new (lent all.now) ≤ events_left first made.old (lent all.now)) }
     ensures made { IfOk result (λ next. (channels : List Channel) →
         made.new ++ meant.with_sets next channels (drop (length made.new) (lent all.now))
         ≡ made.old ++ meant.with_sets first (channel ∷ channels) (drop (length made.old) (lent all.now))) }

@@ -1,16 +1,7 @@
 -- Walks in the own graph of a component and in that of its numbered table.
-use Rattle.std.proofs.Common.{◌≡◌, ℕ, zero, suc, ◌<◌, Bool, true, false, ◌&&◌, not, List, [], ◌∷◌, Some, slice_get, length, refl, sym, ap₂, subst, ◌∙◌, arith, inl, inr}
-use Rattle.std.specs.Cmp.{first_so, second_so}
-use Rattle.csp_base.proofs.Standard.{false≢true, same_Some, slice_get_within}
-use Rattle.csp_base.specs.Members.{has}
-use Rattle.csp_base.proofs.Lists.{slice_get_some}
-use Rattle.csp_tables.specs.Prelude.{Label, silent, visible, Component, ComponentStep, Path, IsTableOf, RawTable, standing_at}
-use Rattle.digraph.specs.Prelude.{IsCircle, Leads, Walk}
-use Rattle.net_sound.proofs.FlatLists.{step_alphabet}
+use Rattle.hidden_bounds.proofs.Prelude.{◌≡◌, ℕ, zero, suc, ◌<◌, Bool, true, false, ◌&&◌, not, List, [], ◌∷◌, Some, slice_get, length, refl, sym, ap₂, subst, ◌∙◌, arith, inl, inr, first_so, second_so, false≢true, same_Some, slice_get_within, has, slice_get_some, Label, silent, visible, Component, ComponentStep, Path, IsTableOf, RawTable, IsCircle, Leads, Walk, step_alphabet, GoesRound, IsHeight, OwnStep, Taken, is_passed, AreOpen, OwnCirclesAreExact, OwnHeightsAreExact, IsOwnHeight, OwnArc}
+use Rattle.csp_tables.specs.Prelude.{standing_at}
 use Rattle.net_sound.proofs.Numbered.{stands}
-use Rattle.hidden_steps.specs.Order.{GoesRound, IsHeight, OwnStep, Taken, is_passed}
-use Rattle.hidden_bounds.specs.Exact.{AreOpen, OwnCirclesAreExact, OwnHeightsAreExact}
-use Rattle.hidden_bounds.specs.Own.{IsOwnHeight, OwnArc}
 
 not_true : (b : Bool) → not b ≡ true → b ≡ false
 not_true true h = absurd (false≢true h)

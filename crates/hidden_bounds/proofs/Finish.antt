@@ -1,21 +1,11 @@
 -- The order and its end, as a call tells them.
-use Rattle.std.proofs.Common.{◌≡◌, ◌⊎◌, ◌≢◌, ℕ, zero, suc, ◌+◌, ◌<◌, Bool, true, false, ◌&&◌, IsTrue, Result, IfErr, List, [], ◌∷◌, ◌++◌, length, replicate, refl, sym, ap, subst, ◌∙◌, arith, inl, inr}
+use Rattle.hidden_bounds.proofs.Prelude.{◌≡◌, ◌⊎◌, ◌≢◌, ℕ, zero, suc, ◌+◌, ◌<◌, Bool, true, false, ◌&&◌, IsTrue, Result, IfErr, List, [], ◌∷◌, ◌++◌, length, replicate, refl, sym, ap, subst, ◌∙◌, arith, inl, inr, err_from_is_err_and, false≢true, length-replicate, none-some, slice_get_within, has, Tells, has_first, Label, Component, AreTaken, HasNoOrder, IsAmong, IsOrder, hidden_bound, AreOpen, IsBound, TellsLoop, AreKnown, IsSoFar, IsTakenFar, left_from, standing_at, TellsSum, taken_in, Placed, Standing}
 use Rattle.std.specs.Prelude.{◌↔◌}
 use Rattle.std.specs.Result.{IsErrAnd}
-use Rattle.csp_base.proofs.Standard.{err_from_is_err_and, false≢true, length-replicate, none-some, slice_get_within}
-use Rattle.csp_base.specs.Members.{has}
-use Rattle.csp_base.specs.Stops.{Tells}
 use Rattle.csp_base.specs.declared.stop.Stop.{Stop}
 use Rattle.csp_base.specs.declared.stop.Stop.TheVariants as stop
-use Rattle.csp_base.proofs.Listed.{has_first}
-use Rattle.csp_tables.specs.Prelude.{Label, Component}
-use Rattle.hidden_steps.specs.Order.{AreTaken, HasNoOrder, IsAmong, IsOrder, hidden_bound}
-use Rattle.hidden_bounds.specs.Exact.{AreOpen}
-use Rattle.hidden_bounds.specs.Prelude.{IsBound, TellsLoop, AreKnown, IsSoFar, IsTakenFar, left_from, standing_at, TellsSum, taken_in}
 use Rattle.hidden_bounds.specs.declared.bounding.HiddenBound.{HiddenBound}
 use Rattle.hidden_bounds.specs.declared.bounding.LoopFault.{LoopFault}
-use Rattle.hidden_bounds.specs.declared.ordering.Placed.{Placed}
-use Rattle.hidden_bounds.specs.declared.standings.Standing.{Standing}
 use Rattle.hidden_bounds.specs.declared.bounding.LoopFault.TheVariants as fault
 use Rattle.hidden_bounds.specs.declared.standings.Standing.TheVariants as standing
 use Rattle.hidden_bounds.proofs.Known.{none_is_free}

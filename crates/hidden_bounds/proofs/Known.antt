@@ -1,15 +1,5 @@
 -- What is known of components, after one more is known to go round or is taken.
-use Rattle.std.proofs.Common.{◌≡◌, ◌⊎◌, ◌≢◌, ℕ, zero, suc, ◌+◌, ◌<◌, Bool, true, false, ◌&&◌, ◌||◌, not, List, [], ◌∷◌, ◌++◌, Some, slice_get, length, refl, sym, ap, subst, ◌∙◌, arith, inl, inr}
-use Rattle.csp_base.proofs.Standard.{set, cases_eq, get_or-set_same, get_or-set_other, length-set, same_Some, slice_get_within}
-use Rattle.csp_base.specs.Prelude.{diff_of, inter_of, meets_of, has}
-use Rattle.csp_base.proofs.SetLaws.{has-diff_of}
-use Rattle.csp_base.proofs.Lists.{push_cases}
-use Rattle.csp_tables.specs.Prelude.{Label, Component}
-use Rattle.hidden_steps.specs.Order.{AreTaken, GoesRound, IsAmong, IsNext, Taken, is_passed}
-use Rattle.hidden_bounds.specs.Exact.{AreOpen}
-use Rattle.hidden_bounds.specs.Prelude.{AreKnown, AreReopened, IsLeastFree, IsSoFar, StayKnown, one_waiting, reopened_to, standing_at, waiting, alphabet_at, alphabet_of, taken_at, taken_in}
-use Rattle.hidden_bounds.specs.declared.ordering.Placed.{Placed}
-use Rattle.hidden_bounds.specs.declared.standings.Standing.{Standing}
+use Rattle.hidden_bounds.proofs.Prelude.{◌≡◌, ◌⊎◌, ◌≢◌, ℕ, zero, suc, ◌+◌, ◌<◌, Bool, true, false, ◌&&◌, ◌||◌, not, List, [], ◌∷◌, ◌++◌, Some, slice_get, length, refl, sym, ap, subst, ◌∙◌, arith, inl, inr, set, cases_eq, get_or-set_same, get_or-set_other, length-set, same_Some, slice_get_within, diff_of, inter_of, meets_of, has, has-diff_of, push_cases, Label, Component, AreTaken, GoesRound, IsAmong, IsNext, Taken, is_passed, AreOpen, AreKnown, AreReopened, IsLeastFree, IsSoFar, StayKnown, one_waiting, reopened_to, standing_at, waiting, alphabet_at, alphabet_of, taken_at, taken_in, Placed, Standing}
 use Rattle.hidden_bounds.specs.declared.standings.Standing.TheVariants as standing
 use Rattle.hidden_bounds.proofs.Taken.{one_taken, round_kept}
 

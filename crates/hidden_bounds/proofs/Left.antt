@@ -1,12 +1,6 @@
 -- The components that are left, as a rising list.
-use Rattle.std.proofs.Common.{◌≡◌, ◌≢◌, ℕ, zero, suc, ◌+◌, ◌<◌, ◌≤◌, true, nat_eq, List, [], ◌∷◌, ◌++◌, length, take, get_or, min, refl, sym, ap, ◌∙◌, arith, add-one, inl, inr}
+use Rattle.hidden_bounds.proofs.Prelude.{◌≡◌, ◌≢◌, ℕ, zero, suc, ◌+◌, ◌<◌, ◌≤◌, true, nat_eq, List, [], ◌∷◌, ◌++◌, length, take, get_or, min, refl, sym, ap, ◌∙◌, arith, add-one, inl, inr, eqb-true, false≢true, or_cases, or_right, take-suc, append-nil, append_assoc, length-take, has, has_first, RisesFrom, increasing_from_rises, left_from, left_one, standing_at, Standing}
 use Rattle.std.specs.List.Sorted.{IsStrictlyIncreasing}
-use Rattle.csp_base.proofs.Standard.{eqb-true, false≢true, or_cases, or_right, take-suc, append-nil, append_assoc, length-take}
-use Rattle.csp_base.specs.Members.{has}
-use Rattle.csp_base.proofs.Listed.{has_first}
-use Rattle.csp_base.proofs.Rising.{RisesFrom, increasing_from_rises}
-use Rattle.hidden_bounds.specs.Prelude.{left_from, left_one, standing_at}
-use Rattle.hidden_bounds.specs.declared.standings.Standing.{Standing}
 use Rattle.hidden_bounds.specs.declared.standings.Standing.TheVariants as standing
 
 RisesFrom-later : (m n : ℕ) (xs : List ℕ) → m ≤ n → RisesFrom n xs → RisesFrom m xs

@@ -1,20 +1,11 @@
 -- A component that is looked at: by its table it is free, or goes round.
-use Rattle.std.proofs.Common.{◌≡◌, ℕ, ◌<◌, List, Some, slice_get, length, get_or, sym, ap, subst, ◌∙◌, arith}
-use Rattle.csp_base.proofs.Standard.{set, slice_get-get_or}
-use Rattle.csp_base.proofs.Lists.{slice_get_some}
+use Rattle.hidden_bounds.proofs.Prelude.{◌≡◌, ℕ, ◌<◌, List, Some, slice_get, length, get_or, sym, ap, subst, ◌∙◌, arith, set, slice_get-get_or, slice_get_some, Component, ProcessStep, GoesRoundItself, IsOwnHeight, IsScope, IsFreeHere, IsSoFar, standing_at, Placed, Standing}
 use Rattle.csp_program.specs.declared.processes.Proc.{Proc}
-use Rattle.csp_tables.specs.Network.{Component}
 use Rattle.network_stages.specs.Prelude.{HasTable, whole_room}
 use Rattle.network_stages.specs.declared.component_tables.ComponentTable.{ComponentTable}
 use Rattle.network_stages.proofs.Tabling.{as_many, table_at}
-use Rattle.process_steps.specs.ComponentStep.{ProcessStep}
-use Rattle.hidden_bounds.specs.Own.{GoesRoundItself, IsOwnHeight}
-use Rattle.hidden_bounds.specs.Scopes.{IsScope}
-use Rattle.hidden_bounds.specs.Standings.{IsFreeHere, IsSoFar, standing_at}
 use Rattle.hidden_bounds.specs.Taking.{taken_in}
-use Rattle.hidden_bounds.specs.declared.ordering.Placed.{Placed}
 use Rattle.hidden_bounds.specs.declared.scope.Scope.{Scope}
-use Rattle.hidden_bounds.specs.declared.standings.Standing.{Standing}
 use Rattle.hidden_bounds.specs.declared.standings.Standing.TheVariants as standing
 use Rattle.hidden_bounds.proofs.Carried.{own_circles_are_exact, own_heights_are_exact}
 use Rattle.hidden_bounds.proofs.Known.{one_round}

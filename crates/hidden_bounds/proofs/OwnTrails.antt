@@ -1,9 +1,5 @@
 -- Trails that grow at their end, or shrink there, and lead round.
-use Rattle.std.proofs.Common.{◌≡◌, ℕ, ◌+◌, ◌-◌, ◌<◌, Bool, true, false, Some, nat_eq, List, [], ◌∷◌, ◌++◌, length, drop, get_or, refl, sym, subst, arith, inl, inr}
-use Rattle.std.specs.List.{IsAnyAnswer}
-use Rattle.csp_base.proofs.Standard.{cases_lt, eqb-true, false≢true, same_Some, get_or-drop, get_or_append_left, get_or_push, length-append, length-drop, length_push}
-use Rattle.digraph.specs.Circle.{IsCircle}
-use Rattle.digraph.proofs.WalkLaws.{Leads-from_places}
+use Rattle.hidden_bounds.proofs.Prelude.{◌≡◌, ℕ, ◌+◌, ◌-◌, ◌<◌, Bool, true, false, Some, nat_eq, List, [], ◌∷◌, ◌++◌, length, drop, get_or, refl, sym, subst, arith, inl, inr, IsAnyAnswer, cases_lt, eqb-true, false≢true, same_Some, get_or-drop, get_or_append_left, get_or_push, length-append, length-drop, length_push, IsCircle, Leads-from_places}
 
 module _ (Arc : ℕ → ℕ → Type 0) where
   -- arcs lead from each to the next

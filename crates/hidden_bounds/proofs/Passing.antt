@@ -1,7 +1,5 @@
 -- Where the bounds in an order pass a limit: at one component, and then they have passed it for good.
-use Rattle.std.proofs.Common.{◌≡◌, ℕ, ◌+◌, ◌^◌, ◌<◌, ◌≤◌, List, [], ◌∷◌, ◌++◌, sym, ◌∙◌, arith, inl, inr}
-use Rattle.hidden_steps.specs.Order.{Taken, bound_over, hidden_bound}
-use Rattle.hidden_bounds.specs.Found.{PassesAt}
+use Rattle.hidden_bounds.proofs.Prelude.{◌≡◌, ℕ, ◌+◌, ◌^◌, ◌<◌, ◌≤◌, List, [], ◌∷◌, ◌++◌, sym, ◌∙◌, arith, inl, inr, Taken, bound_over, hidden_bound, PassesAt}
 
 le_more : (limit bound rest : ℕ) → limit ≤ rest → limit ≤ bound + rest
 le_more limit bound rest h = omega arith

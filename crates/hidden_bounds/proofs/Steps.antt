@@ -1,12 +1,5 @@
 -- What a call does to what is known: a component is read, one is looked at after another, and the least free one is taken.
-use Rattle.std.proofs.Common.{◌≡◌, ◌≢◌, ℕ, ◌+◌, ◌<◌, ◌≤◌, List, [], ◌∷◌, ◌++◌, length, get_or, sym, ap, subst, ◌∙◌, arith, inl, inr}
-use Rattle.csp_base.proofs.Standard.{set, cases_eq, cases_lt, get_or-set_same, get_or-set_other, get_or_default, length-set, slice_get-get_or}
-use Rattle.csp_base.specs.Events.{diff_of, inter_of, meets_of}
-use Rattle.csp_base.proofs.Lists.{slice_get_some}
-use Rattle.csp_tables.specs.Prelude.{Label, Component}
-use Rattle.hidden_bounds.specs.Prelude.{AreReopened, IsFreeHere, IsKnown, IsLeastFree, IsSoFar, StayKnown, reopened_to, standing_at, waiting, alphabet_at, alphabet_of}
-use Rattle.hidden_bounds.specs.declared.ordering.Placed.{Placed}
-use Rattle.hidden_bounds.specs.declared.standings.Standing.{Standing}
+use Rattle.hidden_bounds.proofs.Prelude.{◌≡◌, ◌≢◌, ℕ, ◌+◌, ◌<◌, ◌≤◌, List, [], ◌∷◌, ◌++◌, length, get_or, sym, ap, subst, ◌∙◌, arith, inl, inr, set, cases_eq, cases_lt, get_or-set_same, get_or-set_other, get_or_default, length-set, slice_get-get_or, diff_of, inter_of, meets_of, slice_get_some, Label, Component, AreReopened, IsFreeHere, IsKnown, IsLeastFree, IsSoFar, StayKnown, reopened_to, standing_at, waiting, alphabet_at, alphabet_of, Placed, Standing}
 use Rattle.hidden_bounds.specs.declared.standings.Standing.TheVariants as standing
 use Rattle.hidden_bounds.proofs.Known.{fewer_wait, one_more}
 

@@ -1,11 +1,5 @@
 -- The sums of the bounds of components, one after another.
-use Rattle.std.proofs.Common.{◌≡◌, ℕ, ◌+◌, ◌^◌, ◌<◌, ◌≤◌, Bool, true, false, if◌then◌else◌, List, [], ◌∷◌, Some, slice_get, length, take, drop, get_or, ◌++◌, inl, IfNone, IfSome, Option, None, refl, sym, ap, ap₂, subst, ◌∙◌, arith}
-use Rattle.csp_base.proofs.Standard.{take-take, same_Some, slice_get-get_or}
-use Rattle.csp_base.specs.Events.{inter_of, meets_of}
-use Rattle.csp_tables.specs.Network.{Component}
-use Rattle.hidden_steps.specs.Order.{Taken, bound_over, hidden_bound, share_hidden, shared_bounds}
-use Rattle.hidden_bounds.specs.Prelude.{PassesAt, AreBounds, IsNextSum, bound_at, sum_before, AreWithin, alphabet_at, taken_in}
-use Rattle.hidden_bounds.specs.declared.ordering.Placed.{Placed}
+use Rattle.hidden_bounds.proofs.Prelude.{◌≡◌, ℕ, ◌+◌, ◌^◌, ◌<◌, ◌≤◌, Bool, true, false, if◌then◌else◌, List, [], ◌∷◌, Some, slice_get, length, take, drop, get_or, ◌++◌, inl, IfNone, IfSome, Option, None, refl, sym, ap, ap₂, subst, ◌∙◌, arith, take-take, same_Some, slice_get-get_or, inter_of, meets_of, Component, Taken, bound_over, hidden_bound, share_hidden, shared_bounds, PassesAt, AreBounds, IsNextSum, bound_at, sum_before, AreWithin, alphabet_at, taken_in, Placed}
 use Rattle.hidden_bounds.proofs.Passing.{bound_grows, passes_grows}
 use Rattle.hidden_bounds.proofs.Taken.{next_taken, shares_of, taken_split}
 

@@ -1,19 +1,7 @@
 -- Components that are taken one after another: one more, and what stays as it was.
-use Rattle.std.proofs.Common.{◌≡◌, ℕ, zero, suc, ◌+◌, ◌<◌, true, false, ◌&&◌, List, [], ◌∷◌, ◌++◌, length, take, drop, map, reverse, get_or, add-one, refl, sym, ap, ap₂, ◌∙◌, inl, inr}
-use Rattle.std.specs.Cmp.{first_so, second_so}
-use Rattle.csp_base.proofs.Standard.{take-suc, cases_Bool, false≢true, or_from, map-append, reverse-append, reverse-reverse, take-append-drop}
-use Rattle.csp_base.specs.Prelude.{inter_of, meets_of, has}
+use Rattle.hidden_bounds.proofs.Prelude.{◌≡◌, ℕ, zero, suc, ◌+◌, ◌<◌, true, false, ◌&&◌, List, [], ◌∷◌, ◌++◌, length, take, drop, map, reverse, get_or, add-one, refl, sym, ap, ap₂, ◌∙◌, inl, inr, first_so, second_so, take-suc, cases_Bool, false≢true, or_from, map-append, reverse-append, reverse-reverse, take-append-drop, inter_of, meets_of, has, any_member, any_of, meets_of_from_member, has-inter_of, Label, silent, visible, Component, Walk, GoesRound, OwnStep, Taken, is_passed, share_hidden, step_alphabet, placed, taken_at, taken_in, Placed}
 use Rattle.csp_base.proofs.Booleans.{same_tests}
-use Rattle.csp_base.proofs.Listed.{any_member, any_of}
-use Rattle.csp_base.proofs.Rising.{meets_of_from_member}
-use Rattle.csp_base.proofs.SetLaws.{has-inter_of}
-use Rattle.csp_tables.specs.Prelude.{Label, silent, visible, Component}
-use Rattle.digraph.specs.Walk.{Walk}
-use Rattle.hidden_steps.specs.Order.{GoesRound, OwnStep, Taken, is_passed, share_hidden}
-use Rattle.net_sound.proofs.FlatLists.{step_alphabet}
 use Rattle.net_sound.proofs.Soundness.{path_alphabet}
-use Rattle.hidden_bounds.specs.Prelude.{placed, taken_at, taken_in}
-use Rattle.hidden_bounds.specs.declared.ordering.Placed.{Placed}
 
 -- ---- one more
 

@@ -13,11 +13,6 @@ use Rattle.hidden_bounds.specs.declared.standings.Standing.TheVariants as standi
 abbrev pub standing_at : List Standing → ℕ → Standing
 standing_at standings i = slice_index_or standings i standing.Unknown
 
-abbrev pub is_taken : Standing → Bool
-is_taken standing.Unknown = false
-is_taken standing.Round = false
-is_taken standing.Taken = true
-
 -- what is known of a component after one is taken with which it has a hidden event in common, or has none
 abbrev pub reopened_to : Standing → Bool → Standing
 reopened_to standing.Unknown shares = standing.Unknown

@@ -54,7 +54,7 @@ pub enum LoopFault {
 }
 
 // A number where it counts, and else 0.
-fn counted(counts: bool, number: u64) -> u64
+fn number_if(counts: bool, number: u64) -> u64
     ensures { result ≡ (if counts then number else 0) }
 {
     if counts { number } else { 0 }
@@ -72,12 +72,13 @@ fn shared_bounds(
     requires fewer { length bounds.now ≤ length order.now }
     requires bounds { AreBounds scope.now.hidden.now scope.now.seats.now order.now bounds.now }
     requires fits { sum_before scope.now.hidden.now scope.now.seats.now order.now (length bounds.now) < 2 ^ 64 }
-    ensures { IfOk result (λ total. total ≡ meant.shared_bounds scope.now.hidden.now (alphabet_at scope.now.seats.now part) (taken_in scope.now.seats.now (take (length bounds.now) order.now))) }
+    ensures { IfOk result (λ total. total ≡ meant.shared_bounds scope.now.hidden.now
+        (alphabet_at scope.now.seats.now part) (taken_in scope.now.seats.now (take (length bounds.now) order.now))) }
 {
     let events = hidden_of(scope, part)?;
     let mut total = 0;
     for place in 0..bounds.len() {
-        let number = counted(shares(scope, order[place].part, &events), bounds[place]);
+        let number = number_if(shares(scope, order[place].part, &events), bounds[place]);
         total += number;
     }
     Ok(total)
@@ -116,8 +117,11 @@ fn next_sum(
     requires next { length bounds.now < length order.now }
     requires bounds { AreBounds scope.now.hidden.now scope.now.seats.now order.now bounds.now }
     requires total { total ≡ sum_before scope.now.hidden.now scope.now.seats.now order.now (length bounds.now) }
-    ensures some { IfOk result (λ found. IfSome found (λ made. IsNextSum scope.now.hidden.now scope.now.seats.now order.now (length bounds.now) made.0 made.1)) }
-    ensures none { IfOk result (λ found. IfNone found ((p : PlacedValue) → slice_get order.now (length bounds.now) ≡ Some p → PassesAt scope.now.hidden.now (taken_in scope.now.seats.now order.now) p.part)) }
+    ensures some { IfOk result (λ found. IfSome found
+        (λ made. IsNextSum scope.now.hidden.now scope.now.seats.now order.now (length bounds.now) made.0 made.1)) }
+    ensures none { IfOk result (λ found. IfNone found
+        ((p : PlacedValue) → slice_get order.now (length bounds.now) ≡ Some p
+        → PassesAt scope.now.hidden.now (taken_in scope.now.seats.now order.now) p.part)) }
 {
     let placed = order[bounds.len()];
     let shared = shared_bounds(scope, order, bounds, placed.part)?;
@@ -138,7 +142,8 @@ fn add(bounds: &mut Vec<u64>, bound: u64) -> Result<(), NoMemory>
 // The bounds of all components in their order, added up.
 fn add_up(scope: &Scope<'_>, order: &[Placed]) -> Result<u64, Stop<LoopFault>>
     requires within { AreWithin (length scope.now.seats.now) order.now }
-    ensures total { IfOk result (λ total. total ≡ meant.hidden_bound scope.now.hidden.now (taken_in scope.now.seats.now order.now)) }
+    ensures total { IfOk result (λ total. total ≡ meant.hidden_bound scope.now.hidden.now
+        (taken_in scope.now.seats.now order.now)) }
     ensures told { IfErr result (Tells (TellsSum scope.now.hidden.now scope.now.seats.now order.now)) }
 {
     let mut bounds = Vec::new(scope.alloc);

@@ -108,7 +108,8 @@ impl Taking {
         requires so_far { IsTaking scope.now self.old }
         ensures so_far { OnOk result (IsTaking scope.now self.new) }
         ensures known { IfOk result (λ more. more ≡ false → AreKnown self.new.standings.items) }
-        ensures fewer { IfOk result (λ more. waiting self.new.standings.items + one_more more ≤ waiting self.old.standings.items) }
+        ensures fewer { IfOk result (λ more. waiting self.new.standings.items + one_more more
+            ≤ waiting self.old.standings.items) }
     {
         match self.next_free(scope)? {
             Some(placed) => {

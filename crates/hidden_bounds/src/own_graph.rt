@@ -16,7 +16,8 @@ fn add_step(rows: &mut Rows, events: &EventSet, step: &(u32, Event, u32)) -> Res
     requires from { step.now.0 < length rows.old }
     requires to { step.now.2 < length rows.old }
     ensures len { length rows.new ≡ length rows.old }
-    ensures arcs { OnOk result ((s t : ℕ) → has_arc rows.new s t ≡ (has_arc rows.old s t || (nat_eq s step.now.0 && has events.now step.now.1 && nat_eq t step.now.2))) }
+    ensures arcs { OnOk result ((s t : ℕ) → has_arc rows.new s t
+        ≡ (has_arc rows.old s t || (nat_eq s step.now.0 && has events.now step.now.1 && nat_eq t step.now.2))) }
 {
     if !events.contains(step.1) {
         return Ok(());
@@ -29,7 +30,8 @@ fn add_step(rows: &mut Rows, events: &EventSet, step: &(u32, Event, u32)) -> Res
 fn add_steps(rows: &mut Rows, table: &RawTable, events: &EventSet) -> Result<(), NoMemory>
     requires size { length rows.old ≡ table.now.count }
     ensures len { length rows.new ≡ length rows.old }
-    ensures arcs { OnOk result ((s t : ℕ) → has_arc rows.new s t ≡ (has_arc rows.old s t || has_step_by table.now events.now s t)) }
+    ensures arcs { OnOk result ((s t : ℕ) → has_arc rows.new s t
+        ≡ (has_arc rows.old s t || has_step_by table.now events.now s t)) }
 {
     for step in table.steps() {
         add_step(rows, events, step)?;

@@ -163,7 +163,8 @@ impl OwnSearch {
     fn turn(&mut self, graph: &OwnGraph<'_>, trail: &mut Vec<u32>) -> Result<Option<bool>, NoMemory>
         requires trail { IsOwnTrail graph.now.table.now graph.now.events.now trail.old.items }
         ensures trail { OnOk result (IsOwnTrail graph.now.table.now graph.now.events.now trail.new.items) }
-        ensures round { IfOk result (λ turn. turn ≡ Some true → GoesRoundItself graph.now.table.now graph.now.events.now) }
+        ensures round { IfOk result (λ turn. turn ≡ Some true
+            → GoesRoundItself graph.now.table.now graph.now.events.now) }
     {
         let Some(last) = trail.last().copied() else {
             return Ok(Some(false));
@@ -190,7 +191,8 @@ impl OwnSearch {
         requires own { step.is_own ≡ true → OwnArc graph.now.table.now graph.now.events.now last step.to }
         requires last { IsLast trail.old.items last }
         ensures trail { OnOk result (IsOwnTrail graph.now.table.now graph.now.events.now trail.new.items) }
-        ensures round { IfOk result (λ turn. turn ≡ Some true → GoesRoundItself graph.now.table.now graph.now.events.now) }
+        ensures round { IfOk result (λ turn. turn ≡ Some true
+            → GoesRoundItself graph.now.table.now graph.now.events.now) }
     {
         if !step.is_own {
             self.set(last, step.rest);
@@ -259,7 +261,8 @@ fn most_turns(table: &RawTable) -> usize {
 
 // The last step of a term that is left, where one is.
 fn last_step(graph: &OwnGraph<'_>, term: u32, progress: Progress) -> Option<Step>
-    ensures { IfSome result (λ step. step.is_own ≡ true → OwnArc graph.now.table.now graph.now.events.now term step.to) }
+    ensures { IfSome result (λ step. step.is_own ≡ true
+        → OwnArc graph.now.table.now graph.now.events.now term step.to) }
 {
     match last_silent(graph, term, progress) {
         Some(step) => Some(step),
@@ -287,7 +290,8 @@ fn last_silent(graph: &OwnGraph<'_>, term: u32, progress: Progress) -> Option<St
 }
 
 fn last_by_event(graph: &OwnGraph<'_>, term: u32, progress: Progress) -> Option<Step>
-    ensures { IfSome result (λ step. step.is_own ≡ true → OwnArc graph.now.table.now graph.now.events.now term step.to) }
+    ensures { IfSome result (λ step. step.is_own ≡ true
+        → OwnArc graph.now.table.now graph.now.events.now term step.to) }
 {
     let place = progress.steps.checked_sub(1)?;
     let (from, event, to) = *graph.table.steps().get(place)?;

@@ -1,15 +1,8 @@
 -- The next component is determined by those taken before it: it is the least free one, and its height is one number. So two takings go the same way, as far
 -- as both go; and one over which none is free goes as far as any.
-use Rattle.std.proofs.Common.{◌≡◌, ◌⊎◌, ◌≤◌, ℕ, zero, suc, List, [], ◌∷◌, slice_get, IsTrue, refl, sym, ap, ap₂, subst, ◌∙◌, arith, inl, inr}
-use Rattle.csp_base.proofs.Standard.{cases_lt, same_Some}
-use Rattle.csp_base.specs.Members.{has}
-use Rattle.csp_base.proofs.Booleans.{same_tests}
-use Rattle.csp_base.proofs.Lists.{slice_get_some}
+use Rattle.hidden_steps.proofs.Prelude.{◌≡◌, ◌⊎◌, ◌≤◌, ℕ, zero, suc, List, [], ◌∷◌, slice_get, IsTrue, refl, sym, ap, ap₂, subst, ◌∙◌, arith, inl, inr, cases_lt, same_Some, has, same_tests, slice_get_some, Label, Component, Walk, AreTaken, GoesRound, HasNoOrder, IsAmong, IsHeight, IsNext, IsNotFree, IsOrder, OwnStep, Taken, hidden_bound}
 use Rattle.csp_base.proofs.SetLaws.{same_set}
-use Rattle.csp_tables.specs.Prelude.{Label, Component}
-use Rattle.digraph.specs.Walk.{Walk}
-use Rattle.hidden_steps.specs.Agreeing.{BoundsAreOne, IsFrontOf, NoOrderExcludesOrders, OrdersAreOne, OthersAreOne, TakingsAreFronts}
-use Rattle.hidden_steps.specs.Order.{AreTaken, GoesRound, HasNoOrder, IsAmong, IsHeight, IsNext, IsNotFree, IsOrder, OwnStep, Taken, hidden_bound}
+use Rattle.hidden_steps.specs.Agreeing.{IsFrontOf}
 
 -- ---- walks round a circle get as long as may be
 
@@ -126,6 +119,9 @@ module _ {T : Type 0} (Step : T → Label → T → Type 0) (hidden : List ℕ) 
     pub one_order : (order other : List Taken) → IsOrder Step hidden cs order → IsOrder Step hidden cs other → order ≡ other
     one_order order other a b = one_last order other a.taken b.taken (is_last order a) (is_last other b)
 
+    pub one_bound : (order other : List Taken) → IsOrder Step hidden cs order → IsOrder Step hidden cs other → hidden_bound hidden order ≡ hidden_bound hidden other
+    one_bound order other a b = ap (hidden_bound hidden) (one_order order other a b)
+
     pub no_order : (parts : List ℕ) (order : List Taken) → HasNoOrder Step hidden cs parts → IsOrder Step hidden cs order → ⊥
     no_order parts order none is =
         let same = one_last none.taken order none.are is.taken none.none_free (is_last order is) in
@@ -143,19 +139,3 @@ module _ {T : Type 0} (Step : T → Label → T → Type 0) (hidden : List ℕ) 
         let same = one_last a.taken b.taken a.are b.are a.none_free b.none_free in
         same_set parts others a.rising b.rising
         (λ i. same_tests (has parts i) (has others i) (others_within parts others a b same i) (others_within others parts b a (sym same) i))
-
-module _ {T : Type 0} (Step : T → Label → T → Type 0) where
-  pub takings_are_fronts : TakingsAreFronts Step
-  takings_are_fronts hidden cs ts us = fronts Step hidden cs ts us
-
-  pub orders_are_one : OrdersAreOne Step
-  orders_are_one hidden cs order other = one_order Step hidden cs order other
-
-  pub bounds_are_one : BoundsAreOne Step
-  bounds_are_one hidden cs order other a b = ap (hidden_bound hidden) (one_order Step hidden cs order other a b)
-
-  pub no_order_excludes_orders : NoOrderExcludesOrders Step
-  no_order_excludes_orders hidden cs parts order = no_order Step hidden cs parts order
-
-  pub others_are_one : OthersAreOne Step
-  others_are_one hidden cs parts others = one_rest Step hidden cs parts others

@@ -1,34 +1,21 @@
 -- The bounds of the taken components, by induction over the order.
-use Rattle.std.proofs.Common.{◌≡◌, ◌≤◌, ◌+◌, ◌*◌, ℕ, zero, suc, inl, inr, List, [], ◌∷◌, Some, slice_get, length, Bool, true, false, ◌&&◌, ◌||◌, not, nat_eq, IsTrue, if◌then◌else◌, refl, sym, ap, subst, ◌∙◌, arith}
-use Rattle.csp_base.proofs.Standard.{mul-le-mul_left, cases_Bool, cond-true, cond-false, false≢true, or_left, or_right, nat_tests, length-map, none-some, same_Some}
-use Rattle.digraph.specs.Walk.{Walk}
-use Rattle.csp_base.specs.Members.{has}
-use Rattle.csp_base.proofs.Booleans.{and_false, is_and}
+use Rattle.hidden_steps.proofs.Prelude.{◌≡◌, ◌≤◌, ◌+◌, ◌*◌, ℕ, zero, suc, inl, inr, List, [], ◌∷◌, Some, slice_get, length, Bool, true, false, ◌&&◌, ◌||◌, not, nat_eq, IsTrue, refl, sym, ap, subst, ◌∙◌, arith, mul-le-mul_left, cases_Bool, cond-true, cond-false, false≢true, or_cases, or_left, or_right, nat_tests, none-some, same_Some, Walk, has, and_false, is_and, slice_get_some, in_some_component, FlatStep, Label, silent, visible, Component, ComponentStep, NetworkStep, Tree, leaves, project, Path, Reached, After, visible_events, WellNested, alphabets, flat_alphabets, HiddenStep, HiddenStepsAreBounded, AreTaken, IsAmong, IsNext, IsOrder, Taken, bound_over, hidden_bound, is_passed, share_hidden, shared_bounds}
 use Rattle.csp_base.proofs.Listed.{any_of}
-use Rattle.csp_base.proofs.Lists.{slice_get_some}
-use Rattle.csp_tables.specs.Prelude.{in_some_component, FlatStep, Label, silent, visible, Component, ComponentStep, NetworkStep, Tree, leaves, project, Path, Reached, After, visible_events, WellNested}
-use Rattle.net_sound.proofs.FlatLists.{alphabets, flat_alphabets, same_some}
 use Rattle.net_sound.proofs.Flattening.{forth, kept}
 use Rattle.net_sound.proofs.Local.{AllAfter, all_after, run_forth, run_kept}
 use Rattle.net_sound.proofs.Soundness.{path_alphabet}
-use Rattle.hidden_steps.specs.Bounded.{HiddenStep, HiddenStepsAreBounded}
-use Rattle.hidden_steps.specs.Order.{AreTaken, IsAmong, IsNext, IsOrder, Taken, bound_over, hidden_bound, is_passed, share_hidden, shared_bounds}
 use Rattle.hidden_steps.proofs.Counting.{count, count_all, count_le, count_le_sum, count_none, one, Each}
 use Rattle.hidden_steps.proofs.Moves.{Along, AllAlong, AreMoves, Move, has_moves, moves_along}
 use Rattle.hidden_steps.proofs.Moves.Move.{event, quiet}
-use Rattle.hidden_steps.proofs.Own.{AreHidden, Walked, is_foreign, is_own, own_moves}
+use Rattle.hidden_steps.proofs.Own.{Walked, is_foreign, is_own, own_moves}
 
 -- ---- tests
 
 split_parts : (x y z : Bool) → one (x && (y || z)) ≤ one (y && not z) + one (x && z)
 split_parts true true true = omega arith
 split_parts true true false = omega arith
-split_parts true false true = omega arith
-split_parts true false false = omega arith
-split_parts false true true = omega arith
-split_parts false true false = omega arith
-split_parts false false true = omega arith
-split_parts false false false = omega arith
+split_parts true false z = omega arith
+split_parts false y z = omega arith
 
 apart_parts : (x y z : Bool) → x && y ≡ false → one (x && (y || z)) ≤ one (x && z)
 apart_parts true true z h = absurd (false≢true (sym h))
@@ -44,29 +31,15 @@ first_true : (y z : Bool) → y || z ≡ true → z ≡ false → y ≡ true
 first_true true z h k = refl
 first_true false z h k = absurd (false≢true (sym k ∙ h))
 
-second_true : (y z : Bool) → y || z ≡ true → y ≡ false → z ≡ true
-second_true true z h k = absurd (false≢true (sym k))
-second_true false z h k = h
-
--- ---- sums
-
-added_up : (x own rest bound more : ℕ) → x ≤ own + rest → own ≤ bound → rest ≤ more → x ≤ bound + more
-added_up x own rest bound more h k l = omega arith
-
 -- ---- components
-
-as_many_alphabets : {T : Type 0} (cs ds : List (Component T)) → alphabets cs ≡ alphabets ds → length cs ≡ length ds
-as_many_alphabets cs ds h = sym (length-map cs (λ c. c.alphabet)) ∙ ap length h ∙ length-map ds (λ c. c.alphabet)
 
 -- a component that has the event
 owner : {T : Type 0} (cs : List (Component T)) (e : ℕ) → IsTrue (in_some_component cs e) → (i : ℕ) × (c : Component T) × (slice_get cs i ≡ Some c) × (has c.alphabet e ≡ true)
 owner [] e h = absurd (false≢true h)
 owner (c ∷ cs) e h =
-    elim (cases_Bool (has c.alphabet e)) [
+    elim (or_cases (has c.alphabet e) (in_some_component cs e) h) [
       | inl here ↦ (0, c, refl, here)
-      | inr none ↦
-          let r = owner cs e (second_true (has c.alphabet e) (in_some_component cs e) h none) in
-          (suc r.0, r.1, r.2, r.3)
+      | inr there ↦ let r = owner cs e there in (suc r.0, r.1, r.2, r.3)
     ]
 
 -- ---- shared moves
@@ -89,11 +62,11 @@ each_split a t ts [] = tt
 each_split a t ts (quiet j ∷ ms) = (omega arith, each_split a t ts ms)
 each_split a t ts (event e ∷ ms) = (split_parts (has a e) (has t.alphabet e) (is_passed ts e), each_split a t ts ms)
 
-each_apart : (hidden a : List ℕ) (t : Taken) (ts : List Taken) (ms : List Move) → share_hidden hidden a t.alphabet ≡ false → AreHidden hidden ms → Each (λ m. one (is_foreign a (t ∷ ts) m) ≤ one (is_foreign a ts m)) ms
-each_apart hidden a t ts [] apart h = tt
-each_apart hidden a t ts (quiet j ∷ ms) apart h = (omega arith, each_apart hidden a t ts ms apart h)
-each_apart hidden a t ts (event e ∷ ms) apart h =
-    (apart_parts (has a e) (has t.alphabet e) (is_passed ts e) (not_shared hidden a t.alphabet e h.0 apart), each_apart hidden a t ts ms apart h.1)
+each_apart : {T : Type 0} (cs : List (Component T)) (hidden a : List ℕ) (t : Taken) (ts : List Taken) (ms : List Move) → share_hidden hidden a t.alphabet ≡ false → AreMoves hidden cs ms → Each (λ m. one (is_foreign a (t ∷ ts) m) ≤ one (is_foreign a ts m)) ms
+each_apart cs hidden a t ts [] apart h = tt
+each_apart cs hidden a t ts (quiet j ∷ ms) apart h = (omega arith, each_apart cs hidden a t ts ms apart h.1)
+each_apart cs hidden a t ts (event e ∷ ms) apart h =
+    (apart_parts (has a e) (has t.alphabet e) (is_passed ts e) (not_shared hidden a t.alphabet e h.0 apart), each_apart cs hidden a t ts ms apart h.2)
 
 -- each taken component has at most as many moves as its bound says
 abbrev AllBounded : List ℕ → List Taken → List Move → Type 0
@@ -101,22 +74,18 @@ AllBounded hidden [] ms = Unit {0}
 AllBounded hidden (t ∷ ts) ms = (count (is_own t.part t.alphabet ts) ms ≤ bound_over hidden ts t) × AllBounded hidden ts ms
 
 -- so the moves that one of them takes part in are no more than those bounds that it shares
-foreign_le : (hidden a : List ℕ) (ts : List Taken) (ms : List Move) → AreHidden hidden ms → AllBounded hidden ts ms → count (is_foreign a ts) ms ≤ shared_bounds hidden a ts
-foreign_le hidden a [] ms h k = let none : count (is_foreign a []) ms ≡ 0 = count_none (is_foreign a []) ms (none_foreign a ms) in omega arith
-foreign_le hidden a (t ∷ ts) ms h k =
-    let rest : count (is_foreign a ts) ms ≤ shared_bounds hidden a ts = foreign_le hidden a ts ms h k.1 in
+foreign_le : {T : Type 0} (cs : List (Component T)) (hidden a : List ℕ) (ts : List Taken) (ms : List Move) → AreMoves hidden cs ms → AllBounded hidden ts ms → count (is_foreign a ts) ms ≤ shared_bounds hidden a ts
+foreign_le cs hidden a [] ms h k = let none : count (is_foreign a []) ms ≡ 0 = count_none (is_foreign a []) ms (none_foreign a ms) in omega arith
+foreign_le cs hidden a (t ∷ ts) ms h k =
+    let rest = foreign_le cs hidden a ts ms h k.1 in
+    let bounded = k.0 in
     elim (cases_Bool (share_hidden hidden a t.alphabet)) [
       | inl shares ↦
-          let here : count (is_foreign a (t ∷ ts)) ms ≤ count (is_own t.part t.alphabet ts) ms + count (is_foreign a ts) ms = count_le_sum (is_foreign a (t ∷ ts)) (is_own t.part t.alphabet ts) (is_foreign a ts) ms (each_split a t ts ms) in
-          let is : (if share_hidden hidden a t.alphabet then bound_over hidden ts t else 0) ≡ bound_over hidden ts t = cond-true (share_hidden hidden a t.alphabet) (bound_over hidden ts t) 0 shares in
-          subst (λ n. count (is_foreign a (t ∷ ts)) ms ≤ n + shared_bounds hidden a ts) (sym is)
-          (added_up (count (is_foreign a (t ∷ ts)) ms) (count (is_own t.part t.alphabet ts) ms) (count (is_foreign a ts) ms) (bound_over hidden ts t) (shared_bounds hidden a ts) here k.0 rest)
+          let here = count_le_sum (is_foreign a (t ∷ ts)) (is_own t.part t.alphabet ts) (is_foreign a ts) ms (each_split a t ts ms) in
+          rw (cond-true (share_hidden hidden a t.alphabet) (bound_over hidden ts t) 0 shares) (omega (arith, here, rest, bounded))
       | inr none ↦
-          let here : count (is_foreign a (t ∷ ts)) ms ≤ count (is_foreign a ts) ms = count_le (is_foreign a (t ∷ ts)) (is_foreign a ts) ms (each_apart hidden a t ts ms none h) in
-          let less : count (is_foreign a (t ∷ ts)) ms ≤ 0 + count (is_foreign a ts) ms = omega arith in
-          let is : (if share_hidden hidden a t.alphabet then bound_over hidden ts t else 0) ≡ 0 = cond-false (share_hidden hidden a t.alphabet) (bound_over hidden ts t) 0 none in
-          subst (λ n. count (is_foreign a (t ∷ ts)) ms ≤ n + shared_bounds hidden a ts) (sym is)
-          (added_up (count (is_foreign a (t ∷ ts)) ms) 0 (count (is_foreign a ts) ms) 0 (shared_bounds hidden a ts) less (omega arith) rest)
+          let here = count_le (is_foreign a (t ∷ ts)) (is_foreign a ts) ms (each_apart cs hidden a t ts ms none h) in
+          rw (cond-false (share_hidden hidden a t.alphabet) (bound_over hidden ts t) 0 none) (omega (arith, here, rest))
     ]
 
 -- ---- the bounds hold
@@ -142,19 +111,17 @@ stands Step s k (x ∷ cs) (u ∷ us) (v ∷ vs) ms (suc i) c a l h =
     subst (λ n. Stands Step c n ms) there (stands Step s (suc k) cs us vs ms i c a.1 l.1 h)
 
 module _ {T : Type 0} (Step : T → Label → T → Type 0) (hidden s : List ℕ) (cs us vs : List (Component T)) (ms : List Move)
-    (after : AllAfter Step s cs us) (along : AllAlong Step 0 us ms vs) (hides : AreHidden hidden ms) where
+    (after : AllAfter Step s cs us) (along : AllAlong Step 0 us ms vs) (moves : AreMoves hidden cs ms) where
   one_bounded : (t : Taken) (ts : List Taken) → IsNext Step hidden cs ts t → AllBounded hidden ts ms → count (is_own t.part t.alphabet ts) ms ≤ bound_over hidden ts t
   one_bounded t ts next h =
       let at = stands Step s 0 cs us vs ms t.part next.component after along next.at in
       let number : 0 + t.part ≡ t.part = omega arith in
       let goes = subst (λ n. Along Step n at.from ms at.to) number at.along in
-      let same : at.from.alphabet ≡ t.alphabet = sym at.alphabet ∙ next.alphabet in
       let walked : Walked Step hidden ts next.component t.height next.height.most 0 at.from at.from = record { began = at.reached; walk = refl; now = at.reached } in
-      let own = own_moves Step hidden ts next.component t.height next.height.most t.part ms 0 at.from at.from at.to walked hides goes in
-      let mine : 0 + count (is_own t.part t.alphabet ts) ms ≤ t.height * suc (count (is_foreign t.alphabet ts) ms) = subst (λ a. 0 + count (is_own t.part a ts) ms ≤ t.height * suc (count (is_foreign a ts) ms)) same own in
-      let foreign : count (is_foreign t.alphabet ts) ms ≤ shared_bounds hidden t.alphabet ts = foreign_le hidden t.alphabet ts ms hides h in
+      let own = own_moves Step hidden ts next.component t.height next.height.most cs t.part t.alphabet ms 0 at.from at.from at.to walked (sym at.alphabet ∙ next.alphabet) moves goes in
+      let foreign : count (is_foreign t.alphabet ts) ms ≤ shared_bounds hidden t.alphabet ts = foreign_le cs hidden t.alphabet ts ms moves h in
       let whole : t.height * suc (count (is_foreign t.alphabet ts) ms) ≤ bound_over hidden ts t = mul-le-mul_left t.height (omega arith) in
-      omega (arith, mine, whole)
+      omega (arith, own, whole)
 
   all_bounded : (ts : List Taken) → AreTaken Step hidden cs ts → AllBounded hidden ts ms
   all_bounded [] a = tt
@@ -177,8 +144,10 @@ none_taken (m ∷ ms) = (refl, none_taken ms)
 taken_le : (hidden : List ℕ) (ts : List Taken) (ms : List Move) → AllBounded hidden ts ms → count (is_taken ts) ms ≤ hidden_bound hidden ts
 taken_le hidden [] ms h = let none : count (is_taken []) ms ≡ 0 = count_none (is_taken []) ms (none_taken ms) in omega arith
 taken_le hidden (t ∷ ts) ms h =
-    added_up (count (is_taken (t ∷ ts)) ms) (count (is_own t.part t.alphabet ts) ms) (count (is_taken ts) ms) (bound_over hidden ts t) (hidden_bound hidden ts)
-    (count_le_sum (is_taken (t ∷ ts)) (is_own t.part t.alphabet ts) (is_taken ts) ms (each_or t ts ms)) h.0 (taken_le hidden ts ms h.1)
+    let here = count_le_sum (is_taken (t ∷ ts)) (is_own t.part t.alphabet ts) (is_taken ts) ms (each_or t ts ms) in
+    let bounded = h.0 in
+    let rest = taken_le hidden ts ms h.1 in
+    omega (arith, here, bounded, rest)
 
 quiet_taken : (j : ℕ) (ts : List Taken) → IsAmong j ts → is_taken ts (quiet j) ≡ true
 quiet_taken j [] h = absurd h
@@ -212,11 +181,6 @@ module _ {T : Type 0} (Step : T → Label → T → Type 0) (hidden : List ℕ) 
 
 -- ---- the network
 
-hidden_moves : {T : Type 0} (hidden : List ℕ) (cs : List (Component T)) (ms : List Move) → AreMoves hidden cs ms → AreHidden hidden ms
-hidden_moves hidden cs [] a = tt
-hidden_moves hidden cs (quiet j ∷ ms) a = hidden_moves hidden cs ms a.1
-hidden_moves hidden cs (event e ∷ ms) a = (a.0, hidden_moves hidden cs ms a.2)
-
 path_alphabets : {T : Type 0} (Step : T → Label → T → Type 0) (ls : List Label) (cs ds : List (Component T)) → Path (FlatStep Step) cs ls ds → alphabets cs ≡ alphabets ds
 path_alphabets Step [] cs ds h = ap alphabets h
 path_alphabets Step (l ∷ ls) cs ds h = flat_alphabets Step cs l h.0 h.1 ∙ path_alphabets Step ls h.0 ds h.2
@@ -236,8 +200,8 @@ hidden_steps_are_bounded Step tree u v hidden order n w is r h =
     let after = all_after Step r.0 (leaves tree) (leaves u) run in
     let m = has_moves Step hidden n (leaves u) (leaves v) (walk_forth Step hidden n u v nested h) in
     let back : alphabets (leaves u) ≡ alphabets (leaves tree) = sym (path_alphabets Step r.0 (leaves tree) (leaves u) run) in
-    let moves = moves_along hidden (leaves u) (leaves tree) m.moves (as_many_alphabets (leaves u) (leaves tree) back) (λ e. same_some (leaves u) (leaves tree) e back) m.are in
-    let bounded = all_bounded Step hidden (visible_events r.0) (leaves tree) (leaves u) (leaves v) m.moves after m.along (hidden_moves hidden (leaves tree) m.moves moves) order is.taken in
+    let moves = moves_along hidden (leaves u) (leaves tree) m.moves back m.are in
+    let bounded = all_bounded Step hidden (visible_events r.0) (leaves tree) (leaves u) (leaves v) m.moves after m.along moves order is.taken in
     let most : length m.moves ≤ count (is_taken order) m.moves = count_all (is_taken order) m.moves (all_taken Step hidden (leaves tree) order m.moves is moves) in
     let total : count (is_taken order) m.moves ≤ hidden_bound hidden order = taken_le hidden order m.moves bounded in
     let many : length m.moves ≡ n = m.count in

@@ -1,5 +1,6 @@
-pub mod Moves
-pub mod Counting
-pub mod Own
 pub mod Agreeing
 pub mod Bounding
+pub mod Counting
+pub mod Moves
+pub mod Own
+pub mod Prelude

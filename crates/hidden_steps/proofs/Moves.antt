@@ -1,11 +1,5 @@
 -- A run of silent and hidden steps as a list of moves, which each component goes along with.
-use Rattle.std.proofs.Common.{◌≡◌, ◌<◌, ◌+◌, ◌≤◌, ℕ, zero, suc, inl, inr, List, [], ◌∷◌, length, true, false, nat_eq, IsTrue, MatchBool, refl, sym, ap, subst, arith}
-use Rattle.std.proofs.lemmas.Bool.Decides.{nat_tests}
-use Rattle.digraph.specs.Walk.{Walk}
-use Rattle.csp_base.specs.Members.{has}
-use Rattle.csp_tables.specs.Prelude.{Label, silent, visible, Component, ComponentStep, in_some_component, OneMoves, AllTakePart, FlatStep}
-use Rattle.net_sound.proofs.FlatLists.{flat_alphabets, match_true, match_false, same_some}
-use Rattle.hidden_steps.specs.Bounded.{HiddenStep}
+use Rattle.hidden_steps.proofs.Prelude.{◌≡◌, ◌<◌, ◌+◌, ◌≤◌, ℕ, zero, suc, inl, inr, List, [], ◌∷◌, length, nat_eq, IsTrue, MatchBool, refl, sym, ap, subst, ◌∙◌, arith, eq-eqb, length-map, ne_eqb, Walk, has, Label, silent, visible, Component, ComponentStep, in_some_component, OneMoves, AllTakePart, FlatStep, alphabets, flat_alphabets, match_true, match_false, same_some, HiddenStep}
 
 -- a component moves silently, or an event happens
 pub data Move : Type 0 where
@@ -29,21 +23,12 @@ none_along : {T : Type 0} (Step : T → Label → T → Type 0) (k : ℕ) (cs : 
 none_along Step k [] = tt
 none_along Step k (c ∷ cs) = (refl, none_along Step (suc k) cs)
 
-apart : (i j : ℕ) → j < i → nat_eq i j ≡ false
-apart i j h = grind (arith, nat_tests)
-
-same : (i : ℕ) → nat_eq i i ≡ true
-same i = grind (arith, nat_tests)
-
-others : (i j : ℕ) → i < j → nat_eq i j ≡ false
-others i j h = grind (arith, nat_tests)
-
 -- components with greater numbers stay
 all_stay : {T : Type 0} (Step : T → Label → T → Type 0) (k j : ℕ) (cs : List (Component T)) (ms : List Move) (ds : List (Component T)) → j < k → AllAlong Step k cs ms ds → AllAlong Step k cs (quiet j ∷ ms) ds
 all_stay Step k j [] ms [] h a = tt
 all_stay Step k j [] ms (d ∷ ds) h a = absurd a
 all_stay Step k j (c ∷ cs) ms [] h a = absurd a
-all_stay Step k j (c ∷ cs) ms (d ∷ ds) h a = ((c, match_false (nat_eq k j) _ _ (apart k j h) refl, a.0), all_stay Step (suc k) j cs ms ds (omega arith) a.1)
+all_stay Step k j (c ∷ cs) ms (d ∷ ds) h a = ((c, match_false (nat_eq k j) _ _ (ne_eqb k j (λ e. omega (arith, e, h))) refl, a.0), all_stay Step (suc k) j cs ms ds (omega arith) a.1)
 
 -- a silent step of one of them, first
 pub record OneFirst {T : Type 0} (Step : T → Label → T → Type 0) (k : ℕ) (cs : List (Component T)) (ms : List Move) (ds : List (Component T)) : Type 0 where
@@ -60,7 +45,7 @@ one_first Step k (c ∷ cs) (x ∷ xs) ms (d ∷ ds) (inl h) a = record {
   mover = k;
   from = omega arith;
   to = omega arith;
-  along = ((x, match_true (nat_eq k k) _ _ (same k) h.0, a.0), all_stay Step (suc k) k cs ms ds (omega arith) (subst (λ zs. AllAlong Step (suc k) zs ms ds) (sym h.1) a.1));
+  along = ((x, match_true (nat_eq k k) _ _ (eq-eqb k k refl) h.0, a.0), all_stay Step (suc k) k cs ms ds (omega arith) (subst (λ zs. AllAlong Step (suc k) zs ms ds) (sym h.1) a.1));
 }
 one_first Step k (c ∷ cs) (x ∷ xs) ms (d ∷ ds) (inr h) a =
     let r = one_first Step (suc k) cs xs ms ds h.1 a.1 in
@@ -70,7 +55,7 @@ one_first Step k (c ∷ cs) (x ∷ xs) ms (d ∷ ds) (inr h) a =
       mover = r.mover;
       from = omega arith;
       to = omega arith;
-      along = ((x, match_false (nat_eq k r.mover) _ _ (others k r.mover (omega arith)) h.0, a.0), r.along);
+      along = ((x, match_false (nat_eq k r.mover) _ _ (ne_eqb k r.mover (λ e. omega (arith, e, from))) h.0, a.0), r.along);
     }
 
 event_first : {T : Type 0} (Step : T → Label → T → Type 0) (k e : ℕ) (cs xs : List (Component T)) (ms : List Move) (ds : List (Component T)) → AllTakePart Step e cs xs → AllAlong Step k xs ms ds → AllAlong Step k cs (event e ∷ ms) ds
@@ -87,10 +72,14 @@ AreMoves hidden cs [] = Unit {0}
 AreMoves hidden cs (quiet j ∷ ms) = (j < length cs) × AreMoves hidden cs ms
 AreMoves hidden cs (event e ∷ ms) = IsTrue (has hidden e) × IsTrue (in_some_component cs e) × AreMoves hidden cs ms
 
-pub moves_along : {T : Type 0} (hidden : List ℕ) (cs ds : List (Component T)) (ms : List Move) → length cs ≡ length ds → ((e : ℕ) → in_some_component cs e ≡ in_some_component ds e) → AreMoves hidden cs ms → AreMoves hidden ds ms
-moves_along hidden cs ds [] n s a = tt
-moves_along hidden cs ds (quiet j ∷ ms) n s a = (let less : j < length cs = a.0 in omega arith, moves_along hidden cs ds ms n s a.1)
-moves_along hidden cs ds (event e ∷ ms) n s a = (a.0, subst IsTrue (s e) a.1, moves_along hidden cs ds ms n s a.2)
+-- the same components have them, by their alphabets
+as_many : {T : Type 0} (cs ds : List (Component T)) → alphabets cs ≡ alphabets ds → length cs ≡ length ds
+as_many cs ds same = sym (length-map cs (λ c. c.alphabet)) ∙ ap length same ∙ length-map ds (λ c. c.alphabet)
+
+pub moves_along : {T : Type 0} (hidden : List ℕ) (cs ds : List (Component T)) (ms : List Move) → alphabets cs ≡ alphabets ds → AreMoves hidden cs ms → AreMoves hidden ds ms
+moves_along hidden cs ds [] same a = tt
+moves_along hidden cs ds (quiet j ∷ ms) same a = (let less : j < length cs = a.0 in let many = as_many cs ds same in omega (arith, less, many), moves_along hidden cs ds ms same a.1)
+moves_along hidden cs ds (event e ∷ ms) same a = (a.0, subst IsTrue (same_some cs ds e same) a.1, moves_along hidden cs ds ms same a.2)
 
 -- the moves of a run of silent and hidden steps
 pub record HasMoves {T : Type 0} (Step : T → Label → T → Type 0) (hidden : List ℕ) (n : ℕ) (cs ds : List (Component T)) : Type 0 where
@@ -98,18 +87,6 @@ pub record HasMoves {T : Type 0} (Step : T → Label → T → Type 0) (hidden :
   pub count : length moves ≡ n
   pub are : AreMoves hidden cs moves
   pub along : AllAlong Step 0 cs moves ds
-
-as_many : {T : Type 0} (Step : T → Label → T → Type 0) (cs xs : List (Component T)) → OneMoves Step cs xs → length cs ≡ length xs
-as_many Step [] xs h = absurd h
-as_many Step (c ∷ cs) [] h = absurd h
-as_many Step (c ∷ cs) (x ∷ xs) (inl h) = ap (λ zs. suc (length zs)) h.1
-as_many Step (c ∷ cs) (x ∷ xs) (inr h) = ap suc (as_many Step cs xs h.1)
-
-as_many_part : {T : Type 0} (Step : T → Label → T → Type 0) (e : ℕ) (cs xs : List (Component T)) → AllTakePart Step e cs xs → length cs ≡ length xs
-as_many_part Step e [] [] h = refl
-as_many_part Step e [] (x ∷ xs) h = absurd h
-as_many_part Step e (c ∷ cs) [] h = absurd h
-as_many_part Step e (c ∷ cs) (x ∷ xs) h = ap suc (as_many_part Step e cs xs h.1)
 
 pub has_moves : {T : Type 0} (Step : T → Label → T → Type 0) (hidden : List ℕ) (n : ℕ) (cs ds : List (Component T)) → Walk (HiddenStep (FlatStep Step) hidden) n cs ds → HasMoves Step hidden n cs ds
 has_moves Step hidden zero cs ds h = record { moves = []; count = refl; are = tt; along = subst (AllAlong Step 0 cs []) h (none_along Step 0 cs) }
@@ -121,13 +98,13 @@ has_moves Step hidden (suc n) cs ds h =
           record {
             moves = quiet one.mover ∷ r.moves;
             count = ap suc r.count;
-            are = ((let to : one.mover < 0 + length cs = one.to in omega arith), moves_along hidden h.0 cs r.moves (sym (as_many Step cs h.0 s)) (λ e. same_some h.0 cs e (sym (flat_alphabets Step cs silent h.0 s))) r.are);
+            are = ((let to : one.mover < 0 + length cs = one.to in omega arith), moves_along hidden h.0 cs r.moves (sym (flat_alphabets Step cs silent h.0 s)) r.are);
             along = one.along;
           }
       | inr s ↦ record {
         moves = event s.0 ∷ r.moves;
         count = ap suc r.count;
-        are = (s.1, s.2.0, moves_along hidden h.0 cs r.moves (sym (as_many_part Step s.0 cs h.0 s.2.1)) (λ e. same_some h.0 cs e (sym (flat_alphabets Step cs (visible s.0) h.0 s.2))) r.are);
+        are = (s.1, s.2.0, moves_along hidden h.0 cs r.moves (sym (flat_alphabets Step cs (visible s.0) h.0 s.2)) r.are);
         along = event_first Step 0 s.0 cs h.0 r.moves ds s.2.1 r.along;
       }
     ]

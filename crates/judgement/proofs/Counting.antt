@@ -1,12 +1,9 @@
 -- Counting over lists of parts and of ranks, from the front.
-use Rattle.std.proofs.Common.{◌≡◌, ℕ, zero, suc, ◌+◌, ◌*◌, ◌^◌, ◌<◌, ◌≤◌, ℤ, max, List, [], ◌∷◌, ◌++◌, Vec, length, map, take, get_or, refl, sym, ap, ◌∙◌, add-one, arith}
-use Rattle.csp_base.specs.Standard.{Global, flat_map}
+use Rattle.judgement.proofs.Prelude.{◌≡◌, ℕ, zero, suc, ◌+◌, ◌*◌, ◌^◌, ◌<◌, ◌≤◌, ℤ, max, List, [], ◌∷◌, ◌++◌, Vec, length, map, take, get_or, refl, sym, ap, ◌∙◌, add-one, arith, flat_map, Part, part_at, PartRanks, greatest_from, node_count}
+use Rattle.csp_base.specs.Standard.{Global}
 use Rattle.std.proofs.Math.Seq.{take-suc}
-use Rattle.csp_tables.specs.Prelude.{Part, part_at, PartRanks}
 use Rattle.csp_base.specs.Lists.{natural}
 use Rattle.dl_limits.specs.declared.TheConstants.{MOST_COMPONENTS, MOST_SETS}
-use Rattle.design_rules.specs.RankCounts.{greatest_from}
-use Rattle.judgement.specs.Counts.{node_count}
 use Rattle.csp_base.proofs.Lists.{flat_map_push}
 
 one_more_part : (parts : List Part) (part : Part) → node_count (parts ++ part ∷ []) ≡ node_count parts + length part.table

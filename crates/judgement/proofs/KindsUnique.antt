@@ -1,9 +1,7 @@
 -- The class of a definition follows one way of ends, which leads to one end; so each definition has one kind.
-use Rattle.std.proofs.Common.{◌≡◌, ℕ, zero, suc, Bool, true, false, IsTrue, Option, Some, None, List, [], ◌∷◌, length, take, slice_get, refl, sym, ap, subst, ◌∙◌, arith}
+use Rattle.judgement.proofs.Prelude.{◌≡◌, ℕ, zero, suc, Bool, true, false, IsTrue, Option, Some, None, List, [], ◌∷◌, length, take, slice_get, refl, sym, ap, subst, ◌∙◌, arith, slice_get-map, LeadsTo, here, beyond, ends_at, first_ends, HasClass, IsKind, AreKinds, script_ends}
 use Rattle.std.specs.Option.{option_map}
-use Rattle.std.proofs.lemmas.Option.{slice_get-map}
 use Rattle.csp_text.specs.declared.script.Decl.{Decl}
-use Rattle.script_names.specs.Prelude.{LeadsTo, here, beyond, ends_at, first_ends, HasClass, IsKind, AreKinds, script_ends}
 use Rattle.script_names.specs.declared.kinds.Class.{Class}
 use Rattle.script_names.specs.declared.kinds.End.{End}
 use Rattle.script_names.specs.declared.kinds.Kind.{Kind}

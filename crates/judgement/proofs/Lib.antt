@@ -1,6 +1,7 @@
 mod Broken
 mod Counting
-mod Living
 pub mod KindsUnique
+mod Living
 pub mod Notes
 pub mod OneNetwork
+pub mod Prelude

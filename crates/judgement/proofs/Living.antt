@@ -1,17 +1,9 @@
 -- Where the shape of a network meets the rule, the network is free of deadlock: the theorem about ranks, at the steps of the network's program.
-use Rattle.std.proofs.Common.{ℕ}
-use Rattle.csp_tables.specs.Prelude.{Ranking, Shape}
+use Rattle.judgement.proofs.Prelude.{ℕ, Ranking, Shape, networks_meet, Ranks, NotedRule, shapes_are_well_formed, HasSilentBound, IsLive, IsSpelled, Network, IsApart, StaysBusy, ProcessStep, Meets}
 use Rattle.design_rules.proofs.Live.{met_rules_mean_live}
-use Rattle.design_rules.proofs.Readings.{networks_meet}
-use Rattle.design_rules.specs.Prelude.{Ranks}
-use Rattle.design_rules.specs.declared.noted_rule.NotedRule.{NotedRule}
-use Rattle.net_sound.proofs.FormOfTables.{shapes_are_well_formed}
 use Rattle.net_sound.proofs.ShapeOf.{shapes_behave}
 use Rattle.net_sound.specs.Soundness.{IsSound}
-use Rattle.network_stages.specs.Prelude.{HasSilentBound, IsLive, IsSpelled, Network, IsApart, StaysBusy}
 use Rattle.network_trees.proofs.InOrder.{network_is_tree}
-use Rattle.process_steps.specs.ComponentStep.{ProcessStep}
-use Rattle.judgement.specs.Noted.{Meets}
 
 pub live : (network : Network) (shape : Shape) (bound : ℕ) → IsSpelled network → IsApart network shape → StaysBusy network → HasSilentBound network bound
     → (rule : NotedRule) (ranking : Ranking) → Meets network rule → Ranks rule shape ranking → IsLive network bound

@@ -1,21 +1,14 @@
 -- What a rule notes: it is one thing, with something for each part; and it isn't there where a set has no value.
-use Rattle.std.proofs.Common.{◌≡◌, ℕ, zero, suc, List, [], ◌∷◌, Ok, Err, Some, length, slice_get, refl, sym, ap, subst, ◌∙◌, arith}
-use Rattle.std.proofs.lemmas.Option.{none-some, same_Some}
+use Rattle.judgement.proofs.Prelude.{◌≡◌, ℕ, zero, suc, List, [], ◌∷◌, Ok, Err, Some, length, slice_get, refl, sym, ap, subst, ◌∙◌, arith, none-some, same_Some, Proc, Component, leaves, Shape, ArePartsOf, HasNotes, NotedRule, Network, ProcessStep, HasUntold, Notes}
 use Rattle.csp_program.specs.Prelude.{Outcome, and_then}
 use Rattle.csp_program.specs.declared.kinds.ValueKind.{ValueKind}
-use Rattle.csp_program.specs.declared.processes.Proc.{Proc}
-use Rattle.csp_tables.specs.Prelude.{Component, leaves, Shape, ArePartsOf}
 use Rattle.csp_tables.specs.declared.rule.Rule.{Rule}
 use Rattle.csp_tables.specs.declared.rule.Rule.TheVariants.{ClientServer, Cyclic, Resource}
-use Rattle.design_rules.specs.Prelude.{HasNotes}
-use Rattle.design_rules.specs.declared.noted_rule.NotedRule.{NotedRule}
 use Rattle.net_sound.proofs.Parts.{one_part_each}
 use Rattle.network_layout.specs.Told.{IsUntold}
 use Rattle.network_layout.specs.declared.told.NotedFault.{NotedFault}
-use Rattle.network_stages.specs.Networks.{Network}
-use Rattle.process_steps.specs.Prelude.{ProcessStep, all_outcomes}
+use Rattle.process_steps.specs.Prelude.{all_outcomes}
 use Rattle.report.specs.declared.answer.Refusal.{Refusal}
-use Rattle.judgement.specs.Noted.{HasUntold, Notes}
 
 pub same_ok : {A : Type 0} (o : Outcome A) (x y : A) → o ≡ Ok x → o ≡ Ok y → x ≡ y
 same_ok o x y a b = cc

@@ -14,7 +14,7 @@ use resource_rule::resource;
 use std::alloc::Global;
 
 // The ranking of a network that meets the rule, or what breaks it.
-pub(crate) fn decided(
+pub(crate) fn decide(
     alloc: Global,
     rule: &NotedRule,
     shape: &Shape,

@@ -6,14 +6,14 @@ ghost use Rattle.report.specs.Stops.{Answers};
 ghost use Rattle.judgement.specs.Judged.{IsJudged, RuleDecides};
 
 use crate::free::deadlock_free;
-use crate::rules::{noted, ranked};
+use crate::rules::{noted_rule, ranking_by};
 use csp_tables::Rule;
 use network_stages::{Shaped, Spelled, check_busy, make_parts, make_shape, make_tables};
 use report::{Done, Halt};
 use std::alloc::Global;
 
 // What the rule says of a busy network with this silent bound.
-fn ruled(alloc: Global, rule: Rule, bound: u32, shaped: &Shaped<'_>) -> Result<Done, Halt>
+fn apply_rule(alloc: Global, rule: Rule, bound: u32, shaped: &Shaped<'_>) -> Result<Done, Halt>
     requires busy { StaysBusy shaped.now.network }
     requires bound { HasSilentBound shaped.now.network bound }
     ensures { Answers (RuleDecides shaped.now.network rule shaped.now.shape) result }
@@ -21,18 +21,18 @@ fn ruled(alloc: Global, rule: Rule, bound: u32, shaped: &Shaped<'_>) -> Result<D
     let _shape = shaped.shape();
     let network = shaped.network();
     let _program = network.program();
-    let notes = noted(alloc, rule, network)?;
-    let ranking = ranked(alloc, &notes, shaped)?;
+    let notes = noted_rule(alloc, rule, network)?;
+    let ranking = ranking_by(alloc, &notes, shaped)?;
     Ok(deadlock_free(rule, bound, shaped, &ranking))
 }
 
 /// The verdict on a network that is judged by a rule.
-pub fn judged(alloc: Global, rule: Rule, network: &Spelled) -> Result<Done, Halt>
+pub fn judge_by(alloc: Global, rule: Rule, network: &Spelled) -> Result<Done, Halt>
     ensures { Answers (IsJudged network.now rule) result }
 {
     let tabled = make_tables(alloc, network)?;
     let parted = make_parts(alloc, &tabled)?;
     let shaped = make_shape(alloc, parted)?;
     check_busy(alloc, &shaped)?;
-    ruled(alloc, rule, tabled.silent_bound(), &shaped)
+    apply_rule(alloc, rule, tabled.silent_bound(), &shaped)
 }

@@ -10,5 +10,5 @@ mod judging;
 mod laws;
 mod rules;
 
-pub use judging::judged;
+pub use judging::judge_by;
 pub use laws::each_script_has_one_network;

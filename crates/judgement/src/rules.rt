@@ -5,7 +5,7 @@ ghost use Rattle.design_rules.specs.Rules.{HasNotes, Ranks};
 ghost use Rattle.csp_base.specs.Stops.{Tells};
 ghost use Rattle.judgement.specs.Noted.{Breaks, HasUntold, Meets, Notes, noted_refusal};
 
-use crate::deciding::decided;
+use crate::deciding::decide;
 use csp_base::Stop;
 use csp_tables::{Ranking, Rule};
 use design_rules::NotedRule;
@@ -25,7 +25,7 @@ fn noted_refusal(fault: NotedFault) -> Refusal
 }
 
 // The rule with what the script of the network notes for it.
-pub(crate) fn noted(
+pub(crate) fn noted_rule(
     alloc: Global,
     rule: Rule,
     network: &Spelled,
@@ -49,7 +49,7 @@ pub(crate) fn noted(
 }
 
 // The ranking that the rule gives to a network with its shape, or what breaks the rule.
-pub(crate) fn ranked(
+pub(crate) fn ranking_by(
     alloc: Global,
     rule: &NotedRule,
     shaped: &Shaped<'_>,
@@ -60,7 +60,7 @@ pub(crate) fn ranked(
     ensures told { IfErr result (Tells (Breaks shaped.now.network rule.now)) }
 {
     let shape = shaped.shape();
-    match decided(alloc, rule, shape) {
+    match decide(alloc, rule, shape) {
         Ok(ranking) => Ok(ranking),
         Err(Stop::NoMemory) => Err(Stop::NoMemory),
         Err(Stop::Told(fault)) => Err(Stop::Told(Shortfall::Breaks(fault))),

@@ -1,11 +1,6 @@
 -- The nodes of a component's normal table are the classes of its traces: a run that leads to each node, one after another.
-use Rattle.std.proofs.Common.{◌≡◌, ◌⊎◌, inl, inr, ℕ, zero, suc, ◌+◌, ◌<◌, ◌≤◌, List, [], ◌∷◌, Some, slice_get, length, refl, sym, ap, subst, ◌∙◌, arith}
-use Rattle.csp_base.proofs.Standard.{cases_lt, same_Some, slice_get_within}
-use Rattle.csp_tables.specs.Prelude.{Label, Component, ComponentStep, Tree, leaves, IsReached, IsRun, Node, end_of, HasForm, HaveForm, Part, Shape, ArePartsOf, IsPartOf, IsShapeOf}
+use Rattle.judgement_laws.proofs.Prelude.{◌≡◌, ◌⊎◌, inl, inr, ℕ, zero, suc, ◌+◌, ◌<◌, ◌≤◌, List, [], ◌∷◌, Some, slice_get, length, refl, sym, ap, subst, ◌∙◌, arith, cases_lt, same_Some, slice_get_within, Label, Component, ComponentStep, Tree, leaves, IsReached, IsRun, Node, end_of, HasForm, HaveForm, Part, Shape, ArePartsOf, IsPartOf, IsShapeOf, node_count, shapes_are_well_formed, HasClasses, HaveClasses}
 use Rattle.design_rules.proofs.Runs.{end_within}
-use Rattle.judgement.specs.Counts.{node_count}
-use Rattle.net_sound.proofs.FormOfTables.{shapes_are_well_formed}
-use Rattle.judgement_laws.specs.Classes.{HasClasses, HaveClasses}
 
 -- the members f k, f (k + 1) and so on, m of them
 abbrev row_of : {A : Type 0} → (ℕ → A) → ℕ → ℕ → List A

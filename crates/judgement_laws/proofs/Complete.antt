@@ -1,28 +1,13 @@
 -- Where a network passes, no point of its judgement can tell a fault. And two verdicts on one network have one status.
-use Rattle.std.proofs.Common.{◌≡◌, ◌≤◌, ℕ, length, take, sym, ap, subst, ◌∙◌, arith}
-use Rattle.std.specs.Prelude.{min}
-use Rattle.csp_base.proofs.Standard.{length-take, slice_get_within}
-use Rattle.csp_tables.specs.Prelude.{leaves, TripleDisjoint, sharers, Shape}
-use Rattle.csp_tables.specs.declared.rule.Rule.{Rule}
+use Rattle.judgement_laws.proofs.Prelude.{◌≡◌, ◌≤◌, ℕ, length, take, sym, ap, subst, ◌∙◌, arith, min, length-take, slice_get_within, leaves, TripleDisjoint, sharers, Shape, Rule, NotedRule, one_network, IsDeadlockFree, IsJudged, RuleDecides, Breaks, Meets, Notes, notes_of, Network, HaveFewSets, IsApart, CanStop, HasNoParts, ShareEvent, StaysBusy, ProcessStep, Point, UnprovedUnless, passed, told, verdict_status, Refusal, Shortfall, Verdict, EachScriptHasOneStatus, Passes}
 use Rattle.design_rules.proofs.Readings.{network_faults_refute}
-use Rattle.design_rules.specs.declared.noted_rule.NotedRule.{NotedRule}
 use Rattle.design_rules.specs.declared.rule_fault.RuleFault.{RuleFault}
 use Rattle.judgement.proofs.Notes.{all_told, same_ok}
-use Rattle.judgement.proofs.OneNetwork.{one_network}
-use Rattle.judgement.specs.Judged.{IsDeadlockFree, IsJudged, RuleDecides}
-use Rattle.judgement.specs.Noted.{Breaks, Meets, Notes, notes_of}
 use Rattle.network_layout.proofs.Triples.{length-holders}
 use Rattle.network_layout.specs.Triple.{alphabets, holders}
 use Rattle.network_stages.proofs.Excluded.{faults_exclude_tables}
-use Rattle.network_stages.specs.Prelude.{Network, HaveFewSets, IsApart, CanStop, HasNoParts, ShareEvent, StaysBusy}
-use Rattle.process_steps.specs.ComponentStep.{ProcessStep}
-use Rattle.report.specs.Prelude.{Point, UnprovedUnless, passed, told, verdict_status}
-use Rattle.report.specs.declared.answer.Refusal.{Refusal}
-use Rattle.report.specs.declared.answer.Shortfall.{Shortfall}
-use Rattle.report.specs.declared.answer.Verdict.{Verdict}
 use Rattle.report.specs.declared.answer.Side.TheVariants as side
 use Rattle.report.specs.declared.answer.Verdict.TheVariants as verdict
-use Rattle.judgement_laws.specs.Complete.{EachScriptHasOneStatus, Passes}
 
 -- what holds at a point where no fault is told
 pub goes_past : {A F X : Type 0} (Fails : F → Type 0) (Tells : F → A → Type 0) (Is : X → Type 0) (Then : X → A → Type 0) (Q : Type 0) (a : A) → ((f : F) → Fails f → ⊥)

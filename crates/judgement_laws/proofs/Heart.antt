@@ -1,16 +1,12 @@
 -- The theorem about rankings, at the steps of a program.
-use Rattle.std.proofs.Common.{refl}
-use Rattle.csp_tables.specs.Prelude.{IsGoodRanking, leaves}
+use Rattle.judgement_laws.proofs.Prelude.{refl, IsGoodRanking, leaves, shapes_are_well_formed, good_rankings_mean_live, Network, ProcessStep}
 use Rattle.net_sound.proofs.Flattening.{flat_steps_are_tree_steps, tree_steps_are_flat}
-use Rattle.net_sound.proofs.FormOfTables.{shapes_are_well_formed}
 use Rattle.net_sound.proofs.Local.{run_kept}
 use Rattle.net_sound.proofs.ShapeOf.{shapes_behave}
-use Rattle.net_sound.proofs.Soundness.{good_rankings_mean_live}
 use Rattle.net_sound.specs.Soundness.{IsSound}
-use Rattle.network_stages.specs.Networks.{HasSilentBound, IsSpelled, Network}
+use Rattle.network_stages.specs.Networks.{HasSilentBound, IsSpelled}
 use Rattle.network_stages.proofs.HeightSums.{bound_is}
 use Rattle.network_trees.proofs.InOrder.{network_is_tree}
-use Rattle.process_steps.specs.ComponentStep.{ProcessStep}
 use Rattle.judgement_laws.specs.Heart.{GoodRankingsMeanLive, IsFlat, bound_of}
 
 is_flat : (network : Network) → IsSpelled network → IsFlat network

@@ -1,9 +1,8 @@
 -- A script that has a network has no reason why it should have none.
-use Rattle.std.proofs.Common.{◌≡◌, Result, Ok, Err, inl, inr, sym, ap, ◌∙◌}
+use Rattle.judgement_laws.proofs.Prelude.{◌≡◌, Result, Ok, Err, inl, inr, sym, ap, ◌∙◌, one_program}
 use Rattle.script_names.specs.Resolved.{resolved}
 use Rattle.network_trees.specs.NetworkOf.{network_of}
 use Rattle.judgement.proofs.KindsUnique.{kinds_are_unique}
-use Rattle.judgement.proofs.OneNetwork.{one_program}
 use Rattle.judgement_laws.specs.Laws.{FaultsExcludeNetworks}
 use Rattle.typed_laws.proofs.Programs.{program_resolves}
 

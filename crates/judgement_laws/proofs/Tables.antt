@@ -1,18 +1,12 @@
 -- Components that have their tables go on: no term that they reach ends or lacks a value.
-use Rattle.std.proofs.Common.{◌≡◌, ℕ, zero, suc, List, [], ◌∷◌, Some, slice_get, subst}
-use Rattle.std.proofs.lemmas.Option.{none-some, same_Some}
+use Rattle.judgement_laws.proofs.Prelude.{◌≡◌, ℕ, zero, suc, List, [], ◌∷◌, Some, slice_get, subst, same_Some, Component, ComponentStep, Reached, standing_at, path_alphabet, AreTablesOf, AreTablesWithin, HasTable, IsTableWithin, room_after, whole_room, ComponentTable, ProcessStep, AllGoOn, GoesOn}
+use Rattle.std.proofs.lemmas.Option.{none-some}
 use Rattle.csp_program.specs.declared.processes.Proc.{Proc}
 use Rattle.csp_program.specs.declared.programs.Content.{Content}
-use Rattle.csp_tables.specs.Prelude.{Component, ComponentStep, Reached, standing_at}
 use Rattle.local_tables.specs.Prelude.{IsLocalTable, Room}
 use Rattle.local_tables.specs.declared.local_table.LocalTable.{LocalTable}
 use Rattle.local_tables.proofs.Excluding.{listed_of}
 use Rattle.net_sound.proofs.Numbered.{stands}
-use Rattle.net_sound.proofs.Soundness.{path_alphabet}
-use Rattle.network_stages.specs.Prelude.{AreTablesOf, AreTablesWithin, HasTable, IsTableWithin, room_after, whole_room}
-use Rattle.network_stages.specs.declared.component_tables.ComponentTable.{ComponentTable}
-use Rattle.process_steps.specs.ComponentStep.{ProcessStep}
-use Rattle.judgement_laws.specs.Lasting.{AllGoOn, GoesOn}
 
 module _ (p : Content) where
   table_of : (room : Room) (cs : List (Component Proc)) (ts : List ComponentTable) → AreTablesWithin p room cs ts → (i : ℕ) (c : Component Proc) → slice_get cs i ≡ Some c

@@ -1,25 +1,8 @@
 -- What stands where a network is judged free of deadlock: all that the walk found on its way.
-use Rattle.std.proofs.Common.{◌≡◌, List, refl, arith}
-use Rattle.std.specs.Prelude.{pos}
-use Rattle.csp_tables.specs.Prelude.{leaves, Shape}
-use Rattle.csp_tables.specs.declared.rule.Rule.{Rule}
-use Rattle.design_rules.specs.declared.noted_rule.NotedRule.{NotedRule}
-use Rattle.judgement.specs.Counts.{node_count}
-use Rattle.judgement.specs.Judged.{IsDeadlockFree, IsJudged, RuleDecides}
-use Rattle.judgement.specs.Noted.{Meets, Notes}
-use Rattle.network_stages.specs.Prelude.{Network, IsApart, HasTables, StaysBusy, HaveFewSets}
-use Rattle.network_stages.specs.declared.component_tables.ComponentTable.{ComponentTable}
-use Rattle.process_steps.specs.ComponentStep.{ProcessStep}
+use Rattle.judgement_laws.proofs.Prelude.{◌≡◌, List, refl, arith, pos, leaves, Shape, Rule, NotedRule, node_count, IsDeadlockFree, IsJudged, RuleDecides, Meets, Notes, Network, IsApart, HasTables, StaysBusy, HaveFewSets, ComponentTable, ProcessStep, verdict_status, Refusal, Shortfall, Verdict, HaveClasses, JudgementIsExact, Passes, AllGoOn}
 use Rattle.report.proofs.Points.{refused_or, unproved_or}
-use Rattle.report.specs.Prelude.{verdict_status}
-use Rattle.report.specs.declared.answer.Refusal.{Refusal}
-use Rattle.report.specs.declared.answer.Shortfall.{Shortfall}
-use Rattle.report.specs.declared.answer.Verdict.{Verdict}
 use Rattle.report.specs.declared.answer.Side.TheVariants as side
 use Rattle.report.specs.declared.answer.Verdict.TheVariants as verdict
-use Rattle.judgement_laws.specs.Classes.{HaveClasses}
-use Rattle.judgement_laws.specs.Complete.{JudgementIsExact, Passes}
-use Rattle.judgement_laws.specs.Lasting.{AllGoOn}
 use Rattle.judgement_laws.specs.Ranked.{HasGreatestRank}
 use Rattle.judgement_laws.proofs.Classes.{shape_has_classes}
 use Rattle.judgement_laws.proofs.Complete.{complete}

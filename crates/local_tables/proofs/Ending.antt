@@ -21,6 +21,7 @@ use Rattle.local_tables.specs.declared.local_table.LocalTable.{LocalTable}
 use Rattle.local_tables.specs.declared.task.Task.{Task}
 use Rattle.local_tables.proofs.Following.{are_steps, complete, endless, in_order, lacks_none, under_map}
 use Rattle.local_tables.proofs.Walking.{reached}
+use Rattle.dl_limits.specs.declared.TheConstants.{MOST_TERMS}
 
 -- ---- sizes
 
@@ -147,7 +148,7 @@ module _ (task : Task) (trees : List Proc) (found : Found) (at : ℕ) (every : f
           goes_on = endless task terms found.table m f.0 f.1 x h;
           shallow = up.within.shallow m x h;
         };
-        few = let ids = length-map found.terms (tree_at trees) in let few : length found.terms ≤ 16384 = up.within.few in omega arith;
+        few = let ids = length-map found.terms (tree_at trees) in let few : length found.terms ≤ MOST_TERMS = up.within.few in omega arith;
         nodes = sizes_exact terms (omega arith) ∙ sizes ∙ sym nodes;
         steps = ap step_count table ∙ sym steps;
         room_for_nodes = omega arith;

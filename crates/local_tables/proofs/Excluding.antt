@@ -12,6 +12,7 @@ use Rattle.process_steps.specs.ComponentStep.{ProcessStep}
 use Rattle.local_tables.specs.Prelude.{AreSteps, AreTerms, FaultsExcludeTables}
 use Rattle.net_sound.proofs.Numbered.{run_down}
 use Rattle.process_steps.specs.declared.component_fault.ComponentFault.TheVariants as fault
+use Rattle.dl_limits.specs.declared.TheConstants.{MOST_TERMS}
 
 -- the list without the element in a place
 without : {X : Type 0} → ℕ → List X → List X
@@ -149,9 +150,9 @@ excluded p c room made (fault.Value reason) table tells =
     let clash : Ok list.0 ≡ Err reason = sym list.1 ∙ tells.none in
     cc
 excluded p c room made fault.TermCount table tells =
-    let many : 16384 < length tells.terms = tells.many in
+    let many : MOST_TERMS < length tells.terms = tells.many in
     let few : length tells.terms ≤ length table.terms = few_terms p c table.terms made.table table.table tells.terms tells.are in
-    let most : length table.terms ≤ 16384 = table.few in
+    let most : length table.terms ≤ MOST_TERMS = table.few in
     omega arith
 excluded p c room made fault.TermDepth table tells =
     let deep : 800 < proc_depth tells.term = tells.deep in

@@ -1,11 +1,5 @@
 -- Levels and uses, from those of the occurrences that are left.
-use Rattle.std.proofs.Common.{◌≡◌, ℕ, ◌+◌, ◌<◌, max, List, [], ◌∷◌, ◌++◌, length, map, drop, get_or, ap, sym, ◌∙◌, append_assoc, arith}
-use Rattle.csp_base.specs.Standard.{Bor, flat_map}
-use Rattle.csp_base.proofs.Lists.{drop_read}
-use Rattle.script_names.specs.Prelude.{Name}
-use Rattle.script_names.specs.declared.occurrence.Occurrence.{Occurrence}
-use Rattle.name_faults.specs.Bodies.{greatest_level, level_of, use_of}
-use Rattle.name_faults.specs.Walked.{seen}
+use Rattle.name_faults.proofs.Prelude.{◌≡◌, ℕ, ◌+◌, ◌<◌, max, List, [], ◌∷◌, ◌++◌, length, map, drop, get_or, ap, sym, ◌∙◌, append_assoc, arith, Bor, flat_map, drop_read, Name, Occurrence, greatest_level, level_of, use_of, seen}
 
 module _ (os : List (Occurrence (Bor Name))) (i : ℕ) (o : Occurrence (Bor Name)) where
   pub level_later : (now whole : ℕ) → i < length os → o ≡ get_or os i o → max now (greatest_level (map seen (drop i os))) ≡ whole

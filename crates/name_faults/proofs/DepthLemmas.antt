@@ -1,17 +1,7 @@
 -- Depths by rounds: they are those of the definition, and once a round changes nothing no later one does.
-use Rattle.std.proofs.Common.{◌≡◌, ℕ, zero, suc, ◌+◌, ◌-◌, ◌≤◌, ◌<◌, max, min, Bool, true, IsTrue, ◌↔◌, Option, Some, None, List, [], ◌∷◌, ◌++◌, map, slice_get, slice_index, nat_lt, add-one, refl, sym, ap, ◌∙◌, subst, arith}
-use Rattle.csp_base.proofs.Standard.{lt-ltb, ltb-true, ltb_from_iff, slice_get-map}
-use Rattle.csp_base.specs.Standard.{flat_map, option_map}
-use Rattle.script_names.specs.declared.kinds.Entity.TheVariants as entity
-use Rattle.script_names.specs.Prelude.{below, deepest, depth_within, reach, said_by, Name}
+use Rattle.name_faults.proofs.Prelude.{◌≡◌, ℕ, zero, suc, ◌+◌, ◌-◌, ◌≤◌, ◌<◌, max, min, Bool, true, IsTrue, ◌↔◌, Option, Some, None, List, [], ◌∷◌, ◌++◌, map, slice_get, slice_index, nat_lt, add-one, refl, sym, ap, ◌∙◌, subst, arith, lt-ltb, ltb-true, ltb_from_iff, slice_get-map, flat_map, option_map, below, deepest, depth_within, reach, said_by, Name, Occurrence, Binds, Notes, Uses, Form, Parallel, Declares, Body, body_of, greatest_level, level_of, use_of, used, deepest_if, deepest_of, deepest_use, Entity, Use}
 use Rattle.script_names.specs.declared.kinds.Sense.{Sense}
-use Rattle.script_names.specs.declared.occurrence.Occurrence.{Occurrence}
-use Rattle.script_names.specs.declared.occurrence.Occurrence.TheVariants.{Binds, Notes, Uses, Form, Parallel, Declares}
-use Rattle.script_names.specs.declared.kinds.Sense.TheVariants as sense
-use Rattle.script_names.specs.declared.kinds.Use.TheVariants as how
-use Rattle.name_faults.specs.declared.body.Body.{Body}
-use Rattle.name_faults.specs.Bodies.{body_of, greatest_level, level_of, use_of, used}
-use Rattle.name_faults.specs.Depths.{AreWithin, deepest_if, deepest_of, deepest_use, within}
+use Rattle.name_faults.specs.Depths.{AreWithin, within}
 
 -- how deep what a body says reaches, from what is kept of it
 module _ (f : ℕ → ℕ) where
@@ -22,25 +12,25 @@ module _ (f : ℕ → ℕ) where
       omega arith
 
   use_reaches : (s : Sense) (level : ℕ) → level + below f s ≡ max level (deepest_use f (used s level))
-  use_reaches sense.Bound level = omega arith
-  use_reaches (sense.Declared (entity.Channel c n)) level = omega arith
-  use_reaches (sense.Declared (entity.Constant k)) level = omega arith
-  use_reaches (sense.Declared (entity.Definition d n)) level = omega arith
-  use_reaches (sense.Declared (entity.Set d)) level = omega arith
-  use_reaches sense.Unknown level = omega arith
+  use_reaches Sense.Bound level = omega arith
+  use_reaches (Sense.Declared (Entity.Channel c n)) level = omega arith
+  use_reaches (Sense.Declared (Entity.Constant k)) level = omega arith
+  use_reaches (Sense.Declared (Entity.Definition d n)) level = omega arith
+  use_reaches (Sense.Declared (Entity.Set d)) level = omega arith
+  use_reaches Sense.Unknown level = omega arith
 
   reaches : (o : Occurrence Name) → reach f o ≡ max (level_of o) (deepest_use f (use_of o))
   reaches (Declares x b) = refl
   reaches (Binds x b) = refl
   reaches (Notes x b) = refl
-  reaches (Uses x s (how.Alone place)) = use_reaches s place.level
-  reaches (Uses x s (how.Called n place)) = use_reaches s place.level
-  reaches (Uses x s (how.Dotted n)) = refl
-  reaches (Uses x s (how.Heads n)) = refl
-  reaches (Uses x s (how.Begins n)) = refl
-  reaches (Uses x s (how.Renamed n new m)) = refl
-  reaches (Uses x s how.Annotated) = refl
-  reaches (Uses x s (how.Annotates process)) = refl
+  reaches (Uses x s (Use.Alone place)) = use_reaches s place.level
+  reaches (Uses x s (Use.Called n place)) = use_reaches s place.level
+  reaches (Uses x s (Use.Dotted n)) = refl
+  reaches (Uses x s (Use.Heads n)) = refl
+  reaches (Uses x s (Use.Begins n)) = refl
+  reaches (Uses x s (Use.Renamed n new m)) = refl
+  reaches (Uses x s Use.Annotated) = refl
+  reaches (Uses x s (Use.Annotates process)) = refl
   reaches (Form c place) = omega arith
   reaches (Parallel place) = omega arith
 

@@ -1,27 +1,11 @@
 -- What is known of declarations, and what one says after them.
-use Rattle.std.proofs.Common.{◌≡◌, ℕ, ◌+◌, ◌<◌, ◌≤◌, Bool, ◌&&◌, Option, Some, None, List, [], ◌∷◌, ◌++◌, length, map, take, drop, get_or, slice_get, slice_index, nat_lt, refl, sym, ap, ◌∙◌, append_assoc, subst, arith}
-use Rattle.csp_base.proofs.Standard.{drop_of_length-le, append-nil, map-append, length_push}
+use Rattle.name_faults.proofs.Prelude.{◌≡◌, ℕ, ◌+◌, ◌<◌, ◌≤◌, Bool, ◌&&◌, Option, Some, None, List, [], ◌∷◌, ◌++◌, length, map, take, drop, get_or, slice_get, slice_index, nat_lt, refl, sym, ap, ◌∙◌, append_assoc, subst, arith, drop_of_length-le, append-nil, map-append, length_push, MOST_DATA_DEPTH, Decl, Tree, kind_class, Name, Meanings, Entities, Counts, channels_from, constants_from, counted, declared_from, is_among, meanings_of, none_yet, tree_says, annotation_says, bodies_from, body_place, counts_of, data_place, decl_says, declared_after, each_after, fault_in, fault_of, first_fault, first_there, is_data, is_deep, name_fault, names_declared, next_definition, parameters_after, too_deep, types_say, with_roles, with_uses, Occurrence, Declares, SameNames, same_names-append, Body, Known, body_of, AreWithin, IsKnown, IsNext, deep_at, defines, fault_after, names_in, nothing_known, says_after, Walked, after, drop_read, take_read, flat_map_push}
 use Rattle.std.specs.List.{flat_map}
-use Rattle.dl_limits.specs.declared.TheConstants.{MOST_DATA_DEPTH}
-use Rattle.csp_text.specs.declared.script.Decl.{Decl}
-use Rattle.csp_text.specs.declared.tree.Tree.{Tree}
-use Rattle.csp_text.specs.declared.script.Decl.TheVariants as decl
-use Rattle.script_names.specs.Prelude.{kind_class, Name, Meanings, Entities, Counts, channels_from, constants_from, counted, declared_from, is_among, meanings_of, none_yet, tree_says, annotation_says, bodies_from, body_place, counts_of, data_place, decl_says, declared_after, each_after, fault_in, fault_of, first_fault, first_there, is_data, is_deep, name_fault, names_declared, next_definition, parameters_after, too_deep, types_say, with_roles, with_uses}
 use Rattle.script_names.specs.declared.fault.ResolveFault.{ResolveFault}
 use Rattle.script_names.specs.declared.kinds.Kind.{Kind}
-use Rattle.script_names.specs.declared.occurrence.Occurrence.{Occurrence}
-use Rattle.script_names.specs.declared.occurrence.Occurrence.TheVariants.{Declares}
 use Rattle.script_names.specs.Names.{declares as declares_of}
-use Rattle.name_tables.specs.Firsts.{SameNames}
-use Rattle.name_tables.proofs.NameLemmas.{same_names-append}
-use Rattle.name_faults.specs.declared.body.Body.{Body}
-use Rattle.name_faults.specs.declared.known.Known.{Known}
-use Rattle.name_faults.specs.Bodies.{body_of}
-use Rattle.name_faults.specs.Depths.{AreWithin}
-use Rattle.name_faults.specs.Known.{IsKnown, IsNext, deep_at, defines, fault_after, fault_from, names_in, nothing_known, says_after}
-use Rattle.name_faults.specs.Walked.{Walked, after}
+use Rattle.name_faults.specs.Known.{fault_from}
 use Rattle.name_faults.proofs.DepthLemmas.{over_depth}
-use Rattle.csp_base.proofs.Lists.{drop_read, take_read, flat_map_push}
 
 -- what is said of names after the same ones, and of one more
 module _ (says : Name → Bool → Occurrence Name) where
@@ -48,18 +32,18 @@ module _ (says : Name → Bool → Occurrence Name) where
 
 module _ (m : Meanings) (kinds : List Kind) where
   says_is : (earlier : List Decl) (k : Known) (d : Decl) → IsKnown earlier k → says_after m kinds k d ≡ decl_says m kinds earlier d
-  says_is earlier k (decl.Channel xs types) known = ap (λ os. os ++ types_say m types) (each_same Declares k.declared (names_declared earlier) xs known.declared)
-  says_is earlier k (decl.Datatype x ks) known = each_same Declares k.declared (names_declared earlier) (x ∷ ks) known.declared
-  says_is earlier k (decl.Nametype x t) known =
+  says_is earlier k (Decl.Channel xs types) known = ap (λ os. os ++ types_say m types) (each_same Declares k.declared (names_declared earlier) xs known.declared)
+  says_is earlier k (Decl.Datatype x ks) known = each_same Declares k.declared (names_declared earlier) (x ∷ ks) known.declared
+  says_is earlier k (Decl.Nametype x t) known =
       ap (λ os. os ++ tree_says m t data_place []) (each_same Declares k.declared (names_declared earlier) (x ∷ []) known.declared)
-  says_is earlier k (decl.Define x params t) known =
+  says_is earlier k (Decl.Define x params t) known =
       ap (λ os. os ++ (parameters_after [] params ++ tree_says m t (body_place (slice_get kinds k.definitions)) params))
       (each_same Declares k.declared (names_declared earlier) (x ∷ []) known.declared)
       ∙ ap (λ n. declared_after (names_declared earlier) (x ∷ []) ++ (parameters_after [] params ++ tree_says m t (body_place (slice_get kinds n)) params)) known.definitions
-  says_is earlier k (decl.Assert t) known = refl
-  says_is earlier k (decl.Roles names) known =
+  says_is earlier k (Decl.Assert t) known = refl
+  says_is earlier k (Decl.Roles names) known =
       ap (λ b. annotation_says m b names.process (names.creq ∷ names.cack ∷ names.sreq ∷ names.sack ∷ [])) (known.roles names.process)
-  says_is earlier k (decl.Resource names) known =
+  says_is earlier k (Decl.Resource names) known =
       ap (λ b. annotation_says m b names.process (names.acquire ∷ names.release ∷ [])) (known.uses names.process)
 
 -- types of a channel: one more
@@ -86,13 +70,9 @@ constant_names n [] = refl
 constant_names n (x ∷ xs) = ap (λ ys. x ∷ ys) (constant_names (n + 1) xs)
 
 names_in_are : (n : Counts) (d : Decl) → map (λ e. e.0) (declares_of n d) ≡ names_in d
-names_in_are n (decl.Channel xs types) = channel_names n.channels (length types) xs
-names_in_are n (decl.Datatype x ks) = ap (λ ys. x ∷ ys) (constant_names n.constants ks)
-names_in_are n (decl.Nametype x t) = refl
-names_in_are n (decl.Define x params t) = refl
-names_in_are n (decl.Assert t) = refl
-names_in_are n (decl.Roles names) = refl
-names_in_are n (decl.Resource names) = refl
+names_in_are n (Decl.Channel xs types) = channel_names n.channels (length types) xs
+names_in_are n (Decl.Datatype x ks) = ap (λ ys. x ∷ ys) (constant_names n.constants ks)
+names_in_are n _ = refl
 
 names_after : (n : Counts) (earlier : List Decl) (d : Decl) → map (λ e. e.0) (declared_from n (earlier ++ d ∷ [])) ≡ map (λ e. e.0) (declared_from n earlier) ++ names_in d
 names_after n [] d = names_of-append (declares_of n d) [] ∙ append-nil (map (λ e. e.0) (declares_of n d)) ∙ names_in_are n d
@@ -103,13 +83,8 @@ names_after n (e ∷ earlier) d =
     ∙ ap (λ xs. xs ++ names_in d) (sym (names_of-append (declares_of n e) (declared_from (counted n e) earlier)))
 
 defines_is : (n : Counts) (d : Decl) → (counted n d).definitions ≡ n.definitions + defines d
-defines_is n (decl.Channel xs types) = omega arith
-defines_is n (decl.Datatype x ks) = refl
-defines_is n (decl.Nametype x t) = refl
-defines_is n (decl.Define x params t) = refl
-defines_is n (decl.Assert t) = omega arith
-defines_is n (decl.Roles names) = omega arith
-defines_is n (decl.Resource names) = omega arith
+defines_is n (Decl.Channel xs types) = omega arith
+defines_is n _ = omega arith
 
 defined_after : (n : Counts) (earlier : List Decl) (d : Decl) → (counts_of n (earlier ++ d ∷ [])).definitions ≡ (counts_of n earlier).definitions + defines d
 defined_after n [] d = defines_is n d
@@ -145,13 +120,9 @@ nothing_is_known k is = record {
 -- the fault of a declaration
 module _ (kinds : List Kind) (bodies : List (List (Occurrence Name))) (depths : List ℕ) (same : (n : ℕ) → is_deep kinds bodies n ≡ nat_lt MOST_DATA_DEPTH (slice_index depths n)) where
   deep_is : (n : ℕ) (d : Decl) → too_deep kinds bodies n d ≡ deep_at kinds depths n d
-  deep_is n (decl.Channel xs types) = refl
-  deep_is n (decl.Datatype x ks) = refl
-  deep_is n (decl.Nametype x t) = same n
-  deep_is n (decl.Define x params t) = ap (λ b. is_data (kind_class (slice_get kinds n)) && b) (same n)
-  deep_is n (decl.Assert t) = refl
-  deep_is n (decl.Roles names) = refl
-  deep_is n (decl.Resource names) = refl
+  deep_is n (Decl.Nametype x t) = same n
+  deep_is n (Decl.Define x params t) = ap (λ b. is_data (kind_class (slice_get kinds n)) && b) (same n)
+  deep_is n _ = refl
 
 found_first : (f : ResolveFault) (p q : Option ResolveFault) → Some f ≡ p → Some f ≡ first_there (p ∷ q ∷ [])
 found_first f p q h = ap (λ o. first_there (o ∷ q ∷ [])) h
@@ -229,13 +200,10 @@ module _ (m : Meanings) (kinds : List Kind) (rest : List Decl) (old : List Body)
   so_far_with d = old ++ map body_of (bodies_from m kinds (length old) (d ∷ []))
 
   pub bodies_on : (d : Decl) → so_far_with d ++ later (length (so_far_with d)) ≡ old ++ map body_of (bodies_from m kinds (length old) (d ∷ rest))
-  bodies_on (decl.Channel xs types) = no_first old later
-  bodies_on (decl.Datatype x ks) = one_first old _ later
-  bodies_on (decl.Nametype x t) = one_first old _ later
-  bodies_on (decl.Define x params t) = one_first old _ later
-  bodies_on (decl.Assert t) = no_first old later
-  bodies_on (decl.Roles names) = no_first old later
-  bodies_on (decl.Resource names) = no_first old later
+  bodies_on (Decl.Datatype x ks) = one_first old _ later
+  bodies_on (Decl.Nametype x t) = one_first old _ later
+  bodies_on (Decl.Define x params t) = one_first old _ later
+  bodies_on _ = no_first old later
 
 -- names are known besides: one more
 pub names_step : (before seen after : List Name) (i : ℕ) (xs : List Name) (x : Name) → i < length xs → x ≡ get_or xs i x → SameNames after (seen ++ x ∷ [])

@@ -1,3 +1,4 @@
+mod Prelude
 pub mod Says
 pub mod Lists
 pub mod Deepest

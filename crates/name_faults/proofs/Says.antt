@@ -1,80 +1,70 @@
 -- What each form says, in what its parts say: a line for each form, by the equations that are made of the folds.
-use Rattle.std.proofs.Common.{◌≡◌, ℕ, ◌+◌, ◌<◌, ◌≤◌, Option, Some, None, List, [], ◌∷◌, ◌++◌, length, map, take, false, refl, append_assoc, rules}
+use Rattle.name_faults.proofs.Prelude.{◌≡◌, ℕ, ◌+◌, ◌<◌, ◌≤◌, Some, None, List, [], ◌∷◌, ◌++◌, length, false, append_assoc, rules, GenTree, PartTree, Tree, length-map, Entities, Name, first_of, sense_in, data_in, process_in, network_in, part_in, Place, Occurrence, Binds, Uses, Form, Parallel, Class, Use}
 use Rattle.csp_base.specs.declared.operators.BinOp.{BinOp}
 use Rattle.csp_base.specs.declared.operators.SetOp.{SetOp}
 use Rattle.csp_text.specs.declared.tree.EventTree.{EventTree, the_lemmas as event_lemmas}
-use Rattle.csp_text.specs.declared.tree.FieldTree.{FieldTree}
-use Rattle.csp_text.specs.declared.tree.FieldTree.TheFolds.{fold-roll-EventTree, fold-roll-PartTree}
-use Rattle.csp_text.specs.declared.tree.FieldTree.TheViews.{out-EventTree, out-PartTree, roll-out-EventTree, roll-out-PartTree}
-use Rattle.csp_text.specs.declared.tree.GenTree.{GenTree}
-use Rattle.csp_text.specs.declared.tree.PartTree.{PartTree, the_lemmas as part_lemmas}
-use Rattle.csp_text.specs.declared.tree.Tree.{Tree, the_lemmas}
+use Rattle.csp_text.specs.declared.tree.FieldTree.TheViews.{out-EventTree, out-PartTree}
+use Rattle.csp_text.specs.declared.tree.PartTree.{the_lemmas as part_lemmas}
+use Rattle.csp_text.specs.declared.tree.Tree.{the_lemmas}
 use Rattle.csp_text.specs.declared.tree.FieldTree.TheVariants as field
-use Rattle.std.proofs.lemmas.List.{append-nil, length-map}
+use Rattle.std.proofs.lemmas.List.{append-nil}
 use Rattle.csp_text.specs.declared.tree.GenTree.TheVariants as generator
 use Rattle.csp_text.specs.declared.tree.Tree.TheVariants as tree
-use Rattle.script_names.specs.declared.kinds.Class.TheVariants as class
-use Rattle.script_names.specs.Prelude.{Entities, Name, first_of, sense_in, Said, data_in, process_in, network_in, part_in}
-use Rattle.script_names.specs.declared.kinds.Place.{Place}
-use Rattle.script_names.specs.declared.kinds.Use.{Use}
-use Rattle.script_names.specs.declared.occurrence.Occurrence.{Occurrence}
-use Rattle.script_names.specs.declared.occurrence.Occurrence.TheVariants.{Binds, Uses, Form, Parallel}
-use Rattle.script_names.specs.declared.kinds.Use.TheVariants as how
 use Rattle.name_faults.specs.Walked.{field_names, field_said, fields_said, gen_names, gen_said, gens_said, pair_said, pairs_said, part_said, parts_said, tree_said, trees_said, under_fields, under_gens}
 
 module _ (e : Entities) (place : Place) (names : List Name) where
   abbrev used : Name → Use → Occurrence Name
   used x how = Uses x (sense_in (first_of e) names x) how
 
-  pub says-Num : (k : ℕ) → tree_said e (tree.Num k) place names ≡ Form class.Data place ∷ []
+  pub says-Num : (k : ℕ) → tree_said e (tree.Num k) place names ≡ Form Class.Data place ∷ []
   unfolding tree_said
   says-Num k = search (rules, the_lemmas)
 
-  pub says-True : tree_said e tree.True place names ≡ Form class.Data place ∷ []
+  pub says-True : tree_said e tree.True place names ≡ Form Class.Data place ∷ []
   unfolding tree_said
   says-True = search (rules, the_lemmas)
 
-  pub says-False : tree_said e tree.False place names ≡ Form class.Data place ∷ []
+  pub says-False : tree_said e tree.False place names ≡ Form Class.Data place ∷ []
   unfolding tree_said
   says-False = search (rules, the_lemmas)
 
-  pub says-Stop : tree_said e tree.Stop place names ≡ Form class.Process place ∷ []
+  pub says-Stop : tree_said e tree.Stop place names ≡ Form Class.Process place ∷ []
   unfolding tree_said
   says-Stop = search (rules, the_lemmas)
 
-  pub says-Skip : tree_said e tree.Skip place names ≡ Form class.Process place ∷ []
+  pub says-Skip : tree_said e tree.Skip place names ≡ Form Class.Process place ∷ []
   unfolding tree_said
   says-Skip = search (rules, the_lemmas)
 
-  pub says-Name : (x : Name) → tree_said e (tree.Name x) place names ≡ used x (how.Alone place) ∷ []
+  pub says-Name : (x : Name) → tree_said e (tree.Name x) place names ≡ used x (Use.Alone place) ∷ []
   unfolding tree_said
   says-Name x = search (rules, the_lemmas)
 
-  pub says-Call : (f : Name) (args : List Tree) → tree_said e (tree.Call f args) place names ≡ used f (how.Called (length args) place) ∷ trees_said e args (data_in place) names
+  pub says-Call : (f : Name) (args : List Tree) → tree_said e (tree.Call f args) place names ≡ used f (Use.Called (length args) place) ∷ trees_said e args (data_in place) names
   unfolding tree_said trees_said
   says-Call f args = search (rules, the_lemmas, length-map)
 
-  pub says-Dot : (c : Name) (fields : List Tree) → tree_said e (tree.Dot c fields) place names ≡ Form class.Data place ∷ used c (how.Dotted (length fields)) ∷ trees_said e fields (data_in place) names
+  pub says-Dot : (c : Name) (fields : List Tree) → tree_said e (tree.Dot c fields) place names ≡ Form Class.Data place ∷ used c (Use.Dotted (length fields)) ∷ trees_said e fields (data_in place) names
   unfolding tree_said trees_said
   says-Dot c fields = search (rules, the_lemmas, length-map)
 
-  pub says-Neg : (a : Tree) → tree_said e (tree.Neg a) place names ≡ Form class.Data place ∷ tree_said e a (data_in place) names
+  pub says-Neg : (a : Tree) → tree_said e (tree.Neg a) place names ≡ Form Class.Data place ∷ tree_said e a (data_in place) names
   unfolding tree_said
   says-Neg a = search (rules, the_lemmas)
 
-  pub says-Not : (a : Tree) → tree_said e (tree.Not a) place names ≡ Form class.Data place ∷ tree_said e a (data_in place) names
+  pub says-Not : (a : Tree) → tree_said e (tree.Not a) place names ≡ Form Class.Data place ∷ tree_said e a (data_in place) names
   unfolding tree_said
   says-Not a = search (rules, the_lemmas)
 
-  pub says-Binary : (op : BinOp) (a b : Tree) → tree_said e (tree.Binary op a b) place names ≡ Form class.Data place ∷ (tree_said e a (data_in place) names ++ tree_said e b (data_in place) names)
+  pub says-Binary : (op : BinOp) (a b : Tree) → tree_said e (tree.Binary op a b) place names ≡ Form Class.Data place ∷ (tree_said e a (data_in place) names ++ tree_said e b (data_in place) names)
   unfolding tree_said
   says-Binary op a b = search (rules, the_lemmas)
 
-  pub says-Range : (a b : Tree) → tree_said e (tree.Range a b) place names ≡ Form class.Data place ∷ (tree_said e a (data_in place) names ++ tree_said e b (data_in place) names)
+  pub says-Range : (a b : Tree) → tree_said e (tree.Range a b) place names ≡ Form Class.Data place ∷ (tree_said e a (data_in place) names ++ tree_said e b (data_in place) names)
   unfolding tree_said
   says-Range a b = search (rules, the_lemmas)
 
-  pub says-SetOp : (op : SetOp) (a b : Tree) → tree_said e (tree.SetOp op a b) place names ≡ Form class.Data place ∷ (tree_said e a (data_in place) names ++ tree_said e b (data_in place) names)
+  pub says-SetOp : (op : SetOp) (a b : Tree) → tree_said e (tree.SetOp op a b) place names ≡ Form Class.Data place ∷ (tree_said e a (data_in place) names ++ tree_said e b (data_in place) names)
   unfolding tree_said
   says-SetOp op a b = search (rules, the_lemmas)
 
@@ -82,39 +72,39 @@ module _ (e : Entities) (place : Place) (names : List Name) where
   unfolding tree_said
   says-If c a b = search (rules, the_lemmas)
 
-  pub says-Display : (items : List Tree) → tree_said e (tree.Display items) place names ≡ Form class.Data place ∷ trees_said e items (data_in place) names
+  pub says-Display : (items : List Tree) → tree_said e (tree.Display items) place names ≡ Form Class.Data place ∷ trees_said e items (data_in place) names
   unfolding tree_said trees_said
   says-Display items = search (rules, the_lemmas)
 
-  pub says-Comp : (items : List Tree) (gens : List GenTree) → tree_said e (tree.Comp items gens) place names ≡ Form class.Data place ∷ (trees_said e items (data_in place) (under_gens e gens names) ++ gens_said e gens place names)
+  pub says-Comp : (items : List Tree) (gens : List GenTree) → tree_said e (tree.Comp items gens) place names ≡ Form Class.Data place ∷ (trees_said e items (data_in place) (under_gens e gens names) ++ gens_said e gens place names)
   unfolding tree_said trees_said gens_said under_gens
   says-Comp items gens = search (rules, the_lemmas)
 
-  pub says-Product : (parts : List PartTree) (gens : List GenTree) → tree_said e (tree.Product parts gens) place names ≡ Form class.Data place ∷ (parts_said e parts place (under_gens e gens names) ++ gens_said e gens place names)
+  pub says-Product : (parts : List PartTree) (gens : List GenTree) → tree_said e (tree.Product parts gens) place names ≡ Form Class.Data place ∷ (parts_said e parts place (under_gens e gens names) ++ gens_said e gens place names)
   unfolding tree_said parts_said gens_said under_gens
   says-Product parts gens = search (rules, the_lemmas)
 
-  pub says-Prefix : (event : EventTree) (p : Tree) → tree_said e (tree.Prefix event p) place names ≡ Form class.Process place ∷ used (out-EventTree event).name (how.Heads (length (out-EventTree event).fields)) ∷ (fields_said e (out-EventTree event).fields place names ++ tree_said e p (process_in place) (under_fields e (out-EventTree event).fields names))
+  pub says-Prefix : (event : EventTree) (p : Tree) → tree_said e (tree.Prefix event p) place names ≡ Form Class.Process place ∷ used (out-EventTree event).name (Use.Heads (length (out-EventTree event).fields)) ∷ (fields_said e (out-EventTree event).fields place names ++ tree_said e p (process_in place) (under_fields e (out-EventTree event).fields names))
   unfolding tree_said fields_said under_fields
   says-Prefix event p = search (rules, the_lemmas, event_lemmas, length-map)
 
-  pub says-Guard : (c p : Tree) → tree_said e (tree.Guard c p) place names ≡ Form class.Process place ∷ (tree_said e c (data_in place) names ++ tree_said e p (process_in place) names)
+  pub says-Guard : (c p : Tree) → tree_said e (tree.Guard c p) place names ≡ Form Class.Process place ∷ (tree_said e c (data_in place) names ++ tree_said e p (process_in place) names)
   unfolding tree_said
   says-Guard c p = search (rules, the_lemmas)
 
-  pub says-External : (ps : List Tree) → tree_said e (tree.External ps) place names ≡ Form class.Process place ∷ trees_said e ps (process_in place) names
+  pub says-External : (ps : List Tree) → tree_said e (tree.External ps) place names ≡ Form Class.Process place ∷ trees_said e ps (process_in place) names
   unfolding tree_said trees_said
   says-External ps = search (rules, the_lemmas)
 
-  pub says-Internal : (ps : List Tree) → tree_said e (tree.Internal ps) place names ≡ Form class.Process place ∷ trees_said e ps (process_in place) names
+  pub says-Internal : (ps : List Tree) → tree_said e (tree.Internal ps) place names ≡ Form Class.Process place ∷ trees_said e ps (process_in place) names
   unfolding tree_said trees_said
   says-Internal ps = search (rules, the_lemmas)
 
-  pub says-EachExternal : (x : Name) (s p : Tree) → tree_said e (tree.EachExternal x s p) place names ≡ Form class.Process place ∷ Binds x false ∷ (tree_said e s (data_in place) names ++ tree_said e p (process_in place) (names ++ x ∷ []))
+  pub says-EachExternal : (x : Name) (s p : Tree) → tree_said e (tree.EachExternal x s p) place names ≡ Form Class.Process place ∷ Binds x false ∷ (tree_said e s (data_in place) names ++ tree_said e p (process_in place) (names ++ x ∷ []))
   unfolding tree_said
   says-EachExternal x s p = search (rules, the_lemmas)
 
-  pub says-EachInternal : (x : Name) (s p : Tree) → tree_said e (tree.EachInternal x s p) place names ≡ Form class.Process place ∷ Binds x false ∷ (tree_said e s (data_in place) names ++ tree_said e p (process_in place) (names ++ x ∷ []))
+  pub says-EachInternal : (x : Name) (s p : Tree) → tree_said e (tree.EachInternal x s p) place names ≡ Form Class.Process place ∷ Binds x false ∷ (tree_said e s (data_in place) names ++ tree_said e p (process_in place) (names ++ x ∷ []))
   unfolding tree_said
   says-EachInternal x s p = search (rules, the_lemmas)
 
@@ -126,15 +116,15 @@ module _ (e : Entities) (place : Place) (names : List Name) where
   unfolding tree_said
   says-EachParallel x s a p = search (rules, the_lemmas)
 
-  pub says-Seq : (p q : Tree) → tree_said e (tree.Seq p q) place names ≡ Form class.Process place ∷ (tree_said e p (process_in place) names ++ tree_said e q (process_in place) names)
+  pub says-Seq : (p q : Tree) → tree_said e (tree.Seq p q) place names ≡ Form Class.Process place ∷ (tree_said e p (process_in place) names ++ tree_said e q (process_in place) names)
   unfolding tree_said
   says-Seq p q = search (rules, the_lemmas)
 
-  pub says-Hide : (p s : Tree) → tree_said e (tree.Hide p s) place names ≡ Form class.Process place ∷ (tree_said e p (process_in place) names ++ tree_said e s (data_in place) names)
+  pub says-Hide : (p s : Tree) → tree_said e (tree.Hide p s) place names ≡ Form Class.Process place ∷ (tree_said e p (process_in place) names ++ tree_said e s (data_in place) names)
   unfolding tree_said
   says-Hide p s = search (rules, the_lemmas)
 
-  pub says-Rename : (p : Tree) (pairs : List (PartTree × PartTree)) (gens : List GenTree) → tree_said e (tree.Rename p pairs gens) place names ≡ Form class.Process place ∷ (tree_said e p (process_in place) names ++ (pairs_said e pairs place (under_gens e gens names) ++ gens_said e gens place names))
+  pub says-Rename : (p : Tree) (pairs : List (PartTree × PartTree)) (gens : List GenTree) → tree_said e (tree.Rename p pairs gens) place names ≡ Form Class.Process place ∷ (tree_said e p (process_in place) names ++ (pairs_said e pairs place (under_gens e gens names) ++ gens_said e gens place names))
   unfolding tree_said pairs_said gens_said under_gens
   says-Rename p pairs gens = search (rules, the_lemmas)
 
@@ -162,12 +152,12 @@ module _ (e : Entities) (place : Place) (names : List Name) where
   unfolding gen_said tree_said
   gen-Cond c = search (rules, the_lemmas)
 
-  pub part-is : (p : PartTree) → part_said e p place names ≡ used (out-PartTree p).name (how.Begins (length (out-PartTree p).fields)) ∷ trees_said e (out-PartTree p).fields (data_in place) names
+  pub part-is : (p : PartTree) → part_said e p place names ≡ used (out-PartTree p).name (Use.Begins (length (out-PartTree p).fields)) ∷ trees_said e (out-PartTree p).fields (data_in place) names
   unfolding part_said trees_said
   part-is p = search (rules, the_lemmas, part_lemmas, length-map)
 
   pub pair-is : (p : PartTree × PartTree) → pair_said e p place names
-      ≡ used (out-PartTree p.0).name (how.Renamed (length (out-PartTree p.0).fields) (sense_in (first_of e) names (out-PartTree p.1).name) (length (out-PartTree p.1).fields)) ∷ (part_said e p.0 place names ++ part_said e p.1 place names)
+      ≡ used (out-PartTree p.0).name (Use.Renamed (length (out-PartTree p.0).fields) (sense_in (first_of e) names (out-PartTree p.1).name) (length (out-PartTree p.1).fields)) ∷ (part_said e p.0 place names ++ part_said e p.1 place names)
   unfolding pair_said part_said
   pair-is p = search (rules, the_lemmas, part_lemmas, length-map)
 

@@ -1,13 +1,6 @@
 -- Few declarations, none of them deep: each one that is read is no deeper than the deepest, and the numbers of declarations and of definitions stay below
 -- the bound on the size of all.
-use Rattle.std.proofs.Common.{◌≡◌, ℕ, zero, suc, ◌+◌, ◌<◌, ◌≤◌, List, [], ◌∷◌, length, take, get_or, ap, arith}
-use Rattle.std.proofs.lemmas.List.{length-take}
-use Rattle.csp_text.specs.declared.script.Decl.{Decl}
-use Rattle.csp_text.specs.declared.script.Decl.TheVariants as decl
-use Rattle.script_names.specs.Prelude.{Counts, counted, none_yet, counts_of, next_definition}
-use Rattle.script_sizes.specs.Size.{declaration_depth, declaration_size, depth, size}
-use Rattle.name_faults.specs.declared.known.Known.{Known}
-use Rattle.name_faults.specs.Known.{IsKnown, IsNext}
+use Rattle.name_faults.proofs.Prelude.{◌≡◌, ℕ, zero, suc, ◌+◌, ◌<◌, ◌≤◌, List, [], ◌∷◌, length, take, get_or, ap, arith, length-take, Decl, Counts, counted, none_yet, counts_of, next_definition, declaration_depth, declaration_size, depth, size, Known, IsKnown, IsNext}
 
 pub in_declarations : (ds : List Decl) (i : ℕ) (d : Decl) → i < length ds → d ≡ get_or ds i d → declaration_depth d ≤ depth ds
 in_declarations [] i d within is = absurd (omega arith)
@@ -15,26 +8,16 @@ in_declarations (e ∷ ds) zero d within is = let same : declaration_depth d ≡
 in_declarations (e ∷ ds) (suc i) d within is = let rest : declaration_depth d ≤ depth ds = in_declarations ds i d (omega arith) is in omega arith
 
 one_counts : (d : Decl) → 0 < declaration_size d
-one_counts (decl.Channel xs types) = omega arith
-one_counts (decl.Datatype x ks) = omega arith
-one_counts (decl.Nametype x t) = omega arith
-one_counts (decl.Define x params t) = omega arith
-one_counts (decl.Assert t) = omega arith
-one_counts (decl.Roles names) = omega arith
-one_counts (decl.Resource names) = omega arith
+one_counts (Decl.Channel xs types) = omega arith
+one_counts _ = omega arith
 
 as_many_at_least : (ds : List Decl) → length ds ≤ size ds
 as_many_at_least [] = omega arith
 as_many_at_least (d ∷ ds) = let rest : length ds ≤ size ds = as_many_at_least ds in let here : 0 < declaration_size d = one_counts d in omega arith
 
 one_more_at_most : (n : Counts) (d : Decl) → (counted n d).definitions ≤ n.definitions + 1
-one_more_at_most n (decl.Channel xs types) = omega arith
-one_more_at_most n (decl.Datatype x ks) = omega arith
-one_more_at_most n (decl.Nametype x t) = omega arith
-one_more_at_most n (decl.Define x params t) = omega arith
-one_more_at_most n (decl.Assert t) = omega arith
-one_more_at_most n (decl.Roles names) = omega arith
-one_more_at_most n (decl.Resource names) = omega arith
+one_more_at_most n (Decl.Channel xs types) = omega arith
+one_more_at_most n _ = omega arith
 
 definitions_among : (n : Counts) (ds : List Decl) → (counts_of n ds).definitions ≤ n.definitions + length ds
 definitions_among n [] = omega arith

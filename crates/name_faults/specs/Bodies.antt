@@ -1,36 +1,27 @@
 -- How deep bodies reach, from what they say. It serves the contracts of this crate.
-use Rattle.std.specs.Prelude.{ℕ, max, List, [], ◌∷◌, map, slice_get}
-use Rattle.std.specs.List.{flat_map}
-use Rattle.script_names.specs.declared.kinds.Entity.TheVariants as entity
-use Rattle.script_names.specs.Prelude.{kind_class, Name, first_of, tree_says, bodies_from, body_place, expanded_body}
+use Rattle.std.specs.Prelude.{◌∷◌}
+use Rattle.name_faults.specs.Prelude.{ℕ, max, List, [], map, slice_get, flat_map, kind_class, Name, first_of, tree_says, bodies_from, body_place, expanded_body, Occurrence, Uses, Form, Parallel, Decl, Tree, Body, Entity, Use}
 use Rattle.script_names.specs.declared.kinds.Sense.{Sense}
-use Rattle.script_names.specs.declared.occurrence.Occurrence.{Occurrence}
-use Rattle.script_names.specs.declared.occurrence.Occurrence.TheVariants.{Uses, Form, Parallel}
-use Rattle.script_names.specs.declared.kinds.Sense.TheVariants as sense
-use Rattle.script_names.specs.declared.kinds.Use.TheVariants as how
-use Rattle.csp_text.specs.declared.script.Decl.{Decl}
-use Rattle.csp_text.specs.declared.tree.Tree.{Tree}
 use Rattle.name_tables.specs.declared.meanings.Meanings.{Meanings}
-use Rattle.name_faults.specs.declared.body.Body.{Body}
 
 -- the level of a form or a use
 abbrev pub level_of : Occurrence Name → ℕ
 level_of (Form c place) = place.level
 level_of (Parallel place) = place.level
-level_of (Uses x s (how.Alone place)) = place.level
-level_of (Uses x s (how.Called n place)) = place.level
+level_of (Uses x s (Use.Alone place)) = place.level
+level_of (Uses x s (Use.Called n place)) = place.level
 level_of _ = 0
 
 -- the definition that is used at this level
 abbrev pub used : Sense → ℕ → List (ℕ × ℕ)
-used (sense.Declared (entity.Definition d n)) level = (d, level) ∷ []
-used (sense.Declared (entity.Set d)) level = (d, level) ∷ []
+used (Sense.Declared (Entity.Definition d n)) level = (d, level) ∷ []
+used (Sense.Declared (Entity.Set d)) level = (d, level) ∷ []
 used _ level = []
 
 -- the definition that is used, with the level of the use
 abbrev pub use_of : Occurrence Name → List (ℕ × ℕ)
-use_of (Uses x s (how.Alone place)) = used s place.level
-use_of (Uses x s (how.Called n place)) = used s place.level
+use_of (Uses x s (Use.Alone place)) = used s place.level
+use_of (Uses x s (Use.Called n place)) = used s place.level
 use_of _ = []
 
 abbrev pub greatest_level : List (Occurrence Name) → ℕ

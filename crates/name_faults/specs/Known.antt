@@ -1,15 +1,11 @@
 -- What is known of the declarations that were passed, and what a declaration says after them. It serves the contracts of this crate.
-use Rattle.std.specs.Prelude.{◌≡◌, ℕ, Bool, false, ◌&&◌, nat_lt, Option, List, [], ◌∷◌, ◌++◌, length, slice_get, slice_index}
-use Rattle.std.specs.List.{flat_map}
+use Rattle.std.specs.Prelude.{◌≡◌, ◌&&◌, ◌∷◌, ◌++◌}
+use Rattle.name_faults.specs.Prelude.{ℕ, Bool, false, nat_lt, Option, List, [], length, slice_get, slice_index, flat_map, Decl, kind_class, Name, Meanings, is_among, tree_says, annotation_says, body_place, data_place, declared_after, fault_of, first_fault, is_data, names_declared, next_definition, parameters_after, root_place, types_say, with_roles, with_uses, Occurrence}
 use Rattle.dl_limits.specs.declared.TheConstants.{MOST_DATA_DEPTH}
-use Rattle.csp_text.specs.declared.script.Decl.{Decl}
 use Rattle.csp_text.specs.declared.token.ResourceNames.{ResourceNames}
 use Rattle.csp_text.specs.declared.token.RolesNames.{RolesNames}
-use Rattle.csp_text.specs.declared.script.Decl.TheVariants as decl
-use Rattle.script_names.specs.Prelude.{kind_class, Name, Meanings, is_among, tree_says, annotation_says, body_place, data_place, declared_after, fault_of, first_fault, is_data, names_declared, next_definition, parameters_after, root_place, types_say, with_roles, with_uses}
 use Rattle.script_names.specs.declared.fault.ResolveFault.{ResolveFault}
 use Rattle.script_names.specs.declared.kinds.Kind.{Kind}
-use Rattle.script_names.specs.declared.occurrence.Occurrence.{Occurrence}
 use Rattle.name_tables.specs.Firsts.{SameNames}
 use Rattle.name_faults.specs.declared.known.Known.{Known}
 
@@ -18,17 +14,17 @@ nothing_known = record { declarations = 0; definitions = 0; declared = []; roles
 
 -- how many definitions a declaration makes
 abbrev pub defines : Decl → ℕ
-defines (decl.Define x params t) = 1
-defines (decl.Nametype x t) = 1
-defines (decl.Datatype x ks) = 1
+defines (Decl.Define x params t) = 1
+defines (Decl.Nametype x t) = 1
+defines (Decl.Datatype x ks) = 1
 defines _ = 0
 
 -- the names that it declares
 abbrev pub names_in : Decl → List Name
-names_in (decl.Channel xs types) = xs
-names_in (decl.Datatype x ks) = x ∷ ks
-names_in (decl.Nametype x t) = x ∷ []
-names_in (decl.Define x params t) = x ∷ []
+names_in (Decl.Channel xs types) = xs
+names_in (Decl.Datatype x ks) = x ∷ ks
+names_in (Decl.Nametype x t) = x ∷ []
+names_in (Decl.Define x params t) = x ∷ []
 names_in _ = []
 
 -- this is known of these declarations
@@ -60,19 +56,19 @@ module _ (meanings : Meanings) where
 module _ (meanings : Meanings) (kinds : List Kind) where
   -- what a declaration says after those that are known
   abbrev pub says_after : Known → Decl → List (Occurrence Name)
-  says_after k (decl.Channel xs types) = declared_after k.declared xs ++ types_say meanings types
-  says_after k (decl.Datatype x ks) = declared_after k.declared (x ∷ ks)
-  says_after k (decl.Nametype x t) = declared_after k.declared (x ∷ []) ++ tree_says meanings t data_place []
-  says_after k (decl.Define x params t) =
+  says_after k (Decl.Channel xs types) = declared_after k.declared xs ++ types_say meanings types
+  says_after k (Decl.Datatype x ks) = declared_after k.declared (x ∷ ks)
+  says_after k (Decl.Nametype x t) = declared_after k.declared (x ∷ []) ++ tree_says meanings t data_place []
+  says_after k (Decl.Define x params t) =
       declared_after k.declared (x ∷ []) ++ (parameters_after [] params ++ tree_says meanings t (body_place (slice_get kinds k.definitions)) params)
-  says_after k (decl.Assert t) = tree_says meanings t root_place []
-  says_after k (decl.Roles names) = roles_said meanings k.roles names
-  says_after k (decl.Resource names) = resource_said meanings k.uses names
+  says_after k (Decl.Assert t) = tree_says meanings t root_place []
+  says_after k (Decl.Roles names) = roles_said meanings k.roles names
+  says_after k (Decl.Resource names) = resource_said meanings k.uses names
 
 -- whether a declaration is a definition of data with the number n that is over MOST_DATA_DEPTH deep
 abbrev pub deep_at : List Kind → List ℕ → ℕ → Decl → Bool
-deep_at kinds depths n (decl.Define x params t) = is_data (kind_class (slice_get kinds n)) && nat_lt MOST_DATA_DEPTH (slice_index depths n)
-deep_at kinds depths n (decl.Nametype x t) = nat_lt MOST_DATA_DEPTH (slice_index depths n)
+deep_at kinds depths n (Decl.Define x params t) = is_data (kind_class (slice_get kinds n)) && nat_lt MOST_DATA_DEPTH (slice_index depths n)
+deep_at kinds depths n (Decl.Nametype x t) = nat_lt MOST_DATA_DEPTH (slice_index depths n)
 deep_at kinds depths n _ = false
 
 -- the fault of a declaration after those that are known

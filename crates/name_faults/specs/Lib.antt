@@ -1,3 +1,4 @@
+pub mod Prelude
 pub mod Walked
 pub mod Bodies
 pub mod Depths

@@ -1,6 +1,7 @@
 -- A walk over trees: what names stand for, which are bound, and what was said; and the walk after trees and their parts. It serves the contracts of this
 -- crate.
-use Rattle.std.specs.Prelude.{ℕ, false, List, [], ◌∷◌, ◌++◌, length, map}
+use Rattle.std.specs.Prelude.{◌∷◌, ◌++◌}
+use Rattle.name_faults.specs.Prelude.{ℕ, false, List, [], length, map, Tree, Entities, Meanings, Name, first_of, sense_in, Binder, Fields, Said, all_say, data_in, network_in, process_in, event_says_of_layer, field_says_of_layer, gen_says_of_layer, in_turn, pair_says, part_says, part_says_of_layer, tree_says, tree_says_of_layer, Occurrence, Binds, Notes, Uses, Form, Parallel, Declares, Use}
 use Rattle.std.specs.Borrow.{Bor}
 use Rattle.csp_text.specs.Prelude.{greatest_of_pairs, part_depth}
 use Rattle.csp_text.specs.declared.tree.EventTree.{EventTree}
@@ -9,14 +10,8 @@ use Rattle.csp_text.specs.declared.tree.FieldTree.TheFolds.{fold-GenTree, fold-E
 use Rattle.csp_text.specs.declared.tree.FieldTree.TheViews.{out-EventTree}
 use Rattle.csp_text.specs.declared.tree.GenTree.{GenTree}
 use Rattle.csp_text.specs.declared.tree.PartTree.{PartTree}
-use Rattle.csp_text.specs.declared.tree.Tree.{Tree}
-use Rattle.script_names.specs.Prelude.{Entities, Meanings, Name, first_of, sense_in, Binder, Fields, Said, all_say, data_in, network_in, process_in, event_says_of_layer, field_says_of_layer, gen_says_of_layer, in_turn, pair_says, part_says, part_says_of_layer, tree_says, tree_says_of_layer}
 use Rattle.script_names.specs.declared.kinds.Place.{Place}
-use Rattle.script_names.specs.declared.kinds.Use.{Use}
-use Rattle.script_names.specs.declared.occurrence.Occurrence.{Occurrence}
-use Rattle.script_names.specs.declared.occurrence.Occurrence.TheVariants.{Binds, Notes, Uses, Form, Parallel, Declares}
 use Rattle.script_names.specs.Says.{under}
-use Rattle.script_names.specs.declared.kinds.Use.TheVariants as how
 
 pub record Walked : Type 0 where
   pub names : Entities
@@ -166,7 +161,7 @@ after_renaming w pairs gens place = after w (pairs_said w.names pairs place (und
 -- an event, and the process under the names that it binds
 abbrev pub after_prefix : Walked → EventTree → Tree → Place → Walked
 after_prefix w event p place =
-    after w (used w (out-EventTree event).name (how.Heads (length (out-EventTree event).fields))
+    after w (used w (out-EventTree event).name (Use.Heads (length (out-EventTree event).fields))
     ∷ (fields_said w.names (out-EventTree event).fields place w.bound
     ++ tree_said w.names p (process_in place) (under_fields w.names (out-EventTree event).fields w.bound)))
 

@@ -1,9 +1,9 @@
 //! How deep a body reaches.
 
-ghost use Rattle.std.specs.Prelude.{◌≡◌, [], ◌∷◌, max, map, IfOk, MatchOption};
-ghost use Rattle.std.specs.List.{flat_map};
-ghost use Rattle.name_faults.specs.Bodies as meant;
+ghost use Rattle.std.specs.Prelude.{◌≡◌, ◌∷◌};
+ghost use Rattle.name_faults.specs.Prelude.{[], max, map, IfOk, MatchOption, flat_map};
 ghost use Rattle.name_faults.specs.Walked.{seen};
+ghost use Rattle.name_faults.specs.Bodies as meant;
 
 use containers::Items;
 use csp_base::{Name, NoMemory};
@@ -85,7 +85,7 @@ fn use_in(said: &Occurrence<&Name>) -> Option<(u32, u32)>
 {
     match *said {
         Occurrence::Uses(_, sense, Use::Alone(place) | Use::Called(_, place)) => {
-            used(sense, place.level)
+            use_at(sense, place.level)
         }
         Occurrence::Uses(_, _, _)
         | Occurrence::Declares(_, _)
@@ -97,7 +97,7 @@ fn use_in(said: &Occurrence<&Name>) -> Option<(u32, u32)>
 }
 
 // The definition that is used at this level.
-fn used(sense: Sense, level: u32) -> Option<(u32, u32)>
+fn use_at(sense: Sense, level: u32) -> Option<(u32, u32)>
     ensures { MatchOption result (meant.used sense level ≡ []) (λ used. meant.used sense level ≡ used ∷ []) }
 {
     match sense {

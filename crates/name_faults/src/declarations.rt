@@ -1,17 +1,11 @@
 //! What declarations say.
 
-ghost use Rattle.std.specs.Prelude.{◌≡◌, ◌+◌, ◌≤◌, [], ◌∷◌, ◌++◌, map, OnOk, IfOk};
-ghost use Rattle.csp_base.specs.Lists.{greatest};
-ghost use Rattle.csp_text.specs.Depth.{tree_depth};
-ghost use Rattle.dl_limits.specs.declared.TheConstants.{MOST_TREE_DEPTH};
-ghost use Rattle.script_sizes.specs.Size.{declaration_depth};
-ghost use Rattle.script_names.specs.declared.kinds.Use.TheVariants as how;
-ghost use Rattle.script_names.specs.Prelude.{first_of, is_among, sense_in, tree_says, data_place, declared_after, parameters_after, types_say, with_roles, with_uses};
-ghost use Rattle.script_names.specs.declared.occurrence.Occurrence.TheVariants.{Notes};
-ghost use Rattle.name_tables.specs.Firsts.{SameNames};
+ghost use Rattle.std.specs.Prelude.{◌≡◌, ◌+◌, ◌≤◌, ◌∷◌, ◌++◌};
+ghost use Rattle.name_faults.specs.Prelude.{[], map, OnOk, IfOk, greatest, tree_depth, MOST_TREE_DEPTH, declaration_depth, first_of, is_among, sense_in, tree_says, data_place, declared_after, parameters_after, types_say, with_roles, with_uses, Notes, SameNames};
 ghost use Rattle.name_faults.specs.Known.{names_in, resource_said, roles_said, says_after};
-ghost use Rattle.name_faults.specs.Walked as walked;
 ghost use Rattle.name_faults.specs.Walked.{after};
+ghost use Rattle.script_names.specs.declared.kinds.Use.TheVariants as how;
+ghost use Rattle.name_faults.specs.Walked as walked;
 
 use crate::known::Known;
 use crate::places;
@@ -157,7 +151,7 @@ impl<'a> Walk<'a> {
             (self.new ≡ after self.old (roles_said (first_of self.old.names) annotated.old roles.now)) }
         ensures annotated { OnOk result (SameNames annotated.new (annotated.old ++ roles.now.process ∷ [])) }
     {
-        let process = self.annotated(alloc, annotated, &roles.process)?;
+        let process = self.note_process(alloc, annotated, &roles.process)?;
         self.sets(process, &roles.creq, &roles.cack)?;
         self.sets(process, &roles.sreq, &roles.sack)?;
         Ok(())
@@ -176,7 +170,7 @@ impl<'a> Walk<'a> {
             (self.new ≡ after self.old (resource_said (first_of self.old.names) annotated.old resource.now)) }
         ensures annotated { OnOk result (SameNames annotated.new (annotated.old ++ resource.now.process ∷ [])) }
     {
-        let process = self.annotated(alloc, annotated, &resource.process)?;
+        let process = self.note_process(alloc, annotated, &resource.process)?;
         self.sets(process, &resource.acquire, &resource.release)?;
         Ok(())
     }
@@ -238,7 +232,7 @@ impl<'a> Walk<'a> {
 
     // Says the process of an annotation, and tells what it stands for.
     #[tactic(auto, using(crate::proofs::Lists::left_lists))]
-    fn annotated(
+    fn note_process(
         &mut self,
         alloc: Global,
         annotated: &mut NameSet,

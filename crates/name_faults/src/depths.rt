@@ -50,7 +50,7 @@ fn next_round(
 fn depth_of(body: &Body, depths: &[u32], limit: u32) -> u32
     ensures { result ≡ min (deepest_of (λ d. slice_index depths.now d) body.now) limit }
 {
-    let mut deepest = capped(body.level, limit);
+    let mut deepest = cap(body.level, limit);
     for (d, level) in body.uses.as_slice() {
         deepest = greater(deepest, below(depths, *d, *level, limit));
     }
@@ -62,8 +62,8 @@ fn below(depths: &[u32], d: u32, level: u32, limit: u32) -> u32
     ensures { result ≡ min (level + slice_index depths.now d) limit }
 {
     match depths.get(d as usize) {
-        Some(depth) => capped(level.saturating_add(*depth), limit),
-        None => capped(level, limit),
+        Some(depth) => cap(level.saturating_add(*depth), limit),
+        None => cap(level, limit),
     }
 }
 
@@ -75,7 +75,7 @@ fn greater(a: u32, b: u32) -> u32
 }
 
 // A depth as far as it is counted.
-fn capped(depth: u32, limit: u32) -> u32
+fn cap(depth: u32, limit: u32) -> u32
     ensures { result ≡ min depth limit }
 {
     if depth < limit { depth } else { limit }

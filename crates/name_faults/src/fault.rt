@@ -1,15 +1,13 @@
 //! The name fault of a script.
 
-ghost use Rattle.std.specs.Prelude.{◌≡◌, ◌+◌, ◌≤◌, [], map, slice_index, nat_lt, IfOk, OnOk};
-ghost use Rattle.dl_limits.specs.declared.TheConstants.{MOST_DATA_DEPTH, MOST_TREE_DEPTH};
+ghost use Rattle.std.specs.Prelude.{◌≡◌, ◌+◌, ◌≤◌};
+ghost use Rattle.name_faults.specs.Prelude.{[], map, slice_index, nat_lt, IfOk, OnOk, MOST_DATA_DEPTH, MOST_TREE_DEPTH, SameFirsts, AreSmall, declaration_depth};
 ghost use Rattle.script_names.specs.Names.{declared, first_of};
-ghost use Rattle.script_names.specs.Told as meant;
-ghost use Rattle.name_tables.specs.Firsts.{SameFirsts};
-ghost use Rattle.script_sizes.specs.Size.{AreSmall, declaration_depth};
 ghost use Rattle.name_faults.specs.Bodies.{bodies_after};
 ghost use Rattle.name_faults.specs.Depths.{AreWithin};
 ghost use Rattle.name_faults.specs.Known.{IsNext, deep_at, fault_after, fault_from, nothing_known};
 ghost use Rattle.name_faults.specs.Walked.{seen};
+ghost use Rattle.script_names.specs.Told as meant;
 
 use crate::bodies::bodies_of;
 use crate::depths::depths_of;

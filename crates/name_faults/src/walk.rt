@@ -1,12 +1,10 @@
 //! A walk over trees that lists what they say.
 
-ghost use Rattle.std.specs.Prelude.{◌≡◌, ◌+◌, ◌≤◌, false, [], ◌∷◌, ◌++◌, length, map, take, OnOk};
+ghost use Rattle.std.specs.Prelude.{◌≡◌, ◌+◌, ◌≤◌, ◌∷◌, ◌++◌};
+ghost use Rattle.name_faults.specs.Prelude.{false, [], length, map, take, OnOk, greatest, event_depth, field_depth, gen_depth, greatest_of_pairs, part_depth, tree_depth, MOST_TREE_DEPTH};
 ghost use Rattle.script_names.specs.Names.{first_of, sense_in};
-ghost use Rattle.csp_base.specs.Lists.{greatest};
-ghost use Rattle.csp_text.specs.Depth.{event_depth, field_depth, gen_depth, greatest_of_pairs, part_depth, tree_depth};
-ghost use Rattle.dl_limits.specs.declared.TheConstants.{MOST_TREE_DEPTH};
-ghost use Rattle.name_faults.specs.Walked as walked;
 ghost use Rattle.name_faults.specs.Walked.{after, seen};
+ghost use Rattle.name_faults.specs.Walked as walked;
 
 use containers::Key;
 use csp_base::{Name, NoMemory};

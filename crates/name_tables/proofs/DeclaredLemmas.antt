@@ -1,13 +1,7 @@
 -- Names that are declared one after another.
-use Rattle.std.proofs.Common.{◌≡◌, ℕ, ◌+◌, ◌<◌, ◌≤◌, List, [], ◌∷◌, ◌++◌, length, drop, get_or, sym, ap, ◌∙◌, append_assoc}
+use Rattle.name_tables.proofs.Prelude.{◌≡◌, ℕ, ◌+◌, ◌<◌, ◌≤◌, List, [], ◌∷◌, ◌++◌, length, drop, get_or, sym, ap, ◌∙◌, append_assoc, flat_map, Decl, Name, Entities, Counts, channels_from, constants_from, counted, declared_from, declares, first_of, parameters, Scope, SameFirsts, drop_read, Entity}
 use Rattle.csp_base.proofs.Standard.{drop_of_length-le, append-nil}
-use Rattle.std.specs.List.{flat_map}
-use Rattle.csp_text.specs.declared.script.Decl.{Decl}
-use Rattle.script_names.specs.Prelude.{Name, Entities, Counts, channels_from, constants_from, counted, declared_from, declares, first_of, parameters, Scope}
-use Rattle.script_names.specs.declared.kinds.Entity.TheVariants as entity
-use Rattle.name_tables.specs.Firsts.{SameFirsts}
 use Rattle.name_tables.proofs.NameLemmas.{same_firsts-append}
-use Rattle.csp_base.proofs.Lists.{drop_read}
 
 -- what was declared stands in front of what is left
 joined : (new names here more all whole : Entities) → SameFirsts new (names ++ here) → all ≡ here ++ more → SameFirsts (names ++ all) whole → SameFirsts (new ++ more) whole
@@ -17,19 +11,19 @@ joined new names here more all whole now all_is so_far y =
     ∙ so_far y
 
 pub channels_step : (new names whole : Entities) (n next fields i : ℕ) (xs : List Name) (x : Name) → i < length xs → x ≡ get_or xs i x → next ≡ n + 1
-    → SameFirsts new (names ++ (x, entity.Channel n fields) ∷ []) → SameFirsts (names ++ channels_from n fields (drop i xs)) whole
+    → SameFirsts new (names ++ (x, Entity.Channel n fields) ∷ []) → SameFirsts (names ++ channels_from n fields (drop i xs)) whole
     → SameFirsts (new ++ channels_from next fields (drop (i + 1) xs)) whole
 channels_step new names whole n next fields i xs x within is next_is now so_far =
-    joined new names ((x, entity.Channel n fields) ∷ []) (channels_from next fields (drop (i + 1) xs)) (channels_from n fields (drop i xs)) whole now
-    (ap (channels_from n fields) (drop_read xs i x within is) ∙ ap (λ m. (x, entity.Channel n fields) ∷ channels_from m fields (drop (i + 1) xs)) (sym next_is))
+    joined new names ((x, Entity.Channel n fields) ∷ []) (channels_from next fields (drop (i + 1) xs)) (channels_from n fields (drop i xs)) whole now
+    (ap (channels_from n fields) (drop_read xs i x within is) ∙ ap (λ m. (x, Entity.Channel n fields) ∷ channels_from m fields (drop (i + 1) xs)) (sym next_is))
     so_far
 
 pub constants_step : (new names whole : Entities) (n next i : ℕ) (xs : List Name) (x : Name) → i < length xs → x ≡ get_or xs i x → next ≡ n + 1
-    → SameFirsts new (names ++ (x, entity.Constant n) ∷ []) → SameFirsts (names ++ constants_from n (drop i xs)) whole
+    → SameFirsts new (names ++ (x, Entity.Constant n) ∷ []) → SameFirsts (names ++ constants_from n (drop i xs)) whole
     → SameFirsts (new ++ constants_from next (drop (i + 1) xs)) whole
 constants_step new names whole n next i xs x within is next_is now so_far =
-    joined new names ((x, entity.Constant n) ∷ []) (constants_from next (drop (i + 1) xs)) (constants_from n (drop i xs)) whole now
-    (ap (constants_from n) (drop_read xs i x within is) ∙ ap (λ m. (x, entity.Constant n) ∷ constants_from m (drop (i + 1) xs)) (sym next_is))
+    joined new names ((x, Entity.Constant n) ∷ []) (constants_from next (drop (i + 1) xs)) (constants_from n (drop i xs)) whole now
+    (ap (constants_from n) (drop_read xs i x within is) ∙ ap (λ m. (x, Entity.Constant n) ∷ constants_from m (drop (i + 1) xs)) (sym next_is))
     so_far
 
 pub declared_step : (new names whole : Entities) (n next : Counts) (i : ℕ) (decls : List Decl) (d : Decl) → i < length decls → d ≡ get_or decls i d → next ≡ counted n d
@@ -46,11 +40,11 @@ nothing_left f names whole i xs none at_end so_far y =
     ap (λ es. first_of es y) (sym (append-nil names) ∙ ap (λ es. names ++ es) (sym (ap f (drop_of_length-le xs at_end) ∙ none))) ∙ so_far y
 
 -- a datatype, then its constants
-pub datatype_names : (new between names : Entities) (e : Name) (d : ℕ) (constants : Entities) → SameFirsts between (names ++ (e, entity.Set d) ∷ []) → SameFirsts new (between ++ constants)
-    → SameFirsts new (names ++ ((e, entity.Set d) ∷ constants))
+pub datatype_names : (new between names : Entities) (e : Name) (d : ℕ) (constants : Entities) → SameFirsts between (names ++ (e, Entity.Set d) ∷ []) → SameFirsts new (between ++ constants)
+    → SameFirsts new (names ++ ((e, Entity.Set d) ∷ constants))
 datatype_names new between names e d constants first rest y =
-    rest y ∙ same_firsts-append between (names ++ (e, entity.Set d) ∷ []) constants first y
-    ∙ ap (λ es. first_of es y) (append_assoc names ((e, entity.Set d) ∷ []) constants)
+    rest y ∙ same_firsts-append between (names ++ (e, Entity.Set d) ∷ []) constants first y
+    ∙ ap (λ es. first_of es y) (append_assoc names ((e, Entity.Set d) ∷ []) constants)
 
 -- parameters are bound one after another
 pub parameters_step : (new scope whole : Scope) (n next i : ℕ) (xs : List Name) (x : Name) → i < length xs → x ≡ get_or xs i x → next ≡ n + 1

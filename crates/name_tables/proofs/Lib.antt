@@ -1,3 +1,4 @@
+mod Prelude
 pub mod NameLemmas
 pub mod SpellingLemmas
 pub mod ScopeLemmas

@@ -1,12 +1,7 @@
 -- Names and lists of them.
-use Rattle.std.proofs.Common.{◌≡◌, Bool, true, false, cond, if◌then◌else◌, ◌||◌, nat_eq, List, [], ◌∷◌, ◌++◌, Option, Some, None, is_some, refl, sym, ◌∙◌, ap}
+use Rattle.name_tables.proofs.Prelude.{◌≡◌, Bool, true, false, cond, if◌then◌else◌, ◌||◌, nat_eq, List, [], ◌∷◌, ◌++◌, Option, Some, None, is_some, refl, sym, ◌∙◌, ap, pointwise, list_any, Decl, Name, Entities, declared, first_of, is_among, meanings_of, same_name, SameFirsts, SameNames, Entity}
 use Rattle.std.proofs.lemmas.Bool.{eqb-true, eq-eqb, and_from}
-use Rattle.csp_base.specs.Standard.{pointwise, list_any}
 use Rattle.containers.specs.Exact.{IsExact-pointwise}
-use Rattle.csp_text.specs.declared.script.Decl.{Decl}
-use Rattle.script_names.specs.Prelude.{Name, Entities, declared, first_of, is_among, meanings_of, same_name}
-use Rattle.script_names.specs.declared.kinds.Entity.{Entity}
-use Rattle.name_tables.specs.Firsts.{SameFirsts, SameNames}
 use Rattle.csp_base.proofs.Booleans.{or_regroup}
 
 pub same_itself : (x : Name) → same_name x x ≡ true

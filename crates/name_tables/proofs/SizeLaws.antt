@@ -1,11 +1,5 @@
 -- What declarations declare is no more than their size.
-use Rattle.std.proofs.Common.{◌≡◌, ℕ, zero, suc, ◌+◌, ◌<◌, ◌≤◌, List, [], ◌∷◌, length, drop, get_or, ap, arith}
-use Rattle.csp_text.specs.declared.script.Decl.{Decl}
-use Rattle.csp_text.specs.declared.script.Decl.TheVariants as decl
-use Rattle.csp_base.proofs.Lists.{drop_read}
-use Rattle.name_tables.specs.Counted.{total}
-use Rattle.script_names.specs.Names.{Counts, counted}
-use Rattle.script_sizes.specs.Size.{declaration_size, size}
+use Rattle.name_tables.proofs.Prelude.{◌≡◌, ℕ, zero, suc, ◌+◌, ◌<◌, ◌≤◌, List, [], ◌∷◌, length, drop, get_or, ap, arith, Decl, drop_read, total, Counts, counted, declaration_size, size}
 
 -- the next declaration, and those that are left after it
 pub size_read : (decls : List Decl) (i : ℕ) (d : Decl) → i < length decls → d ≡ get_or decls i d → size (drop i decls) ≡ declaration_size d + size (drop (i + 1) decls)
@@ -19,13 +13,13 @@ size_at (e ∷ decls) (suc i) d within is = let later = size_at decls i d (omega
 
 -- each name that a declaration declares is a part of it
 pub counted_more : (n : Counts) (d : Decl) → total (counted n d) ≤ total n + declaration_size d
-counted_more n (decl.Channel xs types) = omega arith
-counted_more n (decl.Datatype x ks) = omega arith
-counted_more n (decl.Nametype x t) = omega arith
-counted_more n (decl.Define x params t) = omega arith
-counted_more n (decl.Assert t) = omega arith
-counted_more n (decl.Roles names) = omega arith
-counted_more n (decl.Resource names) = omega arith
+counted_more n (Decl.Channel xs types) = omega arith
+counted_more n (Decl.Datatype x ks) = omega arith
+counted_more n (Decl.Nametype x t) = omega arith
+counted_more n (Decl.Define x params t) = omega arith
+counted_more n (Decl.Assert t) = omega arith
+counted_more n (Decl.Roles names) = omega arith
+counted_more n (Decl.Resource names) = omega arith
 
 -- what holds of what is left before a declaration is read holds after it
 pub few_left : (n next : Counts) (i : ℕ) (decls : List Decl) (d : Decl) (limit : ℕ) → i < length decls → d ≡ get_or decls i d → next ≡ counted n d

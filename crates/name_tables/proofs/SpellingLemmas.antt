@@ -1,10 +1,8 @@
 -- Maps in which names are found by their bytes: the order of names tells the same names apart as their equality.
-use Rattle.std.proofs.Common.{◌≡◌, ℕ, Bool, true, false, cond, List, Option, Some, None, is_some, refl, sym, ◌∙◌, ap}
+use Rattle.name_tables.proofs.Prelude.{◌≡◌, ℕ, Bool, true, false, cond, List, Option, Some, None, is_some, refl, sym, ◌∙◌, ap, slice_cmp, texts_ties, IsKeyTest, AreApart, lookup, eq_by_cmp, is_eq, nat_cmp, Ordering, Name, same_name, Spelling, at_name}
 use Rattle.std.specs.BTreeMap as tree
-use Rattle.csp_base.specs.Standard.{BTreeMap, slice_cmp, texts_ties, KeepsOthers, IsKeyTest, AreApart, lookup, eq_by_cmp, is_eq, nat_cmp, Ordering}
+use Rattle.csp_base.specs.Standard.{BTreeMap, KeepsOthers}
 use Rattle.std.proofs.lemmas.Cmp.{eq_by_cmp_equiv, nat_list_cmp_total}
-use Rattle.script_names.specs.Names.{Name, same_name}
-use Rattle.name_tables.specs.Spelling.{Spelling, at_name}
 use Rattle.name_tables.proofs.NameLemmas.{same_exact}
 
 -- the order of two spellings

@@ -1,7 +1,6 @@
 -- The ends of all bodies, as lists.
-use Rattle.std.specs.Prelude.{List, Vec, map}
+use Rattle.name_tables.specs.Prelude.{List, Vec, map, End}
 use Rattle.std.specs.declared.alloc.Global.{Global}
-use Rattle.script_names.specs.declared.kinds.End.{End}
 
 abbrev pub rows : List (Vec End Global) → List (List End)
 rows all = map (λ ends. ends.items) all

@@ -1,7 +1,6 @@
 -- Maps in which bound names are found by their bytes.
-use Rattle.std.specs.Prelude.{ℕ, Option, List, Vec, map}
+use Rattle.name_tables.specs.Prelude.{ℕ, Option, Vec, map, Name}
 use Rattle.csp_base.specs.Standard.{nat_cmp, BTreeMap, get_by, slice_cmp, Global}
-use Rattle.script_names.specs.Names.{Name}
 
 -- a name's bytes, as they are kept
 abbrev pub Spelling : Type 0

@@ -110,7 +110,8 @@ fn declare_definition(
 ) -> Result<(), NoMemory>
     requires definitions { numbers.old.definitions < MOST_BYTES }
     requires params { params ≤ MOST_BYTES }
-    ensures names { OnOk result (SameFirsts names.new (names.old ++ (x.now, Entity.Definition numbers.old.definitions params) ∷ [])) }
+    ensures names { OnOk result (SameFirsts names.new
+        (names.old ++ (x.now, Entity.Definition numbers.old.definitions params) ∷ [])) }
     ensures numbers { OnOk result (numbers.new ≡ record numbers.old { definitions = numbers.old.definitions + 1 }) }
 {
     let d = take_definition(numbers);
@@ -127,8 +128,12 @@ fn declare_datatype(
 ) -> Result<(), NoMemory>
     requires definitions { numbers.old.definitions < MOST_BYTES }
     requires constants { numbers.old.constants + length ks.now ≤ MOST_BYTES }
-    ensures names { OnOk result (SameFirsts names.new (names.old ++ (x.now, Entity.Set numbers.old.definitions) ∷ constants_from numbers.old.constants ks.now)) }
-    ensures numbers { OnOk result (numbers.new ≡ record numbers.old { definitions = numbers.old.definitions + 1; constants = numbers.old.constants + length ks.now }) }
+    ensures names { OnOk result (SameFirsts names.new
+        (names.old ++ (x.now, Entity.Set numbers.old.definitions) ∷ constants_from numbers.old.constants ks.now)) }
+    ensures numbers { OnOk result (numbers.new ≡ record numbers.old {
+      definitions = numbers.old.definitions + 1;
+      constants = numbers.old.constants + length ks.now;
+    }) }
 {
     declare_set(alloc, names, numbers, x)?;
     declare_constants(alloc, names, numbers, ks)?;
@@ -145,7 +150,8 @@ fn declare_channels(
 ) -> Result<(), NoMemory>
     requires { numbers.old.channels + length xs.now ≤ MOST_BYTES }
     ensures names { OnOk result (SameFirsts names.new (names.old ++ channels_from numbers.old.channels fields xs.now)) }
-    ensures numbers { OnOk result (numbers.new ≡ record numbers.old { channels = numbers.old.channels + length xs.now }) }
+    ensures numbers { OnOk result (numbers.new
+        ≡ record numbers.old { channels = numbers.old.channels + length xs.now }) }
 {
     for x in xs {
         names.declare(x, alloc, Entity::Channel(numbers.channels, fields))?;
@@ -163,7 +169,8 @@ fn declare_constants(
 ) -> Result<(), NoMemory>
     requires { numbers.old.constants + length xs.now ≤ MOST_BYTES }
     ensures names { OnOk result (SameFirsts names.new (names.old ++ constants_from numbers.old.constants xs.now)) }
-    ensures numbers { OnOk result (numbers.new ≡ record numbers.old { constants = numbers.old.constants + length xs.now }) }
+    ensures numbers { OnOk result (numbers.new
+        ≡ record numbers.old { constants = numbers.old.constants + length xs.now }) }
 {
     for x in xs {
         names.declare(x, alloc, Entity::Constant(numbers.constants))?;

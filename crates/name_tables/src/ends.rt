@@ -64,7 +64,8 @@ pub fn add_ends(
     ends: &mut Vec<End>,
     tree: &Tree,
 ) -> Result<(), NoMemory>
-    ensures { OnOk result (ends.new.items ≡ ends.old.items ++ meant.ends (first_of names.now) (names_of scope.now) tree.now) }
+    ensures { OnOk result (ends.new.items
+        ≡ ends.old.items ++ meant.ends (first_of names.now) (names_of scope.now) tree.now) }
 {
     let end = match tree {
         Tree::If(_, a, b) => {
@@ -124,7 +125,8 @@ fn add_bodies(
     decls: &[Decl],
 ) -> Result<(), NoMemory>
     requires { size decls.now ≤ MOST_BYTES }
-    ensures { OnOk result (rows all.new.items ≡ rows all.old.items ++ flat_map (meant.body_ends (first_of names.now)) decls.now) }
+    ensures { OnOk result (rows all.new.items
+        ≡ rows all.old.items ++ flat_map (meant.body_ends (first_of names.now)) decls.now) }
 {
     for decl in decls {
         add_body(alloc, names, all, decl)?;
@@ -153,7 +155,8 @@ fn add_body(
 
 // Puts the ends of a body at the end.
 fn push_made(all: &mut Vec<Vec<End>>, made: Result<Vec<End>, NoMemory>) -> Result<(), NoMemory>
-    ensures { (ends : List End) → IfOk made (λ row. row.items ≡ ends) → OnOk result (rows all.new.items ≡ rows all.old.items ++ ends ∷ []) }
+    ensures { (ends : List End) → IfOk made (λ row. row.items ≡ ends)
+        → OnOk result (rows all.new.items ≡ rows all.old.items ++ ends ∷ []) }
 {
     let ends = made?;
     all.push(ends)?;

@@ -16,7 +16,7 @@ pub fn spelling_of(alloc: Global, name: &Name) -> Result<Vec<u8>, NoMemory>
 }
 
 /// The number that is written of a name.
-pub fn written(last: &BTreeMap<Vec<u8>, u32>, name: &Name) -> Option<u32>
+pub fn number_at(last: &BTreeMap<Vec<u8>, u32>, name: &Name) -> Option<u32>
     ensures { result ≡ at_name last.now name.now }
 {
     last.get(name.as_slice()).copied()

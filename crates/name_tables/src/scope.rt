@@ -5,7 +5,7 @@ ghost use Rattle.name_tables.specs.Spelling.{at_name};
 ghost use Rattle.name_tables.specs.Hidden.{shown, KeepHidden, HasNumbers, Writes};
 ghost use Rattle.script_names.specs.Typed.{number_of};
 
-use crate::numbers::{forget, rewrite, spelling_of, write, written};
+use crate::numbers::{forget, number_at, rewrite, spelling_of, write};
 use csp_base::{Name, NoMemory};
 use std::alloc::Global;
 use std::collections::BTreeMap;
@@ -84,7 +84,7 @@ impl Scope {
     pub fn find(&self, name: &Name) -> Option<u32>
         ensures { result ≡ number_of self.now name.now }
     {
-        written(&self.last, name)
+        number_at(&self.last, name)
     }
 
     /// Binds one more name.
@@ -120,7 +120,7 @@ fn bind_in(
     ensures kept { KeepHidden [] bindings.new.items }
     ensures numbers { HasNumbers last.new (map shown bindings.new.items) }
 {
-    let hidden = written(last, &name);
+    let hidden = number_at(last, &name);
     let binding = Binding {
         name,
         number,

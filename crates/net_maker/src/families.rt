@@ -113,7 +113,7 @@ fn size_line(alloc: Global, n: u32) -> Result<Bytes, NoMemory>
 }
 
 // A text after the line that says a size.
-fn sized(alloc: Global, n: u32, lines: &[u8]) -> Result<Bytes, NoMemory>
+fn with_size(alloc: Global, n: u32, lines: &[u8]) -> Result<Bytes, NoMemory>
     ensures { IfOk result (λ text. text ≡ line (codes "N = " ++ decimal n) ++ lines.now) }
 {
     let mut text = size_line(alloc, n)?;
@@ -125,5 +125,5 @@ fn sized(alloc: Global, n: u32, lines: &[u8]) -> Result<Bytes, NoMemory>
 pub fn family_script(alloc: Global, family: Family, n: u32) -> Result<Bytes, NoMemory>
     ensures { IfOk result (λ text. text ≡ family_text family n) }
 {
-    sized(alloc, n, lines(family))
+    with_size(alloc, n, lines(family))
 }

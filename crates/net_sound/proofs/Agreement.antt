@@ -1,8 +1,5 @@
 -- Sets of events over finitely many places: if no event is agreed, each place waits for another one.
-use Rattle.std.proofs.Common.{◌≡◌, ℕ, ◌<◌, ◌⊎◌, inl, inr, List, true, false, IsTrue, ℤ, ◌<ℤ◌, subst}
-use Rattle.std.proofs.lemmas.Bool.{cases_Bool, both_ways}
-use Rattle.csp_base.specs.Members.{has}
-use Rattle.csp_tables.specs.Prelude.{IsWithin, IsNonEmpty, Meet, AreApart}
+use Rattle.net_sound.proofs.Prelude.{◌≡◌, ℕ, ◌<◌, ◌⊎◌, inl, inr, List, true, false, IsTrue, ℤ, ◌<ℤ◌, subst, cases_Bool, both_ways, has, IsWithin, IsNonEmpty, Meet, AreApart}
 use Rattle.net_sound.proofs.Finite.{search_below, search_list, no_descent}
 
 -- each place below n with the event in A has it in M

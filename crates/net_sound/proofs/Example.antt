@@ -1,14 +1,10 @@
 -- The two networks of components that take two events in turn.
-use Rattle.std.proofs.Common.{◌≡◌, ℕ, zero, suc, ◌+◌, ◌<◌, ◌≤◌, inl, inr, List, [], ◌∷◌, length, Bool, true, false, ◌||◌, cond, IsTrue, MatchBool, nat_eq, Some, slice_get, refl, sym, ap, subst, ◌∙◌, arith}
-use Rattle.csp_base.proofs.Standard.{false≢true, and_from, and_parts, eqb-true, or_cases, none-some, same_Some}
-use Rattle.csp_base.specs.Members.{has}
-use Rattle.csp_tables.specs.Prelude.{Label, silent, visible, Path, Silently, Stable, Component, ComponentStep, Tree, NetworkStep, leaves, FlatStep, IsGreatestSilence, visible_events, After, Offers, node_at, node_after, is_run, end_of, Part, part_at, project, IsNonEmpty, sharers, Stands, acceptance, acceptances_of, HasForm, OffersAcceptance, HasBehaviour, Falls, IsGoodRanking}
+use Rattle.net_sound.proofs.Prelude.{◌≡◌, ℕ, zero, suc, ◌+◌, ◌<◌, ◌≤◌, inl, inr, List, [], ◌∷◌, length, Bool, true, false, ◌||◌, cond, IsTrue, MatchBool, nat_eq, Some, slice_get, refl, sym, ap, subst, ◌∙◌, arith, false≢true, and_from, and_parts, eqb-true, or_cases, none-some, same_Some, has, Label, silent, visible, Path, Silently, Stable, Component, ComponentStep, Tree, NetworkStep, leaves, FlatStep, IsGreatestSilence, visible_events, After, Offers, node_at, node_after, is_run, end_of, Part, part_at, project, IsNonEmpty, sharers, Stands, acceptance, acceptances_of, HasForm, OffersAcceptance, HasBehaviour, Falls, IsGoodRanking, or_none}
 use Rattle.net_sound.specs.Soundness.{IsSound}
 use Rattle.net_sound.specs.Example.{Turn, TurnStep, both, pair, turns, flat_ranking, ExampleIsLive, ExampleIsStuck}
 use Rattle.net_sound.specs.Example.Turn.{waking, at_zero, at_one}
 use Rattle.net_sound.proofs.Flattening.{forth}
 use Rattle.net_sound.proofs.Soundness.{good_rankings_mean_live, path_alphabet}
-use Rattle.csp_base.proofs.Booleans.{or_none}
 
 abbrev one : Turn → Component Turn
 one x = record { alphabet = both; term = x }
@@ -22,16 +18,13 @@ IsAwake at_one = Unit {0}
 
 awake_after : (x : Turn) (l : Label) (y : Turn) → TurnStep x l y → IsAwake y
 awake_after waking silent y h = subst IsAwake (sym h) tt
-awake_after waking (visible e) y h = absurd h
-awake_after at_zero silent y h = absurd h
 awake_after at_zero (visible e) y h = subst IsAwake (sym h.1) tt
-awake_after at_one silent y h = absurd h
 awake_after at_one (visible e) y h = subst IsAwake (sym h.1) tt
+awake_after _ _ y h = absurd h
 
 awake_is_stable : (x y : Turn) → IsAwake x → TurnStep x silent y → ⊥
 awake_is_stable waking y a h = a
-awake_is_stable at_zero y a h = h
-awake_is_stable at_one y a h = h
+awake_is_stable _ y a h = h
 
 step_awake : (s : Component Turn) (l : Label) (t : Component Turn) → ComponentStep TurnStep s l t → IsAwake t.term
 step_awake s silent t h = awake_after s.term silent t.term h.1
@@ -87,8 +80,7 @@ node_of at_one = 1
 
 silent_node : (x y : Turn) → TurnStep x silent y → node_of x ≡ node_of y
 silent_node waking y h = sym (ap node_of h)
-silent_node at_zero y h = absurd h
-silent_node at_one y h = absurd h
+silent_node _ y h = absurd h
 
 abbrev Leads : ℕ → ℕ → ℕ → Type 0
 Leads n e m = (is_run turns.table n (e ∷ []) ≡ true) × (node_after turns.table n e ≡ m)

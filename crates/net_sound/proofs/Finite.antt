@@ -1,7 +1,5 @@
 -- Searches over finitely many numbers: below a bound, and in a list. And a least value.
-use Rattle.std.proofs.Common.{◌≡◌, ℕ, zero, suc, ◌<◌, ◌⊎◌, inl, inr, List, [], ◌∷◌, IsTrue, ℤ, ◌≤ℤ◌, ◌<ℤ◌, refl, sym, subst, arith, eq-eqb}
-use Rattle.csp_base.proofs.Standard.{false≢true, cases_eq, or_cases, or_left, or_right, eqb-true, ints, by_lt_z}
-use Rattle.csp_base.specs.Members.{has}
+use Rattle.net_sound.proofs.Prelude.{◌≡◌, ℕ, zero, suc, ◌<◌, ◌⊎◌, inl, inr, List, [], ◌∷◌, IsTrue, ℤ, ◌≤ℤ◌, ◌<ℤ◌, refl, sym, subst, arith, eq-eqb, false≢true, cases_eq, or_cases, or_left, or_right, eqb-true, ints, by_lt_z, has}
 
 -- what holds below n, and at n, holds below n + 1
 pub below_suc : (P : ℕ → Type 0) (n : ℕ) → ((j : ℕ) → j < n → P j) → P n → (j : ℕ) → j < suc n → P j

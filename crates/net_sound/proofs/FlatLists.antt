@@ -1,8 +1,5 @@
 -- Flat steps over lists of components: lists put together and taken apart, and what a step keeps.
-use Rattle.std.proofs.Common.{◌≡◌, ℕ, ◌⊎◌, inl, inr, List, [], ◌∷◌, ◌++◌, map, Bool, true, false, ◌||◌, MatchBool, refl, sym, ap, ap₂, ◌∙◌}
-use Rattle.std.proofs.lemmas.Bool.{MatchBool-at_false, or_parts, false≢true}
-use Rattle.csp_base.specs.Members.{has}
-use Rattle.csp_tables.specs.Prelude.{Label, silent, visible, Component, ComponentStep, in_some_component, OneMoves, AllTakePart, FlatStep}
+use Rattle.net_sound.proofs.Prelude.{◌≡◌, ℕ, ◌⊎◌, inl, inr, List, [], ◌∷◌, ◌++◌, map, Bool, true, false, ◌||◌, MatchBool, refl, sym, ap, ap₂, ◌∙◌, MatchBool-at_false, or_parts, false≢true, has, Label, silent, visible, Component, ComponentStep, in_some_component, OneMoves, AllTakePart, FlatStep}
 
 abbrev pub alphabets : {T : Type 0} → List (Component T) → List (List ℕ)
 alphabets cs = map (λ c. c.alphabet) cs
@@ -22,10 +19,9 @@ match_false false P Q e q = q
 -- ---- put together
 
 pub moves_left : {T : Type 0} (Step : T → Label → T → Type 0) (xs ys zs : List (Component T)) → OneMoves Step xs ys → OneMoves Step (xs ++ zs) (ys ++ zs)
-moves_left Step [] ys zs h = absurd h
-moves_left Step (x ∷ xs) [] zs h = absurd h
 moves_left Step (x ∷ xs) (y ∷ ys) zs (inl h) = inl (h.0, ap (λ ws. ws ++ zs) h.1)
 moves_left Step (x ∷ xs) (y ∷ ys) zs (inr h) = inr (h.0, moves_left Step xs ys zs h.1)
+moves_left Step _ _ zs h = absurd h
 
 pub moves_right : {T : Type 0} (Step : T → Label → T → Type 0) (xs zs ws : List (Component T)) → OneMoves Step zs ws → OneMoves Step (xs ++ zs) (xs ++ ws)
 moves_right Step [] zs ws h = h
@@ -33,9 +29,8 @@ moves_right Step (x ∷ xs) zs ws h = inr (refl, moves_right Step xs zs ws h)
 
 pub all_append : {T : Type 0} (Step : T → Label → T → Type 0) (e : ℕ) (xs ys zs ws : List (Component T)) → AllTakePart Step e xs ys → AllTakePart Step e zs ws → AllTakePart Step e (xs ++ zs) (ys ++ ws)
 all_append Step e [] [] zs ws h k = k
-all_append Step e [] (y ∷ ys) zs ws h k = absurd h
-all_append Step e (x ∷ xs) [] zs ws h k = absurd h
 all_append Step e (x ∷ xs) (y ∷ ys) zs ws h k = (h.0, all_append Step e xs ys zs ws h.1 k)
+all_append Step e _ _ zs ws h k = absurd h
 
 -- without the event in an alphabet all stay
 pub all_stay : {T : Type 0} (Step : T → Label → T → Type 0) (e : ℕ) (xs : List (Component T)) → in_some_component xs e ≡ false → AllTakePart Step e xs xs
@@ -48,11 +43,10 @@ all_stay Step e (x ∷ xs) h =
 
 pub all_stayed : {T : Type 0} (Step : T → Label → T → Type 0) (e : ℕ) (xs ys : List (Component T)) → in_some_component xs e ≡ false → AllTakePart Step e xs ys → xs ≡ ys
 all_stayed Step e [] [] h k = refl
-all_stayed Step e [] (y ∷ ys) h k = absurd k
-all_stayed Step e (x ∷ xs) [] h k = absurd k
 all_stayed Step e (x ∷ xs) (y ∷ ys) h k =
     let p = or_parts (has x.alphabet e) (in_some_component xs e) h in
     ap₂ (λ z zs. z ∷ zs) (MatchBool-at_false _ _ p.0 k.0) (all_stayed Step e xs ys p.1 k.1)
+all_stayed Step e _ _ h k = absurd k
 
 pub record MovesLeft {T : Type 0} (Step : T → Label → T → Type 0) (xs zs ds : List (Component T)) : Type 0 where
   pub front : List (Component T)
@@ -95,10 +89,9 @@ step_alphabet Step c silent d h = h.0
 step_alphabet Step c (visible e) d h = h.0
 
 moves_alphabets : {T : Type 0} (Step : T → Label → T → Type 0) (cs ds : List (Component T)) → OneMoves Step cs ds → alphabets cs ≡ alphabets ds
-moves_alphabets Step [] ds h = absurd h
-moves_alphabets Step (c ∷ cs) [] h = absurd h
 moves_alphabets Step (c ∷ cs) (d ∷ ds) (inl h) = ap₂ (λ a as'. a ∷ as') (step_alphabet Step c silent d h.0) (ap alphabets h.1)
 moves_alphabets Step (c ∷ cs) (d ∷ ds) (inr h) = ap₂ (λ a as'. a ∷ as') (ap (λ (x : Component _). x.alphabet) h.0) (moves_alphabets Step cs ds h.1)
+moves_alphabets Step _ _ h = absurd h
 
 part_alphabet : {T : Type 0} (Step : T → Label → T → Type 0) (e : ℕ) (c d : Component T) → MatchBool (has c.alphabet e) (ComponentStep Step c (visible e) d) (c ≡ d) → c.alphabet ≡ d.alphabet
 part_alphabet Step e c d h =
@@ -109,9 +102,8 @@ part_alphabet Step e c d h =
 
 all_alphabets : {T : Type 0} (Step : T → Label → T → Type 0) (e : ℕ) (cs ds : List (Component T)) → AllTakePart Step e cs ds → alphabets cs ≡ alphabets ds
 all_alphabets Step e [] [] h = refl
-all_alphabets Step e [] (d ∷ ds) h = absurd h
-all_alphabets Step e (c ∷ cs) [] h = absurd h
 all_alphabets Step e (c ∷ cs) (d ∷ ds) h = ap₂ (λ a as'. a ∷ as') (part_alphabet Step e c d h.0) (all_alphabets Step e cs ds h.1)
+all_alphabets Step e _ _ h = absurd h
 
 pub flat_alphabets : {T : Type 0} (Step : T → Label → T → Type 0) (cs : List (Component T)) (l : Label) (ds : List (Component T)) → FlatStep Step cs l ds → alphabets cs ≡ alphabets ds
 flat_alphabets Step cs silent ds h = moves_alphabets Step cs ds h

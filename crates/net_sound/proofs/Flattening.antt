@@ -1,10 +1,5 @@
 -- In a well-nested tree the steps of the tree are the flat steps over its leaves, and a step keeps the nesting.
-use Rattle.std.proofs.Common.{◌≡◌, ℕ, inl, inr, List, [], ◌∷◌, ◌++◌, false, ◌||◌, refl, sym, ap, ap₂, subst, ◌∙◌}
-use Rattle.std.proofs.lemmas.Bool.{MatchBool-at_true, or_cases, or_left, false≢true, cases_Bool}
-use Rattle.csp_base.specs.Members.{has}
-use Rattle.csp_base.proofs.Booleans.{or_regroup}
-use Rattle.csp_tables.specs.Prelude.{Label, silent, visible, Component, ComponentStep, Tree, Operands, in_some_alphabet, NetworkStep, OneSilent, AllTogether, leaves, leaves_of_operands, leaf, parallel, none, operand, in_some_component, OneMoves, AllTakePart, FlatStep, WellNested, OperandsWellNested}
-use Rattle.net_sound.specs.Flattening.{StepsToLeaves, TreeStepsAreFlat, FlatStepsAreTreeSteps, StepsKeepNesting, StepsKeepAlphabets}
+use Rattle.net_sound.proofs.Prelude.{◌≡◌, ℕ, inl, inr, List, [], ◌∷◌, ◌++◌, false, ◌||◌, refl, sym, ap, ap₂, subst, ◌∙◌, MatchBool-at_true, or_cases, or_left, false≢true, cases_Bool, has, or_regroup, Label, silent, visible, Component, ComponentStep, Tree, Operands, in_some_alphabet, NetworkStep, OneSilent, AllTogether, leaves, leaves_of_operands, leaf, parallel, none, operand, in_some_component, OneMoves, AllTakePart, FlatStep, WellNested, OperandsWellNested, StepsToLeaves, TreeStepsAreFlat, FlatStepsAreTreeSteps, StepsKeepNesting, StepsKeepAlphabets}
 use Rattle.net_sound.proofs.FlatLists.{alphabets, by_test, match_true, match_false, moves_left, moves_right, all_append, all_stay, all_stayed, moves_split, all_split, flat_alphabets, same_some}
 
 -- an event is in an operand's alphabet exactly where it is in a component's
@@ -25,25 +20,20 @@ mutual
   pub forth : {T : Type 0} (Step : T → Label → T → Type 0) (t : Tree T) (l : Label) (u : Tree T) → WellNested t → NetworkStep Step t l u → FlatStep Step (leaves t) l (leaves u)
   forth Step (leaf c) silent (leaf d) w h = inl (h, refl)
   forth Step (leaf c) (visible e) (leaf d) w h = leaf_part Step e c d h
-  forth Step (leaf c) l (parallel qs) w h = absurd h
-  forth Step (parallel os) silent (leaf d) w h = absurd h
-  forth Step (parallel os) (visible e) (leaf d) w h = absurd h
   forth Step (parallel os) silent (parallel qs) w h = forth_silent Step os qs w h
   forth Step (parallel os) (visible e) (parallel qs) w h = (sym (same_events os e w) ∙ h.0, forth_visible Step e os qs w h.1)
+  forth Step _ _ _ w h = absurd h
 
   forth_silent : {T : Type 0} (Step : T → Label → T → Type 0) (os qs : Operands T) → OperandsWellNested os → OneSilent Step os qs → OneMoves Step (leaves_of_operands os) (leaves_of_operands qs)
-  forth_silent Step none qs w h = absurd h
-  forth_silent Step (operand a t os) none w h = absurd h
   forth_silent Step (operand a t os) (operand b u qs) w h =
       elim h.1 [
         | inl k ↦ subst (λ zs. OneMoves Step (leaves t ++ leaves_of_operands os) (leaves u ++ zs)) (ap leaves_of_operands k.1) (moves_left Step (leaves t) (leaves u) (leaves_of_operands os) (forth Step t silent u w.1 k.0))
         | inr k ↦ subst (λ v. OneMoves Step (leaves t ++ leaves_of_operands os) (leaves v ++ leaves_of_operands qs)) k.0 (moves_right Step (leaves t) (leaves_of_operands os) (leaves_of_operands qs) (forth_silent Step os qs w.2 k.1))
       ]
+  forth_silent Step _ _ w h = absurd h
 
   forth_visible : {T : Type 0} (Step : T → Label → T → Type 0) (e : ℕ) (os qs : Operands T) → OperandsWellNested os → AllTogether Step e os qs → AllTakePart Step e (leaves_of_operands os) (leaves_of_operands qs)
   forth_visible Step e none none w h = tt
-  forth_visible Step e none (operand b u qs) w h = absurd h
-  forth_visible Step e (operand a t os) none w h = absurd h
   forth_visible Step e (operand a t os) (operand b u qs) w h =
       all_append Step e (leaves t) (leaves u) (leaves_of_operands os) (leaves_of_operands qs)
       (elim (by_test (has a e) h.1) [
@@ -51,6 +41,7 @@ mutual
         | inr k ↦ subst (λ v. AllTakePart Step e (leaves t) (leaves v)) k.1 (all_stay Step e (leaves t) (sym (w.0 e) ∙ k.0))
       ])
       (forth_visible Step e os qs w.2 h.2)
+  forth_visible Step e _ _ w h = absurd h
 
 -- ---- from the list to the tree
 
@@ -124,30 +115,26 @@ still a b t u same h w e = ap (λ x. has x e) (sym same) ∙ w e ∙ same_some (
 mutual
   pub kept : {T : Type 0} (Step : T → Label → T → Type 0) (t : Tree T) (l : Label) (u : Tree T) → WellNested t → NetworkStep Step t l u → WellNested u
   kept Step (leaf c) l (leaf d) w h = tt
-  kept Step (leaf c) l (parallel qs) w h = absurd h
-  kept Step (parallel os) silent (leaf d) w h = absurd h
-  kept Step (parallel os) (visible e) (leaf d) w h = absurd h
   kept Step (parallel os) silent (parallel qs) w h = kept_silent Step os qs w h
   kept Step (parallel os) (visible e) (parallel qs) w h = kept_visible Step e os qs w h.1
+  kept Step _ _ _ w h = absurd h
 
   kept_silent : {T : Type 0} (Step : T → Label → T → Type 0) (os qs : Operands T) → OperandsWellNested os → OneSilent Step os qs → OperandsWellNested qs
-  kept_silent Step none qs w h = absurd h
-  kept_silent Step (operand a t os) none w h = absurd h
   kept_silent Step (operand a t os) (operand b u qs) w h =
       elim h.1 [
         | inl k ↦ (still a b t u h.0 (step_alphabets Step t silent u w.1 k.0) w.0, kept Step t silent u w.1 k.0, subst OperandsWellNested k.1 w.2)
         | inr k ↦ (still a b t u h.0 (ap (λ v. alphabets (leaves v)) k.0) w.0, subst WellNested k.0 w.1, kept_silent Step os qs w.2 k.1)
       ]
+  kept_silent Step _ _ w h = absurd h
 
   kept_visible : {T : Type 0} (Step : T → Label → T → Type 0) (e : ℕ) (os qs : Operands T) → OperandsWellNested os → AllTogether Step e os qs → OperandsWellNested qs
   kept_visible Step e none none w h = tt
-  kept_visible Step e none (operand b u qs) w h = absurd h
-  kept_visible Step e (operand a t os) none w h = absurd h
   kept_visible Step e (operand a t os) (operand b u qs) w h =
       elim (by_test (has a e) h.1) [
         | inl k ↦ (still a b t u h.0 (step_alphabets Step t (visible e) u w.1 k.1) w.0, kept Step t (visible e) u w.1 k.1, kept_visible Step e os qs w.2 h.2)
         | inr k ↦ (still a b t u h.0 (ap (λ v. alphabets (leaves v)) k.1) w.0, subst WellNested k.1 w.1, kept_visible Step e os qs w.2 h.2)
       ]
+  kept_visible Step e _ _ w h = absurd h
 
 -- ---- the laws
 

@@ -3,14 +3,10 @@
 -- A component's trace has events of its alphabet alone. Each node of its normal table is reached by a run, which is a trace;
 -- so a possible event is the last one of a trace, and an acceptance is offered by a state of the component, whose events are
 -- possible. Targets are nodes, since whoever goes over the steps breadth first meets exactly the nodes.
-use Rattle.std.proofs.Common.{◌≡◌, ℕ, suc, ◌+◌, ◌<◌, ◌≤◌, List, [], ◌∷◌, ◌++◌, length, get_or, map, true, IsTrue, nat_eq, refl, sym, ap, subst, ◌∙◌, arith, inl, inr, eq-eqb}
-use Rattle.csp_base.proofs.Standard.{and_parts, or_left, or_right, or_cases, eqb-true, false≢true, cases_lt, get_or-eq_default}
+use Rattle.net_sound.proofs.Prelude.{◌≡◌, ℕ, suc, ◌+◌, ◌<◌, ◌≤◌, List, [], ◌∷◌, ◌++◌, length, get_or, map, true, IsTrue, nat_eq, refl, sym, ap, subst, ◌∙◌, arith, inl, inr, eq-eqb, and_parts, or_left, or_right, or_cases, eqb-true, false≢true, cases_lt, get_or-eq_default, has, Label, silent, visible, Path, Component, ComponentStep, leaves, visible_events, After, IsTrace, IsAcceptance, IsWithin, Node, node_at, is_possible, node_after, is_run, end_of, IsReached, no_node, BeginsAbove, StepsHaveForm, AreWithin, NodesHaveForm, HasForm, HaveForm, MeetsInOrder, targets_of_steps, targets_of_nodes, IsNormalTable, IsRisingNode, Part, part_at, ArePartsOf, ShapesAreWellFormed}
 use Rattle.dl_limits.specs.declared.TheConstants.{MOST_SETS, MOST_TERMS}
-use Rattle.csp_base.specs.Members.{has}
 use Rattle.csp_base.proofs.Rising.{RisesFrom, rises_from_increasing}
-use Rattle.csp_tables.specs.Prelude.{Label, silent, visible, Path, Component, ComponentStep, leaves, visible_events, After, IsTrace, IsAcceptance, IsWithin, Node, node_at, is_possible, node_after, is_run, end_of, IsReached, no_node, BeginsAbove, StepsHaveForm, AreWithin, NodesHaveForm, HasForm, HaveForm, MeetsInOrder, targets_of_steps, targets_of_nodes, IsNormalTable, IsRisingNode, Part, part_at, ArePartsOf}
 use Rattle.csp_tables.proofs.Runs.{run_push}
-use Rattle.net_sound.specs.Normal.{ShapesAreWellFormed}
 use Rattle.net_sound.proofs.Parts.{component_of}
 
 -- ---- traces of a component
@@ -162,12 +158,11 @@ module _ {T : Type 0} (Step : T → Label → T → Type 0) (c : Component T) (m
 have_form : {T : Type 0} (Step : T → Label → T → Type 0) (cs : List (Component T)) (ps : List Part) → ArePartsOf Step cs ps
     → ((i : ℕ) → i < length ps → length (part_at ps i).table ≤ MOST_SETS) → HaveForm ps
 have_form Step [] [] parts nodes = tt
-have_form Step [] (p ∷ ps) parts nodes = absurd parts
-have_form Step (c ∷ cs) [] parts nodes = absurd parts
 have_form Step (c ∷ cs) (p ∷ ps) parts nodes = (
   subst (λ al. HasForm (record { alphabet = al; table = p.table })) parts.0.alphabet (table_has_form Step c MOST_TERMS p.table parts.0.table (nodes 0 (omega arith))),
   have_form Step cs ps parts.1 (λ i less. nodes (suc i) (omega arith)),
 )
+have_form Step _ _ parts nodes = absurd parts
 
 pub shapes_are_well_formed : {T : Type 0} (Step : T → Label → T → Type 0) → ShapesAreWellFormed Step
 shapes_are_well_formed Step tree shape is =

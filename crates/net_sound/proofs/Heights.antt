@@ -1,28 +1,20 @@
 -- Silent walks of a component and of its numbered table.
-use Rattle.std.proofs.Common.{◌≡◌, ℕ, zero, suc, ◌<◌, ◌≤◌, List, [], ◌∷◌, Some, slice_get, get_or, length, refl, sym, subst, ◌∙◌, arith, inl, inr}
-use Rattle.csp_base.proofs.Standard.{cases_lt, same_Some, slice_get_within}
-use Rattle.csp_tables.specs.Prelude.{Label, silent, Silently, Component, ComponentStep, RawTable, RawStep, standing_at, IsTableOf}
+use Rattle.net_sound.proofs.Prelude.{◌≡◌, ℕ, zero, suc, ◌<◌, ◌≤◌, List, [], ◌∷◌, Some, slice_get, get_or, length, replicate, refl, subst, arith, inl, inr, cases_lt, slice_get_within, Label, silent, Silently, Component, ComponentStep, RawTable, RawStep, standing_at, IsTableOf, silent_path, path_silent}
 use Rattle.net_sound.specs.Heights.{HeightsAreExact, HeightsAddUp, sum_of_greatest}
-use Rattle.net_sound.proofs.FlatLists.{step_alphabet}
-use Rattle.net_sound.proofs.Numbered.{run_down, stands}
+use Rattle.net_sound.proofs.Numbered.{run_down, run_up, stands}
 use Rattle.csp_base.proofs.Lists.{slice_get_some}
 use Rattle.csp_base.specs.Lists.{greatest}
 
 walk_up : {T : Type 0} (Step : T → Label → T → Type 0) (c : Component T) (terms : List T) (raw : RawTable) (k m n : ℕ) (x : T) → IsTableOf Step c terms raw → slice_get terms m ≡ Some x → Silently (RawStep raw) k m n → (d : Component T) × Silently (ComponentStep Step) k (standing_at c x) d
-walk_up Step c terms raw zero m n x t h w = (standing_at c x, refl)
-walk_up Step c terms raw (suc k) m n x t h w =
-    let s = t.sound m w.0 silent w.1 in
-    let r = walk_up Step c terms raw k w.0 n s.goal t s.to w.2 in
-    (r.0, (standing_at c s.goal, subst (λ y. ComponentStep Step (standing_at c y) silent (standing_at c s.goal)) (same_Some s.source x (sym s.from ∙ h)) s.step, r.1))
+walk_up Step c terms raw k m n x t h w =
+    let r = run_up Step c terms raw (replicate k silent) m n x t h (silent_path (RawStep raw) k m n w) in
+    (standing_at c r.goal, path_silent (ComponentStep Step) k (standing_at c x) (standing_at c r.goal) r.path)
 
 -- the path's first state stands at the term numbered m
 walk_down : {T : Type 0} (Step : T → Label → T → Type 0) (c : Component T) (terms : List T) (raw : RawTable) (k m : ℕ) (x : T) (d : Component T) → IsTableOf Step c terms raw → slice_get terms m ≡ Some x → Silently (ComponentStep Step) k (standing_at c x) d → (n : ℕ) × Silently (RawStep raw) k m n
-walk_down Step c terms raw zero m x d t h w = (m, refl)
-walk_down Step c terms raw (suc k) m x d t h w =
-    let s = t.complete m x silent w.0 h w.1 in
-    let same : w.0 ≡ standing_at c w.0.term = stands c w.0 (step_alphabet Step (standing_at c x) silent w.0 w.1) in
-    let r = walk_down Step c terms raw k s.number w.0.term d t s.listed (subst (λ y. Silently (ComponentStep Step) k y d) same w.2) in
-    (r.0, (s.number, s.step, r.1))
+walk_down Step c terms raw k m x d t h w =
+    let r = run_down Step c terms raw (replicate k silent) (standing_at c x) d m t h refl (silent_path (ComponentStep Step) k (standing_at c x) d w) in
+    (r.number, path_silent (RawStep raw) k m r.number r.path)
 
 at_most_greatest : (ns : List ℕ) (i : ℕ) → get_or ns i 0 ≤ greatest ns
 at_most_greatest [] i = omega arith
@@ -64,6 +56,5 @@ heights_are_exact Step c terms raw heights t hs =
 
 pub heights_add_up : {T : Type 0} (Step : T → Label → T → Type 0) → HeightsAddUp Step
 heights_add_up Step [] [] h = refl
-heights_add_up Step [] (x ∷ xs) h = absurd h
-heights_add_up Step (c ∷ cs) [] h = absurd h
 heights_add_up Step (c ∷ cs) (x ∷ xs) h = (greatest x, sum_of_greatest xs, heights_are_exact Step c h.0.terms h.0.raw x h.0.table h.0.are_heights, heights_add_up Step cs xs h.1, refl)
+heights_add_up Step _ _ h = absurd h

@@ -1,6 +1,5 @@
 -- Ranks with laps: what is said of the lead of one part over another is an order of two sums.
-use Rattle.std.proofs.Common.{◌≡◌, ℕ, zero, suc, ℤ, pos, ◌+ℤ◌, ◌-ℤ◌, ◌*ℤ◌, ◌<ℤ◌, sym, ap, ◌∙◌, arith}
-use Rattle.std.proofs.lemmas.Int.{ints}
+use Rattle.net_sound.proofs.Prelude.{◌≡◌, ℕ, zero, suc, ℤ, pos, ◌+ℤ◌, ◌-ℤ◌, ◌*ℤ◌, ◌<ℤ◌, sym, ap, ◌∙◌, arith, ints}
 use lib.IntN.{+ℤ-suc_ℤ, suc_ℤ-*ℤ, zero-*ℤ, *ℤ_comm, +ℤ_assoc, +ℤ_idr, -ℤ-+ℤ_cancel}
 
 distributes : (x : ℤ) (b : ℕ) (k : ℤ) → (x +ℤ pos b) *ℤ k ≡ (x *ℤ k) +ℤ (pos b *ℤ k)

@@ -10,6 +10,7 @@ pub mod Local
 pub mod Normal
 pub mod Numbered
 pub mod Parts
+pub mod Prelude
 pub mod Shape
 pub mod ShapeOf
 pub mod Sharers

@@ -1,8 +1,5 @@
 -- A component and its numbered table do the same, so the normal table of the one is that of the other.
-use Rattle.std.proofs.Common.{◌≡◌, ℕ, List, [], ◌++◌, Some, slice_get, get_or, refl, sym, subst, ◌∙◌}
-use Rattle.std.proofs.lemmas.Option.{same_Some}
-use Rattle.csp_tables.specs.Prelude.{Label, silent, visible, Stable, Component, ComponentStep, IsTrace, IsStableOffer, IsAcceptance, HaveSameFuture, RawTable, RawStep, standing_at, IsTableOf, acceptances_after, OffersAcceptance}
-use Rattle.net_sound.specs.Normal.{NormalTablesCarryOver}
+use Rattle.net_sound.proofs.Prelude.{◌≡◌, ◌↔◌, ℕ, List, [], ◌++◌, Some, slice_get, get_or, refl, sym, subst, ◌∙◌, same_Some, Label, silent, visible, Stable, Component, ComponentStep, IsTrace, IsStableOffer, IsAcceptance, HaveSameFuture, RawTable, RawStep, standing_at, IsTableOf, acceptances_after, OffersAcceptance, NormalTablesCarryOver}
 use Rattle.net_sound.proofs.Numbered.{run_down, run_up, stands}
 
 -- a step of the table from the term x is a step of the component that stands there
@@ -71,29 +68,22 @@ acceptance_up Step c terms raw s M t a = record { offer = offer_up Step c terms 
 pub acceptance_down : {T : Type 0} (Step : T → Label → T → Type 0) (c : Component T) (terms : List T) (raw : RawTable) (s M : List ℕ) → IsTableOf Step c terms raw → IsAcceptance (ComponentStep Step) c s M → IsAcceptance (RawStep raw) 0 s M
 acceptance_down Step c terms raw s M t a = record { offer = offer_down Step c terms raw s M t a.offer; least = λ N o within. a.least N (offer_up Step c terms raw s N t o) within }
 
-pub future_up : {T : Type 0} (Step : T → Label → T → Type 0) (c : Component T) (terms : List T) (raw : RawTable) (s w : List ℕ) → IsTableOf Step c terms raw → HaveSameFuture (RawStep raw) 0 s w → HaveSameFuture (ComponentStep Step) c s w
-future_up Step c terms raw s w t f = record {
-  traces = λ v. (
-    λ h. trace_up Step c terms raw (w ++ v) t ((f.traces v).0 (trace_down Step c terms raw (s ++ v) t h)),
-    λ h. trace_up Step c terms raw (s ++ v) t ((f.traces v).1 (trace_down Step c terms raw (w ++ v) t h)),
-  );
+-- where traces and acceptances are the same, futures are
+same_future : {S R : Type 0} (Step : S → Label → S → Type 0) (x : S) (Other : R → Label → R → Type 0) (y : R) → ((s : List ℕ) → IsTrace Step x s ↔ IsTrace Other y s) → ((s M : List ℕ) → IsAcceptance Step x s M ↔ IsAcceptance Other y s M)
+    → (s w : List ℕ) → HaveSameFuture Step x s w → HaveSameFuture Other y s w
+same_future Step x Other y traces acceptances s w f = record {
+  traces = λ v. (λ h. (traces (w ++ v)).0 ((f.traces v).0 ((traces (s ++ v)).1 h)), λ h. (traces (s ++ v)).0 ((f.traces v).1 ((traces (w ++ v)).1 h)));
   acceptances = λ v M. (
-    λ h. acceptance_up Step c terms raw (w ++ v) M t ((f.acceptances v M).0 (acceptance_down Step c terms raw (s ++ v) M t h)),
-    λ h. acceptance_up Step c terms raw (s ++ v) M t ((f.acceptances v M).1 (acceptance_down Step c terms raw (w ++ v) M t h)),
+    λ h. (acceptances (w ++ v) M).0 ((f.acceptances v M).0 ((acceptances (s ++ v) M).1 h)),
+    λ h. (acceptances (s ++ v) M).0 ((f.acceptances v M).1 ((acceptances (w ++ v) M).1 h)),
   );
 }
 
+pub future_up : {T : Type 0} (Step : T → Label → T → Type 0) (c : Component T) (terms : List T) (raw : RawTable) (s w : List ℕ) → IsTableOf Step c terms raw → HaveSameFuture (RawStep raw) 0 s w → HaveSameFuture (ComponentStep Step) c s w
+future_up Step c terms raw s w t = same_future (RawStep raw) 0 (ComponentStep Step) c (λ v. (trace_up Step c terms raw v t, trace_down Step c terms raw v t)) (λ v M. (acceptance_up Step c terms raw v M t, acceptance_down Step c terms raw v M t)) s w
+
 pub future_down : {T : Type 0} (Step : T → Label → T → Type 0) (c : Component T) (terms : List T) (raw : RawTable) (s w : List ℕ) → IsTableOf Step c terms raw → HaveSameFuture (ComponentStep Step) c s w → HaveSameFuture (RawStep raw) 0 s w
-future_down Step c terms raw s w t f = record {
-  traces = λ v. (
-    λ h. trace_down Step c terms raw (w ++ v) t ((f.traces v).0 (trace_up Step c terms raw (s ++ v) t h)),
-    λ h. trace_down Step c terms raw (s ++ v) t ((f.traces v).1 (trace_up Step c terms raw (w ++ v) t h)),
-  );
-  acceptances = λ v M. (
-    λ h. acceptance_down Step c terms raw (w ++ v) M t ((f.acceptances v M).0 (acceptance_up Step c terms raw (s ++ v) M t h)),
-    λ h. acceptance_down Step c terms raw (s ++ v) M t ((f.acceptances v M).1 (acceptance_up Step c terms raw (w ++ v) M t h)),
-  );
-}
+future_down Step c terms raw s w t = same_future (ComponentStep Step) c (RawStep raw) 0 (λ v. (trace_down Step c terms raw v t, trace_up Step c terms raw v t)) (λ v M. (acceptance_down Step c terms raw v M t, acceptance_up Step c terms raw v M t)) s w
 
 pub normal_tables_carry_over : {T : Type 0} (Step : T → Label → T → Type 0) → NormalTablesCarryOver Step
 normal_tables_carry_over Step c terms raw most table t normal = record {

@@ -1,7 +1,5 @@
 -- A run of a component is one of its numbered table, and the other way round.
-use Rattle.std.proofs.Common.{◌≡◌, ℕ, List, [], ◌∷◌, Some, slice_get, refl, sym, ap, subst, ◌∙◌}
-use Rattle.std.proofs.lemmas.Option.{same_Some}
-use Rattle.csp_tables.specs.Prelude.{Label, Path, Component, ComponentStep, RawTable, RawStep, standing_at, IsTableOf}
+use Rattle.net_sound.proofs.Prelude.{◌≡◌, ℕ, List, [], ◌∷◌, Some, slice_get, refl, sym, ap, subst, ◌∙◌, same_Some, Label, Path, Component, ComponentStep, RawTable, RawStep, standing_at, IsTableOf}
 use Rattle.net_sound.proofs.FlatLists.{step_alphabet}
 
 -- a component with the alphabet of c is c standing at its term

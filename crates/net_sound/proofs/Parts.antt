@@ -1,13 +1,10 @@
 -- The parts of a network and its components, place by place.
-use Rattle.std.proofs.Common.{◌≡◌, ℕ, zero, suc, ◌<◌, List, [], ◌∷◌, Some, slice_get, length, refl, sym, subst, ◌∙◌, arith}
-use Rattle.std.proofs.lemmas.Option.{same_Some, slice_get_within}
-use Rattle.csp_tables.specs.Prelude.{Label, Component, Part, part_at, IsPartOf, ArePartsOf}
+use Rattle.net_sound.proofs.Prelude.{◌≡◌, ℕ, zero, suc, ◌<◌, List, [], ◌∷◌, Some, slice_get, length, refl, sym, subst, ◌∙◌, arith, same_Some, slice_get_within, Label, Component, Part, part_at, IsPartOf, ArePartsOf}
 
 pub one_part_each : {T : Type 0} (Step : T → Label → T → Type 0) (cs : List (Component T)) (ps : List Part) → ArePartsOf Step cs ps → length cs ≡ length ps
 one_part_each Step [] [] parts = refl
-one_part_each Step [] (p ∷ ps) parts = absurd parts
-one_part_each Step (c ∷ cs) [] parts = absurd parts
 one_part_each Step (c ∷ cs) (p ∷ ps) parts = let rest = one_part_each Step cs ps parts.1 in omega (arith, rest)
+one_part_each Step _ _ parts = absurd parts
 
 -- the component of a part
 pub record ComponentOf {T : Type 0} (Step : T → Label → T → Type 0) (cs : List (Component T)) (ps : List Part) (i : ℕ) : Type 0 where
@@ -17,10 +14,9 @@ pub record ComponentOf {T : Type 0} (Step : T → Label → T → Type 0) (cs : 
 
 pub component_of : {T : Type 0} (Step : T → Label → T → Type 0) (cs : List (Component T)) (ps : List Part) → ArePartsOf Step cs ps → (i : ℕ) → i < length ps → ComponentOf Step cs ps i
 component_of Step [] [] parts i below = absurd (omega arith)
-component_of Step [] (p ∷ ps) parts i below = absurd parts
-component_of Step (c ∷ cs) [] parts i below = absurd parts
 component_of Step (c ∷ cs) (p ∷ ps) parts zero below = record { component = c; listed = refl; part = parts.0 }
 component_of Step (c ∷ cs) (p ∷ ps) parts (suc i) below = let r = component_of Step cs ps parts.1 i (omega arith) in record { component = r.component; listed = r.listed; part = r.part }
+component_of Step _ _ parts i below = absurd parts
 
 -- the part of a component
 pub part_within : {T : Type 0} (Step : T → Label → T → Type 0) (cs : List (Component T)) (ps : List Part) → ArePartsOf Step cs ps → (i : ℕ) (c : Component T) → slice_get cs i ≡ Some c → i < length ps

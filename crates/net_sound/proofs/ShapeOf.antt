@@ -1,10 +1,7 @@
 -- The shape of a network that is never empty-handed has its components' behaviour.
-use Rattle.std.proofs.Common.{ℕ, suc, List, [], ◌∷◌, get_or, nat_eq, refl, sym, subst, ◌∙◌, eq-eqb}
-use Rattle.csp_base.proofs.Standard.{false≢true, or_left, slice_get_within, get_or_from_slice_get}
-use Rattle.csp_base.specs.Members.{has}
-use Rattle.csp_tables.specs.Prelude.{Label, Component, ComponentStep, leaves, IsAcceptance, IsBusy, acceptances_after, Part, part_at, IsNonEmpty, HasBehaviour, HaveBehaviours, IsPartOf, ArePartsOf, AreBusy, ShapesAreBusy}
-use Rattle.net_sound.specs.Normal.{NormalTablesBehave, ShapesBehave}
+use Rattle.net_sound.proofs.Prelude.{ℕ, suc, List, [], ◌∷◌, get_or, nat_eq, refl, sym, subst, ◌∙◌, eq-eqb, false≢true, or_left, slice_get_within, get_or_from_slice_get, has, Label, Component, ComponentStep, leaves, IsAcceptance, IsBusy, acceptances_after, Part, part_at, IsNonEmpty, HasBehaviour, HaveBehaviours, IsPartOf, ArePartsOf, AreBusy, ShapesAreBusy, NormalTablesBehave, ShapesBehave}
 use Rattle.net_sound.proofs.Parts.{component_of, part_of, part_within}
+use Rattle.dl_limits.specs.declared.TheConstants.{MOST_TERMS}
 
 pub not_empty : {S : Type 0} (Step : S → Label → S → Type 0) (start : S) (s M : List ℕ) → IsBusy Step start → IsAcceptance Step start s M → IsNonEmpty M
 not_empty Step start s [] busy a = absurd (busy s a)
@@ -21,13 +18,12 @@ normal_tables_behave Step c most table busy normal = record {
 }
 
 part_behaves : {T : Type 0} (Step : T → Label → T → Type 0) (c : Component T) (p : Part) → IsBusy (ComponentStep Step) c → IsPartOf Step c p → HasBehaviour Step c p
-part_behaves Step c p busy is = subst (λ (al : List ℕ). HasBehaviour Step c (record { alphabet = al; table = p.table })) is.alphabet (normal_tables_behave Step c 16384 p.table busy is.table)
+part_behaves Step c p busy is = subst (λ (al : List ℕ). HasBehaviour Step c (record { alphabet = al; table = p.table })) is.alphabet (normal_tables_behave Step c MOST_TERMS p.table busy is.table)
 
 parts_behave : {T : Type 0} (Step : T → Label → T → Type 0) (cs : List (Component T)) (ps : List Part) → ArePartsOf Step cs ps → AreBusy Step cs → HaveBehaviours Step cs ps
 parts_behave Step [] [] parts busy = tt
-parts_behave Step [] (p ∷ ps) parts busy = absurd parts
-parts_behave Step (c ∷ cs) [] parts busy = absurd parts
 parts_behave Step (c ∷ cs) (p ∷ ps) parts busy = (part_behaves Step c p (busy 0 c refl) parts.0, parts_behave Step cs ps parts.1 (λ i d at. busy (suc i) d at))
+parts_behave Step _ _ parts busy = absurd parts
 
 pub shapes_behave : {T : Type 0} (Step : T → Label → T → Type 0) → ShapesBehave Step
 shapes_behave Step tree shape is busy = parts_behave Step (leaves tree) shape.parts is.parts busy

@@ -1,8 +1,5 @@
 -- How many alphabets have an event: at least as many as there are places told apart that have it.
-use Rattle.std.proofs.Common.{◌≡◌, ℕ, zero, suc, ◌+◌, ◌<◌, ◌≤◌, List, [], ◌∷◌, length, Bool, true, false, cond, IsTrue, refl, ap, arith}
-use Rattle.std.proofs.lemmas.Bool.{cond-true}
-use Rattle.csp_base.specs.Members.{has}
-use Rattle.csp_tables.specs.Part.{Part, part_at, alphabets_of, sharers}
+use Rattle.net_sound.proofs.Prelude.{◌≡◌, ℕ, zero, suc, ◌+◌, ◌<◌, ◌≤◌, List, [], ◌∷◌, length, Bool, true, false, cond, IsTrue, refl, ap, arith, cond-true, has, Part, part_at, alphabets_of, sharers}
 
 own : (a : List ℕ) (others : List (List ℕ)) (e : ℕ) → IsTrue (has a e) → sharers (a ∷ others) e ≡ sharers others e + 1
 own a others e h = cond-true (has a e) (sharers others e + 1) (sharers others e) h

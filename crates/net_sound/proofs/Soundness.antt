@@ -4,11 +4,7 @@
 -- table. The silent steps in a row from there are shared out among the components. If there is none, each component is
 -- stable, so it offers every event of an acceptance of the node where its table is, and that acceptance is not empty. Since
 -- ranks fall along ungranted requests, an event is agreed by all that have it. Each of them offers it, so the network has it.
-use Rattle.std.proofs.Common.{◌≡◌, ℕ, zero, suc, ◌<◌, inl, inr, List, [], ◌∷◌, Some, slice_get, get_or, length, IsTrue, MatchBool, replicate, refl, sym, ap, ap₂, subst, ◌∙◌, arith}
-use Rattle.csp_base.proofs.Standard.{cases_Bool, or_left, or_right, get_or_from_slice_get, slice_get_within, none-some, same_Some}
-use Rattle.csp_base.specs.Members.{has}
-use Rattle.csp_tables.specs.Prelude.{Label, silent, visible, Path, Stable, Component, ComponentStep, Tree, NetworkStep, leaves, in_some_component, OneMoves, AllTakePart, FlatStep, visible_events, After, Offers, Part, part_at, alphabets_of, project, IsNonEmpty, TripleDisjoint, Follows, Stands, AllStand, IsAgreed, acceptance, acceptances_of, OffersAcceptance, HasBehaviour, HaveBehaviours, Ranking, IsGoodRanking}
-use Rattle.csp_tables.proofs.SilentPaths.{silent_path, path_silent}
+use Rattle.net_sound.proofs.Prelude.{◌≡◌, ℕ, zero, suc, ◌<◌, inl, inr, List, [], ◌∷◌, Some, slice_get, get_or, length, IsTrue, MatchBool, replicate, refl, sym, ap, ap₂, subst, ◌∙◌, arith, cases_Bool, or_left, or_right, get_or_from_slice_get, slice_get_within, none-some, same_Some, has, Label, silent, visible, Path, Stable, Component, ComponentStep, Tree, NetworkStep, leaves, in_some_component, OneMoves, AllTakePart, FlatStep, visible_events, After, Offers, Part, part_at, alphabets_of, project, IsNonEmpty, TripleDisjoint, Follows, Stands, AllStand, IsAgreed, acceptance, acceptances_of, OffersAcceptance, HasBehaviour, HaveBehaviours, Ranking, IsGoodRanking, silent_path, path_silent}
 use Rattle.net_sound.specs.Projection.{ComesAlong, RunsAreTraces, RunsAreJoint, SilenceIsBounded}
 use Rattle.net_sound.specs.Heart.{GoodRankingsMeanLive}
 use Rattle.net_sound.proofs.FlatLists.{alphabets, match_true, match_false, step_alphabet}
@@ -30,11 +26,10 @@ runs_are_traces Step t u ls i c w run here = along Step ls (leaves t) (leaves u)
 
 follows : {T : Type 0} (Step : T → Label → T → Type 0) (s : List ℕ) (cs ds : List (Component T)) (ps : List Part) (i : ℕ) → AllAfter Step s cs ds → HaveBehaviours Step cs ps → i < length ps → Follows (part_at ps i) s
 follows Step s [] ds [] i a b h = absurd (omega arith)
-follows Step s [] ds (p ∷ ps) i a b h = absurd b
 follows Step s (c ∷ cs) [] ps i a b h = absurd a
-follows Step s (c ∷ cs) (d ∷ ds) [] i a b h = absurd b
 follows Step s (c ∷ cs) (d ∷ ds) (p ∷ ps) zero a b h = b.0.traces (project p.alphabet s) (d, subst (λ al. After (ComponentStep Step) c (project al s) d) b.0.alphabet a.0)
 follows Step s (c ∷ cs) (d ∷ ds) (p ∷ ps) (suc i) a b h = follows Step s cs ds ps i a.1 b.1 (omega arith)
+follows Step s _ _ _ i a b h = absurd b
 
 pub runs_are_joint : {T : Type 0} (Step : T → Label → T → Type 0) → RunsAreJoint Step
 runs_are_joint Step t u ls parts i j w run b h k =
@@ -82,33 +77,28 @@ offers_at Step s c d p b a o =
 
 abbrev AllOffer : {T : Type 0} → (T → Label → T → Type 0) → List ℕ → List (Component T) → List Part → List ℕ → Type 0
 AllOffer Step s [] [] ks = Unit {0}
-AllOffer Step s [] (p ∷ ps) ks = ⊥
-AllOffer Step s (d ∷ ds) [] ks = ⊥
-AllOffer Step s (d ∷ ds) (p ∷ ps) [] = ⊥
 AllOffer Step s (d ∷ ds) (p ∷ ps) (k ∷ ks) = OffersAt Step s d p k × AllOffer Step s ds ps ks
+AllOffer Step s _ _ _ = ⊥
 
 choose : {T : Type 0} (Step : T → Label → T → Type 0) (s : List ℕ) (cs ds : List (Component T)) (ps : List Part) → AllAfter Step s cs ds → AllStable Step ds → HaveBehaviours Step cs ps → (ks : List ℕ) × AllOffer Step s ds ps ks
 choose Step s [] [] [] a st b = ([], tt)
-choose Step s [] [] (p ∷ ps) a st b = absurd b
 choose Step s [] (d ∷ ds) ps a st b = absurd a
 choose Step s (c ∷ cs) [] ps a st b = absurd a
-choose Step s (c ∷ cs) (d ∷ ds) [] a st b = absurd b
 choose Step s (c ∷ cs) (d ∷ ds) (p ∷ ps) a st b =
     let here = subst (λ al. After (ComponentStep Step) c (project al s) d) b.0.alphabet a.0 in
     let o = b.0.accepts (project p.alphabet s) d here st.0 in
     let rest = choose Step s cs ds ps a.1 st.1 b.1 in
     (o.place ∷ rest.0, (offers_at Step s c d p b.0 here o, rest.1))
+choose Step s _ _ _ a st b = absurd b
 
 abbrev place : List ℕ → ℕ → ℕ
 place ks i = get_or ks i 0
 
 stand : {T : Type 0} (Step : T → Label → T → Type 0) (s : List ℕ) (ds : List (Component T)) (ps : List Part) (ks : List ℕ) → AllOffer Step s ds ps ks → AllStand ps s (place ks)
 stand Step s [] [] ks o i h = absurd (omega arith)
-stand Step s [] (p ∷ ps) ks o i h = absurd o
-stand Step s (d ∷ ds) [] ks o i h = absurd o
-stand Step s (d ∷ ds) (p ∷ ps) [] o i h = absurd o
 stand Step s (d ∷ ds) (p ∷ ps) (k ∷ ks) o zero h = o.0.stands
 stand Step s (d ∷ ds) (p ∷ ps) (k ∷ ks) o (suc i) h = stand Step s ds ps ks o.1 i (omega arith)
+stand Step s _ _ _ o i h = absurd o
 
 -- ---- the step that an agreed event is
 
@@ -123,20 +113,17 @@ part Step s e d p k o agreed =
 
 take_part : {T : Type 0} (Step : T → Label → T → Type 0) (s : List ℕ) (e : ℕ) (ds : List (Component T)) (ps : List Part) (ks : List ℕ) → AllOffer Step s ds ps ks → ((j : ℕ) → j < length ps → IsTrue (has (part_at ps j).alphabet e) → IsTrue (has (acceptance (part_at ps j) s (place ks j)) e)) → (xs : List (Component T)) × AllTakePart Step e ds xs
 take_part Step s e [] ps ks o agreed = ([], tt)
-take_part Step s e (d ∷ ds) [] ks o agreed = absurd o
-take_part Step s e (d ∷ ds) (p ∷ ps) [] o agreed = absurd o
 take_part Step s e (d ∷ ds) (p ∷ ps) (k ∷ ks) o agreed =
     let first = part Step s e d p k o.0 (agreed 0 (omega arith)) in
     let rest = take_part Step s e ds ps ks o.1 (λ j h. agreed (suc j) (omega arith)) in
     (first.0 ∷ rest.0, (first.1, rest.1))
+take_part Step s e _ _ _ o agreed = absurd o
 
 owned : {T : Type 0} (Step : T → Label → T → Type 0) (s : List ℕ) (e : ℕ) (ds : List (Component T)) (ps : List Part) (ks : List ℕ) (i : ℕ) → AllOffer Step s ds ps ks → i < length ps → IsTrue (has (part_at ps i).alphabet e) → IsTrue (in_some_component ds e)
 owned Step s e [] [] ks i o h x = absurd (omega arith)
-owned Step s e [] (p ∷ ps) ks i o h x = absurd o
-owned Step s e (d ∷ ds) [] ks i o h x = absurd o
-owned Step s e (d ∷ ds) (p ∷ ps) [] i o h x = absurd o
 owned Step s e (d ∷ ds) (p ∷ ps) (k ∷ ks) zero o h x = or_left _ _ (subst (λ al. IsTrue (has al e)) (sym o.0.alphabet) x)
 owned Step s e (d ∷ ds) (p ∷ ps) (k ∷ ks) (suc i) o h x = or_right _ _ (owned Step s e ds ps ks i o.1 (omega arith) x)
+owned Step s e _ _ _ i o h x = absurd o
 
 agreed_step : {T : Type 0} (Step : T → Label → T → Type 0) (s : List ℕ) (e : ℕ) (ds : List (Component T)) (ps : List Part) (ks : List ℕ) → AllOffer Step s ds ps ks → IsAgreed ps s (place ks) e → (xs : List (Component T)) × FlatStep Step ds (visible e) xs
 agreed_step Step s e ds ps ks o g =
@@ -145,9 +132,8 @@ agreed_step Step s e ds ps ks o g =
 
 pub same_alphabets : {T : Type 0} (Step : T → Label → T → Type 0) (cs : List (Component T)) (ps : List Part) → HaveBehaviours Step cs ps → alphabets cs ≡ alphabets_of ps
 same_alphabets Step [] [] b = refl
-same_alphabets Step [] (p ∷ ps) b = absurd b
-same_alphabets Step (c ∷ cs) [] b = absurd b
 same_alphabets Step (c ∷ cs) (p ∷ ps) b = ap₂ (λ x xs. x ∷ xs) b.0.alphabet (same_alphabets Step cs ps b.1)
+same_alphabets Step _ _ b = absurd b
 
 some_parts : {T : Type 0} (Step : T → Label → T → Type 0) (cs : List (Component T)) (ps : List Part) → HaveBehaviours Step cs ps → 0 < length cs → 0 < length ps
 some_parts Step [] ps b h = absurd (omega arith)

@@ -1,7 +1,5 @@
 -- In parts that have the form of tables, each acceptance is within the part's alphabet.
-use Rattle.std.proofs.Common.{ℕ, zero, suc, ◌<◌, List, [], ◌∷◌, length, get_or, arith}
-use Rattle.std.proofs.lemmas.Bool.{false≢true}
-use Rattle.csp_tables.specs.Prelude.{IsWithin, Node, node_at, end_of, HasForm, HaveForm, AreWithin, NodesHaveForm, Part, part_at, project, acceptance}
+use Rattle.net_sound.proofs.Prelude.{ℕ, zero, suc, ◌<◌, List, [], ◌∷◌, length, get_or, arith, false≢true, IsWithin, Node, node_at, end_of, HasForm, HaveForm, AreWithin, NodesHaveForm, Part, part_at, project, acceptance}
 
 one_within : (a : List ℕ) (Ms : List (List ℕ)) (k : ℕ) → AreWithin a Ms → IsWithin (get_or Ms k []) a
 one_within a [] k form e h = absurd (false≢true h)

@@ -14,11 +14,9 @@ pub data Turn : Type 0 where
 
 abbrev pub TurnStep : Turn → Label → Turn → Type 0
 TurnStep waking silent y = y ≡ at_zero
-TurnStep waking (visible e) y = ⊥
-TurnStep at_zero silent y = ⊥
 TurnStep at_zero (visible e) y = (e ≡ 0) × (y ≡ at_one)
-TurnStep at_one silent y = ⊥
 TurnStep at_one (visible e) y = (e ≡ 1) × (y ≡ at_zero)
+TurnStep _ _ y = ⊥
 
 -- two of them, with both events in the alphabets
 abbrev pub both : List ℕ

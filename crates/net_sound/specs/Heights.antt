@@ -22,9 +22,8 @@ pub record HasHeights {T : Type 0} (Step : T → Label → T → Type 0) (c : Co
 -- one list of heights for each component
 abbrev pub HaveHeights : {T : Type 0} → (T → Label → T → Type 0) → List (Component T) → List (List ℕ) → Type 0
 HaveHeights Step [] [] = Unit {0}
-HaveHeights Step [] (h ∷ hs) = ⊥
-HaveHeights Step (c ∷ cs) [] = ⊥
 HaveHeights Step (c ∷ cs) (h ∷ hs) = HasHeights Step c h × HaveHeights Step cs hs
+HaveHeights Step _ _ = ⊥
 
 abbrev pub sum_of_greatest : List (List ℕ) → ℕ
 sum_of_greatest [] = 0

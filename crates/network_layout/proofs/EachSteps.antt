@@ -1,18 +1,5 @@
 -- Operands for the values of a name, one after another.
-use Rattle.std.proofs.Common.{◌≡◌, ℕ, ◌+◌, ◌<◌, ◌≤◌, Ok, Err, List, [], ◌∷◌, ◌++◌, length, drop, get_or, refl, ap, sym, ◌∙◌, append_assoc, append-nil, drop_of_length-le}
-use Rattle.csp_base.proofs.Lists.{drop_read}
-use Rattle.csp_base.specs.Events.{union_of}
-use Rattle.csp_atoms.specs.declared.atom.Atom.{Atom}
-use Rattle.csp_program.specs.Outcome.{Outcome}
-use Rattle.csp_program.specs.declared.processes.Proc.{Proc}
-use Rattle.csp_tables.specs.Network.{Component, Tree, Operands, leaves, leaves_of_operands}
-use Rattle.csp_tables.specs.Network.Tree.{parallel}
-use Rattle.csp_tables.specs.Network.Operands.{none, operand}
-use Rattle.network_trees.specs.Joint.{joint}
-use Rattle.network_trees.specs.NetworkOf.{Walked, each_operand, events_under, goes_on, operand_first, side_by_side, tree_within, with_value}
-use Rattle.network_trees.specs.declared.fault.LayoutFault.{LayoutFault}
-use Rattle.network_layout.specs.Lays.{IsLaid, Place, one_operand, operand_walked, operands_each, with_name}
-use Rattle.network_layout.specs.declared.walk.Operand.{Operand}
+use Rattle.network_layout.proofs.Prelude.{◌≡◌, ℕ, ◌+◌, ◌<◌, ◌≤◌, Ok, Err, List, [], ◌∷◌, ◌++◌, length, drop, get_or, refl, ap, sym, ◌∙◌, append_assoc, append-nil, drop_of_length-le, drop_read, union_of, Atom, Outcome, Proc, Component, Tree, Operands, leaves, leaves_of_operands, parallel, none, operand, joint, Walked, each_operand, events_under, goes_on, operand_first, side_by_side, tree_within, with_value, LayoutFault, IsLaid, Place, one_operand, operand_walked, operands_each, with_name, Operand}
 use Rattle.network_layout.proofs.Laid.{first_made, grown_by}
 use Rattle.network_layout.proofs.Together.{joint-append}
 

@@ -1,14 +1,8 @@
 -- What the walk of a network is, from its layer.
-use Rattle.std.proofs.Common.{◌≡◌, ◌<◌, ◌-◌, arith, ℕ, zero, suc, List, ap, sym, ◌∙◌}
-use Rattle.csp_program.specs.Prelude.{Env}
-use Rattle.csp_program.specs.declared.expressions.Expr.{Expr}
-use Rattle.csp_program.specs.declared.networks.Net.{Net}
+use Rattle.network_layout.proofs.Prelude.{◌≡◌, ◌<◌, ◌-◌, arith, ℕ, zero, suc, List, ap, sym, ◌∙◌, Env, Expr, Net, Content, tree_within, walked_node, Place, node, walked}
 use Rattle.csp_program.specs.declared.networks.Net.TheOpen.{Net-F}
 use Rattle.csp_program.specs.declared.networks.Net.TheViews.{out-Net, out-roll-Net}
-use Rattle.csp_program.specs.declared.programs.Content.{Content}
-use Rattle.network_trees.specs.NetworkOf.{tree_within, walked_node}
 use Rattle.csp_program.specs.declared.networks.Net.TheVariants as net
-use Rattle.network_layout.specs.Lays.{Place, node, walked}
 
 pub layer-Pair : (n : Net) (a b : Expr) (m : Net) → out-Net (net.Pair n a b m) ≡ Net-F.Pair n a b m
 layer-Pair n a b m = ap out-Net (sym (net.rolls-Pair n a b m)) ∙ out-roll-Net (Net-F.Pair n a b m)

@@ -1,8 +1,5 @@
 -- The numbers from 0 on as a set.
-use Rattle.std.proofs.Common.{◌≡◌, ℕ, zero, suc, ◌+◌, ap, ◌∙◌, arith}
-use Rattle.std.specs.List.{range_with_len}
-use Rattle.std.proofs.lemmas.Bool.Decides.{nat_tests}
-use Rattle.csp_base.specs.Events.{with_member}
+use Rattle.network_layout.proofs.Prelude.{◌≡◌, ℕ, zero, suc, ◌+◌, ap, ◌∙◌, arith, range_with_len, nat_tests, with_member}
 
 one_more : (a n x : ℕ) → x ≡ a + n → with_member x (range_with_len a n) ≡ range_with_len a (suc n)
 one_more a zero x is = let e : x ≡ a = omega arith in cc

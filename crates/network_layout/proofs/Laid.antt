@@ -1,31 +1,17 @@
 -- What the walk has laid out, from what it has laid out below.
-use Rattle.std.proofs.Common.{◌≡◌, ℕ, ◌+◌, ◌<◌, if◌then◌else◌, Ok, Err, List, [], ◌∷◌, ◌++◌, length, ap, sym, ◌∙◌, subst, append_assoc, append-nil}
-use Rattle.std.proofs.lemmas.Bool.{lt-ltb}
-use Rattle.std.proofs.lemmas.List.{length-append}
-use Rattle.csp_base.specs.Events.{union_of}
-use Rattle.csp_program.specs.declared.networks.Net.{Net}
-use Rattle.csp_program.specs.declared.processes.Proc.{Proc}
-use Rattle.csp_tables.specs.Network.{Component, Tree, Operands, leaves}
-use Rattle.csp_tables.specs.Network.Tree.{leaf, parallel}
-use Rattle.csp_tables.specs.Network.Operands.{none, operand}
-use Rattle.network_trees.specs.Joint.{joint}
-use Rattle.network_trees.specs.NetworkOf.{Walked, events_under, goes_on, operand_first, side_by_side, tree_within}
-use Rattle.network_trees.specs.declared.fault.LayoutFault.{LayoutFault}
+use Rattle.network_layout.proofs.Prelude.{◌≡◌, ℕ, ◌+◌, ◌<◌, if◌then◌else◌, Ok, Err, List, [], ◌∷◌, ◌++◌, length, ap, sym, ◌∙◌, subst, append_assoc, append-nil, lt-ltb, length-append, union_of, Net, Proc, Component, Tree, Operands, leaves, leaf, parallel, none, operand, joint, Walked, events_under, goes_on, operand_first, side_by_side, tree_within, LayoutFault, Stop, Result, Fails, IsLaid, Lays, Place, component, operand_walked, node, pair_walked, seated, Operand}
 use Rattle.network_trees.specs.declared.fault.LayoutFault.TheVariants as fault
-use Rattle.csp_base.specs.declared.stop.Stop.{Stop}
 use Rattle.csp_base.specs.declared.stop.Stop.TheVariants as stop
-use Rattle.std.specs.Prelude.{Result}
 use Rattle.std.specs.Result.{IsErrAnd}
-use Rattle.network_layout.specs.Lays.{Fails, IsLaid, Lays, Place, component, operand_walked, node, pair_walked, seated}
-use Rattle.network_layout.specs.declared.walk.Operand.{Operand}
 use Rattle.network_layout.proofs.Together.{joint-append}
+use Rattle.dl_limits.specs.declared.TheConstants.{MOST_COMPONENTS}
 
-pub component_laid : (s : Place) (old new : List (Component Proc)) (alphabet : List ℕ) (q : Proc) (events : List ℕ) → length old < 512
+pub component_laid : (s : Place) (old new : List (Component Proc)) (alphabet : List ℕ) (q : Proc) (events : List ℕ) → length old < MOST_COMPONENTS
     → new ≡ old ++ component s alphabet q ∷ [] → events ≡ union_of alphabet [] → IsLaid (seated s alphabet q (length old)) old new events
 component_laid s old new alphabet q events lt grown together =
     record {
       tree = leaf (component s alphabet q);
-      made = ap (λ b. if b then Ok (leaf (component s alphabet q)) else Err fault.ComponentLimit) (lt-ltb (length old) 512 lt);
+      made = ap (λ b. if b then Ok (leaf (component s alphabet q)) else Err fault.ComponentLimit) (lt-ltb (length old) MOST_COMPONENTS lt);
       seats = grown;
       together = together;
     }

@@ -3,6 +3,7 @@ pub mod Equations
 pub mod FirstEvents
 pub mod Laid
 pub mod Names
+pub mod Prelude
 pub mod Together
 pub mod ToldSteps
 pub mod Triples

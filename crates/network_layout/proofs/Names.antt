@@ -1,11 +1,5 @@
 -- The names of a scope, and what the evaluator says of expressions under them.
-use Rattle.std.proofs.Common.{◌≡◌, ℕ, Ok, List, [], ◌∷◌, ◌++◌, refl, ap, append-nil}
-use Rattle.csp_atoms.specs.declared.atom.Atom.{Atom}
-use Rattle.csp_program.specs.Prelude.{with_bound, and_then, Env, value_within}
-use Rattle.csp_program.specs.declared.expressions.Expr.{Expr}
-use Rattle.csp_program.specs.declared.programs.Content.{Content}
-use Rattle.csp_values.specs.Worth.{worths}
-use Rattle.process_steps.specs.Needed.{all_outcomes}
+use Rattle.network_layout.proofs.Prelude.{◌≡◌, ℕ, Ok, List, [], ◌∷◌, ◌++◌, refl, ap, append-nil, Atom, with_bound, and_then, Env, value_within, Expr, Content, worths, all_outcomes}
 
 pub none_placed : (bound : List (ℕ × Atom)) (env : Env) → with_bound bound (env ++ []) ≡ with_bound bound env
 none_placed bound env = ap (with_bound bound) (append-nil env)

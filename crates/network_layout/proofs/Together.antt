@@ -1,11 +1,7 @@
 -- The alphabets of some components and of others, together.
-use Rattle.std.proofs.Common.{◌≡◌, ℕ, ◌||◌, List, [], ◌∷◌, ◌++◌, refl, sym, ◌∙◌, arith}
-use Rattle.std.proofs.lemmas.Bool.Decides.{nat_tests}
-use Rattle.std.specs.List.Sorted.{IsStrictlyIncreasing}
-use Rattle.csp_base.specs.Events.{has, union_of}
+use Rattle.network_layout.proofs.Prelude.{◌≡◌, ℕ, ◌||◌, List, [], ◌∷◌, ◌++◌, refl, sym, ◌∙◌, arith, nat_tests, IsStrictlyIncreasing, union_of, Component, joint}
+use Rattle.csp_base.specs.Events.{has}
 use Rattle.csp_base.proofs.SetLaws.{has-union_of, increasing-set_of, increasing-union_of, same_set}
-use Rattle.csp_tables.specs.Network.{Component}
-use Rattle.network_trees.specs.Joint.{joint}
 
 increasing-joint : {T : Type 0} (cs : List (Component T)) → IsStrictlyIncreasing (joint cs)
 increasing-joint [] = increasing-set_of []

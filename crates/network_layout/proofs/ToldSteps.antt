@@ -1,17 +1,9 @@
 -- What is told of components, one after another.
-use Rattle.std.proofs.Common.{◌≡◌, ℕ, ◌+◌, ◌<◌, ◌≤◌, Ok, Err, List, [], ◌∷◌, ◌++◌, length, take, get_or, refl, ap, sym, ◌∙◌, subst}
-use Rattle.std.proofs.lemmas.List.{take_all}
+use Rattle.network_layout.proofs.Prelude.{◌≡◌, ℕ, ◌+◌, ◌<◌, ◌≤◌, Ok, Err, List, [], ◌∷◌, ◌++◌, length, take, get_or, refl, ap, sym, ◌∙◌, subst, take_all, Stop, take_read, Outcome, and_then, Proc, Component, all_outcomes, Gives}
 use Rattle.std.proofs.lemmas.Option.{slice_get_read}
 use Rattle.csp_base.specs.Stops.{Tells}
-use Rattle.csp_base.specs.declared.stop.Stop.{Stop}
-use Rattle.csp_base.proofs.Lists.{take_read}
-use Rattle.csp_program.specs.Outcome.{Outcome, and_then}
-use Rattle.csp_program.specs.declared.processes.Proc.{Proc}
-use Rattle.csp_tables.specs.Network.{Component}
-use Rattle.process_steps.specs.Needed.{all_outcomes}
 use Rattle.network_layout.specs.Told.{IsUntold, noted_fault}
 use Rattle.network_layout.specs.declared.told.NotedFault.{NotedFault}
-use Rattle.value_operators.specs.Gives.{Gives}
 use Rattle.value_operators.specs.declared.fault.EvalFault.{EvalFault}
 use Rattle.value_operators.specs.declared.fault.EvalFault.TheVariants as evaluation
 

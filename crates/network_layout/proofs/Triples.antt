@@ -1,18 +1,7 @@
 -- Events in one, two and three alphabets, and the components that have the first event in three.
-use Rattle.std.proofs.Common.{◌≡◌, ℕ, ◌+◌, ◌<◌, ◌≤◌, Bool, true, false, ◌||◌, ◌&&◌, if◌then◌else◌, Some, None, List, [], ◌∷◌, ◌++◌, length, take, drop, get_or, refl, ap, sym, ◌∙◌, subst, arith, append_assoc}
-use Rattle.std.specs.Prelude.{nat_le}
-use Rattle.std.specs.List.{find}
-use Rattle.std.specs.List.Sorted.{IsStrictlyIncreasing}
-use Rattle.std.proofs.lemmas.Bool.Decides.{nat_tests}
+use Rattle.network_layout.proofs.Prelude.{◌≡◌, ℕ, ◌+◌, ◌<◌, ◌≤◌, Bool, true, false, ◌||◌, ◌&&◌, if◌then◌else◌, Some, None, List, [], ◌∷◌, ◌++◌, length, take, drop, get_or, refl, ap, sym, ◌∙◌, subst, arith, append_assoc, nat_le, find, IsStrictlyIncreasing, nat_tests, le-leb, leb-false, leb-true, drop_read, map_push, take_read, has, Proc, Component, TripleDisjoint, sharers, AreCrowded, AreIn, IsCounted, SharesEvent, alphabets, holders}
 use Rattle.std.proofs.lemmas.Grind.{common_steps}
-use Rattle.std.proofs.lemmas.Bool.{le-leb, leb-false, leb-true}
-use Rattle.csp_base.proofs.Lists.{drop_read, map_push, take_read}
 use Rattle.csp_base.proofs.Rising.{RisesFrom, has_below, rises_from_increasing}
-use Rattle.csp_base.specs.Members.{has}
-use Rattle.csp_program.specs.declared.processes.Proc.{Proc}
-use Rattle.csp_tables.specs.Network.{Component}
-use Rattle.csp_tables.specs.Part.{TripleDisjoint, sharers}
-use Rattle.network_layout.specs.Triple.{AreCrowded, AreIn, IsCounted, SharesEvent, alphabets, holders}
 use Rattle.network_layout.specs.declared.triple.Counted.{Counted}
 
 -- ---- one alphabet more

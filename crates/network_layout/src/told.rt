@@ -157,7 +157,7 @@ impl Noted for UseSets {
 }
 
 // The fault of a component.
-fn untold(fault: EvalFault, part: u32) -> Stop<NotedFault>
+fn noted_fault(fault: EvalFault, part: u32) -> Stop<NotedFault>
     ensures { result ≡ noted_fault part fault }
 {
     match fault {
@@ -180,7 +180,7 @@ fn all_noted<T: Noted>(
     for (part, seat) in seats.iter().enumerate() {
         match T::of_seat(alloc, program, seat) {
             Ok(sets) => made.push(sets)?,
-            Err(fault) => return Err(untold(fault, part as u32)),
+            Err(fault) => return Err(noted_fault(fault, part as u32)),
         }
     }
     Ok(made)

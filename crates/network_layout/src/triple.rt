@@ -56,7 +56,7 @@ fn count(alloc: Global, counted: &Counted, alphabet: &EventSet) -> Result<Counte
 }
 
 // The events of three components or more.
-fn crowded(alloc: Global, seats: &[Seat]) -> Result<EventSet, NoMemory>
+fn events_in_three(alloc: Global, seats: &[Seat]) -> Result<EventSet, NoMemory>
     ensures { IfOk result (AreCrowded (alphabets seats.now)) }
 {
     let mut counted = counted_none(alloc);
@@ -88,7 +88,7 @@ pub fn triple_disjoint(alloc: Global, layout: &Layout) -> Result<(), Stop<Triple
     ensures shared { IfErr result (Tells (SharesEvent (alphabets layout.now))) }
 {
     let seats = layout.seats();
-    let crowded = crowded(alloc, seats)?;
+    let crowded = events_in_three(alloc, seats)?;
     let Some(event) = crowded.first_from(Event(0)) else {
         return Ok(());
     };

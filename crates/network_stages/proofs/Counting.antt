@@ -1,7 +1,5 @@
 -- Links that rise among few parts are few.
-use Rattle.std.proofs.Common.{◌≡◌, ℕ, zero, suc, ◌+◌, ◌*◌, ◌<◌, ◌≤◌, inl, inr, List, length, arith}
-use Rattle.csp_tables.specs.Prelude.{Part, Link, IsBelow}
-use Rattle.network_stages.specs.Rows.{link_in, AreLinksBefore}
+use Rattle.network_stages.proofs.Prelude.{◌≡◌, ℕ, zero, suc, ◌+◌, ◌*◌, ◌<◌, ◌≤◌, inl, inr, List, length, arith, Part, Link, IsBelow, link_in, AreLinksBefore}
 
 abbrev number : Link → ℕ
 number link = link.left * 512 + link.right

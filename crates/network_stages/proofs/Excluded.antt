@@ -1,19 +1,8 @@
 -- Components that have their tables: no fault tells the truth of them.
-use Rattle.std.proofs.Common.{◌≡◌, ℕ, zero, suc, ◌<◌, ◌≤◌, ◌-◌, List, [], ◌∷◌, Some, take, slice_get, inl, inr, refl, sym, ap, subst, ◌∙◌, arith}
-use Rattle.csp_base.proofs.Standard.{cases_lt, none-some, same_Some}
-use Rattle.csp_base.specs.Lists.{greatest}
-use Rattle.csp_program.specs.declared.processes.Proc.{Proc}
-use Rattle.csp_program.specs.declared.programs.Content.{Content}
-use Rattle.csp_tables.specs.Prelude.{silent, Component, ComponentStep, SilentStep, Silently, IsTableOf, RawStep, RawTable, standing_at}
-use Rattle.digraph.specs.Prelude.{IsCircle, Leads, Walk}
-use Rattle.local_tables.specs.Prelude.{AreSteps, AreTerms, IsLocalTable, Room}
-use Rattle.local_tables.specs.declared.local_table.LocalTable.{LocalTable}
+use Rattle.network_stages.proofs.Prelude.{◌≡◌, ℕ, zero, suc, ◌<◌, ◌≤◌, ◌-◌, List, [], ◌∷◌, Some, take, slice_get, inl, inr, refl, sym, ap, subst, ◌∙◌, arith, cases_lt, none-some, same_Some, greatest, Proc, Content, silent, Component, ComponentStep, SilentStep, Silently, IsTableOf, RawStep, RawTable, standing_at, Walk, AreSteps, AreTerms, IsLocalTable, Room, LocalTable, heights_are_exact, AreTablesWithin, IsTableWithin, room_after, room_left, whole_room, FaultsExcludeAllTables, ComponentTable, ProcessStep}
+use Rattle.digraph.specs.Prelude.{IsCircle, Leads}
 use Rattle.local_tables.proofs.Excluding.{excluded}
-use Rattle.net_sound.proofs.Heights.{heights_are_exact}
-use Rattle.network_stages.specs.Prelude.{AreTablesWithin, IsTableWithin, room_after, room_left, whole_room, FaultsExcludeAllTables}
-use Rattle.network_stages.specs.declared.component_tables.ComponentTable.{ComponentTable}
 use Rattle.process_steps.specs.declared.component_fault.ComponentFault.TheVariants as fault
-use Rattle.process_steps.specs.ComponentStep.{ProcessStep}
 
 module _ (p : Content) where
   -- ---- two tables of a component take the same room

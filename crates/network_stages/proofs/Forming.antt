@@ -1,14 +1,9 @@
 -- The links and the vocabulary of parts are those of a shape.
-use Rattle.std.proofs.Common.{◌≡◌, ℕ, suc, ◌<◌, ◌≤◌, inl, inr, List, [], ◌∷◌, length, true, IsTrue, sym, subst, ◌∙◌, arith}
-use Rattle.csp_base.proofs.Standard.{or_cases, false≢true, list_any_at}
-use Rattle.csp_base.specs.Members.{has}
-use Rattle.csp_tables.specs.Prelude.{Part, part_at, alphabets_of, sharers, Link, IsLinked, LinksAreOrdered}
-use Rattle.net_sound.proofs.Sharers.{at_two}
-use Rattle.network_stages.specs.Rows.{row_at, AreRows, has_event, any_has_event, AreLinksBefore, IsVocabulary}
+use Rattle.network_stages.proofs.Prelude.{◌≡◌, ℕ, suc, ◌<◌, ◌≤◌, inl, inr, List, [], ◌∷◌, length, true, IsTrue, sym, subst, ◌∙◌, arith, or_cases, false≢true, list_any_at, has, Part, part_at, alphabets_of, sharers, Link, IsLinked, LinksAreOrdered, at_two, row_at, AreRows, has_event, any_has_event, AreLinksBefore, IsVocabulary, pair_at}
 use Rattle.network_stages.proofs.Sharing.{two_owners}
 use Rattle.network_stages.proofs.Linking.{pair_of, of_pair}
 use Rattle.network_stages.proofs.Counting.{few_links}
-use Rattle.observed_runs.specs.Observed.{pair_at}
+use Rattle.dl_limits.specs.declared.TheConstants.{MOST_COMPONENTS}
 
 -- ---- the vocabulary
 
@@ -53,7 +48,7 @@ module _ (parts : List Part) (rows : List (List (ℕ × ℕ))) (are : AreRows pa
 
 -- ---- the whole
 
-pub ordered : (parts : List Part) (links : List Link) (vocabulary : List ℕ) → length parts ≤ 512 → AreLinksBefore parts (length parts) 0 links
+pub ordered : (parts : List Part) (links : List Link) (vocabulary : List ℕ) → length parts ≤ MOST_COMPONENTS → AreLinksBefore parts (length parts) 0 links
     → LinksAreOrdered (record { parts = parts; links = links; vocabulary = vocabulary })
 ordered parts links vocabulary few a = record {
   parts_numbered = omega arith;
@@ -61,7 +56,7 @@ ordered parts links vocabulary few a = record {
   links_rise = a.rise;
 }
 
-pub is_linked : (parts : List Part) (links : List Link) (vocabulary : List ℕ) → 1 ≤ length parts → length parts ≤ 512
+pub is_linked : (parts : List Part) (links : List Link) (vocabulary : List ℕ) → 1 ≤ length parts → length parts ≤ MOST_COMPONENTS
     → AreLinksBefore parts (length parts) 0 links → IsVocabulary parts vocabulary
     → IsLinked (record { parts = parts; links = links; vocabulary = vocabulary })
 is_linked parts links vocabulary least most a is = record {

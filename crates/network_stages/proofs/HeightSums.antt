@@ -1,16 +1,6 @@
 -- The silent bound from the heights of tables.
-use Rattle.std.proofs.Common.{◌≡◌, ℕ, ◌+◌, ◌<◌, length, take, get_or, add-one, List, [], ◌∷◌, ◌++◌, map, max, sym, ap, subst, ◌∙◌, arith}
+use Rattle.network_stages.proofs.Prelude.{◌≡◌, ℕ, ◌+◌, ◌<◌, length, take, get_or, add-one, List, [], ◌∷◌, ◌++◌, map, max, sym, ap, subst, ◌∙◌, arith, Proc, Content, Component, IsSilentBound, Room, HaveHeights, sum_of_greatest, heights_add_up, ProcessStep, AreTablesOf, AreTablesWithin, room_after, whole_room, ComponentTable, greatest}
 use Rattle.std.proofs.Math.Seq.{take-suc}
-use Rattle.csp_program.specs.declared.processes.Proc.{Proc}
-use Rattle.csp_program.specs.declared.programs.Content.{Content}
-use Rattle.csp_tables.specs.Prelude.{Component, IsSilentBound}
-use Rattle.local_tables.specs.Room.{Room}
-use Rattle.net_sound.specs.Heights.{HaveHeights, sum_of_greatest}
-use Rattle.net_sound.proofs.Heights.{heights_add_up}
-use Rattle.process_steps.specs.ComponentStep.{ProcessStep}
-use Rattle.network_stages.specs.Prelude.{AreTablesOf, AreTablesWithin, room_after, whole_room}
-use Rattle.network_stages.specs.declared.component_tables.ComponentTable.{ComponentTable}
-use Rattle.csp_base.specs.Lists.{greatest}
 
 abbrev pub all_heights : List ComponentTable → List (List ℕ)
 all_heights ts = map (λ (t : ComponentTable). t.heights) ts

@@ -1,11 +1,5 @@
 -- Owners of events, and rows of shared events, while the parts are gone over.
-use Rattle.std.proofs.Common.{◌≡◌, ℕ, zero, suc, ◌+◌, ◌-◌, ◌<◌, ◌≤◌, inl, inr, List, [], ◌∷◌, ◌++◌, length, replicate, cond, true, false, Option, Some, None, IsTrue, nat_eq, refl, sym, ap, subst, ◌∙◌, arith, eq-eqb}
-use Rattle.csp_base.proofs.Standard.{cases_Bool, cases_eq, cases_lt, cond-true, cond-false, or_cases, or_left, or_right, both_ways, false≢true, eqb-true, length-append, length-replicate, get_or-replicate, get_or_append_left, get_or-append-add, same_Some, get_or-append_right}
-use Rattle.csp_base.specs.Members.{has}
-use Rattle.csp_tables.specs.Part.{Part, part_at, alphabets_of, sharers, TripleDisjoint}
-use Rattle.net_sound.proofs.Sharers.{at_three}
-use Rattle.network_stages.specs.Rows.{owner_of, AreOwners, row_at, is_part, joint, joints, IsSharedBy, IsInRow, IsRow, AreRows}
-use Rattle.observed_runs.specs.Observed.{pair_at}
+use Rattle.network_stages.proofs.Prelude.{◌≡◌, ℕ, zero, suc, ◌+◌, ◌-◌, ◌<◌, ◌≤◌, inl, inr, List, [], ◌∷◌, ◌++◌, length, replicate, cond, true, false, Option, Some, None, IsTrue, nat_eq, refl, sym, ap, subst, ◌∙◌, arith, eq-eqb, cases_Bool, cases_eq, cases_lt, cond-true, cond-false, or_cases, or_left, or_right, both_ways, false≢true, eqb-true, length-append, length-replicate, get_or-replicate, get_or_append_left, get_or-append-add, same_Some, get_or-append_right, has, Part, part_at, alphabets_of, sharers, TripleDisjoint, at_three, owner_of, AreOwners, row_at, is_part, joint, joints, IsSharedBy, IsInRow, IsRow, AreRows, pair_at}
 
 -- ---- owners
 

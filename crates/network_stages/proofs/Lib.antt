@@ -1,16 +1,17 @@
 mod Counting
+pub mod Excluded
 mod Forming
+pub mod HeightSums
 mod Joining
 mod Linking
+pub mod LowHeights
 mod MadeParts
+pub mod Prelude
 mod Reading
 mod SetsOfTables
+pub mod Shaping
 mod Sharing
 mod Spelling
 mod Stopping
-mod TrueStops
-pub mod Excluded
-pub mod HeightSums
-pub mod LowHeights
-pub mod Shaping
 pub mod Tabling
+mod TrueStops

@@ -1,10 +1,5 @@
 -- Links from the rows of shared events: those of one part after those of the parts before it.
-use Rattle.std.proofs.Common.{◌≡◌, ◌≢◌, ℕ, suc, ◌+◌, ◌-◌, ◌<◌, ◌≤◌, inl, inr, List, [], ◌∷◌, ◌++◌, length, get_or, take, drop, true, nat_eq, refl, sym, ap, subst, ◌∙◌, arith, eq-eqb}
-use Rattle.csp_base.proofs.Standard.{cases_eq, cases_lt, or_cases, false≢true, eqb-true, length-append, length-take-le, length-drop, get_or-take, get_or-drop, get_or_append_left, get_or_default, list_any_at, get_or-eq_default, get_or-append_seam}
-use Rattle.csp_base.specs.Members.{has}
-use Rattle.csp_tables.specs.Prelude.{Part, part_at, Meet, Link, JoinsTwo, IsBelow}
-use Rattle.network_stages.specs.Rows.{IsSharedBy, IsInRow, IsRow, has_event, link_in, HasLink, Precedes, AreLinksBefore}
-use Rattle.observed_runs.specs.Observed.{pair_at}
+use Rattle.network_stages.proofs.Prelude.{◌≡◌, ◌≢◌, ℕ, suc, ◌+◌, ◌-◌, ◌<◌, ◌≤◌, inl, inr, List, [], ◌∷◌, ◌++◌, length, get_or, take, drop, true, nat_eq, refl, sym, ap, subst, ◌∙◌, arith, eq-eqb, cases_eq, cases_lt, or_cases, false≢true, eqb-true, length-append, length-take-le, length-drop, get_or-take, get_or-drop, get_or_append_left, get_or_default, list_any_at, get_or-eq_default, get_or-append_seam, has, Part, part_at, Meet, Link, JoinsTwo, IsBelow, IsSharedBy, IsInRow, IsRow, has_event, link_in, HasLink, Precedes, AreLinksBefore, pair_at}
 
 -- ---- the events of pairs
 

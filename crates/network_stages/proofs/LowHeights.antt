@@ -1,16 +1,8 @@
 -- The heights of a table are below the number of its terms: below each height stand all lower ones, each at a term of its own.
-use Rattle.std.proofs.Common.{◌≡◌, ℕ, zero, suc, ◌+◌, ◌-◌, ◌*◌, ◌<◌, ◌≤◌, List, [], ◌∷◌, Some, slice_get, get_or, length, min, take, refl, ap, subst, ◌∙◌, inl, inr, arith}
-use Rattle.csp_base.proofs.Standard.{cases_lt, none-some, same_Some, slice_get-get_or, slice_get_within}
-use Rattle.csp_program.specs.declared.processes.Proc.{Proc}
-use Rattle.csp_program.specs.declared.programs.Content.{Content}
-use Rattle.csp_tables.specs.Prelude.{silent, Component, SilentStep, RawStep}
-use Rattle.digraph.specs.Walk.{AreHeights, Walk}
-use Rattle.local_tables.specs.Room.{Room}
-use Rattle.net_sound.specs.Heights.{sum_of_greatest}
-use Rattle.network_stages.specs.Prelude.{AreTablesOf, AreTablesWithin, IsTableWithin, room_after, whole_room}
-use Rattle.network_stages.specs.declared.component_tables.ComponentTable.{ComponentTable}
+use Rattle.network_stages.proofs.Prelude.{◌≡◌, ℕ, zero, suc, ◌+◌, ◌-◌, ◌*◌, ◌<◌, ◌≤◌, List, [], ◌∷◌, Some, slice_get, get_or, length, min, take, refl, ap, subst, ◌∙◌, inl, inr, arith, cases_lt, none-some, same_Some, slice_get-get_or, slice_get_within, Proc, Content, silent, Component, SilentStep, RawStep, Walk, Room, sum_of_greatest, AreTablesOf, AreTablesWithin, IsTableWithin, room_after, whole_room, ComponentTable, greatest}
+use Rattle.digraph.specs.Walk.{AreHeights}
 use Rattle.network_stages.proofs.HeightSums.{all_heights, one_sum}
-use Rattle.csp_base.specs.Lists.{greatest}
+use Rattle.dl_limits.specs.declared.TheConstants.{MOST_COMPONENTS, MOST_TERMS}
 
 -- how many of the numbers are below m
 abbrev below : ℕ → List ℕ → ℕ
@@ -76,21 +68,21 @@ at_most (x ∷ xs) n each =
     omega (arith, first, rest)
 
 -- the heights of a component's table
-low_heights : (p : Content) (room : Room) (c : Component Proc) (t : ComponentTable) → IsTableWithin p room c t → greatest t.heights ≤ 16384
+low_heights : (p : Content) (room : Room) (c : Component Proc) (t : ComponentTable) → IsTableWithin p room c t → greatest t.heights ≤ MOST_TERMS
 low_heights p room c t is =
     let terms = is.table.terms in
-    let few : length terms ≤ 16384 = is.table.few in
+    let few : length terms ≤ MOST_TERMS = is.table.few in
     let count : length terms ≡ t.local.table.count = is.table.table.count in
     let many : length t.heights ≡ t.local.table.count = is.heights.one_each in
     let inside : (v w : ℕ) → SilentStep (RawStep t.local.table) v w → w < t.local.table.count = λ v w arc.
     let s = is.table.table.sound v w silent arc in
     let there = slice_get_within terms w s.goal s.to in
     omega (arith, count, there) in
-    at_most t.heights 16384 (λ i within.
+    at_most t.heights MOST_TERMS (λ i within.
     let less = low (SilentStep (RawStep t.local.table)) t.local.table.count t.heights is.heights inside i (omega (arith, within, many)) in
     omega (arith, less, few, count))
 
-low_sum : (p : Content) (room : Room) (cs : List (Component Proc)) (ts : List ComponentTable) → AreTablesWithin p room cs ts → sum_of_greatest (all_heights ts) ≤ length ts * 16384
+low_sum : (p : Content) (room : Room) (cs : List (Component Proc)) (ts : List ComponentTable) → AreTablesWithin p room cs ts → sum_of_greatest (all_heights ts) ≤ length ts * MOST_TERMS
 low_sum p room [] [] are = omega arith
 low_sum p room [] (t ∷ ts) are = absurd are
 low_sum p room (c ∷ cs) [] are = absurd are
@@ -100,7 +92,7 @@ low_sum p room (c ∷ cs) (t ∷ ts) are =
     omega (arith, first, rest)
 
 -- the silent bound of at most 512 components is a number of 32 bits
-pub few_silent : (ts : List ComponentTable) → length ts ≤ 512 → (p : Content) × (cs : List (Component Proc)) × AreTablesOf p cs ts → sum_of_greatest (all_heights ts) < 4294967296
+pub few_silent : (ts : List ComponentTable) → length ts ≤ MOST_COMPONENTS → (p : Content) × (cs : List (Component Proc)) × AreTablesOf p cs ts → sum_of_greatest (all_heights ts) < 4294967296
 few_silent ts few (p, cs, are) = let sum = low_sum p whole_room cs ts are in omega (arith, few, sum)
 
 -- a sum of the first few heights is no larger

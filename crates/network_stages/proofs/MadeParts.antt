@@ -1,20 +1,9 @@
 -- Parts of components, one after another: each is the normal table of its component's table.
-use Rattle.std.proofs.Common.{◌≡◌, inl, inr, ℕ, ◌+◌, ◌<◌, ◌≤◌, List, [], ◌∷◌, ◌++◌, length, take, get_or, slice_get, Some, refl, sym, ap, subst, ◌∙◌, add-one, arith}
-use Rattle.csp_base.proofs.Standard.{take-suc, cases_eq, take_all, same_Some, slice_get-get_or}
-use Rattle.csp_program.specs.declared.processes.Proc.{Proc}
-use Rattle.csp_program.specs.declared.programs.Content.{Content}
-use Rattle.csp_tables.specs.Prelude.{HasForm, HaveForm, Component, ComponentStep, IsNormalTable, Part, RawStep, ArePartsOf, IsPartOf, Node}
-use Rattle.net_sound.proofs.FormOfTables.{table_has_form}
-use Rattle.net_sound.proofs.Normal.{normal_tables_carry_over}
-use Rattle.network_stages.specs.Prelude.{AreTablesOf, HasTable, HasManySets, HaveFewSets, HaveFewSetsBefore, HasNoPart, HaveNoParts}
-use Rattle.network_stages.specs.declared.component_tables.ComponentTable.{ComponentTable}
-use Rattle.process_steps.specs.ComponentStep.{ProcessStep}
+use Rattle.network_stages.proofs.Prelude.{◌≡◌, inl, inr, ℕ, ◌+◌, ◌<◌, ◌≤◌, List, [], ◌∷◌, ◌++◌, length, take, get_or, slice_get, Some, refl, sym, ap, subst, ◌∙◌, add-one, arith, take-suc, cases_eq, take_all, same_Some, slice_get-get_or, Proc, Content, HasForm, HaveForm, Component, ComponentStep, IsNormalTable, Part, RawStep, ArePartsOf, IsPartOf, Node, table_has_form, normal_tables_carry_over, AreTablesOf, HasTable, HasManySets, HaveFewSets, HaveFewSetsBefore, HasNoPart, HaveNoParts, ComponentTable, ProcessStep, Tells, Stop, Refusal}
 use Rattle.process_steps.specs.declared.component_fault.ComponentFault.TheVariants as fault
-use Rattle.csp_base.specs.Prelude.{Tells}
-use Rattle.csp_base.specs.declared.stop.Stop.{Stop}
-use Rattle.report.specs.declared.answer.Refusal.{Refusal}
 use Rattle.report.specs.declared.answer.Refusal.TheVariants as refusal
 use Rattle.csp_base.specs.declared.stop.Stop.TheVariants as stop
+use Rattle.dl_limits.specs.declared.TheConstants.{MOST_SETS, MOST_TERMS}
 
 -- a table with at most so many acceptances at a node has at most more
 with_more : {S : Type 0} (Step : S → _ → S → Type 0) (start : S) (few most : ℕ) (table : List Node) → few ≤ most → IsNormalTable Step start few table → IsNormalTable Step start most table
@@ -30,16 +19,16 @@ with_more Step start few most table more normal = record {
 
 -- the normal table of a component's table makes the component's part
 pub is_part : (p : Content) (c : Component Proc) (t : ComponentTable) (alphabet : List ℕ) (table : List Node) (part : Part) → HasTable p c t → alphabet ≡ c.alphabet
-    → IsNormalTable (RawStep t.local.table) 0 t.local.table.count table → length table ≤ 2048 → part ≡ record { alphabet = alphabet; table = table }
+    → IsNormalTable (RawStep t.local.table) 0 t.local.table.count table → length table ≤ MOST_SETS → part ≡ record { alphabet = alphabet; table = table }
     → IsPartOf (ProcessStep p) c part × HasForm part
 is_part p c t alphabet table part (room, has) same normal few is =
     let count = has.table.table.count in
     let terms = has.table.few in
     let carried = normal_tables_carry_over (ProcessStep p) c has.table.terms t.local.table t.local.table.count table has.table.table normal in
-    let whole = with_more (ComponentStep (ProcessStep p)) c t.local.table.count 16384 table (omega (arith, count, terms)) carried in
+    let whole = with_more (ComponentStep (ProcessStep p)) c t.local.table.count MOST_TERMS table (omega (arith, count, terms)) carried in
     let made : Part = record { alphabet = c.alphabet; table = table } in
     let one : part ≡ made = is ∙ ap (λ (al : List ℕ). let q : Part = record { alphabet = al; table = table } in q) same in
-    subst (λ (q : Part). IsPartOf (ProcessStep p) c q × HasForm q) (sym one) (record { alphabet = refl; table = whole }, table_has_form (ProcessStep p) c 16384 table whole few)
+    subst (λ (q : Part). IsPartOf (ProcessStep p) c q × HasForm q) (sym one) (record { alphabet = refl; table = whole }, table_has_form (ProcessStep p) c MOST_TERMS table whole few)
 
 -- ---- one more part
 

@@ -1,12 +1,7 @@
 -- What loops over parts, rows and pairs read.
-use Rattle.std.proofs.Common.{◌≡◌, ℕ, ◌+◌, ◌<◌, List, [], ◌++◌, length, get_or, take, Bool, true, false, ◌||◌, Option, nat_eq, refl, sym, ap, subst, ◌∙◌}
-use Rattle.csp_base.proofs.Standard.{get_or_read, list_any_more}
-use Rattle.csp_base.specs.Prelude.{has, with_member}
+use Rattle.network_stages.proofs.Prelude.{◌≡◌, ℕ, ◌+◌, ◌<◌, List, [], ◌++◌, length, get_or, take, Bool, true, false, ◌||◌, Option, nat_eq, refl, sym, ap, subst, ◌∙◌, get_or_read, list_any_more, has, with_member, Part, part_at, row_at, joints, AreOwners, AreRows, has_event, pair_at}
 use Rattle.csp_base.proofs.Rising.{has-with_member}
-use Rattle.csp_tables.specs.Part.{Part, part_at}
-use Rattle.network_stages.specs.Rows.{row_at, joints, AreOwners, AreRows, has_event}
 use Rattle.network_stages.proofs.Joining.{rows_more}
-use Rattle.observed_runs.specs.Observed.{pair_at}
 
 -- the part of a place, as it is read from a list
 pub part_read : (parts items : List Part) (k : ℕ) (part : Part) → items ≡ parts → k < length items → part ≡ get_or items k part → part_at parts k ≡ part

@@ -1,13 +1,8 @@
 -- The parts of a network's components, linked, are its shape.
-use Rattle.std.proofs.Common.{◌≡◌, ℕ, zero, suc, ◌<◌, ◌≤◌, List, [], ◌∷◌, length, refl, sym, ap, subst, ◌∙◌, arith}
-use Rattle.csp_program.specs.declared.processes.Proc.{Proc}
-use Rattle.csp_program.specs.declared.programs.Content.{Content}
-use Rattle.csp_tables.specs.Prelude.{HaveForm, Component, leaves, Part, TripleDisjoint, alphabets_of, part_at, IsLinked, Shape, ArePartsOf}
-use Rattle.net_sound.proofs.Parts.{one_part_each}
+use Rattle.network_stages.proofs.Prelude.{◌≡◌, ℕ, zero, suc, ◌<◌, ◌≤◌, List, [], ◌∷◌, length, refl, sym, ap, subst, ◌∙◌, arith, Proc, Content, HaveForm, Component, leaves, Part, TripleDisjoint, alphabets_of, part_at, IsLinked, Shape, ArePartsOf, one_part_each, IsSpelled, Network, IsApart, HasParts, ProcessStep}
 use Rattle.network_layout.specs.Triple.{alphabets}
-use Rattle.network_stages.specs.Prelude.{IsSpelled, Network, IsApart, HasParts}
 use Rattle.network_stages.proofs.Spelling.{few_components}
-use Rattle.process_steps.specs.ComponentStep.{ProcessStep}
+use Rattle.dl_limits.specs.declared.TheConstants.{MOST_COMPONENTS, MOST_SETS}
 
 -- parts have the alphabets of their components
 same_alphabets : (p : Content) (cs : List (Component Proc)) (ps : List Part) → ArePartsOf (ProcessStep p) cs ps → alphabets cs ≡ alphabets_of ps
@@ -25,14 +20,14 @@ no_three network other seats same laid apart =
     subst (λ (n : Network). TripleDisjoint (alphabets (leaves n.tree))) same (subst (λ (cs : List (Component Proc)). TripleDisjoint (alphabets cs)) laid apart)
 
 -- there are at most 512 parts
-pub few_parts : (network : Network) (ps : List Part) → IsSpelled network → HasParts network ps → length ps ≤ 512
+pub few_parts : (network : Network) (ps : List Part) → IsSpelled network → HasParts network ps → length ps ≤ MOST_COMPONENTS
 few_parts network ps spelled has =
     let few = few_components network spelled in
     let many = one_part_each (ProcessStep network.program) (leaves network.tree) ps has.are in
     omega (arith, few, many)
 
 -- tables that have their form have few nodes
-few_nodes : (ps : List Part) (i : ℕ) → HaveForm ps → i < length ps → length (part_at ps i).table ≤ 2048
+few_nodes : (ps : List Part) (i : ℕ) → HaveForm ps → i < length ps → length (part_at ps i).table ≤ MOST_SETS
 few_nodes [] i have below = absurd (omega arith)
 few_nodes (q ∷ ps) zero have below = have.0.most
 few_nodes (q ∷ ps) (suc i) have below = few_nodes ps i have.1 (omega (arith, below))

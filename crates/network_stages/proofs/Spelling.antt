@@ -1,19 +1,14 @@
 -- The network that a program spells, or that it spells none.
-use Rattle.std.proofs.Common.{◌≡◌, ◌+◌, ◌≤◌, List, Ok, inr, length, ap, ◌∙◌, sym, arith}
-use Rattle.csp_program.specs.declared.processes.Proc.{Proc}
-use Rattle.csp_program.specs.declared.programs.Content.{Content}
-use Rattle.csp_tables.specs.Network.{Component, Tree, leaves}
+use Rattle.network_stages.proofs.Prelude.{◌≡◌, ◌+◌, ◌≤◌, List, Ok, inr, length, ap, ◌∙◌, sym, arith, Proc, Content, Component, Tree, leaves, Tells, Stop, AreSeatsOf, IsSpelled, Network, tree_at, tree_in, HasNoNetwork, SpellsNone}
 use Rattle.csp_text.specs.declared.script.Script.{Script}
 use Rattle.network_layout.specs.Lays.{AreSeats}
 use Rattle.network_trees.specs.NetworkOf.{network_of}
 use Rattle.network_trees.proofs.InOrder.{network_is_tree}
-use Rattle.csp_base.specs.Prelude.{Tells}
-use Rattle.csp_base.specs.declared.stop.Stop.{Stop}
 use Rattle.report.specs.declared.answer.Answer.{Answer}
 use Rattle.report.specs.declared.answer.Side.{Side}
 use Rattle.csp_base.specs.declared.stop.Stop.TheVariants as stop
 use Rattle.script_names.specs.Program.{IsProgram}
-use Rattle.network_stages.specs.Prelude.{AreSeatsOf, IsSpelled, Network, tree_at, tree_in, HasNoNetwork, SpellsNone}
+use Rattle.dl_limits.specs.declared.TheConstants.{MOST_COMPONENTS}
 
 tree_is : (p : Content) (tree : Tree Proc) → network_of p ≡ Ok tree → tree_at p ≡ tree
 unfolding tree_at
@@ -28,10 +23,10 @@ seats_of p seats laid =
     }
 
 -- a network has at most 512 components
-pub few_components : (network : Network) → IsSpelled network → length (leaves network.tree) ≤ 512
+pub few_components : (network : Network) → IsSpelled network → length (leaves network.tree) ≤ MOST_COMPONENTS
 few_components network spelled =
     let made = network_is_tree network.program network.tree spelled in
-    let few : 0 + length (leaves network.tree) ≤ 512 = made.0.few in
+    let few : 0 + length (leaves network.tree) ≤ MOST_COMPONENTS = made.0.few in
     omega (arith, few)
 
 -- a script whose program spells no network has none

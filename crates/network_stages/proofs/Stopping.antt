@@ -1,9 +1,5 @@
 -- Parts without an empty acceptance at a node, and a part with one.
-use Rattle.std.proofs.Common.{◌≡◌, ℕ, ◌+◌, ◌<◌, inl, inr, List, [], ◌∷◌, length, get_or, nat_eq, refl, sym, ap, subst, ◌∙◌, arith, eq-eqb}
-use Rattle.csp_base.proofs.Standard.{cases_eq, or_left, get_or_read}
-use Rattle.csp_base.specs.Members.{has}
-use Rattle.csp_tables.specs.Prelude.{Node, node_at, end_of, Part, part_at, IsNonEmpty}
-use Rattle.network_stages.specs.Busy.{IsBusyPart, HasEmpty}
+use Rattle.network_stages.proofs.Prelude.{◌≡◌, ℕ, ◌+◌, ◌<◌, inl, inr, List, [], ◌∷◌, length, get_or, nat_eq, refl, sym, ap, subst, ◌∙◌, arith, eq-eqb, cases_eq, or_left, get_or_read, has, Node, node_at, end_of, Part, part_at, IsNonEmpty, IsBusyPart, HasEmpty}
 
 -- no acceptance of a node is empty
 abbrev pub AreNonEmpty : List (List ℕ) → Type 0

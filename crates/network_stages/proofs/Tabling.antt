@@ -1,18 +1,8 @@
 -- Tables of components, one after another.
-use Rattle.std.proofs.Common.{◌≡◌, ℕ, zero, suc, ◌+◌, ◌<◌, ◌≤◌, ◌-◌, List, [], ◌∷◌, ◌++◌, length, take, get_or, slice_get, Some, Result, Ok, Err, IfErr, refl, sym, ap, subst, ◌∙◌, add-one, arith, inr}
-use Rattle.csp_base.proofs.Standard.{take-suc, none-some, same_Some, slice_get-get_or, length_push, take_all}
-use Rattle.csp_program.specs.declared.processes.Proc.{Proc}
-use Rattle.csp_program.specs.declared.programs.Content.{Content}
-use Rattle.csp_tables.specs.Network.{Component}
-use Rattle.local_tables.specs.Prelude.{IsLocalTable, Room}
+use Rattle.network_stages.proofs.Prelude.{◌≡◌, ℕ, zero, suc, ◌+◌, ◌<◌, ◌≤◌, ◌-◌, List, [], ◌∷◌, ◌++◌, length, take, get_or, slice_get, Some, Result, Ok, Err, IfErr, refl, sym, ap, subst, ◌∙◌, add-one, arith, inr, take-suc, none-some, same_Some, slice_get-get_or, length_push, take_all, Proc, Content, Component, IsLocalTable, Room, LocalTable, HasFault, TellsHere, TellsRound, at_component, HaveNoTables, AreTablesOf, AreTablesWithin, HasTable, IsTableWithin, room_after, room_left, whole_room, ComponentTable, Tells, Stop, Refusal}
 use Rattle.local_tables.specs.declared.fault.Unexplored.{Unexplored}
-use Rattle.local_tables.specs.declared.local_table.LocalTable.{LocalTable}
-use Rattle.network_stages.specs.Prelude.{HasFault, TellsHere, TellsRound, at_component, HaveNoTables, AreTablesOf, AreTablesWithin, HasTable, IsTableWithin, room_after, room_left, whole_room}
-use Rattle.network_stages.specs.declared.component_tables.ComponentTable.{ComponentTable}
-use Rattle.csp_base.specs.Prelude.{Tells}
-use Rattle.csp_base.specs.declared.stop.Stop.{Stop}
-use Rattle.report.specs.declared.answer.Refusal.{Refusal}
 use Rattle.local_tables.specs.declared.fault.Unexplored.TheVariants as unexplored
+use Rattle.dl_limits.specs.declared.TheConstants.{MOST_COMPONENTS, MOST_NODES, MOST_STEPS}
 
 module _ (p : Content) where
   one_more : (room : Room) (cs : List (Component Proc)) (ts : List ComponentTable) (c : Component Proc) (t : ComponentTable) → AreTablesWithin p room cs ts
@@ -28,8 +18,8 @@ module _ (p : Content) where
   as_many room (d ∷ cs) [] are = absurd are
   as_many room (d ∷ cs) (u ∷ ts) are = let rest = as_many (room_after room u.local.used) cs ts are.1 in omega (arith, rest)
 
-  pub few_tables : (cs : List (Component Proc)) (ts : List ComponentTable) → AreTablesOf p cs ts → length cs ≤ 512 → length ts ≤ 512
-  few_tables cs ts are few = subst (λ n. n ≤ 512) (as_many whole_room cs ts are) few
+  pub few_tables : (cs : List (Component Proc)) (ts : List ComponentTable) → AreTablesOf p cs ts → length cs ≤ MOST_COMPONENTS → length ts ≤ MOST_COMPONENTS
+  few_tables cs ts are few = subst (λ n. n ≤ MOST_COMPONENTS) (as_many whole_room cs ts are) few
 
   pub table_at : (room : Room) (cs : List (Component Proc)) (ts : List ComponentTable) → AreTablesWithin p room cs ts → (i : ℕ) (c : Component Proc) (t : ComponentTable)
       → slice_get cs i ≡ Some c → slice_get ts i ≡ Some t → HasTable p c t
@@ -78,8 +68,8 @@ pub record AreMade (p : Content) (seats : List (Component Proc)) (made : List Co
   pub so_far : AreTablesOf p (take i seats) made
   pub count : length made ≡ i
   pub left : room ≡ room_left whole_room made
-  pub nodes : room.nodes ≤ 8388608
-  pub steps : room.steps ≤ 1048576
+  pub nodes : room.nodes ≤ MOST_NODES
+  pub steps : room.steps ≤ MOST_STEPS
 
 less : (a b m : ℕ) → a ≤ m → a - b ≤ m
 less a b m low = omega arith
@@ -98,8 +88,8 @@ module _ (p : Content) (seats : List (Component Proc)) where
         so_far = subst (λ ts. AreTablesOf p (take (i + 1) seats) ts) (sym grew) all;
         count = ap length grew ∙ count ∙ ap (λ n. n + 1) same;
         left = after ∙ ap (λ r. room_after r t.local.used) are.left ∙ sym (left_after whole_room made t) ∙ ap (room_left whole_room) (sym grew);
-        nodes = subst (λ n. n ≤ 8388608) (sym (ap (λ (r : Room). r.nodes) after)) (less room.nodes t.local.used.nodes 8388608 are.nodes);
-        steps = subst (λ n. n ≤ 1048576) (sym (ap (λ (r : Room). r.steps) after)) (less room.steps t.local.used.steps 1048576 are.steps);
+        nodes = subst (λ n. n ≤ MOST_NODES) (sym (ap (λ (r : Room). r.nodes) after)) (less room.nodes t.local.used.nodes MOST_NODES are.nodes);
+        steps = subst (λ n. n ≤ MOST_STEPS) (sym (ap (λ (r : Room). r.steps) after)) (less room.steps t.local.used.steps MOST_STEPS are.steps);
       }
 
   -- all seats have their tables

@@ -1,16 +1,9 @@
 -- The first part of a network's shape that stops is the first component that does.
-use Rattle.std.proofs.Common.{◌∙◌, ℕ, List, [], Result, Ok, Err, sym, subst}
+use Rattle.network_stages.proofs.Prelude.{◌∙◌, ℕ, List, [], Result, Ok, Err, sym, subst, false≢true, Label, Component, ComponentStep, Tree, leaves, IsAcceptance, IsBusy, IsRun, acceptances_after, Part, part_at, Shape, IsPartOf, IsShapeOf, IsBusyShape, component_of, part_of, ProcessStep, Tells, Stop, HasEmpty, IsBusyPart, PartCanStop, StopsFirst, StopsFirstIn, Network, CanStop, StaysBusy}
 use Rattle.std.specs.Result.{OnOk}
-use Rattle.std.proofs.lemmas.Bool.{false≢true}
-use Rattle.csp_tables.specs.Prelude.{Label, Component, ComponentStep, Tree, leaves, IsAcceptance, IsBusy, IsRun, acceptances_after, Part, part_at, Shape, IsPartOf, IsShapeOf, IsBusyShape}
 use Rattle.net_sound.proofs.ShapeOf.{shapes_are_busy}
-use Rattle.net_sound.proofs.Parts.{component_of, part_of}
-use Rattle.process_steps.specs.ComponentStep.{ProcessStep}
-use Rattle.csp_base.specs.Prelude.{Tells}
-use Rattle.csp_base.specs.declared.stop.Stop.{Stop}
 use Rattle.report.specs.declared.answer.Shortfall.{Shortfall}
 use Rattle.csp_base.specs.declared.stop.Stop.TheVariants as stop
-use Rattle.network_stages.specs.Prelude.{HasEmpty, IsBusyPart, PartCanStop, StopsFirst, StopsFirstIn, Network, CanStop, StaysBusy}
 
 module _ {T : Type 0} (Step : T → Label → T → Type 0) where
   -- an empty acceptance of a part after a run is one of its component after this trace

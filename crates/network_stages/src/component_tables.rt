@@ -93,7 +93,7 @@ fn table_within(
 }
 
 // How it is told that the component with this number has no table.
-fn untabled(component: u32, fault: Unexplored) -> Stop<Refusal>
+fn table_fault(component: u32, fault: Unexplored) -> Stop<Refusal>
     ensures { result ≡ at_component component fault }
 {
     match fault {
@@ -131,7 +131,7 @@ pub(crate) fn tables_from(
                 room = after(room, &table.local.used);
                 add(&mut made, table)?;
             }
-            Err(fault) => return Err(untabled(first + part as u32, fault)),
+            Err(fault) => return Err(table_fault(first + part as u32, fault)),
         }
     }
     Ok(made)

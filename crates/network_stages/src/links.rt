@@ -13,7 +13,7 @@ use csp_tables::Link;
 use std::alloc::Global;
 
 // The links of the parts whose rows these are, and the parts' vocabulary.
-pub(crate) fn linked(
+pub(crate) fn links_of_rows(
     alloc: Global,
     rows: &[Items<(u32, Event)>],
 ) -> Result<(Vec<Link>, EventSet), NoMemory>

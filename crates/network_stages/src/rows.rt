@@ -97,13 +97,13 @@ fn own_all(owners: &mut Vec<Option<u32>>, events: &EventSet, part: u32) -> Resul
     ensures { OnOk result ((e : ℕ) → owner_of owners.new.items e ≡ (if has events.now e then Some part else owner_of owners.old.items e)) }
 {
     for event in events.iter() {
-        own(owners, event.0 as usize, part)?;
+        keep_owner(owners, event.0 as usize, part)?;
     }
     Ok(())
 }
 
 // Keeps the part as the owner of the event.
-fn own(owners: &mut Vec<Option<u32>>, event: usize, part: u32) -> Result<(), NoMemory>
+fn keep_owner(owners: &mut Vec<Option<u32>>, event: usize, part: u32) -> Result<(), NoMemory>
     ensures { OnOk result ((e : ℕ) → owner_of owners.new.items e ≡ (if event == e then Some part else owner_of owners.old.items e)) }
 {
     while owners.len() <= event {

@@ -9,7 +9,7 @@ ghost use Rattle.network_stages.specs.Rows.{AreLinksBefore, IsVocabulary};
 ghost use Rattle.network_stages.specs.Shapes.{IsApart};
 ghost use Rattle.network_stages.specs.Stages.{ShareEvent};
 
-use crate::links::linked;
+use crate::links::links_of_rows;
 use crate::parts::Parted;
 use crate::rows::shared_rows;
 use crate::spelled::Spelled;
@@ -73,14 +73,14 @@ impl<'a> Shaped<'a> {
 }
 
 // The links of the parts, and their vocabulary.
-fn joined(alloc: Global, parts: &[Part]) -> Result<(Vec<Link>, EventSet), NoMemory>
+fn links_of_parts(alloc: Global, parts: &[Part]) -> Result<(Vec<Link>, EventSet), NoMemory>
     requires most { length parts.now ≤ MOST_COMPONENTS }
     requires apart { TripleDisjoint (alphabets_of parts.now) }
     ensures links { IfOk result (λ made. AreLinksBefore parts.now (length parts.now) 0 made.0.items) }
     ensures vocabulary { IfOk result (λ made. IsVocabulary parts.now made.1) }
 {
     let rows = shared_rows(alloc, parts)?;
-    linked(alloc, &rows)
+    links_of_rows(alloc, &rows)
 }
 
 // The shape of these parts: its links join the parts that share events, and its vocabulary is the shared events.
@@ -93,7 +93,7 @@ fn shape_of(alloc: Global, parts: Vec<Part>) -> Result<Shape, NoMemory>
     ensures parts { IfOk result (λ made. made.parts ≡ parts.items) }
     ensures linked { IfOk result IsLinked }
 {
-    let (links, vocabulary) = joined(alloc, &parts)?;
+    let (links, vocabulary) = links_of_parts(alloc, &parts)?;
     Ok(Shape::new(parts, links, vocabulary))
 }
 

@@ -91,7 +91,7 @@ impl Spelled {
 }
 
 // The network of a program, of the text of this side.
-fn seated(alloc: Global, side: Side, program: Boxed<Program>) -> Result<Spelled, Stop<Answer>>
+fn lay_out(alloc: Global, side: Side, program: Boxed<Program>) -> Result<Spelled, Stop<Answer>>
     ensures network { IfOk result (λ made. made ≡ network_at program) }
     ensures spelled { IfOk result IsSpelled }
     ensures told { IfErr result (Tells (SpellsNone side program)) }
@@ -119,7 +119,7 @@ pub fn spell_network(
     ensures told { IfErr result (Tells (HasNoNetwork side script.now)) }
 {
     match resolve(alloc, key, script) {
-        Ok(program) => seated(alloc, side, program),
+        Ok(program) => lay_out(alloc, side, program),
         Err(Unresolved::Refused(fault)) => {
             Err(Stop::Told(Answer::NoProgram(side, TextFault::Unresolved(fault))))
         }

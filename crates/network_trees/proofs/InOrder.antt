@@ -17,6 +17,7 @@ use Rattle.csp_atoms.specs.declared.atom.Atom.{Atom}
 use Rattle.csp_atoms.specs.declared.value.Value.TheVariants.{One}
 use Rattle.process_steps.specs.Prefix.{set_under}
 use Rattle.network_trees.specs.declared.fault.LayoutFault.TheVariants as fault
+use Rattle.dl_limits.specs.declared.TheConstants.{MOST_COMPONENTS}
 
 -- ---- what holds of what a step makes
 
@@ -33,23 +34,23 @@ if_value (Err why) next Q step = tt
 -- what is true of a tree, and of operands, that k components come before
 pub record IsTree (k : ℕ) (tree : Tree Proc) : Type 0 where
   pub nesting : WellNested tree
-  pub few : k + length (leaves tree) ≤ 512
+  pub few : k + length (leaves tree) ≤ MOST_COMPONENTS
 
 record AreOperands (k : ℕ) (os : Operands Proc) : Type 0 where
   nesting : OperandsWellNested os
-  few : k + length (leaves_of_operands os) ≤ 512
+  few : k + length (leaves_of_operands os) ≤ MOST_COMPONENTS
 
 abbrev MakesTree : (ℕ → Walked (Tree Proc)) → Type 0
-MakesTree walk = (k : ℕ) → k ≤ 512 → IfOk (walk k) (IsTree k)
+MakesTree walk = (k : ℕ) → k ≤ MOST_COMPONENTS → IfOk (walk k) (IsTree k)
 
 abbrev MakesOperands : (ℕ → Walked (Operands Proc)) → Type 0
-MakesOperands walk = (k : ℕ) → k ≤ 512 → IfOk (walk k) (AreOperands k)
+MakesOperands walk = (k : ℕ) → k ≤ MOST_COMPONENTS → IfOk (walk k) (AreOperands k)
 
 makes_component : (alphabet : List ℕ) (q : Proc) → MakesTree (λ k. next_component k alphabet q)
-makes_component alphabet q k fits = by_room (nat_lt k 512) refl
+makes_component alphabet q k fits = by_room (nat_lt k MOST_COMPONENTS) refl
   where
-    by_room : (b : Bool) → nat_lt k 512 ≡ b → IfOk (if b then Ok (leaf (record { alphabet = alphabet; term = q })) else Err fault.ComponentLimit) (IsTree k)
-    by_room true h = let lt : k < 512 = ltb-true k 512 h in record { nesting = tt; few = omega arith }
+    by_room : (b : Bool) → nat_lt k MOST_COMPONENTS ≡ b → IfOk (if b then Ok (leaf (record { alphabet = alphabet; term = q })) else Err fault.ComponentLimit) (IsTree k)
+    by_room true h = let lt : k < MOST_COMPONENTS = ltb-true k MOST_COMPONENTS h in record { nesting = tt; few = omega arith }
     by_room false h = tt
 
 -- an operand that was found to agree with its alphabet
@@ -68,7 +69,7 @@ with_first : (k : ℕ) (alphabet : List ℕ) (tree : Tree Proc) (others : Operan
     → AreOperands k (operand alphabet tree others)
 with_first k alphabet tree others first rest =
     let added : length (leaves tree ++ leaves_of_operands others) ≡ length (leaves tree) + length (leaves_of_operands others) = length-append (leaves tree) (leaves_of_operands others) in
-    let few : k + length (leaves tree) + length (leaves_of_operands others) ≤ 512 = rest.few in
+    let few : k + length (leaves tree) + length (leaves_of_operands others) ≤ MOST_COMPONENTS = rest.few in
     record {
       nesting = ((λ e. same_members alphabet (joint (leaves tree)) first.agrees e ∙ has-joint (leaves tree) e), first.is.nesting, rest.nesting);
       few = omega arith;

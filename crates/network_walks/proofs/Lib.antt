@@ -6,5 +6,4 @@ pub mod One
 pub mod Ordered
 pub mod Rows
 pub mod Runs
-pub mod Status
 pub mod Telling

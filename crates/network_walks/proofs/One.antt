@@ -14,10 +14,6 @@ use Rattle.network_walks.proofs.Runs.{step_of}
 use Rattle.net_sound.proofs.Shape.{steps_are_told}
 
 -- ---- the options are one list
-not_before : (m : Move) → IsBefore m m → ⊥
-not_before (move.Silent i) before = absurd (let less : i < i = before in omega (arith, less))
-not_before (move.Event e) before = absurd (let less : e < e = before in omega (arith, less))
-
 not_both : (m n : Move) → IsBefore m n → IsBefore n m → ⊥
 not_both (move.Silent i) (move.Silent j) one other = absurd (let less : i < j = one in let more : j < i = other in omega (arith, less, more))
 not_both (move.Silent i) (move.Event e) one other = other
@@ -41,7 +37,7 @@ rest_stands : (m n : Move) (ms ns : List Move) → m ≡ n → InTurn (m ∷ ms)
 rest_stands m n ms ns same turn forth a (k, at) = after (forth a (suc k, at))
   where
     after : StandsIn (n ∷ ns) a → StandsIn ns a
-    after (zero, there) = absurd (not_before m (turn 0 (suc k) m m (omega arith) refl (at ∙ ap Some (sym (same_Some n a there) ∙ sym same))))
+    after (zero, there) = let before = turn 0 (suc k) m m (omega arith) refl (at ∙ ap Some (sym (same_Some n a there) ∙ sym same)) in absurd (not_both m m before before)
     after (suc j, there) = (j, there)
 
 one_list : (ms ns : List Move) → InTurn ms → InTurn ns → ((a : Move) → StandsIn ms a → StandsIn ns a) → ((a : Move) → StandsIn ns a → StandsIn ms a) → ms ≡ ns

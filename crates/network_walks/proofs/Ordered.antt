@@ -73,14 +73,7 @@ module _ {T : Type 0} (Step : T → Label → T → Type 0) (Targets : T → Lab
   pub drawn_alike : (m : Move) (i : ℕ) (rows : List (Row Step)) (cs ds : List (Component T)) (xs ns : List ℕ) (y z : ℕ) → AllInOrder rows → Stand Step rows cs xs → Stand Step rows ds ns → AllDraw m i (numbered_rows Step rows) y xs ns z
       → AreDrawn Targets m i y cs ds z
   drawn_alike m i [] [] [] [] [] y z order stand after draws = draws
-  drawn_alike m i [] [] [] [] (n ∷ ns) y z order stand after draws = absurd after
-  drawn_alike m i [] [] (d ∷ ds) [] ns y z order stand after draws = absurd after
-  drawn_alike m i [] [] ds (x ∷ xs) ns y z order stand after draws = absurd stand
-  drawn_alike m i [] (c ∷ cs) ds xs ns y z order stand after draws = absurd stand
-  drawn_alike m i (r ∷ rows) [] ds xs ns y z order stand after draws = absurd stand
-  drawn_alike m i (r ∷ rows) (c ∷ cs) ds [] ns y z order stand after draws = absurd stand
-  drawn_alike m i (r ∷ rows) (c ∷ cs) [] (x ∷ xs) ns y z order stand after draws = absurd after
-  drawn_alike m i (r ∷ rows) (c ∷ cs) (d ∷ ds) (x ∷ xs) [] y z order stand after draws = absurd after
+  drawn_alike m i [] [] ds [] ns y z order stand after draws = absurd after
   drawn_alike m i (r ∷ rows) (c ∷ cs) (d ∷ ds) (x ∷ xs) (n ∷ ns) y z order stand after draws =
       let w = draws.0 in
       let same : takes_part m i r.component.alphabet ≡ takes_part m i c.alphabet = ap (takes_part m i) stand.0.alphabet in
@@ -98,3 +91,5 @@ module _ {T : Type 0} (Step : T → Label → T → Type 0) (Targets : T → Lab
         ],
         drawn_alike m (i + 1) rows cs ds xs ns w z order.1 stand.1 after.1 draws.2,
       )
+  drawn_alike m i (r ∷ rows) (c ∷ cs) ds (x ∷ xs) ns y z order stand after draws = absurd after
+  drawn_alike m i _ _ ds _ ns y z order stand after draws = absurd stand

@@ -11,4 +11,4 @@ mod movers;
 mod walking;
 
 pub use laws::walks_are_runs;
-pub use walking::walked;
+pub use walking::walk_network;

@@ -29,7 +29,7 @@ fn walk_by_tables(
 }
 
 // What is told of a walk.
-fn told(alloc: Global, mut walk: Walk) -> Result<Done, Halt>
+fn done_walk(alloc: Global, mut walk: Walk) -> Result<Done, Halt>
     ensures { Answers (λ v. v ≡ walk_verdict walk.is_stuck walk.moves.items) result }
 {
     let moves = Items::from_vec(replace(&mut walk.moves, Vec::new(alloc)));
@@ -41,10 +41,10 @@ fn told(alloc: Global, mut walk: Walk) -> Result<Done, Halt>
 }
 
 /// The walk of a network with this seed and so many steps, or why it has none.
-pub fn walked(alloc: Global, network: &Spelled, seed: u32, steps: u32) -> Result<Done, Halt>
+pub fn walk_network(alloc: Global, network: &Spelled, seed: u32, steps: u32) -> Result<Done, Halt>
     ensures { Answers (IsWalked network.now seed steps) result }
 {
     let tabled = make_tables(alloc, network)?;
     let made = walk_by_tables(alloc, &tabled, seed, steps)?;
-    told(alloc, made)
+    done_walk(alloc, made)
 }

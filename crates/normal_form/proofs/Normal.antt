@@ -16,6 +16,7 @@ use Rattle.normal_form.proofs.MergedOrder.{breadth_merged}
 use Rattle.normal_form.proofs.SameFuture.{same_from_equal, equal_from_same}
 use Rattle.normal_form.proofs.Reaching.{reached}
 use Rattle.normal_form.proofs.Few.{few_acceptances}
+use Rattle.dl_limits.specs.declared.TheConstants.{MOST_SETS}
 
 abbrev none : Node
 none = record { next = []; accept = [] }
@@ -143,7 +144,7 @@ normal_of_raw raw made nodes merged form same follows accepts order breadth m =
     (few_acceptances raw merged form (merged_traces (RawStep raw) made.nodes merged follows.traces accepts order breadth is) (merged_acceptances (RawStep raw) made.nodes merged follows.traces accepts order breadth is)
     (merged_rising (RawStep raw) made.nodes merged follows.traces accepts order breadth is) (all_reached (RawStep raw) made.nodes merged follows.traces accepts order breadth is))
 
-pub few_nodes : (raw : RawTable) (made : Determinised) (nodes merged : List Node) → nodes ≡ made.nodes → FollowsTraces (RawStep raw) 0 made → HasAcceptances (RawStep raw) 0 made.nodes → All IsRisingNode made.nodes → IsBreadthFirst made.nodes → length made.nodes ≤ 2048 → IsMergedTable nodes merged → length merged ≤ 2048
+pub few_nodes : (raw : RawTable) (made : Determinised) (nodes merged : List Node) → nodes ≡ made.nodes → FollowsTraces (RawStep raw) 0 made → HasAcceptances (RawStep raw) 0 made.nodes → All IsRisingNode made.nodes → IsBreadthFirst made.nodes → length made.nodes ≤ MOST_SETS → IsMergedTable nodes merged → length merged ≤ MOST_SETS
 few_nodes raw made nodes merged same follows accepts order breadth few m =
     let is : IsMergedTable made.nodes merged = subst (λ (ns : List Node). IsMergedTable ns merged) same m in
     let l = no_more_nodes (RawStep raw) made.nodes merged follows.traces accepts order breadth is in

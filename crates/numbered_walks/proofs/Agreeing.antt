@@ -1,26 +1,11 @@
 -- What is counted of events, while components offer more or fewer.
-use Rattle.std.proofs.Common.{◌≡◌, ℕ, zero, suc, ◌+◌, ◌-◌, ◌<◌, ◌≤◌, inl, inr, Bool, true, false, not, ◌&&◌, ◌||◌, nat_eq, IsTrue, List, [], ◌∷◌, length, replicate, set, get_or, refl, sym, ap, subst, ◌∙◌, arith}
-use Rattle.std.specs.List.Sorted.{IsStrictlyIncreasing}
-use Rattle.csp_base.proofs.Standard.{cases_eq, eq-eqb, ne_eqb, or_left, or_right, get_or-set_other, get_or-set_same}
-use Rattle.numbered_walks.proofs.Counting.{none_at}
-use Rattle.csp_base.proofs.Rising.{RisesFrom, has_below, rises_from_increasing}
-use Rattle.csp_base.specs.Members.{has}
-use Rattle.numbered_walks.specs.Prelude.{bit, is_agreed}
+use Rattle.numbered_walks.proofs.Prelude.{◌≡◌, ℕ, zero, suc, ◌+◌, ◌-◌, ◌<◌, ◌≤◌, inl, inr, Bool, ◌||◌, nat_eq, IsTrue, List, [], ◌∷◌, length, set, get_or, refl, sym, ap, subst, ◌∙◌, arith, IsStrictlyIncreasing, cases_eq, eq-eqb, ne_eqb, or_left, or_right, get_or-set_other, get_or-set_same, RisesFrom, has_below, rises_from_increasing, has, bit}
 
 -- what is not 0 is within
 pub some_within : (xs : List ℕ) (i : ℕ) → 1 ≤ get_or xs i 0 → i < length xs
 some_within [] i h = absurd (omega (arith, h))
 some_within (x ∷ xs) zero h = omega arith
 some_within (x ∷ xs) (suc i) h = let rest = some_within xs i h in omega (arith, rest)
-
-none_agreed : (owners : ℕ) → false ≡ is_agreed owners 0
-none_agreed zero = refl
-none_agreed (suc n) = let none : nat_eq 0 (suc n) ≡ false = ne_eqb 0 (suc n) (λ e. omega (arith, e)) in rw none refl
-
-pub no_marks : (owners offering : List ℕ) (agreed : List Bool) (n e : ℕ) → offering ≡ replicate n 0 → agreed ≡ replicate n false → get_or agreed e false ≡ is_agreed (get_or owners e 0) (get_or offering e 0)
-no_marks owners offering agreed n e none unmarked =
-    let o : ℕ = 0 in
-    ap (λ (ms : List Bool). get_or ms e false) unmarked ∙ none_at false n e ∙ none_agreed (get_or owners e 0) ∙ ap (is_agreed (get_or owners e 0)) (sym (ap (λ (ns : List ℕ). get_or ns e 0) none ∙ none_at o n e))
 
 -- a count that changes at one event
 pub changed_at : (xs : List ℕ) (i v e : ℕ) → i < length xs → e ≡ i → get_or (set xs i v) e 0 ≡ v
@@ -106,16 +91,3 @@ module _ (events left rest : List ℕ) (x : ℕ) (is : left ≡ x ∷ rest) (are
 -- none are left
 pub none_left : (left : List ℕ) (e : ℕ) → left ≡ [] → bit (has left e) ≡ 0
 none_left left e is = ap (λ (xs : List ℕ). bit (has xs e)) is
-
--- ---- some events for others
--- of those that are in one of two sets alone
-pub taken_apart : (a b : Bool) → bit a + bit (b && not a) ≡ bit b + bit (a && not b)
-taken_apart true true = refl
-taken_apart true false = refl
-taken_apart false true = refl
-taken_apart false false = refl
-
-pub fewer_apart : (a b : Bool) → bit (a && not b) ≤ bit a
-fewer_apart true true = omega arith
-fewer_apart true false = omega arith
-fewer_apart false b = omega arith

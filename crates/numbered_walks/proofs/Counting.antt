@@ -1,7 +1,5 @@
 -- How many marks stand before a number, and how that changes where another mark is put.
-use Rattle.std.proofs.Common.{◌≡◌, ℕ, zero, suc, ◌+◌, ◌*◌, ◌<◌, ◌≤◌, inl, inr, Bool, true, false, List, [], ◌∷◌, Some, length, take, set, get_or, slice_get, replicate, refl, sym, ap, subst, ◌∙◌, add-one, arith, ◌/◌}
-use Rattle.csp_base.proofs.Standard.{get_or_default, get_or-set_other, get_or-set_same, length-set, length-replicate, length-take, cases_eq, cases_lt}
-use Rattle.numbered_walks.specs.Prelude.{AreBlockCounts, bit, mark_count, marked, places_from}
+use Rattle.numbered_walks.proofs.Prelude.{◌≡◌, ℕ, zero, suc, ◌+◌, ◌*◌, ◌<◌, ◌≤◌, inl, inr, Bool, true, false, List, [], ◌∷◌, Some, length, take, set, get_or, slice_get, replicate, refl, sym, ap, subst, ◌∙◌, add-one, arith, ◌/◌, get_or_default, get_or-set_other, get_or-set_same, length-set, length-replicate, length-take, cases_eq, cases_lt, AreBlockCounts, bit, mark_count, marked, places_from}
 
 -- the mark, where the number is below the other
 upto : Bool → ℕ → ℕ → ℕ

@@ -1,12 +1,5 @@
 -- Targets that are drawn: they are steps, and a move draws for each component that takes part.
-use Rattle.std.proofs.Common.{◌≡◌, ℕ, zero, suc, ◌+◌, ◌<◌, inl, inr, Bool, true, false, not, ◌&&◌, nat_eq, cond, MatchBool, Some, List, [], ◌∷◌, ◌++◌, length, map, set, get_or, slice_get, refl, sym, ap, ap₂, subst, ◌∙◌, arith}
-use Rattle.std.specs.Cmp.{first_so, second_so}
-use Rattle.csp_base.proofs.Standard.{MatchBool-at_false, MatchBool-at_true, cases_Bool, eq-eqb, eqb-true, ne_eqb, none-some, same_Some, length-map}
-use Rattle.acceptances.proofs.Terms.{test_by_stable, unstable_by_step}
-use Rattle.acceptances.specs.OfferTests.{is_unstable}
-use Rattle.numbered_walks.specs.Prelude.{marked, places_from, component_at, owner_marks, IsDrawn, AllDraw, Numbered, next_number, place_among, targets, AllGo}
-use Rattle.csp_base.specs.Members.{has}
-use Rattle.csp_tables.specs.Prelude.{Label, silent, visible, RawStep, RawTable, targets_in}
+use Rattle.numbered_walks.proofs.Prelude.{◌≡◌, ℕ, zero, suc, ◌+◌, ◌<◌, inl, inr, Bool, true, false, not, ◌&&◌, nat_eq, cond, MatchBool, Some, List, [], ◌∷◌, length, map, set, get_or, slice_get, refl, sym, ap, ap₂, subst, ◌∙◌, arith, first_so, second_so, MatchBool-at_false, MatchBool-at_true, cases_Bool, eq-eqb, eqb-true, ne_eqb, none-some, same_Some, length-map, test_by_stable, unstable_by_step, is_unstable, marked, places_from, component_at, owner_marks, IsDrawn, AllDraw, Numbered, next_number, place_among, targets, AllGo, has, Label, silent, visible, RawStep, RawTable, targets_in}
 use Rattle.numbered_walks.proofs.Rowing.{event_picked, picked, silent_picked}
 use Rattle.numbered_walks.specs.declared.moves.Move.TheVariants as move
 
@@ -17,25 +10,19 @@ to_false : (b : Bool) (P Q : Type 0) → b ≡ false → Q → MatchBool b P Q
 to_false b P Q is q = subst (λ (c : Bool). MatchBool c P Q) (sym is) q
 
 -- ---- what is picked from a list
-record Picks {X : Type 0} (test : X → Bool) (number : X → ℕ) (xs : List X) (n : ℕ) : Type 0 where
-  element : X
-  place : ℕ
-  at : slice_get xs place ≡ Some element
-  passes : test element ≡ true
-  gives : number element ≡ n
+module _ {X : Type 0} (test : X → Bool) (number : X → ℕ) (n : ℕ) where
+  abbrev Picks : List X → Type 0
+  Picks xs = (x : X) × (j : ℕ) × (slice_get xs j ≡ Some x) × (test x ≡ true) × (number x ≡ n)
 
-later : {X : Type 0} (test : X → Bool) (number : X → ℕ) (x : X) (xs : List X) (n : ℕ) → Picks test number xs n → Picks test number (x ∷ xs) n
-later test number x xs n p = record { element = p.element; place = suc p.place; at = p.at; passes = p.passes; gives = p.gives }
-
-picks : {X : Type 0} (test : X → Bool) (number : X → ℕ) (xs : List X) (k n : ℕ) → slice_get (picked test number xs) k ≡ Some n → Picks test number xs n
-picks test number [] k n at = absurd (none-some n at)
-picks test number (x ∷ xs) k n at = first (test x) refl k at (λ j there. picks test number xs j n there)
-  where
-    first : (b : Bool) → test x ≡ b → (j : ℕ) → slice_get (cond b (number x ∷ picked test number xs) (picked test number xs)) j ≡ Some n
-        → ((i : ℕ) → slice_get (picked test number xs) i ≡ Some n → Picks test number xs n) → Picks test number (x ∷ xs) n
-    first true here zero there rest = record { element = x; place = 0; at = refl; passes = here; gives = same_Some (number x) n there }
-    first true here (suc j) there rest = later test number x xs n (rest j there)
-    first false other j there rest = later test number x xs n (rest j there)
+  picks : (xs : List X) (k : ℕ) → slice_get (picked test number xs) k ≡ Some n → Picks xs
+  picks [] k at = absurd (none-some n at)
+  picks (x ∷ xs) k at = first (test x) refl k at (λ j there. picks xs j there)
+    where
+      first : (b : Bool) → test x ≡ b → (j : ℕ) → slice_get (cond b (number x ∷ picked test number xs) (picked test number xs)) j ≡ Some n
+          → ((i : ℕ) → slice_get (picked test number xs) i ≡ Some n → Picks xs) → Picks (x ∷ xs)
+      first true here zero there rest = (x, 0, refl, here, same_Some (number x) n there)
+      first true here (suc j) there rest = let p = rest j there in (p.0, suc p.1, p.2, p.3, p.4)
+      first false other j there rest = let p = rest j there in (p.0, suc p.1, p.2, p.3, p.4)
 
 some_picked : {X : Type 0} (test : X → Bool) (number : X → ℕ) (xs : List X) (k : ℕ) (x : X) → slice_get xs k ≡ Some x → test x ≡ true → 0 < length (picked test number xs)
 some_picked test number [] k x at passes = absurd (none-some x at)
@@ -50,18 +37,18 @@ some_picked test number (y ∷ xs) (suc k) x at passes = more (test y) (some_pic
 -- ---- targets are steps
 pub target_steps : (raw : RawTable) (m : ℕ) (l : Label) (k n : ℕ) → slice_get (targets_in raw m l) k ≡ Some n → RawStep raw m l n
 target_steps raw m silent k n at =
-    let p = picks (λ (s : ℕ × ℕ). nat_eq m s.0) (λ (s : ℕ × ℕ). s.1) raw.silent k n (subst (λ (l : List ℕ). slice_get l k ≡ Some n) (silent_picked m raw.silent) at) in
-    let from : p.element.0 ≡ m = sym (eqb-true m p.element.0 p.passes) in
-    let to : p.element.1 ≡ n = p.gives in
-    let pair : p.element ≡ (m, n) = λ i. (from i, to i) in
-    (p.place, p.at ∙ ap Some pair)
+    let p = picks (λ (s : ℕ × ℕ). nat_eq m s.0) (λ (s : ℕ × ℕ). s.1) n raw.silent k (subst (λ (l : List ℕ). slice_get l k ≡ Some n) (silent_picked m raw.silent) at) in
+    let from : p.0.0 ≡ m = sym (eqb-true m p.0.0 p.3) in
+    let to : p.0.1 ≡ n = p.4 in
+    let pair : p.0 ≡ (m, n) = λ i. (from i, to i) in
+    (p.1, p.2 ∙ ap Some pair)
 target_steps raw m (visible e) k n at =
-    let p = picks (λ (s : ℕ × ℕ × ℕ). nat_eq m s.0 && nat_eq e s.1) (λ (s : ℕ × ℕ × ℕ). s.2) raw.steps k n (subst (λ (l : List ℕ). slice_get l k ≡ Some n) (event_picked m e raw.steps) at) in
-    let from : p.element.0 ≡ m = sym (eqb-true m p.element.0 (first_so (nat_eq m p.element.0) (nat_eq e p.element.1) p.passes)) in
-    let by : p.element.1 ≡ e = sym (eqb-true e p.element.1 (second_so (nat_eq m p.element.0) (nat_eq e p.element.1) p.passes)) in
-    let to : p.element.2 ≡ n = p.gives in
-    let triple : p.element ≡ (m, e, n) = λ i. (from i, by i, to i) in
-    (p.place, p.at ∙ ap Some triple)
+    let p = picks (λ (s : ℕ × ℕ × ℕ). nat_eq m s.0 && nat_eq e s.1) (λ (s : ℕ × ℕ × ℕ). s.2) n raw.steps k (subst (λ (l : List ℕ). slice_get l k ≡ Some n) (event_picked m e raw.steps) at) in
+    let from : p.0.0 ≡ m = sym (eqb-true m p.0.0 (first_so (nat_eq m p.0.0) (nat_eq e p.0.1) p.3)) in
+    let by : p.0.1 ≡ e = sym (eqb-true e p.0.1 (second_so (nat_eq m p.0.0) (nat_eq e p.0.1) p.3)) in
+    let to : p.0.2 ≡ n = p.4 in
+    let triple : p.0 ≡ (m, e, n) = λ i. (from i, by i, to i) in
+    (p.1, p.2 ∙ ap Some triple)
 
 pub has_target : (raw : RawTable) (m n : ℕ) (l : Label) → RawStep raw m l n → 0 < length (targets_in raw m l)
 has_target raw m n silent step =
@@ -143,16 +130,6 @@ one_drawn i k (suc j) (c ∷ cs) (x ∷ xs) y d z at below same drawn =
     (y, to_false (nat_eq i k) _ _ (ne_eqb i k (λ e. omega (arith, e, at))) (refl, refl), one_drawn i (k + 1) j cs xs y d z (omega (arith, at)) (omega (arith, below)) (omega (arith, same)) drawn)
 
 -- ---- the owners of an event draw, one after another
-pub one_more_goes : (cs : List Numbered) (l : Label) (places : List ℕ) (i n : ℕ) (xs ys zs : List ℕ) (y w z : ℕ) → AllGo cs l places xs y ys w → IsDrawn (targets_in (component_at cs i).table (get_or ys i 0) l) w n z → zs ≡ set ys i n
-    → AllGo cs l (places ++ i ∷ []) xs y zs z
-one_more_goes cs l [] i n xs ys zs y w z go drawn moved = (
-  n,
-  z,
-  subst (λ (us : List ℕ). IsDrawn (targets_in (component_at cs i).table (get_or us i 0) l) y n z) (sym go.0) (subst (λ v. IsDrawn (targets_in (component_at cs i).table (get_or ys i 0) l) v n z) (sym go.1) drawn),
-  (ap (λ (us : List ℕ). set us i n) go.0 ∙ sym moved, refl),
-)
-one_more_goes cs l (j ∷ places) i n xs ys zs y w z go drawn moved = (go.0, go.1, go.2, one_more_goes cs l places i n (set xs j go.0) ys zs go.1 w z go.3 drawn moved)
-
 -- past the first component
 record GoOn (cs : List Numbered) (l : Label) (places : List ℕ) (x : ℕ) (xs : List ℕ) (y : ℕ) (ys : List ℕ) (z : ℕ) : Type 0 where
   others : List ℕ

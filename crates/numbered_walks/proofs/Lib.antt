@@ -6,5 +6,6 @@ pub mod Offering
 pub mod Optioning
 pub mod Owning
 pub mod Places
+pub mod Prelude
 pub mod Rowing
 pub mod Stepping

@@ -1,7 +1,5 @@
 -- A walk with one more step at its end.
-use Rattle.std.proofs.Common.{◌≡◌, ℕ, List, [], ◌∷◌, ◌++◌, refl, sym, subst}
-use Rattle.numbered_walks.specs.Prelude.{next_number, number_after, Chooses, IsWalk}
-use Rattle.numbered_walks.specs.declared.moves.Move.{Move}
+use Rattle.numbered_walks.proofs.Prelude.{◌≡◌, ℕ, List, [], ◌∷◌, ◌++◌, refl, sym, subst, next_number, number_after, Chooses, IsWalk, Move}
 
 module _ {S : Type 0} (Has : S → Move → Type 0) (Goes : S → ℕ → Move → S → ℕ → Type 0) where
   pub one_more_step : (x y : ℕ) (s t u : S) (w z : ℕ) (ms : List Move) (m : Move) → IsWalk Has Goes x y s ms t w → Chooses (Has t) (next_number (number_after x ms)) m → Goes t w m u z → IsWalk Has Goes x y s (ms ++ m ∷ []) u z

@@ -1,11 +1,5 @@
 -- How many components offer an event, and when all of its owners do.
-use Rattle.std.proofs.Common.{◌≡◌, ℕ, zero, suc, ◌+◌, ◌<◌, ◌≤◌, inl, inr, Bool, true, false, not, nat_eq, IsTrue, List, [], ◌∷◌, length, take, set, get_or, refl, sym, ap, ◌∙◌, add-one, arith}
-use Rattle.std.specs.Cmp.{first_so, second_so}
-use Rattle.std.proofs.lemmas.Bool.{cases_Bool, eq-eqb, eqb-true, false≢true, ne_eqb, or_cases, or_left, or_right}
-use Rattle.acceptances.proofs.Terms.{offers_by_test, test_by_offers}
-use Rattle.acceptances.specs.OfferTests.{can_do}
-use Rattle.csp_base.specs.Members.{has}
-use Rattle.numbered_walks.specs.Prelude.{bit, component_at, is_agreed, offer_count, owner_count, AllCan, Numbered, OwnsItsSteps, first_terms, has_owner}
+use Rattle.numbered_walks.proofs.Prelude.{◌≡◌, ℕ, zero, suc, ◌+◌, ◌<◌, ◌≤◌, inl, inr, Bool, true, false, not, nat_eq, IsTrue, List, [], ◌∷◌, length, take, set, get_or, refl, sym, ap, ◌∙◌, add-one, arith, first_so, second_so, cases_Bool, eq-eqb, eqb-true, false≢true, ne_eqb, or_cases, or_left, or_right, offers_by_test, test_by_offers, can_do, has, bit, component_at, is_agreed, offer_count, owner_count, AllCan, Numbered, OwnsItsSteps, first_terms, has_owner}
 
 bit_most : (b : Bool) → bit b ≤ 1
 bit_most true = omega arith

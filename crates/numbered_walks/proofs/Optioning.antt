@@ -1,11 +1,7 @@
 -- The marked components and the marked events are the options of a state, in their order.
-use Rattle.std.proofs.Common.{◌≡◌, ◌↔◌, ℕ, zero, suc, ◌+◌, ◌-◌, ◌<◌, ◌≤◌, ◌⊎◌, inl, inr, Bool, true, false, List, [], ◌∷◌, ◌++◌, length, map, take, get_or, slice_get, Some, refl, sym, ap, subst, ◌∙◌, arith}
-use Rattle.csp_base.specs.Standard.{option_map}
-use Rattle.csp_base.proofs.Standard.{none-some, same_Some, length-append, length-map, slice_get-map, slice_get_within}
+use Rattle.numbered_walks.proofs.Prelude.{◌≡◌, ◌↔◌, ℕ, zero, suc, ◌+◌, ◌-◌, ◌<◌, ◌≤◌, ◌⊎◌, inl, inr, Bool, true, false, nat_eq, List, [], ◌∷◌, ◌++◌, length, map, take, get_or, slice_get, Some, refl, ap, subst, ◌∙◌, arith, option_map, eq-eqb, eqb-true, none-some, same_Some, length-append, length-map, slice_get-map, slice_get_within, mark_count, marked, AreOptions, IsBefore, options, HasNone, Move}
 use Rattle.containers.proofs.MembersLemmas.{slice_get-append_left}
 use Rattle.numbered_walks.proofs.Places.{as_many, marked_is, place_of_mark, places_rise}
-use Rattle.numbered_walks.specs.Prelude.{mark_count, marked, AreOptions, IsBefore, options, HasNone}
-use Rattle.numbered_walks.specs.declared.moves.Move.{Move}
 use Rattle.csp_base.specs.Lists.{StandsIn}
 use Rattle.numbered_walks.specs.declared.moves.Move.TheVariants as move
 
@@ -66,7 +62,7 @@ module _ (restless agreed : List Bool) where
       subst (λ j. slice_get (options restless agreed) j ≡ Some (move.Event e)) place there
 
   module _ (Has : Move → Type 0) (silent : (i : ℕ) → (get_or restless i false ≡ true) ↔ Has (move.Silent i)) (event : (e : ℕ) → (get_or agreed e false ≡ true) ↔ Has (move.Event e)) where
-    sound : (m : Move) (k : ℕ) → slice_get (options restless agreed) k ≡ Some m → Has m
+    pub sound : (m : Move) (k : ℕ) → slice_get (options restless agreed) k ≡ Some m → Has m
     sound m k at = elim (split_at silents events k m at) [
       | inl front ↦ let from = mapped_from (λ i. move.Silent i) (marked restless) k m front in subst Has from.is ((silent from.value).0 (marked_is restless k from.value from.at))
       | inr back ↦ let from = mapped_from (λ e. move.Event e) (marked agreed) back.place m back.at in subst Has from.is ((event from.value).0 (marked_is agreed back.place from.value from.at))
@@ -103,19 +99,13 @@ module _ (restless agreed : List Bool) where
     pub options_are : AreOptions Has (options restless agreed)
     options_are = record { sound = λ m at. sound m at.0 at.1; complete = complete; order = order }
 
-    pub has_at : (k : ℕ) (m : Move) → slice_get (options restless agreed) k ≡ Some m → Has m
-    has_at k m at = sound m k at
-
-    pub none_counted : mark_count restless + mark_count agreed ≡ 0 → HasNone Has
-    none_counted none m h =
-        let at = complete m h in
-        let below = slice_get_within (options restless agreed) at.0 m at.1 in
-        let all = option_count in
-        omega (arith, none, below, all)
-
-    pub counted_none : HasNone Has → mark_count restless + mark_count agreed ≡ 0
-    counted_none none = first_of_list (options restless agreed) option_count (λ k m at. none m (sound m k at))
+    -- the state is stuck exactly where there are so many as none
+    pub none_left : (n : ℕ) → n ≡ length (options restless agreed) → (nat_eq n 0 ≡ true) ↔ HasNone Has
+    none_left n count = (
+      λ zero m h. let at = complete m h in omega (arith, slice_get_within (options restless agreed) at.0 m at.1, count, eqb-true n 0 zero),
+      λ none. eq-eqb n 0 (count ∙ empty (options restless agreed) (λ k m at. none m (sound m k at))),
+    )
       where
-        first_of_list : (ms : List Move) → length ms ≡ mark_count restless + mark_count agreed → ((k : ℕ) (m : Move) → slice_get ms k ≡ Some m → ⊥) → mark_count restless + mark_count agreed ≡ 0
-        first_of_list [] count empty = sym count
-        first_of_list (m ∷ ms) count empty = absurd (empty 0 m refl)
+        empty : (ms : List Move) → ((k : ℕ) (m : Move) → slice_get ms k ≡ Some m → ⊥) → length ms ≡ 0
+        empty [] none = refl
+        empty (m ∷ ms) none = absurd (none 0 m refl)

@@ -1,13 +1,7 @@
 -- The rows of the owners of events.
-use Rattle.std.proofs.Common.{◌≡◌, ℕ, zero, suc, ◌+◌, ◌<◌, ◌≤◌, ◌^◌, inl, inr, Bool, true, false, ◌||◌, nat_eq, cond, List, [], ◌∷◌, ◌++◌, length, map, take, set, get_or, refl, sym, ap, subst, ◌∙◌, append_assoc, arith}
-use Rattle.std.specs.List.Sorted.{IsStrictlyIncreasing}
-use Rattle.csp_base.proofs.Standard.{append-nil, cases_eq, eq-eqb, eqb-true, ne_eqb, get_or-map, get_or-set_other, get_or-set_same, length-map, length-take-le}
+use Rattle.numbered_walks.proofs.Prelude.{◌≡◌, ℕ, zero, suc, ◌+◌, ◌<◌, ◌≤◌, ◌^◌, inl, inr, Bool, true, false, ◌||◌, nat_eq, cond, List, [], ◌∷◌, ◌++◌, length, map, take, set, get_or, refl, sym, ap, subst, ◌∙◌, append_assoc, arith, IsStrictlyIncreasing, append-nil, cases_eq, eq-eqb, eqb-true, ne_eqb, get_or-set_other, get_or-set_same, length-map, length-take-le, mark_count, marked, places_from, AreOwnerRows, bit, owner_count, owner_marks, Numbered, map_push, take_read, RisesFrom, has_below, rises_from_increasing, has}
 use Rattle.numbered_walks.proofs.Counting.{one_mark}
 use Rattle.numbered_walks.proofs.Places.{as_many}
-use Rattle.numbered_walks.specs.Prelude.{mark_count, marked, places_from, AreOwnerRows, bit, owner_count, owner_marks, Numbered}
-use Rattle.csp_base.proofs.Lists.{map_push, take_read}
-use Rattle.csp_base.proofs.Rising.{RisesFrom, has_below, rises_from_increasing}
-use Rattle.csp_base.specs.Members.{has}
 
 -- ---- one owner more
 abbrev pub owned : Bool → ℕ → List ℕ

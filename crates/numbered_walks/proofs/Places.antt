@@ -1,7 +1,5 @@
 -- The marked numbers: how many there are, that they rise, and that they are exactly those that are marked.
-use Rattle.std.proofs.Common.{◌≡◌, ℕ, zero, suc, ◌+◌, ◌<◌, ◌≤◌, Bool, true, false, List, [], ◌∷◌, Some, length, take, get_or, slice_get, refl, ap, subst, ◌∙◌, arith}
-use Rattle.csp_base.proofs.Standard.{none-some, same_Some, false≢true}
-use Rattle.numbered_walks.specs.Marks.{mark_count, marked, places_from}
+use Rattle.numbered_walks.proofs.Prelude.{◌≡◌, ℕ, zero, suc, ◌+◌, ◌<◌, ◌≤◌, Bool, true, false, List, [], ◌∷◌, Some, length, take, get_or, slice_get, refl, ap, subst, ◌∙◌, arith, none-some, same_Some, false≢true, mark_count, marked, places_from}
 use Rattle.numbered_walks.proofs.Counting.{nth_place}
 
 pub as_many : (k : ℕ) (ms : List Bool) → length (places_from k ms) ≡ mark_count ms

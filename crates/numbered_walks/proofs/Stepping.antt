@@ -1,18 +1,9 @@
 -- Components that move, one after another.
-use Rattle.std.proofs.Common.{◌≡◌, ◌↔◌, ℕ, zero, suc, ◌+◌, ◌<◌, ◌≤◌, inl, inr, Bool, true, false, ◌||◌, nat_eq, IsTrue, MatchBool, List, [], ◌∷◌, length, map, replicate, take, drop, set, get_or, Some, refl, sym, ap, subst, ◌∙◌, arith}
-use Rattle.csp_base.proofs.Standard.{cases_eq, eq-eqb, eqb-true, false≢true, ne_eqb, or_left, or_right, get_or-set_other, get_or-set_same, length-replicate, length-set, length-take, get_or_default, get_or_from_slice_get, slice_get-get_or, slice_get_within, drop_all, length-map}
-use Rattle.acceptances.proofs.Terms.{offers_by_test, unstable_by_step}
-use Rattle.acceptances.specs.OfferTests.{can_do, is_unstable}
+use Rattle.numbered_walks.proofs.Prelude.{◌≡◌, ◌↔◌, ℕ, zero, suc, ◌+◌, ◌<◌, ◌≤◌, inl, inr, Bool, true, false, ◌||◌, nat_eq, IsTrue, MatchBool, List, [], ◌∷◌, length, map, replicate, take, drop, set, get_or, slice_get, Some, refl, sym, ap, subst, ◌∙◌, arith, cases_eq, eq-eqb, eqb-true, false≢true, ne_eqb, or_left, or_right, get_or-set_other, get_or-set_same, length-replicate, length-set, length-take, get_or_default, get_or_from_slice_get, slice_get-get_or, slice_get_within, drop_all, length-map, offers_by_test, unstable_by_step, can_do, is_unstable, marked, places_from, AreOptions, AreOwnerRows, HasNone, IsAgreement, IsStanding, bit, component_at, is_agreed, offer_count, owner_count, owner_marks, AllCan, AllDo, AllDraw, Can, Has, Numbered, OneCan, OwnsItsSteps, first_terms, has_owner, AllGo, AllGoOn, Does, GoesOn, IsDrawn, options, Move, Standing, drop_read, RisesFrom, RisesFrom-weaken, has_below, has, passing, silent, visible, RawStep, RawTable, targets_in}
 use Rattle.numbered_walks.proofs.Places.{mark_within}
-use Rattle.numbered_walks.specs.Prelude.{marked, places_from, AreOwnerRows, IsAgreement, IsStanding, bit, component_at, is_agreed, offer_count, owner_count, owner_marks, AllCan, AllDo, AllDraw, Can, Goes, Has, Numbered, OneCan, OwnsItsSteps, first_terms, has_owner, AllGo, AllGoOn, Does, GoesOn, IsDrawn}
-use Rattle.numbered_walks.specs.declared.standing.Standing.{Standing}
-use Rattle.csp_base.proofs.Lists.{drop_read}
-use Rattle.csp_base.proofs.Rising.{RisesFrom, RisesFrom-weaken, has_below}
-use Rattle.csp_base.specs.Members.{has}
-use Rattle.csp_tables.proofs.Listed.{passing}
-use Rattle.csp_tables.specs.Prelude.{silent, visible, RawStep, RawTable, targets_in}
 use Rattle.numbered_walks.proofs.Agreeing.{some_within}
 use Rattle.numbered_walks.proofs.Drawing.{all_drawn, drawn_steps, one_drawn}
+use Rattle.numbered_walks.proofs.Optioning.{none_left, options_are, sound}
 use Rattle.numbered_walks.proofs.Owning.{owner_counts_are}
 use Rattle.numbered_walks.proofs.Counting.{none_at}
 use Rattle.numbered_walks.proofs.Offering.{agreed_can, at_most_all, can_agreed, count_set, front_most, one_first, one_of_all, owner_counts, some_owner}
@@ -47,14 +38,23 @@ module _ (cs : List Numbered) (s : Standing) (is : IsStanding cs s) where
       let test = unstable_by_step can.component.table can.term can.can.0 can.can.1 in
       is.restless i below ∙ ap (λ (c : Numbered). is_unstable c.table (get_or s.terms.items i 0)) (get_or_from_slice_get cs i can.component _ can.there) ∙ ap (is_unstable can.component.table) (get_or_from_slice_get s.terms.items i can.term 0 can.at) ∙ test
 
-  pub silent_marks : (i : ℕ) → (get_or s.restless i false ≡ true) ↔ Has cs s.terms.items (move.Silent i)
+  silent_marks : (i : ℕ) → (get_or s.restless i false ≡ true) ↔ Has cs s.terms.items (move.Silent i)
   silent_marks i = (marked_moves i, moves_marked i)
 
   counted : (e : ℕ) → get_or s.agreement.agreed e false ≡ is_agreed (owner_count e cs) (offer_count e cs s.terms.items)
   counted e = is.agreement.marks e ∙ ap (λ n. is_agreed n (get_or s.agreement.offering.items e 0)) (is.owners e) ∙ ap (is_agreed (owner_count e cs)) (is.offering e)
 
-  pub event_marks : (e : ℕ) → (get_or s.agreement.agreed e false ≡ true) ↔ Has cs s.terms.items (move.Event e)
+  event_marks : (e : ℕ) → (get_or s.agreement.agreed e false ≡ true) ↔ Has cs s.terms.items (move.Event e)
   event_marks e = (λ h. agreed_can e cs s.terms.items is.own is.one_each (sym (counted e) ∙ h), λ h. counted e ∙ can_agreed e cs s.terms.items is.own is.one_each h)
+
+  pub standing_options : AreOptions (Has cs s.terms.items) (options s.restless s.agreement.agreed)
+  standing_options = options_are s.restless s.agreement.agreed (Has cs s.terms.items) silent_marks event_marks
+
+  pub option_has : (m : Move) (k : ℕ) → slice_get (options s.restless s.agreement.agreed) k ≡ Some m → Has cs s.terms.items m
+  option_has = sound s.restless s.agreement.agreed (Has cs s.terms.items) silent_marks event_marks
+
+  pub is_stuck : (n : ℕ) → n ≡ length (options s.restless s.agreement.agreed) → (nat_eq n 0 ≡ true) ↔ HasNone (Has cs s.terms.items)
+  is_stuck = none_left s.restless s.agreement.agreed (Has cs s.terms.items) silent_marks event_marks
 
 -- ---- one component is put to another term
 module _ (cs : List Numbered) (s : Standing) (is : IsStanding cs s) (i : ℕ) (below : i < length cs) where
@@ -69,6 +69,13 @@ module _ (cs : List Numbered) (s : Standing) (is : IsStanding cs s) (i : ℕ) (b
 
   pub place_stands : i < length s.terms.items
   place_stands = let same = is.one_each in omega (arith, same, below)
+
+  -- the events of a set that is read for it
+  pub offers_read : (d : Numbered) (n : ℕ) (events : List ℕ) → d ≡ get_or cs i d → ((e : ℕ) → has events e ≡ can_do d.table n e) → (e : ℕ) → has events e ≡ can_do table n e
+  offers_read d n events is offers e = offers e ∙ ap (λ (c : Numbered). can_do c.table n e) (sym (get_or_default cs i _ d below ∙ sym is))
+
+  pub term_read : (n : ℕ) → n ≡ get_or s.terms.items i n → n ≡ x
+  term_read n is = is ∙ get_or_default s.terms.items i n 0 place_stands
 
   -- it offers no more than is counted
   pub offered : (e : ℕ) → bit (can_do table x e) ≤ get_or s.agreement.offering.items e 0
@@ -121,10 +128,6 @@ module _ (cs : List Numbered) (s : Standing) (is : IsStanding cs s) (i : ℕ) (b
     offering = λ e. counts_there y e (get_or t.agreement.offering.items e 0) (offering e) ∙ sym (ap (offer_count e cs) terms);
     small = subst (λ n. n ≤ 4294967296) (sym (ap length owners)) is.small;
   }
-
--- the events of a set that is read for it
-pub offers_there : (cs : List Numbered) (i : ℕ) (d : Numbered) (n x : ℕ) (events : List ℕ) → component_at cs i ≡ d → n ≡ x → ((e : ℕ) → has events e ≡ can_do d.table n e) → (e : ℕ) → has events e ≡ can_do (component_at cs i).table x e
-offers_there cs i d n x events same term offers e = offers e ∙ ap (λ (c : Numbered). can_do c.table n e) (sym same) ∙ ap (λ m. can_do (component_at cs i).table m e) term
 
 -- ---- each owner of an event does it
 -- the components in these places can do the event where they stand

@@ -15,21 +15,11 @@ use std::alloc::Global;
 const FEW_BLOCKS: usize = 2;
 
 /// For each event how many components have it, and how many of them offer it now; marked are the events that all of them offer.
+#[derive(Drop)]
 pub(crate) struct Agreement {
     owners: Vec<usize>,
     offering: Vec<usize>,
     agreed: CountedMarks,
-}
-
-// By hand, so that a function that ends one calls this and proves no end of its own.
-impl Drop for Agreement {
-    fn drop(self) {
-        let Agreement {
-            owners: _owners,
-            offering: _offering,
-            agreed: _agreed,
-        } = self;
-    }
 }
 
 // How many owners each event has.
@@ -71,7 +61,10 @@ fn mark(agreement: &mut Agreement, place: usize)
     requires within { place < length agreement.old.owners.items }
     requires offering { length agreement.old.offering.items ≡ length agreement.old.owners.items }
     requires agreed { length agreement.old.agreed ≡ length agreement.old.owners.items }
-    ensures { agreement.new ≡ record agreement.old { agreed = slice_set agreement.old.agreed place (is_agreed (owners_of agreement.old place) (offers_of agreement.old place)) } }
+    ensures { agreement.new ≡ record agreement.old {
+      agreed = slice_set agreement.old.agreed place
+          (is_agreed (owners_of agreement.old place) (offers_of agreement.old place));
+    } }
 {
     let owners = agreement.owners[place];
     let agreed = agreement.offering[place] == owners && owners != 0;
@@ -85,7 +78,8 @@ fn offer(agreement: &mut Agreement, event: Event)
     requires room { offers_of agreement.old event < MOST_COMPONENTS }
     ensures form { IsAgreement agreement.new }
     ensures owners { agreement.new.owners.items ≡ agreement.old.owners.items }
-    ensures offering { agreement.new.offering.items ≡ slice_set agreement.old.offering.items event (offers_of agreement.old event + 1) }
+    ensures offering { agreement.new.offering.items
+        ≡ slice_set agreement.old.offering.items event (offers_of agreement.old event + 1) }
 {
     let place = event.0 as usize;
     agreement.offering[place] += 1;
@@ -98,7 +92,8 @@ fn withdraw(agreement: &mut Agreement, event: Event)
     requires some { 1 ≤ offers_of agreement.old event }
     ensures form { IsAgreement agreement.new }
     ensures owners { agreement.new.owners.items ≡ agreement.old.owners.items }
-    ensures offering { agreement.new.offering.items ≡ slice_set agreement.old.offering.items event (offers_of agreement.old event - 1) }
+    ensures offering { agreement.new.offering.items
+        ≡ slice_set agreement.old.offering.items event (offers_of agreement.old event - 1) }
 {
     let place = event.0 as usize;
     agreement.offering[place] -= 1;
@@ -118,7 +113,8 @@ pub(crate) fn exchange(
     requires room { (e : ℕ) → offers_of agreement.old e + bit (has new.now e) ≤ MOST_COMPONENTS + bit (has old.now e) }
     ensures form { OnOk result (IsAgreement agreement.new) }
     ensures owners { OnOk result (agreement.new.owners.items ≡ agreement.old.owners.items) }
-    ensures offering { OnOk result ((e : ℕ) → offers_of agreement.new e + bit (has old.now e) ≡ offers_of agreement.old e + bit (has new.now e)) }
+    ensures offering { OnOk result ((e : ℕ) → offers_of agreement.new e + bit (has old.now e)
+        ≡ offers_of agreement.old e + bit (has new.now e)) }
 {
     if old == new {
         return Ok(());

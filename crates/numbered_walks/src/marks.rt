@@ -11,21 +11,11 @@ use std::marker::Model;
 const BLOCK: usize = 64;
 
 /// For each number below a bound whether it is marked. Contracts see it as the marks.
+#[derive(Drop)]
 pub(crate) struct CountedMarks {
     marks: Vec<bool>,
     counts: Vec<usize>,
     total: usize,
-}
-
-// By hand, so that a crate that ends one calls this and proves no end of its own.
-impl Drop for CountedMarks {
-    fn drop(self) {
-        let CountedMarks {
-            marks: _marks,
-            counts: _counts,
-            total: _total,
-        } = self;
-    }
 }
 
 impl Model for CountedMarks {
@@ -72,8 +62,8 @@ impl CountedMarks {
         let old = self.marks[number];
         let block = number / BLOCK;
         self.marks[number] = mark;
-        self.counts[block] = recounted(self.counts[block], old, mark);
-        self.total = recounted(self.total, old, mark);
+        self.counts[block] = changed_count(self.counts[block], old, mark);
+        self.total = changed_count(self.total, old, mark);
     }
 
     /// The marked number in the place `place` of their rising order, counted from 0.
@@ -88,7 +78,7 @@ impl CountedMarks {
 }
 
 // How many are marked where so many were, and one has another mark.
-fn recounted(count: usize, old: bool, mark: bool) -> usize
+fn changed_count(count: usize, old: bool, mark: bool) -> usize
     requires some { bit old ≤ count }
     requires room { count < 2 ^ 63 }
     ensures { result + bit old ≡ count + bit mark }

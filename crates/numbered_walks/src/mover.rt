@@ -9,7 +9,8 @@ ghost use Rattle.numbered_walks.specs.Numbered.{Can, OwnsItsSteps};
 ghost use Rattle.numbered_walks.specs.Rows.{targets};
 
 use crate::draws::{Drawn, drawn_by, drawn_silently};
-use crate::rows::{offer_sets, silent_rows, step_rows, steps_by};
+use crate::rows::{silent_rows, step_rows, steps_by};
+use acceptances::event_sets;
 use containers::Items;
 use csp_base::{Event, EventSet, NoMemory};
 use csp_tables::RawTable;
@@ -64,7 +65,7 @@ impl<'a> Mover<'a> {
         let _count = table.count();
         let silent = silent_rows(alloc, table)?;
         let steps = step_rows(alloc, table)?;
-        let offers = offer_sets(alloc, table)?;
+        let offers = event_sets(alloc, table)?;
         Ok(Mover {
             alphabet,
             table,

@@ -22,23 +22,12 @@ use csp_base::{Event, NoMemory};
 use std::alloc::Global;
 
 /// The term of each component, the number that was drawn last, which components have a silent step, and which events are offered by all of their owners.
+#[derive(Drop)]
 pub(crate) struct Standing {
     terms: Vec<u32>,
     drawn: u32,
     restless: CountedMarks,
     agreement: Agreement,
-}
-
-// By hand, so that a function that ends one calls this and proves no end of its own.
-impl Drop for Standing {
-    fn drop(self) {
-        let Standing {
-            terms: _terms,
-            drawn: _drawn,
-            restless: _restless,
-            agreement: _agreement,
-        } = self;
-    }
 }
 
 // Marks whether a component has a silent step at its first term, and counts what it offers there.
@@ -57,7 +46,8 @@ fn enter(
     ensures restless { restless.new ≡ slice_set restless.old place (is_unstable mover.now.table term) }
     ensures form { IsAgreement agreement.new }
     ensures owners { agreement.new.owners.items ≡ agreement.old.owners.items }
-    ensures offering { (e : ℕ) → offers_of agreement.new e ≡ offers_of agreement.old e + bit (can_do mover.now.table term e) }
+    ensures offering { (e : ℕ) → offers_of agreement.new e
+        ≡ offers_of agreement.old e + bit (can_do mover.now.table term e) }
 {
     restless.set(place, mover.is_restless(term));
     offer_all(agreement, mover.offers(term));
@@ -74,9 +64,11 @@ fn enter_all(restless: &mut CountedMarks, agreement: &mut Agreement, movers: &[M
     ensures owners { agreement.new.owners.items ≡ agreement.old.owners.items }
     ensures offering { (e : ℕ) → offers_of agreement.new e ≡ offer_count e movers.now (first_terms movers.now) }
     ensures marks { length restless.new ≡ length movers.now }
-    ensures restless { (i : ℕ) → i < length movers.now → slice_index_or restless.new i false ≡ is_unstable (component_at movers.now i).table 0 }
+    ensures restless { (i : ℕ) → i < length movers.now → slice_index_or restless.new i false
+        ≡ is_unstable (component_at movers.now i).table 0 }
     ensures within { (i : ℕ) → i < length movers.now → 0 < (component_at movers.now i).table.count }
-    ensures own { (i : ℕ) → i < length movers.now → OwnsItsSteps (component_at movers.now i).alphabet (component_at movers.now i).table }
+    ensures own { (i : ℕ) → i < length movers.now → OwnsItsSteps (component_at movers.now i).alphabet
+        (component_at movers.now i).table }
 {
     for (place, mover) in movers.iter().enumerate() {
         let _alphabet = mover.alphabet();
@@ -156,35 +148,6 @@ pub(crate) fn chosen(movers: &[Mover<'_>], standing: &Standing, number: u32) -> 
     Some(option_at(&standing.restless, agreed, place_among(number, count)))
 }
 
-// Puts a component to another term of its table.
-fn put(
-    alloc: Global,
-    movers: &[Mover<'_>],
-    standing: &mut Standing,
-    place: usize,
-    to: u32,
-) -> Result<(), NoMemory>
-    requires form { IsStanding movers.now standing.old }
-    requires few { length movers.now ≤ MOST_COMPONENTS }
-    requires place { place < length movers.now }
-    requires to { to < (component_at movers.now place).table.count }
-    ensures form { OnOk result (IsStanding movers.now standing.new) }
-    ensures moved { OnOk result (standing.new.terms.items ≡ slice_set standing.old.terms.items place to) }
-    ensures drawn { OnOk result (standing.new.drawn ≡ standing.old.drawn) }
-{
-    let mover = &movers[place];
-    let from = standing.terms[place];
-    exchange(
-        alloc,
-        &mut standing.agreement,
-        mover.offers(from),
-        mover.offers(to),
-    )?;
-    standing.restless.set(place, mover.is_restless(to));
-    standing.terms[place] = to;
-    Ok(())
-}
-
 // A component goes to the term that is drawn.
 fn go_to(
     alloc: Global,
@@ -201,7 +164,16 @@ fn go_to(
     ensures moved { OnOk result (standing.new.terms.items ≡ slice_set standing.old.terms.items place drawn.to) }
     ensures drawn { OnOk result (standing.new.drawn ≡ drawn.number) }
 {
-    put(alloc, movers, standing, place, drawn.to)?;
+    let mover = &movers[place];
+    let from = standing.terms[place];
+    exchange(
+        alloc,
+        &mut standing.agreement,
+        mover.offers(from),
+        mover.offers(drawn.to),
+    )?;
+    standing.restless.set(place, mover.is_restless(drawn.to));
+    standing.terms[place] = drawn.to;
     standing.drawn = drawn.number;
     Ok(())
 }

@@ -28,7 +28,8 @@ fn step(
     requires few { length movers.now ≤ MOST_COMPONENTS }
     requires owners { AreOwnerRows movers.now owners.now }
     ensures form { OnOk result (IsStanding movers.now standing.new) }
-    ensures steps { IfOk result (λ option. MatchOption option (IsAtEnd movers.now standing.old standing.new) (IsStep movers.now number standing.old standing.new)) }
+    ensures steps { IfOk result (λ option. MatchOption option (IsAtEnd movers.now standing.old standing.new)
+        (IsStep movers.now number standing.old standing.new)) }
 {
     match chosen(movers, standing, number) {
         None => Ok(None),
@@ -53,7 +54,8 @@ fn go(
     requires owners { AreOwnerRows movers.now owners.now }
     ensures form { OnOk result (IsStanding movers.now standing.new) }
     ensures walk { IfOk result (λ moves. WalksOn movers.now seed moves.items standing.old standing.new) }
-    ensures count { IfOk result (λ moves. (length moves.items ≡ steps) ⊎ ((length moves.items < steps) × HasNone (Has movers.now standing.new.terms.items))) }
+    ensures count { IfOk result (λ moves. (length moves.items ≡ steps) ⊎
+        ((length moves.items < steps) × HasNone (Has movers.now standing.new.terms.items))) }
 {
     let mut moves = Vec::new(alloc);
     let mut number = seed;
@@ -71,7 +73,8 @@ fn go(
 /// after the seed choose each step, and a second sequence of numbers the targets among which it leaves a choice.
 pub fn walk(alloc: Global, movers: &[Mover<'_>], seed: u32, steps: u32) -> Result<Walk, NoMemory>
     requires { length movers.now ≤ MOST_COMPONENTS }
-    ensures { IfOk result (λ made. IsWalkOf (Has movers.now) (Goes movers.now) seed steps (first_terms movers.now) made.moves.items made.is_stuck) }
+    ensures { IfOk result (λ made. IsWalkOf (Has movers.now) (Goes movers.now) seed steps
+        (first_terms movers.now) made.moves.items made.is_stuck) }
 {
     let owners = owner_rows(alloc, movers)?;
     let mut standing = first_standing(alloc, movers, &owners, first_draw(seed))?;

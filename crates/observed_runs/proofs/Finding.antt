@@ -1,8 +1,5 @@
 -- What was found, and followed to its end, is what runs reach.
-use Rattle.std.proofs.Common.{◌≡◌, ℕ, zero, suc, ◌+◌, ◌<◌, ◌≤◌, List, [], ◌∷◌, ◌++◌, length, true, IsTrue, sym, ap, subst, arith}
-use Rattle.csp_base.proofs.Standard.{and_parts, get_or_from_slice_get, slice_get_within}
-use Rattle.csp_tables.specs.Table.{Node, node_at, node_after, is_possible, is_run, IsRun, end_of}
-use Rattle.observed_runs.specs.Prelude.{observed, LeadsTo, pair_at, AreDistinct, Found, StepsTo, AreFound, HaveOrigins, IsExploration, HasPair, AreFollowed}
+use Rattle.observed_runs.proofs.Prelude.{◌≡◌, ℕ, zero, suc, ◌+◌, ◌<◌, ◌≤◌, List, [], ◌∷◌, ◌++◌, length, true, IsTrue, sym, ap, subst, arith, and_parts, get_or_from_slice_get, slice_get_within, Node, node_at, node_after, is_possible, is_run, IsRun, end_of, observed, LeadsTo, pair_at, AreDistinct, Found, StepsTo, AreFound, HaveOrigins, IsExploration, HasPair, AreFollowed}
 use Rattle.observed_runs.proofs.Leading.{leads_on, leads_nowhere}
 
 module _ (table : List Node) (step : ℕ → ℕ → ℕ) (start : ℕ) where

@@ -1,11 +1,6 @@
 -- Pairs that are added at the end of those that are there, and a row of steps that is followed.
-use Rattle.std.proofs.Common.{◌≡◌, ℕ, ◌+◌, ◌<◌, ◌≤◌, ◌-◌, List, [], ◌∷◌, ◌++◌, length, get_or, true, false, IsTrue, refl, sym, ap, subst, ◌∙◌, arith, inl, inr}
-use Rattle.csp_base.proofs.Standard.{cases_Bool, cases_lt, length-append, get_or_append_left, get_or-append_right, get_or_read}
-use Rattle.csp_base.specs.Members.{has}
+use Rattle.observed_runs.proofs.Prelude.{◌≡◌, ℕ, ◌+◌, ◌<◌, ◌≤◌, ◌-◌, List, [], ◌∷◌, ◌++◌, length, get_or, true, false, IsTrue, refl, sym, ap, subst, ◌∙◌, arith, inl, inr, cases_Bool, cases_lt, length-append, get_or_append_left, get_or-append_right, get_or_read, has, Node, node_at, node_after, is_possible, Part, HasForm, node_form, pair_at, Found, HaveOrigins, StepsTo, HasPair, AreEnough, SeesOnly, IsAdded, Grows, AreExplored, AreFollowed, IsFollowedTo}
 use Rattle.containers.proofs.MembersLemmas.{slice_get-append_left}
-use Rattle.csp_tables.specs.Prelude.{Node, node_at, node_after, is_possible, Part, HasForm}
-use Rattle.csp_tables.proofs.Runs.{node_form}
-use Rattle.observed_runs.specs.Prelude.{pair_at, Found, HaveOrigins, StepsTo, HasPair, AreEnough, SeesOnly, IsAdded, Grows, AreExplored, AreFollowed, IsFollowedTo}
 use Rattle.observed_runs.proofs.Leading.{step_listed, step_within, listed_step}
 
 pub pair_at_left : (xs ys : List (ℕ × ℕ)) (k : ℕ) → k < length xs → pair_at (xs ++ ys) k ≡ pair_at xs k

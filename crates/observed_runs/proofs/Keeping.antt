@@ -1,11 +1,5 @@
 -- Steps that are kept, one more at a time.
-use Rattle.std.proofs.Common.{◌≡◌, ℕ, ◌+◌, ◌-◌, ◌<◌, ◌≤◌, ◌⊎◌, List, [], ◌∷◌, ◌++◌, length, get_or, replicate, true, false, sym, ap, subst, ◌∙◌, arith, inl, inr}
-use Rattle.std.specs.Prelude.{slice_index, slice_set}
-use Rattle.csp_base.proofs.Standard.{cases_eq, cases_lt, both_ways, length-append, get_or_append_left, get_or_past, get_or_read, get_or-replicate, get_or-set_same, get_or-set_other, length-replicate, get_or-append_right}
-use Rattle.csp_base.specs.Members.{has}
-use Rattle.csp_tables.specs.Prelude.{Node, node_at, no_node, Part, HasForm}
-use Rattle.csp_tables.proofs.Runs.{node_form}
-use Rattle.observed_runs.specs.Prelude.{pair_at, HasPair, HasOther, AreEnough, IsKept, AreEnoughSoFar}
+use Rattle.observed_runs.proofs.Prelude.{◌≡◌, ℕ, ◌+◌, ◌-◌, ◌<◌, ◌≤◌, ◌⊎◌, List, [], ◌∷◌, ◌++◌, length, get_or, replicate, true, false, sym, ap, subst, ◌∙◌, arith, inl, inr, slice_index, slice_set, cases_eq, cases_lt, both_ways, length-append, get_or_append_left, get_or_past, get_or_read, get_or-replicate, get_or-set_same, get_or-set_other, length-replicate, get_or-append_right, has, Node, node_at, no_node, Part, HasForm, node_form, pair_at, HasPair, HasOther, AreEnough, IsKept, AreEnoughSoFar}
 use Rattle.observed_runs.proofs.Leading.{step_within}
 use Rattle.observed_runs.proofs.Growing.{grown, last_is, listed_last, listed_still, pair_at_left}
 

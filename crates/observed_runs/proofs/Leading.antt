@@ -1,10 +1,5 @@
 -- Runs that lead to pairs: one more event, and the steps of a node.
-use Rattle.std.proofs.Common.{◌≡◌, ℕ, zero, suc, ◌+◌, ◌-◌, ◌<◌, List, [], ◌∷◌, ◌++◌, length, get_or, true, false, IsTrue, nat_eq, refl, sym, ap, subst, ◌∙◌, arith, inl, inr, eq-eqb}
-use Rattle.csp_base.proofs.Standard.{or_cases, or_left, or_right, eqb-true, false≢true, cases_Bool, cond-true, cond-false, both_ways, reverse-append, append_assoc}
-use Rattle.csp_tables.specs.Prelude.{Node, node_at, is_possible, target, node_after, BeginsAbove, StepsHaveForm}
-use Rattle.observed_runs.specs.Prelude.{observed, LeadsTo, pair_at, AreFound, StepsTo}
-use Rattle.std.specs.Prelude.{reverse}
-use Rattle.csp_tables.proofs.Runs.{run_push, end_push}
+use Rattle.observed_runs.proofs.Prelude.{◌≡◌, ℕ, zero, suc, ◌+◌, ◌-◌, ◌<◌, List, [], ◌∷◌, ◌++◌, length, get_or, true, false, IsTrue, nat_eq, refl, sym, ap, subst, ◌∙◌, arith, inl, inr, eq-eqb, or_cases, or_left, or_right, eqb-true, false≢true, cases_Bool, cond-true, cond-false, both_ways, reverse-append, append_assoc, Node, node_at, is_possible, target, node_after, BeginsAbove, StepsHaveForm, observed, LeadsTo, pair_at, AreFound, StepsTo, reverse, run_push, end_push}
 
 pub observed_push : (step : ℕ → ℕ → ℕ) (state : ℕ) (u : List ℕ) (e : ℕ) → observed step state (u ++ e ∷ []) ≡ step (observed step state u) e
 observed_push step state [] e = refl

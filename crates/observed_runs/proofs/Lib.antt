@@ -3,4 +3,5 @@ pub mod Growing
 pub mod Keeping
 pub mod Leading
 pub mod Marking
+pub mod Prelude
 pub mod Runs

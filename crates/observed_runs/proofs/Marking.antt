@@ -1,9 +1,7 @@
 -- Pairs that are marked, one at a time.
-use Rattle.std.proofs.Common.{◌≡◌, ℕ, ◌<◌, ◌⊎◌, List, [], ◌∷◌, ◌++◌, length, get_or, set, false, IsTrue, ◌||◌, nat_eq, ◌≢◌, eq-eqb, refl, sym, ap, subst, ◌∙◌, arith, inl, inr}
-use Rattle.csp_base.proofs.Standard.{cases_lt, cases_eq, eqb-true, false≢true, or_left, or_right, or_cases, get_or-set_same, get_or-set_other, length-append}
-use Rattle.csp_base.specs.Events.{has, with_member}
+use Rattle.observed_runs.proofs.Prelude.{◌≡◌, ℕ, ◌<◌, ◌⊎◌, List, [], ◌∷◌, ◌++◌, length, get_or, set, false, IsTrue, ◌||◌, nat_eq, ◌≢◌, eq-eqb, refl, sym, ap, subst, ◌∙◌, arith, inl, inr, cases_lt, cases_eq, eqb-true, false≢true, or_left, or_right, or_cases, get_or-set_same, get_or-set_other, length-append, with_member, pair_at, HasPair, AreMarked, is_marked}
+use Rattle.csp_base.specs.Events.{has}
 use Rattle.csp_base.proofs.SetLaws.{has-with_member}
-use Rattle.observed_runs.specs.Prelude.{pair_at, HasPair, AreMarked, is_marked}
 use Rattle.observed_runs.proofs.Growing.{grown, last_pair, listed_last, listed_still, pair_at_left, same_two}
 
 module _ (seen : List (List ℕ)) (pair : ℕ × ℕ) (room : pair.0 < length seen) where

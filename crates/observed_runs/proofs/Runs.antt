@@ -1,6 +1,5 @@
 -- Runs that are looked for where a place is given.
-use Rattle.std.proofs.Common.{◌≡◌, Result, Ok, Err, Option, Some, None, refl, sym, subst}
-use Rattle.std.specs.Prelude.{IfOk, IfSome, IsOkAnd, IsSomeAnd, MatchOption, MatchResult}
+use Rattle.observed_runs.proofs.Prelude.{◌≡◌, Result, Ok, Err, Option, Some, None, refl, sym, subst, IfOk, IsOkAnd, IsSomeAnd, MatchOption, MatchResult}
 
 pub if_some : {T E : Type 0} (made : Result T E) (result : Result (Option T) E) (P : T → Type 0) → MatchResult made (λ x. IsOkAnd result (λ y. y ≡ Some x)) (λ e. result ≡ Err e) → IfOk made P → IfOk result (λ y. IsSomeAnd y P)
 if_some (Ok x) (Ok y) P is p = subst (λ z. IsSomeAnd z P) (sym is) p
@@ -13,6 +12,3 @@ either_way (Ok run) None L Q is none some = subst Q (sym is) (none refl)
 either_way (Ok None) (Some k) L Q is none some = absurd is
 either_way (Ok (Some s)) (Some k) L Q is none some = some k s refl is
 either_way (Err e) place L Q is none some = tt
-
-pub at_some : {K : Type 0} (place : Option K) (k : K) (P : K → Type 0) → place ≡ Some k → IfSome place P → P k
-at_some place k P is h = subst (λ p. IfSome p P) is h

@@ -44,6 +44,9 @@ impl Explored {
         requires { origin.0 < length self.old.pairs }
         ensures { OnOk result (IsAdded self.old pair origin self.new) }
     {
+        if self.pairs.contains(pair) {
+            return Ok(());
+        }
         self.origins.reserve(1)?;
         if self.pairs.insert(pair)? {
             self.origins.push(origin)?;

@@ -1,6 +1,6 @@
 //! Pairs of numbers in the order in which they are first seen.
 
-ghost use Rattle.std.specs.Prelude.{◌≡◌, ◌<◌, ◌≤◌, ◌++◌, ◌∷◌, [], ℕ, length, IfOk, OnErr, OnOk, if◌then◌else◌};
+ghost use Rattle.std.specs.Prelude.{◌≡◌, ◌<◌, ◌≤◌, ◌++◌, ◌∷◌, [], ℕ, length, IfOk, MatchBool, OnErr, OnOk, if◌then◌else◌};
 ghost use Rattle.observed_runs.specs.Prelude.{HasPair, AreDistinct, is_marked};
 
 use csp_base::{Event, EventSet, NoMemory};
@@ -45,6 +45,13 @@ impl Pairs {
         ensures distinct { AreDistinct self.now }
     {
         self.pairs.as_slice()
+    }
+
+    /// Whether the pair is there.
+    pub fn contains(&self, pair: (u32, u32)) -> bool
+        ensures { MatchBool result (HasPair self.now pair) (HasPair self.now pair → ⊥) }
+    {
+        has_mark(&self.seen, pair)
     }
 
     /// Puts the pair at the end if it is new, and answers whether it is.

@@ -1,7 +1,5 @@
 -- What a chain of outcomes comes to, and what lists that are joined from outcomes have.
-use Rattle.std.proofs.Common.{◌≡◌, ℕ, zero, suc, ◌+◌, IfOk, IsOkAnd, Some, Ok, Err, List, [], ◌∷◌, slice_get, refl, inl, inr, subst, sym, arith}
-use Rattle.csp_program.specs.Outcome.{Outcome, and_then}
-use Rattle.process_steps.specs.Needed.{each_joined}
+use Rattle.process_steps.proofs.Prelude.{◌≡◌, ℕ, zero, suc, ◌+◌, IfOk, IsOkAnd, Some, Ok, Err, List, [], ◌∷◌, slice_get, refl, inl, inr, subst, sym, arith, Outcome, and_then, each_joined}
 use Rattle.process_steps.proofs.Members.{Among, in_either, in_left, in_right}
 
 -- there is a value

@@ -1,22 +1,12 @@
 -- Each step by the relation stands in the list of a process, where it has one; a process that lacks no value has one.
-use Rattle.std.proofs.Common.{◌≡◌, ℕ, ◌+◌, Bool, true, false, if◌then◌else◌, Some, Ok, List, [], ◌∷◌, map, slice_get, refl, ap, sym, subst, inl, arith}
-use Rattle.csp_base.specs.Members.{has}
-use Rattle.csp_program.specs.Prelude.{given_by, proc_with, sets_of}
-use Rattle.csp_program.specs.declared.expressions.EventPart.{EventPart}
-use Rattle.csp_program.specs.declared.expressions.Expr.{Expr}
-use Rattle.csp_program.specs.declared.expressions.Gen.{Gen}
-use Rattle.csp_program.specs.declared.processes.Proc.{Proc}
-use Rattle.csp_program.specs.declared.programs.Content.{Content}
+use Rattle.process_steps.proofs.Prelude.{◌≡◌, ℕ, ◌+◌, Bool, true, false, if◌then◌else◌, Some, Ok, List, [], ◌∷◌, map, slice_get, refl, ap, sym, subst, inl, arith, has, given_by, proc_with, sets_of, EventPart, Expr, Gen, Proc, Content, arguments_in, called, events_in, set_in, truth_in, event_of, Renamed, images, renaming_in, Step, each_put, call, each_external, each_internal, event, external_event, external_silent, external_tick, guard, hide_hidden, hide_seen, hide_silent, hide_tick, if_false, if_true, internal, prefix, rename_event, rename_silent, rename_tick, sequence_event, sequence_silent, sequence_tick, skip, Move, in_choice, in_hiding, in_renaming, in_sequence, silent_to, some_silent_to, steps_of, channel, of_channel, ways_to_fill, Silent, Visible, Tick, One}
 use Rattle.process_steps.specs.LacksNone as lacking
-use Rattle.process_steps.specs.Prelude.{arguments_in, called, events_in, set_in, truth_in, event_of, Renamed, images, renaming_in, Step, each_put, call, each_external, each_internal, event, external_event, external_silent, external_tick, guard, hide_hidden, hide_seen, hide_silent, hide_tick, if_false, if_true, internal, prefix, rename_event, rename_silent, rename_tick, sequence_event, sequence_silent, sequence_tick, skip, Move, in_choice, in_hiding, in_renaming, in_sequence, silent_to, some_silent_to, steps_of, channel, of_channel, ways_to_fill}
 use Rattle.process_steps.specs.declared.label.Label.{Label}
-use Rattle.process_steps.specs.declared.label.Label.TheVariants.{Silent, Visible, Tick}
 use Rattle.process_steps.proofs.Chains.{IsThere, Lists, each_there, if_of, lists_each, onward, then_there, where_is, where_ok}
 use Rattle.process_steps.proofs.Equations as equation
 use Rattle.process_steps.proofs.Fillings.{fields_there, fills_complete, nothing_put}
 use Rattle.process_steps.proofs.Members.{Among, at_place, in_joined, in_map}
 use Rattle.csp_atoms.specs.declared.atom.Atom.TheVariants as atom
-use Rattle.csp_atoms.specs.declared.value.Value.TheVariants.{One}
 use Rattle.csp_program.specs.declared.processes.Head.TheVariants as head
 use Rattle.csp_program.specs.declared.processes.Proc.TheVariants as proc
 

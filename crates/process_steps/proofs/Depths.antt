@@ -1,16 +1,7 @@
 -- How deep the processes below a process are, and that the steps of a process do not depend on how much more depth is left.
-use Rattle.std.proofs.Common.{◌≡◌, ℕ, zero, suc, ◌+◌, ◌<◌, ◌≤◌, Some, Ok, List, [], ◌∷◌, map, slice_get, refl, ap, sym, ◌∙◌, arith}
-use Rattle.csp_program.specs.Prelude.{proc_depth, proc_depth_of_layer, Outcome, and_then, one}
-use Rattle.csp_program.specs.declared.processes.Proc.{Proc}
+use Rattle.process_steps.proofs.Prelude.{◌≡◌, ℕ, zero, suc, ◌+◌, ◌<◌, ◌≤◌, Some, Ok, List, [], ◌∷◌, map, slice_get, refl, ap, sym, ◌∙◌, arith, proc_depth, proc_depth_of_layer, Outcome, and_then, one, Proc, Proc-F, out-Proc, roll-Proc, roll-out-Proc, Content, each_joined, set_in, each_put, Move, in_choice, steps_of, steps_of_layer, steps_within, Atom, One, greatest}
 use Rattle.csp_program.specs.declared.processes.Proc.TheFolds.{fold-roll-Proc, map-Proc}
-use Rattle.csp_program.specs.declared.processes.Proc.TheOpen.{Proc-F}
-use Rattle.csp_program.specs.declared.processes.Proc.TheViews.{out-Proc, roll-Proc, roll-out-Proc}
-use Rattle.csp_program.specs.declared.programs.Content.{Content}
-use Rattle.process_steps.specs.Prelude.{each_joined, set_in, each_put, Move, in_choice, steps_of, steps_of_layer, steps_within}
 use Rattle.substitution.proofs.Keeps.{proc_keeps_depth}
-use Rattle.csp_atoms.specs.declared.atom.Atom.{Atom}
-use Rattle.csp_atoms.specs.declared.value.Value.TheVariants.{One}
-use Rattle.csp_base.specs.Lists.{greatest}
 
 -- the depth of a layer over the processes below
 unfoldable pub layer_depth : Proc-F Proc → ℕ

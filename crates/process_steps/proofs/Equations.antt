@@ -1,16 +1,7 @@
 -- The steps of each form of a process.
-use Rattle.std.proofs.Common.{◌≡◌, ℕ, List, ap, sym, ◌∙◌}
-use Rattle.process_steps.specs.StepList.{steps_of, steps_of_layer}
+use Rattle.process_steps.proofs.Prelude.{◌≡◌, ℕ, List, ap, sym, ◌∙◌, steps_of_layer, EventPart, Expr, Gen, Field, Head, Proc, Proc-F, out-Proc, out-roll-Proc, roll-Proc, Content}
+use Rattle.process_steps.specs.StepList.{steps_of}
 use Rattle.process_steps.proofs.Depths.{of_layer}
-use Rattle.csp_program.specs.declared.expressions.EventPart.{EventPart}
-use Rattle.csp_program.specs.declared.expressions.Expr.{Expr}
-use Rattle.csp_program.specs.declared.expressions.Gen.{Gen}
-use Rattle.csp_program.specs.declared.processes.Field.{Field}
-use Rattle.csp_program.specs.declared.processes.Head.{Head}
-use Rattle.csp_program.specs.declared.processes.Proc.{Proc}
-use Rattle.csp_program.specs.declared.processes.Proc.TheOpen.{Proc-F}
-use Rattle.csp_program.specs.declared.processes.Proc.TheViews.{out-Proc, out-roll-Proc, roll-Proc}
-use Rattle.csp_program.specs.declared.programs.Content.{Content}
 use Rattle.csp_program.specs.declared.processes.Proc.TheVariants as proc
 
 -- where the process t has the layer d
@@ -58,5 +49,3 @@ steps-Seq p q r = of_form p (proc.Seq q r) (Proc-F.Seq q r) (proc.rolls-Seq q r)
 
 pub steps-Ended : (p : Content) → steps_of p proc.Ended ≡ steps_of_layer p (steps_of p) Proc-F.Ended
 steps-Ended p = of_form p proc.Ended Proc-F.Ended proc.rolls-Ended
-
-pub ruleset step_forms = (steps-Stop, steps-Prefix, steps-Guard, steps-If, steps-External, steps-Internal, steps-EachExternal, steps-EachInternal, steps-Hide, steps-Rename, steps-Call, steps-Skip, steps-Seq, steps-Ended)

@@ -5,4 +5,5 @@ pub mod Equations
 pub mod Fillings
 pub mod Listed
 pub mod Members
+pub mod Prelude
 pub mod Sound

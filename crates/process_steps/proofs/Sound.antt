@@ -1,26 +1,11 @@
 -- Where a process has a list of steps, each of them is one by the relation, and the process lacks no value.
-use Rattle.std.proofs.Common.{◌≡◌, ℕ, zero, suc, ◌+◌, ◌<◌, ◌≤◌, IfOk, Bool, true, false, if◌then◌else◌, Option, Some, None, Ok, Err, List, [], ◌∷◌, map, slice_get, refl, sym, subst, inl, inr, arith}
-use Rattle.csp_base.specs.Prelude.{greatest, has}
-use Rattle.csp_program.specs.Prelude.{proc_depth, Outcome, and_then, given_by, proc_with, sets_of}
-use Rattle.csp_program.specs.declared.expressions.EventPart.{EventPart}
-use Rattle.csp_program.specs.declared.expressions.Expr.{Expr}
-use Rattle.csp_program.specs.declared.expressions.Gen.{Gen}
-use Rattle.csp_program.specs.declared.processes.Field.{Field}
-use Rattle.csp_program.specs.declared.processes.Head.{Head}
-use Rattle.csp_program.specs.declared.processes.Proc.{Proc}
-use Rattle.csp_program.specs.declared.processes.Proc.TheOpen.{Proc-F}
-use Rattle.csp_program.specs.declared.processes.Proc.TheViews.{out-Proc, roll-Proc, roll-out-Proc}
-use Rattle.csp_program.specs.declared.programs.Content.{Content}
+use Rattle.process_steps.proofs.Prelude.{◌≡◌, ℕ, zero, suc, ◌+◌, ◌<◌, ◌≤◌, IfOk, Bool, true, false, if◌then◌else◌, Option, Some, None, Ok, Err, List, [], ◌∷◌, map, slice_get, refl, sym, subst, inl, inr, arith, greatest, has, proc_depth, Outcome, and_then, given_by, proc_with, sets_of, EventPart, Expr, Gen, Field, Head, Proc, Proc-F, out-Proc, roll-Proc, roll-out-Proc, Content, arguments_in, called, events_in, set_in, truth_in, event_of, Renamed, images, renaming_in, Step, each_put, Move, in_choice, in_hiding, in_renaming, in_sequence, silent_to, some_silent_to, steps_of, steps_of_choice, steps_of_layer, steps_within, event_among, of_channel, sets_among, ways_to_fill, Silent, Visible, Tick, Atom, One}
 use Rattle.process_steps.specs.LacksNone as lacking
-use Rattle.process_steps.specs.Prelude.{arguments_in, called, events_in, set_in, truth_in, event_of, Renamed, images, renaming_in, Step, each_put, Move, in_choice, in_hiding, in_renaming, in_sequence, silent_to, some_silent_to, steps_of, steps_of_choice, steps_of_layer, steps_within, event_among, of_channel, sets_among, ways_to_fill}
-use Rattle.process_steps.specs.declared.label.Label.TheVariants.{Silent, Visible, Tick}
 use Rattle.process_steps.specs.Step as step
 use Rattle.process_steps.proofs.Chains.{and_of, from_each, if_any, if_of, there_each, through, where_ok}
 use Rattle.process_steps.proofs.Depths.{depth_at, depth_of_out, layer_depth, no_depth, put_depths}
 use Rattle.process_steps.proofs.Fillings.{fields_lack_none, fills_sound, nothing_put}
 use Rattle.process_steps.proofs.Members.{Among, from_joined, from_map, placed}
-use Rattle.csp_atoms.specs.declared.atom.Atom.{Atom}
-use Rattle.csp_atoms.specs.declared.value.Value.TheVariants.{One}
 use Rattle.csp_atoms.specs.declared.atom.Atom.TheVariants as atom
 use Rattle.csp_program.specs.declared.processes.Head.TheVariants as head
 use Rattle.csp_program.specs.declared.processes.Proc.TheVariants as proc

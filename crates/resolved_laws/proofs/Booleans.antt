@@ -1,7 +1,5 @@
 -- What `&&`, `||` and `not` say of their parts.
-use Rattle.std.proofs.Common.{Bool, true, false, ◌&&◌, IsTrue, refl}
-use Rattle.std.proofs.lemmas.Bool.{false≢true}
-use Rattle.csp_base.proofs.Booleans.{is_and}
+use Rattle.resolved_laws.proofs.Sources.{Bool, true, false, ◌&&◌, IsTrue, refl, false≢true, is_and}
 
 pub and : {a b : Bool} → IsTrue a → IsTrue b → IsTrue (a && b)
 and {a} {b} h g = is_and a b h g

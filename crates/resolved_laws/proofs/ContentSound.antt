@@ -1,18 +1,9 @@
 -- What typed declarations put into a program is in order, closed, and binds each number once.
-use Rattle.std.proofs.Common.{◌≡◌, ℕ, zero, suc, ◌+◌, ◌≤◌, Bool, true, false, nat_eq, nat_lt, IsTrue, Option, Some, None, List, [], ◌∷◌, ◌++◌, length, map, refl, sym, ◌∙◌, ap, subst, arith}
-use Rattle.std.specs.Prelude.{slice_get}
-use Rattle.csp_base.proofs.Standard.{false≢true, eqb-true, false_from_ne_true, lt-ltb, length-append}
-use Rattle.csp_base.proofs.Booleans.{is_or_first, is_or_second}
+use Rattle.resolved_laws.proofs.Sources.{◌≡◌, ℕ, zero, suc, ◌+◌, ◌≤◌, Bool, true, false, nat_eq, nat_lt, IsTrue, Option, Some, None, List, [], ◌∷◌, ◌++◌, length, map, refl, sym, ◌∙◌, ap, subst, arith, slice_get, false_from_ne_true, lt-ltb, length-append, is_or_first, is_or_second, Every, body_bound, def_bound, exprs_bound, Names, IsClosed, any_of, expr_free, AllClosed, IsClosedBody, body_free, body_in_order, def_in_order, expr_in_order, is_component, is_datum, is_process, note_fits, param_count, resource_in_order, roles_in_order, set_fits, takes, all_true, body_uses, IsShallow, Declares, IsAnnotated, IsEventSet, channels_of_types, Counts, Meanings, Name, numbers_from, parameters, Atom, Body, Channel, Content, Decl, Def, Expr, Kind, Class, Entity}
+use Rattle.csp_base.proofs.Standard.{false≢true, eqb-true}
 use Rattle.csp_base.specs.Prelude.{EachOnce, has}
-use Rattle.csp_program.proofs.Forms.{Every}
-use Rattle.csp_program.specs.Prelude.{body_bound, def_bound, exprs_bound, Names, IsClosed, any_of, expr_free, AllClosed, IsClosedBody, body_free, body_in_order, def_in_order, expr_in_order, is_component, is_datum, is_process, note_fits, param_count, resource_in_order, roles_in_order, set_fits, takes, all_true, body_uses}
 use Rattle.csp_program.specs.InOrder as order
-use Rattle.csp_program.specs.declared.programs.Body.TheVariants as body
-use Rattle.script_names.specs.declared.kinds.Class.TheVariants as class
-use Rattle.script_names.specs.declared.kinds.Entity.TheVariants as entity
-use Rattle.script_names.specs.Prelude.{IsShallow, Declares, IsAnnotated, IsEventSet, channels_of_types, Counts, Meanings, Name, numbers_from, parameters}
 use Rattle.script_names.specs.Declaring as d
-use Rattle.resolved_laws.proofs.Sources.{Atom, Body, Channel, Content, Decl, Def, Expr, Kind}
 use Rattle.resolved_laws.proofs.Booleans.{and, two}
 use Rattle.resolved_laws.proofs.Declared.{Fits}
 use Rattle.resolved_laws.proofs.InTurn.{InTurn, Rises, each_once, joins, none}
@@ -52,11 +43,11 @@ takes_count of_class n None h = absurd (false≢true h)
 takes_count of_class n (Some def) h = sym (eqb-true (length def.params) n (two (of_class def.body) (nat_eq (length def.params) n) h).1)
 
 process_component : (b : Body) → IsTrue (is_process b) → IsTrue (is_component b)
-process_component (body.Process q) h = refl
+process_component (Body.Process q) h = refl
 process_component _ h = absurd (false≢true h)
 
 network_component : (b : Body) → IsTrue (order.is_network b) → IsTrue (is_component b)
-network_component (body.Network q) h = refl
+network_component (Body.Network q) h = refl
 network_component _ h = absurd (false≢true h)
 
 takes_component : (of_class : Body → Bool) → ((b : Body) → IsTrue (of_class b) → IsTrue (is_component b)) → (n : ℕ) (def : Option Def)
@@ -93,8 +84,8 @@ module _ (m : Meanings) (ks : List Kind) (p whole : Content) (fits : Fits m ks p
 
   -- ---- annotations
 
-  component_of : (x : Name) (d k : ℕ) (b : Bool) → m x ≡ Some (entity.Definition d k)
-      → slice_get ks d ≡ Some (record { class = class.Process; network = b })
+  component_of : (x : Name) (d k : ℕ) (b : Bool) → m x ≡ Some (Entity.Definition d k)
+      → slice_get ks d ≡ Some (record { class = Class.Process; network = b })
       → IsTrue (takes is_component k (slice_get p.defs d))
   component_of x d k true is kind = takes_component order.is_network network_component k (slice_get p.defs d) (fits.network x d k is kind)
   component_of x d k false is kind = takes_component is_process process_component k (slice_get p.defs d) (fits.process x d k is kind)
@@ -133,14 +124,9 @@ module _ (m : Meanings) (ks : List Kind) (p whole : Content) (fits : Fits m ks p
       → Declares m ks whole HasSets n decls q all → n.constants + length q.consts ≡ length p.consts → Sound n q
   content_sound d.nothing h = record { channels = tt; defs = tt; roles = refl; resources = refl; last = 0; root = stop_sound m ks p fits }
   content_sound (d.channels {xs = xs} {es = es} {p = q} g found l) h =
-      let w = exprs_sound m ks p fits g in let v = content_sound l h in record {
-        channels = channels_sound xs es q.channels (record { order = w.order; closed = all_closed es w.free; once = each_once w.turn }) v.channels;
-        defs = v.defs;
-        roles = v.roles;
-        resources = v.resources;
-        last = v.last;
-        root = v.root;
-      }
+      let w = exprs_sound m ks p fits g in let v = content_sound l h in
+      let cs = channels_sound xs es q.channels (record { order = w.order; closed = all_closed es w.free; once = each_once w.turn }) v.channels in
+      record { channels = cs; defs = v.defs; roles = v.roles; resources = v.resources; last = v.last; root = v.root }
   content_sound {n} (d.datatype {x = x} {cs = cs} {p = q} l) h =
       let e : length (cs ++ q.consts) ≡ length cs + length q.consts = length-append cs q.consts in
       let e' : n.constants + (length cs + length q.consts) ≡ length p.consts = ap (λ i. n.constants + i) (sym e) ∙ h in
@@ -162,34 +148,24 @@ module _ (m : Meanings) (ks : List Kind) (p whole : Content) (fits : Fits m ks p
       }
   content_sound {n} (d.nametype {m = k} {x = x} {e = e} g s l) h =
       let w = expr_sound m ks p fits g in let v = content_sound l h in
-      with_def (def_sound n.definitions x [] (body.Nametype e) k (and refl w.order) w.free w.turn (λ j t. s), v.defs) v
+      with_def (def_sound n.definitions x [] (Body.Nametype e) k (and refl w.order) w.free w.turn (λ j t. s), v.defs) v
   content_sound {n} (d.data_definition {m = k} {x = x} {params = xs} {e = e} ps is g s l) h =
       let w = expr_sound m ks p fits g in let v = content_sound l h in
-      with_def (def_sound n.definitions x xs (body.Datum e) k w.order w.free w.turn (λ j t. s), v.defs) v
+      with_def (def_sound n.definitions x xs (Body.Datum e) k w.order w.free w.turn (λ j t. s), v.defs) v
   content_sound {n} (d.process_definition {m = k} {x = x} {params = xs} {q = r} ps is g l) h =
       let w = proc_sound m ks p fits g in let v = content_sound l h in
-      with_def (def_sound n.definitions x xs (body.Process r) k w.order w.free w.turn (λ j t. absurd (false≢true t)), v.defs) v
+      with_def (def_sound n.definitions x xs (Body.Process r) k w.order w.free w.turn (λ j t. absurd (false≢true t)), v.defs) v
   content_sound {n} (d.network_definition {m = k} {x = x} {params = xs} {w = r} ps is g l) h =
       let w = net_sound m ks p fits g in let v = content_sound l h in
-      with_def (def_sound n.definitions x xs (body.Network r) k w.order w.free w.turn (λ j t. absurd (false≢true t)), v.defs) v
+      with_def (def_sound n.definitions x xs (Body.Network r) k w.order w.free w.turn (λ j t. absurd (false≢true t)), v.defs) v
   content_sound (d.assertion {m = k} g l) h =
       let v = content_sound l h in
       record { channels = v.channels; defs = v.defs; roles = v.roles; resources = v.resources; last = k; root = net_sound m ks p fits g }
   content_sound (d.roles a b c e f l) h =
-      let v = content_sound l h in record {
-        channels = v.channels;
-        defs = v.defs;
-        roles = and (and (note_sound a) (and (set_sound a b) (and (set_sound a c) (and (set_sound a e) (set_sound a f))))) v.roles;
-        resources = v.resources;
-        last = v.last;
-        root = v.root;
-      }
+      let v = content_sound l h in
+      let roles = and (and (note_sound a) (and (set_sound a b) (and (set_sound a c) (and (set_sound a e) (set_sound a f))))) v.roles in
+      record { channels = v.channels; defs = v.defs; roles = roles; resources = v.resources; last = v.last; root = v.root }
   content_sound (d.resource a b c l) h =
-      let v = content_sound l h in record {
-        channels = v.channels;
-        defs = v.defs;
-        roles = v.roles;
-        resources = and (and (note_sound a) (and (set_sound a b) (set_sound a c))) v.resources;
-        last = v.last;
-        root = v.root;
-      }
+      let v = content_sound l h in
+      let resources = and (and (note_sound a) (and (set_sound a b) (set_sound a c))) v.resources in
+      record { channels = v.channels; defs = v.defs; roles = v.roles; resources = resources; last = v.last; root = v.root }

@@ -1,7 +1,5 @@
 -- Lists of numbers that rise: what trees bind is numbered in turn.
-use Rattle.std.proofs.Common.{◌≡◌, ℕ, zero, suc, ◌+◌, ◌≤◌, Some, List, [], ◌∷◌, ◌++◌, refl, ap, arith}
-use Rattle.std.specs.Prelude.{slice_get}
-use Rattle.csp_base.specs.Lists.{EachOnce}
+use Rattle.resolved_laws.proofs.Sources.{◌≡◌, ℕ, zero, suc, ◌+◌, ◌≤◌, Some, List, [], ◌∷◌, ◌++◌, refl, ap, arith, slice_get, EachOnce}
 
 -- the list rises strictly, from n on and below m
 abbrev pub Rises : ℕ → List ℕ → ℕ → Type 0

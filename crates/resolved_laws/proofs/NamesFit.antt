@@ -1,18 +1,11 @@
 -- The names that a script declares fit a program that holds what its declarations put there, in the order of their numbers.
-use Rattle.std.proofs.Common.{◌≡◌, ℕ, zero, suc, ◌+◌, ◌<◌, Bool, true, false, cond, nat_eq, nat_lt, IsTrue, Option, Some, None, List, [], ◌∷◌, ◌++◌, length, refl, sym, ◌∙◌, ap, subst, arith}
-use Rattle.std.specs.Prelude.{slice_get}
+use Rattle.resolved_laws.proofs.Sources.{◌≡◌, Every, ℕ, zero, suc, ◌+◌, ◌<◌, Bool, true, false, cond, nat_eq, nat_lt, IsTrue, Option, Some, None, List, [], ◌∷◌, ◌++◌, length, refl, sym, ◌∙◌, ap, subst, arith, slice_get, lt-ltb, length-append, is_datum, is_process, is_set_name, takes, with_fields, Declares, channels_of_types, kind_class, kind_network, Counts, Entities, Meanings, Name, channels_from, constants_from, counted, declared_from, meanings_of, none_yet, same_name, numbers_from, IsData, IsNetwork, IsProcess, Atom, Body, Channel, Content, Decl, Def, Entity, Expr, Kind, Class}
 use Rattle.std.specs.Map.{lookup}
-use Rattle.csp_base.proofs.Standard.{eq-eqb, lt-ltb, length-append}
-use Rattle.csp_program.specs.Prelude.{is_datum, is_process, is_set_name, takes, with_fields}
+use Rattle.csp_base.proofs.Standard.{eq-eqb}
 use Rattle.csp_program.specs.InOrder as order
-use Rattle.csp_program.specs.declared.programs.Body.TheVariants as body
-use Rattle.csp_text.specs.declared.script.Decl.TheVariants as decl
-use Rattle.script_names.specs.declared.kinds.Class.TheVariants as class
-use Rattle.script_names.specs.Prelude.{Declares, channels_of_types, kind_class, kind_network, Counts, Entities, Meanings, Name, channels_from, constants_from, counted, declared_from, meanings_of, none_yet, same_name, numbers_from, IsData, IsNetwork, IsProcess}
-use Rattle.script_names.specs.declared.kinds.Entity.TheVariants as entity
 use Rattle.script_names.specs.Declaring as d
-use Rattle.resolved_laws.proofs.Sources.{Atom, Body, Channel, Content, Decl, Def, Entity, Expr, Kind}
 use Rattle.resolved_laws.proofs.Booleans.{and}
+use Rattle.typed_laws.proofs.Passing.{join}
 use Rattle.resolved_laws.proofs.Declared.{Fits}
 use Rattle.resolved_laws.proofs.Sound.{count_exprs}
 
@@ -41,18 +34,13 @@ module _ (m : Meanings) (ks : List Kind) (p : Content) where
     pub network : IsNetwork m ks d → IsTrue (takes order.is_network n (slice_get p.defs d))
 
   abbrev pub EntityFits : Entity → Type 0
-  EntityFits (entity.Channel c n) = IsTrue (with_fields (λ k. nat_eq k n) (slice_get p.channels c))
-  EntityFits (entity.Constant k) = IsTrue (nat_lt k (length p.consts))
-  EntityFits (entity.Definition d n) = DefFits d n
-  EntityFits (entity.Set d) = IsTrue (takes is_set_name 0 (slice_get p.defs d))
+  EntityFits (Entity.Channel c n) = IsTrue (with_fields (λ k. nat_eq k n) (slice_get p.channels c))
+  EntityFits (Entity.Constant k) = IsTrue (nat_lt k (length p.consts))
+  EntityFits (Entity.Definition d n) = DefFits d n
+  EntityFits (Entity.Set d) = IsTrue (takes is_set_name 0 (slice_get p.defs d))
 
   abbrev pub AllFit : Entities → Type 0
-  AllFit [] = Unit {0}
-  AllFit (e ∷ es) = EntityFits e.1 × AllFit es
-
-  append_fit : (es gs : Entities) → AllFit es → AllFit gs → AllFit (es ++ gs)
-  append_fit [] gs h g = g
-  append_fit (e ∷ es) gs h g = (h.0, append_fit es gs h.1 g)
+  AllFit es = Every (λ (e : Name × Entity). EntityFits e.1) es
 
   -- the channels of p have the numbers of fields of those that stand here
   abbrev pub ChannelsFrom : ℕ → List Channel → Type 0
@@ -83,7 +71,7 @@ module _ (m : Meanings) (ks : List Kind) (p : Content) where
     pub consts : n.constants + length q.consts ≡ length p.consts
     pub defs : StandsFrom p.defs n.definitions q.defs
 
-  not_both : (o : Option Kind) → kind_class o ≡ class.Data → kind_class o ≡ class.Process → ⊥
+  not_both : (o : Option Kind) → kind_class o ≡ Class.Data → kind_class o ≡ Class.Process → ⊥
   not_both o h g = absurd (cc)
 
   not_network : (o : Option Kind) → kind_network o ≡ false → kind_network o ≡ true → ⊥
@@ -117,37 +105,37 @@ module _ (m : Meanings) (ks : List Kind) (p : Content) where
     entities_fit d.nothing h = tt
     entities_fit {n} (d.channels {xs = xs} {types = types} {es = es} {decls = decls} {p = q} g found l) h =
         let w = channels_fit n.channels (length types) xs es q.channels (count_exprs g) h.channels in
-        append_fit (channels_from n.channels (length types) xs) (declared_from (counted n (decl.Channel xs types)) decls) w.0
+        join (λ (e : Name × Entity). EntityFits e.1) (channels_from n.channels (length types) xs) (declared_from (counted n (Decl.Channel xs types)) decls) w.0
         (entities_fit l (record { channels = w.1; consts = h.consts; defs = h.defs }))
     entities_fit {n} (d.datatype {x = x} {cs = cs} {decls = decls} {p = q} l) h =
-        let def : Def = record { name = x; params = []; body = body.Datatype (numbers_from n.constants (length cs)) } in
+        let def : Def = record { name = x; params = []; body = Body.Datatype (numbers_from n.constants (length cs)) } in
         let e : length (cs ++ q.consts) ≡ length cs + length q.consts = length-append cs q.consts in
         let e' : n.constants + (length cs + length q.consts) ≡ length p.consts = ap (λ i. n.constants + i) (sym e) ∙ h.consts in
         let e'' : n.constants + length cs + length q.consts ≡ length p.consts = omega (arith, e') in (
           takes_so is_set_name n.definitions 0 def (stands_here p.defs n.definitions def q.defs h.defs) refl refl,
-          append_fit (constants_from n.constants cs) (declared_from (counted n (decl.Datatype x cs)) decls)
+          join (λ (e : Name × Entity). EntityFits e.1) (constants_from n.constants cs) (declared_from (counted n (Decl.Datatype x cs)) decls)
               (constants_fit n.constants cs (length q.consts) e')
               (entities_fit l (record { channels = h.channels; consts = e''; defs = stands_on p.defs n.definitions def q.defs h.defs })),
         )
     entities_fit {n} (d.nametype {x = x} {e = e} {p = q} g s l) h =
-        let def : Def = record { name = x; params = []; body = body.Nametype e } in (
+        let def : Def = record { name = x; params = []; body = Body.Nametype e } in (
           takes_so is_set_name n.definitions 0 def (stands_here p.defs n.definitions def q.defs h.defs) refl refl,
           entities_fit l (record { channels = h.channels; consts = h.consts; defs = stands_on p.defs n.definitions def q.defs h.defs }),
         )
     entities_fit {n} (d.data_definition {x = x} {params = params} {e = e} {p = q} ps is g s l) h =
-        let def : Def = record { name = x; params = numbers_from 0 (length params); body = body.Datum e } in (
+        let def : Def = record { name = x; params = numbers_from 0 (length params); body = Body.Datum e } in (
           datum_fits n.definitions (length params) is (takes_so is_datum n.definitions (length params) def
               (stands_here p.defs n.definitions def q.defs h.defs) refl (length_numbers 0 (length params))),
           entities_fit l (record { channels = h.channels; consts = h.consts; defs = stands_on p.defs n.definitions def q.defs h.defs }),
         )
     entities_fit {n} (d.process_definition {x = x} {params = params} {q = r} {p = q} ps is g l) h =
-        let def : Def = record { name = x; params = numbers_from 0 (length params); body = body.Process r } in (
+        let def : Def = record { name = x; params = numbers_from 0 (length params); body = Body.Process r } in (
           process_fits n.definitions (length params) is (takes_so is_process n.definitions (length params) def
               (stands_here p.defs n.definitions def q.defs h.defs) refl (length_numbers 0 (length params))),
           entities_fit l (record { channels = h.channels; consts = h.consts; defs = stands_on p.defs n.definitions def q.defs h.defs }),
         )
     entities_fit {n} (d.network_definition {x = x} {params = params} {w = r} {p = q} ps is g l) h =
-        let def : Def = record { name = x; params = numbers_from 0 (length params); body = body.Network r } in (
+        let def : Def = record { name = x; params = numbers_from 0 (length params); body = Body.Network r } in (
           network_fits n.definitions (length params) is (takes_so order.is_network n.definitions (length params) def
               (stands_here p.defs n.definitions def q.defs h.defs) refl (length_numbers 0 (length params))),
           entities_fit l (record { channels = h.channels; consts = h.consts; defs = stands_on p.defs n.definitions def q.defs h.defs }),
@@ -177,10 +165,10 @@ names_fit decls ks whole HasSets p q sets l h =
     let all = entities_fit m ks p whole HasSets l h in
     let at : (x : Name) (e : Entity) → m x ≡ Some e → EntityFits m ks p e =
     λ x e is. subst (Found m ks p) is (found m ks p (λ y. same_name x y) (declared_from none_yet decls) all) in record {
-      channel = λ x c n is. at x (entity.Channel c n) is;
-      constant = λ x k is. at x (entity.Constant k) is;
-      set = λ x d is. at x (entity.Set d) is;
-      datum = λ x d n is g. (at x (entity.Definition d n) is).datum g;
-      process = λ x d n is g. (at x (entity.Definition d n) is).process g;
-      network = λ x d n is g. (at x (entity.Definition d n) is).network g;
+      channel = λ x c n is. at x (Entity.Channel c n) is;
+      constant = λ x k is. at x (Entity.Constant k) is;
+      set = λ x d is. at x (Entity.Set d) is;
+      datum = λ x d n is g. (at x (Entity.Definition d n) is).datum g;
+      process = λ x d n is g. (at x (Entity.Definition d n) is).process g;
+      network = λ x d n is g. (at x (Entity.Definition d n) is).network g;
     }

@@ -1,9 +1,5 @@
 -- Where no definition that uses one is too deep, none reaches itself: a circle of uses would be deeper than any limit.
-use Rattle.std.proofs.Common.{◌≡◌, ℕ, zero, suc, ◌+◌, ◌<◌, ◌≤◌, IsTrue, List, subst, arith}
-use Rattle.std.specs.Prelude.{slice_get}
-use Rattle.csp_program.specs.Prelude.{Reaches, def_uses, by_use, by_way}
-use Rattle.script_names.specs.DataDepth.{definition_depth, depth_at}
-use Rattle.resolved_laws.proofs.Sources.{Def}
+use Rattle.resolved_laws.proofs.Sources.{◌≡◌, ℕ, zero, suc, ◌+◌, ◌<◌, ◌≤◌, IsTrue, List, subst, arith, slice_get, Reaches, def_uses, by_use, by_way, definition_depth, depth_at, Def}
 use Rattle.resolved_laws.proofs.UsesBelow.{use_below}
 
 module _ (defs : List Def) where

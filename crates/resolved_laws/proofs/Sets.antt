@@ -1,43 +1,27 @@
 -- The field sets that the types of channels have are in order, there is one for each field, and the event table of the channels with them is numbered
 -- by its places.
-use Rattle.std.proofs.Common.{◌≡◌, ℕ, zero, suc, ◌+◌, Bool, true, false, ◌&&◌, nat_eq, IsTrue, Some, Ok, Err, List, [], ◌∷◌, ◌++◌, length, map, replicate, refl, sym, ◌∙◌, ap, subst, arith, length-append}
-use Rattle.std.specs.Prelude.{Result, if◌then◌else◌, slice_get}
-use Rattle.std.specs.List.{flat_map}
-use Rattle.csp_base.proofs.Standard.{false≢true, eq-eqb, length-map, sum-map, sum_by-cons}
+use Rattle.resolved_laws.proofs.Sources.{◌≡◌, ℕ, zero, suc, ◌+◌, Bool, true, false, ◌&&◌, nat_eq, IsTrue, Some, Ok, Err, List, [], ◌∷◌, ◌++◌, length, map, replicate, refl, sym, ◌∙◌, ap, subst, arith, Result, if◌then◌else◌, slice_get, flat_map, length-map, sum-map, sum_by-cons, first_event, row_count, event_of, events_from_channel, rows, IsInOrder, atom_in_order, channel_in_order, expr_in_order, has_sets, is_field_value, set_in_order, sets_in_order, value_in_order, all_true, Outcome, and_then, value_of, channels_of, Meanings, Name, all_events, field_set, field_sets, may_be_field, with_sets, exprs, reading, Atom, Channel, Content, Decl, Expr, Many, One, Tree, Value, ValueKind, is_and}
+use Rattle.std.proofs.Common.{length-append}
+use Rattle.csp_base.proofs.Standard.{false≢true, eq-eqb}
 use Rattle.csp_atoms.specs.Prelude.{is_set}
-use Rattle.csp_atoms.specs.declared.atom.Atom.TheVariants as atom
-use Rattle.csp_program.specs.Prelude.{first_event, row_count, event_of, events_from_channel, rows, IsInOrder, atom_in_order, channel_in_order, expr_in_order, has_sets, is_field_value, set_in_order, sets_in_order, value_in_order, all_true, Outcome, and_then, value_of}
 use Rattle.csp_program.specs.declared.kinds.ValueKind.TheVariants.{Kind}
-use Rattle.csp_text.specs.declared.script.Decl.TheVariants as decl
-use Rattle.script_names.specs.Prelude.{channels_of, Meanings, Name, Answer, all_events, and_next, channel_sets, field_set, field_sets, may_be_field, told_in, with_sets, exprs, reading}
-use Rattle.resolved_laws.proofs.Sources.{Atom, Channel, Content, Decl, Expr, Kind as DefinitionKind, Many, One, Tree, Value, ValueKind}
+use Rattle.resolved_laws.proofs.Sources.{Kind as DefinitionKind}
 use Rattle.resolved_laws.proofs.Whole.{SameTypes}
 use Rattle.value_laws.proofs.RowNumbers.{length-rows}
 use Rattle.value_laws.proofs.ValuesInOrder.{values_are_in_order}
+use Rattle.typed_laws.proofs.Back.{SetsFor, ok_is}
 use Rattle.resolved_laws.proofs.Booleans.{two}
-use Rattle.csp_base.proofs.Booleans.{is_and}
 
 -- ---- outcomes and answers
 
-pub record IsNext {A B E : Type 0} (a : Result A E) (next : A → Result B E) (b : B) : Type 0 where
+record IsNext {A B E : Type 0} (a : Result A E) (next : A → Result B E) (b : B) : Type 0 where
   pub first : A
   pub is : a ≡ Ok first
   pub after : next first ≡ Ok b
 
-pub next_ok : {A B : Type 0} (a : Answer A) (next : A → Answer B) (b : B) → and_next a next ≡ Ok b → IsNext a next b
-next_ok (Ok x) next b h = record { first = x; is = refl; after = h }
-next_ok (Err f) next b h = absurd (cc)
-
 then_ok : {A B : Type 0} (o : Outcome A) (next : A → Outcome B) (b : B) → and_then o next ≡ Ok b → IsNext o next b
 then_ok (Ok x) next b h = record { first = x; is = refl; after = h }
 then_ok (Err f) next b h = absurd (cc)
-
-pub ok_same : {A E : Type 0} {a b : A} → ◌≡◌ {A = Result A E} (Ok a) (Ok b) → a ≡ b
-ok_same h = cc
-
-told_ok : {A : Type 0} (i : ℕ) (o : Outcome A) (a : A) → told_in i o ≡ Ok a → o ≡ Ok a
-told_ok i (Ok x) a h = let e : x ≡ a = cc in ap (λ z. Ok z) e
-told_ok i (Err k) a h = absurd (cc)
 
 if_ok : {A : Type 0} (b : Bool) (x y : A) (k : ValueKind) → (if b then Ok x else Err k) ≡ Ok y → IsTrue b × (x ≡ y)
 if_ok true x y k h = (refl, cc)
@@ -47,8 +31,8 @@ if_ok false x y k h = absurd (cc)
 
 module _ (p : Content) where
   value_ordered : (a : Atom) → IsTrue (may_be_field a) → IsTrue (atom_in_order p a) → IsTrue (is_field_value p a)
-  value_ordered (atom.Num n) h g = refl
-  value_ordered (atom.Const k) h g = g
+  value_ordered (Atom.Num n) h g = refl
+  value_ordered (Atom.Const k) h g = g
   value_ordered _ h g = absurd (false≢true h)
 
   values_ordered : (atoms : List Atom) → IsTrue (all_true (map may_be_field atoms)) → IsTrue (all_true (map (atom_in_order p) atoms))
@@ -73,14 +57,14 @@ module _ (p : Content) where
   module _ (whole : IsInOrder p) where
     sets_ordered : (es : List Expr) (sets : List (List Atom)) → IsTrue (all_true (map (expr_in_order p) es)) → field_sets p es ≡ Ok sets
         → AreSets (length es) sets
-    sets_ordered [] sets o h = let e : [] ≡ sets = ok_same h in subst (AreSets 0) e (record { count = refl; ordered = refl })
+    sets_ordered [] sets o h = let e : [] ≡ sets = ok_is h in subst (AreSets 0) e (record { count = refl; ordered = refl })
     sets_ordered (t ∷ es) sets o h =
         let o' = two (expr_in_order p t) (all_true (map (expr_in_order p) es)) o in
         let a = then_ok (value_of p t) (λ v. and_then (field_set v) (λ set. and_then (field_sets p es) (λ rest. Ok (set ∷ rest)))) sets h in
         let b = then_ok (field_set a.first) (λ set. and_then (field_sets p es) (λ rest. Ok (set ∷ rest))) sets a.after in
         let c = then_ok (field_sets p es) (λ rest. Ok (b.first ∷ rest)) sets b.after in
         let r = sets_ordered es c.first o'.1 c.is in
-        subst (AreSets (suc (length es))) (ok_same c.after) (record {
+        subst (AreSets (suc (length es))) (ok_is c.after) (record {
           count = ap (λ k. suc k) r.count;
           ordered = is_and (set_in_order p b.first) (all_true (map (set_in_order p) c.first))
               (set_ordered a.first b.first b.is (values_are_in_order p whole (length p.defs) t o'.0 [] tt a.first a.is)) r.ordered;
@@ -98,29 +82,25 @@ module _ (p : Content) (whole : IsInOrder p) (m : Meanings) (ks : List Definitio
   types_read types = exprs (map (reading m ks) types) [] 0
 
   sets_here : (xs : List Name) (types : List Tree) (sets : List (List Atom)) (rest : List Channel) (all : List (List (List Atom)))
-      → IsTrue (all_true (map (channel_in_order p) (channels_of m ks (decl.Channel xs types) ++ rest))) → field_sets p (types_read types) ≡ Ok sets
-      → (IsTrue (all_true (map (channel_in_order p) rest)) → HaveSets p rest all) → HaveSets p (channels_of m ks (decl.Channel xs types) ++ rest)
+      → IsTrue (all_true (map (channel_in_order p) (channels_of m ks (Decl.Channel xs types) ++ rest))) → field_sets p (types_read types) ≡ Ok sets
+      → (IsTrue (all_true (map (channel_in_order p) rest)) → HaveSets p rest all) → HaveSets p (channels_of m ks (Decl.Channel xs types) ++ rest)
       (replicate (length xs) sets ++ all)
   sets_here [] types sets rest all o h k = k o
   sets_here (x ∷ xs) types sets rest all o h k =
       let o' = two (all_true (map (expr_in_order p) (types_read types)) && true)
-      (all_true (map (channel_in_order p) (channels_of m ks (decl.Channel xs types) ++ rest))) o in (
+      (all_true (map (channel_in_order p) (channels_of m ks (Decl.Channel xs types) ++ rest))) o in (
         sets_ordered p whole (types_read types) sets ((two (all_true (map (expr_in_order p) (types_read types))) true o'.0).0) h,
         sets_here xs types sets rest
             all o'.1 h k,
       )
 
-  pub have_sets : (i : ℕ) (decls : List Decl) (all : List (List (List Atom))) → IsTrue (all_true (map (channel_in_order p) (flat_map (channels_of m ks) decls)))
-      → channel_sets p types_read i decls ≡ Ok all → HaveSets p (flat_map (channels_of m ks) decls) all
-  have_sets i [] all o h = let e : [] ≡ all = ok_same h in subst (HaveSets p []) e tt
-  have_sets i (decl.Channel xs types ∷ decls) all o h =
-      let a = next_ok (told_in i (field_sets p (types_read types)))
-      (λ sets. and_next (channel_sets p types_read (i + 1) decls) (λ rest. Ok (replicate (length xs) sets ++ rest))) all h in
-      let b = next_ok (channel_sets p types_read (i + 1) decls) (λ rest. Ok (replicate (length xs) a.first ++ rest)) all a.after in
-      subst (HaveSets p (channels_of m ks (decl.Channel xs types) ++ flat_map (channels_of m ks) decls)) (ok_same b.after)
-      (sets_here xs types a.first (flat_map (channels_of m ks) decls) b.first o (told_ok i (field_sets p (types_read types)) a.first a.is)
-      (λ z. have_sets (i + 1) decls b.first z b.is))
-  have_sets i (_ ∷ decls) all o h = have_sets (i + 1) decls all o h
+  pub have_sets : (decls : List Decl) (all : List (List (List Atom))) → IsTrue (all_true (map (channel_in_order p) (flat_map (channels_of m ks) decls)))
+      → SetsFor (λ types sets. field_sets p types ≡ Ok sets) types_read decls all → HaveSets p (flat_map (channels_of m ks) decls) all
+  have_sets [] all o h = subst (HaveSets p []) h tt
+  have_sets (Decl.Channel xs types ∷ decls) all o h =
+      subst (HaveSets p (channels_of m ks (Decl.Channel xs types) ++ flat_map (channels_of m ks) decls)) h.4
+      (sets_here xs types h.0 (flat_map (channels_of m ks) decls) h.1 o h.2 (λ z. have_sets decls h.1 z h.3))
+  have_sets (_ ∷ decls) all o h = have_sets decls all o h
 
 -- ---- the channels with these sets
 

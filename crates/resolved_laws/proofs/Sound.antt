@@ -1,10 +1,7 @@
 -- What is in order, reads only names of its scope, and binds its names in turn: a form is, whose parts are. `IsSound` says so of a tree or a list of trees,
 -- `Binds` of generators or fields, beside names that stand under all of them.
-use Rattle.std.proofs.Common.{◌≡◌, ℕ, suc, ◌+◌, Bool, true, ◌&&◌, IsTrue, List, [], ◌∷◌, ◌++◌, length, refl, ap}
-use Rattle.csp_program.specs.Free.{Names, apart_from, either, nowhere}
-use Rattle.script_names.specs.Prelude.{AreExprs, AreFields, Meanings, Name, Scope, with}
+use Rattle.resolved_laws.proofs.Sources.{◌≡◌, ℕ, suc, ◌+◌, Bool, true, ◌&&◌, IsTrue, List, [], ◌∷◌, ◌++◌, length, refl, ap, Names, apart_from, either, nowhere, AreExprs, AreFields, Meanings, Name, Scope, with, Expr, Field, FieldTree, Kind, Tree}
 use Rattle.script_names.specs.Typing as t
-use Rattle.resolved_laws.proofs.Sources.{Expr, Field, FieldTree, Kind, Tree}
 use Rattle.resolved_laws.proofs.Booleans.{and}
 use Rattle.resolved_laws.proofs.InTurn.{InTurn, first, joins, none}
 use Rattle.resolved_laws.proofs.Within.{IsWithin, apart_within, either_within, nowhere_within}

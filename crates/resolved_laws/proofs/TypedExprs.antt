@@ -1,14 +1,10 @@
 -- An expression that a tree means is in order, reads only names of its scope, and binds its names in turn.
-use Rattle.std.proofs.Common.{◌≡◌, ℕ, ◌+◌, ◌-◌, nat_eq, Bool, ◌&&◌, IsTrue, List, ◌∷◌, ◌++◌, length, map, refl, sym, ◌∙◌, ap, subst}
-use Rattle.std.specs.Prelude.{slice_get}
+use Rattle.resolved_laws.proofs.Sources.{◌≡◌, ℕ, ◌+◌, ◌-◌, nat_eq, Bool, ◌&&◌, IsTrue, List, ◌∷◌, ◌++◌, length, map, refl, sym, ◌∙◌, ap, subst, slice_get, Bound, expr_bound, expr_bound_of_layer, exprs_bound, gen_bound, gen_bound_of_layer, part_bound, part_bound_of_layer, Names, any_of, expr_free, expr_free_of_layer, gen_binding, gen_free_of_layer, part_free, part_free_of_layer, expr_in_order, expr_in_order_of_layer, field_count, fields_left, gen_in_order, gen_in_order_of_layer, is_datum, part_in_order, part_in_order_of_layer, takes, with_fields, all_true, joined, Meanings, Scope, AreExprs, AreFronts, AreGens, IsExpr, IsFront, event_part, Content, EventPart, EventPart-F, Expr, Expr-F, Gen, Gen-F, GenTree, Kind, PartTree, Tree, fold-roll-EventPart, fold-roll-Expr, fold-roll-Gen, map-Expr, map-Gen, out-roll-EventPart, roll-Expr, roll-Gen}
 use Rattle.std.proofs.lemmas.List.{length-map}
-use Rattle.csp_program.specs.Prelude.{Bound, expr_bound, expr_bound_of_layer, exprs_bound, gen_bound, gen_bound_of_layer, part_bound, part_bound_of_layer, Names, any_of, expr_free, expr_free_of_layer, gen_binding, gen_free_of_layer, part_free, part_free_of_layer, expr_in_order, expr_in_order_of_layer, field_count, fields_left, gen_in_order, gen_in_order_of_layer, is_datum, part_in_order, part_in_order_of_layer, takes, with_fields, all_true, joined}
 use Rattle.csp_program.specs.Free as free
 use Rattle.csp_program.specs.declared.expressions.Expr.TheVariants as expr
 use Rattle.csp_program.specs.declared.expressions.Gen.TheVariants as generator
-use Rattle.script_names.specs.Prelude.{Meanings, Scope, AreExprs, AreFronts, AreGens, IsExpr, IsFront, event_part}
 use Rattle.script_names.specs.Typing as t
-use Rattle.resolved_laws.proofs.Sources.{Content, EventPart, EventPart-F, Expr, Expr-F, Gen, Gen-F, GenTree, Kind, PartTree, Tree, fold-roll-EventPart, fold-roll-Expr, fold-roll-Gen, map-Expr, map-Gen, out-roll-EventPart, roll-Expr, roll-Gen}
 use Rattle.resolved_laws.proofs.Booleans.{and}
 use Rattle.resolved_laws.proofs.Declared.{Fits, at_most, leaves}
 use Rattle.resolved_laws.proofs.InTurn.{InTurn, none}

@@ -1,14 +1,9 @@
 -- A process or a network that a tree means is in order, reads only names of its scope, and binds its names in turn.
-use Rattle.std.proofs.Common.{◌≡◌, ℕ, nat_eq, Bool, IsTrue, List, [], length, map, refl, sym, ◌∙◌, subst}
-use Rattle.std.specs.Prelude.{slice_get}
-use Rattle.std.proofs.lemmas.Bool.{eq-eqb}
-use Rattle.csp_program.specs.Prelude.{Bound, field_bound, net_bound, net_bound_of_layer, pair_bound, proc_bound, proc_bound_of_layer, Names, any_of, before, net_free, net_free_of_layer, pair_free, proc_free, proc_free_of_layer, field_in_order, fields_left, is_process, net_in_order, net_in_order_of_layer, pair_in_order, proc_in_order, proc_in_order_of_layer, takes, with_fields, all_true, joined}
+use Rattle.resolved_laws.proofs.Sources.{◌≡◌, ℕ, nat_eq, Bool, IsTrue, List, [], length, map, refl, sym, ◌∙◌, subst, slice_get, eq-eqb, Bound, field_bound, net_bound, net_bound_of_layer, pair_bound, proc_bound, proc_bound_of_layer, Names, any_of, before, net_free, net_free_of_layer, pair_free, proc_free, proc_free_of_layer, field_in_order, fields_left, is_process, net_in_order, net_in_order_of_layer, pair_in_order, proc_in_order, proc_in_order_of_layer, takes, with_fields, all_true, joined, Meanings, Scope, AreFields, ArePairs, AreProcs, IsComposition, IsNet, IsProc, Content, EventPart, Field, FieldTree, Kind, Net, Net-F, PartTree, Proc, Proc-F, Tree, fold-roll-Net, fold-roll-Proc, map-Net, map-Proc, roll-Net, roll-Proc}
 use Rattle.csp_program.specs.InOrder as order
 use Rattle.csp_program.specs.declared.networks.Net.TheVariants as net
 use Rattle.csp_program.specs.declared.processes.Proc.TheVariants as proc
-use Rattle.script_names.specs.Prelude.{Meanings, Scope, AreFields, ArePairs, AreProcs, IsComposition, IsNet, IsProc}
 use Rattle.script_names.specs.Typing as t
-use Rattle.resolved_laws.proofs.Sources.{Content, EventPart, Field, FieldTree, Kind, Net, Net-F, PartTree, Proc, Proc-F, Tree, fold-roll-Net, fold-roll-Proc, map-Net, map-Proc, roll-Net, roll-Proc}
 use Rattle.resolved_laws.proofs.Booleans.{and}
 use Rattle.resolved_laws.proofs.Declared.{Fits}
 use Rattle.resolved_laws.proofs.InTurn.{InTurn, first, joins}

@@ -1,14 +1,7 @@
 -- What an expression uses is less deep than the expression with its uses expanded.
-use Rattle.std.proofs.Common.{◌≡◌, ℕ, ◌+◌, ◌<◌, ◌≤◌, nat_eq, IsTrue, Option, Some, None, List, [], ◌∷◌, map, sym, subst, inl, inr, arith}
-use Rattle.std.specs.Prelude.{max}
-use Rattle.std.proofs.lemmas.Bool.{false≢true, or_cases, eqb-true}
-use Rattle.csp_base.specs.Lists.{greatest}
-use Rattle.csp_program.proofs.Forms.{Every, ExprHas, GenHas, PartHas, each_expr}
+use Rattle.resolved_laws.proofs.Sources.{◌≡◌, ℕ, ◌+◌, ◌<◌, ◌≤◌, nat_eq, IsTrue, Option, Some, None, List, [], ◌∷◌, map, sym, subst, inl, inr, arith, max, false≢true, or_cases, eqb-true, greatest, Every, ExprHas, GenHas, PartHas, each_expr, gen_depth_of_layer, part_depth_of_layer, Names, any_of, either, nowhere, body_uses, def_uses, expr_uses, expr_uses_of_layer, gen_uses_of_layer, part_uses_of_layer, depth_at, expanded_depth, expanded_depth_of_layer, gen_expanded_depth, part_expanded_depth, Body, Def, EventPart, EventPart-F, Expr, Expr-F, Gen, Gen-F, fold-roll-EventPart, fold-roll-Expr, fold-roll-Gen, map-Expr, map-Gen, roll-EventPart, roll-Expr, roll-Gen}
 use Rattle.csp_program.proofs.UsesWithin.{gen_uses, part_uses}
-use Rattle.csp_program.specs.Prelude.{gen_depth_of_layer, part_depth_of_layer, Names, any_of, either, nowhere, body_uses, def_uses, expr_uses, expr_uses_of_layer, gen_uses_of_layer, part_uses_of_layer}
-use Rattle.csp_program.specs.declared.programs.Body.TheVariants as body
-use Rattle.script_names.specs.DataDepth.{body_depth, depth_at, expanded_depth, expanded_depth_of_layer, gen_expanded_depth, part_expanded_depth}
-use Rattle.resolved_laws.proofs.Sources.{Body, Def, EventPart, EventPart-F, Expr, Expr-F, Gen, Gen-F, fold-roll-EventPart, fold-roll-Expr, fold-roll-Gen, map-Expr, map-Gen, roll-EventPart, roll-Expr, roll-Gen}
+use Rattle.script_names.specs.DataDepth.{body_depth}
 
 module _ (f : ℕ → ℕ) where
   -- each of these definitions is less deep than n
@@ -99,11 +92,11 @@ module _ (f : ℕ → ℕ) where
   expr_below = each_expr ExprBelow GenBelow PartBelow expr_step gen_step part_step
 
   body_below : (b : Body) (d : ℕ) → IsTrue (body_uses b d) → f d < body_depth f b
-  body_below (body.Datum e) d t = (expr_below e).at d t
-  body_below (body.Nametype e) d t = (expr_below e).at d t
-  body_below (body.Datatype ks) d t = absurd (false≢true t)
-  body_below (body.Process q) d t = absurd (false≢true t)
-  body_below (body.Network w) d t = absurd (false≢true t)
+  body_below (Body.Datum e) d t = (expr_below e).at d t
+  body_below (Body.Nametype e) d t = (expr_below e).at d t
+  body_below (Body.Datatype ks) d t = absurd (false≢true t)
+  body_below (Body.Process q) d t = absurd (false≢true t)
+  body_below (Body.Network w) d t = absurd (false≢true t)
 
   -- what a definition uses is less deep than it is
   pub use_below : (def : Option Def) (d : ℕ) → IsTrue (def_uses def d) → f d < depth_at f def

@@ -1,25 +1,14 @@
 -- A program that holds what typed declarations put into it is in order, whichever event table and field sets it has, as far as those are in order.
-use Rattle.std.proofs.Common.{◌≡◌, ℕ, zero, suc, ◌+◌, ◌<◌, ◌^◌, nat_eq, IsTrue, Some, None, List, [], ◌∷◌, ◌++◌, length, map, refl, sym, ◌∙◌, ap, subst, inr, is_none, arith}
-use Rattle.std.specs.Prelude.{slice_get}
-use Rattle.std.specs.List.{flat_map}
-use Rattle.std.proofs.lemmas.Bool.{eq-eqb, false≢true}
-use Rattle.csp_base.specs.Lists.{EachOnce}
-use Rattle.csp_program.proofs.Forms.{Every}
-use Rattle.csp_program.specs.Prelude.{def_bound, exprs_bound, KeepFirsts, event_count, first_event, AllClosed, AllClosedBodies, AllClosedTypes, IsEventTable, IsInOrder, channel_in_order, def_in_order, expr_in_order, lacks_sets, sets_in_order, with_fields, all_true, def_uses}
-use Rattle.csp_text.specs.declared.script.Decl.TheVariants as decl
-use Rattle.script_names.specs.Prelude.{channels_of, plain_content, IsShallow, AreKinds, Meanings, Name, meanings_of, none_yet, name_fault, Declares}
-use Rattle.resolved_laws.proofs.Sources.{Atom, Channel, Content, Decl, Def, EventInfo, Kind, MOST_DATA_DEPTH, Tree}
-use Rattle.resolved_laws.specs.Laws.{PlainIsInOrder}
+use Rattle.resolved_laws.proofs.Sources.{◌≡◌, ℕ, zero, suc, ◌+◌, ◌<◌, ◌^◌, nat_eq, IsTrue, Some, None, List, [], ◌∷◌, ◌++◌, length, map, refl, sym, ◌∙◌, ap, subst, inr, is_none, arith, slice_get, flat_map, eq-eqb, false≢true, EachOnce, Every, def_bound, exprs_bound, KeepFirsts, event_count, first_event, AllClosed, AllClosedBodies, AllClosedTypes, IsEventTable, IsInOrder, channel_in_order, def_in_order, expr_in_order, lacks_sets, sets_in_order, with_fields, all_true, def_uses, channels_of, plain_content, IsShallow, AreKinds, Meanings, Name, meanings_of, none_yet, name_fault, Declares, Atom, Channel, Content, Decl, Def, EventInfo, Kind, MOST_DATA_DEPTH, Tree, PlainIsInOrder, any_sets, sets_for_any, is_and}
 use Rattle.resolved_laws.proofs.Booleans.{and, two}
 use Rattle.resolved_laws.proofs.ContentSound.{ChannelSound, DefsSound, Sound, content_sound, nothing_free}
 use Rattle.resolved_laws.proofs.Declared.{Fits}
 use Rattle.resolved_laws.proofs.InTurn.{each_once}
 use Rattle.resolved_laws.proofs.NamesFit.{ChannelsFrom, HoldsFrom, StandsFrom, names_fit}
 use Rattle.resolved_laws.proofs.NoCircle.{none_reaches_itself}
-use Rattle.typed_laws.proofs.Back.{any_sets, sets_for_any}
 use Rattle.typed_laws.proofs.Declared.{types_of}
+use Rattle.typed_laws.proofs.Passing.{element_at}
 use Rattle.typed_laws.proofs.Programs.{puts}
-use Rattle.csp_base.proofs.Booleans.{is_and}
 
 -- channels of the same types
 abbrev pub SameTypes : List Channel → List Channel → Type 0
@@ -100,11 +89,6 @@ module _ (decls : List Decl) (ks : List Kind) (q : Content) (all : List (List (L
   types_closed [] h = tt
   types_closed (x ∷ xs) h = (h.0.closed, types_closed xs h.1)
 
-  types_once : (xs : List Channel) → Every TypesSound xs → (i : ℕ) (c : Channel) → slice_get xs i ≡ Some c → EachOnce (exprs_bound c.types)
-  types_once [] h i c at = absurd (cc)
-  types_once (x ∷ xs) h zero c at = let e : x ≡ c = cc in subst (λ z. EachOnce (exprs_bound z.types)) e h.0.once
-  types_once (x ∷ xs) h (suc i) c at = types_once xs h.1 i c at
-
   -- ---- definitions
 
   abbrev AreSound : ℕ → List Def → Type 0
@@ -146,7 +130,7 @@ module _ (decls : List Decl) (ks : List Kind) (q : Content) (all : List (List (L
     closed_root = nothing_free _ sound.root.free;
     bound_once = defs_once 0 q.defs sound.defs;
     root_bound_once = each_once sound.root.turn;
-    types_bound_once = types_once cs (same_sound cs q.channels same sound.channels);
+    types_bound_once = λ i c at. (element_at TypesSound cs i c (same_sound cs q.channels same sound.channels) at).once;
     no_circle = none_reaches_itself q.defs MOST_DATA_DEPTH
         (λ i j t. let e : 0 + i ≡ i = omega arith in subst (IsShallow q) e (defs_shallow 0 q.defs sound.defs i j t));
     table = table;
@@ -155,23 +139,25 @@ module _ (decls : List Decl) (ks : List Kind) (q : Content) (all : List (List (L
 
 -- ---- while channels have no field sets
 
+abbrev IsPlain : Channel → Type 0
+IsPlain c = (c.fields ≡ None) × (c.first ≡ 0)
+
 abbrev ArePlain : List Channel → Type 0
-ArePlain [] = Unit {0}
-ArePlain (c ∷ cs) = (c.fields ≡ None) × (c.first ≡ 0) × ArePlain cs
+ArePlain cs = Every IsPlain cs
 
 module _ (m : Meanings) (ks : List Kind) where
-  channel_plain : (xs : List Name) (types : List Tree) (rest : List Channel) → ArePlain rest → ArePlain (channels_of m ks (decl.Channel xs types) ++ rest)
+  channel_plain : (xs : List Name) (types : List Tree) (rest : List Channel) → ArePlain rest → ArePlain (channels_of m ks (Decl.Channel xs types) ++ rest)
   channel_plain [] types rest h = h
-  channel_plain (x ∷ xs) types rest h = (refl, refl, channel_plain xs types rest h)
+  channel_plain (x ∷ xs) types rest h = ((refl, refl), channel_plain xs types rest h)
 
   channels_plain : (decls : List Decl) → ArePlain (flat_map (channels_of m ks) decls)
   channels_plain [] = tt
-  channels_plain (decl.Channel xs types ∷ decls) = channel_plain xs types (flat_map (channels_of m ks) decls) (channels_plain decls)
+  channels_plain (Decl.Channel xs types ∷ decls) = channel_plain xs types (flat_map (channels_of m ks) decls) (channels_plain decls)
   channels_plain (_ ∷ decls) = channels_plain decls
 
 plain_lack : (cs : List Channel) → ArePlain cs → IsTrue (all_true (map lacks_sets cs))
 plain_lack [] h = refl
-plain_lack (c ∷ cs) h = is_and (lacks_sets c) (all_true (map lacks_sets cs)) (ap is_none h.0) (plain_lack cs h.2)
+plain_lack (c ∷ cs) h = is_and (lacks_sets c) (all_true (map lacks_sets cs)) (ap is_none h.0.0) (plain_lack cs h.1)
 
 pub plain_lacks : (decls : List Decl) (ks : List Kind) → IsTrue (all_true (map lacks_sets (plain_content decls ks).channels))
 plain_lacks decls ks = plain_lack (flat_map (channels_of (meanings_of decls) ks) decls) (channels_plain (meanings_of decls) ks decls)
@@ -180,20 +166,15 @@ plain_sets : (p : Content) (cs : List Channel) → ArePlain cs → IsTrue (all_t
 plain_sets p [] h = refl
 plain_sets p (c ∷ cs) h =
     is_and (sets_in_order p (length c.types) c.fields) (all_true (map (λ d. sets_in_order p (length d.types) d.fields) cs))
-    (ap (sets_in_order p (length c.types)) h.0) (plain_sets p cs h.2)
+    (ap (sets_in_order p (length c.types)) h.0.0) (plain_sets p cs h.1)
 
 no_events : (cs : List Channel) (i : ℕ) → ArePlain cs → first_event cs i ≡ 0
 no_events cs zero h = refl
 no_events [] (suc i) h = refl
 no_events (c ∷ cs) (suc i) h =
-    let a : event_count c.fields ≡ 0 = ap event_count h.0 in
-    let b : first_event cs i ≡ 0 = no_events cs i h.2 in
+    let a : event_count c.fields ≡ 0 = ap event_count h.0.0 in
+    let b : first_event cs i ≡ 0 = no_events cs i h.1 in
     omega (arith, a, b)
-
-plain_first : (cs : List Channel) (i : ℕ) (c : Channel) → ArePlain cs → slice_get cs i ≡ Some c → c.first ≡ 0
-plain_first [] i c h g = absurd (cc)
-plain_first (d ∷ cs) zero c h g = let e : d ≡ c = cc in ap (λ (z : Channel). z.first) (sym e) ∙ h.1
-plain_first (d ∷ cs) (suc i) c h g = plain_first cs i c h.2 g
 
 -- the declarations of a faultless script put the plain content into the program, by the rules of typing
 pub plain_declares : (decls : List Decl) (ks : List Kind) → AreKinds decls ks → name_fault decls ks ≡ None
@@ -208,4 +189,4 @@ plain_is_in_order decls ks are none few =
     in_order decls ks (plain_content decls ks) (any_sets decls) (plain_declares decls ks are none) cs [] (same_itself cs) (omega arith) few.channels few.consts
     few.defs
     (plain_sets (plain_content decls ks) cs plain)
-    (inr (plain_lack cs plain, refl)) (λ i c g. plain_first cs i c plain g ∙ sym (no_events cs i plain))
+    (inr (plain_lack cs plain, refl)) (λ i c g. (element_at IsPlain cs i c plain g).1 ∙ sym (no_events cs i plain))

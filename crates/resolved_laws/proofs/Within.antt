@@ -1,11 +1,6 @@
 -- Names that are bound in a scope: each name of a set has the number of one of its bound names.
-use Rattle.std.proofs.Common.{◌≡◌, ◌⊎◌, ℕ, Bool, true, false, not, ◌&&◌, nat_eq, IsTrue, Option, Some, None, List, [], ◌∷◌, map, subst, inl, inr}
-use Rattle.std.specs.Prelude.{if◌then◌else◌}
-use Rattle.std.proofs.lemmas.Bool.{false≢true, or_cases, eq-eqb, eqb-true}
-use Rattle.csp_base.proofs.Booleans.{is_or_first, is_or_second}
+use Rattle.resolved_laws.proofs.Sources.{◌≡◌, ◌⊎◌, ℕ, Bool, true, false, not, ◌&&◌, nat_eq, IsTrue, Option, Some, None, List, [], ◌∷◌, map, subst, inl, inr, if◌then◌else◌, false≢true, or_cases, eq-eqb, eqb-true, is_or_first, is_or_second, Names, nowhere, either, apart_from, Name, same_name, Scope, number_of, or_else, with}
 use Rattle.csp_base.specs.Members.{has}
-use Rattle.csp_program.specs.Free.{Names, nowhere, either, apart_from}
-use Rattle.script_names.specs.Prelude.{Name, same_name, Scope, number_of, or_else, with}
 
 abbrev pub numbers_of : Scope → List ℕ
 numbers_of scope = map (λ b. b.1) scope

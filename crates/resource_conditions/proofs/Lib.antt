@@ -1,3 +1,4 @@
 pub mod Holding
 pub mod Joining
+pub mod Prelude
 pub mod Sets

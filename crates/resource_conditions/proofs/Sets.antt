@@ -1,9 +1,5 @@
 -- Sets of events, and tests of all members of a list.
-use Rattle.std.proofs.Common.{◌≡◌, ℕ, suc, ◌<◌, inl, inr, List, [], ◌∷◌, length, get_or, Bool, true, false, not, ◌||◌, nat_eq, refl, sym, subst, ◌∙◌, arith, eq-eqb}
-use Rattle.std.specs.List.{list_all, list_any}
-use Rattle.csp_base.proofs.Standard.{cases_Bool, and_from, and_parts, or_cases, or_left, or_right, eqb-true, both_ways, false≢true, get_or_read, list_all_at}
-use Rattle.csp_base.specs.Prelude.{has, inter_of}
-use Rattle.csp_tables.specs.Table.{is_possible}
+use Rattle.resource_conditions.proofs.Prelude.{◌≡◌, ℕ, suc, ◌<◌, inl, inr, List, [], ◌∷◌, length, get_or, Bool, true, false, not, ◌||◌, nat_eq, refl, sym, subst, ◌∙◌, arith, eq-eqb, list_all, list_any, cases_Bool, and_from, and_parts, or_cases, or_left, or_right, eqb-true, both_ways, false≢true, get_or_read, list_all_at, has, inter_of, is_possible}
 use Rattle.csp_base.proofs.Booleans.{and_second_false}
 use Rattle.csp_base.proofs.SetLaws.{has-inter_of}
 

@@ -1,15 +1,6 @@
 -- What the parity of a link tells, and the condition on a user by tests of its explorations.
-use Rattle.std.proofs.Common.{◌≡◌, ℕ, suc, ◌+◌, ◌<◌, inl, inr, List, [], ◌∷◌, length, Option, None, Some, Bool, true, false, not, cond, nat_eq, refl, sym, ap, subst, ◌∙◌, arith}
-use Rattle.std.proofs.lemmas.Bool.{cases_Bool, cond-true, cond-false, both_ways}
-use Rattle.csp_base.specs.Members.{has}
-use Rattle.csp_tables.specs.Prelude.{IsRun, Joins, Shape, end_of, part_at, link_at, use_at}
-use Rattle.design_rules.specs.Prelude.{count_in, is_odd, holds}
-use Rattle.observed_runs.specs.Prelude.{observed, parity_step}
-use Rattle.shape_links.specs.Setting.{Setting, node_of}
-use Rattle.resource_rule.specs.Uses.{is_use, are_uses, UsesLink}
-use Rattle.resource_conditions.proofs.Sets.{all_possible, some_possible}
-use Rattle.resource_conditions.specs.Finding.{FindsRun}
-use Rattle.shape_links.specs.Component.{IsDecided}
+use Rattle.resource_rule.proofs.Prelude.{◌≡◌, ℕ, suc, ◌+◌, ◌<◌, inl, inr, List, [], ◌∷◌, length, Option, None, Some, Bool, true, false, not, cond, nat_eq, refl, sym, ap, subst, ◌∙◌, arith, cases_Bool, cond-true, cond-false, both_ways, has, IsRun, Joins, Shape, end_of, part_at, link_at, use_at, count_in, is_odd, observed, parity_step, Setting, node_of, is_use, are_uses, UsesLink, all_possible, some_possible, FindsRun, IsDecided}
+use Rattle.design_rules.specs.Prelude.{holds}
 
 -- ---- parities
 

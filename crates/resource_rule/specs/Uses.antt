@@ -4,14 +4,13 @@ use Rattle.std.specs.Prelude.{◌<◌, ℕ, List, length, Bool, true, ◌&&◌, 
 use Rattle.std.specs.List.{list_all, list_any}
 use Rattle.csp_base.specs.Prelude.{has, is_subset_of}
 use Rattle.csp_tables.specs.Prelude.{Joins, part_at, use_at, link_at, IsPossible, Accepts, accepted}
-use Rattle.observed_runs.specs.Prelude.{pair_at, parity_step, Found, AreFound, IsExploration}
+use Rattle.observed_runs.specs.Prelude.{pair_at, parity_step, IsExploration}
 use Rattle.design_rules.specs.Resource.{holds}
 use Rattle.shape_links.specs.Setting.{Setting, node_of}
 
 -- the exploration of the part i with the parity of the link l
-pub record WatchesLink (g : Setting) (i l : ℕ) (found : Found) : Type 0 where
-  pub explored : IsExploration (part_at g.shape.parts i).table (parity_step (link_at g.shape l).shared) 0 found.pairs
-  pub origins_are : AreFound (part_at g.shape.parts i).table (parity_step (link_at g.shape l).shared) 0 found
+abbrev pub WatchesLink : Setting → ℕ → ℕ → List (ℕ × ℕ) → Type 0
+WatchesLink g i l pairs = IsExploration (part_at g.shape.parts i).table (parity_step (link_at g.shape l).shared) 0 pairs
 
 -- U4 on one link: after the run s the part i uses the resource j there in turn
 abbrev pub UsesLink : Setting → ℕ → ℕ → ℕ → List ℕ → Type 0

@@ -2,10 +2,10 @@
 #![tactic(auto)]
 
 mod holdings;
-mod numbers;
+mod link_sets;
+mod nodes;
 mod offers;
 mod rule;
-mod told;
 mod users;
 
 pub use rule::resource;

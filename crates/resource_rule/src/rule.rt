@@ -1,22 +1,22 @@
 //! The rule as a whole.
 
-ghost use Rattle.std.specs.Prelude.{◌≡◌, ◌<◌, All, IfErr, IfOk, OnOk, length};
+ghost use Rattle.std.specs.Prelude.{◌≡◌, ◌<◌, ℕ, All, IfErr, IfOk, OnOk, length};
 ghost use Rattle.csp_base.specs.Stops.{Tells};
 ghost use Rattle.csp_tables.specs.Prelude.{TripleDisjoint, alphabets_of, IsWellFormed};
-ghost use Rattle.design_rules.specs.Prelude.{IsResource, KeepUses, ResourcesRise, AreResourceNumbers, IsResourceRanking, BreaksResource};
+ghost use Rattle.design_rules.specs.Prelude.{IsHeldWhile, IsResource, KeepUses, ResourcesRise, AreResourceNumbers, IsResourceRanking, BreaksResource};
+ghost use Rattle.digraph.specs.Digraph.{HasArc};
 ghost use Rattle.resource_conditions.specs.Setting.{Breaks};
 ghost use Rattle.rule_rankings.specs.ResourceRanks.{number_by};
 
 use crate::holdings::holdings;
-use crate::numbers::numbers;
 use crate::users::check_users;
 use csp_base::Stop;
 use csp_tables::{Ranking, Shape, UseSets};
 use design_rules::RuleFault;
-use digraph::Heights;
+use digraph::{Fault, Heights, Rows, longest_walks};
 use resource_conditions::{check_grants, check_kinds, check_turns};
 use rule_rankings::resource_ranking;
-use shape_links::Setting;
+use shape_links::{Setting, turned};
 use std::alloc::Global;
 
 /// The ranking of a network of users and resources, or what breaks the rule.
@@ -29,11 +29,11 @@ pub fn resource(alloc: Global, shape: &Shape, uses: &[UseSets]) -> Result<Rankin
     ensures fault { IfErr result (Tells (BreaksResource shape.now uses.now)) }
 {
     let setting = Setting::new(alloc, shape, uses)?;
-    ranked(alloc, &setting)
+    setting_ranking(alloc, &setting)
 }
 
 // The same of a shape that is sorted out, with its resources.
-fn ranked(alloc: Global, setting: &Setting<'_>) -> Result<Ranking, Stop<RuleFault>>
+fn setting_ranking(alloc: Global, setting: &Setting<'_>) -> Result<Ranking, Stop<RuleFault>>
     ensures resource { OnOk result (IsResource setting.now.shape setting.now.uses) }
     ensures ranking { IfOk result (λ ranking. IsResourceRanking setting.now.shape setting.now.uses ranking) }
     ensures fault { IfErr result (Tells (Breaks setting.now)) }
@@ -48,7 +48,8 @@ fn checked_numbers(alloc: Global, setting: &Setting<'_>) -> Result<Heights, Stop
     ensures keep { OnOk result (KeepUses setting.now.shape setting.now.uses) }
     ensures count { IfOk result (λ heights. length heights ≡ length setting.now.shape.parts) }
     ensures below { IfOk result (λ heights. All (λ height. height < length setting.now.shape.parts) heights) }
-    ensures numbers { IfOk result (λ heights. AreResourceNumbers setting.now.shape setting.now.uses (number_by heights)) }
+    ensures numbers { IfOk result (λ heights.
+        AreResourceNumbers setting.now.shape setting.now.uses (number_by heights)) }
     ensures rise { IfOk result (λ heights. ResourcesRise setting.now.shape setting.now.uses (number_by heights)) }
     ensures fault { IfErr result (Tells (Breaks setting.now)) }
 {
@@ -58,4 +59,28 @@ fn checked_numbers(alloc: Global, setting: &Setting<'_>) -> Result<Heights, Stop
     check_users(alloc, setting)?;
     let rows = holdings(alloc, setting)?;
     numbers(alloc, setting, &rows)
+}
+
+// For each resource the greatest number of resources that must be numbered below it in a chain.
+fn numbers(alloc: Global, setting: &Setting<'_>, rows: &Rows) -> Result<Heights, Stop<RuleFault>>
+    requires keep { KeepUses setting.now.shape setting.now.uses }
+    requires count { length rows.now ≡ length setting.now.shape.parts }
+    requires sound { (j m : ℕ) → HasArc rows.now j m → IsHeldWhile setting.now.shape setting.now.uses m j }
+    requires complete { (j m : ℕ) → IsHeldWhile setting.now.shape setting.now.uses m j → HasArc rows.now j m }
+    ensures count { IfOk result (λ heights. length heights ≡ length setting.now.shape.parts) }
+    ensures below { IfOk result (λ heights. All (λ height. height < length setting.now.shape.parts) heights) }
+    ensures numbers { IfOk result (λ heights.
+        AreResourceNumbers setting.now.shape setting.now.uses (number_by heights)) }
+    ensures rise { IfOk result (λ heights. ResourcesRise setting.now.shape setting.now.uses (number_by heights)) }
+    ensures fault { IfErr result (Tells (Breaks setting.now)) }
+{
+    let _form = setting.shape();
+    match longest_walks(alloc, rows) {
+        Ok(heights) => Ok(heights),
+        Err(Fault::Circle(circle)) => {
+            let resources = turned(alloc, circle.members())?;
+            Err(Stop::Told(RuleFault::ResourcesCircle { resources }))
+        }
+        Err(Fault::NoMemory) => Err(Stop::NoMemory),
+    }
 }

@@ -8,9 +8,10 @@ ghost use Rattle.design_rules.specs.Resource.{UsesInTurn};
 ghost use Rattle.resource_conditions.specs.Finding.{FindsRun};
 ghost use Rattle.resource_conditions.specs.Setting.{Breaks, KeepGrants, KeepTurns, UsersKeepTurns};
 ghost use Rattle.resource_rule.specs.Uses.{UsesLink, are_uses, is_use};
+ghost use Rattle.shape_links.specs.Links.{ends_of};
 ghost use Rattle.shape_links.specs.Setting.{IsUser, KeepKinds};
 
-use crate::told::uses_are_told;
+use crate::nodes::turns_by_nodes;
 use csp_base::{Event, NoMemory, Stop, Trace};
 use design_rules::{Condition, RuleFault};
 use observed_runs::Parity;
@@ -53,12 +54,11 @@ fn broken_use(alloc: Global, setting: &Setting<'_>, part: u32) -> Result<Option<
     requires { part < length setting.now.shape.parts }
     ensures { IfOk result (FindsRun setting.now.shape part (UsesInTurn setting.now.shape setting.now.uses part)) }
 {
-    let told = uses_are_told(alloc, setting, part)?;
-    if told {
+    let in_turn = turns_by_nodes(alloc, setting, part)?;
+    if in_turn {
         return Ok(None);
     }
-    let component = setting.component(part);
-    for link in component.links() {
+    for link in links_of(setting, part) {
         if let Some(run) = broken_on(alloc, setting, part, *link)? {
             return Ok(Some(run));
         }
@@ -76,7 +76,8 @@ fn broken_on(
     requires part { part < length setting.now.shape.parts }
     requires link { link < length setting.now.shape.links }
     requires end { IsTrue (is_end setting.now.shape part link) }
-    ensures { IfOk result (FindsRun setting.now.shape part (λ s. (j : ℕ) → Joins setting.now.shape part j link → UsesLink setting.now part link j s)) }
+    ensures { IfOk result (FindsRun setting.now.shape part (λ s. (j : ℕ) → Joins setting.now.shape part j link
+        → UsesLink setting.now part link j s)) }
 {
     let _form = setting.shape();
     let uses = LinkUse {
@@ -87,6 +88,14 @@ fn broken_on(
     };
     let component = setting.component(part);
     component.failing_run(alloc, &Parity::new(setting.link(link).shared()), &uses)
+}
+
+// The links of the part, in rising order.
+pub(crate) fn links_of<'a>(setting: &'a Setting<'_>, part: u32) -> &'a [u32]
+    requires { part < length setting.now.shape.parts }
+    ensures { result.now ≡ ends_of setting.now.shape part }
+{
+    setting.component(part).links()
 }
 
 // The other end of a link of the part.
@@ -130,7 +139,8 @@ impl<'a> Requirement for LinkUse<'a> {
 
 // Whether the event of each of the steps, if it is on the link, is in turn.
 fn all_uses(link: &LinkUse<'_>, state: u32, steps: &[(Event, u32)]) -> bool
-    ensures { result ≡ list_all (λ (step : ℕ × ℕ). is_use link.now.setting.now link.now.link link.now.other state step.0) steps.now }
+    ensures { result ≡ list_all (λ (step : ℕ × ℕ).
+        is_use link.now.setting.now link.now.link link.now.other state step.0) steps.now }
 {
     for (event, _) in steps {
         if !use_in_turn(link, state, *event) {

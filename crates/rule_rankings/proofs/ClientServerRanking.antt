@@ -1,15 +1,8 @@
 -- The ranks and the laps of a network of clients and servers.
-use Rattle.std.proofs.Common.{◌≡◌, ℕ, ℤ, pos, List, [], ◌∷◌, length, true, false, nat_eq, refl, arith, eq-eqb}
-use Rattle.std.specs.Prelude.{slice_index}
-use Rattle.std.proofs.lemmas.Bool.{both_ways, or_left}
-use Rattle.csp_base.specs.Prelude.{has, is_subset_of, meets_of}
+use Rattle.rule_rankings.proofs.Prelude.{◌≡◌, ℕ, ℤ, pos, List, [], ◌∷◌, length, true, false, nat_eq, refl, arith, eq-eqb, slice_index, both_ways, or_left, has, is_subset_of, meets_of, IsNonEmpty, Shape, RoleSets, role_at, Ranking, Serves, IsClientServerRanking, IsRank, serving_rank, AreAllRanked, NoLap}
 use Rattle.csp_base.proofs.SetLaws.{common_member, member_of_superset, is_subset_of_from_members, meets_of_from_member}
-use Rattle.csp_tables.specs.Prelude.{IsNonEmpty, Shape, RoleSets, role_at, Ranking}
 use Rattle.digraph.specs.Walk.{AreHeights}
-use Rattle.design_rules.specs.Prelude.{Serves, IsClientServerRanking}
 use Rattle.rule_rankings.proofs.RowsBelow.{fits, rank_is, others_zero, lap_none}
-use Rattle.rule_rankings.specs.ClientServerRanks.{IsRank, serving_rank}
-use Rattle.rule_rankings.specs.Rows.{AreAllRanked, NoLap}
 
 -- ---- the ranking
 

@@ -1,19 +1,11 @@
 -- The ranks and the laps of a cyclic network.
-use Rattle.std.proofs.Common.{◌≡◌, ℕ, zero, suc, ◌+◌, ◌<◌, ◌≤◌, inl, inr, pos, List, [], ◌∷◌, ◌++◌, length, get_or, Bool, ◌&&◌, cond, max, IsTrue, nat_eq, nat_lt, sym, ap, subst, ◌∙◌, arith, eq-eqb, ne_eqb, lt-ltb}
-use Rattle.csp_base.proofs.Standard.{length-append, get_or_append_left, get_or-append_seam, cases_Bool, cases_eq, cases_lt, cond-true, cond-false, and_from, both_ways, get_or_from_slice_get, slice_get_within}
-use Rattle.csp_base.specs.Members.{has}
-use Rattle.csp_tables.specs.Prelude.{node_at, is_possible, part_at, alphabets_of, TripleDisjoint, Shape, is_end, IsWellFormed, Ranking}
-use Rattle.design_rules.specs.Prelude.{count_below, above_all, links_of, ReachesLink, AllKeepPlaces, NumbersRise, place_of, ends_lap, AreCyclicRanks}
+use Rattle.rule_rankings.proofs.Prelude.{◌≡◌, ℕ, zero, suc, ◌+◌, ◌<◌, ◌≤◌, inl, inr, pos, List, [], ◌∷◌, ◌++◌, length, get_or, Bool, ◌&&◌, cond, max, IsTrue, nat_eq, nat_lt, sym, ap, subst, ◌∙◌, arith, eq-eqb, ne_eqb, lt-ltb, length-append, get_or_append_left, get_or-append_seam, cases_Bool, cases_eq, cases_lt, cond-true, cond-false, and_from, both_ways, get_or_from_slice_get, slice_get_within, has, node_at, is_possible, part_at, alphabets_of, TripleDisjoint, Shape, is_end, IsWellFormed, Ranking, count_below, above_all, links_of, ReachesLink, AllKeepPlaces, NumbersRise, place_of, ends_lap, AreCyclicRanks, ends_of, slice_index, AreTops, IsGreatest, IsLap, AreAllRanked, ends_sound, ends_complete, has_place, place_in, some_at, on_one}
 use Rattle.design_rules.proofs.Counts.{count_mono}
 use Rattle.design_rules.proofs.Shapes.{link_shared}
 use Rattle.design_rules.proofs.Places.{reached_differ}
 use Rattle.design_rules.proofs.Cyclic.{earlier_place, place_below}
-use Rattle.shape_links.specs.Links.{ends_of}
-use Rattle.std.specs.Prelude.{slice_index}
 use Rattle.rule_rankings.proofs.RowsBelow.{fits, rank_is, others_zero, lap_is, lap_none, possible_node}
-use Rattle.rule_rankings.specs.CyclicRanks.{AreTops, IsRank, IsGreatest, IsLap}
-use Rattle.rule_rankings.specs.Rows.{AreAllRanked}
-use Rattle.shape_links.proofs.Links.{ends_sound, ends_complete, has_place, place_in, some_at, on_one}
+use Rattle.rule_rankings.specs.CyclicRanks.{IsRank}
 
 -- ---- the greatest number
 

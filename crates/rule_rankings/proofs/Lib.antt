@@ -1,4 +1,5 @@
 pub mod ClientServerRanking
 pub mod CyclicRanking
+pub mod Prelude
 pub mod ResourceRanking
 pub mod RowsBelow

@@ -45,7 +45,8 @@ pub fn cyclic_ranking(
 // For each part the greatest number of its links.
 fn tops(alloc: Global, prepared: &SortedShape<'_>, numbers: &Heights) -> Result<Vec<u32>, NoMemory>
     requires { length numbers.now ≡ length prepared.now.links }
-    ensures { IfOk result (λ tops. AreTops prepared.now (slice_index numbers.now) (length prepared.now.parts) tops.items) }
+    ensures { IfOk result (λ tops.
+        AreTops prepared.now (slice_index numbers.now) (length prepared.now.parts) tops.items) }
 {
     let mut tops = Vec::new(alloc);
     for part in 0..prepared.shape().parts().len() {
@@ -84,7 +85,7 @@ fn scale(numbers: &[u32]) -> i64
     for number in numbers {
         above = wider(u64::from(*number) + 1, above);
     }
-    signed(above)
+    with_sign(above)
 }
 
 // The greater of the two.
@@ -95,7 +96,7 @@ fn wider(a: u64, b: u64) -> u64
 }
 
 // The number with a sign.
-fn signed(number: u64) -> i64
+fn with_sign(number: u64) -> i64
     requires { number ≤ 2 ^ 32 }
     ensures { result ≡ pos number }
 {

@@ -33,7 +33,8 @@ pub fn resource_ranking(
     requires keep { KeepUses setting.now.shape setting.now.uses }
     requires count { length heights.now ≡ length setting.now.shape.parts }
     requires below { All (λ height. height < length setting.now.shape.parts) heights.now }
-    ensures { IfOk result (λ ranking. AreResourceRanks setting.now.shape setting.now.uses (number_by heights.now) (top_number setting.now.uses (number_by heights.now) (length setting.now.shape.parts)) ranking) }
+    ensures { IfOk result (λ ranking. AreResourceRanks setting.now.shape setting.now.uses (number_by heights.now)
+        (top_number setting.now.uses (number_by heights.now) (length setting.now.shape.parts)) ranking) }
 {
     let ranks = Numbers {
         setting,
@@ -134,7 +135,8 @@ fn rank(height: u32, more: u32) -> i64
 fn least_acquired(numbers: &Numbers<'_>, set: &EventSet) -> u32
     requires kinds { KeepKinds numbers.now.setting.now }
     requires top { HaveTop numbers.now.setting.now numbers.now.heights.now numbers.now.top }
-    ensures { IsLeastAcquired numbers.now.setting.now (number_by numbers.now.heights.now) numbers.now.top set.now result }
+    ensures { IsLeastAcquired numbers.now.setting.now (number_by numbers.now.heights.now) numbers.now.top
+        set.now result }
 {
     let mut least = numbers.top + 1;
     for event in set.iter() {
@@ -150,7 +152,8 @@ fn with_event(setting: &Setting<'_>, heights: &Heights, least: u32, event: Event
     requires small { (j : ℕ) → number_by heights.now j ≤ MOST_COMPONENTS }
     ensures less { result ≤ least }
     ensures below { (j : ℕ) → is_acquired_by setting.now j event ≡ true → result ≤ number_by heights.now j }
-    ensures attained { (result ≡ least) ⊎ ((j : ℕ) × (j < length setting.now.shape.parts) × (is_acquired_by setting.now j event ≡ true) × (number_by heights.now j ≡ result)) }
+    ensures attained { (result ≡ least) ⊎ ((j : ℕ) × (j < length setting.now.shape.parts)
+        × (is_acquired_by setting.now j event ≡ true) × (number_by heights.now j ≡ result)) }
 {
     let Some(resource) = acquired(setting, event) else {
         return least;

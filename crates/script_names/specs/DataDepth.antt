@@ -1,18 +1,9 @@
 -- The depth of definitions of data with all of their uses expanded: a use is one node above the body that it names and above its arguments. Uses of
 -- processes are not expanded, and the name of a datatype is a node without parts.
-use Rattle.std.specs.Prelude.{ℕ, zero, suc, ◌+◌, ◌≤◌, max, Option, Some, None, List, slice_get}
-use Rattle.dl_limits.specs.declared.TheConstants.{MOST_DATA_DEPTH}
-use Rattle.csp_base.specs.Lists.{greatest}
-use Rattle.csp_program.specs.Prelude.{expr_depth_of_layer, gen_depth_of_layer, part_depth_of_layer}
-use Rattle.csp_program.specs.declared.expressions.EventPart.{EventPart}
-use Rattle.csp_program.specs.declared.expressions.Expr.{Expr, fold-Expr}
+use Rattle.std.specs.Prelude.{◌+◌, ◌≤◌}
+use Rattle.script_names.specs.Sources.{ℕ, zero, suc, max, Option, Some, None, List, slice_get, MOST_DATA_DEPTH, greatest, expr_depth_of_layer, gen_depth_of_layer, part_depth_of_layer, EventPart, Expr, fold-Expr, Gen, Body, Content, Def}
 use Rattle.csp_program.specs.declared.expressions.Expr.TheFolds.{fold-Gen, fold-EventPart}
 use Rattle.csp_program.specs.declared.expressions.Expr.TheOpen.{Expr-F}
-use Rattle.csp_program.specs.declared.expressions.Gen.{Gen}
-use Rattle.csp_program.specs.declared.programs.Body.{Body}
-use Rattle.csp_program.specs.declared.programs.Content.{Content}
-use Rattle.csp_program.specs.declared.programs.Def.{Def}
-use Rattle.csp_program.specs.declared.programs.Body.TheVariants as body
 
 -- where the body of each definition is so deep
 module _ (depth_of : ℕ → ℕ) where
@@ -32,8 +23,8 @@ module _ (depth_of : ℕ → ℕ) where
 
   -- the body of a definition that is expanded where it is used
   abbrev pub body_depth : Body → ℕ
-  body_depth (body.Datum e) = expanded_depth e
-  body_depth (body.Nametype e) = expanded_depth e
+  body_depth (Body.Datum e) = expanded_depth e
+  body_depth (Body.Nametype e) = expanded_depth e
   body_depth _ = 0
 
   abbrev pub depth_at : Option Def → ℕ

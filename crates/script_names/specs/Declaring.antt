@@ -2,25 +2,12 @@
 -- `Declares n decls p sets` says that these declarations put p into the program, and that its channels have these field sets. Channels, constants
 -- and definitions were declared before them as often as n says. `whole` is what all declarations put into the program: in it types are evaluated
 -- and uses expanded. `HasSets types sets` says which field sets a channel of these types has.
-use Rattle.std.specs.Prelude.{◌≡◌, ℕ, Bool, false, Option, Some, None, Ok, List, [], ◌∷◌, ◌++◌, length, map, replicate, slice_get}
-use Rattle.csp_atoms.specs.declared.atom.Atom.{Atom}
-use Rattle.csp_base.specs.Lists.{EachOnce, StandsIn}
-use Rattle.csp_text.specs.declared.script.Decl.{Decl}
+use Rattle.std.specs.Prelude.{◌≡◌, ◌∷◌, ◌++◌}
+use Rattle.script_names.specs.Sources.{ℕ, Bool, Some, None, List, [], length, map, replicate, slice_get, Atom, EachOnce, StandsIn, Decl, Tree, Expr, Net, Proc, Channel, Content, Kind, Body, Class, Entity}
 use Rattle.csp_text.specs.declared.token.ResourceNames.{ResourceNames}
 use Rattle.csp_text.specs.declared.token.RolesNames.{RolesNames}
-use Rattle.csp_text.specs.declared.tree.Tree.{Tree}
-use Rattle.csp_text.specs.declared.script.Decl.TheVariants as decl
-use Rattle.csp_program.specs.declared.expressions.Expr.{Expr}
-use Rattle.csp_program.specs.declared.networks.Net.{Net}
-use Rattle.csp_program.specs.declared.processes.Proc.{Proc}
-use Rattle.csp_program.specs.declared.programs.Channel.{Channel}
-use Rattle.csp_program.specs.declared.programs.Content.{Content}
 use Rattle.csp_program.specs.declared.networks.Net.TheVariants as net
 use Rattle.csp_program.specs.declared.processes.Proc.TheVariants as proc
-use Rattle.csp_program.specs.declared.programs.Body.TheVariants as body
-use Rattle.script_names.specs.declared.kinds.Class.TheVariants as class
-use Rattle.script_names.specs.declared.kinds.Entity.TheVariants as entity
-use Rattle.script_names.specs.declared.kinds.Kind.{Kind}
 use Rattle.script_names.specs.DataDepth.{IsShallow}
 use Rattle.script_names.specs.Names.{Name, Meanings, Counts, counted}
 use Rattle.script_names.specs.Scopes.{numbers_from, parameters}
@@ -41,13 +28,13 @@ module _ (meanings : Meanings) (kinds : List Kind) where
 
   -- the process that an annotation names is the definition with the number d, with so many parameters
   pub record IsAnnotated (x : Name) (d params : ℕ) : Type 0 where
-    pub means : meanings x ≡ Some (entity.Definition d params)
+    pub means : meanings x ≡ Some (Entity.Definition d params)
     pub network : Bool
-    pub process : slice_get kinds d ≡ Some (record { class = class.Process; network = network })
+    pub process : slice_get kinds d ≡ Some (record { class = Class.Process; network = network })
 
   -- a set that an annotation names is the definition with the number d, with the parameters of the process
   pub record IsEventSet (x : Name) (d params : ℕ) : Type 0 where
-    pub means : meanings x ≡ Some (entity.Definition d params)
+    pub means : meanings x ≡ Some (Entity.Definition d params)
     pub set : IsData meanings kinds d
 
 module _ (meanings : Meanings) (kinds : List Kind) (whole : Content) (HasSets : List Expr → List (List Atom) → Type 0) where
@@ -55,40 +42,40 @@ module _ (meanings : Meanings) (kinds : List Kind) (whole : Content) (HasSets : 
     nothing : {n : Counts} → Declares n [] nothing_yet []
     channels : {n : Counts} {m : ℕ} {xs : List Name} {types : List Tree} {es : List Expr} {sets : List (List Atom)} {decls : List Decl} {p : Content}
         {all : List (List (List Atom))} → AreExprs meanings kinds [] 0 types es m → HasSets es sets →
-        Declares (counted n (decl.Channel xs types)) decls p all →
-        Declares n (decl.Channel xs types ∷ decls) (record p { channels = channels_of_types xs es ++ p.channels }) (replicate (length xs) sets ++ all)
+        Declares (counted n (Decl.Channel xs types)) decls p all →
+        Declares n (Decl.Channel xs types ∷ decls) (record p { channels = channels_of_types xs es ++ p.channels }) (replicate (length xs) sets ++ all)
     datatype : {n : Counts} {x : Name} {cs : List Name} {decls : List Decl} {p : Content} {all : List (List (List Atom))} →
-        Declares (counted n (decl.Datatype x cs)) decls p all →
-        Declares n (decl.Datatype x cs ∷ decls) (record p {
+        Declares (counted n (Decl.Datatype x cs)) decls p all →
+        Declares n (Decl.Datatype x cs ∷ decls) (record p {
           consts = cs ++ p.consts;
-          defs = record { name = x; params = []; body = body.Datatype (numbers_from n.constants (length cs)) } ∷ p.defs;
+          defs = record { name = x; params = []; body = Body.Datatype (numbers_from n.constants (length cs)) } ∷ p.defs;
         }) all
     nametype : {n : Counts} {m : ℕ} {x : Name} {t : Tree} {e : Expr} {decls : List Decl} {p : Content} {all : List (List (List Atom))} →
-        IsExpr meanings kinds [] 0 t e m → IsShallow whole n.definitions → Declares (counted n (decl.Nametype x t)) decls p all →
-        Declares n (decl.Nametype x t ∷ decls) (record p { defs = record { name = x; params = []; body = body.Nametype e } ∷ p.defs }) all
+        IsExpr meanings kinds [] 0 t e m → IsShallow whole n.definitions → Declares (counted n (Decl.Nametype x t)) decls p all →
+        Declares n (Decl.Nametype x t ∷ decls) (record p { defs = record { name = x; params = []; body = Body.Nametype e } ∷ p.defs }) all
     data_definition : {n : Counts} {m : ℕ} {x : Name} {params : List Name} {t : Tree} {e : Expr} {decls : List Decl} {p : Content}
         {all : List (List (List Atom))} → AreParameters meanings kinds params → IsData meanings kinds n.definitions →
         IsExpr meanings kinds (parameters 0 params) (length params) t e m → IsShallow whole n.definitions →
-        Declares (counted n (decl.Define x params t)) decls p all →
-        Declares n (decl.Define x params t ∷ decls)
-        (record p { defs = record { name = x; params = numbers_from 0 (length params); body = body.Datum e } ∷ p.defs }) all
+        Declares (counted n (Decl.Define x params t)) decls p all →
+        Declares n (Decl.Define x params t ∷ decls)
+        (record p { defs = record { name = x; params = numbers_from 0 (length params); body = Body.Datum e } ∷ p.defs }) all
     process_definition : {n : Counts} {m : ℕ} {x : Name} {params : List Name} {t : Tree} {q : Proc} {decls : List Decl} {p : Content}
         {all : List (List (List Atom))} → AreParameters meanings kinds params → IsProcess meanings kinds n.definitions →
-        IsProc meanings kinds (parameters 0 params) (length params) t q m → Declares (counted n (decl.Define x params t)) decls p all →
-        Declares n (decl.Define x params t ∷ decls)
-        (record p { defs = record { name = x; params = numbers_from 0 (length params); body = body.Process q } ∷ p.defs }) all
+        IsProc meanings kinds (parameters 0 params) (length params) t q m → Declares (counted n (Decl.Define x params t)) decls p all →
+        Declares n (Decl.Define x params t ∷ decls)
+        (record p { defs = record { name = x; params = numbers_from 0 (length params); body = Body.Process q } ∷ p.defs }) all
     network_definition : {n : Counts} {m : ℕ} {x : Name} {params : List Name} {t : Tree} {w : Net} {decls : List Decl} {p : Content}
         {all : List (List (List Atom))} → AreParameters meanings kinds params → IsNetwork meanings kinds n.definitions →
-        IsNet meanings kinds (parameters 0 params) (length params) t w m → Declares (counted n (decl.Define x params t)) decls p all →
-        Declares n (decl.Define x params t ∷ decls)
-        (record p { defs = record { name = x; params = numbers_from 0 (length params); body = body.Network w } ∷ p.defs }) all
+        IsNet meanings kinds (parameters 0 params) (length params) t w m → Declares (counted n (Decl.Define x params t)) decls p all →
+        Declares n (Decl.Define x params t ∷ decls)
+        (record p { defs = record { name = x; params = numbers_from 0 (length params); body = Body.Network w } ∷ p.defs }) all
     -- the first assertion is the root: it is put in after those that follow
     assertion : {n : Counts} {m : ℕ} {t : Tree} {w : Net} {decls : List Decl} {p : Content} {all : List (List (List Atom))} →
-        IsNet meanings kinds [] 0 t w m → Declares n decls p all → Declares n (decl.Assert t ∷ decls) (record p { root = w }) all
+        IsNet meanings kinds [] 0 t w m → Declares n decls p all → Declares n (Decl.Assert t ∷ decls) (record p { root = w }) all
     roles : {n : Counts} {names : RolesNames} {d a b c e k : ℕ} {decls : List Decl} {p : Content} {all : List (List (List Atom))} →
         IsAnnotated meanings kinds names.process d k → IsEventSet meanings kinds names.creq a k → IsEventSet meanings kinds names.cack b k → IsEventSet meanings kinds names.sreq c k →
         IsEventSet meanings kinds names.sack e k → Declares n decls p all →
-        Declares n (decl.Roles names ∷ decls) (record p { roles = record { process = d; creq = a; cack = b; sreq = c; sack = e } ∷ p.roles }) all
+        Declares n (Decl.Roles names ∷ decls) (record p { roles = record { process = d; creq = a; cack = b; sreq = c; sack = e } ∷ p.roles }) all
     resource : {n : Counts} {names : ResourceNames} {d a b k : ℕ} {decls : List Decl} {p : Content} {all : List (List (List Atom))} →
         IsAnnotated meanings kinds names.process d k → IsEventSet meanings kinds names.acquire a k → IsEventSet meanings kinds names.release b k → Declares n decls p all →
-        Declares n (decl.Resource names ∷ decls) (record p { resources = record { process = d; acquire = a; release = b } ∷ p.resources }) all
+        Declares n (Decl.Resource names ∷ decls) (record p { resources = record { process = d; acquire = a; release = b } ∷ p.resources }) all

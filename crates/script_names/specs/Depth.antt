@@ -1,27 +1,22 @@
 -- The depth of definitions of data with all of their uses expanded: a use is one node above the body that it names and above its arguments. Uses of
 -- processes are not expanded, and the name of a datatype is a node without parts.
-use Rattle.script_names.specs.declared.kinds.Sense.TheVariants as sense
-use Rattle.script_names.specs.declared.kinds.Sense.{Sense}
-use Rattle.script_names.specs.declared.kinds.Use.TheVariants as how
-use Rattle.std.specs.Prelude.{ℕ, zero, suc, ◌+◌, max, Option, Some, None, List, [], ◌∷◌, slice_get}
-use Rattle.script_names.specs.declared.kinds.Entity.TheVariants as entity
+use Rattle.std.specs.Prelude.{◌+◌, ◌∷◌}
+use Rattle.script_names.specs.Sources.{Sense, ℕ, zero, suc, max, Option, Some, None, List, [], slice_get, Occurrence, Uses, Form, Parallel, Use, Entity}
 use Rattle.script_names.specs.Names.{Name}
-use Rattle.script_names.specs.declared.occurrence.Occurrence.{Occurrence}
-use Rattle.script_names.specs.declared.occurrence.Occurrence.TheVariants.{Uses, Form, Parallel}
 
 module _ (depth_of : ℕ → ℕ) where
   -- how deep what a name stands for reaches below its use
   abbrev pub below : Sense → ℕ
-  below (sense.Declared (entity.Definition d n)) = depth_of d
-  below (sense.Declared (entity.Set d)) = depth_of d
+  below (Sense.Declared (Entity.Definition d n)) = depth_of d
+  below (Sense.Declared (Entity.Set d)) = depth_of d
   below _ = 0
 
   -- how deep a form or a use reaches
   abbrev pub reach : Occurrence Name → ℕ
   reach (Form c place) = place.level
   reach (Parallel place) = place.level
-  reach (Uses x s (how.Alone place)) = place.level + below s
-  reach (Uses x s (how.Called n place)) = place.level + below s
+  reach (Uses x s (Use.Alone place)) = place.level + below s
+  reach (Uses x s (Use.Called n place)) = place.level + below s
   reach _ = 0
 
   -- how deep a body reaches that says this

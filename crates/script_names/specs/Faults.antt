@@ -1,40 +1,28 @@
 -- The faults of a declaration, from what it says: one line for each case.
-use Rattle.script_names.specs.declared.kinds.Sense.TheVariants as sense
-use Rattle.script_names.specs.declared.kinds.Sense.{Sense}
-use Rattle.script_names.specs.declared.kinds.Need.TheVariants as need
-use Rattle.script_names.specs.declared.kinds.Need.{Need}
-use Rattle.script_names.specs.declared.kinds.Use.{Use}
-use Rattle.script_names.specs.declared.kinds.Use.TheVariants as how
-use Rattle.std.specs.Prelude.{ℕ, zero, suc, ◌-◌, Bool, true, false, not, ◌&&◌, ◌||◌, nat_eq, nat_lt, if◌then◌else◌, Option, Some, None, List, slice_get}
-use Rattle.script_names.specs.declared.kinds.Class.{Class}
-use Rattle.script_names.specs.declared.kinds.Class.TheVariants as class
-use Rattle.script_names.specs.declared.kinds.Entity.{Entity}
-use Rattle.script_names.specs.declared.kinds.Entity.TheVariants as entity
-use Rattle.script_names.specs.declared.kinds.Kind.{Kind}
+use Rattle.std.specs.Prelude.{◌-◌, ◌&&◌, ◌||◌, if◌then◌else◌}
+use Rattle.script_names.specs.Sources.{Sense, Need, ℕ, zero, suc, Bool, true, false, not, nat_eq, nat_lt, Option, Some, None, List, slice_get, Class, Entity, Kind, Occurrence, Declares, Binds, Notes, Uses, Form, Parallel, Use}
 use Rattle.script_names.specs.Names.{Name, Meanings}
-use Rattle.script_names.specs.declared.occurrence.Occurrence.{Occurrence}
-use Rattle.script_names.specs.declared.occurrence.Occurrence.TheVariants.{Declares, Binds, Notes, Uses, Form, Parallel}
 
 abbrev pub is_bound : Sense → Bool
-is_bound sense.Bound = true
+is_bound Sense.Bound = true
 is_bound _ = false
 
 abbrev pub is_channel : Sense → Bool
-is_channel (sense.Declared (entity.Channel c n)) = true
+is_channel (Sense.Declared (Entity.Channel c n)) = true
 is_channel _ = false
 
 abbrev pub is_constant : Option Entity → Bool
-is_constant (Some (entity.Constant k)) = true
+is_constant (Some (Entity.Constant k)) = true
 is_constant _ = false
 
 -- a definition, other than a nametype or a datatype
 abbrev pub is_definition : Sense → Bool
-is_definition (sense.Declared (entity.Definition d n)) = true
+is_definition (Sense.Declared (Entity.Definition d n)) = true
 is_definition _ = false
 
 -- A name is neither bound nor declared.
 abbrev pub unknown_name : Occurrence Name → Option Name
-unknown_name (Uses x sense.Unknown how) = Some x
+unknown_name (Uses x Sense.Unknown how) = Some x
 unknown_name _ = None
 
 abbrev pub when : Bool → Name → Option Name
@@ -50,7 +38,7 @@ module _ (meanings : Meanings) where
 
 -- the class of a definition, and whether it is a network definition
 abbrev pub kind_class : Option Kind → Class
-kind_class None = class.Unknown
+kind_class None = Class.Unknown
 kind_class (Some kind) = kind.class
 
 abbrev pub kind_network : Option Kind → Bool
@@ -59,77 +47,77 @@ kind_network (Some kind) = kind.network
 
 -- a process stands where data is needed, or the reverse
 abbrev pub clashes : Class → Need → Bool
-clashes class.Process need.Data = true
-clashes class.Data need.Process = true
+clashes Class.Process Need.Data = true
+clashes Class.Data Need.Process = true
 clashes _ _ = false
 
 module _ (kinds : List Kind) where
   -- the class of what a name stands for
   abbrev pub class_of : Sense → Class
-  class_of (sense.Declared (entity.Definition d n)) = kind_class (slice_get kinds d)
-  class_of sense.Unknown = class.Unknown
-  class_of _ = class.Data
+  class_of (Sense.Declared (Entity.Definition d n)) = kind_class (slice_get kinds d)
+  class_of Sense.Unknown = Class.Unknown
+  class_of _ = Class.Data
 
   abbrev pub is_network : Sense → Bool
-  is_network (sense.Declared (entity.Definition d n)) = kind_network (slice_get kinds d)
+  is_network (Sense.Declared (Entity.Definition d n)) = kind_network (slice_get kinds d)
   is_network _ = false
 
   -- What stands at a place is not of the kind that is needed there.
   abbrev pub is_wrong_kind : Occurrence Name → Bool
   is_wrong_kind (Form c place) = clashes c place.need
-  is_wrong_kind (Parallel place) = clashes class.Process place.need
-  is_wrong_kind (Uses x s (how.Alone place)) = clashes (class_of s) place.need
-  is_wrong_kind (Uses x s (how.Called n place)) = not (is_definition s) || clashes (class_of s) place.need
-  is_wrong_kind (Uses x s (how.Dotted n)) = not (is_channel s)
-  is_wrong_kind (Uses x s (how.Heads zero)) = not (is_channel s || is_bound s)
-  is_wrong_kind (Uses x s (how.Heads (suc n))) = not (is_channel s)
-  is_wrong_kind (Uses x s (how.Begins n)) = not (is_channel s)
-  is_wrong_kind (Uses x s (how.Renamed n new m)) = false
-  is_wrong_kind (Uses x s how.Annotated) = not (is_definition s) || clashes (class_of s) need.Process
-  is_wrong_kind (Uses x s (how.Annotates process)) = not (is_definition s) || clashes (class_of s) need.Data
+  is_wrong_kind (Parallel place) = clashes Class.Process place.need
+  is_wrong_kind (Uses x s (Use.Alone place)) = clashes (class_of s) place.need
+  is_wrong_kind (Uses x s (Use.Called n place)) = not (is_definition s) || clashes (class_of s) place.need
+  is_wrong_kind (Uses x s (Use.Dotted n)) = not (is_channel s)
+  is_wrong_kind (Uses x s (Use.Heads zero)) = not (is_channel s || is_bound s)
+  is_wrong_kind (Uses x s (Use.Heads (suc n))) = not (is_channel s)
+  is_wrong_kind (Uses x s (Use.Begins n)) = not (is_channel s)
+  is_wrong_kind (Uses x s (Use.Renamed n new m)) = false
+  is_wrong_kind (Uses x s Use.Annotated) = not (is_definition s) || clashes (class_of s) Need.Process
+  is_wrong_kind (Uses x s (Use.Annotates process)) = not (is_definition s) || clashes (class_of s) Need.Data
   is_wrong_kind _ = false
 
   -- A parallel or the use of a network definition stands outside the network positions.
   abbrev pub is_inside : Occurrence Name → Bool
   is_inside (Parallel place) = not place.network
-  is_inside (Uses x s (how.Alone place)) = is_network s && not place.network
-  is_inside (Uses x s (how.Called n place)) = is_network s && not place.network
+  is_inside (Uses x s (Use.Alone place)) = is_network s && not place.network
+  is_inside (Uses x s (Use.Called n place)) = is_network s && not place.network
   is_inside _ = false
 
 -- the number of parameters of a definition, and of fields of a channel
 abbrev pub takes_other : Sense → ℕ → Bool
-takes_other (sense.Declared (entity.Definition d n)) m = not (nat_eq n m)
+takes_other (Sense.Declared (Entity.Definition d n)) m = not (nat_eq n m)
 takes_other _ m = false
 
 abbrev pub has_other : Sense → ℕ → Bool
-has_other (sense.Declared (entity.Channel c n)) m = not (nat_eq n m)
+has_other (Sense.Declared (Entity.Channel c n)) m = not (nat_eq n m)
 has_other _ m = false
 
 abbrev pub has_fewer : Sense → ℕ → Bool
-has_fewer (sense.Declared (entity.Channel c n)) m = nat_lt n m
+has_fewer (Sense.Declared (Entity.Channel c n)) m = nat_lt n m
 has_fewer _ m = false
 
 -- the two sides of a renaming don't leave the same number of fields, or one side has too many
 abbrev pub leave_other : Sense → ℕ → Sense → ℕ → Bool
-leave_other (sense.Declared (entity.Channel c n)) given (sense.Declared (entity.Channel c' n')) given' =
+leave_other (Sense.Declared (Entity.Channel c n)) given (Sense.Declared (Entity.Channel c' n')) given' =
     nat_lt n given || (nat_lt n' given' || not (nat_eq (n - given) (n' - given')))
 leave_other _ given _ given' = false
 
 -- the two definitions differ in their number of parameters
 abbrev pub take_other : Sense → Sense → Bool
-take_other (sense.Declared (entity.Definition d n)) s = takes_other s n
+take_other (Sense.Declared (Entity.Definition d n)) s = takes_other s n
 take_other _ s = false
 
 -- A call, an event, a renaming pair or an annotated set has the wrong number of arguments, fields or parameters.
 abbrev pub is_wrong_count : Sense → Use → Bool
-is_wrong_count s (how.Alone place) = takes_other s 0 || has_other s 0
-is_wrong_count s (how.Called n place) = takes_other s n
-is_wrong_count s (how.Dotted n) = has_other s n
-is_wrong_count s (how.Heads n) = has_other s n
-is_wrong_count s (how.Begins n) = has_fewer s n
-is_wrong_count s (how.Renamed n new m) = leave_other s n new m
-is_wrong_count s how.Annotated = false
-is_wrong_count s (how.Annotates process) = take_other process s
+is_wrong_count s (Use.Alone place) = takes_other s 0 || has_other s 0
+is_wrong_count s (Use.Called n place) = takes_other s n
+is_wrong_count s (Use.Dotted n) = has_other s n
+is_wrong_count s (Use.Heads n) = has_other s n
+is_wrong_count s (Use.Begins n) = has_fewer s n
+is_wrong_count s (Use.Renamed n new m) = leave_other s n new m
+is_wrong_count s Use.Annotated = false
+is_wrong_count s (Use.Annotates process) = take_other process s
 
 abbrev pub wrong_count : Occurrence Name → Option Name
 wrong_count (Uses x s how) = when (is_wrong_count s how) x

@@ -1,17 +1,13 @@
 -- The values of the fields of channels: those of their types, which are sets of numbers and constants.
-use Rattle.std.specs.Prelude.{Bool, true, false, if◌then◌else◌, Ok, Err, List, [], ◌∷◌, map}
-use Rattle.csp_atoms.specs.declared.atom.Atom.{Atom}
+use Rattle.std.specs.Prelude.{if◌then◌else◌, ◌∷◌}
+use Rattle.script_names.specs.Sources.{Bool, true, false, Ok, Err, List, [], map, Atom, all_true, Outcome, and_then, as_set, value_of, Expr, Content}
 use Rattle.csp_atoms.specs.declared.value.Value.{Value}
-use Rattle.csp_atoms.specs.declared.atom.Atom.TheVariants as atom
-use Rattle.csp_program.specs.Prelude.{all_true, Outcome, and_then, as_set, value_of}
-use Rattle.csp_program.specs.declared.expressions.Expr.{Expr}
 use Rattle.csp_program.specs.declared.kinds.ValueKind.TheVariants.{Kind}
-use Rattle.csp_program.specs.declared.programs.Content.{Content}
 
 -- numbers and constants may be values of a field
 abbrev pub may_be_field : Atom → Bool
-may_be_field (atom.Num n) = true
-may_be_field (atom.Const k) = true
+may_be_field (Atom.Num n) = true
+may_be_field (Atom.Const k) = true
 may_be_field _ = false
 
 -- a set of numbers or of constants is needed

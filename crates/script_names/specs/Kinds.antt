@@ -1,51 +1,39 @@
 -- What the definitions of a script are: the class of each, and which of them are network definitions.
-use Rattle.script_names.specs.declared.kinds.Sense.TheVariants as sense
-use Rattle.script_names.specs.declared.kinds.Sense.{Sense}
-use Rattle.std.specs.Prelude.{◌≡◌, ℕ, IsTrue, ◌↔◌, Option, Some, None, List, [], ◌∷◌, ◌++◌, length, map, take, slice_get}
-use Rattle.std.specs.List.{flat_map}
-use Rattle.csp_text.specs.declared.script.Decl.{Decl}
-use Rattle.csp_text.specs.declared.tree.FieldTree.TheFolds.{fold-Tree}
-use Rattle.csp_text.specs.declared.tree.FieldTree.TheOpen.{Tree-F}
-use Rattle.csp_text.specs.declared.tree.Tree.{Tree}
-use Rattle.csp_text.specs.declared.script.Decl.TheVariants as decl
-use Rattle.script_names.specs.declared.kinds.Class.{Class}
-use Rattle.script_names.specs.declared.kinds.Class.TheVariants as class
+use Rattle.std.specs.Prelude.{◌≡◌, ◌↔◌, ◌∷◌, ◌++◌}
+use Rattle.script_names.specs.Sources.{Sense, ℕ, IsTrue, Option, Some, None, List, [], length, map, take, slice_get, flat_map, Decl, fold-Tree, Tree-F, Tree, Class, Kind, Entity}
 use Rattle.script_names.specs.declared.kinds.End.{End}
-use Rattle.script_names.specs.declared.kinds.End.TheVariants as end
-use Rattle.script_names.specs.declared.kinds.Entity.TheVariants as entity
-use Rattle.script_names.specs.declared.kinds.Kind.{Kind}
 use Rattle.script_names.specs.Names.{Name, Meanings, sense_in, meanings_of}
 
 -- the end at a name alone
 abbrev pub end_of_name : Sense → End
-end_of_name (sense.Declared (entity.Definition d n)) = end.Use d
-end_of_name sense.Unknown = end.Nothing
-end_of_name _ = end.Data
+end_of_name (Sense.Declared (Entity.Definition d n)) = End.Use d
+end_of_name Sense.Unknown = End.Nothing
+end_of_name _ = End.Data
 
 -- the end at a call: one that names no definition has no meaning
 abbrev pub end_of_call : Sense → End
-end_of_call (sense.Declared (entity.Definition d n)) = end.Use d
-end_of_call _ = end.Nothing
+end_of_call (Sense.Declared (Entity.Definition d n)) = End.Use d
+end_of_call _ = End.Nothing
 
 module _ (meanings : Meanings) (names : List Name) where
   abbrev pub ends_of_layer : Tree-F (Unit {0}) (Unit {0}) (List End) (Unit {0}) (Unit {0}) → List End
   ends_of_layer (Tree-F.Name x) = end_of_name (sense_in meanings names x) ∷ []
   ends_of_layer (Tree-F.Call f args) = end_of_call (sense_in meanings names f) ∷ []
   ends_of_layer (Tree-F.If c p q) = p ++ q
-  ends_of_layer (Tree-F.Parallel p a b q) = end.Parallel ∷ []
-  ends_of_layer (Tree-F.EachParallel x s a p) = end.Parallel ∷ []
-  ends_of_layer Tree-F.Stop = end.Process ∷ []
-  ends_of_layer Tree-F.Skip = end.Process ∷ []
-  ends_of_layer (Tree-F.Prefix event p) = end.Process ∷ []
-  ends_of_layer (Tree-F.Guard c p) = end.Process ∷ []
-  ends_of_layer (Tree-F.External ps) = end.Process ∷ []
-  ends_of_layer (Tree-F.Internal ps) = end.Process ∷ []
-  ends_of_layer (Tree-F.EachExternal x s p) = end.Process ∷ []
-  ends_of_layer (Tree-F.EachInternal x s p) = end.Process ∷ []
-  ends_of_layer (Tree-F.Seq p q) = end.Process ∷ []
-  ends_of_layer (Tree-F.Hide p s) = end.Process ∷ []
-  ends_of_layer (Tree-F.Rename p pairs gens) = end.Process ∷ []
-  ends_of_layer _ = end.Data ∷ []
+  ends_of_layer (Tree-F.Parallel p a b q) = End.Parallel ∷ []
+  ends_of_layer (Tree-F.EachParallel x s a p) = End.Parallel ∷ []
+  ends_of_layer Tree-F.Stop = End.Process ∷ []
+  ends_of_layer Tree-F.Skip = End.Process ∷ []
+  ends_of_layer (Tree-F.Prefix event p) = End.Process ∷ []
+  ends_of_layer (Tree-F.Guard c p) = End.Process ∷ []
+  ends_of_layer (Tree-F.External ps) = End.Process ∷ []
+  ends_of_layer (Tree-F.Internal ps) = End.Process ∷ []
+  ends_of_layer (Tree-F.EachExternal x s p) = End.Process ∷ []
+  ends_of_layer (Tree-F.EachInternal x s p) = End.Process ∷ []
+  ends_of_layer (Tree-F.Seq p q) = End.Process ∷ []
+  ends_of_layer (Tree-F.Hide p s) = End.Process ∷ []
+  ends_of_layer (Tree-F.Rename p pairs gens) = End.Process ∷ []
+  ends_of_layer _ = End.Data ∷ []
 
   -- the ends of a body through the parts of its `if`s, in their order, under these bound names
   abbrev pub ends : Tree → List End
@@ -53,9 +41,9 @@ module _ (meanings : Meanings) (names : List Name) where
 
 -- the ends of each definition's body; nametypes and datatypes are data
 abbrev pub body_ends : Meanings → Decl → List (List End)
-body_ends meanings (decl.Define x params t) = ends meanings params t ∷ []
-body_ends meanings (decl.Nametype x t) = (end.Data ∷ []) ∷ []
-body_ends meanings (decl.Datatype x ks) = (end.Data ∷ []) ∷ []
+body_ends meanings (Decl.Define x params t) = ends meanings params t ∷ []
+body_ends meanings (Decl.Nametype x t) = (End.Data ∷ []) ∷ []
+body_ends meanings (Decl.Datatype x ks) = (End.Data ∷ []) ∷ []
 body_ends _ _ = []
 
 abbrev pub script_ends : List Decl → List (List End)
@@ -69,7 +57,7 @@ ends_at (Some es) = es
 -- that it has. `all` has the ends of each definition that are followed.
 pub data LeadsTo (target : End) (all : List (List End)) : ℕ → Type 0 where
   here : (d k : ℕ) → slice_get (ends_at (slice_get all d)) k ≡ Some target → LeadsTo target all d
-  beyond : (d k next : ℕ) → slice_get (ends_at (slice_get all d)) k ≡ Some (end.Use next) → LeadsTo target all next → LeadsTo target all d
+  beyond : (d k next : ℕ) → slice_get (ends_at (slice_get all d)) k ≡ Some (End.Use next) → LeadsTo target all next → LeadsTo target all d
 
 -- the class follows the first end of each definition
 abbrev pub first_ends : List (List End) → List (List End)
@@ -78,14 +66,14 @@ first_ends all = map (λ es. take 1 es) all
 -- The class of a definition is data, or nothing, where following it comes to that. Else it ends at a form of a process or runs in a circle, and the
 -- class is a process.
 abbrev pub HasClass : List (List End) → ℕ → Class → Type 0
-HasClass all d class.Data = LeadsTo end.Data (first_ends all) d
-HasClass all d class.Unknown = LeadsTo end.Nothing (first_ends all) d
-HasClass all d class.Process = (LeadsTo end.Data (first_ends all) d → ⊥) × (LeadsTo end.Nothing (first_ends all) d → ⊥)
+HasClass all d Class.Data = LeadsTo End.Data (first_ends all) d
+HasClass all d Class.Unknown = LeadsTo End.Nothing (first_ends all) d
+HasClass all d Class.Process = (LeadsTo End.Data (first_ends all) d → ⊥) × (LeadsTo End.Nothing (first_ends all) d → ⊥)
 
 -- This is what the definition with the number d is. It is a network definition where some of its ends lead to a parallel.
 pub record IsKind (all : List (List End)) (d : ℕ) (kind : Kind) : Type 0 where
   pub class : HasClass all d kind.class
-  pub network : IsTrue kind.network ↔ LeadsTo end.Parallel all d
+  pub network : IsTrue kind.network ↔ LeadsTo End.Parallel all d
 
 -- this is what definitions with these ends are, one after another
 pub record AreKindsOf (all : List (List End)) (kinds : List Kind) : Type 0 where

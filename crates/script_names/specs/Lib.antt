@@ -1,3 +1,4 @@
+pub mod Sources
 pub mod Names
 pub mod Once
 pub mod Scopes

@@ -1,13 +1,7 @@
 -- What the names of a script stand for: a name that is bound hides a declared one, and a declared name is what its first declaration makes it.
 -- Channels, constants and definitions are numbered from 0 in the order of their declarations; nametypes and datatypes are definitions too.
-use Rattle.script_names.specs.declared.kinds.Sense.TheVariants as sense
-use Rattle.script_names.specs.declared.kinds.Sense.{Sense}
-use Rattle.std.specs.Prelude.{ℕ, ◌+◌, Bool, nat_eq, if◌then◌else◌, Option, Some, None, List, [], ◌∷◌, ◌++◌, length, map}
-use Rattle.csp_base.specs.Standard.{pointwise, lookup, is_member}
-use Rattle.csp_text.specs.declared.script.Decl.{Decl}
-use Rattle.csp_text.specs.declared.script.Decl.TheVariants as decl
-use Rattle.script_names.specs.declared.kinds.Entity.{Entity}
-use Rattle.script_names.specs.declared.kinds.Entity.TheVariants as entity
+use Rattle.std.specs.Prelude.{◌+◌, if◌then◌else◌, ◌∷◌, ◌++◌}
+use Rattle.script_names.specs.Sources.{Sense, ℕ, Bool, nat_eq, Option, Some, None, List, [], length, map, pointwise, lookup, is_member, Decl, Entity}
 
 -- a name is the list of its bytes
 abbrev pub Name : Type 0
@@ -28,10 +22,10 @@ pub record Counts : Type 0 where
 
 -- with those of one more declaration
 abbrev pub counted : Counts → Decl → Counts
-counted n (decl.Channel xs types) = record n { channels = n.channels + length xs }
-counted n (decl.Datatype x ks) = record n { constants = n.constants + length ks; definitions = n.definitions + 1 }
-counted n (decl.Nametype x t) = record n { definitions = n.definitions + 1 }
-counted n (decl.Define x params t) = record n { definitions = n.definitions + 1 }
+counted n (Decl.Channel xs types) = record n { channels = n.channels + length xs }
+counted n (Decl.Datatype x ks) = record n { constants = n.constants + length ks; definitions = n.definitions + 1 }
+counted n (Decl.Nametype x t) = record n { definitions = n.definitions + 1 }
+counted n (Decl.Define x params t) = record n { definitions = n.definitions + 1 }
 counted n _ = n
 
 -- names with what they stand for, in the order of the text
@@ -40,18 +34,18 @@ Entities = List (Name × Entity)
 
 abbrev pub channels_from : ℕ → ℕ → List Name → Entities
 channels_from n fields [] = []
-channels_from n fields (x ∷ xs) = (x, entity.Channel n fields) ∷ channels_from (n + 1) fields xs
+channels_from n fields (x ∷ xs) = (x, Entity.Channel n fields) ∷ channels_from (n + 1) fields xs
 
 abbrev pub constants_from : ℕ → List Name → Entities
 constants_from n [] = []
-constants_from n (x ∷ xs) = (x, entity.Constant n) ∷ constants_from (n + 1) xs
+constants_from n (x ∷ xs) = (x, Entity.Constant n) ∷ constants_from (n + 1) xs
 
 -- what a declaration declares, after so many of each kind
 abbrev pub declares : Counts → Decl → Entities
-declares n (decl.Channel xs types) = channels_from n.channels (length types) xs
-declares n (decl.Datatype x ks) = (x, entity.Set n.definitions) ∷ constants_from n.constants ks
-declares n (decl.Nametype x t) = (x, entity.Set n.definitions) ∷ []
-declares n (decl.Define x params t) = (x, entity.Definition n.definitions (length params)) ∷ []
+declares n (Decl.Channel xs types) = channels_from n.channels (length types) xs
+declares n (Decl.Datatype x ks) = (x, Entity.Set n.definitions) ∷ constants_from n.constants ks
+declares n (Decl.Nametype x t) = (x, Entity.Set n.definitions) ∷ []
+declares n (Decl.Define x params t) = (x, Entity.Definition n.definitions (length params)) ∷ []
 declares _ _ = []
 
 abbrev pub declared_from : Counts → List Decl → Entities
@@ -81,9 +75,9 @@ abbrev pub meanings_of : List Decl → Meanings
 meanings_of decls x = first_of (declared decls) x
 
 abbrev pub sense_of : Option Entity → Sense
-sense_of None = sense.Unknown
-sense_of (Some e) = sense.Declared e
+sense_of None = Sense.Unknown
+sense_of (Some e) = Sense.Declared e
 
 -- what a name stands for under these bound names
 abbrev pub sense_in : Meanings → List Name → Name → Sense
-sense_in meanings names x = if is_among names x then sense.Bound else sense_of (meanings x)
+sense_in meanings names x = if is_among names x then Sense.Bound else sense_of (meanings x)

@@ -1,18 +1,15 @@
 -- No name is declared twice, and no process is annotated twice by one kind of annotation.
-use Rattle.std.specs.Prelude.{List, [], ◌∷◌}
-use Rattle.std.specs.List.{flat_map}
-use Rattle.csp_base.specs.Lists.{EachOnce}
-use Rattle.csp_text.specs.declared.script.Decl.{Decl}
-use Rattle.csp_text.specs.declared.script.Decl.TheVariants as decl
+use Rattle.std.specs.Prelude.{◌∷◌}
+use Rattle.script_names.specs.Sources.{List, [], flat_map, EachOnce, Decl}
 use Rattle.script_names.specs.Names.{Name, names_declared}
 
 -- the processes with an annotation of roles, and those with one of a resource
 abbrev pub with_roles : Decl → List Name
-with_roles (decl.Roles names) = names.process ∷ []
+with_roles (Decl.Roles names) = names.process ∷ []
 with_roles _ = []
 
 abbrev pub with_uses : Decl → List Name
-with_uses (decl.Resource names) = names.process ∷ []
+with_uses (Decl.Resource names) = names.process ∷ []
 with_uses _ = []
 
 pub record AreOnce (decls : List Decl) : Type 0 where

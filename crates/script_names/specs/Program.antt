@@ -1,16 +1,6 @@
 -- The program of a script.
-use Rattle.std.specs.Prelude.{◌≡◌, ℕ, ◌+◌, ◌≤◌, Some, Ok, List, [], ◌∷◌, sum, map}
-use Rattle.dl_limits.specs.declared.TheConstants.{MOST_EVENTS}
-use Rattle.csp_atoms.specs.declared.atom.Atom.{Atom}
-use Rattle.csp_base.specs.Lists.{StandsIn}
-use Rattle.csp_program.specs.Prelude.{row_count, event_table}
-use Rattle.csp_program.specs.declared.programs.Channel.{Channel}
-use Rattle.csp_program.specs.declared.programs.Content.{Content}
-use Rattle.csp_text.specs.declared.script.Decl.{Decl}
-use Rattle.csp_text.specs.declared.script.Script.{Script}
-use Rattle.csp_text.specs.declared.tree.Tree.{Tree}
-use Rattle.csp_text.specs.declared.script.Decl.TheVariants as decl
-use Rattle.script_names.specs.declared.kinds.Kind.{Kind}
+use Rattle.std.specs.Prelude.{◌≡◌, ◌+◌, ◌≤◌, ◌∷◌}
+use Rattle.script_names.specs.Sources.{ℕ, Some, Ok, List, [], sum, map, MOST_EVENTS, Atom, StandsIn, row_count, event_table, Channel, Content, Decl, Script, Tree, Kind}
 use Rattle.script_names.specs.Declaring.{Declares}
 use Rattle.script_names.specs.FieldSets.{field_sets}
 use Rattle.script_names.specs.Kinds.{AreKinds}
@@ -37,7 +27,7 @@ with_events p channels = record p { channels = channels; events = event_table ch
 pub record IsProgram (script : Script) (p : Content) : Type 0 where
   pub kinds : List Kind
   pub are : AreKinds script.decls kinds
-  pub asserted : (t : Tree) × StandsIn script.decls (decl.Assert t)
+  pub asserted : (t : Tree) × StandsIn script.decls (Decl.Assert t)
   pub once : AreOnce script.decls
   pub plain : Content
   pub sets : List (List (List Atom))

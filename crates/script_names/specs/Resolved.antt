@@ -1,27 +1,16 @@
 -- The program of a script, or why it has none. In this order: no deadlock assertion is in the script; a declaration has a name fault; the type of a
 -- channel's field has no value that fits; there are too many events.
-use Rattle.std.specs.Prelude.{◌≡◌, ℕ, ◌+◌, ◌-◌, ◌^◌, min, nat_le, if◌then◌else◌, Option, Some, None, Result, Ok, Err, List, [], ◌∷◌, ◌++◌, length, map, replicate}
-use Rattle.dl_limits.specs.declared.TheConstants.{MOST_EVENTS}
-use Rattle.csp_atoms.specs.declared.atom.Atom.{Atom}
-use Rattle.csp_program.specs.Prelude.{Outcome}
-use Rattle.csp_program.specs.declared.expressions.Expr.{Expr}
-use Rattle.csp_program.specs.declared.programs.Content.{Content}
-use Rattle.csp_text.specs.declared.script.Decl.{Decl}
-use Rattle.csp_text.specs.declared.script.Script.{Script}
-use Rattle.csp_text.specs.declared.tree.Tree.{Tree}
-use Rattle.csp_text.specs.declared.script.Decl.TheVariants as decl
-use Rattle.script_names.specs.declared.fault.ResolveFault.{ResolveFault}
-use Rattle.script_names.specs.declared.fault.ResolveFault.TheVariants as fault
+use Rattle.std.specs.Prelude.{◌≡◌, ◌+◌, ◌-◌, ◌^◌, if◌then◌else◌, ◌∷◌, ◌++◌}
+use Rattle.script_names.specs.Sources.{ℕ, min, nat_le, Option, Some, None, Result, Ok, Err, List, [], length, map, replicate, MOST_EVENTS, Atom, Outcome, Expr, Content, Decl, Script, Tree, ResolveFault}
 use Rattle.script_names.specs.declared.fault.Unresolved.{Unresolved}
-use Rattle.script_names.specs.declared.fault.Unresolved.TheVariants as unresolved
 use Rattle.script_names.specs.declared.kinds.Kind.{Kind as DefinitionKind}
 use Rattle.script_names.specs.Contents.{first_assertion, plain_content}
-pub use Rattle.script_names.specs.FieldSets.{field_set, field_sets, may_be_field}
 use Rattle.script_names.specs.Kinds.{AreKinds}
 use Rattle.script_names.specs.Names.{meanings_of}
-pub use Rattle.script_names.specs.Program.{IsProgram, all_events, with_events, with_sets}
 use Rattle.script_names.specs.Told.{name_fault}
 use Rattle.script_names.specs.Typed.{exprs, reading}
+pub use Rattle.script_names.specs.FieldSets.{field_set, field_sets, may_be_field}
+pub use Rattle.script_names.specs.Program.{IsProgram, all_events, with_events, with_sets}
 
 -- what comes of a script: something, or the reason why not
 abbrev pub Answer : Type 0 → Type 0
@@ -34,12 +23,12 @@ and_next (Err f) next = Err f
 -- told in the declaration with the number i
 abbrev pub told_in : {A : Type 0} → ℕ → Outcome A → Answer A
 told_in i (Ok a) = Ok a
-told_in i (Err kind) = Err (fault.Value i kind)
+told_in i (Err kind) = Err (ResolveFault.Value i kind)
 
 -- the field sets of each channel of declarations that are numbered from i on; `types_of` reads types
 abbrev pub channel_sets : Content → (List Tree → List Expr) → ℕ → List Decl → Answer (List (List (List Atom)))
 channel_sets p types_of i [] = Ok []
-channel_sets p types_of i (decl.Channel xs types ∷ decls) =
+channel_sets p types_of i (Decl.Channel xs types ∷ decls) =
     and_next (told_in i (field_sets p (types_of types))) (λ sets.
     and_next (channel_sets p types_of (i + 1) decls) (λ rest. Ok (replicate (length xs) sets ++ rest)))
 channel_sets p types_of i (_ ∷ decls) = channel_sets p types_of (i + 1) decls
@@ -49,7 +38,7 @@ abbrev pub with_table : Content → List (List (List Atom)) → Answer Content
 with_table p all =
     if nat_le (all_events all) MOST_EVENTS
     then Ok (with_events p (with_sets 0 p.channels all))
-    else Err (fault.EventLimit (min (all_events all) (2 ^ 64 - 1)))
+    else Err (ResolveFault.EventLimit (min (all_events all) (2 ^ 64 - 1)))
 
 module _ (decls : List Decl) (kinds : List DefinitionKind) where
   abbrev pub types_of : List Tree → List Expr
@@ -60,7 +49,7 @@ module _ (decls : List Decl) (kinds : List DefinitionKind) where
   with_names None = and_next (channel_sets (plain_content decls kinds) types_of 0 decls) (λ all. with_table (plain_content decls kinds) all)
 
   abbrev pub with_root : Option Tree → Answer Content
-  with_root None = Err fault.NoAssert
+  with_root None = Err ResolveFault.NoAssert
   with_root (Some t) = with_names (name_fault decls kinds)
 
   -- the program of a script whose definitions are of these kinds
@@ -76,5 +65,5 @@ pub record IsRefused (script : Script) (f : ResolveFault) : Type 0 where
 -- what a call owes that resolves a script: want of memory is free
 abbrev pub Resolves : Script → Result Content Unresolved → Type 0
 Resolves script (Ok p) = IsProgram script p
-Resolves script (Err (unresolved.Refused f)) = IsRefused script f
-Resolves script (Err unresolved.NoMemory) = Unit {0}
+Resolves script (Err (Unresolved.Refused f)) = IsRefused script f
+Resolves script (Err Unresolved.NoMemory) = Unit {0}

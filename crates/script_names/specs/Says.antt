@@ -1,16 +1,8 @@
 -- What trees say at their names and forms, in the order of their tokens. The items of a comprehension, the parts of `{| |}` and the pairs of a
 -- renaming stand before its generators and under the names that these bind.
-use Rattle.script_names.specs.declared.kinds.Need.TheVariants as need
-use Rattle.script_names.specs.declared.kinds.Use.TheVariants as how
-use Rattle.script_names.specs.declared.kinds.Place.{Place}
-use Rattle.std.specs.Prelude.{◌+◌, true, false, Some, None, List, [], ◌∷◌, ◌++◌, length, map}
-use Rattle.csp_text.specs.declared.tree.FieldTree.TheFolds.{fold-Tree}
-use Rattle.csp_text.specs.declared.tree.FieldTree.TheOpen.{FieldTree-F, GenTree-F, Tree-F, EventTree-F, PartTree-F}
-use Rattle.csp_text.specs.declared.tree.Tree.{Tree}
-use Rattle.script_names.specs.declared.kinds.Class.TheVariants as class
+use Rattle.std.specs.Prelude.{◌+◌, ◌∷◌, ◌++◌}
+use Rattle.script_names.specs.Sources.{Place, true, false, Some, None, List, [], length, map, fold-Tree, FieldTree-F, GenTree-F, Tree-F, EventTree-F, PartTree-F, Tree, Occurrence, Binds, Uses, Form, Parallel, Need, Use, Class}
 use Rattle.script_names.specs.Names.{Name, Meanings, sense_in}
-use Rattle.script_names.specs.declared.occurrence.Occurrence.{Occurrence}
-use Rattle.script_names.specs.declared.occurrence.Occurrence.TheVariants.{Binds, Uses, Form, Parallel}
 
 -- what is said under these bound names
 abbrev pub Saying : Type 0
@@ -32,13 +24,13 @@ pub record Fields (F : Type 0) : Type 0 where
 
 -- the places in what stands at a place
 abbrev pub data_in : Place → Place
-data_in place = record { need = need.Data; network = false; level = place.level + 1 }
+data_in place = record { need = Need.Data; network = false; level = place.level + 1 }
 
 abbrev pub process_in : Place → Place
-process_in place = record { need = need.Process; network = false; level = place.level + 1 }
+process_in place = record { need = Need.Process; network = false; level = place.level + 1 }
 
 abbrev pub network_in : Place → Place
-network_in place = record { need = need.Process; network = true; level = place.level + 1 }
+network_in place = record { need = Need.Process; network = true; level = place.level + 1 }
 
 -- a part of an `if` has the need of the `if`, and is a network position where the `if` is one
 abbrev pub part_in : Place → Place
@@ -61,53 +53,53 @@ in_turn (b ∷ bs) place names = b.says place names ++ in_turn bs place (names +
 module _ (meanings : Meanings) where
   abbrev pub part_says : Fields Said → Said
   part_says part place names =
-      Uses part.name (sense_in meanings names part.name) (how.Begins (length part.fields)) ∷ all_say part.fields (data_in place) names
+      Uses part.name (sense_in meanings names part.name) (Use.Begins (length part.fields)) ∷ all_say part.fields (data_in place) names
 
   abbrev pub pair_says : Fields Said × Fields Said → Said
   pair_says pair place names =
-      Uses pair.0.name (sense_in meanings names pair.0.name) (how.Renamed (length pair.0.fields) (sense_in meanings names pair.1.name) (length pair.1.fields))
+      Uses pair.0.name (sense_in meanings names pair.0.name) (Use.Renamed (length pair.0.fields) (sense_in meanings names pair.1.name) (length pair.1.fields))
       ∷ part_says pair.0 place names ++ part_says pair.1 place names
 
   abbrev pub tree_says_of_layer : Tree-F Binder Binder Said (Fields Binder) (Fields Said) → Said
-  tree_says_of_layer (Tree-F.Num n) place names = Form class.Data place ∷ []
-  tree_says_of_layer Tree-F.True place names = Form class.Data place ∷ []
-  tree_says_of_layer Tree-F.False place names = Form class.Data place ∷ []
-  tree_says_of_layer (Tree-F.Name x) place names = Uses x (sense_in meanings names x) (how.Alone place) ∷ []
+  tree_says_of_layer (Tree-F.Num n) place names = Form Class.Data place ∷ []
+  tree_says_of_layer Tree-F.True place names = Form Class.Data place ∷ []
+  tree_says_of_layer Tree-F.False place names = Form Class.Data place ∷ []
+  tree_says_of_layer (Tree-F.Name x) place names = Uses x (sense_in meanings names x) (Use.Alone place) ∷ []
   tree_says_of_layer (Tree-F.Call f args) place names =
-      Uses f (sense_in meanings names f) (how.Called (length args) place) ∷ all_say args (data_in place) names
+      Uses f (sense_in meanings names f) (Use.Called (length args) place) ∷ all_say args (data_in place) names
   tree_says_of_layer (Tree-F.«Tree::Dot» c fields) place names =
-      Form class.Data place ∷ Uses c (sense_in meanings names c) (how.Dotted (length fields)) ∷ all_say fields (data_in place) names
-  tree_says_of_layer (Tree-F.Neg a) place names = Form class.Data place ∷ a (data_in place) names
-  tree_says_of_layer (Tree-F.Not a) place names = Form class.Data place ∷ a (data_in place) names
-  tree_says_of_layer (Tree-F.Binary op a b) place names = Form class.Data place ∷ a (data_in place) names ++ b (data_in place) names
+      Form Class.Data place ∷ Uses c (sense_in meanings names c) (Use.Dotted (length fields)) ∷ all_say fields (data_in place) names
+  tree_says_of_layer (Tree-F.Neg a) place names = Form Class.Data place ∷ a (data_in place) names
+  tree_says_of_layer (Tree-F.Not a) place names = Form Class.Data place ∷ a (data_in place) names
+  tree_says_of_layer (Tree-F.Binary op a b) place names = Form Class.Data place ∷ a (data_in place) names ++ b (data_in place) names
   tree_says_of_layer (Tree-F.If c a b) place names = c (data_in place) names ++ (a (part_in place) names ++ b (part_in place) names)
-  tree_says_of_layer (Tree-F.Display items) place names = Form class.Data place ∷ all_say items (data_in place) names
-  tree_says_of_layer (Tree-F.Range a b) place names = Form class.Data place ∷ a (data_in place) names ++ b (data_in place) names
+  tree_says_of_layer (Tree-F.Display items) place names = Form Class.Data place ∷ all_say items (data_in place) names
+  tree_says_of_layer (Tree-F.Range a b) place names = Form Class.Data place ∷ a (data_in place) names ++ b (data_in place) names
   tree_says_of_layer (Tree-F.Comp items gens) place names =
-      Form class.Data place ∷ all_say items (data_in place) (under gens names) ++ in_turn gens place names
+      Form Class.Data place ∷ all_say items (data_in place) (under gens names) ++ in_turn gens place names
   tree_says_of_layer (Tree-F.Product parts gens) place names =
-      Form class.Data place ∷ all_say (map part_says parts) place (under gens names) ++ in_turn gens place names
-  tree_says_of_layer (Tree-F.SetOp op a b) place names = Form class.Data place ∷ a (data_in place) names ++ b (data_in place) names
-  tree_says_of_layer Tree-F.Stop place names = Form class.Process place ∷ []
-  tree_says_of_layer Tree-F.Skip place names = Form class.Process place ∷ []
+      Form Class.Data place ∷ all_say (map part_says parts) place (under gens names) ++ in_turn gens place names
+  tree_says_of_layer (Tree-F.SetOp op a b) place names = Form Class.Data place ∷ a (data_in place) names ++ b (data_in place) names
+  tree_says_of_layer Tree-F.Stop place names = Form Class.Process place ∷ []
+  tree_says_of_layer Tree-F.Skip place names = Form Class.Process place ∷ []
   tree_says_of_layer (Tree-F.Prefix event p) place names =
-      Form class.Process place ∷ Uses event.name (sense_in meanings names event.name) (how.Heads (length event.fields))
+      Form Class.Process place ∷ Uses event.name (sense_in meanings names event.name) (Use.Heads (length event.fields))
       ∷ in_turn event.fields place names ++ p (process_in place) (under event.fields names)
-  tree_says_of_layer (Tree-F.Guard c p) place names = Form class.Process place ∷ c (data_in place) names ++ p (process_in place) names
-  tree_says_of_layer (Tree-F.External ps) place names = Form class.Process place ∷ all_say ps (process_in place) names
-  tree_says_of_layer (Tree-F.Internal ps) place names = Form class.Process place ∷ all_say ps (process_in place) names
+  tree_says_of_layer (Tree-F.Guard c p) place names = Form Class.Process place ∷ c (data_in place) names ++ p (process_in place) names
+  tree_says_of_layer (Tree-F.External ps) place names = Form Class.Process place ∷ all_say ps (process_in place) names
+  tree_says_of_layer (Tree-F.Internal ps) place names = Form Class.Process place ∷ all_say ps (process_in place) names
   tree_says_of_layer (Tree-F.EachExternal x s p) place names =
-      Form class.Process place ∷ Binds x false ∷ s (data_in place) names ++ p (process_in place) (names ++ x ∷ [])
+      Form Class.Process place ∷ Binds x false ∷ s (data_in place) names ++ p (process_in place) (names ++ x ∷ [])
   tree_says_of_layer (Tree-F.EachInternal x s p) place names =
-      Form class.Process place ∷ Binds x false ∷ s (data_in place) names ++ p (process_in place) (names ++ x ∷ [])
+      Form Class.Process place ∷ Binds x false ∷ s (data_in place) names ++ p (process_in place) (names ++ x ∷ [])
   tree_says_of_layer (Tree-F.Parallel p a b q) place names =
       Parallel place ∷ p (network_in place) names ++ (a (data_in place) names ++ (b (data_in place) names ++ q (network_in place) names))
   tree_says_of_layer (Tree-F.EachParallel x s a p) place names =
       Parallel place ∷ Binds x false ∷ s (data_in place) names ++ (a (data_in place) (names ++ x ∷ []) ++ p (network_in place) (names ++ x ∷ []))
-  tree_says_of_layer (Tree-F.Seq p q) place names = Form class.Process place ∷ p (process_in place) names ++ q (process_in place) names
-  tree_says_of_layer (Tree-F.Hide p s) place names = Form class.Process place ∷ p (process_in place) names ++ s (data_in place) names
+  tree_says_of_layer (Tree-F.Seq p q) place names = Form Class.Process place ∷ p (process_in place) names ++ q (process_in place) names
+  tree_says_of_layer (Tree-F.Hide p s) place names = Form Class.Process place ∷ p (process_in place) names ++ s (data_in place) names
   tree_says_of_layer (Tree-F.Rename p pairs gens) place names =
-      Form class.Process place ∷ p (process_in place) names ++ (all_say (map pair_says pairs) place (under gens names) ++ in_turn gens place names)
+      Form Class.Process place ∷ p (process_in place) names ++ (all_say (map pair_says pairs) place (under gens names) ++ in_turn gens place names)
 
   abbrev pub field_says_of_layer : FieldTree-F Binder Binder Said (Fields Binder) (Fields Said) → Binder
   field_says_of_layer (FieldTree-F.«FieldTree::Dot» a) = record { names = []; says = λ place names. a (data_in place) names }

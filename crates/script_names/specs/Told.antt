@@ -1,27 +1,13 @@
 -- The name fault of a script: that of the first declaration which has one, there the one with the least number, there at the first name.
-use Rattle.script_names.specs.declared.kinds.Need.TheVariants as need
-use Rattle.dl_limits.specs.declared.TheConstants.{MOST_DATA_DEPTH}
-use Rattle.script_names.specs.declared.kinds.Need.{Need}
-use Rattle.script_names.specs.declared.kinds.Use.TheVariants as how
-use Rattle.script_names.specs.declared.kinds.Place.{Place}
-use Rattle.std.specs.Prelude.{ℕ, ◌+◌, Bool, true, false, ◌&&◌, nat_lt, if◌then◌else◌, Option, Some, None, List, [], ◌∷◌, ◌++◌, length, map, slice_get}
-use Rattle.csp_base.specs.Standard.{flat_map, list_any, option_map}
-use Rattle.csp_text.specs.declared.script.Decl.{Decl}
-use Rattle.csp_text.specs.declared.tree.Tree.{Tree}
-use Rattle.csp_text.specs.declared.script.Decl.TheVariants as decl
-use Rattle.script_names.specs.declared.fault.ResolveFault.{ResolveFault}
-use Rattle.script_names.specs.declared.fault.ResolveFault.TheVariants as fault
-use Rattle.script_names.specs.declared.kinds.Class.{Class}
-use Rattle.script_names.specs.declared.kinds.Class.TheVariants as class
-use Rattle.script_names.specs.declared.kinds.Kind.{Kind}
+use Rattle.std.specs.Prelude.{◌+◌, ◌&&◌, if◌then◌else◌, ◌∷◌, ◌++◌}
+use Rattle.script_names.specs.Sources.{MOST_DATA_DEPTH, Need, Place, ℕ, Bool, true, false, nat_lt, Option, Some, None, List, [], length, map, slice_get, list_any, option_map, Decl, Tree, ResolveFault, Class, Kind, Occurrence, Declares, Binds, Notes, Uses, Use}
+use Rattle.csp_base.specs.Standard.{flat_map}
 use Rattle.script_names.specs.Depth.{depth_within}
 use Rattle.script_names.specs.Faults.{unknown_name, repeated_name, is_wrong_kind, wrong_count, is_inside, kind_class, kind_network}
 use Rattle.script_names.specs.Names.{Name, Meanings, Counts, counted, none_yet, sense_in, is_among, meanings_of}
+use Rattle.script_names.specs.Says.{tree_says}
 pub use Rattle.script_names.specs.Names.{names_declared}
 pub use Rattle.script_names.specs.Once.{with_roles, with_uses}
-use Rattle.script_names.specs.declared.occurrence.Occurrence.{Occurrence}
-use Rattle.script_names.specs.declared.occurrence.Occurrence.TheVariants.{Declares, Binds, Notes, Uses}
-use Rattle.script_names.specs.Says.{tree_says}
 
 -- what is said of names one after another: of each, whether it stands before
 abbrev pub each_after : (Name → Bool → Occurrence Name) → List Name → List Name → List (Occurrence Name)
@@ -38,9 +24,9 @@ parameters_after = each_after Binds
 
 -- a body must be of the class of its definition, if it has one
 abbrev pub need_of : Class → Need
-need_of class.Data = need.Data
-need_of class.Process = need.Process
-need_of class.Unknown = need.Either
+need_of Class.Data = Need.Data
+need_of Class.Process = Need.Process
+need_of Class.Unknown = Need.Either
 
 -- the body of a definition
 abbrev pub body_place : Option Kind → Place
@@ -48,11 +34,11 @@ body_place kind = record { need = need_of (kind_class kind); network = kind_netw
 
 -- a type of a channel, the body of a nametype
 abbrev pub data_place : Place
-data_place = record { need = need.Data; network = false; level = 1 }
+data_place = record { need = Need.Data; network = false; level = 1 }
 
 -- the asserted call
 abbrev pub root_place : Place
-root_place = record { need = need.Process; network = true; level = 1 }
+root_place = record { need = Need.Process; network = true; level = 1 }
 
 abbrev pub counts_of : Counts → List Decl → Counts
 counts_of n [] = n
@@ -69,35 +55,35 @@ module _ (meanings : Meanings) where
   -- an annotation of a process by these sets
   abbrev pub annotation_says : Bool → Name → List Name → List (Occurrence Name)
   annotation_says before process sets =
-      Notes process before ∷ Uses process (sense_in meanings [] process) how.Annotated
-      ∷ map (λ set. Uses set (sense_in meanings [] set) (how.Annotates (sense_in meanings [] process))) sets
+      Notes process before ∷ Uses process (sense_in meanings [] process) Use.Annotated
+      ∷ map (λ set. Uses set (sense_in meanings [] set) (Use.Annotates (sense_in meanings [] process))) sets
 
 module _ (meanings : Meanings) (kinds : List Kind) where
   -- what a declaration says that stands after these others
   abbrev pub decl_says : List Decl → Decl → List (Occurrence Name)
-  decl_says earlier (decl.Channel xs types) = declared_after (names_declared earlier) xs ++ types_say meanings types
-  decl_says earlier (decl.Datatype x ks) = declared_after (names_declared earlier) (x ∷ ks)
-  decl_says earlier (decl.Nametype x t) = declared_after (names_declared earlier) (x ∷ []) ++ tree_says meanings t data_place []
-  decl_says earlier (decl.Define x params t) =
+  decl_says earlier (Decl.Channel xs types) = declared_after (names_declared earlier) xs ++ types_say meanings types
+  decl_says earlier (Decl.Datatype x ks) = declared_after (names_declared earlier) (x ∷ ks)
+  decl_says earlier (Decl.Nametype x t) = declared_after (names_declared earlier) (x ∷ []) ++ tree_says meanings t data_place []
+  decl_says earlier (Decl.Define x params t) =
       declared_after (names_declared earlier) (x ∷ []) ++ (parameters_after [] params
       ++ tree_says meanings t (body_place (slice_get kinds (next_definition earlier))) params)
-  decl_says earlier (decl.Assert t) = tree_says meanings t root_place []
-  decl_says earlier (decl.Roles names) =
+  decl_says earlier (Decl.Assert t) = tree_says meanings t root_place []
+  decl_says earlier (Decl.Roles names) =
       annotation_says meanings (is_among (flat_map with_roles earlier) names.process) names.process (names.creq ∷ names.cack ∷ names.sreq ∷ names.sack ∷ [])
-  decl_says earlier (decl.Resource names) =
+  decl_says earlier (Decl.Resource names) =
       annotation_says meanings (is_among (flat_map with_uses earlier) names.process) names.process (names.acquire ∷ names.release ∷ [])
 
   -- what the bodies of definitions say that are expanded where they are used: those of data, and those without a class
   abbrev pub expanded_body : Class → List (Occurrence Name) → List (Occurrence Name)
-  expanded_body class.Process os = []
+  expanded_body Class.Process os = []
   expanded_body _ os = os
 
   abbrev pub bodies_from : ℕ → List Decl → List (List (Occurrence Name))
   bodies_from d [] = []
-  bodies_from d (decl.Define x params t ∷ decls) =
+  bodies_from d (Decl.Define x params t ∷ decls) =
       expanded_body (kind_class (slice_get kinds d)) (tree_says meanings t (body_place (slice_get kinds d)) params) ∷ bodies_from (d + 1) decls
-  bodies_from d (decl.Nametype x t ∷ decls) = tree_says meanings t data_place [] ∷ bodies_from (d + 1) decls
-  bodies_from d (decl.Datatype x ks ∷ decls) = [] ∷ bodies_from (d + 1) decls
+  bodies_from d (Decl.Nametype x t ∷ decls) = tree_says meanings t data_place [] ∷ bodies_from (d + 1) decls
+  bodies_from d (Decl.Datatype x ks ∷ decls) = [] ∷ bodies_from (d + 1) decls
   bodies_from d (_ ∷ decls) = bodies_from d decls
 
 -- the first that is there
@@ -119,25 +105,25 @@ abbrev pub is_deep : List Kind → List (List (Occurrence Name)) → ℕ → Boo
 is_deep kinds bodies d = nat_lt MOST_DATA_DEPTH (depth_within (MOST_DATA_DEPTH + 1) bodies d)
 
 abbrev pub is_data : Class → Bool
-is_data class.Data = true
+is_data Class.Data = true
 is_data _ = false
 
 -- whether a declaration is the definition of data with the number d, and too deep
 abbrev pub too_deep : List Kind → List (List (Occurrence Name)) → ℕ → Decl → Bool
-too_deep kinds bodies d (decl.Define x params t) = is_data (kind_class (slice_get kinds d)) && is_deep kinds bodies d
-too_deep kinds bodies d (decl.Nametype x t) = is_deep kinds bodies d
+too_deep kinds bodies d (Decl.Define x params t) = is_data (kind_class (slice_get kinds d)) && is_deep kinds bodies d
+too_deep kinds bodies d (Decl.Nametype x t) = is_deep kinds bodies d
 too_deep kinds bodies d _ = false
 
 -- the fault of the declaration with the number i that says this
 module _ (meanings : Meanings) (kinds : List Kind) where
   abbrev pub fault_of : ℕ → List (Occurrence Name) → Bool → Option ResolveFault
   fault_of i os deep = first_there (
-      option_map (λ x. fault.Unknown i x) (first_name unknown_name os)
-      ∷ option_map (λ x. fault.Twice i x) (first_name (repeated_name meanings) os)
-      ∷ when_any (list_any (is_wrong_kind kinds) os) (fault.WrongKind i)
-      ∷ option_map (λ x. fault.WrongCount i x) (first_name wrong_count os)
-      ∷ when_any (list_any (is_inside kinds) os) (fault.ParallelInside i)
-      ∷ when_any deep (fault.DataDepth i)
+      option_map (λ x. ResolveFault.Unknown i x) (first_name unknown_name os)
+      ∷ option_map (λ x. ResolveFault.Twice i x) (first_name (repeated_name meanings) os)
+      ∷ when_any (list_any (is_wrong_kind kinds) os) (ResolveFault.WrongKind i)
+      ∷ option_map (λ x. ResolveFault.WrongCount i x) (first_name wrong_count os)
+      ∷ when_any (list_any (is_inside kinds) os) (ResolveFault.ParallelInside i)
+      ∷ when_any deep (ResolveFault.DataDepth i)
       ∷ [])
 
 module _ (script : List Decl) (kinds : List Kind) where

@@ -1,27 +1,12 @@
 -- Trees as expressions, processes and networks, once each of their names has its meaning. Bound names are numbered in the order of their binding
 -- tokens: a tree whose first binding token has the number n binds the numbers from n on. A tree of which a name has no meaning at its place is
 -- given some expression or process; no faultless script has one.
-use Rattle.std.specs.Prelude.{ℕ, ◌+◌, pos, Bool, true, false, ◌||◌, if◌then◌else◌, Option, Some, None, List, [], ◌∷◌}
-use Rattle.csp_text.specs.declared.tree.FieldTree.TheFolds.{fold-Tree}
-use Rattle.csp_text.specs.declared.tree.FieldTree.TheOpen.{FieldTree-F, GenTree-F, Tree-F, EventTree-F, PartTree-F}
-use Rattle.csp_text.specs.declared.tree.Tree.{Tree}
-use Rattle.csp_program.specs.declared.expressions.EventPart.{EventPart}
-use Rattle.csp_program.specs.declared.expressions.Expr.{Expr}
-use Rattle.csp_program.specs.declared.expressions.Expr.TheViews.{roll-EventPart}
-use Rattle.csp_program.specs.declared.expressions.Gen.{Gen}
-use Rattle.csp_program.specs.declared.networks.Net.{Net}
-use Rattle.csp_program.specs.declared.processes.Field.{Field}
-use Rattle.csp_program.specs.declared.processes.Head.{Head}
-use Rattle.csp_program.specs.declared.processes.Proc.{Proc}
+use Rattle.std.specs.Prelude.{◌+◌, ◌||◌, if◌then◌else◌, ◌∷◌}
+use Rattle.script_names.specs.Sources.{ℕ, pos, Bool, true, false, Option, Some, None, List, [], fold-Tree, FieldTree-F, GenTree-F, Tree-F, EventTree-F, PartTree-F, Tree, EventPart, Expr, roll-EventPart, Gen, Net, Field, Proc, Entity, Kind, Head}
 use Rattle.csp_program.specs.declared.expressions.Expr.TheVariants as expr
 use Rattle.csp_program.specs.declared.expressions.Gen.TheVariants as generator
 use Rattle.csp_program.specs.declared.networks.Net.TheVariants as net
-use Rattle.csp_program.specs.declared.processes.Field.TheVariants as field
-use Rattle.csp_program.specs.declared.processes.Head.TheVariants as head
 use Rattle.csp_program.specs.declared.processes.Proc.TheVariants as proc
-use Rattle.script_names.specs.declared.kinds.Entity.{Entity}
-use Rattle.script_names.specs.declared.kinds.Entity.TheVariants as entity
-use Rattle.script_names.specs.declared.kinds.Kind.{Kind}
 use Rattle.script_names.specs.Faults.{is_network}
 use Rattle.script_names.specs.Names.{Name, Meanings, sense_in}
 pub use Rattle.script_names.specs.Scopes.{Scope, names_of, number_of, or_else, with}
@@ -31,25 +16,25 @@ abbrev pub no_expr : Expr
 no_expr = expr.Num (pos 0)
 
 abbrev pub channel_number : Option Entity → ℕ
-channel_number (Some (entity.Channel c n)) = c
+channel_number (Some (Entity.Channel c n)) = c
 channel_number _ = 0
 
 abbrev pub definition_number : Option Entity → ℕ
-definition_number (Some (entity.Definition d n)) = d
+definition_number (Some (Entity.Definition d n)) = d
 definition_number _ = 0
 
 -- a name by itself
 abbrev pub named : Option ℕ → Option Entity → Expr
 named (Some x) e = expr.Bound x
-named None (Some (entity.Channel c n)) = expr.Event c []
-named None (Some (entity.Constant k)) = expr.Const k
-named None (Some (entity.Definition d n)) = expr.Call d []
-named None (Some (entity.Set d)) = expr.SetName d
+named None (Some (Entity.Channel c n)) = expr.Event c []
+named None (Some (Entity.Constant k)) = expr.Const k
+named None (Some (Entity.Definition d n)) = expr.Call d []
+named None (Some (Entity.Set d)) = expr.SetName d
 named None None = no_expr
 
 abbrev pub head_of : Option ℕ → Option Entity → Head
-head_of (Some x) e = head.Bound x
-head_of None e = head.Channel (channel_number e)
+head_of (Some x) e = Head.Bound x
+head_of None e = Head.Channel (channel_number e)
 
 -- a tree as an expression, as a process and as a network: under a scope, with the number of its first binding token
 pub record Reading : Type 0 where
@@ -222,14 +207,14 @@ module _ (meanings : Meanings) (kinds : List Kind) where
   }
 
   abbrev pub put : Reading → Binding Field
-  put a = record { binds = a.binds; here = λ scope n. field.Put (a.expr scope n); after = λ scope n. scope }
+  put a = record { binds = a.binds; here = λ scope n. Field.Put (a.expr scope n); after = λ scope n. scope }
 
   abbrev pub field_of_layer : FieldTree-F (Binding Field) (Binding Gen) Reading (Front (Binding Field)) (Front Reading) → Binding Field
   field_of_layer (FieldTree-F.«FieldTree::Dot» a) = put a
   field_of_layer (FieldTree-F.Output a) = put a
-  field_of_layer (FieldTree-F.Input x None) = record { binds = 1; here = λ scope n. field.Get n None; after = λ scope n. with scope x n }
+  field_of_layer (FieldTree-F.Input x None) = record { binds = 1; here = λ scope n. Field.Get n None; after = λ scope n. with scope x n }
   field_of_layer (FieldTree-F.Input x (Some s)) =
-      record { binds = 1 + s.binds; here = λ scope n. field.Get n (Some (s.expr scope (n + 1))); after = λ scope n. with scope x n }
+      record { binds = 1 + s.binds; here = λ scope n. Field.Get n (Some (s.expr scope (n + 1))); after = λ scope n. with scope x n }
 
   abbrev pub gen_of_layer : GenTree-F (Binding Field) (Binding Gen) Reading (Front (Binding Field)) (Front Reading) → Binding Gen
   gen_of_layer (GenTree-F.From x s) =

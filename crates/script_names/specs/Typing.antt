@@ -3,34 +3,21 @@
 -- `IsExpr scope n t e m` says that the tree t is the expression e under these bound names; the other families say the same of their kind of tree. Bound
 -- names are numbered in the order of their binding tokens: those of t have the numbers from n on, and m is the number of the next one after t. The
 -- items of a comprehension, the parts of `{| |}` and the pairs of a renaming stand before its generators and under the names that these bind.
-use Rattle.std.specs.Prelude.{◌≡◌, ℕ, ◌+◌, pos, true, false, Option, Some, None, List, [], ◌∷◌, length, slice_get}
+use Rattle.std.specs.Prelude.{◌≡◌, ◌+◌, ◌∷◌}
+use Rattle.script_names.specs.Sources.{ℕ, pos, true, false, Some, None, List, [], length, slice_get, Tree, EventPart, Expr, roll-EventPart, Gen, Net, Field, Proc, Entity, Kind, Head, Class}
 use Rattle.csp_base.specs.declared.operators.BinOp.{BinOp}
 use Rattle.csp_base.specs.declared.operators.SetOp.{SetOp}
 use Rattle.csp_text.specs.declared.tree.EventTree.{EventTree, roll-EventTree}
 use Rattle.csp_text.specs.declared.tree.FieldTree.{FieldTree}
 use Rattle.csp_text.specs.declared.tree.GenTree.{GenTree}
 use Rattle.csp_text.specs.declared.tree.PartTree.{PartTree, roll-PartTree}
-use Rattle.csp_text.specs.declared.tree.Tree.{Tree}
 use Rattle.csp_text.specs.declared.tree.FieldTree.TheVariants as text
 use Rattle.csp_text.specs.declared.tree.GenTree.TheVariants as generator
 use Rattle.csp_text.specs.declared.tree.Tree.TheVariants as tree
-use Rattle.csp_program.specs.declared.expressions.EventPart.{EventPart}
-use Rattle.csp_program.specs.declared.expressions.Expr.{Expr}
-use Rattle.csp_program.specs.declared.expressions.Expr.TheViews.{roll-EventPart}
-use Rattle.csp_program.specs.declared.expressions.Gen.{Gen}
-use Rattle.csp_program.specs.declared.networks.Net.{Net}
-use Rattle.csp_program.specs.declared.processes.Field.{Field}
-use Rattle.csp_program.specs.declared.processes.Proc.{Proc}
 use Rattle.csp_program.specs.declared.expressions.Expr.TheVariants as expr
 use Rattle.csp_program.specs.declared.expressions.Gen.TheVariants as gen_of
 use Rattle.csp_program.specs.declared.networks.Net.TheVariants as net
-use Rattle.csp_program.specs.declared.processes.Field.TheVariants as field
-use Rattle.csp_program.specs.declared.processes.Head.TheVariants as head
 use Rattle.csp_program.specs.declared.processes.Proc.TheVariants as proc
-use Rattle.script_names.specs.declared.kinds.Class.TheVariants as class
-use Rattle.script_names.specs.declared.kinds.Entity.{Entity}
-use Rattle.script_names.specs.declared.kinds.Entity.TheVariants as entity
-use Rattle.script_names.specs.declared.kinds.Kind.{Kind}
 use Rattle.script_names.specs.Names.{Name, Meanings}
 use Rattle.script_names.specs.Scopes.{Scope, number_of, with}
 
@@ -50,17 +37,17 @@ module _ (meanings : Meanings) (kinds : List Kind) where
 
   -- the name may be bound: it is no constant
   abbrev pub MayBind : Name → Type 0
-  MayBind x = (k : ℕ) → meanings x ≡ Some (entity.Constant k) → ⊥
+  MayBind x = (k : ℕ) → meanings x ≡ Some (Entity.Constant k) → ⊥
 
   -- the definition with the number d is one of data, of a process that is no network, or of a network
   abbrev pub IsData : ℕ → Type 0
-  IsData d = slice_get kinds d ≡ Some (record { class = class.Data; network = false })
+  IsData d = slice_get kinds d ≡ Some (record { class = Class.Data; network = false })
 
   abbrev pub IsProcess : ℕ → Type 0
-  IsProcess d = slice_get kinds d ≡ Some (record { class = class.Process; network = false })
+  IsProcess d = slice_get kinds d ≡ Some (record { class = Class.Process; network = false })
 
   abbrev pub IsNetwork : ℕ → Type 0
-  IsNetwork d = slice_get kinds d ≡ Some (record { class = class.Process; network = true })
+  IsNetwork d = slice_get kinds d ≡ Some (record { class = Class.Process; network = true })
 
   mutual
     pub data IsExpr : Scope → ℕ → Tree → Expr → ℕ → Type 0 where
@@ -69,16 +56,16 @@ module _ (meanings : Meanings) (kinds : List Kind) where
       falsehood : {scope : Scope} {n : ℕ} → IsExpr scope n tree.False (expr.Truth false) n
       -- a name alone: a bound one, a channel without fields, a constant, a definition without parameters, a nametype or datatype
       bound : {scope : Scope} {n b : ℕ} {x : Name} → number_of scope x ≡ Some b → IsExpr scope n (tree.Name x) (expr.Bound b) n
-      event : {scope : Scope} {n c : ℕ} {x : Name} → Means scope x (entity.Channel c 0) → IsExpr scope n (tree.Name x) (expr.Event c []) n
-      constant : {scope : Scope} {n k : ℕ} {x : Name} → Means scope x (entity.Constant k) → IsExpr scope n (tree.Name x) (expr.Const k) n
-      datum : {scope : Scope} {n d : ℕ} {x : Name} → Means scope x (entity.Definition d 0) → IsData d →
+      event : {scope : Scope} {n c : ℕ} {x : Name} → Means scope x (Entity.Channel c 0) → IsExpr scope n (tree.Name x) (expr.Event c []) n
+      constant : {scope : Scope} {n k : ℕ} {x : Name} → Means scope x (Entity.Constant k) → IsExpr scope n (tree.Name x) (expr.Const k) n
+      datum : {scope : Scope} {n d : ℕ} {x : Name} → Means scope x (Entity.Definition d 0) → IsData d →
           IsExpr scope n (tree.Name x) (expr.Call d []) n
-      named_set : {scope : Scope} {n d : ℕ} {x : Name} → Means scope x (entity.Set d) → IsExpr scope n (tree.Name x) (expr.SetName d) n
+      named_set : {scope : Scope} {n d : ℕ} {x : Name} → Means scope x (Entity.Set d) → IsExpr scope n (tree.Name x) (expr.SetName d) n
       call : {scope : Scope} {n m d : ℕ} {f : Name} {args : List Tree} {es : List Expr} →
-          Means scope f (entity.Definition d (length args)) → IsData d → AreExprs scope n args es m →
+          Means scope f (Entity.Definition d (length args)) → IsData d → AreExprs scope n args es m →
           IsExpr scope n (tree.Call f args) (expr.Call d es) m
       dotted : {scope : Scope} {n m c : ℕ} {x : Name} {fields : List Tree} {es : List Expr} →
-          Means scope x (entity.Channel c (length fields)) → AreExprs scope n fields es m →
+          Means scope x (Entity.Channel c (length fields)) → AreExprs scope n fields es m →
           IsExpr scope n (tree.Dot x fields) (expr.Event c es) m
       negative : {scope : Scope} {n m : ℕ} {a : Tree} {e : Expr} → IsExpr scope n a e m → IsExpr scope n (tree.Neg a) (expr.Neg e) m
       negation : {scope : Scope} {n m : ℕ} {a : Tree} {e : Expr} → IsExpr scope n a e m → IsExpr scope n (tree.Not a) (expr.Not e) m
@@ -114,7 +101,7 @@ module _ (meanings : Meanings) (kinds : List Kind) where
     -- the front of an event, which leaves so many fields of its channel
     pub data IsFront : Scope → ℕ → PartTree → EventPart → ℕ → ℕ → Type 0 where
       front : {scope : Scope} {n m c fields left : ℕ} {x : Name} {items : List Tree} {es : List Expr} →
-          Means scope x (entity.Channel c fields) → length items + left ≡ fields → AreExprs scope n items es m →
+          Means scope x (Entity.Channel c fields) → length items + left ≡ fields → AreExprs scope n items es m →
           IsFront scope n (part_tree x items) (event_part c es) left m
 
     pub data AreFronts : Scope → ℕ → List PartTree → List EventPart → ℕ → Type 0 where
@@ -126,14 +113,14 @@ module _ (meanings : Meanings) (kinds : List Kind) where
   pub data AreFields : Scope → ℕ → List FieldTree → List Field → Scope → ℕ → Type 0 where
     no_fields : {scope : Scope} {n : ℕ} → AreFields scope n [] [] scope n
     dot : {scope inner : Scope} {n i m : ℕ} {a : Tree} {e : Expr} {ts : List FieldTree} {fs : List Field} →
-        IsExpr scope n a e i → AreFields scope i ts fs inner m → AreFields scope n (text.Dot a ∷ ts) (field.Put e ∷ fs) inner m
+        IsExpr scope n a e i → AreFields scope i ts fs inner m → AreFields scope n (text.Dot a ∷ ts) (Field.Put e ∷ fs) inner m
     output : {scope inner : Scope} {n i m : ℕ} {a : Tree} {e : Expr} {ts : List FieldTree} {fs : List Field} →
-        IsExpr scope n a e i → AreFields scope i ts fs inner m → AreFields scope n (text.Output a ∷ ts) (field.Put e ∷ fs) inner m
+        IsExpr scope n a e i → AreFields scope i ts fs inner m → AreFields scope n (text.Output a ∷ ts) (Field.Put e ∷ fs) inner m
     input : {scope inner : Scope} {n m : ℕ} {x : Name} {ts : List FieldTree} {fs : List Field} → MayBind x →
-        AreFields (with scope x n) (n + 1) ts fs inner m → AreFields scope n (text.Input x None ∷ ts) (field.Get n None ∷ fs) inner m
+        AreFields (with scope x n) (n + 1) ts fs inner m → AreFields scope n (text.Input x None ∷ ts) (Field.Get n None ∷ fs) inner m
     input_from : {scope inner : Scope} {n i m : ℕ} {x : Name} {s : Tree} {e : Expr} {ts : List FieldTree} {fs : List Field} → MayBind x →
         IsExpr scope (n + 1) s e i → AreFields (with scope x n) i ts fs inner m →
-        AreFields scope n (text.Input x (Some s) ∷ ts) (field.Get n (Some e) ∷ fs) inner m
+        AreFields scope n (text.Input x (Some s) ∷ ts) (Field.Get n (Some e) ∷ fs) inner m
 
   -- the pairs of a renaming: both fronts of a pair leave the same number of fields
   pub data ArePairs : Scope → ℕ → List (PartTree × PartTree) → List (EventPart × EventPart) → ℕ → Type 0 where
@@ -146,19 +133,19 @@ module _ (meanings : Meanings) (kinds : List Kind) where
     pub data IsProc : Scope → ℕ → Tree → Proc → ℕ → Type 0 where
       stop : {scope : Scope} {n : ℕ} → IsProc scope n tree.Stop proc.Stop n
       skip : {scope : Scope} {n : ℕ} → IsProc scope n tree.Skip proc.Skip n
-      process : {scope : Scope} {n d : ℕ} {x : Name} → Means scope x (entity.Definition d 0) → IsProcess d →
+      process : {scope : Scope} {n d : ℕ} {x : Name} → Means scope x (Entity.Definition d 0) → IsProcess d →
           IsProc scope n (tree.Name x) (proc.Call d []) n
       process_call : {scope : Scope} {n m d : ℕ} {f : Name} {args : List Tree} {es : List Expr} →
-          Means scope f (entity.Definition d (length args)) → IsProcess d → AreExprs scope n args es m →
+          Means scope f (Entity.Definition d (length args)) → IsProcess d → AreExprs scope n args es m →
           IsProc scope n (tree.Call f args) (proc.Call d es) m
       proc_if : {scope : Scope} {n i j m : ℕ} {c p q : Tree} {e : Expr} {r s : Proc} →
           IsExpr scope n c e i → IsProc scope i p r j → IsProc scope j q s m → IsProc scope n (tree.If c p q) (proc.If e r s) m
       -- a prefix: a channel with all of its fields, or a bound name, which is worth an event
       prefix : {scope inner : Scope} {n i m c : ℕ} {x : Name} {ts : List FieldTree} {fs : List Field} {p : Tree} {q : Proc} →
-          Means scope x (entity.Channel c (length ts)) → AreFields scope n ts fs inner i → IsProc inner i p q m →
-          IsProc scope n (tree.Prefix (event_tree x ts) p) (proc.Prefix (head.Channel c) fs q) m
+          Means scope x (Entity.Channel c (length ts)) → AreFields scope n ts fs inner i → IsProc inner i p q m →
+          IsProc scope n (tree.Prefix (event_tree x ts) p) (proc.Prefix (Head.Channel c) fs q) m
       bound_prefix : {scope : Scope} {n m b : ℕ} {x : Name} {p : Tree} {q : Proc} → number_of scope x ≡ Some b → IsProc scope n p q m →
-          IsProc scope n (tree.Prefix (event_tree x []) p) (proc.Prefix (head.Bound b) [] q) m
+          IsProc scope n (tree.Prefix (event_tree x []) p) (proc.Prefix (Head.Bound b) [] q) m
       guard : {scope : Scope} {n i m : ℕ} {c p : Tree} {e : Expr} {q : Proc} → IsExpr scope n c e i → IsProc scope i p q m →
           IsProc scope n (tree.Guard c p) (proc.Guard e q) m
       external : {scope : Scope} {n m : ℕ} {ps : List Tree} {qs : List Proc} → AreProcs scope n ps qs m →
@@ -189,10 +176,10 @@ module _ (meanings : Meanings) (kinds : List Kind) where
       composition : {scope : Scope} {n m : ℕ} {t : Tree} {w : Net} → IsComposition scope n t w m → IsNet scope n t w m
 
     pub data IsComposition : Scope → ℕ → Tree → Net → ℕ → Type 0 where
-      network : {scope : Scope} {n d : ℕ} {x : Name} → Means scope x (entity.Definition d 0) → IsNetwork d →
+      network : {scope : Scope} {n d : ℕ} {x : Name} → Means scope x (Entity.Definition d 0) → IsNetwork d →
           IsComposition scope n (tree.Name x) (net.Call d []) n
       network_call : {scope : Scope} {n m d : ℕ} {f : Name} {args : List Tree} {es : List Expr} →
-          Means scope f (entity.Definition d (length args)) → IsNetwork d → AreExprs scope n args es m →
+          Means scope f (Entity.Definition d (length args)) → IsNetwork d → AreExprs scope n args es m →
           IsComposition scope n (tree.Call f args) (net.Call d es) m
       -- an `if` of which a part is a composition
       if_first : {scope : Scope} {n i j m : ℕ} {c p q : Tree} {e : Expr} {v w : Net} → IsExpr scope n c e i → IsComposition scope i p v j →

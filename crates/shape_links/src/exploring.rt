@@ -31,7 +31,8 @@ impl<'a> Component<'a> {
     ) -> Result<Option<Trace>, NoMemory>
         requires only { SeesOnly self.now.shape.now.vocabulary (O.step observer.now) }
         requires nodes { length (table_of self.now) ≤ R.nodes required.now }
-        ensures { IfOk result (IsDecided self.now.shape.now self.now.number (λ s. R.meets required.now (end_of (table_of self.now) 0 s) (observed (O.step observer.now) 0 s) ≡ true)) }
+        ensures { IfOk result (IsDecided self.now.shape.now self.now.number (λ s.
+            R.meets required.now (end_of (table_of self.now) 0 s) (observed (O.step observer.now) 0 s) ≡ true)) }
     {
         let _form = self.shape.shape();
         let explored = self.explore(alloc, observer)?;

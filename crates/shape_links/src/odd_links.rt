@@ -39,7 +39,8 @@ fn odd_by_origins(
     watched: &EventSet,
     explored: &Explored,
 ) -> Result<Vec<EventSet>, NoMemory>
-    requires { (k : ℕ) → k < length explored.now.pairs → (pair_at explored.now.pairs k).0 < length (table_of component.now) }
+    requires { (k : ℕ) → k < length explored.now.pairs
+        → (pair_at explored.now.pairs k).0 < length (table_of component.now) }
     ensures { IfOk result (λ odd. length odd.items ≡ length (table_of component.now)) }
 {
     let mut odd = empty_sets(alloc, component.table().nodes().len())?;
@@ -102,7 +103,8 @@ fn is_kept_from(
 ) -> Result<bool, NoMemory>
     requires sets { length odd.now ≡ length (table_of component.now) }
     requires node { node < length (table_of component.now) }
-    ensures { IfOk result (λ kept. kept ≡ true → (e : ℕ) → IsTrue (is_possible (node_at (table_of component.now) node).next e)
+    ensures { IfOk result (λ kept. kept ≡ true → (e : ℕ)
+        → IsTrue (is_possible (node_at (table_of component.now) node).next e)
         → IsTurned component.now.shape.now watched.now e (get_or odd.now node []) (get_or odd.now (node_after (table_of component.now) node e) [])) }
 {
     let _form = component.shape.shape();
@@ -140,7 +142,8 @@ fn turned_if_watched(
     odd: &EventSet,
     link: Event,
 ) -> Result<EventSet, NoMemory>
-    ensures { IfOk result (λ made. (l : ℕ) → has made l ≡ (if has watched.now l && nat_eq link l then not (has odd.now l) else has odd.now l)) }
+    ensures { IfOk result (λ made. (l : ℕ) → has made l
+        ≡ (if has watched.now l && nat_eq link l then not (has odd.now l) else has odd.now l)) }
 {
     if watched.contains(link) {
         return turned(alloc, odd, link);
@@ -150,7 +153,8 @@ fn turned_if_watched(
 
 // The set without its member, or with it where it is none.
 fn turned(alloc: Global, set: &EventSet, member: Event) -> Result<EventSet, NoMemory>
-    ensures { IfOk result (λ made. (x : ℕ) → has made x ≡ (if nat_eq member x then not (has set.now x) else has set.now x)) }
+    ensures { IfOk result (λ made. (x : ℕ) → has made x
+        ≡ (if nat_eq member x then not (has set.now x) else has set.now x)) }
 {
     let one = EventSet::from_events(alloc, &[member])?;
     if set.contains(member) {

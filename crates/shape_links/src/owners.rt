@@ -26,8 +26,10 @@ pub fn links_of_events(alloc: Global, shape: &Shape) -> Result<Vec<u32>, NoMemor
 
 /// The link that has the event.
 pub fn link_of(owners: &[u32], event: Event) -> Option<u32>
-    ensures found { (shape : ShapeValue) (l : ℕ) → AreOwners shape owners.now → result ≡ Some l → IsOwner shape l event }
-    ensures owned { (shape : ShapeValue) (l : ℕ) → AreOwners shape owners.now → IsOwner shape l event → result ≡ Some l }
+    ensures found { (shape : ShapeValue) (l : ℕ) → AreOwners shape owners.now → result ≡ Some l
+        → IsOwner shape l event }
+    ensures owned { (shape : ShapeValue) (l : ℕ) → AreOwners shape owners.now → IsOwner shape l event
+        → result ≡ Some l }
 {
     let owner = owner_at(owners, event);
     if owner == 0 {
@@ -48,7 +50,8 @@ fn owner_at(owners: &[u32], event: Event) -> u32
 
 // Keeps the number for each of the events.
 fn own_all(owners: &mut Vec<u32>, events: &EventSet, owner: u32) -> Result<(), NoMemory>
-    ensures { OnOk result ((e : ℕ) → slice_index owners.new.items e ≡ (if has events.now e then owner else slice_index owners.old.items e)) }
+    ensures { OnOk result ((e : ℕ) → slice_index owners.new.items e
+        ≡ (if has events.now e then owner else slice_index owners.old.items e)) }
 {
     for event in events.iter() {
         own(owners, event.0 as usize, owner)?;
@@ -58,7 +61,8 @@ fn own_all(owners: &mut Vec<u32>, events: &EventSet, owner: u32) -> Result<(), N
 
 // Keeps the number for the event.
 fn own(owners: &mut Vec<u32>, event: usize, owner: u32) -> Result<(), NoMemory>
-    ensures { OnOk result ((e : ℕ) → slice_index owners.new.items e ≡ (if event == e then owner else slice_index owners.old.items e)) }
+    ensures { OnOk result ((e : ℕ) → slice_index owners.new.items e
+        ≡ (if event == e then owner else slice_index owners.old.items e)) }
 {
     while owners.len() <= event {
         owners.push(0)?;

@@ -1,22 +1,8 @@
 -- What a substitution makes of each form of an expression and of a process: again a form. One that is new gets a clause of `expr_form` and `expr_made`, or
--- of `proc_form` and `proc_made`, and an equation in the ruleset.
-use Rattle.std.proofs.Common.{◌≡◌, ℕ, ℤ, Bool, Option, Some, None, List, [], ◌∷◌, map, refl, ap, sym, ◌∙◌}
-use Rattle.csp_atoms.specs.declared.value.Value.{Value}
-use Rattle.csp_base.specs.declared.operators.BinOp.{BinOp}
-use Rattle.csp_base.specs.declared.operators.SetOp.{SetOp}
-use Rattle.csp_program.specs.Prelude.{after_all, each, expr_with, expr_with_of_layer, fields_with, gen_with_of_layer, gens_with, head_with, named, open_gen, pair_with, part_with, part_with_of_layer, past, proc_with, proc_with_of_layer, without, Given, Open, OpenGen}
-use Rattle.csp_program.specs.declared.expressions.EventPart.{EventPart}
-use Rattle.csp_program.specs.declared.expressions.Expr.{Expr}
-use Rattle.csp_program.specs.declared.expressions.Expr.TheFolds.{fold-roll-Expr, fold-roll-EventPart, fold-roll-Gen, map-Expr, map-Gen}
-use Rattle.csp_program.specs.declared.expressions.Expr.TheOpen.{Expr-F, EventPart-F, Gen-F}
-use Rattle.csp_program.specs.declared.expressions.Expr.TheViews.{out-EventPart, roll-Expr, roll-EventPart, roll-Gen, roll-out-EventPart}
-use Rattle.csp_program.specs.declared.expressions.Gen.{Gen}
-use Rattle.csp_program.specs.declared.processes.Field.{Field}
-use Rattle.csp_program.specs.declared.processes.Head.{Head}
-use Rattle.csp_program.specs.declared.processes.Proc.{Proc}
-use Rattle.csp_program.specs.declared.processes.Proc.TheFolds.{fold-roll-Proc, map-Proc}
-use Rattle.csp_program.specs.declared.processes.Proc.TheOpen.{Proc-F}
-use Rattle.csp_program.specs.declared.processes.Proc.TheViews.{roll-Proc}
+-- of `proc_form` and `proc_made`.
+use Rattle.csp_program.specs.declared.expressions.Expr.TheViews.{out-Expr, roll-out-Expr}
+use Rattle.csp_program.specs.declared.processes.Proc.TheViews.{out-Proc, roll-out-Proc}
+use Rattle.substitution.proofs.Prelude.{◌≡◌, ℕ, Option, Some, None, List, [], ◌∷◌, map, refl, ap, sym, ◌∙◌, Value, after_all, each, expr_with, expr_with_of_layer, fields_with, gen_with_of_layer, gens_with, head_with, named, open_gen, pair_with, part_with, part_with_of_layer, past, proc_with, proc_with_of_layer, without, Given, Open, OpenGen, EventPart, Expr, fold-roll-Expr, fold-roll-EventPart, fold-roll-Gen, map-Expr, map-Gen, Expr-F, EventPart-F, Gen-F, out-EventPart, roll-Expr, roll-EventPart, roll-Gen, roll-out-EventPart, Gen, Proc, fold-roll-Proc, map-Proc, Proc-F, roll-Proc}
 use Rattle.csp_program.specs.declared.expressions.Expr.TheVariants as expr
 use Rattle.csp_program.specs.declared.expressions.Gen.TheVariants as generator
 use Rattle.csp_program.specs.declared.processes.Proc.TheVariants as proc
@@ -80,38 +66,14 @@ expr_made given (Expr-F.SetOp op a b) = sym (expr.rolls-SetOp op (expr_with give
 pub expr_is : (given : Given) (d : Expr-F Expr Gen EventPart) → expr_with given (roll-Expr d) ≡ roll-Expr (expr_form given d)
 expr_is given d = (λ i. fold-roll-Expr (Open Expr) OpenGen (Open EventPart) expr_with_of_layer gen_with_of_layer part_with_of_layer d i given) ∙ expr_made given d
 
+-- an expression with the values, by its form
+pub expr_out : (given : Given) (e : Expr) → expr_with given e ≡ expr_with_of_layer (map-Expr Expr Gen EventPart (Open Expr) OpenGen (Open EventPart) open_expr open_gen open_part (out-Expr e)) given
+expr_out given e =
+    ap (expr_with given) (sym (roll-out-Expr e)) ∙ (λ i. fold-roll-Expr (Open Expr) OpenGen (Open EventPart) expr_with_of_layer gen_with_of_layer part_with_of_layer (out-Expr e) i given)
+
+-- of those whose parts are lists
 at : (given : Given) (d : Expr-F Expr Gen EventPart) {e e' : Expr} → roll-Expr d ≡ e → roll-Expr (expr_form given d) ≡ e' → expr_with given e ≡ e'
 at given d r r' = ap (expr_with given) (sym r) ∙ (expr_is given d ∙ r')
-
-pub expr_with-Bound : (given : Given) (x : ℕ) → expr_with given (expr.Bound x) ≡ named x (given x)
-expr_with-Bound given x = at given (Expr-F.Bound x) (expr.rolls-Bound x) (name_rolls x (given x))
-
-pub expr_with-Num : (given : Given) (n : ℤ) → expr_with given (expr.Num n) ≡ expr.Num n
-expr_with-Num given n = at given (Expr-F.Num n) (expr.rolls-Num n) (expr.rolls-Num n)
-
-pub expr_with-Truth : (given : Given) (b : Bool) → expr_with given (expr.Truth b) ≡ expr.Truth b
-expr_with-Truth given b = at given (Expr-F.Truth b) (expr.rolls-Truth b) (expr.rolls-Truth b)
-
-pub expr_with-Const : (given : Given) (k : ℕ) → expr_with given (expr.Const k) ≡ expr.Const k
-expr_with-Const given k = at given (Expr-F.Const k) (expr.rolls-Const k) (expr.rolls-Const k)
-
-pub expr_with-Lit : (given : Given) (v : Value) → expr_with given (expr.Lit v) ≡ expr.Lit v
-expr_with-Lit given v = at given (Expr-F.Lit v) (expr.rolls-Lit v) (expr.rolls-Lit v)
-
-pub expr_with-SetName : (given : Given) (d : ℕ) → expr_with given (expr.SetName d) ≡ expr.SetName d
-expr_with-SetName given d = at given (Expr-F.SetName d) (expr.rolls-SetName d) (expr.rolls-SetName d)
-
-pub expr_with-Neg : (given : Given) (a : Expr) → expr_with given (expr.Neg a) ≡ expr.Neg (expr_with given a)
-expr_with-Neg given a = at given (Expr-F.Neg a) (expr.rolls-Neg a) (expr.rolls-Neg (expr_with given a))
-
-pub expr_with-Not : (given : Given) (a : Expr) → expr_with given (expr.Not a) ≡ expr.Not (expr_with given a)
-expr_with-Not given a = at given (Expr-F.Not a) (expr.rolls-Not a) (expr.rolls-Not (expr_with given a))
-
-pub expr_with-Binary : (given : Given) (op : BinOp) (a : Expr) (b : Expr) → expr_with given (expr.Binary op a b) ≡ expr.Binary op (expr_with given a) (expr_with given b)
-expr_with-Binary given op a b = at given (Expr-F.Binary op a b) (expr.rolls-Binary op a b) (expr.rolls-Binary op (expr_with given a) (expr_with given b))
-
-pub expr_with-If : (given : Given) (c : Expr) (a : Expr) (b : Expr) → expr_with given (expr.If c a b) ≡ expr.If (expr_with given c) (expr_with given a) (expr_with given b)
-expr_with-If given c a b = at given (Expr-F.If c a b) (expr.rolls-If c a b) (expr.rolls-If (expr_with given c) (expr_with given a) (expr_with given b))
 
 pub expr_with-Call : (given : Given) (d : ℕ) (args : List Expr) → expr_with given (expr.Call d args) ≡ expr.Call d (map (expr_with given) args)
 expr_with-Call given d args = at given (Expr-F.Call d args) (expr.rolls-Call d args) (expr.rolls-Call d (map (expr_with given) args))
@@ -122,17 +84,11 @@ expr_with-Event given c fields = at given (Expr-F.Event c fields) (expr.rolls-Ev
 pub expr_with-Display : (given : Given) (items : List Expr) → expr_with given (expr.Display items) ≡ expr.Display (map (expr_with given) items)
 expr_with-Display given items = at given (Expr-F.Display items) (expr.rolls-Display items) (expr.rolls-Display (map (expr_with given) items))
 
-pub expr_with-Range : (given : Given) (a : Expr) (b : Expr) → expr_with given (expr.Range a b) ≡ expr.Range (expr_with given a) (expr_with given b)
-expr_with-Range given a b = at given (Expr-F.Range a b) (expr.rolls-Range a b) (expr.rolls-Range (expr_with given a) (expr_with given b))
-
 pub expr_with-Comp : (given : Given) (items : List Expr) (gens : List Gen) → expr_with given (expr.Comp items gens) ≡ expr.Comp (map (expr_with (past gens given)) items) (gens_with given gens)
 expr_with-Comp given items gens = at given (Expr-F.Comp items gens) (expr.rolls-Comp items gens) (expr.rolls-Comp (map (expr_with (past gens given)) items) (gens_with given gens))
 
 pub expr_with-Product : (given : Given) (parts : List EventPart) (gens : List Gen) → expr_with given (expr.Product parts gens) ≡ expr.Product (map (part_with (past gens given)) parts) (gens_with given gens)
 expr_with-Product given parts gens = at given (Expr-F.Product parts gens) (expr.rolls-Product parts gens) (expr.rolls-Product (map (part_with (past gens given)) parts) (gens_with given gens))
-
-pub expr_with-SetOp : (given : Given) (op : SetOp) (a : Expr) (b : Expr) → expr_with given (expr.SetOp op a b) ≡ expr.SetOp op (expr_with given a) (expr_with given b)
-expr_with-SetOp given op a b = at given (Expr-F.SetOp op a b) (expr.rolls-SetOp op a b) (expr.rolls-SetOp op (expr_with given a) (expr_with given b))
 
 -- ---- generators and fronts of events
 
@@ -174,8 +130,6 @@ part_is given d =
 pub part_with-fields : (given : Given) (part : EventPart)
     → part_with given part ≡ roll-EventPart (record { channel = (out-EventPart part).channel; fields = map (expr_with given) (out-EventPart part).fields })
 part_with-fields given part = ap (part_with given) (sym (roll-out-EventPart part)) ∙ part_is given (out-EventPart part)
-
-pub ruleset expr_forms = (expr_with-Bound, expr_with-Num, expr_with-Truth, expr_with-Const, expr_with-Lit, expr_with-SetName, expr_with-Neg, expr_with-Not, expr_with-Binary, expr_with-If, expr_with-Call, expr_with-Event, expr_with-Display, expr_with-Range, expr_with-Comp, expr_with-Product, expr_with-SetOp)
 
 pub ruleset gen_forms = (open_gen-From, open_gen-Cond)
 
@@ -219,20 +173,13 @@ proc_made given Proc-F.Ended = sym proc.rolls-Ended
 pub proc_is : (given : Given) (d : Proc-F Proc) → proc_with given (roll-Proc d) ≡ roll-Proc (proc_form given d)
 proc_is given d = (λ i. fold-roll-Proc (Open Proc) proc_with_of_layer d i given) ∙ proc_made given d
 
+-- a process with the values, by its form
+pub proc_out : (given : Given) (p : Proc) → proc_with given p ≡ proc_with_of_layer (map-Proc Proc (Open Proc) open_proc (out-Proc p)) given
+proc_out given p = ap (proc_with given) (sym (roll-out-Proc p)) ∙ (λ i. fold-roll-Proc (Open Proc) proc_with_of_layer (out-Proc p) i given)
+
+-- of those whose parts are lists
 at_proc : (given : Given) (d : Proc-F Proc) {p p' : Proc} → roll-Proc d ≡ p → roll-Proc (proc_form given d) ≡ p' → proc_with given p ≡ p'
 at_proc given d r r' = ap (proc_with given) (sym r) ∙ (proc_is given d ∙ r')
-
-pub proc_with-Stop : (given : Given) → proc_with given proc.Stop ≡ proc.Stop
-proc_with-Stop given = at_proc given Proc-F.Stop proc.rolls-Stop proc.rolls-Stop
-
-pub proc_with-Prefix : (given : Given) (h : Head) (fields : List Field) (p : Proc) → proc_with given (proc.Prefix h fields p) ≡ proc.Prefix (head_with given h) (fields_with given fields) (proc_with (after_all fields given) p)
-proc_with-Prefix given h fields p = at_proc given (Proc-F.Prefix h fields p) (proc.rolls-Prefix h fields p) (proc.rolls-Prefix (head_with given h) (fields_with given fields) (proc_with (after_all fields given) p))
-
-pub proc_with-Guard : (given : Given) (c : Expr) (p : Proc) → proc_with given (proc.Guard c p) ≡ proc.Guard (expr_with given c) (proc_with given p)
-proc_with-Guard given c p = at_proc given (Proc-F.Guard c p) (proc.rolls-Guard c p) (proc.rolls-Guard (expr_with given c) (proc_with given p))
-
-pub proc_with-If : (given : Given) (c : Expr) (p : Proc) (q : Proc) → proc_with given (proc.If c p q) ≡ proc.If (expr_with given c) (proc_with given p) (proc_with given q)
-proc_with-If given c p q = at_proc given (Proc-F.If c p q) (proc.rolls-If c p q) (proc.rolls-If (expr_with given c) (proc_with given p) (proc_with given q))
 
 pub proc_with-External : (given : Given) (ps : List Proc) → proc_with given (proc.External ps) ≡ proc.External (map (proc_with given) ps)
 proc_with-External given ps = at_proc given (Proc-F.External ps) (proc.rolls-External ps) (proc.rolls-External (map (proc_with given) ps))
@@ -240,28 +187,5 @@ proc_with-External given ps = at_proc given (Proc-F.External ps) (proc.rolls-Ext
 pub proc_with-Internal : (given : Given) (ps : List Proc) → proc_with given (proc.Internal ps) ≡ proc.Internal (map (proc_with given) ps)
 proc_with-Internal given ps = at_proc given (Proc-F.Internal ps) (proc.rolls-Internal ps) (proc.rolls-Internal (map (proc_with given) ps))
 
-pub proc_with-EachExternal : (given : Given) (y : ℕ) (s : Expr) (p : Proc) → proc_with given (proc.EachExternal y s p) ≡ proc.EachExternal y (expr_with given s) (proc_with (without y given) p)
-proc_with-EachExternal given y s p = at_proc given (Proc-F.EachExternal y s p) (proc.rolls-EachExternal y s p) (proc.rolls-EachExternal y (expr_with given s) (proc_with (without y given) p))
-
-pub proc_with-EachInternal : (given : Given) (y : ℕ) (s : Expr) (p : Proc) → proc_with given (proc.EachInternal y s p) ≡ proc.EachInternal y (expr_with given s) (proc_with (without y given) p)
-proc_with-EachInternal given y s p = at_proc given (Proc-F.EachInternal y s p) (proc.rolls-EachInternal y s p) (proc.rolls-EachInternal y (expr_with given s) (proc_with (without y given) p))
-
-pub proc_with-Hide : (given : Given) (p : Proc) (s : Expr) → proc_with given (proc.Hide p s) ≡ proc.Hide (proc_with given p) (expr_with given s)
-proc_with-Hide given p s = at_proc given (Proc-F.Hide p s) (proc.rolls-Hide p s) (proc.rolls-Hide (proc_with given p) (expr_with given s))
-
-pub proc_with-Rename : (given : Given) (p : Proc) (pairs : List (EventPart × EventPart)) (gens : List Gen) → proc_with given (proc.Rename p pairs gens) ≡ proc.Rename (proc_with given p) (map (pair_with (past gens given)) pairs) (gens_with given gens)
-proc_with-Rename given p pairs gens = at_proc given (Proc-F.Rename p pairs gens) (proc.rolls-Rename p pairs gens) (proc.rolls-Rename (proc_with given p) (map (pair_with (past gens given)) pairs) (gens_with given gens))
-
 pub proc_with-Call : (given : Given) (d : ℕ) (args : List Expr) → proc_with given (proc.Call d args) ≡ proc.Call d (map (expr_with given) args)
 proc_with-Call given d args = at_proc given (Proc-F.Call d args) (proc.rolls-Call d args) (proc.rolls-Call d (map (expr_with given) args))
-
-pub proc_with-Skip : (given : Given) → proc_with given proc.Skip ≡ proc.Skip
-proc_with-Skip given = at_proc given Proc-F.Skip proc.rolls-Skip proc.rolls-Skip
-
-pub proc_with-Seq : (given : Given) (p : Proc) (q : Proc) → proc_with given (proc.Seq p q) ≡ proc.Seq (proc_with given p) (proc_with given q)
-proc_with-Seq given p q = at_proc given (Proc-F.Seq p q) (proc.rolls-Seq p q) (proc.rolls-Seq (proc_with given p) (proc_with given q))
-
-pub proc_with-Ended : (given : Given) → proc_with given proc.Ended ≡ proc.Ended
-proc_with-Ended given = at_proc given Proc-F.Ended proc.rolls-Ended proc.rolls-Ended
-
-pub ruleset proc_forms = (proc_with-Stop, proc_with-Prefix, proc_with-Guard, proc_with-If, proc_with-External, proc_with-Internal, proc_with-EachExternal, proc_with-EachInternal, proc_with-Hide, proc_with-Rename, proc_with-Call, proc_with-Skip, proc_with-Seq, proc_with-Ended)

@@ -1,15 +1,9 @@
 -- What is found of a name: where names count up, where they are bound over others, and where some are bound further in.
-use Rattle.std.proofs.Common.{◌≡◌, ℕ, zero, suc, ◌+◌, ◌<◌, ◌≤◌, ◌||◌, Bool, true, false, cond, nat_eq, Option, Some, None, List, [], ◌∷◌, ◌++◌, get_or, length, map, refl, ap, sym, ◌∙◌, eq-eqb, arith}
-use Rattle.std.specs.Prelude.{slice_get, is_some}
+use Rattle.substitution.proofs.Prelude.{◌≡◌, ℕ, zero, suc, ◌+◌, ◌<◌, ◌≤◌, ◌||◌, Bool, true, false, cond, nat_eq, Option, Some, None, List, [], ◌∷◌, ◌++◌, get_or, length, map, refl, ap, sym, ◌∙◌, eq-eqb, arith, slice_get, is_some, eqb-true, length-map, Atom, Value, One, with_bound, given_by, without, Env, bound_to, atom_or, but_for, counts_up, CountUp, EndBy, NoneFrom}
 use Rattle.csp_base.specs.Standard.{first_so, second_so, option_copied}
 use denote.Bor.{Bor}
-use Rattle.csp_base.proofs.Standard.{eqb-true, false≢true, length-map}
-use Rattle.csp_atoms.specs.declared.atom.Atom.{Atom}
-use Rattle.csp_atoms.specs.declared.value.Value.{Value}
-use Rattle.csp_atoms.specs.declared.value.Value.TheVariants.{One}
+use Rattle.csp_base.proofs.Standard.{false≢true}
 use Rattle.csp_base.specs.Members.{has}
-use Rattle.csp_program.specs.Prelude.{with_bound, given_by, without, Env, bound_to}
-use Rattle.substitution.specs.Named.{atom_or, but_for, counts_up, CountUp, EndBy, NoneFrom}
 
 not_same : (x y : ℕ) → (x ≡ y → ⊥) → nat_eq x y ≡ false
 not_same x y h = grind arith

@@ -1,40 +1,22 @@
 -- An expression and a process none of whose free names gets a value stay as they are.
-use Rattle.std.proofs.Common.{◌≡◌, ℕ, Bool, true, false, cond, not, ◌&&◌, ◌||◌, nat_eq, Option, Some, None, List, [], ◌∷◌, map, refl, ap, ◌∙◌, eq-eqb}
-use Rattle.csp_atoms.specs.declared.value.Value.{Value}
-use Rattle.csp_program.specs.Prelude.{Names, any_of, apart_from, before, either, expr_free, gen_binding, head_free, nowhere, pair_free, part_free, proc_free, proc_free_of_layer, under, after_all, expr_with, fields_with, gens_with, head_named, head_with, open_gen, pair_with, part_with, past, proc_with, without, Given}
-use Rattle.csp_program.specs.declared.expressions.EventPart.{EventPart}
-use Rattle.csp_program.specs.declared.expressions.Expr.{Expr}
-use Rattle.csp_program.specs.declared.expressions.Expr.TheOpen.{Expr-F, Gen-F, EventPart-F}
-use Rattle.csp_program.specs.declared.expressions.Expr.TheViews.{roll-Expr, roll-Gen, roll-EventPart}
-use Rattle.csp_program.specs.declared.expressions.Gen.{Gen}
-use Rattle.csp_program.specs.declared.processes.Field.{Field}
-use Rattle.csp_program.specs.declared.processes.Head.{Head}
-use Rattle.csp_program.specs.declared.processes.Proc.{Proc}
-use Rattle.csp_program.specs.declared.processes.Proc.TheFolds.{fold-roll-Proc, map-Proc}
-use Rattle.csp_program.specs.declared.processes.Proc.TheOpen.{Proc-F}
-use Rattle.csp_program.specs.declared.processes.Proc.TheViews.{roll-Proc}
+use Rattle.csp_base.proofs.Standard.{or_right}
+use Rattle.substitution.proofs.Prelude.{◌≡◌, ℕ, Bool, true, false, cond, not, ◌&&◌, ◌||◌, nat_eq, Option, Some, None, List, [], ◌∷◌, map, refl, ap, ◌∙◌, eq-eqb, Value, Names, any_of, apart_from, before, either, expr_free, gen_binding, head_free, nowhere, pair_free, part_free, proc_free, proc_free_of_layer, under, after_all, expr_with, fields_with, gens_with, head_named, head_with, open_gen, pair_with, part_with, past, proc_with, without, Given, EventPart, Expr, Expr-F, Gen-F, EventPart-F, roll-Expr, roll-Gen, roll-EventPart, Gen, Field, Head, Proc, fold-roll-Proc, map-Proc, Proc-F, roll-Proc, Every, ExprHas, GenHas, PartHas, ProcHas, each_expr, each_gen, each_part, each_proc, every, GetNone}
 use Rattle.csp_program.specs.declared.processes.Field.TheVariants as field
 use Rattle.csp_program.specs.declared.processes.Head.TheVariants as head
-use Rattle.csp_program.proofs.Forms.{Every, ExprHas, GenHas, PartHas, ProcHas, each_expr, each_gen, each_part, each_proc, every}
 use Rattle.substitution.proofs.Forms.{expr_form, expr_is, gen_form, gen_is, named_form, part_is, proc_form, proc_is}
 use Rattle.substitution.proofs.Loses.{expr_rolls, form_binding, form_free, gen_rolls, leaves, part_rolls}
-use Rattle.substitution.specs.Laws.{GetNone}
 
 -- ---- names of what is put together from parts
-
-or_true : (a : Bool) → (a || true) ≡ true
-or_true true = refl
-or_true false = refl
 
 left : (given : Given) (a b : Names) → GetNone given (either a b) → GetNone given a
 left given a b none = λ x h. none x (ap (λ t. t || b x) h)
 
 right : (given : Given) (a b : Names) → GetNone given (either a b) → GetNone given b
-right given a b none = λ x h. none x (ap (λ t. a x || t) h ∙ or_true (a x))
+right given a b none = λ x h. none x (or_right (a x) (b x) h)
 
 -- what stands behind a binding
 behind : (given rest : Given) (s b inner : Names) → ((x : ℕ) → rest x ≡ cond (b x) None (given x)) → GetNone given (λ x. s x || (not (b x) && inner x)) → GetNone rest inner
-behind given rest s b inner leaves none = λ x h. leaves x ∙ at (b x) (given x) (λ e. none x (ap (λ t. s x || (not t && inner x)) e ∙ (ap (λ t. s x || t) h ∙ or_true (s x))))
+behind given rest s b inner leaves none = λ x h. leaves x ∙ at (b x) (given x) (λ e. none x (ap (λ t. s x || (not t && inner x)) e ∙ or_right (s x) (inner x) h))
   where
     at : (t : Bool) (v : Option Value) → (t ≡ false → v ≡ None) → cond t None v ≡ None
     at true v h = refl

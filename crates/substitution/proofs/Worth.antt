@@ -1,22 +1,9 @@
 -- An expression with values put in place of names is worth what it is worth where the names are bound to the values.
-use Rattle.std.proofs.Common.{◌≡◌, ℕ, Bool, true, false, cond, ◌||◌, nat_eq, Option, Some, None, Ok, Err, List, [], ◌∷◌, map, refl, ap, sym, ◌∙◌, subst}
-use Rattle.std.specs.Prelude.{is_none, slice_get}
-use Rattle.csp_atoms.specs.declared.atom.Atom.{Atom}
-use Rattle.csp_atoms.specs.declared.value.Value.{Value}
-use Rattle.csp_atoms.specs.declared.value.Value.TheVariants.{One, Many}
+use Rattle.substitution.proofs.Prelude.{◌≡◌, ℕ, Bool, true, false, cond, ◌||◌, nat_eq, Option, Some, None, Ok, Err, List, [], ◌∷◌, map, refl, ap, sym, ◌∙◌, subst, is_none, slice_get, Atom, Value, One, Many, added, all_added, events_with, Outcome, and_then, expr_with, gens_with, part_with, past, without, Given, Env, Front, Gathered, Meaning, Turn, Uses, as_atom, as_number, as_set, as_truth, binary, bound_value, front, front_events, front_of_layer, fronts_added, gathered, in_field, items_added, lack_sets, many, meaning, meaning_of_layer, one_event, over, range, row_in, row_of, set_binary, sets_of, turn, turn_of_layer, values_of, walked, EventPart, Expr, fold-roll-Expr, fold-roll-Gen, fold-roll-EventPart, map-Expr, map-Gen, Expr-F, Gen-F, EventPart-F, roll-Expr, roll-Gen, roll-EventPart, Gen, Every, ExprHas, GenHas, PartHas, each_expr, given_or, IsWithGiven}
 use Rattle.csp_atoms.specs.declared.atom.Atom.TheVariants as atom
-use Rattle.csp_program.specs.Prelude.{added, all_added, events_with, Outcome, and_then, expr_with, gens_with, part_with, past, without, Given, Env, Front, Gathered, Meaning, Turn, Uses, as_atom, as_number, as_set, as_truth, binary, bound_value, front, front_events, front_of_layer, fronts_added, gathered, in_field, items_added, lack_sets, many, meaning, meaning_of_layer, one_event, over, range, row_in, row_of, set_binary, sets_of, turn, turn_of_layer, values_of, walked}
-use Rattle.csp_program.specs.declared.expressions.EventPart.{EventPart}
-use Rattle.csp_program.specs.declared.expressions.Expr.{Expr}
-use Rattle.csp_program.specs.declared.expressions.Expr.TheFolds.{fold-roll-Expr, fold-roll-Gen, fold-roll-EventPart, map-Expr, map-Gen}
-use Rattle.csp_program.specs.declared.expressions.Expr.TheOpen.{Expr-F, Gen-F, EventPart-F}
-use Rattle.csp_program.specs.declared.expressions.Expr.TheViews.{roll-Expr, roll-Gen, roll-EventPart}
-use Rattle.csp_program.specs.declared.expressions.Gen.{Gen}
 use Rattle.csp_program.specs.declared.kinds.ValueKind.TheVariants.{Kind}
 use Rattle.csp_program.specs.declared.programs.Channel.{Channel}
-use Rattle.csp_program.proofs.Forms.{Every, ExprHas, GenHas, PartHas, each_expr}
 use Rattle.substitution.proofs.Forms.{expr_form, expr_is, gen_form, gen_is, left_is, named_form, part_form, part_is}
-use Rattle.substitution.specs.Laws.{given_or, IsWithGiven}
 
 -- a name more is bound in both environments
 extends : (y : ℕ) (w : Value) (given : Given) (env env' : Env) → IsWithGiven given env env' → IsWithGiven (without y given) ((y, w) ∷ env) ((y, w) ∷ env')

@@ -31,7 +31,7 @@ pub(crate) fn pass(values: &mut Values<'_>, generator: &Gen) -> Result<(), NoMem
 }
 
 /// The expression with the values in place of the names, wherever these are free.
-#[tactic(auto, using(crate::proofs::Forms::expr_forms))]
+#[tactic(auto, using(crate::proofs::Forms::expr_out, csp_program::specs::declared::expressions::Expr::the_lemmas))]
 #[cycle(put_expr)]
 pub fn put_expr(alloc: Global, expr: &Expr, values: &Values<'_>) -> Result<Expr, NoMemory>
     ensures { IfOk result (λ made. made ≡ expr_with (given_by values.now) expr.now) }
@@ -76,7 +76,8 @@ fn choice(
     b: &Boxed<Expr>,
     values: &Values<'_>,
 ) -> Result<Expr, NoMemory>
-    ensures { IfOk result (λ made. made ≡ Expr.If (expr_with (given_by values.now) c.now) (expr_with (given_by values.now) a.now) (expr_with (given_by values.now) b.now)) }
+    ensures { IfOk result (λ made. made ≡ Expr.If (expr_with (given_by values.now) c.now)
+        (expr_with (given_by values.now) a.now) (expr_with (given_by values.now) b.now)) }
 {
     let c = replace_boxed_expr(alloc, c, values)?;
     let (a, b) = replace_two(alloc, a, b, values)?;
@@ -91,7 +92,8 @@ fn comprehension(
     gens: &Items<Gen>,
     values: &Values<'_>,
 ) -> Result<Expr, NoMemory>
-    ensures { IfOk result (λ made. made ≡ Expr.Comp (map (expr_with (past gens.now (given_by values.now))) items.now) (gens_with (given_by values.now) gens.now)) }
+    ensures { IfOk result (λ made. made ≡ Expr.Comp (map (expr_with (past gens.now (given_by values.now))) items.now)
+        (gens_with (given_by values.now) gens.now)) }
 {
     let mut here = values.copy(alloc)?;
     let gens = replace_gens(alloc, gens.as_slice(), &mut here)?;
@@ -107,7 +109,8 @@ fn product(
     gens: &Items<Gen>,
     values: &Values<'_>,
 ) -> Result<Expr, NoMemory>
-    ensures { IfOk result (λ made. made ≡ Expr.Product (map (part_with (past gens.now (given_by values.now))) parts.now) (gens_with (given_by values.now) gens.now)) }
+    ensures { IfOk result (λ made. made ≡ Expr.Product
+        (map (part_with (past gens.now (given_by values.now))) parts.now) (gens_with (given_by values.now) gens.now)) }
 {
     let mut here = values.copy(alloc)?;
     let gens = replace_gens(alloc, gens.as_slice(), &mut here)?;
@@ -135,7 +138,8 @@ fn replace_two(
     b: &Boxed<Expr>,
     values: &Values<'_>,
 ) -> Result<(Boxed<Expr>, Boxed<Expr>), NoMemory>
-    ensures { IfOk result (λ made. (made.0 ≡ expr_with (given_by values.now) a.now) × (made.1 ≡ expr_with (given_by values.now) b.now)) }
+    ensures { IfOk result (λ made. (made.0 ≡ expr_with (given_by values.now) a.now)
+        × (made.1 ≡ expr_with (given_by values.now) b.now)) }
 {
     let a = replace_boxed_expr(alloc, a, values)?;
     let b = replace_boxed_expr(alloc, b, values)?;

@@ -12,7 +12,7 @@ use csp_program::{EventPart, Expr, Field, Gen, Head, Proc};
 use std::alloc::Global;
 
 /// The process with the values in place of the names, wherever these are free.
-#[tactic(auto, using(crate::proofs::Forms::proc_forms))]
+#[tactic(auto, using(crate::proofs::Forms::proc_out, csp_program::specs::declared::processes::Proc::the_lemmas))]
 #[cycle(put_proc)]
 pub fn put_proc(alloc: Global, proc: &Proc, values: &Values<'_>) -> Result<Proc, NoMemory>
     ensures { IfOk result (λ made. made ≡ proc_with (given_by values.now) proc.now) }
@@ -53,7 +53,8 @@ fn prefix(
     p: &Boxed<Proc>,
     values: &Values<'_>,
 ) -> Result<Proc, NoMemory>
-    ensures { IfOk result (λ made. made ≡ Proc.Prefix (head_with (given_by values.now) head.now) (fields_with (given_by values.now) fields.now) (proc_with (after_all fields.now (given_by values.now)) p.now)) }
+    ensures { IfOk result (λ made. made ≡ Proc.Prefix (head_with (given_by values.now) head.now)
+        (fields_with (given_by values.now) fields.now) (proc_with (after_all fields.now (given_by values.now)) p.now)) }
 {
     let (fields, p) = replace_after(alloc, fields, p, values)?;
     put_head(alloc, head, values).map(|head| Proc::Prefix(head, fields, p))
@@ -79,7 +80,8 @@ fn replace_after(
 // A process under a condition.
 #[cycle(put_proc)]
 fn guard(alloc: Global, c: &Expr, p: &Boxed<Proc>, values: &Values<'_>) -> Result<Proc, NoMemory>
-    ensures { IfOk result (λ made. made ≡ Proc.Guard (expr_with (given_by values.now) c.now) (proc_with (given_by values.now) p.now)) }
+    ensures { IfOk result (λ made. made ≡ Proc.Guard (expr_with (given_by values.now) c.now)
+        (proc_with (given_by values.now) p.now)) }
 {
     let p = replace_boxed_proc(alloc, p, values)?;
     put_expr(alloc, c, values).map(|c| Proc::Guard(c, p))
@@ -94,7 +96,8 @@ fn choice(
     q: &Boxed<Proc>,
     values: &Values<'_>,
 ) -> Result<Proc, NoMemory>
-    ensures { IfOk result (λ made. made ≡ Proc.If (expr_with (given_by values.now) c.now) (proc_with (given_by values.now) p.now) (proc_with (given_by values.now) q.now)) }
+    ensures { IfOk result (λ made. made ≡ Proc.If (expr_with (given_by values.now) c.now)
+        (proc_with (given_by values.now) p.now) (proc_with (given_by values.now) q.now)) }
 {
     let (p, q) = replace_two(alloc, p, q, values)?;
     put_expr(alloc, c, values).map(|c| Proc::If(c, p, q))
@@ -120,7 +123,8 @@ fn replicated(
 // A process with a set hidden.
 #[cycle(put_proc)]
 fn hiding(alloc: Global, p: &Boxed<Proc>, set: &Expr, values: &Values<'_>) -> Result<Proc, NoMemory>
-    ensures { IfOk result (λ made. made ≡ Proc.Hide (proc_with (given_by values.now) p.now) (expr_with (given_by values.now) set.now)) }
+    ensures { IfOk result (λ made. made ≡ Proc.Hide (proc_with (given_by values.now) p.now)
+        (expr_with (given_by values.now) set.now)) }
 {
     let p = replace_boxed_proc(alloc, p, values)?;
     put_expr(alloc, set, values).map(|set| Proc::Hide(p, set))
@@ -135,7 +139,8 @@ fn renaming(
     gens: &Items<Gen>,
     values: &Values<'_>,
 ) -> Result<Proc, NoMemory>
-    ensures { IfOk result (λ made. made ≡ Proc.Rename (proc_with (given_by values.now) p.now) (map (pair_with (past gens.now (given_by values.now))) pairs.now) (gens_with (given_by values.now) gens.now)) }
+    ensures { IfOk result (λ made. made ≡ Proc.Rename (proc_with (given_by values.now) p.now)
+        (map (pair_with (past gens.now (given_by values.now))) pairs.now) (gens_with (given_by values.now) gens.now)) }
 {
     let p = replace_boxed_proc(alloc, p, values)?;
     let pairs = put_pairs(alloc, pairs.as_slice(), gens.as_slice(), values)?;
@@ -162,7 +167,8 @@ fn replace_two(
     q: &Boxed<Proc>,
     values: &Values<'_>,
 ) -> Result<(Boxed<Proc>, Boxed<Proc>), NoMemory>
-    ensures { IfOk result (λ made. (made.0 ≡ proc_with (given_by values.now) p.now) × (made.1 ≡ proc_with (given_by values.now) q.now)) }
+    ensures { IfOk result (λ made. (made.0 ≡ proc_with (given_by values.now) p.now)
+        × (made.1 ≡ proc_with (given_by values.now) q.now)) }
 {
     let p = replace_boxed_proc(alloc, p, values)?;
     let q = replace_boxed_proc(alloc, q, values)?;

@@ -6,4 +6,4 @@
 
 mod tabulating;
 
-pub use tabulating::tabulated;
+pub use tabulating::tabulate;

@@ -27,7 +27,7 @@ fn choose(network: &Spelled, index: u32) -> Result<Chosen<'_>, Stop<Refusal>>
 }
 
 /// The normal table of the component with the number `index`, which has the whole room for itself, or why there is none.
-pub fn tabulated(alloc: Global, index: u32, network: &Spelled) -> Result<Done, Halt>
+pub fn tabulate(alloc: Global, index: u32, network: &Spelled) -> Result<Done, Halt>
     ensures { Answers (IsTabulated network.now index) result }
 {
     let chosen = choose(network, index)?;

@@ -19,7 +19,8 @@ pub fn heights(alloc: Global, table: &RawTable) -> Result<Heights, HeightFault>
     ensures heights { IfOk result (AreHeights (SilentStep (RawStep table.now)) table.now.count) }
     ensures below { IfOk result (λ found. (s : ℕ) → s < table.now.count → slice_index found s < table.now.count) }
     ensures no_circle { OnOk result (HasNoCircle (SilentStep (RawStep table.now))) }
-    ensures circle { (terms : List ℕ) → result ≡ Err (HeightFault.Diverges terms) → IsLeastCircle (SilentStep (RawStep table.now)) terms }
+    ensures circle { (terms : List ℕ) → result ≡ Err (HeightFault.Diverges terms)
+        → IsLeastCircle (SilentStep (RawStep table.now)) terms }
 {
     let rows = silent_rows(alloc, table)?;
     match longest_walks(alloc, &rows) {

@@ -1,26 +1,8 @@
 -- What a process becomes where another one takes the place of its first sub-process.
-use Rattle.std.proofs.Common.{◌≡◌, ℕ, ◌<◌, true, nat_lt, List, [], ◌∷◌, map, length, refl, ap, sym, ◌∙◌, subst, arith}
-use Rattle.std.proofs.lemmas.Bool.{lt-ltb, and_from}
-use Rattle.std.specs.Cmp.{second_so}
-use Rattle.csp_program.specs.declared.expressions.EventPart.{EventPart}
-use Rattle.csp_program.specs.declared.expressions.Expr.{Expr}
-use Rattle.csp_program.specs.declared.expressions.Gen.{Gen}
-use Rattle.csp_program.specs.declared.processes.Proc.{Proc}
-use Rattle.csp_program.specs.declared.processes.Proc.TheOpen.{Proc-F}
-use Rattle.csp_program.specs.declared.processes.Proc.TheViews.{out-Proc, out-roll-Proc}
+use Rattle.term_pool.proofs.Prelude.{◌≡◌, ℕ, ◌<◌, true, nat_lt, List, [], ◌∷◌, map, length, refl, ap, sym, ◌∙◌, subst, arith, lt-ltb, and_from, second_so, Proc, Proc-F, layer_with_first, node_with_first, other_first, with_first, tree_at, layer_tree, all_below, layer_below, Layer, layer_parts, ProcId}
 use Rattle.csp_program.specs.declared.processes.Proc.TheVariants as proc
 use Rattle.term_pool.proofs.NodeLemmas.{layer_of, layer_out}
 use Rattle.term_pool.proofs.TreeLemmas.{all_below_more}
-use Rattle.term_pool.specs.Prelude.{layer_with_first, node_with_first, other_first, with_first, tree_at, layer_tree, all_below, layer_below, Layer, layer_parts}
-use Rattle.pool_parts.specs.declared.place.ProcId.{ProcId}
-
-pub first_Hide : (p : Proc) (s : Expr) (q : Proc) → with_first (proc.Hide p s) q ≡ proc.Hide q s
-unfolding with_first
-first_Hide p s q = ap (λ (l : Proc-F Proc). layer_with_first l q) (ap out-Proc (sym (proc.rolls-Hide p s)) ∙ out-roll-Proc (Proc-F.Hide p s))
-
-pub first_Rename : (p : Proc) (pairs : List (EventPart × EventPart)) (gens : List Gen) (q : Proc) → with_first (proc.Rename p pairs gens) q ≡ proc.Rename q pairs gens
-unfolding with_first
-first_Rename p pairs gens q = ap (λ (l : Proc-F Proc). layer_with_first l q) (ap out-Proc (sym (proc.rolls-Rename p pairs gens)) ∙ out-roll-Proc (Proc-F.Rename p pairs gens))
 
 others_at : (ts : List Proc) (ps : List ProcId) (q : ProcId) → other_first (map (tree_at ts) ps) (tree_at ts q) ≡ map (tree_at ts) (other_first ps q)
 others_at ts [] q = refl

@@ -1,24 +1,10 @@
 -- What follows from how a pool keeps its processes.
-use Rattle.std.proofs.Common.{◌≡◌, ◌⊎◌, inl, inr, ℕ, zero, suc, ◌+◌, ◌<◌, ◌≤◌, true, nat_lt, Some, List, [], ◌∷◌, ◌++◌, map, length, get_or, slice_get, refl, ap, sym, ◌∙◌, subst, arith}
-use Rattle.csp_base.proofs.Standard.{ltb-true, false≢true, length-append, slice_get_within, slice_get-get_or, get_or_from_slice_get}
-use Rattle.std.specs.Cmp.{first_so, second_so}
-use Rattle.std.specs.Prelude.{Result, Ok, Err, IsErr}
-use Rattle.containers.proofs.MembersLemmas.{slice_get-append_left}
-use Rattle.csp_program.specs.Prelude.{proc_depth, proc_free, proc_size}
-use Rattle.csp_program.specs.declared.processes.Proc.{Proc}
-use Rattle.csp_program.specs.declared.processes.Proc.TheOpen.{Proc-F}
+use Rattle.term_pool.proofs.Prelude.{◌≡◌, ◌⊎◌, inl, inr, ℕ, zero, suc, ◌+◌, ◌<◌, ◌≤◌, true, nat_lt, Some, List, [], ◌∷◌, ◌++◌, map, length, get_or, slice_get, refl, ap, sym, ◌∙◌, subst, arith, ltb-true, false≢true, length-append, slice_get_within, slice_get-get_or, get_or_from_slice_get, first_so, second_so, Result, Ok, Err, IsErr, slice_get-append_left, proc_depth, proc_free, proc_size, Proc, Proc-F, IsHeld, Puts, AreMeasured, IsNodeMeasure, AreDifferent, Has, IsFront, PartsStandBelow, StandBelow, parts, tree_at, layer_tree, all_below, layer_below, trees_of, fall, AddsOne, Layer, layer_parts, noted_more, noted_push, IsAbsent, Measure, ProcId, push_cases, EachOnce}
 use Rattle.csp_program.specs.declared.processes.Proc.TheVariants as proc
 use Rattle.term_pool.proofs.NodeLemmas.{parts_at, same_node}
 use Rattle.term_pool.proofs.NodeMeasures.{node_measured}
 use Rattle.term_pool.proofs.TreeLemmas.{all_below_more, of_front, grown_push, grown_length, grown_at, fall_at, fall_push}
 use Rattle.term_pool.proofs.WithinLemmas.{has_push}
-use Rattle.term_pool.specs.Prelude.{IsHeld, Puts, AreMeasured, IsNodeMeasure, AreDifferent, Has, IsFront, PartsStandBelow, StandBelow, parts, tree_at, layer_tree, all_below, layer_below, trees_of, fall, AddsOne, Layer, layer_parts}
-use Rattle.pool_parts.proofs.StoreLemmas.{noted_more, noted_push}
-use Rattle.pool_parts.specs.Prelude.{IsAbsent}
-use Rattle.pool_parts.specs.declared.measure.Measure.{Measure}
-use Rattle.pool_parts.specs.declared.place.ProcId.{ProcId}
-use Rattle.csp_base.proofs.Lists.{push_cases}
-use Rattle.csp_base.specs.Lists.{EachOnce}
 
 at_end : {X : Type 0} (xs : List X) (x : X) → slice_get (xs ++ x ∷ []) (length xs) ≡ Some x
 at_end [] x = refl

@@ -1,21 +1,9 @@
 -- What follows from how a pool keeps its nodes as entries.
-use Rattle.std.proofs.Common.{◌≡◌, ◌⊎◌, inl, inr, ℕ, zero, suc, ◌<◌, Bool, true, false, None, Some, Option, List, [], ◌∷◌, ◌++◌, length, get_or, slice_get, refl, ap, sym, ◌∙◌, subst, arith}
-use Rattle.csp_base.proofs.Standard.{map-append, length-map, length_push, same_from_push, slice_get-map, slice_get-get_or}
-use Rattle.std.specs.Prelude.{Result, Ok, Err, IsErr, MatchOption, OnErr, not, option_map}
+use Rattle.term_pool.proofs.Prelude.{◌≡◌, ◌⊎◌, inl, inr, ℕ, zero, suc, ◌<◌, true, false, None, Some, Option, List, [], ◌∷◌, ◌++◌, length, get_or, slice_get, refl, ap, sym, ◌∙◌, subst, arith, map-append, length-map, length_push, same_from_push, slice_get-map, slice_get-get_or, Result, Ok, Err, IsErr, MatchOption, OnErr, option_map, proc_depth, proc_free, proc_size, Proc, noted_at, is_absent, entry_layer, layers, ArePartsOnce, Fits, HasParts, PartsStart, eq_entry, processes, IsHeld, IsKept, Puts, Layer, IsNodeMeasure, Measures, Has, layer_below, layer_tree, trees_of, laws-law, Entry, OwnParts, IsAbsent, Measure, ProcId, push_cases}
 use Rattle.std.specs.Set.{is_member}
-use Rattle.csp_program.specs.Prelude.{proc_depth, proc_free, proc_size}
-use Rattle.csp_program.specs.declared.processes.Proc.{Proc}
-use Rattle.pool_parts.proofs.StoreLemmas.{noted_at, is_absent}
 use Rattle.csp_program.specs.declared.processes.Proc.TheVariants as proc
 use Rattle.term_pool.proofs.EntryLemmas.{fits_more, layer_stays, same_entry, has_parts}
 use Rattle.term_pool.proofs.HeldLemmas.{held_push, is_known, places_fall, puts_known, puts_new, puts_none, tree_stands, trees_length, unknown_push}
-use Rattle.term_pool.specs.Prelude.{entry_layer, layers, ArePartsOnce, Fits, HasParts, PartsStart, eq_entry, processes, IsHeld, IsKept, Puts, Layer, IsNodeMeasure, Measures, Has, layer_below, layer_tree, trees_of, laws-law}
-use Rattle.term_pool.specs.declared.entry.Entry.{Entry}
-use Rattle.term_pool.specs.declared.own_parts.OwnParts.{OwnParts}
-use Rattle.pool_parts.specs.Prelude.{IsAbsent}
-use Rattle.pool_parts.specs.declared.measure.Measure.{Measure}
-use Rattle.pool_parts.specs.declared.place.ProcId.{ProcId}
-use Rattle.csp_base.proofs.Lists.{push_cases}
 
 abbrev id_at : ℕ → ProcId
 id_at k = record { 0 = k }
@@ -159,15 +147,6 @@ taken_out all before after e None pushed h =
     let b = length_push before e in
     absurd (omega (arith, a, b))
 taken_out all before after e (Some last) pushed h = sym (same_from_push before after e last (sym pushed ∙ h)).0
-
--- what is told of a value: whether it is new, by whether it is known
-pub was_known : (known new : Bool) → new ≡ not known → new ≡ false → known ≡ true
-was_known true new h k = refl
-was_known false new h k = cc
-
-pub was_unknown : (known new : Bool) → new ≡ not known → new ≡ true → known ≡ false
-was_unknown true new h k = cc
-was_unknown false new h k = refl
 
 -- nothing is kept at first
 none_twice : {T : Type 0} (i j : ℕ) (x : T) → slice_get [] i ≡ Some x → slice_get [] j ≡ Some x → i ≡ j

@@ -5,6 +5,7 @@ pub mod KeptLemmas
 pub mod NodeLemmas
 pub mod NodeMeasures
 pub mod OverLemmas
+pub mod Prelude
 pub mod PutLemmas
 pub mod SubstituteLemmas
 pub mod TreeLemmas

@@ -1,14 +1,6 @@
 -- The layer of a process that a node stands for, and that different nodes stand for different processes.
-use Rattle.std.proofs.Common.{◌≡◌, ℕ, ◌<◌, true, nat_lt, List, [], ◌∷◌, map, refl, ap, sym, ◌∙◌}
-use Rattle.std.proofs.lemmas.Bool.{ltb-true}
-use Rattle.std.specs.Cmp.{first_so, second_so}
-use Rattle.csp_program.specs.declared.processes.Proc.{Proc}
-use Rattle.csp_program.specs.declared.processes.Proc.TheFolds.{map-Proc}
-use Rattle.csp_program.specs.declared.processes.Proc.TheOpen.{Proc-F}
-use Rattle.csp_program.specs.declared.processes.Proc.TheViews.{out-Proc, roll-Proc, out-roll-Proc}
+use Rattle.term_pool.proofs.Prelude.{◌≡◌, ℕ, ◌<◌, true, nat_lt, List, [], ◌∷◌, map, refl, ap, sym, ◌∙◌, ltb-true, first_so, second_so, Proc, map-Proc, Proc-F, out-Proc, roll-Proc, out-roll-Proc, moved, with_parts, parts, tree_at, layer_tree, all_below, layer_below, Layer, layer_parts, ProcId}
 use Rattle.csp_program.specs.declared.processes.Proc.TheVariants as proc
-use Rattle.term_pool.specs.Prelude.{moved, with_parts, parts, tree_at, layer_tree, all_below, layer_below, Layer, layer_parts}
-use Rattle.pool_parts.specs.declared.place.ProcId.{ProcId}
 
 -- the node with the trees of its places, as a layer
 abbrev pub layer_of : List Proc → Layer → Proc-F Proc

@@ -1,21 +1,7 @@
 -- What a node's process measures: its own parts and the processes at its places.
-use Rattle.std.proofs.Common.{◌≡◌, ◌⊎◌, inl, inr, ℕ, ◌+◌, ◌<◌, ◌≤◌, max, min, Bool, true, false, ◌||◌, ◌&&◌, not, nat_lt, nat_eq, List, [], ◌∷◌, ◌++◌, map, length, take, get_or, refl, ap, sym, ◌∙◌, subst, arith}
-use Rattle.csp_base.proofs.Standard.{false≢true, ltb-true, or_right, take_more, slice_get-get_or}
-use Rattle.std.specs.Cmp.{first_so, second_so}
-use Rattle.csp_base.specs.Lists.{greatest, total}
-use Rattle.csp_program.specs.Prelude.{proc_depth, proc_depth_of_layer, Names, any_of, before, expr_free, gen_binding, head_free, nowhere, pair_free, proc_free, proc_free_of_layer, under, proc_size, proc_size_of_layer}
-use Rattle.csp_program.specs.declared.processes.Proc.{Proc}
-use Rattle.csp_program.specs.declared.processes.Proc.TheFolds.{fold-roll-Proc, map-Proc}
-use Rattle.csp_program.specs.declared.processes.Proc.TheOpen.{Proc-F}
-use Rattle.csp_program.specs.declared.processes.Proc.TheViews.{roll-Proc}
+use Rattle.term_pool.proofs.Prelude.{◌≡◌, ◌⊎◌, inl, inr, ℕ, ◌+◌, ◌<◌, ◌≤◌, max, min, Bool, true, false, ◌||◌, ◌&&◌, not, nat_lt, nat_eq, List, [], ◌∷◌, ◌++◌, map, length, take, get_or, refl, ap, sym, ◌∙◌, subst, arith, false≢true, ltb-true, or_right, take_more, slice_get-get_or, first_so, second_so, greatest, total, proc_depth, proc_depth_of_layer, Names, any_of, before, expr_free, gen_binding, head_free, nowhere, pair_free, proc_free, proc_free_of_layer, under, proc_size, proc_size_of_layer, Proc, fold-roll-Proc, map-Proc, Proc-F, roll-Proc, before_split, low_either, low_of, lower, none_low, under_split, noted_at, capped, IsLow, Measure, ProcId, Layer, layer_parts, deepest_at, measure_at, own_depth, own_free, own_size, total_at, AreMeasured, IsLeastAt, IsNodeMeasure, Measures, tree_at, layer_tree, all_below, layer_below}
 use Rattle.csp_program.specs.declared.processes.Proc.TheVariants as proc
-use Rattle.pool_parts.proofs.LowLemmas.{before_split, low_either, low_of, lower, none_low, under_split}
-use Rattle.pool_parts.proofs.StoreLemmas.{noted_at}
-use Rattle.pool_parts.specs.Prelude.{capped, IsLow}
-use Rattle.pool_parts.specs.declared.measure.Measure.{Measure}
-use Rattle.pool_parts.specs.declared.place.ProcId.{ProcId}
 use Rattle.term_pool.proofs.NodeLemmas.{layer_of, rolls}
-use Rattle.term_pool.specs.Prelude.{Layer, layer_parts, deepest_at, measure_at, own_depth, own_free, own_size, total_at, AreMeasured, IsLeastAt, IsNodeMeasure, Measures, tree_at, layer_tree, all_below, layer_below}
 
 abbrev proc_form_depth : Proc-F Proc → ℕ
 proc_form_depth d = proc_depth_of_layer (map-Proc Proc ℕ proc_depth d)

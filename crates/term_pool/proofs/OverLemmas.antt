@@ -1,13 +1,8 @@
 -- The layer of a process over places where its sub-processes stand stands for the process.
-use Rattle.std.proofs.Common.{◌≡◌, List, [], ◌∷◌, map, length, refl, ap, ◌∙◌}
-use Rattle.csp_program.specs.declared.processes.Proc.{Proc}
-use Rattle.csp_program.specs.declared.processes.Proc.TheOpen.{Proc-F}
-use Rattle.csp_program.specs.declared.processes.Proc.TheViews.{out-Proc, roll-Proc, roll-out-Proc}
+use Rattle.term_pool.proofs.Prelude.{◌≡◌, List, [], ◌∷◌, map, length, refl, ap, ◌∙◌, Proc, Proc-F, out-Proc, roll-Proc, roll-out-Proc, ProcId, StandAt, StandsFor, layer_parts, id_or, moved, with_parts, all_below, tree_at}
 use Rattle.csp_program.specs.declared.processes.Proc.TheVariants as proc
-use Rattle.pool_parts.specs.declared.place.ProcId.{ProcId}
 use Rattle.term_pool.proofs.NodeLemmas.{mapped, rolls}
 use Rattle.term_pool.proofs.PutLemmas.{stand_below, stand_trees}
-use Rattle.term_pool.specs.Prelude.{StandAt, StandsFor, layer_parts, id_or, moved, with_parts, all_below, tree_at}
 
 -- places at which no process, one process and two processes stand
 none_listed : (trees : List Proc) (ids : List ProcId) → StandAt trees ids [] → [] ≡ ids

@@ -1,11 +1,7 @@
 -- Lemmas on lists that grow as processes are put into them, and on nodes that stand for processes.
-use Rattle.std.proofs.Common.{◌≡◌, ◌⊎◌, inl, inr, ℕ, ◌+◌, ◌<◌, true, nat_lt, Some, List, [], ◌∷◌, ◌++◌, map, length, get_or, slice_get, take, drop, refl, ap, sym, ◌∙◌, subst}
-use Rattle.csp_base.proofs.Standard.{lt-ltb, and_from, take_more, take-append-drop, slice_get_within, get_or_from_slice_get}
-use Rattle.csp_program.specs.declared.processes.Proc.{Proc}
+use Rattle.term_pool.proofs.Prelude.{◌≡◌, ◌⊎◌, inl, inr, ℕ, ◌+◌, ◌<◌, true, nat_lt, Some, List, [], ◌∷◌, ◌++◌, map, length, get_or, slice_get, take, drop, refl, ap, sym, ◌∙◌, subst, lt-ltb, and_from, take_more, take-append-drop, slice_get_within, get_or_from_slice_get, Proc, Has, IsFront, PartsStandBelow, StandBelow, parts, Grows, HasAll, StandAt, StandsFor, tree_at, layer_tree, all_below, AddsOne, IsInOne, Layer, ProcId}
 use Rattle.csp_program.specs.declared.processes.Proc.TheVariants as proc
 use Rattle.term_pool.proofs.WithinLemmas.{in_left, in_right, in_whole, is_whole}
-use Rattle.term_pool.specs.Prelude.{Has, IsFront, PartsStandBelow, StandBelow, parts, Grows, HasAll, StandAt, StandsFor, tree_at, layer_tree, all_below, AddsOne, IsInOne, Layer}
-use Rattle.pool_parts.specs.declared.place.ProcId.{ProcId}
 
 has_front : (trees : List Proc) (ps qs : List Proc) → HasAll trees (ps ++ qs) → HasAll trees ps
 has_front trees [] qs h = tt
@@ -73,12 +69,6 @@ within trees p t h = lt-ltb p.0 (length trees) (slice_get_within trees p.0 t h)
 
 pub at : (trees : List Proc) (p : ProcId) (t : Proc) → slice_get trees p.0 ≡ Some t → tree_at trees p ≡ t
 at trees p t h = get_or_from_slice_get trees p.0 t proc.Stop h
-
-pub one_below : (trees : List Proc) (p : ProcId) (t : Proc) → slice_get trees p.0 ≡ Some t → all_below (length trees) (p ∷ []) ≡ true
-one_below trees p t h = and_from (nat_lt p.0 (length trees)) true (within trees p t h) refl
-
-pub two_below : (trees : List Proc) (p : ProcId) (t : Proc) (q : ProcId) (u : Proc) → slice_get trees p.0 ≡ Some t → slice_get trees q.0 ≡ Some u → all_below (length trees) (p ∷ q ∷ []) ≡ true
-two_below trees p t q u h g = and_from (nat_lt p.0 (length trees)) (all_below (length trees) (q ∷ [])) (within trees p t h) (one_below trees q u g)
 
 pub stand_below : (trees : List Proc) (ids : List ProcId) (ts : List Proc) → StandAt trees ids ts → all_below (length trees) ids ≡ true
 stand_below trees [] [] h = refl

@@ -1,14 +1,8 @@
 -- What a node becomes where values are put in: its own parts, and what stands at its places.
-use Rattle.std.proofs.Common.{◌≡◌, List, [], ◌∷◌, map, refl, ap, sym, ◌∙◌, subst}
-use Rattle.csp_program.specs.Prelude.{proc_with, Given}
-use Rattle.csp_program.specs.declared.processes.Proc.{Proc}
-use Rattle.csp_program.specs.declared.processes.Proc.TheOpen.{Proc-F}
-use Rattle.csp_program.specs.declared.processes.Proc.TheViews.{out-Proc, roll-Proc, out-roll-Proc}
-use Rattle.pool_parts.specs.declared.place.ProcId.{ProcId}
+use Rattle.term_pool.proofs.Prelude.{◌≡◌, List, [], ◌∷◌, map, refl, ap, sym, ◌∙◌, subst, proc_with, Given, Proc, Proc-F, out-Proc, roll-Proc, out-roll-Proc, ProcId, Layer, layer_parts, moved, parts, StandAt, StandsFor, all_with, left_below, own_with, layer_tree, tree_at}
 use Rattle.substitution.proofs.Forms.{proc_form, proc_is}
 use Rattle.term_pool.proofs.NodeLemmas.{layer_of, rolls}
 use Rattle.term_pool.proofs.OverLemmas.{stands_form}
-use Rattle.term_pool.specs.Prelude.{Layer, layer_parts, moved, parts, StandAt, StandsFor, all_with, left_below, own_with, layer_tree, tree_at}
 
 module _ (given : Given) (trees : List Proc) where
   -- the layer of what a node's process becomes

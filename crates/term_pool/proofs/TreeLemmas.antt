@@ -1,12 +1,7 @@
 -- The trees of a list of nodes: how they grow, and what stands at each place.
-use Rattle.std.proofs.Common.{◌≡◌, ℕ, zero, suc, ◌+◌, ◌<◌, ◌≤◌, true, nat_lt, Some, List, [], ◌∷◌, ◌++◌, length, get_or, slice_get, refl, ap, sym, ◌∙◌, subst, arith, length-append, append_assoc}
-use Rattle.csp_base.proofs.Standard.{ltb-true, lt-ltb, and_from, append-nil, get_or_append_left, get_or-append_seam}
-use Rattle.std.specs.Cmp.{first_so, second_so}
-use Rattle.csp_program.specs.declared.processes.Proc.{Proc}
+use Rattle.term_pool.proofs.Prelude.{◌≡◌, ℕ, zero, suc, ◌+◌, ◌<◌, ◌≤◌, true, nat_lt, Some, List, [], ◌∷◌, ◌++◌, length, get_or, slice_get, refl, ap, sym, ◌∙◌, subst, arith, length-append, append_assoc, ltb-true, lt-ltb, and_from, append-nil, get_or_append_left, get_or-append_seam, first_so, second_so, Proc, layer_tree, all_below, layer_below, grown, fall, Layer, ProcId}
 use Rattle.csp_program.specs.declared.processes.Proc.TheVariants as proc
 use Rattle.term_pool.proofs.NodeLemmas.{agree_node}
-use Rattle.term_pool.specs.Prelude.{layer_tree, all_below, layer_below, grown, fall, Layer}
-use Rattle.pool_parts.specs.declared.place.ProcId.{ProcId}
 
 -- a larger bound serves as well
 pub all_below_more : (b c : ℕ) → b ≤ c → (ids : List ProcId) → all_below b ids ≡ true → all_below c ids ≡ true

@@ -1,8 +1,5 @@
 -- What stands in lists of processes and in their processes, and what a list gets at its end.
-use Rattle.std.proofs.Common.{◌≡◌, ◌⊎◌, inl, inr, ℕ, zero, suc, Some, List, [], ◌∷◌, ◌++◌, slice_get, refl, subst}
-use Rattle.containers.proofs.MembersLemmas.{slice_get-append_left}
-use Rattle.csp_program.specs.declared.processes.Proc.{Proc}
-use Rattle.term_pool.specs.Prelude.{Has, parts, AddsParts, IsIn, IsInOne}
+use Rattle.term_pool.proofs.Prelude.{◌≡◌, ◌⊎◌, inl, inr, ℕ, zero, suc, Some, List, [], ◌∷◌, ◌++◌, slice_get, refl, subst, slice_get-append_left, Proc, Has, parts, AddsParts, IsIn, IsInOne}
 
 one_later : (t u s : Proc) (ts : List Proc) → Has ts u ⊎ (t ≡ u) → Has (s ∷ ts) u ⊎ (t ≡ u)
 one_later t u s ts (inl h) = inl (suc h.0, h.1)

@@ -3,7 +3,7 @@ pub use Rattle.term_pool.specs.Entries.{ArePartsOnce, Fits, HasParts, PartsStart
 pub use Rattle.term_pool.specs.ExactEntry.{eq_entry}
 pub use Rattle.term_pool.specs.First.{layer_with_first, node_with_first, other_first}
 unfoldable pub use Rattle.term_pool.specs.First.{with_first}
-pub use Rattle.term_pool.specs.Held.{IsHeld, IsKept, Puts, processes}
+pub use Rattle.term_pool.specs.Held.{AreKept, IsHeld, IsKept, Puts, entry_tree, processes, trees_in}
 pub use Rattle.term_pool.specs.Layers.{Layer, layer_parts, shown}
 pub use Rattle.term_pool.specs.Measured.{AreMeasured, IsLeastAt, IsNodeMeasure, Measures, deepest_at, measure_at, node_depth, node_size, own_depth, own_free, own_size, total_at}
 pub use Rattle.term_pool.specs.Moved.{id_or, moved, with_parts}

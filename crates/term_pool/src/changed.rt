@@ -2,10 +2,7 @@
 
 ghost use Rattle.std.specs.Prelude.{◌≡◌, ◌<◌, length, map, slice_get, IfOk, Some};
 ghost use Rattle.csp_program.specs.Substitution.{expr_with, fields_with, gens_with, given_by, head_with, pair_with, past};
-ghost use Rattle.term_pool.specs.Entries.{arguments_at, choice_at, entry_layer, expr_at, fields_at, gens_at, head_at, pairs_at, Fits, PartsStart};
-ghost use Rattle.term_pool.specs.First.{node_with_first, other_first};
-ghost use Rattle.term_pool.specs.Moved.{id_or, moved};
-ghost use Rattle.term_pool.specs.Substituted.{own_with};
+ghost use Rattle.term_pool.specs.Prelude.{arguments_at, choice_at, entry_layer, expr_at, fields_at, gens_at, head_at, pairs_at, Fits, PartsStart, node_with_first, other_first, id_or, moved, own_with};
 
 use crate::entry::Entry;
 use crate::own_parts::{OwnParts, keep_choice};
@@ -36,7 +33,8 @@ fn choice_with_first(
 ) -> Result<usize, NoMemory>
     requires within { place < length parts.old.choices }
     ensures start { PartsStart parts.old parts.new }
-    ensures made { IfOk result (λ made. slice_get parts.new.choices made ≡ Some (other_first (choice_at parts.old place) below)) }
+    ensures made { IfOk result (λ made. slice_get parts.new.choices made
+        ≡ Some (other_first (choice_at parts.old place) below)) }
 {
     let made = with_other_first(alloc, parts.choices.get(place).as_slice(), below);
     parts.choices.keep_made(made)
@@ -53,7 +51,8 @@ pub(crate) fn entry_with_first(
     requires fits { Fits parts.old entry }
     ensures start { PartsStart parts.old parts.new }
     ensures fits { IfOk result (Fits parts.new) }
-    ensures layer { IfOk result (λ made. entry_layer parts.new made ≡ node_with_first (entry_layer parts.old entry) below) }
+    ensures layer { IfOk result (λ made. entry_layer parts.new made
+        ≡ node_with_first (entry_layer parts.old entry) below) }
 {
     match entry {
         Entry::Stop => Ok(Entry::Stop),
@@ -123,7 +122,8 @@ fn put_expr(
 ) -> Result<usize, NoMemory>
     requires { place < length parts.old.exprs }
     ensures start { PartsStart parts.old parts.new }
-    ensures made { IfOk result (λ made. slice_get parts.new.exprs made ≡ Some (expr_with (given_by values.now) (expr_at parts.old place))) }
+    ensures made { IfOk result (λ made. slice_get parts.new.exprs made
+        ≡ Some (expr_with (given_by values.now) (expr_at parts.old place))) }
 {
     put_values(&mut parts.exprs, alloc, place, values)
 }
@@ -137,7 +137,8 @@ fn put_arguments(
 ) -> Result<usize, NoMemory>
     requires { place < length parts.old.arguments }
     ensures start { PartsStart parts.old parts.new }
-    ensures made { IfOk result (λ made. slice_get parts.new.arguments made ≡ Some (map (expr_with (given_by values.now)) (arguments_at parts.old place))) }
+    ensures made { IfOk result (λ made. slice_get parts.new.arguments made
+        ≡ Some (map (expr_with (given_by values.now)) (arguments_at parts.old place))) }
 {
     put_values(&mut parts.arguments, alloc, place, values)
 }
@@ -153,7 +154,8 @@ pub(crate) fn made_entry(
     requires fits { Fits parts.old entry }
     ensures start { PartsStart parts.old parts.new }
     ensures fits { IfOk result (Fits parts.new) }
-    ensures layer { IfOk result (λ made. entry_layer parts.new made ≡ moved (own_with (given_by values.now) (entry_layer parts.old entry)) ids.now) }
+    ensures layer { IfOk result (λ made. entry_layer parts.new made
+        ≡ moved (own_with (given_by values.now) (entry_layer parts.old entry)) ids.now) }
 {
     let entry = put_own(parts, alloc, entry, values)?;
     with_places(parts, alloc, entry, ids)
@@ -170,7 +172,8 @@ fn put_own(
     requires fits { Fits parts.old entry }
     ensures start { PartsStart parts.old parts.new }
     ensures fits { IfOk result (Fits parts.new) }
-    ensures layer { IfOk result (λ made. entry_layer parts.new made ≡ own_with (given_by values.now) (entry_layer parts.old entry)) }
+    ensures layer { IfOk result (λ made. entry_layer parts.new made
+        ≡ own_with (given_by values.now) (entry_layer parts.old entry)) }
 {
     match entry {
         Entry::Prefix(head, fields, p) => {
@@ -216,8 +219,10 @@ fn put_prefix(
     requires head { head < length parts.old.heads }
     requires fields { fields < length parts.old.fields }
     ensures start { PartsStart parts.old parts.new }
-    ensures heads { IfOk result (λ own. slice_get parts.new.heads own.0 ≡ Some (head_with (given_by values.now) (head_at parts.old head))) }
-    ensures fields { IfOk result (λ own. slice_get parts.new.fields own.1 ≡ Some (fields_with (given_by values.now) (fields_at parts.old fields))) }
+    ensures heads { IfOk result (λ own. slice_get parts.new.heads own.0
+        ≡ Some (head_with (given_by values.now) (head_at parts.old head))) }
+    ensures fields { IfOk result (λ own. slice_get parts.new.fields own.1
+        ≡ Some (fields_with (given_by values.now) (fields_at parts.old fields))) }
 {
     let head = put_values(&mut parts.heads, alloc, head, values)?;
     let fields = put_values(&mut parts.fields, alloc, fields, values)?;
@@ -235,8 +240,10 @@ fn put_renaming(
     requires pairs { pairs < length parts.old.pairs }
     requires gens { gens < length parts.old.gens }
     ensures start { PartsStart parts.old parts.new }
-    ensures pairs { IfOk result (λ own. slice_get parts.new.pairs own.0 ≡ Some (map (pair_with (past (gens_at parts.old gens) (given_by values.now))) (pairs_at parts.old pairs))) }
-    ensures gens { IfOk result (λ own. slice_get parts.new.gens own.1 ≡ Some (gens_with (given_by values.now) (gens_at parts.old gens))) }
+    ensures pairs { IfOk result (λ own. slice_get parts.new.pairs own.0
+        ≡ Some (map (pair_with (past (gens_at parts.old gens) (given_by values.now))) (pairs_at parts.old pairs))) }
+    ensures gens { IfOk result (λ own. slice_get parts.new.gens own.1
+        ≡ Some (gens_with (given_by values.now) (gens_at parts.old gens))) }
 {
     let old_pairs = parts.pairs.get(pairs).as_slice();
     let old_gens = parts.gens.get(gens).as_slice();

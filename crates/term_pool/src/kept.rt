@@ -2,13 +2,7 @@
 
 ghost use Rattle.std.specs.Prelude.{◌≡◌, ◌<◌, true, length, OnErr};
 ghost use Rattle.csp_program.specs.Substitution.{given_by, proc_with};
-ghost use Rattle.term_pool.specs.Entries.{entry_layer, Fits};
-ghost use Rattle.term_pool.specs.First.{with_first};
-ghost use Rattle.term_pool.specs.Held.{processes, IsKept, Puts};
-ghost use Rattle.term_pool.specs.Measured.{Measures};
-ghost use Rattle.term_pool.specs.Pooled.{Has};
-ghost use Rattle.term_pool.specs.Put.{StandAt};
-ghost use Rattle.term_pool.specs.Trees.{layer_below, layer_tree, places_below, tree_at, tree_of};
+ghost use Rattle.term_pool.specs.Prelude.{entry_layer, Fits, with_first, entry_tree, trees_in, AreKept, Puts, Measures, Has, StandAt, layer_below, places_below, tree_at, tree_of};
 ghost use Rattle.term_pool.specs.Pooled as pooled;
 
 use crate::changed::{entry_with_first, made_entry};
@@ -22,125 +16,114 @@ use pool_parts::{Measure, ProcId};
 use std::alloc::Global;
 use substitution::Values;
 
+/// The nodes of a pool.
+#[derive(Drop)]
+pub(crate) struct Nodes {
+    /// Their own parts.
+    pub parts: OwnParts,
+    /// The entry of each.
+    pub entries: Numbering<Entry, QuickKey>,
+    /// What each measures.
+    pub measures: Items<Measure>,
+}
+
 /// The entry at a place.
-pub(crate) fn entry_at(
-    parts: &OwnParts,
-    entries: &Numbering<Entry, QuickKey>,
-    measures: &Items<Measure>,
-    id: ProcId,
-) -> Entry
-    requires kept { IsKept parts.now entries.now measures.now }
-    requires within { id.0 < length (processes parts.now entries.now) }
-    ensures fits { Fits parts.now result }
-    ensures below { layer_below id.0 (entry_layer parts.now result) ≡ true }
-    ensures process { layer_tree (processes parts.now entries.now) (entry_layer parts.now result) ≡ tree_at (processes parts.now entries.now) id }
+pub(crate) fn entry_at(nodes: &Nodes, id: ProcId) -> Entry
+    requires kept { AreKept nodes.now }
+    requires within { id.0 < length (trees_in nodes.now) }
+    ensures fits { Fits nodes.now.parts result }
+    ensures below { layer_below id.0 (entry_layer nodes.now.parts result) ≡ true }
+    ensures process { entry_tree nodes.now result ≡ tree_at (trees_in nodes.now) id }
 {
-    entries.as_slice()[id.0]
+    nodes.entries.as_slice()[id.0]
 }
 
 /// What the process at a place measures.
-pub(crate) fn measure_at(
-    parts: &OwnParts,
-    entries: &Numbering<Entry, QuickKey>,
-    measures: &Items<Measure>,
-    id: ProcId,
-) -> Measure
-    requires kept { IsKept parts.now entries.now measures.now }
-    requires within { id.0 < length (processes parts.now entries.now) }
-    ensures { Measures (tree_at (processes parts.now entries.now) id) result }
+pub(crate) fn measure_at(nodes: &Nodes, id: ProcId) -> Measure
+    requires kept { AreKept nodes.now }
+    requires within { id.0 < length (trees_in nodes.now) }
+    ensures { Measures (tree_at (trees_in nodes.now) id) result }
 {
-    measures.as_slice()[id.0]
+    nodes.measures.as_slice()[id.0]
 }
 
 // The place of an entry, which is the next one where it is new. Where there is no memory for its measure, it is taken out again.
-fn put_entry(
-    parts: &OwnParts,
-    entries: &mut Numbering<Entry, QuickKey>,
-    measures: &mut Items<Measure>,
-    entry: Entry,
-) -> Result<ProcId, NoMemory>
-    requires kept { IsKept parts.now entries.old measures.old }
-    requires fits { Fits parts.now entry }
-    requires below { layer_below (length (processes parts.now entries.old)) (entry_layer parts.now entry) ≡ true }
-    ensures kept { IsKept parts.now entries.new measures.new }
-    ensures puts { Puts (processes parts.now entries.old) (processes parts.now entries.new) result (layer_tree (processes parts.now entries.old) (entry_layer parts.now entry)) }
-    ensures err_only_new { OnErr result (Has (processes parts.now entries.old) (layer_tree (processes parts.now entries.old) (entry_layer parts.now entry)) → ⊥) }
+fn put_entry(nodes: &mut Nodes, entry: Entry) -> Result<ProcId, NoMemory>
+    requires kept { AreKept nodes.old }
+    requires fits { Fits nodes.old.parts entry }
+    requires below { layer_below (length (trees_in nodes.old)) (entry_layer nodes.old.parts entry) ≡ true }
+    ensures kept { AreKept nodes.new }
+    ensures puts { Puts (trees_in nodes.old) (trees_in nodes.new) result (entry_tree nodes.old entry) }
+    ensures err_only_new { OnErr result (Has (trees_in nodes.old) (entry_tree nodes.old entry) → ⊥) }
 {
-    let (place, new) = entries.insert_full(entry)?;
+    let (place, new) = nodes.entries.insert_full(entry)?;
     if !new {
         return Ok(ProcId(place));
     }
-    let measure = of_entry(parts, measures.as_slice(), entry);
-    match measures.push(measure) {
+    let measure = of_entry(&nodes.parts, nodes.measures.as_slice(), entry);
+    match nodes.measures.push(measure) {
         Ok(()) => Ok(ProcId(place)),
         Err(_) => {
-            let _ = entries.pop();
+            let _ = nodes.entries.pop();
             Err(NoMemory)
         }
     }
 }
 
 /// The place of the process that the node is.
-pub(crate) fn put_in(
-    parts: &mut OwnParts,
-    entries: &mut Numbering<Entry, QuickKey>,
-    measures: &mut Items<Measure>,
-    alloc: Global,
-    node: Node<'_>,
-) -> Result<ProcId, NoMemory>
-    requires kept { IsKept parts.old entries.old measures.old }
-    requires below { places_below (length (processes parts.old entries.old)) node ≡ true }
-    ensures kept { IsKept parts.new entries.new measures.new }
-    ensures puts { Puts (processes parts.old entries.old) (processes parts.new entries.new) result (tree_of (processes parts.old entries.old) node.entry) }
-    ensures err_only_new { OnErr result (Has (processes parts.old entries.old) (tree_of (processes parts.old entries.old) node.entry) → ⊥) }
+pub(crate) fn put_in(nodes: &mut Nodes, alloc: Global, node: Node<'_>) -> Result<ProcId, NoMemory>
+    requires kept { AreKept nodes.old }
+    requires below { places_below (length (trees_in nodes.old)) node ≡ true }
+    ensures kept { AreKept nodes.new }
+    ensures puts { Puts (trees_in nodes.old) (trees_in nodes.new) result (tree_of (trees_in nodes.old) node.entry) }
+    ensures err_only_new { OnErr result (Has (trees_in nodes.old) (tree_of (trees_in nodes.old) node.entry) → ⊥) }
 {
-    let kept = keep_node(parts, alloc, node);
-    parts_once(parts);
+    let kept = keep_node(&mut nodes.parts, alloc, node);
+    parts_once(&nodes.parts);
     let entry = kept?;
-    put_entry(parts, entries, measures, entry)
+    put_entry(nodes, entry)
 }
 
 /// The place of the process at `id` with that at `below` in place of its first sub-process.
 pub(crate) fn put_first_in(
-    parts: &mut OwnParts,
-    entries: &mut Numbering<Entry, QuickKey>,
-    measures: &mut Items<Measure>,
+    nodes: &mut Nodes,
     alloc: Global,
     id: ProcId,
     below: ProcId,
 ) -> Result<ProcId, NoMemory>
-    requires kept { IsKept parts.old entries.old measures.old }
-    requires id { id.0 < length (processes parts.old entries.old) }
-    requires below { below.0 < length (processes parts.old entries.old) }
-    ensures kept { IsKept parts.new entries.new measures.new }
-    ensures puts { Puts (processes parts.old entries.old) (processes parts.new entries.new) result (with_first (tree_at (processes parts.old entries.old) id) (tree_at (processes parts.old entries.old) below)) }
+    requires kept { AreKept nodes.old }
+    requires id { id.0 < length (trees_in nodes.old) }
+    requires below { below.0 < length (trees_in nodes.old) }
+    ensures kept { AreKept nodes.new }
+    ensures puts { Puts (trees_in nodes.old) (trees_in nodes.new) result
+        (with_first (tree_at (trees_in nodes.old) id) (tree_at (trees_in nodes.old) below)) }
 {
-    let entry = entry_at(parts, entries, measures, id);
-    let made = entry_with_first(parts, alloc, entry, below);
-    parts_once(parts);
+    let entry = entry_at(nodes, id);
+    let made = entry_with_first(&mut nodes.parts, alloc, entry, below);
+    parts_once(&nodes.parts);
     let entry = made?;
-    put_entry(parts, entries, measures, entry)
+    put_entry(nodes, entry)
 }
 
 /// The place of what the process at `id` becomes with the values in place of the names, where `ids` are the places of what its sub-processes become.
 pub(crate) fn put_made_in(
-    parts: &mut OwnParts,
-    entries: &mut Numbering<Entry, QuickKey>,
-    measures: &mut Items<Measure>,
+    nodes: &mut Nodes,
     alloc: Global,
     id: ProcId,
     ids: &Items<ProcId>,
     values: &Values<'_>,
 ) -> Result<ProcId, NoMemory>
-    requires kept { IsKept parts.old entries.old measures.old }
-    requires within { id.0 < length (processes parts.old entries.old) }
-    requires made { StandAt (processes parts.old entries.old) ids.now (pooled.parts (proc_with (given_by values.now) (tree_at (processes parts.old entries.old) id))) }
-    ensures kept { IsKept parts.new entries.new measures.new }
-    ensures puts { Puts (processes parts.old entries.old) (processes parts.new entries.new) result (proc_with (given_by values.now) (tree_at (processes parts.old entries.old) id)) }
+    requires kept { AreKept nodes.old }
+    requires within { id.0 < length (trees_in nodes.old) }
+    requires made { StandAt (trees_in nodes.old) ids.now
+        (pooled.parts (proc_with (given_by values.now) (tree_at (trees_in nodes.old) id))) }
+    ensures kept { AreKept nodes.new }
+    ensures puts { Puts (trees_in nodes.old) (trees_in nodes.new) result
+        (proc_with (given_by values.now) (tree_at (trees_in nodes.old) id)) }
 {
-    let entry = entry_at(parts, entries, measures, id);
-    let made = made_entry(parts, alloc, entry, ids, values);
-    parts_once(parts);
+    let entry = entry_at(nodes, id);
+    let made = made_entry(&mut nodes.parts, alloc, entry, ids, values);
+    parts_once(&nodes.parts);
     let entry = made?;
-    put_entry(parts, entries, measures, entry)
+    put_entry(nodes, entry)
 }

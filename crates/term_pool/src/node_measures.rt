@@ -2,10 +2,7 @@
 
 ghost use Rattle.std.specs.Prelude.{◌≡◌, ◌<◌, [], ◌∷◌, true, length};
 ghost use Rattle.pool_parts.specs.Prelude.{capped, IsLow};
-ghost use Rattle.term_pool.specs.Entries.{entry_layer, Fits};
-ghost use Rattle.term_pool.specs.Layers.{layer_parts};
-ghost use Rattle.term_pool.specs.Measured.{deepest_at, measure_at, node_depth, node_size, own_depth, own_free, own_size, total_at, IsLeastAt};
-ghost use Rattle.term_pool.specs.Trees.{all_below, layer_below};
+ghost use Rattle.term_pool.specs.Prelude.{entry_layer, Fits, layer_parts, deepest_at, measure_at, node_depth, node_size, own_depth, own_free, own_size, total_at, IsLeastAt, all_below, layer_below};
 
 use crate::entry::Entry;
 use crate::own_parts::OwnParts;

@@ -1,8 +1,7 @@
 //! The own parts of the nodes of a pool.
 
 ghost use Rattle.std.specs.Prelude.{◌≡◌, [], slice_get, IfOk, OnErr, Some};
-ghost use Rattle.term_pool.specs.Entries.{entry_layer, ArePartsOnce, Fits, HasParts, PartsStart};
-ghost use Rattle.term_pool.specs.Layers.{shown};
+ghost use Rattle.term_pool.specs.Prelude.{entry_layer, ArePartsOnce, Fits, HasParts, PartsStart, shown};
 ghost use Rattle.csp_base.specs.Lists.{StandsIn};
 
 use crate::entry::Entry;
@@ -14,6 +13,7 @@ use pool_parts::{ProcId, Store};
 use std::alloc::Global;
 
 /// The own parts of nodes, each kind in a store of its own, and the lists of places of choices.
+#[derive(Drop)]
 pub(crate) struct OwnParts {
     /// What prefixes begin with.
     pub heads: Store<Head>,
@@ -31,24 +31,10 @@ pub(crate) struct OwnParts {
     pub choices: Store<Items<ProcId>>,
 }
 
-// By hand, so that a crate that ends one calls this and proves no end of its own.
-impl Drop for OwnParts {
-    fn drop(self) {
-        let OwnParts {
-            heads: _heads,
-            fields: _fields,
-            exprs: _exprs,
-            arguments: _arguments,
-            pairs: _pairs,
-            gens: _gens,
-            choices: _choices,
-        } = self;
-    }
-}
-
 /// No parts. They are found by their hashes under this key, and take no memory yet.
 pub(crate) fn no_parts(alloc: Global, key: QuickKey) -> OwnParts
-    ensures { result ≡ record { heads = []; fields = []; exprs = []; arguments = []; pairs = []; gens = []; choices = [] } }
+    ensures { result
+        ≡ record { heads = []; fields = []; exprs = []; arguments = []; pairs = []; gens = []; choices = [] } }
 {
     OwnParts {
         heads: Store::new(alloc, key),

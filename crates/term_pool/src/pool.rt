@@ -3,19 +3,14 @@
 ghost use Rattle.std.specs.Prelude.{◌≡◌, ◌<◌, [], true, length, slice_get, IfOk, OnErr, Some};
 ghost use Rattle.csp_program.specs.Prelude.{proc_depth, proc_size, given_by, proc_with, proc_free};
 ghost use Rattle.pool_parts.specs.Prelude.{capped, IsLow};
-ghost use Rattle.term_pool.specs.First.{with_first};
-ghost use Rattle.term_pool.specs.Pooled.{parts, AreDifferent, Has, IsFront, PartsStandBelow};
-ghost use Rattle.term_pool.specs.Put.{StandAt};
-ghost use Rattle.term_pool.specs.Trees.{places_below, tree_at, tree_of};
-ghost use Rattle.term_pool.specs.Within.{AddsOne, AddsParts};
+ghost use Rattle.term_pool.specs.Prelude.{with_first, parts, AreDifferent, Has, IsFront, PartsStandBelow, StandAt, Puts, places_below, tree_at, tree_of, AddsOne, AddsParts};
 
-use crate::entry::Entry;
-use crate::kept::{entry_at, measure_at, put_first_in, put_in, put_made_in};
+use crate::kept::{Nodes, entry_at, measure_at, put_first_in, put_in, put_made_in};
 use crate::node::Node;
-use crate::own_parts::{OwnParts, no_parts, node_at};
+use crate::own_parts::{no_parts, node_at};
 use crate::put::put_tree;
 use crate::substitute::substitute_at;
-use containers::{Items, Key, Numbering, QuickKey};
+use containers::{Items, Key, Numbering};
 use csp_base::NoMemory;
 use csp_program::Proc;
 use pool_parts::{Measure, ProcId};
@@ -29,9 +24,7 @@ use substitution::Values;
 /// Contracts see the processes, and not the nodes by which they are kept.
 pub struct Pool {
     alloc: Global,
-    parts: OwnParts,
-    entries: Numbering<Entry, QuickKey>,
-    measures: Items<Measure>,
+    nodes: Nodes,
 }
 
 // By hand, so that a crate that ends one calls this and proves no end of its own.
@@ -39,9 +32,7 @@ impl Drop for Pool {
     fn drop(self) {
         let Pool {
             alloc: _alloc,
-            parts: _parts,
-            entries: _entries,
-            measures: _measures,
+            nodes: _nodes,
         } = self;
     }
 }
@@ -51,15 +42,15 @@ impl Model for Pool {
     ghost use Rattle.std.specs.Coded.{codes};
     ghost use Rattle.csp_program.specs.contracts.processes.Proc as process;
     ghost use Rattle.csp_program.specs.declared.processes.Proc.{Proc};
-    ghost use Rattle.term_pool.specs.Held.{processes, IsKept};
+    ghost use Rattle.term_pool.specs.Held.{trees_in, AreKept};
 
     ghost Value = { List Proc };
 
     ghost coded = { Prim.hlevel (codes, process.the_row.coded) };
 
-    ghost view = { λ p. processes p.parts p.entries };
+    ghost view = { λ p. trees_in p.nodes };
 
-    ghost invariant = { λ p. IsKept p.parts p.entries p.measures };
+    ghost invariant = { λ p. AreKept p.nodes };
 }
 
 impl Pool {
@@ -70,9 +61,11 @@ impl Pool {
         let key = key.quick();
         Pool {
             alloc,
-            parts: no_parts(alloc, key),
-            entries: Numbering::under(alloc, key),
-            measures: Items::new(alloc),
+            nodes: Nodes {
+                parts: no_parts(alloc, key),
+                entries: Numbering::under(alloc, key),
+                measures: Items::new(alloc),
+            },
         }
     }
 
@@ -82,7 +75,7 @@ impl Pool {
         ensures different { AreDifferent self.now }
         ensures parts { PartsStandBelow self.now }
     {
-        self.entries.len()
+        self.nodes.entries.len()
     }
 
     /// The node at a place: with the processes at its places, which are smaller, it is the process there.
@@ -91,8 +84,8 @@ impl Pool {
         ensures process { tree_of self.now result ≡ tree_at self.now id }
         ensures places { places_below id.0 result ≡ true }
     {
-        let entry = entry_at(&self.parts, &self.entries, &self.measures, id);
-        node_at(&self.parts, entry)
+        let entry = entry_at(&self.nodes, id);
+        node_at(&self.nodes.parts, entry)
     }
 
     /// The depth of the process at a place: 1 without parts, else one more than the greatest depth among its processes and expressions, those in
@@ -120,7 +113,7 @@ impl Pool {
         ensures size { result.size ≡ capped (proc_size (tree_at self.now id)) }
         ensures low { IsLow result.least (proc_free (tree_at self.now id)) }
     {
-        measure_at(&self.parts, &self.entries, &self.measures, id)
+        measure_at(&self.nodes, id)
     }
 
     /// The place of the process that the node is with the processes at its places. A new one goes to the end; for one that is known no memory is needed.
@@ -133,13 +126,7 @@ impl Pool {
         ensures err { OnErr result (self.new ≡ self.old) }
         ensures err_only_new { OnErr result (Has self.old (tree_of self.old node.entry) → ⊥) }
     {
-        put_in(
-            &mut self.parts,
-            &mut self.entries,
-            &mut self.measures,
-            self.alloc,
-            node,
-        )
+        put_in(&mut self.nodes, self.alloc, node)
     }
 
     /// The place of the process at `id` with the process at `below` in place of its first sub-process; where it has none, of the process itself.
@@ -147,20 +134,9 @@ impl Pool {
     pub fn put_with_first(&mut self, id: ProcId, below: ProcId) -> Result<ProcId, NoMemory>
         requires id { id.0 < length self.old }
         requires below { below.0 < length self.old }
-        ensures process { IfOk result (λ made. slice_get self.new made.0 ≡ Some (with_first (tree_at self.old id) (tree_at self.old below))) }
-        ensures front { IsFront self.old self.new }
-        ensures known { Has self.old (with_first (tree_at self.old id) (tree_at self.old below)) → self.new ≡ self.old }
-        ensures only { AddsOne self.old self.new (with_first (tree_at self.old id) (tree_at self.old below)) }
-        ensures err { OnErr result (self.new ≡ self.old) }
+        ensures { Puts self.old self.new result (with_first (tree_at self.old id) (tree_at self.old below)) }
     {
-        put_first_in(
-            &mut self.parts,
-            &mut self.entries,
-            &mut self.measures,
-            self.alloc,
-            id,
-            below,
-        )
+        put_first_in(&mut self.nodes, self.alloc, id, below)
     }
 
     /// The place of what the process at `id` becomes with the values in place of the names, where `ids` are the places of what its sub-processes become.
@@ -172,20 +148,9 @@ impl Pool {
     ) -> Result<ProcId, NoMemory>
         requires within { id.0 < length self.old }
         requires made { StandAt self.old ids.now (parts (proc_with (given_by values.now) (tree_at self.old id))) }
-        ensures process { IfOk result (λ made. slice_get self.new made.0 ≡ Some (proc_with (given_by values.now) (tree_at self.old id))) }
-        ensures front { IsFront self.old self.new }
-        ensures known { Has self.old (proc_with (given_by values.now) (tree_at self.old id)) → self.new ≡ self.old }
-        ensures only { AddsOne self.old self.new (proc_with (given_by values.now) (tree_at self.old id)) }
+        ensures { Puts self.old self.new result (proc_with (given_by values.now) (tree_at self.old id)) }
     {
-        put_made_in(
-            &mut self.parts,
-            &mut self.entries,
-            &mut self.measures,
-            self.alloc,
-            id,
-            ids,
-            values,
-        )
+        put_made_in(&mut self.nodes, self.alloc, id, ids, values)
     }
 
     /// The place of the process, which is put into the pool with its sub-processes, each of them once. Where memory fails some of them are put.
@@ -203,7 +168,8 @@ impl Pool {
     /// sub-processes, each of them once. Where memory fails some of them are put.
     pub fn put_all_in(&mut self, id: ProcId, values: &Values<'_>) -> Result<ProcId, NoMemory>
         requires { id.0 < length self.old }
-        ensures process { IfOk result (λ made. slice_get self.new made.0 ≡ Some (proc_with (given_by values.now) (tree_at self.old id))) }
+        ensures process { IfOk result (λ made. slice_get self.new made.0
+            ≡ Some (proc_with (given_by values.now) (tree_at self.old id))) }
         ensures front { IsFront self.old self.new }
         ensures known { Has self.old (proc_with (given_by values.now) (tree_at self.old id)) → self.new ≡ self.old }
         ensures only { AddsParts self.old self.new (proc_with (given_by values.now) (tree_at self.old id)) }

@@ -2,9 +2,7 @@
 
 ghost use Rattle.std.specs.Prelude.{◌≡◌, ◌∷◌, [], Some, slice_get, IfOk};
 ghost use Rattle.csp_program.specs.declared.processes.Proc.TheViews.{out-Proc};
-ghost use Rattle.term_pool.specs.Layers.{layer_parts, shown};
-ghost use Rattle.term_pool.specs.Moved.{moved};
-ghost use Rattle.term_pool.specs.Put.{Grows, StandAt};
+ghost use Rattle.term_pool.specs.Prelude.{layer_parts, shown, moved, Grows, StandAt};
 
 use crate::changed::at;
 use crate::node::Node;

@@ -3,10 +3,7 @@
 ghost use Rattle.std.specs.Prelude.{◌≡◌, ◌<◌, [], ◌∷◌, true, length, map, nat_eq, slice_get, IfOk, OnOk, OnErr, Some};
 ghost use Rattle.std.specs.HashMap.{get, IsUnchanged, Updates};
 ghost use Rattle.csp_program.specs.Substitution.{given_by, proc_with};
-ghost use Rattle.term_pool.specs.Pooled.{parts};
-ghost use Rattle.term_pool.specs.Put.{Grows, StandAt};
-ghost use Rattle.term_pool.specs.Substituted.{all_with, AreMade};
-ghost use Rattle.term_pool.specs.Trees.{all_below, tree_at};
+ghost use Rattle.term_pool.specs.Prelude.{parts, Grows, StandAt, all_with, AreMade, all_below, tree_at};
 
 use crate::pool::Pool;
 use crate::under::{left_at, places_of};
@@ -54,7 +51,8 @@ pub(crate) fn substitute_at(
 ) -> Result<ProcId, NoMemory>
     requires within { id.now.0 < length pool.old }
     requires visited { AreMade (given_by values.now) pool.old visited.old }
-    ensures process { IfOk result (λ made. slice_get pool.new made.0 ≡ Some (proc_with (given_by values.now) (tree_at pool.old id.now))) }
+    ensures process { IfOk result (λ made. slice_get pool.new made.0
+        ≡ Some (proc_with (given_by values.now) (tree_at pool.old id.now))) }
     ensures grows { Grows pool.old pool.new (proc_with (given_by values.now) (tree_at pool.old id.now) ∷ []) }
     ensures visited { AreMade (given_by values.now) pool.new visited.new }
 {
@@ -80,7 +78,8 @@ fn put_layer(
 ) -> Result<ProcId, NoMemory>
     requires within { id.0 < length pool.old }
     requires visited { AreMade (given_by values.now) pool.old visited.old }
-    ensures process { IfOk result (λ made. slice_get pool.new made.0 ≡ Some (proc_with (given_by values.now) (tree_at pool.old id))) }
+    ensures process { IfOk result (λ made. slice_get pool.new made.0
+        ≡ Some (proc_with (given_by values.now) (tree_at pool.old id))) }
     ensures grows { Grows pool.old pool.new (proc_with (given_by values.now) (tree_at pool.old id) ∷ []) }
     ensures visited { AreMade (given_by values.now) pool.new visited.new }
 {
@@ -99,7 +98,8 @@ fn put_below(
 ) -> Result<Items<ProcId>, NoMemory>
     requires within { id.0 < length pool.old }
     requires visited { AreMade (given_by values.now) pool.old visited.old }
-    ensures places { IfOk result (λ made. StandAt pool.new made (parts (proc_with (given_by values.now) (tree_at pool.old id)))) }
+    ensures places { IfOk result (λ made. StandAt pool.new made
+        (parts (proc_with (given_by values.now) (tree_at pool.old id)))) }
     ensures grows { Grows pool.old pool.new (parts (proc_with (given_by values.now) (tree_at pool.old id))) }
     ensures visited { AreMade (given_by values.now) pool.new visited.new }
 {

@@ -2,9 +2,7 @@
 
 ghost use Rattle.std.specs.Prelude.{◌≡◌, [], ◌∷◌, false, IfOk, OnOk};
 ghost use Rattle.csp_program.specs.Substitution.{given_by};
-ghost use Rattle.term_pool.specs.Layers.{shown};
-ghost use Rattle.term_pool.specs.Substituted.{left_below, IsLeft};
-ghost use Rattle.term_pool.specs.Trees.{places};
+ghost use Rattle.term_pool.specs.Prelude.{shown, left_below, IsLeft, places};
 
 use crate::node::Node;
 use containers::Items;

@@ -1,25 +1,13 @@
 -- What the grammar has within the limits, the readers give, in front of every rest that does not go on with the tree.
-use Rattle.std.proofs.Common.{◌≡◌, ℕ, suc, ◌+◌, ◌≤◌, max, Bool, true, nat_le, Some, None, List, [], ◌∷◌, map, refl, ap, ◌∙◌, arith}
-use Rattle.csp_text.specs.Prelude.{field_depth, gen_depth, part_depth, tree_depth, set_op_word}
-use Rattle.csp_text.specs.declared.token.Token.{Token}
-use Rattle.csp_text.specs.declared.tree.FieldTree.{FieldTree}
-use Rattle.csp_text.specs.declared.tree.GenTree.{GenTree}
-use Rattle.csp_text.specs.declared.tree.PartTree.{PartTree}
-use Rattle.csp_text.specs.declared.tree.Tree.{Tree}
+use Rattle.tree_reading.proofs.Prelude.{◌≡◌, ℕ, suc, ◌+◌, ◌≤◌, max, Bool, true, nat_le, Some, None, List, [], ◌∷◌, map, refl, ap, ◌∙◌, arith, field_depth, gen_depth, part_depth, tree_depth, set_op_word, Token, FieldTree, GenTree, PartTree, Tree, greatest, BinOp, SetOp, Choice, choice_of, event_tree, TreeText, Reach, SideText, HidingText, ChoiceText, SequenceText, PrefixText, OpenText, FieldsText, DotsText, ExpressionText, PairsText, PartText, PartsText, ConditionsText, GensText, GenText, ItemText, ItemsText, AtomText, closed, opened, Level, IsLeftOperator, IsComparison, and_then, dotted_tree, behind_name, skip, number, of_process, read_side, read_item, read_part, read_condition, read_gen, read_conditions, read_set_operator, inside, limits, Binding}
 use Rattle.csp_text.specs.declared.token.Token.TheVariants as token
 use Rattle.csp_text.specs.declared.token.Symbol.TheVariants as symbol
 use Rattle.csp_text.specs.declared.tree.Tree.TheVariants as tree
 use Rattle.csp_text.specs.declared.tree.FieldTree.TheVariants as field
 use Rattle.csp_text.specs.declared.tree.GenTree.TheVariants as generator
-use Rattle.csp_base.specs.Prelude.{greatest}
-use Rattle.csp_base.specs.declared.operators.BinOp.{BinOp}
-use Rattle.csp_base.specs.declared.operators.SetOp.{SetOp}
 use Rattle.csp_base.specs.declared.operators.SetOp.TheVariants as set_op
-use Rattle.csp_grammar.specs.Prelude.{Choice, choice_of, event_tree, TreeText, Reach, SideText, HidingText, ChoiceText, SequenceText, PrefixText, OpenText, FieldsText, DotsText, ExpressionText, PairsText, PartText, PartsText, ConditionsText, GensText, GenText, ItemText, ItemsText, AtomText, closed, opened, Level, IsLeftOperator, IsComparison, and_then, dotted_tree, behind_name, skip}
 use Rattle.csp_grammar.specs.Grammar as g
 use Rattle.csp_grammar.specs.Precedence as table
-use Rattle.tree_reading.specs.Prelude.{number, of_process, read_side, read_item, read_part, read_condition, read_gen, read_conditions, read_set_operator, inside, limits}
-use Rattle.tree_reading.specs.declared.read.Binding.{Binding}
 use Rattle.tree_reading.specs.declared.read.Binding.TheVariants as bound
 use Rattle.tree_reading.proofs.Settling.{later, now, bind, not_there, granted, look, first, second}
 use Rattle.tree_reading.proofs.Fitting.{about, first_part, inner, left, less, parts, right, up}

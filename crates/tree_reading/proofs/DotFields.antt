@@ -1,13 +1,7 @@
 -- The trees of fields that all have a dot, one field after another.
-use Rattle.std.proofs.Common.{◌≡◌, Option, Some, None, List, ◌∷◌, ◌++◌, sym, ap, ◌∙◌}
-use Rattle.std.specs.Prelude.{ℕ}
-use Rattle.csp_text.specs.declared.tree.FieldTree.{FieldTree}
-use Rattle.csp_text.specs.declared.tree.FieldTree.TheOpen.{FieldTree-F}
-use Rattle.csp_text.specs.declared.tree.FieldTree.TheViews.{out-roll-FieldTree}
-use Rattle.csp_text.specs.declared.tree.Tree.{Tree}
+use Rattle.tree_reading.proofs.Prelude.{◌≡◌, Option, Some, None, List, ◌∷◌, ◌++◌, sym, ap, ◌∙◌, ℕ, FieldTree, FieldTree-F, out-roll-FieldTree, Tree, and_then, with_first, dot_fields}
 use Rattle.csp_text.specs.declared.tree.FieldTree.TheVariants as field
-use Rattle.csp_grammar.specs.Reader.{and_then, with_first}
-use Rattle.tree_reading.specs.Starts.{dot_field, dot_fields, layer_dot}
+use Rattle.tree_reading.specs.Starts.{dot_field, layer_dot}
 
 -- these trees, and those of the fields that are left
 abbrev pub dots_with : List Tree → List FieldTree → Option (List Tree)

@@ -1,10 +1,5 @@
 -- Depths within a limit.
-use Rattle.std.proofs.Common.{◌≡◌, ℕ, zero, suc, ◌+◌, ◌≤◌, max, true, nat_le, Option, Some, ap, ◌∙◌, arith}
-use Rattle.csp_text.specs.Prelude.{tree_depth}
-use Rattle.csp_text.specs.declared.tree.Tree.{Tree}
-use Rattle.csp_grammar.specs.Reader.{and_then}
-use Rattle.tree_reading.specs.Prelude.{Limited, limited, around, inside, limits, sure, Settles}
-use Rattle.tree_reading.specs.declared.limits.Limits.{Limits}
+use Rattle.tree_reading.proofs.Prelude.{◌≡◌, ℕ, zero, suc, ◌+◌, ◌≤◌, max, true, nat_le, Option, Some, ap, ◌∙◌, arith, tree_depth, Tree, and_then, Limited, limited, around, inside, limits, sure, Settles, Limits}
 
 -- of two parts
 

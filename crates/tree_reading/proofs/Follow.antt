@@ -1,13 +1,8 @@
 -- What the first token of a rest tells of the looks at it.
-use Rattle.std.proofs.Common.{◌≡◌, ℕ, ◌<◌, true, false, nat_eq, nat_lt, nat_le, if◌then◌else◌, Some, None, List, ◌∷◌, refl, ap, arith}
-use Rattle.csp_text.specs.Prelude.{same_symbol}
-use Rattle.csp_text.specs.declared.token.Symbol.{Symbol}
-use Rattle.csp_text.specs.declared.token.Token.{Token}
+use Rattle.tree_reading.proofs.Prelude.{◌≡◌, ℕ, ◌<◌, true, false, nat_eq, nat_lt, nat_le, if◌then◌else◌, Some, None, List, ◌∷◌, refl, ap, arith, same_symbol, Symbol, Token, symbol_is, begins, skip, false_from_ne_true, nat_tests}
 use Rattle.csp_text.specs.declared.token.Token.TheVariants as token
 use Rattle.csp_text.specs.declared.token.Symbol.TheVariants as symbol
-use Rattle.csp_text.proofs.WrittenAlike.{symbol_is}
-use Rattle.csp_grammar.specs.Tokens.{begins, skip, symbol_binding}
-use Rattle.csp_base.proofs.Standard.{false_from_ne_true, nat_tests}
+use Rattle.csp_grammar.specs.Tokens.{symbol_binding}
 
 -- the rest does not begin with a token that binds as tightly as the number, or tighter
 abbrev pub Stops : ℕ → List Token → Type 0

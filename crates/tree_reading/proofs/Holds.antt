@@ -1,11 +1,5 @@
 -- What holds of a reading, if anything was read.
-use Rattle.std.proofs.Common.{◌≡◌, ℕ, zero, suc, ◌≤◌, Bool, true, false, nat_le, if◌then◌else◌, Option, Some, None, refl, subst, arith}
-use Rattle.csp_text.specs.Prelude.{tree_depth}
-use Rattle.csp_text.specs.declared.tree.Tree.{Tree}
-use Rattle.csp_grammar.specs.Reader.{and_then, case}
-use Rattle.tree_reading.specs.Prelude.{around, bracketed, inside, limits, sure}
-use Rattle.tree_reading.specs.declared.limits.Limits.{Limits}
-use Rattle.std.proofs.lemmas.Option.{same_Some, none-some}
+use Rattle.tree_reading.proofs.Prelude.{◌≡◌, ℕ, zero, suc, ◌≤◌, Bool, true, false, nat_le, if◌then◌else◌, Option, Some, None, refl, subst, arith, tree_depth, Tree, and_then, case, around, bracketed, inside, limits, sure, Limits, same_Some, none-some}
 
 pub data Holds {A : Type 0} (P : A → Type 0) : Option A → Type 0 where
   none : Holds P None

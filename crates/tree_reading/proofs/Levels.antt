@@ -1,21 +1,10 @@
 -- The levels of expressions as numbers, and how an expression is read whatever level the reading began at.
-use Rattle.std.proofs.Common.{◌≡◌, ℕ, suc, ◌≤◌, max, Bool, true, false, ◌&&◌, nat_lt, nat_le, if◌then◌else◌, Option, Some, None, List, [], ◌∷◌, map, refl, ap, arith}
-use Rattle.csp_text.specs.Prelude.{gen_depth, greatest_of_pairs, part_depth, tree_depth}
-use Rattle.csp_text.specs.declared.token.Token.{Token}
-use Rattle.csp_text.specs.declared.tree.GenTree.{GenTree}
-use Rattle.csp_text.specs.declared.tree.PartTree.{PartTree}
-use Rattle.csp_text.specs.declared.tree.Tree.{Tree}
+use Rattle.tree_reading.proofs.Prelude.{◌≡◌, ℕ, suc, ◌≤◌, max, Bool, true, false, ◌&&◌, nat_lt, nat_le, if◌then◌else◌, Option, Some, None, List, [], ◌∷◌, map, refl, ap, arith, gen_depth, greatest_of_pairs, part_depth, tree_depth, Token, GenTree, PartTree, Tree, greatest, BinOp, Level, IsNext, IsLeftOperator, IsComparison, disjunction, conjunction, negation, comparison, sum, product, minus, renaming, and_then, begins, binding, left_operand, number, tighter, read_conditions, limits, may_follow, sign_behind, sign_binding, Sign, Binding}
 use Rattle.csp_text.specs.declared.token.Token.TheVariants as token
 use Rattle.csp_text.specs.declared.token.Word.TheVariants as word
 use Rattle.csp_text.specs.declared.token.Symbol.TheVariants as symbol
 use Rattle.csp_text.specs.declared.tree.Tree.TheVariants as tree
-use Rattle.csp_base.specs.Prelude.{greatest}
-use Rattle.csp_base.specs.declared.operators.BinOp.{BinOp}
-use Rattle.csp_grammar.specs.Prelude.{Level, IsNext, IsLeftOperator, IsComparison, disjunction, conjunction, negation, comparison, sum, product, minus, renaming, and_then, begins, binding}
 use Rattle.csp_grammar.specs.Precedence as table
-use Rattle.tree_reading.specs.Prelude.{left_operand, number, tighter, read_conditions, limits, may_follow, sign_behind, sign_binding}
-use Rattle.tree_reading.specs.declared.look.Sign.{Sign}
-use Rattle.tree_reading.specs.declared.read.Binding.{Binding}
 use Rattle.tree_reading.specs.declared.look.Sign.TheVariants as sign
 use Rattle.tree_reading.specs.declared.read.Binding.TheVariants as bound
 use Rattle.tree_reading.proofs.Settling.{later, now, bind, there, not_there, granted}

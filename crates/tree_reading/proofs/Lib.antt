@@ -10,6 +10,7 @@ pub mod Looks
 pub mod Meaning
 pub mod NodeDepths
 pub mod Parts
+pub mod Prelude
 pub mod Refused
 pub mod Scripts
 pub mod Settling

@@ -1,27 +1,15 @@
 -- What a look at the tokens tells, where something is there.
-use Rattle.std.proofs.Common.{◌≡◌, ℕ, Bool, true, false, if◌then◌else◌, Some, None, List, [], ◌∷◌, refl, ap}
-use Rattle.csp_text.specs.Prelude.{same_symbol, same_word}
-use Rattle.csp_text.specs.declared.token.Symbol.{Symbol}
-use Rattle.csp_text.specs.declared.token.Token.{Token}
+use Rattle.tree_reading.proofs.Prelude.{◌≡◌, ℕ, Bool, true, false, if◌then◌else◌, Some, None, List, [], ◌∷◌, refl, ap, same_symbol, same_word, Symbol, Token, BinOp, choice_sign, Level, IsLeftOperator, IsComparison, disjunction, conjunction, negation, comparison, sum, product, minus, renaming, skip, skip_word, symbol_is, word_is, choice, chain_symbol, first_chain, may_follow, named, sign_behind, symbol_sign, token_sign, word_sign, Chain, Sign, Binding, bytes_eq-Decides, bytes_eq}
 use Rattle.csp_text.specs.declared.token.Word.{Word}
 use Rattle.csp_text.specs.declared.token.Token.TheVariants as token
 use Rattle.csp_text.specs.declared.token.Word.TheVariants as word
 use Rattle.csp_text.specs.declared.token.Symbol.TheVariants as symbol
-use Rattle.csp_base.specs.declared.operators.BinOp.{BinOp}
-use Rattle.csp_grammar.specs.Prelude.{choice_sign, Level, IsLeftOperator, IsComparison, disjunction, conjunction, negation, comparison, sum, product, minus, renaming, skip, skip_word}
 use Rattle.csp_grammar.specs.Precedence as table
-use Rattle.csp_text.proofs.WrittenAlike.{symbol_is, word_is}
-use Rattle.tree_reading.specs.Prelude.{choice, chain_symbol, first_chain, may_follow, named, sign_behind, symbol_sign, token_sign, word_sign}
-use Rattle.tree_reading.specs.declared.look.Chain.{Chain}
-use Rattle.tree_reading.specs.declared.look.Sign.{Sign}
-use Rattle.tree_reading.specs.declared.read.Binding.{Binding}
 use Rattle.tree_reading.specs.declared.look.Chain.TheVariants as chain
 use Rattle.tree_reading.specs.declared.look.Sign.TheVariants as sign
 use Rattle.tree_reading.specs.declared.read.Binding.TheVariants as binding
 use Rattle.tree_reading.proofs.Holds.{Holds, by_case, by_then}
 use Rattle.tree_reading.proofs.Holds.Holds.{none, some}
-use Rattle.std.proofs.lemmas.Slice.Eq.{bytes_eq-Decides}
-use Rattle.std.specs.Str.{bytes_eq}
 
 when_true : {A : Type 0} {P : A → Type 0} (b : Bool) (x : A) → (b ≡ true → P x) → Holds P (if b then Some x else None)
 when_true false x f = none

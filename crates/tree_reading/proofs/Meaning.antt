@@ -1,19 +1,10 @@
 -- What the answer of each reader means.
-use Rattle.std.proofs.Common.{◌≡◌, ℕ, ◌≤◌, Bool, List, [], ◌∷◌, map, arith}
-use Rattle.csp_text.specs.Prelude.{field_depth, gen_depth, part_depth, tree_depth}
-use Rattle.csp_text.specs.declared.token.Symbol.{Symbol}
-use Rattle.csp_text.specs.declared.token.Token.{Token}
-use Rattle.csp_text.specs.declared.tree.Tree.{Tree}
-use Rattle.csp_grammar.specs.Prelude.{NamesText, TypesText, DeclarationsText, Choice, choice_sign, TreeText, Reach, SideText, HidingText, ChoiceText, SequenceText, PrefixText, FieldsText, DottedText, DotsText, ExpressionText, PairsText, PartsText, GensText, ItemText, ItemsText, AtomText, closed, opened, Level, disjunction, conjunction, negation, comparison, sum, product, minus, renaming}
+use Rattle.tree_reading.proofs.Prelude.{◌≡◌, ℕ, ◌≤◌, Bool, List, [], ◌∷◌, map, arith, field_depth, gen_depth, part_depth, tree_depth, Symbol, Token, Tree, NamesText, TypesText, DeclarationsText, Choice, choice_sign, TreeText, Reach, SideText, HidingText, ChoiceText, SequenceText, PrefixText, FieldsText, DottedText, DotsText, ExpressionText, PairsText, PartsText, GensText, ItemText, ItemsText, AtomText, closed, opened, Level, disjunction, conjunction, negation, comparison, sum, product, minus, renaming, number, Limited, limits, choice, Chain, Binding, greatest}
 use Rattle.csp_grammar.specs.Grammar as g
 use Rattle.csp_grammar.specs.Precedence as table
-use Rattle.tree_reading.specs.Prelude.{number, Limited, limits, choice}
-use Rattle.tree_reading.specs.declared.look.Chain.{Chain}
-use Rattle.tree_reading.specs.declared.read.Binding.{Binding}
 use Rattle.tree_reading.specs.declared.read.Binding.TheVariants as bound
 use Rattle.tree_reading.proofs.Holds.{Holds}
 use Rattle.tree_reading.proofs.Levels.{pairs_depth, tightness}
-use Rattle.csp_base.specs.Lists.{greatest}
 
 -- an expression at each level up to the number
 abbrev pub Expressions : ℕ → ℕ → List Token → Tree → List Token → Type 0

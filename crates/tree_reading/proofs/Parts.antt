@@ -1,19 +1,10 @@
 -- The readers' steps from a part to a whole, and lists behind one another.
-use Rattle.std.proofs.Common.{◌≡◌, ℕ, ◌+◌, ◌≤◌, max, Bool, true, false, nat_eq, nat_le, if◌then◌else◌, Option, Some, None, List, [], ◌∷◌, map, refl, sym, ap, subst, ◌∙◌, arith}
-use Rattle.csp_text.specs.Prelude.{tree_depth}
-use Rattle.csp_text.specs.declared.token.Token.{Token}
-use Rattle.csp_text.specs.declared.tree.FieldTree.{FieldTree}
-use Rattle.csp_text.specs.declared.tree.GenTree.{GenTree}
-use Rattle.csp_text.specs.declared.tree.Tree.{Tree}
+use Rattle.tree_reading.proofs.Prelude.{◌≡◌, ℕ, ◌+◌, ◌≤◌, max, Bool, true, false, nat_eq, nat_le, if◌then◌else◌, Option, Some, None, List, [], ◌∷◌, map, refl, sym, ap, subst, ◌∙◌, arith, tree_depth, Token, FieldTree, GenTree, Tree, Choice, choice_of, choice_sign, DotsText, FieldsText, ConditionsText, external, internal, Level, and_then, begins_event, case, with_first, begins, skip, Found, number, of_process, Limited, read_side, read_guard, limits, chain_symbol, dot_fields, first_chain, prefix_start, Chain, Binding, greatest}
 use Rattle.csp_text.specs.declared.token.Token.TheVariants as token
 use Rattle.csp_text.specs.declared.token.Symbol.TheVariants as symbol
 use Rattle.csp_text.specs.declared.tree.FieldTree.TheVariants as field
 use Rattle.csp_text.specs.declared.tree.Tree.TheVariants as tree
-use Rattle.csp_grammar.specs.Prelude.{Choice, choice_of, choice_sign, DotsText, FieldsText, ConditionsText, external, internal, Level, and_then, begins_event, case, with_first, begins, skip}
 use Rattle.csp_grammar.specs.Grammar as g
-use Rattle.tree_reading.specs.Prelude.{Found, number, of_process, Limited, read_side, read_guard, limits, chain_symbol, dot_fields, first_chain, prefix_start}
-use Rattle.tree_reading.specs.declared.look.Chain.{Chain}
-use Rattle.tree_reading.specs.declared.read.Binding.{Binding}
 use Rattle.tree_reading.specs.declared.look.Chain.TheVariants as chain
 use Rattle.tree_reading.specs.declared.look.PrefixStart.TheVariants as opening
 use Rattle.tree_reading.specs.declared.read.Binding.TheVariants as bound
@@ -26,7 +17,6 @@ use Rattle.tree_reading.proofs.Levels.{Reads, read_at, tightness}
 use Rattle.tree_reading.proofs.Looks.{binding_of}
 use Rattle.tree_reading.proofs.NodeDepths as depths
 use Rattle.tree_reading.proofs.Starts.{IsPlain}
-use Rattle.csp_base.specs.Lists.{greatest}
 
 -- what is read is bound at least as tightly as the binding
 pub record Bounded {A : Type 0} (least : Binding) (F : Limited → Found A) (a : A) (r : List Token) : Type 0 where

@@ -1,15 +1,10 @@
 -- Texts that have no tree: the reader reads something else in them, or nothing.
-use Rattle.std.proofs.Common.{◌≡◌, ℕ, zero, suc, ◌≤◌, max, None, List, [], ◌∷◌, refl, sym, ap, ◌∙◌, arith}
-use Rattle.csp_text.specs.Prelude.{tree_depth}
+use Rattle.tree_reading.proofs.Prelude.{◌≡◌, ℕ, zero, suc, ◌≤◌, max, None, List, [], ◌∷◌, refl, sym, ap, ◌∙◌, arith, tree_depth, Token, Name, Tree, prefix_tokens, plain_prefix, SequenceText, SideText, closed, external, skip, alphabets_between, MixedChoiceHasNoTree, NoDotBehindQuestion, ChainOfParallelsHasNoTree, HidingBesideChoiceHasNoTree, NoBracketBeyondTheLimit, NoEmptySetBeyondTheLimit, limited, limits, Settles, none-some}
 use Rattle.csp_text.specs.declared.token.Symbol.TheVariants.{ExternalChoice, InternalChoice, Question, Dot, Backslash, OpenParen, OpenBracket, OpenBrace, CloseBrace}
-use Rattle.csp_text.specs.declared.token.Token.{Token}
-use Rattle.csp_text.specs.declared.token.Token.TheVariants.{Name, Symbol}
-use Rattle.csp_text.specs.declared.tree.Tree.{Tree}
+use Rattle.csp_text.specs.declared.token.Token.TheVariants.{Symbol}
 use Rattle.csp_text.specs.declared.tree.Tree.TheVariants as tree
-use Rattle.csp_grammar.specs.Prelude.{prefix_tokens, plain_prefix, SequenceText, SideText, closed, external, skip}
 use Rattle.csp_grammar.specs.Grammar as g
 use Rattle.csp_grammar.proofs.Examples.{process}
-use Rattle.tree_reading.specs.Prelude.{alphabets_between, MixedChoiceHasNoTree, NoDotBehindQuestion, ChainOfParallelsHasNoTree, HidingBesideChoiceHasNoTree, NoBracketBeyondTheLimit, NoEmptySetBeyondTheLimit, limited, limits, Settles}
 use Rattle.tree_reading.proofs.Complete.{atom_read, sequence_read, side_read, first_fits, first_of_four, rest_fit, tree_read}
 use Rattle.tree_reading.proofs.Fitting.{about, first_part, left, less, parts, right, second_part, up}
 use Rattle.tree_reading.proofs.Follow.{Stops}
@@ -17,7 +12,6 @@ use Rattle.tree_reading.proofs.Gives.{Gives}
 use Rattle.tree_reading.proofs.NodeDepths as depths
 use Rattle.tree_reading.proofs.Parts.{one_of_two, side_of_choices}
 use Rattle.tree_reading.proofs.Settling.{bind, granted, later, not_there, now, one_answer, same}
-use Rattle.std.proofs.lemmas.Option.{none-some}
 
 left_over : (sign : Token) (r : List Token) → ◌≡◌ {A = List Token} (sign ∷ r) [] → ⊥
 left_over sign r e = cc

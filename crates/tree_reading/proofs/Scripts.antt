@@ -1,18 +1,9 @@
 -- The declarations of a script, as they are read.
-use Rattle.std.proofs.Common.{◌≡◌, ℕ, ◌≤◌, if◌then◌else◌, Some, None, List, ◌∷◌, codes, refl, ap}
-use Rattle.csp_text.specs.Prelude.{tree_depth, symbol_text}
-use Rattle.csp_text.specs.declared.script.Decl.{Decl}
-use Rattle.csp_text.specs.declared.token.Symbol.{Symbol}
-use Rattle.csp_text.specs.declared.token.Token.{Token}
-use Rattle.csp_text.specs.declared.tree.Tree.{Tree}
+use Rattle.tree_reading.proofs.Prelude.{◌≡◌, ℕ, ◌≤◌, if◌then◌else◌, Some, None, List, ◌∷◌, codes, refl, ap, tree_depth, symbol_text, Decl, Symbol, Token, Tree, NamesText, TypesText, ParametersText, AssertedText, ModelText, DeclarationText, DeclarationsText, and_then, case, skip, first_token, MOST_TREE_DEPTH, bytes_eq-Decides, ending, is_model, model, name_that, read_parameters, read_asserted, read_declaration}
 use Rattle.csp_text.specs.declared.token.Token.TheVariants as token
 use Rattle.csp_text.specs.declared.token.Symbol.TheVariants as symbol
-use Rattle.csp_grammar.specs.Prelude.{NamesText, TypesText, ParametersText, AssertedText, ModelText, DeclarationText, DeclarationsText, and_then, case, skip, first_token}
 use Rattle.csp_grammar.specs.Declarations as d
 use Rattle.csp_grammar.specs.Grammar as g
-use Rattle.dl_limits.specs.declared.TheConstants.{MOST_TREE_DEPTH}
-use Rattle.std.proofs.lemmas.Slice.Eq.{bytes_eq-Decides}
-use Rattle.tree_reading.specs.Prelude.{ending, is_model, model, name_that, read_parameters, read_asserted, read_declaration}
 use Rattle.tree_reading.proofs.Complete.{tree_read, atom_read}
 use Rattle.tree_reading.proofs.Follow.{Stops, more}
 use Rattle.tree_reading.proofs.Gives.{Gives}

@@ -1,8 +1,5 @@
 -- How readings within a limit of depth settle, one step of the readers after another.
-use Rattle.std.proofs.Common.{◌≡◌, ℕ, zero, suc, ◌+◌, ◌≤◌, Bool, true, false, if◌then◌else◌, Option, Some, None, refl, sym, ap, ◌∙◌, arith}
-use Rattle.csp_grammar.specs.Reader.{and_then, case}
-use Rattle.tree_reading.specs.Prelude.{Limited, limited, next_limited, sure, Settles}
-use Rattle.std.proofs.lemmas.Option.{same_Some}
+use Rattle.tree_reading.proofs.Prelude.{◌≡◌, ℕ, zero, suc, ◌+◌, ◌≤◌, Bool, true, false, if◌then◌else◌, Option, Some, None, refl, sym, ap, ◌∙◌, arith, and_then, case, Limited, limited, next_limited, sure, Settles, same_Some}
 
 pub limited_next : (f : ℕ) → limited (suc f) ≡ next_limited (limited f)
 unfolding limited

@@ -4,33 +4,20 @@
 -- constructor, and the depth of the node by `node`. `begun`, `joins` and `a_field` choose the case by the token in front, as the reader does.
 -- A new form gets a lemma of its own, as `call` (an atom in brackets) or `negative` (an expression behind a sign), and a case in `begun_word`,
 -- `begun_symbol` or `joins`, by the token with which it begins.
-use Rattle.std.proofs.Common.{◌≡◌, ℕ, suc, ◌≤◌, max, Bool, true, nat_le, Option, Some, None, List, [], ◌∷◌, map, refl, sym, ap, subst, ◌∙◌, arith}
-use Rattle.csp_text.specs.Prelude.{field_depth, gen_depth, part_depth, tree_depth, set_op_word}
-use Rattle.csp_text.specs.declared.token.Token.{Token}
-use Rattle.csp_text.specs.declared.token.Token.TheVariants.{Name, Num, Word, Symbol}
-use Rattle.csp_text.specs.declared.tree.FieldTree.{FieldTree}
-use Rattle.csp_text.specs.declared.tree.GenTree.{GenTree}
-use Rattle.csp_text.specs.declared.tree.PartTree.{PartTree}
-use Rattle.csp_text.specs.declared.tree.Tree.{Tree}
+use Rattle.tree_reading.proofs.Prelude.{◌≡◌, ℕ, suc, ◌≤◌, max, Bool, true, nat_le, Option, Some, None, List, [], ◌∷◌, map, refl, sym, ap, subst, ◌∙◌, arith, field_depth, gen_depth, part_depth, tree_depth, set_op_word, Token, Name, Num, Word, FieldTree, GenTree, PartTree, Tree, greatest, BinOp, SetOp, TreeText, FieldsText, DottedText, DotsText, ExpressionText, PairsText, PartText, PartsText, ConditionsText, GensText, GenText, ItemText, ItemsText, AtomText, part_tree, disjunction, conjunction, negation, comparison, sum, product, minus, renaming, and_then, begins_event, case, dotted_tree, only, at_least, left_operand, number, tighter, Limited, read_dotted, read_item, read_items, read_dots, read_part, read_parts, read_pair, read_pairs, read_condition, read_gen, read_gens, read_conditions, read_call, read_set_operator, read_range, read_comprehension, read_filled, read_set, read_product, read_parentheses, read_atom_rest, read_atom, read_complement, read_negative, read_expression, read_renaming, read_with, read_operators, read_input, read_field, read_fields, limits, atom_start, other_start, sign_binding, symbol_start, word_start, Sign, Binding}
+use Rattle.csp_text.specs.declared.token.Token.TheVariants.{Symbol}
 use Rattle.csp_text.specs.declared.token.Token.TheVariants as token
 use Rattle.csp_text.specs.declared.token.Word as words
 use Rattle.csp_text.specs.declared.token.Word.TheVariants as word
 use Rattle.csp_text.specs.declared.token.Symbol as symbols
 use Rattle.csp_text.specs.declared.token.Symbol.TheVariants as symbol
 use Rattle.csp_text.specs.declared.tree.Tree.TheVariants as tree
-use Rattle.csp_base.specs.Prelude.{greatest}
-use Rattle.csp_base.specs.declared.operators.BinOp.{BinOp}
-use Rattle.csp_base.specs.declared.operators.SetOp.{SetOp}
 use Rattle.csp_base.specs.declared.operators.SetOp.TheVariants as set_op
 use Rattle.csp_text.specs.declared.tree.GenTree.TheVariants as generator
 use Rattle.csp_text.specs.declared.tree.FieldTree.TheVariants as field
-use Rattle.csp_grammar.specs.Prelude.{TreeText, FieldsText, DottedText, DotsText, ExpressionText, PairsText, PartText, PartsText, ConditionsText, GensText, GenText, ItemText, ItemsText, AtomText, part_tree, disjunction, conjunction, negation, comparison, sum, product, minus, renaming, and_then, begins_event, case, dotted_tree, only}
 use Rattle.csp_grammar.specs.Grammar as g
 use Rattle.csp_grammar.specs.Precedence as table
-use Rattle.tree_reading.specs.Prelude.{at_least, left_operand, number, tighter, Limited, read_dotted, read_item, read_items, read_dots, read_part, read_parts, read_pair, read_pairs, read_condition, read_gen, read_gens, read_conditions, read_call, read_set_operator, read_range, read_comprehension, read_filled, read_set, read_product, read_parentheses, read_atom_rest, read_atom, read_complement, read_negative, read_expression, read_renaming, read_with, read_operators, read_input, read_field, read_fields, limits, atom_start, other_start, sign_binding, symbol_start, word_start}
 use Rattle.tree_reading.specs.declared.look.AtomStart.{AtomStart}
-use Rattle.tree_reading.specs.declared.look.Sign.{Sign}
-use Rattle.tree_reading.specs.declared.read.Binding.{Binding}
 use Rattle.tree_reading.specs.declared.look.AtomStart.TheVariants as start
 use Rattle.tree_reading.specs.declared.read.Binding.TheVariants as bound
 use Rattle.tree_reading.proofs.Fitting.{both, node}

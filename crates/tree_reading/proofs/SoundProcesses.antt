@@ -1,19 +1,11 @@
 -- What is read of processes, the grammar has.
-use Rattle.std.proofs.Common.{◌≡◌, inl, inr, ℕ, suc, ◌+◌, ◌≤◌, max, Bool, true, nat_le, Option, Some, None, List, [], ◌∷◌, map, refl, sym, ap, subst, ◌∙◌, arith}
-use Rattle.csp_text.specs.Prelude.{field_depth, tree_depth}
-use Rattle.csp_text.specs.declared.token.Token.{Token}
-use Rattle.csp_text.specs.declared.token.Token.TheVariants.{Name, Word, Symbol}
-use Rattle.csp_text.specs.declared.tree.FieldTree.{FieldTree}
-use Rattle.csp_text.specs.declared.tree.Tree.{Tree}
+use Rattle.tree_reading.proofs.Prelude.{◌≡◌, inl, inr, ℕ, suc, ◌+◌, ◌≤◌, max, Bool, true, nat_le, Option, Some, None, List, [], ◌∷◌, map, refl, sym, ap, subst, ◌∙◌, arith, field_depth, tree_depth, Token, Name, Word, FieldTree, Tree, choice_sign, event_tree, TreeText, Reach, SideText, HidingText, ChoiceText, SequenceText, PrefixText, OpenText, EventText, FieldsText, DottedText, DotsText, ExpressionText, AtomText, closed, disjunction, renaming, sum, begins_event, with_first, at_least, number, of_process, Limited, read_prefixed, read_event, read_branches, read_if, read_binder, read_each, read_each_parallel, read_guarded, read_guard, read_opened, read_prefix, read_followed, read_sequence, read_choices, read_hiding, read_hidings, read_chain, read_side, read_parallel, read_tree, limits, choice, dot_fields, each_tree, form_start, Chain, Binding, none-some, same_Some, nat_tests, greatest}
+use Rattle.csp_text.specs.declared.token.Token.TheVariants.{Symbol}
 use Rattle.csp_text.specs.declared.token.Word.TheVariants as word
 use Rattle.csp_text.specs.declared.token.Symbol.TheVariants as symbol
 use Rattle.csp_text.specs.declared.tree.Tree.TheVariants as tree
 use Rattle.csp_text.specs.declared.tree.FieldTree.TheVariants as field
-use Rattle.csp_grammar.specs.Prelude.{choice_sign, event_tree, TreeText, Reach, SideText, HidingText, ChoiceText, SequenceText, PrefixText, OpenText, EventText, FieldsText, DottedText, DotsText, ExpressionText, AtomText, closed, disjunction, renaming, sum, begins_event, with_first}
 use Rattle.csp_grammar.specs.Grammar as g
-use Rattle.tree_reading.specs.Prelude.{at_least, number, of_process, Limited, read_prefixed, read_event, read_branches, read_if, read_binder, read_each, read_each_parallel, read_guarded, read_guard, read_opened, read_prefix, read_followed, read_sequence, read_choices, read_hiding, read_hidings, read_chain, read_side, read_parallel, read_tree, limits, choice, dot_fields, each_tree, form_start}
-use Rattle.tree_reading.specs.declared.look.Chain.{Chain}
-use Rattle.tree_reading.specs.declared.read.Binding.{Binding}
 use Rattle.tree_reading.specs.declared.look.Chain.TheVariants as chain
 use Rattle.tree_reading.specs.declared.read.Binding.TheVariants as bound
 use Rattle.tree_reading.proofs.Complete.{prefix_depth}
@@ -28,8 +20,6 @@ use Rattle.tree_reading.proofs.NodeDepths as depths
 use Rattle.tree_reading.proofs.Parts.{chosen_depth}
 use Rattle.tree_reading.proofs.SoundExpressions.{alone, dotted_read}
 use Rattle.tree_reading.proofs.Tests.{at_least_one, closed_reach, one_or_two, none_or_more, not_zero, same_reach}
-use Rattle.csp_base.proofs.Standard.{none-some, same_Some, nat_tests}
-use Rattle.csp_base.specs.Lists.{greatest}
 
 wide : (k : ℕ) → 11 ≤ k → 2 ≤ k
 wide k h = omega arith

@@ -1,30 +1,19 @@
 -- What is read of declarations, the grammar has; and so of all that the readers read.
-use Rattle.std.proofs.Common.{◌≡◌, ◌⊎◌, inl, inr, ℕ, zero, suc, ◌-◌, ◌≤◌, Bool, true, false, ◌||◌, Some, List, [], ◌∷◌, codes, refl, sym, ap, subst, ◌∙◌, arith}
-use Rattle.csp_text.specs.Prelude.{tree_depth}
-use Rattle.csp_text.specs.declared.script.Decl.{Decl}
-use Rattle.csp_text.specs.declared.token.Symbol.{Symbol}
-use Rattle.csp_text.specs.declared.token.Token.{Token}
-use Rattle.csp_text.specs.declared.token.Token.TheVariants.{Name, Word}
-use Rattle.csp_text.specs.declared.tree.Tree.{Tree}
+use Rattle.tree_reading.proofs.Prelude.{◌≡◌, ◌⊎◌, inl, inr, ℕ, zero, suc, ◌-◌, ◌≤◌, Bool, true, false, ◌||◌, Some, List, [], ◌∷◌, codes, refl, sym, ap, subst, ◌∙◌, arith, tree_depth, Decl, Symbol, Token, Name, Word, Tree, NamesText, TypesText, ParametersText, AssertedText, ModelText, DeclarationText, DeclarationsText, TreeText, ItemsText, AtomText, MOST_BRACKETS, MOST_TREE_DEPTH, bytes_eq, deadlock_free, ending, is_model, model, name_that, Limited, limited, next_limited, nothing_limited, read_names, read_types, read_channel, read_datatype, read_nametype, read_parameters, read_definition, read_asserted, read_assertion, read_word_declaration, read_declaration, read_declarations, limits, named, none-some}
 use Rattle.csp_base.specs.declared.operators.SetOp.TheVariants as set_op
 use Rattle.csp_text.specs.declared.token.Token.TheVariants as token
 use Rattle.csp_text.specs.declared.token.Word as words
 use Rattle.csp_text.specs.declared.token.Word.TheVariants as word
 use Rattle.csp_text.specs.declared.token.Symbol.TheVariants as symbol
 use Rattle.csp_text.specs.declared.script.Decl.TheVariants as decl
-use Rattle.csp_grammar.specs.Prelude.{NamesText, TypesText, ParametersText, AssertedText, ModelText, DeclarationText, DeclarationsText, TreeText, ItemsText, AtomText}
 use Rattle.csp_grammar.specs.Declarations as d
 use Rattle.csp_grammar.specs.Grammar as g
-use Rattle.dl_limits.specs.declared.TheConstants.{MOST_BRACKETS, MOST_TREE_DEPTH}
-use Rattle.std.specs.Str.{bytes_eq}
-use Rattle.tree_reading.specs.Prelude.{deadlock_free, ending, is_model, model, name_that, Limited, limited, next_limited, nothing_limited, read_names, read_types, read_channel, read_datatype, read_nametype, read_parameters, read_definition, read_asserted, read_assertion, read_word_declaration, read_declaration, read_declarations, limits, named}
 use Rattle.tree_reading.proofs.Holds.{Holds, by_then, by_case, by_sure, itself, mapped, of_read}
 use Rattle.tree_reading.proofs.Holds.Holds.{none, some}
 use Rattle.tree_reading.proofs.Looks as look
 use Rattle.tree_reading.proofs.Meaning.{Sound}
 use Rattle.tree_reading.proofs.SoundExpressions as expressions
 use Rattle.tree_reading.proofs.SoundProcesses as processes
-use Rattle.std.proofs.lemmas.Option.{none-some}
 
 either : (b c : Bool) → (b || c) ≡ true → (b ≡ true) ⊎ (c ≡ true)
 either true c h = inl refl

@@ -1,12 +1,8 @@
 -- How the text of an expression starts: not as an event, a generator, an open form or the end of a set does.
-use Rattle.std.proofs.Common.{◌≡◌, ℕ, false, nat_eq, None, List, ◌∷◌, refl}
-use Rattle.csp_text.specs.declared.token.Token.{Token}
-use Rattle.csp_text.specs.declared.tree.Tree.{Tree}
+use Rattle.tree_reading.proofs.Prelude.{◌≡◌, ℕ, false, nat_eq, None, List, ◌∷◌, refl, Token, Tree, BinOp, ExpressionText, AtomText, ItemText, ItemsText, Level, IsLeftOperator, IsComparison, begins_event, begins, binding, skip, skip_word, behind_name}
 use Rattle.csp_text.specs.declared.token.Word.TheVariants as word
 use Rattle.csp_text.specs.declared.token.Symbol.TheVariants as symbol
-use Rattle.csp_base.specs.declared.operators.BinOp.{BinOp}
 use Rattle.csp_base.specs.declared.operators.SetOp.TheVariants as set_op
-use Rattle.csp_grammar.specs.Prelude.{ExpressionText, AtomText, ItemText, ItemsText, Level, IsLeftOperator, IsComparison, begins_event, begins, binding, skip, skip_word, behind_name}
 use Rattle.csp_grammar.specs.Grammar as g
 use Rattle.csp_grammar.specs.Precedence as table
 

@@ -1,11 +1,7 @@
 -- What the readers' tests of numbers tell.
-use Rattle.std.proofs.Common.{◌≡◌, ◌⊎◌, inl, inr, ℕ, zero, suc, ◌≤◌, Bool, true, false, nat_le, if◌then◌else◌, refl, ap, arith}
-use Rattle.tree_reading.specs.Prelude.{number, of_process}
-use Rattle.tree_reading.specs.declared.read.Binding.{Binding}
+use Rattle.tree_reading.proofs.Prelude.{◌≡◌, ◌⊎◌, inl, inr, ℕ, zero, suc, ◌≤◌, Bool, true, false, nat_le, if◌then◌else◌, refl, ap, arith, number, of_process, Binding, nat_tests, closed}
 use Rattle.tree_reading.specs.declared.read.Binding.TheVariants as bound
 use Rattle.tree_reading.proofs.Meaning.{reach}
-use Rattle.std.proofs.lemmas.Bool.Decides.{nat_tests}
-use Rattle.csp_grammar.specs.Grammar.Reach.{closed}
 
 bool_of : (b : Bool) → (b ≡ true) ⊎ (b ≡ false)
 bool_of true = inl refl

@@ -1,7 +1,5 @@
 -- What is read is one, so the grammar has one; and a reading decides what a text is.
-use Rattle.std.proofs.Common.{max, List, refl, ap, arith}
-use Rattle.csp_text.specs.Prelude.{tree_depth}
-use Rattle.csp_text.specs.declared.script.Decl.{Decl}
+use Rattle.tree_reading.proofs.Prelude.{max, List, refl, ap, arith, tree_depth, Decl, none-some}
 use Rattle.csp_text.specs.declared.script.Script.{Script}
 use Rattle.tree_reading.specs.Laws.{EachTextHasOneTree, EachTextIsOneScript, ReaderIsComplete, ReaderGivesTrees, ReaderIsSound, ReadTreesAreTrees, SettledScriptIsOne, SettledNothingIsNone, ScriptsSettle}
 use Rattle.tree_reading.proofs.Complete.{tree_read}
@@ -10,7 +8,6 @@ use Rattle.tree_reading.proofs.Follow.{below_stops}
 use Rattle.tree_reading.proofs.Scripts.{declarations_read}
 use Rattle.tree_reading.proofs.Settling.{one_answer, same}
 use Rattle.tree_reading.proofs.SoundScripts.{script_sound, tree_sound}
-use Rattle.std.proofs.lemmas.Option.{none-some}
 
 pub one_tree : EachTextHasOneTree
 one_tree n tokens t u p q =

@@ -130,7 +130,8 @@ pub fn expect_word(tokens: &[Token], word: Word) -> Result<&[Token], ReadFault>
 
 /// The name at the front, and what follows it.
 pub fn named(tokens: &[Token]) -> Option<(&Name, &[Token])>
-    ensures same { MatchOption result (named tokens.now ≡ None) (λ found. named tokens.now ≡ Some (found.0.now, found.1.now)) }
+    ensures same { MatchOption result (named tokens.now ≡ None) (λ found. named tokens.now
+        ≡ Some (found.0.now, found.1.now)) }
     ensures shorter { IfSome result (λ found. length found.1.now < length tokens.now) }
 {
     match tokens.split_first() {
@@ -199,7 +200,8 @@ impl Chain {
 
 /// The choice whose sign is at the front, and what follows it.
 pub fn first_chain(tokens: &[Token]) -> Option<(Chain, &[Token])>
-    ensures same { MatchOption result (first_chain tokens.now ≡ None) (λ found. first_chain tokens.now ≡ Some (found.0, found.1.now)) }
+    ensures same { MatchOption result (first_chain tokens.now ≡ None) (λ found. first_chain tokens.now
+        ≡ Some (found.0, found.1.now)) }
     ensures shorter { IfSome result (λ found. length found.1.now < length tokens.now) }
 {
     if let Some(rest) = skip(tokens, Symbol::ExternalChoice) {
@@ -275,7 +277,8 @@ impl Sign {
 
 /// The sign that goes on with an operand, which is bound like this, and what follows the sign.
 pub fn sign_behind(level: Binding, bound: Binding, tokens: &[Token]) -> Option<(Sign, &[Token])>
-    ensures same { MatchOption result (sign_behind level bound tokens.now ≡ None) (λ found. sign_behind level bound tokens.now ≡ Some (found.0, found.1.now)) }
+    ensures same { MatchOption result (sign_behind level bound tokens.now ≡ None) (λ found.
+        sign_behind level bound tokens.now ≡ Some (found.0, found.1.now)) }
     ensures shorter { IfSome result (λ found. length found.1.now < length tokens.now) }
 {
     let Some((first, rest)) = tokens.split_first() else {

@@ -1,13 +1,6 @@
 -- What the rules of declarations put into a program is what the functions give: the content, the field sets, and how deep the bodies reach.
-use Rattle.std.proofs.Common.{◌≡◌, ℕ, zero, suc, ◌+◌, false, Option, Ok, List, [], ◌∷◌, ◌++◌, length, map, replicate, refl, sym, ◌∙◌, ap, arith}
-use Rattle.std.specs.Prelude.{slice_get}
-use Rattle.std.specs.List.{flat_map}
-use Rattle.csp_text.specs.declared.script.Decl.TheVariants as decl
-use Rattle.csp_program.specs.declared.programs.Body.TheVariants as body
-use Rattle.script_names.specs.Prelude.{body_of, channels_of, constants_of, definitions_from, first_assertion, resources_of, roles_of, root_of, definition_depth, depth_at, Declares, channels_of_types, deepest, depth_within, said_by, kind_class, kind_network, field_sets, Counts, Meanings, Name, counted, and_next, channel_sets, told_in, numbers_from, parameters, bodies_from, body_place, expanded_body, definition_number, exprs, reading, tree_says}
+use Rattle.typed_laws.proofs.Sources.{◌≡◌, ℕ, zero, suc, ◌+◌, false, Option, Ok, List, [], ◌∷◌, ◌++◌, length, map, replicate, refl, sym, ◌∙◌, ap, arith, slice_get, flat_map, body_of, channels_of, constants_of, definitions_from, first_assertion, resources_of, roles_of, root_of, definition_depth, depth_at, Declares, channels_of_types, deepest, depth_within, said_by, kind_class, kind_network, field_sets, Counts, Meanings, Name, counted, and_next, channel_sets, told_in, numbers_from, parameters, bodies_from, body_place, expanded_body, definition_number, exprs, reading, tree_says, names_of-parameters, Atom, Content, Decl, Def, Expr, Kind, Occurrence, Tree, Body}
 use Rattle.script_names.specs.Declaring as d
-use Rattle.script_names.proofs.Scopes.{names_of-parameters}
-use Rattle.typed_laws.proofs.Sources.{Atom, Content, Decl, Def, Expr, Kind, Occurrence, Tree}
 use Rattle.typed_laws.proofs.ExprsAre.{expr_is, exprs_are}
 use Rattle.typed_laws.proofs.NetsAre.{net_is}
 use Rattle.typed_laws.proofs.Passing.{data_at}
@@ -60,23 +53,23 @@ module _ (m : Meanings) (ks : List Kind) where
       let v = content_is rest in
       λ j. record (v j) {
         consts = cs ++ (v j).consts;
-        defs = record { name = x; params = []; body = body.Datatype (numbers_from n.constants (length cs)) } ∷ (v j).defs;
+        defs = record { name = x; params = []; body = Body.Datatype (numbers_from n.constants (length cs)) } ∷ (v j).defs;
       }
   content_is (d.nametype {x = x} h deep rest) =
       let w = (expr_is m ks h).value in let v = content_is rest in
-      λ j. record (v j) { defs = record { name = x; params = []; body = body.Nametype (w j) } ∷ (v j).defs }
+      λ j. record (v j) { defs = record { name = x; params = []; body = Body.Nametype (w j) } ∷ (v j).defs }
   content_is (d.data_definition {n = n} {x = x} {params = params} {t = t} {decls = decls} ps is h deep rest) =
       let w = (expr_is m ks h).value in let v = content_is rest in
-      ap (defined_as x params t (given (counted n (decl.Define x params t)) decls)) is
-      ∙ (λ j. record (v j) { defs = record { name = x; params = numbers_from 0 (length params); body = body.Datum (w j) } ∷ (v j).defs })
+      ap (defined_as x params t (given (counted n (Decl.Define x params t)) decls)) is
+      ∙ (λ j. record (v j) { defs = record { name = x; params = numbers_from 0 (length params); body = Body.Datum (w j) } ∷ (v j).defs })
   content_is (d.process_definition {n = n} {x = x} {params = params} {t = t} {decls = decls} ps is h rest) =
       let w = (proc_is m ks h).value in let v = content_is rest in
-      ap (defined_as x params t (given (counted n (decl.Define x params t)) decls)) is
-      ∙ (λ j. record (v j) { defs = record { name = x; params = numbers_from 0 (length params); body = body.Process (w j) } ∷ (v j).defs })
+      ap (defined_as x params t (given (counted n (Decl.Define x params t)) decls)) is
+      ∙ (λ j. record (v j) { defs = record { name = x; params = numbers_from 0 (length params); body = Body.Process (w j) } ∷ (v j).defs })
   content_is (d.network_definition {n = n} {x = x} {params = params} {t = t} {decls = decls} ps is h rest) =
       let w = (net_is m ks h).value in let v = content_is rest in
-      ap (defined_as x params t (given (counted n (decl.Define x params t)) decls)) is
-      ∙ (λ j. record (v j) { defs = record { name = x; params = numbers_from 0 (length params); body = body.Network (w j) } ∷ (v j).defs })
+      ap (defined_as x params t (given (counted n (Decl.Define x params t)) decls)) is
+      ∙ (λ j. record (v j) { defs = record { name = x; params = numbers_from 0 (length params); body = Body.Network (w j) } ∷ (v j).defs })
   content_is (d.assertion h rest) = let v = content_is rest in λ j. record (v j) { root = (net_is m ks h).value j }
   content_is (d.roles process creq cack sreq sack rest) =
       let v = content_is rest in

@@ -1,10 +1,5 @@
 -- How deep occurrences reach, and how deep expressions are with their uses expanded.
-use Rattle.std.proofs.Common.{◌≡◌, ℕ, ◌+◌, ◌<◌, List, [], ◌∷◌, ◌++◌, map, sym, ◌∙◌, ap, arith}
-use Rattle.std.specs.Prelude.{max}
-use Rattle.csp_program.specs.Prelude.{gen_depth_of_layer, part_depth_of_layer}
-use Rattle.csp_base.specs.Lists.{greatest}
-use Rattle.script_names.specs.Prelude.{expanded_depth, expanded_depth_of_layer, gen_expanded_depth, part_expanded_depth, deepest, reach, Name, event_part}
-use Rattle.typed_laws.proofs.Sources.{EventPart, Expr, Expr-F, Gen, Gen-F, Occurrence, fold-roll-EventPart, fold-roll-Expr, fold-roll-Gen, map-Expr, map-Gen, roll-Expr, roll-Gen}
+use Rattle.typed_laws.proofs.Sources.{◌≡◌, ℕ, ◌+◌, ◌<◌, List, [], ◌∷◌, ◌++◌, map, sym, ◌∙◌, ap, arith, max, gen_depth_of_layer, part_depth_of_layer, greatest, expanded_depth, expanded_depth_of_layer, gen_expanded_depth, part_expanded_depth, deepest, reach, Name, event_part, EventPart, Expr, Expr-F, Gen, Gen-F, Occurrence, fold-roll-EventPart, fold-roll-Expr, fold-roll-Gen, map-Expr, map-Gen, roll-Expr, roll-Gen}
 
 max_assoc : (a b c : ℕ) → max a (max b c) ≡ max (max a b) c
 max_assoc a b c = omega arith

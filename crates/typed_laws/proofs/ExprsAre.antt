@@ -1,25 +1,16 @@
 -- Where a tree is an expression by the rules of typing, it is read as that expression, it passes, and it reaches as deep as the expression is.
-use Rattle.std.proofs.Common.{◌≡◌, ℕ, ◌+◌, ◌<◌, pos, Bool, true, false, nat_lt, None, List, [], ◌∷◌, length, map, refl, sym, ◌∙◌, ap, subst, append-nil, arith}
-use Rattle.std.specs.Prelude.{max}
-use Rattle.std.proofs.lemmas.List.{length-map}
-use Rattle.csp_base.specs.Lists.{greatest}
+use Rattle.typed_laws.proofs.Sources.{◌≡◌, roll-Tree, ℕ, ◌+◌, ◌<◌, pos, Bool, true, false, nat_lt, None, List, [], ◌∷◌, length, map, refl, sym, ◌∙◌, ap, subst, append-nil, arith, max, length-map, greatest, expanded_depth, gen_expanded_depth, part_expanded_depth, below, deepest, when, Meanings, Name, sense_in, Binder, Fields, Said, all_say, in_turn, part_says, tree_says, Scope, names_of, with, Binding, Front, Reading, all_bind, bindings, bindings_bind, channel_number, definition_number, exprs, named, part, parts, parts_bind, reading, under, AreExprs, AreFronts, AreGens, IsExpr, IsFront, event_part, Binds, EventPart, Expr, Expr-F, Form, Gen, Gen-F, GenTree, GenTree-F, Kind, PartTree, Place, Sense, Tree, Tree-F, Uses, Class, Entity, Use}
 use Rattle.csp_text.specs.declared.tree.GenTree.TheVariants as generator
 use Rattle.csp_text.specs.declared.tree.Tree.TheVariants as tree
 use Rattle.csp_program.specs.declared.expressions.Expr.TheVariants as expr
 use Rattle.csp_program.specs.declared.expressions.Gen.TheVariants as gen_of
-use Rattle.script_names.specs.declared.kinds.Class.TheVariants as class
-use Rattle.script_names.specs.declared.kinds.Entity.TheVariants as entity
-use Rattle.script_names.specs.Prelude.{expanded_depth, gen_expanded_depth, part_expanded_depth, below, deepest, when, Meanings, Name, sense_in, Binder, Fields, Said, all_say, in_turn, part_says, tree_says, Scope, names_of, with, Binding, Front, Reading, all_bind, bindings, bindings_bind, channel_number, definition_number, exprs, named, part, parts, parts_bind, reading, under, AreExprs, AreFronts, AreGens, IsExpr, IsFront, event_part}
-use Rattle.script_names.specs.declared.kinds.Sense.TheVariants as sense
-use Rattle.script_names.specs.declared.kinds.Use.TheVariants as how
 use Rattle.script_names.specs.Says as says
 use Rattle.script_names.specs.Typing as t
-use Rattle.typed_laws.proofs.Sources.{Binds, EventPart, Expr, Expr-F, Form, Gen, Gen-F, GenTree, GenTree-F, Kind, PartTree, Place, Sense, Tree, Tree-F, Uses}
-use Rattle.typed_laws.proofs.Trees.{at_gen, at_part, at_tree, of_gen, of_part, reads, saying}
+use Rattle.typed_laws.proofs.Trees.{TreeLayer, at_gen, at_part, at_tree, of_gen, of_part, reads, saying, tree_layer}
 use Rattle.typed_laws.proofs.Deep.{above, below_form, expr_layer, gen_layer, none_below, one_below, part_layer, two_below}
 use Rattle.typed_laws.proofs.Passing.{AllPass, Passes, data_at, form_passes, join, join_three, use_passes}
 use Rattle.typed_laws.proofs.ScopeNames.{add_names, gen_names, names_with}
-use Rattle.typed_laws.proofs.Senses.{bind_passes, bound_is, bound_passes, call_passes, constant_passes, definition_passes, dotted_passes, event_passes, means_is, set_passes}
+use Rattle.typed_laws.proofs.Senses.{bind_passes, bound_is, call_passes, definition_passes, dotted_passes, means_is}
 
 pub add_next : (n a b i k : ℕ) → n + a ≡ i → i + b ≡ k → n + (a + b) ≡ k
 add_next n a b i k h g = omega arith
@@ -81,7 +72,7 @@ module _ (m : Meanings) (ks : List Kind) where
     pub next : n + all_bind r.fields ≡ k
     pub channel : ℕ
     pub fields : ℕ
-    pub means : sense_in m (names_of scope) s.name ≡ sense.Declared (entity.Channel channel fields)
+    pub means : sense_in m (names_of scope) s.name ≡ Sense.Declared (Entity.Channel channel fields)
     pub count : length s.fields + left ≡ fields
     pub passes : (place : Place) → AllPass m ks (part_says m s place (names_of scope))
     pub deep : (f : ℕ → ℕ) (place : Place) → max place.level (deepest f (part_says m s place (names_of scope))) ≡ place.level + part_expanded_depth f e
@@ -93,9 +84,9 @@ module _ (m : Meanings) (ks : List Kind) where
     pub deep : (f : ℕ → ℕ) (place : Place) → max place.level (deepest f (all_say (map (part_says m) ss) place (names_of scope)))
         ≡ place.level + greatest (map (part_expanded_depth f) es)
 
-  pub begins_passes : (x : Name) (c n k left : ℕ) → k + left ≡ n → Passes m ks (Uses x (sense.Declared (entity.Channel c n)) (how.Begins k))
+  pub begins_passes : (x : Name) (c n k left : ℕ) → k + left ≡ n → Passes m ks (Uses x (Sense.Declared (Entity.Channel c n)) (Use.Begins k))
   begins_passes x c n k left h =
-      record { fine = record { known = refl; kind = refl; count = ap (λ b. when b x) (some_left k left n h); inside = refl }; once = refl }
+      record { known = refl; once = refl; kind = refl; count = ap (λ b. when b x) (some_left k left n h); inside = refl }
 
   -- what generators add to a scope is what they say that they bind
   pub names_after : (ts : List GenTree) (scope : Scope) (n : ℕ) {inner : Scope} → under (map (of_gen (reads m ks)) ts) scope n ≡ inner
@@ -104,119 +95,108 @@ module _ (m : Meanings) (ks : List Kind) where
 
   -- ---- forms of data
 
+  -- what the layer has that a tree is rolled of
+  expr_at : (d : TreeLayer) {a : Tree} → roll-Tree d ≡ a → {scope : Scope} {n : ℕ} {e : Expr} {k : ℕ}
+      → ExprIs (tree_layer (saying m ks) d) (tree_layer (reads m ks) d) scope n e k → ExprIs (tree_says m a) (reading m ks a) scope n e k
+  expr_at d is {scope} {n} {e} {k} h = at_tree m ks (λ _ s r. ExprIs s r scope n e k) d is h
+
   -- a Form above parts
-  form_is : (rest : Said) (r : Reading) (scope : Scope) (n : ℕ) (e : Expr) (k : ℕ) (d : (ℕ → ℕ) → ℕ) → r.expr scope n ≡ e → n + r.binds ≡ k
+  form_is : {rest : Said} {r : Reading} {scope : Scope} {n : ℕ} {e : Expr} {k : ℕ} (d : (ℕ → ℕ) → ℕ) → r.expr scope n ≡ e → n + r.binds ≡ k
       → ((b : Bool) (l : ℕ) → AllPass m ks (rest (data_at b l) (names_of scope)))
       → ((f : ℕ → ℕ) (b : Bool) (l : ℕ) → max (l + 1) (deepest f (rest (data_at b (l + 1)) (names_of scope))) ≡ (l + 1) + d f)
-      → ((f : ℕ → ℕ) → expanded_depth f e ≡ 1 + d f) → ExprIs (λ place names. Form class.Data place ∷ rest place names) r scope n e k
-  form_is rest r scope n e k d value next passes deep depth = record {
+      → ((f : ℕ → ℕ) → expanded_depth f e ≡ 1 + d f) → ExprIs (λ place names. Form Class.Data place ∷ rest place names) r scope n e k
+  form_is {rest} {r} {scope} {n} {e} {k} d value next passes deep depth = record {
     value = value;
     next = next;
-    passes = λ b l. (form_passes m ks class.Data (data_at b l) refl, passes b l);
+    passes = λ b l. (form_passes m ks Class.Data (data_at b l) refl, passes b l);
     deep = λ f b l. below_form l (deepest f (rest (data_at b (l + 1)) (names_of scope))) (d f) (deep f b l) ∙ ap (λ z. l + z) (sym (depth f));
     some = λ f. some_more (expanded_depth f e) (d f) (depth f);
   }
 
   -- a Form without parts
-  leaf_is : (r : Reading) (scope : Scope) (n : ℕ) (e : Expr) → r.expr scope n ≡ e → r.binds ≡ 0 → ((f : ℕ → ℕ) → expanded_depth f e ≡ 1 + 0)
-      → ExprIs (λ place names. Form class.Data place ∷ []) r scope n e n
-  leaf_is r scope n e value none depth =
-      form_is (λ place names. []) r scope n e n (λ f. 0) value (ap (λ z. n + z) none ∙ none_next n) (λ b l. tt) (λ f b l. none_below (l + 1)) depth
+  leaf_is : {r : Reading} {scope : Scope} {n : ℕ} {e : Expr} → r.expr scope n ≡ e → r.binds ≡ 0 → ((f : ℕ → ℕ) → expanded_depth f e ≡ 1 + 0)
+      → ExprIs (λ place names. Form Class.Data place ∷ []) r scope n e n
+  leaf_is {n = n} value none depth = form_is (λ f. 0) value (ap (λ z. n + z) none ∙ none_next n) (λ b l. tt) (λ f b l. none_below (l + 1)) depth
 
   -- a name alone
-  alone_is : (r : Reading) (scope : Scope) (n : ℕ) (x : Name) (z : Sense) (e : Expr) → sense_in m (names_of scope) x ≡ z → r.expr scope n ≡ e → r.binds ≡ 0
-      → ((b : Bool) (l : ℕ) → Passes m ks (Uses x z (how.Alone (data_at b l)))) → ((f : ℕ → ℕ) → expanded_depth f e ≡ 1 + below f z)
-      → ExprIs (λ place names. Uses x (sense_in m names x) (how.Alone place) ∷ []) r scope n e n
-  alone_is r scope n x z e is value none passes depth = record {
+  alone_is : {r : Reading} {scope : Scope} {n : ℕ} {x : Name} {z : Sense} {e : Expr} → sense_in m (names_of scope) x ≡ z → r.expr scope n ≡ e → r.binds ≡ 0
+      → ((b : Bool) (l : ℕ) → Passes m ks (Uses x z (Use.Alone (data_at b l)))) → ((f : ℕ → ℕ) → expanded_depth f e ≡ 1 + below f z)
+      → ExprIs (λ place names. Uses x (sense_in m names x) (Use.Alone place) ∷ []) r scope n e n
+  alone_is {r} {scope} {n} {x} {z} {e} is value none passes depth = record {
     value = value;
     next = ap (λ y. n + y) none ∙ none_next n;
-    passes = λ b l. (use_passes m ks x (sense_in m (names_of scope) x) z (how.Alone (data_at b l)) is (passes b l), tt);
+    passes = λ b l. (use_passes m ks x (sense_in m (names_of scope) x) z (Use.Alone (data_at b l)) is (passes b l), tt);
     deep = λ f b l. alone_deep l (below f (sense_in m (names_of scope) x)) ∙ ap (λ y. l + (1 + below f y)) is ∙ ap (λ y. l + y) (sym (depth f));
     some = λ f. some_more (expanded_depth f e) (below f z) (depth f);
   }
 
   mutual
     pub expr_is : {scope : Scope} {n k : ℕ} {a : Tree} {e : Expr} → IsExpr m ks scope n a e k → ExprIs (tree_says m a) (reading m ks a) scope n e k
-    expr_is {scope} {n} (t.number {k = k}) =
-        at_tree m ks (λ _ s r. ExprIs s r scope n (expr.Num (pos k)) n) (Tree-F.Num k) (tree.rolls-Num _)
-        (leaf_is _ scope n (expr.Num (pos k)) refl refl (λ f. expr_layer f (Expr-F.Num (pos k)) (expr.rolls-Num _)))
-    expr_is {scope} {n} t.truth =
-        at_tree m ks (λ _ s r. ExprIs s r scope n (expr.Truth true) n) Tree-F.True tree.rolls-True
-        (leaf_is _ scope n (expr.Truth true) refl refl (λ f. expr_layer f (Expr-F.Truth true) (expr.rolls-Truth _)))
-    expr_is {scope} {n} t.falsehood =
-        at_tree m ks (λ _ s r. ExprIs s r scope n (expr.Truth false) n) Tree-F.False tree.rolls-False
-        (leaf_is _ scope n (expr.Truth false) refl refl (λ f. expr_layer f (Expr-F.Truth false) (expr.rolls-Truth _)))
-    expr_is {scope} {n} (t.bound {b = b} {x = x} h) =
-        at_tree m ks (λ _ s r. ExprIs s r scope n (expr.Bound b) n) (Tree-F.Name x) (tree.rolls-Name _)
-        (alone_is _ scope n x sense.Bound (expr.Bound b) (bound_is m ks scope x b h) (ap (λ o. named o (m x)) h) refl (bound_passes m ks x)
+    expr_is (t.number {k = k}) = expr_at (Tree-F.Num k) (tree.rolls-Num _) (leaf_is refl refl (λ f. expr_layer f (Expr-F.Num (pos k)) (expr.rolls-Num _)))
+    expr_is t.truth = expr_at Tree-F.True tree.rolls-True (leaf_is refl refl (λ f. expr_layer f (Expr-F.Truth true) (expr.rolls-Truth _)))
+    expr_is t.falsehood = expr_at Tree-F.False tree.rolls-False (leaf_is refl refl (λ f. expr_layer f (Expr-F.Truth false) (expr.rolls-Truth _)))
+    expr_is {scope} (t.bound {b = b} {x = x} h) =
+        expr_at (Tree-F.Name x) (tree.rolls-Name _) (alone_is (bound_is m ks scope x b h) (ap (λ o. named o (m x)) h) refl (λ b l. record { known = refl; once = refl; kind = refl; count = refl; inside = refl })
         (λ f. expr_layer f (Expr-F.Bound b) (expr.rolls-Bound _)))
-    expr_is {scope} {n} (t.event {c = c} {x = x} h) =
-        at_tree m ks (λ _ s r. ExprIs s r scope n (expr.Event c []) n) (Tree-F.Name x) (tree.rolls-Name _)
-        (alone_is _ scope n x (sense.Declared (entity.Channel c 0)) (expr.Event c []) (means_is m ks scope x (entity.Channel c 0) h)
-        (ap (λ o. named o (m x)) h.0 ∙ ap (named None) h.1) refl (event_passes m ks x c) (λ f. expr_layer f (Expr-F.Event c []) (expr.rolls-Event _ _)))
-    expr_is {scope} {n} (t.constant {k = k} {x = x} h) =
-        at_tree m ks (λ _ s r. ExprIs s r scope n (expr.Const k) n) (Tree-F.Name x) (tree.rolls-Name _)
-        (alone_is _ scope n x (sense.Declared (entity.Constant k)) (expr.Const k) (means_is m ks scope x (entity.Constant k) h)
-        (ap (λ o. named o (m x)) h.0 ∙ ap (named None) h.1) refl (constant_passes m ks x k) (λ f. expr_layer f (Expr-F.Const k) (expr.rolls-Const _)))
-    expr_is {scope} {n} (t.datum {d = d} {x = x} h is) =
-        at_tree m ks (λ _ s r. ExprIs s r scope n (expr.Call d []) n) (Tree-F.Name x) (tree.rolls-Name _)
-        (alone_is _ scope n x (sense.Declared (entity.Definition d 0)) (expr.Call d []) (means_is m ks scope x (entity.Definition d 0) h)
+    expr_is {scope} (t.event {c = c} {x = x} h) =
+        expr_at (Tree-F.Name x) (tree.rolls-Name _) (alone_is (means_is m ks scope x (Entity.Channel c 0) h)
+        (ap (λ o. named o (m x)) h.0 ∙ ap (named None) h.1) refl (λ b l. record { known = refl; once = refl; kind = refl; count = refl; inside = refl }) (λ f. expr_layer f (Expr-F.Event c []) (expr.rolls-Event _ _)))
+    expr_is {scope} (t.constant {k = k} {x = x} h) =
+        expr_at (Tree-F.Name x) (tree.rolls-Name _) (alone_is (means_is m ks scope x (Entity.Constant k) h)
+        (ap (λ o. named o (m x)) h.0 ∙ ap (named None) h.1) refl (λ b l. record { known = refl; once = refl; kind = refl; count = refl; inside = refl }) (λ f. expr_layer f (Expr-F.Const k) (expr.rolls-Const _)))
+    expr_is {scope} (t.datum {d = d} {x = x} h is) =
+        expr_at (Tree-F.Name x) (tree.rolls-Name _) (alone_is (means_is m ks scope x (Entity.Definition d 0) h)
         (ap (λ o. named o (m x)) h.0 ∙ ap (named None) h.1) refl (λ b l. definition_passes m ks x d _ (data_at b l) is refl refl)
         (λ f. expr_layer f (Expr-F.Call d []) (expr.rolls-Call _ _) ∙ or_none (f d)))
-    expr_is {scope} {n} (t.named_set {d = d} {x = x} h) =
-        at_tree m ks (λ _ s r. ExprIs s r scope n (expr.SetName d) n) (Tree-F.Name x) (tree.rolls-Name _)
-        (alone_is _ scope n x (sense.Declared (entity.Set d)) (expr.SetName d) (means_is m ks scope x (entity.Set d) h)
-        (ap (λ o. named o (m x)) h.0 ∙ ap (named None) h.1) refl (set_passes m ks x d) (λ f. expr_layer f (Expr-F.SetName d) (expr.rolls-SetName _)))
-    expr_is {scope} {n} {k} (t.call {d = d} {f = x} {args = args} {es = es} h is g) =
+    expr_is {scope} (t.named_set {d = d} {x = x} h) =
+        expr_at (Tree-F.Name x) (tree.rolls-Name _) (alone_is (means_is m ks scope x (Entity.Set d) h)
+        (ap (λ o. named o (m x)) h.0 ∙ ap (named None) h.1) refl (λ b l. record { known = refl; once = refl; kind = refl; count = refl; inside = refl }) (λ f. expr_layer f (Expr-F.SetName d) (expr.rolls-SetName _)))
+    expr_is {scope} (t.call {d = d} {f = x} {args = args} {es = es} h is g) =
         let w = exprs_are g in
-        at_tree m ks (λ _ s r. ExprIs s r scope n (expr.Call d es) k) (Tree-F.Call x args) (tree.rolls-Call _ _) (record {
+        expr_at (Tree-F.Call x args) (tree.rolls-Call _ _) (record {
           value = λ i. expr.Call (ap definition_number h.1 i) (w.value i);
           next = w.next;
           passes = λ b l. (
-            use_passes m ks x _ _ _ (means_is m ks scope x (entity.Definition d (length args)) h)
+            use_passes m ks x _ _ _ (means_is m ks scope x (Entity.Definition d (length args)) h)
                 (call_passes m ks x d (length args) (length (map (tree_says m) args)) _ (data_at b l) is refl refl (length-map args (tree_says m))),
             w.passes false (l + 1),
           );
           deep = λ f b l. ap (λ z. max (l + 1 + below f z) (deepest f (all_say (map (tree_says m) args) (data_at false (l + 1 + 1)) (names_of scope))))
-              (means_is m ks scope x (entity.Definition d (length args)) h)
+              (means_is m ks scope x (Entity.Definition d (length args)) h)
               ∙ call_deep l (f d) (deepest f (all_say (map (tree_says m) args) (data_at false (l + 1 + 1)) (names_of scope)))
               (greatest (map (expanded_depth f) es)) (w.deep f false (l + 1))
               ∙ ap (λ z. l + z) (sym (expr_layer f (Expr-F.Call d es) (expr.rolls-Call _ _)));
           some = λ f. some_more (expanded_depth f (expr.Call d es)) (max (f d) (greatest (map (expanded_depth f) es))) (expr_layer f (Expr-F.Call d es) (expr.rolls-Call _ _));
         })
-    expr_is {scope} {n} {k} (t.dotted {c = c} {x = x} {fields = fields} {es = es} h g) =
+    expr_is {scope} (t.dotted {c = c} {x = x} {fields = fields} {es = es} h g) =
         let w = exprs_are g in
-        at_tree m ks (λ _ s r. ExprIs s r scope n (expr.Event c es) k) (Tree-F.«Tree::Dot» x fields) (tree.rolls-Dot _ _)
-        (form_is _ _ scope n (expr.Event c es) k (λ f. greatest (map (expanded_depth f) es))
+        expr_at (Tree-F.«Tree::Dot» x fields) (tree.rolls-Dot _ _) (form_is (λ f. greatest (map (expanded_depth f) es))
         (λ i. expr.Event (ap channel_number h.1 i) (w.value i)) w.next
         (λ b l. (
-          use_passes m ks x _ _ _ (means_is m ks scope x (entity.Channel c (length fields)) h)
+          use_passes m ks x _ _ _ (means_is m ks scope x (Entity.Channel c (length fields)) h)
               (dotted_passes m ks x c (length fields) (length (map (tree_says m) fields)) (length-map fields (tree_says m))),
           w.passes false (l + 1),
         ))
         (λ f b l. ap (max (l + 1)) (zero_or (deepest f (all_say (map (tree_says m) fields) (data_at false (l + 1 + 1)) (names_of scope)))) ∙ w.deep f false (l + 1))
         (λ f. expr_layer f (Expr-F.Event c es) (expr.rolls-Event _ _)))
-    expr_is {scope} {n} {k} (t.negative {a = a} {e = e} h) =
+    expr_is (t.negative {a = a} {e = e} h) =
         let w = expr_is h in
-        at_tree m ks (λ _ s r. ExprIs s r scope n (expr.Neg e) k) (Tree-F.Neg a) (tree.rolls-Neg _)
-        (form_is _ _ scope n (expr.Neg e) k (λ f. expanded_depth f e) (ap expr.Neg w.value) w.next (λ b l. w.passes false (l + 1))
+        expr_at (Tree-F.Neg a) (tree.rolls-Neg _) (form_is (λ f. expanded_depth f e) (ap expr.Neg w.value) w.next (λ b l. w.passes false (l + 1))
         (λ f b l. one_below _ _ _ (w.deep f false (l + 1))) (λ f. expr_layer f (Expr-F.Neg e) (expr.rolls-Neg _)))
-    expr_is {scope} {n} {k} (t.negation {a = a} {e = e} h) =
+    expr_is (t.negation {a = a} {e = e} h) =
         let w = expr_is h in
-        at_tree m ks (λ _ s r. ExprIs s r scope n (expr.Not e) k) (Tree-F.Not a) (tree.rolls-Not _)
-        (form_is _ _ scope n (expr.Not e) k (λ f. expanded_depth f e) (ap expr.Not w.value) w.next (λ b l. w.passes false (l + 1))
+        expr_at (Tree-F.Not a) (tree.rolls-Not _) (form_is (λ f. expanded_depth f e) (ap expr.Not w.value) w.next (λ b l. w.passes false (l + 1))
         (λ f b l. one_below _ _ _ (w.deep f false (l + 1))) (λ f. expr_layer f (Expr-F.Not e) (expr.rolls-Not _)))
-    expr_is {scope} {n} {k} (t.binary {i = i} {op = op} {a = a} {b = b} {e = e} {f = g} h h') =
+    expr_is {scope} (t.binary {i = i} {op = op} {a = a} {b = b} {e = e} {f = g} h h') =
         let w = expr_is h in let v = expr_is h' in
-        at_tree m ks (λ _ s r. ExprIs s r scope n (expr.Binary op e g) k) (Tree-F.Binary op a b) (tree.rolls-Binary _ _ _)
-        (form_is _ _ scope n (expr.Binary op e g) k (λ f. max (expanded_depth f e) (expanded_depth f g))
+        expr_at (Tree-F.Binary op a b) (tree.rolls-Binary _ _ _) (form_is (λ f. max (expanded_depth f e) (expanded_depth f g))
         (λ j. expr.Binary op (w.value j) ((ap ((reading m ks b).expr scope) w.next ∙ v.value) j)) (add_next _ _ _ _ _ w.next v.next)
         (λ c l. join (Passes m ks) _ _ (w.passes false (l + 1)) (v.passes false (l + 1)))
         (λ f c l. two_below f _ _ _ _ _ (one_below _ _ _ (w.deep f false (l + 1))) (one_below _ _ _ (v.deep f false (l + 1))))
         (λ f. expr_layer f (Expr-F.Binary op e g) (expr.rolls-Binary _ _ _)))
-    expr_is {scope} {n} {k} (t.expr_if {c = c} {a = a} {b = b} {g = g} {e = e} {f = e'} h h' h'') =
+    expr_is {scope} (t.expr_if {c = c} {a = a} {b = b} {g = g} {e = e} {f = e'} h h' h'') =
         let u = expr_is h in let w = expr_is h' in let v = expr_is h'' in
-        at_tree m ks (λ _ s r. ExprIs s r scope n (expr.If g e e') k) (Tree-F.If c a b) (tree.rolls-If _ _ _) (record {
+        expr_at (Tree-F.If c a b) (tree.rolls-If _ _ _) (record {
           value = λ j. expr.If (u.value j) ((ap ((reading m ks a).expr scope) u.next ∙ w.value) j)
               ((ap (λ z. (reading m ks b).expr scope (z + (reading m ks a).binds)) u.next ∙ ap ((reading m ks b).expr scope) w.next ∙ v.value) j);
           next = add_three _ _ _ _ _ _ _ u.next w.next v.next;
@@ -228,23 +208,20 @@ module _ (m : Meanings) (ks : List Kind) where
           some = λ f. some_more (expanded_depth f (expr.If g e e')) (max (expanded_depth f g) (max (expanded_depth f e) (expanded_depth f e')))
               (expr_layer f (Expr-F.If g e e') (expr.rolls-If _ _ _));
         })
-    expr_is {scope} {n} {k} (t.display {items = items} {es = es} g) =
+    expr_is (t.display {items = items} {es = es} g) =
         let w = exprs_are g in
-        at_tree m ks (λ _ s r. ExprIs s r scope n (expr.Display es) k) (Tree-F.Display items) (tree.rolls-Display _)
-        (form_is _ _ scope n (expr.Display es) k (λ f. greatest (map (expanded_depth f) es)) (ap expr.Display w.value) w.next (λ b l. w.passes false (l + 1))
+        expr_at (Tree-F.Display items) (tree.rolls-Display _) (form_is (λ f. greatest (map (expanded_depth f) es)) (ap expr.Display w.value) w.next (λ b l. w.passes false (l + 1))
         (λ f b l. w.deep f false (l + 1)) (λ f. expr_layer f (Expr-F.Display es) (expr.rolls-Display _)))
-    expr_is {scope} {n} {k} (t.range {a = a} {b = b} {e = e} {f = g} h h') =
+    expr_is {scope} (t.range {a = a} {b = b} {e = e} {f = g} h h') =
         let w = expr_is h in let v = expr_is h' in
-        at_tree m ks (λ _ s r. ExprIs s r scope n (expr.Range e g) k) (Tree-F.Range a b) (tree.rolls-Range _ _)
-        (form_is _ _ scope n (expr.Range e g) k (λ f. max (expanded_depth f e) (expanded_depth f g))
+        expr_at (Tree-F.Range a b) (tree.rolls-Range _ _) (form_is (λ f. max (expanded_depth f e) (expanded_depth f g))
         (λ j. expr.Range (w.value j) ((ap ((reading m ks b).expr scope) w.next ∙ v.value) j)) (add_next _ _ _ _ _ w.next v.next)
         (λ c l. join (Passes m ks) _ _ (w.passes false (l + 1)) (v.passes false (l + 1)))
         (λ f c l. two_below f _ _ _ _ _ (one_below _ _ _ (w.deep f false (l + 1))) (one_below _ _ _ (v.deep f false (l + 1))))
         (λ f. expr_layer f (Expr-F.Range e g) (expr.rolls-Range _ _)))
-    expr_is {scope} {n} {k} (t.comprehension {inner = inner} {i = i} {items = items} {gens = gens} {es = es} {gs = gs} h h') =
+    expr_is {scope} {n} (t.comprehension {inner = inner} {i = i} {items = items} {gens = gens} {es = es} {gs = gs} h h') =
         let w = exprs_are h in let v = gens_are h' in
-        at_tree m ks (λ _ s r. ExprIs s r scope n (expr.Comp es gs) k) (Tree-F.Comp items gens) (tree.rolls-Comp _ _)
-        (form_is _ _ scope n (expr.Comp es gs) k (λ f. max (greatest (map (expanded_depth f) es)) (greatest (map (gen_expanded_depth f) gs)))
+        expr_at (Tree-F.Comp items gens) (tree.rolls-Comp _ _) (form_is (λ f. max (greatest (map (expanded_depth f) es)) (greatest (map (gen_expanded_depth f) gs)))
         (λ j. expr.Comp
         ((ap (λ z. exprs (map (reading m ks) items) z n) (ap (under (map (of_gen (reads m ks)) gens) scope) w.next ∙ v.after) ∙ w.value) j)
         ((ap (bindings (map (of_gen (reads m ks)) gens) scope) w.next ∙ v.value) j)) (add_next _ _ _ _ _ w.next v.next)
@@ -254,10 +231,9 @@ module _ (m : Meanings) (ks : List Kind) where
         (subst (λ z. max (l + 1) (deepest f (all_say (map (tree_says m) items) (data_at false (l + 1 + 1)) z)) ≡ (l + 1) + greatest (map (expanded_depth f) es))
         (names_after gens scope i v.after) (w.deep f false (l + 1))) (v.deep f (data_at b (l + 1))))
         (λ f. expr_layer f (Expr-F.Comp es gs) (expr.rolls-Comp _ _)))
-    expr_is {scope} {n} {k} (t.product {inner = inner} {i = i} {parts = ps} {gens = gens} {fronts = fs} {gs = gs} h h') =
+    expr_is {scope} {n} (t.product {inner = inner} {i = i} {parts = ps} {gens = gens} {fronts = fs} {gs = gs} h h') =
         let w = fronts_are h in let v = gens_are h' in
-        at_tree m ks (λ _ s r. ExprIs s r scope n (expr.Product fs gs) k) (Tree-F.Product ps gens) (tree.rolls-Product _ _)
-        (form_is _ _ scope n (expr.Product fs gs) k (λ f. max (greatest (map (part_expanded_depth f) fs)) (greatest (map (gen_expanded_depth f) gs)))
+        expr_at (Tree-F.Product ps gens) (tree.rolls-Product _ _) (form_is (λ f. max (greatest (map (part_expanded_depth f) fs)) (greatest (map (gen_expanded_depth f) gs)))
         (λ j. expr.Product
         ((ap (λ z. parts m ks (map (of_part (reads m ks)) ps) z n) (ap (under (map (of_gen (reads m ks)) gens) scope) w.next ∙ v.after) ∙ w.value) j)
         ((ap (bindings (map (of_gen (reads m ks)) gens) scope) w.next ∙ v.value) j)) (add_next _ _ _ _ _ w.next v.next)
@@ -268,10 +244,9 @@ module _ (m : Meanings) (ks : List Kind) where
         (subst (λ z. max (l + 1) (deepest f (all_say (map (part_says m) (map (of_part (saying m ks)) ps)) (data_at b (l + 1)) z))
         ≡ (l + 1) + greatest (map (part_expanded_depth f) fs)) (names_after gens scope i v.after) (w.deep f (data_at b (l + 1)))) (v.deep f (data_at b (l + 1))))
         (λ f. expr_layer f (Expr-F.Product fs gs) (expr.rolls-Product _ _)))
-    expr_is {scope} {n} {k} (t.set_operator {op = op} {a = a} {b = b} {e = e} {f = g} h h') =
+    expr_is {scope} (t.set_operator {op = op} {a = a} {b = b} {e = e} {f = g} h h') =
         let w = expr_is h in let v = expr_is h' in
-        at_tree m ks (λ _ s r. ExprIs s r scope n (expr.SetOp op e g) k) (Tree-F.SetOp op a b) (tree.rolls-SetOp _ _ _)
-        (form_is _ _ scope n (expr.SetOp op e g) k (λ f. max (expanded_depth f e) (expanded_depth f g))
+        expr_at (Tree-F.SetOp op a b) (tree.rolls-SetOp _ _ _) (form_is (λ f. max (expanded_depth f e) (expanded_depth f g))
         (λ j. expr.SetOp op (w.value j) ((ap ((reading m ks b).expr scope) w.next ∙ v.value) j)) (add_next _ _ _ _ _ w.next v.next)
         (λ c l. join (Passes m ks) _ _ (w.passes false (l + 1)) (v.passes false (l + 1)))
         (λ f c l. two_below f _ _ _ _ _ (one_below _ _ _ (w.deep f false (l + 1))) (one_below _ _ _ (v.deep f false (l + 1))))
@@ -334,10 +309,10 @@ module _ (m : Meanings) (ks : List Kind) where
           next = w.next;
           channel = c;
           fields = fields;
-          means = means_is m ks scope x (entity.Channel c fields) h;
+          means = means_is m ks scope x (Entity.Channel c fields) h;
           count = ap (λ z. z + left) (length-map items (tree_says m)) ∙ count;
           passes = λ place. (
-            use_passes m ks x _ _ _ (means_is m ks scope x (entity.Channel c fields) h)
+            use_passes m ks x _ _ _ (means_is m ks scope x (Entity.Channel c fields) h)
                 (begins_passes x c fields (length (map (tree_says m) items)) left (ap (λ z. z + left) (length-map items (tree_says m)) ∙ count)),
             w.passes false (place.level + 1),
           );

@@ -1,6 +1,5 @@
 mod Sources
 pub mod Trees
-pub mod Faultless
 pub mod ScopeNames
 pub mod Ends
 pub mod Classes
@@ -17,6 +16,5 @@ pub mod ScriptKinds
 pub mod OnceLaws
 pub mod Back
 pub mod Declared
-pub mod OnceSaid
 pub mod Forward
 pub mod Programs

@@ -1,13 +1,8 @@
 -- Where a tree is a network by the rules of typing, it is read as that network and passes at a network position.
-use Rattle.std.proofs.Common.{◌≡◌, ℕ, ◌+◌, true, false, ◌||◌, List, [], length, map, refl, ◌∙◌, ap, subst, arith}
-use Rattle.std.specs.Prelude.{if◌then◌else◌}
-use Rattle.std.proofs.lemmas.List.{length-map}
+use Rattle.typed_laws.proofs.Sources.{◌≡◌, ℕ, ◌+◌, true, false, ◌||◌, List, [], length, map, refl, ◌∙◌, ap, subst, arith, if◌then◌else◌, length-map, is_network, kind_network, Meanings, Said, tree_says, Scope, names_of, with, Layer, Reading, definition_number, net_of_layer, network_of_layer, networked_of_layer, proc_of_layer, reading, IsComposition, IsNet, Kind, Net, Parallel, Proc, Tree, Tree-F, out-Tree, roll-out-Tree, Entity}
 use Rattle.csp_text.specs.declared.tree.Tree.TheVariants as tree
 use Rattle.csp_program.specs.declared.networks.Net.TheVariants as net
-use Rattle.script_names.specs.declared.kinds.Entity.TheVariants as entity
-use Rattle.script_names.specs.Prelude.{is_network, kind_network, Meanings, Said, tree_says, Scope, names_of, with, Layer, Reading, definition_number, net_of_layer, network_of_layer, networked_of_layer, proc_of_layer, reading, IsComposition, IsNet}
 use Rattle.script_names.specs.Typing as t
-use Rattle.typed_laws.proofs.Sources.{Kind, Net, Parallel, Proc, Tree, Tree-F, out-Tree, roll-out-Tree}
 use Rattle.typed_laws.proofs.Trees.{at_tree, reads, tree_parts}
 use Rattle.typed_laws.proofs.ExprsAre.{add_three, expr_is, exprs_are, none_next}
 use Rattle.typed_laws.proofs.Passing.{AllPass, Passes, data_at, join_three, join_four, process_at, use_passes}
@@ -34,7 +29,7 @@ module _ (m : Meanings) (ks : List Kind) where
     pub passes : (l : ℕ) → AllPass m ks (s (process_at true l) (names_of scope))
 
   parallel_passes : (l : ℕ) → Passes m ks (Parallel (process_at true l))
-  parallel_passes l = record { fine = record { known = refl; kind = refl; count = refl; inside = refl }; once = refl }
+  parallel_passes l = record { known = refl; once = refl; kind = refl; count = refl; inside = refl }
 
   leaf_layer : (d : Layer m ks) (scope : Scope) (n : ℕ) → networked_of_layer m ks d scope ≡ false
       → net_of_layer m ks d scope n ≡ net.Leaf (proc_of_layer m ks d scope n)
@@ -60,22 +55,22 @@ module _ (m : Meanings) (ks : List Kind) where
     pub composition_is : {scope : Scope} {n k : ℕ} {a : Tree} {w : Net} → IsComposition m ks scope n a w k
         → CompositionIs (tree_says m a) (reading m ks a) scope n w k
     composition_is {scope} {n} (t.network {d = d} {x = x} h is) =
-        let joined : is_network ks _ ≡ true = ap (is_network ks) (means_is m ks scope x (entity.Definition d 0) h) ∙ ap kind_network is in
+        let joined : is_network ks _ ≡ true = ap (is_network ks) (means_is m ks scope x (Entity.Definition d 0) h) ∙ ap kind_network is in
         at_tree m ks (λ _ s r. CompositionIs s r scope n (net.Call d []) n) (Tree-F.Name x) (tree.rolls-Name _) (record {
           value = joined_layer (Tree-F.Name x) scope n joined ∙ ap (λ e. net.Call (definition_number e) []) h.1;
           next = none_next n;
           joined = joined;
-          passes = λ l. (use_passes m ks x _ _ _ (means_is m ks scope x (entity.Definition d 0) h) (definition_passes m ks x d _ (process_at true l) is refl refl), tt);
+          passes = λ l. (use_passes m ks x _ _ _ (means_is m ks scope x (Entity.Definition d 0) h) (definition_passes m ks x d _ (process_at true l) is refl refl), tt);
         })
     composition_is {scope} {n} {k} (t.network_call {d = d} {f = x} {args = args} {es = es} h is g) =
         let w = exprs_are m ks g in
-        let joined : is_network ks _ ≡ true = ap (is_network ks) (means_is m ks scope x (entity.Definition d (length args)) h) ∙ ap kind_network is in
+        let joined : is_network ks _ ≡ true = ap (is_network ks) (means_is m ks scope x (Entity.Definition d (length args)) h) ∙ ap kind_network is in
         at_tree m ks (λ _ s r. CompositionIs s r scope n (net.Call d es) k) (Tree-F.Call x args) (tree.rolls-Call _ _) (record {
           value = joined_layer (tree_parts (reads m ks) (Tree-F.Call x args)) scope n joined ∙ (λ i. net.Call (ap definition_number h.1 i) (w.value i));
           next = w.next;
           joined = joined;
           passes = λ l. (
-            use_passes m ks x _ _ _ (means_is m ks scope x (entity.Definition d (length args)) h)
+            use_passes m ks x _ _ _ (means_is m ks scope x (Entity.Definition d (length args)) h)
                 (call_passes m ks x d (length args) (length (map (tree_says m) args)) _ (process_at true l) is refl refl (length-map args (tree_says m))),
             w.passes false (l + 1),
           );

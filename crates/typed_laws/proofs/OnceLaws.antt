@@ -1,14 +1,7 @@
 -- Names that are declared, bound or annotated once: what passes of their occurrences, both ways.
-use Rattle.std.proofs.Common.{◌≡◌, ℕ, zero, suc, ◌+◌, Bool, true, false, ◌||◌, Some, None, List, [], ◌∷◌, ◌++◌, length, map, refl, sym, ◌∙◌, ap, subst, append_assoc, append-nil}
-use Rattle.std.specs.Prelude.{slice_get}
-use Rattle.csp_base.specs.Standard.{Decides, flat_map}
-use Rattle.csp_base.proofs.Standard.{Decides-eqb, map-append, list_any-append, slice_eq-Decides}
-use Rattle.csp_base.proofs.Booleans.{or_first_false, or_second_false}
-use Rattle.csp_base.specs.Lists.{EachOnce}
-use Rattle.csp_text.specs.declared.script.Decl.TheVariants as decl
-use Rattle.script_names.specs.Prelude.{AreParameters, is_constant, when, Counts, Meanings, Name, channels_from, constants_from, counted, declared_from, is_among, names_declared, none_yet, same_name, AreOnce, with_roles, with_uses, declared_after, parameters_after, MayBind}
-use Rattle.typed_laws.proofs.Sources.{Decl, Entity, Kind}
-use Rattle.typed_laws.proofs.Passing.{AllPass}
+use Rattle.typed_laws.proofs.Sources.{◌≡◌, Notes, ℕ, zero, suc, ◌+◌, Bool, true, false, ◌||◌, Some, None, List, [], ◌∷◌, ◌++◌, length, map, refl, sym, ◌∙◌, ap, subst, append_assoc, append-nil, slice_get, Decides, Decides-eqb, map-append, list_any-append, slice_eq-Decides, or_first_false, or_second_false, EachOnce, AreParameters, is_constant, when, Counts, Meanings, Name, channels_from, constants_from, counted, declared_from, is_among, names_declared, none_yet, same_name, AreOnce, with_roles, with_uses, declared_after, parameters_after, MayBind, Decl, Entity, Kind}
+use Rattle.csp_base.specs.Standard.{flat_map}
+use Rattle.typed_laws.proofs.Passing.{AllPass, Passes}
 use Rattle.typed_laws.proofs.Uses.{when_none}
 use Rattle.typed_laws.proofs.Senses.{no_constant}
 
@@ -43,7 +36,7 @@ fresh_apart before [] h k y g = absurd (cc)
 fresh_apart before (x ∷ xs) h zero y g = let e : x ≡ y = cc in subst (λ z. is_among before z ≡ false) e h.0
 fresh_apart before (x ∷ xs) h (suc k) y g = apart_of before (x ∷ []) y (fresh_apart (before ++ x ∷ []) xs h.1 k y g)
 
-pub fresh_once : (before xs : List Name) → FreshFrom before xs → EachOnce xs
+fresh_once : (before xs : List Name) → FreshFrom before xs → EachOnce xs
 fresh_once before [] h j k z g g' = absurd (cc)
 fresh_once before (x ∷ xs) h zero zero z g g' = refl
 fresh_once before (x ∷ xs) h zero (suc k) z g g' =
@@ -61,7 +54,7 @@ other_name : (x y : Name) (b : Bool) → same_name y x ≡ b → (y ≡ x → �
 other_name x y true is h = absurd (h ((same_decides y x).0 is))
 other_name x y false is h = refl
 
-pub once_fresh : (before xs : List Name) → EachOnce xs → ((k : ℕ) (y : Name) → slice_get xs k ≡ Some y → is_among before y ≡ false) → FreshFrom before xs
+once_fresh : (before xs : List Name) → EachOnce xs → ((k : ℕ) (y : Name) → slice_get xs k ≡ Some y → is_among before y ≡ false) → FreshFrom before xs
 once_fresh before [] h apart = tt
 once_fresh before (x ∷ xs) h apart = (
   apart 0 x refl,
@@ -69,13 +62,13 @@ once_fresh before (x ∷ xs) h apart = (
       (both_false (same_name y x) false (other_name x y (same_name y x) refl (λ e. let s : 0 ≡ suc k = h 0 (suc k) y (ap Some (sym e)) g in cc)) refl)),
 )
 
-pub fresh_two : (before xs ys : List Name) → FreshFrom before (xs ++ ys) → FreshFrom before xs × FreshFrom (before ++ xs) ys
+fresh_two : (before xs ys : List Name) → FreshFrom before (xs ++ ys) → FreshFrom before xs × FreshFrom (before ++ xs) ys
 fresh_two before [] ys h = (tt, subst (λ z. FreshFrom z ys) (sym (append-nil before)) h)
 fresh_two before (x ∷ xs) ys h =
     let w = fresh_two (before ++ x ∷ []) xs ys h.1 in
     ((h.0, w.0), subst (λ z. FreshFrom z ys) (append_assoc before (x ∷ []) xs) w.1)
 
-pub fresh_join : (before xs ys : List Name) → FreshFrom before xs → FreshFrom (before ++ xs) ys → FreshFrom before (xs ++ ys)
+fresh_join : (before xs ys : List Name) → FreshFrom before xs → FreshFrom (before ++ xs) ys → FreshFrom before (xs ++ ys)
 fresh_join before [] ys h g = subst (λ z. FreshFrom z ys) (append-nil before) g
 fresh_join before (x ∷ xs) ys h g = (h.0, fresh_join (before ++ x ∷ []) xs ys h.1 (subst (λ z. FreshFrom z ys) (sym (append_assoc before (x ∷ []) xs)) g))
 
@@ -89,13 +82,13 @@ abbrev pub EachFresh : (Decl → List Name) → List Decl → List Decl → Type
 EachFresh names earlier [] = Unit {0}
 EachFresh names earlier (d ∷ rest) = FreshFrom (flat_map names earlier) (names d) × EachFresh names (earlier ++ d ∷ []) rest
 
-pub all_fresh : (names : Decl → List Name) (earlier rest : List Decl) → EachFresh names earlier rest → FreshFrom (flat_map names earlier) (flat_map names rest)
+all_fresh : (names : Decl → List Name) (earlier rest : List Decl) → EachFresh names earlier rest → FreshFrom (flat_map names earlier) (flat_map names rest)
 all_fresh names earlier [] h = tt
 all_fresh names earlier (d ∷ rest) h =
     fresh_join (flat_map names earlier) (names d) (flat_map names rest) h.0
     (subst (λ z. FreshFrom z (flat_map names rest)) (flat_append names earlier d) (all_fresh names (earlier ++ d ∷ []) rest h.1))
 
-pub each_fresh : (names : Decl → List Name) (earlier rest : List Decl) → FreshFrom (flat_map names earlier) (flat_map names rest) → EachFresh names earlier rest
+each_fresh : (names : Decl → List Name) (earlier rest : List Decl) → FreshFrom (flat_map names earlier) (flat_map names rest) → EachFresh names earlier rest
 each_fresh names earlier [] h = tt
 each_fresh names earlier (d ∷ rest) h =
     let w = fresh_two (flat_map names earlier) (names d) (flat_map names rest) h in
@@ -103,10 +96,10 @@ each_fresh names earlier (d ∷ rest) h =
 
 -- the names that a declaration declares
 abbrev pub names_of_decl : Decl → List Name
-names_of_decl (decl.Channel xs types) = xs
-names_of_decl (decl.Datatype x ks) = x ∷ ks
-names_of_decl (decl.Nametype x t) = x ∷ []
-names_of_decl (decl.Define x params t) = x ∷ []
+names_of_decl (Decl.Channel xs types) = xs
+names_of_decl (Decl.Datatype x ks) = x ∷ ks
+names_of_decl (Decl.Nametype x t) = x ∷ []
+names_of_decl (Decl.Define x params t) = x ∷ []
 names_of_decl _ = []
 
 channel_names : (n fields : ℕ) (xs : List Name) → map (λ e. e.0) (channels_from n fields xs) ≡ xs
@@ -123,35 +116,44 @@ map_two xs ys zs ws h g = map-append (λ (e : Name × Entity). e.0) xs ys ∙ (�
 
 names_from : (n : Counts) (decls : List Decl) → map (λ e. e.0) (declared_from n decls) ≡ flat_map names_of_decl decls
 names_from n [] = refl
-names_from n (decl.Channel xs types ∷ decls) =
-    map_two (channels_from n.channels (length types) xs) (declared_from (counted n (decl.Channel xs types)) decls) xs (flat_map names_of_decl decls)
-    (channel_names n.channels (length types) xs) (names_from (counted n (decl.Channel xs types)) decls)
-names_from n (decl.Datatype x cs ∷ decls) =
-    ap (λ z. x ∷ z) (map_two (constants_from n.constants cs) (declared_from (counted n (decl.Datatype x cs)) decls) cs (flat_map names_of_decl decls)
-    (constant_names n.constants cs) (names_from (counted n (decl.Datatype x cs)) decls))
-names_from n (decl.Nametype x t ∷ decls) = ap (λ z. x ∷ z) (names_from (counted n (decl.Nametype x t)) decls)
-names_from n (decl.Define x params t ∷ decls) = ap (λ z. x ∷ z) (names_from (counted n (decl.Define x params t)) decls)
+names_from n (Decl.Channel xs types ∷ decls) =
+    map_two (channels_from n.channels (length types) xs) (declared_from (counted n (Decl.Channel xs types)) decls) xs (flat_map names_of_decl decls)
+    (channel_names n.channels (length types) xs) (names_from (counted n (Decl.Channel xs types)) decls)
+names_from n (Decl.Datatype x cs ∷ decls) =
+    ap (λ z. x ∷ z) (map_two (constants_from n.constants cs) (declared_from (counted n (Decl.Datatype x cs)) decls) cs (flat_map names_of_decl decls)
+    (constant_names n.constants cs) (names_from (counted n (Decl.Datatype x cs)) decls))
+names_from n (Decl.Nametype x t ∷ decls) = ap (λ z. x ∷ z) (names_from (counted n (Decl.Nametype x t)) decls)
+names_from n (Decl.Define x params t ∷ decls) = ap (λ z. x ∷ z) (names_from (counted n (Decl.Define x params t)) decls)
 names_from n (_ ∷ decls) = names_from n decls
 
 pub names_are : (decls : List Decl) → names_declared decls ≡ flat_map names_of_decl decls
 names_are decls = names_from none_yet decls
 
-pub are_once : (script : List Decl) → EachFresh names_of_decl [] script → EachFresh with_roles [] script → EachFresh with_uses [] script → AreOnce script
-are_once script h g k = record {
-  names = subst (λ z. EachOnce z) (sym (names_are script)) (fresh_once [] (flat_map names_of_decl script) (all_fresh names_of_decl [] script h));
-  roles = fresh_once [] (flat_map with_roles script) (all_fresh with_roles [] script g);
-  resources = fresh_once [] (flat_map with_uses script) (all_fresh with_uses [] script k);
+-- what these declarations declare and annotate stands once, and in none of those before them
+pub record AllFresh (earlier rest : List Decl) : Type 0 where
+  pub names : EachFresh names_of_decl earlier rest
+  pub roles : EachFresh with_roles earlier rest
+  pub uses : EachFresh with_uses earlier rest
+
+pub later_fresh : {earlier rest : List Decl} {d : Decl} → AllFresh earlier (d ∷ rest) → AllFresh (earlier ++ d ∷ []) rest
+later_fresh h = record { names = h.names.1; roles = h.roles.1; uses = h.uses.1 }
+
+pub are_once : (script : List Decl) → AllFresh [] script → AreOnce script
+are_once script h = record {
+  names = subst (λ z. EachOnce z) (sym (names_are script)) (fresh_once [] (flat_map names_of_decl script) (all_fresh names_of_decl [] script h.names));
+  roles = fresh_once [] (flat_map with_roles script) (all_fresh with_roles [] script h.roles);
+  resources = fresh_once [] (flat_map with_uses script) (all_fresh with_uses [] script h.uses);
 }
 
-pub once_names : (script : List Decl) → AreOnce script → EachFresh names_of_decl [] script
-once_names script h =
-    each_fresh names_of_decl [] script (once_fresh [] (flat_map names_of_decl script) (subst (λ z. EachOnce z) (names_are script) h.names) (λ k y g. refl))
-
-pub once_roles : (script : List Decl) → AreOnce script → EachFresh with_roles [] script
-once_roles script h = each_fresh with_roles [] script (once_fresh [] (flat_map with_roles script) h.roles (λ k y g. refl))
-
-pub once_uses : (script : List Decl) → AreOnce script → EachFresh with_uses [] script
-once_uses script h = each_fresh with_uses [] script (once_fresh [] (flat_map with_uses script) h.resources (λ k y g. refl))
+pub once_all : (script : List Decl) → AreOnce script → AllFresh [] script
+once_all script h = record {
+  names = fresh names_of_decl (subst (λ z. EachOnce z) (names_are script) h.names);
+  roles = fresh with_roles h.roles;
+  uses = fresh with_uses h.resources;
+}
+  where
+    fresh : (names : Decl → List Name) → EachOnce (flat_map names script) → EachFresh names [] script
+    fresh names once = each_fresh names [] script (once_fresh [] (flat_map names script) once (λ k y g. refl))
 
 -- ---- what passes
 
@@ -168,12 +170,19 @@ module _ (m : Meanings) (ks : List Kind) where
   declared_fresh before [] h = tt
   declared_fresh before (x ∷ xs) h = (when_none (is_among before x) x h.0.once, declared_fresh (before ++ x ∷ []) xs h.1)
 
-  pub fresh_declared : (before xs : List Name) → FreshFrom before xs → AllPass m ks (declared_after before xs)
+  fresh_declared : (before xs : List Name) → FreshFrom before xs → AllPass m ks (declared_after before xs)
   fresh_declared before [] h = tt
   fresh_declared before (x ∷ xs) h = (
-    record { fine = record { known = refl; kind = refl; count = refl; inside = refl }; once = ap (λ b. when b x) h.0 },
+    record { known = refl; once = ap (λ b. when b x) h.0; kind = refl; count = refl; inside = refl },
     fresh_declared (before ++ x ∷ []) xs h.1,
   )
+
+  -- names that are fresh after declarations, and the process of an annotation that is
+  pub names_said : (earlier : List Decl) (xs : List Name) → FreshFrom (flat_map names_of_decl earlier) xs → AllPass m ks (declared_after (names_declared earlier) xs)
+  names_said earlier xs h = fresh_declared (names_declared earlier) xs (subst (λ z. FreshFrom z xs) (sym (names_are earlier)) h)
+
+  pub note_passes : (x : Name) (b : Bool) → b ≡ false → Passes m ks (Notes x b)
+  note_passes x b h = record { known = refl; once = ap (λ z. when z x) h; kind = refl; count = refl; inside = refl }
 
   parameters_fresh : (before xs : List Name) → AllPass m ks (parameters_after before xs) → FreshFrom before xs
   parameters_fresh before [] h = tt
@@ -194,7 +203,10 @@ module _ (m : Meanings) (ks : List Kind) where
   parameters_from before [] h free = tt
   parameters_from before (x ∷ xs) h free = (
     record {
-      fine = record { known = refl; kind = refl; count = refl; inside = refl };
+      known = refl;
+      kind = refl;
+      count = refl;
+      inside = refl;
       once = λ i. when (h.0 i || no_constant (m x) (free 0 x refl) i) x;
     },
     parameters_from (before ++ x ∷ []) xs h.1 (λ k y g. free (suc k) y g),

@@ -1,21 +1,19 @@
 -- Occurrences of which no fault is told.
-use Rattle.std.proofs.Common.{◌≡◌, ℕ, Bool, false, None, List, [], ◌∷◌, ◌++◌, refl, sym, subst}
-use Rattle.script_names.specs.Prelude.{clashes, repeated_name, Meanings, Name}
-use Rattle.script_names.specs.declared.kinds.Need.TheVariants as need
-use Rattle.typed_laws.proofs.Sources.{Class, Form, Kind, Occurrence, Place, Sense, Use, Uses}
-use Rattle.csp_program.proofs.Forms.{Every}
-use Rattle.typed_laws.proofs.Faultless.{AllFine, IsFine}
+use Rattle.typed_laws.proofs.Sources.{◌≡◌, ℕ, zero, suc, Bool, false, None, Some, List, [], ◌∷◌, ◌++◌, refl, sym, subst, slice_get, clashes, is_inside, is_wrong_kind, repeated_name, unknown_name, wrong_count, Meanings, Name, Class, Form, Kind, Occurrence, Place, Sense, Use, Uses, Every, Need}
 
 abbrev pub data_at : Bool → ℕ → Place
-data_at network level = record { need = need.Data; network = network; level = level }
+data_at network level = record { need = Need.Data; network = network; level = level }
 
 abbrev pub process_at : Bool → ℕ → Place
-process_at network level = record { need = need.Process; network = network; level = level }
+process_at network level = record { need = Need.Process; network = network; level = level }
 
 -- an occurrence of which no fault is told
 pub record Passes (m : Meanings) (ks : List Kind) (o : Occurrence Name) : Type 0 where
-  pub fine : IsFine ks o
+  pub known : unknown_name o ≡ None
   pub once : repeated_name m o ≡ None
+  pub kind : is_wrong_kind ks o ≡ false
+  pub count : wrong_count o ≡ None
+  pub inside : is_inside ks o ≡ false
 
 -- what holds of each element of lists that stand behind one another, together and apart
 module _ {A : Type 0} (P : A → Type 0) where
@@ -33,6 +31,11 @@ module _ {A : Type 0} (P : A → Type 0) where
   two_parts [] ps h = (tt, h)
   two_parts (o ∷ os) ps h = let w = two_parts os ps h.1 in ((h.0, w.0), w.1)
 
+  pub element_at : (os : List A) (k : ℕ) (o : A) → Every P os → slice_get os k ≡ Some o → P o
+  element_at [] k o h g = absurd (cc)
+  element_at (p ∷ os) zero o h g = let is : p ≡ o = cc in subst P is h.0
+  element_at (p ∷ os) (suc k) o h g = element_at os k o h.1 g
+
   pub three_parts : (os ps qs : List A) → Every P (os ++ (ps ++ qs)) → Every P os × Every P ps × Every P qs
   three_parts os ps qs h = let w = two_parts os (ps ++ qs) h in let v = two_parts ps qs w.1 in (w.0, v.0, v.1)
 
@@ -43,12 +46,8 @@ module _ (m : Meanings) (ks : List Kind) where
   abbrev pub AllPass : List (Occurrence Name) → Type 0
   AllPass os = Every (Passes m ks) os
 
-  pub all_fine_of : (os : List (Occurrence Name)) → AllPass os → AllFine ks os
-  all_fine_of [] h = tt
-  all_fine_of (o ∷ os) h = (h.0.fine, all_fine_of os h.1)
-
   pub form_passes : (c : Class) (place : Place) → clashes c place.need ≡ false → Passes m ks (Form c place)
-  form_passes c place h = record { fine = record { known = refl; kind = h; count = refl; inside = refl }; once = refl }
+  form_passes c place h = record { known = refl; once = refl; kind = h; count = refl; inside = refl }
 
   pub use_passes : (x : Name) (s z : Sense) (how : Use) → s ≡ z → Passes m ks (Uses x z how) → Passes m ks (Uses x s how)
   use_passes x s z how is h = subst (λ y. Passes m ks (Uses x y how)) (sym is) h

@@ -1,18 +1,11 @@
 -- A script has a program by the rules of typing exactly where the functions give it.
-use Rattle.std.proofs.Common.{◌≡◌, ℕ, zero, suc, ◌+◌, ◌≤◌, Bool, true, false, nat_le, nat_lt, IsTrue, Option, Some, None, Ok, Err, List, [], ◌∷◌, ◌++◌, length, refl, sym, ◌∙◌, ap, subst, arith}
-use Rattle.std.specs.Prelude.{if◌then◌else◌, slice_get}
-use Rattle.std.specs.List.{flat_map}
-use Rattle.csp_base.specs.Lists.{StandsIn}
-use Rattle.csp_text.specs.declared.script.Decl.TheVariants as decl
-use Rattle.script_names.specs.Prelude.{first_assertion, plain_content, IsShallow, definition_depth, Declares, nothing_yet, depth_within, when, field_sets, AreKinds, script_ends, Meanings, Name, is_among, meanings_of, names_declared, none_yet, AreOnce, with_roles, with_uses, IsProgram, all_events, with_events, with_sets, Answer, and_next, channel_sets, resolved, types_of, with_names, with_root, with_table, bodies_from, declared_after, is_deep, name_fault, types_say, decl_says}
-use Rattle.typed_laws.proofs.Sources.{Atom, Content, Decl, Expr, Kind, MOST_DATA_DEPTH, MOST_EVENTS, Notes, ResolveFault, Script, Tree}
+use Rattle.typed_laws.proofs.Sources.{◌≡◌, ℕ, zero, suc, ◌+◌, ◌≤◌, Bool, true, false, nat_le, nat_lt, IsTrue, Option, Some, None, Ok, Err, List, [], ◌∷◌, ◌++◌, length, refl, sym, ◌∙◌, ap, subst, arith, if◌then◌else◌, slice_get, flat_map, StandsIn, first_assertion, plain_content, IsShallow, definition_depth, Declares, nothing_yet, depth_within, field_sets, AreKinds, script_ends, Meanings, Name, is_among, meanings_of, names_declared, none_yet, AreOnce, with_roles, with_uses, IsProgram, all_events, with_events, with_sets, Answer, and_next, channel_sets, resolved, types_of, with_names, with_root, with_table, bodies_from, declared_after, is_deep, name_fault, types_say, decl_says, Atom, Content, Decl, Expr, Kind, MOST_DATA_DEPTH, MOST_EVENTS, ResolveFault, Script, Tree}
 use Rattle.typed_laws.proofs.Back.{SetsFor, any_sets, declares, sets_for, sets_for_any}
 use Rattle.typed_laws.proofs.Declared.{bodies_are, content_is, depths_agree, sets_are}
 use Rattle.typed_laws.proofs.DeclPasses.{EachPasses, each_passes, no_fault}
 use Rattle.typed_laws.proofs.Forward.{passes_each}
 use Rattle.typed_laws.proofs.Uses.{when_none}
-use Rattle.typed_laws.proofs.OnceLaws.{EachFresh, FreshFrom, are_once, declared_fresh, fresh_declared, names_are, names_of_decl, once_names, once_roles, once_uses}
-use Rattle.typed_laws.proofs.OnceSaid.{EachOnceSaid, once_says}
+use Rattle.typed_laws.proofs.OnceLaws.{AllFresh, FreshFrom, are_once, declared_fresh, names_are, names_of_decl, once_all}
 use Rattle.typed_laws.proofs.Passing.{AllPass, Passes, two_parts}
 use Rattle.typed_laws.proofs.ScriptKinds.{have_kinds, kind_is}
 
@@ -36,28 +29,22 @@ module _ (script : List Decl) (ks : List Kind) where
   fresh_names : (earlier : List Decl) (xs : List Name) → AllPass m ks (declared_after (names_declared earlier) xs) → FreshFrom (flat_map names_of_decl earlier) xs
   fresh_names earlier xs h = subst (λ z. FreshFrom z xs) (names_are earlier) (declared_fresh m ks (names_declared earlier) xs h)
 
-  names_fresh : (earlier : List Decl) (d : Decl) → AllPass m ks (decl_says m ks earlier d) → FreshFrom (flat_map names_of_decl earlier) (names_of_decl d)
-  names_fresh earlier (decl.Channel xs types) h = fresh_names earlier xs (two_parts (Passes m ks) (declared_after (names_declared earlier) xs) (types_say m types) h).0
-  names_fresh earlier (decl.Datatype x cs) h = fresh_names earlier (x ∷ cs) h
-  names_fresh earlier (decl.Nametype x a) h = fresh_names earlier (x ∷ []) (two_parts (Passes m ks) (declared_after (names_declared earlier) (x ∷ [])) _ h).0
-  names_fresh earlier (decl.Define x params a) h = fresh_names earlier (x ∷ []) (two_parts (Passes m ks) (declared_after (names_declared earlier) (x ∷ [])) _ h).0
-  names_fresh earlier _ h = tt
+  decl_fresh : (earlier : List Decl) (d : Decl) → AllPass m ks (decl_says m ks earlier d)
+      → FreshFrom (flat_map names_of_decl earlier) (names_of_decl d) × FreshFrom (flat_map with_roles earlier) (with_roles d) × FreshFrom (flat_map with_uses earlier) (with_uses d)
+  decl_fresh earlier (Decl.Channel xs types) h = (fresh_names earlier xs (two_parts (Passes m ks) (declared_after (names_declared earlier) xs) (types_say m types) h).0, tt, tt)
+  decl_fresh earlier (Decl.Datatype x cs) h = (fresh_names earlier (x ∷ cs) h, tt, tt)
+  decl_fresh earlier (Decl.Nametype x a) h = (fresh_names earlier (x ∷ []) (two_parts (Passes m ks) (declared_after (names_declared earlier) (x ∷ [])) _ h).0, tt, tt)
+  decl_fresh earlier (Decl.Define x params a) h = (fresh_names earlier (x ∷ []) (two_parts (Passes m ks) (declared_after (names_declared earlier) (x ∷ [])) _ h).0, tt, tt)
+  decl_fresh earlier (Decl.Assert a) h = (tt, tt, tt)
+  decl_fresh earlier (Decl.Roles names) h = (tt, (when_none (is_among (flat_map with_roles earlier) names.process) names.process h.0.once, tt), tt)
+  decl_fresh earlier (Decl.Resource names) h = (tt, tt, (when_none (is_among (flat_map with_uses earlier) names.process) names.process h.0.once, tt))
 
-  names_once : (earlier rest : List Decl) → EachPasses script ks earlier rest → EachFresh names_of_decl earlier rest
-  names_once earlier [] h = tt
-  names_once earlier (d ∷ rest) h = (names_fresh earlier d h.0.passes, names_once (earlier ++ d ∷ []) rest h.1)
-
-  roles_once : (earlier rest : List Decl) → EachPasses script ks earlier rest → EachFresh with_roles earlier rest
-  roles_once earlier [] h = tt
-  roles_once earlier (decl.Roles names ∷ rest) h =
-      ((when_none (is_among (flat_map with_roles earlier) names.process) names.process h.0.passes.0.once, tt), roles_once (earlier ++ decl.Roles names ∷ []) rest h.1)
-  roles_once earlier (d ∷ rest) h = (tt, roles_once (earlier ++ d ∷ []) rest h.1)
-
-  uses_once : (earlier rest : List Decl) → EachPasses script ks earlier rest → EachFresh with_uses earlier rest
-  uses_once earlier [] h = tt
-  uses_once earlier (decl.Resource names ∷ rest) h =
-      ((when_none (is_among (flat_map with_uses earlier) names.process) names.process h.0.passes.0.once, tt), uses_once (earlier ++ decl.Resource names ∷ []) rest h.1)
-  uses_once earlier (d ∷ rest) h = (tt, uses_once (earlier ++ d ∷ []) rest h.1)
+  each_fresh : (earlier rest : List Decl) → EachPasses script ks earlier rest → AllFresh earlier rest
+  each_fresh earlier [] h = record { names = tt; roles = tt; uses = tt }
+  each_fresh earlier (d ∷ rest) h =
+      let w = decl_fresh earlier d h.0.passes in
+      let v = each_fresh (earlier ++ d ∷ []) rest h.1 in
+      record { names = (w.0, v.names); roles = (w.1, v.roles); uses = (w.2, v.uses) }
 
   abbrev plain : Content
   plain = plain_content script ks
@@ -67,7 +54,7 @@ module _ (script : List Decl) (ks : List Kind) where
     passes = each_passes script ks [] script none
 
     pub once : AreOnce script
-    once = are_once script (names_once [] script passes) (roles_once [] script passes) (uses_once [] script passes)
+    once = are_once script (each_fresh [] script passes)
 
     -- what is put in where no definition is too deep, because none is there
     pub first : Declares m ks nothing_yet (λ types sets. Unit {0}) none_yet script plain (any_sets script)
@@ -89,9 +76,9 @@ module _ (script : List Decl) (ks : List Kind) where
 
 -- ---- the answer
 
-asserted : (decls : List Decl) (a : Tree) → first_assertion decls ≡ Some a → StandsIn decls (decl.Assert a)
+asserted : (decls : List Decl) (a : Tree) → first_assertion decls ≡ Some a → StandsIn decls (Decl.Assert a)
 asserted [] a h = absurd (cc)
-asserted (decl.Assert b ∷ decls) a h = let e : b ≡ a = cc in (0, ap (λ z. Some (decl.Assert z)) e)
+asserted (Decl.Assert b ∷ decls) a h = let e : b ≡ a = cc in (0, ap (λ z. Some (Decl.Assert z)) e)
 asserted (_ ∷ decls) a h = let w = asserted decls a h in (suc w.0, w.1)
 
 -- the parts of an answer that is a program
@@ -146,9 +133,9 @@ faultless_is_program script ks p are h =
 
 -- ---- back
 
-some_asserted : (decls : List Decl) (k : ℕ) (a : Tree) → slice_get decls k ≡ Some (decl.Assert a) → (b : Tree) × (first_assertion decls ≡ Some b)
+some_asserted : (decls : List Decl) (k : ℕ) (a : Tree) → slice_get decls k ≡ Some (Decl.Assert a) → (b : Tree) × (first_assertion decls ≡ Some b)
 some_asserted [] k a h = absurd (cc)
-some_asserted (decl.Assert b ∷ decls) k a h = (b, refl)
+some_asserted (Decl.Assert b ∷ decls) k a h = (b, refl)
 some_asserted (_ ∷ decls) zero a h = absurd (cc)
 some_asserted (_ ∷ decls) (suc k) a h = some_asserted decls k a h
 
@@ -161,35 +148,12 @@ few_events limit n h = grind arith
 not_deep : (limit a b : ℕ) → a ≡ b → b ≤ limit → nat_lt limit a ≡ false
 not_deep limit a b e h = grind arith
 
-module _ (m : Meanings) (ks : List Kind) where
-  note_passes : (x : Name) (b : Bool) → b ≡ false → Passes m ks (Notes x b)
-  note_passes x b h = record { fine = record { known = refl; kind = refl; count = refl; inside = refl }; once = ap (λ z. when z x) h }
-
-  names_said : (earlier : List Decl) (xs : List Name) → FreshFrom (flat_map names_of_decl earlier) xs → AllPass m ks (declared_after (names_declared earlier) xs)
-  names_said earlier xs h = fresh_declared m ks (names_declared earlier) xs (subst (λ z. FreshFrom z xs) (sym (names_are earlier)) h)
-
-  said_once : (earlier : List Decl) (d : Decl) → FreshFrom (flat_map names_of_decl earlier) (names_of_decl d)
-      → FreshFrom (flat_map with_roles earlier) (with_roles d) → FreshFrom (flat_map with_uses earlier) (with_uses d) → AllPass m ks (once_says earlier d)
-  said_once earlier (decl.Channel xs types) h g k = names_said earlier xs h
-  said_once earlier (decl.Datatype x cs) h g k = names_said earlier (x ∷ cs) h
-  said_once earlier (decl.Nametype x a) h g k = names_said earlier (x ∷ []) h
-  said_once earlier (decl.Define x params a) h g k = names_said earlier (x ∷ []) h
-  said_once earlier (decl.Assert a) h g k = tt
-  said_once earlier (decl.Roles names) h g k = (note_passes names.process _ g.0, tt)
-  said_once earlier (decl.Resource names) h g k = (note_passes names.process _ k.0, tt)
-
-  each_said : (earlier rest : List Decl) → EachFresh names_of_decl earlier rest → EachFresh with_roles earlier rest → EachFresh with_uses earlier rest
-      → EachOnceSaid m ks earlier rest
-  each_said earlier [] h g k = tt
-  each_said earlier (d ∷ rest) h g k = (said_once earlier d h.0 g.0 k.0, each_said (earlier ++ d ∷ []) rest h.1 g.1 k.1)
-
 module _ (script : Script) (p : Content) (h : IsProgram script p) where
   abbrev decls : List Decl
   decls = script.decls
 
   faultless : name_fault decls h.kinds ≡ None
-  faultless = no_fault decls h.kinds [] decls (passes_each decls h.kinds h.declared [] refl
-      (each_said (meanings_of decls) h.kinds [] decls (once_names decls h.once) (once_roles decls h.once) (once_uses decls h.once))
+  faultless = no_fault decls h.kinds [] decls (passes_each decls h.kinds h.declared [] refl (once_all decls h.once)
       (λ i low. not_deep MOST_DATA_DEPTH (depth_within (MOST_DATA_DEPTH + 1) (bodies_from (meanings_of decls) h.kinds 0 decls) i)
       (definition_depth (MOST_DATA_DEPTH + 1) h.plain.defs i)
       (depths_agree (bodies_from (meanings_of decls) h.kinds 0 decls) h.plain.defs (bodies_are (meanings_of decls) h.kinds h.declared) (MOST_DATA_DEPTH + 1) i) low))

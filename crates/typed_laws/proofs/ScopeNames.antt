@@ -1,10 +1,6 @@
 -- The names of scopes: what a binder says that it binds is what it adds to the scope.
-use Rattle.std.proofs.Common.{◌≡◌, ℕ, ◌+◌, Bool, true, false, ◌||◌, Option, Some, None, List, [], ◌∷◌, ◌++◌, map, refl, sym, ◌∙◌, ap, append-nil}
-use Rattle.std.specs.Prelude.{if◌then◌else◌}
-use Rattle.script_names.specs.Prelude.{Name, Meanings, is_among, same_name, sense_in, sense_of, Binder, Binding, Scope, names_of, number_of, or_else, under, with}
-use Rattle.script_names.specs.declared.kinds.Sense.TheVariants as sense
+use Rattle.typed_laws.proofs.Sources.{◌≡◌, ℕ, ◌+◌, Bool, true, false, ◌||◌, Option, Some, None, List, [], ◌∷◌, ◌++◌, map, refl, sym, ◌∙◌, ap, append-nil, if◌then◌else◌, Name, Meanings, is_among, same_name, sense_in, sense_of, Binder, Binding, Scope, names_of, number_of, or_else, under, with, FieldTree, FieldTree-F, GenTree, GenTree-F, Kind, Sense, out-FieldTree, out-GenTree, roll-out-FieldTree, roll-out-GenTree}
 use Rattle.script_names.specs.Says as says
-use Rattle.typed_laws.proofs.Sources.{FieldTree, FieldTree-F, GenTree, GenTree-F, Kind, Sense, out-FieldTree, out-GenTree, roll-out-FieldTree, roll-out-GenTree}
 use Rattle.typed_laws.proofs.Trees.{FieldLayer, GenLayer, at_field, at_gen, field_layer, gen_layer, of_field, of_gen, reads, saying}
 
 pub names_with : (scope : Scope) (x : Name) (n : ℕ) → names_of (with scope x n) ≡ names_of scope ++ x ∷ []
@@ -40,7 +36,7 @@ module _ (m : Meanings) (ks : List Kind) where
 
 -- a name is bound, with its number, or it is what it is declared as
 pub data NameIs (m : Meanings) (x : Name) : Option ℕ → Sense → Type 0 where
-  is_bound : (k : ℕ) → NameIs m x (Some k) sense.Bound
+  is_bound : (k : ℕ) → NameIs m x (Some k) Sense.Bound
   is_free : NameIs m x None (sense_of (m x))
 
 pub data SameBound : Option ℕ → Bool → Type 0 where
@@ -61,7 +57,7 @@ same_bound : (scope : Scope) (x : Name) → SameBound (number_of scope x) (is_am
 same_bound [] x = unbound
 same_bound (b ∷ scope) x = or_else_bound (same_bound scope x) (if_bound (same_name x b.0) b.1)
 
-name_of_bound : (m : Meanings) (x : Name) {o : Option ℕ} {b : Bool} → SameBound o b → NameIs m x o (if b then sense.Bound else sense_of (m x))
+name_of_bound : (m : Meanings) (x : Name) {o : Option ℕ} {b : Bool} → SameBound o b → NameIs m x o (if b then Sense.Bound else sense_of (m x))
 name_of_bound m x (bound k) = is_bound k
 name_of_bound m x unbound = is_free
 

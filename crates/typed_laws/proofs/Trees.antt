@@ -1,8 +1,6 @@
 -- What trees say and what they are read as are folds over the five kinds of trees: `of_..` is a fold on a kind, `.._layer` what it gives for one layer
 -- above trees, and `.._is` says that both agree.
-use Rattle.std.proofs.Common.{◌≡◌, List, map, sym, subst}
-use Rattle.script_names.specs.Prelude.{ends_of_layer, Meanings, Name, Binder, Fields, Said, event_says_of_layer, field_says_of_layer, gen_says_of_layer, part_says_of_layer, tree_says, tree_says_of_layer, Binding, Front, Reading, event_of_layer, field_of_layer, gen_of_layer, part_of_layer, reading, reading_of_layer, event_tree, part_tree}
-use Rattle.typed_laws.proofs.Sources.{End, EventTree, EventTree-F, Field, FieldTree, FieldTree-F, Gen, GenTree, GenTree-F, Kind, PartTree, PartTree-F, Tree, Tree-F, fold-EventTree, fold-FieldTree, fold-GenTree, fold-PartTree, fold-Tree, fold-roll-EventTree, fold-roll-FieldTree, fold-roll-GenTree, fold-roll-PartTree, fold-roll-Tree, map-FieldTree, map-GenTree, map-Tree, roll-FieldTree, roll-GenTree, roll-Tree}
+use Rattle.typed_laws.proofs.Sources.{◌≡◌, List, map, sym, subst, ends_of_layer, Meanings, Name, Binder, Fields, Said, event_says_of_layer, field_says_of_layer, gen_says_of_layer, part_says_of_layer, tree_says, tree_says_of_layer, Binding, Front, Reading, event_of_layer, field_of_layer, gen_of_layer, part_of_layer, reading, reading_of_layer, event_tree, part_tree, End, EventTree, EventTree-F, Field, FieldTree, FieldTree-F, Gen, GenTree, GenTree-F, Kind, PartTree, PartTree-F, Tree, Tree-F, fold-EventTree, fold-FieldTree, fold-GenTree, fold-PartTree, fold-Tree, fold-roll-EventTree, fold-roll-FieldTree, fold-roll-GenTree, fold-roll-PartTree, fold-roll-Tree, map-FieldTree, map-GenTree, map-Tree, roll-FieldTree, roll-GenTree, roll-Tree}
 
 -- what a fold gives for each layer
 pub record Fold (F G T E P : Type 0) : Type 0 where

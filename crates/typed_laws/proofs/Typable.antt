@@ -1,22 +1,14 @@
 -- A tree that passes is an expression, a process or a network by the rules of typing: the one that it is read as. By induction over trees: `Typable`
 -- says this of a tree, `Enters` of a field or a generator in front of typed ones, and `FrontTyped` of the front of an event.
-use Rattle.std.proofs.Common.{◌≡◌, ℕ, ◌+◌, ◌-◌, ◌≤◌, Bool, true, false, not, ◌&&◌, ◌||◌, Option, Some, None, List, [], ◌∷◌, ◌++◌, length, map, refl, sym, ◌∙◌, ap, subst, arith}
-use Rattle.std.specs.Prelude.{if◌then◌else◌}
+use Rattle.typed_laws.proofs.Sources.{◌≡◌, ℕ, ◌+◌, ◌-◌, ◌≤◌, Bool, true, false, not, ◌&&◌, ◌||◌, Option, Some, None, List, [], ◌∷◌, ◌++◌, length, map, refl, sym, ◌∙◌, ap, subst, arith, if◌then◌else◌, Every, Meanings, Name, clashes, sense_in, Binder, Fields, Said, all_say, in_turn, pair_says, part_says, Scope, names_of, number_of, with, Binding, Front, Reading, all_bind, bindings, bindings_bind, binds_of_layer, channel_number, exprs, head_of, network_of_layer, pairs, pairs_bind, part, parts, parts_bind, proc_of_layer, procs, reading, tree_says, tree_says_of_layer, under, AreExprs, AreFields, AreFronts, AreGens, ArePairs, AreProcs, IsComposition, IsExpr, IsFront, IsNet, IsProc, event_tree, part_tree, EventTree, Expr, Field, FieldTree, FieldTree-F, GenTree, GenTree-F, Kind, Net, PartTree, Place, Proc, Sense, Tree, Tree-F, Uses, ind-Tree, map-FieldTree, map-GenTree, map-Tree, roll-EventTree, roll-FieldTree, roll-GenTree, roll-PartTree, roll-Tree, Class, Entity, Use}
 use Rattle.csp_base.proofs.Standard.{length-map}
 use Rattle.csp_text.specs.declared.tree.FieldTree.TheVariants as text
 use Rattle.csp_text.specs.declared.tree.GenTree.TheVariants as generator
 use Rattle.csp_text.specs.declared.tree.Tree.TheVariants as tree
 use Rattle.csp_program.specs.declared.networks.Net.TheVariants as net
 use Rattle.csp_program.specs.declared.processes.Proc.TheVariants as proc
-use Rattle.csp_program.proofs.Forms.{Every}
-use Rattle.script_names.specs.Prelude.{Meanings, Name, clashes, sense_in, Binder, Fields, Said, all_say, in_turn, pair_says, part_says, Scope, names_of, number_of, with, Binding, Front, Reading, all_bind, bindings, bindings_bind, binds_of_layer, channel_number, exprs, head_of, network_of_layer, pairs, pairs_bind, part, parts, parts_bind, proc_of_layer, procs, reading, tree_says, tree_says_of_layer, under, AreExprs, AreFields, AreFronts, AreGens, ArePairs, AreProcs, IsComposition, IsExpr, IsFront, IsNet, IsProc, event_tree, part_tree}
-use Rattle.script_names.specs.declared.kinds.Class.TheVariants as class
-use Rattle.script_names.specs.declared.kinds.Entity.TheVariants as entity
-use Rattle.script_names.specs.declared.kinds.Sense.TheVariants as sense
-use Rattle.script_names.specs.declared.kinds.Use.TheVariants as how
 use Rattle.script_names.specs.Says as says
 use Rattle.script_names.specs.Typing as t
-use Rattle.typed_laws.proofs.Sources.{EventTree, Expr, Field, FieldTree, FieldTree-F, GenTree, GenTree-F, Kind, Net, PartTree, Place, Proc, Sense, Tree, Tree-F, Uses, ind-Tree, map-FieldTree, map-GenTree, map-Tree, roll-EventTree, roll-FieldTree, roll-GenTree, roll-PartTree, roll-Tree}
 use Rattle.typed_laws.proofs.Passing.{AllPass, Passes, data_at, four_parts, three_parts, two_parts, process_at}
 use Rattle.typed_laws.proofs.ScopeNames.{AddsNames, NameIs, add_names, field_names, gen_names, is_bound, is_free, name_is, names_with}
 use Rattle.typed_laws.proofs.Trees.{TreeLayer, at_event, at_part, field_rolled, gen_rolled, of_field, of_gen, of_part, reads, saying, tree_layer, tree_parts, tree_rolled}
@@ -88,7 +80,7 @@ module _ (m : Meanings) (ks : List Kind) (kinds : HaveKinds m ks) where
   pub record FrontTyped (a : PartTree) (s : Fields Said) (r : Front Reading) (scope : Scope) (n : ℕ) : Type 0 where
     pub channel : ℕ
     pub fields : ℕ
-    pub sense_is : sense_in m (names_of scope) s.name ≡ sense.Declared (entity.Channel channel fields)
+    pub sense_is : sense_in m (names_of scope) s.name ≡ Sense.Declared (Entity.Channel channel fields)
     pub is : IsFront m ks scope n a (part m ks r scope n) (fields - length s.fields) (n + all_bind r.fields)
 
   abbrev PartTyped : PartTree → Type 0
@@ -201,7 +193,7 @@ module _ (m : Meanings) (ks : List Kind) (kinds : HaveKinds m ks) where
       subst (ArePairs m ks scope n _ _) (three_ends n _ _ _)
       (t.more_pairs
       (subst (λ left. IsFront m ks scope n e.0.0 (part m ks (of_part (reads m ks) e.0.0) scope n) left (n + all_bind (of_part (reads m ks) e.0.0).fields))
-      (same_left m ks s.name _ _ one.channel one.fields other.channel other.fields (length s.fields) (length s'.fields) one.sense_is other.sense_is w.0.0.fine)
+      (same_left m ks s.name _ _ one.channel one.fields other.channel other.fields (length s.fields) (length s'.fields) one.sense_is other.sense_is w.0.0)
       one.is) other.is (pairs_typed es scope _ place w.1))
 
   -- ---- forms
@@ -230,14 +222,14 @@ module _ (m : Meanings) (ks : List Kind) (kinds : HaveKinds m ks) where
       leaf = λ scope n none. ap (joined scope n) none;
     })
 
-    data_form : ((place : Place) (names : List Name) → AllPass m ks (s place names) → clashes class.Data place.need ≡ false)
+    data_form : ((place : Place) (names : List Name) → AllPass m ks (s place names) → clashes Class.Data place.need ≡ false)
         → ((scope : Scope) (n : ℕ) (b : Bool) (l : ℕ) → AllPass m ks (s (data_at b l) (names_of scope)) → IsExpr m ks scope n a (r.expr scope n) (n + r.binds))
         → TreeTyped (roll-Tree d)
     data_form fits e =
         form e (λ scope n b l free pass. absurd (let g : true ≡ false = fits (process_at b l) (names_of scope) pass in cc))
         (λ scope n l some pass. absurd (let g : true ≡ false = fits (process_at true l) (names_of scope) pass in cc))
 
-    process_form : ((place : Place) (names : List Name) → AllPass m ks (s place names) → clashes class.Process place.need ≡ false)
+    process_form : ((place : Place) (names : List Name) → AllPass m ks (s place names) → clashes Class.Process place.need ≡ false)
         → ((scope : Scope) → r.networked scope ≡ false)
         → ((scope : Scope) (n : ℕ) (b : Bool) (l : ℕ) → AllPass m ks (s (process_at b l) (names_of scope)) → IsProc m ks scope n a (r.proc scope n) (n + r.binds))
         → TreeTyped (roll-Tree d)
@@ -245,7 +237,7 @@ module _ (m : Meanings) (ks : List Kind) (kinds : HaveKinds m ks) where
         form (λ scope n b l pass. absurd (let g : true ≡ false = fits (data_at b l) (names_of scope) pass in cc)) (λ scope n b l free pass. p scope n b l pass)
         (λ scope n l some pass. absurd (let g = single scope in cc))
 
-    network_form : ((place : Place) (names : List Name) → AllPass m ks (s place names) → (clashes class.Process place.need ≡ false) × (not place.network ≡ false))
+    network_form : ((place : Place) (names : List Name) → AllPass m ks (s place names) → (clashes Class.Process place.need ≡ false) × (not place.network ≡ false))
         → ((scope : Scope) → r.networked scope ≡ true)
         → ((scope : Scope) (n l : ℕ) → AllPass m ks (s (process_at true l) (names_of scope)) → IsComposition m ks scope n a (joined scope n true) (n + r.binds))
         → TreeTyped (roll-Tree d)
@@ -256,17 +248,17 @@ module _ (m : Meanings) (ks : List Kind) (kinds : HaveKinds m ks) where
 
   -- a prefix with its head
   prefix_typed : (x : Name) (ts : List FieldTree) (scope : Scope) (n : ℕ) {o : Option ℕ} {s : Sense} → NameIs m x o s → number_of scope x ≡ o
-      → Passes m ks (Uses x s (how.Heads (length (map (of_field (saying m ks)) ts)))) → {fs : List Field} {inner : Scope} {i k : ℕ} {p : Tree} {q : Proc}
+      → Passes m ks (Uses x s (Use.Heads (length (map (of_field (saying m ks)) ts)))) → {fs : List Field} {inner : Scope} {i k : ℕ} {p : Tree} {q : Proc}
       → AreFields m ks scope n ts fs inner i → IsProc m ks inner i p q k
       → IsProc m ks scope n (tree.Prefix (event_tree x ts) p) (proc.Prefix (head_of o (m x)) fs q) k
   prefix_typed x [] scope n (is_bound b) is pass t.no_fields h = t.bound_prefix is h
-  prefix_typed x (a ∷ ts) scope n (is_bound b) is pass _ h = absurd (let g = pass.fine.kind in cc)
+  prefix_typed x (a ∷ ts) scope n (is_bound b) is pass _ h = absurd (let g = pass.kind in cc)
   prefix_typed x ts scope n is_free is pass typed h =
-      let u = head_entity m ks x (m x) _ pass.fine in
-      t.prefix (is, u.is ∙ ap (λ z. Some (entity.Channel (channel_number (m x)) z)) (u.count ∙ length-map ts (of_field (saying m ks)))) typed h
+      let u = head_entity m ks x (m x) _ pass in
+      t.prefix (is, u.is ∙ ap (λ z. Some (Entity.Channel (channel_number (m x)) z)) (u.count ∙ length-map ts (of_field (saying m ks)))) typed h
 
   prefix_form : (x : Name) (ts : List FieldTree) → Every FieldTyped ts → (a : Tree) → TreeTyped a → TreeTyped (roll-Tree (Tree-F.Prefix (event_tree x ts) a))
-  prefix_form x ts h a p = process_form (Tree-F.Prefix (event_tree x ts) a) (tree.rolls-Prefix _ _) (λ place names p. p.0.fine.kind) (λ scope. refl) (λ scope n b l.
+  prefix_form x ts h a p = process_form (Tree-F.Prefix (event_tree x ts) a) (tree.rolls-Prefix _ _) (λ place names p. p.0.kind) (λ scope. refl) (λ scope n b l.
       at_event m ks (λ s r. AllPass m ks (tree_says_of_layer m (Tree-F.Prefix s (tree_says m a)) (process_at b l) (names_of scope))
       → IsProc m ks scope n (tree.Prefix (event_tree x ts) a) (proc_of_layer m ks (Tree-F.Prefix r (reading m ks a)) scope n)
       (n + binds_of_layer m ks (Tree-F.Prefix r (reading m ks a)))) x ts (λ pass.
@@ -276,8 +268,8 @@ module _ (m : Meanings) (ks : List Kind) (kinds : HaveKinds m ks) where
       subst (IsProc m ks scope n _ _) (two_ends n _ _)
       (prefix_typed x ts scope n (name_is m scope x) refl pass.1.0 (fields_typed ts h scope n (process_at b l) w.0) (p.proc inner _ false (l + 1) refl body))))
 
-  counted : (x : Name) {d : ℕ} (ts : List Tree) → m x ≡ Some (entity.Definition d (length (map (tree_says m) ts))) → m x ≡ Some (entity.Definition d (length ts))
-  counted x {d} ts is = is ∙ ap (λ z. Some (entity.Definition d z)) (length-map ts (tree_says m))
+  counted : (x : Name) {d : ℕ} (ts : List Tree) → m x ≡ Some (Entity.Definition d (length (map (tree_says m) ts))) → m x ≡ Some (Entity.Definition d (length ts))
+  counted x {d} ts is = is ∙ ap (λ z. Some (Entity.Definition d z)) (length-map ts (tree_says m))
 
   abbrev bares : {A : Type 0} {P : A → Type 0} → List (Known P) → List A
   bares es = map (λ e. e.0) es
@@ -285,39 +277,39 @@ module _ (m : Meanings) (ks : List Kind) (kinds : HaveKinds m ks) where
   tree_typed : (y : Tree-F (Known FieldTyped) (Known GenTyped) (Known TreeTyped) (Known EventTyped) (Known PartTyped)) → TreeTyped
       (roll-Tree (map-Tree (Known FieldTyped) (Known GenTyped) (Known TreeTyped) (Known EventTyped) (Known PartTyped) FieldTree GenTree Tree EventTree PartTree
       (λ e. e.0) (λ e. e.0) (λ e. e.0) (λ e. e.0) (λ e. e.0) y))
-  tree_typed (Tree-F.Num k) = data_form (Tree-F.Num k) (tree.rolls-Num _) (λ place names p. p.0.fine.kind) (λ scope n b l pass.
+  tree_typed (Tree-F.Num k) = data_form (Tree-F.Num k) (tree.rolls-Num _) (λ place names p. p.0.kind) (λ scope n b l pass.
       subst (IsExpr m ks scope n _ _) (no_end n) t.number)
-  tree_typed Tree-F.True = data_form Tree-F.True tree.rolls-True (λ place names p. p.0.fine.kind) (λ scope n b l pass.
+  tree_typed Tree-F.True = data_form Tree-F.True tree.rolls-True (λ place names p. p.0.kind) (λ scope n b l pass.
       subst (IsExpr m ks scope n _ _) (no_end n) t.truth)
-  tree_typed Tree-F.False = data_form Tree-F.False tree.rolls-False (λ place names p. p.0.fine.kind) (λ scope n b l pass.
+  tree_typed Tree-F.False = data_form Tree-F.False tree.rolls-False (λ place names p. p.0.kind) (λ scope n b l pass.
       subst (IsExpr m ks scope n _ _) (no_end n) t.falsehood)
   tree_typed (Tree-F.Name x) = form (Tree-F.Name x) (tree.rolls-Name _)
-      (λ scope n b l pass. subst (IsExpr m ks scope n _ _) (no_end n) (name_expr m ks kinds scope n x (name_is m scope x) b l refl pass.0.fine))
+      (λ scope n b l pass. subst (IsExpr m ks scope n _ _) (no_end n) (name_expr m ks kinds scope n x (name_is m scope x) b l refl pass.0))
       (λ scope n b l free pass.
-      let u = alone m ks (name_is m scope x) b l pass.0.fine in
+      let u = alone m ks (name_is m scope x) b l pass.0 in
       subst (IsProc m ks scope n _ _) (no_end n) (t.process (u.free, u.is) (process_of m ks b u free (kinds.at x _ 0 u.is))))
       (λ scope n l some pass.
-      let u = alone m ks (name_is m scope x) true l pass.0.fine in
+      let u = alone m ks (name_is m scope x) true l pass.0 in
       subst (IsComposition m ks scope n _ _) (no_end n) (t.network (u.free, u.is) (network_of m ks u some (kinds.at x _ 0 u.is))))
   tree_typed (Tree-F.Call x items) = form (Tree-F.Call x (bares items)) (tree.rolls-Call _ _)
       (λ scope n b l pass.
-      let u = called m ks (name_is m scope x) _ (data_at b l) pass.0.fine in
+      let u = called m ks (name_is m scope x) _ (data_at b l) pass.0 in
       t.call (u.free, counted x (bares items) u.is) (data_of m ks u (kinds.at x _ _ u.is)) (exprs_typed _ (known items) scope n false (l + 1) pass.1))
       (λ scope n b l free pass.
-      let u = called m ks (name_is m scope x) _ (process_at b l) pass.0.fine in
+      let u = called m ks (name_is m scope x) _ (process_at b l) pass.0 in
       t.process_call (u.free, counted x (bares items) u.is) (process_of m ks b u free (kinds.at x _ _ u.is)) (exprs_typed _ (known items) scope n false (l + 1) pass.1))
       (λ scope n l some pass.
-      let u = called m ks (name_is m scope x) _ (process_at true l) pass.0.fine in
+      let u = called m ks (name_is m scope x) _ (process_at true l) pass.0 in
       t.network_call (u.free, counted x (bares items) u.is) (network_of m ks u some (kinds.at x _ _ u.is)) (exprs_typed _ (known items) scope n false (l + 1) pass.1))
-  tree_typed (Tree-F.«Tree::Dot» c items) = data_form (Tree-F.«Tree::Dot» c (bares items)) (tree.rolls-Dot _ _) (λ place names p. p.0.fine.kind) (λ scope n b l pass.
-      let u = dotted_use m ks (name_is m scope c) _ pass.1.0.fine in
-      t.dotted (u.free, u.is ∙ ap (λ z. Some (entity.Channel (channel_number (m c)) z)) (u.count ∙ length-map (bares items) (tree_says m)))
+  tree_typed (Tree-F.«Tree::Dot» c items) = data_form (Tree-F.«Tree::Dot» c (bares items)) (tree.rolls-Dot _ _) (λ place names p. p.0.kind) (λ scope n b l pass.
+      let u = dotted_use m ks (name_is m scope c) _ pass.1.0 in
+      t.dotted (u.free, u.is ∙ ap (λ z. Some (Entity.Channel (channel_number (m c)) z)) (u.count ∙ length-map (bares items) (tree_says m)))
       (exprs_typed _ (known items) scope n false (l + 1) pass.1.1))
-  tree_typed (Tree-F.Neg a) = data_form (Tree-F.Neg a.0) (tree.rolls-Neg _) (λ place names p. p.0.fine.kind) (λ scope n b l pass.
+  tree_typed (Tree-F.Neg a) = data_form (Tree-F.Neg a.0) (tree.rolls-Neg _) (λ place names p. p.0.kind) (λ scope n b l pass.
       t.negative (a.1.expr scope n false (l + 1) pass.1))
-  tree_typed (Tree-F.Not a) = data_form (Tree-F.Not a.0) (tree.rolls-Not _) (λ place names p. p.0.fine.kind) (λ scope n b l pass.
+  tree_typed (Tree-F.Not a) = data_form (Tree-F.Not a.0) (tree.rolls-Not _) (λ place names p. p.0.kind) (λ scope n b l pass.
       t.negation (a.1.expr scope n false (l + 1) pass.1))
-  tree_typed (Tree-F.Binary op a c) = data_form (Tree-F.Binary op a.0 c.0) (tree.rolls-Binary _ _ _) (λ place names p. p.0.fine.kind) (λ scope n b l pass.
+  tree_typed (Tree-F.Binary op a c) = data_form (Tree-F.Binary op a.0 c.0) (tree.rolls-Binary _ _ _) (λ place names p. p.0.kind) (λ scope n b l pass.
       let w = two_parts (Passes m ks) _ _ pass.1 in
       subst (IsExpr m ks scope n _ _) (two_ends n _ _) (t.binary (a.1.expr scope n false (l + 1) w.0) (c.1.expr scope _ false (l + 1) w.1)))
   tree_typed (Tree-F.If c p q) = form (Tree-F.If c.0 p.0 q.0) (tree.rolls-If _ _ _)
@@ -334,66 +326,66 @@ module _ (m : Meanings) (ks : List Kind) (kinds : HaveKinds m ks) where
       let w = three_parts (Passes m ks) _ _ _ pass in
       subst (IsComposition m ks scope n _ _) (three_ends n _ _ _)
       (if_typed p.1 q.1 scope n _ (l + 1) _ refl some (c.1.expr scope n false (l + 1) w.0) w.1 w.2))
-  tree_typed (Tree-F.Display items) = data_form (Tree-F.Display (bares items)) (tree.rolls-Display _) (λ place names p. p.0.fine.kind) (λ scope n b l pass.
+  tree_typed (Tree-F.Display items) = data_form (Tree-F.Display (bares items)) (tree.rolls-Display _) (λ place names p. p.0.kind) (λ scope n b l pass.
       t.display (exprs_typed _ (known items) scope n false (l + 1) pass.1))
-  tree_typed (Tree-F.Range a c) = data_form (Tree-F.Range a.0 c.0) (tree.rolls-Range _ _) (λ place names p. p.0.fine.kind) (λ scope n b l pass.
+  tree_typed (Tree-F.Range a c) = data_form (Tree-F.Range a.0 c.0) (tree.rolls-Range _ _) (λ place names p. p.0.kind) (λ scope n b l pass.
       let w = two_parts (Passes m ks) _ _ pass.1 in
       subst (IsExpr m ks scope n _ _) (two_ends n _ _) (t.range (a.1.expr scope n false (l + 1) w.0) (c.1.expr scope _ false (l + 1) w.1)))
-  tree_typed (Tree-F.Comp items gens) = data_form (Tree-F.Comp (bares items) (bares gens)) (tree.rolls-Comp _ _) (λ place names p. p.0.fine.kind) (λ scope n b l pass.
+  tree_typed (Tree-F.Comp items gens) = data_form (Tree-F.Comp (bares items) (bares gens)) (tree.rolls-Comp _ _) (λ place names p. p.0.kind) (λ scope n b l pass.
       let w = two_parts (Passes m ks) _ _ pass.1 in
       let k = n + all_bind (map (reading m ks) (bares items)) in
       subst (IsExpr m ks scope n _ _) (two_ends n _ _) (t.comprehension
       (exprs_typed (bares items) (known items) (under (map (of_gen (reads m ks)) (bares gens)) scope k) n false (l + 1)
       (under_gens (all_say (map (tree_says m) (bares items))) (data_at false (l + 1)) (bares gens) scope k w.0))
       (gens_typed (bares gens) (known gens) scope k (data_at b l) w.1)))
-  tree_typed (Tree-F.Product fronts gens) = data_form (Tree-F.Product (bares fronts) (bares gens)) (tree.rolls-Product _ _) (λ place names p. p.0.fine.kind) (λ scope n b l pass.
+  tree_typed (Tree-F.Product fronts gens) = data_form (Tree-F.Product (bares fronts) (bares gens)) (tree.rolls-Product _ _) (λ place names p. p.0.kind) (λ scope n b l pass.
       let w = two_parts (Passes m ks) _ _ pass.1 in
       let k = n + parts_bind (map (of_part (reads m ks)) (bares fronts)) in
       subst (IsExpr m ks scope n _ _) (two_ends n _ _) (t.product
       (fronts_typed (bares fronts) (known fronts) (under (map (of_gen (reads m ks)) (bares gens)) scope k) n (data_at b l)
       (under_gens (all_say (map (part_says m) (map (of_part (saying m ks)) (bares fronts)))) (data_at b l) (bares gens) scope k w.0))
       (gens_typed (bares gens) (known gens) scope k (data_at b l) w.1)))
-  tree_typed (Tree-F.SetOp op a c) = data_form (Tree-F.SetOp op a.0 c.0) (tree.rolls-SetOp _ _ _) (λ place names p. p.0.fine.kind) (λ scope n b l pass.
+  tree_typed (Tree-F.SetOp op a c) = data_form (Tree-F.SetOp op a.0 c.0) (tree.rolls-SetOp _ _ _) (λ place names p. p.0.kind) (λ scope n b l pass.
       let w = two_parts (Passes m ks) _ _ pass.1 in
       subst (IsExpr m ks scope n _ _) (two_ends n _ _) (t.set_operator (a.1.expr scope n false (l + 1) w.0) (c.1.expr scope _ false (l + 1) w.1)))
-  tree_typed Tree-F.Stop = process_form Tree-F.Stop tree.rolls-Stop (λ place names p. p.0.fine.kind) (λ scope. refl) (λ scope n b l pass.
+  tree_typed Tree-F.Stop = process_form Tree-F.Stop tree.rolls-Stop (λ place names p. p.0.kind) (λ scope. refl) (λ scope n b l pass.
       subst (IsProc m ks scope n _ _) (no_end n) t.stop)
-  tree_typed Tree-F.Skip = process_form Tree-F.Skip tree.rolls-Skip (λ place names p. p.0.fine.kind) (λ scope. refl) (λ scope n b l pass.
+  tree_typed Tree-F.Skip = process_form Tree-F.Skip tree.rolls-Skip (λ place names p. p.0.kind) (λ scope. refl) (λ scope n b l pass.
       subst (IsProc m ks scope n _ _) (no_end n) t.skip)
   tree_typed (Tree-F.Prefix event p) =
       subst (λ e. TreeTyped (roll-Tree (Tree-F.Prefix e p.0))) event.1.is (prefix_form event.1.name event.1.fields event.1.typed p.0 p.1)
-  tree_typed (Tree-F.Guard c p) = process_form (Tree-F.Guard c.0 p.0) (tree.rolls-Guard _ _) (λ place names p. p.0.fine.kind) (λ scope. refl) (λ scope n b l pass.
+  tree_typed (Tree-F.Guard c p) = process_form (Tree-F.Guard c.0 p.0) (tree.rolls-Guard _ _) (λ place names p. p.0.kind) (λ scope. refl) (λ scope n b l pass.
       let w = two_parts (Passes m ks) _ _ pass.1 in
       subst (IsProc m ks scope n _ _) (two_ends n _ _) (t.guard (c.1.expr scope n false (l + 1) w.0) (p.1.proc scope _ false (l + 1) refl w.1)))
-  tree_typed (Tree-F.External ps) = process_form (Tree-F.External (bares ps)) (tree.rolls-External _) (λ place names p. p.0.fine.kind) (λ scope. refl) (λ scope n b l pass.
+  tree_typed (Tree-F.External ps) = process_form (Tree-F.External (bares ps)) (tree.rolls-External _) (λ place names p. p.0.kind) (λ scope. refl) (λ scope n b l pass.
       t.external (procs_typed _ (known ps) scope n (l + 1) pass.1))
-  tree_typed (Tree-F.Internal ps) = process_form (Tree-F.Internal (bares ps)) (tree.rolls-Internal _) (λ place names p. p.0.fine.kind) (λ scope. refl) (λ scope n b l pass.
+  tree_typed (Tree-F.Internal ps) = process_form (Tree-F.Internal (bares ps)) (tree.rolls-Internal _) (λ place names p. p.0.kind) (λ scope. refl) (λ scope n b l pass.
       t.internal (procs_typed _ (known ps) scope n (l + 1) pass.1))
-  tree_typed (Tree-F.EachExternal x a p) = process_form (Tree-F.EachExternal x a.0 p.0) (tree.rolls-EachExternal _ _ _) (λ place names p. p.0.fine.kind) (λ scope. refl) (λ scope n b l pass.
+  tree_typed (Tree-F.EachExternal x a p) = process_form (Tree-F.EachExternal x a.0 p.0) (tree.rolls-EachExternal _ _ _) (λ place names p. p.0.kind) (λ scope. refl) (λ scope n b l pass.
       let w = two_parts (Passes m ks) _ _ pass.1.1 in
       subst (IsProc m ks scope n _ _) (three_ends n 1 _ _) (t.each_external (may_bind m ks x pass.1.0) (a.1.expr scope (n + 1) false (l + 1) w.0)
       (p.1.proc (with scope x n) _ false (l + 1) refl (with_one (tree_says m p.0) (process_at false (l + 1)) scope x n w.1))))
-  tree_typed (Tree-F.EachInternal x a p) = process_form (Tree-F.EachInternal x a.0 p.0) (tree.rolls-EachInternal _ _ _) (λ place names p. p.0.fine.kind) (λ scope. refl) (λ scope n b l pass.
+  tree_typed (Tree-F.EachInternal x a p) = process_form (Tree-F.EachInternal x a.0 p.0) (tree.rolls-EachInternal _ _ _) (λ place names p. p.0.kind) (λ scope. refl) (λ scope n b l pass.
       let w = two_parts (Passes m ks) _ _ pass.1.1 in
       subst (IsProc m ks scope n _ _) (three_ends n 1 _ _) (t.each_internal (may_bind m ks x pass.1.0) (a.1.expr scope (n + 1) false (l + 1) w.0)
       (p.1.proc (with scope x n) _ false (l + 1) refl (with_one (tree_says m p.0) (process_at false (l + 1)) scope x n w.1))))
-  tree_typed (Tree-F.Parallel p a c q) = network_form (Tree-F.Parallel p.0 a.0 c.0 q.0) (tree.rolls-Parallel _ _ _ _) (λ place names p. (p.0.fine.kind, p.0.fine.inside)) (λ scope. refl) (λ scope n l pass.
+  tree_typed (Tree-F.Parallel p a c q) = network_form (Tree-F.Parallel p.0 a.0 c.0 q.0) (tree.rolls-Parallel _ _ _ _) (λ place names p. (p.0.kind, p.0.inside)) (λ scope. refl) (λ scope n l pass.
       let w = four_parts (Passes m ks) _ _ _ _ pass.1 in
       subst (IsComposition m ks scope n _ _) (four_ends n _ _ _ _) (t.parallel (net_of p.1 scope n (l + 1) w.0) (a.1.expr scope _ false (l + 1) w.1)
       (c.1.expr scope _ false (l + 1) w.2) (net_of q.1 scope _ (l + 1) w.3)))
-  tree_typed (Tree-F.EachParallel x a c p) = network_form (Tree-F.EachParallel x a.0 c.0 p.0) (tree.rolls-EachParallel _ _ _ _) (λ place names p. (p.0.fine.kind, p.0.fine.inside)) (λ scope. refl) (λ scope n l pass.
+  tree_typed (Tree-F.EachParallel x a c p) = network_form (Tree-F.EachParallel x a.0 c.0 p.0) (tree.rolls-EachParallel _ _ _ _) (λ place names p. (p.0.kind, p.0.inside)) (λ scope. refl) (λ scope n l pass.
       let w = three_parts (Passes m ks) _ _ _ pass.1.1 in
       subst (IsComposition m ks scope n _ _) (four_ends n 1 _ _ _) (t.each_parallel (may_bind m ks x pass.1.0) (a.1.expr scope (n + 1) false (l + 1) w.0)
       (c.1.expr (with scope x n) _ false (l + 1) (with_one (tree_says m c.0) (data_at false (l + 1)) scope x n w.1))
       (net_of p.1 (with scope x n) _ (l + 1) (with_one (tree_says m p.0) (process_at true (l + 1)) scope x n w.2))))
-  tree_typed (Tree-F.Seq p q) = process_form (Tree-F.Seq p.0 q.0) (tree.rolls-Seq _ _) (λ place names p. p.0.fine.kind) (λ scope. refl) (λ scope n b l pass.
+  tree_typed (Tree-F.Seq p q) = process_form (Tree-F.Seq p.0 q.0) (tree.rolls-Seq _ _) (λ place names p. p.0.kind) (λ scope. refl) (λ scope n b l pass.
       let w = two_parts (Passes m ks) _ _ pass.1 in
       subst (IsProc m ks scope n _ _) (two_ends n _ _) (t.sequence (p.1.proc scope n false (l + 1) refl w.0) (q.1.proc scope _ false (l + 1) refl w.1)))
-  tree_typed (Tree-F.Hide p a) = process_form (Tree-F.Hide p.0 a.0) (tree.rolls-Hide _ _) (λ place names p. p.0.fine.kind) (λ scope. refl) (λ scope n b l pass.
+  tree_typed (Tree-F.Hide p a) = process_form (Tree-F.Hide p.0 a.0) (tree.rolls-Hide _ _) (λ place names p. p.0.kind) (λ scope. refl) (λ scope n b l pass.
       let w = two_parts (Passes m ks) _ _ pass.1 in
       subst (IsProc m ks scope n _ _) (two_ends n _ _) (t.hide (p.1.proc scope n false (l + 1) refl w.0) (a.1.expr scope _ false (l + 1) w.1)))
   tree_typed (Tree-F.Rename p twos gens) =
-      process_form (Tree-F.Rename p.0 (map (both_of (λ e. e.0)) twos) (bares gens)) (tree.rolls-Rename _ _ _) (λ place names p. p.0.fine.kind) (λ scope. refl) (λ scope n b l pass.
+      process_form (Tree-F.Rename p.0 (map (both_of (λ e. e.0)) twos) (bares gens)) (tree.rolls-Rename _ _ _) (λ place names p. p.0.kind) (λ scope. refl) (λ scope n b l pass.
       let w = three_parts (Passes m ks) _ _ _ pass.1 in
       let i = n + (reading m ks p.0).binds in
       let k = i + pairs_bind (map (both_of (of_part (reads m ks))) (map (both_of (λ e. e.0)) twos)) in
@@ -427,7 +419,7 @@ module _ (m : Meanings) (ks : List Kind) (kinds : HaveKinds m ks) where
   part_typed : (x : Name) (ts : List Tree) → Every TreeTyped ts → PartTyped (part_tree x ts)
   part_typed x ts h scope n place =
       at_part m ks (λ s r. AllPass m ks (part_says m s place (names_of scope)) → FrontTyped (part_tree x ts) s r scope n) x ts (λ pass.
-      let u = begins_use m ks (name_is m scope x) _ pass.0.fine in
+      let u = begins_use m ks (name_is m scope x) _ pass.0 in
       record {
         channel = channel_number (m x);
         fields = u.fields;

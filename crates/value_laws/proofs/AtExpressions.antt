@@ -1,20 +1,8 @@
 -- The laws of events, comprehensions and productions, at expressions.
-use Rattle.std.proofs.Common.{◌≡◌, ℕ, Bool, true, false, cond, List, Ok, Err, sym, ◌∙◌, ap}
-use Rattle.csp_program.specs.Prelude.{Outcome, and_then, Env, Front, Meaning, lack_sets, one_event, Turn, front, front_events, front_of_layer, meaning, meaning_of_layer, turn, turn_of_layer, uses_within, value_within, meanings}
-use Rattle.csp_program.specs.declared.expressions.EventPart.{EventPart}
-use Rattle.csp_program.specs.declared.expressions.Expr.{Expr}
-use Rattle.csp_program.specs.declared.expressions.Expr.TheFolds.{fold-roll-Expr, map-Expr}
-use Rattle.csp_program.specs.declared.expressions.Expr.TheOpen.{Expr-F}
-use Rattle.csp_program.specs.declared.expressions.Expr.TheViews.{roll-Expr}
-use Rattle.csp_program.specs.declared.expressions.Gen.{Gen}
-use Rattle.csp_program.specs.declared.kinds.ValueKind.TheVariants.{Kind}
-use Rattle.csp_program.specs.declared.programs.Content.{Content}
-use Rattle.value_laws.specs.Bindings.{ComprehensionsHoldTheirItems, ProductionsHoldWhatBegins, fronts_within, turns_within}
+use Rattle.value_laws.proofs.Prelude.{◌≡◌, ℕ, Bool, true, false, cond, List, Ok, Err, sym, ◌∙◌, ap, Outcome, and_then, Env, Front, Meaning, lack_sets, one_event, Turn, front, front_events, front_of_layer, meaning, meaning_of_layer, turn, turn_of_layer, uses_within, value_within, meanings, EventPart, Expr, fold-roll-Expr, map-Expr, Expr-F, roll-Expr, Gen, Kind, Content, ComprehensionsHoldTheirItems, ProductionsHoldWhatBegins, fronts_within, turns_within, Value, One}
 use Rattle.value_laws.proofs.Fronts.{events_held}
 use Rattle.value_laws.proofs.Walks.{items_held}
 use Rattle.csp_atoms.specs.declared.atom.Atom.TheVariants as atom
-use Rattle.csp_atoms.specs.declared.value.Value.{Value}
-use Rattle.csp_atoms.specs.declared.value.Value.TheVariants.{One}
 use Rattle.csp_program.specs.declared.expressions.Expr.TheVariants as expr
 
 -- an expression means what its form means

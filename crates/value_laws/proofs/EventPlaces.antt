@@ -1,22 +1,9 @@
 -- The events that begin with a row, by their places.
-use Rattle.std.proofs.Common.{◌≡◌, ℕ, zero, suc, ◌+◌, ◌*◌, ◌<◌, ◌≤◌, Bool, true, false, cond, nat_eq, IsTrue, Option, Some, None, Ok, Err, List, [], ◌∷◌, ◌++◌, map, length, drop, take, refl, sym, ◌∙◌, ap, subst, arith}
-use Rattle.std.specs.Prelude.{slice_get}
-use Rattle.csp_base.proofs.Standard.{eqb-true, false≢true, append-nil, length-append, slice_get_within}
-use Rattle.csp_atoms.specs.Prelude.{same}
-use Rattle.csp_atoms.specs.declared.atom.Atom.{Atom}
-use Rattle.csp_atoms.specs.declared.value.Value.{Value}
-use Rattle.csp_atoms.specs.declared.value.Value.TheVariants.{One}
-use Rattle.csp_atoms.proofs.OrderLaws.{same_exact, same_itself}
-use Rattle.csp_base.proofs.Booleans.{is_first, is_second}
-use Rattle.csp_program.specs.Prelude.{event_count, first_event, row_count, begins, begins_with, channel_events, event_of, event_table, events_from_channel, events_with, places_from, rows, Outcome, and_then, Env, Meaning, front_events, one_event, row_in, row_of, sets_of}
-use Rattle.csp_program.specs.declared.programs.Channel.{Channel}
-use Rattle.csp_program.specs.declared.programs.EventInfo.{EventInfo}
-use Rattle.value_laws.specs.Prelude.{HasSets, HaveValues, StandsAt, computed_number, ChannelsFit, EventsAreFound, events_each, fields_number, first_of, front_count, front_number, span}
+use Rattle.value_laws.proofs.Prelude.{eq-eqb, ◌≡◌, ℕ, zero, suc, ◌+◌, ◌*◌, ◌<◌, ◌≤◌, Bool, true, false, cond, nat_eq, IsTrue, Option, Some, None, Ok, Err, List, [], ◌∷◌, ◌++◌, map, length, drop, take, refl, sym, ◌∙◌, ap, subst, arith, slice_get, eqb-true, false≢true, append-nil, length-append, slice_get_within, same, Atom, Value, One, same_exact, same_itself, is_first, is_second, event_count, first_event, row_count, begins, begins_with, channel_events, event_of, event_table, events_from_channel, events_with, places_from, rows, Outcome, and_then, Env, Meaning, front_events, one_event, row_in, row_of, sets_of, Channel, EventInfo, HasSets, HaveValues, StandsAt, computed_number, ChannelsFit, EventsAreFound, events_each, fields_number, first_of, front_count, front_number, span, came_through}
 use Rattle.value_laws.proofs.Lists.{same_outcome}
 use Rattle.value_laws.proofs.RowNumbers.{Numbered, length-rows, no_fields, numbered, placed, refused}
 use Rattle.value_laws.proofs.TablePlaces.{beginners_back, beginners_forth, length-channel_events, of_table, same_values, summed_number, to_computed}
 use Rattle.csp_atoms.specs.declared.atom.Atom.TheVariants as atom
-use Rattle.csp_program.proofs.Outcomes.{came_through}
 
 -- ---- what begins with a row
 
@@ -32,11 +19,8 @@ begins_back (a ∷ row) (b ∷ values) h =
     let r = begins_back row values (is_second (same a b) (begins_with row values) h) in
     (r.0, λ i. sym first i ∷ r.1 i)
 
-eq_itself : (n : ℕ) → nat_eq n n ≡ true
-eq_itself n = grind arith
-
 event_begins : (c : ℕ) (row rest : List Atom) → begins c row (event_of c (row ++ rest)) ≡ true
-event_begins c row rest = rw (eq_itself c) (begins_forth row rest)
+event_begins c row rest = rw (eq-eqb c c refl) (begins_forth row rest)
 
 begun : (c : ℕ) (row : List Atom) (x : EventInfo) → begins c row x ≡ true → (rest : List Atom) × (x ≡ event_of c (row ++ rest))
 begun c row x h =

@@ -1,16 +1,7 @@
 -- The channels of a program in order.
-use Rattle.std.proofs.Common.{◌≡◌, ℕ, zero, suc, ◌+◌, ◌<◌, ◌^◌, IsTrue, Option, Some, None, List, [], ◌∷◌, ◌++◌, map, length, refl, sym, ◌∙◌, ap, subst, inl, inr, arith}
-use Rattle.std.specs.Prelude.{is_none}
-use Rattle.std.proofs.lemmas.Bool.{false≢true}
-use Rattle.csp_base.proofs.Booleans.{is_first, is_second}
-use Rattle.csp_program.specs.Prelude.{channel_events, event_table, events_from_channel, IsEventTable, IsInOrder, lacks_sets, all_true}
-use Rattle.csp_program.specs.declared.programs.Channel.{Channel}
-use Rattle.csp_program.specs.declared.programs.Content.{Content}
-use Rattle.csp_program.specs.declared.programs.EventInfo.{EventInfo}
-use Rattle.value_laws.specs.Prelude.{HasSets, ChannelsFit}
+use Rattle.value_laws.proofs.Prelude.{◌≡◌, ℕ, zero, suc, ◌+◌, ◌<◌, ◌^◌, IsTrue, Option, Some, None, List, [], ◌∷◌, ◌++◌, map, length, refl, sym, ◌∙◌, ap, subst, inl, inr, arith, is_none, false≢true, is_first, is_second, channel_events, event_table, events_from_channel, IsEventTable, IsInOrder, lacks_sets, all_true, Channel, Content, EventInfo, HasSets, ChannelsFit, Atom}
 use Rattle.value_laws.proofs.Rises.{field_sets_rise}
 use Rattle.value_laws.proofs.TablePlaces.{first_is, rise_at}
-use Rattle.csp_atoms.specs.declared.atom.Atom.{Atom}
 
 no_events : (b : ℕ) (o : Option (List (List Atom))) → IsTrue (is_none o) → channel_events b o ≡ []
 no_events b None h = refl
@@ -23,7 +14,7 @@ none_in_table (channel ∷ channels) b lack =
     ap (λ l. l ++ events_from_channel (b + 1) channels) (no_events b channel.fields (is_first (lacks_sets channel) (all_true (map lacks_sets channels)) lack)) ∙
     none_in_table channels (b + 1) (is_second (lacks_sets channel) (all_true (map lacks_sets channels)) lack)
 
-none_has : (channels : List Channel) (c : ℕ) (sets : List (List Atom)) → IsTrue (all_true (map lacks_sets channels)) → HasSets channels c sets → ⊥
+pub none_has : (channels : List Channel) (c : ℕ) (sets : List (List Atom)) → IsTrue (all_true (map lacks_sets channels)) → HasSets channels c sets → ⊥
 none_has [] c sets all h = absurd (cc)
 none_has (channel ∷ channels) zero sets all h =
     false≢true (subst (λ o. IsTrue (is_none o)) h (is_first (lacks_sets channel) (all_true (map lacks_sets channels)) all))

@@ -1,15 +1,5 @@
 -- The events that the fronts of a production add.
-use Rattle.std.proofs.Common.{◌≡◌, ℕ, zero, suc, ◌+◌, ◌<◌, ◌≤◌, ◌⊎◌, IsTrue, Option, Some, None, Ok, List, [], ◌∷◌, map, refl, sym, ◌∙◌, ap, inl, inr, arith}
-use Rattle.std.specs.Prelude.{◌↔◌, slice_get}
-use Rattle.std.proofs.lemmas.Bool.{false≢true, cases_eq}
-use Rattle.csp_atoms.specs.Prelude.{has_atom}
-use Rattle.csp_atoms.specs.declared.atom.Atom.{Atom}
-use Rattle.csp_atoms.specs.declared.value.Value.{Value}
-use Rattle.csp_atoms.specs.declared.value.Value.TheVariants.{Many}
-use Rattle.csp_program.specs.Prelude.{added, all_added, IsInOrder, and_then, Env, Front, Meaning, Turn, comprehension, front_events, fronts_added, sets_of}
-use Rattle.csp_program.specs.declared.programs.Channel.{Channel}
-use Rattle.csp_program.specs.declared.programs.Content.{Content}
-use Rattle.value_laws.specs.Prelude.{events_each, events_from, first_of, front_count, front_number, span, BeginsWith, BeginsWithOne, IsBinding, IsSetValue, computed_number}
+use Rattle.value_laws.proofs.Prelude.{◌≡◌, ℕ, zero, suc, ◌+◌, ◌<◌, ◌≤◌, ◌⊎◌, IsTrue, Option, Some, None, Ok, List, [], ◌∷◌, map, refl, sym, ◌∙◌, ap, inl, inr, arith, ◌↔◌, slice_get, false≢true, cases_eq, has_atom, Atom, Value, Many, added, all_added, IsInOrder, and_then, Env, Front, Meaning, Turn, comprehension, front_events, fronts_added, sets_of, Channel, Content, events_each, events_from, first_of, front_count, front_number, span, BeginsWith, BeginsWithOne, IsBinding, IsSetValue, computed_number, came_through}
 use Rattle.value_laws.proofs.Lists.{same_outcome}
 use Rattle.value_laws.proofs.RowNumbers.{numbered}
 use Rattle.value_laws.proofs.EventPlaces.{events_are_found, same_list}
@@ -17,7 +7,6 @@ use Rattle.value_laws.proofs.Fits.{program_fits}
 use Rattle.value_laws.proofs.TablePlaces.{as_summed, computed, beginners_stand_together}
 use Rattle.value_laws.proofs.Walks.{Grows, grows_by_one, has_here, has_after, has_cases, same_growth, no_growth, two_growths, comprehension_holds}
 use Rattle.csp_atoms.specs.declared.atom.Atom.TheVariants as atom
-use Rattle.csp_program.proofs.Outcomes.{came_through}
 
 -- a list of atoms that are added one by one
 pub all_grow : (atoms new more : List Atom) → all_added atoms new ≡ Ok more → Grows atoms more (λ z. IsTrue (has_atom new z))

@@ -4,6 +4,7 @@ pub mod Fits
 pub mod Fronts
 pub mod Lists
 pub mod Nests
+pub mod Prelude
 pub mod ProgramEvents
 pub mod Rises
 pub mod RowNumbers

@@ -1,36 +1,16 @@
 -- The values of events in a program in order.
-use Rattle.std.proofs.Common.{◌≡◌, ℕ, zero, suc, Bool, nat_eq, IsTrue, Option, Some, Ok, List, [], ◌∷◌, map, length, refl, sym, ◌∙◌, ap, subst, inl, inr}
-use Rattle.std.specs.Prelude.{is_none, slice_get}
-use Rattle.csp_base.proofs.Standard.{false≢true, eqb-true, length-map}
-use Rattle.csp_program.specs.Prelude.{event_table, IsEventTable, channel_in_order, expr_in_order, expr_in_order_of_layer, gen_in_order_of_layer, part_in_order_of_layer, lacks_sets, set_in_order, sets_in_order, with_fields, all_true, Env, Front, Meaning, Turn, front_of_layer, meaning, meaning_of_layer, sets_of, turn_of_layer, uses_within, value_within, meanings}
-use Rattle.csp_program.specs.declared.expressions.Expr.{Expr}
-use Rattle.csp_program.specs.declared.expressions.Expr.TheFolds.{fold-roll-Expr}
-use Rattle.csp_program.specs.declared.expressions.Expr.TheOpen.{Expr-F}
-use Rattle.csp_program.specs.declared.programs.Channel.{Channel}
-use Rattle.csp_program.specs.declared.programs.Content.{Content}
-use Rattle.csp_program.specs.declared.programs.EventInfo.{EventInfo}
-use Rattle.value_laws.specs.Prelude.{first_of, HasSets, HaveValues, StandsAt, IsEventAt, PlacesAreValues, ValuesArePlaces}
+use Rattle.value_laws.proofs.Prelude.{◌≡◌, ℕ, zero, suc, Bool, nat_eq, IsTrue, Option, Some, Ok, List, [], ◌∷◌, map, length, refl, sym, ◌∙◌, ap, subst, inl, inr, slice_get, eqb-true, length-map, event_table, IsEventTable, channel_in_order, expr_in_order, expr_in_order_of_layer, gen_in_order_of_layer, part_in_order_of_layer, set_in_order, sets_in_order, with_fields, all_true, Env, Front, Meaning, Turn, front_of_layer, meaning, meaning_of_layer, sets_of, turn_of_layer, uses_within, value_within, meanings, Expr, fold-roll-Expr, Expr-F, Channel, Content, EventInfo, first_of, HasSets, HaveValues, StandsAt, IsEventAt, PlacesAreValues, ValuesArePlaces, Atom, Value, One, is_first, is_second}
 use Rattle.value_laws.proofs.AtExpressions.{event_worth}
 use Rattle.value_laws.proofs.EventPlaces.{event_found, event_there}
-use Rattle.value_laws.proofs.Fits.{program_fits}
+use Rattle.value_laws.proofs.Fits.{none_has, program_fits}
 use Rattle.value_laws.proofs.Fronts.{has_sets}
 use Rattle.value_laws.proofs.TablePlaces.{numbers_are_places, places_are_numbers}
-use Rattle.csp_atoms.specs.declared.atom.Atom.{Atom}
-use Rattle.csp_atoms.specs.declared.value.Value.{Value}
-use Rattle.csp_atoms.specs.declared.value.Value.TheVariants.{One}
 use Rattle.csp_program.specs.declared.expressions.Expr.TheVariants as expr
-use Rattle.csp_base.proofs.Booleans.{is_first, is_second}
-
-none_lacks : (channels : List Channel) (c : ℕ) (sets : List (List Atom)) → IsTrue (all_true (map lacks_sets channels)) → HasSets channels c sets → ⊥
-none_lacks [] c sets all h = absurd (cc)
-none_lacks (channel ∷ channels) zero sets all h =
-    false≢true (ap is_none (sym h) ∙ is_first (lacks_sets channel) (all_true (map lacks_sets channels)) all)
-none_lacks (channel ∷ channels) (suc c) sets all h = none_lacks channels c sets (is_second (lacks_sets channel) (all_true (map lacks_sets channels)) all) h
 
 -- the table of a program is that of its channels, where one of them has its sets
 pub table_from_sets : (p : Content) → IsEventTable p → (c : ℕ) (sets : List (List Atom)) → HasSets p.channels c sets → p.events ≡ event_table p.channels
 table_from_sets p (inl t) c sets h = t.1
-table_from_sets p (inr t) c sets h = absurd (none_lacks p.channels c sets t.0 h)
+table_from_sets p (inr t) c sets h = absurd (none_has p.channels c sets t.0 h)
 
 -- and where it has an event
 table_from_event : (p : Content) → IsEventTable p → (place : ℕ) (x : EventInfo) → slice_get p.events place ≡ Some x → p.events ≡ event_table p.channels

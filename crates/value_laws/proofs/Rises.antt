@@ -1,13 +1,5 @@
 -- The values of the fields of a program in order rise.
-use Rattle.std.proofs.Common.{ℕ, IsTrue, nat_eq, Option, Some, None, List, [], ◌∷◌, map, length}
-use Rattle.csp_atoms.specs.Prelude.{is_set}
-use Rattle.csp_atoms.specs.declared.atom.Atom.{Atom}
-use Rattle.csp_atoms.proofs.SetTest.{IsAtomSet-from}
-use Rattle.csp_program.specs.Prelude.{channel_in_order, expr_in_order, is_field_value, set_in_order, sets_in_order, all_true}
-use Rattle.csp_program.specs.declared.programs.Channel.{Channel}
-use Rattle.csp_program.specs.declared.programs.Content.{Content}
-use Rattle.value_laws.specs.Numbers.{AllRise}
-use Rattle.csp_base.proofs.Booleans.{is_first, is_second}
+use Rattle.value_laws.proofs.Prelude.{ℕ, IsTrue, nat_eq, Option, Some, None, List, [], ◌∷◌, map, length, is_set, Atom, IsAtomSet-from, channel_in_order, expr_in_order, is_field_value, set_in_order, sets_in_order, all_true, Channel, Content, AllRise, is_first, is_second}
 
 -- the values of each field rise, where a channel has them
 abbrev pub FieldsRise : Option (List (List Atom)) → Type 0

@@ -1,20 +1,7 @@
 -- The number of the first fields of an event, and the rows that begin with them.
-use Rattle.std.proofs.Common.{◌≡◌, ℕ, zero, suc, ◌+◌, ◌*◌, Bool, true, false, cond, Option, Some, None, Ok, List, [], ◌∷◌, ◌++◌, map, length, take, drop, refl, sym, ◌∙◌, ap, subst, arith}
-use Rattle.std.specs.Prelude.{Err, is_some, slice_get}
-use Rattle.std.specs.Option.{option_map}
-use Rattle.csp_base.proofs.Standard.{length-map, slice_get-map, slice_get_within}
-use Rattle.csp_atoms.specs.Prelude.{less, same, AllAbove, IsRising, has_atom, one_more, place_of}
-use Rattle.csp_atoms.specs.declared.atom.Atom.{Atom}
-use Rattle.csp_atoms.specs.declared.value.Value.{Value}
-use Rattle.csp_atoms.specs.declared.value.Value.TheVariants.{One, Many}
-use Rattle.csp_atoms.proofs.OrderLaws.{same_exact, same_itself, before_from_less}
+use Rattle.value_laws.proofs.Prelude.{◌≡◌, ℕ, zero, suc, ◌+◌, ◌*◌, Bool, true, false, cond, Option, Some, None, Ok, List, [], ◌∷◌, ◌++◌, map, length, take, drop, refl, sym, ◌∙◌, ap, subst, arith, Err, is_some, slice_get, option_map, length-map, slice_get-map, slice_get_within, less, same, AllAbove, IsRising, has_atom, one_more, place_of, Atom, Value, One, Many, same_exact, same_itself, before_from_less, row_count, rows, Outcome, and_then, Env, Meaning, in_field, row_of, values_of, ValueKind, OutsideChannel, AllRise, events_each, field_place, fields_number, found_place, HaveValues, came_through}
 use Rattle.csp_atoms.proofs.SearchLaws.{has_place}
-use Rattle.csp_program.specs.Prelude.{row_count, rows, Outcome, and_then, Env, Meaning, in_field, row_of, values_of}
-use Rattle.csp_program.specs.declared.kinds.ValueKind.{ValueKind}
-use Rattle.csp_program.specs.declared.kinds.ValueKind.TheVariants.{OutsideChannel}
-use Rattle.value_laws.specs.Prelude.{AllRise, events_each, field_place, fields_number, found_place, HaveValues}
 use Rattle.value_laws.proofs.Lists.{same_outcome, length-joined, get_joined, from_joined}
-use Rattle.csp_program.proofs.Outcomes.{came_through}
 
 -- ---- the place of a value among the values of a field
 

@@ -1,18 +1,8 @@
 -- Where the events of a channel stand in the event table.
-use Rattle.std.proofs.Common.{◌≡◌, ℕ, zero, suc, ◌+◌, ◌-◌, ◌*◌, ◌<◌, ◌≤◌, Option, Some, None, Ok, List, [], ◌∷◌, ◌++◌, map, length, take, drop, refl, sym, ◌∙◌, ap, subst, inl, inr, arith}
-use Rattle.std.specs.Prelude.{slice_get}
-use Rattle.std.specs.Option.{option_map}
-use Rattle.csp_base.proofs.Standard.{cases_lt, append-nil, length-map, slice_get-map, slice_get_within, drop-length}
-use Rattle.csp_program.specs.Prelude.{KeepFirsts, event_count, first_event, row_count, event_of, events_from_channel, channel_events, rows, Outcome, and_then, Env, Meaning, sets_of}
-use Rattle.csp_program.specs.declared.programs.Channel.{Channel}
-use Rattle.csp_program.specs.declared.programs.EventInfo.{EventInfo}
-use Rattle.value_laws.specs.Prelude.{AllRise, events_each, fields_number, first_of, front_number, HasSets, HaveValues, StandsAt, computed_number, NumbersArePlaces, PlacesAreNumbers, BeginnersStandTogether}
+use Rattle.value_laws.proofs.Prelude.{◌≡◌, ℕ, zero, suc, ◌+◌, ◌-◌, ◌*◌, ◌<◌, ◌≤◌, Option, Some, None, Ok, List, [], ◌∷◌, ◌++◌, map, length, take, drop, refl, sym, ◌∙◌, ap, subst, inl, inr, arith, slice_get, option_map, cases_lt, append-nil, length-map, slice_get-map, slice_get_within, drop-length, KeepFirsts, event_count, first_event, row_count, event_of, events_from_channel, channel_events, rows, Outcome, and_then, Env, Meaning, sets_of, Channel, EventInfo, AllRise, events_each, fields_number, first_of, front_number, HasSets, HaveValues, StandsAt, computed_number, NumbersArePlaces, PlacesAreNumbers, BeginnersStandTogether, Atom, One, came_through}
 use Rattle.value_laws.proofs.Lists.{get_left, get_right, same_outcome}
 use Rattle.value_laws.proofs.Rises.{FieldsRise, FieldSetsRise, field_sets_rise}
 use Rattle.value_laws.proofs.RowNumbers.{length-rows, no_fields, numbered, placed}
-use Rattle.csp_atoms.specs.declared.atom.Atom.{Atom}
-use Rattle.csp_atoms.specs.declared.value.Value.TheVariants.{One}
-use Rattle.csp_program.proofs.Outcomes.{came_through}
 
 -- the number that is computed where the channels before are counted
 abbrev pub summed_number : List Channel → ℕ → List Meaning → Env → Outcome ℕ

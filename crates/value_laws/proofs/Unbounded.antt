@@ -1,17 +1,7 @@
 -- Evaluation without a bound, in a program in order.
-use Rattle.std.proofs.Common.{◌≡◌, ℕ, zero, suc, IsTrue, Option, Some, None, List, [], length, refl, sym, ◌∙◌, arith}
-use Rattle.std.specs.Prelude.{nat_eq, slice_get}
-use Rattle.std.proofs.lemmas.Bool.{false≢true}
-use Rattle.csp_program.specs.Prelude.{IsInOrder, body_in_order, def_in_order, expr_in_order, BodyNests, DefNests, NestsWithin, Meaning, body_value, bound_to, def_value, uses_within, value_within}
-use Rattle.csp_program.specs.declared.expressions.Expr.{Expr}
-use Rattle.csp_program.specs.declared.programs.Body.{Body}
-use Rattle.csp_program.specs.declared.programs.Content.{Content}
-use Rattle.csp_program.specs.declared.programs.Def.{Def}
-use Rattle.csp_program.proofs.UsesWithin.{meaning_same}
-use Rattle.value_laws.specs.EnoughUses.{IsUnbounded, UnboundedIsWorth, WorthIsUnbounded, uses_by}
+use Rattle.value_laws.proofs.Prelude.{◌≡◌, ℕ, zero, suc, IsTrue, Option, Some, None, List, [], length, refl, sym, ◌∙◌, arith, nat_eq, slice_get, false≢true, IsInOrder, body_in_order, def_in_order, expr_in_order, BodyNests, DefNests, NestsWithin, Meaning, body_value, bound_to, def_value, uses_within, value_within, Expr, Body, Content, Def, meaning_same, IsUnbounded, UnboundedIsWorth, WorthIsUnbounded, uses_by, is_second}
 use Rattle.value_laws.proofs.Nests.{all_at, definitions_are_enough, uses_nest_within_definitions}
 use Rattle.csp_program.specs.declared.programs.Body.TheVariants as body
-use Rattle.csp_base.proofs.Booleans.{is_second}
 
 pub worth_is_unbounded : WorthIsUnbounded
 worth_is_unbounded p ordered e o env = sym (definitions_are_enough p ordered e o (suc (length p.defs)) (omega arith) env)

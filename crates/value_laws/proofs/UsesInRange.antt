@@ -1,20 +1,5 @@
 -- An expression in order uses definitions that are there.
-use Rattle.std.proofs.Common.{◌≡◌, ℕ, zero, suc, ◌<◌, Bool, true, ◌&&◌, nat_eq, IsTrue, List, [], ◌∷◌, map, length, sym, ◌∙◌, ap, subst, inl, inr, arith}
-use Rattle.std.specs.Prelude.{slice_get}
-use Rattle.std.proofs.lemmas.Bool.{false≢true, or_cases, eqb-true}
-use Rattle.csp_program.specs.Prelude.{Names, nowhere, either, any_of, is_datum, is_set_name, takes, with_fields, expr_in_order, gen_in_order, part_in_order, expr_in_order_of_layer, gen_in_order_of_layer, part_in_order_of_layer, all_true, expr_uses, expr_uses_of_layer, gen_uses_of_layer, part_uses_of_layer}
-use Rattle.csp_program.specs.declared.expressions.EventPart.{EventPart}
-use Rattle.csp_program.specs.declared.expressions.Expr.{Expr}
-use Rattle.csp_program.specs.declared.expressions.Expr.TheFolds.{fold-roll-Expr, fold-roll-Gen, fold-roll-EventPart, map-Expr, map-Gen}
-use Rattle.csp_program.specs.declared.expressions.Expr.TheOpen.{Expr-F, Gen-F, EventPart-F}
-use Rattle.csp_program.specs.declared.expressions.Expr.TheViews.{roll-Expr, roll-Gen, roll-EventPart}
-use Rattle.csp_program.specs.declared.expressions.Gen.{Gen}
-use Rattle.csp_program.specs.declared.programs.Body.{Body}
-use Rattle.csp_program.specs.declared.programs.Content.{Content}
-use Rattle.csp_program.specs.declared.programs.Def.{Def}
-use Rattle.csp_base.proofs.Booleans.{is_first, is_second}
-use Rattle.csp_program.proofs.Forms.{Every, ExprHas, GenHas, PartHas, each_expr}
-use Rattle.csp_program.proofs.UsesWithin.{gen_uses, part_uses}
+use Rattle.value_laws.proofs.Prelude.{◌≡◌, ℕ, zero, suc, ◌<◌, Bool, true, ◌&&◌, nat_eq, IsTrue, List, [], ◌∷◌, map, length, sym, ◌∙◌, ap, subst, inl, inr, arith, slice_get, false≢true, or_cases, eqb-true, Names, nowhere, either, any_of, is_datum, is_set_name, takes, with_fields, expr_in_order, gen_in_order, part_in_order, expr_in_order_of_layer, gen_in_order_of_layer, part_in_order_of_layer, all_true, expr_uses, expr_uses_of_layer, gen_uses_of_layer, part_uses_of_layer, EventPart, Expr, fold-roll-Expr, fold-roll-Gen, fold-roll-EventPart, map-Expr, map-Gen, Expr-F, Gen-F, EventPart-F, roll-Expr, roll-Gen, roll-EventPart, Gen, Body, Content, Def, is_first, is_second, Every, ExprHas, GenHas, PartHas, each_expr, gen_uses, part_uses}
 
 taken_within : (of_class : Body → Bool) (count : ℕ) (defs : List Def) (d : ℕ) → IsTrue (takes of_class count (slice_get defs d)) → d < length defs
 taken_within of_class count [] d t = absurd (false≢true t)

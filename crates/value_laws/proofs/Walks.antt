@@ -1,22 +1,8 @@
 -- What the walk over all bindings gathers.
-use Rattle.std.proofs.Common.{◌≡◌, ◌+◌, ◌≤◌, ◌⊎◌, Bool, true, false, cond, IsTrue, Ok, Err, List, [], ◌∷◌, length, refl, sym, ◌∙◌, ap, subst, inl, inr, arith}
-use Rattle.std.specs.Prelude.{◌↔◌, nat_le, nat_lt}
-use Rattle.std.proofs.lemmas.Bool.{false≢true, leb-true, or_cases}
-use Rattle.csp_atoms.specs.Prelude.{same, fits, has_atom, with_atom}
-use Rattle.csp_atoms.specs.declared.atom.Atom.{Atom}
-use Rattle.csp_atoms.specs.declared.value.Value.{Value}
-use Rattle.csp_atoms.specs.declared.value.Value.TheVariants.{One, Many}
-use Rattle.csp_atoms.proofs.MemberLaws.{has-with_atom}
-use Rattle.csp_atoms.proofs.OrderLaws.{same_exact, same_itself}
-use Rattle.csp_atoms.proofs.SetLaws.{IsAtomSet-with_atom}
-use Rattle.csp_program.specs.Prelude.{added, limited, Outcome, and_then, Env, Gathered, Meaning, Turn, as_atom, comprehension, gathered, items_added, over, as_set, truth, as_truth, walked}
-use Rattle.csp_program.specs.declared.kinds.ValueKind.{ValueKind}
-use Rattle.csp_program.specs.declared.kinds.ValueKind.TheVariants.{Kind, SetLimit}
-use Rattle.value_laws.specs.Bindings.{IsBinding, IsItem, IsSetValue}
+use Rattle.value_laws.proofs.Prelude.{◌≡◌, ◌+◌, ◌≤◌, ◌⊎◌, Bool, true, false, cond, IsTrue, Ok, Err, List, [], ◌∷◌, length, refl, sym, ◌∙◌, ap, subst, inl, inr, arith, ◌↔◌, nat_le, nat_lt, false≢true, leb-true, or_cases, same, fits, has_atom, with_atom, Atom, Value, One, Many, has-with_atom, same_exact, same_itself, IsAtomSet-with_atom, added, limited, Outcome, and_then, Env, Gathered, Meaning, Turn, as_atom, comprehension, gathered, items_added, over, as_set, truth, as_truth, walked, ValueKind, Kind, SetLimit, IsBinding, IsItem, IsSetValue, is_or_first, is_or_second, came_through}
 use Rattle.value_laws.proofs.Lists.{same_outcome}
 use Rattle.csp_atoms.specs.declared.atom.Atom.TheVariants as atom
-use Rattle.csp_base.proofs.Booleans.{is_or_first, is_or_second}
-use Rattle.csp_program.proofs.Outcomes.{came_through}
+use Rattle.dl_limits.specs.declared.TheConstants.{MOST_BINDINGS, MOST_ELEMENTS}
 
 -- ---- kinds that were found
 
@@ -67,10 +53,10 @@ has_after a rest z h = is_or_second (same a z) (has_atom rest z) h
 pub has_cases : (a : Atom) (rest : List Atom) (z : Atom) → IsTrue (has_atom (a ∷ rest) z) → (a ≡ z) ⊎ IsTrue (has_atom rest z)
 has_cases a rest z h = elim (or_cases (same a z) (has_atom rest z) h) [ inl e ↦ inl (same_exact a z e) | inr r ↦ inr r ]
 
-few_atoms : (atoms more : List Atom) → limited atoms ≡ Ok more → length atoms ≤ 16384
-few_atoms atoms more h = leb-true (length atoms) 16384 (held (nat_le (length atoms) 16384) (Ok atoms) SetLimit more h)
+few_atoms : (atoms more : List Atom) → limited atoms ≡ Ok more → length atoms ≤ MOST_ELEMENTS
+few_atoms atoms more h = leb-true (length atoms) MOST_ELEMENTS (held (nat_le (length atoms) MOST_ELEMENTS) (Ok atoms) SetLimit more h)
 
-few_added : (atoms : List Atom) (a : Atom) (more : List Atom) → added atoms a ≡ Ok more → length (with_atom atoms a) ≤ 16384
+few_added : (atoms : List Atom) (a : Atom) (more : List Atom) → added atoms a ≡ Ok more → length (with_atom atoms a) ≤ MOST_ELEMENTS
 few_added atoms a more h = few_atoms (with_atom atoms a) more (passed (fits atoms a) (limited (with_atom atoms a)) Kind more h)
 
 grown_back : (atoms : List Atom) (a z : Atom) → IsTrue (has_atom atoms z) ⊎ (a ≡ z) → IsTrue (has_atom (a ∷ atoms) z)
@@ -155,7 +141,7 @@ module _ (adds : Env → List Atom → Outcome (List Atom)) (Gives : Env → Ato
 
   one_binding : (env : Env) (state next : Gathered) → gathered adds env state ≡ Ok next → Grows state.atoms next.atoms (Gives env)
   one_binding env state next h =
-      let inside = passed (nat_lt state.bindings 1048576) (and_then (adds env state.atoms) (λ atoms. Ok (record { bindings = state.bindings + 1; atoms = atoms }))) SetLimit next h in
+      let inside = passed (nat_lt state.bindings MOST_BINDINGS) (and_then (adds env state.atoms) (λ atoms. Ok (record { bindings = state.bindings + 1; atoms = atoms }))) SetLimit next h in
       let through = came_through (adds env state.atoms) (λ atoms. Ok (record { bindings = state.bindings + 1; atoms = atoms })) next inside in
       let is : through.0 ≡ next.atoms = ap (λ (s : Gathered). s.atoms) (same_outcome through.2) in
       subst (λ l. Grows state.atoms l (Gives env)) is (law env state.atoms through.0 through.1)

@@ -1,8 +1,5 @@
 -- Counting that stops at a greatest number.
-use Rattle.std.proofs.Common.{◌≡◌, ℕ, zero, suc, ◌+◌, ◌*◌, ◌<◌, min, List, length, inl, inr, drop, get_or, sym, ap, ◌∙◌, arith}
-use Rattle.std.proofs.lemmas.Bool.{cases_lt}
-use Rattle.csp_atoms.specs.declared.atom.Atom.{Atom}
-use Rattle.csp_program.specs.EventNumber.{row_count}
+use Rattle.value_operators.proofs.Prelude.{◌≡◌, ℕ, zero, suc, ◌+◌, ◌*◌, ◌<◌, min, List, length, inl, inr, drop, get_or, sym, ap, ◌∙◌, arith, cases_lt, Atom, row_count}
 use Rattle.csp_base.proofs.Lists.{drop_read}
 
 -- a factor may stop before

@@ -1,11 +1,5 @@
 -- A fault of a part is a fault of the whole.
-use Rattle.std.proofs.Common.{◌≡◌, Ok, Err}
-use Rattle.std.specs.Prelude.{Result}
-use Rattle.std.specs.Result.{IsErrAnd}
-use Rattle.csp_program.specs.Prelude.{Outcome}
-use Rattle.csp_program.specs.declared.kinds.ValueKind.{ValueKind}
-use Rattle.value_operators.specs.Prelude.{Gives}
-use Rattle.value_operators.specs.declared.fault.EvalFault.{EvalFault}
+use Rattle.value_operators.proofs.Prelude.{◌≡◌, Ok, Err, Result, IsErrAnd, Outcome, ValueKind, Gives, EvalFault}
 use Rattle.value_operators.specs.declared.fault.EvalFault.TheVariants as fault
 
 pub gives_fault : {A B : Type 0} (f : EvalFault) (part : Outcome A) (whole : Outcome B) → Gives {A = A} (Err f) part → ((k : ValueKind) → part ≡ Err k → whole ≡ Err k) → Gives {A = B} (Err f) whole

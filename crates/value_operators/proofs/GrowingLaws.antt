@@ -1,16 +1,6 @@
 -- A set in two parts is the union of them: an atom may be put into either part, and is put in already where the first part holds it.
-use Rattle.std.proofs.Common.{◌≡◌, ℕ, ◌+◌, ◌≤◌, List, [], ◌∷◌, Bool, true, false, Ok, Err, cond, length, refl, ap, subst, sym, ◌∙◌, arith}
-use Rattle.std.specs.Prelude.{◌||◌, ◌&&◌, nat_eq, Result}
-use Rattle.std.proofs.lemmas.Bool.{eqb-true}
-use Rattle.csp_atoms.specs.Prelude.{kind_of, less, same, AllOfKind, IsRising, fits, has_atom, union_of, with_atom}
-use Rattle.csp_atoms.specs.declared.atom.Atom.{Atom}
-use Rattle.csp_atoms.proofs.ListLaws.{IsRising-union_of, IsRising-with_atom, kind_with_atom, kind_union_of}
-use Rattle.csp_atoms.proofs.MemberLaws.{has-union_of, has-with_atom, same_set}
+use Rattle.value_operators.proofs.Prelude.{◌≡◌, ℕ, ◌+◌, ◌≤◌, List, [], ◌∷◌, Bool, true, false, Ok, Err, cond, length, refl, ap, subst, sym, ◌∙◌, arith, ◌||◌, ◌&&◌, nat_eq, Result, eqb-true, kind_of, less, same, AllOfKind, IsRising, fits, has_atom, union_of, with_atom, Atom, IsRising-union_of, IsRising-with_atom, kind_with_atom, kind_union_of, has-union_of, has-with_atom, same_set, added, limited, Kind, Gives, IsParted, EvalFault}
 use Rattle.csp_base.proofs.Booleans.{and_false, or_none, or_regroup, or_swap}
-use Rattle.csp_program.specs.Prelude.{added, limited}
-use Rattle.csp_program.specs.declared.kinds.ValueKind.TheVariants.{Kind}
-use Rattle.value_operators.specs.Prelude.{Gives, IsParted}
-use Rattle.value_operators.specs.declared.fault.EvalFault.{EvalFault}
 use Rattle.value_operators.proofs.SetSteps.{limited_few}
 use Rattle.value_operators.proofs.Held.{with_member}
 
@@ -100,9 +90,6 @@ parted_merged xs ys p = record {
   settled_kind = kind_union_of p.kind xs ys p.settled_kind p.waiting_kind;
   waiting_kind = tt;
 }
-
-pub parted_nothing : IsParted [] []
-parted_nothing = record { settled_rises = tt; waiting_rises = tt; kind = 0; settled_kind = tt; waiting_kind = tt }
 
 -- the whole takes an atom that both parts take, and no other
 abbrev takes : ℕ → Atom → Bool

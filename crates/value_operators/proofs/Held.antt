@@ -1,16 +1,8 @@
 -- Events that a set holds already: where the first and the last of a row of events stand as far apart as they are, all between them are members.
-use Rattle.std.proofs.Common.{◌≡◌, ℕ, zero, suc, ◌+◌, ◌-◌, ◌<◌, ◌≤◌, List, [], ◌∷◌, Option, Some, None, Ok, Err, Bool, true, false, cond, length, refl, ap, subst, sym, ◌∙◌, arith}
-use Rattle.std.specs.Prelude.{◌||◌, slice_get}
-use Rattle.csp_base.proofs.Standard.{false≢true, ints}
-use Rattle.csp_atoms.specs.Prelude.{kind_of, less, same, AllAbove, AllOfKind, IsAtomSet, IsOneKind, IsRising, fits, has_atom, one_more, place_of, with_atom}
-use Rattle.csp_atoms.specs.declared.atom.Atom.{Atom}
+use Rattle.value_operators.proofs.Prelude.{◌≡◌, ℕ, zero, suc, ◌+◌, ◌-◌, ◌<◌, ◌≤◌, List, [], ◌∷◌, Option, Some, None, Ok, Err, Bool, true, false, cond, length, refl, ap, subst, sym, ◌∙◌, arith, ◌||◌, slice_get, ints, kind_of, less, same, AllAbove, AllOfKind, IsAtomSet, IsOneKind, IsRising, fits, has_atom, one_more, place_of, with_atom, Atom, IsRising-with_atom, has-with_atom, same_set, same_exact, same_itself, added, all_added, limited, and_then, Kind, events_from}
+use Rattle.csp_base.proofs.Standard.{false≢true, or_right}
+use Rattle.value_laws.proofs.RowNumbers.{at_place}
 use Rattle.csp_atoms.specs.declared.atom.Atom.TheVariants as atom
-use Rattle.csp_atoms.proofs.ListLaws.{IsRising-with_atom}
-use Rattle.csp_atoms.proofs.MemberLaws.{has-with_atom, same_set}
-use Rattle.csp_atoms.proofs.OrderLaws.{same_exact, same_itself}
-use Rattle.csp_program.specs.Prelude.{added, all_added, limited, and_then}
-use Rattle.csp_program.specs.declared.kinds.ValueKind.TheVariants.{Kind}
-use Rattle.value_laws.specs.Numbers.{events_from}
 use Rattle.value_operators.proofs.SetSteps.{limited_few}
 
 -- what comes after an event is an event with a higher number
@@ -47,13 +39,6 @@ far_above e m (suc k) (y ∷ ys) above rise h =
     let more : next.0 + k < m = far_above next.0 m k ys (subst (λ a. AllAbove a ys) next.1 rise.0) rise.1 h in
     omega arith
 
-or_true : (b : Bool) → (b || true) ≡ true
-or_true true = refl
-or_true false = refl
-
-or_held : (b c : Bool) → c ≡ true → (b || c) ≡ true
-or_held b c h = ap (λ t. b || t) h ∙ or_true b
-
 -- a row of events from the first of a list on
 row_held : (e k i : ℕ) (xs : List Atom) → AllAbove (atom.Event e) xs → IsRising xs → slice_get (atom.Event e ∷ xs) k ≡ Some (atom.Event (e + k)) → i ≤ k → has_atom (atom.Event e ∷ xs) (atom.Event (e + i)) ≡ true
 row_held e k zero xs above rise h le =
@@ -70,7 +55,7 @@ row_held e (suc k) (suc i) (y ∷ ys) above rise h le =
     let place : e + suc k ≡ next.0 + k = omega arith in
     let wanted : e + suc i ≡ next.0 + i = omega arith in
     let held : has_atom (atom.Event next.0 ∷ ys) (atom.Event (next.0 + i)) ≡ true = row_held next.0 k i ys rest rise.1 (here ∙ ap (λ d. Some (atom.Event d)) place) (omega arith) in
-    or_held (same (atom.Event e) (atom.Event (e + suc i))) (has_atom (y ∷ ys) (atom.Event (e + suc i)))
+    or_right (same (atom.Event e) (atom.Event (e + suc i))) (has_atom (y ∷ ys) (atom.Event (e + suc i)))
     (ap (λ d. has_atom (y ∷ ys) (atom.Event d)) wanted ∙ (ap (λ a. has_atom (a ∷ ys) (atom.Event (next.0 + i))) next.1 ∙ held))
   where
     next_is : (d k : ℕ) (ys : List Atom) → AllAbove (atom.Event d) ys → IsRising ys → slice_get (atom.Event d ∷ ys) k ≡ Some (atom.Event (e + suc k)) → e < d → d ≡ e + 1
@@ -87,17 +72,6 @@ place_after : (o : Option ℕ) (p : ℕ) → one_more o ≡ Some p → (q : ℕ)
 place_after None p h = absurd (cc)
 place_after (Some q) p h = (q, refl, sym (same_place (q + 1) p h))
 
-standing : (xs : List Atom) (a : Atom) (p : ℕ) → place_of xs a ≡ Some p → slice_get xs p ≡ Some a
-standing [] a p h = absurd (cc)
-standing (x ∷ xs) a p h = at_first (λ q. standing xs a q) (same x a) refl h
-  where
-    at_first : ((q : ℕ) → place_of xs a ≡ Some q → slice_get xs q ≡ Some a) → (b : Bool) → same x a ≡ b → cond b (Some 0) (one_more (place_of xs a)) ≡ Some p → slice_get (x ∷ xs) p ≡ Some a
-    at_first later true is h = ap (λ q. slice_get (x ∷ xs) q) (sym (same_place 0 p h)) ∙ ap Some (same_exact x a is)
-    at_first later false is h =
-        let after = place_after (place_of xs a) p h in
-        let next : p ≡ suc after.0 = (let q : p ≡ after.0 + 1 = after.2 in omega arith) in
-        ap (λ q. slice_get (x ∷ xs) q) next ∙ later after.0 after.1
-
 rest_held : (e p i : ℕ) (xs : List Atom) (k : ℕ) → IsRising xs → place_of xs (atom.Event e) ≡ Some p → slice_get xs (p + k) ≡ Some (atom.Event (e + k)) → i ≤ k → has_atom xs (atom.Event (e + i)) ≡ true
 rest_held e p i [] k rise h at le = absurd (cc)
 rest_held e p i (x ∷ xs) k rise h at le = at_first (λ q. rest_held e q i xs k rise.1) (same x (atom.Event e)) refl h
@@ -111,7 +85,7 @@ rest_held e p i (x ∷ xs) k rise h at le = at_first (λ q. rest_held e q i xs k
     at_first later false is h =
         let after = place_after (place_of xs (atom.Event e)) p h in
         let next : p + k ≡ suc (after.0 + k) = (let q : p ≡ after.0 + 1 = after.2 in omega arith) in
-        or_held (same x (atom.Event (e + i))) (has_atom xs (atom.Event (e + i))) (later after.0 after.1 (ap (λ j. slice_get (x ∷ xs) j) (sym next) ∙ at) le)
+        or_right (same x (atom.Event (e + i))) (has_atom xs (atom.Event (e + i))) (later after.0 after.1 (ap (λ j. slice_get (x ∷ xs) j) (sym next) ∙ at) le)
 
 -- a member that is added changes nothing
 still_has : (xs : List Atom) (a z : Atom) → has_atom xs a ≡ true → (b : Bool) → same a z ≡ b → (b || has_atom xs z) ≡ has_atom xs z
@@ -135,7 +109,7 @@ fits_member (x ∷ xs) a kinds has =
     let same_kinds : kind_of a ≡ kind_of x = kind_of_member (kind_of x) (x ∷ xs) a (refl, kinds) has in
     grind arith
 
-member_added : (xs : List Atom) (a : Atom) → IsAtomSet xs → length xs ≤ 16384 → has_atom xs a ≡ true → added xs a ≡ Ok xs
+pub member_added : (xs : List Atom) (a : Atom) → IsAtomSet xs → length xs ≤ 16384 → has_atom xs a ≡ true → added xs a ≡ Ok xs
 member_added xs a set few has =
     ap (λ b. cond b (limited (with_atom xs a)) (Err Kind)) (fits_member xs a set.1 has) ∙ (ap limited (with_member xs a set.0 has) ∙ limited_few xs few)
 
@@ -153,5 +127,5 @@ held_added xs first last e n p rise kinds few some is_first is_last at_first at_
     let here : e ≡ e + 0 = omega arith in
     let low : place_of xs (atom.Event e) ≡ Some p = ap (place_of xs) (ap (λ (d : ℕ). atom.Event d) here ∙ sym is_first) ∙ at_first in
     let high : slice_get xs (p + (n - 1)) ≡ Some (atom.Event (e + (n - 1))) =
-    standing xs (atom.Event (e + (n - 1))) (p + (n - 1)) (ap (place_of xs) (sym is_last) ∙ at_last) in
+    at_place xs (atom.Event (e + (n - 1))) (p + (n - 1)) (ap (place_of xs) (sym is_last) ∙ at_last) in
     members_added xs e n (rise, kinds) few (λ i lt. rest_held e p i xs (n - 1) rise low high (omega arith))

@@ -1,20 +1,8 @@
 -- Sets of atoms that grow step by step.
-use Rattle.std.proofs.Common.{◌≡◌, ℕ, zero, suc, ◌+◌, ◌-◌, ◌<◌, ◌≤◌, List, [], ◌∷◌, Ok, Err, true, false, length, refl, ap, subst, sym, ◌∙◌, arith, cond, drop, get_or, drop-cons, add-one, map}
-use Rattle.std.specs.Prelude.{ℤ, pos, negsuc, ◌+ℤ◌, ◌-ℤ◌, ◌≤ℤ◌, ◌<ℤ◌, nat_le, Result}
-use Rattle.std.specs.Result.{IsErrAnd}
-use Rattle.std.proofs.lemmas.Int.{ints}
-use Rattle.csp_atoms.specs.Prelude.{less, with_atom, fits}
-use Rattle.csp_atoms.specs.declared.atom.Atom.{Atom}
+use Rattle.value_operators.proofs.Prelude.{◌≡◌, ℕ, zero, suc, ◌+◌, ◌-◌, ◌<◌, ◌≤◌, List, [], ◌∷◌, Ok, Err, true, false, length, refl, ap, subst, sym, ◌∙◌, arith, cond, drop, get_or, drop-cons, add-one, map, ℤ, pos, negsuc, ◌+ℤ◌, ◌-ℤ◌, ◌≤ℤ◌, ◌<ℤ◌, nat_le, Result, IsErrAnd, ints, less, with_atom, fits, Atom, added, all_added, limited, numbers_from, Outcome, and_then, range, ValueKind, Kind, SetLimit, events_from, Gives, EvalFault, less_number}
 use Rattle.csp_atoms.specs.declared.atom.Atom.TheVariants as atom
-use Rattle.csp_program.specs.Prelude.{added, all_added, limited, numbers_from, Outcome, and_then, range}
-use Rattle.csp_program.specs.declared.kinds.ValueKind.{ValueKind}
-use Rattle.csp_program.specs.declared.kinds.ValueKind.TheVariants.{Kind, SetLimit}
-use Rattle.value_laws.specs.Numbers.{events_from}
 use Rattle.csp_base.specs.Lists.{natural}
-use Rattle.value_operators.specs.Prelude.{Gives}
-use Rattle.value_operators.specs.declared.fault.EvalFault.{EvalFault}
 use Rattle.value_operators.proofs.Faults.{passed}
-use Rattle.csp_atoms.proofs.OrderLaws.{less_number}
 
 -- the atoms of a list, the first of which is added
 abbrev more_of : Outcome (List Atom) → List Atom → Outcome (List Atom)

@@ -1,11 +1,10 @@
 -- The forms of expressions, on what their parts come to.
 use Rattle.std.specs.Prelude.{ℕ, ◌-◌, ◌*◌, ◌^◌, min, nat_eq, neg_ℤ, Bool, false, not, ◌||◌, if◌then◌else◌, is_none, Option, Some, None, Ok, Err, List, [], ◌∷◌, drop, slice_get}
-use Rattle.csp_program.specs.Prelude.{row_count, Outcome, and_then, Gathered, as_number, as_truth, as_set, truth, in_range, binary, many, range, set_binary, sets_of}
+use Rattle.csp_program.specs.Prelude.{row_count, Outcome, and_then, Gathered, as_number, as_truth, as_set, truth, in_range, binary, many, sets_of}
 use Rattle.csp_program.specs.declared.expressions.EventPart.{EventPart, out-EventPart}
 use Rattle.csp_program.specs.declared.kinds.ValueKind.TheVariants.{Kind}
 use Rattle.csp_program.specs.declared.programs.Channel.{Channel}
 use Rattle.csp_base.specs.declared.operators.BinOp.{BinOp}
-use Rattle.csp_base.specs.declared.operators.SetOp.{SetOp}
 use Rattle.csp_atoms.specs.declared.atom.Atom.{Atom}
 use Rattle.csp_atoms.specs.declared.value.Value.{Value}
 use Rattle.csp_atoms.specs.declared.value.Value.TheVariants.{Many}
@@ -19,20 +18,11 @@ inverse o = and_then o (λ v. and_then (as_truth v) (λ b. Ok (truth (not b))))
 abbrev pub operation : BinOp → Outcome Value → Outcome Value → Outcome Value
 operation op first second = and_then first (λ v. binary op v second)
 
-abbrev pub choice : Outcome Value → Outcome Value → Outcome Value → Outcome Value
-choice c a b = and_then c (λ v. and_then (as_truth v) (λ t. if t then a else b))
-
 abbrev pub named_set : Outcome Value → Outcome Value
 named_set o = and_then o (λ v. many (as_set v))
 
 abbrev pub a_set : Outcome (List Atom) → Outcome Value
 a_set o = many o
-
-abbrev pub a_range : Outcome Value → Outcome Value → Outcome Value
-a_range a b = and_then a (λ v. and_then (as_number v) (λ m. and_then b (λ w. and_then (as_number w) (λ n. many (range m n)))))
-
-abbrev pub set_operation : SetOp → Outcome Value → Outcome Value → Outcome Value
-set_operation op a b = and_then a (λ v. and_then (as_set v) (λ xs. and_then b (λ w. and_then (as_set w) (λ ys. many (set_binary op xs ys)))))
 
 abbrev pub gathered_set : Outcome Gathered → Outcome Value
 gathered_set o = and_then o (λ state. Ok (Many state.atoms))

@@ -1,5 +1,4 @@
-use Rattle.std.proofs.Common.{arith}
-use Rattle.network_layout.specs.Triple.{alphabets}
+use Rattle.comparison.proofs.Prelude.{arith, alphabets}
 use Rattle.comparison.proofs.Lists.{as_many_alphabets, same_before}
 use Rattle.comparison.proofs.alphabets.first_other.Goals as goal
 

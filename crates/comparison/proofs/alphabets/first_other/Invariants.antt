@@ -1,6 +1,4 @@
-use Rattle.std.proofs.Common.{◌≡◌, ◌<◌, ℕ}
-use Rattle.std.specs.Prelude.{slice_get}
-use Rattle.network_layout.specs.Triple.{alphabets}
+use Rattle.comparison.proofs.Prelude.{◌≡◌, ◌<◌, ℕ, slice_get, alphabets}
 use Rattle.comparison.proofs.alphabets.first_other.Given as goal
 
 abbrev pub invariant-loop-component : goal.invariant-loop-component

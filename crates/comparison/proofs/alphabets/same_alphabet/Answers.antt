@@ -1,5 +1,4 @@
-use Rattle.std.proofs.Common.{ap₂, nat_eq, ◌∙◌}
-use Rattle.std.specs.Cmp.Lexicographic.{pointwise}
+use Rattle.comparison.proofs.Prelude.{ap₂, nat_eq, ◌∙◌, pointwise}
 use Rattle.comparison.proofs.Lists.{alphabets_match}
 use Rattle.comparison.proofs.alphabets.same_alphabet.Goals as goal
 

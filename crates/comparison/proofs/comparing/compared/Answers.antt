@@ -1,10 +1,6 @@
-use Rattle.std.proofs.Common.{rules}
-use Rattle.report.proofs.Points.{at_refusal, at_shortfall, goes_on}
-use Rattle.report.specs.Points.Point.{passed}
+use Rattle.comparison.proofs.Prelude.{rules, at_refusal, at_shortfall, goes_on, passed, ConformanceDecides, IsCompared, PartsOr, ComponentsConform}
 use Rattle.comparison.proofs.Components.{inherits}
 use Rattle.comparison.proofs.Walk.{at_parts, past_agreement, past_parts}
-use Rattle.comparison.specs.Compared.{ConformanceDecides, IsCompared, PartsOr}
-use Rattle.comparison.specs.Conforming.{ComponentsConform}
 use Rattle.comparison.proofs.comparing.compared.Goals as goal
 
 pub returns-in_err-check_events : goal.returns-in_err-check_events

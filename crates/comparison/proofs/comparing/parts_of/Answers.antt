@@ -1,8 +1,4 @@
-use Rattle.std.proofs.Common.{Err, subst}
-use Rattle.network_stages.specs.Prelude.{Network, HasNoParts}
-use Rattle.report.proofs.Points.{at_refusal, goes_on}
-use Rattle.csp_base.specs.Stops.{Tells}
-use Rattle.comparison.specs.Compared.{PartsOr}
+use Rattle.comparison.proofs.Prelude.{Err, subst, Network, HasNoParts, at_refusal, goes_on, Tells, PartsOr}
 use Rattle.comparison.proofs.comparing.parts_of.Goals as goal
 
 pub returns-in-Ok-clause-told : goal.returns-in-Ok-clause-told

@@ -1,10 +1,5 @@
-use Rattle.std.proofs.Common.{◌≡◌, length, ap, rules, arith, sym, subst}
-use Rattle.csp_tables.specs.Network.{leaves}
-use Rattle.net_sound.proofs.Parts.{one_part_each}
-use Rattle.process_steps.specs.ComponentStep.{ProcessStep}
-use Rattle.csp_base.specs.Stops.{Tells}
+use Rattle.comparison.proofs.Prelude.{◌≡◌, length, ap, rules, arith, sym, subst, leaves, one_part_each, ProcessStep, Tells, FailsToConform}
 use Rattle.comparison.proofs.Components.{all_conform, as_many, first_fails, same_events}
-use Rattle.comparison.specs.Conforming.{FailsToConform}
 use Rattle.comparison.proofs.conforming.check_components.Goals as goal
 
 pub check_parts-requires-clause-few : goal.check_parts-requires-clause-few

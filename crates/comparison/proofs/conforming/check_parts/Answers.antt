@@ -1,5 +1,4 @@
-use Rattle.std.proofs.Common.{◌<◌, ◌∙◌, length, ap, arith, sym}
-use Rattle.csp_tables.specs.Part.{Part}
+use Rattle.comparison.proofs.Prelude.{◌<◌, ◌∙◌, length, ap, arith, sym, Part}
 use Rattle.comparison.proofs.Components.{form_read, part_read}
 use Rattle.comparison.proofs.conforming.check_parts.Goals as goal
 

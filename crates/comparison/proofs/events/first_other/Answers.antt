@@ -1,5 +1,4 @@
-use Rattle.std.proofs.Common.{arith}
-use Rattle.comparison.specs.Agreement.{printed_events}
+use Rattle.comparison.proofs.Prelude.{arith, printed_events}
 use Rattle.comparison.proofs.Lists.{as_many_events, same_before}
 use Rattle.comparison.proofs.events.first_other.Goals as goal
 

@@ -1,6 +1,4 @@
-use Rattle.std.proofs.Common.{◌≡◌, ◌+◌, ◌++◌, ◌∷◌, [], length, ap, subst, sym, ◌∙◌, rules}
-use Rattle.std.proofs.lemmas.List.{length-append}
-use Rattle.conformance.specs.Alike.{AreAlike, IsAlike}
+use Rattle.conformance.proofs.Prelude.{◌≡◌, ◌+◌, ◌++◌, ◌∷◌, [], length, ap, subst, sym, ◌∙◌, rules, length-append, AreAlike, IsAlike}
 use Rattle.conformance.proofs.Standing.{one_more_alike}
 use Rattle.conformance.proofs.alike.alike_nodes.Goals as goal
 

@@ -1,5 +1,4 @@
-use Rattle.std.proofs.Common.{◌≡◌, length}
-use Rattle.conformance.specs.Alike.{AreAlike}
+use Rattle.conformance.proofs.Prelude.{◌≡◌, length, AreAlike}
 use Rattle.conformance.proofs.alike.alike_nodes.Given as goal
 
 abbrev pub invariant-loop-number : goal.invariant-loop-number

@@ -1,5 +1,4 @@
-use Rattle.std.proofs.Common.{◌∙◌, ap, sym}
-use Rattle.csp_tables.specs.Table.{Node}
+use Rattle.conformance.proofs.Prelude.{◌∙◌, ap, sym, Node}
 use Rattle.conformance.proofs.Standing.{same_sets}
 use Rattle.conformance.proofs.alike.is_alike.Goals as goal
 

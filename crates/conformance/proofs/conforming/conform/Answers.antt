@@ -1,8 +1,4 @@
-use Rattle.std.proofs.Common.{ℕ, List, length, rules, subst, sym}
-use Rattle.observed_runs.specs.Observed.{pair_at}
-use Rattle.conformance.specs.Conforming.{RunsOutside}
-use Rattle.conformance.specs.Finding.{AllAccept, AreInside, IsFirstOutside, RefusesAt}
-use Rattle.conformance.specs.Following.{follow_step}
+use Rattle.conformance.proofs.Prelude.{ℕ, List, length, rules, subst, sym, pair_at, RunsOutside, AllAccept, AreInside, IsFirstOutside, RefusesAt, follow_step}
 use Rattle.conformance.proofs.Following.{all_inside, conforms, leaves_outside, refuses_after}
 use Rattle.conformance.proofs.conforming.conform.Goals as goal
 

@@ -1,7 +1,4 @@
-use Rattle.std.proofs.Common.{ℕ, List, subst}
-use Rattle.std.specs.Prelude.{IfOk}
-use Rattle.observed_runs.specs.Prelude.{Found, IsExploration}
-use Rattle.conformance.specs.Following.{Following, follow_step}
+use Rattle.conformance.proofs.Prelude.{ℕ, List, subst, IfOk, Found, IsExploration, Following, follow_step}
 use Rattle.conformance.proofs.conforming.followed.Goals as goal
 
 pub returns-clause-pairs : goal.returns-clause-pairs

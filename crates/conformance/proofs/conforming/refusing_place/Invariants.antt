@@ -1,5 +1,4 @@
-use Rattle.std.proofs.Common.{length}
-use Rattle.conformance.specs.Finding.{AllAccept}
+use Rattle.conformance.proofs.Prelude.{length, AllAccept}
 use Rattle.conformance.proofs.conforming.refusing_place.Given as goal
 
 abbrev pub invariant-loop-place : goal.invariant-loop-place

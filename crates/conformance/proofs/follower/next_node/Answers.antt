@@ -1,5 +1,4 @@
-use Rattle.std.proofs.Common.{ℕ, List, length, subst, sym}
-use Rattle.csp_tables.specs.Form.{StepsHaveForm}
+use Rattle.conformance.proofs.Prelude.{ℕ, List, length, subst, sym, StepsHaveForm}
 use Rattle.conformance.proofs.follower.next_node.Goals as goal
 
 pub target_of-requires : goal.target_of-requires

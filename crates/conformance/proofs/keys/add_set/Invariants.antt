@@ -1,7 +1,4 @@
-use Rattle.std.proofs.Common.{◌≡◌, ◌++◌, drop}
-use Rattle.std.specs.Prelude.{slice_index}
-use Rattle.csp_base.specs.Standard.{flat_map}
-use Rattle.conformance.specs.Keys.{event_code}
+use Rattle.conformance.proofs.Prelude.{◌≡◌, ◌++◌, drop, slice_index, flat_map, event_code}
 use Rattle.conformance.proofs.keys.add_set.Given as goal
 
 abbrev pub invariant-loop-event : goal.invariant-loop-event

@@ -1,6 +1,4 @@
-use Rattle.std.proofs.Common.{ℕ, List, subst, arith}
-use Rattle.std.specs.Prelude.{slice_index}
-use Rattle.conformance.specs.Keys.{IsOneToOne}
+use Rattle.conformance.proofs.Prelude.{ℕ, List, subst, arith, slice_index, IsOneToOne}
 use Rattle.conformance.proofs.Keying.{one_to_one}
 use Rattle.conformance.proofs.keys.places_of.Goals as goal
 

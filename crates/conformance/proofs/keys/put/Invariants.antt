@@ -1,5 +1,4 @@
-use Rattle.std.proofs.Common.{◌≡◌, ◌+◌, ◌-◌, ℕ, length}
-use Rattle.std.specs.Prelude.{slice_index}
+use Rattle.conformance.proofs.Prelude.{◌≡◌, ◌+◌, ◌-◌, ℕ, length, slice_index}
 use Rattle.conformance.proofs.keys.put.Given as goal
 
 abbrev pub invariant-loop-places : goal.invariant-loop-places

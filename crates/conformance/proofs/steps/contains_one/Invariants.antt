@@ -1,5 +1,4 @@
-use Rattle.std.proofs.Common.{◌<◌, ℕ, [], get_or}
-use Rattle.csp_tables.specs.Trace.{IsWithin}
+use Rattle.conformance.proofs.Prelude.{◌<◌, ℕ, [], get_or, IsWithin}
 use Rattle.conformance.proofs.steps.contains_one.Given as goal
 
 abbrev pub invariant-loop-other : goal.invariant-loop-other

@@ -1,5 +1,4 @@
-use Rattle.std.proofs.Common.{◌<◌, ℕ, [], get_or}
-use Rattle.conformance.specs.Conforming.{HasWithin}
+use Rattle.conformance.proofs.Prelude.{◌<◌, ℕ, [], get_or, HasWithin}
 use Rattle.conformance.proofs.steps.refuses.Given as goal
 
 abbrev pub invariant-loop-set : goal.invariant-loop-set

@@ -1,5 +1,4 @@
-use Rattle.std.proofs.Common.{◌∙◌, ap}
-use Rattle.csp_atoms.specs.Sets.{event_number}
+use Rattle.csp_atoms.proofs.Prelude.{◌∙◌, ap, event_number}
 use Rattle.csp_atoms.proofs.EventLaws.{one_more_event, all_events, no_event}
 use Rattle.csp_atoms.proofs.sorted.events.Goals as goal
 

@@ -1,5 +1,4 @@
-use Rattle.std.proofs.Common.{◌≡◌, take}
-use Rattle.csp_atoms.specs.Sets.{event_atoms}
+use Rattle.csp_atoms.proofs.Prelude.{◌≡◌, take, event_atoms}
 use Rattle.csp_atoms.proofs.sorted.events.Given as goal
 
 abbrev pub invariant-loop-atom : goal.invariant-loop-atom

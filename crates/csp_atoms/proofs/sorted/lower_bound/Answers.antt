@@ -1,5 +1,4 @@
-use Rattle.std.proofs.Common.{◌≡◌, ◌-◌, ◌+◌, ◌<◌, ◌/◌, ℕ, length, get_or, true, false, arith, sym, ◌∙◌, ap}
-use Rattle.csp_atoms.specs.Prelude.{less, count_before}
+use Rattle.csp_atoms.proofs.Prelude.{◌≡◌, ◌-◌, ◌+◌, ◌<◌, ◌/◌, ℕ, length, get_or, true, false, arith, sym, ◌∙◌, ap, less, count_before}
 use Rattle.csp_atoms.proofs.SearchLaws.{count_le_length, counted, not_counted}
 use Rattle.csp_atoms.proofs.sorted.lower_bound.Goals as goal
 

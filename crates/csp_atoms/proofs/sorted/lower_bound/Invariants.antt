@@ -1,5 +1,4 @@
-use Rattle.std.proofs.Common.{◌-◌, ◌≤◌, length}
-use Rattle.csp_atoms.specs.Search.{count_before}
+use Rattle.csp_atoms.proofs.Prelude.{◌-◌, ◌≤◌, length, count_before}
 use Rattle.csp_atoms.proofs.sorted.lower_bound.Given as goal
 
 abbrev pub invariant-loop-low : goal.invariant-loop-low

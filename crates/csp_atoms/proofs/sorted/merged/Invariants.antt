@@ -1,5 +1,4 @@
-use Rattle.std.proofs.Common.{◌≡◌, ◌+◌, ◌++◌, length}
-use Rattle.csp_atoms.specs.Prelude.{IsRising, result_of}
+use Rattle.csp_atoms.proofs.Prelude.{◌≡◌, ◌+◌, ◌++◌, length, IsRising, result_of}
 use Rattle.csp_atoms.proofs.sorted.merged.Given as goal
 
 abbrev pub invariant-loop-atom : goal.invariant-loop-atom

@@ -1,5 +1,4 @@
-use Rattle.std.proofs.Common.{◌∙◌}
-use Rattle.std.proofs.lemmas.List.{take_rest}
+use Rattle.csp_base.proofs.Prelude.{◌∙◌, take_rest}
 use Rattle.csp_base.proofs.OrderLemmas.{order_past_front, blocks_past_front}
 use Rattle.csp_base.proofs.block_order.order.Goals as goal
 

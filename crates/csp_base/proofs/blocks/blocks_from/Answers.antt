@@ -1,5 +1,4 @@
-use Rattle.std.proofs.Common.{sym}
-use Rattle.std.proofs.lemmas.List.{take_rest}
+use Rattle.csp_base.proofs.Prelude.{sym, take_rest}
 use Rattle.csp_base.proofs.Places.{word_at-drop}
 use Rattle.csp_base.proofs.blocks.blocks_from.Goals as goal
 

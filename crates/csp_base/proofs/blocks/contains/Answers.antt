@@ -1,7 +1,5 @@
-use Rattle.std.proofs.Common.{◌%◌, ap, sym, ◌∙◌}
+use Rattle.csp_base.proofs.Prelude.{◌%◌, ap, sym, ◌∙◌, ◌==◌, has_bit}
 use Rattle.std.proofs.lemmas.Nat.Bits.{shr_and_one}
-use Rattle.std.specs.Prelude.{◌==◌}
-use Rattle.csp_base.specs.Blocks.{has_bit}
 use Rattle.csp_base.proofs.Places.{has_from_front}
 use Rattle.csp_base.proofs.blocks.contains.Goals as goal
 

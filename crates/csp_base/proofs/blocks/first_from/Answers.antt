@@ -1,5 +1,4 @@
-use Rattle.std.proofs.Common.{◌%◌, ap, sym, ◌∙◌, le_refl, subst, arith}
-use Rattle.csp_base.specs.Blocks.{AreBlocks}
+use Rattle.csp_base.proofs.Prelude.{◌%◌, ap, sym, ◌∙◌, le_refl, subst, arith, AreBlocks}
 use Rattle.csp_base.proofs.BlockMembers.{AreBlocksFrom-weaken}
 use Rattle.csp_base.proofs.MergeSteps.{first_word-word_at, AreBlocksFrom-rest_after}
 use Rattle.csp_base.proofs.Finds.{bits_from, find_in_block, find_past_block}

@@ -1,6 +1,4 @@
-use Rattle.std.proofs.Common.{◌<◌, length, subst, sym, arith}
-use Rattle.std.proofs.lemmas.List.{take_rest}
-use Rattle.csp_base.specs.Blocks.{AreBlocks}
+use Rattle.csp_base.proofs.Prelude.{◌<◌, length, subst, sym, arith, take_rest, AreBlocks}
 use Rattle.csp_base.proofs.Includes.{included_set, included_insert, has-included, is_within_lem}
 use Rattle.csp_base.proofs.blocks.include.Goals as goal
 

@@ -1,5 +1,4 @@
-use Rattle.std.proofs.Common.{◌≤◌, ◌-◌, length, take, drop}
-use Rattle.csp_base.specs.Prelude.{AreBlocksFrom, end_from}
+use Rattle.csp_base.proofs.Prelude.{◌≤◌, ◌-◌, length, take, drop, AreBlocksFrom, end_from}
 use Rattle.csp_base.proofs.blocks.place_of.Given as goal
 
 abbrev pub invariant-loop-low : goal.invariant-loop-low

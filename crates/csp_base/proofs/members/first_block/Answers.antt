@@ -1,5 +1,4 @@
-use Rattle.std.proofs.Common.{◌++◌, ap}
-use Rattle.csp_base.specs.Blocks.{events_of}
+use Rattle.csp_base.proofs.Prelude.{◌++◌, ap, events_of}
 use Rattle.csp_base.proofs.Words.{word_events-zero}
 use Rattle.csp_base.proofs.members.first_block.Goals as goal
 

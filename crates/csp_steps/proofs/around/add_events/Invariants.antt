@@ -1,5 +1,4 @@
-use Rattle.std.proofs.Common.{◌≡◌, ◌++◌, map, take}
-use Rattle.process_steps.specs.declared.label.Label.TheVariants.{Visible}
+use Rattle.csp_steps.proofs.Prelude.{◌≡◌, ◌++◌, map, take, Visible}
 use Rattle.csp_steps.proofs.around.add_events.Given as goal
 
 abbrev pub invariant-loop-event : goal.invariant-loop-event

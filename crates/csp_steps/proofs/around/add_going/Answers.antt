@@ -1,5 +1,4 @@
-use Rattle.term_pool.specs.Prelude.{with_first, tree_at}
-use Rattle.csp_steps.specs.Effect.{labels_by}
+use Rattle.csp_steps.proofs.Prelude.{with_first, tree_at, labels_by}
 use Rattle.csp_steps.proofs.Noting.{noted_going}
 use Rattle.csp_steps.proofs.Rounds.{add_many}
 use Rattle.csp_steps.proofs.around.add_going.Goals as goal

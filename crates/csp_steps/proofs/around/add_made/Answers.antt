@@ -1,8 +1,4 @@
-use Rattle.std.proofs.Common.{◌++◌, List, map, sym, subst}
-use Rattle.process_steps.specs.Prelude.{Move}
-use Rattle.process_steps.specs.declared.label.Label.{Label}
-use Rattle.term_pool.specs.Trees.{tree_at}
-use Rattle.csp_steps.specs.Prelude.{AreMoves, effect_as, last_by, moves_of, seen}
+use Rattle.csp_steps.proofs.Prelude.{◌++◌, List, map, sym, subst, Move, Label, tree_at, AreMoves, effect_as, last_by, moves_of, seen}
 use Rattle.csp_steps.proofs.Alike.{on_ok_of}
 use Rattle.csp_steps.proofs.Effects.{goes_on}
 use Rattle.csp_steps.proofs.Noting.{noted_stay}

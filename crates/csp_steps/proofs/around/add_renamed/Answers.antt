@@ -1,5 +1,4 @@
-use Rattle.std.proofs.Common.{◌++◌, ap, ◌∙◌}
-use Rattle.step_values.specs.Images.{becomes}
+use Rattle.csp_steps.proofs.Prelude.{◌++◌, ap, ◌∙◌, becomes}
 use Rattle.csp_steps.proofs.Effects.{renamed_steps}
 use Rattle.csp_steps.proofs.around.add_renamed.Goals as goal
 

@@ -1,8 +1,4 @@
-use Rattle.std.proofs.Common.{List, Some, ap, sym, ◌∙◌, subst, slice_get}
-use Rattle.std.proofs.lemmas.Option.{get_or_from_slice_get}
-use Rattle.term_pool.specs.Trees.{tree_at}
-use Rattle.csp_steps.specs.Prelude.{Does}
-use Rattle.csp_steps.specs.declared.operator.Operator.{Operator}
+use Rattle.csp_steps.proofs.Prelude.{List, Some, ap, sym, ◌∙◌, subst, slice_get, get_or_from_slice_get, tree_at, Does, Operator}
 use Rattle.csp_steps.proofs.Alike.{on_ok_of}
 use Rattle.csp_steps.proofs.Noting.{fits_noted}
 use Rattle.csp_steps.proofs.around.around.Goals as goal

@@ -1,7 +1,4 @@
-use Rattle.std.proofs.Common.{List, [], refl, sym, subst, arith}
-use Rattle.term_pool.specs.Trees.{tree_at}
-use Rattle.csp_steps.specs.Prelude.{AreMoves, effect_as, moves_of}
-use Rattle.csp_steps.specs.declared.step.StepTo.{StepTo}
+use Rattle.csp_steps.proofs.Prelude.{List, [], refl, sym, subst, arith, tree_at, AreMoves, effect_as, moves_of, StepTo}
 use Rattle.csp_steps.proofs.Alike.{on_ok_of}
 use Rattle.csp_steps.proofs.Computing.{whole_joined}
 use Rattle.csp_steps.proofs.Effects.{operator_stays}

@@ -1,8 +1,4 @@
-use Rattle.std.proofs.Common.{List, map, take}
-use Rattle.csp_program.specs.declared.programs.Content.{Content}
-use Rattle.term_pool.specs.Prelude.{IsFront, tree_at}
-use Rattle.csp_steps.specs.Prelude.{AreMoves, all_moves, effect_as, AreNoted, IsNumbered, seen}
-use Rattle.csp_steps.specs.declared.operator.Operator.{Operator}
+use Rattle.csp_steps.proofs.Prelude.{List, map, take, Content, IsFront, tree_at, AreMoves, all_moves, effect_as, AreNoted, IsNumbered, seen, Operator}
 use Rattle.csp_steps.proofs.around.made_of.Given as goal
 
 abbrev pub invariant-loop-step : goal.invariant-loop-step

@@ -1,11 +1,7 @@
-use Rattle.std.proofs.Common.{List, [], refl, sym, subst, arith}
-use Rattle.term_pool.specs.Trees.{tree_at}
-use Rattle.pool_parts.specs.declared.place.ProcId.{ProcId}
-use Rattle.csp_steps.specs.Computed.{AreAt}
+use Rattle.csp_steps.proofs.Prelude.{List, [], refl, sym, subst, arith, tree_at, ProcId, AreAt, made_then}
 use Rattle.csp_steps.proofs.Choosing.{all_put, next_put}
 use Rattle.csp_steps.proofs.Places.{front_both, front_same, still_within}
 use Rattle.csp_steps.proofs.choice.each_put.Goals as goal
-use Rattle.csp_base.proofs.Results.{made_then}
 
 pub loop-atom-init : goal.loop-atom-init
 loop-atom-init c = record {

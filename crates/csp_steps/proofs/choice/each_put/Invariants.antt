@@ -1,7 +1,4 @@
-use Rattle.std.proofs.Common.{take}
-use Rattle.process_steps.specs.Step.{each_put}
-use Rattle.term_pool.specs.Prelude.{IsFront, tree_at}
-use Rattle.csp_steps.specs.Computed.{AreAt}
+use Rattle.csp_steps.proofs.Prelude.{take, each_put, IsFront, tree_at, AreAt}
 use Rattle.csp_steps.proofs.choice.each_put.Given as goal
 
 abbrev pub invariant-loop-atom : goal.invariant-loop-atom

@@ -1,13 +1,8 @@
-use Rattle.std.proofs.Common.{List, [], map, refl, sym, subst, arith}
-use Rattle.process_steps.specs.StepList.{in_choice}
-use Rattle.term_pool.specs.Trees.{tree_at}
-use Rattle.csp_steps.specs.Prelude.{AreMoves}
-use Rattle.csp_steps.specs.declared.step.StepTo.{StepTo}
+use Rattle.csp_steps.proofs.Prelude.{List, [], map, refl, sym, subst, arith, in_choice, tree_at, AreMoves, StepTo, made_then}
 use Rattle.csp_steps.proofs.Computing.{whole_moves}
 use Rattle.csp_steps.proofs.Places.{all_below_stay, front_both, front_same}
 use Rattle.csp_steps.proofs.Rounds.{choice_next, step_in}
 use Rattle.csp_steps.proofs.choice.of_operand.Goals as goal
-use Rattle.csp_base.proofs.Results.{made_then}
 
 pub loop-step-init : goal.loop-step-init
 loop-step-init c = record {

@@ -1,7 +1,4 @@
-use Rattle.std.proofs.Common.{map, take}
-use Rattle.process_steps.specs.StepList.{in_choice}
-use Rattle.term_pool.specs.Prelude.{IsFront, tree_at}
-use Rattle.csp_steps.specs.Prelude.{AreMoves, seen}
+use Rattle.csp_steps.proofs.Prelude.{map, take, in_choice, IsFront, tree_at, AreMoves, seen}
 use Rattle.csp_steps.proofs.choice.of_operand.Given as goal
 
 abbrev pub invariant-loop-step : goal.invariant-loop-step

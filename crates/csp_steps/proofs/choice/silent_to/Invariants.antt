@@ -1,5 +1,4 @@
-use Rattle.std.proofs.Common.{◌≡◌, map, take}
-use Rattle.process_steps.specs.declared.label.Label.TheVariants.{Silent}
+use Rattle.csp_steps.proofs.Prelude.{◌≡◌, map, take, Silent}
 use Rattle.csp_steps.proofs.choice.silent_to.Given as goal
 
 abbrev pub invariant-loop-id : goal.invariant-loop-id

@@ -1,8 +1,5 @@
-use Rattle.std.proofs.Common.{◌≡◌, Some, List, length, map, slice_get, ap, ◌∙◌, subst}
-use Rattle.std.specs.Prelude.{IfOk}
-use Rattle.csp_program.specs.declared.processes.Proc.{Proc}
+use Rattle.csp_steps.proofs.Prelude.{◌≡◌, Some, List, length, map, slice_get, ap, ◌∙◌, subst, IfOk, Proc, all_below, tree_at}
 use Rattle.csp_program.specs.declared.processes.Proc.TheVariants as proc
-use Rattle.term_pool.specs.Trees.{all_below, tree_at}
 use Rattle.csp_steps.proofs.Choosing.{below_other, with_other}
 use Rattle.csp_steps.proofs.choice.with_operand.Goals as goal
 

@@ -1,8 +1,4 @@
-use Rattle.std.proofs.Common.{slice_get, Some, ap, sym, ◌∙◌}
-use Rattle.csp_program.specs.Prelude.{given_by, proc_with}
-use Rattle.csp_program.specs.declared.programs.Content.{Content}
-use Rattle.term_pool.specs.Trees.{tree_at}
-use Rattle.std.proofs.lemmas.Option.{slice_get_within}
+use Rattle.csp_steps.proofs.Prelude.{slice_get, Some, ap, sym, ◌∙◌, given_by, proc_with, Content, tree_at, slice_get_within}
 use Rattle.std.specs.Option.{option_copied}
 use Rattle.csp_steps.proofs.Entering.{body_is, entered}
 use Rattle.csp_steps.proofs.Noting.{fits_bodies}

@@ -1,5 +1,4 @@
-use Rattle.std.proofs.Common.{◌≡◌, length}
-use Rattle.csp_steps.specs.Walked.{is_blocked}
+use Rattle.csp_steps.proofs.Prelude.{◌≡◌, length, is_blocked}
 use Rattle.csp_steps.proofs.fields.are_blocked.Given as goal
 
 -- what is left is blocked where the whole is

@@ -1,8 +1,4 @@
-use Rattle.std.proofs.Common.{List, [], ap, subst, sym, ◌∙◌}
-use Rattle.std.proofs.lemmas.List.{nil_from_length}
-use Rattle.csp_atoms.specs.declared.atom.Atom.{Atom}
-use Rattle.value_operators.specs.Env.{with_bound}
-use Rattle.csp_steps.specs.Walked.{ways_by_number, GivesNext}
+use Rattle.csp_steps.proofs.Prelude.{List, [], ap, subst, sym, ◌∙◌, nil_from_length, Atom, with_bound, ways_by_number, GivesNext}
 use Rattle.csp_steps.proofs.fields.next_of.Goals as goal
 
 pub returns-clause-next : goal.returns-clause-next

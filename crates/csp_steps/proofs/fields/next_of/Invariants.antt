@@ -1,6 +1,4 @@
-use Rattle.std.proofs.Common.{◌≡◌, ◌≤◌, [], length}
-use Rattle.value_operators.specs.Env.{with_bound}
-use Rattle.csp_steps.specs.Prelude.{AreSets, ways_by_number, weight}
+use Rattle.csp_steps.proofs.Prelude.{◌≡◌, ◌≤◌, [], length, with_bound, AreSets, ways_by_number, weight}
 use Rattle.csp_steps.proofs.fields.next_of.Given as goal
 
 -- what is left has as many ways as the whole

@@ -1,14 +1,6 @@
-use Rattle.std.proofs.Common.{◌≡◌, Ok, List, length, map, refl, ap, ◌∙◌, subst}
-use Rattle.std.specs.Prelude.{IfOk}
-use Rattle.csp_program.specs.declared.expressions.Expr.{Expr}
-use Rattle.csp_program.specs.declared.processes.Field.{Field}
-use Rattle.value_operators.specs.Gives.{Gives}
+use Rattle.csp_steps.proofs.Prelude.{◌≡◌, Ok, List, length, map, refl, ap, ◌∙◌, subst, IfOk, Expr, Field, Gives, arguments_in, all_below, tree_at, ProcId, GivesLook}
 use Rattle.csp_program.specs.declared.processes.Proc.TheVariants as proc
-use Rattle.process_steps.specs.Needed.{arguments_in}
-use Rattle.term_pool.specs.Trees.{all_below, tree_at}
-use Rattle.pool_parts.specs.declared.place.ProcId.{ProcId}
 use Rattle.csp_steps.specs.declared.look.Look.TheVariants as look
-use Rattle.csp_steps.specs.Computed.{GivesLook}
 use Rattle.csp_steps.proofs.Computing.{passed, start_passed}
 use Rattle.csp_steps.proofs.Forms.{each_external_fault, each_internal_fault, ended, every_place, first_place, head_fault, hide, look_at, rename, second_place, sequence, stop}
 use Rattle.csp_steps.proofs.Looking.{none_listed}

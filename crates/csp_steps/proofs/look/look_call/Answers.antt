@@ -1,12 +1,5 @@
-use Rattle.std.proofs.Common.{Ok, List, ap, sym, ◌∙◌, subst}
-use Rattle.std.specs.Prelude.{Result}
-use Rattle.csp_atoms.specs.declared.value.Value.{Value}
+use Rattle.csp_steps.proofs.Prelude.{Ok, List, ap, sym, ◌∙◌, subst, Result, Value, arguments_in, steps_of, Gives, EvalFault, IsListing, StepTo}
 use Rattle.csp_program.specs.declared.processes.Proc.TheVariants as proc
-use Rattle.process_steps.specs.Prelude.{arguments_in, steps_of}
-use Rattle.value_operators.specs.Prelude.{Gives}
-use Rattle.value_operators.specs.declared.fault.EvalFault.{EvalFault}
-use Rattle.csp_steps.specs.Prelude.{IsListing}
-use Rattle.csp_steps.specs.declared.step.StepTo.{StepTo}
 use Rattle.csp_steps.proofs.Computing.{passed, value_passed}
 use Rattle.csp_steps.proofs.Forms.{arguments_fault, call, call_fault}
 use Rattle.csp_steps.proofs.look.look_call.Goals as goal

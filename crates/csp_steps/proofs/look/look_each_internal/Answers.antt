@@ -1,12 +1,5 @@
-use Rattle.std.proofs.Common.{◌≡◌, ◌<◌, Bool, false, List, [], ◌∷◌, length, map, ap, sym, ◌∙◌, arith}
-use Rattle.csp_base.proofs.Standard.{eqb-true, nil_from_length}
-use Rattle.std.specs.Prelude.{nat_eq}
-use Rattle.csp_atoms.specs.declared.atom.Atom.{Atom}
-use Rattle.process_steps.specs.declared.label.Label.TheVariants.{Silent}
-use Rattle.term_pool.specs.Trees.{tree_at}
-use Rattle.pool_parts.specs.declared.place.ProcId.{ProcId}
+use Rattle.csp_steps.proofs.Prelude.{◌≡◌, ◌<◌, Bool, false, List, [], ◌∷◌, length, map, ap, sym, ◌∙◌, arith, eqb-true, nil_from_length, nat_eq, Atom, Silent, tree_at, ProcId, StepTo}
 use Rattle.csp_steps.proofs.Forms.{each_internal, each_internal_none}
-use Rattle.csp_steps.specs.declared.step.StepTo.{StepTo}
 use Rattle.csp_steps.proofs.look.look_each_internal.Goals as goal
 
 some_there : (atoms : List Atom) (b : Bool) → b ≡ nat_eq (length atoms) 0 → b ≡ false → 0 < length atoms

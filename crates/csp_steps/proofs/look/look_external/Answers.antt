@@ -1,8 +1,5 @@
-use Rattle.std.proofs.Common.{List, map, sym, subst}
+use Rattle.csp_steps.proofs.Prelude.{List, map, sym, subst, ProcId, tree_at, AreOfChoice}
 use Rattle.csp_program.specs.declared.processes.Proc.TheVariants as proc
-use Rattle.pool_parts.specs.declared.place.ProcId.{ProcId}
-use Rattle.term_pool.specs.Trees.{tree_at}
-use Rattle.csp_steps.specs.Computed.{AreOfChoice}
 use Rattle.csp_steps.proofs.Forms.{external}
 use Rattle.csp_steps.proofs.look.look_external.Goals as goal
 

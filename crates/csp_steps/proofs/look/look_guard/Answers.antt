@@ -1,9 +1,5 @@
-use Rattle.std.proofs.Common.{Ok, List, ap, sym, ◌∙◌, subst}
+use Rattle.csp_steps.proofs.Prelude.{Ok, List, ap, sym, ◌∙◌, subst, steps_of, tree_at, IsListing, StepTo}
 use Rattle.csp_program.specs.declared.processes.Proc.TheVariants as proc
-use Rattle.process_steps.specs.StepList.{steps_of}
-use Rattle.term_pool.specs.Trees.{tree_at}
-use Rattle.csp_steps.specs.Prelude.{IsListing}
-use Rattle.csp_steps.specs.declared.step.StepTo.{StepTo}
 use Rattle.csp_steps.proofs.Computing.{value_passed}
 use Rattle.csp_steps.proofs.Forms.{guard_false, guard_fault, guard_true}
 use Rattle.csp_steps.proofs.look.look_guard.Goals as goal

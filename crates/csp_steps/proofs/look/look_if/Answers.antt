@@ -1,5 +1,4 @@
-use Rattle.std.proofs.Common.{Ok, ap, ◌∙◌}
-use Rattle.term_pool.specs.Trees.{tree_at}
+use Rattle.csp_steps.proofs.Prelude.{Ok, ap, ◌∙◌, tree_at}
 use Rattle.csp_steps.proofs.Computing.{value_passed}
 use Rattle.csp_steps.proofs.Forms.{if_false, if_fault, if_true}
 use Rattle.csp_steps.proofs.look.look_if.Goals as goal

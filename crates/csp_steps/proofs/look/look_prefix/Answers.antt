@@ -1,9 +1,5 @@
-use Rattle.std.proofs.Common.{◌≡◌, Ok, List, ◌∙◌, subst}
-use Rattle.std.specs.Prelude.{IfOk, Result}
-use Rattle.csp_program.specs.declared.processes.Field.{Field}
+use Rattle.csp_steps.proofs.Prelude.{◌≡◌, Ok, List, ◌∙◌, subst, IfOk, Result, Field, tree_at, GivesLook}
 use Rattle.csp_program.specs.declared.processes.Proc.TheVariants as proc
-use Rattle.term_pool.specs.Trees.{tree_at}
-use Rattle.csp_steps.specs.Computed.{GivesLook}
 use Rattle.csp_steps.specs.declared.look.Look.TheVariants as look
 use Rattle.csp_steps.proofs.Computing.{passed}
 use Rattle.csp_steps.proofs.Forms.{prefix, prefix_fault}

@@ -1,8 +1,5 @@
-use Rattle.std.proofs.Common.{List, sym, subst}
+use Rattle.csp_steps.proofs.Prelude.{List, sym, subst, steps_of, IsListing, StepTo}
 use Rattle.csp_program.specs.declared.processes.Proc.TheVariants as proc
-use Rattle.process_steps.specs.StepList.{steps_of}
-use Rattle.csp_steps.specs.Prelude.{IsListing}
-use Rattle.csp_steps.specs.declared.step.StepTo.{StepTo}
 use Rattle.csp_steps.proofs.Forms.{skip}
 use Rattle.csp_steps.proofs.Places.{found}
 use Rattle.csp_steps.proofs.look.look_skip.Goals as goal

@@ -1,5 +1,4 @@
-use Rattle.std.proofs.Common.{take}
-use Rattle.csp_steps.specs.Computed.{AreAdded}
+use Rattle.csp_steps.proofs.Prelude.{take, AreAdded}
 use Rattle.csp_steps.proofs.once.add_each.Given as goal
 
 abbrev pub invariant-loop-step : goal.invariant-loop-step

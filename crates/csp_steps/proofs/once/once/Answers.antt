@@ -1,7 +1,5 @@
-use Rattle.std.proofs.Common.{◌<◌, List, length, subst, arith}
+use Rattle.csp_steps.proofs.Prelude.{◌<◌, List, length, subst, arith, AreAdded, StepTo}
 use Rattle.std.proofs.lemmas.Result.{IfOk-weaker}
-use Rattle.csp_steps.specs.Prelude.{AreAdded}
-use Rattle.csp_steps.specs.declared.step.StepTo.{StepTo}
 use Rattle.csp_steps.proofs.Doubles.{once_of}
 use Rattle.csp_steps.proofs.Firsts.{firsts_few}
 use Rattle.csp_steps.proofs.once.once.Goals as goal

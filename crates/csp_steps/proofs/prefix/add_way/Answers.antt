@@ -1,10 +1,4 @@
-use Rattle.std.proofs.Common.{Some, [], ap, ◌∙◌}
-use Rattle.csp_program.specs.Substitution.{given_by, proc_with}
-use Rattle.process_steps.specs.declared.label.Label.TheVariants.{Visible}
-use Rattle.term_pool.specs.Trees.{tree_at}
-use Rattle.value_operators.specs.Env.{with_bound}
-use Rattle.csp_steps.specs.Prelude.{way_move}
-use Rattle.csp_steps.specs.declared.step.StepTo.{StepTo}
+use Rattle.csp_steps.proofs.Prelude.{Some, [], ap, ◌∙◌, given_by, proc_with, Visible, tree_at, with_bound, way_move, StepTo}
 use Rattle.csp_steps.proofs.Choosing.{as_move}
 use Rattle.csp_steps.proofs.Rounds.{add_one}
 use Rattle.csp_steps.proofs.prefix.add_way.Goals as goal

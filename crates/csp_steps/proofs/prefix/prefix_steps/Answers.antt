@@ -1,7 +1,4 @@
-use Rattle.std.proofs.Common.{List, [], length, map, Ok, ap, sym, ◌∙◌}
-use Rattle.term_pool.specs.Trees.{tree_at}
-use Rattle.csp_steps.specs.Prelude.{all_within, seen, filled, name_of}
-use Rattle.csp_steps.specs.declared.step.StepTo.{StepTo}
+use Rattle.csp_steps.proofs.Prelude.{List, [], length, map, Ok, ap, sym, ◌∙◌, tree_at, all_within, seen, filled, name_of, StepTo}
 use Rattle.csp_steps.proofs.Places.{front_same, still_within}
 use Rattle.csp_steps.proofs.Walking.{begins, no_ways}
 use Rattle.csp_steps.proofs.prefix.prefix_steps.Goals as goal

@@ -1,6 +1,4 @@
-use Rattle.std.proofs.Common.{◌≡◌, true, [], length}
-use Rattle.term_pool.specs.Prelude.{IsFront, tree_at}
-use Rattle.csp_steps.specs.Prelude.{all_within, AreSets, filled, walk_moves, walk_weight, ways_by_number, IsSound}
+use Rattle.csp_steps.proofs.Prelude.{◌≡◌, true, [], length, IsFront, tree_at, all_within, AreSets, filled, walk_moves, walk_weight, ways_by_number, IsSound}
 use Rattle.csp_steps.proofs.prefix.prefix_steps.Given as goal
 
 -- the walk still comes to the same steps

@@ -1,5 +1,4 @@
-use Rattle.std.proofs.Common.{refl, sym, arith}
-use Rattle.std.proofs.lemmas.Option.{slice_get_within}
+use Rattle.csp_steps.proofs.Prelude.{refl, sym, arith, slice_get_within}
 use Rattle.csp_steps.proofs.Walking.{taken_none, taken_one}
 use Rattle.csp_steps.proofs.prefix.take.Goals as goal
 

@@ -1,8 +1,4 @@
-use Rattle.std.proofs.Common.{◌++◌, ◌∷◌, [], map, List, ℕ, subst}
-use Rattle.csp_atoms.specs.declared.atom.Atom.{Atom}
-use Rattle.term_pool.specs.Trees.{tree_at}
-use Rattle.value_operators.specs.Env.{with_bound}
-use Rattle.csp_steps.specs.Prelude.{AreMoves, seen, way_move, IsTurned}
+use Rattle.csp_steps.proofs.Prelude.{◌++◌, ◌∷◌, [], map, List, ℕ, subst, Atom, tree_at, with_bound, AreMoves, seen, way_move, IsTurned}
 use Rattle.csp_steps.proofs.Walking.{gone_to_way}
 use Rattle.csp_steps.proofs.prefix.turn_on.Goals as goal
 

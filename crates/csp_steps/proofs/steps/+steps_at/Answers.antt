@@ -1,8 +1,4 @@
-use Rattle.std.proofs.Common.{map, length, refl, ap, ◌∙◌, arith}
-use Rattle.std.proofs.lemmas.List.{length-map}
-use Rattle.process_steps.specs.StepList.{steps_of}
-use Rattle.term_pool.specs.Prelude.{tree_at, id_or}
-use Rattle.csp_steps.specs.Computed.{all_within}
+use Rattle.csp_steps.proofs.Prelude.{map, length, refl, ap, ◌∙◌, arith, length-map, steps_of, tree_at, id_or, all_within}
 use Rattle.csp_steps.proofs.Alike.{around_each, around_passed, choice_each, known_each, on_ok_of, same_each, these_each}
 use Rattle.csp_steps.proofs.Computing.{passed}
 use Rattle.csp_steps.proofs.Choosing.{at_any, choice_begin, choice_end, operand_fault, operand_in, operand_less, operand_next}

@@ -1,10 +1,6 @@
-use Rattle.std.proofs.Common.{◌+◌, ◌*◌, map}
-use Rattle.csp_program.specs.Depth.{proc_depth}
-use Rattle.term_pool.specs.Prelude.{IsFront, tree_at}
-use Rattle.csp_steps.specs.Evaluated.{Fits}
+use Rattle.csp_steps.proofs.Prelude.{◌+◌, ◌*◌, map, proc_depth, IsFront, tree_at, Fits, greatest}
 use Rattle.csp_steps.proofs.Choosing.{IsChoiceSoFar}
 use Rattle.csp_steps.proofs.steps.+steps_at.Given as goal
-use Rattle.csp_base.specs.Lists.{greatest}
 
 -- each call goes to a process that is less deep, or from the operands of a choice to one that is no deeper than the deepest
 abbrev pub decreases-steps_at : goal.decreases-steps_at

@@ -1,5 +1,4 @@
-use Rattle.std.proofs.Common.{ℕ, ◌<◌}
-use Rattle.cyclic_conditions.specs.Facts.{HasFirst}
+use Rattle.cyclic_conditions.proofs.Prelude.{ℕ, ◌<◌, HasFirst}
 use Rattle.cyclic_conditions.proofs.facts.fact_of.Given as goal
 
 abbrev pub invariant-loop-first : goal.invariant-loop-first

@@ -1,5 +1,4 @@
-use Rattle.std.proofs.Common.{◌≡◌, ◌++◌, drop}
-use Rattle.cyclic_conditions.specs.Facts.{links_in_order}
+use Rattle.cyclic_conditions.proofs.Prelude.{◌≡◌, ◌++◌, drop, links_in_order}
 use Rattle.cyclic_conditions.proofs.facts.in_order.Given as goal
 
 abbrev pub invariant-loop-first : goal.invariant-loop-first

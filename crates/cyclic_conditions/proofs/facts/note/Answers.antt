@@ -1,6 +1,4 @@
-use Rattle.std.proofs.Common.{◌≡◌, ◌∙◌, Some, None, inl, inr, sym, refl}
-use Rattle.std.proofs.lemmas.List.{get_or_default}
-use Rattle.cyclic_conditions.specs.Facts.{first_at}
+use Rattle.cyclic_conditions.proofs.Prelude.{◌≡◌, ◌∙◌, Some, None, inl, inr, sym, refl, get_or_default, first_at}
 use Rattle.cyclic_conditions.proofs.facts.note.Goals as goal
 
 pub returns-in-Some-clause-clash : goal.returns-in-Some-clause-clash

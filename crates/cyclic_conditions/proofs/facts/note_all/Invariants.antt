@@ -1,5 +1,4 @@
-use Rattle.std.proofs.Common.{ℕ, ◌<◌}
-use Rattle.cyclic_conditions.specs.Facts.{AreFirsts, IsNoted}
+use Rattle.cyclic_conditions.proofs.Prelude.{ℕ, ◌<◌, AreFirsts, IsNoted}
 use Rattle.cyclic_conditions.proofs.facts.note_all.Given as goal
 
 abbrev pub invariant-loop-pair : goal.invariant-loop-pair

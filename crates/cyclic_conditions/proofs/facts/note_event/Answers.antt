@@ -1,8 +1,5 @@
-use Rattle.std.proofs.Common.{◌∙◌, sym, subst}
+use Rattle.cyclic_conditions.proofs.Prelude.{◌∙◌, sym, subst, on_ok_weaker, same_Some, pair_at, HasFirst}
 use Rattle.std.proofs.lemmas.Result.{IfErr-weaker}
-use Rattle.csp_base.proofs.Standard.{on_ok_weaker, same_Some}
-use Rattle.observed_runs.specs.Prelude.{pair_at}
-use Rattle.cyclic_conditions.specs.Facts.{HasFirst}
 use Rattle.cyclic_conditions.proofs.LapPlaces.{place_within, event_noted, event_clashes}
 use Rattle.cyclic_conditions.proofs.facts.note_event.Goals as goal
 

@@ -1,12 +1,4 @@
-use Rattle.std.proofs.Common.{◌≡◌, ◌≤◌, ◌∙◌, ℕ, List, ap, sym, subst, arith, inl, inr, length}
-use Rattle.csp_base.proofs.Standard.{cases_lt, get_or_read}
-use Rattle.csp_tables.specs.Prelude.{node_at}
-use Rattle.observed_runs.specs.Prelude.{AreEnough, pair_at}
-use Rattle.shape_links.specs.Component.{table_of}
-use Rattle.shape_links.specs.Links.{IsOwner}
-use Rattle.cyclic_conditions.specs.Facts.{HasFirst, IsPossibleAt}
-use Rattle.cyclic_conditions.specs.Laps.{shape_of}
-use Rattle.cyclic_conditions.specs.declared.laps.Laps.{Laps}
+use Rattle.cyclic_conditions.proofs.Prelude.{◌≡◌, ◌≤◌, ◌∙◌, ℕ, List, ap, sym, subst, arith, inl, inr, length, cases_lt, get_or_read, node_at, AreEnough, pair_at, table_of, IsOwner, HasFirst, IsPossibleAt, shape_of, Laps}
 use Rattle.cyclic_conditions.proofs.LapPlaces.{node_within}
 use Rattle.cyclic_conditions.proofs.Noting.{all_noted, enough_possible}
 use Rattle.cyclic_conditions.proofs.facts.note_pair.Goals as goal

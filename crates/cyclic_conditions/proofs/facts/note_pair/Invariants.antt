@@ -1,7 +1,4 @@
-use Rattle.std.proofs.Common.{ℕ, ◌<◌}
-use Rattle.observed_runs.specs.Prelude.{pair_at}
-use Rattle.shape_links.specs.Links.{IsOwner}
-use Rattle.cyclic_conditions.specs.Facts.{AreMore, HasFirst}
+use Rattle.cyclic_conditions.proofs.Prelude.{ℕ, ◌<◌, pair_at, IsOwner, AreMore, HasFirst}
 use Rattle.cyclic_conditions.proofs.facts.note_pair.Given as goal
 
 abbrev pub invariant-loop-event : goal.invariant-loop-event

@@ -1,10 +1,4 @@
-use Rattle.std.proofs.Common.{◌≡◌, length, ap, sym, subst, arith, inl, inr}
-use Rattle.csp_base.proofs.Standard.{cases_lt, err_from_is_err_and}
-use Rattle.std.specs.Prelude.{IfErr}
-use Rattle.csp_base.specs.Prelude.{Tells}
-use Rattle.csp_tables.specs.Prelude.{Shape, Part}
-use Rattle.design_rules.specs.Prelude.{KeepsPlaces, BreaksCyclic}
-use Rattle.cyclic_conditions.specs.Told.{IsBrokenOrder}
+use Rattle.cyclic_conditions.proofs.Prelude.{◌≡◌, length, ap, sym, subst, arith, inl, inr, cases_lt, err_from_is_err_and, IfErr, Tells, Shape, Part, KeepsPlaces, BreaksCyclic, IsBrokenOrder}
 use Rattle.cyclic_conditions.proofs.LapPlaces.{breaks_there, orders_more}
 use Rattle.cyclic_conditions.proofs.orders.link_orders.Goals as goal
 

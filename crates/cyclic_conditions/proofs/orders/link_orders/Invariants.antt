@@ -1,6 +1,4 @@
-use Rattle.std.proofs.Common.{◌≡◌, ℕ, ◌<◌, length}
-use Rattle.design_rules.specs.Cyclic.{KeepsPlaces}
-use Rattle.cyclic_conditions.specs.Orders.{IsOrder, order_at}
+use Rattle.cyclic_conditions.proofs.Prelude.{◌≡◌, ℕ, ◌<◌, length, KeepsPlaces, IsOrder, order_at}
 use Rattle.cyclic_conditions.proofs.orders.link_orders.Given as goal
 
 abbrev pub invariant-loop-part : goal.invariant-loop-part

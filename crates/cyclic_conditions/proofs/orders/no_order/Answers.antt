@@ -1,6 +1,4 @@
-use Rattle.std.proofs.Common.{◌≤◌, length, refl, arith}
-use Rattle.shape_links.specs.Component.{table_of}
-use Rattle.cyclic_conditions.specs.Laps.{next_place}
+use Rattle.cyclic_conditions.proofs.Prelude.{◌≤◌, length, refl, arith, table_of, next_place}
 use Rattle.cyclic_conditions.proofs.LapPlaces.{breaks_first, breaks_second}
 use Rattle.cyclic_conditions.proofs.orders.no_order.Goals as goal
 

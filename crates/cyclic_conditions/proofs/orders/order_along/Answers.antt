@@ -1,8 +1,4 @@
-use Rattle.std.proofs.Common.{◌≡◌, ◌∙◌, Option, length, ap, sym, subst, refl, arith}
-use Rattle.std.proofs.lemmas.List.{with_items_is}
-use Rattle.cyclic_conditions.specs.Facts.{links_in_order}
-use Rattle.cyclic_conditions.specs.declared.facts.Fact.{Fact}
-use Rattle.cyclic_conditions.specs.Orders.{IsOrder}
+use Rattle.cyclic_conditions.proofs.Prelude.{◌≡◌, ◌∙◌, Option, length, ap, sym, subst, refl, arith, with_items_is, links_in_order, Fact, IsOrder}
 use Rattle.cyclic_conditions.proofs.LapPlaces.{keeps, is_order, none_kept}
 use Rattle.cyclic_conditions.proofs.orders.order_along.Goals as goal
 

@@ -1,6 +1,4 @@
-use Rattle.std.proofs.Common.{◌≡◌, ◌∙◌, length, sym, subst, arith}
-use Rattle.design_rules.specs.Prelude.{links_of}
-use Rattle.cyclic_conditions.specs.Orders.{IsOrder}
+use Rattle.cyclic_conditions.proofs.Prelude.{◌≡◌, ◌∙◌, length, sym, subst, arith, links_of, IsOrder}
 use Rattle.cyclic_conditions.proofs.LapPlaces.{links_count, keeps_none, order_none}
 use Rattle.cyclic_conditions.proofs.orders.order_of.Goals as goal
 

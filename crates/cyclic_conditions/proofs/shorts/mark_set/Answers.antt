@@ -1,9 +1,5 @@
-use Rattle.std.proofs.Common.{◌≡◌, ◌∙◌, ℕ, List, Option, Some, length, ap, sym, refl, arith}
-use Rattle.std.proofs.lemmas.List.{with_items_is}
+use Rattle.cyclic_conditions.proofs.Prelude.{◌≡◌, ◌∙◌, ℕ, List, Option, Some, length, ap, sym, refl, arith, with_items_is, slice_set, unwrap_or, Link, Node, short_at}
 use Rattle.std.specs.Vec.{with_items}
-use Rattle.std.specs.Prelude.{slice_set, unwrap_or}
-use Rattle.csp_tables.specs.Prelude.{Link, Node}
-use Rattle.cyclic_conditions.specs.Shorts.{short_at}
 use Rattle.cyclic_conditions.proofs.Shortness.{accept_read, look_none, look_left, look_right}
 use Rattle.cyclic_conditions.proofs.shorts.mark_set.Goals as goal
 

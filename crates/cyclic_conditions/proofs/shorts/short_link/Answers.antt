@@ -1,12 +1,6 @@
-use Rattle.std.proofs.Common.{◌≡◌, ◌∙◌, ℕ, List, Some, nat_le, ap, sym, subst, refl}
-use Rattle.csp_base.proofs.Standard.{false≢true, none-some, same_Some}
-use Rattle.csp_base.specs.Events.{is_subset_of}
-use Rattle.csp_tables.specs.Shape.{Link, Shape, link_at}
-use Rattle.cyclic_conditions.specs.Shorts.{IsShort}
-use Rattle.shape_links.proofs.Links.{vocabulary_owner}
+use Rattle.cyclic_conditions.proofs.Prelude.{◌≡◌, ◌∙◌, ℕ, List, Some, nat_le, ap, sym, subst, refl, false≢true, none-some, same_Some, is_subset_of, Link, Shape, link_at, IsShort, vocabulary_owner, find_has, none_found}
 use Rattle.cyclic_conditions.proofs.Shortness.{short_set, short_subset, short_owner, short_lacks}
 use Rattle.cyclic_conditions.proofs.shorts.short_link.Goals as goal
-use Rattle.csp_base.proofs.Listed.{find_has, none_found}
 
 pub returns-then-not-is_subset-clause-all : goal.returns-then-not-is_subset-clause-all
 returns-then-not-is_subset-clause-all c l one s =

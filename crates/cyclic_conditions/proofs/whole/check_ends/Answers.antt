@@ -1,7 +1,4 @@
-use Rattle.std.proofs.Common.{◌≡◌, length, ap, arith, inl, inr, subst}
-use Rattle.csp_base.proofs.Standard.{cases_lt}
-use Rattle.csp_tables.specs.Prelude.{Link, Shape}
-use Rattle.design_rules.specs.Prelude.{HasWholeEnd}
+use Rattle.cyclic_conditions.proofs.Prelude.{◌≡◌, length, ap, arith, inl, inr, subst, cases_lt, Link, Shape, HasWholeEnd}
 use Rattle.cyclic_conditions.proofs.whole.check_ends.Goals as goal
 
 pub loop-link-preserved : goal.loop-link-preserved

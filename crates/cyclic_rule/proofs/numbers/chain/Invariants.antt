@@ -1,7 +1,4 @@
-use Rattle.std.proofs.Common.{◌≡◌, ℕ, ◌<◌, ◌+◌, ◌⊎◌, Some, length}
-use Rattle.std.specs.Prelude.{slice_get}
-use Rattle.digraph.specs.Digraph.{HasArc}
-use Rattle.cyclic_rule.specs.Chains.{IsNextIn}
+use Rattle.cyclic_rule.proofs.Prelude.{◌≡◌, ℕ, ◌<◌, ◌+◌, ◌⊎◌, Some, length, slice_get, HasArc, IsNextIn}
 use Rattle.cyclic_rule.proofs.numbers.chain.Given as goal
 
 abbrev pub invariant-loop-place : goal.invariant-loop-place

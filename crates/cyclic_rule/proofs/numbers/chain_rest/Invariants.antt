@@ -1,8 +1,4 @@
-use Rattle.std.proofs.Common.{◌≡◌, ℕ, ◌<◌, ◌⊎◌, Some, false, length}
-use Rattle.std.specs.Prelude.{slice_get}
-use Rattle.csp_base.specs.Members.{has}
-use Rattle.digraph.specs.Digraph.{HasArc}
-use Rattle.cyclic_rule.specs.Chains.{IsRestAfter}
+use Rattle.cyclic_rule.proofs.Prelude.{◌≡◌, ℕ, ◌<◌, ◌⊎◌, Some, false, length, slice_get, has, HasArc, IsRestAfter}
 use Rattle.cyclic_rule.proofs.numbers.chain_rest.Given as goal
 
 abbrev pub invariant-loop-link : goal.invariant-loop-link

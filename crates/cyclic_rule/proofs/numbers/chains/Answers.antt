@@ -1,7 +1,4 @@
-use Rattle.std.proofs.Common.{◌∙◌, ap, length}
-use Rattle.csp_tables.specs.Prelude.{Shape}
-use Rattle.digraph.specs.Digraph.{HasArc}
-use Rattle.shape_links.specs.Links.{ends_of}
+use Rattle.cyclic_rule.proofs.Prelude.{◌∙◌, ap, length, Shape, HasArc, ends_of}
 use Rattle.cyclic_rule.proofs.Chaining.{order_all, order_read, ends_all, chains_more}
 use Rattle.cyclic_rule.proofs.numbers.chains.Goals as goal
 
@@ -25,5 +22,5 @@ loop-part-preserved c =
     let first = order_read shape orders part c.as_slice.result.now c.index-orders-part.result c.requires c.loop-part-test.true c.as_slice.ensures c.index-orders-part.is in
     let second = order_read shape orders part c.as_slice-in-loop-part.result.now c.index-orders-part-in-loop-part.result c.requires c.loop-part-test.true c.as_slice-in-loop-part.ensures c.index-orders-part-in-loop-part.is in
     let more = chains_more shape orders part c.as_slice.result.now c.as_slice-in-loop-part.result.now c.links-ends.result.now (HasArc c.loop-part.rows) (HasArc c.chain.new.rows) (HasArc c.chain_rest.new.rows) first.0 second.0 (c.links-ends.ensures ∙ (ap (λ (s : Shape). ends_of s c.component.result.number) c.component.ensures.shape ∙ ap (ends_of c.args.prepared.now) c.component.ensures.number))
-    i.sound i.complete a.sound a.kept a.complete b.sound b.kept b.complete in
+    i.sound i.complete a.arcs b.arcs in
     record { count = b.count ∙ a.count ∙ i.count; sound = more.0; complete = more.1 }

@@ -1,6 +1,4 @@
-use Rattle.std.proofs.Common.{◌≡◌, ℕ, length}
-use Rattle.digraph.specs.Digraph.{HasArc}
-use Rattle.cyclic_rule.specs.Chains.{IsNextAt}
+use Rattle.cyclic_rule.proofs.Prelude.{◌≡◌, ℕ, length, HasArc, IsNextAt}
 use Rattle.cyclic_rule.proofs.numbers.chains.Given as goal
 
 abbrev pub invariant-loop-part : goal.invariant-loop-part

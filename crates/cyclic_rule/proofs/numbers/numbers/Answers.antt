@@ -1,8 +1,6 @@
-use Rattle.std.proofs.Common.{◌<◌, ◌∙◌, ℕ, List, map, length, ap, sym, subst, Err}
-use Rattle.std.specs.Prelude.{slice_index}
-use Rattle.csp_tables.specs.Shape.{Shape}
-use Rattle.digraph.specs.Prelude.{HasArc, IsLeastCircle}
-use Rattle.design_rules.specs.Prelude.{MustPrecede, ends_of}
+use Rattle.cyclic_rule.proofs.Prelude.{◌<◌, ◌∙◌, ℕ, List, map, length, ap, sym, subst, Err, slice_index, Shape, HasArc, MustPrecede}
+use Rattle.digraph.specs.Prelude.{IsLeastCircle}
+use Rattle.design_rules.specs.Prelude.{ends_of}
 use Rattle.shape_links.specs.Turned.{turned_circle}
 use Rattle.cyclic_rule.proofs.Chaining.{next_precedes, all_rise, chain_numbers}
 use Rattle.shape_links.proofs.Circles.{turned_least, circle_some}

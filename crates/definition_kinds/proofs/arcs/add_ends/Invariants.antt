@@ -1,6 +1,4 @@
-use Rattle.std.proofs.Common.{◌≡◌, ℕ, ◌&&◌, ◌||◌, nat_eq, length, take}
-use Rattle.digraph.specs.Digraph.{has_arc}
-use Rattle.definition_kinds.specs.Sources.{some_from}
+use Rattle.definition_kinds.proofs.Prelude.{◌≡◌, ℕ, ◌&&◌, ◌||◌, nat_eq, length, take, has_arc, some_from}
 use Rattle.definition_kinds.proofs.arcs.add_ends.Given as goal
 
 abbrev pub invariant-loop-end : goal.invariant-loop-end

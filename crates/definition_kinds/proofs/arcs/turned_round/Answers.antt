@@ -1,7 +1,4 @@
-use Rattle.std.proofs.Common.{◌≡◌, ◌+◌, List, ◌&&◌, ◌||◌, nat_eq, get_or, sym, ap, ◌∙◌, arith}
-use Rattle.script_names.specs.declared.kinds.End.{End}
-use Rattle.digraph.specs.Digraph.{has_arc}
-use Rattle.definition_kinds.specs.Sources.{some_from}
+use Rattle.definition_kinds.proofs.Prelude.{◌≡◌, ◌+◌, List, ◌&&◌, ◌||◌, nat_eq, get_or, sym, ap, ◌∙◌, arith, End, has_arc, some_from}
 use Rattle.definition_kinds.proofs.ArcLaws.{arcs_step}
 use Rattle.definition_kinds.proofs.arcs.turned_round.Goals as goal
 

@@ -1,9 +1,5 @@
-use Rattle.std.proofs.Common.{◌≡◌, ℕ, ◌+◌, ◌&&◌, nat_lt, length}
-use Rattle.std.specs.Prelude.{slice_get}
-use Rattle.digraph.specs.Digraph.{has_arc}
+use Rattle.definition_kinds.proofs.Prelude.{◌≡◌, ℕ, ◌+◌, ◌&&◌, nat_lt, length, slice_get, has_arc, ends_at, some_from}
 use Rattle.name_tables.specs.Ends.{rows as ends_of}
-use Rattle.script_names.specs.Kinds.{ends_at}
-use Rattle.definition_kinds.specs.Sources.{some_from}
 use Rattle.definition_kinds.proofs.arcs.turned_round.Given as goal
 
 abbrev pub invariant-loop-ends : goal.invariant-loop-ends

@@ -1,5 +1,4 @@
-use Rattle.std.proofs.Common.{length, sym}
-use Rattle.name_tables.specs.Ends.{rows}
+use Rattle.definition_kinds.proofs.Prelude.{length, sym, rows}
 use Rattle.definition_kinds.proofs.FoundLaws.{are_kinds, rows-length}
 use Rattle.definition_kinds.proofs.kinds.kinds_among.Goals as goal
 

@@ -1,9 +1,5 @@
-use Rattle.std.proofs.Common.{◌≡◌, ◌≤◌, List, length, ap, ◌∙◌, subst, arith}
+use Rattle.definition_kinds.proofs.Prelude.{◌≡◌, ◌≤◌, List, length, ap, ◌∙◌, subst, arith, AreKindsOf, body_ends, first_of, End, size, rows}
 use Rattle.std.specs.List.{flat_map}
-use Rattle.script_names.specs.Prelude.{AreKindsOf, body_ends, first_of}
-use Rattle.script_names.specs.declared.kinds.End.{End}
-use Rattle.script_sizes.specs.Size.{size}
-use Rattle.name_tables.specs.Ends.{rows}
 use Rattle.definition_kinds.proofs.FoundLaws.{rows-length, same_ends}
 use Rattle.definition_kinds.proofs.SizeLaws.{few_definitions}
 use Rattle.definition_kinds.proofs.kinds.kinds_of.Goals as goal

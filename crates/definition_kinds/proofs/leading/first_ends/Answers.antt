@@ -1,6 +1,4 @@
-use Rattle.std.proofs.Common.{List, ap, ◌∙◌, ◌∷◌, ◌++◌, [], take}
-use Rattle.script_names.specs.declared.kinds.End.{End}
-use Rattle.name_tables.specs.Ends.{rows}
+use Rattle.definition_kinds.proofs.Prelude.{List, ap, ◌∙◌, ◌∷◌, ◌++◌, [], take, End, rows}
 use Rattle.definition_kinds.proofs.FoundLaws.{firsts_step}
 use Rattle.definition_kinds.proofs.leading.first_ends.Goals as goal
 

@@ -1,5 +1,4 @@
-use Rattle.std.proofs.Common.{◌≡◌, take}
-use Rattle.name_tables.specs.Ends.{rows}
+use Rattle.definition_kinds.proofs.Prelude.{◌≡◌, take, rows}
 use Rattle.script_names.specs.Kinds as meant
 use Rattle.definition_kinds.proofs.leading.first_ends.Given as goal
 

@@ -1,5 +1,4 @@
-use Rattle.std.proofs.Common.{◌≡◌, length, arith}
-use Rattle.name_tables.specs.Ends.{rows}
+use Rattle.definition_kinds.proofs.Prelude.{◌≡◌, length, arith, rows}
 use Rattle.definition_kinds.proofs.FoundLaws.{leading_from, rows-length}
 use Rattle.definition_kinds.proofs.leading.leading.Goals as goal
 

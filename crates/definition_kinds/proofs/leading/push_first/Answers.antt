@@ -1,5 +1,4 @@
-use Rattle.std.proofs.Common.{[], ◌∷◌, ◌++◌, ap, ◌∙◌}
-use Rattle.name_tables.specs.Ends.{rows}
+use Rattle.definition_kinds.proofs.Prelude.{[], ◌∷◌, ◌++◌, ap, ◌∙◌, rows}
 use Rattle.definition_kinds.proofs.FoundLaws.{rows-snoc}
 use Rattle.definition_kinds.proofs.leading.push_first.Goals as goal
 

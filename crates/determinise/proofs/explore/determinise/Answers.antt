@@ -1,8 +1,4 @@
-use Rattle.std.proofs.Common.{subst}
-use Rattle.std.specs.Prelude.{IfOk, OnOk}
-use Rattle.csp_tables.specs.Prelude.{RawTable, RawStep, HasAcceptances}
-use Rattle.determinise.specs.Determinised.{FollowsTraces}
-use Rattle.determinise.specs.ManySets.{ReachesSets}
+use Rattle.determinise.proofs.Prelude.{subst, IfOk, OnOk, RawTable, RawStep, HasAcceptances, FollowsTraces, ReachesSets}
 use Rattle.determinise.proofs.explore.determinise.Goals as goal
 
 pub returns-clause-traces : goal.returns-clause-traces

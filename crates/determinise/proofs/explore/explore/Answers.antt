@@ -1,5 +1,4 @@
-use Rattle.std.proofs.Common.{◌≡◌, ◌<◌, ℕ, length, sym, subst, rules, arith}
-use Rattle.determinise.specs.Progress.{set_at, IsNodeOf, IsReachedFromSet, AreNodesSoFar}
+use Rattle.determinise.proofs.Prelude.{◌≡◌, ◌<◌, ℕ, length, sym, subst, rules, arith, set_at, IsNodeOf, IsReachedFromSet, AreNodesSoFar}
 use Rattle.determinise.proofs.Exploring.{no_nodes, reached_more, nodes_more}
 use Rattle.determinise.proofs.explore.explore.Goals as goal
 

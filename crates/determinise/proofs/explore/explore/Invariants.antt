@@ -1,15 +1,14 @@
-use Rattle.std.proofs.Common.{◌-◌, ◌≤◌, length}
-use Rattle.determinise.specs.Known.{IsReady}
-use Rattle.determinise.specs.Progress.{AreNodesSoFar, AreReachedSets}
+use Rattle.determinise.proofs.Prelude.{◌-◌, ◌≤◌, length, IsReady, AreNodesSoFar, AreReachedSets}
 use Rattle.determinise.proofs.explore.explore.Given as goal
+use Rattle.dl_limits.specs.declared.TheConstants.{MOST_SETS}
 
 abbrev pub invariant-loop-alloc : goal.invariant-loop-alloc
 invariant-loop-alloc l = record {
   so_far : AreNodesSoFar l.table l.sets l.nodes.items;
   reached : AreReachedSets l.table l.sets;
-  few : length l.sets ≤ 2048;
+  few : length l.sets ≤ MOST_SETS;
   ready : IsReady l.table l.sets l.known;
 }
 
 abbrev pub decreases-loop-alloc : goal.decreases-loop-alloc
-decreases-loop-alloc l = 2048 - length l.nodes.items
+decreases-loop-alloc l = MOST_SETS - length l.nodes.items

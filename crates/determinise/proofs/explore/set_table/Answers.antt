@@ -1,8 +1,5 @@
-use Rattle.std.proofs.Common.{◌≡◌, ◌<◌, Err, length, sym, ap, subst, arith}
-use Rattle.std.specs.List.{All}
-use Rattle.csp_tables.specs.Prelude.{RawTable, RawStep, IsBreadthFirst, HasAcceptances, IsRisingNode}
+use Rattle.determinise.proofs.Prelude.{◌≡◌, ◌<◌, Err, length, sym, ap, subst, arith, All, RawTable, RawStep, IsBreadthFirst, HasAcceptances, IsRisingNode, Determinised, FollowsTraces, AreDifferentSets}
 use Rattle.determinise.specs.declared.fault.SetFault.TheVariants.{SubsetLimit}
-use Rattle.determinise.specs.Determinised.{Determinised, FollowsTraces, AreDifferentSets}
 use Rattle.determinise.proofs.Runs.{follows, different, accepts, in_order, breadth_first}
 use Rattle.determinise.proofs.Counting.{many_sets, no_more_sets}
 use Rattle.determinise.proofs.explore.set_table.Goals as goal

@@ -1,5 +1,4 @@
-use Rattle.std.proofs.Common.{◌≡◌, ◌<◌, ℕ, [], ◌∷◌, ◌++◌, length, get_or, sym, ap, subst, ◌∙◌, arith}
-use Rattle.std.proofs.lemmas.List.{get_or_default}
+use Rattle.determinise.proofs.Prelude.{◌≡◌, ◌<◌, ℕ, [], ◌∷◌, ◌++◌, length, get_or, sym, ap, subst, ◌∙◌, arith, get_or_default}
 use Rattle.determinise.proofs.Groups.{IsGroup, event_at}
 use Rattle.determinise.proofs.NodeSteps.{AreStepsSoFar, all_more, steps_more}
 use Rattle.determinise.proofs.sets.next_steps.Goals as goal

@@ -1,6 +1,5 @@
-use Rattle.std.proofs.Common.{◌-◌, length}
+use Rattle.determinise.proofs.Prelude.{◌-◌, length, IsReady}
 use Rattle.determinise.proofs.NodeSteps.{AreStepsSoFar}
-use Rattle.determinise.specs.Known.{IsReady}
 use Rattle.determinise.proofs.sets.next_steps.Given as goal
 
 abbrev pub invariant-loop-at : goal.invariant-loop-at

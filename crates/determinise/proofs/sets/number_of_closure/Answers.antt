@@ -1,6 +1,4 @@
-use Rattle.std.proofs.Common.{[], sym, subst}
-use Rattle.std.proofs.lemmas.Option.{slice_get_within, get_or_from_slice_get}
-use Rattle.term_sets.specs.TermSets.{IsSilentClosure}
+use Rattle.determinise.proofs.Prelude.{[], sym, subst, slice_get_within, get_or_from_slice_get, IsSilentClosure}
 use Rattle.determinise.proofs.MoreSets.{numbered_more, numbered_in_order}
 use Rattle.determinise.proofs.sets.number_of_closure.Goals as goal
 

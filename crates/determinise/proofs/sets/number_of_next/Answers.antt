@@ -1,8 +1,5 @@
-use Rattle.std.proofs.Common.{◌<◌, ◌∙◌, ℕ, List, inl, refl, sym, subst}
-use Rattle.std.specs.List.{All}
+use Rattle.determinise.proofs.Prelude.{◌<◌, ◌∙◌, ℕ, List, inl, refl, sym, subst, All, IsSilentClosure, set_at}
 use Rattle.term_sets.specs.Marks.{IsUnmarked}
-use Rattle.term_sets.specs.TermSets.{IsSilentClosure}
-use Rattle.determinise.specs.Progress.{set_at}
 use Rattle.determinise.proofs.Groups.{targets_below}
 use Rattle.determinise.proofs.KnownSets.{known_kept}
 use Rattle.determinise.proofs.sets.number_of_next.Goals as goal

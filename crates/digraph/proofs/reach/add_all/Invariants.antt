@@ -1,5 +1,4 @@
-use Rattle.std.proofs.Common.{◌≡◌, take}
-use Rattle.digraph.specs.FoundOrder.{found_after}
+use Rattle.digraph.proofs.Prelude.{◌≡◌, take, found_after}
 use Rattle.digraph.proofs.reach.add_all.Given as goal
 
 abbrev pub invariant-loop-v : goal.invariant-loop-v

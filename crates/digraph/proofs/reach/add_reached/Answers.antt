@@ -1,6 +1,4 @@
-use Rattle.std.proofs.Common.{◌≡◌, ◌<◌, ◌≤◌, ℕ, List, length, get_or, nat_eq, refl, sym, ap, ◌∙◌, subst, arith, eq-eqb}
-use Rattle.csp_base.proofs.Standard.{list_any_at, length-le_from_distinct_below}
-use Rattle.digraph.specs.Prelude.{targets_of, found_after}
+use Rattle.digraph.proofs.Prelude.{◌≡◌, ◌<◌, ◌≤◌, ℕ, List, length, get_or, nat_eq, refl, sym, ap, ◌∙◌, subst, arith, eq-eqb, list_any_at, length-le_from_distinct_below, targets_of, found_after}
 use Rattle.digraph.proofs.Listing.{same_has}
 use Rattle.digraph.proofs.Reaching.{searched_first, searched_more, whole, members_found, all_below}
 use Rattle.digraph.proofs.reach.add_reached.Goals as goal

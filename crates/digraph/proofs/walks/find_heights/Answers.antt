@@ -1,6 +1,4 @@
-use Rattle.std.proofs.Common.{◌≡◌, Err, ap}
-use Rattle.std.proofs.lemmas.Result.{err_from_is_err_and}
-use Rattle.digraph.specs.declared.fault.Fault.TheVariants.{Circle}
+use Rattle.digraph.proofs.Prelude.{◌≡◌, Err, ap, err_from_is_err_and, Circle}
 use Rattle.digraph.proofs.Finding.{heights_found, heights_below}
 use Rattle.digraph.proofs.walks.find_heights.Goals as goal
 

@@ -1,6 +1,4 @@
-use Rattle.std.proofs.Common.{◌≡◌, Err, ap}
-use Rattle.csp_base.proofs.Standard.{get_or_default, err_from_is_err_and}
-use Rattle.digraph.specs.Prelude.{Circle, HasArc}
+use Rattle.digraph.proofs.Prelude.{◌≡◌, Err, ap, get_or_default, err_from_is_err_and, Circle, HasArc}
 use Rattle.digraph.proofs.WalkLaws.{no_longest}
 use Rattle.digraph.proofs.HeightLaws.{heights_fall, heights_step, heights_at_sinks, no_heights}
 use Rattle.digraph.proofs.walks.longest_walks.Goals as goal

@@ -1,7 +1,6 @@
-use Rattle.comparison.specs.Compared.{IsCompared}
+use Rattle.dl_top.proofs.Prelude.{IsCompared, TextsCompare}
 use Rattle.dl_top.proofs.Judging.{at_script_network, at_specified_network, compares}
 use Rattle.dl_top.proofs.Walks.{at_short, is_verdict}
-use Rattle.dl_top.specs.Judgement.{TextsCompare}
 use Rattle.dl_top.proofs.judge.compared_texts.Goals as goal
 
 pub returns-in_err-network : goal.returns-in_err-network

@@ -1,7 +1,6 @@
-use Rattle.std.proofs.lemmas.Result.{IfOk-weaker}
+use Rattle.dl_top.proofs.Prelude.{IfOk-weaker, TextsCompare}
 use Rattle.dl_top.proofs.Promising.{texts_conform, texts_match}
 use Rattle.dl_top.proofs.Walks.{answered}
-use Rattle.dl_top.specs.Judgement.{TextsCompare}
 use Rattle.dl_top.proofs.judge.judge_pair.Goals as goal
 
 pub returns-clause-answer : goal.returns-clause-answer

@@ -1,7 +1,6 @@
-use Rattle.std.proofs.lemmas.Result.{IfOk-weaker}
+use Rattle.dl_top.proofs.Prelude.{IfOk-weaker, TextIsShown}
 use Rattle.dl_top.proofs.Promising.{shown_completes, text_shown}
 use Rattle.dl_top.proofs.Walks.{answered}
-use Rattle.dl_top.specs.Judgement.{TextIsShown}
 use Rattle.dl_top.proofs.judge.show.Goals as goal
 
 pub returns-clause-answer : goal.returns-clause-answer

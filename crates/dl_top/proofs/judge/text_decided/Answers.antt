@@ -13,4 +13,4 @@ pub returns : goal.returns
 returns c =
     let network = c.in_ok-network.network in
     decides c.args.text.now c.args.job.now network c.in_ok-verdict.verdict c.into_program.result c.in_ok-network.ensures.ok c.into_program.ensures
-    (is_verdict (NetworkDecides c.args.job.now network) c.decided.result c.in_ok-verdict.verdict c.decided.ensures c.in_ok-verdict.ensures)
+    (is_verdict (NetworkDecides c.args.job.now network) c.decide_job.result c.in_ok-verdict.verdict c.decide_job.ensures c.in_ok-verdict.ensures)

@@ -1,8 +1,7 @@
-use Rattle.std.proofs.Common.{inr, ap}
+use Rattle.dl_top.proofs.Prelude.{inr, ap, TextIsShown}
 use Rattle.report.specs.declared.answer.Answer.TheVariants as answer
 use Rattle.dl_top.proofs.Judging.{at_script}
 use Rattle.dl_top.proofs.Walks.{at_short}
-use Rattle.dl_top.specs.Judgement.{TextIsShown}
 use Rattle.dl_top.proofs.judge.text_shown.Goals as goal
 
 pub returns-in_err-script : goal.returns-in_err-script

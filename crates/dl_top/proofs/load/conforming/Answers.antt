@@ -1,9 +1,8 @@
-use Rattle.std.proofs.Common.{List, [], ◌∷◌, inr, refl, subst, ℕ}
+use Rattle.dl_top.proofs.Prelude.{List, [], ◌∷◌, inr, refl, subst, ℕ, IsLoad, Loaded, TextsCallFor, TextsCompare}
 use Rattle.command_words.specs.declared.request.Request.TheVariants as request
 use Rattle.report.specs.declared.answer.Side.TheVariants as side
 use Rattle.dl_top.proofs.Loading.{at_load, at_second}
 use Rattle.dl_top.proofs.Walks.{at_short}
-use Rattle.dl_top.specs.Prelude.{IsLoad, Loaded, TextsCallFor, TextsCompare}
 use Rattle.dl_top.proofs.load.conforming.Goals as goal
 
 pub returns-in_err-text-clause-calls : goal.returns-in_err-text-clause-calls

@@ -18,9 +18,9 @@ returns-in-Ok-clause-short g c =
 pub returns-in-Err-clause-told : goal.returns-in-Err-clause-told
 returns-in-Err-clause-told g c =
     let shelf = g.S.Shelf in
-    unloaded (IsLoad shelf.texts shelf.counts shelf.gives c.args.shelf.now c.load.new.self c.args.name.now) c.args.side c.in-Err.fault c.unloaded.result (record {
+    unloaded (IsLoad shelf.texts shelf.counts shelf.gives c.args.shelf.now c.load.new.self c.args.name.now) c.args.side c.in-Err.fault c.load_fault.result (record {
       answers = c.in-Err.ensures.answer;
       given = tt;
       texts_stay = c.load.ensures.texts_stay;
       never_fall = c.load.ensures.never_fall;
-    }) c.unloaded.ensures
+    }) c.load_fault.ensures

@@ -10,5 +10,5 @@ returns-in_default-clause-cause g c =
 pub returns-in-Ok-clause-cause : goal.returns-in-Ok-clause-cause
 returns-in-Ok-clause-cause g c =
     let shelf = g.S.Shelf in
-    gives (IsLoad shelf.texts shelf.counts shelf.gives) c.args.words.now c.in_ok-found.found c.in-Some.request c.args.shelf.now c.answered.new.shelf c.trial-trial.result c.answered.result c.in-Ok.answer
-    c.in-Some.is c.in_ok-found.ensures.asks c.trial-trial.ensures c.answered.ensures.calls c.in-Ok.ensures
+    gives (IsLoad shelf.texts shelf.counts shelf.gives) c.args.words.now c.in_ok-found.found c.in-Some.request c.args.shelf.now c.answer_request.new.shelf c.trial-trial.result c.answer_request.result c.in-Ok.answer
+    c.in-Some.is c.in_ok-found.ensures.asks c.trial-trial.ensures c.answer_request.ensures.calls c.in-Ok.ensures

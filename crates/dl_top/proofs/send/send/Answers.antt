@@ -1,5 +1,4 @@
-use Rattle.std.proofs.Common.{arith, take, drop, length, ◌-◌}
-use Rattle.dl_outside.specs.Count.{HasRisen}
+use Rattle.dl_top.proofs.Prelude.{arith, take, drop, length, ◌-◌, HasRisen}
 use Rattle.dl_top.proofs.Sending.{broken, more_sent}
 use Rattle.dl_top.proofs.send.send.Goals as goal
 

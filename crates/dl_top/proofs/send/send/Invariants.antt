@@ -1,5 +1,4 @@
-use Rattle.std.proofs.Common.{◌≤◌, ◌-◌, length, take}
-use Rattle.dl_outside.specs.Write.{GrowsBy}
+use Rattle.dl_top.proofs.Prelude.{◌≤◌, ◌-◌, length, take, GrowsBy}
 use Rattle.dl_top.proofs.send.send.Given as goal
 
 -- what was sent so far is a front of the report

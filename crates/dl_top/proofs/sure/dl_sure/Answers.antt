@@ -1,5 +1,4 @@
-use Rattle.std.proofs.Common.{◌≡◌, ◌≢◌, ℕ, refl, sym, ◌∙◌, arith}
-use Rattle.dl_outside.specs.Count.{HasRisen}
+use Rattle.dl_top.proofs.Prelude.{◌≡◌, ◌≢◌, ℕ, refl, sym, ◌∙◌, arith, HasRisen}
 use Rattle.dl_top.proofs.Loading.{held_not_four, quiet_gives}
 use Rattle.dl_top.proofs.Printing.{ends_weaker}
 use Rattle.dl_top.proofs.sure.dl_sure.Goals as goal

@@ -1,7 +1,5 @@
-use Rattle.std.proofs.Common.{◌≡◌, ◌≤◌, arith}
-use Rattle.command_words.specs.declared.request.Job.TheVariants.{Check, Run}
+use Rattle.dl_top.proofs.Prelude.{◌≡◌, ◌≤◌, arith, Check, Run, Passing, Running, sink_signs, IsStuckRun, Promised, IsFree}
 use Rattle.command_words.specs.declared.request.Request.TheVariants as request
-use Rattle.dl_top.specs.Prelude.{Passing, Running, sink_signs, IsStuckRun, Promised, IsFree}
 use Rattle.dl_top.proofs.Printing.{in_shelf_fault, kept, kept_all, settled, settled_as}
 use Rattle.dl_top.proofs.Promising.{completes, keeps, keeps_free, keeps_stuck, keeps_tried, runs}
 use Rattle.dl_top.proofs.top.dl_main.Goals as goal

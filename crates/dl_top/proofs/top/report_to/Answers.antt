@@ -1,5 +1,4 @@
-use Rattle.std.proofs.Common.{Err, ap, ◌∙◌}
-use Rattle.dl_top.specs.Prelude.{IsLoad, MayGive, sink_signs}
+use Rattle.dl_top.proofs.Prelude.{Err, ap, ◌∙◌, IsLoad, MayGive, sink_signs}
 use Rattle.dl_top.proofs.Printing.{ends_broken, ends_short, ends_whole}
 use Rattle.dl_top.proofs.top.report_to.Goals as goal
 

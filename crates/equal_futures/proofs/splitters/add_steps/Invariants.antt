@@ -1,5 +1,4 @@
-use Rattle.std.proofs.Common.{take}
-use Rattle.equal_futures.specs.Arrows.{AreAdded}
+use Rattle.equal_futures.proofs.Prelude.{take, AreAdded}
 use Rattle.equal_futures.proofs.splitters.add_steps.Given as goal
 
 abbrev pub invariant-loop-event : goal.invariant-loop-event

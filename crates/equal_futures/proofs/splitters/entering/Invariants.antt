@@ -1,5 +1,4 @@
-use Rattle.std.proofs.Common.{take}
-use Rattle.equal_futures.specs.Arrows.{AreGathered}
+use Rattle.equal_futures.proofs.Prelude.{take, AreGathered}
 use Rattle.equal_futures.proofs.splitters.entering.Given as goal
 
 abbrev pub invariant-loop-node : goal.invariant-loop-node

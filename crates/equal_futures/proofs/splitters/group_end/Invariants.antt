@@ -1,5 +1,4 @@
-use Rattle.std.proofs.Common.{◌≡◌, ℕ, ◌<◌, ◌≤◌, ◌-◌, length}
-use Rattle.equal_futures.specs.Arrows.{event_at}
+use Rattle.equal_futures.proofs.Prelude.{◌≡◌, ℕ, ◌<◌, ◌≤◌, ◌-◌, length, event_at}
 use Rattle.equal_futures.proofs.splitters.group_end.Given as goal
 
 abbrev pub invariant-loop-to : goal.invariant-loop-to

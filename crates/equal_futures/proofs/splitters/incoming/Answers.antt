@@ -1,8 +1,5 @@
-use Rattle.std.proofs.Common.{◌<◌, [], length, sym, subst}
-use Rattle.std.specs.List.{All}
+use Rattle.equal_futures.proofs.Prelude.{◌<◌, [], length, sym, subst, All, Node, node_at, AreAdded}
 use Rattle.std.proofs.lemmas.List.{get_or_read}
-use Rattle.csp_tables.specs.Table.{Node, node_at}
-use Rattle.equal_futures.specs.Arrows.{AreAdded}
 use Rattle.equal_futures.proofs.Gathering.{one_more_incoming, all_targets}
 use Rattle.equal_futures.proofs.splitters.incoming.Goals as goal
 

@@ -1,7 +1,4 @@
-use Rattle.std.proofs.Common.{◌≡◌, ℕ, List, length, subst, sym, ap, ◌∙◌, arith}
-use Rattle.std.proofs.lemmas.Result.{IfOk-weaker}
-use Rattle.equal_futures.specs.Renumbered.{AreRenumbered}
-use Rattle.partitions.specs.Blocks.{state_of, count_of}
+use Rattle.equal_futures.proofs.Prelude.{◌≡◌, ℕ, List, length, subst, sym, ap, ◌∙◌, arith, IfOk-weaker, AreRenumbered, state_of, count_of}
 use Rattle.equal_futures.specs.declared.classes.Classes.{Classes}
 use Rattle.equal_futures.proofs.Settling.{block_refined, classes_then, marks_refined, rows_read}
 use Rattle.equal_futures.proofs.splitters.refine.Goals as goal

@@ -1,5 +1,4 @@
-use Rattle.std.proofs.Common.{length}
-use Rattle.partitions.specs.Blocks.{state_of, work}
+use Rattle.equal_futures.proofs.Prelude.{length, state_of, work}
 use Rattle.equal_futures.proofs.Settling.{IsRefined}
 use Rattle.equal_futures.proofs.splitters.refine.Given as goal
 

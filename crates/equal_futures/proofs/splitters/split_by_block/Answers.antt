@@ -1,8 +1,4 @@
-use Rattle.std.proofs.Common.{refl}
-use Rattle.std.proofs.lemmas.Result.{on_ok_weaker}
-use Rattle.equal_futures.specs.Arrows.{IsSplitByEvents}
-use Rattle.partitions.specs.Blocks.{state_of, count_of}
-use Rattle.equal_futures.specs.Splits.{IsSplitByBlock}
+use Rattle.equal_futures.proofs.Prelude.{refl, on_ok_weaker, IsSplitByEvents, state_of, count_of, IsSplitByBlock}
 use Rattle.equal_futures.proofs.Settling.{all_members, gathered_from}
 use Rattle.equal_futures.proofs.splitters.split_by_block.Goals as goal
 

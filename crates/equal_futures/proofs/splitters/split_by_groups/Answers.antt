@@ -1,7 +1,4 @@
-use Rattle.std.proofs.Common.{◌<◌, sym, subst, arith}
-use Rattle.std.specs.List.{All}
-use Rattle.partitions.specs.Blocks.{state_of, count_of, IsSplit}
-use Rattle.partitions.proofs.Splitting.{same_count}
+use Rattle.equal_futures.proofs.Prelude.{◌<◌, sym, subst, arith, All, state_of, count_of, IsSplit, same_count}
 use Rattle.equal_futures.proofs.Grouping.{one_more_group, all_groups, sources_part, part}
 use Rattle.equal_futures.proofs.splitters.split_by_groups.Goals as goal
 

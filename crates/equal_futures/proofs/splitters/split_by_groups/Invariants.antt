@@ -1,5 +1,4 @@
-use Rattle.std.proofs.Common.{◌-◌, length}
-use Rattle.partitions.specs.Blocks.{state_of, count_of}
+use Rattle.equal_futures.proofs.Prelude.{◌-◌, length, state_of, count_of}
 use Rattle.equal_futures.proofs.Grouping.{AreSplitUpTo}
 use Rattle.equal_futures.proofs.splitters.split_by_groups.Given as goal
 

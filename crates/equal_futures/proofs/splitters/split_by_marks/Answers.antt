@@ -1,7 +1,4 @@
-use Rattle.std.proofs.lemmas.Result.{on_ok_weaker}
-use Rattle.equal_futures.specs.Arrows.{IsSplitByEvents}
-use Rattle.partitions.specs.Blocks.{state_of, count_of}
-use Rattle.equal_futures.specs.Splits.{IsSplitByMarks}
+use Rattle.equal_futures.proofs.Prelude.{on_ok_weaker, IsSplitByEvents, state_of, count_of, IsSplitByMarks}
 use Rattle.equal_futures.proofs.Settling.{marks_from}
 use Rattle.equal_futures.proofs.splitters.split_by_marks.Goals as goal
 

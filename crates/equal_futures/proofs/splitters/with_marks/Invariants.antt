@@ -1,5 +1,4 @@
-use Rattle.std.proofs.Common.{take}
-use Rattle.equal_futures.specs.Arrows.{AreMarkSteps}
+use Rattle.equal_futures.proofs.Prelude.{take, AreMarkSteps}
 use Rattle.equal_futures.proofs.splitters.with_marks.Given as goal
 
 abbrev pub invariant-loop-node : goal.invariant-loop-node

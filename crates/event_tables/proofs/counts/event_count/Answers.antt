@@ -1,6 +1,4 @@
-use Rattle.std.proofs.Common.{arith}
-use Rattle.event_tables.specs.Spread.{spread}
-use Rattle.script_names.specs.Resolved.{all_events}
+use Rattle.event_tables.proofs.Prelude.{arith, spread, all_events}
 use Rattle.event_tables.proofs.CountLaws.{events_step}
 use Rattle.event_tables.proofs.counts.event_count.Goals as goal
 

@@ -1,6 +1,4 @@
-use Rattle.std.proofs.Common.{◌≡◌, ◌≤◌, ◌+◌, ◌-◌, ◌^◌, min, drop}
-use Rattle.event_tables.specs.Spread.{spread}
-use Rattle.script_names.specs.Resolved.{all_events}
+use Rattle.event_tables.proofs.Prelude.{◌≡◌, ◌≤◌, ◌+◌, ◌-◌, ◌^◌, min, drop, spread, all_events}
 use Rattle.event_tables.proofs.counts.event_count.Given as goal
 
 abbrev pub invariant-loop-one : goal.invariant-loop-one

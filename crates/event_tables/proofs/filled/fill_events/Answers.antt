@@ -1,6 +1,5 @@
-use Rattle.std.proofs.Common.{◌∙◌}
+use Rattle.event_tables.proofs.Prelude.{◌∙◌, spread}
 use Rattle.dl_limits.specs.declared.TheConstants.{MOST_BYTES}
-use Rattle.event_tables.specs.Spread.{spread}
 use Rattle.event_tables.proofs.SetLaws.{filled_few}
 use Rattle.event_tables.proofs.filled.fill_events.Goals as goal
 

@@ -1,7 +1,4 @@
-use Rattle.std.proofs.Common.{◌≡◌, ◌<◌, ◌^◌, ◌++◌, length, drop}
-use Rattle.std.specs.Vec.Iter.{into_iter_items, into_iter_len}
-use Rattle.event_tables.specs.Spread.{events_left, lent}
-use Rattle.script_names.specs.Resolved.{with_sets}
+use Rattle.event_tables.proofs.Prelude.{◌≡◌, ◌<◌, ◌^◌, ◌++◌, length, drop, into_iter_items, into_iter_len, events_left, lent, with_sets}
 use Rattle.event_tables.proofs.filled.with_sets.Given as goal
 
 abbrev pub invariant-loop-channel : goal.invariant-loop-channel

@@ -1,5 +1,4 @@
-use Rattle.std.proofs.Common.{◌≡◌, ◌++◌, ◌∷◌, [], map, take}
-use Rattle.csp_atoms.specs.declared.atom.Atom.{Atom}
+use Rattle.event_tables.proofs.Prelude.{◌≡◌, ◌++◌, ◌∷◌, [], map, take, Atom}
 use Rattle.event_tables.proofs.rows.add_copies.Given as goal
 
 abbrev pub invariant-loop-atom : goal.invariant-loop-atom

@@ -1,6 +1,4 @@
-use Rattle.std.proofs.Common.{◌≡◌, ◌++◌, length}
-use Rattle.std.specs.Vec.Iter.{into_iter_items, into_iter_len}
-use Rattle.event_tables.specs.Spread.{extended}
+use Rattle.event_tables.proofs.Prelude.{◌≡◌, ◌++◌, length, into_iter_items, into_iter_len, extended}
 use Rattle.event_tables.proofs.rows.extend.Given as goal
 
 abbrev pub invariant-loop-row : goal.invariant-loop-row

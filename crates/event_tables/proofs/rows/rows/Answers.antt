@@ -1,7 +1,5 @@
-use Rattle.std.proofs.Common.{◌≡◌, sym, ap, ◌∙◌, arith}
-use Rattle.csp_program.specs.EventNumber.{row_count}
+use Rattle.event_tables.proofs.Prelude.{◌≡◌, sym, ap, ◌∙◌, arith, row_count, extended}
 use Rattle.csp_program.specs.EventTable as meant
-use Rattle.event_tables.specs.Spread.{extended}
 use Rattle.event_tables.proofs.RowLaws.{none_at_all, rows_begin, rows_end, rows_step}
 use Rattle.event_tables.proofs.rows.rows.Goals as goal
 

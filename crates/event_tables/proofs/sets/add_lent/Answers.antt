@@ -1,5 +1,4 @@
-use Rattle.std.proofs.Common.{ap, ◌∙◌, ◌++◌, ◌∷◌, []}
-use Rattle.event_tables.specs.Spread.{lent}
+use Rattle.event_tables.proofs.Prelude.{ap, ◌∙◌, ◌++◌, ◌∷◌, [], lent}
 use Rattle.event_tables.proofs.SetLaws.{copies_step, lent_longer}
 use Rattle.event_tables.proofs.sets.add_lent.Goals as goal
 

@@ -1,5 +1,4 @@
-use Rattle.std.proofs.Common.{◌≡◌, ◌++◌, replicate}
-use Rattle.event_tables.specs.Spread.{lent}
+use Rattle.event_tables.proofs.Prelude.{◌≡◌, ◌++◌, replicate, lent}
 use Rattle.event_tables.proofs.sets.add_lent.Given as goal
 
 abbrev pub invariant-loop-channel : goal.invariant-loop-channel

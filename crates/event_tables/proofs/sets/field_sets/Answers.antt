@@ -1,6 +1,4 @@
-use Rattle.std.proofs.Common.{List, ap, sym, ◌∙◌}
-use Rattle.csp_atoms.specs.declared.atom.Atom.{Atom}
-use Rattle.csp_program.specs.Prelude.{and_then, value_of}
+use Rattle.event_tables.proofs.Prelude.{List, ap, sym, ◌∙◌, Atom, and_then, value_of}
 use Rattle.script_names.specs.Resolved as meant
 use Rattle.event_tables.proofs.SetLaws.{sets_begin, sets_end, sets_step, sets_stop, sets_with, stop_err}
 use Rattle.event_tables.proofs.sets.field_sets.Goals as goal

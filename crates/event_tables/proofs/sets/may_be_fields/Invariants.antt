@@ -1,6 +1,4 @@
-use Rattle.std.proofs.Common.{◌≡◌, map, drop}
-use Rattle.csp_program.specs.Lists.{all_true}
-use Rattle.script_names.specs.Resolved.{may_be_field}
+use Rattle.event_tables.proofs.Prelude.{◌≡◌, map, drop, all_true, may_be_field}
 use Rattle.event_tables.proofs.sets.may_be_fields.Given as goal
 
 abbrev pub invariant-loop-atom : goal.invariant-loop-atom

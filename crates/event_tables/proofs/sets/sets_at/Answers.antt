@@ -1,6 +1,4 @@
-use Rattle.std.proofs.Common.{List, ap, ◌∙◌}
-use Rattle.csp_base.specs.Standard.{Bor, option_copied}
-use Rattle.csp_atoms.specs.declared.atom.Atom.{Atom}
+use Rattle.event_tables.proofs.Prelude.{List, ap, ◌∙◌, Bor, option_copied, Atom}
 use Rattle.event_tables.proofs.SetLaws.{got_at, lent_at}
 use Rattle.event_tables.proofs.sets.sets_at.Goals as goal
 

@@ -1,5 +1,4 @@
-use Rattle.std.proofs.Common.{arith}
-use Rattle.event_tables.specs.Spread.{lent, spread}
+use Rattle.event_tables.proofs.Prelude.{arith, lent, spread}
 use Rattle.event_tables.proofs.SetLaws.{spread_end, spread_step}
 use Rattle.event_tables.proofs.sets.spread_sets.Goals as goal
 

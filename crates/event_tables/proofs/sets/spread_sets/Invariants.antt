@@ -1,5 +1,4 @@
-use Rattle.std.proofs.Common.{◌≡◌, ◌++◌, drop}
-use Rattle.event_tables.specs.Spread.{lent, spread}
+use Rattle.event_tables.proofs.Prelude.{◌≡◌, ◌++◌, drop, lent, spread}
 use Rattle.event_tables.proofs.sets.spread_sets.Given as goal
 
 abbrev pub invariant-loop-one : goal.invariant-loop-one

@@ -1,6 +1,4 @@
-use Rattle.std.proofs.Common.{◌≡◌, ◌++◌, length, map}
-use Rattle.std.specs.Vec.Iter.{into_iter_items, into_iter_len}
-use Rattle.csp_program.specs.EventTable.{event_of}
+use Rattle.event_tables.proofs.Prelude.{◌≡◌, ◌++◌, length, map, into_iter_items, into_iter_len, event_of}
 use Rattle.event_tables.proofs.table.add_rows.Given as goal
 
 abbrev pub invariant-loop-fields : goal.invariant-loop-fields

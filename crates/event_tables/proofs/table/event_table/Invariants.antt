@@ -1,5 +1,4 @@
-use Rattle.std.proofs.Common.{◌≡◌, ◌++◌, drop}
-use Rattle.csp_program.specs.EventTable.{event_table, events_from_channel}
+use Rattle.event_tables.proofs.Prelude.{◌≡◌, ◌++◌, drop, event_table, events_from_channel}
 use Rattle.event_tables.proofs.table.event_table.Given as goal
 
 abbrev pub invariant-loop-channel : goal.invariant-loop-channel

@@ -1,5 +1,4 @@
-use Rattle.std.proofs.Common.{◌≡◌, length, ap, sym, arith}
-use Rattle.hidden_steps.specs.Order.{hidden_bound}
+use Rattle.hidden_bounds.proofs.Prelude.{◌≡◌, length, ap, sym, arith, hidden_bound}
 use Rattle.hidden_bounds.proofs.Taken.{none_taken}
 use Rattle.hidden_bounds.proofs.bounding.add_up.Goals as goal
 

@@ -1,5 +1,4 @@
-use Rattle.std.proofs.Common.{◌≡◌, length}
-use Rattle.hidden_bounds.specs.Sums.{AreBounds, sum_before}
+use Rattle.hidden_bounds.proofs.Prelude.{◌≡◌, length, AreBounds, sum_before}
 use Rattle.hidden_bounds.proofs.bounding.add_up.Given as goal
 
 abbrev pub invariant-loop-place : goal.invariant-loop-place

@@ -1,9 +1,4 @@
-use Rattle.std.proofs.Common.{◌≡◌, List, ap, subst, sym, ◌∙◌}
-use Rattle.csp_base.specs.Stops.{Tells}
-use Rattle.process_steps.specs.ComponentStep.{ProcessStep}
-use Rattle.hidden_bounds.specs.Prelude.{IsTakenFar, TellsSum, taken_in}
-use Rattle.hidden_bounds.specs.declared.ordering.Placed.{Placed}
-use Rattle.hidden_steps.specs.Order.{hidden_bound}
+use Rattle.hidden_bounds.proofs.Prelude.{◌≡◌, List, ap, subst, sym, ◌∙◌, Tells, ProcessStep, IsTakenFar, TellsSum, taken_in, Placed, hidden_bound}
 use Rattle.hidden_bounds.proofs.Finish.{bound_told, fault_told, some_are_left}
 use Rattle.hidden_bounds.proofs.bounding.livelock.Goals as goal
 

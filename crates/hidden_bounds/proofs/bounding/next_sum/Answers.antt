@@ -1,5 +1,4 @@
-use Rattle.std.proofs.Common.{◌*◌, ◌^◌, ◌<◌, ◌≤◌, suc, length, get_or, ap, subst, ◌∙◌}
-use Rattle.hidden_bounds.specs.declared.ordering.Placed.{Placed}
+use Rattle.hidden_bounds.proofs.Prelude.{◌*◌, ◌^◌, ◌<◌, ◌≤◌, suc, length, get_or, ap, subst, ◌∙◌, Placed}
 use Rattle.hidden_bounds.proofs.Sums.{none_then, own_passes, some_then, sum_fits, sum_passes, within_read}
 use Rattle.hidden_bounds.proofs.bounding.next_sum.Goals as goal
 

@@ -1,7 +1,5 @@
-use Rattle.std.proofs.Common.{◌≡◌, ◌≤◌, List, length, ap, subst, sym, ◌∙◌}
+use Rattle.hidden_bounds.proofs.Prelude.{◌≡◌, ◌≤◌, List, length, ap, subst, sym, ◌∙◌, left_from, Standing}
 use Rattle.dl_limits.specs.declared.TheConstants.{MOST_COMPONENTS}
-use Rattle.hidden_bounds.specs.Standings.{left_from}
-use Rattle.hidden_bounds.specs.declared.standings.Standing.{Standing}
 use Rattle.hidden_bounds.proofs.Finish.{all_taken_far}
 use Rattle.hidden_bounds.proofs.ordering.order_of.Goals as goal
 

@@ -1,6 +1,4 @@
-use Rattle.std.proofs.Common.{◌<◌, length, refl, ap₂, arith, ◌∙◌}
-use Rattle.std.proofs.lemmas.List.{length-set}
-use Rattle.hidden_bounds.specs.Standings.{reopened_to}
+use Rattle.hidden_bounds.proofs.Prelude.{◌<◌, length, refl, ap₂, arith, ◌∙◌, length-set, reopened_to}
 use Rattle.hidden_bounds.proofs.Steps.{reopened_next, reopened_rest}
 use Rattle.hidden_bounds.proofs.ordering.reopen.Goals as goal
 

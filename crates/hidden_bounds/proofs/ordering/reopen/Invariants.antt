@@ -1,6 +1,4 @@
-use Rattle.std.proofs.Common.{◌≡◌, ◌≤◌, ◌<◌, ℕ, length}
-use Rattle.csp_base.specs.Events.{meets_of}
-use Rattle.hidden_bounds.specs.Prelude.{reopened_to, standing_at, alphabet_at}
+use Rattle.hidden_bounds.proofs.Prelude.{◌≡◌, ◌≤◌, ◌<◌, ℕ, length, meets_of, reopened_to, standing_at, alphabet_at}
 use Rattle.hidden_bounds.proofs.ordering.reopen.Given as goal
 
 abbrev pub invariant-loop-part : goal.invariant-loop-part

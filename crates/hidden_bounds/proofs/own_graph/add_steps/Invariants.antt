@@ -1,6 +1,4 @@
-use Rattle.std.proofs.Common.{◌≡◌, ℕ, nat_eq, ◌&&◌, ◌||◌, length, take}
-use Rattle.std.specs.List.{list_any}
-use Rattle.csp_base.specs.Members.{has}
+use Rattle.hidden_bounds.proofs.Prelude.{◌≡◌, ℕ, nat_eq, ◌&&◌, ◌||◌, length, take, list_any, has}
 use Rattle.digraph.specs.Digraph.{has_arc}
 use Rattle.hidden_bounds.proofs.own_graph.add_steps.Given as goal
 

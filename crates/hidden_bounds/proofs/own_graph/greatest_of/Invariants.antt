@@ -1,5 +1,4 @@
-use Rattle.std.proofs.Common.{◌≡◌, take}
-use Rattle.csp_base.specs.Lists.{greatest}
+use Rattle.hidden_bounds.proofs.Prelude.{◌≡◌, take, greatest}
 use Rattle.hidden_bounds.proofs.own_graph.greatest_of.Given as goal
 
 abbrev pub invariant-loop-number : goal.invariant-loop-number

@@ -1,6 +1,5 @@
-use Rattle.std.proofs.Common.{refl}
+use Rattle.hidden_bounds.proofs.Prelude.{refl, AreOwnRows}
 use Rattle.hidden_bounds.proofs.OwnGraphs.{height_of, round_of}
-use Rattle.hidden_bounds.specs.Own.{AreOwnRows}
 use Rattle.hidden_bounds.proofs.own_graph.own_height.Goals as goal
 
 pub returns-in-Ok-clause-height : goal.returns-in-Ok-clause-height

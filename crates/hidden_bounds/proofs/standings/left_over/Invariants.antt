@@ -1,5 +1,4 @@
-use Rattle.std.proofs.Common.{◌≡◌, take}
-use Rattle.hidden_bounds.specs.Standings.{left_from}
+use Rattle.hidden_bounds.proofs.Prelude.{◌≡◌, take, left_from}
 use Rattle.hidden_bounds.proofs.standings.left_over.Given as goal
 
 abbrev pub invariant-loop-part : goal.invariant-loop-part

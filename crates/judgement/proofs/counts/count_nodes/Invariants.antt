@@ -1,5 +1,4 @@
-use Rattle.std.proofs.Common.{◌≡◌, take}
-use Rattle.judgement.specs.Counts.{node_count}
+use Rattle.judgement.proofs.Prelude.{◌≡◌, take, node_count}
 use Rattle.judgement.proofs.counts.count_nodes.Given as goal
 
 abbrev pub invariant-loop-part : goal.invariant-loop-part

@@ -1,6 +1,4 @@
-use Rattle.std.proofs.Common.{◌≡◌, ◌<◌, take}
-use Rattle.std.specs.List.{flat_map}
-use Rattle.design_rules.specs.RankCounts.{greatest_from}
+use Rattle.judgement.proofs.Prelude.{◌≡◌, ◌<◌, take, flat_map, greatest_from}
 use Rattle.judgement.proofs.counts.greatest_in_parts.Given as goal
 
 abbrev pub invariant-loop-part : goal.invariant-loop-part

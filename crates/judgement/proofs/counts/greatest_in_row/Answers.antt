@@ -1,6 +1,4 @@
-use Rattle.std.proofs.Common.{ap, ◌∙◌}
-use Rattle.std.proofs.lemmas.List.{take_all}
-use Rattle.design_rules.specs.RankCounts.{greatest_from}
+use Rattle.judgement.proofs.Prelude.{ap, ◌∙◌, take_all, greatest_from}
 use Rattle.judgement.proofs.Counting.{one_rank}
 use Rattle.judgement.proofs.counts.greatest_in_row.Goals as goal
 

@@ -1,5 +1,4 @@
-use Rattle.std.proofs.Common.{◌≡◌, ◌<◌, take}
-use Rattle.design_rules.specs.RankCounts.{greatest_from}
+use Rattle.judgement.proofs.Prelude.{◌≡◌, ◌<◌, take, greatest_from}
 use Rattle.judgement.proofs.counts.greatest_in_row.Given as goal
 
 abbrev pub invariant-loop-rank : goal.invariant-loop-rank

@@ -1,7 +1,4 @@
-use Rattle.std.proofs.Common.{ap, ◌∙◌, map}
-use Rattle.std.specs.List.{flat_map}
-use Rattle.std.proofs.lemmas.List.{take_all}
-use Rattle.design_rules.specs.RankCounts.{greatest_from}
+use Rattle.judgement.proofs.Prelude.{ap, ◌∙◌, map, flat_map, take_all, greatest_from}
 use Rattle.judgement.proofs.Counting.{one_row}
 use Rattle.judgement.proofs.counts.greatest_in_rows.Goals as goal
 

@@ -1,6 +1,4 @@
-use Rattle.std.proofs.Common.{◌≡◌, ◌<◌, map, take}
-use Rattle.std.specs.List.{flat_map}
-use Rattle.design_rules.specs.RankCounts.{greatest_from}
+use Rattle.judgement.proofs.Prelude.{◌≡◌, ◌<◌, map, take, flat_map, greatest_from}
 use Rattle.judgement.proofs.counts.greatest_in_rows.Given as goal
 
 abbrev pub invariant-loop-row : goal.invariant-loop-row

@@ -1,6 +1,4 @@
-use Rattle.std.proofs.Common.{List, ◌<◌, subst, sym, ap, ◌∙◌}
-use Rattle.csp_tables.specs.Part.{Part}
-use Rattle.judgement.specs.Counts.{node_count}
+use Rattle.judgement.proofs.Prelude.{List, ◌<◌, subst, sym, ap, ◌∙◌, Part, node_count}
 use Rattle.judgement.proofs.Counting.{few_nodes}
 use Rattle.judgement.proofs.free.deadlock_free.Goals as goal
 

@@ -1,8 +1,4 @@
-use Rattle.std.proofs.Common.{◌++◌, ◌∙◌, ◌+◌, ◌≤◌, ap, arith, drop, length, sym}
-use Rattle.csp_base.proofs.Lists.{drop_read}
-use Rattle.script_names.specs.Names.{first_of}
-use Rattle.name_faults.specs.Bodies.{bodies_after}
-use Rattle.script_sizes.specs.Size.{declaration_depth, depth}
+use Rattle.name_faults.proofs.Prelude.{◌++◌, ◌∙◌, ◌+◌, ◌≤◌, ap, arith, drop, length, sym, drop_read, first_of, bodies_after, declaration_depth, depth}
 use Rattle.name_faults.proofs.KnownLemmas.{bodies_on}
 use Rattle.name_faults.proofs.Small.{in_declarations}
 use Rattle.name_faults.proofs.bodies.bodies_of.Goals as goal

@@ -1,5 +1,4 @@
-use Rattle.std.proofs.Common.{◌≡◌, ◌++◌, drop, length}
-use Rattle.name_faults.specs.Bodies.{bodies_after}
+use Rattle.name_faults.proofs.Prelude.{◌≡◌, ◌++◌, drop, length, bodies_after}
 use Rattle.name_faults.proofs.bodies.bodies_of.Given as goal
 
 abbrev pub invariant-loop-decl : goal.invariant-loop-decl

@@ -1,6 +1,4 @@
-use Rattle.std.proofs.Common.{◌≡◌, drop, map, max}
-use Rattle.name_faults.specs.Bodies.{greatest_level}
-use Rattle.name_faults.specs.Walked.{seen}
+use Rattle.name_faults.proofs.Prelude.{◌≡◌, drop, map, max, greatest_level, seen}
 use Rattle.name_faults.proofs.body.greatest_level.Given as goal
 
 abbrev pub invariant-loop-said : goal.invariant-loop-said

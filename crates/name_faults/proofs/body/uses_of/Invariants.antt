@@ -1,7 +1,5 @@
-use Rattle.std.proofs.Common.{◌≡◌, ◌++◌, drop, map}
+use Rattle.name_faults.proofs.Prelude.{◌≡◌, ◌++◌, drop, map, use_of, seen}
 use Rattle.std.specs.List.{flat_map}
-use Rattle.name_faults.specs.Bodies.{use_of}
-use Rattle.name_faults.specs.Walked.{seen}
 use Rattle.name_faults.proofs.body.uses_of.Given as goal
 
 abbrev pub invariant-loop-said : goal.invariant-loop-said

@@ -1,5 +1,4 @@
-use Rattle.std.proofs.Common.{◌≡◌, drop, max, min, slice_index}
-use Rattle.name_faults.specs.Depths.{deepest_of, deepest_use}
+use Rattle.name_faults.proofs.Prelude.{◌≡◌, drop, max, min, slice_index, deepest_of, deepest_use}
 use Rattle.name_faults.proofs.depths.depth_of.Given as goal
 
 abbrev pub invariant-loop-d : goal.invariant-loop-d

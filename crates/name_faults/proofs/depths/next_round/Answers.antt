@@ -1,7 +1,4 @@
-use Rattle.std.proofs.Common.{◌∷◌, ◌++◌, [], ◌∙◌, ap, min, slice_index, sym}
-use Rattle.std.proofs.lemmas.List.{map_more}
-use Rattle.name_faults.specs.declared.body.Body.{Body}
-use Rattle.name_faults.specs.Depths.{deepest_of}
+use Rattle.name_faults.proofs.Prelude.{◌∷◌, ◌++◌, [], ◌∙◌, ap, min, slice_index, sym, map_more, Body, deepest_of}
 use Rattle.name_faults.proofs.depths.next_round.Goals as goal
 
 pub loop-body-preserved : goal.loop-body-preserved

@@ -1,5 +1,4 @@
-use Rattle.std.proofs.Common.{◌≡◌, map, min, slice_index, take}
-use Rattle.name_faults.specs.Depths.{deepest_of}
+use Rattle.name_faults.proofs.Prelude.{◌≡◌, map, min, slice_index, take, deepest_of}
 use Rattle.name_faults.proofs.depths.next_round.Given as goal
 
 abbrev pub invariant-loop-body : goal.invariant-loop-body

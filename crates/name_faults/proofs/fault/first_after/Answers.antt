@@ -1,14 +1,7 @@
-use Rattle.std.proofs.Common.{◌≡◌, ◌≤◌, List, [], take, refl, sym, subst, arith}
-use Rattle.csp_text.specs.declared.script.Decl.{Decl}
-use Rattle.script_names.specs.Names.{first_of, meanings_of}
-use Rattle.name_faults.specs.Known.{IsKnown, fault_from}
+use Rattle.name_faults.proofs.Prelude.{◌≡◌, ◌≤◌, List, [], take, refl, sym, subst, arith, Decl, first_of, meanings_of, IsKnown, fault_from, take_read, MOST_BYTES, declaration_depth, depth, same_meanings}
 use Rattle.name_faults.proofs.KnownLemmas.{deep_so, next_known, none_told, nothing_is_known, passed, told_here}
 use Rattle.name_faults.proofs.Small.{declarations_fit, definitions_fit, in_declarations}
 use Rattle.name_faults.proofs.fault.first_after.Goals as goal
-use Rattle.csp_base.proofs.Lists.{take_read}
-use Rattle.dl_limits.specs.declared.TheConstants.{MOST_BYTES}
-use Rattle.script_sizes.specs.Size.{declaration_depth, depth}
-use Rattle.name_tables.proofs.NameLemmas.{same_meanings}
 
 pub loop-decl-init : goal.loop-decl-init
 loop-decl-init c = record { names = c.requires.walk; known = nothing_is_known c.args.known.now c.requires.known; so_far = refl }

@@ -1,5 +1,4 @@
-use Rattle.std.proofs.Common.{◌≡◌, [], drop, take}
-use Rattle.name_faults.specs.Known.{IsKnown, fault_from}
+use Rattle.name_faults.proofs.Prelude.{◌≡◌, [], drop, take, IsKnown, fault_from}
 use Rattle.name_faults.proofs.fault.first_after.Given as goal
 
 abbrev pub invariant-loop-decl : goal.invariant-loop-decl

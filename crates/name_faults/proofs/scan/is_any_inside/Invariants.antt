@@ -1,7 +1,4 @@
-use Rattle.std.proofs.Common.{◌≡◌, drop, map}
-use Rattle.script_names.specs.Faults.{is_inside}
-use Rattle.std.specs.List.{list_any}
-use Rattle.name_faults.specs.Walked.{seen}
+use Rattle.name_faults.proofs.Prelude.{◌≡◌, drop, map, is_inside, list_any, seen}
 use Rattle.name_faults.proofs.scan.is_any_inside.Given as goal
 
 abbrev pub invariant-loop-said : goal.invariant-loop-said

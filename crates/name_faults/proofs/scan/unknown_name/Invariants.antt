@@ -1,6 +1,4 @@
-use Rattle.std.proofs.Common.{◌≡◌, drop, map}
-use Rattle.script_names.specs.Prelude.{unknown_name, first_name}
-use Rattle.name_faults.specs.Walked.{seen}
+use Rattle.name_faults.proofs.Prelude.{◌≡◌, drop, map, unknown_name, first_name, seen}
 use Rattle.name_faults.proofs.scan.unknown_name.Given as goal
 
 abbrev pub invariant-loop-said : goal.invariant-loop-said

@@ -1,7 +1,4 @@
-use Rattle.std.proofs.Common.{◌++◌, refl, arith}
-use Rattle.dl_limits.specs.declared.TheConstants.{MOST_BYTES}
-use Rattle.script_names.specs.Names.{declared, declared_from}
-use Rattle.name_tables.specs.Counted.{counts}
+use Rattle.name_tables.proofs.Prelude.{◌++◌, refl, arith, MOST_BYTES, declared, declared_from, counts}
 use Rattle.name_tables.proofs.DeclaredLemmas.{declared_step, nothing_left}
 use Rattle.name_tables.proofs.SizeLaws.{few_here, few_left}
 use Rattle.name_tables.proofs.declared.declare_all.Goals as goal

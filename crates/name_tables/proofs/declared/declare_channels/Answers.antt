@@ -1,6 +1,4 @@
-use Rattle.std.proofs.Common.{◌≡◌, ℕ, ◌+◌, ◌++◌, ◌∙◌, ap, length, refl, arith}
-use Rattle.script_names.specs.Names.{channels_from}
-use Rattle.name_tables.specs.declared.declared.Numbers.{Numbers}
+use Rattle.name_tables.proofs.Prelude.{◌≡◌, ℕ, ◌+◌, ◌++◌, ◌∙◌, ap, length, refl, arith, channels_from, Numbers}
 use Rattle.name_tables.proofs.DeclaredLemmas.{channels_step, nothing_left}
 use Rattle.name_tables.proofs.declared.declare_channels.Goals as goal
 

@@ -1,6 +1,4 @@
-use Rattle.std.proofs.Common.{◌≡◌, ◌+◌, ◌++◌, drop}
-use Rattle.script_names.specs.Names.{channels_from}
-use Rattle.name_tables.specs.Firsts.{SameFirsts}
+use Rattle.name_tables.proofs.Prelude.{◌≡◌, ◌+◌, ◌++◌, drop, channels_from, SameFirsts}
 use Rattle.name_tables.proofs.declared.declare_channels.Given as goal
 
 abbrev pub invariant-loop-x : goal.invariant-loop-x

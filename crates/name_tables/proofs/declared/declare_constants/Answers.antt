@@ -1,6 +1,4 @@
-use Rattle.std.proofs.Common.{◌≡◌, ℕ, ◌+◌, ◌++◌, ◌∙◌, ap, length, refl, arith}
-use Rattle.script_names.specs.Names.{constants_from}
-use Rattle.name_tables.specs.declared.declared.Numbers.{Numbers}
+use Rattle.name_tables.proofs.Prelude.{◌≡◌, ℕ, ◌+◌, ◌++◌, ◌∙◌, ap, length, refl, arith, constants_from, Numbers}
 use Rattle.name_tables.proofs.DeclaredLemmas.{constants_step, nothing_left}
 use Rattle.name_tables.proofs.declared.declare_constants.Goals as goal
 

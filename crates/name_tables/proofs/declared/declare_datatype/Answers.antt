@@ -1,7 +1,4 @@
-use Rattle.std.proofs.Common.{◌++◌, subst}
-use Rattle.script_names.specs.Names.{constants_from}
-use Rattle.name_tables.specs.declared.declared.Numbers.{Numbers}
-use Rattle.name_tables.specs.Firsts.{SameFirsts}
+use Rattle.name_tables.proofs.Prelude.{◌++◌, subst, constants_from, Numbers, SameFirsts}
 use Rattle.name_tables.proofs.DeclaredLemmas.{datatype_names}
 use Rattle.name_tables.proofs.declared.declare_datatype.Goals as goal
 

@@ -1,6 +1,5 @@
-use Rattle.std.proofs.Common.{◌∙◌, [], ◌∷◌, ◌++◌, is_some, sym, ap}
+use Rattle.name_tables.proofs.Prelude.{◌∙◌, [], ◌∷◌, ◌++◌, is_some, sym, ap, Name, first_of}
 use Rattle.std.proofs.lemmas.Result.{on_ok_weaker}
-use Rattle.script_names.specs.Names.{Name, first_of}
 use Rattle.name_tables.proofs.NameLemmas.{same_firsts_known}
 use Rattle.name_tables.proofs.dictionary.declare_in.Goals as goal
 

@@ -1,7 +1,6 @@
-use Rattle.std.proofs.Common.{◌∙◌, nat_eq}
+use Rattle.name_tables.proofs.Prelude.{◌∙◌, nat_eq, first_of}
 use Rattle.std.specs.Cmp.Lexicographic.{pointwise}
 use Rattle.indexmap.proofs.CallerLemmas.{insert_entry-new}
-use Rattle.script_names.specs.Names.{first_of}
 use Rattle.name_tables.proofs.NameLemmas.{none_there}
 use Rattle.name_tables.proofs.dictionary.put_new.Goals as goal
 

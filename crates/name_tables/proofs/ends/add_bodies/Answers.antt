@@ -1,9 +1,4 @@
-use Rattle.std.proofs.Common.{◌++◌, ◌≤◌, arith}
-use Rattle.std.specs.List.{flat_map}
-use Rattle.dl_limits.specs.declared.TheConstants.{MOST_BYTES}
-use Rattle.script_names.specs.Prelude.{body_ends, first_of}
-use Rattle.script_sizes.specs.Size.{declaration_size, size}
-use Rattle.name_tables.specs.Ends.{rows}
+use Rattle.name_tables.proofs.Prelude.{◌++◌, ◌≤◌, arith, flat_map, MOST_BYTES, body_ends, first_of, declaration_size, size, rows}
 use Rattle.name_tables.proofs.DeclaredLemmas.{flat_end, flat_step}
 use Rattle.name_tables.proofs.SizeLaws.{size_at}
 use Rattle.name_tables.proofs.ends.add_bodies.Goals as goal

@@ -1,7 +1,4 @@
-use Rattle.std.proofs.Common.{◌≡◌, ◌++◌, drop}
-use Rattle.std.specs.List.{flat_map}
-use Rattle.script_names.specs.Prelude.{body_ends, first_of}
-use Rattle.name_tables.specs.Ends.{rows}
+use Rattle.name_tables.proofs.Prelude.{◌≡◌, ◌++◌, drop, flat_map, body_ends, first_of, rows}
 use Rattle.name_tables.proofs.ends.add_bodies.Given as goal
 
 abbrev pub invariant-loop-decl : goal.invariant-loop-decl

@@ -1,5 +1,4 @@
-use Rattle.std.proofs.Common.{◌≡◌, ◌++◌, ◌∙◌, ap}
-use Rattle.script_names.specs.Prelude.{parameters, Scope, names_of}
+use Rattle.name_tables.proofs.Prelude.{◌≡◌, ◌++◌, ◌∙◌, ap, parameters, Scope, names_of}
 use Rattle.name_tables.proofs.ends.ends_under.Goals as goal
 use Rattle.script_names.proofs.Scopes.{names_of-parameters}
 

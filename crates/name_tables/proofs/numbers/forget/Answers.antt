@@ -1,5 +1,4 @@
-use Rattle.std.proofs.Common.{None, subst}
-use Rattle.name_tables.specs.Hidden.{Writes}
+use Rattle.name_tables.proofs.Prelude.{None, subst, Writes}
 use Rattle.name_tables.proofs.SpellingLemmas.{updates_at}
 use Rattle.name_tables.proofs.numbers.forget.Goals as goal
 

@@ -1,7 +1,5 @@
-use Rattle.std.proofs.Common.{◌∙◌, Some, ap, subst, sym, rules}
+use Rattle.name_tables.proofs.Prelude.{◌∙◌, Some, ap, subst, sym, rules, Writes, at_name}
 use Rattle.std.specs.Option.{option_copied_mut}
-use Rattle.name_tables.specs.Hidden.{Writes}
-use Rattle.name_tables.specs.Spelling.{at_name}
 use Rattle.name_tables.proofs.SpellingLemmas.{never_absent, updates_at}
 use Rattle.name_tables.proofs.numbers.rewrite.Goals as goal
 

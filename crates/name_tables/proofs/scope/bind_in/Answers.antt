@@ -1,20 +1,18 @@
-use Rattle.std.proofs.Common.{◌≡◌, ◌∙◌, Some, map, subst}
+use Rattle.name_tables.proofs.Prelude.{◌≡◌, ◌∙◌, Some, map, subst, shown, Writes, at_name}
 use Rattle.script_names.specs.Typed.{number_of}
-use Rattle.name_tables.specs.Hidden.{shown, Writes}
-use Rattle.name_tables.specs.Spelling.{at_name}
 use Rattle.name_tables.proofs.ScopeLemmas.{bound-kept, bound-numbers}
 use Rattle.name_tables.proofs.scope.bind_in.Goals as goal
 
 pub returns-in-Ok-clause-kept : goal.returns-in-Ok-clause-kept
 returns-in-Ok-clause-kept c =
     let bs = c.args.bindings.now.items in
-    let e : c.written-hidden.result ≡ at_name c.args.last.now c.args.name = c.written-hidden.ensures in
-    let h : c.written-hidden.result ≡ number_of (map shown bs) c.args.name = e ∙ c.requires.numbers c.args.name in
-    bound-kept bs c.push.new.self.items (record { name = c.args.name; number = c.args.number; hidden = c.written-hidden.result }) c.in_ok-push.ensures.items c.requires.kept h
+    let e : c.number_at-hidden.result ≡ at_name c.args.last.now c.args.name = c.number_at-hidden.ensures in
+    let h : c.number_at-hidden.result ≡ number_of (map shown bs) c.args.name = e ∙ c.requires.numbers c.args.name in
+    bound-kept bs c.push.new.self.items (record { name = c.args.name; number = c.args.number; hidden = c.number_at-hidden.result }) c.in_ok-push.ensures.items c.requires.kept h
 
 pub returns-in-Ok-clause-numbers : goal.returns-in-Ok-clause-numbers
 returns-in-Ok-clause-numbers c =
     let bs = c.args.bindings.now.items in
-    bound-numbers c.args.last.now c.write.new.last bs c.push.new.self.items (record { name = c.args.name; number = c.args.number; hidden = c.written-hidden.result })
+    bound-numbers c.args.last.now c.write.new.last bs c.push.new.self.items (record { name = c.args.name; number = c.args.number; hidden = c.number_at-hidden.result })
     c.in_ok-push.ensures.items c.requires.numbers
     (subst (λ x. Writes c.args.last.now c.write.new.last x (Some c.args.number)) c.requires.same c.in-Ok.ensures.writes)

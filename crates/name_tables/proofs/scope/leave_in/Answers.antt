@@ -1,5 +1,4 @@
-use Rattle.std.proofs.Common.{◌≡◌, ◌∙◌, ap, length, map, take, arith}
-use Rattle.name_tables.specs.Hidden.{shown}
+use Rattle.name_tables.proofs.Prelude.{◌≡◌, ◌∙◌, ap, length, map, take, arith, shown}
 use Rattle.name_tables.proofs.ScopeLemmas.{map-take}
 use Rattle.name_tables.proofs.scope.leave_in.Goals as goal
 

@@ -1,5 +1,4 @@
-use Rattle.std.proofs.Common.{◌≡◌, ◌≤◌, [], length, map, take}
-use Rattle.name_tables.specs.Hidden.{shown, KeepHidden, HasNumbers}
+use Rattle.name_tables.proofs.Prelude.{◌≡◌, ◌≤◌, [], length, map, take, shown, KeepHidden, HasNumbers}
 use Rattle.name_tables.proofs.scope.leave_in.Given as goal
 
 abbrev pub invariant-loop-bindings : goal.invariant-loop-bindings

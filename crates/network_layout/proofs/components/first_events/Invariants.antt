@@ -1,5 +1,4 @@
-use Rattle.std.proofs.Common.{◌≡◌}
-use Rattle.std.specs.List.{range_with_len}
+use Rattle.network_layout.proofs.Prelude.{◌≡◌, range_with_len}
 use Rattle.network_layout.proofs.components.first_events.Given as goal
 
 -- the events below the number

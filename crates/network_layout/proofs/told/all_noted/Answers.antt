@@ -8,7 +8,7 @@ loop-part-init g c = ap (λ told. Ok told) (sym c.new-made.ensures)
 pub returns-in-Err-clause-fault : goal.returns-in-Err-clause-fault
 returns-in-Err-clause-fault g c =
     untold_first (g.T.Noted.told c.args.program.now) c.args.seats.now c.loop-part.part c.loop-part.made c.loop-part.invariant c.index-seats-part.result (omega arith) c.index-seats-part.is
-    c.untold.result c.in-Err.fault c.in-Err.ensures c.untold.ensures
+    c.noted_fault.result c.in-Err.fault c.in-Err.ensures c.noted_fault.ensures
 
 pub loop-part-preserved : goal.loop-part-preserved
 loop-part-preserved g c =

@@ -1,5 +1,4 @@
-use Rattle.std.proofs.Common.{◌≡◌, Ok, take}
-use Rattle.process_steps.specs.Needed.{all_outcomes}
+use Rattle.network_layout.proofs.Prelude.{◌≡◌, Ok, take, all_outcomes}
 use Rattle.network_layout.proofs.told.all_noted.Given as goal
 
 -- what is told of the components so far has values

@@ -1,5 +1,4 @@
-use Rattle.std.proofs.Common.{ap, ◌||◌, ◌∙◌}
-use Rattle.csp_base.specs.Members.{has}
+use Rattle.network_layout.proofs.Prelude.{ap, ◌||◌, ◌∙◌, has}
 use Rattle.network_layout.proofs.Triples.{counted_next}
 use Rattle.network_layout.proofs.triple.count.Goals as goal
 

@@ -1,5 +1,4 @@
-use Rattle.std.proofs.Common.{◌≡◌, ◌++◌, drop}
-use Rattle.network_layout.specs.Triple.{alphabets, holders}
+use Rattle.network_layout.proofs.Prelude.{◌≡◌, ◌++◌, drop, alphabets, holders}
 use Rattle.network_layout.proofs.triple.holders.Given as goal
 
 -- those that were found, and those that are still to come

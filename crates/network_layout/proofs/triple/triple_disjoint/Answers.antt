@@ -1,8 +1,4 @@
-use Rattle.std.proofs.Common.{arith, ap, length, get_or, sym, subst, Some, None, take, ◌≤◌, ◌≡◌, ◌∙◌}
-use Rattle.std.specs.Prelude.{nat_le}
-use Rattle.std.specs.List.{find}
-use Rattle.csp_tables.specs.Part.{TripleDisjoint}
-use Rattle.network_layout.specs.Triple.{SharesEvent, alphabets}
+use Rattle.network_layout.proofs.Prelude.{arith, ap, length, get_or, sym, subst, Some, None, take, ◌≤◌, ◌≡◌, ◌∙◌, nat_le, find, TripleDisjoint, SharesEvent, alphabets}
 use Rattle.network_layout.proofs.Triples.{apart, first_three, shared, three}
 use Rattle.network_layout.proofs.triple.triple_disjoint.Goals as goal
 

@@ -1,9 +1,5 @@
-use Rattle.std.proofs.Common.{ap, length, subst, ◌∙◌}
-use Rattle.csp_program.specs.Value.{Env}
-use Rattle.csp_values.specs.Worth.{worths}
-use Rattle.network_layout.specs.Lays.{names_of}
+use Rattle.network_layout.proofs.Prelude.{ap, length, subst, ◌∙◌, Env, worths, names_of, Gives}
 use Rattle.network_layout.proofs.Names.{arguments_worth}
-use Rattle.value_operators.specs.Gives.{Gives}
 use Rattle.network_layout.proofs.values.arguments.Goals as goal
 
 pub returns : goal.returns

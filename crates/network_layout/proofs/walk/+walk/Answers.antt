@@ -1,9 +1,5 @@
-use Rattle.std.proofs.Common.{◌<◌, ◌≡◌, ◌∷◌, ap, ◌∙◌, arith, rules, subst}
+use Rattle.network_layout.proofs.Prelude.{◌<◌, ◌≡◌, ◌∷◌, ap, ◌∙◌, arith, rules, subst, with_bound, bound_to, the_lemmas, Lays, node, one_operand, place_of}
 use Rattle.csp_atoms.specs.declared.value.Value.TheVariants.{One}
-use Rattle.csp_program.specs.Environments.{with_bound}
-use Rattle.csp_program.specs.Value.{bound_to}
-use Rattle.csp_program.specs.declared.networks.Net.{the_lemmas}
-use Rattle.network_layout.specs.Lays.{Lays, node, one_operand, place_of}
 use Rattle.network_layout.proofs.EachSteps.{each_begin, each_end, each_fault, each_next}
 use Rattle.network_layout.proofs.Equations.{layer-Each, layer-Pair, walked_at}
 use Rattle.network_layout.proofs.Laid.{pair_laid, passes}

@@ -1,5 +1,4 @@
-use Rattle.std.proofs.Common.{◌+◌, ◌*◌, drop}
-use Rattle.network_layout.specs.Lays.{place_of}
+use Rattle.network_layout.proofs.Prelude.{◌+◌, ◌*◌, drop, place_of}
 use Rattle.network_layout.proofs.EachSteps.{EachSoFar}
 use Rattle.network_layout.proofs.walk.+walk.Given as goal
 

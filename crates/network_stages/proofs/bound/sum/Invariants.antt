@@ -1,5 +1,4 @@
-use Rattle.std.proofs.Common.{◌≡◌, take}
-use Rattle.net_sound.specs.Heights.{sum_of_greatest}
+use Rattle.network_stages.proofs.Prelude.{◌≡◌, take, sum_of_greatest}
 use Rattle.network_stages.proofs.HeightSums.{all_heights}
 use Rattle.network_stages.proofs.bound.sum.Given as goal
 

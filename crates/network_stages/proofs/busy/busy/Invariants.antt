@@ -1,6 +1,4 @@
-use Rattle.std.proofs.Common.{◌<◌, ℕ}
-use Rattle.csp_tables.specs.Part.{part_at}
-use Rattle.network_stages.specs.Busy.{IsBusyPart}
+use Rattle.network_stages.proofs.Prelude.{◌<◌, ℕ, part_at, IsBusyPart}
 use Rattle.network_stages.proofs.busy.busy.Given as goal
 
 abbrev pub invariant-loop-place : goal.invariant-loop-place

@@ -1,9 +1,5 @@
-use Rattle.std.proofs.Common.{subst, sym}
-use Rattle.std.proofs.lemmas.Result.{IfErr-weaker}
-use Rattle.csp_tables.specs.Prelude.{IsWellFormed, IsShapeOf}
-use Rattle.net_sound.proofs.FormOfTables.{shapes_are_well_formed}
+use Rattle.network_stages.proofs.Prelude.{subst, sym, IfErr-weaker, IsWellFormed, IsShapeOf, shapes_are_well_formed, ProcessStep}
 use Rattle.network_stages.proofs.TrueStops.{can_stop, stays_busy}
-use Rattle.process_steps.specs.ComponentStep.{ProcessStep}
 use Rattle.network_stages.proofs.busy.check_busy.Goals as goal
 
 pub busy-requires : goal.busy-requires

@@ -1,5 +1,4 @@
-use Rattle.std.proofs.Common.{◌∙◌}
-use Rattle.std.proofs.lemmas.Bool.{false≢true}
+use Rattle.network_stages.proofs.Prelude.{◌∙◌, false≢true}
 use Rattle.network_stages.proofs.Stopping.{nodes_more}
 use Rattle.network_stages.proofs.busy.empty_node.Goals as goal
 

@@ -1,5 +1,4 @@
-use Rattle.std.proofs.Common.{◌<◌, ℕ}
-use Rattle.csp_tables.specs.Table.{node_at}
+use Rattle.network_stages.proofs.Prelude.{◌<◌, ℕ, node_at}
 use Rattle.network_stages.proofs.Stopping.{AreNonEmpty}
 use Rattle.network_stages.proofs.busy.empty_node.Given as goal
 

@@ -1,6 +1,4 @@
-use Rattle.std.proofs.Common.{subst}
-use Rattle.network_stages.specs.Prelude.{HasNoPart, ChosenComponent}
-use Rattle.csp_base.specs.Stops.{Tells}
+use Rattle.network_stages.proofs.Prelude.{subst, HasNoPart, ChosenComponent, Tells}
 use Rattle.network_stages.proofs.MadeParts.{no_part}
 use Rattle.network_stages.proofs.chosen.make_part.Goals as goal
 

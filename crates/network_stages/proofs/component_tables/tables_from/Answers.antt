@@ -1,5 +1,4 @@
-use Rattle.std.proofs.Common.{arith, subst, sym}
-use Rattle.network_stages.specs.Tables.{whole_room}
+use Rattle.network_stages.proofs.Prelude.{arith, subst, sym, whole_room}
 use Rattle.network_stages.proofs.Tabling.{AreMade, first_fault, none_made, one_made}
 use Rattle.network_stages.proofs.component_tables.tables_from.Goals as goal
 
@@ -21,4 +20,4 @@ loop-part-preserved c = record {
 pub returns-in-Err-clause-told : goal.returns-in-Err-clause-told
 returns-in-Err-clause-told c =
     first_fault c.args.program.now c.args.seats.now _ c.loop-part.part c.args.first _ _ _ _ (omega arith) c.index-seats-part.is c.loop-part.invariant.made.so_far
-    c.loop-part.invariant.made.left c.in-Err.ensures.fault c.untabled.ensures
+    c.loop-part.invariant.made.left c.in-Err.ensures.fault c.table_fault.ensures

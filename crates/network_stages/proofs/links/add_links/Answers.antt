@@ -1,9 +1,6 @@
-use Rattle.std.proofs.Common.{◌≡◌, ◌∙◌, ℕ, ◌++◌, ◌∷◌, [], List, get_or, sym, ap, subst}
-use Rattle.std.proofs.lemmas.List.{get_or_default}
-use Rattle.csp_tables.specs.Shape.{Link}
+use Rattle.network_stages.proofs.Prelude.{◌≡◌, ◌∙◌, ℕ, ◌++◌, ◌∷◌, [], List, get_or, sym, ap, subst, get_or_default, Link, pair_at}
 use Rattle.network_stages.proofs.Linking.{AreLinksTo, IsGroup, last_links, group_added}
 use Rattle.network_stages.proofs.links.add_links.Goals as goal
-use Rattle.observed_runs.specs.Observed.{pair_at}
 
 pub loop-start-preserved : goal.loop-start-preserved
 loop-start-preserved c parts is_row before =

@@ -1,6 +1,4 @@
-use Rattle.std.proofs.Common.{◌-◌, List, length}
-use Rattle.csp_tables.specs.Part.{Part}
-use Rattle.network_stages.specs.Rows.{AreLinksBefore, IsRow}
+use Rattle.network_stages.proofs.Prelude.{◌-◌, List, length, Part, AreLinksBefore, IsRow}
 use Rattle.network_stages.proofs.Linking.{AreLinksTo}
 use Rattle.network_stages.proofs.links.add_links.Given as goal
 

@@ -1,6 +1,5 @@
-use Rattle.std.proofs.Common.{◌≡◌, ◌-◌, ◌<◌, ◌≤◌, ℕ, length}
+use Rattle.network_stages.proofs.Prelude.{◌≡◌, ◌-◌, ◌<◌, ◌≤◌, ℕ, length, pair_at}
 use Rattle.network_stages.proofs.links.group_end.Given as goal
-use Rattle.observed_runs.specs.Observed.{pair_at}
 
 abbrev pub invariant-loop-end : goal.invariant-loop-end
 invariant-loop-end l = (l.start < l.end) × (l.end ≤ length l.row) × ((k : ℕ) → l.start ≤ k → k < l.end → (pair_at l.row k).0 ≡ (pair_at l.row l.start).0)

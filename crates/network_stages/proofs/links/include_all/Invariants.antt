@@ -1,6 +1,4 @@
-use Rattle.std.proofs.Common.{◌≡◌, ◌||◌, ℕ, take}
-use Rattle.csp_base.specs.Members.{has}
-use Rattle.network_stages.specs.Rows.{has_event}
+use Rattle.network_stages.proofs.Prelude.{◌≡◌, ◌||◌, ℕ, take, has, has_event}
 use Rattle.network_stages.proofs.links.include_all.Given as goal
 
 abbrev pub invariant-loop-event : goal.invariant-loop-event

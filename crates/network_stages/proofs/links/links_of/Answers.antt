@@ -1,5 +1,4 @@
-use Rattle.std.proofs.Common.{◌≡◌, ◌<◌, length, subst, arith}
-use Rattle.network_stages.specs.Rows.{IsRow}
+use Rattle.network_stages.proofs.Prelude.{◌≡◌, ◌<◌, length, subst, arith, IsRow}
 use Rattle.network_stages.proofs.Reading.{row_read}
 use Rattle.network_stages.proofs.links.links_of.Goals as goal
 

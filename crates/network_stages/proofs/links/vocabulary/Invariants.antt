@@ -1,6 +1,4 @@
-use Rattle.std.proofs.Common.{◌≡◌, ℕ, take}
-use Rattle.csp_base.specs.Members.{has}
-use Rattle.network_stages.specs.Rows.{any_has_event}
+use Rattle.network_stages.proofs.Prelude.{◌≡◌, ℕ, take, has, any_has_event}
 use Rattle.network_stages.proofs.links.vocabulary.Given as goal
 
 abbrev pub invariant-loop-row : goal.invariant-loop-row

@@ -1,5 +1,4 @@
-use Rattle.std.proofs.Common.{◌≡◌, ◌++◌, ℕ, length}
-use Rattle.network_stages.specs.Rows.{joints, row_at}
+use Rattle.network_stages.proofs.Prelude.{◌≡◌, ◌++◌, ℕ, length, joints, row_at}
 use Rattle.network_stages.proofs.rows.join_all.Given as goal
 
 abbrev pub invariant-loop-event : goal.invariant-loop-event

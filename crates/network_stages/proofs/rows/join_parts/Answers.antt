@@ -1,7 +1,4 @@
-use Rattle.std.proofs.Common.{ℕ, List, Option, Some, cond, refl, sym, ap, ◌∙◌}
-use Rattle.csp_base.specs.Members.{has}
-use Rattle.csp_tables.specs.Part.{Part}
-use Rattle.network_stages.specs.Rows.{owner_of}
+use Rattle.network_stages.proofs.Prelude.{ℕ, List, Option, Some, cond, refl, sym, ap, ◌∙◌, has, Part, owner_of}
 use Rattle.network_stages.proofs.Joining.{owner_rows, owners_more}
 use Rattle.network_stages.proofs.Reading.{part_read, rows_read}
 use Rattle.network_stages.proofs.rows.join_parts.Goals as goal

@@ -1,6 +1,4 @@
-use Rattle.std.proofs.Common.{◌≡◌, ℕ, cond, Some}
-use Rattle.csp_base.specs.Members.{has}
-use Rattle.network_stages.specs.Rows.{owner_of}
+use Rattle.network_stages.proofs.Prelude.{◌≡◌, ℕ, cond, Some, has, owner_of}
 use Rattle.network_stages.proofs.rows.own_all.Given as goal
 
 abbrev pub invariant-loop-event : goal.invariant-loop-event

@@ -1,12 +1,11 @@
-use Rattle.std.proofs.Common.{◌≤◌, List, length, sym, subst, ◌∙◌}
-use Rattle.csp_tables.specs.Prelude.{leaves, Part, TripleDisjoint, alphabets_of}
-use Rattle.network_stages.specs.Prelude.{IsSpelled, Network, IsApart}
+use Rattle.network_stages.proofs.Prelude.{◌≤◌, List, length, sym, subst, ◌∙◌, leaves, Part, TripleDisjoint, alphabets_of, IsSpelled, Network, IsApart}
 use Rattle.network_stages.proofs.Shaping.{few_parts, is_apart, no_three, parts_apart}
 use Rattle.network_stages.proofs.shapes.make_shape.Goals as goal
+use Rattle.dl_limits.specs.declared.TheConstants.{MOST_COMPONENTS}
 
 pub shape_of-requires-in-Ok-clause-most : goal.shape_of-requires-in-Ok-clause-most
 shape_of-requires-in-Ok-clause-most c =
-    subst (λ (ps : List Part). length ps ≤ 512) (sym c.into_parts.ensures.parts) (few_parts c.args.parted.network _ (subst IsSpelled c.network-network.ensures c.layout.ensures.spelled) c.into_parts.ensures.are)
+    subst (λ (ps : List Part). length ps ≤ MOST_COMPONENTS) (sym c.into_parts.ensures.parts) (few_parts c.args.parted.network _ (subst IsSpelled c.network-network.ensures c.layout.ensures.spelled) c.into_parts.ensures.are)
 
 pub shape_of-requires-in-Ok-clause-apart : goal.shape_of-requires-in-Ok-clause-apart
 shape_of-requires-in-Ok-clause-apart c =

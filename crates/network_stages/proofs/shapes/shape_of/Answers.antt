@@ -1,6 +1,4 @@
-use Rattle.std.proofs.Common.{List, length, sym, subst}
-use Rattle.csp_tables.specs.Prelude.{Part, IsLinked}
-use Rattle.network_stages.specs.Rows.{AreLinksBefore, IsVocabulary}
+use Rattle.network_stages.proofs.Prelude.{List, length, sym, subst, Part, IsLinked, AreLinksBefore, IsVocabulary}
 use Rattle.network_stages.proofs.Forming.{is_linked, ordered}
 use Rattle.network_stages.proofs.shapes.shape_of.Goals as goal
 

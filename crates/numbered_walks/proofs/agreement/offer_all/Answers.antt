@@ -1,7 +1,5 @@
-use Rattle.std.proofs.Common.{◌+◌, ◌<◌, ℕ, List, get_or, length, refl, sym, ap, subst, ◌∙◌, arith}
-use Rattle.csp_base.specs.Members.{has}
+use Rattle.numbered_walks.proofs.Prelude.{◌+◌, ◌<◌, ℕ, List, get_or, length, refl, sym, ap, subst, ◌∙◌, arith, has, bit}
 use Rattle.numbered_walks.proofs.Agreeing.{all_left, fewer_left, none_left, offered_more, room_left, this_listed}
-use Rattle.numbered_walks.specs.Marks.{bit}
 use Rattle.numbered_walks.proofs.agreement.offer_all.Goals as goal
 
 pub loop-event-init : goal.loop-event-init

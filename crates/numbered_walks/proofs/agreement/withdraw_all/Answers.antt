@@ -1,7 +1,5 @@
-use Rattle.std.proofs.Common.{◌+◌, ◌≤◌, ℕ, List, get_or, refl, sym, ap, ◌∙◌, arith}
-use Rattle.csp_base.specs.Members.{has}
+use Rattle.numbered_walks.proofs.Prelude.{◌+◌, ◌≤◌, ℕ, List, get_or, refl, sym, ap, ◌∙◌, arith, has, bit}
 use Rattle.numbered_walks.proofs.Agreeing.{all_left, fewer_left, none_left, some_left, some_within, withdrawn_more}
-use Rattle.numbered_walks.specs.Marks.{bit}
 use Rattle.numbered_walks.proofs.agreement.withdraw_all.Goals as goal
 
 pub loop-event-init : goal.loop-event-init

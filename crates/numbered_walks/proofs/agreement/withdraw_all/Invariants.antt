@@ -1,7 +1,5 @@
-use Rattle.std.proofs.Common.{◌≡◌, ◌+◌, ℕ, get_or}
-use Rattle.csp_base.specs.Members.{has}
+use Rattle.numbered_walks.proofs.Prelude.{◌≡◌, ◌+◌, ℕ, get_or, has, IsAgreement, bit}
 use Rattle.numbered_walks.proofs.Agreeing.{AreLeft}
-use Rattle.numbered_walks.specs.Prelude.{IsAgreement, bit}
 use Rattle.numbered_walks.proofs.agreement.withdraw_all.Given as goal
 
 abbrev pub invariant-loop-event : goal.invariant-loop-event

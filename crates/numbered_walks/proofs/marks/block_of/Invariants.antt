@@ -1,5 +1,4 @@
-use Rattle.std.proofs.Common.{◌≡◌, ◌+◌, ◌*◌, take}
-use Rattle.numbered_walks.specs.Marks.{mark_count}
+use Rattle.numbered_walks.proofs.Prelude.{◌≡◌, ◌+◌, ◌*◌, take, mark_count}
 use Rattle.numbered_walks.proofs.marks.block_of.Given as goal
 
 abbrev pub invariant-loop-count : goal.invariant-loop-count

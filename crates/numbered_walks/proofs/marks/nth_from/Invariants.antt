@@ -1,5 +1,4 @@
-use Rattle.std.proofs.Common.{◌≡◌, ◌+◌, take}
-use Rattle.numbered_walks.specs.Marks.{mark_count}
+use Rattle.numbered_walks.proofs.Prelude.{◌≡◌, ◌+◌, take, mark_count}
 use Rattle.numbered_walks.proofs.marks.nth_from.Given as goal
 
 abbrev pub invariant-loop-number : goal.invariant-loop-number

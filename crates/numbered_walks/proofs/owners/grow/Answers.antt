@@ -1,5 +1,4 @@
-use Rattle.std.proofs.Common.{◌∙◌, ap, length, arith}
-use Rattle.csp_base.proofs.Standard.{length_push}
+use Rattle.numbered_walks.proofs.Prelude.{◌∙◌, ap, length, arith, length_push}
 use Rattle.numbered_walks.proofs.Owning.{row_more}
 use Rattle.numbered_walks.proofs.owners.grow.Goals as goal
 

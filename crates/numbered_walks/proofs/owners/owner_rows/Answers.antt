@@ -1,5 +1,4 @@
-use Rattle.std.proofs.Common.{ℕ, List, ◌++◌, [], get_or, ap, ◌∙◌}
-use Rattle.csp_base.specs.Members.{has}
+use Rattle.numbered_walks.proofs.Prelude.{ℕ, List, ◌++◌, [], get_or, ap, ◌∙◌, has}
 use Rattle.numbered_walks.proofs.Owning.{owned, owners_more}
 use Rattle.numbered_walks.proofs.owners.owner_rows.Goals as goal
 

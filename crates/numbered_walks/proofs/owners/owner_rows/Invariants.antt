@@ -1,5 +1,4 @@
-use Rattle.std.proofs.Common.{◌≡◌, ◌≤◌, ◌^◌, ℕ, [], get_or, length, take}
-use Rattle.numbered_walks.specs.Prelude.{marked, owner_marks}
+use Rattle.numbered_walks.proofs.Prelude.{◌≡◌, ◌≤◌, ◌^◌, ℕ, [], get_or, length, take, marked, owner_marks}
 use Rattle.numbered_walks.proofs.owners.owner_rows.Given as goal
 
 abbrev pub invariant-loop-place : goal.invariant-loop-place

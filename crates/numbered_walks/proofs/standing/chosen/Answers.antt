@@ -1,16 +1,11 @@
-use Rattle.std.proofs.Common.{◌≡◌, ℕ, List, Bool, Some, length, slice_get, ap, subst, ◌∙◌, arith}
-use Rattle.numbered_walks.specs.Prelude.{mark_count, Has, place_among, options}
-use Rattle.numbered_walks.proofs.Optioning.{has_at, none_counted, option_count, options_are}
-use Rattle.numbered_walks.proofs.Stepping.{event_marks, silent_marks}
+use Rattle.numbered_walks.proofs.Prelude.{◌≡◌, ℕ, List, Bool, Some, length, slice_get, ap, subst, ◌∙◌, arith, eq-eqb, mark_count, place_among, options}
+use Rattle.numbered_walks.proofs.Optioning.{option_count}
+use Rattle.numbered_walks.proofs.Stepping.{is_stuck, option_has, standing_options}
 use Rattle.numbered_walks.proofs.standing.chosen.Goals as goal
 
 pub returns-then-count-eq0-clause-none : goal.returns-then-count-eq0-clause-none
 returns-then-count-eq0-clause-none c =
-    let s = c.args.standing.now in
-    let all = option_count s.restless s.agreement.agreed in
-    let count = c.option_count-count.ensures in
-    let none = c.if-count-eq0.true in
-    none_counted s.restless s.agreement.agreed (Has c.args.movers.now s.terms.items) (silent_marks c.args.movers.now s c.requires.form) (event_marks c.args.movers.now s c.requires.form) (omega (arith, all, count, none))
+    (is_stuck c.args.movers.now c.args.standing.now c.requires.form c.option_count-count.result c.option_count-count.ensures).0 (eq-eqb c.option_count-count.result 0 c.if-count-eq0.true)
 
 pub option_at-requires-clause-place : goal.option_at-requires-clause-place
 option_at-requires-clause-place c =
@@ -27,7 +22,7 @@ returns-clause-chosen c =
     let place : c.place_among.result ≡ place_among c.args.number (length (options s.restless s.agreement.agreed)) = c.place_among.ensures.place ∙ ap (place_among c.args.number) c.option_count-count.ensures in
     record {
       options = options s.restless s.agreement.agreed;
-      are = options_are s.restless s.agreement.agreed (Has c.args.movers.now s.terms.items) (silent_marks c.args.movers.now s c.requires.form) (event_marks c.args.movers.now s c.requires.form);
+      are = standing_options c.args.movers.now s c.requires.form;
       chosen =
           subst (λ (n : ℕ). slice_get (options s.restless s.agreement.agreed) n ≡ Some c.option_at.result) place
           (subst (λ (ms : List Bool). slice_get (options s.restless ms) c.place_among.result ≡ Some c.option_at.result) c.agreed_events-agreed.ensures c.option_at.ensures);
@@ -36,5 +31,5 @@ returns-clause-chosen c =
 pub returns-clause-has : goal.returns-clause-has
 returns-clause-has c =
     let s = c.args.standing.now in
-    has_at s.restless s.agreement.agreed (Has c.args.movers.now s.terms.items) (silent_marks c.args.movers.now s c.requires.form) (event_marks c.args.movers.now s c.requires.form) c.place_among.result c.option_at.result
+    option_has c.args.movers.now s c.requires.form c.option_at.result c.place_among.result
     (subst (λ (ms : List Bool). slice_get (options s.restless ms) c.place_among.result ≡ Some c.option_at.result) c.agreed_events-agreed.ensures c.option_at.ensures)

@@ -1,7 +1,4 @@
-use Rattle.std.proofs.Common.{ℕ, List, drop}
-use Rattle.csp_tables.specs.Label.Label.{visible}
-use Rattle.csp_base.proofs.Rising.{RisesFrom}
-use Rattle.numbered_walks.specs.Prelude.{IsStanding, AllGo}
+use Rattle.numbered_walks.proofs.Prelude.{ℕ, List, drop, visible, RisesFrom, IsStanding, AllGo}
 use Rattle.numbered_walks.proofs.Stepping.{AreReady}
 use Rattle.numbered_walks.proofs.standing.do_together.Given as goal
 

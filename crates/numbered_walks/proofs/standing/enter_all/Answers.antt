@@ -1,8 +1,5 @@
-use Rattle.std.proofs.Common.{◌<◌, ℕ, List, length, get_or, ap, ◌∙◌, arith}
-use Rattle.acceptances.specs.OfferTests.{is_unstable}
-use Rattle.std.proofs.lemmas.List.{length-set}
+use Rattle.numbered_walks.proofs.Prelude.{◌<◌, ℕ, List, length, get_or, ap, ◌∙◌, arith, is_unstable, length-set, OwnsItsSteps}
 use Rattle.numbered_walks.proofs.Stepping.{each_more, first_more, first_room, first_within, mark_more}
-use Rattle.numbered_walks.specs.Numbered.{OwnsItsSteps}
 use Rattle.numbered_walks.proofs.standing.enter_all.Goals as goal
 
 pub enter-requires-clause-within : goal.enter-requires-clause-within

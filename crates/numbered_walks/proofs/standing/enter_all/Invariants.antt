@@ -1,6 +1,4 @@
-use Rattle.std.proofs.Common.{◌≡◌, ◌<◌, ℕ, false, get_or, length, take}
-use Rattle.acceptances.specs.OfferTests.{is_unstable}
-use Rattle.numbered_walks.specs.Prelude.{IsAgreement, component_at, offer_count, OwnsItsSteps, first_terms}
+use Rattle.numbered_walks.proofs.Prelude.{◌≡◌, ◌<◌, ℕ, false, get_or, length, take, is_unstable, IsAgreement, component_at, offer_count, OwnsItsSteps, first_terms}
 use Rattle.numbered_walks.proofs.standing.enter_all.Given as goal
 
 abbrev pub invariant-loop-place : goal.invariant-loop-place

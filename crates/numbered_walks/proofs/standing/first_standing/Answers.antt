@@ -1,9 +1,6 @@
-use Rattle.std.proofs.Common.{◌≡◌, ◌≤◌, ℕ, List, length, get_or, sym, ap, subst, ◌∙◌}
-use Rattle.std.proofs.lemmas.List.{length-map}
+use Rattle.numbered_walks.proofs.Prelude.{◌≡◌, ◌≤◌, ℕ, List, length, get_or, sym, ap, subst, ◌∙◌, length-map, owner_count, Standing}
 use Rattle.numbered_walks.proofs.Owning.{owner_counts_are}
 use Rattle.numbered_walks.proofs.Stepping.{first_form, terms_are_first}
-use Rattle.numbered_walks.specs.Prelude.{owner_count}
-use Rattle.numbered_walks.specs.declared.standing.Standing.{Standing}
 use Rattle.numbered_walks.proofs.standing.first_standing.Goals as goal
 
 pub enter_all-requires-clause-owners : goal.enter_all-requires-clause-owners

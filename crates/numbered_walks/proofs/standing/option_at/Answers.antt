@@ -1,5 +1,4 @@
-use Rattle.std.proofs.Common.{◌≡◌, ◌-◌, ◌≤◌, ℕ, Some, slice_get, subst, arith}
-use Rattle.numbered_walks.specs.Marks.{mark_count, marked}
+use Rattle.numbered_walks.proofs.Prelude.{◌≡◌, ◌-◌, ◌≤◌, ℕ, Some, slice_get, subst, arith, mark_count, marked}
 use Rattle.numbered_walks.proofs.Optioning.{event_option}
 use Rattle.numbered_walks.proofs.standing.option_at.Goals as goal
 

@@ -1,5 +1,4 @@
-use Rattle.std.proofs.Common.{◌≡◌, ap, ◌∙◌, arith}
-use Rattle.numbered_walks.specs.Marks.{mark_count}
+use Rattle.numbered_walks.proofs.Prelude.{◌≡◌, ap, ◌∙◌, arith, mark_count}
 use Rattle.numbered_walks.proofs.Optioning.{option_count}
 use Rattle.numbered_walks.proofs.standing.option_count.Goals as goal
 

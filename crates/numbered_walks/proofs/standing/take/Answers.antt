@@ -1,8 +1,5 @@
-use Rattle.std.proofs.Common.{◌<◌, ℕ, [], IsTrue, length, sym, subst, ◌∙◌}
-use Rattle.csp_base.proofs.Standard.{get_or_default, on_ok_weaker}
+use Rattle.numbered_walks.proofs.Prelude.{◌<◌, ℕ, [], IsTrue, length, sym, subst, ◌∙◌, get_or_default, on_ok_weaker, GoesOn, Has, has_owner, Move}
 use Rattle.numbered_walks.proofs.Stepping.{all_go, one_does, one_within, row_there}
-use Rattle.numbered_walks.specs.Prelude.{GoesOn, Has, has_owner}
-use Rattle.numbered_walks.specs.declared.moves.Move.{Move}
 use Rattle.numbered_walks.specs.declared.moves.Move.TheVariants as move
 use Rattle.numbered_walks.proofs.standing.take.Goals as goal
 

@@ -1,8 +1,5 @@
-use Rattle.std.proofs.Common.{◌≡◌, ◌+◌, ℕ, List, length, sym, ap, subst, ◌∙◌}
-use Rattle.csp_base.proofs.Standard.{length_push, MatchOption-at_some}
+use Rattle.numbered_walks.proofs.Prelude.{◌≡◌, ◌+◌, ℕ, List, length, sym, ap, subst, ◌∙◌, length_push, MatchOption-at_some, Goes, Has, next_number, IsAtEnd, IsStep, number_after, Chooses, IsWalk, Move}
 use Rattle.numbered_walks.proofs.Longer.{number_push, one_more_step}
-use Rattle.numbered_walks.specs.Prelude.{Goes, Has, next_number, IsAtEnd, IsStep, number_after, Chooses, IsWalk}
-use Rattle.numbered_walks.specs.declared.moves.Move.{Move}
 use Rattle.numbered_walks.proofs.walking.go.Goals as goal
 
 pub loop-preserved : goal.loop-preserved

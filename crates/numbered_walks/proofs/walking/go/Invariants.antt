@@ -1,5 +1,4 @@
-use Rattle.std.proofs.Common.{◌≡◌, length}
-use Rattle.numbered_walks.specs.Prelude.{IsStanding, WalksOn, number_after}
+use Rattle.numbered_walks.proofs.Prelude.{◌≡◌, length, IsStanding, WalksOn, number_after}
 use Rattle.numbered_walks.proofs.walking.go.Given as goal
 
 abbrev pub invariant-loop : goal.invariant-loop

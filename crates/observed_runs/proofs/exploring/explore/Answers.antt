@@ -1,6 +1,4 @@
-use Rattle.std.proofs.Common.{◌≡◌, ◌<◌, length, subst, arith, inl, inr}
-use Rattle.csp_base.proofs.Standard.{cases_lt}
-use Rattle.observed_runs.specs.Progress.{AreFollowed}
+use Rattle.observed_runs.proofs.Prelude.{◌≡◌, ◌<◌, length, subst, arith, inl, inr, cases_lt, AreFollowed}
 use Rattle.observed_runs.proofs.Finding.{is_exploration}
 use Rattle.observed_runs.proofs.Growing.{followed_still}
 use Rattle.observed_runs.proofs.exploring.explore.Goals as goal

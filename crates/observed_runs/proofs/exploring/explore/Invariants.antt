@@ -1,5 +1,4 @@
-use Rattle.std.proofs.Common.{◌<◌, ◌≤◌, ◌-◌, ◌^◌, ℕ, length}
-use Rattle.observed_runs.specs.Progress.{AreExplored, AreFollowed}
+use Rattle.observed_runs.proofs.Prelude.{◌<◌, ◌≤◌, ◌-◌, ◌^◌, ℕ, length, AreExplored, AreFollowed}
 use Rattle.observed_runs.proofs.exploring.explore.Given as goal
 
 abbrev pub invariant-loop-place : goal.invariant-loop-place

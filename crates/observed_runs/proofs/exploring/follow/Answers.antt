@@ -1,6 +1,4 @@
-use Rattle.std.proofs.Common.{◌<◌, ◌≤◌, ℕ, List, [], length, get_or, sym, ap, subst, ◌∙◌}
-use Rattle.csp_base.proofs.Standard.{get_or_read}
-use Rattle.observed_runs.specs.Observed.{pair_at}
+use Rattle.observed_runs.proofs.Prelude.{◌<◌, ◌≤◌, ℕ, List, [], length, get_or, sym, ap, subst, ◌∙◌, get_or_read, pair_at}
 use Rattle.observed_runs.proofs.Growing.{one_step_more, row_read, whole_row}
 use Rattle.observed_runs.proofs.exploring.follow.Goals as goal
 

@@ -1,5 +1,4 @@
-use Rattle.std.proofs.Common.{[], get_or}
-use Rattle.observed_runs.specs.Prelude.{IsFollowedTo, pair_at}
+use Rattle.observed_runs.proofs.Prelude.{[], get_or, IsFollowedTo, pair_at}
 use Rattle.observed_runs.proofs.exploring.follow.Given as goal
 
 abbrev pub invariant-loop-step : goal.invariant-loop-step

@@ -1,5 +1,4 @@
-use Rattle.std.proofs.Common.{◌≡◌, ℕ, ◌<◌}
-use Rattle.observed_runs.specs.Observed.{pair_at}
+use Rattle.observed_runs.proofs.Prelude.{◌≡◌, ℕ, ◌<◌, pair_at}
 use Rattle.observed_runs.proofs.nodes.node_place.Given as goal
 
 abbrev pub invariant-loop-place : goal.invariant-loop-place

@@ -1,6 +1,4 @@
-use Rattle.std.proofs.Common.{◌≡◌, ◌∙◌, ℕ, List, ap, sym}
-use Rattle.csp_tables.specs.Table.{IsRun, end_of}
-use Rattle.observed_runs.specs.Observed.{pair_at}
+use Rattle.observed_runs.proofs.Prelude.{◌≡◌, ◌∙◌, ℕ, List, ap, sym, IsRun, end_of, pair_at}
 use Rattle.observed_runs.proofs.nodes.run_to_node.Goals as goal
 use Rattle.std.proofs.lemmas.Result.{IfOk-weaker}
 

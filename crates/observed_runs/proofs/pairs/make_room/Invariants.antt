@@ -1,5 +1,4 @@
-use Rattle.std.proofs.Common.{◌≡◌, ◌+◌, ◌-◌, ℕ, length}
-use Rattle.observed_runs.specs.Marks.{is_marked}
+use Rattle.observed_runs.proofs.Prelude.{◌≡◌, ◌+◌, ◌-◌, ℕ, length, is_marked}
 use Rattle.observed_runs.proofs.pairs.make_room.Given as goal
 
 abbrev pub invariant-loop-alloc : goal.invariant-loop-alloc

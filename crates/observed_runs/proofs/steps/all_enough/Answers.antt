@@ -1,6 +1,4 @@
-use Rattle.std.proofs.Common.{◌≤◌, ◌+◌, [], ◌∷◌, length, ap, ◌∙◌, arith}
-use Rattle.std.specs.Prelude.{slice_index}
-use Rattle.std.proofs.lemmas.List.{length-append}
+use Rattle.observed_runs.proofs.Prelude.{◌≤◌, ◌+◌, [], ◌∷◌, length, ap, ◌∙◌, arith, slice_index, length-append}
 use Rattle.observed_runs.proofs.Keeping.{within_marks, one_more_row}
 use Rattle.observed_runs.proofs.steps.all_enough.Goals as goal
 

@@ -1,7 +1,4 @@
-use Rattle.std.proofs.Common.{◌≡◌, ◌<◌, ◌≤◌, ℕ, [], length, get_or}
-use Rattle.std.specs.Prelude.{slice_index}
-use Rattle.csp_tables.specs.Table.{node_at}
-use Rattle.observed_runs.specs.Enough.{AreEnough}
+use Rattle.observed_runs.proofs.Prelude.{◌≡◌, ◌<◌, ◌≤◌, ℕ, [], length, get_or, slice_index, node_at, AreEnough}
 use Rattle.observed_runs.proofs.steps.all_enough.Given as goal
 
 abbrev pub invariant-loop-number : goal.invariant-loop-number

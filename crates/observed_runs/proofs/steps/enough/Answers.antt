@@ -1,6 +1,4 @@
-use Rattle.std.proofs.Common.{◌<◌, ℕ, List, length, sym, subst, arith}
-use Rattle.std.proofs.lemmas.List.{get_or_read}
-use Rattle.observed_runs.specs.Progress.{AreEnoughSoFar}
+use Rattle.observed_runs.proofs.Prelude.{◌<◌, ℕ, List, length, sym, subst, arith, get_or_read, AreEnoughSoFar}
 use Rattle.observed_runs.proofs.Keeping.{none_kept, one_kept, all_kept}
 use Rattle.observed_runs.proofs.steps.enough.Goals as goal
 

@@ -1,6 +1,4 @@
-use Rattle.std.proofs.Common.{◌∙◌, ap, length}
-use Rattle.csp_tables.specs.Table.{Node}
-use Rattle.std.proofs.lemmas.List.{length-replicate}
+use Rattle.observed_runs.proofs.Prelude.{◌∙◌, ap, length, Node, length-replicate}
 use Rattle.observed_runs.proofs.Keeping.{none_marked}
 use Rattle.observed_runs.proofs.steps.steps_of.Goals as goal
 

@@ -1,6 +1,4 @@
-use Rattle.std.proofs.Common.{◌≡◌, ℕ, inl, inr, subst, arith}
-use Rattle.csp_base.proofs.Standard.{cases_lt}
-use Rattle.resource_conditions.specs.Finding.{FindsRun}
+use Rattle.resource_conditions.proofs.Prelude.{◌≡◌, ℕ, inl, inr, subst, arith, cases_lt, FindsRun}
 use Rattle.resource_conditions.proofs.checking.check.Goals as goal
 
 pub loop-part-preserved : goal.loop-part-preserved

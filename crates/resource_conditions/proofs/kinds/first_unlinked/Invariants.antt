@@ -1,5 +1,4 @@
-use Rattle.std.proofs.Common.{◌<◌, ℕ}
-use Rattle.design_rules.specs.Resource.{JoinsKinds}
+use Rattle.resource_conditions.proofs.Prelude.{◌<◌, ℕ, JoinsKinds}
 use Rattle.resource_conditions.proofs.kinds.first_unlinked.Given as goal
 
 abbrev pub invariant-loop-link : goal.invariant-loop-link

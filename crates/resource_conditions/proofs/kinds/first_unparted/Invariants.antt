@@ -1,5 +1,4 @@
-use Rattle.std.proofs.Common.{◌<◌, ℕ}
-use Rattle.resource_conditions.specs.Setting.{HasParted}
+use Rattle.resource_conditions.proofs.Prelude.{◌<◌, ℕ, HasParted}
 use Rattle.resource_conditions.proofs.kinds.first_unparted.Given as goal
 
 abbrev pub invariant-loop-part : goal.invariant-loop-part

@@ -1,7 +1,4 @@
-use Rattle.std.proofs.Common.{◌≡◌, ◌∙◌, ◌||◌, ◌&&◌, ℕ, List, ap, sym}
-use Rattle.csp_base.specs.Prelude.{has, meets_of}
-use Rattle.csp_tables.specs.Prelude.{part_at, UseSets, use_at, Shape}
-use Rattle.resource_conditions.specs.Setting.{HasParted}
+use Rattle.resource_conditions.proofs.Prelude.{◌≡◌, ◌∙◌, ◌||◌, ◌&&◌, ℕ, List, ap, sym, has, meets_of, part_at, UseSets, use_at, Shape, HasParted}
 use Rattle.resource_conditions.proofs.Joining.{parted, not_apart, not_within, not_all, match_of}
 use Rattle.resource_conditions.proofs.kinds.is_parted.Goals as goal
 

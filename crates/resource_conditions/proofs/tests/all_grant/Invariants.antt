@@ -1,5 +1,4 @@
-use Rattle.std.proofs.Common.{◌≡◌, true, take}
-use Rattle.resource_conditions.specs.Tests.{are_granted}
+use Rattle.resource_conditions.proofs.Prelude.{◌≡◌, true, take, are_granted}
 use Rattle.resource_conditions.proofs.tests.all_grant.Given as goal
 
 abbrev pub invariant-loop-set : goal.invariant-loop-set

@@ -1,5 +1,4 @@
-use Rattle.std.proofs.Common.{◌∙◌, sym}
-use Rattle.resource_conditions.specs.Tests.{is_turn}
+use Rattle.resource_conditions.proofs.Prelude.{◌∙◌, sym, is_turn}
 use Rattle.resource_conditions.proofs.Sets.{fails_here}
 use Rattle.resource_conditions.proofs.tests.all_turns.Goals as goal
 

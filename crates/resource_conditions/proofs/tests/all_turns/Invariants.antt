@@ -1,6 +1,4 @@
-use Rattle.std.proofs.Common.{◌≡◌, ℕ, true, take}
-use Rattle.std.specs.List.{list_all}
-use Rattle.resource_conditions.specs.Tests.{is_turn}
+use Rattle.resource_conditions.proofs.Prelude.{◌≡◌, ℕ, true, take, list_all, is_turn}
 use Rattle.resource_conditions.proofs.tests.all_turns.Given as goal
 
 abbrev pub invariant-loop-event : goal.invariant-loop-event

@@ -1,7 +1,5 @@
-use Rattle.std.proofs.Common.{◌≤◌, ◌∙◌, length, inl, inr, ap, sym}
-use Rattle.std.proofs.lemmas.Bool.{cases_lt, false≢true}
-use Rattle.csp_tables.specs.Shape.{Link, Shape}
-use Rattle.csp_base.specs.Events.{inter_of}
+use Rattle.resource_conditions.proofs.Prelude.{◌≤◌, ◌∙◌, length, inl, inr, ap, sym, cases_lt, false≢true, Shape, inter_of}
+use Rattle.csp_tables.specs.Shape.{Link}
 use Rattle.resource_conditions.proofs.Sets.{inter_none}
 use Rattle.shape_links.proofs.Links.{link_past}
 use Rattle.resource_conditions.proofs.tests.on_link.Goals as goal

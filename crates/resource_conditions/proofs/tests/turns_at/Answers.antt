@@ -1,11 +1,4 @@
-use Rattle.std.proofs.Common.{◌∙◌, ℕ, subst}
-use Rattle.std.proofs.lemmas.Bool.{cond-false}
-use Rattle.csp_base.specs.Members.{has}
-use Rattle.csp_tables.specs.Prelude.{Shape, node_at, part_at}
-use Rattle.observed_runs.specs.Prelude.{AreEnough}
-use Rattle.shape_links.specs.Setting.{node_of}
-use Rattle.resource_conditions.specs.Tests.{is_turn}
-use Rattle.shape_links.proofs.Watching.{all_enough}
+use Rattle.resource_conditions.proofs.Prelude.{◌∙◌, ℕ, subst, cond-false, has, Shape, node_at, part_at, AreEnough, node_of, is_turn, all_enough}
 use Rattle.resource_conditions.proofs.tests.turns_at.Goals as goal
 
 pub returns : goal.returns

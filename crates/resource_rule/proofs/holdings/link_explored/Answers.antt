@@ -1,8 +1,4 @@
-use Rattle.std.proofs.Common.{◌≡◌, ◌∙◌, ℕ, List, ap, sym, subst}
-use Rattle.csp_base.proofs.Results.{if_both}
-use Rattle.csp_tables.specs.Prelude.{part_at, Link, Shape, link_at}
-use Rattle.observed_runs.specs.Prelude.{SeesOnly, AreFound, Found, IsExploration, parity_step}
-use Rattle.shape_links.proofs.Watching.{parity_only}
+use Rattle.resource_rule.proofs.Prelude.{◌≡◌, ◌∙◌, ℕ, List, ap, sym, subst, part_at, Link, Shape, link_at, SeesOnly, Found, IsExploration, parity_step, parity_only, IfOk-weaker}
 use Rattle.resource_rule.proofs.holdings.link_explored.Goals as goal
 
 pub explore-requires : goal.explore-requires
@@ -14,13 +10,8 @@ explore-requires c =
 pub returns : goal.returns
 returns c =
     let shared : c.new-parity.result.events.now ≡ (link_at c.args.setting.now.shape c.args.link).shared = c.new-parity.ensures ∙ c.shared.ensures ∙ ap (λ (k : Link). k.shared) c.link.ensures in
-    let pairs = λ (made : Found) (s : Shape) (n : ℕ) (S : List ℕ). IsExploration (part_at s.parts n).table (parity_step S) 0 made.pairs in
-    let found = λ (made : Found) (s : Shape) (n : ℕ) (S : List ℕ). AreFound (part_at s.parts n).table (parity_step S) 0 made in
+    let at = λ (made : Found) (s : Shape) (n : ℕ) (S : List ℕ). IsExploration (part_at s.parts n).table (parity_step S) 0 made.pairs in
     let S = c.new-parity.result.events.now in
-    let shape = c.component.result.shape.now in
     let i = c.args.part in
-    if_both c.explore.result _ _ _ c.explore.ensures.pairs c.explore.ensures.found
-    (λ (made : Found) p f. record {
-      explored = subst (λ (S : List ℕ). pairs made c.args.setting.now.shape i S) shared (subst (λ (s : Shape). pairs made s i S) c.component.ensures.shape (subst (λ (n : ℕ). pairs made shape n S) c.component.ensures.number p));
-      origins_are = subst (λ (S : List ℕ). found made c.args.setting.now.shape i S) shared (subst (λ (s : Shape). found made s i S) c.component.ensures.shape (subst (λ (n : ℕ). found made shape n S) c.component.ensures.number f));
-    })
+    IfOk-weaker c.explore.result _ _ (λ (made : Found) p.
+    subst (λ (S : List ℕ). at made c.args.setting.now.shape i S) shared (subst (λ (s : Shape). at made s i S) c.component.ensures.shape (subst (λ (n : ℕ). at made c.component.result.shape.now n S) c.component.ensures.number p))) c.explore.ensures.pairs

@@ -1,6 +1,4 @@
-use Rattle.std.proofs.Common.{◌≡◌, ◌||◌, ℕ, take}
-use Rattle.csp_base.specs.Members.{has}
-use Rattle.resource_rule.specs.Uses.{is_offered}
+use Rattle.resource_rule.proofs.Prelude.{◌≡◌, ◌||◌, ℕ, take, has, is_offered}
 use Rattle.resource_rule.proofs.offers.with_offers.Given as goal
 
 abbrev pub invariant-loop-set : goal.invariant-loop-set

@@ -1,6 +1,5 @@
 use Rattle.resource_rule.proofs.Offering.{absorbed}
-use Rattle.csp_base.specs.Events.{is_subset_of}
-use Rattle.std.proofs.Common.{◌∙◌, sym}
+use Rattle.resource_rule.proofs.Prelude.{is_subset_of, ◌∙◌, sym}
 use Rattle.resource_rule.proofs.offers.with_set.Goals as goal
 
 pub returns-then-is_subset : goal.returns-then-is_subset

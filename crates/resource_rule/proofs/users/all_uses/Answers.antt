@@ -1,6 +1,4 @@
-use Rattle.std.proofs.Common.{◌∙◌, sym}
-use Rattle.resource_rule.specs.Uses.{is_use}
-use Rattle.resource_conditions.proofs.Sets.{fails_here}
+use Rattle.resource_rule.proofs.Prelude.{◌∙◌, sym, is_use, fails_here}
 use Rattle.resource_rule.proofs.users.all_uses.Goals as goal
 
 pub returns-then-not-use_in_turn : goal.returns-then-not-use_in_turn

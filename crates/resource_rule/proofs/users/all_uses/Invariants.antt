@@ -1,6 +1,4 @@
-use Rattle.std.proofs.Common.{◌≡◌, ℕ, true, take}
-use Rattle.std.specs.List.{list_all}
-use Rattle.resource_rule.specs.Uses.{is_use}
+use Rattle.resource_rule.proofs.Prelude.{◌≡◌, ℕ, true, take, list_all, is_use}
 use Rattle.resource_rule.proofs.users.all_uses.Given as goal
 
 abbrev pub invariant-loop-event : goal.invariant-loop-event

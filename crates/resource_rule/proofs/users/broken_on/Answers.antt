@@ -1,10 +1,4 @@
-use Rattle.std.proofs.Common.{◌≡◌, ◌∙◌, ℕ, List, Option, true, ap, sym, subst}
-use Rattle.std.proofs.lemmas.Result.{IfOk-weaker}
-use Rattle.csp_tables.specs.Prelude.{Link, Shape, end_of, link_at, part_at}
-use Rattle.observed_runs.specs.Prelude.{SeesOnly, observed, parity_step}
-use Rattle.shape_links.specs.Component.{IsDecided}
-use Rattle.shape_links.proofs.Watching.{parity_only}
-use Rattle.resource_rule.specs.Uses.{are_uses}
+use Rattle.resource_rule.proofs.Prelude.{◌≡◌, ◌∙◌, ℕ, List, Option, true, ap, sym, subst, IfOk-weaker, Link, Shape, end_of, link_at, part_at, SeesOnly, observed, parity_step, IsDecided, parity_only, are_uses}
 use Rattle.resource_rule.proofs.Using.{decided_use}
 use Rattle.resource_rule.proofs.users.broken_on.Goals as goal
 

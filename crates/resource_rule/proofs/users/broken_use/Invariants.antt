@@ -1,8 +1,4 @@
-use Rattle.std.proofs.Common.{◌≡◌, ◌<◌, ℕ, List, Some}
-use Rattle.std.specs.Prelude.{slice_get}
-use Rattle.csp_tables.specs.Prelude.{Joins}
-use Rattle.shape_links.specs.Links.{ends_of}
-use Rattle.resource_rule.specs.Uses.{UsesLink}
+use Rattle.resource_rule.proofs.Prelude.{◌≡◌, ◌<◌, ℕ, List, Some, slice_get, Joins, ends_of, UsesLink}
 use Rattle.resource_rule.proofs.users.broken_use.Given as goal
 
 abbrev pub invariant-loop-link : goal.invariant-loop-link

@@ -1,8 +1,4 @@
-use Rattle.std.proofs.Common.{List, pos, sym, subst, refl}
-use Rattle.csp_tables.specs.Prelude.{Part, Shape}
-use Rattle.design_rules.specs.Prelude.{IsClientServerRanking}
-use Rattle.rule_rankings.specs.ClientServerRanks.{IsRank}
-use Rattle.rule_rankings.specs.Rows.{AreAllRanked, NoLap}
+use Rattle.rule_rankings.proofs.Prelude.{List, pos, sym, subst, refl, Part, Shape, IsClientServerRanking, IsRank, AreAllRanked, NoLap}
 use Rattle.rule_rankings.proofs.ClientServerRanking.{role_ranking}
 use Rattle.rule_rankings.proofs.client_server.client_server_ranking.Goals as goal
 

@@ -1,10 +1,5 @@
-use Rattle.std.proofs.Common.{◌≡◌, ◌∙◌, ℕ, List, pos, length, ap, sym, subst, arith, to_z, of_z, w64}
-use Rattle.std.specs.Prelude.{slice_index}
-use Rattle.std.proofs.lemmas.Int.{ints}
-use Rattle.csp_tables.specs.Prelude.{Part, Shape}
-use Rattle.design_rules.specs.Prelude.{AreCyclicRanks, above_all}
-use Rattle.rule_rankings.specs.CyclicRanks.{IsLap, IsRank}
-use Rattle.rule_rankings.specs.Rows.{AreAllRanked}
+use Rattle.rule_rankings.proofs.Prelude.{◌≡◌, ◌∙◌, ℕ, List, pos, length, ap, sym, subst, arith, to_z, of_z, w64, slice_index, ints, Part, Shape, AreCyclicRanks, above_all, IsLap, AreAllRanked}
+use Rattle.rule_rankings.specs.CyclicRanks.{IsRank}
 use Rattle.rule_rankings.proofs.CyclicRanking.{cyclic_ranks}
 use Rattle.rule_rankings.proofs.cyclic.cyclic_ranking.Goals as goal
 

@@ -1,8 +1,6 @@
-use Rattle.std.proofs.Common.{◌∙◌, ℕ, get_or, max, ap}
-use Rattle.std.specs.Prelude.{slice_index}
+use Rattle.rule_rankings.proofs.Prelude.{◌∙◌, ℕ, get_or, max, ap, slice_index, has_at}
 use Rattle.rule_rankings.proofs.CyclicRanking.{greatest_more, is_greatest}
 use Rattle.rule_rankings.proofs.cyclic.greatest.Goals as goal
-use Rattle.csp_base.proofs.Listed.{has_at}
 
 pub of-requires : goal.of-requires
 of-requires c = c.requires (get_or c.args.links.now c.loop-link.link-index 0) (has_at c.args.links.now c.loop-link.link-index c.loop-link-test.true)

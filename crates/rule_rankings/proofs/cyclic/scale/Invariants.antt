@@ -1,6 +1,4 @@
-use Rattle.std.proofs.Common.{◌≡◌, ◌≤◌, ◌^◌}
-use Rattle.std.specs.Prelude.{slice_index}
-use Rattle.design_rules.specs.Counts.{above_all}
+use Rattle.rule_rankings.proofs.Prelude.{◌≡◌, ◌≤◌, ◌^◌, slice_index, above_all}
 use Rattle.rule_rankings.proofs.cyclic.scale.Given as goal
 
 abbrev pub invariant-loop-number : goal.invariant-loop-number

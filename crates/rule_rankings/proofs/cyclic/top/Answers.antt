@@ -1,10 +1,4 @@
-use Rattle.std.proofs.Common.{◌≡◌, ◌∙◌, ◌<◌, ℕ, List, true, length, ap, sym, subst}
-use Rattle.std.specs.Prelude.{slice_index}
-use Rattle.csp_base.specs.Members.{has}
-use Rattle.csp_tables.specs.Prelude.{Shape}
-use Rattle.shape_links.specs.Links.{ends_of}
-use Rattle.shape_links.proofs.Links.{ends_sound}
-use Rattle.rule_rankings.specs.CyclicRanks.{IsGreatest}
+use Rattle.rule_rankings.proofs.Prelude.{◌≡◌, ◌∙◌, ◌<◌, ℕ, List, true, length, ap, sym, subst, slice_index, has, Shape, ends_of, ends_sound, IsGreatest}
 use Rattle.rule_rankings.proofs.cyclic.top.Goals as goal
 
 pub greatest-requires : goal.greatest-requires

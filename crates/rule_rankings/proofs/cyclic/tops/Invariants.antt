@@ -1,5 +1,4 @@
-use Rattle.std.specs.Prelude.{slice_index}
-use Rattle.rule_rankings.specs.CyclicRanks.{AreTops}
+use Rattle.rule_rankings.proofs.Prelude.{slice_index, AreTops}
 use Rattle.rule_rankings.proofs.cyclic.tops.Given as goal
 
 abbrev pub invariant-loop-part : goal.invariant-loop-part

@@ -1,5 +1,4 @@
-use Rattle.std.proofs.Common.{List, ℕ, subst}
-use Rattle.rule_rankings.specs.ResourceRanks.{number_by}
+use Rattle.rule_rankings.proofs.Prelude.{List, ℕ, subst, number_by}
 use Rattle.rule_rankings.proofs.ResourceRanking.{IsLeastSoFar, least_next, least_end}
 use Rattle.rule_rankings.proofs.resource.least_acquired.Goals as goal
 

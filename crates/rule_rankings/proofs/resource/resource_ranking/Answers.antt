@@ -1,8 +1,5 @@
-use Rattle.std.proofs.Common.{◌∙◌, List, pos, ap, sym, subst, refl}
-use Rattle.csp_tables.specs.Prelude.{Part, Shape}
-use Rattle.design_rules.specs.Prelude.{AreResourceRanks}
-use Rattle.rule_rankings.specs.ResourceRanks.{IsRank, number_by}
-use Rattle.rule_rankings.specs.Rows.{AreAllRanked, NoLap}
+use Rattle.rule_rankings.proofs.Prelude.{◌∙◌, List, pos, ap, sym, subst, refl, Part, Shape, AreResourceRanks, number_by, AreAllRanked, NoLap}
+use Rattle.rule_rankings.specs.ResourceRanks.{IsRank}
 use Rattle.rule_rankings.proofs.ResourceRanking.{resource_ranks}
 use Rattle.rule_rankings.proofs.resource.resource_ranking.Goals as goal
 

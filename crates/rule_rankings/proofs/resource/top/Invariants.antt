@@ -1,7 +1,5 @@
-use Rattle.std.proofs.Common.{◌≡◌, ◌≤◌}
-use Rattle.dl_limits.specs.declared.TheConstants.{MOST_COMPONENTS}
+use Rattle.rule_rankings.proofs.Prelude.{◌≡◌, ◌≤◌, MOST_COMPONENTS, number_by}
 use Rattle.design_rules.specs.ResourceRanking.{top_number}
-use Rattle.rule_rankings.specs.ResourceRanks.{number_by}
 use Rattle.rule_rankings.proofs.resource.top.Given as goal
 
 abbrev pub invariant-loop-part : goal.invariant-loop-part

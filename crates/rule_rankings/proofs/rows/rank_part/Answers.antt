@@ -1,8 +1,4 @@
-use Rattle.std.proofs.Common.{◌∙◌, ◌∷◌, ℕ, List, [], map, pos, ap, subst}
-use Rattle.std.proofs.lemmas.List.{map-append}
-use Rattle.csp_base.proofs.Results.{was_made}
-use Rattle.csp_tables.specs.Prelude.{no_node}
-use Rattle.rule_rankings.specs.Rows.{AreEach, HasLap}
+use Rattle.rule_rankings.proofs.Prelude.{◌∙◌, ◌∷◌, ℕ, List, [], map, pos, ap, subst, map-append, was_made, no_node, AreEach, HasLap}
 use Rattle.rule_rankings.proofs.RowsBelow.{below_more}
 use Rattle.rule_rankings.proofs.rows.rank_part.Goals as goal
 

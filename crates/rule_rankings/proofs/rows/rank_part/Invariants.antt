@@ -1,6 +1,4 @@
-use Rattle.std.proofs.Common.{[], pos, map}
-use Rattle.csp_tables.specs.Prelude.{no_node}
-use Rattle.rule_rankings.specs.Rows.{AreEach, HasLap}
+use Rattle.rule_rankings.proofs.Prelude.{[], pos, map, no_node, AreEach, HasLap}
 use Rattle.rule_rankings.proofs.RowsBelow.{AreEachBelow}
 use Rattle.rule_rankings.proofs.rows.rank_part.Given as goal
 

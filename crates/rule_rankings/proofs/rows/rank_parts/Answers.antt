@@ -1,7 +1,4 @@
-use Rattle.std.proofs.Common.{◌∙◌, List, [], subst}
-use Rattle.csp_base.proofs.Results.{if_both, was_made}
-use Rattle.csp_tables.specs.Prelude.{Node}
-use Rattle.rule_rankings.specs.Rows.{AreLaps, AreRanked, AreRanks}
+use Rattle.rule_rankings.proofs.Prelude.{◌∙◌, List, [], subst, if_both, was_made, Node, AreLaps, AreRanked, AreRanks}
 use Rattle.rule_rankings.proofs.RowsBelow.{below_more}
 use Rattle.rule_rankings.proofs.rows.rank_parts.Goals as goal
 

@@ -1,5 +1,4 @@
-use Rattle.std.proofs.Common.{[]}
-use Rattle.rule_rankings.specs.Rows.{AreRanked}
+use Rattle.rule_rankings.proofs.Prelude.{[], AreRanked}
 use Rattle.rule_rankings.proofs.RowsBelow.{AreEachBelow}
 use Rattle.rule_rankings.proofs.rows.rank_parts.Given as goal
 

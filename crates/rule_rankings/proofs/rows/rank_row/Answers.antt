@@ -1,5 +1,4 @@
-use Rattle.std.proofs.Common.{◌≡◌, [], pos, sym, subst, arith, to_z, of_z, w64}
-use Rattle.std.proofs.lemmas.Int.{ints}
+use Rattle.rule_rankings.proofs.Prelude.{◌≡◌, [], pos, sym, subst, arith, to_z, of_z, w64, ints}
 use Rattle.rule_rankings.proofs.RowsBelow.{below_more}
 use Rattle.rule_rankings.proofs.rows.rank_row.Goals as goal
 

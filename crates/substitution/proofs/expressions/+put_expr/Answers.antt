@@ -1,6 +1,4 @@
-use Rattle.std.proofs.Common.{map, refl, arith, rules}
-use Rattle.csp_program.specs.Substitution.{expr_with, given_by}
-use Rattle.csp_base.proofs.Results.{pushed}
+use Rattle.substitution.proofs.Prelude.{map, refl, arith, rules, expr_with, given_by, pushed}
 use Rattle.substitution.proofs.Forms.{expr_with-Call, expr_with-Event, expr_with-Display, expr_with-Comp, expr_with-Product}
 use Rattle.substitution.proofs.Loops.{next_made}
 use Rattle.substitution.proofs.expressions.+put_expr.Goals as goal

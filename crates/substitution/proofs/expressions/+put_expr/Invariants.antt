@@ -1,8 +1,7 @@
-use Rattle.std.proofs.Common.{◌≡◌, ◌+◌, ◌*◌, ◌++◌, drop, map, max}
+use Rattle.substitution.proofs.Prelude.{◌≡◌, ◌+◌, ◌*◌, ◌++◌, drop, map, max, expr_with, gens_with, given_by, part_with, past}
 use denote.Param.Weighed as weighed
 use Rattle.csp_program.proofs.expressions.Expr.TheLaws.{the_size}
 use Rattle.csp_program.proofs.expressions.Gen.TheLaws as generator
-use Rattle.csp_program.specs.Substitution.{expr_with, gens_with, given_by, part_with, past}
 use Rattle.substitution.proofs.expressions.+put_expr.Given as goal
 
 -- what is made so far, followed by what is made of the rest, is what is made of all

@@ -1,5 +1,4 @@
-use Rattle.std.proofs.Common.{◌≡◌, drop}
-use Rattle.csp_program.specs.Substitution.{after_all, given_by}
+use Rattle.substitution.proofs.Prelude.{◌≡◌, drop, after_all, given_by}
 use Rattle.substitution.proofs.fields.any_field_binds.Given as goal
 
 -- those so far bind none

@@ -1,5 +1,4 @@
-use Rattle.std.proofs.Common.{◌≡◌, drop}
-use Rattle.csp_program.specs.Substitution.{given_by, past}
+use Rattle.substitution.proofs.Prelude.{◌≡◌, drop, given_by, past}
 use Rattle.substitution.proofs.fields.pass_gens.Given as goal
 
 -- what the rest leaves of the values is what all leave

@@ -1,6 +1,4 @@
-use Rattle.std.proofs.Common.{◌+◌, ◌∷◌, drop, ap, sym, arith}
-use Rattle.csp_base.proofs.Results.{pushed}
-use Rattle.csp_program.specs.Substitution.{after_all, field_with, fields_with, given_by, Given}
+use Rattle.substitution.proofs.Prelude.{◌+◌, ◌∷◌, drop, ap, sym, arith, pushed, after_all, field_with, fields_with, given_by, Given}
 use Rattle.substitution.proofs.Loops.{next_made, next_left}
 use Rattle.substitution.proofs.fields.replace_fields.Goals as goal
 

@@ -1,5 +1,4 @@
-use Rattle.std.proofs.Common.{◌≡◌, ◌++◌, drop}
-use Rattle.csp_program.specs.Substitution.{after_all, fields_with, given_by}
+use Rattle.substitution.proofs.Prelude.{◌≡◌, ◌++◌, drop, after_all, fields_with, given_by}
 use Rattle.substitution.proofs.fields.replace_fields.Given as goal
 
 -- what is made so far, followed by what is made of the rest, is what is made of all; and what the rest leaves of the values is what all leave

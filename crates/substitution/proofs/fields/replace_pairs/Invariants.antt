@@ -1,5 +1,4 @@
-use Rattle.std.proofs.Common.{◌≡◌, ◌++◌, drop, map}
-use Rattle.csp_program.specs.Substitution.{given_by, pair_with}
+use Rattle.substitution.proofs.Prelude.{◌≡◌, ◌++◌, drop, map, given_by, pair_with}
 use Rattle.substitution.proofs.fields.replace_pairs.Given as goal
 
 -- what is made so far, followed by what is made of the rest, is what is made of all

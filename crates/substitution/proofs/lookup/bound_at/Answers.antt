@@ -1,6 +1,4 @@
-use Rattle.std.proofs.Common.{◌≡◌, ◌+◌, ◌-◌, map, ap, sym, ◌∙◌, arith}
-use Rattle.std.proofs.lemmas.List.{length-map}
-use Rattle.csp_program.specs.Prelude.{with_bound, given_by}
+use Rattle.substitution.proofs.Prelude.{◌≡◌, ◌+◌, ◌-◌, map, ap, sym, ◌∙◌, arith, length-map, with_bound, given_by}
 use Rattle.substitution.proofs.NamesFound.{bound_absent, bound_there, not_there}
 use Rattle.substitution.proofs.lookup.bound_at.Goals as goal
 

@@ -1,5 +1,4 @@
-use Rattle.std.proofs.Common.{◌≡◌, ◌+◌, drop, map}
-use Rattle.substitution.specs.Named.{counts_up}
+use Rattle.substitution.proofs.Prelude.{◌≡◌, ◌+◌, drop, map, counts_up}
 use Rattle.substitution.proofs.lookup.bound_count_up.Given as goal
 
 -- those so far count up

@@ -1,5 +1,4 @@
-use Rattle.std.proofs.Common.{◌≡◌, length}
-use Rattle.csp_program.specs.Prelude.{with_bound, given_by, Env}
+use Rattle.substitution.proofs.Prelude.{◌≡◌, length, with_bound, given_by, Env}
 use Rattle.substitution.proofs.lookup.bound_last.Given as goal
 
 -- the value is the one without the names after those that are left

@@ -1,5 +1,4 @@
-use Rattle.std.proofs.Common.{◌≡◌, ◌+◌, drop}
-use Rattle.substitution.specs.Named.{counts_up}
+use Rattle.substitution.proofs.Prelude.{◌≡◌, ◌+◌, drop, counts_up}
 use Rattle.substitution.proofs.lookup.count_up.Given as goal
 
 -- those so far count up

@@ -1,5 +1,4 @@
-use Rattle.std.proofs.Common.{◌≡◌, ◌+◌, ◌-◌, ap, sym, ◌∙◌, arith}
-use Rattle.csp_program.specs.Prelude.{given_by, bound_to}
+use Rattle.substitution.proofs.Prelude.{◌≡◌, ◌+◌, ◌-◌, ap, sym, ◌∙◌, arith, given_by, bound_to}
 use Rattle.substitution.proofs.NamesFound.{listed_absent, listed_there, not_there}
 use Rattle.substitution.proofs.lookup.listed_at.Goals as goal
 

@@ -1,5 +1,4 @@
-use Rattle.std.proofs.Common.{◌≡◌, length}
-use Rattle.csp_program.specs.Prelude.{given_by, bound_to}
+use Rattle.substitution.proofs.Prelude.{◌≡◌, length, given_by, bound_to}
 use Rattle.substitution.proofs.lookup.listed_first.Given as goal
 
 -- the value is the one among those that are left

@@ -1,7 +1,5 @@
-use Rattle.std.proofs.Common.{ap, ◌∙◌, rules}
-use Rattle.csp_program.specs.Substitution.{proc_with, Given}
+use Rattle.substitution.proofs.Prelude.{ap, ◌∙◌, rules, proc_with, Given, if_map}
 use Rattle.csp_program.specs.declared.processes.Proc.TheVariants as proc
-use Rattle.csp_base.proofs.Results.{if_map}
 use Rattle.substitution.proofs.Forms.{proc_with-External, proc_with-Internal, proc_with-Call}
 use Rattle.substitution.proofs.processes.+put_proc.Goals as goal
 

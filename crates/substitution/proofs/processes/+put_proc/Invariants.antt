@@ -1,6 +1,5 @@
-use Rattle.std.proofs.Common.{◌≡◌, ◌+◌, ◌*◌, ◌++◌, drop, map, max}
+use Rattle.substitution.proofs.Prelude.{◌≡◌, ◌+◌, ◌*◌, ◌++◌, drop, map, max, given_by, proc_with}
 use Rattle.csp_program.proofs.processes.Proc.TheLaws.{the_size}
-use Rattle.csp_program.specs.Substitution.{given_by, proc_with}
 use Rattle.substitution.proofs.processes.+put_proc.Given as goal
 
 -- what is made so far, followed by what is made of the rest, is what is made of all

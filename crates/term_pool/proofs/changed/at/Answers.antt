@@ -1,8 +1,6 @@
 -- Past the end of the list the place is 0.
-use Rattle.std.proofs.Common.{Option, unwrap_or, sym, ap, ◌∙◌}
-use Rattle.std.proofs.lemmas.Option.{unwrap_or-slice_get}
+use Rattle.term_pool.proofs.Prelude.{Option, unwrap_or, sym, ap, ◌∙◌, unwrap_or-slice_get, ProcId}
 use Rattle.std.specs.Option.{option_copied}
-use Rattle.pool_parts.specs.declared.place.ProcId.{ProcId}
 use Rattle.term_pool.proofs.changed.at.Goals as goal
 
 pub returns-in-None : goal.returns-in-None

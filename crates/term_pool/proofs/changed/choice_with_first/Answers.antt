@@ -1,7 +1,4 @@
-use Rattle.std.proofs.Common.{◌≡◌, List, [], sym, ◌∙◌, subst}
-use Rattle.std.specs.Prelude.{IfOk}
-use Rattle.pool_parts.specs.declared.place.ProcId.{ProcId}
-use Rattle.term_pool.specs.Prelude.{choice_at, other_first}
+use Rattle.term_pool.proofs.Prelude.{◌≡◌, List, [], sym, ◌∙◌, subst, IfOk, ProcId, choice_at, other_first}
 use Rattle.term_pool.proofs.changed.choice_with_first.Goals as goal
 
 pub returns-clause-made : goal.returns-clause-made

@@ -1,8 +1,7 @@
 -- Own parts first, and then places.
-use Rattle.std.proofs.Common.{ap, ◌∙◌}
+use Rattle.term_pool.proofs.Prelude.{ap, ◌∙◌, Layer, moved}
 use Rattle.std.proofs.lemmas.Result.{IfOk-weaker}
 use Rattle.term_pool.proofs.EntryLemmas.{starts_both}
-use Rattle.term_pool.specs.Prelude.{Layer, moved}
 use Rattle.term_pool.proofs.changed.made_entry.Goals as goal
 
 pub returns-clause-start : goal.returns-clause-start

@@ -1,9 +1,4 @@
-use Rattle.std.proofs.Common.{◌≡◌, List, [], map, sym, ◌∙◌, subst}
-use Rattle.std.specs.Prelude.{IfOk}
-use Rattle.csp_program.specs.Prelude.{given_by, pair_with, past}
-use Rattle.csp_program.specs.declared.expressions.EventPart.{EventPart}
-use Rattle.csp_program.specs.declared.expressions.Gen.{Gen}
-use Rattle.term_pool.specs.Entries.{gens_at, pairs_at}
+use Rattle.term_pool.proofs.Prelude.{◌≡◌, List, [], map, sym, ◌∙◌, subst, IfOk, given_by, pair_with, past, EventPart, Gen, gens_at, pairs_at}
 use Rattle.term_pool.proofs.changed.put_renaming.Goals as goal
 
 pub returns-clause-pairs : goal.returns-clause-pairs

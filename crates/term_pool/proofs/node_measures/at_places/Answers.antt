@@ -1,9 +1,6 @@
 -- One place more, and all of them.
-use Rattle.std.proofs.Common.{List, ap, ◌∙◌, arith, subst}
-use Rattle.csp_base.proofs.Standard.{common_steps, get_or_default, take_all}
-use Rattle.pool_parts.specs.declared.place.ProcId.{ProcId}
+use Rattle.term_pool.proofs.Prelude.{List, ap, ◌∙◌, arith, subst, common_steps, get_or_default, take_all, ProcId, measure_at, IsLeastAt}
 use Rattle.term_pool.proofs.NodeMeasures.{least_more}
-use Rattle.term_pool.specs.Measured.{measure_at, IsLeastAt}
 use Rattle.term_pool.proofs.node_measures.at_places.Goals as goal
 
 pub loop-id-preserved : goal.loop-id-preserved

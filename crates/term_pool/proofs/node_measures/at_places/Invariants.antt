@@ -1,6 +1,4 @@
-use Rattle.std.proofs.Common.{◌≡◌, ◌+◌, ◌≤◌, max, true, length, drop, take}
-use Rattle.pool_parts.specs.Counting.{capped}
-use Rattle.term_pool.specs.Prelude.{deepest_at, total_at, IsLeastAt, all_below}
+use Rattle.term_pool.proofs.Prelude.{◌≡◌, ◌+◌, ◌≤◌, max, true, length, drop, take, capped, deepest_at, total_at, IsLeastAt, all_below}
 use Rattle.term_pool.proofs.node_measures.at_places.Given as goal
 
 -- what is measured so far, together with the rest, is all

@@ -1,8 +1,6 @@
 -- The number of a node is none above those of its own parts and of its places.
-use Rattle.std.proofs.Common.{arith}
-use Rattle.pool_parts.proofs.LowLemmas.{lower}
+use Rattle.term_pool.proofs.Prelude.{arith, lower, entry_layer, layer_parts, own_free}
 use Rattle.term_pool.proofs.NodeMeasures.{least_lower}
-use Rattle.term_pool.specs.Prelude.{entry_layer, layer_parts, own_free}
 use Rattle.term_pool.proofs.node_measures.of_entry.Goals as goal
 
 pub returns-clause-own : goal.returns-clause-own

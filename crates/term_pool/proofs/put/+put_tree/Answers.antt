@@ -1,13 +1,8 @@
 -- A whole process is put: first its sub-processes, and then the node over them.
-use Rattle.std.proofs.Common.{◌≡◌, ◌+◌, List, [], ◌∷◌, Some, take, slice_get, sym, subst}
-use Rattle.std.specs.Prelude.{IfOk}
-use Rattle.csp_program.specs.declared.processes.Proc.{Proc}
-use Rattle.pool_parts.specs.declared.place.ProcId.{ProcId}
+use Rattle.term_pool.proofs.Prelude.{◌≡◌, ◌+◌, List, [], ◌∷◌, Some, take, slice_get, sym, subst, IfOk, Proc, ProcId, Layer, shown, parts, StandAt, StandsFor, was_made}
 use Rattle.term_pool.proofs.OverLemmas.{stands_over}
 use Rattle.term_pool.proofs.PutLemmas as lemmas
-use Rattle.term_pool.specs.Prelude.{Layer, shown, parts, StandAt, StandsFor}
 use Rattle.term_pool.proofs.put.+put_tree.Goals as goal
-use Rattle.csp_base.proofs.Results.{was_made}
 
 pub put_two-returns-in_err-first-clause-grows : goal.put_two-returns-in_err-first-clause-grows
 put_two-returns-in_err-first-clause-grows t c = lemmas.grows_less c.args.pool.now c.put_tree.new.pool (c.args.p.now ∷ []) (c.args.q.now ∷ []) c.in_err-first.ensures.grows

@@ -1,17 +1,10 @@
 -- What a process becomes: from its own parts, and from what its sub-processes became.
-use Rattle.std.proofs.Common.{◌≡◌, ℕ, ◌+◌, nat_eq, List, Some, take, slice_get, ap, sym, ◌∙◌, subst, arith}
+use Rattle.term_pool.proofs.Prelude.{◌≡◌, ℕ, ◌+◌, nat_eq, List, Some, take, slice_get, ap, sym, ◌∙◌, subst, arith, IfOk, slice_get-get_or, given_by, proc_with, Proc, parts, Grows, StandAt, all_with, tree_at, ProcId, was_made}
 use Rattle.std.specs.Map.{lookup}
-use Rattle.std.specs.Prelude.{IfOk}
-use Rattle.std.proofs.lemmas.Option.{slice_get-get_or}
-use Rattle.csp_program.specs.Prelude.{given_by, proc_with}
-use Rattle.csp_program.specs.declared.processes.Proc.{Proc}
 use Rattle.csp_program.specs.declared.processes.Proc.TheVariants as proc
 use Rattle.term_pool.proofs.ValuesLemmas as made
 use Rattle.term_pool.proofs.PutLemmas as lemmas
-use Rattle.term_pool.specs.Prelude.{parts, Grows, StandAt, all_with, tree_at}
-use Rattle.pool_parts.specs.declared.place.ProcId.{ProcId}
 use Rattle.term_pool.proofs.substitute.+substitute_at.Goals as goal
-use Rattle.csp_base.proofs.Results.{was_made}
 
 pub put_all-substitute_at-requires : goal.put_all-substitute_at-requires
 put_all-substitute_at-requires t c =

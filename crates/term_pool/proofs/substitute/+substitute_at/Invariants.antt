@@ -1,6 +1,4 @@
-use Rattle.std.proofs.Common.{◌+◌, ◌*◌, take}
-use Rattle.csp_program.specs.Substitution.{given_by}
-use Rattle.term_pool.specs.Prelude.{Grows, StandAt, all_with, AreMade}
+use Rattle.term_pool.proofs.Prelude.{◌+◌, ◌*◌, take, given_by, Grows, StandAt, all_with, AreMade}
 use Rattle.term_pool.proofs.substitute.+substitute_at.Given as goal
 
 -- each call goes to a smaller place, or to a later function at the same one

@@ -1,8 +1,6 @@
 -- No name that is free in the process gets a value.
-use Rattle.csp_program.specs.Prelude.{proc_free, given_by}
-use Rattle.pool_parts.proofs.LowLemmas.{get_none}
+use Rattle.term_pool.proofs.Prelude.{proc_free, given_by, get_none, tree_at}
 use Rattle.substitution.proofs.Stays.{proc_stays}
-use Rattle.term_pool.specs.Trees.{tree_at}
 use Rattle.term_pool.proofs.substitute.stays.Goals as goal
 
 pub returns : goal.returns

@@ -1,6 +1,4 @@
-use Rattle.std.proofs.Common.{ap, sym, ◌∙◌, subst}
-use Rattle.csp_atoms.specs.Sets.{union_of}
-use Rattle.value_operators.specs.Parted.{IsParted}
+use Rattle.value_operators.proofs.Prelude.{ap, sym, ◌∙◌, subst, union_of, IsParted}
 use Rattle.value_operators.proofs.GrowingLaws.{parted_settled, parted_waiting, put_already, put_settled, put_waiting}
 use Rattle.value_operators.proofs.growing.put.Goals as goal
 

@@ -1,6 +1,4 @@
-use Rattle.std.proofs.Common.{◌≡◌, ◌++◌, length}
-use Rattle.csp_program.specs.Value.{bound_value, bound_to}
-use Rattle.value_operators.specs.Env.{numbered_from}
+use Rattle.value_operators.proofs.Prelude.{◌≡◌, ◌++◌, length, bound_value, bound_to, numbered_from}
 use Rattle.value_operators.proofs.names.argument.Given as goal
 
 -- the name stands for what it stands for among those that are left

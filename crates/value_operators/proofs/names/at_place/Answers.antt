@@ -1,5 +1,4 @@
-use Rattle.std.proofs.Common.{subst, sym}
-use Rattle.value_operators.specs.Gives.{Gives}
+use Rattle.value_operators.proofs.Prelude.{subst, sym, Gives}
 use Rattle.value_operators.proofs.NameLaws.{placed_here, placed_past}
 use Rattle.value_operators.proofs.names.at_place.Goals as goal
 

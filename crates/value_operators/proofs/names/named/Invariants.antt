@@ -1,6 +1,4 @@
-use Rattle.std.proofs.Common.{◌≡◌, length}
-use Rattle.csp_program.specs.Value.{bound_value}
-use Rattle.value_operators.specs.Env.{env_in, parameters, with_bound}
+use Rattle.value_operators.proofs.Prelude.{◌≡◌, length, bound_value, env_in, parameters, with_bound}
 use Rattle.value_operators.proofs.names.named.Given as goal
 
 -- the name stands for what it stands for without the names after those that are left

@@ -1,5 +1,4 @@
-use Rattle.std.proofs.Common.{append-nil, sym}
-use Rattle.csp_program.specs.Value.{bound_to}
+use Rattle.value_operators.proofs.Prelude.{append-nil, sym, bound_to}
 use Rattle.value_operators.proofs.names.names_in.Goals as goal
 
 pub returns-then-are_placed : goal.returns-then-are_placed

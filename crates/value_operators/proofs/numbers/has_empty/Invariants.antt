@@ -1,6 +1,4 @@
-use Rattle.std.proofs.Common.{◌≡◌, drop}
-use Rattle.std.specs.Prelude.{nat_eq}
-use Rattle.csp_program.specs.EventNumber.{row_count}
+use Rattle.value_operators.proofs.Prelude.{◌≡◌, drop, nat_eq, row_count}
 use Rattle.value_operators.proofs.numbers.has_empty.Given as goal
 
 -- what is left decides

@@ -1,5 +1,4 @@
-use Rattle.std.proofs.Common.{◌*◌, ap, ◌∙◌, min, arith}
-use Rattle.csp_program.specs.EventNumber.{row_count}
+use Rattle.value_operators.proofs.Prelude.{◌*◌, ap, ◌∙◌, min, arith, row_count}
 use Rattle.value_operators.proofs.EventSteps.{count_step}
 use Rattle.value_operators.proofs.numbers.row_count.Goals as goal
 

@@ -1,5 +1,4 @@
-use Rattle.std.proofs.Common.{◌≡◌, ◌≤◌, ◌*◌, ◌-◌, ◌^◌, min, drop}
-use Rattle.csp_program.specs.EventNumber.{row_count}
+use Rattle.value_operators.proofs.Prelude.{◌≡◌, ◌≤◌, ◌*◌, ◌-◌, ◌^◌, min, drop, row_count}
 use Rattle.value_operators.proofs.numbers.row_count.Given as goal
 
 abbrev pub invariant-loop-set : goal.invariant-loop-set

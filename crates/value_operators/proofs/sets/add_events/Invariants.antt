@@ -1,6 +1,4 @@
-use Rattle.std.proofs.Common.{◌≡◌, ◌+◌, ◌-◌}
-use Rattle.csp_program.specs.Atoms.{all_added}
-use Rattle.value_laws.specs.Numbers.{events_from}
+use Rattle.value_operators.proofs.Prelude.{◌≡◌, ◌+◌, ◌-◌, all_added, events_from}
 use Rattle.value_operators.proofs.sets.add_events.Given as goal
 
 -- what is left is still to be added

@@ -1,6 +1,5 @@
-use Rattle.std.proofs.Common.{◌≡◌, [], map, drop}
+use Rattle.value_operators.proofs.Prelude.{◌≡◌, [], map, drop, all_added}
 use Rattle.csp_atoms.specs.declared.atom.Atom.TheVariants as atom
-use Rattle.csp_program.specs.Atoms.{all_added}
 use Rattle.value_operators.proofs.sets.constants.Given as goal
 
 -- what is left is still to be added

@@ -1,5 +1,4 @@
-use Rattle.std.proofs.Common.{arith, to_z, of_z, w64}
-use Rattle.std.proofs.lemmas.Int.{ints}
+use Rattle.value_operators.proofs.Prelude.{arith, to_z, of_z, w64, ints}
 use Rattle.value_operators.proofs.SetSteps.{range_far, range_near}
 use Rattle.value_operators.proofs.sets.numbers.Goals as goal
 

@@ -1,5 +1,4 @@
-use Rattle.std.proofs.Common.{arith}
-use Rattle.std.proofs.lemmas.Int.{ints}
+use Rattle.value_operators.proofs.Prelude.{arith, ints}
 use Rattle.value_operators.proofs.SetSteps.{number_fault, number_next}
 use Rattle.value_operators.proofs.sets.numbers_on.Goals as goal
 

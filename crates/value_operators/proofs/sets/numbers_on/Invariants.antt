@@ -1,5 +1,4 @@
-use Rattle.std.proofs.Common.{◌≡◌}
-use Rattle.csp_program.specs.Atoms.{numbers_from}
+use Rattle.value_operators.proofs.Prelude.{◌≡◌, numbers_from}
 use Rattle.value_operators.proofs.sets.numbers_on.Given as goal
 
 -- the numbers so far

@@ -1,5 +1,4 @@
-use Rattle.std.proofs.Common.{sym, ◌∙◌, ap}
-use Rattle.csp_atoms.specs.Sets.{fits}
+use Rattle.csp_atoms.proofs.Prelude.{sym, ◌∙◌, ap, fits}
 use Rattle.csp_atoms.proofs.MemberLaws.{has-with_atom}
 use Rattle.csp_atoms.proofs.SetLaws.{IsAtomSet-with_atom}
 use Rattle.csp_atoms.proofs.atom_set.AtomSet.insert.Goals as goal

@@ -1,5 +1,4 @@
-use Rattle.std.proofs.Common.{ap}
-use Rattle.std.specs.Option.{option_map}
+use Rattle.csp_atoms.proofs.Prelude.{ap, option_map}
 use Rattle.csp_atoms.proofs.SetLaws.{increasing_slice}
 use Rattle.csp_atoms.proofs.atom_set.AtomSet.to_event_set.Goals as goal
 

@@ -1,5 +1,4 @@
-use Rattle.std.proofs.Common.{sym, ap, ◌∙◌}
-use Rattle.csp_base.specs.Blocks.{blocks_of}
+use Rattle.csp_base.proofs.Prelude.{sym, ap, ◌∙◌, blocks_of}
 use Rattle.csp_base.proofs.BlocksOf.{blocks_of-events_of}
 use Rattle.csp_base.proofs.event_set.EventSetHash.hash.Goals as goal
 

@@ -1,8 +1,4 @@
-use Rattle.std.proofs.Common.{◌≡◌, ◌<◌, ◌^◌, ◌-◌, ◌∙◌, ℕ, List, length, ap, subst, arith}
-use Rattle.csp_tables.specs.Prelude.{Shape}
-use Rattle.design_rules.specs.Prelude.{links_of}
-use Rattle.observed_runs.specs.Prelude.{AreFound, IsExploration, lap_step}
-use Rattle.shape_links.specs.Component.{table_of}
+use Rattle.cyclic_conditions.proofs.Prelude.{◌≡◌, ◌<◌, ◌^◌, ◌-◌, ◌∙◌, ℕ, List, length, ap, subst, arith, Shape, links_of, AreFound, IsExploration, lap_step, table_of}
 use Rattle.cyclic_conditions.proofs.LapPlaces.{few_links, links_count}
 use Rattle.cyclic_conditions.proofs.laps.Laps.new.Goals as goal
 

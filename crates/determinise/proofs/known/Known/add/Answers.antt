@@ -1,7 +1,5 @@
-use Rattle.std.proofs.Common.{◌≡◌, ℕ, true, List, [], ◌∷◌, ◌++◌, sym, subst, ◌∙◌, nat_eq}
-use Rattle.csp_base.specs.Standard.{is_member, pointwise}
-use Rattle.std.proofs.lemmas.Bool.{cond-true, not-false, not-true}
-use Rattle.determinise.specs.Known.{AreKnown}
+use Rattle.determinise.proofs.Prelude.{◌≡◌, ℕ, true, List, [], ◌∷◌, ◌++◌, sym, subst, ◌∙◌, nat_eq, is_member, pointwise, cond-true, AreKnown}
+use Rattle.std.proofs.lemmas.Bool.{not-false, not-true}
 use Rattle.determinise.proofs.KnownSets.{known_more}
 use Rattle.determinise.proofs.known.Known.add.Goals as goal
 

@@ -1,6 +1,4 @@
-use Rattle.std.proofs.Common.{◌≡◌, ◌<◌, [], length, ◌∙◌}
-use Rattle.std.proofs.lemmas.List.{get_or_read}
-use Rattle.digraph.specs.Digraph.{targets_of}
+use Rattle.digraph.proofs.Prelude.{◌≡◌, ◌<◌, [], length, ◌∙◌, get_or_read, targets_of}
 use Rattle.digraph.proofs.Arcs.{targets_below}
 use Rattle.digraph.proofs.rows.Rows.targets.Goals as goal
 

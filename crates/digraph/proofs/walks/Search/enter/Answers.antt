@@ -1,6 +1,4 @@
-use Rattle.std.proofs.Common.{◌≡◌, ◌∷◌, ◌++◌, [], length, set, rules}
-use Rattle.std.specs.Vec.{with_item}
-use Rattle.digraph.specs.Prelude.{Open, targets_of}
+use Rattle.digraph.proofs.Prelude.{◌≡◌, ◌∷◌, ◌++◌, [], length, set, rules, with_item, Open, targets_of}
 use Rattle.digraph.proofs.Stepping.{entered, less_entering, step_of}
 use Rattle.digraph.proofs.walks.Search.enter.Goals as goal
 

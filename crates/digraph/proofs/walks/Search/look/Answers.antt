@@ -1,6 +1,4 @@
-use Rattle.std.proofs.Common.{◌≡◌, ◌+◌, ◌-◌, max, ◌<◌, length, set, take, ap, refl, arith, rules}
-use Rattle.std.specs.Vec.{with_item}
-use Rattle.digraph.specs.Prelude.{Open, Done, mark_at, is_open}
+use Rattle.digraph.proofs.Prelude.{◌≡◌, ◌+◌, ◌-◌, max, ◌<◌, length, set, take, ap, refl, arith, rules, with_item, Open, Done, mark_at, is_open}
 use Rattle.digraph.proofs.Results.{err_same}
 use Rattle.digraph.proofs.Stepping.{below_fits, finished, less_finishing, less_raising, next_arc, opened, raised, read_at, step_of, top_follows, top_is_open, top_read, top_within}
 use Rattle.digraph.proofs.Turning.{circle_on_trail}

@@ -1,5 +1,4 @@
-use Rattle.std.proofs.Common.{◌≡◌, rules}
-use Rattle.hidden_bounds.specs.Standings.{standing_at}
+use Rattle.hidden_bounds.proofs.Prelude.{◌≡◌, rules, standing_at}
 use Rattle.hidden_bounds.specs.declared.standings.Standing.TheVariants as standing
 use Rattle.hidden_bounds.proofs.Known.{known_of_round}
 use Rattle.hidden_bounds.proofs.Looking.{is_free, is_round, tables_within}

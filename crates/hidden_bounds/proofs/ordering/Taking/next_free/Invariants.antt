@@ -1,6 +1,4 @@
-use Rattle.std.proofs.Common.{ℕ, ◌<◌}
-use Rattle.hidden_bounds.specs.Scopes.{IsTaking}
-use Rattle.hidden_bounds.specs.Standings.{IsKnown, StayKnown}
+use Rattle.hidden_bounds.proofs.Prelude.{ℕ, ◌<◌, IsTaking, IsKnown, StayKnown}
 use Rattle.hidden_bounds.proofs.ordering.Taking.next_free.Given as goal
 
 abbrev pub invariant-loop-part : goal.invariant-loop-part

@@ -1,6 +1,4 @@
-use Rattle.std.proofs.Common.{◌≡◌, ap, ◌∙◌}
-use Rattle.csp_base.specs.Events.{diff_of}
-use Rattle.hidden_bounds.specs.Taking.{alphabet_at}
+use Rattle.hidden_bounds.proofs.Prelude.{◌≡◌, ap, ◌∙◌, diff_of, alphabet_at}
 use Rattle.hidden_bounds.proofs.Steps.{alphabet_read, fewer_now, taken_now}
 use Rattle.hidden_bounds.proofs.ordering.Taking.take.Goals as goal
 

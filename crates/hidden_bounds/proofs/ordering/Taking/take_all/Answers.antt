@@ -1,5 +1,4 @@
-use Rattle.std.proofs.Common.{sym}
-use Rattle.csp_base.proofs.Standard.{false≢true}
+use Rattle.hidden_bounds.proofs.Prelude.{sym, false≢true}
 use Rattle.hidden_bounds.proofs.ordering.Taking.take_all.Goals as goal
 
 pub loop-more-init : goal.loop-more-init

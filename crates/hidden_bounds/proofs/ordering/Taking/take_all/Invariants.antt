@@ -1,6 +1,4 @@
-use Rattle.std.proofs.Common.{◌≡◌, ◌+◌, false}
-use Rattle.hidden_bounds.specs.Scopes.{IsTaking}
-use Rattle.hidden_bounds.specs.Standings.{AreKnown, one_more, waiting}
+use Rattle.hidden_bounds.proofs.Prelude.{◌≡◌, ◌+◌, false, IsTaking, AreKnown, one_more, waiting}
 use Rattle.hidden_bounds.proofs.ordering.Taking.take_all.Given as goal
 
 abbrev pub invariant-loop-more : goal.invariant-loop-more

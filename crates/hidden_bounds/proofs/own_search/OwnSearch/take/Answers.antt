@@ -1,5 +1,4 @@
-use Rattle.std.proofs.Common.{sym, subst}
-use Rattle.hidden_bounds.specs.Own.{OwnArc}
+use Rattle.hidden_bounds.proofs.Prelude.{sym, subst, OwnArc}
 use Rattle.hidden_bounds.proofs.OwnTrails.{found_round, one_more_linked}
 use Rattle.hidden_bounds.proofs.own_search.OwnSearch.take.Goals as goal
 

@@ -1,5 +1,4 @@
-use Rattle.std.proofs.Common.{◌≡◌, take}
-use Rattle.name_faults.specs.Walked.{under_gens}
+use Rattle.name_faults.proofs.Prelude.{◌≡◌, take, under_gens}
 use Rattle.name_faults.proofs.walk.Walk.bind_gens.Given as goal
 
 abbrev pub invariant-loop-generator : goal.invariant-loop-generator

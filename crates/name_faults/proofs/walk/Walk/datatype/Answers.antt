@@ -1,7 +1,4 @@
-use Rattle.std.proofs.Common.{[], ◌∷◌, ◌++◌, ap, append_assoc, ◌∙◌}
-use Rattle.script_names.specs.Prelude.{is_among, declared_after}
-use Rattle.script_names.specs.declared.occurrence.Occurrence.TheVariants.{Declares}
-use Rattle.name_faults.specs.Walked.{after}
+use Rattle.name_faults.proofs.Prelude.{[], ◌∷◌, ◌++◌, ap, append_assoc, ◌∙◌, is_among, declared_after, Declares, after}
 use Rattle.name_faults.proofs.KnownLemmas.{each_same}
 use Rattle.name_faults.proofs.walk.Walk.datatype.Goals as goal
 

@@ -1,7 +1,4 @@
-use Rattle.std.proofs.Common.{◌≡◌, ◌++◌, take}
-use Rattle.script_names.specs.Told.{declared_after}
-use Rattle.name_tables.specs.Firsts.{SameNames}
-use Rattle.name_faults.specs.Walked.{after}
+use Rattle.name_faults.proofs.Prelude.{◌≡◌, ◌++◌, take, declared_after, SameNames, after}
 use Rattle.name_faults.proofs.walk.Walk.declare_all.Given as goal
 
 abbrev pub invariant-loop-x : goal.invariant-loop-x

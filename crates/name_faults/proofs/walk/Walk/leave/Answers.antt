@@ -1,7 +1,4 @@
-use Rattle.std.proofs.Common.{List, map, take, ap, sym, ◌∙◌}
-use Rattle.std.proofs.lemmas.List.{take-map}
-use Rattle.script_names.specs.Prelude.{Name, Scope, names_of}
-use Rattle.name_faults.specs.Walked.{Walked, seen}
+use Rattle.name_faults.proofs.Prelude.{List, map, take, ap, sym, ◌∙◌, take-map, Name, Scope, names_of, Walked, seen}
 use Rattle.name_faults.proofs.walk.Walk.leave.Goals as goal
 
 pub returns : goal.returns

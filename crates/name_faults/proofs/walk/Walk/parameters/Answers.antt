@@ -1,6 +1,4 @@
-use Rattle.std.proofs.Common.{[], ◌∷◌, ◌∙◌, ap}
-use Rattle.script_names.specs.declared.occurrence.Occurrence.TheVariants.{Binds}
-use Rattle.name_faults.specs.Walked.{after}
+use Rattle.name_faults.proofs.Prelude.{[], ◌∷◌, ◌∙◌, ap, Binds, after}
 use Rattle.name_faults.proofs.KnownLemmas.{each_step, names_step}
 use Rattle.name_faults.proofs.walk.Walk.parameters.Goals as goal
 

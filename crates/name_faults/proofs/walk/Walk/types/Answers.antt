@@ -1,9 +1,5 @@
-use Rattle.std.proofs.Common.{[], ◌≡◌, ◌≤◌, ap, arith, map, ◌∙◌}
-use Rattle.csp_base.specs.Lists.{greatest}
+use Rattle.name_faults.proofs.Prelude.{[], ◌≡◌, ◌≤◌, ap, arith, map, ◌∙◌, greatest, first_of, tree_says, Place, Walked, after}
 use Rattle.csp_text.specs.Depth.{tree_depth}
-use Rattle.script_names.specs.Prelude.{first_of, tree_says}
-use Rattle.script_names.specs.declared.kinds.Place.{Place}
-use Rattle.name_faults.specs.Walked.{Walked, after}
 use Rattle.name_faults.proofs.Deepest.{in_list}
 use Rattle.name_faults.proofs.KnownLemmas.{types_step}
 use Rattle.name_faults.proofs.walk.Walk.types.Goals as goal

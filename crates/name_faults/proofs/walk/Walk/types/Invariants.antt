@@ -1,6 +1,4 @@
-use Rattle.std.proofs.Common.{◌≡◌, take}
-use Rattle.script_names.specs.Prelude.{first_of, types_say}
-use Rattle.name_faults.specs.Walked.{after}
+use Rattle.name_faults.proofs.Prelude.{◌≡◌, take, first_of, types_say, after}
 use Rattle.name_faults.proofs.walk.Walk.types.Given as goal
 
 abbrev pub invariant-loop-tree : goal.invariant-loop-tree

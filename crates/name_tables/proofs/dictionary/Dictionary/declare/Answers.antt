@@ -1,6 +1,4 @@
-use Rattle.std.proofs.Common.{[], ◌∷◌, ◌++◌, subst, OnOk}
-use Rattle.script_names.specs.Names.{Entities}
-use Rattle.name_tables.specs.Firsts.{SameFirsts}
+use Rattle.name_tables.proofs.Prelude.{[], ◌∷◌, ◌++◌, subst, OnOk, Entities, SameFirsts}
 use Rattle.name_tables.proofs.dictionary.Dictionary.declare.Goals as goal
 
 pub returns : goal.returns

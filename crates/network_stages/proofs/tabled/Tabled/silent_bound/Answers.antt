@@ -1,15 +1,13 @@
-use Rattle.std.proofs.Common.{◌≤◌, List, length, sym, subst}
-use Rattle.csp_program.specs.declared.processes.Proc.{Proc}
-use Rattle.csp_tables.specs.Network.{Component, leaves}
-use Rattle.network_stages.specs.Prelude.{Network, HasTables}
+use Rattle.network_stages.proofs.Prelude.{◌≤◌, List, length, sym, subst, Proc, Component, leaves, Network, HasTables}
 use Rattle.network_stages.proofs.Tabling.{few_tables}
 use Rattle.network_stages.proofs.tabled.Tabled.silent_bound.Goals as goal
+use Rattle.dl_limits.specs.declared.TheConstants.{MOST_COMPONENTS}
 
 pub silent_bound-requires-clause-few : goal.silent_bound-requires-clause-few
 silent_bound-requires-clause-few c =
     let network = c.args.self.now.network in
     few_tables network.program (leaves network.tree) c.tables.result.now (subst (HasTables network) (sym c.tables.ensures.tables) c.tables.ensures.are)
-    (subst (λ (n : Network). length (leaves n.tree) ≤ 512) c.network-network.ensures (subst (λ (cs : List (Component Proc)). length cs ≤ 512) c.seats-seats.ensures.seats c.seats-seats.ensures.few))
+    (subst (λ (n : Network). length (leaves n.tree) ≤ MOST_COMPONENTS) c.network-network.ensures (subst (λ (cs : List (Component Proc)). length cs ≤ MOST_COMPONENTS) c.seats-seats.ensures.seats c.seats-seats.ensures.few))
 
 pub silent_bound-requires-clause-are : goal.silent_bound-requires-clause-are
 silent_bound-requires-clause-are c =

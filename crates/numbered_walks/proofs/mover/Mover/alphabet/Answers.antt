@@ -1,5 +1,4 @@
-use Rattle.std.proofs.Common.{subst}
-use Rattle.numbered_walks.specs.Numbered.{Numbered, OwnsItsSteps}
+use Rattle.numbered_walks.proofs.Prelude.{subst, Numbered, OwnsItsSteps}
 use Rattle.numbered_walks.proofs.mover.Mover.alphabet.Goals as goal
 
 pub returns-clause-own : goal.returns-clause-own

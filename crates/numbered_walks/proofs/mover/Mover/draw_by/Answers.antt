@@ -1,9 +1,5 @@
-use Rattle.std.proofs.Common.{◌<◌, List, ℕ, length, sym, subst}
-use Rattle.std.proofs.lemmas.List.{length-map}
-use Rattle.csp_tables.proofs.Listed.{step_listed}
-use Rattle.csp_tables.specs.Label.Label.{visible}
+use Rattle.numbered_walks.proofs.Prelude.{◌<◌, List, ℕ, length, sym, subst, length-map, step_listed, visible, IsDrawn}
 use Rattle.numbered_walks.proofs.Drawing.{drawn_steps, has_target}
-use Rattle.numbered_walks.specs.Draws.{IsDrawn}
 use Rattle.numbered_walks.proofs.mover.Mover.draw_by.Goals as goal
 
 pub drawn_by-requires : goal.drawn_by-requires

@@ -1,8 +1,5 @@
-use Rattle.std.proofs.Common.{◌<◌, List, ℕ, length, sym, subst}
-use Rattle.csp_tables.proofs.Listed.{silent_listed}
-use Rattle.csp_tables.specs.Label.Label.{silent}
+use Rattle.numbered_walks.proofs.Prelude.{◌<◌, List, ℕ, length, sym, subst, silent_listed, silent, IsDrawn}
 use Rattle.numbered_walks.proofs.Drawing.{drawn_steps, has_target}
-use Rattle.numbered_walks.specs.Draws.{IsDrawn}
 use Rattle.numbered_walks.proofs.mover.Mover.draw_silently.Goals as goal
 
 pub drawn_silently-requires : goal.drawn_silently-requires

@@ -1,8 +1,5 @@
-use Rattle.std.proofs.Common.{◌<◌, ℕ, List, [], length, sym, subst, ◌∙◌}
-use Rattle.std.specs.List.Sorted.{IsNonDecreasingBy}
-use Rattle.std.proofs.lemmas.List.{get_or_default}
+use Rattle.numbered_walks.proofs.Prelude.{◌<◌, ℕ, List, [], length, sym, subst, ◌∙◌, IsNonDecreasingBy, get_or_default, Numbered}
 use Rattle.numbered_walks.proofs.Rowing.{by_event}
-use Rattle.numbered_walks.specs.Numbered.{Numbered}
 use Rattle.numbered_walks.proofs.mover.Mover.steps_by.Goals as goal
 
 pub steps_by-requires : goal.steps_by-requires

@@ -1,6 +1,4 @@
-use Rattle.std.proofs.Common.{◌≡◌, ◌+◌, ◌-◌, ◌<◌, ◌∙◌, length, ap, arith}
-use Rattle.std.proofs.lemmas.List.{get_or_read}
-use Rattle.observed_runs.specs.Prelude.{Found, pair_at}
+use Rattle.observed_runs.proofs.Prelude.{◌≡◌, ◌+◌, ◌-◌, ◌<◌, ◌∙◌, length, ap, arith, get_or_read, Found, pair_at}
 use Rattle.observed_runs.proofs.Leading.{found_from}
 use Rattle.observed_runs.proofs.explored.Explored.origin.Goals as goal
 

@@ -1,6 +1,4 @@
-use Rattle.std.proofs.Common.{◌≡◌, ℕ, List, Option, None, sym, subst}
-use Rattle.std.specs.Prelude.{IfOk, IsSomeAnd, MatchOption}
-use Rattle.observed_runs.specs.Observed.{LeadsTo, pair_at}
+use Rattle.observed_runs.proofs.Prelude.{◌≡◌, ℕ, List, Option, None, sym, subst, IfOk, IsSomeAnd, MatchOption, LeadsTo, pair_at}
 use Rattle.observed_runs.proofs.Runs.{if_some}
 use Rattle.observed_runs.proofs.explored.Explored.run_if_any.Goals as goal
 

@@ -1,6 +1,4 @@
-use Rattle.std.proofs.Common.{◌≡◌, ◌<◌, ◌++◌, ◌∙◌, ℕ, List, [], length, arith, subst, sym}
-use Rattle.std.specs.Prelude.{reverse}
-use Rattle.observed_runs.specs.Observed.{LeadsTo, pair_at}
+use Rattle.observed_runs.proofs.Prelude.{◌≡◌, ◌<◌, ◌++◌, ◌∙◌, ℕ, List, [], length, arith, subst, sym, reverse, LeadsTo, pair_at}
 use Rattle.observed_runs.proofs.Leading.{back_one, leads_nowhere}
 use Rattle.observed_runs.proofs.Finding.{first_is}
 use Rattle.observed_runs.proofs.explored.Explored.run_to.Goals as goal

@@ -1,6 +1,4 @@
-use Rattle.std.proofs.Common.{◌<◌, ◌++◌, ℕ, List, length, reverse}
-use Rattle.csp_tables.specs.Table.{Node}
-use Rattle.observed_runs.specs.Prelude.{LeadsTo, pair_at, AreFound}
+use Rattle.observed_runs.proofs.Prelude.{◌<◌, ◌++◌, ℕ, List, length, reverse, Node, LeadsTo, pair_at, AreFound}
 use Rattle.observed_runs.proofs.explored.Explored.run_to.Given as goal
 
 abbrev pub invariant-loop-at : goal.invariant-loop-at

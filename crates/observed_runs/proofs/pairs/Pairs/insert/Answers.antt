@@ -1,7 +1,4 @@
-use Rattle.std.proofs.Common.{◌≡◌, ◌++◌, ◌∷◌, [], ℕ, List, get_or, set, ap, sym, subst, rules, ◌∙◌}
-use Rattle.std.proofs.lemmas.List.{get_or_read}
-use Rattle.csp_base.specs.Events.{with_member}
-use Rattle.observed_runs.specs.Marks.{AreMarked}
+use Rattle.observed_runs.proofs.Prelude.{◌≡◌, ◌++◌, ◌∷◌, [], ℕ, List, get_or, set, ap, sym, subst, rules, ◌∙◌, get_or_read, with_member, AreMarked}
 use Rattle.observed_runs.proofs.Marking.{one_more}
 use Rattle.observed_runs.proofs.pairs.Pairs.insert.Goals as goal
 

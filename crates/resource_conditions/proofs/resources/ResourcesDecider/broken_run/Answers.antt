@@ -1,11 +1,5 @@
-use Rattle.std.proofs.Common.{◌≡◌, ◌∙◌, ℕ, List, Option, true, ap, sym, subst}
+use Rattle.resource_conditions.proofs.Prelude.{◌≡◌, ◌∙◌, ℕ, List, Option, true, ap, sym, subst, Shape, UseSets, end_of, part_at, SeesOnly, holder_step, observed, IsDecided, AreOwners, holder_only, meets}
 use Rattle.std.proofs.lemmas.Result.{IfOk-weaker}
-use Rattle.csp_tables.specs.Prelude.{Shape, UseSets, end_of, part_at}
-use Rattle.observed_runs.specs.Prelude.{SeesOnly, holder_step, observed}
-use Rattle.shape_links.specs.Component.{IsDecided}
-use Rattle.shape_links.specs.Links.{AreOwners}
-use Rattle.shape_links.proofs.Watching.{holder_only}
-use Rattle.resource_conditions.specs.Tests.{meets}
 use Rattle.resource_conditions.proofs.Holding.{decided}
 use Rattle.resource_conditions.proofs.resources.ResourcesDecider.broken_run.Goals as goal
 

@@ -1,11 +1,4 @@
-use Rattle.std.proofs.Common.{◌∙◌, ℕ, subst}
-use Rattle.std.proofs.lemmas.Bool.{cond-false}
-use Rattle.csp_base.specs.Members.{has}
-use Rattle.csp_tables.specs.Prelude.{Shape, link_at, node_at, part_at}
-use Rattle.observed_runs.specs.Prelude.{AreEnough}
-use Rattle.shape_links.specs.Setting.{node_of}
-use Rattle.shape_links.proofs.Watching.{all_enough, off_link}
-use Rattle.resource_rule.specs.Uses.{is_use}
+use Rattle.resource_rule.proofs.Prelude.{◌∙◌, ℕ, subst, cond-false, has, Shape, link_at, node_at, part_at, AreEnough, node_of, all_enough, off_link, is_use}
 use Rattle.resource_rule.proofs.users.LinkUseRequirement.is_met.Goals as goal
 
 pub returns : goal.returns

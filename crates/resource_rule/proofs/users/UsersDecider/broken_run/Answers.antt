@@ -1,7 +1,4 @@
-use Rattle.std.proofs.Common.{◌≡◌, ◌∙◌, List, Option, ℕ, false, ap, sym}
-use Rattle.std.proofs.lemmas.Result.{IfOk-weaker}
-use Rattle.csp_tables.specs.Prelude.{UseSets, use_at}
-use Rattle.design_rules.specs.Resource.{UsesInTurn}
+use Rattle.resource_rule.proofs.Prelude.{◌≡◌, ◌∙◌, List, Option, ℕ, false, ap, sym, IfOk-weaker, UseSets, use_at, UsesInTurn}
 use Rattle.resource_rule.proofs.Using.{found_of}
 use Rattle.resource_rule.proofs.users.UsersDecider.broken_run.Goals as goal
 

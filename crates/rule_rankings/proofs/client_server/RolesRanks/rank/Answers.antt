@@ -1,9 +1,4 @@
-use Rattle.std.proofs.Common.{◌≡◌, ◌∙◌, ℕ, pos, length, ap, sym, arith, to_z, of_z, w64}
-use Rattle.std.proofs.lemmas.Bool.{both_ways}
-use Rattle.std.proofs.lemmas.Int.{ints}
-use Rattle.csp_base.specs.Prelude.{is_subset_of, meets_of}
-use Rattle.csp_tables.specs.Prelude.{Part}
-use Rattle.rule_rankings.specs.ClientServerRanks.{serving_rank}
+use Rattle.rule_rankings.proofs.Prelude.{◌≡◌, ◌∙◌, ℕ, pos, length, ap, sym, arith, to_z, of_z, w64, both_ways, ints, is_subset_of, meets_of, Part, serving_rank}
 use Rattle.rule_rankings.proofs.ClientServerRanking.{outside_rank, serving_is, asking_is}
 use Rattle.rule_rankings.proofs.client_server.RolesRanks.rank.Goals as goal
 

@@ -1,7 +1,5 @@
-use Rattle.std.proofs.Common.{◌≡◌, ◌∙◌, ◌<◌, ◌≤◌, ℕ, Bool, true, false, cond, nat_eq, ap, sym, subst, refl, arith}
-use Rattle.std.specs.Prelude.{slice_index}
+use Rattle.rule_rankings.proofs.Prelude.{◌≡◌, ◌∙◌, ◌<◌, ◌≤◌, ℕ, Bool, true, false, cond, nat_eq, ap, sym, subst, refl, arith, slice_index, one_owner}
 use mir.Val.{bool_byte}
-use Rattle.shape_links.proofs.Links.{one_owner}
 use Rattle.rule_rankings.proofs.cyclic.NumbersRanks.lap.Goals as goal
 
 one_or_none : (b : Bool) → bool_byte b ≤ 1

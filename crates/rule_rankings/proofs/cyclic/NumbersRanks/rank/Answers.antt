@@ -1,12 +1,5 @@
-use Rattle.std.proofs.Common.{◌≡◌, ◌∙◌, ◌<◌, ℕ, pos, nat_le, ap, sym, subst, refl, arith, to_z, of_z, w64}
-use Rattle.csp_base.proofs.Standard.{ints, false≢true, none-some}
-use Rattle.std.specs.Prelude.{slice_index}
-use Rattle.csp_base.specs.Events.{is_subset_of}
-use Rattle.csp_tables.specs.Shape.{Shape}
-use Rattle.shape_links.proofs.Links.{vocabulary_owner}
+use Rattle.rule_rankings.proofs.Prelude.{◌≡◌, ◌∙◌, ◌<◌, ℕ, pos, nat_le, ap, sym, subst, refl, arith, to_z, of_z, w64, ints, false≢true, none-some, slice_index, is_subset_of, Shape, vocabulary_owner, find_has, none_found, member_of_superset, is_subset_of_from_members}
 use Rattle.rule_rankings.proofs.cyclic.NumbersRanks.rank.Goals as goal
-use Rattle.csp_base.proofs.Listed.{find_has, none_found}
-use Rattle.csp_base.proofs.Rising.{member_of_superset, is_subset_of_from_members}
 
 pub returns-then-not-is_subset : goal.returns-then-not-is_subset
 returns-then-not-is_subset c =

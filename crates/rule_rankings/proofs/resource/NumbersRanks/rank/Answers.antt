@@ -1,12 +1,6 @@
-use Rattle.std.proofs.Common.{◌≡◌, ◌∙◌, ◌+◌, ◌-◌, ◌*◌, List, ℕ, pos, nat_le, ap, sym, arith, to_z, of_z, w64}
-use Rattle.csp_base.proofs.Standard.{false≢true, ints}
-use Rattle.csp_base.specs.Prelude.{has, is_subset_of}
-use Rattle.csp_tables.specs.Prelude.{Shape, UseSets}
-use Rattle.rule_rankings.specs.ResourceRanks.{number_by}
+use Rattle.rule_rankings.proofs.Prelude.{◌≡◌, ◌∙◌, ◌+◌, ◌-◌, ◌*◌, List, ℕ, pos, nat_le, ap, sym, arith, to_z, of_z, w64, false≢true, ints, has, is_subset_of, Shape, UseSets, number_by, find_has, none_found, member_of_superset, is_subset_of_from_members}
 use Rattle.rule_rankings.proofs.ResourceRanking.{rank_outside, rank_empty, user_is, free_is, held_is}
 use Rattle.rule_rankings.proofs.resource.NumbersRanks.rank.Goals as goal
-use Rattle.csp_base.proofs.Listed.{find_has, none_found}
-use Rattle.csp_base.proofs.Rising.{member_of_superset, is_subset_of_from_members}
 
 pub returns-then-not-is_subset : goal.returns-then-not-is_subset
 returns-then-not-is_subset c =

@@ -1,5 +1,4 @@
-use Rattle.std.proofs.Common.{sym, ◌∙◌, rules}
-use Rattle.csp_program.specs.Value.{bound_to}
+use Rattle.substitution.proofs.Prelude.{sym, ◌∙◌, rules, bound_to}
 use Rattle.substitution.proofs.NamesFound.{when_hidden, when_open}
 use Rattle.substitution.proofs.values.Values.find.Goals as goal
 

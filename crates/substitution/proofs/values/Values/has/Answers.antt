@@ -1,6 +1,4 @@
-use Rattle.std.proofs.Common.{ap, sym, ◌∙◌}
-use Rattle.std.specs.Prelude.{is_some}
-use Rattle.csp_program.specs.Value.{bound_to}
+use Rattle.substitution.proofs.Prelude.{ap, sym, ◌∙◌, is_some, bound_to}
 use Rattle.substitution.proofs.NamesFound.{has_atom, has_listed, when_hidden, when_open}
 use Rattle.substitution.proofs.values.Values.has.Goals as goal
 

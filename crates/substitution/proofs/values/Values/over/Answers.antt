@@ -1,6 +1,4 @@
-use Rattle.std.proofs.Common.{List, ℕ, ap, ◌∙◌}
-use Rattle.csp_program.specs.Prelude.{with_bound, bound_to}
-use Rattle.substitution.specs.Named.{but_for}
+use Rattle.substitution.proofs.Prelude.{List, ℕ, ap, ◌∙◌, with_bound, bound_to, but_for}
 use Rattle.substitution.proofs.NamesFound.{none_hidden}
 use Rattle.substitution.proofs.values.Values.over.Goals as goal
 

@@ -1,8 +1,7 @@
 -- The list grows at its end alone, by what stands in the process, and stays as it is where it has the process.
-use Rattle.csp_program.specs.Substitution.{given_by, proc_with}
+use Rattle.term_pool.proofs.Prelude.{given_by, proc_with, tree_at}
 use Rattle.term_pool.proofs.ValuesLemmas.{none_made}
 use Rattle.term_pool.proofs.WithinLemmas.{adds_parts}
-use Rattle.term_pool.specs.Trees.{tree_at}
 use Rattle.term_pool.proofs.pool.Pool.put_all_in.Goals as goal
 
 pub substitute_at-requires-clause-visited : goal.substitute_at-requires-clause-visited

@@ -1,15 +1,12 @@
 -- What is put into the entries, as the list of processes says it.
-use Rattle.std.proofs.Common.{◌≡◌, true, List, length, sym, subst}
-use Rattle.std.specs.Prelude.{OnErr}
-use Rattle.term_pool.specs.Prelude.{Has, places_below, tree_of, processes, Puts}
-use Rattle.csp_program.specs.declared.processes.Proc.{Proc}
+use Rattle.term_pool.proofs.Prelude.{◌≡◌, true, List, length, sym, subst, OnErr, Has, places_below, tree_of, trees_in, Puts, Proc}
 use Rattle.term_pool.proofs.pool.Pool.put_node.Goals as goal
 
 pub put_in-requires-clause-below : goal.put_in-requires-clause-below
 put_in-requires-clause-below c = subst (λ (ts : List Proc). places_below (length ts) c.args.node ≡ true) (sym c.self.view_is) c.requires
 
-seen : (c : goal.After-put_in) → Puts c.args.self.now (processes c.put_in.new.parts c.put_in.new.entries) c.put_in.result (tree_of c.args.self.now c.args.node)
-seen c = subst (λ (ts : List Proc). Puts ts (processes c.put_in.new.parts c.put_in.new.entries) c.put_in.result (tree_of ts c.args.node)) c.self.view_is c.put_in.ensures.puts
+seen : (c : goal.After-put_in) → Puts c.args.self.now (trees_in c.put_in.new.nodes) c.put_in.result (tree_of c.args.self.now c.args.node)
+seen c = subst (λ (ts : List Proc). Puts ts (trees_in c.put_in.new.nodes) c.put_in.result (tree_of ts c.args.node)) c.self.view_is c.put_in.ensures.puts
 
 pub returns-clause-process : goal.returns-clause-process
 returns-clause-process c = (seen c).process

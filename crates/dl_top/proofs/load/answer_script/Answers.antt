@@ -1,0 +1,22 @@
+use Rattle.dl_top.proofs.Prelude.{List, [], ◌∷◌, inr, refl, subst, ℕ, IsLoad, Loaded, TextsCallFor, TextCallsFor}
+use Rattle.command_words.specs.declared.request.Request.TheVariants as request
+use Rattle.report.specs.declared.answer.Side.TheVariants as side
+use Rattle.dl_top.proofs.Loading.{at_load}
+use Rattle.dl_top.proofs.Walks.{at_short}
+use Rattle.dl_top.proofs.load.answer_script.Goals as goal
+
+pub returns-in_err-text-clause-calls : goal.returns-in_err-text-clause-calls
+returns-in_err-text-clause-calls g c =
+    let shelf = g.S.Shelf in
+    at_load (IsLoad shelf.texts shelf.counts shelf.gives) side.Script c.args.shelf.now c.load.new.shelf c.args.name.now [] (TextsCallFor (request.Script c.args.job.now c.args.name.now)) c.from_residual.result _ c.from_residual.ensures.1
+    c.in_err-text.ensures.told
+
+pub returns-in_err-answer-clause-calls : goal.returns-in_err-answer-clause-calls
+returns-in_err-answer-clause-calls g c =
+    let shelf = g.S.Shelf in
+    at_short (Loaded (IsLoad shelf.texts shelf.counts shelf.gives) side.Script c.args.shelf.now c.load.new.shelf (c.args.name.now ∷ []) (TextsCallFor (request.Script c.args.job.now c.args.name.now)))
+    c.from_residual-in_err-answer.result c.from_residual-in_err-answer.ensures.1
+
+pub returns-clause-calls : goal.returns-clause-calls
+returns-clause-calls g c =
+    inr (c.in_ok-text.text, c.load.new.shelf, c.in_ok-text.ensures.ok, (refl, subst (λ (t : List ℕ). TextCallsFor t c.args.job.now c.in_ok-answer.answer) c.as_slice.ensures c.in_ok-answer.ensures.answer))

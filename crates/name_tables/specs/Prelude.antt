@@ -1,0 +1,4 @@
+-- What other libraries give, under one name for the files here.
+pub use Rattle.script_names.specs.Prelude.{Counts, Entities, Name, Scope, first_of, is_among, number_of, same_name}
+pub use Rattle.script_names.specs.declared.kinds.End.{End}
+pub use Rattle.std.specs.Prelude.{List, Option, Vec, [], map, ℕ}

@@ -1,7 +1,0 @@
-use Rattle.std.proofs.Common.{take}
-use Rattle.network_layout.specs.Triple.{IsCounted, alphabets}
-use Rattle.network_layout.proofs.triple.crowded.Given as goal
-
--- the alphabets so far are counted
-abbrev pub invariant-loop-seat : goal.invariant-loop-seat
-invariant-loop-seat l = IsCounted (alphabets (take l.seat-index l.seats)) l.counted

@@ -1,9 +1,0 @@
-use Rattle.std.proofs.Common.{◌≡◌, ◌+◌, ◌-◌, ℕ, vec_len}
-use Rattle.network_stages.specs.Rows.{owner_of}
-use Rattle.network_stages.proofs.rows.own.Given as goal
-
-abbrev pub invariant-loop-owners : goal.invariant-loop-owners
-invariant-loop-owners l = (e : ℕ) → owner_of l.owners.items e ≡ owner_of l.initial.owners.items e
-
-abbrev pub decreases-loop-owners : goal.decreases-loop-owners
-decreases-loop-owners l = l.event + 1 - vec_len l.owners

@@ -1,9 +1,0 @@
-use Rattle.std.proofs.Common.{length, sym, subst}
-use Rattle.network_stages.specs.Rows.{AreRows}
-use Rattle.network_stages.proofs.shapes.joined.Goals as goal
-
-pub returns-clause-links : goal.returns-clause-links
-returns-clause-links c = c.linked.ensures.links c.args.parts.now (subst (AreRows c.args.parts.now (length c.args.parts.now)) (sym c.deref.ensures.value) c.in_ok-rows.ensures)
-
-pub returns-clause-vocabulary : goal.returns-clause-vocabulary
-returns-clause-vocabulary c = c.linked.ensures.vocabulary c.args.parts.now (subst (AreRows c.args.parts.now (length c.args.parts.now)) (sym c.deref.ensures.value) c.in_ok-rows.ensures)
