@@ -1,23 +1,17 @@
 -- A bound that is found, and a fault, as they are told.
-use Rattle.std.proofs.Common.{◌≡◌, ◌<◌, ◌^◌, ℕ, List, length, refl, ap}
-use Rattle.csp_tables.specs.Network.{leaves}
+use Rattle.livelock.proofs.Prelude.{◌≡◌, ◌<◌, ◌^◌, ℕ, List, length, refl, ap, leaves, Network, ProcessStep, passed, told, HaltsWith, OrderDecides}
 use Rattle.hidden_bounds.specs.Prelude.{IsBound, TellsLoop}
 use Rattle.hidden_bounds.specs.declared.bounding.HiddenBound.{HiddenBound}
 use Rattle.hidden_bounds.specs.declared.bounding.LoopFault.{LoopFault}
 use Rattle.hidden_bounds.specs.declared.bounding.LoopFault.TheVariants as fault
-use Rattle.network_stages.specs.Networks.{Network}
-use Rattle.process_steps.specs.ComponentStep.{ProcessStep}
-use Rattle.report.specs.Prelude.{passed, told}
 use Rattle.report.specs.declared.answer.Done.{Done}
 use Rattle.csp_base.specs.Stops.{Tells}
 use Rattle.csp_base.specs.declared.stop.Stop.{Stop}
 use Rattle.csp_base.specs.declared.stop.Stop.TheVariants as stop
-use Rattle.report.specs.Stops.{HaltsWith}
 use Rattle.report.specs.declared.answer.Done.TheVariants as done
 use Rattle.report.specs.declared.answer.Refusal.TheVariants as refusal
 use Rattle.report.specs.declared.answer.Shortfall.TheVariants as shortfall
 use Rattle.report.specs.declared.answer.Verdict.TheVariants as verdict
-use Rattle.livelock.specs.Bounded.{OrderDecides}
 use Rattle.livelock.specs.Stopping.{halt_of}
 
 module _ (network : Network) (events : List ℕ) where

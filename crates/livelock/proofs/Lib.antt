@@ -1,3 +1,4 @@
 pub mod Agreeing
 pub mod Deciding
+pub mod Prelude
 pub mod Whole

@@ -1,18 +1,10 @@
 -- A network is refused, or no order of its components bounds the hidden events, or a bound is told; and the bound is one.
-use Rattle.std.proofs.Common.{◌≡◌, ◌≤◌, ℕ, List, subst, sym}
-use Rattle.csp_tables.specs.Network.{leaves}
+use Rattle.livelock.proofs.Prelude.{◌≡◌, ◌≤◌, ℕ, List, subst, sym, leaves, Taken, IsSpelled, Network, ProcessStep, refused_or, unproved_or, Refusal, Verdict, HasOrder, IsBoundOf, IsBounded, OrderDecides}
 use Rattle.hidden_steps.proofs.Bounding.{hidden_steps_are_bounded}
-use Rattle.hidden_steps.specs.Order.{Taken}
-use Rattle.network_stages.specs.Networks.{IsSpelled, Network}
 use Rattle.network_trees.proofs.InOrder.{network_is_tree}
-use Rattle.process_steps.specs.ComponentStep.{ProcessStep}
-use Rattle.report.proofs.Points.{refused_or, unproved_or}
-use Rattle.report.specs.declared.answer.Refusal.{Refusal}
 use Rattle.report.specs.declared.answer.Shortfall.{Shortfall}
-use Rattle.report.specs.declared.answer.Verdict.{Verdict}
 use Rattle.report.specs.declared.answer.Side.TheVariants as side
 use Rattle.report.specs.declared.answer.Verdict.TheVariants as verdict
-use Rattle.livelock.specs.Bounded.{HasOrder, IsBoundOf, IsBounded, OrderDecides}
 use Rattle.livelock.specs.Whole.{BoundsHidden, IsBoundedWhole}
 
 -- so many steps follow one another at most

@@ -1,8 +1,4 @@
-use Rattle.std.proofs.Common.{rules, subst}
-use Rattle.network_stages.specs.Networks.{Network}
-use Rattle.report.proofs.Points.{at_refusal, goes_on}
-use Rattle.report.specs.Stops.{Answers}
-use Rattle.livelock.specs.Bounded.{IsBounded, OrderDecides}
+use Rattle.livelock.proofs.Prelude.{rules, subst, Network, at_refusal, goes_on, Answers, IsBounded, OrderDecides}
 use Rattle.livelock.proofs.bounding.bounded.Goals as goal
 
 pub returns-in_err-expr : goal.returns-in_err-expr

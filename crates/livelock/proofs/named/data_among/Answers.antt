@@ -1,6 +1,5 @@
-use Rattle.std.proofs.Common.{ap, sym, ◌∙◌}
+use Rattle.livelock.proofs.Prelude.{ap, sym, ◌∙◌, datum}
 use Rattle.std.specs.Option.{option_and_then, option_copied}
-use Rattle.livelock.specs.Named.{datum}
 use Rattle.livelock.proofs.named.data_among.Goals as goal
 
 pub returns-in-Some : goal.returns-in-Some

@@ -1,6 +1,5 @@
-use Rattle.std.proofs.Common.{rules, tests}
+use Rattle.livelock.proofs.Prelude.{rules, tests, is_data_named}
 use Rattle.csp_base.proofs.Standard.{YieldsList-from_slice, find_from_yields_List}
-use Rattle.livelock.specs.Named.{is_data_named}
 use Rattle.livelock.proofs.named.definition_named.Goals as goal
 
 pub returns : goal.returns
