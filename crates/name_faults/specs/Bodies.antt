@@ -1,5 +1,6 @@
 -- How deep bodies reach, from what they say. It serves the contracts of this crate.
-use Rattle.name_faults.specs.Prelude.{ℕ, max, List, [], ◌∷◌, map, slice_get, flat_map, kind_class, Name, first_of, tree_says, bodies_from, body_place, expanded_body, Occurrence, Uses, Form, Parallel, Decl, Tree, Body, Entity, Use}
+use Rattle.std.specs.Prelude.{◌∷◌}
+use Rattle.name_faults.specs.Prelude.{ℕ, max, List, [], map, slice_get, flat_map, kind_class, Name, first_of, tree_says, bodies_from, body_place, expanded_body, Occurrence, Uses, Form, Parallel, Decl, Tree, Body, Entity, Use}
 use Rattle.script_names.specs.declared.kinds.Sense.{Sense}
 use Rattle.name_tables.specs.declared.meanings.Meanings.{Meanings}
 

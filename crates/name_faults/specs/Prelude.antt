@@ -13,4 +13,4 @@ pub use Rattle.script_names.specs.declared.occurrence.Occurrence.{Occurrence}
 pub use Rattle.script_names.specs.declared.occurrence.Occurrence.TheVariants.{Binds, Declares, Form, Notes, Parallel, Uses}
 pub use Rattle.script_sizes.specs.Size.{AreSmall, declaration_depth, depth}
 pub use Rattle.std.specs.List.{flat_map, list_any}
-pub use Rattle.std.specs.Prelude.{Bool, IfOk, List, MatchOption, None, OnOk, Option, Some, [], false, length, map, max, min, nat_eq, nat_lt, not, option_copied, slice_get, slice_index, suc, take, zero, ℕ, ◌&&◌, ◌++◌, ◌+◌, ◌-◌, ◌<◌, ◌||◌, ◌∷◌, ◌≡◌, ◌≤◌}
+pub use Rattle.std.specs.Prelude.{Bool, IfOk, List, MatchOption, None, OnOk, Option, Some, [], false, length, map, max, min, nat_eq, nat_lt, not, option_copied, slice_get, slice_index, suc, take, zero, ℕ}

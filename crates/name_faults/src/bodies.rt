@@ -1,6 +1,7 @@
 //! How deep the bodies of definitions reach.
 
-ghost use Rattle.name_faults.specs.Prelude.{◌≡◌, ◌+◌, ◌≤◌, [], ◌∷◌, ◌++◌, map, length, slice_get, IfOk, OnOk, tree_depth, MOST_TREE_DEPTH, kind_class, first_of, tree_says, body_place, expanded_body, declaration_depth, depth};
+ghost use Rattle.std.specs.Prelude.{◌≡◌, ◌+◌, ◌≤◌, ◌∷◌, ◌++◌};
+ghost use Rattle.name_faults.specs.Prelude.{[], map, length, slice_get, IfOk, OnOk, tree_depth, MOST_TREE_DEPTH, kind_class, first_of, tree_says, body_place, expanded_body, declaration_depth, depth};
 ghost use Rattle.name_faults.specs.Bodies as meant;
 
 use crate::body::{Body, body_of};

@@ -1,6 +1,7 @@
 //! The name fault of a script.
 
-ghost use Rattle.name_faults.specs.Prelude.{◌≡◌, ◌+◌, ◌≤◌, [], map, slice_index, nat_lt, IfOk, OnOk, MOST_DATA_DEPTH, MOST_TREE_DEPTH, SameFirsts, AreSmall, declaration_depth};
+ghost use Rattle.std.specs.Prelude.{◌≡◌, ◌+◌, ◌≤◌};
+ghost use Rattle.name_faults.specs.Prelude.{[], map, slice_index, nat_lt, IfOk, OnOk, MOST_DATA_DEPTH, MOST_TREE_DEPTH, SameFirsts, AreSmall, declaration_depth};
 ghost use Rattle.script_names.specs.Names.{declared, first_of};
 ghost use Rattle.name_faults.specs.Bodies.{bodies_after};
 ghost use Rattle.name_faults.specs.Depths.{AreWithin};
