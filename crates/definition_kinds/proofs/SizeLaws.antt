@@ -6,12 +6,7 @@ use Rattle.definition_kinds.proofs.FoundLaws.{firsts-length, rows-length}
 -- a declaration makes at most one definition
 one_definition : (meanings : Meanings) (d : Decl) → length (body_ends meanings d) ≤ declaration_size d
 one_definition meanings (Decl.Channel xs types) = omega arith
-one_definition meanings (Decl.Datatype x ks) = omega arith
-one_definition meanings (Decl.Nametype x t) = omega arith
-one_definition meanings (Decl.Define x params t) = omega arith
-one_definition meanings (Decl.Assert t) = omega arith
-one_definition meanings (Decl.Roles names) = omega arith
-one_definition meanings (Decl.Resource names) = omega arith
+one_definition meanings _ = omega arith
 
 pub few_definitions : (meanings : Meanings) (decls : List Decl) → length (flat_map (body_ends meanings) decls) ≤ size decls
 few_definitions meanings [] = omega arith

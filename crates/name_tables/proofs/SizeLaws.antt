@@ -14,12 +14,7 @@ size_at (e ∷ decls) (suc i) d within is = let later = size_at decls i d (omega
 -- each name that a declaration declares is a part of it
 pub counted_more : (n : Counts) (d : Decl) → total (counted n d) ≤ total n + declaration_size d
 counted_more n (Decl.Channel xs types) = omega arith
-counted_more n (Decl.Datatype x ks) = omega arith
-counted_more n (Decl.Nametype x t) = omega arith
-counted_more n (Decl.Define x params t) = omega arith
-counted_more n (Decl.Assert t) = omega arith
-counted_more n (Decl.Roles names) = omega arith
-counted_more n (Decl.Resource names) = omega arith
+counted_more n _ = omega arith
 
 -- what holds of what is left before a declaration is read holds after it
 pub few_left : (n next : Counts) (i : ℕ) (decls : List Decl) (d : Decl) (limit : ℕ) → i < length decls → d ≡ get_or decls i d → next ≡ counted n d
