@@ -4,4 +4,5 @@ pub mod Lists
 pub mod Naming
 pub mod NewEvents
 pub mod Pairs
+pub mod Prelude
 pub mod Walking

@@ -1,16 +1,8 @@
 -- The event of a channel that has given values, as the value of an expression of it.
-use Rattle.std.proofs.Common.{◌≡◌, ℕ, Ok, Err, List, [], ◌∷◌, ◌++◌, map, length, refl, ap, ◌∙◌}
-use Rattle.csp_atoms.specs.declared.atom.Atom.{Atom}
-use Rattle.csp_atoms.specs.declared.value.Value.{Value}
-use Rattle.csp_atoms.specs.declared.value.Value.TheVariants.{One}
+use Rattle.step_values.proofs.Prelude.{◌≡◌, ℕ, Ok, Err, List, [], ◌∷◌, ◌++◌, map, length, refl, ap, ◌∙◌, Atom, Value, One, Outcome, and_then, front_events, meanings, one_event, value_of, Expr, Content, at, as_event, literals, new_event}
 use Rattle.csp_atoms.specs.declared.atom.Atom.TheVariants as atom
-use Rattle.csp_program.specs.Prelude.{Outcome, and_then, front_events, meanings, one_event, value_of}
-use Rattle.csp_program.specs.declared.expressions.Expr.{Expr}
 use Rattle.csp_program.specs.declared.expressions.Expr.TheOpen.{Expr-F}
-use Rattle.csp_program.specs.declared.programs.Content.{Content}
 use Rattle.csp_program.specs.declared.expressions.Expr.TheVariants as expr
-use Rattle.csp_values.proofs.Equations.{at}
-use Rattle.step_values.specs.Walked.{as_event, literals, new_event}
 
 literals_then : (vs : List Value) (atoms : List Atom) → literals vs ++ map (λ a. expr.Lit (One a)) atoms ≡ literals (vs ++ map (λ a. One a) atoms)
 literals_then [] [] = refl

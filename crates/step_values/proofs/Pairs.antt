@@ -1,21 +1,10 @@
 -- What a pair of a renaming renames under an environment, from what its sides come to.
-use Rattle.std.proofs.Common.{◌≡◌, ℕ, zero, suc, ◌+◌, ◌<◌, ◌≤◌, ◌^◌, Some, Ok, Err, List, [], ◌∷◌, ◌++◌, length, take, drop, slice_get, refl, ap, sym, subst, ◌∙◌, arith}
-use Rattle.csp_program.specs.Prelude.{event_table, IsInOrder, Outcome, and_then, Env, meanings, sets_of}
-use Rattle.csp_program.specs.declared.expressions.EventPart.{EventPart, out-EventPart}
-use Rattle.csp_program.specs.declared.expressions.Expr.{Expr}
-use Rattle.csp_program.specs.declared.programs.Content.{Content}
+use Rattle.step_values.proofs.Prelude.{◌≡◌, ℕ, zero, suc, ◌+◌, ◌<◌, ◌≤◌, ◌^◌, Some, Ok, Err, List, [], ◌∷◌, ◌++◌, length, take, drop, slice_get, refl, ap, sym, subst, ◌∙◌, arith, event_table, IsInOrder, Outcome, and_then, Env, meanings, sets_of, EventPart, out-EventPart, Expr, Content, Value, fronts_of, same_count, front_worth, worths, each_joined, Renamed, pair_renamed, new_event, pair_walked, renamed_as, number_fits, program_fits, first_of, span}
 use Rattle.csp_program.specs.declared.programs.EventInfo.{EventInfo}
-use Rattle.csp_atoms.specs.declared.value.Value.{Value}
-use Rattle.csp_values.proofs.Equations.{fronts_of, same_count}
 use Rattle.csp_values.proofs.FieldSteps.{front_fits}
-use Rattle.csp_values.specs.Worth.{front_worth, worths}
-use Rattle.process_steps.specs.Prelude.{each_joined, Renamed, event_with, pair_renamed, values_after}
-use Rattle.step_values.specs.Walked.{new_event, pair_walked, renamed_as}
-use Rattle.value_laws.proofs.EventPlaces.{number_fits}
-use Rattle.value_laws.proofs.Fits.{program_fits}
+use Rattle.process_steps.specs.Prelude.{event_with, values_after}
 use Rattle.value_laws.proofs.Fronts.{has_sets}
 use Rattle.value_laws.proofs.ProgramEvents.{table_from_sets}
-use Rattle.value_laws.specs.Numbers.{first_of, span}
 use Rattle.value_operators.specs.Forms.{count_with}
 
 -- the event at a place of a list, and those after it

@@ -1,21 +1,9 @@
 -- A renaming as it is walked: what is left of it at each binding.
-use Rattle.std.proofs.Common.{◌≡◌, ℕ, Ok, Err, List, [], length, map, ap, sym, ◌∙◌}
-use Rattle.std.specs.Prelude.{Result}
+use Rattle.step_values.proofs.Prelude.{◌≡◌, ℕ, Ok, Err, List, [], length, map, ap, sym, ◌∙◌, Result, Outcome, and_then, Env, turn, uses_within, walked, EventPart, ValueKind, Content, Atom, over_begun, over_course, Course, GivesBinding, begun, course_under, faulty, skipped, Gathering, binding_renamed, renaming_in, GivesTally, renamed_walk, Gives, EvalFault}
 use Rattle.std.specs.Result.{IsErrAnd}
-use Rattle.csp_program.specs.Prelude.{Outcome, and_then, Env, turn, uses_within, walked}
-use Rattle.csp_program.specs.declared.expressions.EventPart.{EventPart}
 use Rattle.csp_program.specs.declared.expressions.Gen.{Gen}
-use Rattle.csp_program.specs.declared.kinds.ValueKind.{ValueKind}
-use Rattle.csp_program.specs.declared.programs.Content.{Content}
-use Rattle.csp_atoms.specs.declared.atom.Atom.{Atom}
-use Rattle.csp_values.proofs.Courses.{over_begun, over_course}
-use Rattle.csp_values.specs.Course.{Course, GivesBinding, begun, course_under, faulty, skipped}
 use Rattle.csp_values.specs.declared.walk.Walk.{Walk}
-use Rattle.process_steps.specs.Renaming.{Gathering, binding_renamed, renaming_in}
-use Rattle.step_values.specs.Walked.{GivesTally, renamed_walk}
 use Rattle.step_values.specs.declared.renaming.Tally.{Tally}
-use Rattle.value_operators.specs.Prelude.{Gives}
-use Rattle.value_operators.specs.declared.fault.EvalFault.{EvalFault}
 use Rattle.value_operators.specs.declared.fault.EvalFault.TheVariants as fault
 
 -- a fault that is passed on: of a part, as P says, it is one of the whole, as Q says

@@ -1,7 +1,4 @@
-use Rattle.std.proofs.Common.{ap, sym, subst, ◌∙◌}
-use Rattle.std.specs.Prelude.{slice_get}
-use Rattle.csp_program.specs.Prelude.{IsInOrder}
-use Rattle.csp_program.specs.declared.programs.Content.{Content}
+use Rattle.step_values.proofs.Prelude.{ap, sym, subst, ◌∙◌, slice_get, IsInOrder, Content}
 use Rattle.step_values.proofs.ChannelEvents.{channel_start}
 use Rattle.step_values.proofs.heads.of_channel.Goals as goal
 

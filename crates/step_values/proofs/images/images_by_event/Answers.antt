@@ -1,8 +1,5 @@
-use Rattle.std.proofs.Common.{ℕ, List, [], ◌∷◌, cond, ◌++◌, ap, sym, ◌∙◌, arith}
-use Rattle.std.specs.Prelude.{nat_eq}
+use Rattle.step_values.proofs.Prelude.{ℕ, List, [], ◌∷◌, cond, ◌++◌, ap, sym, ◌∙◌, arith, nat_eq, or_itself, events_or_none, named_for}
 use Rattle.std.specs.Map.{lookup}
-use Rattle.process_steps.specs.Renaming.{or_itself}
-use Rattle.step_values.specs.Images.{events_or_none, named_for}
 use Rattle.step_values.proofs.Naming.{more_named}
 use Rattle.step_values.proofs.images.images_by_event.Goals as goal
 use Rattle.std.proofs.lemmas.List.{take_all}

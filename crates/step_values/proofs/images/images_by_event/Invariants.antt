@@ -1,5 +1,4 @@
-use Rattle.std.proofs.Common.{◌≡◌, ℕ, take}
-use Rattle.step_values.specs.Images.{kept_for, named_for}
+use Rattle.step_values.proofs.Prelude.{◌≡◌, ℕ, take, kept_for, named_for}
 use Rattle.step_values.proofs.images.images_by_event.Given as goal
 
 abbrev pub invariant-loop-pair : goal.invariant-loop-pair

@@ -1,6 +1,5 @@
-use Rattle.std.proofs.Common.{subst}
+use Rattle.step_values.proofs.Prelude.{subst, Gives}
 use Rattle.step_values.proofs.Arguments.{arguments_worth}
-use Rattle.value_operators.specs.Gives.{Gives}
 use Rattle.step_values.proofs.needed.arguments_in.Goals as goal
 
 pub returns : goal.returns

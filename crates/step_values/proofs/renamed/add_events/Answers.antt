@@ -1,6 +1,4 @@
-use Rattle.std.proofs.Common.{◌+◌, drop, refl, ap, ◌∙◌, arith}
-use Rattle.value_operators.proofs.Faults.{passed}
-use Rattle.step_values.specs.Walked.{new_event, renamed_as}
+use Rattle.step_values.proofs.Prelude.{◌+◌, drop, refl, ap, ◌∙◌, arith, passed, new_event, renamed_as}
 use Rattle.step_values.proofs.Lists.{left, left_begin, left_end, left_fault, left_next}
 use Rattle.step_values.proofs.renamed.add_events.Goals as goal
 

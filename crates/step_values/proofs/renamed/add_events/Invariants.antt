@@ -1,7 +1,4 @@
-use Rattle.std.proofs.Common.{◌≡◌, ◌+◌, ◌++◌, Ok, drop}
-use Rattle.csp_program.specs.Outcome.{and_then}
-use Rattle.process_steps.specs.Needed.{each_joined}
-use Rattle.step_values.specs.Walked.{new_event, renamed_as}
+use Rattle.step_values.proofs.Prelude.{◌≡◌, ◌+◌, ◌++◌, Ok, drop, and_then, each_joined, new_event, renamed_as}
 use Rattle.step_values.proofs.Lists.{left}
 use Rattle.step_values.proofs.renamed.add_events.Given as goal
 

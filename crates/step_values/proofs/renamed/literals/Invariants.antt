@@ -1,5 +1,4 @@
-use Rattle.std.proofs.Common.{◌≡◌, take}
-use Rattle.step_values.specs.Walked.{literals}
+use Rattle.step_values.proofs.Prelude.{◌≡◌, take, literals}
 use Rattle.step_values.proofs.renamed.literals.Given as goal
 
 abbrev pub invariant-loop-value : goal.invariant-loop-value

@@ -1,7 +1,5 @@
-use Rattle.std.proofs.Common.{◌≡◌, ◌++◌, map, take}
-use Rattle.csp_atoms.specs.declared.value.Value.TheVariants.{One}
+use Rattle.step_values.proofs.Prelude.{◌≡◌, ◌++◌, map, take, One, literals}
 use Rattle.csp_program.specs.declared.expressions.Expr.TheVariants.{Lit}
-use Rattle.step_values.specs.Walked.{literals}
 use Rattle.step_values.proofs.renamed.literals_then.Given as goal
 
 abbrev pub invariant-loop-atom : goal.invariant-loop-atom

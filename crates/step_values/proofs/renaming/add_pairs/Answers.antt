@@ -1,7 +1,4 @@
-use Rattle.std.proofs.Common.{[], refl, sym, ◌∙◌, arith}
-use Rattle.process_steps.specs.Renaming.{pair_renamed}
-use Rattle.value_operators.proofs.Faults.{passed}
-use Rattle.value_operators.specs.Env.{with_bound}
+use Rattle.step_values.proofs.Prelude.{[], refl, sym, ◌∙◌, arith, pair_renamed, passed, with_bound}
 use Rattle.step_values.proofs.Lists.{left_begin, left_end, left_fault, left_next}
 use Rattle.step_values.proofs.Pairs.{pair_is}
 use Rattle.step_values.proofs.renaming.add_pairs.Goals as goal

@@ -1,7 +1,4 @@
-use Rattle.std.proofs.Common.{◌≡◌, ◌++◌, [], Ok, drop}
-use Rattle.csp_program.specs.Outcome.{and_then}
-use Rattle.process_steps.specs.Renaming.{pair_renamed, pairs_renamed}
-use Rattle.value_operators.specs.Env.{with_bound}
+use Rattle.step_values.proofs.Prelude.{◌≡◌, ◌++◌, [], Ok, drop, and_then, pair_renamed, pairs_renamed, with_bound}
 use Rattle.step_values.proofs.Lists.{left}
 use Rattle.step_values.proofs.renaming.add_pairs.Given as goal
 

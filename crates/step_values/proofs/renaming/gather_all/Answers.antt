@@ -1,9 +1,5 @@
-use Rattle.std.proofs.Common.{[], ap, ◌∙◌}
-use Rattle.csp_values.proofs.Courses.{begun_under, binding_less, gathering_fault, gathering_next, over_end, over_fault}
-use Rattle.process_steps.specs.Renaming.{binding_renamed}
-use Rattle.value_operators.specs.Env.{with_bound}
+use Rattle.step_values.proofs.Prelude.{[], ap, ◌∙◌, begun_under, binding_less, gathering_fault, gathering_next, over_end, over_fault, binding_renamed, with_bound, gathering_of}
 use Rattle.step_values.proofs.Walking.{binding_passed, walk_begun, walk_passed}
-use Rattle.step_values.specs.Walked.{gathering_of}
 use Rattle.step_values.proofs.renaming.gather_all.Goals as goal
 
 pub bindings-init : goal.bindings-init

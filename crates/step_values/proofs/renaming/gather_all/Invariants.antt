@@ -1,8 +1,4 @@
-use Rattle.std.proofs.Common.{◌≡◌, []}
-use Rattle.csp_values.specs.Course.{IsUnder, course_under}
-use Rattle.csp_values.proofs.Courses.{over_course, size}
-use Rattle.process_steps.specs.Renaming.{binding_renamed}
-use Rattle.step_values.specs.Walked.{gathering_of, renamed_walk}
+use Rattle.step_values.proofs.Prelude.{◌≡◌, [], IsUnder, course_under, over_course, size, binding_renamed, gathering_of, renamed_walk}
 use Rattle.step_values.proofs.renaming.gather_all.Given as goal
 
 -- the bindings that are left are still to be gathered

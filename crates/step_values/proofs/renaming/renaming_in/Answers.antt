@@ -1,6 +1,5 @@
-use Rattle.std.proofs.Common.{Ok, Err, ap}
+use Rattle.step_values.proofs.Prelude.{Ok, Err, ap, gathering_of}
 use Rattle.step_values.proofs.Walking.{value_of_tally, whole_walk}
-use Rattle.step_values.specs.Walked.{gathering_of}
 use Rattle.step_values.proofs.renaming.renaming_in.Goals as goal
 
 pub returns-in_err-tally : goal.returns-in_err-tally
