@@ -1,5 +1,6 @@
-pub mod SmallestSets
 pub mod Member
+pub mod Prelude
+pub mod RowLists
+pub mod SmallestSets
 pub mod Sorting
 pub mod Terms
-pub mod RowLists

@@ -1,8 +1,5 @@
 -- Members of lists, by recursion.
-use Rattle.std.proofs.Common.{◌≡◌, ℕ, zero, suc, ◌<◌, ◌⊎◌, inl, inr, Bool, true, false, nat_eq, cond, Some, List, [], ◌∷◌, length, get_or, refl, sym, ap, ◌∙◌, arith}
-use Rattle.std.specs.Prelude.{slice_get}
-use Rattle.csp_base.specs.Standard.{first_so, second_so, pointwise, Contains, filter, list_any, All}
-use Rattle.std.proofs.lemmas.Bool.{eqb-true, false≢true, or_left, or_right, or_cases}
+use Rattle.acceptances.proofs.Prelude.{◌≡◌, ℕ, zero, suc, ◌<◌, ◌⊎◌, inl, inr, Bool, true, false, nat_eq, cond, Some, List, [], ◌∷◌, length, get_or, refl, sym, ap, ◌∙◌, arith, slice_get, first_so, second_so, pointwise, Contains, filter, list_any, All, eqb-true, false≢true, or_left, or_right, or_cases}
 
 -- lists that the test finds equal are equal
 pub same_lists_of : (xs ys : List ℕ) → pointwise nat_eq xs ys ≡ true → xs ≡ ys

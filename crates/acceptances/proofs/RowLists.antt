@@ -1,12 +1,6 @@
 -- Sets in the rows of their events, and that a smaller set is found in the rows of a set's events.
-use Rattle.std.proofs.Common.{◌≡◌, ℕ, zero, suc, ◌+◌, ◌<◌, ◌%◌, ◌⊎◌, inl, inr, Bool, true, false, not, ◌&&◌, ◌||◌, nat_eq, Option, Some, None, List, [], ◌∷◌, ◌++◌, length, get_or, set, replicate, refl, sym, ap, subst, ◌∙◌, arith, eq-eqb}
-use Rattle.csp_base.specs.Standard.{All, list_any, first_so}
-use Rattle.csp_base.proofs.Standard.{or-false, false≢true, cases_Bool, cases_eq, cases_lt, eqb-true, or_left, or_right, or_cases, ne_eqb, get_or-set_same, get_or-set_other, length-set, length-replicate, get_or_default, list_any-append, list_any_at}
-use Rattle.csp_base.proofs.Booleans.{and_second}
-use Rattle.csp_base.specs.Prelude.{has, is_subset_of}
-use Rattle.csp_base.proofs.SetLaws.{member_of_superset}
-use Rattle.acceptances.specs.OfferTests.{is_smaller, has_smaller}
-use Rattle.acceptances.specs.EventRows.{IsRowFor, StandsInRow, AreEventRows}
+use Rattle.acceptances.proofs.Prelude.{◌≡◌, ℕ, ◌+◌, ◌<◌, ◌%◌, ◌⊎◌, inl, inr, Bool, true, false, not, ◌&&◌, ◌||◌, nat_eq, Option, Some, None, List, [], ◌∷◌, ◌++◌, length, get_or, set, refl, sym, ap, subst, ◌∙◌, arith, eq-eqb, All, list_any, first_so, or-false, false≢true, cases_Bool, cases_eq, cases_lt, eqb-true, or_left, or_right, or_cases, ne_eqb, get_or-set_same, get_or-set_other, length-set, get_or_default, list_any-append, list_any_at, and_second, is_subset_of, member_of_superset, is_smaller, has_smaller, IsRowFor, StandsInRow, AreEventRows}
+use Rattle.csp_base.specs.Prelude.{has}
 use Rattle.acceptances.proofs.Member.{stands, any_of_member, member_of_any}
 
 -- ---- the row that is chosen for a set
@@ -18,10 +12,6 @@ BestSoFar count events left (Some row) = (row < count) × ((e : ℕ) × (has eve
 pub record IsWalked (count : ℕ) (events left : List ℕ) (best : Option ℕ) : Type 0 where
   pub best_row : BestSoFar count events left best
   pub inside : (e : ℕ) → has left e ≡ true → has events e ≡ true
-
-pub none_found : (count : ℕ) (events left : List ℕ) (best : Option ℕ) → best ≡ None → left ≡ [] → BestSoFar count events left best → IsRowFor count events 0
-none_found count events left None is ends b = inl (sym b ∙ ends, refl)
-none_found count events left (Some r) is ends b = absurd (cc)
 
 -- ---- rows that grow
 has-push : (xs : List ℕ) (x v : ℕ) → has (xs ++ x ∷ []) v ≡ (has xs v || nat_eq x v)
@@ -45,20 +35,6 @@ pub record AreRowsSoFar (sets : List (List ℕ)) (n : ℕ) (rows : List (List �
   pub some : 0 < length rows
   pub within : (row place : ℕ) → has (get_or rows row []) place ≡ true → place < length sets
   pub each : (place : ℕ) → place < n → StandsInRow (get_or sets place []) rows place
-
-pub no_rows : (sets rows : List (List ℕ)) (count : ℕ) → rows ≡ replicate (count + 1) [] → AreRowsSoFar sets 0 rows
-no_rows sets rows count is =
-    let none : (row v : ℕ) → has (get_or rows row []) v ≡ false = λ row v. ap (λ (rs : List (List ℕ)). has (get_or rs row []) v) is ∙ empty_row (count + 1) row v in
-    record {
-      some = let size : length rows ≡ count + 1 = ap length is ∙ length-replicate (count + 1) [] in omega arith;
-      within = λ row v h. absurd (false≢true (sym (none row v) ∙ h));
-      each = λ place h. absurd (omega arith);
-    }
-  where
-    empty_row : (n row v : ℕ) → has (get_or (replicate n []) row []) v ≡ false
-    empty_row zero row v = refl
-    empty_row (suc n) zero v = refl
-    empty_row (suc n) (suc row) v = empty_row n row v
 
 pub rows_more : (sets : List (List ℕ)) (n at : ℕ) (rows new : List (List ℕ)) → n < length sets → at < length rows → IsRowFor (length rows) (get_or sets n []) at → new ≡ set rows at (get_or rows at [] ++ n ∷ []) → AreRowsSoFar sets n rows → AreRowsSoFar sets (n + 1) new
 rows_more sets n at rows new below within fits is s =

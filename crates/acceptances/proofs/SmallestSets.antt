@@ -1,14 +1,7 @@
 -- Of some sets those that contain no smaller one, and that each set contains one of them.
-use Rattle.std.proofs.Common.{◌≡◌, ◌↔◌, ℕ, ◌<◌, ◌⊎◌, inl, inr, Bool, true, false, not, IsTrue, List, [], ◌∷◌, get_or, refl, sym, ap, subst, ◌∙◌}
-use Rattle.csp_base.specs.Standard.{All, Contains, filter, IsStrictlyIncreasing, IsStrictlySortedBy, first_so, second_so, slice_cmp, nat_cmp}
-use Rattle.csp_base.proofs.Standard.{false≢true, cases_Bool, not-true, not_from_false, IsStrictlySortedBy-filter}
-use Rattle.csp_base.specs.Events.{has, is_subset_of}
-use Rattle.csp_base.proofs.SetLaws.{is_subset_of_from_members, member_of_superset}
-use Rattle.csp_tables.specs.Prelude.{Stable, Offers, IsWithin, RawTable, RawStep, IsOfferOf, IsMinimalOffer, OffersAcceptance, IsListed}
-use Rattle.acceptances.specs.OfferTests.{can_do, AreMarks, AreOffers, AreLeastOf, offers_at, has_smaller, is_smaller}
+use Rattle.acceptances.proofs.Prelude.{◌≡◌, ◌↔◌, ℕ, ◌<◌, ◌⊎◌, inl, inr, Bool, true, false, not, IsTrue, List, [], ◌∷◌, get_or, refl, sym, ap, subst, ◌∙◌, All, Contains, filter, IsStrictlyIncreasing, IsStrictlySortedBy, first_so, second_so, slice_cmp, nat_cmp, false≢true, cases_Bool, not-true, not_from_false, IsStrictlySortedBy-filter, has, is_subset_of, is_subset_of_from_members, member_of_superset, Stable, Offers, IsWithin, RawTable, RawStep, IsOfferOf, IsMinimalOffer, OffersAcceptance, IsListed, can_do, AreMarks, AreOffers, AreLeastOf, offers_at, has_smaller, is_smaller, same_tests}
 use Rattle.acceptances.proofs.Member.{Member, member_from_contains, contains_from_member, stands, all_of_members, member_of_filter, member_from_filter, any_of_member, member_of_any}
 use Rattle.acceptances.proofs.Terms.{stable_by_test, test_by_stable, offers_by_test, test_by_offers, Source, source, listed_offer, within_of}
-use Rattle.csp_base.proofs.Booleans.{same_tests}
 
 abbrev pub is_least : List (List ℕ) → List ℕ → Bool
 is_least sets M = not (has_smaller sets M)

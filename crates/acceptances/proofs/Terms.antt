@@ -1,14 +1,7 @@
 -- The sets of the stable terms of a table, and what those terms offer.
-use Rattle.std.proofs.Common.{◌≡◌, ℕ, suc, ◌+◌, ◌<◌, ◌⊎◌, inl, inr, Bool, true, false, ◌&&◌, ◌||◌, nat_eq, cond, Some, List, [], ◌∷◌, ◌++◌, length, get_or, set, take, refl, sym, ap, subst, ◌∙◌, arith}
-use Rattle.csp_base.specs.Standard.{list_any, All, IsStrictlyIncreasing, first_so, second_so}
-use Rattle.csp_base.proofs.Standard.{eq-eqb, eqb-true, false≢true, or_left, or_right, or_cases, cases_Bool, cases_eq, ne_eqb, get_or_default, get_or-set_same, get_or-set_other, length-set, list_any_more, any_passes_from_place, or_comm}
-use Rattle.csp_base.specs.Events.{has, with_member}
-use Rattle.csp_base.proofs.SetLaws.{has-with_member, increasing-with_member}
-use Rattle.csp_tables.specs.Prelude.{silent, Stable, Offers, RawTable, RawStep, HasRawForm}
+use Rattle.acceptances.proofs.Prelude.{◌≡◌, ℕ, suc, ◌+◌, ◌<◌, ◌⊎◌, inl, inr, Bool, true, false, ◌&&◌, ◌||◌, nat_eq, cond, Some, List, [], ◌∷◌, ◌++◌, length, get_or, set, take, refl, sym, ap, subst, ◌∙◌, arith, list_any, All, IsStrictlyIncreasing, first_so, second_so, eq-eqb, eqb-true, false≢true, or_left, or_right, or_cases, cases_Bool, cases_eq, ne_eqb, get_or_default, get_or-set_same, get_or-set_other, length-set, list_any_more, any_passes_from_place, or_comm, has, with_member, has-with_member, increasing-with_member, silent, Stable, Offers, RawTable, RawStep, HasRawForm, is_unstable, can_do, offers_at, or_none}
 use Rattle.csp_tables.proofs.Listed.{passing, silent_at, step_at}
-use Rattle.acceptances.specs.OfferTests.{is_unstable, can_do, offers_at}
 use Rattle.acceptances.proofs.Member.{Member, member_of_any}
-use Rattle.csp_base.proofs.Booleans.{or_none}
 use Rattle.csp_base.proofs.Listed.{same_number}
 
 same : (n : ℕ) → nat_eq n n ≡ true

@@ -1,10 +1,5 @@
 -- The set of the empty trace.
-use Rattle.std.proofs.Common.{◌≡◌, ◌↔◌, ℕ, inl, inr, true, false, nat_eq, IsTrue, List, [], ◌∷◌, refl, sym, subst}
-use Rattle.std.proofs.lemmas.Bool.{eqb-true, false≢true, or_cases}
-use Rattle.csp_base.specs.Members.{has}
-use Rattle.csp_tables.specs.Prelude.{After, RawTable, RawStep}
-use Rattle.term_sets.specs.Moves.{IsSilentlyReached}
-use Rattle.term_sets.specs.TermSets.{IsSetAfter}
+use Rattle.term_sets.proofs.Prelude.{◌≡◌, ◌↔◌, ℕ, inl, inr, true, false, nat_eq, IsTrue, List, [], ◌∷◌, refl, sym, subst, eqb-true, false≢true, or_cases, has, After, RawTable, RawStep, IsSilentlyReached, IsSetAfter}
 use Rattle.term_sets.proofs.Traces.{After-none}
 
 -- the closure of the first term

@@ -1,10 +1,5 @@
 -- Lists of steps: one step more in a row, the rows of some terms, and the same steps in another order.
-use Rattle.std.proofs.Common.{◌≡◌, ℕ, suc, ◌+◌, ◌<◌, inl, inr, Bool, true, false, ◌&&◌, ◌||◌, nat_eq, List, [], ◌∷◌, ◌++◌, length, get_or, set, take, refl, sym, ap, subst, ◌∙◌, arith, eq-eqb}
-use Rattle.csp_base.specs.Standard.{list_any, flat_map, All, first_so, second_so}
-use Rattle.csp_base.proofs.Standard.{cases_eq, or_cases, or_left, or_right, eqb-true, ne_eqb, false≢true, get_or-set_same, get_or-set_other, get_or_default, length-set, list_any-append, list_any_more, list_any_at, or-false}
-use Rattle.csp_base.specs.Members.{has}
-use Rattle.csp_tables.specs.Prelude.{RawTable, HasRawForm}
-use Rattle.term_sets.specs.Moves.{has_move, AreMoveRows, AreMovesOf, HaveSameMoves}
+use Rattle.term_sets.proofs.Prelude.{◌≡◌, ℕ, suc, ◌+◌, ◌<◌, inl, inr, Bool, true, false, ◌&&◌, ◌||◌, nat_eq, List, [], ◌∷◌, ◌++◌, length, get_or, set, take, refl, sym, ap, subst, ◌∙◌, arith, eq-eqb, list_any, flat_map, All, first_so, second_so, cases_eq, or_cases, or_left, or_right, eqb-true, ne_eqb, false≢true, get_or-set_same, get_or-set_other, get_or_default, length-set, list_any-append, list_any_more, list_any_at, or-false, has, RawTable, HasRawForm, has_move, AreMoveRows, AreMovesOf, HaveSameMoves}
 
 -- a row with one more step at its end
 row_more : (rows : List (List (ℕ × ℕ))) (from event to s e t : ℕ) → from < length rows → has_move (get_or (set rows from (get_or rows from [] ++ (event, to) ∷ [])) s []) e t ≡ (has_move (get_or rows s []) e t || (nat_eq s from && nat_eq e event && nat_eq t to))

@@ -1,10 +1,7 @@
 -- Walks over the digraph of the silent steps are runs of silent steps.
-use Rattle.std.proofs.Common.{◌≡◌, ◌↔◌, ℕ, zero, suc, List, [], ◌∷◌, subst}
-use Rattle.csp_tables.specs.Prelude.{Label, silent, visible, Path, After, visible_events, RawTable, RawStep}
+use Rattle.term_sets.proofs.Prelude.{◌≡◌, ◌↔◌, ℕ, zero, suc, List, [], ◌∷◌, subst, Label, silent, visible, Path, After, visible_events, RawTable, RawStep, Digraph, HasArc, Walk, Reaches, ReachesFrom, IsSilentlyReached}
 use Rattle.tau_order.specs.SilentRows.{AreSilentRows}
 use Rattle.tau_order.proofs.SilentWalks.{step_of, arc_of}
-use Rattle.digraph.specs.Prelude.{Digraph, HasArc, Walk, Reaches, ReachesFrom}
-use Rattle.term_sets.specs.Moves.{IsSilentlyReached}
 use Rattle.term_sets.proofs.Traces.{After-none, After-silent, After-append}
 
 module _ (raw : RawTable) (g : Digraph) (rows : AreSilentRows raw g) where

@@ -1,6 +1,5 @@
 -- Runs of silent steps and events, one after another and cut in two.
-use Rattle.std.proofs.Common.{◌≡◌, ℕ, List, [], ◌∷◌, ◌++◌, refl, ap, ◌∙◌}
-use Rattle.csp_tables.specs.Prelude.{Label, silent, visible, Path, After, visible_events}
+use Rattle.term_sets.proofs.Prelude.{◌≡◌, ℕ, List, [], ◌∷◌, ◌++◌, refl, ap, ◌∙◌, Label, silent, visible, Path, After, visible_events}
 
 module _ (Step : ℕ → Label → ℕ → Type 0) where
   path_append : (ls ms : List Label) (s t u : ℕ) → Path Step s ls t → Path Step t ms u → Path Step s (ls ++ ms) u

@@ -1,6 +1,4 @@
-use Rattle.std.proofs.Common.{◌≡◌, ℕ, ◌<◌, [], ◌&&◌, nat_eq, length, take, get_or}
-use Rattle.csp_base.specs.Standard.{list_any, IsStrictlyIncreasing}
-use Rattle.csp_base.specs.Events.{has}
+use Rattle.acceptances.proofs.Prelude.{◌≡◌, ℕ, ◌<◌, [], ◌&&◌, nat_eq, length, take, get_or, list_any, IsStrictlyIncreasing, has}
 use Rattle.acceptances.proofs.offers.event_sets.Given as goal
 
 abbrev pub invariant-loop-step : goal.invariant-loop-step

@@ -1,5 +1,4 @@
-use Rattle.std.proofs.Common.{◌≡◌, take}
-use Rattle.acceptances.specs.OfferTests.{offers_at}
+use Rattle.acceptances.proofs.Prelude.{◌≡◌, take, offers_at}
 use Rattle.acceptances.proofs.offers.offers_of.Given as goal
 
 abbrev pub invariant-loop-n : goal.invariant-loop-n

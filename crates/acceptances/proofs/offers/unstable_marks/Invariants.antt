@@ -1,5 +1,4 @@
-use Rattle.std.proofs.Common.{◌≡◌, ℕ, ◌<◌, false, nat_eq, length, take, get_or}
-use Rattle.std.specs.List.{list_any}
+use Rattle.acceptances.proofs.Prelude.{◌≡◌, ℕ, ◌<◌, false, nat_eq, length, take, get_or, list_any}
 use Rattle.acceptances.proofs.offers.unstable_marks.Given as goal
 
 abbrev pub invariant-loop-from : goal.invariant-loop-from

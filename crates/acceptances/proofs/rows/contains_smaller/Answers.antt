@@ -1,5 +1,4 @@
-use Rattle.std.proofs.Common.{◌<◌, length, sym, subst}
-use Rattle.std.specs.List.{All}
+use Rattle.acceptances.proofs.Prelude.{◌<◌, length, sym, subst, All}
 use Rattle.acceptances.proofs.RowLists.{row_read, row_within, told_found, told_none, looked_more, all_looked_at}
 use Rattle.acceptances.proofs.rows.contains_smaller.Goals as goal
 

@@ -1,7 +1,5 @@
-use Rattle.std.proofs.Common.{◌≡◌, ◌⊎◌, ◌%◌, ℕ, true, false, [], length, get_or}
-use Rattle.std.specs.List.{list_any}
+use Rattle.acceptances.proofs.Prelude.{◌≡◌, ◌⊎◌, ◌%◌, ℕ, true, false, [], length, get_or, list_any, is_smaller}
 use Rattle.csp_base.specs.Members.{has}
-use Rattle.acceptances.specs.OfferTests.{is_smaller}
 use Rattle.acceptances.proofs.rows.contains_smaller.Given as goal
 
 abbrev pub invariant-loop-event : goal.invariant-loop-event

@@ -1,6 +1,4 @@
-use Rattle.std.proofs.Common.{◌≡◌, ◌<◌, ◌∙◌, ℕ, List, [], length, get_or, subst}
-use Rattle.std.proofs.lemmas.List.{get_or_default}
-use Rattle.acceptances.specs.EventRows.{IsRowFor}
+use Rattle.acceptances.proofs.Prelude.{◌≡◌, ◌<◌, ◌∙◌, ℕ, List, [], length, get_or, subst, get_or_default, IsRowFor}
 use Rattle.acceptances.proofs.RowLists.{rows_more}
 use Rattle.acceptances.proofs.rows.event_rows.Goals as goal
 

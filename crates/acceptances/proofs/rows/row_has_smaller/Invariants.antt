@@ -1,6 +1,4 @@
-use Rattle.std.proofs.Common.{◌≡◌, false, [], take, get_or}
-use Rattle.std.specs.List.{list_any}
-use Rattle.acceptances.specs.OfferTests.{is_smaller}
+use Rattle.acceptances.proofs.Prelude.{◌≡◌, false, [], take, get_or, list_any, is_smaller}
 use Rattle.acceptances.proofs.rows.row_has_smaller.Given as goal
 
 abbrev pub invariant-loop-place : goal.invariant-loop-place

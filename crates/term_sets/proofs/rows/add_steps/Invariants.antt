@@ -1,6 +1,4 @@
-use Rattle.std.proofs.Common.{◌≡◌, ℕ, [], ◌&&◌, nat_eq, length, take, get_or}
-use Rattle.std.specs.List.{list_any}
-use Rattle.term_sets.specs.Moves.{has_move}
+use Rattle.term_sets.proofs.Prelude.{◌≡◌, ℕ, [], ◌&&◌, nat_eq, length, take, get_or, list_any, has_move}
 use Rattle.term_sets.proofs.rows.add_steps.Given as goal
 
 abbrev pub invariant-loop-from : goal.invariant-loop-from

@@ -1,5 +1,4 @@
-use Rattle.std.proofs.Common.{◌≡◌, [], take, get_or}
-use Rattle.std.specs.List.{flat_map}
+use Rattle.term_sets.proofs.Prelude.{◌≡◌, [], take, get_or, flat_map}
 use Rattle.term_sets.proofs.rows.moves_of.Given as goal
 
 abbrev pub invariant-loop-n : goal.invariant-loop-n

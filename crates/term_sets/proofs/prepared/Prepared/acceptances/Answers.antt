@@ -1,6 +1,4 @@
-use Rattle.std.proofs.Common.{subst}
-use Rattle.csp_tables.specs.RawTable.{RawTable}
-use Rattle.term_sets.specs.TermSets.{AreMinimalOffers}
+use Rattle.term_sets.proofs.Prelude.{subst, RawTable, AreMinimalOffers}
 use Rattle.term_sets.proofs.prepared.Prepared.acceptances.Goals as goal
 
 pub returns : goal.returns

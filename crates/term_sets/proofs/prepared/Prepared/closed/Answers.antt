@@ -1,10 +1,4 @@
-use Rattle.std.proofs.Common.{◌↔◌, ◌<◌, ℕ, List, IsTrue, sym, subst}
-use Rattle.std.specs.List.{All}
-use Rattle.csp_base.specs.Members.{has}
-use Rattle.csp_tables.specs.RawTable.{RawTable}
-use Rattle.digraph.specs.Prelude.{HasArc, ReachesFrom}
-use Rattle.term_sets.specs.Moves.{IsSilentlyReached}
-use Rattle.term_sets.specs.TermSets.{IsTermSet}
+use Rattle.term_sets.proofs.Prelude.{◌↔◌, ◌<◌, ℕ, List, IsTrue, sym, subst, All, has, RawTable, HasArc, ReachesFrom, IsSilentlyReached, IsTermSet}
 use Rattle.term_sets.proofs.Silence.{silently}
 use Rattle.term_sets.proofs.prepared.Prepared.closed.Goals as goal
 

@@ -1,9 +1,4 @@
-use Rattle.std.proofs.Common.{◌↔◌, ◌<◌, ℕ, zero, suc, [], ◌∷◌, IsTrue, length, sym, subst, arith}
-use Rattle.std.specs.List.{All}
-use Rattle.csp_base.specs.Members.{has}
-use Rattle.csp_tables.specs.RawTable.{RawTable}
-use Rattle.term_sets.specs.Moves.{IsSilentlyReached}
-use Rattle.term_sets.specs.TermSets.{IsSetAfter, IsTermSet}
+use Rattle.term_sets.proofs.Prelude.{◌↔◌, ◌<◌, ℕ, zero, suc, [], ◌∷◌, IsTrue, length, sym, subst, arith, All, has, RawTable, IsSilentlyReached, IsSetAfter, IsTermSet}
 use Rattle.term_sets.proofs.Silence.{silently}
 use Rattle.term_sets.proofs.First.{first_after}
 use Rattle.term_sets.proofs.prepared.Prepared.first_set.Goals as goal

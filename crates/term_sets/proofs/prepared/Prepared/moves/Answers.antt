@@ -1,8 +1,5 @@
-use Rattle.std.proofs.Common.{◌≡◌, ℕ, ◌<◌, List, [], get_or, ap, subst, ◌∙◌}
-use Rattle.std.specs.List.{flat_map, All}
+use Rattle.term_sets.proofs.Prelude.{◌≡◌, ℕ, ◌<◌, List, [], get_or, ap, subst, ◌∙◌, flat_map, All, RawTable, AreMovesOf}
 use Rattle.std.proofs.lemmas.Result.{IfOk-weaker}
-use Rattle.csp_tables.specs.RawTable.{RawTable}
-use Rattle.term_sets.specs.Moves.{AreMovesOf}
 use Rattle.term_sets.proofs.MoveLists.{moves_of_terms, moves_within}
 use Rattle.term_sets.proofs.prepared.Prepared.moves.Goals as goal
 
