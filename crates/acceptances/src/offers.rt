@@ -52,10 +52,12 @@ impl<'a> Offers<'a> {
     pub fn minimal(&self, alloc: Global, terms: &[u32]) -> Result<Vec<EventSet>, NoMemory>
         requires { All (λ n. n < self.now.count) terms.now }
         ensures sound { IfOk result (λ sets. All (IsMinimalOffer self.now terms.now) sets.items) }
-        ensures complete { IfOk result (λ sets. (M : List ℕ) → IsMinimalOffer self.now terms.now M → IsListed sets.items M) }
+        ensures complete { IfOk result (λ sets. (M : List ℕ) → IsMinimalOffer self.now terms.now M
+            → IsListed sets.items M) }
 
         // Each stable term among them offers every event of one of the sets.
-        ensures covered { IfOk result (λ sets. (n : ℕ) → IsTrue (has terms.now n) → Stable (RawStep self.now) n → OffersAcceptance (RawStep self.now) n sets.items) }
+        ensures covered { IfOk result (λ sets. (n : ℕ) → IsTrue (has terms.now n) → Stable (RawStep self.now) n
+            → OffersAcceptance (RawStep self.now) n sets.items) }
         ensures rising { IfOk result (λ sets. All IsStrictlyIncreasing sets.items) }
         ensures order { IfOk result (λ sets. IsStrictlySortedBy (slice_cmp nat_cmp) sets.items) }
     {
@@ -100,7 +102,8 @@ fn empty_sets(alloc: Global, count: u32) -> Result<Vec<EventSet>, NoMemory>
 // Adds an event to the set in a place.
 fn insert_at(sets: &mut Vec<EventSet>, place: u32, event: Event) -> Result<(), NoMemory>
     requires { place < length sets.old.items }
-    ensures ok { OnOk result (sets.new.items ≡ slice_set sets.old.items place (with_member event (slice_index_or sets.old.items place []))) }
+    ensures ok { OnOk result (sets.new.items ≡ slice_set sets.old.items place
+        (with_member event (slice_index_or sets.old.items place []))) }
 {
     sets[place as usize].insert(event)?;
     Ok(())

@@ -18,6 +18,7 @@ use Rattle.value_laws.proofs.Fronts.{all_grow}
 use Rattle.value_operators.proofs.Held.{with_member}
 use Rattle.value_operators.proofs.SetSteps.{limited_few}
 use Rattle.csp_values.specs.Worth.{one_more_binding, with_fronts, with_items, yielded}
+use Rattle.dl_limits.specs.declared.TheConstants.{MOST_BINDINGS}
 
 -- ---- members that are added
 
@@ -114,7 +115,7 @@ pub adds_nothing : (p : Content) (n : ℕ) (items : List Expr) (parts : List Eve
     → one_more_binding p n items parts env state ≡ gathered (λ _ atoms. Ok atoms) [] state
 unfolding one_more_binding
 adds_nothing p n items parts env state h =
-    ap (λ o. if nat_lt state.bindings 1048576 then and_then o (λ atoms. Ok (record { bindings = state.bindings + 1; atoms = atoms })) else Err SetLimit) h
+    ap (λ o. if nat_lt state.bindings MOST_BINDINGS then and_then o (λ atoms. Ok (record { bindings = state.bindings + 1; atoms = atoms })) else Err SetLimit) h
 
 binding_adds : (b : Bool) (o : Outcome (List Atom)) (k : ℕ) (next : Gathered) → (if b then and_then o (λ atoms. Ok (record { bindings = k; atoms = atoms })) else Err SetLimit) ≡ Ok next
     → o ≡ Ok next.atoms
@@ -128,4 +129,4 @@ pub there_after : (p : Content) (n : ℕ) (items : List Expr) (parts : List Even
 unfolding one_more_binding
 there_after p n items parts env state next set h =
     yielded_again p n items parts env state.atoms next.atoms set
-    (binding_adds (nat_lt state.bindings 1048576) (yielded p n items parts env state.atoms) (state.bindings + 1) next h)
+    (binding_adds (nat_lt state.bindings MOST_BINDINGS) (yielded p n items parts env state.atoms) (state.bindings + 1) next h)

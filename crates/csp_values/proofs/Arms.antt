@@ -30,6 +30,7 @@ use Rattle.csp_values.specs.declared.walk.Walk.{Walk}
 use Rattle.csp_values.proofs.Equations as eq
 use Rattle.csp_values.proofs.FieldSteps.{front_fits}
 use Rattle.csp_program.proofs.Outcomes.{and_then_regroup}
+use Rattle.dl_limits.specs.declared.TheConstants.{MOST_BINDINGS}
 
 pub same : {A : Type 0} (r : Result A EvalFault) (o o' : Outcome A) → o ≡ o' → Gives r o' → Gives r o
 same r o o' is h = subst (Gives r) (sym is) h
@@ -201,7 +202,7 @@ module _ (p : Content) (n : ℕ) (env : Env) (channels : List Channel) (got : ch
       (ap (front_worth p n env (out-EventPart part).channel) (sym got_fields) ∙ bad)
 
 -- one more binding
-module _ (p : Content) (n : ℕ) (items : List Expr) (parts : List EventPart) (env : Env) (state : Gathered) (room : state.bindings < 1048576) where
+module _ (p : Content) (n : ℕ) (items : List Expr) (parts : List EventPart) (env : Env) (state : Gathered) (room : state.bindings < MOST_BINDINGS) where
   pub binding_item_fault : (k : ValueKind) → with_items p n env items state.atoms ≡ Err k → one_more_binding p n items parts env state ≡ Err k
   binding_item_fault k bad =
       eq.binding-room p n items parts env state room ∙

@@ -25,6 +25,7 @@ use Rattle.csp_program.specs.declared.programs.Body.TheVariants as body
 use Rattle.value_operators.specs.Forms.{gathered_set, nothing_yet, count_with, produced}
 use Rattle.value_operators.specs.Forms as form
 use Rattle.csp_values.specs.Worth.{worth, worths, use_worth, body_worth, with_items, event_worth, fields_worth, front_worth, with_front, with_fronts, yielded, one_more_binding, walk_worth}
+use Rattle.dl_limits.specs.declared.TheConstants.{MOST_BINDINGS}
 
 -- what a form comes to, in terms of its parts
 pub at : (p : Content) (n : ℕ) (env : Env) (e : Expr) (d : Expr-F Expr Gen EventPart) → roll-Expr d ≡ e
@@ -204,20 +205,20 @@ unfolding body_worth
 body-Network p n def args q is = ap (λ b. body_value (meaning (uses_within p n) p.channels) def.params b args) is
 
 -- one more binding
-no_room : (b : ℕ) → 1048576 ≤ b → nat_lt b 1048576 ≡ false
+no_room : (b : ℕ) → MOST_BINDINGS ≤ b → nat_lt b MOST_BINDINGS ≡ false
 no_room b h = grind arith
 
-room : (b : ℕ) → b < 1048576 → nat_lt b 1048576 ≡ true
+room : (b : ℕ) → b < MOST_BINDINGS → nat_lt b MOST_BINDINGS ≡ true
 room b h = grind arith
 
 abbrev counted : ℕ → Outcome (List Atom) → Outcome Gathered
 counted b o = and_then o (λ atoms. Ok (record { bindings = b + 1; atoms = atoms }))
 
-pub binding-full : (p : Content) (n : ℕ) (items : List Expr) (parts : List EventPart) (env : Env) (state : Gathered) → 1048576 ≤ state.bindings → one_more_binding p n items parts env state ≡ Err SetLimit
+pub binding-full : (p : Content) (n : ℕ) (items : List Expr) (parts : List EventPart) (env : Env) (state : Gathered) → MOST_BINDINGS ≤ state.bindings → one_more_binding p n items parts env state ≡ Err SetLimit
 unfolding one_more_binding
 binding-full p n items parts env state h = ap (λ b. cond b (counted state.bindings (yielded p n items parts env state.atoms)) (Err SetLimit)) (no_room state.bindings h)
 
-pub binding-room : (p : Content) (n : ℕ) (items : List Expr) (parts : List EventPart) (env : Env) (state : Gathered) → state.bindings < 1048576
+pub binding-room : (p : Content) (n : ℕ) (items : List Expr) (parts : List EventPart) (env : Env) (state : Gathered) → state.bindings < MOST_BINDINGS
     → one_more_binding p n items parts env state ≡ and_then (and_then (with_items p n env items state.atoms) (λ more. with_fronts p n env parts more)) (λ atoms. Ok (record { bindings = state.bindings + 1; atoms = atoms }))
 unfolding one_more_binding
 binding-room p n items parts env state h = ap (λ b. cond b (counted state.bindings (yielded p n items parts env state.atoms)) (Err SetLimit)) (room state.bindings h)

@@ -28,6 +28,7 @@ use Rattle.csp_values.specs.declared.walk.Walk.{Walk}
 use Rattle.csp_values.proofs.Arms as arm
 use Rattle.csp_values.proofs.Courses.{over_begun, over_course}
 use Rattle.csp_values.proofs.Equations.{front-is, fronts-cons, turn-Cond, turn-From}
+use Rattle.dl_limits.specs.declared.TheConstants.{MOST_BINDINGS}
 
 -- lists by their first member
 pub first_has : {A : Type 0} (P : A → Type 0) (x : A) (xs : List A) → All P (x ∷ xs) → P x
@@ -219,7 +220,7 @@ pub once_begun : (p : Content) (n : ℕ) (gens : List Gen) (items : List Expr) (
 unfolding walk_worth one_more_binding
 once_begun p n gens items parts around params walk state all_items all_parts is =
     once p n gens (gathered (yielded p n items parts)) (with_bound around params)
-    (λ env agree st i. if nat_lt st.bindings 1048576 then and_then (yields env agree st.atoms i) (λ atoms. Ok (record { bindings = st.bindings + 1; atoms = atoms })) else Err SetLimit)
+    (λ env agree st i. if nat_lt st.bindings MOST_BINDINGS then and_then (yields env agree st.atoms i) (λ atoms. Ok (record { bindings = st.bindings + 1; atoms = atoms })) else Err SetLimit)
     gens (λ x free. free) (with_bound around params) (λ x free. refl) state ∙
     over_begun (λ _. gathered (yielded p n items parts) (with_bound around params)) p n gens around params walk state is
   where

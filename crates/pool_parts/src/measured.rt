@@ -74,7 +74,8 @@ fn of_both(a: &Boxed<Expr>, b: &Boxed<Expr>) -> Measure
 // What the parts of a comprehension measure together.
 #[cycle(of_expr)]
 fn of_comprehension(items: &Items<Expr>, gens: &Items<Gen>) -> Measure
-    ensures depth { result.depth ≡ capped (max (greatest (map expr_depth items.now)) (greatest (map gen_depth gens.now))) }
+    ensures depth { result.depth
+        ≡ capped (max (greatest (map expr_depth items.now)) (greatest (map gen_depth gens.now))) }
     ensures size { result.size ≡ capped (total (map expr_size items.now) + total (map gen_size gens.now)) }
     ensures low { IsLow result.least (under (map gen_binding gens.now) (any_of (map expr_free items.now))) }
 {
@@ -84,7 +85,8 @@ fn of_comprehension(items: &Items<Expr>, gens: &Items<Gen>) -> Measure
 // What the parts of a production measure together.
 #[cycle(of_expr)]
 fn of_production(parts: &Items<EventPart>, gens: &Items<Gen>) -> Measure
-    ensures depth { result.depth ≡ capped (max (greatest (map part_depth parts.now)) (greatest (map gen_depth gens.now))) }
+    ensures depth { result.depth
+        ≡ capped (max (greatest (map part_depth parts.now)) (greatest (map gen_depth gens.now))) }
     ensures size { result.size ≡ capped (total (map part_size parts.now) + total (map gen_size gens.now)) }
     ensures low { IsLow result.least (under (map gen_binding gens.now) (any_of (map part_free parts.now))) }
 {

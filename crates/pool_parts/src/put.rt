@@ -30,7 +30,8 @@ pub fn put_values<T: Put>(
     values: &Values<'_>,
 ) -> Result<usize, NoMemory>
     requires { place < length store.old }
-    ensures made { (other : T) → IfOk result (λ made. slice_get store.new made ≡ Some (T.with (given_by values.now) (slice_index_or store.old place other))) }
+    ensures made { (other : T) → IfOk result (λ made. slice_get store.new made
+        ≡ Some (T.with (given_by values.now) (slice_index_or store.old place other))) }
     ensures start { IsStart store.old store.new }
 {
     if values.are_below(store.measure(place).least) {

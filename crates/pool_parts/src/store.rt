@@ -121,7 +121,8 @@ impl<T: Part> Store<T> {
 
     /// The number of a part that was made, which is kept itself where it is new; none where it was not made.
     pub fn keep_made(&mut self, made: Result<T, NoMemory>) -> Result<usize, NoMemory>
-        ensures place { (part : T) → IfOk made (λ it. it ≡ part) → IfOk result (λ place. slice_get self.new place ≡ Some part) }
+        ensures place { (part : T) → IfOk made (λ it. it ≡ part)
+            → IfOk result (λ place. slice_get self.new place ≡ Some part) }
         ensures start { IsStart self.old self.new }
         ensures once { EachOnce self.new }
         ensures err_only_new { OnErr result (IfOk made (λ part. IsAbsent self.old part)) }
@@ -212,7 +213,8 @@ fn keep_made_in<T: Part>(
 ) -> Result<usize, NoMemory>
     requires noted { AreNoted T.depth T.size T.free notes.old parts.old }
     ensures noted { AreNoted T.depth T.size T.free notes.new parts.new }
-    ensures place { (part : T) → IfOk made (λ it. it ≡ part) → IfOk result (λ place. slice_get parts.new place ≡ Some part) }
+    ensures place { (part : T) → IfOk made (λ it. it ≡ part)
+        → IfOk result (λ place. slice_get parts.new place ≡ Some part) }
     ensures start { IsStart parts.old parts.new }
     ensures once { EachOnce parts.new }
     ensures err_only_new { OnErr result (IfOk made (λ part. IsAbsent parts.old part)) }
@@ -245,7 +247,8 @@ fn number<T: Part>(parts: &mut Numbering<T, QuickKey>, part: T) -> Result<usize,
     ensures place { IfOk result (λ place. slice_get parts.new place ≡ Some part) }
     ensures start { IsStart parts.old parts.new }
     ensures once { EachOnce parts.new }
-    ensures noted { (notes : List Measure) → AreNoted T.depth T.size T.free notes parts.old → AreNoted T.depth T.size T.free notes parts.new }
+    ensures noted { (notes : List Measure) → AreNoted T.depth T.size T.free notes parts.old
+        → AreNoted T.depth T.size T.free notes parts.new }
     ensures err_only_new { OnErr result (IsAbsent parts.old part) }
 {
     let number = parts.number(part);

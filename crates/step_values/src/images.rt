@@ -39,7 +39,8 @@ fn keep(
     event: Event,
     events: Items<Event>,
 ) -> Result<(), NoMemory>
-    ensures { OnOk result ((e : ℕ) → kept_for by_event.new e ≡ (if nat_eq event e then events else kept_for by_event.old e)) }
+    ensures { OnOk result ((e : ℕ) → kept_for by_event.new e
+        ≡ (if nat_eq event e then events else kept_for by_event.old e)) }
 {
     match by_event.insert(event.0, events) {
         Ok(_) => Ok(()),
@@ -54,7 +55,8 @@ fn add_new(
     old: Event,
     new: Event,
 ) -> Result<(), NoMemory>
-    ensures { OnOk result ((e : ℕ) → kept_for by_event.new e ≡ kept_for by_event.old e ++ (if nat_eq old e then new ∷ [] else [])) }
+    ensures { OnOk result ((e : ℕ) → kept_for by_event.new e
+        ≡ kept_for by_event.old e ++ (if nat_eq old e then new ∷ [] else [])) }
 {
     let mut events = take_out(alloc, by_event, old);
     events.push(new)?;

@@ -125,7 +125,8 @@ fn new_of(
     new: &NewSide<'_>,
     info: &EventInfo,
 ) -> Result<Event, EvalFault>
-    ensures { Gives result (new_event program.now new.now.channel new.now.values.now (drop new.now.given info.now.fields)) }
+    ensures { Gives result (new_event program.now new.now.channel new.now.values.now
+        (drop new.now.given info.now.fields)) }
 {
     let rest = fields_from(info.fields.as_slice(), new.given);
     let fields = literals_then(alloc, new.values, rest)?;
@@ -143,7 +144,9 @@ fn add_event(
     renamed: Items<(Event, Event)>,
 ) -> Result<Items<(Event, Event)>, EvalFault>
     requires { first + place < 2 ^ 32 }
-    ensures { Gives result (and_then (renamed_as (new_event program.now new.now.channel new.now.values.now) new.now.given (first + place) info.now) (λ more. Ok (renamed ++ more))) }
+    ensures { Gives result
+        (and_then (renamed_as (new_event program.now new.now.channel new.now.values.now) new.now.given
+        (first + place) info.now) (λ more. Ok (renamed ++ more))) }
 {
     let becomes = new_of(alloc, program, new, info)?;
     let mut renamed = renamed;
@@ -161,7 +164,11 @@ fn add_events(
     renamed: Items<(Event, Event)>,
 ) -> Result<Items<(Event, Event)>, EvalFault>
     requires { first + length events.now ≤ 2 ^ 32 }
-    ensures { Gives result (and_then (each_joined (renamed_as (new_event program.now new.now.channel new.now.values.now) new.now.given) first events.now) (λ more. Ok (renamed ++ more))) }
+    ensures { Gives result
+        (and_then
+        (each_joined
+        (renamed_as (new_event program.now new.now.channel new.now.values.now) new.now.given) first events.now)
+        (λ more. Ok (renamed ++ more))) }
 {
     let mut renamed = renamed;
     for (place, info) in events.iter().enumerate() {

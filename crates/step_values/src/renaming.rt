@@ -46,7 +46,8 @@ fn add_pairs(
     bound: &[(u32, Atom)],
     renamed: Items<(Event, Event)>,
 ) -> Result<Items<(Event, Event)>, EvalFault>
-    ensures { Gives result (and_then (meant.pairs_renamed scope.now.program.now (with_bound bound.now []) scope.now.pairs.now) (λ more. Ok (renamed ++ more))) }
+    ensures { Gives result (and_then (meant.pairs_renamed scope.now.program.now
+        (with_bound bound.now []) scope.now.pairs.now) (λ more. Ok (renamed ++ more))) }
 {
     // Its contract says that the program is in order.
     let _ = channels_of(scope.program);
@@ -59,7 +60,8 @@ fn add_pairs(
 
 // One more binding.
 fn gather(scope: &Scope<'_>, bound: &[(u32, Atom)], tally: Tally) -> Result<Tally, EvalFault>
-    ensures { GivesTally result (meant.binding_renamed scope.now.program.now scope.now.pairs.now (with_bound bound.now []) (gathering_of tally)) }
+    ensures { GivesTally result (meant.binding_renamed scope.now.program.now scope.now.pairs.now
+        (with_bound bound.now []) (gathering_of tally)) }
 {
     let Tally { bindings, renamed } = tally;
     if bindings >= MOST_BINDINGS {
@@ -74,7 +76,8 @@ fn gather(scope: &Scope<'_>, bound: &[(u32, Atom)], tally: Tally) -> Result<Tall
 
 // What all bindings of generators rename.
 fn gather_all(scope: &Scope<'_>, gens: &[Gen], tally: Tally) -> Result<Tally, EvalFault>
-    ensures { GivesTally result (renamed_walk scope.now.program.now scope.now.pairs.now gens.now [] (gathering_of tally)) }
+    ensures { GivesTally result (renamed_walk scope.now.program.now scope.now.pairs.now gens.now []
+        (gathering_of tally)) }
 {
     let mut walk = Walk::new(scope.alloc, &[])?;
     let mut tally = tally;

@@ -3,6 +3,7 @@ use Rattle.value_operators.proofs.Prelude.{◌≡◌, ℕ, ◌+◌, ◌≤◌, L
 use Rattle.csp_base.proofs.Booleans.{and_false, or_none, or_regroup, or_swap}
 use Rattle.value_operators.proofs.SetSteps.{limited_few}
 use Rattle.value_operators.proofs.Held.{with_member}
+use Rattle.dl_limits.specs.declared.TheConstants.{MOST_ELEMENTS}
 
 -- an atom that is put into the first part, or into the second, is put into the whole
 pub put_settled : (xs ys : List Atom) (a : Atom) → IsRising ys → union_of (with_atom xs a) ys ≡ with_atom (union_of xs ys) a
@@ -118,7 +119,7 @@ module _ (whole xs ys : List Atom) (is : union_of xs ys ≡ whole) where
   pub one_part : IsRising xs → ys ≡ [] → xs ≡ whole
   one_part rise none = sym (sym is ∙ (ap (union_of xs) none ∙ with_nothing xs rise))
 
-  pub few_limited : length xs + length ys ≤ 16384 → limited whole ≡ Ok whole
+  pub few_limited : length xs + length ys ≤ MOST_ELEMENTS → limited whole ≡ Ok whole
   few_limited few = limited_few whole (let most : length whole ≤ length xs + length ys = subst (λ zs. length zs ≤ length xs + length ys) is (length_union xs ys) in omega arith)
 
   pub refused_settled : (a : Atom) → IsParted xs ys → fits xs a ≡ false → added whole a ≡ Err Kind
@@ -145,5 +146,5 @@ module _ (zs ws xs ys : List Atom) (is : zs ≡ union_of xs ys) (none : ws ≡ [
   pub merged_same : (whole : List Atom) → union_of xs ys ≡ whole → union_of zs ws ≡ whole
   merged_same whole same_whole = merged_whole ∙ same_whole
 
-  pub merged_limited : length zs ≤ 16384 → limited (union_of xs ys) ≡ Ok (union_of zs ws)
-  merged_limited few = limited_few (union_of xs ys) (subst (λ us. length us ≤ 16384) is few) ∙ ap Ok (sym merged_whole)
+  pub merged_limited : length zs ≤ MOST_ELEMENTS → limited (union_of xs ys) ≡ Ok (union_of zs ws)
+  merged_limited few = limited_few (union_of xs ys) (subst (λ us. length us ≤ MOST_ELEMENTS) is few) ∙ ap Ok (sym merged_whole)

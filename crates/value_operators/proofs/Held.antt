@@ -4,6 +4,7 @@ use Rattle.csp_base.proofs.Standard.{false≢true, or_right}
 use Rattle.value_laws.proofs.RowNumbers.{at_place}
 use Rattle.csp_atoms.specs.declared.atom.Atom.TheVariants as atom
 use Rattle.value_operators.proofs.SetSteps.{limited_few}
+use Rattle.dl_limits.specs.declared.TheConstants.{MOST_ELEMENTS}
 
 -- what comes after an event is an event with a higher number
 event_above : (e : ℕ) (y : Atom) → less (atom.Event e) y ≡ true → (d : ℕ) × (y ≡ atom.Event d) × (e < d)
@@ -109,11 +110,11 @@ fits_member (x ∷ xs) a kinds has =
     let same_kinds : kind_of a ≡ kind_of x = kind_of_member (kind_of x) (x ∷ xs) a (refl, kinds) has in
     grind arith
 
-pub member_added : (xs : List Atom) (a : Atom) → IsAtomSet xs → length xs ≤ 16384 → has_atom xs a ≡ true → added xs a ≡ Ok xs
+pub member_added : (xs : List Atom) (a : Atom) → IsAtomSet xs → length xs ≤ MOST_ELEMENTS → has_atom xs a ≡ true → added xs a ≡ Ok xs
 member_added xs a set few has =
     ap (λ b. cond b (limited (with_atom xs a)) (Err Kind)) (fits_member xs a set.1 has) ∙ (ap limited (with_member xs a set.0 has) ∙ limited_few xs few)
 
-members_added : (xs : List Atom) (e n : ℕ) → IsAtomSet xs → length xs ≤ 16384 → ((i : ℕ) → i < n → has_atom xs (atom.Event (e + i)) ≡ true) → all_added xs (events_from e n) ≡ Ok xs
+members_added : (xs : List Atom) (e n : ℕ) → IsAtomSet xs → length xs ≤ MOST_ELEMENTS → ((i : ℕ) → i < n → has_atom xs (atom.Event (e + i)) ≡ true) → all_added xs (events_from e n) ≡ Ok xs
 members_added xs e zero set few has = refl
 members_added xs e (suc n) set few has =
     let first : e + 0 ≡ e = omega arith in
@@ -121,7 +122,7 @@ members_added xs e (suc n) set few has =
     members_added xs (e + 1) n set few (λ i lt. let next : e + 1 + i ≡ e + (i + 1) = omega arith in ap (λ d. has_atom xs (atom.Event d)) next ∙ has (i + 1) (omega arith))
 
 -- events whose first and last stand as far apart in the set as they are
-pub held_added : (xs : List Atom) (first last : Atom) (e n p : ℕ) → IsRising xs → IsOneKind xs → length xs ≤ 16384 → 0 < n → first ≡ atom.Event (e + 0) → last ≡ atom.Event (e + (n - 1))
+pub held_added : (xs : List Atom) (first last : Atom) (e n p : ℕ) → IsRising xs → IsOneKind xs → length xs ≤ MOST_ELEMENTS → 0 < n → first ≡ atom.Event (e + 0) → last ≡ atom.Event (e + (n - 1))
     → place_of xs first ≡ Some p → place_of xs last ≡ Some (p + (n - 1)) → all_added xs (events_from e n) ≡ Ok xs
 held_added xs first last e n p rise kinds few some is_first is_last at_first at_last =
     let here : e ≡ e + 0 = omega arith in

@@ -3,6 +3,7 @@ use Rattle.value_operators.proofs.Prelude.{◌≡◌, ℕ, zero, suc, ◌+◌, �
 use Rattle.csp_atoms.specs.declared.atom.Atom.TheVariants as atom
 use Rattle.csp_base.specs.Lists.{natural}
 use Rattle.value_operators.proofs.Faults.{passed}
+use Rattle.dl_limits.specs.declared.TheConstants.{MOST_ELEMENTS}
 
 -- the atoms of a list, the first of which is added
 abbrev more_of : Outcome (List Atom) → List Atom → Outcome (List Atom)
@@ -46,42 +47,42 @@ pub length_numbers : (m : ℤ) (k : ℕ) → length (numbers_from m k) ≡ k
 length_numbers m zero = refl
 length_numbers m (suc k) = ap suc (length_numbers (m +ℤ pos 1) k)
 
-pub limited_few : (atoms : List Atom) → length atoms ≤ 16384 → limited atoms ≡ Ok atoms
-limited_few atoms h = let t : nat_le (length atoms) 16384 ≡ true = grind arith in ap (λ b. cond b (Ok atoms) (Err SetLimit)) t
+pub limited_few : (atoms : List Atom) → length atoms ≤ MOST_ELEMENTS → limited atoms ≡ Ok atoms
+limited_few atoms h = let t : nat_le (length atoms) MOST_ELEMENTS ≡ true = grind arith in ap (λ b. cond b (Ok atoms) (Err SetLimit)) t
 
-limited_many : (atoms : List Atom) → 16384 < length atoms → limited atoms ≡ Err SetLimit
-limited_many atoms h = let t : nat_le (length atoms) 16384 ≡ false = grind arith in ap (λ b. cond b (Ok atoms) (Err SetLimit)) t
+limited_many : (atoms : List Atom) → MOST_ELEMENTS < length atoms → limited atoms ≡ Err SetLimit
+limited_many atoms h = let t : nat_le (length atoms) MOST_ELEMENTS ≡ false = grind arith in ap (λ b. cond b (Ok atoms) (Err SetLimit)) t
 
-pub added_number : (m x : ℤ) (k : ℕ) (atoms : List Atom) (one : Atom) → atoms ≡ numbers_from m k → one ≡ atom.Num x → x ≡ m +ℤ pos k → k < 16384 → added atoms one ≡ Ok (numbers_from m (k + 1))
+pub added_number : (m x : ℤ) (k : ℕ) (atoms : List Atom) (one : Atom) → atoms ≡ numbers_from m k → one ≡ atom.Num x → x ≡ m +ℤ pos k → k < MOST_ELEMENTS → added atoms one ≡ Ok (numbers_from m (k + 1))
 added_number m x k atoms one is is_one e few =
-    let small : length (numbers_from m (k + 1)) ≤ 16384 = omega (arith, length_numbers m (k + 1)) in
+    let small : length (numbers_from m (k + 1)) ≤ MOST_ELEMENTS = omega (arith, length_numbers m (k + 1)) in
     ap (λ s. added s one) is ∙ (ap (added (numbers_from m k)) is_one ∙ (ap (λ b. cond b (limited (with_atom (numbers_from m k) (atom.Num x))) (Err Kind)) (fits_numbers m k x) ∙
     (ap limited (with_number m k x e ∙ ap (numbers_from m) (sym (add-one k))) ∙ limited_few (numbers_from m (k + 1)) small)))
 
-pub number_next : (m x : ℤ) (k : ℕ) (atoms more : List Atom) (one : Atom) → atoms ≡ numbers_from m k → one ≡ atom.Num x → x ≡ m +ℤ pos k → k < 16384 → added atoms one ≡ Ok more → more ≡ numbers_from m (k + 1)
+pub number_next : (m x : ℤ) (k : ℕ) (atoms more : List Atom) (one : Atom) → atoms ≡ numbers_from m k → one ≡ atom.Num x → x ≡ m +ℤ pos k → k < MOST_ELEMENTS → added atoms one ≡ Ok more → more ≡ numbers_from m (k + 1)
 number_next m x k atoms more one is is_one e few h = let good : added atoms one ≡ Ok (numbers_from m (k + 1)) = added_number m x k atoms one is is_one e few in cc
 
 pub number_fault : (r : Result (List Atom) EvalFault) (f : EvalFault) (m x : ℤ) (k : ℕ) (atoms all : List Atom) (one : Atom)
-    → atoms ≡ numbers_from m k → one ≡ atom.Num x → x ≡ m +ℤ pos k → k < 16384 → IsErrAnd r (λ y. y ≡ f) → Gives {A = List Atom} (Err f) (added atoms one) → Gives r (Ok all)
+    → atoms ≡ numbers_from m k → one ≡ atom.Num x → x ≡ m +ℤ pos k → k < MOST_ELEMENTS → IsErrAnd r (λ y. y ≡ f) → Gives {A = List Atom} (Err f) (added atoms one) → Gives r (Ok all)
 number_fault r f m x k atoms all one is is_one e few failed h =
     passed r f (added atoms one) (Ok all) failed h (λ kind bad. let good : added atoms one ≡ Ok (numbers_from m (k + 1)) = added_number m x k atoms one is is_one e few in cc)
 
-above : (z : ℤ) → pos 16385 ≤ℤ z → 16384 < natural z
+above : (z : ℤ) → pos 16385 ≤ℤ z → MOST_ELEMENTS < natural z
 above (pos n) h = omega (arith, ints)
 above (negsuc n) h = absurd (omega (arith, ints))
 
-far : (m n : ℤ) → pos 16384 ≤ℤ (n -ℤ m) → 16384 < natural (n -ℤ m +ℤ pos 1)
+far : (m n : ℤ) → pos MOST_ELEMENTS ≤ℤ (n -ℤ m) → MOST_ELEMENTS < natural (n -ℤ m +ℤ pos 1)
 far m n h = above (n -ℤ m +ℤ pos 1) (omega (arith, ints))
 
-pub range_far : (m n m' n' : ℤ) → m' ≡ m → n' ≡ n → pos 16384 ≤ℤ (n' -ℤ m') → range m n ≡ Err SetLimit
+pub range_far : (m n m' n' : ℤ) → m' ≡ m → n' ≡ n → pos MOST_ELEMENTS ≤ℤ (n' -ℤ m') → range m n ≡ Err SetLimit
 range_far m n m' n' is_m is_n h =
     let d : ℕ = natural (n -ℤ m +ℤ pos 1) in
-    let many : 16384 < natural (n -ℤ m +ℤ pos 1) = far m n (omega (arith, ints)) in
+    let many : MOST_ELEMENTS < natural (n -ℤ m +ℤ pos 1) = far m n (omega (arith, ints)) in
     limited_many (numbers_from m d) (omega (arith, length_numbers m d))
 
-pub range_near : (r : Result (List Atom) EvalFault) (m n m' n' : ℤ) (d : ℕ) → m' ≡ m → n' ≡ n → (m' +ℤ pos d) ≡ n' → d < 16384 → Gives r (Ok (numbers_from m' (d + 1))) → Gives r (range m n)
+pub range_near : (r : Result (List Atom) EvalFault) (m n m' n' : ℤ) (d : ℕ) → m' ≡ m → n' ≡ n → (m' +ℤ pos d) ≡ n' → d < MOST_ELEMENTS → Gives r (Ok (numbers_from m' (d + 1))) → Gives r (range m n)
 range_near r m n m' n' d is_m is_n e few h =
     let span : n -ℤ m +ℤ pos 1 ≡ pos (d + 1) = omega (arith, ints) in
-    let few_enough : length (numbers_from m (d + 1)) ≤ 16384 = omega (arith, length_numbers m (d + 1)) in
+    let few_enough : length (numbers_from m (d + 1)) ≤ MOST_ELEMENTS = omega (arith, length_numbers m (d + 1)) in
     let is : range m n ≡ Ok (numbers_from m (d + 1)) = ap (λ z. limited (numbers_from m (natural z))) span ∙ limited_few (numbers_from m (d + 1)) few_enough in
     subst (Gives r) (sym is) (subst (λ z. Gives r (Ok (numbers_from z (d + 1)))) is_m h)

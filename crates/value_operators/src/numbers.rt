@@ -73,7 +73,8 @@ pub fn with_field(number: u64, set: &AtomSet, place: u64, each: u64) -> u64
 
 /// The sets of a channel's fields, where it has them.
 pub fn field_sets(channels: &[Channel], channel: u32) -> Option<&[AtomSet]>
-    ensures { MatchOption result (sets_of (slice_get channels.now channel) ≡ None) (λ sets. sets_of (slice_get channels.now channel) ≡ Some sets.now) }
+    ensures { MatchOption result (sets_of (slice_get channels.now channel) ≡ None) (λ sets.
+        sets_of (slice_get channels.now channel) ≡ Some sets.now) }
 {
     match channels.get(channel as usize) {
         Some(channel) => match &channel.fields {

@@ -80,7 +80,8 @@ fn event(first: u32, place: u32) -> Atom
 
 // Whether the second atom stands so many places after the first.
 fn stands_after(atoms: &AtomSet, first: Atom, last: Atom, distance: u64) -> bool
-    ensures { IsTrue result → (p : ℕ) × (place_of atoms.now first ≡ Some p) × (place_of atoms.now last ≡ Some (p + distance)) }
+    ensures { IsTrue result → (p : ℕ) × (place_of atoms.now first ≡ Some p)
+        × (place_of atoms.now last ≡ Some (p + distance)) }
 {
     let Some(low) = atoms.place_of(first) else {
         return false;
@@ -216,7 +217,8 @@ fn numbers_on(alloc: Global, first: i64, count: u16) -> Result<AtomSet, EvalFaul
 // How far `last` is from `first`, if that is not too far for a set.
 fn distance(first: i64, last: i64) -> Option<u16>
     requires { first ≤ℤ last }
-    ensures { MatchOption result (pos MOST_ELEMENTS ≤ℤ (last -ℤ first)) (λ d. ((first +ℤ pos d) ≡ last) × (d < MOST_ELEMENTS)) }
+    ensures { MatchOption result (pos MOST_ELEMENTS ≤ℤ (last -ℤ first)) (λ d. ((first +ℤ pos d) ≡ last)
+        × (d < MOST_ELEMENTS)) }
 {
     match last.checked_sub(first) {
         Some(distance) => {
