@@ -14,7 +14,7 @@ use report::{Done, Halt, Side, refused};
 use std::alloc::Global;
 
 /// Whether the network conforms to its specification, component by component; and what is told where it does not.
-pub fn compared(alloc: Global, network: &Spelled, specified: &Spelled) -> Result<Done, Halt>
+pub fn compare_networks(alloc: Global, network: &Spelled, specified: &Spelled) -> Result<Done, Halt>
     ensures { Answers (IsCompared network.now specified.now) result }
 {
     check_events(alloc, network.program(), specified.program())?;

@@ -9,5 +9,5 @@ mod events;
 mod laws;
 mod names;
 
-pub use comparing::compared;
+pub use comparing::compare_networks;
 pub use laws::comparison_is_exact;

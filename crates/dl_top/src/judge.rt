@@ -17,13 +17,13 @@ ghost use Rattle.dl_top.specs.Proved.{SpellsDeadlockFree};
 ghost use Rattle.dl_top.specs.Ran.{SpellsRun};
 
 use command_words::Job;
-use comparison::compared;
+use comparison::compare_networks;
 use containers::Key;
 use csp_base::{NoMemory, Stop};
 use csp_parser::{each_text_spells_one_script, read};
 use csp_text::{ParseFault, Script};
 use judgement::judge_by;
-use livelock::bounded;
+use livelock::bound_hidden;
 use network_stages::{Spelled, spell_network};
 use network_walks::walk_network;
 use report::{Answer, Done, Halt, Side, TextFault, ended, finished};
@@ -77,7 +77,7 @@ fn decide_job(alloc: Global, job: &Job, network: &Spelled) -> Result<Done, Halt>
         Job::Check(rule) => judge_by(alloc, *rule, network),
         Job::Table(index) => tabulate(alloc, *index, network),
         Job::Run { seed, steps } => walk_network(alloc, network, *seed, *steps),
-        Job::Livelock(set) => bounded(alloc, network, set.as_slice()),
+        Job::Livelock(set) => bound_hidden(alloc, network, set.as_slice()),
     }
 }
 
@@ -155,7 +155,7 @@ fn compared_texts(alloc: Global, text: &[u8], specification: &[u8]) -> Result<An
 {
     let network = spell(alloc, Side::Script, text)?;
     let specified = spell(alloc, Side::Specification, specification)?;
-    let verdict = finished(compared(alloc, &network, &specified))?;
+    let verdict = finished(compare_networks(alloc, &network, &specified))?;
     Ok(Answer::Decided(network.into_program(), verdict))
 }
 

@@ -15,7 +15,7 @@ use report::{Done, Halt, Refusal, Shortfall, Side, Verdict};
 use std::alloc::Global;
 
 // The verdict on a network that has no bound.
-fn unbounded(fault: LoopFault) -> Verdict
+fn no_order(fault: LoopFault) -> Verdict
     ensures { result ≡ verdict_of fault }
 {
     match fault {
@@ -34,7 +34,7 @@ fn no_bound(why: Stop<LoopFault>) -> Halt
 {
     match why {
         Stop::NoMemory => Halt::NoMemory,
-        Stop::Told(fault) => Halt::Told(unbounded(fault)),
+        Stop::Told(fault) => Halt::Told(no_order(fault)),
     }
 }
 
@@ -67,7 +67,7 @@ fn bound_with(alloc: Global, tabled: &Tabled<'_>, events: &EventSet) -> Result<D
 }
 
 /// The bound on the hidden events of a network, where the events of the set with this name are hidden.
-pub fn bounded(alloc: Global, network: &Spelled, name: &[u8]) -> Result<Done, Halt>
+pub fn bound_hidden(alloc: Global, network: &Spelled, name: &[u8]) -> Result<Done, Halt>
     ensures { Answers (IsBounded network.now name.now) result }
 {
     let expr = expression_named(network.program(), name)?;

@@ -5,5 +5,5 @@ mod bounding;
 mod laws;
 mod named;
 
-pub use bounding::bounded;
+pub use bounding::bound_hidden;
 pub use laws::verdicts_agree;

@@ -19,4 +19,4 @@ returns c =
     let network = c.in_ok-network.network in
     let specified = c.in_ok-specified.specified in
     compares c.args.text.now c.args.specification.now network specified c.in_ok-verdict.verdict c.into_program.result c.in_ok-network.ensures.ok c.in_ok-specified.ensures.ok c.into_program.ensures
-    (is_verdict (IsCompared network specified) c.compared.result c.in_ok-verdict.verdict c.compared.ensures c.in_ok-verdict.ensures)
+    (is_verdict (IsCompared network specified) c.compare_networks.result c.in_ok-verdict.verdict c.compare_networks.ensures c.in_ok-verdict.ensures)

@@ -1,5 +1,5 @@
 use Rattle.livelock.proofs.Prelude.{rules, subst, Network, at_refusal, goes_on, Answers, IsBounded, OrderDecides}
-use Rattle.livelock.proofs.bounding.bounded.Goals as goal
+use Rattle.livelock.proofs.bounding.bound_hidden.Goals as goal
 
 pub returns-in_err-expr : goal.returns-in_err-expr
 unfolding IsBounded

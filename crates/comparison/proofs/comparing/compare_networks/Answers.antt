@@ -1,7 +1,7 @@
 use Rattle.comparison.proofs.Prelude.{rules, at_refusal, at_shortfall, goes_on, passed, ConformanceDecides, IsCompared, PartsOr, ComponentsConform}
 use Rattle.comparison.proofs.Components.{inherits}
 use Rattle.comparison.proofs.Walk.{at_parts, past_agreement, past_parts}
-use Rattle.comparison.proofs.comparing.compared.Goals as goal
+use Rattle.comparison.proofs.comparing.compare_networks.Goals as goal
 
 pub returns-in_err-check_events : goal.returns-in_err-check_events
 unfolding IsCompared
