@@ -7,24 +7,18 @@ ghost use Rattle.tree_parser.specs.Reads.{Reads, part_read};
 use crate::expected::expect_only;
 use crate::expressions::expression;
 use crate::lists::{conditions, gens, item, items, parts};
-use crate::nodes;
+use crate::nodes::{self, TreeReading, Trees};
 use crate::processes::tree;
-use containers::Items;
 use csp_base::{Name, SetOp};
 use csp_text::{Symbol, Token, Tree};
 use std::alloc::Global;
-use tree_reading::deep::{Deep, DeepTree};
+use tree_reading::deep::Deep;
 use tree_reading::limits::Limits;
 use tree_reading::look::{AtomStart, atom_start, expect, skip};
-use tree_reading::read::{Binding, Read, Reading};
+use tree_reading::read::{Binding, Read};
 
 // A leaf, which is read.
-fn leaf<'t>(
-    alloc: Global,
-    limits: Limits,
-    tree: Deep<Tree>,
-    tokens: &'t [Token],
-) -> Reading<'t, DeepTree>
+fn leaf(alloc: Global, limits: Limits, tree: Deep<Tree>, tokens: &[Token]) -> TreeReading<'_>
     ensures reads { Reads result part_read 0 (λ L. read_atom_rest L limits (AtomStart.Leaf tree) tokens.now) }
     ensures shorter { IfOk result (λ r. length r.rest.now ≤ length tokens.now) }
 {
@@ -35,7 +29,7 @@ fn leaf<'t>(
 
 // What stands behind the parenthesis of a call.
 #[cycle(reading)]
-fn call<'t>(alloc: Global, limits: Limits, name: Name, tokens: &'t [Token]) -> Reading<'t, DeepTree>
+fn call(alloc: Global, limits: Limits, name: Name, tokens: &[Token]) -> TreeReading<'_>
     ensures reads { Reads result part_read (8 * length tokens.now + 3) (λ L. read_call L limits name tokens.now) }
     ensures shorter { IfOk result (λ r. length r.rest.now < length tokens.now) }
 {
@@ -47,12 +41,7 @@ fn call<'t>(alloc: Global, limits: Limits, name: Name, tokens: &'t [Token]) -> R
 
 // What stands behind the word of an operator on sets.
 #[cycle(reading)]
-fn set_operator<'t>(
-    alloc: Global,
-    limits: Limits,
-    op: SetOp,
-    tokens: &'t [Token],
-) -> Reading<'t, DeepTree>
+fn set_operator(alloc: Global, limits: Limits, op: SetOp, tokens: &[Token]) -> TreeReading<'_>
     ensures reads { Reads result part_read (8 * length tokens.now) (λ L. read_set_operator L limits op tokens.now) }
     ensures shorter { IfOk result (λ r. length r.rest.now < length tokens.now) }
 {
@@ -67,13 +56,13 @@ fn set_operator<'t>(
 
 // The upper bound of a range, behind the lower one.
 #[cycle(reading)]
-fn range<'t>(
+fn range(
     alloc: Global,
     limits: Limits,
     binding: Binding,
-    items: Deep<Items<Tree>>,
-    tokens: &'t [Token],
-) -> Reading<'t, DeepTree>
+    items: Trees,
+    tokens: &[Token],
+) -> TreeReading<'_>
     ensures reads { Reads result part_read (8 * length tokens.now + 2)
         (λ L. read_range L limits binding items tokens.now) }
     ensures shorter { IfOk result (λ r. length r.rest.now < length tokens.now) }
@@ -88,12 +77,7 @@ fn range<'t>(
 
 // The generators of a comprehension of these items.
 #[cycle(reading)]
-fn comprehension<'t>(
-    alloc: Global,
-    limits: Limits,
-    items: Deep<Items<Tree>>,
-    tokens: &'t [Token],
-) -> Reading<'t, DeepTree>
+fn comprehension(alloc: Global, limits: Limits, items: Trees, tokens: &[Token]) -> TreeReading<'_>
     ensures reads { Reads result part_read (8 * length tokens.now + 3)
         (λ L. read_comprehension L limits items tokens.now) }
     ensures shorter { IfOk result (λ r. length r.rest.now < length tokens.now) }
@@ -106,7 +90,7 @@ fn comprehension<'t>(
 
 // What stands behind the brace of a set with items.
 #[cycle(reading)]
-fn filled<'t>(alloc: Global, limits: Limits, tokens: &'t [Token]) -> Reading<'t, DeepTree>
+fn filled(alloc: Global, limits: Limits, tokens: &[Token]) -> TreeReading<'_>
     ensures reads { Reads result part_read (8 * length tokens.now + 3) (λ L. read_filled L limits tokens.now) }
     ensures shorter { IfOk result (λ r. length r.rest.now < length tokens.now) }
 {
@@ -124,7 +108,7 @@ fn filled<'t>(alloc: Global, limits: Limits, tokens: &'t [Token]) -> Reading<'t,
 
 // What stands behind the brace of a set.
 #[cycle(reading)]
-fn set<'t>(alloc: Global, limits: Limits, tokens: &'t [Token]) -> Reading<'t, DeepTree>
+fn set(alloc: Global, limits: Limits, tokens: &[Token]) -> TreeReading<'_>
     ensures reads { Reads result part_read (8 * length tokens.now + 3) (λ L. read_set L limits tokens.now) }
     ensures shorter { IfOk result (λ r. length r.rest.now < length tokens.now) }
 {
@@ -139,7 +123,7 @@ fn set<'t>(alloc: Global, limits: Limits, tokens: &'t [Token]) -> Reading<'t, De
 
 // What stands behind the bracket of a production.
 #[cycle(reading)]
-fn product<'t>(alloc: Global, limits: Limits, tokens: &'t [Token]) -> Reading<'t, DeepTree>
+fn product(alloc: Global, limits: Limits, tokens: &[Token]) -> TreeReading<'_>
     ensures reads { Reads result part_read (8 * length tokens.now + 1) (λ L. read_product L limits tokens.now) }
     ensures shorter { IfOk result (λ r. length r.rest.now < length tokens.now) }
 {
@@ -152,26 +136,19 @@ fn product<'t>(alloc: Global, limits: Limits, tokens: &'t [Token]) -> Reading<'t
 
 // The tree in parentheses, behind the first of them.
 #[cycle(reading)]
-fn parentheses<'t>(alloc: Global, limits: Limits, tokens: &'t [Token]) -> Reading<'t, DeepTree>
+fn parentheses(alloc: Global, limits: Limits, tokens: &[Token]) -> TreeReading<'_>
     ensures reads { Reads result part_read (8 * length tokens.now + 5) (λ L. read_parentheses L limits tokens.now) }
     ensures shorter { IfOk result (λ r. length r.rest.now < length tokens.now) }
 {
     let inner = tree(alloc, limits, tokens)?;
     let rest = expect(inner.rest, Symbol::CloseParen)?;
-    Ok(Read {
-        part: inner.part,
-        rest,
-    })
+    let part = inner.part;
+    Ok(Read { part, rest })
 }
 
 // The rest of an atom.
 #[cycle(reading)]
-fn atom_rest<'t>(
-    alloc: Global,
-    limits: Limits,
-    start: AtomStart,
-    tokens: &'t [Token],
-) -> Reading<'t, DeepTree>
+fn atom_rest(alloc: Global, limits: Limits, start: AtomStart, tokens: &[Token]) -> TreeReading<'_>
     ensures reads { Reads result part_read (8 * length tokens.now + 5) (λ L. read_atom_rest L limits start tokens.now) }
     ensures shorter { IfOk result (λ r. length r.rest.now ≤ length tokens.now) }
 {
@@ -203,7 +180,7 @@ fn atom_rest<'t>(
 /// The atom at the front of the tokens, within the limits.
 #[cycle(reading)]
 #[tactic(auto, using(crate::proofs::Counted::atom_counted))]
-pub fn atom<'t>(alloc: Global, limits: Limits, tokens: &'t [Token]) -> Reading<'t, DeepTree>
+pub fn atom(alloc: Global, limits: Limits, tokens: &[Token]) -> TreeReading<'_>
     ensures reads { Reads result part_read (8 * length tokens.now + 1) (λ L. L.atom limits tokens.now) }
     ensures shorter { IfOk result (λ r. length r.rest.now < length tokens.now) }
 {

@@ -7,25 +7,20 @@ ghost use Rattle.tree_parser.specs.Reads.{Reads, bound_read, field_read, next_fi
 use crate::atoms::atom;
 use crate::expected::expect_dotted;
 use crate::expressions::expression;
-use crate::nodes;
+use crate::nodes::{self, BoundTree, Fields};
 use crate::processes::prefix;
-use containers::Items;
 use csp_base::Name;
 use csp_text::{FieldTree, Symbol, Token};
 use std::alloc::Global;
-use tree_reading::deep::{Deep, DeepTree};
+use tree_reading::deep::Deep;
 use tree_reading::fault::{ReadFault, expect_true};
 use tree_reading::limits::Limits;
 use tree_reading::look::{expect_name, skip};
-use tree_reading::read::{Binding, BoundRead, BoundReading, Read, Reading};
+use tree_reading::read::{Binding, BoundRead, Read, Reading};
 
 // An input behind `?`.
 #[cycle(reading)]
-fn input<'t>(
-    alloc: Global,
-    limits: Limits,
-    tokens: &'t [Token],
-) -> Reading<'t, (Deep<FieldTree>, bool)>
+fn input(alloc: Global, limits: Limits, tokens: &[Token]) -> Reading<'_, (Deep<FieldTree>, bool)>
     ensures reads { Reads result field_read (8 * length tokens.now) (λ L. read_input L limits tokens.now) }
     ensures shorter { IfOk result (λ r. length r.rest.now < length tokens.now) }
 {
@@ -47,12 +42,12 @@ fn input<'t>(
 
 // The next field, if there is one, and whether one with a dot may follow it.
 #[cycle(reading)]
-fn field<'t>(
+fn field(
     alloc: Global,
     limits: Limits,
     dot: bool,
-    tokens: &'t [Token],
-) -> Result<Option<Read<'t, (Deep<FieldTree>, bool)>>, ReadFault>
+    tokens: &[Token],
+) -> Result<Option<Read<'_, (Deep<FieldTree>, bool)>>, ReadFault>
     ensures reads { Reads result next_field (8 * length tokens.now) (λ L. read_field L limits dot tokens.now) }
     ensures shorter { IfOk result (λ o. IfSome o (λ r. length r.rest.now < length tokens.now)) }
 {
@@ -82,12 +77,7 @@ fn field<'t>(
 
 // The fields of an event.
 #[cycle(reading)]
-fn fields<'t>(
-    alloc: Global,
-    limits: Limits,
-    dot: bool,
-    tokens: &'t [Token],
-) -> Reading<'t, Deep<Items<FieldTree>>>
+fn fields(alloc: Global, limits: Limits, dot: bool, tokens: &[Token]) -> Reading<'_, Fields>
     ensures reads { Reads result part_read (8 * length tokens.now + 1) (λ L. L.fields limits dot tokens.now) }
     ensures shorter { IfOk result (λ r. length r.rest.now ≤ length tokens.now) }
 {
@@ -113,13 +103,13 @@ fn fields<'t>(
 
 // An event with what stands behind its arrow.
 #[cycle(reading)]
-fn prefixed<'t>(
+fn prefixed(
     alloc: Global,
     limits: Limits,
     name: Name,
-    fields: Deep<Items<FieldTree>>,
-    tokens: &'t [Token],
-) -> BoundReading<'t, DeepTree>
+    fields: Fields,
+    tokens: &[Token],
+) -> BoundTree<'_>
     ensures reads { Reads result bound_read (8 * length tokens.now + 3)
         (λ L. read_prefixed L limits name fields tokens.now) }
     ensures shorter { IfOk result (λ r. length r.rest.now < length tokens.now) }
@@ -136,11 +126,7 @@ fn prefixed<'t>(
 
 // An event of a prefix, or a dotted event.
 #[cycle(reading)]
-pub(crate) fn event<'t>(
-    alloc: Global,
-    limits: Limits,
-    tokens: &'t [Token],
-) -> BoundReading<'t, DeepTree>
+pub(crate) fn event(alloc: Global, limits: Limits, tokens: &[Token]) -> BoundTree<'_>
     ensures reads { Reads result bound_read (8 * length tokens.now) (λ L. read_event L limits tokens.now) }
     ensures shorter { IfOk result (λ r. length r.rest.now < length tokens.now) }
 {

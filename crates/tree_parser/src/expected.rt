@@ -5,7 +5,7 @@ ghost use Rattle.csp_text.specs.Depth.{capped, tree_depth};
 ghost use Rattle.csp_grammar.specs.Reader.{and_then, dotted_tree, only};
 ghost use Rattle.tree_reading.specs.Prelude.{Gives, dot_field, dot_fields, dotted_fields};
 
-use crate::nodes;
+use crate::nodes::{self, Fields, Trees};
 use containers::{Boxed, Items};
 use csp_base::Name;
 use csp_text::{FieldTree, Token, Tree};
@@ -13,13 +13,11 @@ use std::alloc::Global;
 use tree_reading::deep::{Deep, DeepTree};
 use tree_reading::fault::{ReadFault, stopped};
 
+// A tree of which something is expected.
+type Expected = Result<DeepTree, ReadFault>;
+
 // The dotted event of a name and its fields, of which there has to be one.
-pub(crate) fn expect_fields(
-    alloc: Global,
-    name: Name,
-    fields: Deep<Items<Tree>>,
-    tokens: &[Token],
-) -> Result<DeepTree, ReadFault>
+pub(crate) fn expect_fields(alloc: Global, name: Name, fields: Trees, tokens: &[Token]) -> Expected
     ensures { Gives result (λ t. t) (dotted_tree name fields) }
 {
     if fields.get().is_empty() {
@@ -30,7 +28,7 @@ pub(crate) fn expect_fields(
 }
 
 // The one item that there is.
-fn alone(alloc: Global, item: Tree, depth: u32) -> Result<DeepTree, ReadFault>
+fn alone(alloc: Global, item: Tree, depth: u32) -> Expected
     requires { depth ≡ capped (tree_depth item) }
     ensures { Gives result (λ t. t) (Some item) }
 {
@@ -39,11 +37,7 @@ fn alone(alloc: Global, item: Tree, depth: u32) -> Result<DeepTree, ReadFault>
 }
 
 // The one item of a list, which has to have no other.
-pub(crate) fn expect_only(
-    alloc: Global,
-    items: Deep<Items<Tree>>,
-    tokens: &[Token],
-) -> Result<DeepTree, ReadFault>
+pub(crate) fn expect_only(alloc: Global, items: Trees, tokens: &[Token]) -> Expected
     ensures { Gives result (λ t. t) (only items) }
 {
     let depth = items.depth();
@@ -104,12 +98,7 @@ fn expect_dots(
 }
 
 // The dotted event of a name and the fields of a prefix, which all have to have a dot.
-pub(crate) fn expect_dotted(
-    alloc: Global,
-    name: Name,
-    fields: Deep<Items<FieldTree>>,
-    tokens: &[Token],
-) -> Result<DeepTree, ReadFault>
+pub(crate) fn expect_dotted(alloc: Global, name: Name, fields: Fields, tokens: &[Token]) -> Expected
     ensures { Gives result (λ t. t) (dotted_fields name fields) }
 {
     let depth = fields.depth();

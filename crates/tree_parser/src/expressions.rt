@@ -6,22 +6,17 @@ ghost use Rattle.tree_parser.specs.Reads.{Reads, bound_read, part_read};
 
 use crate::atoms::atom;
 use crate::lists::{conditions, pairs};
-use crate::nodes;
+use crate::nodes::{self, BoundTree, TreeReading};
 use csp_text::{Symbol, Token, Word};
 use std::alloc::Global;
 use tree_reading::deep::DeepTree;
 use tree_reading::limits::Limits;
 use tree_reading::look::{Sign, expect, sign_behind, skip, skip_word};
-use tree_reading::read::{Binding, BoundRead, BoundReading, Read, Reading};
+use tree_reading::read::{Binding, BoundRead, Read};
 
 // What stands behind `not`.
 #[cycle(reading)]
-fn complement<'t>(
-    alloc: Global,
-    limits: Limits,
-    level: Binding,
-    tokens: &'t [Token],
-) -> BoundReading<'t, DeepTree>
+fn complement(alloc: Global, limits: Limits, level: Binding, tokens: &[Token]) -> BoundTree<'_>
     ensures reads { Reads result bound_read (8 * length tokens.now + 2)
         (λ L. read_complement L limits level tokens.now) }
     ensures shorter { IfOk result (λ r. length r.rest.now < length tokens.now) }
@@ -42,12 +37,7 @@ fn complement<'t>(
 
 // What stands behind a minus.
 #[cycle(reading)]
-fn negative<'t>(
-    alloc: Global,
-    limits: Limits,
-    level: Binding,
-    tokens: &'t [Token],
-) -> BoundReading<'t, DeepTree>
+fn negative(alloc: Global, limits: Limits, level: Binding, tokens: &[Token]) -> BoundTree<'_>
     ensures reads { Reads result bound_read (8 * length tokens.now + 2) (λ L. read_negative L limits level tokens.now) }
     ensures shorter { IfOk result (λ r. length r.rest.now < length tokens.now) }
 {
@@ -61,12 +51,12 @@ fn negative<'t>(
 // An expression whose operators outside brackets bind as tightly as the level, or tighter.
 #[cycle(reading)]
 #[tactic(auto, using(crate::proofs::Counted::expression_counted))]
-pub(crate) fn expression<'t>(
+pub(crate) fn expression(
     alloc: Global,
     limits: Limits,
     level: Binding,
-    tokens: &'t [Token],
-) -> BoundReading<'t, DeepTree>
+    tokens: &[Token],
+) -> BoundTree<'_>
     ensures reads { Reads result bound_read (8 * length tokens.now + 2) (λ L. L.expression limits level tokens.now) }
     ensures shorter { IfOk result (λ r. length r.rest.now < length tokens.now) }
 {
@@ -82,12 +72,7 @@ pub(crate) fn expression<'t>(
 
 // The pairs of a renaming of this tree.
 #[cycle(reading)]
-fn renaming<'t>(
-    alloc: Global,
-    limits: Limits,
-    left: DeepTree,
-    tokens: &'t [Token],
-) -> Reading<'t, DeepTree>
+fn renaming(alloc: Global, limits: Limits, left: DeepTree, tokens: &[Token]) -> TreeReading<'_>
     ensures reads { Reads result part_read (8 * length tokens.now + 1) (λ L. read_renaming L limits left tokens.now) }
     ensures shorter { IfOk result (λ r. length r.rest.now < length tokens.now) }
 {
@@ -101,13 +86,13 @@ fn renaming<'t>(
 
 // A tree with the sign behind it and what that takes to its right.
 #[cycle(reading)]
-fn with<'t>(
+fn with(
     alloc: Global,
     limits: Limits,
     left: DeepTree,
     sign: Sign,
-    tokens: &'t [Token],
-) -> BoundReading<'t, DeepTree>
+    tokens: &[Token],
+) -> BoundTree<'_>
     ensures reads { Reads result bound_read (8 * length tokens.now + 2) (λ L. read_with L limits left sign tokens.now) }
     ensures shorter { IfOk result (λ r. length r.rest.now < length tokens.now) }
 {
@@ -136,14 +121,14 @@ fn with<'t>(
 // The operators behind an operand.
 #[cycle(reading)]
 #[tactic(auto, using(crate::proofs::Counted::operators_counted))]
-fn operators<'t>(
+fn operators(
     alloc: Global,
     limits: Limits,
     level: Binding,
     binding: Binding,
     left: DeepTree,
-    tokens: &'t [Token],
-) -> BoundReading<'t, DeepTree>
+    tokens: &[Token],
+) -> BoundTree<'_>
     ensures reads { Reads result bound_read (8 * length tokens.now + 1)
         (λ L. L.operators limits level binding left tokens.now) }
     ensures shorter { IfOk result (λ r. length r.rest.now ≤ length tokens.now) }

@@ -7,19 +7,18 @@ ghost use Rattle.tree_parser.specs.Reads.{Reads, bound_read, part_read};
 use crate::atoms::atom;
 use crate::expected::expect_fields;
 use crate::expressions::expression;
-use crate::nodes;
-use containers::Items;
+use crate::nodes::{self, BoundTree, Generators, Pairs, Parts, Trees};
 use csp_base::Name;
-use csp_text::{GenTree, PartTree, Symbol, Token, Tree};
+use csp_text::{GenTree, PartTree, Symbol, Token};
 use std::alloc::Global;
-use tree_reading::deep::{Deep, DeepTree};
+use tree_reading::deep::Deep;
 use tree_reading::limits::Limits;
 use tree_reading::look::{begins_event, expect, expect_name, named, skip};
 use tree_reading::read::{Binding, BoundRead, BoundReading, Read, Reading, last_item};
 
 // A dotted event.
 #[cycle(reading)]
-fn dotted<'t>(alloc: Global, limits: Limits, tokens: &'t [Token]) -> BoundReading<'t, DeepTree>
+fn dotted(alloc: Global, limits: Limits, tokens: &[Token]) -> BoundTree<'_>
     ensures reads { Reads result bound_read (8 * length tokens.now) (λ L. read_dotted L limits tokens.now) }
     ensures shorter { IfOk result (λ r. length r.rest.now < length tokens.now) }
 {
@@ -36,11 +35,7 @@ fn dotted<'t>(alloc: Global, limits: Limits, tokens: &'t [Token]) -> BoundReadin
 
 // An expression or a dotted event.
 #[cycle(reading)]
-pub(crate) fn item<'t>(
-    alloc: Global,
-    limits: Limits,
-    tokens: &'t [Token],
-) -> BoundReading<'t, DeepTree>
+pub(crate) fn item(alloc: Global, limits: Limits, tokens: &[Token]) -> BoundTree<'_>
     ensures reads { Reads result bound_read (8 * length tokens.now + 2) (λ L. read_item L limits tokens.now) }
     ensures shorter { IfOk result (λ r. length r.rest.now < length tokens.now) }
 {
@@ -52,11 +47,7 @@ pub(crate) fn item<'t>(
 
 // Items with commas between them.
 #[cycle(reading)]
-pub(crate) fn items<'t>(
-    alloc: Global,
-    limits: Limits,
-    tokens: &'t [Token],
-) -> BoundReading<'t, Deep<Items<Tree>>>
+pub(crate) fn items(alloc: Global, limits: Limits, tokens: &[Token]) -> BoundReading<'_, Trees>
     ensures reads { Reads result bound_read (8 * length tokens.now + 3) (λ L. L.items limits tokens.now) }
     ensures shorter { IfOk result (λ r. length r.rest.now < length tokens.now) }
 {
@@ -84,7 +75,7 @@ pub(crate) fn items<'t>(
 
 // Fields with a dot before each.
 #[cycle(reading)]
-fn dots<'t>(alloc: Global, limits: Limits, tokens: &'t [Token]) -> Reading<'t, Deep<Items<Tree>>>
+fn dots(alloc: Global, limits: Limits, tokens: &[Token]) -> Reading<'_, Trees>
     ensures reads { Reads result part_read (8 * length tokens.now + 1) (λ L. L.dots limits tokens.now) }
     ensures shorter { IfOk result (λ r. length r.rest.now ≤ length tokens.now) }
 {
@@ -103,7 +94,7 @@ fn dots<'t>(alloc: Global, limits: Limits, tokens: &'t [Token]) -> Reading<'t, D
 
 // A name with fields that have a dot.
 #[cycle(reading)]
-fn part<'t>(alloc: Global, limits: Limits, tokens: &'t [Token]) -> Reading<'t, Deep<PartTree>>
+fn part(alloc: Global, limits: Limits, tokens: &[Token]) -> Reading<'_, Deep<PartTree>>
     ensures reads { Reads result part_read (8 * length tokens.now) (λ L. read_part L limits tokens.now) }
     ensures shorter { IfOk result (λ r. length r.rest.now < length tokens.now) }
 {
@@ -117,11 +108,7 @@ fn part<'t>(alloc: Global, limits: Limits, tokens: &'t [Token]) -> Reading<'t, D
 
 // Parts with commas between them.
 #[cycle(reading)]
-pub(crate) fn parts<'t>(
-    alloc: Global,
-    limits: Limits,
-    tokens: &'t [Token],
-) -> Reading<'t, Deep<Items<PartTree>>>
+pub(crate) fn parts(alloc: Global, limits: Limits, tokens: &[Token]) -> Reading<'_, Parts>
     ensures reads { Reads result part_read (8 * length tokens.now + 1) (λ L. L.parts limits tokens.now) }
     ensures shorter { IfOk result (λ r. length r.rest.now < length tokens.now) }
 {
@@ -147,11 +134,7 @@ pub(crate) fn parts<'t>(
 
 // Two parts with an arrow between them.
 #[cycle(reading)]
-fn pair<'t>(
-    alloc: Global,
-    limits: Limits,
-    tokens: &'t [Token],
-) -> Reading<'t, Deep<(PartTree, PartTree)>>
+fn pair(alloc: Global, limits: Limits, tokens: &[Token]) -> Reading<'_, Deep<(PartTree, PartTree)>>
     ensures reads { Reads result part_read (8 * length tokens.now) (λ L. read_pair L limits tokens.now) }
     ensures shorter { IfOk result (λ r. length r.rest.now < length tokens.now) }
 {
@@ -166,11 +149,7 @@ fn pair<'t>(
 
 // Pairs with commas between them.
 #[cycle(reading)]
-pub(crate) fn pairs<'t>(
-    alloc: Global,
-    limits: Limits,
-    tokens: &'t [Token],
-) -> Reading<'t, Deep<Items<(PartTree, PartTree)>>>
+pub(crate) fn pairs(alloc: Global, limits: Limits, tokens: &[Token]) -> Reading<'_, Pairs>
     ensures reads { Reads result part_read (8 * length tokens.now + 1) (λ L. L.pairs limits tokens.now) }
     ensures shorter { IfOk result (λ r. length r.rest.now < length tokens.now) }
 {
@@ -215,7 +194,7 @@ fn source<'t>(
 
 // A condition among generators.
 #[cycle(reading)]
-fn condition<'t>(alloc: Global, limits: Limits, tokens: &'t [Token]) -> Reading<'t, Deep<GenTree>>
+fn condition(alloc: Global, limits: Limits, tokens: &[Token]) -> Reading<'_, Deep<GenTree>>
     ensures reads { Reads result part_read (8 * length tokens.now + 2) (λ L. read_condition L limits tokens.now) }
     ensures shorter { IfOk result (λ r. length r.rest.now < length tokens.now) }
 {
@@ -228,7 +207,7 @@ fn condition<'t>(alloc: Global, limits: Limits, tokens: &'t [Token]) -> Reading<
 
 // A generator or a condition.
 #[cycle(reading)]
-fn generator<'t>(alloc: Global, limits: Limits, tokens: &'t [Token]) -> Reading<'t, Deep<GenTree>>
+fn generator(alloc: Global, limits: Limits, tokens: &[Token]) -> Reading<'_, Deep<GenTree>>
     ensures reads { Reads result part_read (8 * length tokens.now + 2) (λ L. read_gen L limits tokens.now) }
     ensures shorter { IfOk result (λ r. length r.rest.now < length tokens.now) }
 {
@@ -243,11 +222,7 @@ fn generator<'t>(alloc: Global, limits: Limits, tokens: &'t [Token]) -> Reading<
 
 // Generators with commas between them.
 #[cycle(reading)]
-pub(crate) fn gens<'t>(
-    alloc: Global,
-    limits: Limits,
-    tokens: &'t [Token],
-) -> Reading<'t, Deep<Items<GenTree>>>
+pub(crate) fn gens(alloc: Global, limits: Limits, tokens: &[Token]) -> Reading<'_, Generators>
     ensures reads { Reads result part_read (8 * length tokens.now + 3) (λ L. L.gens limits tokens.now) }
     ensures shorter { IfOk result (λ r. length r.rest.now < length tokens.now) }
 {
@@ -273,11 +248,7 @@ pub(crate) fn gens<'t>(
 
 // Generators behind a bar, or none.
 #[cycle(reading)]
-pub(crate) fn conditions<'t>(
-    alloc: Global,
-    limits: Limits,
-    tokens: &'t [Token],
-) -> Reading<'t, Deep<Items<GenTree>>>
+pub(crate) fn conditions(alloc: Global, limits: Limits, tokens: &[Token]) -> Reading<'_, Generators>
     ensures reads { Reads result part_read (8 * length tokens.now) (λ L. read_conditions L limits tokens.now) }
     ensures shorter { IfOk result (λ r. length r.rest.now ≤ length tokens.now) }
 {

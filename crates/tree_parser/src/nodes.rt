@@ -11,9 +11,34 @@ use csp_text::{EventTree, FieldTree, GenTree, PartTree, Tree};
 use std::alloc::Global;
 use tree_reading::deep::{Deep, DeepTree, greater};
 use tree_reading::look::Chain;
+use tree_reading::read::{BoundReading, Reading};
+
+/// A node that is made.
+pub(crate) type Node = Result<DeepTree, NoMemory>;
+
+/// Trees in a list.
+pub(crate) type Trees = Deep<Items<Tree>>;
+
+/// Fields of a prefix.
+pub(crate) type Fields = Deep<Items<FieldTree>>;
+
+/// Fronts of events.
+pub(crate) type Parts = Deep<Items<PartTree>>;
+
+/// Pairs of a renaming.
+pub(crate) type Pairs = Deep<Items<(PartTree, PartTree)>>;
+
+/// Generators, with conditions among them.
+pub(crate) type Generators = Deep<Items<GenTree>>;
+
+/// What the reading of a tree answers.
+pub(crate) type TreeReading<'t> = Reading<'t, DeepTree>;
+
+/// The same with how tightly the tree is bound.
+pub(crate) type BoundTree<'t> = BoundReading<'t, DeepTree>;
 
 // A tree around parts of which the deepest has this depth.
-fn around(alloc: Global, tree: Tree, below: u32) -> Result<DeepTree, NoMemory>
+fn around(alloc: Global, tree: Tree, below: u32) -> Node
     requires { capped (below + 1) ≡ capped (tree_depth tree) }
     ensures { IfOk result (λ t. t ≡ tree) }
 {
@@ -21,7 +46,7 @@ fn around(alloc: Global, tree: Tree, below: u32) -> Result<DeepTree, NoMemory>
     Ok(Deep::around(tree, below))
 }
 
-pub(crate) fn leaf(alloc: Global, tree: Deep<Tree>) -> Result<DeepTree, NoMemory>
+pub(crate) fn leaf(alloc: Global, tree: Deep<Tree>) -> Node
     ensures { IfOk result (λ t. t ≡ tree) }
 {
     let depth = tree.depth();
@@ -29,93 +54,65 @@ pub(crate) fn leaf(alloc: Global, tree: Deep<Tree>) -> Result<DeepTree, NoMemory
     Ok(Deep::new(boxed, depth))
 }
 
-pub(crate) fn negative(alloc: Global, a: DeepTree) -> Result<DeepTree, NoMemory>
+pub(crate) fn negative(alloc: Global, a: DeepTree) -> Node
     ensures { IfOk result (λ t. t ≡ Tree.Neg a) }
 {
     let below = a.depth();
     around(alloc, Tree::Neg(a.into_inner()), below)
 }
 
-pub(crate) fn complement(alloc: Global, a: DeepTree) -> Result<DeepTree, NoMemory>
+pub(crate) fn complement(alloc: Global, a: DeepTree) -> Node
     ensures { IfOk result (λ t. t ≡ Tree.Not a) }
 {
     let below = a.depth();
     around(alloc, Tree::Not(a.into_inner()), below)
 }
 
-pub(crate) fn binary(
-    alloc: Global,
-    op: BinOp,
-    a: DeepTree,
-    b: DeepTree,
-) -> Result<DeepTree, NoMemory>
+pub(crate) fn binary(alloc: Global, op: BinOp, a: DeepTree, b: DeepTree) -> Node
     ensures { IfOk result (λ t. t ≡ Tree.Binary op a b) }
 {
     let below = greater(a.depth(), b.depth());
-    around(
-        alloc,
-        Tree::Binary(op, a.into_inner(), b.into_inner()),
-        below,
-    )
+    let node = Tree::Binary(op, a.into_inner(), b.into_inner());
+    around(alloc, node, below)
 }
 
-pub(crate) fn set_operation(
-    alloc: Global,
-    op: SetOp,
-    a: DeepTree,
-    b: DeepTree,
-) -> Result<DeepTree, NoMemory>
+pub(crate) fn set_operation(alloc: Global, op: SetOp, a: DeepTree, b: DeepTree) -> Node
     ensures { IfOk result (λ t. t ≡ Tree.SetOp op a b) }
 {
     let below = greater(a.depth(), b.depth());
-    around(
-        alloc,
-        Tree::SetOp(op, a.into_inner(), b.into_inner()),
-        below,
-    )
+    let node = Tree::SetOp(op, a.into_inner(), b.into_inner());
+    around(alloc, node, below)
 }
 
-pub(crate) fn call(
-    alloc: Global,
-    name: Name,
-    items: Deep<Items<Tree>>,
-) -> Result<DeepTree, NoMemory>
+pub(crate) fn call(alloc: Global, name: Name, items: Trees) -> Node
     ensures { IfOk result (λ t. t ≡ Tree.Call name items) }
 {
     let below = items.depth();
     around(alloc, Tree::Call(name, items.into_inner()), below)
 }
 
-pub(crate) fn dotted(
-    alloc: Global,
-    name: Name,
-    fields: Deep<Items<Tree>>,
-) -> Result<DeepTree, NoMemory>
+pub(crate) fn dotted(alloc: Global, name: Name, fields: Trees) -> Node
     ensures { IfOk result (λ t. t ≡ Tree.Dot name fields) }
 {
     let below = fields.depth();
     around(alloc, Tree::Dot(name, fields.into_inner()), below)
 }
 
-pub(crate) fn range(alloc: Global, a: DeepTree, b: DeepTree) -> Result<DeepTree, NoMemory>
+pub(crate) fn range(alloc: Global, a: DeepTree, b: DeepTree) -> Node
     ensures { IfOk result (λ t. t ≡ Tree.Range a b) }
 {
     let below = greater(a.depth(), b.depth());
     around(alloc, Tree::Range(a.into_inner(), b.into_inner()), below)
 }
 
-pub(crate) fn display(alloc: Global, items: Deep<Items<Tree>>) -> Result<DeepTree, NoMemory>
+pub(crate) fn display(alloc: Global, items: Trees) -> Node
     ensures { IfOk result (λ t. t ≡ Tree.Display items) }
 {
     let below = items.depth();
     around(alloc, Tree::Display(items.into_inner()), below)
 }
 
-pub(crate) fn comprehension(
-    alloc: Global,
-    items: Deep<Items<Tree>>,
-    generators: Deep<Items<GenTree>>,
-) -> Result<DeepTree, NoMemory>
+pub(crate) fn comprehension(alloc: Global, items: Trees, generators: Generators) -> Node
     ensures { IfOk result (λ t. t ≡ Tree.Comp items generators) }
 {
     let below = greater(items.depth(), generators.depth());
@@ -123,11 +120,7 @@ pub(crate) fn comprehension(
     around(alloc, node, below)
 }
 
-pub(crate) fn product(
-    alloc: Global,
-    parts: Deep<Items<PartTree>>,
-    generators: Deep<Items<GenTree>>,
-) -> Result<DeepTree, NoMemory>
+pub(crate) fn product(alloc: Global, parts: Parts, generators: Generators) -> Node
     ensures { IfOk result (λ t. t ≡ Tree.Product parts generators) }
 {
     let below = greater(parts.depth(), generators.depth());
@@ -135,12 +128,7 @@ pub(crate) fn product(
     around(alloc, node, below)
 }
 
-pub(crate) fn renaming(
-    alloc: Global,
-    p: DeepTree,
-    pairs: Deep<Items<(PartTree, PartTree)>>,
-    generators: Deep<Items<GenTree>>,
-) -> Result<DeepTree, NoMemory>
+pub(crate) fn renaming(alloc: Global, p: DeepTree, pairs: Pairs, generators: Generators) -> Node
     ensures { IfOk result (λ t. t ≡ Tree.Rename p pairs generators) }
 {
     let below = greater(p.depth(), greater(pairs.depth(), generators.depth()));
@@ -149,28 +137,16 @@ pub(crate) fn renaming(
 }
 
 #[tactic(auto, using(crate::proofs::Depths::of_prefix))]
-pub(crate) fn prefix(
-    alloc: Global,
-    name: Name,
-    fields: Deep<Items<FieldTree>>,
-    process: DeepTree,
-) -> Result<DeepTree, NoMemory>
+pub(crate) fn prefix(alloc: Global, name: Name, fields: Fields, process: DeepTree) -> Node
     ensures { IfOk result (λ t. t ≡ Tree.Prefix (event_tree name fields) process) }
 {
     let below = greater(fields.depth(), process.depth());
-    let event = EventTree {
-        name,
-        fields: fields.into_inner(),
-    };
+    let fields = fields.into_inner();
+    let event = EventTree { name, fields };
     around(alloc, Tree::Prefix(event, process.into_inner()), below)
 }
 
-pub(crate) fn conditional(
-    alloc: Global,
-    condition: DeepTree,
-    a: DeepTree,
-    b: DeepTree,
-) -> Result<DeepTree, NoMemory>
+pub(crate) fn conditional(alloc: Global, condition: DeepTree, a: DeepTree, b: DeepTree) -> Node
     ensures { IfOk result (λ t. t ≡ Tree.If condition a b) }
 {
     let below = greater(condition.depth(), greater(a.depth(), b.depth()));
@@ -178,21 +154,21 @@ pub(crate) fn conditional(
     around(alloc, node, below)
 }
 
-pub(crate) fn guard(alloc: Global, a: DeepTree, p: DeepTree) -> Result<DeepTree, NoMemory>
+pub(crate) fn guard(alloc: Global, a: DeepTree, p: DeepTree) -> Node
     ensures { IfOk result (λ t. t ≡ Tree.Guard a p) }
 {
     let below = greater(a.depth(), p.depth());
     around(alloc, Tree::Guard(a.into_inner(), p.into_inner()), below)
 }
 
-pub(crate) fn seq(alloc: Global, p: DeepTree, q: DeepTree) -> Result<DeepTree, NoMemory>
+pub(crate) fn seq(alloc: Global, p: DeepTree, q: DeepTree) -> Node
     ensures { IfOk result (λ t. t ≡ Tree.Seq p q) }
 {
     let below = greater(p.depth(), q.depth());
     around(alloc, Tree::Seq(p.into_inner(), q.into_inner()), below)
 }
 
-pub(crate) fn hide(alloc: Global, p: DeepTree, a: DeepTree) -> Result<DeepTree, NoMemory>
+pub(crate) fn hide(alloc: Global, p: DeepTree, a: DeepTree) -> Node
     ensures { IfOk result (λ t. t ≡ Tree.Hide p a) }
 {
     let below = greater(p.depth(), a.depth());
@@ -200,11 +176,7 @@ pub(crate) fn hide(alloc: Global, p: DeepTree, a: DeepTree) -> Result<DeepTree, 
 }
 
 // A chain of processes with the sign of a choice between them.
-pub(crate) fn chosen(
-    alloc: Global,
-    chain: Chain,
-    operands: Deep<Items<Tree>>,
-) -> Result<DeepTree, NoMemory>
+pub(crate) fn chosen(alloc: Global, chain: Chain, operands: Trees) -> Node
     ensures { IfOk result (λ t. t ≡ choice_of (choice chain) operands) }
 {
     let below = operands.depth();
@@ -215,13 +187,7 @@ pub(crate) fn chosen(
     }
 }
 
-pub(crate) fn each(
-    alloc: Global,
-    chain: Chain,
-    name: Name,
-    set: DeepTree,
-    p: DeepTree,
-) -> Result<DeepTree, NoMemory>
+pub(crate) fn each(alloc: Global, chain: Chain, name: Name, set: DeepTree, p: DeepTree) -> Node
     ensures { IfOk result (λ t. t ≡ each_tree chain name set p) }
 {
     let below = greater(set.depth(), p.depth());
@@ -239,48 +205,38 @@ pub(crate) fn each_parallel(
     set: DeepTree,
     alphabet: DeepTree,
     process: DeepTree,
-) -> Result<DeepTree, NoMemory>
+) -> Node
     ensures { IfOk result (λ t. t ≡ Tree.EachParallel name set alphabet process) }
 {
     let below = greater(set.depth(), greater(alphabet.depth(), process.depth()));
-    let node = Tree::EachParallel(
-        name,
-        set.into_inner(),
-        alphabet.into_inner(),
-        process.into_inner(),
-    );
-    around(alloc, node, below)
+    let (set, alphabet) = (set.into_inner(), alphabet.into_inner());
+    around(
+        alloc,
+        Tree::EachParallel(name, set, alphabet, process.into_inner()),
+        below,
+    )
 }
 
-pub(crate) fn parallel(
-    alloc: Global,
-    p: DeepTree,
-    a: DeepTree,
-    b: DeepTree,
-    q: DeepTree,
-) -> Result<DeepTree, NoMemory>
+pub(crate) fn parallel(alloc: Global, p: DeepTree, a: DeepTree, b: DeepTree, q: DeepTree) -> Node
     ensures { IfOk result (λ t. t ≡ Tree.Parallel p a b q) }
 {
     let left = greater(p.depth(), a.depth());
     let below = greater(left, greater(b.depth(), q.depth()));
-    let node = Tree::Parallel(
+    let (p, a, b, q) = (
         p.into_inner(),
         a.into_inner(),
         b.into_inner(),
         q.into_inner(),
     );
-    around(alloc, node, below)
+    around(alloc, Tree::Parallel(p, a, b, q), below)
 }
 
-pub(crate) fn part(name: Name, fields: Deep<Items<Tree>>) -> Deep<PartTree>
+pub(crate) fn part(name: Name, fields: Trees) -> Deep<PartTree>
     ensures { result ≡ part_tree name fields }
 {
     let depth = fields.depth();
-    let part = PartTree {
-        name,
-        fields: fields.into_inner(),
-    };
-    Deep::new(part, depth)
+    let fields = fields.into_inner();
+    Deep::new(PartTree { name, fields }, depth)
 }
 
 pub(crate) fn pair(old: Deep<PartTree>, new: Deep<PartTree>) -> Deep<(PartTree, PartTree)>
@@ -329,8 +285,6 @@ pub(crate) fn input_within(name: Name, set: DeepTree) -> Deep<FieldTree>
     ensures { result ≡ FieldTree.Input name (Some set) }
 {
     let depth = set.depth();
-    Deep::new(
-        FieldTree::Input(name, Some(set.into_inner().into_inner())),
-        depth,
-    )
+    let field = FieldTree::Input(name, Some(set.into_inner().into_inner()));
+    Deep::new(field, depth)
 }

@@ -7,10 +7,9 @@ ghost use Rattle.tree_parser.specs.Reads.{Reads, bound_read, operand_read, part_
 use crate::atoms::atom;
 use crate::events::event;
 use crate::expressions::expression;
-use crate::nodes;
-use containers::Items;
+use crate::nodes::{self, BoundTree, TreeReading, Trees};
 use csp_base::Name;
-use csp_text::{Symbol, Token, Tree, Word};
+use csp_text::{Symbol, Token, Word};
 use std::alloc::Global;
 use tree_reading::deep::{Deep, DeepTree};
 use tree_reading::fault::ReadFault;
@@ -22,12 +21,7 @@ use tree_reading::read::{Binding, BoundRead, BoundReading, Read, Reading};
 
 // The two parts of an `if`, behind `then`.
 #[cycle(reading)]
-fn branches<'t>(
-    alloc: Global,
-    limits: Limits,
-    condition: DeepTree,
-    tokens: &'t [Token],
-) -> BoundReading<'t, DeepTree>
+fn branches(alloc: Global, limits: Limits, condition: DeepTree, tokens: &[Token]) -> BoundTree<'_>
     ensures reads { Reads result bound_read (8 * length tokens.now + 5)
         (λ L. read_branches L limits condition tokens.now) }
     ensures shorter { IfOk result (λ r. length r.rest.now < length tokens.now) }
@@ -45,7 +39,7 @@ fn branches<'t>(
 
 // What stands behind `if`.
 #[cycle(reading)]
-fn conditional<'t>(alloc: Global, limits: Limits, tokens: &'t [Token]) -> BoundReading<'t, DeepTree>
+fn conditional(alloc: Global, limits: Limits, tokens: &[Token]) -> BoundTree<'_>
     ensures reads { Reads result bound_read (8 * length tokens.now + 2) (λ L. read_if L limits tokens.now) }
     ensures shorter { IfOk result (λ r. length r.rest.now < length tokens.now) }
 {
@@ -57,7 +51,7 @@ fn conditional<'t>(alloc: Global, limits: Limits, tokens: &'t [Token]) -> BoundR
 
 // The name, the set and `@` of a replicated form.
 #[cycle(reading)]
-fn binder<'t>(alloc: Global, limits: Limits, tokens: &'t [Token]) -> Reading<'t, (Name, DeepTree)>
+fn binder(alloc: Global, limits: Limits, tokens: &[Token]) -> Reading<'_, (Name, DeepTree)>
     ensures reads { Reads result (λ r. (r.part.0, r.part.1, r.rest.now)) (8 * length tokens.now)
         (λ L. read_binder L limits tokens.now) }
     ensures shorter { IfOk result (λ r. length r.rest.now < length tokens.now) }
@@ -74,12 +68,7 @@ fn binder<'t>(alloc: Global, limits: Limits, tokens: &'t [Token]) -> Reading<'t,
 
 // What stands behind the sign of a replicated choice.
 #[cycle(reading)]
-fn each<'t>(
-    alloc: Global,
-    limits: Limits,
-    chain: Chain,
-    tokens: &'t [Token],
-) -> BoundReading<'t, DeepTree>
+fn each(alloc: Global, limits: Limits, chain: Chain, tokens: &[Token]) -> BoundTree<'_>
     ensures reads { Reads result bound_read (8 * length tokens.now) (λ L. read_each L limits chain tokens.now) }
     ensures shorter { IfOk result (λ r. length r.rest.now < length tokens.now) }
 {
@@ -97,11 +86,7 @@ fn each<'t>(
 
 // What stands behind the sign of a replicated parallel.
 #[cycle(reading)]
-fn each_parallel<'t>(
-    alloc: Global,
-    limits: Limits,
-    tokens: &'t [Token],
-) -> BoundReading<'t, DeepTree>
+fn each_parallel(alloc: Global, limits: Limits, tokens: &[Token]) -> BoundTree<'_>
     ensures reads { Reads result bound_read (8 * length tokens.now) (λ L. read_each_parallel L limits tokens.now) }
     ensures shorter { IfOk result (λ r. length r.rest.now < length tokens.now) }
 {
@@ -123,12 +108,7 @@ fn each_parallel<'t>(
 
 // What stands behind the `&` of a guard.
 #[cycle(reading)]
-fn guarded<'t>(
-    alloc: Global,
-    limits: Limits,
-    condition: DeepTree,
-    tokens: &'t [Token],
-) -> BoundReading<'t, DeepTree>
+fn guarded(alloc: Global, limits: Limits, condition: DeepTree, tokens: &[Token]) -> BoundTree<'_>
     ensures reads { Reads result bound_read (8 * length tokens.now + 3)
         (λ L. read_guarded L limits condition tokens.now) }
     ensures shorter { IfOk result (λ r. length r.rest.now < length tokens.now) }
@@ -145,7 +125,7 @@ fn guarded<'t>(
 
 // A guard, or an expression.
 #[cycle(reading)]
-fn guard<'t>(alloc: Global, limits: Limits, tokens: &'t [Token]) -> BoundReading<'t, DeepTree>
+fn guard(alloc: Global, limits: Limits, tokens: &[Token]) -> BoundTree<'_>
     ensures reads { Reads result bound_read (8 * length tokens.now + 2) (λ L. read_guard L limits tokens.now) }
     ensures shorter { IfOk result (λ r. length r.rest.now < length tokens.now) }
 {
@@ -161,12 +141,7 @@ fn guard<'t>(alloc: Global, limits: Limits, tokens: &'t [Token]) -> BoundReading
 
 // The rest of a prefix.
 #[cycle(reading)]
-fn opened<'t>(
-    alloc: Global,
-    limits: Limits,
-    start: PrefixStart,
-    tokens: &'t [Token],
-) -> BoundReading<'t, DeepTree>
+fn opened(alloc: Global, limits: Limits, start: PrefixStart, tokens: &[Token]) -> BoundTree<'_>
     ensures reads { Reads result bound_read (8 * length tokens.now + 2) (λ L. read_opened L limits start tokens.now) }
     ensures shorter { IfOk result (λ r. length r.rest.now < length tokens.now) }
 {
@@ -182,11 +157,7 @@ fn opened<'t>(
 // A prefix or what is bound tighter.
 #[cycle(reading)]
 #[tactic(auto, using(crate::proofs::Counted::prefix_counted))]
-pub(crate) fn prefix<'t>(
-    alloc: Global,
-    limits: Limits,
-    tokens: &'t [Token],
-) -> BoundReading<'t, DeepTree>
+pub(crate) fn prefix(alloc: Global, limits: Limits, tokens: &[Token]) -> BoundTree<'_>
     ensures reads { Reads result bound_read (8 * length tokens.now + 3) (λ L. L.prefix limits tokens.now) }
     ensures shorter { IfOk result (λ r. length r.rest.now < length tokens.now) }
 {
@@ -196,12 +167,7 @@ pub(crate) fn prefix<'t>(
 
 // A process with what stands behind its `;`.
 #[cycle(reading)]
-fn followed<'t>(
-    alloc: Global,
-    limits: Limits,
-    left: DeepTree,
-    tokens: &'t [Token],
-) -> BoundReading<'t, DeepTree>
+fn followed(alloc: Global, limits: Limits, left: DeepTree, tokens: &[Token]) -> BoundTree<'_>
     ensures reads { Reads result bound_read (8 * length tokens.now + 4) (λ L. read_followed L limits left tokens.now) }
     ensures shorter { IfOk result (λ r. length r.rest.now < length tokens.now) }
 {
@@ -218,7 +184,7 @@ fn followed<'t>(
 // Processes one after another.
 #[cycle(reading)]
 #[tactic(auto, using(crate::proofs::Counted::sequence_counted))]
-fn sequence<'t>(alloc: Global, limits: Limits, tokens: &'t [Token]) -> BoundReading<'t, DeepTree>
+fn sequence(alloc: Global, limits: Limits, tokens: &[Token]) -> BoundTree<'_>
     ensures reads { Reads result bound_read (8 * length tokens.now + 4) (λ L. L.sequence limits tokens.now) }
     ensures shorter { IfOk result (λ r. length r.rest.now < length tokens.now) }
 {
@@ -235,33 +201,21 @@ fn sequence<'t>(alloc: Global, limits: Limits, tokens: &'t [Token]) -> BoundRead
 
 // The set that is hidden.
 #[cycle(reading)]
-fn hiding<'t>(
-    alloc: Global,
-    limits: Limits,
-    left: DeepTree,
-    tokens: &'t [Token],
-) -> Reading<'t, DeepTree>
+fn hiding(alloc: Global, limits: Limits, left: DeepTree, tokens: &[Token]) -> TreeReading<'_>
     ensures reads { Reads result part_read (8 * length tokens.now + 1) (λ L. read_hiding L limits left tokens.now) }
     ensures shorter { IfOk result (λ r. length r.rest.now < length tokens.now) }
 {
     let inner = limits.around(&left, tokens)?;
     let set = atom(alloc, inner, tokens)?;
     let part = nodes::hide(alloc, left, set.part)?;
-    Ok(Read {
-        part,
-        rest: set.rest,
-    })
+    let rest = set.rest;
+    Ok(Read { part, rest })
 }
 
 // The sets that are hidden in a process.
 #[cycle(reading)]
 #[tactic(auto, using(crate::proofs::Counted::hidings_counted))]
-fn hidings<'t>(
-    alloc: Global,
-    limits: Limits,
-    left: DeepTree,
-    tokens: &'t [Token],
-) -> BoundReading<'t, DeepTree>
+fn hidings(alloc: Global, limits: Limits, left: DeepTree, tokens: &[Token]) -> BoundTree<'_>
     ensures reads { Reads result bound_read (8 * length tokens.now + 1) (λ L. L.hidings limits left tokens.now) }
     ensures shorter { IfOk result (λ r. length r.rest.now ≤ length tokens.now) }
 {
@@ -280,12 +234,12 @@ fn hidings<'t>(
 
 // An operand of a choice, and whether another follows behind the sign, which is passed then.
 #[cycle(reading)]
-fn operand<'t>(
+fn operand(
     alloc: Global,
     limits: Limits,
     chain: Chain,
-    tokens: &'t [Token],
-) -> Result<(BoundRead<'t, DeepTree>, bool), ReadFault>
+    tokens: &[Token],
+) -> Result<(BoundRead<'_, DeepTree>, bool), ReadFault>
     ensures reads { Reads result operand_read (8 * length tokens.now + 4)
         (λ L. read_operand L limits chain tokens.now) }
     ensures shorter { IfOk result (λ r. length r.0.rest.now < length tokens.now) }
@@ -317,13 +271,13 @@ fn operand<'t>(
 
 // This operand of a choice and those behind it.
 #[cycle(reading)]
-fn choices<'t>(
+fn choices(
     alloc: Global,
     limits: Limits,
     chain: Chain,
     left: DeepTree,
-    tokens: &'t [Token],
-) -> BoundReading<'t, Deep<Items<Tree>>>
+    tokens: &[Token],
+) -> BoundReading<'_, Trees>
     ensures reads { Reads result bound_read (8 * length tokens.now + 5)
         (λ L. read_operands L limits chain left tokens.now) }
     ensures shorter { IfOk result (λ r. length r.rest.now < length tokens.now) }
@@ -351,14 +305,14 @@ fn choices<'t>(
 
 // A process and the choices behind it.
 #[cycle(reading)]
-fn chain<'t>(
+fn chain(
     alloc: Global,
     limits: Limits,
     binding: Binding,
     left: DeepTree,
     chain: Chain,
-    tokens: &'t [Token],
-) -> BoundReading<'t, DeepTree>
+    tokens: &[Token],
+) -> BoundTree<'_>
     ensures reads { Reads result bound_read (8 * length tokens.now + 5)
         (λ L. read_chain L limits binding left chain tokens.now) }
     ensures shorter { IfOk result (λ r. length r.rest.now < length tokens.now) }
@@ -376,7 +330,7 @@ fn chain<'t>(
 
 // A side of a parallel, or a tree without one.
 #[cycle(reading)]
-fn side<'t>(alloc: Global, limits: Limits, tokens: &'t [Token]) -> BoundReading<'t, DeepTree>
+fn side(alloc: Global, limits: Limits, tokens: &[Token]) -> BoundTree<'_>
     ensures reads { Reads result bound_read (8 * length tokens.now + 4) (λ L. read_side L limits tokens.now) }
     ensures shorter { IfOk result (λ r. length r.rest.now < length tokens.now) }
 {
@@ -395,12 +349,7 @@ fn side<'t>(alloc: Global, limits: Limits, tokens: &'t [Token]) -> BoundReading<
 
 // The alphabets and the right side of a parallel.
 #[cycle(reading)]
-fn parallel<'t>(
-    alloc: Global,
-    limits: Limits,
-    left: DeepTree,
-    tokens: &'t [Token],
-) -> Reading<'t, DeepTree>
+fn parallel(alloc: Global, limits: Limits, left: DeepTree, tokens: &[Token]) -> TreeReading<'_>
     ensures reads { Reads result part_read (8 * length tokens.now + 1) (λ L. read_parallel L limits left tokens.now) }
     ensures shorter { IfOk result (λ r. length r.rest.now < length tokens.now) }
 {
@@ -412,16 +361,14 @@ fn parallel<'t>(
     let right = side(alloc, limits, behind)?;
     right.binding.expect(Binding::Open, right.rest)?;
     let part = nodes::parallel(alloc, left, first.part, second.part, right.part)?;
-    Ok(Read {
-        part,
-        rest: right.rest,
-    })
+    let rest = right.rest;
+    Ok(Read { part, rest })
 }
 
 /// The tree at the front of the tokens, within the limits.
 #[cycle(reading)]
 #[tactic(auto, using(crate::proofs::Counted::tree_counted))]
-pub fn tree<'t>(alloc: Global, limits: Limits, tokens: &'t [Token]) -> Reading<'t, DeepTree>
+pub fn tree(alloc: Global, limits: Limits, tokens: &[Token]) -> TreeReading<'_>
     ensures reads { Reads result part_read (8 * length tokens.now + 5) (λ L. L.tree limits tokens.now) }
     ensures shorter { IfOk result (λ r. length r.rest.now < length tokens.now) }
 {
