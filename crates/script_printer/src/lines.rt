@@ -7,10 +7,10 @@ ghost use Rattle.csp_text.specs.declared.token.Symbol.TheVariants.{Comma};
 ghost use Rattle.script_printer.specs.TokenText.{line, row, spaced, token_text};
 ghost use Rattle.script_printer.specs.PrintedScript.{deadlock_free_tokens, decl_tokens, names_tokens, parameters_tokens, types_tokens};
 
-use crate::tokens::{put_between, put_name, put_symbol};
+use crate::tokens::{Written, put_between, put_name, put_symbol};
 use crate::trees::{put_operand, put_operands, put_tree};
 use containers::Items;
-use csp_base::{Bytes, Name, NoMemory};
+use csp_base::{Bytes, Name};
 use csp_text::{Decl, ResourceNames, RolesNames, Symbol, Tree, Word, word_text};
 
 // What ends a line.
@@ -18,7 +18,7 @@ const LINE_FEED: u8 = b'\n';
 
 // Adds names with a sign between them.
 #[tactic(auto, using(crate::proofs::Written::written_laws))]
-fn put_names(text: &mut Bytes, names: &[Name], sign: Symbol) -> Result<(), NoMemory>
+fn put_names(text: &mut Bytes, names: &[Name], sign: Symbol) -> Written
     ensures { OnOk result (text.new ≡ text.old ++ spaced (names_tokens (token.Symbol sign) names.now)) }
 {
     for (place, name) in names.iter().enumerate() {
@@ -30,7 +30,7 @@ fn put_names(text: &mut Bytes, names: &[Name], sign: Symbol) -> Result<(), NoMem
 
 // Adds the types of channels behind a colon, or nothing where there are none.
 #[tactic(auto, using(crate::proofs::Groups::groups, crate::proofs::Written::written_laws), unfolding(crate::specs::TokenText::spaced))]
-fn put_types(text: &mut Bytes, types: &[Tree]) -> Result<(), NoMemory>
+fn put_types(text: &mut Bytes, types: &[Tree]) -> Written
     ensures { OnOk result (text.new ≡ text.old ++ spaced (types_tokens types.now)) }
 {
     if types.is_empty() {
@@ -42,7 +42,7 @@ fn put_types(text: &mut Bytes, types: &[Tree]) -> Result<(), NoMemory>
 
 // Adds parameters in parentheses, or nothing where there are none.
 #[tactic(auto, using(crate::proofs::Groups::groups, crate::proofs::Written::written_laws), unfolding(crate::specs::TokenText::spaced))]
-fn put_parameters(text: &mut Bytes, names: &[Name]) -> Result<(), NoMemory>
+fn put_parameters(text: &mut Bytes, names: &[Name]) -> Written
     ensures { OnOk result (text.new ≡ text.old ++ spaced (parameters_tokens names.now)) }
 {
     if names.is_empty() {
@@ -54,7 +54,7 @@ fn put_parameters(text: &mut Bytes, names: &[Name]) -> Result<(), NoMemory>
 }
 
 // Adds the word that a line begins with.
-fn begin(text: &mut Bytes, word: Word) -> Result<(), NoMemory>
+fn begin(text: &mut Bytes, word: Word) -> Written
     ensures { OnOk result (text.new ≡ text.old ++ token_text (token.Word word)) }
 {
     text.extend_from_slice(word_text(word))
@@ -62,7 +62,7 @@ fn begin(text: &mut Bytes, word: Word) -> Result<(), NoMemory>
 
 // Adds the end of an assertion.
 #[tactic(auto, unfolding(crate::specs::TokenText::spaced))]
-fn put_deadlock_free(text: &mut Bytes) -> Result<(), NoMemory>
+fn put_deadlock_free(text: &mut Bytes) -> Written
     ensures { OnOk result (text.new ≡ text.old ++ spaced deadlock_free_tokens) }
 {
     text.extend_from_slice(b" : [ deadlock free ]")
@@ -70,7 +70,7 @@ fn put_deadlock_free(text: &mut Bytes) -> Result<(), NoMemory>
 
 // Adds the names of a process's requests and acknowledgements, as a client and as a server.
 #[tactic(auto, unfolding(crate::specs::TokenText::spaced))]
-fn put_sides(text: &mut Bytes, names: &RolesNames) -> Result<(), NoMemory>
+fn put_sides(text: &mut Bytes, names: &RolesNames) -> Written
     ensures { OnOk result (text.new ≡ text.old
         ++ spaced (token.Name names.now.creq ∷ token.Name names.now.cack ∷ token.Name names.now.sreq ∷ token.Name names.now.sack ∷ [])) }
 {
@@ -82,7 +82,7 @@ fn put_sides(text: &mut Bytes, names: &RolesNames) -> Result<(), NoMemory>
 
 // Adds an annotation that gives a process its roles.
 #[tactic(auto, unfolding(crate::specs::TokenText::spaced))]
-fn put_roles(text: &mut Bytes, names: &RolesNames) -> Result<(), NoMemory>
+fn put_roles(text: &mut Bytes, names: &RolesNames) -> Written
     ensures { OnOk result (text.new ≡ text.old ++ token_text (token.Roles names.now)) }
 {
     text.extend_from_slice(b"--@ roles")?;
@@ -92,7 +92,7 @@ fn put_roles(text: &mut Bytes, names: &RolesNames) -> Result<(), NoMemory>
 
 // Adds the names of a resource and of its events.
 #[tactic(auto, unfolding(crate::specs::TokenText::spaced))]
-fn put_uses(text: &mut Bytes, names: &ResourceNames) -> Result<(), NoMemory>
+fn put_uses(text: &mut Bytes, names: &ResourceNames) -> Written
     ensures { OnOk result (text.new ≡ text.old
         ++ spaced (token.Name names.now.process ∷ token.Name names.now.acquire ∷ token.Name names.now.release ∷ [])) }
 {
@@ -102,7 +102,7 @@ fn put_uses(text: &mut Bytes, names: &ResourceNames) -> Result<(), NoMemory>
 }
 
 // Adds an annotation that makes a process a resource.
-fn put_resource(text: &mut Bytes, names: &ResourceNames) -> Result<(), NoMemory>
+fn put_resource(text: &mut Bytes, names: &ResourceNames) -> Written
     ensures { OnOk result (text.new ≡ text.old ++ token_text (token.Resource names.now)) }
 {
     text.extend_from_slice(b"--@ resource")?;
@@ -111,7 +111,7 @@ fn put_resource(text: &mut Bytes, names: &ResourceNames) -> Result<(), NoMemory>
 
 // Adds the names of channels and their types.
 #[tactic(auto, using(crate::proofs::Written::written_laws), unfolding(crate::specs::TokenText::row, crate::specs::TokenText::spaced))]
-fn put_channel(text: &mut Bytes, names: &Items<Name>, types: &Items<Tree>) -> Result<(), NoMemory>
+fn put_channel(text: &mut Bytes, names: &Items<Name>, types: &Items<Tree>) -> Written
     ensures { OnOk result (text.new ≡ text.old ++ row (decl_tokens (decl.Channel names.now types.now))) }
 {
     begin(text, Word::Channel)?;
@@ -121,7 +121,7 @@ fn put_channel(text: &mut Bytes, names: &Items<Name>, types: &Items<Tree>) -> Re
 
 // Adds a data type and its constants.
 #[tactic(auto, using(crate::proofs::Written::written_laws), unfolding(crate::specs::TokenText::row, crate::specs::TokenText::spaced))]
-fn put_datatype(text: &mut Bytes, name: &Name, constants: &Items<Name>) -> Result<(), NoMemory>
+fn put_datatype(text: &mut Bytes, name: &Name, constants: &Items<Name>) -> Written
     ensures { OnOk result (text.new ≡ text.old ++ row (decl_tokens (decl.Datatype name.now constants.now))) }
 {
     begin(text, Word::Datatype)?;
@@ -132,7 +132,7 @@ fn put_datatype(text: &mut Bytes, name: &Name, constants: &Items<Name>) -> Resul
 
 // Adds a name of a set.
 #[tactic(auto, using(crate::proofs::Written::written_laws), unfolding(crate::specs::TokenText::row, crate::specs::TokenText::spaced))]
-fn put_nametype(text: &mut Bytes, name: &Name, set: &Tree) -> Result<(), NoMemory>
+fn put_nametype(text: &mut Bytes, name: &Name, set: &Tree) -> Written
     ensures { OnOk result (text.new ≡ text.old ++ row (decl_tokens (decl.Nametype name.now set.now))) }
 {
     begin(text, Word::Nametype)?;
@@ -143,12 +143,7 @@ fn put_nametype(text: &mut Bytes, name: &Name, set: &Tree) -> Result<(), NoMemor
 
 // Adds a definition.
 #[tactic(auto, using(crate::proofs::Written::written_laws), unfolding(crate::specs::TokenText::row, crate::specs::TokenText::spaced))]
-fn put_definition(
-    text: &mut Bytes,
-    name: &Name,
-    parameters: &Items<Name>,
-    body: &Tree,
-) -> Result<(), NoMemory>
+fn put_definition(text: &mut Bytes, name: &Name, parameters: &Items<Name>, body: &Tree) -> Written
     ensures { OnOk result (text.new ≡ text.old ++ row (decl_tokens (decl.Define name.now parameters.now body.now))) }
 {
     text.extend_from_slice(name.as_slice())?;
@@ -159,7 +154,7 @@ fn put_definition(
 
 // Adds an assertion.
 #[tactic(auto, using(crate::proofs::Written::written_laws), unfolding(crate::specs::TokenText::row, crate::specs::TokenText::spaced))]
-fn put_assertion(text: &mut Bytes, process: &Tree) -> Result<(), NoMemory>
+fn put_assertion(text: &mut Bytes, process: &Tree) -> Written
     ensures { OnOk result (text.new ≡ text.old ++ row (decl_tokens (decl.Assert process.now))) }
 {
     begin(text, Word::Assert)?;
@@ -168,7 +163,7 @@ fn put_assertion(text: &mut Bytes, process: &Tree) -> Result<(), NoMemory>
 }
 
 // Adds a declaration without the end of its line.
-fn put_decl(text: &mut Bytes, decl: &Decl) -> Result<(), NoMemory>
+fn put_decl(text: &mut Bytes, decl: &Decl) -> Written
     ensures { OnOk result (text.new ≡ text.old ++ row (decl_tokens decl.now)) }
 {
     match decl {
@@ -183,7 +178,7 @@ fn put_decl(text: &mut Bytes, decl: &Decl) -> Result<(), NoMemory>
 }
 
 // Adds a declaration as a line.
-pub(crate) fn put_line(text: &mut Bytes, decl: &Decl) -> Result<(), NoMemory>
+pub(crate) fn put_line(text: &mut Bytes, decl: &Decl) -> Written
     ensures { OnOk result (text.new ≡ text.old ++ line (decl_tokens decl.now)) }
 {
     put_decl(text, decl)?;

@@ -1,5 +1,5 @@
 //! The shapes of printed trees.
-#![tactic(auto, using(crate::proofs::PrintedEquations::forms), unfolding(crate::specs::PrintedTree::shape_of))]
+#![tactic(auto, using(crate::proofs::PrintedEquations::printed_out, csp_text::specs::declared::tree::Tree::the_lemmas), unfolding(crate::specs::PrintedTree::shape_of))]
 
 ghost use Rattle.std.specs.Prelude.{◌≡◌};
 ghost use Rattle.script_printer.specs.PrintedTree.{shape_of};

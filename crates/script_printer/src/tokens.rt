@@ -10,11 +10,14 @@ use crate::numbers::put_decimal;
 use csp_base::{BinOp, Bytes, Name, NoMemory, SetOp};
 use csp_text::{Symbol, Word, symbol_text, word_text};
 
+// What is written, unless memory runs out.
+pub(crate) type Written = Result<(), NoMemory>;
+
 // What stands between two tokens.
 const SPACE: u8 = b' ';
 
 // Adds some bytes, of which there is mostly one.
-fn put_bytes(text: &mut Bytes, bytes: &[u8]) -> Result<(), NoMemory>
+fn put_bytes(text: &mut Bytes, bytes: &[u8]) -> Written
     ensures { OnOk result (text.new ≡ text.old ++ bytes.now) }
 {
     match bytes {
@@ -24,7 +27,7 @@ fn put_bytes(text: &mut Bytes, bytes: &[u8]) -> Result<(), NoMemory>
 }
 
 // Adds a space and some bytes.
-fn put(text: &mut Bytes, bytes: &[u8]) -> Result<(), NoMemory>
+fn put(text: &mut Bytes, bytes: &[u8]) -> Written
     ensures { OnOk result (text.new ≡ text.old ++ 32 ∷ bytes.now) }
 {
     text.push(SPACE)?;
@@ -33,7 +36,7 @@ fn put(text: &mut Bytes, bytes: &[u8]) -> Result<(), NoMemory>
 
 // Adds a symbol.
 #[tactic(auto, unfolding(crate::specs::TokenText::spaced))]
-pub(crate) fn put_symbol(text: &mut Bytes, symbol: Symbol) -> Result<(), NoMemory>
+pub(crate) fn put_symbol(text: &mut Bytes, symbol: Symbol) -> Written
     ensures { OnOk result (text.new ≡ text.old ++ spaced (token.Symbol symbol ∷ [])) }
 {
     put(text, symbol_text(symbol))
@@ -41,7 +44,7 @@ pub(crate) fn put_symbol(text: &mut Bytes, symbol: Symbol) -> Result<(), NoMemor
 
 // Adds a reserved word.
 #[tactic(auto, unfolding(crate::specs::TokenText::spaced))]
-pub(crate) fn put_word(text: &mut Bytes, word: Word) -> Result<(), NoMemory>
+pub(crate) fn put_word(text: &mut Bytes, word: Word) -> Written
     ensures { OnOk result (text.new ≡ text.old ++ spaced (token.Word word ∷ [])) }
 {
     put(text, word_text(word))
@@ -49,7 +52,7 @@ pub(crate) fn put_word(text: &mut Bytes, word: Word) -> Result<(), NoMemory>
 
 // Adds a name.
 #[tactic(auto, unfolding(crate::specs::TokenText::spaced))]
-pub(crate) fn put_name(text: &mut Bytes, name: &Name) -> Result<(), NoMemory>
+pub(crate) fn put_name(text: &mut Bytes, name: &Name) -> Written
     ensures { OnOk result (text.new ≡ text.old ++ spaced (token.Name name.now ∷ [])) }
 {
     put(text, name.as_slice())
@@ -57,7 +60,7 @@ pub(crate) fn put_name(text: &mut Bytes, name: &Name) -> Result<(), NoMemory>
 
 // Adds a number.
 #[tactic(auto, unfolding(crate::specs::TokenText::spaced))]
-pub(crate) fn put_number(text: &mut Bytes, number: u32) -> Result<(), NoMemory>
+pub(crate) fn put_number(text: &mut Bytes, number: u32) -> Written
     ensures { OnOk result (text.new ≡ text.old ++ spaced (token.Num number ∷ [])) }
 {
     text.push(SPACE)?;
@@ -65,7 +68,7 @@ pub(crate) fn put_number(text: &mut Bytes, number: u32) -> Result<(), NoMemory>
 }
 
 // Adds the sign that stands before one of several, from the second one on.
-pub(crate) fn put_between(text: &mut Bytes, place: usize, sign: Symbol) -> Result<(), NoMemory>
+pub(crate) fn put_between(text: &mut Bytes, place: usize, sign: Symbol) -> Written
     ensures { OnOk result (text.new ≡ text.old ++ spaced (before_place place (token.Symbol sign))) }
 {
     if place == 0 {
@@ -97,14 +100,14 @@ fn operator_text(op: BinOp) -> &'static [u8]
 
 // Adds an operator that stands between two operands.
 #[tactic(auto, unfolding(crate::specs::TokenText::spaced))]
-pub(crate) fn put_operator(text: &mut Bytes, op: BinOp) -> Result<(), NoMemory>
+pub(crate) fn put_operator(text: &mut Bytes, op: BinOp) -> Written
     ensures { OnOk result (text.new ≡ text.old ++ spaced (operator_token op ∷ [])) }
 {
     put(text, operator_text(op))
 }
 
 // Adds the name of an operator on sets.
-pub(crate) fn put_set_op(text: &mut Bytes, op: SetOp) -> Result<(), NoMemory>
+pub(crate) fn put_set_op(text: &mut Bytes, op: SetOp) -> Written
     ensures { OnOk result (text.new ≡ text.old ++ spaced (set_op_word op ∷ [])) }
 {
     match op {

@@ -12,16 +12,19 @@ ghost use Rattle.script_printer.specs.PrintedTree.{bound_in, conditions, dotted,
 use crate::shape::Shape;
 use crate::shapes::shape_of;
 use crate::tokens::{
-    put_between, put_name, put_number, put_operator, put_set_op, put_symbol, put_word,
+    Written, put_between, put_name, put_number, put_operator, put_set_op, put_symbol, put_word,
 };
 use containers::{Boxed, Items};
-use csp_base::{BinOp, Bytes, Name, NoMemory, SetOp};
+use csp_base::{BinOp, Bytes, Name, SetOp};
 use csp_text::{EventTree, FieldTree, GenTree, PartTree, Symbol, Tree, Word};
+
+// A tree that is a part of another.
+type Child = Boxed<Tree>;
 
 // Adds a tree without parentheses.
 #[cycle(trees)]
-#[tactic(auto, using(crate::proofs::PrintedEquations::forms), unfolding(crate::specs::TokenText::spaced, crate::specs::PrintedTree::printed_tokens))]
-pub(crate) fn put_tree(text: &mut Bytes, tree: &Tree) -> Result<(), NoMemory>
+#[tactic(auto, using(crate::proofs::PrintedEquations::printed_out, csp_text::specs::declared::tree::Tree::the_lemmas), unfolding(crate::specs::TokenText::spaced, crate::specs::PrintedTree::printed_tokens))]
+pub(crate) fn put_tree(text: &mut Bytes, tree: &Tree) -> Written
     ensures { OnOk result (text.new ≡ text.old ++ spaced (printed_tokens tree.now)) }
 {
     match tree {
@@ -58,7 +61,7 @@ pub(crate) fn put_tree(text: &mut Bytes, tree: &Tree) -> Result<(), NoMemory>
 
 // Adds a call.
 #[cycle(trees)]
-fn put_call(text: &mut Bytes, name: &Name, items: &Items<Tree>) -> Result<(), NoMemory>
+fn put_call(text: &mut Bytes, name: &Name, items: &Items<Tree>) -> Written
     ensures { OnOk result (text.new ≡ text.old ++ spaced (form_tokens (Tree-F.Call name.now items.now))) }
 {
     put_name(text, name)?;
@@ -67,13 +70,9 @@ fn put_call(text: &mut Bytes, name: &Name, items: &Items<Tree>) -> Result<(), No
 
 // Adds items with commas between them, in brackets.
 #[cycle(trees)]
-fn put_enclosed(
-    text: &mut Bytes,
-    opening: Symbol,
-    items: &Items<Tree>,
-    closing: Symbol,
-) -> Result<(), NoMemory>
-    ensures { OnOk result (text.new ≡ text.old ++ spaced (token.Symbol opening ∷ separated item_tokens (token.Symbol Comma) items.now ++ token.Symbol closing ∷ [])) }
+fn put_enclosed(text: &mut Bytes, opening: Symbol, items: &Items<Tree>, closing: Symbol) -> Written
+    ensures { OnOk result (text.new ≡ text.old
+        ++ spaced (token.Symbol opening ∷ separated item_tokens (token.Symbol Comma) items.now ++ token.Symbol closing ∷ [])) }
 {
     put_symbol(text, opening)?;
     put_items(text, items.as_slice())?;
@@ -82,7 +81,7 @@ fn put_enclosed(
 
 // Adds a name and fields with a dot before each.
 #[cycle(trees)]
-fn put_front(text: &mut Bytes, name: &Name, fields: &Items<Tree>) -> Result<(), NoMemory>
+fn put_front(text: &mut Bytes, name: &Name, fields: &Items<Tree>) -> Written
     ensures { OnOk result (text.new ≡ text.old ++ spaced (token.Name name.now ∷ dotted operand_tokens fields.now)) }
 {
     put_name(text, name)?;
@@ -91,7 +90,7 @@ fn put_front(text: &mut Bytes, name: &Name, fields: &Items<Tree>) -> Result<(), 
 
 // Adds an operator between its operands.
 #[cycle(trees)]
-fn put_binary(text: &mut Bytes, a: &Boxed<Tree>, op: BinOp, b: &Boxed<Tree>) -> Result<(), NoMemory>
+fn put_binary(text: &mut Bytes, a: &Child, op: BinOp, b: &Child) -> Written
     ensures { OnOk result (text.new ≡ text.old ++ spaced (form_tokens (Tree-F.Binary op a.now b.now))) }
 {
     put_operand(text, a.get())?;
@@ -101,13 +100,9 @@ fn put_binary(text: &mut Bytes, a: &Boxed<Tree>, op: BinOp, b: &Boxed<Tree>) -> 
 
 // Adds a sign between two operands.
 #[cycle(trees)]
-fn put_infix(
-    text: &mut Bytes,
-    a: &Boxed<Tree>,
-    sign: Symbol,
-    b: &Boxed<Tree>,
-) -> Result<(), NoMemory>
-    ensures { OnOk result (text.new ≡ text.old ++ spaced (operand_tokens a.now ++ token.Symbol sign ∷ operand_tokens b.now)) }
+fn put_infix(text: &mut Bytes, a: &Child, sign: Symbol, b: &Child) -> Written
+    ensures { OnOk result (text.new ≡ text.old
+        ++ spaced (operand_tokens a.now ++ token.Symbol sign ∷ operand_tokens b.now)) }
 {
     put_operand(text, a.get())?;
     put_after(text, sign, b.get())
@@ -115,12 +110,7 @@ fn put_infix(
 
 // Adds an `if` with its condition and its parts.
 #[cycle(trees)]
-fn put_conditional(
-    text: &mut Bytes,
-    condition: &Boxed<Tree>,
-    a: &Boxed<Tree>,
-    b: &Boxed<Tree>,
-) -> Result<(), NoMemory>
+fn put_conditional(text: &mut Bytes, condition: &Child, a: &Child, b: &Child) -> Written
     ensures { OnOk result (text.new ≡ text.old ++ spaced (form_tokens (Tree-F.If condition.now a.now b.now))) }
 {
     put_after_word(text, Word::If, condition.get())?;
@@ -130,7 +120,7 @@ fn put_conditional(
 
 // Adds a range.
 #[cycle(trees)]
-fn put_range(text: &mut Bytes, a: &Boxed<Tree>, b: &Boxed<Tree>) -> Result<(), NoMemory>
+fn put_range(text: &mut Bytes, a: &Child, b: &Child) -> Written
     ensures { OnOk result (text.new ≡ text.old ++ spaced (form_tokens (Tree-F.Range a.now b.now))) }
 {
     put_after(text, Symbol::OpenBrace, a.get())?;
@@ -140,11 +130,7 @@ fn put_range(text: &mut Bytes, a: &Boxed<Tree>, b: &Boxed<Tree>) -> Result<(), N
 
 // Adds a comprehension.
 #[cycle(trees)]
-fn put_comprehension(
-    text: &mut Bytes,
-    items: &Items<Tree>,
-    gens: &Items<GenTree>,
-) -> Result<(), NoMemory>
+fn put_comprehension(text: &mut Bytes, items: &Items<Tree>, gens: &Items<GenTree>) -> Written
     ensures { OnOk result (text.new ≡ text.old ++ spaced (form_tokens (Tree-F.Comp items.now gens.now))) }
 {
     put_symbol(text, Symbol::OpenBrace)?;
@@ -154,11 +140,7 @@ fn put_comprehension(
 
 // Adds a production.
 #[cycle(trees)]
-fn put_production(
-    text: &mut Bytes,
-    parts: &Items<PartTree>,
-    gens: &Items<GenTree>,
-) -> Result<(), NoMemory>
+fn put_production(text: &mut Bytes, parts: &Items<PartTree>, gens: &Items<GenTree>) -> Written
     ensures { OnOk result (text.new ≡ text.old ++ spaced (form_tokens (Tree-F.Product parts.now gens.now))) }
 {
     put_symbol(text, Symbol::OpenProduct)?;
@@ -168,12 +150,7 @@ fn put_production(
 
 // Adds an operator on sets with its operands.
 #[cycle(trees)]
-fn put_set_operation(
-    text: &mut Bytes,
-    op: SetOp,
-    a: &Boxed<Tree>,
-    b: &Boxed<Tree>,
-) -> Result<(), NoMemory>
+fn put_set_operation(text: &mut Bytes, op: SetOp, a: &Child, b: &Child) -> Written
     ensures { OnOk result (text.new ≡ text.old ++ spaced (form_tokens (Tree-F.SetOp op a.now b.now))) }
 {
     put_set_op(text, op)?;
@@ -184,7 +161,7 @@ fn put_set_operation(
 
 // Adds a prefix.
 #[cycle(trees)]
-fn put_prefix(text: &mut Bytes, event: &EventTree, p: &Boxed<Tree>) -> Result<(), NoMemory>
+fn put_prefix(text: &mut Bytes, event: &EventTree, p: &Child) -> Written
     ensures { OnOk result (text.new ≡ text.old ++ spaced (form_tokens (Tree-F.Prefix event.now p.now))) }
 {
     put_event(text, event)?;
@@ -193,14 +170,9 @@ fn put_prefix(text: &mut Bytes, event: &EventTree, p: &Boxed<Tree>) -> Result<()
 
 // Adds a replicated choice.
 #[cycle(trees)]
-fn put_each(
-    text: &mut Bytes,
-    sign: Symbol,
-    name: &Name,
-    s: &Boxed<Tree>,
-    p: &Boxed<Tree>,
-) -> Result<(), NoMemory>
-    ensures { OnOk result (text.new ≡ text.old ++ spaced (token.Symbol sign ∷ bound_in name.now (operand_tokens s.now) ++ token.Symbol At ∷ printed_tokens p.now)) }
+fn put_each(text: &mut Bytes, sign: Symbol, name: &Name, s: &Child, p: &Child) -> Written
+    ensures { OnOk result (text.new ≡ text.old
+        ++ spaced (token.Symbol sign ∷ bound_in name.now (operand_tokens s.now) ++ token.Symbol At ∷ printed_tokens p.now)) }
 {
     put_replicated(text, sign, name, s.get())?;
     put_tree(text, p.get())
@@ -208,13 +180,7 @@ fn put_each(
 
 // Adds a parallel.
 #[cycle(trees)]
-fn put_parallel(
-    text: &mut Bytes,
-    p: &Boxed<Tree>,
-    a: &Boxed<Tree>,
-    b: &Boxed<Tree>,
-    q: &Boxed<Tree>,
-) -> Result<(), NoMemory>
+fn put_parallel(text: &mut Bytes, p: &Child, a: &Child, b: &Child, q: &Child) -> Written
     ensures { OnOk result (text.new ≡ text.old ++ spaced (form_tokens (Tree-F.Parallel p.now a.now b.now q.now))) }
 {
     put_infix(text, p, Symbol::OpenBracket, a)?;
@@ -224,14 +190,9 @@ fn put_parallel(
 
 // Adds a replicated parallel.
 #[cycle(trees)]
-fn put_each_parallel(
-    text: &mut Bytes,
-    name: &Name,
-    s: &Boxed<Tree>,
-    a: &Boxed<Tree>,
-    p: &Boxed<Tree>,
-) -> Result<(), NoMemory>
-    ensures { OnOk result (text.new ≡ text.old ++ spaced (form_tokens (Tree-F.EachParallel name.now s.now a.now p.now))) }
+fn put_each_parallel(text: &mut Bytes, name: &Name, s: &Child, a: &Child, p: &Child) -> Written
+    ensures { OnOk result (text.new ≡ text.old
+        ++ spaced (form_tokens (Tree-F.EachParallel name.now s.now a.now p.now))) }
 {
     put_replicated(text, Symbol::Parallel, name, s.get())?;
     put_after(text, Symbol::OpenBracket, a.get())?;
@@ -244,8 +205,8 @@ fn put_renaming(
     text: &mut Bytes,
     pairs: &Items<(PartTree, PartTree)>,
     gens: &Items<GenTree>,
-    p: &Boxed<Tree>,
-) -> Result<(), NoMemory>
+    p: &Child,
+) -> Written
     ensures { OnOk result (text.new ≡ text.old ++ spaced (form_tokens (Tree-F.Rename p.now pairs.now gens.now))) }
 {
     put_operand(text, p.get())?;
@@ -256,7 +217,7 @@ fn put_renaming(
 
 // Adds a tree in parentheses.
 #[cycle(trees)]
-fn put_in_parentheses(text: &mut Bytes, tree: &Tree) -> Result<(), NoMemory>
+fn put_in_parentheses(text: &mut Bytes, tree: &Tree) -> Written
     ensures { OnOk result (text.new ≡ text.old ++ spaced (in_parentheses (printed_tokens tree.now))) }
 {
     put_symbol(text, Symbol::OpenParen)?;
@@ -267,7 +228,7 @@ fn put_in_parentheses(text: &mut Bytes, tree: &Tree) -> Result<(), NoMemory>
 // Adds an operand: what is no atom has parentheses.
 #[cycle(trees)]
 #[tactic(auto, unfolding(crate::specs::PrintedTree::operand_tokens))]
-pub(crate) fn put_operand(text: &mut Bytes, tree: &Tree) -> Result<(), NoMemory>
+pub(crate) fn put_operand(text: &mut Bytes, tree: &Tree) -> Written
     ensures { OnOk result (text.new ≡ text.old ++ spaced (operand_tokens tree.now)) }
 {
     match shape_of(tree) {
@@ -280,7 +241,7 @@ pub(crate) fn put_operand(text: &mut Bytes, tree: &Tree) -> Result<(), NoMemory>
 // Adds an item: what is neither an atom nor a dotted event has parentheses.
 #[cycle(trees)]
 #[tactic(auto, unfolding(crate::specs::PrintedTree::item_tokens))]
-fn put_item(text: &mut Bytes, tree: &Tree) -> Result<(), NoMemory>
+fn put_item(text: &mut Bytes, tree: &Tree) -> Written
     ensures { OnOk result (text.new ≡ text.old ++ spaced (item_tokens tree.now)) }
 {
     match shape_of(tree) {
@@ -292,7 +253,7 @@ fn put_item(text: &mut Bytes, tree: &Tree) -> Result<(), NoMemory>
 
 // Adds a sign and an operand behind it.
 #[cycle(trees)]
-fn put_after(text: &mut Bytes, sign: Symbol, tree: &Tree) -> Result<(), NoMemory>
+fn put_after(text: &mut Bytes, sign: Symbol, tree: &Tree) -> Written
     ensures { OnOk result (text.new ≡ text.old ++ spaced (token.Symbol sign ∷ operand_tokens tree.now)) }
 {
     put_symbol(text, sign)?;
@@ -301,7 +262,7 @@ fn put_after(text: &mut Bytes, sign: Symbol, tree: &Tree) -> Result<(), NoMemory
 
 // Adds a sign and an item behind it.
 #[cycle(trees)]
-fn put_item_after(text: &mut Bytes, sign: Symbol, tree: &Boxed<Tree>) -> Result<(), NoMemory>
+fn put_item_after(text: &mut Bytes, sign: Symbol, tree: &Child) -> Written
     ensures { OnOk result (text.new ≡ text.old ++ spaced (token.Symbol sign ∷ item_tokens tree.now)) }
 {
     put_symbol(text, sign)?;
@@ -310,7 +271,7 @@ fn put_item_after(text: &mut Bytes, sign: Symbol, tree: &Boxed<Tree>) -> Result<
 
 // Adds a sign and a tree without parentheses behind it.
 #[cycle(trees)]
-fn put_tree_after(text: &mut Bytes, sign: Symbol, tree: &Tree) -> Result<(), NoMemory>
+fn put_tree_after(text: &mut Bytes, sign: Symbol, tree: &Tree) -> Written
     ensures { OnOk result (text.new ≡ text.old ++ spaced (token.Symbol sign ∷ printed_tokens tree.now)) }
 {
     put_symbol(text, sign)?;
@@ -319,7 +280,7 @@ fn put_tree_after(text: &mut Bytes, sign: Symbol, tree: &Tree) -> Result<(), NoM
 
 // Adds a word and an operand behind it.
 #[cycle(trees)]
-fn put_after_word(text: &mut Bytes, word: Word, tree: &Tree) -> Result<(), NoMemory>
+fn put_after_word(text: &mut Bytes, word: Word, tree: &Tree) -> Written
     ensures { OnOk result (text.new ≡ text.old ++ spaced (token.Word word ∷ operand_tokens tree.now)) }
 {
     put_word(text, word)?;
@@ -328,7 +289,7 @@ fn put_after_word(text: &mut Bytes, word: Word, tree: &Tree) -> Result<(), NoMem
 
 // Adds the word before a part of an `if`, and the part.
 #[cycle(trees)]
-fn put_branch(text: &mut Bytes, word: Word, part: &Tree) -> Result<(), NoMemory>
+fn put_branch(text: &mut Bytes, word: Word, part: &Tree) -> Written
     ensures { OnOk result (text.new ≡ text.old ++ spaced (token.Word word ∷ printed_tokens part.now)) }
 {
     put_word(text, word)?;
@@ -337,8 +298,9 @@ fn put_branch(text: &mut Bytes, word: Word, part: &Tree) -> Result<(), NoMemory>
 
 // Adds the front of a replicated form: its sign, its name, and the set that the name is bound in.
 #[cycle(trees)]
-fn put_replicated(text: &mut Bytes, sign: Symbol, name: &Name, set: &Tree) -> Result<(), NoMemory>
-    ensures { OnOk result (text.new ≡ text.old ++ spaced (token.Symbol sign ∷ bound_in name.now (operand_tokens set.now) ++ token.Symbol At ∷ [])) }
+fn put_replicated(text: &mut Bytes, sign: Symbol, name: &Name, set: &Tree) -> Written
+    ensures { OnOk result (text.new ≡ text.old
+        ++ spaced (token.Symbol sign ∷ bound_in name.now (operand_tokens set.now) ++ token.Symbol At ∷ [])) }
 {
     put_symbol(text, sign)?;
     put_name(text, name)?;
@@ -349,7 +311,7 @@ fn put_replicated(text: &mut Bytes, sign: Symbol, name: &Name, set: &Tree) -> Re
 // Adds the event of a prefix.
 #[cycle(trees)]
 #[tactic(auto, using(crate::proofs::PrintedEquations::other_forms, crate::proofs::Written::written_laws), unfolding(crate::specs::TokenText::spaced))]
-fn put_event(text: &mut Bytes, event: &EventTree) -> Result<(), NoMemory>
+fn put_event(text: &mut Bytes, event: &EventTree) -> Written
     ensures { OnOk result (text.new ≡ text.old ++ spaced (event_tokens event.now)) }
 {
     put_name(text, &event.name)?;
@@ -359,7 +321,7 @@ fn put_event(text: &mut Bytes, event: &EventTree) -> Result<(), NoMemory>
 // Adds a field of a prefix.
 #[cycle(trees)]
 #[tactic(auto, using(crate::proofs::PrintedEquations::other_forms), unfolding(crate::specs::TokenText::spaced))]
-fn put_field(text: &mut Bytes, field: &FieldTree) -> Result<(), NoMemory>
+fn put_field(text: &mut Bytes, field: &FieldTree) -> Written
     ensures { OnOk result (text.new ≡ text.old ++ spaced (field_tokens field.now)) }
 {
     match field {
@@ -372,7 +334,7 @@ fn put_field(text: &mut Bytes, field: &FieldTree) -> Result<(), NoMemory>
 // Adds an input, with its set where it has one.
 #[cycle(trees)]
 #[tactic(auto, using(crate::proofs::PrintedEquations::other_forms, crate::proofs::Written::written_laws), unfolding(crate::specs::TokenText::spaced))]
-fn put_input(text: &mut Bytes, name: &Name, set: &Option<Tree>) -> Result<(), NoMemory>
+fn put_input(text: &mut Bytes, name: &Name, set: &Option<Tree>) -> Written
     ensures { OnOk result (text.new ≡ text.old ++ spaced (field_tokens (field.Input name.now set.now))) }
 {
     put_symbol(text, Symbol::Question)?;
@@ -386,7 +348,7 @@ fn put_input(text: &mut Bytes, name: &Name, set: &Option<Tree>) -> Result<(), No
 // Adds a generator: a name and its set, or a condition.
 #[cycle(trees)]
 #[tactic(auto, using(crate::proofs::PrintedEquations::other_forms, crate::proofs::Written::written_laws), unfolding(crate::specs::TokenText::spaced))]
-fn put_gen(text: &mut Bytes, generator: &GenTree) -> Result<(), NoMemory>
+fn put_gen(text: &mut Bytes, generator: &GenTree) -> Written
     ensures { OnOk result (text.new ≡ text.old ++ spaced (gen_tokens generator.now)) }
 {
     match generator {
@@ -401,7 +363,7 @@ fn put_gen(text: &mut Bytes, generator: &GenTree) -> Result<(), NoMemory>
 // Adds the front of an event.
 #[cycle(trees)]
 #[tactic(auto, using(crate::proofs::PrintedEquations::other_forms), unfolding(crate::specs::TokenText::spaced))]
-fn put_part(text: &mut Bytes, part: &PartTree) -> Result<(), NoMemory>
+fn put_part(text: &mut Bytes, part: &PartTree) -> Written
     ensures { OnOk result (text.new ≡ text.old ++ spaced (part_tokens part.now)) }
 {
     put_front(text, &part.name, &part.fields)
@@ -410,7 +372,7 @@ fn put_part(text: &mut Bytes, part: &PartTree) -> Result<(), NoMemory>
 // Adds a pair of a renaming.
 #[cycle(trees)]
 #[tactic(auto, using(crate::proofs::Written::written_laws), unfolding(crate::specs::TokenText::spaced, crate::specs::PrintedTree::renamed_tokens))]
-fn put_pair(text: &mut Bytes, pair: &(PartTree, PartTree)) -> Result<(), NoMemory>
+fn put_pair(text: &mut Bytes, pair: &(PartTree, PartTree)) -> Written
     ensures { OnOk result (text.new ≡ text.old ++ spaced (renamed_tokens pair.now)) }
 {
     put_part(text, &pair.0)?;
@@ -420,8 +382,9 @@ fn put_pair(text: &mut Bytes, pair: &(PartTree, PartTree)) -> Result<(), NoMemor
 
 // Adds generators behind a bar, and the bracket behind them.
 #[cycle(trees)]
-fn put_generators(text: &mut Bytes, gens: &[GenTree], closing: Symbol) -> Result<(), NoMemory>
-    ensures { OnOk result (text.new ≡ text.old ++ spaced (token.Symbol Bar ∷ separated gen_tokens (token.Symbol Comma) gens.now ++ token.Symbol closing ∷ [])) }
+fn put_generators(text: &mut Bytes, gens: &[GenTree], closing: Symbol) -> Written
+    ensures { OnOk result (text.new ≡ text.old
+        ++ spaced (token.Symbol Bar ∷ separated gen_tokens (token.Symbol Comma) gens.now ++ token.Symbol closing ∷ [])) }
 {
     put_symbol(text, Symbol::Bar)?;
     put_gens(text, gens)?;
@@ -431,8 +394,9 @@ fn put_generators(text: &mut Bytes, gens: &[GenTree], closing: Symbol) -> Result
 // The same, with no bar where there are no generators.
 #[cycle(trees)]
 #[tactic(auto, using(crate::proofs::Written::none_shown, crate::proofs::Written::some_shown), unfolding(crate::specs::TokenText::spaced))]
-fn put_conditions(text: &mut Bytes, gens: &Items<GenTree>, closing: Symbol) -> Result<(), NoMemory>
-    ensures { OnOk result (text.new ≡ text.old ++ spaced (conditions gen_tokens gens.now ++ token.Symbol closing ∷ [])) }
+fn put_conditions(text: &mut Bytes, gens: &Items<GenTree>, closing: Symbol) -> Written
+    ensures { OnOk result (text.new ≡ text.old
+        ++ spaced (conditions gen_tokens gens.now ++ token.Symbol closing ∷ [])) }
 {
     let gens = gens.as_slice();
     if gens.is_empty() {
@@ -443,7 +407,7 @@ fn put_conditions(text: &mut Bytes, gens: &Items<GenTree>, closing: Symbol) -> R
 
 // Adds items with commas between them.
 #[cycle(trees)]
-fn put_items(text: &mut Bytes, items: &[Tree]) -> Result<(), NoMemory>
+fn put_items(text: &mut Bytes, items: &[Tree]) -> Written
     ensures { OnOk result (text.new ≡ text.old ++ spaced (separated item_tokens (token.Symbol Comma) items.now)) }
 {
     for (place, item) in items.iter().enumerate() {
@@ -455,11 +419,7 @@ fn put_items(text: &mut Bytes, items: &[Tree]) -> Result<(), NoMemory>
 
 // Adds operands with a sign between them.
 #[cycle(trees)]
-pub(crate) fn put_operands(
-    text: &mut Bytes,
-    operands: &[Tree],
-    sign: Symbol,
-) -> Result<(), NoMemory>
+pub(crate) fn put_operands(text: &mut Bytes, operands: &[Tree], sign: Symbol) -> Written
     ensures { OnOk result (text.new ≡ text.old ++ spaced (separated operand_tokens (token.Symbol sign) operands.now)) }
 {
     for (place, operand) in operands.iter().enumerate() {
@@ -471,7 +431,7 @@ pub(crate) fn put_operands(
 
 // Adds generators with commas between them.
 #[cycle(trees)]
-fn put_gens(text: &mut Bytes, gens: &[GenTree]) -> Result<(), NoMemory>
+fn put_gens(text: &mut Bytes, gens: &[GenTree]) -> Written
     ensures { OnOk result (text.new ≡ text.old ++ spaced (separated gen_tokens (token.Symbol Comma) gens.now)) }
 {
     for (place, generator) in gens.iter().enumerate() {
@@ -483,7 +443,7 @@ fn put_gens(text: &mut Bytes, gens: &[GenTree]) -> Result<(), NoMemory>
 
 // Adds fronts of events with commas between them.
 #[cycle(trees)]
-fn put_parts(text: &mut Bytes, parts: &[PartTree]) -> Result<(), NoMemory>
+fn put_parts(text: &mut Bytes, parts: &[PartTree]) -> Written
     ensures { OnOk result (text.new ≡ text.old ++ spaced (separated part_tokens (token.Symbol Comma) parts.now)) }
 {
     for (place, part) in parts.iter().enumerate() {
@@ -495,7 +455,7 @@ fn put_parts(text: &mut Bytes, parts: &[PartTree]) -> Result<(), NoMemory>
 
 // Adds pairs of a renaming with commas between them.
 #[cycle(trees)]
-fn put_pairs(text: &mut Bytes, pairs: &[(PartTree, PartTree)]) -> Result<(), NoMemory>
+fn put_pairs(text: &mut Bytes, pairs: &[(PartTree, PartTree)]) -> Written
     ensures { OnOk result (text.new ≡ text.old ++ spaced (separated renamed_tokens (token.Symbol Comma) pairs.now)) }
 {
     for (place, pair) in pairs.iter().enumerate() {
@@ -507,7 +467,7 @@ fn put_pairs(text: &mut Bytes, pairs: &[(PartTree, PartTree)]) -> Result<(), NoM
 
 // Adds fields with a dot before each.
 #[cycle(trees)]
-fn put_dotted(text: &mut Bytes, fields: &[Tree]) -> Result<(), NoMemory>
+fn put_dotted(text: &mut Bytes, fields: &[Tree]) -> Written
     ensures { OnOk result (text.new ≡ text.old ++ spaced (dotted operand_tokens fields.now)) }
 {
     for field in fields {
@@ -518,7 +478,7 @@ fn put_dotted(text: &mut Bytes, fields: &[Tree]) -> Result<(), NoMemory>
 
 // Adds the fields of a prefix.
 #[cycle(trees)]
-fn put_fields(text: &mut Bytes, fields: &[FieldTree]) -> Result<(), NoMemory>
+fn put_fields(text: &mut Bytes, fields: &[FieldTree]) -> Written
     ensures { OnOk result (text.new ≡ text.old ++ spaced (flat_map field_tokens fields.now)) }
 {
     for field in fields {
