@@ -1,9 +1,7 @@
 -- The nodes of a table one after another.
-use Rattle.std.proofs.Common.{◌≡◌, ℕ, ◌+◌, ◌<◌, List, [], ◌∷◌, ◌++◌, length, take, get_or, sym, ap, ◌∙◌, append_assoc, add-one, arith}
-use Rattle.csp_base.proofs.Standard.{append-nil, take-suc, length-take-le}
+use Rattle.report.proofs.Prelude.{◌≡◌, ℕ, ◌+◌, ◌<◌, List, [], ◌∷◌, ◌++◌, length, take, get_or, sym, ap, ◌∙◌, append_assoc, add-one, arith, append-nil, take-suc, length-take-le, node_text, nodes_text}
 use Rattle.csp_program.specs.declared.programs.Content.{Content}
 use Rattle.csp_tables.specs.Table.{Node}
-use Rattle.report.specs.Report.{node_text, nodes_text}
 
 module _ (p : Content) where
   pub one_more_node : (n : ℕ) (nodes : List Node) (node : Node) → nodes_text p n (nodes ++ node ∷ []) ≡ nodes_text p n nodes ++ node_text p (n + length nodes) node

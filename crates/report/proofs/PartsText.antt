@@ -1,10 +1,6 @@
 -- Parts one after another.
-use Rattle.std.proofs.Common.{◌≡◌, ℕ, List, [], ◌∷◌, ◌++◌, refl, sym, ap, ◌∙◌, append_assoc}
-use Rattle.csp_base.specs.Standard.{decimal, flat_map, signed_decimal}
-use Rattle.csp_base.proofs.Standard.{append-nil}
-use Rattle.report.specs.EventText.{event_text}
-use Rattle.report.specs.Lines.{numbers_text, set_text, trace_text}
-use Rattle.report.specs.Parts.{part_text, parts_text, text_and}
+use Rattle.report.proofs.Prelude.{◌≡◌, ℕ, List, [], ◌∷◌, ◌++◌, refl, sym, ap, ◌∙◌, append_assoc, decimal, flat_map, append-nil, event_text, numbers_text, set_text, trace_text, part_text, parts_text, text_and}
+use Rattle.csp_base.specs.Standard.{signed_decimal}
 use Rattle.report.specs.declared.lines.Part.{Part}
 use Rattle.report.specs.declared.lines.Part.TheVariants as part
 

@@ -4,14 +4,14 @@ ghost use Rattle.std.specs.Prelude.{◌≡◌, ◌++◌, OnOk, IfOk, Some, slice
 ghost use Rattle.std.specs.List.{flat_map};
 ghost use Rattle.report.specs.EventText.{channel_name, event_text, field_text, info_text, text_or_none};
 
-use crate::lines::push_signed;
+use crate::lines::{Written, push_signed};
 use csp_atoms::Atom;
 use csp_base::{Bytes, Event, NoMemory};
 use csp_program::{Content, EventInfo, Program};
 use std::alloc::Global;
 
 // Adds the name of a constant; nothing past the end.
-fn push_constant(text: &mut Bytes, content: &Content, constant: u32) -> Result<(), NoMemory>
+fn push_constant(text: &mut Bytes, content: &Content, constant: u32) -> Written
     ensures { OnOk result (text.new ≡ text.old ++ text_or_none (slice_get content.now.consts constant)) }
 {
     match content.consts.get(constant as usize) {
@@ -21,7 +21,7 @@ fn push_constant(text: &mut Bytes, content: &Content, constant: u32) -> Result<(
 }
 
 // Adds a field.
-fn push_field(text: &mut Bytes, content: &Content, field: &Atom) -> Result<(), NoMemory>
+fn push_field(text: &mut Bytes, content: &Content, field: &Atom) -> Written
     ensures { OnOk result (text.new ≡ text.old ++ field_text content.now field.now) }
 {
     text.push(b'.')?;
@@ -33,7 +33,7 @@ fn push_field(text: &mut Bytes, content: &Content, field: &Atom) -> Result<(), N
 }
 
 // Adds fields.
-fn push_fields(text: &mut Bytes, content: &Content, fields: &[Atom]) -> Result<(), NoMemory>
+fn push_fields(text: &mut Bytes, content: &Content, fields: &[Atom]) -> Written
     ensures { OnOk result (text.new ≡ text.old ++ flat_map (field_text content.now) fields.now) }
 {
     for field in fields {
@@ -43,7 +43,7 @@ fn push_fields(text: &mut Bytes, content: &Content, fields: &[Atom]) -> Result<(
 }
 
 // Adds the name of a channel; nothing past the end.
-fn push_channel(text: &mut Bytes, content: &Content, channel: u32) -> Result<(), NoMemory>
+fn push_channel(text: &mut Bytes, content: &Content, channel: u32) -> Written
     ensures { OnOk result (text.new ≡ text.old ++ channel_name (slice_get content.now.channels channel)) }
 {
     match content.channels.get(channel as usize) {
@@ -53,7 +53,7 @@ fn push_channel(text: &mut Bytes, content: &Content, channel: u32) -> Result<(),
 }
 
 // Adds an event of the table.
-fn push_info(text: &mut Bytes, content: &Content, info: &EventInfo) -> Result<(), NoMemory>
+fn push_info(text: &mut Bytes, content: &Content, info: &EventInfo) -> Written
     ensures { OnOk result (text.new ≡ text.old ++ info_text content.now (Some info.now)) }
 {
     push_channel(text, content, info.channel)?;
@@ -61,7 +61,7 @@ fn push_info(text: &mut Bytes, content: &Content, info: &EventInfo) -> Result<()
 }
 
 // Adds the event with this number.
-pub(crate) fn push_event(text: &mut Bytes, content: &Content, event: Event) -> Result<(), NoMemory>
+pub(crate) fn push_event(text: &mut Bytes, content: &Content, event: Event) -> Written
     ensures { OnOk result (text.new ≡ text.old ++ event_text content.now event) }
 {
     match content.events.get(event.0 as usize) {

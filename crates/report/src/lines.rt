@@ -12,6 +12,12 @@ use csp_base::{Bytes, Event, EventSet, Members, NoMemory};
 use csp_program::Content;
 use std::alloc::Global;
 
+// What is written into a report, unless memory runs out.
+pub(crate) type Written = Result<(), NoMemory>;
+
+// A report, unless memory runs out.
+pub(crate) type Printed = Result<Bytes, NoMemory>;
+
 // A part of a line: words, and what stands after them.
 #[derive(Clone, Copy)]
 pub(crate) enum Part<'a> {
@@ -34,7 +40,7 @@ pub(crate) enum Part<'a> {
 }
 
 // Adds a digit.
-fn push_digit(report: &mut Bytes, digit: u8) -> Result<(), NoMemory>
+fn push_digit(report: &mut Bytes, digit: u8) -> Written
     requires { digit < 10 }
     ensures { OnOk result (report.new ≡ report.old ++ (48 + digit) ∷ []) }
 {
@@ -43,7 +49,7 @@ fn push_digit(report: &mut Bytes, digit: u8) -> Result<(), NoMemory>
 
 // Adds a number, digit after digit.
 #[tactic(auto, using(std::proofs::lemmas::Fmt::decimal_digit, std::proofs::lemmas::Fmt::decimal_step))]
-fn push_number(report: &mut Bytes, number: u64) -> Result<(), NoMemory>
+fn push_number(report: &mut Bytes, number: u64) -> Written
     ensures { OnOk result (report.new ≡ report.old ++ decimal number) }
 {
     if number < 10 {
@@ -54,7 +60,7 @@ fn push_number(report: &mut Bytes, number: u64) -> Result<(), NoMemory>
 }
 
 // Adds a number, with its sign where it is below 0.
-pub(crate) fn push_signed(report: &mut Bytes, number: i64) -> Result<(), NoMemory>
+pub(crate) fn push_signed(report: &mut Bytes, number: i64) -> Written
     ensures { OnOk result (report.new ≡ report.old ++ signed_decimal number) }
 {
     if number < 0 {
@@ -65,7 +71,7 @@ pub(crate) fn push_signed(report: &mut Bytes, number: i64) -> Result<(), NoMemor
 }
 
 // Adds a number, with a blank before it.
-fn push_apart(report: &mut Bytes, number: &u32) -> Result<(), NoMemory>
+fn push_apart(report: &mut Bytes, number: &u32) -> Written
     ensures { OnOk result (report.new ≡ report.old ++ (codes " " ++ decimal number.now)) }
 {
     report.push(b' ')?;
@@ -73,7 +79,7 @@ fn push_apart(report: &mut Bytes, number: &u32) -> Result<(), NoMemory>
 }
 
 // Adds numbers, with a blank before each.
-fn push_numbers(report: &mut Bytes, numbers: &[u32]) -> Result<(), NoMemory>
+fn push_numbers(report: &mut Bytes, numbers: &[u32]) -> Written
     ensures { OnOk result (report.new ≡ report.old ++ numbers_text numbers.now) }
 {
     for number in numbers {
@@ -83,7 +89,7 @@ fn push_numbers(report: &mut Bytes, numbers: &[u32]) -> Result<(), NoMemory>
 }
 
 // Adds an event, with a comma and a blank before it.
-fn push_next(report: &mut Bytes, content: &Content, event: Event) -> Result<(), NoMemory>
+fn push_next(report: &mut Bytes, content: &Content, event: Event) -> Written
     ensures { OnOk result (report.new ≡ report.old ++ (codes ", " ++ event_text content.now event)) }
 {
     report.extend_from_slice(b", ")?;
@@ -91,7 +97,7 @@ fn push_next(report: &mut Bytes, content: &Content, event: Event) -> Result<(), 
 }
 
 // Adds events, with a comma and a blank before each.
-fn push_more(report: &mut Bytes, content: &Content, events: &[Event]) -> Result<(), NoMemory>
+fn push_more(report: &mut Bytes, content: &Content, events: &[Event]) -> Written
     ensures { OnOk result (report.new ≡ report.old ++ more_events_text content.now events.now) }
 {
     for event in events {
@@ -101,7 +107,7 @@ fn push_more(report: &mut Bytes, content: &Content, events: &[Event]) -> Result<
 }
 
 // Adds events, with a comma and a blank between them.
-fn push_events(report: &mut Bytes, content: &Content, events: &[Event]) -> Result<(), NoMemory>
+fn push_events(report: &mut Bytes, content: &Content, events: &[Event]) -> Written
     ensures { OnOk result (report.new ≡ report.old ++ events_text content.now events.now) }
 {
     let Some((first, more)) = events.split_first() else {
@@ -112,7 +118,7 @@ fn push_events(report: &mut Bytes, content: &Content, events: &[Event]) -> Resul
 }
 
 // Adds the members that are left, with a comma and a blank before each.
-fn push_rest(report: &mut Bytes, content: &Content, members: Members<'_>) -> Result<(), NoMemory>
+fn push_rest(report: &mut Bytes, content: &Content, members: Members<'_>) -> Written
     ensures { OnOk result (report.new ≡ report.old ++ more_events_text content.now members.entry) }
 {
     for event in members {
@@ -122,7 +128,7 @@ fn push_rest(report: &mut Bytes, content: &Content, members: Members<'_>) -> Res
 }
 
 // Adds the members of a set, with a comma and a blank between them.
-fn push_members(report: &mut Bytes, content: &Content, set: &EventSet) -> Result<(), NoMemory>
+fn push_members(report: &mut Bytes, content: &Content, set: &EventSet) -> Written
     ensures { OnOk result (report.new ≡ report.old ++ events_text content.now set.now) }
 {
     let mut members = set.iter();
@@ -134,7 +140,7 @@ fn push_members(report: &mut Bytes, content: &Content, set: &EventSet) -> Result
 }
 
 // Adds a trace.
-fn push_trace(report: &mut Bytes, content: &Content, events: &[Event]) -> Result<(), NoMemory>
+fn push_trace(report: &mut Bytes, content: &Content, events: &[Event]) -> Written
     ensures { OnOk result (report.new ≡ report.old ++ trace_text content.now events.now) }
 {
     report.push(b'<')?;
@@ -143,7 +149,7 @@ fn push_trace(report: &mut Bytes, content: &Content, events: &[Event]) -> Result
 }
 
 // Adds a set.
-fn push_set(report: &mut Bytes, content: &Content, set: &EventSet) -> Result<(), NoMemory>
+fn push_set(report: &mut Bytes, content: &Content, set: &EventSet) -> Written
     ensures { OnOk result (report.new ≡ report.old ++ set_text content.now set.now) }
 {
     report.push(b'{')?;
@@ -152,7 +158,7 @@ fn push_set(report: &mut Bytes, content: &Content, set: &EventSet) -> Result<(),
 }
 
 // Adds what stands after the words of a part.
-fn push_value(report: &mut Bytes, part: &Part<'_>) -> Result<(), NoMemory>
+fn push_value(report: &mut Bytes, part: &Part<'_>) -> Written
     ensures { OnOk result (report.new ≡ report.old ++ value_text part.now) }
 {
     match part {
@@ -184,7 +190,7 @@ fn words<'a>(part: &Part<'a>) -> &'a [u8]
 }
 
 // Adds a part.
-fn push_part(report: &mut Bytes, part: &Part<'_>) -> Result<(), NoMemory>
+fn push_part(report: &mut Bytes, part: &Part<'_>) -> Written
     ensures { OnOk result (report.new ≡ report.old ++ part_text part.now) }
 {
     report.extend_from_slice(words(part))?;
@@ -192,7 +198,7 @@ fn push_part(report: &mut Bytes, part: &Part<'_>) -> Result<(), NoMemory>
 }
 
 // Adds parts, one after another.
-fn push_parts(report: &mut Bytes, parts: &[Part<'_>]) -> Result<(), NoMemory>
+fn push_parts(report: &mut Bytes, parts: &[Part<'_>]) -> Written
     ensures { OnOk result (report.new ≡ report.old ++ flat_map part_text parts.now) }
 {
     for part in parts {
@@ -203,14 +209,14 @@ fn push_parts(report: &mut Bytes, parts: &[Part<'_>]) -> Result<(), NoMemory>
 
 // Adds the text of these parts.
 #[tactic(auto, using(crate::proofs::PartsText::parts_all))]
-pub(crate) fn push_text(report: &mut Bytes, parts: &[Part<'_>]) -> Result<(), NoMemory>
+pub(crate) fn push_text(report: &mut Bytes, parts: &[Part<'_>]) -> Written
     ensures { OnOk result (report.new ≡ report.old ++ parts_text parts.now) }
 {
     push_parts(report, parts)
 }
 
 // Adds a line of these parts.
-pub(crate) fn push_line(report: &mut Bytes, parts: &[Part<'_>]) -> Result<(), NoMemory>
+pub(crate) fn push_line(report: &mut Bytes, parts: &[Part<'_>]) -> Written
     ensures { OnOk result (report.new ≡ report.old ++ line (parts_text parts.now)) }
 {
     push_text(report, parts)?;
@@ -218,14 +224,14 @@ pub(crate) fn push_line(report: &mut Bytes, parts: &[Part<'_>]) -> Result<(), No
 }
 
 // Adds the line of a text with a number after it.
-pub(crate) fn push_count(report: &mut Bytes, text: &[u8], count: u64) -> Result<(), NoMemory>
+pub(crate) fn push_count(report: &mut Bytes, text: &[u8], count: u64) -> Written
     ensures { OnOk result (report.new ≡ report.old ++ line (text.now ++ decimal count)) }
 {
     push_line(report, &[Part::Count(text, count)])
 }
 
 // The line of these parts.
-pub(crate) fn written_line(alloc: Global, parts: &[Part<'_>]) -> Result<Bytes, NoMemory>
+pub(crate) fn written_line(alloc: Global, parts: &[Part<'_>]) -> Printed
     ensures { IfOk result (λ made. made ≡ line (parts_text parts.now)) }
 {
     let mut made = Bytes::new(alloc);
@@ -234,7 +240,7 @@ pub(crate) fn written_line(alloc: Global, parts: &[Part<'_>]) -> Result<Bytes, N
 }
 
 // A line of one text.
-pub(crate) fn one_line(alloc: Global, text: &[u8]) -> Result<Bytes, NoMemory>
+pub(crate) fn one_line(alloc: Global, text: &[u8]) -> Printed
     ensures { IfOk result (λ made. made ≡ line text.now) }
 {
     written_line(alloc, &[Part::Text(text)])

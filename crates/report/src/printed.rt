@@ -6,8 +6,9 @@ ghost use Rattle.report.specs.Sides.{side_line, side_name};
 ghost use Rattle.report.specs.Report.{rule_text};
 
 use crate::answer::{Side, Site};
-use crate::lines::{Part, push_text};
-use csp_base::{Bytes, NoMemory};
+use crate::lines::Part::Number;
+use crate::lines::{Written, push_text};
+use csp_base::Bytes;
 use csp_program::ValueKind;
 use csp_tables::Rule;
 
@@ -57,16 +58,13 @@ pub(crate) fn kind_name(kind: ValueKind) -> &'static [u8]
 }
 
 // Adds where a value is needed.
-pub(crate) fn push_site(report: &mut Bytes, site: Site) -> Result<(), NoMemory>
+pub(crate) fn push_site(report: &mut Bytes, site: Site) -> Written
     ensures { OnOk result (report.new ≡ report.old ++ site_text site) }
 {
     match site {
         Site::Network => report.extend_from_slice(b" in the network"),
-        Site::Component(i) => push_text(report, &[Part::Number(b" in component ", i)]),
-        Site::Annotation(i) => push_text(
-            report,
-            &[Part::Number(b" in the annotation of component ", i)],
-        ),
+        Site::Component(i) => push_text(report, &[Number(b" in component ", i)]),
+        Site::Annotation(i) => push_text(report, &[Number(b" in the annotation of component ", i)]),
         Site::HiddenSet => report.extend_from_slice(b" in the hidden set"),
     }
 }

@@ -8,9 +8,10 @@ ghost use Rattle.report.specs.Sides.{side_line};
 ghost use Rattle.report.specs.Report.{refused_text};
 
 use crate::answer::{Refusal, Side, Site, TextFault};
-use crate::lines::{Part, one_line, push_text};
+use crate::lines::Part::{Count, Number, Text, Trace};
+use crate::lines::{Part, Printed, Written, one_line, push_text};
 use crate::printed::{kind_name, push_site, side_line, side_name};
-use csp_base::{Bytes, Event, NoMemory};
+use csp_base::{Bytes, Event};
 use csp_program::{Content, ValueKind};
 use dl_limits::{MOST_COMPONENTS, MOST_NETWORK_DEPTH, MOST_SETS, MOST_TERM_DEPTH, MOST_TERMS};
 use network_trees::LayoutFault;
@@ -19,11 +20,11 @@ use script_names::ResolveFault;
 use std::alloc::Global;
 
 // Adds that there is no value.
-fn push_value(report: &mut Bytes, kind: ValueKind, at: Site) -> Result<(), NoMemory>
+fn push_value(report: &mut Bytes, kind: ValueKind, at: Site) -> Written
     ensures { OnOk result (report.new ≡ report.old ++ value_text kind at) }
 {
     let kind = kind_name(kind);
-    push_text(report, &[Part::Text(b"2 value fault "), Part::Text(kind)])?;
+    push_text(report, &[Text(b"2 value fault "), Text(kind)])?;
     push_site(report, at)
 }
 
@@ -34,15 +35,15 @@ fn push_differing(
     first: u32,
     more: u32,
     event: Event,
-) -> Result<(), NoMemory>
+) -> Written
     ensures { OnOk result (report.new ≡ report.old ++ nesting_text content.now first (1 + more) event) }
 {
     let last = u64::from(first) + u64::from(more);
     push_text(
         report,
         &[
-            Part::Number(b"14 components ", first),
-            Part::Count(b" to ", last),
+            Number(b"14 components ", first),
+            Count(b" to ", last),
             Part::Event(b" differ from their alphabet at ", content, event),
         ],
     )
@@ -55,7 +56,7 @@ fn push_nesting(
     first: u32,
     count: u32,
     event: Event,
-) -> Result<(), NoMemory>
+) -> Written
     ensures { OnOk result (report.new ≡ report.old ++ nesting_text content.now first count event) }
 {
     if count == 0 {
@@ -63,7 +64,7 @@ fn push_nesting(
             report,
             &[
                 Part::Event(b"14 an empty operand has ", content, event),
-                Part::Text(b" in its alphabet"),
+                Text(b" in its alphabet"),
             ],
         );
     }
@@ -71,7 +72,7 @@ fn push_nesting(
 }
 
 // Adds why a script has no program.
-fn push_program_fault(report: &mut Bytes, fault: &ResolveFault) -> Result<(), NoMemory>
+fn push_program_fault(report: &mut Bytes, fault: &ResolveFault) -> Written
     ensures { OnOk result (report.new ≡ report.old ++ program_text fault.now) }
 {
     match fault {
@@ -79,53 +80,50 @@ fn push_program_fault(report: &mut Bytes, fault: &ResolveFault) -> Result<(), No
         ResolveFault::Unknown { inside, name } => push_text(
             report,
             &[
-                Part::Text(b"4 unknown name "),
-                Part::Text(name.as_slice()),
-                Part::Number(b" in declaration ", *inside),
+                Text(b"4 unknown name "),
+                Text(name.as_slice()),
+                Number(b" in declaration ", *inside),
             ],
         ),
         ResolveFault::Twice { inside, name } => push_text(
             report,
             &[
-                Part::Text(b"5 name "),
-                Part::Text(name.as_slice()),
-                Part::Number(b" is declared twice in declaration ", *inside),
+                Text(b"5 name "),
+                Text(name.as_slice()),
+                Number(b" is declared twice in declaration ", *inside),
             ],
         ),
         ResolveFault::WrongKind { inside } => {
-            push_text(
-                report,
-                &[Part::Number(b"6 wrong kind in declaration ", *inside)],
-            )
+            push_text(report, &[Number(b"6 wrong kind in declaration ", *inside)])
         }
         ResolveFault::WrongCount { inside, name } => push_text(
             report,
             &[
-                Part::Text(b"7 wrong count for "),
-                Part::Text(name.as_slice()),
-                Part::Number(b" in declaration ", *inside),
+                Text(b"7 wrong count for "),
+                Text(name.as_slice()),
+                Number(b" in declaration ", *inside),
             ],
         ),
         ResolveFault::ParallelInside { inside } => push_text(
             report,
-            &[Part::Number(b"8 parallel inside a component in declaration ", *inside)],
+            &[Number(b"8 parallel inside a component in declaration ", *inside)],
         ),
         ResolveFault::EventLimit { count } => push_text(
             report,
-            &[Part::Count(b"9 there are ", *count), Part::Text(b" events")],
+            &[Count(b"9 there are ", *count), Text(b" events")],
         ),
         ResolveFault::DataDepth { inside } => {
             push_text(
                 report,
-                &[Part::Number(b"33 data too deep in declaration ", *inside)],
+                &[Number(b"33 data too deep in declaration ", *inside)],
             )
         }
         ResolveFault::Value { inside, kind } => push_text(
             report,
             &[
-                Part::Text(b"2 value fault "),
-                Part::Text(kind_name(*kind)),
-                Part::Number(b" in declaration ", *inside),
+                Text(b"2 value fault "),
+                Text(kind_name(*kind)),
+                Number(b" in declaration ", *inside),
             ],
         ),
     }
@@ -137,7 +135,7 @@ fn push_component_fault<'a>(
     content: &'a Content,
     i: u32,
     fault: &'a ComponentFault,
-) -> Result<(), NoMemory>
+) -> Written
     ensures { OnOk result (report.new ≡ report.old ++ component_text content.now i fault.now) }
 {
     match fault {
@@ -145,66 +143,59 @@ fn push_component_fault<'a>(
         ComponentFault::TermCount => push_text(
             report,
             &[
-                Part::Number(b"10 component ", i),
-                Part::Count(b" has more than ", MOST_TERMS as u64),
-                Part::Text(b" terms"),
+                Number(b"10 component ", i),
+                Count(b" has more than ", MOST_TERMS as u64),
+                Text(b" terms"),
             ],
         ),
         ComponentFault::TermDepth => push_text(
             report,
             &[
-                Part::Number(b"10 component ", i),
-                Part::Number(b" has a term of depth over ", MOST_TERM_DEPTH),
+                Number(b"10 component ", i),
+                Number(b" has a term of depth over ", MOST_TERM_DEPTH),
             ],
         ),
         ComponentFault::TermTotal => {
             push_text(
                 report,
                 &[
-                    Part::Number(b"10 component ", i),
-                    Part::Text(b" has terms that are too large"),
+                    Number(b"10 component ", i),
+                    Text(b" has terms that are too large"),
                 ],
             )
         }
         ComponentFault::StepCount => {
             push_text(
                 report,
-                &[
-                    Part::Number(b"11 component ", i),
-                    Part::Text(b" has too many steps"),
-                ],
+                &[Number(b"11 component ", i), Text(b" has too many steps")],
             )
         }
         ComponentFault::Diverges => push_text(
             report,
-            &[Part::Number(b"12 component ", i), Part::Text(b" diverges")],
+            &[Number(b"12 component ", i), Text(b" diverges")],
         ),
         ComponentFault::SubsetLimit => {
             push_text(
                 report,
                 &[
-                    Part::Number(b"13 component ", i),
-                    Part::Count(b" has more than ", MOST_SETS as u64),
-                    Part::Text(b" sets of terms"),
+                    Number(b"13 component ", i),
+                    Count(b" has more than ", MOST_SETS as u64),
+                    Text(b" sets of terms"),
                 ],
             )
         }
         ComponentFault::Terminates { trace } => push_text(
             report,
             &[
-                Part::Number(b"19 component ", i),
-                Part::Trace(b" can terminate after ", content, trace.as_slice()),
+                Number(b"19 component ", i),
+                Trace(b" can terminate after ", content, trace.as_slice()),
             ],
         ),
     }
 }
 
 // Adds why a program spells no network.
-fn push_network_fault(
-    report: &mut Bytes,
-    content: &Content,
-    fault: &LayoutFault,
-) -> Result<(), NoMemory>
+fn push_network_fault(report: &mut Bytes, content: &Content, fault: &LayoutFault) -> Written
     ensures { OnOk result (report.new ≡ report.old ++ network_text content.now fault.now) }
 {
     match fault {
@@ -218,37 +209,33 @@ fn push_network_fault(
         LayoutFault::ComponentLimit => push_text(
             report,
             &[
-                Part::Count(b"16 more than ", MOST_COMPONENTS as u64),
-                Part::Text(b" components"),
+                Count(b"16 more than ", MOST_COMPONENTS as u64),
+                Text(b" components"),
             ],
         ),
         LayoutFault::NetworkDepth => {
             push_text(
                 report,
-                &[Part::Number(b"34 the network is nested deeper than ", MOST_NETWORK_DEPTH)],
+                &[Number(b"34 the network is nested deeper than ", MOST_NETWORK_DEPTH)],
             )
         }
     }
 }
 
 // Adds why the text of this side has no program.
-fn push_text_fault(report: &mut Bytes, side: Side, fault: &TextFault) -> Result<(), NoMemory>
+fn push_text_fault(report: &mut Bytes, side: Side, fault: &TextFault) -> Written
     ensures { OnOk result (report.new ≡ report.old ++ text_fault_text side fault.now) }
 {
     match fault {
         TextFault::TooLong => push_text(
             report,
-            &[
-                Part::Text(b"36 "),
-                Part::Text(side_name(side)),
-                Part::Text(b" is too long"),
-            ],
+            &[Text(b"36 "), Text(side_name(side)), Text(b" is too long")],
         ),
         TextFault::NoScript { at } => push_text(
             report,
             &[
-                Part::Number(b"1 no script near line ", at.line),
-                Part::Number(b" column ", at.column),
+                Number(b"1 no script near line ", at.line),
+                Number(b" column ", at.column),
             ],
         ),
         TextFault::Unresolved(fault) => push_program_fault(report, fault),
@@ -256,7 +243,7 @@ fn push_text_fault(report: &mut Bytes, side: Side, fault: &TextFault) -> Result<
 }
 
 // Adds why a program is refused.
-fn push_refusal(report: &mut Bytes, content: &Content, refusal: &Refusal) -> Result<(), NoMemory>
+fn push_refusal(report: &mut Bytes, content: &Content, refusal: &Refusal) -> Written
     ensures { OnOk result (report.new ≡ report.old ++ refusal_text content.now refusal.now) }
 {
     match refusal {
@@ -268,34 +255,28 @@ fn push_refusal(report: &mut Bytes, content: &Content, refusal: &Refusal) -> Res
         Refusal::NoComponent { count } => {
             push_text(
                 report,
-                &[
-                    Part::Number(b"35 there are ", *count),
-                    Part::Text(b" components"),
-                ],
+                &[Number(b"35 there are ", *count), Text(b" components")],
             )
         }
         Refusal::DifferentEvents { number } => {
             push_text(
                 report,
-                &[Part::Number(b"41 the events differ at number ", *number)],
+                &[Number(b"41 the events differ at number ", *number)],
             )
         }
         Refusal::DifferentComponents { component } => {
-            push_text(
-                report,
-                &[Part::Number(b"42 components differ at ", *component)],
-            )
+            push_text(report, &[Number(b"42 components differ at ", *component)])
         }
         Refusal::NoSet => report.extend_from_slice(b"37 no such set"),
         Refusal::BoundLimit { component } => push_text(
             report,
-            &[Part::Number(b"38 hidden bound passes 64 bits at component ", *component)],
+            &[Number(b"38 hidden bound passes 64 bits at component ", *component)],
         ),
     }
 }
 
 // What stands before the reason for which the text of this side is refused.
-fn refused_head(alloc: Global, side: Side) -> Result<Bytes, NoMemory>
+fn refused_head(alloc: Global, side: Side) -> Printed
     ensures { IfOk result (λ made. made ≡ line (codes "refused") ++ side_line side) }
 {
     let mut made = one_line(alloc, b"refused")?;
@@ -304,7 +285,7 @@ fn refused_head(alloc: Global, side: Side) -> Result<Bytes, NoMemory>
 }
 
 // The report where the text of this side has no program.
-pub(crate) fn unread(alloc: Global, side: Side, fault: &TextFault) -> Result<Bytes, NoMemory>
+pub(crate) fn unread(alloc: Global, side: Side, fault: &TextFault) -> Printed
     ensures { IfOk result (λ made. made ≡ refused_text side (text_fault_text side fault.now)) }
 {
     let mut made = refused_head(alloc, side)?;
@@ -314,12 +295,7 @@ pub(crate) fn unread(alloc: Global, side: Side, fault: &TextFault) -> Result<Byt
 }
 
 // The report where the program of this side is refused.
-pub(crate) fn refused(
-    alloc: Global,
-    content: &Content,
-    side: Side,
-    refusal: &Refusal,
-) -> Result<Bytes, NoMemory>
+pub(crate) fn refused(alloc: Global, content: &Content, side: Side, refusal: &Refusal) -> Printed
     ensures { IfOk result (λ made. made ≡ refused_text side (refusal_text content.now refusal.now)) }
 {
     let mut made = refused_head(alloc, side)?;

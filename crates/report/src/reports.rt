@@ -5,7 +5,8 @@ ghost use Rattle.report.specs.Report.{outside_text, report_text, status, verdict
 ghost use Rattle.csp_base.specs.Texts.{line};
 
 use crate::answer::{Answer, OutsideFault, Side, Verdict};
-use crate::lines::{Part, one_line, written_line};
+use crate::lines::Part::Text;
+use crate::lines::{Printed, one_line, written_line};
 use crate::printed::side_name;
 use crate::refusals::unread;
 use crate::verdicts::verdict_report;
@@ -37,24 +38,24 @@ pub fn status_of(answer: &Answer) -> u8
 }
 
 // The report of a fault of the shelf.
-fn outside(alloc: Global, side: Side, fault: OutsideFault) -> Result<Bytes, NoMemory>
+fn outside(alloc: Global, side: Side, fault: OutsideFault) -> Printed
     ensures { IfOk result (λ made. made ≡ line (outside_text side fault)) }
 {
     match fault {
         OutsideFault::NotFound => written_line(
             alloc,
             &[
-                Part::Text(b"outside fault: "),
-                Part::Text(side_name(side)),
-                Part::Text(b" not found"),
+                Text(b"outside fault: "),
+                Text(side_name(side)),
+                Text(b" not found"),
             ],
         ),
         OutsideFault::NotRead => written_line(
             alloc,
             &[
-                Part::Text(b"outside fault: "),
-                Part::Text(side_name(side)),
-                Part::Text(b" not read"),
+                Text(b"outside fault: "),
+                Text(side_name(side)),
+                Text(b" not read"),
             ],
         ),
     }

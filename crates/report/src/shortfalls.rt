@@ -6,23 +6,21 @@ ghost use Rattle.csp_base.specs.Texts.{line};
 ghost use Rattle.report.specs.Shortfalls.{after_text, broken_rule_text, condition_name, condition_number, link_text, shortfall_text};
 
 use crate::answer::Shortfall;
-use crate::lines::{Part, push_line};
-use csp_base::{Bytes, Event, NoMemory};
+use crate::lines::Part::{Number, Numbers, Text, Trace};
+use crate::lines::{Part, Written, push_line};
+use csp_base::{Bytes, Event};
 use csp_program::Content;
 use design_rules::{Condition, RuleFault};
 
 // Adds the line of a link.
-fn push_link(report: &mut Bytes, link: &(u32, u32)) -> Result<(), NoMemory>
+fn push_link(report: &mut Bytes, link: &(u32, u32)) -> Written
     ensures { OnOk result (report.new ≡ report.old ++ line (link_text link.now)) }
 {
-    push_line(
-        report,
-        &[Part::Number(b"link ", link.0), Part::Number(b" ", link.1)],
-    )
+    push_line(report, &[Number(b"link ", link.0), Number(b" ", link.1)])
 }
 
 // Adds a line for each link.
-fn push_links(report: &mut Bytes, links: &[(u32, u32)]) -> Result<(), NoMemory>
+fn push_links(report: &mut Bytes, links: &[(u32, u32)]) -> Written
     ensures { OnOk result (report.new ≡ report.old ++ flat_map (λ link. line (link_text link)) links.now) }
 {
     for link in links {
@@ -32,25 +30,25 @@ fn push_links(report: &mut Bytes, links: &[(u32, u32)]) -> Result<(), NoMemory>
 }
 
 // Adds the lines of links in a circle.
-fn push_circle(report: &mut Bytes, links: &[(u32, u32)]) -> Result<(), NoMemory>
+fn push_circle(report: &mut Bytes, links: &[(u32, u32)]) -> Written
     ensures { OnOk result (report.new ≡ report.old
         ++ (line (codes "24 links in a circle") ++ flat_map (λ link. line (link_text link)) links.now)) }
 {
-    push_line(report, &[Part::Text(b"24 links in a circle")])?;
+    push_line(report, &[Text(b"24 links in a circle")])?;
     push_links(report, links)
 }
 
 // Adds the first line of a link that no end takes whole.
-fn push_open_link(report: &mut Bytes, left: u32, right: u32) -> Result<(), NoMemory>
+fn push_open_link(report: &mut Bytes, left: u32, right: u32) -> Written
     ensures { OnOk result (report.new ≡ report.old
         ++ line (codes "25 link " ++ decimal left ++ codes " " ++ decimal right ++ codes " has no full end")) }
 {
     push_line(
         report,
         &[
-            Part::Number(b"25 link ", left),
-            Part::Number(b" ", right),
-            Part::Text(b" has no full end"),
+            Number(b"25 link ", left),
+            Number(b" ", right),
+            Text(b" has no full end"),
         ],
     )
 }
@@ -61,14 +59,14 @@ fn push_end<'a>(
     content: &'a Content,
     component: u32,
     trace: &'a [Event],
-) -> Result<(), NoMemory>
+) -> Written
     ensures { OnOk result (report.new ≡ report.old ++ line (after_text content.now component trace.now)) }
 {
     push_line(
         report,
         &[
-            Part::Number(b"component ", component),
-            Part::Trace(b" after ", content, trace),
+            Number(b"component ", component),
+            Trace(b" after ", content, trace),
         ],
     )
 }
@@ -105,19 +103,15 @@ fn condition_name(condition: Condition) -> &'static [u8]
 }
 
 // Adds the lines that tell what breaks a rule.
-fn push_broken_rule<'a>(
-    report: &mut Bytes,
-    content: &'a Content,
-    fault: &'a RuleFault,
-) -> Result<(), NoMemory>
+fn push_broken_rule<'a>(report: &mut Bytes, content: &'a Content, fault: &'a RuleFault) -> Written
     ensures { OnOk result (report.new ≡ report.old ++ broken_rule_text content.now fault.now) }
 {
     match fault {
         RuleFault::NoOrder { part, trace, event } => push_line(
             report,
             &[
-                Part::Number(b"23 component ", *part),
-                Part::Trace(b" breaks C1 after ", content, trace.as_slice()),
+                Number(b"23 component ", *part),
+                Trace(b" breaks C1 after ", content, trace.as_slice()),
                 Part::Event(b" by ", content, *event),
             ],
         ),
@@ -139,20 +133,20 @@ fn push_broken_rule<'a>(
         } => push_line(
             report,
             &[
-                Part::Text(condition_number(*condition)),
-                Part::Number(b" component ", *part),
-                Part::Text(b" breaks "),
-                Part::Text(condition_name(*condition)),
-                Part::Trace(b" after ", content, trace.as_slice()),
+                Text(condition_number(*condition)),
+                Number(b" component ", *part),
+                Text(b" breaks "),
+                Text(condition_name(*condition)),
+                Trace(b" after ", content, trace.as_slice()),
             ],
         ),
         RuleFault::ClientsCircle { clients } => push_line(
             report,
-            &[Part::Numbers(b"27 clients in a circle", clients.as_slice())],
+            &[Numbers(b"27 clients in a circle", clients.as_slice())],
         ),
         RuleFault::ResourcesCircle { resources } => push_line(
             report,
-            &[Part::Numbers(b"29 resources in a circle", resources.as_slice())],
+            &[Numbers(b"29 resources in a circle", resources.as_slice())],
         ),
     }
 }
@@ -162,7 +156,7 @@ pub(crate) fn push_shortfall<'a>(
     report: &mut Bytes,
     content: &'a Content,
     shortfall: &'a Shortfall,
-) -> Result<(), NoMemory>
+) -> Written
     ensures { OnOk result (report.new ≡ report.old ++ shortfall_text content.now shortfall.now) }
 {
     match shortfall {
@@ -170,37 +164,37 @@ pub(crate) fn push_shortfall<'a>(
             report,
             &[
                 Part::Event(b"20 event ", content, *event),
-                Part::Number(b" is in alphabets ", components.0),
-                Part::Number(b" ", components.1),
-                Part::Number(b" ", components.2),
+                Number(b" is in alphabets ", components.0),
+                Number(b" ", components.1),
+                Number(b" ", components.2),
             ],
         ),
         Shortfall::Stops { component, trace } => push_line(
             report,
             &[
-                Part::Number(b"21 component ", *component),
-                Part::Trace(b" can stop after ", content, trace.as_slice()),
+                Number(b"21 component ", *component),
+                Trace(b" can stop after ", content, trace.as_slice()),
             ],
         ),
         Shortfall::Breaks(fault) => push_broken_rule(report, content, fault),
         Shortfall::Outside { component, trace } => push_line(
             report,
             &[
-                Part::Number(b"43 component ", *component),
-                Part::Trace(b" does ", content, trace.as_slice()),
-                Part::Text(b" outside its specification"),
+                Number(b"43 component ", *component),
+                Trace(b" does ", content, trace.as_slice()),
+                Text(b" outside its specification"),
             ],
         ),
         Shortfall::Refuses { component, trace } => push_line(
             report,
             &[
-                Part::Number(b"44 component ", *component),
-                Part::Trace(b" refuses too much after ", content, trace.as_slice()),
+                Number(b"44 component ", *component),
+                Trace(b" refuses too much after ", content, trace.as_slice()),
             ],
         ),
         Shortfall::NoOrder { components } => push_line(
             report,
-            &[Part::Numbers(b"39 no order for components", components.as_slice())],
+            &[Numbers(b"39 no order for components", components.as_slice())],
         ),
     }
 }

@@ -5,56 +5,36 @@ ghost use Rattle.csp_base.specs.Standard.{flat_map, decimal};
 ghost use Rattle.csp_base.specs.Texts.{line};
 ghost use Rattle.report.specs.Report.{accept_text, next_text, node_text, nodes_text, table_text};
 
-use crate::lines::{Part, push_count, push_line, written_line};
-use csp_base::{Bytes, Event, EventSet, NoMemory};
+use crate::lines::Part::{Count, Number, Set};
+use crate::lines::{Part, Printed, Written, push_count, push_line, written_line};
+use csp_base::{Bytes, Event, EventSet};
 use csp_program::Content;
 use csp_tables::NormNode;
 use std::alloc::Global;
 
 // Adds the line of an event of a node.
-fn push_step(
-    report: &mut Bytes,
-    content: &Content,
-    node: u64,
-    step: &(Event, u32),
-) -> Result<(), NoMemory>
+fn push_step(report: &mut Bytes, content: &Content, node: u64, step: &(Event, u32)) -> Written
     ensures { OnOk result (report.new ≡ report.old ++ next_text content.now node step.now) }
 {
     push_line(
         report,
         &[
-            Part::Count(b"", node),
+            Count(b"", node),
             Part::Event(b" ", content, step.0),
-            Part::Number(b" -> ", step.1),
+            Number(b" -> ", step.1),
         ],
     )
 }
 
 // Adds the line of an acceptance of a node.
-fn push_offer<'a>(
-    report: &mut Bytes,
-    content: &'a Content,
-    node: u64,
-    set: &'a EventSet,
-) -> Result<(), NoMemory>
+fn push_offer<'a>(report: &mut Bytes, content: &'a Content, node: u64, set: &'a EventSet) -> Written
     ensures { OnOk result (report.new ≡ report.old ++ accept_text content.now node set.now) }
 {
-    push_line(
-        report,
-        &[
-            Part::Count(b"", node),
-            Part::Set(b" accepts ", content, set),
-        ],
-    )
+    push_line(report, &[Count(b"", node), Set(b" accepts ", content, set)])
 }
 
 // Adds a line for each event of a node.
-fn push_next(
-    report: &mut Bytes,
-    content: &Content,
-    node: u64,
-    steps: &[(Event, u32)],
-) -> Result<(), NoMemory>
+fn push_next(report: &mut Bytes, content: &Content, node: u64, steps: &[(Event, u32)]) -> Written
     ensures { OnOk result (report.new ≡ report.old ++ flat_map (next_text content.now node) steps.now) }
 {
     for step in steps {
@@ -64,12 +44,7 @@ fn push_next(
 }
 
 // Adds a line for each acceptance of a node.
-fn push_accept(
-    report: &mut Bytes,
-    content: &Content,
-    node: u64,
-    sets: &[EventSet],
-) -> Result<(), NoMemory>
+fn push_accept(report: &mut Bytes, content: &Content, node: u64, sets: &[EventSet]) -> Written
     ensures { OnOk result (report.new ≡ report.old ++ flat_map (accept_text content.now node) sets.now) }
 {
     for set in sets {
@@ -79,12 +54,7 @@ fn push_accept(
 }
 
 // Adds the lines of a node.
-fn push_node(
-    report: &mut Bytes,
-    content: &Content,
-    number: u64,
-    node: &NormNode,
-) -> Result<(), NoMemory>
+fn push_node(report: &mut Bytes, content: &Content, number: u64, node: &NormNode) -> Written
     ensures { OnOk result (report.new ≡ report.old ++ node_text content.now number node.now) }
 {
     push_next(report, content, number, node.next())?;
@@ -92,7 +62,7 @@ fn push_node(
 }
 
 // Adds the lines of nodes.
-fn push_nodes(report: &mut Bytes, content: &Content, nodes: &[NormNode]) -> Result<(), NoMemory>
+fn push_nodes(report: &mut Bytes, content: &Content, nodes: &[NormNode]) -> Written
     ensures { OnOk result (report.new ≡ report.old ++ nodes_text content.now 0 nodes.now) }
 {
     for (number, node) in nodes.iter().enumerate() {
@@ -102,16 +72,14 @@ fn push_nodes(report: &mut Bytes, content: &Content, nodes: &[NormNode]) -> Resu
 }
 
 // The first two lines of the report of a table.
-fn head(alloc: Global, component: u32, count: u32, nodes: usize) -> Result<Bytes, NoMemory>
+fn head(alloc: Global, component: u32, count: u32, nodes: usize) -> Printed
     ensures { IfOk result (λ made. made
-        ≡ line (codes "component " ++ decimal component ++ codes " of " ++ decimal count) ++ line (codes "nodes " ++ decimal nodes)) }
+        ≡ line (codes "component " ++ decimal component ++ codes " of " ++ decimal count)
+        ++ line (codes "nodes " ++ decimal nodes)) }
 {
     let mut made = written_line(
         alloc,
-        &[
-            Part::Number(b"component ", component),
-            Part::Number(b" of ", count),
-        ],
+        &[Number(b"component ", component), Number(b" of ", count)],
     )?;
     push_count(&mut made, b"nodes ", nodes as u64)?;
     Ok(made)
@@ -124,7 +92,7 @@ pub(crate) fn table(
     component: u32,
     count: u32,
     nodes: &[NormNode],
-) -> Result<Bytes, NoMemory>
+) -> Printed
     ensures { IfOk result (λ made. made ≡ table_text content.now component count nodes.now) }
 {
     let mut made = head(alloc, component, count, nodes.len())?;

@@ -6,13 +6,13 @@ ghost use Rattle.report.specs.Shortfalls.{shortfall_text};
 ghost use Rattle.report.specs.Report.{conforms_text, deadlock_free_text, done_text, livelock_free_text, verdict_text};
 
 use crate::answer::{Done, Shortfall, Verdict};
-use crate::lines::{Part, one_line, push_count, push_line};
+use crate::lines::Part::{Signed, Text};
+use crate::lines::{Printed, one_line, push_count, push_line};
 use crate::printed::rule_name;
 use crate::refusals::refused;
 use crate::runs::run;
 use crate::shortfalls::push_shortfall;
 use crate::tables::table;
-use csp_base::{Bytes, NoMemory};
 use csp_program::Content;
 use csp_tables::Rule;
 use std::alloc::Global;
@@ -25,23 +25,20 @@ fn deadlock_free(
     nodes: u32,
     bound: u32,
     greatest_rank: i64,
-) -> Result<Bytes, NoMemory>
+) -> Printed
     ensures { IfOk result (λ made. made ≡ deadlock_free_text rule components nodes bound greatest_rank) }
 {
     let mut made = one_line(alloc, b"deadlock-free")?;
-    push_line(
-        &mut made,
-        &[Part::Text(b"rule "), Part::Text(rule_name(rule))],
-    )?;
+    push_line(&mut made, &[Text(b"rule "), Text(rule_name(rule))])?;
     push_count(&mut made, b"components ", u64::from(components))?;
     push_count(&mut made, b"nodes ", u64::from(nodes))?;
     push_count(&mut made, b"silent bound ", u64::from(bound))?;
-    push_line(&mut made, &[Part::Signed(b"greatest rank ", greatest_rank)])?;
+    push_line(&mut made, &[Signed(b"greatest rank ", greatest_rank)])?;
     Ok(made)
 }
 
 // The report of a network whose components conform to its specification.
-fn conforms(alloc: Global, components: u32, bound: u32) -> Result<Bytes, NoMemory>
+fn conforms(alloc: Global, components: u32, bound: u32) -> Printed
     ensures { IfOk result (λ made. made ≡ conforms_text components bound) }
 {
     let mut made = one_line(alloc, b"conforms")?;
@@ -51,7 +48,7 @@ fn conforms(alloc: Global, components: u32, bound: u32) -> Result<Bytes, NoMemor
 }
 
 // The report of a network whose hidden events are bounded.
-fn livelock_free(alloc: Global, components: u32, bound: u64) -> Result<Bytes, NoMemory>
+fn livelock_free(alloc: Global, components: u32, bound: u64) -> Printed
     ensures { IfOk result (λ made. made ≡ livelock_free_text components bound) }
 {
     let mut made = one_line(alloc, b"livelock-free")?;
@@ -61,7 +58,7 @@ fn livelock_free(alloc: Global, components: u32, bound: u64) -> Result<Bytes, No
 }
 
 // The report of a network that is not proved.
-fn not_proved(alloc: Global, content: &Content, shortfall: &Shortfall) -> Result<Bytes, NoMemory>
+fn not_proved(alloc: Global, content: &Content, shortfall: &Shortfall) -> Printed
     ensures { IfOk result (λ made. made ≡ line (codes "not proved") ++ shortfall_text content.now shortfall.now) }
 {
     let mut made = one_line(alloc, b"not proved")?;
@@ -70,7 +67,7 @@ fn not_proved(alloc: Global, content: &Content, shortfall: &Shortfall) -> Result
 }
 
 // The report of what was done.
-fn done(alloc: Global, content: &Content, done: &Done) -> Result<Bytes, NoMemory>
+fn done(alloc: Global, content: &Content, done: &Done) -> Printed
     ensures { IfOk result (λ report. report ≡ done_text content.now done.now) }
 {
     match done {
@@ -93,11 +90,7 @@ fn done(alloc: Global, content: &Content, done: &Done) -> Result<Bytes, NoMemory
 }
 
 // The report of a verdict on a network of this program.
-pub(crate) fn verdict_report(
-    alloc: Global,
-    content: &Content,
-    verdict: &Verdict,
-) -> Result<Bytes, NoMemory>
+pub(crate) fn verdict_report(alloc: Global, content: &Content, verdict: &Verdict) -> Printed
     ensures { IfOk result (λ report. report ≡ verdict_text content.now verdict.now) }
 {
     match verdict {

@@ -1,6 +1,4 @@
-use Rattle.std.proofs.Common.{◌≡◌, ◌++◌, take}
-use Rattle.std.specs.List.{flat_map}
-use Rattle.report.specs.EventText.{field_text}
+use Rattle.report.proofs.Prelude.{◌≡◌, ◌++◌, take, flat_map, field_text}
 use Rattle.report.proofs.events.push_fields.Given as goal
 
 abbrev pub invariant-loop-field : goal.invariant-loop-field

@@ -1,5 +1,4 @@
-use Rattle.std.proofs.Common.{◌≡◌, ◌++◌, take}
-use Rattle.report.specs.Lines.{more_events_text}
+use Rattle.report.proofs.Prelude.{◌≡◌, ◌++◌, take, more_events_text}
 use Rattle.report.proofs.lines.push_more.Given as goal
 
 abbrev pub invariant-loop-event : goal.invariant-loop-event

@@ -1,5 +1,4 @@
-use Rattle.std.proofs.Common.{◌≡◌, ◌++◌, take}
-use Rattle.report.specs.Lines.{numbers_text}
+use Rattle.report.proofs.Prelude.{◌≡◌, ◌++◌, take, numbers_text}
 use Rattle.report.proofs.lines.push_numbers.Given as goal
 
 abbrev pub invariant-loop-number : goal.invariant-loop-number

@@ -1,6 +1,4 @@
-use Rattle.std.proofs.Common.{◌≡◌, ◌++◌, take}
-use Rattle.std.specs.List.{flat_map}
-use Rattle.report.specs.Parts.{part_text}
+use Rattle.report.proofs.Prelude.{◌≡◌, ◌++◌, take, flat_map, part_text}
 use Rattle.report.proofs.lines.push_parts.Given as goal
 
 abbrev pub invariant-loop-part : goal.invariant-loop-part

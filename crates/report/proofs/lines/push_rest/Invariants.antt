@@ -1,5 +1,4 @@
-use Rattle.std.proofs.Common.{◌≡◌, ◌++◌}
-use Rattle.report.specs.Lines.{more_events_text}
+use Rattle.report.proofs.Prelude.{◌≡◌, ◌++◌, more_events_text}
 use Rattle.report.proofs.lines.push_rest.Given as goal
 
 abbrev pub invariant-loop-event : goal.invariant-loop-event

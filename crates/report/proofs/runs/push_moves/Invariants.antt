@@ -1,6 +1,4 @@
-use Rattle.std.proofs.Common.{◌≡◌, ◌++◌, take}
-use Rattle.std.specs.List.{flat_map}
-use Rattle.report.specs.Report.{move_text}
+use Rattle.report.proofs.Prelude.{◌≡◌, ◌++◌, take, flat_map, move_text}
 use Rattle.report.proofs.runs.push_moves.Given as goal
 
 abbrev pub invariant-loop-step : goal.invariant-loop-step

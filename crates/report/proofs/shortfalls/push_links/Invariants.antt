@@ -1,5 +1,4 @@
-use Rattle.std.proofs.Common.{◌≡◌, ◌++◌, take}
-use Rattle.std.specs.List.{flat_map}
+use Rattle.report.proofs.Prelude.{◌≡◌, ◌++◌, take, flat_map}
 use Rattle.report.specs.Shortfalls.{link_text}
 use Rattle.report.proofs.shortfalls.push_links.Given as goal
 use Rattle.csp_base.specs.Texts.{line}

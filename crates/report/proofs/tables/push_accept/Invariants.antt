@@ -1,6 +1,4 @@
-use Rattle.std.proofs.Common.{◌≡◌, ◌++◌, take}
-use Rattle.std.specs.List.{flat_map}
-use Rattle.report.specs.Report.{accept_text}
+use Rattle.report.proofs.Prelude.{◌≡◌, ◌++◌, take, flat_map, accept_text}
 use Rattle.report.proofs.tables.push_accept.Given as goal
 
 abbrev pub invariant-loop-set : goal.invariant-loop-set

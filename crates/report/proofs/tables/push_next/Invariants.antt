@@ -1,6 +1,4 @@
-use Rattle.std.proofs.Common.{◌≡◌, ◌++◌, take}
-use Rattle.std.specs.List.{flat_map}
-use Rattle.report.specs.Report.{next_text}
+use Rattle.report.proofs.Prelude.{◌≡◌, ◌++◌, take, flat_map, next_text}
 use Rattle.report.proofs.tables.push_next.Given as goal
 
 abbrev pub invariant-loop-step : goal.invariant-loop-step

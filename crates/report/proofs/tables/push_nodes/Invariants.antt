@@ -1,5 +1,4 @@
-use Rattle.std.proofs.Common.{◌≡◌, ◌++◌, take}
-use Rattle.report.specs.Report.{nodes_text}
+use Rattle.report.proofs.Prelude.{◌≡◌, ◌++◌, take, nodes_text}
 use Rattle.report.proofs.tables.push_nodes.Given as goal
 
 abbrev pub invariant-loop-number : goal.invariant-loop-number
