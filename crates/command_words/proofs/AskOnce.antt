@@ -1,13 +1,8 @@
 -- No words ask for two things: the first word tells which request it is, and the others what it is for.
-use Rattle.std.proofs.Common.{◌≡◌, ℕ, ◌+◌, ◌<◌, List, [], get_or, sym, ap, ◌∙◌, arith}
-use Rattle.net_maker.specs.Families.{greatest}
-use Rattle.net_maker.specs.declared.families.Family.{Family}
-use Rattle.net_maker.specs.declared.families.Family.TheVariants.{Chain, Forks, Mesh}
-use Rattle.command_words.specs.Prelude.{IsWithin, WordsAskOnce, written}
+use Rattle.command_words.proofs.Prelude.{◌≡◌, ℕ, ◌+◌, ◌<◌, List, [], get_or, sym, ap, ◌∙◌, arith, greatest, Family, Chain, Forks, Mesh, IsWithin, WordsAskOnce, written, Trial}
 use Rattle.command_words.specs.declared.request.Job.TheVariants.{Check, Livelock, Run, Table}
 use Rattle.command_words.specs.declared.request.Request.{Request}
 use Rattle.command_words.specs.declared.request.Request.TheVariants.{Conform, Script, Show, Trial as trial}
-use Rattle.command_words.specs.declared.request.Trial.{Trial}
 use Rattle.command_words.proofs.Digits.{same_number}
 use Rattle.command_words.proofs.Names.{same_family, same_rule}
 

@@ -1,8 +1,7 @@
 -- Digits that are read from the left.
-use Rattle.std.proofs.Common.{◌≡◌, ℕ, zero, suc, ◌+◌, ◌-◌, ◌*◌, ◌^◌, ◌<◌, ◌≤◌, List, [], ◌∷◌, length, get_or, refl, sym, ap, ◌∙◌, arith}
+use Rattle.command_words.proofs.Prelude.{◌≡◌, ℕ, zero, suc, ◌+◌, ◌-◌, ◌*◌, ◌^◌, ◌<◌, ◌≤◌, List, [], ◌∷◌, length, get_or, refl, sym, ap, ◌∙◌, arith, IsShortNumeral, continued, numeral_value}
 use Rattle.csp_base.specs.Standard.{decimal, IsInRange}
 use Rattle.csp_base.proofs.Standard.{decimal-digits_value, digits_decimal, digits_value-decimal, first_decimal, decimal_nonempty, length-decimal-le, decimal_digit, FoldsDigits, IsNumeralModel, digits_value_short, numerals_by_fold, tells_by_index}
-use Rattle.command_words.specs.Numerals.{IsShortNumeral, continued, numeral_value}
 
 abbrev AreDigits : List ℕ → Type 0
 AreDigits ds = (i : ℕ) → i < length ds → IsInRange 48 57 (get_or ds i 0)

@@ -1,10 +1,7 @@
 -- No two rules have one name, and no two families.
-use Rattle.std.proofs.Common.{◌≡◌, ℕ, List, get_or, refl, ap, arith}
+use Rattle.command_words.proofs.Prelude.{◌≡◌, ℕ, List, get_or, refl, ap, arith, family_name, Family, Chain, Forks, Mesh}
 use Rattle.csp_tables.specs.declared.rule.Rule.{Rule}
 use Rattle.csp_tables.specs.declared.rule.Rule.TheVariants.{ClientServer, Cyclic, Resource}
-use Rattle.net_maker.specs.Families.{family_name}
-use Rattle.net_maker.specs.declared.families.Family.{Family}
-use Rattle.net_maker.specs.declared.families.Family.TheVariants.{Chain, Forks, Mesh}
 use Rattle.report.specs.Report.{rule_text}
 
 -- texts with different letters in this place

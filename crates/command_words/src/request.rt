@@ -123,7 +123,8 @@ fn family_named(name: &[u8]) -> Option<Family>
 // The rule and the script's name of the words `check RULE SCRIPT`.
 fn asked_check(words: &[Bytes]) -> Option<(Rule, &[u8])>
     ensures asks { IfSome result (λ asked. words.now ≡ written (request.Script (Check asked.0) asked.1.now)) }
-    ensures none { IfNone result ((rule : RuleValue) (script : List ℕ) → words.now ≡ written (request.Script (Check rule) script) → ⊥) }
+    ensures none { IfNone result
+        ((rule : RuleValue) (script : List ℕ) → words.now ≡ written (request.Script (Check rule) script) → ⊥) }
 {
     match words {
         [check, rule, script] if check.as_slice() == CHECK => match rule_named(rule.as_slice()) {
@@ -147,8 +148,10 @@ fn asked_show(words: &[Bytes]) -> Option<&[u8]>
 
 // The component and the script's name of the words `table SCRIPT INDEX`.
 fn asked_table(words: &[Bytes]) -> Option<(u32, &[u8])>
-    ensures asks { IfSome result (λ asked. (asked.0 < 1000000) × (words.now ≡ written (request.Script (Table asked.0) asked.1.now))) }
-    ensures none { IfNone result ((i : ℕ) (script : List ℕ) → i < 1000000 → words.now ≡ written (request.Script (Table i) script) → ⊥) }
+    ensures asks { IfSome result (λ asked.
+        (asked.0 < 1000000) × (words.now ≡ written (request.Script (Table asked.0) asked.1.now))) }
+    ensures none { IfNone result
+        ((i : ℕ) (script : List ℕ) → i < 1000000 → words.now ≡ written (request.Script (Table i) script) → ⊥) }
 {
     match words {
         [table, script, index] if table.as_slice() == TABLE => match spelled_number(
@@ -164,7 +167,8 @@ fn asked_table(words: &[Bytes]) -> Option<(u32, &[u8])>
 // The seed, the number of steps and the script's name of the words `run SCRIPT SEED STEPS`.
 fn asked_run(words: &[Bytes]) -> Option<(u32, u32, &[u8])>
     ensures asks { IfSome result (λ asked. Asks words.now (request.Script (Run asked.0 asked.1) asked.2.now)) }
-    ensures none { IfNone result ((seed steps : ℕ) (script : List ℕ) → Asks words.now (request.Script (Run seed steps) script) → ⊥) }
+    ensures none { IfNone result
+        ((seed steps : ℕ) (script : List ℕ) → Asks words.now (request.Script (Run seed steps) script) → ⊥) }
 {
     match words {
         [run, script, seed, steps] if run.as_slice() == RUN => {
@@ -196,7 +200,8 @@ fn asked_livelock(words: &[Bytes]) -> Option<(&[u8], &[u8])>
 // What the words ask for the network of a script, and the script's name.
 fn asked_job(alloc: Global, words: &[Bytes]) -> Result<Option<(Job, &[u8])>, NoMemory>
     ensures asks { IfOk result (λ found. IfSome found (λ asked. Asks words.now (request.Script asked.0 asked.1.now))) }
-    ensures none { IfOk result (λ found. IfNone found ((job : JobValue) (script : List ℕ) → Asks words.now (request.Script job script) → ⊥)) }
+    ensures none { IfOk result (λ found.
+        IfNone found ((job : JobValue) (script : List ℕ) → Asks words.now (request.Script job script) → ⊥)) }
 {
     if let Some((rule, script)) = asked_check(words) {
         return Ok(Some((Job::Check(rule), script)));
@@ -216,7 +221,8 @@ fn asked_job(alloc: Global, words: &[Bytes]) -> Result<Option<(Job, &[u8])>, NoM
 
 // The trial of a family, where the family has the size.
 fn trial_of(family: Family, size: u32) -> Option<Trial>
-    ensures trial { IfSome result (λ trial. (trial ≡ record { family = family; size = size }) × (least family ≤ size) × (size ≤ greatest family)) }
+    ensures trial { IfSome result (λ trial.
+        (trial ≡ record { family = family; size = size }) × (least family ≤ size) × (size ≤ greatest family)) }
     ensures none { IfNone result (least family ≤ size → size ≤ greatest family → ⊥) }
 {
     if size < least_size(family) || greatest_size(family) < size {
@@ -255,7 +261,8 @@ fn asked_trial(words: &[Bytes]) -> Option<Trial>
 // The names of the words `conform SCRIPT SPEC`.
 fn asked_conform(words: &[Bytes]) -> Option<(&[u8], &[u8])>
     ensures asks { IfSome result (λ asked. Asks words.now (request.Conform asked.0.now asked.1.now)) }
-    ensures none { IfNone result ((script specification : List ℕ) → Asks words.now (request.Conform script specification) → ⊥) }
+    ensures none { IfNone result
+        ((script specification : List ℕ) → Asks words.now (request.Conform script specification) → ⊥) }
 {
     match words {
         [conform, script, specification] if conform.as_slice() == CONFORM => {

@@ -1,9 +1,5 @@
 -- Steps through a comment and through the rest of an assertion's line.
-use Rattle.std.proofs.Common.{◌≡◌, ℕ, zero, suc, ◌+◌, ◌-◌, ◌<◌, ◌≤◌, add-one, sub-one, true, false, List, [], ◌∷◌, length, drop, codes, Bor, refl, sym, ap, subst, ◌∙◌, arith}
-use Rattle.csp_base.proofs.Standard.{and_parts, cond-true, cond-false, eqb-true, false≢true, length-drop, drop-drop, drop_of_length-le}
-use Rattle.std.specs.Prelude.{Option, Some, None, IfSome, nat_eq, not}
-use Rattle.std.specs.List.{prefix_len, starts_with}
-use Rattle.csp_lexer.specs.Prelude.{after_comments, line_len, ends_line, rest_len}
+use Rattle.csp_lexer.proofs.Prelude.{◌≡◌, ℕ, zero, suc, ◌+◌, ◌-◌, ◌<◌, ◌≤◌, add-one, sub-one, true, false, List, [], ◌∷◌, length, drop, codes, Bor, refl, sym, ap, subst, ◌∙◌, arith, and_parts, cond-true, cond-false, eqb-true, false≢true, length-drop, drop-drop, drop_of_length-le, Option, Some, None, IfSome, nat_eq, not, prefix_len, starts_with, after_comments, line_len, ends_line, rest_len}
 
 pub comment_opens : (n : ℕ) (text : List ℕ) → 2 ≤ length text → 0 < n → starts_with nat_eq text (codes "{-") ≡ true → after_comments (n + 1) (drop 2 text) ≡ after_comments n text
 unfolding after_comments

@@ -1,9 +1,5 @@
 -- How far a text is cut: from the tokens so far and what is left of the text.
-use Rattle.std.proofs.Common.{◌≡◌, ℕ, zero, suc, ◌<◌, ◌≤◌, eqb, false, List, [], ◌∷◌, ◌++◌, length, refl, sym, ap, ◌∙◌, subst, append_assoc, append-nil, arith}
-use Rattle.std.specs.Prelude.{Option, Some, None, Result, Ok, Err}
-use Rattle.csp_base.specs.declared.place.Place.{Place}
-use Rattle.csp_text.specs.declared.token.Token.{Token}
-use Rattle.csp_lexer.specs.Prelude.{added, before, cut, then_cut, Passed, Piece, PlacedTokens, behind_all}
+use Rattle.csp_lexer.proofs.Prelude.{◌≡◌, ℕ, zero, suc, ◌<◌, ◌≤◌, eqb, false, List, [], ◌∷◌, ◌++◌, length, refl, sym, ap, ◌∙◌, subst, append_assoc, append-nil, arith, Option, Some, None, Result, Ok, Err, Place, Token, added, before, cut, then_cut, Passed, Piece, PlacedTokens, behind_all}
 
 -- the cut of the whole text is these tokens and then the cut of what is left
 pub record IsCutSoFar (front : Place → List ℕ → Option Piece) (whole : Result PlacedTokens Place) (placed : List (Token × Place)) (at : Place) (rest : List ℕ) : Type 0 where

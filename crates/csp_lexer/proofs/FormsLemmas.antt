@@ -1,8 +1,5 @@
 -- Steps through the tokens of an assertion's line.
-use Rattle.std.proofs.Common.{◌≡◌, ℕ, zero, suc, ◌<◌, ◌≤◌, List, [], ◌∷◌, length, refl, arith}
-use Rattle.std.specs.Prelude.{Option, None, Some}
-use Rattle.csp_text.specs.declared.token.Token.{Token}
-use Rattle.csp_lexer.specs.Assertions.{after_closing}
+use Rattle.csp_lexer.proofs.Prelude.{◌≡◌, ℕ, zero, suc, ◌<◌, ◌≤◌, List, [], ◌∷◌, length, refl, arith, Option, None, Some, Token, after_closing}
 
 pub none_closes : (n : ℕ) (tokens : List Token) → 0 < n → length tokens ≡ 0 → after_closing n tokens ≡ None
 unfolding after_closing

@@ -4,5 +4,6 @@ pub mod FormsLemmas
 pub mod NumbersLemmas
 pub mod PieceLemmas
 pub mod PlacedLemmas
+pub mod Prelude
 pub mod SymbolsLemmas
 pub mod WordsLemmas

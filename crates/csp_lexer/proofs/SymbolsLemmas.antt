@@ -1,8 +1,5 @@
 -- The symbol found is the longest that stands at the front of the text.
-use Rattle.std.proofs.Common.{◌≡◌, ℕ, zero, suc, ◌+◌, ◌<◌, ◌≤◌, Bool, true, false, ◌&&◌, cond, List, [], ◌∷◌, ◌++◌, length, refl, sym, ap, ◌∙◌, subst, arith}
-use Rattle.csp_base.proofs.Standard.{and_parts, eqb-true, false≢true, length-append, nat_tests}
-use Rattle.std.specs.Prelude.{Option, Some, None, IfSome, find, nat_eq, nat_le, nat_lt}
-use Rattle.std.specs.List.{slice_get, starts_with}
+use Rattle.csp_lexer.proofs.Prelude.{◌≡◌, ℕ, zero, suc, ◌+◌, ◌<◌, ◌≤◌, Bool, true, false, ◌&&◌, cond, List, [], ◌∷◌, ◌++◌, length, refl, sym, ap, ◌∙◌, subst, arith, and_parts, eqb-true, false≢true, length-append, nat_tests, Option, Some, None, IfSome, find, nat_eq, nat_le, nat_lt, slice_get, starts_with}
 use Rattle.csp_text.specs.Prelude.{symbol_text, symbols}
 use Rattle.csp_text.specs.declared.token.Symbol.{Symbol}
 use Rattle.csp_text.proofs.WrittenAlike.{symbol_place, symbol_stands}

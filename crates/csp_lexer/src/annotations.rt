@@ -4,11 +4,10 @@ ghost use Rattle.std.specs.Prelude.{◌≡◌, map, IfOk, IfSome};
 ghost use Rattle.csp_base.specs.Standard.{option_copied, list_all};
 ghost use Rattle.csp_lexer.specs.Annotations.{line_piece, marked_piece, resource, roles, words_of};
 ghost use Rattle.csp_lexer.specs.Passed.{Passed};
-ghost use Rattle.csp_lexer.specs.Pieces.{one_before};
 ghost use Rattle.csp_lexer.specs.Words.{is_name};
 
 use crate::classes::is_space;
-use crate::scan::pass_one;
+use crate::scan::{Left, pass_one};
 use crate::tokens::Tokens;
 use crate::words::is_name;
 use containers::Boxed;
@@ -78,8 +77,9 @@ fn pass_marked<'a>(
     rest: &'a [u8],
     at: Place,
     found: &mut Tokens,
-) -> Result<Option<&'a [u8]>, NoMemory>
-    ensures passed { IfOk result (λ left. Passed (marked_piece at (map (λ word. word.now) words.now) rest.now) found.old found.new (option_copied left)) }
+) -> Left<'a>
+    ensures passed { IfOk result (λ left.
+        Passed (marked_piece at (map (λ word. word.now) words.now) rest.now) found.old found.new (option_copied left)) }
     ensures same { IfOk result (λ left. IfSome left (λ left. left.now ≡ rest.now)) }
 {
     let Some((word, names)) = words.split_first() else {
@@ -104,8 +104,9 @@ pub(crate) fn pass_line<'a>(
     rest: &'a [u8],
     at: Place,
     found: &mut Tokens,
-) -> Result<Option<&'a [u8]>, NoMemory>
-    ensures passed { IfOk result (λ left. Passed (line_piece at line.now rest.now) found.old found.new (option_copied left)) }
+) -> Left<'a>
+    ensures passed { IfOk result (λ left.
+        Passed (line_piece at line.now rest.now) found.old found.new (option_copied left)) }
     ensures same { IfOk result (λ left. IfSome left (λ left. left.now ≡ rest.now)) }
 {
     if !line.starts_with(b"--@") {

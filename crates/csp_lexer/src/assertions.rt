@@ -30,7 +30,8 @@ fn add_line<'a>(
     line: Tokens,
     found: &mut Tokens,
 ) -> Result<&'a [u8], NoMemory>
-    ensures passed { IfOk result (λ left. Passed (Some (asserted at rest.now (Ok line))) found.old found.new (Some left.now)) }
+    ensures passed { IfOk result (λ left.
+        Passed (Some (asserted at rest.now (Ok line))) found.old found.new (Some left.now)) }
     ensures same { IfOk result (λ left. left.now ≡ rest.now) }
 {
     if !is_deadlock_assertion(line.as_slice()) {

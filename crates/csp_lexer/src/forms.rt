@@ -55,7 +55,8 @@ fn is_deadlock_free(tokens: &[Token]) -> bool
 fn open_behind(nested: usize, token: &Token) -> usize
     requires positive { 0 < nested }
     requires bounded { nested + 1 < 2 ^ 64 }
-    ensures value { (tokens : List TokenValue) → after_closing result tokens ≡ after_closing nested (token.now ∷ tokens) }
+    ensures value { (tokens : List TokenValue) → after_closing result tokens
+        ≡ after_closing nested (token.now ∷ tokens) }
     ensures bounded { result ≤ nested + 1 }
 {
     match token {

@@ -13,10 +13,10 @@ use crate::assertions::pass_assertion;
 use crate::classes::is_space;
 use crate::comments::{after_comment, line_len};
 use crate::places::{beginning, behind_all};
-use crate::scan::pass_token;
+use crate::scan::{Left, pass_token};
 use crate::tokens::Tokens;
 use crate::words::word_len;
-use csp_base::{NoMemory, Place};
+use csp_base::Place;
 use csp_text::ParseFault;
 use std::alloc::Global;
 
@@ -42,12 +42,7 @@ fn begins_assertion(text: &[u8]) -> bool
 }
 
 // Passes the line comment at the front of the text, which may be an annotation.
-fn pass_line_comment<'a>(
-    alloc: Global,
-    text: &'a [u8],
-    at: Place,
-    found: &mut Tokens,
-) -> Result<Option<&'a [u8]>, NoMemory>
+fn pass_line_comment<'a>(alloc: Global, text: &'a [u8], at: Place, found: &mut Tokens) -> Left<'a>
     requires { starts_with nat_eq text.now (codes "--") ≡ true }
     ensures passed { IfOk result (λ left. Passed (line_comment at text.now) found.old found.new (option_copied left)) }
     ensures shorter { IfOk result (λ left. IfSome left (λ left. length left.now < length text.now)) }
@@ -64,8 +59,9 @@ fn pass_assertion_or_token<'a>(
     text: &'a [u8],
     at: Place,
     found: &mut Tokens,
-) -> Result<Option<&'a [u8]>, NoMemory>
-    ensures passed { IfOk result (λ left. Passed (assertion_or_token at text.now) found.old found.new (option_copied left)) }
+) -> Left<'a>
+    ensures passed { IfOk result (λ left.
+        Passed (assertion_or_token at text.now) found.old found.new (option_copied left)) }
     ensures shorter { IfOk result (λ left. IfSome left (λ left. length left.now < length text.now)) }
 {
     if begins_assertion(text) {
@@ -77,12 +73,7 @@ fn pass_assertion_or_token<'a>(
 
 // Passes the piece at the front of the text. The result is what is left of the text, or `None` where no piece stands there.
 #[tactic(auto, using(std::proofs::lemmas::List::take_rest), unfolding(crate::specs::Front::front))]
-fn pass_piece<'a>(
-    alloc: Global,
-    text: &'a [u8],
-    at: Place,
-    found: &mut Tokens,
-) -> Result<Option<&'a [u8]>, NoMemory>
+fn pass_piece<'a>(alloc: Global, text: &'a [u8], at: Place, found: &mut Tokens) -> Left<'a>
     requires { 0 < length text.now }
     ensures passed { IfOk result (λ left. Passed (front at text.now) found.old found.new (option_copied left)) }
     ensures shorter { IfOk result (λ left. IfSome left (λ left. length left.now < length text.now)) }

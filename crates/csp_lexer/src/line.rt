@@ -8,7 +8,7 @@ ghost use Rattle.csp_base.specs.declared.place.Place.{Place as PlaceValue};
 
 use crate::classes::is_space;
 use crate::places::behind_all;
-use crate::scan::pass_token;
+use crate::scan::{Left, pass_token};
 use crate::tokens::Tokens;
 use csp_base::{NoMemory, Place};
 use std::alloc::Global;
@@ -37,12 +37,7 @@ pub(crate) fn rest_len(text: &[u8]) -> usize
 
 // Passes the blank or the token at the front of the rest of an assertion's line.
 #[tactic(auto, using(std::proofs::lemmas::List::take_rest), unfolding(crate::specs::Assertions::line_front))]
-fn pass_on_line<'a>(
-    alloc: Global,
-    text: &'a [u8],
-    at: Place,
-    found: &mut Tokens,
-) -> Result<Option<&'a [u8]>, NoMemory>
+fn pass_on_line<'a>(alloc: Global, text: &'a [u8], at: Place, found: &mut Tokens) -> Left<'a>
     requires { 0 < length text.now }
     ensures passed { IfOk result (λ left. Passed (line_front at text.now) found.old found.new (option_copied left)) }
     ensures shorter { IfOk result (λ left. IfSome left (λ left. length left.now < length text.now)) }
@@ -62,7 +57,8 @@ fn pass_all_on_line(
 ) -> Result<Option<Place>, NoMemory>
     requires { found.old.placed ≡ [] }
     ensures { IfOk result (λ end. MatchOption end
-        ((fault : PlaceValue) × (cut_line at line.now ≡ Err fault)) (λ end. cut_line at line.now ≡ Ok (record { placed = found.new.placed; end = end }))) }
+        ((fault : PlaceValue) × (cut_line at line.now ≡ Err fault))
+        (λ end. cut_line at line.now ≡ Ok (record { placed = found.new.placed; end = end }))) }
 {
     let mut at = at;
     let mut rest = line;

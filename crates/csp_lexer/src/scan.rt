@@ -17,6 +17,9 @@ use csp_text::{Symbol, Token, symbol_text};
 use dl_limits::GREATEST_NUMBER;
 use std::alloc::Global;
 
+// What is left of the text behind a piece, or `None` where none stands in front.
+pub(crate) type Left<'a> = Result<Option<&'a [u8]>, NoMemory>;
+
 // The number that the digits are, or `None` where it is too great.
 fn number_token(digits: &[u8]) -> Option<Token>
     ensures { result ≡ number_token digits.now }
@@ -53,7 +56,7 @@ pub(crate) fn pass_one<'a>(
     at: Place,
     rest: &'a [u8],
     found: &mut Tokens,
-) -> Result<Option<&'a [u8]>, NoMemory>
+) -> Left<'a>
     ensures passed { IfOk result (λ left.
         Passed (one_before at rest.now token) found.old found.new (option_copied left)) }
     ensures same { IfOk result (λ left. IfSome left (λ left. left.now ≡ rest.now)) }
@@ -67,12 +70,7 @@ pub(crate) fn pass_one<'a>(
 
 // Adds the symbol, which the text begins with, and leaves what follows it.
 #[tactic(auto, using(std::proofs::lemmas::List::take_rest))]
-fn pass_symbol<'a>(
-    symbol: Symbol,
-    at: Place,
-    text: &'a [u8],
-    found: &mut Tokens,
-) -> Result<Option<&'a [u8]>, NoMemory>
+fn pass_symbol<'a>(symbol: Symbol, at: Place, text: &'a [u8], found: &mut Tokens) -> Left<'a>
     requires has_byte { 0 < length (symbol_text symbol) }
     requires within { length (symbol_text symbol) ≤ length text.now }
     ensures passed { IfOk result (λ left.
@@ -91,7 +89,7 @@ pub(crate) fn pass_token<'a>(
     text: &'a [u8],
     at: Place,
     found: &mut Tokens,
-) -> Result<Option<&'a [u8]>, NoMemory>
+) -> Left<'a>
     ensures passed { IfOk result (λ left.
         Passed (one_at at text.now (token_at on_line text.now)) found.old found.new (option_copied left)) }
     ensures shorter { IfOk result (λ left. IfSome left (λ left. length left.now < length text.now)) }

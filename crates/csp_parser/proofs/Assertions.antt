@@ -1,9 +1,5 @@
 -- Assertions, step by step.
-use Rattle.std.proofs.Common.{◌≡◌, Bool, true, false, Some, None, List, ap, ◌∙◌}
-use Rattle.std.specs.Prelude.{ℕ}
-use Rattle.csp_text.specs.declared.token.Token.{Token}
-use Rattle.csp_grammar.specs.Reader.{and_then}
-use Rattle.tree_reading.specs.Prelude.{name_that, sure, named}
+use Rattle.csp_parser.proofs.Prelude.{◌≡◌, Bool, true, false, Some, None, List, ap, ◌∙◌, ℕ, Token, and_then, name_that, sure, named}
 
 -- NAMES THAT ARE EXPECTED
 

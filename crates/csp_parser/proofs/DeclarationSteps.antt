@@ -1,14 +1,6 @@
 -- Declarations, one after another.
-use Rattle.std.proofs.Common.{◌≡◌, ℕ, suc, false, true, eqb, ◌-◌, ◌≤◌, Option, Some, None, List, [], ◌∷◌, ◌++◌, Err, length, refl, sym, ap, ◌∙◌, append-nil, append_assoc, arith}
+use Rattle.csp_parser.proofs.Prelude.{◌≡◌, ℕ, suc, false, true, eqb, ◌-◌, ◌≤◌, Option, Some, None, List, [], ◌∷◌, ◌++◌, Err, length, refl, sym, ap, ◌∙◌, append-nil, append_assoc, arith, Decl, Token, and_then, Reads, later, Comes, limited, read_declaration, ReadFault}
 use Rattle.std.proofs.lemmas.Bool.{eqb-true}
-use Rattle.csp_text.specs.declared.script.Decl.{Decl}
-use Rattle.csp_text.specs.declared.token.Token.{Token}
-use Rattle.csp_grammar.specs.Reader.{and_then}
-use Rattle.tree_parser.specs.Reads.{Reads}
-use Rattle.tree_parser.proofs.ListSteps.{later}
-use Rattle.tree_parser.proofs.SoFar.{Comes}
-use Rattle.tree_reading.specs.Prelude.{limited, read_declaration}
-use Rattle.tree_reading.specs.declared.fault.ReadFault.{ReadFault}
 use Rattle.tree_reading.specs.declared.fault.ReadFault.TheVariants as fault
 
 -- declarations with these in front

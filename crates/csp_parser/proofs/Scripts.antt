@@ -1,17 +1,6 @@
 -- What the reading of the declarations says of the script.
-use Rattle.std.proofs.Common.{◌≡◌, ℕ, Option, Some, None, List, Err, sym, subst, ◌∙◌}
-use Rattle.std.specs.Prelude.{Result, Ok}
-use Rattle.csp_base.specs.declared.place.Place.{Place}
-use Rattle.csp_text.specs.declared.script.Decl.{Decl}
-use Rattle.csp_text.specs.declared.script.Script.{Script}
-use Rattle.csp_text.specs.declared.token.Token.{Token}
-use Rattle.csp_grammar.specs.Declarations.{DeclarationsText, ScriptText}
-use Rattle.csp_lexer.specs.Placed.{PlacedTokens, tokens_of}
+use Rattle.csp_parser.proofs.Prelude.{◌≡◌, ℕ, Option, Some, None, List, Err, sym, subst, ◌∙◌, Result, Ok, Place, Decl, Script, Token, DeclarationsText, ScriptText, PlacedTokens, tokens_of, Comes, Reads, Limited, Settles, ReadFault}
 use Rattle.csp_parser.specs.Spells.{EachTextSpellsOneScript}
-use Rattle.tree_parser.proofs.SoFar.{Comes}
-use Rattle.tree_parser.specs.Reads.{Reads}
-use Rattle.tree_reading.specs.Prelude.{Limited, Settles}
-use Rattle.tree_reading.specs.declared.fault.ReadFault.{ReadFault}
 use Rattle.tree_reading.specs.declared.fault.ReadFault.TheVariants as fault
 use Rattle.tree_reading.proofs.Unique.{one_script, settled_nothing, settled_script}
 

@@ -16,7 +16,7 @@ use tree_reading::look::{expect, named, skip};
 use tree_reading::read::{Read, Reading};
 
 // The name or the call that is asserted: an atom that begins with a name.
-fn asserted<'t>(alloc: Global, tokens: &'t [Token]) -> Reading<'t, DeepTree>
+fn asserted(alloc: Global, tokens: &[Token]) -> Reading<'_, DeepTree>
     ensures reads { Reads result part_read (8 * length tokens.now + 1) (λ L. read_asserted L tokens.now) }
     ensures shorter { IfOk result (λ r. length r.rest.now < length tokens.now) }
 {
@@ -116,7 +116,7 @@ fn ending(tokens: &[Token]) -> Result<&[Token], ReadFault>
 }
 
 // The assertion behind `assert`.
-pub(crate) fn assertion<'t>(alloc: Global, tokens: &'t [Token]) -> Reading<'t, Decl>
+pub(crate) fn assertion(alloc: Global, tokens: &[Token]) -> Reading<'_, Decl>
     ensures reads { Reads result part_read (8 * length tokens.now + 1) (λ L. read_assertion L tokens.now) }
     ensures shorter { IfOk result (λ r. length r.rest.now < length tokens.now) }
 {

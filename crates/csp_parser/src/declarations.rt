@@ -88,7 +88,7 @@ fn word_declaration<'t>(
 }
 
 // The declaration at the front.
-fn declaration<'t>(alloc: Global, tokens: &'t [Token]) -> Reading<'t, Decl>
+fn declaration(alloc: Global, tokens: &[Token]) -> Reading<'_, Decl>
     ensures reads { Reads result part_read (8 * length tokens.now) (λ L. read_declaration L tokens.now) }
     ensures shorter { IfOk result (λ r. length r.rest.now < length tokens.now) }
 {

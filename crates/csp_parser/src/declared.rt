@@ -15,7 +15,7 @@ use tree_reading::look::{expect, expect_name, skip};
 use tree_reading::read::{Read, Reading};
 
 // The channels behind `channel`, with the types of their fields.
-pub(crate) fn channel<'t>(alloc: Global, tokens: &'t [Token]) -> Reading<'t, Decl>
+pub(crate) fn channel(alloc: Global, tokens: &[Token]) -> Reading<'_, Decl>
     ensures reads { Reads result part_read (8 * length tokens.now + 1) (λ L. read_channel L tokens.now) }
     ensures shorter { IfOk result (λ r. length r.rest.now < length tokens.now) }
 {
@@ -36,7 +36,7 @@ pub(crate) fn channel<'t>(alloc: Global, tokens: &'t [Token]) -> Reading<'t, Dec
 }
 
 // The name of a type and its values, behind `datatype`.
-pub(crate) fn datatype<'t>(alloc: Global, tokens: &'t [Token]) -> Reading<'t, Decl>
+pub(crate) fn datatype(alloc: Global, tokens: &[Token]) -> Reading<'_, Decl>
     ensures reads { Reads result part_read (8 * length tokens.now + 1) (λ L. read_datatype L tokens.now) }
     ensures shorter { IfOk result (λ r. length r.rest.now < length tokens.now) }
 {
@@ -50,7 +50,7 @@ pub(crate) fn datatype<'t>(alloc: Global, tokens: &'t [Token]) -> Reading<'t, De
 }
 
 // The name of a set and the set, behind `nametype`.
-pub(crate) fn nametype<'t>(alloc: Global, tokens: &'t [Token]) -> Reading<'t, Decl>
+pub(crate) fn nametype(alloc: Global, tokens: &[Token]) -> Reading<'_, Decl>
     ensures reads { Reads result part_read (8 * length tokens.now + 1) (λ L. read_nametype L tokens.now) }
     ensures shorter { IfOk result (λ r. length r.rest.now < length tokens.now) }
 {

@@ -12,11 +12,7 @@ use tree_reading::look::{expect, expect_name, skip};
 use tree_reading::read::{Read, Reading};
 
 // One name or more, with the sign between them.
-pub(crate) fn names<'t>(
-    alloc: Global,
-    sign: Symbol,
-    tokens: &'t [Token],
-) -> Reading<'t, Items<Name>>
+pub(crate) fn names(alloc: Global, sign: Symbol, tokens: &[Token]) -> Reading<'_, Items<Name>>
     ensures reads { Reads result part_read (8 * length tokens.now + 1) (λ L. L.names sign tokens.now) }
     ensures shorter { IfOk result (λ r. length r.rest.now < length tokens.now) }
 {
@@ -42,7 +38,7 @@ pub(crate) fn names<'t>(
 }
 
 // The parameters of a definition: names in parentheses, or nothing.
-pub(crate) fn parameters<'t>(alloc: Global, tokens: &'t [Token]) -> Reading<'t, Items<Name>>
+pub(crate) fn parameters(alloc: Global, tokens: &[Token]) -> Reading<'_, Items<Name>>
     ensures reads { Reads result part_read (8 * length tokens.now) (λ L. read_parameters L tokens.now) }
     ensures shorter { IfOk result (λ r. length r.rest.now ≤ length tokens.now) }
 {

@@ -18,7 +18,7 @@ pub(crate) const WHOLE: Limits = Limits {
 };
 
 // One type or more, with dots between them.
-pub(crate) fn types<'t>(alloc: Global, tokens: &'t [Token]) -> Reading<'t, Items<Tree>>
+pub(crate) fn types(alloc: Global, tokens: &[Token]) -> Reading<'_, Items<Tree>>
     ensures reads { Reads result part_read (8 * length tokens.now + 2) (λ L. L.types tokens.now) }
     ensures shorter { IfOk result (λ r. length r.rest.now < length tokens.now) }
 {

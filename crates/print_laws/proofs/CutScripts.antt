@@ -1,23 +1,10 @@
 -- The printed text of a script is cut into its printed tokens.
-use Rattle.std.proofs.Common.{◌≡◌, ℕ, suc, ◌+◌, ◌<◌, true, List, [], ◌∷◌, ◌++◌, length, take, drop, codes, refl, sym, ap, ◌∙◌, subst, append_assoc, append-nil, length-append, arith}
-use Rattle.csp_base.proofs.Standard.{cond-true, take-append_seam, drop-append_seam}
-use Rattle.std.specs.Prelude.{Option, Some, Result, flat_map}
-use Rattle.csp_base.specs.declared.place.Place.{Place}
-use Rattle.csp_text.specs.declared.script.Decl.{Decl}
-use Rattle.csp_text.specs.declared.token.Symbol.TheVariants.{Colon, Dot, Defines, Comma, Bar, OpenParen, CloseParen, OpenBracket, CloseBracket}
-use Rattle.csp_text.specs.declared.token.Token.{Token}
-use Rattle.csp_text.specs.declared.token.Token.TheVariants.{Name, Word, Symbol}
-use Rattle.csp_text.specs.declared.tree.Tree.{Tree}
+use Rattle.print_laws.proofs.Prelude.{◌≡◌, ℕ, suc, ◌+◌, ◌<◌, true, List, [], ◌∷◌, ◌++◌, length, take, drop, codes, refl, sym, ap, ◌∙◌, subst, append_assoc, append-nil, length-append, arith, cond-true, take-append_seam, drop-append_seam, Option, Some, Result, flat_map, Place, Decl, Colon, Dot, Defines, Comma, Bar, OpenParen, CloseParen, OpenBracket, CloseBracket, Token, Name, Symbol, Tree, after_arguments, after_call, after_closing, asserted, assertion, cut_line, is_closed, is_deadlock_assertion, is_deadlock_free, line_front, rest_len, begins_assertion, front, Piece, PlacedTokens, behind_all, is_foreign, is_name, reserved_word, word_len, word_rest_len, item_tokens, operand_tokens, printed_tokens, separated, deadlock_free_tokens, decl_tokens, names_tokens, parameters_tokens, types_tokens, line, spaced, token_text, Every, Fits, FitsLine, IsName, MadeTree, MadeTrees, MadeNames, MadeTypes, MadeParameters, MadeDecl, MadeDecls}
+use Rattle.csp_text.specs.declared.token.Token.TheVariants.{Word}
 use Rattle.csp_text.specs.declared.token.Token.TheVariants as token
 use Rattle.csp_text.specs.declared.token.Word.TheVariants as word
 use Rattle.csp_text.specs.declared.tree.Tree.TheVariants as tree
 use Rattle.csp_text.specs.declared.script.Decl.TheVariants as decl
-use Rattle.csp_lexer.specs.Prelude.{after_arguments, after_call, after_closing, asserted, assertion, cut_line, is_closed, is_deadlock_assertion, is_deadlock_free, line_front, rest_len, begins_assertion, front, Piece, PlacedTokens, behind_all, is_foreign, is_name, reserved_word, word_len, word_rest_len}
-use Rattle.script_printer.specs.PrintedTree.{item_tokens, operand_tokens, printed_tokens, separated}
-use Rattle.script_printer.specs.PrintedScript.{deadlock_free_tokens, decl_tokens, names_tokens, parameters_tokens, types_tokens}
-use Rattle.script_printer.specs.TokenText.{line, spaced, token_text}
-use Rattle.print_laws.specs.Fits.{Every, Fits, FitsLine, IsName}
-use Rattle.print_laws.specs.Made.{MadeTree, MadeTrees, MadeNames, MadeTypes, MadeParameters, MadeDecl, MadeDecls}
 use Rattle.print_laws.specs.Made as m
 use Rattle.print_laws.proofs.Plain.{Plain}
 use Rattle.print_laws.proofs.AnnotationLines.{resource_stands, roles_stands}

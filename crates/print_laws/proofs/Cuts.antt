@@ -1,10 +1,5 @@
 -- Texts that are cut into these tokens, wherever they begin.
-use Rattle.std.proofs.Common.{◌≡◌, ℕ, zero, suc, ◌≤◌, ◌<◌, List, [], ◌∷◌, ◌++◌, length, refl, ap, ◌∙◌, arith}
-use Rattle.std.proofs.lemmas.List.{map-append}
-use Rattle.std.specs.Prelude.{Option, Some, Result, Ok}
-use Rattle.csp_base.specs.declared.place.Place.{Place}
-use Rattle.csp_text.specs.declared.token.Token.{Token}
-use Rattle.csp_lexer.specs.Prelude.{added, before, cut, then_cut, Piece, PlacedTokens, tokens_of, behind_all}
+use Rattle.print_laws.proofs.Prelude.{◌≡◌, ℕ, zero, suc, ◌≤◌, ◌<◌, List, [], ◌∷◌, ◌++◌, length, refl, ap, ◌∙◌, arith, map-append, Option, Some, Result, Ok, Place, Token, added, before, cut, then_cut, Piece, PlacedTokens, tokens_of, behind_all}
 
 -- the cut gives these tokens
 pub record IsCut (result : Result PlacedTokens Place) (tokens : List Token) : Type 0 where

@@ -1,31 +1,13 @@
 -- Texts of printed forms, from those of their parts: a form is an atom, a dotted event or compound, and may open a bracket of its own. The brackets that a printed tree opens are at most two a level: an operand or an item of depth d
 -- is a text where 2 * d brackets may be opened, and a bare tree where one fewer may be.
-use Rattle.std.proofs.Common.{◌≡◌, ℕ, zero, suc, ◌+◌, ◌*◌, ◌<◌, ◌≤◌, List, [], ◌∷◌, ◌++◌, ap, sym, refl, ◌∙◌, subst, append_assoc, arith}
-use Rattle.csp_text.specs.Prelude.{tree_depth, set_op_word}
-use Rattle.csp_text.specs.declared.token.Symbol.TheVariants.{OpenParen, CloseParen, Comma}
-use Rattle.csp_text.specs.declared.token.Token.{Token}
-use Rattle.csp_text.specs.declared.tree.EventTree.{EventTree}
-use Rattle.csp_text.specs.declared.tree.FieldTree.{FieldTree}
-use Rattle.csp_text.specs.declared.tree.FieldTree.TheOpen.{Tree-F}
-use Rattle.csp_text.specs.declared.tree.FieldTree.TheViews.{roll-Tree}
-use Rattle.csp_text.specs.declared.tree.GenTree.{GenTree}
-use Rattle.csp_text.specs.declared.tree.PartTree.{PartTree}
-use Rattle.csp_text.specs.declared.tree.Tree.{Tree}
-use Rattle.csp_text.specs.declared.token.Token.TheVariants.{Symbol}
+use Rattle.print_laws.proofs.Prelude.{◌≡◌, ℕ, zero, suc, ◌+◌, ◌*◌, ◌<◌, ◌≤◌, List, [], ◌∷◌, ◌++◌, ap, sym, refl, ◌∙◌, subst, append_assoc, arith, tree_depth, set_op_word, OpenParen, CloseParen, Comma, Token, EventTree, FieldTree, Tree-F, roll-Tree, GenTree, PartTree, Tree, Symbol, BinOp, SetOp, TreeText, PrefixText, SequenceText, OpenText, DottedText, ExpressionText, ItemText, AtomText, closed, disjunction-conjunction, conjunction-negation, sum-product, product-minus, disjunction, conjunction, negation, comparison, sum, product, minus, Shape, Atom, Dotted, Compound, as_item, as_operand, form, in_parentheses, item_tokens, operand_tokens, operator_token, printed_tokens, shape_of, at_level, from_level}
 use Rattle.csp_text.specs.declared.tree.Tree.TheVariants as tree
-use Rattle.csp_base.specs.declared.operators.BinOp.{BinOp}
-use Rattle.csp_base.specs.declared.operators.SetOp.{SetOp}
 use Rattle.csp_base.specs.declared.operators.BinOp.TheVariants as op
 use Rattle.csp_base.specs.declared.operators.SetOp.TheVariants as set_op
-use Rattle.csp_grammar.specs.Prelude.{TreeText, PrefixText, SequenceText, OpenText, DottedText, ExpressionText, ItemText, AtomText, closed, disjunction-conjunction, conjunction-negation, sum-product, product-minus, disjunction, conjunction, negation, comparison, sum, product, minus}
 use Rattle.csp_grammar.specs.Grammar as g
 use Rattle.csp_grammar.specs.Precedence as table
-use Rattle.script_printer.specs.declared.shape.Shape.{Shape}
-use Rattle.script_printer.specs.declared.shape.Shape.TheVariants.{Atom, Dotted, Compound}
-use Rattle.script_printer.specs.PrintedTree.{as_item, as_operand, form, in_parentheses, item_tokens, operand_tokens, operator_token, printed_tokens, shape_of}
 use Rattle.script_printer.proofs.PrintedEquations.{shape_is}
 use Rattle.print_laws.proofs.Onto as onto
-use Rattle.tree_reading.proofs.Meaning.{at_level, from_level}
 use Rattle.tree_reading.proofs.NodeDepths as depths
 
 pub as_prefix : {n : ℕ} {ts : List Token} {t : Tree} {r : List Token} → AtomText n ts t r → PrefixText n closed ts t r

@@ -1,16 +1,8 @@
 -- The tokens that the lexer finds are well formed, and stand in lines.
-use Rattle.std.proofs.Common.{◌≡◌, ℕ, zero, suc, Bool, true, false, List, [], ◌∷◌, ◌++◌, length, take, drop, codes, refl, sym, ◌∙◌, subst}
-use Rattle.csp_base.proofs.Standard.{and_parts, false≢true, map-append}
-use Rattle.std.specs.Prelude.{Option, Some, None, Result, Ok, Err, nat_eq, if◌then◌else◌, slice_index}
-use Rattle.csp_base.specs.Standard.{starts_with, option_map_or, bytes_eq}
-use Rattle.csp_base.specs.declared.place.Place.{Place}
-use Rattle.csp_text.specs.declared.token.Token.{Token}
+use Rattle.print_laws.proofs.Prelude.{◌≡◌, ℕ, zero, suc, Bool, true, false, List, [], ◌∷◌, ◌++◌, length, take, drop, codes, refl, sym, ◌∙◌, subst, and_parts, false≢true, map-append, Option, Some, None, Result, Ok, Err, nat_eq, if◌then◌else◌, slice_index, starts_with, option_map_or, bytes_eq, Place, Token, is_space, line_comment, line_piece, marked_piece, resource, roles, words_of, after_arguments, after_call, after_closing, asserted, assertion, cut_line, is_closed, is_deadlock_assertion, is_deadlock_free, line_front, rest_len, after_comments, line_len, added, before, cut, then_cut, begins_assertion, front, is_blank, assertion_or_token, lexed, Piece, nothing, nothing_before, one_at, one_before, PlacedTokens, tokens_of, beginning, behind_all, token_at, Every, Fits, FitsLine, Lines, is_assert}
 use Rattle.csp_text.specs.declared.token.Token.TheVariants as token
 use Rattle.csp_text.specs.declared.token.Word.TheVariants as word
 use Rattle.csp_text.specs.declared.token.Symbol.TheVariants as symbol
-use Rattle.csp_lexer.specs.Prelude.{is_space, line_comment, line_piece, marked_piece, resource, roles, words_of, after_arguments, after_call, after_closing, asserted, assertion, cut_line, is_closed, is_deadlock_assertion, is_deadlock_free, line_front, rest_len, after_comments, line_len, added, before, cut, then_cut, begins_assertion, front, is_blank, assertion_or_token, lexed, Piece, nothing, nothing_before, one_at, one_before, PlacedTokens, tokens_of, beginning, behind_all, token_at}
-use Rattle.print_laws.specs.Fits.{Every, Fits, FitsLine}
-use Rattle.print_laws.specs.Lines.{Lines, is_assert}
 use Rattle.print_laws.specs.Lines as position
 use Rattle.print_laws.proofs.FoundTokens.{IsQuietToken, IsToken, Of, line_token_fits, of_if, resource_fits, roles_fit, token_fits}
 

@@ -1,19 +1,9 @@
 -- Each token that the lexer finds is well formed.
-use Rattle.std.proofs.Common.{◌≡◌, ℕ, suc, ◌+◌, ◌≤◌, Bool, true, false, ◌&&◌, List, [], ◌∷◌, length, take, drop, codes, refl, sym, ap, ◌∙◌, arith}
-use Rattle.csp_base.proofs.Standard.{cond-true, cond-false, false≢true, length-drop, length-take-le, prefix_len-le-length}
-use Rattle.std.specs.Prelude.{Option, Some, None, cond, find, nat_eq, nat_le, nat_lt, not, is_none, if◌then◌else◌}
-use Rattle.csp_base.specs.Standard.{list_all, prefix_len, starts_with, bytes_eq}
-use Rattle.csp_base.proofs.Booleans.{and_first, and_second}
-use Rattle.csp_text.specs.Prelude.{symbol_text, symbols, word_text, words}
+use Rattle.print_laws.proofs.Prelude.{◌≡◌, ℕ, suc, ◌+◌, ◌≤◌, Bool, true, false, ◌&&◌, List, [], ◌∷◌, length, take, drop, codes, refl, sym, ap, ◌∙◌, arith, cond-true, cond-false, false≢true, length-drop, length-take-le, prefix_len-le-length, Option, Some, None, cond, find, nat_eq, nat_le, nat_lt, not, is_none, if◌then◌else◌, list_all, prefix_len, starts_with, bytes_eq, and_first, and_second, symbol_text, symbols, word_text, words, Token, Word, resource, roles, begins_assertion, longest_symbol, symbol_at, continued, digits_len, number_token, symbol_with_len, token_at, with_len, is_foreign, is_letter, is_name, is_name_byte, is_prime, reserved_word, word_len, word_or_name, word_rest_len, word_token, Fits, FitsLine, IsName, is_single, is_assert}
 use Rattle.csp_text.specs.declared.token.Symbol.{Symbol}
-use Rattle.csp_text.specs.declared.token.Token.{Token}
-use Rattle.csp_text.specs.declared.token.Word.{Word}
 use Rattle.csp_text.specs.declared.token.Token.TheVariants as token
 use Rattle.csp_text.specs.declared.token.Word.TheVariants as word
 use Rattle.csp_text.specs.declared.token.Symbol.TheVariants as symbol
-use Rattle.csp_lexer.specs.Prelude.{resource, roles, begins_assertion, longest_symbol, symbol_at, continued, digits_len, number_token, symbol_with_len, token_at, with_len, is_foreign, is_letter, is_name, is_name_byte, is_prime, reserved_word, word_len, word_or_name, word_rest_len, word_token}
-use Rattle.print_laws.specs.Fits.{Fits, FitsLine, IsName, is_single}
-use Rattle.print_laws.specs.Lines.{is_assert}
 use Rattle.print_laws.proofs.Quiet.{word_len_is, word_rest_more, word_rest_primes}
 
 -- what holds of a value, where there is one

@@ -1,32 +1,13 @@
 -- What holds of a rest, where `k` parentheses are open, holds of the tokens of a printed tree in front of it too.
-use Rattle.std.proofs.Common.{◌≡◌, ℕ, suc, Bool, true, false, List, [], ◌∷◌, ◌++◌, ap, sym, refl, ◌∙◌, subst, append_assoc}
-use Rattle.std.specs.Prelude.{flat_map}
-use Rattle.csp_text.specs.Prelude.{set_op_word}
-use Rattle.csp_text.specs.declared.token.Symbol.TheVariants.{Arrow, ExternalChoice, InternalChoice, Parallel, OpenRename, CloseRename, OpenProduct, CloseProduct, DotDot, Dot, Colon, At, Minus, OpenParen, CloseParen, OpenBrace, CloseBrace, OpenBracket, CloseBracket, Comma, Ampersand, Bar, Backslash, Semicolon}
-use Rattle.csp_text.specs.declared.token.Token.{Token}
-use Rattle.csp_text.specs.declared.token.Token.TheVariants.{Name, Num, Word, Symbol}
-use Rattle.csp_text.specs.declared.tree.EventTree.{EventTree}
-use Rattle.csp_text.specs.declared.tree.FieldTree.{FieldTree}
-use Rattle.csp_text.specs.declared.tree.FieldTree.TheOpen.{Tree-F}
-use Rattle.csp_text.specs.declared.tree.FieldTree.TheViews.{roll-Tree}
-use Rattle.csp_text.specs.declared.tree.GenTree.{GenTree}
-use Rattle.csp_text.specs.declared.tree.PartTree.{PartTree}
-use Rattle.csp_text.specs.declared.tree.Tree.{Tree}
+use Rattle.print_laws.proofs.Prelude.{◌≡◌, ℕ, suc, Bool, true, false, List, [], ◌∷◌, ◌++◌, ap, sym, refl, ◌∙◌, subst, append_assoc, flat_map, set_op_word, Arrow, ExternalChoice, InternalChoice, Parallel, OpenRename, CloseRename, OpenProduct, CloseProduct, DotDot, Dot, Colon, At, Minus, OpenParen, CloseParen, OpenBrace, CloseBrace, OpenBracket, CloseBracket, Comma, Ampersand, Bar, Backslash, Semicolon, Token, Name, Num, Symbol, EventTree, FieldTree, Tree-F, roll-Tree, GenTree, PartTree, Tree, BinOp, SetOp, Choice, choice_sign, choice_of, event_tree, Shape, Atom, Dotted, Compound, as_item, as_operand, conditions, dotted, field_tokens, gen_tokens, in_parentheses, item_tokens, operand_tokens, operator_token, part_tokens, printed_tokens, renamed_tokens, separated, shape_of, is_common, MadeTree, MadeTrees, MadeDots, MadeFields, MadePart, MadeParts, MadePairs, MadeGen, MadeGens, MadeConditions}
+use Rattle.csp_text.specs.declared.token.Token.TheVariants.{Word}
 use Rattle.csp_text.specs.declared.token.Token.TheVariants as token
 use Rattle.csp_text.specs.declared.token.Word.TheVariants as word
 use Rattle.csp_text.specs.declared.token.Symbol.TheVariants as symbol
 use Rattle.csp_text.specs.declared.tree.Tree.TheVariants as tree
-use Rattle.csp_base.specs.declared.operators.BinOp.{BinOp}
-use Rattle.csp_base.specs.declared.operators.SetOp.{SetOp}
 use Rattle.csp_base.specs.declared.operators.BinOp.TheVariants as op
 use Rattle.csp_base.specs.declared.operators.SetOp.TheVariants as set_op
-use Rattle.csp_grammar.specs.Grammar.{Choice, choice_sign, choice_of, event_tree}
 use Rattle.csp_grammar.specs.Grammar as grammar
-use Rattle.script_printer.specs.declared.shape.Shape.{Shape}
-use Rattle.script_printer.specs.declared.shape.Shape.TheVariants.{Atom, Dotted, Compound}
-use Rattle.script_printer.specs.PrintedTree.{as_item, as_operand, conditions, dotted, field_tokens, gen_tokens, in_parentheses, item_tokens, operand_tokens, operator_token, part_tokens, printed_tokens, renamed_tokens, separated, shape_of}
-use Rattle.print_laws.specs.Fits.{is_common}
-use Rattle.print_laws.specs.Made.{MadeTree, MadeTrees, MadeDots, MadeFields, MadePart, MadeParts, MadePairs, MadeGen, MadeGens, MadeConditions}
 use Rattle.print_laws.specs.Made as m
 use Rattle.print_laws.proofs.Forms.{item_is, operand_is}
 use Rattle.print_laws.proofs.Onto as onto

@@ -10,6 +10,7 @@ pub mod Numbers
 pub mod Onto
 pub mod Parentheses
 pub mod Plain
+pub mod Prelude
 pub mod Quiet
 pub mod RoundTrip
 pub mod ScriptTexts

@@ -1,13 +1,7 @@
 -- Names before a byte that is none of a name's.
-use Rattle.std.proofs.Common.{◌≡◌, ℕ, ◌+◌, ◌<◌, Bool, true, false, List, [], ◌∷◌, ◌++◌, length, take, drop, codes, refl, sym, ap, ◌∙◌, arith}
-use Rattle.csp_base.proofs.Standard.{and_parts, cond-true, cond-false, eqb-true, false≢true, not-true, and_left, drop-append-le, prefix_len-le-length, bytes_eq-Decides, take-append_seam, drop-append_seam}
-use Rattle.std.specs.Prelude.{Option, Some, None, cond, nat_eq, nat_lt, is_none, if◌then◌else◌}
-use Rattle.csp_base.specs.Standard.{prefix_len, starts_with, bytes_eq}
-use Rattle.csp_base.specs.declared.place.Place.{Place}
+use Rattle.print_laws.proofs.Prelude.{◌≡◌, ℕ, ◌+◌, ◌<◌, Bool, true, false, List, [], ◌∷◌, ◌++◌, length, take, drop, codes, refl, sym, ap, ◌∙◌, arith, and_parts, cond-true, cond-false, eqb-true, false≢true, not-true, and_left, drop-append-le, prefix_len-le-length, bytes_eq-Decides, take-append_seam, drop-append_seam, Option, Some, None, cond, nat_eq, nat_lt, is_none, if◌then◌else◌, prefix_len, starts_with, bytes_eq, Place, Word, is_space, line_front, front, begins_assertion, is_blank, one, one_at, token_at, with_len, is_foreign, is_letter, is_name, is_name_byte, is_prime, reserved_word, word_len, word_or_name, word_rest_len, word_token}
 use Rattle.csp_text.specs.declared.token.Token.TheVariants as token
-use Rattle.csp_text.specs.declared.token.Word.{Word}
 use Rattle.csp_text.specs.declared.token.Word.TheVariants as word
-use Rattle.csp_lexer.specs.Prelude.{is_space, line_front, front, begins_assertion, is_blank, one, one_at, token_at, with_len, is_foreign, is_letter, is_name, is_name_byte, is_prime, reserved_word, word_len, word_or_name, word_rest_len, word_token}
 
 -- a byte that fails the test ends the front that passes it
 pub prefix_stops : (p : ℕ → Bool) (y r : List ℕ) (b : ℕ) → p b ≡ false → prefix_len p (y ++ b ∷ r) ≡ prefix_len p y

@@ -1,13 +1,7 @@
 -- Numbers before a byte that is no digit.
-use Rattle.std.proofs.Common.{◌≡◌, ℕ, ◌+◌, ◌-◌, ◌*◌, ◌≤◌, ◌<◌, Bool, true, false, List, [], ◌∷◌, ◌++◌, length, take, codes, refl, ap, ◌∙◌, arith}
-use Rattle.csp_base.proofs.Standard.{cond-true, cond-false, and_left, decimal_is_IsNumeral, digit_value_digit, digit_from_value, take-append_seam, drop-append_seam}
-use Rattle.csp_base.specs.Standard.{digit_value, AllDigits, digits_value_after, bytes_eq, list_all, prefix_len}
-use Rattle.std.specs.Prelude.{Some, nat_eq, nat_lt, nat_le, decimal}
-use Rattle.csp_base.specs.declared.place.Place.{Place}
+use Rattle.print_laws.proofs.Prelude.{◌≡◌, ℕ, ◌+◌, ◌-◌, ◌*◌, ◌≤◌, ◌<◌, Bool, true, false, List, [], ◌∷◌, ◌++◌, length, take, codes, refl, ap, ◌∙◌, arith, cond-true, cond-false, and_left, decimal_is_IsNumeral, digit_value_digit, digit_from_value, take-append_seam, drop-append_seam, digit_value, AllDigits, digits_value_after, bytes_eq, list_all, prefix_len, Some, nat_eq, nat_lt, nat_le, decimal, Place, is_space, line_front, continued, digits_len, is_digit, number_token, token_at, with_len, is_letter, word_len, begins_assertion, front, is_blank, one, one_at, and_first, and_second}
 use Rattle.csp_text.specs.declared.token.Token.TheVariants as token
-use Rattle.csp_lexer.specs.Prelude.{is_space, line_front, continued, digits_len, is_digit, number_token, token_at, with_len, is_letter, word_len, begins_assertion, front, is_blank, one, one_at}
 use Rattle.print_laws.proofs.Names.{prefix_stops}
-use Rattle.csp_base.proofs.Booleans.{and_first, and_second}
 
 -- what is known of the digits of a number
 pub record AreDigits (n : ℕ) (ds : List ℕ) : Type 0 where

@@ -1,8 +1,6 @@
 -- Tokens of a line that is no assertion and no annotation.
-use Rattle.std.proofs.Common.{◌≡◌, ◌≤◌, true}
-use Rattle.csp_text.specs.declared.token.Token.{Token}
+use Rattle.print_laws.proofs.Prelude.{◌≡◌, ◌≤◌, true, Token, IsName, is_common}
 use Rattle.csp_text.specs.declared.token.Token.TheVariants as token
-use Rattle.print_laws.specs.Fits.{IsName, is_common}
 
 abbrev pub Plain : Token → Type 0
 Plain (token.Name x) = IsName x

@@ -1,21 +1,11 @@
 -- The rest of an assertion's line: a token before a space or a line feed is part of it.
-use Rattle.std.proofs.Common.{◌≡◌, ℕ, suc, ◌+◌, ◌≤◌, Bool, true, false, ◌||◌, List, [], ◌∷◌, ◌++◌, length, drop, refl, sym, ap, ◌∙◌, arith}
-use Rattle.std.proofs.lemmas.Bool.{cond-true, cond-false, and_left}
-use Rattle.std.specs.Prelude.{decimal, nat_eq, not, cond}
-use Rattle.std.specs.List.{list_all, prefix_len}
-use Rattle.csp_text.specs.Prelude.{symbol_text, word_text}
+use Rattle.print_laws.proofs.Prelude.{◌≡◌, ℕ, suc, ◌+◌, ◌≤◌, Bool, true, false, ◌||◌, List, [], ◌∷◌, ◌++◌, length, drop, refl, sym, ap, ◌∙◌, arith, cond-true, cond-false, and_left, decimal, nat_eq, not, cond, list_all, prefix_len, symbol_text, word_text, Token, Word, ends_line, rest_len, is_letter, is_name_byte, is_prime, word_len, word_rest_len, is_digit, token_text, FitsLine, IsName, and_first, and_second}
 use Rattle.csp_text.specs.declared.token.Symbol.{Symbol}
-use Rattle.csp_text.specs.declared.token.Token.{Token}
-use Rattle.csp_text.specs.declared.token.Word.{Word}
 use Rattle.csp_text.specs.declared.token.Token.TheVariants as token
 use Rattle.csp_text.specs.declared.token.Word.TheVariants as word
 use Rattle.csp_text.specs.declared.token.Symbol.TheVariants as symbol
-use Rattle.csp_lexer.specs.Prelude.{ends_line, rest_len, is_letter, is_name_byte, is_prime, word_len, word_rest_len, is_digit}
-use Rattle.script_printer.specs.TokenText.{token_text}
-use Rattle.print_laws.specs.Fits.{FitsLine, IsName}
 use Rattle.print_laws.proofs.Names.{begins_with_letter, name_parts}
 use Rattle.print_laws.proofs.Numbers.{decimal_digits}
-use Rattle.csp_base.proofs.Booleans.{and_first, and_second}
 
 -- the byte ends no line, whatever follows it
 abbrev pub is_quiet : ℕ → Bool

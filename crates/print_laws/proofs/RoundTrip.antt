@@ -1,22 +1,11 @@
 -- The printed text of a script that a text spells spells it too.
-use Rattle.std.proofs.Common.{◌≡◌, ℕ, zero, suc, false, List, ◌∷◌, length, refl, sym, subst, arith}
-use Rattle.std.specs.Prelude.{Ok, Result, if◌then◌else◌}
-use Rattle.csp_base.specs.declared.place.Place.{Place}
-use Rattle.csp_text.specs.declared.script.Decl.{Decl}
+use Rattle.print_laws.proofs.Prelude.{◌≡◌, ℕ, zero, suc, false, List, ◌∷◌, length, refl, sym, subst, arith, Ok, Result, if◌then◌else◌, Place, Decl, Token, front, lexed, PlacedTokens, tokens_of, beginning, DeclarationsText, ScriptText, script_text, Every, Fits, FitsLine, IsName, FoundTokensAreWellFormed, PrintedTextSpellsNoOther, PrintedTextSpellsTheScript, script_tokens, Lines, is_assert, MadeDecls}
 use Rattle.csp_text.specs.declared.script.Script.{Script}
-use Rattle.csp_text.specs.declared.token.Token.{Token}
 use Rattle.csp_text.specs.declared.token.Token.TheVariants as token
 use Rattle.csp_text.specs.declared.token.Word.TheVariants as word
 use Rattle.csp_text.specs.declared.token.Symbol.TheVariants as symbol
-use Rattle.csp_lexer.specs.Prelude.{front, lexed, PlacedTokens, tokens_of, beginning}
-use Rattle.csp_grammar.specs.Declarations.{DeclarationsText, ScriptText}
 use Rattle.tree_reading.proofs.Unique.{one_script}
-use Rattle.script_printer.specs.PrintedScript.{script_text}
-use Rattle.print_laws.specs.Fits.{Every, Fits, FitsLine, IsName}
-use Rattle.print_laws.specs.Laws.{FoundTokensAreWellFormed, PrintedTextSpellsNoOther, PrintedTextSpellsTheScript, script_tokens}
-use Rattle.print_laws.specs.Lines.{Lines, is_assert}
 use Rattle.print_laws.specs.Lines as position
-use Rattle.print_laws.specs.Made.{MadeDecls}
 use Rattle.print_laws.proofs.CutScripts.{cuts_decls}
 use Rattle.print_laws.proofs.Cuts.{Cuts}
 use Rattle.print_laws.proofs.FoundLines.{WellFormed, found_fits}

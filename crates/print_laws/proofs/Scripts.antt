@@ -1,10 +1,5 @@
 -- The printed tokens of a script that some text spells are a text of it.
-use Rattle.std.proofs.Common.{ℕ, List}
-use Rattle.csp_text.specs.declared.script.Decl.{Decl}
-use Rattle.csp_text.specs.declared.token.Token.{Token}
-use Rattle.csp_grammar.specs.Declarations.{DeclarationsText}
-use Rattle.print_laws.specs.Laws.{PrintedTokensAreAText}
-use Rattle.print_laws.specs.Made.{MadeDecls}
+use Rattle.print_laws.proofs.Prelude.{ℕ, List, Decl, Token, DeclarationsText, PrintedTokensAreAText, MadeDecls}
 use Rattle.print_laws.proofs.ScriptTexts.{declarations_text}
 use Rattle.print_laws.proofs.WalkScripts.{walk_declarations}
 

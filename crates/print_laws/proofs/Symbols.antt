@@ -1,14 +1,8 @@
 -- Symbols before a space or a line feed.
-use Rattle.std.proofs.Common.{◌≡◌, ℕ, true, List, ◌∷◌, ◌++◌, refl}
-use Rattle.std.proofs.lemmas.Bool.{false≢true}
-use Rattle.std.specs.Prelude.{Some}
-use Rattle.csp_base.specs.declared.place.Place.{Place}
+use Rattle.print_laws.proofs.Prelude.{◌≡◌, ℕ, true, List, ◌∷◌, ◌++◌, refl, false≢true, Some, Place, symbol_text, line_front, front, begins_assertion, one, longest_symbol, symbol_at, digits_len, token_at, word_len, is_single}
 use Rattle.csp_text.specs.declared.token.Token.TheVariants as token
-use Rattle.csp_text.specs.Prelude.{symbol_text}
 use Rattle.csp_text.specs.declared.token.Symbol.{Symbol}
 use Rattle.csp_text.specs.declared.token.Symbol.TheVariants as symbol
-use Rattle.csp_lexer.specs.Prelude.{line_front, front, begins_assertion, one, longest_symbol, symbol_at, digits_len, token_at, word_len}
-use Rattle.print_laws.specs.Fits.{is_single}
 
 pub symbol_before_space : (s : Symbol) (at : Place) (r : List ℕ) → front at (symbol_text s ++ 32 ∷ r) ≡ Some (one (token.Symbol s) at (32 ∷ r))
 unfolding front begins_assertion longest_symbol symbol_at digits_len token_at word_len

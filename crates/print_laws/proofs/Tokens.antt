@@ -1,16 +1,8 @@
 -- Each token that is written before a space or a line feed is found there.
-use Rattle.std.proofs.Common.{◌≡◌, ℕ, ◌<◌, true, List, [], ◌∷◌, ◌++◌, length, refl, sym, ◌∙◌, subst, append_assoc, length-append, lit<, arith}
-use Rattle.std.specs.Prelude.{Option, Some, decimal, nat_lt}
-use Rattle.csp_base.specs.declared.place.Place.{Place}
-use Rattle.csp_text.specs.Prelude.{symbol_text, word_text}
-use Rattle.csp_text.specs.declared.token.Token.{Token}
-use Rattle.csp_text.specs.declared.token.Word.{Word}
+use Rattle.print_laws.proofs.Prelude.{◌≡◌, ℕ, ◌<◌, true, List, [], ◌∷◌, ◌++◌, length, refl, sym, ◌∙◌, subst, append_assoc, length-append, lit<, arith, Option, Some, decimal, nat_lt, Place, symbol_text, word_text, Token, Word, line_front, front, Piece, nothing, one, longest_symbol, symbol_at, digits_len, token_at, word_len, line, row, spaced, token_text, Every, FitsLine}
 use Rattle.csp_text.specs.declared.token.Token.TheVariants as token
 use Rattle.csp_text.specs.declared.token.Word.TheVariants as word
 use Rattle.csp_text.specs.declared.token.Symbol.TheVariants as symbol
-use Rattle.csp_lexer.specs.Prelude.{line_front, front, Piece, nothing, one, longest_symbol, symbol_at, digits_len, token_at, word_len}
-use Rattle.script_printer.specs.TokenText.{line, row, spaced, token_text}
-use Rattle.print_laws.specs.Fits.{Every, FitsLine}
 use Rattle.print_laws.proofs.Plain.{Plain}
 use Rattle.print_laws.proofs.Cuts.{Cuts, IsPiece, Stands, cuts_more, cuts_nothing}
 use Rattle.print_laws.proofs.Names.{name_front, name_line_front, name_parts}

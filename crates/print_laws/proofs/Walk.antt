@@ -1,23 +1,11 @@
 -- A walk through a text of the grammar: what is known of the list of tokens is known of each list on the way, where `k` parentheses are open, and
 -- each tree is made of tokens of which P is known.
-use Rattle.std.proofs.Common.{◌≡◌, ℕ, suc, Bool, true, false, List, ◌∷◌, refl}
-use Rattle.std.specs.Prelude.{not}
-use Rattle.csp_text.specs.Prelude.{set_op_word}
-use Rattle.csp_text.specs.declared.token.Token.{Token}
-use Rattle.csp_text.specs.declared.tree.FieldTree.{FieldTree}
-use Rattle.csp_text.specs.declared.tree.GenTree.{GenTree}
-use Rattle.csp_text.specs.declared.tree.PartTree.{PartTree}
-use Rattle.csp_text.specs.declared.tree.Tree.{Tree}
+use Rattle.print_laws.proofs.Prelude.{◌≡◌, ℕ, suc, Bool, true, false, List, ◌∷◌, refl, not, set_op_word, Token, FieldTree, GenTree, PartTree, Tree, BinOp, SetOp, Choice, choice_of, choice_sign, TreeText, Reach, SideText, HidingText, ChoiceText, SequenceText, PrefixText, OpenText, FieldsText, DottedText, DotsText, ExpressionText, PairsText, PartText, PartsText, ConditionsText, GensText, GenText, ItemText, ItemsText, AtomText, Level, IsLeftOperator, IsComparison, is_common, MadeTree, MadeTrees, MadeDots, MadeFields, MadePart, MadeParts, MadePairs, MadeGen, MadeGens, MadeConditions}
 use Rattle.csp_text.specs.declared.token.Token.TheVariants as token
 use Rattle.csp_text.specs.declared.token.Symbol.TheVariants as symbol
-use Rattle.csp_base.specs.declared.operators.BinOp.{BinOp}
-use Rattle.csp_base.specs.declared.operators.SetOp.{SetOp}
 use Rattle.csp_base.specs.declared.operators.SetOp.TheVariants as set_op
-use Rattle.csp_grammar.specs.Prelude.{Choice, choice_of, choice_sign, TreeText, Reach, SideText, HidingText, ChoiceText, SequenceText, PrefixText, OpenText, FieldsText, DottedText, DotsText, ExpressionText, PairsText, PartText, PartsText, ConditionsText, GensText, GenText, ItemText, ItemsText, AtomText, Level, IsLeftOperator, IsComparison}
 use Rattle.csp_grammar.specs.Grammar as g
 use Rattle.csp_grammar.specs.Precedence as table
-use Rattle.print_laws.specs.Fits.{is_common}
-use Rattle.print_laws.specs.Made.{MadeTree, MadeTrees, MadeDots, MadeFields, MadePart, MadeParts, MadePairs, MadeGen, MadeGens, MadeConditions}
 use Rattle.print_laws.specs.Made as m
 
 -- a parenthesis, or the word of an assertion

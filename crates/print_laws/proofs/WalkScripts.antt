@@ -1,15 +1,10 @@
 -- A walk through the text of a script.
-use Rattle.std.proofs.Common.{◌≡◌, ℕ, zero, suc, false, List, ◌∷◌, refl}
-use Rattle.csp_text.specs.declared.script.Decl.{Decl}
+use Rattle.print_laws.proofs.Prelude.{◌≡◌, ℕ, zero, suc, false, List, ◌∷◌, refl, Decl, Token, Tree, NamesText, TypesText, ParametersText, ModelText, DeclarationText, DeclarationsText, MadeNames, MadeTypes, MadeParameters, MadeDecl, MadeDecls}
 use Rattle.csp_text.specs.declared.token.Symbol.{Symbol}
-use Rattle.csp_text.specs.declared.token.Token.{Token}
-use Rattle.csp_text.specs.declared.tree.Tree.{Tree}
 use Rattle.csp_text.specs.declared.token.Token.TheVariants as token
 use Rattle.csp_text.specs.declared.token.Word.TheVariants as word
 use Rattle.csp_text.specs.declared.token.Symbol.TheVariants as symbol
-use Rattle.csp_grammar.specs.Declarations.{NamesText, TypesText, ParametersText, ModelText, DeclarationText, DeclarationsText}
 use Rattle.csp_grammar.specs.Declarations as g
-use Rattle.print_laws.specs.Made.{MadeNames, MadeTypes, MadeParameters, MadeDecl, MadeDecls}
 use Rattle.print_laws.specs.Made as m
 use Rattle.print_laws.proofs.Walk.{two, is_special, walk_tree, walk_items, walk_atom}
 

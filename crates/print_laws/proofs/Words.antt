@@ -1,14 +1,7 @@
 -- Reserved words before a space or a line feed.
-use Rattle.std.proofs.Common.{◌≡◌, ℕ, true, List, ◌∷◌, ◌++◌, refl}
-use Rattle.std.proofs.lemmas.Bool.{false≢true}
-use Rattle.std.specs.Prelude.{Some}
-use Rattle.csp_base.specs.declared.place.Place.{Place}
+use Rattle.print_laws.proofs.Prelude.{◌≡◌, ℕ, true, List, ◌∷◌, ◌++◌, refl, false≢true, Some, Place, Word, word_text, line_front, front, begins_assertion, one, token_at, reserved_word, word_len, word_rest_len, is_common}
 use Rattle.csp_text.specs.declared.token.Token.TheVariants as token
-use Rattle.csp_text.specs.declared.token.Word.{Word}
 use Rattle.csp_text.specs.declared.token.Word.TheVariants as word
-use Rattle.csp_text.specs.Written.{word_text}
-use Rattle.csp_lexer.specs.Prelude.{line_front, front, begins_assertion, one, token_at, reserved_word, word_len, word_rest_len}
-use Rattle.print_laws.specs.Fits.{is_common}
 
 pub word_before_space : (w : Word) (at : Place) (r : List ℕ) → is_common w ≡ true → front at (word_text w ++ 32 ∷ r) ≡ Some (one (token.Word w) at (32 ∷ r))
 unfolding front begins_assertion token_at word_len word_rest_len reserved_word

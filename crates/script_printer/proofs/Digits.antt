@@ -1,6 +1,5 @@
 -- The last digit of a number is written behind the others.
-use Rattle.std.proofs.Common.{◌≡◌, ℕ, ◌+◌, ◌/◌, ◌%◌, ◌^◌, ◌<◌, ◌≤◌, Result, Ok, Err, OnOk, List, [], ◌∷◌, ◌++◌, ap, sym, ◌∙◌, append_assoc}
-use Rattle.std.specs.Prelude.{decimal}
+use Rattle.script_printer.proofs.Prelude.{◌≡◌, ℕ, ◌+◌, ◌/◌, ◌%◌, ◌^◌, ◌<◌, ◌≤◌, Result, Ok, Err, OnOk, List, [], ◌∷◌, ◌++◌, ap, sym, ◌∙◌, append_assoc, decimal}
 use Rattle.std.proofs.lemmas.Fmt.{decimal_step}
 
 pub one_more_digit : {A E : Type 0} (start middle whole : List ℕ) (n : ℕ) (r : Result A E) → 10 ≤ n → n < 2 ^ 64

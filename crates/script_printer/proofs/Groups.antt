@@ -1,12 +1,5 @@
 -- Lines: groups of tokens that may be missing, and one line behind another.
-use Rattle.std.proofs.Common.{◌≡◌, ℕ, suc, ◌+◌, ◌<◌, ◌≤◌, true, false, List, [], ◌∷◌, ◌++◌, length, drop, get_or, add-one, ap, sym, refl, ◌∙◌, append_assoc}
-use Rattle.std.specs.Prelude.{flat_map, ◌==◌}
-use Rattle.csp_base.proofs.Standard.{drop_of_length-le, false≢true, append-nil}
-use Rattle.csp_text.specs.declared.token.Symbol.TheVariants.{Colon, Comma, Dot, OpenParen, CloseParen}
-use Rattle.csp_text.specs.declared.tree.Tree.{Tree}
-use Rattle.csp_text.specs.declared.token.Token.TheVariants.{Symbol}
-use Rattle.script_printer.specs.PrintedTree.{operand_tokens, separated}
-use Rattle.script_printer.specs.PrintedScript.{names_tokens, parameters_tokens, types_tokens}
+use Rattle.script_printer.proofs.Prelude.{◌≡◌, ℕ, suc, ◌+◌, ◌<◌, ◌≤◌, true, false, List, [], ◌∷◌, ◌++◌, length, drop, get_or, add-one, ap, sym, refl, ◌∙◌, append_assoc, flat_map, ◌==◌, drop_of_length-le, false≢true, append-nil, Colon, Comma, Dot, OpenParen, CloseParen, Tree, Symbol, operand_tokens, separated, names_tokens, parameters_tokens, types_tokens}
 use Rattle.script_printer.proofs.Written.{empty_list, split_at}
 
 pub no_types : (types : List Tree) → (length types == 0) ≡ true → types_tokens types ≡ []

@@ -1,4 +1,5 @@
 pub mod Digits
 pub mod Groups
+pub mod Prelude
 pub mod PrintedEquations
 pub mod Written

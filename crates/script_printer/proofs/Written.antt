@@ -1,13 +1,6 @@
 -- How tokens are written one after another.
-use Rattle.std.proofs.Common.{◌≡◌, ℕ, zero, suc, ◌+◌, ◌<◌, ◌≤◌, true, false, Result, Ok, Err, OnOk, List, [], ◌∷◌, ◌++◌, length, drop, get_or, add-one, eqb-true, sym, ap, refl, ◌∙◌, subst, append_assoc}
-use Rattle.std.specs.Prelude.{flat_map, ◌==◌}
-use Rattle.csp_base.proofs.Standard.{drop_of_length-le, drop-cons, false≢true, append-nil, nil_from_length}
+use Rattle.script_printer.proofs.Prelude.{◌≡◌, ℕ, zero, suc, ◌+◌, ◌<◌, ◌≤◌, true, false, Result, Ok, Err, OnOk, List, [], ◌∷◌, ◌++◌, length, drop, get_or, add-one, eqb-true, sym, ap, refl, ◌∙◌, subst, append_assoc, flat_map, ◌==◌, drop_of_length-le, drop-cons, false≢true, append-nil, nil_from_length, Bar, Comma, Token, Symbol, before_place, row, spaced, token_text, conditions, separated}
 use Rattle.std.proofs.lemmas.List.Concat.{flat_map-append}
-use Rattle.csp_text.specs.declared.token.Symbol.TheVariants.{Bar, Comma}
-use Rattle.csp_text.specs.declared.token.Token.{Token}
-use Rattle.csp_text.specs.declared.token.Token.TheVariants.{Symbol}
-use Rattle.script_printer.specs.TokenText.{before_place, row, spaced, token_text}
-use Rattle.script_printer.specs.PrintedTree.{conditions, separated}
 
 pub spaced_append : (a b : List Token) → spaced (a ++ b) ≡ spaced a ++ spaced b
 unfolding spaced

@@ -71,7 +71,8 @@ fn put_call(text: &mut Bytes, name: &Name, items: &Items<Tree>) -> Written
 // Adds items with commas between them, in brackets.
 #[cycle(trees)]
 fn put_enclosed(text: &mut Bytes, opening: Symbol, items: &Items<Tree>, closing: Symbol) -> Written
-    ensures { OnOk result (text.new ≡ text.old ++ spaced (token.Symbol opening ∷ separated item_tokens (token.Symbol Comma) items.now ++ token.Symbol closing ∷ [])) }
+    ensures { OnOk result (text.new ≡ text.old
+        ++ spaced (token.Symbol opening ∷ separated item_tokens (token.Symbol Comma) items.now ++ token.Symbol closing ∷ [])) }
 {
     put_symbol(text, opening)?;
     put_items(text, items.as_slice())?;
@@ -100,7 +101,8 @@ fn put_binary(text: &mut Bytes, a: &Child, op: BinOp, b: &Child) -> Written
 // Adds a sign between two operands.
 #[cycle(trees)]
 fn put_infix(text: &mut Bytes, a: &Child, sign: Symbol, b: &Child) -> Written
-    ensures { OnOk result (text.new ≡ text.old ++ spaced (operand_tokens a.now ++ token.Symbol sign ∷ operand_tokens b.now)) }
+    ensures { OnOk result (text.new ≡ text.old
+        ++ spaced (operand_tokens a.now ++ token.Symbol sign ∷ operand_tokens b.now)) }
 {
     put_operand(text, a.get())?;
     put_after(text, sign, b.get())
@@ -169,7 +171,8 @@ fn put_prefix(text: &mut Bytes, event: &EventTree, p: &Child) -> Written
 // Adds a replicated choice.
 #[cycle(trees)]
 fn put_each(text: &mut Bytes, sign: Symbol, name: &Name, s: &Child, p: &Child) -> Written
-    ensures { OnOk result (text.new ≡ text.old ++ spaced (token.Symbol sign ∷ bound_in name.now (operand_tokens s.now) ++ token.Symbol At ∷ printed_tokens p.now)) }
+    ensures { OnOk result (text.new ≡ text.old
+        ++ spaced (token.Symbol sign ∷ bound_in name.now (operand_tokens s.now) ++ token.Symbol At ∷ printed_tokens p.now)) }
 {
     put_replicated(text, sign, name, s.get())?;
     put_tree(text, p.get())
@@ -188,7 +191,8 @@ fn put_parallel(text: &mut Bytes, p: &Child, a: &Child, b: &Child, q: &Child) ->
 // Adds a replicated parallel.
 #[cycle(trees)]
 fn put_each_parallel(text: &mut Bytes, name: &Name, s: &Child, a: &Child, p: &Child) -> Written
-    ensures { OnOk result (text.new ≡ text.old ++ spaced (form_tokens (Tree-F.EachParallel name.now s.now a.now p.now))) }
+    ensures { OnOk result (text.new ≡ text.old
+        ++ spaced (form_tokens (Tree-F.EachParallel name.now s.now a.now p.now))) }
 {
     put_replicated(text, Symbol::Parallel, name, s.get())?;
     put_after(text, Symbol::OpenBracket, a.get())?;
@@ -295,7 +299,8 @@ fn put_branch(text: &mut Bytes, word: Word, part: &Tree) -> Written
 // Adds the front of a replicated form: its sign, its name, and the set that the name is bound in.
 #[cycle(trees)]
 fn put_replicated(text: &mut Bytes, sign: Symbol, name: &Name, set: &Tree) -> Written
-    ensures { OnOk result (text.new ≡ text.old ++ spaced (token.Symbol sign ∷ bound_in name.now (operand_tokens set.now) ++ token.Symbol At ∷ [])) }
+    ensures { OnOk result (text.new ≡ text.old
+        ++ spaced (token.Symbol sign ∷ bound_in name.now (operand_tokens set.now) ++ token.Symbol At ∷ [])) }
 {
     put_symbol(text, sign)?;
     put_name(text, name)?;
@@ -378,7 +383,8 @@ fn put_pair(text: &mut Bytes, pair: &(PartTree, PartTree)) -> Written
 // Adds generators behind a bar, and the bracket behind them.
 #[cycle(trees)]
 fn put_generators(text: &mut Bytes, gens: &[GenTree], closing: Symbol) -> Written
-    ensures { OnOk result (text.new ≡ text.old ++ spaced (token.Symbol Bar ∷ separated gen_tokens (token.Symbol Comma) gens.now ++ token.Symbol closing ∷ [])) }
+    ensures { OnOk result (text.new ≡ text.old
+        ++ spaced (token.Symbol Bar ∷ separated gen_tokens (token.Symbol Comma) gens.now ++ token.Symbol closing ∷ [])) }
 {
     put_symbol(text, Symbol::Bar)?;
     put_gens(text, gens)?;
@@ -389,7 +395,8 @@ fn put_generators(text: &mut Bytes, gens: &[GenTree], closing: Symbol) -> Writte
 #[cycle(trees)]
 #[tactic(auto, using(crate::proofs::Written::none_shown, crate::proofs::Written::some_shown), unfolding(crate::specs::TokenText::spaced))]
 fn put_conditions(text: &mut Bytes, gens: &Items<GenTree>, closing: Symbol) -> Written
-    ensures { OnOk result (text.new ≡ text.old ++ spaced (conditions gen_tokens gens.now ++ token.Symbol closing ∷ [])) }
+    ensures { OnOk result (text.new ≡ text.old
+        ++ spaced (conditions gen_tokens gens.now ++ token.Symbol closing ∷ [])) }
 {
     let gens = gens.as_slice();
     if gens.is_empty() {

@@ -1,6 +1,5 @@
-use Rattle.std.proofs.Common.{◌<◌, subst, sym, ap, ◌∙◌}
+use Rattle.command_words.proofs.Prelude.{◌<◌, subst, sym, ap, ◌∙◌, decimal}
 use Rattle.std.proofs.lemmas.Bool.{false≢true}
-use Rattle.std.specs.Fmt.{decimal}
 use Rattle.command_words.proofs.Digits.{decimal_is_numeral, numeral_is_decimal, numeral_is_small}
 use Rattle.command_words.proofs.numbers.spelled_number.Goals as goal
 

@@ -1,5 +1,4 @@
-use Rattle.std.proofs.Common.{◌≡◌, ℕ, ◌<◌, List, drop, arith}
-use Rattle.command_words.specs.Numerals.{continued}
+use Rattle.command_words.proofs.Prelude.{◌≡◌, ℕ, ◌<◌, List, drop, arith, continued}
 use Rattle.command_words.proofs.Digits.{continued_grows}
 use Rattle.command_words.proofs.numbers.value_of.Goals as goal
 

@@ -1,5 +1,4 @@
-use Rattle.std.proofs.Common.{◌≡◌, drop}
-use Rattle.command_words.specs.Numerals.{continued}
+use Rattle.command_words.proofs.Prelude.{◌≡◌, drop, continued}
 use Rattle.command_words.proofs.numbers.value_of.Given as goal
 
 abbrev pub invariant-loop-digit : goal.invariant-loop-digit

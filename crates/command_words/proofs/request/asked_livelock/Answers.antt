@@ -1,5 +1,4 @@
-use Rattle.std.proofs.Common.{refl, sym, ◌∙◌}
-use Rattle.std.proofs.lemmas.Slice.Eq.{bytes_eq-Decides}
+use Rattle.command_words.proofs.Prelude.{refl, sym, ◌∙◌, bytes_eq-Decides}
 use Rattle.command_words.proofs.Items.{three_words}
 use Rattle.command_words.proofs.request.asked_livelock.Goals as goal
 

@@ -1,5 +1,4 @@
-use Rattle.std.proofs.Common.{sym, ◌∙◌}
-use Rattle.std.proofs.lemmas.Slice.Eq.{bytes_eq-Decides}
+use Rattle.command_words.proofs.Prelude.{sym, ◌∙◌, bytes_eq-Decides}
 use Rattle.command_words.proofs.Items.{two_words}
 use Rattle.command_words.proofs.request.asked_show.Goals as goal
 

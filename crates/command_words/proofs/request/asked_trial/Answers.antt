@@ -1,7 +1,4 @@
-use Rattle.std.proofs.Common.{◌≡◌, ◌<◌, ◌≤◌, ℕ, List, Option, None, Some, IfSome, codes, get_or, length, sym, ◌∙◌}
-use Rattle.std.proofs.lemmas.Slice.Eq.{bytes_eq-Decides}
-use Rattle.command_words.specs.Prelude.{Asks, IsNamed}
-use Rattle.command_words.specs.declared.request.Trial.{Trial}
+use Rattle.command_words.proofs.Prelude.{◌≡◌, ◌<◌, ◌≤◌, ℕ, List, Option, None, Some, IfSome, codes, get_or, length, sym, ◌∙◌, bytes_eq-Decides, Asks, IsNamed, Trial}
 use Rattle.command_words.specs.declared.request.Request.TheVariants as request
 use Rattle.command_words.proofs.Items.{three_words}
 use Rattle.command_words.proofs.request.asked_trial.Goals as goal

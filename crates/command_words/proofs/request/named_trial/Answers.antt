@@ -1,9 +1,4 @@
-use Rattle.std.proofs.Common.{◌≡◌, ◌<◌, ◌≤◌, ℕ, List, Option, None, Some, IfNone, sym, subst, ◌∙◌, arith}
-use Rattle.std.specs.Fmt.{decimal}
-use Rattle.net_maker.specs.Families.{family_name, greatest, least}
-use Rattle.net_maker.specs.declared.families.Family.{Family}
-use Rattle.command_words.specs.Prelude.{IsNamed}
-use Rattle.command_words.specs.declared.request.Trial.{Trial}
+use Rattle.command_words.proofs.Prelude.{◌≡◌, ◌<◌, ◌≤◌, ℕ, List, Option, None, Some, IfNone, sym, subst, ◌∙◌, arith, decimal, family_name, greatest, least, Family, IsNamed, Trial}
 use Rattle.command_words.proofs.AskOnce.{few}
 use Rattle.command_words.proofs.Digits.{same_number}
 use Rattle.command_words.proofs.Names.{same_family}

@@ -1,6 +1,4 @@
-use Rattle.std.proofs.Common.{sym, ◌∙◌, rules, tests}
-use Rattle.csp_base.proofs.Standard.{YieldsList-from_slice, all_from_yields_List, list_all-map}
-use Rattle.csp_lexer.specs.Words.{is_name}
+use Rattle.csp_lexer.proofs.Prelude.{sym, ◌∙◌, rules, tests, YieldsList-from_slice, all_from_yields_List, list_all-map, is_name}
 use Rattle.csp_lexer.proofs.annotations.are_names.Goals as goal
 
 pub returns : goal.returns

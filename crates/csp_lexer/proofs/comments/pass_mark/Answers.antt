@@ -1,5 +1,4 @@
-use Rattle.std.proofs.Common.{sym}
-use Rattle.std.proofs.lemmas.List.{take_rest}
+use Rattle.csp_lexer.proofs.Prelude.{sym, take_rest}
 use Rattle.csp_lexer.proofs.CommentsLemmas.{comment_opens, comment_closes, comment_goes_on}
 use Rattle.csp_lexer.proofs.comments.pass_mark.Goals as goal
 

@@ -1,5 +1,4 @@
-use Rattle.std.proofs.Common.{◌≡◌, ◌+◌, ◌≤◌, length}
-use Rattle.csp_lexer.specs.Assertions.{after_closing}
+use Rattle.csp_lexer.proofs.Prelude.{◌≡◌, ◌+◌, ◌≤◌, length, after_closing}
 use Rattle.csp_lexer.proofs.forms.after_closing.Given as goal
 
 abbrev pub invariant-loop-nested : goal.invariant-loop-nested

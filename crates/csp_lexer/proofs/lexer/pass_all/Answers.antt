@@ -1,5 +1,4 @@
-use Rattle.std.proofs.Common.{true-eqb}
-use Rattle.csp_lexer.specs.Front.{front}
+use Rattle.csp_lexer.proofs.Prelude.{true-eqb, front}
 use Rattle.csp_lexer.proofs.CutSoFar.{at_end, no_piece, not_empty, piece_passed}
 use Rattle.csp_lexer.proofs.lexer.pass_all.Goals as goal
 

@@ -1,5 +1,4 @@
-use Rattle.std.proofs.Common.{length}
-use Rattle.csp_lexer.specs.Prelude.{front, lexed}
+use Rattle.csp_lexer.proofs.Prelude.{length, front, lexed}
 use Rattle.csp_lexer.proofs.CutSoFar.{IsCutSoFar}
 use Rattle.csp_lexer.proofs.lexer.pass_all.Given as goal
 

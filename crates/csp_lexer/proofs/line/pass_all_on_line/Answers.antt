@@ -1,5 +1,4 @@
-use Rattle.std.proofs.Common.{true-eqb}
-use Rattle.csp_lexer.specs.Assertions.{line_front}
+use Rattle.csp_lexer.proofs.Prelude.{true-eqb, line_front}
 use Rattle.csp_lexer.proofs.CutSoFar.{at_end, no_piece, not_empty, piece_passed}
 use Rattle.csp_lexer.proofs.line.pass_all_on_line.Goals as goal
 

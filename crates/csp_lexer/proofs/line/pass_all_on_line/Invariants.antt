@@ -1,5 +1,4 @@
-use Rattle.std.proofs.Common.{length}
-use Rattle.csp_lexer.specs.Assertions.{cut_line, line_front}
+use Rattle.csp_lexer.proofs.Prelude.{length, cut_line, line_front}
 use Rattle.csp_lexer.proofs.CutSoFar.{IsCutSoFar}
 use Rattle.csp_lexer.proofs.line.pass_all_on_line.Given as goal
 

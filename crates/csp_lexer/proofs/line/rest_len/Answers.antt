@@ -1,5 +1,4 @@
-use Rattle.std.proofs.Common.{sym, arith}
-use Rattle.std.proofs.lemmas.List.{take_rest}
+use Rattle.csp_lexer.proofs.Prelude.{sym, arith, take_rest}
 use Rattle.csp_lexer.proofs.CommentsLemmas.{rest_ends, rest_goes_on, rest_is_all}
 use Rattle.csp_lexer.proofs.line.rest_len.Goals as goal
 

@@ -1,5 +1,4 @@
-use Rattle.std.proofs.Common.{◌≡◌, ◌≤◌, drop}
-use Rattle.csp_lexer.specs.Tokens.{continued}
+use Rattle.csp_lexer.proofs.Prelude.{◌≡◌, ◌≤◌, drop, continued}
 use Rattle.csp_lexer.proofs.scan.number_token.Given as goal
 
 abbrev pub invariant-loop-digit : goal.invariant-loop-digit

@@ -1,6 +1,4 @@
-use Rattle.std.proofs.Common.{refl}
-use Rattle.std.proofs.lemmas.List.{take_rest}
-use Rattle.csp_lexer.specs.Words.{word_rest_len}
+use Rattle.csp_lexer.proofs.Prelude.{refl, take_rest, word_rest_len}
 use Rattle.csp_lexer.proofs.words.word_rest_len.Goals as goal
 
 pub returns-clause-value : goal.returns-clause-value

@@ -1,6 +1,4 @@
-use Rattle.std.proofs.Common.{refl, sym, arith}
-use Rattle.tree_parser.proofs.ListSteps.{item_missing, last_item_read, next_item}
-use Rattle.tree_reading.specs.Starts.{named}
+use Rattle.csp_parser.proofs.Prelude.{refl, sym, arith, item_missing, last_item_read, next_item, named}
 use Rattle.csp_parser.proofs.names.names.Goals as goal
 
 pub returns-in-Err-clause-reads : goal.returns-in-Err-clause-reads

@@ -1,6 +1,5 @@
-use Rattle.std.proofs.Common.{◌∷◌, [], ◌++◌, ◌∙◌, refl, sym, ap, arith}
+use Rattle.csp_parser.proofs.Prelude.{◌∷◌, [], ◌++◌, ◌∙◌, refl, sym, ap, arith, item_missing, last_item_read, next_item}
 use Rattle.csp_text.specs.declared.token.Symbol.TheVariants as symbol
-use Rattle.tree_parser.proofs.ListSteps.{item_missing, last_item_read, next_item}
 use Rattle.tree_reading.specs.Nesting.{whole}
 use Rattle.csp_parser.proofs.types.types.Goals as goal
 

@@ -1,5 +1,4 @@
-use Rattle.std.proofs.Common.{◌≤◌, ◌+◌, ◌*◌, length}
-use Rattle.tree_parser.proofs.SoFar.{SoFar}
+use Rattle.csp_parser.proofs.Prelude.{◌≤◌, ◌+◌, ◌*◌, length, SoFar}
 use Rattle.csp_parser.proofs.types.types.Given as goal
 
 abbrev pub invariant-loop-found : goal.invariant-loop-found

@@ -1,6 +1,5 @@
-use Rattle.std.proofs.Common.{ap}
+use Rattle.script_printer.proofs.Prelude.{ap, decl_tokens}
 use Rattle.csp_text.specs.declared.token.Token.TheVariants as token
-use Rattle.script_printer.specs.PrintedScript.{decl_tokens}
 use Rattle.script_printer.proofs.Written.{row_as, row_of_one}
 use Rattle.script_printer.proofs.lines.put_decl.Goals as goal
 

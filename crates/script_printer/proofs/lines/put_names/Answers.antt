@@ -1,7 +1,5 @@
-use Rattle.std.proofs.Common.{[], ◌∷◌, List, ℕ, arith}
-use Rattle.csp_text.specs.declared.token.Token.{Token}
+use Rattle.script_printer.proofs.Prelude.{[], ◌∷◌, List, ℕ, arith, Token, names_tokens}
 use Rattle.csp_text.specs.declared.token.Token.TheVariants as token
-use Rattle.script_printer.specs.PrintedScript.{names_tokens}
 use Rattle.script_printer.proofs.Written.{separated_step, separated_end}
 use Rattle.script_printer.proofs.lines.put_names.Goals as goal
 

@@ -1,7 +1,5 @@
-use Rattle.std.proofs.Common.{◌≡◌, ◌++◌, [], ◌∷◌}
+use Rattle.script_printer.proofs.Prelude.{◌≡◌, ◌++◌, [], ◌∷◌, spaced, separated}
 use Rattle.csp_text.specs.declared.token.Token.TheVariants as token
-use Rattle.script_printer.specs.TokenText.{spaced}
-use Rattle.script_printer.specs.PrintedTree.{separated}
 use Rattle.script_printer.proofs.Written.{left_separated}
 use Rattle.script_printer.proofs.lines.put_names.Given as goal
 

@@ -1,7 +1,4 @@
-use Rattle.std.proofs.Common.{[], ◌∷◌}
-use Rattle.std.specs.Prelude.{codes}
-use Rattle.csp_text.specs.declared.token.Token.TheVariants.{Name}
-use Rattle.script_printer.specs.TokenText.{spaced}
+use Rattle.script_printer.proofs.Prelude.{[], ◌∷◌, codes, Name, spaced}
 use Rattle.script_printer.proofs.Written.{behind}
 use Rattle.script_printer.proofs.lines.put_resource.Goals as goal
 

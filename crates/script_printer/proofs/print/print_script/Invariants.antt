@@ -1,7 +1,4 @@
-use Rattle.std.proofs.Common.{◌≡◌, ◌++◌, drop}
-use Rattle.std.specs.Prelude.{flat_map}
-use Rattle.script_printer.specs.TokenText.{line}
-use Rattle.script_printer.specs.PrintedScript.{decl_tokens}
+use Rattle.script_printer.proofs.Prelude.{◌≡◌, ◌++◌, drop, flat_map, line, decl_tokens}
 use Rattle.script_printer.proofs.print.print_script.Given as goal
 
 -- the lines that are written and those that are left are all lines

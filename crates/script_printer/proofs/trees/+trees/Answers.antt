@@ -1,8 +1,5 @@
 -- The loops; the other goals close by the lemmas that src/trees.rt names.
-use Rattle.std.proofs.Common.{◌∷◌, arith}
-use Rattle.csp_text.specs.declared.token.Token.TheVariants.{Symbol}
-use Rattle.csp_text.specs.declared.token.Symbol.TheVariants.{Comma, Dot}
-use Rattle.script_printer.specs.PrintedTree.{field_tokens, gen_tokens, item_tokens, operand_tokens, part_tokens, renamed_tokens}
+use Rattle.script_printer.proofs.Prelude.{◌∷◌, arith, Symbol, Comma, Dot, field_tokens, gen_tokens, item_tokens, operand_tokens, part_tokens, renamed_tokens}
 use Rattle.script_printer.proofs.Written.{each_end, each_step, separated_end, separated_step}
 use Rattle.script_printer.proofs.trees.+trees.Goals as goal
 

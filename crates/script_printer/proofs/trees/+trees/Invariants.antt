@@ -1,12 +1,8 @@
-use Rattle.std.proofs.Common.{◌≡◌, ◌+◌, ◌*◌, ◌++◌, ◌∷◌, drop, max}
+use Rattle.script_printer.proofs.Prelude.{◌≡◌, ◌+◌, ◌*◌, ◌++◌, ◌∷◌, drop, max, flat_map, Comma, Dot, spaced, field_tokens, gen_tokens, item_tokens, operand_tokens, part_tokens, renamed_tokens, separated}
 use denote.Param.Weighed as weighed
 use Rattle.csp_text.proofs.tree.GenTree.TheLaws as generator
 use Rattle.csp_text.proofs.tree.Tree.TheLaws.{the_size}
-use Rattle.std.specs.Prelude.{flat_map}
-use Rattle.csp_text.specs.declared.token.Symbol.TheVariants.{Comma, Dot}
 use Rattle.csp_text.specs.declared.token.Token.TheVariants as token
-use Rattle.script_printer.specs.TokenText.{spaced}
-use Rattle.script_printer.specs.PrintedTree.{field_tokens, gen_tokens, item_tokens, operand_tokens, part_tokens, renamed_tokens, separated}
 use Rattle.script_printer.proofs.Written.{left_separated}
 use Rattle.script_printer.proofs.trees.+trees.Given as goal
 
