@@ -55,7 +55,8 @@ fn sum(tables: &[ComponentTable]) -> u32
 pub(crate) fn silent_bound(tables: &[ComponentTable]) -> u32
     requires few { length tables.now ≤ MOST_COMPONENTS }
     requires are { (p : Content) × (cs : List (Component Proc)) × AreTablesOf p cs tables.now }
-    ensures { (p : Content) (cs : List (Component Proc)) → AreTablesOf p cs tables.now → IsSilentBound (ProcessStep p) cs result }
+    ensures { (p : Content) (cs : List (Component Proc)) → AreTablesOf p cs tables.now
+        → IsSilentBound (ProcessStep p) cs result }
 {
     sum(tables)
 }

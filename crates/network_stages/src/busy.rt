@@ -27,7 +27,8 @@ fn has_empty(sets: &[EventSet]) -> bool
 
 // The first node of the part with an empty acceptance.
 fn empty_node(part: &Part) -> Option<u32>
-    ensures none { IfNone result ((n k : ℕ) → k < length (node_at part.now.table n).accept → IsNonEmpty (get_or (node_at part.now.table n).accept k [])) }
+    ensures none { IfNone result ((n k : ℕ) → k < length (node_at part.now.table n).accept
+        → IsNonEmpty (get_or (node_at part.now.table n).accept k [])) }
     ensures within { IfSome result (λ n. n < length part.now.table) }
     ensures empty { IfSome result (λ n. HasEmpty (node_at part.now.table n).accept) }
 {

@@ -21,7 +21,8 @@ pub(crate) fn links_of_rows(
     requires rows { (parts : List Part) × AreRows parts (length parts) rows.now }
     ensures links { (parts : List Part) → AreRows parts (length parts) rows.now
         → IfOk result (λ made. AreLinksBefore parts (length parts) 0 made.0.items) }
-    ensures vocabulary { (parts : List Part) → AreRows parts (length parts) rows.now → IfOk result (λ made. IsVocabulary parts made.1) }
+    ensures vocabulary { (parts : List Part) → AreRows parts (length parts) rows.now
+        → IfOk result (λ made. IsVocabulary parts made.1) }
 {
     let vocabulary = vocabulary(alloc, rows)?;
     let links = links_of(alloc, rows)?;
@@ -50,7 +51,8 @@ fn add_links(
     row: &[(u32, Event)],
 ) -> Result<(), NoMemory>
     requires { (k : ℕ) → k < length row.now → left < (pair_at row.now k).0 }
-    ensures { (parts : List Part) → IsRow parts (length parts) left row.now → AreLinksBefore parts left 0 links.old.items
+    ensures { (parts : List Part) → IsRow parts (length parts) left row.now
+        → AreLinksBefore parts left 0 links.old.items
         → OnOk result (AreLinksBefore parts (left + 1) 0 links.new.items) }
 {
     let mut start = 0;

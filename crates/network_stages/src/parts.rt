@@ -103,7 +103,8 @@ pub(crate) fn part_of(
     ensures part { IfOk result (IsPartOf (ProcessStep program.now) seat.now) }
     ensures form { IfOk result HasForm }
     ensures few { OnOk result (HasManySets program.now seat.now → ⊥) }
-    ensures told { IfErr result (Tells (λ r. HasManySets program.now seat.now × (r ≡ refusal.Component number SubsetLimit))) }
+    ensures told { IfErr result (Tells (λ r. HasManySets program.now seat.now
+        × (r ≡ refusal.Component number SubsetLimit))) }
 {
     let alphabet = seat.alphabet().try_clone(alloc)?;
     match normalise(alloc, &table.local.table, &table.heights) {

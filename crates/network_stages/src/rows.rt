@@ -54,7 +54,8 @@ fn join_all(
 ) -> Result<(), NoMemory>
     requires { (e i : ℕ) → owner_of owners.now e ≡ Some i → i < length rows.old.items }
     ensures count { OnOk result (length rows.new.items ≡ length rows.old.items) }
-    ensures joined { OnOk result ((i : ℕ) → row_at rows.new.items i ≡ row_at rows.old.items i ++ joints owners.now part i events.now) }
+    ensures joined { OnOk result ((i : ℕ) → row_at rows.new.items i
+        ≡ row_at rows.old.items i ++ joints owners.now part i events.now) }
 {
     for event in events.iter() {
         join(owners, rows, part, event)?;
@@ -71,7 +72,8 @@ fn join(
 ) -> Result<(), NoMemory>
     requires { (e i : ℕ) → owner_of owners.now e ≡ Some i → i < length rows.old.items }
     ensures count { OnOk result (length rows.new.items ≡ length rows.old.items) }
-    ensures joined { OnOk result ((i : ℕ) → row_at rows.new.items i ≡ row_at rows.old.items i ++ joint owners.now part i event) }
+    ensures joined { OnOk result ((i : ℕ) → row_at rows.new.items i
+        ≡ row_at rows.old.items i ++ joint owners.now part i event) }
 {
     match owner_at(owners, event) {
         Some(left) => {
@@ -94,7 +96,8 @@ fn owner_at(owners: &[Option<u32>], event: Event) -> Option<u32>
 
 // Keeps the part as the owner of each of the events.
 fn own_all(owners: &mut Vec<Option<u32>>, events: &EventSet, part: u32) -> Result<(), NoMemory>
-    ensures { OnOk result ((e : ℕ) → owner_of owners.new.items e ≡ (if has events.now e then Some part else owner_of owners.old.items e)) }
+    ensures { OnOk result ((e : ℕ) → owner_of owners.new.items e
+        ≡ (if has events.now e then Some part else owner_of owners.old.items e)) }
 {
     for event in events.iter() {
         keep_owner(owners, event.0 as usize, part)?;
@@ -104,7 +107,8 @@ fn own_all(owners: &mut Vec<Option<u32>>, events: &EventSet, part: u32) -> Resul
 
 // Keeps the part as the owner of the event.
 fn keep_owner(owners: &mut Vec<Option<u32>>, event: usize, part: u32) -> Result<(), NoMemory>
-    ensures { OnOk result ((e : ℕ) → owner_of owners.new.items e ≡ (if event == e then Some part else owner_of owners.old.items e)) }
+    ensures { OnOk result ((e : ℕ) → owner_of owners.new.items e
+        ≡ (if event == e then Some part else owner_of owners.old.items e)) }
 {
     while owners.len() <= event {
         owners.push(None)?;

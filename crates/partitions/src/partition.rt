@@ -86,7 +86,8 @@ impl Partition {
     pub fn members(&self, block: u32) -> &[u32]
         requires blocks { HasBlocks (count_of self.now) (state_of self.now) }
         requires block { block < length self.now.firsts.items }
-        ensures { (i : ℕ) → IsTrue (has result.now i) ↔ ((i < count_of self.now) × (slice_index self.now.blocks.items i ≡ block)) }
+        ensures { (i : ℕ) → IsTrue (has result.now i)
+            ↔ ((i < count_of self.now) × (slice_index self.now.blocks.items i ≡ block)) }
     {
         let first = self.firsts[block as usize];
         let end = self.ends[block as usize];
@@ -96,7 +97,8 @@ impl Partition {
     /// Takes the next block from those that wait.
     pub fn next_waiting(&mut self) -> Option<u32>
         requires { HasBlocks (count_of self.old) (state_of self.old) }
-        ensures { MatchOption result (IsDone (state_of self.old) (state_of self.new)) (λ block. IsTaken (count_of self.old) (state_of self.old) (state_of self.new) block) }
+        ensures { MatchOption result (IsDone (state_of self.old) (state_of self.new)) (λ block.
+            IsTaken (count_of self.old) (state_of self.old) (state_of self.new) block) }
     {
         let Some(block) = self.waiting.pop() else {
             return None;
@@ -122,7 +124,8 @@ impl Partition {
         requires blocks { HasBlocks (count_of self.old) (state_of self.old) }
         requires calm { IsCalm (state_of self.old) }
         requires sources { All (λ step. step.1 < count_of self.old) steps.now }
-        ensures { IfOk result (λ touched. AreMarked (count_of self.old) (state_of self.old) (state_of self.new) touched.items steps.now) }
+        ensures { IfOk result (λ touched. AreMarked (count_of self.old) (state_of self.old)
+            (state_of self.new) touched.items steps.now) }
     {
         let mut touched = Vec::new(alloc);
         for (_, source) in steps {
@@ -167,7 +170,8 @@ impl Partition {
     fn advance(&mut self, node: u32)
         requires blocks { HasBlocks (count_of self.old) (state_of self.old) }
         requires node { node < count_of self.old }
-        requires unmarked { slice_index self.old.middles.items (slice_index self.old.blocks.items node) ≤ slice_index self.old.places.items node }
+        requires unmarked { slice_index self.old.middles.items
+            (slice_index self.old.blocks.items node) ≤ slice_index self.old.places.items node }
         ensures { IsAdvanced (state_of self.old) (state_of self.new) node }
     {
         let block = self.blocks[node as usize];
@@ -306,7 +310,8 @@ fn assign(order: &[u32], blocks: &mut [u32], first: u32, middle: u32, new: u32)
     requires bounds { middle ≤ length order.now }
     requires nodes { All (λ node. node < length blocks.old) order.now }
     ensures moved { (k : ℕ) → first ≤ k → k < middle → slice_index blocks.new (slice_index order.now k) ≡ new }
-    ensures kept { (i : ℕ) → ((k : ℕ) → first ≤ k → k < middle → slice_index order.now k ≡ i → ⊥) → slice_index blocks.new i ≡ slice_index blocks.old i }
+    ensures kept { (i : ℕ) → ((k : ℕ) → first ≤ k → k < middle → slice_index order.now k ≡ i → ⊥)
+        → slice_index blocks.new i ≡ slice_index blocks.old i }
 {
     for place in first..middle {
         blocks[order[place as usize] as usize] = new;
