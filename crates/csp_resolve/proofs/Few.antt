@@ -1,19 +1,12 @@
 -- A script has no more channels, constants and definitions than its declarations hold: each is a name of theirs, or one of them.
-use Rattle.std.proofs.Common.{◌≡◌, ℕ, ◌+◌, ◌<◌, ◌≤◌, ◌^◌, List, [], ◌∷◌, length, drop, get_or, ap, length-append, arith}
+use Rattle.csp_resolve.proofs.Prelude.{◌≡◌, ℕ, ◌+◌, ◌<◌, ◌≤◌, ◌^◌, List, [], ◌∷◌, length, drop, get_or, ap, length-append, arith, drop_read, Decl, MOST_BYTES, channels_of, constants_of, defined, definitions_from, plain_content, Counts, Meanings, counted, meanings_of, none_yet, Kind, declaration_size, size}
 use Rattle.std.proofs.lemmas.List.{length-map}
 use Rattle.std.specs.List.{flat_map}
-use Rattle.csp_base.proofs.Lists.{drop_read}
-use Rattle.csp_text.specs.declared.script.Decl.{Decl}
-use Rattle.csp_text.specs.declared.script.Decl.TheVariants as decl
-use Rattle.dl_limits.specs.declared.TheConstants.{MOST_BYTES}
 use Rattle.resolved_laws.specs.Laws.{HasFew}
-use Rattle.script_names.specs.Prelude.{channels_of, constants_of, defined, definitions_from, plain_content, Counts, Meanings, counted, meanings_of, none_yet}
-use Rattle.script_names.specs.declared.kinds.Kind.{Kind}
-use Rattle.script_sizes.specs.Size.{declaration_size, size}
 
 -- no declaration is without size
 has_size : (d : Decl) → 1 ≤ declaration_size d
-has_size (decl.Channel xs types) = omega arith
+has_size (Decl.Channel xs types) = omega arith
 has_size _ = omega arith
 
 -- Declarations are counted one after another, while those before and the size of what is left are no more than a limit.
@@ -34,17 +27,17 @@ flat_few f within (d ∷ decls) = omega (arith, length-append (f d) (flat_map f 
 
 module _ (meanings : Meanings) (kinds : List Kind) where
   channels_few : (d : Decl) → length (channels_of meanings kinds d) ≤ declaration_size d
-  channels_few (decl.Channel xs types) =
-      let long : length (channels_of meanings kinds (decl.Channel xs types)) ≡ length xs = length-map xs _ in
+  channels_few (Decl.Channel xs types) =
+      let long : length (channels_of meanings kinds (Decl.Channel xs types)) ≡ length xs = length-map xs _ in
       omega arith
   channels_few _ = omega arith
 
   constants_few : (d : Decl) → length (constants_of meanings kinds d) ≤ declaration_size d
-  constants_few (decl.Datatype x ks) = omega arith
+  constants_few (Decl.Datatype x ks) = omega arith
   constants_few _ = omega arith
 
   defined_few : (n : Counts) (d : Decl) → length (defined meanings kinds n d) ≤ declaration_size d
-  defined_few n (decl.Channel xs types) = omega arith
+  defined_few n (Decl.Channel xs types) = omega arith
   defined_few n _ = omega arith
 
   definitions_few : (n : Counts) (decls : List Decl) → length (definitions_from meanings kinds n decls) ≤ size decls

@@ -1,3 +1,4 @@
+mod Prelude
 pub mod SetsLaws
 pub mod AnswerLaws
 pub mod ResolvedLaws

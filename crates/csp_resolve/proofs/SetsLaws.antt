@@ -1,19 +1,6 @@
 -- The field sets of channels, one declaration after another.
-use Rattle.std.proofs.Common.{◌≡◌, ℕ, ◌+◌, ◌<◌, ◌≤◌, List, [], ◌∷◌, ◌++◌, length, drop, get_or, replicate, refl, sym, ap, ◌∙◌, append_assoc}
-use Rattle.std.specs.Prelude.{Ok, Err}
+use Rattle.csp_resolve.proofs.Prelude.{◌≡◌, ℕ, ◌+◌, ◌<◌, ◌≤◌, List, [], ◌∷◌, ◌++◌, length, drop, get_or, replicate, refl, sym, ap, ◌∙◌, append_assoc, Ok, Err, Atom, Expr, Content, Decl, Tree, GrowsBy, sets_of, SharedSets, spread, Name, Answer, and_next, channel_sets, field_sets, told_in, ResolveFault, drop_read}
 use Rattle.csp_base.proofs.Standard.{drop_of_length-le, append-nil}
-use Rattle.csp_atoms.specs.declared.atom.Atom.{Atom}
-use Rattle.csp_program.specs.declared.expressions.Expr.{Expr}
-use Rattle.csp_program.specs.declared.programs.Content.{Content}
-use Rattle.csp_text.specs.declared.script.Decl.{Decl}
-use Rattle.csp_text.specs.declared.tree.Tree.{Tree}
-use Rattle.csp_text.specs.declared.script.Decl.TheVariants as decl
-use Rattle.csp_resolve.specs.Answers.{GrowsBy, sets_of}
-use Rattle.event_tables.specs.declared.sets.SharedSets.{SharedSets}
-use Rattle.event_tables.specs.Spread.{spread}
-use Rattle.script_names.specs.Prelude.{Name, Answer, and_next, channel_sets, field_sets, told_in}
-use Rattle.script_names.specs.declared.fault.ResolveFault.{ResolveFault}
-use Rattle.csp_base.proofs.Lists.{drop_read}
 
 abbrev pub Sets : Type 0
 Sets = List (List (List Atom))
@@ -36,13 +23,8 @@ shared_first (Err f) n rest = refl
 
 module _ (p : Content) (types_of : List Tree → List Expr) where
   first_then : (i : ℕ) (d : Decl) (decls : List Decl) → channel_sets p types_of i (d ∷ decls) ≡ with_first (sets_of p types_of i d) (channel_sets p types_of (i + 1) decls)
-  first_then i (decl.Channel xs types) decls = shared_first (told_in i (field_sets p (types_of types))) (length xs) (channel_sets p types_of (i + 1) decls)
-  first_then i (decl.Datatype x ks) decls = with_none (channel_sets p types_of (i + 1) decls)
-  first_then i (decl.Nametype x t) decls = with_none (channel_sets p types_of (i + 1) decls)
-  first_then i (decl.Define x params t) decls = with_none (channel_sets p types_of (i + 1) decls)
-  first_then i (decl.Assert t) decls = with_none (channel_sets p types_of (i + 1) decls)
-  first_then i (decl.Roles names) decls = with_none (channel_sets p types_of (i + 1) decls)
-  first_then i (decl.Resource names) decls = with_none (channel_sets p types_of (i + 1) decls)
+  first_then i (Decl.Channel xs types) decls = shared_first (told_in i (field_sets p (types_of types))) (length xs) (channel_sets p types_of (i + 1) decls)
+  first_then i _ decls = with_none (channel_sets p types_of (i + 1) decls)
 
   moved : (sets own : Sets) (rest : Answer Sets) → sets_with sets (with_first (Ok own) rest) ≡ sets_with (sets ++ own) rest
   moved sets own (Ok more) = ap Ok (sym (append_assoc sets own more))
@@ -79,7 +61,7 @@ spread-snoc (first ∷ shared) one =
 
 -- a declaration of channels adds the sets of each of them
 pub grows_by_channels : (p : Content) (types_of : List Tree → List Expr) (i : ℕ) (xs : List Name) (types : List Tree) (sets : List (List Atom)) (one : SharedSets) (old new : List SharedSets)
-    → told_in i (field_sets p (types_of types)) ≡ Ok sets → one.channels ≡ length xs → one.sets ≡ sets → new ≡ old ++ one ∷ [] → GrowsBy old new (sets_of p types_of i (decl.Channel xs types))
+    → told_in i (field_sets p (types_of types)) ≡ Ok sets → one.channels ≡ length xs → one.sets ≡ sets → new ≡ old ++ one ∷ [] → GrowsBy old new (sets_of p types_of i (Decl.Channel xs types))
 grows_by_channels p types_of i xs types sets one old new told channels_is sets_is new_is = (
   replicate (length xs) sets,
   ap (λ o. and_next o (λ s. Ok (replicate (length xs) s))) told,

@@ -5,19 +5,17 @@ use Rattle.csp_program.specs.declared.expressions.Expr.{Expr}
 use Rattle.csp_program.specs.declared.programs.Content.{Content}
 use Rattle.csp_text.specs.declared.script.Decl.{Decl}
 use Rattle.csp_text.specs.declared.tree.Tree.{Tree}
-use Rattle.csp_text.specs.declared.script.Decl.TheVariants as decl
 use Rattle.event_tables.specs.declared.sets.SharedSets.{SharedSets}
 use Rattle.event_tables.specs.Spread.{spread}
 use Rattle.script_names.specs.Prelude.{Meanings, Answer, and_next, field_sets, told_in, exprs, reading}
 use Rattle.script_names.specs.declared.fault.Unresolved.{Unresolved}
 use Rattle.script_names.specs.declared.kinds.Kind.{Kind}
-use Rattle.script_names.specs.declared.fault.Unresolved.TheVariants as unresolved
 
 -- the value exactly where there is one, the fault exactly where there is that one; want of memory is free
 abbrev pub Answers : {A B : Type 0} → (A → B) → Result A Unresolved → Answer B → Type 0
 Answers shown (Ok a) answer = answer ≡ Ok (shown a)
-Answers shown (Err (unresolved.Refused f)) answer = answer ≡ Err f
-Answers shown (Err unresolved.NoMemory) answer = Unit {0}
+Answers shown (Err (Unresolved.Refused f)) answer = answer ≡ Err f
+Answers shown (Err Unresolved.NoMemory) answer = Unit {0}
 
 -- the types of channels, where names mean this
 abbrev pub types_read : Meanings → List Kind → List Tree → List Expr
@@ -25,7 +23,7 @@ types_read meanings kinds types = exprs (map (reading meanings kinds) types) [] 
 
 -- the field sets of the channels of the declaration with the number i
 abbrev pub sets_of : Content → (List Tree → List Expr) → ℕ → Decl → Answer (List (List (List Atom)))
-sets_of p types_of i (decl.Channel xs types) =
+sets_of p types_of i (Decl.Channel xs types) =
     and_next (told_in i (field_sets p (types_of types))) (λ sets. Ok (replicate (length xs) sets))
 sets_of p types_of i _ = Ok []
 
@@ -35,5 +33,5 @@ GrowsBy old new answer = (more : List (List (List Atom))) × (answer ≡ Ok more
 -- the list has grown by the field sets of a declaration
 abbrev pub Grows : Result (Unit {0}) Unresolved → List SharedSets → List SharedSets → Answer (List (List (List Atom))) → Type 0
 Grows (Ok done) old new answer = GrowsBy old new answer
-Grows (Err (unresolved.Refused f)) old new answer = answer ≡ Err f
-Grows (Err unresolved.NoMemory) old new answer = Unit {0}
+Grows (Err (Unresolved.Refused f)) old new answer = answer ≡ Err f
+Grows (Err Unresolved.NoMemory) old new answer = Unit {0}

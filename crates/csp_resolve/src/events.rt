@@ -32,9 +32,8 @@ pub fn channel_sets(
 ) -> Result<Vec<SharedSets>, Unresolved>
     requires few { size decls.now ≤ MOST_BYTES }
     requires plain { IsTrue (all_true (map lacks_sets content.now.channels)) }
-    ensures { Answers (λ shared. spread shared.items) result
-        (meant.channel_sets content.now (types_read
-        (first_of meanings.now.names.now) meanings.now.kinds.now) 0 decls.now) }
+    ensures { Answers (λ shared. spread shared.items) result (meant.channel_sets content.now
+        (types_read (first_of meanings.now.names.now) meanings.now.kinds.now) 0 decls.now) }
 {
     let mut shared = Vec::new(meanings.alloc);
     let mut i: u32 = 0;
@@ -55,8 +54,8 @@ fn add_sets(
 ) -> Result<(), Unresolved>
     requires few { declaration_size decl.now ≤ MOST_BYTES }
     requires plain { IsTrue (all_true (map lacks_sets content.now.channels)) }
-    ensures { Grows result shared.old.items shared.new.items
-        (sets_of content.now (types_read (first_of meanings.now.names.now) meanings.now.kinds.now) i decl.now) }
+    ensures { Grows result shared.old.items shared.new.items (sets_of content.now
+        (types_read (first_of meanings.now.names.now) meanings.now.kinds.now) i decl.now) }
 {
     match decl {
         Decl::Channel(xs, types) => {
@@ -107,8 +106,8 @@ fn sets_in(
     types: &[Expr],
 ) -> Result<Items<AtomSet>, Unresolved>
     requires { IsTrue (all_true (map lacks_sets content.now.channels)) }
-    ensures { Answers (λ (sets : List (List Atom)).
-        sets) result (meant.told_in i (meant.field_sets content.now types.now)) }
+    ensures { Answers (λ (sets : List (List Atom)). sets) result
+        (meant.told_in i (meant.field_sets content.now types.now)) }
 {
     match field_sets(alloc, content, types) {
         Ok(sets) => Ok(sets),

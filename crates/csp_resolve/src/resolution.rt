@@ -26,7 +26,7 @@ use script_names::{ResolveFault, Unresolved};
 use std::alloc::Global;
 
 // The program on the heap, where it ends in a function of its own.
-fn boxed(alloc: Global, program: Program) -> Result<Boxed<Program>, NoMemory>
+fn box_program(alloc: Global, program: Program) -> Result<Boxed<Program>, NoMemory>
     ensures { IfOk result (λ made. made ≡ program) }
 {
     Boxed::new(alloc, program)
@@ -41,7 +41,7 @@ pub fn resolve(alloc: Global, key: Key, script: &Script) -> Result<Boxed<Program
 {
     let names = dictionary_of(alloc, key, script.decls.as_slice())?;
     let content = content_of(alloc, script, &names)?;
-    let program = boxed(alloc, Program::new(content, key))?;
+    let program = box_program(alloc, Program::new(content, key))?;
     Ok(program)
 }
 
@@ -60,12 +60,12 @@ fn content_of(alloc: Global, script: &Script, names: &Dictionary) -> Result<Cont
         names,
         kinds: kinds.as_slice(),
     };
-    let content = resolved(&meanings, decls)?;
+    let content = content_by_names(&meanings, decls)?;
     Ok(content)
 }
 
 // What the program of declarations holds whose names and definitions mean what `meanings` says.
-fn resolved(meanings: &Meanings<'_>, decls: &[Decl]) -> Result<Content, Unresolved>
+fn content_by_names(meanings: &Meanings<'_>, decls: &[Decl]) -> Result<Content, Unresolved>
     requires small { AreSmall decls.now }
     requires names { SameFirsts meanings.now.names.now (declared decls.now) }
     ensures { Answers (λ (p : Content). p) result (meant.resolved decls.now meanings.now.kinds.now) }

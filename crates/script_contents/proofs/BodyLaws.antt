@@ -1,12 +1,6 @@
 -- The body of a definition, where a walk under its parameters begins.
-use Rattle.std.proofs.Common.{◌≡◌, ℕ, List, length, ◌∙◌, ap}
-use Rattle.std.specs.Prelude.{slice_get}
-use Rattle.csp_program.specs.declared.programs.Body.{Body}
-use Rattle.csp_text.specs.declared.tree.Tree.{Tree}
+use Rattle.script_contents.proofs.Prelude.{◌≡◌, ℕ, List, length, ◌∙◌, ap, slice_get, Tree, body_at, body_under, read_by, body_of, parameters, kind_class, kind_network, Name, first_of, Scope, Kind}
 use Rattle.name_tables.specs.declared.meanings.Meanings.{Meanings}
-use Rattle.script_contents.specs.Plain.{body_at, body_under, read_by}
-use Rattle.script_names.specs.Prelude.{body_of, parameters, kind_class, kind_network, Name, first_of, Scope}
-use Rattle.script_names.specs.declared.kinds.Kind.{Kind}
 use Rattle.typed_trees.specs.Walked.{Walked, standing}
 
 pub body_is : (m : Meanings) (d : ℕ) (params : List Name) (t : Tree) (w : Walked) (kind : Kind) (scope : Scope) → scope ≡ parameters 0 params

@@ -1,19 +1,12 @@
 -- What declarations put into a program, one after another.
-use Rattle.std.proofs.Common.{◌≡◌, ℕ, suc, ◌+◌, ◌-◌, ◌<◌, ◌≤◌, List, [], ◌∷◌, ◌++◌, length, drop, get_or, refl, sym, ap, ◌∙◌, arith, append_assoc}
+use Rattle.script_contents.proofs.Prelude.{◌≡◌, ℕ, suc, ◌+◌, ◌-◌, ◌<◌, ◌≤◌, List, [], ◌∷◌, ◌++◌, length, drop, get_or, refl, sym, ap, ◌∙◌, arith, append_assoc, flat_map, Some, Decl, Tree, constants_in, resources_in, roles_in, channels_of, constants_of, definitions_from, defined, first_assertion, numbers_from, plain_content, resources_of, roles_of, root_of, Counts, Entities, Name, counted, declared, first_of, meanings_of, none_yet, reading, Kind}
 use Rattle.csp_base.proofs.Standard.{drop_of_length-le, fun_ext, append-nil}
-use Rattle.std.specs.List.{flat_map}
-use Rattle.std.specs.Prelude.{Some}
-use Rattle.csp_text.specs.declared.script.Decl.{Decl}
-use Rattle.csp_text.specs.declared.tree.Tree.{Tree}
-use Rattle.csp_text.specs.declared.script.Decl.TheVariants as decl
 use Rattle.csp_program.specs.declared.programs.Content.{Content}
 use Rattle.csp_program.specs.declared.programs.Def.{Def}
 use Rattle.csp_program.specs.declared.programs.ResourceNote.{ResourceNote}
 use Rattle.csp_program.specs.declared.programs.RolesNote.{RolesNote}
 use Rattle.name_tables.specs.Firsts.{SameFirsts}
-use Rattle.script_contents.specs.Plain.{constants_in, resources_in, roles_in}
-use Rattle.script_names.specs.Prelude.{channels_of, constants_of, definitions_from, defined, first_assertion, numbers_from, plain_content, resources_of, roles_of, root_of, Counts, Entities, Meanings, Name, counted, declared, first_of, meanings_of, none_yet, reading}
-use Rattle.script_names.specs.declared.kinds.Kind.{Kind}
+use Rattle.script_names.specs.Prelude.{Meanings}
 use Rattle.csp_base.proofs.Lists.{drop_read}
 use Rattle.name_tables.proofs.NameLemmas.{same_meanings}
 
@@ -47,25 +40,16 @@ numbers_end made whole number count place at_end so_far =
 
 -- annotations and constants look at no kinds, constants at no names
 same_constants : (meanings : Meanings) (kinds : List Kind) (d : Decl) → constants_in d ≡ constants_of meanings kinds d
-same_constants meanings kinds (decl.Datatype x ks) = refl
+same_constants meanings kinds (Decl.Datatype x ks) = refl
 same_constants meanings kinds _ = refl
 
 same_roles : (meanings : Meanings) (kinds : List Kind) (d : Decl) → roles_in meanings d ≡ roles_of meanings kinds d
-same_roles meanings kinds (decl.Roles names) = refl
+same_roles meanings kinds (Decl.Roles names) = refl
 same_roles meanings kinds _ = refl
 
 same_resources : (meanings : Meanings) (kinds : List Kind) (d : Decl) → resources_in meanings d ≡ resources_of meanings kinds d
-same_resources meanings kinds (decl.Resource names) = refl
+same_resources meanings kinds (Decl.Resource names) = refl
 same_resources meanings kinds _ = refl
-
-pub all_constants : (meanings : Meanings) (kinds : List Kind) → constants_in ≡ constants_of meanings kinds
-all_constants meanings kinds = fun_ext (same_constants meanings kinds)
-
-pub all_roles : (meanings : Meanings) (kinds : List Kind) → roles_in meanings ≡ roles_of meanings kinds
-all_roles meanings kinds = fun_ext (same_roles meanings kinds)
-
-pub all_resources : (meanings : Meanings) (kinds : List Kind) → resources_in meanings ≡ resources_of meanings kinds
-all_resources meanings kinds = fun_ext (same_resources meanings kinds)
 
 -- what all declarations put into a program
 pub content_is : (names : Entities) (decls : List Decl) (kinds : List Kind) (root : Tree) (made : Content) → SameFirsts names (declared decls) → first_assertion decls ≡ Some root
@@ -76,11 +60,11 @@ pub content_is : (names : Entities) (decls : List Decl) (kinds : List Kind) (roo
 content_is names decls kinds root made same asserted events_is channels_is consts_is defs_is roles_is resources_is root_is =
     let means : first_of names ≡ meanings_of decls = same_meanings decls names same in
     let channels_are = channels_is ∙ ap (λ m. flat_map (channels_of m kinds) decls) means in
-    let consts_are = consts_is ∙ ap (λ (f : Decl → List Name). flat_map f decls) (all_constants (meanings_of decls) kinds) in
+    let consts_are = consts_is ∙ ap (λ (f : Decl → List Name). flat_map f decls) (fun_ext (same_constants (meanings_of decls) kinds)) in
     let defs_are = defs_is ∙ ap (λ m. definitions_from m kinds none_yet decls) means in
-    let roles_are = roles_is ∙ ap (λ (f : Decl → List RolesNote). flat_map f decls) (all_roles (first_of names) kinds) ∙ ap (λ m. flat_map (roles_of m kinds) decls) means in
+    let roles_are = roles_is ∙ ap (λ (f : Decl → List RolesNote). flat_map f decls) (fun_ext (same_roles (first_of names) kinds)) ∙ ap (λ m. flat_map (roles_of m kinds) decls) means in
     let resources_are =
-    resources_is ∙ ap (λ (f : Decl → List ResourceNote). flat_map f decls) (all_resources (first_of names) kinds) ∙ ap (λ m. flat_map (resources_of m kinds) decls) means in
+    resources_is ∙ ap (λ (f : Decl → List ResourceNote). flat_map f decls) (fun_ext (same_resources (first_of names) kinds)) ∙ ap (λ m. flat_map (resources_of m kinds) decls) means in
     let root_are = root_is ∙ ap (λ m. (reading m kinds root).net [] 0) means ∙ ap (root_of (meanings_of decls) kinds) (sym asserted) in
     λ i. record {
       events = events_is i;

@@ -1,3 +1,4 @@
+mod Prelude
 pub mod BodyLaws
 pub mod ContentLaws
 pub mod SizeLaws

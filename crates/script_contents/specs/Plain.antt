@@ -8,7 +8,6 @@ use Rattle.csp_program.specs.declared.programs.Channel.{Channel}
 use Rattle.csp_program.specs.declared.programs.Def.{Def}
 use Rattle.csp_program.specs.declared.programs.ResourceNote.{ResourceNote}
 use Rattle.csp_program.specs.declared.programs.RolesNote.{RolesNote}
-use Rattle.csp_program.specs.declared.programs.Body.TheVariants as body
 use Rattle.script_names.specs.Prelude.{body_of, channels_of, constants_of, defined, definitions_from, numbers_from, parameters, resources_of, roles_of, kind_class, kind_network, Counts, Name, first_of, Reading, reading}
 use Rattle.script_names.specs.declared.kinds.Kind.{Kind}
 use Rattle.script_names.specs.Names as names
@@ -43,7 +42,7 @@ body_at w kind t = body_of (first_of w.names) w.kinds kind.class kind.network (r
 
 abbrev pub process_at : Walked → Bool → Tree → Body
 process_at w network t =
-    if network then body.Network ((read_at w t).net w.scope w.next) else body.Process ((read_at w t).proc w.scope w.next)
+    if network then Body.Network ((read_at w t).net w.scope w.next) else Body.Process ((read_at w t).proc w.scope w.next)
 
 -- the body of the definition with the number d, and the definition
 abbrev pub body_under : Meanings → ℕ → List Name → Tree → Body
@@ -56,11 +55,11 @@ definition_at m d x params t = record { name = x; params = numbers_from 0 (lengt
 
 -- a nametype
 abbrev pub nametype_of : Meanings → Name → Tree → Def
-nametype_of m x t = record { name = x; params = []; body = body.Nametype ((read_by m t).expr [] 0) }
+nametype_of m x t = record { name = x; params = []; body = Body.Nametype ((read_by m t).expr [] 0) }
 
 -- a datatype of so many constants
 abbrev pub datatype_of : Name → ℕ → ℕ → Def
-datatype_of x first count = record { name = x; params = []; body = body.Datatype (numbers_from first count) }
+datatype_of x first count = record { name = x; params = []; body = Body.Datatype (numbers_from first count) }
 
 -- the annotations of a declaration, whatever definitions are
 abbrev pub roles_in : names.Meanings → Decl → List RolesNote

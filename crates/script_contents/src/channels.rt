@@ -20,8 +20,8 @@ use typed_trees::Walk;
 /// The types of a channel's fields.
 pub fn types_of(meanings: &Meanings<'_>, types: &[Tree]) -> Result<Items<Expr>, NoMemory>
     requires { all_tokens types.now ≤ MOST_BYTES }
-    ensures { IfOk result (λ typed. typed
-        ≡ exprs (map (reading (first_of meanings.now.names.now) meanings.now.kinds.now) types.now) [] 0) }
+    ensures { IfOk result (λ typed.
+        typed ≡ exprs (map (reading (first_of meanings.now.names.now) meanings.now.kinds.now) types.now) [] 0) }
 {
     let mut walk = Walk::new(meanings, Scope::new(meanings.alloc), 0);
     let typed = walk.typed_exprs(types)?;

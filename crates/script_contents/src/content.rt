@@ -57,12 +57,12 @@ fn definitions_and_root(
     ensures root { IfOk result (λ made. made.1 ≡ (read_by meanings.now root.now).net [] 0) }
 {
     let defs = definitions(meanings, decls)?;
-    let root = asserted(meanings, root)?;
+    let root = root_net(meanings, root)?;
     Ok((defs, root))
 }
 
 // The network that is asserted.
-fn asserted(meanings: &Meanings<'_>, root: &Tree) -> Result<Net, NoMemory>
+fn root_net(meanings: &Meanings<'_>, root: &Tree) -> Result<Net, NoMemory>
     requires { tokens root.now ≤ MOST_BYTES }
     ensures { IfOk result (λ net. net ≡ (read_by meanings.now root.now).net [] 0) }
 {

@@ -1,21 +1,14 @@
 -- What each form of a tree is as an expression, by the equations that are made of the folds.
-use Rattle.std.proofs.Common.{◌≡◌, ℕ, ◌+◌, pos, true, false, List, [], ◌∷◌, map, refl, ap, sym, ◌∙◌, rules}
-use Rattle.csp_base.specs.declared.operators.BinOp.{BinOp}
-use Rattle.csp_base.specs.declared.operators.SetOp.{SetOp}
-use Rattle.csp_text.specs.declared.tree.FieldTree.TheViews.{out-PartTree}
-use Rattle.csp_text.specs.declared.tree.GenTree.{GenTree}
-use Rattle.csp_text.specs.declared.tree.PartTree.{PartTree, the_lemmas as part_lemmas}
-use Rattle.csp_text.specs.declared.tree.Tree.{Tree, the_lemmas}
+use Rattle.typed_trees.proofs.Prelude.{◌≡◌, ℕ, ◌+◌, pos, true, false, List, [], ◌∷◌, map, refl, ◌∙◌, rules, BinOp, SetOp, out-PartTree, GenTree, PartTree, Tree, Name, first_of, bindings, exprs, under, with, named, number_of, all_bind, parts_bind, channel_number, definition_number, tokens, all_tokens, parts_tokens, Walked, past, read_at, gen_read, part_read, exprs_at, gens_at, gens_scope, parts_at, under_gens}
+use Rattle.csp_text.specs.declared.tree.PartTree.{the_lemmas as part_lemmas}
+use Rattle.csp_text.specs.declared.tree.Tree.{the_lemmas}
 use Rattle.csp_text.specs.declared.tree.GenTree.TheVariants as gentree
 use Rattle.csp_text.specs.declared.tree.Tree.TheVariants as tree
 use Rattle.csp_program.specs.declared.expressions.Expr.TheVariants as expr
 use Rattle.csp_program.specs.declared.expressions.Expr.TheViews.{roll-EventPart}
 use Rattle.csp_program.specs.declared.expressions.Gen.TheVariants as generator
-use Rattle.script_names.specs.Prelude.{Name, first_of, bindings, exprs, under, with, named, number_of, all_bind, parts_bind, channel_number, definition_number}
 use Rattle.script_names.specs.Typed as typed
-use Rattle.script_sizes.specs.BindingTokens.{tokens, all_tokens, parts_tokens}
-use Rattle.typed_trees.specs.Walked.{Walked, past, read_at}
-use Rattle.typed_trees.specs.Words.{gen_read, part_read, expr_at, exprs_at, gen_at, gen_scope, gens_at, gens_scope, part_at, parts_at, under_gens}
+use Rattle.typed_trees.specs.Words.{expr_at, gen_at, gen_scope, part_at}
 use Rattle.typed_trees.proofs.SameTokens.{same_tree, same_gen, same_part}
 
 pub trees_bind : (w : Walked) (ts : List Tree) → all_bind (map (read_at w) ts) ≡ all_tokens ts

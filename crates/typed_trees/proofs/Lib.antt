@@ -1,3 +1,4 @@
+mod Prelude
 pub mod Rolls
 pub mod SameTokens
 pub mod Takes

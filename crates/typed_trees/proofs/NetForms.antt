@@ -1,14 +1,10 @@
 -- What each form of a tree is as a network, by the equations that are made of the folds.
-use Rattle.std.proofs.Common.{◌≡◌, ℕ, ◌+◌, true, false, cond, ◌||◌, List, [], refl, ap, sym, ◌∙◌, rules}
-use Rattle.csp_text.specs.declared.tree.FieldTree.TheViews.{out-Tree, roll-out-Tree}
-use Rattle.csp_text.specs.declared.tree.Tree.{Tree, the_lemmas}
+use Rattle.typed_trees.proofs.Prelude.{◌≡◌, ◌+◌, true, false, cond, ◌||◌, List, [], ap, sym, ◌∙◌, rules, out-Tree, roll-out-Tree, Tree, is_network, Name, first_of, sense_in, definition_number, names_of, network_of_layer, networked_of_layer, proc_of_layer, reading_of_layer, tokens, Walked, past, read_at, bound, exprs_at}
+use Rattle.csp_text.specs.declared.tree.Tree.{the_lemmas}
 use Rattle.csp_text.specs.declared.tree.Tree.TheVariants as tree
 use Rattle.csp_program.specs.declared.networks.Net.{Net}
 use Rattle.csp_program.specs.declared.networks.Net.TheVariants as net
-use Rattle.script_names.specs.Prelude.{is_network, Name, first_of, sense_in, definition_number, names_of, network_of_layer, networked_of_layer, proc_of_layer, reading_of_layer}
-use Rattle.script_sizes.specs.BindingTokens.{tokens}
-use Rattle.typed_trees.specs.Walked.{Walked, past, read_at}
-use Rattle.typed_trees.specs.Words.{bound, expr_at, exprs_at, net_at, networked_at, proc_at}
+use Rattle.typed_trees.specs.Words.{expr_at, net_at, networked_at, proc_at}
 use Rattle.typed_trees.proofs.Rolls.{layer_read, tree_rolls}
 use Rattle.typed_trees.proofs.SameTokens.{same_tree}
 use Rattle.typed_trees.proofs.ExprForms.{exprs_are}

@@ -1,20 +1,12 @@
 -- What each form of a tree is as a process, by the equations that are made of the folds.
-use Rattle.std.proofs.Common.{◌≡◌, ℕ, ◌+◌, Option, Some, None, List, [], ◌∷◌, map, refl, rules}
-use Rattle.csp_text.specs.declared.tree.EventTree.{EventTree, the_lemmas as event_lemmas}
-use Rattle.csp_text.specs.declared.tree.FieldTree.{FieldTree}
-use Rattle.csp_text.specs.declared.tree.FieldTree.TheViews.{out-EventTree}
-use Rattle.csp_text.specs.declared.tree.GenTree.{GenTree}
-use Rattle.csp_text.specs.declared.tree.PartTree.{PartTree}
-use Rattle.csp_text.specs.declared.tree.Tree.{Tree, the_lemmas}
+use Rattle.typed_trees.proofs.Prelude.{◌≡◌, ◌+◌, Option, Some, None, List, [], ◌∷◌, map, refl, rules, EventTree, FieldTree, out-EventTree, GenTree, PartTree, Tree, Name, first_of, bindings, bindings_bind, pairs_bind, procs, under, with, head_of, number_of, definition_number, tokens, fields_tokens, pairs_tokens, Walked, past, read_at, after_fields, bound, exprs_at, field_read, fields_at, fields_scope, gens_at, pairs_at, part_read, procs_at, set_at, under_gens, Field}
+use Rattle.csp_text.specs.declared.tree.EventTree.{the_lemmas as event_lemmas}
+use Rattle.csp_text.specs.declared.tree.Tree.{the_lemmas}
 use Rattle.csp_text.specs.declared.tree.FieldTree.TheVariants as fieldtree
 use Rattle.csp_text.specs.declared.tree.Tree.TheVariants as tree
-use Rattle.csp_program.specs.declared.processes.Field.TheVariants as field
 use Rattle.csp_program.specs.declared.processes.Proc.TheVariants as proc
-use Rattle.script_names.specs.Prelude.{Name, first_of, bindings, bindings_bind, pairs_bind, procs, under, with, head_of, number_of, definition_number}
 use Rattle.script_names.specs.Typed as typed
-use Rattle.script_sizes.specs.BindingTokens.{tokens, fields_tokens, pairs_tokens}
-use Rattle.typed_trees.specs.Walked.{Walked, past, read_at}
-use Rattle.typed_trees.specs.Words.{after_fields, bound, expr_at, exprs_at, field_at, field_read, field_scope, fields_at, fields_scope, gens_at, pairs_at, part_at, part_read, proc_at, procs_at, set_at, under_gens}
+use Rattle.typed_trees.specs.Words.{expr_at, field_at, field_scope, part_at, proc_at}
 use Rattle.typed_trees.proofs.SameTokens.{same_tree, same_field, same_part}
 use Rattle.typed_trees.proofs.ExprForms.{exprs_are, gens_are, gens_under}
 
@@ -53,15 +45,15 @@ pairs_are w (p ∷ ps) = λ i.
     ∷ pairs_are (past (past w (same_part w.names w.kinds p.0 i)) (same_part w.names w.kinds p.1 i)) ps i
 
 module _ (w : Walked) where
-  pub field-Dot : (t : Tree) → field_at w (fieldtree.Dot t) ≡ field.Put (expr_at w t)
+  pub field-Dot : (t : Tree) → field_at w (fieldtree.Dot t) ≡ Field.Put (expr_at w t)
   unfolding field_at expr_at
   field-Dot t = search (rules, the_lemmas)
 
-  pub field-Output : (t : Tree) → field_at w (fieldtree.Output t) ≡ field.Put (expr_at w t)
+  pub field-Output : (t : Tree) → field_at w (fieldtree.Output t) ≡ Field.Put (expr_at w t)
   unfolding field_at expr_at
   field-Output t = search (rules, the_lemmas)
 
-  pub field-Input : (x : Name) (o : Option Tree) → field_at w (fieldtree.Input x o) ≡ field.Get w.next (set_at (past w 1) o)
+  pub field-Input : (x : Name) (o : Option Tree) → field_at w (fieldtree.Input x o) ≡ Field.Get w.next (set_at (past w 1) o)
   unfolding field_at expr_at
   field-Input x None = search (rules, the_lemmas)
   field-Input x (Some t) = search (rules, the_lemmas)

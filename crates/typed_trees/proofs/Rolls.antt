@@ -1,18 +1,5 @@
 -- Typed trees layer by layer.
-use Rattle.std.proofs.Common.{◌≡◌, List}
-use Rattle.csp_text.specs.declared.tree.EventTree.{EventTree}
-use Rattle.csp_text.specs.declared.tree.FieldTree.{FieldTree}
-use Rattle.csp_text.specs.declared.tree.FieldTree.TheFolds.{fold-EventTree, fold-roll-FieldTree, fold-roll-GenTree, fold-roll-Tree, fold-roll-EventTree, fold-roll-PartTree, map-FieldTree, map-GenTree, map-Tree, map-EventTree, map-PartTree}
-use Rattle.csp_text.specs.declared.tree.FieldTree.TheOpen.{FieldTree-F, GenTree-F, Tree-F, EventTree-F, PartTree-F}
-use Rattle.csp_text.specs.declared.tree.FieldTree.TheViews.{roll-FieldTree, roll-GenTree, roll-Tree, roll-EventTree, roll-PartTree}
-use Rattle.csp_text.specs.declared.tree.GenTree.{GenTree}
-use Rattle.csp_text.specs.declared.tree.PartTree.{PartTree}
-use Rattle.csp_text.specs.declared.tree.Tree.{Tree}
-use Rattle.csp_program.specs.declared.expressions.Gen.{Gen}
-use Rattle.csp_program.specs.declared.processes.Field.{Field}
-use Rattle.script_names.specs.Prelude.{Entities, first_of, Binding, Front, Reading, reading, field_of_layer, gen_of_layer, reading_of_layer, event_of_layer, part_of_layer}
-use Rattle.script_names.specs.declared.kinds.Kind.{Kind}
-use Rattle.typed_trees.specs.Words.{field_read, gen_read, part_read}
+use Rattle.typed_trees.proofs.Prelude.{◌≡◌, List, EventTree, FieldTree, fold-EventTree, fold-roll-FieldTree, fold-roll-GenTree, fold-roll-Tree, fold-roll-EventTree, fold-roll-PartTree, map-FieldTree, map-GenTree, map-Tree, map-EventTree, map-PartTree, FieldTree-F, GenTree-F, Tree-F, EventTree-F, PartTree-F, roll-FieldTree, roll-GenTree, roll-Tree, roll-EventTree, roll-PartTree, GenTree, PartTree, Tree, Gen, Field, Entities, first_of, Binding, Front, Reading, reading, field_of_layer, gen_of_layer, reading_of_layer, event_of_layer, part_of_layer, Kind, field_read, gen_read, part_read}
 
 module _ (es : Entities) (ks : List Kind) where
   abbrev pub tree_read : Tree → Reading

@@ -1,18 +1,8 @@
 -- Names that are bound behind others leave these as they are.
-use Rattle.std.proofs.Common.{◌≡◌, ℕ, ◌+◌, ◌≤◌, min, List, [], ◌∷◌, ◌++◌, length, take, refl, sym, ap, ◌∙◌, subst, arith}
+use Rattle.typed_trees.proofs.Prelude.{◌≡◌, ◌+◌, ◌≤◌, min, List, [], ◌∷◌, ◌++◌, length, take, sym, ap, ◌∙◌, subst, arith, EventTree, FieldTree, FieldTree-F, GenTree-F, out-FieldTree, out-GenTree, roll-FieldTree, roll-GenTree, roll-out-FieldTree, roll-out-GenTree, GenTree, PartTree, Tree, Scope, Walked, after_field, after_gen, field_scope, fields_scope, gen_scope, gens_scope}
 use Rattle.csp_base.proofs.Standard.{take-append_seam, take-length, length-take, take-take}
-use Rattle.csp_text.specs.declared.tree.EventTree.{EventTree}
-use Rattle.csp_text.specs.declared.tree.FieldTree.{FieldTree}
-use Rattle.csp_text.specs.declared.tree.FieldTree.TheOpen.{FieldTree-F, GenTree-F}
-use Rattle.csp_text.specs.declared.tree.FieldTree.TheViews.{out-FieldTree, out-GenTree, roll-FieldTree, roll-GenTree, roll-out-FieldTree, roll-out-GenTree}
-use Rattle.csp_text.specs.declared.tree.GenTree.{GenTree}
-use Rattle.csp_text.specs.declared.tree.PartTree.{PartTree}
-use Rattle.csp_text.specs.declared.tree.Tree.{Tree}
 use Rattle.csp_text.specs.declared.tree.FieldTree.TheVariants as fieldtree
 use Rattle.csp_text.specs.declared.tree.GenTree.TheVariants as gentree
-use Rattle.script_names.specs.Typed.{Scope}
-use Rattle.typed_trees.specs.Walked.{Walked}
-use Rattle.typed_trees.specs.Words.{after_field, after_gen, field_scope, fields_scope, gen_scope, gens_scope}
 use Rattle.typed_trees.proofs.ExprForms.{gen_scope-From, gen_scope-Cond}
 use Rattle.typed_trees.proofs.ProcForms.{field_scope-Dot, field_scope-Output, field_scope-Input}
 

@@ -1,7 +1,6 @@
 -- Nothing is left out of a list by as many places as it has.
-use Rattle.std.proofs.Common.{◌≡◌, ℕ, ◌≤◌, length, take}
+use Rattle.typed_trees.proofs.Prelude.{◌≡◌, ℕ, ◌≤◌, length, take, Scope}
 use Rattle.std.proofs.lemmas.List.{take_all}
-use Rattle.script_names.specs.Typed.{Scope}
 
 pub take_whole : (n : ℕ) (s : Scope) → length s ≤ n → take n s ≡ s
 take_whole n s short = take_all n s short

@@ -1,2 +1,3 @@
+pub mod Prelude
 pub mod Walked
 pub mod Words

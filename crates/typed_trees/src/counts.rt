@@ -1,8 +1,6 @@
 //! How many binding tokens trees have.
 
-ghost use Rattle.std.specs.Prelude.{◌≡◌, ◌+◌, ◌≤◌};
-ghost use Rattle.dl_limits.specs.declared.TheConstants.{MOST_BYTES};
-ghost use Rattle.script_sizes.specs.BindingTokens.{all_tokens, field_tokens, fields_tokens, gen_tokens, gens_tokens, part_tokens, parts_tokens, pairs_tokens, tokens};
+ghost use Rattle.typed_trees.specs.Prelude.{◌≡◌, ◌+◌, ◌≤◌, MOST_BYTES, all_tokens, field_tokens, fields_tokens, gen_tokens, gens_tokens, part_tokens, parts_tokens, pairs_tokens, tokens};
 
 use containers::Boxed;
 use csp_text::{FieldTree, GenTree, PartTree, Tree};

@@ -1,8 +1,6 @@
 //! Trees as expressions.
 
-ghost use Rattle.std.specs.Prelude.{◌≡◌, ◌+◌, ◌≤◌, IfOk, OnOk};
-ghost use Rattle.dl_limits.specs.declared.TheConstants.{MOST_BYTES};
-ghost use Rattle.script_sizes.specs.BindingTokens.{all_tokens, gen_tokens, gens_tokens, part_tokens, parts_tokens, tokens};
+ghost use Rattle.typed_trees.specs.Prelude.{◌≡◌, ◌+◌, ◌≤◌, IfOk, OnOk, MOST_BYTES, all_tokens, gen_tokens, gens_tokens, part_tokens, parts_tokens, tokens};
 ghost use Rattle.typed_trees.specs.Walked.{past};
 ghost use Rattle.typed_trees.specs.Words.{after_gen, after_gens, bound, expr_at, exprs_at, gen_at, gens_at, part_at, parts_at, under_gens};
 

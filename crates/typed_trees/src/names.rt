@@ -44,7 +44,7 @@ fn named_entity(alloc: Global, entity: Option<Entity>) -> Expr
 }
 
 /// A name by itself, with its number where it is bound and what it is declared as.
-pub(crate) fn named(alloc: Global, number: Option<u32>, entity: Option<Entity>) -> Expr
+pub(crate) fn name_alone(alloc: Global, number: Option<u32>, entity: Option<Entity>) -> Expr
     ensures { result ≡ typed.named number entity }
 {
     match number {

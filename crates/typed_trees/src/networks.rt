@@ -1,8 +1,6 @@
 //! Trees as networks.
 
-ghost use Rattle.std.specs.Prelude.{◌≡◌, ◌+◌, ◌≤◌, true, IfOk, OnOk};
-ghost use Rattle.dl_limits.specs.declared.TheConstants.{MOST_BYTES};
-ghost use Rattle.script_sizes.specs.BindingTokens.{tokens};
+ghost use Rattle.typed_trees.specs.Prelude.{◌≡◌, ◌+◌, ◌≤◌, true, IfOk, OnOk, MOST_BYTES, tokens};
 ghost use Rattle.typed_trees.specs.Walked.{past};
 ghost use Rattle.typed_trees.specs.Words.{net_at, networked_at, proc_at};
 

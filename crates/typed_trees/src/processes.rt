@@ -1,8 +1,6 @@
 //! Trees as processes.
 
-ghost use Rattle.std.specs.Prelude.{◌≡◌, ◌+◌, ◌≤◌, IfOk, OnOk};
-ghost use Rattle.dl_limits.specs.declared.TheConstants.{MOST_BYTES};
-ghost use Rattle.script_sizes.specs.BindingTokens.{all_tokens, field_tokens, fields_tokens, gens_tokens, pairs_tokens, part_tokens, set_tokens, tokens};
+ghost use Rattle.typed_trees.specs.Prelude.{◌≡◌, ◌+◌, ◌≤◌, IfOk, OnOk, MOST_BYTES, all_tokens, field_tokens, fields_tokens, gens_tokens, pairs_tokens, part_tokens, set_tokens, tokens};
 ghost use Rattle.typed_trees.specs.Walked.{past};
 ghost use Rattle.typed_trees.specs.Words.{after_field, after_fields, bound, expr_at, field_at, fields_at, gens_at, pairs_at, part_at, proc_at, procs_at, set_at, sides_at};
 
@@ -14,7 +12,7 @@ use csp_program::{EventPart, Expr, Field, Gen, Proc};
 use csp_text::{EventTree, FieldTree, GenTree, PartTree, Tree};
 
 // An expression from the heap, where there is one.
-fn unboxed(set: Option<Boxed<Expr>>) -> Option<Expr>
+fn out_of_box(set: Option<Boxed<Expr>>) -> Option<Expr>
     ensures { result ≡ set }
 {
     match set {
@@ -45,7 +43,7 @@ impl<'a> Walk<'a> {
         let number = self.take_number();
         let set = self.input_set(set)?;
         self.bind(x, number)?;
-        Ok(Field::Get(number, unboxed(set)))
+        Ok(Field::Get(number, out_of_box(set)))
     }
 
     // A field. Its name is bound afterwards.

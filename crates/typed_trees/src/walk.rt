@@ -1,15 +1,12 @@
 //! Where a walk over trees stands.
 
-ghost use Rattle.std.specs.Prelude.{◌≡◌, ◌+◌, ◌<◌, ◌≤◌, ◌++◌, ◌∷◌, [], length, take, OnOk};
-ghost use Rattle.dl_limits.specs.declared.TheConstants.{MOST_BYTES};
-ghost use Rattle.script_names.specs.Prelude.{first_of, number_of};
-ghost use Rattle.script_names.specs.Typed as typed;
-ghost use Rattle.script_sizes.specs.BindingTokens.{tokens};
+ghost use Rattle.typed_trees.specs.Prelude.{◌≡◌, ◌+◌, ◌<◌, ◌≤◌, ◌++◌, ◌∷◌, [], length, take, OnOk, MOST_BYTES, first_of, number_of, tokens};
 ghost use Rattle.typed_trees.specs.Walked.{past, standing};
+ghost use Rattle.script_names.specs.Typed as typed;
 ghost use Rattle.typed_trees.specs.Words as words;
 
 use crate::counts::count_tree;
-use crate::names::{channel_number, definition_number, head_of, is_network, named};
+use crate::names::{channel_number, definition_number, head_of, is_network, name_alone};
 use csp_base::{Name, NoMemory};
 use csp_program::{Expr, Head};
 use csp_text::Tree;
@@ -85,7 +82,7 @@ impl<'a> Walk<'a> {
     pub(crate) fn name(&self, x: &Name) -> Expr
         ensures { result ≡ typed.named (number_of self.now.scope x.now) (first_of self.now.names x.now) }
     {
-        named(self.alloc, self.scope.find(x), self.names.find(x))
+        name_alone(self.alloc, self.scope.find(x), self.names.find(x))
     }
 
     /// What the event of a prefix begins with.

@@ -1,9 +1,5 @@
-use Rattle.std.proofs.Common.{◌≡◌, List, ap, refl, sym, ◌∙◌, subst}
-use Rattle.csp_program.specs.declared.expressions.Expr.{Expr}
-use Rattle.csp_text.specs.declared.script.Decl.{Decl}
-use Rattle.csp_resolve.specs.Answers.{GrowsBy, sets_of, types_read}
+use Rattle.csp_resolve.proofs.Prelude.{◌≡◌, List, ap, refl, sym, ◌∙◌, subst, Expr, Decl, GrowsBy, sets_of, types_read, first_of}
 use Rattle.csp_resolve.proofs.SetsLaws.{grows_by_channels}
-use Rattle.script_names.specs.Names.{first_of}
 use Rattle.script_names.specs.Resolved as meant
 use Rattle.csp_resolve.proofs.events.add_sets.Goals as goal
 

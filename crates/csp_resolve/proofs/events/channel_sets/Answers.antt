@@ -1,16 +1,8 @@
-use Rattle.std.proofs.Common.{◌+◌, ◌≤◌, List, ap, sym, ◌∙◌, arith}
-use Rattle.std.specs.Prelude.{Vec}
-use Rattle.std.specs.declared.alloc.Global.{Global}
-use Rattle.csp_resolve.specs.Answers.{sets_of, types_read}
+use Rattle.csp_resolve.proofs.Prelude.{◌+◌, ◌≤◌, List, ap, sym, ◌∙◌, arith, Vec, Global, sets_of, types_read, MOST_BYTES, SharedSets, spread, first_of, size}
 use Rattle.csp_resolve.proofs.AnswerLaws.{passed_grown}
 use Rattle.csp_resolve.proofs.Few.{one_counted}
 use Rattle.csp_resolve.proofs.SetsLaws.{sets_begin, sets_end, sets_step, sets_stop, sets_with}
-use Rattle.dl_limits.specs.declared.TheConstants.{MOST_BYTES}
-use Rattle.event_tables.specs.declared.sets.SharedSets.{SharedSets}
-use Rattle.event_tables.specs.Spread.{spread}
-use Rattle.script_names.specs.Names.{first_of}
 use Rattle.script_names.specs.Resolved as meant
-use Rattle.script_sizes.specs.Size.{size}
 use Rattle.csp_resolve.proofs.events.channel_sets.Goals as goal
 
 pub add_sets-requires : goal.add_sets-requires

@@ -1,11 +1,6 @@
-use Rattle.std.proofs.Common.{◌≡◌, ◌+◌, ◌≤◌, drop}
-use Rattle.csp_resolve.specs.Answers.{types_read}
+use Rattle.csp_resolve.proofs.Prelude.{◌≡◌, ◌+◌, ◌≤◌, drop, types_read, MOST_BYTES, spread, first_of, size}
 use Rattle.csp_resolve.proofs.SetsLaws.{sets_with}
-use Rattle.dl_limits.specs.declared.TheConstants.{MOST_BYTES}
-use Rattle.event_tables.specs.Spread.{spread}
-use Rattle.script_names.specs.Names.{first_of}
 use Rattle.script_names.specs.Resolved as meant
-use Rattle.script_sizes.specs.Size.{size}
 use Rattle.csp_resolve.proofs.events.channel_sets.Given as goal
 
 abbrev pub invariant-loop-decl : goal.invariant-loop-decl

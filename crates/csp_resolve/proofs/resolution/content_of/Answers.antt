@@ -1,10 +1,5 @@
-use Rattle.std.proofs.Common.{◌≤◌, List, refl, sym, subst}
-use Rattle.script_names.specs.Prelude.{AreKinds}
-use Rattle.script_names.specs.declared.kinds.Kind.{Kind}
-use Rattle.csp_text.specs.declared.script.Decl.{Decl}
-use Rattle.dl_limits.specs.declared.TheConstants.{MOST_BYTES}
-use Rattle.script_sizes.specs.Size.{size}
-use Rattle.csp_resolve.proofs.AnswerLaws.{program_is, refused_at}
+use Rattle.csp_resolve.proofs.Prelude.{◌≤◌, List, refl, sym, subst, AreKinds, Kind, Decl, MOST_BYTES, size}
+use Rattle.csp_resolve.proofs.AnswerLaws.{program_is, refused, resolves_at}
 use Rattle.csp_resolve.proofs.Few.{has_few}
 use Rattle.csp_resolve.proofs.resolution.content_of.Goals as goal
 
@@ -21,5 +16,6 @@ returns-clause-in_order c =
 
 pub returns-in_err-content-clause-resolves : goal.returns-in_err-content-clause-resolves
 returns-in_err-content-clause-resolves c =
-    refused_at c.args.script.now c.as_slice-decls.result.now c.as_slice.result.now c.from_residual-in_err-content.result c.in_err-content.field-0.0 c.as_slice-decls.ensures
-    (subst (λ (ks : List Kind). AreKinds c.as_slice-decls.result.now ks) (sym c.as_slice.ensures.value) c.in_ok-kinds.ensures) c.from_residual-in_err-content.ensures.1 c.in_err-content.ensures
+    resolves_at c.args.script.now c.from_residual-in_err-content.result c.in_err-content.field-0.0 c.from_residual-in_err-content.ensures.1
+    (refused c.args.script.now c.as_slice-decls.result.now c.as_slice.result.now c.in_err-content.field-0.0 c.as_slice-decls.ensures
+    (subst (λ (ks : List Kind). AreKinds c.as_slice-decls.result.now ks) (sym c.as_slice.ensures.value) c.in_ok-kinds.ensures) c.in_err-content.ensures)

@@ -1,12 +1,6 @@
-use Rattle.std.proofs.Common.{ap}
-use Rattle.std.specs.Prelude.{Vec}
-use Rattle.std.specs.declared.alloc.Global.{Global}
-use Rattle.csp_resolve.specs.Answers.{types_read}
+use Rattle.csp_resolve.proofs.Prelude.{ap, Vec, Global, types_read, SharedSets, spread, first_of, Answer, and_next}
 use Rattle.csp_resolve.proofs.AnswerLaws.{passed}
 use Rattle.csp_resolve.proofs.SetsLaws.{Sets}
-use Rattle.event_tables.specs.declared.sets.SharedSets.{SharedSets}
-use Rattle.event_tables.specs.Spread.{spread}
-use Rattle.script_names.specs.Prelude.{first_of, Answer, and_next}
 use Rattle.script_names.specs.Resolved as meant
 use Rattle.csp_resolve.proofs.resolution.put_events.Goals as goal
 

@@ -1,6 +1,4 @@
-use Rattle.std.proofs.Common.{sym, subst, ◌∙◌}
-use Rattle.csp_program.specs.declared.programs.Content.{Content}
-use Rattle.script_names.specs.Program.{IsProgram}
+use Rattle.csp_resolve.proofs.Prelude.{sym, subst, ◌∙◌, Content, IsProgram}
 use Rattle.csp_resolve.proofs.AnswerLaws.{resolves_at}
 use Rattle.csp_resolve.proofs.resolution.resolve.Goals as goal
 

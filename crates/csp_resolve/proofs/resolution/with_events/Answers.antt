@@ -1,7 +1,5 @@
-use Rattle.csp_program.specs.declared.programs.Content.{Content}
-use Rattle.csp_resolve.specs.Answers.{types_read}
+use Rattle.csp_resolve.proofs.Prelude.{Content, types_read, first_of, and_next}
 use Rattle.csp_resolve.proofs.AnswerLaws.{err_from}
-use Rattle.script_names.specs.Prelude.{first_of, and_next}
 use Rattle.script_names.specs.Resolved as meant
 use Rattle.csp_resolve.proofs.resolution.with_events.Goals as goal
 

@@ -1,6 +1,4 @@
-use Rattle.std.proofs.Common.{◌≡◌, ◌++◌, map, take}
-use Rattle.script_names.specs.Names.{Name}
-use Rattle.script_contents.specs.Plain.{plain_channel}
+use Rattle.script_contents.proofs.Prelude.{◌≡◌, ◌++◌, map, take, Name, plain_channel}
 use Rattle.script_contents.proofs.channels.add_named.Given as goal
 
 abbrev pub invariant-loop-x : goal.invariant-loop-x

@@ -1,9 +1,5 @@
-use Rattle.std.proofs.Common.{◌≤◌, arith}
-use Rattle.std.specs.List.{flat_map}
-use Rattle.script_contents.specs.Plain.{channels_by}
-use Rattle.script_sizes.specs.Size.{declaration_size, size}
+use Rattle.script_contents.proofs.Prelude.{◌≤◌, arith, flat_map, channels_by, declaration_size, size, size_at}
 use Rattle.name_tables.proofs.DeclaredLemmas.{flat_end, flat_step}
-use Rattle.name_tables.proofs.SizeLaws.{size_at}
 use Rattle.script_contents.proofs.channels.channels.Goals as goal
 
 pub add_channels-requires : goal.add_channels-requires

@@ -1,6 +1,4 @@
-use Rattle.std.proofs.Common.{◌≡◌, ◌++◌, drop}
-use Rattle.std.specs.List.{flat_map}
-use Rattle.script_contents.specs.Plain.{channels_by}
+use Rattle.script_contents.proofs.Prelude.{◌≡◌, ◌++◌, drop, flat_map, channels_by}
 use Rattle.script_contents.proofs.channels.channels.Given as goal
 
 abbrev pub invariant-loop-decl : goal.invariant-loop-decl

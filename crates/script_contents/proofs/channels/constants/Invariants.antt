@@ -1,6 +1,4 @@
-use Rattle.std.proofs.Common.{◌≡◌, take}
-use Rattle.std.specs.List.{flat_map}
-use Rattle.script_contents.specs.Plain.{constants_in}
+use Rattle.script_contents.proofs.Prelude.{◌≡◌, take, flat_map, constants_in}
 use Rattle.script_contents.proofs.channels.constants.Given as goal
 
 abbrev pub invariant-loop-decl : goal.invariant-loop-decl

@@ -1,6 +1,4 @@
-use Rattle.std.proofs.Common.{◌≤◌, arith}
-use Rattle.script_sizes.specs.BindingTokens.{tokens}
-use Rattle.script_sizes.specs.Size.{size}
+use Rattle.script_contents.proofs.Prelude.{◌≤◌, arith, tokens, size}
 use Rattle.script_contents.proofs.ContentLaws.{content_is}
 use Rattle.script_contents.proofs.SizeLaws.{root_tokens}
 use Rattle.script_contents.proofs.content.plain_content.Goals as goal

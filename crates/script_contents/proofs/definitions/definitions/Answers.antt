@@ -1,9 +1,4 @@
-use Rattle.std.proofs.Common.{arith}
-use Rattle.dl_limits.specs.declared.TheConstants.{MOST_BYTES}
-use Rattle.name_tables.specs.Counted.{counts}
-use Rattle.name_tables.proofs.SizeLaws.{few_here, few_left}
-use Rattle.script_contents.specs.Plain.{definitions_by}
-use Rattle.script_names.specs.Names.{first_of, none_yet}
+use Rattle.script_contents.proofs.Prelude.{arith, MOST_BYTES, counts, few_here, few_left, definitions_by, first_of, none_yet}
 use Rattle.script_contents.proofs.ContentLaws.{definitions_end, definitions_step}
 use Rattle.script_contents.proofs.definitions.definitions.Goals as goal
 

@@ -1,9 +1,4 @@
-use Rattle.std.proofs.Common.{◌≡◌, ◌+◌, ◌≤◌, ◌++◌, drop}
-use Rattle.dl_limits.specs.declared.TheConstants.{MOST_BYTES}
-use Rattle.name_tables.specs.Counted.{counts, total}
-use Rattle.script_contents.specs.Plain.{definitions_by}
-use Rattle.script_names.specs.Names.{none_yet}
-use Rattle.script_sizes.specs.Size.{size}
+use Rattle.script_contents.proofs.Prelude.{◌≡◌, ◌+◌, ◌≤◌, ◌++◌, drop, MOST_BYTES, counts, total, definitions_by, none_yet, size}
 use Rattle.script_contents.proofs.definitions.definitions.Given as goal
 
 abbrev pub invariant-loop-decl : goal.invariant-loop-decl

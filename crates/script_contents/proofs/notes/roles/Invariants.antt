@@ -1,7 +1,4 @@
-use Rattle.std.proofs.Common.{◌≡◌, take}
-use Rattle.std.specs.List.{flat_map}
-use Rattle.script_contents.specs.Plain.{roles_in}
-use Rattle.script_names.specs.Names.{first_of}
+use Rattle.script_contents.proofs.Prelude.{◌≡◌, take, flat_map, roles_in, first_of}
 use Rattle.script_contents.proofs.notes.roles.Given as goal
 
 abbrev pub invariant-loop-decl : goal.invariant-loop-decl

@@ -1,6 +1,4 @@
-use Rattle.std.proofs.Common.{◌≡◌, ◌+◌, ◌*◌, drop, max}
-use Rattle.csp_text.proofs.tree.Tree.TheLaws.{the_size}
-use Rattle.script_sizes.specs.BindingTokens.{all_tokens, fields_tokens, gens_tokens, parts_tokens, pairs_tokens}
+use Rattle.typed_trees.proofs.Prelude.{◌≡◌, ◌+◌, ◌*◌, drop, max, the_size, all_tokens, fields_tokens, gens_tokens, parts_tokens, pairs_tokens}
 use Rattle.typed_trees.proofs.counts.+count.Given as goal
 
 -- what is counted so far and what is left are as many as all

@@ -1,9 +1,6 @@
-use Rattle.std.proofs.Common.{◌≡◌, ◌+◌, ◌*◌, ◌++◌, drop, max}
+use Rattle.typed_trees.proofs.Prelude.{◌≡◌, ◌+◌, ◌*◌, ◌++◌, drop, max, the_size, all_tokens, gens_tokens, parts_tokens, exprs_at, gens_at, gens_scope, parts_at}
 use denote.Param.Weighed as weighed
 use Rattle.csp_text.proofs.tree.GenTree.TheLaws as generator
-use Rattle.csp_text.proofs.tree.Tree.TheLaws.{the_size}
-use Rattle.script_sizes.specs.BindingTokens.{all_tokens, gens_tokens, parts_tokens}
-use Rattle.typed_trees.specs.Words.{exprs_at, gens_at, gens_scope, parts_at}
 use Rattle.typed_trees.proofs.walk.Walk.+typed_expr.Given as goal
 
 -- what is made so far, followed by what is made of the rest, is what is made of all

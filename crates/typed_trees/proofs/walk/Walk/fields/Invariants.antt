@@ -1,6 +1,4 @@
-use Rattle.std.proofs.Common.{◌≡◌, ◌+◌, ◌++◌, drop}
-use Rattle.script_sizes.specs.BindingTokens.{fields_tokens}
-use Rattle.typed_trees.specs.Words.{fields_at, fields_scope}
+use Rattle.typed_trees.proofs.Prelude.{◌≡◌, ◌+◌, ◌++◌, drop, fields_tokens, fields_at, fields_scope}
 use Rattle.typed_trees.proofs.walk.Walk.fields.Given as goal
 
 -- what is made so far, followed by what is made of the rest, is what is made of all

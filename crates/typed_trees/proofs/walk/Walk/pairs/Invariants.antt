@@ -1,6 +1,4 @@
-use Rattle.std.proofs.Common.{◌≡◌, ◌+◌, ◌++◌, drop}
-use Rattle.script_sizes.specs.BindingTokens.{pairs_tokens}
-use Rattle.typed_trees.specs.Words.{pairs_at}
+use Rattle.typed_trees.proofs.Prelude.{◌≡◌, ◌+◌, ◌++◌, drop, pairs_tokens, pairs_at}
 use Rattle.typed_trees.proofs.walk.Walk.pairs.Given as goal
 
 -- what is made so far, followed by what is made of the rest, is what is made of all

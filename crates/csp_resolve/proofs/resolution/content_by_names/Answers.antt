@@ -1,13 +1,9 @@
-use Rattle.std.proofs.Common.{◌≤◌, IsTrue, length, map, sym, ◌∙◌, subst}
+use Rattle.csp_resolve.proofs.Prelude.{◌≤◌, IsTrue, length, map, sym, ◌∙◌, subst, Content, MOST_BYTES, Answer, Answers}
 use Rattle.csp_program.specs.Prelude.{lacks_sets, all_true}
-use Rattle.csp_program.specs.declared.programs.Content.{Content}
 use Rattle.resolved_laws.proofs.Whole.{plain_lacks}
-use Rattle.dl_limits.specs.declared.TheConstants.{MOST_BYTES}
-use Rattle.script_names.specs.Resolved.{Answer}
-use Rattle.csp_resolve.specs.Answers.{Answers}
 use Rattle.csp_resolve.proofs.Few.{few_channels}
 use Rattle.csp_resolve.proofs.ResolvedLaws.{faultless}
-use Rattle.csp_resolve.proofs.resolution.resolved.Goals as goal
+use Rattle.csp_resolve.proofs.resolution.content_by_names.Goals as goal
 
 pub returns-in_ok-content-in-None : goal.returns-in_ok-content-in-None
 returns-in_ok-content-in-None c =
