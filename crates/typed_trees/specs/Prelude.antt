@@ -4,4 +4,4 @@ pub use Rattle.dl_limits.specs.declared.TheConstants.{MOST_BYTES}
 pub use Rattle.script_names.specs.Prelude.{Binding, Entities, Front, Name, Reading, Scope, event_of_layer, field_of_layer, first_of, gen_of_layer, is_network, names_of, number_of, part_of_layer, reading, reading_of_layer, sense_in, with}
 pub use Rattle.script_names.specs.declared.kinds.Kind.{Kind}
 pub use Rattle.script_sizes.specs.BindingTokens.{all_tokens, field_tokens, fields_tokens, gen_tokens, gens_tokens, pairs_tokens, part_tokens, parts_tokens, set_tokens, tokens}
-pub use Rattle.std.specs.Prelude.{Bool, IfOk, List, None, OnOk, Option, Some, [], length, map, take, true, ℕ, ◌++◌, ◌+◌, ◌<◌, ◌∷◌, ◌≡◌, ◌≤◌}
+pub use Rattle.std.specs.Prelude.{Bool, IfOk, List, None, OnOk, Option, Some, [], length, map, take, true, ℕ}

@@ -1,6 +1,7 @@
 //! How many binding tokens trees have.
 
-ghost use Rattle.typed_trees.specs.Prelude.{◌≡◌, ◌+◌, ◌≤◌, MOST_BYTES, all_tokens, field_tokens, fields_tokens, gen_tokens, gens_tokens, part_tokens, parts_tokens, pairs_tokens, tokens};
+ghost use Rattle.std.specs.Prelude.{◌≡◌, ◌+◌, ◌≤◌};
+ghost use Rattle.typed_trees.specs.Prelude.{MOST_BYTES, all_tokens, field_tokens, fields_tokens, gen_tokens, gens_tokens, part_tokens, parts_tokens, pairs_tokens, tokens};
 
 use containers::Boxed;
 use csp_text::{FieldTree, GenTree, PartTree, Tree};
