@@ -1,9 +1,8 @@
 -- The steps of a node, group by group.
-use Rattle.determinise.proofs.Prelude.{◌≡◌, ℕ, zero, suc, ◌+◌, ◌<◌, ◌≤◌, inl, inr, Bool, true, false, ◌||◌, nat_eq, IsTrue, List, [], ◌∷◌, ◌++◌, length, get_or, take, refl, sym, ap, subst, ◌∙◌, arith, eq-eqb, map, cases_lt, cases_Bool, eqb-true, false≢true, or_left, or_right, cond-true, cond-false, take_all, get_or_append_left, length-append, get_or-append_seam, RawTable, is_possible, target, targets_of_steps, MeetsInOrder, has_event, IsNextSet, set_at, AreMoreSets, IsSomeNextSet, LeadsToSet, AreNodeSteps, IsSilentClosure}
+use Rattle.determinise.proofs.Prelude.{◌≡◌, ℕ, zero, suc, ◌+◌, ◌<◌, ◌≤◌, inl, inr, Bool, true, false, ◌||◌, nat_eq, IsTrue, List, [], ◌∷◌, ◌++◌, length, get_or, take, refl, sym, ap, subst, ◌∙◌, arith, eq-eqb, map, cases_lt, cases_Bool, eqb-true, false≢true, or_left, or_right, cond-true, cond-false, get_or_append_left, length-append, get_or-append_seam, RawTable, is_possible, target, targets_of_steps, MeetsInOrder, has_event, IsNextSet, set_at, AreMoreSets, IsSomeNextSet, LeadsToSet, IsSilentClosure}
 use Rattle.std.specs.List.Sorted.{IsStrictlyIncreasing}
 use Rattle.determinise.proofs.Groups.{IsGroup, event_at, group_targets, event_place, events_more, next_of_group, some_next}
-use Rattle.determinise.proofs.MoreSets.{no_more, more_then_more, more_of_kind, meets_then}
-use Rattle.dl_limits.specs.declared.TheConstants.{MOST_SETS}
+use Rattle.determinise.proofs.MoreSets.{more_then_more, more_of_kind, meets_then}
 
 abbrev events_of_steps : List (ℕ × ℕ) → List ℕ
 events_of_steps next = map (λ step. step.0) next
@@ -78,18 +77,6 @@ pub record AreStepsSoFar (raw : RawTable) (moves : List (ℕ × ℕ)) (at : ℕ)
   pub more : AreMoreSets (IsSomeNextSet raw moves) old sets
   pub few : length sets ≤ MOST_SETS
 
-pub no_steps : (raw : RawTable) (moves : List (ℕ × ℕ)) (sets : List (List ℕ)) → length sets ≤ MOST_SETS → AreStepsSoFar raw moves 0 sets sets []
-no_steps raw moves sets few = record {
-  within = omega arith;
-  boundary = λ j k early a b. absurd (omega arith);
-  events = λ e. refl;
-  leads = λ e h. absurd (false≢true h);
-  rising = λ k h. absurd (omega arith);
-  order = refl;
-  more = no_more (IsSomeNextSet raw moves) sets;
-  few = few;
-}
-
 module _ (raw : RawTable) (moves : List (ℕ × ℕ)) (from to n : ℕ) (old before after : List (List ℕ)) (next : List (ℕ × ℕ)) (g : IsGroup moves from to) (s : AreStepsSoFar raw moves from old before next) (more : AreMoreSets (IsSilentClosure raw (group_targets moves from to)) before after) where
   pub all_more : AreMoreSets (IsSomeNextSet raw moves) old after
   all_more = more_then_more (IsSomeNextSet raw moves) old before after s.more (more_of_kind (IsSilentClosure raw (group_targets moves from to)) (IsSomeNextSet raw moves) before after (λ X c. some_next raw moves from to X g c) more)
@@ -124,11 +111,3 @@ module _ (raw : RawTable) (moves : List (ℕ × ℕ)) (from to n : ℕ) (old bef
           let listed : has_event (take from moves) f ≡ true = sym (s.events f) ∙ possible_at next k h in
           let p = event_place moves from f listed in
           rw p.3 (s.boundary p.0 from p.1 (omega arith) (omega (arith, g.some, g.within)))
-
--- when all steps have been gone through
-pub all_steps : (raw : RawTable) (moves : List (ℕ × ℕ)) (at : ℕ) (old sets : List (List ℕ)) (next : List (ℕ × ℕ)) → length moves ≤ at → AreStepsSoFar raw moves at old sets next → AreNodeSteps raw moves sets next
-all_steps raw moves at old sets next ends s = record {
-  events = λ e. s.events e ∙ ap (λ (ms : List (ℕ × ℕ)). has_event ms e) (take_all at moves ends);
-  leads = s.leads;
-  rising = s.rising;
-}

@@ -1,12 +1,6 @@
 -- A node is marked: what becomes of the partition.
-use Rattle.std.proofs.Common.{◌≡◌, ℕ, ◌+◌, ◌<◌, ◌≤◌, List, length, set, Bool, true, false, ◌||◌, nat_eq, nat_lt, refl, sym, ap, ◌∙◌, subst, arith, inl, inr}
-use Rattle.std.specs.Prelude.{slice_index, slice_index_or}
-use Rattle.csp_base.specs.Members.{has}
-use Rattle.csp_base.proofs.Standard.{cases_eq, lt-ltb, le-ltb, eq-eqb, ne_eqb, or_right, cases_lt, length-set}
-use Rattle.partitions.specs.Blocks.{State, HasBlocks, block_at, is_marked, sizes}
-use Rattle.partitions.specs.BlockSteps.{IsAdvanced}
+use Rattle.partitions.proofs.Prelude.{◌≡◌, ℕ, ◌+◌, ◌<◌, ◌≤◌, List, length, set, Bool, true, false, ◌||◌, nat_eq, nat_lt, refl, sym, ap, ◌∙◌, subst, arith, inl, inr, slice_index, slice_index_or, has, cases_eq, lt-ltb, le-ltb, eq-eqb, ne_eqb, or_right, cases_lt, length-set, State, HasBlocks, block_at, is_marked, sizes, IsAdvanced, or_unless}
 use Rattle.partitions.proofs.Writes.{by_write, by_two_writes}
-use Rattle.csp_base.proofs.Booleans.{or_unless}
 
 module _ (n : ℕ) (s t : State) (node : ℕ) (good : HasBlocks n s) (inside : node < n) (unmarked : slice_index s.middles (block_at s node) ≤ slice_index s.places node) (a : IsAdvanced s t node) where
   abbrev pub blk : ℕ

@@ -1,13 +1,7 @@
 -- A block waits: what becomes of the partition.
-use Rattle.std.proofs.Common.{◌≡◌, ℕ, ◌+◌, ◌<◌, ◌≤◌, inl, inr, List, [], ◌∷◌, ◌++◌, length, Bool, true, false, nat_lt, refl, sym, ap, ◌∙◌, subst, arith}
-use Rattle.std.specs.Prelude.{slice_index, slice_index_or}
-use Rattle.csp_base.proofs.Standard.{cond_both, length-set, length_push, get_or-set_same}
-use Rattle.csp_base.specs.Members.{has}
-use Rattle.partitions.specs.Blocks.{State, HasBlocks, block_at, is_marked, sizes, waits}
-use Rattle.partitions.specs.BlockSteps.{IsAwaited}
+use Rattle.partitions.proofs.Prelude.{◌≡◌, ℕ, ◌+◌, ◌<◌, ◌≤◌, inl, inr, List, [], ◌∷◌, ◌++◌, length, Bool, true, false, nat_lt, refl, sym, ap, ◌∙◌, subst, arith, slice_index, slice_index_or, cond_both, length-set, length_push, get_or-set_same, has, State, HasBlocks, block_at, is_marked, sizes, waits, IsAwaited, has_push_cases}
 use Rattle.partitions.proofs.Marking.{has_push, has_more}
 use Rattle.partitions.proofs.Writes.{by_write}
-use Rattle.csp_base.proofs.Listed.{has_push_cases}
 
 module _ (n : ℕ) (s t : State) (b : ℕ) (good : HasBlocks n s) (inside : b < length s.firsts) (a : IsAwaited s t b) where
   flag_there : b < length s.flags

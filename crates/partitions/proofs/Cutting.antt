@@ -1,9 +1,6 @@
 -- A block is cut: nodes are together then exactly where they were.
-use Rattle.std.proofs.Common.{◌≡◌, ℕ, ◌+◌, ◌<◌, ◌≤◌, ◌⊎◌, inl, inr, List, length, true, false, sym, ap, ◌∙◌, subst, arith}
-use Rattle.std.specs.Prelude.{slice_index, ◌↔◌}
-use Rattle.std.proofs.lemmas.Bool.{false≢true, both_ways, false_from_ne_true}
-use Rattle.partitions.specs.Blocks.{State, HasBlocks, IsCut, AreTogether, AreBoth, block_at, is_marked, waits, work}
-use Rattle.partitions.specs.BlockSteps.{IsDivided, IsAwaited}
+use Rattle.partitions.proofs.Prelude.{◌≡◌, ℕ, ◌+◌, ◌<◌, ◌≤◌, ◌⊎◌, inl, inr, List, length, true, false, sym, ap, ◌∙◌, subst, arith, slice_index, ◌↔◌, false≢true, State, HasBlocks, IsCut, AreTogether, AreBoth, block_at, is_marked, waits, work, IsDivided, IsAwaited}
+use Rattle.std.proofs.lemmas.Bool.{both_ways, false_from_ne_true}
 use Rattle.partitions.proofs.Sizes.{few_blocks}
 use Rattle.partitions.proofs.Awaiting.{blocks_awaited, waits_here, waits_still, waiting_most, blocks_same_awaited, marks_same_awaited}
 use Rattle.partitions.proofs.Dividing.{blocks_divided, fate, left_then, same_waits, one_more, Fate, moves, stays, outside}

@@ -1,9 +1,5 @@
 -- A division, as the code reads and writes it.
-use Rattle.std.proofs.Common.{◌≡◌, ℕ, ◌<◌, ◌≤◌, [], ◌∷◌, ◌++◌, length, set, get_or, false, sym, ap, ◌∙◌, subst}
-use Rattle.std.specs.Prelude.{slice_index}
-use Rattle.std.proofs.lemmas.List.{get_or_read}
-use Rattle.partitions.specs.Blocks.{State, HasBlocks, block_at}
-use Rattle.partitions.specs.BlockSteps.{IsDivided}
+use Rattle.partitions.proofs.Prelude.{◌≡◌, ℕ, ◌<◌, ◌≤◌, [], ◌∷◌, ◌++◌, length, set, get_or, false, sym, ap, ◌∙◌, subst, slice_index, get_or_read, State, HasBlocks, block_at, IsDivided}
 
 pub divided_from : (n : ℕ) (s t : State) (b f m x : ℕ) → HasBlocks n s → b < length s.firsts → f ≡ get_or s.firsts b f → m ≡ get_or s.middles b m → x ≡ length s.firsts
     → t.order ≡ s.order → t.places ≡ s.places → t.waiting ≡ s.waiting → t.firsts ≡ set s.firsts b m ++ f ∷ [] → t.middles ≡ s.middles ++ f ∷ [] → t.ends ≡ s.ends ++ m ∷ [] → t.flags ≡ s.flags ++ false ∷ [] → length t.blocks ≡ length s.blocks

@@ -1,10 +1,5 @@
 -- The marked nodes of a block become a block of their own: what becomes of the partition.
-use Rattle.std.proofs.Common.{◌≡◌, ℕ, ◌+◌, ◌<◌, ◌≤◌, List, [], ◌∷◌, ◌++◌, length, set, Bool, true, false, nat_lt, refl, sym, ap, ◌∙◌, subst, arith, inl, inr}
-use Rattle.std.specs.Prelude.{slice_index, slice_index_or}
-use Rattle.csp_base.specs.Members.{has}
-use Rattle.csp_base.proofs.Standard.{cases_eq, cases_lt, lt-ltb, le-ltb, length-set, length_push}
-use Rattle.partitions.specs.Blocks.{State, HasBlocks, block_at, is_marked, sizes, waits}
-use Rattle.partitions.specs.BlockSteps.{IsDivided}
+use Rattle.partitions.proofs.Prelude.{◌≡◌, ℕ, ◌+◌, ◌<◌, ◌≤◌, List, [], ◌∷◌, ◌++◌, length, set, Bool, true, false, nat_lt, refl, sym, ap, ◌∙◌, subst, arith, inl, inr, slice_index, slice_index_or, has, cases_eq, cases_lt, lt-ltb, le-ltb, length-set, length_push, State, HasBlocks, block_at, is_marked, sizes, waits, IsDivided}
 use Rattle.partitions.proofs.Writes.{by_write, by_push, default_push}
 use Rattle.partitions.proofs.Sizes.{sizes_push, sizes_set}
 

@@ -4,6 +4,7 @@ pub mod Cutting
 pub mod DividedFrom
 pub mod Dividing
 pub mod Marking
+pub mod Prelude
 pub mod Sizes
 pub mod Splitting
 pub mod Taking

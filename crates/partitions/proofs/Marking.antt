@@ -1,12 +1,6 @@
 -- A node is marked, or was marked before: what is known then.
-use Rattle.std.proofs.Common.{◌≡◌, ℕ, ◌+◌, ◌<◌, ◌≤◌, List, [], ◌∷◌, ◌++◌, length, get_or, ◌^◌, true, false, ◌||◌, nat_eq, refl, sym, ap, ◌∙◌, subst, arith, inl, inr}
-use Rattle.std.specs.Prelude.{slice_index}
-use Rattle.csp_base.proofs.Standard.{eq-eqb, or_left, or_right, get_or_read, list_any-append}
-use Rattle.csp_base.specs.Members.{has}
-use Rattle.partitions.specs.Blocks.{State, HasBlocks, IsMarked, AreTouched, block_at}
-use Rattle.partitions.specs.BlockSteps.{IsAdvanced}
+use Rattle.partitions.proofs.Prelude.{◌≡◌, ℕ, ◌+◌, ◌<◌, ◌≤◌, List, [], ◌∷◌, ◌++◌, length, get_or, ◌^◌, true, false, ◌||◌, nat_eq, refl, sym, ap, ◌∙◌, subst, arith, inl, inr, slice_index, eq-eqb, or_left, or_right, get_or_read, list_any-append, has, State, HasBlocks, IsMarked, AreTouched, block_at, IsAdvanced, has_push_cases}
 use Rattle.partitions.proofs.Advancing.{blocks_advanced, marked_advanced, middles_then}
-use Rattle.csp_base.proofs.Listed.{has_push_cases}
 
 pub has_push : (xs : List ℕ) (x : ℕ) → has (xs ++ x ∷ []) x ≡ true
 has_push xs x = list_any-append (λ y. nat_eq y x) xs (x ∷ []) ∙ or_right (has xs x) (nat_eq x x || false) (or_left (nat_eq x x) false (eq-eqb x x refl))

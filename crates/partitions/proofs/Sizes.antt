@@ -1,6 +1,5 @@
 -- The sizes of the blocks: they stay the same in all when a block is divided, and no block is empty.
-use Rattle.std.proofs.Common.{◌≡◌, ℕ, zero, suc, ◌+◌, ◌-◌, ◌<◌, ◌≤◌, List, [], ◌∷◌, ◌++◌, length, set, get_or, arith}
-use Rattle.partitions.specs.Blocks.{State, HasBlocks, sizes}
+use Rattle.partitions.proofs.Prelude.{◌≡◌, ℕ, zero, suc, ◌+◌, ◌-◌, ◌<◌, ◌≤◌, List, [], ◌∷◌, ◌++◌, length, set, get_or, arith, State, HasBlocks, sizes}
 
 pub sizes_push : (firsts ends : List ℕ) (f e : ℕ) → length firsts ≡ length ends → sizes (firsts ++ f ∷ []) (ends ++ e ∷ []) ≡ sizes firsts ends + (e - f)
 sizes_push [] [] f e h = omega arith

@@ -1,11 +1,5 @@
 -- Nodes are marked and blocks are cut, one after the other: blocks are split by the sources of steps.
-use Rattle.std.proofs.Common.{◌≡◌, ℕ, zero, suc, ◌+◌, ◌<◌, ◌≤◌, inl, inr, List, [], ◌∷◌, ◌++◌, length, get_or, take, drop, Bool, true, false, ◌||◌, nat_eq, refl, sym, ap, ◌∙◌, subst, arith}
-use Rattle.std.specs.Prelude.{slice_index, slice_index_or, ◌↔◌}
-use Rattle.csp_base.proofs.Standard.{le-ltb, false≢true, or_cases, or_left, or_right, eqb-true, eq-eqb, take_more, drop_more, list_any-append, or-false}
-use Rattle.csp_base.specs.Members.{has}
-use Rattle.partitions.specs.Blocks.{State, HasBlocks, HaveSameBlocks, IsMarked, AreMarked, AreTouched, AreTogether, AreCut, IsCut, IsCalm, IsOnward, IsSplit, block_at, is_marked, is_source, waits}
-use Rattle.csp_base.proofs.Listed.{same_number}
-use Rattle.csp_base.proofs.Booleans.{same_or}
+use Rattle.partitions.proofs.Prelude.{◌≡◌, ℕ, zero, suc, ◌+◌, ◌<◌, ◌≤◌, inl, inr, List, [], ◌∷◌, ◌++◌, length, get_or, take, drop, Bool, true, false, ◌||◌, nat_eq, refl, sym, ap, ◌∙◌, subst, arith, slice_index, slice_index_or, ◌↔◌, le-ltb, false≢true, or_cases, or_left, or_right, eqb-true, eq-eqb, take_more, drop_more, list_any-append, or-false, has, State, HasBlocks, HaveSameBlocks, IsMarked, AreMarked, AreTouched, AreTogether, AreCut, IsCut, IsCalm, IsOnward, IsSplit, block_at, is_marked, is_source, waits, same_number, same_or}
 
 calm_unmarked : (n : ℕ) (s : State) → HasBlocks n s → IsCalm s → (i : ℕ) → i < n → is_marked s i ≡ false
 calm_unmarked n s good calm i h =

@@ -1,11 +1,6 @@
 -- The first partition, the members of a block, and a block that is taken from those that wait.
-use Rattle.std.proofs.Common.{◌≡◌, ℕ, suc, ◌+◌, ◌-◌, ◌<◌, ◌≤◌, ◌⊎◌, inl, inr, List, [], ◌∷◌, ◌++◌, length, set, get_or, take, drop, replicate, ◌^◌, Bool, true, false, nat_eq, refl, sym, ap, ◌∙◌, subst, arith}
-use Rattle.std.specs.Prelude.{slice_index, slice_index_or, ◌↔◌}
-use Rattle.csp_base.proofs.Standard.{cases_eq, cases_lt, or_cases, eqb-true, false≢true, length-set, length_push, length-replicate, get_or-replicate, get_or-set_other, get_or-set_same, get_or-take, get_or-drop, length-take-le, length-drop, get_or_past}
-use Rattle.csp_base.specs.Members.{has}
-use Rattle.partitions.specs.Blocks.{State, HasBlocks, IsWhole, IsTaken, block_at, waits, sizes}
+use Rattle.partitions.proofs.Prelude.{◌≡◌, ℕ, suc, ◌+◌, ◌-◌, ◌<◌, ◌≤◌, ◌⊎◌, inl, inr, List, [], ◌∷◌, ◌++◌, length, set, get_or, take, drop, replicate, ◌^◌, Bool, true, false, nat_eq, refl, sym, ap, ◌∙◌, subst, arith, slice_index, slice_index_or, ◌↔◌, cases_eq, cases_lt, or_cases, eqb-true, false≢true, length-set, length_push, length-replicate, get_or-replicate, get_or-set_other, get_or-set_same, get_or-take, get_or-drop, length-take-le, length-drop, get_or_past, has, State, HasBlocks, IsWhole, IsTaken, block_at, waits, sizes, has_push_cases, has_at}
 use Rattle.partitions.proofs.Marking.{has_push, has_more}
-use Rattle.csp_base.proofs.Listed.{has_push_cases, has_at}
 
 pub place_of : (xs : List ℕ) (i : ℕ) → has xs i ≡ true → (k : ℕ) × (k < length xs) × (get_or xs k 0 ≡ i)
 place_of [] i h = absurd (false≢true h)

@@ -1,6 +1,5 @@
 -- What a list has at a place after one or two writes.
-use Rattle.std.proofs.Common.{◌≡◌, ℕ, zero, suc, ◌+◌, ◌<◌, ◌≤◌, List, [], ◌∷◌, ◌++◌, length, set, get_or, Bool, false, refl, sym, subst, arith, inl, inr, ap, ◌∙◌}
-use Rattle.csp_base.proofs.Standard.{cases_eq, cases_lt, length-set, get_or-set_same, get_or-set_other, get_or_append_left, get_or_push}
+use Rattle.partitions.proofs.Prelude.{◌≡◌, ℕ, zero, suc, ◌+◌, ◌<◌, ◌≤◌, List, [], ◌∷◌, ◌++◌, length, set, get_or, Bool, false, refl, sym, subst, arith, inl, inr, ap, ◌∙◌, cases_eq, cases_lt, length-set, get_or-set_same, get_or-set_other, get_or_append_left, get_or_push}
 
 pub by_write : {X : Type 0} (xs : List X) (i : ℕ) (x : X) (k : ℕ) (d : X) → i < length xs → (P : X → Type 0) → (k ≡ i → P x) → ((k ≡ i → ⊥) → P (get_or xs k d)) → P (get_or (set xs i x) k d)
 by_write xs i x k d h P same other = elim (cases_eq k i) as (λ _. P (get_or (set xs i x) k d)) [

@@ -2,11 +2,6 @@
 use Rattle.std.specs.Prelude.{◌≡◌, ◌+◌, ◌<◌, ◌≤◌, ℕ, List, [], ◌∷◌, ◌++◌, true, false, length, slice_index, slice_set, if◌then◌else◌}
 use Rattle.partitions.specs.Blocks.{State, HaveSameBlocks, block_at, waits}
 
--- the numbers below n, in order
-pub record AreCounted (n : ℕ) (xs : List ℕ) : Type 0 where
-  pub len : length xs ≡ n
-  pub each : (i : ℕ) → i < n → slice_index xs i ≡ i
-
 -- A block without marks that begins and ends there is added to the lists of where blocks have their nodes, and nothing else changes.
 pub record HasLongerSpans (old new : State) (first end : ℕ) : Type 0 where
   pub order : new.order ≡ old.order

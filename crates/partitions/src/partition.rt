@@ -4,7 +4,7 @@
 ghost use Rattle.std.specs.Prelude.{◌≡◌, ◌↔◌, ◌||◌, ◌+◌, ◌<◌, ◌≤◌, ◌^◌, ℕ, [], ◌∷◌, ◌++◌, false, true, replicate, length, All, slice_index, IsTrue, IfOk, OnOk, MatchOption};
 ghost use Rattle.partitions.specs.Blocks.{count_of, state_of, HasBlocks, AreBoth, AreCut, AreMarked, AreTouched, IsCalm, IsCut, IsDone, IsMarked, IsSplit, IsTaken, IsWhole};
 ghost use Rattle.csp_base.specs.Members.{has};
-ghost use Rattle.partitions.specs.BlockSteps.{AreCounted, HasLongerSpans, IsAdvanced, IsAwaited, IsCalmed, IsDivided, IsLonger};
+ghost use Rattle.partitions.specs.BlockSteps.{HasLongerSpans, IsAdvanced, IsAwaited, IsCalmed, IsDivided, IsLonger};
 
 use csp_base::NoMemory;
 use std::alloc::Global;

@@ -1,5 +1,4 @@
-use Rattle.std.proofs.Common.{◌≡◌, ◌<◌, ◌⊎◌, inl, inr, sym, subst, arith}
-use Rattle.partitions.specs.Blocks.{IsWhole}
+use Rattle.partitions.proofs.Prelude.{◌≡◌, ◌<◌, ◌⊎◌, inl, inr, sym, subst, arith, IsWhole}
 use Rattle.partitions.proofs.Taking.{start_whole, start}
 use Rattle.partitions.proofs.partition.whole.Goals as goal
 use Rattle.partitions.proofs.partition.whole.Goals.{then-count-eq0, else-count-eq0}

@@ -1,5 +1,4 @@
-use Rattle.std.proofs.Common.{arith}
-use Rattle.partitions.specs.Blocks.{state_of, count_of}
+use Rattle.partitions.proofs.Prelude.{arith, state_of, count_of}
 use Rattle.partitions.proofs.Marking.{middle_fits}
 use Rattle.partitions.proofs.partition.Partition.advance.Goals as goal
 

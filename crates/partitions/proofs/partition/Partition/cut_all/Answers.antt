@@ -1,5 +1,4 @@
-use Rattle.std.proofs.Common.{get_or, refl}
-use Rattle.partitions.specs.Blocks.{state_of, count_of, IsCut}
+use Rattle.partitions.proofs.Prelude.{get_or, refl, state_of, count_of, IsCut}
 use Rattle.partitions.proofs.Splitting.{one_more_cut, read_known, same_count}
 use Rattle.partitions.proofs.partition.Partition.cut_all.Goals as goal
 

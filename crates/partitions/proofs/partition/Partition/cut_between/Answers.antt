@@ -1,5 +1,4 @@
-use Rattle.std.proofs.Common.{sym, subst}
-use Rattle.partitions.specs.Blocks.{state_of, count_of, HasBlocks, AreBoth}
+use Rattle.partitions.proofs.Prelude.{sym, subst, state_of, count_of, HasBlocks, AreBoth}
 use Rattle.partitions.proofs.Cutting.{cut_divided}
 use Rattle.partitions.proofs.Dividing.{blocks_divided}
 use Rattle.partitions.proofs.partition.Partition.cut_between.Goals as goal

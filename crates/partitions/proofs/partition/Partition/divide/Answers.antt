@@ -1,8 +1,4 @@
-use Rattle.std.proofs.Common.{◌≡◌, ℕ, List, [], ◌∷◌, ◌++◌, length, set, sym, ap, ◌∙◌, subst, arith, rules}
-use Rattle.std.specs.Prelude.{slice_index}
-use Rattle.std.specs.Vec.{with_items}
-use Rattle.std.proofs.lemmas.List.{length-set, with_items_is}
-use Rattle.partitions.specs.Blocks.{state_of, count_of}
+use Rattle.partitions.proofs.Prelude.{◌≡◌, ℕ, List, [], ◌∷◌, ◌++◌, length, set, sym, ap, ◌∙◌, subst, arith, rules, slice_index, with_items, length-set, with_items_is, state_of, count_of}
 use Rattle.partitions.proofs.DividedFrom.{divided_from}
 use Rattle.partitions.proofs.Sizes.{few_blocks}
 use Rattle.partitions.proofs.partition.Partition.divide.Goals as goal

@@ -1,5 +1,4 @@
-use Rattle.std.proofs.Common.{ℕ, List, [], ◌∷◌, ◌++◌, sym, subst, ap, ◌∙◌}
-use Rattle.partitions.specs.Blocks.{state_of, count_of, AreTouched}
+use Rattle.partitions.proofs.Prelude.{ℕ, List, [], ◌∷◌, ◌++◌, sym, subst, ap, ◌∙◌, state_of, count_of, AreTouched}
 use Rattle.partitions.proofs.Marking.{unmarked_read, marked_now, touched_again, touched_new, other_read, block_read}
 use Rattle.partitions.proofs.partition.Partition.mark.Goals as goal
 use Rattle.partitions.proofs.partition.Partition.mark.Goals.{then-middle-index+in_ok-push, else-middle-index}

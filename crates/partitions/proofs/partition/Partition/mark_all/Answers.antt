@@ -1,5 +1,4 @@
-use Rattle.std.proofs.Common.{get_or, refl}
-use Rattle.partitions.specs.Blocks.{state_of, count_of, IsMarked}
+use Rattle.partitions.proofs.Prelude.{get_or, refl, state_of, count_of, IsMarked}
 use Rattle.partitions.proofs.Splitting.{one_more_marked, same_count}
 use Rattle.partitions.proofs.partition.Partition.mark_all.Goals as goal
 

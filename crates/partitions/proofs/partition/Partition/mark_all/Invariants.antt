@@ -1,5 +1,4 @@
-use Rattle.std.proofs.Common.{take}
-use Rattle.partitions.specs.Blocks.{state_of, count_of, AreMarked}
+use Rattle.partitions.proofs.Prelude.{take, state_of, count_of, AreMarked}
 use Rattle.partitions.proofs.partition.Partition.mark_all.Given as goal
 
 abbrev pub invariant-loop-source : goal.invariant-loop-source

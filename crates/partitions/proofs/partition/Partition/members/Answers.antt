@@ -1,8 +1,4 @@
-use Rattle.std.proofs.Common.{◌≡◌, ℕ, List, ◌<◌, ◌-◌, true, take, drop, sym, subst}
-use Rattle.std.specs.Prelude.{◌↔◌}
-use Rattle.std.proofs.lemmas.List.{get_or_read}
-use Rattle.csp_base.specs.Members.{has}
-use Rattle.partitions.specs.Blocks.{state_of, count_of, block_at}
+use Rattle.partitions.proofs.Prelude.{◌≡◌, ℕ, List, ◌<◌, ◌-◌, true, take, drop, sym, subst, ◌↔◌, get_or_read, has, state_of, count_of, block_at}
 use Rattle.partitions.proofs.Taking.{members_are}
 use Rattle.partitions.proofs.partition.Partition.members.Goals as goal
 

@@ -1,7 +1,4 @@
-use Rattle.std.proofs.Common.{◌≡◌, ℕ, ◌<◌, List, [], ◌∷◌, ◌++◌, length, set, true, false, refl, sym, ◌∙◌, subst, rules}
-use Rattle.std.specs.Vec.{with_item}
-use Rattle.csp_base.specs.Members.{has}
-use Rattle.partitions.specs.Blocks.{state_of, count_of}
+use Rattle.partitions.proofs.Prelude.{◌≡◌, ℕ, ◌<◌, List, [], ◌∷◌, ◌++◌, length, set, true, false, refl, sym, ◌∙◌, subst, rules, with_item, has, state_of, count_of}
 use Rattle.partitions.proofs.Marking.{has_push}
 use Rattle.partitions.proofs.Taking.{block_taken}
 use Rattle.partitions.proofs.partition.Partition.next_waiting.Goals as goal
