@@ -1,27 +1,10 @@
 -- What is found as terms and steps of the component, and the table once all terms are followed.
-use Rattle.std.proofs.Common.{◌≡◌, ℕ, ◌+◌, ◌<◌, ◌≤◌, List, [], ◌∷◌, Some, length, refl, sym, ap, subst, ◌∙◌, arith, eq-eqb, inl, inr}
-use Rattle.std.specs.Prelude.{map, min, slice_get}
+use Rattle.local_tables.proofs.Prelude.{◌≡◌, ℕ, ◌+◌, ◌<◌, ◌≤◌, List, [], ◌∷◌, Some, length, refl, sym, ap, subst, ◌∙◌, arith, eq-eqb, inl, inr, map, min, slice_get, length-map, cases_lt, get_or_from_slice_get, slice_get-get_or, slice_get_within, push_cases, EachOnce, total, proc_size, Proc, stands_none, IsTableOf, RawTable, targets_in, Label, silent, visible, ProcessStep, Move, capped, eq_id, ProcId, AreDifferent, tree_at, AreTerms, part_of, step_count, IsInOrder, IsLocalTable, AreFound, AreRows, AreTabled, IsFollowed, IsUpTo, IsWithin, counted_size, first_found, terms_at, Found, LocalTable, Task, MOST_TERMS}
 use Rattle.std.specs.List.{IsDistinct}
-use Rattle.csp_base.proofs.Standard.{length-map, cases_lt, get_or_from_slice_get, slice_get-get_or, slice_get_within}
-use Rattle.csp_base.proofs.Lists.{push_cases}
-use Rattle.csp_base.specs.Lists.{EachOnce, total}
-use Rattle.csp_program.specs.Prelude.{proc_size}
-use Rattle.csp_program.specs.declared.processes.Proc.{Proc}
 use Rattle.csp_program.specs.declared.processes.Proc.TheVariants as proc
-use Rattle.csp_steps.proofs.Firsts.{stands_none}
-use Rattle.csp_tables.specs.Prelude.{IsTableOf, RawTable, targets_in, Label, silent, visible}
-use Rattle.process_steps.specs.Prelude.{ProcessStep, Move}
 use Rattle.pool_parts.proofs.StoreLemmas.{are_once}
-use Rattle.pool_parts.specs.Prelude.{capped, eq_id}
-use Rattle.pool_parts.specs.declared.place.ProcId.{ProcId}
-use Rattle.term_pool.specs.Prelude.{AreDifferent, tree_at}
-use Rattle.local_tables.specs.Prelude.{AreTerms, part_of, step_count, IsInOrder, IsLocalTable, AreFound, AreRows, AreTabled, IsFollowed, IsUpTo, IsWithin, counted_size, first_found, terms_at}
-use Rattle.local_tables.specs.declared.found.Found.{Found}
-use Rattle.local_tables.specs.declared.local_table.LocalTable.{LocalTable}
-use Rattle.local_tables.specs.declared.task.Task.{Task}
 use Rattle.local_tables.proofs.Following.{are_steps, complete, endless, in_order, lacks_none, under_map}
 use Rattle.local_tables.proofs.Walking.{reached}
-use Rattle.dl_limits.specs.declared.TheConstants.{MOST_TERMS}
 
 -- ---- sizes
 

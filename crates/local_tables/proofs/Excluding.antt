@@ -1,18 +1,7 @@
 -- Where a component has its table, whatever it is said to have stands in that.
-use Rattle.std.proofs.Common.{◌≡◌, ℕ, zero, suc, ◌+◌, ◌≤◌, List, [], ◌∷◌, length, refl, ap, sym, subst, ◌∙◌, arith, ◌<◌, Ok, Err}
-use Rattle.std.specs.Prelude.{map, slice_get, Some}
-use Rattle.std.proofs.lemmas.Option.{same_Some}
-use Rattle.csp_base.specs.Lists.{total, EachOnce}
-use Rattle.csp_program.specs.Prelude.{proc_depth, proc_size}
-use Rattle.csp_program.specs.declared.processes.Proc.{Proc}
-use Rattle.csp_program.specs.declared.programs.Content.{Content}
-use Rattle.csp_tables.specs.Prelude.{Label, silent, visible, Component, ComponentStep, Reached, IsTableOf, RawStep, RawTable, standing_at}
-use Rattle.process_steps.proofs.Listed.{lists_are_there}
-use Rattle.process_steps.specs.ComponentStep.{ProcessStep}
-use Rattle.local_tables.specs.Prelude.{AreSteps, AreTerms, FaultsExcludeTables}
+use Rattle.local_tables.proofs.Prelude.{◌≡◌, ℕ, zero, suc, ◌+◌, ◌≤◌, List, [], ◌∷◌, length, refl, ap, sym, subst, ◌∙◌, arith, ◌<◌, Ok, Err, map, slice_get, Some, same_Some, total, EachOnce, proc_depth, proc_size, Proc, Content, Label, silent, visible, Component, ComponentStep, Reached, IsTableOf, RawStep, RawTable, standing_at, lists_are_there, ProcessStep, AreSteps, AreTerms, FaultsExcludeTables, MOST_TERMS}
 use Rattle.net_sound.proofs.Numbered.{run_down}
 use Rattle.process_steps.specs.declared.component_fault.ComponentFault.TheVariants as fault
-use Rattle.dl_limits.specs.declared.TheConstants.{MOST_TERMS}
 
 -- the list without the element in a place
 without : {X : Type 0} → ℕ → List X → List X

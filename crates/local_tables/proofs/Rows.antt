@@ -1,16 +1,7 @@
 -- The steps from a term, in a list that grows at its end.
-use Rattle.std.proofs.Common.{◌≡◌, ◌⊎◌, inl, inr, ℕ, zero, suc, nat_eq, Bool, true, false, cond, Some, List, [], ◌∷◌, ◌++◌, slice_get, refl, ap, sym, subst, ◌∙◌, append-nil, eq-eqb}
-use Rattle.std.specs.Prelude.{◌&&◌}
+use Rattle.local_tables.proofs.Prelude.{◌≡◌, ◌⊎◌, inl, inr, ℕ, zero, suc, nat_eq, Bool, true, false, cond, Some, List, [], ◌∷◌, ◌++◌, slice_get, refl, ap, sym, subst, ◌∙◌, append-nil, eq-eqb, ◌&&◌, false≢true, map_push, EachOnce, StandsIn, Proc, goals, is_by, Label, silent, visible, RawStep, RawTable, event_targets, silent_targets, targets_in, Move, IsFront, IsRow, process_label, step_more}
 use Rattle.std.specs.Cmp.{first_so, second_so}
-use Rattle.std.proofs.lemmas.Bool.{eqb-true, false≢true}
-use Rattle.csp_base.proofs.Lists.{map_push}
-use Rattle.csp_base.specs.Lists.{EachOnce, StandsIn}
-use Rattle.csp_program.specs.declared.processes.Proc.{Proc}
-use Rattle.csp_steps.specs.Order.{goals, is_by}
-use Rattle.csp_tables.specs.Prelude.{Label, silent, visible, RawStep, RawTable, event_targets, silent_targets, targets_in}
-use Rattle.process_steps.specs.StepList.{Move}
-use Rattle.term_pool.specs.Pooled.{IsFront}
-use Rattle.local_tables.specs.Progress.{IsRow, process_label, step_more}
+use Rattle.std.proofs.lemmas.Bool.{eqb-true}
 
 -- ---- the rows of a list: for each m what some of its elements lead to
 

@@ -1,14 +1,5 @@
 -- The way to a term, over the steps by which terms were found.
-use Rattle.std.proofs.Common.{◌≡◌, ℕ, zero, suc, ◌+◌, ◌-◌, ◌<◌, ◌≤◌, Option, Some, None, List, [], ◌∷◌, ◌++◌, length, refl, sym, ap, subst, ◌∙◌, arith, inl, inr}
-use Rattle.std.specs.Prelude.{reverse, slice_get}
-use Rattle.csp_base.proofs.Standard.{append_assoc, length-append, reverse-append, same_Some, slice_get_within}
-use Rattle.containers.proofs.MembersLemmas.{slice_get-append_left}
-use Rattle.csp_base.proofs.Lists.{push_cases, slice_get_last, slice_get_some}
-use Rattle.csp_program.specs.declared.processes.Proc.{Proc}
-use Rattle.csp_tables.specs.Prelude.{Label, silent, visible, ComponentStep, Path, Reached, IsStepOf, standing_at, visible_events}
-use Rattle.process_steps.specs.ComponentStep.{ProcessStep}
-use Rattle.local_tables.specs.Prelude.{part_of, AreLed, LeadsToTerm, Origin, label_of, step_events}
-use Rattle.local_tables.specs.declared.task.Task.{Task}
+use Rattle.local_tables.proofs.Prelude.{◌≡◌, ℕ, zero, suc, ◌+◌, ◌-◌, ◌<◌, ◌≤◌, Option, Some, None, List, [], ◌∷◌, ◌++◌, length, refl, sym, ap, subst, ◌∙◌, arith, inl, inr, reverse, slice_get, append_assoc, length-append, reverse-append, same_Some, slice_get_within, slice_get-append_left, push_cases, slice_get_last, slice_get_some, Proc, Label, silent, visible, ComponentStep, Path, Reached, IsStepOf, standing_at, visible_events, ProcessStep, part_of, AreLed, LeadsToTerm, Origin, label_of, step_events, Task}
 
 -- ---- one more step at the end of a path
 

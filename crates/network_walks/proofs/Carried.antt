@@ -1,14 +1,8 @@
 -- From a walk by the numbers of terms to one of the network: where the components of a network stand at the terms with these numbers, the moves are the same,
 -- and each leads to where they stand so again. The steps of the list of components are those of the tree.
-use Rattle.std.proofs.Common.{◌≡◌, ◌↔◌, ◌<◌, ℕ, Bool, List, [], ◌∷◌, length, set, refl, sym, subst, ◌∙◌, arith}
-use Rattle.std.proofs.lemmas.Option.{same_Some, slice_get_within}
-use Rattle.csp_tables.specs.Prelude.{Label, silent, visible, Component, ComponentStep, Tree, leaves, RawStep, WellNested}
-use Rattle.net_sound.proofs.Flattening.{back, forth, kept}
-use Rattle.numbered_walks.specs.Prelude.{Numbered, first_terms, IsWalkOf}
-use Rattle.numbered_walks.specs.declared.moves.Move.{Move}
+use Rattle.network_walks.proofs.Prelude.{◌≡◌, ◌↔◌, ◌<◌, ℕ, Bool, List, [], ◌∷◌, length, set, refl, sym, subst, ◌∙◌, arith, same_Some, slice_get_within, Label, silent, visible, Component, ComponentStep, Tree, leaves, RawStep, WellNested, back, forth, kept, Numbered, first_terms, IsWalkOf, Move, Goes, Has, Takes}
 use Rattle.numbered_walks.specs.Numbered.{Goes as GoesByNumber, Has as HasByNumber, Takes as TakesByNumber}
 use Rattle.numbered_walks.specs.declared.moves.Move.TheVariants as move
-use Rattle.network_walks.specs.Moves.{Goes, Has, Takes}
 use Rattle.network_walks.proofs.Likewise.{StepsAlike, walk_alike}
 use Rattle.network_walks.proofs.Numbers.{leads, led}
 use Rattle.network_walks.proofs.Ordered.{AllInOrder, drawn_alike}

@@ -4,6 +4,7 @@ pub mod Made
 pub mod Numbers
 pub mod One
 pub mod Ordered
+pub mod Prelude
 pub mod Rows
 pub mod Runs
 pub mod Telling

@@ -1,8 +1,6 @@
 -- Walks over two kinds of states. Where related states have the same options, and each step from one of them is one from the other to related states, a
 -- walk from one is a walk from the other.
-use Rattle.std.proofs.Common.{◌↔◌, inl, inr, ℕ, List, [], ◌∷◌, Bool, refl, subst}
-use Rattle.numbered_walks.specs.Prelude.{first_draw, next_number, Chooses, HasNone, IsWalk, IsWalkOf}
-use Rattle.numbered_walks.specs.declared.moves.Move.{Move}
+use Rattle.network_walks.proofs.Prelude.{◌↔◌, inl, inr, ℕ, List, [], ◌∷◌, Bool, refl, subst, first_draw, next_number, Chooses, HasNone, IsWalk, IsWalkOf, Move}
 
 -- options that are the same
 same_choice : (Has Other : Move → Type 0) (number : ℕ) (m : Move) → ((n : Move) → Has n ↔ Other n) → Chooses Has number m → Chooses Other number m

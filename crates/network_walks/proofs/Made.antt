@@ -1,18 +1,8 @@
 -- Components with their tables, one after another, as a walk by numbers sees them.
-use Rattle.std.proofs.Common.{◌≡◌, ℕ, zero, suc, ◌+◌, ◌<◌, ◌≤◌, List, [], ◌∷◌, ◌++◌, length, drop, get_or, refl, sym, ap, ap₂, ◌∙◌, append_assoc, arith}
-use Rattle.csp_base.proofs.Standard.{append-nil, drop_all}
+use Rattle.network_walks.proofs.Prelude.{◌≡◌, ℕ, zero, suc, ◌+◌, ◌<◌, ◌≤◌, List, [], ◌∷◌, ◌++◌, length, drop, get_or, refl, sym, ap, ap₂, ◌∙◌, append_assoc, arith, append-nil, drop_all, Proc, AreTargets, visible, Component, as_many, AreTablesOf, AreTablesWithin, HasTable, room_after, whole_room, ComponentTable, Numbered, OwnsItsSteps, ProcessStep, numbered, one_numbered}
 use Rattle.csp_base.proofs.Lists.{drop_read}
-use Rattle.csp_program.specs.declared.processes.Proc.{Proc}
 use Rattle.csp_program.specs.declared.programs.Content.{Content}
-use Rattle.csp_steps.specs.Order.{AreTargets}
-use Rattle.csp_tables.specs.Prelude.{visible, Component}
 use Rattle.local_tables.specs.Room.{Room}
-use Rattle.network_stages.proofs.Tabling.{as_many}
-use Rattle.network_stages.specs.Prelude.{AreTablesOf, AreTablesWithin, HasTable, room_after, whole_room}
-use Rattle.network_stages.specs.declared.component_tables.ComponentTable.{ComponentTable}
-use Rattle.numbered_walks.specs.Numbered.{Numbered, OwnsItsSteps}
-use Rattle.process_steps.specs.ComponentStep.{ProcessStep}
-use Rattle.network_walks.specs.Tabled.{numbered, one_numbered}
 use Rattle.network_walks.proofs.Ordered.{AllInOrder}
 use Rattle.network_walks.proofs.Rows.{Row, components, numbered_rows}
 

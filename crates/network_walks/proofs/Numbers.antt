@@ -1,11 +1,6 @@
 -- Options of components that are given by their tables: an option is what leads to a state.
-use Rattle.std.proofs.Common.{◌≡◌, ℕ, inl, inr, IsTrue, MatchBool, List, [], ◌∷◌, set, refl}
-use Rattle.std.proofs.lemmas.Bool.{MatchBool-at_true, cases_Bool}
-use Rattle.csp_base.specs.Members.{has}
-use Rattle.csp_tables.specs.Prelude.{visible, RawStep}
-use Rattle.net_sound.proofs.FlatLists.{match_false, match_true}
-use Rattle.numbered_walks.specs.Prelude.{AllCan, AllDo, Can, Has, Numbered, Takes}
-use Rattle.numbered_walks.specs.declared.moves.Move.{Move}
+use Rattle.network_walks.proofs.Prelude.{◌≡◌, ℕ, inl, inr, IsTrue, MatchBool, List, [], ◌∷◌, set, refl, MatchBool-at_true, cases_Bool, has, visible, RawStep, match_false, match_true, AllCan, AllDo, Can, Numbered, Move}
+use Rattle.numbered_walks.specs.Prelude.{Has, Takes}
 use Rattle.numbered_walks.specs.declared.moves.Move.TheVariants as move
 
 -- one component does the event that it can do, or stays

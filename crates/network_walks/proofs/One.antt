@@ -1,15 +1,8 @@
 -- A network has at most one walk for a seed and a number of steps: the options are one list, each component goes to one target, and so a move leads to one network.
-use Rattle.std.proofs.Common.{◌≡◌, ◌<◌, ◌⊎◌, ◌↔◌, inl, inr, ℕ, zero, suc, ◌+◌, Bool, true, nat_eq, IsTrue, MatchBool, Ok, Some, List, [], ◌∷◌, length, slice_get, refl, sym, ap, ap₂, subst, ◌∙◌, arith}
-use Rattle.csp_base.proofs.Standard.{MatchBool-at_false, MatchBool-at_true, cases_Bool, none-some, same_Some}
+use Rattle.network_walks.proofs.Prelude.{◌≡◌, ◌<◌, ◌⊎◌, ◌↔◌, inl, inr, ℕ, zero, suc, ◌+◌, Bool, true, nat_eq, IsTrue, MatchBool, Ok, Some, List, [], ◌∷◌, length, slice_get, refl, sym, ap, ap₂, subst, ◌∙◌, arith, MatchBool-at_false, MatchBool-at_true, cases_Bool, none-some, same_Some, Label, Component, NetworkStep, Tree, leaves, IsDrawn, label, takes_part, first_draw, next_number, place_among, AreOptions, IsBefore, Chooses, HasNone, IsWalk, IsWalkOf, Move, AreDrawn, DrawsTarget, AreOneWalk, TheWalkIsOne, Goes, Has}
 use Rattle.csp_base.proofs.Booleans.{same_tests}
 use Rattle.csp_base.specs.Lists.{StandsIn}
-use Rattle.csp_tables.specs.Prelude.{Label, Component, NetworkStep, Tree, leaves}
-use Rattle.numbered_walks.specs.Prelude.{IsDrawn, label, takes_part, first_draw, next_number, place_among, AreOptions, IsBefore, Chooses, HasNone, IsWalk, IsWalkOf}
-use Rattle.numbered_walks.specs.declared.moves.Move.{Move}
 use Rattle.numbered_walks.specs.declared.moves.Move.TheVariants as move
-use Rattle.network_walks.specs.Draws.{AreDrawn, DrawsTarget}
-use Rattle.network_walks.specs.Laws.{AreOneWalk, TheWalkIsOne}
-use Rattle.network_walks.specs.Moves.{Goes, Has}
 use Rattle.network_walks.proofs.Runs.{step_of}
 use Rattle.net_sound.proofs.Shape.{steps_are_told}
 

@@ -1,15 +1,8 @@
 -- Targets by the numbers of terms and the terms themselves: where a table has the targets in order, what is drawn by number is drawn by term.
-use Rattle.std.proofs.Common.{◌≡◌, ℕ, zero, suc, ◌+◌, inl, inr, Bool, true, nat_eq, MatchBool, List, [], ◌∷◌, length, map, slice_get, Some, refl, sym, ap, subst, ◌∙◌, arith}
+use Rattle.network_walks.proofs.Prelude.{◌≡◌, ℕ, zero, suc, ◌+◌, inl, inr, Bool, true, nat_eq, MatchBool, List, [], ◌∷◌, length, map, slice_get, Some, refl, sym, ap, subst, ◌∙◌, arith, MatchBool-at_false, MatchBool-at_true, cases_Bool, eqb-true, length-map, none-some, same_Some, slice_get-map, has, Label, Component, targets_in, match_false, match_true, IsDrawn, label, takes_part, AllDraw, next_number, place_among, Move, AreDrawn, DrawsTarget}
 use Rattle.csp_base.specs.Standard.{option_map}
-use Rattle.csp_base.proofs.Standard.{MatchBool-at_false, MatchBool-at_true, cases_Bool, eqb-true, length-map, none-some, same_Some, slice_get-map}
-use Rattle.csp_base.specs.Members.{has}
-use Rattle.csp_tables.specs.Prelude.{Label, Component, targets_in}
 use Rattle.local_tables.specs.Component.{IsInside}
-use Rattle.net_sound.proofs.FlatLists.{match_false, match_true}
-use Rattle.numbered_walks.specs.Prelude.{IsDrawn, label, takes_part, AllDraw, next_number, place_among}
-use Rattle.numbered_walks.specs.declared.moves.Move.{Move}
 use Rattle.numbered_walks.specs.declared.moves.Move.TheVariants as move
-use Rattle.network_walks.specs.Draws.{AreDrawn, DrawsTarget}
 use Rattle.network_walks.proofs.Rows.{Row, Stand, numbered_rows}
 
 -- ---- what stands at a place of a list, and of its image

@@ -1,13 +1,6 @@
 -- Walks of a network: each move is a step, and where there is none the network is stuck.
-use Rattle.std.proofs.Common.{◌≡◌, ℕ, zero, suc, inl, inr, List, [], ◌∷◌, map, set, slice_get, Some, refl, sym, ap, ap₂, subst}
-use Rattle.std.proofs.lemmas.Option.{none-some, same_Some}
-use Rattle.csp_tables.specs.Prelude.{OneMoves, Label, silent, visible, Component, ComponentStep, NetworkStep, Tree, leaves, Path, WellNested}
-use Rattle.net_sound.proofs.Flattening.{forth, kept}
-use Rattle.numbered_walks.specs.Prelude.{label, first_draw, next_number}
-use Rattle.numbered_walks.specs.declared.moves.Move.{Move}
+use Rattle.network_walks.proofs.Prelude.{◌≡◌, ℕ, zero, suc, inl, inr, List, [], ◌∷◌, map, set, slice_get, Some, refl, sym, ap, ap₂, subst, none-some, same_Some, OneMoves, Label, silent, visible, Component, ComponentStep, NetworkStep, Tree, leaves, Path, WellNested, forth, kept, label, first_draw, next_number, Move, NoMoveMeansStuck, StuckIsNotLive, StuckWalksRefuteLive, WalksAreRuns, Takes}
 use Rattle.numbered_walks.specs.declared.moves.Move.TheVariants as move
-use Rattle.network_walks.specs.Laws.{NoMoveMeansStuck, StuckIsNotLive, StuckWalksRefuteLive, WalksAreRuns}
-use Rattle.network_walks.specs.Moves.{Takes}
 
 module _ {T : Type 0} (Step : T → Label → T → Type 0) where
   -- ---- one component of a list moves

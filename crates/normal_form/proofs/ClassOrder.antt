@@ -1,9 +1,5 @@
 -- Classes in the order in which they are first seen: how many have been seen before a node, and the first node of each.
-use Rattle.std.proofs.Common.{◌≡◌, ℕ, zero, suc, ◌+◌, ◌<◌, ◌≤◌, ◌⊎◌, inl, inr, nat_eq, cond, List, [], ◌∷◌, length, sym, ◌∙◌, subst, arith}
-use Rattle.std.specs.Prelude.{slice_index}
-use Rattle.std.proofs.lemmas.Bool.{eq-eqb, ne_eqb, cond-true, cond-false, cases_lt}
-use Rattle.equal_futures.specs.Future.{SeenInOrder}
-use Rattle.normal_form.specs.Merged.{IsFirst}
+use Rattle.normal_form.proofs.Prelude.{◌≡◌, ℕ, zero, suc, ◌+◌, ◌<◌, ◌≤◌, ◌⊎◌, inl, inr, nat_eq, cond, List, [], ◌∷◌, length, sym, ◌∙◌, subst, arith, slice_index, eq-eqb, ne_eqb, cond-true, cond-false, cases_lt, SeenInOrder, IsFirst}
 
 -- how many numbers have been seen once x is
 abbrev pub seen_with : ℕ → ℕ → ℕ

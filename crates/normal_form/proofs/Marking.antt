@@ -1,12 +1,8 @@
 -- Acceptances numbered in the order in which they are first seen.
-use Rattle.std.proofs.Common.{◌≡◌, ℕ, ◌<◌, Bool, true, nat_eq, List, [], ◌∷◌, length, get_or, refl, ap, ◌∙◌}
+use Rattle.normal_form.proofs.Prelude.{◌≡◌, ℕ, ◌<◌, Bool, true, nat_eq, List, [], ◌∷◌, length, get_or, refl, ap, ◌∙◌, and_from, eqb-true, get_or_default, Node, node_at, IsNumbered, keys_equal, numbers_equal, AreMarksOf}
 use Rattle.std.specs.Cmp.Lexicographic.{pointwise}
-use Rattle.csp_base.proofs.Standard.{and_from, eqb-true, get_or_default}
 use Rattle.containers.specs.Exact.{IsExact-pointwise}
 use Rattle.csp_base.proofs.Lists.{same_list}
-use Rattle.csp_tables.specs.Table.{Node, node_at}
-use Rattle.equal_futures.proofs.Numbered.{IsNumbered, keys_equal, numbers_equal}
-use Rattle.normal_form.specs.Marks.{AreMarksOf}
 
 -- equality of lists of sets, as a test
 abbrev pub same_sets : List (List ℕ) → List (List ℕ) → Bool

@@ -1,11 +1,5 @@
 -- Numbers that are met in their order: along a list, along two lists, and what has been met.
-use Rattle.std.proofs.Common.{◌≡◌, ℕ, zero, suc, ◌+◌, ◌<◌, ◌≤◌, inl, inr, true, false, nat_eq, List, [], ◌∷◌, ◌++◌, length, take, drop, refl, sym, ap, ◌∙◌, subst, arith}
-use Rattle.std.specs.Prelude.{map}
-use Rattle.csp_base.proofs.Standard.{cases_Bool, cases_lt, cond-true, cond-false, false≢true, eq-eqb, ne_eqb, both_ways, or_left, or_right, append-nil, take-append-drop, flat_map-append}
-use Rattle.csp_base.proofs.Rising.{RisesFrom}
-use Rattle.csp_tables.specs.Prelude.{BeginsAbove, Node, node_at, is_possible, target, targets_of_steps, targets_of_nodes, MeetsInOrder, MeetsUpTo}
-use Rattle.equal_futures.specs.Future.{StepsRise}
-use Rattle.equal_futures.proofs.RowLists.{once}
+use Rattle.normal_form.proofs.Prelude.{◌≡◌, ℕ, zero, suc, ◌+◌, ◌<◌, ◌≤◌, inl, inr, true, false, nat_eq, List, [], ◌∷◌, ◌++◌, length, take, drop, refl, sym, ap, ◌∙◌, subst, arith, map, cases_Bool, cases_lt, cond-true, cond-false, false≢true, eq-eqb, ne_eqb, both_ways, or_left, or_right, append-nil, take-append-drop, flat_map-append, RisesFrom, BeginsAbove, Node, node_at, is_possible, target, targets_of_steps, targets_of_nodes, MeetsInOrder, MeetsUpTo, StepsRise, once}
 
 pub meets_more : (n m : ℕ) (xs : List ℕ) → MeetsInOrder n xs m → n ≤ m
 meets_more n m [] h = omega (arith, h)

@@ -1,12 +1,5 @@
 -- A merged table is numbered breadth first where the table is.
-use Rattle.std.proofs.Common.{◌≡◌, ℕ, zero, suc, ◌<◌, ◌≤◌, inl, inr, true, List, [], ◌∷◌, ◌++◌, length, take, sym, ap, ◌∙◌, subst, arith}
-use Rattle.std.specs.Prelude.{slice_index}
-use Rattle.csp_base.proofs.Standard.{get_or-take, length-take-le, take-suc, take-length}
-use Rattle.csp_tables.specs.Prelude.{Node, node_at, is_possible, target, node_after, targets_of_steps, targets_of_nodes, MeetsInOrder, MeetsUpTo, IsBreadthFirst}
-use Rattle.equal_futures.specs.Future.{HaveEqualFuture, AreFutureClasses, NodesRise}
-use Rattle.equal_futures.proofs.Futures.{same_events, future_after}
-use Rattle.equal_futures.proofs.RowLists.{target_below}
-use Rattle.normal_form.specs.Merged.{renamed, AreMerged}
+use Rattle.normal_form.proofs.Prelude.{◌≡◌, ℕ, zero, suc, ◌<◌, ◌≤◌, inl, inr, true, List, [], ◌∷◌, ◌++◌, length, take, sym, ap, ◌∙◌, subst, arith, slice_index, get_or-take, length-take-le, take-suc, take-length, Node, node_at, is_possible, target, node_after, targets_of_steps, targets_of_nodes, MeetsInOrder, MeetsUpTo, IsBreadthFirst, HaveEqualFuture, AreFutureClasses, NodesRise, same_events, future_after, target_below, renamed, AreMerged}
 use Rattle.normal_form.proofs.ClassOrder.{first_of, is_first, class_seen, seen_within, seen_most, step_at, seen_at}
 use Rattle.normal_form.proofs.Meeting.{meets_more, MetBetween, meets_cut, meets_part, more_targets, EachTarget, each_target, target_is, nodes_met}
 use Rattle.normal_form.proofs.MergedRuns.{in_classes}

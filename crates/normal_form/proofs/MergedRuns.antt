@@ -1,13 +1,5 @@
 -- Runs of a merged table are runs of the table, and lead to the class of the node to which these lead.
-use Rattle.std.proofs.Common.{◌≡◌, ℕ, ◌<◌, inl, inr, Bool, true, false, ◌&&◌, ◌||◌, nat_eq, List, [], ◌∷◌, length, refl, sym, ap, ◌∙◌, arith}
-use Rattle.std.specs.Prelude.{slice_index, map}
-use Rattle.std.proofs.lemmas.Bool.{and_parts, cases_Bool, cond-true, cond-false, false≢true, both_ways}
-use Rattle.csp_tables.specs.Table.{Node, node_at, is_possible, target, node_after, is_run, end_of}
-use Rattle.equal_futures.specs.Future.{HaveEqualFuture, AreFutureClasses, NodesRise}
-use Rattle.equal_futures.proofs.Futures.{same_marks, same_events, future_after}
-use Rattle.equal_futures.proofs.RowLists.{target_below}
-use Rattle.normal_form.specs.Marks.{AreMarksOf}
-use Rattle.normal_form.specs.Merged.{renamed, AreMerged}
+use Rattle.normal_form.proofs.Prelude.{◌≡◌, ℕ, ◌<◌, inl, inr, Bool, true, false, ◌&&◌, ◌||◌, nat_eq, List, [], ◌∷◌, length, refl, sym, ap, ◌∙◌, arith, slice_index, map, and_parts, cases_Bool, cond-true, cond-false, false≢true, both_ways, Node, node_at, is_possible, target, node_after, is_run, end_of, HaveEqualFuture, AreFutureClasses, NodesRise, same_marks, same_events, future_after, target_below, AreMarksOf, renamed, AreMerged}
 use Rattle.normal_form.proofs.ClassOrder.{FirstOf, first_of, is_first, class_seen}
 
 abbrev pub in_classes : List ℕ → List (ℕ × ℕ) → List (ℕ × ℕ)

@@ -1,12 +1,5 @@
 -- The merged table while the nodes are gone through, and at the end.
-use Rattle.std.proofs.Common.{◌≡◌, ◌↔◌, ℕ, suc, ◌+◌, ◌<◌, inl, inr, cond, nat_eq, List, [], ◌∷◌, ◌++◌, length, get_or, refl, sym, ap, ◌∙◌, subst, arith, below_more, add-one}
-use Rattle.std.specs.Prelude.{slice_index}
-use Rattle.csp_base.proofs.Standard.{cond-true, cond-false, eq-eqb, ne_eqb, get_or_append_left, get_or_default, get_or_push, length_push}
-use Rattle.csp_tables.specs.Table.{Node, node_at}
-use Rattle.equal_futures.specs.Future.{HaveEqualFuture, NodesRise, SeenInOrder, StepsRise}
-use Rattle.equal_futures.proofs.Futures.{same_marks}
-use Rattle.normal_form.specs.Marks.{AreMarksOf}
-use Rattle.normal_form.specs.Merged.{renamed, IsFirst, AreMerged, IsMergedTable}
+use Rattle.normal_form.proofs.Prelude.{◌≡◌, ◌↔◌, ℕ, suc, ◌+◌, ◌<◌, inl, inr, cond, nat_eq, List, [], ◌∷◌, ◌++◌, length, get_or, refl, sym, ap, ◌∙◌, subst, arith, below_more, add-one, slice_index, cond-true, cond-false, eq-eqb, ne_eqb, get_or_append_left, get_or_default, get_or_push, length_push, Node, node_at, HaveEqualFuture, NodesRise, SeenInOrder, StepsRise, same_marks, AreMarksOf, renamed, IsFirst, AreMerged, IsMergedTable}
 use Rattle.normal_form.proofs.MergedRuns.{in_classes}
 use Rattle.normal_form.proofs.ClassOrder.{seen_by, step_at, class_seen, first_turn, seen_most}
 

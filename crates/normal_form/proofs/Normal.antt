@@ -1,14 +1,7 @@
 -- The determinised table merged by equal future is the normal table.
-use Rattle.std.proofs.Common.{◌≡◌, ◌↔◌, ℕ, ◌+◌, ◌<◌, ◌≤◌, inl, inr, List, [], ◌∷◌, length, get_or, refl, sym, ap, ◌∙◌, subst, arith}
-use Rattle.std.specs.Prelude.{slice_index, map}
-use Rattle.csp_base.specs.Standard.{All, IsStrictlyIncreasing}
-use Rattle.csp_base.proofs.Standard.{cases_lt, All-from_get_or, get_or-eq_default}
-use Rattle.csp_base.proofs.Rising.{rises_from_increasing}
-use Rattle.csp_tables.specs.Prelude.{Label, IsTrace, IsAcceptance, HaveSameFuture, Node, node_at, is_run, end_of, acceptances_after, IsRun, IsReached, IsListed, IsNormalTable, HasAcceptances, IsRisingNode, OffersAcceptance, IsBreadthFirst, targets_of_nodes, RawTable, RawStep, HasRawForm}
+use Rattle.normal_form.proofs.Prelude.{◌≡◌, ◌↔◌, ℕ, ◌+◌, ◌<◌, ◌≤◌, inl, inr, List, [], ◌∷◌, length, get_or, refl, sym, ap, ◌∙◌, subst, arith, slice_index, map, All, IsStrictlyIncreasing, cases_lt, All-from_get_or, get_or-eq_default, rises_from_increasing, Label, IsTrace, IsAcceptance, HaveSameFuture, Node, node_at, is_run, end_of, acceptances_after, IsRun, IsReached, IsListed, IsNormalTable, HasAcceptances, IsRisingNode, OffersAcceptance, IsBreadthFirst, targets_of_nodes, RawTable, RawStep, HasRawForm, NodesRise, StepsRise, renamed, IsMergedTable}
 use Rattle.determinise.specs.Determinised.{Determinised, FollowsTraces}
-use Rattle.equal_futures.specs.Future.{NodesRise, StepsRise}
 use Rattle.equal_futures.proofs.Growing.{few_seen}
-use Rattle.normal_form.specs.Merged.{renamed, IsMergedTable}
 use Rattle.normal_form.proofs.ClassOrder.{FirstOf, first_of, is_first, seen_most, step_at}
 use Rattle.normal_form.proofs.Meeting.{meets_more, nodes_met, rise_from}
 use Rattle.normal_form.proofs.MergedRuns.{in_classes, runs_merged, ends_merged, accept_merged, end_below}

@@ -1,8 +1,5 @@
 -- Each node of a table that is numbered breadth first is reached.
-use Rattle.std.proofs.Common.{◌≡◌, ℕ, zero, suc, ◌<◌, ◌≤◌, inl, inr, true, List, [], ◌∷◌, ◌++◌, length, take, refl, sym, ap, ◌∙◌, subst, arith}
-use Rattle.csp_base.proofs.Standard.{cases_lt, and_from, take-suc, take-length}
-use Rattle.csp_tables.specs.Prelude.{Node, node_at, is_possible, target, node_after, is_run, end_of, IsReached, targets_of_steps, targets_of_nodes, MeetsInOrder, MeetsUpTo, IsBreadthFirst}
-use Rattle.equal_futures.specs.Future.{NodesRise}
+use Rattle.normal_form.proofs.Prelude.{◌≡◌, ℕ, zero, suc, ◌<◌, ◌≤◌, inl, inr, true, List, [], ◌∷◌, ◌++◌, length, take, refl, sym, ap, ◌∙◌, subst, arith, cases_lt, and_from, take-suc, take-length, Node, node_at, is_possible, target, node_after, is_run, end_of, IsReached, targets_of_steps, targets_of_nodes, MeetsInOrder, MeetsUpTo, IsBreadthFirst, NodesRise}
 use Rattle.normal_form.proofs.Meeting.{MetBetween, meets_cut, meets_same, more_targets, LeadsTo, newly_met}
 use Rattle.normal_form.proofs.SameFuture.{run_append, end_append}
 

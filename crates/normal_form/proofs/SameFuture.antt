@@ -1,16 +1,8 @@
 -- Nodes of a determinised table have equal future exactly where the traces that lead to them have the same future.
-use Rattle.std.proofs.Common.{◌≡◌, ◌↔◌, ℕ, ◌<◌, Bool, true, false, ◌&&◌, List, [], ◌∷◌, ◌++◌, length, get_or, refl, sym, ap, ◌∙◌, subst}
+use Rattle.normal_form.proofs.Prelude.{◌≡◌, ◌↔◌, ℕ, ◌<◌, Bool, true, false, ◌&&◌, List, [], ◌∷◌, ◌++◌, length, get_or, refl, sym, ap, ◌∙◌, subst, and_parts, has, Label, IsTrace, IsAcceptance, HaveSameFuture, Node, node_at, is_possible, node_after, is_run, end_of, acceptances_after, IsRun, HasAcceptances, IsRisingNode, Member, member_at, stands, Stands, HaveEqualFuture, NodesRise, target_below, AreMarksOf, same_tests}
 use Rattle.std.specs.List.Sorted.{IsStrictlyIncreasing}
-use Rattle.std.proofs.lemmas.Bool.{and_parts}
-use Rattle.csp_base.specs.Members.{has}
 use Rattle.csp_base.proofs.SetLaws.{same_set}
-use Rattle.csp_tables.specs.Prelude.{Label, IsTrace, IsAcceptance, HaveSameFuture, Node, node_at, is_possible, node_after, is_run, end_of, acceptances_after, IsRun, HasAcceptances, IsRisingNode}
-use Rattle.acceptances.proofs.Member.{Member, member_at, stands, Stands}
-use Rattle.equal_futures.specs.Future.{HaveEqualFuture, NodesRise}
-use Rattle.equal_futures.proofs.RowLists.{target_below}
-use Rattle.normal_form.specs.Marks.{AreMarksOf}
 use Rattle.normal_form.proofs.SortedSets.{same_sorted}
-use Rattle.csp_base.proofs.Booleans.{same_tests}
 
 -- ---- runs one after another
 and_assoc : (a b c : Bool) → ((a && b) && c) ≡ (a && (b && c))

@@ -1,8 +1,5 @@
 -- Lists of sets in strict order with the same members are equal.
-use Rattle.std.proofs.Common.{◌≡◌, ℕ, inl, inr, List, [], ◌∷◌, refl, sym, ap, ◌∙◌, subst}
-use Rattle.csp_base.specs.Standard.{AllByRecursion, IsStrictlySortedBy, slice_cmp, nat_cmp, Ordering, Less, ordering_reverse, is_lt}
-use Rattle.csp_base.proofs.Standard.{false≢true, sorted_head, sorted_tail, nat_list_cmp_total}
-use Rattle.acceptances.proofs.Member.{Member}
+use Rattle.normal_form.proofs.Prelude.{◌≡◌, ℕ, inl, inr, List, [], ◌∷◌, refl, sym, ap, ◌∙◌, subst, AllByRecursion, IsStrictlySortedBy, slice_cmp, nat_cmp, Ordering, Less, ordering_reverse, is_lt, false≢true, sorted_head, sorted_tail, nat_list_cmp_total, Member}
 
 abbrev Order : List ℕ → List ℕ → Ordering
 Order = slice_cmp nat_cmp

@@ -1,7 +1,5 @@
-use Rattle.std.proofs.Common.{◌+◌, ◌∙◌, ap, length, refl, arith}
+use Rattle.local_tables.proofs.Prelude.{◌+◌, ◌∙◌, ap, length, refl, arith, Room, LocalTable}
 use Rattle.csp_steps.proofs.Noting.{fits_stay}
-use Rattle.local_tables.specs.Prelude.{Room}
-use Rattle.local_tables.specs.declared.local_table.LocalTable.{LocalTable}
 use Rattle.local_tables.proofs.Ending.{local_table}
 use Rattle.local_tables.proofs.exploring.explore.Goals as goal
 

@@ -1,5 +1,4 @@
-use Rattle.std.proofs.Common.{◌-◌, ◌^◌}
-use Rattle.local_tables.specs.Prelude.{AreTermsOf, IsUpTo}
+use Rattle.local_tables.proofs.Prelude.{◌-◌, ◌^◌, AreTermsOf, IsUpTo}
 use Rattle.local_tables.proofs.exploring.explore.Given as goal
 
 abbrev pub invariant-loop-at : goal.invariant-loop-at

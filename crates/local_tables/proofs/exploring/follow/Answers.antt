@@ -1,17 +1,9 @@
-use Rattle.std.proofs.Common.{◌≡◌, ◌<◌, List, Result, Ok, Err, Some, length, sym, subst, arith}
-use Rattle.std.specs.Prelude.{IfErr, slice_get, slice_index_or}
+use Rattle.local_tables.proofs.Prelude.{◌≡◌, ◌<◌, List, Result, Ok, Err, Some, length, sym, subst, arith, IfErr, slice_get, slice_index_or, slice_get-get_or, Proc, steps_of, ProcId, tree_at, part_of, Reaches, TaskLacks, valueless, terms_at, Task}
 use Rattle.std.specs.Result.{IsErrAnd}
-use Rattle.std.proofs.lemmas.Option.{slice_get-get_or}
-use Rattle.csp_program.specs.declared.processes.Proc.{Proc}
 use Rattle.csp_steps.specs.Listed.{FaultIs}
-use Rattle.process_steps.specs.StepList.{steps_of}
-use Rattle.pool_parts.specs.declared.place.ProcId.{ProcId}
-use Rattle.term_pool.specs.Trees.{tree_at}
 use Rattle.value_operators.specs.declared.fault.EvalFault.{EvalFault}
 use Rattle.value_operators.specs.declared.fault.EvalFault.TheVariants as evaluation
-use Rattle.local_tables.specs.Prelude.{part_of, Reaches, TaskLacks, valueless, terms_at}
 use Rattle.local_tables.specs.declared.fault.Unexplored.{Unexplored}
-use Rattle.local_tables.specs.declared.task.Task.{Task}
 use Rattle.local_tables.proofs.Following.{begin_at, end_at, map_at}
 use Rattle.local_tables.proofs.Walking.{reached}
 use Rattle.local_tables.proofs.exploring.follow.Goals as goal

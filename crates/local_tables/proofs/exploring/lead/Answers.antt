@@ -1,5 +1,4 @@
-use Rattle.std.proofs.Common.{◌+◌, slice_index_or}
-use Rattle.std.proofs.lemmas.Option.{slice_get-get_or}
+use Rattle.local_tables.proofs.Prelude.{◌+◌, slice_index_or, slice_get-get_or}
 use Rattle.local_tables.proofs.Following.{some_shallow, tabled, taken_led}
 use Rattle.local_tables.proofs.exploring.lead.Goals as goal
 

@@ -1,8 +1,4 @@
-use Rattle.std.proofs.Common.{◌≡◌, ◌+◌, ◌<◌, ◌∙◌, ap, length, slice_index_or, subst, sym, arith, List}
-use Rattle.csp_base.proofs.Standard.{false≢true, same_Some, slice_get-get_or, slice_get_within}
-use Rattle.csp_steps.specs.declared.step.StepTo.{StepTo}
-use Rattle.csp_tables.specs.Label.Label.{visible}
-use Rattle.local_tables.specs.Progress.{AreLed, Origin, terms_at}
+use Rattle.local_tables.proofs.Prelude.{◌≡◌, ◌+◌, ◌<◌, ◌∙◌, ap, length, slice_index_or, subst, sym, arith, List, false≢true, same_Some, slice_get-get_or, slice_get_within, StepTo, visible, AreLed, Origin, terms_at}
 use Rattle.local_tables.proofs.Following.{ends, taken_outside}
 use Rattle.local_tables.proofs.exploring.take.Goals as goal
 

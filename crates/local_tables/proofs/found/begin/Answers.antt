@@ -1,6 +1,5 @@
-use Rattle.std.proofs.Common.{◌∙◌, ap}
+use Rattle.local_tables.proofs.Prelude.{◌∙◌, ap, eq_id}
 use Rattle.containers.specs.Members.{with_new}
-use Rattle.pool_parts.specs.ExactId.{eq_id}
 use Rattle.local_tables.proofs.Ending.{first_tabled, first_up_to}
 use Rattle.local_tables.proofs.found.begin.Goals as goal
 

@@ -1,10 +1,4 @@
-use Rattle.std.proofs.Common.{◌≡◌, ap, length, arith}
-use Rattle.std.specs.Prelude.{map, min}
-use Rattle.std.proofs.lemmas.List.{length-map}
-use Rattle.csp_base.specs.Lists.{total}
-use Rattle.csp_program.specs.Depth.{proc_depth}
-use Rattle.term_pool.specs.Trees.{tree_at}
-use Rattle.local_tables.specs.Progress.{counted_size, terms_at}
+use Rattle.local_tables.proofs.Prelude.{◌≡◌, ap, length, arith, map, min, length-map, total, proc_depth, tree_at, counted_size, terms_at}
 use Rattle.local_tables.proofs.Ending.{are_terms, no_larger}
 use Rattle.local_tables.proofs.Following.{are_steps, map_at}
 use Rattle.local_tables.proofs.Walking.{reached}

@@ -1,7 +1,4 @@
-use Rattle.std.proofs.Common.{◌≡◌, ◌-◌, ◌<◌, ◌≤◌, ℕ, List, [], ◌++◌, Some, length, sym, ap, subst, ◌∙◌, arith}
-use Rattle.std.specs.Prelude.{reverse, slice_get, slice_index_or}
-use Rattle.csp_base.proofs.Standard.{get_or_default, slice_get-get_or}
-use Rattle.local_tables.specs.Progress.{LeadsToTerm, Origin, step_events}
+use Rattle.local_tables.proofs.Prelude.{◌≡◌, ◌-◌, ◌<◌, ◌≤◌, ℕ, List, [], ◌++◌, Some, length, sym, ap, subst, ◌∙◌, arith, reverse, slice_get, slice_index_or, get_or_default, slice_get-get_or, LeadsToTerm, Origin, step_events}
 use Rattle.local_tables.proofs.Walking.{back_one, leads_nowhere}
 use Rattle.local_tables.proofs.origins.trace_to.Goals as goal
 

@@ -1,7 +1,4 @@
-use Rattle.std.proofs.Common.{◌≤◌, ◌++◌, ℕ, List, length, reverse}
-use Rattle.csp_program.specs.declared.processes.Proc.{Proc}
-use Rattle.local_tables.specs.Prelude.{AreLed, LeadsToTerm}
-use Rattle.local_tables.specs.declared.task.Task.{Task}
+use Rattle.local_tables.proofs.Prelude.{◌≤◌, ◌++◌, ℕ, List, length, reverse, Proc, AreLed, LeadsToTerm, Task}
 use Rattle.local_tables.proofs.origins.trace_to.Given as goal
 
 abbrev pub invariant-loop-at : goal.invariant-loop-at

@@ -1,5 +1,4 @@
-use Rattle.std.proofs.Common.{ℕ, List, subst, sym}
-use Rattle.numbered_walks.specs.Numbered.{OwnsItsSteps}
+use Rattle.network_walks.proofs.Prelude.{ℕ, List, subst, sym, OwnsItsSteps}
 use Rattle.network_walks.proofs.Made.{owns}
 use Rattle.network_walks.proofs.movers.mover_of.Goals as goal
 

@@ -1,7 +1,4 @@
-use Rattle.std.proofs.Common.{◌++◌, List, ap}
-use Rattle.network_stages.proofs.Tabling.{placed, still_within}
-use Rattle.numbered_walks.specs.Numbered.{Numbered}
-use Rattle.network_walks.specs.Tabled.{numbered}
+use Rattle.network_walks.proofs.Prelude.{◌++◌, List, ap, placed, still_within, Numbered, numbered}
 use Rattle.network_walks.proofs.Made.{all_made, one_made}
 use Rattle.network_walks.proofs.movers.movers.Goals as goal
 

@@ -1,5 +1,4 @@
-use Rattle.std.proofs.Common.{◌≡◌, ◌++◌, drop}
-use Rattle.network_walks.specs.Tabled.{numbered}
+use Rattle.network_walks.proofs.Prelude.{◌≡◌, ◌++◌, drop, numbered}
 use Rattle.network_walks.proofs.movers.movers.Given as goal
 
 abbrev pub invariant-loop-place : goal.invariant-loop-place

@@ -1,6 +1,5 @@
-use Rattle.std.proofs.Common.{rules}
+use Rattle.network_walks.proofs.Prelude.{rules, IsWalked}
 use Rattle.report.proofs.Points.{at_refusal, at_want, goes_on}
-use Rattle.network_walks.specs.Walked.{IsWalked}
 use Rattle.network_walks.proofs.Telling.{tells_walk}
 use Rattle.network_walks.proofs.walking.walk_network.Goals as goal
 

@@ -1,6 +1,5 @@
-use Rattle.std.proofs.Common.{[], ◌∷◌, ◌++◌, ◌∙◌, refl, arith}
+use Rattle.normal_form.proofs.Prelude.{[], ◌∷◌, ◌++◌, ◌∙◌, refl, arith, numbered_step}
 use Rattle.std.proofs.lemmas.Option.{slice_get_within}
-use Rattle.equal_futures.proofs.Numbered.{numbered_step}
 use Rattle.normal_form.proofs.Marking.{same_sets, same_itself, accept_at, all_marked, item_read}
 use Rattle.normal_form.proofs.marks.accept_marks.Goals as goal
 

@@ -1,5 +1,4 @@
-use Rattle.std.proofs.Common.{refl}
-use Rattle.equal_futures.proofs.RowLists.{read_below}
+use Rattle.normal_form.proofs.Prelude.{refl, read_below}
 use Rattle.normal_form.proofs.merge.steps_to_classes.Goals as goal
 
 pub bounds-classes-to : goal.bounds-classes-to

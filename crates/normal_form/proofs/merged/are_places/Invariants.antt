@@ -1,5 +1,4 @@
-use Rattle.std.proofs.Common.{◌≡◌, ◌<◌, ℕ}
-use Rattle.std.specs.Prelude.{slice_index}
+use Rattle.normal_form.proofs.Prelude.{◌≡◌, ◌<◌, ℕ, slice_index}
 use Rattle.normal_form.proofs.merged.are_places.Given as goal
 
 abbrev pub invariant-loop-place : goal.invariant-loop-place

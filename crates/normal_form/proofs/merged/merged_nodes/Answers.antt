@@ -1,5 +1,4 @@
-use Rattle.std.proofs.Common.{sym, subst}
-use Rattle.normal_form.specs.Merged.{IsMergedTable}
+use Rattle.normal_form.proofs.Prelude.{sym, subst, IsMergedTable}
 use Rattle.normal_form.proofs.Merging.{apart_merged}
 use Rattle.normal_form.proofs.merged.merged_nodes.Goals as goal
 
