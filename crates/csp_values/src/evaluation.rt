@@ -209,7 +209,8 @@ fn eval_binary(
     a: &Expr,
     b: &Expr,
 ) -> Result<Value, EvalFault>
-    ensures { Gives result (form.operation op (worth scope.now.content.now scope.now.uses (env_in names.now) a.now) (worth scope.now.content.now scope.now.uses (env_in names.now) b.now)) }
+    ensures { Gives result (form.operation op (worth scope.now.content.now scope.now.uses (env_in names.now) a.now)
+        (worth scope.now.content.now scope.now.uses (env_in names.now) b.now)) }
 {
     let first = eval_expr(scope, names, a)?;
     eval_second(scope, names, op, &first, b)
@@ -242,7 +243,9 @@ fn eval_if(
     a: &Expr,
     b: &Expr,
 ) -> Result<Value, EvalFault>
-    ensures { Gives result (chosen (truth_worth scope.now.content.now scope.now.uses (env_in names.now) c.now) (worth scope.now.content.now scope.now.uses (env_in names.now) a.now) (worth scope.now.content.now scope.now.uses (env_in names.now) b.now)) }
+    ensures { Gives result (chosen (truth_worth scope.now.content.now scope.now.uses (env_in names.now) c.now)
+        (worth scope.now.content.now scope.now.uses (env_in names.now) a.now)
+        (worth scope.now.content.now scope.now.uses (env_in names.now) b.now)) }
 {
     let holds = eval_truth(scope, names, c)?;
     if holds {
@@ -260,7 +263,8 @@ fn eval_call(
     def: u32,
     args: &[Expr],
 ) -> Result<Value, EvalFault>
-    ensures { Gives result (and_then (worths scope.now.content.now scope.now.uses (env_in names.now) args.now) (λ vs. use_worth scope.now.content.now scope.now.uses def vs)) }
+    ensures { Gives result (and_then (worths scope.now.content.now scope.now.uses (env_in names.now) args.now) (λ vs.
+        use_worth scope.now.content.now scope.now.uses def vs)) }
 {
     let args = eval_all(scope, names, args)?;
     eval_use(scope, def, args.as_slice())
@@ -299,7 +303,8 @@ fn eval_event(
 // The set of the values of items.
 #[cycle(eval)]
 fn eval_display(scope: &Scope<'_>, names: &Names<'_>, items: &[Expr]) -> Result<Value, EvalFault>
-    ensures { Gives result (form.a_set (with_items scope.now.content.now scope.now.uses (env_in names.now) items.now [])) }
+    ensures { Gives result (form.a_set (with_items scope.now.content.now scope.now.uses
+        (env_in names.now) items.now [])) }
 {
     let atoms = add_items(scope, names, items, GrowingSet::new(scope.alloc))?;
     grown_value(scope.alloc, atoms)
@@ -308,7 +313,8 @@ fn eval_display(scope: &Scope<'_>, names: &Names<'_>, items: &[Expr]) -> Result<
 // The set of the numbers from `a` to `b`.
 #[cycle(eval)]
 fn eval_range(scope: &Scope<'_>, names: &Names<'_>, a: &Expr, b: &Expr) -> Result<Value, EvalFault>
-    ensures { Gives result (range_of (number_worth scope.now.content.now scope.now.uses (env_in names.now) a.now) (number_worth scope.now.content.now scope.now.uses (env_in names.now) b.now)) }
+    ensures { Gives result (range_of (number_worth scope.now.content.now scope.now.uses (env_in names.now) a.now)
+        (number_worth scope.now.content.now scope.now.uses (env_in names.now) b.now)) }
 {
     let first = eval_number(scope, names, a)?;
     let last = eval_number(scope, names, b)?;
@@ -324,7 +330,8 @@ fn eval_set_op(
     a: &Expr,
     b: &Expr,
 ) -> Result<Value, EvalFault>
-    ensures { Gives result (set_of op (atoms_worth scope.now.content.now scope.now.uses (env_in names.now) a.now) (atoms_worth scope.now.content.now scope.now.uses (env_in names.now) b.now)) }
+    ensures { Gives result (set_of op (atoms_worth scope.now.content.now scope.now.uses (env_in names.now) a.now)
+        (atoms_worth scope.now.content.now scope.now.uses (env_in names.now) b.now)) }
 {
     let left = eval_atoms(scope, names, a)?;
     let right = eval_atoms(scope, names, b)?;
@@ -340,7 +347,8 @@ fn eval_product(
     parts: &[EventPart],
     gens: &[Gen],
 ) -> Result<Value, EvalFault>
-    ensures { Gives result (form.produced (form.lack_sets scope.now.content.now.channels parts.now) (walk_worth scope.now.content.now scope.now.uses gens.now [] parts.now (env_in names.now) form.nothing_yet)) }
+    ensures { Gives result (form.produced (form.lack_sets scope.now.content.now.channels parts.now)
+        (walk_worth scope.now.content.now scope.now.uses gens.now [] parts.now (env_in names.now) form.nothing_yet)) }
 {
     if lack_sets(scope.content.channels(), parts) {
         return Err(KIND);
@@ -357,7 +365,9 @@ fn eval_comprehension(
     parts: &[EventPart],
     gens: &[Gen],
 ) -> Result<Value, EvalFault>
-    ensures { Gives result (form.gathered_set (walk_worth scope.now.content.now scope.now.uses gens.now items.now parts.now (env_in names.now) form.nothing_yet)) }
+    ensures { Gives result
+        (form.gathered_set (walk_worth scope.now.content.now scope.now.uses gens.now items.now parts.now
+        (env_in names.now) form.nothing_yet)) }
 {
     let start = Tally {
         bindings: 0,
@@ -450,7 +460,8 @@ fn add_item(
     item: &Expr,
     atoms: GrowingSet,
 ) -> Result<GrowingSet, EvalFault>
-    ensures { Gives result (and_then (worth scope.now.content.now scope.now.uses (env_in names.now) item.now) (λ v. and_then (as_atom v) (λ a. added atoms a))) }
+    ensures { Gives result (and_then (worth scope.now.content.now scope.now.uses (env_in names.now) item.now) (λ v.
+        and_then (as_atom v) (λ a. added atoms a))) }
 {
     let value = eval_expr(scope, names, item)?;
     with_item(scope.alloc, atoms, &value)
@@ -466,7 +477,8 @@ fn eval_fields(
     sets: &[AtomSet],
     each: u64,
 ) -> Result<u64, EvalFault>
-    ensures { Gives result (form.capped (form.scaled (fields_worth scope.now.content.now scope.now.uses (env_in names.now) fields.now sets.now 0) each)) }
+    ensures { Gives result (form.capped (form.scaled
+        (fields_worth scope.now.content.now scope.now.uses (env_in names.now) fields.now sets.now 0) each)) }
 {
     let mut number = 0;
     let mut rest = sets;
@@ -489,7 +501,8 @@ fn eval_place(
     expr: &Expr,
     set: &AtomSet,
 ) -> Result<u64, EvalFault>
-    ensures { Gives result (and_then (worth scope.now.content.now scope.now.uses (env_in names.now) expr.now) (λ v. field_place set.now v)) }
+    ensures { Gives result (and_then (worth scope.now.content.now scope.now.uses (env_in names.now) expr.now) (λ v.
+        field_place set.now v)) }
 {
     let value = eval_expr(scope, names, expr)?;
     place_in(set, &value)
@@ -504,7 +517,9 @@ fn eval_choice(
     fields: &[Expr],
     sets: &[AtomSet],
 ) -> Result<u64, EvalFault>
-    ensures { Gives result (form.capped (form.scaled (fields_worth scope.now.content.now scope.now.uses (env_in names.now) fields.now sets.now 0) (form.each_of sets.now (length fields.now)))) }
+    ensures { Gives result (form.capped (form.scaled
+        (fields_worth scope.now.content.now scope.now.uses (env_in names.now) fields.now sets.now 0)
+        (form.each_of sets.now (length fields.now)))) }
 {
     let each = each_of(sets, fields.len());
     eval_fields(scope, names, fields, sets, each)
@@ -575,7 +590,9 @@ fn gather(
     yields: &Yield<'_>,
     tally: Tally,
 ) -> Result<Tally, EvalFault>
-    ensures { GivesTally result (one_more_binding scope.now.content.now scope.now.uses yields.now.items.now yields.now.parts.now (env_in names.now) (gathered_of tally)) }
+    ensures { GivesTally result
+        (one_more_binding scope.now.content.now scope.now.uses yields.now.items.now yields.now.parts.now
+        (env_in names.now) (gathered_of tally)) }
 {
     let Tally { bindings, atoms } = tally;
     if bindings >= MOST_BINDINGS {
@@ -599,7 +616,9 @@ fn advance(
     walk: &mut Walk,
 ) -> Result<Step, EvalFault>
     requires { IsUnder names.now.bound.now walk.old }
-    ensures { GivesStep result (course scope.now.content.now scope.now.uses gens.now names.now walk.old) (course scope.now.content.now scope.now.uses gens.now names.now walk.new) (parameters names.now) names.now.bound.now walk.new }
+    ensures { GivesStep result (course scope.now.content.now scope.now.uses gens.now names.now walk.old)
+        (course scope.now.content.now scope.now.uses gens.now names.now walk.new)
+        (parameters names.now) names.now.bound.now walk.new }
 {
     match walk.turn {
         Some(place) => enter(scope, names, gens, place, walk),
@@ -624,7 +643,9 @@ fn enter(
 ) -> Result<Step, EvalFault>
     requires under { IsUnder names.now.bound.now walk.old }
     requires turn { walk.old.turn ≡ Some place }
-    ensures { GivesStep result (course scope.now.content.now scope.now.uses gens.now names.now walk.old) (course scope.now.content.now scope.now.uses gens.now names.now walk.new) (parameters names.now) names.now.bound.now walk.new }
+    ensures { GivesStep result (course scope.now.content.now scope.now.uses gens.now names.now walk.old)
+        (course scope.now.content.now scope.now.uses gens.now names.now walk.new)
+        (parameters names.now) names.now.bound.now walk.new }
 {
     let inner = Names {
         params: names.params,
@@ -660,7 +681,9 @@ pub(crate) fn find_binding(
     walk: &mut Walk,
 ) -> Result<bool, EvalFault>
     requires { IsUnder names.now.bound.now walk.old }
-    ensures { GivesBinding result (course scope.now.content.now scope.now.uses gens.now names.now walk.old) (course scope.now.content.now scope.now.uses gens.now names.now walk.new) (parameters names.now) names.now.bound.now walk.new }
+    ensures { GivesBinding result (course scope.now.content.now scope.now.uses gens.now names.now walk.old)
+        (course scope.now.content.now scope.now.uses gens.now names.now walk.new)
+        (parameters names.now) names.now.bound.now walk.new }
 {
     'steps: loop {
         match advance(scope, names, gens, walk)? {
@@ -681,7 +704,9 @@ fn gather_all(
     tally: Tally,
 ) -> Result<Tally, EvalFault>
     requires { IsSetValue tally.atoms }
-    ensures { GivesTally result (walk_worth scope.now.content.now scope.now.uses gens.now yields.now.items.now yields.now.parts.now (env_in names.now) (gathered_of tally)) }
+    ensures { GivesTally result
+        (walk_worth scope.now.content.now scope.now.uses gens.now yields.now.items.now yields.now.parts.now
+        (env_in names.now) (gathered_of tally)) }
 {
     if may_read(yields.items, yields.parts, gens) {
         return gather_each(scope, names, gens, yields, tally);
@@ -699,7 +724,9 @@ fn gather_each(
     yields: &Yield<'_>,
     tally: Tally,
 ) -> Result<Tally, EvalFault>
-    ensures { GivesTally result (walk_worth scope.now.content.now scope.now.uses gens.now yields.now.items.now yields.now.parts.now (env_in names.now) (gathered_of tally)) }
+    ensures { GivesTally result
+        (walk_worth scope.now.content.now scope.now.uses gens.now yields.now.items.now yields.now.parts.now
+        (env_in names.now) (gathered_of tally)) }
 {
     let mut walk = Walk::new(scope.alloc, names.bound)?;
     let mut tally = tally;
@@ -743,7 +770,9 @@ fn gather_once(
     requires set { IsSetValue tally.atoms }
     requires items { All (Stays gens.now) yields.now.items.now }
     requires parts { All (PartStays gens.now) yields.now.parts.now }
-    ensures { GivesTally result (walk_worth scope.now.content.now scope.now.uses gens.now yields.now.items.now yields.now.parts.now (env_in names.now) (gathered_of tally)) }
+    ensures { GivesTally result
+        (walk_worth scope.now.content.now scope.now.uses gens.now yields.now.items.now yields.now.parts.now
+        (env_in names.now) (gathered_of tally)) }
 {
     let mut walk = Walk::new(scope.alloc, names.bound)?;
     if !find_binding(scope, names, gens, &mut walk)? {

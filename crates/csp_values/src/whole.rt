@@ -121,7 +121,8 @@ pub fn front_under(
     channel: u32,
     fields: &[Expr],
 ) -> Result<u32, EvalFault>
-    ensures { Gives result (front_worth program.now (length program.now.defs) (with_bound bound.now []) channel fields.now) }
+    ensures { Gives result (front_worth program.now (length program.now.defs)
+        (with_bound bound.now []) channel fields.now) }
 {
     let content = Fitting::of(program);
     let scope = whole_scope(alloc, &content);
@@ -136,7 +137,8 @@ pub fn binding_under(
     walk: &mut Walk,
 ) -> Result<bool, EvalFault>
     requires { IsUnder [] walk.old }
-    ensures { GivesBinding result (course_under program.now gens.now walk.old) (course_under program.now gens.now walk.new) [] [] walk.new }
+    ensures { GivesBinding result (course_under program.now gens.now walk.old)
+        (course_under program.now gens.now walk.new) [] [] walk.new }
 {
     let content = Fitting::of(program);
     let scope = whole_scope(alloc, &content);

@@ -118,7 +118,8 @@ pub fn judge(alloc: Global, job: &Job, text: &[u8]) -> Result<Answer, NoMemory>
 
     // Completeness: status 0 comes wherever the text is such that it may. A run ends with 0 or 1 wherever the components have tables.
     ensures complete { IfOk result (λ answer. TextPasses job.now text.now → status answer ≡ 0) }
-    ensures runs { IfOk result (λ answer. (seed steps : ℕ) → job.now ≡ Run seed steps → SpellsTables text.now → status answer ≤ 1) }
+    ensures runs { IfOk result (λ answer. (seed steps : ℕ) → job.now ≡ Run seed steps → SpellsTables text.now
+        → status answer ≤ 1) }
 {
     called_for(alloc, job, text)
 }

@@ -44,7 +44,8 @@ fn load<S: Shelf>(
 ) -> Result<Bytes, Stop<Answer>>
     ensures ok { IfOk result (λ text. IsLoad S.texts S.counts S.gives shelf.old shelf.new name.now (Ok text)) }
     ensures short { IfOk result (λ text. length text ≤ MOST_BYTES) }
-    ensures told { IfErr result (Tells (IsUnloaded (IsLoad S.texts S.counts S.gives shelf.old shelf.new name.now) side)) }
+    ensures told { IfErr result (Tells (IsUnloaded
+        (IsLoad S.texts S.counts S.gives shelf.old shelf.new name.now) side)) }
     ensures texts_stay { S.texts shelf.new ≡ S.texts shelf.old }
     ensures never_fall { NeverFall (S.counts shelf.old) (S.counts shelf.new) }
 {

@@ -54,7 +54,8 @@ pub fn dl_main<S: Shelf, O: Sink>(alloc: Global, words: &Words, shelf: &mut S, o
 
     // Each command: status 0 promises of the texts that were handed over, and of the report, what stands for the command in the table `Promised`. Of a judgement
     // it says that the network meets the rule, and that the greatest rank in the report is its own by the rule.
-    ensures promised { result ≡ 0 → Kept Promised S.gives shelf.old shelf.new words.now (O.sent out.old) (O.sent out.new) }
+    ensures promised { result ≡ 0
+        → Kept Promised S.gives shelf.old shelf.new words.now (O.sent out.old) (O.sent out.new) }
 
     // A run ends with status 1 exactly where it is stuck: the state after the printed steps has no step, and the network is live for no bound.
     ensures stuck { AsksForRun words.now → result ≡ 1

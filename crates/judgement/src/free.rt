@@ -13,7 +13,8 @@ use report::Done;
 
 // That the network with this shape and this silent bound is free of deadlock, by a rule with its ranking.
 pub(crate) fn deadlock_free(rule: Rule, bound: u32, shaped: &Shaped<'_>, ranking: &Ranking) -> Done
-    ensures { result ≡ done.DeadlockFree rule (length (leaves shaped.now.network.tree)) (node_count shaped.now.shape.parts) bound (pos (greatest_rank ranking.now)) }
+    ensures { result ≡ done.DeadlockFree rule (length (leaves shaped.now.network.tree))
+        (node_count shaped.now.shape.parts) bound (pos (greatest_rank ranking.now)) }
 {
     Done::DeadlockFree {
         rule,

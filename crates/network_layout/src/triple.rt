@@ -41,7 +41,8 @@ fn counted_none(alloc: Global) -> Counted
 
 // Of one alphabet more.
 fn count(alloc: Global, counted: &Counted, alphabet: &EventSet) -> Result<Counted, NoMemory>
-    ensures { (rows : List (List ℕ)) → IsCounted rows counted.now → IfOk result (IsCounted (rows ++ alphabet.now ∷ [])) }
+    ensures { (rows : List (List ℕ)) → IsCounted rows counted.now
+        → IfOk result (IsCounted (rows ++ alphabet.now ∷ [])) }
 {
     let again = counted.once.inter(alloc, alphabet)?;
     let more = counted.twice.inter(alloc, alphabet)?;

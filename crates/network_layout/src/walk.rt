@@ -154,7 +154,8 @@ fn walk_if(
     alphabet: &EventSet,
     seats: &mut Layout,
 ) -> Laid
-    ensures { Lays result (node (place_of scope.now) alphabet.now (Net-F.If condition.now left.now right.now)) seats.old seats.new }
+    ensures { Lays result (node (place_of scope.now) alphabet.now
+        (Net-F.If condition.now left.now right.now)) seats.old seats.new }
 {
     if truth(scope, condition)? {
         return walk(scope, left, alphabet, seats);

@@ -37,7 +37,8 @@ fn add_first(
     classes: &[u32],
 ) -> Result<(), NoMemory>
     requires { StepsRise (length classes.now) node.now.next }
-    ensures { OnOk result (merged.new.items ≡ (if nat_eq class (length merged.old.items) then merged.old.items ++ renamed classes.now node.now ∷ [] else merged.old.items)) }
+    ensures { OnOk result (merged.new.items ≡ (if nat_eq class (length merged.old.items) then merged.old.items
+        ++ renamed classes.now node.now ∷ [] else merged.old.items)) }
 {
     if class as usize != merged.len() {
         return Ok(());
