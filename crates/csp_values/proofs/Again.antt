@@ -1,23 +1,14 @@
 -- What a binding adds once more changes nothing.
-use Rattle.std.proofs.Common.{◌≡◌, ℕ, ◌+◌, Bool, true, false, cond, ◌||◌, Ok, Err, List, [], ◌∷◌, ◌++◌, map, refl, ap, sym, ◌∙◌, inr, arith}
-use Rattle.std.specs.Prelude.{if◌then◌else◌, IsTrue, nat_lt}
+use Rattle.csp_base.proofs.Standard.{or_right}
+use Rattle.csp_values.proofs.Prelude.{◌≡◌, ℕ, ◌+◌, Bool, true, false, cond, ◌||◌, Ok, Err, List, [], ◌∷◌, ◌++◌, map, refl, ap, sym, ◌∙◌, inr, arith, if◌then◌else◌, IsTrue, nat_lt, Atom, added, all_added, limited, Outcome, and_then, Env, Front, Gathered, Meaning, as_atom, front, front_events, fronts_added, gathered, items_added, meanings, uses_within, EventPart, Expr, Kind, SetLimit, Channel, Content, came_through, one_more_binding, with_fronts, with_items, yielded}
 use Rattle.std.proofs.lemmas.Bool.{false≢true}
 use Rattle.csp_atoms.specs.Prelude.{kind_of, same, AllOfKind, IsOneKind, fits, has_atom, with_atom}
-use Rattle.csp_atoms.specs.declared.atom.Atom.{Atom}
 use Rattle.csp_atoms.specs.declared.atom.Atom.TheVariants as atom
 use Rattle.csp_atoms.proofs.OrderLaws.{same_exact, same_itself}
-use Rattle.csp_program.specs.Prelude.{added, all_added, limited, Outcome, and_then, Env, Front, Gathered, Meaning, as_atom, front, front_events, fronts_added, gathered, items_added, meanings, uses_within}
-use Rattle.csp_program.specs.declared.expressions.EventPart.{EventPart}
-use Rattle.csp_program.specs.declared.expressions.Expr.{Expr}
-use Rattle.csp_program.specs.declared.kinds.ValueKind.TheVariants.{Kind, SetLimit}
-use Rattle.csp_program.specs.declared.programs.Channel.{Channel}
-use Rattle.csp_program.specs.declared.programs.Content.{Content}
-use Rattle.csp_program.proofs.Outcomes.{came_through}
 use Rattle.value_laws.specs.Bindings.{IsSetValue}
 use Rattle.value_laws.proofs.Fronts.{all_grow}
 use Rattle.value_operators.proofs.Held.{with_member}
 use Rattle.value_operators.proofs.SetSteps.{limited_few}
-use Rattle.csp_values.specs.Worth.{one_more_binding, with_fronts, with_items, yielded}
 use Rattle.dl_limits.specs.declared.TheConstants.{MOST_BINDINGS}
 
 -- ---- members that are added
@@ -44,11 +35,7 @@ members_added : (xs ys : List Atom) → IsSetValue xs → ((a : Atom) → IsTrue
 members_added xs [] set all = refl
 members_added xs (y ∷ ys) set all =
     ap (λ o. and_then o (λ more. all_added more ys)) (member_added xs y set (all y (ap (λ b. b || has_atom ys y) (same_itself y)))) ∙
-    members_added xs ys set (λ a has. all a (or_last (same y a) (has_atom ys a) has))
-  where
-    or_last : (b c : Bool) → c ≡ true → (b || c) ≡ true
-    or_last true c h = refl
-    or_last false c h = h
+    members_added xs ys set (λ a has. all a (or_right (same y a) (has_atom ys a) has))
 
 -- ---- what a binding adds is a list of atoms
 

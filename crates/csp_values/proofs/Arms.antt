@@ -1,35 +1,12 @@
 -- What a call answers for a form, from what calls answer for its parts.
-use Rattle.std.proofs.Common.{◌≡◌, ℕ, zero, suc, ◌+◌, ◌<◌, ◌^◌, Bool, true, false, List, [], None, Ok, Err, length, refl, ap, sym, subst, ◌∙◌, arith}
-use Rattle.std.specs.Prelude.{ℤ, if◌then◌else◌, slice_get, Result}
-use Rattle.std.specs.Result.{IsErrAnd}
-use Rattle.csp_program.specs.Prelude.{all_added, Outcome, and_then, Env, Gathered, bound_value, many, number, one_event, range, set_binary, as_number, as_set, sets_of, as_truth}
-use Rattle.csp_program.specs.declared.expressions.EventPart.{EventPart}
-use Rattle.csp_program.specs.declared.expressions.Expr.{Expr}
-use Rattle.csp_program.specs.declared.expressions.Expr.TheOpen.{Expr-F}
-use Rattle.csp_program.specs.declared.expressions.Expr.TheViews.{out-EventPart}
-use Rattle.csp_program.specs.declared.kinds.ValueKind.{ValueKind}
-use Rattle.csp_program.specs.declared.kinds.ValueKind.TheVariants.{Kind, OutsideChannel}
-use Rattle.csp_program.specs.declared.programs.Channel.{Channel}
-use Rattle.csp_program.specs.declared.programs.Content.{Content}
-use Rattle.value_laws.specs.Numbers.{ChannelsFit, events_from, span}
-use Rattle.csp_atoms.specs.declared.atom.Atom.{Atom}
-use Rattle.csp_atoms.specs.declared.value.Value.{Value}
-use Rattle.csp_atoms.specs.declared.value.Value.TheVariants.{One}
+use Rattle.csp_values.proofs.Prelude.{◌≡◌, ℕ, zero, suc, ◌+◌, ◌<◌, ◌^◌, Bool, true, false, List, [], None, Ok, Err, length, refl, ap, sym, subst, ◌∙◌, arith, ℤ, if◌then◌else◌, slice_get, Result, IsErrAnd, all_added, Outcome, and_then, Env, Gathered, bound_value, many, number, one_event, range, set_binary, as_number, as_set, sets_of, as_truth, EventPart, Expr, Expr-F, out-EventPart, ValueKind, Kind, OutsideChannel, Channel, Content, ChannelsFit, events_from, span, Atom, Value, One, BinOp, SetOp, negative, inverse, operation, named_set, a_set, gathered_set, produced, count_with, Gives, EvalFault, worth, worths, number_worth, truth_worth, atoms_worth, chosen, range_of, set_of, use_worth, with_items, event_worth, front_worth, with_front, with_fronts, one_more_binding, GivesTally, Course, GivesBinding, faulty, skipped, Walk, and_then_regroup}
 use Rattle.csp_atoms.specs.declared.atom.Atom.TheVariants as atom
-use Rattle.csp_base.specs.declared.operators.BinOp.{BinOp}
-use Rattle.csp_base.specs.declared.operators.SetOp.{SetOp}
 use Rattle.csp_program.specs.declared.expressions.Expr.TheVariants as expr
 use Rattle.value_operators.specs.Forms as form
-use Rattle.value_operators.specs.Prelude.{negative, inverse, operation, named_set, a_set, gathered_set, produced, count_with, Gives}
-use Rattle.value_operators.specs.declared.fault.EvalFault.{EvalFault}
 use Rattle.value_operators.specs.declared.fault.EvalFault.TheVariants as fault
-use Rattle.csp_values.specs.Worth.{worth, worths, number_worth, truth_worth, atoms_worth, chosen, range_of, set_of, use_worth, with_items, event_worth, front_worth, with_front, with_fronts, one_more_binding, GivesTally}
-use Rattle.csp_values.specs.Course.{Course, GivesBinding, faulty, skipped}
 use Rattle.csp_values.specs.declared.tally.Tally.{Tally}
-use Rattle.csp_values.specs.declared.walk.Walk.{Walk}
 use Rattle.csp_values.proofs.Equations as eq
 use Rattle.csp_values.proofs.FieldSteps.{front_fits}
-use Rattle.csp_program.proofs.Outcomes.{and_then_regroup}
 use Rattle.dl_limits.specs.declared.TheConstants.{MOST_BINDINGS}
 
 pub same : {A : Type 0} (r : Result A EvalFault) (o o' : Outcome A) → o ≡ o' → Gives r o' → Gives r o

@@ -1,28 +1,11 @@
 -- What walks over generators come to, as they go on, and what is gathered over them.
-use Rattle.std.proofs.Common.{◌≡◌, ℕ, zero, suc, ◌+◌, ◌<◌, ◌≤◌, Bool, true, false, cond, Option, Some, None, Ok, Err, List, [], ◌∷◌, ◌++◌, map, length, drop, slice_get, refl, ap, sym, subst, ◌∙◌, arith, append_assoc, append-nil, drop_of_length-le}
+use Rattle.csp_values.proofs.Prelude.{◌≡◌, ℕ, zero, suc, ◌+◌, ◌<◌, ◌≤◌, Bool, true, false, cond, Option, Some, None, Ok, Err, List, [], ◌∷◌, ◌++◌, map, length, drop, slice_get, refl, ap, sym, subst, ◌∙◌, arith, append_assoc, append-nil, drop_of_length-le, MatchOption, Result, IsErrAnd, Outcome, and_then, Env, Gathered, Turn, from, when, as_set, as_truth, gathered, over, turn, uses_within, walked, EventPart, Expr, Gen, ValueKind, Content, Atom, One, and_then_regroup, Gives, EvalFault, with_bound, Course, GivesStep, no_more, faulty, one, step, skipped, unless_faulty, each_taken, bindings, turns_from, after, at_turn, course_over, name_of, IsUnder, begun, taken, taken_as, worth, truth_worth, atoms_worth, one_more_binding, walk_worth, yielded, Walk}
 use Rattle.std.proofs.lemmas.List.{length_push, map-append, same_from_push}
-use Rattle.std.specs.Prelude.{MatchOption, Result}
-use Rattle.std.specs.Result.{IsErrAnd}
-use Rattle.csp_program.specs.Prelude.{Outcome, and_then, Env, Gathered, Turn, from, when, as_set, as_truth, gathered, over, turn, uses_within, walked}
-use Rattle.csp_program.specs.declared.expressions.EventPart.{EventPart}
-use Rattle.csp_program.specs.declared.expressions.Expr.{Expr}
-use Rattle.csp_program.specs.declared.expressions.Gen.{Gen}
-use Rattle.csp_program.specs.declared.kinds.ValueKind.{ValueKind}
-use Rattle.csp_program.specs.declared.programs.Content.{Content}
-use Rattle.csp_atoms.specs.declared.atom.Atom.{Atom}
-use Rattle.csp_atoms.specs.declared.value.Value.TheVariants.{One}
 use Rattle.csp_program.specs.declared.expressions.Gen.TheVariants as generator
-use Rattle.csp_program.proofs.Outcomes.{and_then_regroup}
-use Rattle.value_operators.specs.Prelude.{Gives}
-use Rattle.value_operators.specs.declared.fault.EvalFault.{EvalFault}
-use Rattle.value_operators.specs.Env.{with_bound}
 use Rattle.value_operators.specs.declared.fault.EvalFault.TheVariants as fault
 use Rattle.value_operators.proofs.NameLaws.{with_bound-last}
-use Rattle.csp_values.specs.Course.{Course, GivesStep, no_more, faulty, one, step, skipped, unless_faulty, each_taken, bindings, turns_from, after, at_turn, course_over, name_of, IsUnder, begun, taken, taken_as}
-use Rattle.csp_values.specs.Worth.{worth, truth_worth, atoms_worth, one_more_binding, walk_worth, yielded}
 use Rattle.csp_values.specs.declared.walk.Frame.{Frame}
 use Rattle.csp_values.specs.declared.walk.Step.{Step}
-use Rattle.csp_values.specs.declared.walk.Walk.{Walk}
 use Rattle.csp_values.proofs.Equations.{turn-Cond, turn-From}
 
 -- how many steps and bindings are left

@@ -1,23 +1,7 @@
 -- The fields of an event, one after another, in numbers that count so many for one.
-use Rattle.std.proofs.Common.{◌≡◌, ℕ, zero, suc, ◌+◌, ◌-◌, ◌*◌, ◌<◌, ◌≤◌, ◌^◌, min, List, [], ◌∷◌, Some, Ok, Err, Bool, true, false, cond, length, drop, drop_of_length-le, get_or, refl, ap, sym, ◌∙◌, subst, arith}
-use Rattle.std.specs.Prelude.{nat_eq, slice_get}
-use Rattle.csp_program.specs.Prelude.{row_count, Outcome, and_then, Env, meanings, sets_of, event_table}
-use Rattle.csp_program.specs.declared.expressions.Expr.{Expr}
-use Rattle.csp_program.specs.declared.kinds.ValueKind.{ValueKind}
-use Rattle.csp_program.specs.declared.kinds.ValueKind.TheVariants.{OutsideChannel}
-use Rattle.csp_program.specs.declared.programs.Channel.{Channel}
-use Rattle.csp_program.specs.declared.programs.Content.{Content}
-use Rattle.value_laws.specs.Prelude.{field_place, first_of, ChannelsFit, front_count}
-use Rattle.csp_atoms.specs.declared.atom.Atom.{Atom}
-use Rattle.csp_atoms.specs.declared.value.Value.{Value}
-use Rattle.csp_atoms.specs.declared.value.Value.TheVariants.{One, Many}
-use Rattle.value_operators.specs.Forms.{capped, count_with, each_of, scaled}
+use Rattle.csp_values.proofs.Prelude.{◌≡◌, ℕ, zero, suc, ◌+◌, ◌-◌, ◌*◌, ◌<◌, ◌≤◌, ◌^◌, min, List, [], ◌∷◌, Some, Ok, Err, Bool, true, false, cond, length, drop, drop_of_length-le, get_or, refl, ap, sym, ◌∙◌, subst, arith, nat_eq, slice_get, row_count, Outcome, and_then, Env, meanings, sets_of, event_table, Expr, ValueKind, OutsideChannel, Channel, Content, field_place, first_of, ChannelsFit, front_count, Atom, Value, One, Many, capped, count_with, each_of, scaled, worth, fields_worth, front_worth, number_fits, drop_read, and_then_regroup, came_through}
 use Rattle.value_operators.proofs.EventSteps.{stops_left}
-use Rattle.csp_values.specs.Worth.{worth, fields_worth, front_worth}
 use Rattle.csp_values.proofs.Equations.{fields-nil, fields-none, fields-cons, front-some, same_count}
-use Rattle.value_laws.proofs.EventPlaces.{number_fits}
-use Rattle.csp_base.proofs.Lists.{drop_read}
-use Rattle.csp_program.proofs.Outcomes.{and_then_regroup, came_through}
 
 abbrev pub found : ℕ → Outcome ℕ
 found n = Ok n

@@ -4,6 +4,7 @@ pub mod Courses
 pub mod Equations
 pub mod Falls
 pub mod FieldSteps
+pub mod Prelude
 pub mod Stays
 pub mod Steps
 pub mod Weights

@@ -1,30 +1,10 @@
 -- What is worth the same under each binding of generators: forms whose parts are, and what bindings add, which then is what it is under the names
 -- around the generators.
-use Rattle.std.proofs.Common.{◌≡◌, ℕ, suc, ◌+◌, Bool, true, false, ◌||◌, nat_eq, Option, Some, None, Ok, Err, List, [], ◌∷◌, map, slice_get, refl, ap, sym, subst, ◌∙◌, arith}
-use Rattle.std.specs.Prelude.{if◌then◌else◌, ℤ, nat_lt}
-use Rattle.std.specs.List.{All}
-use Rattle.csp_atoms.specs.declared.atom.Atom.{Atom}
-use Rattle.csp_atoms.specs.declared.value.Value.{Value}
-use Rattle.csp_atoms.specs.declared.value.Value.TheVariants.{One}
+use Rattle.csp_base.proofs.Standard.{or_parts}
+use Rattle.csp_values.proofs.Prelude.{◌≡◌, ℕ, suc, ◌+◌, Bool, false, nat_eq, Option, Some, None, Ok, Err, List, [], ◌∷◌, map, slice_get, refl, ap, sym, subst, ◌∙◌, arith, if◌then◌else◌, ℤ, nat_lt, All, Atom, Value, One, BinOp, SetOp, added, all_added, events_with, Outcome, and_then, Env, Front, Gathered, Turn, as_atom, as_number, as_set, as_truth, bound_value, from, front_events, fronts_added, gathered, in_field, meaning, meanings, one_event, over, row_in, row_of, sets_of, turn, uses_within, walked, when, EventPart, Expr, Gen-F, out-EventPart, out-Gen, roll-Gen, roll-out-Gen, Gen, SetLimit, Content, with_bound, inverse, negative, operation, a_set, course_over, begun, AgreeBeside, PartStays, Stays, bind, binds_of_layer, atoms_worth, chosen, event_worth, number_worth, one_more_binding, range_of, set_of, truth_worth, use_worth, walk_worth, with_front, with_fronts, with_items, worth, worths, yielded, Walk}
 use Rattle.csp_atoms.specs.declared.atom.Atom.TheVariants as atom
-use Rattle.csp_base.specs.declared.operators.BinOp.{BinOp}
-use Rattle.csp_base.specs.declared.operators.SetOp.{SetOp}
-use Rattle.csp_program.specs.Prelude.{added, all_added, events_with, Outcome, and_then, Env, Front, Gathered, Turn, as_atom, as_number, as_set, as_truth, bound_value, from, front_events, fronts_added, gathered, in_field, meaning, meanings, one_event, over, row_in, row_of, sets_of, turn, uses_within, walked, when}
-use Rattle.csp_program.specs.declared.expressions.EventPart.{EventPart}
-use Rattle.csp_program.specs.declared.expressions.Expr.{Expr}
-use Rattle.csp_program.specs.declared.expressions.Expr.TheOpen.{Gen-F}
-use Rattle.csp_program.specs.declared.expressions.Expr.TheViews.{out-EventPart, out-Gen, roll-Gen, roll-out-Gen}
-use Rattle.csp_program.specs.declared.expressions.Gen.{Gen}
-use Rattle.csp_program.specs.declared.kinds.ValueKind.TheVariants.{SetLimit}
-use Rattle.csp_program.specs.declared.programs.Content.{Content}
 use Rattle.csp_program.specs.declared.expressions.Expr.TheVariants as expr
 use Rattle.csp_program.specs.declared.expressions.Gen.TheVariants as generator
-use Rattle.value_operators.specs.Env.{with_bound}
-use Rattle.value_operators.specs.Forms.{inverse, negative, operation, a_set}
-use Rattle.csp_values.specs.Course.{course_over, begun}
-use Rattle.csp_values.specs.Stays.{AgreeBeside, PartStays, Stays, bind, binds_of_layer}
-use Rattle.csp_values.specs.Worth.{atoms_worth, chosen, event_worth, number_worth, one_more_binding, range_of, set_of, truth_worth, use_worth, walk_worth, with_front, with_fronts, with_items, worth, worths, yielded}
-use Rattle.csp_values.specs.declared.walk.Walk.{Walk}
 use Rattle.csp_values.proofs.Arms as arm
 use Rattle.csp_values.proofs.Courses.{over_begun, over_course}
 use Rattle.csp_values.proofs.Equations.{front-is, fronts-cons, turn-Cond, turn-From}
@@ -171,10 +151,6 @@ pub ruleset forms_stay = (stays-Num, stays-Truth, stays-Const, stays-Bound, stay
 
 -- ---- the bindings of generators
 
-neither : (a b : Bool) → (a || b) ≡ false → (a ≡ false) × (b ≡ false)
-neither true b h = absurd cc
-neither false b h = (refl, h)
-
 module _ {S : Type 0} (p : Content) (n : ℕ) (all : List Gen) (g : Env → S → Outcome S) (around : Env)
     (same : (env : Env) → AgreeBeside all around env → (state : S) → g env state ≡ g around state) where
   abbrev Turns : List Gen → List Turn
@@ -209,8 +185,8 @@ module _ {S : Type 0} (p : Content) (n : ℕ) (all : List Gen) (g : Env → S �
   once [] within = λ env agree state. same env agree state
   once (gen ∷ gens) within =
       subst (λ (g : Gen). Once (turn (uses_within p n) p.channels g ∷ Turns gens)) (roll-out-Gen gen)
-      (by_layer (out-Gen gen) (Turns gens) (λ x free. (neither (binds_of_layer (out-Gen gen) x) (bind gens x) (within x free)).0)
-      (once gens (λ x free. (neither (binds_of_layer (out-Gen gen) x) (bind gens x) (within x free)).1)))
+      (by_layer (out-Gen gen) (Turns gens) (λ x free. (or_parts (binds_of_layer (out-Gen gen) x) (bind gens x) (within x free)).0)
+      (once gens (λ x free. (or_parts (binds_of_layer (out-Gen gen) x) (bind gens x) (within x free)).1)))
 
 -- what bindings add, where that is the same under each of them
 pub once_begun : (p : Content) (n : ℕ) (gens : List Gen) (items : List Expr) (parts : List EventPart) (around : List (ℕ × Atom)) (params : Env) (walk : Walk) (state : Gathered)

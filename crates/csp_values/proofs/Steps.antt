@@ -1,16 +1,6 @@
 -- Lists that are evaluated one element after another: what is left decides together with what has come so far.
-use Rattle.std.proofs.Common.{◌≡◌, ℕ, ◌+◌, ◌<◌, List, [], ◌∷◌, ◌++◌, Ok, Err, length, drop, drop_of_length-le, get_or, refl, ap, sym, ◌∙◌, append_assoc, append-nil}
-use Rattle.csp_program.specs.Prelude.{added, Outcome, and_then, Env, as_atom}
-use Rattle.csp_program.specs.declared.expressions.EventPart.{EventPart}
-use Rattle.csp_program.specs.declared.expressions.Expr.{Expr}
-use Rattle.csp_program.specs.declared.kinds.ValueKind.{ValueKind}
-use Rattle.csp_program.specs.declared.programs.Content.{Content}
-use Rattle.csp_atoms.specs.declared.atom.Atom.{Atom}
-use Rattle.csp_atoms.specs.declared.value.Value.{Value}
-use Rattle.csp_values.specs.Worth.{worth, worths, with_items, with_front, with_fronts}
+use Rattle.csp_values.proofs.Prelude.{◌≡◌, ℕ, ◌+◌, ◌<◌, List, [], ◌∷◌, ◌++◌, Ok, Err, length, drop, drop_of_length-le, get_or, refl, ap, sym, ◌∙◌, append_assoc, append-nil, added, Outcome, and_then, Env, as_atom, EventPart, Expr, ValueKind, Content, Atom, Value, worth, worths, with_items, with_front, with_fronts, drop_read, and_then_regroup}
 use Rattle.csp_values.proofs.Equations.{worths-nil, worths-cons, with_items-cons, with_items-nil, fronts-cons, fronts-nil}
-use Rattle.csp_base.proofs.Lists.{drop_read}
-use Rattle.csp_program.proofs.Outcomes.{and_then_regroup}
 
 -- the values of expressions, after others
 unfoldable pub worths_after : Content → ℕ → Env → List Value → List Expr → Outcome (List Value)

@@ -1,15 +1,6 @@
 -- A weight for evaluation: each call that it makes is for less. A use of a definition costs more than any body weighs.
-use Rattle.std.proofs.Common.{◌≡◌, ℕ, zero, suc, ◌+◌, ◌-◌, ◌*◌, ◌<◌, ◌≤◌, List, [], ◌∷◌, Some, map, length, get_or, refl, ap, sym, ◌∙◌, arith}
-use Rattle.std.specs.Prelude.{slice_get}
-use Rattle.csp_program.specs.declared.expressions.EventPart.{EventPart}
-use Rattle.csp_program.specs.declared.expressions.Expr.{Expr, fold-Expr}
-use Rattle.csp_program.specs.declared.expressions.Expr.TheFolds.{fold-Gen, fold-EventPart, fold-roll-Expr, fold-roll-Gen, fold-roll-EventPart, map-Expr}
-use Rattle.csp_program.specs.declared.expressions.Expr.TheOpen.{Expr-F, Gen-F, EventPart-F}
-use Rattle.csp_program.specs.declared.expressions.Expr.TheViews.{out-EventPart, roll-Expr, roll-out-EventPart}
-use Rattle.csp_program.specs.declared.expressions.Gen.{Gen}
+use Rattle.csp_values.proofs.Prelude.{◌≡◌, ℕ, zero, suc, ◌+◌, ◌-◌, ◌*◌, ◌<◌, ◌≤◌, List, [], ◌∷◌, Some, map, length, get_or, refl, ap, sym, ◌∙◌, arith, slice_get, EventPart, Expr, fold-Expr, fold-Gen, fold-EventPart, fold-roll-Expr, fold-roll-Gen, fold-roll-EventPart, map-Expr, Expr-F, Gen-F, EventPart-F, out-EventPart, roll-Expr, roll-out-EventPart, Gen, Content, Def}
 use Rattle.csp_program.specs.declared.programs.Body.{Body}
-use Rattle.csp_program.specs.declared.programs.Content.{Content}
-use Rattle.csp_program.specs.declared.programs.Def.{Def}
 use Rattle.csp_program.specs.declared.expressions.Gen.TheVariants as generator
 use Rattle.csp_program.specs.declared.programs.Body.TheVariants as body
 use Rattle.csp_base.specs.Lists.{total}

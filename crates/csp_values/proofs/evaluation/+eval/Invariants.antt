@@ -1,7 +1,4 @@
-use Rattle.std.proofs.Common.{◌≡◌, Ok, ◌≤◌, ◌+◌, ◌-◌, ◌^◌, drop}
-use Rattle.value_operators.specs.Prelude.{env_in, capped, scaled}
-use Rattle.csp_values.specs.Course.{IsUnder, course, skipped}
-use Rattle.csp_values.specs.Worth.{worths, with_items, with_fronts, fields_worth, gathered_of, one_more_binding, walk_worth, yielded}
+use Rattle.csp_values.proofs.Prelude.{◌≡◌, Ok, ◌≤◌, ◌+◌, ◌-◌, ◌^◌, drop, env_in, capped, scaled, IsUnder, course, skipped, worths, with_items, with_fronts, fields_worth, gathered_of, one_more_binding, walk_worth, yielded}
 use Rattle.csp_values.proofs.Courses.{over_course, size}
 use Rattle.csp_values.proofs.FieldSteps.{fields_after}
 use Rattle.csp_values.proofs.Steps.{worths_after}

@@ -1,5 +1,4 @@
-use Rattle.std.specs.List.{AllWithin}
-use Rattle.csp_values.specs.Stays.{Stays}
+use Rattle.csp_values.proofs.Prelude.{AllWithin, Stays}
 use Rattle.csp_values.proofs.reads.+reads.Given as goal
 
 -- the expressions that were passed stay

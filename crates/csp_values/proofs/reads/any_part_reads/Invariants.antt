@@ -1,5 +1,4 @@
-use Rattle.std.specs.List.{AllWithin}
-use Rattle.csp_values.specs.Stays.{PartStays}
+use Rattle.csp_values.proofs.Prelude.{AllWithin, PartStays}
 use Rattle.csp_values.proofs.reads.any_part_reads.Given as goal
 
 -- the fields of the events that were passed stay

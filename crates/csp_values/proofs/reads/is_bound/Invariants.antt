@@ -1,5 +1,4 @@
-use Rattle.std.proofs.Common.{◌≡◌, drop}
-use Rattle.csp_values.specs.Stays.{bind}
+use Rattle.csp_values.proofs.Prelude.{◌≡◌, drop, bind}
 use Rattle.csp_values.proofs.reads.is_bound.Given as goal
 
 -- none of the generators that were passed binds the name

@@ -1,5 +1,4 @@
-use Rattle.std.proofs.Common.{[], ap, sym, ◌∙◌}
-use Rattle.csp_values.specs.Worth.{worth}
+use Rattle.csp_values.proofs.Prelude.{[], ap, sym, ◌∙◌, worth}
 use Rattle.csp_values.proofs.Arms.{same}
 use Rattle.csp_values.proofs.Equations.{whole_value}
 use Rattle.csp_values.proofs.whole.eval_fitting.Goals as goal
