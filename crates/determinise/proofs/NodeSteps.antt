@@ -3,6 +3,7 @@ use Rattle.determinise.proofs.Prelude.{◌≡◌, ℕ, zero, suc, ◌+◌, ◌<�
 use Rattle.std.specs.List.Sorted.{IsStrictlyIncreasing}
 use Rattle.determinise.proofs.Groups.{IsGroup, event_at, group_targets, event_place, events_more, next_of_group, some_next}
 use Rattle.determinise.proofs.MoreSets.{more_then_more, more_of_kind, meets_then}
+use Rattle.dl_limits.specs.declared.TheConstants.{MOST_SETS}
 
 abbrev events_of_steps : List (ℕ × ℕ) → List ℕ
 events_of_steps next = map (λ step. step.0) next
