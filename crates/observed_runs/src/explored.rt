@@ -48,9 +48,8 @@ impl Explored {
             return Ok(());
         }
         self.origins.reserve(1)?;
-        if self.pairs.insert(pair)? {
-            self.origins.push(origin)?;
-        }
+        self.pairs.insert_new(pair)?;
+        self.origins.push(origin)?;
         Ok(())
     }
 

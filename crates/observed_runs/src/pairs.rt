@@ -60,14 +60,24 @@ impl Pairs {
         ensures listed { OnOk result (HasPair self.new pair) }
         ensures same { OnErr result (self.new ≡ self.old) }
     {
-        if has_mark(&self.seen, pair) {
+        if self.contains(pair) {
             return Ok(false);
         }
+        self.insert_new(pair)?;
+        Ok(true)
+    }
+
+    /// Puts a pair at the end that is not there.
+    pub fn insert_new(&mut self, pair: (u32, u32)) -> Result<(), NoMemory>
+        requires { HasPair self.old pair → ⊥ }
+        ensures ok { OnOk result (self.new ≡ self.old ++ pair ∷ []) }
+        ensures err { OnErr result (self.new ≡ self.old) }
+    {
         make_room(self.alloc, &mut self.seen, pair.0)?;
         self.pairs.reserve(1)?;
         self.seen[pair.0 as usize].insert(Event(pair.1))?;
         self.pairs.push(pair)?;
-        Ok(true)
+        Ok(())
     }
 }
 

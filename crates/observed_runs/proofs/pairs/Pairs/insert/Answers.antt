@@ -1,13 +1,6 @@
-use Rattle.observed_runs.proofs.Prelude.{◌≡◌, ◌++◌, ◌∷◌, [], ℕ, List, get_or, set, ap, sym, subst, rules, ◌∙◌, get_or_read, with_member, AreMarked}
-use Rattle.observed_runs.proofs.Marking.{one_more}
+use Rattle.observed_runs.proofs.Prelude.{ℕ, List, sym, subst, HasPair}
+use Rattle.observed_runs.proofs.Growing.{listed_last}
 use Rattle.observed_runs.proofs.pairs.Pairs.insert.Goals as goal
 
-pub invariant_of-self-2 : goal.invariant_of-self-2
-invariant_of-self-2 c =
-    let old = c.self.inside in
-    let pairs : c.push.new.self.items ≡ c.self.inside.pairs.items ++ c.args.pair ∷ [] = search rules in
-    let marks : c.insert.new.self ≡ with_member c.args.pair.1 (get_or c.make_room.new.seen.items c.args.pair.0 []) =
-    c.in_ok-insert.ensures.ok ∙ ap (with_member c.args.pair.1) (get_or_read c.make_room.new.seen.items c.args.pair.0 c.index_mut.result.now c.in_ok-make_room.ensures.room c.index_mut.ensures.value []) in
-    subst (λ (ps : List (ℕ × ℕ)). AreMarked ps (set c.make_room.new.seen.items c.args.pair.0 c.insert.new.self)) (sym pairs)
-    (subst (λ (seconds : List ℕ). AreMarked (old.pairs.items ++ c.args.pair ∷ []) (set c.make_room.new.seen.items c.args.pair.0 seconds)) (sym marks)
-    (one_more c.make_room.new.seen.items c.args.pair c.in_ok-make_room.ensures.room old.pairs.items old.seen.items c.self.invariant (search rules) c.make_room.ensures.same))
+pub returns-clause-listed : goal.returns-clause-listed
+returns-clause-listed c = subst (λ (ps : List (ℕ × ℕ)). HasPair ps c.args.pair) (sym c.in_ok-insert_new.ensures.ok) (listed_last c.args.self.now c.args.pair)
