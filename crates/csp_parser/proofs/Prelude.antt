@@ -1,6 +1,7 @@
 -- What the proofs of this crate cite of the crates below, and of its own definitions.
 pub use Rattle.csp_base.proofs.Standard.{IfOk-weaker, false≢true, length-map, nat_tests, take-append-drop}
 pub use Rattle.csp_base.specs.declared.place.Place.{Place}
+pub use Rattle.csp_base.specs.declared.stop.Stop.{Stop}
 pub use Rattle.csp_grammar.specs.Declarations.{AssertedText, DeclarationText, DeclarationsText, ModelText, NamesText, ParametersText, ScriptText, TypesText}
 pub use Rattle.csp_grammar.specs.Reader.{and_then}
 pub use Rattle.csp_lexer.specs.Prelude.{Piece, PlacedTokens, added, asserted, before, beginning, begins_assertion, behind_all, cut_line, digits_len, is_blank, is_deadlock_assertion, is_space, lexed, line_len, nothing_before, number_token, one_at, one_before, resource, rest_len, roles, symbol_at, symbol_with_len, then_cut, tokens_of, with_len, word_len, word_token, words_of}
@@ -18,4 +19,4 @@ pub use Rattle.tree_parser.proofs.ListSteps.{item_missing, last_item_read, later
 pub use Rattle.tree_parser.proofs.SoFar.{Comes, SoFar}
 pub use Rattle.tree_parser.specs.Reads.{Reads}
 pub use Rattle.tree_reading.specs.Prelude.{Limited, Settles, limited, name_that, named, read_declaration, sure}
-pub use Rattle.tree_reading.specs.declared.fault.ReadFault.{ReadFault}
+pub use Rattle.tree_reading.specs.declared.fault.NoText.{NoText}

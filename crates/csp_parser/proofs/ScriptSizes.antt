@@ -4,7 +4,6 @@ use Rattle.csp_parser.proofs.Prelude.{◌≡◌, ℕ, ◌+◌, ◌≤◌, max, L
 use Rattle.csp_base.specs.Lists.{greatest}
 use Rattle.csp_grammar.specs.Declarations as d
 use Rattle.csp_text.specs.Prelude.{tree_depth}
-use Rattle.csp_text.specs.declared.fault.ParseFault.{ParseFault}
 use Rattle.dl_limits.specs.declared.TheConstants.{MOST_BYTES, MOST_TREE_DEPTH}
 use Rattle.csp_parser.specs.Sizes.{SpelledScriptsAreSmall}
 use Rattle.csp_parser.proofs.TokenCounts.{no_more_than_bytes}
@@ -85,6 +84,6 @@ spelled_small text script s within =
     record { few = at_most (size script.decls) (length text) MOST_BYTES fits within; shallow = declarations_shallow s.spelled }
 
 -- what the script owes that was read of the tokens of a text
-pub read_small : (text : List ℕ) (found : PlacedTokens) (r : Result Script ParseFault) → lexed text ≡ Ok found → IfOk r (λ script. ScriptText (tokens_of found.placed) script)
+pub read_small : {E : Type 0} (text : List ℕ) (found : PlacedTokens) (r : Result Script E) → lexed text ≡ Ok found → IfOk r (λ script. ScriptText (tokens_of found.placed) script)
     → IfOk r (λ script. length text ≤ MOST_BYTES → AreSmall script.decls)
 read_small text found r cut spelled = IfOk-weaker r _ _ (λ script s. spelled_small text script (record { found = found; cut = cut; spelled = s })) spelled

@@ -21,7 +21,7 @@ use comparison::compare_networks;
 use containers::Key;
 use csp_base::{NoMemory, Stop};
 use csp_parser::{each_text_spells_one_script, read};
-use csp_text::{ParseFault, Script};
+use csp_text::{NoScript, Script};
 use judgement::judge_by;
 use livelock::bound_hidden;
 use network_stages::{Spelled, spell_network};
@@ -32,14 +32,14 @@ use std::alloc::Global;
 use tabulation::tabulate;
 
 // Why a walk stops at a text of this side that is no script.
-fn unread(side: Side, fault: ParseFault) -> Stop<Answer>
-    ensures { result ≡ no_script side fault }
+fn unread(side: Side, why: Stop<NoScript>) -> Stop<Answer>
+    ensures { result ≡ no_script side why }
 {
-    match fault {
-        ParseFault::NoScript { at } => {
+    match why {
+        Stop::Told(NoScript { at }) => {
             Stop::Told(Answer::NoProgram(side, TextFault::NoScript { at }))
         }
-        ParseFault::NoMemory => Stop::NoMemory,
+        Stop::NoMemory => Stop::NoMemory,
     }
 }
 
