@@ -10,7 +10,7 @@ ghost use Rattle.dl_top.specs.Kept.{Kept};
 ghost use Rattle.dl_top.specs.Promised.{IsStuckRun, Promised};
 ghost use Rattle.dl_top.specs.Proved.{IsFree};
 
-use crate::load::printed_reply;
+use crate::load::print_reply;
 use crate::send::send;
 use command_words::Words;
 use dl_outside::{Shelf, Sink, SinkFault};
@@ -31,7 +31,7 @@ fn report_to<S: Shelf, O: Sink>(alloc: Global, words: &Words, shelf: &mut S, out
     ensures shelf_counts_never_fall { NeverFall (S.counts shelf.old) (S.counts shelf.new) }
     ensures sink_faults_never_fall { O.faults out.old ≤ O.faults out.new }
 {
-    let Ok(printed) = printed_reply(alloc, words, shelf) else {
+    let Ok(printed) = print_reply(alloc, words, shelf) else {
         return NO_MEMORY;
     };
     match send(out, printed.text.as_slice()) {

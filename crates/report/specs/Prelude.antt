@@ -8,4 +8,4 @@ pub use Rattle.report.specs.Sides.{side_line, side_name}
 pub use Rattle.report.specs.Report.{conforms_text, deadlock_free_text, done_text, livelock_free_text, refused_text, report_text, rule_text, run_text, status, verdict_status, verdict_text}
 pub use Rattle.report.specs.Points.{Point, RefusedOr, RefusedUnless, UnprovedOr, UnprovedUnless}
 pub use Rattle.report.specs.Points.Point.{passed, told}
-pub use Rattle.report.specs.Stops.{Answers, Ends, HaltsWith, IsEnd, IsVerdict, refused, unproved}
+pub use Rattle.report.specs.Stops.{Answers, Ends, HaltsWith, IsEnd, IsVerdict, refuse, unproved}

@@ -2,7 +2,7 @@ use Rattle.dl_top.proofs.Prelude.{inr, ap, TextIsShown}
 use Rattle.report.specs.declared.answer.Answer.TheVariants as answer
 use Rattle.dl_top.proofs.Judging.{at_script}
 use Rattle.dl_top.proofs.Walks.{at_short}
-use Rattle.dl_top.proofs.judge.text_shown.Goals as goal
+use Rattle.dl_top.proofs.judge.show_text.Goals as goal
 
 pub returns-in_err-script : goal.returns-in_err-script
 returns-in_err-script c = at_script c.args.text.now c.from_residual.result _ c.from_residual.ensures.1 c.in_err-script.ensures.told

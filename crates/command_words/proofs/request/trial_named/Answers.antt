@@ -2,7 +2,7 @@ use Rattle.command_words.proofs.Prelude.{◌≡◌, ◌<◌, ◌≤◌, ℕ, Lis
 use Rattle.command_words.proofs.AskOnce.{few}
 use Rattle.command_words.proofs.Digits.{same_number}
 use Rattle.command_words.proofs.Names.{same_family}
-use Rattle.command_words.proofs.request.named_trial.Goals as goal
+use Rattle.command_words.proofs.request.trial_named.Goals as goal
 
 -- a family that hasn't the size
 unnamed : (name number : List ℕ) (f : Family) (n : ℕ) (found : Option Trial) → name ≡ family_name f → n < 1000000 → number ≡ decimal n

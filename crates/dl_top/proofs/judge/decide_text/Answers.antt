@@ -1,7 +1,7 @@
 use Rattle.dl_top.proofs.Judging.{at_network, decides}
 use Rattle.dl_top.proofs.Walks.{at_short, is_verdict}
 use Rattle.dl_top.specs.Judgement.{NetworkDecides, TextCallsFor}
-use Rattle.dl_top.proofs.judge.text_decided.Goals as goal
+use Rattle.dl_top.proofs.judge.decide_text.Goals as goal
 
 pub returns-in_err-network : goal.returns-in_err-network
 returns-in_err-network c = at_network c.args.text.now c.args.job.now c.from_residual.result _ c.from_residual.ensures.1 c.in_err-network.ensures.told

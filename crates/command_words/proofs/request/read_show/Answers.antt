@@ -1,6 +1,6 @@
 use Rattle.command_words.proofs.Prelude.{sym, ◌∙◌, bytes_eq-Decides}
 use Rattle.command_words.proofs.Items.{two_words}
-use Rattle.command_words.proofs.request.asked_show.Goals as goal
+use Rattle.command_words.proofs.request.read_show.Goals as goal
 
 pub returns-in-len2-clause-asks : goal.returns-in-len2-clause-asks
 returns-in-len2-clause-asks c = two_words _ _ _ _ _ _

@@ -1,6 +1,6 @@
 use Rattle.command_words.proofs.Prelude.{sym, ◌∙◌, bytes_eq-Decides}
 use Rattle.command_words.proofs.Items.{four_words}
-use Rattle.command_words.proofs.request.asked_run.Goals as goal
+use Rattle.command_words.proofs.request.read_run.Goals as goal
 
 pub returns-in-Some-spelled_number-clause-asks : goal.returns-in-Some-spelled_number-clause-asks
 returns-in-Some-spelled_number-clause-asks c = record {

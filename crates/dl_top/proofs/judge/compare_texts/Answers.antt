@@ -1,7 +1,7 @@
 use Rattle.dl_top.proofs.Prelude.{IsCompared, TextsCompare}
 use Rattle.dl_top.proofs.Judging.{at_script_network, at_specified_network, compares}
 use Rattle.dl_top.proofs.Walks.{at_short, is_verdict}
-use Rattle.dl_top.proofs.judge.compared_texts.Goals as goal
+use Rattle.dl_top.proofs.judge.compare_texts.Goals as goal
 
 pub returns-in_err-network : goal.returns-in_err-network
 returns-in_err-network c = at_script_network c.args.text.now c.args.specification.now c.from_residual.result _ c.from_residual.ensures.1 c.in_err-network.ensures.told

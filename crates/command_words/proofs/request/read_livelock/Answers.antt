@@ -1,6 +1,6 @@
 use Rattle.command_words.proofs.Prelude.{refl, sym, ◌∙◌, bytes_eq-Decides}
 use Rattle.command_words.proofs.Items.{three_words}
-use Rattle.command_words.proofs.request.asked_livelock.Goals as goal
+use Rattle.command_words.proofs.request.read_livelock.Goals as goal
 
 pub returns-in-len3-clause-asks : goal.returns-in-len3-clause-asks
 returns-in-len3-clause-asks c = record {

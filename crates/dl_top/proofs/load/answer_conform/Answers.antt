@@ -3,7 +3,7 @@ use Rattle.command_words.specs.declared.request.Request.TheVariants as request
 use Rattle.report.specs.declared.answer.Side.TheVariants as side
 use Rattle.dl_top.proofs.Loading.{at_load, at_second}
 use Rattle.dl_top.proofs.Walks.{at_short}
-use Rattle.dl_top.proofs.load.conforming.Goals as goal
+use Rattle.dl_top.proofs.load.answer_conform.Goals as goal
 
 pub returns-in_err-text-clause-calls : goal.returns-in_err-text-clause-calls
 returns-in_err-text-clause-calls g c =

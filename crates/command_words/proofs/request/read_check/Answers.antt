@@ -1,6 +1,6 @@
 use Rattle.command_words.proofs.Prelude.{refl, sym, ◌∙◌, bytes_eq-Decides}
 use Rattle.command_words.proofs.Items.{three_words}
-use Rattle.command_words.proofs.request.asked_check.Goals as goal
+use Rattle.command_words.proofs.request.read_check.Goals as goal
 
 pub returns-in-Some-clause-asks : goal.returns-in-Some-clause-asks
 returns-in-Some-clause-asks c =
