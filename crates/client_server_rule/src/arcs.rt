@@ -57,7 +57,7 @@ fn arc(rows: &mut Rows, network: &Network<'_>, link: u32) -> Result<(), NoMemory
     ensures complete { OnOk result ((i j : ℕ) → ServesOn network.now link i j → HasArc rows.new i j) }
 {
     let _linked = network.shape();
-    let ends = network.prepared().link(link);
+    let ends = network.sorted_shape().link(link);
     let (left, right) = (ends.left(), ends.right());
     if network.asks(left, link) {
         rows.add_arc(left, right)?;

@@ -16,7 +16,7 @@ use design_rules::RuleFault;
 use digraph::{Fault, Heights, Rows, longest_walks};
 use resource_conditions::{check_grants, check_kinds, check_turns};
 use rule_rankings::resource_ranking;
-use shape_links::{Setting, turned};
+use shape_links::{Setting, turn_circle};
 use std::alloc::Global;
 
 /// The ranking of a network of users and resources, or what breaks the rule.
@@ -78,7 +78,7 @@ fn numbers(alloc: Global, setting: &Setting<'_>, rows: &Rows) -> Result<Heights,
     match longest_walks(alloc, rows) {
         Ok(heights) => Ok(heights),
         Err(Fault::Circle(circle)) => {
-            let resources = turned(alloc, circle.members())?;
+            let resources = turn_circle(alloc, circle.members())?;
             Err(Stop::Told(RuleFault::ResourcesCircle { resources }))
         }
         Err(Fault::NoMemory) => Err(Stop::NoMemory),

@@ -47,7 +47,7 @@ fn odd_by_origins(
     let pairs = explored.pairs();
     for place in 1..pairs.len() {
         let (from, event) = explored.origin(place);
-        let set = after(
+        let set = set_after(
             alloc,
             component,
             watched,
@@ -110,7 +110,7 @@ fn is_kept_from(
     let _form = component.shape.shape();
     let steps = component.steps(node);
     for (event, target) in steps {
-        let set = after(alloc, component, watched, &odd[node as usize], *event)?;
+        let set = set_after(alloc, component, watched, &odd[node as usize], *event)?;
         if set != odd[*target as usize] {
             return Ok(false);
         }
@@ -119,7 +119,7 @@ fn is_kept_from(
 }
 
 // The set after one event more.
-fn after(
+fn set_after(
     alloc: Global,
     component: &Component<'_>,
     watched: &EventSet,
@@ -130,13 +130,13 @@ fn after(
 {
     let _form = component.shape.shape();
     match component.shape.owner(event) {
-        Some(link) => turned_if_watched(alloc, watched, odd, Event(link)),
+        Some(link) => toggle_if_watched(alloc, watched, odd, Event(link)),
         None => odd.try_clone(alloc),
     }
 }
 
 // The set without the link, or with it where it is no member, if the link is watched.
-fn turned_if_watched(
+fn toggle_if_watched(
     alloc: Global,
     watched: &EventSet,
     odd: &EventSet,
@@ -146,13 +146,13 @@ fn turned_if_watched(
         ≡ (if has watched.now l && nat_eq link l then not (has odd.now l) else has odd.now l)) }
 {
     if watched.contains(link) {
-        return turned(alloc, odd, link);
+        return toggle(alloc, odd, link);
     }
     odd.try_clone(alloc)
 }
 
 // The set without its member, or with it where it is none.
-fn turned(alloc: Global, set: &EventSet, member: Event) -> Result<EventSet, NoMemory>
+fn toggle(alloc: Global, set: &EventSet, member: Event) -> Result<EventSet, NoMemory>
     ensures { IfOk result (λ made. (x : ℕ) → has made x
         ≡ (if nat_eq member x then not (has set.now x) else has set.now x)) }
 {

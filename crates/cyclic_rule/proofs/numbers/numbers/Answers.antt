@@ -8,7 +8,7 @@ use Rattle.cyclic_rule.proofs.numbers.numbers.Goals as goal
 
 pub returns-in-Ok-clause-chains : goal.returns-in-Ok-clause-chains
 returns-in-Ok-clause-chains c =
-    let shape = c.args.prepared.now in
+    let shape = c.args.sorted.now in
     let orders = c.args.orders.now in
     let w = c.shape-form.ensures.form in
     let rise = all_rise shape orders w c.requires.keep c.requires.orders (slice_index c.in-Ok.heights) (λ l m x. c.in-Ok.ensures.falls m l (c.in_ok-rows.ensures.complete m l x)) in
@@ -16,7 +16,7 @@ returns-in-Ok-clause-chains c =
     (λ l h. c.in-Ok.ensures.heights.each l (subst (λ n. l < n) (sym c.in_ok-rows.ensures.count) h)) rise
 
 pub returns-in-Ok-clause-rise : goal.returns-in-Ok-clause-rise
-returns-in-Ok-clause-rise c = all_rise c.args.prepared.now c.args.orders.now c.shape-form.ensures.form c.requires.keep c.requires.orders (slice_index c.in-Ok.heights) (λ l m x. c.in-Ok.ensures.falls m l (c.in_ok-rows.ensures.complete m l x))
+returns-in-Ok-clause-rise c = all_rise c.args.sorted.now c.args.orders.now c.shape-form.ensures.form c.requires.keep c.requires.orders (slice_index c.in-Ok.heights) (λ l m x. c.in-Ok.ensures.falls m l (c.in_ok-rows.ensures.complete m l x))
 
 pub turned_ends-requires : goal.turned_ends-requires
 turned_ends-requires c =
@@ -25,7 +25,7 @@ turned_ends-requires c =
 
 pub returns-in-Err-Circle-clause-fault : goal.returns-in-Err-Circle-clause-fault
 returns-in-Err-Circle-clause-fault c =
-    let shape = c.args.prepared.now in
+    let shape = c.args.sorted.now in
     let it = c.in-Err-Circle.ensures.circle c.in-Err-Circle.circle (ap Err c.in-Err-Circle.field-0-is) in
     record {
       order = c.requires.keep;

@@ -19,8 +19,8 @@ returns-in-Ok-clause-rise c m j held =
     let falls : slice_index c.in-Ok.heights m < slice_index c.in-Ok.heights j = c.in-Ok.ensures.falls j m (c.requires.complete j m held) in
     omega arith
 
-pub turned-requires : goal.turned-requires
-turned-requires c =
+pub turn_circle-requires : goal.turn_circle-requires
+turn_circle-requires c =
     let it = c.in-Err-Circle.ensures.circle c.in-Err-Circle.circle (ap Err c.in-Err-Circle.field-0-is) in
     subst (λ (vs : List ℕ). 0 < length vs) (sym c.members.ensures) (circle_some (HasArc c.args.rows.now) c.in-Err-Circle.circle it)
 

@@ -1,6 +1,6 @@
 use Rattle.shape_links.proofs.Prelude.{◌≡◌, ◌∙◌, Some, true, false, ap, sym, subst, refl, none-some, Link, is_acquired_by}
 use Rattle.shape_links.proofs.Acquiring.{acquired_link, at_left, at_right, at_none}
-use Rattle.shape_links.proofs.acquisition.acquired.Goals as goal
+use Rattle.shape_links.proofs.acquisition.acquired_resource.Goals as goal
 
 pub returns-in_err-link-clause-owned : goal.returns-in_err-link-clause-owned
 returns-in_err-link-clause-owned c j a =

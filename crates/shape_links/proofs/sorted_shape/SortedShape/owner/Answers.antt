@@ -1,4 +1,4 @@
-use Rattle.shape_links.proofs.prepared.SortedShape.owner.Goals as goal
+use Rattle.shape_links.proofs.sorted_shape.SortedShape.owner.Goals as goal
 
 pub returns-clause-found : goal.returns-clause-found
 returns-clause-found c l h = c.link_of.ensures.found c.args.self.now l c.owners.ensures h

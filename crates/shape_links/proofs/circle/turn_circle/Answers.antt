@@ -1,6 +1,6 @@
 use Rattle.shape_links.proofs.Prelude.{◌≡◌, ◌-◌, ◌∙◌, ◌++◌, List, ℕ, length, drop, take, ap, reverse}
 use Rattle.shape_links.proofs.Circles.{turned_by}
-use Rattle.shape_links.proofs.circle.turned.Goals as goal
+use Rattle.shape_links.proofs.circle.turn_circle.Goals as goal
 
 pub returns : goal.returns
 returns c =

@@ -1,5 +1,5 @@
 use Rattle.shape_links.proofs.Prelude.{◌≡◌, ◌+◌, ◌-◌, ℕ, vec_len, slice_index}
-use Rattle.shape_links.proofs.owners.own.Given as goal
+use Rattle.shape_links.proofs.owners.set_owner.Given as goal
 
 abbrev pub invariant-loop-owners : goal.invariant-loop-owners
 invariant-loop-owners l = (e : ℕ) → slice_index l.owners.items e ≡ slice_index l.initial.owners.items e

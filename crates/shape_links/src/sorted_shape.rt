@@ -43,7 +43,7 @@ impl<'a> SortedShape<'a> {
     pub fn new(alloc: Global, shape: &'a Shape) -> Result<SortedShape<'a>, NoMemory>
         requires form { IsWellFormed shape.now }
         requires apart { TripleDisjoint (alphabets_of shape.now.parts) }
-        ensures { IfOk result (λ prepared. prepared ≡ shape.now) }
+        ensures { IfOk result (λ sorted. sorted ≡ shape.now) }
     {
         let owners = links_of_events(alloc, shape)?;
         let ends = links_of_parts(alloc, shape)?;

@@ -1,6 +1,6 @@
 use Rattle.shape_links.proofs.Prelude.{◌∙◌, ap, sym, subst, HasForm, Shape, part_form}
 use Rattle.shape_links.proofs.Links.{part_read}
-use Rattle.shape_links.proofs.prepared.SortedShape.part.Goals as goal
+use Rattle.shape_links.proofs.sorted_shape.SortedShape.part.Goals as goal
 
 pub returns-clause-form : goal.returns-clause-form
 returns-clause-form c =
