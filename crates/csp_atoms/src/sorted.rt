@@ -151,7 +151,7 @@ fn push_if(made: &mut Vec<Atom>, kept: bool, atom: &Atom) -> Result<(), NoMemory
 }
 
 /// The operation on both lists, in a walk over both.
-pub(crate) fn merged(
+pub(crate) fn merge(
     alloc: Global,
     operation: SetOp,
     left: &[Atom],

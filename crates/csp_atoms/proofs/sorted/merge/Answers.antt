@@ -1,6 +1,6 @@
 use Rattle.std.proofs.Common.{sym, ◌∙◌}
 use Rattle.csp_atoms.proofs.MergeLaws.{loop_step, loop_end, shorter, IsRising-rest_after}
-use Rattle.csp_atoms.proofs.sorted.merged.Goals as goal
+use Rattle.csp_atoms.proofs.sorted.merge.Goals as goal
 
 pub loop-atom-preserved : goal.loop-atom-preserved
 loop-atom-preserved c = record {
