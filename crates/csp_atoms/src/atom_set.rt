@@ -135,9 +135,7 @@ impl AtomSet {
             self.atoms.as_slice(),
             other.atoms.as_slice(),
         )?;
-        Ok(AtomSet {
-            atoms: Items::from_vec(atoms),
-        })
+        Ok(AtomSet { atoms })
     }
 
     /// The atoms of both sets.
@@ -153,9 +151,7 @@ impl AtomSet {
             self.atoms.as_slice(),
             other.atoms.as_slice(),
         )?;
-        Ok(AtomSet {
-            atoms: Items::from_vec(atoms),
-        })
+        Ok(AtomSet { atoms })
     }
 
     /// The atoms of this set that are no members of the other.
@@ -171,9 +167,7 @@ impl AtomSet {
             self.atoms.as_slice(),
             other.atoms.as_slice(),
         )?;
-        Ok(AtomSet {
-            atoms: Items::from_vec(atoms),
-        })
+        Ok(AtomSet { atoms })
     }
 
     /// A second set of the same atoms.

@@ -20,4 +20,4 @@ pub loop-atom-smaller : goal.loop-atom-smaller
 loop-atom-smaller c = rw (c.past_front-first.ensures, c.past_front-second.ensures) (shorter _ _ _ (sym c.in-Some.ensures))
 
 pub returns : goal.returns
-returns c = loop_end _ _ _ _ _ (sym c.least.ensures ∙ c.in_default.is) c.loop-atom.invariant.so_far
+returns c = c.from_vec.ensures ∙ loop_end _ _ _ _ _ (sym c.least.ensures ∙ c.in_default.is) c.loop-atom.invariant.so_far
