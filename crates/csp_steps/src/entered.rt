@@ -9,7 +9,6 @@ use crate::evaluated::{Evaluated, body_place};
 use csp_atoms::Value;
 use csp_program::{Body, Program, ValueKind};
 use csp_values::EvalFault;
-use std::alloc::Global;
 use substitution::Values;
 use term_pool::{Pool, ProcId};
 
@@ -19,7 +18,6 @@ const KIND: EvalFault = EvalFault::Value {
 
 /// The place of the body of the definition with the number `def`, which is put into the pool with the values in place of the parameters.
 pub(crate) fn enter(
-    alloc: Global,
     program: &Program,
     pool: &mut Pool,
     evaluated: &mut Evaluated,
@@ -37,7 +35,7 @@ pub(crate) fn enter(
     match &found.body {
         Body::Process(body) => {
             let id = body_place(pool, &mut evaluated.bodies, def, body)?;
-            let values = Values::new(alloc, found.params.as_slice(), values);
+            let values = Values::new(pool.alloc(), found.params.as_slice(), values);
             let made = pool.put_all_in(id, &values)?;
             Ok(made)
         }

@@ -94,7 +94,7 @@ fn push_steps(
     requires { id.0 < length pool.old }
 {
     let mut evaluated = Evaluated::new(alloc, program.key());
-    let steps = match steps_in(alloc, program, pool, &mut evaluated, id) {
+    let steps = match steps_in(program, pool, &mut evaluated, id) {
         Ok(steps) => steps,
         Err(EvalFault::NoMemory) => return Err(NoMemory),
         Err(EvalFault::Value { .. }) => return lines.extend_from_slice(b"no value\n"),
