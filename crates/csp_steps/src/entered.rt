@@ -7,14 +7,11 @@ ghost use Rattle.csp_steps.specs.Prelude.{GivesPlace, Fits};
 
 use crate::evaluated::{Evaluated, body_place};
 use csp_atoms::Value;
+use csp_base::Stop;
 use csp_program::{Body, Program, ValueKind};
 use csp_values::EvalFault;
 use substitution::Values;
 use term_pool::{Pool, ProcId};
-
-const KIND: EvalFault = EvalFault::Value {
-    kind: ValueKind::Kind,
-};
 
 /// The place of the body of the definition with the number `def`, which is put into the pool with the values in place of the parameters.
 pub(crate) fn enter(
@@ -30,7 +27,7 @@ pub(crate) fn enter(
     ensures fits { OnOk result (Fits program.now pool.new evaluated.new) }
 {
     let Some(found) = program.content().defs.get(def as usize) else {
-        return Err(KIND);
+        return Err(Stop::Told(ValueKind::Kind));
     };
     match &found.body {
         Body::Process(body) => {
@@ -39,6 +36,6 @@ pub(crate) fn enter(
             let made = pool.put_all_in(id, &values)?;
             Ok(made)
         }
-        _ => Err(KIND),
+        _ => Err(Stop::Told(ValueKind::Kind)),
     }
 }

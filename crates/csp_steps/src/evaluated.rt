@@ -12,7 +12,7 @@ use crate::operator::{Operator, operator_at};
 use crate::sets::Sets;
 use crate::step::StepTo;
 use containers::{Items, Key};
-use csp_base::NoMemory;
+use csp_base::{NoMemory, Stop};
 use csp_program::{Proc, Program};
 use csp_values::EvalFault;
 use std::alloc::Global;
@@ -118,7 +118,7 @@ pub(crate) fn operator_number(
         id.0,
         operator,
     ) else {
-        return Err(EvalFault::NoMemory);
+        return Err(Stop::NoMemory);
     };
     Ok(number)
 }

@@ -12,6 +12,7 @@ ghost use Rattle.csp_steps.specs.Prelude.{AreSets, is_blocked, is_plain, next_we
 use crate::sets::{Sets, copy_set};
 use crate::walk::{Input, Turn};
 use csp_atoms::{Atom, AtomSet, Value};
+use csp_base::Stop;
 use csp_program::{Expr, Field, Program, ValueKind};
 use csp_values::{EvalFault, eval_under};
 use std::alloc::Global;
@@ -19,10 +20,6 @@ use step_values::Start;
 use term_pool::ProcId;
 use value_operators::numbers::{place_in, with_field};
 use value_operators::operators::to_set;
-
-const OUTSIDE: EvalFault = EvalFault::Value {
-    kind: ValueKind::OutsideChannel,
-};
 
 /// What the fields of a prefix are filled over.
 #[derive(Clone, Copy)]
@@ -160,7 +157,7 @@ fn end_of<'a>(fields: &[Field], number: u64) -> Result<Next<'a>, EvalFault>
     if fields.is_empty() {
         return Ok(Next::End(number));
     }
-    Err(OUTSIDE)
+    Err(Stop::Told(ValueKind::OutsideChannel))
 }
 
 /// What comes after the outputs at the front of the fields that are on turn.
@@ -181,7 +178,7 @@ pub(crate) fn next_of<'a>(
     let mut number = turn.number;
     while let Some((set, rest)) = sets.split_first() {
         let Some((field, later)) = fields.split_first() else {
-            return Err(OUTSIDE);
+            return Err(Stop::Told(ValueKind::OutsideChannel));
         };
         match field {
             Field::Put(output) => {

@@ -24,7 +24,7 @@ use crate::sets::{Sets, atoms_of, set_of};
 use crate::step::StepTo;
 use containers::Items;
 use csp_atoms::{Atom, Value};
-use csp_base::NoMemory;
+use csp_base::{NoMemory, Stop};
 use csp_program::copies::copy_fields;
 use csp_program::{Expr, Field, Program, ValueKind};
 use csp_values::EvalFault;
@@ -32,10 +32,6 @@ use process_steps::Label;
 use std::alloc::Global;
 use step_values::{arguments_in, of_head, truth_in};
 use term_pool::{Node, Pool, ProcId};
-
-const EMPTY_CHOICE: EvalFault = EvalFault::Value {
-    kind: ValueKind::EmptyChoice,
-};
 
 /// What the steps of a process come from.
 #[derive(Drop)]
@@ -169,7 +165,7 @@ fn look_each_internal(
     ensures front { IsFront pool.old pool.new }
 {
     if atoms.is_empty() {
-        return Err(EMPTY_CHOICE);
+        return Err(Stop::Told(ValueKind::EmptyChoice));
     }
     let ids = each_put(pool, name, atoms, id)?;
     let steps = silent_to(pool.alloc(), ids.as_slice())?;

@@ -6,16 +6,12 @@ ghost use Rattle.process_steps.specs.Renaming as renaming;
 ghost use Rattle.term_pool.specs.Trees.{tree_at};
 ghost use Rattle.csp_steps.specs.Evaluated.{GivesImages, GivesOperator};
 
-use csp_base::EventSet;
+use csp_base::{EventSet, Stop};
 use csp_program::{EventPart, Gen, Program, ValueKind};
 use csp_values::EvalFault;
 use std::alloc::Global;
 use step_values::{Images, events_in, images_by_event, renaming_in};
 use term_pool::{Node, Pool, ProcId};
-
-const KIND: EvalFault = EvalFault::Value {
-    kind: ValueKind::Kind,
-};
 
 /// An operator round a process.
 #[derive(Drop)]
@@ -58,6 +54,6 @@ pub(crate) fn operator_at(program: &Program, pool: &Pool, id: ProcId) -> Result<
             Ok(Operator::Rename(images))
         }
         Node::Seq(_, second) => Ok(Operator::Seq(second)),
-        _ => Err(KIND),
+        _ => Err(Stop::Told(ValueKind::Kind)),
     }
 }

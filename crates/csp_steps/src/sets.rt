@@ -9,7 +9,7 @@ ghost use Rattle.csp_steps.specs.Evaluated.{AreSets, GivesSet, HasSet};
 
 use containers::{Items, Numbering, QuickKey};
 use csp_atoms::{Atom, AtomSet};
-use csp_base::NoMemory;
+use csp_base::{NoMemory, Stop};
 use csp_program::copies::copy_expr;
 use csp_program::{Expr, Program};
 use csp_values::EvalFault;
@@ -104,7 +104,7 @@ pub(crate) fn copy_set(
 {
     let number = set_of(alloc, program, sets, expr)?;
     let Some(atoms) = sets.atoms.get(number) else {
-        return Err(EvalFault::NoMemory);
+        return Err(Stop::NoMemory);
     };
     let copy = atoms.try_clone(alloc)?;
     Ok(copy)

@@ -13,8 +13,8 @@ use Rattle.local_tables.specs.declared.task.Task.{Task}
 use Rattle.local_tables.specs.declared.fault.Unexplored.{Unexplored}
 use Rattle.local_tables.specs.declared.fault.Unexplored.TheVariants as unexplored
 use Rattle.process_steps.specs.declared.component_fault.ComponentFault.TheVariants as fault
-use Rattle.value_operators.specs.declared.fault.EvalFault.{EvalFault}
-use Rattle.value_operators.specs.declared.fault.EvalFault.TheVariants as evaluation
+use Rattle.value_operators.specs.Gives.{EvalFault}
+use Rattle.csp_base.specs.declared.stop.Stop.TheVariants as evaluation
 use Rattle.local_tables.specs.Room.{Room}
 use Rattle.csp_base.specs.Lists.{total}
 
@@ -83,4 +83,4 @@ TaskLacks task = Lacks task.program.now (part_of task) task.room
 -- a fault of an evaluation
 abbrev pub valueless : EvalFault → Unexplored
 valueless evaluation.NoMemory = unexplored.NoMemory
-valueless (evaluation.Value kind) = unexplored.Refused (fault.Value kind)
+valueless (evaluation.Told kind) = unexplored.Refused (fault.Value kind)

@@ -1,6 +1,6 @@
 //! Why a component is not explored.
 
-use csp_base::NoMemory;
+use csp_base::{NoMemory, Stop};
 use csp_values::EvalFault;
 use process_steps::ComponentFault;
 
@@ -32,8 +32,8 @@ impl From<EvalFault> for Unexplored {
 
     fn from(error: EvalFault) -> Unexplored {
         match error {
-            EvalFault::NoMemory => Unexplored::NoMemory,
-            EvalFault::Value { kind } => Unexplored::Refused(ComponentFault::Value { kind }),
+            Stop::NoMemory => Unexplored::NoMemory,
+            Stop::Told(kind) => Unexplored::Refused(ComponentFault::Value { kind }),
         }
     }
 }

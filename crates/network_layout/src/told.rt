@@ -161,8 +161,8 @@ fn fault_at(fault: EvalFault, part: u32) -> Stop<NotedFault>
     ensures { result ≡ noted_fault part fault }
 {
     match fault {
-        EvalFault::NoMemory => Stop::NoMemory,
-        EvalFault::Value { kind } => Stop::Told(NotedFault { part, kind }),
+        Stop::NoMemory => Stop::NoMemory,
+        Stop::Told(kind) => Stop::Told(NotedFault { part, kind }),
     }
 }
 

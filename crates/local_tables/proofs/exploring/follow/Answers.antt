@@ -1,8 +1,8 @@
 use Rattle.local_tables.proofs.Prelude.{◌≡◌, ◌<◌, List, Result, Ok, Err, Some, length, sym, subst, arith, IfErr, slice_get, slice_index_or, slice_get-get_or, Proc, steps_of, ProcId, tree_at, part_of, Reaches, TaskLacks, valueless, terms_at, Task}
 use Rattle.std.specs.Result.{IsErrAnd}
 use Rattle.csp_steps.specs.Listed.{FaultIs}
-use Rattle.value_operators.specs.declared.fault.EvalFault.{EvalFault}
-use Rattle.value_operators.specs.declared.fault.EvalFault.TheVariants as evaluation
+use Rattle.value_operators.specs.Gives.{EvalFault}
+use Rattle.csp_base.specs.declared.stop.Stop.TheVariants as evaluation
 use Rattle.local_tables.specs.declared.fault.Unexplored.{Unexplored}
 use Rattle.local_tables.proofs.Following.{begin_at, end_at, map_at}
 use Rattle.local_tables.proofs.Walking.{reached}
@@ -17,7 +17,7 @@ there read terms at same inside =
 lacks_value : {A : Type 0} (task : Task) (x : Proc) (r : Result A EvalFault) (f : EvalFault) → r ≡ Err f → Reaches task.program.now (part_of task) x
     → FaultIs r (steps_of task.program.now x) → TaskLacks task (valueless f)
 lacks_value task x r evaluation.NoMemory is reached told = tt
-lacks_value {A} task x r (evaluation.Value reason) is reached told =
+lacks_value {A} task x r (evaluation.Told reason) is reached told =
     record { term = x; reached = reached; none = subst (λ (z : Result A EvalFault). FaultIs z (steps_of task.program.now x)) is told }
 
 told : {T : Type 0} (r : Result T Unexplored) (e : Unexplored) (task : Task) → IsErrAnd r (λ z. z ≡ e) → TaskLacks task e → IfErr r (TaskLacks task)
