@@ -9,13 +9,15 @@ ghost use Rattle.value_operators.specs.Env.{with_bound};
 ghost use Rattle.value_operators.specs.Gives.{Gives};
 ghost use Rattle.csp_steps.specs.Prelude.{AreSets, is_blocked, is_plain, next_weight, number_with, turn_ways, ways_by_number, weight, GivesNext};
 
-use crate::sets::{Sets, known_set};
+use crate::sets::{Sets, copy_set};
 use crate::walk::{Input, Turn};
 use csp_atoms::{Atom, AtomSet, Value};
 use csp_base::Stop;
 use csp_program::{Expr, Field, Program, ValueKind};
 use csp_values::{EvalFault, eval_under};
 use std::alloc::Global;
+use step_values::Start;
+use term_pool::ProcId;
 use value_operators::numbers::{place_in, with_field};
 use value_operators::operators::to_set;
 
@@ -26,8 +28,10 @@ pub(crate) struct Filling<'a> {
     pub alloc: Global,
     /// The program.
     pub program: &'a Program,
-    /// The number of the first event.
-    pub first: u64,
+    /// The events among which that of the prefix is.
+    pub start: &'a Start<'a>,
+    /// The place of the process after it.
+    pub to: ProcId,
 }
 
 /// What comes after the outputs at the front of some fields.
@@ -96,7 +100,7 @@ fn set_under(
     ensures kept { OnOk result (AreSets filling.now.program.now kept.new) }
 {
     if bound.is_empty() {
-        return known_set(filling.alloc, filling.program, kept, set);
+        return copy_set(filling.alloc, filling.program, kept, set);
     }
     let value = value_under(filling, bound, set)?;
     to_set(value)

@@ -69,7 +69,7 @@ fn follow(
 {
     let id = found.terms.as_slice()[at as usize];
     let Terms { pool, evaluated } = terms;
-    let steps = steps_in(alloc, task.program, pool, evaluated, id)?;
+    let steps = steps_in(task.program, pool, evaluated, id)?;
     for place in 0..steps.len() {
         take(alloc, task, pool, found, at, steps.as_slice(), place)?;
     }

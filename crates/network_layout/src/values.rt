@@ -131,6 +131,6 @@ pub(crate) fn with_name(
 pub(crate) fn put(scope: &Scope<'_>, process: &Proc) -> Result<Boxed<Proc>, NoMemory>
     ensures { IfOk result (λ made. made ≡ proc_with (given_by (names_of scope.now)) process.now) }
 {
-    let values = Values::over(scope.alloc, scope.params, scope.args, scope.bound);
-    Ok(Boxed::new(scope.alloc, put_proc(scope.alloc, process, &values)?)?)
+    let values = Values::with_bound(scope.alloc, scope.params, scope.args, scope.bound);
+    Ok(Boxed::new(scope.alloc, put_proc(process, &values)?)?)
 }

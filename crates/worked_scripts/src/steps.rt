@@ -93,7 +93,7 @@ fn push_steps(
     requires { id.0 < length pool.old }
 {
     let mut evaluated = Evaluated::new(alloc, program.key());
-    let steps = match steps_in(alloc, program, pool, &mut evaluated, id) {
+    let steps = match steps_in(program, pool, &mut evaluated, id) {
         Ok(steps) => steps,
         Err(Stop::NoMemory) => return Err(NoMemory),
         Err(Stop::Told(_)) => return lines.extend_from_slice(b"no value\n"),
