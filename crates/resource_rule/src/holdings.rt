@@ -47,7 +47,6 @@ fn add_part(
     if setting.uses(part).is_resource() {
         return Ok(());
     }
-    let _form = setting.shape();
     let user = User {
         setting: &*setting,
         part,
@@ -70,6 +69,7 @@ impl<'a> User<'a> {
         requires count { length sets.old ≡ length self.now.setting.now.shape.links }
         ensures { OnOk result (AddsArcs (HoldsWhile self.now.setting.now self.now.part) sets.old sets.new) }
     {
+        let _form = self.setting.shape();
         for node in 0..held.len() {
             self.add_node(alloc, node as u32, &held[node], sets)?;
         }
@@ -115,6 +115,7 @@ impl<'a> User<'a> {
         ensures { OnOk result
             (AddsArcs (λ k l. (link ≡ l) × HoldsWhile self.now.setting.now self.now.part k l) sets.old sets.new) }
     {
+        let _form = self.setting.shape();
         let explored = self.link_explored(alloc, link)?;
         let offers = self.pair_offers(alloc, explored.pairs())?;
         let held = EventSet::from_events(alloc, &[Event(link)])?;
@@ -126,6 +127,7 @@ impl<'a> User<'a> {
         requires link { link < length self.now.setting.now.shape.links }
         ensures { IfOk result (λ explored. WatchesLink self.now.setting.now self.now.part link explored.pairs) }
     {
+        let _form = self.setting.shape();
         let parity = Parity::new(self.setting.link(link).shared());
         self.setting.component(self.part).explore(alloc, &parity)
     }

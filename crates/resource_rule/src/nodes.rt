@@ -18,6 +18,7 @@ impl<'a> User<'a> {
         ensures { IfOk result (λ in_turn. in_turn ≡ true → (s : List ℕ)
             → UsesInTurn self.now.setting.now.shape self.now.setting.now.uses self.now.part s) }
     {
+        let _form = self.setting.shape();
         match self.held_links(alloc)? {
             Some(held) => Ok(self.all_in_turn(held.as_slice())),
             None => Ok(false),
@@ -40,6 +41,7 @@ impl<'a> User<'a> {
             → is_possible (node_of self.now.setting.now self.now.part n).next e ≡ true
             → IsInTurn self.now.setting.now self.now.part (get_or held.now n []) e }
     {
+        let _form = self.setting.shape();
         for node in 0..held.len() {
             if !self.node_in_turn(node as u32, &held[node]) {
                 return false;
@@ -54,6 +56,7 @@ impl<'a> User<'a> {
         ensures { result ≡ true → (e : ℕ) → is_possible (node_of self.now.setting.now self.now.part node).next e ≡ true
             → IsInTurn self.now.setting.now self.now.part held.now e }
     {
+        let _form = self.setting.shape();
         let component = self.setting.component(self.part);
         for (event, _) in component.steps(node) {
             if !self.in_turn(held, *event) {
@@ -67,6 +70,7 @@ impl<'a> User<'a> {
     fn in_turn(&self, held: &EventSet, event: Event) -> bool
         ensures { result ≡ true → IsInTurn self.now.setting.now self.now.part held.now event }
     {
+        let _form = self.setting.shape();
         let Some(link) = self.setting.owner(event) else {
             return true;
         };

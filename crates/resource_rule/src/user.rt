@@ -1,7 +1,6 @@
 //! A user of a setting.
 
 ghost use Rattle.std.specs.Prelude.{◌<◌, length};
-ghost use Rattle.csp_tables.specs.Shape.{IsWellFormed};
 ghost use Rattle.shape_links.specs.Setting.{IsUser};
 
 use shape_links::Setting;
@@ -13,5 +12,4 @@ pub(crate) struct User<'a> {
     pub(crate) part: u32,
     ghost within: { part < length setting.now.shape.parts },
     ghost user: { IsUser setting.now part },
-    ghost form: { IsWellFormed setting.now.shape },
 }

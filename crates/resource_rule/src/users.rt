@@ -45,7 +45,6 @@ impl<'a> Decider for Users<'a> {
         if self.setting.uses(part).is_resource() {
             return Ok(None);
         }
-        let _form = self.setting.shape();
         let user = User {
             setting: self.setting,
             part,
@@ -80,6 +79,7 @@ impl<'a> User<'a> {
             → Joins self.now.setting.now.shape self.now.part j link
             → UsesLink self.now.setting.now self.now.part link j s)) }
     {
+        let _form = self.setting.shape();
         let uses = LinkUse {
             user: *self,
             link,
@@ -104,6 +104,7 @@ impl<'a> User<'a> {
         ensures only { (j : ℕ) → Joins self.now.setting.now.shape self.now.part j link → j ≡ result }
         ensures within { result < length self.now.setting.now.shape.parts }
     {
+        let _form = self.setting.shape();
         let ends = self.setting.link(link);
         if ends.left() == self.part {
             return ends.right();
@@ -128,6 +129,7 @@ impl<'a> Requirement for LinkUse<'a> {
     ghost meets = { λ u node state. are_uses u.user.setting.now u.user.part u.link u.other (node, state) };
 
     fn is_met(&self, node: u32, state: u32) -> Result<bool, NoMemory> {
+        let _form = self.user.setting.shape();
         let component = self.user.setting.component(self.user.part);
         Ok(all_uses(self, state, component.steps(node)))
     }

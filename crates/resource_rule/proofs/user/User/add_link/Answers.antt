@@ -7,7 +7,7 @@ use Rattle.resource_rule.proofs.user.User.add_link.Goals as goal
 pub pair_offers-requires-clause-nodes : goal.pair_offers-requires-clause-nodes
 pair_offers-requires-clause-nodes c =
     let g = c.args.self.now.setting.now in
-    subst (HaveNodes g c.args.self.now.part) (sym c.pairs.ensures) (have_nodes g c.args.self.now.part c.args.link c.in_ok-explored.explored.pairs c.args.self.now.form c.args.self.now.within c.in_ok-explored.ensures)
+    subst (HaveNodes g c.args.self.now.part) (sym c.pairs.ensures) (have_nodes g c.args.self.now.part c.args.link c.in_ok-explored.explored.pairs c.shape-form.ensures.form c.args.self.now.within c.in_ok-explored.ensures)
 
 pub returns : goal.returns
 returns c =

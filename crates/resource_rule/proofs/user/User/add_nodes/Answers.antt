@@ -5,7 +5,7 @@ use Rattle.resource_rule.proofs.user.User.add_nodes.Goals as goal
 
 pub overflow_cast-node : goal.overflow_cast-node
 overflow_cast-node c =
-    let most = (part_form c.args.self.now.setting.now.shape.parts c.args.self.now.part c.args.self.now.within c.args.self.now.form.form).most in
+    let most = (part_form c.args.self.now.setting.now.shape.parts c.args.self.now.part c.args.self.now.within c.shape-form.ensures.form.form).most in
     let below : c.loop-node.node < length c.args.held.now = c.loop-node-test.true in
     omega (arith, most, c.requires.held.count)
 
@@ -25,5 +25,5 @@ returns c =
     let all : length c.args.held.now ≤ c.loop-node.node = c.loop-node-test.false in
     let end : c.loop-node.node ≤ length c.args.held.now = c.loop-node.auto.node-end in
     adds_alike (Below (λ n. OffersWhile c.args.self.now.setting.now c.args.self.now.part n (get_or c.args.held.now n [])) c.loop-node.node) (HoldsWhile g i) c.args.sets.now c.loop-node.sets c.loop-node.invariant
-    (λ k l at. nodes_sound g i c.args.self.now.within c.args.self.now.user c.args.self.now.form c.args.held.now c.requires.held k l (at.0, (let less : at.0 < c.loop-node.node = at.1 in omega arith), at.2))
-    (λ k l x. let at = nodes_complete g i c.args.self.now.within c.args.self.now.user c.args.self.now.form c.args.held.now c.requires.held k l x in (at.0, (let less : at.0 < length c.args.held.now = at.1 in omega arith), at.2))
+    (λ k l at. nodes_sound g i c.args.self.now.within c.args.self.now.user c.shape-form.ensures.form c.args.held.now c.requires.held k l (at.0, (let less : at.0 < c.loop-node.node = at.1 in omega arith), at.2))
+    (λ k l x. let at = nodes_complete g i c.args.self.now.within c.args.self.now.user c.shape-form.ensures.form c.args.held.now c.requires.held k l x in (at.0, (let less : at.0 < length c.args.held.now = at.1 in omega arith), at.2))

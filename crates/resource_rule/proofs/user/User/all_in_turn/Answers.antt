@@ -3,7 +3,7 @@ use Rattle.resource_rule.proofs.user.User.all_in_turn.Goals as goal
 
 pub overflow_cast-node : goal.overflow_cast-node
 overflow_cast-node c =
-    let most = (part_form c.args.self.now.setting.now.shape.parts c.args.self.now.part c.args.self.now.within c.args.self.now.form.form).most in
+    let most = (part_form c.args.self.now.setting.now.shape.parts c.args.self.now.part c.args.self.now.within c.shape-form.ensures.form.form).most in
     let below : c.loop-node.node < length c.args.held.now = c.loop-node-test.true in
     omega (arith, most, c.requires.count)
 

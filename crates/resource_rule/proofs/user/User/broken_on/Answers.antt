@@ -7,7 +7,7 @@ failing_run-requires-clause-only c =
     let g = c.args.self.now.setting.now in
     let shared : c.new.result.events.now ≡ (link_at c.args.self.now.setting.now.shape c.args.link).shared = c.new.ensures ∙ c.shared.ensures ∙ ap (λ (k : Link). k.shared) c.link.ensures in
     subst (λ (s : Shape). SeesOnly s.vocabulary (parity_step c.new.result.events.now)) (sym c.component-component.ensures.shape)
-    (subst (λ (S : List ℕ). SeesOnly c.args.self.now.setting.now.shape.vocabulary (parity_step S)) (sym shared) (parity_only g.shape c.args.link c.args.self.now.form c.requires.link))
+    (subst (λ (S : List ℕ). SeesOnly c.args.self.now.setting.now.shape.vocabulary (parity_step S)) (sym shared) (parity_only g.shape c.args.link c.shape-form.ensures.form c.requires.link))
 
 pub returns : goal.returns
 returns c =

@@ -5,7 +5,7 @@ pub explore-requires : goal.explore-requires
 explore-requires c =
     let shared : c.new-parity.result.events.now ≡ (link_at c.args.self.now.setting.now.shape c.args.link).shared = c.new-parity.ensures ∙ c.shared.ensures ∙ ap (λ (k : Link). k.shared) c.link.ensures in
     subst (λ (s : Shape). SeesOnly s.vocabulary (parity_step c.new-parity.result.events.now)) (sym c.component.ensures.shape)
-    (subst (λ (S : List ℕ). SeesOnly c.args.self.now.setting.now.shape.vocabulary (parity_step S)) (sym shared) (parity_only c.args.self.now.setting.now.shape c.args.link c.args.self.now.form c.requires.link))
+    (subst (λ (S : List ℕ). SeesOnly c.args.self.now.setting.now.shape.vocabulary (parity_step S)) (sym shared) (parity_only c.args.self.now.setting.now.shape c.args.link c.shape-form.ensures.form c.requires.link))
 
 pub returns : goal.returns
 returns c =

@@ -14,4 +14,4 @@ returns c _ e possible =
     let at = λ (s : Shape) (n : ℕ). AreEnough s.vocabulary (node_at (part_at s.parts n).table c.args.node).next c.steps-event-items.result.now in
     let enough = subst (λ (s : Shape). at s c.args.self.now.part) c.component-component.ensures.shape (subst (λ (n : ℕ). at c.component-component.result.shape.now n) c.component-component.ensures.number c.steps-event-items.ensures) in
     let last : length c.steps-event-items.result.now ≤ c.loop-event.event-index = c.loop-event-test.false in
-    each_in_turn g c.args.self.now.part c.args.self.now.form c.args.held.now (node_of g c.args.self.now.part c.args.node).next steps enough (λ k h. c.loop-event.invariant k (omega arith)) e possible
+    each_in_turn g c.args.self.now.part c.shape-form.ensures.form c.args.held.now (node_of g c.args.self.now.part c.args.node).next steps enough (λ k h. c.loop-event.invariant k (omega arith)) e possible

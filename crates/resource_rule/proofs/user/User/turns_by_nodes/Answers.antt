@@ -13,4 +13,4 @@ returns-in-Some c told s =
     let i = c.args.self.now.part in
     let are = subst (λ o. IfSome o (λ sets. AreHeld c.args.self.now.setting.now c.args.self.now.part sets.items)) c.in-Some.is c.in_ok-held.ensures in
     let turns = subst (λ (xs : List (List ℕ)). (n e : ℕ) → n < length xs → is_possible (node_of g i n).next e ≡ true → IsInTurn g i (get_or xs n []) e) c.as_slice.ensures.value (c.all_in_turn.ensures told) in
-    turns_at_nodes g i c.args.self.now.form c.in-Some.held.items c.args.self.now.within are turns s
+    turns_at_nodes g i c.shape-form.ensures.form c.in-Some.held.items c.args.self.now.within are turns s
