@@ -10,7 +10,7 @@ pub use Rattle.design_rules.specs.Resource.{IsHeldWhile, UsesInTurn, holds}
 pub use Rattle.digraph.specs.Prelude.{HasArc, IsLeastCircle, has_arc}
 pub use Rattle.net_sound.proofs.Within.{part_form}
 pub use Rattle.observed_runs.specs.Prelude.{AreEnough, AreFound, Found, IsExploration, SeesOnly, observed, pair_at, parity_step}
-pub use Rattle.resource_conditions.proofs.Sets.{all_possible, any_at, fails_here, some_possible}
+pub use Rattle.resource_conditions.proofs.Sets.{all_possible, any_at, some_possible}
 pub use Rattle.resource_conditions.specs.Finding.{FindsRun}
 pub use Rattle.resource_rule.specs.Holdings.{AddsArcs, AreHeld, Below, HoldsWhile, LeadsToHeld, LeadsToSome, OffersWhile, is_acquiring, resource_of}
 pub use Rattle.resource_rule.specs.Uses.{HaveNodes, IsInTurn, IsOfferedHolding, UsesLink, WatchesLink, are_uses, is_offered, is_offered_at, is_use}
