@@ -19,10 +19,9 @@ pub struct AtomSet {
     atoms: Items<Atom>,
 }
 
-// By hand, so that a crate that ends one calls this and proves no end of its own.
 impl Drop for AtomSet {
     fn drop(self) {
-        let AtomSet { atoms: _atoms } = self;
+        let AtomSet { atoms } = self;
     }
 }
 

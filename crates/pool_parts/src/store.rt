@@ -44,13 +44,12 @@ pub struct Store<T: Part> {
     latest: usize,
 }
 
-// By hand, so that a crate that ends one calls this and proves no end of its own.
 impl<T: Part + Drop> Drop for Store<T> {
     fn drop(self) {
         let Store {
-            parts: _parts,
-            notes: _notes,
-            latest: _latest,
+            parts,
+            notes,
+            latest,
         } = self;
     }
 }

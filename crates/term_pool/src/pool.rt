@@ -27,13 +27,9 @@ pub struct Pool {
     nodes: Nodes,
 }
 
-// By hand, so that a crate that ends one calls this and proves no end of its own.
 impl Drop for Pool {
     fn drop(self) {
-        let Pool {
-            alloc: _alloc,
-            nodes: _nodes,
-        } = self;
+        let Pool { alloc, nodes } = self;
     }
 }
 
