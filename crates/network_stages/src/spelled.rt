@@ -11,7 +11,7 @@ ghost use Rattle.script_sizes.specs.Size.{AreSmall};
 use containers::{Boxed, Key};
 use csp_base::Stop;
 use csp_program::Program;
-use csp_resolve::{Unresolved, resolve};
+use csp_resolve::resolve;
 use csp_text::Script;
 use network_layout::{Layout, Seat, layout};
 use report::{Answer, Refusal, Side, TextFault, Verdict};
@@ -116,9 +116,9 @@ pub fn spell_network(
 {
     match resolve(alloc, key, script) {
         Ok(program) => lay_out(alloc, side, program),
-        Err(Unresolved::Refused(fault)) => {
+        Err(Stop::Told(fault)) => {
             Err(Stop::Told(Answer::NoProgram(side, TextFault::Unresolved(fault))))
         }
-        Err(Unresolved::NoMemory) => Err(Stop::NoMemory),
+        Err(Stop::NoMemory) => Err(Stop::NoMemory),
     }
 }
