@@ -5,7 +5,6 @@ pub use Rattle.csp_base.specs.Standard.{All, AllocError, flat_map}
 unfoldable pub use Rattle.csp_base.specs.Standard.{IsDistinct}
 pub use Rattle.digraph.specs.Digraph.{InRange, has_arc}
 pub use Rattle.digraph.specs.Prelude.{AreHeights, AreMarks, Digraph, Done, HasArc, HasNoCircle, IsCircle, IsLeastCircle, IsLongestWalk, IsMarked, IsOpen, IsStep, IsTrail, Leads, Mark, New, Open, Reaches, ReachesFrom, Search, Walk, done_count, found_after, found_over, height_of, is_done, is_open, mark_at, mark_work, targets_of, work_left}
-pub use Rattle.digraph.specs.declared.fault.Fault.TheVariants.{Circle}
 pub use Rattle.std.proofs.Common.{Bool, Err, IsTrue, List, Ok, OnErr, OnOk, Result, [], ap, arith, below_more, cond, drop, eq-eqb, false, get_or, get_or-set_other, get_or-set_same, inl, inr, length, map, max, nat_eq, nat_lt, refl, rules, set, subst, suc, sym, take, true, zero, ℕ, ◌&&◌, ◌++◌, ◌+◌, ◌-◌, ◌<◌, ◌==◌, ◌^◌, ◌||◌, ◌↔◌, ◌∙◌, ◌∷◌, ◌≡◌, ◌≢◌, ◌≤◌, ◌⊎◌}
 pub use Rattle.std.proofs.lemmas.List.{get_or-append_right, get_or-drop, length-drop}
 pub use Rattle.std.proofs.lemmas.Result.{err_from_is_err_and}

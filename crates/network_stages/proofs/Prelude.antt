@@ -19,7 +19,7 @@ pub use Rattle.net_sound.proofs.Parts.{component_of, one_part_each, part_of}
 pub use Rattle.net_sound.proofs.Sharers.{at_three, at_two}
 pub use Rattle.net_sound.specs.Heights.{HaveHeights, sum_of_greatest}
 pub use Rattle.network_stages.specs.Busy.{HasEmpty, IsBusyPart}
-pub use Rattle.network_stages.specs.Prelude.{AreSeatsOf, AreTablesOf, AreTablesWithin, CanStop, ChosenComponent, FaultsExcludeAllTables, HasFault, HasManySets, HasNoNetwork, HasNoPart, HasParts, HasTable, HasTables, HaveFewSets, HaveFewSetsBefore, HaveNoParts, HaveNoTables, IsApart, IsSpelled, IsTableWithin, Network, PartCanStop, SpellsNone, StaysBusy, StopsFirst, StopsFirstIn, TellsHere, TellsRound, at_component, room_after, room_left, tree_in, whole_room}
+pub use Rattle.network_stages.specs.Prelude.{AreSeatsOf, AreTablesOf, AreTablesWithin, CanStop, ChosenComponent, FaultsExcludeAllTables, HasFault, HasManySets, HasNoNetwork, HasNoPart, HasParts, HasTable, HasTables, HaveFewSets, HaveFewSetsBefore, HaveNoParts, HaveNoTables, IsApart, IsSpelled, IsTableWithin, Network, PartCanStop, SpellsNone, StaysBusy, StopsFirst, StopsFirstIn, TellsRound, at_component, room_after, room_left, tree_in, whole_room}
 unfoldable pub use Rattle.network_stages.specs.Prelude.{tree_at}
 pub use Rattle.network_stages.specs.Rows.{AreLinksBefore, AreOwners, AreRows, HasLink, IsInRow, IsRow, IsSharedBy, IsVocabulary, Precedes, any_has_event, has_event, is_part, joint, joints, link_in, owner_of, row_at}
 pub use Rattle.network_stages.specs.declared.component_tables.ComponentTable.{ComponentTable}

@@ -18,7 +18,7 @@ use csp_base::{NoMemory, Stop};
 use csp_program::Program;
 use csp_tables::Part;
 use network_layout::Seat;
-use normal_form::{SetFault, normalise};
+use normal_form::normalise;
 use process_steps::ComponentFault;
 use report::Refusal;
 use std::alloc::Global;
@@ -105,8 +105,8 @@ pub(crate) fn part_of(
     let alphabet = seat.alphabet().try_clone(alloc)?;
     match normalise(alloc, &table.local.table, &table.heights) {
         Ok(normal) => Ok(Part::new(alphabet, normal)),
-        Err(SetFault::NoMemory) => Err(Stop::NoMemory),
-        Err(SetFault::SubsetLimit) => Err(Stop::Told(Refusal::Component {
+        Err(Stop::NoMemory) => Err(Stop::NoMemory),
+        Err(Stop::Told(_limit)) => Err(Stop::Told(Refusal::Component {
             component: number,
             fault: ComponentFault::SubsetLimit,
         })),

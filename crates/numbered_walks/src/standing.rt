@@ -133,7 +133,7 @@ pub(crate) fn is_stuck(movers: &[Mover<'_>], standing: &Standing) -> bool
 }
 
 /// The option that a number chooses, if there is one.
-pub(crate) fn chosen(movers: &[Mover<'_>], standing: &Standing, number: u32) -> Option<Move>
+pub(crate) fn choose(movers: &[Mover<'_>], standing: &Standing, number: u32) -> Option<Move>
     requires form { IsStanding movers.now standing.now }
     requires few { length movers.now ≤ MOST_COMPONENTS }
     ensures chosen { IfSome result (Chooses (Has movers.now standing.now.terms.items) number) }

@@ -11,7 +11,7 @@ use crate::mover::Mover;
 use crate::moves::{Move, Walk};
 use crate::numbers::{first_draw, next_number};
 use crate::owners::owner_rows;
-use crate::standing::{Standing, chosen, first_standing, is_stuck, take};
+use crate::standing::{Standing, choose, first_standing, is_stuck, take};
 use containers::Items;
 use csp_base::NoMemory;
 use std::alloc::Global;
@@ -31,7 +31,7 @@ fn step(
     ensures steps { IfOk result (λ option. MatchOption option (IsAtEnd movers.now standing.old standing.new)
         (IsStep movers.now number standing.old standing.new)) }
 {
-    match chosen(movers, standing, number) {
+    match choose(movers, standing, number) {
         None => Ok(None),
         Some(option) => {
             take(alloc, movers, owners, standing, &option)?;
