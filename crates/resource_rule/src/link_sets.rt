@@ -115,7 +115,8 @@ fn add_row(
     requires count { length rows.old ≡ length setting.now.shape.parts }
     ensures count { length rows.new ≡ length rows.old }
     ensures arcs { OnOk result ((j m : ℕ) → has_arc rows.new j m ≡ (has_arc rows.old j m
-        || (nat_eq (resource_of setting.now link) j && list_any (λ l. nat_eq (resource_of setting.now l) m) held.now))) }
+        || (nat_eq (resource_of setting.now link) j
+        && list_any (λ l. nat_eq (resource_of setting.now l) m) held.now))) }
 {
     let from = resource_end(setting, link);
     for event in held.iter() {

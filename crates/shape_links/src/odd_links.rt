@@ -46,12 +46,7 @@ impl<'a> Component<'a> {
         let pairs = explored.pairs();
         for place in 1..pairs.len() {
             let (from, event) = explored.origin(place);
-            let set = self.set_after(
-                alloc,
-                watched,
-                &odd[pairs[from].0 as usize],
-                event,
-            )?;
+            let set = self.set_after(alloc, watched, &odd[pairs[from].0 as usize], event)?;
             odd[pairs[place].0 as usize] = set;
         }
         Ok(odd)
@@ -92,7 +87,8 @@ impl<'a> Component<'a> {
         requires node { node < length (table_of self.now) }
         ensures { IfOk result (λ kept. kept ≡ true → (e : ℕ)
             → IsTrue (is_possible (node_at (table_of self.now) node).next e)
-            → IsTurned self.now.shape.now watched.now e (get_or odd.now node []) (get_or odd.now (node_after (table_of self.now) node e) [])) }
+            → IsTurned self.now.shape.now watched.now e (get_or odd.now node [])
+            (get_or odd.now (node_after (table_of self.now) node e) [])) }
     {
         let _form = self.shape.shape();
         let steps = self.steps(node);

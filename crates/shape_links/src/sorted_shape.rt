@@ -35,7 +35,9 @@ impl<'a> Model for SortedShape<'a> {
 
     ghost view = { λ p. p.shape.now };
 
-    ghost invariant = { λ p. IsWellFormed p.shape.now × TripleDisjoint (alphabets_of p.shape.now.parts) × AreOwners p.shape.now p.owners.items × AreEnds p.shape.now (length p.shape.now.links) p.ends.items × AreSteps p.shape.now (length p.shape.now.parts) p.steps.items };
+    ghost invariant = { λ p. IsWellFormed p.shape.now × TripleDisjoint (alphabets_of p.shape.now.parts)
+        × AreOwners p.shape.now p.owners.items × AreEnds p.shape.now (length p.shape.now.links) p.ends.items
+        × AreSteps p.shape.now (length p.shape.now.parts) p.steps.items };
 }
 
 impl<'a> SortedShape<'a> {
