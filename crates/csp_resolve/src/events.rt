@@ -111,10 +111,10 @@ fn sets_in(
 {
     match field_sets(alloc, content, types) {
         Ok(sets) => Ok(sets),
-        Err(EvalFault::Value { kind }) => {
+        Err(Stop::Told(kind)) => {
             Err(Stop::Told(ResolveFault::Value { inside: i, kind }))
         }
-        Err(EvalFault::NoMemory) => Err(Stop::NoMemory),
+        Err(Stop::NoMemory) => Err(Stop::NoMemory),
     }
 }
 

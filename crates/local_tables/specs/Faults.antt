@@ -12,7 +12,6 @@ use Rattle.local_tables.specs.Component.{AreSteps, AreTerms, part_of, step_count
 use Rattle.local_tables.specs.declared.task.Task.{Task}
 use Rattle.process_steps.specs.declared.component_fault.ComponentFault.TheVariants as fault
 use Rattle.value_operators.specs.Gives.{EvalFault}
-use Rattle.csp_base.specs.declared.stop.Stop.TheVariants as evaluation
 use Rattle.local_tables.specs.Room.{Room}
 use Rattle.csp_base.specs.Lists.{total}
 use Rattle.csp_base.specs.Stops.{Tells}
@@ -79,5 +78,5 @@ TaskLacks task = Tells (LacksTable task.program.now (part_of task) task.room)
 
 -- a fault of an evaluation
 abbrev pub valueless : EvalFault → Stop ComponentFault
-valueless evaluation.NoMemory = stop.NoMemory
-valueless (evaluation.Value kind) = stop.Told (fault.Value kind)
+valueless stop.NoMemory = stop.NoMemory
+valueless (stop.Told kind) = stop.Told (fault.Value kind)

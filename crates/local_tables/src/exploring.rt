@@ -74,7 +74,7 @@ fn follow(
 {
     let id = found.terms.as_slice()[at as usize];
     let Terms { pool, evaluated } = terms;
-    let steps = match steps_in(alloc, task.program, pool, evaluated, id) {
+    let steps = match steps_in(task.program, pool, evaluated, id) {
         Ok(steps) => steps,
         Err(fault) => return Err(valueless(fault)),
     };
@@ -89,8 +89,8 @@ fn valueless(fault: EvalFault) -> Stop<ComponentFault>
     ensures { result ≡ valueless fault }
 {
     match fault {
-        EvalFault::NoMemory => Stop::NoMemory,
-        EvalFault::Value { kind } => Stop::Told(ComponentFault::Value { kind }),
+        Stop::NoMemory => Stop::NoMemory,
+        Stop::Told(kind) => Stop::Told(ComponentFault::Value { kind }),
     }
 }
 

@@ -73,10 +73,10 @@ impl Page {
         requires { id.0 < length pool.old }
     {
         let mut evaluated = Evaluated::new(self.alloc, program.key());
-        let steps = match steps_in(self.alloc, program, pool, &mut evaluated, id) {
+        let steps = match steps_in(program, pool, &mut evaluated, id) {
             Ok(steps) => steps,
-            Err(EvalFault::NoMemory) => return Err(NoMemory),
-            Err(EvalFault::Value { .. }) => return self.push(b"no value\n"),
+            Err(Stop::NoMemory) => return Err(NoMemory),
+            Err(Stop::Told(_)) => return self.push(b"no value\n"),
         };
         for step in steps.as_slice() {
             self.push_step(program, pool, *step)?;
