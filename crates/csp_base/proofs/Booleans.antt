@@ -1,6 +1,5 @@
 -- Laws of truth values that the kit's library does not state, or states the other way round.
-use Rattle.csp_base.proofs.Prelude.{◌≡◌, Bool, true, false, ◌&&◌, ◌||◌, refl, sym, IsTrue, false≢true}
-use Rattle.std.proofs.Math.Bool.{or-false, or_assoc}
+use Rattle.csp_base.proofs.Prelude.{◌≡◌, Bool, true, false, ◌&&◌, ◌||◌, refl, sym, IsTrue, false≢true, or-false, or_assoc}
 pub use Rattle.std.proofs.Math.Bool.{and-false as and_false}
 
 -- ---- equations

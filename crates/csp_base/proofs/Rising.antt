@@ -1,8 +1,6 @@
 -- Facts on strictly rising lists of numbers, by their members.
-use Rattle.csp_base.proofs.Prelude.{◌≡◌, ℕ, zero, suc, ◌+◌, ◌<◌, ◌≤◌, Bool, true, false, not, cond, ◌&&◌, ◌||◌, eqb, ltb, leb, List, [], ◌∷◌, ◌++◌, refl, sym, ap, inl, inr, le_refl, ◌∙◌, subst, add-one, arith, Some, None, IsStrictlyIncreasing, filter, find, ◌==◌, with_member, union_of, set_of, inter_of, diff_of, is_subset_of, meets_of}
+use Rattle.csp_base.proofs.Prelude.{◌≡◌, ℕ, zero, suc, ◌+◌, ◌<◌, ◌≤◌, Bool, true, false, not, cond, ◌&&◌, ◌||◌, eqb, ltb, leb, List, [], ◌∷◌, ◌++◌, refl, sym, ap, inl, inr, le_refl, ◌∙◌, subst, add-one, arith, Some, None, IsStrictlyIncreasing, filter, find, ◌==◌, with_member, union_of, set_of, inter_of, diff_of, is_subset_of, meets_of, and_comm, has}
 use Rattle.csp_base.proofs.Standard.{cases_eq, cases_lt, cases_order, or_right, or_left, or_from, or_cases, or_parts, and_from, and_left, and_right, and_parts, ltb-true, ltb-false, eqb-false, ne_eqb, le-leb, lt-leb, eqb-true, false≢true, true≢false, list_any-append, any-filter_same}
-use Rattle.std.proofs.Math.Bool.{and_comm}
-use Rattle.csp_base.specs.Events.{has}
 use Rattle.csp_base.proofs.Booleans.{or_none, or_regroup, or_swap, or_again}
 use Rattle.csp_base.proofs.Listed.{has_first, has_rest}
 

@@ -99,31 +99,20 @@ fn shared_in(
 }
 
 // The field sets of these types in the declaration with the number `i`.
-fn sets_in(
-    alloc: Global,
-    content: &Content,
-    i: u32,
-    types: &[Expr],
-) -> Resolved<Items<AtomSet>>
+fn sets_in(alloc: Global, content: &Content, i: u32, types: &[Expr]) -> Resolved<Items<AtomSet>>
     requires { IsTrue (all_true (map lacks_sets content.now.channels)) }
     ensures { Answers (λ (sets : List (List Atom)). sets) result
         (meant.told_in i (meant.field_sets content.now types.now)) }
 {
     match field_sets(alloc, content, types) {
         Ok(sets) => Ok(sets),
-        Err(Stop::Told(kind)) => {
-            Err(Stop::Told(ResolveFault::Value { inside: i, kind }))
-        }
+        Err(Stop::Told(kind)) => { Err(Stop::Told(ResolveFault::Value { inside: i, kind })) }
         Err(Stop::NoMemory) => Err(Stop::NoMemory),
     }
 }
 
 /// Gives the channels these field sets, and makes the event table, unless there are too many events.
-pub fn fill_table(
-    alloc: Global,
-    content: &mut Content,
-    shared: &[SharedSets],
-) -> Resolved<()>
+pub fn fill_table(alloc: Global, content: &mut Content, shared: &[SharedSets]) -> Resolved<()>
     requires { length content.old.channels ≤ MOST_BYTES }
     ensures { Answers (λ (done : Unit {0}). content.new) result (meant.with_table content.old (spread shared.now)) }
 {

@@ -1,10 +1,6 @@
 -- How many sets traces lead to.
-use Rattle.determinise.proofs.Prelude.{◌≡◌, ℕ, zero, suc, ◌+◌, ◌<◌, ◌≤◌, inl, inr, true, false, nat_eq, IsTrue, List, [], ◌∷◌, ◌++◌, length, get_or, refl, sym, ap, subst, ◌∙◌, arith, map, list_any, IsDistinct, IsStrictlyIncreasing, cases_lt, cases_Bool, eqb-true, get_or_append_left, length-append, get_or-map, length-map, IsDistinct-from_apart, length-le_from_distinct_below, get_or-append_seam, has, RawTable, RawStep, Node, end_of, HaveSameStates, ReachesSets, set_at, AreReachedSets, AreNodesSoFar, IsSetAfter, any_place, same_tests}
-use Rattle.csp_base.specs.Prelude.{Tells}
-use Rattle.csp_base.specs.declared.stop.Stop.{Stop}
+use Rattle.determinise.proofs.Prelude.{◌≡◌, ℕ, zero, suc, ◌+◌, ◌<◌, ◌≤◌, inl, inr, true, false, nat_eq, IsTrue, List, [], ◌∷◌, ◌++◌, length, get_or, refl, sym, ap, subst, ◌∙◌, arith, map, list_any, IsDistinct, IsStrictlyIncreasing, cases_lt, cases_Bool, eqb-true, get_or_append_left, length-append, get_or-map, length-map, IsDistinct-from_apart, length-le_from_distinct_below, get_or-append_seam, has, RawTable, RawStep, Node, end_of, HaveSameStates, ReachesSets, set_at, AreReachedSets, AreNodesSoFar, IsSetAfter, any_place, same_tests, Tells, Stop, MOST_SETS, rises_from_increasing, same_members}
 use Rattle.csp_base.specs.declared.stop.Stop.TheVariants as stop
-use Rattle.dl_limits.specs.declared.TheConstants.{MOST_SETS}
-use Rattle.csp_base.proofs.Rising.{rises_from_increasing, same_members}
 use Rattle.determinise.proofs.Runs.{ends_at}
 
 -- traces to the first sets

@@ -1,6 +1,5 @@
 -- What follows from what a call tells.
-use Rattle.csp_base.specs.Prelude.{Tells}
-use Rattle.csp_base.specs.declared.stop.Stop.{Stop}
+use Rattle.digraph.proofs.Prelude.{Tells, Stop}
 use Rattle.csp_base.specs.declared.stop.Stop.TheVariants as stop
 
 pub tells_weaker : {F : Type 0} (P Q : F → Type 0) → ((f : F) → P f → Q f) → (s : Stop F) → Tells P s → Tells Q s

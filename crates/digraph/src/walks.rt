@@ -2,8 +2,7 @@
 
 ghost use Rattle.std.specs.Prelude.{◌≡◌, ℕ, ◌+◌, ◌-◌, ◌<◌, ◌≤◌, ◌↔◌, List, [], true, false, length, map, max, slice_index, All, IfErr, IfOk, OnOk};
 ghost use Rattle.csp_base.specs.Prelude.{Tells};
-ghost use Rattle.digraph.specs.Turn.{IsTurnedFrom};
-ghost use Rattle.digraph.specs.Prelude.{targets_of, HasArc, InRange, IsLongestWalk, AreHeights, HasNoCircle, IsLeastCircle, IsSearch, IsStep, height_of, mark_at};
+ghost use Rattle.digraph.specs.Prelude.{IsTurnedFrom, targets_of, HasArc, InRange, IsLongestWalk, AreHeights, HasNoCircle, IsLeastCircle, IsSearch, IsStep, height_of, mark_at};
 
 use crate::circle::{Circle, circle_from};
 use crate::heights::Heights;

@@ -2,9 +2,7 @@
 
 ghost use Rattle.std.specs.Prelude.{◌≡◌, ◌≤◌, ◌<◌, ◌+◌, true, false, length, IfNone, IfOk, IfSome, OnOk};
 ghost use Rattle.dl_limits.specs.declared.TheConstants.{MOST_COMPONENTS};
-ghost use Rattle.hidden_bounds.specs.Standings.{AreKnown, AreReopened, IsKnown, StayKnown, one_more, waiting};
-ghost use Rattle.hidden_bounds.specs.Own.{GoesRoundItself, IsOwnHeight};
-ghost use Rattle.hidden_bounds.specs.Scopes.{AreTakenFar, IsFree, IsLeast, IsScope, IsTaking};
+ghost use Rattle.hidden_bounds.specs.Prelude.{AreKnown, AreReopened, IsKnown, StayKnown, one_more, waiting, GoesRoundItself, IsOwnHeight, AreTakenFar, IsFree, IsLeast, IsScope, IsTaking};
 
 use crate::own_graph::own_height;
 use crate::own_search::OwnSearch;

@@ -6,8 +6,7 @@ ghost use Rattle.csp_program.specs.Depth.{proc_depth};
 ghost use Rattle.csp_program.specs.declared.processes.Proc.{Proc as Process};
 ghost use Rattle.dl_limits.specs.declared.TheConstants.{MOST_TERMS, MOST_TERM_DEPTH};
 ghost use Rattle.term_pool.specs.Prelude.{IsFront, tree_at};
-ghost use Rattle.local_tables.specs.Faults.{TaskLacks};
-ghost use Rattle.local_tables.specs.Progress.{AreTabled, IsUpTo, IsWithin, terms_at, with_term};
+ghost use Rattle.local_tables.specs.Prelude.{TaskLacks, AreTabled, IsUpTo, IsWithin, terms_at, with_term};
 
 use crate::task::Task;
 use containers::{Items, Numbering};

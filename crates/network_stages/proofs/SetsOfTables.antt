@@ -1,9 +1,5 @@
 -- Traces of a component lead to as many sets of terms as the same traces of its table: the table has exactly the component's terms, each under one number.
-use Rattle.network_stages.proofs.Prelude.{◌≡◌, ℕ, List, [], get_or, refl, sym, ap, subst, ◌∙◌, same_Some, Proc, Content, Label, Component, ComponentStep, Path, IsTableOf, RawStep, RawTable, standing_at, After, trace_down, trace_up, HasTable, HasManySets, ComponentTable, ProcessStep}
-use Rattle.std.proofs.Common.{◌+◌}
-use Rattle.dl_limits.specs.declared.TheConstants.{MOST_SETS}
-use Rattle.determinise.specs.ManySets.{ReachesSets}
-use Rattle.net_sound.proofs.Numbered.{run_down, run_up, stands}
+use Rattle.network_stages.proofs.Prelude.{◌≡◌, ℕ, List, [], get_or, refl, sym, ap, subst, ◌∙◌, same_Some, Proc, Content, Label, Component, ComponentStep, Path, IsTableOf, RawStep, RawTable, standing_at, After, trace_down, trace_up, HasTable, HasManySets, ComponentTable, ProcessStep, ◌+◌, MOST_SETS, ReachesSets, run_down, run_up, stands}
 
 module _ {T : Type 0} (Step : T → Label → T → Type 0) (c : Component T) (terms : List T) (raw : RawTable) (t : IsTableOf Step c terms raw) where
   -- a state of the component after one trace, where the numbers after it are those after the other

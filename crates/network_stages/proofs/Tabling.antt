@@ -1,8 +1,6 @@
 -- Tables of components, one after another.
-use Rattle.network_stages.proofs.Prelude.{◌≡◌, ℕ, zero, suc, ◌+◌, ◌<◌, ◌≤◌, ◌-◌, List, [], ◌∷◌, ◌++◌, length, take, get_or, slice_get, Some, Result, Ok, Err, IfErr, refl, sym, ap, subst, ◌∙◌, add-one, arith, inr, take-suc, none-some, same_Some, slice_get-get_or, length_push, take_all, Proc, Content, Component, IsLocalTable, Room, LocalTable, HasFault, TellsRound, at_component, HaveNoTables, AreTablesOf, AreTablesWithin, HasTable, IsTableWithin, room_after, room_left, whole_room, ComponentTable, Tells, Stop, Refusal}
+use Rattle.network_stages.proofs.Prelude.{◌≡◌, ℕ, zero, suc, ◌+◌, ◌<◌, ◌≤◌, ◌-◌, List, [], ◌∷◌, ◌++◌, length, take, get_or, slice_get, Some, Result, Ok, Err, IfErr, refl, sym, ap, subst, ◌∙◌, add-one, arith, inr, take-suc, none-some, same_Some, slice_get-get_or, length_push, take_all, Proc, Content, Component, IsLocalTable, Room, LocalTable, HasFault, TellsRound, at_component, HaveNoTables, AreTablesOf, AreTablesWithin, HasTable, IsTableWithin, room_after, room_left, whole_room, ComponentTable, Tells, Stop, Refusal, ComponentFault, MOST_COMPONENTS, MOST_NODES, MOST_STEPS}
 use Rattle.csp_base.specs.declared.stop.Stop.TheVariants as stop
-use Rattle.process_steps.specs.declared.component_fault.ComponentFault.{ComponentFault}
-use Rattle.dl_limits.specs.declared.TheConstants.{MOST_COMPONENTS, MOST_NODES, MOST_STEPS}
 
 module _ (p : Content) where
   one_more : (room : Room) (cs : List (Component Proc)) (ts : List ComponentTable) (c : Component Proc) (t : ComponentTable) → AreTablesWithin p room cs ts

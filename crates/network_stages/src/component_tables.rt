@@ -5,9 +5,7 @@ ghost use Rattle.dl_limits.specs.declared.TheConstants.{MOST_COMPONENTS};
 ghost use Rattle.local_tables.specs.Component.{AreTermsOf};
 ghost use Rattle.net_sound.specs.Heights.{AreSilentHeights};
 ghost use Rattle.csp_base.specs.Stops.{Tells};
-ghost use Rattle.network_stages.specs.Faults.{HasFault, TellsRound, at_component};
-ghost use Rattle.network_stages.specs.Stages.{HaveNoTables};
-ghost use Rattle.network_stages.specs.Tables.{AreTablesOf, IsTableWithin, room_after, whole_room};
+ghost use Rattle.network_stages.specs.Prelude.{HasFault, TellsRound, at_component, HaveNoTables, AreTablesOf, IsTableWithin, room_after, whole_room};
 
 use csp_base::{NoMemory, Stop};
 use csp_program::Program;

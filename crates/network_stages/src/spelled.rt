@@ -4,8 +4,7 @@ ghost use Rattle.std.specs.Prelude.{◌≡◌, ◌≤◌, IfErr, IfNone, IfOk, I
 ghost use Rattle.dl_limits.specs.declared.TheConstants.{MOST_COMPONENTS};
 ghost use Rattle.csp_tables.specs.Network.{leaves};
 ghost use Rattle.csp_base.specs.Stops.{Tells};
-ghost use Rattle.network_stages.specs.Networks.{IsNetworkOf, IsSpelled, network_at};
-ghost use Rattle.network_stages.specs.Stages.{HasNoNetwork, SpellsNone};
+ghost use Rattle.network_stages.specs.Prelude.{IsNetworkOf, IsSpelled, network_at, HasNoNetwork, SpellsNone};
 ghost use Rattle.script_sizes.specs.Size.{AreSmall};
 
 use containers::{Boxed, Key};

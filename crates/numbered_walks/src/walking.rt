@@ -2,10 +2,7 @@
 
 ghost use Rattle.std.specs.Prelude.{◌≡◌, ◌⊎◌, ◌≤◌, ◌<◌, IfOk, MatchOption, OnOk, length};
 ghost use Rattle.dl_limits.specs.declared.TheConstants.{MOST_COMPONENTS};
-ghost use Rattle.numbered_walks.specs.Agreements.{AreOwnerRows, IsStanding};
-ghost use Rattle.numbered_walks.specs.Numbered.{Goes, Has, first_terms};
-ghost use Rattle.numbered_walks.specs.Steps.{IsAtEnd, IsStep, WalksOn};
-ghost use Rattle.numbered_walks.specs.Walks.{HasNone, IsWalkOf};
+ghost use Rattle.numbered_walks.specs.Prelude.{AreOwnerRows, IsStanding, Goes, Has, first_terms, IsAtEnd, IsStep, WalksOn, HasNone, IsWalkOf};
 
 use crate::mover::Mover;
 use crate::moves::{Move, Walk};

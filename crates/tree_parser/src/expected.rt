@@ -83,11 +83,7 @@ fn push_dot(trees: &mut Items<Tree>, field: FieldTree, tokens: &[Token]) -> OrNo
 }
 
 // The trees of fields that all have a dot.
-fn expect_dots(
-    alloc: Global,
-    fields: Items<FieldTree>,
-    tokens: &[Token],
-) -> OrNoText<Items<Tree>>
+fn expect_dots(alloc: Global, fields: Items<FieldTree>, tokens: &[Token]) -> OrNoText<Items<Tree>>
     ensures { Gives result (λ trees. trees) (dot_fields fields) }
 {
     let mut trees = Items::new(alloc);

@@ -1,7 +1,4 @@
-use Rattle.std.proofs.Common.{◌∙◌, ℕ, length, sym, subst}
-use Rattle.digraph.specs.Prelude.{HasArc, IsLeastCircle, AreHeights}
-use Rattle.digraph.proofs.WalkLaws.{same_heights, same_no_circle, same_least_circle}
-use Rattle.design_rules.specs.Prelude.{Serves, BreaksClientServer}
+use Rattle.client_server_rule.proofs.Prelude.{◌∙◌, ℕ, length, sym, subst, HasArc, IsLeastCircle, AreHeights, same_heights, same_no_circle, same_least_circle, Serves, BreaksClientServer}
 use Rattle.client_server_rule.proofs.arcs.heights.Goals as goal
 
 pub returns-in-Ok-clause-heights : goal.returns-in-Ok-clause-heights

@@ -1,9 +1,6 @@
-use Rattle.cyclic_rule.proofs.Prelude.{◌<◌, ◌∙◌, ℕ, List, map, length, ap, sym, subst, slice_index, Shape, HasArc, MustPrecede}
-use Rattle.digraph.specs.Prelude.{IsLeastCircle}
+use Rattle.cyclic_rule.proofs.Prelude.{◌<◌, ◌∙◌, ℕ, List, map, length, ap, sym, subst, slice_index, Shape, HasArc, MustPrecede, IsLeastCircle, turned_circle, turned_least, circle_some}
 use Rattle.design_rules.specs.Prelude.{ends_of}
-use Rattle.shape_links.specs.Turned.{turned_circle}
 use Rattle.cyclic_rule.proofs.Chaining.{next_precedes, all_rise, chain_numbers}
-use Rattle.shape_links.proofs.Circles.{turned_least, circle_some}
 use Rattle.cyclic_rule.proofs.numbers.numbers.Goals as goal
 
 pub returns-in-Ok-clause-chains : goal.returns-in-Ok-clause-chains

@@ -1,6 +1,4 @@
-use Rattle.std.proofs.Common.{ℕ, List, length, rules}
-use Rattle.csp_base.specs.Prelude.{Tells}
-use Rattle.digraph.proofs.Prelude.{All, AreHeights, HasArc, IsLeastCircle, IsLongestWalk, get_or_default}
+use Rattle.digraph.proofs.Prelude.{ℕ, List, length, rules, Tells, All, AreHeights, HasArc, IsLeastCircle, IsLongestWalk, get_or_default}
 use Rattle.digraph.proofs.Results.{tells_weaker}
 use Rattle.digraph.proofs.WalkLaws.{no_longest}
 use Rattle.digraph.proofs.HeightLaws.{heights_fall, heights_step, heights_at_sinks, no_heights}

@@ -1,5 +1,4 @@
-use Rattle.std.proofs.Common.{nat_eq, refl, arith}
-use Rattle.std.proofs.lemmas.Bool.{eq-eqb}
+use Rattle.equal_futures.proofs.Prelude.{nat_eq, refl, arith, eq-eqb}
 use Rattle.equal_futures.proofs.Numbered.{numbered_step, all_numbered}
 use Rattle.equal_futures.proofs.classes.renumber.Goals as goal
 

@@ -1,5 +1,4 @@
-use Rattle.equal_futures.proofs.Prelude.{◌<◌, [], length, sym, subst, All, Node, node_at, AreAdded}
-use Rattle.std.proofs.lemmas.List.{get_or_read}
+use Rattle.equal_futures.proofs.Prelude.{◌<◌, [], length, sym, subst, All, Node, node_at, AreAdded, get_or_read}
 use Rattle.equal_futures.proofs.Gathering.{one_more_incoming, all_targets}
 use Rattle.equal_futures.proofs.splitters.incoming_rows.Goals as goal
 

@@ -1,5 +1,4 @@
-use Rattle.equal_futures.proofs.Prelude.{◌≡◌, ℕ, List, length, subst, sym, ap, ◌∙◌, arith, IfOk-weaker, AreRenumbered, state_of, count_of}
-use Rattle.equal_futures.specs.declared.classes.Classes.{Classes}
+use Rattle.equal_futures.proofs.Prelude.{◌≡◌, ℕ, List, length, subst, sym, ap, ◌∙◌, arith, IfOk-weaker, AreRenumbered, state_of, count_of, Classes}
 use Rattle.equal_futures.proofs.Settling.{block_refined, classes_then, marks_refined, rows_read}
 use Rattle.equal_futures.proofs.splitters.refine.Goals as goal
 

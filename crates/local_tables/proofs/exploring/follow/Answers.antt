@@ -1,6 +1,4 @@
-use Rattle.local_tables.proofs.Prelude.{◌≡◌, ◌<◌, List, Result, Err, Some, length, sym, subst, arith, slice_get, slice_index_or, slice_get-get_or, Proc, steps_of, ProcId, tree_at, part_of, Reaches, TaskLacks, valueless, terms_at, Task}
-use Rattle.csp_steps.specs.Listed.{FaultIs}
-use Rattle.value_operators.specs.declared.fault.EvalFault.{EvalFault}
+use Rattle.local_tables.proofs.Prelude.{◌≡◌, ◌<◌, List, Result, Err, Some, length, sym, subst, arith, slice_get, slice_index_or, slice_get-get_or, Proc, steps_of, ProcId, tree_at, part_of, Reaches, TaskLacks, valueless, terms_at, Task, FaultIs, EvalFault}
 use Rattle.value_operators.specs.declared.fault.EvalFault.TheVariants as evaluation
 use Rattle.local_tables.proofs.Following.{begin_at, end_at, map_at}
 use Rattle.local_tables.proofs.Walking.{reached}

@@ -1,7 +1,4 @@
-use Rattle.resource_rule.proofs.Prelude.{◌<◌, ℕ, List, length, ap, sym, subst, refl, arith, ◌≡◌, ◌∙◌, slice_index, HasArc, IsLeastCircle, IsHeldWhile, StandsAbove}
-use Rattle.digraph.proofs.WalkLaws.{same_longest}
-use Rattle.shape_links.specs.Turned.{turned_circle}
-use Rattle.shape_links.proofs.Circles.{turned_least, circle_some}
+use Rattle.resource_rule.proofs.Prelude.{◌<◌, ℕ, List, length, ap, sym, subst, refl, arith, ◌≡◌, ◌∙◌, slice_index, HasArc, IsLeastCircle, IsHeldWhile, StandsAbove, same_longest, turned_circle, turned_least, circle_some}
 use Rattle.resource_rule.proofs.rule.numbers.Goals as goal
 
 pub returns-in-Ok-clause-numbers : goal.returns-in-Ok-clause-numbers

@@ -1,10 +1,4 @@
-use Rattle.std.proofs.Common.{ℕ, length, rules, subst}
-use Rattle.csp_base.specs.Prelude.{Tells}
-use Rattle.csp_tables.specs.Prelude.{SilentStep, RawStep}
-use Rattle.digraph.specs.Prelude.{HasArc, AreHeights, IsLeastCircle}
-use Rattle.digraph.proofs.Results.{tells_weaker}
-use Rattle.digraph.proofs.WalkLaws.{same_heights, same_least_circle, same_no_circle}
-use Rattle.tau_order.specs.SilentRows.{AreSilentRows}
+use Rattle.tau_order.proofs.Prelude.{ℕ, length, rules, subst, Tells, SilentStep, RawStep, HasArc, AreHeights, IsLeastCircle, tells_weaker, same_heights, same_least_circle, same_no_circle, AreSilentRows}
 use Rattle.tau_order.proofs.SilentWalks.{step_of, arc_of}
 use Rattle.tau_order.proofs.silent_runs.heights.Goals as goal
 
