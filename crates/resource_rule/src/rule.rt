@@ -78,7 +78,7 @@ fn numbers(alloc: Global, setting: &Setting<'_>, rows: &Rows) -> Result<Heights,
     match longest_walks(alloc, rows) {
         Ok(heights) => Ok(heights),
         Err(Stop::Told(circle)) => {
-            let resources = turned(alloc, circle.members())?;
+            let resources = turn_circle(alloc, circle.members())?;
             Err(Stop::Told(RuleFault::ResourcesCircle { resources }))
         }
         Err(Stop::NoMemory) => Err(Stop::NoMemory),

@@ -22,7 +22,7 @@ turned_ends-requires c =
 
 pub returns-in-Err-Told-clause-fault : goal.returns-in-Err-Told-clause-fault
 returns-in-Err-Told-clause-fault c =
-    let shape = c.args.prepared.now in
+    let shape = c.args.sorted.now in
     let it = rw c.in-Err-Told.field-0-is at c.in-Err-Told.ensures.circle in
     record {
       order = c.requires.keep;
