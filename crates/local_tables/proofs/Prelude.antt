@@ -24,7 +24,8 @@ pub use Rattle.pool_parts.proofs.StoreLemmas.{are_once}
 pub use Rattle.pool_parts.specs.Prelude.{capped, eq_id}
 pub use Rattle.pool_parts.specs.declared.place.ProcId.{ProcId}
 pub use Rattle.process_steps.proofs.Listed.{lists_are, lists_are_there}
-pub use Rattle.process_steps.specs.Prelude.{LacksNone, Move, ProcessStep, Step, Tick, Ticks}
+pub use Rattle.process_steps.specs.Prelude.{LacksNone, Move, ProcessStep, Step, Ticks}
+pub use Rattle.process_steps.specs.declared.label.Label.TheVariants.{Tick}
 pub use Rattle.process_steps.specs.StepList.{steps_of}
 pub use Rattle.std.proofs.Common.{Bool, Err, IsTrue, List, None, Ok, Option, Result, Some, [], ap, append-nil, append_assoc, arith, cond, eq-eqb, false, inl, inr, length, nat_eq, refl, subst, suc, sym, true, zero, ℕ, ◌++◌, ◌+◌, ◌-◌, ◌<◌, ◌^◌, ◌∙◌, ◌∷◌, ◌≡◌, ◌≤◌, ◌⊎◌}
 pub use Rattle.std.proofs.lemmas.Bool.{eqb-true}
