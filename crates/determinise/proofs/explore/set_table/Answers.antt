@@ -1,5 +1,4 @@
-use Rattle.determinise.proofs.Prelude.{◌<◌, length, sym, subst, rules, arith, All, RawStep, IsBreadthFirst, HasAcceptances, IsRisingNode, Determinised, FollowsTraces, AreDifferentSets, ReachesSets}
-use Rattle.std.proofs.Common.{◌+◌}
+use Rattle.determinise.proofs.Prelude.{◌+◌, ◌<◌, length, sym, subst, rules, arith, All, RawStep, IsBreadthFirst, HasAcceptances, IsRisingNode, Determinised, FollowsTraces, AreDifferentSets, ReachesSets}
 use Rattle.csp_base.specs.Prelude.{Tells}
 use Rattle.dl_limits.specs.declared.TheConstants.{MOST_SETS}
 use Rattle.determinise.proofs.Runs.{follows, different, accepts, in_order, breadth_first}
