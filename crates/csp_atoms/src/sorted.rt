@@ -151,15 +151,15 @@ fn push_if(made: &mut Vec<Atom>, kept: bool, atom: &Atom) -> Result<(), NoMemory
 }
 
 /// The operation on both lists, in a walk over both.
-pub(crate) fn merged(
+pub(crate) fn merge(
     alloc: Global,
     operation: SetOp,
     left: &[Atom],
     right: &[Atom],
-) -> Result<Vec<Atom>, NoMemory>
+) -> Result<Items<Atom>, NoMemory>
     requires left_rises { IsRising left.now }
     requires right_rises { IsRising right.now }
-    ensures { IfOk result (λ made. made.items ≡ result_of operation left.now right.now) }
+    ensures { IfOk result (λ made. made ≡ result_of operation left.now right.now) }
 {
     let mut made = Vec::new(alloc);
     let mut first = left;
@@ -174,7 +174,7 @@ pub(crate) fn merged(
         first = past_front(first, &atom);
         second = past_front(second, &atom);
     }
-    Ok(made)
+    Ok(Items::from_vec(made))
 }
 
 // The event that an atom is.

@@ -13,10 +13,9 @@ ghost use Rattle.csp_atoms.specs.declared.atom.Atom.{Atom};
 
 use containers::Items;
 use csp_atoms::AtomSet;
-use csp_base::NoMemory;
+use csp_base::{NoMemory, Stop};
 use csp_program::{Content, Expr};
 use csp_text::Decl;
-use csp_values::EvalFault;
 use dl_limits::MOST_EVENTS;
 use event_tables::{SharedSets, event_count, field_sets, fill_events};
 use name_tables::Meanings;
@@ -111,10 +110,10 @@ fn sets_in(
 {
     match field_sets(alloc, content, types) {
         Ok(sets) => Ok(sets),
-        Err(EvalFault::Value { kind }) => {
+        Err(Stop::Told(kind)) => {
             Err(Unresolved::Refused(ResolveFault::Value { inside: i, kind }))
         }
-        Err(EvalFault::NoMemory) => Err(Unresolved::NoMemory),
+        Err(Stop::NoMemory) => Err(Unresolved::NoMemory),
     }
 }
 

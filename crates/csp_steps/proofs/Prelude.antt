@@ -17,7 +17,7 @@ pub use Rattle.csp_program.specs.declared.processes.Proc.{Proc}
 pub use Rattle.csp_program.specs.declared.processes.Proc.TheOpen.{Proc-F}
 pub use Rattle.csp_program.specs.declared.programs.Content.{Content}
 pub use Rattle.csp_steps.specs.Computed.{GivesLook}
-pub use Rattle.csp_steps.specs.Prelude.{Answers, AreAdded, AreAround, AreAt, AreBodies, AreEach, AreFirsts, AreFirstsAfter, AreKept, AreMoves, AreNoted, AreOfChoice, AreSets, AreStepsOf, AreTargets, AreThoseAt, Does, Effect, FaultIs, Fits, GivesEach, GivesMoves, HasGone, HasNumber, HasSet, HasTurned, HasValue, IsBegun, IsFault, IsListing, IsLook, IsMove, IsNumbered, IsPlaceOf, IsSound, IsTaken, IsTurned, IsWithin, StandsAs, Way, again, all_moves, all_within, around, body_of, effect_as, effect_of, effect_of_layer, eq_step, filled, first, frames_weight, goals, hidden_labels, input_ways, is_blocked, is_by, labels_by, last_by, laws-law, moves_of, name_of, none, process_body, renamed_labels, seen, then_ways, turn_ways, turned_ways, turned_weight, values_left, values_weight, walk_moves, walk_ways, walk_weight, way_move, ways_by_number, weight}
+pub use Rattle.csp_steps.specs.Prelude.{Answers, AreAdded, AreAround, AreAt, AreBodies, AreEach, AreFirsts, AreFirstsAfter, AreKept, AreMoves, AreNoted, AreOfChoice, AreSets, AreStepsOf, AreTargets, AreThoseAt, Does, Effect, FaultIs, Fits, GivesEach, GivesMoves, HasGone, HasNumber, HasSet, HasTurned, HasValue, IsBegun, IsListing, IsLook, IsMove, IsNumbered, IsPlaceOf, IsSound, IsTaken, IsTurned, IsWithin, StandsAs, Way, again, all_moves, all_within, around, body_of, effect_as, effect_of, effect_of_layer, eq_step, filled, first, frames_weight, goals, hidden_labels, input_ways, is_blocked, is_by, labels_by, last_by, laws-law, moves_of, name_of, none, process_body, renamed_labels, seen, then_ways, turn_ways, turned_ways, turned_weight, values_left, values_weight, walk_moves, walk_ways, walk_weight, way_move, ways_by_number, weight}
 unfoldable pub use Rattle.csp_steps.specs.Prelude.{frames_left}
 pub use Rattle.csp_steps.specs.Walked.{GivesNext, nth_event, number_with}
 pub use Rattle.csp_steps.specs.declared.evaluated.Evaluated.{Evaluated}
@@ -46,5 +46,4 @@ unfoldable pub use Rattle.term_pool.specs.Prelude.{with_first}
 pub use Rattle.term_pool.specs.Trees.{tree_at}
 pub use Rattle.term_pool.specs.declared.node.Node.{Node}
 pub use Rattle.value_operators.specs.Env.{with_bound}
-pub use Rattle.value_operators.specs.Prelude.{Gives}
-pub use Rattle.value_operators.specs.declared.fault.EvalFault.{EvalFault}
+pub use Rattle.value_operators.specs.Prelude.{EvalFault, Gives, IsFault}

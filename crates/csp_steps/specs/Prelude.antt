@@ -1,5 +1,5 @@
 -- What is defined here, under one name for those who import it.
-pub use Rattle.csp_steps.specs.Computed.{Answers, AreAdded, AreAround, AreAt, AreEach, AreMoves, AreOfChoice, AreThoseAt, GivesEach, GivesLook, GivesMoves, GivesPlace, IsFault, IsListing, IsLook, IsMove, IsPlaceOf, all_within}
+pub use Rattle.csp_steps.specs.Computed.{Answers, AreAdded, AreAround, AreAt, AreEach, AreMoves, AreOfChoice, AreThoseAt, GivesEach, GivesLook, GivesMoves, GivesPlace, IsListing, IsLook, IsMove, IsPlaceOf, all_within}
 pub use Rattle.csp_steps.specs.Effect.{Does, Effect, IsWithin, all_moves, around, effect_as, effect_of, effect_of_layer, hidden_labels, hides, labels_by, last_by, moves_of, renamed_labels}
 pub use Rattle.csp_steps.specs.Evaluated.{AreBodies, AreKept, AreNoted, AreSets, Fits, GivesNumber, HasNumber, HasSet, HasValue, IsNumbered, StandsAs, body_of, process_body}
 pub use Rattle.csp_steps.specs.ExactStep.{eq_step}

@@ -33,5 +33,4 @@ pub use Rattle.value_laws.proofs.EventPlaces.{events_are_found, number_fits}
 pub use Rattle.value_laws.specs.Numbers.{ChannelsFit, events_from, field_place, first_of, front_count, front_number, span}
 pub use Rattle.value_operators.specs.Env.{env_in, parameters, with_bound}
 pub use Rattle.value_operators.specs.Forms.{capped, count_with, each_of, nothing_yet, scaled}
-pub use Rattle.value_operators.specs.Prelude.{Gives, a_set, gathered_set, inverse, named_set, negative, operation, produced}
-pub use Rattle.value_operators.specs.declared.fault.EvalFault.{EvalFault}
+pub use Rattle.value_operators.specs.Prelude.{EvalFault, Gives, a_set, gathered_set, inverse, named_set, negative, operation, produced}

@@ -33,9 +33,9 @@ struct Found {
 impl Drop for Found {
     fn drop(self) {
         let Found {
-            data: _data,
-            nothing: _nothing,
-            networks: _networks,
+            data,
+            nothing,
+            networks,
         } = self;
     }
 }

@@ -7,7 +7,8 @@ use Rattle.csp_program.specs.declared.kinds.ValueKind.{ValueKind}
 use Rattle.csp_program.specs.declared.programs.Content.{Content}
 use Rattle.csp_program.specs.declared.programs.EventInfo.{EventInfo}
 use Rattle.value_operators.specs.Prelude.{Gives}
-use Rattle.value_operators.specs.declared.fault.EvalFault.{EvalFault}
+use Rattle.value_operators.proofs.Faults.{at_err, weaker}
+use Rattle.value_operators.specs.Gives.{EvalFault}
 
 -- these sets, and those of the types that are left
 abbrev pub sets_with : List (List Atom) → Outcome (List (List Atom)) → Outcome (List (List Atom))
@@ -147,12 +148,6 @@ fill_ok (Ok next) made new channel first all sets at next_is new_is = λ channel
 fill_ok (Err e) made new channel first all sets at next_is new_is = tt
 
 -- an error of one type is the error of all
-stop_fault : (e : EvalFault) (old new : List (List Atom)) (outcome : Outcome (List Atom)) (whole : Outcome (List (List Atom)))
-    → ((why : ValueKind) → outcome ≡ Err why → whole ≡ Err why) → GivesOneMore (Err e) old new outcome → Gives (Err e) whole
-stop_fault EvalFault.NoMemory old new outcome whole along owed = tt
-stop_fault (EvalFault.Value why) old new outcome whole along owed = along why owed
-
 pub stop_err : (r : Result (List (List Atom)) EvalFault) (e : EvalFault) (old new : List (List Atom)) (outcome : Outcome (List Atom)) (whole : Outcome (List (List Atom)))
     → IsErrAnd r (λ y. y ≡ e) → ((why : ValueKind) → outcome ≡ Err why → whole ≡ Err why) → GivesOneMore (Err e) old new outcome → Gives r whole
-stop_err (Ok x) e old new outcome whole is along owed = absurd is
-stop_err (Err y) e old new outcome whole is along owed = rw is (stop_fault e old new outcome whole along owed)
+stop_err r e old new outcome whole is along owed = at_err (λ q. Gives q whole) r e is (weaker (λ why. outcome ≡ Err why) (λ why. whole ≡ Err why) e owed along)

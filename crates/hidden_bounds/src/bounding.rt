@@ -28,13 +28,9 @@ pub struct HiddenBound {
     pub bound: u64,
 }
 
-// By hand, so that a crate that ends one calls this and proves no end of its own.
 impl Drop for HiddenBound {
     fn drop(self) {
-        let HiddenBound {
-            order: _order,
-            bound: _bound,
-        } = self;
+        let HiddenBound { order, bound } = self;
     }
 }
 

@@ -19,13 +19,12 @@ pub struct Binding {
     hidden: Option<u32>,
 }
 
-// By hand, so that a crate that ends one calls this and proves no end of its own.
 impl Drop for Binding {
     fn drop(self) {
         let Binding {
-            name: _name,
-            number: _number,
-            hidden: _hidden,
+            name,
+            number,
+            hidden,
         } = self;
     }
 }
@@ -38,13 +37,12 @@ pub struct Scope {
     last: BTreeMap<Vec<u8>, u32>,
 }
 
-// By hand, so that a crate that ends one calls this and proves no end of its own.
 impl Drop for Scope {
     fn drop(self) {
         let Scope {
-            alloc: _alloc,
-            bindings: _bindings,
-            last: _last,
+            alloc,
+            bindings,
+            last,
         } = self;
     }
 }

@@ -58,8 +58,8 @@ fn needed<T>(found: Result<T, EvalFault>) -> Result<T, Stop<LayoutFault>>
 {
     match found {
         Ok(value) => Ok(value),
-        Err(EvalFault::NoMemory) => Err(Stop::NoMemory),
-        Err(EvalFault::Value { kind }) => Err(Stop::Told(LayoutFault::Value { kind })),
+        Err(Stop::NoMemory) => Err(Stop::NoMemory),
+        Err(Stop::Told(kind)) => Err(Stop::Told(LayoutFault::Value { kind })),
     }
 }
 
@@ -92,9 +92,7 @@ pub(crate) fn events_of(alloc: Global, atoms: &AtomSet) -> Result<EventSet, Eval
 {
     match atoms.to_event_set(alloc)? {
         Some(events) => Ok(events),
-        None => Err(EvalFault::Value {
-            kind: ValueKind::Kind,
-        }),
+        None => Err(Stop::Told(ValueKind::Kind)),
     }
 }
 
@@ -133,6 +131,6 @@ pub(crate) fn with_name(
 pub(crate) fn put(scope: &Scope<'_>, process: &Proc) -> Result<Boxed<Proc>, NoMemory>
     ensures { IfOk result (λ made. made ≡ proc_with (given_by (names_of scope.now)) process.now) }
 {
-    let values = Values::over(scope.alloc, scope.params, scope.args, scope.bound);
-    Ok(Boxed::new(scope.alloc, put_proc(scope.alloc, process, &values)?)?)
+    let values = Values::with_bound(scope.alloc, scope.params, scope.args, scope.bound);
+    Ok(Boxed::new(scope.alloc, put_proc(process, &values)?)?)
 }

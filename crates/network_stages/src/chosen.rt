@@ -25,13 +25,12 @@ pub struct Chosen<'a> {
     seat: &'a Seat,
 }
 
-// By hand, so that a crate that ends one calls this and proves no end of its own.
 impl<'a> Drop for Chosen<'a> {
     fn drop(self) {
         let Chosen {
-            program: _program,
-            number: _number,
-            seat: _seat,
+            program,
+            number,
+            seat,
         } = self;
     }
 }

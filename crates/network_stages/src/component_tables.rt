@@ -28,13 +28,9 @@ pub struct ComponentTable {
     pub heights: Heights,
 }
 
-// By hand, so that a crate that ends one calls this and proves no end of its own.
 impl Drop for ComponentTable {
     fn drop(self) {
-        let ComponentTable {
-            local: _local,
-            heights: _heights,
-        } = self;
+        let ComponentTable { local, heights } = self;
     }
 }
 

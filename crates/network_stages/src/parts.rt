@@ -30,13 +30,9 @@ pub struct Parted<'a> {
     parts: Vec<Part>,
 }
 
-// By hand, so that a crate that ends one calls this and proves no end of its own.
 impl<'a> Drop for Parted<'a> {
     fn drop(self) {
-        let Parted {
-            network: _network,
-            parts: _parts,
-        } = self;
+        let Parted { network, parts } = self;
     }
 }
 

@@ -26,13 +26,9 @@ pub struct Shaped<'a> {
     shape: Shape,
 }
 
-// By hand, so that a crate that ends one calls this and proves no end of its own.
 impl<'a> Drop for Shaped<'a> {
     fn drop(self) {
-        let Shaped {
-            network: _network,
-            shape: _shape,
-        } = self;
+        let Shaped { network, shape } = self;
     }
 }
 

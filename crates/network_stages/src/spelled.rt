@@ -24,13 +24,9 @@ pub struct Spelled {
     layout: Layout,
 }
 
-// By hand, so that a crate that ends one calls this and proves no end of its own.
 impl Drop for Spelled {
     fn drop(self) {
-        let Spelled {
-            program: _program,
-            layout: _layout,
-        } = self;
+        let Spelled { program, layout } = self;
     }
 }
 

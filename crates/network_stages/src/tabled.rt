@@ -23,13 +23,9 @@ pub struct Tabled<'a> {
     tables: Vec<ComponentTable>,
 }
 
-// By hand, so that a crate that ends one calls this and proves no end of its own.
 impl<'a> Drop for Tabled<'a> {
     fn drop(self) {
-        let Tabled {
-            network: _network,
-            tables: _tables,
-        } = self;
+        let Tabled { network, tables } = self;
     }
 }
 

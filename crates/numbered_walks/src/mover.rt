@@ -26,15 +26,14 @@ pub struct Mover<'a> {
     offers: Vec<EventSet>,
 }
 
-// By hand, so that a crate that ends one calls this and proves no end of its own.
 impl<'a> Drop for Mover<'a> {
     fn drop(self) {
         let Mover {
-            alphabet: _alphabet,
-            table: _table,
-            silent: _silent,
-            steps: _steps,
-            offers: _offers,
+            alphabet,
+            table,
+            silent,
+            steps,
+            offers,
         } = self;
     }
 }

@@ -23,5 +23,4 @@ pub use Rattle.value_laws.proofs.Fits.{program_fits}
 pub use Rattle.value_laws.specs.Numbers.{first_of, front_count, front_number, span}
 pub use Rattle.value_operators.proofs.Faults.{passed}
 pub use Rattle.value_operators.specs.Env.{with_bound}
-pub use Rattle.value_operators.specs.Prelude.{Gives}
-pub use Rattle.value_operators.specs.declared.fault.EvalFault.{EvalFault}
+pub use Rattle.value_operators.specs.Prelude.{EvalFault, Gives}

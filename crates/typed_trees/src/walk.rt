@@ -25,15 +25,14 @@ pub struct Walk<'a> {
     next: u32,
 }
 
-// By hand, so that a crate that ends one calls this and proves no end of its own.
 impl<'a> Drop for Walk<'a> {
     fn drop(self) {
         let Walk {
-            alloc: _alloc,
-            names: _names,
-            kinds: _kinds,
-            scope: _scope,
-            next: _next,
+            alloc,
+            names,
+            kinds,
+            scope,
+            next,
         } = self;
     }
 }

@@ -17,5 +17,4 @@ pub use Rattle.std.specs.Prelude.{Result, nat_eq, nat_le, negsuc, pos, slice_get
 pub use Rattle.std.specs.Result.{IsErrAnd}
 pub use Rattle.value_laws.specs.Numbers.{events_from}
 pub use Rattle.value_operators.specs.Env.{ArePlaces, env_in, numbered_from, parameters, with_bound}
-pub use Rattle.value_operators.specs.Prelude.{Gives, IsParted}
-pub use Rattle.value_operators.specs.declared.fault.EvalFault.{EvalFault}
+pub use Rattle.value_operators.specs.Prelude.{EvalFault, Gives, IsParted}

@@ -67,7 +67,7 @@ pub number_fault : (r : Result (List Atom) EvalFault) (f : EvalFault) (m x : ℤ
 number_fault r f m x k atoms all one is is_one e few failed h =
     passed r f (added atoms one) (Ok all) failed h (λ kind bad. let good : added atoms one ≡ Ok (numbers_from m (k + 1)) = added_number m x k atoms one is is_one e few in cc)
 
-above : (z : ℤ) → pos 16385 ≤ℤ z → MOST_ELEMENTS < natural z
+above : (z : ℤ) → pos MOST_ELEMENTS <ℤ z → MOST_ELEMENTS < natural z
 above (pos n) h = omega (arith, ints)
 above (negsuc n) h = absurd (omega (arith, ints))
 

@@ -4,12 +4,11 @@ ghost use Rattle.std.specs.Prelude.{◌<◌, length, IfOk};
 
 use crate::push_title;
 use containers::{Boxed, Key};
-use csp_base::{Bytes, NoMemory};
+use csp_base::{Bytes, NoMemory, Stop};
 use csp_parser::read;
 use csp_program::{Body, Content, Proc, Program};
 use csp_resolve::resolve;
 use csp_steps::{Evaluated, StepTo, steps_in};
-use csp_values::EvalFault;
 use dl_limits::MOST_BYTES;
 use process_steps::Label;
 use report::event_text;
@@ -94,10 +93,10 @@ fn push_steps(
     requires { id.0 < length pool.old }
 {
     let mut evaluated = Evaluated::new(alloc, program.key());
-    let steps = match steps_in(alloc, program, pool, &mut evaluated, id) {
+    let steps = match steps_in(program, pool, &mut evaluated, id) {
         Ok(steps) => steps,
-        Err(EvalFault::NoMemory) => return Err(NoMemory),
-        Err(EvalFault::Value { .. }) => return lines.extend_from_slice(b"no value\n"),
+        Err(Stop::NoMemory) => return Err(NoMemory),
+        Err(Stop::Told(_)) => return lines.extend_from_slice(b"no value\n"),
     };
     for step in steps.as_slice() {
         push_step(alloc, lines, program, pool, *step)?;

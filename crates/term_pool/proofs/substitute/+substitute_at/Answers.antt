@@ -30,7 +30,7 @@ put_all-loop-p-preserved t c =
 pub substitute_at-returns-in-Some-clause-process : goal.substitute_at-returns-in-Some-clause-process
 substitute_at-returns-in-Some-clause-process t c =
     made.made_after (given_by c.args.values.now) c.args.pool.now c.args.pool.now c.args.id.now c.in-Some.made c.requires.within (λ k q h. h)
-    (c.requires.visited c.args.id.now.0 c.in-Some.made (sym c.known.ensures ∙ c.in-Some.is))
+    (c.requires.visited c.args.id.now.0 c.in-Some.made (sym c.find_visited.ensures ∙ c.in-Some.is))
 
 pub substitute_at-returns-clause-visited : goal.substitute_at-returns-clause-visited
 substitute_at-returns-clause-visited t c =

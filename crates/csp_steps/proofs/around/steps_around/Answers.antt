@@ -1,7 +1,7 @@
 use Rattle.csp_steps.proofs.Prelude.{List, Some, ap, sym, ◌∙◌, subst, slice_get, get_or_from_slice_get, tree_at, Does, Operator}
 use Rattle.csp_steps.proofs.Alike.{on_ok_of}
 use Rattle.csp_steps.proofs.Noting.{fits_noted}
-use Rattle.csp_steps.proofs.around.around.Goals as goal
+use Rattle.csp_steps.proofs.around.steps_around.Goals as goal
 
 pub returns-clause-fits : goal.returns-clause-fits
 returns-clause-fits c =

@@ -1,6 +1,6 @@
 use Rattle.std.proofs.Common.{sym, ◌∙◌}
 use Rattle.csp_atoms.proofs.MergeLaws.{loop_step, loop_end, shorter, IsRising-rest_after}
-use Rattle.csp_atoms.proofs.sorted.merged.Goals as goal
+use Rattle.csp_atoms.proofs.sorted.merge.Goals as goal
 
 pub loop-atom-preserved : goal.loop-atom-preserved
 loop-atom-preserved c = record {
@@ -20,4 +20,4 @@ pub loop-atom-smaller : goal.loop-atom-smaller
 loop-atom-smaller c = rw (c.past_front-first.ensures, c.past_front-second.ensures) (shorter _ _ _ (sym c.in-Some.ensures))
 
 pub returns : goal.returns
-returns c = loop_end _ _ _ _ _ (sym c.least.ensures ∙ c.in_default.is) c.loop-atom.invariant.so_far
+returns c = c.from_vec.ensures ∙ loop_end _ _ _ _ _ (sym c.least.ensures ∙ c.in_default.is) c.loop-atom.invariant.so_far

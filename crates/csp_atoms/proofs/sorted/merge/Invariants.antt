@@ -1,5 +1,5 @@
 use Rattle.csp_atoms.proofs.Prelude.{◌≡◌, ◌+◌, ◌++◌, length, IsRising, result_of}
-use Rattle.csp_atoms.proofs.sorted.merged.Given as goal
+use Rattle.csp_atoms.proofs.sorted.merge.Given as goal
 
 abbrev pub invariant-loop-atom : goal.invariant-loop-atom
 invariant-loop-atom l = record {

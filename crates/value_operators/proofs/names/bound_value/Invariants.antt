@@ -1,5 +1,5 @@
 use Rattle.value_operators.proofs.Prelude.{◌≡◌, length, bound_value, env_in, parameters, with_bound}
-use Rattle.value_operators.proofs.names.named.Given as goal
+use Rattle.value_operators.proofs.names.bound_value.Given as goal
 
 -- the name stands for what it stands for without the names after those that are left
 abbrev pub invariant-loop-last : goal.invariant-loop-last

@@ -1,6 +1,6 @@
 use Rattle.substitution.proofs.Prelude.{List, ℕ, ap, ◌∙◌, with_bound, bound_to, but_for}
 use Rattle.substitution.proofs.NamesFound.{none_hidden}
-use Rattle.substitution.proofs.values.Values.over.Goals as goal
+use Rattle.substitution.proofs.values.Values.with_bound.Goals as goal
 
 pub returns : goal.returns
 returns c =

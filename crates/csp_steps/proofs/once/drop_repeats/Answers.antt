@@ -2,7 +2,7 @@ use Rattle.csp_steps.proofs.Prelude.{◌<◌, List, length, subst, arith, AreAdd
 use Rattle.std.proofs.lemmas.Result.{IfOk-weaker}
 use Rattle.csp_steps.proofs.Doubles.{once_of}
 use Rattle.csp_steps.proofs.Firsts.{firsts_few}
-use Rattle.csp_steps.proofs.once.once.Goals as goal
+use Rattle.csp_steps.proofs.once.drop_repeats.Goals as goal
 
 pub returns-then-len-lt2 : goal.returns-then-len-lt2
 returns-then-len-lt2 c =

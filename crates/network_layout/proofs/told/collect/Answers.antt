@@ -1,6 +1,6 @@
 use Rattle.std.proofs.Common.{ap, arith, sym, Ok}
 use Rattle.network_layout.proofs.ToldSteps.{told_end, told_next, untold_first}
-use Rattle.network_layout.proofs.told.all_noted.Goals as goal
+use Rattle.network_layout.proofs.told.collect.Goals as goal
 
 pub loop-part-init : goal.loop-part-init
 loop-part-init g c = ap (λ told. Ok told) (sym c.new-made.ensures)
@@ -8,7 +8,7 @@ loop-part-init g c = ap (λ told. Ok told) (sym c.new-made.ensures)
 pub returns-in-Err-clause-fault : goal.returns-in-Err-clause-fault
 returns-in-Err-clause-fault g c =
     untold_first (g.T.Noted.told c.args.program.now) c.args.seats.now c.loop-part.part c.loop-part.made c.loop-part.invariant c.index-seats-part.result (omega arith) c.index-seats-part.is
-    c.noted_fault.result c.in-Err.fault c.in-Err.ensures c.noted_fault.ensures
+    c.fault_at.result c.in-Err.fault c.in-Err.ensures c.fault_at.ensures
 
 pub loop-part-preserved : goal.loop-part-preserved
 loop-part-preserved g c =

@@ -1,5 +1,5 @@
 use Rattle.network_layout.proofs.Prelude.{◌≡◌, Ok, take, all_outcomes}
-use Rattle.network_layout.proofs.told.all_noted.Given as goal
+use Rattle.network_layout.proofs.told.collect.Given as goal
 
 -- what is told of the components so far has values
 abbrev pub invariant-loop-part : goal.invariant-loop-part

@@ -1,5 +1,5 @@
 use Rattle.value_operators.proofs.GrowingLaws.{merged_parted, merged_same}
-use Rattle.value_operators.proofs.growing.GrowingSet.settled.Goals as goal
+use Rattle.value_operators.proofs.growing.GrowingSet.settle.Goals as goal
 
 pub invariant_of-result : goal.invariant_of-result
 invariant_of-result c = merged_parted _ _ _ _ c.in_ok-settled.ensures c.new.ensures c.self.invariant
