@@ -15,7 +15,7 @@ pub use Rattle.csp_steps.specs.Prelude.{AreFirsts, AreStepsOf, AreTargets, Fault
 pub use Rattle.csp_steps.specs.declared.step.StepTo.{StepTo}
 pub use Rattle.csp_tables.specs.Prelude.{Component, ComponentStep, IsInTable, IsStepOf, IsTableOf, Label, Path, RawStep, RawTable, Reached, event_targets, silent, silent_targets, standing_at, targets_in, visible, visible_events}
 pub use Rattle.dl_limits.specs.declared.TheConstants.{MOST_TERMS, MOST_TERM_DEPTH}
-pub use Rattle.local_tables.specs.Prelude.{AreFound, AreLed, AreRows, AreSteps, AreTabled, AreTaken, AreTerms, AreTermsOf, CanEnd, FaultsExcludeTables, IsAt, IsFollowed, IsInOrder, IsInside, IsLocalTable, IsRow, IsTabled, IsUpTo, IsWithin, LeadsToTerm, Origin, Reaches, Room, TaskLacks, counted_size, first_found, label_of, part_of, process_label, step_count, step_events, step_more, terms_at, valueless, with_term}
+pub use Rattle.local_tables.specs.Prelude.{AreFound, AreLed, AreRows, AreSteps, AreTabled, AreTaken, AreTerms, AreTermsOf, CanEnd, FaultsExcludeTables, IsAt, IsFollowed, IsInOrder, IsInside, IsLocalTable, IsRow, IsTabled, IsUpTo, IsWithin, LeadsToTerm, Origin, Reaches, Room, TaskLacks, counted_size, first_found, label_of, part_of, process_label, step_count, step_events, step_more, terms_at, with_term}
 pub use Rattle.local_tables.specs.declared.found.Found.{Found}
 pub use Rattle.local_tables.specs.declared.local_table.LocalTable.{LocalTable}
 pub use Rattle.local_tables.specs.declared.task.Task.{Task}
