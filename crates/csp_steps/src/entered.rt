@@ -10,13 +10,11 @@ use csp_atoms::Value;
 use csp_base::Stop;
 use csp_program::{Body, Program, ValueKind};
 use csp_values::EvalFault;
-use std::alloc::Global;
 use substitution::Values;
 use term_pool::{Pool, ProcId};
 
 /// The place of the body of the definition with the number `def`, which is put into the pool with the values in place of the parameters.
 pub(crate) fn enter(
-    alloc: Global,
     program: &Program,
     pool: &mut Pool,
     evaluated: &mut Evaluated,
@@ -34,7 +32,7 @@ pub(crate) fn enter(
     match &found.body {
         Body::Process(body) => {
             let id = body_place(pool, &mut evaluated.bodies, def, body)?;
-            let values = Values::new(alloc, found.params.as_slice(), values);
+            let values = Values::new(pool.alloc(), found.params.as_slice(), values);
             let made = pool.put_all_in(id, &values)?;
             Ok(made)
         }

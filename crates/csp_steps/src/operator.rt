@@ -39,15 +39,11 @@ fn images_in(
 }
 
 /// The operator at a place. Faults are those of its set of events, or of its pairs; any other process has the kind `Kind`.
-pub(crate) fn operator_at(
-    alloc: Global,
-    program: &Program,
-    pool: &Pool,
-    id: ProcId,
-) -> Result<Operator, EvalFault>
+pub(crate) fn operator_at(program: &Program, pool: &Pool, id: ProcId) -> Result<Operator, EvalFault>
     requires { id.0 < length pool.now }
     ensures { GivesOperator program.now pool.now result (tree_at pool.now id) }
 {
+    let alloc = pool.alloc();
     match pool.node(id) {
         Node::Hide(_, set) => {
             let hidden = events_in(alloc, program, set)?;

@@ -92,7 +92,7 @@ pub(crate) fn set_of(
 }
 
 /// The set that a closed expression is worth.
-pub(crate) fn known_set(
+pub(crate) fn copy_set(
     alloc: Global,
     program: &Program,
     sets: &mut Sets,
