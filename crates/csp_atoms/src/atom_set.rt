@@ -1,9 +1,7 @@
 //! Sets of atoms of one kind. Contracts see the list of the members, which rises strictly.
 
 ghost use Rattle.std.specs.Prelude.{◌≡◌, ◌↔◌, ◌&&◌, ◌||◌, not, [], false, length, slice_get, IfOk, OnOk, OnErr, IsErrOf, IsTrue};
-ghost use Rattle.csp_atoms.specs.Order.{same};
-ghost use Rattle.csp_atoms.specs.Sets.{IsAtomSet, IsRising, IsOneKind, alike, diff_of, event_numbers, fits, has_atom, inter_of, place_of, union_of, with_atom};
-ghost use Rattle.csp_atoms.specs.declared.atom.Atom.{Atom};
+ghost use Rattle.csp_atoms.specs.Prelude.{same, IsAtomSet, IsRising, IsOneKind, alike, diff_of, event_numbers, fits, has_atom, inter_of, place_of, union_of, with_atom, Atom};
 ghost use Rattle.csp_base.specs.declared.stop.Stop.TheVariants as stop;
 
 use crate::atom::Atom;

@@ -2,9 +2,7 @@
 
 ghost use Rattle.std.specs.Prelude.{◌≡◌, ◌+◌, ◌<◌, Some, None, IfOk, OnOk, OnErr};
 ghost use Rattle.std.specs.Option.{option_map};
-ghost use Rattle.csp_atoms.specs.Merge.{result_of, least_of, begins_with, rest_after, with_last};
-ghost use Rattle.csp_atoms.specs.Search.{count_before, stands_at};
-ghost use Rattle.csp_atoms.specs.Sets.{IsRising, alike, event_number, event_numbers, fits, has_atom, place_of, with_atom};
+ghost use Rattle.csp_atoms.specs.Prelude.{result_of, least_of, begins_with, rest_after, with_last, count_before, stands_at, IsRising, alike, event_number, event_numbers, fits, has_atom, place_of, with_atom};
 ghost use Rattle.csp_base.specs.Operations.{keeps};
 
 use crate::atom::{Atom, equal, precedes};

@@ -1,6 +1,5 @@
 -- What a call answers for a whole, from what calls answer for its parts.
-use Rattle.csp_steps.proofs.Prelude.{◌≡◌, ℕ, ◌+◌, ◌<◌, ◌≤◌, Ok, Err, List, [], ◌∷◌, ◌++◌, map, take, length, get_or, ap, sym, ◌∙◌, subst, append_assoc, Result, IsErrAnd, joined, Outcome, ValueKind, Proc, Content, Move, Among, IsFront, Gives, EvalFault, GivesStart, Answers, AreMoves, IsFault, IsMove, seen, StepTo, joined_push, take_read, map_push, take_all}
-use Rattle.value_operators.proofs.Faults.{at_err, weaker}
+use Rattle.csp_steps.proofs.Prelude.{◌≡◌, ℕ, ◌+◌, ◌<◌, ◌≤◌, Ok, Err, List, [], ◌∷◌, ◌++◌, map, take, length, get_or, ap, sym, ◌∙◌, subst, append_assoc, Result, IsErrAnd, joined, Outcome, ValueKind, Proc, Content, Move, Among, IsFront, Gives, EvalFault, GivesStart, Answers, AreMoves, IsFault, IsMove, seen, StepTo, joined_push, take_read, map_push, take_all, at_err, weaker}
 use Rattle.csp_steps.proofs.Places.{moves_stay, one_move}
 
 -- ---- faults that are handed on

@@ -1,12 +1,8 @@
 -- The steps of each form of a process, as a look at it finds them, and how deep the processes below it are.
-use Rattle.csp_steps.proofs.Prelude.{◌≡◌, ℕ, suc, ◌<◌, Bool, true, false, if◌then◌else◌, Ok, Err, List, [], ◌∷◌, map, length, slice_get, refl, ap, sym, ◌∙◌, subst, arith, ltb-true, lt-ltb, and_from, first_so, second_so, Result, nat_lt, proc_depth, Outcome, and_then, given_by, proc_with, EventPart, Expr, Gen, ValueKind, EmptyChoice, Field, Proc, Content, Atom, Value, arguments_in, called, set_in, truth_in, Among, event_among, of_head, sets_among, ways_to_fill, each_put, silent_to, some_silent_to, steps_of, steps_of_choice, Label, Silent, Visible, Tick, all_below, places, places_below, tree_at, tree_of, Node, ProcId, EvalFault, IsStart, filled, ways_by_number, all_within, AreAround, AreAt, AreOfChoice, AreThoseAt, GivesLook, IsListing, IsPlaceOf, seen, Look, StepTo, greatest}
-use Rattle.csp_program.specs.declared.processes.Head.{Head}
+use Rattle.csp_steps.proofs.Prelude.{◌≡◌, ℕ, suc, ◌<◌, Bool, true, false, if◌then◌else◌, Ok, Err, List, [], ◌∷◌, map, length, slice_get, refl, ap, sym, ◌∙◌, subst, arith, ltb-true, lt-ltb, and_from, first_so, second_so, Result, nat_lt, proc_depth, Outcome, and_then, given_by, proc_with, EventPart, Expr, Gen, ValueKind, EmptyChoice, Field, Proc, Content, Atom, Value, arguments_in, called, set_in, truth_in, Among, event_among, of_head, sets_among, ways_to_fill, each_put, silent_to, some_silent_to, steps_of, steps_of_choice, Label, Silent, Visible, Tick, all_below, places, places_below, tree_at, tree_of, Node, ProcId, EvalFault, IsStart, filled, ways_by_number, all_within, AreAround, AreAt, AreOfChoice, AreThoseAt, GivesLook, IsListing, IsPlaceOf, seen, Look, StepTo, greatest, Head, depth_of, layer_depth, put_depths, steps_of_form, Start, all_below_more}
 use Rattle.csp_program.specs.declared.processes.Proc.TheVariants as proc
-use Rattle.process_steps.proofs.Depths.{depth_of, layer_depth, put_depths, steps_of_form}
-use Rattle.step_values.specs.declared.heads.Start.{Start}
 use Rattle.csp_steps.proofs.Effects.{around_hide, around_rename, around_sequence}
 use Rattle.csp_steps.proofs.Numbered.{moves_by_number}
-use Rattle.term_pool.proofs.TreeLemmas.{all_below_more}
 
 module _ (p : Content) where
   -- a guard

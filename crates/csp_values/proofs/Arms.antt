@@ -1,13 +1,10 @@
 -- What a call answers for a form, from what calls answer for its parts.
-use Rattle.csp_values.proofs.Prelude.{◌≡◌, ℕ, zero, suc, ◌+◌, ◌<◌, ◌^◌, Bool, true, false, List, [], None, Ok, Err, length, refl, ap, sym, subst, ◌∙◌, arith, ℤ, if◌then◌else◌, slice_get, Result, IsErrAnd, all_added, Outcome, and_then, Env, Gathered, bound_value, many, number, one_event, range, set_binary, as_number, as_set, sets_of, as_truth, EventPart, Expr, Expr-F, out-EventPart, ValueKind, Kind, OutsideChannel, Channel, Content, ChannelsFit, events_from, span, Atom, Value, One, BinOp, SetOp, negative, inverse, operation, named_set, a_set, gathered_set, produced, count_with, Gives, EvalFault, worth, worths, number_worth, truth_worth, atoms_worth, chosen, range_of, set_of, use_worth, with_items, event_worth, front_worth, with_front, with_fronts, one_more_binding, GivesTally, Course, GivesBinding, faulty, skipped, Walk, and_then_regroup}
+use Rattle.csp_values.proofs.Prelude.{◌≡◌, ℕ, zero, suc, ◌+◌, ◌<◌, ◌^◌, Bool, true, false, List, [], None, Ok, Err, length, refl, ap, sym, subst, ◌∙◌, arith, ℤ, if◌then◌else◌, slice_get, Result, IsErrAnd, all_added, Outcome, and_then, Env, Gathered, bound_value, many, number, one_event, range, set_binary, as_number, as_set, sets_of, as_truth, EventPart, Expr, Expr-F, out-EventPart, ValueKind, Kind, OutsideChannel, Channel, Content, ChannelsFit, events_from, span, Atom, Value, One, BinOp, SetOp, negative, inverse, operation, named_set, a_set, gathered_set, produced, count_with, Gives, EvalFault, worth, worths, number_worth, truth_worth, atoms_worth, chosen, range_of, set_of, use_worth, with_items, event_worth, front_worth, with_front, with_fronts, one_more_binding, GivesTally, Course, GivesBinding, faulty, skipped, Walk, and_then_regroup, Tally, at_err, weaker, MOST_BINDINGS}
 use Rattle.csp_atoms.specs.declared.atom.Atom.TheVariants as atom
 use Rattle.csp_program.specs.declared.expressions.Expr.TheVariants as expr
 use Rattle.value_operators.specs.Forms as form
-use Rattle.csp_values.specs.declared.tally.Tally.{Tally}
 use Rattle.csp_values.proofs.Equations as eq
-use Rattle.value_operators.proofs.Faults.{at_err, weaker}
 use Rattle.csp_values.proofs.FieldSteps.{front_fits}
-use Rattle.dl_limits.specs.declared.TheConstants.{MOST_BINDINGS}
 
 pub same : {A : Type 0} (r : Result A EvalFault) (o o' : Outcome A) → o ≡ o' → Gives r o' → Gives r o
 same r o o' is h = subst (Gives r) (sym is) h

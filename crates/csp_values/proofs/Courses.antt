@@ -1,11 +1,6 @@
 -- What walks over generators come to, as they go on, and what is gathered over them.
-use Rattle.csp_values.proofs.Prelude.{◌≡◌, ℕ, zero, suc, ◌+◌, ◌<◌, ◌≤◌, Bool, true, false, cond, Option, Some, None, Ok, Err, List, [], ◌∷◌, ◌++◌, map, length, drop, slice_get, refl, ap, sym, subst, ◌∙◌, arith, append_assoc, append-nil, drop_of_length-le, MatchOption, Result, IsErrAnd, Outcome, and_then, Env, Gathered, Turn, from, when, as_set, as_truth, gathered, over, turn, uses_within, walked, EventPart, Expr, Gen, ValueKind, Content, Atom, One, and_then_regroup, Gives, EvalFault, with_bound, Course, GivesStep, no_more, faulty, one, step, skipped, unless_faulty, each_taken, bindings, turns_from, after, at_turn, course_over, name_of, IsUnder, begun, taken, taken_as, worth, truth_worth, atoms_worth, one_more_binding, walk_worth, yielded, Walk}
-use Rattle.std.proofs.lemmas.List.{length_push, map-append, same_from_push}
+use Rattle.csp_values.proofs.Prelude.{◌≡◌, ℕ, zero, suc, ◌+◌, ◌<◌, ◌≤◌, Bool, true, false, cond, Option, Some, None, Ok, Err, List, [], ◌∷◌, ◌++◌, map, length, drop, slice_get, refl, ap, sym, subst, ◌∙◌, arith, append_assoc, append-nil, drop_of_length-le, MatchOption, Result, IsErrAnd, Outcome, and_then, Env, Gathered, Turn, from, when, as_set, as_truth, gathered, over, turn, uses_within, walked, EventPart, Expr, Gen, ValueKind, Content, Atom, One, and_then_regroup, Gives, EvalFault, with_bound, Course, GivesStep, no_more, faulty, one, step, skipped, unless_faulty, each_taken, bindings, turns_from, after, at_turn, course_over, name_of, IsUnder, begun, taken, taken_as, worth, truth_worth, atoms_worth, one_more_binding, walk_worth, yielded, Walk, length_push, map-append, same_from_push, at_err, weaker, with_bound-last, Frame, Step}
 use Rattle.csp_program.specs.declared.expressions.Gen.TheVariants as generator
-use Rattle.value_operators.proofs.Faults.{at_err, weaker}
-use Rattle.value_operators.proofs.NameLaws.{with_bound-last}
-use Rattle.csp_values.specs.declared.walk.Frame.{Frame}
-use Rattle.csp_values.specs.declared.walk.Step.{Step}
 use Rattle.csp_values.proofs.Equations.{turn-Cond, turn-From}
 
 -- how many steps and bindings are left

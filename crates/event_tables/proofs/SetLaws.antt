@@ -1,14 +1,6 @@
 -- Field sets, one after another.
-use Rattle.event_tables.proofs.Prelude.{◌≡◌, ℕ, zero, suc, ◌+◌, ◌<◌, ◌≤◌, List, [], ◌∷◌, ◌++◌, length, drop, get_or, replicate, refl, sym, ap, ◌∙◌, append_assoc, add-one, subst, arith, Option, Some, None, Result, IfOk, OnOk, slice_get, Bor, option_copied, IsErrAnd, IsItemAt, drop_of_length-le, append-nil, get_or_from_slice_get, slice_get_past, slice_get_read, slice_get_within, Atom, row_count, channel_events, events_from_channel, Outcome, and_then, value_of, Channel, SharedSets, GivesOneMore, lent, spread, field_set, field_sets, with_sets, drop_read}
-use Rattle.std.specs.Prelude.{Ok, Err}
+use Rattle.event_tables.proofs.Prelude.{◌≡◌, ℕ, zero, suc, ◌+◌, ◌<◌, ◌≤◌, List, [], ◌∷◌, ◌++◌, length, drop, get_or, replicate, refl, sym, ap, ◌∙◌, append_assoc, add-one, subst, arith, Option, Some, None, Result, IfOk, OnOk, slice_get, Bor, option_copied, IsErrAnd, IsItemAt, drop_of_length-le, append-nil, get_or_from_slice_get, slice_get_past, slice_get_read, slice_get_within, Atom, row_count, channel_events, events_from_channel, Outcome, and_then, value_of, Channel, SharedSets, GivesOneMore, lent, spread, field_set, field_sets, with_sets, drop_read, Ok, Err, Expr, ValueKind, Content, EventInfo, Gives, at_err, weaker, EvalFault}
 use Rattle.csp_base.proofs.Standard.{length-append}
-use Rattle.csp_program.specs.declared.expressions.Expr.{Expr}
-use Rattle.csp_program.specs.declared.kinds.ValueKind.{ValueKind}
-use Rattle.csp_program.specs.declared.programs.Content.{Content}
-use Rattle.csp_program.specs.declared.programs.EventInfo.{EventInfo}
-use Rattle.value_operators.specs.Prelude.{Gives}
-use Rattle.value_operators.proofs.Faults.{at_err, weaker}
-use Rattle.value_operators.specs.Gives.{EvalFault}
 
 -- these sets, and those of the types that are left
 abbrev pub sets_with : List (List Atom) → Outcome (List (List Atom)) → Outcome (List (List Atom))

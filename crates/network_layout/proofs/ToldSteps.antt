@@ -1,10 +1,5 @@
 -- What is told of components, one after another.
-use Rattle.network_layout.proofs.Prelude.{◌≡◌, ℕ, ◌+◌, ◌<◌, ◌≤◌, Ok, Err, List, [], ◌∷◌, ◌++◌, length, take, get_or, refl, ap, sym, ◌∙◌, subst, take_all, Stop, take_read, Outcome, and_then, Proc, Component, all_outcomes, Gives}
-use Rattle.std.proofs.lemmas.Option.{slice_get_read}
-use Rattle.csp_base.specs.Stops.{Tells}
-use Rattle.network_layout.specs.Told.{IsUntold, noted_fault}
-use Rattle.network_layout.specs.declared.told.NotedFault.{NotedFault}
-use Rattle.value_operators.specs.Gives.{EvalFault}
+use Rattle.network_layout.proofs.Prelude.{◌≡◌, ℕ, ◌+◌, ◌<◌, ◌≤◌, Ok, Err, List, [], ◌∷◌, ◌++◌, length, take, get_or, refl, ap, sym, ◌∙◌, subst, take_all, Stop, take_read, Outcome, and_then, Proc, Component, all_outcomes, Gives, slice_get_read, Tells, IsUntold, noted_fault, NotedFault, EvalFault}
 use Rattle.csp_base.specs.declared.stop.Stop.TheVariants as evaluation
 
 last_of : {A : Type 0} (o : Outcome A) (rest : Outcome (List A)) (last : Outcome A)

@@ -2,14 +2,11 @@
 
 ghost use Rattle.std.specs.Prelude.{◌≡◌, [], ◌∷◌, ◌++◌, IfOk};
 ghost use Rattle.csp_atoms.specs.Sets.{event_numbers};
-ghost use Rattle.csp_program.specs.Outcome.{Outcome};
-ghost use Rattle.csp_program.specs.Substitution.{given_by, proc_with};
-ghost use Rattle.process_steps.specs.Needed.{needed_events};
-ghost use Rattle.process_steps.specs.Prefix.{set_under, value_under};
+ghost use Rattle.csp_program.specs.Prelude.{Outcome, given_by, proc_with};
+ghost use Rattle.process_steps.specs.Prelude.{needed_events, set_under, value_under};
 ghost use Rattle.network_trees.specs.NetworkOf.{arguments_under, events_under, truth_under};
 ghost use Rattle.network_layout.specs.Lays.{Needs, names_of};
-ghost use Rattle.value_operators.specs.Env.{env_in};
-ghost use Rattle.value_operators.specs.Gives.{Gives};
+ghost use Rattle.value_operators.specs.Prelude.{env_in, Gives};
 
 use containers::{Boxed, Items};
 use csp_atoms::{Atom, AtomSet, Value};

@@ -2,8 +2,7 @@
 
 ghost use Rattle.std.specs.Prelude.{◌≡◌, ◌+◌, max, min, nat_eq};
 ghost use Rattle.csp_program.specs.Free.{either, nowhere, Names};
-ghost use Rattle.pool_parts.specs.Counting.{capped};
-ghost use Rattle.pool_parts.specs.Low.{IsLow};
+ghost use Rattle.pool_parts.specs.Prelude.{capped, IsLow};
 
 /// What is noted of a term or of a part of one.
 #[derive(Clone, Copy)]

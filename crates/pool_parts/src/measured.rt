@@ -2,8 +2,7 @@
 
 ghost use Rattle.std.specs.Prelude.{◌≡◌, ◌+◌, [], ◌∷◌, max, map};
 ghost use Rattle.csp_program.specs.Prelude.{expr_depth, gen_depth, part_depth, pair_depth, field_depth, any_of, before, either, expr_free, gen_binding, head_free, nowhere, pair_free, part_free, under, elements_of, expr_size, gen_size, part_size, pair_size, field_size};
-ghost use Rattle.pool_parts.specs.Counting.{capped};
-ghost use Rattle.pool_parts.specs.Low.{IsLow};
+ghost use Rattle.pool_parts.specs.Prelude.{capped, IsLow};
 ghost use Rattle.csp_base.specs.Lists.{greatest, total};
 
 use crate::measure::{Measure, elements, item, join, leaf, name, node};

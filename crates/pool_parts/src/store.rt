@@ -1,10 +1,7 @@
 //! Values that a pool keeps once each, with what each measures.
 
 ghost use Rattle.std.specs.Prelude.{◌≡◌, ℕ, ◌<◌, [], length, slice_get, slice_index_or, IfOk, IsTrue, List, MatchOption, OnErr, Some};
-ghost use Rattle.pool_parts.specs.Counting.{capped};
-ghost use Rattle.pool_parts.specs.Low.{IsLow};
-ghost use Rattle.pool_parts.specs.Stored.{AreNoted, IsAbsent, IsMeasure, IsStart};
-ghost use Rattle.pool_parts.specs.declared.measure.Measure.{Measure};
+ghost use Rattle.pool_parts.specs.Prelude.{capped, IsLow, AreNoted, IsAbsent, IsMeasure, IsStart, Measure};
 ghost use Rattle.csp_base.specs.Lists.{EachOnce};
 ghost use Rattle.csp_program.specs.Free.{Names};
 

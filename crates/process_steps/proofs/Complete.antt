@@ -1,7 +1,6 @@
 -- Each step by the relation stands in the list of a process, where it has one; a process that lacks no value has one.
-use Rattle.process_steps.proofs.Prelude.{◌≡◌, ℕ, ◌+◌, Bool, true, false, if◌then◌else◌, Some, Ok, List, [], ◌∷◌, map, slice_get, refl, ap, sym, subst, inl, arith, has, given_by, proc_with, sets_of, EventPart, Expr, Gen, Proc, Content, arguments_in, called, events_in, set_in, truth_in, event_of, Renamed, images, renaming_in, Step, each_put, call, each_external, each_internal, event, external_event, external_silent, external_tick, guard, hide_hidden, hide_seen, hide_silent, hide_tick, if_false, if_true, internal, prefix, rename_event, rename_silent, rename_tick, sequence_event, sequence_silent, sequence_tick, skip, Move, in_choice, in_hiding, in_renaming, in_sequence, silent_to, some_silent_to, steps_of, channel, of_channel, ways_to_fill, Silent, Visible, Tick, One}
+use Rattle.process_steps.proofs.Prelude.{◌≡◌, ℕ, ◌+◌, Bool, true, false, if◌then◌else◌, Some, Ok, List, [], ◌∷◌, map, slice_get, refl, ap, sym, subst, inl, arith, has, given_by, proc_with, sets_of, EventPart, Expr, Gen, Proc, Content, arguments_in, called, events_in, set_in, truth_in, event_of, Renamed, images, renaming_in, Step, each_put, call, each_external, each_internal, event, external_event, external_silent, external_tick, guard, hide_hidden, hide_seen, hide_silent, hide_tick, if_false, if_true, internal, prefix, rename_event, rename_silent, rename_tick, sequence_event, sequence_silent, sequence_tick, skip, Move, in_choice, in_hiding, in_renaming, in_sequence, silent_to, some_silent_to, steps_of, channel, of_channel, ways_to_fill, Silent, Visible, Tick, One, Label}
 use Rattle.process_steps.specs.LacksNone as lacking
-use Rattle.process_steps.specs.declared.label.Label.{Label}
 use Rattle.process_steps.proofs.Chains.{IsThere, Lists, each_there, if_of, lists_each, onward, then_there, where_is, where_ok}
 use Rattle.process_steps.proofs.Depths.{steps_of_form}
 use Rattle.process_steps.proofs.Fillings.{fields_there, fills_complete, nothing_put}

@@ -1,7 +1,5 @@
 -- How deep the processes below a process are, and that the steps of a process do not depend on how much more depth is left.
-use Rattle.process_steps.proofs.Prelude.{◌≡◌, ℕ, zero, suc, ◌+◌, ◌<◌, ◌≤◌, Some, Ok, List, [], ◌∷◌, map, slice_get, refl, ap, sym, ◌∙◌, arith, proc_depth, proc_depth_of_layer, Outcome, and_then, one, Proc, Proc-F, out-Proc, out-roll-Proc, roll-Proc, roll-out-Proc, Content, each_joined, set_in, each_put, Move, in_choice, steps_of, steps_of_layer, steps_within, Atom, One, greatest}
-use Rattle.csp_program.specs.declared.processes.Proc.TheFolds.{fold-roll-Proc, map-Proc}
-use Rattle.substitution.proofs.Keeps.{proc_keeps_depth}
+use Rattle.process_steps.proofs.Prelude.{◌≡◌, ℕ, zero, suc, ◌+◌, ◌<◌, ◌≤◌, Some, Ok, List, [], ◌∷◌, map, slice_get, refl, ap, sym, ◌∙◌, arith, proc_depth, proc_depth_of_layer, Outcome, and_then, one, Proc, Proc-F, out-Proc, out-roll-Proc, roll-Proc, roll-out-Proc, Content, each_joined, set_in, each_put, Move, in_choice, steps_of, steps_of_layer, steps_within, Atom, One, greatest, fold-roll-Proc, map-Proc, proc_keeps_depth}
 
 -- the depth of a layer over the processes below
 unfoldable pub layer_depth : Proc-F Proc → ℕ

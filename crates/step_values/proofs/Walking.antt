@@ -1,10 +1,5 @@
 -- A renaming as it is walked: what is left of it at each binding.
-use Rattle.step_values.proofs.Prelude.{◌≡◌, ℕ, Ok, Err, List, [], length, map, ap, sym, ◌∙◌, Result, Outcome, and_then, Env, turn, uses_within, walked, EventPart, ValueKind, Content, Atom, over_begun, over_course, Course, GivesBinding, begun, course_under, faulty, skipped, Gathering, binding_renamed, renaming_in, GivesTally, renamed_walk, Gives, EvalFault}
-use Rattle.std.specs.Result.{IsErrAnd}
-use Rattle.csp_program.specs.declared.expressions.Gen.{Gen}
-use Rattle.csp_values.specs.declared.walk.Walk.{Walk}
-use Rattle.step_values.specs.declared.renaming.Tally.{Tally}
-use Rattle.value_operators.proofs.Faults.{at_err, weaker}
+use Rattle.step_values.proofs.Prelude.{◌≡◌, ℕ, Ok, Err, List, [], length, map, ap, sym, ◌∙◌, Result, Outcome, and_then, Env, turn, uses_within, walked, EventPart, ValueKind, Content, Atom, over_begun, over_course, Course, GivesBinding, begun, course_under, faulty, skipped, Gathering, binding_renamed, renaming_in, GivesTally, renamed_walk, Gives, EvalFault, IsErrAnd, Gen, Walk, Tally, at_err, weaker}
 
 pub walk_passed : (r : Result Tally EvalFault) (f : EvalFault) (part whole : Outcome Gathering)
     → IsErrAnd r (λ y. y ≡ f) → GivesTally (Err f) part → ((k : ValueKind) → part ≡ Err k → whole ≡ Err k) → GivesTally r whole

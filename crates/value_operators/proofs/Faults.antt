@@ -1,7 +1,5 @@
 -- A fault of a part is a fault of the whole.
-use Rattle.value_operators.proofs.Prelude.{◌≡◌, Ok, Err, Result, IsErrAnd, Outcome, ValueKind, Gives, EvalFault}
-use Rattle.csp_base.specs.Stops.{Tells}
-use Rattle.csp_base.specs.declared.stop.Stop.{Stop}
+use Rattle.value_operators.proofs.Prelude.{◌≡◌, Ok, Err, Result, IsErrAnd, Outcome, ValueKind, Gives, EvalFault, Tells, Stop}
 use Rattle.csp_base.specs.declared.stop.Stop.TheVariants as stop
 
 -- what is told says less

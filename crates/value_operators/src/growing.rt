@@ -4,8 +4,7 @@ ghost use Rattle.std.specs.Prelude.{◌≡◌, ◌≤◌, ◌+◌, true, [], IfO
 ghost use Rattle.dl_limits.specs.declared.TheConstants.{MOST_ELEMENTS};
 ghost use Rattle.csp_atoms.specs.Sets.{fits, union_of, with_atom};
 ghost use Rattle.csp_program.specs.Atoms.{added, limited};
-ghost use Rattle.value_operators.specs.Gives.{Gives};
-ghost use Rattle.value_operators.specs.Parted.{IsParted};
+ghost use Rattle.value_operators.specs.Prelude.{Gives, IsParted};
 
 use crate::EvalFault;
 use csp_atoms::atom::order;

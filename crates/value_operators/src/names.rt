@@ -2,8 +2,7 @@
 
 ghost use Rattle.std.specs.Prelude.{◌≡◌, ◌++◌, Ok, IsTrue};
 ghost use Rattle.csp_program.specs.Value.{bound_value, bound_to};
-ghost use Rattle.value_operators.specs.Env.{ArePlaces, env_in, numbered_from, parameters};
-ghost use Rattle.value_operators.specs.Gives.{Gives};
+ghost use Rattle.value_operators.specs.Prelude.{ArePlaces, env_in, numbered_from, parameters, Gives};
 
 use crate::EvalFault;
 use csp_atoms::{Atom, Value};

@@ -4,8 +4,7 @@ ghost use Rattle.std.specs.Prelude.{◌≡◌, Ok, None, not, pos, neg_ℤ, ◌+
 ghost use Rattle.csp_atoms.specs.Order.{same};
 ghost use Rattle.csp_program.specs.Prelude.{and_then, as_atom, as_number, as_truth, as_set, truth, in_range, binary, divided, quotient, remainder};
 ghost use Rattle.csp_program.specs.Value as meant;
-ghost use Rattle.value_operators.specs.Gives.{Gives};
-ghost use Rattle.value_operators.specs.Operands.{first_half, on_two_numbers, decided_by};
+ghost use Rattle.value_operators.specs.Prelude.{Gives, first_half, on_two_numbers, decided_by};
 
 use crate::EvalFault;
 use csp_atoms::{Atom, AtomSet, Value, atom};

@@ -1,5 +1,4 @@
-use Rattle.csp_steps.proofs.Prelude.{◌<◌, List, length, subst, arith, AreAdded, StepTo}
-use Rattle.std.proofs.lemmas.Result.{IfOk-weaker}
+use Rattle.csp_steps.proofs.Prelude.{◌<◌, List, length, subst, arith, AreAdded, StepTo, IfOk-weaker}
 use Rattle.csp_steps.proofs.Doubles.{once_of}
 use Rattle.csp_steps.proofs.Firsts.{firsts_few}
 use Rattle.csp_steps.proofs.once.drop_repeats.Goals as goal

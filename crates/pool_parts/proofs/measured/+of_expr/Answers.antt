@@ -1,12 +1,6 @@
 -- Names are read in one of a list after another.
-use Rattle.std.proofs.Common.{List, map, refl, subst, arith}
-use Rattle.std.proofs.lemmas.Grind.{common_steps}
-use Rattle.csp_program.specs.Prelude.{any_of, expr_free, gen_binding, nowhere, part_free, under}
-use Rattle.csp_program.specs.declared.expressions.EventPart.{EventPart}
-use Rattle.csp_program.specs.declared.expressions.Expr.{Expr}
-use Rattle.csp_program.specs.declared.expressions.Gen.{Gen}
+use Rattle.pool_parts.proofs.Prelude.{List, map, refl, subst, arith, common_steps, any_of, expr_free, gen_binding, nowhere, part_free, under, EventPart, Expr, Gen, IsLow}
 use Rattle.pool_parts.proofs.LowLemmas as low
-use Rattle.pool_parts.specs.Low.{IsLow}
 use Rattle.pool_parts.proofs.measured.+of_expr.Goals as goal
 
 pub of_exprs-loop-expr-init : goal.of_exprs-loop-expr-init

@@ -1,5 +1,4 @@
-use Rattle.std.proofs.Common.{refl, arith}
-use Rattle.std.proofs.lemmas.Grind.{common_steps}
+use Rattle.pool_parts.proofs.Prelude.{refl, arith, common_steps}
 use Rattle.pool_parts.proofs.LowLemmas as low
 use Rattle.pool_parts.proofs.measured.of_fields.Goals as goal
 

@@ -1,6 +1,4 @@
-use Rattle.std.proofs.Common.{refl, arith}
-use Rattle.std.proofs.lemmas.Grind.{common_steps}
-use Rattle.csp_program.specs.Free.{pair_free}
+use Rattle.pool_parts.proofs.Prelude.{refl, arith, common_steps, pair_free}
 use Rattle.pool_parts.proofs.LowLemmas as low
 use Rattle.pool_parts.proofs.measured.of_pairs.Goals as goal
 

@@ -1,6 +1,5 @@
 -- What a process becomes: from its own parts, and from what its sub-processes became.
-use Rattle.term_pool.proofs.Prelude.{◌≡◌, ℕ, ◌+◌, nat_eq, List, Some, take, slice_get, ap, sym, ◌∙◌, subst, arith, IfOk, slice_get-get_or, given_by, proc_with, Proc, parts, Grows, StandAt, all_with, tree_at, ProcId, was_made}
-use Rattle.std.specs.Map.{lookup}
+use Rattle.term_pool.proofs.Prelude.{◌≡◌, ℕ, ◌+◌, nat_eq, List, Some, take, slice_get, ap, sym, ◌∙◌, subst, arith, IfOk, slice_get-get_or, given_by, proc_with, Proc, parts, Grows, StandAt, all_with, tree_at, ProcId, was_made, lookup}
 use Rattle.csp_program.specs.declared.processes.Proc.TheVariants as proc
 use Rattle.term_pool.proofs.ValuesLemmas as made
 use Rattle.term_pool.proofs.PutLemmas as lemmas
