@@ -23,8 +23,8 @@ pub(crate) fn expect_fields(alloc: Global, name: Name, fields: Trees, tokens: &[
     if fields.get().is_empty() {
         return Err(no_text(tokens));
     }
-    let dotted = nodes::dotted(alloc, name, fields)?;
-    Ok(dotted)
+    let event = nodes::dotted_event(alloc, name, fields)?;
+    Ok(event)
 }
 
 // The one item that there is.
@@ -83,11 +83,7 @@ fn push_dot(trees: &mut Items<Tree>, field: FieldTree, tokens: &[Token]) -> OrNo
 }
 
 // The trees of fields that all have a dot.
-fn expect_dots(
-    alloc: Global,
-    fields: Items<FieldTree>,
-    tokens: &[Token],
-) -> OrNoText<Items<Tree>>
+fn expect_dots(alloc: Global, fields: Items<FieldTree>, tokens: &[Token]) -> OrNoText<Items<Tree>>
     ensures { Gives result (λ trees. trees) (dot_fields fields) }
 {
     let mut trees = Items::new(alloc);
