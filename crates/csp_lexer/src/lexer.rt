@@ -3,10 +3,7 @@
 ghost use Rattle.std.specs.Prelude.{◌≡◌, ◌<◌, ◌≤◌, true, nat_eq, codes, [], length, IsTrue, IfOk, IfErr, IfSome, Ok, Err};
 ghost use Rattle.csp_base.specs.Standard.{starts_with, option_copied};
 ghost use Rattle.csp_base.specs.Stops.{Tells};
-ghost use Rattle.csp_lexer.specs.Annotations.{line_comment};
-ghost use Rattle.csp_lexer.specs.Front.{begins_assertion, front, is_blank, assertion_or_token};
-ghost use Rattle.csp_lexer.specs.Lexed.{lexed};
-ghost use Rattle.csp_lexer.specs.Passed.{Passed};
+ghost use Rattle.csp_lexer.specs.Prelude.{line_comment, begins_assertion, front, is_blank, assertion_or_token, lexed, Passed};
 
 use crate::annotations::pass_line;
 use crate::assertions::pass_assertion;

@@ -1,6 +1,5 @@
 -- Declarations, one after another.
-use Rattle.csp_parser.proofs.Prelude.{◌≡◌, ℕ, suc, false, true, eqb, ◌-◌, ◌≤◌, Option, Some, None, List, [], ◌∷◌, ◌++◌, Err, length, refl, sym, ap, ◌∙◌, append-nil, append_assoc, arith, Decl, Token, and_then, Reads, later, Comes, limited, read_declaration, NoText, Stop}
-use Rattle.std.proofs.lemmas.Bool.{eqb-true}
+use Rattle.csp_parser.proofs.Prelude.{◌≡◌, ℕ, suc, false, true, eqb, ◌-◌, ◌≤◌, Option, Some, None, List, [], ◌∷◌, ◌++◌, Err, length, refl, sym, ap, ◌∙◌, append-nil, append_assoc, arith, Decl, Token, and_then, Reads, later, Comes, limited, read_declaration, NoText, Stop, eqb-true}
 use Rattle.csp_base.specs.declared.stop.Stop.TheVariants as stop
 
 -- declarations with these in front

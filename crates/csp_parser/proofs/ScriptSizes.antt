@@ -1,14 +1,9 @@
 -- A script is no larger than each of its texts is long: each of its declarations begins with a token that is none of its names, parameters, types and
 -- binding tokens. And no tree of it is deeper than the grammar allows.
-use Rattle.csp_parser.proofs.Prelude.{◌≡◌, ℕ, ◌+◌, ◌≤◌, max, List, length, map, arith, length-map, IfOk-weaker, Result, IfOk, Ok, NamesText, TypesText, ParametersText, AssertedText, ModelText, DeclarationText, DeclarationsText, ScriptText, lexed, PlacedTokens, tokens_of, Decl, Script, Symbol, Token, Tree, all_tokens, tokens, tokens-Call, tokens-Name}
-use Rattle.csp_base.specs.Lists.{greatest}
+use Rattle.csp_parser.proofs.Prelude.{◌≡◌, ℕ, ◌+◌, ◌≤◌, max, List, length, map, arith, length-map, IfOk-weaker, Result, IfOk, Ok, NamesText, TypesText, ParametersText, AssertedText, ModelText, DeclarationText, DeclarationsText, ScriptText, lexed, PlacedTokens, tokens_of, Decl, Script, Symbol, Token, Tree, all_tokens, tokens, tokens-Call, tokens-Name, greatest, tree_depth, MOST_BYTES, MOST_TREE_DEPTH, SpelledScriptsAreSmall, AreSmall, declaration_depth, declaration_size, depth, size}
 use Rattle.csp_grammar.specs.Declarations as d
-use Rattle.csp_text.specs.Prelude.{tree_depth}
-use Rattle.dl_limits.specs.declared.TheConstants.{MOST_BYTES, MOST_TREE_DEPTH}
-use Rattle.csp_parser.specs.Sizes.{SpelledScriptsAreSmall}
 use Rattle.csp_parser.proofs.TokenCounts.{no_more_than_bytes}
 use Rattle.csp_parser.proofs.TreeTokens.{atom_tokens, items_tokens, tree_tokens}
-use Rattle.script_sizes.specs.Size.{AreSmall, declaration_depth, declaration_size, depth, size}
 
 -- SIZES
 

@@ -1,8 +1,6 @@
 -- What the reading of the declarations says of the script.
-use Rattle.csp_parser.proofs.Prelude.{◌≡◌, ℕ, Option, Some, None, List, Err, sym, subst, ◌∙◌, Result, Ok, Place, Decl, Script, Token, DeclarationsText, ScriptText, PlacedTokens, tokens_of, Comes, Reads, Limited, Settles, NoText, Stop}
-use Rattle.csp_parser.specs.Spells.{EachTextSpellsOneScript}
+use Rattle.csp_parser.proofs.Prelude.{◌≡◌, ℕ, Option, Some, None, List, Err, sym, subst, ◌∙◌, Result, Ok, Place, Decl, Script, Token, DeclarationsText, ScriptText, PlacedTokens, tokens_of, Comes, Reads, Limited, Settles, NoText, Stop, EachTextSpellsOneScript, one_script, settled_nothing, settled_script}
 use Rattle.csp_base.specs.declared.stop.Stop.TheVariants as stop
-use Rattle.tree_reading.proofs.Unique.{one_script, settled_nothing, settled_script}
 
 -- what is read of the tokens, is spelled
 pub is_spelled : (tokens : List Token) {ts : List Token} {ds : List Decl} → ts ≡ tokens → Settles (λ L. L.declarations ts) (Some ds) → DeclarationsText tokens ds

@@ -2,8 +2,7 @@
 
 ghost use Rattle.std.specs.Prelude.{◌≡◌, ◌≤◌, IsTrue, Some, length, map, IfOk};
 ghost use Rattle.std.specs.Option.{option_copied};
-ghost use Rattle.csp_program.specs.Prelude.{IsInOrder, lacks_sets, all_true};
-ghost use Rattle.csp_program.specs.declared.programs.Content.{Content};
+ghost use Rattle.csp_program.specs.Prelude.{IsInOrder, lacks_sets, all_true, Content};
 ghost use Rattle.csp_resolve.specs.Answers.{Answers, types_read};
 ghost use Rattle.dl_limits.specs.declared.TheConstants.{MOST_BYTES};
 ghost use Rattle.name_tables.specs.Firsts.{SameFirsts};
@@ -14,7 +13,7 @@ ghost use Rattle.script_sizes.specs.Size.{AreSmall, size};
 
 use crate::events::{channel_sets, fill_table};
 use containers::{Boxed, Key};
-use csp_base::NoMemory;
+use csp_base::{NoMemory, Stop};
 use csp_program::{Content, Program};
 use csp_text::{Decl, Script, Tree};
 use definition_kinds::kinds_of;
@@ -22,8 +21,11 @@ use name_faults::name_fault;
 use name_tables::{Dictionary, Meanings, dictionary_of};
 use resolved_laws::programs_are_in_order;
 use script_contents::plain_content;
-use script_names::{ResolveFault, Unresolved};
+use script_names::ResolveFault;
 use std::alloc::Global;
+
+// What was made, or why there is no program.
+pub(crate) type Resolved<T> = Result<T, Stop<ResolveFault>>;
 
 // The program on the heap, where it ends in a function of its own.
 fn box_program(alloc: Global, program: Program) -> Result<Boxed<Program>, NoMemory>
@@ -35,7 +37,11 @@ fn box_program(alloc: Global, program: Program) -> Result<Boxed<Program>, NoMemo
 /// The program of a script. A fault is told exactly where the script has no program, and it is the first in this order: no deadlock assertion, a name
 /// fault, a type of a channel without a value that fits, too many events. The script is small, as each is that a text within the limit spells: 32 bits
 /// number all that it declares. Names are found under this key, which the text of the script makes.
-pub fn resolve(alloc: Global, key: Key, script: &Script) -> Result<Boxed<Program>, Unresolved>
+pub fn resolve(
+    alloc: Global,
+    key: Key,
+    script: &Script,
+) -> Result<Boxed<Program>, Stop<ResolveFault>>
     requires small { AreSmall script.now.decls }
     ensures { meant.Resolves script.now result }
 {
@@ -46,7 +52,7 @@ pub fn resolve(alloc: Global, key: Key, script: &Script) -> Result<Boxed<Program
 }
 
 // What the program of a script holds whose names stand for what `names` says.
-fn content_of(alloc: Global, script: &Script, names: &Dictionary) -> Result<Content, Unresolved>
+fn content_of(alloc: Global, script: &Script, names: &Dictionary) -> Resolved<Content>
     requires small { AreSmall script.now.decls }
     requires names { SameFirsts names.now (declared script.now.decls) }
     ensures resolves { meant.Resolves script.now result }
@@ -65,16 +71,16 @@ fn content_of(alloc: Global, script: &Script, names: &Dictionary) -> Result<Cont
 }
 
 // What the program of declarations holds whose names and definitions mean what `meanings` says.
-fn content_by_names(meanings: &Meanings<'_>, decls: &[Decl]) -> Result<Content, Unresolved>
+fn content_by_names(meanings: &Meanings<'_>, decls: &[Decl]) -> Resolved<Content>
     requires small { AreSmall decls.now }
     requires names { SameFirsts meanings.now.names.now (declared decls.now) }
     ensures { Answers (λ (p : Content). p) result (meant.resolved decls.now meanings.now.kinds.now) }
 {
     let Some(root) = first_assertion(decls) else {
-        return Err(Unresolved::Refused(ResolveFault::NoAssert));
+        return Err(Stop::Told(ResolveFault::NoAssert));
     };
     match name_fault(meanings, decls)? {
-        Some(fault) => Err(Unresolved::Refused(fault)),
+        Some(fault) => Err(Stop::Told(fault)),
         None => {
             let content = plain_content(meanings, decls, root)?;
             with_events(meanings, decls, content)
@@ -95,11 +101,7 @@ fn first_assertion(decls: &[Decl]) -> Option<&Tree>
 }
 
 // What a program holds, with the field sets of its channels and its event table.
-fn with_events(
-    meanings: &Meanings<'_>,
-    decls: &[Decl],
-    mut content: Content,
-) -> Result<Content, Unresolved>
+fn with_events(meanings: &Meanings<'_>, decls: &[Decl], mut content: Content) -> Resolved<Content>
     requires few { size decls.now ≤ MOST_BYTES }
     requires channels { length content.channels ≤ MOST_BYTES }
     requires plain { IsTrue (all_true (map lacks_sets content.channels)) }
@@ -116,11 +118,7 @@ fn with_events(
 }
 
 // Gives the channels of a program their field sets, and makes its event table.
-fn put_events(
-    meanings: &Meanings<'_>,
-    decls: &[Decl],
-    content: &mut Content,
-) -> Result<(), Unresolved>
+fn put_events(meanings: &Meanings<'_>, decls: &[Decl], content: &mut Content) -> Resolved<()>
     requires few { size decls.now ≤ MOST_BYTES }
     requires channels { length content.old.channels ≤ MOST_BYTES }
     requires plain { IsTrue (all_true (map lacks_sets content.old.channels)) }

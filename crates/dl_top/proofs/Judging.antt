@@ -1,10 +1,6 @@
 -- What was read of texts is what they call for.
-use Rattle.dl_top.proofs.Prelude.{◌≡◌, ℕ, List, Result, IfErr, IfOk, inl, inr, refl, sym, ap, subst, IsErrAnd, IfErr-weaker, IfOk-weaker, err_from_is_err_and, Job, Livelock, IsCompared, Script, EachTextSpellsOneScript, Spells, IsBounded, IsNetworkOf, Network, HasNoNetwork, weaker, Tells, Stop, Answers, Ends, Halt, Answer, Done, Side, Verdict, IsDecided, NetworkDecides, SpellsNoNetwork, SpellsNoScript, SpellsOnlyNetwork, SpellsOnlyScript, TextCallsFor, TextIsShown, TextsCompare, no_script}
+use Rattle.dl_top.proofs.Prelude.{◌≡◌, ℕ, List, Result, IfErr, IfOk, inl, inr, refl, sym, ap, subst, IsErrAnd, IfErr-weaker, IfOk-weaker, err_from_is_err_and, Job, Livelock, IsCompared, Script, EachTextSpellsOneScript, Spells, IsBounded, IsNetworkOf, Network, HasNoNetwork, weaker, Tells, Stop, Answers, Ends, Halt, Answer, Done, Side, Verdict, IsDecided, NetworkDecides, SpellsNoNetwork, SpellsNoScript, SpellsOnlyNetwork, SpellsOnlyScript, TextCallsFor, TextIsShown, TextsCompare, no_script, NoScript, IsPlaceOf, Content, one_network}
 use Rattle.csp_base.specs.declared.stop.Stop.TheVariants as stop
-use Rattle.csp_text.specs.declared.fault.NoScript.{NoScript}
-use Rattle.csp_parser.specs.Places.{IsPlaceOf}
-use Rattle.csp_program.specs.declared.programs.Content.{Content}
-use Rattle.judgement.proofs.OneNetwork.{one_network}
 use Rattle.report.specs.declared.answer.Answer.TheVariants as answer
 use Rattle.report.specs.declared.answer.Side.TheVariants as side
 use Rattle.dl_top.proofs.Walks.{at_end}

@@ -9,12 +9,7 @@ ghost use Rattle.report.specs.Prelude.{report_text, status, Answers, Ends};
 ghost use Rattle.csp_base.specs.Stops.{Tells};
 ghost use Rattle.script_sizes.specs.Size.{AreSmall};
 ghost use Rattle.dl_limits.specs.declared.TheConstants.{MOST_BYTES};
-ghost use Rattle.dl_top.specs.Complete.{SpellMatching, SpellsTables, TextPasses};
-ghost use Rattle.dl_top.specs.Judgement.{NetworkDecides, SpellsNoNetwork, SpellsNoScript, SpellsOnlyNetwork, SpellsOnlyScript, TextCallsFor, TextIsShown, TextsCompare};
-ghost use Rattle.dl_top.specs.Printing.{no_script};
-ghost use Rattle.dl_top.specs.Promised.{JobPromised, SpellsConforming, SpellsShown};
-ghost use Rattle.dl_top.specs.Proved.{SpellsDeadlockFree};
-ghost use Rattle.dl_top.specs.Ran.{SpellsRun};
+ghost use Rattle.dl_top.specs.Prelude.{SpellMatching, SpellsTables, TextPasses, NetworkDecides, SpellsNoNetwork, SpellsNoScript, SpellsOnlyNetwork, SpellsOnlyScript, TextCallsFor, TextIsShown, TextsCompare, no_script, JobPromised, SpellsConforming, SpellsShown, SpellsDeadlockFree, SpellsRun};
 
 use command_words::Job;
 use comparison::compare_networks;

@@ -10,8 +10,7 @@ ghost use Rattle.dl_outside.specs.declared.shelf.LoadFault.{LoadFault as FaultVa
 ghost use Rattle.csp_base.specs.Stops.{Tells};
 ghost use Rattle.report.specs.Stops.{Ends};
 ghost use Rattle.report.specs.declared.answer.Side.TheVariants as side;
-ghost use Rattle.dl_top.specs.Cause.{IsLoad, Loaded, MayGive, TellsLoad, TextsCallFor};
-ghost use Rattle.dl_top.specs.Printing.{IsUnloaded, Prints};
+ghost use Rattle.dl_top.specs.Prelude.{IsLoad, Loaded, MayGive, TellsLoad, TextsCallFor, IsUnloaded, Prints};
 
 use crate::judge::{judge, judge_pair, show};
 use crate::reply::{Printed, Reply, print, rule_of};

@@ -3,12 +3,7 @@
 ghost use Rattle.std.specs.Prelude.{◌≡◌, ◌≢◌, ◌≤◌, IfSome};
 ghost use Rattle.dl_outside.specs.Count.{HasRisen, NeverFall};
 ghost use Rattle.command_words.specs.Request.{AsksForCheck, AsksForRun, AsksForTrial, NamesNoScript};
-ghost use Rattle.dl_top.specs.Cause.{CallsFor, IsLoad, MayGive};
-ghost use Rattle.dl_top.specs.Complete.{AsksForSuch, Passing, Running};
-ghost use Rattle.dl_top.specs.Ending.{Ends, EndsInShelfFault, EndsWhole, sink_signs};
-ghost use Rattle.dl_top.specs.Kept.{Kept};
-ghost use Rattle.dl_top.specs.Promised.{IsStuckRun, Promised};
-ghost use Rattle.dl_top.specs.Proved.{IsFree};
+ghost use Rattle.dl_top.specs.Prelude.{CallsFor, IsLoad, MayGive, AsksForSuch, Passing, Running, Ends, EndsInShelfFault, EndsWhole, sink_signs, Kept, IsStuckRun, Promised, IsFree};
 
 use crate::load::print_reply;
 use crate::send::send;

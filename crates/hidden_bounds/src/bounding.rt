@@ -6,9 +6,7 @@ ghost use Rattle.dl_limits.specs.declared.TheConstants.{MOST_COMPONENTS};
 ghost use Rattle.hidden_steps.specs.Order as meant;
 ghost use Rattle.network_stages.specs.Tables.{AreTablesOf};
 ghost use Rattle.process_steps.specs.ComponentStep.{ProcessStep};
-ghost use Rattle.hidden_bounds.specs.Taking.{AreWithin, alphabet_at, taken_in};
-ghost use Rattle.hidden_bounds.specs.Found.{IsBound, PassesAt, TellsLoop};
-ghost use Rattle.hidden_bounds.specs.Sums.{AreBounds, IsNextSum, TellsSum, sum_before};
+ghost use Rattle.hidden_bounds.specs.Prelude.{AreWithin, alphabet_at, taken_in, IsBound, PassesAt, TellsLoop, AreBounds, IsNextSum, TellsSum, sum_before};
 ghost use Rattle.hidden_bounds.specs.declared.ordering.Placed.{Placed as PlacedValue};
 
 use crate::ordering::{Placed, order_of};

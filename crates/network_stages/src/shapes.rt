@@ -4,10 +4,7 @@ ghost use Rattle.std.specs.Prelude.{◌≡◌, ◌≤◌, IfErr, IfOk, length};
 ghost use Rattle.dl_limits.specs.declared.TheConstants.{MOST_COMPONENTS};
 ghost use Rattle.csp_tables.specs.Prelude.{TripleDisjoint, alphabets_of, IsLinked};
 ghost use Rattle.csp_base.specs.Stops.{Tells};
-ghost use Rattle.network_stages.specs.Networks.{IsSpelled};
-ghost use Rattle.network_stages.specs.Rows.{AreLinksBefore, IsVocabulary};
-ghost use Rattle.network_stages.specs.Shapes.{IsApart};
-ghost use Rattle.network_stages.specs.Stages.{ShareEvent};
+ghost use Rattle.network_stages.specs.Prelude.{IsSpelled, AreLinksBefore, IsVocabulary, IsApart, ShareEvent};
 
 use crate::links::links_of_rows;
 use crate::parts::Parted;

@@ -2,9 +2,7 @@
 
 ghost use Rattle.std.specs.Prelude.{◌≡◌, ◌≤◌, ◌+◌, IfErr, IfOk, length};
 ghost use Rattle.dl_limits.specs.declared.TheConstants.{MOST_COMPONENTS};
-ghost use Rattle.network_stages.specs.Networks.{HasSilentBound};
-ghost use Rattle.network_stages.specs.Stages.{HasNoTables, HasTables, HaveNoTables};
-ghost use Rattle.network_stages.specs.Tables.{AreTablesOf};
+ghost use Rattle.network_stages.specs.Prelude.{HasSilentBound, HasNoTables, HasTables, HaveNoTables, AreTablesOf};
 ghost use Rattle.csp_base.specs.Stops.{Tells};
 
 use crate::bound::silent_bound;

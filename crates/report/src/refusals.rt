@@ -3,9 +3,7 @@
 ghost use Rattle.std.specs.Prelude.{◌≡◌, ◌+◌, ◌++◌, IfOk, OnOk, codes};
 ghost use Rattle.std.specs.Fmt.{decimal};
 ghost use Rattle.csp_base.specs.Texts.{line};
-ghost use Rattle.report.specs.Refusals.{component_text, nesting_text, network_text, program_text, refusal_text, text_fault_text, value_text};
-ghost use Rattle.report.specs.Sides.{side_line};
-ghost use Rattle.report.specs.Report.{refused_text};
+ghost use Rattle.report.specs.Prelude.{component_text, nesting_text, network_text, program_text, refusal_text, text_fault_text, value_text, side_line, refused_text};
 
 use crate::answer::{Refusal, Side, Site, TextFault};
 use crate::lines::Part::{Count, Number, Text, Trace};
@@ -295,7 +293,12 @@ pub(crate) fn text_fault_report(alloc: Global, side: Side, fault: &TextFault) ->
 }
 
 // The report where the program of this side is refused.
-pub(crate) fn refusal_report(alloc: Global, content: &Content, side: Side, refusal: &Refusal) -> Printed
+pub(crate) fn refusal_report(
+    alloc: Global,
+    content: &Content,
+    side: Side,
+    refusal: &Refusal,
+) -> Printed
     ensures { IfOk result (λ made. made ≡ refused_text side (refusal_text content.now refusal.now)) }
 {
     let mut made = refusal_head(alloc, side)?;

@@ -2,8 +2,7 @@
 
 ghost use Rattle.std.specs.Prelude.{◌≡◌, ◌++◌, IfOk, codes};
 ghost use Rattle.csp_base.specs.Texts.{line};
-ghost use Rattle.report.specs.Shortfalls.{shortfall_text};
-ghost use Rattle.report.specs.Report.{conforms_text, deadlock_free_text, done_text, livelock_free_text, verdict_text};
+ghost use Rattle.report.specs.Prelude.{shortfall_text, conforms_text, deadlock_free_text, done_text, livelock_free_text, verdict_text};
 
 use crate::answer::{Done, Shortfall, Verdict};
 use crate::lines::Part::{Signed, Text};

@@ -1,6 +1,6 @@
 //! Why a script has no program.
 
-use csp_base::{Name, NoMemory};
+use csp_base::Name;
 use csp_program::ValueKind;
 
 /// Why a script has no program. Declarations are numbered from 0 in the order of the text.
@@ -70,25 +70,5 @@ impl Drop for ResolveFault {
             ResolveFault::DataDepth { inside } => {}
             ResolveFault::Value { inside, kind } => {}
         }
-    }
-}
-
-/// Why no program was made of a script.
-#[derive(Drop)]
-pub enum Unresolved {
-    /// It has none.
-    Refused(ResolveFault),
-    /// There was no memory for it.
-    NoMemory,
-}
-
-impl From<NoMemory> for Unresolved {
-    ghost use Rattle.std.specs.Prelude.{◌≡◌};
-    ghost use Rattle.script_names.specs.declared.fault.Unresolved.TheVariants as unresolved;
-
-    ghost from_gives = { λ _ e. e ≡ unresolved.NoMemory };
-
-    fn from(_error: NoMemory) -> Unresolved {
-        Unresolved::NoMemory
     }
 }

@@ -5,6 +5,6 @@ pub mod fault;
 pub mod kinds;
 pub mod occurrence;
 
-pub use fault::{ResolveFault, Unresolved};
+pub use fault::ResolveFault;
 pub use kinds::{Class, End, Entity, Kind, Need, Place, Sense, Use};
 pub use occurrence::Occurrence;

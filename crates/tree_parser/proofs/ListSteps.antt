@@ -1,21 +1,8 @@
 -- Lists, one item after another.
-use Rattle.std.proofs.Common.{◌≡◌, ℕ, suc, Bool, true, false, if◌then◌else◌, ◌+◌, ◌*◌, ◌-◌, ◌<◌, ◌≤◌, Option, Some, None, List, [], ◌∷◌, ◌++◌, length, Ok, Err, refl, sym, ap, subst, ◌∙◌, append_assoc, arith}
-use Rattle.std.specs.Prelude.{Result}
-use Rattle.csp_base.specs.declared.stop.Stop.{Stop}
+use Rattle.tree_parser.proofs.Prelude.{◌≡◌, ℕ, suc, Bool, true, false, if◌then◌else◌, ◌+◌, ◌*◌, ◌-◌, ◌<◌, ◌≤◌, Option, Some, None, List, [], ◌∷◌, ◌++◌, length, Ok, Err, refl, sym, ap, subst, ◌∙◌, append_assoc, arith, Result, Stop, Symbol, Token, FieldTree, Tree, Reading, and_then, case, skip, Found, at_least, last_item, of_process, sure, chain_symbol, Limited, limited, next_limited, read_field, NoText, Limits, Chain, Binding, Reads, read_operand}
 use Rattle.csp_base.specs.declared.stop.Stop.TheVariants as stop
-use Rattle.csp_text.specs.declared.token.Symbol.{Symbol}
-use Rattle.csp_text.specs.declared.token.Token.{Token}
-use Rattle.csp_text.specs.declared.tree.FieldTree.{FieldTree}
-use Rattle.csp_text.specs.declared.tree.Tree.{Tree}
 use Rattle.csp_text.specs.declared.token.Symbol.TheVariants as symbol
-use Rattle.csp_grammar.specs.Prelude.{Reading, and_then, case, skip}
-use Rattle.tree_reading.specs.Prelude.{Found, at_least, last_item, of_process, sure, chain_symbol, Limited, limited, next_limited, read_field}
-use Rattle.tree_reading.specs.declared.fault.NoText.{NoText}
-use Rattle.tree_reading.specs.declared.limits.Limits.{Limits}
-use Rattle.tree_reading.specs.declared.look.Chain.{Chain}
-use Rattle.tree_reading.specs.declared.read.Binding.{Binding}
 use Rattle.tree_reading.specs.declared.read.Binding.TheVariants as binding
-use Rattle.tree_parser.specs.Reads.{Reads, read_operand}
 use Rattle.tree_parser.proofs.Counted.{counted}
 use Rattle.tree_parser.proofs.SoFar.{ChoicesSoFar, Comes, SoFar, ItemsSoFar, behind, behind_choices, behind_items}
 

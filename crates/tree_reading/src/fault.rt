@@ -2,8 +2,7 @@
 
 ghost use Rattle.std.specs.Prelude.{◌≡◌, length};
 ghost use Rattle.csp_base.specs.declared.stop.Stop.TheVariants as stop;
-ghost use Rattle.tree_reading.specs.Gives.{Gives};
-ghost use Rattle.tree_reading.specs.Nesting.{sure};
+ghost use Rattle.tree_reading.specs.Prelude.{Gives, sure};
 
 use csp_base::Stop;
 use csp_text::Token;

@@ -2,8 +2,7 @@
 
 ghost use Rattle.std.specs.Prelude.{nat_le, ◌≡◌};
 ghost use Rattle.csp_text.specs.Depth.{tree_depth};
-ghost use Rattle.tree_reading.specs.Gives.{Gives};
-ghost use Rattle.tree_reading.specs.Nesting.{around, bracketed, inside, opened};
+ghost use Rattle.tree_reading.specs.Prelude.{Gives, around, bracketed, inside, opened};
 
 use crate::deep::DeepTree;
 use crate::fault::{OrNoText, no_text};

@@ -3,9 +3,7 @@
 ghost use Rattle.std.specs.Prelude.{◌≡◌, ◌≤◌, ◌<◌, length, nat_eq, IfOk, IfSome, MatchOption, Some, None};
 ghost use Rattle.std.specs.Option.{option_copied};
 ghost use Rattle.csp_grammar.specs.Prelude.{begins_event, begins, binding, skip, skip_word};
-ghost use Rattle.tree_reading.specs.Bindings.{left_operand};
-ghost use Rattle.tree_reading.specs.Gives.{Gives};
-ghost use Rattle.tree_reading.specs.Starts.{atom_start, chain_symbol, first_chain, form_start, is_symbol_token, is_word_token, may_follow, named, other_start, prefix_start, sign_behind, sign_binding, symbol_sign, token_sign, token_start, symbol_start, word_sign, word_start};
+ghost use Rattle.tree_reading.specs.Prelude.{left_operand, Gives, atom_start, chain_symbol, first_chain, form_start, is_symbol_token, is_word_token, may_follow, named, other_start, prefix_start, sign_behind, sign_binding, symbol_sign, token_sign, token_start, symbol_start, word_sign, word_start};
 
 use crate::deep::Deep;
 use crate::fault::{OrNoText, no_text};

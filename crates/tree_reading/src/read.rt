@@ -1,9 +1,7 @@
 //! What was read from the front of tokens.
 
 ghost use Rattle.std.specs.Prelude.{◌≡◌};
-ghost use Rattle.tree_reading.specs.Bindings.{at_least, last_item, left_operand, number, of_process, tighter};
-ghost use Rattle.tree_reading.specs.Gives.{Gives};
-ghost use Rattle.tree_reading.specs.Nesting.{sure};
+ghost use Rattle.tree_reading.specs.Prelude.{at_least, last_item, left_operand, number, of_process, tighter, Gives, sure};
 
 use crate::deep::Deep;
 use crate::fault::{OrNoText, no_text};
