@@ -61,7 +61,7 @@ fn add_sets(
     match decl {
         Decl::Channel(xs, types) => {
             let types = types_of(meanings, types.as_slice())?;
-            let one = shared_in(meanings.alloc, content, i, xs.len(), types.as_slice())?;
+            let one = shared_sets(meanings.alloc, content, i, xs.len(), types.as_slice())?;
             push_shared(shared, one)?;
             Ok(())
         }
@@ -83,7 +83,7 @@ fn push_shared(shared: &mut Vec<SharedSets>, one: SharedSets) -> Result<(), NoMe
 }
 
 // The field sets of so many channels of these types in the declaration with the number `i`.
-fn shared_in(
+fn shared_sets(
     alloc: Global,
     content: &Content,
     i: u32,
@@ -100,12 +100,7 @@ fn shared_in(
 }
 
 // The field sets of these types in the declaration with the number `i`.
-fn sets_in(
-    alloc: Global,
-    content: &Content,
-    i: u32,
-    types: &[Expr],
-) -> Resolved<Items<AtomSet>>
+fn sets_in(alloc: Global, content: &Content, i: u32, types: &[Expr]) -> Resolved<Items<AtomSet>>
     requires { IsTrue (all_true (map lacks_sets content.now.channels)) }
     ensures { Answers (λ (sets : List (List Atom)). sets) result
         (meant.told_in i (meant.field_sets content.now types.now)) }
@@ -120,11 +115,7 @@ fn sets_in(
 }
 
 /// Gives the channels these field sets, and makes the event table, unless there are too many events.
-pub fn fill_table(
-    alloc: Global,
-    content: &mut Content,
-    shared: &[SharedSets],
-) -> Resolved<()>
+pub fn fill_table(alloc: Global, content: &mut Content, shared: &[SharedSets]) -> Resolved<()>
     requires { length content.old.channels ≤ MOST_BYTES }
     ensures { Answers (λ (done : Unit {0}). content.new) result (meant.with_table content.old (spread shared.now)) }
 {

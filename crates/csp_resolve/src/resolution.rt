@@ -38,7 +38,11 @@ fn box_program(alloc: Global, program: Program) -> Result<Boxed<Program>, NoMemo
 /// The program of a script. A fault is told exactly where the script has no program, and it is the first in this order: no deadlock assertion, a name
 /// fault, a type of a channel without a value that fits, too many events. The script is small, as each is that a text within the limit spells: 32 bits
 /// number all that it declares. Names are found under this key, which the text of the script makes.
-pub fn resolve(alloc: Global, key: Key, script: &Script) -> Result<Boxed<Program>, Stop<ResolveFault>>
+pub fn resolve(
+    alloc: Global,
+    key: Key,
+    script: &Script,
+) -> Result<Boxed<Program>, Stop<ResolveFault>>
     requires small { AreSmall script.now.decls }
     ensures { meant.Resolves script.now result }
 {
@@ -98,11 +102,7 @@ fn first_assertion(decls: &[Decl]) -> Option<&Tree>
 }
 
 // What a program holds, with the field sets of its channels and its event table.
-fn with_events(
-    meanings: &Meanings<'_>,
-    decls: &[Decl],
-    mut content: Content,
-) -> Resolved<Content>
+fn with_events(meanings: &Meanings<'_>, decls: &[Decl], mut content: Content) -> Resolved<Content>
     requires few { size decls.now ≤ MOST_BYTES }
     requires channels { length content.channels ≤ MOST_BYTES }
     requires plain { IsTrue (all_true (map lacks_sets content.channels)) }
@@ -119,11 +119,7 @@ fn with_events(
 }
 
 // Gives the channels of a program their field sets, and makes its event table.
-fn put_events(
-    meanings: &Meanings<'_>,
-    decls: &[Decl],
-    content: &mut Content,
-) -> Resolved<()>
+fn put_events(meanings: &Meanings<'_>, decls: &[Decl], content: &mut Content) -> Resolved<()>
     requires few { size decls.now ≤ MOST_BYTES }
     requires channels { length content.old.channels ≤ MOST_BYTES }
     requires plain { IsTrue (all_true (map lacks_sets content.old.channels)) }

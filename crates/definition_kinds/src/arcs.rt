@@ -80,7 +80,7 @@ fn no_arcs(alloc: Global, count: u32) -> Result<Rows, NoMemory>
 }
 
 /// The digraph of these definitions. The vertex `count`, which is their number, stands for the end that is looked for.
-pub fn turned_round(
+pub fn turn_round(
     alloc: Global,
     all: &[Vec<End>],
     count: u32,

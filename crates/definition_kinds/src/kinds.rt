@@ -11,7 +11,7 @@ ghost use Rattle.script_names.specs.Kinds.{AreKinds, AreKindsOf, first_ends as f
 ghost use Rattle.script_names.specs.Names.{declared};
 ghost use Rattle.script_sizes.specs.Size.{size};
 
-use crate::leading::{first_ends, is_marked, leading};
+use crate::leading::{first_ends, is_marked, mark_leading};
 use csp_base::NoMemory;
 use csp_text::Decl;
 use name_tables::Dictionary;
@@ -56,18 +56,18 @@ fn kinds_among(alloc: Global, all: &[Vec<End>]) -> Result<Vec<Kind>, NoMemory>
     requires { length all.now ≤ MOST_BYTES }
     ensures { IfOk result (λ kinds. AreKindsOf (rows all.now) kinds.items) }
 {
-    let found = found_among(alloc, all)?;
+    let found = find_among(alloc, all)?;
     let kinds = kinds_found(alloc, &found, all.len())?;
     Ok(kinds)
 }
 
 // What is found of definitions with these ends.
-fn found_among(alloc: Global, all: &[Vec<End>]) -> Result<Found, NoMemory>
+fn find_among(alloc: Global, all: &[Vec<End>]) -> Result<Found, NoMemory>
     requires { length all.now ≤ MOST_BYTES }
     ensures { IfOk result (IsFound (rows all.now)) }
 {
     let (data, nothing) = classes_among(alloc, all)?;
-    let networks = leading(alloc, all, End::Parallel)?;
+    let networks = mark_leading(alloc, all, End::Parallel)?;
     Ok(Found {
         data,
         nothing,
@@ -82,8 +82,8 @@ fn classes_among(alloc: Global, all: &[Vec<End>]) -> Result<(Vec<bool>, Vec<bool
     ensures nothing { IfOk result (λ marks. AreLeading End.Nothing (firsts_of (rows all.now)) marks.1.items) }
 {
     let firsts = first_ends(alloc, all)?;
-    let data = leading(alloc, firsts.as_slice(), End::Data)?;
-    leading(alloc, firsts.as_slice(), End::Nothing).map(|nothing| (data, nothing))
+    let data = mark_leading(alloc, firsts.as_slice(), End::Data)?;
+    mark_leading(alloc, firsts.as_slice(), End::Nothing).map(|nothing| (data, nothing))
 }
 
 // What so many definitions are.

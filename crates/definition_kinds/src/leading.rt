@@ -8,7 +8,7 @@ ghost use Rattle.dl_limits.specs.declared.TheConstants.{MOST_BYTES};
 ghost use Rattle.name_tables.specs.Ends.{rows};
 ghost use Rattle.script_names.specs.Kinds as meant;
 
-use crate::arcs::turned_round;
+use crate::arcs::turn_round;
 use containers::Numbering;
 use csp_base::NoMemory;
 use digraph::reachable_from;
@@ -16,7 +16,7 @@ use script_names::End;
 use std::alloc::Global;
 
 /// For each definition whether it leads to `target`, which is data, a parallel or no meaning.
-pub fn leading(alloc: Global, all: &[Vec<End>], target: End) -> Result<Vec<bool>, NoMemory>
+pub fn mark_leading(alloc: Global, all: &[Vec<End>], target: End) -> Result<Vec<bool>, NoMemory>
     requires last { is_last target target ≡ true }
     requires few { length all.now ≤ MOST_BYTES }
     ensures { IfOk result (λ marks. AreLeading target (rows all.now) marks.items) }
@@ -39,7 +39,7 @@ fn vertices_from(
     requires last { is_last target target ≡ true }
     ensures { IfOk result (AreReached target (rows all.now)) }
 {
-    let rows = turned_round(alloc, all, count, target)?;
+    let rows = turn_round(alloc, all, count, target)?;
     let found = reachable_from(alloc, &rows, &[count])?;
     Ok(found)
 }

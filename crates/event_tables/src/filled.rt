@@ -7,7 +7,7 @@ ghost use Rattle.dl_limits.specs.declared.TheConstants.{MOST_BYTES};
 ghost use Rattle.event_tables.specs.Spread.{events_left, lent, spread};
 ghost use Rattle.script_names.specs.Resolved as meant;
 
-use crate::counts::after;
+use crate::counts::first_after;
 use crate::sets::{SharedSets, copy_sets, sets_at, spread_sets};
 use crate::table::event_table;
 use containers::Items;
@@ -101,7 +101,7 @@ fn add_filled(
     ensures next { IfOk result (λ next. next ≡ first + row_count sets.now) }
     ensures made { OnOk result (made.new ≡ made.old ++ record channel { fields = Some sets.now; first = first } ∷ []) }
 {
-    let next = after(first, sets);
+    let next = first_after(first, sets);
     match copy_sets(alloc, sets) {
         Ok(fields) => push_filled(made, first, channel, fields).map(|()| next),
         Err(error) => {

@@ -111,6 +111,6 @@ fn body_at<'a>(
 {
     walk.clear();
     walk.body(params, tree, place)?;
-    let body = body_of(meanings.alloc, walk.said())?;
+    let body = body_of(meanings.alloc, walk.occurrences())?;
     Ok(body)
 }

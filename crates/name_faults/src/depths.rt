@@ -14,7 +14,7 @@ pub(crate) fn depths_of(alloc: Global, bodies: &[Body], limit: u32) -> Result<Ve
     let mut depths = Vec::new(alloc);
     for _round in 0..limit {
         let next = next_round(alloc, bodies, depths.as_slice(), limit)?;
-        if same(next.as_slice(), depths.as_slice()) {
+        if are_same(next.as_slice(), depths.as_slice()) {
             return Ok(depths);
         }
         depths = next;
@@ -23,7 +23,7 @@ pub(crate) fn depths_of(alloc: Global, bodies: &[Body], limit: u32) -> Result<Ve
 }
 
 // Whether two lists of depths are the same.
-fn same(a: &[u32], b: &[u32]) -> bool
+fn are_same(a: &[u32], b: &[u32]) -> bool
     ensures { IsTrue result ↔ (a.now ≡ b.now) }
 {
     a == b
@@ -52,13 +52,13 @@ fn depth_of(body: &Body, depths: &[u32], limit: u32) -> u32
 {
     let mut deepest = cap(body.level, limit);
     for (d, level) in body.uses.as_slice() {
-        deepest = greater(deepest, below(depths, *d, *level, limit));
+        deepest = greater(deepest, use_depth(depths, *d, *level, limit));
     }
     deepest
 }
 
 // How deep the use of a definition reaches.
-fn below(depths: &[u32], d: u32, level: u32, limit: u32) -> u32
+fn use_depth(depths: &[u32], d: u32, level: u32, limit: u32) -> u32
     ensures { result ≡ min (level + slice_index depths.now d) limit }
 {
     match depths.get(d as usize) {

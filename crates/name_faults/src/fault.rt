@@ -101,7 +101,7 @@ fn fault_in<'a>(
     walk.clear();
     walk.declaration(meanings.alloc, meanings.kinds, known, decl)?;
     let deep = is_deep(meanings.kinds, depths, known.definitions, decl);
-    let fault = fault_of(meanings, known.declarations, walk.said(), deep)?;
+    let fault = fault_of(meanings, known.declarations, walk.occurrences(), deep)?;
     Ok(fault)
 }
 

@@ -17,7 +17,7 @@ pub(crate) fn class_at(kinds: &[Kind], d: usize) -> Class
 }
 
 // The place of a whole tree.
-fn whole(need: Need, network: bool) -> Place
+fn whole_place(need: Need, network: bool) -> Place
     ensures { result ≡ record { need = need; network = network; level = 1 } }
 {
     Place {
@@ -43,8 +43,8 @@ pub(crate) fn body_place(kinds: &[Kind], d: usize) -> Place
     ensures level { result.level ≡ 1 }
 {
     match kinds.get(d) {
-        Some(kind) => whole(need_of(kind.class), kind.network),
-        None => whole(Need::Either, false),
+        Some(kind) => whole_place(need_of(kind.class), kind.network),
+        None => whole_place(Need::Either, false),
     }
 }
 
@@ -52,12 +52,12 @@ pub(crate) fn body_place(kinds: &[Kind], d: usize) -> Place
 pub(crate) fn data_place() -> Place
     ensures { result ≡ meant.data_place }
 {
-    whole(Need::Data, false)
+    whole_place(Need::Data, false)
 }
 
 /// The place of the asserted call.
 pub(crate) fn root_place() -> Place
     ensures { result ≡ meant.root_place }
 {
-    whole(Need::Process, true)
+    whole_place(Need::Process, true)
 }

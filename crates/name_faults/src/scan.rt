@@ -159,14 +159,14 @@ fn repeated_in<'a>(names: &Dictionary, said: &Occurrence<&'a Name>) -> Option<&'
     ensures { option_copied result ≡ meant.repeated_name (first_of names.now) (seen said.now) }
 {
     match *said {
-        Occurrence::Declares(x, before) | Occurrence::Notes(x, before) => when(before, x),
-        Occurrence::Binds(x, repeats) => when(repeats || is_constant(names, x), x),
+        Occurrence::Declares(x, before) | Occurrence::Notes(x, before) => faulty_name(before, x),
+        Occurrence::Binds(x, repeats) => faulty_name(repeats || is_constant(names, x), x),
         Occurrence::Uses(_, _, _) | Occurrence::Form(_, _) | Occurrence::Parallel(_) => None,
     }
 }
 
 // The name, where it is at fault.
-fn when(holds: bool, x: &Name) -> Option<&Name>
+fn faulty_name(holds: bool, x: &Name) -> Option<&Name>
     ensures { option_copied result ≡ meant.when holds x.now }
 {
     if holds { Some(x) } else { None }
@@ -196,7 +196,7 @@ fn wrong_count_in<'a>(said: &Occurrence<&'a Name>) -> Option<&'a Name>
     ensures { option_copied result ≡ meant.wrong_count (seen said.now) }
 {
     match *said {
-        Occurrence::Uses(x, sense, how) => when(is_wrong_count(sense, how), x),
+        Occurrence::Uses(x, sense, how) => faulty_name(is_wrong_count(sense, how), x),
         Occurrence::Declares(_, _)
         | Occurrence::Binds(_, _)
         | Occurrence::Notes(_, _)

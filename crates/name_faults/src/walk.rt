@@ -33,7 +33,7 @@ impl<'a> Model for Walk<'a> {
 }
 
 // The place in what stands at a place.
-fn inside(place: Place, need: Need, network: bool) -> Place
+fn place_inside(place: Place, need: Need, network: bool) -> Place
     requires { place.level ≤ MOST_TREE_DEPTH }
     ensures { result ≡ record { need = need; network = network; level = place.level + 1 } }
 {
@@ -70,7 +70,7 @@ impl<'a> Walk<'a> {
     }
 
     /// What was said.
-    pub(crate) fn said(&self) -> &[Occurrence<&'a Name>]
+    pub(crate) fn occurrences(&self) -> &[Occurrence<&'a Name>]
         ensures { map seen result.now ≡ self.now.list }
     {
         self.list.as_slice()
@@ -213,10 +213,10 @@ impl<'a> Walk<'a> {
         requires { place.level + tree_depth tree.now ≤ MOST_TREE_DEPTH + 1 }
         ensures { OnOk result (self.new ≡ walked.after_tree self.old tree.now place) }
     {
-        let data = inside(place, Need::Data, false);
-        let process = inside(place, Need::Process, false);
-        let network = inside(place, Need::Process, true);
-        let part = inside(place, place.need, place.network);
+        let data = place_inside(place, Need::Data, false);
+        let process = place_inside(place, Need::Process, false);
+        let network = place_inside(place, Need::Process, true);
+        let part = place_inside(place, place.need, place.network);
         match tree {
             Tree::Num(_) | Tree::True | Tree::False => self.form(Class::Data, place),
             Tree::Stop | Tree::Skip => self.form(Class::Process, place),
@@ -239,12 +239,12 @@ impl<'a> Walk<'a> {
             }
             Tree::Binary(_, a, b) | Tree::Range(a, b) | Tree::SetOp(_, a, b) => {
                 self.form(Class::Data, place)?;
-                self.both(a.get(), data, b.get(), data)?;
+                self.two_trees(a.get(), data, b.get(), data)?;
                 Ok(())
             }
             Tree::If(c, a, b) => {
                 self.tree(c.get(), data)?;
-                self.both(a.get(), part, b.get(), part)?;
+                self.two_trees(a.get(), part, b.get(), part)?;
                 Ok(())
             }
             Tree::Display(items) => {
@@ -269,7 +269,7 @@ impl<'a> Walk<'a> {
             }
             Tree::Guard(c, p) => {
                 self.form(Class::Process, place)?;
-                self.both(c.get(), data, p.get(), process)?;
+                self.two_trees(c.get(), data, p.get(), process)?;
                 Ok(())
             }
             Tree::External(ps) | Tree::Internal(ps) => {
@@ -284,8 +284,8 @@ impl<'a> Walk<'a> {
             }
             Tree::Parallel(p, a, b, q) => {
                 self.parallel(place)?;
-                self.both(p.get(), network, a.get(), data)?;
-                self.both(b.get(), data, q.get(), network)?;
+                self.two_trees(p.get(), network, a.get(), data)?;
+                self.two_trees(b.get(), data, q.get(), network)?;
                 Ok(())
             }
             Tree::EachParallel(x, s, a, p) => {
@@ -295,12 +295,12 @@ impl<'a> Walk<'a> {
             }
             Tree::Seq(p, q) => {
                 self.form(Class::Process, place)?;
-                self.both(p.get(), process, q.get(), process)?;
+                self.two_trees(p.get(), process, q.get(), process)?;
                 Ok(())
             }
             Tree::Hide(p, s) => {
                 self.form(Class::Process, place)?;
-                self.both(p.get(), process, s.get(), data)?;
+                self.two_trees(p.get(), process, s.get(), data)?;
                 Ok(())
             }
             Tree::Rename(p, pairs, gens) => {
@@ -315,7 +315,13 @@ impl<'a> Walk<'a> {
     // Says what two trees say, each at its place.
     #[tactic(auto, using(crate::proofs::Lists::left_lists))]
     #[cycle(walk)]
-    fn both(&mut self, a: &'a Tree, at: Place, b: &'a Tree, then: Place) -> Result<(), NoMemory>
+    fn two_trees(
+        &mut self,
+        a: &'a Tree,
+        at: Place,
+        b: &'a Tree,
+        then: Place,
+    ) -> Result<(), NoMemory>
         requires first { at.level + tree_depth a.now ≤ MOST_TREE_DEPTH + 1 }
         requires second { then.level + tree_depth b.now ≤ MOST_TREE_DEPTH + 1 }
         ensures { OnOk result (self.new ≡ walked.after_both self.old a.now at b.now then) }
@@ -340,7 +346,7 @@ impl<'a> Walk<'a> {
     {
         let mark = self.mark();
         self.bind_gens(gens)?;
-        self.trees(items, inside(place, Need::Data, false))?;
+        self.trees(items, place_inside(place, Need::Data, false))?;
         self.leave(mark);
         self.gens(gens, place)?;
         self.leave(mark);
@@ -402,7 +408,7 @@ impl<'a> Walk<'a> {
         self.uses(&event.name, Use::Heads(event.fields.len()))?;
         let mark = self.mark();
         self.fields(event.fields.as_slice(), place)?;
-        self.tree(p, inside(place, Need::Process, false))?;
+        self.tree(p, place_inside(place, Need::Process, false))?;
         self.leave(mark);
         Ok(())
     }
@@ -416,10 +422,10 @@ impl<'a> Walk<'a> {
         ensures { OnOk result (self.new ≡ walked.after_each self.old x.now s.now p.now place) }
     {
         self.binds(x, false)?;
-        self.tree(s, inside(place, Need::Data, false))?;
+        self.tree(s, place_inside(place, Need::Data, false))?;
         let mark = self.mark();
         self.bind(x)?;
-        self.tree(p, inside(place, Need::Process, false))?;
+        self.tree(p, place_inside(place, Need::Process, false))?;
         self.leave(mark);
         Ok(())
     }
@@ -440,12 +446,12 @@ impl<'a> Walk<'a> {
         requires network { place.level + tree_depth p.now ≤ MOST_TREE_DEPTH }
         ensures { OnOk result (self.new ≡ walked.after_each_parallel self.old x.now s.now a.now p.now place) }
     {
-        let data = inside(place, Need::Data, false);
+        let data = place_inside(place, Need::Data, false);
         self.binds(x, false)?;
         self.tree(s, data)?;
         let mark = self.mark();
         self.bind(x)?;
-        self.both(a, data, p, inside(place, Need::Process, true))?;
+        self.two_trees(a, data, p, place_inside(place, Need::Process, true))?;
         self.leave(mark);
         Ok(())
     }
@@ -483,7 +489,7 @@ impl<'a> Walk<'a> {
         requires { place.level + field_depth field.now ≤ MOST_TREE_DEPTH }
         ensures { OnOk result (self.new ≡ walked.after_field self.old field.now place) }
     {
-        let data = inside(place, Need::Data, false);
+        let data = place_inside(place, Need::Data, false);
         match field {
             FieldTree::Dot(tree) => self.tree(tree, data),
             FieldTree::Output(tree) => self.tree(tree, data),
@@ -520,7 +526,7 @@ impl<'a> Walk<'a> {
         requires { place.level + gen_depth generator.now ≤ MOST_TREE_DEPTH }
         ensures { OnOk result (self.new ≡ walked.after_gen self.old generator.now place) }
     {
-        let data = inside(place, Need::Data, false);
+        let data = place_inside(place, Need::Data, false);
         match generator {
             GenTree::From(x, set) => {
                 self.binds(x, false)?;
@@ -552,7 +558,7 @@ impl<'a> Walk<'a> {
         requires { place.level + part_depth part.now ≤ MOST_TREE_DEPTH }
         ensures { OnOk result (self.new ≡ walked.after_part self.old part.now place) }
     {
-        let data = inside(place, Need::Data, false);
+        let data = place_inside(place, Need::Data, false);
         self.uses(&part.name, Use::Begins(part.fields.len()))?;
         self.trees(part.fields.as_slice(), data)?;
         Ok(())

@@ -47,7 +47,7 @@ impl Dictionary {
     pub fn find(&self, name: &Name) -> Option<Entity>
         ensures { result ≡ first_of self.now name.now }
     {
-        found_in(&self.entities, name)
+        find_in(&self.entities, name)
     }
 
     /// One more declaration. It changes nothing where the name is declared already.
@@ -59,7 +59,7 @@ impl Dictionary {
 }
 
 // What the map has for the name.
-fn found_in(entities: &IndexMap<Name, Entity, Key>, name: &Name) -> Option<Entity>
+fn find_in(entities: &IndexMap<Name, Entity, Key>, name: &Name) -> Option<Entity>
     ensures { result ≡ first_of entities.now.entries name.now }
 {
     entities.get(name).copied()
@@ -74,7 +74,7 @@ fn declare_in(
 ) -> Result<(), NoMemory>
     ensures { OnOk result (SameFirsts entities.new.entries (entities.old.entries ++ (name.now, entity) ∷ [])) }
 {
-    if found_in(entities, name).is_some() {
+    if find_in(entities, name).is_some() {
         return Ok(());
     }
     let name = name.try_clone(alloc)?;

@@ -36,8 +36,8 @@ impl<'a> Walk<'a> {
                 self.expressions(fields.as_slice())
                     .map(|fields| Expr::Event(channel, fields))
             }
-            Tree::Neg(a) => self.boxed_expr(a.get()).map(Expr::Neg),
-            Tree::Not(a) => self.boxed_expr(a.get()).map(Expr::Not),
+            Tree::Neg(a) => self.box_expr(a.get()).map(Expr::Neg),
+            Tree::Not(a) => self.box_expr(a.get()).map(Expr::Not),
             Tree::Binary(op, a, b) => self.two_exprs(a, b).map(|(a, b)| Expr::Binary(*op, a, b)),
             Tree::If(c, a, b) => self.expr_choice(c, a, b),
             Tree::Display(items) => self.expressions(items.as_slice()).map(Expr::Display),
@@ -54,7 +54,7 @@ impl<'a> Walk<'a> {
 
     /// A tree as an expression on the heap.
     #[cycle(typed_expr)]
-    pub(crate) fn boxed_expr(&mut self, tree: &Tree) -> Result<Boxed<Expr>, NoMemory>
+    pub(crate) fn box_expr(&mut self, tree: &Tree) -> Result<Boxed<Expr>, NoMemory>
         requires { self.old.next + tokens tree.now ≤ MOST_BYTES }
         ensures made { IfOk result (λ made. made ≡ expr_at self.old tree.now) }
         ensures walk { OnOk result (self.new ≡ past self.old (tokens tree.now)) }
@@ -76,8 +76,8 @@ impl<'a> Walk<'a> {
         ensures second { IfOk result (λ made. made.1 ≡ expr_at (past self.old (tokens a.now)) b.now) }
         ensures walk { OnOk result (self.new ≡ past self.old (tokens a.now + tokens b.now)) }
     {
-        let a = self.boxed_expr(a.get())?;
-        let b = self.boxed_expr(b.get())?;
+        let a = self.box_expr(a.get())?;
+        let b = self.box_expr(b.get())?;
         Ok((a, b))
     }
 
@@ -94,7 +94,7 @@ impl<'a> Walk<'a> {
         ensures made { IfOk result (λ made. made ≡ expr_at self.old (Tree.If c.now a.now b.now)) }
         ensures walk { OnOk result (self.new ≡ past self.old (tokens (Tree.If c.now a.now b.now))) }
     {
-        let c = self.boxed_expr(c.get())?;
+        let c = self.box_expr(c.get())?;
         self.two_exprs(a, b).map(|(a, b)| Expr::If(c, a, b))
     }
 
@@ -159,7 +159,7 @@ impl<'a> Walk<'a> {
         ensures walk { OnOk result (self.new ≡ past (bound self.old x.now) (tokens set.now)) }
     {
         let number = self.take_number();
-        let set = self.boxed_expr(set)?;
+        let set = self.box_expr(set)?;
         self.bind(x, number)?;
         Ok((number, set))
     }

@@ -14,17 +14,17 @@ use csp_text::Tree;
 impl<'a> Walk<'a> {
     // Whether a tree holds, through the parts of `if`s, a parallel or the use of a network definition.
     #[tactic(auto, using(crate::proofs::NetForms::networked_forms))]
-    fn networked(&self, tree: &Tree) -> bool
+    fn holds_network(&self, tree: &Tree) -> bool
         ensures { result ≡ networked_at self.now tree.now }
     {
         match tree {
             Tree::Name(x) => self.names_network(x),
             Tree::Call(f, _) => self.names_network(f),
             Tree::If(_, p, q) => {
-                if self.networked(p.get()) {
+                if self.holds_network(p.get()) {
                     return true;
                 }
-                self.networked(q.get())
+                self.holds_network(q.get())
             }
             Tree::Parallel(_, _, _, _) | Tree::EachParallel(_, _, _, _) => true,
             _ => false,
@@ -39,7 +39,7 @@ impl<'a> Walk<'a> {
         ensures made { IfOk result (λ made. made ≡ net_at self.old tree.now) }
         ensures walk { OnOk result (self.new ≡ past self.old (tokens tree.now)) }
     {
-        if !self.networked(tree) {
+        if !self.holds_network(tree) {
             return self.leaf(tree);
         }
         match tree {
@@ -79,9 +79,9 @@ impl<'a> Walk<'a> {
         ensures made { IfOk result (λ made. made ≡ net_at self.old (Tree.If c.now p.now q.now)) }
         ensures walk { OnOk result (self.new ≡ past self.old (tokens (Tree.If c.now p.now q.now))) }
     {
-        let c = self.boxed_expr(c.get())?;
-        let p = self.boxed_net(p)?;
-        self.boxed_net(q).map(|q| Net::If(c.into_inner(), p, q))
+        let c = self.box_expr(c.get())?;
+        let p = self.box_net(p)?;
+        self.box_net(q).map(|q| Net::If(c.into_inner(), p, q))
     }
 
     // Two networks in parallel.
@@ -99,9 +99,9 @@ impl<'a> Walk<'a> {
         ensures made { IfOk result (λ made. made ≡ net_at self.old (Tree.Parallel p.now a.now b.now q.now)) }
         ensures walk { OnOk result (self.new ≡ past self.old (tokens (Tree.Parallel p.now a.now b.now q.now))) }
     {
-        let p = self.boxed_net(p)?;
+        let p = self.box_net(p)?;
         let (a, b) = self.two_exprs(a, b)?;
-        self.boxed_net(q)
+        self.box_net(q)
             .map(|q| Net::Pair(p, a.into_inner(), b.into_inner(), q))
     }
 
@@ -122,8 +122,8 @@ impl<'a> Walk<'a> {
     {
         let mark = self.mark();
         let (number, set) = self.bind_over(x, set.get())?;
-        let a = self.boxed_expr(a.get())?;
-        let p = self.boxed_net(p)?;
+        let a = self.box_expr(a.get())?;
+        let p = self.box_net(p)?;
         self.leave(mark);
         Ok(Net::Each(number, set.into_inner(), a.into_inner(), p))
     }
@@ -139,7 +139,7 @@ impl<'a> Walk<'a> {
 
     // A tree as a network on the heap.
     #[cycle(typed_net)]
-    fn boxed_net(&mut self, tree: &Boxed<Tree>) -> Result<Boxed<Net>, NoMemory>
+    fn box_net(&mut self, tree: &Boxed<Tree>) -> Result<Boxed<Net>, NoMemory>
         requires { self.old.next + tokens tree.now ≤ MOST_BYTES }
         ensures made { IfOk result (λ made. made ≡ net_at self.old tree.now) }
         ensures walk { OnOk result (self.new ≡ past self.old (tokens tree.now)) }

@@ -30,7 +30,7 @@ impl<'a> Walk<'a> {
         ensures walk { OnOk result (self.new ≡ past self.old (set_tokens set.now)) }
     {
         match set {
-            Some(set) => self.boxed_expr(set).map(Some),
+            Some(set) => self.box_expr(set).map(Some),
             None => Ok(None),
         }
     }
@@ -168,7 +168,7 @@ impl<'a> Walk<'a> {
         ensures made { IfOk result (λ made. made ≡ proc_at self.old (Tree.If c.now p.now q.now)) }
         ensures walk { OnOk result (self.new ≡ past self.old (tokens (Tree.If c.now p.now q.now))) }
     {
-        let c = self.boxed_expr(c.get())?;
+        let c = self.box_expr(c.get())?;
         self.two_procs(p, q)
             .map(|(p, q)| Proc::If(c.into_inner(), p, q))
     }
@@ -183,7 +183,7 @@ impl<'a> Walk<'a> {
     {
         let mark = self.mark();
         let fields = self.fields(event.fields.as_slice())?;
-        let p = self.boxed_proc(p)?;
+        let p = self.box_proc(p)?;
         self.leave(mark);
         let first = self.head(&event.name);
         Ok(Proc::Prefix(first, fields, p))
@@ -197,8 +197,8 @@ impl<'a> Walk<'a> {
         ensures made { IfOk result (λ made. made ≡ proc_at self.old (Tree.Guard c.now p.now)) }
         ensures walk { OnOk result (self.new ≡ past self.old (tokens (Tree.Guard c.now p.now))) }
     {
-        let c = self.boxed_expr(c.get())?;
-        self.boxed_proc(p).map(|p| Proc::Guard(c.into_inner(), p))
+        let c = self.box_expr(c.get())?;
+        self.box_proc(p).map(|p| Proc::Guard(c.into_inner(), p))
     }
 
     // A process for a value of a set: the number of its name, the set and the process.
@@ -218,7 +218,7 @@ impl<'a> Walk<'a> {
     {
         let mark = self.mark();
         let (number, set) = self.bind_over(x, set.get())?;
-        let p = self.boxed_proc(p)?;
+        let p = self.box_proc(p)?;
         self.leave(mark);
         Ok((number, set, p))
     }
@@ -242,8 +242,8 @@ impl<'a> Walk<'a> {
         ensures made { IfOk result (λ made. made ≡ proc_at self.old (Tree.Hide p.now set.now)) }
         ensures walk { OnOk result (self.new ≡ past self.old (tokens (Tree.Hide p.now set.now))) }
     {
-        let p = self.boxed_proc(p)?;
-        self.boxed_expr(set.get())
+        let p = self.box_proc(p)?;
+        self.box_expr(set.get())
             .map(|set| Proc::Hide(p, set.into_inner()))
     }
 
@@ -281,7 +281,7 @@ impl<'a> Walk<'a> {
         ensures made { IfOk result (λ made. made ≡ proc_at self.old (Tree.Rename p.now sides.now gens.now)) }
         ensures walk { OnOk result (self.new ≡ past self.old (tokens (Tree.Rename p.now sides.now gens.now))) }
     {
-        let p = self.boxed_proc(p)?;
+        let p = self.box_proc(p)?;
         self.sides_under(sides, gens)
             .map(|(sides, gens)| Proc::Rename(p, sides, gens))
     }
@@ -298,14 +298,14 @@ impl<'a> Walk<'a> {
         ensures second { IfOk result (λ made. made.1 ≡ proc_at (past self.old (tokens p.now)) q.now) }
         ensures walk { OnOk result (self.new ≡ past self.old (tokens p.now + tokens q.now)) }
     {
-        let p = self.boxed_proc(p)?;
-        let q = self.boxed_proc(q)?;
+        let p = self.box_proc(p)?;
+        let q = self.box_proc(q)?;
         Ok((p, q))
     }
 
     // A tree as a process on the heap.
     #[cycle(typed_proc)]
-    fn boxed_proc(&mut self, tree: &Boxed<Tree>) -> Result<Boxed<Proc>, NoMemory>
+    fn box_proc(&mut self, tree: &Boxed<Tree>) -> Result<Boxed<Proc>, NoMemory>
         requires { self.old.next + tokens tree.now ≤ MOST_BYTES }
         ensures made { IfOk result (λ made. made ≡ proc_at self.old tree.now) }
         ensures walk { OnOk result (self.new ≡ past self.old (tokens tree.now)) }
