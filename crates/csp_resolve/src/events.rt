@@ -22,7 +22,7 @@ use dl_limits::MOST_EVENTS;
 use event_tables::{SharedSets, event_count, field_sets, fill_events};
 use name_tables::Meanings;
 use script_contents::types_of;
-use script_names::ResolveFault;
+use script_names::{Made, ResolveFault};
 use std::alloc::Global;
 
 /// The field sets of the channels of declarations. A type that has no value that fits is told in its declaration.
@@ -75,7 +75,7 @@ fn add_sets(
 }
 
 // Puts the field sets of one declaration at the end.
-fn push_shared(shared: &mut Vec<SharedSets>, one: SharedSets) -> Result<(), NoMemory>
+fn push_shared(shared: &mut Vec<SharedSets>, one: SharedSets) -> Made<()>
     ensures { OnOk result (shared.new.items ≡ shared.old.items ++ one ∷ []) }
 {
     shared.push(one)?;

@@ -12,11 +12,10 @@ ghost use Rattle.script_names.specs.Names.{declared};
 ghost use Rattle.script_sizes.specs.Size.{size};
 
 use crate::leading::{first_ends, is_marked, mark_leading};
-use csp_base::NoMemory;
 use csp_text::Decl;
 use name_tables::Dictionary;
 use name_tables::ends::ends_of_all;
-use script_names::{Class, End, Kind};
+use script_names::{Class, End, Kind, Made};
 use std::alloc::Global;
 
 // What was found of each definition.
@@ -41,7 +40,7 @@ impl Drop for Found {
 }
 
 /// What each definition of a script is, where `names` are its declared names.
-pub fn kinds_of(alloc: Global, decls: &[Decl], names: &Dictionary) -> Result<Vec<Kind>, NoMemory>
+pub fn kinds_of(alloc: Global, decls: &[Decl], names: &Dictionary) -> Made<Vec<Kind>>
     requires names { SameFirsts names.now (declared decls.now) }
     requires few { size decls.now ≤ MOST_BYTES }
     ensures { IfOk result (λ kinds. AreKinds decls.now kinds.items) }
@@ -52,7 +51,7 @@ pub fn kinds_of(alloc: Global, decls: &[Decl], names: &Dictionary) -> Result<Vec
 }
 
 // What definitions with these ends are.
-fn kinds_among(alloc: Global, all: &[Vec<End>]) -> Result<Vec<Kind>, NoMemory>
+fn kinds_among(alloc: Global, all: &[Vec<End>]) -> Made<Vec<Kind>>
     requires { length all.now ≤ MOST_BYTES }
     ensures { IfOk result (λ kinds. AreKindsOf (rows all.now) kinds.items) }
 {
@@ -62,7 +61,7 @@ fn kinds_among(alloc: Global, all: &[Vec<End>]) -> Result<Vec<Kind>, NoMemory>
 }
 
 // What is found of definitions with these ends.
-fn find_among(alloc: Global, all: &[Vec<End>]) -> Result<Found, NoMemory>
+fn find_among(alloc: Global, all: &[Vec<End>]) -> Made<Found>
     requires { length all.now ≤ MOST_BYTES }
     ensures { IfOk result (IsFound (rows all.now)) }
 {
@@ -76,7 +75,7 @@ fn find_among(alloc: Global, all: &[Vec<End>]) -> Result<Found, NoMemory>
 }
 
 // Which definitions with these ends are data, and which end at a name without a meaning.
-fn classes_among(alloc: Global, all: &[Vec<End>]) -> Result<(Vec<bool>, Vec<bool>), NoMemory>
+fn classes_among(alloc: Global, all: &[Vec<End>]) -> Made<(Vec<bool>, Vec<bool>)>
     requires { length all.now ≤ MOST_BYTES }
     ensures data { IfOk result (λ marks. AreLeading End.Data (firsts_of (rows all.now)) marks.0.items) }
     ensures nothing { IfOk result (λ marks. AreLeading End.Nothing (firsts_of (rows all.now)) marks.1.items) }
@@ -87,7 +86,7 @@ fn classes_among(alloc: Global, all: &[Vec<End>]) -> Result<(Vec<bool>, Vec<bool
 }
 
 // What so many definitions are.
-fn kinds_found(alloc: Global, found: &Found, count: usize) -> Result<Vec<Kind>, NoMemory>
+fn kinds_found(alloc: Global, found: &Found, count: usize) -> Made<Vec<Kind>>
     requires { count ≤ MOST_BYTES }
     ensures { IfOk result (λ kinds. AreFound found.now count kinds.items) }
 {

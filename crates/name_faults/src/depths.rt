@@ -1,14 +1,14 @@
 //! The depths of definitions with all of their uses expanded, as far as a limit: in rounds, each use one level further.
 
-ghost use Rattle.std.specs.Prelude.{◌≡◌, ◌+◌, ◌↔◌, min, max, map, slice_index, IsTrue, IfOk};
+ghost use Rattle.std.specs.Prelude.{◌≡◌, ◌+◌, ◌↔◌, min, map, slice_index, IsTrue, IfOk};
 ghost use Rattle.name_faults.specs.Depths.{AreWithin, deepest_of};
 
-use crate::body::Body;
-use csp_base::NoMemory;
+use crate::body::{Body, greater};
+use script_names::Made;
 use std::alloc::Global;
 
 /// The depth of each definition as far as the limit, with as many uses entered, one inside another, as it says.
-pub(crate) fn depths_of(alloc: Global, bodies: &[Body], limit: u32) -> Result<Vec<u32>, NoMemory>
+pub(crate) fn depths_of(alloc: Global, bodies: &[Body], limit: u32) -> Made<Vec<u32>>
     ensures { IfOk result (λ depths. AreWithin limit limit bodies.now depths.items) }
 {
     let mut depths = Vec::new(alloc);
@@ -30,12 +30,7 @@ fn are_same(a: &[u32], b: &[u32]) -> bool
 }
 
 // The depths with one use more that may be entered.
-fn next_round(
-    alloc: Global,
-    bodies: &[Body],
-    depths: &[u32],
-    limit: u32,
-) -> Result<Vec<u32>, NoMemory>
+fn next_round(alloc: Global, bodies: &[Body], depths: &[u32], limit: u32) -> Made<Vec<u32>>
     ensures { IfOk result (λ next.
         next.items ≡ map (λ body. min (deepest_of (λ d. slice_index depths.now d) body) limit) bodies.now) }
 {
@@ -65,13 +60,6 @@ fn use_depth(depths: &[u32], d: u32, level: u32, limit: u32) -> u32
         Some(depth) => cap(level.saturating_add(*depth), limit),
         None => cap(level, limit),
     }
-}
-
-// The greater of two depths.
-fn greater(a: u32, b: u32) -> u32
-    ensures { result ≡ max a b }
-{
-    if a < b { b } else { a }
 }
 
 // A depth as far as it is counted.

@@ -1,20 +1,10 @@
 //! The places of the trees of declarations.
 
 ghost use Rattle.std.specs.Prelude.{◌≡◌, slice_get};
-ghost use Rattle.script_names.specs.Faults.{kind_class};
 ghost use Rattle.script_names.specs.Told as meant;
 
+use name_tables::kind_at;
 use script_names::{Class, Kind, Need, Place};
-
-// The class of a definition.
-pub(crate) fn class_at(kinds: &[Kind], d: usize) -> Class
-    ensures { result ≡ kind_class (slice_get kinds.now d) }
-{
-    match kinds.get(d) {
-        Some(kind) => kind.class,
-        None => Class::Unknown,
-    }
-}
 
 // The place of a whole tree.
 fn whole_place(need: Need, network: bool) -> Place
@@ -42,10 +32,8 @@ pub(crate) fn body_place(kinds: &[Kind], d: usize) -> Place
     ensures place { result ≡ meant.body_place (slice_get kinds.now d) }
     ensures level { result.level ≡ 1 }
 {
-    match kinds.get(d) {
-        Some(kind) => whole_place(need_of(kind.class), kind.network),
-        None => whole_place(Need::Either, false),
-    }
+    let kind = kind_at(kinds, d);
+    whole_place(need_of(kind.class), kind.network)
 }
 
 /// The place of a type of a channel and of the body of a nametype.

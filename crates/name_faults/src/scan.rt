@@ -1,12 +1,12 @@
 //! What tests find in what is said.
 
 ghost use Rattle.std.specs.Prelude.{◌≡◌, ◌-◌, ◌||◌};
-ghost use Rattle.name_faults.specs.Prelude.{not, map, nat_eq, nat_lt, option_copied, slice_get, list_any, first_of, first_name};
+ghost use Rattle.name_faults.specs.Prelude.{not, map, nat_eq, nat_lt, option_copied, list_any, first_of, first_name};
 ghost use Rattle.name_faults.specs.Walked.{seen};
 ghost use Rattle.script_names.specs.Faults as meant;
 
 use csp_base::Name;
-use name_tables::Dictionary;
+use name_tables::{Dictionary, kind_at};
 use script_names::{Class, Entity, Kind, Need, Occurrence, Sense, Use};
 
 /// The first name that is neither bound nor declared.
@@ -105,19 +105,9 @@ fn class_of(kinds: &[Kind], sense: Sense) -> Class
     ensures { result ≡ meant.class_of kinds.now sense }
 {
     match sense {
-        Sense::Declared(Entity::Definition(d, _)) => class_at(kinds, d),
+        Sense::Declared(Entity::Definition(d, _)) => kind_at(kinds, d as usize).class,
         Sense::Bound | Sense::Declared(_) => Class::Data,
         Sense::Unknown => Class::Unknown,
-    }
-}
-
-// The class of a definition.
-fn class_at(kinds: &[Kind], d: u32) -> Class
-    ensures { result ≡ meant.kind_class (slice_get kinds.now d) }
-{
-    match kinds.get(d as usize) {
-        Some(kind) => kind.class,
-        None => Class::Unknown,
     }
 }
 
@@ -314,17 +304,7 @@ fn is_network(kinds: &[Kind], sense: Sense) -> bool
     ensures { result ≡ meant.is_network kinds.now sense }
 {
     match sense {
-        Sense::Declared(Entity::Definition(d, _)) => network_at(kinds, d),
+        Sense::Declared(Entity::Definition(d, _)) => kind_at(kinds, d as usize).network,
         Sense::Bound | Sense::Declared(_) | Sense::Unknown => false,
-    }
-}
-
-// Whether a definition is one of a network.
-fn network_at(kinds: &[Kind], d: u32) -> bool
-    ensures { result ≡ meant.kind_network (slice_get kinds.now d) }
-{
-    match kinds.get(d as usize) {
-        Some(kind) => kind.network,
-        None => false,
     }
 }

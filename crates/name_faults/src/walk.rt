@@ -6,11 +6,10 @@ ghost use Rattle.script_names.specs.Names.{first_of, sense_in};
 ghost use Rattle.name_faults.specs.Walked.{after, seen};
 ghost use Rattle.name_faults.specs.Walked as walked;
 
-use containers::Key;
-use csp_base::{Name, NoMemory};
+use csp_base::Name;
 use csp_text::{EventTree, FieldTree, GenTree, PartTree, Tree};
-use name_tables::{Dictionary, Scope};
-use script_names::{Class, Need, Occurrence, Place, Sense, Use};
+use name_tables::{Dictionary, NameSet, Scope};
+use script_names::{Class, Made, Need, Occurrence, Place, Sense, Use};
 use std::alloc::Global;
 use std::marker::Model;
 
@@ -56,9 +55,11 @@ impl<'a> Walk<'a> {
         }
     }
 
-    /// The key under which names are found.
-    pub(crate) fn key(&self) -> Key {
-        self.names.key()
+    /// A set of no names.
+    pub(crate) fn new_set(&self) -> NameSet
+        ensures { result ≡ [] }
+    {
+        self.names.new_set()
     }
 
     /// Forgets what was bound and said.
@@ -77,7 +78,7 @@ impl<'a> Walk<'a> {
     }
 
     /// Binds names.
-    pub(crate) fn bind_all(&mut self, xs: &'a [Name]) -> Result<(), NoMemory>
+    pub(crate) fn bind_all(&mut self, xs: &'a [Name]) -> Made<()>
         ensures { OnOk result (self.new ≡ record self.old { bound = self.old.bound ++ xs.now }) }
     {
         for x in xs {
@@ -88,12 +89,7 @@ impl<'a> Walk<'a> {
 
     /// Says what a tree says at a place under parameters, which are left again.
     #[tactic(auto, unfolding(crate::specs::Walked::tree_said))]
-    pub(crate) fn body(
-        &mut self,
-        params: &'a [Name],
-        tree: &'a Tree,
-        place: Place,
-    ) -> Result<(), NoMemory>
+    pub(crate) fn body(&mut self, params: &'a [Name], tree: &'a Tree, place: Place) -> Made<()>
         requires depth { place.level + tree_depth tree.now ≤ MOST_TREE_DEPTH + 1 }
         requires bound { self.old.bound ≡ [] }
         ensures { OnOk result (self.new ≡ walked.after_body self.old params.now tree.now place) }
@@ -112,7 +108,7 @@ impl<'a> Walk<'a> {
     }
 
     // Binds one more name.
-    fn bind(&mut self, x: &'a Name) -> Result<(), NoMemory>
+    fn bind(&mut self, x: &'a Name) -> Made<()>
         ensures { OnOk result (self.new ≡ record self.old { bound = self.old.bound ++ x.now ∷ [] }) }
     {
         self.bound.bind(x, 0)
@@ -127,7 +123,7 @@ impl<'a> Walk<'a> {
     }
 
     /// Says that a name is declared, and whether it was before.
-    pub(crate) fn declares(&mut self, x: &'a Name, before: bool) -> Result<(), NoMemory>
+    pub(crate) fn declares(&mut self, x: &'a Name, before: bool) -> Made<()>
         ensures { OnOk result (self.new ≡ after self.old (Occurrence.Declares x.now before ∷ [])) }
     {
         self.list.push(Occurrence::Declares(x, before))?;
@@ -135,7 +131,7 @@ impl<'a> Walk<'a> {
     }
 
     /// Says that a name is bound, and whether it is a parameter that repeats.
-    pub(crate) fn binds(&mut self, x: &'a Name, repeats: bool) -> Result<(), NoMemory>
+    pub(crate) fn binds(&mut self, x: &'a Name, repeats: bool) -> Made<()>
         ensures { OnOk result (self.new ≡ after self.old (Occurrence.Binds x.now repeats ∷ [])) }
     {
         self.list.push(Occurrence::Binds(x, repeats))?;
@@ -143,7 +139,7 @@ impl<'a> Walk<'a> {
     }
 
     /// Says that a process is annotated, and whether it was before.
-    pub(crate) fn notes(&mut self, x: &'a Name, before: bool) -> Result<(), NoMemory>
+    pub(crate) fn notes(&mut self, x: &'a Name, before: bool) -> Made<()>
         ensures { OnOk result (self.new ≡ after self.old (Occurrence.Notes x.now before ∷ [])) }
     {
         self.list.push(Occurrence::Notes(x, before))?;
@@ -151,7 +147,7 @@ impl<'a> Walk<'a> {
     }
 
     /// Says the use of a name.
-    pub(crate) fn uses(&mut self, x: &'a Name, how: Use) -> Result<(), NoMemory>
+    pub(crate) fn uses(&mut self, x: &'a Name, how: Use) -> Made<()>
         ensures { OnOk result (self.new ≡ after self.old (walked.used self.old x.now how ∷ [])) }
     {
         let sense = name_tables::ends::sense_in(self.names, &self.bound, x);
@@ -160,7 +156,7 @@ impl<'a> Walk<'a> {
     }
 
     // Says a form.
-    fn form(&mut self, class: Class, place: Place) -> Result<(), NoMemory>
+    fn form(&mut self, class: Class, place: Place) -> Made<()>
         ensures { OnOk result (self.new ≡ after self.old (Occurrence.Form class place ∷ [])) }
     {
         self.list.push(Occurrence::Form(class, place))?;
@@ -168,7 +164,7 @@ impl<'a> Walk<'a> {
     }
 
     // Says a parallel.
-    fn parallel(&mut self, place: Place) -> Result<(), NoMemory>
+    fn parallel(&mut self, place: Place) -> Made<()>
         ensures { OnOk result (self.new ≡ after self.old (Occurrence.Parallel place ∷ [])) }
     {
         self.list.push(Occurrence::Parallel(place))?;
@@ -184,7 +180,7 @@ impl<'a> Walk<'a> {
 
     // Binds the names of generators.
     #[tactic(auto, using(crate::proofs::Lists::said_lists))]
-    fn bind_gens(&mut self, gens: &'a [GenTree]) -> Result<(), NoMemory>
+    fn bind_gens(&mut self, gens: &'a [GenTree]) -> Made<()>
         ensures { OnOk result (self.new ≡ walked.under_gens_of self.old gens.now) }
     {
         for generator in gens {
@@ -195,7 +191,7 @@ impl<'a> Walk<'a> {
 
     // Binds the name of a generator, if it has one.
     #[tactic(auto, using(crate::proofs::Says::part_forms))]
-    fn bind_gen(&mut self, generator: &'a GenTree) -> Result<(), NoMemory>
+    fn bind_gen(&mut self, generator: &'a GenTree) -> Made<()>
         ensures { OnOk result (self.new ≡ walked.under_gen_of self.old generator.now) }
     {
         match generator {
@@ -209,7 +205,7 @@ impl<'a> Walk<'a> {
     /// Says what a tree says at a place, under the names that are bound.
     #[tactic(auto, using(crate::proofs::Says::tree_forms))]
     #[cycle(walk)]
-    pub(crate) fn tree(&mut self, tree: &'a Tree, place: Place) -> Result<(), NoMemory>
+    pub(crate) fn tree(&mut self, tree: &'a Tree, place: Place) -> Made<()>
         requires { place.level + tree_depth tree.now ≤ MOST_TREE_DEPTH + 1 }
         ensures { OnOk result (self.new ≡ walked.after_tree self.old tree.now place) }
     {
@@ -315,13 +311,7 @@ impl<'a> Walk<'a> {
     // Says what two trees say, each at its place.
     #[tactic(auto, using(crate::proofs::Lists::left_lists))]
     #[cycle(walk)]
-    fn two_trees(
-        &mut self,
-        a: &'a Tree,
-        at: Place,
-        b: &'a Tree,
-        then: Place,
-    ) -> Result<(), NoMemory>
+    fn two_trees(&mut self, a: &'a Tree, at: Place, b: &'a Tree, then: Place) -> Made<()>
         requires first { at.level + tree_depth a.now ≤ MOST_TREE_DEPTH + 1 }
         requires second { then.level + tree_depth b.now ≤ MOST_TREE_DEPTH + 1 }
         ensures { OnOk result (self.new ≡ walked.after_both self.old a.now at b.now then) }
@@ -334,12 +324,7 @@ impl<'a> Walk<'a> {
     // Says the items of a comprehension under the names of its generators, and these.
     #[tactic(auto, using(crate::proofs::Lists::left_lists))]
     #[cycle(walk)]
-    fn comprehension(
-        &mut self,
-        items: &'a [Tree],
-        gens: &'a [GenTree],
-        place: Place,
-    ) -> Result<(), NoMemory>
+    fn comprehension(&mut self, items: &'a [Tree], gens: &'a [GenTree], place: Place) -> Made<()>
         requires items { place.level + greatest (map tree_depth items.now) ≤ MOST_TREE_DEPTH }
         requires gens { place.level + greatest (map gen_depth gens.now) ≤ MOST_TREE_DEPTH }
         ensures { OnOk result (self.new ≡ walked.after_comprehension self.old items.now gens.now place) }
@@ -356,12 +341,7 @@ impl<'a> Walk<'a> {
     // Says the parts of a set of events under the names of its generators, and these.
     #[tactic(auto, using(crate::proofs::Lists::left_lists))]
     #[cycle(walk)]
-    fn product(
-        &mut self,
-        parts: &'a [PartTree],
-        gens: &'a [GenTree],
-        place: Place,
-    ) -> Result<(), NoMemory>
+    fn product(&mut self, parts: &'a [PartTree], gens: &'a [GenTree], place: Place) -> Made<()>
         requires parts { place.level + greatest (map part_depth parts.now) ≤ MOST_TREE_DEPTH }
         requires gens { place.level + greatest (map gen_depth gens.now) ≤ MOST_TREE_DEPTH }
         ensures { OnOk result (self.new ≡ walked.after_product self.old parts.now gens.now place) }
@@ -383,7 +363,7 @@ impl<'a> Walk<'a> {
         pairs: &'a [(PartTree, PartTree)],
         gens: &'a [GenTree],
         place: Place,
-    ) -> Result<(), NoMemory>
+    ) -> Made<()>
         requires pairs { place.level + walked.pairs_depth pairs.now ≤ MOST_TREE_DEPTH }
         requires gens { place.level + greatest (map gen_depth gens.now) ≤ MOST_TREE_DEPTH }
         ensures { OnOk result (self.new ≡ walked.after_renaming self.old pairs.now gens.now place) }
@@ -400,7 +380,7 @@ impl<'a> Walk<'a> {
     // Says the event of a prefix, and the process under the names that it binds.
     #[tactic(auto, using(crate::proofs::Lists::left_lists))]
     #[cycle(walk)]
-    fn prefix(&mut self, event: &'a EventTree, p: &'a Tree, place: Place) -> Result<(), NoMemory>
+    fn prefix(&mut self, event: &'a EventTree, p: &'a Tree, place: Place) -> Made<()>
         requires event { place.level + event_depth event.now ≤ MOST_TREE_DEPTH }
         requires process { place.level + tree_depth p.now ≤ MOST_TREE_DEPTH }
         ensures { OnOk result (self.new ≡ walked.after_prefix self.old event.now p.now place) }
@@ -416,7 +396,7 @@ impl<'a> Walk<'a> {
     // Says a name that is bound to the values of a set, the set, and a process under the name.
     #[tactic(auto, using(crate::proofs::Lists::left_lists))]
     #[cycle(walk)]
-    fn each(&mut self, x: &'a Name, s: &'a Tree, p: &'a Tree, place: Place) -> Result<(), NoMemory>
+    fn each(&mut self, x: &'a Name, s: &'a Tree, p: &'a Tree, place: Place) -> Made<()>
         requires set { place.level + tree_depth s.now ≤ MOST_TREE_DEPTH }
         requires process { place.level + tree_depth p.now ≤ MOST_TREE_DEPTH }
         ensures { OnOk result (self.new ≡ walked.after_each self.old x.now s.now p.now place) }
@@ -440,7 +420,7 @@ impl<'a> Walk<'a> {
         a: &'a Tree,
         p: &'a Tree,
         place: Place,
-    ) -> Result<(), NoMemory>
+    ) -> Made<()>
         requires set { place.level + tree_depth s.now ≤ MOST_TREE_DEPTH }
         requires events { place.level + tree_depth a.now ≤ MOST_TREE_DEPTH }
         requires network { place.level + tree_depth p.now ≤ MOST_TREE_DEPTH }
@@ -459,7 +439,7 @@ impl<'a> Walk<'a> {
     // Says what trees say.
     #[tactic(auto, using(crate::proofs::Lists::said_lists))]
     #[cycle(walk)]
-    fn trees(&mut self, trees: &'a [Tree], place: Place) -> Result<(), NoMemory>
+    fn trees(&mut self, trees: &'a [Tree], place: Place) -> Made<()>
         requires { place.level + greatest (map tree_depth trees.now) ≤ MOST_TREE_DEPTH + 1 }
         ensures { OnOk result (self.new ≡ walked.after_trees self.old trees.now place) }
     {
@@ -472,7 +452,7 @@ impl<'a> Walk<'a> {
     // Says what fields say, and binds their names.
     #[tactic(auto, using(crate::proofs::Lists::said_lists))]
     #[cycle(walk)]
-    fn fields(&mut self, fields: &'a [FieldTree], place: Place) -> Result<(), NoMemory>
+    fn fields(&mut self, fields: &'a [FieldTree], place: Place) -> Made<()>
         requires { place.level + greatest (map field_depth fields.now) ≤ MOST_TREE_DEPTH }
         ensures { OnOk result (self.new ≡ walked.after_fields self.old fields.now place) }
     {
@@ -485,7 +465,7 @@ impl<'a> Walk<'a> {
     // Says what a field says, and binds its name.
     #[tactic(auto, using(crate::proofs::Says::part_forms))]
     #[cycle(walk)]
-    fn field(&mut self, field: &'a FieldTree, place: Place) -> Result<(), NoMemory>
+    fn field(&mut self, field: &'a FieldTree, place: Place) -> Made<()>
         requires { place.level + field_depth field.now ≤ MOST_TREE_DEPTH }
         ensures { OnOk result (self.new ≡ walked.after_field self.old field.now place) }
     {
@@ -509,7 +489,7 @@ impl<'a> Walk<'a> {
     // Says what generators say, and binds their names.
     #[tactic(auto, using(crate::proofs::Lists::said_lists))]
     #[cycle(walk)]
-    fn gens(&mut self, gens: &'a [GenTree], place: Place) -> Result<(), NoMemory>
+    fn gens(&mut self, gens: &'a [GenTree], place: Place) -> Made<()>
         requires { place.level + greatest (map gen_depth gens.now) ≤ MOST_TREE_DEPTH }
         ensures { OnOk result (self.new ≡ walked.after_gens self.old gens.now place) }
     {
@@ -522,7 +502,7 @@ impl<'a> Walk<'a> {
     // Says what a generator says, and binds its name.
     #[tactic(auto, using(crate::proofs::Says::part_forms))]
     #[cycle(walk)]
-    fn generator(&mut self, generator: &'a GenTree, place: Place) -> Result<(), NoMemory>
+    fn generator(&mut self, generator: &'a GenTree, place: Place) -> Made<()>
         requires { place.level + gen_depth generator.now ≤ MOST_TREE_DEPTH }
         ensures { OnOk result (self.new ≡ walked.after_gen self.old generator.now place) }
     {
@@ -541,7 +521,7 @@ impl<'a> Walk<'a> {
     // Says what the fronts of events say.
     #[tactic(auto, using(crate::proofs::Lists::said_lists))]
     #[cycle(walk)]
-    fn parts(&mut self, parts: &'a [PartTree], place: Place) -> Result<(), NoMemory>
+    fn parts(&mut self, parts: &'a [PartTree], place: Place) -> Made<()>
         requires { place.level + greatest (map part_depth parts.now) ≤ MOST_TREE_DEPTH }
         ensures { OnOk result (self.new ≡ walked.after_parts self.old parts.now place) }
     {
@@ -554,7 +534,7 @@ impl<'a> Walk<'a> {
     // Says what the front of an event says.
     #[tactic(auto, using(crate::proofs::Says::part_forms))]
     #[cycle(walk)]
-    fn part(&mut self, part: &'a PartTree, place: Place) -> Result<(), NoMemory>
+    fn part(&mut self, part: &'a PartTree, place: Place) -> Made<()>
         requires { place.level + part_depth part.now ≤ MOST_TREE_DEPTH }
         ensures { OnOk result (self.new ≡ walked.after_part self.old part.now place) }
     {
@@ -567,7 +547,7 @@ impl<'a> Walk<'a> {
     // Says what the pairs of a renaming say.
     #[tactic(auto, using(crate::proofs::Lists::said_lists))]
     #[cycle(walk)]
-    fn pairs(&mut self, pairs: &'a [(PartTree, PartTree)], place: Place) -> Result<(), NoMemory>
+    fn pairs(&mut self, pairs: &'a [(PartTree, PartTree)], place: Place) -> Made<()>
         requires { place.level + walked.pairs_depth pairs.now ≤ MOST_TREE_DEPTH }
         ensures { OnOk result (self.new ≡ walked.after_pairs self.old pairs.now place) }
     {

@@ -7,9 +7,10 @@ ghost use Rattle.typed_trees.specs.Words.{net_at, networked_at, proc_at};
 
 use crate::walk::Walk;
 use containers::{Boxed, Items};
-use csp_base::{Name, NoMemory};
+use csp_base::Name;
 use csp_program::{Expr, Net};
 use csp_text::Tree;
+use script_names::Made;
 
 impl<'a> Walk<'a> {
     // Whether a tree holds, through the parts of `if`s, a parallel or the use of a network definition.
@@ -34,7 +35,7 @@ impl<'a> Walk<'a> {
     /// A tree as a network. One that holds no parallel and no use of a network definition is a component.
     #[tactic(auto, using(csp_text::specs::declared::tree::Tree::the_lemmas, script_sizes::proofs::TokenForms::token_forms, crate::proofs::NetForms::net_forms))]
     #[cycle(typed_net)]
-    pub(crate) fn network(&mut self, tree: &Tree) -> Result<Net, NoMemory>
+    pub(crate) fn network(&mut self, tree: &Tree) -> Made<Net>
         requires { self.old.next + tokens tree.now ≤ MOST_BYTES }
         ensures made { IfOk result (λ made. made ≡ net_at self.old tree.now) }
         ensures walk { OnOk result (self.new ≡ past self.old (tokens tree.now)) }
@@ -54,7 +55,7 @@ impl<'a> Walk<'a> {
 
     // The use of the network definition `f`.
     #[tactic(auto, using(script_sizes::proofs::TokenForms::token_forms, crate::proofs::NetForms::net_forms))]
-    fn net_call(&mut self, f: &Name, args: &Items<Tree>) -> Result<Net, NoMemory>
+    fn net_call(&mut self, f: &Name, args: &Items<Tree>) -> Made<Net>
         requires networked { networked_at self.old (Tree.Call f.now args.now) ≡ true }
         requires few { self.old.next + tokens (Tree.Call f.now args.now) ≤ MOST_BYTES }
         ensures made { IfOk result (λ made. made ≡ net_at self.old (Tree.Call f.now args.now)) }
@@ -68,12 +69,7 @@ impl<'a> Walk<'a> {
     // One of two networks.
     #[tactic(auto, using(script_sizes::proofs::TokenForms::token_forms, crate::proofs::NetForms::net_forms))]
     #[cycle(typed_net)]
-    fn net_choice(
-        &mut self,
-        c: &Boxed<Tree>,
-        p: &Boxed<Tree>,
-        q: &Boxed<Tree>,
-    ) -> Result<Net, NoMemory>
+    fn net_choice(&mut self, c: &Boxed<Tree>, p: &Boxed<Tree>, q: &Boxed<Tree>) -> Made<Net>
         requires networked { networked_at self.old (Tree.If c.now p.now q.now) ≡ true }
         requires few { self.old.next + tokens (Tree.If c.now p.now q.now) ≤ MOST_BYTES }
         ensures made { IfOk result (λ made. made ≡ net_at self.old (Tree.If c.now p.now q.now)) }
@@ -93,7 +89,7 @@ impl<'a> Walk<'a> {
         a: &Boxed<Tree>,
         b: &Boxed<Tree>,
         q: &Boxed<Tree>,
-    ) -> Result<Net, NoMemory>
+    ) -> Made<Net>
         requires networked { networked_at self.old (Tree.Parallel p.now a.now b.now q.now) ≡ true }
         requires few { self.old.next + tokens (Tree.Parallel p.now a.now b.now q.now) ≤ MOST_BYTES }
         ensures made { IfOk result (λ made. made ≡ net_at self.old (Tree.Parallel p.now a.now b.now q.now)) }
@@ -108,13 +104,7 @@ impl<'a> Walk<'a> {
     // Networks in parallel over the values of a set.
     #[tactic(auto, using(script_sizes::proofs::TokenForms::token_forms, crate::proofs::NetForms::net_forms, crate::proofs::Scopes::scope_laws))]
     #[cycle(typed_net)]
-    fn each(
-        &mut self,
-        x: &Name,
-        set: &Boxed<Tree>,
-        a: &Boxed<Tree>,
-        p: &Boxed<Tree>,
-    ) -> Result<Net, NoMemory>
+    fn each(&mut self, x: &Name, set: &Boxed<Tree>, a: &Boxed<Tree>, p: &Boxed<Tree>) -> Made<Net>
         requires networked { networked_at self.old (Tree.EachParallel x.now set.now a.now p.now) ≡ true }
         requires few { self.old.next + tokens (Tree.EachParallel x.now set.now a.now p.now) ≤ MOST_BYTES }
         ensures made { IfOk result (λ made. made ≡ net_at self.old (Tree.EachParallel x.now set.now a.now p.now)) }
@@ -129,7 +119,7 @@ impl<'a> Walk<'a> {
     }
 
     // A tree as a component.
-    fn leaf(&mut self, tree: &Tree) -> Result<Net, NoMemory>
+    fn leaf(&mut self, tree: &Tree) -> Made<Net>
         requires { self.old.next + tokens tree.now ≤ MOST_BYTES }
         ensures made { IfOk result (λ made. made ≡ Net.Leaf (proc_at self.old tree.now)) }
         ensures walk { OnOk result (self.new ≡ past self.old (tokens tree.now)) }
@@ -139,7 +129,7 @@ impl<'a> Walk<'a> {
 
     // A tree as a network on the heap.
     #[cycle(typed_net)]
-    fn box_net(&mut self, tree: &Boxed<Tree>) -> Result<Boxed<Net>, NoMemory>
+    fn box_net(&mut self, tree: &Boxed<Tree>) -> Made<Boxed<Net>>
         requires { self.old.next + tokens tree.now ≤ MOST_BYTES }
         ensures made { IfOk result (λ made. made ≡ net_at self.old tree.now) }
         ensures walk { OnOk result (self.new ≡ past self.old (tokens tree.now)) }
