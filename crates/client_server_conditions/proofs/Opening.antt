@@ -1,44 +1,20 @@
 -- When a link is open, as the exploration of one end shows it; and which events of the link are acknowledgements.
-use Rattle.client_server_conditions.proofs.Prelude.{◌≡◌, ℕ, suc, List, [], ◌∷◌, Bool, true, false, not, ◌&&◌, ◌||◌, cond, IsTrue, nat_eq, inl, inr, refl, sym, ap, ◌∙◌, arith, list_any, cases_Bool, or_cases, or_left, or_right, false≢true, cond-true, cond-false, common_member, meets_of_from_member, has, meets_of, Joins, RoleSets, link_at, role_at, count_in, is_odd, has_acknowledgements, is_acknowledgement, is_open, observed, parity_step, Network, Asks, Grants, is_open_at, or_unless}
-use Rattle.design_rules.proofs.Counts.{count_more, count_same}
+use Rattle.client_server_conditions.proofs.Prelude.{◌≡◌, ℕ, List, Bool, true, false, ◌&&◌, ◌||◌, cond, IsTrue, nat_eq, inl, inr, refl, sym, ap, ◌∙◌, list_any, or_cases, or_left, or_right, false≢true, common_member, meets_of_from_member, has, meets_of, Joins, RoleSets, link_at, role_at, count_in, is_odd, has_acknowledgements, is_acknowledgement, is_open, observed, parity_step, Network, Asks, Grants, is_open_at, or_unless}
 use Rattle.csp_base.proofs.Listed.{any_member, any_of}
+use Rattle.shape_links.proofs.Parity.{parity_is}
 
 -- ---- parities
-
-abbrev number : Bool → ℕ
-number b = cond b 1 0
-
-turned : (S : List ℕ) (e : ℕ) (b : Bool) → has S e ≡ true → parity_step S (number b) e ≡ number (not b)
-turned S e true on = cond-true (has S e) 0 1 on
-turned S e false on = cond-true (has S e) 1 0 on
-
-again : (b odd : Bool) → cond odd (not (not b)) (not b) ≡ cond (not odd) (not b) b
-again true true = refl
-again false true = refl
-again b false = refl
-
--- the state after a run from an odd or even state, by whether the number of its events is odd
-parity_counts : (S : List ℕ) (b : Bool) (s : List ℕ) → nat_eq (observed (parity_step S) (number b) s) 1 ≡ cond (is_odd (count_in S s)) (not b) b
-parity_counts S true [] = refl
-parity_counts S false [] = refl
-parity_counts S b (e ∷ s) = elim (cases_Bool (has S e)) [
-  | inl on ↦
-      let more : count_in S (e ∷ s) ≡ suc (count_in S s) = omega (arith, count_more S e s on) in
-      ap (λ n. nat_eq (observed (parity_step S) n s) 1) (turned S e b on) ∙ parity_counts S (not b) s ∙ again b (is_odd (count_in S s)) ∙ ap (λ n. cond (is_odd n) (not b) b) (sym more)
-  | inr off ↦
-      ap (λ n. nat_eq (observed (parity_step S) n s) 1) (cond-false (has S e) (cond (nat_eq (number b) 0) 1 0) (number b) off) ∙ parity_counts S b s ∙ ap (λ n. cond (is_odd n) (not b) b) (sym (count_same S e s off))
-]
-
-itself : (b : Bool) → cond b true false ≡ b
-itself true = refl
-itself false = refl
 
 -- the parity that a run leaves tells whether the link is open
 pub opened_is : (network : Network) (l : ℕ) (s : List ℕ) (acknowledged : Bool) → acknowledged ≡ has_acknowledgements network.shape network.roles l → is_open_at acknowledged (observed (parity_step (link_at network.shape l).shared) 0 s) ≡ is_open network.shape network.roles l s
 opened_is network l s acknowledged is =
     let S = (link_at network.shape l).shared in
-    let odd : nat_eq (observed (parity_step (link_at network.shape l).shared) 0 s) 1 ≡ is_odd (count_in (link_at network.shape l).shared s) = parity_counts S false s ∙ itself (is_odd (count_in S s)) in
+    let odd : nat_eq (observed (parity_step (link_at network.shape l).shared) 0 s) 1 ≡ is_odd (count_in (link_at network.shape l).shared s) = ap (λ n. nat_eq n 1) (parity_is S s) ∙ one_is (is_odd (count_in S s)) in
     ap (λ a. a && nat_eq (observed (parity_step S) 0 s) 1) is ∙ ap (λ b. has_acknowledgements network.shape network.roles l && b) odd
+  where
+    one_is : (b : Bool) → nat_eq (cond b 1 0) 1 ≡ b
+    one_is true = refl
+    one_is false = refl
 
 -- ---- acknowledgements
 

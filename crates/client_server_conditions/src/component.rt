@@ -16,7 +16,7 @@ impl<'a> Duty<'a> {
         ensures shape { result.shape.now ≡ self.now.network.now.shape }
         ensures number { result.number ≡ self.now.part }
     {
-        self.network.prepared().component(self.part)
+        self.network.sorted_shape().component(self.part)
     }
 
     // Its roles.
@@ -34,7 +34,7 @@ impl<'a> Duty<'a> {
     }
 
     // The acceptances of its node.
-    pub(crate) fn accept(&self, node: u32) -> &'a [EventSet]
+    pub(crate) fn acceptances(&self, node: u32) -> &'a [EventSet]
         requires { node < length (table_at self.now) }
         ensures { result.now ≡ (node_of self.now node).accept }
     {

@@ -20,7 +20,7 @@ use std::marker::Model;
 /// roles.
 #[derive(Drop)]
 pub struct Network<'a> {
-    prepared: SortedShape<'a>,
+    sorted: SortedShape<'a>,
     roles: &'a [RoleSets],
     sides: Vec<bool>,
 }
@@ -32,10 +32,10 @@ impl<'a> Model for Network<'a> {
 
     ghost Value = { NetworkValue };
 
-    ghost view = { λ n. record { shape = n.prepared; roles = n.roles.now } };
+    ghost view = { λ n. record { shape = n.sorted; roles = n.roles.now } };
 
-    ghost invariant = { λ n. IsLinked (record { shape = n.prepared; roles = n.roles.now })
-        × AreSides n.prepared n.roles.now (length n.prepared.links) n.sides.items };
+    ghost invariant = { λ n. IsLinked (record { shape = n.sorted; roles = n.roles.now })
+        × AreSides n.sorted n.roles.now (length n.sorted.links) n.sides.items };
 }
 
 impl<'a> Network<'a> {
@@ -53,19 +53,19 @@ impl<'a> Network<'a> {
     {
         check_parted(alloc, shape, roles)?;
         let sides = sides(alloc, shape, roles)?;
-        let prepared = SortedShape::new(alloc, shape)?;
+        let sorted = SortedShape::new(alloc, shape)?;
         Ok(Network {
-            prepared,
+            sorted,
             roles,
             sides,
         })
     }
 
     /// The shape, sorted out.
-    pub fn prepared(&self) -> &SortedShape<'a>
+    pub fn sorted_shape(&self) -> &SortedShape<'a>
         ensures { result.now ≡ self.now.shape }
     {
-        &self.prepared
+        &self.sorted
     }
 
     /// The shape.
@@ -73,7 +73,7 @@ impl<'a> Network<'a> {
         ensures value { result.now ≡ self.now.shape }
         ensures linked { IsLinked self.now }
     {
-        self.prepared.shape()
+        self.sorted.shape()
     }
 
     /// The roles of each part.
@@ -97,7 +97,7 @@ impl<'a> Network<'a> {
         requires { part < length self.now.shape.parts }
         ensures { result.now ≡ ends_of self.now.shape part }
     {
-        self.prepared.component(part).links()
+        self.sorted.component(part).links()
     }
 
     /// Whether the part is the client on the link; it is the server elsewhere.
@@ -107,6 +107,6 @@ impl<'a> Network<'a> {
         ensures client { result ≡ true → Asks self.now part link }
         ensures server { result ≡ false → Grants self.now part link }
     {
-        (self.prepared.shape().links()[link as usize].left() == part) == self.sides[link as usize]
+        (self.sorted.shape().links()[link as usize].left() == part) == self.sides[link as usize]
     }
 }

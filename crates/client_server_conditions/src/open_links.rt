@@ -47,7 +47,7 @@ impl<'a> Duty<'a> {
     {
         let _linked = self.network.shape();
         let asks = self.network.asks(self.part, link);
-        let shared = self.network.prepared().link(link).shared();
+        let shared = self.network.sorted_shape().link(link).shared();
         let acknowledged = some_acknowledged(shared, self.roles());
         let is_asked = self.condition.is_asked_of(asks, acknowledged);
         acknowledged && is_asked
@@ -97,7 +97,7 @@ impl<'a> Duty<'a> {
     fn takes_in_turn(&self, opened: &EventSet, event: Event) -> bool
         ensures { result ≡ true → IsInTurn self.now opened.now event }
     {
-        let Some(link) = self.network.prepared().owner(event) else {
+        let Some(link) = self.network.sorted_shape().owner(event) else {
             return true;
         };
         in_turn(self.roles(), event, opened.contains(Event(link)))
@@ -111,7 +111,11 @@ impl<'a> Duty<'a> {
         if opened.is_empty() {
             return true;
         }
-        !some_takes(self.accept(node), self.vocabulary(), self.roles().sreq())
+        !some_takes(
+            self.acceptances(node),
+            self.vocabulary(),
+            self.roles().sreq(),
+        )
     }
 
     // Whether each acknowledgement of each open link is taken.
@@ -136,9 +140,9 @@ impl<'a> Duty<'a> {
         if link as usize >= count {
             return Ok(false);
         }
-        let shared = self.network.prepared().link(link).shared();
+        let shared = self.network.sorted_shape().link(link).shared();
         let acknowledgements = shared.inter(alloc, self.roles().cack())?;
-        Ok(!some_refuses(self.accept(node), self.vocabulary(), &acknowledgements))
+        Ok(!some_refuses(self.acceptances(node), self.vocabulary(), &acknowledgements))
     }
 }
 

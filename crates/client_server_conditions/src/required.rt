@@ -53,7 +53,8 @@ impl<'a> Requirement for OnLink<'a> {
     ghost nodes = { λ required. length (table_of required.component) };
 
     ghost meets = { λ required node state. keeps required.condition required.component.shape.now.vocabulary
-        required.shared.now required.roles.now required.acknowledgements.now (node_at (table_of required.component) node)
+        required.shared.now required.roles.now required.acknowledgements.now
+        (node_at (table_of required.component) node)
         (required.acknowledged && nat_eq state 1) };
 
     fn is_met(&self, node: u32, state: u32) -> Result<bool, NoMemory> {
@@ -71,8 +72,8 @@ pub(crate) struct Undivided<'a> {
 impl<'a> Requirement for Undivided<'a> {
     ghost nodes = { λ required. length (table_of required.component) };
 
-    ghost meets = { λ required node _. not (list_any (splits required.component.shape.now.vocabulary required.requests.now)
-        (node_at (table_of required.component) node).accept) };
+    ghost meets = { λ required node _. not (list_any
+        (splits required.component.shape.now.vocabulary required.requests.now) (node_at (table_of required.component) node).accept) };
 
     fn is_met(&self, node: u32, _state: u32) -> Result<bool, NoMemory> {
         let vocabulary = self.component.shape.shape().vocabulary();

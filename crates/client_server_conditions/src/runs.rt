@@ -104,7 +104,7 @@ impl<'a> Duty<'a> {
     {
         let _linked = self.network.shape();
         let asks = self.network.asks(self.part, link);
-        let shared = self.network.prepared().link(link).shared();
+        let shared = self.network.sorted_shape().link(link).shared();
         let roles = self.roles();
         let acknowledged = some_acknowledged(shared, roles);
         if !self.condition.is_asked_of(asks, acknowledged) {

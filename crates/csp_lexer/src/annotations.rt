@@ -2,9 +2,7 @@
 
 ghost use Rattle.std.specs.Prelude.{◌≡◌, map, IfOk, IfSome};
 ghost use Rattle.csp_base.specs.Standard.{option_copied, list_all};
-ghost use Rattle.csp_lexer.specs.Annotations.{line_piece, marked_piece, resource, roles, words_of};
-ghost use Rattle.csp_lexer.specs.Passed.{Passed};
-ghost use Rattle.csp_lexer.specs.Words.{is_name};
+ghost use Rattle.csp_lexer.specs.Prelude.{line_piece, marked_piece, resource, roles, words_of, Passed, is_name};
 
 use crate::classes::is_space;
 use crate::scan::{Left, pass_one};

@@ -1,8 +1,7 @@
 //! Assertions.
 
 ghost use Rattle.std.specs.Prelude.{◌≡◌, ◌++◌, ◌∷◌, ◌≤◌, length, IfOk, OnOk, Ok, Some};
-ghost use Rattle.csp_lexer.specs.Assertions.{asserted, assertion};
-ghost use Rattle.csp_lexer.specs.Passed.{Passed};
+ghost use Rattle.csp_lexer.specs.Prelude.{asserted, assertion, Passed};
 ghost use Rattle.csp_text.specs.declared.token.Token.TheVariants as token;
 ghost use Rattle.csp_text.specs.declared.token.Word.TheVariants.{Assert};
 

@@ -2,11 +2,8 @@
 
 ghost use Rattle.std.specs.Prelude.{◌≡◌, ◌<◌, ◌≤◌, true, nat_eq, codes, [], length, IsTrue, IfOk, IfErr, IfSome, Ok, Err};
 ghost use Rattle.csp_base.specs.Standard.{starts_with, option_copied};
-ghost use Rattle.csp_lexer.specs.Annotations.{line_comment};
-ghost use Rattle.csp_lexer.specs.Front.{begins_assertion, front, is_blank, assertion_or_token};
-ghost use Rattle.csp_lexer.specs.Lexed.{lexed};
-ghost use Rattle.csp_lexer.specs.Passed.{Passed};
-ghost use Rattle.csp_text.specs.Fault.{IfNoScript};
+ghost use Rattle.csp_base.specs.Stops.{Tells};
+ghost use Rattle.csp_lexer.specs.Prelude.{line_comment, begins_assertion, front, is_blank, assertion_or_token, lexed, Passed};
 
 use crate::annotations::pass_line;
 use crate::assertions::pass_assertion;
@@ -16,8 +13,8 @@ use crate::places::{beginning, behind_all};
 use crate::scan::{Left, pass_token};
 use crate::tokens::Tokens;
 use crate::words::word_len;
-use csp_base::Place;
-use csp_text::ParseFault;
+use csp_base::{Place, Stop};
+use csp_text::NoScript;
 use std::alloc::Global;
 
 // Whether the byte has no meaning between tokens.
@@ -91,16 +88,16 @@ fn pass_piece<'a>(alloc: Global, text: &'a [u8], at: Place, found: &mut Tokens) 
 }
 
 // Passes the whole text. The result is the place of its end.
-fn pass_all(alloc: Global, text: &[u8], found: &mut Tokens) -> Result<Place, ParseFault>
+fn pass_all(alloc: Global, text: &[u8], found: &mut Tokens) -> Result<Place, Stop<NoScript>>
     requires { found.old.placed ≡ [] }
     ensures found { IfOk result (λ end. lexed text.now ≡ Ok (record { placed = found.new.placed; end = end })) }
-    ensures none { IfErr result (λ fault. IfNoScript fault (λ at. lexed text.now ≡ Err at)) }
+    ensures none { IfErr result (Tells (λ fault. lexed text.now ≡ Err fault.at)) }
 {
     let mut at = beginning();
     let mut rest = text;
     while !rest.is_empty() {
         let Some(left) = pass_piece(alloc, rest, at, found)? else {
-            return Err(ParseFault::NoScript { at });
+            return Err(Stop::Told(NoScript { at }));
         };
         at = behind_all(at, &rest[..rest.len() - left.len()]);
         rest = left;
@@ -109,12 +106,12 @@ fn pass_all(alloc: Global, text: &[u8], found: &mut Tokens) -> Result<Place, Par
 }
 
 /// The tokens of the text with their places, or the place where it is no script.
-pub fn lex(alloc: Global, text: &[u8]) -> Result<Tokens, ParseFault>
+pub fn lex(alloc: Global, text: &[u8]) -> Result<Tokens, Stop<NoScript>>
     // What is found are the tokens of the text.
     ensures found { IfOk result (λ found. lexed text.now ≡ Ok found) }
 
     // The fault, but for want of memory, is that the text has no tokens; the place is the one where its first piece that is none begins.
-    ensures none { IfErr result (λ fault. IfNoScript fault (λ at. lexed text.now ≡ Err at)) }
+    ensures none { IfErr result (Tells (λ fault. lexed text.now ≡ Err fault.at)) }
 {
     let mut found = Tokens::new(alloc, beginning());
     let end = pass_all(alloc, text, &mut found)?;

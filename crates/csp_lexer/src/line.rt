@@ -2,8 +2,7 @@
 
 ghost use Rattle.std.specs.Prelude.{◌≡◌, ◌<◌, ◌≤◌, [], length, IfOk, IfSome, Ok, Err, MatchOption};
 ghost use Rattle.std.specs.Option.{option_copied};
-ghost use Rattle.csp_lexer.specs.Assertions.{cut_line, ends_line, line_front, rest_len};
-ghost use Rattle.csp_lexer.specs.Passed.{Passed};
+ghost use Rattle.csp_lexer.specs.Prelude.{cut_line, ends_line, line_front, rest_len, Passed};
 ghost use Rattle.csp_base.specs.declared.place.Place.{Place as PlaceValue};
 
 use crate::classes::is_space;

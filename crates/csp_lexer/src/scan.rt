@@ -2,10 +2,7 @@
 
 ghost use Rattle.std.specs.Prelude.{◌≡◌, ◌+◌, ◌-◌, ◌*◌, ◌<◌, ◌≤◌, length, IfOk, IfSome, Some};
 ghost use Rattle.std.specs.Option.{option_copied};
-ghost use Rattle.csp_lexer.specs.Passed.{Passed};
-ghost use Rattle.csp_lexer.specs.Pieces.{one_at, one_before};
-ghost use Rattle.csp_lexer.specs.Tokens.{number_token, symbol_with_len, token_at};
-ghost use Rattle.csp_lexer.specs.Words.{word_token};
+ghost use Rattle.csp_lexer.specs.Prelude.{Passed, one_at, one_before, number_token, symbol_with_len, token_at, word_token};
 ghost use Rattle.csp_text.specs.Written.{symbol_text};
 
 use crate::classes::{Class, bytes_of};

@@ -17,7 +17,6 @@ use csp_atoms::AtomSet;
 use csp_base::{NoMemory, Stop};
 use csp_program::{Content, Expr};
 use csp_text::Decl;
-use csp_values::EvalFault;
 use dl_limits::MOST_EVENTS;
 use event_tables::{SharedSets, event_count, field_sets, fill_events};
 use name_tables::Meanings;
@@ -107,10 +106,8 @@ fn sets_in(alloc: Global, content: &Content, i: u32, types: &[Expr]) -> Resolved
 {
     match field_sets(alloc, content, types) {
         Ok(sets) => Ok(sets),
-        Err(EvalFault::Value { kind }) => {
-            Err(Stop::Told(ResolveFault::Value { inside: i, kind }))
-        }
-        Err(EvalFault::NoMemory) => Err(Stop::NoMemory),
+        Err(Stop::Told(kind)) => { Err(Stop::Told(ResolveFault::Value { inside: i, kind })) }
+        Err(Stop::NoMemory) => Err(Stop::NoMemory),
     }
 }
 

@@ -2,24 +2,16 @@
 use Rattle.std.specs.Prelude.{◌≡◌, ◌<◌, ℕ, Bool, true, ◌&&◌, nat_lt, Result, Ok, Err, List, [], ◌∷◌, ◌++◌, map, length}
 use Rattle.process_steps.specs.StepList.{Move, steps_of, steps_of_choice}
 use Rattle.term_pool.specs.Trees.{all_below, tree_at}
-use Rattle.csp_program.specs.Prelude.{proc_depth, Outcome, and_then}
-use Rattle.csp_program.specs.declared.processes.Proc.{Proc}
-use Rattle.csp_program.specs.declared.programs.Content.{Content}
+use Rattle.csp_program.specs.Prelude.{proc_depth, Outcome, and_then, Proc, Content}
 use Rattle.csp_steps.specs.declared.look.Look.{Look}
 use Rattle.csp_steps.specs.declared.look.Look.TheVariants as look
 use Rattle.csp_steps.specs.Effect.{around}
 use Rattle.csp_steps.specs.Listed.{seen}
 use Rattle.csp_steps.specs.declared.step.StepTo.{StepTo}
 use Rattle.pool_parts.specs.declared.place.ProcId.{ProcId}
-use Rattle.value_operators.specs.declared.fault.EvalFault.{EvalFault}
-use Rattle.value_operators.specs.declared.fault.EvalFault.TheVariants as fault
+use Rattle.value_operators.specs.Gives.{EvalFault, IsFault}
 use Rattle.csp_base.specs.Lists.{greatest}
 use Rattle.csp_steps.specs.Order.{AreFirsts, AreFirstsAfter}
-
--- the fault is that of the outcome; want of memory is free
-abbrev pub IsFault : {B : Type 0} → EvalFault → Outcome B → Type 0
-IsFault fault.NoMemory outcome = Unit {0}
-IsFault (fault.Value kind) outcome = outcome ≡ Err kind
 
 -- what a call answers that comes to an outcome: this holds of a success
 abbrev pub Answers : {A B : Type 0} → (A → Type 0) → Result A EvalFault → Outcome B → Type 0

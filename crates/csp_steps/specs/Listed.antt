@@ -2,13 +2,10 @@
 use Rattle.std.specs.Prelude.{◌≡◌, ◌<◌, ℕ, Result, Some, Ok, Err, List, map, length, slice_get}
 use Rattle.process_steps.specs.StepList.{Move, steps_of}
 use Rattle.term_pool.specs.Trees.{tree_at}
-use Rattle.csp_program.specs.Prelude.{Outcome}
-use Rattle.csp_program.specs.declared.processes.Proc.{Proc}
-use Rattle.csp_program.specs.declared.programs.Content.{Content}
+use Rattle.csp_program.specs.Prelude.{Outcome, Proc, Content}
 use Rattle.csp_steps.specs.Order.{AreFirsts}
 use Rattle.csp_steps.specs.declared.step.StepTo.{StepTo}
-use Rattle.value_operators.specs.declared.fault.EvalFault.{EvalFault}
-use Rattle.value_operators.specs.declared.fault.EvalFault.TheVariants as fault
+use Rattle.value_operators.specs.Gives.{EvalFault, IsFault}
 
 -- a step as a label and the process at its place
 abbrev pub seen : List Proc → StepTo → Move
@@ -24,5 +21,4 @@ pub record AreStepsOf (p : Content) (trees : List Proc) (t : Proc) (steps : List
 -- a fault of kind Value is the one that the outcome is; want of memory is free
 abbrev pub FaultIs : {A B : Type 0} → Result A EvalFault → Outcome B → Type 0
 FaultIs (Ok a) outcome = Unit {0}
-FaultIs (Err fault.NoMemory) outcome = Unit {0}
-FaultIs (Err (fault.Value kind)) outcome = outcome ≡ Err kind
+FaultIs (Err f) outcome = IsFault f outcome

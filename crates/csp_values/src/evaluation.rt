@@ -7,8 +7,8 @@ ghost use Rattle.csp_atoms.specs.declared.value.Value.TheVariants as value;
 ghost use Rattle.csp_program.specs.Prelude.{added, all_added, and_then, as_atom, binary, gathered};
 ghost use Rattle.csp_program.specs.Value as meant;
 ghost use Rattle.value_laws.specs.Prelude.{IsSetValue, field_place};
-ghost use Rattle.value_operators.specs.Env.{env_in, parameters, with_bound};
-ghost use Rattle.value_operators.specs.Gives.{Gives};
+ghost use Rattle.value_operators.specs.Prelude.{env_in, parameters, Gives};
+ghost use Rattle.value_operators.specs.Env.{with_bound};
 ghost use Rattle.value_operators.specs.Forms as form;
 ghost use Rattle.csp_values.specs.Worth.{worth, worths, number_worth, truth_worth, atoms_worth, chosen, range_of, set_of, use_worth, body_worth, with_items, event_worth, fields_worth, front_worth, with_front, with_fronts, one_more_binding, walk_worth, gathered_of, GivesTally};
 ghost use Rattle.csp_values.specs.Stays.{PartStays, Stays};
@@ -20,32 +20,18 @@ use crate::tally::Tally;
 use crate::walk::{Step, Walk, pop, take};
 use containers::Items;
 use csp_atoms::{Atom, AtomSet, Value};
-use csp_base::{BinOp, Event, SetOp};
+use csp_base::{BinOp, Event, SetOp, Stop};
 use csp_program::{Body, Def, EventPart, Expr, Gen, ValueKind};
 use dl_limits::MOST_BINDINGS;
 use std::alloc::Global;
 use value_operators::EvalFault;
 use value_operators::growing::GrowingSet;
-use value_operators::names::{Names, copied, named, names_in};
+use value_operators::names::{Names, bound_value, copy_value, names_in};
 use value_operators::numbers::{
     count_with, each_of, event_at, field_sets, lack_sets, place_in, with_field,
 };
-use value_operators::operators::{
-    applied, decided, inverted, negated, to_number, to_set, to_truth,
-};
-use value_operators::sets::{combined, constants, numbers, with_events, with_item};
-
-const KIND: EvalFault = EvalFault::Value {
-    kind: ValueKind::Kind,
-};
-
-const OUTSIDE: EvalFault = EvalFault::Value {
-    kind: ValueKind::OutsideChannel,
-};
-
-const SET_LIMIT: EvalFault = EvalFault::Value {
-    kind: ValueKind::SetLimit,
-};
+use value_operators::operators::{apply, decide, invert, negate, to_number, to_set, to_truth};
+use value_operators::sets::{combine, constants, numbers, with_events, with_item};
 
 /// What evaluation goes by.
 #[derive(Drop)]
@@ -95,8 +81,8 @@ pub(crate) fn eval_expr(
         Expr::Num(number) => Ok(Value::One(Atom::Num(*number))),
         Expr::Truth(truth) => Ok(Value::One(Atom::Truth(*truth))),
         Expr::Const(number) => Ok(Value::One(Atom::Const(*number))),
-        Expr::Bound(slot) => named(scope.alloc, names, *slot),
-        Expr::Lit(value) => copied(scope.alloc, value),
+        Expr::Bound(slot) => bound_value(scope.alloc, names, *slot),
+        Expr::Lit(value) => copy_value(scope.alloc, value),
         Expr::Neg(a) => eval_negative(scope, names, a.get()),
         Expr::Not(a) => eval_not(scope, names, a.get()),
         Expr::Binary(op, a, b) => eval_binary(scope, names, *op, a.get(), b.get()),
@@ -140,7 +126,7 @@ fn constants_value(alloc: Global, numbers: &[u32]) -> Result<Value, EvalFault>
 fn set_value(alloc: Global, op: SetOp, left: AtomSet, right: AtomSet) -> Result<Value, EvalFault>
     ensures { Gives result (meant.many (meant.set_binary op left right)) }
 {
-    let atoms = combined(alloc, op, &left, &right)?;
+    let atoms = combine(alloc, op, &left, &right)?;
     Ok(Value::Many(atoms))
 }
 
@@ -188,7 +174,7 @@ fn eval_negative(scope: &Scope<'_>, names: &Names<'_>, a: &Expr) -> Result<Value
     ensures { Gives result (form.negative (worth scope.now.content.now scope.now.uses (env_in names.now) a.now)) }
 {
     let value = eval_expr(scope, names, a)?;
-    negated(&value)
+    negate(&value)
 }
 
 // The value of `not a`.
@@ -197,7 +183,7 @@ fn eval_not(scope: &Scope<'_>, names: &Names<'_>, a: &Expr) -> Result<Value, Eva
     ensures { Gives result (form.inverse (worth scope.now.content.now scope.now.uses (env_in names.now) a.now)) }
 {
     let value = eval_expr(scope, names, a)?;
-    inverted(&value)
+    invert(&value)
 }
 
 // The value of an operator between two operands.
@@ -227,11 +213,11 @@ fn eval_second(
 ) -> Result<Value, EvalFault>
     ensures { Gives result (binary op first.now (worth scope.now.content.now scope.now.uses (env_in names.now) b.now)) }
 {
-    if let Some(value) = decided(op, first)? {
+    if let Some(value) = decide(op, first)? {
         return Ok(value);
     }
     let second = eval_expr(scope, names, b)?;
-    applied(op, first, &second)
+    apply(op, first, &second)
 }
 
 // The value of `if c then a else b`.
@@ -295,7 +281,7 @@ fn eval_event(
     let first = eval_front(scope, names, channel, fields)?;
     let count = count_with(channels, channel, fields.len());
     if count == 0 {
-        return Err(OUTSIDE);
+        return Err(Stop::Told(ValueKind::OutsideChannel));
     }
     Ok(Value::One(Atom::Event(Event(first))))
 }
@@ -351,7 +337,7 @@ fn eval_product(
         (walk_worth scope.now.content.now scope.now.uses gens.now [] parts.now (env_in names.now) form.nothing_yet)) }
 {
     if lack_sets(scope.content.channels(), parts) {
-        return Err(KIND);
+        return Err(Stop::Told(ValueKind::Kind));
     }
     eval_comprehension(scope, names, &[], parts, gens)
 }
@@ -403,7 +389,7 @@ fn eval_use(scope: &Scope<'_>, def: u32, args: &[Value]) -> Result<Value, EvalFa
     ensures { Gives result (use_worth scope.now.content.now scope.now.uses def args.now) }
 {
     if scope.uses == 0 {
-        return Err(KIND);
+        return Err(Stop::Told(ValueKind::Kind));
     }
     let inner = Scope {
         alloc: scope.alloc,
@@ -412,7 +398,7 @@ fn eval_use(scope: &Scope<'_>, def: u32, args: &[Value]) -> Result<Value, EvalFa
     };
     match scope.content.content().defs.get(def as usize) {
         Some(def) => eval_body(&inner, def, args),
-        None => Err(KIND),
+        None => Err(Stop::Told(ValueKind::Kind)),
     }
 }
 
@@ -429,8 +415,8 @@ fn eval_body(scope: &Scope<'_>, def: &Def, args: &[Value]) -> Result<Value, Eval
         }
         Body::Nametype(expr) => { eval_expr(scope, &names_under(&[]), expr) }
         Body::Datatype(numbers) => constants_value(scope.alloc, numbers.as_slice()),
-        Body::Process(_) => Err(KIND),
-        Body::Network(_) => Err(KIND),
+        Body::Process(_) => Err(Stop::Told(ValueKind::Kind)),
+        Body::Network(_) => Err(Stop::Told(ValueKind::Kind)),
     }
 }
 
@@ -484,7 +470,7 @@ fn eval_fields(
     let mut rest = sets;
     for field in fields {
         let Some((set, others)) = rest.split_first() else {
-            return Err(OUTSIDE);
+            return Err(Stop::Told(ValueKind::OutsideChannel));
         };
         let place = eval_place(scope, names, field, set)?;
         number = with_field(number, set, place, each);
@@ -542,7 +528,7 @@ pub(crate) fn eval_front(
             let place = eval_choice(scope, names, fields, sets)?;
             Ok(event_at(channels, channel, place))
         }
-        None => Err(KIND),
+        None => Err(Stop::Told(ValueKind::Kind)),
     }
 }
 
@@ -596,7 +582,7 @@ fn gather(
 {
     let Tally { bindings, atoms } = tally;
     if bindings >= MOST_BINDINGS {
-        return Err(SET_LIMIT);
+        return Err(Stop::Told(ValueKind::SetLimit));
     }
     let atoms = add_items(scope, names, yields.items, atoms)?;
     let atoms = add_fronts(scope, names, yields.parts, atoms)?;
@@ -743,13 +729,13 @@ fn gather_each(
 }
 
 // One more binding, which adds nothing.
-fn counted(tally: Tally) -> Result<Tally, EvalFault>
+fn count_binding(tally: Tally) -> Result<Tally, EvalFault>
     ensures tally { GivesTally result (gathered (λ _ atoms. Ok atoms) [] (gathered_of tally)) }
     ensures atoms { IfOk result (λ more. more.atoms ≡ tally.atoms) }
 {
     let Tally { bindings, atoms } = tally;
     if bindings >= MOST_BINDINGS {
-        return Err(SET_LIMIT);
+        return Err(Stop::Told(ValueKind::SetLimit));
     }
     Ok(Tally {
         bindings: bindings + 1,
@@ -780,7 +766,7 @@ fn gather_once(
     }
     let mut tally = gather(scope, names, yields, tally)?;
     'bindings: while find_binding(scope, names, gens, &mut walk)? {
-        tally = counted(tally)?;
+        tally = count_binding(tally)?;
     }
     Ok(tally)
 }

@@ -3,8 +3,8 @@
 ghost use Rattle.std.specs.Prelude.{◌≡◌, [], length};
 ghost use Rattle.csp_program.specs.Prelude.{and_then, as_set, value_of, value_within};
 ghost use Rattle.value_laws.specs.Numbers.{ChannelsFit};
-ghost use Rattle.value_operators.specs.Env.{env_in, parameters, with_bound};
-ghost use Rattle.value_operators.specs.Gives.{Gives};
+ghost use Rattle.value_operators.specs.Prelude.{env_in, parameters, Gives};
+ghost use Rattle.value_operators.specs.Env.{with_bound};
 ghost use Rattle.csp_values.specs.Worth.{worth, worths, front_worth};
 ghost use Rattle.csp_values.specs.Course.{GivesBinding, IsUnder, course_under};
 

@@ -20,16 +20,16 @@ use std::alloc::Global;
 /// no fixed order.
 pub fn link_orders(
     alloc: Global,
-    prepared: &SortedShape<'_>,
+    sorted: &SortedShape<'_>,
 ) -> Result<Vec<Items<u32>>, Stop<RuleFault>>
-    ensures keep { OnOk result (AllKeepPlaces prepared.now) }
-    ensures orders { IfOk result (λ orders. AreOrders prepared.now orders.items) }
-    ensures fault { IfErr result (Tells (BreaksCyclic prepared.now)) }
+    ensures keep { OnOk result (AllKeepPlaces sorted.now) }
+    ensures orders { IfOk result (λ orders. AreOrders sorted.now orders.items) }
+    ensures fault { IfErr result (Tells (BreaksCyclic sorted.now)) }
 {
-    let count = prepared.shape().parts().len();
+    let count = sorted.shape().parts().len();
     let mut orders = Vec::new(alloc);
     for part in 0..count {
-        add_order(alloc, prepared, part as u32, &mut orders)?;
+        add_order(alloc, sorted, part as u32, &mut orders)?;
     }
     Ok(orders)
 }
@@ -37,17 +37,17 @@ pub fn link_orders(
 // Adds the order of a part at the end.
 fn add_order(
     alloc: Global,
-    prepared: &SortedShape<'_>,
+    sorted: &SortedShape<'_>,
     part: u32,
     orders: &mut Vec<Items<u32>>,
 ) -> Result<(), Stop<RuleFault>>
-    requires { part < length prepared.now.parts }
-    ensures keeps { OnOk result (KeepsPlaces prepared.now part) }
-    ensures order { OnOk result ((order : List ℕ) × IsOrder prepared.now part order
+    requires { part < length sorted.now.parts }
+    ensures keeps { OnOk result (KeepsPlaces sorted.now part) }
+    ensures order { OnOk result ((order : List ℕ) × IsOrder sorted.now part order
         × (orders.new.items ≡ orders.old.items ++ order ∷ [])) }
-    ensures fault { IfErr result (Tells (IsBrokenOrder prepared.now part)) }
+    ensures fault { IfErr result (Tells (IsBrokenOrder sorted.now part)) }
 {
-    let order = order_of(alloc, &prepared.component(part))?;
+    let order = order_of(alloc, &sorted.component(part))?;
     let Ok(()) = orders.push(order) else {
         return Err(Stop::NoMemory);
     };

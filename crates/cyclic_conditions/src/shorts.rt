@@ -18,26 +18,26 @@ pub(crate) struct Shorts {
 }
 
 // The first nodes of all ends that fall short.
-pub(crate) fn find_shorts(alloc: Global, prepared: &SortedShape<'_>) -> Result<Shorts, NoMemory>
-    requires { AllKeepPlaces prepared.now }
-    ensures { IfOk result (AreAllShorts prepared.now) }
+pub(crate) fn find_shorts(alloc: Global, sorted: &SortedShape<'_>) -> Result<Shorts, NoMemory>
+    requires { AllKeepPlaces sorted.now }
+    ensures { IfOk result (AreAllShorts sorted.now) }
 {
-    let count = prepared.shape().links().len();
+    let count = sorted.shape().links().len();
     let left = vec![in alloc; None; count]?;
     let right = vec![in alloc; None; count]?;
     let mut shorts = Shorts { left, right };
-    mark_all(prepared, &mut shorts);
+    mark_all(sorted, &mut shorts);
     Ok(shorts)
 }
 
 // Marks the ends that fall short.
-fn mark_all(prepared: &SortedShape<'_>, shorts: &mut Shorts)
-    requires keep { AllKeepPlaces prepared.now }
-    requires shorts { AreShorts prepared.now (Before 0 0 0) shorts.old }
-    ensures { AreAllShorts prepared.now shorts.new }
+fn mark_all(sorted: &SortedShape<'_>, shorts: &mut Shorts)
+    requires keep { AllKeepPlaces sorted.now }
+    requires shorts { AreShorts sorted.now (Before 0 0 0) shorts.old }
+    ensures { AreAllShorts sorted.now shorts.new }
 {
-    for part in 0..prepared.shape().parts().len() {
-        mark_component(&prepared.component(part as u32), shorts);
+    for part in 0..sorted.shape().parts().len() {
+        mark_component(&sorted.component(part as u32), shorts);
     }
 }
 
@@ -91,17 +91,17 @@ fn mark(nodes: &mut [Option<u32>], link: usize, node: u32)
 }
 
 // The link of which the set has some events and not all, where the set lies in the vocabulary.
-fn short_link(prepared: &SortedShape<'_>, set: &EventSet) -> Option<u32>
-    ensures short { (l : ℕ) → result ≡ Some l → IsShort prepared.now l set.now }
-    ensures all { (l : ℕ) → IsOnOne prepared.now set.now → IsShort prepared.now l set.now → result ≡ Some l }
+fn short_link(sorted: &SortedShape<'_>, set: &EventSet) -> Option<u32>
+    ensures short { (l : ℕ) → result ≡ Some l → IsShort sorted.now l set.now }
+    ensures all { (l : ℕ) → IsOnOne sorted.now set.now → IsShort sorted.now l set.now → result ≡ Some l }
 {
-    let shape = prepared.shape();
+    let shape = sorted.shape();
     if !set.is_subset(shape.vocabulary()) {
         return None;
     }
     let event = set.first_from(Event(0))?;
-    let link = prepared.owner(event)?;
-    if prepared.link(link).shared().is_subset(set) {
+    let link = sorted.owner(event)?;
+    if sorted.link(link).shared().is_subset(set) {
         return None;
     }
     Some(link)

@@ -7,7 +7,7 @@ ghost use Rattle.shape_links.specs.Turned.{turned_circle};
 use containers::Items;
 use csp_base::NoMemory;
 use csp_tables::Shape;
-use shape_links::turned;
+use shape_links::turn_circle;
 use std::alloc::Global;
 
 // The two components of each link of the circle, passed the other way round.
@@ -19,7 +19,7 @@ pub(crate) fn turned_ends(
     requires { 0 < length circle.now }
     ensures { IfOk result (λ made. made ≡ map (ends_of shape.now) (turned_circle circle.now)) }
 {
-    let links = turned(alloc, circle)?;
+    let links = turn_circle(alloc, circle)?;
     all_ends(alloc, shape, links.as_slice())
 }
 

@@ -11,48 +11,44 @@ use crate::ends::turned_ends;
 use containers::Items;
 use csp_base::{NoMemory, Stop};
 use design_rules::RuleFault;
-use digraph::{Fault, Heights, Rows, longest_walks};
+use digraph::{Heights, Rows, longest_walks};
 use shape_links::SortedShape;
 use std::alloc::Global;
 
 // For each link the greatest number of links that must come before it in a chain.
 pub(crate) fn numbers(
     alloc: Global,
-    prepared: &SortedShape<'_>,
+    sorted: &SortedShape<'_>,
     orders: &[Items<u32>],
 ) -> Result<Heights, Stop<RuleFault>>
-    requires keep { AllKeepPlaces prepared.now }
-    requires orders { AreOrders prepared.now orders.now }
-    ensures count { IfOk result (λ numbers. length numbers ≡ length prepared.now.links) }
-    ensures chains { IfOk result (λ numbers. AreChainNumbers prepared.now (slice_index numbers)) }
-    ensures rise { IfOk result (λ numbers. NumbersRise prepared.now (slice_index numbers)) }
-    ensures fault { IfErr result (Tells (BreaksCyclic prepared.now)) }
+    requires keep { AllKeepPlaces sorted.now }
+    requires orders { AreOrders sorted.now orders.now }
+    ensures count { IfOk result (λ numbers. length numbers ≡ length sorted.now.links) }
+    ensures chains { IfOk result (λ numbers. AreChainNumbers sorted.now (slice_index numbers)) }
+    ensures rise { IfOk result (λ numbers. NumbersRise sorted.now (slice_index numbers)) }
+    ensures fault { IfErr result (Tells (BreaksCyclic sorted.now)) }
 {
-    let form = prepared.shape();
-    let rows = chains(alloc, prepared, orders)?;
+    let form = sorted.shape();
+    let rows = chains(alloc, sorted, orders)?;
     match longest_walks(alloc, &rows) {
         Ok(heights) => Ok(heights),
-        Err(Fault::Circle(circle)) => {
+        Err(Stop::Told(circle)) => {
             let links = turned_ends(alloc, form, circle.members())?;
             Err(Stop::Told(RuleFault::LinksCircle { links }))
         }
-        Err(Fault::NoMemory) => Err(Stop::NoMemory),
+        Err(Stop::NoMemory) => Err(Stop::NoMemory),
     }
 }
 
 // From each link an arc to the one that comes before it in the order of a part.
-fn chains(
-    alloc: Global,
-    prepared: &SortedShape<'_>,
-    orders: &[Items<u32>],
-) -> Result<Rows, NoMemory>
-    requires { AreOrders prepared.now orders.now }
-    ensures { IfOk result (AreChains prepared.now orders.now) }
+fn chains(alloc: Global, sorted: &SortedShape<'_>, orders: &[Items<u32>]) -> Result<Rows, NoMemory>
+    requires { AreOrders sorted.now orders.now }
+    ensures { IfOk result (AreChains sorted.now orders.now) }
 {
-    let count = prepared.shape().links().len();
+    let count = sorted.shape().links().len();
     let mut rows = Rows::new(alloc, count as u32)?;
     for part in 0..orders.len() {
-        let ends = prepared.component(part as u32).links();
+        let ends = sorted.component(part as u32).links();
         chain(&mut rows, orders[part].as_slice())?;
         chain_rest(&mut rows, orders[part].as_slice(), ends)?;
     }

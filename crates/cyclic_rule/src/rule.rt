@@ -23,32 +23,32 @@ pub fn cyclic(alloc: Global, shape: &Shape) -> Result<Ranking, Stop<RuleFault>>
     ensures ranking { IfOk result (λ ranking. IsCyclicRanking shape.now ranking) }
     ensures fault { IfErr result (Tells (BreaksCyclic shape.now)) }
 {
-    let prepared = SortedShape::new(alloc, shape)?;
-    ranking_of(alloc, &prepared)
+    let sorted = SortedShape::new(alloc, shape)?;
+    ranking_of(alloc, &sorted)
 }
 
-// The same of a shape that is prepared.
-fn ranking_of(alloc: Global, prepared: &SortedShape<'_>) -> Result<Ranking, Stop<RuleFault>>
-    ensures cyclic { OnOk result (IsCyclic prepared.now) }
-    ensures ranking { IfOk result (λ ranking. IsCyclicRanking prepared.now ranking) }
-    ensures fault { IfErr result (Tells (BreaksCyclic prepared.now)) }
+// The same of a shape that is sorted.
+fn ranking_of(alloc: Global, sorted: &SortedShape<'_>) -> Result<Ranking, Stop<RuleFault>>
+    ensures cyclic { OnOk result (IsCyclic sorted.now) }
+    ensures ranking { IfOk result (λ ranking. IsCyclicRanking sorted.now ranking) }
+    ensures fault { IfErr result (Tells (BreaksCyclic sorted.now)) }
 {
-    let numbers = checked_numbers(alloc, prepared)?;
-    let ranking = cyclic_ranking(alloc, prepared, &numbers)?;
+    let numbers = checked_numbers(alloc, sorted)?;
+    let ranking = cyclic_ranking(alloc, sorted, &numbers)?;
     Ok(ranking)
 }
 
 // The numbers of the links, where the rule holds, and else what breaks it.
-fn checked_numbers(alloc: Global, prepared: &SortedShape<'_>) -> Result<Heights, Stop<RuleFault>>
-    ensures keep { OnOk result (AllKeepPlaces prepared.now) }
-    ensures count { IfOk result (λ numbers. length numbers ≡ length prepared.now.links) }
-    ensures chains { IfOk result (λ numbers. AreChainNumbers prepared.now (slice_index numbers)) }
-    ensures rise { IfOk result (λ numbers. NumbersRise prepared.now (slice_index numbers)) }
-    ensures whole { OnOk result ((l : ℕ) → l < length prepared.now.links → HasWholeEnd prepared.now l) }
-    ensures fault { IfErr result (Tells (BreaksCyclic prepared.now)) }
+fn checked_numbers(alloc: Global, sorted: &SortedShape<'_>) -> Result<Heights, Stop<RuleFault>>
+    ensures keep { OnOk result (AllKeepPlaces sorted.now) }
+    ensures count { IfOk result (λ numbers. length numbers ≡ length sorted.now.links) }
+    ensures chains { IfOk result (λ numbers. AreChainNumbers sorted.now (slice_index numbers)) }
+    ensures rise { IfOk result (λ numbers. NumbersRise sorted.now (slice_index numbers)) }
+    ensures whole { OnOk result ((l : ℕ) → l < length sorted.now.links → HasWholeEnd sorted.now l) }
+    ensures fault { IfErr result (Tells (BreaksCyclic sorted.now)) }
 {
-    let orders = link_orders(alloc, prepared)?;
-    let numbers = numbers(alloc, prepared, &orders)?;
-    check_ends(alloc, prepared)?;
+    let orders = link_orders(alloc, sorted)?;
+    let numbers = numbers(alloc, sorted, &orders)?;
+    check_ends(alloc, sorted)?;
     Ok(numbers)
 }

@@ -1,14 +1,12 @@
 //! What the definitions of a script are.
 
 ghost use Rattle.std.specs.Prelude.{◌≡◌, ◌≤◌, length, IfOk};
-ghost use Rattle.definition_kinds.specs.Found.{AreFound, IsFound};
+ghost use Rattle.definition_kinds.specs.Prelude.{AreFound, IsFound, AreLeading};
 ghost use Rattle.definition_kinds.specs.Found as meant;
-ghost use Rattle.definition_kinds.specs.Sources.{AreLeading};
 ghost use Rattle.dl_limits.specs.declared.TheConstants.{MOST_BYTES};
-ghost use Rattle.name_tables.specs.Ends.{rows};
-ghost use Rattle.name_tables.specs.Firsts.{SameFirsts};
-ghost use Rattle.script_names.specs.Kinds.{AreKinds, AreKindsOf, first_ends as firsts_of};
-ghost use Rattle.script_names.specs.Names.{declared};
+ghost use Rattle.name_tables.specs.Prelude.{rows, SameFirsts};
+ghost use Rattle.script_names.specs.Prelude.{AreKinds, AreKindsOf, declared};
+ghost use Rattle.script_names.specs.Kinds.{first_ends as firsts_of};
 ghost use Rattle.script_sizes.specs.Size.{size};
 
 use crate::leading::{first_ends, is_marked, mark_leading};
@@ -32,9 +30,9 @@ struct Found {
 impl Drop for Found {
     fn drop(self) {
         let Found {
-            data: _data,
-            nothing: _nothing,
-            networks: _networks,
+            data,
+            nothing,
+            networks,
         } = self;
     }
 }

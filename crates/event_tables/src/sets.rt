@@ -9,6 +9,7 @@ ghost use Rattle.value_operators.specs.Gives.{Gives};
 
 use containers::Items;
 use csp_atoms::{Atom, AtomSet, Value};
+use csp_base::Stop;
 use csp_program::{Content, Expr, ValueKind};
 use csp_values::{EvalFault, eval_in};
 use script_names::Made;
@@ -63,9 +64,7 @@ fn set_of(value: Value) -> Result<AtomSet, EvalFault>
     if may_be_fields(set.as_slice()) {
         Ok(set)
     } else {
-        Err(EvalFault::Value {
-            kind: ValueKind::Kind,
-        })
+        Err(Stop::Told(ValueKind::Kind))
     }
 }
 

@@ -1,8 +1,5 @@
 -- Names and lists of them.
-use Rattle.name_tables.proofs.Prelude.{◌≡◌, Bool, true, false, cond, if◌then◌else◌, ◌||◌, nat_eq, List, [], ◌∷◌, ◌++◌, Option, Some, None, is_some, refl, sym, ◌∙◌, ap, pointwise, list_any, Decl, Name, Entities, declared, first_of, is_among, meanings_of, same_name, SameFirsts, SameNames, Entity}
-use Rattle.std.proofs.lemmas.Bool.{eqb-true, eq-eqb, and_from}
-use Rattle.containers.specs.Exact.{IsExact-pointwise}
-use Rattle.csp_base.proofs.Booleans.{or_regroup}
+use Rattle.name_tables.proofs.Prelude.{◌≡◌, Bool, true, false, cond, if◌then◌else◌, ◌||◌, nat_eq, List, [], ◌∷◌, ◌++◌, Option, Some, None, is_some, refl, sym, ◌∙◌, ap, pointwise, list_any, Decl, Name, Entities, declared, first_of, is_among, meanings_of, same_name, SameFirsts, SameNames, Entity, eqb-true, eq-eqb, and_from, IsExact-pointwise, or_regroup}
 
 pub same_itself : (x : Name) → same_name x x ≡ true
 same_itself [] = refl

@@ -1,8 +1,7 @@
 //! Bound names with their numbers.
 
 ghost use Rattle.std.specs.Prelude.{◌≡◌, ◌<◌, ◌≤◌, ◌-◌, true, [], ◌∷◌, ◌++◌, is_some, length, map, take, OnOk};
-ghost use Rattle.name_tables.specs.Spelling.{at_name};
-ghost use Rattle.name_tables.specs.Hidden.{shown, KeepHidden, HasNumbers, Writes};
+ghost use Rattle.name_tables.specs.Prelude.{at_name, shown, KeepHidden, HasNumbers, Writes};
 ghost use Rattle.script_names.specs.Typed.{number_of};
 
 use crate::numbers::{forget, number_at, rewrite, spelling_of, write};
@@ -20,13 +19,12 @@ pub struct Binding {
     hidden: Option<u32>,
 }
 
-// By hand, so that a crate that ends one calls this and proves no end of its own.
 impl Drop for Binding {
     fn drop(self) {
         let Binding {
-            name: _name,
-            number: _number,
-            hidden: _hidden,
+            name,
+            number,
+            hidden,
         } = self;
     }
 }
@@ -39,13 +37,12 @@ pub struct Scope {
     last: BTreeMap<Vec<u8>, u32>,
 }
 
-// By hand, so that a crate that ends one calls this and proves no end of its own.
 impl Drop for Scope {
     fn drop(self) {
         let Scope {
-            alloc: _alloc,
-            bindings: _bindings,
-            last: _last,
+            alloc,
+            bindings,
+            last,
         } = self;
     }
 }

@@ -4,8 +4,7 @@ ghost use Rattle.std.specs.Prelude.{◌≡◌, ◌≤◌, IfErr, IfNone, IfOk, I
 ghost use Rattle.dl_limits.specs.declared.TheConstants.{MOST_COMPONENTS};
 ghost use Rattle.csp_tables.specs.Network.{leaves};
 ghost use Rattle.csp_base.specs.Stops.{Tells};
-ghost use Rattle.network_stages.specs.Networks.{IsNetworkOf, IsSpelled, network_at};
-ghost use Rattle.network_stages.specs.Stages.{HasNoNetwork, SpellsNone};
+ghost use Rattle.network_stages.specs.Prelude.{IsNetworkOf, IsSpelled, network_at, HasNoNetwork, SpellsNone};
 ghost use Rattle.script_sizes.specs.Size.{AreSmall};
 
 use containers::{Boxed, Key};
@@ -24,13 +23,9 @@ pub struct Spelled {
     layout: Layout,
 }
 
-// By hand, so that a crate that ends one calls this and proves no end of its own.
 impl Drop for Spelled {
     fn drop(self) {
-        let Spelled {
-            program: _program,
-            layout: _layout,
-        } = self;
+        let Spelled { program, layout } = self;
     }
 }
 

@@ -35,13 +35,13 @@ pub fn whole(alloc: Global, count: u32) -> Result<Partition, NoMemory>
     ensures { IfOk result (λ made. IsWhole count (state_of made)) }
 {
     let number = if count == 0 { 0 } else { 1 };
-    let order = counted(alloc, count)?;
-    let places = counted(alloc, count)?;
-    let blocks = filled(alloc, 0, count as usize)?;
-    let firsts = filled(alloc, 0, number)?;
-    let middles = filled(alloc, 0, number)?;
-    let ends = filled(alloc, count, number)?;
-    let waiting = filled(alloc, 0, number)?;
+    let order = numbers_below(alloc, count)?;
+    let places = numbers_below(alloc, count)?;
+    let blocks = repeat(alloc, 0, count as usize)?;
+    let firsts = repeat(alloc, 0, number)?;
+    let middles = repeat(alloc, 0, number)?;
+    let ends = repeat(alloc, count, number)?;
+    let waiting = repeat(alloc, 0, number)?;
     let flags = all_set(alloc, number)?;
     Ok(Partition {
         order,
@@ -56,7 +56,7 @@ pub fn whole(alloc: Global, count: u32) -> Result<Partition, NoMemory>
 }
 
 // As many times the value as `number` says.
-fn filled(alloc: Global, value: u32, number: usize) -> Result<Vec<u32>, NoMemory>
+fn repeat(alloc: Global, value: u32, number: usize) -> Result<Vec<u32>, NoMemory>
     ensures { IfOk result (λ made. made.items ≡ replicate number value) }
 {
     vec![in alloc; value; number]
@@ -70,7 +70,7 @@ fn all_set(alloc: Global, number: usize) -> Result<Vec<bool>, NoMemory>
 }
 
 // The numbers below `count`.
-fn counted(alloc: Global, count: u32) -> Result<Vec<u32>, NoMemory>
+fn numbers_below(alloc: Global, count: u32) -> Result<Vec<u32>, NoMemory>
     ensures len { IfOk result (λ made. length made.items ≡ count) }
     ensures each { IfOk result (λ made. (i : ℕ) → i < count → slice_index made.items i ≡ i) }
 {
@@ -141,7 +141,7 @@ impl Partition {
         ensures { OnOk result (AreCut (count_of self.old) (state_of self.old) (state_of self.new)) }
     {
         for block in touched {
-            self.cut(*block)?;
+            self.cut_block(*block)?;
         }
         Ok(())
     }
@@ -186,7 +186,7 @@ impl Partition {
     }
 
     // Makes the marked nodes of a block a block of their own, unless all nodes or none are marked, and takes the marks away.
-    fn cut(&mut self, block: u32) -> Result<(), NoMemory>
+    fn cut_block(&mut self, block: u32) -> Result<(), NoMemory>
         requires blocks { HasBlocks (count_of self.old) (state_of self.old) }
         requires block { block < length self.old.firsts.items }
         ensures { OnOk result (IsCut (count_of self.old) (state_of self.old) (state_of self.new) block) }

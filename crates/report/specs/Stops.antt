@@ -6,8 +6,7 @@ use Rattle.report.specs.declared.answer.Shortfall.{Shortfall}
 use Rattle.report.specs.declared.answer.Side.{Side}
 use Rattle.report.specs.declared.answer.Verdict.{Verdict}
 use Rattle.report.specs.declared.answer.Verdict.TheVariants as verdict
-use Rattle.csp_base.specs.Prelude.{Tells}
-use Rattle.csp_base.specs.declared.stop.Stop.{Stop}
+use Rattle.csp_base.specs.Prelude.{Tells, Stop}
 use Rattle.csp_base.specs.declared.stop.Stop.TheVariants as stop
 use Rattle.report.specs.declared.stop.Halt.{Halt}
 use Rattle.report.specs.declared.stop.Halt.TheVariants as halt
@@ -28,9 +27,9 @@ Ends Is (Ok a) = Is a
 Ends Is (Err why) = Tells Is why
 
 -- a stop that is a refusal of the program of a side, and one that is a shortfall
-abbrev pub refused : Side → Stop Refusal → Halt
-refused side stop.NoMemory = halt.NoMemory
-refused side (stop.Told r) = halt.Told (verdict.Refused side r)
+abbrev pub refuse : Side → Stop Refusal → Halt
+refuse side stop.NoMemory = halt.NoMemory
+refuse side (stop.Told r) = halt.Told (verdict.Refused side r)
 
 abbrev pub unproved : Stop Shortfall → Halt
 unproved stop.NoMemory = halt.NoMemory

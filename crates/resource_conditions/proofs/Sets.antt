@@ -1,7 +1,5 @@
 -- Sets of events, and tests of all members of a list.
-use Rattle.resource_conditions.proofs.Prelude.{◌≡◌, ℕ, suc, ◌<◌, inl, inr, List, [], ◌∷◌, length, get_or, Bool, true, false, not, ◌||◌, nat_eq, refl, sym, subst, ◌∙◌, arith, eq-eqb, list_all, list_any, cases_Bool, and_from, and_parts, or_cases, or_left, or_right, eqb-true, both_ways, false≢true, get_or_read, list_all_at, has, inter_of, is_possible}
-use Rattle.csp_base.proofs.Booleans.{and_second_false}
-use Rattle.csp_base.proofs.SetLaws.{has-inter_of}
+use Rattle.resource_conditions.proofs.Prelude.{◌≡◌, ℕ, suc, ◌<◌, inl, inr, List, [], ◌∷◌, length, get_or, Bool, true, false, not, ◌||◌, nat_eq, refl, sym, subst, ◌∙◌, arith, eq-eqb, list_all, list_any, cases_Bool, and_from, and_parts, or_cases, or_left, or_right, eqb-true, both_ways, false≢true, list_all_at, has, inter_of, is_possible, and_second_false, has-inter_of}
 
 -- ---- members
 
@@ -64,7 +62,3 @@ either_of false b h k = absurd (false≢true k)
 pub neither_of : (a b : Bool) → (not a || b) ≡ false → (a ≡ true) × (b ≡ false)
 neither_of true b h = (refl, h)
 neither_of false b h = absurd (false≢true (sym h))
-
--- a step that fails
-pub fails_here : (test : ℕ → Bool) (xs : List (ℕ × ℕ)) (i : ℕ) (x : ℕ × ℕ) → i < length xs → x ≡ get_or xs i x → test x.0 ≡ false → list_all (λ (step : ℕ × ℕ). test step.0) xs ≡ false
-fails_here test xs i x h at fails = list_all_at (λ (step : ℕ × ℕ). test step.0) xs i (0, 0) h (subst (λ (y : ℕ × ℕ). test y.0 ≡ false) (get_or_read xs i x h at (0, 0)) fails)

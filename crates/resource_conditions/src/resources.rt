@@ -77,7 +77,7 @@ impl<'a> Decider for Resources<'a> {
             asked: self.asked,
         };
         let _form = self.setting.shape();
-        let holder = Holder::new(self.setting.prepared().owners());
+        let holder = Holder::new(self.setting.sorted_shape().owners());
         let component = self.setting.component(part);
         component.failing_run(alloc, &holder, &resource)
     }

@@ -25,12 +25,9 @@ fn all_turns(setting: &Setting<'_>, part: u32, state: u32, steps: &[(Event, u32)
     requires { part < length setting.now.shape.parts }
     ensures { result ≡ list_all (λ (step : ℕ × ℕ). is_turn setting.now part state step.0) steps.now }
 {
-    for (event, _) in steps {
-        if !turn(setting, part, state, *event) {
-            return false;
-        }
-    }
-    true
+    steps
+        .iter()
+        .all(|(event, _)| turn(setting, part, state, *event))
 }
 
 // Whether the event is in turn.
@@ -96,10 +93,7 @@ fn on_link(
 fn all_grant(vocabulary: &EventSet, wanted: &EventSet, accept: &[EventSet]) -> bool
     ensures { result ≡ are_granted vocabulary.now wanted.now accept.now }
 {
-    for set in accept {
-        if set.is_subset(vocabulary) && !wanted.is_subset(set) {
-            return false;
-        }
-    }
-    true
+    accept
+        .iter()
+        .all(|set| !set.is_subset(vocabulary) || wanted.is_subset(set))
 }

@@ -1,7 +1,5 @@
 -- What a user offers while it holds a resource.
-use Rattle.resource_rule.proofs.Prelude.{◌≡◌, ℕ, suc, ◌<◌, inl, inr, List, [], ◌∷◌, length, Bool, true, false, ◌&&◌, ◌||◌, cond, nat_eq, refl, sym, subst, ◌∙◌, arith, eq-eqb, list_any, cases_Bool, cond-true, and_parts, and_from, or_cases, or_left, eqb-true, false≢true, list_any_at, has, is_subset_of, IsRun, IsWellFormed, acceptances_after, accepted, end_of, part_at, end_within, holds, part_form, pair_at, any_at, HaveNodes, is_offered, is_offered_at, WatchesLink, IsOfferedHolding, Setting, node_of}
-use Rattle.csp_base.proofs.Rising.{member_of_superset, is_subset_of_from_members}
-use Rattle.resource_rule.proofs.Using.{parity_is}
+use Rattle.resource_rule.proofs.Prelude.{◌≡◌, ℕ, suc, ◌<◌, inl, inr, List, [], ◌∷◌, length, Bool, true, false, ◌&&◌, ◌||◌, cond, nat_eq, refl, sym, subst, ◌∙◌, arith, eq-eqb, list_any, cases_Bool, cond-true, and_parts, and_from, or_cases, or_left, eqb-true, false≢true, list_any_at, has, is_subset_of, IsRun, IsWellFormed, acceptances_after, accepted, end_of, part_at, end_within, holds, part_form, pair_at, any_at, HaveNodes, is_offered, is_offered_at, WatchesLink, IsOfferedHolding, Setting, node_of, member_of_superset, is_subset_of_from_members, parity_is}
 
 -- ---- events that are collected
 
@@ -66,11 +64,11 @@ module _ (g : Setting) (i l : ℕ) (h : i < length g.shape.parts) where
         let k = any_pair (λ (pair : ℕ × ℕ). nat_eq pair.1 1 && offers pair.0 e) pairs some in
         let p = and_parts (nat_eq (pair_at pairs k.0).1 1) (offers (pair_at pairs k.0).0 e) k.2 in
         let s = x.reached k.0 k.1 in
-        offer_sound s.0 (pair_at pairs k.0).0 e s.1.follows s.1.node (one_is (holds g.shape l s.0) (sym (parity_is g l s.0) ∙ s.1.state ∙ eqb-true (pair_at pairs k.0).1 1 p.0)) p.1
+        offer_sound s.0 (pair_at pairs k.0).0 e s.1.follows s.1.node (one_is (holds g.shape l s.0) (sym (parity_is (link_at g.shape l).shared s.0) ∙ s.1.state ∙ eqb-true (pair_at pairs k.0).1 1 p.0)) p.1
 
     pub offered_complete : (e : ℕ) → IsOfferedHolding g i l e → is_offered_at g i pairs e ≡ true
     offered_complete e o =
         let p = x.listed o.run o.accepts.runs.follows in
         let there = subst (λ n. offers n e ≡ true) p.2.node (offer_complete e o) in
-        let one = sym p.2.state ∙ parity_is g l o.run ∙ cond-true (holds g.shape l o.run) 1 0 o.holding in
+        let one = sym p.2.state ∙ parity_is (link_at g.shape l).shared o.run ∙ cond-true (holds g.shape l o.run) 1 0 o.holding in
         list_any_at (λ (pair : ℕ × ℕ). nat_eq pair.1 1 && offers pair.0 e) pairs p.0 (0, 0) p.1 (and_from (nat_eq (pair_at pairs p.0).1 1) (offers (pair_at pairs p.0).0 e) (eq-eqb (pair_at pairs p.0).1 1 one) there)

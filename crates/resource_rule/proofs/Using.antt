@@ -1,52 +1,5 @@
--- What the parity of a link tells, and the condition on a user by tests of its explorations.
-use Rattle.resource_rule.proofs.Prelude.{◌≡◌, ℕ, suc, ◌+◌, ◌<◌, inl, inr, List, [], ◌∷◌, length, Option, None, Some, Bool, true, false, not, cond, nat_eq, refl, sym, ap, subst, ◌∙◌, arith, cases_Bool, cond-true, cond-false, both_ways, has, IsRun, Joins, Shape, end_of, part_at, link_at, use_at, count_in, is_odd, observed, parity_step, Setting, node_of, is_use, are_uses, UsesLink, all_possible, some_possible, FindsRun, IsDecided}
-use Rattle.design_rules.specs.Prelude.{holds}
-
--- ---- parities
-
--- a state after another parity
-abbrev odd_after : Bool → Bool → Bool
-odd_after true b = not b
-odd_after false b = b
-
-abbrev as_number : Bool → ℕ
-as_number true = 1
-as_number false = 0
-
-as_is : (b : Bool) → as_number b ≡ cond b 1 0
-as_is true = refl
-as_is false = refl
-
-turns_over : (a b : Bool) → odd_after (not a) b ≡ odd_after a (not b)
-turns_over true true = refl
-turns_over true false = refl
-turns_over false true = refl
-turns_over false false = refl
-
-step_on : (S : List ℕ) (a : Bool) (e : ℕ) → has S e ≡ true → parity_step S (as_number a) e ≡ as_number (not a)
-step_on S true e on = cond-true (has S e) (cond (nat_eq 1 0) 1 0) 1 on
-step_on S false e on = cond-true (has S e) (cond (nat_eq 0 0) 1 0) 0 on
-
-parity_from : (S : List ℕ) (a : Bool) (s : List ℕ) → observed (parity_step S) (as_number a) s ≡ as_number (odd_after a (is_odd (count_in S s)))
-parity_from S true [] = refl
-parity_from S false [] = refl
-parity_from S a (e ∷ s) =
-    elim (cases_Bool (has S e)) [
-      | inl on ↦
-          ap (λ n. observed (parity_step S) n s) (step_on S a e on) ∙ parity_from S (not a) s
-          ∙ ap as_number (turns_over a (is_odd (count_in S s)))
-          ∙ ap (λ b. as_number (odd_after a b)) (sym (ap is_odd (cond-true (has S e) (count_in S s + 1) (count_in S s) on ∙ next (count_in S s))))
-      | inr off ↦
-          ap (λ n. observed (parity_step S) n s) (cond-false (has S e) (cond (nat_eq (as_number a) 0) 1 0) (as_number a) off) ∙ parity_from S a s
-          ∙ ap (λ b. as_number (odd_after a b)) (sym (ap is_odd (cond-false (has S e) (count_in S s + 1) (count_in S s) off)))
-    ]
-  where
-    next : (n : ℕ) → n + 1 ≡ suc n
-    next n = omega arith
-
--- the state is 1 where the user holds the resource, else 0
-pub parity_is : (g : Setting) (l : ℕ) (s : List ℕ) → observed (parity_step (link_at g.shape l).shared) 0 s ≡ cond (holds g.shape l s) 1 0
-parity_is g l s = parity_from (link_at g.shape l).shared false s ∙ as_is (holds g.shape l s)
+-- The condition on a user by tests of its explorations.
+use Rattle.resource_rule.proofs.Prelude.{◌≡◌, ℕ, ◌<◌, inl, inr, List, length, Option, None, Some, Bool, true, false, cond, nat_eq, refl, sym, ap, subst, ◌∙◌, cases_Bool, cond-true, cond-false, both_ways, has, IsRun, Joins, Shape, end_of, part_at, link_at, use_at, observed, parity_step, Setting, node_of, is_use, are_uses, UsesLink, all_possible, some_possible, FindsRun, IsDecided, holds, parity_is}
 
 -- ---- U4
 
@@ -57,7 +10,7 @@ module _ (g : Setting) (i l j : ℕ) (h : i < length g.shape.parts) where
   use_is : (s : List ℕ) (e : ℕ) → has (link_at g.shape l).shared e ≡ true → is_use g l j (parity_of s) e ≡ cond (holds g.shape l s) (has (use_at g.uses j).release e) (has (use_at g.uses j).acquire e)
   use_is s e on =
       cond-true (has (link_at g.shape l).shared e) (cond (nat_eq (parity_of s) 0) (has (use_at g.uses j).acquire e) (has (use_at g.uses j).release e)) true on
-      ∙ ap (λ n. cond (nat_eq n 0) (has (use_at g.uses j).acquire e) (has (use_at g.uses j).release e)) (parity_is g l s)
+      ∙ ap (λ n. cond (nat_eq n 0) (has (use_at g.uses j).acquire e) (has (use_at g.uses j).release e)) (parity_is (link_at g.shape l).shared s)
       ∙ by_parity (holds g.shape l s) (has (use_at g.uses j).acquire e) (has (use_at g.uses j).release e)
     where
       by_parity : (b x y : Bool) → cond (nat_eq (cond b 1 0) 0) x y ≡ cond b y x

@@ -6,12 +6,10 @@ ghost use Rattle.design_rules.specs.Resource.{IsHeldWhile};
 ghost use Rattle.digraph.specs.Prelude.{HasArc};
 ghost use Rattle.resource_rule.specs.Holdings.{AddsArcs, AreHeld, HoldsWhile, OffersWhile};
 ghost use Rattle.resource_rule.specs.Uses.{WatchesLink};
-ghost use Rattle.shape_links.specs.Setting.{IsUser, KeepKinds};
+ghost use Rattle.shape_links.specs.Setting.{KeepKinds};
 
-use crate::link_sets::{add_held, empty_sets, resource_arcs};
-use crate::nodes::held_links;
-use crate::offers::{node_offers, pair_offers};
-use crate::users::links_of;
+use crate::link_sets::{empty_sets, resource_arcs};
+use crate::user::User;
 use csp_base::{Event, EventSet, NoMemory};
 use digraph::Rows;
 use observed_runs::{Explored, Parity};
@@ -49,106 +47,88 @@ fn add_part(
     if setting.uses(part).is_resource() {
         return Ok(());
     }
-    match held_links(alloc, setting, part)? {
-        Some(held) => add_nodes(alloc, setting, part, held.as_slice(), sets),
-        None => add_links(alloc, setting, part, sets),
+    let user = User {
+        setting: &*setting,
+        part,
+    };
+    match user.held_links(alloc)? {
+        Some(held) => user.add_nodes(alloc, held.as_slice(), sets),
+        None => user.add_links(alloc, sets),
     }
 }
 
-// The same for a user whose nodes tell what it holds there.
-fn add_nodes(
-    alloc: Global,
-    setting: &Setting<'_>,
-    part: u32,
-    held: &[EventSet],
-    sets: &mut [EventSet],
-) -> Result<(), NoMemory>
-    requires part { part < length setting.now.shape.parts }
-    requires user { IsUser setting.now part }
-    requires held { AreHeld setting.now part held.now }
-    requires count { length sets.old ≡ length setting.now.shape.links }
-    ensures { OnOk result (AddsArcs (HoldsWhile setting.now part) sets.old sets.new) }
-{
-    let _form = setting.shape();
-    for node in 0..held.len() {
-        add_node(alloc, setting, part, node as u32, &held[node], sets)?;
+impl<'a> User<'a> {
+    // The same for a user whose nodes tell what it holds there.
+    fn add_nodes(
+        &self,
+        alloc: Global,
+        held: &[EventSet],
+        sets: &mut [EventSet],
+    ) -> Result<(), NoMemory>
+        requires held { AreHeld self.now.setting.now self.now.part held.now }
+        requires count { length sets.old ≡ length self.now.setting.now.shape.links }
+        ensures { OnOk result (AddsArcs (HoldsWhile self.now.setting.now self.now.part) sets.old sets.new) }
+    {
+        let _form = self.setting.shape();
+        for node in 0..held.len() {
+            self.add_node(alloc, node as u32, &held[node], sets)?;
+        }
+        Ok(())
     }
-    Ok(())
-}
 
-// Adds what is held to the sets of the links of which the part offers to acquire the resource at this node.
-fn add_node(
-    alloc: Global,
-    setting: &Setting<'_>,
-    part: u32,
-    node: u32,
-    held: &EventSet,
-    sets: &mut [EventSet],
-) -> Result<(), NoMemory>
-    requires part { part < length setting.now.shape.parts }
-    requires node { node < length (part_at setting.now.shape.parts part).table }
-    requires count { length sets.old ≡ length setting.now.shape.links }
-    ensures { OnOk result (AddsArcs (OffersWhile setting.now part node held.now) sets.old sets.new) }
-{
-    if held.is_empty() {
-        return Ok(());
+    // Adds what is held to the sets of the links of which the part offers to acquire the resource at this node.
+    fn add_node(
+        &self,
+        alloc: Global,
+        node: u32,
+        held: &EventSet,
+        sets: &mut [EventSet],
+    ) -> Result<(), NoMemory>
+        requires node { node < length (part_at self.now.setting.now.shape.parts self.now.part).table }
+        requires count { length sets.old ≡ length self.now.setting.now.shape.links }
+        ensures { OnOk result
+            (AddsArcs (OffersWhile self.now.setting.now self.now.part node held.now) sets.old sets.new) }
+    {
+        if held.is_empty() {
+            return Ok(());
+        }
+        let offers = self.node_offers(alloc, node)?;
+        self.add_held(alloc, &offers, held, sets)
     }
-    let offers = node_offers(alloc, setting, part, node)?;
-    add_held(alloc, setting, &offers, held, sets)
-}
 
-// The same for a user, link by link.
-fn add_links(
-    alloc: Global,
-    setting: &Setting<'_>,
-    part: u32,
-    sets: &mut [EventSet],
-) -> Result<(), NoMemory>
-    requires part { part < length setting.now.shape.parts }
-    requires user { IsUser setting.now part }
-    requires count { length sets.old ≡ length setting.now.shape.links }
-    ensures { OnOk result (AddsArcs (HoldsWhile setting.now part) sets.old sets.new) }
-{
-    for link in links_of(setting, part) {
-        add_link(alloc, setting, part, *link, sets)?;
+    // The same for a user, link by link.
+    fn add_links(&self, alloc: Global, sets: &mut [EventSet]) -> Result<(), NoMemory>
+        requires count { length sets.old ≡ length self.now.setting.now.shape.links }
+        ensures { OnOk result (AddsArcs (HoldsWhile self.now.setting.now self.now.part) sets.old sets.new) }
+    {
+        for link in self.links() {
+            self.add_link(alloc, *link, sets)?;
+        }
+        Ok(())
     }
-    Ok(())
-}
 
-// Adds the link to the sets of those of which the user offers to acquire the resource while it holds this one's.
-fn add_link(
-    alloc: Global,
-    setting: &Setting<'_>,
-    part: u32,
-    link: u32,
-    sets: &mut [EventSet],
-) -> Result<(), NoMemory>
-    requires part { part < length setting.now.shape.parts }
-    requires user { IsUser setting.now part }
-    requires link { link < length setting.now.shape.links }
-    requires end { IsTrue (is_end setting.now.shape part link) }
-    requires count { length sets.old ≡ length setting.now.shape.links }
-    ensures { OnOk result (AddsArcs (λ k l. (link ≡ l) × HoldsWhile setting.now part k l) sets.old sets.new) }
-{
-    let _form = setting.shape();
-    let explored = link_explored(alloc, setting, part, link)?;
-    let offers = pair_offers(alloc, setting, part, explored.pairs())?;
-    let held = EventSet::from_events(alloc, &[Event(link)])?;
-    add_held(alloc, setting, &offers, &held, sets)
-}
+    // Adds the link to the sets of those of which the user offers to acquire the resource while it holds this one's.
+    fn add_link(&self, alloc: Global, link: u32, sets: &mut [EventSet]) -> Result<(), NoMemory>
+        requires link { link < length self.now.setting.now.shape.links }
+        requires end { IsTrue (is_end self.now.setting.now.shape self.now.part link) }
+        requires count { length sets.old ≡ length self.now.setting.now.shape.links }
+        ensures { OnOk result
+            (AddsArcs (λ k l. (link ≡ l) × HoldsWhile self.now.setting.now self.now.part k l) sets.old sets.new) }
+    {
+        let _form = self.setting.shape();
+        let explored = self.link_explored(alloc, link)?;
+        let offers = self.pair_offers(alloc, explored.pairs())?;
+        let held = EventSet::from_events(alloc, &[Event(link)])?;
+        self.add_held(alloc, &offers, &held, sets)
+    }
 
-// The exploration of a part with the parity of a link.
-fn link_explored(
-    alloc: Global,
-    setting: &Setting<'_>,
-    part: u32,
-    link: u32,
-) -> Result<Explored, NoMemory>
-    requires part { part < length setting.now.shape.parts }
-    requires link { link < length setting.now.shape.links }
-    ensures { IfOk result (λ explored. WatchesLink setting.now part link explored.pairs) }
-{
-    let _form = setting.shape();
-    let parity = Parity::new(setting.link(link).shared());
-    setting.component(part).explore(alloc, &parity)
+    // The exploration of a part with the parity of a link.
+    fn link_explored(&self, alloc: Global, link: u32) -> Result<Explored, NoMemory>
+        requires link { link < length self.now.setting.now.shape.links }
+        ensures { IfOk result (λ explored. WatchesLink self.now.setting.now self.now.part link explored.pairs) }
+    {
+        let _form = self.setting.shape();
+        let parity = Parity::new(self.setting.link(link).shared());
+        self.setting.component(self.part).explore(alloc, &parity)
+    }
 }

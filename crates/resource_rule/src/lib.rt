@@ -6,6 +6,7 @@ mod link_sets;
 mod nodes;
 mod offers;
 mod rule;
+mod user;
 mod users;
 
 pub use rule::resource;

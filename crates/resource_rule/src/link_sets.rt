@@ -6,6 +6,7 @@ ghost use Rattle.csp_base.specs.Members.{has};
 ghost use Rattle.digraph.specs.Prelude.{HasArc, has_arc};
 ghost use Rattle.resource_rule.specs.Holdings.{AddsArcs, LeadsToSome, is_acquiring, resource_of};
 
+use crate::user::User;
 use csp_base::{Event, EventSet, NoMemory};
 use digraph::Rows;
 use shape_links::Setting;
@@ -22,42 +23,44 @@ pub(crate) fn empty_sets(alloc: Global, count: usize) -> Result<Vec<EventSet>, N
     Ok(sets)
 }
 
-// Adds what is held to the set of each link of which one of the events acquires the resource.
-pub(crate) fn add_held(
-    alloc: Global,
-    setting: &Setting<'_>,
-    offers: &EventSet,
-    held: &EventSet,
-    sets: &mut [EventSet],
-) -> Result<(), NoMemory>
-    requires { length sets.old ≡ length setting.now.shape.links }
-    ensures count { length sets.new ≡ length sets.old }
-    ensures arcs { OnOk result ((k l : ℕ) → has_arc sets.new k l
-        ≡ (has_arc sets.old k l || (list_any (is_acquiring setting.now k) offers.now && has held.now l))) }
-{
-    for event in offers.iter() {
-        add_if_acquiring(alloc, setting, event, held, sets)?;
+impl<'a> User<'a> {
+    // Adds what is held to the set of each link of which one of the events acquires the resource.
+    pub(crate) fn add_held(
+        &self,
+        alloc: Global,
+        offers: &EventSet,
+        held: &EventSet,
+        sets: &mut [EventSet],
+    ) -> Result<(), NoMemory>
+        requires { length sets.old ≡ length self.now.setting.now.shape.links }
+        ensures count { length sets.new ≡ length sets.old }
+        ensures arcs { OnOk result ((k l : ℕ) → has_arc sets.new k l
+            ≡ (has_arc sets.old k l || (list_any (is_acquiring self.now.setting.now k) offers.now && has held.now l))) }
+    {
+        for event in offers.iter() {
+            self.add_if_acquiring(alloc, event, held, sets)?;
+        }
+        Ok(())
     }
-    Ok(())
-}
 
-// Adds what is held to the set of the link of which the event acquires the resource.
-fn add_if_acquiring(
-    alloc: Global,
-    setting: &Setting<'_>,
-    event: Event,
-    held: &EventSet,
-    sets: &mut [EventSet],
-) -> Result<(), NoMemory>
-    requires { length sets.old ≡ length setting.now.shape.links }
-    ensures count { length sets.new ≡ length sets.old }
-    ensures arcs { OnOk result ((k l : ℕ) → has_arc sets.new k l
-        ≡ (has_arc sets.old k l || (is_acquiring setting.now k event && has held.now l))) }
-{
-    let Some(link) = acquiring_link(setting, event) else {
-        return Ok(());
-    };
-    add_members(alloc, sets, link, held)
+    // Adds what is held to the set of the link of which the event acquires the resource.
+    fn add_if_acquiring(
+        &self,
+        alloc: Global,
+        event: Event,
+        held: &EventSet,
+        sets: &mut [EventSet],
+    ) -> Result<(), NoMemory>
+        requires { length sets.old ≡ length self.now.setting.now.shape.links }
+        ensures count { length sets.new ≡ length sets.old }
+        ensures arcs { OnOk result ((k l : ℕ) → has_arc sets.new k l
+            ≡ (has_arc sets.old k l || (is_acquiring self.now.setting.now k event && has held.now l))) }
+    {
+        let Some(link) = acquiring_link(self.setting, event) else {
+            return Ok(());
+        };
+        add_members(alloc, sets, link, held)
+    }
 }
 
 // Adds the members of a set to the set in the place.
@@ -112,7 +115,8 @@ fn add_row(
     requires count { length rows.old ≡ length setting.now.shape.parts }
     ensures count { length rows.new ≡ length rows.old }
     ensures arcs { OnOk result ((j m : ℕ) → has_arc rows.new j m ≡ (has_arc rows.old j m
-        || (nat_eq (resource_of setting.now link) j && list_any (λ l. nat_eq (resource_of setting.now l) m) held.now))) }
+        || (nat_eq (resource_of setting.now link) j
+        && list_any (λ l. nat_eq (resource_of setting.now l) m) held.now))) }
 {
     let from = resource_end(setting, link);
     for event in held.iter() {

@@ -6,70 +6,65 @@ ghost use Rattle.csp_tables.specs.Part.{part_at};
 ghost use Rattle.shape_links.specs.Setting.{node_of};
 ghost use Rattle.resource_rule.specs.Uses.{HaveNodes, is_offered, is_offered_at};
 
+use crate::user::User;
 use csp_base::{EventSet, NoMemory};
-use shape_links::Setting;
 use std::alloc::Global;
 
-// The events of the acceptances in the vocabulary at the pairs with the state 1.
-pub(crate) fn pair_offers(
-    alloc: Global,
-    setting: &Setting<'_>,
-    part: u32,
-    pairs: &[(u32, u32)],
-) -> Result<EventSet, NoMemory>
-    requires part { part < length setting.now.shape.parts }
-    requires nodes { HaveNodes setting.now part pairs.now }
-    ensures { IfOk result (λ events. (e : ℕ) → has events e ≡ is_offered_at setting.now part pairs.now e) }
-{
-    let mut events = EventSet::new(alloc);
-    for place in 0..pairs.len() {
-        events = with_pair(alloc, setting, part, pairs[place], events)?;
+impl<'a> User<'a> {
+    // The events of the acceptances in the vocabulary at the pairs with the state 1.
+    pub(crate) fn pair_offers(
+        &self,
+        alloc: Global,
+        pairs: &[(u32, u32)],
+    ) -> Result<EventSet, NoMemory>
+        requires nodes { HaveNodes self.now.setting.now self.now.part pairs.now }
+        ensures { IfOk result (λ events. (e : ℕ)
+            → has events e ≡ is_offered_at self.now.setting.now self.now.part pairs.now e) }
+    {
+        let mut events = EventSet::new(alloc);
+        for place in 0..pairs.len() {
+            events = self.with_pair(alloc, pairs[place], events)?;
+        }
+        Ok(events)
     }
-    Ok(events)
-}
 
-// The events of the acceptances in the vocabulary at the node.
-pub(crate) fn node_offers(
-    alloc: Global,
-    setting: &Setting<'_>,
-    part: u32,
-    node: u32,
-) -> Result<EventSet, NoMemory>
-    requires part { part < length setting.now.shape.parts }
-    requires node { node < length (part_at setting.now.shape.parts part).table }
-    ensures { IfOk result (λ made. (e : ℕ) → has made e
-        ≡ is_offered setting.now.shape.vocabulary (node_of setting.now part node).accept e) }
-{
-    let component = setting.component(part);
-    let vocabulary = setting.shape().vocabulary();
-    with_offers(
-        alloc,
-        vocabulary,
-        component.node(node).accept(),
-        EventSet::new(alloc),
-    )
-}
-
-// The events, and what is offered at the pair if its state is 1.
-fn with_pair(
-    alloc: Global,
-    setting: &Setting<'_>,
-    part: u32,
-    pair: (u32, u32),
-    events: EventSet,
-) -> Result<EventSet, NoMemory>
-    requires part { part < length setting.now.shape.parts }
-    requires node { pair.0 < length (part_at setting.now.shape.parts part).table }
-    ensures { IfOk result (λ made. (e : ℕ) → has made e ≡ (has events e
-        || (nat_eq pair.1 1 && is_offered setting.now.shape.vocabulary (node_of setting.now part pair.0).accept e))) }
-{
-    let (node, state) = pair;
-    if state != 1 {
-        return Ok(events);
+    // The events of the acceptances in the vocabulary at the node.
+    pub(crate) fn node_offers(&self, alloc: Global, node: u32) -> Result<EventSet, NoMemory>
+        requires node { node < length (part_at self.now.setting.now.shape.parts self.now.part).table }
+        ensures { IfOk result (λ made. (e : ℕ) → has made e
+            ≡ is_offered self.now.setting.now.shape.vocabulary
+            (node_of self.now.setting.now self.now.part node).accept e) }
+    {
+        let component = self.setting.component(self.part);
+        let vocabulary = self.setting.shape().vocabulary();
+        with_offers(
+            alloc,
+            vocabulary,
+            component.node(node).accept(),
+            EventSet::new(alloc),
+        )
     }
-    let component = setting.component(part);
-    let vocabulary = setting.shape().vocabulary();
-    with_offers(alloc, vocabulary, component.node(node).accept(), events)
+
+    // The events, and what is offered at the pair if its state is 1.
+    fn with_pair(
+        &self,
+        alloc: Global,
+        pair: (u32, u32),
+        events: EventSet,
+    ) -> Result<EventSet, NoMemory>
+        requires node { pair.0 < length (part_at self.now.setting.now.shape.parts self.now.part).table }
+        ensures { IfOk result (λ made. (e : ℕ) → has made e ≡ (has events e
+            || (nat_eq pair.1 1 && is_offered self.now.setting.now.shape.vocabulary
+            (node_of self.now.setting.now self.now.part pair.0).accept e))) }
+    {
+        let (node, state) = pair;
+        if state != 1 {
+            return Ok(events);
+        }
+        let component = self.setting.component(self.part);
+        let vocabulary = self.setting.shape().vocabulary();
+        with_offers(alloc, vocabulary, component.node(node).accept(), events)
+    }
 }
 
 // The events, and those of the acceptances that lie in the vocabulary.

@@ -11,7 +11,7 @@ ghost use Rattle.resource_rule.specs.Uses.{UsesLink, are_uses, is_use};
 ghost use Rattle.shape_links.specs.Links.{ends_of};
 ghost use Rattle.shape_links.specs.Setting.{IsUser, KeepKinds};
 
-use crate::nodes::turns_by_nodes;
+use crate::user::User;
 use csp_base::{Event, NoMemory, Stop, Trace};
 use design_rules::{Condition, RuleFault};
 use observed_runs::Parity;
@@ -45,94 +45,92 @@ impl<'a> Decider for Users<'a> {
         if self.setting.uses(part).is_resource() {
             return Ok(None);
         }
-        broken_use(alloc, self.setting, part)
+        let user = User {
+            setting: self.setting,
+            part,
+        };
+        user.broken_use(alloc)
     }
 }
 
-// A run after which the part does not use the resource of one of its links in turn.
-fn broken_use(alloc: Global, setting: &Setting<'_>, part: u32) -> Result<Option<Trace>, NoMemory>
-    requires { part < length setting.now.shape.parts }
-    ensures { IfOk result (FindsRun setting.now.shape part (UsesInTurn setting.now.shape setting.now.uses part)) }
-{
-    let in_turn = turns_by_nodes(alloc, setting, part)?;
-    if in_turn {
-        return Ok(None);
-    }
-    for link in links_of(setting, part) {
-        if let Some(run) = broken_on(alloc, setting, part, *link)? {
-            return Ok(Some(run));
+impl<'a> User<'a> {
+    // A run after which the part does not use the resource of one of its links in turn.
+    fn broken_use(&self, alloc: Global) -> Result<Option<Trace>, NoMemory>
+        ensures { IfOk result (FindsRun self.now.setting.now.shape self.now.part
+            (UsesInTurn self.now.setting.now.shape self.now.setting.now.uses self.now.part)) }
+    {
+        let in_turn = self.turns_by_nodes(alloc)?;
+        if in_turn {
+            return Ok(None);
         }
+        for link in self.links() {
+            if let Some(run) = self.broken_on(alloc, *link)? {
+                return Ok(Some(run));
+            }
+        }
+        Ok(None)
     }
-    Ok(None)
-}
 
-// A run after which the part does not use the resource of this link in turn.
-fn broken_on(
-    alloc: Global,
-    setting: &Setting<'_>,
-    part: u32,
-    link: u32,
-) -> Result<Option<Trace>, NoMemory>
-    requires part { part < length setting.now.shape.parts }
-    requires link { link < length setting.now.shape.links }
-    requires end { IsTrue (is_end setting.now.shape part link) }
-    ensures { IfOk result (FindsRun setting.now.shape part (λ s. (j : ℕ) → Joins setting.now.shape part j link
-        → UsesLink setting.now part link j s)) }
-{
-    let _form = setting.shape();
-    let uses = LinkUse {
-        setting: &*setting,
-        part,
-        link,
-        other: other_end(setting, part, link),
-    };
-    let component = setting.component(part);
-    component.failing_run(alloc, &Parity::new(setting.link(link).shared()), &uses)
-}
-
-// The links of the part, in rising order.
-pub(crate) fn links_of<'a>(setting: &'a Setting<'_>, part: u32) -> &'a [u32]
-    requires { part < length setting.now.shape.parts }
-    ensures { result.now ≡ ends_of setting.now.shape part }
-{
-    setting.component(part).links()
-}
-
-// The other end of a link of the part.
-pub(crate) fn other_end(setting: &Setting<'_>, part: u32, link: u32) -> u32
-    requires { link < length setting.now.shape.links }
-    ensures joins { IsTrue (is_end setting.now.shape part link) → Joins setting.now.shape part result link }
-    ensures only { (j : ℕ) → Joins setting.now.shape part j link → j ≡ result }
-    ensures within { result < length setting.now.shape.parts }
-{
-    let _form = setting.shape();
-    let ends = setting.link(link);
-    if ends.left() == part {
-        return ends.right();
+    // A run after which the part does not use the resource of this link in turn.
+    fn broken_on(&self, alloc: Global, link: u32) -> Result<Option<Trace>, NoMemory>
+        requires link { link < length self.now.setting.now.shape.links }
+        requires end { IsTrue (is_end self.now.setting.now.shape self.now.part link) }
+        ensures { IfOk result (FindsRun self.now.setting.now.shape self.now.part (λ s. (j : ℕ)
+            → Joins self.now.setting.now.shape self.now.part j link
+            → UsesLink self.now.setting.now self.now.part link j s)) }
+    {
+        let _form = self.setting.shape();
+        let uses = LinkUse {
+            user: *self,
+            link,
+            other: self.other_end(link),
+        };
+        let component = self.setting.component(self.part);
+        component.failing_run(alloc, &Parity::new(self.setting.link(link).shared()), &uses)
     }
-    ends.left()
+
+    // The links of the part, in rising order.
+    pub(crate) fn links(&self) -> &'a [u32]
+        ensures { result.now ≡ ends_of self.now.setting.now.shape self.now.part }
+    {
+        self.setting.component(self.part).links()
+    }
+
+    // The other end of a link of the part.
+    pub(crate) fn other_end(&self, link: u32) -> u32
+        requires { link < length self.now.setting.now.shape.links }
+        ensures joins { IsTrue (is_end self.now.setting.now.shape self.now.part link)
+            → Joins self.now.setting.now.shape self.now.part result link }
+        ensures only { (j : ℕ) → Joins self.now.setting.now.shape self.now.part j link → j ≡ result }
+        ensures within { result < length self.now.setting.now.shape.parts }
+    {
+        let _form = self.setting.shape();
+        let ends = self.setting.link(link);
+        if ends.left() == self.part {
+            return ends.right();
+        }
+        ends.left()
+    }
 }
 
 // A link of a part, with the resource at its other end.
 #[derive(Clone, Copy)]
 struct LinkUse<'a> {
-    setting: &'a Setting<'a>,
-    part: u32,
+    user: User<'a>,
     link: u32,
     other: u32,
-    ghost part_within: { part < length setting.now.shape.parts },
-    ghost link_within: { link < length setting.now.shape.links },
-    ghost other_within: { other < length setting.now.shape.parts },
+    ghost link_within: { link < length user.setting.now.shape.links },
+    ghost other_within: { other < length user.setting.now.shape.parts },
 }
 
 impl<'a> Requirement for LinkUse<'a> {
-    ghost nodes = { λ u. length (part_at u.setting.now.shape.parts u.part).table };
+    ghost nodes = { λ u. length (part_at u.user.setting.now.shape.parts u.user.part).table };
 
-    ghost meets = { λ u node state. are_uses u.setting.now u.part u.link u.other (node, state) };
+    ghost meets = { λ u node state. are_uses u.user.setting.now u.user.part u.link u.other (node, state) };
 
     fn is_met(&self, node: u32, state: u32) -> Result<bool, NoMemory> {
-        let _form = self.setting.shape();
-        let component = self.setting.component(self.part);
+        let _form = self.user.setting.shape();
+        let component = self.user.setting.component(self.user.part);
         Ok(all_uses(self, state, component.steps(node)))
     }
 }
@@ -140,21 +138,18 @@ impl<'a> Requirement for LinkUse<'a> {
 // Whether the event of each of the steps, if it is on the link, is in turn.
 fn all_uses(link: &LinkUse<'_>, state: u32, steps: &[(Event, u32)]) -> bool
     ensures { result ≡ list_all (λ (step : ℕ × ℕ).
-        is_use link.now.setting.now link.now.link link.now.other state step.0) steps.now }
+        is_use link.now.user.setting.now link.now.link link.now.other state step.0) steps.now }
 {
-    for (event, _) in steps {
-        if !use_in_turn(link, state, *event) {
-            return false;
-        }
-    }
-    true
+    steps
+        .iter()
+        .all(|(event, _)| use_in_turn(link, state, *event))
 }
 
 // Whether the event, if it is on the link, is in turn.
 fn use_in_turn(link: &LinkUse<'_>, state: u32, event: Event) -> bool
-    ensures { result ≡ is_use link.now.setting.now link.now.link link.now.other state event }
+    ensures { result ≡ is_use link.now.user.setting.now link.now.link link.now.other state event }
 {
-    let setting = link.setting;
+    let setting = link.user.setting;
     if !setting.link(link.link).shared().contains(event) {
         return true;
     }

@@ -1,7 +1,5 @@
 -- Lists with one member for each of another, and rankings that fit their shape.
-use Rattle.rule_rankings.proofs.Prelude.{◌≡◌, ℕ, suc, ◌+◌, ◌<◌, ◌≤◌, inl, inr, ℤ, pos, List, [], ◌∷◌, ◌++◌, length, get_or, true, nat_eq, ap, sym, subst, ◌∙◌, arith, cases_Bool, cases_lt, cond-true, cond-false, or_cases, both_ways, eqb-true, false≢true, length-append, get_or_append_left, get_or_past, get_or_read, Node, node_at, no_node, is_possible, part_at, IsNonEmpty, IsWithin, Shape, acceptance_at, Ranking, PartRanks, AsMany, AtMostOne, RanksFit, LapsFit, PartsFit, rank_at, lap_of, OthersRankZero, lap_at, AreEach, AreRanks, AreLaps, AreAllRanked, HasLap}
-use Rattle.std.proofs.Math.Seq.{get_or-append_seam}
-use Rattle.design_rules.proofs.RankCheck.{lap_absent}
+use Rattle.rule_rankings.proofs.Prelude.{◌≡◌, ℕ, suc, ◌+◌, ◌<◌, ◌≤◌, inl, inr, ℤ, pos, List, [], ◌∷◌, ◌++◌, length, get_or, true, nat_eq, ap, sym, subst, ◌∙◌, arith, cases_Bool, cases_lt, cond-true, cond-false, or_cases, both_ways, eqb-true, false≢true, length-append, get_or_append_left, get_or_past, get_or_read, Node, node_at, no_node, is_possible, part_at, IsNonEmpty, IsWithin, Shape, acceptance_at, Ranking, PartRanks, AsMany, AtMostOne, RanksFit, LapsFit, PartsFit, rank_at, lap_of, OthersRankZero, lap_at, AreEach, AreRanks, AreLaps, AreAllRanked, HasLap, get_or-append_seam, lap_absent}
 
 -- ---- lists that grow
 

@@ -26,16 +26,16 @@ struct Roles<'a> {
 /// The ranking with these heights of the parts.
 pub fn client_server_ranking(
     alloc: Global,
-    prepared: &SortedShape<'_>,
+    sorted: &SortedShape<'_>,
     roles: &[RoleSets],
     heights: &Heights,
 ) -> Result<Ranking, NoMemory>
-    requires roles { length roles.now ≡ length prepared.now.parts }
-    requires heights { AreHeights (Serves prepared.now roles.now) (length prepared.now.parts) heights.now }
-    requires below { All (λ height. height < length prepared.now.parts) heights.now }
-    ensures { IfOk result (λ ranking. IsClientServerRanking prepared.now roles.now ranking) }
+    requires roles { length roles.now ≡ length sorted.now.parts }
+    requires heights { AreHeights (Serves sorted.now roles.now) (length sorted.now.parts) heights.now }
+    requires below { All (λ height. height < length sorted.now.parts) heights.now }
+    ensures { IfOk result (λ ranking. IsClientServerRanking sorted.now roles.now ranking) }
 {
-    let shape = prepared.shape();
+    let shape = sorted.shape();
     let ranks = Roles {
         shape,
         roles,
@@ -58,7 +58,7 @@ impl<'a> Ranks for Roles<'a> {
         }
         let height = self.heights.of(part);
         if set.meets(requests_of(self.roles, part)) {
-            return serving(self.shape.parts().len() as u32, height);
+            return serving_rank(self.shape.parts().len() as u32, height);
         }
         if set.is_empty() {
             return 0;
@@ -80,7 +80,7 @@ fn requests_of(roles: &[RoleSets], part: u32) -> &EventSet
 }
 
 // The rank where there are requests, by the number of parts.
-fn serving(count: u32, height: u32) -> i64
+fn serving_rank(count: u32, height: u32) -> i64
     requires few { count ≤ MOST_COMPONENTS }
     requires below { height < count }
     ensures { result ≡ serving_rank count height }

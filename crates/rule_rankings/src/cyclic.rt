@@ -16,7 +16,7 @@ use std::alloc::Global;
 // What ranks a cyclic network: the numbers of the links, and for each part the greatest of its links' numbers.
 #[derive(Clone, Copy)]
 struct Numbers<'a> {
-    prepared: &'a SortedShape<'a>,
+    sorted: &'a SortedShape<'a>,
     numbers: &'a Heights,
     tops: &'a [u32],
 }
@@ -24,44 +24,44 @@ struct Numbers<'a> {
 /// The ranking with these numbers of the links.
 pub fn cyclic_ranking(
     alloc: Global,
-    prepared: &SortedShape<'_>,
+    sorted: &SortedShape<'_>,
     numbers: &Heights,
 ) -> Result<Ranking, NoMemory>
-    requires count { length numbers.now ≡ length prepared.now.links }
-    requires keep { AllKeepPlaces prepared.now }
-    requires rise { NumbersRise prepared.now (slice_index numbers.now) }
-    ensures { IfOk result (λ ranking. AreCyclicRanks prepared.now (slice_index numbers.now) ranking) }
+    requires count { length numbers.now ≡ length sorted.now.links }
+    requires keep { AllKeepPlaces sorted.now }
+    requires rise { NumbersRise sorted.now (slice_index numbers.now) }
+    ensures { IfOk result (λ ranking. AreCyclicRanks sorted.now (slice_index numbers.now) ranking) }
 {
-    let tops = tops(alloc, prepared, numbers)?;
+    let tops = tops(alloc, sorted, numbers)?;
     let ranks = Numbers {
-        prepared,
+        sorted,
         numbers,
         tops: tops.as_slice(),
     };
-    let parts = rank_parts(alloc, prepared.shape().parts(), &ranks)?;
+    let parts = rank_parts(alloc, sorted.shape().parts(), &ranks)?;
     Ok(Ranking::new(scale(numbers.as_slice()), parts))
 }
 
 // For each part the greatest number of its links.
-fn tops(alloc: Global, prepared: &SortedShape<'_>, numbers: &Heights) -> Result<Vec<u32>, NoMemory>
-    requires { length numbers.now ≡ length prepared.now.links }
+fn tops(alloc: Global, sorted: &SortedShape<'_>, numbers: &Heights) -> Result<Vec<u32>, NoMemory>
+    requires { length numbers.now ≡ length sorted.now.links }
     ensures { IfOk result (λ tops.
-        AreTops prepared.now (slice_index numbers.now) (length prepared.now.parts) tops.items) }
+        AreTops sorted.now (slice_index numbers.now) (length sorted.now.parts) tops.items) }
 {
     let mut tops = Vec::new(alloc);
-    for part in 0..prepared.shape().parts().len() {
-        tops.push(top(prepared, numbers, part as u32))?;
+    for part in 0..sorted.shape().parts().len() {
+        tops.push(top(sorted, numbers, part as u32))?;
     }
     Ok(tops)
 }
 
 // The greatest number of the part's links.
-fn top(prepared: &SortedShape<'_>, numbers: &Heights, part: u32) -> u32
-    requires count { length numbers.now ≡ length prepared.now.links }
-    requires part { part < length prepared.now.parts }
-    ensures { IsGreatest (slice_index numbers.now) (ends_of prepared.now part) result }
+fn top(sorted: &SortedShape<'_>, numbers: &Heights, part: u32) -> u32
+    requires count { length numbers.now ≡ length sorted.now.links }
+    requires part { part < length sorted.now.parts }
+    ensures { IsGreatest (slice_index numbers.now) (ends_of sorted.now part) result }
 {
-    let component = prepared.component(part);
+    let component = sorted.component(part);
     greatest(numbers, component.links())
 }
 
@@ -104,21 +104,21 @@ fn with_sign(number: u64) -> i64
 }
 
 impl<'a> Ranks for Numbers<'a> {
-    ghost can_rank = { λ n i. (length n.numbers.now ≡ length n.prepared.now.links) × (i < length n.tops.now) };
+    ghost can_rank = { λ n i. (length n.numbers.now ≡ length n.sorted.now.links) × (i < length n.tops.now) };
 
-    ghost is_rank = { λ n _. IsRank n.prepared.now (slice_index n.numbers.now) };
+    ghost is_rank = { λ n _. IsRank n.sorted.now (slice_index n.numbers.now) };
 
-    ghost is_lap = { λ n i. IsLap n.prepared.now (slice_index n.numbers.now) (slice_index n.tops.now i) };
+    ghost is_lap = { λ n i. IsLap n.sorted.now (slice_index n.numbers.now) (slice_index n.tops.now i) };
 
     // The number of the link on which the acceptance lies.
     fn rank(&self, _part: u32, set: &EventSet) -> i64 {
-        if !set.is_subset(self.prepared.shape().vocabulary()) {
+        if !set.is_subset(self.sorted.shape().vocabulary()) {
             return 0;
         }
         let Some(event) = set.first_from(Event(0)) else {
             return 0;
         };
-        let Some(link) = self.prepared.owner(event) else {
+        let Some(link) = self.sorted.owner(event) else {
             return 0;
         };
         i64::from(self.numbers.of(link))
@@ -126,8 +126,8 @@ impl<'a> Ranks for Numbers<'a> {
 
     // 1 where the event lies on the link with the greatest number.
     fn lap(&self, part: u32, event: Event) -> u8 {
-        let _form = self.prepared.shape();
-        match self.prepared.owner(event) {
+        let _form = self.sorted.shape();
+        match self.sorted.owner(event) {
             Some(link) => u8::from(self.numbers.of(link) == self.tops[part as usize]),
             None => 0,
         }

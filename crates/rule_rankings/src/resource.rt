@@ -13,7 +13,7 @@ use crate::rows::{Ranks, larger, rank_parts};
 use csp_base::{Event, EventSet, NoMemory};
 use csp_tables::Ranking;
 use digraph::Heights;
-use shape_links::{Setting, acquired};
+use shape_links::{Setting, acquired_resource};
 use std::alloc::Global;
 
 // What ranks users and resources: the heights of the resources, and the greatest number of one.
@@ -155,7 +155,7 @@ fn with_event(setting: &Setting<'_>, heights: &Heights, least: u32, event: Event
     ensures attained { (result ≡ least) ⊎ ((j : ℕ) × (j < length setting.now.shape.parts)
         × (is_acquired_by setting.now j event ≡ true) × (number_by heights.now j ≡ result)) }
 {
-    let Some(resource) = acquired(setting, event) else {
+    let Some(resource) = acquired_resource(setting, event) else {
         return least;
     };
     smaller(number(heights, resource), least)

@@ -57,31 +57,18 @@ pub enum ResolveFault {
     },
 }
 
-// By hand, so that a crate that ends one calls this and proves no end of its own.
 impl Drop for ResolveFault {
     fn drop(self) {
         match self {
             ResolveFault::NoAssert => {}
-            ResolveFault::Unknown {
-                inside: _inside,
-                name: _name,
-            } => {}
-            ResolveFault::Twice {
-                inside: _inside,
-                name: _name,
-            } => {}
-            ResolveFault::WrongKind { inside: _inside } => {}
-            ResolveFault::WrongCount {
-                inside: _inside,
-                name: _name,
-            } => {}
-            ResolveFault::ParallelInside { inside: _inside } => {}
-            ResolveFault::EventLimit { count: _count } => {}
-            ResolveFault::DataDepth { inside: _inside } => {}
-            ResolveFault::Value {
-                inside: _inside,
-                kind: _kind,
-            } => {}
+            ResolveFault::Unknown { inside, name } => {}
+            ResolveFault::Twice { inside, name } => {}
+            ResolveFault::WrongKind { inside } => {}
+            ResolveFault::WrongCount { inside, name } => {}
+            ResolveFault::ParallelInside { inside } => {}
+            ResolveFault::EventLimit { count } => {}
+            ResolveFault::DataDepth { inside } => {}
+            ResolveFault::Value { inside, kind } => {}
         }
     }
 }

@@ -8,7 +8,7 @@ use crate::setting::Setting;
 use csp_base::Event;
 
 /// The resource that the event acquires.
-pub fn acquired(setting: &Setting<'_>, event: Event) -> Option<u32>
+pub fn acquired_resource(setting: &Setting<'_>, event: Event) -> Option<u32>
     requires { KeepKinds setting.now }
     ensures within { (j : ℕ) → result ≡ Some j → j < length setting.now.shape.parts }
     ensures found { (j : ℕ) → result ≡ Some j → is_acquired_by setting.now j event ≡ true }

@@ -8,7 +8,7 @@ use csp_base::NoMemory;
 use std::alloc::Global;
 
 /// The vertices of the circle in the other direction, from the same one on.
-pub fn turned(alloc: Global, circle: &[u32]) -> Result<Items<u32>, NoMemory>
+pub fn turn_circle(alloc: Global, circle: &[u32]) -> Result<Items<u32>, NoMemory>
     requires { 0 < length circle.now }
     ensures { IfOk result (λ turned. turned ≡ turned_circle circle.now) }
 {

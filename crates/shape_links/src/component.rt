@@ -2,7 +2,7 @@
 
 ghost use Rattle.std.specs.Prelude.{◌<◌, length};
 
-use crate::prepared::SortedShape;
+use crate::sorted_shape::SortedShape;
 
 /// A component of a shape that is sorted out, by its number.
 #[derive(Clone, Copy)]

@@ -26,7 +26,8 @@ fn add_link(ends: &mut Vec<Items<u32>>, link: &Link, number: u32) -> Result<(), 
     requires { link.now.right < length ends.old.items }
     ensures count { OnOk result (length ends.new.items ≡ length ends.old.items) }
     ensures each { OnOk result ((i : ℕ) → i < length ends.old.items → slice_index_or ends.new.items i []
-        ≡ (if nat_eq link.now.left i || nat_eq link.now.right i then slice_index_or ends.old.items i [] ++ number ∷ [] else slice_index_or ends.old.items i [])) }
+        ≡ (if nat_eq link.now.left i || nat_eq link.now.right i then slice_index_or ends.old.items i [] ++ number ∷ []
+        else slice_index_or ends.old.items i [])) }
 {
     push_at(ends, link.left() as usize, number)?;
     push_at(ends, link.right() as usize, number)?;

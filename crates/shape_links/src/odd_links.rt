@@ -24,39 +24,99 @@ impl<'a> Component<'a> {
     {
         let _form = self.shape.shape();
         let explored = self.explore(alloc, &Unwatched)?;
-        let odd = odd_by_origins(alloc, self, watched, &explored)?;
-        if are_kept(alloc, self, watched, &odd)? {
+        let odd = self.odd_by_origins(alloc, watched, &explored)?;
+        if self.are_kept(alloc, watched, &odd)? {
             return Ok(Some(odd));
         }
         Ok(None)
     }
-}
 
-// For each node the watched links of which the run by which it was found has an odd number of events.
-fn odd_by_origins(
-    alloc: Global,
-    component: &Component<'_>,
-    watched: &EventSet,
-    explored: &Explored,
-) -> Result<Vec<EventSet>, NoMemory>
-    requires { (k : ℕ) → k < length explored.now.pairs
-        → (pair_at explored.now.pairs k).0 < length (table_of component.now) }
-    ensures { IfOk result (λ odd. length odd.items ≡ length (table_of component.now)) }
-{
-    let mut odd = empty_sets(alloc, component.table().nodes().len())?;
-    let pairs = explored.pairs();
-    for place in 1..pairs.len() {
-        let (from, event) = explored.origin(place);
-        let set = after(
-            alloc,
-            component,
-            watched,
-            &odd[pairs[from].0 as usize],
-            event,
-        )?;
-        odd[pairs[place].0 as usize] = set;
+    // For each node the watched links of which the run by which it was found has an odd number of events.
+    fn odd_by_origins(
+        &self,
+        alloc: Global,
+        watched: &EventSet,
+        explored: &Explored,
+    ) -> Result<Vec<EventSet>, NoMemory>
+        requires { (k : ℕ) → k < length explored.now.pairs
+            → (pair_at explored.now.pairs k).0 < length (table_of self.now) }
+        ensures { IfOk result (λ odd. length odd.items ≡ length (table_of self.now)) }
+    {
+        let mut odd = empty_sets(alloc, self.table().nodes().len())?;
+        let pairs = explored.pairs();
+        for place in 1..pairs.len() {
+            let (from, event) = explored.origin(place);
+            let set = self.set_after(alloc, watched, &odd[pairs[from].0 as usize], event)?;
+            odd[pairs[place].0 as usize] = set;
+        }
+        Ok(odd)
     }
-    Ok(odd)
+
+    // Whether the set of the first node is empty, and each step leads to the set that it makes of its node's.
+    fn are_kept(
+        &self,
+        alloc: Global,
+        watched: &EventSet,
+        odd: &[EventSet],
+    ) -> Result<bool, NoMemory>
+        requires { length odd.now ≡ length (table_of self.now) }
+        ensures { IfOk result (λ kept. kept ≡ true → AreOddLinks self.now watched.now odd.now) }
+    {
+        let _form = self.shape.shape();
+        let _part = self.part();
+        if !odd[0].is_empty() {
+            return Ok(false);
+        }
+        for node in 0..odd.len() {
+            if !self.is_kept_from(alloc, watched, odd, node as u32)? {
+                return Ok(false);
+            }
+        }
+        Ok(true)
+    }
+
+    // Whether each step from the node leads to the set that it makes of the node's.
+    fn is_kept_from(
+        &self,
+        alloc: Global,
+        watched: &EventSet,
+        odd: &[EventSet],
+        node: u32,
+    ) -> Result<bool, NoMemory>
+        requires sets { length odd.now ≡ length (table_of self.now) }
+        requires node { node < length (table_of self.now) }
+        ensures { IfOk result (λ kept. kept ≡ true → (e : ℕ)
+            → IsTrue (is_possible (node_at (table_of self.now) node).next e)
+            → IsTurned self.now.shape.now watched.now e (get_or odd.now node [])
+            (get_or odd.now (node_after (table_of self.now) node e) [])) }
+    {
+        let _form = self.shape.shape();
+        let steps = self.steps(node);
+        for (event, target) in steps {
+            let set = self.set_after(alloc, watched, &odd[node as usize], *event)?;
+            if set != odd[*target as usize] {
+                return Ok(false);
+            }
+        }
+        Ok(true)
+    }
+
+    // The set after one event more.
+    fn set_after(
+        &self,
+        alloc: Global,
+        watched: &EventSet,
+        odd: &EventSet,
+        event: Event,
+    ) -> Result<EventSet, NoMemory>
+        ensures { IfOk result (λ made. IsTurned self.now.shape.now watched.now event odd.now made) }
+    {
+        let _form = self.shape.shape();
+        match self.shape.owner(event) {
+            Some(link) => toggle_if_watched(alloc, watched, odd, Event(link)),
+            None => odd.try_clone(alloc),
+        }
+    }
 }
 
 // So many empty sets.
@@ -70,73 +130,8 @@ fn empty_sets(alloc: Global, count: usize) -> Result<Vec<EventSet>, NoMemory>
     Ok(sets)
 }
 
-// Whether the set of the first node is empty, and each step leads to the set that it makes of its node's.
-fn are_kept(
-    alloc: Global,
-    component: &Component<'_>,
-    watched: &EventSet,
-    odd: &[EventSet],
-) -> Result<bool, NoMemory>
-    requires { length odd.now ≡ length (table_of component.now) }
-    ensures { IfOk result (λ kept. kept ≡ true → AreOddLinks component.now watched.now odd.now) }
-{
-    let _form = component.shape.shape();
-    let _part = component.part();
-    if !odd[0].is_empty() {
-        return Ok(false);
-    }
-    for node in 0..odd.len() {
-        if !is_kept_from(alloc, component, watched, odd, node as u32)? {
-            return Ok(false);
-        }
-    }
-    Ok(true)
-}
-
-// Whether each step from the node leads to the set that it makes of the node's.
-fn is_kept_from(
-    alloc: Global,
-    component: &Component<'_>,
-    watched: &EventSet,
-    odd: &[EventSet],
-    node: u32,
-) -> Result<bool, NoMemory>
-    requires sets { length odd.now ≡ length (table_of component.now) }
-    requires node { node < length (table_of component.now) }
-    ensures { IfOk result (λ kept. kept ≡ true → (e : ℕ)
-        → IsTrue (is_possible (node_at (table_of component.now) node).next e)
-        → IsTurned component.now.shape.now watched.now e (get_or odd.now node []) (get_or odd.now (node_after (table_of component.now) node e) [])) }
-{
-    let _form = component.shape.shape();
-    let steps = component.steps(node);
-    for (event, target) in steps {
-        let set = after(alloc, component, watched, &odd[node as usize], *event)?;
-        if set != odd[*target as usize] {
-            return Ok(false);
-        }
-    }
-    Ok(true)
-}
-
-// The set after one event more.
-fn after(
-    alloc: Global,
-    component: &Component<'_>,
-    watched: &EventSet,
-    odd: &EventSet,
-    event: Event,
-) -> Result<EventSet, NoMemory>
-    ensures { IfOk result (λ made. IsTurned component.now.shape.now watched.now event odd.now made) }
-{
-    let _form = component.shape.shape();
-    match component.shape.owner(event) {
-        Some(link) => turned_if_watched(alloc, watched, odd, Event(link)),
-        None => odd.try_clone(alloc),
-    }
-}
-
 // The set without the link, or with it where it is no member, if the link is watched.
-fn turned_if_watched(
+fn toggle_if_watched(
     alloc: Global,
     watched: &EventSet,
     odd: &EventSet,
@@ -146,13 +141,13 @@ fn turned_if_watched(
         ≡ (if has watched.now l && nat_eq link l then not (has odd.now l) else has odd.now l)) }
 {
     if watched.contains(link) {
-        return turned(alloc, odd, link);
+        return toggle(alloc, odd, link);
     }
     odd.try_clone(alloc)
 }
 
 // The set without its member, or with it where it is none.
-fn turned(alloc: Global, set: &EventSet, member: Event) -> Result<EventSet, NoMemory>
+fn toggle(alloc: Global, set: &EventSet, member: Event) -> Result<EventSet, NoMemory>
     ensures { IfOk result (λ made. (x : ℕ) → has made x
         ≡ (if nat_eq member x then not (has set.now x) else has set.now x)) }
 {

@@ -2,8 +2,8 @@
 
 ghost use Rattle.std.specs.Prelude.{◌≡◌, ◌<◌, ◌+◌, ◌==◌, ℕ, Some, IfOk, OnOk, slice_index, if◌then◌else◌};
 ghost use Rattle.csp_base.specs.Members.{has};
-ghost use Rattle.csp_tables.specs.Part.{TripleDisjoint, alphabets_of};
-ghost use Rattle.csp_tables.specs.Shape.{IsWellFormed, Shape as ShapeValue};
+ghost use Rattle.csp_tables.specs.Prelude.{TripleDisjoint, alphabets_of, IsWellFormed};
+ghost use Rattle.csp_tables.specs.Shape.{Shape as ShapeValue};
 ghost use Rattle.shape_links.specs.Links.{AreOwners, IsOwner};
 
 use csp_base::{Event, EventSet, NoMemory};
@@ -19,7 +19,7 @@ pub fn links_of_events(alloc: Global, shape: &Shape) -> Result<Vec<u32>, NoMemor
 {
     let mut owners = Vec::new(alloc);
     for (l, link) in shape.links().iter().enumerate() {
-        own_all(&mut owners, link.shared(), l as u32 + 1)?;
+        set_owners(&mut owners, link.shared(), l as u32 + 1)?;
     }
     Ok(owners)
 }
@@ -49,18 +49,18 @@ fn owner_at(owners: &[u32], event: Event) -> u32
 }
 
 // Keeps the number for each of the events.
-fn own_all(owners: &mut Vec<u32>, events: &EventSet, owner: u32) -> Result<(), NoMemory>
+fn set_owners(owners: &mut Vec<u32>, events: &EventSet, owner: u32) -> Result<(), NoMemory>
     ensures { OnOk result ((e : ℕ) → slice_index owners.new.items e
         ≡ (if has events.now e then owner else slice_index owners.old.items e)) }
 {
     for event in events.iter() {
-        own(owners, event.0 as usize, owner)?;
+        set_owner(owners, event.0 as usize, owner)?;
     }
     Ok(())
 }
 
 // Keeps the number for the event.
-fn own(owners: &mut Vec<u32>, event: usize, owner: u32) -> Result<(), NoMemory>
+fn set_owner(owners: &mut Vec<u32>, event: usize, owner: u32) -> Result<(), NoMemory>
     ensures { OnOk result ((e : ℕ) → slice_index owners.new.items e
         ≡ (if event == e then owner else slice_index owners.old.items e)) }
 {

@@ -6,7 +6,7 @@ ghost use Rattle.csp_tables.specs.Prelude.{TripleDisjoint, alphabets_of, use_at,
 ghost use Rattle.shape_links.specs.Links.{IsOwner};
 
 use crate::component::Component;
-use crate::prepared::SortedShape;
+use crate::sorted_shape::SortedShape;
 use csp_base::{Event, NoMemory};
 use csp_tables::{Link, Shape, UseSets};
 use std::alloc::Global;
@@ -15,7 +15,7 @@ use std::marker::Model;
 /// A shape, sorted out, with what is noted of each part's use as a resource. Contracts see it as the shape and what is noted.
 #[derive(Drop)]
 pub struct Setting<'a> {
-    prepared: SortedShape<'a>,
+    sorted: SortedShape<'a>,
     uses: &'a [UseSets],
 }
 
@@ -25,9 +25,9 @@ impl<'a> Model for Setting<'a> {
 
     ghost Value = { SettingValue };
 
-    ghost view = { λ s. record { shape = s.prepared; uses = s.uses.now } };
+    ghost view = { λ s. record { shape = s.sorted; uses = s.uses.now } };
 
-    ghost invariant = { λ s. length s.uses.now ≡ length s.prepared.parts };
+    ghost invariant = { λ s. length s.uses.now ≡ length s.sorted.parts };
 }
 
 impl<'a> Setting<'a> {
@@ -42,15 +42,15 @@ impl<'a> Setting<'a> {
         requires uses { length uses.now ≡ length shape.now.parts }
         ensures { IfOk result (λ setting. setting ≡ record { shape = shape.now; uses = uses.now }) }
     {
-        let prepared = SortedShape::new(alloc, shape)?;
-        Ok(Setting { prepared, uses })
+        let sorted = SortedShape::new(alloc, shape)?;
+        Ok(Setting { sorted, uses })
     }
 
     /// The shape, sorted out.
-    pub fn prepared(&self) -> &SortedShape<'a>
+    pub fn sorted_shape(&self) -> &SortedShape<'a>
         ensures { result.now ≡ self.now.shape }
     {
-        &self.prepared
+        &self.sorted
     }
 
     /// The shape.
@@ -60,11 +60,11 @@ impl<'a> Setting<'a> {
         ensures apart { TripleDisjoint (alphabets_of self.now.shape.parts) }
         ensures uses { length self.now.uses ≡ length self.now.shape.parts }
     {
-        self.prepared.shape()
+        self.sorted.shape()
     }
 
     // What is noted of each part.
-    fn noted(&self) -> &'a [UseSets]
+    fn all_uses(&self) -> &'a [UseSets]
         ensures value { result.now ≡ self.now.uses }
         ensures count { length self.now.uses ≡ length self.now.shape.parts }
     {
@@ -85,7 +85,7 @@ impl<'a> Setting<'a> {
         ensures shape { result.shape.now ≡ self.now.shape }
         ensures number { result.number ≡ number }
     {
-        self.prepared.component(number)
+        self.sorted.component(number)
     }
 
     /// What is noted of the part.
@@ -93,7 +93,7 @@ impl<'a> Setting<'a> {
         requires { part < length self.now.shape.parts }
         ensures { result.now ≡ use_at self.now.uses part }
     {
-        &self.noted()[part as usize]
+        &self.all_uses()[part as usize]
     }
 
     /// The link in this place.
@@ -101,7 +101,7 @@ impl<'a> Setting<'a> {
         requires { link < length self.now.shape.links }
         ensures { result.now ≡ link_at self.now.shape link }
     {
-        self.prepared.link(link)
+        self.sorted.link(link)
     }
 
     /// The link that has the event.
@@ -109,6 +109,6 @@ impl<'a> Setting<'a> {
         ensures found { (l : ℕ) → result ≡ Some l → IsOwner self.now.shape l event }
         ensures owned { (l : ℕ) → IsOwner self.now.shape l event → result ≡ Some l }
     {
-        self.prepared.owner(event)
+        self.sorted.owner(event)
     }
 }

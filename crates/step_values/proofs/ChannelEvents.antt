@@ -1,11 +1,6 @@
 -- The events of a channel, by their numbers from the channel's first on.
-use Rattle.step_values.proofs.Prelude.{◌≡◌, ℕ, zero, suc, ◌+◌, ◌<◌, ◌^◌, get_or, Some, Ok, List, [], slice_get, ap, sym, subst, ◌∙◌, arith, Result, row_count, rows, IsInOrder, Outcome, sets_of, Content, Atom, Value, One, EvalFault, event_of_row, number_fits, program_fits, first_of, front_count, front_number}
-use Rattle.csp_program.specs.declared.programs.Channel.{Channel}
+use Rattle.step_values.proofs.Prelude.{◌≡◌, ℕ, zero, suc, ◌+◌, ◌<◌, ◌^◌, get_or, Some, Ok, List, [], slice_get, ap, sym, subst, ◌∙◌, arith, Result, row_count, rows, IsInOrder, Outcome, sets_of, Content, Atom, Value, One, EvalFault, event_of_row, number_fits, program_fits, first_of, front_count, front_number, Channel, event_of, Among, channel, event, of_channel, of_value, GivesStart, IsStart, Start}
 use Rattle.csp_atoms.specs.declared.atom.Atom.TheVariants as atom
-use Rattle.process_steps.specs.Prefix.{event_of}
-use Rattle.process_steps.specs.Ways.{Among, channel, event, of_channel, of_value}
-use Rattle.step_values.specs.Starts.{GivesStart, IsStart}
-use Rattle.step_values.specs.declared.heads.Start.{Start}
 
 channel_event : (p : Content) → IsInOrder p → (c : ℕ) (sets : List (List Atom)) → sets_of (slice_get p.channels c) ≡ Some sets → (i : ℕ) (row : List Atom) → slice_get (rows sets) i ≡ Some row
     → event_of p c row ≡ first_of (slice_get p.channels c) + i

@@ -1,23 +1,13 @@
 -- What a renaming comes to as it is evaluated, for the contracts of the functions that do so.
 use Rattle.std.specs.Prelude.{◌≡◌, ◌++◌, ℕ, Result, Ok, Err, List, [], ◌∷◌, map, drop, length, slice_get, take}
-use Rattle.csp_program.specs.Prelude.{Outcome, and_then, Env, sets_of, turn, uses_within, walked}
-use Rattle.csp_program.specs.declared.expressions.EventPart.{EventPart, out-EventPart}
-use Rattle.csp_program.specs.declared.expressions.Expr.{Expr}
-use Rattle.csp_program.specs.declared.expressions.Gen.{Gen}
-use Rattle.csp_program.specs.declared.kinds.ValueKind.TheVariants.{Kind}
-use Rattle.csp_program.specs.declared.programs.Content.{Content}
-use Rattle.csp_program.specs.declared.programs.EventInfo.{EventInfo}
+use Rattle.csp_program.specs.Prelude.{Outcome, and_then, Env, sets_of, turn, uses_within, walked, EventPart, out-EventPart, Expr, Gen, Kind, Content, EventInfo}
 use Rattle.csp_values.specs.Worth.{front_worth, worths}
 use Rattle.process_steps.specs.Prelude.{each_joined, Gathering, Renamed, binding_renamed, event_with}
-use Rattle.csp_atoms.specs.declared.atom.Atom.{Atom}
-use Rattle.csp_atoms.specs.declared.value.Value.{Value}
-use Rattle.csp_atoms.specs.declared.value.Value.TheVariants.{One}
+use Rattle.csp_atoms.specs.Prelude.{Atom, Value, One}
 use Rattle.csp_atoms.specs.declared.atom.Atom.TheVariants as atom
 use Rattle.csp_program.specs.declared.expressions.Expr.TheVariants as expr
 use Rattle.step_values.specs.declared.renaming.Tally.{Tally}
-use Rattle.value_operators.specs.Prelude.{count_with}
-use Rattle.value_operators.specs.declared.fault.EvalFault.{EvalFault}
-use Rattle.value_operators.specs.declared.fault.EvalFault.TheVariants as fault
+use Rattle.value_operators.specs.Prelude.{count_with, EvalFault, IsFault}
 
 abbrev pub gathering_of : Tally → Gathering
 gathering_of tally = record { bindings = tally.bindings; renamed = tally.renamed }
@@ -25,8 +15,7 @@ gathering_of tally = record { bindings = tally.bindings; renamed = tally.renamed
 -- what a call that walks generators answers
 abbrev pub GivesTally : Result Tally EvalFault → Outcome Gathering → Type 0
 GivesTally (Ok tally) outcome = outcome ≡ Ok (gathering_of tally)
-GivesTally (Err fault.NoMemory) outcome = Unit {0}
-GivesTally (Err (fault.Value kind)) outcome = outcome ≡ Err kind
+GivesTally (Err fault) outcome = IsFault fault outcome
 
 -- the bindings of generators
 unfoldable pub renamed_walk : Content → List (EventPart × EventPart) → List Gen → Env → Gathering → Outcome Gathering

@@ -7,13 +7,9 @@ ghost use Rattle.process_steps.specs.Ways.{of_head, of_value};
 ghost use Rattle.step_values.specs.Starts.{GivesStart};
 
 use csp_atoms::{Atom, AtomSet, Value};
-use csp_base::Event;
+use csp_base::{Event, Stop};
 use csp_program::{Head, Program, ValueKind};
 use csp_values::EvalFault;
-
-const KIND: EvalFault = EvalFault::Value {
-    kind: ValueKind::Kind,
-};
 
 /// What the event of a prefix is among.
 #[derive(Clone, Copy)]
@@ -34,9 +30,9 @@ fn of_channel(program: &Program, channel: u32) -> Result<Start<'_>, EvalFault>
                 first: u64::from(channel.first),
                 sets: sets.as_slice(),
             }),
-            None => Err(KIND),
+            None => Err(Stop::Told(ValueKind::Kind)),
         },
-        None => Err(KIND),
+        None => Err(Stop::Told(ValueKind::Kind)),
     }
 }
 
@@ -58,7 +54,7 @@ fn of_atom<'a>(atom: Atom) -> Result<Start<'a>, EvalFault>
 {
     match atom {
         Atom::Event(event) => Ok(of_event(event)),
-        _ => Err(KIND),
+        _ => Err(Stop::Told(ValueKind::Kind)),
     }
 }
 
@@ -69,7 +65,7 @@ fn of_value<'a>(value: &Value) -> Result<Start<'a>, EvalFault>
 {
     match value {
         Value::One(atom) => of_atom(*atom),
-        Value::Many(_) => Err(KIND),
+        Value::Many(_) => Err(Stop::Told(ValueKind::Kind)),
     }
 }
 
@@ -80,7 +76,7 @@ pub fn of_head<'a>(program: &'a Program, head: &Head) -> Result<Start<'a>, EvalF
 {
     match head {
         Head::Channel(channel) => of_channel(program, *channel),
-        Head::Bound(_) => Err(KIND),
+        Head::Bound(_) => Err(Stop::Told(ValueKind::Kind)),
         Head::Put(value) => of_value(value),
     }
 }

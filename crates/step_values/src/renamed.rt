@@ -2,8 +2,7 @@
 
 ghost use Rattle.std.specs.Prelude.{◌≡◌, ◌+◌, ◌<◌, ◌≤◌, ◌^◌, ◌++◌, [], drop, take, length, map, IfOk, Ok};
 ghost use Rattle.csp_atoms.specs.declared.value.Value.TheVariants as value;
-ghost use Rattle.csp_program.specs.Prelude.{IsInOrder, and_then, value_of};
-ghost use Rattle.csp_program.specs.declared.expressions.EventPart.{out-EventPart};
+ghost use Rattle.csp_program.specs.Prelude.{IsInOrder, and_then, value_of, out-EventPart};
 ghost use Rattle.csp_program.specs.declared.expressions.Expr.TheVariants as expression;
 ghost use Rattle.csp_values.specs.Worth.{front_worth};
 ghost use Rattle.process_steps.specs.Needed.{each_joined};
@@ -14,16 +13,12 @@ ghost use Rattle.step_values.specs.Walked.{as_event, literals, new_event, pair_w
 
 use containers::Items;
 use csp_atoms::{Atom, Value};
-use csp_base::{Event, NoMemory};
+use csp_base::{Event, NoMemory, Stop};
 use csp_program::copies::copy_value;
 use csp_program::{Channel, EventInfo, EventPart, Expr, Program, ValueKind};
 use csp_values::{EvalFault, eval, eval_all_under, front_under};
 use std::alloc::Global;
 use value_operators::numbers::count_with;
-
-const KIND: EvalFault = EvalFault::Value {
-    kind: ValueKind::Kind,
-};
 
 // What the new side of a pair comes to.
 #[derive(Clone, Copy)]
@@ -97,7 +92,7 @@ fn to_event(value: &Value) -> Result<Event, EvalFault>
 {
     match value {
         Value::One(Atom::Event(event)) => Ok(*event),
-        _ => Err(KIND),
+        _ => Err(Stop::Told(ValueKind::Kind)),
     }
 }
 

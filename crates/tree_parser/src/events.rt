@@ -13,7 +13,7 @@ use csp_base::Name;
 use csp_text::{FieldTree, Symbol, Token};
 use std::alloc::Global;
 use tree_reading::deep::Deep;
-use tree_reading::fault::{ReadFault, expect_true};
+use tree_reading::fault::{OrNoText, expect_true};
 use tree_reading::limits::Limits;
 use tree_reading::look::{expect_name, skip};
 use tree_reading::read::{Binding, BoundRead, Read, Reading};
@@ -47,7 +47,7 @@ fn field(
     limits: Limits,
     dot: bool,
     tokens: &[Token],
-) -> Result<Option<Read<'_, (Deep<FieldTree>, bool)>>, ReadFault>
+) -> OrNoText<Option<Read<'_, (Deep<FieldTree>, bool)>>>
     ensures reads { Reads result next_field (8 * length tokens.now) (λ L. read_field L limits dot tokens.now) }
     ensures shorter { IfOk result (λ o. IfSome o (λ r. length r.rest.now < length tokens.now)) }
 {

@@ -12,7 +12,7 @@ use csp_base::Name;
 use csp_text::{Symbol, Token, Word};
 use std::alloc::Global;
 use tree_reading::deep::{Deep, DeepTree};
-use tree_reading::fault::ReadFault;
+use tree_reading::fault::OrNoText;
 use tree_reading::limits::Limits;
 use tree_reading::look::{
     Chain, PrefixStart, expect, expect_name, expect_word, first_chain, prefix_start, skip,
@@ -239,7 +239,7 @@ fn operand(
     limits: Limits,
     chain: Chain,
     tokens: &[Token],
-) -> Result<(BoundRead<'_, DeepTree>, bool), ReadFault>
+) -> OrNoText<(BoundRead<'_, DeepTree>, bool)>
     ensures reads { Reads result operand_read (8 * length tokens.now + 4)
         (λ L. read_operand L limits chain tokens.now) }
     ensures shorter { IfOk result (λ r. length r.0.rest.now < length tokens.now) }

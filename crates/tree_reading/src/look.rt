@@ -3,12 +3,10 @@
 ghost use Rattle.std.specs.Prelude.{◌≡◌, ◌≤◌, ◌<◌, length, nat_eq, IfOk, IfSome, MatchOption, Some, None};
 ghost use Rattle.std.specs.Option.{option_copied};
 ghost use Rattle.csp_grammar.specs.Prelude.{begins_event, begins, binding, skip, skip_word};
-ghost use Rattle.tree_reading.specs.Bindings.{left_operand};
-ghost use Rattle.tree_reading.specs.Gives.{Gives};
-ghost use Rattle.tree_reading.specs.Starts.{atom_start, chain_symbol, first_chain, form_start, is_symbol_token, is_word_token, may_follow, named, other_start, prefix_start, sign_behind, sign_binding, symbol_sign, token_sign, token_start, symbol_start, word_sign, word_start};
+ghost use Rattle.tree_reading.specs.Prelude.{left_operand, Gives, atom_start, chain_symbol, first_chain, form_start, is_symbol_token, is_word_token, may_follow, named, other_start, prefix_start, sign_behind, sign_binding, symbol_sign, token_sign, token_start, symbol_start, word_sign, word_start};
 
 use crate::deep::Deep;
-use crate::fault::{ReadFault, stopped};
+use crate::fault::{OrNoText, no_text};
 use crate::read::Binding;
 use csp_base::{BinOp, Name, SetOp};
 use csp_text::{Symbol, Token, Tree, Word};
@@ -107,24 +105,24 @@ pub fn skip_word(tokens: &[Token], word: Word) -> Option<&[Token]>
 }
 
 /// What follows the symbol at the front, which has to stand there.
-pub fn expect(tokens: &[Token], symbol: Symbol) -> Result<&[Token], ReadFault>
+pub fn expect(tokens: &[Token], symbol: Symbol) -> OrNoText<&[Token]>
     ensures same { Gives result (λ rest. rest.now) (skip symbol tokens.now) }
     ensures shorter { IfOk result (λ rest. length rest.now < length tokens.now) }
 {
     match skip(tokens, symbol) {
         Some(rest) => Ok(rest),
-        None => Err(stopped(tokens)),
+        None => Err(no_text(tokens)),
     }
 }
 
 /// What follows the word at the front, which has to stand there.
-pub fn expect_word(tokens: &[Token], word: Word) -> Result<&[Token], ReadFault>
+pub fn expect_word(tokens: &[Token], word: Word) -> OrNoText<&[Token]>
     ensures same { Gives result (λ rest. rest.now) (skip_word word tokens.now) }
     ensures shorter { IfOk result (λ rest. length rest.now < length tokens.now) }
 {
     match skip_word(tokens, word) {
         Some(rest) => Ok(rest),
-        None => Err(stopped(tokens)),
+        None => Err(no_text(tokens)),
     }
 }
 
@@ -141,7 +139,7 @@ pub fn named(tokens: &[Token]) -> Option<(&Name, &[Token])>
 }
 
 /// A copy of the name at the front, which has to stand there, and what follows it.
-pub fn expect_name(alloc: Global, tokens: &[Token]) -> Result<(Name, &[Token]), ReadFault>
+pub fn expect_name(alloc: Global, tokens: &[Token]) -> OrNoText<(Name, &[Token])>
     ensures same { Gives result (λ found. (found.0, found.1.now)) (named tokens.now) }
     ensures shorter { IfOk result (λ found. length found.1.now < length tokens.now) }
 {
@@ -150,7 +148,7 @@ pub fn expect_name(alloc: Global, tokens: &[Token]) -> Result<(Name, &[Token]), 
             let name = name.try_clone(alloc)?;
             Ok((name, rest))
         }
-        None => Err(stopped(tokens)),
+        None => Err(no_text(tokens)),
     }
 }
 
@@ -331,21 +329,21 @@ fn token_start(token: &Token) -> Option<AtomStart>
 }
 
 // What an atom that begins with no name begins with, and what follows that.
-fn other_start(tokens: &[Token]) -> Result<(AtomStart, &[Token]), ReadFault>
+fn other_start(tokens: &[Token]) -> OrNoText<(AtomStart, &[Token])>
     ensures same { Gives result (λ found. (found.0, found.1.now)) (other_start tokens.now) }
     ensures shorter { IfOk result (λ found. length found.1.now < length tokens.now) }
 {
     let Some((first, rest)) = tokens.split_first() else {
-        return Err(stopped(tokens));
+        return Err(no_text(tokens));
     };
     match token_start(first) {
         Some(start) => Ok((start, rest)),
-        None => Err(stopped(tokens)),
+        None => Err(no_text(tokens)),
     }
 }
 
 /// What an atom begins with, and what follows that.
-pub fn atom_start(alloc: Global, tokens: &[Token]) -> Result<(AtomStart, &[Token]), ReadFault>
+pub fn atom_start(alloc: Global, tokens: &[Token]) -> OrNoText<(AtomStart, &[Token])>
     ensures same { Gives result (λ found. (found.0, found.1.now)) (atom_start tokens.now) }
     ensures shorter { IfOk result (λ found. length found.1.now < length tokens.now) }
 {

@@ -1,8 +1,7 @@
 //! Where a walk over trees stands.
 
 ghost use Rattle.std.specs.Prelude.{◌≡◌, ◌+◌, ◌<◌, ◌≤◌, ◌++◌, ◌∷◌};
-ghost use Rattle.typed_trees.specs.Prelude.{[], length, take, OnOk, MOST_BYTES, first_of, number_of, tokens};
-ghost use Rattle.typed_trees.specs.Walked.{past, standing};
+ghost use Rattle.typed_trees.specs.Prelude.{[], length, take, OnOk, MOST_BYTES, first_of, number_of, tokens, past, standing};
 ghost use Rattle.script_names.specs.Typed as typed;
 ghost use Rattle.typed_trees.specs.Words as words;
 
@@ -25,15 +24,14 @@ pub struct Walk<'a> {
     next: u32,
 }
 
-// By hand, so that a crate that ends one calls this and proves no end of its own.
 impl<'a> Drop for Walk<'a> {
     fn drop(self) {
         let Walk {
-            alloc: _alloc,
-            names: _names,
-            kinds: _kinds,
-            scope: _scope,
-            next: _next,
+            alloc,
+            names,
+            kinds,
+            scope,
+            next,
         } = self;
     }
 }

@@ -1,9 +1,7 @@
 -- The loops; all other goals close with no answer.
-use Rattle.std.proofs.Common.{◌∷◌, ◌++◌, [], ◌∙◌, refl, sym, ap, arith}
+use Rattle.tree_parser.proofs.Prelude.{◌∷◌, ◌++◌, [], ◌∙◌, refl, sym, ap, arith, read_gen, read_item, read_pair, read_part, next_field}
 use Rattle.csp_text.specs.declared.token.Symbol.TheVariants as symbol
-use Rattle.tree_reading.specs.Limited.{read_gen, read_item, read_pair, read_part}
 use Rattle.tree_parser.proofs.ListSteps.{choice_fails, chosen_last, chosen_more, dot, dot_fails, field, field_fails, first_chosen, item_missing, items_stop, last_item_read, last_of_items, more_items, next_item, no_dot, no_field}
-use Rattle.tree_parser.specs.Reads.{next_field}
 use Rattle.tree_parser.proofs.+reading.Goals as goal
 
 pub lists::dots-returns-in-Err-clause-reads : goal.lists::dots-returns-in-Err-clause-reads

@@ -1,5 +1,4 @@
-use Rattle.std.proofs.Common.{ℕ, ◌+◌, ◌*◌, ◌≤◌, ◌∷◌, Some, length}
-use Rattle.tree_parser.specs.Reads.{read_operands}
+use Rattle.tree_parser.proofs.Prelude.{ℕ, ◌+◌, ◌*◌, ◌≤◌, ◌∷◌, Some, length, read_operands}
 use Rattle.tree_parser.proofs.SoFar.{ChoicesSoFar, ItemsSoFar, SoFar}
 use Rattle.tree_parser.proofs.+reading.Given as goal
 

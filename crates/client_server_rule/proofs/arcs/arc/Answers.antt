@@ -1,14 +1,11 @@
-use Rattle.std.proofs.Common.{◌<◌, ◌∙◌, ℕ, ap, subst, sym, length, arith}
-use Rattle.csp_tables.specs.Shape.{Link, Shape, link_at}
-use Rattle.digraph.specs.Digraph.{has_arc}
-use Rattle.client_server_conditions.specs.Network.{Asks, Grants}
+use Rattle.client_server_rule.proofs.Prelude.{◌<◌, ◌∙◌, ℕ, ap, subst, sym, length, arith, Link, Shape, link_at, has_arc, Asks, Grants}
 use Rattle.client_server_rule.proofs.Serving.{left_serves, right_serves, arc_there}
 use Rattle.client_server_rule.proofs.arcs.arc.Goals as goal
 
 pub returns-then-asks-clause-complete : goal.returns-then-asks-clause-complete
 returns-then-asks-clause-complete c i j s =
     let network = c.args.network.now in
-    let ends = c.link-ends.ensures ∙ ap (λ (x : Shape). link_at x c.args.link) c.prepared.ensures in
+    let ends = c.link-ends.ensures ∙ ap (λ (x : Shape). link_at x c.args.link) c.sorted_shape.ensures in
     let left = c.left-left.ensures.value ∙ ap (λ (k : Link). k.left) ends in
     let right = c.right-right.ensures.value ∙ ap (λ (k : Link). k.right) ends in
     let joins = c.shape-linked.ensures.linked.form.linked.links c.args.link c.requires.link in
@@ -20,7 +17,7 @@ returns-then-asks-clause-complete c i j s =
 pub returns-clause-complete : goal.returns-clause-complete
 returns-clause-complete c i j s =
     let network = c.args.network.now in
-    let ends = c.link-ends.ensures ∙ ap (λ (x : Shape). link_at x c.args.link) c.prepared.ensures in
+    let ends = c.link-ends.ensures ∙ ap (λ (x : Shape). link_at x c.args.link) c.sorted_shape.ensures in
     let left = c.left-left.ensures.value ∙ ap (λ (k : Link). k.left) ends in
     let right = c.right-right.ensures.value ∙ ap (λ (k : Link). k.right) ends in
     let joins = c.shape-linked.ensures.linked.form.linked.links c.args.link c.requires.link in

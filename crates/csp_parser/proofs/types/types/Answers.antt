@@ -1,6 +1,5 @@
-use Rattle.csp_parser.proofs.Prelude.{◌∷◌, [], ◌++◌, ◌∙◌, refl, sym, ap, arith, item_missing, last_item_read, next_item}
+use Rattle.csp_parser.proofs.Prelude.{◌∷◌, [], ◌++◌, ◌∙◌, refl, sym, ap, arith, item_missing, last_item_read, next_item, whole}
 use Rattle.csp_text.specs.declared.token.Symbol.TheVariants as symbol
-use Rattle.tree_reading.specs.Nesting.{whole}
 use Rattle.csp_parser.proofs.types.types.Goals as goal
 
 pub returns-in-Err-clause-reads : goal.returns-in-Err-clause-reads

@@ -1,8 +1,6 @@
 -- The ways out of evaluation that no attribute closes: those of the walk over generators, and a few others. An expression of a new form gets an equation in
 -- `Arms` and in `Falls`, and a lemma in `Stays`.
-use Rattle.csp_values.proofs.Prelude.{slice_get, ◌≡◌, ◌+◌, length, Some, Ok, ap, refl, subst, sym, ◌∙◌, arith, env_in, parameters, with_bound, gathered_of, one_more_binding, yielded}
-use Rattle.std.proofs.lemmas.Option.{slice_get_read}
-use Rattle.value_operators.proofs.Faults.{passed}
+use Rattle.csp_values.proofs.Prelude.{slice_get, ◌≡◌, ◌+◌, length, Some, Ok, ap, refl, subst, sym, ◌∙◌, arith, env_in, parameters, with_bound, gathered_of, one_more_binding, yielded, slice_get_read, passed}
 use Rattle.csp_values.proofs.Arms.{binding_passed, walk_passed, front_fault}
 use Rattle.csp_values.proofs.Again.{adds_nothing, there_after}
 use Rattle.csp_values.proofs.Stays.{once_begun}

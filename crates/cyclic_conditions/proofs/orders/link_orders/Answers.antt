@@ -5,19 +5,19 @@ use Rattle.cyclic_conditions.proofs.orders.link_orders.Goals as goal
 pub returns-in_err-add_order-clause-fault : goal.returns-in_err-add_order-clause-fault
 returns-in_err-add_order-clause-fault c =
     let w = err_from_is_err_and c.from_residual.result c.from_residual.ensures.1 in
-    subst (λ r. IfErr r (Tells (BreaksCyclic c.args.prepared.now))) (sym w.1)
-    (breaks_there c.args.prepared.now c.loop-part.part w.0 (λ j h. c.loop-part.invariant.keep j h) (subst (Tells (IsBrokenOrder c.args.prepared.now c.loop-part.part)) (sym w.2) c.in_err-add_order.ensures.fault))
+    subst (λ r. IfErr r (Tells (BreaksCyclic c.args.sorted.now))) (sym w.1)
+    (breaks_there c.args.sorted.now c.loop-part.part w.0 (λ j h. c.loop-part.invariant.keep j h) (subst (Tells (IsBrokenOrder c.args.sorted.now c.loop-part.part)) (sym w.2) c.in_err-add_order.ensures.fault))
 
 pub loop-part-preserved : goal.loop-part-preserved
 loop-part-preserved c =
     let part = c.loop-part.part in
     let i = c.loop-part.invariant in
-    let more = let o = c.in_ok-add_order.ensures.order in orders_more c.args.prepared.now c.loop-part.part c.loop-part.orders.items o.0 c.add_order.new.orders.items i.count i.each o.1 o.2 in
+    let more = let o = c.in_ok-add_order.ensures.order in orders_more c.args.sorted.now c.loop-part.part c.loop-part.orders.items o.0 c.add_order.new.orders.items i.count i.each o.1 o.2 in
     record {
       count = more.0;
-      keep = λ j h. elim (cases_lt j part) as (λ _. KeepsPlaces c.args.prepared.now j) [
+      keep = λ j h. elim (cases_lt j part) as (λ _. KeepsPlaces c.args.sorted.now j) [
         | inl old ↦ i.keep j old
-        | inr now ↦ let same : part ≡ j = omega arith in subst (KeepsPlaces c.args.prepared.now) same c.in_ok-add_order.ensures.keeps
+        | inr now ↦ let same : part ≡ j = omega arith in subst (KeepsPlaces c.args.sorted.now) same c.in_ok-add_order.ensures.keeps
       ];
       each = more.1;
     }

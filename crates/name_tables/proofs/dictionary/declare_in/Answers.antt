@@ -1,5 +1,4 @@
-use Rattle.name_tables.proofs.Prelude.{◌∙◌, [], ◌∷◌, ◌++◌, is_some, sym, ap, Name, first_of}
-use Rattle.std.proofs.lemmas.Result.{on_ok_weaker}
+use Rattle.name_tables.proofs.Prelude.{◌∙◌, [], ◌∷◌, ◌++◌, is_some, sym, ap, Name, first_of, on_ok_weaker}
 use Rattle.name_tables.proofs.NameLemmas.{same_firsts_known}
 use Rattle.name_tables.proofs.dictionary.declare_in.Goals as goal
 

@@ -7,13 +7,10 @@ returns-then-is_resource c =
     let resource = sym (c.is_resource.ensures ∙ ap (λ (u : UseSets). u.resource) c.uses.ensures) ∙ c.if-is_resource.true in
     adds_none (HoldsWhile c.args.setting.now c.args.part) c.args.sets.now (λ k l x. both_ways (use_at c.args.setting.now.uses c.args.part).resource x.user resource)
 
-pub add_nodes-requires-clause-user : goal.add_nodes-requires-clause-user
-add_nodes-requires-clause-user c = sym (c.is_resource.ensures ∙ ap (λ (u : UseSets). u.resource) c.uses.ensures) ∙ c.if-is_resource.false
+pub invariant_of-user-clause-user : goal.invariant_of-user-clause-user
+invariant_of-user-clause-user c = sym (c.is_resource.ensures ∙ ap (λ (u : UseSets). u.resource) c.uses.ensures) ∙ c.if-is_resource.false
 
 pub add_nodes-requires-clause-held : goal.add_nodes-requires-clause-held
 add_nodes-requires-clause-held c =
     let are = subst (λ o. IfSome o (λ sets. AreHeld c.args.setting.now c.args.part sets.items)) c.in-Some.is c.in_ok-held.ensures in
     subst (λ (xs : List (List ℕ)). AreHeld c.args.setting.now c.args.part xs) (sym c.as_slice.ensures.value) are
-
-pub add_links-requires-clause-user : goal.add_links-requires-clause-user
-add_links-requires-clause-user c = sym (c.is_resource.ensures ∙ ap (λ (u : UseSets). u.resource) c.uses.ensures) ∙ c.if-is_resource.false

@@ -5,7 +5,7 @@ use Rattle.rule_rankings.proofs.cyclic.cyclic_ranking.Goals as goal
 
 pub returns : goal.returns
 returns c =
-    let shape = c.args.prepared.now in
+    let shape = c.args.sorted.now in
     let number = slice_index c.args.numbers.now in
     let tops = c.in_ok-tops.tops.items in
     let made = c.in_ok-parts.parts.items in

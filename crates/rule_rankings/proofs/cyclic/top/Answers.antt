@@ -3,11 +3,11 @@ use Rattle.rule_rankings.proofs.cyclic.top.Goals as goal
 
 pub greatest-requires : goal.greatest-requires
 greatest-requires c l h =
-    let ends = c.links.ensures ∙ ap (λ (s : Shape). ends_of s c.component-component.result.number) c.component-component.ensures.shape ∙ ap (ends_of c.args.prepared.now) c.component-component.ensures.number in
-    let end = ends_sound c.args.prepared.now c.args.part (length c.args.prepared.now.links) l (subst (λ (xs : List ℕ). has xs l ≡ true) ends h) in
+    let ends = c.links.ensures ∙ ap (λ (s : Shape). ends_of s c.component-component.result.number) c.component-component.ensures.shape ∙ ap (ends_of c.args.sorted.now) c.component-component.ensures.number in
+    let end = ends_sound c.args.sorted.now c.args.part (length c.args.sorted.now.links) l (subst (λ (xs : List ℕ). has xs l ≡ true) ends h) in
     subst (λ (n : ℕ). l < n) (sym c.requires.count) end.0
 
 pub returns : goal.returns
 returns c =
-    let ends = c.links.ensures ∙ ap (λ (s : Shape). ends_of s c.component-component.result.number) c.component-component.ensures.shape ∙ ap (ends_of c.args.prepared.now) c.component-component.ensures.number in
+    let ends = c.links.ensures ∙ ap (λ (s : Shape). ends_of s c.component-component.result.number) c.component-component.ensures.shape ∙ ap (ends_of c.args.sorted.now) c.component-component.ensures.number in
     subst (λ (ls : List ℕ). IsGreatest (slice_index c.args.numbers.now) ls c.greatest.result) ends c.greatest.ensures

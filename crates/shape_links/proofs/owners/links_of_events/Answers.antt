@@ -9,8 +9,8 @@ loop-l-preserved c =
     let within : c.loop-l.l < length c.args.shape.now.links = subst (λ (ls : List Link). c.loop-l.l < length ls) c.links-link-items.ensures.value c.loop-l-test.true in
     let is = link_read shape items c.loop-l.l c.link-item.result c.links-link-items.ensures.value c.loop-l-test.true c.link-item.is in
     let shared : c.shared.result.now ≡ (link_at c.args.shape.now c.loop-l.l).shared = c.shared.ensures ∙ sym (ap (λ (k : Link). k.shared) is) in
-    owners_more shape c.loop-l.l c.loop-l.owners.items c.own_all.new.owners.items c.requires.form c.requires.apart within c.loop-l.invariant
-    (λ e. c.in_ok-own_all.ensures e ∙ ap (λ (xs : List ℕ). cond (has xs e) (c.loop-l.l + 1) (slice_index c.loop-l.owners.items e)) shared)
+    owners_more shape c.loop-l.l c.loop-l.owners.items c.set_owners.new.owners.items c.requires.form c.requires.apart within c.loop-l.invariant
+    (λ e. c.in_ok-set_owners.ensures e ∙ ap (λ (xs : List ℕ). cond (has xs e) (c.loop-l.l + 1) (slice_index c.loop-l.owners.items e)) shared)
 
 pub returns : goal.returns
 returns c =

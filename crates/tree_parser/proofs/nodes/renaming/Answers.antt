@@ -1,6 +1,4 @@
-use Rattle.std.proofs.Common.{max, map, refl, ap, ◌∙◌}
-use Rattle.csp_base.specs.Lists.{greatest}
-use Rattle.csp_text.specs.Depth.{gen_depth, part_depth, tree_depth}
+use Rattle.tree_parser.proofs.Prelude.{max, map, refl, ap, ◌∙◌, greatest, gen_depth, part_depth, tree_depth}
 use Rattle.csp_text.specs.declared.tree.Tree.TheVariants as tree
 use Rattle.tree_parser.proofs.Depths.{of_renaming, one_more_than_three}
 use Rattle.tree_parser.proofs.nodes.renaming.Goals as goal

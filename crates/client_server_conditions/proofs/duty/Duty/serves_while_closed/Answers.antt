@@ -8,5 +8,5 @@ returns-then-is_empty c _ l h opened = absurd (false≢true (subst (λ (xs : Lis
 pub returns : goal.returns
 returns c none l h opened grants =
     let d = c.args.self.now in
-    none_taken d.network.now.shape.vocabulary (role_at d.network.now.roles d.part).sreq c.vocabulary.result.now c.sreq.result.now (node_in d.network.now d.part c.args.node).accept c.accept.result.now c.vocabulary.ensures (c.sreq.ensures ∙ ap (λ (r : RoleSets). r.sreq) c.roles.ensures) c.accept.ensures
+    none_taken d.network.now.shape.vocabulary (role_at d.network.now.roles d.part).sreq c.vocabulary.result.now c.sreq.result.now (node_in d.network.now d.part c.args.node).accept c.acceptances.result.now c.vocabulary.ensures (c.sreq.ensures ∙ ap (λ (r : RoleSets). r.sreq) c.roles.ensures) c.acceptances.ensures
     (sym c.some_takes.ensures ∙ not-true _ none)

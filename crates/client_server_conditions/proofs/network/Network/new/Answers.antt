@@ -7,7 +7,7 @@ invariant_of-result c =
     let shape = c.args.shape.now in
     let roles = c.args.roles.now in
     let sides = c.in_ok-sides.sides.items in
-    subst (λ (s : Shape). IsLinked (record { shape = s; roles = roles }) × AreSides s roles (length s.links) sides) (sym c.in_ok-prepared.ensures) (
+    subst (λ (s : Shape). IsLinked (record { shape = s; roles = roles }) × AreSides s roles (length s.links) sides) (sym c.in_ok-sorted.ensures) (
       record {
         form = c.requires.form;
         count = c.requires.roles;

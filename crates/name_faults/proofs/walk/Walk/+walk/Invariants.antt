@@ -1,9 +1,8 @@
-use Rattle.name_faults.proofs.Prelude.{◌≡◌, ◌+◌, ◌*◌, max, take, after_fields, after_gens, after_pairs, after_parts, after_trees}
+use Rattle.name_faults.proofs.Prelude.{◌≡◌, ◌+◌, ◌*◌, max, take, after_fields, after_gens, after_pairs, after_parts, after_trees, the_size}
 use denote.Param.Weighed as weighed
 use Rattle.csp_text.proofs.tree.EventTree.TheLaws as event
 use Rattle.csp_text.proofs.tree.GenTree.TheLaws as generator
 use Rattle.csp_text.proofs.tree.PartTree.TheLaws as part
-use Rattle.csp_text.proofs.tree.Tree.TheLaws.{the_size}
 use Rattle.name_faults.proofs.walk.Walk.+walk.Given as goal
 
 abbrev pub invariant-trees-loop-tree : goal.invariant-trees-loop-tree

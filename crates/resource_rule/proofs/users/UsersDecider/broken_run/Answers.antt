@@ -2,6 +2,9 @@ use Rattle.resource_rule.proofs.Prelude.{◌≡◌, ◌∙◌, List, Option, ℕ
 use Rattle.resource_rule.proofs.Using.{found_of}
 use Rattle.resource_rule.proofs.users.UsersDecider.broken_run.Goals as goal
 
+pub invariant_of-user-clause-user : goal.invariant_of-user-clause-user
+invariant_of-user-clause-user c = sym (c.is_resource.ensures ∙ ap (λ (u : UseSets). u.resource) c.uses.ensures) ∙ c.if-is_resource.false
+
 pub returns : goal.returns
 returns c =
     let g = c.args.self.now.setting.now in

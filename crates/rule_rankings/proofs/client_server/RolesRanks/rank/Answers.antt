@@ -7,9 +7,9 @@ returns-then-not-is_subset c = outside_rank c.args.self.now.shape.now c.args.sel
 
 pub returns-then-meets : goal.returns-then-meets
 returns-then-meets c =
-    let same : to_z w64 (of_z w64 c.serving.result) ≡ c.serving.result = omega (arith, ints) in
-    serving_is c.args.self.now.shape.now c.args.self.now.roles.now c.args.self.now.heights.now c.args.part c.args.set.now (to_z w64 (of_z w64 c.serving.result)) (sym (ap (is_subset_of c.args.set.now) c.vocabulary.ensures) ∙ sym c.is_subset.ensures ∙ c.if-not-is_subset.false) (sym (ap (meets_of c.args.set.now) c.requests_of.ensures) ∙ sym c.meets.ensures ∙ c.if-meets.true)
-    (same ∙ c.serving.ensures ∙ ap (λ (n : ℕ). serving_rank n c.of-height.result) (ap (length {A = Part}) c.parts.ensures.value) ∙ ap (serving_rank (length c.args.self.now.shape.now.parts)) c.of-height.ensures)
+    let same : to_z w64 (of_z w64 c.serving_rank.result) ≡ c.serving_rank.result = omega (arith, ints) in
+    serving_is c.args.self.now.shape.now c.args.self.now.roles.now c.args.self.now.heights.now c.args.part c.args.set.now (to_z w64 (of_z w64 c.serving_rank.result)) (sym (ap (is_subset_of c.args.set.now) c.vocabulary.ensures) ∙ sym c.is_subset.ensures ∙ c.if-not-is_subset.false) (sym (ap (meets_of c.args.set.now) c.requests_of.ensures) ∙ sym c.meets.ensures ∙ c.if-meets.true)
+    (same ∙ c.serving_rank.ensures ∙ ap (λ (n : ℕ). serving_rank n c.of-height.result) (ap (length {A = Part}) c.parts.ensures.value) ∙ ap (serving_rank (length c.args.self.now.shape.now.parts)) c.of-height.ensures)
 
 pub returns : goal.returns
 returns c =

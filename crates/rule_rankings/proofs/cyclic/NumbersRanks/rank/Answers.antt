@@ -5,7 +5,7 @@ pub returns-then-not-is_subset : goal.returns-then-not-is_subset
 returns-then-not-is_subset c =
     let subset = sym c.if-not-is_subset.true ∙ (c.is_subset.ensures ∙ ap (is_subset_of c.args.set.now) (c.vocabulary.ensures ∙ ap (λ (x : Shape). x.vocabulary) c.shape.ensures.value)) in
     record {
-      on_link = λ l one within h m. absurd (false≢true (subset ∙ is_subset_of_from_members c.args.set.now c.args.self.now.prepared.now.vocabulary within));
+      on_link = λ l one within h m. absurd (false≢true (subset ∙ is_subset_of_from_members c.args.set.now c.args.self.now.sorted.now.vocabulary within));
       other = λ _. refl;
     }
 
@@ -18,7 +18,7 @@ returns-in_default c = record {
 pub returns-in_default-owner : goal.returns-in_default-owner
 returns-in_default-owner c = record {
   on_link = λ l one within h m.
-      let o = vocabulary_owner c.args.self.now.prepared.now c.in-Some.event c.shape.ensures.form (within c.in-Some.event (find_has (nat_le 0) c.args.set.now c.in-Some.event (sym c.in-Some.ensures.least))) in
+      let o = vocabulary_owner c.args.self.now.sorted.now c.in-Some.event c.shape.ensures.form (within c.in-Some.event (find_has (nat_le 0) c.args.set.now c.in-Some.event (sym c.in-Some.ensures.least))) in
       absurd (none-some o.0 (c.in_default-owner.ensures.owned o.0 o.1));
   other = λ _. refl;
 }
@@ -36,5 +36,5 @@ returns c =
     let rank : to_z w64 (of_z w64 c.from.result) ≡ pos (slice_index c.args.self.now.numbers.now c.in-Some-owner.link) = same ∙ c.from.ensures ∙ ap pos c.of.ensures in
     record {
       on_link = λ l one within h m. rank ∙ ap (λ (k : ℕ). pos (slice_index c.args.self.now.numbers.now k)) (one c.in-Some-owner.link l c.in-Some.event m.event o.within h member m.first o.event m.second);
-      other = λ none. absurd (none (member_of_superset c.args.set.now c.args.self.now.prepared.now.vocabulary subset) (c.in-Some.event, member));
+      other = λ none. absurd (none (member_of_superset c.args.set.now c.args.self.now.sorted.now.vocabulary subset) (c.in-Some.event, member));
     }

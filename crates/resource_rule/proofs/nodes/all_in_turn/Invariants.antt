@@ -1,5 +1,0 @@
-use Rattle.resource_rule.proofs.Prelude.{◌≡◌, ◌<◌, ℕ, [], true, get_or, is_possible, node_of, IsInTurn}
-use Rattle.resource_rule.proofs.nodes.all_in_turn.Given as goal
-
-abbrev pub invariant-loop-node : goal.invariant-loop-node
-invariant-loop-node l = (n e : ℕ) → n < l.node → is_possible (node_of l.setting l.part n).next e ≡ true → IsInTurn l.setting l.part (get_or l.held n []) e
