@@ -3,10 +3,7 @@
 ghost use Rattle.std.specs.Prelude.{◌≡◌, ◌+◌, ◌<◌, ◌≤◌, Some, length, slice_get, IfOk, IfErr, OnOk};
 ghost use Rattle.csp_base.specs.Prelude.{Tells};
 ghost use Rattle.csp_steps.specs.declared.step.StepTo.{StepTo as Step};
-ghost use Rattle.local_tables.specs.Component.{AreTermsOf, IsInside, part_of, step_count};
-ghost use Rattle.local_tables.specs.Faults.{LacksTable, TaskLacks};
-ghost use Rattle.local_tables.specs.LocalTable.{IsLocalTable};
-ghost use Rattle.local_tables.specs.Progress.{IsAt, IsUpTo, label_of, process_label, step_more};
+ghost use Rattle.local_tables.specs.Prelude.{AreTermsOf, IsInside, part_of, step_count, LacksTable, TaskLacks, IsLocalTable, IsAt, IsUpTo, label_of, process_label, step_more};
 
 use crate::found::{Found, begin, check, term_number};
 use crate::local_table::{LocalTable, Room};
