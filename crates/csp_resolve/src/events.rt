@@ -21,7 +21,7 @@ use dl_limits::MOST_EVENTS;
 use event_tables::{SharedSets, event_count, field_sets, fill_events};
 use name_tables::Meanings;
 use script_contents::types_of;
-use script_names::ResolveFault;
+use script_names::{Made, ResolveFault};
 use std::alloc::Global;
 
 /// The field sets of the channels of declarations. A type that has no value that fits is told in its declaration.
@@ -60,7 +60,7 @@ fn add_sets(
     match decl {
         Decl::Channel(xs, types) => {
             let types = types_of(meanings, types.as_slice())?;
-            let one = shared_in(meanings.alloc, content, i, xs.len(), types.as_slice())?;
+            let one = shared_sets(meanings.alloc, content, i, xs.len(), types.as_slice())?;
             push_shared(shared, one)?;
             Ok(())
         }
@@ -74,7 +74,7 @@ fn add_sets(
 }
 
 // Puts the field sets of one declaration at the end.
-fn push_shared(shared: &mut Vec<SharedSets>, one: SharedSets) -> Result<(), NoMemory>
+fn push_shared(shared: &mut Vec<SharedSets>, one: SharedSets) -> Made<()>
     ensures { OnOk result (shared.new.items ≡ shared.old.items ++ one ∷ []) }
 {
     shared.push(one)?;
@@ -82,7 +82,7 @@ fn push_shared(shared: &mut Vec<SharedSets>, one: SharedSets) -> Result<(), NoMe
 }
 
 // The field sets of so many channels of these types in the declaration with the number `i`.
-fn shared_in(
+fn shared_sets(
     alloc: Global,
     content: &Content,
     i: u32,

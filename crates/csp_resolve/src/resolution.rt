@@ -2,7 +2,8 @@
 
 ghost use Rattle.std.specs.Prelude.{◌≡◌, ◌≤◌, IsTrue, Some, length, map, IfOk};
 ghost use Rattle.std.specs.Option.{option_copied};
-ghost use Rattle.csp_program.specs.Prelude.{IsInOrder, lacks_sets, all_true, Content};
+ghost use Rattle.csp_program.specs.Prelude.{IsInOrder, lacks_sets, all_true};
+ghost use Rattle.csp_program.specs.declared.programs.Content.{Content};
 ghost use Rattle.csp_resolve.specs.Answers.{Answers, types_read};
 ghost use Rattle.dl_limits.specs.declared.TheConstants.{MOST_BYTES};
 ghost use Rattle.name_tables.specs.Firsts.{SameFirsts};
@@ -13,7 +14,7 @@ ghost use Rattle.script_sizes.specs.Size.{AreSmall, size};
 
 use crate::events::{channel_sets, fill_table};
 use containers::{Boxed, Key};
-use csp_base::{NoMemory, Stop};
+use csp_base::Stop;
 use csp_program::{Content, Program};
 use csp_text::{Decl, Script, Tree};
 use definition_kinds::kinds_of;
@@ -21,14 +22,14 @@ use name_faults::name_fault;
 use name_tables::{Dictionary, Meanings, dictionary_of};
 use resolved_laws::programs_are_in_order;
 use script_contents::plain_content;
-use script_names::ResolveFault;
+use script_names::{Made, ResolveFault};
 use std::alloc::Global;
 
 // What was made, or why there is no program.
 pub(crate) type Resolved<T> = Result<T, Stop<ResolveFault>>;
 
 // The program on the heap, where it ends in a function of its own.
-fn box_program(alloc: Global, program: Program) -> Result<Boxed<Program>, NoMemory>
+fn box_program(alloc: Global, program: Program) -> Made<Boxed<Program>>
     ensures { IfOk result (λ made. made ≡ program) }
 {
     Boxed::new(alloc, program)

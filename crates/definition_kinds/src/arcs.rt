@@ -8,9 +8,8 @@ ghost use Rattle.dl_limits.specs.declared.TheConstants.{MOST_BYTES};
 ghost use Rattle.name_tables.specs.Ends.{rows};
 ghost use Rattle.script_names.specs.Kinds.{ends_at};
 
-use csp_base::NoMemory;
 use digraph::Rows;
-use script_names::End;
+use script_names::{End, Made};
 use std::alloc::Global;
 
 // Whether an end is the one looked for; no process and no use is.
@@ -41,7 +40,7 @@ fn source_of(count: u32, target: End, end: End) -> Option<u32>
 }
 
 // Adds the arc to the definition `d` that one of its ends makes.
-fn add_end(rows: &mut Rows, count: u32, target: End, d: u32, end: End) -> Result<(), NoMemory>
+fn add_end(rows: &mut Rows, count: u32, target: End, d: u32, end: End) -> Made<()>
     requires count { length rows.old ≡ count + 1 }
     requires in_range { d < count }
     ensures len { length rows.new ≡ length rows.old }
@@ -58,7 +57,7 @@ fn add_end(rows: &mut Rows, count: u32, target: End, d: u32, end: End) -> Result
 }
 
 // Adds the arcs to the definition `d` that its ends make.
-fn add_ends(rows: &mut Rows, count: u32, target: End, d: u32, ends: &[End]) -> Result<(), NoMemory>
+fn add_ends(rows: &mut Rows, count: u32, target: End, d: u32, ends: &[End]) -> Made<()>
     requires count { length rows.old ≡ count + 1 }
     requires in_range { d < count }
     ensures len { length rows.new ≡ length rows.old }
@@ -72,7 +71,7 @@ fn add_ends(rows: &mut Rows, count: u32, target: End, d: u32, ends: &[End]) -> R
 }
 
 // So many vertices and one more, without an arc.
-fn no_arcs(alloc: Global, count: u32) -> Result<Rows, NoMemory>
+fn no_arcs(alloc: Global, count: u32) -> Made<Rows>
     requires { count ≤ MOST_BYTES }
     ensures { IfOk result (λ made. made ≡ replicate (count + 1) []) }
 {
@@ -80,12 +79,7 @@ fn no_arcs(alloc: Global, count: u32) -> Result<Rows, NoMemory>
 }
 
 /// The digraph of these definitions. The vertex `count`, which is their number, stands for the end that is looked for.
-pub fn turned_round(
-    alloc: Global,
-    all: &[Vec<End>],
-    count: u32,
-    target: End,
-) -> Result<Rows, NoMemory>
+pub fn turn_round(alloc: Global, all: &[Vec<End>], count: u32, target: End) -> Made<Rows>
     requires count { length all.now ≡ count }
     requires few { count ≤ MOST_BYTES }
     ensures len { IfOk result (λ made. length made ≡ count + 1) }

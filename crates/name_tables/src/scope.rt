@@ -5,7 +5,8 @@ ghost use Rattle.name_tables.specs.Prelude.{at_name, shown, KeepHidden, HasNumbe
 ghost use Rattle.script_names.specs.Typed.{number_of};
 
 use crate::numbers::{forget, number_at, rewrite, spelling_of, write};
-use csp_base::{Name, NoMemory};
+use csp_base::Name;
+use script_names::Made;
 use std::alloc::Global;
 use std::collections::BTreeMap;
 use std::marker::Model;
@@ -85,7 +86,7 @@ impl Scope {
     }
 
     /// Binds one more name.
-    pub fn bind(&mut self, name: &Name, number: u32) -> Result<(), NoMemory>
+    pub fn bind(&mut self, name: &Name, number: u32) -> Made<()>
         ensures { OnOk result (self.new ≡ self.old ++ (name.now, number) ∷ []) }
     {
         let spelling = spelling_of(self.alloc, name)?;
@@ -109,7 +110,7 @@ fn bind_in(
     name: Name,
     spelling: Vec<u8>,
     number: u32,
-) -> Result<(), NoMemory>
+) -> Made<()>
     requires kept { KeepHidden [] bindings.old.items }
     requires numbers { HasNumbers last.old (map shown bindings.old.items) }
     requires same { spelling.items ≡ name }

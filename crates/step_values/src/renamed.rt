@@ -2,7 +2,8 @@
 
 ghost use Rattle.std.specs.Prelude.{◌≡◌, ◌+◌, ◌<◌, ◌≤◌, ◌^◌, ◌++◌, [], drop, take, length, map, IfOk, Ok};
 ghost use Rattle.csp_atoms.specs.declared.value.Value.TheVariants as value;
-ghost use Rattle.csp_program.specs.Prelude.{IsInOrder, and_then, value_of, out-EventPart};
+ghost use Rattle.csp_program.specs.Prelude.{IsInOrder, and_then, value_of};
+ghost use Rattle.csp_program.specs.declared.expressions.EventPart.{out-EventPart};
 ghost use Rattle.csp_program.specs.declared.expressions.Expr.TheVariants as expression;
 ghost use Rattle.csp_values.specs.Worth.{front_worth};
 ghost use Rattle.process_steps.specs.Needed.{each_joined};

@@ -48,8 +48,8 @@ decreases-parts l = 6 * goal.size-parts l + 1
 abbrev pub decreases-pairs : goal.decreases-pairs
 decreases-pairs l = 6 * goal.size-pairs l + 1
 
-abbrev pub decreases-both : goal.decreases-both
-decreases-both l = 6 * max (the_size l.a.now) (the_size l.b.now) + 2
+abbrev pub decreases-two_trees : goal.decreases-two_trees
+decreases-two_trees l = 6 * max (the_size l.a.now) (the_size l.b.now) + 2
 
 abbrev pub decreases-comprehension : goal.decreases-comprehension
 decreases-comprehension l = 6 * max (weighed.most (λ x. the_size x) l.items.now) (weighed.most (λ x. generator.the_size x) l.gens.now) + 3

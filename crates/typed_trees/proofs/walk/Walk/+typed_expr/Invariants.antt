@@ -36,8 +36,8 @@ invariant-fronts-loop-part l = record {
 abbrev pub decreases-expression : goal.decreases-expression
 decreases-expression l = 4 * the_size l.tree.now
 
-abbrev pub decreases-boxed_expr : goal.decreases-boxed_expr
-decreases-boxed_expr l = 4 * the_size l.tree.now + 1
+abbrev pub decreases-box_expr : goal.decreases-box_expr
+decreases-box_expr l = 4 * the_size l.tree.now + 1
 
 abbrev pub decreases-generator : goal.decreases-generator
 decreases-generator l = 4 * goal.size-generator l

@@ -6,8 +6,8 @@ use Rattle.typed_trees.proofs.walk.Walk.+typed_net.Given as goal
 abbrev pub decreases-network : goal.decreases-network
 decreases-network l = 3 * the_size l.tree.now
 
-abbrev pub decreases-boxed_net : goal.decreases-boxed_net
-decreases-boxed_net l = 3 * the_size l.tree.now + 1
+abbrev pub decreases-box_net : goal.decreases-box_net
+decreases-box_net l = 3 * the_size l.tree.now + 1
 
 abbrev pub decreases-net_choice : goal.decreases-net_choice
 decreases-net_choice l = 3 * max (the_size l.p.now) (the_size l.q.now) + 2

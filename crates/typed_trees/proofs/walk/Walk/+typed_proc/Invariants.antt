@@ -16,8 +16,8 @@ invariant-processes-loop-tree l = record {
 abbrev pub decreases-process : goal.decreases-process
 decreases-process l = 4 * the_size l.tree.now
 
-abbrev pub decreases-boxed_proc : goal.decreases-boxed_proc
-decreases-boxed_proc l = 4 * the_size l.tree.now + 1
+abbrev pub decreases-box_proc : goal.decreases-box_proc
+decreases-box_proc l = 4 * the_size l.tree.now + 1
 
 abbrev pub decreases-processes : goal.decreases-processes
 decreases-processes l = 4 * goal.size-processes l + 1

@@ -1,6 +1,6 @@
 use Rattle.definition_kinds.proofs.Prelude.{◌≡◌, ℕ, ◌+◌, ◌&&◌, nat_lt, length, slice_get, has_arc, ends_at, some_from}
 use Rattle.name_tables.specs.Ends.{rows as ends_of}
-use Rattle.definition_kinds.proofs.arcs.turned_round.Given as goal
+use Rattle.definition_kinds.proofs.arcs.turn_round.Given as goal
 
 abbrev pub invariant-loop-ends : goal.invariant-loop-ends
 invariant-loop-ends l = record {

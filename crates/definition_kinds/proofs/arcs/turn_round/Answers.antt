@@ -1,6 +1,6 @@
 use Rattle.definition_kinds.proofs.Prelude.{◌≡◌, ◌+◌, List, ◌&&◌, ◌||◌, nat_eq, get_or, sym, ap, ◌∙◌, arith, End, has_arc, some_from}
 use Rattle.definition_kinds.proofs.ArcLaws.{arcs_step}
-use Rattle.definition_kinds.proofs.arcs.turned_round.Goals as goal
+use Rattle.definition_kinds.proofs.arcs.turn_round.Goals as goal
 
 pub loop-ends-preserved : goal.loop-ends-preserved
 loop-ends-preserved c =

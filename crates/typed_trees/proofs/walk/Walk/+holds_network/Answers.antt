@@ -1,6 +1,6 @@
 use Rattle.std.proofs.Common.{sym}
 use Rattle.typed_trees.proofs.OtherForms.{networked-other}
-use Rattle.typed_trees.proofs.walk.Walk.+networked.Goals as goal
+use Rattle.typed_trees.proofs.walk.Walk.+holds_network.Goals as goal
 
 pub returns-in_default : goal.returns-in_default
 returns-in_default t c = sym (networked-other c.args.self.now c.args.tree.now (record {

@@ -1,6 +1,6 @@
 use Rattle.definition_kinds.proofs.Prelude.{◌≡◌, length, arith, rows}
 use Rattle.definition_kinds.proofs.FoundLaws.{leading_from, rows-length}
-use Rattle.definition_kinds.proofs.leading.leading.Goals as goal
+use Rattle.definition_kinds.proofs.leading.mark_leading.Goals as goal
 
 pub returns : goal.returns
 returns c =
