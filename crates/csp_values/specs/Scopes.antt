@@ -1,6 +1,8 @@
 -- What the contracts of evaluation say of a scope. (For private contracts: no public one cites this.)
 use Rattle.std.specs.Prelude.{ℕ, List}
-use Rattle.csp_program.specs.Prelude.{Env, Gathered, Outcome, Gen, Content}
+use Rattle.csp_program.specs.Prelude.{Env, Gathered, Outcome}
+use Rattle.csp_program.specs.declared.expressions.Gen.{Gen}
+use Rattle.csp_program.specs.declared.programs.Content.{Content}
 use Rattle.value_operators.specs.Env.{env_in}
 use Rattle.csp_values.specs.Worth.{walk_worth}
 use Rattle.csp_values.specs.declared.evaluation.Scope.{Scope}
