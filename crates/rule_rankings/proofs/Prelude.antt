@@ -11,7 +11,7 @@ pub use Rattle.dl_limits.specs.declared.TheConstants.{MOST_COMPONENTS}
 pub use Rattle.rule_rankings.specs.ClientServerRanks.{IsRank, serving_rank}
 pub use Rattle.rule_rankings.specs.CyclicRanks.{AreTops, IsGreatest, IsLap}
 pub use Rattle.rule_rankings.specs.ResourceRanks.{HaveTop, IsLeastAcquired, number_by}
-pub use Rattle.rule_rankings.specs.Rows.{AreAllRanked, AreEach, AreLaps, AreRanked, AreRanks, HasLap, NoLap}
+pub use Rattle.rule_rankings.specs.Rows.{AreAllRanked, AreEach, AreLaps, AreRanked, AreRanks, HasLap, IsRanked, NoLap}
 pub use Rattle.shape_links.proofs.Links.{ends_complete, ends_sound, has_place, on_one, one_owner, place_in, some_at, vocabulary_owner}
 pub use Rattle.shape_links.specs.Links.{ends_of}
 pub use Rattle.std.proofs.Common.{Bool, IsTrue, List, [], ap, arith, cond, eq-eqb, false, get_or, inl, inr, length, lt-ltb, map, max, nat_eq, nat_le, nat_lt, ne_eqb, of_z, pos, refl, subst, suc, sym, to_z, true, w64, zero, ℕ, ℤ, ◌&&◌, ◌*◌, ◌++◌, ◌+◌, ◌-◌, ◌<◌, ◌^◌, ◌||◌, ◌∙◌, ◌∷◌, ◌≡◌, ◌≤◌, ◌⊎◌}
