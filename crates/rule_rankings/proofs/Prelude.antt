@@ -21,8 +21,7 @@ pub use Rattle.net_sound.proofs.Within.{part_form}
 pub use Rattle.rule_rankings.specs.ClientServerRanks.{IsRank, serving_rank}
 pub use Rattle.rule_rankings.specs.CyclicRanks.{AreTops, IsGreatest, IsLap}
 pub use Rattle.rule_rankings.specs.ResourceRanks.{HaveTop, IsLeastAcquired, number_by}
-pub use Rattle.rule_rankings.specs.Rows.{AreAllRanked, AreEach, AreLaps, AreRanked, AreRanks, HasLap, NoLap}
-pub use Rattle.shape_links.proofs.Acquiring.{acquire_only}
+pub use Rattle.rule_rankings.specs.Rows.{AreAllRanked, AreEach, AreLaps, AreRanked, AreRanks, HasLap, IsRanked, NoLap}
 pub use Rattle.shape_links.proofs.Links.{ends_complete, ends_sound, has_place, on_one, one_owner, place_in, some_at, vocabulary_owner}
 pub use Rattle.shape_links.specs.Acquired.{is_acquired_by}
 pub use Rattle.shape_links.specs.Links.{ends_of}
