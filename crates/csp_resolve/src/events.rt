@@ -14,7 +14,7 @@ ghost use Rattle.csp_atoms.specs.declared.atom.Atom.{Atom};
 use crate::resolution::Resolved;
 use containers::Items;
 use csp_atoms::AtomSet;
-use csp_base::{NoMemory, Stop};
+use csp_base::Stop;
 use csp_program::{Content, Expr};
 use csp_text::Decl;
 use dl_limits::MOST_EVENTS;
