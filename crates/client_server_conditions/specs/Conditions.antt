@@ -2,7 +2,8 @@
 use Rattle.std.specs.Prelude.{◌≡◌, ◌<◌, ℕ, List, Bool, true, not, ◌&&◌, nat_eq, IsTrue, length}
 use Rattle.csp_base.specs.Members.{has}
 use Rattle.csp_tables.specs.Prelude.{part_at, AreApart, Node, node_at, end_of, is_end, link_at, RunsTo, role_at}
-use Rattle.design_rules.specs.Prelude.{is_open, AllKeep, Condition}
+use Rattle.design_rules.specs.Prelude.{is_open, AllKeep}
+use Rattle.design_rules.specs.declared.condition.Condition.{Condition}
 use Rattle.design_rules.specs.ClientServer.{TakesTurns, ServesAll, TakesAnswers}
 use Rattle.client_server_conditions.specs.Network.{Network, Asks, Grants}
 use Rattle.client_server_conditions.specs.Nodes.{AreInTurn, EachShared, HasAllOrNone}

@@ -1,9 +1,11 @@
 -- Whether two networks speak of the same events, and whether their components have the same alphabets.
 use Rattle.std.specs.Prelude.{◌≡◌, ◌<◌, ℕ, List, Some, map, slice_get}
-use Rattle.csp_program.specs.Prelude.{Proc, Content}
+use Rattle.csp_program.specs.declared.processes.Proc.{Proc}
+use Rattle.csp_program.specs.declared.programs.Content.{Content}
 use Rattle.csp_tables.specs.Network.{Component}
 use Rattle.network_layout.specs.Triple.{alphabets}
-use Rattle.report.specs.Prelude.{channel_name, info_text, Refusal}
+use Rattle.report.specs.Prelude.{channel_name, info_text}
+use Rattle.report.specs.declared.answer.Refusal.{Refusal}
 use Rattle.report.specs.declared.answer.Refusal.TheVariants as refusal
 
 -- the printed texts of a program's events, in the order of their numbers

@@ -4,7 +4,9 @@ use Rattle.std.specs.Prelude.{◌≡◌, ℕ, length}
 use Rattle.csp_tables.specs.Network.{leaves}
 use Rattle.network_layout.specs.Triple.{alphabets}
 use Rattle.network_stages.specs.Prelude.{HasSilentBound, IsLive, Network, HasNoParts, HasNoTables, HasParts, HasTables}
-use Rattle.report.specs.Prelude.{RefusedOr, RefusedUnless, UnprovedUnless, Side, Verdict}
+use Rattle.report.specs.Prelude.{RefusedOr, RefusedUnless, UnprovedUnless}
+use Rattle.report.specs.declared.answer.Side.{Side}
+use Rattle.report.specs.declared.answer.Verdict.{Verdict}
 use Rattle.report.specs.declared.answer.Done.TheVariants as done
 use Rattle.report.specs.declared.answer.Side.TheVariants as side
 use Rattle.report.specs.declared.answer.Verdict.TheVariants as verdict

@@ -3,8 +3,10 @@
 use Rattle.std.specs.Prelude.{◌≡◌, ◌↔◌, List}
 use Rattle.csp_tables.specs.Network.{leaves}
 use Rattle.network_layout.specs.Triple.{alphabets}
-use Rattle.network_stages.specs.Prelude.{Network, HaveFewSets, HasTables, ComponentTable}
-use Rattle.report.specs.Prelude.{verdict_status, Verdict}
+use Rattle.network_stages.specs.Prelude.{Network, HaveFewSets, HasTables}
+use Rattle.network_stages.specs.declared.component_tables.ComponentTable.{ComponentTable}
+use Rattle.report.specs.Prelude.{verdict_status}
+use Rattle.report.specs.declared.answer.Verdict.{Verdict}
 use Rattle.comparison.specs.Agreement.{printed_events}
 use Rattle.comparison.specs.Compared.{IsCompared}
 use Rattle.comparison.specs.Conforming.{ComponentsConform}

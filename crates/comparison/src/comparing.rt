@@ -1,7 +1,8 @@
 //! The verdict on a network and its specification.
 
 ghost use Rattle.std.specs.Prelude.{◌≡◌, List, IfErr, IfOk, OnOk};
-ghost use Rattle.network_stages.specs.Prelude.{HasSilentBound, HasParts, HasTables, ComponentTable};
+ghost use Rattle.network_stages.specs.Prelude.{HasSilentBound, HasParts, HasTables};
+ghost use Rattle.network_stages.specs.declared.component_tables.ComponentTable.{ComponentTable};
 ghost use Rattle.report.specs.Stops.{Answers, HaltsWith};
 ghost use Rattle.comparison.specs.Compared.{IsCompared, PartsOr};
 

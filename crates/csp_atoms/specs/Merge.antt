@@ -3,7 +3,8 @@ use Rattle.std.specs.Prelude.{Bool, false, if◌then◌else◌, Option, Some, No
 use Rattle.csp_atoms.specs.Order.{less, same}
 use Rattle.csp_atoms.specs.Sets.{union_of, inter_of, diff_of}
 use Rattle.csp_atoms.specs.declared.atom.Atom.{Atom}
-use Rattle.csp_base.specs.Prelude.{SetOp, Union, Inter, Diff}
+use Rattle.csp_base.specs.declared.operators.SetOp.{SetOp}
+use Rattle.csp_base.specs.declared.operators.SetOp.TheVariants.{Union, Inter, Diff}
 
 -- the result of an operation
 abbrev pub result_of : SetOp → List Atom → List Atom → List Atom

@@ -3,7 +3,17 @@
 --
 -- Two limits hold in each declaration: at no place are more than MOST_BRACKETS brackets (400) open, and no tree is deeper than MOST_TREE_DEPTH (200).
 use Rattle.std.specs.Prelude.{ℕ, ◌-◌, ◌≤◌, List, [], ◌∷◌, codes}
-use Rattle.csp_text.specs.Prelude.{tree_depth, Decl, Script, ResourceNames, RolesNames, Symbol, Colon, Dot, Defines, Comma, Bar, OpenParen, CloseParen, OpenBracket, CloseBracket, Token, Name, Word, Assert, Channel, Datatype, Nametype, Tree}
+use Rattle.csp_text.specs.Prelude.{tree_depth}
+use Rattle.csp_text.specs.declared.script.Decl.{Decl}
+use Rattle.csp_text.specs.declared.script.Script.{Script}
+use Rattle.csp_text.specs.declared.token.ResourceNames.{ResourceNames}
+use Rattle.csp_text.specs.declared.token.RolesNames.{RolesNames}
+use Rattle.csp_text.specs.declared.token.Symbol.{Symbol}
+use Rattle.csp_text.specs.declared.token.Symbol.TheVariants.{Colon, Dot, Defines, Comma, Bar, OpenParen, CloseParen, OpenBracket, CloseBracket}
+use Rattle.csp_text.specs.declared.token.Token.{Token}
+use Rattle.csp_text.specs.declared.token.Token.TheVariants.{Name, Word}
+use Rattle.csp_text.specs.declared.token.Word.TheVariants.{Assert, Channel, Datatype, Nametype}
+use Rattle.csp_text.specs.declared.tree.Tree.{Tree}
 use Rattle.csp_text.specs.declared.token.Token.TheVariants as token
 use Rattle.csp_text.specs.declared.tree.Tree.TheVariants as tree
 use Rattle.csp_text.specs.declared.script.Decl.TheVariants as decl

@@ -1,7 +1,9 @@
 -- Texts worked out by hand, each with its tree.
 use Rattle.std.specs.Prelude.{ℕ, suc, List, [], ◌∷◌}
-use Rattle.csp_text.specs.Prelude.{Arrow, ExternalChoice, Bang, Colon, At, Plus, Minus, Percent, OpenParen, CloseParen, OpenBrace, CloseBrace, Backslash, Semicolon, Token, Name, Num, Word, Tree}
-use Rattle.csp_text.specs.declared.token.Token.TheVariants.{Symbol}
+use Rattle.csp_text.specs.declared.token.Symbol.TheVariants.{Arrow, ExternalChoice, Bang, Colon, At, Plus, Minus, Percent, OpenParen, CloseParen, OpenBrace, CloseBrace, Backslash, Semicolon}
+use Rattle.csp_text.specs.declared.token.Token.{Token}
+use Rattle.csp_text.specs.declared.token.Token.TheVariants.{Name, Num, Word, Symbol}
+use Rattle.csp_text.specs.declared.tree.Tree.{Tree}
 use Rattle.csp_text.specs.declared.token.Word.TheVariants as word
 use Rattle.csp_text.specs.declared.tree.Tree.TheVariants as tree
 use Rattle.csp_base.specs.declared.operators.BinOp.TheVariants.{Add, Sub, Rem}

@@ -5,13 +5,19 @@
 -- A closed form may have something to its right. An open one (`if`, and the replicated forms) reaches as far right as it can, so it stands only at
 -- the right end, and what ends with one is open too. Parentheses leave no trace in the tree.
 use Rattle.std.specs.Prelude.{ℕ, suc, Bool, true, false, Some, None, List, [], ◌∷◌}
-use Rattle.csp_text.specs.Prelude.{set_op_word, Arrow, ExternalChoice, InternalChoice, Parallel, OpenRename, CloseRename, OpenProduct, CloseProduct, LeftArrow, DotDot, Dot, Bang, Question, Colon, At, Minus, OpenParen, CloseParen, OpenBrace, CloseBrace, OpenBracket, CloseBracket, Comma, Ampersand, Bar, Backslash, Semicolon, Token, Name, Num, Word, EventTree, FieldTree, GenTree, PartTree, Tree}
-use Rattle.csp_text.specs.declared.token.Token.TheVariants.{Symbol}
-use Rattle.csp_text.specs.declared.tree.EventTree.{roll-EventTree}
-use Rattle.csp_text.specs.declared.tree.PartTree.{roll-PartTree}
+use Rattle.csp_text.specs.Prelude.{set_op_word}
+use Rattle.csp_text.specs.declared.token.Symbol.TheVariants.{Arrow, ExternalChoice, InternalChoice, Parallel, OpenRename, CloseRename, OpenProduct, CloseProduct, LeftArrow, DotDot, Dot, Bang, Question, Colon, At, Minus, OpenParen, CloseParen, OpenBrace, CloseBrace, OpenBracket, CloseBracket, Comma, Ampersand, Bar, Backslash, Semicolon}
+use Rattle.csp_text.specs.declared.token.Token.{Token}
+use Rattle.csp_text.specs.declared.token.Token.TheVariants.{Name, Num, Word, Symbol}
+use Rattle.csp_text.specs.declared.tree.EventTree.{EventTree, roll-EventTree}
+use Rattle.csp_text.specs.declared.tree.FieldTree.{FieldTree}
+use Rattle.csp_text.specs.declared.tree.GenTree.{GenTree}
+use Rattle.csp_text.specs.declared.tree.PartTree.{PartTree, roll-PartTree}
+use Rattle.csp_text.specs.declared.tree.Tree.{Tree}
 use Rattle.csp_text.specs.declared.token.Word.TheVariants as word
 use Rattle.csp_text.specs.declared.tree.Tree.TheVariants as tree
-use Rattle.csp_base.specs.Prelude.{BinOp, SetOp}
+use Rattle.csp_base.specs.declared.operators.BinOp.{BinOp}
+use Rattle.csp_base.specs.declared.operators.SetOp.{SetOp}
 use Rattle.csp_text.specs.declared.tree.FieldTree.TheVariants as field
 use Rattle.csp_text.specs.declared.tree.GenTree.TheVariants as generator
 use Rattle.csp_grammar.specs.Precedence.{Level, IsNext, IsLeftOperator, IsComparison}

@@ -1,7 +1,8 @@
 -- The words of which a reader of the grammar is made: it reads a tree from the front of a list of tokens and answers it with what is left, or nothing.
 -- It never goes back: it decides by the next token.
 use Rattle.std.specs.Prelude.{ℕ, Bool, nat_eq, Option, Some, None, List, [], ◌∷◌}
-use Rattle.csp_text.specs.Prelude.{Token, Tree}
+use Rattle.csp_text.specs.declared.token.Token.{Token}
+use Rattle.csp_text.specs.declared.tree.Tree.{Tree}
 use Rattle.csp_text.specs.declared.tree.Tree.TheVariants as tree
 use Rattle.csp_grammar.specs.Tokens.{begins, behind_name}
 

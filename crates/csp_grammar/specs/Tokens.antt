@@ -1,6 +1,8 @@
 -- How the reader looks at tokens, and how tightly a token binds to what stands before it.
 use Rattle.std.specs.Prelude.{ℕ, if◌then◌else◌, Option, Some, None, List, [], ◌∷◌}
-use Rattle.csp_text.specs.Prelude.{same_symbol, same_word, Symbol, Token}
+use Rattle.csp_text.specs.Prelude.{same_symbol, same_word}
+use Rattle.csp_text.specs.declared.token.Symbol.{Symbol}
+use Rattle.csp_text.specs.declared.token.Token.{Token}
 use Rattle.csp_text.specs.declared.token.Word.{Word}
 use Rattle.csp_text.specs.declared.token.Token.TheVariants as token
 use Rattle.csp_text.specs.declared.token.Word.TheVariants as word

@@ -17,7 +17,9 @@ unfoldable pub use Rattle.csp_lexer.specs.Tokens.{number_token}
 pub use Rattle.csp_lexer.specs.Words.{is_name}
 unfoldable pub use Rattle.csp_lexer.specs.Words.{word_rest_len}
 pub use Rattle.csp_text.proofs.WrittenAlike.{symbol_place, symbol_stands}
-pub use Rattle.csp_text.specs.Prelude.{Num, Symbol, symbol_text, symbols, word_text}
+pub use Rattle.csp_text.specs.Prelude.{symbol_text, symbols, word_text}
+pub use Rattle.csp_text.specs.declared.token.Token.TheVariants.{Num}
+pub use Rattle.csp_text.specs.declared.token.Symbol.{Symbol}
 pub use Rattle.csp_text.specs.declared.token.Token.{Token}
 pub use Rattle.std.proofs.Common.{Bool, Bor, List, [], add-one, ap, append-nil, append_assoc, arith, codes, cond, drop, drop-cons, eqb, false, get_or, length, refl, rules, sub-one, subst, suc, sym, take, tests, true, true-eqb, zero, ℕ, ◌&&◌, ◌*◌, ◌++◌, ◌+◌, ◌-◌, ◌<◌, ◌∙◌, ◌∷◌, ◌≡◌, ◌≤◌}
 pub use Rattle.std.proofs.lemmas.List.{take_rest}

@@ -3,8 +3,10 @@
 use Rattle.std.specs.Prelude.{ℕ, zero, suc, ◌+◌, Bool, true, false, ◌&&◌, ◌||◌, nat_eq, if◌then◌else◌, List, [], ◌∷◌, length, take, drop, codes, Option, Some, None, Result, Ok, Err}
 use Rattle.csp_base.specs.Standard.{starts_with, option_map_or, bytes_eq}
 use Rattle.csp_base.specs.declared.place.Place.{Place}
-use Rattle.csp_text.specs.Prelude.{Colon, OpenParen, CloseParen, OpenBracket, CloseBracket, Token, Name, Word, Assert}
-use Rattle.csp_text.specs.declared.token.Token.TheVariants.{Symbol}
+use Rattle.csp_text.specs.declared.token.Symbol.TheVariants.{Colon, OpenParen, CloseParen, OpenBracket, CloseBracket}
+use Rattle.csp_text.specs.declared.token.Token.{Token}
+use Rattle.csp_text.specs.declared.token.Token.TheVariants.{Name, Word, Symbol}
+use Rattle.csp_text.specs.declared.token.Word.TheVariants.{Assert}
 use Rattle.csp_lexer.specs.Annotations.{is_space}
 use Rattle.csp_lexer.specs.Cutting.{cut}
 use Rattle.csp_lexer.specs.Pieces.{Piece, nothing, one_at}

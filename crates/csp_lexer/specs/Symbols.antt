@@ -1,7 +1,9 @@
 -- Symbols of a text: the longest one that fits.
 use Rattle.std.specs.Prelude.{◌≡◌, ◌≤◌, ℕ, Bool, nat_eq, if◌then◌else◌, List, ◌++◌, length, codes, find, Option, Some, None}
 use Rattle.std.specs.List.{starts_with}
-use Rattle.csp_text.specs.Prelude.{symbol_text, symbols, Symbol, OpenBracket, CloseBracket}
+use Rattle.csp_text.specs.Prelude.{symbol_text, symbols}
+use Rattle.csp_text.specs.declared.token.Symbol.{Symbol}
+use Rattle.csp_text.specs.declared.token.Symbol.TheVariants.{OpenBracket, CloseBracket}
 
 -- the longest symbol that the text begins with
 unfoldable pub longest_symbol : List ℕ → Option Symbol

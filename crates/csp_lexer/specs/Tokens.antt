@@ -2,7 +2,9 @@
 use Rattle.std.specs.Prelude.{ℕ, ◌+◌, ◌-◌, ◌*◌, Bool, ◌&&◌, nat_le, nat_lt, if◌then◌else◌, List, length, take, fold, Option, Some, None}
 use Rattle.std.specs.List.{prefix_len}
 use Rattle.dl_limits.specs.declared.TheConstants.{GREATEST_NUMBER}
-use Rattle.csp_text.specs.Prelude.{symbol_text, Symbol, Token}
+use Rattle.csp_text.specs.Prelude.{symbol_text}
+use Rattle.csp_text.specs.declared.token.Symbol.{Symbol}
+use Rattle.csp_text.specs.declared.token.Token.{Token}
 use Rattle.csp_text.specs.declared.token.Token.TheVariants as token
 use Rattle.csp_lexer.specs.Words.{word_len, word_token}
 use Rattle.csp_lexer.specs.Symbols.{symbol_at}

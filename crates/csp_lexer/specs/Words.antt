@@ -1,7 +1,8 @@
 -- Words of a text: names and reserved words.
 use Rattle.std.specs.Prelude.{ℕ, ◌+◌, Bool, not, ◌&&◌, ◌||◌, nat_le, nat_lt, nat_eq, if◌then◌else◌, List, [], ◌∷◌, length, drop, codes, find, Option, Some, None, is_none}
 use Rattle.csp_base.specs.Standard.{list_any, prefix_len, bytes_eq}
-use Rattle.csp_text.specs.Prelude.{word_text, words, Token}
+use Rattle.csp_text.specs.Prelude.{word_text, words}
+use Rattle.csp_text.specs.declared.token.Token.{Token}
 use Rattle.csp_text.specs.declared.token.Word.{Word}
 use Rattle.csp_text.specs.declared.token.Token.TheVariants as token
 

@@ -81,7 +81,6 @@ fn pass_symbol<'a>(symbol: Symbol, at: Place, text: &'a [u8], found: &mut Tokens
 // Passes the token at the front of the text, on the line of an assertion or elsewhere.
 #[tactic(auto, using(std::proofs::lemmas::List::take_rest, crate::proofs::PieceLemmas::one_with_len), unfolding(crate::specs::Tokens::token_at, crate::specs::Tokens::digits_len))]
 pub(crate) fn pass_token<'a>(
-    alloc: Global,
     on_line: bool,
     text: &'a [u8],
     at: Place,
@@ -93,7 +92,7 @@ pub(crate) fn pass_token<'a>(
 {
     let word = word_len(text);
     if 0 < word {
-        let token = word_token(alloc, &text[..word])?;
+        let token = word_token(found.alloc(), &text[..word])?;
         return pass_one(token, at, &text[word..], found);
     }
     let digits = bytes_of(Class::Digit, text);

@@ -12,7 +12,11 @@ pub use Rattle.csp_lexer.specs.Prelude.{Piece, PlacedTokens, added, asserted, be
 unfoldable pub use Rattle.csp_lexer.specs.Prelude.{after_comments, assertion, cut, front, line_front, line_piece, marked_piece, token_at}
 pub use Rattle.csp_parser.specs.Sizes.{SpelledScriptsAreSmall}
 pub use Rattle.csp_parser.specs.Spells.{EachTextSpellsOneScript}
-pub use Rattle.csp_text.specs.Prelude.{FieldTree, GenTree, PartTree, out-EventTree, out-roll-EventTree, out-roll-PartTree, tree_depth}
+pub use Rattle.csp_text.specs.Prelude.{tree_depth}
+pub use Rattle.csp_text.specs.declared.tree.FieldTree.{FieldTree}
+pub use Rattle.csp_text.specs.declared.tree.GenTree.{GenTree}
+pub use Rattle.csp_text.specs.declared.tree.PartTree.{PartTree}
+pub use Rattle.csp_text.specs.declared.tree.FieldTree.TheViews.{out-EventTree, out-roll-EventTree, out-roll-PartTree}
 pub use Rattle.csp_text.specs.declared.script.Decl.{Decl}
 pub use Rattle.csp_text.specs.declared.script.Script.{Script}
 pub use Rattle.csp_text.specs.declared.token.Symbol.{Symbol}

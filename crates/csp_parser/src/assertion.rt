@@ -12,15 +12,15 @@ use std::alloc::Global;
 use tree_parser::atom;
 use tree_reading::deep::DeepTree;
 use tree_reading::fault::{OrNoText, no_text};
-use tree_reading::look::{expect, named, skip};
+use tree_reading::look::{expect, first_name, skip};
 use tree_reading::read::{Read, Reading};
 
 // The name or the call that is asserted: an atom that begins with a name.
-fn asserted(alloc: Global, tokens: &[Token]) -> Reading<'_, DeepTree>
+fn process_name(alloc: Global, tokens: &[Token]) -> Reading<'_, DeepTree>
     ensures reads { Reads result part_read (8 * length tokens.now + 1) (λ L. read_asserted L tokens.now) }
     ensures shorter { IfOk result (λ r. length r.rest.now < length tokens.now) }
 {
-    match named(tokens) {
+    match first_name(tokens) {
         Some(_) => atom(alloc, WHOLE, tokens),
         None => Err(no_text(tokens)),
     }
@@ -46,7 +46,7 @@ fn expect_model(tokens: &[Token]) -> OrNoText<&[Token]>
     ensures same { Gives result (λ rest. rest.now) (name_that is_model tokens.now) }
     ensures shorter { IfOk result (λ rest. length rest.now < length tokens.now) }
 {
-    match named(tokens) {
+    match first_name(tokens) {
         Some((found, rest)) => {
             if is_model(found) {
                 Ok(rest)
@@ -79,7 +79,7 @@ fn expect_written<'t>(tokens: &'t [Token], bytes: &[u8]) -> OrNoText<&'t [Token]
     ensures same { Gives result (λ rest. rest.now) (name_that (λ x. bytes_eq x bytes.now) tokens.now) }
     ensures shorter { IfOk result (λ rest. length rest.now < length tokens.now) }
 {
-    match named(tokens) {
+    match first_name(tokens) {
         Some((found, rest)) => {
             if is_written(found, bytes) {
                 Ok(rest)
@@ -105,7 +105,7 @@ fn deadlock_free(tokens: &[Token]) -> OrNoText<&[Token]>
 
 // What follows the rest of an assertion, behind its process.
 #[tactic(auto, unfolding(tree_reading::specs::Asserted::ending))]
-fn ending(tokens: &[Token]) -> OrNoText<&[Token]>
+fn expect_end(tokens: &[Token]) -> OrNoText<&[Token]>
     ensures same { Gives result (λ rest. rest.now) (ending tokens.now) }
     ensures shorter { IfOk result (λ rest. length rest.now < length tokens.now) }
 {
@@ -120,10 +120,10 @@ pub(crate) fn assertion(alloc: Global, tokens: &[Token]) -> Reading<'_, Decl>
     ensures reads { Reads result part_read (8 * length tokens.now + 1) (λ L. read_assertion L tokens.now) }
     ensures shorter { IfOk result (λ r. length r.rest.now < length tokens.now) }
 {
-    let process = asserted(alloc, tokens)?;
-    let rest = ending(process.rest)?;
+    let process = process_name(alloc, tokens)?;
+    let rest = expect_end(process.rest)?;
     Ok(Read {
-        part: Decl::Assert(process.part.unboxed().into_inner()),
+        part: Decl::Assert(process.part.unbox().into_inner()),
         rest,
     })
 }

@@ -1,7 +1,8 @@
 -- Sets of atoms that grow while an expression is evaluated: at most 16,384 elements, of one kind.
 use Rattle.std.specs.Prelude.{ℕ, zero, suc, ◌+◌, ℤ, pos, ◌+ℤ◌, nat_le, if◌then◌else◌, Ok, Err, List, [], ◌∷◌, length}
 use Rattle.dl_limits.specs.declared.TheConstants.{MOST_ELEMENTS}
-use Rattle.csp_atoms.specs.Prelude.{fits, with_atom, Atom}
+use Rattle.csp_atoms.specs.Prelude.{fits, with_atom}
+use Rattle.csp_atoms.specs.declared.atom.Atom.{Atom}
 use Rattle.csp_atoms.specs.declared.atom.Atom.TheVariants as atom
 use Rattle.csp_program.specs.Outcome.{Outcome, and_then}
 use Rattle.csp_program.specs.declared.kinds.ValueKind.TheVariants.{Kind, SetLimit}

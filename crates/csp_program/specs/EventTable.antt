@@ -1,7 +1,8 @@
 -- The event table of a list of channels: the channels in their order, and for each channel the values of its fields in rising order, the first
 -- field slowest. A channel that has no field sets yet has no events.
 use Rattle.std.specs.Prelude.{ℕ, ◌+◌, Bool, true, false, ◌&&◌, nat_eq, if◌then◌else◌, Option, Some, None, List, [], ◌∷◌, ◌++◌, map}
-use Rattle.csp_atoms.specs.Prelude.{same, Atom}
+use Rattle.csp_atoms.specs.Prelude.{same}
+use Rattle.csp_atoms.specs.declared.atom.Atom.{Atom}
 use Rattle.csp_program.specs.Lists.{joined}
 use Rattle.csp_program.specs.declared.programs.Channel.{Channel}
 use Rattle.csp_program.specs.declared.programs.EventInfo.{EventInfo}

@@ -17,7 +17,8 @@ use Rattle.csp_program.specs.contracts.expressions.GenPartialEq.TheImpl as gens
 use Rattle.csp_program.specs.contracts.expressions.GenPartialEq.TheImpl.Laws as gen_laws
 use Rattle.csp_program.specs.contracts.expressions.EventPartPartialEq.TheImpl as parts
 use Rattle.csp_program.specs.contracts.expressions.EventPartPartialEq.TheImpl.Laws as part_laws
-use Rattle.csp_base.specs.Prelude.{BinOp, SetOp}
+use Rattle.csp_base.specs.declared.operators.BinOp.{BinOp}
+use Rattle.csp_base.specs.declared.operators.SetOp.{SetOp}
 use Rattle.csp_base.specs.declared.operators.BinOp.TheVariants as binop
 use Rattle.csp_base.specs.declared.operators.SetOp.TheVariants as setop
 use Rattle.csp_program.specs.declared.expressions.Expr.{Expr}

@@ -3,7 +3,10 @@
 -- definition of data reaches itself; and the event table is that of the channels, each of which keeps the number of its first event, or empty while
 -- no channel has its field sets.
 use Rattle.std.specs.Prelude.{◌≡◌, ◌⊎◌, ℕ, ◌-◌, ◌<◌, ◌^◌, Bool, true, false, ◌&&◌, nat_eq, nat_lt, nat_le, is_none, is_some, IsTrue, Option, Some, None, List, [], ◌∷◌, map, length, slice_get}
-use Rattle.csp_atoms.specs.Prelude.{is_set, Atom, Value, One, Many}
+use Rattle.csp_atoms.specs.Prelude.{is_set}
+use Rattle.csp_atoms.specs.declared.atom.Atom.{Atom}
+use Rattle.csp_atoms.specs.declared.value.Value.{Value}
+use Rattle.csp_atoms.specs.declared.value.Value.TheVariants.{One, Many}
 use Rattle.csp_program.specs.Bound.{def_bound, exprs_bound, net_bound}
 use Rattle.csp_program.specs.EventNumber.{KeepFirsts}
 use Rattle.csp_program.specs.EventTable.{event_table}

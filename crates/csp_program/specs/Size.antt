@@ -1,7 +1,8 @@
 -- The size of an expression or a process: 1 for each process, expression, field, pair and generator in it, and 1 more for each element of a set
 -- that was put in. The front of an event and a head count nothing beside their expressions.
 use Rattle.std.specs.Prelude.{ℕ, ◌+◌, Some, None, map, length}
-use Rattle.csp_atoms.specs.Prelude.{Value, One, Many}
+use Rattle.csp_atoms.specs.declared.value.Value.{Value}
+use Rattle.csp_atoms.specs.declared.value.Value.TheVariants.{One, Many}
 use Rattle.csp_program.specs.declared.expressions.Expr.{Expr, fold-Expr}
 use Rattle.csp_program.specs.declared.expressions.Expr.TheFolds.{fold-Gen, fold-EventPart}
 use Rattle.csp_program.specs.declared.expressions.Expr.TheOpen.{Expr-F, Gen-F, EventPart-F}

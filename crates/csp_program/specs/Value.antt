@@ -4,8 +4,13 @@
 -- arguments; the number of uses that may still be entered goes down by one with each. Bound names have their values in an environment.
 use Rattle.std.specs.Prelude.{ℕ, zero, suc, ◌+◌, ◌-◌, ◌*◌, ◌/◌, ◌%◌, ℤ, pos, negsuc, neg_ℤ, ◌+ℤ◌, ◌-ℤ◌, ◌*ℤ◌, int_lt, int_le, Bool, true, false, not, ◌&&◌, ◌||◌, is_none, nat_eq, nat_lt, if◌then◌else◌, Option, Some, None, Ok, Err, List, [], ◌∷◌, map, length, slice_get}
 use Rattle.dl_limits.specs.declared.TheConstants.{GREATEST_NUMBER, MOST_BINDINGS}
-use Rattle.csp_base.specs.Prelude.{natural, BinOp, SetOp}
-use Rattle.csp_atoms.specs.Prelude.{same, same_kind, alike, diff_of, has_atom, inter_of, union_of, Atom, Value, One, Many}
+use Rattle.csp_base.specs.Prelude.{natural}
+use Rattle.csp_base.specs.declared.operators.BinOp.{BinOp}
+use Rattle.csp_base.specs.declared.operators.SetOp.{SetOp}
+use Rattle.csp_atoms.specs.Prelude.{same, same_kind, alike, diff_of, has_atom, inter_of, union_of}
+use Rattle.csp_atoms.specs.declared.atom.Atom.{Atom}
+use Rattle.csp_atoms.specs.declared.value.Value.{Value}
+use Rattle.csp_atoms.specs.declared.value.Value.TheVariants.{One, Many}
 use Rattle.csp_program.specs.Atoms.{added, all_added, limited, numbers_from}
 use Rattle.csp_program.specs.EventTable.{events_with}
 use Rattle.csp_program.specs.Outcome.{Outcome, and_then}

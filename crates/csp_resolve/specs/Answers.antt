@@ -1,12 +1,17 @@
 -- What the calls within this crate answer. Only its private contracts cite it.
 use Rattle.std.specs.Prelude.{◌≡◌, ℕ, Result, Ok, Err, List, [], ◌++◌, length, map, replicate}
 use Rattle.csp_atoms.specs.declared.atom.Atom.{Atom}
-use Rattle.csp_base.specs.Prelude.{Tells, Stop}
-use Rattle.csp_program.specs.Prelude.{Expr, Content}
-use Rattle.csp_text.specs.Prelude.{Decl, Tree}
+use Rattle.csp_base.specs.Prelude.{Tells}
+use Rattle.csp_base.specs.declared.stop.Stop.{Stop}
+use Rattle.csp_program.specs.declared.expressions.Expr.{Expr}
+use Rattle.csp_program.specs.declared.programs.Content.{Content}
+use Rattle.csp_text.specs.declared.script.Decl.{Decl}
+use Rattle.csp_text.specs.declared.tree.Tree.{Tree}
 use Rattle.event_tables.specs.declared.sets.SharedSets.{SharedSets}
 use Rattle.event_tables.specs.Spread.{spread}
-use Rattle.script_names.specs.Prelude.{Meanings, Answer, and_next, field_sets, told_in, exprs, reading, ResolveFault, Kind}
+use Rattle.script_names.specs.Prelude.{Meanings, Answer, and_next, field_sets, told_in, exprs, reading}
+use Rattle.script_names.specs.declared.fault.ResolveFault.{ResolveFault}
+use Rattle.script_names.specs.declared.kinds.Kind.{Kind}
 
 -- the value exactly where there is one, the fault exactly where there is that one; want of memory is free
 abbrev pub Answers : {A B : Type 0} → (A → B) → Result A (Stop ResolveFault) → Answer B → Type 0

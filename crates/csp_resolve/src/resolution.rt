@@ -2,7 +2,8 @@
 
 ghost use Rattle.std.specs.Prelude.{◌≡◌, ◌≤◌, IsTrue, Some, length, map, IfOk};
 ghost use Rattle.std.specs.Option.{option_copied};
-ghost use Rattle.csp_program.specs.Prelude.{IsInOrder, lacks_sets, all_true, Content};
+ghost use Rattle.csp_program.specs.Prelude.{IsInOrder, lacks_sets, all_true};
+ghost use Rattle.csp_program.specs.declared.programs.Content.{Content};
 ghost use Rattle.csp_resolve.specs.Answers.{Answers, types_read};
 ghost use Rattle.dl_limits.specs.declared.TheConstants.{MOST_BYTES};
 ghost use Rattle.name_tables.specs.Firsts.{SameFirsts};

@@ -12,7 +12,11 @@ pub use Rattle.csp_base.proofs.Standard.{and_from, any_passes_from_place, falseâ
 pub use Rattle.csp_base.specs.Lists.{EachOnce, StandsIn, greatest}
 pub use Rattle.csp_base.specs.Prelude.{has}
 pub use Rattle.csp_base.specs.Standard.{HashMap, IsEmpty, Updates, get, lookup}
-pub use Rattle.csp_program.specs.Prelude.{Body, Def, Env, Head, Outcome, and_then, bound_to, given_by, in_field, joined, one, out-Proc, proc_depth, proc_with, row_count, rows}
+pub use Rattle.csp_program.specs.Prelude.{Env, Outcome, and_then, bound_to, given_by, in_field, joined, one, proc_depth, proc_with, row_count, rows}
+pub use Rattle.csp_program.specs.declared.programs.Body.{Body}
+pub use Rattle.csp_program.specs.declared.programs.Def.{Def}
+pub use Rattle.csp_program.specs.declared.processes.Head.{Head}
+pub use Rattle.csp_program.specs.declared.processes.Proc.TheViews.{out-Proc, out-roll-Proc, roll-Proc}
 pub use Rattle.csp_program.specs.declared.expressions.EventPart.{EventPart}
 pub use Rattle.csp_program.specs.declared.expressions.Expr.{Expr}
 pub use Rattle.csp_program.specs.declared.expressions.Gen.{Gen}
@@ -20,7 +24,6 @@ pub use Rattle.csp_program.specs.declared.kinds.ValueKind.TheVariants.{EmptyChoi
 pub use Rattle.csp_program.specs.declared.kinds.ValueKind.{ValueKind}
 pub use Rattle.csp_program.specs.declared.processes.Field.{Field}
 pub use Rattle.csp_program.specs.declared.processes.Proc.TheOpen.{Proc-F}
-pub use Rattle.csp_program.specs.declared.processes.Proc.TheViews.{out-roll-Proc, roll-Proc}
 pub use Rattle.csp_program.specs.declared.processes.Proc.{Proc}
 pub use Rattle.csp_program.specs.declared.programs.Content.{Content}
 pub use Rattle.csp_steps.specs.Computed.{GivesLook}

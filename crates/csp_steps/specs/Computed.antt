@@ -2,7 +2,9 @@
 use Rattle.std.specs.Prelude.{◌≡◌, ◌<◌, ℕ, Bool, true, ◌&&◌, nat_lt, Result, Ok, Err, List, [], ◌∷◌, ◌++◌, map, length}
 use Rattle.process_steps.specs.StepList.{Move, steps_of, steps_of_choice}
 use Rattle.term_pool.specs.Trees.{all_below, tree_at}
-use Rattle.csp_program.specs.Prelude.{proc_depth, Outcome, and_then, Proc, Content}
+use Rattle.csp_program.specs.Prelude.{proc_depth, Outcome, and_then}
+use Rattle.csp_program.specs.declared.processes.Proc.{Proc}
+use Rattle.csp_program.specs.declared.programs.Content.{Content}
 use Rattle.csp_steps.specs.declared.look.Look.{Look}
 use Rattle.csp_steps.specs.declared.look.Look.TheVariants as look
 use Rattle.csp_steps.specs.Effect.{around}

@@ -1,9 +1,16 @@
 -- What a hiding, a renaming or a sequence makes of the steps of the process below.
 use Rattle.std.specs.Prelude.{◌≡◌, ◌<◌, ℕ, Bool, false, if◌then◌else◌, Ok, Err, List, [], ◌∷◌, map, length}
 use Rattle.csp_base.specs.Members.{has}
-use Rattle.csp_program.specs.Prelude.{joined, Outcome, and_then, Kind, Proc, Proc-F, out-Proc, Content}
+use Rattle.csp_program.specs.Prelude.{joined, Outcome, and_then}
+use Rattle.csp_program.specs.declared.kinds.ValueKind.TheVariants.{Kind}
+use Rattle.csp_program.specs.declared.processes.Proc.{Proc}
+use Rattle.csp_program.specs.declared.processes.Proc.TheOpen.{Proc-F}
+use Rattle.csp_program.specs.declared.processes.Proc.TheViews.{out-Proc}
+use Rattle.csp_program.specs.declared.programs.Content.{Content}
 use Rattle.csp_program.specs.declared.processes.Proc.TheVariants as proc
-use Rattle.process_steps.specs.Prelude.{events_in, images, renaming_in, Move, Label, Silent, Visible, Tick}
+use Rattle.process_steps.specs.Prelude.{events_in, images, renaming_in, Move}
+use Rattle.process_steps.specs.declared.label.Label.{Label}
+use Rattle.process_steps.specs.declared.label.Label.TheVariants.{Silent, Visible, Tick}
 use Rattle.step_values.specs.Images.{becomes}
 use Rattle.term_pool.specs.Prelude.{with_first, tree_at}
 use Rattle.csp_steps.specs.declared.operator.Operator.{Operator}

@@ -2,7 +2,12 @@
 use Rattle.std.specs.Prelude.{◌≡◌, ℕ, nat_eq, Option, Some, None, Result, Ok, List, map, slice_get}
 use Rattle.std.specs.HashMap.{HashMap, get}
 use Rattle.csp_atoms.specs.declared.atom.Atom.{Atom}
-use Rattle.csp_program.specs.Prelude.{Outcome, Expr, Proc, Body, Content, Def}
+use Rattle.csp_program.specs.Prelude.{Outcome}
+use Rattle.csp_program.specs.declared.expressions.Expr.{Expr}
+use Rattle.csp_program.specs.declared.processes.Proc.{Proc}
+use Rattle.csp_program.specs.declared.programs.Body.{Body}
+use Rattle.csp_program.specs.declared.programs.Content.{Content}
+use Rattle.csp_program.specs.declared.programs.Def.{Def}
 use Rattle.csp_program.specs.declared.programs.Body.TheVariants as body
 use Rattle.process_steps.specs.Prelude.{set_in, Renamed, steps_of}
 use Rattle.step_values.specs.Images.{KeepsOutcome}

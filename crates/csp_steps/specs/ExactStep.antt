@@ -5,7 +5,8 @@ use Rattle.std.specs.Cmp.{first_so, second_so}
 use Rattle.csp_steps.specs.contracts.step.StepToPartialEq.TheImpl as steps
 use Rattle.csp_steps.specs.declared.step.StepTo.{StepTo}
 use Rattle.process_steps.specs.contracts.label.LabelPartialEq.TheImpl as labels
-use Rattle.process_steps.specs.Prelude.{Label, Silent, Visible, Tick}
+use Rattle.process_steps.specs.declared.label.Label.{Label}
+use Rattle.process_steps.specs.declared.label.Label.TheVariants.{Silent, Visible, Tick}
 use Rattle.pool_parts.specs.ExactId.{eq_id, exact_id}
 
 abbrev pub eq_label : Label → Label → Bool

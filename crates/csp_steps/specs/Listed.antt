@@ -2,7 +2,9 @@
 use Rattle.std.specs.Prelude.{◌≡◌, ◌<◌, ℕ, Result, Some, Ok, Err, List, map, length, slice_get}
 use Rattle.process_steps.specs.StepList.{Move, steps_of}
 use Rattle.term_pool.specs.Trees.{tree_at}
-use Rattle.csp_program.specs.Prelude.{Outcome, Proc, Content}
+use Rattle.csp_program.specs.Prelude.{Outcome}
+use Rattle.csp_program.specs.declared.processes.Proc.{Proc}
+use Rattle.csp_program.specs.declared.programs.Content.{Content}
 use Rattle.csp_steps.specs.Order.{AreFirsts}
 use Rattle.csp_steps.specs.declared.step.StepTo.{StepTo}
 use Rattle.value_operators.specs.Gives.{EvalFault, IsFault}

@@ -1,9 +1,11 @@
 -- The processes to which a process goes by a label, in the order in which its list of steps has them.
 use Rattle.std.specs.Prelude.{◌≡◌, nat_eq, Bool, true, false, if◌then◌else◌, Ok, List, [], ◌∷◌}
 use Rattle.csp_base.specs.Lists.{StandsIn}
-use Rattle.csp_program.specs.Prelude.{Proc, Content}
+use Rattle.csp_program.specs.declared.processes.Proc.{Proc}
+use Rattle.csp_program.specs.declared.programs.Content.{Content}
 use Rattle.csp_tables.specs.Prelude.{Label, silent, visible}
-use Rattle.process_steps.specs.Prelude.{Move, steps_of, Silent, Visible, Tick}
+use Rattle.process_steps.specs.Prelude.{Move, steps_of}
+use Rattle.process_steps.specs.declared.label.Label.TheVariants.{Silent, Visible, Tick}
 use Rattle.process_steps.specs.declared.label.Label.{Label as ProcessLabel}
 
 -- Going through the first list gives the third: a value that was seen before is left out, and any other is taken, and seen from then on.

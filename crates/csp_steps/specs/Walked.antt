@@ -1,10 +1,16 @@
 -- What a walk over the ways to fill the fields of a prefix still comes to, for the contracts of the functions that make it.
 use Rattle.std.specs.Prelude.{◌≡◌, ◌<◌, ℕ, ◌+◌, ◌*◌, ◌-◌, ◌^◌, min, Bool, true, false, Option, Some, None, Result, Ok, Err, List, [], ◌∷◌, ◌++◌, map, drop, length}
-use Rattle.csp_atoms.specs.Prelude.{Atom, One}
-use Rattle.csp_program.specs.Prelude.{Outcome, and_then, given_by, proc_with, Env, OutsideChannel, Field, Proc, Content}
+use Rattle.csp_atoms.specs.declared.atom.Atom.{Atom}
+use Rattle.csp_atoms.specs.declared.value.Value.TheVariants.{One}
+use Rattle.csp_program.specs.Prelude.{Outcome, and_then, given_by, proc_with, Env}
+use Rattle.csp_program.specs.declared.kinds.ValueKind.TheVariants.{OutsideChannel}
+use Rattle.csp_program.specs.declared.processes.Field.{Field}
+use Rattle.csp_program.specs.declared.processes.Proc.{Proc}
+use Rattle.csp_program.specs.declared.programs.Content.{Content}
 use Rattle.csp_program.specs.declared.processes.Field.TheVariants as field
 use Rattle.pool_parts.specs.declared.place.ProcId.{ProcId}
-use Rattle.process_steps.specs.Prelude.{each_joined, given_under, value_under, Move, where_given, Visible}
+use Rattle.process_steps.specs.Prelude.{each_joined, given_under, value_under, Move, where_given}
+use Rattle.process_steps.specs.declared.label.Label.TheVariants.{Visible}
 use Rattle.term_pool.specs.Trees.{tree_at}
 use Rattle.value_laws.specs.Numbers.{field_place}
 use Rattle.value_operators.specs.Env.{with_bound}

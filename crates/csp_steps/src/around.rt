@@ -1,7 +1,8 @@
 //! Operators round the steps of a process.
 
 ghost use Rattle.std.specs.Prelude.{◌≡◌, ◌<◌, ◌++◌, ◌∷◌, [], if◌then◌else◌, true, List, length, map, slice_get, IfOk, OnOk, Some};
-ghost use Rattle.csp_program.specs.Prelude.{joined, Content};
+ghost use Rattle.csp_program.specs.Prelude.{joined};
+ghost use Rattle.csp_program.specs.declared.programs.Content.{Content};
 ghost use Rattle.csp_program.specs.declared.processes.Proc.TheVariants as proc;
 ghost use Rattle.term_pool.specs.Prelude.{with_first, IsFront, tree_at};
 ghost use Rattle.csp_steps.specs.Prelude.{all_within, AreMoves, GivesMoves, IsMove, effect_as, hides, labels_by, last_by, moves_of, renamed_labels, IsWithin, around, AreNoted, Fits, IsNumbered, seen};

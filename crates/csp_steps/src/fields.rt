@@ -1,7 +1,8 @@
 //! What comes next in the fields of a prefix, under the values of the inputs before.
 
 ghost use Rattle.std.specs.Prelude.{◌≡◌, ◌≤◌, [], IfOk, Ok, OnOk};
-ghost use Rattle.csp_program.specs.Prelude.{and_then, Env, Content};
+ghost use Rattle.csp_program.specs.Prelude.{and_then, Env};
+ghost use Rattle.csp_program.specs.declared.programs.Content.{Content};
 ghost use Rattle.process_steps.specs.Prefix as meant;
 ghost use Rattle.value_laws.specs.Numbers.{field_place};
 ghost use Rattle.value_operators.specs.Env.{with_bound};

@@ -2,7 +2,8 @@
 
 ghost use Rattle.std.specs.Prelude.{◌≡◌, ◌<◌, ◌≤◌, ◌++◌, ◌∷◌, [], true, length, map, OnOk, Some};
 ghost use Rattle.csp_atoms.specs.declared.value.Value.TheVariants as value;
-ghost use Rattle.csp_program.specs.Prelude.{Env, Content};
+ghost use Rattle.csp_program.specs.Prelude.{Env};
+ghost use Rattle.csp_program.specs.declared.programs.Content.{Content};
 ghost use Rattle.process_steps.specs.Prefix as meant;
 ghost use Rattle.term_pool.specs.Prelude.{IsFront, tree_at};
 ghost use Rattle.value_operators.specs.Env.{with_bound};

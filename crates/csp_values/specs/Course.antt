@@ -1,8 +1,13 @@
 -- What a walk over the bindings of generators still comes to, step by step.
 use Rattle.std.specs.Prelude.{◌≡◌, ℕ, ◌+◌, Bool, true, false, if◌then◌else◌, Option, Some, None, Result, Ok, Err, List, [], ◌∷◌, ◌++◌, map, drop, length, slice_get}
-use Rattle.csp_program.specs.Prelude.{Outcome, and_then, Env, Turn, from, when, as_set, as_truth, turn, uses_within, Gen, ValueKind, Content}
-use Rattle.csp_atoms.specs.Prelude.{Atom, One}
-use Rattle.value_operators.specs.Prelude.{env_in, parameters, EvalFault, Names}
+use Rattle.csp_program.specs.Prelude.{Outcome, and_then, Env, Turn, from, when, as_set, as_truth, turn, uses_within}
+use Rattle.csp_program.specs.declared.expressions.Gen.{Gen}
+use Rattle.csp_program.specs.declared.kinds.ValueKind.{ValueKind}
+use Rattle.csp_program.specs.declared.programs.Content.{Content}
+use Rattle.csp_atoms.specs.declared.atom.Atom.{Atom}
+use Rattle.csp_atoms.specs.declared.value.Value.TheVariants.{One}
+use Rattle.value_operators.specs.Prelude.{env_in, parameters, EvalFault}
+use Rattle.value_operators.specs.declared.names.Names.{Names}
 use Rattle.value_operators.specs.Env.{with_bound}
 use Rattle.csp_base.specs.Stops.{Tells}
 use Rattle.csp_values.specs.declared.walk.Frame.{Frame}

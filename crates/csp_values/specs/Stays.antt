@@ -1,8 +1,13 @@
 -- What it is for an expression to be worth the same under each binding of some generators: for the contracts of the functions that look for names.
 use Rattle.std.specs.Prelude.{◌≡◌, ℕ, Bool, false, ◌||◌, nat_eq, List, [], ◌∷◌}
 use Rattle.std.specs.List.{All}
-use Rattle.csp_program.specs.Prelude.{Env, bound_value, EventPart, Expr, Gen-F, out-Gen, Gen, Content}
-use Rattle.csp_program.specs.declared.expressions.Expr.TheViews.{out-EventPart}
+use Rattle.csp_program.specs.Prelude.{Env, bound_value}
+use Rattle.csp_program.specs.declared.expressions.EventPart.{EventPart}
+use Rattle.csp_program.specs.declared.expressions.Expr.{Expr}
+use Rattle.csp_program.specs.declared.expressions.Expr.TheOpen.{Gen-F}
+use Rattle.csp_program.specs.declared.expressions.Expr.TheViews.{out-Gen, out-EventPart}
+use Rattle.csp_program.specs.declared.expressions.Gen.{Gen}
+use Rattle.csp_program.specs.declared.programs.Content.{Content}
 use Rattle.csp_values.specs.Worth.{worth}
 
 -- whether a generator binds the name

@@ -1,9 +1,16 @@
 -- What the parts of an expression come to where so many uses of definitions may still be entered, under an environment: the definitions of the value
 -- of an expression, applied to trees.
 use Rattle.std.specs.Prelude.{◌≡◌, ℕ, ℤ, Bool, if◌then◌else◌, Result, Ok, Err, Some, List, [], ◌∷◌, map, slice_get}
-use Rattle.csp_program.specs.Prelude.{Outcome, and_then, as_number, as_truth, as_set, many, range, set_binary, Env, Gathered, meaning, turn, front, front_events, values_of, items_added, fronts_added, one_event, sets_of, walked, gathered, uses_within, def_value, value_within, meanings, EventPart, Expr, Gen, Content, Def}
+use Rattle.csp_program.specs.Prelude.{Outcome, and_then, as_number, as_truth, as_set, many, range, set_binary, Env, Gathered, meaning, turn, front, front_events, values_of, items_added, fronts_added, one_event, sets_of, walked, gathered, uses_within, def_value, value_within, meanings}
+use Rattle.csp_program.specs.declared.expressions.EventPart.{EventPart}
+use Rattle.csp_program.specs.declared.expressions.Expr.{Expr}
+use Rattle.csp_program.specs.declared.expressions.Gen.{Gen}
+use Rattle.csp_program.specs.declared.programs.Content.{Content}
+use Rattle.csp_program.specs.declared.programs.Def.{Def}
 use Rattle.value_laws.specs.Numbers.{fields_number, first_of, front_number}
-use Rattle.csp_atoms.specs.Prelude.{Atom, Value, One}
+use Rattle.csp_atoms.specs.declared.atom.Atom.{Atom}
+use Rattle.csp_atoms.specs.declared.value.Value.{Value}
+use Rattle.csp_atoms.specs.declared.value.Value.TheVariants.{One}
 use Rattle.csp_atoms.specs.declared.atom.Atom.TheVariants as atom
 use Rattle.csp_base.specs.declared.operators.SetOp.{SetOp}
 use Rattle.value_operators.specs.Gives.{EvalFault, IsFault}

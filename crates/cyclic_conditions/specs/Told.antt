@@ -2,7 +2,9 @@
 use Rattle.std.specs.Prelude.{◌≡◌, ◌≤◌, ℕ, List}
 use Rattle.csp_tables.specs.Prelude.{end_of, link_at, part_at, Shape}
 use Rattle.design_rules.specs.Cyclic.{FallsShort}
-use Rattle.design_rules.specs.Prelude.{BreaksOrder, ends_of, RuleFault, NoOrder, NoWholeEnd}
+use Rattle.design_rules.specs.Prelude.{BreaksOrder, ends_of}
+use Rattle.design_rules.specs.declared.rule_fault.RuleFault.{RuleFault}
+use Rattle.design_rules.specs.declared.rule_fault.RuleFault.TheVariants.{NoOrder, NoWholeEnd}
 
 -- the part has no order of its links
 abbrev pub IsBrokenOrder : Shape → ℕ → RuleFault → Type 0

@@ -12,7 +12,8 @@ pub use Rattle.digraph.specs.Digraph.{has_arc}
 pub use Rattle.digraph.specs.Prelude.{Digraph, HasArc, Reaches, ReachesFrom, Walk}
 pub use Rattle.name_tables.specs.Ends.{rows}
 pub use Rattle.name_tables.specs.Prelude.{SameFirsts}
-pub use Rattle.script_names.specs.Prelude.{AreKindsOf, Entities, HasClass, Kind, LeadsTo, Meanings, beyond, body_ends, declared, ends_at, first_ends, first_of, here, meanings_of, script_ends}
+pub use Rattle.script_names.specs.Prelude.{AreKindsOf, Entities, HasClass, LeadsTo, Meanings, beyond, body_ends, declared, ends_at, first_ends, first_of, here, meanings_of, script_ends}
+pub use Rattle.script_names.specs.declared.kinds.Kind.{Kind}
 pub use Rattle.script_names.specs.declared.kinds.Class.{Class}
 pub use Rattle.script_names.specs.declared.kinds.End.{End}
 pub use Rattle.script_sizes.specs.Size.{declaration_size, size}

@@ -4,7 +4,8 @@ pub use Rattle.containers.specs.Members.{with_new}
 pub use Rattle.csp_base.proofs.Listed.{listed_below}
 pub use Rattle.csp_base.proofs.Standard.{Any-from_list_any, and_parts, append-nil, append_assoc, cases_Bool, cases_eq, cases_lt, cond-false, cond-true, count_by-le-length, eqb-true, false≢true, flat_map-append, fold-append, get_or-le-sum_by, get_or-map, get_or-take, get_or_append_left, get_or_default, get_or_past, get_or_push, get_or_read, length-append, length-le_from_distinct_below, length-map, length-set, length-take-le, length_push, list_any-append, list_any_at, nat_eq_equiv, ne_eqb, or-false, or_assoc, or_cases, or_left, or_right, set-get_or, sum_by-set, take-append-le, take_all, take_more}
 pub use Rattle.csp_base.specs.Members.{has}
-pub use Rattle.csp_base.specs.Prelude.{Stop, Tells}
+pub use Rattle.csp_base.specs.Prelude.{Tells}
+pub use Rattle.csp_base.specs.declared.stop.Stop.{Stop}
 pub use Rattle.csp_base.specs.Standard.{All, AllocError, flat_map}
 unfoldable pub use Rattle.csp_base.specs.Standard.{IsDistinct}
 pub use Rattle.digraph.specs.Digraph.{InRange, has_arc}

@@ -1,11 +1,20 @@
 -- Which reply comes when: what the words ask for, the loads of the texts that it is for, and then what these texts call for.
 use Rattle.std.specs.Prelude.{◌≡◌, ◌⊎◌, ℕ, IfOk, List, [], ◌∷◌, Option, Some, Result, Ok, Err}
 use Rattle.dl_limits.specs.declared.TheConstants.{MOST_BYTES}
-use Rattle.dl_outside.specs.Prelude.{Counts, NeverFall, AnswersTold, LoadAnswers, text_of, LoadFault, NamedText}
+use Rattle.dl_outside.specs.Prelude.{NeverFall, AnswersTold, LoadAnswers, text_of}
+use Rattle.dl_outside.specs.declared.count.Counts.{Counts}
+use Rattle.dl_outside.specs.declared.shelf.LoadFault.{LoadFault}
+use Rattle.dl_outside.specs.declared.texts.NamedText.{NamedText}
 use Rattle.dl_outside.specs.declared.shelf.LoadFault.TheVariants as load
-use Rattle.command_words.specs.Prelude.{Asks, IsNoRequest, names, trial_of, Check, Request}
+use Rattle.command_words.specs.Prelude.{Asks, IsNoRequest, names, trial_of}
+use Rattle.command_words.specs.declared.request.Job.TheVariants.{Check}
+use Rattle.command_words.specs.declared.request.Request.{Request}
 use Rattle.command_words.specs.declared.request.Request.TheVariants as request
-use Rattle.report.specs.Prelude.{Answer, NoProgram, Outside, Usage, NotFound, NotRead, Side, TooLong}
+use Rattle.report.specs.declared.answer.Answer.{Answer}
+use Rattle.report.specs.declared.answer.Answer.TheVariants.{NoProgram, Outside, Usage}
+use Rattle.report.specs.declared.answer.OutsideFault.TheVariants.{NotFound, NotRead}
+use Rattle.report.specs.declared.answer.Side.{Side}
+use Rattle.report.specs.declared.answer.TextFault.TheVariants.{TooLong}
 use Rattle.report.specs.declared.answer.Side.TheVariants as side
 use Rattle.dl_top.specs.Judgement.{TextCallsFor, TextIsShown, TextsCompare}
 use Rattle.dl_top.specs.Reply.{plain, rule_of, trial_text}

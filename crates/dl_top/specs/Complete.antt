@@ -1,17 +1,23 @@
 -- When a request is bound to end with status 0, or a run with 0 or 1, unless a device fails or memory runs out.
 use Rattle.std.specs.Prelude.{◌≡◌, ◌≤◌, ℕ, List, [], ◌∷◌, Some, length, slice_get}
 use Rattle.dl_limits.specs.declared.TheConstants.{MOST_BYTES}
-use Rattle.command_words.specs.Prelude.{Asks, names, Job, Check, Livelock, Run, Table, Request}
+use Rattle.command_words.specs.Prelude.{Asks, names}
+use Rattle.command_words.specs.declared.request.Job.{Job}
+use Rattle.command_words.specs.declared.request.Job.TheVariants.{Check, Livelock, Run, Table}
+use Rattle.command_words.specs.declared.request.Request.{Request}
 use Rattle.comparison.specs.Complete.{Matches}
 use Rattle.command_words.specs.declared.request.Request.TheVariants as request
 use Rattle.csp_parser.specs.Spells.{Spells}
 use Rattle.csp_program.specs.declared.processes.Proc.{Proc}
-use Rattle.csp_tables.specs.Prelude.{Component, leaves, Rule}
+use Rattle.csp_tables.specs.Prelude.{Component, leaves}
+use Rattle.csp_tables.specs.declared.rule.Rule.{Rule}
 use Rattle.csp_text.specs.declared.script.Script.{Script}
-use Rattle.dl_outside.specs.Prelude.{text_of, NamedText}
+use Rattle.dl_outside.specs.Prelude.{text_of}
+use Rattle.dl_outside.specs.declared.texts.NamedText.{NamedText}
 use Rattle.judgement_laws.specs.Complete.{Passes}
 use Rattle.livelock.specs.Complete.{IsWithinBound}
-use Rattle.network_stages.specs.Prelude.{Network, HaveFewSets, HasTables, AreTablesOf, ComponentTable}
+use Rattle.network_stages.specs.Prelude.{Network, HaveFewSets, HasTables, AreTablesOf}
+use Rattle.network_stages.specs.declared.component_tables.ComponentTable.{ComponentTable}
 use Rattle.dl_top.specs.Judgement.{SpellsNetwork}
 use Rattle.dl_top.specs.Reply.{rule_of, trial_text}
 

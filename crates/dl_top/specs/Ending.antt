@@ -1,7 +1,9 @@
 -- How a call ends: what was sent, and the exit status.
 use Rattle.std.specs.Prelude.{◌≡◌, ◌⊎◌, ℕ, List, ◌++◌, Option}
 use Rattle.dl_outside.specs.Prelude.{HasRisen, GrowsBy}
-use Rattle.report.specs.Prelude.{Outside, OutsideFault, Side}
+use Rattle.report.specs.declared.answer.Answer.TheVariants.{Outside}
+use Rattle.report.specs.declared.answer.OutsideFault.{OutsideFault}
+use Rattle.report.specs.declared.answer.Side.{Side}
 use Rattle.dl_top.specs.Reply.{plain, reply_status, reply_text}
 use Rattle.dl_top.specs.declared.reply.Reply.{Reply}
 

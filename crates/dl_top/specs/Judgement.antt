@@ -11,8 +11,13 @@ use Rattle.livelock.specs.Bounded.{IsBounded}
 use Rattle.network_walks.specs.Walked.{IsWalked}
 use Rattle.tabulation.specs.Tabulated.{IsTabulated}
 use Rattle.network_stages.specs.Prelude.{IsNetworkOf, Network, HasNoNetwork}
-use Rattle.command_words.specs.Prelude.{Job, Check, Livelock, Run, Table}
-use Rattle.report.specs.Prelude.{Answer, Decided, NoProgram, Shown, Side, NoScript, Verdict}
+use Rattle.command_words.specs.declared.request.Job.{Job}
+use Rattle.command_words.specs.declared.request.Job.TheVariants.{Check, Livelock, Run, Table}
+use Rattle.report.specs.declared.answer.Answer.{Answer}
+use Rattle.report.specs.declared.answer.Answer.TheVariants.{Decided, NoProgram, Shown}
+use Rattle.report.specs.declared.answer.Side.{Side}
+use Rattle.report.specs.declared.answer.TextFault.TheVariants.{NoScript}
+use Rattle.report.specs.declared.answer.Verdict.{Verdict}
 use Rattle.report.specs.declared.answer.Side.TheVariants as side
 
 -- The text spells this script and no other.

@@ -1,6 +1,7 @@
 -- What a call did that keeps its promise: what the words asked for, the texts that the shelf handed over for it, and what was sent.
 use Rattle.std.specs.Prelude.{◌≡◌, ℕ, List, [], ◌∷◌, ◌++◌, Option}
-use Rattle.command_words.specs.Prelude.{Asks, names, trial_of, Request}
+use Rattle.command_words.specs.Prelude.{Asks, names, trial_of}
+use Rattle.command_words.specs.declared.request.Request.{Request}
 use Rattle.dl_outside.specs.Write.{GrowsBy}
 use Rattle.dl_top.specs.Reply.{heading_text}
 

@@ -2,7 +2,8 @@
 use Rattle.std.specs.Prelude.{◌≡◌, ℕ, List, Result, Err}
 use Rattle.csp_text.specs.declared.fault.NoScript.{NoScript}
 use Rattle.dl_outside.specs.declared.shelf.LoadFault.{LoadFault}
-use Rattle.report.specs.Prelude.{Answer, Side}
+use Rattle.report.specs.declared.answer.Answer.{Answer}
+use Rattle.report.specs.declared.answer.Side.{Side}
 use Rattle.report.specs.declared.answer.Answer.TheVariants as answer
 use Rattle.report.specs.declared.answer.TextFault.TheVariants as text
 use Rattle.csp_base.specs.declared.stop.Stop.{Stop}

@@ -1,10 +1,13 @@
 -- What each command promises of the texts of its request and of its report.
 use Rattle.std.specs.Prelude.{◌≡◌, ℕ, Some, false, true, List, [], ◌∷◌, length, slice_get}
-use Rattle.command_words.specs.Prelude.{Job, Check, Livelock, Run, Table, Request}
+use Rattle.command_words.specs.declared.request.Job.{Job}
+use Rattle.command_words.specs.declared.request.Job.TheVariants.{Check, Livelock, Run, Table}
+use Rattle.command_words.specs.declared.request.Request.{Request}
 use Rattle.command_words.specs.declared.request.Request.TheVariants as request
 use Rattle.comparison.specs.Complete.{Matches}
 use Rattle.csp_program.specs.declared.processes.Proc.{Proc}
-use Rattle.csp_tables.specs.Prelude.{Component, leaves, Part, IsPartOf, Rule}
+use Rattle.csp_tables.specs.Prelude.{Component, leaves, Part, IsPartOf}
+use Rattle.csp_tables.specs.declared.rule.Rule.{Rule}
 use Rattle.csp_text.specs.declared.script.Script.{Script}
 use Rattle.judgement_laws.specs.Complete.{Passes}
 use Rattle.judgement_laws.specs.Lasting.{AllGoOn}

@@ -1,8 +1,10 @@
 -- What status 0 promises of a network that is judged.
 use Rattle.std.specs.Prelude.{◌≡◌, ℕ, ℤ, List, [], ◌∷◌, length}
-use Rattle.command_words.specs.Prelude.{Check, Request}
+use Rattle.command_words.specs.declared.request.Job.TheVariants.{Check}
+use Rattle.command_words.specs.declared.request.Request.{Request}
 use Rattle.command_words.specs.declared.request.Request.TheVariants as request
-use Rattle.csp_tables.specs.Prelude.{leaves, Rule}
+use Rattle.csp_tables.specs.Prelude.{leaves}
+use Rattle.csp_tables.specs.declared.rule.Rule.{Rule}
 use Rattle.judgement_laws.specs.Classes.{HaveClasses}
 use Rattle.judgement_laws.specs.Lasting.{AllGoOn}
 use Rattle.network_stages.specs.Networks.{HasSilentBound, IsLive, Network}

@@ -5,7 +5,8 @@ use Rattle.judgement_laws.specs.Lasting.{AllGoOn}
 use Rattle.network_stages.specs.Networks.{IsLive, Network}
 use Rattle.network_walks.specs.Moves.{IsStuck}
 use Rattle.network_walks.specs.Walked.{IsNetworkWalk}
-use Rattle.numbered_walks.specs.Prelude.{label, Move}
+use Rattle.numbered_walks.specs.Prelude.{label}
+use Rattle.numbered_walks.specs.declared.moves.Move.{Move}
 use Rattle.process_steps.specs.ComponentStep.{ProcessStep}
 use Rattle.report.specs.Report.{run_text}
 use Rattle.dl_top.specs.Judgement.{SpellsOnlyNetwork}

@@ -2,11 +2,13 @@
 use Rattle.std.specs.Prelude.{ℕ, Option, None, Some, List, [], ◌++◌, codes}
 use Rattle.std.specs.Fmt.{decimal}
 use Rattle.command_words.specs.declared.request.Trial.{Trial}
-use Rattle.csp_tables.specs.Prelude.{Rule, ClientServer, Cyclic, Resource}
+use Rattle.csp_tables.specs.declared.rule.Rule.{Rule}
+use Rattle.csp_tables.specs.declared.rule.Rule.TheVariants.{ClientServer, Cyclic, Resource}
 use Rattle.net_maker.specs.Families.{family_name, family_text}
 use Rattle.net_maker.specs.declared.families.Family.{Family}
 use Rattle.net_maker.specs.declared.families.Family.TheVariants.{Chain, Forks, Mesh}
-use Rattle.report.specs.Prelude.{report_text, status, Answer}
+use Rattle.report.specs.Prelude.{report_text, status}
+use Rattle.report.specs.declared.answer.Answer.{Answer}
 use Rattle.dl_top.specs.declared.reply.Reply.{Reply}
 use Rattle.csp_base.specs.Texts.{line}
 

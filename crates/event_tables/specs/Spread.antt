@@ -3,7 +3,8 @@
 use Rattle.std.specs.Prelude.{◌≡◌, ℕ, ◌+◌, Result, Ok, Err, List, [], ◌∷◌, ◌++◌, map, drop, length, replicate}
 use Rattle.std.specs.Borrow.{Bor}
 use Rattle.csp_atoms.specs.declared.atom.Atom.{Atom}
-use Rattle.csp_program.specs.Prelude.{joined, Outcome, Channel}
+use Rattle.csp_program.specs.Prelude.{joined, Outcome}
+use Rattle.csp_program.specs.declared.programs.Channel.{Channel}
 use Rattle.script_names.specs.Resolved.{all_events}
 use Rattle.value_operators.specs.Gives.{EvalFault, IsFault}
 use Rattle.event_tables.specs.declared.sets.SharedSets.{SharedSets}

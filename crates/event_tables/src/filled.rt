@@ -1,7 +1,8 @@
 //! Channels with their field sets, and what a program holds with its event table.
 
 ghost use Rattle.std.specs.Prelude.{◌≡◌, ◌+◌, ◌<◌, ◌≤◌, ◌^◌, [], ◌∷◌, ◌++◌, Some, List, drop, length, IfOk, OnOk};
-ghost use Rattle.csp_program.specs.Prelude.{row_count, Channel};
+ghost use Rattle.csp_program.specs.Prelude.{row_count};
+ghost use Rattle.csp_program.specs.declared.programs.Channel.{Channel};
 ghost use Rattle.dl_limits.specs.declared.TheConstants.{MOST_BYTES};
 ghost use Rattle.event_tables.specs.Spread.{events_left, lent, spread};
 ghost use Rattle.script_names.specs.Resolved as meant;

@@ -7,9 +7,10 @@ pub use Rattle.csp_base.proofs.SetLaws.{has-diff_of, has-inter_of}
 pub use Rattle.csp_base.proofs.Standard.{any_passes_from_place, append-nil, append_assoc, cases_Bool, cases_eq, cases_lt, eq-eqb, eqb-true, err_from_is_err_and, false≢true, get_or-drop, get_or-set_other, get_or-set_same, get_or_append_left, get_or_default, get_or_push, length-append, length-drop, length-replicate, length-set, length-take, length_push, map-append, none-some, or_cases, or_from, or_left, or_right, reverse-append, reverse-reverse, same_Some, set, slice_get-get_or, slice_get_within, take-append-drop, take-suc, take-take}
 pub use Rattle.csp_base.specs.Events.{diff_of, meets_of}
 pub use Rattle.csp_base.specs.Members.{has}
-pub use Rattle.csp_base.specs.Prelude.{Stop, greatest, inter_of}
+pub use Rattle.csp_base.specs.Prelude.{greatest, inter_of}
+pub use Rattle.csp_base.specs.declared.stop.Stop.{Stop}
 pub use Rattle.csp_base.specs.Stops.{Tells}
-pub use Rattle.csp_program.specs.Prelude.{Proc}
+pub use Rattle.csp_program.specs.declared.processes.Proc.{Proc}
 pub use Rattle.csp_tables.proofs.Listed.{listed_silent, passing, silent_listed, step_at}
 pub use Rattle.csp_tables.specs.Prelude.{Component, ComponentStep, HasRawForm, IsTableOf, Label, Path, RawStep, RawTable, has_silent, has_step, silent, visible}
 pub use Rattle.digraph.proofs.WalkLaws.{Leads-from_places, same_circle, same_walk}
@@ -32,7 +33,8 @@ pub use Rattle.net_sound.proofs.FlatLists.{step_alphabet}
 pub use Rattle.net_sound.proofs.Numbered.{stands}
 pub use Rattle.net_sound.proofs.Soundness.{path_alphabet}
 pub use Rattle.network_stages.proofs.Tabling.{as_many, table_at}
-pub use Rattle.network_stages.specs.Prelude.{ComponentTable, HasTable, whole_room}
+pub use Rattle.network_stages.specs.Prelude.{HasTable, whole_room}
+pub use Rattle.network_stages.specs.declared.component_tables.ComponentTable.{ComponentTable}
 pub use Rattle.process_steps.specs.ComponentStep.{ProcessStep}
 pub use Rattle.std.proofs.Common.{Bool, IfErr, IfNone, IfSome, IsTrue, List, None, Option, Result, Some, [], add-one, ap, ap₂, arith, drop, false, get_or, if◌then◌else◌, inl, inr, length, map, max, min, nat_eq, not, refl, replicate, reverse, rules, slice_get, subst, suc, sym, take, true, zero, ℕ, ◌&&◌, ◌*◌, ◌++◌, ◌+◌, ◌-◌, ◌<◌, ◌^◌, ◌||◌, ◌∙◌, ◌∷◌, ◌≡◌, ◌≢◌, ◌≤◌, ◌⊎◌}
 pub use Rattle.std.specs.Cmp.{first_so, second_so}

@@ -2,14 +2,20 @@
 pub use Rattle.csp_base.proofs.Lists.{flat_map_push}
 pub use Rattle.csp_base.specs.Prelude.{Tells, natural}
 pub use Rattle.csp_base.specs.Standard.{Global}
-pub use Rattle.csp_program.specs.Prelude.{Content, Outcome, ValueKind, and_then}
+pub use Rattle.csp_program.specs.Prelude.{Outcome, and_then}
+pub use Rattle.csp_program.specs.declared.programs.Content.{Content}
+pub use Rattle.csp_program.specs.declared.kinds.ValueKind.{ValueKind}
 pub use Rattle.csp_program.specs.declared.processes.Proc.{Proc}
-pub use Rattle.csp_tables.specs.Prelude.{ArePartsOf, ClientServer, Component, Cyclic, IsShapeOf, IsWellFormed, Part, PartRanks, Ranking, Resource, Rule, Shape, Tree, TripleDisjoint, alphabets_of, leaves, part_at}
-pub use Rattle.csp_text.specs.Prelude.{Decl, Script}
+pub use Rattle.csp_tables.specs.Prelude.{ArePartsOf, Component, IsShapeOf, IsWellFormed, Part, PartRanks, Ranking, Shape, Tree, TripleDisjoint, alphabets_of, leaves, part_at}
+pub use Rattle.csp_tables.specs.declared.rule.Rule.TheVariants.{ClientServer, Cyclic, Resource}
+pub use Rattle.csp_tables.specs.declared.rule.Rule.{Rule}
+pub use Rattle.csp_text.specs.declared.script.Decl.{Decl}
+pub use Rattle.csp_text.specs.declared.script.Script.{Script}
 pub use Rattle.design_rules.proofs.GreatestRanks.{rankings_have_greatest_rank}
 pub use Rattle.design_rules.proofs.Live.{met_rules_mean_live}
 pub use Rattle.design_rules.proofs.Readings.{networks_break, networks_meet}
-pub use Rattle.design_rules.specs.Prelude.{HasNotes, Ranks, RuleFault}
+pub use Rattle.design_rules.specs.Prelude.{HasNotes, Ranks}
+pub use Rattle.design_rules.specs.declared.rule_fault.RuleFault.{RuleFault}
 pub use Rattle.design_rules.specs.RankCounts.{greatest_from, greatest_rank}
 pub use Rattle.design_rules.specs.declared.noted_rule.NotedRule.{NotedRule}
 pub use Rattle.dl_limits.specs.declared.TheConstants.{MOST_COMPONENTS, MOST_SETS}
@@ -31,8 +37,11 @@ pub use Rattle.network_trees.specs.NetworkOf.{Walked, network_of}
 pub use Rattle.process_steps.specs.ComponentStep.{ProcessStep}
 pub use Rattle.process_steps.specs.Prelude.{all_outcomes}
 pub use Rattle.report.proofs.Points.{at_refusal, at_shortfall, exits, goes_on}
-pub use Rattle.report.specs.Prelude.{Answers, Refusal, passed}
-pub use Rattle.script_names.specs.Prelude.{Answer, AreKinds, Class, HasClass, IsKind, IsProgram, Kind, LeadsTo, beyond, ends_at, first_ends, here, resolved, script_ends}
+pub use Rattle.report.specs.Prelude.{Answers, passed}
+pub use Rattle.report.specs.declared.answer.Refusal.{Refusal}
+pub use Rattle.script_names.specs.Prelude.{Answer, AreKinds, HasClass, IsKind, IsProgram, LeadsTo, beyond, ends_at, first_ends, here, resolved, script_ends}
+pub use Rattle.script_names.specs.declared.kinds.Class.{Class}
+pub use Rattle.script_names.specs.declared.kinds.Kind.{Kind}
 pub use Rattle.script_names.specs.declared.kinds.End.{End}
 pub use Rattle.std.proofs.Common.{Bool, Err, IsTrue, List, None, Ok, Option, Some, Vec, [], add-one, ap, arith, false, get_or, length, map, max, refl, rules, slice_get, subst, suc, sym, take, true, zero, ℕ, ℤ, ◌*◌, ◌++◌, ◌+◌, ◌<◌, ◌^◌, ◌∙◌, ◌∷◌, ◌≡◌, ◌≤◌}
 pub use Rattle.std.proofs.Math.Seq.{take-suc}

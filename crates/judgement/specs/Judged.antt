@@ -1,9 +1,11 @@
 -- The verdict on a network that is judged by a rule: the points at which it is refused or not proved, in their order, and then that it is free of deadlock.
 use Rattle.std.specs.Prelude.{◌≡◌, ℕ, pos, length}
-use Rattle.csp_tables.specs.Prelude.{leaves, Shape, Rule}
+use Rattle.csp_tables.specs.Prelude.{leaves, Shape}
+use Rattle.csp_tables.specs.declared.rule.Rule.{Rule}
 use Rattle.design_rules.specs.declared.noted_rule.NotedRule.{NotedRule}
 use Rattle.network_stages.specs.Prelude.{HasSilentBound, IsLive, Network, IsApart, CanStop, HasNoParts, HasNoTables, HasParts, HasTables, ShareEvent, StaysBusy}
-use Rattle.report.specs.Prelude.{RefusedOr, UnprovedOr, UnprovedUnless, Verdict}
+use Rattle.report.specs.Prelude.{RefusedOr, UnprovedOr, UnprovedUnless}
+use Rattle.report.specs.declared.answer.Verdict.{Verdict}
 use Rattle.report.specs.declared.answer.Done.TheVariants as done
 use Rattle.report.specs.declared.answer.Side.TheVariants as side
 use Rattle.report.specs.declared.answer.Verdict.TheVariants as verdict

@@ -1,15 +1,20 @@
 -- A rule with what a script notes for it of each component: what it comes to for a network.
 use Rattle.std.specs.Prelude.{◌≡◌, ℕ, Ok}
 use Rattle.csp_program.specs.Outcome.{Outcome, and_then}
-use Rattle.csp_tables.specs.Prelude.{leaves, Rule, ClientServer, Cyclic, Resource}
-use Rattle.design_rules.specs.Prelude.{NetworkHasGreatestRank, NetworkBreaks, NetworkMeets, NotedRule, RuleFault}
+use Rattle.csp_tables.specs.Prelude.{leaves}
+use Rattle.csp_tables.specs.declared.rule.Rule.{Rule}
+use Rattle.csp_tables.specs.declared.rule.Rule.TheVariants.{ClientServer, Cyclic, Resource}
+use Rattle.design_rules.specs.Prelude.{NetworkHasGreatestRank, NetworkBreaks, NetworkMeets}
+use Rattle.design_rules.specs.declared.noted_rule.NotedRule.{NotedRule}
+use Rattle.design_rules.specs.declared.rule_fault.RuleFault.{RuleFault}
 use Rattle.design_rules.specs.declared.noted_rule.NotedRule.TheVariants as noted
 use Rattle.network_layout.specs.Told.{IsUntold}
 use Rattle.network_layout.specs.declared.told.NotedFault.{NotedFault}
 use Rattle.network_stages.specs.Networks.{Network}
 use Rattle.network_trees.specs.Annotations.{component_roles, component_uses}
 use Rattle.process_steps.specs.Prelude.{ProcessStep, all_outcomes}
-use Rattle.report.specs.Prelude.{Refusal, Shortfall}
+use Rattle.report.specs.declared.answer.Refusal.{Refusal}
+use Rattle.report.specs.declared.answer.Shortfall.{Shortfall}
 use Rattle.report.specs.declared.answer.Shortfall.TheVariants as shortfall
 use Rattle.report.specs.declared.answer.Refusal.TheVariants as refusal
 use Rattle.report.specs.declared.answer.Site.TheVariants as site

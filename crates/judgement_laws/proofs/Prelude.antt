@@ -1,11 +1,12 @@
 -- What the proofs of this crate cite of the crates below, and of its own definitions.
 pub use Rattle.csp_base.proofs.Standard.{cases_lt, length-take, same_Some, slice_get_within}
-pub use Rattle.csp_program.specs.Prelude.{Content, Proc}
+pub use Rattle.csp_program.specs.declared.programs.Content.{Content}
+pub use Rattle.csp_program.specs.declared.processes.Proc.{Proc}
 pub use Rattle.csp_tables.specs.Prelude.{ArePartsOf, Component, ComponentStep, HasForm, HaveForm, IsGoodRanking, IsPartOf, IsReached, IsRun, IsShapeOf, Label, Node, Part, Reached, Shape, Tree, TripleDisjoint, end_of, leaves, sharers, standing_at}
 pub use Rattle.csp_tables.specs.declared.rule.Rule.{Rule}
 pub use Rattle.design_rules.proofs.Readings.{network_faults_refute}
 pub use Rattle.design_rules.proofs.Runs.{end_within}
-pub use Rattle.design_rules.specs.Prelude.{RuleFault}
+pub use Rattle.design_rules.specs.declared.rule_fault.RuleFault.{RuleFault}
 pub use Rattle.design_rules.specs.declared.noted_rule.NotedRule.{NotedRule}
 pub use Rattle.judgement.proofs.KindsUnique.{kinds_are_unique}
 pub use Rattle.judgement.proofs.Notes.{all_told, same_ok}
@@ -21,7 +22,8 @@ pub use Rattle.judgement_laws.specs.Lasting.{AllGoOn, GoesOn}
 pub use Rattle.judgement_laws.specs.Laws.{FaultsExcludeNetworks}
 pub use Rattle.judgement_laws.specs.Ranked.{HasGreatestRank}
 pub use Rattle.local_tables.proofs.Excluding.{listed_of}
-pub use Rattle.local_tables.specs.Prelude.{IsLocalTable, LocalTable, Room}
+pub use Rattle.local_tables.specs.Prelude.{IsLocalTable, Room}
+pub use Rattle.local_tables.specs.declared.local_table.LocalTable.{LocalTable}
 pub use Rattle.net_sound.proofs.Flattening.{flat_steps_are_tree_steps, tree_steps_are_flat}
 pub use Rattle.net_sound.proofs.FormOfTables.{shapes_are_well_formed}
 pub use Rattle.net_sound.proofs.Local.{run_kept}

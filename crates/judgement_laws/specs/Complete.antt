@@ -1,13 +1,16 @@
 -- When a network passes a check. (That it is spelled holds the limits of scripts and of networks; that its components have tables, those of components.)
 use Rattle.std.specs.Prelude.{◌≡◌, ◌↔◌, List}
-use Rattle.csp_tables.specs.Prelude.{leaves, TripleDisjoint, Rule}
+use Rattle.csp_tables.specs.Prelude.{leaves, TripleDisjoint}
+use Rattle.csp_tables.specs.declared.rule.Rule.{Rule}
 use Rattle.csp_text.specs.declared.script.Script.{Script}
 use Rattle.design_rules.specs.declared.noted_rule.NotedRule.{NotedRule}
 use Rattle.judgement.specs.Judged.{IsJudged}
 use Rattle.judgement.specs.Noted.{Meets, Notes}
 use Rattle.network_layout.specs.Triple.{alphabets}
-use Rattle.network_stages.specs.Prelude.{IsNetworkOf, Network, HaveFewSets, HasTables, StaysBusy, ComponentTable}
-use Rattle.report.specs.Prelude.{verdict_status, Verdict}
+use Rattle.network_stages.specs.Prelude.{IsNetworkOf, Network, HaveFewSets, HasTables, StaysBusy}
+use Rattle.network_stages.specs.declared.component_tables.ComponentTable.{ComponentTable}
+use Rattle.report.specs.Prelude.{verdict_status}
+use Rattle.report.specs.declared.answer.Verdict.{Verdict}
 
 -- Each component has a table: it reaches finitely many terms, within the limits, of which none can end or lacks a value or goes round in silent steps.
 -- Its traces lead to few sets of terms. No event is in three alphabets, and all components are busy. The annotated sets that the rule reads have

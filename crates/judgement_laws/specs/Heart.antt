@@ -5,7 +5,8 @@ use Rattle.csp_program.specs.declared.processes.Proc.{Proc}
 use Rattle.csp_tables.specs.Prelude.{Falls, FlatStep, Label, Component, NetworkStep, Tree, leaves, Reached, Fits, Ranking, Shape}
 use Rattle.net_sound.specs.Flattening.{StepsToLeaves}
 use Rattle.net_sound.specs.Heights.{sum_of_greatest}
-use Rattle.network_stages.specs.Prelude.{HasSilentBound, IsLive, IsSpelled, Network, IsApart, HasTables, StaysBusy, ComponentTable}
+use Rattle.network_stages.specs.Prelude.{HasSilentBound, IsLive, IsSpelled, Network, IsApart, HasTables, StaysBusy}
+use Rattle.network_stages.specs.declared.component_tables.ComponentTable.{ComponentTable}
 use Rattle.process_steps.specs.ComponentStep.{ProcessStep}
 
 -- the sum of the greatest silent heights

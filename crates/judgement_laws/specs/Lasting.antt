@@ -1,6 +1,7 @@
 -- What the steps of a network do not show: that none of its components comes to an end, or to a value that there isn't.
 use Rattle.std.specs.Prelude.{◌≡◌, ℕ, Some, List, slice_get}
-use Rattle.csp_program.specs.Prelude.{Proc, Content}
+use Rattle.csp_program.specs.declared.processes.Proc.{Proc}
+use Rattle.csp_program.specs.declared.programs.Content.{Content}
 use Rattle.csp_tables.specs.Prelude.{Component, ComponentStep, Reached}
 use Rattle.process_steps.specs.Prelude.{ProcessStep, Ticks, LacksNone}
 

@@ -1,7 +1,10 @@
 -- What the proofs of this crate cite of the crates below, and of its own definitions.
 pub use Rattle.csp_base.proofs.Standard.{YieldsList-from_slice, find_from_yields_List}
-pub use Rattle.csp_base.specs.Prelude.{Stop, Tells}
-pub use Rattle.csp_program.specs.Prelude.{Expr, Outcome, ValueKind}
+pub use Rattle.csp_base.specs.Prelude.{Tells}
+pub use Rattle.csp_base.specs.declared.stop.Stop.{Stop}
+pub use Rattle.csp_program.specs.Prelude.{Outcome}
+pub use Rattle.csp_program.specs.declared.expressions.Expr.{Expr}
+pub use Rattle.csp_program.specs.declared.kinds.ValueKind.{ValueKind}
 pub use Rattle.csp_tables.specs.Network.{leaves}
 pub use Rattle.hidden_bounds.proofs.Passing.{passes_excludes, passes_once}
 pub use Rattle.hidden_bounds.specs.Prelude.{IsBound, TellsLoop}
@@ -23,7 +26,8 @@ pub use Rattle.network_trees.proofs.InOrder.{network_is_tree}
 pub use Rattle.process_steps.specs.ComponentStep.{ProcessStep}
 pub use Rattle.process_steps.specs.Prelude.{events_in}
 pub use Rattle.report.proofs.Points.{at_refusal, goes_on, refused_or, unproved_or}
-pub use Rattle.report.specs.Prelude.{Point, RefusedOr, Shortfall, passed, told, verdict_status}
+pub use Rattle.report.specs.Prelude.{Point, RefusedOr, passed, told, verdict_status}
+pub use Rattle.report.specs.declared.answer.Shortfall.{Shortfall}
 pub use Rattle.report.specs.Stops.{Answers, HaltsWith}
 pub use Rattle.report.specs.declared.answer.Done.{Done}
 pub use Rattle.report.specs.declared.answer.Refusal.{Refusal}

@@ -1,13 +1,18 @@
 -- The verdict on a network of which a bound on the hidden events is asked, where those of a set are hidden: the points at which it is refused or has no bound,
 -- in their order, and then the bound.
 use Rattle.std.specs.Prelude.{◌≡◌, ◌<◌, ◌^◌, ℕ, Some, None, Ok, Err, List, length}
-use Rattle.csp_program.specs.Prelude.{Expr, ValueKind, Content}
+use Rattle.csp_program.specs.declared.expressions.Expr.{Expr}
+use Rattle.csp_program.specs.declared.kinds.ValueKind.{ValueKind}
+use Rattle.csp_program.specs.declared.programs.Content.{Content}
 use Rattle.csp_tables.specs.Network.{leaves}
 use Rattle.hidden_bounds.specs.Found.{PassesAt}
 use Rattle.hidden_steps.specs.Order.{HasNoOrder, IsOrder, Taken, hidden_bound}
 use Rattle.network_stages.specs.Prelude.{Network, HasNoTables, HasTables}
 use Rattle.process_steps.specs.Prelude.{ProcessStep, events_in}
-use Rattle.report.specs.Prelude.{RefusedOr, UnprovedOr, Refusal, Shortfall, Verdict}
+use Rattle.report.specs.Prelude.{RefusedOr, UnprovedOr}
+use Rattle.report.specs.declared.answer.Refusal.{Refusal}
+use Rattle.report.specs.declared.answer.Shortfall.{Shortfall}
+use Rattle.report.specs.declared.answer.Verdict.{Verdict}
 use Rattle.report.specs.declared.answer.Done.TheVariants as done
 use Rattle.report.specs.declared.answer.Refusal.TheVariants as refusal
 use Rattle.report.specs.declared.answer.Shortfall.TheVariants as shortfall

@@ -1,8 +1,10 @@
 -- A bound on the hidden events of a network is told wherever there is one, and nothing else is told then.
 use Rattle.std.specs.Prelude.{◌≡◌, ℕ, List}
 use Rattle.hidden_steps.specs.Order.{Taken}
-use Rattle.network_stages.specs.Prelude.{Network, HasTables, ComponentTable}
-use Rattle.report.specs.Prelude.{verdict_status, Verdict}
+use Rattle.network_stages.specs.Prelude.{Network, HasTables}
+use Rattle.network_stages.specs.declared.component_tables.ComponentTable.{ComponentTable}
+use Rattle.report.specs.Prelude.{verdict_status}
+use Rattle.report.specs.declared.answer.Verdict.{Verdict}
 use Rattle.livelock.specs.Bounded.{HasOrder, IsBoundOf, IsBounded, IsToldBound}
 use Rattle.livelock.specs.Named.{IsSetNamed}
 

@@ -1,7 +1,10 @@
 -- The set of hidden events: the value of a definition of data without parameters.
 use Rattle.std.specs.Prelude.{◌≡◌, ℕ, Bool, ◌&&◌, Option, Some, None, Ok, List, [], ◌∷◌}
 use Rattle.csp_base.specs.Standard.{find, is_some, option_and_then, bytes_eq}
-use Rattle.csp_program.specs.Prelude.{Expr, Body, Content, Def}
+use Rattle.csp_program.specs.declared.expressions.Expr.{Expr}
+use Rattle.csp_program.specs.declared.programs.Body.{Body}
+use Rattle.csp_program.specs.declared.programs.Content.{Content}
+use Rattle.csp_program.specs.declared.programs.Def.{Def}
 use Rattle.csp_program.specs.declared.programs.Body.TheVariants as body
 use Rattle.process_steps.specs.Needed.{events_in}
 

@@ -1,7 +1,9 @@
 -- How it is told that a set has no value, and that there is no bound. (For private contracts: no public one cites this.)
 use Rattle.hidden_bounds.specs.declared.bounding.LoopFault.{LoopFault}
 use Rattle.hidden_bounds.specs.declared.bounding.LoopFault.TheVariants as fault
-use Rattle.report.specs.Prelude.{Halt, Refusal, Verdict}
+use Rattle.report.specs.declared.stop.Halt.{Halt}
+use Rattle.report.specs.declared.answer.Refusal.{Refusal}
+use Rattle.report.specs.declared.answer.Verdict.{Verdict}
 use Rattle.report.specs.declared.answer.Refusal.TheVariants as refusal
 use Rattle.report.specs.declared.answer.Shortfall.TheVariants as shortfall
 use Rattle.report.specs.declared.answer.Side.TheVariants as side

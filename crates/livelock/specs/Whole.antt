@@ -4,7 +4,8 @@ use Rattle.digraph.specs.Walk.{Walk}
 use Rattle.csp_program.specs.declared.processes.Proc.{Proc}
 use Rattle.csp_tables.specs.Prelude.{NetworkStep, Tree, Reached}
 use Rattle.hidden_steps.specs.Bounded.{HiddenStep}
-use Rattle.network_stages.specs.Prelude.{Network, HasTables, ComponentTable}
+use Rattle.network_stages.specs.Prelude.{Network, HasTables}
+use Rattle.network_stages.specs.declared.component_tables.ComponentTable.{ComponentTable}
 use Rattle.process_steps.specs.ComponentStep.{ProcessStep}
 use Rattle.report.specs.declared.answer.Verdict.{Verdict}
 use Rattle.livelock.specs.Bounded.{IsToldBound}

@@ -15,7 +15,7 @@ pub use Rattle.csp_steps.specs.Prelude.{AreFirsts, AreStepsOf, AreTargets, Fault
 pub use Rattle.csp_steps.specs.declared.step.StepTo.{StepTo}
 pub use Rattle.csp_tables.specs.Prelude.{Component, ComponentStep, IsInTable, IsStepOf, IsTableOf, Label, Path, RawStep, RawTable, Reached, event_targets, silent, silent_targets, standing_at, targets_in, visible, visible_events}
 pub use Rattle.dl_limits.specs.declared.TheConstants.{MOST_TERMS, MOST_TERM_DEPTH}
-pub use Rattle.local_tables.specs.Prelude.{AreFound, AreLed, AreRows, AreSteps, AreTabled, AreTaken, AreTerms, AreTermsOf, CanEnd, FaultsExcludeTables, IsAt, IsFollowed, IsInOrder, IsInside, IsLocalTable, IsRow, IsTabled, IsUpTo, IsWithin, LeadsToTerm, Origin, Reaches, Room, TaskLacks, counted_size, first_found, label_of, part_of, process_label, step_count, step_events, step_more, terms_at, valueless, with_term}
+pub use Rattle.local_tables.specs.Prelude.{AreFound, AreLed, AreRows, AreSteps, AreTabled, AreTaken, AreTerms, AreTermsOf, CanEnd, FaultsExcludeTables, IsAt, IsFollowed, IsInOrder, IsInside, IsLocalTable, IsRow, IsTabled, IsUpTo, IsWithin, LeadsToTerm, Origin, Reaches, Room, TaskLacks, counted_size, first_found, label_of, part_of, process_label, step_count, step_events, step_more, terms_at, with_term}
 pub use Rattle.local_tables.specs.declared.found.Found.{Found}
 pub use Rattle.local_tables.specs.declared.local_table.LocalTable.{LocalTable}
 pub use Rattle.local_tables.specs.declared.task.Task.{Task}
@@ -24,7 +24,8 @@ pub use Rattle.pool_parts.proofs.StoreLemmas.{are_once}
 pub use Rattle.pool_parts.specs.Prelude.{capped, eq_id}
 pub use Rattle.pool_parts.specs.declared.place.ProcId.{ProcId}
 pub use Rattle.process_steps.proofs.Listed.{lists_are, lists_are_there}
-pub use Rattle.process_steps.specs.Prelude.{LacksNone, Move, ProcessStep, Step, Tick, Ticks}
+pub use Rattle.process_steps.specs.Prelude.{LacksNone, Move, ProcessStep, Step, Ticks}
+pub use Rattle.process_steps.specs.declared.label.Label.TheVariants.{Tick}
 pub use Rattle.process_steps.specs.StepList.{steps_of}
 pub use Rattle.std.proofs.Common.{Bool, Err, IsTrue, List, None, Ok, Option, Result, Some, [], ap, append-nil, append_assoc, arith, cond, eq-eqb, false, inl, inr, length, nat_eq, refl, subst, suc, sym, true, zero, ℕ, ◌++◌, ◌+◌, ◌-◌, ◌<◌, ◌^◌, ◌∙◌, ◌∷◌, ◌≡◌, ◌≤◌, ◌⊎◌}
 pub use Rattle.std.proofs.lemmas.Bool.{eqb-true}

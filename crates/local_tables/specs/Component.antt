@@ -1,7 +1,8 @@
 -- A component of a program, and what stands for it: terms that it reaches by itself, and steps of these.
 use Rattle.std.specs.Prelude.{◌≡◌, ℕ, ◌+◌, IsTrue, Some, List, length, slice_get}
 use Rattle.csp_base.specs.Prelude.{EachOnce, has}
-use Rattle.csp_program.specs.Prelude.{Proc, Content}
+use Rattle.csp_program.specs.declared.processes.Proc.{Proc}
+use Rattle.csp_program.specs.declared.programs.Content.{Content}
 use Rattle.csp_steps.specs.Evaluated.{Fits}
 use Rattle.csp_tables.specs.Prelude.{Label, silent, visible, Reached, Component, ComponentStep, IsStepOf, RawStep, RawTable, standing_at}
 use Rattle.local_tables.specs.declared.task.Task.{Task}

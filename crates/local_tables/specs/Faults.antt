@@ -1,16 +1,19 @@
 -- What each fault tells of a component.
 use Rattle.std.specs.Prelude.{◌≡◌, ℕ, ◌<◌, Err, List, length, map}
 use Rattle.dl_limits.specs.declared.TheConstants.{MOST_TERMS, MOST_TERM_DEPTH}
-use Rattle.csp_program.specs.Prelude.{proc_depth, proc_size, ValueKind, Proc, Content}
+use Rattle.csp_program.specs.Prelude.{proc_depth, proc_size}
+use Rattle.csp_program.specs.declared.kinds.ValueKind.{ValueKind}
+use Rattle.csp_program.specs.declared.processes.Proc.{Proc}
+use Rattle.csp_program.specs.declared.programs.Content.{Content}
 use Rattle.csp_tables.specs.Prelude.{Reached, Component, ComponentStep, RawTable, standing_at, After}
-use Rattle.process_steps.specs.Prelude.{ProcessStep, Ticks, steps_of, ComponentFault}
+use Rattle.process_steps.specs.Prelude.{ProcessStep, Ticks, steps_of}
+use Rattle.process_steps.specs.declared.component_fault.ComponentFault.{ComponentFault}
 use Rattle.local_tables.specs.Component.{AreSteps, AreTerms, part_of, step_count}
 use Rattle.local_tables.specs.declared.task.Task.{Task}
 use Rattle.process_steps.specs.declared.component_fault.ComponentFault.TheVariants as fault
-use Rattle.value_operators.specs.Gives.{EvalFault}
 use Rattle.local_tables.specs.Room.{Room}
-use Rattle.csp_base.specs.Prelude.{total, Tells, Stop}
-use Rattle.csp_base.specs.declared.stop.Stop.TheVariants as stop
+use Rattle.csp_base.specs.Prelude.{total, Tells}
+use Rattle.csp_base.specs.declared.stop.Stop.{Stop}
 
 module _ (p : Content) (c : Component Proc) where
   -- the component reaches the term
@@ -66,11 +69,6 @@ LacksTable p c room fault.Diverges = ⊥
 LacksTable p c room fault.SubsetLimit = ⊥
 LacksTable p c room (fault.Terminates trace) = CanEnd p c trace
 
--- what is told is such a reason (for private calls, as what follows)
+-- what is told is such a reason (for private calls)
 abbrev pub TaskLacks : Task → Stop ComponentFault → Type 0
 TaskLacks task = Tells (LacksTable task.program.now (part_of task) task.room)
-
--- a fault of an evaluation
-abbrev pub valueless : EvalFault → Stop ComponentFault
-valueless stop.NoMemory = stop.NoMemory
-valueless (stop.Told kind) = stop.Told (fault.Value kind)

@@ -1,5 +1,6 @@
 -- Where a component has a table within the room, no fault tells the truth of it: so one comes exactly where one holds.
-use Rattle.csp_program.specs.Prelude.{Proc, Content}
+use Rattle.csp_program.specs.declared.processes.Proc.{Proc}
+use Rattle.csp_program.specs.declared.programs.Content.{Content}
 use Rattle.csp_tables.specs.Network.{Component}
 use Rattle.local_tables.specs.Faults.{LacksTable}
 use Rattle.local_tables.specs.LocalTable.{IsLocalTable}

@@ -1,7 +1,9 @@
 -- The table of a component of a program, within the limits.
 use Rattle.std.specs.Prelude.{◌≡◌, ℕ, ◌≤◌, Some, List, length, map, slice_get}
 use Rattle.dl_limits.specs.declared.TheConstants.{MOST_TERMS, MOST_TERM_DEPTH}
-use Rattle.csp_program.specs.Prelude.{proc_depth, proc_size, Proc, Content}
+use Rattle.csp_program.specs.Prelude.{proc_depth, proc_size}
+use Rattle.csp_program.specs.declared.processes.Proc.{Proc}
+use Rattle.csp_program.specs.declared.programs.Content.{Content}
 use Rattle.csp_steps.specs.Order.{AreTargets}
 use Rattle.csp_tables.specs.Prelude.{Label, Component, IsTableOf, RawTable, targets_in}
 use Rattle.process_steps.specs.Prelude.{ProcessStep, Ticks, LacksNone}

@@ -3,12 +3,16 @@ use Rattle.std.specs.Prelude.{◌≡◌, ◌⊎◌, ℕ, ◌+◌, ◌<◌, ◌�
 use Rattle.std.specs.Set.{is_member}
 use Rattle.csp_base.specs.Lists.{StandsIn, total}
 use Rattle.dl_limits.specs.declared.TheConstants.{MOST_TERMS, MOST_TERM_DEPTH}
-use Rattle.csp_program.specs.Prelude.{proc_depth, proc_size, Proc}
-use Rattle.csp_steps.specs.Prelude.{seen, AreFirsts, goals, StepTo}
+use Rattle.csp_program.specs.Prelude.{proc_depth, proc_size}
+use Rattle.csp_program.specs.declared.processes.Proc.{Proc}
+use Rattle.csp_steps.specs.Prelude.{seen, AreFirsts, goals}
+use Rattle.csp_steps.specs.declared.step.StepTo.{StepTo}
 use Rattle.csp_tables.specs.Prelude.{Label, silent, visible, ComponentStep, IsStepOf, RawTable, standing_at, targets_in, After}
-use Rattle.process_steps.specs.Prelude.{ProcessStep, Move, steps_of, Silent, Visible, Tick}
+use Rattle.process_steps.specs.Prelude.{ProcessStep, Move, steps_of}
+use Rattle.process_steps.specs.declared.label.Label.TheVariants.{Silent, Visible, Tick}
 use Rattle.process_steps.specs.declared.label.Label.{Label as ProcessLabel}
-use Rattle.pool_parts.specs.Prelude.{capped, eq_id, ProcId}
+use Rattle.pool_parts.specs.Prelude.{capped, eq_id}
+use Rattle.pool_parts.specs.declared.place.ProcId.{ProcId}
 use Rattle.term_pool.specs.Trees.{tree_at}
 use Rattle.local_tables.specs.Component.{IsInside, part_of, step_count}
 use Rattle.local_tables.specs.Room.{Room}

@@ -3,7 +3,7 @@
 ghost use Rattle.std.specs.Prelude.{◌≡◌, ◌+◌, ◌<◌, ◌≤◌, Some, length, slice_get, IfOk, IfErr, OnOk};
 ghost use Rattle.csp_base.specs.Prelude.{Tells};
 ghost use Rattle.csp_steps.specs.declared.step.StepTo.{StepTo as Step};
-ghost use Rattle.local_tables.specs.Prelude.{AreTermsOf, IsInside, part_of, step_count, LacksTable, TaskLacks, valueless, IsLocalTable, IsAt, IsUpTo, label_of, process_label, step_more};
+ghost use Rattle.local_tables.specs.Prelude.{AreTermsOf, IsInside, part_of, step_count, LacksTable, TaskLacks, IsLocalTable, IsAt, IsUpTo, label_of, process_label, step_more};
 
 use crate::found::{Found, begin, check, term_number};
 use crate::local_table::{LocalTable, Room};
@@ -13,7 +13,6 @@ use crate::terms::{Terms, make_room};
 use csp_base::{Event, NoMemory, Stop};
 use csp_steps::{StepTo, steps_in};
 use csp_tables::RawTable;
-use csp_values::EvalFault;
 use process_steps::{ComponentFault, Label};
 use std::alloc::Global;
 use term_pool::Pool;
@@ -73,22 +72,13 @@ fn follow(
     let Terms { pool, evaluated } = terms;
     let steps = match steps_in(task.program, pool, evaluated, id) {
         Ok(steps) => steps,
-        Err(fault) => return Err(valueless(fault)),
+        Err(Stop::NoMemory) => return Err(Stop::NoMemory),
+        Err(Stop::Told(kind)) => return Err(Stop::Told(ComponentFault::Value { kind })),
     };
     for place in 0..steps.len() {
         take(alloc, task, pool, found, at, steps.as_slice(), place)?;
     }
     Ok(())
-}
-
-// That a step needs a value that there isn't.
-fn valueless(fault: EvalFault) -> Stop<ComponentFault>
-    ensures { result ≡ valueless fault }
-{
-    match fault {
-        Stop::NoMemory => Stop::NoMemory,
-        Stop::Told(kind) => Stop::Told(ComponentFault::Value { kind }),
-    }
 }
 
 // Takes one of the steps of the term with the number `at` into the table, if its event is in the alphabet.

@@ -2,8 +2,10 @@
 use Rattle.std.specs.Prelude.{◌≡◌, ◌&&◌, ◌∷◌, ◌++◌}
 use Rattle.name_faults.specs.Prelude.{ℕ, Bool, false, nat_lt, Option, List, [], length, slice_get, slice_index, flat_map, Decl, kind_class, Name, Meanings, is_among, tree_says, annotation_says, body_place, data_place, declared_after, fault_of, first_fault, is_data, names_declared, next_definition, parameters_after, root_place, types_say, with_roles, with_uses, Occurrence}
 use Rattle.dl_limits.specs.declared.TheConstants.{MOST_DATA_DEPTH}
-use Rattle.csp_text.specs.Prelude.{ResourceNames, RolesNames}
-use Rattle.script_names.specs.Prelude.{ResolveFault, Kind}
+use Rattle.csp_text.specs.declared.token.ResourceNames.{ResourceNames}
+use Rattle.csp_text.specs.declared.token.RolesNames.{RolesNames}
+use Rattle.script_names.specs.declared.fault.ResolveFault.{ResolveFault}
+use Rattle.script_names.specs.declared.kinds.Kind.{Kind}
 use Rattle.name_tables.specs.Firsts.{SameNames}
 use Rattle.name_faults.specs.declared.known.Known.{Known}
 

@@ -3,7 +3,13 @@
 use Rattle.std.specs.Prelude.{◌∷◌, ◌++◌}
 use Rattle.name_faults.specs.Prelude.{ℕ, false, List, [], length, map, Tree, Entities, Meanings, Name, first_of, sense_in, Binder, Fields, Said, all_say, data_in, network_in, process_in, event_says_of_layer, field_says_of_layer, gen_says_of_layer, in_turn, pair_says, part_says, part_says_of_layer, tree_says, tree_says_of_layer, Occurrence, Binds, Notes, Uses, Form, Parallel, Declares, Use}
 use Rattle.std.specs.Borrow.{Bor}
-use Rattle.csp_text.specs.Prelude.{greatest_of_pairs, part_depth, EventTree, FieldTree, fold-FieldTree, fold-GenTree, fold-EventTree, fold-PartTree, out-EventTree, GenTree, PartTree}
+use Rattle.csp_text.specs.Prelude.{greatest_of_pairs, part_depth}
+use Rattle.csp_text.specs.declared.tree.EventTree.{EventTree}
+use Rattle.csp_text.specs.declared.tree.FieldTree.{FieldTree, fold-FieldTree}
+use Rattle.csp_text.specs.declared.tree.FieldTree.TheFolds.{fold-GenTree, fold-EventTree, fold-PartTree}
+use Rattle.csp_text.specs.declared.tree.FieldTree.TheViews.{out-EventTree}
+use Rattle.csp_text.specs.declared.tree.GenTree.{GenTree}
+use Rattle.csp_text.specs.declared.tree.PartTree.{PartTree}
 use Rattle.script_names.specs.declared.kinds.Place.{Place}
 use Rattle.script_names.specs.Says.{under}
 

@@ -1,5 +1,5 @@
 -- What the proofs of this crate cite of the crates below, and of its own definitions.
-pub use Rattle.csp_atoms.specs.Prelude.{One}
+pub use Rattle.csp_atoms.specs.declared.value.Value.TheVariants.{One}
 pub use Rattle.csp_atoms.specs.declared.atom.Atom.{Atom}
 pub use Rattle.csp_base.proofs.Lists.{drop_read, map_push, take_read}
 pub use Rattle.csp_base.proofs.Results.{pushed}
@@ -10,10 +10,11 @@ pub use Rattle.csp_base.specs.Members.{has}
 pub use Rattle.csp_base.specs.Prelude.{Tells}
 pub use Rattle.csp_base.specs.declared.stop.Stop.{Stop}
 pub use Rattle.csp_program.specs.Outcome.{Outcome}
-pub use Rattle.csp_program.specs.Prelude.{Env, Net-F, and_then, out-Net, value_within, with_bound}
+pub use Rattle.csp_program.specs.Prelude.{Env, and_then, value_within, with_bound}
+pub use Rattle.csp_program.specs.declared.networks.Net.TheOpen.{Net-F}
+pub use Rattle.csp_program.specs.declared.networks.Net.TheViews.{out-Net, out-roll-Net}
 pub use Rattle.csp_program.specs.Value.{bound_to}
 pub use Rattle.csp_program.specs.declared.expressions.Expr.{Expr}
-pub use Rattle.csp_program.specs.declared.networks.Net.TheViews.{out-roll-Net}
 pub use Rattle.csp_program.specs.declared.networks.Net.{Net, the_lemmas}
 pub use Rattle.csp_program.specs.declared.processes.Proc.{Proc}
 pub use Rattle.csp_program.specs.declared.programs.Content.{Content}

@@ -1,9 +1,19 @@
 -- What the calls of the walk of a network answer. A fault is that of the definition, and want of memory is free.
 use Rattle.std.specs.Prelude.{◌≡◌, ℕ, Some, Result, Ok, Err, List, [], ◌∷◌, ◌++◌, length}
 use Rattle.dl_limits.specs.declared.TheConstants.{MOST_NETWORK_DEPTH}
-use Rattle.csp_base.specs.Prelude.{Tells, Stop}
-use Rattle.csp_atoms.specs.Prelude.{Atom, Value, One}
-use Rattle.csp_program.specs.Prelude.{with_bound, Outcome, given_by, proc_with, Env, bound_to, Expr, ValueKind, Net, Net-F, Proc, Content, Def}
+use Rattle.csp_base.specs.Prelude.{Tells}
+use Rattle.csp_base.specs.declared.stop.Stop.{Stop}
+use Rattle.csp_atoms.specs.declared.atom.Atom.{Atom}
+use Rattle.csp_atoms.specs.declared.value.Value.{Value}
+use Rattle.csp_atoms.specs.declared.value.Value.TheVariants.{One}
+use Rattle.csp_program.specs.Prelude.{with_bound, Outcome, given_by, proc_with, Env, bound_to}
+use Rattle.csp_program.specs.declared.expressions.Expr.{Expr}
+use Rattle.csp_program.specs.declared.kinds.ValueKind.{ValueKind}
+use Rattle.csp_program.specs.declared.networks.Net.{Net}
+use Rattle.csp_program.specs.declared.networks.Net.TheOpen.{Net-F}
+use Rattle.csp_program.specs.declared.processes.Proc.{Proc}
+use Rattle.csp_program.specs.declared.programs.Content.{Content}
+use Rattle.csp_program.specs.declared.programs.Def.{Def}
 use Rattle.csp_tables.specs.Network.{Component, Tree, leaves}
 use Rattle.network_trees.specs.Joint.{joint}
 use Rattle.network_trees.specs.NetworkOf.{Walked, all_events, each_operand, events_under, goes_on, nested, network_called, next_component, side_by_side, tree_within, walked_node, with_value}

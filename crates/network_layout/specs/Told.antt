@@ -2,7 +2,8 @@
 use Rattle.std.specs.Prelude.{ℕ, List}
 use Rattle.csp_base.specs.declared.stop.Stop.{Stop}
 use Rattle.csp_base.specs.declared.stop.Stop.TheVariants as stop
-use Rattle.csp_program.specs.Prelude.{Outcome, Proc}
+use Rattle.csp_program.specs.Prelude.{Outcome}
+use Rattle.csp_program.specs.declared.processes.Proc.{Proc}
 use Rattle.csp_tables.specs.Network.{Component}
 use Rattle.network_trees.specs.Annotations.{IsFirstWithout}
 use Rattle.network_layout.specs.declared.told.NotedFault.{NotedFault}

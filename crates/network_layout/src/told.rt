@@ -4,7 +4,9 @@ ghost use Rattle.std.specs.Prelude.{◌≡◌, [], false, IfErr, IfOk, Ok, Some,
 ghost use Rattle.std.specs.Option.{option_copied};
 ghost use Rattle.dl_limits.specs.declared.TheConstants.{MOST_COMPONENTS};
 ghost use Rattle.csp_base.specs.Stops.{Tells};
-ghost use Rattle.csp_program.specs.Prelude.{Outcome, Proc, Content};
+ghost use Rattle.csp_program.specs.Prelude.{Outcome};
+ghost use Rattle.csp_program.specs.declared.processes.Proc.{Proc};
+ghost use Rattle.csp_program.specs.declared.programs.Content.{Content};
 ghost use Rattle.csp_tables.specs.Network.{Component};
 ghost use Rattle.process_steps.specs.Needed.{all_outcomes};
 ghost use Rattle.network_trees.specs.Annotations.{component_roles, component_uses, resource_note, roles_note, told_roles, told_set, told_uses};

@@ -11,7 +11,7 @@ pub use Rattle.csp_tables.proofs.Runs.{sharers_other, sharers_own}
 pub use Rattle.csp_tables.specs.Network.{Tree}
 pub use Rattle.csp_tables.specs.Part.{sharers}
 pub use Rattle.csp_tables.specs.Prelude.{After, ArePartsOf, Component, ComponentStep, HasForm, HaveForm, IsAcceptance, IsBelow, IsBusy, IsBusyShape, IsLinked, IsNonEmpty, IsNormalTable, IsPartOf, IsReached, IsRun, IsShapeOf, IsSilentBound, IsTableOf, IsWellFormed, JoinsTwo, Label, Link, LinksAreOrdered, Meet, Node, Part, Path, RawStep, RawTable, Shape, SilentStep, Silently, TripleDisjoint, acceptances_after, alphabets_of, end_of, leaves, node_at, part_at, silent, standing_at}
-pub use Rattle.csp_text.specs.Prelude.{Script}
+pub use Rattle.csp_text.specs.declared.script.Script.{Script}
 pub use Rattle.determinise.specs.ManySets.{ReachesSets}
 pub use Rattle.digraph.specs.Prelude.{AreHeights, IsCircle, Leads, Walk}
 pub use Rattle.dl_limits.specs.declared.TheConstants.{MOST_COMPONENTS, MOST_NODES, MOST_SETS, MOST_STEPS, MOST_TERMS}
@@ -38,8 +38,10 @@ pub use Rattle.network_trees.proofs.InOrder.{network_is_tree}
 pub use Rattle.network_trees.specs.NetworkOf.{network_of}
 pub use Rattle.observed_runs.specs.Observed.{pair_at}
 pub use Rattle.process_steps.specs.ComponentStep.{ProcessStep}
-pub use Rattle.process_steps.specs.Prelude.{ComponentFault}
-pub use Rattle.report.specs.Prelude.{Answer, Shortfall, Side}
+pub use Rattle.process_steps.specs.declared.component_fault.ComponentFault.{ComponentFault}
+pub use Rattle.report.specs.declared.answer.Answer.{Answer}
+pub use Rattle.report.specs.declared.answer.Shortfall.{Shortfall}
+pub use Rattle.report.specs.declared.answer.Side.{Side}
 pub use Rattle.report.specs.declared.answer.Refusal.{Refusal}
 pub use Rattle.script_names.specs.Prelude.{IsProgram}
 pub use Rattle.std.proofs.Common.{Bool, Err, IfErr, IsTrue, List, None, Ok, Option, Result, Some, [], add-one, ap, arith, cond, drop, eq-eqb, false, get_or, inl, inr, length, map, max, min, nat_eq, refl, replicate, slice_get, subst, suc, sym, take, true, vec_len, zero, ℕ, ◌*◌, ◌++◌, ◌+◌, ◌-◌, ◌<◌, ◌||◌, ◌∙◌, ◌∷◌, ◌≡◌, ◌≢◌, ◌≤◌}

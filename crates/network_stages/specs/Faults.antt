@@ -1,9 +1,11 @@
 -- What each fault tells of the components of a network: which one is the first that has no table, and why.
 use Rattle.std.specs.Prelude.{◌≡◌, ◌⊎◌, ℕ, Some, List, slice_get, take}
-use Rattle.csp_program.specs.Prelude.{Proc, Content}
+use Rattle.csp_program.specs.declared.processes.Proc.{Proc}
+use Rattle.csp_program.specs.declared.programs.Content.{Content}
 use Rattle.csp_tables.specs.Prelude.{Component, SilentStep, RawStep}
 use Rattle.digraph.specs.Circle.{IsCircle}
-use Rattle.local_tables.specs.Prelude.{LacksTable, IsLocalTable, Room, LocalTable}
+use Rattle.local_tables.specs.Prelude.{LacksTable, IsLocalTable, Room}
+use Rattle.local_tables.specs.declared.local_table.LocalTable.{LocalTable}
 use Rattle.network_stages.specs.Tables.{AreTablesOf, room_left, whole_room}
 use Rattle.network_stages.specs.declared.component_tables.ComponentTable.{ComponentTable}
 use Rattle.process_steps.specs.declared.component_fault.ComponentFault.{ComponentFault}

@@ -1,6 +1,7 @@
 -- Why components have no tables, in the words of the report, excludes that they have them: so each comes exactly where it holds.
 use Rattle.std.specs.Prelude.{ℕ, List}
-use Rattle.csp_program.specs.Prelude.{Proc, Content}
+use Rattle.csp_program.specs.declared.processes.Proc.{Proc}
+use Rattle.csp_program.specs.declared.programs.Content.{Content}
 use Rattle.csp_tables.specs.Network.{Component}
 use Rattle.report.specs.declared.answer.Refusal.{Refusal}
 use Rattle.network_stages.specs.Stages.{HaveNoTables}

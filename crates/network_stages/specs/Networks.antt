@@ -1,6 +1,7 @@
 -- The network of a script: the tree of its components, over the script's program. What is proved of it.
 use Rattle.std.specs.Prelude.{◌≡◌, ℕ, Ok, Err, List}
-use Rattle.csp_program.specs.Prelude.{Proc, Content}
+use Rattle.csp_program.specs.declared.processes.Proc.{Proc}
+use Rattle.csp_program.specs.declared.programs.Content.{Content}
 use Rattle.csp_tables.specs.Prelude.{Live, Component, NetworkStep, Tree, leaves, none, parallel, IsSilentBound}
 use Rattle.csp_text.specs.declared.script.Script.{Script}
 use Rattle.network_trees.specs.NetworkOf.{Walked, network_of}

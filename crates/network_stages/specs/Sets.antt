@@ -1,7 +1,8 @@
 -- Components whose traces lead to too many sets of terms, and the parts of those whose traces do not.
 use Rattle.std.specs.Prelude.{◌≡◌, ℕ, ◌+◌, ◌<◌, Some, List, length, slice_get}
 use Rattle.dl_limits.specs.declared.TheConstants.{MOST_SETS}
-use Rattle.csp_program.specs.Prelude.{Proc, Content}
+use Rattle.csp_program.specs.declared.processes.Proc.{Proc}
+use Rattle.csp_program.specs.declared.programs.Content.{Content}
 use Rattle.csp_tables.specs.Prelude.{Component, ComponentStep, Part, ArePartsOf}
 use Rattle.determinise.specs.ManySets.{ReachesSets}
 use Rattle.process_steps.specs.ComponentStep.{ProcessStep}

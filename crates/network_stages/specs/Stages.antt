@@ -1,6 +1,7 @@
 -- What a network has at each stage of a walk, and what is told where it has it not: the fault that is there.
 use Rattle.std.specs.Prelude.{◌≡◌, ◌⊎◌, ℕ, ◌+◌, Err, List, [], ◌∷◌}
-use Rattle.csp_program.specs.Prelude.{Proc, Content}
+use Rattle.csp_program.specs.declared.processes.Proc.{Proc}
+use Rattle.csp_program.specs.declared.programs.Content.{Content}
 use Rattle.csp_tables.specs.Prelude.{Component, leaves, Part, AreBusy}
 use Rattle.csp_text.specs.declared.script.Script.{Script}
 use Rattle.network_layout.specs.Triple.{SharesEvent, alphabets}
@@ -10,15 +11,20 @@ use Rattle.network_stages.specs.Tables.{AreTablesOf}
 use Rattle.network_stages.specs.declared.component_tables.ComponentTable.{ComponentTable}
 use Rattle.network_trees.specs.NetworkOf.{network_of}
 use Rattle.network_trees.specs.declared.fault.LayoutFault.{LayoutFault}
-use Rattle.process_steps.specs.Prelude.{ProcessStep, ComponentFault}
+use Rattle.process_steps.specs.Prelude.{ProcessStep}
+use Rattle.process_steps.specs.declared.component_fault.ComponentFault.{ComponentFault}
 use Rattle.process_steps.specs.declared.component_fault.ComponentFault.TheVariants as fault
-use Rattle.report.specs.Prelude.{Answer, Refusal, Shortfall, Side}
+use Rattle.report.specs.declared.answer.Answer.{Answer}
+use Rattle.report.specs.declared.answer.Refusal.{Refusal}
+use Rattle.report.specs.declared.answer.Shortfall.{Shortfall}
+use Rattle.report.specs.declared.answer.Side.{Side}
 use Rattle.report.specs.declared.answer.Answer.TheVariants as answer
 use Rattle.report.specs.declared.answer.Refusal.TheVariants as refusal
 use Rattle.report.specs.declared.answer.Shortfall.TheVariants as shortfall
 use Rattle.report.specs.declared.answer.TextFault.TheVariants as text
 use Rattle.report.specs.declared.answer.Verdict.TheVariants as verdict
-use Rattle.script_names.specs.Prelude.{IsProgram, IsRefused, ResolveFault}
+use Rattle.script_names.specs.Prelude.{IsProgram, IsRefused}
+use Rattle.script_names.specs.declared.fault.ResolveFault.{ResolveFault}
 use Rattle.network_stages.specs.Busy.{StopsFirstIn}
 use Rattle.network_stages.specs.Networks.{Network}
 use Rattle.network_stages.specs.Sets.{ArePartsBy, IsFirstWithManySets}

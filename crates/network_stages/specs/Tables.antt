@@ -1,7 +1,8 @@
 -- The tables of the components of a network, each within the room that those before it leave.
 use Rattle.std.specs.Prelude.{◌-◌, List, [], ◌∷◌}
 use Rattle.dl_limits.specs.declared.TheConstants.{MOST_NODES, MOST_STEPS}
-use Rattle.csp_program.specs.Prelude.{Proc, Content}
+use Rattle.csp_program.specs.declared.processes.Proc.{Proc}
+use Rattle.csp_program.specs.declared.programs.Content.{Content}
 use Rattle.csp_tables.specs.Network.{Component}
 use Rattle.local_tables.specs.Prelude.{IsLocalTable, Room}
 use Rattle.net_sound.specs.Heights.{AreSilentHeights}

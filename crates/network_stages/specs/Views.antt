@@ -1,6 +1,7 @@
 -- As what contracts see the stages of a walk: a network with what is there now. (For the types of the stages alone.)
 use Rattle.std.specs.Prelude.{ℕ, List}
-use Rattle.csp_program.specs.Prelude.{Proc, Content}
+use Rattle.csp_program.specs.declared.processes.Proc.{Proc}
+use Rattle.csp_program.specs.declared.programs.Content.{Content}
 use Rattle.csp_tables.specs.Prelude.{Component, Part, Shape}
 use Rattle.network_stages.specs.declared.component_tables.ComponentTable.{ComponentTable}
 use Rattle.network_stages.specs.Networks.{Network}

@@ -2,7 +2,8 @@
 
 ghost use Rattle.std.specs.Prelude.{◌≡◌, ◌≤◌, ◌+◌, ◌<◌, List, length, max, map};
 ghost use Rattle.dl_limits.specs.declared.TheConstants.{MOST_COMPONENTS};
-ghost use Rattle.csp_program.specs.Prelude.{Proc, Content};
+ghost use Rattle.csp_program.specs.declared.processes.Proc.{Proc};
+ghost use Rattle.csp_program.specs.declared.programs.Content.{Content};
 ghost use Rattle.csp_tables.specs.Prelude.{Component, IsSilentBound};
 ghost use Rattle.net_sound.specs.Heights.{sum_of_greatest};
 ghost use Rattle.process_steps.specs.ComponentStep.{ProcessStep};

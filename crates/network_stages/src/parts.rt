@@ -4,7 +4,8 @@ ghost use Rattle.std.specs.Prelude.{◌≡◌, ◌≤◌, ◌<◌, ◌++◌, ◌
 ghost use Rattle.dl_limits.specs.declared.TheConstants.{MOST_COMPONENTS};
 ghost use Rattle.csp_tables.specs.Prelude.{HasForm, HaveForm, ArePartsOf, IsPartOf};
 ghost use Rattle.network_stages.specs.Prelude.{HasManySets, HaveFewSets, HasNoParts, HasParts, HaveNoParts, AreTablesOf, HasTable};
-ghost use Rattle.process_steps.specs.Prelude.{ProcessStep, SubsetLimit};
+ghost use Rattle.process_steps.specs.Prelude.{ProcessStep};
+ghost use Rattle.process_steps.specs.declared.component_fault.ComponentFault.TheVariants.{SubsetLimit};
 ghost use Rattle.csp_base.specs.Stops.{Tells};
 ghost use Rattle.report.specs.declared.answer.Refusal.TheVariants as refusal;
 

@@ -1,10 +1,17 @@
 -- What proofs of this crate cite of elsewhere, under one name.
-pub use Rattle.csp_atoms.specs.Prelude.{Atom, One}
+pub use Rattle.csp_atoms.specs.declared.atom.Atom.{Atom}
+pub use Rattle.csp_atoms.specs.declared.value.Value.TheVariants.{One}
 pub use Rattle.csp_base.proofs.Rising.{has-union_of}
 pub use Rattle.csp_base.proofs.SetLaws.{has-diff_of}
 pub use Rattle.csp_base.proofs.Standard.{length-append, ltb-true}
 pub use Rattle.csp_base.specs.Prelude.{diff_of, has}
-pub use Rattle.csp_program.specs.Prelude.{Content, Env, Expr, Net, Net-F, Outcome, Proc, given_by, out-Net, proc_with}
+pub use Rattle.csp_program.specs.Prelude.{Env, Outcome, given_by, proc_with}
+pub use Rattle.csp_program.specs.declared.programs.Content.{Content}
+pub use Rattle.csp_program.specs.declared.expressions.Expr.{Expr}
+pub use Rattle.csp_program.specs.declared.networks.Net.{Net}
+pub use Rattle.csp_program.specs.declared.networks.Net.TheOpen.{Net-F}
+pub use Rattle.csp_program.specs.declared.processes.Proc.{Proc}
+pub use Rattle.csp_program.specs.declared.networks.Net.TheViews.{out-Net}
 pub use Rattle.csp_tables.specs.Prelude.{Component, Operands, OperandsWellNested, Tree, WellNested, in_some_component, leaf, leaves, leaves_of_operands, none, operand, parallel}
 pub use Rattle.dl_limits.specs.declared.TheConstants.{MOST_COMPONENTS}
 pub use Rattle.network_trees.specs.Joint.{first_event, joint, lesser, odd_event}

@@ -2,7 +2,15 @@
 -- values of the arguments of that call. Of any other component, as one whose process is an `if` or calls an annotated one later, nothing is told.
 use Rattle.std.specs.Prelude.{◌≡◌, ℕ, true, false, nat_eq, Option, Some, None, Ok, Err, List, [], slice_get, take}
 use Rattle.std.specs.List.{find}
-use Rattle.csp_program.specs.Prelude.{Outcome, and_then, Expr, ValueKind, Proc, Proc-F, out-Proc, Content, ResourceNote, RolesNote}
+use Rattle.csp_program.specs.Prelude.{Outcome, and_then}
+use Rattle.csp_program.specs.declared.expressions.Expr.{Expr}
+use Rattle.csp_program.specs.declared.kinds.ValueKind.{ValueKind}
+use Rattle.csp_program.specs.declared.processes.Proc.{Proc}
+use Rattle.csp_program.specs.declared.processes.Proc.TheOpen.{Proc-F}
+use Rattle.csp_program.specs.declared.processes.Proc.TheViews.{out-Proc}
+use Rattle.csp_program.specs.declared.programs.Content.{Content}
+use Rattle.csp_program.specs.declared.programs.ResourceNote.{ResourceNote}
+use Rattle.csp_program.specs.declared.programs.RolesNote.{RolesNote}
 use Rattle.csp_tables.specs.Prelude.{Component, RoleSets, UseSets}
 use Rattle.process_steps.specs.Needed.{all_outcomes, events_in}
 use Rattle.csp_program.specs.declared.expressions.Expr.TheVariants as expr

@@ -3,7 +3,8 @@ use Rattle.std.specs.Prelude.{◌≡◌, ◌≤◌, Ok, length}
 use Rattle.dl_limits.specs.declared.TheConstants.{MOST_COMPONENTS}
 use Rattle.csp_tables.specs.Prelude.{Tree, leaves, WellNested}
 use Rattle.network_trees.specs.NetworkOf.{network_of}
-use Rattle.csp_program.specs.Prelude.{Proc, Content}
+use Rattle.csp_program.specs.declared.processes.Proc.{Proc}
+use Rattle.csp_program.specs.declared.programs.Content.{Content}
 
 -- each operand's alphabet has the events of its components
 abbrev pub NetworksAreWellNested : Type 0

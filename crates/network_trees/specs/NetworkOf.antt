@@ -11,8 +11,20 @@
 use Rattle.std.specs.Prelude.{ℕ, zero, suc, ◌+◌, nat_lt, Bool, if◌then◌else◌, Option, Some, None, Result, Ok, Err, List, [], ◌∷◌, length, slice_get}
 use Rattle.std.specs.List.{range_with_len}
 use Rattle.dl_limits.specs.declared.TheConstants.{MOST_COMPONENTS, MOST_NETWORK_DEPTH}
-use Rattle.csp_atoms.specs.Prelude.{event_numbers, Atom, Value, One}
-use Rattle.csp_program.specs.Prelude.{Outcome, and_then, given_by, proc_with, Env, as_truth, bound_to, Expr, Kind, Net, Net-F, out-Net, Proc, Body, Content, Def}
+use Rattle.csp_atoms.specs.Prelude.{event_numbers}
+use Rattle.csp_atoms.specs.declared.atom.Atom.{Atom}
+use Rattle.csp_atoms.specs.declared.value.Value.{Value}
+use Rattle.csp_atoms.specs.declared.value.Value.TheVariants.{One}
+use Rattle.csp_program.specs.Prelude.{Outcome, and_then, given_by, proc_with, Env, as_truth, bound_to}
+use Rattle.csp_program.specs.declared.expressions.Expr.{Expr}
+use Rattle.csp_program.specs.declared.kinds.ValueKind.TheVariants.{Kind}
+use Rattle.csp_program.specs.declared.networks.Net.{Net}
+use Rattle.csp_program.specs.declared.networks.Net.TheOpen.{Net-F}
+use Rattle.csp_program.specs.declared.networks.Net.TheViews.{out-Net}
+use Rattle.csp_program.specs.declared.processes.Proc.{Proc}
+use Rattle.csp_program.specs.declared.programs.Body.{Body}
+use Rattle.csp_program.specs.declared.programs.Content.{Content}
+use Rattle.csp_program.specs.declared.programs.Def.{Def}
 use Rattle.csp_tables.specs.Prelude.{Component, Tree, Operands, leaves, leaf, parallel, none, operand}
 use Rattle.process_steps.specs.Prelude.{all_outcomes, needed_events, set_under, value_under}
 use Rattle.network_trees.specs.Joint.{joint, odd_event}

@@ -5,7 +5,7 @@ pub use Rattle.csp_base.proofs.Standard.{MatchBool-at_false, MatchBool-at_true, 
 pub use Rattle.csp_base.specs.Members.{has}
 pub use Rattle.csp_base.specs.Prelude.{StandsIn}
 pub use Rattle.csp_base.specs.Standard.{option_map}
-pub use Rattle.csp_program.specs.Prelude.{Content}
+pub use Rattle.csp_program.specs.declared.programs.Content.{Content}
 pub use Rattle.csp_program.specs.declared.processes.Proc.{Proc}
 pub use Rattle.csp_steps.proofs.Targets.{targets_one}
 pub use Rattle.csp_steps.specs.Order.{AreTargets}
@@ -30,7 +30,8 @@ pub use Rattle.numbered_walks.specs.Prelude.{AllCan, AllDo, AllDraw, AreOptions,
 pub use Rattle.numbered_walks.specs.declared.moves.Move.{Move}
 pub use Rattle.process_steps.specs.ComponentStep.{ProcessStep}
 pub use Rattle.report.proofs.Points.{at_refusal, at_want, goes_on}
-pub use Rattle.report.specs.Prelude.{Answers, Halt}
+pub use Rattle.report.specs.Prelude.{Answers}
+pub use Rattle.report.specs.declared.stop.Halt.{Halt}
 pub use Rattle.report.specs.declared.answer.Done.{Done}
 pub use Rattle.std.proofs.Common.{Bool, Err, IsTrue, List, MatchBool, Ok, Result, Some, [], ap, append_assoc, ap₂, arith, drop, get_or, inl, inr, length, map, nat_eq, refl, rules, set, slice_get, subst, suc, sym, true, zero, ℕ, ◌++◌, ◌+◌, ◌<◌, ◌||◌, ◌↔◌, ◌∙◌, ◌∷◌, ◌≡◌, ◌≤◌, ◌⊎◌}
 pub use Rattle.std.proofs.lemmas.Option.{slice_get_within}

@@ -1,7 +1,8 @@
 -- Where the components of a network go by a move, over any terms, with the terms to which one goes by a label, in their order.
 use Rattle.std.specs.Prelude.{◌≡◌, ℕ, ◌+◌, MatchBool, List, [], ◌∷◌}
 use Rattle.csp_tables.specs.Prelude.{Label, Component}
-use Rattle.numbered_walks.specs.Prelude.{IsDrawn, label, takes_part, Move}
+use Rattle.numbered_walks.specs.Prelude.{IsDrawn, label, takes_part}
+use Rattle.numbered_walks.specs.declared.moves.Move.{Move}
 
 module _ {T : Type 0} (Targets : T → Label → List T → Type 0) where
   -- among the terms to which the component goes by the label, d is drawn

@@ -4,7 +4,8 @@
 -- the network has no option it has no step. A state without steps is stable and has no event, so a network that reaches one is not live.
 use Rattle.std.specs.Prelude.{◌≡◌, ◌↔◌, ℕ, Bool, true, List, map}
 use Rattle.csp_tables.specs.Prelude.{Label, Live, NetworkStep, Tree, Path, Reached, WellNested}
-use Rattle.numbered_walks.specs.Prelude.{HasNone, IsWalk, IsWalkOf, label, Move}
+use Rattle.numbered_walks.specs.Prelude.{HasNone, IsWalk, IsWalkOf, label}
+use Rattle.numbered_walks.specs.declared.moves.Move.{Move}
 use Rattle.network_walks.specs.Moves.{Goes, Has, IsStuck}
 
 -- the moves of a walk are the labels of a run

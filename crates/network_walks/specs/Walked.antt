@@ -2,9 +2,11 @@
 use Rattle.std.specs.Prelude.{◌≡◌, ℕ, Bool, true, false, List}
 use Rattle.csp_steps.specs.Order.{AreTargets}
 use Rattle.network_stages.specs.Prelude.{Network, HasNoTables, HasTables}
-use Rattle.numbered_walks.specs.Prelude.{IsWalkOf, Move}
+use Rattle.numbered_walks.specs.Prelude.{IsWalkOf}
+use Rattle.numbered_walks.specs.declared.moves.Move.{Move}
 use Rattle.process_steps.specs.ComponentStep.{ProcessStep}
-use Rattle.report.specs.Prelude.{RefusedOr, Verdict}
+use Rattle.report.specs.Prelude.{RefusedOr}
+use Rattle.report.specs.declared.answer.Verdict.{Verdict}
 use Rattle.report.specs.declared.answer.Done.TheVariants as done
 use Rattle.report.specs.declared.answer.Side.TheVariants as side
 use Rattle.report.specs.declared.answer.Verdict.TheVariants as verdict

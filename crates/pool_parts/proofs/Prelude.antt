@@ -6,7 +6,11 @@ pub use Rattle.csp_base.proofs.Standard.{IsDistinct-head, IsDistinct-tail, or_ri
 pub use Rattle.csp_base.specs.Prelude.{EachOnce, greatest, total}
 pub use Rattle.csp_base.specs.Standard.{AllByRecursion, IsDistinct, is_member}
 pub use Rattle.csp_program.proofs.expressions.Expr.TheLaws.{the_size}
-pub use Rattle.csp_program.specs.Prelude.{Binding, EventPart, Expr, Field, Gen, Given, Names, any_of, before, either, expr_depth, expr_free, expr_size, field_depth, field_size, gen_binding, gen_depth, gen_size, given_by, nowhere, pair_depth, pair_free, pair_size, part_depth, part_free, part_size, under}
+pub use Rattle.csp_program.specs.Prelude.{Binding, Given, Names, any_of, before, either, expr_depth, expr_free, expr_size, field_depth, field_size, gen_binding, gen_depth, gen_size, given_by, nowhere, pair_depth, pair_free, pair_size, part_depth, part_free, part_size, under}
+pub use Rattle.csp_program.specs.declared.expressions.EventPart.{EventPart}
+pub use Rattle.csp_program.specs.declared.expressions.Expr.{Expr}
+pub use Rattle.csp_program.specs.declared.processes.Field.{Field}
+pub use Rattle.csp_program.specs.declared.expressions.Gen.{Gen}
 pub use Rattle.pool_parts.specs.Counting.{capped}
 unfoldable pub use Rattle.pool_parts.specs.Low.{IsLow}
 pub use Rattle.pool_parts.specs.Stored.{AreNoted, IsAbsent, IsMeasure, IsStart}

@@ -12,7 +12,12 @@ pub use Rattle.csp_grammar.specs.Prelude.{AtomText, Choice, ChoiceText, Conditio
 pub use Rattle.csp_lexer.proofs.SymbolsLemmas.{symbol_has_byte}
 pub use Rattle.csp_lexer.specs.Prelude.{Piece, PlacedTokens, added, after_comments, asserted, assertion_or_token, before, beginning, behind_all, continued, cut_line, ends_line, is_blank, is_digit, is_letter, is_name_byte, is_prime, is_space, lexed, line_comment, nothing, nothing_before, one, one_at, one_before, symbol_with_len, then_cut, tokens_of, with_len, word_or_name, word_token}
 unfoldable pub use Rattle.csp_lexer.specs.Prelude.{after_arguments, after_call, after_closing, assertion, begins_assertion, cut, digits_len, front, is_closed, is_deadlock_assertion, is_deadlock_free, is_foreign, is_name, line_front, line_len, line_piece, longest_symbol, marked_piece, number_token, reserved_word, resource, rest_len, roles, symbol_at, token_at, word_len, word_rest_len, words_of}
-pub use Rattle.csp_text.specs.Prelude.{Assert, Channel, ResourceNames, RolesNames, Script, field_depth, fold-roll-EventTree, fold-roll-PartTree, gen_depth, part_depth, set_op_word, symbol_text, symbols, tree_depth, word_text, words}
+pub use Rattle.csp_text.specs.Prelude.{field_depth, gen_depth, part_depth, set_op_word, symbol_text, symbols, tree_depth, word_text, words}
+pub use Rattle.csp_text.specs.declared.token.Word.TheVariants.{Assert, Channel}
+pub use Rattle.csp_text.specs.declared.token.ResourceNames.{ResourceNames}
+pub use Rattle.csp_text.specs.declared.token.RolesNames.{RolesNames}
+pub use Rattle.csp_text.specs.declared.script.Script.{Script}
+pub use Rattle.csp_text.specs.declared.tree.FieldTree.TheFolds.{fold-roll-EventTree, fold-roll-PartTree}
 pub use Rattle.csp_text.specs.declared.script.Decl.{Decl}
 pub use Rattle.csp_text.specs.declared.token.Symbol.TheVariants.{Ampersand, Arrow, At, Backslash, Bang, Bar, CloseBrace, CloseBracket, CloseParen, CloseProduct, CloseRename, Colon, Comma, Defines, Dot, DotDot, ExternalChoice, InternalChoice, LeftArrow, Minus, OpenBrace, OpenBracket, OpenParen, OpenProduct, OpenRename, Parallel, Question, Semicolon}
 pub use Rattle.csp_text.specs.declared.token.Token.TheVariants.{Name, Num, Symbol}

@@ -1,6 +1,11 @@
 -- What the lexer knows of the tokens of a text: names are names, and numbers are at most a million.
 use Rattle.std.specs.Prelude.{◌≡◌, ℕ, ◌≤◌, Bool, true, false, List, [], ◌∷◌}
-use Rattle.csp_text.specs.Prelude.{ResourceNames, RolesNames, Symbol, ExternalChoice, OpenRename, CloseRename, Token, Assert}
+use Rattle.csp_text.specs.declared.token.ResourceNames.{ResourceNames}
+use Rattle.csp_text.specs.declared.token.RolesNames.{RolesNames}
+use Rattle.csp_text.specs.declared.token.Symbol.{Symbol}
+use Rattle.csp_text.specs.declared.token.Symbol.TheVariants.{ExternalChoice, OpenRename, CloseRename}
+use Rattle.csp_text.specs.declared.token.Token.{Token}
+use Rattle.csp_text.specs.declared.token.Word.TheVariants.{Assert}
 use Rattle.csp_text.specs.declared.token.Word.{Word}
 use Rattle.csp_text.specs.declared.token.Token.TheVariants as token
 use Rattle.csp_lexer.specs.Words.{is_name}

@@ -1,6 +1,7 @@
 -- The laws of the printed text.
 use Rattle.std.specs.Prelude.{◌≡◌, ℕ, List, flat_map, Ok}
-use Rattle.csp_text.specs.Prelude.{Script, Token}
+use Rattle.csp_text.specs.declared.script.Script.{Script}
+use Rattle.csp_text.specs.declared.token.Token.{Token}
 use Rattle.csp_lexer.specs.Prelude.{lexed, PlacedTokens, tokens_of}
 use Rattle.csp_grammar.specs.Declarations.{ScriptText}
 use Rattle.script_printer.specs.PrintedScript.{decl_tokens, script_text}

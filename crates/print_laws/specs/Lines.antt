@@ -1,7 +1,8 @@
 -- What the lexer knows of the order of tokens: behind the word of an assertion stands a name, and where a parenthesis opens behind that, it is closed, and
 -- no symbol before that is made of two brackets.
 use Rattle.std.specs.Prelude.{ℕ, zero, suc, Bool, false, not, if◌then◌else◌, List, [], ◌∷◌}
-use Rattle.csp_text.specs.Prelude.{OpenParen, CloseParen, Token}
+use Rattle.csp_text.specs.declared.token.Symbol.TheVariants.{OpenParen, CloseParen}
+use Rattle.csp_text.specs.declared.token.Token.{Token}
 use Rattle.csp_text.specs.declared.token.Token.TheVariants as token
 use Rattle.print_laws.specs.Fits.{FitsLine, is_common}
 

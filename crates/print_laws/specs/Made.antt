@@ -2,12 +2,22 @@
 -- comprehensions an item, and no field with a dot stands directly behind one with a question mark. `P` is a fact about the tokens that such a tree
 -- is written with: of its names, its numbers, and the signs of its choices and renamings.
 use Rattle.std.specs.Prelude.{ℕ, ◌≤◌, Bool, true, false, Some, None, List, [], ◌∷◌}
-use Rattle.csp_text.specs.Prelude.{tree_depth, Decl, ResourceNames, RolesNames, ExternalChoice, InternalChoice, OpenRename, CloseRename, Token, Name, Num, FieldTree, GenTree, PartTree, Tree}
-use Rattle.csp_text.specs.declared.token.Token.TheVariants.{Symbol}
+use Rattle.csp_text.specs.Prelude.{tree_depth}
+use Rattle.csp_text.specs.declared.script.Decl.{Decl}
+use Rattle.csp_text.specs.declared.token.ResourceNames.{ResourceNames}
+use Rattle.csp_text.specs.declared.token.RolesNames.{RolesNames}
+use Rattle.csp_text.specs.declared.token.Symbol.TheVariants.{ExternalChoice, InternalChoice, OpenRename, CloseRename}
+use Rattle.csp_text.specs.declared.token.Token.{Token}
+use Rattle.csp_text.specs.declared.token.Token.TheVariants.{Name, Num, Symbol}
+use Rattle.csp_text.specs.declared.tree.FieldTree.{FieldTree}
+use Rattle.csp_text.specs.declared.tree.GenTree.{GenTree}
+use Rattle.csp_text.specs.declared.tree.PartTree.{PartTree}
+use Rattle.csp_text.specs.declared.tree.Tree.{Tree}
 use Rattle.csp_text.specs.declared.token.Token.TheVariants as token
 use Rattle.csp_text.specs.declared.script.Decl.TheVariants as decl
 use Rattle.csp_text.specs.declared.tree.Tree.TheVariants as tree
-use Rattle.csp_base.specs.Prelude.{BinOp, SetOp}
+use Rattle.csp_base.specs.declared.operators.BinOp.{BinOp}
+use Rattle.csp_base.specs.declared.operators.SetOp.{SetOp}
 use Rattle.csp_text.specs.declared.tree.FieldTree.TheVariants as field
 use Rattle.csp_text.specs.declared.tree.GenTree.TheVariants as generator
 use Rattle.csp_grammar.specs.Grammar.{Choice, choice_sign, choice_of, event_tree, part_tree}

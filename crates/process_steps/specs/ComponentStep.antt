@@ -3,7 +3,8 @@
 -- bounded or to conform.
 use Rattle.csp_tables.specs.Prelude.{Label, silent, visible}
 use Rattle.process_steps.specs.Step.{Step}
-use Rattle.csp_program.specs.Prelude.{Proc, Content}
+use Rattle.csp_program.specs.declared.processes.Proc.{Proc}
+use Rattle.csp_program.specs.declared.programs.Content.{Content}
 use Rattle.process_steps.specs.declared.label.Label.TheVariants.{Silent, Visible, Tick}
 
 abbrev pub ProcessStep : Content → Proc → Label → Proc → Type 0

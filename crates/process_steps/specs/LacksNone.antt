@@ -1,11 +1,19 @@
 -- A process lacks no value: each value that its steps need is there, and is of the kind and within the sets that they ask. One line for each form.
 use Rattle.std.specs.Prelude.{◌≡◌, ℕ, true, false, IsTrue, Option, Some, Ok, List, [], ◌∷◌, slice_get}
-use Rattle.csp_program.specs.Prelude.{Env, in_field, sets_of, EventPart, Expr, Gen, Field, Proc, Content}
+use Rattle.csp_program.specs.Prelude.{Env, in_field, sets_of}
+use Rattle.csp_program.specs.declared.expressions.EventPart.{EventPart}
+use Rattle.csp_program.specs.declared.expressions.Expr.{Expr}
+use Rattle.csp_program.specs.declared.expressions.Gen.{Gen}
+use Rattle.csp_program.specs.declared.processes.Field.{Field}
+use Rattle.csp_program.specs.declared.processes.Proc.{Proc}
+use Rattle.csp_program.specs.declared.programs.Content.{Content}
 use Rattle.process_steps.specs.Needed.{arguments_in, called, events_in, set_in, truth_in}
 use Rattle.process_steps.specs.Prefix.{given_under, is_given, value_under}
 use Rattle.process_steps.specs.Renaming.{Renamed, renaming_in}
 use Rattle.process_steps.specs.Step.{each_put}
-use Rattle.csp_atoms.specs.Prelude.{Atom, Value, One}
+use Rattle.csp_atoms.specs.declared.atom.Atom.{Atom}
+use Rattle.csp_atoms.specs.declared.value.Value.{Value}
+use Rattle.csp_atoms.specs.declared.value.Value.TheVariants.{One}
 use Rattle.csp_atoms.specs.declared.atom.Atom.TheVariants as atom
 use Rattle.csp_program.specs.declared.processes.Field.TheVariants as field
 use Rattle.csp_program.specs.declared.processes.Head.TheVariants as head

@@ -4,7 +4,9 @@ use Rattle.std.specs.Prelude.{◌≡◌, ◌↔◌, Ok, List}
 use Rattle.process_steps.specs.LacksNone.{LacksNone}
 use Rattle.process_steps.specs.Step.{Step}
 use Rattle.process_steps.specs.StepList.{ListsMove, Move, steps_of, steps_of_layer}
-use Rattle.csp_program.specs.Prelude.{Proc, out-Proc, Content}
+use Rattle.csp_program.specs.declared.processes.Proc.{Proc}
+use Rattle.csp_program.specs.declared.processes.Proc.TheViews.{out-Proc}
+use Rattle.csp_program.specs.declared.programs.Content.{Content}
 use Rattle.process_steps.specs.declared.label.Label.{Label}
 
 abbrev pub ListsAreSteps : Type 0

@@ -1,7 +1,15 @@
 -- The values that the steps of a process need: truth values, sets, sets of events, and the values of arguments.
 use Rattle.std.specs.Prelude.{ℕ, ◌+◌, Bool, Option, Some, None, Ok, Err, List, [], ◌∷◌, ◌++◌}
-use Rattle.csp_atoms.specs.Prelude.{event_numbers, Atom, Value}
-use Rattle.csp_program.specs.Prelude.{Outcome, and_then, given_by, proc_with, as_set, as_truth, bound_to, value_of, Expr, Kind, Proc, Body, Content, Def}
+use Rattle.csp_atoms.specs.Prelude.{event_numbers}
+use Rattle.csp_atoms.specs.declared.atom.Atom.{Atom}
+use Rattle.csp_atoms.specs.declared.value.Value.{Value}
+use Rattle.csp_program.specs.Prelude.{Outcome, and_then, given_by, proc_with, as_set, as_truth, bound_to, value_of}
+use Rattle.csp_program.specs.declared.expressions.Expr.{Expr}
+use Rattle.csp_program.specs.declared.kinds.ValueKind.TheVariants.{Kind}
+use Rattle.csp_program.specs.declared.processes.Proc.{Proc}
+use Rattle.csp_program.specs.declared.programs.Body.{Body}
+use Rattle.csp_program.specs.declared.programs.Content.{Content}
+use Rattle.csp_program.specs.declared.programs.Def.{Def}
 use Rattle.csp_program.specs.declared.programs.Body.TheVariants as body
 
 -- what each member of a list comes to, from the left

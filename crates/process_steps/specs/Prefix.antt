@@ -1,8 +1,14 @@
 -- The ways to fill the fields of a prefix. The channel has a set of values for each field. Fields are filled from the left, and the value of an
 -- input stands for its name in the fields after it and in the process after the prefix. The event is the one of the channel that has these values.
 use Rattle.std.specs.Prelude.{◌≡◌, ℕ, Bool, true, IsTrue, Option, Some, None, Ok, List, [], ◌∷◌, ◌++◌, get_or, length, slice_get}
-use Rattle.csp_atoms.specs.Prelude.{has_atom, Atom, Value, One}
-use Rattle.csp_program.specs.Prelude.{events_with, Outcome, and_then, Env, as_set, in_field, value_within, Expr, Field, Content}
+use Rattle.csp_atoms.specs.Prelude.{has_atom}
+use Rattle.csp_atoms.specs.declared.atom.Atom.{Atom}
+use Rattle.csp_atoms.specs.declared.value.Value.{Value}
+use Rattle.csp_atoms.specs.declared.value.Value.TheVariants.{One}
+use Rattle.csp_program.specs.Prelude.{events_with, Outcome, and_then, Env, as_set, in_field, value_within}
+use Rattle.csp_program.specs.declared.expressions.Expr.{Expr}
+use Rattle.csp_program.specs.declared.processes.Field.{Field}
+use Rattle.csp_program.specs.declared.programs.Content.{Content}
 use Rattle.csp_program.specs.declared.processes.Field.TheVariants as field
 
 -- the value of an expression under the names that are bound so far, the last one first

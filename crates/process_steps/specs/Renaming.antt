@@ -4,9 +4,17 @@
 use Rattle.std.specs.Prelude.{ℕ, ◌+◌, nat_eq, nat_lt, if◌then◌else◌, Option, Some, None, Ok, Err, List, [], ◌∷◌, ◌++◌, map, length, drop, slice_get}
 use Rattle.std.specs.List.{filter}
 use Rattle.dl_limits.specs.declared.TheConstants.{MOST_BINDINGS}
-use Rattle.csp_program.specs.Prelude.{Outcome, and_then, Env, Meaning, front_events, meaning, one_event, turn, uses_within, values_of, walked, EventPart, out-EventPart, Expr, Gen, SetLimit, Channel, Content, EventInfo}
+use Rattle.csp_program.specs.Prelude.{Outcome, and_then, Env, Meaning, front_events, meaning, one_event, turn, uses_within, values_of, walked}
+use Rattle.csp_program.specs.declared.expressions.EventPart.{EventPart, out-EventPart}
+use Rattle.csp_program.specs.declared.expressions.Expr.{Expr}
+use Rattle.csp_program.specs.declared.expressions.Gen.{Gen}
+use Rattle.csp_program.specs.declared.kinds.ValueKind.TheVariants.{SetLimit}
+use Rattle.csp_program.specs.declared.programs.Channel.{Channel}
+use Rattle.csp_program.specs.declared.programs.Content.{Content}
+use Rattle.csp_program.specs.declared.programs.EventInfo.{EventInfo}
 use Rattle.process_steps.specs.Needed.{each_joined}
-use Rattle.csp_atoms.specs.Prelude.{Value, One}
+use Rattle.csp_atoms.specs.declared.value.Value.{Value}
+use Rattle.csp_atoms.specs.declared.value.Value.TheVariants.{One}
 
 -- an old event with a new one
 abbrev pub Renamed : Type 0

@@ -2,11 +2,19 @@
 -- A call keeps its arguments as they are written until it is entered.
 use Rattle.std.specs.Prelude.{◌≡◌, ℕ, true, false, Some, Ok, List, [], map, slice_get, slice_set}
 use Rattle.csp_base.specs.Members.{has}
-use Rattle.csp_program.specs.Prelude.{given_by, one, proc_with, Env, sets_of, EventPart, Expr, Gen, Field, Proc, Content}
+use Rattle.csp_program.specs.Prelude.{given_by, one, proc_with, Env, sets_of}
+use Rattle.csp_program.specs.declared.expressions.EventPart.{EventPart}
+use Rattle.csp_program.specs.declared.expressions.Expr.{Expr}
+use Rattle.csp_program.specs.declared.expressions.Gen.{Gen}
+use Rattle.csp_program.specs.declared.processes.Field.{Field}
+use Rattle.csp_program.specs.declared.processes.Proc.{Proc}
+use Rattle.csp_program.specs.declared.programs.Content.{Content}
 use Rattle.process_steps.specs.Needed.{arguments_in, called, events_in, set_in, truth_in}
 use Rattle.process_steps.specs.Prefix.{Fills, event_of}
 use Rattle.process_steps.specs.Renaming.{Renamed, images, renaming_in}
-use Rattle.csp_atoms.specs.Prelude.{Atom, Value, One}
+use Rattle.csp_atoms.specs.declared.atom.Atom.{Atom}
+use Rattle.csp_atoms.specs.declared.value.Value.{Value}
+use Rattle.csp_atoms.specs.declared.value.Value.TheVariants.{One}
 use Rattle.csp_atoms.specs.declared.atom.Atom.TheVariants as atom
 use Rattle.csp_program.specs.declared.processes.Head.TheVariants as head
 use Rattle.csp_program.specs.declared.processes.Proc.TheVariants as proc

@@ -2,7 +2,15 @@
 -- rising order, the set of a hiding and the pairs of a renaming after the steps of the process below, and also where that has none.
 use Rattle.std.specs.Prelude.{◌≡◌, ℕ, zero, suc, if◌then◌else◌, Some, Ok, Err, List, [], ◌∷◌, map, slice_get, slice_set}
 use Rattle.csp_base.specs.Members.{has}
-use Rattle.csp_program.specs.Prelude.{proc_depth, joined, Outcome, and_then, given_by, proc_with, EventPart, Expr, Gen, EmptyChoice, Proc, Proc-F, out-Proc, Content}
+use Rattle.csp_program.specs.Prelude.{proc_depth, joined, Outcome, and_then, given_by, proc_with}
+use Rattle.csp_program.specs.declared.expressions.EventPart.{EventPart}
+use Rattle.csp_program.specs.declared.expressions.Expr.{Expr}
+use Rattle.csp_program.specs.declared.expressions.Gen.{Gen}
+use Rattle.csp_program.specs.declared.kinds.ValueKind.TheVariants.{EmptyChoice}
+use Rattle.csp_program.specs.declared.processes.Proc.{Proc}
+use Rattle.csp_program.specs.declared.processes.Proc.TheOpen.{Proc-F}
+use Rattle.csp_program.specs.declared.processes.Proc.TheViews.{out-Proc}
+use Rattle.csp_program.specs.declared.programs.Content.{Content}
 use Rattle.process_steps.specs.Needed.{each_joined, arguments_in, called, events_in, set_in, truth_in}
 use Rattle.process_steps.specs.Ways.{event_among, of_head, sets_among, ways_to_fill}
 use Rattle.process_steps.specs.Renaming.{Renamed, images, renaming_in}

@@ -1,9 +1,15 @@
 -- All ways to fill the fields of a prefix as a list, or the first fault: fields from the left, values in rising order.
 use Rattle.std.specs.Prelude.{ℕ, if◌then◌else◌, Option, Some, None, Ok, Err, List, [], ◌∷◌, ◌++◌, slice_get}
-use Rattle.csp_program.specs.Prelude.{Outcome, and_then, Env, in_field, sets_of, Kind, OutsideChannel, Field, Head, Content}
+use Rattle.csp_program.specs.Prelude.{Outcome, and_then, Env, in_field, sets_of}
+use Rattle.csp_program.specs.declared.kinds.ValueKind.TheVariants.{Kind, OutsideChannel}
+use Rattle.csp_program.specs.declared.processes.Field.{Field}
+use Rattle.csp_program.specs.declared.processes.Head.{Head}
+use Rattle.csp_program.specs.declared.programs.Content.{Content}
 use Rattle.process_steps.specs.Needed.{each_joined}
 use Rattle.process_steps.specs.Prefix.{event_of, given_under, is_given, value_under}
-use Rattle.csp_atoms.specs.Prelude.{Atom, Value, One}
+use Rattle.csp_atoms.specs.declared.atom.Atom.{Atom}
+use Rattle.csp_atoms.specs.declared.value.Value.{Value}
+use Rattle.csp_atoms.specs.declared.value.Value.TheVariants.{One}
 use Rattle.csp_atoms.specs.declared.atom.Atom.TheVariants as atom
 use Rattle.csp_program.specs.declared.processes.Field.TheVariants as field
 use Rattle.csp_program.specs.declared.processes.Head.TheVariants as head

@@ -3,7 +3,9 @@ use Rattle.std.specs.Prelude.{ℕ, Option, Some, None, List, [], ◌++◌, codes
 use Rattle.csp_base.specs.Standard.{flat_map, signed_decimal}
 use Rattle.csp_atoms.specs.declared.atom.Atom.{Atom}
 use Rattle.csp_atoms.specs.declared.atom.Atom.TheVariants as atom
-use Rattle.csp_program.specs.Prelude.{Channel, Content, EventInfo}
+use Rattle.csp_program.specs.declared.programs.Channel.{Channel}
+use Rattle.csp_program.specs.declared.programs.Content.{Content}
+use Rattle.csp_program.specs.declared.programs.EventInfo.{EventInfo}
 
 abbrev pub text_or_none : Option (List ℕ) → List ℕ
 text_or_none None = []

@@ -1,7 +1,8 @@
 -- The line that tells why a text has no program, and that of each refusal of a program.
 use Rattle.std.specs.Prelude.{ℕ, zero, suc, ◌+◌, List, ◌++◌, codes}
 use Rattle.std.specs.Fmt.{decimal}
-use Rattle.csp_program.specs.Prelude.{ValueKind, Content}
+use Rattle.csp_program.specs.declared.kinds.ValueKind.{ValueKind}
+use Rattle.csp_program.specs.declared.programs.Content.{Content}
 use Rattle.csp_program.specs.declared.kinds.ValueKind.TheVariants as kind
 use Rattle.dl_limits.specs.declared.TheConstants.{MOST_COMPONENTS, MOST_NETWORK_DEPTH, MOST_SETS, MOST_TERM_DEPTH, MOST_TERMS}
 use Rattle.network_trees.specs.declared.fault.LayoutFault.{LayoutFault}

@@ -2,7 +2,9 @@
 use Rattle.std.specs.Prelude.{ℕ, ℤ, ◌+◌, List, [], ◌∷◌, ◌++◌, codes, length}
 use Rattle.csp_base.specs.Standard.{flat_map, decimal, signed_decimal}
 use Rattle.csp_program.specs.declared.programs.Content.{Content}
-use Rattle.csp_tables.specs.Prelude.{Node, Rule, Cyclic, ClientServer, Resource}
+use Rattle.csp_tables.specs.Prelude.{Node}
+use Rattle.csp_tables.specs.declared.rule.Rule.{Rule}
+use Rattle.csp_tables.specs.declared.rule.Rule.TheVariants.{Cyclic, ClientServer, Resource}
 use Rattle.numbered_walks.specs.declared.moves.Move.{Move}
 use Rattle.numbered_walks.specs.declared.moves.Move.TheVariants as moves
 use Rattle.report.specs.EventText.{event_text}

@@ -2,7 +2,9 @@
 use Rattle.std.specs.Prelude.{ℕ, List, ◌++◌, codes}
 use Rattle.csp_base.specs.Standard.{flat_map, decimal}
 use Rattle.csp_program.specs.declared.programs.Content.{Content}
-use Rattle.design_rules.specs.Prelude.{Condition, Roles, Clients, Turns, Service, Answers, Kinds, Holders, Grants, Uses, RuleFault}
+use Rattle.design_rules.specs.declared.condition.Condition.{Condition}
+use Rattle.design_rules.specs.declared.condition.Condition.TheVariants.{Roles, Clients, Turns, Service, Answers, Kinds, Holders, Grants, Uses}
+use Rattle.design_rules.specs.declared.rule_fault.RuleFault.{RuleFault}
 use Rattle.design_rules.specs.declared.rule_fault.RuleFault.TheVariants as fault
 use Rattle.report.specs.EventText.{event_text}
 use Rattle.report.specs.Lines.{trace_text, numbers_text}

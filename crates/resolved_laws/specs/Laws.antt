@@ -1,9 +1,11 @@
 -- The program of a faultless script is in order. Each list of a program is numbered by 32 bits, and that a script declares no more than they number
 -- is no matter of its faults: it is asked for here.
 use Rattle.std.specs.Prelude.{◌≡◌, ◌<◌, ◌^◌, None, Ok, List, length}
-use Rattle.csp_program.specs.Prelude.{IsInOrder, Content}
+use Rattle.csp_program.specs.Prelude.{IsInOrder}
+use Rattle.csp_program.specs.declared.programs.Content.{Content}
 use Rattle.csp_text.specs.declared.script.Decl.{Decl}
-use Rattle.script_names.specs.Prelude.{plain_content, AreKinds, resolved, name_fault, Kind}
+use Rattle.script_names.specs.Prelude.{plain_content, AreKinds, resolved, name_fault}
+use Rattle.script_names.specs.declared.kinds.Kind.{Kind}
 
 -- channels, constants and definitions are no more than numbers of 32 bits number
 pub record HasFew (p : Content) : Type 0 where

@@ -1,7 +1,9 @@
 -- What is searched for, and found or not. (No rule's decider cites this.)
 use Rattle.std.specs.Prelude.{◌≡◌, ◌<◌, ◌≤◌, ℕ, List, Option, Some, None}
 use Rattle.csp_tables.specs.Prelude.{RunsTo, Shape}
-use Rattle.design_rules.specs.Prelude.{IsFirstBroken, by_tables, Condition, RuleFault}
+use Rattle.design_rules.specs.Prelude.{IsFirstBroken, by_tables}
+use Rattle.design_rules.specs.declared.condition.Condition.{Condition}
+use Rattle.design_rules.specs.declared.rule_fault.RuleFault.{RuleFault}
 use Rattle.design_rules.specs.declared.rule_fault.RuleFault.TheVariants as fault
 
 -- n is the first number below the count of which P does not hold, or the count where there is none

@@ -1,7 +1,8 @@
 -- What is told of a shape with its resources. (No rule's decider cites this.)
 use Rattle.std.specs.Prelude.{◌≡◌, ◌<◌, ℕ, List, not, length}
 use Rattle.csp_tables.specs.Prelude.{link_at, use_at}
-use Rattle.design_rules.specs.Prelude.{JoinsKinds, HasUses, BreaksResource, RuleFault}
+use Rattle.design_rules.specs.Prelude.{JoinsKinds, HasUses, BreaksResource}
+use Rattle.design_rules.specs.declared.rule_fault.RuleFault.{RuleFault}
 use Rattle.design_rules.specs.Resource.{IsUsedInTurn, GrantsAll, UsesInTurn}
 use Rattle.shape_links.specs.Setting.{Setting, IsResourcePart, IsUser}
 

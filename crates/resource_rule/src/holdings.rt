@@ -8,12 +8,12 @@ ghost use Rattle.resource_rule.specs.Holdings.{AddsArcs, AreHeld, HoldsWhile, Of
 ghost use Rattle.resource_rule.specs.Uses.{WatchesLink};
 ghost use Rattle.shape_links.specs.Setting.{KeepKinds};
 
-use crate::link_sets::{empty_sets, resource_arcs};
+use crate::link_sets::resource_arcs;
 use crate::user::User;
 use csp_base::{Event, EventSet, NoMemory};
 use digraph::Rows;
 use observed_runs::{Explored, Parity};
-use shape_links::Setting;
+use shape_links::{Setting, empty_sets};
 use std::alloc::Global;
 
 // An arc from each resource to each one that a user holds while it offers to acquire the first.

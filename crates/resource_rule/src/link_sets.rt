@@ -12,17 +12,6 @@ use digraph::Rows;
 use shape_links::Setting;
 use std::alloc::Global;
 
-// So many empty sets.
-pub(crate) fn empty_sets(alloc: Global, count: usize) -> Result<Vec<EventSet>, NoMemory>
-    ensures { IfOk result (λ sets. sets.items ≡ replicate count []) }
-{
-    let mut sets = Vec::new(alloc);
-    for _ in 0..count {
-        sets.push(EventSet::new(alloc))?;
-    }
-    Ok(sets)
-}
-
 impl<'a> User<'a> {
     // Adds what is held to the set of each link of which one of the events acquires the resource.
     pub(crate) fn add_held(

@@ -1,7 +1,10 @@
 -- What other libraries give, under one name for the files here.
 pub use Rattle.csp_base.proofs.Lists.{drop_read}
 pub use Rattle.csp_base.proofs.Standard.{append-nil, drop_of_length-le, fun_ext}
-pub use Rattle.csp_program.specs.Prelude.{Content, Def, ResourceNote, RolesNote}
+pub use Rattle.csp_program.specs.declared.programs.Content.{Content}
+pub use Rattle.csp_program.specs.declared.programs.Def.{Def}
+pub use Rattle.csp_program.specs.declared.programs.ResourceNote.{ResourceNote}
+pub use Rattle.csp_program.specs.declared.programs.RolesNote.{RolesNote}
 pub use Rattle.csp_text.specs.declared.script.Decl.{Decl}
 pub use Rattle.csp_text.specs.declared.tree.Tree.{Tree}
 pub use Rattle.dl_limits.specs.declared.TheConstants.{MOST_BYTES}

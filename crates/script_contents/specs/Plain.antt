@@ -1,8 +1,15 @@
 -- Parts of what a script's declarations put into its program. Only the private contracts of this crate cite them.
 use Rattle.std.specs.Prelude.{ℕ, Bool, if◌then◌else◌, None, List, [], length, slice_get}
-use Rattle.csp_text.specs.Prelude.{Decl, Tree}
-use Rattle.csp_program.specs.Prelude.{Expr, Body, Channel, Def, ResourceNote, RolesNote}
-use Rattle.script_names.specs.Prelude.{body_of, channels_of, constants_of, defined, definitions_from, numbers_from, parameters, resources_of, roles_of, kind_class, kind_network, Counts, Name, first_of, Reading, reading, Kind}
+use Rattle.csp_text.specs.declared.script.Decl.{Decl}
+use Rattle.csp_text.specs.declared.tree.Tree.{Tree}
+use Rattle.csp_program.specs.declared.expressions.Expr.{Expr}
+use Rattle.csp_program.specs.declared.programs.Body.{Body}
+use Rattle.csp_program.specs.declared.programs.Channel.{Channel}
+use Rattle.csp_program.specs.declared.programs.Def.{Def}
+use Rattle.csp_program.specs.declared.programs.ResourceNote.{ResourceNote}
+use Rattle.csp_program.specs.declared.programs.RolesNote.{RolesNote}
+use Rattle.script_names.specs.Prelude.{body_of, channels_of, constants_of, defined, definitions_from, numbers_from, parameters, resources_of, roles_of, kind_class, kind_network, Counts, Name, first_of, Reading, reading}
+use Rattle.script_names.specs.declared.kinds.Kind.{Kind}
 use Rattle.script_names.specs.Names as names
 use Rattle.name_tables.specs.declared.meanings.Meanings.{Meanings}
 use Rattle.typed_trees.specs.Walked.{Walked, read_at}

@@ -1,7 +1,8 @@
 -- What a script's declarations put into its program, while its channels have no field sets yet.
 use Rattle.std.specs.Prelude.{◌∷◌, ◌++◌, if◌then◌else◌}
 use Rattle.script_names.specs.Sources.{ℕ, Bool, Option, Some, None, List, [], length, map, slice_get, flat_map, Decl, Tree, Net, Body, Channel, Content, Def, Class, Kind}
-use Rattle.csp_program.specs.Prelude.{ResourceNote, RolesNote}
+use Rattle.csp_program.specs.declared.programs.ResourceNote.{ResourceNote}
+use Rattle.csp_program.specs.declared.programs.RolesNote.{RolesNote}
 use Rattle.csp_program.specs.declared.networks.Net.TheVariants as net
 use Rattle.csp_program.specs.declared.processes.Proc.TheVariants as proc
 use Rattle.script_names.specs.Faults.{kind_class, kind_network}

@@ -2,7 +2,8 @@
 -- processes are not expanded, and the name of a datatype is a node without parts.
 use Rattle.std.specs.Prelude.{◌+◌, ◌≤◌}
 use Rattle.script_names.specs.Sources.{ℕ, zero, suc, max, Option, Some, None, List, slice_get, MOST_DATA_DEPTH, greatest, expr_depth_of_layer, gen_depth_of_layer, part_depth_of_layer, EventPart, Expr, fold-Expr, Gen, Body, Content, Def}
-use Rattle.csp_program.specs.Prelude.{fold-Gen, fold-EventPart, Expr-F}
+use Rattle.csp_program.specs.declared.expressions.Expr.TheFolds.{fold-Gen, fold-EventPart}
+use Rattle.csp_program.specs.declared.expressions.Expr.TheOpen.{Expr-F}
 
 -- where the body of each definition is so deep
 module _ (depth_of : ℕ → ℕ) where

@@ -4,7 +4,8 @@
 -- and uses expanded. `HasSets types sets` says which field sets a channel of these types has.
 use Rattle.std.specs.Prelude.{◌≡◌, ◌∷◌, ◌++◌}
 use Rattle.script_names.specs.Sources.{ℕ, Bool, Some, None, List, [], length, map, replicate, slice_get, Atom, EachOnce, StandsIn, Decl, Tree, Expr, Net, Proc, Channel, Content, Kind, Body, Class, Entity}
-use Rattle.csp_text.specs.Prelude.{ResourceNames, RolesNames}
+use Rattle.csp_text.specs.declared.token.ResourceNames.{ResourceNames}
+use Rattle.csp_text.specs.declared.token.RolesNames.{RolesNames}
 use Rattle.csp_program.specs.declared.networks.Net.TheVariants as net
 use Rattle.csp_program.specs.declared.processes.Proc.TheVariants as proc
 use Rattle.script_names.specs.DataDepth.{IsShallow}

@@ -2,7 +2,8 @@
 -- channel's field has no value that fits; there are too many events.
 use Rattle.std.specs.Prelude.{◌≡◌, ◌+◌, ◌-◌, ◌^◌, if◌then◌else◌, ◌∷◌, ◌++◌}
 use Rattle.script_names.specs.Sources.{ℕ, min, nat_le, Option, Some, None, Result, Ok, Err, List, [], length, map, replicate, MOST_EVENTS, Atom, Outcome, Expr, Content, Decl, Script, Tree, ResolveFault}
-use Rattle.csp_base.specs.Prelude.{Tells, Stop}
+use Rattle.csp_base.specs.Prelude.{Tells}
+use Rattle.csp_base.specs.declared.stop.Stop.{Stop}
 use Rattle.script_names.specs.declared.kinds.Kind.{Kind as DefinitionKind}
 use Rattle.script_names.specs.Contents.{first_assertion, plain_content}
 use Rattle.script_names.specs.Kinds.{AreKinds}

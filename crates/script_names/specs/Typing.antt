@@ -5,10 +5,12 @@
 -- items of a comprehension, the parts of `{| |}` and the pairs of a renaming stand before its generators and under the names that these bind.
 use Rattle.std.specs.Prelude.{◌≡◌, ◌+◌, ◌∷◌}
 use Rattle.script_names.specs.Sources.{ℕ, pos, true, false, Some, None, List, [], length, slice_get, Tree, EventPart, Expr, roll-EventPart, Gen, Net, Field, Proc, Entity, Kind, Head, Class}
-use Rattle.csp_base.specs.Prelude.{BinOp, SetOp}
-use Rattle.csp_text.specs.Prelude.{EventTree, FieldTree, GenTree, PartTree}
-use Rattle.csp_text.specs.declared.tree.EventTree.{roll-EventTree}
-use Rattle.csp_text.specs.declared.tree.PartTree.{roll-PartTree}
+use Rattle.csp_base.specs.declared.operators.BinOp.{BinOp}
+use Rattle.csp_base.specs.declared.operators.SetOp.{SetOp}
+use Rattle.csp_text.specs.declared.tree.EventTree.{EventTree, roll-EventTree}
+use Rattle.csp_text.specs.declared.tree.FieldTree.{FieldTree}
+use Rattle.csp_text.specs.declared.tree.GenTree.{GenTree}
+use Rattle.csp_text.specs.declared.tree.PartTree.{PartTree, roll-PartTree}
 use Rattle.csp_text.specs.declared.tree.FieldTree.TheVariants as text
 use Rattle.csp_text.specs.declared.tree.GenTree.TheVariants as generator
 use Rattle.csp_text.specs.declared.tree.Tree.TheVariants as tree

@@ -1,7 +1,13 @@
 -- What the proofs of this crate cite of the crates below, and of its own definitions.
 pub use Rattle.csp_base.proofs.Standard.{append-nil, drop-cons, drop_of_length-le, false≢true, nil_from_length}
 pub use Rattle.csp_text.proofs.tree.Tree.TheLaws.{the_size}
-pub use Rattle.csp_text.specs.Prelude.{EventTree, FieldTree, FieldTree-F, GenTree, GenTree-F, PartTree, Tree-F, fold-roll-EventTree, fold-roll-FieldTree, fold-roll-GenTree, fold-roll-PartTree, fold-roll-Tree, map-FieldTree, map-GenTree, map-Tree, out-EventTree, out-PartTree, out-Tree, roll-FieldTree, roll-GenTree, roll-Tree, roll-out-EventTree, roll-out-PartTree, roll-out-Tree}
+pub use Rattle.csp_text.specs.declared.tree.EventTree.{EventTree}
+pub use Rattle.csp_text.specs.declared.tree.FieldTree.{FieldTree}
+pub use Rattle.csp_text.specs.declared.tree.FieldTree.TheOpen.{FieldTree-F, GenTree-F, Tree-F}
+pub use Rattle.csp_text.specs.declared.tree.GenTree.{GenTree}
+pub use Rattle.csp_text.specs.declared.tree.PartTree.{PartTree}
+pub use Rattle.csp_text.specs.declared.tree.FieldTree.TheFolds.{fold-roll-EventTree, fold-roll-FieldTree, fold-roll-GenTree, fold-roll-PartTree, fold-roll-Tree, map-FieldTree, map-GenTree, map-Tree}
+pub use Rattle.csp_text.specs.declared.tree.FieldTree.TheViews.{out-EventTree, out-PartTree, out-Tree, roll-FieldTree, roll-GenTree, roll-Tree, roll-out-EventTree, roll-out-PartTree, roll-out-Tree}
 pub use Rattle.csp_text.specs.declared.token.Symbol.TheVariants.{Bang, Bar, CloseBrace, CloseParen, CloseProduct, CloseRename, Colon, Comma, Dot, ExternalChoice, InternalChoice, LeftArrow, OpenBrace, OpenParen, OpenProduct, OpenRename, Question}
 pub use Rattle.csp_text.specs.declared.token.Token.TheVariants.{Name, Symbol}
 pub use Rattle.csp_text.specs.declared.token.Token.{Token}

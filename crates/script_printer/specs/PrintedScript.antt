@@ -1,7 +1,12 @@
 -- How a script is printed: one declaration a line, in their order.
 use Rattle.std.specs.Prelude.{ℕ, List, [], ◌∷◌, ◌++◌, codes, flat_map}
-use Rattle.csp_text.specs.Prelude.{Decl, Script, Colon, Dot, Defines, Comma, Bar, OpenParen, CloseParen, OpenBracket, CloseBracket, Token, Name, Word, Assert, Channel, Datatype, Nametype, Tree}
-use Rattle.csp_text.specs.declared.token.Token.TheVariants.{Symbol}
+use Rattle.csp_text.specs.declared.script.Decl.{Decl}
+use Rattle.csp_text.specs.declared.script.Script.{Script}
+use Rattle.csp_text.specs.declared.token.Symbol.TheVariants.{Colon, Dot, Defines, Comma, Bar, OpenParen, CloseParen, OpenBracket, CloseBracket}
+use Rattle.csp_text.specs.declared.token.Token.{Token}
+use Rattle.csp_text.specs.declared.token.Token.TheVariants.{Name, Word, Symbol}
+use Rattle.csp_text.specs.declared.token.Word.TheVariants.{Assert, Channel, Datatype, Nametype}
+use Rattle.csp_text.specs.declared.tree.Tree.{Tree}
 use Rattle.csp_text.specs.declared.token.Token.TheVariants as token
 use Rattle.csp_text.specs.declared.script.Decl.TheVariants as decl
 use Rattle.script_printer.specs.PrintedTree.{operand_tokens, printed_tokens, separated}

@@ -6,11 +6,21 @@
 -- have none.
 use Rattle.std.specs.Prelude.{ℕ, Some, None, List, [], ◌∷◌, ◌++◌, flat_map}
 use Rattle.std.specs.List.{join_by}
-use Rattle.csp_text.specs.Prelude.{set_op_word, Arrow, ExternalChoice, InternalChoice, Parallel, OpenRename, CloseRename, OpenProduct, CloseProduct, LeftArrow, DotDot, Dot, Bang, Question, Colon, At, Minus, OpenParen, CloseParen, OpenBrace, CloseBrace, OpenBracket, CloseBracket, Comma, Ampersand, Bar, Backslash, Semicolon, Token, Name, Num, Word, EventTree, FieldTree, fold-FieldTree, fold-GenTree, fold-Tree, fold-EventTree, fold-PartTree, FieldTree-F, GenTree-F, Tree-F, EventTree-F, PartTree-F, GenTree, PartTree, Tree}
-use Rattle.csp_text.specs.declared.token.Token.TheVariants.{Symbol}
+use Rattle.csp_text.specs.Prelude.{set_op_word}
+use Rattle.csp_text.specs.declared.token.Symbol.TheVariants.{Arrow, ExternalChoice, InternalChoice, Parallel, OpenRename, CloseRename, OpenProduct, CloseProduct, LeftArrow, DotDot, Dot, Bang, Question, Colon, At, Minus, OpenParen, CloseParen, OpenBrace, CloseBrace, OpenBracket, CloseBracket, Comma, Ampersand, Bar, Backslash, Semicolon}
+use Rattle.csp_text.specs.declared.token.Token.{Token}
+use Rattle.csp_text.specs.declared.token.Token.TheVariants.{Name, Num, Word, Symbol}
+use Rattle.csp_text.specs.declared.tree.EventTree.{EventTree}
+use Rattle.csp_text.specs.declared.tree.FieldTree.{FieldTree, fold-FieldTree}
+use Rattle.csp_text.specs.declared.tree.FieldTree.TheFolds.{fold-GenTree, fold-Tree, fold-EventTree, fold-PartTree}
+use Rattle.csp_text.specs.declared.tree.FieldTree.TheOpen.{FieldTree-F, GenTree-F, Tree-F, EventTree-F, PartTree-F}
+use Rattle.csp_text.specs.declared.tree.GenTree.{GenTree}
+use Rattle.csp_text.specs.declared.tree.PartTree.{PartTree}
+use Rattle.csp_text.specs.declared.tree.Tree.{Tree}
 use Rattle.csp_text.specs.declared.token.Word.TheVariants as word
 use Rattle.csp_text.specs.declared.token.Symbol.TheVariants as symbol
-use Rattle.csp_base.specs.Prelude.{BinOp, SetOp}
+use Rattle.csp_base.specs.declared.operators.BinOp.{BinOp}
+use Rattle.csp_base.specs.declared.operators.SetOp.{SetOp}
 use Rattle.csp_base.specs.declared.operators.BinOp.TheVariants as op
 use Rattle.script_printer.specs.declared.shape.Shape.{Shape}
 use Rattle.script_printer.specs.declared.shape.Shape.TheVariants.{Atom, Dotted, Compound}

@@ -1,6 +1,7 @@
 -- How tokens are written, one by one and in a line.
 use Rattle.std.specs.Prelude.{ℕ, zero, suc, List, [], ◌∷◌, ◌++◌, codes, decimal, flat_map}
-use Rattle.csp_text.specs.Prelude.{symbol_text, word_text, Token}
+use Rattle.csp_text.specs.Prelude.{symbol_text, word_text}
+use Rattle.csp_text.specs.declared.token.Token.{Token}
 use Rattle.csp_text.specs.declared.token.Token.TheVariants as token
 
 -- names, each behind a space

@@ -3,7 +3,8 @@
 
 ghost use Rattle.std.specs.Prelude.{◌≡◌, ◌++◌, [], ◌∷◌, OnOk, flat_map};
 ghost use Rattle.csp_text.specs.declared.token.Token.TheVariants as token;
-ghost use Rattle.csp_text.specs.Prelude.{At, Bar, Comma, Tree-F};
+ghost use Rattle.csp_text.specs.declared.token.Symbol.TheVariants.{At, Bar, Comma};
+ghost use Rattle.csp_text.specs.declared.tree.FieldTree.TheOpen.{Tree-F};
 ghost use Rattle.csp_text.specs.declared.tree.FieldTree.TheVariants as field;
 ghost use Rattle.script_printer.specs.TokenText.{spaced};
 ghost use Rattle.script_printer.specs.PrintedTree.{bound_in, conditions, dotted, event_tokens, field_tokens, form_tokens, gen_tokens, in_parentheses, item_tokens, operand_tokens, part_tokens, printed_tokens, renamed_tokens, separated};

@@ -1,7 +1,14 @@
 -- How many binding tokens a tree has: each `?x`, each `x <-` and the name of each replicated operator is one. Typed trees call it `binds`, which looks at
 -- no meaning of a name; this fold serves the contracts of functions that have no meanings at hand.
 use Rattle.std.specs.Prelude.{ℕ, ◌+◌, Option, Some, None, List, map}
-use Rattle.csp_text.specs.Prelude.{of_event, of_field, of_pairs, of_part, of_tree, EventTree, FieldTree, fold-FieldTree, fold-GenTree, fold-Tree, fold-EventTree, fold-PartTree, FieldTree-F, GenTree-F, Tree-F, EventTree-F, PartTree-F, GenTree, PartTree, Tree}
+use Rattle.csp_text.specs.Prelude.{of_event, of_field, of_pairs, of_part, of_tree}
+use Rattle.csp_text.specs.declared.tree.EventTree.{EventTree}
+use Rattle.csp_text.specs.declared.tree.FieldTree.{FieldTree, fold-FieldTree}
+use Rattle.csp_text.specs.declared.tree.FieldTree.TheFolds.{fold-GenTree, fold-Tree, fold-EventTree, fold-PartTree}
+use Rattle.csp_text.specs.declared.tree.FieldTree.TheOpen.{FieldTree-F, GenTree-F, Tree-F, EventTree-F, PartTree-F}
+use Rattle.csp_text.specs.declared.tree.GenTree.{GenTree}
+use Rattle.csp_text.specs.declared.tree.PartTree.{PartTree}
+use Rattle.csp_text.specs.declared.tree.Tree.{Tree}
 use Rattle.csp_base.specs.Lists.{total}
 
 abbrev pub total_of_pairs : List (ℕ × ℕ) → ℕ

@@ -3,7 +3,8 @@
 -- spells are as few as here, and 32 bits number them. This serves the contracts of functions that number what a script declares.
 use Rattle.std.specs.Prelude.{ℕ, ◌+◌, ◌≤◌, max, List, [], ◌∷◌, length, map}
 use Rattle.csp_base.specs.Lists.{greatest}
-use Rattle.csp_text.specs.Prelude.{tree_depth, Decl}
+use Rattle.csp_text.specs.Prelude.{tree_depth}
+use Rattle.csp_text.specs.declared.script.Decl.{Decl}
 use Rattle.csp_text.specs.declared.script.Decl.TheVariants as decl
 use Rattle.dl_limits.specs.declared.TheConstants.{MOST_BYTES, MOST_TREE_DEPTH}
 use Rattle.script_sizes.specs.BindingTokens.{all_tokens, tokens}

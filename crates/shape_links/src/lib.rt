@@ -18,6 +18,7 @@ mod steps;
 pub use acquisition::acquired_resource;
 pub use circle::turn_circle;
 pub use component::Component;
+pub use odd_links::empty_sets;
 pub use requirement::Requirement;
 pub use setting::Setting;
 pub use sorted_shape::SortedShape;

@@ -1,6 +1,6 @@
 //! Of which links a component has done an odd number of events, where the node at which it stands tells it.
 
-ghost use Rattle.std.specs.Prelude.{◌≡◌, ◌<◌, ℕ, true, not, ◌&&◌, nat_eq, IfOk, IfSome, IsTrue, length, get_or, [], if◌then◌else◌};
+ghost use Rattle.std.specs.Prelude.{◌≡◌, ◌<◌, ℕ, true, not, ◌&&◌, nat_eq, IfOk, IfSome, IsTrue, length, get_or, [], if◌then◌else◌, replicate};
 ghost use Rattle.csp_base.specs.Prelude.{has};
 ghost use Rattle.csp_tables.specs.Prelude.{is_possible, node_after, node_at};
 ghost use Rattle.observed_runs.specs.Prelude.{pair_at};
@@ -119,9 +119,10 @@ impl<'a> Component<'a> {
     }
 }
 
-// So many empty sets.
-fn empty_sets(alloc: Global, count: usize) -> Result<Vec<EventSet>, NoMemory>
-    ensures { IfOk result (λ sets. length sets.items ≡ count) }
+/// So many empty sets of links.
+pub fn empty_sets(alloc: Global, count: usize) -> Result<Vec<EventSet>, NoMemory>
+    ensures count { IfOk result (λ sets. length sets.items ≡ count) }
+    ensures empty { IfOk result (λ sets. sets.items ≡ replicate count []) }
 {
     let mut sets = Vec::new(alloc);
     for _ in 0..count {

@@ -4,7 +4,11 @@ pub use Rattle.csp_atoms.specs.declared.value.Value.TheVariants.{One}
 pub use Rattle.csp_atoms.specs.declared.value.Value.{Value}
 pub use Rattle.csp_base.proofs.Lists.{drop_read}
 pub use Rattle.csp_base.proofs.Standard.{filter_more, map-append}
-pub use Rattle.csp_program.specs.Prelude.{Channel, Env, EventInfo, Expr-F, Gen, IsInOrder, Outcome, and_then, event_table, front_events, joined, meanings, one_event, row_count, rows, sets_of, turn, uses_within, value_of, walked}
+pub use Rattle.csp_program.specs.Prelude.{Env, IsInOrder, Outcome, and_then, event_table, front_events, joined, meanings, one_event, row_count, rows, sets_of, turn, uses_within, value_of, walked}
+pub use Rattle.csp_program.specs.declared.programs.Channel.{Channel}
+pub use Rattle.csp_program.specs.declared.programs.EventInfo.{EventInfo}
+pub use Rattle.csp_program.specs.declared.expressions.Expr.TheOpen.{Expr-F}
+pub use Rattle.csp_program.specs.declared.expressions.Gen.{Gen}
 pub use Rattle.csp_program.specs.declared.expressions.EventPart.{EventPart, out-EventPart}
 pub use Rattle.csp_program.specs.declared.expressions.Expr.TheVariants.{Lit}
 pub use Rattle.csp_program.specs.declared.expressions.Expr.{Expr}

@@ -1,7 +1,8 @@
 -- What the head of a prefix stands for, as it is kept.
 use Rattle.std.specs.Prelude.{◌≡◌, ℕ, ◌+◌, ◌≤◌, ◌^◌, Result, Some, Ok, Err, List, slice_get}
 use Rattle.csp_atoms.specs.declared.atom.Atom.{Atom}
-use Rattle.csp_program.specs.Prelude.{row_count, rows, Outcome, Content}
+use Rattle.csp_program.specs.Prelude.{row_count, rows, Outcome}
+use Rattle.csp_program.specs.declared.programs.Content.{Content}
 use Rattle.process_steps.specs.Ways.{Among, event_among, sets_among}
 use Rattle.step_values.specs.declared.heads.Start.{Start}
 use Rattle.value_operators.specs.Gives.{EvalFault, IsFault}

@@ -1,9 +1,17 @@
 -- What a renaming comes to as it is evaluated, for the contracts of the functions that do so.
 use Rattle.std.specs.Prelude.{◌≡◌, ◌++◌, ℕ, Result, Ok, Err, List, [], ◌∷◌, map, drop, length, slice_get, take}
-use Rattle.csp_program.specs.Prelude.{Outcome, and_then, Env, sets_of, turn, uses_within, walked, EventPart, out-EventPart, Expr, Gen, Kind, Content, EventInfo}
+use Rattle.csp_program.specs.Prelude.{Outcome, and_then, Env, sets_of, turn, uses_within, walked}
+use Rattle.csp_program.specs.declared.expressions.EventPart.{EventPart, out-EventPart}
+use Rattle.csp_program.specs.declared.expressions.Expr.{Expr}
+use Rattle.csp_program.specs.declared.expressions.Gen.{Gen}
+use Rattle.csp_program.specs.declared.kinds.ValueKind.TheVariants.{Kind}
+use Rattle.csp_program.specs.declared.programs.Content.{Content}
+use Rattle.csp_program.specs.declared.programs.EventInfo.{EventInfo}
 use Rattle.csp_values.specs.Worth.{front_worth, worths}
 use Rattle.process_steps.specs.Prelude.{each_joined, Gathering, Renamed, binding_renamed, event_with}
-use Rattle.csp_atoms.specs.Prelude.{Atom, Value, One}
+use Rattle.csp_atoms.specs.declared.atom.Atom.{Atom}
+use Rattle.csp_atoms.specs.declared.value.Value.{Value}
+use Rattle.csp_atoms.specs.declared.value.Value.TheVariants.{One}
 use Rattle.csp_atoms.specs.declared.atom.Atom.TheVariants as atom
 use Rattle.csp_program.specs.declared.expressions.Expr.TheVariants as expr
 use Rattle.step_values.specs.declared.renaming.Tally.{Tally}

@@ -78,7 +78,7 @@ fn gather_all(scope: &Scope<'_>, gens: &[Gen], tally: Tally) -> Result<Tally, Ev
     let mut walk = Walk::new(scope.alloc, &[])?;
     let mut tally = tally;
     'bindings: while binding_under(scope.alloc, scope.program, gens, &mut walk)? {
-        tally = gather(scope, walk.bound(), tally)?;
+        tally = gather(scope, walk.bound_names(), tally)?;
     }
     Ok(tally)
 }

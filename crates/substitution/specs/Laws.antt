@@ -1,6 +1,9 @@
 -- What a substitution keeps of an expression and of a process.
 use Rattle.std.specs.Prelude.{◌≡◌, ℕ, true, ◌&&◌, is_none, Option, Some, None, Ok}
-use Rattle.csp_program.specs.Prelude.{expr_depth, proc_depth, Names, expr_free, proc_free, value_in_order, expr_in_order, proc_in_order, Outcome, Given, expr_with, proc_with, Env, bound_value, value_within, Expr, Proc, Content}
+use Rattle.csp_program.specs.Prelude.{expr_depth, proc_depth, Names, expr_free, proc_free, value_in_order, expr_in_order, proc_in_order, Outcome, Given, expr_with, proc_with, Env, bound_value, value_within}
+use Rattle.csp_program.specs.declared.expressions.Expr.{Expr}
+use Rattle.csp_program.specs.declared.processes.Proc.{Proc}
+use Rattle.csp_program.specs.declared.programs.Content.{Content}
 use Rattle.csp_atoms.specs.declared.value.Value.{Value}
 
 -- each given value is in order

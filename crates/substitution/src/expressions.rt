@@ -117,7 +117,8 @@ fn product(
 fn replace_boxed_expr(expr: &Boxed<Expr>, values: &Values<'_>) -> Result<Boxed<Expr>, NoMemory>
     ensures { IfOk result (λ made. made ≡ expr_with (given_by values.now) expr.now) }
 {
-    put_expr(expr.get(), values).and_then(|expr| Boxed::new(values.alloc(), expr))
+    let alloc = values.alloc();
+    put_expr(expr.get(), values).and_then(|expr| Boxed::new(alloc, expr))
 }
 
 // Two expressions on the heap.

@@ -141,7 +141,8 @@ fn renaming(
 fn replace_boxed_proc(proc: &Boxed<Proc>, values: &Values<'_>) -> Result<Boxed<Proc>, NoMemory>
     ensures { IfOk result (λ made. made ≡ proc_with (given_by values.now) proc.now) }
 {
-    put_proc(proc.get(), values).and_then(|proc| Boxed::new(values.alloc(), proc))
+    let alloc = values.alloc();
+    put_proc(proc.get(), values).and_then(|proc| Boxed::new(alloc, proc))
 }
 
 // Two processes on the heap.

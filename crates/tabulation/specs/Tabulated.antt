@@ -2,7 +2,9 @@
 use Rattle.std.specs.Prelude.{◌≡◌, ◌≤◌, ℕ, Some, [], ◌∷◌, length, slice_get}
 use Rattle.csp_tables.specs.Prelude.{leaves, Part}
 use Rattle.network_stages.specs.Prelude.{Network, ArePartsBy, HasNoPart}
-use Rattle.report.specs.Prelude.{RefusedOr, Refusal, Verdict}
+use Rattle.report.specs.Prelude.{RefusedOr}
+use Rattle.report.specs.declared.answer.Refusal.{Refusal}
+use Rattle.report.specs.declared.answer.Verdict.{Verdict}
 use Rattle.report.specs.declared.answer.Done.TheVariants as done
 use Rattle.report.specs.declared.answer.Refusal.TheVariants as refusal
 use Rattle.report.specs.declared.answer.Side.TheVariants as side

@@ -1,10 +1,16 @@
 -- How a pool keeps nodes: as entries, whose own parts are numbers in stores.
 use Rattle.std.specs.Prelude.{ℕ, ◌<◌, List, [], length, map, slice_index_or}
-use Rattle.csp_program.specs.Prelude.{EventPart, Expr, Gen, Field, Head, Proc-F}
+use Rattle.csp_program.specs.declared.expressions.EventPart.{EventPart}
+use Rattle.csp_program.specs.declared.expressions.Expr.{Expr}
+use Rattle.csp_program.specs.declared.expressions.Gen.{Gen}
+use Rattle.csp_program.specs.declared.processes.Field.{Field}
+use Rattle.csp_program.specs.declared.processes.Head.{Head}
+use Rattle.csp_program.specs.declared.processes.Proc.TheOpen.{Proc-F}
 use Rattle.csp_program.specs.declared.expressions.Expr.TheVariants as expr
 use Rattle.csp_program.specs.declared.processes.Head.TheVariants as head
 use Rattle.term_pool.specs.Layers.{Layer}
-use Rattle.pool_parts.specs.Prelude.{IsStart, ProcId}
+use Rattle.pool_parts.specs.Prelude.{IsStart}
+use Rattle.pool_parts.specs.declared.place.ProcId.{ProcId}
 use Rattle.term_pool.specs.declared.entry.Entry.{Entry}
 use Rattle.term_pool.specs.declared.entry.Entry.TheVariants as entry
 use Rattle.term_pool.specs.declared.own_parts.OwnParts.{OwnParts}

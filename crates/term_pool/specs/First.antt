@@ -1,6 +1,8 @@
 -- A process with another one in place of its first sub-process, and a node with another place in place of its first.
 use Rattle.std.specs.Prelude.{List, [], ◌∷◌}
-use Rattle.csp_program.specs.Prelude.{Proc, Proc-F, out-Proc}
+use Rattle.csp_program.specs.declared.processes.Proc.{Proc}
+use Rattle.csp_program.specs.declared.processes.Proc.TheOpen.{Proc-F}
+use Rattle.csp_program.specs.declared.processes.Proc.TheViews.{out-Proc}
 use Rattle.csp_program.specs.declared.processes.Proc.TheVariants as proc
 use Rattle.term_pool.specs.Layers.{Layer}
 use Rattle.pool_parts.specs.declared.place.ProcId.{ProcId}

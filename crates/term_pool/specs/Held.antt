@@ -8,7 +8,8 @@ use Rattle.term_pool.specs.Pooled.{Has, IsFront}
 use Rattle.term_pool.specs.Trees.{fall, layer_tree, trees_of}
 use Rattle.term_pool.specs.Within.{AddsOne}
 use Rattle.term_pool.specs.declared.entry.Entry.{Entry}
-use Rattle.pool_parts.specs.Prelude.{Measure, ProcId}
+use Rattle.pool_parts.specs.declared.measure.Measure.{Measure}
+use Rattle.pool_parts.specs.declared.place.ProcId.{ProcId}
 use Rattle.term_pool.specs.declared.kept.Nodes.{Nodes}
 use Rattle.term_pool.specs.declared.own_parts.OwnParts.{OwnParts}
 use Rattle.csp_base.specs.Lists.{EachOnce}

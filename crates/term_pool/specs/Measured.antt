@@ -2,8 +2,12 @@
 -- its places.
 use Rattle.std.specs.Prelude.{◌≡◌, ℕ, ◌+◌, ◌≤◌, max, List, [], ◌∷◌, map, length, slice_index_or}
 use Rattle.csp_base.specs.Lists.{greatest, total}
-use Rattle.csp_program.specs.Prelude.{expr_depth, field_depth, gen_depth, pair_depth, proc_depth, Names, any_of, before, either, expr_free, gen_binding, head_free, nowhere, pair_free, proc_free, under, expr_size, field_size, gen_size, pair_size, proc_size, Proc, Proc-F}
-use Rattle.pool_parts.specs.Prelude.{capped, IsLow, AreNoted, IsMeasure, Measure, ProcId}
+use Rattle.csp_program.specs.Prelude.{expr_depth, field_depth, gen_depth, pair_depth, proc_depth, Names, any_of, before, either, expr_free, gen_binding, head_free, nowhere, pair_free, proc_free, under, expr_size, field_size, gen_size, pair_size, proc_size}
+use Rattle.csp_program.specs.declared.processes.Proc.{Proc}
+use Rattle.csp_program.specs.declared.processes.Proc.TheOpen.{Proc-F}
+use Rattle.pool_parts.specs.Prelude.{capped, IsLow, AreNoted, IsMeasure}
+use Rattle.pool_parts.specs.declared.measure.Measure.{Measure}
+use Rattle.pool_parts.specs.declared.place.ProcId.{ProcId}
 use Rattle.term_pool.specs.Layers.{Layer, layer_parts}
 
 -- what a process measures

@@ -1,6 +1,7 @@
 -- What a pool keeps of its list of processes.
 use Rattle.std.specs.Prelude.{◌≡◌, ℕ, ◌<◌, Some, List, [], ◌∷◌, slice_get}
-use Rattle.csp_program.specs.Prelude.{Proc, out-Proc}
+use Rattle.csp_program.specs.declared.processes.Proc.{Proc}
+use Rattle.csp_program.specs.declared.processes.Proc.TheViews.{out-Proc}
 use Rattle.term_pool.specs.Layers.{layer_parts}
 
 -- the sub-processes of a process, those directly below it

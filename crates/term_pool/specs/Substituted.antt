@@ -1,7 +1,9 @@
 -- Values put into the processes of a pool: layer by layer, with what stands at the places.
 use Rattle.std.specs.Prelude.{◌≡◌, ℕ, nat_eq, Some, None, Option, List, map, slice_get}
 use Rattle.std.specs.HashMap.{HashMap, get}
-use Rattle.csp_program.specs.Prelude.{after_all, expr_with, fields_with, gens_with, given_by, head_with, pair_with, past, proc_with, without, Given, Env, Proc, Proc-F}
+use Rattle.csp_program.specs.Prelude.{after_all, expr_with, fields_with, gens_with, given_by, head_with, pair_with, past, proc_with, without, Given, Env}
+use Rattle.csp_program.specs.declared.processes.Proc.{Proc}
+use Rattle.csp_program.specs.declared.processes.Proc.TheOpen.{Proc-F}
 use Rattle.pool_parts.specs.declared.place.ProcId.{ProcId}
 use Rattle.term_pool.specs.Layers.{Layer}
 use Rattle.term_pool.specs.Trees.{tree_at}

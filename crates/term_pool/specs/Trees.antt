@@ -1,6 +1,7 @@
 -- The trees that the nodes of a pool stand for: in a list of nodes, each tree is made of those before it.
 use Rattle.std.specs.Prelude.{ℕ, ◌+◌, Bool, true, ◌&&◌, nat_lt, List, [], ◌∷◌, ◌++◌, map, slice_index_or}
-use Rattle.csp_program.specs.Prelude.{Proc, Proc-F}
+use Rattle.csp_program.specs.declared.processes.Proc.{Proc}
+use Rattle.csp_program.specs.declared.processes.Proc.TheOpen.{Proc-F}
 use Rattle.csp_program.specs.declared.processes.Proc.TheVariants as proc
 use Rattle.term_pool.specs.Layers.{Layer, layer_parts, shown}
 use Rattle.term_pool.specs.declared.node.Node.{Node}

@@ -23,8 +23,8 @@ pub(crate) fn expect_fields(alloc: Global, name: Name, fields: Trees, tokens: &[
     if fields.get().is_empty() {
         return Err(no_text(tokens));
     }
-    let dotted = nodes::dotted(alloc, name, fields)?;
-    Ok(dotted)
+    let event = nodes::dotted_event(alloc, name, fields)?;
+    Ok(event)
 }
 
 // The one item that there is.

@@ -9,7 +9,11 @@ pub use Rattle.csp_grammar.specs.Grammar.{part_tree}
 pub use Rattle.csp_grammar.specs.Prelude.{AssertedText, AtomText, Choice, ChoiceText, ConditionsText, DeclarationText, DeclarationsText, DotsText, DottedText, EventText, ExpressionText, FieldsText, GenText, GensText, HidingText, IsComparison, IsLeftOperator, IsNext, ItemText, ItemsText, Level, ModelText, NamesText, OpenText, PairsText, ParametersText, PartText, PartsText, PrefixText, Reach, SequenceText, SideText, TreeText, TypesText, and_then, begins, begins_event, behind_name, binding, case, choice_of, choice_sign, closed, comparison, conjunction, disjunction, dotted_tree, event_tree, external, first_token, internal, minus, negation, only, opened, plain_prefix, prefix_tokens, product, renaming, skip, skip_word, sum, with_first}
 pub use Rattle.csp_grammar.specs.Tokens.{symbol_binding}
 pub use Rattle.csp_text.proofs.WrittenAlike.{symbol_is, word_is}
-pub use Rattle.csp_text.specs.Prelude.{Backslash, CloseBrace, Dot, EventTree, ExternalChoice, InternalChoice, OpenBrace, OpenBracket, OpenParen, Question, Script, capped, event_depth, event_layer_depth, field_depth, field_layer_depth, fold-roll-EventTree, fold-roll-FieldTree, fold-roll-GenTree, fold-roll-PartTree, fold-roll-Tree, fold_out-Tree, gen_depth, gen_layer_depth, greatest_of_pairs, map-FieldTree, map-GenTree, map-Tree, part_depth, part_layer_depth, same_symbol, same_word, set_op_word, symbol_text, tree_depth, tree_layer_depth}
+pub use Rattle.csp_text.specs.Prelude.{capped, event_depth, event_layer_depth, field_depth, field_layer_depth, gen_depth, gen_layer_depth, greatest_of_pairs, part_depth, part_layer_depth, same_symbol, same_word, set_op_word, symbol_text, tree_depth, tree_layer_depth}
+pub use Rattle.csp_text.specs.declared.token.Symbol.TheVariants.{Backslash, CloseBrace, Dot, ExternalChoice, InternalChoice, OpenBrace, OpenBracket, OpenParen, Question}
+pub use Rattle.csp_text.specs.declared.tree.EventTree.{EventTree}
+pub use Rattle.csp_text.specs.declared.script.Script.{Script}
+pub use Rattle.csp_text.specs.declared.tree.FieldTree.TheFolds.{fold-roll-EventTree, fold-roll-FieldTree, fold-roll-GenTree, fold-roll-PartTree, fold-roll-Tree, fold_out-Tree, map-FieldTree, map-GenTree, map-Tree}
 pub use Rattle.csp_text.specs.declared.script.Decl.{Decl}
 pub use Rattle.csp_text.specs.declared.token.Symbol.{Symbol}
 pub use Rattle.csp_text.specs.declared.token.Token.TheVariants.{Name, Num, Word}

@@ -1,7 +1,8 @@
 -- What stands behind the process of an assertion.
 use Rattle.std.specs.Prelude.{ℕ, Bool, ◌||◌, Option, Some, List, codes}
 use Rattle.std.specs.Str.{bytes_eq}
-use Rattle.csp_text.specs.Prelude.{Colon, OpenBracket, CloseBracket, Token}
+use Rattle.csp_text.specs.declared.token.Symbol.TheVariants.{Colon, OpenBracket, CloseBracket}
+use Rattle.csp_text.specs.declared.token.Token.{Token}
 use Rattle.csp_grammar.specs.Prelude.{and_then, case, skip}
 use Rattle.tree_reading.specs.Nesting.{sure}
 use Rattle.tree_reading.specs.Starts.{named}

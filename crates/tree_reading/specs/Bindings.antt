@@ -1,6 +1,7 @@
 -- How tightly trees are bound: the order of bindings, as the numbers by which the reader of the grammar says it.
 use Rattle.std.specs.Prelude.{ℕ, Bool, nat_le, if◌then◌else◌, Option, List, [], ◌∷◌}
-use Rattle.csp_text.specs.Prelude.{Token, Tree}
+use Rattle.csp_text.specs.declared.token.Token.{Token}
+use Rattle.csp_text.specs.declared.tree.Tree.{Tree}
 use Rattle.tree_reading.specs.declared.read.Binding.{Binding}
 use Rattle.tree_reading.specs.declared.read.Binding.TheVariants.{Dotted, Open, Closed, Disjunction, Conjunction, Complement, Comparison, Sum, Product, Negative, Renaming, Atom}
 

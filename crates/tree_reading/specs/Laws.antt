@@ -1,7 +1,11 @@
 -- No text has two trees, and no text is two scripts; the reader gives whatever the grammar has within the limits, and nothing else.
 use Rattle.std.specs.Prelude.{◌≡◌, ℕ, ◌≤◌, ◌<◌, Some, None, List, [], ◌∷◌}
-use Rattle.csp_text.specs.Prelude.{tree_depth, Script, ExternalChoice, InternalChoice, Parallel, Question, Dot, Backslash, OpenParen, OpenBrace, CloseBrace, OpenBracket, CloseBracket, Token, Name, Tree}
-use Rattle.csp_text.specs.declared.token.Token.TheVariants.{Symbol}
+use Rattle.csp_text.specs.Prelude.{tree_depth}
+use Rattle.csp_text.specs.declared.script.Script.{Script}
+use Rattle.csp_text.specs.declared.token.Symbol.TheVariants.{ExternalChoice, InternalChoice, Parallel, Question, Dot, Backslash, OpenParen, OpenBrace, CloseBrace, OpenBracket, CloseBracket}
+use Rattle.csp_text.specs.declared.token.Token.{Token}
+use Rattle.csp_text.specs.declared.token.Token.TheVariants.{Name, Symbol}
+use Rattle.csp_text.specs.declared.tree.Tree.{Tree}
 use Rattle.csp_grammar.specs.Prelude.{ScriptText, prefix_tokens, TreeText, begins}
 use Rattle.tree_reading.specs.Limited.{limited}
 use Rattle.tree_reading.specs.Nesting.{limits}

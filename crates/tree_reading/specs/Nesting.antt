@@ -1,6 +1,7 @@
 -- The limits of what is nested: how many brackets may still be opened, and how deep a tree may be.
 use Rattle.std.specs.Prelude.{ℕ, zero, suc, Bool, true, false, nat_le, Option, Some, None}
-use Rattle.csp_text.specs.Prelude.{tree_depth, Tree}
+use Rattle.csp_text.specs.Prelude.{tree_depth}
+use Rattle.csp_text.specs.declared.tree.Tree.{Tree}
 use Rattle.csp_grammar.specs.Reader.{and_then}
 use Rattle.tree_reading.specs.declared.limits.Limits.{Limits}
 use Rattle.dl_limits.specs.declared.TheConstants.{MOST_BRACKETS, MOST_TREE_DEPTH}

@@ -1,6 +1,15 @@
 -- What the first tokens of a text say of what is to be read.
 use Rattle.std.specs.Prelude.{ℕ, Bool, false, ◌&&◌, if◌then◌else◌, Option, Some, None, List, [], ◌∷◌}
-use Rattle.csp_text.specs.Prelude.{same_symbol, same_word, Symbol, Token, EventTree, FieldTree, FieldTree-F, out-FieldTree, GenTree, PartTree, Tree}
+use Rattle.csp_text.specs.Prelude.{same_symbol, same_word}
+use Rattle.csp_text.specs.declared.token.Symbol.{Symbol}
+use Rattle.csp_text.specs.declared.token.Token.{Token}
+use Rattle.csp_text.specs.declared.tree.EventTree.{EventTree}
+use Rattle.csp_text.specs.declared.tree.FieldTree.{FieldTree}
+use Rattle.csp_text.specs.declared.tree.FieldTree.TheOpen.{FieldTree-F}
+use Rattle.csp_text.specs.declared.tree.FieldTree.TheViews.{out-FieldTree}
+use Rattle.csp_text.specs.declared.tree.GenTree.{GenTree}
+use Rattle.csp_text.specs.declared.tree.PartTree.{PartTree}
+use Rattle.csp_text.specs.declared.tree.Tree.{Tree}
 use Rattle.csp_text.specs.declared.token.Word.{Word}
 use Rattle.csp_text.specs.declared.token.Token.TheVariants as token
 use Rattle.csp_text.specs.declared.token.Word.TheVariants as word

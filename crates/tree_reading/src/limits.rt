@@ -19,7 +19,7 @@ pub struct Limits {
 
 impl Limits {
     /// The limits below one more bracket, where one stands in front of the tokens.
-    pub fn bracketed(self, tokens: &[Token]) -> OrNoText<Limits>
+    pub fn open_bracket(self, tokens: &[Token]) -> OrNoText<Limits>
         ensures { Gives result (λ inner. inner) (bracketed self) }
     {
         match self.brackets.checked_sub(1) {
@@ -45,10 +45,10 @@ impl Limits {
     }
 
     /// The limits of the parts of a node that opens a bracket, in front of the tokens.
-    pub fn opened(self, tokens: &[Token]) -> OrNoText<Limits>
+    pub fn inside_bracket(self, tokens: &[Token]) -> OrNoText<Limits>
         ensures { Gives result (λ inner. inner) (opened self) }
     {
-        let below = self.bracketed(tokens)?;
+        let below = self.open_bracket(tokens)?;
         below.inside(tokens)
     }
 
@@ -60,7 +60,7 @@ impl Limits {
     }
 
     /// The limits of the parts of a node with this tree as its first part, in front of the tokens.
-    pub fn around(self, tree: &DeepTree, tokens: &[Token]) -> OrNoText<Limits>
+    pub fn inside_with(self, tree: &DeepTree, tokens: &[Token]) -> OrNoText<Limits>
         ensures { Gives result (λ inner. inner) (around self tree.now) }
     {
         let inner = self.inside(tokens)?;

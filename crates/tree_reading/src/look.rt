@@ -7,7 +7,7 @@ ghost use Rattle.tree_reading.specs.Prelude.{left_operand, Gives, atom_start, ch
 
 use crate::deep::Deep;
 use crate::fault::{OrNoText, no_text};
-use crate::read::Binding;
+use crate::read::{Binding, Read};
 use csp_base::{BinOp, Name, SetOp};
 use csp_text::{Symbol, Token, Tree, Word};
 use std::alloc::Global;
@@ -127,7 +127,7 @@ pub fn expect_word(tokens: &[Token], word: Word) -> OrNoText<&[Token]>
 }
 
 /// The name at the front, and what follows it.
-pub fn named(tokens: &[Token]) -> Option<(&Name, &[Token])>
+pub fn first_name(tokens: &[Token]) -> Option<(&Name, &[Token])>
     ensures same { MatchOption result (named tokens.now ≡ None) (λ found. named tokens.now
         ≡ Some (found.0.now, found.1.now)) }
     ensures shorter { IfSome result (λ found. length found.1.now < length tokens.now) }
@@ -143,7 +143,7 @@ pub fn expect_name(alloc: Global, tokens: &[Token]) -> OrNoText<(Name, &[Token])
     ensures same { Gives result (λ found. (found.0, found.1.now)) (named tokens.now) }
     ensures shorter { IfOk result (λ found. length found.1.now < length tokens.now) }
 {
-    match named(tokens) {
+    match first_name(tokens) {
         Some((name, rest)) => {
             let name = name.try_clone(alloc)?;
             Ok((name, rest))
@@ -197,16 +197,18 @@ impl Chain {
 }
 
 /// The choice whose sign is at the front, and what follows it.
-pub fn first_chain(tokens: &[Token]) -> Option<(Chain, &[Token])>
+pub fn first_chain(tokens: &[Token]) -> Option<Read<'_, Chain>>
     ensures same { MatchOption result (first_chain tokens.now ≡ None) (λ found. first_chain tokens.now
-        ≡ Some (found.0, found.1.now)) }
-    ensures shorter { IfSome result (λ found. length found.1.now < length tokens.now) }
+        ≡ Some (found.part, found.rest.now)) }
+    ensures shorter { IfSome result (λ found. length found.rest.now < length tokens.now) }
 {
     if let Some(rest) = skip(tokens, Symbol::ExternalChoice) {
-        return Some((Chain::External, rest));
+        let part = Chain::External;
+        return Some(Read { part, rest });
     }
+    let part = Chain::Internal;
     match skip(tokens, Symbol::InternalChoice) {
-        Some(rest) => Some((Chain::Internal, rest)),
+        Some(rest) => Some(Read { part, rest }),
         None => None,
     }
 }
@@ -274,16 +276,16 @@ impl Sign {
 }
 
 /// The sign that goes on with an operand, which is bound like this, and what follows the sign.
-pub fn sign_behind(level: Binding, bound: Binding, tokens: &[Token]) -> Option<(Sign, &[Token])>
+pub fn sign_behind(level: Binding, bound: Binding, tokens: &[Token]) -> Option<Read<'_, Sign>>
     ensures same { MatchOption result (sign_behind level bound tokens.now ≡ None) (λ found.
-        sign_behind level bound tokens.now ≡ Some (found.0, found.1.now)) }
-    ensures shorter { IfSome result (λ found. length found.1.now < length tokens.now) }
+        sign_behind level bound tokens.now ≡ Some (found.part, found.rest.now)) }
+    ensures shorter { IfSome result (λ found. length found.rest.now < length tokens.now) }
 {
     let Some((first, rest)) = tokens.split_first() else {
         return None;
     };
     match token_sign(first) {
-        Some(sign) if sign.may_follow(level, bound) => Some((sign, rest)),
+        Some(part) if part.may_follow(level, bound) => Some(Read { part, rest }),
         _ => None,
     }
 }
@@ -347,7 +349,7 @@ pub fn atom_start(alloc: Global, tokens: &[Token]) -> OrNoText<(AtomStart, &[Tok
     ensures same { Gives result (λ found. (found.0, found.1.now)) (atom_start tokens.now) }
     ensures shorter { IfOk result (λ found. length found.1.now < length tokens.now) }
 {
-    let Some((name, rest)) = named(tokens) else {
+    let Some((name, rest)) = first_name(tokens) else {
         return other_start(tokens);
     };
     let name = name.try_clone(alloc)?;
@@ -365,8 +367,8 @@ fn form_start(tokens: &[Token]) -> (PrefixStart, &[Token])
     if let Some(rest) = skip_word(tokens, Word::If) {
         return (PrefixStart::If, rest);
     }
-    if let Some((chain, rest)) = first_chain(tokens) {
-        return (PrefixStart::Each(chain), rest);
+    if let Some(sign) = first_chain(tokens) {
+        return (PrefixStart::Each(sign.part), sign.rest);
     }
     match skip(tokens, Symbol::Parallel) {
         Some(rest) => (PrefixStart::EachParallel, rest),

@@ -17,6 +17,19 @@ pub struct Read<'t, T> {
     pub rest: &'t [Token],
 }
 
+impl<'t, T> Read<'t, T> {
+    /// The same, bound like this.
+    pub fn bind(self, binding: Binding) -> BoundRead<'t, T>
+        ensures { result ≡ record { binding = binding; part = self.part; rest = self.rest } }
+    {
+        BoundRead {
+            binding,
+            part: self.part,
+            rest: self.rest,
+        }
+    }
+}
+
 /// The same with how tightly it is bound.
 #[derive(Drop)]
 pub struct BoundRead<'t, T> {

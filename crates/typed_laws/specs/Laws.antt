@@ -2,7 +2,8 @@
 use Rattle.std.specs.Prelude.{◌≡◌, Ok, List}
 use Rattle.csp_program.specs.declared.programs.Content.{Content}
 use Rattle.csp_text.specs.declared.script.Script.{Script}
-use Rattle.script_names.specs.Prelude.{AreKinds, IsProgram, resolved, Kind}
+use Rattle.script_names.specs.Prelude.{AreKinds, IsProgram, resolved}
+use Rattle.script_names.specs.declared.kinds.Kind.{Kind}
 
 -- what the functions give is the program by the rules
 abbrev pub ResolvedIsProgram : Type 0

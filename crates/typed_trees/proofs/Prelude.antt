@@ -3,12 +3,12 @@ pub use Rattle.csp_base.proofs.Standard.{length-take, take-append_seam, take-len
 pub use Rattle.csp_base.specs.Prelude.{total}
 pub use Rattle.csp_base.specs.declared.operators.BinOp.{BinOp}
 pub use Rattle.csp_base.specs.declared.operators.SetOp.{SetOp}
-pub use Rattle.csp_program.specs.Prelude.{Net}
+pub use Rattle.csp_program.specs.declared.networks.Net.{Net}
 pub use Rattle.csp_program.specs.declared.expressions.Expr.TheViews.{roll-EventPart}
 pub use Rattle.csp_program.specs.declared.expressions.Gen.{Gen}
 pub use Rattle.csp_program.specs.declared.processes.Field.{Field}
 pub use Rattle.csp_text.proofs.tree.Tree.TheLaws.{the_size}
-pub use Rattle.csp_text.specs.Prelude.{the_lemmas}
+pub use Rattle.csp_text.specs.declared.tree.Tree.{the_lemmas, Tree}
 pub use Rattle.csp_text.specs.declared.tree.EventTree.{EventTree}
 pub use Rattle.csp_text.specs.declared.tree.FieldTree.TheFolds.{fold-EventTree, fold-roll-EventTree, fold-roll-FieldTree, fold-roll-GenTree, fold-roll-PartTree, fold-roll-Tree, ind-FieldTree, ind-GenTree, ind-PartTree, ind-Tree, map-EventTree, map-FieldTree, map-GenTree, map-PartTree, map-Tree}
 pub use Rattle.csp_text.specs.declared.tree.FieldTree.TheOpen.{EventTree-F, FieldTree-F, GenTree-F, PartTree-F, Tree-F}
@@ -16,7 +16,6 @@ pub use Rattle.csp_text.specs.declared.tree.FieldTree.TheViews.{out-EventTree, o
 pub use Rattle.csp_text.specs.declared.tree.FieldTree.{FieldTree}
 pub use Rattle.csp_text.specs.declared.tree.GenTree.{GenTree}
 pub use Rattle.csp_text.specs.declared.tree.PartTree.{PartTree}
-pub use Rattle.csp_text.specs.declared.tree.Tree.{Tree}
 pub use Rattle.script_names.specs.Prelude.{Binding, Entities, Front, Name, Reading, all_bind, bindings, bindings_bind, binds_of_layer, channel_number, definition_number, event_of_layer, expr_of_layer, exprs, field_of_layer, first_of, gen_of_layer, head_of, is_network, named, names_of, network_of_layer, networked_of_layer, number_of, pairs_bind, part_of_layer, parts_bind, proc_of_layer, procs, reading, reading_of_layer, sense_in, under, with}
 pub use Rattle.script_names.specs.Typed.{Scope}
 pub use Rattle.script_names.specs.declared.kinds.Kind.{Kind}

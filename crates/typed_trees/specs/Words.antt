@@ -3,8 +3,16 @@
 -- functions.
 use Rattle.std.specs.Prelude.{◌+◌, ◌∷◌}
 use Rattle.typed_trees.specs.Prelude.{ℕ, Bool, Option, Some, None, List, [], Tree, is_network, Entities, Name, first_of, sense_in, Binding, Front, Reading, Scope, field_of_layer, gen_of_layer, reading_of_layer, event_of_layer, names_of, part_of_layer, with, Kind}
-use Rattle.csp_text.specs.Prelude.{FieldTree, fold-FieldTree, fold-GenTree, fold-PartTree, GenTree, PartTree}
-use Rattle.csp_program.specs.Prelude.{EventPart, Expr, Gen, Net, Field, Proc}
+use Rattle.csp_text.specs.declared.tree.FieldTree.{FieldTree, fold-FieldTree}
+use Rattle.csp_text.specs.declared.tree.FieldTree.TheFolds.{fold-GenTree, fold-PartTree}
+use Rattle.csp_text.specs.declared.tree.GenTree.{GenTree}
+use Rattle.csp_text.specs.declared.tree.PartTree.{PartTree}
+use Rattle.csp_program.specs.declared.expressions.EventPart.{EventPart}
+use Rattle.csp_program.specs.declared.expressions.Expr.{Expr}
+use Rattle.csp_program.specs.declared.expressions.Gen.{Gen}
+use Rattle.csp_program.specs.declared.networks.Net.{Net}
+use Rattle.csp_program.specs.declared.processes.Field.{Field}
+use Rattle.csp_program.specs.declared.processes.Proc.{Proc}
 use Rattle.script_names.specs.Typed as typed
 use Rattle.script_sizes.specs.BindingTokens.{tokens, field_tokens, fields_tokens, gen_tokens, gens_tokens, pairs_tokens, part_tokens}
 use Rattle.typed_trees.specs.Walked.{Walked, past, read_at}

@@ -11,7 +11,9 @@ pub use Rattle.csp_atoms.specs.declared.value.Value.TheVariants.{Many, One}
 pub use Rattle.csp_atoms.specs.declared.value.Value.{Value}
 pub use Rattle.csp_base.proofs.Booleans.{is_and, is_first, is_or_first, is_or_second, is_second}
 pub use Rattle.csp_base.proofs.Standard.{append-nil, cases_lt, drop-length, eqb-true, false_from_ne_true, ints, length-append, length-le_from_distinct_below, length-map, lt-ltb, or_cases, or_left, or_right, slice_get-map, slice_get_within}
-pub use Rattle.csp_base.specs.Prelude.{BinOp, SetOp, natural}
+pub use Rattle.csp_base.specs.Prelude.{natural}
+pub use Rattle.csp_base.specs.declared.operators.BinOp.{BinOp}
+pub use Rattle.csp_base.specs.declared.operators.SetOp.{SetOp}
 pub use Rattle.csp_program.proofs.Forms.{Every, ExprHas, GenHas, PartHas, each_expr}
 pub use Rattle.csp_program.proofs.Outcomes.{came_through}
 pub use Rattle.csp_program.proofs.UsesWithin.{gen_uses, meaning_same, part_uses, value_within_same}

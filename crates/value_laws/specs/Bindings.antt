@@ -1,8 +1,16 @@
 -- What a comprehension and a production hold, in the words of bindings: a choice of a value for the name of each generator.
 use Rattle.std.specs.Prelude.{◌≡◌, ◌⊎◌, ◌↔◌, ℕ, ◌≤◌, true, IsTrue, Ok, List, [], ◌∷◌, ◌++◌, map, length}
 use Rattle.dl_limits.specs.declared.TheConstants.{MOST_ELEMENTS}
-use Rattle.csp_atoms.specs.Prelude.{IsAtomSet, has_atom, Atom, Value, One, Many}
-use Rattle.csp_program.specs.Prelude.{IsInOrder, Env, Front, Meaning, Turn, front, truth, turn, uses_within, value_within, meanings, EventPart, Expr, Gen, Channel, Content}
+use Rattle.csp_atoms.specs.Prelude.{IsAtomSet, has_atom}
+use Rattle.csp_atoms.specs.declared.atom.Atom.{Atom}
+use Rattle.csp_atoms.specs.declared.value.Value.{Value}
+use Rattle.csp_atoms.specs.declared.value.Value.TheVariants.{One, Many}
+use Rattle.csp_program.specs.Prelude.{IsInOrder, Env, Front, Meaning, Turn, front, truth, turn, uses_within, value_within, meanings}
+use Rattle.csp_program.specs.declared.expressions.EventPart.{EventPart}
+use Rattle.csp_program.specs.declared.expressions.Expr.{Expr}
+use Rattle.csp_program.specs.declared.expressions.Gen.{Gen}
+use Rattle.csp_program.specs.declared.programs.Channel.{Channel}
+use Rattle.csp_program.specs.declared.programs.Content.{Content}
 use Rattle.value_laws.specs.EventNumbers.{HaveValues, StandsAt}
 use Rattle.csp_atoms.specs.declared.atom.Atom.TheVariants as atom
 use Rattle.csp_program.specs.declared.expressions.Expr.TheVariants as expr

@@ -2,7 +2,9 @@
 -- nest no deeper than there are definitions, since no definition of data reaches itself. So the value with that number is what evaluation without
 -- a bound gives, where uses are worth what their bodies are worth: it is such an evaluation, and the only one.
 use Rattle.std.specs.Prelude.{◌≡◌, ℕ, ◌≤◌, IsTrue, length, slice_get}
-use Rattle.csp_program.specs.Prelude.{IsInOrder, expr_in_order, NestsWithin, Env, Meaning, Uses, def_value, meaning, value_within, Expr, Content}
+use Rattle.csp_program.specs.Prelude.{IsInOrder, expr_in_order, NestsWithin, Env, Meaning, Uses, def_value, meaning, value_within}
+use Rattle.csp_program.specs.declared.expressions.Expr.{Expr}
+use Rattle.csp_program.specs.declared.programs.Content.{Content}
 
 -- from the nesting of an expression's uses on, their number doesn't matter
 abbrev pub MoreUsesChangeNothing : Type 0

@@ -1,9 +1,12 @@
 -- In a program in order, the number that is computed for an event from the values of its fields is the place of the event in the event table of the
 -- program's channels. The events that begin with given values stand there one after another.
 use Rattle.std.specs.Prelude.{◌≡◌, ◌↔◌, ℕ, ◌+◌, ◌<◌, ◌≤◌, Some, Ok, List, ◌++◌, map, length, slice_get}
-use Rattle.csp_program.specs.Prelude.{event_of, event_table, IsInOrder, Outcome, Env, Meaning, sets_of, values_of, Channel, Content}
+use Rattle.csp_program.specs.Prelude.{event_of, event_table, IsInOrder, Outcome, Env, Meaning, sets_of, values_of}
+use Rattle.csp_program.specs.declared.programs.Channel.{Channel}
+use Rattle.csp_program.specs.declared.programs.Content.{Content}
 use Rattle.value_laws.specs.Numbers.{events_each, first_of, front_number}
-use Rattle.csp_atoms.specs.Prelude.{Atom, One}
+use Rattle.csp_atoms.specs.declared.atom.Atom.{Atom}
+use Rattle.csp_atoms.specs.declared.value.Value.TheVariants.{One}
 
 -- the channel with the number c has these field sets
 abbrev pub HasSets : List Channel → ℕ → List (List Atom) → Type 0

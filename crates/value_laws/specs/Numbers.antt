@@ -1,8 +1,13 @@
 -- The place of an event in the event table, by arithmetic: from the places of the values in the sets of the channel's fields, the first field slowest.
 -- No definition of what a program means cites this; it serves the laws that a program finds events so.
 use Rattle.std.specs.Prelude.{◌≡◌, ℕ, zero, suc, ◌+◌, ◌*◌, ◌<◌, ◌^◌, Option, Some, None, Ok, Err, List, [], ◌∷◌, map, length, drop, slice_get}
-use Rattle.csp_atoms.specs.Prelude.{IsRising, place_of, Atom, Value, One, Many}
-use Rattle.csp_program.specs.Prelude.{row_count, event_table, Outcome, and_then, Env, Meaning, front_events, sets_of, Kind, OutsideChannel, Channel}
+use Rattle.csp_atoms.specs.Prelude.{IsRising, place_of}
+use Rattle.csp_atoms.specs.declared.atom.Atom.{Atom}
+use Rattle.csp_atoms.specs.declared.value.Value.{Value}
+use Rattle.csp_atoms.specs.declared.value.Value.TheVariants.{One, Many}
+use Rattle.csp_program.specs.Prelude.{row_count, event_table, Outcome, and_then, Env, Meaning, front_events, sets_of}
+use Rattle.csp_program.specs.declared.kinds.ValueKind.TheVariants.{Kind, OutsideChannel}
+use Rattle.csp_program.specs.declared.programs.Channel.{Channel}
 use Rattle.csp_program.specs.EventNumber as number
 use Rattle.csp_atoms.specs.declared.atom.Atom.TheVariants as atom
 

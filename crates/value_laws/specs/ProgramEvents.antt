@@ -1,9 +1,13 @@
 -- The events of a program in order. An expression of an event is worth the place of this event in the program's event table, and each event of the
 -- table is the worth of such an expression.
 use Rattle.std.specs.Prelude.{◌≡◌, ℕ, IsTrue, Some, Ok, List, map, slice_get}
-use Rattle.csp_program.specs.Prelude.{event_of, IsInOrder, expr_in_order, Env, value_within, meanings, Expr, Content}
+use Rattle.csp_program.specs.Prelude.{event_of, IsInOrder, expr_in_order, Env, value_within, meanings}
+use Rattle.csp_program.specs.declared.expressions.Expr.{Expr}
+use Rattle.csp_program.specs.declared.programs.Content.{Content}
 use Rattle.value_laws.specs.EventNumbers.{HaveValues}
-use Rattle.csp_atoms.specs.Prelude.{Atom, Value, One}
+use Rattle.csp_atoms.specs.declared.atom.Atom.{Atom}
+use Rattle.csp_atoms.specs.declared.value.Value.{Value}
+use Rattle.csp_atoms.specs.declared.value.Value.TheVariants.{One}
 use Rattle.csp_atoms.specs.declared.atom.Atom.TheVariants as atom
 use Rattle.csp_program.specs.declared.expressions.Expr.TheVariants as expr
 

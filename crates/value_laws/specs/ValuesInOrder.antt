@@ -1,6 +1,8 @@
 -- The values of a program in order are in order: each number in them is one of the program, and each set rises and is of one kind.
 use Rattle.std.specs.Prelude.{◌≡◌, ℕ, IsTrue, Ok, [], ◌∷◌}
-use Rattle.csp_program.specs.Prelude.{IsInOrder, expr_in_order, value_in_order, Env, value_within, Expr, Content}
+use Rattle.csp_program.specs.Prelude.{IsInOrder, expr_in_order, value_in_order, Env, value_within}
+use Rattle.csp_program.specs.declared.expressions.Expr.{Expr}
+use Rattle.csp_program.specs.declared.programs.Content.{Content}
 use Rattle.csp_atoms.specs.declared.value.Value.{Value}
 
 -- the values of all names are in order

@@ -2,13 +2,16 @@
 pub use Rattle.csp_atoms.proofs.ListLaws.{IsRising-union_of, IsRising-with_atom, kind_union_of, kind_with_atom}
 pub use Rattle.csp_atoms.proofs.MemberLaws.{has-union_of, has-with_atom, same_set}
 pub use Rattle.csp_atoms.proofs.OrderLaws.{less_number, same_exact, same_itself}
-pub use Rattle.csp_atoms.specs.Prelude.{AllAbove, AllOfKind, IsAtomSet, IsOneKind, IsRising, One, Value, fits, has_atom, kind_of, one_more, place_of, same, union_of, with_atom}
+pub use Rattle.csp_atoms.specs.Prelude.{AllAbove, AllOfKind, IsAtomSet, IsOneKind, IsRising, fits, has_atom, kind_of, one_more, place_of, same, union_of, with_atom}
+pub use Rattle.csp_atoms.specs.declared.value.Value.TheVariants.{One}
+pub use Rattle.csp_atoms.specs.declared.value.Value.{Value}
 unfoldable pub use Rattle.csp_atoms.specs.Prelude.{less}
 pub use Rattle.csp_atoms.specs.declared.atom.Atom.{Atom}
 pub use Rattle.csp_base.proofs.Booleans.{and_false, or_none, or_regroup, or_swap}
 pub use Rattle.csp_base.proofs.Lists.{drop_read}
 pub use Rattle.csp_base.proofs.Standard.{false≢true, or_right}
-pub use Rattle.csp_base.specs.Prelude.{Stop, Tells, natural}
+pub use Rattle.csp_base.specs.Prelude.{Tells, natural}
+pub use Rattle.csp_base.specs.declared.stop.Stop.{Stop}
 pub use Rattle.csp_program.specs.EventNumber.{row_count}
 pub use Rattle.csp_program.specs.Prelude.{Env, Outcome, added, all_added, and_then, limited, numbers_from, range}
 pub use Rattle.csp_program.specs.Value.{bound_to, bound_value}

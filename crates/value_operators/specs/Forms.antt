@@ -1,8 +1,13 @@
 -- The forms of expressions, on what their parts come to.
 use Rattle.std.specs.Prelude.{ℕ, ◌-◌, ◌*◌, ◌^◌, min, nat_eq, neg_ℤ, Bool, false, not, ◌||◌, if◌then◌else◌, is_none, Option, Some, None, Ok, Err, List, [], ◌∷◌, drop, slice_get}
-use Rattle.csp_program.specs.Prelude.{row_count, Outcome, and_then, Gathered, as_number, as_truth, as_set, truth, in_range, binary, many, sets_of, EventPart, out-EventPart, Kind, Channel}
+use Rattle.csp_program.specs.Prelude.{row_count, Outcome, and_then, Gathered, as_number, as_truth, as_set, truth, in_range, binary, many, sets_of}
+use Rattle.csp_program.specs.declared.expressions.EventPart.{EventPart, out-EventPart}
+use Rattle.csp_program.specs.declared.kinds.ValueKind.TheVariants.{Kind}
+use Rattle.csp_program.specs.declared.programs.Channel.{Channel}
 use Rattle.csp_base.specs.declared.operators.BinOp.{BinOp}
-use Rattle.csp_atoms.specs.Prelude.{Atom, Value, Many}
+use Rattle.csp_atoms.specs.declared.atom.Atom.{Atom}
+use Rattle.csp_atoms.specs.declared.value.Value.{Value}
+use Rattle.csp_atoms.specs.declared.value.Value.TheVariants.{Many}
 
 abbrev pub negative : Outcome Value → Outcome Value
 negative o = and_then o (λ v. and_then (as_number v) (λ n. in_range (neg_ℤ n)))

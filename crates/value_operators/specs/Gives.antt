@@ -1,7 +1,9 @@
 -- What a call that evaluates answers: the value where there is one, the first fault where there is none, or want of memory, which is free.
 use Rattle.std.specs.Prelude.{◌≡◌, Result, Ok, Err}
-use Rattle.csp_base.specs.Prelude.{Tells, Stop}
-use Rattle.csp_program.specs.Prelude.{Outcome, ValueKind}
+use Rattle.csp_base.specs.Prelude.{Tells}
+use Rattle.csp_base.specs.declared.stop.Stop.{Stop}
+use Rattle.csp_program.specs.Prelude.{Outcome}
+use Rattle.csp_program.specs.declared.kinds.ValueKind.{ValueKind}
 
 abbrev pub EvalFault : Type 0
 EvalFault = Stop ValueKind

@@ -1,6 +1,7 @@
 -- An operator's two halves: what the first operand alone comes to, and an operator on two numbers.
 use Rattle.std.specs.Prelude.{ℤ, Bool, true, false, not, ◌+ℤ◌, ◌-ℤ◌, ◌*ℤ◌, int_lt, int_le, if◌then◌else◌, Option, Some, None, Ok, Err}
-use Rattle.csp_program.specs.Prelude.{Outcome, and_then, as_atom, as_number, as_truth, truth, in_range, divided, quotient, remainder, Kind}
+use Rattle.csp_program.specs.Prelude.{Outcome, and_then, as_atom, as_number, as_truth, truth, in_range, divided, quotient, remainder}
+use Rattle.csp_program.specs.declared.kinds.ValueKind.TheVariants.{Kind}
 use Rattle.csp_base.specs.declared.operators.BinOp.{BinOp}
 use Rattle.csp_base.specs.declared.operators.BinOp.TheVariants as op
 use Rattle.csp_atoms.specs.declared.value.Value.{Value}

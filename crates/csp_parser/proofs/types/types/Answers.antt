@@ -9,7 +9,7 @@ returns-in-Err-clause-reads c =
 pub loop-found-preserved : goal.loop-found-preserved
 loop-found-preserved c = (
   next_item symbol.Dot (λ L ts. L.atom whole ts) (λ L ts. L.types ts) (λ L ts. refl) c.loop-found.invariant.0
-      (c.in_ok-push.ensures.ok ∙ ap (λ x. c.loop-found.all ++ x ∷ []) (c.into_inner.ensures ∙ c.unboxed.ensures)) c.in-Ok.ensures.reads (sym c.in-Some.ensures.same)
+      (c.in_ok-push.ensures.ok ∙ ap (λ x. c.loop-found.all ++ x ∷ []) (c.into_inner.ensures ∙ c.unbox.ensures)) c.in-Ok.ensures.reads (sym c.in-Some.ensures.same)
       (omega arith) (omega (arith, c.in-Some.ensures.shorter, c.in-Ok.ensures.shorter)),
   omega (arith, c.in-Some.ensures.shorter, c.in-Ok.ensures.shorter, c.loop-found.invariant.1),
 )
@@ -17,4 +17,4 @@ loop-found-preserved c = (
 pub returns-in-None-clause-reads : goal.returns-in-None-clause-reads
 returns-in-None-clause-reads c =
     last_item_read symbol.Dot (λ L ts. L.atom whole ts) (λ L ts. L.types ts) (λ L ts. refl) c.loop-found.invariant.0
-    (c.in_ok-push.ensures.ok ∙ ap (λ x. c.loop-found.all ++ x ∷ []) (c.into_inner.ensures ∙ c.unboxed.ensures)) c.in-Ok.ensures.reads (sym c.in-None.ensures.same) (omega arith)
+    (c.in_ok-push.ensures.ok ∙ ap (λ x. c.loop-found.all ++ x ∷ []) (c.into_inner.ensures ∙ c.unbox.ensures)) c.in-Ok.ensures.reads (sym c.in-None.ensures.same) (omega arith)

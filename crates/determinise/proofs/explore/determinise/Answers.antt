@@ -1,4 +1,4 @@
-use Rattle.determinise.proofs.Prelude.{subst, IfErr, IfOk, OnOk, RawTable, RawStep, HasAcceptances, FollowsTraces, ReachesSets, ◌+◌, Tells, MOST_SETS}
+use Rattle.determinise.proofs.Prelude.{◌+◌, subst, IfErr, IfOk, OnOk, RawTable, RawStep, HasAcceptances, FollowsTraces, ReachesSets, Tells, MOST_SETS}
 use Rattle.determinise.proofs.explore.determinise.Goals as goal
 
 pub returns-clause-traces : goal.returns-clause-traces

@@ -1,4 +1,4 @@
-use Rattle.determinise.proofs.Prelude.{◌<◌, length, sym, subst, rules, arith, All, RawStep, IsBreadthFirst, HasAcceptances, IsRisingNode, Determinised, FollowsTraces, AreDifferentSets, ReachesSets, ◌+◌, Tells, MOST_SETS}
+use Rattle.determinise.proofs.Prelude.{◌+◌, ◌<◌, length, sym, subst, rules, arith, All, RawStep, IsBreadthFirst, HasAcceptances, IsRisingNode, Determinised, FollowsTraces, AreDifferentSets, ReachesSets, Tells, MOST_SETS}
 use Rattle.determinise.proofs.Runs.{follows, different, accepts, in_order, breadth_first}
 use Rattle.determinise.proofs.Counting.{many_told, no_more_sets}
 use Rattle.determinise.proofs.explore.set_table.Goals as goal

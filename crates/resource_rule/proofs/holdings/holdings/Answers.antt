@@ -6,7 +6,7 @@ use Rattle.resource_rule.proofs.holdings.holdings.Goals as goal
 pub loop-part-init : goal.loop-part-init
 loop-part-init c =
     let none = replicate {A = List ℕ} (length c.args.setting.now.shape.links) [] in
-    let is = c.in_ok-sets.ensures ∙ ap (λ (ls : List Link). replicate {A = List ℕ} (length ls) []) (c.links.ensures.value ∙ ap (λ (s : Shape). s.links) c.shape.ensures.value) in
+    let is = c.in_ok-sets.ensures.empty ∙ ap (λ (ls : List Link). replicate {A = List ℕ} (length ls) []) (c.links.ensures.value ∙ ap (λ (s : Shape). s.links) c.shape.ensures.value) in
     subst (λ (xs : List (List ℕ)). AddsArcs (Below (HoldsWhile c.args.setting.now) 0) (replicate {A = List ℕ} (length c.args.setting.now.shape.links) []) xs) (sym is) (adds_below_none (HoldsWhile c.args.setting.now) none)
 
 pub loop-part-preserved : goal.loop-part-preserved

@@ -1,5 +1,5 @@
-use Rattle.std.proofs.Common.{◌≡◌, length}
+use Rattle.std.proofs.Common.{◌≡◌, [], length, replicate}
 use Rattle.shape_links.proofs.odd_links.empty_sets.Given as goal
 
 abbrev pub invariant-loop : goal.invariant-loop
-invariant-loop l = length l.sets.items ≡ l.counter
+invariant-loop l = record { count : length l.sets.items ≡ l.counter; empty : l.sets.items ≡ replicate l.counter [] }

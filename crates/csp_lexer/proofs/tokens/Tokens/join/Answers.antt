@@ -1,6 +1,6 @@
 use Rattle.std.proofs.Common.{ap}
 use Rattle.csp_lexer.proofs.PlacedLemmas.{all_joined}
-use Rattle.csp_lexer.proofs.tokens.Tokens.joined.Goals as goal
+use Rattle.csp_lexer.proofs.tokens.Tokens.join.Goals as goal
 
 pub returns : goal.returns
 returns c =
