@@ -10,7 +10,7 @@ pub use Rattle.conformance.specs.Keys.{AllKeysConform, IsKey, IsOneToOne, KeyCon
 pub use Rattle.containers.specs.Exact.{IsExact-pointwise}
 pub use Rattle.containers.specs.Members.{with_new}
 pub use Rattle.csp_base.proofs.Rising.{is_subset_of_from_members, member_of_superset}
-pub use Rattle.csp_base.proofs.Standard.{and_from, and_parts, cases_Bool, cases_eq, cases_lt, cond-false, cond-true, eqb-true, false≢true, get_or-append_seam, get_or_append_left, get_or_default, get_or_from_slice_get, get_or_past, get_or_read, length-append, length-map, nat_tests, none-some, or_cases, or_left, or_right, same_Some, slice_get_cases}
+pub use Rattle.csp_base.proofs.Standard.{and_from, and_parts, cases_Bool, cases_lt, cond-false, cond-true, eqb-true, false≢true, get_or-append_seam, get_or_append_left, get_or_default, get_or_from_slice_get, get_or_past, get_or_read, length-append, length-map, nat_tests, none-some, or_cases, or_left, or_right, same_Some, slice_get_cases}
 pub use Rattle.csp_base.specs.Members.{has}
 pub use Rattle.csp_base.specs.Prelude.{is_subset_of}
 pub use Rattle.csp_base.specs.Standard.{IsNonDecreasingBy, IsPartitionPoint, bytes_decides, flat_map, is_eq, is_member, nat_cmp, ordering_index, slice_cmp, texts_ties}

@@ -17,26 +17,3 @@ pub use Rattle.csp_program.specs.Substitution.{Given, Open, OpenGen, after, afte
 pub use Rattle.csp_program.specs.Uses.Reaches.{by_use, by_way}
 pub use Rattle.csp_program.specs.Uses.{Reaches, body_uses, def_uses, expr_uses, expr_uses_of_layer, gen_uses_of_layer, part_uses_of_layer}
 pub use Rattle.csp_program.specs.Value.{Env, Front, Gathered, Meaning, Turn, Uses, as_atom, as_number, as_set, as_truth, binary, body_value, bound_to, bound_value, comprehension, def_value, divided, from, front, front_events, front_of_layer, fronts_added, gathered, in_field, in_range, items_added, lack_sets, many, meaning, meaning_of_layer, meanings, number, on_atoms, on_numbers, on_truths, one_event, over, quotient, range, remainder, row_in, row_of, set_binary, sets_of, truth, turn, turn_of_layer, uses_within, value_of, value_within, values_of, walked, when}
-pub use Rattle.csp_program.specs.declared.expressions.EventPart.{EventPart, out-EventPart}
-pub use Rattle.csp_program.specs.declared.expressions.Expr.TheFolds.{fold-EventPart, fold-Gen}
-pub use Rattle.csp_program.specs.declared.expressions.Expr.TheOpen.{Expr-F, Gen-F}
-pub use Rattle.csp_program.specs.declared.expressions.Expr.TheViews.{out-Gen}
-pub use Rattle.csp_program.specs.declared.expressions.Expr.{Expr}
-pub use Rattle.csp_program.specs.declared.expressions.Gen.{Gen}
-pub use Rattle.csp_program.specs.declared.kinds.ValueKind.TheVariants.{EmptyChoice, Kind, OutsideChannel, SetLimit}
-pub use Rattle.csp_program.specs.declared.kinds.ValueKind.{ValueKind}
-pub use Rattle.csp_program.specs.declared.networks.Net.TheOpen.{Net-F}
-pub use Rattle.csp_program.specs.declared.networks.Net.TheViews.{out-Net}
-pub use Rattle.csp_program.specs.declared.networks.Net.{Net}
-pub use Rattle.csp_program.specs.declared.processes.Field.{Field}
-pub use Rattle.csp_program.specs.declared.processes.Head.{Head}
-pub use Rattle.csp_program.specs.declared.processes.Proc.TheOpen.{Proc-F}
-pub use Rattle.csp_program.specs.declared.processes.Proc.TheViews.{out-Proc}
-pub use Rattle.csp_program.specs.declared.processes.Proc.{Proc}
-pub use Rattle.csp_program.specs.declared.programs.Body.{Body}
-pub use Rattle.csp_program.specs.declared.programs.Channel.{Channel}
-pub use Rattle.csp_program.specs.declared.programs.Content.{Content}
-pub use Rattle.csp_program.specs.declared.programs.Def.{Def}
-pub use Rattle.csp_program.specs.declared.programs.EventInfo.{EventInfo}
-pub use Rattle.csp_program.specs.declared.programs.ResourceNote.{ResourceNote}
-pub use Rattle.csp_program.specs.declared.programs.RolesNote.{RolesNote}

@@ -9,4 +9,3 @@ pub use Rattle.csp_steps.specs.Order.{AreFirsts, AreFirstsAfter, AreTargets, goa
 pub use Rattle.csp_steps.specs.Walked.{GivesNext, GivesRound, GivesTurned, HasGone, HasTurned, IsBegun, IsSound, IsTaken, IsTurned, Way, filled, frames_weight, input_ways, is_blocked, is_plain, name_of, next_weight, nth_event, number_with, then_ways, turn_ways, turned_ways, turned_weight, values_left, values_weight, walk_moves, walk_ways, walk_weight, way_move, ways_by_number, weight}
 unfoldable pub use Rattle.csp_steps.specs.Walked.{frames_left}
 pub use Rattle.csp_steps.specs.contracts.step.StepToEq.TheImpl.Laws.{laws-law}
-pub use Rattle.csp_steps.specs.declared.step.StepTo.{StepTo}

@@ -15,5 +15,5 @@ pub use Rattle.shape_links.proofs.Circles.{circle_some, turned_least}
 pub use Rattle.shape_links.proofs.Links.{ends_complete, ends_sound, has_place, place_in, some_at}
 pub use Rattle.shape_links.specs.Links.{ends_of}
 pub use Rattle.shape_links.specs.Turned.{turned_circle}
-pub use Rattle.std.proofs.Common.{Err, List, Some, [], ap, arith, false, get_or, inl, inr, length, map, refl, subst, suc, sym, true, zero, ℕ, ◌%◌, ◌+◌, ◌-◌, ◌<◌, ◌∙◌, ◌≡◌, ◌≤◌, ◌⊎◌}
+pub use Rattle.std.proofs.Common.{List, Some, [], ap, arith, false, get_or, inl, inr, length, map, refl, subst, suc, sym, true, zero, ℕ, ◌%◌, ◌+◌, ◌-◌, ◌<◌, ◌∙◌, ◌≡◌, ◌≤◌, ◌⊎◌}
 pub use Rattle.std.specs.Prelude.{slice_get, slice_index}

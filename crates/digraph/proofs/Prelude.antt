@@ -14,7 +14,6 @@ pub use Rattle.digraph.specs.Turn.{IsTurnedFrom}
 pub use Rattle.std.proofs.Common.{Bool, Err, IsTrue, List, Ok, OnErr, OnOk, Result, [], ap, arith, below_more, cond, drop, eq-eqb, false, get_or, get_or-set_other, get_or-set_same, inl, inr, length, map, max, nat_eq, nat_lt, refl, rules, set, subst, suc, sym, take, true, zero, ℕ, ◌&&◌, ◌++◌, ◌+◌, ◌-◌, ◌<◌, ◌==◌, ◌^◌, ◌||◌, ◌↔◌, ◌∙◌, ◌∷◌, ◌≡◌, ◌≢◌, ◌≤◌, ◌⊎◌}
 pub use Rattle.std.proofs.lemmas.Bool.{ltb-false}
 pub use Rattle.std.proofs.lemmas.List.{get_or-append_right, get_or-drop, length-drop}
-pub use Rattle.std.proofs.lemmas.Result.{err_from_is_err_and}
 pub use Rattle.std.specs.List.{IsFirstBest, sum_by}
 pub use Rattle.std.specs.Set.{is_member}
 pub use Rattle.std.specs.Vec.{with_item}

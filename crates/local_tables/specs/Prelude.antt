@@ -5,5 +5,4 @@ pub use Rattle.local_tables.specs.Laws.{FaultsExcludeTables}
 pub use Rattle.local_tables.specs.LocalTable.{IsInOrder, IsLocalTable}
 pub use Rattle.local_tables.specs.Progress.{AreFound, AreLed, AreRows, AreTabled, AreTaken, IsAt, IsFollowed, IsRow, IsTabled, IsUpTo, IsWithin, LeadsToTerm, Origin, counted_size, first_found, label_of, process_label, step_events, step_more, terms_at, with_term}
 pub use Rattle.local_tables.specs.Room.{Room}
-pub use Rattle.local_tables.specs.declared.local_table.LocalTable.{LocalTable}
 pub use Rattle.local_tables.specs.declared.task.Task.{Task}

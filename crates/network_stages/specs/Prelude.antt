@@ -11,4 +11,3 @@ pub use Rattle.network_stages.specs.Stages.{CanStop, HasNoNetwork, HasNoPart, Ha
 pub use Rattle.network_stages.specs.Tables.{AreTablesOf, AreTablesWithin, HasTable, IsTableWithin, room_after, room_left, whole_room}
 pub use Rattle.network_stages.specs.TreeCode.{tree_code}
 pub use Rattle.network_stages.specs.Views.{ChosenComponent, PartedNetwork, ShapedNetwork, TabledNetwork}
-pub use Rattle.network_stages.specs.declared.component_tables.ComponentTable.{ComponentTable}

@@ -4,7 +4,7 @@ pub use Rattle.acceptances.specs.OfferTests.{can_do, is_unstable}
 pub use Rattle.containers.proofs.MembersLemmas.{slice_get-append_left}
 pub use Rattle.csp_base.proofs.Lists.{drop_read, map_push, take_read}
 pub use Rattle.csp_base.proofs.Rising.{RisesFrom, RisesFrom-weaken, has_below, rises_from_increasing}
-pub use Rattle.csp_base.proofs.Standard.{MatchBool-at_false, MatchBool-at_true, MatchOption-at_some, append-nil, cases_Bool, cases_eq, cases_lt, drop_all, eq-eqb, eqb-true, false≢true, get_or-drop, get_or-map, get_or-set_other, get_or-set_same, get_or_default, get_or_from_slice_get, le-ltb, length-append, length-drop, length-map, length-replicate, length-set, length-take, length-take-le, length_push, lt-ltb, ne_eqb, none-some, on_ok_weaker, or_left, or_right, same_Some, slice_get-get_or, slice_get-map, slice_get_within}
+pub use Rattle.csp_base.proofs.Standard.{MatchBool-at_false, MatchBool-at_true, MatchOption-at_some, append-nil, cases_Bool, cases_eq, cases_lt, drop_all, eq-eqb, eqb-true, false≢true, get_or-drop, get_or-set_other, get_or-set_same, get_or_default, get_or_from_slice_get, le-ltb, length-append, length-drop, length-map, length-replicate, length-set, length-take, length-take-le, length_push, lt-ltb, ne_eqb, none-some, on_ok_weaker, or_left, or_right, same_Some, slice_get-get_or, slice_get-map, slice_get_within}
 pub use Rattle.csp_base.specs.Members.{has}
 pub use Rattle.csp_base.specs.Prelude.{StandsIn}
 pub use Rattle.csp_base.specs.Standard.{IsStableByKey, filter, is_lt, nat_cmp, option_map, ties}

@@ -9,4 +9,3 @@ pub use Rattle.numbered_walks.specs.Options.{AreOptions, IsBefore}
 pub use Rattle.numbered_walks.specs.Rows.{AreSilentRows, AreStepRows, targets}
 pub use Rattle.numbered_walks.specs.Steps.{AllGo, AllGoOn, Does, GoesOn, IsAtEnd, IsStep, WalksOn, number_after, options}
 pub use Rattle.numbered_walks.specs.Walks.{Chooses, HasNone, IsWalk, IsWalkOf}
-pub use Rattle.numbered_walks.specs.declared.moves.Move.{Move}

@@ -4,4 +4,3 @@ pub use Rattle.pool_parts.specs.ExactId.{eq_id}
 unfoldable pub use Rattle.pool_parts.specs.Low.{IsLow}
 pub use Rattle.pool_parts.specs.Stored.{AreNoted, IsAbsent, IsMeasure, IsStart}
 pub use Rattle.pool_parts.specs.declared.measure.Measure.{Measure}
-pub use Rattle.pool_parts.specs.declared.place.ProcId.{ProcId}

@@ -12,7 +12,3 @@ pub use Rattle.process_steps.specs.Step.{Step, each_put}
 pub use Rattle.process_steps.specs.StepList.{ListsMove, Move, in_choice, in_hiding, in_renaming, in_sequence, silent_to, some_silent_to, steps_of_choice, steps_of_layer}
 unfoldable pub use Rattle.process_steps.specs.StepList.{steps_of, steps_within}
 pub use Rattle.process_steps.specs.Ways.{Among, Way, channel, event_among, of_channel, of_head, of_value, sets_among, ways_to_fill, where_given}
-pub use Rattle.process_steps.specs.declared.component_fault.ComponentFault.TheVariants.{SubsetLimit}
-pub use Rattle.process_steps.specs.declared.component_fault.ComponentFault.{ComponentFault}
-pub use Rattle.process_steps.specs.declared.label.Label.TheVariants.{Silent, Tick, Visible}
-pub use Rattle.process_steps.specs.declared.label.Label.{Label}

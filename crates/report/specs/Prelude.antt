@@ -9,13 +9,3 @@ pub use Rattle.report.specs.Report.{conforms_text, deadlock_free_text, done_text
 pub use Rattle.report.specs.Shortfalls.{shortfall_text}
 pub use Rattle.report.specs.Sides.{side_line, side_name}
 pub use Rattle.report.specs.Stops.{Answers, Ends, HaltsWith, IsEnd, IsVerdict, refuse, unproved}
-pub use Rattle.report.specs.declared.answer.Answer.TheVariants.{Decided, NoProgram, Outside, Shown, Usage}
-pub use Rattle.report.specs.declared.answer.Answer.{Answer}
-pub use Rattle.report.specs.declared.answer.OutsideFault.TheVariants.{NotFound, NotRead}
-pub use Rattle.report.specs.declared.answer.OutsideFault.{OutsideFault}
-pub use Rattle.report.specs.declared.answer.Refusal.{Refusal}
-pub use Rattle.report.specs.declared.answer.Shortfall.{Shortfall}
-pub use Rattle.report.specs.declared.answer.Side.{Side}
-pub use Rattle.report.specs.declared.answer.TextFault.TheVariants.{NoScript, TooLong}
-pub use Rattle.report.specs.declared.answer.Verdict.{Verdict}
-pub use Rattle.report.specs.declared.stop.Halt.{Halt}

@@ -13,7 +13,7 @@ pub use Rattle.digraph.proofs.WalkLaws.{same_longest}
 pub use Rattle.digraph.specs.Prelude.{HasArc, IsLeastCircle, has_arc}
 pub use Rattle.net_sound.proofs.Within.{part_form}
 pub use Rattle.observed_runs.proofs.Leading.{listed_step}
-pub use Rattle.observed_runs.specs.Prelude.{AreEnough, AreFound, Found, IsExploration, SeesOnly, observed, pair_at, parity_step}
+pub use Rattle.observed_runs.specs.Prelude.{AreEnough, Found, IsExploration, SeesOnly, observed, pair_at, parity_step}
 pub use Rattle.resource_conditions.proofs.Sets.{all_possible, any_at, some_possible}
 pub use Rattle.resource_conditions.specs.Finding.{FindsRun}
 pub use Rattle.resource_rule.specs.Holdings.{AddsArcs, AreHeld, Below, HoldsWhile, LeadsToHeld, LeadsToSome, OffersWhile, is_acquiring, resource_of}
@@ -30,10 +30,10 @@ pub use Rattle.shape_links.specs.OddLinks.{AreOddLinks}
 pub use Rattle.shape_links.specs.Setting.{IsUser, KeepKinds, Setting, node_of}
 pub use Rattle.shape_links.specs.Turned.{turned_circle}
 pub use Rattle.shape_links.specs.declared.component.Component.{Component}
-pub use Rattle.std.proofs.Common.{Bool, Err, IsTrue, List, None, Option, Some, [], ap, arith, below_more, cond, eq-eqb, eqb-true, false, get_or, inl, inr, length, nat_eq, not, refl, replicate, subst, suc, sym, take, true, zero, ℕ, ◌&&◌, ◌+◌, ◌<◌, ◌||◌, ◌∙◌, ◌∷◌, ◌≡◌, ◌≤◌}
+pub use Rattle.std.proofs.Common.{Bool, IsTrue, List, None, Option, Some, [], ap, arith, below_more, cond, eq-eqb, eqb-true, false, get_or, inl, inr, length, nat_eq, not, refl, replicate, subst, suc, sym, take, true, zero, ℕ, ◌&&◌, ◌+◌, ◌<◌, ◌||◌, ◌∙◌, ◌∷◌, ◌≡◌, ◌≤◌}
 pub use Rattle.std.proofs.lemmas.Bool.{both_ways}
 pub use Rattle.std.proofs.lemmas.List.{length-replicate, with_items_is}
 pub use Rattle.std.proofs.lemmas.Option.{IfSome_then}
 pub use Rattle.std.proofs.lemmas.Result.{IfOk-weaker}
-pub use Rattle.std.specs.List.{list_all, list_any}
+pub use Rattle.std.specs.List.{list_any}
 pub use Rattle.std.specs.Prelude.{IfSome, slice_get, slice_index}

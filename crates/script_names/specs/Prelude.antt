@@ -15,6 +15,3 @@ pub use Rattle.script_names.specs.Scopes.{Scope, names_of, number_of, numbers_fr
 pub use Rattle.script_names.specs.Told.{annotation_says, bodies_from, body_place, counts_of, data_place, decl_says, declared_after, each_after, expanded_body, fault_in, fault_of, first_fault, first_name, first_there, is_data, is_deep, name_fault, need_of, next_definition, parameters_after, root_place, too_deep, types_say, when_any}
 pub use Rattle.script_names.specs.Typed.{Binding, Front, Layer, Reading, all_bind, bindings, bindings_bind, binds_of_layer, channel_number, definition_number, event_of_layer, expr_of_layer, exprs, field_of_layer, gen_of_layer, head_of, named, net_of_layer, network_of_layer, networked_of_layer, pairs, pairs_bind, part, part_of_layer, parts, parts_bind, proc_of_layer, procs, reading, reading_of_layer, under}
 pub use Rattle.script_names.specs.Typing.{AreExprs, AreFields, AreFronts, AreGens, ArePairs, AreProcs, IsComposition, IsData, IsExpr, IsFront, IsNet, IsNetwork, IsProc, IsProcess, MayBind, Means, event_part, event_tree, part_tree}
-pub use Rattle.script_names.specs.declared.fault.ResolveFault.{ResolveFault}
-pub use Rattle.script_names.specs.declared.kinds.Class.{Class}
-pub use Rattle.script_names.specs.declared.kinds.Kind.{Kind}

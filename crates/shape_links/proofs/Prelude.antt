@@ -17,7 +17,7 @@ pub use Rattle.net_sound.proofs.Sharers.{at_three}
 pub use Rattle.net_sound.proofs.Within.{part_form}
 pub use Rattle.observed_runs.proofs.Leading.{listed_step, step_within}
 pub use Rattle.observed_runs.proofs.Runs.{either_way}
-pub use Rattle.observed_runs.specs.Prelude.{AreEnough, HaveEnough, IsExploration, LeadsTo, SeesOnly, holder_step, lap_step, observed, pair_at, parity_step}
+pub use Rattle.observed_runs.specs.Prelude.{AreEnough, HaveEnough, IsExploration, LeadsTo, SeesOnly, holder_step, observed, pair_at, parity_step}
 pub use Rattle.shape_links.specs.Acquired.{is_acquired_by}
 pub use Rattle.shape_links.specs.Component.{IsDecided, IsFirstFailing, table_of}
 pub use Rattle.shape_links.specs.Links.{AreOwners, AreSteps, IsOnOne, IsOwner, ends_below, ends_of}

@@ -9,9 +9,3 @@ unfoldable pub use Rattle.tree_reading.specs.Limited.{limited}
 pub use Rattle.tree_reading.specs.Nesting.{around, bracketed, inside, limits, opened, sure}
 pub use Rattle.tree_reading.specs.Settled.{Settles}
 pub use Rattle.tree_reading.specs.Starts.{atom_start, chain_symbol, choice, dot_field, dot_fields, dotted_fields, each_tree, first_chain, form_start, is_symbol_token, is_word_token, may_follow, named, other_start, prefix_start, sign_behind, sign_binding, symbol_sign, symbol_start, token_sign, token_start, word_sign, word_start}
-pub use Rattle.tree_reading.specs.declared.fault.NoText.{NoText}
-pub use Rattle.tree_reading.specs.declared.limits.Limits.{Limits}
-pub use Rattle.tree_reading.specs.declared.look.Chain.{Chain}
-pub use Rattle.tree_reading.specs.declared.read.Binding.{Binding}
-pub use Rattle.tree_reading.specs.declared.read.BoundRead.{BoundRead}
-pub use Rattle.tree_reading.specs.declared.read.Read.{Read}

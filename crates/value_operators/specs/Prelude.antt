@@ -4,4 +4,3 @@ pub use Rattle.value_operators.specs.Forms.{a_set, capped, count_with, gathered_
 pub use Rattle.value_operators.specs.Gives.{EvalFault, Gives, IsFault}
 pub use Rattle.value_operators.specs.Operands.{decided_by, first_half, on_two_numbers}
 pub use Rattle.value_operators.specs.Parted.{IsParted}
-pub use Rattle.value_operators.specs.declared.names.Names.{Names}
