@@ -52,7 +52,8 @@ fn add_end(rows: &mut Rows, sought: Sought, d: u32, end: End) -> Made<()>
     requires in_range { d < sought.count }
     ensures len { length rows.new ≡ length rows.old }
     ensures arcs { OnOk result ((v w : ℕ) →
-        has_arc rows.new v w ≡ (has_arc rows.old v w || (meant.comes_from sought.count sought.target v end && nat_eq w d))) }
+        has_arc rows.new v w
+        ≡ (has_arc rows.old v w || (meant.comes_from sought.count sought.target v end && nat_eq w d))) }
 {
     match source_of(sought, end) {
         Some(v) => {
@@ -69,7 +70,8 @@ fn add_ends(rows: &mut Rows, sought: Sought, d: u32, ends: &[End]) -> Made<()>
     requires in_range { d < sought.count }
     ensures len { length rows.new ≡ length rows.old }
     ensures arcs { OnOk result ((v w : ℕ) →
-        has_arc rows.new v w ≡ (has_arc rows.old v w || (meant.some_from sought.count sought.target v ends.now && nat_eq w d))) }
+        has_arc rows.new v w
+        ≡ (has_arc rows.old v w || (meant.some_from sought.count sought.target v ends.now && nat_eq w d))) }
 {
     for end in ends {
         add_end(rows, sought, d, *end)?;
