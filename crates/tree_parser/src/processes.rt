@@ -254,9 +254,10 @@ fn choices<'t>(
 {
     let mut operands = Deep::none(alloc);
     operands.push(left.unbox())?;
+    let chain = sign.part;
     let mut rest = sign.rest;
     loop {
-        let read = match operand(alloc, limits, sign.part, rest) {
+        let read = match operand(alloc, limits, chain, rest) {
             Ok(read) => read,
             Err(fault) => return Err(fault),
         };
