@@ -1,6 +1,6 @@
 -- What the proofs of this crate cite of the crates below, and of its own definitions.
 pub use Rattle.csp_base.proofs.Listed.{any_member, any_of, has_first}
-pub use Rattle.csp_base.proofs.Rising.{has-with_member}
+pub use Rattle.csp_base.proofs.Rising.{has-with_member, is_subset_of_from_members, member_of_superset}
 pub use Rattle.csp_base.proofs.Standard.{and_from, and_parts, cases_Bool, cases_eq, cases_lt, cond-false, cond-true, false≢true, get_or_from_slice_get, get_or_read, list_any_at, list_any_more, ne_eqb, none-some, not-false, or-false, or_cases, or_comm, or_left, or_right, same_Some, slice_get_within}
 pub use Rattle.csp_base.specs.Prelude.{has, is_subset_of}
 pub use Rattle.csp_tables.specs.Prelude.{IsRun, IsWellFormed, Joins, Link, Shape, TripleDisjoint, UseSets, acceptances_after, accepted, alphabets_of, end_of, is_end, is_possible, link_at, node_at, part_at, use_at}
