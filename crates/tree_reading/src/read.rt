@@ -20,7 +20,7 @@ pub struct Read<'t, T> {
 impl<'t> Read<'t, DeepTree> {
     /// The same, bound like this.
     pub fn bind(self, binding: Binding) -> BoundRead<'t, DeepTree>
-        ensures { result ≡ record { binding = binding; part = self.part; rest = self.rest } }
+        ensures { result ≡ record { binding = binding; part = self.entry.part; rest = self.entry.rest } }
     {
         BoundRead {
             binding,
