@@ -95,14 +95,26 @@ module _ (script : List Decl) (ks : List Kind) where
       (record { passes = (net_is m ks h).passes 1; shallow = refl }, passes_each rest _ (counted_on earlier _ n at) (later_fresh once) deep)
   passes_each {n = n} (d.roles process creq cack sreq sack rest) earlier at once deep = (
     record {
-      passes = (note_passes m ks _ _ once.roles.0.0, process_passes m ks _ _ _ process, set_passes m ks _ _ _ _ _ process creq, set_passes m ks _ _ _ _ _ process cack, set_passes m ks _ _ _ _ _ process sreq, set_passes m ks _ _ _ _ _ process sack, tt);
+      passes = (
+        note_passes m ks _ _ once.roles.0.0,
+        (
+          process_passes m ks _ _ _ process,
+          (
+            set_passes m ks _ _ _ _ _ process creq,
+            (
+              set_passes m ks _ _ _ _ _ process cack,
+              (set_passes m ks _ _ _ _ _ process sreq, (set_passes m ks _ _ _ _ _ process sack, tt)),
+            ),
+          ),
+        ),
+      );
       shallow = refl;
     },
     passes_each rest _ (counted_on earlier _ n at) (later_fresh once) deep,
   )
   passes_each {n = n} (d.resource process acquire release rest) earlier at once deep = (
     record {
-      passes = (note_passes m ks _ _ once.uses.0.0, process_passes m ks _ _ _ process, set_passes m ks _ _ _ _ _ process acquire, set_passes m ks _ _ _ _ _ process release, tt);
+      passes = (note_passes m ks _ _ once.uses.0.0, (process_passes m ks _ _ _ process, (set_passes m ks _ _ _ _ _ process acquire, (set_passes m ks _ _ _ _ _ process release, tt))));
       shallow = refl;
     },
     passes_each rest _ (counted_on earlier _ n at) (later_fresh once) deep,

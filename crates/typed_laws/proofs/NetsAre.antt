@@ -115,9 +115,11 @@ module _ (m : Meanings) (ks : List Kind) where
           joined = refl;
           passes = λ l. (
             parallel_passes l,
-            bind_passes m ks x free,
-            join_three (Passes m ks) _ _ _ (u.passes false (l + 1))
-                (subst (λ i. AllPass m ks (tree_says m c (data_at false (l + 1)) i)) (names_with scope x n) (y.passes false (l + 1)))
-                (subst (λ i. AllPass m ks (tree_says m b (process_at true (l + 1)) i)) (names_with scope x n) (z.passes (l + 1))),
+            (
+              bind_passes m ks x free,
+              join_three (Passes m ks) _ _ _ (u.passes false (l + 1))
+                  (subst (λ i. AllPass m ks (tree_says m c (data_at false (l + 1)) i)) (names_with scope x n) (y.passes false (l + 1)))
+                  (subst (λ i. AllPass m ks (tree_says m b (process_at true (l + 1)) i)) (names_with scope x n) (z.passes (l + 1))),
+            ),
           );
         })
