@@ -72,7 +72,7 @@ enter-returns-in-None t c = (
 
 pub gather_each-returns-in_err-find_binding : goal.gather_each-returns-in_err-find_binding
 gather_each-returns-in_err-find_binding t c =
-    binding_passed _ _ _ _ _ _ _ _ c.from_residual-in_err-find_binding.ensures.1 c.in_err-find_binding.ensures
+    binding_passed _ _ _ _ c.from_residual-in_err-find_binding.ensures.1 c.in_err-find_binding.ensures
     (λ k e. c.bindings.invariant.same ∙ over_fault (one_more_binding c.args.scope.now.content.now c.args.scope.now.uses c.args.yields.now.items.now c.args.yields.now.parts.now) _ (gathered_of c.bindings.tally) k e)
 
 pub gather_each-returns-in_err-tally : goal.gather_each-returns-in_err-tally
@@ -93,7 +93,7 @@ gather_each-bindings-preserved t c =
 pub gather_once-returns-in_err-find_binding : goal.gather_once-returns-in_err-find_binding
 gather_once-returns-in_err-find_binding t c =
     let begun = once_begun c.args.scope.now.content.now c.args.scope.now.uses c.args.gens.now c.args.yields.now.items.now c.args.yields.now.parts.now c.args.scope.now.names.now.bound.now (parameters c.args.scope.now.names.now) c.in_ok-walk.walk (gathered_of c.args.tally) c.requires.items c.requires.parts c.in_ok-walk.ensures in
-    binding_passed _ _ _ _ _ _ _ _ c.from_residual-in_err-find_binding.ensures.1 c.in_err-find_binding.ensures
+    binding_passed _ _ _ _ c.from_residual-in_err-find_binding.ensures.1 c.in_err-find_binding.ensures
     (λ k e. begun ∙ over_fault (λ _. one_more_binding c.args.scope.now.content.now c.args.scope.now.uses c.args.yields.now.items.now c.args.yields.now.parts.now (env_in c.args.scope.now.names.now)) _ (gathered_of c.args.tally) k e)
 
 pub gather_once-returns-then-not-branch : goal.gather_once-returns-then-not-branch
@@ -121,7 +121,7 @@ gather_once-bindings-init t c =
 
 pub gather_once-returns-in_err-find_binding-2 : goal.gather_once-returns-in_err-find_binding-2
 gather_once-returns-in_err-find_binding-2 t c =
-    binding_passed _ _ _ _ _ _ _ _ c.from_residual-in_err-find_binding-2.ensures.1 c.in_err-find_binding-2.ensures
+    binding_passed _ _ _ _ c.from_residual-in_err-find_binding-2.ensures.1 c.in_err-find_binding-2.ensures
     (λ k e. c.bindings.invariant.same ∙ over_fault (λ _. one_more_binding c.args.scope.now.content.now c.args.scope.now.uses c.args.yields.now.items.now c.args.yields.now.parts.now (env_in c.args.scope.now.names.now)) _ (gathered_of c.bindings.tally) k e)
 
 pub gather_once-returns-in_err-tally-2 : goal.gather_once-returns-in_err-tally-2
