@@ -1,5 +1,5 @@
 -- A node is marked: what becomes of the partition.
-use Rattle.partitions.proofs.Prelude.{◌≡◌, ℕ, ◌+◌, ◌<◌, ◌≤◌, List, length, set, Bool, true, false, ◌||◌, nat_eq, nat_lt, refl, sym, ap, ◌∙◌, subst, arith, inl, inr, slice_index, slice_index_or, has, cases_eq, lt-ltb, le-ltb, eq-eqb, ne_eqb, or_right, cases_lt, length-set, State, HasBlocks, block_at, is_marked, sizes, IsAdvanced, or_unless}
+use Rattle.partitions.proofs.Prelude.{◌≡◌, ℕ, ◌+◌, ◌<◌, ◌≤◌, List, length, set, true, false, ◌||◌, nat_eq, nat_lt, refl, sym, ap, ◌∙◌, subst, arith, inl, inr, slice_index, cases_eq, lt-ltb, le-ltb, eq-eqb, ne_eqb, or_right, cases_lt, length-set, State, HasBlocks, block_at, is_marked, IsAdvanced, or_unless}
 use Rattle.partitions.proofs.Writes.{by_write, by_two_writes}
 
 module _ (n : ℕ) (s t : State) (node : ℕ) (good : HasBlocks n s) (inside : node < n) (unmarked : slice_index s.middles (block_at s node) ≤ slice_index s.places node) (a : IsAdvanced s t node) where
@@ -120,29 +120,38 @@ module _ (n : ℕ) (s t : State) (node : ℕ) (good : HasBlocks n s) (inside : n
       (λ _ e. other_block ∙ ap (λ x. block_at s x) (sym node_there) ∙ ap (λ r. block_at s (slice_index s.order r)) (sym e) ∙ before)
       (λ _ _. before)
 
+  -- the partition is the one of before, but for the order and the marks
+  is_after : record { order = t.order; places = t.places; blocks = s.blocks; firsts = s.firsts; middles = t.middles; ends = s.ends; waiting = s.waiting; flags = s.flags } ≡ t
+  is_after = λ i. record {
+    order = t.order;
+    places = t.places;
+    blocks = sym a.blocks i;
+    firsts = sym a.firsts i;
+    middles = t.middles;
+    ends = sym a.ends i;
+    waiting = sym a.waiting i;
+    flags = sym a.flags i;
+  }
+
   pub blocks_advanced : HasBlocks n t
-  blocks_advanced = record {
+  blocks_advanced = subst (HasBlocks n) is_after (record {
     small = good.small;
     order_len = ap (λ (xs : List ℕ). length xs) a.order ∙ length-set (set s.order place other) middle node ∙ length-set s.order place other ∙ good.order_len;
     places_len = ap (λ (xs : List ℕ). length xs) a.places ∙ length-set (set s.places other place) node middle ∙ length-set s.places other place ∙ good.places_len;
-    blocks_len = ap (λ (xs : List ℕ). length xs) a.blocks ∙ good.blocks_len;
-    middles_len = ap (λ (xs : List ℕ). length xs) a.middles ∙ length-set s.middles blk (middle + 1) ∙ good.middles_len ∙ sym (ap (λ (xs : List ℕ). length xs) a.firsts);
-    ends_len = ap (λ (xs : List ℕ). length xs) a.ends ∙ good.ends_len ∙ sym (ap (λ (xs : List ℕ). length xs) a.firsts);
-    flags_len = ap (λ (xs : List Bool). length xs) a.flags ∙ good.flags_len ∙ sym (ap (λ (xs : List ℕ). length xs) a.firsts);
+    blocks_len = good.blocks_len;
+    middles_len = ap (λ (xs : List ℕ). length xs) a.middles ∙ length-set s.middles blk (middle + 1) ∙ good.middles_len;
+    ends_len = good.ends_len;
+    flags_len = good.flags_len;
     placed = placed_then;
     ordered = ordered_then;
-    numbered = λ i h. subst (λ (xs : List ℕ). block_at t i < length xs) (sym a.firsts) (subst (λ b. b < length s.firsts) (sym (same_block i)) (good.numbered i h));
-    within = λ i h. subst (λ (xs : List ℕ). (slice_index xs (block_at t i) ≤ slice_index t.places i) × (slice_index t.places i < slice_index t.ends (block_at t i))) (sym a.firsts)
-        (subst (λ (xs : List ℕ). (slice_index s.firsts (block_at t i) ≤ slice_index t.places i) × (slice_index t.places i < slice_index xs (block_at t i))) (sym a.ends)
-        (subst (λ b. (slice_index s.firsts b ≤ slice_index t.places i) × (slice_index t.places i < slice_index s.ends b)) (sym (same_block i)) (within_then i h)));
-    spans = λ b h. subst (λ (xs : List ℕ). (slice_index xs b ≤ slice_index t.middles b) × (slice_index t.middles b ≤ slice_index t.ends b) × (slice_index xs b < slice_index t.ends b) × (slice_index t.ends b ≤ n)) (sym a.firsts)
-        (subst (λ (xs : List ℕ). (slice_index s.firsts b ≤ slice_index t.middles b) × (slice_index t.middles b ≤ slice_index xs b) × (slice_index s.firsts b < slice_index xs b) × (slice_index xs b ≤ n)) (sym a.ends)
-        (spans_then b (subst (λ (xs : List ℕ). b < length xs) a.firsts h)));
-    owned = λ b p h l m. same_block (slice_index t.order p) ∙ owned_then b p (subst (λ (xs : List ℕ). b < length xs) a.firsts h) (subst (λ (xs : List ℕ). slice_index xs b ≤ p) a.firsts l) (subst (λ (xs : List ℕ). p < slice_index xs b) a.ends m);
-    whole = ap (λ (xs : List ℕ). sizes xs t.ends) a.firsts ∙ ap (λ (xs : List ℕ). sizes s.firsts xs) a.ends ∙ good.whole;
-    listed = λ b h. subst (λ (xs : List ℕ). has xs b ≡ true) (sym a.waiting) (good.listed b (subst (λ (xs : List Bool). slice_index_or xs b false ≡ true) a.flags h));
-    known = λ b h. subst (λ (xs : List ℕ). b < length xs) (sym a.firsts) (good.known b (subst (λ (xs : List ℕ). has xs b ≡ true) a.waiting h));
-  }
+    numbered = good.numbered;
+    within = within_then;
+    spans = spans_then;
+    owned = owned_then;
+    whole = good.whole;
+    listed = good.listed;
+    known = good.known;
+  })
 
   -- the node is marked then, and no other one is that was not before
   marked_here : is_marked t node ≡ true
