@@ -1,7 +1,7 @@
 -- The first partition, the members of a block, and a block that is taken from those that wait.
 use Rattle.partitions.proofs.Prelude.{◌≡◌, ℕ, suc, ◌+◌, ◌-◌, ◌<◌, ◌≤◌, ◌⊎◌, inl, inr, List, [], ◌∷◌, ◌++◌, length, set, get_or, take, drop, replicate, ◌^◌, Bool, true, false, nat_eq, refl, sym, ap, ◌∙◌, subst, arith, slice_index, slice_index_or, ◌↔◌, cases_eq, cases_lt, or_cases, eqb-true, false≢true, length-set, length_push, length-replicate, get_or-replicate, get_or-set_other, get_or-set_same, get_or-take, get_or-drop, length-take-le, length-drop, get_or_past, has, State, HasBlocks, IsWhole, IsTaken, block_at, waits, sizes, has_push_cases, has_at}
 use Rattle.partitions.proofs.Marking.{has_push, has_more}
-use Rattle.partitions.proofs.Awaiting.{with_waiting, blocks_with_waiting}
+use Rattle.partitions.proofs.Awaiting.{blocks_waiting}
 
 pub place_of : (xs : List ℕ) (i : ℕ) → has xs i ≡ true → (k : ℕ) × (k < length xs) × (get_or xs k 0 ≡ i)
 place_of [] i h = absurd (false≢true h)
@@ -52,10 +52,10 @@ module _ (n : ℕ) (s : State) (b : ℕ) (rest : List ℕ) (flags : List Bool) (
   waits_not : slice_index_or flags b false ≡ false
   waits_not = ap (λ (xs : List Bool). slice_index_or xs b false) is_flags ∙ get_or-set_same s.flags b false false (subst (λ k. b < k) (sym good.flags_len) known)
 
-  pub block_taken : IsTaken n s (with_waiting s rest flags) b
+  pub block_taken : IsTaken n s (record s { waiting = rest; flags = flags }) b
   block_taken = record {
     waited = waited;
-    fit = blocks_with_waiting n s rest flags good (ap (λ (xs : List Bool). length xs) is_flags ∙ length-set s.flags b false)
+    fit = blocks_waiting n s rest flags good (ap (λ (xs : List Bool). length xs) is_flags ∙ length-set s.flags b false)
         (λ c h. elim (cases_eq c b) as (λ _. has rest c ≡ true) [
           | inl e ↦ absurd (false≢true (sym waits_not ∙ ap (λ x. slice_index_or flags x false) (sym e) ∙ h))
           | inr ne ↦ elim (has_push_cases rest b c (subst (λ (xs : List ℕ). has xs c ≡ true) waiting (good.listed c (sym (waits_then c ne) ∙ h)))) as (λ _. has rest c ≡ true) [ inl old ↦ old | inr e ↦ absurd (ne (sym e)) ]
