@@ -5,7 +5,6 @@ pub use Rattle.csp_base.specs.Lists.{greatest}
 pub use Rattle.csp_base.specs.declared.operators.BinOp.{BinOp}
 pub use Rattle.csp_base.specs.declared.operators.SetOp.{SetOp}
 pub use Rattle.csp_base.specs.Standard.{Bor, flat_map, option_map}
-pub use Rattle.csp_text.proofs.tree.Tree.TheLaws.{the_size}
 pub use Rattle.csp_text.specs.Prelude.{field_depth, gen_depth, greatest_of_pairs, part_depth, tree_depth}
 pub use Rattle.csp_text.specs.declared.tree.EventTree.{EventTree}
 pub use Rattle.csp_text.specs.declared.tree.FieldTree.TheViews.{out-EventTree, out-PartTree}

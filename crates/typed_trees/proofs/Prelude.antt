@@ -7,7 +7,6 @@ pub use Rattle.csp_program.specs.declared.networks.Net.{Net}
 pub use Rattle.csp_program.specs.declared.expressions.Expr.TheViews.{roll-EventPart}
 pub use Rattle.csp_program.specs.declared.expressions.Gen.{Gen}
 pub use Rattle.csp_program.specs.declared.processes.Field.{Field}
-pub use Rattle.csp_text.proofs.tree.Tree.TheLaws.{the_size}
 pub use Rattle.csp_text.specs.declared.tree.Tree.{the_lemmas, Tree}
 pub use Rattle.csp_text.specs.declared.tree.EventTree.{EventTree}
 pub use Rattle.csp_text.specs.declared.tree.FieldTree.TheFolds.{fold-EventTree, fold-roll-EventTree, fold-roll-FieldTree, fold-roll-GenTree, fold-roll-PartTree, fold-roll-Tree, ind-FieldTree, ind-GenTree, ind-PartTree, ind-Tree, map-EventTree, map-FieldTree, map-GenTree, map-PartTree, map-Tree}
