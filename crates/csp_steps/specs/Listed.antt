@@ -20,7 +20,7 @@ pub record AreStepsOf (p : Content) (trees : List Proc) (t : Proc) (steps : List
   pub within : (k : ℕ) (s : StepTo) → slice_get steps k ≡ Some s → s.to.0 < length trees
   pub firsts : AreFirsts moves (map (seen trees) steps)
 
--- a fault of kind Value is the one that the outcome is; want of memory is free
+-- a fault that is told is the one that the outcome is; want of memory is free
 abbrev pub FaultIs : {A B : Type 0} → Result A EvalFault → Outcome B → Type 0
 FaultIs (Ok a) outcome = Unit {0}
 FaultIs (Err f) outcome = IsFault f outcome

@@ -88,7 +88,7 @@ fn steps_of_operands(
 }
 
 /// The steps of the process at a place of the pool, each once, in the order of its list of steps. The processes after them are put into the pool, and what is evaluated of hidings and
-/// renamings on the way is kept in `evaluated`, so that no later step evaluates it again. A fault of kind `Value` comes only where
+/// renamings on the way is kept in `evaluated`, so that no later step evaluates it again. A fault is told only where
 /// the process has no list of steps for want of a value, with the kind of the first value that there isn't.
 pub fn steps_in(
     program: &Program,

@@ -1,5 +1,5 @@
 -- What a call answers for a form, from what calls answer for its parts.
-use Rattle.csp_values.proofs.Prelude.{◌≡◌, ℕ, zero, suc, ◌+◌, ◌<◌, ◌^◌, Bool, true, false, List, [], None, Ok, Err, length, refl, ap, sym, subst, ◌∙◌, arith, ℤ, if◌then◌else◌, slice_get, Result, IsErrAnd, all_added, Outcome, and_then, Env, Gathered, bound_value, many, number, one_event, range, set_binary, as_number, as_set, sets_of, as_truth, EventPart, Expr, Expr-F, out-EventPart, ValueKind, Kind, OutsideChannel, Channel, Content, ChannelsFit, events_from, span, Atom, Value, One, BinOp, SetOp, negative, inverse, operation, named_set, a_set, gathered_set, produced, count_with, Gives, EvalFault, worth, worths, number_worth, truth_worth, atoms_worth, chosen, range_of, set_of, use_worth, with_items, event_worth, front_worth, with_front, with_fronts, one_more_binding, GivesTally, Course, GivesBinding, faulty, skipped, Walk, and_then_regroup, Tally, at_err, weaker, MOST_BINDINGS}
+use Rattle.csp_values.proofs.Prelude.{◌≡◌, ℕ, zero, suc, ◌+◌, ◌<◌, ◌^◌, Bool, true, false, List, [], None, Ok, Err, length, refl, ap, sym, subst, ◌∙◌, arith, ℤ, if◌then◌else◌, slice_get, Result, IsErrAnd, all_added, Outcome, and_then, Env, Gathered, bound_value, many, number, one_event, range, set_binary, as_number, as_set, sets_of, as_truth, EventPart, Expr, Expr-F, out-EventPart, ValueKind, Kind, OutsideChannel, Channel, Content, ChannelsFit, events_from, span, Atom, Value, One, BinOp, SetOp, negative, inverse, operation, named_set, a_set, gathered_set, produced, count_with, Gives, EvalFault, worth, worths, number_worth, truth_worth, atoms_worth, chosen, range_of, set_of, use_worth, with_items, event_worth, front_worth, with_front, with_fronts, one_more_binding, GivesTally, Course, GivesBinding, faulty, skipped, Walk, and_then_regroup, Tally, at_err, weaker, MOST_BINDINGS, Tells}
 use Rattle.csp_atoms.specs.declared.atom.Atom.TheVariants as atom
 use Rattle.csp_program.specs.declared.expressions.Expr.TheVariants as expr
 use Rattle.value_operators.specs.Forms as form
@@ -14,10 +14,9 @@ pub walk_passed : (r : Result Tally EvalFault) (f : EvalFault) (part whole : Out
 walk_passed r f part whole is h passes = at_err (λ q. GivesTally q whole) r f is (weaker (λ k. part ≡ Err k) (λ k. whole ≡ Err k) f h passes)
 
 -- a fault of a walk is a fault of what is gathered
-pub binding_passed : (r : Result Tally EvalFault) (f : EvalFault) (before left : Course) (params : Env) (around : List (ℕ × Atom)) (walk : Walk) (whole : Outcome Gathered)
-    → IsErrAnd r (λ y. y ≡ f) → GivesBinding (Err f) before left params around walk → ((k : ValueKind) → skipped before ≡ faulty k → whole ≡ Err k) → GivesTally r whole
-binding_passed r f before left params around walk whole is h passes =
-    at_err (λ q. GivesTally q whole) r f is (weaker (λ k. skipped before ≡ faulty k) (λ k. whole ≡ Err k) f h passes)
+pub binding_passed : (r : Result Tally EvalFault) (f : EvalFault) (Fails : ValueKind → Type 0) (whole : Outcome Gathered)
+    → IsErrAnd r (λ y. y ≡ f) → Tells Fails f → ((k : ValueKind) → Fails k → whole ≡ Err k) → GivesTally r whole
+binding_passed r f Fails whole is h passes = at_err (λ q. GivesTally q whole) r f is (weaker Fails (λ k. whole ≡ Err k) f h passes)
 
 -- two parts, each of which is taken for what it is worth
 module _ {V M C : Type 0} (f : V → Outcome M) (g : M → M → Outcome C) where

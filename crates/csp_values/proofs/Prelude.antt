@@ -7,14 +7,11 @@ pub use Rattle.csp_atoms.specs.declared.value.Value.TheVariants.{Many, One}
 pub use Rattle.csp_atoms.specs.declared.value.Value.{Value}
 pub use Rattle.csp_base.proofs.Lists.{drop_read}
 pub use Rattle.csp_base.proofs.Standard.{or_parts, or_right}
-pub use Rattle.csp_base.specs.Prelude.{total}
+pub use Rattle.csp_base.specs.Prelude.{Tells, total}
 pub use Rattle.csp_base.specs.declared.operators.BinOp.{BinOp}
 pub use Rattle.csp_base.specs.declared.operators.SetOp.{SetOp}
 pub use Rattle.csp_program.proofs.Outcomes.{and_then_regroup, came_through}
 pub use Rattle.csp_program.specs.Prelude.{Env, Front, Gathered, Meaning, Outcome, Turn, added, all_added, and_then, as_atom, as_number, as_set, as_truth, body_value, bound_to, bound_value, def_value, event_table, events_with, from, front, front_events, front_of_layer, fronts_added, gathered, in_field, items_added, lack_sets, limited, many, meaning, meaning_of_layer, meanings, number, one_event, over, range, row_count, row_in, row_of, set_binary, sets_of, turn, turn_of_layer, uses_within, value_of, value_within, walked, when}
-pub use Rattle.csp_program.specs.declared.programs.Body.{Body}
-pub use Rattle.csp_program.specs.declared.networks.Net.{Net}
-pub use Rattle.csp_program.specs.declared.processes.Proc.{Proc}
 pub use Rattle.csp_program.specs.declared.expressions.EventPart.{EventPart}
 pub use Rattle.csp_program.specs.declared.expressions.Expr.TheFolds.{fold-EventPart, fold-Gen, fold-roll-EventPart, fold-roll-Expr, fold-roll-Gen, map-Expr}
 pub use Rattle.csp_program.specs.declared.expressions.Expr.TheOpen.{EventPart-F, Expr-F, Gen-F}
@@ -23,6 +20,9 @@ pub use Rattle.csp_program.specs.declared.expressions.Expr.{Expr, fold-Expr}
 pub use Rattle.csp_program.specs.declared.expressions.Gen.{Gen}
 pub use Rattle.csp_program.specs.declared.kinds.ValueKind.TheVariants.{Kind, OutsideChannel, SetLimit}
 pub use Rattle.csp_program.specs.declared.kinds.ValueKind.{ValueKind}
+pub use Rattle.csp_program.specs.declared.networks.Net.{Net}
+pub use Rattle.csp_program.specs.declared.processes.Proc.{Proc}
+pub use Rattle.csp_program.specs.declared.programs.Body.{Body}
 pub use Rattle.csp_program.specs.declared.programs.Channel.{Channel}
 pub use Rattle.csp_program.specs.declared.programs.Content.{Content}
 pub use Rattle.csp_program.specs.declared.programs.Def.{Def}

@@ -33,7 +33,7 @@ fn whole_scope<'a>(alloc: Global, content: &'a Fitting<'a>, names: &'a Names<'a>
     }
 }
 
-/// The value of an expression of a program. A fault of kind `Value` comes exactly where it has none, with the kind of the first fault from the left.
+/// The value of an expression of a program. A fault is told exactly where it has none: the kind of the first one from the left.
 pub fn eval(alloc: Global, program: &Program, expr: &Expr) -> Result<Value, EvalFault>
     ensures { Gives result (value_of program.now expr.now) }
 {

@@ -25,7 +25,7 @@ pub struct SharedSets {
     pub sets: Items<AtomSet>,
 }
 
-/// The field sets of a channel of these types, from the left. A fault of kind `Value` comes exactly where a type has no value that fits.
+/// The field sets of a channel of these types, from the left. A fault is told exactly where a type has no value that fits.
 pub fn field_sets(
     alloc: Global,
     content: &Content,

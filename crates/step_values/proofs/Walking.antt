@@ -1,14 +1,14 @@
 -- A renaming as it is walked: what is left of it at each binding.
 use Rattle.step_values.proofs.Prelude.{◌≡◌, ℕ, Ok, Err, List, [], length, map, ap, sym, ◌∙◌, Result, Outcome, and_then, Env, turn, uses_within, walked, EventPart, ValueKind, Content, Atom, over_begun, over_course, Course, GivesBinding, begun, course_under, faulty, skipped, Gathering, binding_renamed, renaming_in, GivesTally, renamed_walk, Gives, EvalFault, IsErrAnd, Gen, Walk, Tally, at_err, weaker}
+use Rattle.csp_base.specs.Stops.{Tells}
 
 pub walk_passed : (r : Result Tally EvalFault) (f : EvalFault) (part whole : Outcome Gathering)
     → IsErrAnd r (λ y. y ≡ f) → GivesTally (Err f) part → ((k : ValueKind) → part ≡ Err k → whole ≡ Err k) → GivesTally r whole
 walk_passed r f part whole is h passes = at_err (λ q. GivesTally q whole) r f is (weaker (λ k. part ≡ Err k) (λ k. whole ≡ Err k) f h passes)
 
-pub binding_passed : (r : Result Tally EvalFault) (f : EvalFault) (before left : Course) (params : Env) (around : List (ℕ × Atom)) (walk : Walk) (whole : Outcome Gathering)
-    → IsErrAnd r (λ y. y ≡ f) → GivesBinding (Err f) before left params around walk → ((k : ValueKind) → skipped before ≡ faulty k → whole ≡ Err k) → GivesTally r whole
-binding_passed r f before left params around walk whole is h passes =
-    at_err (λ q. GivesTally q whole) r f is (weaker (λ k. skipped before ≡ faulty k) (λ k. whole ≡ Err k) f h passes)
+pub binding_passed : (r : Result Tally EvalFault) (f : EvalFault) (Fails : ValueKind → Type 0) (whole : Outcome Gathering)
+    → IsErrAnd r (λ y. y ≡ f) → Tells Fails f → ((k : ValueKind) → Fails k → whole ≡ Err k) → GivesTally r whole
+binding_passed r f Fails whole is h passes = at_err (λ q. GivesTally q whole) r f is (weaker Fails (λ k. whole ≡ Err k) f h passes)
 
 pub value_of_tally : {A : Type 0} (r : Result A EvalFault) (f : EvalFault) (part : Outcome Gathering) (whole : Outcome A) → IsErrAnd r (λ y. y ≡ f) → GivesTally (Err f) part
     → ((k : ValueKind) → part ≡ Err k → whole ≡ Err k) → Gives r whole

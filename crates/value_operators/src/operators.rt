@@ -119,17 +119,9 @@ pub fn decide(op: BinOp, first: &Value) -> Result<Option<Value>, EvalFault>
     match op {
         BinOp::Or => decide_by_truth(true, first),
         BinOp::And => decide_by_truth(false, first),
-        BinOp::Eq => undecided_atom(first),
-        BinOp::Ne => undecided_atom(first),
-        BinOp::Lt => undecided_number(first),
-        BinOp::Le => undecided_number(first),
-        BinOp::Gt => undecided_number(first),
-        BinOp::Ge => undecided_number(first),
-        BinOp::Add => undecided_number(first),
-        BinOp::Sub => undecided_number(first),
-        BinOp::Mul => undecided_number(first),
-        BinOp::Div => undecided_number(first),
-        BinOp::Rem => undecided_number(first),
+        BinOp::Eq | BinOp::Ne => undecided_atom(first),
+        BinOp::Lt | BinOp::Le | BinOp::Gt | BinOp::Ge => undecided_number(first),
+        BinOp::Add | BinOp::Sub | BinOp::Mul | BinOp::Div | BinOp::Rem => undecided_number(first),
     }
 }
 
@@ -195,10 +187,7 @@ fn on_numbers(op: BinOp, left: i64, right: i64) -> Result<Value, EvalFault>
     ensures { Gives result (on_two_numbers op left right) }
 {
     match op {
-        BinOp::Or => Err(Stop::Told(ValueKind::Kind)),
-        BinOp::And => Err(Stop::Told(ValueKind::Kind)),
-        BinOp::Eq => Err(Stop::Told(ValueKind::Kind)),
-        BinOp::Ne => Err(Stop::Told(ValueKind::Kind)),
+        BinOp::Or | BinOp::And | BinOp::Eq | BinOp::Ne => Err(Stop::Told(ValueKind::Kind)),
         BinOp::Lt => truth_value(left < right),
         BinOp::Le => truth_value(left <= right),
         BinOp::Gt => truth_value(left > right),
@@ -274,14 +263,9 @@ pub fn apply(op: BinOp, first: &Value, second: &Value) -> Result<Value, EvalFaul
         BinOp::And => join_truths(false, first, second),
         BinOp::Eq => equal(first, second),
         BinOp::Ne => unequal(first, second),
-        BinOp::Lt => apply_to_numbers(op, first, second),
-        BinOp::Le => apply_to_numbers(op, first, second),
-        BinOp::Gt => apply_to_numbers(op, first, second),
-        BinOp::Ge => apply_to_numbers(op, first, second),
-        BinOp::Add => apply_to_numbers(op, first, second),
-        BinOp::Sub => apply_to_numbers(op, first, second),
-        BinOp::Mul => apply_to_numbers(op, first, second),
-        BinOp::Div => apply_to_numbers(op, first, second),
-        BinOp::Rem => apply_to_numbers(op, first, second),
+        BinOp::Lt | BinOp::Le | BinOp::Gt | BinOp::Ge => apply_to_numbers(op, first, second),
+        BinOp::Add | BinOp::Sub | BinOp::Mul | BinOp::Div | BinOp::Rem => {
+            apply_to_numbers(op, first, second)
+        }
     }
 }

@@ -1,6 +1,6 @@
 -- The ways out of evaluation that no attribute closes: those of the walk over generators, and a few others. An expression of a new form gets an equation in
 -- `Arms` and in `Falls`, and a lemma in `Stays`.
-use Rattle.csp_values.proofs.Prelude.{slice_get, ◌≡◌, ◌+◌, length, Some, Ok, ap, refl, subst, sym, ◌∙◌, arith, env_in, parameters, with_bound, gathered_of, one_more_binding, yielded, slice_get_read, passed}
+use Rattle.csp_values.proofs.Prelude.{slice_get, ◌≡◌, ◌+◌, ◌<◌, ℕ, List, Gen, get_or, length, Some, Ok, ap, refl, subst, sym, ◌∙◌, arith, env_in, parameters, with_bound, gathered_of, one_more_binding, yielded, slice_get_read, passed}
 use Rattle.csp_values.proofs.Arms.{binding_passed, walk_passed, front_fault}
 use Rattle.csp_values.proofs.Again.{adds_nothing, there_after}
 use Rattle.csp_values.proofs.Stays.{once_begun}
@@ -12,27 +12,25 @@ use Rattle.csp_values.proofs.evaluation.+eval.Goals as goal
 use Rattle.csp_values.proofs.evaluation.+eval.Goals.{enter-then-holds, enter-else-holds}
 use Rattle.csp_program.specs.declared.expressions.Gen.TheVariants as generator
 
+-- the generator on turn
+placed : (gens : List Gen) (place : ℕ) (found g : Gen) → place < length gens → found ≡ get_or gens place found → found ≡ g → slice_get gens place ≡ Some g
+placed gens place found g within at is = let here : slice_get gens place ≡ Some found = slice_get_read gens (length gens) place found refl within at in cc
+
 pub enter-eval_atoms-requires : goal.enter-eval_atoms-requires
 enter-eval_atoms-requires t c =
-    let at : slice_get c.args.gens.now c.args.place ≡ Some c.in-Some-From.field-0.now =
-    slice_get_read c.args.gens.now (length c.args.gens.now) c.args.place c.in-Some-From.field-0.now refl c.in-Some-From.ensures.lookup.3.0 c.in-Some-From.ensures.lookup.1 in
-    let h : slice_get c.args.gens.now c.args.place ≡ Some (generator.From c.in-Some-From.slot c.in-Some-From.set) = cc (c.in-Some-From.field-0-is) in
+    let h = placed c.args.gens.now c.args.place c.in-Some-From.field-0.now (generator.From c.in-Some-From.slot c.in-Some-From.set) c.in-Some-From.ensures.lookup.3.0 c.in-Some-From.ensures.lookup.1 c.in-Some-From.field-0-is in
     (omega (arith, set_falls c.args.gens.now c.args.place c.in-Some-From.slot c.in-Some-From.set h), tt)
 
 pub enter-returns-in_err-atoms-in-Some-From : goal.enter-returns-in_err-atoms-in-Some-From
 enter-returns-in_err-atoms-in-Some-From t c =
-    let at : slice_get c.args.gens.now c.args.place ≡ Some c.in-Some-From.field-0.now =
-    slice_get_read c.args.gens.now (length c.args.gens.now) c.args.place c.in-Some-From.field-0.now refl c.in-Some-From.ensures.lookup.3.0 c.in-Some-From.ensures.lookup.1 in
-    let h : slice_get c.args.gens.now c.args.place ≡ Some (generator.From c.in-Some-From.slot c.in-Some-From.set) = cc (c.in-Some-From.field-0-is) in
+    let h = placed c.args.gens.now c.args.place c.in-Some-From.field-0.now (generator.From c.in-Some-From.slot c.in-Some-From.set) c.in-Some-From.ensures.lookup.3.0 c.in-Some-From.ensures.lookup.1 c.in-Some-From.field-0-is in
     step_passed _ _ _ _ _ _ _ _ c.from_residual.ensures.1 c.in_err-atoms-in-Some-From.ensures
     (λ k e. set_fault c.args.scope.now.content.now c.args.scope.now.uses c.args.gens.now c.args.scope.now.names.now.bound.now (parameters c.args.scope.now.names.now) c.args.walk.now c.requires.under c.args.place c.requires.turn
     c.in-Some-From.slot c.in-Some-From.set c.bound_names.result.now k h c.bound_names.ensures e)
 
 pub enter-returns-in_ok-take-in-Some-From : goal.enter-returns-in_ok-take-in-Some-From
 enter-returns-in_ok-take-in-Some-From t c =
-    let at : slice_get c.args.gens.now c.args.place ≡ Some c.in-Some-From.field-0.now =
-    slice_get_read c.args.gens.now (length c.args.gens.now) c.args.place c.in-Some-From.field-0.now refl c.in-Some-From.ensures.lookup.3.0 c.in-Some-From.ensures.lookup.1 in
-    let h : slice_get c.args.gens.now c.args.place ≡ Some (generator.From c.in-Some-From.slot c.in-Some-From.set) = cc (c.in-Some-From.field-0-is) in (
+    let h = placed c.args.gens.now c.args.place c.in-Some-From.field-0.now (generator.From c.in-Some-From.slot c.in-Some-From.set) c.in-Some-From.ensures.lookup.3.0 c.in-Some-From.ensures.lookup.1 c.in-Some-From.field-0-is in (
       set_entered c.args.scope.now.content.now c.args.scope.now.uses c.args.gens.now c.args.scope.now.names.now.bound.now (parameters c.args.scope.now.names.now) c.args.walk.now c.requires.under c.args.place c.requires.turn
           c.in-Some-From.slot c.in-Some-From.set c.bound_names.result.now c.in_ok-atoms-in-Some-From.atoms c.take.new.self h c.bound_names.ensures c.in_ok-atoms-in-Some-From.ensures c.in_ok-take-in-Some-From.ensures,
       goes_under c.args.scope.now.names.now.bound.now c.args.walk.now c.args.walk.now c.take.new.self c.in-Some-From.slot c.in_ok-atoms-in-Some-From.atoms 0 (c.args.place + 1) c.requires.under (λ names under. under) c.in_ok-take-in-Some-From.ensures,
@@ -40,25 +38,19 @@ enter-returns-in_ok-take-in-Some-From t c =
 
 pub enter-eval_truth-requires : goal.enter-eval_truth-requires
 enter-eval_truth-requires t c =
-    let at : slice_get c.args.gens.now c.args.place ≡ Some c.in-Some-Cond.field-0.now =
-    slice_get_read c.args.gens.now (length c.args.gens.now) c.args.place c.in-Some-Cond.field-0.now refl c.in-Some-Cond.ensures.lookup.3.0 c.in-Some-Cond.ensures.lookup.1 in
-    let h : slice_get c.args.gens.now c.args.place ≡ Some (generator.Cond c.in-Some-Cond.condition) = cc (c.in-Some-Cond.field-0-is) in
+    let h = placed c.args.gens.now c.args.place c.in-Some-Cond.field-0.now (generator.Cond c.in-Some-Cond.condition) c.in-Some-Cond.ensures.lookup.3.0 c.in-Some-Cond.ensures.lookup.1 c.in-Some-Cond.field-0-is in
     (omega (arith, condition_falls c.args.gens.now c.args.place c.in-Some-Cond.condition h), tt)
 
 pub enter-returns-in_err-holds-in-Some-Cond : goal.enter-returns-in_err-holds-in-Some-Cond
 enter-returns-in_err-holds-in-Some-Cond t c =
-    let at : slice_get c.args.gens.now c.args.place ≡ Some c.in-Some-Cond.field-0.now =
-    slice_get_read c.args.gens.now (length c.args.gens.now) c.args.place c.in-Some-Cond.field-0.now refl c.in-Some-Cond.ensures.lookup.3.0 c.in-Some-Cond.ensures.lookup.1 in
-    let h : slice_get c.args.gens.now c.args.place ≡ Some (generator.Cond c.in-Some-Cond.condition) = cc (c.in-Some-Cond.field-0-is) in
+    let h = placed c.args.gens.now c.args.place c.in-Some-Cond.field-0.now (generator.Cond c.in-Some-Cond.condition) c.in-Some-Cond.ensures.lookup.3.0 c.in-Some-Cond.ensures.lookup.1 c.in-Some-Cond.field-0-is in
     step_passed _ _ _ _ _ _ _ _ c.from_residual-in_err-holds-in-Some-Cond.ensures.1 c.in_err-holds-in-Some-Cond.ensures
     (λ k e. condition_fault c.args.scope.now.content.now c.args.scope.now.uses c.args.gens.now c.args.scope.now.names.now.bound.now (parameters c.args.scope.now.names.now) c.args.walk.now c.requires.under c.args.place c.requires.turn
     c.in-Some-Cond.condition c.bound_names.result.now k h c.bound_names.ensures e)
 
 pub enter-returns-after-holds : goal.enter-returns-after-holds
 enter-returns-after-holds t c =
-    let at : slice_get c.args.gens.now c.args.place ≡ Some c.in-Some-Cond.field-0.now =
-    slice_get_read c.args.gens.now (length c.args.gens.now) c.args.place c.in-Some-Cond.field-0.now refl c.in-Some-Cond.ensures.lookup.3.0 c.in-Some-Cond.ensures.lookup.1 in
-    let h : slice_get c.args.gens.now c.args.place ≡ Some (generator.Cond c.in-Some-Cond.condition) = cc (c.in-Some-Cond.field-0-is) in
+    let h = placed c.args.gens.now c.args.place c.in-Some-Cond.field-0.now (generator.Cond c.in-Some-Cond.condition) c.in-Some-Cond.ensures.lookup.3.0 c.in-Some-Cond.ensures.lookup.1 c.in-Some-Cond.field-0-is in
     elim c.if-holds.branch [
       | enter-then-holds w ↦ (
         condition_holds c.args.scope.now.content.now c.args.scope.now.uses c.args.gens.now c.args.scope.now.names.now.bound.now (parameters c.args.scope.now.names.now) c.args.walk.now c.requires.under c.args.place c.requires.turn
@@ -80,7 +72,7 @@ enter-returns-in-None t c = (
 
 pub gather_each-returns-in_err-find_binding : goal.gather_each-returns-in_err-find_binding
 gather_each-returns-in_err-find_binding t c =
-    binding_passed _ _ _ _ _ _ _ _ c.from_residual-in_err-find_binding.ensures.1 c.in_err-find_binding.ensures
+    binding_passed _ _ _ _ c.from_residual-in_err-find_binding.ensures.1 c.in_err-find_binding.ensures
     (λ k e. c.bindings.invariant.same ∙ over_fault (one_more_binding c.args.scope.now.content.now c.args.scope.now.uses c.args.yields.now.items.now c.args.yields.now.parts.now) _ (gathered_of c.bindings.tally) k e)
 
 pub gather_each-returns-in_err-tally : goal.gather_each-returns-in_err-tally
@@ -101,7 +93,7 @@ gather_each-bindings-preserved t c =
 pub gather_once-returns-in_err-find_binding : goal.gather_once-returns-in_err-find_binding
 gather_once-returns-in_err-find_binding t c =
     let begun = once_begun c.args.scope.now.content.now c.args.scope.now.uses c.args.gens.now c.args.yields.now.items.now c.args.yields.now.parts.now c.args.scope.now.names.now.bound.now (parameters c.args.scope.now.names.now) c.in_ok-walk.walk (gathered_of c.args.tally) c.requires.items c.requires.parts c.in_ok-walk.ensures in
-    binding_passed _ _ _ _ _ _ _ _ c.from_residual-in_err-find_binding.ensures.1 c.in_err-find_binding.ensures
+    binding_passed _ _ _ _ c.from_residual-in_err-find_binding.ensures.1 c.in_err-find_binding.ensures
     (λ k e. begun ∙ over_fault (λ _. one_more_binding c.args.scope.now.content.now c.args.scope.now.uses c.args.yields.now.items.now c.args.yields.now.parts.now (env_in c.args.scope.now.names.now)) _ (gathered_of c.args.tally) k e)
 
 pub gather_once-returns-then-not-branch : goal.gather_once-returns-then-not-branch
@@ -129,7 +121,7 @@ gather_once-bindings-init t c =
 
 pub gather_once-returns-in_err-find_binding-2 : goal.gather_once-returns-in_err-find_binding-2
 gather_once-returns-in_err-find_binding-2 t c =
-    binding_passed _ _ _ _ _ _ _ _ c.from_residual-in_err-find_binding-2.ensures.1 c.in_err-find_binding-2.ensures
+    binding_passed _ _ _ _ c.from_residual-in_err-find_binding-2.ensures.1 c.in_err-find_binding-2.ensures
     (λ k e. c.bindings.invariant.same ∙ over_fault (λ _. one_more_binding c.args.scope.now.content.now c.args.scope.now.uses c.args.yields.now.items.now c.args.yields.now.parts.now (env_in c.args.scope.now.names.now)) _ (gathered_of c.bindings.tally) k e)
 
 pub gather_once-returns-in_err-tally-2 : goal.gather_once-returns-in_err-tally-2

@@ -10,7 +10,7 @@ bindings-init c = record {
 
 pub returns-in_err-binding_under : goal.returns-in_err-binding_under
 returns-in_err-binding_under c =
-    binding_passed _ _ _ _ _ _ _ _ c.from_residual-in_err-binding_under.ensures.1 c.in_err-binding_under.ensures
+    binding_passed _ _ _ _ c.from_residual-in_err-binding_under.ensures.1 c.in_err-binding_under.ensures
     (λ k e. c.bindings.invariant.same ∙ over_fault (binding_renamed c.args.scope.now.program.now c.args.scope.now.pairs.now) _ (gathering_of c.bindings.tally) k e)
 
 pub returns-in_err-tally : goal.returns-in_err-tally
