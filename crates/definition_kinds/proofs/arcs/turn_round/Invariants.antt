@@ -6,5 +6,5 @@ abbrev pub invariant-loop-ends : goal.invariant-loop-ends
 invariant-loop-ends l = record {
   len : length l.rows ≡ l.count + 1;
   place : l.d ≡ l.ends-index;
-  arcs : (v w : ℕ) → has_arc l.rows v w ≡ (nat_lt w l.d && some_from l.count l.target v (ends_at (slice_get (ends_of l.all) w)));
+  arcs : (v w : ℕ) → has_arc l.rows v w ≡ (nat_lt w l.d && some_from l.count l.fn.target v (ends_at (slice_get (ends_of l.all) w)));
 }
