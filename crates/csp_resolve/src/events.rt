@@ -1,10 +1,9 @@
 //! The field sets of a script's channels, and its event table.
 
-ghost use Rattle.std.specs.Prelude.{◌≡◌, ◌≤◌, IsTrue, List, [], ◌∷◌, ◌++◌, length, map, IfOk, OnOk};
+ghost use Rattle.std.specs.Prelude.{◌≡◌, ◌≤◌, IsTrue, List, [], ◌∷◌, ◌++◌, length, map, OnOk};
 ghost use Rattle.csp_program.specs.Prelude.{lacks_sets, all_true};
 ghost use Rattle.csp_resolve.specs.Answers.{Answers, Grows, sets_of, types_read};
 ghost use Rattle.dl_limits.specs.declared.TheConstants.{MOST_BYTES};
-ghost use Rattle.event_tables.specs.declared.sets.SharedSets.{SharedSets};
 ghost use Rattle.event_tables.specs.Spread.{spread};
 ghost use Rattle.script_names.specs.Names.{first_of};
 ghost use Rattle.script_names.specs.Resolved as meant;
@@ -14,7 +13,7 @@ ghost use Rattle.csp_atoms.specs.declared.atom.Atom.{Atom};
 use crate::resolution::Resolved;
 use containers::Items;
 use csp_atoms::AtomSet;
-use csp_base::{NoMemory, Stop};
+use csp_base::Stop;
 use csp_program::{Content, Expr};
 use csp_text::Decl;
 use dl_limits::MOST_EVENTS;
@@ -60,8 +59,9 @@ fn add_sets(
     match decl {
         Decl::Channel(xs, types) => {
             let types = types_of(meanings, types.as_slice())?;
-            let one = shared_sets(meanings.alloc, content, i, xs.len(), types.as_slice())?;
-            push_shared(shared, one)?;
+            let sets = sets_in(meanings.alloc, content, i, types.as_slice())?;
+            let channels = xs.len();
+            push_shared(shared, SharedSets { channels, sets })?;
             Ok(())
         }
         Decl::Datatype(_, _)
@@ -79,23 +79,6 @@ fn push_shared(shared: &mut Vec<SharedSets>, one: SharedSets) -> Made<()>
 {
     shared.push(one)?;
     Ok(())
-}
-
-// The field sets of so many channels of these types in the declaration with the number `i`.
-fn shared_sets(
-    alloc: Global,
-    content: &Content,
-    i: u32,
-    channels: usize,
-    types: &[Expr],
-) -> Resolved<SharedSets>
-    requires { IsTrue (all_true (map lacks_sets content.now.channels)) }
-    ensures channels { IfOk result (λ one. one.channels ≡ channels) }
-    ensures sets { Answers (λ (one : SharedSets). one.sets) result
-        (meant.told_in i (meant.field_sets content.now types.now)) }
-{
-    let sets = sets_in(alloc, content, i, types)?;
-    Ok(SharedSets { channels, sets })
 }
 
 // The field sets of these types in the declaration with the number `i`.

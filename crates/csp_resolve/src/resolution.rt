@@ -107,7 +107,9 @@ fn with_events(meanings: &Meanings<'_>, decls: &[Decl], mut content: Content) ->
     requires channels { length content.channels ≤ MOST_BYTES }
     requires plain { IsTrue (all_true (map lacks_sets content.channels)) }
     ensures { Answers (λ (p : Content). p) result
-        (and_next (meant.channel_sets content (types_read (first_of meanings.now.names.now) meanings.now.kinds.now) 0 decls.now) (λ all. meant.with_table content all)) }
+        (and_next (meant.channel_sets content
+        (types_read (first_of meanings.now.names.now) meanings.now.kinds.now) 0 decls.now)
+        (λ all. meant.with_table content all)) }
 {
     match put_events(meanings, decls, &mut content) {
         Ok(()) => Ok(content),
@@ -124,7 +126,9 @@ fn put_events(meanings: &Meanings<'_>, decls: &[Decl], content: &mut Content) ->
     requires channels { length content.old.channels ≤ MOST_BYTES }
     requires plain { IsTrue (all_true (map lacks_sets content.old.channels)) }
     ensures { Answers (λ (done : Unit {0}). content.new) result
-        (and_next (meant.channel_sets content.old (types_read (first_of meanings.now.names.now) meanings.now.kinds.now) 0 decls.now) (λ all. meant.with_table content.old all)) }
+        (and_next (meant.channel_sets content.old
+        (types_read (first_of meanings.now.names.now) meanings.now.kinds.now) 0 decls.now)
+        (λ all. meant.with_table content.old all)) }
 {
     let shared = channel_sets(meanings, content, decls)?;
     fill_table(meanings.alloc, content, shared.as_slice())?;

@@ -101,13 +101,14 @@ fn add_renamed(
     ensures { OnOk result (steps.new ≡ steps.old ++ map (λ l.
         record { label = l; to = step.to }) (renamed_labels (becomes images.now) step.label)) }
 {
-    match step.label {
+    let StepTo { label, to } = step;
+    match label {
         Label::Visible(event) => {
             let events = images_of(alloc, images, event)?;
-            add_events(events.as_slice(), step.to, steps)?;
+            add_events(events.as_slice(), to, steps)?;
             Ok(())
         }
-        Label::Silent => steps.push(step),
+        Label::Silent => steps.push(StepTo { label, to }),
         Label::Tick => Ok(()),
     }
 }
@@ -122,13 +123,14 @@ fn add_seen(
     ensures { OnOk result (steps.new ≡ steps.old ++ map (λ l.
         record { label = l; to = step.to }) (labels_by operator.now step.label)) }
 {
+    let StepTo { label, to } = step;
     match operator {
         Operator::Hide(hidden) => steps.push(StepTo {
-            label: label_of(hidden, step.label),
-            to: step.to,
+            label: label_of(hidden, label),
+            to,
         }),
         Operator::Rename(images) => add_renamed(alloc, images, step, steps),
-        Operator::Seq(_) => steps.push(step),
+        Operator::Seq(_) => steps.push(StepTo { label, to }),
     }
 }
 

@@ -142,7 +142,8 @@ fn add_way(
     requires to { filling.now.to.0 < length pool.old }
     requires within { all_within (length pool.old) steps.old ≡ true }
     ensures steps { OnOk result (AreMoves pool.new steps.new (map (seen pool.old) steps.old
-        ++ way_move filling.now.start.now.first (tree_at pool.old filling.now.to) (with_bound bound.now [], number) ∷ [])) }
+        ++ way_move filling.now.start.now.first (tree_at pool.old filling.now.to)
+        (with_bound bound.now [], number) ∷ [])) }
     ensures front { IsFront pool.old pool.new }
 {
     let values = Values::from_bound(filling.alloc, bound);

@@ -12,6 +12,13 @@ use digraph::Rows;
 use script_names::{End, Made};
 use std::alloc::Global;
 
+// What is looked for: an end, from so many definitions.
+#[derive(Clone, Copy)]
+struct Sought {
+    count: u32,
+    target: End,
+}
+
 // Whether an end is the one looked for; no process and no use is.
 fn is_last(target: End, end: End) -> bool
     ensures { result ≡ meant.is_last target end }
@@ -24,14 +31,14 @@ fn is_last(target: End, end: End) -> bool
 }
 
 // The vertex that an end comes from, if it has one.
-fn source_of(count: u32, target: End, end: End) -> Option<u32>
-    ensures { result ≡ meant.source_of count target end }
+fn source_of(sought: Sought, end: End) -> Option<u32>
+    ensures { result ≡ meant.source_of sought.count sought.target end }
 {
     match end {
-        End::Use(d) => { if d < count { Some(d) } else { None } }
+        End::Use(d) => { if d < sought.count { Some(d) } else { None } }
         End::Data | End::Process | End::Parallel | End::Nothing => {
-            if is_last(target, end) {
-                Some(count)
+            if is_last(sought.target, end) {
+                Some(sought.count)
             } else {
                 None
             }
@@ -40,14 +47,15 @@ fn source_of(count: u32, target: End, end: End) -> Option<u32>
 }
 
 // Adds the arc to the definition `d` that one of its ends makes.
-fn add_end(rows: &mut Rows, count: u32, target: End, d: u32, end: End) -> Made<()>
-    requires count { length rows.old ≡ count + 1 }
-    requires in_range { d < count }
+fn add_end(rows: &mut Rows, sought: Sought, d: u32, end: End) -> Made<()>
+    requires count { length rows.old ≡ sought.count + 1 }
+    requires in_range { d < sought.count }
     ensures len { length rows.new ≡ length rows.old }
     ensures arcs { OnOk result ((v w : ℕ) →
-        has_arc rows.new v w ≡ (has_arc rows.old v w || (meant.comes_from count target v end && nat_eq w d))) }
+        has_arc rows.new v w
+        ≡ (has_arc rows.old v w || (meant.comes_from sought.count sought.target v end && nat_eq w d))) }
 {
-    match source_of(count, target, end) {
+    match source_of(sought, end) {
         Some(v) => {
             rows.add_arc(v, d)?;
             Ok(())
@@ -57,15 +65,16 @@ fn add_end(rows: &mut Rows, count: u32, target: End, d: u32, end: End) -> Made<(
 }
 
 // Adds the arcs to the definition `d` that its ends make.
-fn add_ends(rows: &mut Rows, count: u32, target: End, d: u32, ends: &[End]) -> Made<()>
-    requires count { length rows.old ≡ count + 1 }
-    requires in_range { d < count }
+fn add_ends(rows: &mut Rows, sought: Sought, d: u32, ends: &[End]) -> Made<()>
+    requires count { length rows.old ≡ sought.count + 1 }
+    requires in_range { d < sought.count }
     ensures len { length rows.new ≡ length rows.old }
     ensures arcs { OnOk result ((v w : ℕ) →
-        has_arc rows.new v w ≡ (has_arc rows.old v w || (meant.some_from count target v ends.now && nat_eq w d))) }
+        has_arc rows.new v w
+        ≡ (has_arc rows.old v w || (meant.some_from sought.count sought.target v ends.now && nat_eq w d))) }
 {
     for end in ends {
-        add_end(rows, count, target, d, *end)?;
+        add_end(rows, sought, d, *end)?;
     }
     Ok(())
 }
@@ -86,10 +95,11 @@ pub fn turn_round(alloc: Global, all: &[Vec<End>], count: u32, target: End) -> M
     ensures arcs { IfOk result (λ made. (v w : ℕ) →
         has_arc made v w ≡ meant.some_from count target v (ends_at (slice_get (rows all.now) w))) }
 {
+    let sought = Sought { count, target };
     let mut rows = no_arcs(alloc, count)?;
     let mut d: u32 = 0;
     for ends in all {
-        add_ends(&mut rows, count, target, d, ends.as_slice())?;
+        add_ends(&mut rows, sought, d, ends.as_slice())?;
         d += 1;
     }
     Ok(rows)

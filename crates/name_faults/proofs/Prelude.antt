@@ -5,7 +5,6 @@ pub use Rattle.csp_base.specs.Lists.{greatest}
 pub use Rattle.csp_base.specs.declared.operators.BinOp.{BinOp}
 pub use Rattle.csp_base.specs.declared.operators.SetOp.{SetOp}
 pub use Rattle.csp_base.specs.Standard.{Bor, flat_map, option_map}
-pub use Rattle.csp_text.proofs.tree.Tree.TheLaws.{the_size}
 pub use Rattle.csp_text.specs.Prelude.{field_depth, gen_depth, greatest_of_pairs, part_depth, tree_depth}
 pub use Rattle.csp_text.specs.declared.tree.EventTree.{EventTree}
 pub use Rattle.csp_text.specs.declared.tree.FieldTree.TheViews.{out-EventTree, out-PartTree}
@@ -16,9 +15,11 @@ pub use Rattle.csp_text.specs.declared.tree.GenTree.{GenTree}
 pub use Rattle.csp_text.specs.declared.tree.PartTree.{PartTree}
 pub use Rattle.dl_limits.specs.declared.TheConstants.{MOST_BYTES, MOST_DATA_DEPTH}
 pub use Rattle.name_faults.specs.Bodies.{bodies_after, body_of, greatest_level, level_of, use_of, used}
-pub use Rattle.name_faults.specs.Depths.{AreWithin, deepest_if, deepest_of, deepest_use}
+pub use Rattle.name_faults.specs.Depths.{deepest_if, deepest_of, deepest_use}
+unfoldable pub use Rattle.name_faults.specs.Depths.{AreWithin}
 unfoldable pub use Rattle.name_faults.specs.Depths.{within}
-pub use Rattle.name_faults.specs.Known.{IsKnown, IsNext, deep_at, defines, fault_after, fault_from, names_in, nothing_known, says_after}
+pub use Rattle.name_faults.specs.Known.{IsKnown, IsNext, deep_at, defines, fault_after, names_in, nothing_known, says_after}
+unfoldable pub use Rattle.name_faults.specs.Known.{fault_from}
 pub use Rattle.name_faults.specs.Walked.{Walked, after, after_fields, after_gens, after_pairs, after_parts, after_trees, field_binder, field_names, field_said, fields_said, gen_binder, gen_names, gen_said, gens_said, pair_said, pairs_said, part_said, parts_said, seen, tree_said, trees_said, under_fields, under_gens}
 pub use Rattle.name_faults.specs.declared.body.Body.{Body}
 pub use Rattle.name_faults.specs.declared.known.Known.{Known}

@@ -1,9 +1,9 @@
 -- What other libraries give, under one name for the files here.
 pub use Rattle.containers.specs.Exact.{IsExact-pointwise}
-pub use Rattle.csp_base.proofs.Booleans.{or_regroup}
 pub use Rattle.csp_base.proofs.Lists.{drop_read}
-pub use Rattle.csp_base.proofs.Standard.{append-nil, drop_of_length-le}
-pub use Rattle.csp_base.specs.Standard.{AreApart, IsKeyTest, KeepsOthers, Ordering, eq_by_cmp, is_eq, list_any, lookup, nat_cmp, pointwise, slice_cmp, texts_ties}
+pub use Rattle.csp_base.proofs.Standard.{append-nil, drop_of_length-le, list_any-append}
+pub use Rattle.csp_base.specs.Standard.{AreApart, IsKeyTest, Ordering, eq_by_cmp, is_eq, list_any, lookup, nat_cmp, pointwise, slice_cmp, texts_ties}
+unfoldable pub use Rattle.csp_base.specs.Standard.{KeepsOthers}
 pub use Rattle.csp_text.specs.declared.script.Decl.{Decl}
 pub use Rattle.dl_limits.specs.declared.TheConstants.{MOST_BYTES}
 pub use Rattle.indexmap.proofs.CallerLemmas.{insert_entry-new}

@@ -1,7 +1,8 @@
 //! The numbers of bound names, by the order of the names.
 
 ghost use Rattle.std.specs.Prelude.{◌≡◌, None, Some, true, is_some, OnOk, OnErr, IfOk, ℕ, List};
-ghost use Rattle.name_tables.specs.Prelude.{Writes, at_name};
+ghost use Rattle.name_tables.specs.Hidden.{Writes};
+ghost use Rattle.name_tables.specs.Spelling.{at_name};
 
 use csp_base::Name;
 use script_names::Made;

@@ -4,7 +4,7 @@
 ghost use Rattle.std.specs.Prelude.{◌≡◌, ◌↔◌, ◌||◌, ◌+◌, ◌<◌, ◌≤◌, ◌^◌, ℕ, [], ◌∷◌, ◌++◌, false, true, replicate, length, All, slice_index, IsTrue, IfOk, OnOk, MatchOption};
 ghost use Rattle.partitions.specs.Blocks.{count_of, state_of, HasBlocks, AreBoth, AreCut, AreMarked, AreTouched, IsCalm, IsCut, IsDone, IsMarked, IsSplit, IsTaken, IsWhole};
 ghost use Rattle.csp_base.specs.Members.{has};
-ghost use Rattle.partitions.specs.BlockSteps.{HasLongerSpans, IsAdvanced, IsAwaited, IsCalmed, IsDivided, IsLonger};
+ghost use Rattle.partitions.specs.BlockSteps.{IsCalmed, IsDivided, with_block, with_mark, with_span, with_waiting};
 
 use csp_base::NoMemory;
 use std::alloc::Global;
@@ -172,7 +172,7 @@ impl Partition {
         requires node { node < count_of self.old }
         requires unmarked { slice_index self.old.middles.items
             (slice_index self.old.blocks.items node) ≤ slice_index self.old.places.items node }
-        ensures { IsAdvanced (state_of self.old) (state_of self.new) node }
+        ensures { state_of self.new ≡ with_mark (state_of self.old) node }
     {
         let block = self.blocks[node as usize];
         let place = self.places[node as usize];
@@ -264,7 +264,7 @@ impl Partition {
     // Adds a block between two places, and answers its number. It has no marks, and doesn't wait.
     fn add_block(&mut self, first: u32, end: u32) -> Result<u32, NoMemory>
         requires { length self.old.firsts.items < 2 ^ 32 }
-        ensures longer { OnOk result (IsLonger (state_of self.old) (state_of self.new) first end) }
+        ensures longer { OnOk result (state_of self.new ≡ with_block (state_of self.old) first end) }
         ensures new { IfOk result (λ new. new ≡ length self.old.firsts.items) }
     {
         let new = self.firsts.len() as u32;
@@ -275,7 +275,7 @@ impl Partition {
 
     // Adds where a block without marks begins and ends.
     fn add_span(&mut self, first: u32, end: u32) -> Result<(), NoMemory>
-        ensures { OnOk result (HasLongerSpans (state_of self.old) (state_of self.new) first end) }
+        ensures { OnOk result (state_of self.new ≡ with_span (state_of self.old) first end) }
     {
         push(&mut self.firsts, first)?;
         push(&mut self.middles, first)?;
@@ -286,7 +286,7 @@ impl Partition {
     // Lets a block wait, if it doesn't yet.
     fn wait(&mut self, block: u32) -> Result<(), NoMemory>
         requires { block < length self.old.flags.items }
-        ensures { OnOk result (IsAwaited (state_of self.old) (state_of self.new) block) }
+        ensures { OnOk result (state_of self.new ≡ with_waiting (state_of self.old) block) }
     {
         if !self.flags[block as usize] {
             self.waiting.push(block)?;

@@ -5,7 +5,6 @@ pub use Rattle.csp_base.proofs.Lists.{drop_read}
 pub use Rattle.csp_base.proofs.Standard.{IsDistinct-head, IsDistinct-tail, or_right, slice_get-get_or}
 pub use Rattle.csp_base.specs.Prelude.{EachOnce, greatest, total}
 pub use Rattle.csp_base.specs.Standard.{AllByRecursion, IsDistinct, is_member}
-pub use Rattle.csp_program.proofs.expressions.Expr.TheLaws.{the_size}
 pub use Rattle.csp_program.specs.Prelude.{Binding, Given, Names, any_of, before, either, expr_depth, expr_free, expr_size, field_depth, field_size, gen_binding, gen_depth, gen_size, given_by, nowhere, pair_depth, pair_free, pair_size, part_depth, part_free, part_size, under}
 pub use Rattle.csp_program.specs.declared.expressions.EventPart.{EventPart}
 pub use Rattle.csp_program.specs.declared.expressions.Expr.{Expr}

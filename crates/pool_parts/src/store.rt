@@ -183,7 +183,8 @@ fn is_at<T: Part>(parts: &Numbering<T, QuickKey>, place: usize, part: &T) -> boo
 
 // The number of the part, if it has one: `latest` is looked at first.
 fn find_in<T: Part>(parts: &Numbering<T, QuickKey>, latest: usize, part: &T) -> Option<usize>
-    ensures found { MatchOption result (IsAbsent parts.now part.now) (λ place. slice_get parts.now place ≡ Some part.now) }
+    ensures found { MatchOption result (IsAbsent parts.now part.now)
+        (λ place. slice_get parts.now place ≡ Some part.now) }
     ensures once { EachOnce parts.now }
 {
     let _ = slice_of(parts);

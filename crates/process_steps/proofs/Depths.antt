@@ -6,12 +6,12 @@ unfoldable pub layer_depth : Proc-F Proc → ℕ
 layer_depth d = proc_depth_of_layer (map-Proc Proc ℕ proc_depth d)
 
 -- where the process t has the layer d
-pub depth_of : {t : Proc} {d : Proc-F Proc} → roll-Proc d ≡ t → proc_depth t ≡ layer_depth d
+pub depth_of : (d : Proc-F Proc) {t : Proc} → roll-Proc d ≡ t → proc_depth t ≡ layer_depth d
 unfolding layer_depth
-depth_of {d = d} e = ap proc_depth (sym e) ∙ fold-roll-Proc ℕ proc_depth_of_layer d
+depth_of d e = ap proc_depth (sym e) ∙ fold-roll-Proc ℕ proc_depth_of_layer d
 
 pub depth_of_out : (t : Proc) → proc_depth t ≡ layer_depth (out-Proc t)
-depth_of_out t = depth_of (roll-out-Proc t)
+depth_of_out t = depth_of (out-Proc t) (roll-out-Proc t)
 
 some_depth : (d : Proc-F Proc) → 1 ≤ layer_depth d
 unfolding layer_depth
@@ -80,5 +80,5 @@ unfolding steps_of
 of_layer p t = enough p (proc_depth t) (suc (proc_depth t)) t (omega arith) (omega arith) ∙ within_layer p (proc_depth t) t (omega arith)
 
 -- where the process t has the layer d
-pub steps_of_form : (p : Content) {t : Proc} {d : Proc-F Proc} → roll-Proc d ≡ t → steps_of p t ≡ steps_of_layer p (steps_of p) d
-steps_of_form p {t} {d} e = of_layer p t ∙ ap (steps_of_layer p (steps_of p)) (ap out-Proc (sym e) ∙ out-roll-Proc d)
+pub steps_of_form : (p : Content) (d : Proc-F Proc) {t : Proc} → roll-Proc d ≡ t → steps_of p t ≡ steps_of_layer p (steps_of p) d
+steps_of_form p d {t} e = of_layer p t ∙ ap (steps_of_layer p (steps_of p)) (ap out-Proc (sym e) ∙ out-roll-Proc d)

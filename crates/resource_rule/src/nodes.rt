@@ -36,7 +36,7 @@ impl<'a> User<'a> {
 
     // Whether each event is in turn at each node, by the links on which the part holds a resource there.
     fn all_in_turn(&self, held: &[EventSet]) -> bool
-        requires count { length held.now ≡ length (part_at self.now.setting.now.shape.parts self.now.part).table }
+        requires { length held.now ≡ length (part_at self.now.setting.now.shape.parts self.now.part).table }
         ensures { result ≡ true → (n e : ℕ) → n < length held.now
             → is_possible (node_of self.now.setting.now self.now.part n).next e ≡ true
             → IsInTurn self.now.setting.now self.now.part (get_or held.now n []) e }

@@ -17,7 +17,7 @@ impl<'a> User<'a> {
         alloc: Global,
         pairs: &[(u32, u32)],
     ) -> Result<EventSet, NoMemory>
-        requires nodes { HaveNodes self.now.setting.now self.now.part pairs.now }
+        requires { HaveNodes self.now.setting.now self.now.part pairs.now }
         ensures { IfOk result (λ events. (e : ℕ)
             → has events e ≡ is_offered_at self.now.setting.now self.now.part pairs.now e) }
     {

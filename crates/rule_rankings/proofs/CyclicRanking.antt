@@ -1,5 +1,5 @@
 -- The ranks and the laps of a cyclic network.
-use Rattle.rule_rankings.proofs.Prelude.{◌≡◌, ℕ, zero, suc, ◌+◌, ◌<◌, ◌≤◌, inl, inr, pos, List, [], ◌∷◌, ◌++◌, length, get_or, Bool, ◌&&◌, cond, max, IsTrue, nat_eq, nat_lt, sym, ap, subst, ◌∙◌, arith, eq-eqb, ne_eqb, lt-ltb, length-append, get_or_append_left, get_or-append_seam, cases_Bool, cases_eq, cases_lt, cond-true, cond-false, and_from, both_ways, get_or_from_slice_get, slice_get_within, has, node_at, is_possible, part_at, alphabets_of, TripleDisjoint, Shape, is_end, IsWellFormed, Ranking, count_below, above_all, links_of, ReachesLink, AllKeepPlaces, NumbersRise, place_of, ends_lap, AreCyclicRanks, ends_of, slice_index, AreTops, IsGreatest, IsLap, AreAllRanked, ends_sound, ends_complete, has_place, place_in, some_at, on_one, count_mono, link_shared, reached_differ, earlier_place, place_below}
+use Rattle.rule_rankings.proofs.Prelude.{◌≡◌, ℕ, zero, suc, ◌+◌, ◌<◌, ◌≤◌, inl, inr, pos, List, [], ◌∷◌, ◌++◌, length, get_or, Bool, ◌&&◌, cond, max, IsTrue, nat_eq, nat_lt, sym, ap, subst, ◌∙◌, arith, eq-eqb, ne_eqb, lt-ltb, length-append, get_or_append_left, get_or-append_seam, cases_Bool, cases_eq, cases_lt, cond-true, cond-false, and_from, both_ways, get_or_from_slice_get, slice_get_within, has, node_at, is_possible, part_at, alphabets_of, TripleDisjoint, Shape, is_end, IsWellFormed, Ranking, count_below, above_all, links_of, ReachesLink, AllKeepPlaces, NumbersRise, place_of, ends_lap, AreCyclicRanks, ends_of, slice_index, AreTops, IsGreatest, IsLap, AreAllRanked, IsRanked, ends_sound, ends_complete, has_place, place_in, some_at, on_one, count_mono, link_shared, reached_differ, earlier_place, place_below}
 use Rattle.rule_rankings.proofs.RowsBelow.{fits, rank_is, others_zero, lap_is, lap_none, possible_node}
 use Rattle.rule_rankings.specs.CyclicRanks.{IsRank}
 
@@ -99,14 +99,14 @@ module _ (shape : Shape) (number : ℕ → ℕ) (w : IsWellFormed shape) (triple
 
 -- ---- the ranking
 
-pub cyclic_ranks : (shape : Shape) (number : ℕ → ℕ) (tops : List ℕ) (ranking : Ranking) → IsWellFormed shape → TripleDisjoint (alphabets_of shape.parts) → AllKeepPlaces shape → NumbersRise shape number → AreTops shape number (length shape.parts) tops → AreAllRanked (λ _. IsRank shape number) (λ i. IsLap shape number (slice_index tops i)) shape.parts ranking.parts → ranking.scale ≡ pos (above_all number (length shape.links)) → AreCyclicRanks shape number ranking
+pub cyclic_ranks : (shape : Shape) (number : ℕ → ℕ) (tops : List ℕ) (ranking : Ranking) → IsWellFormed shape → TripleDisjoint (alphabets_of shape.parts) → AllKeepPlaces shape → NumbersRise shape number → AreTops shape number (length shape.parts) tops → AreAllRanked (λ _. IsRanked shape.vocabulary (IsRank shape number)) (λ i. IsLap shape number (slice_index tops i)) shape.parts ranking.parts → ranking.scale ≡ pos (above_all number (length shape.links)) → AreCyclicRanks shape number ranking
 cyclic_ranks shape number tops ranking w triple keep rise are all scale =
-    let rank = λ (_ : ℕ). IsRank shape number in
+    let rank = λ (_ : ℕ). IsRanked shape.vocabulary (IsRank shape number) in
     let lap = λ (i : ℕ). IsLap shape number (slice_index tops i) in
     record {
       fits = fits shape ranking rank lap all (λ i e n is. is.at_most);
       scale = scale;
-      ranks = λ i n k l v h end m. (rank_is shape ranking rank lap all i n k v.part v.node v.listed).on_link l (on_one shape i n k w triple keep v.part v.node) v.shared h m;
+      ranks = λ i n k l v h end m. (rank_is shape ranking rank lap all i n k v.part v.node v.listed).vertex v.shared v.some l (on_one shape i n k w triple keep v.part v.node) h m;
       others = others_zero shape ranking rank lap all (λ i M r is. is.other);
       laps = λ i n e l h possible on.
           let run = w.reached i n h (possible_node (part_at shape.parts i).table n e possible) in

@@ -1,5 +1,5 @@
 -- What the proofs of this crate cite of the crates below, and of its own definitions.
-pub use Rattle.csp_base.proofs.Listed.{any_member, any_of, find_has, has_at, none_found}
+pub use Rattle.csp_base.proofs.Listed.{any_of, find_has, has_at, none_found}
 pub use Rattle.csp_base.proofs.Results.{if_both, was_made}
 pub use Rattle.csp_base.proofs.Rising.{is_subset_of_from_members, meets_of_from_member, member_of_superset}
 pub use Rattle.csp_base.proofs.SetLaws.{common_member}
@@ -11,7 +11,6 @@ pub use Rattle.design_rules.proofs.Counts.{count_mono}
 pub use Rattle.design_rules.proofs.Cyclic.{earlier_place, place_below}
 pub use Rattle.design_rules.proofs.Places.{reached_differ}
 pub use Rattle.design_rules.proofs.RankCheck.{lap_absent}
-pub use Rattle.design_rules.proofs.Resource.{below_top}
 pub use Rattle.design_rules.proofs.Runs.{end_within}
 pub use Rattle.design_rules.proofs.Shapes.{link_shared}
 pub use Rattle.design_rules.specs.Prelude.{AllKeepPlaces, AreCyclicRanks, AreResourceRanks, IsClientServerRanking, KeepUses, NumbersRise, OthersRankZero, ReachesLink, Serves, above_all, acquires, count_below, ends_lap, is_held, lap_at, links_of, place_of, rank_there, top_number}
@@ -21,8 +20,7 @@ pub use Rattle.net_sound.proofs.Within.{part_form}
 pub use Rattle.rule_rankings.specs.ClientServerRanks.{IsRank, serving_rank}
 pub use Rattle.rule_rankings.specs.CyclicRanks.{AreTops, IsGreatest, IsLap}
 pub use Rattle.rule_rankings.specs.ResourceRanks.{HaveTop, IsLeastAcquired, number_by}
-pub use Rattle.rule_rankings.specs.Rows.{AreAllRanked, AreEach, AreLaps, AreRanked, AreRanks, HasLap, NoLap}
-pub use Rattle.shape_links.proofs.Acquiring.{acquire_only}
+pub use Rattle.rule_rankings.specs.Rows.{AreAllRanked, AreEach, AreLaps, AreRanked, AreRanks, HasLap, IsRanked, NoLap}
 pub use Rattle.shape_links.proofs.Links.{ends_complete, ends_sound, has_place, on_one, one_owner, place_in, some_at, vocabulary_owner}
 pub use Rattle.shape_links.specs.Acquired.{is_acquired_by}
 pub use Rattle.shape_links.specs.Links.{ends_of}

@@ -1,5 +1,5 @@
 -- The ranks of a network of users and resources.
-use Rattle.rule_rankings.proofs.Prelude.{◌≡◌, ℕ, suc, ◌+◌, ◌-◌, ◌*◌, ◌<◌, ◌≤◌, ◌⊎◌, inl, inr, ℤ, pos, List, [], ◌∷◌, length, get_or, Bool, true, false, ◌||◌, cond, max, nat_eq, refl, sym, ap, subst, ◌∙◌, arith, eq-eqb, cases_lt, cond-true, cond-false, and_parts, and_from, or_cases, or_left, or_right, both_ways, false≢true, get_or_past, MOST_COMPONENTS, has, end_of, part_at, IsNonEmpty, AreApart, IsWithin, IsWellFormed, IsPossible, Accepts, accepted, UseSets, use_at, Ranking, is_held, acquires, KeepUses, top_number, AreResourceRanks, rank_there, number_by, IsLeastAcquired, HaveTop, AreAllRanked, NoLap, any_of, any_member, list_any, part_form, end_within, Setting, is_acquired_by, acquire_only, below_top}
+use Rattle.rule_rankings.proofs.Prelude.{◌≡◌, ℕ, suc, ◌+◌, ◌-◌, ◌*◌, ◌<◌, ◌≤◌, ◌⊎◌, inl, inr, ℤ, pos, List, [], ◌∷◌, length, get_or, Bool, true, false, ◌||◌, cond, max, nat_eq, refl, sym, ap, subst, ◌∙◌, arith, eq-eqb, cases_lt, cond-true, cond-false, and_parts, and_from, or_cases, or_left, or_right, both_ways, false≢true, get_or_past, MOST_COMPONENTS, has, end_of, part_at, AreApart, IsWithin, IsWellFormed, IsPossible, Accepts, accepted, UseSets, use_at, Ranking, is_held, acquires, KeepUses, top_number, AreResourceRanks, rank_there, number_by, IsLeastAcquired, HaveTop, AreAllRanked, IsRanked, NoLap, any_of, list_any, part_form, end_within, Setting, is_acquired_by}
 use Rattle.rule_rankings.proofs.RowsBelow.{fits, rank_is, others_zero, lap_none}
 use Rattle.rule_rankings.specs.ResourceRanks.{IsRank}
 
@@ -74,12 +74,11 @@ least_end g number top set least s = record {
 }
 
 -- the rank of a user
-pub user_is : (g : Setting) (number : ℕ → ℕ) (top i least : ℕ) (M : List ℕ) (rank : ℤ) → (use_at g.uses i).resource ≡ false → IsLeastAcquired g number top M least → IsNonEmpty M → IsWithin M g.shape.vocabulary → ((j : ℕ) → j < length g.shape.parts → (use_at g.uses j).resource ≡ true → number j ≤ top) → (least ≤ top → rank ≡ pos (2 * (top - least) + 2)) → (top < least → rank ≡ pos 0) → IsRank g number top i M rank
-user_is g number top i least M rank user l some within high here none = record {
-  other = λ never. absurd (never within some);
+pub user_is : (g : Setting) (number : ℕ → ℕ) (top i least : ℕ) (M : List ℕ) (rank : ℤ) → (use_at g.uses i).resource ≡ false → IsLeastAcquired g number top M least → ((j : ℕ) → j < length g.shape.parts → (use_at g.uses j).resource ≡ true → number j ≤ top) → (least ≤ top → rank ≡ pos (2 * (top - least) + 2)) → (top < least → rank ≡ pos 0) → IsRank g number top i M rank
+user_is g number top i least M rank user l high here none = record {
   free = λ resource. absurd (both_ways (use_at g.uses i).resource user resource);
   held = λ resource. absurd (both_ways (use_at g.uses i).resource user resource);
-  acquiring = λ j _ _ below a lowest.
+  acquiring = λ j _ below a lowest.
       let mine : least ≤ number j = l.below j a in
       let p = and_parts (use_at g.uses j).resource (list_any (λ x. has (use_at g.uses j).acquire x) M) a in
       let top_above : number j ≤ top = high j below p.0 in
@@ -94,52 +93,31 @@ user_is g number top i least M rank user l some within high here none = record {
   ];
 }
 
--- the rank of an acceptance that is not in the vocabulary, and of one without events
-pub rank_outside : (g : Setting) (number : ℕ → ℕ) (top i : ℕ) (M : List ℕ) → (IsWithin M g.shape.vocabulary → ⊥) → IsRank g number top i M (pos 0)
-rank_outside g number top i M outside = record {
-  other = λ _. refl;
-  free = λ _ within. absurd (outside within);
-  held = λ _ within. absurd (outside within);
-  acquiring = λ _ _ within. absurd (outside within);
-  not_acquiring = λ _ _. refl;
-}
-
-pub rank_empty : (g : Setting) (number : ℕ → ℕ) (top i : ℕ) (M : List ℕ) → ((e : ℕ) → has M e ≡ true → ⊥) → IsRank g number top i M (pos 0)
-rank_empty g number top i M none = record {
-  other = λ _. refl;
-  free = λ _ _ some. absurd (none some.0 some.1);
-  held = λ _ _ some. absurd (none some.0 some.1);
-  acquiring = λ j _ _ _ a.
-      let p = and_parts (use_at g.uses j).resource (list_any (λ x. has (use_at g.uses j).acquire x) M) a in
-      let e = any_member (λ x. has (use_at g.uses j).acquire x) M p.1 in
-      absurd (none e.0 e.1);
-  not_acquiring = λ _ _. refl;
-}
-
 -- the rank of a resource, by one of the events
-pub free_is : (g : Setting) (number : ℕ → ℕ) (top i e : ℕ) (M : List ℕ) (rank : ℤ) → (use_at g.uses i).resource ≡ true → IsWithin M g.shape.vocabulary → has M e ≡ true → has (use_at g.uses i).acquire e ≡ true → rank ≡ pos (2 * top + 2) → IsRank g number top i M rank
-free_is g number top i e M rank resource within member a is = record {
-  other = λ never. absurd (never within (e, member));
-  free = λ _ _ _ _. is;
-  held = λ _ _ _ apart. absurd (apart e member a);
+pub free_is : (g : Setting) (number : ℕ → ℕ) (top i e : ℕ) (M : List ℕ) (rank : ℤ) → (use_at g.uses i).resource ≡ true → has M e ≡ true → has (use_at g.uses i).acquire e ≡ true → rank ≡ pos (2 * top + 2) → IsRank g number top i M rank
+free_is g number top i e M rank resource member a is = record {
+  free = λ _ _. is;
+  held = λ _ apart. absurd (apart e member a);
   acquiring = λ _ user. absurd (both_ways (use_at g.uses i).resource user resource);
   not_acquiring = λ user. absurd (both_ways (use_at g.uses i).resource user resource);
 }
 
-pub held_is : (g : Setting) (number : ℕ → ℕ) (top i e : ℕ) (M : List ℕ) (rank : ℤ) → (use_at g.uses i).resource ≡ true → IsWithin M g.shape.vocabulary → has M e ≡ true → has (use_at g.uses i).acquire e ≡ false → rank ≡ pos (2 * (top - number i) + 1) → IsRank g number top i M rank
-held_is g number top i e M rank resource within member a is = record {
-  other = λ never. absurd (never within (e, member));
-  free = λ _ _ _ all. absurd (both_ways (has (use_at g.uses i).acquire e) a (all e member));
-  held = λ _ _ _ _. is;
+pub held_is : (g : Setting) (number : ℕ → ℕ) (top i e : ℕ) (M : List ℕ) (rank : ℤ) → (use_at g.uses i).resource ≡ true → has M e ≡ true → has (use_at g.uses i).acquire e ≡ false → rank ≡ pos (2 * (top - number i) + 1) → IsRank g number top i M rank
+held_is g number top i e M rank resource member a is = record {
+  free = λ _ all. absurd (both_ways (has (use_at g.uses i).acquire e) a (all e member));
+  held = λ _ _. is;
   acquiring = λ _ user. absurd (both_ways (use_at g.uses i).resource user resource);
   not_acquiring = λ user. absurd (both_ways (use_at g.uses i).resource user resource);
 }
 
 -- ---- the ranking
 
-module _ (g : Setting) (number : ℕ → ℕ) (top : ℕ) (ranking : Ranking) (w : IsWellFormed g.shape) (keep : KeepUses g.shape g.uses) (all : AreAllRanked (IsRank g number top) NoLap g.shape.parts ranking.parts) where
-  rank_here : (i k : ℕ) (s : List ℕ) → Accepts g.shape i s k → IsRank g number top i (accepted g.shape i s k) (rank_there g.shape ranking i s k)
-  rank_here i k s accepts = rank_is g.shape ranking (IsRank g number top) NoLap all i (end_of (part_at g.shape.parts i).table 0 s) k accepts.runs.part (end_within (part_at g.shape.parts i) s (part_form g.shape.parts i accepts.runs.part w.form) accepts.runs.follows) accepts.listed
+module _ (g : Setting) (number : ℕ → ℕ) (top : ℕ) (ranking : Ranking) (w : IsWellFormed g.shape) (keep : KeepUses g.shape g.uses) (all : AreAllRanked (λ i. IsRanked g.shape.vocabulary (IsRank g number top i)) NoLap g.shape.parts ranking.parts) where
+  abbrev ranks : ℕ → List ℕ → ℤ → Type 0
+  ranks i = IsRanked g.shape.vocabulary (IsRank g number top i)
+
+  rank_here : (i k : ℕ) (s : List ℕ) → Accepts g.shape i s k → ranks i (accepted g.shape i s k) (rank_there g.shape ranking i s k)
+  rank_here i k s accepts = rank_is g.shape ranking ranks NoLap all i (end_of (part_at g.shape.parts i).table 0 s) k accepts.runs.part (end_within (part_at g.shape.parts i) s (part_form g.shape.parts i accepts.runs.part w.form) accepts.runs.follows) accepts.listed
 
   possible_of : (i k e : ℕ) (s : List ℕ) → Accepts g.shape i s k → has (accepted g.shape i s k) e ≡ true → IsPossible g.shape i s e
   possible_of i k e s accepts x = record { runs = accepts.runs; next = w.possible i (end_of (part_at g.shape.parts i).table 0 s) k e accepts.runs.part x }
@@ -158,12 +136,12 @@ module _ (g : Setting) (number : ℕ → ℕ) (top : ℕ) (ranking : Ranking) (w
   pub resource_ranks : top ≡ top_number g.uses number (length g.shape.parts) → ranking.scale ≡ pos 0 → AreResourceRanks g.shape g.uses number top ranking
   resource_ranks is scale = record {
     greatest = is;
-    fits = fits g.shape ranking (IsRank g number top) NoLap all (λ i e n none. omega arith);
+    fits = fits g.shape ranking ranks NoLap all (λ i e n none. omega arith);
     scale = scale;
-    free = λ i s k resource a free. (rank_here i k s a.accepts).free resource a.accepts.shared a.some (free_acquires i k s resource a.accepts free);
-    held = λ i s k resource a held. (rank_here i k s a.accepts).held resource a.accepts.shared a.some (held_releases i k s resource a.accepts held);
-    acquiring = λ i s k j user a below acquired least. (rank_here i k s a.accepts).acquiring j user a.accepts.shared below acquired least;
-    not_acquiring = λ i s k user a nothing. (rank_here i k s a.accepts).not_acquiring user nothing;
-    others = others_zero g.shape ranking (IsRank g number top) NoLap all (λ i M r is. is.other);
-    laps = λ i n e h. lap_none g.shape ranking (IsRank g number top) NoLap all i n e h (λ m none. none);
+    free = λ i s k resource a free. ((rank_here i k s a.accepts).vertex a.accepts.shared a.some).free resource (free_acquires i k s resource a.accepts free);
+    held = λ i s k resource a held. ((rank_here i k s a.accepts).vertex a.accepts.shared a.some).held resource (held_releases i k s resource a.accepts held);
+    acquiring = λ i s k j user a below acquired least. ((rank_here i k s a.accepts).vertex a.accepts.shared a.some).acquiring j user below acquired least;
+    not_acquiring = λ i s k user a nothing. ((rank_here i k s a.accepts).vertex a.accepts.shared a.some).not_acquiring user nothing;
+    others = others_zero g.shape ranking ranks NoLap all (λ i M r is. is.other);
+    laps = λ i n e h. lap_none g.shape ranking ranks NoLap all i n e h (λ m none. none);
   }

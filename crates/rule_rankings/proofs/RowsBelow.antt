@@ -1,5 +1,5 @@
 -- Lists with one member for each of another, and rankings that fit their shape.
-use Rattle.rule_rankings.proofs.Prelude.{◌≡◌, ℕ, suc, ◌+◌, ◌<◌, ◌≤◌, inl, inr, ℤ, pos, List, [], ◌∷◌, ◌++◌, length, get_or, true, nat_eq, ap, sym, subst, ◌∙◌, arith, cases_Bool, cases_lt, cond-true, cond-false, or_cases, both_ways, eqb-true, false≢true, length-append, get_or_append_left, get_or_past, get_or_read, Node, node_at, no_node, is_possible, part_at, IsNonEmpty, IsWithin, Shape, acceptance_at, Ranking, PartRanks, AsMany, AtMostOne, RanksFit, LapsFit, PartsFit, rank_at, lap_of, OthersRankZero, lap_at, AreEach, AreRanks, AreLaps, AreAllRanked, HasLap, get_or-append_seam, lap_absent}
+use Rattle.rule_rankings.proofs.Prelude.{[], ◌++◌, ◌+◌, ◌<◌, ◌∙◌, ◌∷◌, ◌≡◌, ◌≤◌, AreAllRanked, AreEach, AreLaps, AreRanks, AsMany, AtMostOne, HasLap, IsNonEmpty, IsRanked, IsWithin, LapsFit, List, Node, OthersRankZero, PartRanks, PartsFit, Ranking, RanksFit, Shape, acceptance_at, ap, arith, both_ways, cases_Bool, cases_lt, cond-false, cond-true, eqb-true, false, false≢true, get_or, get_or_append_left, get_or_past, get_or_read, inl, inr, is_possible, is_subset_of, is_subset_of_from_members, lap_at, lap_of, length, length-append, member_of_superset, nat_eq, no_node, node_at, or_cases, part_at, pos, rank_at, refl, subst, suc, sym, true, ℕ, ℤ, get_or-append_seam, lap_absent}
 
 -- ---- lists that grow
 
@@ -19,6 +19,18 @@ below_more a b P n xs ys more x y e h at new is = record {
         subst (λ j. P j (get_or xs j a) (get_or more j b)) same (subst (λ z. P n z (get_or more n b)) (get_or_read xs n x h at a) (subst (P n x) (sym last) new))
   ];
 }
+
+-- ---- the rank of one acceptance
+
+module _ (vocabulary : List ℕ) (rank : List ℕ → ℤ → Type 0) (M : List ℕ) where
+  pub no_vertex : (IsWithin M vocabulary → IsNonEmpty M → ⊥) → IsRanked vocabulary rank M (pos 0)
+  no_vertex none = record { vertex = λ within some. absurd (none within some); other = λ _. refl }
+
+  pub outside : is_subset_of M vocabulary ≡ false → IsRanked vocabulary rank M (pos 0)
+  outside out = no_vertex (λ within _. both_ways (is_subset_of M vocabulary) out (is_subset_of_from_members M vocabulary within))
+
+  pub at_vertex : (r : ℤ) → is_subset_of M vocabulary ≡ true → IsNonEmpty M → rank M r → IsRanked vocabulary rank M r
+  at_vertex r inside some is = record { vertex = λ _ _. is; other = λ none. absurd (none (member_of_superset M vocabulary inside) some) }
 
 -- ---- lists that fit one another
 

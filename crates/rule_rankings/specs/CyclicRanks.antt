@@ -1,13 +1,12 @@
 -- The ranks and laps of a part. (No rule's decider cites this.)
 use Rattle.std.specs.Prelude.{◌≡◌, ◌<◌, ◌≤◌, ℕ, ℤ, pos, List, IsTrue, length, nat_eq, slice_index, if◌then◌else◌}
 use Rattle.csp_base.specs.Members.{has}
-use Rattle.csp_tables.specs.Prelude.{IsNonEmpty, Meet, IsWithin, Shape, link_at}
+use Rattle.csp_tables.specs.Prelude.{Meet, Shape, link_at}
 use Rattle.shape_links.specs.Links.{IsOwner, IsOnOne, ends_of}
 
--- the rank of an acceptance: the number of the link on which it lies, and 0 where it is empty or not in the vocabulary
-pub record IsRank (shape : Shape) (number : ℕ → ℕ) (M : List ℕ) (rank : ℤ) : Type 0 where
-  pub on_link : (l : ℕ) → IsOnOne shape M → IsWithin M shape.vocabulary → l < length shape.links → Meet M (link_at shape l).shared → rank ≡ pos (number l)
-  pub other : (IsWithin M shape.vocabulary → IsNonEmpty M → ⊥) → rank ≡ pos 0
+-- the rank of an acceptance: the number of the link on which it lies
+abbrev pub IsRank : Shape → (ℕ → ℕ) → List ℕ → ℤ → Type 0
+IsRank shape number M rank = (l : ℕ) → IsOnOne shape M → l < length shape.links → Meet M (link_at shape l).shared → rank ≡ pos (number l)
 
 -- the greatest number of a link of the list, 0 if there is none
 pub record IsGreatest (number : ℕ → ℕ) (links : List ℕ) (top : ℕ) : Type 0 where

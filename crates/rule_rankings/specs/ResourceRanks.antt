@@ -1,7 +1,7 @@
 -- The ranks and laps of a part. (No rule's decider cites this.)
 use Rattle.std.specs.Prelude.{◌≡◌, ◌<◌, ◌≤◌, ◌⊎◌, ◌+◌, ◌-◌, ◌*◌, ℕ, ℤ, pos, List, false, IsTrue, length, slice_index}
 use Rattle.dl_limits.specs.declared.TheConstants.{MOST_COMPONENTS}
-use Rattle.csp_tables.specs.Prelude.{IsNonEmpty, AreApart, IsWithin, use_at}
+use Rattle.csp_tables.specs.Prelude.{AreApart, IsWithin, use_at}
 use Rattle.design_rules.specs.Prelude.{acquires, top_number}
 use Rattle.shape_links.specs.Setting.{Setting, IsResourcePart, IsUser, KeepKinds}
 
@@ -14,13 +14,12 @@ pub record IsLeastAcquired (g : Setting) (number : ℕ → ℕ) (top : ℕ) (M :
   pub below : (j : ℕ) → IsTrue (acquires g.uses M j) → least ≤ number j
   pub attained : (least ≡ top + 1) ⊎ ((j : ℕ) × (j < length g.shape.parts) × IsTrue (acquires g.uses M j) × (number j ≡ least))
 
--- The rank of an acceptance of the part i: 0 unless it lies in the vocabulary and is not empty. Of a resource it is told by
--- whether its events acquire it; of a user by the least number of what they acquire.
+-- The rank of an acceptance of the part i: of a resource it is told by whether its events acquire it; of a user by the least
+-- number of what they acquire.
 pub record IsRank (g : Setting) (number : ℕ → ℕ) (top i : ℕ) (M : List ℕ) (rank : ℤ) : Type 0 where
-  pub other : (IsWithin M g.shape.vocabulary → IsNonEmpty M → ⊥) → rank ≡ pos 0
-  pub free : IsResourcePart g i → IsWithin M g.shape.vocabulary → IsNonEmpty M → IsWithin M (use_at g.uses i).acquire → rank ≡ pos (2 * top + 2)
-  pub held : IsResourcePart g i → IsWithin M g.shape.vocabulary → IsNonEmpty M → AreApart M (use_at g.uses i).acquire → rank ≡ pos (2 * (top - number i) + 1)
-  pub acquiring : (j : ℕ) → IsUser g i → IsWithin M g.shape.vocabulary → j < length g.shape.parts → IsTrue (acquires g.uses M j) → ((m : ℕ) → m < length g.shape.parts → IsTrue (acquires g.uses M m) → number j ≤ number m) → rank ≡ pos (2 * (top - number j) + 2)
+  pub free : IsResourcePart g i → IsWithin M (use_at g.uses i).acquire → rank ≡ pos (2 * top + 2)
+  pub held : IsResourcePart g i → AreApart M (use_at g.uses i).acquire → rank ≡ pos (2 * (top - number i) + 1)
+  pub acquiring : (j : ℕ) → IsUser g i → j < length g.shape.parts → IsTrue (acquires g.uses M j) → ((m : ℕ) → m < length g.shape.parts → IsTrue (acquires g.uses M m) → number j ≤ number m) → rank ≡ pos (2 * (top - number j) + 2)
   pub not_acquiring : IsUser g i → ((m : ℕ) → m < length g.shape.parts → acquires g.uses M m ≡ false) → rank ≡ pos 0
 
 -- The heights are those of the parts, and the top is the greatest number of a resource.

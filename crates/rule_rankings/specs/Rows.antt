@@ -1,11 +1,16 @@
 -- Ranks and laps of all parts, whatever ranks an acceptance and tells the lap of an event. (No rule's decider cites this.)
 use Rattle.std.specs.Prelude.{◌≡◌, ◌<◌, ℕ, ℤ, pos, List, [], length, get_or}
-use Rattle.csp_tables.specs.Prelude.{Part, PartRanks, Node, no_node}
+use Rattle.csp_tables.specs.Prelude.{IsNonEmpty, IsWithin, Part, PartRanks, Node, no_node}
 
 -- the two lists are as long, and P holds of each place and what stands there in them
 pub record AreEach {A B : Type 0} (a : A) (b : B) (P : ℕ → A → B → Type 0) (xs : List A) (ys : List B) : Type 0 where
   pub as_many : length xs ≡ length ys
   pub each : (k : ℕ) → k < length xs → P k (get_or xs k a) (get_or ys k b)
+
+-- the rank of an acceptance: 0 where it is empty or does not lie in the vocabulary
+pub record IsRanked (vocabulary : List ℕ) (rank : List ℕ → ℤ → Type 0) (M : List ℕ) (r : ℤ) : Type 0 where
+  pub vertex : IsWithin M vocabulary → IsNonEmpty M → rank M r
+  pub other : (IsWithin M vocabulary → IsNonEmpty M → ⊥) → r ≡ pos 0
 
 -- the ranks of the acceptances of each node
 abbrev pub AreRanks : (List ℕ → ℤ → Type 0) → List Node → List (List ℤ) → Type 0

@@ -6,7 +6,7 @@ ghost use Rattle.design_rules.specs.Prelude.{Serves, IsClientServerRanking};
 ghost use Rattle.digraph.specs.Prelude.{AreHeights};
 ghost use Rattle.dl_limits.specs.declared.TheConstants.{MOST_COMPONENTS};
 ghost use Rattle.rule_rankings.specs.ClientServerRanks.{CanRank, IsRank, serving_rank};
-ghost use Rattle.rule_rankings.specs.Rows.{NoLap};
+ghost use Rattle.rule_rankings.specs.Rows.{IsRanked, NoLap};
 
 use crate::rows::{Ranks, rank_parts};
 use csp_base::{Event, EventSet, NoMemory};
@@ -48,7 +48,7 @@ pub fn client_server_ranking(
 impl<'a> Ranks for Roles<'a> {
     ghost can_rank = { λ r. CanRank r.shape.now r.roles.now r.heights.now };
 
-    ghost is_rank = { λ r. IsRank r.shape.now r.roles.now r.heights.now };
+    ghost is_rank = { λ r i. IsRanked r.shape.now.vocabulary (IsRank r.shape.now r.roles.now r.heights.now i) };
 
     ghost is_lap = { λ _. NoLap };
 

@@ -5,6 +5,7 @@ ghost use Rattle.csp_base.specs.Members.{has};
 ghost use Rattle.design_rules.specs.Prelude.{above_all, AllKeepPlaces, NumbersRise, AreCyclicRanks};
 ghost use Rattle.shape_links.specs.Links.{ends_of};
 ghost use Rattle.rule_rankings.specs.CyclicRanks.{AreTops, IsGreatest, IsLap, IsRank};
+ghost use Rattle.rule_rankings.specs.Rows.{IsRanked};
 
 use crate::rows::{Ranks, larger, rank_parts};
 use csp_base::{Event, EventSet, NoMemory};
@@ -106,7 +107,7 @@ fn with_sign(number: u64) -> i64
 impl<'a> Ranks for Numbers<'a> {
     ghost can_rank = { λ n i. (length n.numbers.now ≡ length n.sorted.now.links) × (i < length n.tops.now) };
 
-    ghost is_rank = { λ n _. IsRank n.sorted.now (slice_index n.numbers.now) };
+    ghost is_rank = { λ n _. IsRanked n.sorted.now.vocabulary (IsRank n.sorted.now (slice_index n.numbers.now)) };
 
     ghost is_lap = { λ n i. IsLap n.sorted.now (slice_index n.numbers.now) (slice_index n.tops.now i) };
 

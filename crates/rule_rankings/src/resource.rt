@@ -6,7 +6,7 @@ ghost use Rattle.csp_tables.specs.Prelude.{use_at};
 ghost use Rattle.design_rules.specs.Prelude.{KeepUses, AreResourceRanks, top_number};
 ghost use Rattle.shape_links.specs.Acquired.{is_acquired_by};
 ghost use Rattle.rule_rankings.specs.ResourceRanks.{CanRank, HaveTop, IsLeastAcquired, IsRank, number_by};
-ghost use Rattle.rule_rankings.specs.Rows.{NoLap};
+ghost use Rattle.rule_rankings.specs.Rows.{IsRanked, NoLap};
 ghost use Rattle.shape_links.specs.Setting.{KeepKinds};
 
 use crate::rows::{Ranks, larger, rank_parts};
@@ -84,7 +84,8 @@ fn number(heights: &Heights, part: u32) -> u32
 impl<'a> Ranks for Numbers<'a> {
     ghost can_rank = { λ n. CanRank n.setting.now n.heights.now n.top };
 
-    ghost is_rank = { λ n. IsRank n.setting.now (number_by n.heights.now) n.top };
+    ghost is_rank = { λ n i. IsRanked n.setting.now.shape.vocabulary
+        (IsRank n.setting.now (number_by n.heights.now) n.top i) };
 
     ghost is_lap = { λ _. NoLap };
 

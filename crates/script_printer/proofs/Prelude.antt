@@ -1,6 +1,5 @@
 -- What the proofs of this crate cite of the crates below, and of its own definitions.
 pub use Rattle.csp_base.proofs.Standard.{append-nil, drop-cons, drop_of_length-le, false≢true, nil_from_length}
-pub use Rattle.csp_text.proofs.tree.Tree.TheLaws.{the_size}
 pub use Rattle.csp_text.specs.declared.tree.EventTree.{EventTree}
 pub use Rattle.csp_text.specs.declared.tree.FieldTree.{FieldTree}
 pub use Rattle.csp_text.specs.declared.tree.FieldTree.TheOpen.{FieldTree-F, GenTree-F, Tree-F}

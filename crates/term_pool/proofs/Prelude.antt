@@ -5,7 +5,6 @@ pub use Rattle.csp_base.proofs.Results.{was_made}
 pub use Rattle.csp_base.proofs.Standard.{and_from, append-nil, common_steps, eqb-true, false≢true, get_or-append_seam, get_or_append_left, get_or_default, get_or_from_slice_get, length-append, length-map, length_push, lt-ltb, ltb-true, map-append, map_more, or_right, same_from_push, slice_get-get_or, slice_get-map, slice_get_within, take-append-drop, take-map, take_all, take_more}
 pub use Rattle.csp_base.specs.Lists.{EachOnce, greatest, total}
 pub use Rattle.csp_base.specs.Standard.{AllocError, HashMap, IsEmpty, Updates, get, lookup}
-pub use Rattle.csp_program.proofs.processes.Proc.TheLaws.{the_size}
 pub use Rattle.csp_program.specs.Prelude.{Env, Given, Names, any_of, before, expr_free, gen_binding, given_by, head_free, nowhere, pair_free, pair_with, past, proc_depth, proc_depth_of_layer, proc_free, proc_free_of_layer, proc_size, proc_size_of_layer, proc_with, under}
 pub use Rattle.csp_program.specs.declared.expressions.EventPart.{EventPart}
 pub use Rattle.csp_program.specs.declared.expressions.Gen.{Gen}

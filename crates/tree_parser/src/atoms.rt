@@ -63,7 +63,7 @@ fn range<'t>(
     tokens: &'t [Token],
 ) -> TreeReading<'t>
     ensures reads { Reads result part_read (8 * length tokens.now + 2)
-        (λ L. read_range L limits lower.binding lower.part tokens.now) }
+        (λ L. read_range L limits lower.entry.binding lower.entry.part tokens.now) }
     ensures shorter { IfOk result (λ r. length r.rest.now < length tokens.now) }
 {
     lower.binding.expect(Binding::Sum, tokens)?;

@@ -92,9 +92,9 @@ fn renaming(alloc: Global, limits: Limits, left: DeepTree, tokens: &[Token]) -> 
 // A tree with the sign behind it and what that takes to its right.
 #[cycle(reading)]
 fn with<'t>(alloc: Global, limits: Limits, left: DeepTree, sign: Read<'t, Sign>) -> BoundTree<'t>
-    ensures reads { Reads result bound_read (8 * length sign.rest.now + 2)
-        (λ L. read_with L limits left sign.part sign.rest.now) }
-    ensures shorter { IfOk result (λ r. length r.rest.now < length sign.rest.now) }
+    ensures reads { Reads result bound_read (8 * length sign.entry.rest.now + 2)
+        (λ L. read_with L limits left sign.entry.part sign.entry.rest.now) }
+    ensures shorter { IfOk result (λ r. length r.rest.now < length sign.entry.rest.now) }
 {
     let tokens = sign.rest;
     let inner = limits.inside_with(&left, tokens)?;
@@ -121,9 +121,9 @@ fn operators<'t>(
     level: Binding,
     left: BoundRead<'t, DeepTree>,
 ) -> BoundTree<'t>
-    ensures reads { Reads result bound_read (8 * length left.rest.now + 1)
-        (λ L. L.operators limits level left.binding left.part left.rest.now) }
-    ensures shorter { IfOk result (λ r. length r.rest.now ≤ length left.rest.now) }
+    ensures reads { Reads result bound_read (8 * length left.entry.rest.now + 1)
+        (λ L. L.operators limits level left.entry.binding left.entry.part left.entry.rest.now) }
+    ensures shorter { IfOk result (λ r. length r.rest.now ≤ length left.entry.rest.now) }
 {
     let Some(sign) = sign_behind(level, left.binding, left.rest) else {
         return Ok(left);

@@ -248,15 +248,16 @@ fn choices<'t>(
     left: DeepTree,
     sign: Read<'t, Chain>,
 ) -> BoundReading<'t, Trees>
-    ensures reads { Reads result bound_read (8 * length sign.rest.now + 5)
-        (λ L. read_operands L limits sign.part left sign.rest.now) }
-    ensures shorter { IfOk result (λ r. length r.rest.now < length sign.rest.now) }
+    ensures reads { Reads result bound_read (8 * length sign.entry.rest.now + 5)
+        (λ L. read_operands L limits sign.entry.part left sign.entry.rest.now) }
+    ensures shorter { IfOk result (λ r. length r.rest.now < length sign.entry.rest.now) }
 {
     let mut operands = Deep::none(alloc);
     operands.push(left.unbox())?;
+    let chain = sign.part;
     let mut rest = sign.rest;
     loop {
-        let read = match operand(alloc, limits, sign.part, rest) {
+        let read = match operand(alloc, limits, chain, rest) {
             Ok(read) => read,
             Err(fault) => return Err(fault),
         };
@@ -281,9 +282,9 @@ fn chain<'t>(
     left: BoundRead<'t, DeepTree>,
     sign: Read<'t, Chain>,
 ) -> BoundTree<'t>
-    ensures reads { Reads result bound_read (8 * length sign.rest.now + 5)
-        (λ L. read_chain L limits left.binding left.part sign.part sign.rest.now) }
-    ensures shorter { IfOk result (λ r. length r.rest.now < length sign.rest.now) }
+    ensures reads { Reads result bound_read (8 * length sign.entry.rest.now + 5)
+        (λ L. read_chain L limits left.entry.binding left.entry.part sign.entry.part sign.entry.rest.now) }
+    ensures shorter { IfOk result (λ r. length r.rest.now < length sign.entry.rest.now) }
 {
     left.binding.expect(Binding::Closed, sign.rest)?;
     let inner = limits.inside_with(&left.part, sign.rest)?;

@@ -63,12 +63,7 @@ joined {k = k} (look.left table.minus-sign) h e q = loosen sum (g.expression-lef
 joined {k = k} (look.left table.star) h e q = loosen product (g.expression-left-operator table.product-minus table.star (e product (is_le 16 k h)) (q.is minus q.above))
 joined {k = k} (look.left table.slash) h e q = loosen product (g.expression-left-operator table.product-minus table.slash (e product (is_le 16 k h)) (q.is minus q.above))
 joined {k = k} (look.left table.percent) h e q = loosen product (g.expression-left-operator table.product-minus table.percent (e product (is_le 16 k h)) (q.is minus q.above))
-joined {k = k} (look.compared table.equal) h e q = loosen comparison (g.expression-compare table.equal (e sum (is_le 15 k h)) (q.is sum q.above))
-joined {k = k} (look.compared table.not-equal) h e q = loosen comparison (g.expression-compare table.not-equal (e sum (is_le 15 k h)) (q.is sum q.above))
-joined {k = k} (look.compared table.less) h e q = loosen comparison (g.expression-compare table.less (e sum (is_le 15 k h)) (q.is sum q.above))
-joined {k = k} (look.compared table.less-equal) h e q = loosen comparison (g.expression-compare table.less-equal (e sum (is_le 15 k h)) (q.is sum q.above))
-joined {k = k} (look.compared table.greater) h e q = loosen comparison (g.expression-compare table.greater (e sum (is_le 15 k h)) (q.is sum q.above))
-joined {k = k} (look.compared table.greater-equal) h e q = loosen comparison (g.expression-compare table.greater-equal (e sum (is_le 15 k h)) (q.is sum q.above))
+joined {k = k} (look.compared c) h e q = loosen comparison (g.expression-compare c (e sum (is_le 15 k h)) (q.is sum q.above))
 
 low : {t : Token} {op : BinOp} {m : Binding} → IsOperator t op m → number (tighter m) ≤ 18
 low (look.left table.or) = omega arith

@@ -3,7 +3,7 @@
 ghost use Rattle.std.specs.Prelude.{◌≡◌};
 ghost use Rattle.tree_reading.specs.Prelude.{at_least, last_item, left_operand, number, of_process, tighter, Gives, sure};
 
-use crate::deep::Deep;
+use crate::deep::{Deep, DeepTree};
 use crate::fault::{OrNoText, no_text};
 use containers::Items;
 use csp_text::{Token, Tree};
@@ -17,10 +17,10 @@ pub struct Read<'t, T> {
     pub rest: &'t [Token],
 }
 
-impl<'t, T> Read<'t, T> {
+impl<'t> Read<'t, DeepTree> {
     /// The same, bound like this.
-    pub fn bind(self, binding: Binding) -> BoundRead<'t, T>
-        ensures { result ≡ record { binding = binding; part = self.part; rest = self.rest } }
+    pub fn bind(self, binding: Binding) -> BoundRead<'t, DeepTree>
+        ensures { result ≡ record { binding = binding; part = self.entry.part; rest = self.entry.rest } }
     {
         BoundRead {
             binding,

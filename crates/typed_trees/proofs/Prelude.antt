@@ -7,7 +7,6 @@ pub use Rattle.csp_program.specs.declared.networks.Net.{Net}
 pub use Rattle.csp_program.specs.declared.expressions.Expr.TheViews.{roll-EventPart}
 pub use Rattle.csp_program.specs.declared.expressions.Gen.{Gen}
 pub use Rattle.csp_program.specs.declared.processes.Field.{Field}
-pub use Rattle.csp_text.proofs.tree.Tree.TheLaws.{the_size}
 pub use Rattle.csp_text.specs.declared.tree.Tree.{the_lemmas, Tree}
 pub use Rattle.csp_text.specs.declared.tree.EventTree.{EventTree}
 pub use Rattle.csp_text.specs.declared.tree.FieldTree.TheFolds.{fold-EventTree, fold-roll-EventTree, fold-roll-FieldTree, fold-roll-GenTree, fold-roll-PartTree, fold-roll-Tree, ind-FieldTree, ind-GenTree, ind-PartTree, ind-Tree, map-EventTree, map-FieldTree, map-GenTree, map-PartTree, map-Tree}
@@ -24,5 +23,6 @@ pub use Rattle.script_sizes.specs.BindingTokens.{all_tokens, event_tokens, field
 pub use Rattle.std.proofs.Common.{List, None, Option, Some, [], ap, arith, cond, drop, false, length, map, max, min, pos, refl, rules, subst, sym, take, true, ℕ, ◌*◌, ◌++◌, ◌+◌, ◌||◌, ◌∙◌, ◌∷◌, ◌≡◌, ◌≤◌}
 pub use Rattle.std.proofs.lemmas.List.{take_all}
 pub use Rattle.typed_trees.specs.Walked.{Walked, past, read_at}
-pub use Rattle.typed_trees.specs.Words.{after_field, after_fields, after_gen, bound, exprs_at, field_read, field_scope, fields_at, fields_scope, gen_read, gen_scope, gens_at, gens_scope, net_at, pairs_at, part_read, parts_at, procs_at, set_at, under_gens}
+pub use Rattle.typed_trees.specs.Words.{after_field, after_fields, after_gen, bound, exprs_at, field_read, fields_at, fields_scope, gen_read, gens_at, gens_scope, pairs_at, part_read, parts_at, procs_at, set_at, under_gens}
+unfoldable pub use Rattle.typed_trees.specs.Words.{field_scope, gen_scope, net_at}
 unfoldable pub use Rattle.typed_trees.specs.Words.{expr_at, field_at, gen_at, networked_at, part_at, proc_at}

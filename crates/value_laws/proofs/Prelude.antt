@@ -34,7 +34,8 @@ pub use Rattle.csp_program.specs.declared.programs.EventInfo.{EventInfo}
 pub use Rattle.dl_limits.specs.declared.TheConstants.{MOST_BINDINGS, MOST_ELEMENTS}
 pub use Rattle.std.proofs.Common.{Bool, Err, IsTrue, List, None, Ok, Option, Some, [], ap, arith, cond, drop, eq-eqb, eqb, false, inl, inr, length, map, nat_eq, not, refl, subst, suc, sym, take, true, zero, ℕ, ◌&&◌, ◌*◌, ◌++◌, ◌+◌, ◌-◌, ◌<◌, ◌^◌, ◌∙◌, ◌∷◌, ◌≡◌, ◌≤◌, ◌⊎◌}
 pub use Rattle.std.proofs.lemmas.Bool.{cases_eq, false≢true, leb-true}
-pub use Rattle.std.specs.List.{AllByRecursion, IsDistinct, list_any}
+pub use Rattle.std.specs.List.{AllByRecursion, list_any}
+unfoldable pub use Rattle.std.specs.List.{IsDistinct}
 pub use Rattle.std.specs.Option.{option_map}
 pub use Rattle.std.specs.Prelude.{int_le, int_lt, is_none, is_some, nat_le, nat_lt, neg_ℤ, negsuc, pos, slice_get, ℤ, ◌*ℤ◌, ◌+ℤ◌, ◌-ℤ◌, ◌<ℤ◌, ◌↔◌}
 pub use Rattle.value_laws.specs.Bindings.{ComprehensionsHoldTheirItems, ProductionsHoldWhatBegins, fronts_within, turns_within}

@@ -209,8 +209,8 @@ decreases-events::fields-loop-next l = length l.rest
 
 abbrev pub invariant-processes::choices-loop-read : goal.invariant-processes::choices-loop-read
 invariant-processes::choices-loop-read l =
-    ChoicesSoFar (8 * length l.fn.sign.rest + 5) (λ L. read_operands L l.limits l.sign.part l.fn.left l.fn.sign.rest) l.operands (8 * length l.rest + 5) (λ L. L.choices l.limits l.sign.part l.rest)
-    × (length l.rest ≤ length l.fn.sign.rest)
+    ChoicesSoFar (8 * length l.fn.sign.rest.now + 5) (λ L. read_operands L l.limits l.fn.sign.part l.fn.left l.fn.sign.rest.now) l.operands (8 * length l.rest + 5) (λ L. L.choices l.limits l.chain l.rest)
+    × (length l.rest ≤ length l.fn.sign.rest.now)
 
 abbrev pub decreases-processes::choices-loop-read : goal.decreases-processes::choices-loop-read
 decreases-processes::choices-loop-read l = length l.rest

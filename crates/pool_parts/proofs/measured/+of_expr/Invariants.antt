@@ -1,4 +1,5 @@
-use Rattle.pool_parts.proofs.Prelude.{◌≡◌, ℕ, ◌+◌, ◌*◌, ◌≤◌, max, min, map, drop, the_size, expr_depth, gen_depth, part_depth, any_of, expr_free, gen_binding, nowhere, part_free, under, expr_size, gen_size, part_size, capped, IsLow, greatest, total}
+use Rattle.pool_parts.proofs.Prelude.{◌≡◌, ℕ, ◌+◌, ◌*◌, ◌≤◌, max, min, map, drop, expr_depth, gen_depth, part_depth, any_of, expr_free, gen_binding, nowhere, part_free, under, expr_size, gen_size, part_size, capped, IsLow, greatest, total}
+use Rattle.csp_program.proofs.expressions.Expr.TheLaws.{the_size}
 use denote.Param.Weighed as weighed
 use Rattle.csp_program.proofs.expressions.Gen.TheLaws as generator
 use Rattle.pool_parts.proofs.measured.+of_expr.Given as goal

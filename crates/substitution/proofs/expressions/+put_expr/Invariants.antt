@@ -1,5 +1,6 @@
-use Rattle.substitution.proofs.Prelude.{◌≡◌, ◌+◌, ◌*◌, ◌++◌, drop, map, max, expr_with, gens_with, given_by, part_with, past, the_size}
+use Rattle.substitution.proofs.Prelude.{◌≡◌, ◌+◌, ◌*◌, ◌++◌, drop, map, max, expr_with, gens_with, given_by, part_with, past}
 use denote.Param.Weighed as weighed
+use Rattle.csp_program.proofs.expressions.Expr.TheLaws.{the_size}
 use Rattle.csp_program.proofs.expressions.Gen.TheLaws as generator
 use Rattle.substitution.proofs.expressions.+put_expr.Given as goal
 

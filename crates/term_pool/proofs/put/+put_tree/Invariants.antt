@@ -1,4 +1,5 @@
-use Rattle.term_pool.proofs.Prelude.{◌+◌, ◌*◌, max, take, Grows, StandAt, the_size}
+use Rattle.term_pool.proofs.Prelude.{◌+◌, ◌*◌, max, take, Grows, StandAt}
+use Rattle.csp_program.proofs.processes.Proc.TheLaws.{the_size}
 use Rattle.term_pool.proofs.put.+put_tree.Given as goal
 
 -- the processes so far are put

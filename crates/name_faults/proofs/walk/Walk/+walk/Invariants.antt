@@ -1,4 +1,5 @@
-use Rattle.name_faults.proofs.Prelude.{◌≡◌, ◌+◌, ◌*◌, max, take, after_fields, after_gens, after_pairs, after_parts, after_trees, the_size}
+use Rattle.name_faults.proofs.Prelude.{◌≡◌, ◌+◌, ◌*◌, max, take, after_fields, after_gens, after_pairs, after_parts, after_trees}
+use Rattle.csp_text.proofs.tree.Tree.TheLaws.{the_size}
 use denote.Param.Weighed as weighed
 use Rattle.csp_text.proofs.tree.EventTree.TheLaws as event
 use Rattle.csp_text.proofs.tree.GenTree.TheLaws as generator

@@ -4,8 +4,8 @@ use Rattle.resource_rule.proofs.Holding.{link_complete, link_sound}
 use Rattle.resource_rule.proofs.Offering.{have_nodes}
 use Rattle.resource_rule.proofs.user.User.add_link.Goals as goal
 
-pub pair_offers-requires-clause-nodes : goal.pair_offers-requires-clause-nodes
-pair_offers-requires-clause-nodes c =
+pub pair_offers-requires : goal.pair_offers-requires
+pair_offers-requires c =
     let g = c.args.self.now.setting.now in
     subst (HaveNodes g c.args.self.now.part) (sym c.pairs.ensures) (have_nodes g c.args.self.now.part c.args.link c.in_ok-explored.explored.pairs c.shape-form.ensures.form c.args.self.now.within c.in_ok-explored.ensures)
 

@@ -5,7 +5,7 @@ pub overflow_cast-node : goal.overflow_cast-node
 overflow_cast-node c =
     let most = (part_form c.args.self.now.setting.now.shape.parts c.args.self.now.part c.args.self.now.within c.shape-form.ensures.form.form).most in
     let below : c.loop-node.node < length c.args.held.now = c.loop-node-test.true in
-    omega (arith, most, c.requires.count)
+    omega (arith, most, c.requires)
 
 pub loop-node-preserved : goal.loop-node-preserved
 loop-node-preserved c n e less possible = elim (cases_lt n c.loop-node.node) as (λ _. IsInTurn c.args.self.now.setting.now c.args.self.now.part (get_or c.args.held.now n []) e) [

@@ -2,8 +2,8 @@ use Rattle.resource_rule.proofs.Prelude.{◌≡◌, ◌<◌, ◌∙◌, ℕ, Lis
 use Rattle.resource_rule.proofs.InTurn.{turns_at_nodes}
 use Rattle.resource_rule.proofs.user.User.turns_by_nodes.Goals as goal
 
-pub all_in_turn-requires-clause-count : goal.all_in_turn-requires-clause-count
-all_in_turn-requires-clause-count c =
+pub all_in_turn-requires : goal.all_in_turn-requires
+all_in_turn-requires c =
     let are = subst (λ o. IfSome o (λ sets. AreHeld c.args.self.now.setting.now c.args.self.now.part sets.items)) c.in-Some.is c.in_ok-held.ensures in
     ap length c.as_slice.ensures.value ∙ are.count
 

@@ -1,9 +1,10 @@
-use Rattle.rule_rankings.proofs.Prelude.{◌≡◌, ◌∙◌, ℕ, pos, length, ap, sym, arith, to_z, of_z, w64, both_ways, ints, is_subset_of, meets_of, Part, serving_rank}
-use Rattle.rule_rankings.proofs.ClientServerRanking.{outside_rank, serving_is, asking_is}
+use Rattle.rule_rankings.proofs.Prelude.{◌≡◌, ◌∙◌, ℕ, pos, length, ap, sym, arith, to_z, of_z, w64, both_ways, ints, is_subset_of, meets_of, Part, IsRank, serving_rank}
+use Rattle.rule_rankings.proofs.ClientServerRanking.{serving_is, asking_is}
+use Rattle.rule_rankings.proofs.RowsBelow.{outside}
 use Rattle.rule_rankings.proofs.client_server.RolesRanks.rank.Goals as goal
 
 pub returns-then-not-is_subset : goal.returns-then-not-is_subset
-returns-then-not-is_subset c = outside_rank c.args.self.now.shape.now c.args.self.now.roles.now c.args.self.now.heights.now c.args.part c.args.set.now (sym (ap (is_subset_of c.args.set.now) c.vocabulary.ensures) ∙ sym c.is_subset.ensures ∙ c.if-not-is_subset.true)
+returns-then-not-is_subset c = outside c.args.self.now.shape.now.vocabulary (IsRank c.args.self.now.shape.now c.args.self.now.roles.now c.args.self.now.heights.now c.args.part) c.args.set.now (sym (ap (is_subset_of c.args.set.now) c.vocabulary.ensures) ∙ sym c.is_subset.ensures ∙ c.if-not-is_subset.true)
 
 pub returns-then-meets : goal.returns-then-meets
 returns-then-meets c =

@@ -1,27 +1,18 @@
-use Rattle.rule_rankings.proofs.Prelude.{◌≡◌, ◌∙◌, ◌<◌, ℕ, pos, nat_le, ap, sym, subst, refl, arith, to_z, of_z, w64, ints, false≢true, none-some, slice_index, is_subset_of, Shape, vocabulary_owner, find_has, none_found, member_of_superset, is_subset_of_from_members}
+use Rattle.rule_rankings.proofs.Prelude.{◌≡◌, ◌∙◌, ◌<◌, ℕ, pos, nat_le, ap, sym, subst, refl, arith, to_z, of_z, w64, ints, none-some, slice_index, is_subset_of, Shape, vocabulary_owner, find_has, none_found}
+use Rattle.rule_rankings.specs.CyclicRanks.{IsRank}
+use Rattle.rule_rankings.proofs.RowsBelow.{at_vertex, no_vertex, outside}
 use Rattle.rule_rankings.proofs.cyclic.NumbersRanks.rank.Goals as goal
 
 pub returns-then-not-is_subset : goal.returns-then-not-is_subset
-returns-then-not-is_subset c =
-    let subset = sym c.if-not-is_subset.true ∙ (c.is_subset.ensures ∙ ap (is_subset_of c.args.set.now) (c.vocabulary.ensures ∙ ap (λ (x : Shape). x.vocabulary) c.shape.ensures.value)) in
-    record {
-      on_link = λ l one within h m. absurd (false≢true (subset ∙ is_subset_of_from_members c.args.set.now c.args.self.now.sorted.now.vocabulary within));
-      other = λ _. refl;
-    }
+returns-then-not-is_subset c = outside c.args.self.now.sorted.now.vocabulary (IsRank c.args.self.now.sorted.now (slice_index c.args.self.now.numbers.now)) c.args.set.now (sym (c.is_subset.ensures ∙ ap (is_subset_of c.args.set.now) (c.vocabulary.ensures ∙ ap (λ (x : Shape). x.vocabulary) c.shape.ensures.value)) ∙ c.if-not-is_subset.true)
 
 pub returns-in_default : goal.returns-in_default
-returns-in_default c = record {
-  on_link = λ l one within h m. absurd (none_found c.args.set.now m.event (sym c.in_default.ensures.least) m.first);
-  other = λ _. refl;
-}
+returns-in_default c = no_vertex c.args.self.now.sorted.now.vocabulary (IsRank c.args.self.now.sorted.now (slice_index c.args.self.now.numbers.now)) c.args.set.now (λ _ some. none_found c.args.set.now some.0 (sym c.in_default.ensures.least) some.1)
 
 pub returns-in_default-owner : goal.returns-in_default-owner
-returns-in_default-owner c = record {
-  on_link = λ l one within h m.
-      let o = vocabulary_owner c.args.self.now.sorted.now c.in-Some.event c.shape.ensures.form (within c.in-Some.event (find_has (nat_le 0) c.args.set.now c.in-Some.event (sym c.in-Some.ensures.least))) in
-      absurd (none-some o.0 (c.in_default-owner.ensures.owned o.0 o.1));
-  other = λ _. refl;
-}
+returns-in_default-owner c = no_vertex c.args.self.now.sorted.now.vocabulary (IsRank c.args.self.now.sorted.now (slice_index c.args.self.now.numbers.now)) c.args.set.now (λ within _.
+    let o = vocabulary_owner c.args.self.now.sorted.now c.in-Some.event c.shape.ensures.form (within c.in-Some.event (find_has (nat_le 0) c.args.set.now c.in-Some.event (sym c.in-Some.ensures.least))) in
+    none-some o.0 (c.in_default-owner.ensures.owned o.0 o.1))
 
 pub of-requires : goal.of-requires
 of-requires c = subst (λ (n : ℕ). c.in-Some-owner.link < n) (sym c.requires.0) (c.in-Some-owner.ensures.found c.in-Some-owner.link refl).within
@@ -34,7 +25,5 @@ returns c =
     let subset = sym (c.is_subset.ensures ∙ ap (is_subset_of c.args.set.now) (c.vocabulary.ensures ∙ ap (λ (x : Shape). x.vocabulary) c.shape.ensures.value)) ∙ c.if-not-is_subset.false in
     let same : to_z w64 (of_z w64 c.from.result) ≡ c.from.result = omega (arith, ints) in
     let rank : to_z w64 (of_z w64 c.from.result) ≡ pos (slice_index c.args.self.now.numbers.now c.in-Some-owner.link) = same ∙ c.from.ensures ∙ ap pos c.of.ensures in
-    record {
-      on_link = λ l one within h m. rank ∙ ap (λ (k : ℕ). pos (slice_index c.args.self.now.numbers.now k)) (one c.in-Some-owner.link l c.in-Some.event m.event o.within h member m.first o.event m.second);
-      other = λ none. absurd (none (member_of_superset c.args.set.now c.args.self.now.sorted.now.vocabulary subset) (c.in-Some.event, member));
-    }
+    at_vertex c.args.self.now.sorted.now.vocabulary (IsRank c.args.self.now.sorted.now (slice_index c.args.self.now.numbers.now)) c.args.set.now (to_z w64 (of_z w64 c.from.result)) subset (c.in-Some.event, member)
+    (λ l one h m. rank ∙ ap (λ (k : ℕ). pos (slice_index c.args.self.now.numbers.now k)) (one c.in-Some-owner.link l c.in-Some.event m.event o.within h member m.first o.event m.second))

@@ -1,4 +1,5 @@
-use Rattle.typed_trees.proofs.Prelude.{◌≡◌, ◌+◌, ◌*◌, ◌++◌, drop, max, the_size, all_tokens, gens_tokens, parts_tokens, exprs_at, gens_at, gens_scope, parts_at}
+use Rattle.typed_trees.proofs.Prelude.{◌≡◌, ◌+◌, ◌*◌, ◌++◌, drop, max, all_tokens, gens_tokens, parts_tokens, exprs_at, gens_at, gens_scope, parts_at}
+use Rattle.csp_text.proofs.tree.Tree.TheLaws.{the_size}
 use denote.Param.Weighed as weighed
 use Rattle.csp_text.proofs.tree.GenTree.TheLaws as generator
 use Rattle.typed_trees.proofs.walk.Walk.+typed_expr.Given as goal

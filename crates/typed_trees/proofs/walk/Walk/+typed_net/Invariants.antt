@@ -1,4 +1,5 @@
-use Rattle.typed_trees.proofs.Prelude.{◌+◌, ◌*◌, max, the_size}
+use Rattle.typed_trees.proofs.Prelude.{◌+◌, ◌*◌, max}
+use Rattle.csp_text.proofs.tree.Tree.TheLaws.{the_size}
 use Rattle.typed_trees.proofs.walk.Walk.+typed_net.Given as goal
 
 -- how deep what is left is, three for each level: a tree on the heap comes above what stands in it, and a form above

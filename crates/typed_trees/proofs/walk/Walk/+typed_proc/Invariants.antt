@@ -1,4 +1,5 @@
-use Rattle.typed_trees.proofs.Prelude.{◌≡◌, ◌+◌, ◌*◌, ◌++◌, drop, max, the_size, all_tokens, procs_at}
+use Rattle.typed_trees.proofs.Prelude.{◌≡◌, ◌+◌, ◌*◌, ◌++◌, drop, max, all_tokens, procs_at}
+use Rattle.csp_text.proofs.tree.Tree.TheLaws.{the_size}
 use Rattle.typed_trees.proofs.walk.Walk.+typed_proc.Given as goal
 
 -- what is made so far, followed by what is made of the rest, is what is made of all
