@@ -43,13 +43,16 @@ only_row : (e i : ℕ) (row : List Atom) → slice_get (rows []) i ≡ Some row 
 only_row e zero row h = omega arith
 only_row e (suc i) row h = absurd (cc)
 
-pub event_start : (p : Content) (v : Value) (e : ℕ) → v ≡ One (atom.Event e) → (start : Start) → start.first ≡ e → start.first < 2 ^ 32 → start.sets.now ≡ [] → Starts p (of_value v) start
-event_start p v e is start first few same_sets = (
+pub event_start : (p : Content) (a : Atom) (e : ℕ) → a ≡ atom.Event e → (start : Start) → start.first ≡ e → start.first < 2 ^ 32 → start.sets.now ≡ [] → Starts p (of_value (One a)) start
+event_start p a e is start first few same_sets = (
   event e,
-  ap of_value is,
+  ap (λ b. of_value (One b)) is,
   record {
     sets = sym same_sets;
     event = λ i row there. only_row e i row (ap (λ (s : List (List Atom)). slice_get (rows s) i) (sym same_sets) ∙ there) ∙ ap (λ (n : ℕ). n + i) (sym first);
     few = let count : row_count start.sets.now ≡ 1 = ap row_count same_sets in omega (arith, first, few, count);
   },
 )
+
+pub same_start : (v : Value) (a : Atom) (r : Result Start EvalFault) → v ≡ One a → ((p : Content) → GivesStart p r (of_value (One a))) → (p : Content) → GivesStart p r (of_value v)
+same_start v a r is h p = subst (λ w. GivesStart p r (of_value w)) (sym is) (h p)

@@ -1,6 +1,7 @@
 //! The events that the head of a prefix stands for.
 
 ghost use Rattle.std.specs.Prelude.{◌≡◌, ◌<◌, ◌^◌, []};
+ghost use Rattle.csp_atoms.specs.declared.value.Value.TheVariants.{One};
 ghost use Rattle.csp_program.specs.declared.programs.Content.{Content};
 ghost use Rattle.process_steps.specs.Ways.{of_head, of_value};
 ghost use Rattle.step_values.specs.Starts.{GivesStart};
@@ -47,13 +48,24 @@ fn of_event<'a>(event: Event) -> Start<'a>
     }
 }
 
+// The event that an atom is.
+fn of_atom<'a>(atom: Atom) -> Result<Start<'a>, EvalFault>
+    ensures { (p : Content) → GivesStart p result (of_value (One atom)) }
+{
+    match atom {
+        Atom::Event(event) => Ok(of_event(event)),
+        _ => Err(Stop::Told(ValueKind::Kind)),
+    }
+}
+
 // The event that a value is.
+#[tactic(auto, using(crate::proofs::ChannelEvents::same_start))]
 fn of_value<'a>(value: &Value) -> Result<Start<'a>, EvalFault>
     ensures { (p : Content) → GivesStart p result (of_value value.now) }
 {
     match value {
-        Value::One(Atom::Event(event)) => Ok(of_event(*event)),
-        _ => Err(Stop::Told(ValueKind::Kind)),
+        Value::One(atom) => of_atom(*atom),
+        Value::Many(_) => Err(Stop::Told(ValueKind::Kind)),
     }
 }
 
