@@ -103,8 +103,6 @@ one_apart Step c e s d a =
 
 all_apart : {T : Type 0} (Step : T → Label → T → Type 0) (cs : List (Component T)) (e : ℕ) (s : List ℕ) (ds : List (Component T)) → AllAfter Step (e ∷ s) cs ds → AllApart Step cs e s ds
 all_apart Step [] e s [] a = record { before = []; after = []; quiet = record { labels = []; path = refl; none = refl }; all = tt; rest = tt; same = refl }
-all_apart Step [] e s (d ∷ ds) a = absurd a
-all_apart Step (c ∷ cs) e s [] a = absurd a
 all_apart Step (c ∷ cs) e s (d ∷ ds) a =
     let one = one_apart Step c e s d a.0 in
     let more = all_apart Step cs e s ds a.1 in
@@ -116,12 +114,12 @@ all_apart Step (c ∷ cs) e s (d ∷ ds) a =
       rest = (one.rest, more.rest);
       same = ap₂ (λ a as'. a ∷ as') one.same more.same;
     }
+all_apart Step _ e s _ a = absurd a
 
 all_quiet : {T : Type 0} (Step : T → Label → T → Type 0) (cs ds : List (Component T)) → AllAfter Step [] cs ds → Quietly (FlatStep Step) cs ds
 all_quiet Step [] [] a = record { labels = []; path = refl; none = refl }
-all_quiet Step [] (d ∷ ds) a = absurd a
-all_quiet Step (c ∷ cs) [] a = absurd a
 all_quiet Step (c ∷ cs) (d ∷ ds) a = joined_quietly Step c d cs ds (record { labels = a.0.0; path = a.0.1; none = a.0.2 }) (all_quiet Step cs ds a.1)
+all_quiet Step _ _ a = absurd a
 
 -- ---- the run of the network
 

@@ -9,12 +9,11 @@ Decodes {X} f g told other = (x y : X) (r s : List ℕ) → f x ++ r ≡ g y ++ 
 each_told : {X Z : Type 0} (f g : X → List ℕ) (told other : X → Z) → Decodes f g told other → (xs ys : List X) (r s : List ℕ) → length xs ≡ length ys
     → flat_map f xs ++ r ≡ flat_map g ys ++ s → (map told xs ≡ map other ys) × (r ≡ s)
 each_told f g told other d [] [] r s many same = (refl, same)
-each_told f g told other d [] (y ∷ ys) r s many same = absurd (omega arith)
-each_told f g told other d (x ∷ xs) [] r s many same = absurd (omega arith)
 each_told f g told other d (x ∷ xs) (y ∷ ys) r s many same =
     let one = d x y (flat_map f xs ++ r) (flat_map g ys ++ s) (sym (append_assoc (f x) (flat_map f xs) r) ∙ same ∙ append_assoc (g y) (flat_map g ys) s) in
     let more = each_told f g told other d xs ys r s (omega arith) one.1 in
     (ap₂ (λ z zs. z ∷ zs) one.0 more.0, more.1)
+each_told f g told other d _ _ r s many same = absurd (omega arith)
 
 same_head : (m n : ℕ) (r s : List ℕ) → m ∷ r ≡ n ∷ s → (m ≡ n) × (r ≡ s)
 same_head m n r s same = (cc, cc)

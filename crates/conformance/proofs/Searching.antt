@@ -23,11 +23,10 @@ module _ (a : List ℕ) (m : ℕ) where
       omega arith
 
   rises : (steps : List (ℕ × ℕ)) → StepsHaveForm a m steps → (i j : ℕ) (d : ℕ × ℕ) → i ≤ j → j < length steps → (get_or steps i d).0 ≤ (get_or steps j d).0
-  rises [] form i j d le h = absurd (omega arith)
   rises (step ∷ steps) form zero zero d le h = omega arith
   rises (step ∷ steps) form zero (suc j) d le h = let later = all_above step.0 steps form.2 form.3 j d (omega arith) in omega arith
-  rises (step ∷ steps) form (suc i) zero d le h = absurd (omega arith)
   rises (step ∷ steps) form (suc i) (suc j) d le h = rises steps form.3 i j d (omega arith) (omega arith)
+  rises _ form _ _ d le h = absurd (omega arith)
 
   -- where a search ends that found the event
   pub found_target : (steps : List (ℕ × ℕ)) (e k : ℕ) (d : ℕ × ℕ) → StepsHaveForm a m steps → k < length steps → nat_cmp (get_or steps k d).0 e ≡ Equal → Some (get_or steps k d).1 ≡ (if is_possible steps e then Some (target steps e) else None)

@@ -81,10 +81,9 @@ drawn_at ts y p d z place within at next = elim (cases_Bool (nat_eq (length ts) 
 ]
   where
     only : (us : List ℕ) (k : ℕ) → length us ≡ 1 → k < length us → d ≡ get_or us k d → us ≡ d ∷ []
-    only [] k one below is = absurd (omega (arith, one))
     only (u ∷ []) zero one below is = ap (λ v. v ∷ []) (sym is)
     only (u ∷ []) (suc k) one below is = absurd (omega (arith, below))
-    only (u ∷ v ∷ us) k one below is = absurd (omega (arith, one))
+    only _ k one below is = absurd (omega (arith, one))
 
     there : (us : List ℕ) (k : ℕ) → k < length us → d ≡ get_or us k d → slice_get us k ≡ Some d
     there [] k below is = absurd (omega (arith, below))
@@ -115,10 +114,9 @@ restless_is raw n (t ∷ ts) is =
 -- ---- one component draws
 none_drawn : (i k : ℕ) (cs : List Numbered) (xs : List ℕ) (y : ℕ) → i < k → length xs ≡ length cs → AllDraw (move.Silent i) k cs y xs xs y
 none_drawn i k [] [] y less same = refl
-none_drawn i k [] (x ∷ xs) y less same = absurd (omega (arith, same))
-none_drawn i k (c ∷ cs) [] y less same = absurd (omega (arith, same))
 none_drawn i k (c ∷ cs) (x ∷ xs) y less same =
     (y, to_false (nat_eq i k) _ _ (ne_eqb i k (λ e. omega (arith, e, less))) (refl, refl), none_drawn i (k + 1) cs xs y (omega (arith, less)) (omega (arith, same)))
+none_drawn i k _ _ y less same = absurd (omega (arith, same))
 
 pub one_drawn : (i k j : ℕ) (cs : List Numbered) (xs : List ℕ) (y d z : ℕ) → i ≡ k + j → j < length cs → length xs ≡ length cs → IsDrawn (targets_in (component_at cs j).table (get_or xs j 0) silent) y d z
     → AllDraw (move.Silent i) k cs y xs (set xs j d) z
@@ -158,6 +156,5 @@ first_drawn e k c cs x xs ys y z rest false is goes =
 
 pub all_drawn : (e k : ℕ) (cs : List Numbered) (xs ys : List ℕ) (y z : ℕ) → length xs ≡ length cs → AllGo cs (visible e) (marked (owner_marks e cs)) xs y ys z → AllDraw (move.Event e) k cs y xs ys z
 all_drawn e k [] [] ys y z same go = subst (λ (l : List ℕ). AllDraw (move.Event e) k [] y [] l z) go.0 go.1
-all_drawn e k [] (x ∷ xs) ys y z same go = absurd (omega (arith, same))
-all_drawn e k (c ∷ cs) [] ys y z same go = absurd (omega (arith, same))
 all_drawn e k (c ∷ cs) (x ∷ xs) ys y z same go = first_drawn e k c cs x xs ys y z (λ w others goes. all_drawn e (k + 1) cs xs others w z (omega (arith, same)) goes) (has c.alphabet e) refl go
+all_drawn e k _ _ ys y z same go = absurd (omega (arith, same))

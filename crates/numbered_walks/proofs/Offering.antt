@@ -84,8 +84,6 @@ fewer e (c ∷ cs) (x ∷ xs) own same = let rest = fewer e cs xs (others_own c 
 
 as_many_can : (e : ℕ) (cs : List Numbered) (xs : List ℕ) → AllOwn cs → length xs ≡ length cs → offer_count e cs xs ≡ owner_count e cs → AllCan e cs xs
 as_many_can e [] [] own same count = tt
-as_many_can e [] (x ∷ xs) own same count = absurd (omega (arith, same))
-as_many_can e (c ∷ cs) [] own same count = absurd (omega (arith, same))
 as_many_can e (c ∷ cs) (x ∷ xs) own same count =
     let one = no_more c x e (first_owns c cs own) in
     let rest = fewer e cs xs (others_own c cs own) (omega (arith, same)) in (
@@ -96,11 +94,10 @@ as_many_can e (c ∷ cs) (x ∷ xs) own same count =
     is_one : (b : Bool) → bit b ≡ 1 → b ≡ true
     is_one true h = refl
     is_one false h = absurd (omega (arith, h))
+as_many_can e _ _ own same count = absurd (omega (arith, same))
 
 can_as_many : (e : ℕ) (cs : List Numbered) (xs : List ℕ) → AllOwn cs → AllCan e cs xs → offer_count e cs xs ≡ owner_count e cs
 can_as_many e [] [] own can = refl
-can_as_many e [] (x ∷ xs) own can = absurd can
-can_as_many e (c ∷ cs) [] own can = absurd can
 can_as_many e (c ∷ cs) (x ∷ xs) own can =
     let rest = can_as_many e cs xs (others_own c cs own) can.1 in
     let one : bit (can_do c.table x e) ≡ bit (has c.alphabet e) = elim (cases_Bool (has c.alphabet e)) [
@@ -108,6 +105,7 @@ can_as_many e (c ∷ cs) (x ∷ xs) own can =
       | inr not_it ↦ let low = no_more c x e (first_owns c cs own) in let none : bit (has c.alphabet e) ≡ 0 = ap bit not_it in omega (arith, low, none)
     ] in
     omega (arith, rest, one)
+can_as_many e _ _ own can = absurd can
 
 module _ (e : ℕ) (cs : List Numbered) (xs : List ℕ) (own : AllOwn cs) (same : length xs ≡ length cs) where
   pub agreed_can : is_agreed (owner_count e cs) (offer_count e cs xs) ≡ true → IsTrue (has_owner cs e) × AllCan e cs xs

@@ -194,15 +194,12 @@ module _ (cs : List Numbered) (e : ℕ) (places : List ℕ) where
 -- what is drawn is done
 draws_do : (e k : ℕ) (cs : List Numbered) (xs ys : List ℕ) (y z : ℕ) → AllDraw (move.Event e) k cs y xs ys z → AllDo e cs xs ys
 draws_do e k [] [] [] y z draws = tt
-draws_do e k [] [] (n ∷ ns) y z draws = absurd draws
-draws_do e k [] (x ∷ xs) ys y z draws = absurd draws
-draws_do e k (c ∷ cs) [] ys y z draws = absurd draws
-draws_do e k (c ∷ cs) (x ∷ xs) [] y z draws = absurd draws
 draws_do e k (c ∷ cs) (x ∷ xs) (n ∷ ns) y z draws = (does (has c.alphabet e) draws.1, draws_do e (k + 1) cs xs ns draws.0 z draws.2)
   where
     does : (b : Bool) → MatchBool b (IsDrawn (targets_in c.table x (visible e)) y n draws.0) ((x ≡ n) × (y ≡ draws.0)) → MatchBool b (RawStep c.table x (visible e) n) (x ≡ n)
     does true drawn = drawn_steps c.table x (visible e) y n draws.0 drawn
     does false stays = stays.0
+draws_do e k _ _ _ y z draws = absurd draws
 
 -- one component has moved silently
 pub one_does : (cs : List Numbered) (old new : Standing) (i : ℕ) → i < length cs → length old.terms.items ≡ length cs → Does cs i silent old new → GoesOn cs (move.Silent i) old new

@@ -48,8 +48,6 @@ impl CountedMarks {
         ensures count { result ≡ mark_count self.now }
         ensures few { result < 2 ^ 63 }
     {
-        let _ = &self.marks;
-        let _ = &self.counts;
         self.total
     }
 

@@ -78,10 +78,6 @@ impl<'a> Mover<'a> {
         ensures form { HasRawForm self.now.table }
         ensures own { OwnsItsSteps self.now.alphabet self.now.table }
     {
-        let _ = &self.silent;
-        let _ = &self.steps;
-        let _ = &self.offers;
-        let _ = self.table;
         self.alphabet
     }
 
@@ -90,10 +86,6 @@ impl<'a> Mover<'a> {
         requires { term < self.now.table.count }
         ensures offers { (e : ℕ) → has result.now e ≡ can_do self.now.table term e }
     {
-        let _ = &self.silent;
-        let _ = &self.steps;
-        let _ = self.table;
-        let _ = self.alphabet;
         &self.offers[term as usize]
     }
 
@@ -103,10 +95,6 @@ impl<'a> Mover<'a> {
         ensures value { result.now ≡ targets_in self.now.table term silent }
         ensures form { HasRawForm self.now.table }
     {
-        let _ = &self.steps;
-        let _ = &self.offers;
-        let _ = self.table;
-        let _ = self.alphabet;
         self.silent[term as usize].as_slice()
     }
 
@@ -116,10 +104,6 @@ impl<'a> Mover<'a> {
         ensures value { targets result.now ≡ targets_in self.now.table term (visible event) }
         ensures form { HasRawForm self.now.table }
     {
-        let _ = &self.silent;
-        let _ = &self.offers;
-        let _ = self.table;
-        let _ = self.alphabet;
         steps_by(self.steps[term as usize].as_slice(), event)
     }
 

@@ -3,15 +3,13 @@ use Rattle.partitions.proofs.Prelude.{◌≡◌, ℕ, zero, suc, ◌+◌, ◌-�
 
 pub sizes_push : (firsts ends : List ℕ) (f e : ℕ) → length firsts ≡ length ends → sizes (firsts ++ f ∷ []) (ends ++ e ∷ []) ≡ sizes firsts ends + (e - f)
 sizes_push [] [] f e h = omega arith
-sizes_push [] (y ∷ ends) f e h = absurd (omega arith)
-sizes_push (x ∷ firsts) [] f e h = absurd (omega arith)
 sizes_push (x ∷ firsts) (y ∷ ends) f e h = omega (arith, sizes_push firsts ends f e (omega arith))
+sizes_push _ _ f e h = absurd (omega arith)
 
 pub sizes_set : (firsts ends : List ℕ) (b m : ℕ) → b < length firsts → length firsts ≡ length ends → get_or firsts b 0 ≤ m → m ≤ get_or ends b 0 → sizes (set firsts b m) ends + (m - get_or firsts b 0) ≡ sizes firsts ends
-sizes_set [] ends b m h same low high = absurd (omega arith)
-sizes_set (x ∷ firsts) [] b m h same low high = absurd (omega arith)
 sizes_set (x ∷ firsts) (y ∷ ends) zero m h same low high = omega arith
 sizes_set (x ∷ firsts) (y ∷ ends) (suc b) m h same low high = omega (arith, sizes_set firsts ends b m (omega arith) (omega arith) low high)
+sizes_set _ _ b m h same low high = absurd (omega arith)
 
 few : (firsts ends : List ℕ) → length firsts ≡ length ends → ((b : ℕ) → b < length firsts → get_or firsts b 0 < get_or ends b 0) → length firsts ≤ sizes firsts ends
 few [] ends same each = omega arith
