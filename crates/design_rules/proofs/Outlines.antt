@@ -85,13 +85,10 @@ module _ (x y : Shape) (o : SameOutline x y) where
           count_same (λ m. is_end x i m && nat_lt (number m) (number l)) (λ m. is_end y i m && nat_lt (number m) (number l)) (λ m. ap (λ b. b && nat_lt (number m) (number l)) (same_end i m)) (length x.links)
           ∙ ap (count_below (λ m. is_end y i m && nat_lt (number m) (number l))) o.links
 
-  other_place : (i : ℕ) (s t : List ℕ) → SamePlace y i s t → SamePlace x i s t
-  other_place i s t h = lap_place i s ∙ h ∙ sym (lap_place i t)
-
   pub clash : (i l : ℕ) (s : List ℕ) (m : ℕ) (t : List ℕ) → Clash x i l s m t → Clash y i l s m t
   clash i l s m t h = elim h [
     | inl apart ↦ inl (apart.0, same_place i s t apart.1)
-    | inr one ↦ inr (one.0, λ same. one.1 (other_place i s t same))
+    | inr one ↦ inr (one.0, λ same. one.1 (lap_place i s ∙ same ∙ sym (lap_place i t)))
   ]
 
   -- ---- sets of a component
@@ -133,7 +130,7 @@ module _ (x y : Shape) (o : SameOutline x y) where
         ap (λ b. b && is_odd (count_in (link_at x l).shared s)) (same_acknowledgements l)
         ∙ ap (λ n. has_acknowledgements y roles l && is_odd n) (count_in_same (link_at x l).shared (link_at y l).shared (o.shared l) s)
 
-    serves : (i j : ℕ) → Serves x roles i j → Serves y roles i j
+    pub serves : (i j : ℕ) → Serves x roles i j → Serves y roles i j
     serves i j h = record { link = h.link; joins = joins i j h.link h.joins; client = client_on h.link i j h.client }
 
   -- ---- users and resources
@@ -162,6 +159,13 @@ module _ (x y : Shape) (o : SameOutline x y) where
 
 -- what is asked of each component or link, with the bounds of the other outline
 module _ (x y : Shape) (o : SameOutline x y) where
+  has_kind : (uses : List UseSets) (i : ℕ) → HasKind x uses i → HasKind y uses i
+  has_kind uses i h = record {
+    linked = λ l below left. joins_kinds x y o uses l (h.linked l (on_links y x (turned_outline x y o) l below) (o.left l ∙ left));
+    parted = has_uses x y o uses i h.parted;
+  }
+
+module _ (x y : Shape) (o : SameOutline x y) where
   pub have_clients : (roles : List RoleSets) → HaveClients x roles → HaveClients y roles
   have_clients roles h = record {
     parted = λ i below. has_roles x y o roles i (h.parted i (on_parts y x (turned_outline x y o) i below));
@@ -188,30 +192,15 @@ module _ (x y : Shape) (o : SameOutline x y) where
   pub no_circle : (roles : List RoleSets) → HasNoCircle (Serves x roles) → HasNoCircle (Serves y roles)
   no_circle roles = same_no_circle (Serves x roles) (Serves y roles) (serves y x (turned_outline x y o) roles)
 
-  pub each_serves : (roles : List RoleSets) (i j : ℕ) → Serves x roles i j → Serves y roles i j
-  each_serves roles = serves x y o roles
-
   pub have_kinds : (uses : List UseSets) → HaveKinds x uses → HaveKinds y uses
   have_kinds uses h = record {
     linked = λ l below. joins_kinds x y o uses l (h.linked l (on_links y x (turned_outline x y o) l below));
     parted = λ i below. has_uses x y o uses i (h.parted i (on_parts y x (turned_outline x y o) i below));
   }
 
-  has_kind : (uses : List UseSets) (i : ℕ) → HasKind x uses i → HasKind y uses i
-  has_kind uses i h = record {
-    linked = λ l below left. joins_kinds x y o uses l (h.linked l (on_links y x (turned_outline x y o) l below) (o.left l ∙ left));
-    parted = has_uses x y o uses i h.parted;
-  }
-
-  lost_kind : (uses : List UseSets) (i : ℕ) → HasKind y uses i → HasKind x uses i
-  lost_kind uses i h = record {
-    linked = λ l below left. joins_kinds y x (turned_outline x y o) uses l (h.linked l (on_links x y o l below) (sym (o.left l) ∙ left));
-    parted = has_uses y x (turned_outline x y o) uses i h.parted;
-  }
-
   pub lacks_kind : (uses : List UseSets) (i : ℕ) → LacksKind x uses i → LacksKind y uses i
   lacks_kind uses i h = record {
     within = on_parts x y o i h.within;
-    broken = λ kept. h.broken (lost_kind uses i kept);
-    first = λ j less. has_kind uses j (h.first j less);
+    broken = λ kept. h.broken (has_kind y x (turned_outline x y o) uses i kept);
+    first = λ j less. has_kind x y o uses j (h.first j less);
   }
