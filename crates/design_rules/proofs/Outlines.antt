@@ -1,6 +1,7 @@
 -- What is said of an outline looks at members of sets alone, so it is the same of two outlines with the same alphabets, links and vocabulary.
-use Rattle.design_rules.proofs.Prelude.{◌≡◌, ℕ, zero, suc, ◌+◌, ◌%◌, ◌<◌, inl, inr, List, [], ◌∷◌, length, map, Option, Some, None, Bool, not, ◌&&◌, ◌||◌, cond, nat_eq, nat_lt, refl, sym, ap, subst, ◌∙◌, list_any, has, same_tests, any_of, any_member, part_at, RoleSets, UseSets, role_at, use_at, Shape, Joins, is_end, link_at, IsOn, same_no_circle, SameOutline, PartShared, HasRoles, IsClientOn, HasClient, has_acknowledgements, is_open, Serves, LacksRoles, LacksClient, HaveClients, count_below, count_in, is_odd, place_of, IsNext, links_of, place_after, SamePlace, Clash, ends_of, JoinsKinds, HasUses, HaveKinds, is_held, last_from, IsHolder, holds, HasKind, LacksKind}
+use Rattle.design_rules.proofs.Prelude.{◌≡◌, ℕ, ◌+◌, ◌%◌, ◌<◌, inl, inr, List, [], ◌∷◌, length, map, Option, Some, None, Bool, not, ◌&&◌, ◌||◌, cond, nat_eq, nat_lt, refl, sym, ap, subst, ◌∙◌, list_any, has, same_tests, any_of, any_member, part_at, RoleSets, UseSets, role_at, use_at, Shape, Joins, is_end, link_at, IsOn, same_no_circle, SameOutline, PartShared, HasRoles, IsClientOn, HasClient, has_acknowledgements, is_open, Serves, LacksRoles, LacksClient, HaveClients, count_below, count_in, is_odd, place_of, IsNext, links_of, place_after, SamePlace, Clash, ends_of, JoinsKinds, HasUses, HaveKinds, is_held, last_from, IsHolder, holds, HasKind, LacksKind}
 use Rattle.digraph.specs.Circle.{HasNoCircle}
+use Rattle.design_rules.proofs.Counts.{count_agree}
 
 pub turned_outline : (x y : Shape) → SameOutline x y → SameOutline y x
 turned_outline x y o = record {
@@ -14,10 +15,6 @@ turned_outline x y o = record {
 }
 
 -- ---- counts and tests
-
-count_same : (f g : ℕ → Bool) → ((n : ℕ) → f n ≡ g n) → (n : ℕ) → count_below f n ≡ count_below g n
-count_same f g same zero = refl
-count_same f g same (suc n) = ap (λ b. cond b (count_below f n + 1) (count_below f n)) (same n) ∙ ap (λ k. cond (g n) (k + 1) k) (count_same f g same n)
 
 count_in_same : (M N : List ℕ) → ((e : ℕ) → has M e ≡ has N e) → (s : List ℕ) → count_in M s ≡ count_in N s
 count_in_same M N same [] = refl
@@ -66,7 +63,7 @@ module _ (x y : Shape) (o : SameOutline x y) where
   }
 
   same_count : (i : ℕ) → links_of x i ≡ links_of y i
-  same_count i = count_same (λ l. is_end x i l) (λ l. is_end y i l) (same_end i) (length x.links) ∙ ap (count_below (λ l. is_end y i l)) o.links
+  same_count i = count_agree (λ l. is_end x i l) (λ l. is_end y i l) (length x.links) (λ l _. same_end i l) ∙ ap (count_below (λ l. is_end y i l)) o.links
 
   pub same_place_after : (s : List ℕ) → place_after x s ≡ place_after y s
   same_place_after s = count_in_same x.vocabulary y.vocabulary o.vocabulary s
@@ -82,7 +79,7 @@ module _ (x y : Shape) (o : SameOutline x y) where
     where
       same_order : place_of x number i l ≡ place_of y number i l
       same_order =
-          count_same (λ m. is_end x i m && nat_lt (number m) (number l)) (λ m. is_end y i m && nat_lt (number m) (number l)) (λ m. ap (λ b. b && nat_lt (number m) (number l)) (same_end i m)) (length x.links)
+          count_agree (λ m. is_end x i m && nat_lt (number m) (number l)) (λ m. is_end y i m && nat_lt (number m) (number l)) (length x.links) (λ m _. ap (λ b. b && nat_lt (number m) (number l)) (same_end i m))
           ∙ ap (count_below (λ m. is_end y i m && nat_lt (number m) (number l))) o.links
 
   pub clash : (i l : ℕ) (s : List ℕ) (m : ℕ) (t : List ℕ) → Clash x i l s m t → Clash y i l s m t

@@ -1,13 +1,11 @@
 -- Networks that are alike meet the same rules and break them in the same way: their outlines are the same, and their components behave alike. Each condition
 -- is made of traces, possible events and acceptances by "for each" and "there is", so it is carried over part by part; where it stands behind an
 -- arrow, it is carried the other way. Of an acceptance the members alone are looked at.
-use Rattle.design_rules.proofs.Prelude.{◌≡◌, ℕ, ◌<◌, inl, inr, ◌⊎◌, List, cond, IsTrue, sym, ap, subst, ◌∙◌, and_parts, and_from, list_any, has, any_of, any_member, Shape, link_at, RoleSets, UseSets, use_at, same_least_circle, SameOutline, Agree, Behaviours, place_after, CanBeNumbered, FallsShort, IsFullEnd, IsNumberedCyclic, is_acknowledgement, is_request, TakesTurns, ServesAll, TakesAnswers, Serves, acquires, CanBeOrdered, KeepsHolder, KeepsGrants, KeepsTurns, IsFirstBroken, MeetsRule, BreaksRule, Condition, NotedRule, Cyclic, ClientServer, Resource, RuleFault, NoOrder, NoWholeEnd, Broken, LinksCircle, ClientsCircle, ResourcesCircle}
+use Rattle.design_rules.proofs.Prelude.{◌≡◌, ℕ, ◌<◌, inl, inr, ◌⊎◌, List, cond, IsTrue, sym, ap, subst, ◌∙◌, and_parts, and_from, list_any, has, any_of, any_member, Shape, link_at, RoleSets, UseSets, use_at, same_least_circle, SameOutline, Agree, Behaviours, place_after, CanBeNumbered, FallsShort, IsFullEnd, IsNumberedCyclic, is_acknowledgement, is_request, TakesTurns, ServesAll, TakesAnswers, Serves, acquires, CanBeOrdered, KeepsHolder, KeepsGrants, KeepsTurns, IsFirstBroken, MeetsRule, BreaksRule, NotedRule, Cyclic, ClientServer, Resource, RuleFault, NoOrder, NoWholeEnd, Broken, LinksCircle, ClientsCircle, ResourcesCircle}
 use Rattle.design_rules.specs.CyclicRule.{ReachesLink, KeepsPlaces, AllKeepPlaces, MustPrecede, IsWholeEnd, HasWholeEnd}
 use Rattle.design_rules.specs.CyclicRuleFaults.{BreaksOrder}
 use Rattle.design_rules.specs.ClientServerRule.{KeepRoles}
-use Rattle.design_rules.specs.ClientServerRuleFaults.{BreaksRoles}
 use Rattle.design_rules.specs.ResourceRule.{KeepUses, IsHeldWhile}
-use Rattle.design_rules.specs.ResourceRuleFaults.{BreaksUses}
 use Rattle.design_rules.specs.declared.condition.Condition.TheVariants as condition
 use Rattle.design_rules.proofs.Outlines.{turned_outline, on_links, on_parts, same_end, same_ends, all_ends, is_on, of_ends, joins, same_place_after, same_place, is_next, clash, client_on, same_open, same_held, same_holds, holder, have_clients, lacks_roles, lacks_client, no_circle, serves, have_kinds, lacks_kind}
 
@@ -165,24 +163,6 @@ module _ (roles : List RoleSets) where
         answers = λ i s. takes_answers x y a i s (h.answers i s);
       }
 
-  breaks_roles : (x y : Seen) → Alike x y → (which : Condition) (i : ℕ) (s : List ℕ) → BreaksRoles x.shape x.does roles which i s → BreaksRoles y.shape y.does roles which i s
-  breaks_roles x y a condition.Roles i s h = (h.0, lacks_roles x.shape y.shape a.outline roles i h.1)
-  breaks_roles x y a condition.Clients i s h = (h.0, lacks_client x.shape y.shape a.outline roles i h.1)
-  breaks_roles x y a condition.Turns i s h =
-      (have_clients x.shape y.shape a.outline roles h.0, first_broken x.does y.does a.agree _ _ (takes_turns x y a) (takes_turns y x (turned x y a)) i s h.1)
-  breaks_roles x y a condition.Service i s h = (
-    have_clients x.shape y.shape a.outline roles h.0,
-    λ j t. takes_turns x y a j t (h.1 j t),
-    first_broken x.does y.does a.agree _ _ (serves_all x y a) (serves_all y x (turned x y a)) i s h.2,
-  )
-  breaks_roles x y a condition.Answers i s h = (
-    have_clients x.shape y.shape a.outline roles h.0,
-    λ j t. takes_turns x y a j t (h.1 j t),
-    λ j t. serves_all x y a j t (h.2 j t),
-    first_broken x.does y.does a.agree _ _ (takes_answers x y a) (takes_answers y x (turned x y a)) i s h.3,
-  )
-  breaks_roles x y a _ i s h = h
-
 -- ---- the rule of users and resources
 
 -- a set with the same members acquires the same resources
@@ -254,23 +234,6 @@ module _ (uses : List UseSets) where
   can_be_ordered : (x y : Seen) → Alike x y → CanBeOrdered x.shape x.does uses → CanBeOrdered y.shape y.does uses
   can_be_ordered x y a h = record { number = h.number; rise = λ m j held. h.rise m j (held_while y x (turned x y a) m j held) }
 
-  breaks_uses : (x y : Seen) → Alike x y → (which : Condition) (i : ℕ) (s : List ℕ) → BreaksUses x.shape x.does uses which i s → BreaksUses y.shape y.does uses which i s
-  breaks_uses x y a condition.Kinds i s h = (h.0, lacks_kind x.shape y.shape a.outline uses i h.1)
-  breaks_uses x y a condition.Holders i s h =
-      (have_kinds x.shape y.shape a.outline uses h.0, first_broken x.does y.does a.agree _ _ (keeps_holder x y a) (keeps_holder y x (turned x y a)) i s h.1)
-  breaks_uses x y a condition.Grants i s h = (
-    have_kinds x.shape y.shape a.outline uses h.0,
-    λ j t. keeps_holder x y a j t (h.1 j t),
-    first_broken x.does y.does a.agree _ _ (keeps_grants x y a) (keeps_grants y x (turned x y a)) i s h.2,
-  )
-  breaks_uses x y a condition.Uses i s h = (
-    have_kinds x.shape y.shape a.outline uses h.0,
-    λ j t. keeps_holder x y a j t (h.1 j t),
-    λ j t. keeps_grants x y a j t (h.2 j t),
-    first_broken x.does y.does a.agree _ _ (keeps_turns x y a) (keeps_turns y x (turned x y a)) i s h.3,
-  )
-  breaks_uses x y a _ i s h = h
-
 -- ---- a rule with its notes
 
 pub meets : (rule : NotedRule) (x y : Seen) → Alike x y → MeetsRule rule x.shape x.does → MeetsRule rule y.shape y.does
@@ -301,13 +264,40 @@ breaks Cyclic x y a (LinksCircle ends) h = record {
   are = h.are ∙ all_ends x.shape y.shape a.outline h.links;
 }
 breaks Cyclic x y a _ h = absurd h
-breaks (ClientServer roles) x y a (Broken which i s) h = breaks_roles roles x y a which i s h
+breaks (ClientServer roles) x y a (Broken condition.Roles i s) h = (h.0, lacks_roles x.shape y.shape a.outline roles i h.1)
+breaks (ClientServer roles) x y a (Broken condition.Clients i s) h = (h.0, lacks_client x.shape y.shape a.outline roles i h.1)
+breaks (ClientServer roles) x y a (Broken condition.Turns i s) h =
+    (have_clients x.shape y.shape a.outline roles h.0, first_broken x.does y.does a.agree _ _ (takes_turns roles x y a) (takes_turns roles y x (turned x y a)) i s h.1)
+breaks (ClientServer roles) x y a (Broken condition.Service i s) h = (
+  have_clients x.shape y.shape a.outline roles h.0,
+  λ j t. takes_turns roles x y a j t (h.1 j t),
+  first_broken x.does y.does a.agree _ _ (serves_all roles x y a) (serves_all roles y x (turned x y a)) i s h.2,
+)
+breaks (ClientServer roles) x y a (Broken condition.Answers i s) h = (
+  have_clients x.shape y.shape a.outline roles h.0,
+  λ j t. takes_turns roles x y a j t (h.1 j t),
+  λ j t. serves_all roles x y a j t (h.2 j t),
+  first_broken x.does y.does a.agree _ _ (takes_answers roles x y a) (takes_answers roles y x (turned x y a)) i s h.3,
+)
 breaks (ClientServer roles) x y a (ClientsCircle clients) h = record {
   keep_roles = keep_roles roles x y a h.keep_roles;
   circle = same_least_circle (Serves x.shape roles) (Serves y.shape roles) (serves x.shape y.shape a.outline roles) clients h.circle;
 }
 breaks (ClientServer roles) x y a _ h = absurd h
-breaks (Resource uses) x y a (Broken which i s) h = breaks_uses uses x y a which i s h
+breaks (Resource uses) x y a (Broken condition.Kinds i s) h = (h.0, lacks_kind x.shape y.shape a.outline uses i h.1)
+breaks (Resource uses) x y a (Broken condition.Holders i s) h =
+    (have_kinds x.shape y.shape a.outline uses h.0, first_broken x.does y.does a.agree _ _ (keeps_holder uses x y a) (keeps_holder uses y x (turned x y a)) i s h.1)
+breaks (Resource uses) x y a (Broken condition.Grants i s) h = (
+  have_kinds x.shape y.shape a.outline uses h.0,
+  λ j t. keeps_holder uses x y a j t (h.1 j t),
+  first_broken x.does y.does a.agree _ _ (keeps_grants uses x y a) (keeps_grants uses y x (turned x y a)) i s h.2,
+)
+breaks (Resource uses) x y a (Broken condition.Uses i s) h = (
+  have_kinds x.shape y.shape a.outline uses h.0,
+  λ j t. keeps_holder uses x y a j t (h.1 j t),
+  λ j t. keeps_grants uses x y a j t (h.2 j t),
+  first_broken x.does y.does a.agree _ _ (keeps_turns uses x y a) (keeps_turns uses y x (turned x y a)) i s h.3,
+)
 breaks (Resource uses) x y a (ResourcesCircle resources) h = record {
   keep_uses = keep_uses uses x y a h.keep_uses;
   circle = same_least_circle (IsHeldWhile x.shape x.does uses) (IsHeldWhile y.shape y.does uses) (held_while uses x y a) resources h.circle;
