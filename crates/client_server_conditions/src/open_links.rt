@@ -111,7 +111,11 @@ impl<'a> Duty<'a> {
         if opened.is_empty() {
             return true;
         }
-        !some_takes(self.acceptances(node), self.vocabulary(), self.roles().sreq())
+        !some_takes(
+            self.acceptances(node),
+            self.vocabulary(),
+            self.roles().sreq(),
+        )
     }
 
     // Whether each acknowledgement of each open link is taken.

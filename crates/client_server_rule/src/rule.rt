@@ -40,7 +40,12 @@ fn ranking_of(alloc: Global, network: &Network<'_>) -> Result<Ranking, Stop<Rule
     ensures fault { IfErr result (Tells (λ fault. BreaksClientServer network.now.shape network.now.roles fault)) }
 {
     let heights = checked_heights(alloc, network)?;
-    let ranking = client_server_ranking(alloc, network.sorted_shape(), network.all_roles(), &heights)?;
+    let ranking = client_server_ranking(
+        alloc,
+        network.sorted_shape(),
+        network.all_roles(),
+        &heights,
+    )?;
     Ok(ranking)
 }
 

@@ -41,11 +41,7 @@ pub(crate) fn numbers(
 }
 
 // From each link an arc to the one that comes before it in the order of a part.
-fn chains(
-    alloc: Global,
-    sorted: &SortedShape<'_>,
-    orders: &[Items<u32>],
-) -> Result<Rows, NoMemory>
+fn chains(alloc: Global, sorted: &SortedShape<'_>, orders: &[Items<u32>]) -> Result<Rows, NoMemory>
     requires { AreOrders sorted.now orders.now }
     ensures { IfOk result (AreChains sorted.now orders.now) }
 {
