@@ -1,6 +1,5 @@
 -- Sets in the rows of their events, and that a smaller set is found in the rows of a set's events.
-use Rattle.acceptances.proofs.Prelude.{◌≡◌, ℕ, ◌+◌, ◌<◌, ◌%◌, ◌⊎◌, inl, inr, Bool, true, false, not, ◌&&◌, ◌||◌, nat_eq, Option, Some, None, List, [], ◌∷◌, ◌++◌, length, get_or, set, refl, sym, ap, subst, ◌∙◌, arith, eq-eqb, All, list_any, first_so, or-false, false≢true, cases_Bool, cases_eq, cases_lt, eqb-true, or_left, or_right, or_cases, ne_eqb, get_or-set_same, get_or-set_other, length-set, get_or_default, list_any-append, list_any_at, and_second, is_subset_of, member_of_superset, is_smaller, has_smaller, IsRowFor, StandsInRow, AreEventRows}
-use Rattle.csp_base.specs.Prelude.{has}
+use Rattle.acceptances.proofs.Prelude.{◌≡◌, ℕ, ◌+◌, ◌<◌, ◌%◌, ◌⊎◌, inl, inr, Bool, true, false, not, ◌&&◌, ◌||◌, nat_eq, Option, Some, None, List, [], ◌∷◌, ◌++◌, length, get_or, set, refl, sym, ap, subst, ◌∙◌, arith, eq-eqb, All, list_any, first_so, or-false, false≢true, cases_Bool, cases_eq, cases_lt, eqb-true, or_left, or_right, or_cases, ne_eqb, get_or-set_same, get_or-set_other, length-set, get_or_default, list_any-append, list_any_at, and_second, is_subset_of, member_of_superset, is_smaller, has_smaller, IsRowFor, StandsInRow, AreEventRows, has}
 use Rattle.acceptances.proofs.Member.{stands, any_of_member, member_of_any}
 
 -- ---- the row that is chosen for a set

@@ -1,8 +1,6 @@
 -- The sets of the stable terms of a table, and what those terms offer.
-use Rattle.acceptances.proofs.Prelude.{◌≡◌, ℕ, suc, ◌+◌, ◌<◌, ◌⊎◌, inl, inr, Bool, true, false, ◌&&◌, ◌||◌, nat_eq, cond, Some, List, [], ◌∷◌, ◌++◌, length, get_or, set, take, refl, sym, ap, subst, ◌∙◌, arith, list_any, All, IsStrictlyIncreasing, first_so, second_so, eq-eqb, eqb-true, false≢true, or_left, or_right, or_cases, cases_Bool, cases_eq, ne_eqb, get_or_default, get_or-set_same, get_or-set_other, length-set, list_any_more, any_passes_from_place, or_comm, has, with_member, has-with_member, increasing-with_member, silent, Stable, Offers, RawTable, RawStep, HasRawForm, is_unstable, can_do, offers_at, or_none}
-use Rattle.csp_tables.proofs.Listed.{passing, silent_at, step_at}
+use Rattle.acceptances.proofs.Prelude.{◌≡◌, ℕ, suc, ◌+◌, ◌<◌, ◌⊎◌, inl, inr, Bool, true, false, ◌&&◌, ◌||◌, nat_eq, cond, Some, List, [], ◌∷◌, ◌++◌, length, get_or, set, take, refl, sym, ap, subst, ◌∙◌, arith, list_any, All, IsStrictlyIncreasing, first_so, second_so, eq-eqb, eqb-true, false≢true, or_left, or_right, or_cases, cases_Bool, cases_eq, ne_eqb, get_or_default, get_or-set_same, get_or-set_other, length-set, list_any_more, any_passes_from_place, or_comm, has, with_member, has-with_member, increasing-with_member, silent, Stable, Offers, RawTable, RawStep, HasRawForm, is_unstable, can_do, offers_at, or_none, passing, silent_at, step_at, same_number}
 use Rattle.acceptances.proofs.Member.{Member, member_of_any}
-use Rattle.csp_base.proofs.Listed.{same_number}
 
 same : (n : ℕ) → nat_eq n n ≡ true
 same n = eq-eqb n n refl

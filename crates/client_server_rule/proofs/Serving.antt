@@ -1,10 +1,5 @@
 -- Arcs from clients to servers.
-use Rattle.std.proofs.Common.{◌≡◌, ℕ, ◌+◌, ◌<◌, ◌⊎◌, Bool, true, ◌&&◌, ◌||◌, nat_eq, length, inl, inr, sym, subst, ◌∙◌, arith, eq-eqb}
-use Rattle.std.proofs.lemmas.Bool.{cases_lt, and_from, or_right}
-use Rattle.csp_tables.specs.Shape.{link_at}
-use Rattle.client_server_conditions.specs.Network.{Network, IsLinked, Asks, Grants}
-use Rattle.client_server_rule.specs.Serving.{ServesOn, ServesBelow}
-use Rattle.client_server_conditions.proofs.Deciding.{one_side}
+use Rattle.client_server_rule.proofs.Prelude.{◌≡◌, ℕ, ◌+◌, ◌<◌, ◌⊎◌, Bool, true, ◌&&◌, ◌||◌, nat_eq, length, inl, inr, sym, subst, ◌∙◌, arith, eq-eqb, cases_lt, and_from, or_right, link_at, Network, IsLinked, Asks, Grants, ServesOn, ServesBelow, one_side}
 
 module _ (network : Network) (l i j : ℕ) (linked : IsLinked network) (h : (link_at network.shape l).left < length network.shape.parts) where
   -- where the left end asks, the client is the left end

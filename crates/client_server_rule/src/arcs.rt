@@ -10,7 +10,7 @@ use client_server_conditions::Network;
 use containers::Items;
 use csp_base::{NoMemory, Stop};
 use design_rules::RuleFault;
-use digraph::{Fault, Heights, Rows, longest_walks};
+use digraph::{Heights, Rows, longest_walks};
 use std::alloc::Global;
 
 // For each part the greatest number of arcs in a walk from it to servers.
@@ -24,11 +24,11 @@ pub(crate) fn heights(alloc: Global, network: &Network<'_>) -> Result<Heights, S
     let rows = arcs(alloc, network)?;
     match longest_walks(alloc, &rows) {
         Ok(heights) => Ok(heights),
-        Err(Fault::Circle(circle)) => {
+        Err(Stop::Told(circle)) => {
             let clients = Items::from_slice(alloc, circle.members())?;
             Err(Stop::Told(RuleFault::ClientsCircle { clients }))
         }
-        Err(Fault::NoMemory) => Err(Stop::NoMemory),
+        Err(Stop::NoMemory) => Err(Stop::NoMemory),
     }
 }
 

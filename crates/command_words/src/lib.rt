@@ -10,5 +10,5 @@ mod request;
 mod words;
 
 pub use laws::words_ask_once;
-pub use request::{Job, Request, Trial, asked};
+pub use request::{Job, Request, Trial, read_request};
 pub use words::Words;

@@ -5,9 +5,7 @@ ghost use Rattle.csp_tables.specs.declared.rule.Rule.{Rule as RuleValue};
 ghost use Rattle.net_maker.specs.declared.families.Family.{Family as FamilyValue};
 ghost use Rattle.net_maker.specs.Families.{family_name, greatest, least};
 ghost use Rattle.report.specs.Report.{rule_text};
-ghost use Rattle.command_words.specs.Named.{IsNamed};
-ghost use Rattle.command_words.specs.Request.{Asks, IsNoRequest, trial_of, written};
-ghost use Rattle.command_words.specs.declared.request.Job.TheVariants.{Check, Livelock, Run, Table};
+ghost use Rattle.command_words.specs.Prelude.{IsNamed, Asks, IsNoRequest, trial_of, written, Check, Livelock, Run, Table};
 ghost use Rattle.command_words.specs.declared.request.Job.{Job as JobValue};
 ghost use Rattle.command_words.specs.declared.request.Trial.{Trial as TrialValue};
 ghost use Rattle.command_words.specs.declared.request.Request.TheVariants as request;
@@ -121,7 +119,7 @@ fn family_named(name: &[u8]) -> Option<Family>
 }
 
 // The rule and the script's name of the words `check RULE SCRIPT`.
-fn asked_check(words: &[Bytes]) -> Option<(Rule, &[u8])>
+fn read_check(words: &[Bytes]) -> Option<(Rule, &[u8])>
     ensures asks { IfSome result (λ asked. words.now ≡ written (request.Script (Check asked.0) asked.1.now)) }
     ensures none { IfNone result
         ((rule : RuleValue) (script : List ℕ) → words.now ≡ written (request.Script (Check rule) script) → ⊥) }
@@ -136,7 +134,7 @@ fn asked_check(words: &[Bytes]) -> Option<(Rule, &[u8])>
 }
 
 // The script's name of the words `show SCRIPT`.
-fn asked_show(words: &[Bytes]) -> Option<&[u8]>
+fn read_show(words: &[Bytes]) -> Option<&[u8]>
     ensures asks { IfSome result (λ script. words.now ≡ written (request.Show script.now)) }
     ensures none { IfNone result ((script : List ℕ) → words.now ≡ written (request.Show script) → ⊥) }
 {
@@ -147,7 +145,7 @@ fn asked_show(words: &[Bytes]) -> Option<&[u8]>
 }
 
 // The component and the script's name of the words `table SCRIPT INDEX`.
-fn asked_table(words: &[Bytes]) -> Option<(u32, &[u8])>
+fn read_table(words: &[Bytes]) -> Option<(u32, &[u8])>
     ensures asks { IfSome result (λ asked.
         (asked.0 < 1000000) × (words.now ≡ written (request.Script (Table asked.0) asked.1.now))) }
     ensures none { IfNone result
@@ -165,7 +163,7 @@ fn asked_table(words: &[Bytes]) -> Option<(u32, &[u8])>
 }
 
 // The seed, the number of steps and the script's name of the words `run SCRIPT SEED STEPS`.
-fn asked_run(words: &[Bytes]) -> Option<(u32, u32, &[u8])>
+fn read_run(words: &[Bytes]) -> Option<(u32, u32, &[u8])>
     ensures asks { IfSome result (λ asked. Asks words.now (request.Script (Run asked.0 asked.1) asked.2.now)) }
     ensures none { IfNone result
         ((seed steps : ℕ) (script : List ℕ) → Asks words.now (request.Script (Run seed steps) script) → ⊥) }
@@ -185,7 +183,7 @@ fn asked_run(words: &[Bytes]) -> Option<(u32, u32, &[u8])>
 }
 
 // The set's name and the script's name of the words `livelock SCRIPT SET`.
-fn asked_livelock(words: &[Bytes]) -> Option<(&[u8], &[u8])>
+fn read_livelock(words: &[Bytes]) -> Option<(&[u8], &[u8])>
     ensures asks { IfSome result (λ asked. Asks words.now (request.Script (Livelock asked.0.now) asked.1.now)) }
     ensures none { IfNone result ((set script : List ℕ) → Asks words.now (request.Script (Livelock set) script) → ⊥) }
 {
@@ -198,21 +196,21 @@ fn asked_livelock(words: &[Bytes]) -> Option<(&[u8], &[u8])>
 }
 
 // What the words ask for the network of a script, and the script's name.
-fn asked_job(alloc: Global, words: &[Bytes]) -> Result<Option<(Job, &[u8])>, NoMemory>
+fn read_job(alloc: Global, words: &[Bytes]) -> Result<Option<(Job, &[u8])>, NoMemory>
     ensures asks { IfOk result (λ found. IfSome found (λ asked. Asks words.now (request.Script asked.0 asked.1.now))) }
     ensures none { IfOk result (λ found.
         IfNone found ((job : JobValue) (script : List ℕ) → Asks words.now (request.Script job script) → ⊥)) }
 {
-    if let Some((rule, script)) = asked_check(words) {
+    if let Some((rule, script)) = read_check(words) {
         return Ok(Some((Job::Check(rule), script)));
     }
-    if let Some((index, script)) = asked_table(words) {
+    if let Some((index, script)) = read_table(words) {
         return Ok(Some((Job::Table(index), script)));
     }
-    if let Some((seed, steps, script)) = asked_run(words) {
+    if let Some((seed, steps, script)) = read_run(words) {
         return Ok(Some((Job::Run { seed, steps }, script)));
     }
-    if let Some((set, script)) = asked_livelock(words) {
+    if let Some((set, script)) = read_livelock(words) {
         let set = Bytes::from_slice(alloc, set)?;
         return Ok(Some((Job::Livelock(set), script)));
     }
@@ -232,7 +230,7 @@ fn trial_of(family: Family, size: u32) -> Option<Trial>
 }
 
 // The trial of the words after `trial`.
-fn named_trial(family: &[u8], size: &[u8]) -> Option<Trial>
+fn trial_named(family: &[u8], size: &[u8]) -> Option<Trial>
     ensures named { IfSome result (IsNamed family.now size.now) }
     ensures none { IfNone result ((trial : TrialValue) → IsNamed family.now size.now trial → ⊥) }
 {
@@ -246,20 +244,20 @@ fn named_trial(family: &[u8], size: &[u8]) -> Option<Trial>
 }
 
 // The trial of the words `trial FAMILY N`.
-fn asked_trial(words: &[Bytes]) -> Option<Trial>
+fn read_trial(words: &[Bytes]) -> Option<Trial>
     ensures asks { IfSome result (λ trial. Asks words.now (request.Trial trial)) }
     ensures none { IfNone result ((trial : TrialValue) → Asks words.now (request.Trial trial) → ⊥) }
 {
     match words {
         [trial, family, size] if trial.as_slice() == TRIAL => {
-            named_trial(family.as_slice(), size.as_slice())
+            trial_named(family.as_slice(), size.as_slice())
         }
         _ => None,
     }
 }
 
 // The names of the words `conform SCRIPT SPEC`.
-fn asked_conform(words: &[Bytes]) -> Option<(&[u8], &[u8])>
+fn read_conform(words: &[Bytes]) -> Option<(&[u8], &[u8])>
     ensures asks { IfSome result (λ asked. Asks words.now (request.Conform asked.0.now asked.1.now)) }
     ensures none { IfNone result
         ((script specification : List ℕ) → Asks words.now (request.Conform script specification) → ⊥) }
@@ -282,23 +280,23 @@ fn conform_of(alloc: Global, script: &[u8], specification: &[u8]) -> Result<Requ
 }
 
 /// What the words ask for, if they ask for something.
-pub fn asked(alloc: Global, words: &Words) -> Result<Option<Request>, NoMemory>
+pub fn read_request(alloc: Global, words: &Words) -> Result<Option<Request>, NoMemory>
     ensures asks { IfOk result (λ found. IfSome found (Asks words.now)) }
     ensures none { IfOk result (λ found. IfNone found (IsNoRequest words.now)) }
 {
     let words = words.as_slice();
-    if let Some(trial) = asked_trial(words) {
+    if let Some(trial) = read_trial(words) {
         return Ok(Some(Request::Trial(trial)));
     }
-    if let Some(script) = asked_show(words) {
+    if let Some(script) = read_show(words) {
         let name = Bytes::from_slice(alloc, script)?;
         return Ok(Some(Request::Show(name)));
     }
-    if let Some((script, specification)) = asked_conform(words) {
+    if let Some((script, specification)) = read_conform(words) {
         let request = conform_of(alloc, script, specification)?;
         return Ok(Some(request));
     }
-    let found = asked_job(alloc, words)?;
+    let found = read_job(alloc, words)?;
     let Some((job, script)) = found else {
         return Ok(None);
     };

@@ -1,13 +1,6 @@
 -- From the parts of two networks to their components: which conform, and which is the first that does not.
-use Rattle.comparison.proofs.Prelude.{◌≡◌, ℕ, suc, ◌<◌, inl, inr, List, [], ◌∷◌, get_or, length, Some, refl, sym, ap, subst, ◌∙◌, arith, slice_get, get_or_read, same_Some, tables_tell, Proc, Content, HasForm, HaveForm, Component, leaves, Part, part_at, IsPartOf, component_of, one_part_each, part_of, part_within, alphabets, HasSilentBound, IsLive, IsSpelled, Network, HasParts, ProcessStep, AllConform, Conforms, Tells, ComponentsConform, ConformBefore, FailsToConform, HaveSameEvents, StandsFirst, failure}
-use Rattle.conformance.specs.Conforming.{TableConforms}
-use Rattle.conformance.specs.Told.{Fails}
-use Rattle.conformance.specs.declared.fault.ConformFault.{ConformFault}
+use Rattle.comparison.proofs.Prelude.{◌≡◌, ℕ, suc, ◌<◌, inl, inr, List, [], ◌∷◌, get_or, length, Some, refl, sym, ap, subst, ◌∙◌, arith, slice_get, get_or_read, same_Some, tables_tell, Proc, Content, HasForm, HaveForm, Component, leaves, Part, part_at, IsPartOf, component_of, one_part_each, part_of, part_within, alphabets, HasSilentBound, IsLive, IsSpelled, Network, HasParts, ProcessStep, AllConform, Conforms, Tells, ComponentsConform, ConformBefore, FailsToConform, HaveSameEvents, StandsFirst, failure, TableConforms, Fails, ConformFault, part_form, network_is_tree, conforming_networks_are_live, Stop}
 use Rattle.conformance.specs.declared.fault.ConformFault.TheVariants as fault
-use Rattle.net_sound.proofs.Within.{part_form}
-use Rattle.network_trees.proofs.InOrder.{network_is_tree}
-use Rattle.conformance.proofs.Inheriting.{conforming_networks_are_live}
-use Rattle.csp_base.specs.declared.stop.Stop.{Stop}
 use Rattle.csp_base.specs.declared.stop.Stop.TheVariants as stop
 use Rattle.comparison.proofs.Lists.{alphabet_there, as_many_alphabets}
 

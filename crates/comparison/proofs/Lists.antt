@@ -1,6 +1,5 @@
 -- Lists that agree or differ at some place.
-use Rattle.comparison.proofs.Prelude.{◌≡◌, ℕ, suc, ◌<◌, ◌≤◌, inl, inr, List, [], ◌∷◌, length, Bool, true, false, MatchBool, nat_eq, Option, Some, None, refl, sym, ap, ap₂, ◌∙◌, arith, slice_get, option_map, bytes_decides, cases_lt, false≢true, length-map, same_Some, slice_get-map, slice_get_past, Proc, Content, Component, alphabets, printed_events}
-use Rattle.csp_base.specs.Standard.{pointwise}
+use Rattle.comparison.proofs.Prelude.{◌≡◌, ℕ, suc, ◌<◌, ◌≤◌, inl, inr, List, [], ◌∷◌, length, Bool, true, false, MatchBool, nat_eq, Option, Some, None, refl, sym, ap, ap₂, ◌∙◌, arith, slice_get, option_map, bytes_decides, cases_lt, false≢true, length-map, same_Some, slice_get-map, slice_get_past, Proc, Content, Component, alphabets, printed_events, pointwise}
 
 -- lists that agree at each place are the same
 pub same_everywhere : {X : Type 0} (xs ys : List X) → ((k : ℕ) → slice_get xs k ≡ slice_get ys k) → xs ≡ ys

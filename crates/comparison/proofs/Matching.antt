@@ -1,12 +1,7 @@
 -- A verdict on a network and its specification tells a fault by which they do not match, or that they match.
-use Rattle.comparison.proofs.Prelude.{◌≡◌, ◌↔◌, ℕ, zero, suc, List, [], ◌∷◌, Some, slice_get, inl, inr, sym, ap, subst, same_Some, faults_refute, Label, Component, leaves, alphabets, Network, HaveFewSets, HasNoParts, ProcessStep, AllConform, Conforms, Point, passed, told, verdict_status, Side, Verdict, DifferFirstAt, printed_events, ConformanceDecides, IsCompared, IsConforming, PartsOr, ComponentsConform, FailsToConform}
-use Rattle.std.proofs.lemmas.Option.{none-some, slice_get_within}
-use Rattle.network_stages.proofs.Excluded.{faults_exclude_tables}
-use Rattle.report.specs.declared.answer.Refusal.{Refusal}
-use Rattle.report.specs.declared.answer.Shortfall.{Shortfall}
+use Rattle.comparison.proofs.Prelude.{◌≡◌, ◌↔◌, ℕ, zero, suc, List, [], ◌∷◌, Some, slice_get, inl, inr, sym, ap, subst, same_Some, faults_refute, Label, Component, leaves, alphabets, Network, HaveFewSets, HasNoParts, ProcessStep, AllConform, Conforms, Point, passed, told, verdict_status, Side, Verdict, DifferFirstAt, printed_events, ConformanceDecides, IsCompared, IsConforming, PartsOr, ComponentsConform, FailsToConform, none-some, slice_get_within, faults_exclude_tables, Refusal, Shortfall, ComparisonIsExact, IsWithinLimits, Matches}
 use Rattle.report.specs.declared.answer.Side.TheVariants as side
 use Rattle.report.specs.declared.answer.Verdict.TheVariants as verdict
-use Rattle.comparison.specs.Complete.{ComparisonIsExact, IsWithinLimits, Matches}
 
 -- ---- each of the faults excludes its point
 

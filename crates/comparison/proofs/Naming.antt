@@ -1,11 +1,6 @@
 -- Where two programs give the same names, equal events are printed alike.
-use Rattle.comparison.proofs.Prelude.{◌≡◌, ◌<◌, ◌≤◌, ◌+◌, ℕ, List, [], ◌∷◌, ◌++◌, length, get_or, true, nat_eq, Some, refl, sym, ap, ap₂, subst, ◌∙◌, arith, inl, inr, codes, slice_get, pointwise, flat_map, option_map, cases_lt, eqb-true, slice_get-get_or, slice_get-map, slice_get_past, Content, AgreeAt, HaveSameNames}
-use Rattle.csp_program.specs.declared.programs.Channel.{Channel}
-use Rattle.containers.specs.Exact.{IsExact-pointwise}
-use Rattle.csp_atoms.specs.declared.atom.Atom.{Atom}
+use Rattle.comparison.proofs.Prelude.{◌≡◌, ◌<◌, ◌≤◌, ◌+◌, ℕ, List, [], ◌∷◌, ◌++◌, length, get_or, true, nat_eq, Some, refl, sym, ap, ap₂, subst, ◌∙◌, arith, inl, inr, codes, slice_get, pointwise, flat_map, option_map, cases_lt, eqb-true, slice_get-get_or, slice_get-map, slice_get_past, Content, AgreeAt, HaveSameNames, Channel, IsExact-pointwise, Atom, EventInfo, channel_name, field_text, info_text, text_or_none}
 use Rattle.csp_atoms.specs.declared.atom.Atom.TheVariants as atom
-use Rattle.csp_program.specs.declared.programs.EventInfo.{EventInfo}
-use Rattle.report.specs.EventText.{channel_name, field_text, info_text, text_or_none}
 
 pub same_names : (names others : List (List ℕ)) → pointwise (pointwise nat_eq) names others ≡ true → names ≡ others
 same_names = IsExact-pointwise (pointwise nat_eq) (IsExact-pointwise nat_eq eqb-true)

@@ -1,9 +1,5 @@
 -- The spine of a comparison: what a walk answers that is past some of its points, and one that stops at the parts of a network.
-use Rattle.comparison.proofs.Prelude.{◌≡◌, List, Result, leaves, Part, alphabets, Network, HasParts, HasTables, at_halt, goes_on, halts_weaker, passed, told, Answers, HaltsWith, Side, Verdict, printed_events, ConformanceDecides, IsCompared, PartsOr}
-use Rattle.std.specs.Result.{IsErrAnd}
-use Rattle.network_stages.specs.declared.component_tables.ComponentTable.{ComponentTable}
-use Rattle.report.specs.declared.stop.Halt.{Halt}
-use Rattle.report.specs.declared.answer.Done.{Done}
+use Rattle.comparison.proofs.Prelude.{◌≡◌, List, Result, leaves, Part, alphabets, Network, HasParts, HasTables, at_halt, goes_on, halts_weaker, passed, told, Answers, HaltsWith, Side, Verdict, printed_events, ConformanceDecides, IsCompared, PartsOr, IsErrAnd, ComponentTable, Halt, Done}
 use Rattle.report.specs.declared.answer.Side.TheVariants as side
 
 -- a fault at these points is one whatever follows

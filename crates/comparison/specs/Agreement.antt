@@ -4,8 +4,7 @@ use Rattle.csp_program.specs.declared.processes.Proc.{Proc}
 use Rattle.csp_program.specs.declared.programs.Content.{Content}
 use Rattle.csp_tables.specs.Network.{Component}
 use Rattle.network_layout.specs.Triple.{alphabets}
-use Rattle.report.specs.EventText.{channel_name}
-use Rattle.report.specs.Prelude.{info_text}
+use Rattle.report.specs.Prelude.{channel_name, info_text}
 use Rattle.report.specs.declared.answer.Refusal.{Refusal}
 use Rattle.report.specs.declared.answer.Refusal.TheVariants as refusal
 

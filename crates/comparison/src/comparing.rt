@@ -10,7 +10,7 @@ use crate::alphabets::check_alphabets;
 use crate::conforming::check_components;
 use crate::events::check_events;
 use network_stages::{Parted, Spelled, make_parts, make_tables};
-use report::{Done, Halt, Side, refused};
+use report::{Done, Halt, Side, refuse};
 use std::alloc::Global;
 
 /// Whether the network conforms to its specification, component by component; and what is told where it does not.
@@ -39,8 +39,8 @@ fn parts_of<'a>(alloc: Global, side: Side, network: &'a Spelled) -> Result<(Part
     match make_tables(alloc, network) {
         Ok(tabled) => match make_parts(alloc, &tabled) {
             Ok(parted) => Ok((parted, tabled.silent_bound())),
-            Err(stop) => Err(refused(side, stop)),
+            Err(stop) => Err(refuse(side, stop)),
         },
-        Err(stop) => Err(refused(side, stop)),
+        Err(stop) => Err(refuse(side, stop)),
     }
 }

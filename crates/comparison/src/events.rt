@@ -62,8 +62,8 @@ fn same_event(
     ensures { IfOk result (λ same. MatchBool same (AgreeAt program.now other.now number)
         (AgreeAt program.now other.now number → ⊥)) }
 {
-    let text = printed(alloc, program, number)?;
-    let other_text = printed(alloc, other, number)?;
+    let text = event_text_at(alloc, program, number)?;
+    let other_text = event_text_at(alloc, other, number)?;
     Ok(same_text(&text, &other_text))
 }
 
@@ -79,7 +79,7 @@ fn same_text(text: &Option<Bytes>, other: &Option<Bytes>) -> bool
 }
 
 // The printed text of the event with this number, if there is one.
-fn printed(alloc: Global, program: &Program, number: u32) -> Result<Option<Bytes>, NoMemory>
+fn event_text_at(alloc: Global, program: &Program, number: u32) -> Result<Option<Bytes>, NoMemory>
     ensures { IfOk result (λ text. text ≡ slice_get (printed_events program.now) number) }
 {
     if number as usize >= program.content().events.len() {

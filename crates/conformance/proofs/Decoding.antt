@@ -1,6 +1,5 @@
 -- What has the same key conforms alike.
-use Rattle.conformance.proofs.Prelude.{◌≡◌, ℕ, zero, suc, ◌⊎◌, inl, inr, List, [], ◌∷◌, ◌++◌, length, map, Bool, Some, refl, sym, ap₂, subst, ◌∙◌, arith, append_assoc, append-nil, slice_get, flat_map, is_member, cases_Bool, cond-false, cond-true, none-some, same_Some, NodesHaveForm, Node, Part, AreMatched, TableConforms, AllKeysConform, IsKey, KeyConforms, event_code, listed, node_code, set_code, step_code, table_code}
-use Rattle.containers.specs.Members.{with_new}
+use Rattle.conformance.proofs.Prelude.{◌≡◌, ℕ, zero, suc, ◌⊎◌, inl, inr, List, [], ◌∷◌, ◌++◌, length, map, Bool, Some, refl, sym, ap₂, subst, ◌∙◌, arith, append_assoc, append-nil, slice_get, flat_map, is_member, cases_Bool, cond-false, cond-true, none-some, same_Some, NodesHaveForm, Node, Part, AreMatched, TableConforms, AllKeysConform, IsKey, KeyConforms, event_code, listed, node_code, set_code, step_code, table_code, with_new}
 use Rattle.conformance.proofs.Renaming.{back, renamed, renamed_node, renamed_step, there}
 
 -- Two codes, whatever follows each, are the same only where what they tell and what follows are the same.

@@ -1,7 +1,5 @@
 -- The freedom from deadlock that a network inherits from a specified one.
-use Rattle.conformance.proofs.Prelude.{◌≡◌, ℕ, inl, inr, List, [], ◌∷◌, ◌||◌, IsTrue, MatchBool, get_or, true, false, refl, sym, ap, ap₂, subst, ◌∙◌, get_or_from_slice_get, has, Label, silent, visible, Stable, Component, ComponentStep, NetworkStep, leaves, in_some_component, OneMoves, AllTakePart, Part, project, ArePartsOf, IsPartOf, acceptances_after, visible_events, After, IsAcceptance, Offers, alphabets, by_test, match_true, match_false, back, forth, AllAfter, all_after, run_forth, run_kept, path_alphabet, silence_is_bounded, AllConform, Conforms}
-use Rattle.std.proofs.lemmas.Option.{slice_get_within}
-use Rattle.conformance.specs.Inherits.{ConformingNetworksAreLive}
+use Rattle.conformance.proofs.Prelude.{◌≡◌, ℕ, inl, inr, List, [], ◌∷◌, ◌||◌, IsTrue, MatchBool, get_or, true, false, refl, sym, ap, ap₂, subst, ◌∙◌, get_or_from_slice_get, has, Label, silent, visible, Stable, Component, ComponentStep, NetworkStep, leaves, in_some_component, OneMoves, AllTakePart, Part, project, ArePartsOf, IsPartOf, acceptances_after, visible_events, After, IsAcceptance, Offers, alphabets, by_test, match_true, match_false, back, forth, AllAfter, all_after, run_forth, run_kept, path_alphabet, silence_is_bounded, AllConform, Conforms, slice_get_within, ConformingNetworksAreLive}
 use Rattle.conformance.proofs.Composing.{composed, owned_along, run_back, run_owned}
 
 -- ---- stable states

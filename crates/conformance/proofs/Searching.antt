@@ -1,7 +1,5 @@
 -- An event is looked for in the steps of a node, which rise.
-use Rattle.conformance.proofs.Prelude.{◌≡◌, ℕ, zero, suc, ◌+◌, ◌<◌, ◌≤◌, inl, inr, List, [], ◌∷◌, length, get_or, true, false, IsTrue, Some, None, sym, ap, subst, ◌∙◌, arith, if◌then◌else◌, Less, Equal, Greater, IsNonDecreasingBy, IsPartitionPoint, is_eq, nat_cmp, ordering_index, bytes_decides, slice_cmp, texts_ties, cases_Bool, cases_lt, cond-true, cond-false, false≢true, nat_tests, get_or_default, get_or_read, has, IsWithin, is_possible, target, BeginsAbove, StepsHaveForm, HasWithin, listed_step, step_listed}
-use Rattle.csp_base.specs.Prelude.{is_subset_of}
-use Rattle.csp_base.proofs.SetLaws.{is_subset_of_from_members, member_of_superset}
+use Rattle.conformance.proofs.Prelude.{◌≡◌, ℕ, zero, suc, ◌+◌, ◌<◌, ◌≤◌, inl, inr, List, [], ◌∷◌, length, get_or, true, false, IsTrue, Some, None, sym, ap, subst, ◌∙◌, arith, if◌then◌else◌, Less, Equal, Greater, IsNonDecreasingBy, IsPartitionPoint, is_eq, nat_cmp, ordering_index, bytes_decides, slice_cmp, texts_ties, cases_Bool, cases_lt, cond-true, cond-false, false≢true, nat_tests, get_or_default, get_or_read, has, IsWithin, is_possible, target, BeginsAbove, StepsHaveForm, HasWithin, listed_step, step_listed, is_subset_of, is_subset_of_from_members, member_of_superset}
 
 higher : (a b x : ℕ) → a ≤ b → ordering_index (nat_cmp a x) ≤ ordering_index (nat_cmp b x)
 higher a b x le = grind (arith, nat_tests)

@@ -1,7 +1,5 @@
 -- Nodes with the same acceptances, in place of each other.
-use Rattle.conformance.proofs.Prelude.{◌≡◌, ℕ, List, [], ◌∷◌, ◌++◌, length, get_or, true, nat_eq, subst, sym, refl, arith, inl, inr, cases_lt, eqb-true, get_or_append_left, get_or_past, length-append, get_or-append_seam, Node, AreAlike, IsAlike}
-use Rattle.std.specs.Cmp.Lexicographic.{pointwise}
-use Rattle.containers.specs.Exact.{IsExact-pointwise}
+use Rattle.conformance.proofs.Prelude.{◌≡◌, ℕ, List, [], ◌∷◌, ◌++◌, length, get_or, true, nat_eq, subst, sym, refl, arith, inl, inr, cases_lt, eqb-true, get_or_append_left, get_or_past, length-append, get_or-append_seam, Node, AreAlike, IsAlike, pointwise, IsExact-pointwise}
 
 pub same_sets : (sets others : List (List ℕ)) → pointwise (pointwise nat_eq) sets others ≡ true → sets ≡ others
 same_sets = IsExact-pointwise (pointwise nat_eq) (IsExact-pointwise nat_eq eqb-true)

@@ -1,6 +1,5 @@
 -- What the normal tables of components tell of the components.
-use Rattle.conformance.proofs.Prelude.{◌≡◌, ℕ, List, [], get_or, IsTrue, subst, has, Label, Component, ComponentStep, Part, IsPartOf, acceptances_after, IsTrace, AcceptsWithin, Conforms, HasWithin, RefusesAfter, RunsOutside, TableConforms}
-use Rattle.conformance.specs.Failing.{FaultsRefute, GoesOutside, RefusesTooMuch, TablesTell}
+use Rattle.conformance.proofs.Prelude.{◌≡◌, ℕ, List, [], get_or, IsTrue, subst, has, Label, Component, ComponentStep, Part, IsPartOf, acceptances_after, IsTrace, AcceptsWithin, Conforms, HasWithin, RefusesAfter, RunsOutside, TableConforms, FaultsRefute, GoesOutside, RefusesTooMuch, TablesTell}
 
 module _ {T : Type 0} (Step : T → Label → T → Type 0) (c : Component T) (p : Part) (of : IsPartOf Step c p) where
   -- a set of the table that lies within M is an acceptance within M

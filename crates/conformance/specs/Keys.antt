@@ -3,8 +3,7 @@
 use Rattle.std.specs.Prelude.{◌≡◌, ◌++◌, ◌∷◌, [], ℕ, List, Some, IsTrue, length, slice_get}
 use Rattle.csp_base.specs.Standard.{flat_map}
 use Rattle.csp_base.specs.Members.{has}
-use Rattle.csp_tables.specs.Part.{Part}
-use Rattle.csp_tables.specs.Table.{Node}
+use Rattle.csp_tables.specs.Prelude.{Part, Node}
 use Rattle.conformance.specs.Conforming.{AreMatched, TableConforms}
 
 -- how many there are, and what is coded of each

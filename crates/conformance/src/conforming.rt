@@ -31,7 +31,7 @@ pub(crate) fn conform(
     ensures conforms { OnOk result (TableConforms part.now.table specified.now.table) }
     ensures told { IfErr result (Tells (Fails part.now.table specified.now.table)) }
 {
-    let explored = followed(alloc, part, specified)?;
+    let explored = explore_both(alloc, part, specified)?;
     let pairs = explored.pairs();
     if let Some(place) = outside_place(specified, pairs) {
         let (earlier, event) = explored.origin(place);
@@ -47,7 +47,7 @@ pub(crate) fn conform(
 }
 
 // The pairs of nodes to which runs of the part lead, in its table and in that of its specification.
-fn followed(alloc: Global, part: &Part, specified: &Part) -> Result<Explored, NoMemory>
+fn explore_both(alloc: Global, part: &Part, specified: &Part) -> Result<Explored, NoMemory>
     requires form { HasForm part.now }
     requires specified_form { HasForm specified.now }
     ensures pairs { IfOk result (λ made. IsExploration part.now.table

@@ -19,10 +19,9 @@ pub struct ConformingParts {
     known: Numbering<Items<usize>>,
 }
 
-// By hand, so that a crate that ends one calls this and proves no end of its own.
 impl Drop for ConformingParts {
     fn drop(self) {
-        let ConformingParts { known: _known } = self;
+        let ConformingParts { known } = self;
     }
 }
 

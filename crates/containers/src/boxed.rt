@@ -13,7 +13,7 @@ pub struct Boxed<T> {
 
 impl<T: Drop> Drop for Boxed<T> {
     fn drop(self) {
-        let Boxed { inner: _inner } = self;
+        let Boxed { inner } = self;
     }
 }
 

@@ -18,7 +18,7 @@ pub struct Items<T> {
 
 impl<T: Drop> Drop for Items<T> {
     fn drop(self) {
-        let Items { items: _items } = self;
+        let Items { items } = self;
     }
 }
 

@@ -20,10 +20,9 @@ pub struct Numbering<T: Eq + Hash, S: BuildHasher = BuildHasherDefault<FoldHashe
     values: IndexSet<T, S>,
 }
 
-// By hand, so that a crate that ends one calls this and proves no end of its own.
 impl<T: Eq + Hash + Drop, S: BuildHasher + Drop> Drop for Numbering<T, S> {
     fn drop(self) {
-        let Numbering { values: _values } = self;
+        let Numbering { values } = self;
     }
 }
 

@@ -1,8 +1,5 @@
 -- One step of a merge of two rising lists of atoms.
-use Rattle.csp_atoms.proofs.Prelude.{◌≡◌, ◌+◌, ◌<◌, ◌≤◌, Bool, true, false, not, cond, refl, sym, ◌∙◌, ap, subst, inl, inr, ◌⊎◌, List, [], ◌∷◌, ◌++◌, length, Some, None, arith, append_assoc, filter, append-nil, less, same, AllAbove, IsRising, has_atom, with_atom, union_of, result_of, least_of, begins_with, rest_after, with_last, Atom}
-use Rattle.csp_base.specs.Prelude.{keeps}
-use Rattle.csp_base.specs.declared.operators.SetOp.{SetOp}
-use Rattle.csp_base.specs.declared.operators.SetOp.TheVariants.{Union, Inter, Diff}
+use Rattle.csp_atoms.proofs.Prelude.{◌≡◌, ◌+◌, ◌<◌, ◌≤◌, Bool, true, false, not, cond, refl, sym, ◌∙◌, ap, subst, inl, inr, ◌⊎◌, List, [], ◌∷◌, ◌++◌, length, Some, None, arith, append_assoc, filter, append-nil, less, same, AllAbove, IsRising, has_atom, with_atom, union_of, result_of, least_of, begins_with, rest_after, with_last, Atom, keeps, SetOp, Union, Inter, Diff}
 use Rattle.csp_atoms.proofs.OrderLaws.{same_itself, less_itself, before_from_less, cases_atoms}
 use Rattle.csp_atoms.proofs.ListLaws.{AllAbove-trans, has_not_before, with_first, AllAbove-union_of}
 

@@ -1,6 +1,5 @@
 -- Results of operations on sets of atoms are sets of atoms.
-use Rattle.csp_atoms.proofs.Prelude.{◌≡◌, ℕ, ◌+◌, ◌<◌, Bool, true, refl, sym, ◌∙◌, ap, subst, List, [], ◌∷◌, Option, Some, arith, pos, false≢true, eqb-true, int_ranked, ints, filter, IsStrictlyIncreasing, int_cmp, is_lt, Ordering, Less, Equal, Greater, kind_of, less, AllAbove, IsRising, AllOfKind, IsOneKind, IsAtomSet, with_atom, union_of, fits, alike, event_atoms, event_numbers, Atom}
-use Rattle.csp_base.proofs.Rising.{RisesFrom, increasing_from_rises}
+use Rattle.csp_atoms.proofs.Prelude.{◌≡◌, ℕ, ◌+◌, ◌<◌, Bool, true, refl, sym, ◌∙◌, ap, subst, List, [], ◌∷◌, Option, Some, arith, pos, false≢true, eqb-true, int_ranked, ints, filter, IsStrictlyIncreasing, int_cmp, is_lt, Ordering, Less, Equal, Greater, kind_of, less, AllAbove, IsRising, AllOfKind, IsOneKind, IsAtomSet, with_atom, union_of, fits, alike, event_atoms, event_numbers, Atom, RisesFrom, increasing_from_rises}
 use Rattle.csp_atoms.specs.declared.atom.Atom.TheVariants as atom
 use Rattle.csp_atoms.proofs.EventLaws.{atoms_of_numbers}
 use Rattle.csp_atoms.proofs.ListLaws.{IsRising-with_atom, IsRising-union_of, IsRising-filter, IsOneKind-filter, kind_with_atom, kind_union_of, kind_first, one_kind}

@@ -1,15 +1,14 @@
 //! Sets of atoms of one kind. Contracts see the list of the members, which rises strictly.
 
 ghost use Rattle.std.specs.Prelude.{◌≡◌, ◌↔◌, ◌&&◌, ◌||◌, not, [], false, length, slice_get, IfOk, OnOk, OnErr, IsErrOf, IsTrue};
-ghost use Rattle.csp_atoms.specs.Order.{same};
-ghost use Rattle.csp_atoms.specs.Sets.{IsAtomSet, IsRising, IsOneKind, alike, diff_of, event_numbers, fits, has_atom, inter_of, place_of, union_of, with_atom};
-ghost use Rattle.csp_atoms.specs.declared.atom.Atom.{Atom};
+ghost use Rattle.csp_atoms.specs.Prelude.{same, IsAtomSet, IsRising, IsOneKind, alike, diff_of, event_numbers, fits, has_atom, inter_of, place_of, union_of, with_atom, Atom};
+ghost use Rattle.csp_base.specs.declared.stop.Stop.TheVariants as stop;
 
 use crate::atom::Atom;
-use crate::error::AtomSetError;
+use crate::error::MixedKinds;
 use crate::sorted;
 use containers::Items;
-use csp_base::{EventSet, NoMemory, SetOp};
+use csp_base::{EventSet, NoMemory, SetOp, Stop};
 use std::alloc::Global;
 use std::marker::Model;
 
@@ -19,10 +18,9 @@ pub struct AtomSet {
     atoms: Items<Atom>,
 }
 
-// By hand, so that a crate that ends one calls this and proves no end of its own.
 impl Drop for AtomSet {
     fn drop(self) {
-        let AtomSet { atoms: _atoms } = self;
+        let AtomSet { atoms } = self;
     }
 }
 
@@ -105,39 +103,37 @@ impl AtomSet {
     }
 
     /// Adds an atom, where it isn't there yet. An error changes nothing.
-    pub fn insert(&mut self, atom: Atom) -> Result<(), AtomSetError>
+    pub fn insert(&mut self, atom: Atom) -> Result<(), Stop<MixedKinds>>
         ensures ok { OnOk result (self.new ≡ with_atom self.old atom) }
         ensures members { OnOk result ((a : Atom) → has_atom self.new a ≡ (same atom a || has_atom self.old a)) }
-        ensures mixed { IsErrOf result AtomSetError.MixedKinds ↔ (fits self.old atom ≡ false) }
+        ensures mixed { IsErrOf result (stop.Told (record {})) ↔ (fits self.old atom ≡ false) }
         ensures err { OnErr result (self.new ≡ self.old) }
     {
         if !sorted::can_take(self.atoms.as_slice(), &atom) {
-            return Err(AtomSetError::MixedKinds);
+            return Err(Stop::Told(MixedKinds));
         }
         sorted::include(&mut self.atoms, &atom)?;
         Ok(())
     }
 
     /// The atoms of either set, if they are of one kind.
-    pub fn union(&self, alloc: Global, other: &AtomSet) -> Result<AtomSet, AtomSetError>
+    pub fn union(&self, alloc: Global, other: &AtomSet) -> Result<AtomSet, Stop<MixedKinds>>
         ensures value { IfOk result (λ made. made ≡ union_of self.now other.now) }
         ensures members { IfOk result (λ made. (a : Atom)
             → has_atom made a ≡ (has_atom self.now a || has_atom other.now a)) }
         ensures set { IfOk result IsAtomSet }
-        ensures mixed { IsErrOf result AtomSetError.MixedKinds ↔ (alike self.now other.now ≡ false) }
+        ensures mixed { IsErrOf result (stop.Told (record {})) ↔ (alike self.now other.now ≡ false) }
     {
         if !sorted::can_join(self.atoms.as_slice(), other.atoms.as_slice()) {
-            return Err(AtomSetError::MixedKinds);
+            return Err(Stop::Told(MixedKinds));
         }
-        let atoms = sorted::merged(
+        let atoms = sorted::merge(
             alloc,
             SetOp::Union,
             self.atoms.as_slice(),
             other.atoms.as_slice(),
         )?;
-        Ok(AtomSet {
-            atoms: Items::from_vec(atoms),
-        })
+        Ok(AtomSet { atoms })
     }
 
     /// The atoms of both sets.
@@ -147,15 +143,13 @@ impl AtomSet {
             → has_atom made a ≡ (has_atom self.now a && has_atom other.now a)) }
         ensures set { IfOk result IsAtomSet }
     {
-        let atoms = sorted::merged(
+        let atoms = sorted::merge(
             alloc,
             SetOp::Inter,
             self.atoms.as_slice(),
             other.atoms.as_slice(),
         )?;
-        Ok(AtomSet {
-            atoms: Items::from_vec(atoms),
-        })
+        Ok(AtomSet { atoms })
     }
 
     /// The atoms of this set that are no members of the other.
@@ -165,15 +159,13 @@ impl AtomSet {
             → has_atom made a ≡ (has_atom self.now a && not (has_atom other.now a))) }
         ensures set { IfOk result IsAtomSet }
     {
-        let atoms = sorted::merged(
+        let atoms = sorted::merge(
             alloc,
             SetOp::Diff,
             self.atoms.as_slice(),
             other.atoms.as_slice(),
         )?;
-        Ok(AtomSet {
-            atoms: Items::from_vec(atoms),
-        })
+        Ok(AtomSet { atoms })
     }
 
     /// A second set of the same atoms.

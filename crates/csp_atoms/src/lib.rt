@@ -10,5 +10,5 @@ pub mod value;
 
 pub use atom::Atom;
 pub use atom_set::AtomSet;
-pub use error::AtomSetError;
+pub use error::MixedKinds;
 pub use value::Value;

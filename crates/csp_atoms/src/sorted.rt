@@ -2,9 +2,7 @@
 
 ghost use Rattle.std.specs.Prelude.{◌≡◌, ◌+◌, ◌<◌, Some, None, IfOk, OnOk, OnErr};
 ghost use Rattle.std.specs.Option.{option_map};
-ghost use Rattle.csp_atoms.specs.Merge.{result_of, least_of, begins_with, rest_after, with_last};
-ghost use Rattle.csp_atoms.specs.Search.{count_before, stands_at};
-ghost use Rattle.csp_atoms.specs.Sets.{IsRising, alike, event_number, event_numbers, fits, has_atom, place_of, with_atom};
+ghost use Rattle.csp_atoms.specs.Prelude.{result_of, least_of, begins_with, rest_after, with_last, count_before, stands_at, IsRising, alike, event_number, event_numbers, fits, has_atom, place_of, with_atom};
 ghost use Rattle.csp_base.specs.Operations.{keeps};
 
 use crate::atom::{Atom, equal, precedes};
@@ -151,15 +149,15 @@ fn push_if(made: &mut Vec<Atom>, kept: bool, atom: &Atom) -> Result<(), NoMemory
 }
 
 /// The operation on both lists, in a walk over both.
-pub(crate) fn merged(
+pub(crate) fn merge(
     alloc: Global,
     operation: SetOp,
     left: &[Atom],
     right: &[Atom],
-) -> Result<Vec<Atom>, NoMemory>
+) -> Result<Items<Atom>, NoMemory>
     requires left_rises { IsRising left.now }
     requires right_rises { IsRising right.now }
-    ensures { IfOk result (λ made. made.items ≡ result_of operation left.now right.now) }
+    ensures { IfOk result (λ made. made ≡ result_of operation left.now right.now) }
 {
     let mut made = Vec::new(alloc);
     let mut first = left;
@@ -174,7 +172,7 @@ pub(crate) fn merged(
         first = past_front(first, &atom);
         second = past_front(second, &atom);
     }
-    Ok(made)
+    Ok(Items::from_vec(made))
 }
 
 // The event that an atom is.

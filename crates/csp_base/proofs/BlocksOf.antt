@@ -1,7 +1,6 @@
 -- The blocks of the events of blocks are those blocks.
-use Rattle.std.proofs.Common.{◌≡◌, ℕ, zero, suc, ◌+◌, ◌*◌, ◌/◌, ◌%◌, ◌^◌, ◌<◌, ◌≤◌, Bool, true, false, cond, eqb, List, [], ◌∷◌, ◌++◌, refl, sym, ap, inl, inr, ◌∙◌, add-one, pow-suc, arith}
+use Rattle.csp_base.proofs.Prelude.{◌≡◌, ℕ, zero, suc, ◌+◌, ◌*◌, ◌/◌, ◌%◌, ◌^◌, ◌<◌, ◌≤◌, Bool, true, false, cond, eqb, List, [], ◌∷◌, ◌++◌, refl, sym, ap, inl, inr, ◌∙◌, add-one, pow-suc, arith, has_bit, word_events, events_of, AreBlocksFrom, with_bit, blocks_of}
 use Rattle.csp_base.proofs.Standard.{cases_eq, eq-eqb, ne_eqb, eqb-true, eqb-false, bit_at_lowest}
-use Rattle.csp_base.specs.Blocks.{has_bit, word_events, events_of, AreBlocksFrom, with_bit, blocks_of}
 use Rattle.csp_base.proofs.Finds.{half_lt}
 
 with_bit-ahead : (number bit : ℕ) (ps : List (ℕ × ℕ)) → AreBlocksFrom (number + 1) ps → with_bit number bit ps ≡ (number, bit) ∷ ps

@@ -1,15 +1,14 @@
 -- Laws of truth values that the kit's library does not state, or states the other way round.
-use Rattle.csp_base.proofs.Prelude.{◌≡◌, Bool, true, false, ◌&&◌, ◌||◌, refl, sym, IsTrue, false≢true}
+use Rattle.csp_base.proofs.Prelude.{◌≡◌, Bool, true, false, ◌&&◌, ◌||◌, refl, sym, IsTrue, false≢true, or-false, or_assoc}
+pub use Rattle.std.proofs.Math.Bool.{and-false as and_false}
 
 -- ---- equations
 
 pub or_none : (a : Bool) → a ≡ (a || false)
-or_none true = refl
-or_none false = refl
+or_none a = sym (or-false a)
 
 pub or_regroup : (a b c : Bool) → (a || (b || c)) ≡ ((a || b) || c)
-or_regroup true b c = refl
-or_regroup false b c = refl
+or_regroup a b c = sym (or_assoc a b c)
 
 pub or_swap : (a b c : Bool) → (a || (b || c)) ≡ (b || (a || c))
 or_swap true true c = refl
@@ -26,10 +25,6 @@ or_unless false b h = h
 
 pub same_or : (a b c d : Bool) → a ≡ c → b ≡ d → (a || b) ≡ (c || d)
 same_or a b c d p q = λ i. p i || q i
-
-pub and_false : (a : Bool) → (a && false) ≡ false
-and_false true = refl
-and_false false = refl
 
 -- two tests that pass for the same things are equal
 pub same_tests : (a b : Bool) → (a ≡ true → b ≡ true) → (b ≡ true → a ≡ true) → a ≡ b

@@ -1,6 +1,5 @@
 -- Lists of numbers by their members: which are listed, and which pass a test.
-use Rattle.csp_base.proofs.Prelude.{◌≡◌, ℕ, zero, suc, ◌<◌, Bool, true, false, nat_eq, nat_le, List, [], ◌∷◌, ◌++◌, length, get_or, Some, None, refl, sym, ap, inl, inr, ◌∙◌, arith, eq-eqb, ne_eqb, eqb-true, le-leb, ◌⊎◌, find, has}
-use Rattle.std.specs.List.{All, list_any}
+use Rattle.csp_base.proofs.Prelude.{◌≡◌, ℕ, zero, suc, ◌<◌, Bool, true, false, nat_eq, nat_le, List, [], ◌∷◌, ◌++◌, length, get_or, Some, None, refl, sym, ap, inl, inr, ◌∙◌, arith, eq-eqb, ne_eqb, eqb-true, le-leb, ◌⊎◌, find, has, All, list_any}
 use Rattle.csp_base.proofs.Standard.{cases_Bool, cond-true, cond-false, false≢true, or_cases, or_left, or_right, get_or_read, Any-from_list_any, list_any-append, none-some, same_Some}
 use Rattle.csp_base.proofs.Booleans.{same_tests}
 

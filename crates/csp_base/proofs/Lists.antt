@@ -1,5 +1,6 @@
 -- Laws of lists: one item more at the end, and what is left where items were read one after another.
-use Rattle.csp_base.proofs.Prelude.{◌≡◌, ℕ, zero, suc, ◌+◌, ◌<◌, true, nat_eq, List, [], ◌∷◌, ◌++◌, map, length, get_or, take, drop, Some, refl, sym, ap, inl, inr, ◌∙◌, add-one, append_assoc, append-nil, take-suc, drop-cons, arith, eq-eqb, ◌⊎◌, slice_get, flat_map, pointwise, and_from}
+use Rattle.csp_base.proofs.Prelude.{◌≡◌, ℕ, zero, suc, ◌+◌, ◌<◌, true, nat_eq, List, [], ◌∷◌, ◌++◌, length, get_or, take, drop, Some, refl, sym, ap, inl, inr, ◌∙◌, add-one, append_assoc, append-nil, take-suc, drop-cons, arith, ◌⊎◌, slice_get, flat_map, pointwise, bytes_decides}
+pub use Rattle.std.proofs.lemmas.List.{map_push}
 
 -- ---- items that are read one after another
 
@@ -10,10 +11,6 @@ pub take_read : {X : Type 0} (xs : List X) (i : ℕ) (x : X) → i < length xs �
 take_read xs i x within is = rw (add-one, take-suc xs i x within) (ap (λ y. take i xs ++ y ∷ []) (sym is))
 
 -- ---- one item more
-
-pub map_push : {X Y : Type 0} (f : X → Y) (xs : List X) (x : X) → map f (xs ++ x ∷ []) ≡ map f xs ++ f x ∷ []
-map_push f [] x = refl
-map_push f (y ∷ xs) x = ap (λ zs. f y ∷ zs) (map_push f xs x)
 
 pub flat_map_push : {X Y : Type 0} (f : X → List Y) (xs : List X) (x : X) → flat_map f (xs ++ x ∷ []) ≡ flat_map f xs ++ f x
 flat_map_push f [] x = append-nil (f x)
@@ -39,5 +36,4 @@ slice_get_some (x ∷ xs) (suc k) h = slice_get_some xs k (omega arith)
 -- ---- lists that are equal to themselves by the test
 
 pub same_list : (xs : List ℕ) → pointwise nat_eq xs xs ≡ true
-same_list [] = refl
-same_list (x ∷ xs) = and_from (nat_eq x x) (pointwise nat_eq xs xs) (eq-eqb x x refl) (same_list xs)
+same_list xs = (bytes_decides xs xs).1 refl

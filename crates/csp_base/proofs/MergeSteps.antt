@@ -1,7 +1,6 @@
 -- The walk over two lists of blocks: what is done and what is left make the operation of both.
-use Rattle.csp_base.proofs.Prelude.{◌≡◌, ℕ, zero, suc, ◌+◌, ◌-◌, ◌*◌, ◌/◌, ◌%◌, ◌^◌, ◌<◌, ◌≤◌, true, false, not, cond, ◌&&◌, ◌||◌, eqb, List, [], ◌∷◌, ◌++◌, length, drop, get_or, min, max, refl, sym, ap, inl, inr, le_refl, ◌∙◌, subst, arith, ◌==◌, bit_and, bit_or, SetOp, Union, Inter, Diff, has_bit, word_at, AreBlocksFrom, events_of, has, combined_of, keeps, least_of, first_word, rest_after, with_word, end_from}
+use Rattle.csp_base.proofs.Prelude.{◌≡◌, ℕ, zero, suc, ◌+◌, ◌-◌, ◌*◌, ◌/◌, ◌%◌, ◌^◌, ◌<◌, ◌≤◌, true, false, not, cond, ◌&&◌, ◌||◌, eqb, List, [], ◌∷◌, ◌++◌, length, drop, get_or, min, max, refl, sym, ap, inl, inr, le_refl, ◌∙◌, subst, arith, ◌==◌, bit_and, bit_or, SetOp, Union, Inter, Diff, has_bit, word_at, AreBlocksFrom, events_of, has, combined_of, keeps, least_of, first_word, rest_after, with_word, end_from, bit_at, bit_not, trailing_zeros, w64}
 use Rattle.csp_base.proofs.Standard.{false≢true, cases_eq, cases_lt, cases_order, eq-eqb, ne_eqb, lt-ltb, le-ltb, bit_at_and, bit_at_or, bit_at_not, bit_at-lt, bit_at-trailing_zeros, or_lt, and_le_l}
-use Rattle.std.specs.Int.{bit_at, bit_not, trailing_zeros, w64}
 use Rattle.csp_base.proofs.BlockMembers.{AreBlocksFrom-weaken, word_at_below, word_at-append, word_at_first, word_at_later, has-events_of_at, has-events_of}
 
 -- ---- one bit of a word of the result

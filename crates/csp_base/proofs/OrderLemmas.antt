@@ -1,7 +1,6 @@
 -- The order of two sets as lists, by the first event in which they differ.
-use Rattle.csp_base.proofs.Prelude.{◌≡◌, ℕ, zero, suc, ◌+◌, ◌-◌, ◌*◌, ◌/◌, ◌%◌, ◌^◌, ◌<◌, ◌≤◌, Bool, true, false, not, cond, ◌||◌, eqb, ltb, List, [], ◌∷◌, ◌++◌, length, take, drop, get_or, min, refl, sym, ap, inl, inr, le_refl, ◌∙◌, subst, arith, w64, count_trailing_zeros, MatchBool, slice_cmp, nat_cmp, ordering_then, Less, Equal, Greater, ◌==◌, bit_xor, has, has_bit, word_at, AreBlocksFrom, events_of, end_from, word_order_at}
+use Rattle.csp_base.proofs.Prelude.{◌≡◌, ℕ, zero, suc, ◌+◌, ◌-◌, ◌*◌, ◌/◌, ◌%◌, ◌^◌, ◌<◌, ◌≤◌, Bool, true, false, not, cond, ◌||◌, eqb, ltb, List, [], ◌∷◌, ◌++◌, length, take, drop, get_or, min, refl, sym, ap, inl, inr, le_refl, ◌∙◌, subst, arith, w64, count_trailing_zeros, MatchBool, slice_cmp, nat_cmp, ordering_then, Less, Equal, Greater, ◌==◌, bit_xor, has, has_bit, word_at, AreBlocksFrom, events_of, end_from, word_order_at, bit_at}
 use Rattle.csp_base.proofs.Standard.{cases_eq, cases_lt, cases_order, eq-eqb, ne_eqb, eqb-true, eqb-false, lt-ltb, le-ltb, false≢true, true≢false, not-true, not-false, ltb-true, ltb-false, bit_at-zero, bit_at_xor, bit_at-lt, bit_at_above, bit_at-trailing_zeros, same_from_bits, take-append-drop, xor_lt, pow-add, div-div-eq-div-mul, div-le_self}
-use Rattle.csp_base.specs.Standard.{bit_at}
 use Rattle.csp_base.proofs.Rising.{RisesFrom, has_below}
 use Rattle.csp_base.proofs.BlockMembers.{AreBlocksFrom-weaken, word_at_first, word_at_later, has-events_of_at, has-events_of, RisesFrom-events_of, has_bit-zero}
 use Rattle.csp_base.proofs.MergeSteps.{bit_of_word}

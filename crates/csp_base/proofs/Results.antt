@@ -1,19 +1,11 @@
 -- Results: what follows from what several calls say of one, and what is made of it.
-use Rattle.csp_base.proofs.Prelude.{◌≡◌, Result, Ok, Err, List, [], ◌∷◌, ◌++◌, ap, sym, subst, ◌∙◌, IfOk, IsOkAnd, MatchResult, OnOk, OnErr}
+use Rattle.csp_base.proofs.Prelude.{◌≡◌, Result, Ok, Err, List, [], ◌∷◌, ◌++◌, ap, sym, subst, ◌∙◌, IfOk, IsOkAnd, MatchResult}
 
 -- ---- several facts of each success
-
-pub on_ok3 : {T E : Type 0} (r : Result T E) (P Q R S : Type 0) → OnOk r P → OnOk r Q → OnOk r R → (P → Q → R → S) → OnOk r S
-on_ok3 (Ok x) P Q R S p q r f = f p q r
-on_ok3 (Err e) P Q R S p q r f = tt
 
 pub if_both : {T E : Type 0} (r : Result T E) (P Q R : T → Type 0) → IfOk r P → IfOk r Q → ((x : T) → P x → Q x → R x) → IfOk r R
 if_both (Ok x) P Q R p q f = f x p q
 if_both (Err e) P Q R p q f = tt
-
-pub if_ok_with : {T E : Type 0} (r : Result T E) (P : Type 0) (Q R : T → Type 0) → OnOk r P → IfOk r Q → ((x : T) → P → Q x → R x) → IfOk r R
-if_ok_with (Ok x) P Q R p q f = f x p q
-if_ok_with (Err e) P Q R p q f = tt
 
 -- ---- what was made, and put at the end
 
@@ -42,14 +34,3 @@ pub if_map : {T U E : Type 0} (made : Result T E) (R : T → U → Type 0) (resu
 if_map (Ok x) R (Ok y) f P Q comes is step p = subst Q (sym (is x y comes)) (step x p)
 if_map (Ok x) R (Err e) f P Q comes is step p = absurd comes
 if_map (Err e) R r f P Q comes is step p = subst (λ z. IfOk z Q) (sym comes) tt
-
-pub if_map_both : {T U E : Type 0} (made : Result T E) (R : T → U → Type 0) (result : Result U E) (f : T → U) (P O : T → Type 0) (Q : U → Type 0)
-    → Comes made R result → ((x : T) (y : U) → R x y → y ≡ f x) → ((x : T) → P x → O x → Q (f x)) → IfOk made P → IfOk made O → IfOk result Q
-if_map_both (Ok x) R (Ok y) f P O Q comes is step p o = subst Q (sym (is x y comes)) (step x p o)
-if_map_both (Ok x) R (Err e) f P O Q comes is step p o = absurd comes
-if_map_both (Err e) R r f P O Q comes is step p o = subst (λ z. IfOk z Q) (sym comes) tt
-
-pub err_map : {T U E : Type 0} (made : Result T E) (R : T → U → Type 0) (result : Result U E) (P : Type 0) → Comes made R result → OnErr made P → OnErr result P
-err_map (Ok x) R (Ok y) P comes p = tt
-err_map (Ok x) R (Err e) P comes p = absurd comes
-err_map (Err e) R r P comes p = subst (λ z. OnErr z P) (sym comes) p

@@ -1,8 +1,7 @@
 -- Facts on strictly rising lists of numbers, by their members.
-use Rattle.csp_base.proofs.Prelude.{◌≡◌, ℕ, zero, suc, ◌+◌, ◌<◌, ◌≤◌, Bool, true, false, not, cond, ◌&&◌, ◌||◌, eqb, ltb, leb, List, [], ◌∷◌, ◌++◌, refl, sym, ap, inl, inr, le_refl, ◌∙◌, subst, add-one, arith, Some, None, IsStrictlyIncreasing, filter, find, ◌==◌, with_member, union_of, set_of, inter_of, diff_of, is_subset_of, meets_of}
+use Rattle.csp_base.proofs.Prelude.{◌≡◌, ℕ, zero, suc, ◌+◌, ◌<◌, ◌≤◌, Bool, true, false, not, cond, ◌&&◌, ◌||◌, eqb, ltb, leb, List, [], ◌∷◌, ◌++◌, refl, sym, ap, inl, inr, le_refl, ◌∙◌, subst, add-one, arith, Some, None, IsStrictlyIncreasing, filter, find, ◌==◌, with_member, union_of, set_of, inter_of, diff_of, is_subset_of, meets_of, and_comm, has}
 use Rattle.csp_base.proofs.Standard.{cases_eq, cases_lt, cases_order, or_right, or_left, or_from, or_cases, or_parts, and_from, and_left, and_right, and_parts, ltb-true, ltb-false, eqb-false, ne_eqb, le-leb, lt-leb, eqb-true, false≢true, true≢false, list_any-append, any-filter_same}
-use Rattle.csp_base.specs.Events.{has}
-use Rattle.csp_base.proofs.Booleans.{or_regroup, or_swap, or_again}
+use Rattle.csp_base.proofs.Booleans.{or_none, or_regroup, or_swap, or_again}
 use Rattle.csp_base.proofs.Listed.{has_first, has_rest}
 
 -- the list rises strictly, from the given number on
@@ -93,12 +92,6 @@ RisesFrom-filter p n (x ∷ xs) r =
       | true ↦ (r.0, RisesFrom-filter p (x + 1) xs r.1)
       | false ↦ RisesFrom-filter p n xs (RisesFrom-weaken n (x + 1) xs (let h : n ≤ x = r.0 in omega arith) r.1)
     ]
-
-pub and_comm : (a b : Bool) → (a && b) ≡ (b && a)
-and_comm true true = refl
-and_comm true false = refl
-and_comm false true = refl
-and_comm false false = refl
 
 not_meets_rest : (a b c : Bool) → ((a || b) && c) ≡ false → (b && c) ≡ false
 not_meets_rest true true c h = h
@@ -218,7 +211,3 @@ find_from_none (y ∷ ys) e none =
 
 pub set_of_from_members : (xs zs : List ℕ) → RisesFrom 0 zs → ((x : ℕ) → has zs x ≡ has xs x) → zs ≡ set_of xs
 set_of_from_members xs zs s h = union_of_from_members xs [] zs tt s (λ x. h x ∙ or_none (has xs x))
-  where
-    or_none : (b : Bool) → b ≡ (b || false)
-    or_none true = refl
-    or_none false = refl

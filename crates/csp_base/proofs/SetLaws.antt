@@ -1,8 +1,6 @@
 -- Laws of sets of events for callers, over strictly rising lists of numbers.
-use Rattle.csp_base.proofs.Prelude.{◌≡◌, ℕ, true, not, ◌&&◌, eqb, List, [], ◌∷◌, refl, inl, inr, ◌∙◌, arith, false≢true, or_cases, or_left, or_right, eq-eqb, with_member, union_of, set_of, inter_of, diff_of, meets_of}
-use Rattle.std.specs.List.Sorted.{IsStrictlyIncreasing}
-use Rattle.csp_base.specs.Events.{has}
-use Rattle.csp_base.proofs.Rising.{rises_from_increasing, increasing_from_rises, same_members, has-with_member, RisesFrom-with_member, RisesFrom-union_of, has-filter, and_comm, is_subset_of_from_members, member_of_superset, meets_of_from_member, not_meets_of_from_members}
+use Rattle.csp_base.proofs.Prelude.{◌≡◌, ℕ, true, not, ◌&&◌, eqb, List, [], ◌∷◌, refl, inl, inr, ◌∙◌, arith, false≢true, or_cases, or_left, or_right, eq-eqb, with_member, union_of, set_of, inter_of, diff_of, meets_of, IsStrictlyIncreasing, and_comm, has}
+use Rattle.csp_base.proofs.Rising.{rises_from_increasing, increasing_from_rises, same_members, has-with_member, RisesFrom-with_member, RisesFrom-union_of, has-filter, is_subset_of_from_members, member_of_superset, meets_of_from_member, not_meets_of_from_members}
 pub use Rattle.csp_base.proofs.Rising.{has-append, has-with_member, has-union_of, is_subset_of_from_members, not_is_subset_of_from_member, member_of_superset, meets_of_from_member, not_meets_of_from_members}
 
 -- extensionality: sets with the same members are equal

@@ -1,7 +1,5 @@
 -- What a walk that found a member, or none, says of the tests on lists.
-use Rattle.csp_base.proofs.Prelude.{◌≡◌, ℕ, Bool, true, false, not, ◌&&◌, List, refl, sym, and_parts, not-true, both_ways, is_subset_of, meets_of}
-use Rattle.std.specs.Bool.{OnTrue, OnFalse}
-use Rattle.csp_base.specs.Events.{has}
+use Rattle.csp_base.proofs.Prelude.{◌≡◌, ℕ, Bool, true, false, not, ◌&&◌, List, refl, sym, and_parts, not-true, both_ways, is_subset_of, meets_of, OnTrue, OnFalse, has}
 use Rattle.csp_base.proofs.Rising.{is_subset_of_from_members, not_is_subset_of_from_member, meets_of_from_member, not_meets_of_from_members}
 
 pub meets_of_from_answer : (b : Bool) (xs ys : List ℕ) → OnTrue b ((x : ℕ) × ((has xs x && has ys x) ≡ true)) → OnFalse b ((x : ℕ) → (has xs x && has ys x) ≡ false) → b ≡ meets_of xs ys

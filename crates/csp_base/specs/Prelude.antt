@@ -8,8 +8,5 @@ pub use Rattle.csp_base.specs.Operations.{combined_of, end_from, first_word, kee
 pub use Rattle.csp_base.specs.Orders.{word_order_at}
 pub use Rattle.csp_base.specs.SetHash.{set_writes}
 pub use Rattle.csp_base.specs.Stops.{Tells}
-pub use Rattle.csp_base.specs.declared.operators.BinOp.{BinOp}
-pub use Rattle.csp_base.specs.declared.operators.BinOp.TheVariants.{Add, And, Div, Eq, Ge, Gt, Le, Lt, Mul, Ne, Or, Rem, Sub}
 pub use Rattle.csp_base.specs.declared.operators.SetOp.{SetOp}
 pub use Rattle.csp_base.specs.declared.operators.SetOp.TheVariants.{Diff, Inter, Union}
-pub use Rattle.csp_base.specs.declared.stop.Stop.{Stop}

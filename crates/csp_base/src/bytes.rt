@@ -16,10 +16,9 @@ pub struct Bytes {
     bytes: Vec<u8>,
 }
 
-// By hand, so that a crate that ends one calls this and proves no end of its own.
 impl Drop for Bytes {
     fn drop(self) {
-        let Bytes { bytes: _bytes } = self;
+        let Bytes { bytes } = self;
     }
 }
 
@@ -94,10 +93,9 @@ pub struct Name {
     bytes: SmallVec<u8, 16>,
 }
 
-// By hand, so that a crate that ends one calls this and proves no end of its own.
 impl Drop for Name {
     fn drop(self) {
-        let Name { bytes: _bytes } = self;
+        let Name { bytes } = self;
     }
 }
 

@@ -33,10 +33,9 @@ pub struct EventSet {
     blocks: Vec<(u32, u64)>,
 }
 
-// By hand, so that a crate that ends one calls this and proves no end of its own.
 impl Drop for EventSet {
     fn drop(self) {
-        let EventSet { blocks: _blocks } = self;
+        let EventSet { blocks } = self;
     }
 }
 

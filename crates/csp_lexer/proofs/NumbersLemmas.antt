@@ -1,6 +1,5 @@
 -- Numbers that are read digit by digit.
-use Rattle.csp_lexer.proofs.Prelude.{◌≡◌, ℕ, ◌+◌, ◌-◌, ◌*◌, ◌<◌, ◌≤◌, true, false, List, [], ◌∷◌, length, drop, get_or, drop-cons, add-one, refl, sym, ap, ◌∙◌, arith, cond-true, cond-false, nat_tests, drop_of_length-le, Some, None, nat_le, continued, number_token}
-use Rattle.csp_text.specs.declared.token.Token.TheVariants.{Num}
+use Rattle.csp_lexer.proofs.Prelude.{◌≡◌, ℕ, ◌+◌, ◌-◌, ◌*◌, ◌<◌, ◌≤◌, true, false, List, [], ◌∷◌, length, drop, get_or, drop-cons, add-one, refl, sym, ap, ◌∙◌, arith, cond-true, cond-false, nat_tests, drop_of_length-le, Some, None, nat_le, continued, number_token, Num}
 
 -- the next digit
 pub continued_step : (n i : ℕ) (digits : List ℕ) → i < length digits → continued n (drop i digits) ≡ continued (n * 10 + (get_or digits i 0 - 48)) (drop (i + 1) digits)

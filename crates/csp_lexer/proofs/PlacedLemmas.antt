@@ -1,6 +1,5 @@
 -- Tokens and their places side by side.
-use Rattle.csp_lexer.proofs.Prelude.{◌≡◌, ℕ, List, [], ◌∷◌, ◌++◌, length, refl, sym, ap, ◌∙◌, arith, unwrap_or-slice_get, firsts-zip, seconds-zip, slice_get, zip, unwrap_or, Option, get_or, Place, Token, PlacedTokens}
-use Rattle.csp_lexer.specs.Placed.{place_at, tokens_of}
+use Rattle.csp_lexer.proofs.Prelude.{◌≡◌, ℕ, List, [], ◌∷◌, ◌++◌, length, refl, sym, ap, ◌∙◌, arith, unwrap_or-slice_get, firsts-zip, seconds-zip, slice_get, zip, unwrap_or, Option, get_or, Place, Token, PlacedTokens, place_at, tokens_of}
 
 zip-append : {A B : Type 0} (xs ys : List A) (us vs : List B) → length us ≡ length xs → zip (xs ++ ys) (us ++ vs) ≡ zip xs us ++ zip ys vs
 zip-append [] ys [] vs is = refl

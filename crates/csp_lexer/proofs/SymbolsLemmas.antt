@@ -1,9 +1,5 @@
 -- The symbol found is the longest that stands at the front of the text.
-use Rattle.csp_lexer.proofs.Prelude.{◌≡◌, ℕ, zero, suc, ◌+◌, ◌<◌, ◌≤◌, Bool, true, false, ◌&&◌, cond, List, [], ◌∷◌, ◌++◌, length, refl, sym, ap, ◌∙◌, subst, arith, and_parts, eqb-true, false≢true, length-append, nat_tests, Option, Some, None, IfSome, find, nat_eq, nat_le, nat_lt, slice_get, starts_with}
-use Rattle.csp_text.specs.Prelude.{symbol_text, symbols}
-use Rattle.csp_text.specs.declared.token.Symbol.{Symbol}
-use Rattle.csp_text.proofs.WrittenAlike.{symbol_place, symbol_stands}
-use Rattle.csp_lexer.specs.Symbols.{IsFront, IsLongest, longest_symbol}
+use Rattle.csp_lexer.proofs.Prelude.{◌≡◌, ℕ, zero, suc, ◌+◌, ◌<◌, ◌≤◌, Bool, true, false, ◌&&◌, cond, List, [], ◌∷◌, ◌++◌, length, refl, sym, ap, ◌∙◌, subst, arith, and_parts, eqb-true, false≢true, length-append, nat_tests, Option, Some, None, IfSome, find, nat_eq, nat_le, nat_lt, slice_get, starts_with, symbol_text, symbols, Symbol, symbol_place, symbol_stands, IsFront, IsLongest, longest_symbol}
 
 -- the spellings of these symbols are never empty and never longer than the one before, the first never longer than n
 falls : ℕ → List Symbol → Bool

@@ -1,6 +1,5 @@
 -- Reserved words have two letters or more, and what an assertion begins with.
-use Rattle.csp_lexer.proofs.Prelude.{◌≡◌, ℕ, zero, suc, ◌<◌, Bool, true, false, ◌&&◌, None, List, [], ◌∷◌, length, take, codes, refl, arith, and-false, nat_tests, nat_eq, starts_with, begins_assertion, is_foreign, reserved_word, word_len}
-use Rattle.csp_base.specs.Standard.{bytes_eq}
+use Rattle.csp_lexer.proofs.Prelude.{◌≡◌, ℕ, zero, suc, ◌<◌, Bool, true, false, ◌&&◌, None, List, [], ◌∷◌, length, take, codes, refl, arith, and-false, nat_tests, nat_eq, starts_with, begins_assertion, is_foreign, reserved_word, word_len, bytes_eq}
 
 pub short_not_reserved : (bytes : List ℕ) → length bytes < 2 → reserved_word bytes ≡ None
 unfolding reserved_word

@@ -2,9 +2,7 @@
 
 ghost use Rattle.std.specs.Prelude.{◌≡◌, map, IfOk, IfSome};
 ghost use Rattle.csp_base.specs.Standard.{option_copied, list_all};
-ghost use Rattle.csp_lexer.specs.Annotations.{line_piece, marked_piece, resource, roles, words_of};
-ghost use Rattle.csp_lexer.specs.Passed.{Passed};
-ghost use Rattle.csp_lexer.specs.Words.{is_name};
+ghost use Rattle.csp_lexer.specs.Prelude.{line_piece, marked_piece, resource, roles, words_of, Passed, is_name};
 
 use crate::classes::is_space;
 use crate::scan::{Left, pass_one};
@@ -71,13 +69,7 @@ fn resource(alloc: Global, words: &[&[u8]]) -> Result<Option<Token>, NoMemory>
 
 // Passes a line comment that begins with `--@` and these words, which may be an annotation.
 #[tactic(auto, unfolding(crate::specs::Annotations::marked_piece))]
-fn pass_marked<'a>(
-    alloc: Global,
-    words: &[&[u8]],
-    rest: &'a [u8],
-    at: Place,
-    found: &mut Tokens,
-) -> Left<'a>
+fn pass_marked<'a>(words: &[&[u8]], rest: &'a [u8], at: Place, found: &mut Tokens) -> Left<'a>
     ensures passed { IfOk result (λ left.
         Passed (marked_piece at (map (λ word. word.now) words.now) rest.now) found.old found.new (option_copied left)) }
     ensures same { IfOk result (λ left. IfSome left (λ left. left.now ≡ rest.now)) }
@@ -86,11 +78,11 @@ fn pass_marked<'a>(
         return Ok(Some(rest));
     };
     if *word == b"roles".as_slice() {
-        let token = roles(alloc, names)?;
+        let token = roles(found.alloc(), names)?;
         return pass_one(token, at, rest, found);
     }
     if *word == b"resource".as_slice() {
-        let token = resource(alloc, names)?;
+        let token = resource(found.alloc(), names)?;
         return pass_one(token, at, rest, found);
     }
     Ok(Some(rest))
@@ -98,13 +90,7 @@ fn pass_marked<'a>(
 
 // Passes a line comment, which may be an annotation.
 #[tactic(auto, using(std::proofs::lemmas::List::take_rest), unfolding(crate::specs::Annotations::line_piece))]
-pub(crate) fn pass_line<'a>(
-    alloc: Global,
-    line: &[u8],
-    rest: &'a [u8],
-    at: Place,
-    found: &mut Tokens,
-) -> Left<'a>
+pub(crate) fn pass_line<'a>(line: &[u8], rest: &'a [u8], at: Place, found: &mut Tokens) -> Left<'a>
     ensures passed { IfOk result (λ left.
         Passed (line_piece at line.now rest.now) found.old found.new (option_copied left)) }
     ensures same { IfOk result (λ left. IfSome left (λ left. left.now ≡ rest.now)) }
@@ -112,7 +98,7 @@ pub(crate) fn pass_line<'a>(
     if !line.starts_with(b"--@") {
         return Ok(Some(rest));
     }
-    let words = words_of(alloc, &line[3..])?;
-    let left = pass_marked(alloc, words.as_slice(), rest, at, found)?;
+    let words = words_of(found.alloc(), &line[3..])?;
+    let left = pass_marked(words.as_slice(), rest, at, found)?;
     Ok(left)
 }

@@ -1,8 +1,7 @@
 //! Assertions.
 
 ghost use Rattle.std.specs.Prelude.{◌≡◌, ◌++◌, ◌∷◌, ◌≤◌, length, IfOk, OnOk, Ok, Some};
-ghost use Rattle.csp_lexer.specs.Assertions.{asserted, assertion};
-ghost use Rattle.csp_lexer.specs.Passed.{Passed};
+ghost use Rattle.csp_lexer.specs.Prelude.{asserted, assertion, Passed};
 ghost use Rattle.csp_text.specs.declared.token.Token.TheVariants as token;
 ghost use Rattle.csp_text.specs.declared.token.Word.TheVariants.{Assert};
 
@@ -12,19 +11,17 @@ use crate::places::behind_all;
 use crate::tokens::Tokens;
 use csp_base::{NoMemory, Place};
 use csp_text::{Token, Word};
-use std::alloc::Global;
 
 // Adds the word at this place and the tokens of its line.
-fn add_assertion(alloc: Global, at: Place, line: Tokens, found: &mut Tokens) -> Result<(), NoMemory>
+fn add_assertion(at: Place, line: Tokens, found: &mut Tokens) -> Result<(), NoMemory>
     ensures { OnOk result (found.new.placed ≡ found.old.placed ++ (token.Word Assert, at) ∷ line.placed) }
 {
     found.push(Token::Word(Word::Assert), at)?;
-    found.append(alloc, line)
+    found.append(line)
 }
 
 // Adds the tokens of an assertion's line and the word before them, where they assert that a process is free of deadlock.
 fn add_line<'a>(
-    alloc: Global,
     at: Place,
     rest: &'a [u8],
     line: Tokens,
@@ -37,14 +34,13 @@ fn add_line<'a>(
     if !is_deadlock_assertion(line.as_slice()) {
         return Ok(rest);
     }
-    add_assertion(alloc, at, line, found)?;
+    add_assertion(at, line, found)?;
     Ok(rest)
 }
 
 // Passes what follows the word `assert`, which stands at this place.
 #[tactic(auto, using(std::proofs::lemmas::List::take_rest), unfolding(crate::specs::Assertions::assertion))]
 pub(crate) fn pass_assertion<'a>(
-    alloc: Global,
     text: &'a [u8],
     at: Place,
     found: &mut Tokens,
@@ -54,8 +50,8 @@ pub(crate) fn pass_assertion<'a>(
 {
     let len = rest_len(text);
     let rest = &text[len..];
-    let Some(line) = cut_line(alloc, &text[..len], behind_all(at, b"assert"))? else {
+    let Some(line) = cut_line(found.alloc(), &text[..len], behind_all(at, b"assert"))? else {
         return Ok(rest);
     };
-    add_line(alloc, at, rest, line, found)
+    add_line(at, rest, line, found)
 }

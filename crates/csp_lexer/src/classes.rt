@@ -2,9 +2,7 @@
 
 ghost use Rattle.std.specs.Prelude.{◌≡◌, ◌≤◌, length};
 ghost use Rattle.std.specs.List.{prefix_len};
-ghost use Rattle.csp_lexer.specs.Annotations.{is_space};
-ghost use Rattle.csp_lexer.specs.Classes.{is_of};
-ghost use Rattle.csp_lexer.specs.Words.{is_letter, is_name_byte};
+ghost use Rattle.csp_lexer.specs.Prelude.{is_space, is_of, is_letter, is_name_byte};
 
 /// A class of bytes.
 #[derive(Clone, Copy)]

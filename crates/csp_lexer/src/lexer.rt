@@ -2,22 +2,19 @@
 
 ghost use Rattle.std.specs.Prelude.{◌≡◌, ◌<◌, ◌≤◌, true, nat_eq, codes, [], length, IsTrue, IfOk, IfErr, IfSome, Ok, Err};
 ghost use Rattle.csp_base.specs.Standard.{starts_with, option_copied};
-ghost use Rattle.csp_lexer.specs.Annotations.{line_comment};
-ghost use Rattle.csp_lexer.specs.Front.{begins_assertion, front, is_blank, assertion_or_token};
-ghost use Rattle.csp_lexer.specs.Lexed.{lexed};
-ghost use Rattle.csp_lexer.specs.Passed.{Passed};
-ghost use Rattle.csp_text.specs.Fault.{IfNoScript};
+ghost use Rattle.csp_base.specs.Stops.{Tells};
+ghost use Rattle.csp_lexer.specs.Prelude.{line_comment, begins_assertion, front, is_blank, assertion_or_token, lexed, Passed};
 
 use crate::annotations::pass_line;
 use crate::assertions::pass_assertion;
 use crate::classes::is_space;
 use crate::comments::{after_comment, line_len};
-use crate::places::{beginning, behind_all};
+use crate::places::{behind_all, text_start};
 use crate::scan::{Left, pass_token};
 use crate::tokens::Tokens;
 use crate::words::word_len;
-use csp_base::Place;
-use csp_text::ParseFault;
+use csp_base::{Place, Stop};
+use csp_text::NoScript;
 use std::alloc::Global;
 
 // Whether the byte has no meaning between tokens.
@@ -42,38 +39,33 @@ fn begins_assertion(text: &[u8]) -> bool
 }
 
 // Passes the line comment at the front of the text, which may be an annotation.
-fn pass_line_comment<'a>(alloc: Global, text: &'a [u8], at: Place, found: &mut Tokens) -> Left<'a>
+fn pass_line_comment<'a>(text: &'a [u8], at: Place, found: &mut Tokens) -> Left<'a>
     requires { starts_with nat_eq text.now (codes "--") ≡ true }
     ensures passed { IfOk result (λ left. Passed (line_comment at text.now) found.old found.new (option_copied left)) }
     ensures shorter { IfOk result (λ left. IfSome left (λ left. length left.now < length text.now)) }
 {
     let len = line_len(text);
-    let left = pass_line(alloc, &text[..len], &text[len..], at, found)?;
+    let left = pass_line(&text[..len], &text[len..], at, found)?;
     Ok(left)
 }
 
 // Passes the assertion or the token at the front of the text.
 #[tactic(auto, using(std::proofs::lemmas::List::take_rest))]
-fn pass_assertion_or_token<'a>(
-    alloc: Global,
-    text: &'a [u8],
-    at: Place,
-    found: &mut Tokens,
-) -> Left<'a>
+fn pass_assertion_or_token<'a>(text: &'a [u8], at: Place, found: &mut Tokens) -> Left<'a>
     ensures passed { IfOk result (λ left.
         Passed (assertion_or_token at text.now) found.old found.new (option_copied left)) }
     ensures shorter { IfOk result (λ left. IfSome left (λ left. length left.now < length text.now)) }
 {
     if begins_assertion(text) {
-        let left = pass_assertion(alloc, &text[6..], at, found)?;
+        let left = pass_assertion(&text[6..], at, found)?;
         return Ok(Some(left));
     }
-    pass_token(alloc, false, text, at, found)
+    pass_token(false, text, at, found)
 }
 
 // Passes the piece at the front of the text. The result is what is left of the text, or `None` where no piece stands there.
 #[tactic(auto, using(std::proofs::lemmas::List::take_rest), unfolding(crate::specs::Front::front))]
-fn pass_piece<'a>(alloc: Global, text: &'a [u8], at: Place, found: &mut Tokens) -> Left<'a>
+fn pass_piece<'a>(text: &'a [u8], at: Place, found: &mut Tokens) -> Left<'a>
     requires { 0 < length text.now }
     ensures passed { IfOk result (λ left. Passed (front at text.now) found.old found.new (option_copied left)) }
     ensures shorter { IfOk result (λ left. IfSome left (λ left. length left.now < length text.now)) }
@@ -82,25 +74,25 @@ fn pass_piece<'a>(alloc: Global, text: &'a [u8], at: Place, found: &mut Tokens) 
         return Ok(Some(&text[1..]));
     }
     if text.starts_with(b"--") {
-        return pass_line_comment(alloc, text, at, found);
+        return pass_line_comment(text, at, found);
     }
     if text.starts_with(b"{-") {
         return Ok(after_comment(&text[2..]));
     }
-    pass_assertion_or_token(alloc, text, at, found)
+    pass_assertion_or_token(text, at, found)
 }
 
 // Passes the whole text. The result is the place of its end.
-fn pass_all(alloc: Global, text: &[u8], found: &mut Tokens) -> Result<Place, ParseFault>
+fn pass_all(text: &[u8], found: &mut Tokens) -> Result<Place, Stop<NoScript>>
     requires { found.old.placed ≡ [] }
     ensures found { IfOk result (λ end. lexed text.now ≡ Ok (record { placed = found.new.placed; end = end })) }
-    ensures none { IfErr result (λ fault. IfNoScript fault (λ at. lexed text.now ≡ Err at)) }
+    ensures none { IfErr result (Tells (λ fault. lexed text.now ≡ Err fault.at)) }
 {
-    let mut at = beginning();
+    let mut at = text_start();
     let mut rest = text;
     while !rest.is_empty() {
-        let Some(left) = pass_piece(alloc, rest, at, found)? else {
-            return Err(ParseFault::NoScript { at });
+        let Some(left) = pass_piece(rest, at, found)? else {
+            return Err(Stop::Told(NoScript { at }));
         };
         at = behind_all(at, &rest[..rest.len() - left.len()]);
         rest = left;
@@ -109,14 +101,14 @@ fn pass_all(alloc: Global, text: &[u8], found: &mut Tokens) -> Result<Place, Par
 }
 
 /// The tokens of the text with their places, or the place where it is no script.
-pub fn lex(alloc: Global, text: &[u8]) -> Result<Tokens, ParseFault>
+pub fn lex(alloc: Global, text: &[u8]) -> Result<Tokens, Stop<NoScript>>
     // What is found are the tokens of the text.
     ensures found { IfOk result (λ found. lexed text.now ≡ Ok found) }
 
     // The fault, but for want of memory, is that the text has no tokens; the place is the one where its first piece that is none begins.
-    ensures none { IfErr result (λ fault. IfNoScript fault (λ at. lexed text.now ≡ Err at)) }
+    ensures none { IfErr result (Tells (λ fault. lexed text.now ≡ Err fault.at)) }
 {
-    let mut found = Tokens::new(alloc, beginning());
-    let end = pass_all(alloc, text, &mut found)?;
-    Ok(found.ended(end))
+    let mut found = Tokens::new(alloc, text_start());
+    let end = pass_all(text, &mut found)?;
+    Ok(found.end_at(end))
 }

@@ -2,8 +2,7 @@
 
 ghost use Rattle.std.specs.Prelude.{◌≡◌, ◌<◌, ◌≤◌, [], length, IfOk, IfSome, Ok, Err, MatchOption};
 ghost use Rattle.std.specs.Option.{option_copied};
-ghost use Rattle.csp_lexer.specs.Assertions.{cut_line, ends_line, line_front, rest_len};
-ghost use Rattle.csp_lexer.specs.Passed.{Passed};
+ghost use Rattle.csp_lexer.specs.Prelude.{cut_line, ends_line, line_front, rest_len, Passed};
 ghost use Rattle.csp_base.specs.declared.place.Place.{Place as PlaceValue};
 
 use crate::classes::is_space;
@@ -37,7 +36,7 @@ pub(crate) fn rest_len(text: &[u8]) -> usize
 
 // Passes the blank or the token at the front of the rest of an assertion's line.
 #[tactic(auto, using(std::proofs::lemmas::List::take_rest), unfolding(crate::specs::Assertions::line_front))]
-fn pass_on_line<'a>(alloc: Global, text: &'a [u8], at: Place, found: &mut Tokens) -> Left<'a>
+fn pass_on_line<'a>(text: &'a [u8], at: Place, found: &mut Tokens) -> Left<'a>
     requires { 0 < length text.now }
     ensures passed { IfOk result (λ left. Passed (line_front at text.now) found.old found.new (option_copied left)) }
     ensures shorter { IfOk result (λ left. IfSome left (λ left. length left.now < length text.now)) }
@@ -45,16 +44,11 @@ fn pass_on_line<'a>(alloc: Global, text: &'a [u8], at: Place, found: &mut Tokens
     if is_space(text[0]) {
         return Ok(Some(&text[1..]));
     }
-    pass_token(alloc, true, text, at, found)
+    pass_token(true, text, at, found)
 }
 
 // Passes the whole rest of an assertion's line. The result is the place of its end, or `None` where it is anything but blanks and tokens.
-fn pass_all_on_line(
-    alloc: Global,
-    line: &[u8],
-    at: Place,
-    found: &mut Tokens,
-) -> Result<Option<Place>, NoMemory>
+fn pass_all_on_line(line: &[u8], at: Place, found: &mut Tokens) -> Result<Option<Place>, NoMemory>
     requires { found.old.placed ≡ [] }
     ensures { IfOk result (λ end. MatchOption end
         ((fault : PlaceValue) × (cut_line at line.now ≡ Err fault))
@@ -63,7 +57,7 @@ fn pass_all_on_line(
     let mut at = at;
     let mut rest = line;
     while !rest.is_empty() {
-        let Some(left) = pass_on_line(alloc, rest, at, found)? else {
+        let Some(left) = pass_on_line(rest, at, found)? else {
             return Ok(None);
         };
         at = behind_all(at, &rest[..rest.len() - left.len()]);
@@ -78,8 +72,8 @@ pub(crate) fn cut_line(alloc: Global, line: &[u8], at: Place) -> Result<Option<T
         ((fault : PlaceValue) × (cut_line at line.now ≡ Err fault)) (λ cut. cut_line at line.now ≡ Ok cut)) }
 {
     let mut found = Tokens::new(alloc, at);
-    match pass_all_on_line(alloc, line, at, &mut found)? {
-        Some(end) => Ok(Some(found.ended(end))),
+    match pass_all_on_line(line, at, &mut found)? {
+        Some(end) => Ok(Some(found.end_at(end))),
         None => Ok(None),
     }
 }

@@ -6,7 +6,7 @@ ghost use Rattle.csp_lexer.specs.Places.{beginning, behind, behind_all};
 use csp_base::Place;
 
 // Where a text begins.
-pub(crate) fn beginning() -> Place
+pub(crate) fn text_start() -> Place
     ensures { result ≡ beginning }
 {
     Place { line: 1, column: 1 }

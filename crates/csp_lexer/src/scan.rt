@@ -2,10 +2,7 @@
 
 ghost use Rattle.std.specs.Prelude.{◌≡◌, ◌+◌, ◌-◌, ◌*◌, ◌<◌, ◌≤◌, length, IfOk, IfSome, Some};
 ghost use Rattle.std.specs.Option.{option_copied};
-ghost use Rattle.csp_lexer.specs.Passed.{Passed};
-ghost use Rattle.csp_lexer.specs.Pieces.{one_at, one_before};
-ghost use Rattle.csp_lexer.specs.Tokens.{number_token, symbol_with_len, token_at};
-ghost use Rattle.csp_lexer.specs.Words.{word_token};
+ghost use Rattle.csp_lexer.specs.Prelude.{Passed, one_at, one_before, number_token, symbol_with_len, token_at, word_token};
 ghost use Rattle.csp_text.specs.Written.{symbol_text};
 
 use crate::classes::{Class, bytes_of};
@@ -84,7 +81,6 @@ fn pass_symbol<'a>(symbol: Symbol, at: Place, text: &'a [u8], found: &mut Tokens
 // Passes the token at the front of the text, on the line of an assertion or elsewhere.
 #[tactic(auto, using(std::proofs::lemmas::List::take_rest, crate::proofs::PieceLemmas::one_with_len), unfolding(crate::specs::Tokens::token_at, crate::specs::Tokens::digits_len))]
 pub(crate) fn pass_token<'a>(
-    alloc: Global,
     on_line: bool,
     text: &'a [u8],
     at: Place,
@@ -96,7 +92,7 @@ pub(crate) fn pass_token<'a>(
 {
     let word = word_len(text);
     if 0 < word {
-        let token = word_token(alloc, &text[..word])?;
+        let token = word_token(found.alloc(), &text[..word])?;
         return pass_one(token, at, &text[word..], found);
     }
     let digits = bytes_of(Class::Digit, text);

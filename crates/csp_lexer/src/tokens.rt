@@ -13,6 +13,7 @@ use std::mem;
 /// The tokens of a text in order, each with the place where it begins, and the place of the text's end.
 #[derive(Drop)]
 pub struct Tokens {
+    alloc: Global,
     tokens: Items<Token>,
     places: Items<Place>,
     end: Place,
@@ -37,10 +38,16 @@ impl Tokens {
         ensures end { result.end ≡ at }
     {
         Tokens {
+            alloc,
             tokens: Items::new(alloc),
             places: Items::new(alloc),
             end: at,
         }
+    }
+
+    // Where memory for tokens comes from.
+    pub(crate) fn alloc(&self) -> Global {
+        self.alloc
     }
 
     // Adds a token that begins at this place.
@@ -56,21 +63,24 @@ impl Tokens {
     }
 
     // Adds the tokens of the text behind.
-    pub(crate) fn append(&mut self, alloc: Global, behind: Tokens) -> Result<(), NoMemory>
+    pub(crate) fn append(&mut self, behind: Tokens) -> Result<(), NoMemory>
         ensures { OnOk result (self.new.placed ≡ self.old.placed ++ behind.placed) }
     {
-        let before = mem::replace(self, Tokens::new(alloc, behind.end));
-        *self = before.joined(behind)?;
+        let empty = Tokens::new(self.alloc, behind.end);
+        let before = mem::replace(self, empty);
+        *self = before.join(behind)?;
         Ok(())
     }
 
     // These tokens and then those of the text behind.
-    fn joined(self, behind: Tokens) -> Result<Tokens, NoMemory>
+    fn join(self, behind: Tokens) -> Result<Tokens, NoMemory>
         ensures { IfOk result (λ all. all.placed ≡ self.placed ++ behind.placed) }
     {
-        let tokens = joined_items(self.tokens, behind.tokens)?;
-        let places = joined_items(self.places, behind.places)?;
+        let alloc = self.alloc;
+        let tokens = join_items(self.tokens, behind.tokens)?;
+        let places = join_items(self.places, behind.places)?;
         Ok(Tokens {
+            alloc,
             tokens,
             places,
             end: behind.end,
@@ -78,10 +88,11 @@ impl Tokens {
     }
 
     // The same tokens of a text that ends at this place.
-    pub(crate) fn ended(self, at: Place) -> Tokens
+    pub(crate) fn end_at(self, at: Place) -> Tokens
         ensures { result ≡ record { placed = self.placed; end = at } }
     {
         Tokens {
+            alloc: self.alloc,
             tokens: self.tokens,
             places: self.places,
             end: at,
@@ -107,7 +118,7 @@ impl Tokens {
 }
 
 // The items and then more of them.
-fn joined_items<T: Drop>(items: Items<T>, more: Items<T>) -> Result<Items<T>, NoMemory>
+fn join_items<T: Drop>(items: Items<T>, more: Items<T>) -> Result<Items<T>, NoMemory>
     ensures { IfOk result (λ all. all ≡ items ++ more) }
 {
     let mut all = items.into_vec();

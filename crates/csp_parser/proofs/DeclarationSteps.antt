@@ -1,7 +1,6 @@
 -- Declarations, one after another.
-use Rattle.csp_parser.proofs.Prelude.{◌≡◌, ℕ, suc, false, true, eqb, ◌-◌, ◌≤◌, Option, Some, None, List, [], ◌∷◌, ◌++◌, Err, length, refl, sym, ap, ◌∙◌, append-nil, append_assoc, arith, Decl, Token, and_then, Reads, later, Comes, limited, read_declaration, ReadFault}
-use Rattle.std.proofs.lemmas.Bool.{eqb-true}
-use Rattle.tree_reading.specs.declared.fault.ReadFault.TheVariants as fault
+use Rattle.csp_parser.proofs.Prelude.{◌≡◌, ℕ, suc, false, true, eqb, ◌-◌, ◌≤◌, Option, Some, None, List, [], ◌∷◌, ◌++◌, Err, length, refl, sym, ap, ◌∙◌, append-nil, append_assoc, arith, Decl, Token, and_then, Reads, later, Comes, limited, read_declaration, NoText, Stop, eqb-true}
+use Rattle.csp_base.specs.declared.stop.Stop.TheVariants as stop
 
 -- declarations with these in front
 abbrev pub behind : List Decl → Option (List Decl) → Option (List Decl)
@@ -38,9 +37,9 @@ at_end {n} {m} {all} {done} [] none some s = λ g lg.
     s.goes_on (Some []) (later (λ L. L.declarations []) 0 m (Some []) (λ f le. refl) some) g lg ∙ ap (λ ds. Some ds) (append-nil done)
 at_end (t ∷ ts) none some s = absurd (let e = eqb-true (length (t ∷ ts)) 0 (sym none) in omega (arith, e))
 
-pub stops : {B C : Type 0} {n p m : ℕ} {all : List Token} {done : List Decl} (seen : B → Decl × List Token) (shown : C → List Decl) (r : ReadFault) (ts : List Token) → false ≡ eqb (length ts) 0 →
+pub stops : {B C : Type 0} {n p m : ℕ} {all : List Token} {done : List Decl} (seen : B → Decl × List Token) (shown : C → List Decl) (r : Stop NoText) (ts : List Token) → false ≡ eqb (length ts) 0 →
     DeclarationsSoFar n all done m ts → Reads (Err r) seen p (λ L. read_declaration L ts) → suc p ≤ m → Reads (Err r) shown n (λ L. L.declarations all)
 stops seen shown r [] some s c low = absurd cc
-stops seen shown fault.NoMemory (t ∷ ts) some s c low = λ g lg. tt
-stops {n = n} {p = p} {m = m} seen shown (fault.NoText left) (t ∷ ts) some s c low =
+stops seen shown stop.NoMemory (t ∷ ts) some s c low = λ g lg. tt
+stops {n = n} {p = p} {m = m} seen shown (stop.Told none) (t ∷ ts) some s c low =
     s.goes_on None (later (λ L. L.declarations (t ∷ ts)) p m None (λ f le. ap (λ x. and_then x λ q. behind (q.0 ∷ []) ((limited f).declarations q.1)) (c f le)) low)

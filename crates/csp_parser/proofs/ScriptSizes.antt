@@ -1,15 +1,9 @@
 -- A script is no larger than each of its texts is long: each of its declarations begins with a token that is none of its names, parameters, types and
 -- binding tokens. And no tree of it is deeper than the grammar allows.
-use Rattle.csp_parser.proofs.Prelude.{◌≡◌, ℕ, ◌+◌, ◌≤◌, max, List, length, map, arith, length-map, IfOk-weaker, Result, IfOk, Ok, NamesText, TypesText, ParametersText, AssertedText, ModelText, DeclarationText, DeclarationsText, ScriptText, lexed, PlacedTokens, tokens_of, Decl, Script, Symbol, Token, Tree, all_tokens, tokens, tokens-Call, tokens-Name}
-use Rattle.csp_base.specs.Lists.{greatest}
+use Rattle.csp_parser.proofs.Prelude.{◌≡◌, ℕ, ◌+◌, ◌≤◌, max, List, length, map, arith, length-map, IfOk-weaker, Result, IfOk, Ok, NamesText, TypesText, ParametersText, AssertedText, ModelText, DeclarationText, DeclarationsText, ScriptText, lexed, PlacedTokens, tokens_of, Decl, Script, Symbol, Token, Tree, all_tokens, tokens, tokens-Call, tokens-Name, greatest, tree_depth, MOST_BYTES, MOST_TREE_DEPTH, SpelledScriptsAreSmall, AreSmall, declaration_depth, declaration_size, depth, size}
 use Rattle.csp_grammar.specs.Declarations as d
-use Rattle.csp_text.specs.Prelude.{tree_depth}
-use Rattle.csp_text.specs.declared.fault.ParseFault.{ParseFault}
-use Rattle.dl_limits.specs.declared.TheConstants.{MOST_BYTES, MOST_TREE_DEPTH}
-use Rattle.csp_parser.specs.Sizes.{SpelledScriptsAreSmall}
 use Rattle.csp_parser.proofs.TokenCounts.{no_more_than_bytes}
 use Rattle.csp_parser.proofs.TreeTokens.{atom_tokens, items_tokens, tree_tokens}
-use Rattle.script_sizes.specs.Size.{AreSmall, declaration_depth, declaration_size, depth, size}
 
 -- SIZES
 
@@ -85,6 +79,6 @@ spelled_small text script s within =
     record { few = at_most (size script.decls) (length text) MOST_BYTES fits within; shallow = declarations_shallow s.spelled }
 
 -- what the script owes that was read of the tokens of a text
-pub read_small : (text : List ℕ) (found : PlacedTokens) (r : Result Script ParseFault) → lexed text ≡ Ok found → IfOk r (λ script. ScriptText (tokens_of found.placed) script)
+pub read_small : {E : Type 0} (text : List ℕ) (found : PlacedTokens) (r : Result Script E) → lexed text ≡ Ok found → IfOk r (λ script. ScriptText (tokens_of found.placed) script)
     → IfOk r (λ script. length text ≤ MOST_BYTES → AreSmall script.decls)
 read_small text found r cut spelled = IfOk-weaker r _ _ (λ script s. spelled_small text script (record { found = found; cut = cut; spelled = s })) spelled

@@ -1,8 +1,6 @@
 -- What the reading of the declarations says of the script.
-use Rattle.csp_parser.proofs.Prelude.{◌≡◌, ℕ, Option, Some, None, List, Err, sym, subst, ◌∙◌, Result, Ok, Place, Decl, Script, Token, DeclarationsText, ScriptText, PlacedTokens, tokens_of, Comes, Reads, Limited, Settles, ReadFault}
-use Rattle.csp_parser.specs.Spells.{EachTextSpellsOneScript}
-use Rattle.tree_reading.specs.declared.fault.ReadFault.TheVariants as fault
-use Rattle.tree_reading.proofs.Unique.{one_script, settled_nothing, settled_script}
+use Rattle.csp_parser.proofs.Prelude.{◌≡◌, ℕ, Option, Some, None, List, Err, sym, subst, ◌∙◌, Result, Ok, Place, Decl, Script, Token, DeclarationsText, ScriptText, PlacedTokens, tokens_of, Comes, Reads, Limited, Settles, NoText, Stop, EachTextSpellsOneScript, one_script, settled_nothing, settled_script}
+use Rattle.csp_base.specs.declared.stop.Stop.TheVariants as stop
 
 -- what is read of the tokens, is spelled
 pub is_spelled : (tokens : List Token) {ts : List Token} {ds : List Decl} → ts ≡ tokens → Settles (λ L. L.declarations ts) (Some ds) → DeclarationsText tokens ds
@@ -22,8 +20,8 @@ pub settled : {A : Type 0} {n : ℕ} {F : Limited → Option A} {o : Option A} �
 settled {n = n} c = record { enough = n; settles = c }
 
 -- where a fault says that no text is in front, the reading comes to nothing
-pub nothing_read : {A : Type 0} {n : ℕ} {F : Limited → Option A} (f : ReadFault) (left : ℕ) → f ≡ fault.NoText left → Reads {A = A} {B = A} (Err f) (λ a. a) n F → Settles F None
-nothing_read {A} {n} {F} f left e c = record { enough = n; settles = subst (λ g. Reads {A = A} {B = A} (Err g) (λ a. a) n F) e c }
+pub nothing_read : {A : Type 0} {n : ℕ} {F : Limited → Option A} (f : Stop NoText) (none : NoText) → f ≡ stop.Told none → Reads {A = A} {B = A} (Err f) (λ a. a) n F → Settles F None
+nothing_read {A} {n} {F} f none e c = record { enough = n; settles = subst (λ g. Reads {A = A} {B = A} (Err g) (λ a. a) n F) e c }
 
 same_tokens : (a b : PlacedTokens) → ◌≡◌ {A = Result PlacedTokens Place} (Ok a) (Ok b) → a ≡ b
 same_tokens a b e = cc

@@ -1,8 +1,6 @@
 -- A text has no more tokens than bytes: each of its pieces has at least as many bytes as it gives tokens. A token has a byte, an annotation is one token for
 -- a whole line, and an assertion is its word and the tokens of the rest of its line.
-use Rattle.csp_parser.proofs.Prelude.{◌≡◌, ℕ, zero, suc, ◌+◌, ◌-◌, ◌<◌, ◌≤◌, Bool, true, false, List, [], ◌∷◌, ◌++◌, length, drop, take, codes, refl, sym, ap, ◌∙◌, length-append, length-drop, arith, false≢true, nat_tests, take-append-drop, Option, Some, None, Result, Ok, Err, IfSome, if◌then◌else◌, nat_eq, nat_lt, slice_index, Place, Symbol, Token, is_space, line_piece, marked_piece, resource, roles, words_of, assertion, asserted, cut_line, is_deadlock_assertion, line_front, rest_len, after_comments, line_len, added, before, cut, then_cut, begins_assertion, front, is_blank, lexed, Piece, nothing_before, one_at, one_before, PlacedTokens, tokens_of, beginning, behind_all, symbol_at, digits_len, number_token, symbol_with_len, token_at, with_len, word_len, word_token}
-use Rattle.csp_base.specs.Standard.{starts_with, bytes_eq}
-use Rattle.csp_lexer.proofs.SymbolsLemmas.{symbol_has_byte}
+use Rattle.csp_parser.proofs.Prelude.{◌≡◌, ℕ, zero, suc, ◌+◌, ◌-◌, ◌<◌, ◌≤◌, Bool, true, false, List, [], ◌∷◌, ◌++◌, length, drop, take, codes, refl, sym, ap, ◌∙◌, length-append, length-drop, arith, false≢true, nat_tests, take-append-drop, Option, Some, None, Result, Ok, Err, IfSome, if◌then◌else◌, nat_eq, nat_lt, slice_index, Place, Symbol, Token, is_space, line_piece, marked_piece, resource, roles, words_of, assertion, asserted, cut_line, is_deadlock_assertion, line_front, rest_len, after_comments, line_len, added, before, cut, then_cut, begins_assertion, front, is_blank, lexed, Piece, nothing_before, one_at, one_before, PlacedTokens, tokens_of, beginning, behind_all, symbol_at, digits_len, number_token, symbol_with_len, token_at, with_len, word_len, word_token, starts_with, bytes_eq, symbol_has_byte}
 
 -- where there is a piece, its tokens and the rest behind it are no more than these
 abbrev Fits : ℕ → Option Piece → Type 0

@@ -1,12 +1,7 @@
 -- A tree has fewer binding tokens than each of its texts has tokens: each of them is a token of the text, and there is one that is none of them, as the
 -- arrow behind a `?x`. By induction over the grammar, of the tokens that a text takes from the list before it leaves the rest.
-use Rattle.csp_parser.proofs.Prelude.{◌≡◌, ℕ, ◌+◌, ◌≤◌, Bool, Some, None, List, [], ◌∷◌, length, ap, ◌∙◌, arith, Token, Tree, all_tokens, fields_tokens, gen_tokens, gens_tokens, pairs_tokens, part_tokens, parts_tokens, tokens, field_tokens-Dot, field_tokens-Input, field_tokens-Output, gen_tokens-Cond, gen_tokens-From, part_tokens-is, tokens-Binary, tokens-Call, tokens-Comp, tokens-Display, tokens-Dot, tokens-EachExternal, tokens-EachInternal, tokens-EachParallel, tokens-External, tokens-False, tokens-Guard, tokens-Hide, tokens-If, tokens-Internal, tokens-Name, tokens-Neg, tokens-Not, tokens-Num, tokens-Parallel, tokens-Prefix, tokens-Product, tokens-Range, tokens-Rename, tokens-Seq, tokens-SetOp, tokens-Skip, tokens-Stop, tokens-True}
-use Rattle.csp_text.specs.declared.tree.FieldTree.{FieldTree}
-use Rattle.csp_text.specs.declared.tree.FieldTree.TheViews.{out-EventTree, out-roll-EventTree, out-roll-PartTree}
-use Rattle.csp_text.specs.declared.tree.GenTree.{GenTree}
-use Rattle.csp_text.specs.declared.tree.PartTree.{PartTree}
+use Rattle.csp_parser.proofs.Prelude.{◌≡◌, ℕ, ◌+◌, ◌≤◌, Bool, Some, None, List, [], ◌∷◌, length, ap, ◌∙◌, arith, Token, Tree, all_tokens, fields_tokens, gen_tokens, gens_tokens, pairs_tokens, part_tokens, parts_tokens, tokens, field_tokens-Dot, field_tokens-Input, field_tokens-Output, gen_tokens-Cond, gen_tokens-From, part_tokens-is, tokens-Binary, tokens-Call, tokens-Comp, tokens-Display, tokens-Dot, tokens-EachExternal, tokens-EachInternal, tokens-EachParallel, tokens-External, tokens-False, tokens-Guard, tokens-Hide, tokens-If, tokens-Internal, tokens-Name, tokens-Neg, tokens-Not, tokens-Num, tokens-Parallel, tokens-Prefix, tokens-Product, tokens-Range, tokens-Rename, tokens-Seq, tokens-SetOp, tokens-Skip, tokens-Stop, tokens-True, FieldTree, out-EventTree, out-roll-EventTree, out-roll-PartTree, GenTree, PartTree, Choice, choice_of, event_tree, part_tree, TreeText, Reach, SideText, HidingText, ChoiceText, SequenceText, PrefixText, OpenText, EventText, FieldsText, DottedText, DotsText, ExpressionText, PairsText, PartText, PartsText, ConditionsText, GensText, GenText, ItemText, ItemsText, AtomText, external, internal, Level}
 use Rattle.csp_text.specs.declared.tree.Tree.TheVariants as tree
-use Rattle.csp_grammar.specs.Prelude.{Choice, choice_of, event_tree, part_tree, TreeText, Reach, SideText, HidingText, ChoiceText, SequenceText, PrefixText, OpenText, EventText, FieldsText, DottedText, DotsText, ExpressionText, PairsText, PartText, PartsText, ConditionsText, GensText, GenText, ItemText, ItemsText, AtomText, external, internal, Level}
 use Rattle.csp_grammar.specs.Grammar as g
 
 choice_tokens : (c : Choice) (ps : List Tree) → tokens (choice_of c ps) ≡ all_tokens ps

@@ -11,18 +11,18 @@ use csp_text::{Decl, Symbol, Token};
 use std::alloc::Global;
 use tree_parser::atom;
 use tree_reading::deep::DeepTree;
-use tree_reading::fault::{ReadFault, stopped};
-use tree_reading::look::{expect, named, skip};
+use tree_reading::fault::{OrNoText, no_text};
+use tree_reading::look::{expect, first_name, skip};
 use tree_reading::read::{Read, Reading};
 
 // The name or the call that is asserted: an atom that begins with a name.
-fn asserted(alloc: Global, tokens: &[Token]) -> Reading<'_, DeepTree>
+fn process_name(alloc: Global, tokens: &[Token]) -> Reading<'_, DeepTree>
     ensures reads { Reads result part_read (8 * length tokens.now + 1) (λ L. read_asserted L tokens.now) }
     ensures shorter { IfOk result (λ r. length r.rest.now < length tokens.now) }
 {
-    match named(tokens) {
+    match first_name(tokens) {
         Some(_) => atom(alloc, WHOLE, tokens),
-        None => Err(stopped(tokens)),
+        None => Err(no_text(tokens)),
     }
 }
 
@@ -42,24 +42,24 @@ fn is_model(name: &Name) -> bool
 
 // What follows the name of a model, which has to stand at the front.
 #[tactic(auto, using(crate::proofs::Assertions::passing, crate::proofs::Assertions::unnamed, crate::proofs::Assertions::not_passing))]
-fn expect_model(tokens: &[Token]) -> Result<&[Token], ReadFault>
+fn expect_model(tokens: &[Token]) -> OrNoText<&[Token]>
     ensures same { Gives result (λ rest. rest.now) (name_that is_model tokens.now) }
     ensures shorter { IfOk result (λ rest. length rest.now < length tokens.now) }
 {
-    match named(tokens) {
+    match first_name(tokens) {
         Some((found, rest)) => {
             if is_model(found) {
                 Ok(rest)
             } else {
-                Err(stopped(tokens))
+                Err(no_text(tokens))
             }
         }
-        None => Err(stopped(tokens)),
+        None => Err(no_text(tokens)),
     }
 }
 
 // What follows the model of an assertion, or follows nothing where no model is given.
-fn model(tokens: &[Token]) -> Result<&[Token], ReadFault>
+fn model(tokens: &[Token]) -> OrNoText<&[Token]>
     ensures same { Gives result (λ rest. rest.now) (model tokens.now) }
     ensures shorter { IfOk result (λ rest. length rest.now ≤ length tokens.now) }
 {
@@ -75,24 +75,24 @@ fn model(tokens: &[Token]) -> Result<&[Token], ReadFault>
 
 // What follows these bytes, which have to stand at the front as a name.
 #[tactic(auto, using(crate::proofs::Assertions::passing, crate::proofs::Assertions::unnamed, crate::proofs::Assertions::not_passing))]
-fn expect_written<'t>(tokens: &'t [Token], bytes: &[u8]) -> Result<&'t [Token], ReadFault>
+fn expect_written<'t>(tokens: &'t [Token], bytes: &[u8]) -> OrNoText<&'t [Token]>
     ensures same { Gives result (λ rest. rest.now) (name_that (λ x. bytes_eq x bytes.now) tokens.now) }
     ensures shorter { IfOk result (λ rest. length rest.now < length tokens.now) }
 {
-    match named(tokens) {
+    match first_name(tokens) {
         Some((found, rest)) => {
             if is_written(found, bytes) {
                 Ok(rest)
             } else {
-                Err(stopped(tokens))
+                Err(no_text(tokens))
             }
         }
-        None => Err(stopped(tokens)),
+        None => Err(no_text(tokens)),
     }
 }
 
 // What follows `deadlock free`, with what stands before it in an assertion.
-fn deadlock_free(tokens: &[Token]) -> Result<&[Token], ReadFault>
+fn deadlock_free(tokens: &[Token]) -> OrNoText<&[Token]>
     ensures same { Gives result (λ rest. rest.now) (deadlock_free tokens.now) }
     ensures shorter { IfOk result (λ rest. length rest.now < length tokens.now) }
 {
@@ -105,7 +105,7 @@ fn deadlock_free(tokens: &[Token]) -> Result<&[Token], ReadFault>
 
 // What follows the rest of an assertion, behind its process.
 #[tactic(auto, unfolding(tree_reading::specs::Asserted::ending))]
-fn ending(tokens: &[Token]) -> Result<&[Token], ReadFault>
+fn expect_end(tokens: &[Token]) -> OrNoText<&[Token]>
     ensures same { Gives result (λ rest. rest.now) (ending tokens.now) }
     ensures shorter { IfOk result (λ rest. length rest.now < length tokens.now) }
 {
@@ -120,10 +120,10 @@ pub(crate) fn assertion(alloc: Global, tokens: &[Token]) -> Reading<'_, Decl>
     ensures reads { Reads result part_read (8 * length tokens.now + 1) (λ L. read_assertion L tokens.now) }
     ensures shorter { IfOk result (λ r. length r.rest.now < length tokens.now) }
 {
-    let process = asserted(alloc, tokens)?;
-    let rest = ending(process.rest)?;
+    let process = process_name(alloc, tokens)?;
+    let rest = expect_end(process.rest)?;
     Ok(Read {
-        part: Decl::Assert(process.part.unboxed().into_inner()),
+        part: Decl::Assert(process.part.unbox().into_inner()),
         rest,
     })
 }

@@ -13,7 +13,7 @@ use containers::{Boxed, Items};
 use csp_base::{Name, NoMemory};
 use csp_text::{Decl, ResourceNames, RolesNames, Token, Word};
 use std::alloc::Global;
-use tree_reading::fault::{ReadFault, stopped};
+use tree_reading::fault::{OrNoText, no_text};
 use tree_reading::read::{Read, Reading};
 
 // Copies of two names.
@@ -83,7 +83,7 @@ fn word_declaration<'t>(
         Word::Datatype => datatype(alloc, tokens),
         Word::Nametype => nametype(alloc, tokens),
         Word::Assert => assertion(alloc, tokens),
-        _ => Err(stopped(all)),
+        _ => Err(no_text(all)),
     }
 }
 
@@ -93,19 +93,19 @@ fn declaration(alloc: Global, tokens: &[Token]) -> Reading<'_, Decl>
     ensures shorter { IfOk result (λ r. length r.rest.now < length tokens.now) }
 {
     let Some((first, rest)) = tokens.split_first() else {
-        return Err(stopped(tokens));
+        return Err(no_text(tokens));
     };
     match first {
         Token::Name(defined) => definition(alloc, defined, rest),
         Token::Word(word) => word_declaration(alloc, *word, tokens, rest),
         Token::Roles(names) => roles(alloc, names, rest),
         Token::Resource(names) => resource(alloc, names, rest),
-        _ => Err(stopped(tokens)),
+        _ => Err(no_text(tokens)),
     }
 }
 
 // The declarations that the tokens are, one after another.
-pub(crate) fn declarations(alloc: Global, tokens: &[Token]) -> Result<Items<Decl>, ReadFault>
+pub(crate) fn declarations(alloc: Global, tokens: &[Token]) -> OrNoText<Items<Decl>>
     ensures reads { Reads result (λ decls. decls) (8 * length tokens.now + 1) (λ L. L.declarations tokens.now) }
 {
     let mut decls = Items::new(alloc);

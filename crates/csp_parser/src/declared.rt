@@ -58,7 +58,7 @@ pub(crate) fn nametype(alloc: Global, tokens: &[Token]) -> Reading<'_, Decl>
     let defined = expect(behind, Symbol::Defines)?;
     let set = atom(alloc, WHOLE, defined)?;
     Ok(Read {
-        part: Decl::Nametype(name, set.part.unboxed().into_inner()),
+        part: Decl::Nametype(name, set.part.unbox().into_inner()),
         rest: set.rest,
     })
 }
@@ -77,7 +77,7 @@ pub(crate) fn definition<'t>(
     let behind = expect(taken.rest, Symbol::Defines)?;
     let body = tree(alloc, WHOLE, behind)?;
     Ok(Read {
-        part: Decl::Define(name, taken.part, body.part.unboxed().into_inner()),
+        part: Decl::Define(name, taken.part, body.part.unbox().into_inner()),
         rest: body.rest,
     })
 }

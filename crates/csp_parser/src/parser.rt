@@ -1,22 +1,21 @@
 //! Scripts, of tokens and of texts.
 
 ghost use Rattle.std.specs.Prelude.{◌≡◌, ◌≤◌, IfOk, IfErr, length};
+ghost use Rattle.csp_base.specs.Stops.{Tells};
 ghost use Rattle.csp_grammar.specs.Declarations.{ScriptText};
 ghost use Rattle.csp_lexer.specs.Placed.{tokens_of};
 ghost use Rattle.csp_parser.specs.Places.{IsPlaceIn, IsPlaceOf, place_before};
 ghost use Rattle.csp_parser.specs.Sizes.{SpelledScriptsAreSmall};
 ghost use Rattle.csp_parser.specs.Spells.{EachTextSpellsOneScript, Spells};
-ghost use Rattle.csp_text.specs.Prelude.{IfNoScript};
 ghost use Rattle.csp_text.specs.declared.script.Script.{Script};
 ghost use Rattle.dl_limits.specs.declared.TheConstants.{MOST_BYTES};
 ghost use Rattle.script_sizes.specs.Size.{AreSmall};
 
 use crate::declarations::declarations;
-use csp_base::Place;
+use csp_base::{Place, Stop};
 use csp_lexer::{Tokens, lex};
-use csp_text::{ParseFault, Script};
+use csp_text::{NoScript, Script};
 use std::alloc::Global;
-use tree_parser::ReadFault;
 
 // The place of the token from which on so many tokens are left, or that of the text's end.
 fn place_before(tokens: &Tokens, left: usize) -> Place
@@ -30,7 +29,7 @@ fn place_before(tokens: &Tokens, left: usize) -> Place
 ///
 /// The fault, but for want of memory, is that they are none within the limits of nesting: `MOST_BRACKETS` open
 /// brackets, and the depth `MOST_TREE_DEPTH`. It tells the place of the token at which reading stopped, or of the end.
-pub fn parse(alloc: Global, tokens: &Tokens) -> Result<Script, ParseFault>
+pub fn parse(alloc: Global, tokens: &Tokens) -> Result<Script, Stop<NoScript>>
     // What is found is spelled, and nothing else is.
     ensures found { IfOk result (λ script. ScriptText (tokens_of tokens.now.placed) script) }
     ensures only { IfOk result
@@ -38,15 +37,15 @@ pub fn parse(alloc: Global, tokens: &Tokens) -> Result<Script, ParseFault>
 
     // The fault is that no script is spelled.
     ensures none { IfErr result
-        (λ fault. IfNoScript fault (λ at. (script : Script) → ScriptText (tokens_of tokens.now.placed) script → ⊥)) }
-    ensures place { IfErr result (λ fault. IfNoScript fault (λ at. IsPlaceIn tokens.now at)) }
+        (Tells (λ _. (script : Script) → ScriptText (tokens_of tokens.now.placed) script → ⊥)) }
+    ensures place { IfErr result (Tells (λ fault. IsPlaceIn tokens.now fault.at)) }
 {
     match declarations(alloc, tokens.as_slice()) {
         Ok(decls) => Ok(Script { decls }),
-        Err(ReadFault::NoMemory) => Err(ParseFault::NoMemory),
-        Err(ReadFault::NoText { left }) => Err(ParseFault::NoScript {
-            at: place_before(tokens, left),
-        }),
+        Err(Stop::NoMemory) => Err(Stop::NoMemory),
+        Err(Stop::Told(fault)) => Err(Stop::Told(NoScript {
+            at: place_before(tokens, fault.left),
+        })),
     }
 }
 
@@ -56,7 +55,7 @@ pub fn parse(alloc: Global, tokens: &Tokens) -> Result<Script, ParseFault>
 /// first piece begins that is no token, or else that of the token at which reading stopped, or of the text's end.
 ///
 /// What a text of at most `MOST_BYTES` spells is small: 32 bits number all that it declares.
-pub fn read(alloc: Global, text: &[u8]) -> Result<Script, ParseFault>
+pub fn read(alloc: Global, text: &[u8]) -> Result<Script, Stop<NoScript>>
     ensures found { IfOk result (λ script. Spells text.now script) }
 
     // A text within the limit spells no more names, parameters, types and binding tokens than it has bytes, and no deep
@@ -65,8 +64,8 @@ pub fn read(alloc: Global, text: &[u8]) -> Result<Script, ParseFault>
 
     // The fault, but for want of memory, is that the text spells no script. Its place is the one where the first piece
     // begins that is no token; where there is none, the place of a token or of the text's end.
-    ensures none { IfErr result (λ fault. IfNoScript fault (λ at. (script : Script) → Spells text.now script → ⊥)) }
-    ensures place { IfErr result (λ fault. IfNoScript fault (λ at. IsPlaceOf text.now at)) }
+    ensures none { IfErr result (Tells (λ _. (script : Script) → Spells text.now script → ⊥)) }
+    ensures place { IfErr result (Tells (λ fault. IsPlaceOf text.now fault.at)) }
 {
     match lex(alloc, text) {
         Ok(tokens) => parse(alloc, &tokens),

@@ -29,7 +29,7 @@ pub(crate) fn types(alloc: Global, tokens: &[Token]) -> Reading<'_, Items<Tree>>
             Ok(found) => found,
             Err(fault) => return Err(fault),
         };
-        all.push(found.part.unboxed().into_inner())?;
+        all.push(found.part.unbox().into_inner())?;
         match skip(found.rest, Symbol::Dot) {
             Some(next) => rest = next,
             None => {

@@ -14,6 +14,6 @@ pub use Rattle.csp_program.specs.Nesting.{BodyNests, DefNests, NestsWithin}
 pub use Rattle.csp_program.specs.Outcome.{Outcome, and_then}
 pub use Rattle.csp_program.specs.Size.{elements_of, expr_size, field_size, gen_size, pair_size, part_size, proc_size, proc_size_of_layer}
 pub use Rattle.csp_program.specs.Substitution.{Given, Open, OpenGen, after, after_all, each, expr_with, expr_with_of_layer, field_with, fields_with, gen_with_of_layer, gens_with, given_by, head_named, head_with, named, one, open_gen, pair_with, part_with, part_with_of_layer, past, proc_with, proc_with_of_layer, without}
-pub use Rattle.csp_program.specs.Uses.{Reaches, body_uses, def_uses, expr_uses, expr_uses_of_layer, gen_uses_of_layer, part_uses_of_layer}
 pub use Rattle.csp_program.specs.Uses.Reaches.{by_use, by_way}
+pub use Rattle.csp_program.specs.Uses.{Reaches, body_uses, def_uses, expr_uses, expr_uses_of_layer, gen_uses_of_layer, part_uses_of_layer}
 pub use Rattle.csp_program.specs.Value.{Env, Front, Gathered, Meaning, Turn, Uses, as_atom, as_number, as_set, as_truth, binary, body_value, bound_to, bound_value, comprehension, def_value, divided, from, front, front_events, front_of_layer, fronts_added, gathered, in_field, in_range, items_added, lack_sets, many, meaning, meaning_of_layer, meanings, number, on_atoms, on_numbers, on_truths, one_event, over, quotient, range, remainder, row_in, row_of, set_binary, sets_of, truth, turn, turn_of_layer, uses_within, value_of, value_within, values_of, walked, when}

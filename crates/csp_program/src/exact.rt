@@ -1,7 +1,6 @@
 //! `==` on expressions and on the parts of a prefix is equality.
 
-ghost use Rattle.csp_program.specs.ExactExpr.{exact_expr, exact_gen, exact_part};
-ghost use Rattle.csp_program.specs.ExactParts.{exact_field, exact_head};
+ghost use Rattle.csp_program.specs.Prelude.{exact_expr, exact_gen, exact_part, exact_field, exact_head};
 
 use crate::expressions::{EventPart, Expr, Gen};
 use crate::processes::{Field, Head};

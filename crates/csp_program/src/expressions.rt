@@ -44,7 +44,6 @@ pub enum Expr {
     SetOp(SetOp, Boxed<Expr>, Boxed<Expr>),
 }
 
-// By hand, so that a crate that ends one calls this and proves no end of its own.
 impl Drop for Expr {
     #[cycle(expression)]
     fn drop(self) {
@@ -53,19 +52,19 @@ impl Drop for Expr {
             Expr::Truth(_) => {}
             Expr::Const(_) => {}
             Expr::Bound(_) => {}
-            Expr::Lit(_first) => {}
-            Expr::Neg(_first) => {}
-            Expr::Not(_first) => {}
-            Expr::Binary(_, _second, _third) => {}
-            Expr::If(_first, _second, _third) => {}
-            Expr::Call(_, _second) => {}
+            Expr::Lit(_) => {}
+            Expr::Neg(_) => {}
+            Expr::Not(_) => {}
+            Expr::Binary(_, _, _) => {}
+            Expr::If(_, _, _) => {}
+            Expr::Call(_, _) => {}
             Expr::SetName(_) => {}
-            Expr::Event(_, _second) => {}
-            Expr::Display(_first) => {}
-            Expr::Range(_first, _second) => {}
-            Expr::Comp(_first, _second) => {}
-            Expr::Product(_first, _second) => {}
-            Expr::SetOp(_, _second, _third) => {}
+            Expr::Event(_, _) => {}
+            Expr::Display(_) => {}
+            Expr::Range(_, _) => {}
+            Expr::Comp(_, _) => {}
+            Expr::Product(_, _) => {}
+            Expr::SetOp(_, _, _) => {}
         }
     }
 }
@@ -80,14 +79,10 @@ pub struct EventPart {
     pub fields: Items<Expr>,
 }
 
-// By hand, so that a crate that ends one calls this and proves no end of its own.
 impl Drop for EventPart {
     #[cycle(expression)]
     fn drop(self) {
-        let EventPart {
-            channel: _,
-            fields: _fields,
-        } = self;
+        let EventPart { channel: _, fields } = self;
     }
 }
 
@@ -101,13 +96,12 @@ pub enum Gen {
     Cond(Expr),
 }
 
-// By hand, so that a crate that ends one calls this and proves no end of its own.
 impl Drop for Gen {
     #[cycle(expression)]
     fn drop(self) {
         match self {
-            Gen::From(_, _second) => {}
-            Gen::Cond(_first) => {}
+            Gen::From(_, _) => {}
+            Gen::Cond(_) => {}
         }
     }
 }

@@ -18,15 +18,14 @@ pub enum Net {
     Each(u32, Expr, Expr, Boxed<Net>),
 }
 
-// By hand, so that a crate that ends one calls this and proves no end of its own.
 impl Drop for Net {
     fn drop(self) {
         match self {
-            Net::Leaf(_first) => {}
-            Net::Call(_, _second) => {}
-            Net::If(_first, _second, _third) => {}
-            Net::Pair(_first, _second, _third, _fourth) => {}
-            Net::Each(_, _second, _third, _fourth) => {}
+            Net::Leaf(_) => {}
+            Net::Call(_, _) => {}
+            Net::If(_, _, _) => {}
+            Net::Pair(_, _, _, _) => {}
+            Net::Each(_, _, _, _) => {}
         }
     }
 }

@@ -15,13 +15,12 @@ pub enum Head {
     Put(Value),
 }
 
-// By hand, so that a crate that ends one calls this and proves no end of its own.
 impl Drop for Head {
     fn drop(self) {
         match self {
             Head::Channel(_) => {}
             Head::Bound(_) => {}
-            Head::Put(_first) => {}
+            Head::Put(_) => {}
         }
     }
 }
@@ -35,12 +34,11 @@ pub enum Field {
     Get(u32, Option<Expr>),
 }
 
-// By hand, so that a crate that ends one calls this and proves no end of its own.
 impl Drop for Field {
     fn drop(self) {
         match self {
-            Field::Put(_first) => {}
-            Field::Get(_, _second) => {}
+            Field::Put(_) => {}
+            Field::Get(_, _) => {}
         }
     }
 }
@@ -77,23 +75,22 @@ pub enum Proc {
     Ended,
 }
 
-// By hand, so that a crate that ends one calls this and proves no end of its own.
 impl Drop for Proc {
     fn drop(self) {
         match self {
             Proc::Stop => {}
-            Proc::Prefix(_first, _second, _third) => {}
-            Proc::Guard(_first, _second) => {}
-            Proc::If(_first, _second, _third) => {}
-            Proc::External(_first) => {}
-            Proc::Internal(_first) => {}
-            Proc::EachExternal(_, _second, _third) => {}
-            Proc::EachInternal(_, _second, _third) => {}
-            Proc::Hide(_first, _second) => {}
-            Proc::Rename(_first, _second, _third) => {}
-            Proc::Call(_, _second) => {}
+            Proc::Prefix(_, _, _) => {}
+            Proc::Guard(_, _) => {}
+            Proc::If(_, _, _) => {}
+            Proc::External(_) => {}
+            Proc::Internal(_) => {}
+            Proc::EachExternal(_, _, _) => {}
+            Proc::EachInternal(_, _, _) => {}
+            Proc::Hide(_, _) => {}
+            Proc::Rename(_, _, _) => {}
+            Proc::Call(_, _) => {}
             Proc::Skip => {}
-            Proc::Seq(_first, _second) => {}
+            Proc::Seq(_, _) => {}
             Proc::Ended => {}
         }
     }

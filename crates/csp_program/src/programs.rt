@@ -19,13 +19,9 @@ pub struct EventInfo {
     pub fields: Items<Atom>,
 }
 
-// By hand, so that a crate that ends one calls this and proves no end of its own.
 impl Drop for EventInfo {
     fn drop(self) {
-        let EventInfo {
-            channel: _channel,
-            fields: _fields,
-        } = self;
+        let EventInfo { channel, fields } = self;
     }
 }
 
@@ -41,14 +37,13 @@ pub struct Channel {
     pub first: u32,
 }
 
-// By hand, so that a crate that ends one calls this and proves no end of its own.
 impl Drop for Channel {
     fn drop(self) {
         let Channel {
-            name: _name,
-            types: _types,
-            fields: _fields,
-            first: _first,
+            name,
+            types,
+            fields,
+            first,
         } = self;
     }
 }
@@ -67,15 +62,14 @@ pub enum Body {
     Network(Net),
 }
 
-// By hand, so that a crate that ends one calls this and proves no end of its own.
 impl Drop for Body {
     fn drop(self) {
         match self {
-            Body::Datum(_first) => {}
-            Body::Nametype(_first) => {}
-            Body::Datatype(_first) => {}
-            Body::Process(_first) => {}
-            Body::Network(_first) => {}
+            Body::Datum(_) => {}
+            Body::Nametype(_) => {}
+            Body::Datatype(_) => {}
+            Body::Process(_) => {}
+            Body::Network(_) => {}
         }
     }
 }
@@ -90,14 +84,9 @@ pub struct Def {
     pub body: Body,
 }
 
-// By hand, so that a crate that ends one calls this and proves no end of its own.
 impl Drop for Def {
     fn drop(self) {
-        let Def {
-            name: _name,
-            params: _params,
-            body: _body,
-        } = self;
+        let Def { name, params, body } = self;
     }
 }
 
@@ -145,17 +134,16 @@ pub struct Content {
     pub root: Net,
 }
 
-// By hand, so that a crate that ends one calls this and proves no end of its own.
 impl Drop for Content {
     fn drop(self) {
         let Content {
-            events: _events,
-            channels: _channels,
-            consts: _consts,
-            defs: _defs,
-            roles: _roles,
-            resources: _resources,
-            root: _root,
+            events,
+            channels,
+            consts,
+            defs,
+            roles,
+            resources,
+            root,
         } = self;
     }
 }
@@ -166,13 +154,9 @@ pub struct Program {
     key: Key,
 }
 
-// By hand, so that a crate that ends one calls this and proves no end of its own.
 impl Drop for Program {
     fn drop(self) {
-        let Program {
-            content: _content,
-            key: _key,
-        } = self;
+        let Program { content, key } = self;
     }
 }
 

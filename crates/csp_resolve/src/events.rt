@@ -1,27 +1,26 @@
 //! The field sets of a script's channels, and its event table.
 
-ghost use Rattle.std.specs.Prelude.{◌≡◌, ◌≤◌, IsTrue, List, [], ◌∷◌, ◌++◌, length, map, IfOk, OnOk};
+ghost use Rattle.std.specs.Prelude.{◌≡◌, ◌≤◌, IsTrue, List, [], ◌∷◌, ◌++◌, length, map, OnOk};
 ghost use Rattle.csp_program.specs.Prelude.{lacks_sets, all_true};
 ghost use Rattle.csp_resolve.specs.Answers.{Answers, Grows, sets_of, types_read};
 ghost use Rattle.dl_limits.specs.declared.TheConstants.{MOST_BYTES};
-ghost use Rattle.event_tables.specs.declared.sets.SharedSets.{SharedSets};
 ghost use Rattle.event_tables.specs.Spread.{spread};
 ghost use Rattle.script_names.specs.Names.{first_of};
 ghost use Rattle.script_names.specs.Resolved as meant;
 ghost use Rattle.script_sizes.specs.Size.{declaration_size, size};
 ghost use Rattle.csp_atoms.specs.declared.atom.Atom.{Atom};
 
+use crate::resolution::Resolved;
 use containers::Items;
 use csp_atoms::AtomSet;
-use csp_base::NoMemory;
+use csp_base::Stop;
 use csp_program::{Content, Expr};
 use csp_text::Decl;
-use csp_values::EvalFault;
 use dl_limits::MOST_EVENTS;
 use event_tables::{SharedSets, event_count, field_sets, fill_events};
 use name_tables::Meanings;
 use script_contents::types_of;
-use script_names::{ResolveFault, Unresolved};
+use script_names::{Made, ResolveFault};
 use std::alloc::Global;
 
 /// The field sets of the channels of declarations. A type that has no value that fits is told in its declaration.
@@ -29,7 +28,7 @@ pub fn channel_sets(
     meanings: &Meanings<'_>,
     content: &Content,
     decls: &[Decl],
-) -> Result<Vec<SharedSets>, Unresolved>
+) -> Resolved<Vec<SharedSets>>
     requires few { size decls.now ≤ MOST_BYTES }
     requires plain { IsTrue (all_true (map lacks_sets content.now.channels)) }
     ensures { Answers (λ shared. spread shared.items) result (meant.channel_sets content.now
@@ -51,7 +50,7 @@ fn add_sets(
     shared: &mut Vec<SharedSets>,
     i: u32,
     decl: &Decl,
-) -> Result<(), Unresolved>
+) -> Resolved<()>
     requires few { declaration_size decl.now ≤ MOST_BYTES }
     requires plain { IsTrue (all_true (map lacks_sets content.now.channels)) }
     ensures { Grows result shared.old.items shared.new.items (sets_of content.now
@@ -60,8 +59,9 @@ fn add_sets(
     match decl {
         Decl::Channel(xs, types) => {
             let types = types_of(meanings, types.as_slice())?;
-            let one = shared_in(meanings.alloc, content, i, xs.len(), types.as_slice())?;
-            push_shared(shared, one)?;
+            let sets = sets_in(meanings.alloc, content, i, types.as_slice())?;
+            let channels = xs.len();
+            push_shared(shared, SharedSets { channels, sets })?;
             Ok(())
         }
         Decl::Datatype(_, _)
@@ -74,62 +74,34 @@ fn add_sets(
 }
 
 // Puts the field sets of one declaration at the end.
-fn push_shared(shared: &mut Vec<SharedSets>, one: SharedSets) -> Result<(), NoMemory>
+fn push_shared(shared: &mut Vec<SharedSets>, one: SharedSets) -> Made<()>
     ensures { OnOk result (shared.new.items ≡ shared.old.items ++ one ∷ []) }
 {
     shared.push(one)?;
     Ok(())
 }
 
-// The field sets of so many channels of these types in the declaration with the number `i`.
-fn shared_in(
-    alloc: Global,
-    content: &Content,
-    i: u32,
-    channels: usize,
-    types: &[Expr],
-) -> Result<SharedSets, Unresolved>
-    requires { IsTrue (all_true (map lacks_sets content.now.channels)) }
-    ensures channels { IfOk result (λ one. one.channels ≡ channels) }
-    ensures sets { Answers (λ (one : SharedSets). one.sets) result
-        (meant.told_in i (meant.field_sets content.now types.now)) }
-{
-    let sets = sets_in(alloc, content, i, types)?;
-    Ok(SharedSets { channels, sets })
-}
-
 // The field sets of these types in the declaration with the number `i`.
-fn sets_in(
-    alloc: Global,
-    content: &Content,
-    i: u32,
-    types: &[Expr],
-) -> Result<Items<AtomSet>, Unresolved>
+fn sets_in(alloc: Global, content: &Content, i: u32, types: &[Expr]) -> Resolved<Items<AtomSet>>
     requires { IsTrue (all_true (map lacks_sets content.now.channels)) }
     ensures { Answers (λ (sets : List (List Atom)). sets) result
         (meant.told_in i (meant.field_sets content.now types.now)) }
 {
     match field_sets(alloc, content, types) {
         Ok(sets) => Ok(sets),
-        Err(EvalFault::Value { kind }) => {
-            Err(Unresolved::Refused(ResolveFault::Value { inside: i, kind }))
-        }
-        Err(EvalFault::NoMemory) => Err(Unresolved::NoMemory),
+        Err(Stop::Told(kind)) => { Err(Stop::Told(ResolveFault::Value { inside: i, kind })) }
+        Err(Stop::NoMemory) => Err(Stop::NoMemory),
     }
 }
 
 /// Gives the channels these field sets, and makes the event table, unless there are too many events.
-pub fn fill_table(
-    alloc: Global,
-    content: &mut Content,
-    shared: &[SharedSets],
-) -> Result<(), Unresolved>
+pub fn fill_table(alloc: Global, content: &mut Content, shared: &[SharedSets]) -> Resolved<()>
     requires { length content.old.channels ≤ MOST_BYTES }
     ensures { Answers (λ (done : Unit {0}). content.new) result (meant.with_table content.old (spread shared.now)) }
 {
     let count = event_count(shared);
     if count > MOST_EVENTS {
-        return Err(Unresolved::Refused(ResolveFault::EventLimit { count }));
+        return Err(Stop::Told(ResolveFault::EventLimit { count }));
     }
     fill_events(alloc, content, shared)?;
     Ok(())

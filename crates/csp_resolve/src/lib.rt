@@ -5,4 +5,3 @@ mod events;
 mod resolution;
 
 pub use resolution::resolve;
-pub use script_names::Unresolved;

@@ -14,7 +14,7 @@ ghost use Rattle.script_sizes.specs.Size.{AreSmall, size};
 
 use crate::events::{channel_sets, fill_table};
 use containers::{Boxed, Key};
-use csp_base::NoMemory;
+use csp_base::Stop;
 use csp_program::{Content, Program};
 use csp_text::{Decl, Script, Tree};
 use definition_kinds::kinds_of;
@@ -22,11 +22,14 @@ use name_faults::name_fault;
 use name_tables::{Dictionary, Meanings, dictionary_of};
 use resolved_laws::programs_are_in_order;
 use script_contents::plain_content;
-use script_names::{ResolveFault, Unresolved};
+use script_names::{Made, ResolveFault};
 use std::alloc::Global;
 
+// What was made, or why there is no program.
+pub(crate) type Resolved<T> = Result<T, Stop<ResolveFault>>;
+
 // The program on the heap, where it ends in a function of its own.
-fn box_program(alloc: Global, program: Program) -> Result<Boxed<Program>, NoMemory>
+fn box_program(alloc: Global, program: Program) -> Made<Boxed<Program>>
     ensures { IfOk result (λ made. made ≡ program) }
 {
     Boxed::new(alloc, program)
@@ -35,7 +38,11 @@ fn box_program(alloc: Global, program: Program) -> Result<Boxed<Program>, NoMemo
 /// The program of a script. A fault is told exactly where the script has no program, and it is the first in this order: no deadlock assertion, a name
 /// fault, a type of a channel without a value that fits, too many events. The script is small, as each is that a text within the limit spells: 32 bits
 /// number all that it declares. Names are found under this key, which the text of the script makes.
-pub fn resolve(alloc: Global, key: Key, script: &Script) -> Result<Boxed<Program>, Unresolved>
+pub fn resolve(
+    alloc: Global,
+    key: Key,
+    script: &Script,
+) -> Result<Boxed<Program>, Stop<ResolveFault>>
     requires small { AreSmall script.now.decls }
     ensures { meant.Resolves script.now result }
 {
@@ -46,7 +53,7 @@ pub fn resolve(alloc: Global, key: Key, script: &Script) -> Result<Boxed<Program
 }
 
 // What the program of a script holds whose names stand for what `names` says.
-fn content_of(alloc: Global, script: &Script, names: &Dictionary) -> Result<Content, Unresolved>
+fn content_of(alloc: Global, script: &Script, names: &Dictionary) -> Resolved<Content>
     requires small { AreSmall script.now.decls }
     requires names { SameFirsts names.now (declared script.now.decls) }
     ensures resolves { meant.Resolves script.now result }
@@ -65,16 +72,16 @@ fn content_of(alloc: Global, script: &Script, names: &Dictionary) -> Result<Cont
 }
 
 // What the program of declarations holds whose names and definitions mean what `meanings` says.
-fn content_by_names(meanings: &Meanings<'_>, decls: &[Decl]) -> Result<Content, Unresolved>
+fn content_by_names(meanings: &Meanings<'_>, decls: &[Decl]) -> Resolved<Content>
     requires small { AreSmall decls.now }
     requires names { SameFirsts meanings.now.names.now (declared decls.now) }
     ensures { Answers (λ (p : Content). p) result (meant.resolved decls.now meanings.now.kinds.now) }
 {
     let Some(root) = first_assertion(decls) else {
-        return Err(Unresolved::Refused(ResolveFault::NoAssert));
+        return Err(Stop::Told(ResolveFault::NoAssert));
     };
     match name_fault(meanings, decls)? {
-        Some(fault) => Err(Unresolved::Refused(fault)),
+        Some(fault) => Err(Stop::Told(fault)),
         None => {
             let content = plain_content(meanings, decls, root)?;
             with_events(meanings, decls, content)
@@ -95,16 +102,14 @@ fn first_assertion(decls: &[Decl]) -> Option<&Tree>
 }
 
 // What a program holds, with the field sets of its channels and its event table.
-fn with_events(
-    meanings: &Meanings<'_>,
-    decls: &[Decl],
-    mut content: Content,
-) -> Result<Content, Unresolved>
+fn with_events(meanings: &Meanings<'_>, decls: &[Decl], mut content: Content) -> Resolved<Content>
     requires few { size decls.now ≤ MOST_BYTES }
     requires channels { length content.channels ≤ MOST_BYTES }
     requires plain { IsTrue (all_true (map lacks_sets content.channels)) }
     ensures { Answers (λ (p : Content). p) result
-        (and_next (meant.channel_sets content (types_read (first_of meanings.now.names.now) meanings.now.kinds.now) 0 decls.now) (λ all. meant.with_table content all)) }
+        (and_next (meant.channel_sets content
+        (types_read (first_of meanings.now.names.now) meanings.now.kinds.now) 0 decls.now)
+        (λ all. meant.with_table content all)) }
 {
     match put_events(meanings, decls, &mut content) {
         Ok(()) => Ok(content),
@@ -116,16 +121,14 @@ fn with_events(
 }
 
 // Gives the channels of a program their field sets, and makes its event table.
-fn put_events(
-    meanings: &Meanings<'_>,
-    decls: &[Decl],
-    content: &mut Content,
-) -> Result<(), Unresolved>
+fn put_events(meanings: &Meanings<'_>, decls: &[Decl], content: &mut Content) -> Resolved<()>
     requires few { size decls.now ≤ MOST_BYTES }
     requires channels { length content.old.channels ≤ MOST_BYTES }
     requires plain { IsTrue (all_true (map lacks_sets content.old.channels)) }
     ensures { Answers (λ (done : Unit {0}). content.new) result
-        (and_next (meant.channel_sets content.old (types_read (first_of meanings.now.names.now) meanings.now.kinds.now) 0 decls.now) (λ all. meant.with_table content.old all)) }
+        (and_next (meant.channel_sets content.old
+        (types_read (first_of meanings.now.names.now) meanings.now.kinds.now) 0 decls.now)
+        (λ all. meant.with_table content.old all)) }
 {
     let shared = channel_sets(meanings, content, decls)?;
     fill_table(meanings.alloc, content, shared.as_slice())?;

@@ -1,7 +1,6 @@
 -- The steps of a process, each where it first stands, from those of the processes below: of a list only the firsts count.
 use Rattle.csp_steps.proofs.Prelude.{◌≡◌, ◌⊎◌, inl, inr, ℕ, ◌<◌, true, Some, Ok, Err, List, [], ◌∷◌, map, length, refl, ap, sym, ◌∙◌, subst, and_from, lt-ltb, IfOk, IfSome, nat_lt, OnOk, Option, Result, IsErrAnd, StandsIn, Outcome, and_then, ValueKind, Proc, Content, placed, Move, steps_of, EvalFault, all_within, AreAdded, AreEach, GivesEach, GivesMoves, IsListing, all_moves, around, effect_of, moves_of, AreStepsOf, FaultIs, seen, AreFirsts, AreFirstsAfter, StepTo, AreDifferent, tree_at}
 use Rattle.process_steps.proofs.Members.{Among}
-use Rattle.value_operators.specs.declared.fault.EvalFault.TheVariants as fault
 use Rattle.csp_steps.proofs.Computing.{passed}
 use Rattle.csp_steps.proofs.Firsts.{firsts_back, firsts_map, joined_firsts, stands_either, stands_none}
 use Rattle.csp_steps.proofs.Places.{standing, within_of}
@@ -141,5 +140,4 @@ each_steps p trees t (Err f) h = tt
 
 pub each_fault : (trees : List Proc) (r : Result (List StepTo) EvalFault) (o : Outcome (List Move)) → GivesEach trees r o → FaultIs r o
 each_fault trees (Ok steps) o h = tt
-each_fault trees (Err fault.NoMemory) o h = tt
-each_fault trees (Err (fault.Value _)) o h = h
+each_fault trees (Err f) o h = h

@@ -1,36 +1,22 @@
 -- What a call answers for a whole, from what calls answer for its parts.
-use Rattle.csp_steps.proofs.Prelude.{◌≡◌, ℕ, ◌+◌, ◌<◌, ◌≤◌, Ok, Err, List, [], ◌∷◌, ◌++◌, map, take, length, get_or, ap, sym, ◌∙◌, subst, append_assoc, Result, IsErrAnd, joined, Outcome, ValueKind, Proc, Content, Move, Among, IsFront, Gives, EvalFault, GivesStart, Answers, AreMoves, IsFault, IsMove, seen, StepTo, joined_push, take_read, map_push, take_all}
-use Rattle.value_operators.specs.declared.fault.EvalFault.TheVariants as fault
+use Rattle.csp_steps.proofs.Prelude.{◌≡◌, ℕ, ◌+◌, ◌<◌, ◌≤◌, Ok, Err, List, [], ◌∷◌, ◌++◌, map, take, length, get_or, ap, sym, ◌∙◌, subst, append_assoc, Result, IsErrAnd, joined, Outcome, ValueKind, Proc, Content, Move, Among, IsFront, Gives, EvalFault, GivesStart, Answers, AreMoves, IsFault, IsMove, seen, StepTo, joined_push, take_read, map_push, take_all, at_err, weaker}
 use Rattle.csp_steps.proofs.Places.{moves_stay, one_move}
 
 -- ---- faults that are handed on
 
-faulty : {C D : Type 0} (f : EvalFault) (part : Outcome C) (whole : Outcome D) → IsFault f part → ((k : ValueKind) → part ≡ Err k → whole ≡ Err k) → IsFault f whole
-faulty fault.NoMemory part whole h passes = tt
-faulty (fault.Value kind) part whole h passes = passes kind h
-
 pub passed : {B C D : Type 0} (Fine : B → Type 0) (r : Result B EvalFault) (f : EvalFault) (part : Outcome C) (whole : Outcome D) → IsErrAnd r (λ y. y ≡ f) → IsFault f part
     → ((k : ValueKind) → part ≡ Err k → whole ≡ Err k) → Answers Fine r whole
-passed Fine (Ok x) f part whole is h passes = absurd is
-passed Fine (Err y) f part whole is h passes = rw is (faulty f part whole h passes)
+passed Fine r f part whole is h passes = at_err (λ q. Answers Fine q whole) r f is (weaker (λ k. part ≡ Err k) (λ k. whole ≡ Err k) f h passes)
 
 -- the same after a call that gives a value
 pub value_passed : {A B D : Type 0} (Fine : B → Type 0) (r : Result B EvalFault) (f : EvalFault) (part : Outcome A) (whole : Outcome D) → IsErrAnd r (λ y. y ≡ f) → Gives {A = A} (Err f) part
     → ((k : ValueKind) → part ≡ Err k → whole ≡ Err k) → Answers Fine r whole
-value_passed {A = A} Fine r f part whole is h passes = passed Fine r f part whole is (is_fault f part h) passes
-  where
-    is_fault : (e : EvalFault) (o : Outcome A) → Gives {A = A} (Err e) o → IsFault e o
-    is_fault fault.NoMemory o g = tt
-    is_fault (fault.Value kind) o g = g
+value_passed Fine r f part whole is h passes = passed Fine r f part whole is h passes
 
 -- and after one that looks for a head
 pub start_passed : {B D : Type 0} (p : Content) (Fine : B → Type 0) (r : Result B EvalFault) (f : EvalFault) (part : Outcome Among) (whole : Outcome D) → IsErrAnd r (λ y. y ≡ f) → GivesStart p (Err f) part
     → ((k : ValueKind) → part ≡ Err k → whole ≡ Err k) → Answers Fine r whole
-start_passed p Fine r f part whole is h passes = passed Fine r f part whole is (is_fault f part h) passes
-  where
-    is_fault : (e : EvalFault) (o : Outcome Among) → GivesStart p (Err e) o → IsFault e o
-    is_fault fault.NoMemory o g = tt
-    is_fault (fault.Value kind) o g = g
+start_passed p Fine r f part whole is h passes = passed Fine r f part whole is h passes
 
 -- the next of some steps, in a list that has grown
 module _ (old mid new : List Proc) (front : IsFront mid new) (below : List StepTo) (i : ℕ) (s : StepTo) (lt : i < length below) (is : s ≡ get_or below i s) where

@@ -1,7 +1,5 @@
 -- Steps that are added one after another to those that are numbered.
-use Rattle.csp_steps.proofs.Prelude.{◌≡◌, ℕ, ◌+◌, ◌<◌, ◌≤◌, Bool, true, false, cond, Some, List, [], ◌∷◌, ◌++◌, take, length, get_or, slice_get, refl, ap, sym, ◌∙◌, subst, append_assoc, append-nil, false≢true, take_all, any_passes_from_place, AreAdded, eq_step, AreFirsts, AreFirstsAfter, none, again, first, laws-law, StepTo, take_read, StandsIn}
-use Rattle.std.specs.Set.{is_member}
-use Rattle.containers.specs.Members.{with_new}
+use Rattle.csp_steps.proofs.Prelude.{◌≡◌, ℕ, ◌+◌, ◌<◌, ◌≤◌, Bool, true, false, cond, Some, List, [], ◌∷◌, ◌++◌, take, length, get_or, slice_get, refl, ap, sym, ◌∙◌, subst, append_assoc, append-nil, false≢true, take_all, any_passes_from_place, AreAdded, eq_step, AreFirsts, AreFirstsAfter, none, again, first, laws-law, StepTo, take_read, StandsIn, is_member, with_new}
 use Rattle.csp_steps.proofs.Firsts.{firsts_append}
 
 unknown : (xs : List StepTo) (s : StepTo) → is_member eq_step xs s ≡ false → StandsIn xs s → ⊥

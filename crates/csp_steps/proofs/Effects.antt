@@ -1,10 +1,6 @@
 -- What a hiding, a renaming and a sequence make of steps. The process after a step that is no end has the same operator.
-use Rattle.csp_steps.proofs.Prelude.{◌≡◌, ℕ, ◌<◌, if◌then◌else◌, Ok, Err, List, [], ◌∷◌, ◌++◌, map, length, refl, ap, sym, ◌∙◌, joined, Outcome, and_then, EventPart, Expr, Gen, ValueKind, Kind, Proc, Proc-F, Content, ProcId, events_in, Renamed, images, renaming_in, Move, in_hiding, in_renaming, in_sequence, Label, Silent, Visible, Tick, becomes, KeepsOutcome, layer_with_first, with_first, shown, IsFront, tree_of, Node, all_moves, around, effect_of, effect_of_layer, hidden_labels, labels_by, last_by, moves_of, renamed_labels, Does, Effect, IsWithin, Operator, StepTo}
-use Rattle.csp_base.specs.Members.{has}
-use Rattle.csp_program.specs.declared.processes.Proc.TheViews.{out-Proc, out-roll-Proc, roll-Proc}
+use Rattle.csp_steps.proofs.Prelude.{◌≡◌, ℕ, ◌<◌, if◌then◌else◌, Ok, Err, List, [], ◌∷◌, ◌++◌, map, length, refl, ap, sym, ◌∙◌, joined, Outcome, and_then, EventPart, Expr, Gen, ValueKind, Kind, Proc, Proc-F, Content, ProcId, events_in, Renamed, images, renaming_in, Move, in_hiding, in_renaming, in_sequence, Label, Silent, Visible, Tick, becomes, KeepsOutcome, layer_with_first, with_first, shown, IsFront, tree_of, Node, all_moves, around, effect_of, effect_of_layer, hidden_labels, labels_by, last_by, moves_of, renamed_labels, Does, Effect, IsWithin, Operator, StepTo, has, out-Proc, out-roll-Proc, roll-Proc, Images, layer_of, layer_out}
 use Rattle.csp_program.specs.declared.processes.Proc.TheVariants as proc
-use Rattle.step_values.specs.declared.images.Images.{Images}
-use Rattle.term_pool.proofs.NodeLemmas.{layer_of, layer_out}
 use Rattle.term_pool.specs.declared.node.Node.TheVariants as node
 use Rattle.csp_steps.specs.declared.operator.Operator.TheVariants as operator
 use Rattle.csp_steps.proofs.Places.{still_within, tree_stays}

@@ -1,7 +1,5 @@
 -- The body of a definition, with values in place of its parameters.
-use Rattle.csp_steps.proofs.Prelude.{◌≡◌, ℕ, Option, Some, List, slice_get, ap, sym, ◌∙◌, subst, Value, Outcome, given_by, proc_with, bound_to, Proc, Content, called, process_of, at, tree_at, ProcId, IsPlaceOf, body_of, process_body}
-use Rattle.csp_program.specs.declared.programs.Body.{Body}
-use Rattle.csp_program.specs.declared.programs.Def.{Def}
+use Rattle.csp_steps.proofs.Prelude.{◌≡◌, ℕ, Option, Some, List, slice_get, ap, sym, ◌∙◌, subst, Value, Outcome, given_by, proc_with, bound_to, Proc, Content, called, process_of, at, tree_at, ProcId, IsPlaceOf, body_of, process_body, Body, Def}
 use Rattle.csp_program.specs.declared.programs.Body.TheVariants as body
 use Rattle.csp_steps.proofs.Places.{found}
 

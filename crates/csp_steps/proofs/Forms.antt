@@ -1,93 +1,62 @@
 -- The steps of each form of a process, as a look at it finds them, and how deep the processes below it are.
-use Rattle.csp_steps.proofs.Prelude.{◌≡◌, ℕ, suc, ◌<◌, true, false, if◌then◌else◌, Ok, Err, List, [], ◌∷◌, map, length, slice_get, refl, ap, sym, ◌∙◌, subst, arith, ltb-true, lt-ltb, and_from, first_so, second_so, Result, nat_lt, proc_depth, and_then, given_by, proc_with, EventPart, Expr, Gen, ValueKind, EmptyChoice, Field, Proc, Proc-F, Content, Atom, Value, arguments_in, called, set_in, truth_in, Among, event_among, of_head, sets_among, ways_to_fill, each_put, silent_to, some_silent_to, steps_of, steps_of_choice, Label, Silent, Visible, Tick, all_below, places, places_below, tree_at, tree_of, Node, ProcId, EvalFault, IsStart, filled, ways_by_number, all_within, AreAround, AreAt, AreOfChoice, AreThoseAt, GivesLook, IsListing, IsPlaceOf, seen, Look, StepTo, greatest}
-use Rattle.csp_program.specs.declared.processes.Head.{Head}
+use Rattle.csp_steps.proofs.Prelude.{◌≡◌, ℕ, suc, ◌<◌, Bool, true, false, if◌then◌else◌, Ok, Err, List, [], ◌∷◌, map, length, slice_get, refl, ap, sym, ◌∙◌, subst, arith, ltb-true, lt-ltb, and_from, first_so, second_so, Result, nat_lt, proc_depth, Outcome, and_then, given_by, proc_with, EventPart, Expr, Gen, ValueKind, EmptyChoice, Field, Proc, Proc-F, Content, Atom, Value, arguments_in, called, set_in, truth_in, Among, event_among, of_head, sets_among, ways_to_fill, each_put, silent_to, some_silent_to, steps_of, steps_of_choice, Label, Silent, Visible, Tick, all_below, places, places_below, tree_at, tree_of, Node, ProcId, EvalFault, IsStart, filled, ways_by_number, all_within, AreAround, AreAt, AreOfChoice, AreThoseAt, GivesLook, IsListing, IsPlaceOf, seen, Look, StepTo, greatest, Head, depth_of, layer_depth, put_depths, steps_of_form, Start, all_below_more}
 use Rattle.csp_program.specs.declared.processes.Proc.TheVariants as proc
-use Rattle.process_steps.proofs.Depths.{depth_of, layer_depth, put_depths}
-use Rattle.process_steps.proofs.Equations as forms
-use Rattle.step_values.specs.declared.heads.Start.{Start}
 use Rattle.csp_steps.proofs.Effects.{around_hide, around_rename, around_sequence}
 use Rattle.csp_steps.proofs.Numbered.{moves_by_number}
-use Rattle.term_pool.proofs.TreeLemmas.{all_below_more}
-
-less-Guard : (c : Expr) (q : Proc) → proc_depth q < proc_depth (proc.Guard c q)
-unfolding layer_depth
-less-Guard c q = let e = depth_of (proc.Guard c q) (Proc-F.Guard c q) (proc.rolls-Guard c q) in omega (arith, e)
-
-less-If : (c : Expr) (q r : Proc) → proc_depth q < proc_depth (proc.If c q r)
-unfolding layer_depth
-less-If c q r = let e = depth_of (proc.If c q r) (Proc-F.If c q r) (proc.rolls-If c q r) in omega (arith, e)
-
-less-If-second : (c : Expr) (q r : Proc) → proc_depth r < proc_depth (proc.If c q r)
-unfolding layer_depth
-less-If-second c q r = let e = depth_of (proc.If c q r) (Proc-F.If c q r) (proc.rolls-If c q r) in omega (arith, e)
-
-less-External : (qs : List Proc) → greatest (map proc_depth qs) < proc_depth (proc.External qs)
-unfolding layer_depth
-less-External qs = let e = depth_of (proc.External qs) (Proc-F.External qs) (proc.rolls-External qs) in omega (arith, e)
-
-less-EachExternal : (x : ℕ) (s : Expr) (q : Proc) → proc_depth q < proc_depth (proc.EachExternal x s q)
-unfolding layer_depth
-less-EachExternal x s q = let e = depth_of (proc.EachExternal x s q) (Proc-F.EachExternal x s q) (proc.rolls-EachExternal x s q) in omega (arith, e)
-
-less-Hide : (q : Proc) (s : Expr) → proc_depth q < proc_depth (proc.Hide q s)
-unfolding layer_depth
-less-Hide q s = let e = depth_of (proc.Hide q s) (Proc-F.Hide q s) (proc.rolls-Hide q s) in omega (arith, e)
-
-less-Rename : (q : Proc) (pairs : List (EventPart × EventPart)) (gens : List Gen) → proc_depth q < proc_depth (proc.Rename q pairs gens)
-unfolding layer_depth
-less-Rename q pairs gens = let e = depth_of (proc.Rename q pairs gens) (Proc-F.Rename q pairs gens) (proc.rolls-Rename q pairs gens) in omega (arith, e)
-
-less-Seq : (q r : Proc) → proc_depth q < proc_depth (proc.Seq q r)
-unfolding layer_depth
-less-Seq q r = let e = depth_of (proc.Seq q r) (Proc-F.Seq q r) (proc.rolls-Seq q r) in omega (arith, e)
 
 module _ (p : Content) where
   -- a guard
+  pub guard_steps : (c : Expr) (q : Proc) {o : Outcome Bool} → truth_in p c ≡ o → steps_of p (proc.Guard c q) ≡ and_then o (λ b. if b then steps_of p q else Ok [])
+  guard_steps c q h = steps_of_form p (Proc-F.Guard c q) (proc.rolls-Guard c q) ∙ ap (λ o. and_then o (λ b. if b then steps_of p q else Ok [])) h
+
   pub guard_true : (trees : List Proc) (c : Expr) (id : ProcId) → id.0 < length trees → truth_in p c ≡ Ok true → AreThoseAt p trees id (proc.Guard c (tree_at trees id))
+  unfolding layer_depth
   guard_true trees c id within h = record {
-    same = forms.steps-Guard p c (tree_at trees id) ∙ ap (λ o. and_then o (λ b. if b then steps_of p (tree_at trees id) else Ok [])) h;
+    same = guard_steps c (tree_at trees id) h;
     within = within;
-    less = less-Guard c (tree_at trees id);
+    less = let e = depth_of (Proc-F.Guard c (tree_at trees id)) (proc.rolls-Guard c (tree_at trees id)) in omega (arith, e);
   }
 
   pub guard_false : (trees : List Proc) (c : Expr) (q : Proc) → truth_in p c ≡ Ok false → IsListing trees [] (steps_of p (proc.Guard c q))
-  guard_false trees c q h = record { same = forms.steps-Guard p c q ∙ ap (λ o. and_then o (λ b. if b then steps_of p q else Ok [])) h; within = refl }
-
-  pub guard_fault : (c : Expr) (q : Proc) (k : ValueKind) → truth_in p c ≡ Err k → steps_of p (proc.Guard c q) ≡ Err k
-  guard_fault c q k h = forms.steps-Guard p c q ∙ ap (λ o. and_then o (λ b. if b then steps_of p q else Ok [])) h
+  guard_false trees c q h = record { same = guard_steps c q h; within = refl }
 
   -- one of two processes
+  pub if_steps : (c : Expr) (q r : Proc) {o : Outcome Bool} → truth_in p c ≡ o → steps_of p (proc.If c q r) ≡ and_then o (λ b. if b then steps_of p q else steps_of p r)
+  if_steps c q r h = steps_of_form p (Proc-F.If c q r) (proc.rolls-If c q r) ∙ ap (λ o. and_then o (λ b. if b then steps_of p q else steps_of p r)) h
+
   pub if_true : (trees : List Proc) (c : Expr) (id other : ProcId) → id.0 < length trees → truth_in p c ≡ Ok true → AreThoseAt p trees id (proc.If c (tree_at trees id) (tree_at trees other))
+  unfolding layer_depth
   if_true trees c id other within h = record {
-    same = forms.steps-If p c (tree_at trees id) (tree_at trees other) ∙ ap (λ o. and_then o (λ b. if b then steps_of p (tree_at trees id) else steps_of p (tree_at trees other))) h;
+    same = if_steps c (tree_at trees id) (tree_at trees other) h;
     within = within;
-    less = less-If c (tree_at trees id) (tree_at trees other);
+    less = let e = depth_of (Proc-F.If c (tree_at trees id) (tree_at trees other)) (proc.rolls-If c (tree_at trees id) (tree_at trees other)) in omega (arith, e);
   }
 
   pub if_false : (trees : List Proc) (c : Expr) (other id : ProcId) → id.0 < length trees → truth_in p c ≡ Ok false → AreThoseAt p trees id (proc.If c (tree_at trees other) (tree_at trees id))
+  unfolding layer_depth
   if_false trees c other id within h = record {
-    same = forms.steps-If p c (tree_at trees other) (tree_at trees id) ∙ ap (λ o. and_then o (λ b. if b then steps_of p (tree_at trees other) else steps_of p (tree_at trees id))) h;
+    same = if_steps c (tree_at trees other) (tree_at trees id) h;
     within = within;
-    less = less-If-second c (tree_at trees other) (tree_at trees id);
+    less = let e = depth_of (Proc-F.If c (tree_at trees other) (tree_at trees id)) (proc.rolls-If c (tree_at trees other) (tree_at trees id)) in omega (arith, e);
   }
-
-  pub if_fault : (c : Expr) (q r : Proc) (k : ValueKind) → truth_in p c ≡ Err k → steps_of p (proc.If c q r) ≡ Err k
-  if_fault c q r k h = forms.steps-If p c q r ∙ ap (λ o. and_then o (λ b. if b then steps_of p q else steps_of p r)) h
 
   -- choices
   pub external : (trees : List Proc) (ids : List ProcId) → all_below (length trees) ids ≡ true → AreOfChoice p trees ids (proc.External (map (tree_at trees) ids))
-  external trees ids below = record { same = forms.steps-External p (map (tree_at trees) ids); within = below; less = less-External (map (tree_at trees) ids) }
+  unfolding layer_depth
+  external trees ids below = record { same = steps_of_form p (Proc-F.External (map (tree_at trees) ids)) (proc.rolls-External (map (tree_at trees) ids)); within = below; less = let e = depth_of (Proc-F.External (map (tree_at trees) ids)) (proc.rolls-External (map (tree_at trees) ids)) in omega (arith, e) }
+
+  pub each_external_steps : (x : ℕ) (s : Expr) (q : Proc) {o : Outcome (List Atom)} → set_in p s ≡ o
+      → steps_of p (proc.EachExternal x s q) ≡ and_then o (λ found. steps_of_choice p (steps_of p) (each_put x found q))
+  each_external_steps x s q h = steps_of_form p (Proc-F.EachExternal x s q) (proc.rolls-EachExternal x s q) ∙ ap (λ o. and_then o (λ found. steps_of_choice p (steps_of p) (each_put x found q))) h
 
   pub each_external : (trees : List Proc) (ids : List ProcId) (x : ℕ) (s : Expr) (q : Proc) (atoms : List Atom) → set_in p s ≡ Ok atoms → AreAt trees ids (each_put x atoms q)
       → AreOfChoice p trees ids (proc.EachExternal x s q)
+  unfolding layer_depth
   each_external trees ids x s q atoms h at = record {
-    same = forms.steps-EachExternal p x s q ∙ (ap (λ o. and_then o (λ found. steps_of_choice p (steps_of p) (each_put x found q))) h ∙ ap (steps_of_choice p (steps_of p)) (sym at.same));
+    same = each_external_steps x s q h ∙ ap (steps_of_choice p (steps_of p)) (sym at.same);
     within = at.within;
-    less = let e = ap (λ ts. greatest (map proc_depth ts)) at.same in let f = less-EachExternal x s q in let g = put_depths x q atoms in omega (arith, e, f, g);
+    less = let e = ap (λ ts. greatest (map proc_depth ts)) at.same in let f = depth_of (Proc-F.EachExternal x s q) (proc.rolls-EachExternal x s q) in let g = put_depths x q atoms in omega (arith, e, f, g);
   }
-
-  pub each_external_fault : (x : ℕ) (s : Expr) (q : Proc) (k : ValueKind) → set_in p s ≡ Err k → steps_of p (proc.EachExternal x s q) ≡ Err k
-  each_external_fault x s q k h = forms.steps-EachExternal p x s q ∙ ap (λ o. and_then o (λ found. steps_of_choice p (steps_of p) (each_put x found q))) h
 
   -- silent steps to places
   to_each_seen : (trees : List Proc) (ids : List ProcId) → map (seen trees) (map (λ id. record { label = Silent; to = id }) ids) ≡ silent_to (map (tree_at trees) ids)
@@ -103,7 +72,7 @@ module _ (p : Content) where
   pub internal : (trees : List Proc) (ids : List ProcId) (steps : List StepTo) → steps ≡ map (λ id. record { label = Silent; to = id }) ids → all_below (length trees) ids ≡ true
       → IsListing trees steps (steps_of p (proc.Internal (map (tree_at trees) ids)))
   internal trees ids steps e below = record {
-    same = forms.steps-Internal p (map (tree_at trees) ids) ∙ ap (λ ms. Ok ms) (sym (ap (map (seen trees)) e ∙ to_each_seen trees ids));
+    same = steps_of_form p (Proc-F.Internal (map (tree_at trees) ids)) (proc.rolls-Internal (map (tree_at trees) ids)) ∙ ap (λ ms. Ok ms) (sym (ap (map (seen trees)) e ∙ to_each_seen trees ids));
     within = ap (all_within (length trees)) e ∙ to_each_within (length trees) ids below;
   }
 
@@ -115,27 +84,26 @@ module _ (p : Content) where
   length_put x [] q = refl
   length_put x (a ∷ atoms) q = ap suc (length_put x atoms q)
 
+  pub each_internal_steps : (x : ℕ) (s : Expr) (q : Proc) {o : Outcome (List Atom)} → set_in p s ≡ o → steps_of p (proc.EachInternal x s q) ≡ and_then o (λ found. some_silent_to (each_put x found q))
+  each_internal_steps x s q h = steps_of_form p (Proc-F.EachInternal x s q) (proc.rolls-EachInternal x s q) ∙ ap (λ o. and_then o (λ found. some_silent_to (each_put x found q))) h
+
   pub each_internal : (trees : List Proc) (ids : List ProcId) (steps : List StepTo) (x : ℕ) (s : Expr) (q : Proc) (atoms : List Atom) → set_in p s ≡ Ok atoms → 0 < length atoms
       → AreAt trees ids (each_put x atoms q) → steps ≡ map (λ id. record { label = Silent; to = id }) ids → IsListing trees steps (steps_of p (proc.EachInternal x s q))
   each_internal trees ids steps x s q atoms h more at e = record {
-    same = forms.steps-EachInternal p x s q ∙ (ap (λ o. and_then o (λ found. some_silent_to (each_put x found q))) h ∙
+    same = each_internal_steps x s q h ∙
         (some_of (each_put x atoms q) (let l = length_put x atoms q in omega (arith, l, more)) ∙
-        ap (λ ms. Ok ms) (ap silent_to (sym at.same) ∙ sym (ap (map (seen trees)) e ∙ to_each_seen trees ids))));
+        ap (λ ms. Ok ms) (ap silent_to (sym at.same) ∙ sym (ap (map (seen trees)) e ∙ to_each_seen trees ids)));
     within = ap (all_within (length trees)) e ∙ to_each_within (length trees) ids at.within;
   }
 
   pub each_internal_none : (x : ℕ) (s : Expr) (q : Proc) (atoms : List Atom) → set_in p s ≡ Ok atoms → atoms ≡ [] → steps_of p (proc.EachInternal x s q) ≡ Err EmptyChoice
-  each_internal_none x s q atoms h e =
-      forms.steps-EachInternal p x s q ∙ (ap (λ o. and_then o (λ found. some_silent_to (each_put x found q))) h ∙ ap (λ found. some_silent_to (each_put x found q)) e)
-
-  pub each_internal_fault : (x : ℕ) (s : Expr) (q : Proc) (k : ValueKind) → set_in p s ≡ Err k → steps_of p (proc.EachInternal x s q) ≡ Err k
-  each_internal_fault x s q k h = forms.steps-EachInternal p x s q ∙ ap (λ o. and_then o (λ found. some_silent_to (each_put x found q))) h
+  each_internal_none x s q atoms h e = each_internal_steps x s q h ∙ ap (λ found. some_silent_to (each_put x found q)) e
 
   -- a call
-  call_steps : (d : ℕ) (args : List Expr) (vs : List Value) → arguments_in p args ≡ Ok vs
-      → steps_of p (proc.Call d args) ≡ and_then (called (slice_get p.defs d) vs) (λ q. Ok ((Silent, q) ∷ []))
-  call_steps d args vs h =
-      forms.steps-Call p d args ∙ ap (λ o. and_then o (λ ws. and_then (called (slice_get p.defs d) ws) (λ q. Ok ((Silent, q) ∷ [])))) h
+  pub call_steps : (d : ℕ) (args : List Expr) {o : Outcome (List Value)} → arguments_in p args ≡ o
+      → steps_of p (proc.Call d args) ≡ and_then o (λ ws. and_then (called (slice_get p.defs d) ws) (λ q. Ok ((Silent, q) ∷ [])))
+  call_steps d args h =
+      steps_of_form p (Proc-F.Call d args) (proc.rolls-Call d args) ∙ ap (λ o. and_then o (λ ws. and_then (called (slice_get p.defs d) ws) (λ q. Ok ((Silent, q) ∷ [])))) h
 
   one_within : (trees : List Proc) (l : Label) (id : ProcId) → id.0 < length trees → all_within (length trees) (record { label = l; to = id } ∷ []) ≡ true
   one_within trees l id within = and_from (nat_lt id.0 (length trees)) true (lt-ltb id.0 (length trees) within) refl
@@ -143,35 +111,31 @@ module _ (p : Content) where
   pub call : (trees : List Proc) (d : ℕ) (args : List Expr) (vs : List Value) (id : ProcId) → arguments_in p args ≡ Ok vs → IsPlaceOf trees id (called (slice_get p.defs d) vs)
       → IsListing trees (record { label = Silent; to = id } ∷ []) (steps_of p (proc.Call d args))
   call trees d args vs id h at = record {
-    same = call_steps d args vs h ∙ ap (λ o. and_then o (λ q. Ok ((Silent, q) ∷ []))) at.same;
+    same = call_steps d args h ∙ ap (λ o. and_then o (λ q. Ok ((Silent, q) ∷ []))) at.same;
     within = one_within trees Silent id at.within;
   }
 
   pub call_fault : (d : ℕ) (args : List Expr) (vs : List Value) (k : ValueKind) → arguments_in p args ≡ Ok vs → called (slice_get p.defs d) vs ≡ Err k → steps_of p (proc.Call d args) ≡ Err k
-  call_fault d args vs k h e = call_steps d args vs h ∙ ap (λ o. and_then o (λ q. Ok ((Silent, q) ∷ []))) e
-
-  pub arguments_fault : (d : ℕ) (args : List Expr) (k : ValueKind) → arguments_in p args ≡ Err k → steps_of p (proc.Call d args) ≡ Err k
-  arguments_fault d args k h =
-      forms.steps-Call p d args ∙ ap (λ o. and_then o (λ ws. and_then (called (slice_get p.defs d) ws) (λ q. Ok ((Silent, q) ∷ [])))) h
+  call_fault d args vs k h e = call_steps d args h ∙ ap (λ o. and_then o (λ q. Ok ((Silent, q) ∷ []))) e
 
   -- a process that ends
   pub skip : (trees : List Proc) (id : ProcId) → IsPlaceOf trees id (Ok proc.Ended) → IsListing trees (record { label = Tick; to = id } ∷ []) (steps_of p proc.Skip)
   skip trees id at = record {
-    same = forms.steps-Skip p ∙ ap (λ o. and_then o (λ q. Ok ((Tick, q) ∷ []))) at.same;
+    same = steps_of_form p Proc-F.Skip proc.rolls-Skip ∙ ap (λ o. and_then o (λ q. Ok ((Tick, q) ∷ []))) at.same;
     within = one_within trees Tick id at.within;
   }
 
   pub stop : (trees : List Proc) → IsListing trees [] (steps_of p proc.Stop)
-  stop trees = record { same = forms.steps-Stop p; within = refl }
+  stop trees = record { same = steps_of_form p Proc-F.Stop proc.rolls-Stop; within = refl }
 
   pub ended : (trees : List Proc) → IsListing trees [] (steps_of p proc.Ended)
-  ended trees = record { same = forms.steps-Ended p; within = refl }
+  ended trees = record { same = steps_of_form p Proc-F.Ended proc.rolls-Ended; within = refl }
 
   -- a prefix
   prefix_steps : (h : Head) (fields : List Field) (q : Proc) (start : Start) (among : Among) → of_head p h ≡ Ok among → IsStart p start among
       → steps_of p (proc.Prefix h fields q) ≡ filled [] start.first q (ways_by_number p start.sets.now fields [] 0)
   prefix_steps h fields q start among e is =
-      forms.steps-Prefix p h fields q ∙
+      steps_of_form p (Proc-F.Prefix h fields q) (proc.rolls-Prefix h fields q) ∙
       ap (λ o. and_then o (λ found. and_then (ways_to_fill p (sets_among found) fields [] []) (λ ways. Ok (map (λ w. (Visible (event_among p found w.1), proc_with (given_by w.0) q)) ways)))) e ∙
       ap (λ sets. and_then (ways_to_fill p sets fields [] []) (λ ways. Ok (map (λ w. (Visible (event_among p among w.1), proc_with (given_by w.0) q)) ways))) is.sets ∙
       moves_by_number p (event_among p among) start.first q start.sets.now fields is.event is.few
@@ -186,29 +150,32 @@ module _ (p : Content) where
 
   pub head_fault : (h : Head) (fields : List Field) (q : Proc) (k : ValueKind) → of_head p h ≡ Err k → steps_of p (proc.Prefix h fields q) ≡ Err k
   head_fault h fields q k e =
-      forms.steps-Prefix p h fields q ∙
+      steps_of_form p (Proc-F.Prefix h fields q) (proc.rolls-Prefix h fields q) ∙
       ap (λ o. and_then o (λ found. and_then (ways_to_fill p (sets_among found) fields [] []) (λ ways. Ok (map (λ w. (Visible (event_among p found w.1), proc_with (given_by w.0) q)) ways)))) e
 
   -- operators round one process
   pub hide : (trees : List Proc) (id : ProcId) (s : Expr) → id.0 < length trees → AreAround p trees id (proc.Hide (tree_at trees id) s)
+  unfolding layer_depth
   hide trees id s within = record {
-    same = forms.steps-Hide p (tree_at trees id) s ∙ (λ i. and_then (steps_of p (tree_at trees id)) (λ moves. around_hide p (tree_at trees id) moves s i));
+    same = steps_of_form p (Proc-F.Hide (tree_at trees id) s) (proc.rolls-Hide (tree_at trees id) s) ∙ (λ i. and_then (steps_of p (tree_at trees id)) (λ moves. around_hide p (tree_at trees id) moves s i));
     within = within;
-    less = less-Hide (tree_at trees id) s;
+    less = let e = depth_of (Proc-F.Hide (tree_at trees id) s) (proc.rolls-Hide (tree_at trees id) s) in omega (arith, e);
   }
 
   pub rename : (trees : List Proc) (id : ProcId) (pairs : List (EventPart × EventPart)) (gens : List Gen) → id.0 < length trees → AreAround p trees id (proc.Rename (tree_at trees id) pairs gens)
+  unfolding layer_depth
   rename trees id pairs gens within = record {
-    same = forms.steps-Rename p (tree_at trees id) pairs gens ∙ (λ i. and_then (steps_of p (tree_at trees id)) (λ moves. around_rename p (tree_at trees id) moves pairs gens i));
+    same = steps_of_form p (Proc-F.Rename (tree_at trees id) pairs gens) (proc.rolls-Rename (tree_at trees id) pairs gens) ∙ (λ i. and_then (steps_of p (tree_at trees id)) (λ moves. around_rename p (tree_at trees id) moves pairs gens i));
     within = within;
-    less = less-Rename (tree_at trees id) pairs gens;
+    less = let e = depth_of (Proc-F.Rename (tree_at trees id) pairs gens) (proc.rolls-Rename (tree_at trees id) pairs gens) in omega (arith, e);
   }
 
   pub sequence : (trees : List Proc) (id : ProcId) (r : Proc) → id.0 < length trees → AreAround p trees id (proc.Seq (tree_at trees id) r)
+  unfolding layer_depth
   sequence trees id r within = record {
-    same = forms.steps-Seq p (tree_at trees id) r ∙ (λ i. and_then (steps_of p (tree_at trees id)) (λ moves. around_sequence p (tree_at trees id) moves r i));
+    same = steps_of_form p (Proc-F.Seq (tree_at trees id) r) (proc.rolls-Seq (tree_at trees id) r) ∙ (λ i. and_then (steps_of p (tree_at trees id)) (λ moves. around_sequence p (tree_at trees id) moves r i));
     within = within;
-    less = less-Seq (tree_at trees id) r;
+    less = let e = depth_of (Proc-F.Seq (tree_at trees id) r) (proc.rolls-Seq (tree_at trees id) r) in omega (arith, e);
   }
 
   -- a look at a node is one at the process there

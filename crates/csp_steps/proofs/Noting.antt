@@ -1,8 +1,5 @@
 -- What is kept of evaluations stays true where the pool grows, and where more is kept.
-use Rattle.csp_steps.proofs.Prelude.{◌≡◌, ℕ, ◌<◌, Bool, true, false, cond, nat_eq, Option, Some, None, Ok, Err, List, [], ◌∷◌, ◌++◌, length, slice_get, refl, ap, sym, ◌∙◌, subst, eqb-true, OnOk, Result, Outcome, Proc, Content, Move, steps_of, at, with_first, IsFront, tree_at, ProcId, AreEach, AreFirsts, Does, body_of, AreBodies, AreKept, AreNoted, Fits, HasNumber, HasValue, IsNumbered, StandsAs, Evaluated, Operator, StepTo, slice_get_last}
-use Rattle.csp_base.specs.Standard.{HashMap, get, IsEmpty, Updates, lookup}
-use Rattle.containers.proofs.MembersLemmas.{slice_get-append_left}
-use Rattle.csp_steps.specs.declared.around.Round.{Round}
+use Rattle.csp_steps.proofs.Prelude.{◌≡◌, ℕ, ◌<◌, Bool, true, false, cond, nat_eq, Option, Some, None, Ok, Err, List, [], ◌∷◌, ◌++◌, length, slice_get, refl, ap, sym, ◌∙◌, subst, eqb-true, OnOk, Result, Outcome, Proc, Content, Move, steps_of, at, with_first, IsFront, tree_at, ProcId, AreEach, AreFirsts, Does, body_of, AreBodies, AreKept, AreNoted, Fits, HasNumber, HasValue, IsNumbered, StandsAs, Evaluated, Operator, StepTo, slice_get_last, HashMap, get, IsEmpty, Updates, lookup, slice_get-append_left, Round}
 use Rattle.csp_steps.proofs.Effects.{does_kept, does_stay}
 use Rattle.csp_steps.proofs.Places.{all_within_stay, front_both, seen_stay, standing, tree_stays}
 

@@ -1,11 +1,7 @@
 -- The ways to fill fields, by the values of their events and by the numbers of their events.
-use Rattle.csp_steps.proofs.Prelude.{◌≡◌, ℕ, zero, suc, ◌+◌, ◌*◌, ◌^◌, ◌<◌, ◌≤◌, Bool, true, false, cond, Option, Some, None, Ok, Err, List, [], ◌∷◌, ◌++◌, map, length, slice_get, refl, ap, sym, ◌∙◌, subst, append_assoc, append-nil, arith, is_some, if◌then◌else◌, map-append, slice_get_within, Atom, Value, One, Many, row_count, rows, Outcome, and_then, given_by, proc_with, Env, in_field, ValueKind, OutsideChannel, Field, Proc, Content, each_joined, given_under, is_given, value_under, ways_to_fill, where_given, Move, Visible, nth_event, number_with, way_move, ways_by_number}
-use Rattle.csp_atoms.proofs.SearchLaws.{has_place}
-use Rattle.csp_atoms.specs.Prelude.{has_atom, place_of}
+use Rattle.csp_steps.proofs.Prelude.{◌≡◌, ℕ, zero, suc, ◌+◌, ◌*◌, ◌^◌, ◌<◌, ◌≤◌, Bool, true, false, cond, Option, Some, None, Ok, Err, List, [], ◌∷◌, ◌++◌, map, length, slice_get, refl, ap, sym, ◌∙◌, subst, append_assoc, append-nil, arith, is_some, if◌then◌else◌, map-append, slice_get_within, Atom, Value, One, Many, row_count, rows, Outcome, and_then, given_by, proc_with, Env, in_field, ValueKind, OutsideChannel, Field, Proc, Content, each_joined, given_under, is_given, value_under, ways_to_fill, where_given, Move, Visible, nth_event, number_with, way_move, ways_by_number, has_place, has_atom, place_of, field_found, length-rows, to_rows, field_place, found_place}
 use Rattle.csp_program.specs.declared.processes.Field.TheVariants as field
 use Rattle.process_steps.specs.Ways as ways
-use Rattle.value_laws.proofs.RowNumbers.{field_found, length-rows, to_rows}
-use Rattle.value_laws.specs.Numbers.{field_place, found_place}
 
 no_place : (o : Option ℕ) (why : ValueKind) → found_place o ≡ Err why → (o ≡ None) × (OutsideChannel ≡ why)
 no_place None why h = (refl, cc)

@@ -1,6 +1,5 @@
 -- Sets that are kept: one more, and the one that is kept for an expression.
-use Rattle.csp_steps.proofs.Prelude.{◌≡◌, ℕ, zero, suc, Bool, true, false, cond, not, Some, Ok, Err, List, [], ◌∷◌, ◌++◌, map, slice_get, refl, ap, sym, ◌∙◌, map-append, OnOk, Result, Atom, Outcome, Expr, Proc, Content, set_in, IsFront, AreSets, Fits, HasSet, HasValue, Evaluated}
-use Rattle.csp_steps.specs.declared.sets.Sets.{Sets}
+use Rattle.csp_steps.proofs.Prelude.{◌≡◌, ℕ, zero, suc, Bool, true, false, cond, not, Some, Ok, Err, List, [], ◌∷◌, ◌++◌, map, slice_get, refl, ap, sym, ◌∙◌, map-append, OnOk, Result, Atom, Outcome, Expr, Proc, Content, set_in, IsFront, AreSets, Fits, HasSet, HasValue, Evaluated, Sets}
 use Rattle.csp_steps.proofs.Noting.{fits_stay, fits_then}
 
 module _ (f : Expr → Outcome (List Atom)) where

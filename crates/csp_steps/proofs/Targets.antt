@@ -1,7 +1,6 @@
 -- The different processes to which a process goes by a label.
-use Rattle.csp_steps.proofs.Prelude.{◌≡◌, ◌⊎◌, inl, inr, Bool, true, false, cond, Ok, List, [], ◌∷◌, refl, ap, sym, ◌∙◌, subst, eq-eqb, eqb-true, false≢true, StandsIn, Outcome, Proc, Content, ProcessStep, Move, steps_of, Silent, Visible, Tick, seen, AreFirsts, AreFirstsAfter, AreTargets, goals, is_by, none, again, first}
-use Rattle.csp_tables.specs.Prelude.{Label, silent, visible}
-use Rattle.process_steps.proofs.Listed.{lists_are}
+use Rattle.csp_steps.proofs.Prelude.{◌≡◌, ◌⊎◌, inl, inr, Bool, true, false, cond, Ok, List, [], ◌∷◌, refl, ap, sym, ◌∙◌, subst, eq-eqb, eqb-true, false≢true, StandsIn, Outcome, Proc, Content, ProcessStep, Move, steps_of, Silent, Visible, Tick, seen, AreFirsts, AreFirstsAfter, AreTargets, goals, is_by, none, again, first, silent, visible, lists_are}
+use Rattle.csp_tables.specs.Prelude.{Label}
 use Rattle.process_steps.specs.declared.label.Label.{Label as ProcessLabel}
 use Rattle.csp_steps.proofs.Firsts.{firsts_back, firsts_one, firsts_there, stands_cases, stands_first, stands_later, stands_none}
 

@@ -1,11 +1,6 @@
 -- What walks over the ways to fill fields come to, as they go on.
-use Rattle.csp_steps.proofs.Prelude.{◌≡◌, ℕ, zero, suc, ◌+◌, ◌<◌, ◌≤◌, true, Option, Some, None, Ok, Err, List, [], ◌∷◌, ◌++◌, map, drop, length, slice_get, refl, ap, sym, ◌∙◌, arith, append_assoc, append-nil, map_push, Atom, One, Outcome, Env, Field, Proc, Content, ProcId, each_joined, Move, where_given, IsFront, tree_at, with_bound, AreMoves, seen, filled, frames_left, frames_weight, input_ways, is_blocked, name_of, number_with, then_ways, turn_ways, turned_ways, turned_weight, values_left, values_weight, walk_moves, walk_ways, way_move, ways_by_number, weight, HasGone, HasTurned, IsBegun, IsSound, IsTaken, Way, StepTo}
+use Rattle.csp_steps.proofs.Prelude.{◌≡◌, ℕ, zero, suc, ◌+◌, ◌<◌, ◌≤◌, true, Option, Some, None, Ok, Err, List, [], ◌∷◌, ◌++◌, map, drop, length, slice_get, refl, ap, sym, ◌∙◌, arith, append_assoc, append-nil, map_push, Atom, One, Outcome, Env, Field, Proc, Content, ProcId, each_joined, Move, where_given, IsFront, tree_at, with_bound, AreMoves, seen, filled, frames_left, frames_weight, input_ways, is_blocked, name_of, number_with, then_ways, turn_ways, turned_ways, turned_weight, values_left, values_weight, walk_moves, walk_ways, way_move, ways_by_number, weight, HasGone, HasTurned, IsBegun, IsSound, IsTaken, Way, StepTo, with_bound-last, Frame, Input, Turn, Walk}
 use Rattle.csp_program.specs.declared.processes.Field.TheVariants as field
-use Rattle.value_operators.proofs.NameLaws.{with_bound-last}
-use Rattle.csp_steps.specs.declared.walk.Frame.{Frame}
-use Rattle.csp_steps.specs.declared.walk.Input.{Input}
-use Rattle.csp_steps.specs.declared.walk.Turn.{Turn}
-use Rattle.csp_steps.specs.declared.walk.Walk.{Walk}
 use Rattle.csp_steps.proofs.Places.{tree_stays}
 
 -- ---- lists

@@ -11,15 +11,9 @@ use Rattle.csp_steps.specs.Effect.{around}
 use Rattle.csp_steps.specs.Listed.{seen}
 use Rattle.csp_steps.specs.declared.step.StepTo.{StepTo}
 use Rattle.pool_parts.specs.declared.place.ProcId.{ProcId}
-use Rattle.value_operators.specs.declared.fault.EvalFault.{EvalFault}
-use Rattle.value_operators.specs.declared.fault.EvalFault.TheVariants as fault
+use Rattle.value_operators.specs.Gives.{EvalFault, IsFault}
 use Rattle.csp_base.specs.Lists.{greatest}
 use Rattle.csp_steps.specs.Order.{AreFirsts, AreFirstsAfter}
-
--- the fault is that of the outcome; want of memory is free
-abbrev pub IsFault : {B : Type 0} → EvalFault → Outcome B → Type 0
-IsFault fault.NoMemory outcome = Unit {0}
-IsFault (fault.Value kind) outcome = outcome ≡ Err kind
 
 -- what a call answers that comes to an outcome: this holds of a success
 abbrev pub Answers : {A B : Type 0} → (A → Type 0) → Result A EvalFault → Outcome B → Type 0

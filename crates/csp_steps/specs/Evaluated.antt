@@ -13,7 +13,7 @@ use Rattle.process_steps.specs.Prelude.{set_in, Renamed, steps_of}
 use Rattle.step_values.specs.Images.{KeepsOutcome}
 use Rattle.step_values.specs.declared.images.Images.{Images}
 use Rattle.term_pool.specs.Trees.{tree_at}
-use Rattle.value_operators.specs.declared.fault.EvalFault.{EvalFault}
+use Rattle.value_operators.specs.Gives.{EvalFault}
 use Rattle.csp_steps.specs.Computed.{Answers, AreEach}
 use Rattle.csp_steps.specs.Effect.{effect_of, Does}
 use Rattle.csp_steps.specs.declared.around.Round.{Round}

@@ -7,8 +7,7 @@ use Rattle.csp_program.specs.declared.processes.Proc.{Proc}
 use Rattle.csp_program.specs.declared.programs.Content.{Content}
 use Rattle.csp_steps.specs.Order.{AreFirsts}
 use Rattle.csp_steps.specs.declared.step.StepTo.{StepTo}
-use Rattle.value_operators.specs.declared.fault.EvalFault.{EvalFault}
-use Rattle.value_operators.specs.declared.fault.EvalFault.TheVariants as fault
+use Rattle.value_operators.specs.Gives.{EvalFault, IsFault}
 
 -- a step as a label and the process at its place
 abbrev pub seen : List Proc → StepTo → Move
@@ -21,8 +20,7 @@ pub record AreStepsOf (p : Content) (trees : List Proc) (t : Proc) (steps : List
   pub within : (k : ℕ) (s : StepTo) → slice_get steps k ≡ Some s → s.to.0 < length trees
   pub firsts : AreFirsts moves (map (seen trees) steps)
 
--- a fault of kind Value is the one that the outcome is; want of memory is free
+-- a fault that is told is the one that the outcome is; want of memory is free
 abbrev pub FaultIs : {A B : Type 0} → Result A EvalFault → Outcome B → Type 0
 FaultIs (Ok a) outcome = Unit {0}
-FaultIs (Err fault.NoMemory) outcome = Unit {0}
-FaultIs (Err (fault.Value kind)) outcome = outcome ≡ Err kind
+FaultIs (Err f) outcome = IsFault f outcome

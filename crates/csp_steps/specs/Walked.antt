@@ -14,7 +14,7 @@ use Rattle.process_steps.specs.declared.label.Label.TheVariants.{Visible}
 use Rattle.term_pool.specs.Trees.{tree_at}
 use Rattle.value_laws.specs.Numbers.{field_place}
 use Rattle.value_operators.specs.Env.{with_bound}
-use Rattle.value_operators.specs.declared.fault.EvalFault.{EvalFault}
+use Rattle.value_operators.specs.Gives.{EvalFault}
 use Rattle.csp_steps.specs.Computed.{all_within, Answers}
 use Rattle.csp_steps.specs.Listed.{seen}
 use Rattle.csp_steps.specs.declared.fields.Next.{Next}

@@ -5,7 +5,7 @@ ghost use Rattle.csp_program.specs.Prelude.{joined};
 ghost use Rattle.csp_program.specs.declared.programs.Content.{Content};
 ghost use Rattle.csp_program.specs.declared.processes.Proc.TheVariants as proc;
 ghost use Rattle.term_pool.specs.Prelude.{with_first, IsFront, tree_at};
-ghost use Rattle.csp_steps.specs.Prelude.{all_within, AreMoves, GivesMoves, IsMove, effect_as, hides, labels_by, last_by, moves_of, renamed_labels, IsWithin, around as made_around, AreNoted, Fits, IsNumbered, seen};
+ghost use Rattle.csp_steps.specs.Prelude.{all_within, AreMoves, GivesMoves, IsMove, effect_as, hides, labels_by, last_by, moves_of, renamed_labels, IsWithin, around, AreNoted, Fits, IsNumbered, seen};
 ghost use Rattle.csp_steps.specs.declared.operator.Operator.{Operator as Kept};
 ghost use Rattle.step_values.specs.Images.{becomes};
 
@@ -95,13 +95,13 @@ fn add_events(events: &[Event], to: ProcId, steps: &mut Items<StepTo>) -> Result
 fn add_renamed(
     alloc: Global,
     images: &Images,
-    label: Label,
-    to: ProcId,
+    step: StepTo,
     steps: &mut Items<StepTo>,
 ) -> Result<(), NoMemory>
     ensures { OnOk result (steps.new ≡ steps.old ++ map (λ l.
-        record { label = l; to = to }) (renamed_labels (becomes images.now) label)) }
+        record { label = l; to = step.to }) (renamed_labels (becomes images.now) step.label)) }
 {
+    let StepTo { label, to } = step;
     match label {
         Label::Visible(event) => {
             let events = images_of(alloc, images, event)?;
@@ -117,26 +117,25 @@ fn add_renamed(
 fn add_seen(
     alloc: Global,
     operator: &Operator,
-    label: Label,
-    to: ProcId,
+    step: StepTo,
     steps: &mut Items<StepTo>,
 ) -> Result<(), NoMemory>
     ensures { OnOk result (steps.new ≡ steps.old ++ map (λ l.
-        record { label = l; to = to }) (labels_by operator.now label)) }
+        record { label = l; to = step.to }) (labels_by operator.now step.label)) }
 {
+    let StepTo { label, to } = step;
     match operator {
         Operator::Hide(hidden) => steps.push(StepTo {
             label: label_of(hidden, label),
             to,
         }),
-        Operator::Rename(images) => add_renamed(alloc, images, label, to, steps),
+        Operator::Rename(images) => add_renamed(alloc, images, step, steps),
         Operator::Seq(_) => steps.push(StepTo { label, to }),
     }
 }
 
 // Adds what is made of a step by which the process below goes on. The process after it has the same operator.
 fn add_going(
-    alloc: Global,
     pool: &mut Pool,
     places: &mut HashMap<usize, usize>,
     round: &Round<'_>,
@@ -155,13 +154,16 @@ fn add_going(
 {
     let to = pool.put_with_first(round.id, step.to)?;
     keep(places, to.0, round.number)?;
-    add_seen(alloc, round.operator, step.label, to, steps)?;
+    let made = StepTo {
+        label: step.label,
+        to,
+    };
+    add_seen(pool.alloc(), round.operator, made, steps)?;
     Ok(())
 }
 
 // Adds what an operator makes of a step of the process below.
 fn add_made(
-    alloc: Global,
     pool: &mut Pool,
     places: &mut HashMap<usize, usize>,
     round: &Round<'_>,
@@ -186,7 +188,7 @@ fn add_made(
             Ok(())
         }
         _ => {
-            add_going(alloc, pool, places, round, step, steps)?;
+            add_going(pool, places, round, step, steps)?;
             Ok(())
         }
     }
@@ -194,7 +196,6 @@ fn add_made(
 
 // What an operator makes of the steps of the process below.
 fn made_of(
-    alloc: Global,
     pool: &mut Pool,
     places: &mut HashMap<usize, usize>,
     round: &Round<'_>,
@@ -210,16 +211,15 @@ fn made_of(
     ensures noted { (p : Content) → (operators : List Kept) → IsNumbered p pool.old operators round.now
         → AreNoted p pool.old operators places.old → OnOk result (AreNoted p pool.new operators places.new) }
 {
-    let mut steps = Items::new(alloc);
+    let mut steps = Items::new(pool.alloc());
     for step in below {
-        add_made(alloc, pool, places, round, *step, &mut steps)?;
+        add_made(pool, places, round, *step, &mut steps)?;
     }
     Ok(steps)
 }
 
 /// The steps of the hiding, the renaming or the sequence at a place, from those of the process below.
-pub(crate) fn around(
-    alloc: Global,
+pub(crate) fn steps_around(
     program: &Program,
     pool: &mut Pool,
     evaluated: &mut Evaluated,
@@ -229,17 +229,17 @@ pub(crate) fn around(
     requires within { id.0 < length pool.old }
     requires below { all_within (length pool.old) below.now ≡ true }
     requires fits { Fits program.now pool.old evaluated.old }
-    ensures steps { GivesMoves pool.new result (made_around program.now (tree_at pool.old id)
+    ensures steps { GivesMoves pool.new result (around program.now (tree_at pool.old id)
         (map (seen pool.old) below.now)) }
     ensures front { IsFront pool.old pool.new }
     ensures fits { OnOk result (Fits program.now pool.new evaluated.new) }
 {
-    let number = operator_number(alloc, program, pool, evaluated, id)?;
+    let number = operator_number(program, pool, evaluated, id)?;
     let round = Round {
         operator: &evaluated.operators.as_slice()[number],
         number,
         id,
     };
-    let steps = made_of(alloc, pool, &mut evaluated.places, &round, below)?;
+    let steps = made_of(pool, &mut evaluated.places, &round, below)?;
     Ok(steps)
 }

@@ -20,26 +20,19 @@ use substitution::Values;
 use term_pool::{Node, Pool, ProcId};
 
 // The place of what the process at `id` is with the atom in place of the name.
-fn put_atom(
-    alloc: Global,
-    pool: &mut Pool,
-    name: u32,
-    atom: Atom,
-    id: ProcId,
-) -> Result<ProcId, NoMemory>
+fn put_atom(pool: &mut Pool, name: u32, atom: Atom, id: ProcId) -> Result<ProcId, NoMemory>
     requires within { id.0 < length pool.old }
     ensures process { IfOk result (λ made. slice_get pool.new made.0
         ≡ Some (proc_with (one name (value.One atom)) (tree_at pool.old id))) }
     ensures front { IsFront pool.old pool.new }
 {
     let bound = (name, atom);
-    let values = Values::bound(alloc, from_ref(&bound));
+    let values = Values::from_bound(pool.alloc(), from_ref(&bound));
     pool.put_all_in(id, &values)
 }
 
 /// The places of what the process at `id` is with each of the atoms in place of the name.
 pub(crate) fn each_put(
-    alloc: Global,
     pool: &mut Pool,
     name: u32,
     atoms: &[Atom],
@@ -49,9 +42,9 @@ pub(crate) fn each_put(
     ensures places { IfOk result (λ ids. AreAt pool.new ids (meant.each_put name atoms.now (tree_at pool.old id))) }
     ensures front { IsFront pool.old pool.new }
 {
-    let mut ids = Items::new(alloc);
+    let mut ids = Items::new(pool.alloc());
     for atom in atoms {
-        ids.push_made(put_atom(alloc, pool, name, *atom, id))?;
+        ids.push_made(put_atom(pool, name, *atom, id))?;
     }
     Ok(ids)
 }
@@ -73,7 +66,6 @@ fn with_place(
 
 // The place of the choice in which another process is the operand at an index.
 fn with_operand(
-    alloc: Global,
     pool: &mut Pool,
     ids: &[ProcId],
     index: usize,
@@ -86,13 +78,12 @@ fn with_operand(
         ≡ Some (proc.External (slice_set (map (tree_at pool.old) ids.now) index (tree_at pool.old id)))) }
     ensures front { IsFront pool.old pool.new }
 {
-    let operands = with_place(alloc, ids, index, id)?;
+    let operands = with_place(pool.alloc(), ids, index, id)?;
     pool.put_node(Node::External(&operands))
 }
 
 // What a step of an operand makes of the choice.
 fn in_choice(
-    alloc: Global,
     pool: &mut Pool,
     ids: &[ProcId],
     index: usize,
@@ -107,7 +98,7 @@ fn in_choice(
 {
     match step.label {
         Label::Silent => {
-            let to = with_operand(alloc, pool, ids, index, step.to)?;
+            let to = with_operand(pool, ids, index, step.to)?;
             Ok(StepTo {
                 label: Label::Silent,
                 to,
@@ -120,7 +111,6 @@ fn in_choice(
 
 /// What the steps of the operand at an index make of the choice.
 pub(crate) fn of_operand(
-    alloc: Global,
     pool: &mut Pool,
     ids: &[ProcId],
     index: usize,
@@ -133,9 +123,9 @@ pub(crate) fn of_operand(
         (map (λ m. lists.in_choice (map (tree_at pool.old) ids.now) index m.0 m.1) (map (seen pool.old) below.now))) }
     ensures front { IsFront pool.old pool.new }
 {
-    let mut steps = Items::new(alloc);
+    let mut steps = Items::new(pool.alloc());
     for step in below {
-        steps.push_made(in_choice(alloc, pool, ids, index, *step))?;
+        steps.push_made(in_choice(pool, ids, index, *step))?;
     }
     Ok(steps)
 }

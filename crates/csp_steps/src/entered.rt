@@ -7,19 +7,14 @@ ghost use Rattle.csp_steps.specs.Prelude.{GivesPlace, Fits};
 
 use crate::evaluated::{Evaluated, body_place};
 use csp_atoms::Value;
+use csp_base::Stop;
 use csp_program::{Body, Program, ValueKind};
 use csp_values::EvalFault;
-use std::alloc::Global;
 use substitution::Values;
 use term_pool::{Pool, ProcId};
 
-const KIND: EvalFault = EvalFault::Value {
-    kind: ValueKind::Kind,
-};
-
 /// The place of the body of the definition with the number `def`, which is put into the pool with the values in place of the parameters.
 pub(crate) fn enter(
-    alloc: Global,
     program: &Program,
     pool: &mut Pool,
     evaluated: &mut Evaluated,
@@ -32,15 +27,15 @@ pub(crate) fn enter(
     ensures fits { OnOk result (Fits program.now pool.new evaluated.new) }
 {
     let Some(found) = program.content().defs.get(def as usize) else {
-        return Err(KIND);
+        return Err(Stop::Told(ValueKind::Kind));
     };
     match &found.body {
         Body::Process(body) => {
             let id = body_place(pool, &mut evaluated.bodies, def, body)?;
-            let values = Values::new(alloc, found.params.as_slice(), values);
+            let values = Values::new(pool.alloc(), found.params.as_slice(), values);
             let made = pool.put_all_in(id, &values)?;
             Ok(made)
         }
-        _ => Err(KIND),
+        _ => Err(Stop::Told(ValueKind::Kind)),
     }
 }

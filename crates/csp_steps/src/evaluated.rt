@@ -12,7 +12,7 @@ use crate::operator::{Operator, operator_at};
 use crate::sets::Sets;
 use crate::step::StepTo;
 use containers::{Items, Key};
-use csp_base::NoMemory;
+use csp_base::{NoMemory, Stop};
 use csp_program::{Proc, Program};
 use csp_values::EvalFault;
 use std::alloc::Global;
@@ -59,7 +59,7 @@ impl Evaluated {
 }
 
 // The number that is kept for the key.
-fn known(numbers: &HashMap<usize, usize>, key: usize) -> Option<usize>
+fn find_number(numbers: &HashMap<usize, usize>, key: usize) -> Option<usize>
     ensures { result ≡ get nat_eq numbers.now key }
 {
     numbers.get(&key).copied()
@@ -99,7 +99,6 @@ fn put_value<T: Drop>(
 
 /// The number of the operator at a place, which is evaluated if it isn't yet.
 pub(crate) fn operator_number(
-    alloc: Global,
     program: &Program,
     pool: &Pool,
     evaluated: &mut Evaluated,
@@ -109,17 +108,17 @@ pub(crate) fn operator_number(
     requires fits { Fits program.now pool.now evaluated.old }
     ensures { GivesNumber program.now pool.now evaluated.new result (tree_at pool.now id) }
 {
-    if let Some(number) = known(&evaluated.places, id.0) {
+    if let Some(number) = find_number(&evaluated.places, id.0) {
         return Ok(number);
     }
-    let operator = operator_at(alloc, program, pool, id)?;
+    let operator = operator_at(program, pool, id)?;
     let Ok(number) = put_value(
         &mut evaluated.operators,
         &mut evaluated.places,
         id.0,
         operator,
     ) else {
-        return Err(EvalFault::NoMemory);
+        return Err(Stop::NoMemory);
     };
     Ok(number)
 }
@@ -138,7 +137,7 @@ pub(crate) fn body_place(
     ensures bodies { (p : Content) → AreBodies p pool.old bodies.old
         → body_of (slice_get p.defs number) ≡ Some body.now → OnOk result (AreBodies p pool.new bodies.new) }
 {
-    if let Some(place) = known(bodies, number as usize) {
+    if let Some(place) = find_number(bodies, number as usize) {
         return Ok(ProcId(place));
     }
     let id = pool.put(body)?;
@@ -147,7 +146,7 @@ pub(crate) fn body_place(
 }
 
 /// The steps of the process at a place, where they are kept.
-pub(crate) fn known_steps(
+pub(crate) fn find_steps(
     alloc: Global,
     evaluated: &Evaluated,
     id: ProcId,
@@ -155,7 +154,7 @@ pub(crate) fn known_steps(
     ensures { (p : Content) → (trees : List Process) → Fits p trees evaluated.now
         → IfOk result (λ found. IfSome found (λ steps. AreEach trees steps (steps_of p (tree_at trees id)))) }
 {
-    let Some(number) = known(&evaluated.stepped, id.0) else {
+    let Some(number) = find_number(&evaluated.stepped, id.0) else {
         return Ok(None);
     };
     let Some(steps) = evaluated.lists.get(number) else {

@@ -9,18 +9,17 @@ ghost use Rattle.value_operators.specs.Env.{with_bound};
 ghost use Rattle.value_operators.specs.Gives.{Gives};
 ghost use Rattle.csp_steps.specs.Prelude.{AreSets, is_blocked, is_plain, next_weight, number_with, turn_ways, ways_by_number, weight, GivesNext};
 
-use crate::sets::{Sets, known_set};
+use crate::sets::{Sets, copy_set};
 use crate::walk::{Input, Turn};
 use csp_atoms::{Atom, AtomSet, Value};
+use csp_base::Stop;
 use csp_program::{Expr, Field, Program, ValueKind};
 use csp_values::{EvalFault, eval_under};
 use std::alloc::Global;
+use step_values::Start;
+use term_pool::ProcId;
 use value_operators::numbers::{place_in, with_field};
 use value_operators::operators::to_set;
-
-const OUTSIDE: EvalFault = EvalFault::Value {
-    kind: ValueKind::OutsideChannel,
-};
 
 /// What the fields of a prefix are filled over.
 #[derive(Clone, Copy)]
@@ -29,8 +28,10 @@ pub(crate) struct Filling<'a> {
     pub alloc: Global,
     /// The program.
     pub program: &'a Program,
-    /// The number of the first event.
-    pub first: u64,
+    /// The events among which that of the prefix is.
+    pub start: &'a Start<'a>,
+    /// The place of the process after it.
+    pub to: ProcId,
 }
 
 /// What comes after the outputs at the front of some fields.
@@ -99,7 +100,7 @@ fn set_under(
     ensures kept { OnOk result (AreSets filling.now.program.now kept.new) }
 {
     if bound.is_empty() {
-        return known_set(filling.alloc, filling.program, kept, set);
+        return copy_set(filling.alloc, filling.program, kept, set);
     }
     let value = value_under(filling, bound, set)?;
     to_set(value)
@@ -156,7 +157,7 @@ fn end_of<'a>(fields: &[Field], number: u64) -> Result<Next<'a>, EvalFault>
     if fields.is_empty() {
         return Ok(Next::End(number));
     }
-    Err(OUTSIDE)
+    Err(Stop::Told(ValueKind::OutsideChannel))
 }
 
 /// What comes after the outputs at the front of the fields that are on turn.
@@ -177,7 +178,7 @@ pub(crate) fn next_of<'a>(
     let mut number = turn.number;
     while let Some((set, rest)) = sets.split_first() {
         let Some((field, later)) = fields.split_first() else {
-            return Err(OUTSIDE);
+            return Err(Stop::Told(ValueKind::OutsideChannel));
         };
         match field {
             Field::Put(output) => {

@@ -18,23 +18,20 @@ use crate::around::put_ended;
 use crate::choice::{each_put, silent_to};
 use crate::entered::enter;
 use crate::evaluated::Evaluated;
+use crate::fields::Filling;
 use crate::prefix::prefix_steps;
 use crate::sets::{Sets, atoms_of, set_of};
 use crate::step::StepTo;
 use containers::Items;
 use csp_atoms::{Atom, Value};
-use csp_base::NoMemory;
+use csp_base::{NoMemory, Stop};
 use csp_program::copies::copy_fields;
 use csp_program::{Expr, Field, Program, ValueKind};
 use csp_values::EvalFault;
 use process_steps::Label;
 use std::alloc::Global;
-use step_values::{Start, arguments_in, of_head, truth_in};
+use step_values::{arguments_in, of_head, truth_in};
 use term_pool::{Node, Pool, ProcId};
-
-const EMPTY_CHOICE: EvalFault = EvalFault::Value {
-    kind: ValueKind::EmptyChoice,
-};
 
 /// What the steps of a process come from.
 #[derive(Drop)]
@@ -99,35 +96,34 @@ fn look_internal(alloc: Global, ids: &[ProcId]) -> Result<Look, EvalFault>
 }
 
 // A process that ends.
-fn look_skip(alloc: Global, pool: &mut Pool) -> Result<Look, EvalFault>
+fn look_skip(pool: &mut Pool) -> Result<Look, EvalFault>
     ensures look { (p : Content) → GivesLook p pool.new result proc.Skip }
     ensures front { IsFront pool.old pool.new }
 {
     let to = put_ended(pool)?;
-    let steps = one_step(alloc, Label::Tick, to)?;
+    let steps = one_step(pool.alloc(), Label::Tick, to)?;
     Ok(Look::Steps(steps))
 }
 
-// A prefix whose head stands for the events from `start` on, from its fields.
+// A prefix, from its fields.
 fn look_prefix(
-    alloc: Global,
-    program: &Program,
+    filling: &Filling<'_>,
     pool: &mut Pool,
     sets: &mut Sets,
-    start: &Start<'_>,
     fields: Result<Items<Field>, NoMemory>,
-    id: ProcId,
 ) -> Result<Look, EvalFault>
-    requires within { id.0 < length pool.old }
-    requires sets { AreSets program.now sets.old }
-    ensures sets { OnOk result (AreSets program.now sets.new) }
+    requires within { filling.now.to.0 < length pool.old }
+    requires sets { AreSets filling.now.program.now sets.old }
+    ensures sets { OnOk result (AreSets filling.now.program.now sets.new) }
     ensures look { (head : LogicHead) → (written : List LogicField) → IfOk fields (λ fs. fs ≡ written)
-        → (among : meant.Among) → meant.of_head program.now head ≡ Ok among → IsStart program.now start.now among
-        → GivesLook program.now pool.new result (proc.Prefix head written (tree_at pool.old id)) }
+        → (among : meant.Among) → meant.of_head filling.now.program.now head ≡ Ok among
+        → IsStart filling.now.program.now filling.now.start.now among
+        → GivesLook filling.now.program.now pool.new result
+        (proc.Prefix head written (tree_at pool.old filling.now.to)) }
     ensures front { IsFront pool.old pool.new }
 {
     let fields = fields?;
-    let steps = prefix_steps(alloc, program, pool, sets, start, fields.as_slice(), id)?;
+    let steps = prefix_steps(filling, pool, sets, fields.as_slice())?;
     Ok(Look::Steps(steps))
 }
 
@@ -142,7 +138,6 @@ fn look_external(alloc: Global, ids: &[ProcId]) -> Result<Look, EvalFault>
 
 // A choice between what a process is with each value of a set.
 fn look_each_external(
-    alloc: Global,
     pool: &mut Pool,
     name: u32,
     atoms: &[Atom],
@@ -153,13 +148,12 @@ fn look_each_external(
         → GivesLook p pool.new result (proc.EachExternal name s (tree_at pool.old id)) }
     ensures front { IsFront pool.old pool.new }
 {
-    let ids = each_put(alloc, pool, name, atoms, id)?;
+    let ids = each_put(pool, name, atoms, id)?;
     Ok(Look::Choice(ids))
 }
 
 // The same of a choice that the process makes by itself, which isn't there over the empty set.
 fn look_each_internal(
-    alloc: Global,
     pool: &mut Pool,
     name: u32,
     atoms: &[Atom],
@@ -171,16 +165,15 @@ fn look_each_internal(
     ensures front { IsFront pool.old pool.new }
 {
     if atoms.is_empty() {
-        return Err(EMPTY_CHOICE);
+        return Err(Stop::Told(ValueKind::EmptyChoice));
     }
-    let ids = each_put(alloc, pool, name, atoms, id)?;
-    let steps = silent_to(alloc, ids.as_slice())?;
+    let ids = each_put(pool, name, atoms, id)?;
+    let steps = silent_to(pool.alloc(), ids.as_slice())?;
     Ok(Look::Steps(steps))
 }
 
 // A call, from what its arguments come to.
 fn look_call(
-    alloc: Global,
     program: &Program,
     pool: &mut Pool,
     evaluated: &mut Evaluated,
@@ -194,14 +187,13 @@ fn look_call(
     ensures fits { OnOk result (Fits program.now pool.new evaluated.new) }
 {
     let values = values?;
-    let to = enter(alloc, program, pool, evaluated, def, values.as_slice())?;
-    let steps = one_step(alloc, Label::Silent, to)?;
+    let to = enter(program, pool, evaluated, def, values.as_slice())?;
+    let steps = one_step(pool.alloc(), Label::Silent, to)?;
     Ok(Look::Steps(steps))
 }
 
 /// What the steps of the process at a place come from. What they lead to is put into the pool.
 pub(crate) fn look_at(
-    alloc: Global,
     program: &Program,
     pool: &mut Pool,
     evaluated: &mut Evaluated,
@@ -213,6 +205,7 @@ pub(crate) fn look_at(
     ensures front { IsFront pool.old pool.new }
     ensures fits { OnOk result (Fits program.now pool.new evaluated.new) }
 {
+    let alloc = pool.alloc();
     match pool.node(id) {
         Node::Stop => {
             let none = Items::new(alloc);
@@ -222,7 +215,7 @@ pub(crate) fn look_at(
             let none = Items::new(alloc);
             Ok(Look::Steps(none))
         }
-        Node::Skip => look_skip(alloc, pool),
+        Node::Skip => look_skip(pool),
         Node::Guard(c, below) => look_guard(alloc, program, c, below),
         Node::If(c, first, second) => look_if(alloc, program, c, first, second),
         Node::Internal(ids) => look_internal(alloc, ids.as_slice()),
@@ -233,29 +226,27 @@ pub(crate) fn look_at(
         Node::Prefix(head, fields, to) => {
             let start = of_head(program, head)?;
             let fields = copy_fields(alloc, fields.as_slice());
-            look_prefix(
+            let filling = Filling {
                 alloc,
                 program,
-                pool,
-                &mut evaluated.sets,
-                &start,
-                fields,
+                start: &start,
                 to,
-            )
+            };
+            look_prefix(&filling, pool, &mut evaluated.sets, fields)
         }
         Node::EachExternal(name, set, below) => {
             let number = set_of(alloc, program, &mut evaluated.sets, set)?;
             let atoms = atoms_of(&evaluated.sets, number);
-            look_each_external(alloc, pool, name, atoms, below)
+            look_each_external(pool, name, atoms, below)
         }
         Node::EachInternal(name, set, below) => {
             let number = set_of(alloc, program, &mut evaluated.sets, set)?;
             let atoms = atoms_of(&evaluated.sets, number);
-            look_each_internal(alloc, pool, name, atoms, below)
+            look_each_internal(pool, name, atoms, below)
         }
         Node::Call(def, args) => {
             let values = arguments_in(alloc, program, args.as_slice());
-            look_call(alloc, program, pool, evaluated, def, values)
+            look_call(program, pool, evaluated, def, values)
         }
     }
 }

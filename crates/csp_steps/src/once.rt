@@ -29,7 +29,7 @@ pub(crate) fn numbered_steps(
 }
 
 /// The steps of the list, each once, where it first stands.
-pub(crate) fn once(alloc: Global, steps: Items<StepTo>) -> Result<Items<StepTo>, NoMemory>
+pub(crate) fn drop_repeats(alloc: Global, steps: Items<StepTo>) -> Result<Items<StepTo>, NoMemory>
     ensures { IfOk result (λ made. AreFirsts steps made) }
 {
     if steps.len() < 2 {

@@ -6,16 +6,12 @@ ghost use Rattle.process_steps.specs.Renaming as renaming;
 ghost use Rattle.term_pool.specs.Trees.{tree_at};
 ghost use Rattle.csp_steps.specs.Evaluated.{GivesImages, GivesOperator};
 
-use csp_base::EventSet;
+use csp_base::{EventSet, Stop};
 use csp_program::{EventPart, Gen, Program, ValueKind};
 use csp_values::EvalFault;
 use std::alloc::Global;
 use step_values::{Images, events_in, images_by_event, renaming_in};
 use term_pool::{Node, Pool, ProcId};
-
-const KIND: EvalFault = EvalFault::Value {
-    kind: ValueKind::Kind,
-};
 
 /// An operator round a process.
 #[derive(Drop)]
@@ -43,15 +39,11 @@ fn images_in(
 }
 
 /// The operator at a place. Faults are those of its set of events, or of its pairs; any other process has the kind `Kind`.
-pub(crate) fn operator_at(
-    alloc: Global,
-    program: &Program,
-    pool: &Pool,
-    id: ProcId,
-) -> Result<Operator, EvalFault>
+pub(crate) fn operator_at(program: &Program, pool: &Pool, id: ProcId) -> Result<Operator, EvalFault>
     requires { id.0 < length pool.now }
     ensures { GivesOperator program.now pool.now result (tree_at pool.now id) }
 {
+    let alloc = pool.alloc();
     match pool.node(id) {
         Node::Hide(_, set) => {
             let hidden = events_in(alloc, program, set)?;
@@ -62,6 +54,6 @@ pub(crate) fn operator_at(
             Ok(Operator::Rename(images))
         }
         Node::Seq(_, second) => Ok(Operator::Seq(second)),
-        _ => Err(KIND),
+        _ => Err(Stop::Told(ValueKind::Kind)),
     }
 }

@@ -12,7 +12,7 @@ ghost use Rattle.csp_steps.specs.Prelude.{all_within, AreMoves, GivesMoves, AreS
 use crate::fields::{Filling, Next, are_blocked, next_of, number_after};
 use crate::sets::Sets;
 use crate::step::StepTo;
-use crate::walk::{Frame, Input, Turn, Turned, Walk, begun, bind, pop};
+use crate::walk::{Frame, Input, Turn, Turned, Walk, begin, bind, pop};
 use containers::Items;
 use csp_atoms::{Atom, AtomSet};
 use csp_base::{Event, NoMemory};
@@ -137,19 +137,19 @@ fn add_way(
     pool: &mut Pool,
     bound: &[(u32, Atom)],
     number: u64,
-    to: ProcId,
     steps: &mut Items<StepTo>,
 ) -> Result<(), NoMemory>
-    requires to { to.0 < length pool.old }
+    requires to { filling.now.to.0 < length pool.old }
     requires within { all_within (length pool.old) steps.old ≡ true }
     ensures steps { OnOk result (AreMoves pool.new steps.new (map (seen pool.old) steps.old
-        ++ way_move filling.now.first (tree_at pool.old to) (with_bound bound.now [], number) ∷ [])) }
+        ++ way_move filling.now.start.now.first (tree_at pool.old filling.now.to)
+        (with_bound bound.now [], number) ∷ [])) }
     ensures front { IsFront pool.old pool.new }
 {
-    let values = Values::bound(filling.alloc, bound);
-    let to = pool.put_all_in(to, &values)?;
+    let values = Values::from_bound(filling.alloc, bound);
+    let to = pool.put_all_in(filling.to, &values)?;
     steps.push(StepTo {
-        label: Label::Visible(event_at(filling.first, number)),
+        label: Label::Visible(event_at(filling.start.first, number)),
         to,
     })?;
     Ok(())
@@ -161,20 +161,20 @@ fn turn_on(
     pool: &mut Pool,
     sets: &mut Sets,
     walk: &mut Walk<'_>,
-    to: ProcId,
     steps: &mut Items<StepTo>,
 ) -> Result<bool, EvalFault>
     requires sound { IsSound walk.old }
-    requires to { to.0 < length pool.old }
+    requires to { filling.now.to.0 < length pool.old }
     requires within { all_within (length pool.old) steps.old ≡ true }
     requires sets { AreSets filling.now.program.now sets.old }
     ensures sets { OnOk result (AreSets filling.now.program.now sets.new) }
-    ensures round { GivesRound filling.now.program.now filling.now.first to result pool.old pool.new walk.old walk.new steps.old steps.new }
+    ensures round { GivesRound filling.now.program.now filling.now.start.now.first filling.now.to result
+        pool.old pool.new walk.old walk.new steps.old steps.new }
     ensures front { IsFront pool.old pool.new }
 {
     match advance(filling, sets, walk)? {
         Turned::Way(number) => {
-            add_way(filling, pool, walk.bound.as_slice(), number, to, steps)?;
+            add_way(filling, pool, walk.bound.as_slice(), number, steps)?;
             Ok(true)
         }
         Turned::On => Ok(true),
@@ -182,40 +182,31 @@ fn turn_on(
     }
 }
 
-/// The steps of a prefix, whose event is one of those from the number `first` on and has these sets of values as its fields.
+/// The steps of a prefix with these fields.
 pub(crate) fn prefix_steps(
-    alloc: Global,
-    program: &Program,
+    filling: &Filling<'_>,
     pool: &mut Pool,
     sets: &mut Sets,
-    start: &Start<'_>,
     fields: &[Field],
-    to: ProcId,
 ) -> Result<Items<StepTo>, EvalFault>
-    requires within { to.0 < length pool.old }
-    requires sets { AreSets program.now sets.old }
-    ensures sets { OnOk result (AreSets program.now sets.new) }
-    ensures steps { GivesMoves pool.new result (filled [] start.now.first (tree_at pool.old to)
-        (ways_by_number program.now start.now.sets.now fields.now [] 0)) }
+    requires within { filling.now.to.0 < length pool.old }
+    requires sets { AreSets filling.now.program.now sets.old }
+    ensures sets { OnOk result (AreSets filling.now.program.now sets.new) }
+    ensures steps { GivesMoves pool.new result (filled [] filling.now.start.now.first (tree_at pool.old filling.now.to)
+        (ways_by_number filling.now.program.now filling.now.start.now.sets.now fields.now [] 0)) }
     ensures front { IsFront pool.old pool.new }
 {
-    let mut steps = Items::new(alloc);
-    if are_blocked(start.sets, fields) {
+    let mut steps = Items::new(filling.alloc);
+    let sets_of_fields = filling.start.sets;
+    if are_blocked(sets_of_fields, fields) {
         return Ok(steps);
     }
-    let filling = Filling {
-        alloc,
-        program,
-        first: start.first,
+    let first = Turn {
+        sets: sets_of_fields,
+        fields,
+        number: 0,
     };
-    let mut walk = begun(
-        alloc,
-        Turn {
-            sets: start.sets,
-            fields,
-            number: 0,
-        },
-    );
-    'turns: while turn_on(&filling, pool, sets, &mut walk, to, &mut steps)? {}
+    let mut walk = begin(filling.alloc, first);
+    'turns: while turn_on(filling, pool, sets, &mut walk, &mut steps)? {}
     Ok(steps)
 }

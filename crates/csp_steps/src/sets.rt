@@ -9,7 +9,7 @@ ghost use Rattle.csp_steps.specs.Evaluated.{AreSets, GivesSet, HasSet};
 
 use containers::{Items, Numbering, QuickKey};
 use csp_atoms::{Atom, AtomSet};
-use csp_base::NoMemory;
+use csp_base::{NoMemory, Stop};
 use csp_program::copies::copy_expr;
 use csp_program::{Expr, Program};
 use csp_values::EvalFault;
@@ -92,7 +92,7 @@ pub(crate) fn set_of(
 }
 
 /// The set that a closed expression is worth.
-pub(crate) fn known_set(
+pub(crate) fn copy_set(
     alloc: Global,
     program: &Program,
     sets: &mut Sets,
@@ -104,7 +104,7 @@ pub(crate) fn known_set(
 {
     let number = set_of(alloc, program, sets, expr)?;
     let Some(atoms) = sets.atoms.get(number) else {
-        return Err(EvalFault::NoMemory);
+        return Err(Stop::NoMemory);
     };
     let copy = atoms.try_clone(alloc)?;
     Ok(copy)

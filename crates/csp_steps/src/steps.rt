@@ -5,22 +5,20 @@ ghost use Rattle.process_steps.specs.StepList.{steps_of, steps_of_choice};
 ghost use Rattle.term_pool.specs.Prelude.{IsFront, all_below, tree_at};
 ghost use Rattle.csp_steps.specs.Prelude.{GivesEach, Fits, AreStepsOf, FaultIs};
 
-use crate::around::around;
+use crate::around::steps_around;
 use crate::choice::of_operand;
-use crate::evaluated::{Evaluated, keep_steps, known_steps};
+use crate::evaluated::{Evaluated, find_steps, keep_steps};
 use crate::look::{Look, look_at};
-use crate::once::{add_each, numbered_steps, once};
+use crate::once::{add_each, drop_repeats, numbered_steps};
 use crate::step::StepTo;
 use containers::{Items, Numbering};
 use csp_program::Program;
 use csp_values::EvalFault;
-use std::alloc::Global;
 use term_pool::{Pool, ProcId};
 
 // The steps of the process at a place, each once, where it first stands.
 #[cycle(steps_at)]
 fn steps_at(
-    alloc: Global,
     program: &Program,
     pool: &mut Pool,
     evaluated: &mut Evaluated,
@@ -32,29 +30,30 @@ fn steps_at(
     ensures front { IsFront pool.old pool.new }
     ensures fits { OnOk result (Fits program.now pool.new evaluated.new) }
 {
-    if let Some(steps) = known_steps(alloc, evaluated, id)? {
+    let alloc = pool.alloc();
+    if let Some(steps) = find_steps(alloc, evaluated, id)? {
         return Ok(steps);
     }
-    let found = look_at(alloc, program, pool, evaluated, id)?;
+    let found = look_at(program, pool, evaluated, id)?;
     match found {
         Look::Steps(steps) => {
             // Its contract says that no process stands at two places.
             let _ = pool.len();
-            let steps = once(alloc, steps)?;
+            let steps = drop_repeats(alloc, steps)?;
             Ok(steps)
         }
-        Look::Same(same) => steps_at(alloc, program, pool, evaluated, same),
+        Look::Same(same) => steps_at(program, pool, evaluated, same),
         Look::Choice(ids) => {
-            let steps = steps_of_operands(alloc, program, pool, evaluated, ids.as_slice())?;
+            let steps = steps_of_operands(program, pool, evaluated, ids.as_slice())?;
             keep_steps(alloc, evaluated, id, steps.as_slice())?;
             Ok(steps)
         }
         Look::Around(below) => {
-            let below = steps_at(alloc, program, pool, evaluated, below)?;
-            let steps = around(alloc, program, pool, evaluated, id, below.as_slice())?;
+            let below = steps_at(program, pool, evaluated, below)?;
+            let steps = steps_around(program, pool, evaluated, id, below.as_slice())?;
             // Its contract says that no process stands at two places.
             let _ = pool.len();
-            let steps = once(alloc, steps)?;
+            let steps = drop_repeats(alloc, steps)?;
             keep_steps(alloc, evaluated, id, steps.as_slice())?;
             Ok(steps)
         }
@@ -64,7 +63,6 @@ fn steps_at(
 // The steps of the choice between the processes at the places, each once, where it first stands.
 #[cycle(steps_at)]
 fn steps_of_operands(
-    alloc: Global,
     program: &Program,
     pool: &mut Pool,
     evaluated: &mut Evaluated,
@@ -77,23 +75,22 @@ fn steps_of_operands(
     ensures front { IsFront pool.old pool.new }
     ensures fits { OnOk result (Fits program.now pool.new evaluated.new) }
 {
-    let mut numbered = Numbering::new(alloc);
+    let mut numbered = Numbering::new(pool.alloc());
     for (index, id) in ids.iter().enumerate() {
-        let below = steps_at(alloc, program, pool, evaluated, *id)?;
-        let made = of_operand(alloc, pool, ids, index, below.as_slice())?;
+        let below = steps_at(program, pool, evaluated, *id)?;
+        let made = of_operand(pool, ids, index, below.as_slice())?;
         // Its contract says that no process stands at two places.
         let _ = pool.len();
         add_each(&mut numbered, made.as_slice())?;
     }
-    let steps = numbered_steps(alloc, &numbered)?;
+    let steps = numbered_steps(pool.alloc(), &numbered)?;
     Ok(steps)
 }
 
 /// The steps of the process at a place of the pool, each once, in the order of its list of steps. The processes after them are put into the pool, and what is evaluated of hidings and
-/// renamings on the way is kept in `evaluated`, so that no later step evaluates it again. A fault of kind `Value` comes only where
+/// renamings on the way is kept in `evaluated`, so that no later step evaluates it again. A fault is told only where
 /// the process has no list of steps for want of a value, with the kind of the first value that there isn't.
 pub fn steps_in(
-    alloc: Global,
     program: &Program,
     pool: &mut Pool,
     evaluated: &mut Evaluated,
@@ -106,5 +103,5 @@ pub fn steps_in(
     ensures fits { OnOk result (Fits program.now pool.new evaluated.new) }
     ensures fault { FaultIs result (steps_of program.now (tree_at pool.old id)) }
 {
-    steps_at(alloc, program, pool, evaluated, id)
+    steps_at(program, pool, evaluated, id)
 }

@@ -72,7 +72,7 @@ pub(crate) enum Turned {
 }
 
 /// A walk that begins.
-pub(crate) fn begun<'a>(alloc: Global, turn: Turn<'a>) -> Walk<'a>
+pub(crate) fn begin<'a>(alloc: Global, turn: Turn<'a>) -> Walk<'a>
     ensures { IsBegun turn.entry result }
 {
     Walk {

@@ -26,6 +26,5 @@ pub record HasBehaviour {T : Type 0} (Step : T → Label → T → Type 0) (c : 
 -- one part for each component, in the same order
 abbrev pub HaveBehaviours : {T : Type 0} → (T → Label → T → Type 0) → List (Component T) → List Part → Type 0
 HaveBehaviours Step [] [] = Unit {0}
-HaveBehaviours Step [] (p ∷ ps) = ⊥
-HaveBehaviours Step (c ∷ cs) [] = ⊥
 HaveBehaviours Step (c ∷ cs) (p ∷ ps) = HasBehaviour Step c p × HaveBehaviours Step cs ps
+HaveBehaviours _ _ _ = ⊥

@@ -13,16 +13,14 @@ in_some_component (c ∷ cs) e = has c.alphabet e || in_some_component cs e
 
 -- one component has a silent step, and the others stay
 abbrev pub OneMoves : {T : Type 0} → (T → Label → T → Type 0) → List (Component T) → List (Component T) → Type 0
-OneMoves Step [] ds = ⊥
-OneMoves Step (c ∷ cs) [] = ⊥
 OneMoves Step (c ∷ cs) (d ∷ ds) = (ComponentStep Step c silent d × (cs ≡ ds)) ⊎ ((c ≡ d) × OneMoves Step cs ds)
+OneMoves _ _ _ = ⊥
 
 -- each component with the event in its alphabet does it, and the others stay
 abbrev pub AllTakePart : {T : Type 0} → (T → Label → T → Type 0) → ℕ → List (Component T) → List (Component T) → Type 0
 AllTakePart Step e [] [] = Unit {0}
-AllTakePart Step e [] (d ∷ ds) = ⊥
-AllTakePart Step e (c ∷ cs) [] = ⊥
 AllTakePart Step e (c ∷ cs) (d ∷ ds) = MatchBool (has c.alphabet e) (ComponentStep Step c (visible e) d) (c ≡ d) × AllTakePart Step e cs ds
+AllTakePart _ _ _ _ = ⊥
 
 abbrev pub FlatStep : {T : Type 0} → (T → Label → T → Type 0) → List (Component T) → Label → List (Component T) → Type 0
 FlatStep Step cs silent ds = OneMoves Step cs ds

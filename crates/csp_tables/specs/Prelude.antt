@@ -28,5 +28,3 @@ pub use Rattle.csp_tables.specs.Stands.{AllStand, Follows, IsAgreed, IsJointRun,
 pub use Rattle.csp_tables.specs.Table.{IsReached, IsRun, Node, acceptances_after, end_of, is_possible, is_run, no_node, node_after, node_at, target}
 pub use Rattle.csp_tables.specs.Trace.{After, HaveSameFuture, IsAcceptance, IsBusy, IsStableOffer, IsTrace, IsWithin, Offers, visible_events}
 pub use Rattle.csp_tables.specs.WellNested.{OperandsWellNested, WellNested}
-pub use Rattle.csp_tables.specs.declared.rule.Rule.{Rule}
-pub use Rattle.csp_tables.specs.declared.rule.Rule.TheVariants.{ClientServer, Cyclic, Resource}

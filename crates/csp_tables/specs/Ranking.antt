@@ -19,9 +19,8 @@ part_ranks ranking i = get_or ranking.parts i (record { ranks = []; laps = [] })
 -- one number for each member of the list
 abbrev pub AsMany : {A B : Type 0} → List A → List B → Type 0
 AsMany [] [] = Unit {0}
-AsMany [] (b ∷ bs) = ⊥
-AsMany (a ∷ as') [] = ⊥
 AsMany (a ∷ as') (b ∷ bs) = AsMany as' bs
+AsMany _ _ = ⊥
 
 abbrev pub AtMostOne : List ℕ → Type 0
 AtMostOne [] = Unit {0}
@@ -30,22 +29,19 @@ AtMostOne (n ∷ ns) = (n ≤ 1) × AtMostOne ns
 -- one rank for each acceptance
 abbrev pub RanksFit : List Node → List (List ℤ) → Type 0
 RanksFit [] [] = Unit {0}
-RanksFit [] (r ∷ rs) = ⊥
-RanksFit (n ∷ ns) [] = ⊥
 RanksFit (n ∷ ns) (r ∷ rs) = AsMany n.accept r × RanksFit ns rs
+RanksFit _ _ = ⊥
 
 -- one lap, 0 or 1, for each possible event
 abbrev pub LapsFit : List Node → List (List ℕ) → Type 0
 LapsFit [] [] = Unit {0}
-LapsFit [] (l ∷ ls) = ⊥
-LapsFit (n ∷ ns) [] = ⊥
 LapsFit (n ∷ ns) (l ∷ ls) = AsMany n.next l × AtMostOne l × LapsFit ns ls
+LapsFit _ _ = ⊥
 
 abbrev pub PartsFit : List Part → List PartRanks → Type 0
 PartsFit [] [] = Unit {0}
-PartsFit [] (r ∷ rs) = ⊥
-PartsFit (p ∷ ps) [] = ⊥
 PartsFit (p ∷ ps) (r ∷ rs) = RanksFit p.table r.ranks × LapsFit p.table r.laps × PartsFit ps rs
+PartsFit _ _ = ⊥
 
 -- the ranking has exactly the numbers that the parts' tables ask for
 abbrev pub Fits : List Part → Ranking → Type 0

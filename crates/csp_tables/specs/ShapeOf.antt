@@ -17,9 +17,8 @@ pub record IsPartOf {T : Type 0} (Step : T → Label → T → Type 0) (c : Comp
 -- one part for each component, in the same order
 abbrev pub ArePartsOf : {T : Type 0} → (T → Label → T → Type 0) → List (Component T) → List Part → Type 0
 ArePartsOf Step [] [] = Unit {0}
-ArePartsOf Step [] (p ∷ ps) = ⊥
-ArePartsOf Step (c ∷ cs) [] = ⊥
 ArePartsOf Step (c ∷ cs) (p ∷ ps) = IsPartOf Step c p × ArePartsOf Step cs ps
+ArePartsOf _ _ _ = ⊥
 
 -- The parts are those of the network's components, with at most 2,048 nodes each, and the links and the vocabulary are those of their alphabets.
 pub record IsShapeOf {T : Type 0} (Step : T → Label → T → Type 0) (tree : Tree T) (shape : Shape) : Type 0 where

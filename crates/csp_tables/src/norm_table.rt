@@ -13,13 +13,9 @@ pub struct NormNode {
     accept: Vec<EventSet>,
 }
 
-// By hand, so that a crate that ends one calls this and proves no end of its own.
 impl Drop for NormNode {
     fn drop(self) {
-        let NormNode {
-            next: _next,
-            accept: _accept,
-        } = self;
+        let NormNode { next, accept } = self;
     }
 }
 
@@ -59,10 +55,9 @@ pub struct NormTable {
     nodes: Vec<NormNode>,
 }
 
-// By hand, so that a crate that ends one calls this and proves no end of its own.
 impl Drop for NormTable {
     fn drop(self) {
-        let NormTable { nodes: _nodes } = self;
+        let NormTable { nodes } = self;
     }
 }
 

@@ -12,13 +12,9 @@ pub struct Part {
     table: NormTable,
 }
 
-// By hand, so that a crate that ends one calls this and proves no end of its own.
 impl Drop for Part {
     fn drop(self) {
-        let Part {
-            alphabet: _alphabet,
-            table: _table,
-        } = self;
+        let Part { alphabet, table } = self;
     }
 }
 

@@ -11,13 +11,9 @@ pub struct PartRanks {
     laps: Vec<Vec<u8>>,
 }
 
-// By hand, so that a crate that ends one calls this and proves no end of its own.
 impl Drop for PartRanks {
     fn drop(self) {
-        let PartRanks {
-            ranks: _ranks,
-            laps: _laps,
-        } = self;
+        let PartRanks { ranks, laps } = self;
     }
 }
 
@@ -63,13 +59,9 @@ pub struct Ranking {
     parts: Vec<PartRanks>,
 }
 
-// By hand, so that a crate that ends one calls this and proves no end of its own.
 impl Drop for Ranking {
     fn drop(self) {
-        let Ranking {
-            scale: _scale,
-            parts: _parts,
-        } = self;
+        let Ranking { scale, parts } = self;
     }
 }
 

@@ -14,13 +14,12 @@ pub struct RawTable {
     count: u32,
 }
 
-// By hand, so that a crate that ends one calls this and proves no end of its own.
 impl Drop for RawTable {
     fn drop(self) {
         let RawTable {
-            silent: _silent,
-            steps: _steps,
-            count: _count,
+            silent,
+            steps,
+            count,
         } = self;
     }
 }

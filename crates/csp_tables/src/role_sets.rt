@@ -13,14 +13,13 @@ pub struct RoleSets {
     sack: EventSet,
 }
 
-// By hand, so that a crate that ends one calls this and proves no end of its own.
 impl Drop for RoleSets {
     fn drop(self) {
         let RoleSets {
-            creq: _creq,
-            cack: _cack,
-            sreq: _sreq,
-            sack: _sack,
+            creq,
+            cack,
+            sreq,
+            sack,
         } = self;
     }
 }

@@ -14,13 +14,12 @@ pub struct Link {
     shared: EventSet,
 }
 
-// By hand, so that a crate that ends one calls this and proves no end of its own.
 impl Drop for Link {
     fn drop(self) {
         let Link {
-            left: _left,
-            right: _right,
-            shared: _shared,
+            left,
+            right,
+            shared,
         } = self;
     }
 }
@@ -81,13 +80,12 @@ pub struct Shape {
     vocabulary: EventSet,
 }
 
-// By hand, so that a crate that ends one calls this and proves no end of its own.
 impl Drop for Shape {
     fn drop(self) {
         let Shape {
-            parts: _parts,
-            links: _links,
-            vocabulary: _vocabulary,
+            parts,
+            links,
+            vocabulary,
         } = self;
     }
 }

@@ -12,13 +12,12 @@ pub struct UseSets {
     release: EventSet,
 }
 
-// By hand, so that a crate that ends one calls this and proves no end of its own.
 impl Drop for UseSets {
     fn drop(self) {
         let UseSets {
-            resource: _resource,
-            acquire: _acquire,
-            release: _release,
+            resource,
+            acquire,
+            release,
         } = self;
     }
 }

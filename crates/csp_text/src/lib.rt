@@ -7,7 +7,7 @@ pub mod token;
 pub mod tree;
 pub mod written;
 
-pub use fault::ParseFault;
+pub use fault::NoScript;
 pub use script::{Decl, Script};
 pub use token::{ResourceNames, RolesNames, Symbol, Token, Word};
 pub use tree::{EventTree, FieldTree, GenTree, PartTree, Tree};

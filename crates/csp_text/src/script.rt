@@ -23,17 +23,16 @@ pub enum Decl {
     Resource(ResourceNames),
 }
 
-// By hand, so that a crate that ends one calls this and proves no end of its own.
 impl Drop for Decl {
     fn drop(self) {
         match self {
-            Decl::Channel(_first, _second) => {}
-            Decl::Datatype(_first, _second) => {}
-            Decl::Nametype(_first, _second) => {}
-            Decl::Define(_first, _second, _third) => {}
-            Decl::Assert(_first) => {}
-            Decl::Roles(_first) => {}
-            Decl::Resource(_first) => {}
+            Decl::Channel(_, _) => {}
+            Decl::Datatype(_, _) => {}
+            Decl::Nametype(_, _) => {}
+            Decl::Define(_, _, _) => {}
+            Decl::Assert(_) => {}
+            Decl::Roles(_) => {}
+            Decl::Resource(_) => {}
         }
     }
 }
@@ -44,9 +43,8 @@ pub struct Script {
     pub decls: Items<Decl>,
 }
 
-// By hand, so that a crate that ends one calls this and proves no end of its own.
 impl Drop for Script {
     fn drop(self) {
-        let Script { decls: _decls } = self;
+        let Script { decls } = self;
     }
 }

@@ -21,16 +21,15 @@ pub enum Token {
     Resource(Boxed<ResourceNames>),
 }
 
-// By hand, so that a crate that ends one calls this and proves no end of its own.
 impl Drop for Token {
     fn drop(self) {
         match self {
-            Token::Name(_first) => {}
-            Token::Num(_first) => {}
-            Token::Word(_first) => {}
-            Token::Symbol(_first) => {}
-            Token::Roles(_first) => {}
-            Token::Resource(_first) => {}
+            Token::Name(_) => {}
+            Token::Num(_) => {}
+            Token::Word(_) => {}
+            Token::Symbol(_) => {}
+            Token::Roles(_) => {}
+            Token::Resource(_) => {}
         }
     }
 }
@@ -49,15 +48,14 @@ pub struct RolesNames {
     pub sack: Name,
 }
 
-// By hand, so that a crate that ends one calls this and proves no end of its own.
 impl Drop for RolesNames {
     fn drop(self) {
         let RolesNames {
-            process: _process,
-            creq: _creq,
-            cack: _cack,
-            sreq: _sreq,
-            sack: _sack,
+            process,
+            creq,
+            cack,
+            sreq,
+            sack,
         } = self;
     }
 }
@@ -72,13 +70,12 @@ pub struct ResourceNames {
     pub release: Name,
 }
 
-// By hand, so that a crate that ends one calls this and proves no end of its own.
 impl Drop for ResourceNames {
     fn drop(self) {
         let ResourceNames {
-            process: _process,
-            acquire: _acquire,
-            release: _release,
+            process,
+            acquire,
+            release,
         } = self;
     }
 }

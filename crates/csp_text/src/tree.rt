@@ -64,7 +64,6 @@ pub enum Tree {
     Rename(Boxed<Tree>, Items<(PartTree, PartTree)>, Items<GenTree>),
 }
 
-// By hand, so that a crate that ends one calls this and proves no end of its own.
 impl Drop for Tree {
     #[cycle(tree)]
     fn drop(self) {
@@ -74,29 +73,29 @@ impl Drop for Tree {
             Tree::Num(_) => {}
             Tree::True => {}
             Tree::False => {}
-            Tree::Name(_first) => {}
-            Tree::Call(_first, _second) => {}
-            Tree::Dot(_first, _second) => {}
-            Tree::Neg(_first) => {}
-            Tree::Not(_first) => {}
-            Tree::Binary(_, _second, _third) => {}
-            Tree::If(_first, _second, _third) => {}
-            Tree::Display(_first) => {}
-            Tree::Range(_first, _second) => {}
-            Tree::Comp(_first, _second) => {}
-            Tree::Product(_first, _second) => {}
-            Tree::SetOp(_, _second, _third) => {}
-            Tree::Prefix(_first, _second) => {}
-            Tree::Guard(_first, _second) => {}
-            Tree::External(_first) => {}
-            Tree::Internal(_first) => {}
-            Tree::EachExternal(_first, _second, _third) => {}
-            Tree::EachInternal(_first, _second, _third) => {}
-            Tree::Parallel(_first, _second, _third, _fourth) => {}
-            Tree::EachParallel(_first, _second, _third, _fourth) => {}
-            Tree::Seq(_first, _second) => {}
-            Tree::Hide(_first, _second) => {}
-            Tree::Rename(_first, _second, _third) => {}
+            Tree::Name(_) => {}
+            Tree::Call(_, _) => {}
+            Tree::Dot(_, _) => {}
+            Tree::Neg(_) => {}
+            Tree::Not(_) => {}
+            Tree::Binary(_, _, _) => {}
+            Tree::If(_, _, _) => {}
+            Tree::Display(_) => {}
+            Tree::Range(_, _) => {}
+            Tree::Comp(_, _) => {}
+            Tree::Product(_, _) => {}
+            Tree::SetOp(_, _, _) => {}
+            Tree::Prefix(_, _) => {}
+            Tree::Guard(_, _) => {}
+            Tree::External(_) => {}
+            Tree::Internal(_) => {}
+            Tree::EachExternal(_, _, _) => {}
+            Tree::EachInternal(_, _, _) => {}
+            Tree::Parallel(_, _, _, _) => {}
+            Tree::EachParallel(_, _, _, _) => {}
+            Tree::Seq(_, _) => {}
+            Tree::Hide(_, _) => {}
+            Tree::Rename(_, _, _) => {}
         }
     }
 }
@@ -110,14 +109,10 @@ pub struct EventTree {
     pub fields: Items<FieldTree>,
 }
 
-// By hand, so that a crate that ends one calls this and proves no end of its own.
 impl Drop for EventTree {
     #[cycle(tree)]
     fn drop(self) {
-        let EventTree {
-            name: _name,
-            fields: _fields,
-        } = self;
+        let EventTree { name, fields } = self;
     }
 }
 
@@ -142,14 +137,10 @@ pub struct PartTree {
     pub fields: Items<Tree>,
 }
 
-// By hand, so that a crate that ends one calls this and proves no end of its own.
 impl Drop for PartTree {
     #[cycle(tree)]
     fn drop(self) {
-        let PartTree {
-            name: _name,
-            fields: _fields,
-        } = self;
+        let PartTree { name, fields } = self;
     }
 }
 
@@ -162,13 +153,12 @@ pub enum GenTree {
     Cond(Tree),
 }
 
-// By hand, so that a crate that ends one calls this and proves no end of its own.
 impl Drop for GenTree {
     #[cycle(tree)]
     fn drop(self) {
         match self {
-            GenTree::From(_first, _second) => {}
-            GenTree::Cond(_first) => {}
+            GenTree::From(_, _) => {}
+            GenTree::Cond(_) => {}
         }
     }
 }

@@ -1,15 +1,6 @@
 -- What a binding adds once more changes nothing.
-use Rattle.csp_base.proofs.Standard.{or_right}
-use Rattle.csp_values.proofs.Prelude.{◌≡◌, ℕ, ◌+◌, Bool, true, false, cond, ◌||◌, Ok, Err, List, [], ◌∷◌, ◌++◌, map, refl, ap, sym, ◌∙◌, inr, arith, if◌then◌else◌, IsTrue, nat_lt, Atom, added, all_added, limited, Outcome, and_then, Env, Front, Gathered, Meaning, as_atom, front, front_events, fronts_added, gathered, items_added, meanings, uses_within, EventPart, Expr, Kind, SetLimit, Channel, Content, came_through, one_more_binding, with_fronts, with_items, yielded}
-use Rattle.std.proofs.lemmas.Bool.{false≢true}
-use Rattle.csp_atoms.specs.Prelude.{kind_of, same, AllOfKind, IsOneKind, fits, has_atom, with_atom}
+use Rattle.csp_values.proofs.Prelude.{or_right, ◌≡◌, ℕ, ◌+◌, Bool, true, false, cond, ◌||◌, Ok, Err, List, [], ◌∷◌, ◌++◌, map, refl, ap, sym, ◌∙◌, inr, arith, if◌then◌else◌, IsTrue, nat_lt, Atom, added, all_added, limited, Outcome, and_then, Env, Front, Gathered, Meaning, as_atom, front, front_events, fronts_added, gathered, items_added, meanings, uses_within, EventPart, Expr, Kind, SetLimit, Channel, Content, came_through, one_more_binding, with_fronts, with_items, yielded, false≢true, kind_of, same, AllOfKind, IsOneKind, fits, has_atom, with_atom, same_exact, same_itself, IsSetValue, all_grow, with_member, limited_few, MOST_BINDINGS}
 use Rattle.csp_atoms.specs.declared.atom.Atom.TheVariants as atom
-use Rattle.csp_atoms.proofs.OrderLaws.{same_exact, same_itself}
-use Rattle.value_laws.specs.Bindings.{IsSetValue}
-use Rattle.value_laws.proofs.Fronts.{all_grow}
-use Rattle.value_operators.proofs.Held.{with_member}
-use Rattle.value_operators.proofs.SetSteps.{limited_few}
-use Rattle.dl_limits.specs.declared.TheConstants.{MOST_BINDINGS}
 
 -- ---- members that are added
 

@@ -1,36 +1,22 @@
 -- What a call answers for a form, from what calls answer for its parts.
-use Rattle.csp_values.proofs.Prelude.{◌≡◌, ℕ, zero, suc, ◌+◌, ◌<◌, ◌^◌, Bool, true, false, List, [], None, Ok, Err, length, refl, ap, sym, subst, ◌∙◌, arith, ℤ, if◌then◌else◌, slice_get, Result, IsErrAnd, all_added, Outcome, and_then, Env, Gathered, bound_value, many, number, one_event, range, set_binary, as_number, as_set, sets_of, as_truth, EventPart, Expr, Expr-F, out-EventPart, ValueKind, Kind, OutsideChannel, Channel, Content, ChannelsFit, events_from, span, Atom, Value, One, BinOp, SetOp, negative, inverse, operation, named_set, a_set, gathered_set, produced, count_with, Gives, EvalFault, worth, worths, number_worth, truth_worth, atoms_worth, chosen, range_of, set_of, use_worth, with_items, event_worth, front_worth, with_front, with_fronts, one_more_binding, GivesTally, Course, GivesBinding, faulty, skipped, Walk, and_then_regroup}
+use Rattle.csp_values.proofs.Prelude.{◌≡◌, ℕ, zero, suc, ◌+◌, ◌<◌, ◌^◌, Bool, true, false, List, [], None, Ok, Err, length, refl, ap, sym, subst, ◌∙◌, arith, ℤ, if◌then◌else◌, slice_get, Result, IsErrAnd, all_added, Outcome, and_then, Env, Gathered, bound_value, many, number, one_event, range, set_binary, as_number, as_set, sets_of, as_truth, EventPart, Expr, Expr-F, out-EventPart, ValueKind, Kind, OutsideChannel, Channel, Content, ChannelsFit, events_from, span, Atom, Value, One, BinOp, SetOp, negative, inverse, operation, named_set, a_set, gathered_set, produced, count_with, Gives, EvalFault, worth, worths, number_worth, truth_worth, atoms_worth, chosen, range_of, set_of, use_worth, with_items, event_worth, front_worth, with_front, with_fronts, one_more_binding, GivesTally, Course, GivesBinding, faulty, skipped, Walk, and_then_regroup, Tally, at_err, weaker, MOST_BINDINGS, Tells}
 use Rattle.csp_atoms.specs.declared.atom.Atom.TheVariants as atom
 use Rattle.csp_program.specs.declared.expressions.Expr.TheVariants as expr
 use Rattle.value_operators.specs.Forms as form
-use Rattle.value_operators.specs.declared.fault.EvalFault.TheVariants as fault
-use Rattle.csp_values.specs.declared.tally.Tally.{Tally}
 use Rattle.csp_values.proofs.Equations as eq
 use Rattle.csp_values.proofs.FieldSteps.{front_fits}
-use Rattle.dl_limits.specs.declared.TheConstants.{MOST_BINDINGS}
 
 pub same : {A : Type 0} (r : Result A EvalFault) (o o' : Outcome A) → o ≡ o' → Gives r o' → Gives r o
 same r o o' is h = subst (Gives r) (sym is) h
 
-walk_fault : (f : EvalFault) (part whole : Outcome Gathered) → GivesTally (Err f) part → ((k : ValueKind) → part ≡ Err k → whole ≡ Err k) → GivesTally (Err f) whole
-walk_fault fault.NoMemory part whole h passes = tt
-walk_fault (fault.Value kind) part whole h passes = passes kind h
-
 pub walk_passed : (r : Result Tally EvalFault) (f : EvalFault) (part whole : Outcome Gathered)
     → IsErrAnd r (λ y. y ≡ f) → GivesTally (Err f) part → ((k : ValueKind) → part ≡ Err k → whole ≡ Err k) → GivesTally r whole
-walk_passed (Ok x) f part whole is h passes = absurd is
-walk_passed (Err y) f part whole is h passes = rw is (walk_fault f part whole h passes)
+walk_passed r f part whole is h passes = at_err (λ q. GivesTally q whole) r f is (weaker (λ k. part ≡ Err k) (λ k. whole ≡ Err k) f h passes)
 
 -- a fault of a walk is a fault of what is gathered
-binding_fault : (f : EvalFault) (before left : Course) (params : Env) (around : List (ℕ × Atom)) (walk : Walk) (whole : Outcome Gathered) → GivesBinding (Err f) before left params around walk
-    → ((k : ValueKind) → skipped before ≡ faulty k → whole ≡ Err k) → GivesTally (Err f) whole
-binding_fault fault.NoMemory before left params around walk whole h passes = tt
-binding_fault (fault.Value kind) before left params around walk whole h passes = passes kind h
-
-pub binding_passed : (r : Result Tally EvalFault) (f : EvalFault) (before left : Course) (params : Env) (around : List (ℕ × Atom)) (walk : Walk) (whole : Outcome Gathered)
-    → IsErrAnd r (λ y. y ≡ f) → GivesBinding (Err f) before left params around walk → ((k : ValueKind) → skipped before ≡ faulty k → whole ≡ Err k) → GivesTally r whole
-binding_passed (Ok x) f before left params around walk whole is h passes = absurd is
-binding_passed (Err y) f before left params around walk whole is h passes = rw is (binding_fault f before left params around walk whole h passes)
+pub binding_passed : (r : Result Tally EvalFault) (f : EvalFault) (Fails : ValueKind → Type 0) (whole : Outcome Gathered)
+    → IsErrAnd r (λ y. y ≡ f) → Tells Fails f → ((k : ValueKind) → Fails k → whole ≡ Err k) → GivesTally r whole
+binding_passed r f Fails whole is h passes = at_err (λ q. GivesTally q whole) r f is (weaker Fails (λ k. whole ≡ Err k) f h passes)
 
 -- two parts, each of which is taken for what it is worth
 module _ {V M C : Type 0} (f : V → Outcome M) (g : M → M → Outcome C) where

@@ -1,11 +1,6 @@
 -- What walks over generators come to, as they go on, and what is gathered over them.
-use Rattle.csp_values.proofs.Prelude.{◌≡◌, ℕ, zero, suc, ◌+◌, ◌<◌, ◌≤◌, Bool, true, false, cond, Option, Some, None, Ok, Err, List, [], ◌∷◌, ◌++◌, map, length, drop, slice_get, refl, ap, sym, subst, ◌∙◌, arith, append_assoc, append-nil, drop_of_length-le, MatchOption, Result, IsErrAnd, Outcome, and_then, Env, Gathered, Turn, from, when, as_set, as_truth, gathered, over, turn, uses_within, walked, EventPart, Expr, Gen, ValueKind, Content, Atom, One, and_then_regroup, Gives, EvalFault, with_bound, Course, GivesStep, no_more, faulty, one, step, skipped, unless_faulty, each_taken, bindings, turns_from, after, at_turn, course_over, name_of, IsUnder, begun, taken, taken_as, worth, truth_worth, atoms_worth, one_more_binding, walk_worth, yielded, Walk}
-use Rattle.std.proofs.lemmas.List.{length_push, map-append, same_from_push}
+use Rattle.csp_values.proofs.Prelude.{◌≡◌, ℕ, zero, suc, ◌+◌, ◌<◌, ◌≤◌, Bool, true, false, cond, Option, Some, None, Ok, Err, List, [], ◌∷◌, ◌++◌, map, length, drop, slice_get, refl, ap, sym, subst, ◌∙◌, arith, append_assoc, append-nil, drop_of_length-le, MatchOption, Result, IsErrAnd, Outcome, and_then, Env, Gathered, Turn, from, when, as_set, as_truth, gathered, over, turn, uses_within, walked, EventPart, Expr, Gen, ValueKind, Content, Atom, One, and_then_regroup, Gives, EvalFault, with_bound, Course, GivesStep, no_more, faulty, one, step, skipped, unless_faulty, each_taken, bindings, turns_from, after, at_turn, course_over, name_of, IsUnder, begun, taken, taken_as, worth, truth_worth, atoms_worth, one_more_binding, walk_worth, yielded, Walk, length_push, map-append, same_from_push, at_err, weaker, with_bound-last, Frame, Step}
 use Rattle.csp_program.specs.declared.expressions.Gen.TheVariants as generator
-use Rattle.value_operators.specs.declared.fault.EvalFault.TheVariants as fault
-use Rattle.value_operators.proofs.NameLaws.{with_bound-last}
-use Rattle.csp_values.specs.declared.walk.Frame.{Frame}
-use Rattle.csp_values.specs.declared.walk.Step.{Step}
 use Rattle.csp_values.proofs.Equations.{turn-Cond, turn-From}
 
 -- how many steps and bindings are left
@@ -252,15 +247,10 @@ pub begun_under : (around : List (ℕ × Atom)) (walk : Walk) → walk ≡ begun
 begun_under around walk is = subst (IsUnder around) (sym is) (sym (append-nil around))
 
 -- a fault of a part is a fault of a step
-step_fault : {A : Type 0} (f : EvalFault) (part : Outcome A) (before left : Course) (params : Env) (around : List (ℕ × Atom)) (walk : Walk) → Gives {A = A} (Err f) part → ((k : ValueKind) → part ≡ Err k → before ≡ faulty k)
-    → GivesStep (Err f) before left params around walk
-step_fault fault.NoMemory part before left params around walk h passes = tt
-step_fault (fault.Value kind) part before left params around walk h passes = passes kind h
-
 pub step_passed : {A : Type 0} (r : Result Step EvalFault) (f : EvalFault) (part : Outcome A) (before left : Course) (params : Env) (around : List (ℕ × Atom)) (walk : Walk)
     → IsErrAnd r (λ y. y ≡ f) → Gives {A = A} (Err f) part → ((k : ValueKind) → part ≡ Err k → before ≡ faulty k) → GivesStep r before left params around walk
-step_passed (Ok x) f part before left params around walk is h passes = absurd is
-step_passed (Err y) f part before left params around walk is h passes = rw is (step_fault f part before left params around walk h passes)
+step_passed r f part before left params around walk is h passes =
+    at_err (λ q. GivesStep q before left params around walk) r f is (weaker (λ k. part ≡ Err k) (λ k. before ≡ faulty k) f h passes)
 
 -- the work that is left falls
 size_skipped : (c : Course) → size (skipped c) ≤ size c

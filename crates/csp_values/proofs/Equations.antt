@@ -1,13 +1,10 @@
 -- What each form of an expression, of a list and of generators comes to, in terms of its parts.
-use Rattle.csp_values.proofs.Prelude.{◌≡◌, ℕ, zero, suc, ◌+◌, ◌-◌, ◌<◌, ◌≤◌, Bool, true, false, cond, List, [], ◌∷◌, Some, None, Ok, Err, map, length, drop, refl, ap, sym, ◌∙◌, arith, ◌*◌, ◌||◌, is_none, nat_lt, slice_get, Option, added, all_added, row_count, Outcome, and_then, lack_sets, Env, Meaning, Turn, Front, value_of, value_within, Gathered, from, when, meaning, turn, front, meaning_of_layer, turn_of_layer, front_of_layer, uses_within, as_atom, items_added, walked, gathered, sets_of, bound_to, many, body_value, def_value, front_events, fronts_added, one_event, meanings, EventPart, Expr, fold-roll-Expr, fold-roll-Gen, fold-roll-EventPart, map-Expr, Expr-F, Gen-F, roll-Expr, out-EventPart, roll-out-EventPart, Gen, Kind, OutsideChannel, SetLimit, Content, Def, ChannelsFit, events_from, field_place, first_of, front_count, front_number, span, events_are_found, Atom, Value, One, gathered_set, nothing_yet, count_with, produced, worth, worths, use_worth, body_worth, with_items, event_worth, fields_worth, front_worth, with_front, with_fronts, yielded, one_more_binding, walk_worth}
-use Rattle.csp_program.specs.declared.networks.Net.{Net}
-use Rattle.csp_program.specs.declared.processes.Proc.{Proc}
+use Rattle.csp_values.proofs.Prelude.{◌≡◌, ℕ, zero, suc, ◌+◌, ◌-◌, ◌<◌, ◌≤◌, Bool, true, false, cond, List, [], ◌∷◌, Some, None, Ok, Err, map, length, drop, refl, ap, sym, ◌∙◌, arith, ◌*◌, ◌||◌, is_none, nat_lt, slice_get, Option, added, all_added, row_count, Outcome, and_then, lack_sets, Env, Meaning, Turn, Front, value_of, value_within, Gathered, from, when, meaning, turn, front, meaning_of_layer, turn_of_layer, front_of_layer, uses_within, as_atom, items_added, walked, gathered, sets_of, bound_to, many, body_value, def_value, front_events, fronts_added, one_event, meanings, EventPart, Expr, fold-roll-Expr, fold-roll-Gen, fold-roll-EventPart, map-Expr, Expr-F, Gen-F, roll-Expr, out-EventPart, roll-out-EventPart, Gen, Kind, OutsideChannel, SetLimit, Content, Def, ChannelsFit, events_from, field_place, first_of, front_count, front_number, span, events_are_found, Atom, Value, One, gathered_set, nothing_yet, count_with, produced, worth, worths, use_worth, body_worth, with_items, event_worth, fields_worth, front_worth, with_front, with_fronts, yielded, one_more_binding, walk_worth, Net, Proc, MOST_BINDINGS}
 use Rattle.csp_atoms.specs.declared.atom.Atom.TheVariants as atom
 use Rattle.csp_program.specs.declared.expressions.Expr.TheVariants as expr
 use Rattle.csp_program.specs.declared.expressions.Gen.TheVariants as generator
 use Rattle.csp_program.specs.declared.programs.Body.TheVariants as body
 use Rattle.value_operators.specs.Forms as form
-use Rattle.dl_limits.specs.declared.TheConstants.{MOST_BINDINGS}
 
 -- what a form comes to, in terms of its parts
 pub at : (p : Content) (n : ℕ) (env : Env) (e : Expr) (d : Expr-F Expr Gen EventPart) → roll-Expr d ≡ e

@@ -1,6 +1,5 @@
 -- The fields of an event, one after another, in numbers that count so many for one.
-use Rattle.csp_values.proofs.Prelude.{◌≡◌, ℕ, zero, suc, ◌+◌, ◌-◌, ◌*◌, ◌<◌, ◌≤◌, ◌^◌, min, List, [], ◌∷◌, Some, Ok, Err, Bool, true, false, cond, length, drop, drop_of_length-le, get_or, refl, ap, sym, ◌∙◌, subst, arith, nat_eq, slice_get, row_count, Outcome, and_then, Env, meanings, sets_of, event_table, Expr, ValueKind, OutsideChannel, Channel, Content, field_place, first_of, ChannelsFit, front_count, Atom, Value, One, Many, capped, count_with, each_of, scaled, worth, fields_worth, front_worth, number_fits, drop_read, and_then_regroup, came_through}
-use Rattle.value_operators.proofs.EventSteps.{stops_left}
+use Rattle.csp_values.proofs.Prelude.{◌≡◌, ℕ, zero, suc, ◌+◌, ◌-◌, ◌*◌, ◌<◌, ◌≤◌, ◌^◌, min, List, [], ◌∷◌, Some, Ok, Err, Bool, true, false, cond, length, drop, drop_of_length-le, get_or, refl, ap, sym, ◌∙◌, subst, arith, nat_eq, slice_get, row_count, Outcome, and_then, Env, meanings, sets_of, event_table, Expr, ValueKind, OutsideChannel, Channel, Content, field_place, first_of, ChannelsFit, front_count, Atom, Value, One, Many, capped, count_with, each_of, scaled, worth, fields_worth, front_worth, number_fits, drop_read, and_then_regroup, came_through, stops_left}
 use Rattle.csp_values.proofs.Equations.{fields-nil, fields-none, fields-cons, front-some, same_count}
 
 abbrev pub found : ℕ → Outcome ℕ

@@ -1,14 +1,12 @@
 -- What is worth the same under each binding of generators: forms whose parts are, and what bindings add, which then is what it is under the names
 -- around the generators.
-use Rattle.csp_base.proofs.Standard.{or_parts}
-use Rattle.csp_values.proofs.Prelude.{◌≡◌, ℕ, suc, ◌+◌, Bool, false, nat_eq, Option, Some, None, Ok, Err, List, [], ◌∷◌, map, slice_get, refl, ap, sym, subst, ◌∙◌, arith, if◌then◌else◌, ℤ, nat_lt, All, Atom, Value, One, BinOp, SetOp, added, all_added, events_with, Outcome, and_then, Env, Front, Gathered, Turn, as_atom, as_number, as_set, as_truth, bound_value, from, front_events, fronts_added, gathered, in_field, meaning, meanings, one_event, over, row_in, row_of, sets_of, turn, uses_within, walked, when, EventPart, Expr, Gen-F, out-EventPart, out-Gen, roll-Gen, roll-out-Gen, Gen, SetLimit, Content, with_bound, inverse, negative, operation, a_set, course_over, begun, AgreeBeside, PartStays, Stays, bind, binds_of_layer, atoms_worth, chosen, event_worth, number_worth, one_more_binding, range_of, set_of, truth_worth, use_worth, walk_worth, with_front, with_fronts, with_items, worth, worths, yielded, Walk}
+use Rattle.csp_values.proofs.Prelude.{or_parts, ◌≡◌, ℕ, suc, ◌+◌, Bool, false, nat_eq, Option, Some, None, Ok, Err, List, [], ◌∷◌, map, slice_get, refl, ap, sym, subst, ◌∙◌, arith, if◌then◌else◌, ℤ, nat_lt, All, Atom, Value, One, BinOp, SetOp, added, all_added, events_with, Outcome, and_then, Env, Front, Gathered, Turn, as_atom, as_number, as_set, as_truth, bound_value, from, front_events, fronts_added, gathered, in_field, meaning, meanings, one_event, over, row_in, row_of, sets_of, turn, uses_within, walked, when, EventPart, Expr, Gen-F, out-EventPart, out-Gen, roll-Gen, roll-out-Gen, Gen, SetLimit, Content, with_bound, inverse, negative, operation, a_set, course_over, begun, AgreeBeside, PartStays, Stays, bind, binds_of_layer, atoms_worth, chosen, event_worth, number_worth, one_more_binding, range_of, set_of, truth_worth, use_worth, walk_worth, with_front, with_fronts, with_items, worth, worths, yielded, Walk, MOST_BINDINGS}
 use Rattle.csp_atoms.specs.declared.atom.Atom.TheVariants as atom
 use Rattle.csp_program.specs.declared.expressions.Expr.TheVariants as expr
 use Rattle.csp_program.specs.declared.expressions.Gen.TheVariants as generator
 use Rattle.csp_values.proofs.Arms as arm
 use Rattle.csp_values.proofs.Courses.{over_begun, over_course}
 use Rattle.csp_values.proofs.Equations.{front-is, fronts-cons, turn-Cond, turn-From}
-use Rattle.dl_limits.specs.declared.TheConstants.{MOST_BINDINGS}
 
 -- lists by their first member
 pub first_has : {A : Type 0} (P : A → Type 0) (x : A) (xs : List A) → All P (x ∷ xs) → P x

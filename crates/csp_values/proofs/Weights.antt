@@ -1,9 +1,7 @@
 -- A weight for evaluation: each call that it makes is for less. A use of a definition costs more than any body weighs.
-use Rattle.csp_values.proofs.Prelude.{◌≡◌, ℕ, zero, suc, ◌+◌, ◌-◌, ◌*◌, ◌<◌, ◌≤◌, List, [], ◌∷◌, Some, map, length, get_or, refl, ap, sym, ◌∙◌, arith, slice_get, EventPart, Expr, fold-Expr, fold-Gen, fold-EventPart, fold-roll-Expr, fold-roll-Gen, fold-roll-EventPart, map-Expr, Expr-F, Gen-F, EventPart-F, out-EventPart, roll-Expr, roll-out-EventPart, Gen, Content, Def}
-use Rattle.csp_program.specs.declared.programs.Body.{Body}
+use Rattle.csp_values.proofs.Prelude.{◌≡◌, ℕ, zero, suc, ◌+◌, ◌-◌, ◌*◌, ◌<◌, ◌≤◌, List, [], ◌∷◌, Some, map, length, get_or, refl, ap, sym, ◌∙◌, arith, slice_get, EventPart, Expr, fold-Expr, fold-Gen, fold-EventPart, fold-roll-Expr, fold-roll-Gen, fold-roll-EventPart, map-Expr, Expr-F, Gen-F, EventPart-F, out-EventPart, roll-Expr, roll-out-EventPart, Gen, Content, Def, Body, total}
 use Rattle.csp_program.specs.declared.expressions.Gen.TheVariants as generator
 use Rattle.csp_program.specs.declared.programs.Body.TheVariants as body
-use Rattle.csp_base.specs.Lists.{total}
 
 abbrev pub of_expr : Expr-F ℕ ℕ ℕ → ℕ
 of_expr (Expr-F.Neg a) = a + 2

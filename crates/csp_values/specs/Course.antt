@@ -6,11 +6,10 @@ use Rattle.csp_program.specs.declared.kinds.ValueKind.{ValueKind}
 use Rattle.csp_program.specs.declared.programs.Content.{Content}
 use Rattle.csp_atoms.specs.declared.atom.Atom.{Atom}
 use Rattle.csp_atoms.specs.declared.value.Value.TheVariants.{One}
-use Rattle.value_operators.specs.Prelude.{env_in, parameters}
-use Rattle.value_operators.specs.declared.fault.EvalFault.{EvalFault}
+use Rattle.value_operators.specs.Prelude.{env_in, parameters, EvalFault}
 use Rattle.value_operators.specs.declared.names.Names.{Names}
 use Rattle.value_operators.specs.Env.{with_bound}
-use Rattle.value_operators.specs.declared.fault.EvalFault.TheVariants as fault
+use Rattle.csp_base.specs.Stops.{Tells}
 use Rattle.csp_values.specs.declared.walk.Frame.{Frame}
 use Rattle.csp_values.specs.declared.walk.Step.{Step}
 use Rattle.csp_values.specs.declared.walk.Step.TheVariants.{On, Binding, End}
@@ -103,12 +102,10 @@ abbrev pub GivesStep : Result Step EvalFault → Course → Course → Env → L
 GivesStep (Ok On) before left params around walk = (before ≡ step left) × IsUnder around walk
 GivesStep (Ok Binding) before left params around walk = (before ≡ one (with_bound walk.bound params) left) × IsUnder around walk
 GivesStep (Ok End) before left params around walk = before ≡ no_more
-GivesStep (Err fault.NoMemory) before left params around walk = Unit {0}
-GivesStep (Err (fault.Value kind)) before left params around walk = before ≡ faulty kind
+GivesStep (Err fault) before left params around walk = Tells (λ kind. before ≡ faulty kind) fault
 
 -- what a walk to the next binding answers: whether there is one
 abbrev pub GivesBinding : Result Bool EvalFault → Course → Course → Env → List (ℕ × Atom) → Walk → Type 0
 GivesBinding (Ok true) before left params around walk = (skipped before ≡ one (with_bound walk.bound params) left) × IsUnder around walk
 GivesBinding (Ok false) before left params around walk = skipped before ≡ no_more
-GivesBinding (Err fault.NoMemory) before left params around walk = Unit {0}
-GivesBinding (Err (fault.Value kind)) before left params around walk = skipped before ≡ faulty kind
+GivesBinding (Err fault) before left params around walk = Tells (λ kind. skipped before ≡ faulty kind) fault

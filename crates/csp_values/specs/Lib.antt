@@ -1,3 +1,4 @@
 pub mod Course
+pub mod Scopes
 pub mod Stays
 pub mod Worth

@@ -5,7 +5,7 @@ use Rattle.csp_program.specs.Prelude.{Env, bound_value}
 use Rattle.csp_program.specs.declared.expressions.EventPart.{EventPart}
 use Rattle.csp_program.specs.declared.expressions.Expr.{Expr}
 use Rattle.csp_program.specs.declared.expressions.Expr.TheOpen.{Gen-F}
-use Rattle.csp_program.specs.declared.expressions.Expr.TheViews.{out-EventPart, out-Gen}
+use Rattle.csp_program.specs.declared.expressions.Expr.TheViews.{out-Gen, out-EventPart}
 use Rattle.csp_program.specs.declared.expressions.Gen.{Gen}
 use Rattle.csp_program.specs.declared.programs.Content.{Content}
 use Rattle.csp_values.specs.Worth.{worth}

@@ -13,8 +13,7 @@ use Rattle.csp_atoms.specs.declared.value.Value.{Value}
 use Rattle.csp_atoms.specs.declared.value.Value.TheVariants.{One}
 use Rattle.csp_atoms.specs.declared.atom.Atom.TheVariants as atom
 use Rattle.csp_base.specs.declared.operators.SetOp.{SetOp}
-use Rattle.value_operators.specs.declared.fault.EvalFault.{EvalFault}
-use Rattle.value_operators.specs.declared.fault.EvalFault.TheVariants as fault
+use Rattle.value_operators.specs.Gives.{EvalFault, IsFault}
 use Rattle.csp_values.specs.declared.tally.Tally.{Tally}
 
 -- an expression
@@ -95,5 +94,4 @@ gathered_of tally = record { bindings = tally.bindings; atoms = tally.atoms }
 -- what a call that walks generators answers
 abbrev pub GivesTally : Result Tally EvalFault → Outcome Gathered → Type 0
 GivesTally (Ok tally) outcome = outcome ≡ Ok (gathered_of tally)
-GivesTally (Err fault.NoMemory) outcome = Unit {0}
-GivesTally (Err (fault.Value kind)) outcome = outcome ≡ Err kind
+GivesTally (Err fault) outcome = IsFault fault outcome

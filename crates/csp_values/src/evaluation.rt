@@ -7,45 +7,32 @@ ghost use Rattle.csp_atoms.specs.declared.value.Value.TheVariants as value;
 ghost use Rattle.csp_program.specs.Prelude.{added, all_added, and_then, as_atom, binary, gathered};
 ghost use Rattle.csp_program.specs.Value as meant;
 ghost use Rattle.value_laws.specs.Prelude.{IsSetValue, field_place};
-ghost use Rattle.value_operators.specs.Env.{env_in, parameters, with_bound};
-ghost use Rattle.value_operators.specs.Gives.{Gives};
+ghost use Rattle.value_operators.specs.Prelude.{env_in, parameters, Gives};
+ghost use Rattle.value_operators.specs.Env.{with_bound};
 ghost use Rattle.value_operators.specs.Forms as form;
 ghost use Rattle.csp_values.specs.Worth.{worth, worths, number_worth, truth_worth, atoms_worth, chosen, range_of, set_of, use_worth, body_worth, with_items, event_worth, fields_worth, front_worth, with_front, with_fronts, one_more_binding, walk_worth, gathered_of, GivesTally};
+ghost use Rattle.csp_values.specs.Scopes.{under, walk_under};
 ghost use Rattle.csp_values.specs.Stays.{PartStays, Stays};
 ghost use Rattle.csp_values.specs.Course.{GivesBinding, GivesStep, IsUnder, course};
 
 use crate::fitting::Fitting;
 use crate::reads::may_read;
 use crate::tally::Tally;
-use crate::walk::{Step, Walk, pop, take};
+use crate::walk::{Step, Walk};
 use containers::Items;
 use csp_atoms::{Atom, AtomSet, Value};
-use csp_base::{BinOp, Event, SetOp};
+use csp_base::{BinOp, Event, SetOp, Stop};
 use csp_program::{Body, Def, EventPart, Expr, Gen, ValueKind};
 use dl_limits::MOST_BINDINGS;
 use std::alloc::Global;
 use value_operators::EvalFault;
 use value_operators::growing::GrowingSet;
-use value_operators::names::{Names, copied, named, names_in};
+use value_operators::names::{Names, bound_value, copy_value, names_in};
 use value_operators::numbers::{
     count_with, each_of, event_at, field_sets, lack_sets, place_in, with_field,
 };
-use value_operators::operators::{
-    applied, decided, inverted, negated, to_number, to_set, to_truth,
-};
-use value_operators::sets::{combined, constants, numbers, with_events, with_item};
-
-const KIND: EvalFault = EvalFault::Value {
-    kind: ValueKind::Kind,
-};
-
-const OUTSIDE: EvalFault = EvalFault::Value {
-    kind: ValueKind::OutsideChannel,
-};
-
-const SET_LIMIT: EvalFault = EvalFault::Value {
-    kind: ValueKind::SetLimit,
-};
+use value_operators::operators::{apply, decide, invert, negate, to_number, to_set, to_truth};
+use value_operators::sets::{combine, constants, numbers, with_events, with_item};
 
 /// What evaluation goes by.
 #[derive(Drop)]
@@ -56,6 +43,8 @@ pub(crate) struct Scope<'a> {
     pub content: &'a Fitting<'a>,
     /// How many uses of definitions may still be entered, one inside another.
     pub uses: usize,
+    /// The names that stand for values.
+    pub names: &'a Names<'a>,
 }
 
 // What each binding of a list of generators adds to a set.
@@ -84,39 +73,32 @@ pub(crate) fn names_under<'a>(bound: &'a [(u32, Atom)]) -> Names<'a>
 /// The value of an expression.
 #[cycle(eval)]
 #[tactic(auto, using(crate::proofs::Arms::worth_forms, crate::proofs::Falls::weight_forms))]
-pub(crate) fn eval_expr(
-    scope: &Scope<'_>,
-    names: &Names<'_>,
-    expr: &Expr,
-) -> Result<Value, EvalFault>
-    ensures { Gives result (worth scope.now.content.now scope.now.uses (env_in names.now) expr.now) }
+pub(crate) fn eval_expr(scope: &Scope<'_>, expr: &Expr) -> Result<Value, EvalFault>
+    ensures { Gives result (under scope.now worth expr.now) }
 {
     match expr {
         Expr::Num(number) => Ok(Value::One(Atom::Num(*number))),
         Expr::Truth(truth) => Ok(Value::One(Atom::Truth(*truth))),
         Expr::Const(number) => Ok(Value::One(Atom::Const(*number))),
-        Expr::Bound(slot) => named(scope.alloc, names, *slot),
-        Expr::Lit(value) => copied(scope.alloc, value),
-        Expr::Neg(a) => eval_negative(scope, names, a.get()),
-        Expr::Not(a) => eval_not(scope, names, a.get()),
-        Expr::Binary(op, a, b) => eval_binary(scope, names, *op, a.get(), b.get()),
-        Expr::If(c, a, b) => eval_if(scope, names, c.get(), a.get(), b.get()),
-        Expr::Call(def, args) => eval_call(scope, names, *def, args.as_slice()),
+        Expr::Bound(slot) => bound_value(scope.alloc, scope.names, *slot),
+        Expr::Lit(value) => copy_value(scope.alloc, value),
+        Expr::Neg(a) => eval_negative(scope, a.get()),
+        Expr::Not(a) => eval_not(scope, a.get()),
+        Expr::Binary(op, a, b) => eval_binary(scope, *op, a.get(), b.get()),
+        Expr::If(c, a, b) => eval_if(scope, c.get(), a.get(), b.get()),
+        Expr::Call(def, args) => eval_call(scope, *def, args.as_slice()),
         Expr::SetName(def) => eval_set_name(scope, *def),
-        Expr::Event(channel, fields) => eval_event(scope, names, *channel, fields.as_slice()),
-        Expr::Display(items) => eval_display(scope, names, items.as_slice()),
-        Expr::Range(a, b) => eval_range(scope, names, a.get(), b.get()),
+        Expr::Event(channel, fields) => eval_event(scope, *channel, fields.as_slice()),
+        Expr::Display(items) => eval_display(scope, items.as_slice()),
+        Expr::Range(a, b) => eval_range(scope, a.get(), b.get()),
         Expr::Comp(items, gens) => eval_comprehension(
             scope,
-            names,
             items.as_slice(),
             &[],
             gens.as_slice(),
         ),
-        Expr::Product(parts, gens) => {
-            eval_product(scope, names, parts.as_slice(), gens.as_slice())
-        }
-        Expr::SetOp(op, a, b) => eval_set_op(scope, names, *op, a.get(), b.get()),
+        Expr::Product(parts, gens) => { eval_product(scope, parts.as_slice(), gens.as_slice()) }
+        Expr::SetOp(op, a, b) => eval_set_op(scope, *op, a.get(), b.get()),
     }
 }
 
@@ -140,7 +122,7 @@ fn constants_value(alloc: Global, numbers: &[u32]) -> Result<Value, EvalFault>
 fn set_value(alloc: Global, op: SetOp, left: AtomSet, right: AtomSet) -> Result<Value, EvalFault>
     ensures { Gives result (meant.many (meant.set_binary op left right)) }
 {
-    let atoms = combined(alloc, op, &left, &right)?;
+    let atoms = combine(alloc, op, &left, &right)?;
     Ok(Value::Many(atoms))
 }
 
@@ -155,118 +137,95 @@ fn grown_value(alloc: Global, atoms: GrowingSet) -> Result<Value, EvalFault>
 // The number that an expression is worth.
 #[cycle(eval)]
 #[tactic(auto, unfolding(crate::specs::Worth::number_worth))]
-fn eval_number(scope: &Scope<'_>, names: &Names<'_>, expr: &Expr) -> Result<i64, EvalFault>
-    ensures { Gives result (number_worth scope.now.content.now scope.now.uses (env_in names.now) expr.now) }
+fn eval_number(scope: &Scope<'_>, expr: &Expr) -> Result<i64, EvalFault>
+    ensures { Gives result (under scope.now number_worth expr.now) }
 {
-    let value = eval_expr(scope, names, expr)?;
+    let value = eval_expr(scope, expr)?;
     to_number(&value)
 }
 
 // The truth value that an expression is worth.
 #[cycle(eval)]
 #[tactic(auto, unfolding(crate::specs::Worth::truth_worth))]
-fn eval_truth(scope: &Scope<'_>, names: &Names<'_>, expr: &Expr) -> Result<bool, EvalFault>
-    ensures { Gives result (truth_worth scope.now.content.now scope.now.uses (env_in names.now) expr.now) }
+fn eval_truth(scope: &Scope<'_>, expr: &Expr) -> Result<bool, EvalFault>
+    ensures { Gives result (under scope.now truth_worth expr.now) }
 {
-    let value = eval_expr(scope, names, expr)?;
+    let value = eval_expr(scope, expr)?;
     to_truth(&value)
 }
 
 // The set that an expression is worth.
 #[cycle(eval)]
 #[tactic(auto, unfolding(crate::specs::Worth::atoms_worth))]
-fn eval_atoms(scope: &Scope<'_>, names: &Names<'_>, expr: &Expr) -> Result<AtomSet, EvalFault>
-    ensures { Gives result (atoms_worth scope.now.content.now scope.now.uses (env_in names.now) expr.now) }
+fn eval_atoms(scope: &Scope<'_>, expr: &Expr) -> Result<AtomSet, EvalFault>
+    ensures { Gives result (under scope.now atoms_worth expr.now) }
 {
-    let value = eval_expr(scope, names, expr)?;
+    let value = eval_expr(scope, expr)?;
     to_set(value)
 }
 
 // The value of `-a`.
 #[cycle(eval)]
-fn eval_negative(scope: &Scope<'_>, names: &Names<'_>, a: &Expr) -> Result<Value, EvalFault>
-    ensures { Gives result (form.negative (worth scope.now.content.now scope.now.uses (env_in names.now) a.now)) }
+fn eval_negative(scope: &Scope<'_>, a: &Expr) -> Result<Value, EvalFault>
+    ensures { Gives result (form.negative (under scope.now worth a.now)) }
 {
-    let value = eval_expr(scope, names, a)?;
-    negated(&value)
+    let value = eval_expr(scope, a)?;
+    negate(&value)
 }
 
 // The value of `not a`.
 #[cycle(eval)]
-fn eval_not(scope: &Scope<'_>, names: &Names<'_>, a: &Expr) -> Result<Value, EvalFault>
-    ensures { Gives result (form.inverse (worth scope.now.content.now scope.now.uses (env_in names.now) a.now)) }
+fn eval_not(scope: &Scope<'_>, a: &Expr) -> Result<Value, EvalFault>
+    ensures { Gives result (form.inverse (under scope.now worth a.now)) }
 {
-    let value = eval_expr(scope, names, a)?;
-    inverted(&value)
+    let value = eval_expr(scope, a)?;
+    invert(&value)
 }
 
 // The value of an operator between two operands.
 #[cycle(eval)]
-fn eval_binary(
-    scope: &Scope<'_>,
-    names: &Names<'_>,
-    op: BinOp,
-    a: &Expr,
-    b: &Expr,
-) -> Result<Value, EvalFault>
-    ensures { Gives result (form.operation op (worth scope.now.content.now scope.now.uses (env_in names.now) a.now)
-        (worth scope.now.content.now scope.now.uses (env_in names.now) b.now)) }
+fn eval_binary(scope: &Scope<'_>, op: BinOp, a: &Expr, b: &Expr) -> Result<Value, EvalFault>
+    ensures { Gives result (form.operation op (under scope.now worth a.now)
+        (under scope.now worth b.now)) }
 {
-    let first = eval_expr(scope, names, a)?;
-    eval_second(scope, names, op, &first, b)
+    let first = eval_expr(scope, a)?;
+    eval_second(scope, op, &first, b)
 }
 
 // The value of an operator between a value and the second operand, which is not evaluated where the first one decides.
 #[cycle(eval)]
-fn eval_second(
-    scope: &Scope<'_>,
-    names: &Names<'_>,
-    op: BinOp,
-    first: &Value,
-    b: &Expr,
-) -> Result<Value, EvalFault>
-    ensures { Gives result (binary op first.now (worth scope.now.content.now scope.now.uses (env_in names.now) b.now)) }
+fn eval_second(scope: &Scope<'_>, op: BinOp, first: &Value, b: &Expr) -> Result<Value, EvalFault>
+    ensures { Gives result (binary op first.now (under scope.now worth b.now)) }
 {
-    if let Some(value) = decided(op, first)? {
+    if let Some(value) = decide(op, first)? {
         return Ok(value);
     }
-    let second = eval_expr(scope, names, b)?;
-    applied(op, first, &second)
+    let second = eval_expr(scope, b)?;
+    apply(op, first, &second)
 }
 
 // The value of `if c then a else b`.
 #[cycle(eval)]
-fn eval_if(
-    scope: &Scope<'_>,
-    names: &Names<'_>,
-    c: &Expr,
-    a: &Expr,
-    b: &Expr,
-) -> Result<Value, EvalFault>
-    ensures { Gives result (chosen (truth_worth scope.now.content.now scope.now.uses (env_in names.now) c.now)
-        (worth scope.now.content.now scope.now.uses (env_in names.now) a.now)
-        (worth scope.now.content.now scope.now.uses (env_in names.now) b.now)) }
+fn eval_if(scope: &Scope<'_>, c: &Expr, a: &Expr, b: &Expr) -> Result<Value, EvalFault>
+    ensures { Gives result (chosen (under scope.now truth_worth c.now)
+        (under scope.now worth a.now)
+        (under scope.now worth b.now)) }
 {
-    let holds = eval_truth(scope, names, c)?;
+    let holds = eval_truth(scope, c)?;
     if holds {
-        eval_expr(scope, names, a)
+        eval_expr(scope, a)
     } else {
-        eval_expr(scope, names, b)
+        eval_expr(scope, b)
     }
 }
 
 // The value of a use of the definition with the number `def`, with these arguments.
 #[cycle(eval)]
-fn eval_call(
-    scope: &Scope<'_>,
-    names: &Names<'_>,
-    def: u32,
-    args: &[Expr],
-) -> Result<Value, EvalFault>
-    ensures { Gives result (and_then (worths scope.now.content.now scope.now.uses (env_in names.now) args.now) (λ vs.
+fn eval_call(scope: &Scope<'_>, def: u32, args: &[Expr]) -> Result<Value, EvalFault>
+    ensures { Gives result (and_then (under scope.now worths args.now) (λ vs.
         use_worth scope.now.content.now scope.now.uses def vs)) }
 {
-    let args = eval_all(scope, names, args)?;
+    let args = eval_all(scope, args)?;
     eval_use(scope, def, args.as_slice())
 }
 
@@ -283,114 +242,92 @@ fn eval_set_name(scope: &Scope<'_>, def: u32) -> Result<Value, EvalFault>
 // An event.
 #[cycle(eval)]
 #[tactic(auto, using(crate::proofs::Arms::event_steps))]
-fn eval_event(
-    scope: &Scope<'_>,
-    names: &Names<'_>,
-    channel: u32,
-    fields: &[Expr],
-) -> Result<Value, EvalFault>
-    ensures { Gives result (event_worth scope.now.content.now scope.now.uses (env_in names.now) channel fields.now) }
+fn eval_event(scope: &Scope<'_>, channel: u32, fields: &[Expr]) -> Result<Value, EvalFault>
+    ensures { Gives result (under scope.now event_worth channel fields.now) }
 {
     let channels = scope.content.channels();
-    let first = eval_front(scope, names, channel, fields)?;
+    let first = eval_front(scope, channel, fields)?;
     let count = count_with(channels, channel, fields.len());
     if count == 0 {
-        return Err(OUTSIDE);
+        return Err(Stop::Told(ValueKind::OutsideChannel));
     }
     Ok(Value::One(Atom::Event(Event(first))))
 }
 
 // The set of the values of items.
 #[cycle(eval)]
-fn eval_display(scope: &Scope<'_>, names: &Names<'_>, items: &[Expr]) -> Result<Value, EvalFault>
-    ensures { Gives result (form.a_set (with_items scope.now.content.now scope.now.uses
-        (env_in names.now) items.now [])) }
+fn eval_display(scope: &Scope<'_>, items: &[Expr]) -> Result<Value, EvalFault>
+    ensures { Gives result (form.a_set (under scope.now with_items items.now [])) }
 {
-    let atoms = add_items(scope, names, items, GrowingSet::new(scope.alloc))?;
+    let atoms = add_items(scope, items, GrowingSet::new(scope.alloc))?;
     grown_value(scope.alloc, atoms)
 }
 
 // The set of the numbers from `a` to `b`.
 #[cycle(eval)]
-fn eval_range(scope: &Scope<'_>, names: &Names<'_>, a: &Expr, b: &Expr) -> Result<Value, EvalFault>
-    ensures { Gives result (range_of (number_worth scope.now.content.now scope.now.uses (env_in names.now) a.now)
-        (number_worth scope.now.content.now scope.now.uses (env_in names.now) b.now)) }
+fn eval_range(scope: &Scope<'_>, a: &Expr, b: &Expr) -> Result<Value, EvalFault>
+    ensures { Gives result (range_of (under scope.now number_worth a.now)
+        (under scope.now number_worth b.now)) }
 {
-    let first = eval_number(scope, names, a)?;
-    let last = eval_number(scope, names, b)?;
+    let first = eval_number(scope, a)?;
+    let last = eval_number(scope, b)?;
     range_value(scope.alloc, first, last)
 }
 
 // The value of an operator between two sets.
 #[cycle(eval)]
-fn eval_set_op(
-    scope: &Scope<'_>,
-    names: &Names<'_>,
-    op: SetOp,
-    a: &Expr,
-    b: &Expr,
-) -> Result<Value, EvalFault>
-    ensures { Gives result (set_of op (atoms_worth scope.now.content.now scope.now.uses (env_in names.now) a.now)
-        (atoms_worth scope.now.content.now scope.now.uses (env_in names.now) b.now)) }
+fn eval_set_op(scope: &Scope<'_>, op: SetOp, a: &Expr, b: &Expr) -> Result<Value, EvalFault>
+    ensures { Gives result (set_of op (under scope.now atoms_worth a.now)
+        (under scope.now atoms_worth b.now)) }
 {
-    let left = eval_atoms(scope, names, a)?;
-    let right = eval_atoms(scope, names, b)?;
+    let left = eval_atoms(scope, a)?;
+    let right = eval_atoms(scope, b)?;
     set_value(scope.alloc, op, left, right)
 }
 
 // The value of `{| parts | gens |}`. Where a channel has no field sets, no generator is walked.
 #[cycle(eval)]
 #[tactic(auto, using(crate::proofs::Weights::none_weigh, crate::proofs::Arms::lacking_steps))]
-fn eval_product(
-    scope: &Scope<'_>,
-    names: &Names<'_>,
-    parts: &[EventPart],
-    gens: &[Gen],
-) -> Result<Value, EvalFault>
+fn eval_product(scope: &Scope<'_>, parts: &[EventPart], gens: &[Gen]) -> Result<Value, EvalFault>
     ensures { Gives result (form.produced (form.lack_sets scope.now.content.now.channels parts.now)
-        (walk_worth scope.now.content.now scope.now.uses gens.now [] parts.now (env_in names.now) form.nothing_yet)) }
+        (walk_worth scope.now.content.now scope.now.uses gens.now [] parts.now (env_in scope.now.names.now) form.nothing_yet)) }
 {
     if lack_sets(scope.content.channels(), parts) {
-        return Err(KIND);
+        return Err(Stop::Told(ValueKind::Kind));
     }
-    eval_comprehension(scope, names, &[], parts, gens)
+    eval_comprehension(scope, &[], parts, gens)
 }
 
 // The set of what all bindings add.
 #[cycle(eval)]
 fn eval_comprehension(
     scope: &Scope<'_>,
-    names: &Names<'_>,
     items: &[Expr],
     parts: &[EventPart],
     gens: &[Gen],
 ) -> Result<Value, EvalFault>
     ensures { Gives result
         (form.gathered_set (walk_worth scope.now.content.now scope.now.uses gens.now items.now parts.now
-        (env_in names.now) form.nothing_yet)) }
+        (env_in scope.now.names.now) form.nothing_yet)) }
 {
     let start = Tally {
         bindings: 0,
         atoms: GrowingSet::new(scope.alloc),
     };
     let yields = Yield { items, parts };
-    let Tally { bindings: _, atoms } = gather_all(scope, names, gens, &yields, start)?;
+    let Tally { bindings: _, atoms } = gather_all(scope, gens, &yields, start)?;
     grown_value(scope.alloc, atoms)
 }
 
 /// The values of expressions, from the left.
 #[cycle(eval)]
 #[tactic(auto, using(crate::proofs::Steps::worths_steps, crate::proofs::Weights::weight_in))]
-pub(crate) fn eval_all(
-    scope: &Scope<'_>,
-    names: &Names<'_>,
-    exprs: &[Expr],
-) -> Result<Items<Value>, EvalFault>
-    ensures { Gives result (worths scope.now.content.now scope.now.uses (env_in names.now) exprs.now) }
+pub(crate) fn eval_all(scope: &Scope<'_>, exprs: &[Expr]) -> Result<Items<Value>, EvalFault>
+    ensures { Gives result (under scope.now worths exprs.now) }
 {
     let mut values = Items::new(scope.alloc);
     for expr in exprs {
-        let value = eval_expr(scope, names, expr)?;
+        let value = eval_expr(scope, expr)?;
         values.push(value)?;
     }
     Ok(values)
@@ -403,16 +340,17 @@ fn eval_use(scope: &Scope<'_>, def: u32, args: &[Value]) -> Result<Value, EvalFa
     ensures { Gives result (use_worth scope.now.content.now scope.now.uses def args.now) }
 {
     if scope.uses == 0 {
-        return Err(KIND);
+        return Err(Stop::Told(ValueKind::Kind));
     }
     let inner = Scope {
         alloc: scope.alloc,
         content: scope.content,
         uses: scope.uses - 1,
+        names: scope.names,
     };
     match scope.content.content().defs.get(def as usize) {
         Some(def) => eval_body(&inner, def, args),
-        None => Err(KIND),
+        None => Err(Stop::Told(ValueKind::Kind)),
     }
 }
 
@@ -425,45 +363,50 @@ fn eval_body(scope: &Scope<'_>, def: &Def, args: &[Value]) -> Result<Value, Eval
     match &def.body {
         Body::Datum(expr) => {
             let names = names_in(def.params.as_slice(), args);
-            eval_expr(scope, &names, expr)
+            let inner = Scope {
+                alloc: scope.alloc,
+                content: scope.content,
+                uses: scope.uses,
+                names: &names,
+            };
+            eval_expr(&inner, expr)
         }
-        Body::Nametype(expr) => { eval_expr(scope, &names_under(&[]), expr) }
+        Body::Nametype(expr) => {
+            let names = names_under(&[]);
+            let inner = Scope {
+                alloc: scope.alloc,
+                content: scope.content,
+                uses: scope.uses,
+                names: &names,
+            };
+            eval_expr(&inner, expr)
+        }
         Body::Datatype(numbers) => constants_value(scope.alloc, numbers.as_slice()),
-        Body::Process(_) => Err(KIND),
-        Body::Network(_) => Err(KIND),
+        Body::Process(_) => Err(Stop::Told(ValueKind::Kind)),
+        Body::Network(_) => Err(Stop::Told(ValueKind::Kind)),
     }
 }
 
 // A set with the values of items in it.
 #[cycle(eval)]
 #[tactic(auto, using(crate::proofs::Steps::items_steps, crate::proofs::Weights::weight_in))]
-fn add_items(
-    scope: &Scope<'_>,
-    names: &Names<'_>,
-    items: &[Expr],
-    atoms: GrowingSet,
-) -> Result<GrowingSet, EvalFault>
-    ensures { Gives result (with_items scope.now.content.now scope.now.uses (env_in names.now) items.now atoms) }
+fn add_items(scope: &Scope<'_>, items: &[Expr], atoms: GrowingSet) -> Result<GrowingSet, EvalFault>
+    ensures { Gives result (under scope.now with_items items.now atoms) }
 {
     let mut atoms = atoms;
     for item in items {
-        atoms = add_item(scope, names, item, atoms)?;
+        atoms = add_item(scope, item, atoms)?;
     }
     Ok(atoms)
 }
 
 // A set with the value of an item in it.
 #[cycle(eval)]
-fn add_item(
-    scope: &Scope<'_>,
-    names: &Names<'_>,
-    item: &Expr,
-    atoms: GrowingSet,
-) -> Result<GrowingSet, EvalFault>
-    ensures { Gives result (and_then (worth scope.now.content.now scope.now.uses (env_in names.now) item.now) (λ v.
+fn add_item(scope: &Scope<'_>, item: &Expr, atoms: GrowingSet) -> Result<GrowingSet, EvalFault>
+    ensures { Gives result (and_then (under scope.now worth item.now) (λ v.
         and_then (as_atom v) (λ a. added atoms a))) }
 {
-    let value = eval_expr(scope, names, item)?;
+    let value = eval_expr(scope, item)?;
     with_item(scope.alloc, atoms, &value)
 }
 
@@ -472,21 +415,20 @@ fn add_item(
 #[tactic(auto, using(crate::proofs::FieldSteps::fields_steps, crate::proofs::Weights::weight_in))]
 fn eval_fields(
     scope: &Scope<'_>,
-    names: &Names<'_>,
     fields: &[Expr],
     sets: &[AtomSet],
     each: u64,
 ) -> Result<u64, EvalFault>
     ensures { Gives result (form.capped (form.scaled
-        (fields_worth scope.now.content.now scope.now.uses (env_in names.now) fields.now sets.now 0) each)) }
+        (under scope.now fields_worth fields.now sets.now 0) each)) }
 {
     let mut number = 0;
     let mut rest = sets;
     for field in fields {
         let Some((set, others)) = rest.split_first() else {
-            return Err(OUTSIDE);
+            return Err(Stop::Told(ValueKind::OutsideChannel));
         };
-        let place = eval_place(scope, names, field, set)?;
+        let place = eval_place(scope, field, set)?;
         number = with_field(number, set, place, each);
         rest = others;
     }
@@ -495,54 +437,39 @@ fn eval_fields(
 
 // The place of the value of an expression among the values of a field.
 #[cycle(eval)]
-fn eval_place(
-    scope: &Scope<'_>,
-    names: &Names<'_>,
-    expr: &Expr,
-    set: &AtomSet,
-) -> Result<u64, EvalFault>
-    ensures { Gives result (and_then (worth scope.now.content.now scope.now.uses (env_in names.now) expr.now) (λ v.
+fn eval_place(scope: &Scope<'_>, expr: &Expr, set: &AtomSet) -> Result<u64, EvalFault>
+    ensures { Gives result (and_then (under scope.now worth expr.now) (λ v.
         field_place set.now v)) }
 {
-    let value = eval_expr(scope, names, expr)?;
+    let value = eval_expr(scope, expr)?;
     place_in(set, &value)
 }
 
 // The number of fields among all choices of values of these sets, counted over the choices of those that are not given, up to the end of 64 bits.
 #[cycle(eval)]
 #[tactic(auto, using(crate::proofs::FieldSteps::counted_over))]
-fn eval_choice(
-    scope: &Scope<'_>,
-    names: &Names<'_>,
-    fields: &[Expr],
-    sets: &[AtomSet],
-) -> Result<u64, EvalFault>
+fn eval_choice(scope: &Scope<'_>, fields: &[Expr], sets: &[AtomSet]) -> Result<u64, EvalFault>
     ensures { Gives result (form.capped (form.scaled
-        (fields_worth scope.now.content.now scope.now.uses (env_in names.now) fields.now sets.now 0)
+        (under scope.now fields_worth fields.now sets.now 0)
         (form.each_of sets.now (length fields.now)))) }
 {
     let each = each_of(sets, fields.len());
-    eval_fields(scope, names, fields, sets, each)
+    eval_fields(scope, fields, sets, each)
 }
 
 /// The number of the first event of a channel that begins with these fields.
 #[cycle(eval)]
 #[tactic(auto, using(crate::proofs::FieldSteps::fronts_found, crate::proofs::Arms::event_steps))]
-pub(crate) fn eval_front(
-    scope: &Scope<'_>,
-    names: &Names<'_>,
-    channel: u32,
-    fields: &[Expr],
-) -> Result<u32, EvalFault>
-    ensures { Gives result (front_worth scope.now.content.now scope.now.uses (env_in names.now) channel fields.now) }
+pub(crate) fn eval_front(scope: &Scope<'_>, channel: u32, fields: &[Expr]) -> Result<u32, EvalFault>
+    ensures { Gives result (under scope.now front_worth channel fields.now) }
 {
     let channels = scope.content.channels();
     match field_sets(channels, channel) {
         Some(sets) => {
-            let place = eval_choice(scope, names, fields, sets)?;
+            let place = eval_choice(scope, fields, sets)?;
             Ok(event_at(channels, channel, place))
         }
-        None => Err(KIND),
+        None => Err(Stop::Told(ValueKind::Kind)),
     }
 }
 
@@ -551,15 +478,14 @@ pub(crate) fn eval_front(
 #[tactic(auto, using(crate::proofs::Steps::fronts_steps, crate::proofs::Weights::part_weight_in))]
 fn add_fronts(
     scope: &Scope<'_>,
-    names: &Names<'_>,
     parts: &[EventPart],
     atoms: GrowingSet,
 ) -> Result<GrowingSet, EvalFault>
-    ensures { Gives result (with_fronts scope.now.content.now scope.now.uses (env_in names.now) parts.now atoms) }
+    ensures { Gives result (under scope.now with_fronts parts.now atoms) }
 {
     let mut atoms = atoms;
     for part in parts {
-        atoms = add_front(scope, names, part, atoms)?;
+        atoms = add_front(scope, part, atoms)?;
     }
     Ok(atoms)
 }
@@ -569,14 +495,13 @@ fn add_fronts(
 #[tactic(auto, using(crate::proofs::Arms::event_steps, crate::proofs::Falls::weight_part))]
 fn add_front(
     scope: &Scope<'_>,
-    names: &Names<'_>,
     part: &EventPart,
     atoms: GrowingSet,
 ) -> Result<GrowingSet, EvalFault>
-    ensures { Gives result (with_front scope.now.content.now scope.now.uses (env_in names.now) part.now atoms) }
+    ensures { Gives result (under scope.now with_front part.now atoms) }
 {
     let channels = scope.content.channels();
-    let first = eval_front(scope, names, part.channel, part.fields.as_slice())?;
+    let first = eval_front(scope, part.channel, part.fields.as_slice())?;
     let count = count_with(channels, part.channel, part.fields.len());
     with_events(scope.alloc, atoms, first, count)
 }
@@ -584,22 +509,17 @@ fn add_front(
 // One more binding, and what it adds.
 #[cycle(eval)]
 #[tactic(auto, using(crate::proofs::Equations::binding_forms, crate::proofs::Arms::binding_steps))]
-fn gather(
-    scope: &Scope<'_>,
-    names: &Names<'_>,
-    yields: &Yield<'_>,
-    tally: Tally,
-) -> Result<Tally, EvalFault>
+fn gather(scope: &Scope<'_>, yields: &Yield<'_>, tally: Tally) -> Result<Tally, EvalFault>
     ensures { GivesTally result
         (one_more_binding scope.now.content.now scope.now.uses yields.now.items.now yields.now.parts.now
-        (env_in names.now) (gathered_of tally)) }
+        (env_in scope.now.names.now) (gathered_of tally)) }
 {
     let Tally { bindings, atoms } = tally;
     if bindings >= MOST_BINDINGS {
-        return Err(SET_LIMIT);
+        return Err(Stop::Told(ValueKind::SetLimit));
     }
-    let atoms = add_items(scope, names, yields.items, atoms)?;
-    let atoms = add_fronts(scope, names, yields.parts, atoms)?;
+    let atoms = add_items(scope, yields.items, atoms)?;
+    let atoms = add_fronts(scope, yields.parts, atoms)?;
     Ok(Tally {
         bindings: bindings + 1,
         atoms,
@@ -609,24 +529,19 @@ fn gather(
 // One step of a walk over generators, under the names around them.
 #[cycle(eval)]
 #[tactic(auto, using(crate::proofs::Courses::advance_steps))]
-fn advance(
-    scope: &Scope<'_>,
-    names: &Names<'_>,
-    gens: &[Gen],
-    walk: &mut Walk,
-) -> Result<Step, EvalFault>
-    requires { IsUnder names.now.bound.now walk.old }
-    ensures { GivesStep result (course scope.now.content.now scope.now.uses gens.now names.now walk.old)
-        (course scope.now.content.now scope.now.uses gens.now names.now walk.new)
-        (parameters names.now) names.now.bound.now walk.new }
+fn advance(scope: &Scope<'_>, gens: &[Gen], walk: &mut Walk) -> Result<Step, EvalFault>
+    requires { IsUnder scope.now.names.now.bound.now walk.old }
+    ensures { GivesStep result (course scope.now.content.now scope.now.uses gens.now scope.now.names.now walk.old)
+        (course scope.now.content.now scope.now.uses gens.now scope.now.names.now walk.new)
+        (parameters scope.now.names.now) scope.now.names.now.bound.now walk.new }
 {
     match walk.turn {
-        Some(place) => enter(scope, names, gens, place, walk),
+        Some(place) => enter(scope, gens, place, walk),
         None => {
-            let Some(frame) = pop(walk) else {
+            let Some(frame) = walk.pop() else {
                 return Ok(Step::End);
             };
-            take(walk, frame.name.0, frame.atoms, frame.next, frame.rest)?;
+            walk.take(frame.name.0, frame.atoms, frame.next, frame.rest)?;
             Ok(Step::On)
         }
     }
@@ -634,33 +549,33 @@ fn advance(
 
 // The step of a walk at a generator, or past all of them.
 #[cycle(eval)]
-fn enter(
-    scope: &Scope<'_>,
-    names: &Names<'_>,
-    gens: &[Gen],
-    place: usize,
-    walk: &mut Walk,
-) -> Result<Step, EvalFault>
-    requires under { IsUnder names.now.bound.now walk.old }
+fn enter(scope: &Scope<'_>, gens: &[Gen], place: usize, walk: &mut Walk) -> Result<Step, EvalFault>
+    requires under { IsUnder scope.now.names.now.bound.now walk.old }
     requires turn { walk.old.turn ≡ Some place }
-    ensures { GivesStep result (course scope.now.content.now scope.now.uses gens.now names.now walk.old)
-        (course scope.now.content.now scope.now.uses gens.now names.now walk.new)
-        (parameters names.now) names.now.bound.now walk.new }
+    ensures { GivesStep result (course scope.now.content.now scope.now.uses gens.now scope.now.names.now walk.old)
+        (course scope.now.content.now scope.now.uses gens.now scope.now.names.now walk.new)
+        (parameters scope.now.names.now) scope.now.names.now.bound.now walk.new }
 {
-    let inner = Names {
-        params: names.params,
-        args: names.args,
-        placed: names.placed,
-        bound: walk.bound(),
+    let names = Names {
+        params: scope.names.params,
+        args: scope.names.args,
+        placed: scope.names.placed,
+        bound: walk.bound_names(),
+    };
+    let inner = Scope {
+        alloc: scope.alloc,
+        content: scope.content,
+        uses: scope.uses,
+        names: &names,
     };
     match gens.get(place) {
         Some(Gen::From(slot, set)) => {
-            let atoms = eval_atoms(scope, &inner, set)?;
-            take(walk, *slot, atoms, 0, place + 1)?;
+            let atoms = eval_atoms(&inner, set)?;
+            walk.take(*slot, atoms, 0, place + 1)?;
             Ok(Step::On)
         }
         Some(Gen::Cond(condition)) => {
-            let holds = eval_truth(scope, &inner, condition)?;
+            let holds = eval_truth(&inner, condition)?;
             walk.turn = if holds { Some(place + 1) } else { None };
             Ok(Step::On)
         }
@@ -676,17 +591,16 @@ fn enter(
 #[tactic(auto, using(crate::proofs::Courses::step_less))]
 pub(crate) fn find_binding(
     scope: &Scope<'_>,
-    names: &Names<'_>,
     gens: &[Gen],
     walk: &mut Walk,
 ) -> Result<bool, EvalFault>
-    requires { IsUnder names.now.bound.now walk.old }
-    ensures { GivesBinding result (course scope.now.content.now scope.now.uses gens.now names.now walk.old)
-        (course scope.now.content.now scope.now.uses gens.now names.now walk.new)
-        (parameters names.now) names.now.bound.now walk.new }
+    requires { IsUnder scope.now.names.now.bound.now walk.old }
+    ensures { GivesBinding result (course scope.now.content.now scope.now.uses gens.now scope.now.names.now walk.old)
+        (course scope.now.content.now scope.now.uses gens.now scope.now.names.now walk.new)
+        (parameters scope.now.names.now) scope.now.names.now.bound.now walk.new }
 {
     'steps: loop {
-        match advance(scope, names, gens, walk)? {
+        match advance(scope, gens, walk)? {
             Step::On => {}
             Step::Binding => return Ok(true),
             Step::End => return Ok(false),
@@ -698,20 +612,18 @@ pub(crate) fn find_binding(
 #[cycle(eval)]
 fn gather_all(
     scope: &Scope<'_>,
-    names: &Names<'_>,
     gens: &[Gen],
     yields: &Yield<'_>,
     tally: Tally,
 ) -> Result<Tally, EvalFault>
     requires { IsSetValue tally.atoms }
     ensures { GivesTally result
-        (walk_worth scope.now.content.now scope.now.uses gens.now yields.now.items.now yields.now.parts.now
-        (env_in names.now) (gathered_of tally)) }
+        (walk_under scope.now gens.now yields.now (gathered_of tally)) }
 {
     if may_read(yields.items, yields.parts, gens) {
-        return gather_each(scope, names, gens, yields, tally);
+        return gather_each(scope, gens, yields, tally);
     }
-    gather_once(scope, names, gens, yields, tally)
+    gather_once(scope, gens, yields, tally)
 }
 
 // What all bindings of generators add, evaluated under each of them.
@@ -719,37 +631,41 @@ fn gather_all(
 #[tactic(auto, using(crate::proofs::Courses::gathering_steps))]
 fn gather_each(
     scope: &Scope<'_>,
-    names: &Names<'_>,
     gens: &[Gen],
     yields: &Yield<'_>,
     tally: Tally,
 ) -> Result<Tally, EvalFault>
     ensures { GivesTally result
-        (walk_worth scope.now.content.now scope.now.uses gens.now yields.now.items.now yields.now.parts.now
-        (env_in names.now) (gathered_of tally)) }
+        (walk_under scope.now gens.now yields.now (gathered_of tally)) }
 {
-    let mut walk = Walk::new(scope.alloc, names.bound)?;
+    let mut walk = Walk::new(scope.alloc, scope.names.bound)?;
     let mut tally = tally;
-    'bindings: while find_binding(scope, names, gens, &mut walk)? {
-        let inner = Names {
-            params: names.params,
-            args: names.args,
-            placed: names.placed,
-            bound: walk.bound(),
+    'bindings: while find_binding(scope, gens, &mut walk)? {
+        let names = Names {
+            params: scope.names.params,
+            args: scope.names.args,
+            placed: scope.names.placed,
+            bound: walk.bound_names(),
         };
-        tally = gather(scope, &inner, yields, tally)?;
+        let inner = Scope {
+            alloc: scope.alloc,
+            content: scope.content,
+            uses: scope.uses,
+            names: &names,
+        };
+        tally = gather(&inner, yields, tally)?;
     }
     Ok(tally)
 }
 
 // One more binding, which adds nothing.
-fn counted(tally: Tally) -> Result<Tally, EvalFault>
+fn count_binding(tally: Tally) -> Result<Tally, EvalFault>
     ensures tally { GivesTally result (gathered (λ _ atoms. Ok atoms) [] (gathered_of tally)) }
     ensures atoms { IfOk result (λ more. more.atoms ≡ tally.atoms) }
 {
     let Tally { bindings, atoms } = tally;
     if bindings >= MOST_BINDINGS {
-        return Err(SET_LIMIT);
+        return Err(Stop::Told(ValueKind::SetLimit));
     }
     Ok(Tally {
         bindings: bindings + 1,
@@ -762,7 +678,6 @@ fn counted(tally: Tally) -> Result<Tally, EvalFault>
 #[tactic(auto, using(crate::proofs::Courses::over_end, crate::proofs::Courses::binding_less))]
 fn gather_once(
     scope: &Scope<'_>,
-    names: &Names<'_>,
     gens: &[Gen],
     yields: &Yield<'_>,
     tally: Tally,
@@ -771,16 +686,15 @@ fn gather_once(
     requires items { All (Stays gens.now) yields.now.items.now }
     requires parts { All (PartStays gens.now) yields.now.parts.now }
     ensures { GivesTally result
-        (walk_worth scope.now.content.now scope.now.uses gens.now yields.now.items.now yields.now.parts.now
-        (env_in names.now) (gathered_of tally)) }
+        (walk_under scope.now gens.now yields.now (gathered_of tally)) }
 {
-    let mut walk = Walk::new(scope.alloc, names.bound)?;
-    if !find_binding(scope, names, gens, &mut walk)? {
+    let mut walk = Walk::new(scope.alloc, scope.names.bound)?;
+    if !find_binding(scope, gens, &mut walk)? {
         return Ok(tally);
     }
-    let mut tally = gather(scope, names, yields, tally)?;
-    'bindings: while find_binding(scope, names, gens, &mut walk)? {
-        tally = counted(tally)?;
+    let mut tally = gather(scope, yields, tally)?;
+    'bindings: while find_binding(scope, gens, &mut walk)? {
+        tally = count_binding(tally)?;
     }
     Ok(tally)
 }

@@ -56,25 +56,19 @@ fn reads(expr: &Expr, gens: &[Gen], left: &mut usize) -> bool
     }
     *left -= 1;
     match expr {
-        Expr::Num(_) => false,
-        Expr::Truth(_) => false,
-        Expr::Const(_) => false,
+        Expr::Num(_) | Expr::Truth(_) | Expr::Const(_) | Expr::Lit(_) | Expr::SetName(_) => false,
         Expr::Bound(name) => name_reads(*name, gens, left),
-        Expr::Lit(_) => false,
-        Expr::Neg(a) => reads(a.get(), gens, left),
-        Expr::Not(a) => reads(a.get(), gens, left),
+        Expr::Neg(a) | Expr::Not(a) => reads(a.get(), gens, left),
         Expr::If(c, a, b) => {
             if reads(c.get(), gens, left) || reads(a.get(), gens, left) {
                 return true;
             }
             reads(b.get(), gens, left)
         }
-        Expr::Call(_, args) => any_reads(args.as_slice(), gens, left),
-        Expr::SetName(_) => false,
-        Expr::Event(_, fields) => any_reads(fields.as_slice(), gens, left),
-        Expr::Display(items) => any_reads(items.as_slice(), gens, left),
-        Expr::Comp(_, _) => true,
-        Expr::Product(_, _) => true,
+        Expr::Call(_, parts) | Expr::Event(_, parts) | Expr::Display(parts) => {
+            any_reads(parts.as_slice(), gens, left)
+        }
+        Expr::Comp(_, _) | Expr::Product(_, _) => true,
         Expr::Binary(_, a, b) | Expr::Range(a, b) | Expr::SetOp(_, a, b) => {
             if reads(a.get(), gens, left) {
                 return true;

@@ -46,10 +46,46 @@ impl Walk {
     }
 
     /// The names that are bound, the last one bound at the end.
-    pub fn bound(&self) -> &[(u32, Atom)]
+    pub fn bound_names(&self) -> &[(u32, Atom)]
         ensures { result.now ≡ self.now.bound }
     {
         self.bound.as_slice()
+    }
+
+    /// Lets a name take the value at a place, where there is one; the generators from `rest` on come next.
+    pub(crate) fn take(
+        &mut self,
+        slot: u32,
+        atoms: AtomSet,
+        place: usize,
+        rest: usize,
+    ) -> Result<(), NoMemory>
+        ensures { OnOk result (self.new ≡ taken self.old slot atoms place rest) }
+    {
+        match atoms.get(place) {
+            Some(atom) => {
+                let frame = Frame {
+                    name: (slot, atom),
+                    atoms,
+                    next: place + 1,
+                    rest,
+                };
+                self.bound.push(frame.name)?;
+                self.frames.push(frame)?;
+                self.turn = Some(rest);
+            }
+            None => self.turn = None,
+        }
+        Ok(())
+    }
+
+    /// The last frame with its name, which are taken away.
+    pub(crate) fn pop(&mut self) -> Option<Frame>
+        ensures { IsPopped self.old self.new result }
+    {
+        let frame = self.frames.pop()?;
+        self.bound.pop();
+        Some(frame)
     }
 }
 
@@ -62,40 +98,4 @@ pub(crate) enum Step {
     Binding,
     /// No binding is left.
     End,
-}
-
-/// Lets a name take the value at a place, where there is one; the generators from `rest` on come next.
-pub(crate) fn take(
-    walk: &mut Walk,
-    slot: u32,
-    atoms: AtomSet,
-    place: usize,
-    rest: usize,
-) -> Result<(), NoMemory>
-    ensures { OnOk result (walk.new ≡ taken walk.old slot atoms place rest) }
-{
-    match atoms.get(place) {
-        Some(atom) => {
-            let frame = Frame {
-                name: (slot, atom),
-                atoms,
-                next: place + 1,
-                rest,
-            };
-            walk.bound.push(frame.name)?;
-            walk.frames.push(frame)?;
-            walk.turn = Some(rest);
-        }
-        None => walk.turn = None,
-    }
-    Ok(())
-}
-
-/// The last frame with its name, which are taken away.
-pub(crate) fn pop(walk: &mut Walk) -> Option<Frame>
-    ensures { IsPopped walk.old walk.new result }
-{
-    let frame = walk.frames.pop()?;
-    walk.bound.pop();
-    Some(frame)
 }

@@ -3,8 +3,8 @@
 ghost use Rattle.std.specs.Prelude.{◌≡◌, [], length};
 ghost use Rattle.csp_program.specs.Prelude.{and_then, as_set, value_of, value_within};
 ghost use Rattle.value_laws.specs.Numbers.{ChannelsFit};
-ghost use Rattle.value_operators.specs.Env.{env_in, parameters, with_bound};
-ghost use Rattle.value_operators.specs.Gives.{Gives};
+ghost use Rattle.value_operators.specs.Prelude.{env_in, parameters, Gives};
+ghost use Rattle.value_operators.specs.Env.{with_bound};
 ghost use Rattle.csp_values.specs.Worth.{worth, worths, front_worth};
 ghost use Rattle.csp_values.specs.Course.{GivesBinding, IsUnder, course_under};
 
@@ -20,18 +20,20 @@ use value_operators::names::Names;
 use value_operators::operators::to_set;
 
 // What evaluation of a whole expression goes by: no more uses are entered, one inside another, than there are definitions.
-fn whole_scope<'a>(alloc: Global, content: &'a Fitting<'a>) -> Scope<'a>
+fn whole_scope<'a>(alloc: Global, content: &'a Fitting<'a>, names: &'a Names<'a>) -> Scope<'a>
     ensures content { result.content.now ≡ content.now }
     ensures uses { result.uses ≡ length content.now.defs }
+    ensures names { result.names.now ≡ names.now }
 {
     Scope {
         alloc,
         content,
         uses: content.content().defs.len(),
+        names,
     }
 }
 
-/// The value of an expression of a program. A fault of kind `Value` comes exactly where it has none, with the kind of the first fault from the left.
+/// The value of an expression of a program. A fault is told exactly where it has none: the kind of the first one from the left.
 pub fn eval(alloc: Global, program: &Program, expr: &Expr) -> Result<Value, EvalFault>
     ensures { Gives result (value_of program.now expr.now) }
 {
@@ -50,7 +52,7 @@ pub fn eval_in(alloc: Global, content: &Content, expr: &Expr) -> Result<Value, E
 fn eval_fitting(alloc: Global, content: &Fitting<'_>, expr: &Expr) -> Result<Value, EvalFault>
     ensures { Gives result (value_of content.now expr.now) }
 {
-    eval_expr(&whole_scope(alloc, content), &names_under(&[]), expr)
+    eval_expr(&whole_scope(alloc, content, &names_under(&[])), expr)
 }
 
 /// The set that an expression of a program is worth. Faults are those of `eval`; a value that is no set has the kind `Kind`.
@@ -71,7 +73,7 @@ pub fn eval_with(
 ) -> Result<Value, EvalFault>
     ensures { Gives result (value_within program.now (length program.now.defs) expr.now (env_in names.now)) }
 {
-    eval_expr(&whole_scope(alloc, &Fitting::of(program)), names, expr)
+    eval_expr(&whole_scope(alloc, &Fitting::of(program), names), expr)
 }
 
 /// The values of expressions of a program under names with their values, from the left. Faults are those of `eval`, of the first that has one.
@@ -83,7 +85,7 @@ pub fn eval_all_with(
 ) -> Result<Items<Value>, EvalFault>
     ensures { Gives result (worths program.now (length program.now.defs) (env_in names.now) exprs.now) }
 {
-    eval_all(&whole_scope(alloc, &Fitting::of(program)), names, exprs)
+    eval_all(&whole_scope(alloc, &Fitting::of(program), names), exprs)
 }
 
 /// The value of an expression of a program under names that generators bind, the last one bound at the end. Faults are those of `eval`.
@@ -125,8 +127,8 @@ pub fn front_under(
         (with_bound bound.now []) channel fields.now) }
 {
     let content = Fitting::of(program);
-    let scope = whole_scope(alloc, &content);
-    eval_front(&scope, &names_under(bound), channel, fields)
+    let names = names_under(bound);
+    eval_front(&whole_scope(alloc, &content, &names), channel, fields)
 }
 
 /// Whether generators of a program have one more binding, under which the walk over them then stands. Faults are those of `eval`, of the generators from the left.
@@ -141,6 +143,6 @@ pub fn binding_under(
         (course_under program.now gens.now walk.new) [] [] walk.new }
 {
     let content = Fitting::of(program);
-    let scope = whole_scope(alloc, &content);
-    find_binding(&scope, &names_under(&[]), gens, walk)
+    let names = names_under(&[]);
+    find_binding(&whole_scope(alloc, &content, &names), gens, walk)
 }

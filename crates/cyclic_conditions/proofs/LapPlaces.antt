@@ -1,11 +1,6 @@
 -- The places of a component's lap, as its laps show them.
-use Rattle.cyclic_conditions.proofs.Prelude.{Bool, ◌≡◌, ℕ, zero, suc, ◌+◌, ◌-◌, ◌%◌, ◌^◌, ◌<◌, ◌≤◌, inl, inr, List, [], ◌∷◌, ◌++◌, length, cond, Option, Some, None, IsTrue, nat_lt, refl, sym, ap, subst, ◌∙◌, arith, replicate, slice_get, cases_lt, length-append, get_or_append_left, get_or-append_seam, mod_below, mod-eq_of_lt, add-mod_left, none-some, same_Some, slice_get_within, get_or-replicate, get_or_past, length-replicate, Tells, has, node_at, is_possible, part_at, LinksAreOrdered, Shape, is_end, part_form, count_in, count_below, BreaksOrder, Clash, IsReachedAt, links_of, ReachesLink, place_after, KeepsPlaces, BreaksCyclic, possible_within, end_within, observed, pair_at, lap_step, IsOwner, ends_below, ends_of, owner_end, IsFact, IsPossibleAt, HasFirst, AreFirsts, AreMore, AreNoted, IsNotedAt, ClashesWith, Disagree, AreClashing, first_at, links_in_order, IsOrder, order_at, IsBrokenOrder, Fact, table_of, AreLaps, Leads, links_along, shape_of, Laps}
-use Rattle.csp_base.specs.declared.stop.Stop.{Stop}
+use Rattle.cyclic_conditions.proofs.Prelude.{Bool, ◌≡◌, ℕ, zero, suc, ◌+◌, ◌-◌, ◌%◌, ◌^◌, ◌<◌, ◌≤◌, inl, inr, List, [], ◌∷◌, ◌++◌, length, cond, Option, Some, None, IsTrue, nat_lt, refl, sym, ap, subst, ◌∙◌, arith, replicate, slice_get, cases_lt, length-append, get_or_append_left, get_or-append_seam, mod_below, mod-eq_of_lt, add-mod_left, none-some, same_Some, slice_get_within, get_or-replicate, get_or_past, length-replicate, Tells, has, node_at, is_possible, part_at, LinksAreOrdered, Shape, is_end, part_form, count_in, count_below, BreaksOrder, Clash, IsReachedAt, links_of, ReachesLink, place_after, KeepsPlaces, BreaksCyclic, possible_within, end_within, observed, pair_at, lap_step, IsOwner, ends_below, ends_of, owner_end, IsFact, IsPossibleAt, HasFirst, AreFirsts, AreMore, AreNoted, IsNotedAt, ClashesWith, Disagree, AreClashing, first_at, links_in_order, IsOrder, order_at, IsBrokenOrder, Fact, table_of, AreLaps, Leads, links_along, shape_of, Laps, Stop, RuleFault, NoOrder, count_at_most, earlier, some_links, first_lap}
 use Rattle.csp_base.specs.declared.stop.Stop.TheVariants as stop
-use Rattle.design_rules.specs.declared.rule_fault.RuleFault.{RuleFault}
-use Rattle.design_rules.specs.declared.rule_fault.RuleFault.TheVariants.{NoOrder}
-use Rattle.design_rules.proofs.Counts.{count_at_most}
-use Rattle.design_rules.proofs.Places.{earlier, some_links, first_lap}
 use Rattle.cyclic_conditions.proofs.Noting.{first_within, one_more, clashing}
 
 -- ---- places

@@ -1,8 +1,5 @@
 -- Facts that are kept by the places of a lap.
-use Rattle.cyclic_conditions.proofs.Prelude.{arith, ◌≡◌, ℕ, ◌<◌, inl, inr, ◌⊎◌, List, length, Option, Some, None, true, refl, sym, ap, subst, ◌∙◌, slice_set, cases_eq, cases_lt, get_or-set_same, get_or-set_other, get_or_past, length-set, none-some, has, node_at, part_at, part_form, AreEnough, pair_at, IsOwner, IsFact, IsPossibleAt, first_at, HasFirst, AreFirsts, AreMore, IsNoted, IsNotedAt, Disagree, AreClashing, ClashesWith, Fact, table_of, AreLaps, shape_of, Laps}
-use Rattle.csp_tables.proofs.Runs.{node_form}
-use Rattle.design_rules.proofs.Shapes.{link_shared}
-use Rattle.observed_runs.proofs.Leading.{listed_step, step_listed}
+use Rattle.cyclic_conditions.proofs.Prelude.{arith, ◌≡◌, ℕ, ◌<◌, inl, inr, ◌⊎◌, List, length, Option, Some, None, true, refl, sym, ap, subst, ◌∙◌, slice_set, cases_eq, cases_lt, get_or-set_same, get_or-set_other, get_or_past, length-set, none-some, has, node_at, part_at, part_form, AreEnough, pair_at, IsOwner, IsFact, IsPossibleAt, first_at, HasFirst, AreFirsts, AreMore, IsNoted, IsNotedAt, Disagree, AreClashing, ClashesWith, Fact, table_of, AreLaps, shape_of, Laps, node_form, link_shared, listed_step, step_listed}
 
 -- a kept fact stands within the list
 pub first_within : (firsts : List (Option Fact)) (r l : ℕ) → HasFirst firsts r l → r < length firsts

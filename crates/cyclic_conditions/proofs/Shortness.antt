@@ -1,10 +1,5 @@
 -- Acceptances that fall short of a link, and the first node of an end that has one.
-use Rattle.cyclic_conditions.proofs.Prelude.{◌≡◌, ℕ, ◌+◌, ◌<◌, inl, inr, List, [], ◌∷◌, length, get_or, true, false, Option, Some, None, IsTrue, nat_eq, nat_le, refl, sym, ap, subst, ◌∙◌, arith, slice_set, unwrap_or, cases_Bool, cases_eq, cases_lt, both_ways, false≢true, or_right, get_or-set_same, get_or-set_other, get_or_read, length-set, none-some, same_Some, has, is_subset_of, IsReached, IsRun, end_of, node_at, Part, part_at, alphabets_of, TripleDisjoint, Shape, is_end, link_at, acceptance_at, IsWellFormed, part_form, AllKeepPlaces, FallsShort, IsWholeEnd, possible_within, end_within, IsOwner, IsOnOne, IsShort, IsAcceptance, IsShortBy, IsShortAt, Before, IsFirstShort, short_at, AreShorts, FallsFirst, on_one, owner_end, find_has, has_first}
-use Rattle.std.specs.List.{find}
-use Rattle.cyclic_conditions.specs.declared.shorts.Shorts.{Shorts}
-use Rattle.csp_base.proofs.Booleans.{and_second_false}
-use Rattle.csp_base.proofs.Rising.{member_of_superset, is_subset_of_from_members}
-use Rattle.design_rules.proofs.Accepting.{at_place, set_shared}
+use Rattle.cyclic_conditions.proofs.Prelude.{◌≡◌, ℕ, ◌+◌, ◌<◌, inl, inr, List, [], ◌∷◌, length, get_or, true, false, Option, Some, None, IsTrue, nat_eq, nat_le, refl, sym, ap, subst, ◌∙◌, arith, slice_set, unwrap_or, cases_Bool, cases_eq, cases_lt, both_ways, false≢true, or_right, get_or-set_same, get_or-set_other, get_or_read, length-set, none-some, same_Some, has, is_subset_of, IsReached, IsRun, end_of, node_at, Part, part_at, alphabets_of, TripleDisjoint, Shape, is_end, link_at, acceptance_at, IsWellFormed, part_form, AllKeepPlaces, FallsShort, IsWholeEnd, possible_within, end_within, IsOwner, IsOnOne, IsShort, IsAcceptance, IsShortBy, IsShortAt, Before, IsFirstShort, short_at, AreShorts, FallsFirst, on_one, owner_end, find_has, has_first, find, Shorts, and_second_false, member_of_superset, is_subset_of_from_members, at_place, set_shared}
 
 -- ---- sets
 

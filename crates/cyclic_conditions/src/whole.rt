@@ -2,8 +2,8 @@
 
 ghost use Rattle.std.specs.Prelude.{◌<◌, ℕ, IfErr, OnOk, length};
 ghost use Rattle.csp_base.specs.Prelude.{Tells};
-ghost use Rattle.design_rules.specs.Cyclic.{AllKeepPlaces, CanBeNumbered, HasWholeEnd};
-ghost use Rattle.design_rules.specs.Prelude.{BreaksCyclic};
+ghost use Rattle.design_rules.specs.Prelude.{AllKeepPlaces, HasWholeEnd, BreaksCyclic};
+ghost use Rattle.design_rules.specs.Cyclic.{CanBeNumbered};
 ghost use Rattle.cyclic_conditions.specs.Shorts.{AreAllShorts};
 ghost use Rattle.cyclic_conditions.specs.Told.{TellsFirst};
 

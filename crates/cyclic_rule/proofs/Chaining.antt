@@ -1,11 +1,5 @@
 -- Numbers that rise from each link to the next one of a part rise along all orders.
-use Rattle.cyclic_rule.proofs.Prelude.{◌≡◌, ℕ, zero, suc, ◌+◌, ◌-◌, ◌%◌, ◌<◌, ◌≤◌, inl, inr, List, [], length, get_or, true, false, Some, sym, ap, subst, ◌∙◌, arith, slice_get, cases_Bool, cases_eq, both_ways, get_or_read, slice_get_within, get_or_from_slice_get, same_Some, mod_below, mod-le, has, Shape, IsWellFormed, links_of, place_after, AllKeepPlaces, MustPrecede, NumbersRise, ComesAfter, AreChainNumbers, ends_of, Adds, IsNextIn, IsRestAfter, ComesNext, IsNextAt, ends_sound, ends_complete, place_in, has_place, some_at}
-use Rattle.digraph.specs.Walk.{IsLongestWalk}
-use Rattle.digraph.proofs.WalkLaws.{same_walk}
-use Rattle.design_rules.proofs.Places.{Keeping, some_links, first_lap, precedes, precedes_rest}
-use Rattle.design_rules.proofs.Walks.{walk_bound}
-use Rattle.cyclic_conditions.specs.Orders.{IsOrder, order_at, AreOrders}
-use Rattle.csp_base.proofs.Listed.{has_at}
+use Rattle.cyclic_rule.proofs.Prelude.{◌≡◌, ℕ, zero, suc, ◌+◌, ◌-◌, ◌%◌, ◌<◌, ◌≤◌, inl, inr, List, [], length, get_or, true, false, Some, sym, ap, subst, ◌∙◌, arith, slice_get, cases_Bool, cases_eq, both_ways, get_or_read, slice_get_within, get_or_from_slice_get, same_Some, mod_below, mod-le, has, Shape, IsWellFormed, links_of, place_after, AllKeepPlaces, MustPrecede, NumbersRise, ComesAfter, AreChainNumbers, ends_of, Adds, IsNextIn, IsRestAfter, ComesNext, IsNextAt, ends_sound, ends_complete, place_in, has_place, some_at, IsLongestWalk, same_walk, Keeping, some_links, first_lap, precedes, precedes_rest, walk_bound, IsOrder, order_at, AreOrders, has_at}
 
 -- ---- orders and numbers
 

@@ -11,7 +11,7 @@ use crate::ends::turned_ends;
 use containers::Items;
 use csp_base::{NoMemory, Stop};
 use design_rules::RuleFault;
-use digraph::{Fault, Heights, Rows, longest_walks};
+use digraph::{Heights, Rows, longest_walks};
 use shape_links::SortedShape;
 use std::alloc::Global;
 
@@ -32,11 +32,11 @@ pub(crate) fn numbers(
     let rows = chains(alloc, sorted, orders)?;
     match longest_walks(alloc, &rows) {
         Ok(heights) => Ok(heights),
-        Err(Fault::Circle(circle)) => {
+        Err(Stop::Told(circle)) => {
             let links = turned_ends(alloc, form, circle.members())?;
             Err(Stop::Told(RuleFault::LinksCircle { links }))
         }
-        Err(Fault::NoMemory) => Err(Stop::NoMemory),
+        Err(Stop::NoMemory) => Err(Stop::NoMemory),
     }
 }
 

@@ -1,10 +1,5 @@
 -- What definitions are, from what is found of them.
-use Rattle.definition_kinds.proofs.Prelude.{◌≡◌, ℕ, suc, ◌+◌, ◌<◌, Bool, false, List, [], ◌∷◌, ◌++◌, inl, inr, length, take, get_or, refl, sym, ap, ◌∙◌, subst, arith, slice_get, Vec, ◌↔◌, IsTrue, if◌then◌else◌, flat_map, Global, fun_ext, get_or-append_seam, cases_Bool, cases_lt, false≢true, get_or_append_left, length-append, take_more, slice_get_within, has, Decl, AreKindsOf, HasClass, LeadsTo, body_ends, first_ends, script_ends, Entities, declared, first_of, meanings_of, End, rows, AreLeading, AreReached, marked, Class}
-use Rattle.script_names.specs.declared.kinds.Kind.{Kind}
-use Rattle.name_tables.specs.Firsts.{SameFirsts}
-use Rattle.definition_kinds.specs.declared.kinds.Found.{Found}
-use Rattle.definition_kinds.specs.Found.{AreFound, IsFound, class_found, kind_found}
-use Rattle.csp_base.proofs.Lists.{push_cases}
+use Rattle.definition_kinds.proofs.Prelude.{◌≡◌, ℕ, suc, ◌+◌, ◌<◌, Bool, false, List, [], ◌∷◌, ◌++◌, inl, inr, length, take, get_or, refl, sym, ap, ◌∙◌, subst, arith, slice_get, Vec, ◌↔◌, IsTrue, if◌then◌else◌, flat_map, Global, fun_ext, get_or-append_seam, cases_Bool, cases_lt, false≢true, get_or_append_left, length-append, take_more, slice_get_within, has, Decl, AreKindsOf, HasClass, LeadsTo, body_ends, first_ends, script_ends, Entities, declared, first_of, meanings_of, End, rows, AreLeading, AreReached, marked, Class, Kind, SameFirsts, Found, AreFound, IsFound, class_found, kind_found, push_cases}
 
 pub found_step : (found : Found) (d : ℕ) (kinds new : List Kind) (kind : Kind) → new ≡ kinds ++ kind ∷ [] → kind ≡ kind_found found d → AreFound found d kinds → AreFound found (d + 1) new
 found_step found d kinds new kind new_is is so_far = record {

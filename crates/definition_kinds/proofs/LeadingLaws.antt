@@ -1,8 +1,5 @@
 -- Following ends is walking over arcs that are turned round.
-use Rattle.definition_kinds.proofs.Prelude.{◌≡◌, ℕ, zero, suc, ◌<◌, true, false, nat_eq, eq-eqb, List, [], ◌∷◌, ◌⊎◌, inl, inr, length, refl, sym, ap, ◌∙◌, subst, arith, Some, None, slice_get, or_cases, or_left, eqb-true, false≢true, cases_lt, lt-ltb, ltb-true, slice_get_past, any_passes_from_place, has, LeadsTo, here, beyond, ends_at, End, AreReached, comes_from, is_last, some_from}
-use Rattle.std.proofs.Common.{◌↔◌, IsTrue}
-use Rattle.digraph.specs.Prelude.{Digraph, has_arc, HasArc, Walk, Reaches, ReachesFrom}
-use Rattle.digraph.proofs.WalkLaws.{Reaches-arc, Reaches-itself}
+use Rattle.definition_kinds.proofs.Prelude.{◌≡◌, ℕ, zero, suc, ◌<◌, true, false, nat_eq, eq-eqb, List, [], ◌∷◌, ◌⊎◌, inl, inr, length, refl, sym, ap, ◌∙◌, subst, arith, Some, None, slice_get, or_cases, or_left, eqb-true, false≢true, cases_lt, lt-ltb, ltb-true, slice_get_past, any_passes_from_place, has, LeadsTo, here, beyond, ends_at, End, AreReached, comes_from, is_last, some_from, ◌↔◌, IsTrue, Digraph, has_arc, HasArc, Walk, Reaches, ReachesFrom, Reaches-arc, Reaches-itself}
 use Rattle.definition_kinds.proofs.SourceLaws.{from_last, from_use, place_of, source_cases}
 
 only_source : (n s : ℕ) → has (n ∷ []) s ≡ true → s ≡ n

@@ -1,8 +1,5 @@
 -- Which vertices ends come from.
-use Rattle.definition_kinds.proofs.Prelude.{◌≡◌, ℕ, suc, Bool, true, false, nat_lt, eq-eqb, List, [], ◌∷◌, ◌⊎◌, inl, inr, refl, sym, ap, ◌∙◌, Some, None, slice_get, End, is_last, is_vertex, comes_from}
-use Rattle.std.proofs.Common.{if◌then◌else◌}
-use Rattle.std.specs.List.{list_any}
-use Rattle.std.proofs.lemmas.Bool.{or_cases, eqb-true, false≢true}
+use Rattle.definition_kinds.proofs.Prelude.{◌≡◌, ℕ, suc, Bool, true, false, nat_lt, eq-eqb, List, [], ◌∷◌, ◌⊎◌, inl, inr, refl, sym, ap, ◌∙◌, Some, None, slice_get, End, is_last, is_vertex, comes_from, if◌then◌else◌, list_any, or_cases, eqb-true, false≢true}
 
 last_same : (target e : End) → is_last target e ≡ true → e ≡ target
 last_same End.Data End.Data h = refl

@@ -8,10 +8,16 @@ ghost use Rattle.dl_limits.specs.declared.TheConstants.{MOST_BYTES};
 ghost use Rattle.name_tables.specs.Ends.{rows};
 ghost use Rattle.script_names.specs.Kinds.{ends_at};
 
-use csp_base::NoMemory;
 use digraph::Rows;
-use script_names::End;
+use script_names::{End, Made};
 use std::alloc::Global;
+
+// What is looked for: an end, from so many definitions.
+#[derive(Clone, Copy)]
+struct Sought {
+    count: u32,
+    target: End,
+}
 
 // Whether an end is the one looked for; no process and no use is.
 fn is_last(target: End, end: End) -> bool
@@ -25,14 +31,14 @@ fn is_last(target: End, end: End) -> bool
 }
 
 // The vertex that an end comes from, if it has one.
-fn source_of(count: u32, target: End, end: End) -> Option<u32>
-    ensures { result ≡ meant.source_of count target end }
+fn source_of(sought: Sought, end: End) -> Option<u32>
+    ensures { result ≡ meant.source_of sought.count sought.target end }
 {
     match end {
-        End::Use(d) => { if d < count { Some(d) } else { None } }
+        End::Use(d) => { if d < sought.count { Some(d) } else { None } }
         End::Data | End::Process | End::Parallel | End::Nothing => {
-            if is_last(target, end) {
-                Some(count)
+            if is_last(sought.target, end) {
+                Some(sought.count)
             } else {
                 None
             }
@@ -41,14 +47,15 @@ fn source_of(count: u32, target: End, end: End) -> Option<u32>
 }
 
 // Adds the arc to the definition `d` that one of its ends makes.
-fn add_end(rows: &mut Rows, count: u32, target: End, d: u32, end: End) -> Result<(), NoMemory>
-    requires count { length rows.old ≡ count + 1 }
-    requires in_range { d < count }
+fn add_end(rows: &mut Rows, sought: Sought, d: u32, end: End) -> Made<()>
+    requires count { length rows.old ≡ sought.count + 1 }
+    requires in_range { d < sought.count }
     ensures len { length rows.new ≡ length rows.old }
     ensures arcs { OnOk result ((v w : ℕ) →
-        has_arc rows.new v w ≡ (has_arc rows.old v w || (meant.comes_from count target v end && nat_eq w d))) }
+        has_arc rows.new v w
+        ≡ (has_arc rows.old v w || (meant.comes_from sought.count sought.target v end && nat_eq w d))) }
 {
-    match source_of(count, target, end) {
+    match source_of(sought, end) {
         Some(v) => {
             rows.add_arc(v, d)?;
             Ok(())
@@ -58,21 +65,22 @@ fn add_end(rows: &mut Rows, count: u32, target: End, d: u32, end: End) -> Result
 }
 
 // Adds the arcs to the definition `d` that its ends make.
-fn add_ends(rows: &mut Rows, count: u32, target: End, d: u32, ends: &[End]) -> Result<(), NoMemory>
-    requires count { length rows.old ≡ count + 1 }
-    requires in_range { d < count }
+fn add_ends(rows: &mut Rows, sought: Sought, d: u32, ends: &[End]) -> Made<()>
+    requires count { length rows.old ≡ sought.count + 1 }
+    requires in_range { d < sought.count }
     ensures len { length rows.new ≡ length rows.old }
     ensures arcs { OnOk result ((v w : ℕ) →
-        has_arc rows.new v w ≡ (has_arc rows.old v w || (meant.some_from count target v ends.now && nat_eq w d))) }
+        has_arc rows.new v w
+        ≡ (has_arc rows.old v w || (meant.some_from sought.count sought.target v ends.now && nat_eq w d))) }
 {
     for end in ends {
-        add_end(rows, count, target, d, *end)?;
+        add_end(rows, sought, d, *end)?;
     }
     Ok(())
 }
 
 // So many vertices and one more, without an arc.
-fn no_arcs(alloc: Global, count: u32) -> Result<Rows, NoMemory>
+fn no_arcs(alloc: Global, count: u32) -> Made<Rows>
     requires { count ≤ MOST_BYTES }
     ensures { IfOk result (λ made. made ≡ replicate (count + 1) []) }
 {
@@ -80,22 +88,18 @@ fn no_arcs(alloc: Global, count: u32) -> Result<Rows, NoMemory>
 }
 
 /// The digraph of these definitions. The vertex `count`, which is their number, stands for the end that is looked for.
-pub fn turned_round(
-    alloc: Global,
-    all: &[Vec<End>],
-    count: u32,
-    target: End,
-) -> Result<Rows, NoMemory>
+pub fn turn_round(alloc: Global, all: &[Vec<End>], count: u32, target: End) -> Made<Rows>
     requires count { length all.now ≡ count }
     requires few { count ≤ MOST_BYTES }
     ensures len { IfOk result (λ made. length made ≡ count + 1) }
     ensures arcs { IfOk result (λ made. (v w : ℕ) →
         has_arc made v w ≡ meant.some_from count target v (ends_at (slice_get (rows all.now) w))) }
 {
+    let sought = Sought { count, target };
     let mut rows = no_arcs(alloc, count)?;
     let mut d: u32 = 0;
     for ends in all {
-        add_ends(&mut rows, count, target, d, ends.as_slice())?;
+        add_ends(&mut rows, sought, d, ends.as_slice())?;
         d += 1;
     }
     Ok(rows)

@@ -2,21 +2,19 @@
 
 ghost use Rattle.std.specs.Prelude.{◌≡◌, ◌≤◌, length, IfOk};
 ghost use Rattle.definition_kinds.specs.Found.{AreFound, IsFound};
-ghost use Rattle.definition_kinds.specs.Found as meant;
 ghost use Rattle.definition_kinds.specs.Sources.{AreLeading};
+ghost use Rattle.definition_kinds.specs.Found as meant;
 ghost use Rattle.dl_limits.specs.declared.TheConstants.{MOST_BYTES};
-ghost use Rattle.name_tables.specs.Ends.{rows};
-ghost use Rattle.name_tables.specs.Firsts.{SameFirsts};
-ghost use Rattle.script_names.specs.Kinds.{AreKinds, AreKindsOf, first_ends as firsts_of};
-ghost use Rattle.script_names.specs.Names.{declared};
+ghost use Rattle.name_tables.specs.Prelude.{rows, SameFirsts};
+ghost use Rattle.script_names.specs.Prelude.{AreKinds, AreKindsOf, declared};
+ghost use Rattle.script_names.specs.Kinds.{first_ends as firsts_of};
 ghost use Rattle.script_sizes.specs.Size.{size};
 
-use crate::leading::{first_ends, is_marked, leading};
-use csp_base::NoMemory;
+use crate::leading::{first_ends, is_marked, mark_leading};
 use csp_text::Decl;
 use name_tables::Dictionary;
 use name_tables::ends::ends_of_all;
-use script_names::{Class, End, Kind};
+use script_names::{Class, End, Kind, Made};
 use std::alloc::Global;
 
 // What was found of each definition.
@@ -33,15 +31,15 @@ struct Found {
 impl Drop for Found {
     fn drop(self) {
         let Found {
-            data: _data,
-            nothing: _nothing,
-            networks: _networks,
+            data,
+            nothing,
+            networks,
         } = self;
     }
 }
 
 /// What each definition of a script is, where `names` are its declared names.
-pub fn kinds_of(alloc: Global, decls: &[Decl], names: &Dictionary) -> Result<Vec<Kind>, NoMemory>
+pub fn kinds_of(alloc: Global, decls: &[Decl], names: &Dictionary) -> Made<Vec<Kind>>
     requires names { SameFirsts names.now (declared decls.now) }
     requires few { size decls.now ≤ MOST_BYTES }
     ensures { IfOk result (λ kinds. AreKinds decls.now kinds.items) }
@@ -52,22 +50,22 @@ pub fn kinds_of(alloc: Global, decls: &[Decl], names: &Dictionary) -> Result<Vec
 }
 
 // What definitions with these ends are.
-fn kinds_among(alloc: Global, all: &[Vec<End>]) -> Result<Vec<Kind>, NoMemory>
+fn kinds_among(alloc: Global, all: &[Vec<End>]) -> Made<Vec<Kind>>
     requires { length all.now ≤ MOST_BYTES }
     ensures { IfOk result (λ kinds. AreKindsOf (rows all.now) kinds.items) }
 {
-    let found = found_among(alloc, all)?;
+    let found = find_among(alloc, all)?;
     let kinds = kinds_found(alloc, &found, all.len())?;
     Ok(kinds)
 }
 
 // What is found of definitions with these ends.
-fn found_among(alloc: Global, all: &[Vec<End>]) -> Result<Found, NoMemory>
+fn find_among(alloc: Global, all: &[Vec<End>]) -> Made<Found>
     requires { length all.now ≤ MOST_BYTES }
     ensures { IfOk result (IsFound (rows all.now)) }
 {
     let (data, nothing) = classes_among(alloc, all)?;
-    let networks = leading(alloc, all, End::Parallel)?;
+    let networks = mark_leading(alloc, all, End::Parallel)?;
     Ok(Found {
         data,
         nothing,
@@ -76,18 +74,18 @@ fn found_among(alloc: Global, all: &[Vec<End>]) -> Result<Found, NoMemory>
 }
 
 // Which definitions with these ends are data, and which end at a name without a meaning.
-fn classes_among(alloc: Global, all: &[Vec<End>]) -> Result<(Vec<bool>, Vec<bool>), NoMemory>
+fn classes_among(alloc: Global, all: &[Vec<End>]) -> Made<(Vec<bool>, Vec<bool>)>
     requires { length all.now ≤ MOST_BYTES }
     ensures data { IfOk result (λ marks. AreLeading End.Data (firsts_of (rows all.now)) marks.0.items) }
     ensures nothing { IfOk result (λ marks. AreLeading End.Nothing (firsts_of (rows all.now)) marks.1.items) }
 {
     let firsts = first_ends(alloc, all)?;
-    let data = leading(alloc, firsts.as_slice(), End::Data)?;
-    leading(alloc, firsts.as_slice(), End::Nothing).map(|nothing| (data, nothing))
+    let data = mark_leading(alloc, firsts.as_slice(), End::Data)?;
+    mark_leading(alloc, firsts.as_slice(), End::Nothing).map(|nothing| (data, nothing))
 }
 
 // What so many definitions are.
-fn kinds_found(alloc: Global, found: &Found, count: usize) -> Result<Vec<Kind>, NoMemory>
+fn kinds_found(alloc: Global, found: &Found, count: usize) -> Made<Vec<Kind>>
     requires { count ≤ MOST_BYTES }
     ensures { IfOk result (λ kinds. AreFound found.now count kinds.items) }
 {

@@ -8,15 +8,14 @@ ghost use Rattle.dl_limits.specs.declared.TheConstants.{MOST_BYTES};
 ghost use Rattle.name_tables.specs.Ends.{rows};
 ghost use Rattle.script_names.specs.Kinds as meant;
 
-use crate::arcs::turned_round;
+use crate::arcs::turn_round;
 use containers::Numbering;
-use csp_base::NoMemory;
 use digraph::reachable_from;
-use script_names::End;
+use script_names::{End, Made};
 use std::alloc::Global;
 
 /// For each definition whether it leads to `target`, which is data, a parallel or no meaning.
-pub fn leading(alloc: Global, all: &[Vec<End>], target: End) -> Result<Vec<bool>, NoMemory>
+pub fn mark_leading(alloc: Global, all: &[Vec<End>], target: End) -> Made<Vec<bool>>
     requires last { is_last target target ≡ true }
     requires few { length all.now ≤ MOST_BYTES }
     ensures { IfOk result (λ marks. AreLeading target (rows all.now) marks.items) }
@@ -28,24 +27,19 @@ pub fn leading(alloc: Global, all: &[Vec<End>], target: End) -> Result<Vec<bool>
 }
 
 // The vertices that are reached from the one that stands for the target.
-fn vertices_from(
-    alloc: Global,
-    all: &[Vec<End>],
-    count: u32,
-    target: End,
-) -> Result<Numbering<u32>, NoMemory>
+fn vertices_from(alloc: Global, all: &[Vec<End>], count: u32, target: End) -> Made<Numbering<u32>>
     requires count { length all.now ≡ count }
     requires few { count ≤ MOST_BYTES }
     requires last { is_last target target ≡ true }
     ensures { IfOk result (AreReached target (rows all.now)) }
 {
-    let rows = turned_round(alloc, all, count, target)?;
+    let rows = turn_round(alloc, all, count, target)?;
     let found = reachable_from(alloc, &rows, &[count])?;
     Ok(found)
 }
 
 // For each number below `count` whether it is found.
-fn marks_of(alloc: Global, found: &Numbering<u32>, count: u32) -> Result<Vec<bool>, NoMemory>
+fn marks_of(alloc: Global, found: &Numbering<u32>, count: u32) -> Made<Vec<bool>>
     ensures { IfOk result (λ marks. (d : ℕ) → d < count → sources.marked marks.items d ≡ has found.now d) }
 {
     let mut marks = Vec::new(alloc);
@@ -75,7 +69,7 @@ pub fn is_marked(marks: &[bool], d: u32) -> bool
 }
 
 /// The first end of each definition.
-pub fn first_ends(alloc: Global, all: &[Vec<End>]) -> Result<Vec<Vec<End>>, NoMemory>
+pub fn first_ends(alloc: Global, all: &[Vec<End>]) -> Made<Vec<Vec<End>>>
     ensures { IfOk result (λ firsts. rows firsts.items ≡ meant.first_ends (rows all.now)) }
 {
     let mut firsts = Vec::new(alloc);
@@ -86,7 +80,7 @@ pub fn first_ends(alloc: Global, all: &[Vec<End>]) -> Result<Vec<Vec<End>>, NoMe
 }
 
 // Puts the first end of a definition at the end.
-fn push_first(alloc: Global, firsts: &mut Vec<Vec<End>>, ends: &[End]) -> Result<(), NoMemory>
+fn push_first(alloc: Global, firsts: &mut Vec<Vec<End>>, ends: &[End]) -> Made<()>
     ensures { OnOk result (rows firsts.new.items ≡ rows firsts.old.items ++ take 1 ends.now ∷ []) }
 {
     let first = first_end(alloc, ends)?;
@@ -95,7 +89,7 @@ fn push_first(alloc: Global, firsts: &mut Vec<Vec<End>>, ends: &[End]) -> Result
 }
 
 // The first end of a definition.
-fn first_end(alloc: Global, ends: &[End]) -> Result<Vec<End>, NoMemory>
+fn first_end(alloc: Global, ends: &[End]) -> Made<Vec<End>>
     ensures { IfOk result (λ first. first.items ≡ take 1 ends.now) }
 {
     let mut first = Vec::new(alloc);

@@ -1,6 +1,5 @@
 -- Tests of written-out shapes: each computes, and has what it shows. For examples.
-use Rattle.design_rules.proofs.Prelude.{◌≡◌, ℕ, zero, suc, ◌+◌, ◌<◌, ◌≤◌, ◌⊎◌, inl, inr, ℤ, List, [], ◌∷◌, ◌++◌, length, get_or, Bool, true, false, not, ◌&&◌, ◌||◌, cond, nat_eq, nat_le, nat_lt, refl, sym, ap, subst, ◌∙◌, arith, eqb-true, leb-true, ltb-true, cases_Bool, cases_eq, cases_lt, and_parts, and_from, or_cases, both_ways, false≢true, cond-true, cond-false, not-true, flat_map, list_any, get_or-eq_default, Decides-int_eq, has, any_member, IsWithin, AreApart, Meet, Node, no_node, node_at, is_possible, target, node_after, IsRun, end_of, part_at, sharers, Shape, count_in, is_odd, PartShared, end_push}
-use Rattle.std.specs.Ordering.{int_eq}
+use Rattle.design_rules.proofs.Prelude.{◌≡◌, ℕ, zero, suc, ◌+◌, ◌<◌, ◌≤◌, ◌⊎◌, inl, inr, ℤ, List, [], ◌∷◌, ◌++◌, length, get_or, Bool, true, false, not, ◌&&◌, ◌||◌, cond, nat_eq, nat_le, nat_lt, refl, sym, ap, subst, ◌∙◌, arith, eqb-true, leb-true, ltb-true, cases_Bool, cases_eq, cases_lt, and_parts, and_from, or_cases, both_ways, false≢true, cond-true, cond-false, not-true, flat_map, list_any, get_or-eq_default, Decides-int_eq, has, any_member, IsWithin, AreApart, Meet, Node, no_node, node_at, is_possible, target, node_after, IsRun, end_of, part_at, sharers, Shape, count_in, is_odd, PartShared, end_push, int_eq}
 use Rattle.design_rules.proofs.Holders.{odd_more, odd_same}
 use Rattle.design_rules.proofs.Linking.{some_alphabet}
 use Rattle.design_rules.proofs.Runs.{run_induction}

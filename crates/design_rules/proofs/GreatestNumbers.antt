@@ -1,6 +1,5 @@
 -- The greatest number of a ranking: no rank at a place is above it, and it is 0 or the rank at some place.
-use Rattle.design_rules.proofs.Prelude.{◌≡◌, ℕ, zero, suc, ◌≤◌, ◌⊎◌, inl, inr, ℤ, pos, max, List, [], ◌∷◌, ◌++◌, get_or, refl, sym, ◌∙◌, arith, cases_lt, flat_map, PartRanks, Ranking, part_ranks, rank_at, natural, greatest_rank}
-use Rattle.design_rules.specs.RankCounts.{greatest_from}
+use Rattle.design_rules.proofs.Prelude.{◌≡◌, ℕ, zero, suc, ◌≤◌, ◌⊎◌, inl, inr, ℤ, pos, max, List, [], ◌∷◌, ◌++◌, get_or, refl, sym, ◌∙◌, arith, cases_lt, flat_map, PartRanks, Ranking, part_ranks, rank_at, natural, greatest_rank, greatest_from}
 
 greatest_append : (m : ℕ) (xs ys : List ℤ) → greatest_from m (xs ++ ys) ≡ greatest_from (greatest_from m xs) ys
 greatest_append m [] ys = refl

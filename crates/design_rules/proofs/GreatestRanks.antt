@@ -3,8 +3,8 @@
 -- At an acceptance in the vocabulary that is not empty the ranking has exactly the rank by the rule, since longest walks have one length; everywhere else it
 -- has 0. And each such acceptance has a rank. So the greatest number is attained there, or it is 0. The ranks by tables are those by steps, since the shape
 -- and the network are alike.
-use Rattle.design_rules.proofs.Prelude.{◌≡◌, ℕ, zero, suc, ◌+◌, ◌-◌, ◌*◌, ◌<◌, ◌≤◌, ◌⊎◌, inl, inr, pos, ◌-ℤ◌, max, List, [], ◌∷◌, length, true, false, cond, IsTrue, nat_eq, refl, sym, ap, ap₂, subst, ◌∙◌, arith, eq-eqb, cases_Bool, cases_lt, both_ways, or_left, false≢true, ints, get_or-eq_default, has, natural, IsLongestWalk, same_longest, Label, node_at, end_of, IsWithin, Part, part_at, IsNonEmpty, UseSets, role_at, use_at, Shape, IsWellFormed, acceptance_at, accepted, PartRanks, Ranking, Fits, PartsFit, part_ranks, rank_at, search_list, shapes_are_well_formed, part_form, by_tables, Serves, top_number, RanksByNumber, RanksAs, HasRank, IsGreatestRank, free, held, acquiring, idle, greatest_rank, RankingsHaveGreatestRank, rank_there, AcceptsSome, AreResourceRanks, acquires, is_held, Ranks, IsVertex, OthersRankZero, NotedRule, Cyclic, ClientServer, Resource}
-use Rattle.design_rules.specs.GreatestRank.{ComesAfter, StandsAbove}
+use Rattle.design_rules.proofs.Prelude.{◌≡◌, ℕ, zero, suc, ◌+◌, ◌-◌, ◌*◌, ◌<◌, ◌≤◌, ◌⊎◌, inl, inr, pos, ◌-ℤ◌, max, List, [], ◌∷◌, length, true, false, cond, IsTrue, nat_eq, refl, sym, ap, ap₂, subst, ◌∙◌, arith, eq-eqb, cases_Bool, cases_lt, both_ways, or_left, false≢true, ints, get_or-eq_default, has, natural, IsLongestWalk, same_longest, Label, node_at, end_of, IsWithin, Part, part_at, IsNonEmpty, UseSets, role_at, use_at, Shape, IsWellFormed, acceptance_at, accepted, PartRanks, Ranking, Fits, PartsFit, part_ranks, rank_at, search_list, shapes_are_well_formed, part_form, by_tables, Serves, top_number, RanksByNumber, RanksAs, HasRank, IsGreatestRank, free, held, acquiring, idle, greatest_rank, RankingsHaveGreatestRank, rank_there, AcceptsSome, AreResourceRanks, acquires, is_held, Ranks, IsVertex, OthersRankZero, NotedRule, Cyclic, ClientServer, Resource, StandsAbove}
+use Rattle.design_rules.specs.GreatestRank.{ComesAfter}
 use Rattle.design_rules.proofs.Accepting.{at_place}
 use Rattle.design_rules.proofs.ClientServer.{graph, meet_or_apart}
 use Rattle.design_rules.proofs.GreatestNumbers.{in_ranking, ranking_has, StandsAt}

@@ -1,8 +1,6 @@
 -- The outline of a well-formed shape is what its alphabets say: who goes over the pairs of parts in order meets the shape's links, which rise strictly and join
 -- exactly the pairs that share events, one after another.
-use Rattle.design_rules.proofs.Prelude.{◌≡◌, ℕ, zero, suc, ◌+◌, ◌<◌, ◌≤◌, ◌⊎◌, inl, inr, List, [], ◌∷◌, ◌++◌, length, map, get_or, Bool, true, false, ◌&&◌, cond, nat_le, IsTrue, refl, sym, ap, subst, ◌∙◌, arith, flat_map, cases_Bool, cases_eq, and_parts, and_from, or_left, or_right, le-leb, leb-true, false≢true, has, inter_of, meets_of, same_tests, any_member, sharers_other, Part, part_at, alphabets_of, sharers, Meet, Link, Shape, IsBelow, link_at, IsLinked, SameOutline, links_with, links_from, vocabulary_of, outline_of}
-use Rattle.csp_base.proofs.Rising.{has-append, has-filter, meets_of_from_member}
-use Rattle.csp_base.proofs.SetLaws.{has-inter_of}
+use Rattle.design_rules.proofs.Prelude.{◌≡◌, ℕ, zero, suc, ◌+◌, ◌<◌, ◌≤◌, ◌⊎◌, inl, inr, List, [], ◌∷◌, ◌++◌, length, map, get_or, Bool, true, false, ◌&&◌, cond, nat_le, IsTrue, refl, sym, ap, subst, ◌∙◌, arith, flat_map, cases_Bool, cases_eq, and_parts, and_from, or_left, or_right, le-leb, leb-true, false≢true, has, inter_of, meets_of, same_tests, any_member, sharers_other, Part, part_at, alphabets_of, sharers, Meet, Link, Shape, IsBelow, link_at, IsLinked, SameOutline, links_with, links_from, vocabulary_of, outline_of, has-append, has-filter, meets_of_from_member, has-inter_of}
 
 abbrev link_in : List Link → ℕ → Link
 link_in links l = get_or links l (record { left = 0; right = 0; shared = [] })

@@ -1,7 +1,5 @@
 -- Each rule's ranking is good, so the network is live.
-use Rattle.design_rules.proofs.Prelude.{ℕ, subst, Label, Live, Tree, NetworkStep, leaves, TripleDisjoint, Shape, IsWellFormed, HaveBehaviours, Ranking, Fits, Falls, MetRulesMeanLive, Cyclic, ClientServer, Resource}
-use Rattle.net_sound.specs.Soundness.{IsSound}
-use Rattle.net_sound.proofs.Soundness.{good_rankings_mean_live, same_alphabets}
+use Rattle.design_rules.proofs.Prelude.{ℕ, subst, Label, Live, Tree, NetworkStep, leaves, TripleDisjoint, Shape, IsWellFormed, HaveBehaviours, Ranking, Fits, Falls, MetRulesMeanLive, Cyclic, ClientServer, Resource, IsSound, good_rankings_mean_live, same_alphabets}
 use Rattle.design_rules.proofs.CyclicRule.{cyclic_ranks_fall}
 use Rattle.design_rules.proofs.ClientServer.{client_server_ranks_fall}
 use Rattle.design_rules.proofs.Resource.{resource_ranks_fall}

@@ -1,6 +1,5 @@
 -- What is said of an outline looks at members of sets alone, so it is the same of two outlines with the same alphabets, links and vocabulary.
-use Rattle.design_rules.proofs.Prelude.{◌≡◌, ℕ, ◌+◌, ◌%◌, ◌<◌, inl, inr, List, [], ◌∷◌, length, map, Option, Some, None, Bool, not, ◌&&◌, ◌||◌, cond, nat_eq, nat_lt, refl, sym, ap, subst, ◌∙◌, list_any, has, same_tests, any_of, any_member, part_at, RoleSets, UseSets, role_at, use_at, Shape, Joins, is_end, link_at, IsOn, same_no_circle, SameOutline, PartShared, HasRoles, IsClientOn, HasClient, has_acknowledgements, is_open, Serves, LacksRoles, LacksClient, HaveClients, count_below, count_in, is_odd, place_of, IsNext, links_of, place_after, SamePlace, Clash, ends_of, JoinsKinds, HasUses, HaveKinds, is_held, last_from, IsHolder, holds, HasKind, LacksKind}
-use Rattle.digraph.specs.Circle.{HasNoCircle}
+use Rattle.design_rules.proofs.Prelude.{◌≡◌, ℕ, ◌+◌, ◌%◌, ◌<◌, inl, inr, List, [], ◌∷◌, length, map, Option, Some, None, Bool, not, ◌&&◌, ◌||◌, cond, nat_eq, nat_lt, refl, sym, ap, subst, ◌∙◌, list_any, has, same_tests, any_of, any_member, part_at, RoleSets, UseSets, role_at, use_at, Shape, Joins, is_end, link_at, IsOn, same_no_circle, SameOutline, PartShared, HasRoles, IsClientOn, HasClient, has_acknowledgements, is_open, Serves, LacksRoles, LacksClient, HaveClients, count_below, count_in, is_odd, place_of, IsNext, links_of, place_after, SamePlace, Clash, ends_of, JoinsKinds, HasUses, HaveKinds, is_held, last_from, IsHolder, holds, HasKind, LacksKind, HasNoCircle}
 use Rattle.design_rules.proofs.Counts.{count_agree}
 
 pub turned_outline : (x y : Shape) → SameOutline x y → SameOutline y x

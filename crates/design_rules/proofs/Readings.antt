@@ -1,7 +1,5 @@
 -- Over the shape of a network, the components' own steps and the parts' tables tell the same traces, the same events after each, and the same acceptances.
-use Rattle.design_rules.proofs.Prelude.{◌≡◌, ℕ, List, [], ◌∷◌, ◌++◌, map, true, refl, sym, ap, subst, ◌∙◌, and_parts, and_from, has, Label, Component, ComponentStep, Tree, leaves, IsAcceptance, Node, node_at, node_after, is_possible, is_run, end_of, Part, part_at, alphabets_of, Shape, ArePartsOf, IsShapeOf, RunsTo, IsPossible, Accepts, accepted, run_push, shapes_are_well_formed, SameOutline, AcceptsSame, OutlinesAgree, ReadingsAgree, NetworksMeet, NetworksBreak, NetworkFaultsRefute, HasTrace, HasAcceptance, by_steps, AcceptsSet, by_tables, NetworksAreNumbered, outline, outline_of, Cyclic}
-use Rattle.net_sound.proofs.ShapeOf.{shapes_are_busy}
-use Rattle.net_sound.proofs.Parts.{component_of, part_of, part_within}
+use Rattle.design_rules.proofs.Prelude.{◌≡◌, ℕ, List, [], ◌∷◌, ◌++◌, map, true, refl, sym, ap, subst, ◌∙◌, and_parts, and_from, has, Label, Component, ComponentStep, Tree, leaves, IsAcceptance, Node, node_at, node_after, is_possible, is_run, end_of, Part, part_at, alphabets_of, Shape, ArePartsOf, IsShapeOf, RunsTo, IsPossible, Accepts, accepted, run_push, shapes_are_well_formed, SameOutline, AcceptsSame, OutlinesAgree, ReadingsAgree, NetworksMeet, NetworksBreak, NetworkFaultsRefute, HasTrace, HasAcceptance, by_steps, AcceptsSet, by_tables, NetworksAreNumbered, outline, outline_of, Cyclic, shapes_are_busy, component_of, part_of, part_within}
 use Rattle.design_rules.proofs.Accepting.{at_place, set_shared}
 use Rattle.design_rules.proofs.Refuting.{faults_refute}
 use Rattle.design_rules.proofs.CyclicRule.{is_rule_by_numbers}

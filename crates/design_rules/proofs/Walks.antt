@@ -1,6 +1,5 @@
 -- Numbers that rise along arcs leave no circle. Longest walks among finitely many vertices: the numbers fall along arcs, and each is below the number of vertices.
-use Rattle.design_rules.proofs.Prelude.{◌≡◌, ℕ, zero, suc, ◌+◌, ◌<◌, ◌≤◌, inl, inr, List, [], ◌∷◌, nat_lt, refl, sym, subst, ◌∙◌, arith, lt-ltb, le-ltb, ltb-true, cases_eq, count_below, Walk, IsLongestWalk}
-use Rattle.digraph.specs.Prelude.{Leads, IsCircle}
+use Rattle.design_rules.proofs.Prelude.{◌≡◌, ℕ, zero, suc, ◌+◌, ◌<◌, ◌≤◌, inl, inr, List, [], ◌∷◌, nat_lt, refl, sym, subst, ◌∙◌, arith, lt-ltb, le-ltb, ltb-true, cases_eq, count_below, Walk, IsLongestWalk, Leads, IsCircle}
 use Rattle.design_rules.proofs.Counts.{count_strict, count_at_most}
 
 -- n vertices, with the longest walk from each

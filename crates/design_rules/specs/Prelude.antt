@@ -35,7 +35,6 @@ pub use Rattle.design_rules.specs.ResourceRuleFaults.{HasKind, KeepsGrants, Keep
 pub use Rattle.design_rules.specs.Rules.{BreaksClientServer, BreaksCyclic, BreaksResource, FaultsRefute, HasNotes, Ranks}
 pub use Rattle.design_rules.specs.Vertices.{IsVertex, OthersRankZero, lap_at}
 pub use Rattle.design_rules.specs.declared.condition.Condition.{Condition}
-pub use Rattle.design_rules.specs.declared.condition.Condition.TheVariants.{Answers, Clients, Grants, Holders, Kinds, Roles, Service, Turns, Uses}
 pub use Rattle.design_rules.specs.declared.noted_rule.NotedRule.{NotedRule}
 pub use Rattle.design_rules.specs.declared.noted_rule.NotedRule.TheVariants.{ClientServer, Cyclic, Resource}
 pub use Rattle.design_rules.specs.declared.rule_fault.RuleFault.{RuleFault}

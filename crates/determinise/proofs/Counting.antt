@@ -1,6 +1,6 @@
 -- How many sets traces lead to.
-use Rattle.determinise.proofs.Prelude.{◌≡◌, ℕ, zero, suc, ◌+◌, ◌<◌, ◌≤◌, inl, inr, true, false, nat_eq, IsTrue, List, [], ◌∷◌, ◌++◌, length, get_or, refl, sym, ap, subst, ◌∙◌, arith, map, list_any, IsDistinct, IsStrictlyIncreasing, cases_lt, cases_Bool, eqb-true, get_or_append_left, length-append, get_or-map, length-map, IsDistinct-from_apart, length-le_from_distinct_below, get_or-append_seam, has, RawTable, RawStep, Node, end_of, HaveSameStates, ReachesSets, set_at, AreReachedSets, AreNodesSoFar, IsSetAfter, any_place, same_tests}
-use Rattle.csp_base.proofs.Rising.{rises_from_increasing, same_members}
+use Rattle.determinise.proofs.Prelude.{◌≡◌, ℕ, zero, suc, ◌+◌, ◌<◌, ◌≤◌, inl, inr, true, false, nat_eq, IsTrue, List, [], ◌∷◌, ◌++◌, length, get_or, refl, sym, ap, subst, ◌∙◌, arith, map, list_any, IsDistinct, IsStrictlyIncreasing, cases_lt, cases_Bool, eqb-true, get_or_append_left, length-append, get_or-map, length-map, IsDistinct-from_apart, length-le_from_distinct_below, get_or-append_seam, has, RawTable, RawStep, Node, end_of, HaveSameStates, ReachesSets, set_at, AreReachedSets, AreNodesSoFar, IsSetAfter, any_place, same_tests, Tells, Stop, MOST_SETS, rises_from_increasing, same_members}
+use Rattle.csp_base.specs.declared.stop.Stop.TheVariants as stop
 use Rattle.determinise.proofs.Runs.{ends_at}
 
 -- traces to the first sets
@@ -41,7 +41,7 @@ same_terms raw s t X Y a b same x = (
 )
 
 -- as many sets as were found
-pub many_sets : (raw : RawTable) (sets : List (List ℕ)) (n : ℕ) → AreReachedSets raw sets → length sets ≡ n → ReachesSets (RawStep raw) 0 n
+many_sets : (raw : RawTable) (sets : List (List ℕ)) (n : ℕ) → AreReachedSets raw sets → length sets ≡ n → ReachesSets (RawStep raw) 0 n
 many_sets raw sets n r long =
     let found = traces_to raw sets r n (omega (arith, long)) in
     record {
@@ -53,6 +53,10 @@ many_sets raw sets n r long =
           let inside : k < length sets = rw long h in
           r.apart j k rises inside (same_set raw (get_or found.traces j []) (get_or found.traces k []) (set_at sets j) (set_at sets k) (found.each j first) (found.each k h) (r.forms j (omega (arith, inside))).rising (r.forms k inside).rising same);
     }
+
+pub many_told : {F : Type 0} (raw : RawTable) (sets : List (List ℕ)) → AreReachedSets raw sets → (s : Stop F) → Tells (λ _. length sets ≡ MOST_SETS + 1) s → Tells (λ _. ReachesSets (RawStep raw) 0 (MOST_SETS + 1)) s
+many_told raw sets r stop.NoMemory told = told
+many_told raw sets r (stop.Told f) long = many_sets raw sets (MOST_SETS + 1) r long
 
 -- no more sets are reached than there are nodes
 pub no_more_sets : (raw : RawTable) (sets : List (List ℕ)) (nodes : List Node) (n : ℕ) → AreNodesSoFar raw sets nodes → length nodes ≡ length sets → AreReachedSets raw sets → length nodes < n → ReachesSets (RawStep raw) 0 n → ⊥

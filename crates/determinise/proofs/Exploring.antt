@@ -1,7 +1,5 @@
 -- Traces lead from set to set, and the nodes of the sets come one after another.
-use Rattle.determinise.proofs.Prelude.{◌≡◌, ℕ, ◌<◌, inl, inr, true, nat_eq, IsTrue, List, [], ◌∷◌, ◌++◌, length, get_or, take, sym, ap, subst, ◌∙◌, arith, eq-eqb, cases_lt, eqb-true, flat_map-append, append-nil, get_or_append_left, length-append, take-append-le, take_all, list_any_at, get_or-append_seam, has, visible, After, RawTable, RawStep, Node, target, node_at, targets_of_steps, targets_of_nodes, MeetsInOrder, MeetsUpTo, has_event, has_move, AreMovesOf, IsNextSet, set_at, IsReachedFromSet, AreMoreSets, AreNodeSteps, IsNodeOf, AreReachedSets, AreNodesSoFar, IsTermSet, IsSetAfter, any_place, place_of_move, listed_at}
-use Rattle.csp_tables.proofs.Listed.{step_listed, listed_step}
-use Rattle.term_sets.proofs.Traces.{After-none, After-event, After-append, After-cut, After-first}
+use Rattle.determinise.proofs.Prelude.{◌≡◌, ℕ, ◌<◌, inl, inr, true, nat_eq, IsTrue, List, [], ◌∷◌, ◌++◌, length, get_or, take, sym, ap, subst, ◌∙◌, arith, eq-eqb, cases_lt, eqb-true, flat_map-append, append-nil, get_or_append_left, length-append, take-append-le, take_all, list_any_at, get_or-append_seam, has, visible, After, RawTable, RawStep, Node, target, node_at, targets_of_steps, targets_of_nodes, MeetsInOrder, MeetsUpTo, has_event, has_move, AreMovesOf, IsNextSet, set_at, IsReachedFromSet, AreMoreSets, AreNodeSteps, IsNodeOf, AreReachedSets, AreNodesSoFar, IsTermSet, IsSetAfter, any_place, place_of_move, listed_at, step_listed, listed_step, After-none, After-event, After-append, After-cut, After-first}
 use Rattle.determinise.proofs.MoreSets.{meets_then}
 
 -- ---- events and moves

@@ -1,6 +1,5 @@
 -- Sets of terms that are added behind others: one more, none, and more after more.
-use Rattle.determinise.proofs.Prelude.{◌≡◌, ℕ, suc, ◌+◌, ◌<◌, ◌≤◌, inl, inr, true, false, nat_eq, Some, List, [], ◌∷◌, ◌++◌, length, slice_get, refl, sym, ap, subst, ◌∙◌, arith, is_member, pointwise, cases_Bool, cases_lt, cond-true, cond-false, false≢true, get_or_append_left, length-append, list_any_at, slice_get_within, get_or_from_slice_get, get_or-append_seam, with_new, MeetsInOrder, set_at, AreMoreSets}
-use Rattle.csp_base.proofs.Lists.{same_list}
+use Rattle.determinise.proofs.Prelude.{◌≡◌, ℕ, suc, ◌+◌, ◌<◌, ◌≤◌, inl, inr, true, false, nat_eq, Some, List, [], ◌∷◌, ◌++◌, length, slice_get, refl, sym, ap, subst, ◌∙◌, arith, is_member, pointwise, cases_Bool, cases_lt, cond-true, cond-false, false≢true, get_or_append_left, length-append, list_any_at, slice_get_within, get_or_from_slice_get, get_or-append_seam, with_new, MeetsInOrder, set_at, AreMoreSets, same_list}
 
 -- a set that stands in some place is among the sets
 member_at : (sets : List (List ℕ)) (n : ℕ) (x : List ℕ) → n < length sets → set_at sets n ≡ x → is_member (pointwise nat_eq) sets x ≡ true

@@ -1,9 +1,7 @@
 -- The steps of a node, group by group.
-use Rattle.determinise.proofs.Prelude.{◌≡◌, ℕ, zero, suc, ◌+◌, ◌<◌, ◌≤◌, inl, inr, Bool, true, false, ◌||◌, nat_eq, IsTrue, List, [], ◌∷◌, ◌++◌, length, get_or, take, refl, sym, ap, subst, ◌∙◌, arith, eq-eqb, map, cases_lt, cases_Bool, eqb-true, false≢true, or_left, or_right, cond-true, cond-false, get_or_append_left, length-append, get_or-append_seam, RawTable, is_possible, target, targets_of_steps, MeetsInOrder, has_event, IsNextSet, set_at, AreMoreSets, IsSomeNextSet, LeadsToSet, IsSilentClosure}
-use Rattle.std.specs.List.Sorted.{IsStrictlyIncreasing}
+use Rattle.determinise.proofs.Prelude.{◌≡◌, ℕ, zero, suc, ◌+◌, ◌<◌, ◌≤◌, inl, inr, Bool, true, false, ◌||◌, nat_eq, IsTrue, List, [], ◌∷◌, ◌++◌, length, get_or, take, refl, sym, ap, subst, ◌∙◌, arith, eq-eqb, map, cases_lt, cases_Bool, eqb-true, false≢true, or_left, or_right, cond-true, cond-false, get_or_append_left, length-append, get_or-append_seam, RawTable, is_possible, target, targets_of_steps, MeetsInOrder, has_event, IsNextSet, set_at, AreMoreSets, IsSomeNextSet, LeadsToSet, IsSilentClosure, IsStrictlyIncreasing, MOST_SETS}
 use Rattle.determinise.proofs.Groups.{IsGroup, event_at, group_targets, event_place, events_more, next_of_group, some_next}
 use Rattle.determinise.proofs.MoreSets.{more_then_more, more_of_kind, meets_then}
-use Rattle.dl_limits.specs.declared.TheConstants.{MOST_SETS}
 
 abbrev events_of_steps : List (ℕ × ℕ) → List ℕ
 events_of_steps next = map (λ step. step.0) next

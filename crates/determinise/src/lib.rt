@@ -9,5 +9,5 @@ mod sets;
 mod table;
 
 pub use explore::determinise;
-pub use fault::SetFault;
+pub use fault::SubsetLimit;
 pub use table::SetTable;

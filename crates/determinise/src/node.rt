@@ -1,17 +1,18 @@
 //! The node of a set of terms.
 
-ghost use Rattle.std.specs.Prelude.{◌≡◌, ◌+◌, ◌<◌, ◌≤◌, IfOk, OnOk, length};
+ghost use Rattle.std.specs.Prelude.{◌≡◌, ◌+◌, ◌<◌, ◌≤◌, IfErr, IfOk, OnOk, length};
+ghost use Rattle.csp_base.specs.Prelude.{Tells};
 ghost use Rattle.dl_limits.specs.declared.TheConstants.{MOST_SETS};
 ghost use Rattle.csp_tables.specs.BreadthFirst.{MeetsInOrder, targets_of_steps};
 ghost use Rattle.determinise.specs.Known.{IsReady};
 ghost use Rattle.determinise.specs.Progress.{AreMoreSets, AreStepsOf, IsNodeOf, IsReachedFromSet, set_at};
 ghost use Rattle.term_sets.specs.TermSets.{AreMinimalOffers, IsTermSet};
 
-use crate::fault::SetFault;
+use crate::fault::SubsetLimit;
 use crate::known::Known;
 use crate::sets::next_steps;
 use containers::{Items, Numbering};
-use csp_base::{Event, EventSet, NoMemory};
+use csp_base::{Event, EventSet, NoMemory, Stop};
 use csp_tables::NormNode;
 use std::alloc::Global;
 use term_sets::Prepared;
@@ -23,7 +24,7 @@ pub(crate) fn node_of(
     sets: &mut Numbering<Items<u32>>,
     known: &mut Known,
     place: usize,
-) -> Result<NormNode, SetFault>
+) -> Result<NormNode, Stop<SubsetLimit>>
     requires place { place < length sets.old }
     requires form { IsTermSet table.now (set_at sets.old place) }
     requires few { length sets.old ≤ MOST_SETS }
@@ -34,7 +35,7 @@ pub(crate) fn node_of(
     ensures more { AreMoreSets (IsReachedFromSet table.now (set_at sets.old place)) sets.old sets.new }
     ensures few { OnOk result (length sets.new ≤ MOST_SETS) }
     ensures ready { OnOk result (IsReady table.now sets.new known.new) }
-    ensures limit { result ≡ Err SetFault.SubsetLimit → length sets.new ≡ MOST_SETS + 1 }
+    ensures limit { IfErr result (Tells (λ _. length sets.new ≡ MOST_SETS + 1)) }
 {
     let accept = accept_at(alloc, table, sets, place)?;
     let next = next_at(alloc, table, sets, known, place)?;
@@ -64,7 +65,7 @@ fn next_at(
     sets: &mut Numbering<Items<u32>>,
     known: &mut Known,
     place: usize,
-) -> Result<Vec<(Event, u32)>, SetFault>
+) -> Result<Vec<(Event, u32)>, Stop<SubsetLimit>>
     requires place { place < length sets.old }
     requires form { IsTermSet table.now (set_at sets.old place) }
     requires few { length sets.old ≤ MOST_SETS }
@@ -75,7 +76,7 @@ fn next_at(
     ensures more { AreMoreSets (IsReachedFromSet table.now (set_at sets.old place)) sets.old sets.new }
     ensures few { OnOk result (length sets.new ≤ MOST_SETS) }
     ensures ready { OnOk result (IsReady table.now sets.new known.new) }
-    ensures limit { result ≡ Err SetFault.SubsetLimit → length sets.new ≡ MOST_SETS + 1 }
+    ensures limit { IfErr result (Tells (λ _. length sets.new ≡ MOST_SETS + 1)) }
 {
     let terms = sets.as_slice()[place].as_slice();
     let moves = table.moves(alloc, terms)?;

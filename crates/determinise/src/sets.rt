@@ -1,6 +1,7 @@
 //! The sets of terms to which events lead, numbered as they are met.
 
-ghost use Rattle.std.specs.Prelude.{◌≡◌, ◌+◌, ◌<◌, ◌≤◌, ℕ, [], ◌∷◌, ◌++◌, All, IfOk, OnOk, length, slice_index_or};
+ghost use Rattle.std.specs.Prelude.{◌≡◌, ◌+◌, ◌<◌, ◌≤◌, ℕ, [], ◌∷◌, ◌++◌, All, IfErr, IfOk, OnOk, length, slice_index_or};
+ghost use Rattle.csp_base.specs.Prelude.{Tells};
 ghost use Rattle.dl_limits.specs.declared.TheConstants.{MOST_SETS};
 ghost use Rattle.std.specs.List.Sorted.{IsNonDecreasingBy};
 ghost use Rattle.csp_tables.specs.BreadthFirst.{MeetsInOrder, targets_of_steps};
@@ -9,10 +10,10 @@ ghost use Rattle.determinise.specs.Known.{IsReady};
 ghost use Rattle.term_sets.specs.Marks.{IsUnmarked};
 ghost use Rattle.term_sets.specs.TermSets.{IsSilentClosure};
 
-use crate::fault::SetFault;
+use crate::fault::SubsetLimit;
 use crate::known::Known;
 use containers::{Items, Numbering};
-use csp_base::{Event, NoMemory};
+use csp_base::{Event, NoMemory, Stop};
 use dl_limits::MOST_SETS;
 use std::alloc::Global;
 use term_sets::Prepared;
@@ -25,7 +26,7 @@ pub(crate) fn next_steps(
     moves: &[(Event, u32)],
     sets: &mut Numbering<Items<u32>>,
     known: &mut Known,
-) -> Result<Vec<(Event, u32)>, SetFault>
+) -> Result<Vec<(Event, u32)>, Stop<SubsetLimit>>
     requires order { IsNonDecreasingBy (λ step. step.0) moves.now }
     requires within { All (λ step. step.1 < table.now.count) moves.now }
     requires few { length sets.old ≤ MOST_SETS }
@@ -36,7 +37,7 @@ pub(crate) fn next_steps(
     ensures more { AreMoreSets (IsSomeNextSet table.now moves.now) sets.old sets.new }
     ensures few { OnOk result (length sets.new ≤ MOST_SETS) }
     ensures ready { OnOk result (IsReady table.now sets.new known.new) }
-    ensures limit { result ≡ Err SetFault.SubsetLimit → length sets.new ≡ MOST_SETS + 1 }
+    ensures limit { IfErr result (Tells (λ _. length sets.new ≡ MOST_SETS + 1)) }
 {
     let mut next = Vec::new(alloc);
     let mut at = 0;
@@ -76,7 +77,7 @@ fn number_of_next(
     moves: &[(Event, u32)],
     sets: &mut Numbering<Items<u32>>,
     known: &mut Known,
-) -> Result<u32, SetFault>
+) -> Result<u32, Stop<SubsetLimit>>
     requires within { All (λ step. step.1 < table.now.count) moves.now }
     requires few { length sets.old ≤ MOST_SETS }
     requires ready { IsReady table.now sets.old known.old }
@@ -86,7 +87,7 @@ fn number_of_next(
     ensures more { AreMoreSets (IsSilentClosure table.now (targets_of_steps moves.now)) sets.old sets.new }
     ensures few { OnOk result (length sets.new ≤ MOST_SETS) }
     ensures ready { OnOk result (IsReady table.now sets.new known.new) }
-    ensures limit { result ≡ Err SetFault.SubsetLimit → length sets.new ≡ MOST_SETS + 1 }
+    ensures limit { IfErr result (Tells (λ _. length sets.new ≡ MOST_SETS + 1)) }
 {
     let starts = targets(alloc, moves)?;
     if let Some(number) = known.find(&starts) {
@@ -109,7 +110,7 @@ fn number_of_closure(
     starts: &[u32],
     sets: &mut Numbering<Items<u32>>,
     marks: &mut Vec<bool>,
-) -> Result<u32, SetFault>
+) -> Result<u32, Stop<SubsetLimit>>
     requires within { All (λ t. t < table.now.count) starts.now }
     requires few { length sets.old ≤ MOST_SETS }
     requires unmarked { IsUnmarked table.now.count marks.old.items }
@@ -119,12 +120,12 @@ fn number_of_closure(
     ensures more { AreMoreSets (IsSilentClosure table.now starts.now) sets.old sets.new }
     ensures few { OnOk result (length sets.new ≤ MOST_SETS) }
     ensures unmarked { OnOk result (IsUnmarked table.now.count marks.new.items) }
-    ensures limit { result ≡ Err SetFault.SubsetLimit → length sets.new ≡ MOST_SETS + 1 }
+    ensures limit { IfErr result (Tells (λ _. length sets.new ≡ MOST_SETS + 1)) }
 {
-    let set = table.closed(alloc, starts, marks)?;
+    let set = table.silent_closure(alloc, starts, marks)?;
     let number = sets.number(set)?;
     if sets.len() > MOST_SETS {
-        return Err(SetFault::SubsetLimit);
+        return Err(Stop::Told(SubsetLimit));
     }
     Ok(number as u32)
 }

@@ -5,7 +5,7 @@ pub mod Listing
 mod Marks
 pub mod Prelude
 pub mod Reaching
-mod Results
+pub mod Results
 mod Stepping
 mod Trails
 mod Turning

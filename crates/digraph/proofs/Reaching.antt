@@ -1,11 +1,7 @@
 -- What a search finds from its sources on is what walks reach.
-use Rattle.digraph.proofs.Prelude.{◌≡◌, ◌↔◌, ℕ, zero, suc, ◌+◌, ◌<◌, ◌≤◌, Bool, true, false, ◌||◌, nat_eq, IsTrue, List, [], ◌∷◌, ◌++◌, length, take, get_or, refl, sym, ap, subst, ◌∙◌, inl, inr, ◌⊎◌, arith, eq-eqb, All, flat_map, IsDistinct, append-nil, append_assoc, length-append, take-append-le, take_all, take_more, fold-append, list_any-append, list_any_at, flat_map-append, cases_Bool, cond-true, cond-false, or_cases, or_left, or_right, eqb-true, nat_eq_equiv, or-false, or_assoc, has, Digraph, targets_of, HasArc, Walk, ReachesFrom, found_after, found_over}
-use Rattle.csp_base.specs.Standard.{is_member}
-use Rattle.containers.specs.Members.{with_new}
-use Rattle.containers.proofs.MembersLemmas.{IsDistinct-with_new}
+use Rattle.digraph.proofs.Prelude.{◌≡◌, ◌↔◌, ℕ, zero, suc, ◌+◌, ◌<◌, ◌≤◌, Bool, true, false, ◌||◌, nat_eq, IsTrue, List, [], ◌∷◌, ◌++◌, length, take, get_or, refl, sym, ap, subst, ◌∙◌, inl, inr, ◌⊎◌, arith, eq-eqb, All, flat_map, IsDistinct, append-nil, append_assoc, length-append, take-append-le, take_all, take_more, fold-append, list_any-append, list_any_at, flat_map-append, cases_Bool, cond-true, cond-false, or_cases, or_left, or_right, eqb-true, nat_eq_equiv, or-false, or_assoc, has, Digraph, targets_of, HasArc, Walk, ReachesFrom, found_after, found_over, is_member, with_new, IsDistinct-with_new, listed_below}
 use Rattle.digraph.proofs.Listing.{same_has}
 use Rattle.digraph.proofs.WalkLaws.{Reaches-arc, Reaches-itself}
-use Rattle.csp_base.proofs.Listed.{listed_below}
 
 -- one number more
 with_new-cases : (xs : List ℕ) (x : ℕ) → ((has xs x ≡ true) × (with_new nat_eq xs x ≡ xs)) ⊎ ((has xs x ≡ false) × (with_new nat_eq xs x ≡ xs ++ x ∷ []))

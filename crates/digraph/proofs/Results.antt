@@ -1,5 +1,7 @@
--- What follows from facts of a result.
-use Rattle.std.proofs.Common.{◌≡◌, Result, Err}
+-- What follows from what a call tells.
+use Rattle.digraph.proofs.Prelude.{Tells, Stop}
+use Rattle.csp_base.specs.declared.stop.Stop.TheVariants as stop
 
-pub err_same : {T E : Type 0} (a b : E) (r s : Result T E) → r ≡ Err a → s ≡ Err b → r ≡ s → a ≡ b
-err_same a b r s is_a is_b same = cc
+pub tells_weaker : {F : Type 0} (P Q : F → Type 0) → ((f : F) → P f → Q f) → (s : Stop F) → Tells P s → Tells Q s
+tells_weaker P Q weaker stop.NoMemory told = told
+tells_weaker P Q weaker (stop.Told f) told = weaker f told

@@ -1,7 +1,5 @@
 -- A ring of vertices, turned so that the least is the first, is a circle.
-use Rattle.digraph.proofs.Prelude.{◌≡◌, ◌≢◌, ℕ, ◌+◌, ◌-◌, ◌<◌, ◌≤◌, List, [], ◌∷◌, ◌++◌, length, take, drop, get_or, nat_lt, refl, sym, ◌∙◌, inl, inr, ◌⊎◌, arith, IsFirstBest, length-append, length-take-le, length-drop, get_or-take, get_or-drop, get_or_append_left, get_or-append_right, cases_lt, Digraph, HasArc, IsCircle, IsLeastCircle}
-use Rattle.std.proofs.lemmas.Bool.{ltb-false}
-use Rattle.digraph.specs.Turn.{IsTurnedFrom}
+use Rattle.digraph.proofs.Prelude.{◌≡◌, ◌≢◌, ℕ, ◌+◌, ◌-◌, ◌<◌, ◌≤◌, List, [], ◌∷◌, ◌++◌, length, take, drop, get_or, nat_lt, refl, sym, ◌∙◌, inl, inr, ◌⊎◌, arith, IsFirstBest, length-append, length-take-le, length-drop, get_or-take, get_or-drop, get_or_append_left, get_or-append_right, cases_lt, Digraph, HasArc, IsCircle, IsLeastCircle, ltb-false, IsTurnedFrom}
 use Rattle.digraph.proofs.WalkLaws.{Leads-from_places}
 
 -- a circle of distinct vertices, place by place

@@ -9,10 +9,9 @@ pub struct Heights {
     numbers: Vec<u32>,
 }
 
-// By hand, so that a crate that ends one calls this and proves no end of its own.
 impl Drop for Heights {
     fn drop(self) {
-        let Heights { numbers: _numbers } = self;
+        let Heights { numbers } = self;
     }
 }
 

@@ -2,14 +2,12 @@
 #![tactic(auto)]
 
 mod circle;
-mod fault;
 mod heights;
 mod reach;
 mod rows;
 mod walks;
 
 pub use circle::Circle;
-pub use fault::Fault;
 pub use heights::Heights;
 pub use reach::reachable_from;
 pub use rows::Rows;

@@ -14,10 +14,9 @@ pub struct Rows {
     rows: Vec<Items<u32>>,
 }
 
-// By hand, so that a crate that ends one calls this and proves no end of its own.
 impl Drop for Rows {
     fn drop(self) {
-        let Rows { rows: _rows } = self;
+        let Rows { rows } = self;
     }
 }
 

@@ -1,14 +1,14 @@
 //! The longest walks of a digraph, or a circle where they have no end.
 
-ghost use Rattle.std.specs.Prelude.{◌≡◌, ℕ, ◌+◌, ◌-◌, ◌<◌, ◌≤◌, ◌↔◌, List, [], true, false, length, map, max, slice_index, All, IfOk, OnOk};
-ghost use Rattle.digraph.specs.Turn.{IsTurnedFrom};
-ghost use Rattle.digraph.specs.Prelude.{targets_of, HasArc, InRange, IsLongestWalk, AreHeights, HasNoCircle, IsLeastCircle, IsSearch, IsStep, height_of, mark_at};
+ghost use Rattle.std.specs.Prelude.{◌≡◌, ℕ, ◌+◌, ◌-◌, ◌<◌, ◌≤◌, ◌↔◌, List, [], true, false, length, map, max, slice_index, All, IfErr, IfOk, OnOk};
+ghost use Rattle.csp_base.specs.Prelude.{Tells};
+ghost use Rattle.digraph.specs.Prelude.{IsTurnedFrom, targets_of, HasArc, InRange, IsLongestWalk, AreHeights, HasNoCircle, IsLeastCircle, IsSearch, IsStep, height_of, mark_at};
 
-use crate::circle::circle_from;
-use crate::fault::Fault;
+use crate::circle::{Circle, circle_from};
 use crate::heights::Heights;
 use crate::rows::Rows;
-use std::alloc::{AllocError, Global};
+use csp_base::{NoMemory, Stop};
+use std::alloc::Global;
 
 // How far the search is with a vertex.
 #[derive(Clone, Copy)]
@@ -45,7 +45,7 @@ struct Search {
 /// For each vertex the greatest number of arcs of a walk that begins there, or a circle, where there is one.
 ///
 /// It takes time linear in the number of vertices and arcs, and no recursion.
-pub fn longest_walks(alloc: Global, rows: &Rows) -> Result<Heights, Fault>
+pub fn longest_walks(alloc: Global, rows: &Rows) -> Result<Heights, Stop<Circle>>
     ensures heights { IfOk result (AreHeights (HasArc rows.now) (length rows.now)) }
     ensures no_circle { OnOk result (HasNoCircle (HasArc rows.now)) }
 
@@ -58,22 +58,21 @@ pub fn longest_walks(alloc: Global, rows: &Rows) -> Result<Heights, Fault>
         → (slice_index heights v ≡ 0) ↔ (targets_of rows.now v ≡ [])) }
     ensures below { IfOk result (λ heights. All (λ height. height < length rows.now) heights) }
 
-    ensures circle { (vs : List ℕ) → result ≡ Err (Fault.Circle vs) → IsLeastCircle (HasArc rows.now) vs }
-    ensures unbounded { (vs : List ℕ) → result ≡ Err (Fault.Circle vs)
-        → All (λ v. (n : ℕ) → ¬ IsLongestWalk (HasArc rows.now) v n) vs }
-    ensures no_heights { (vs : List ℕ) → result ≡ Err (Fault.Circle vs) → (heights : List ℕ)
-        → ¬ AreHeights (HasArc rows.now) (length rows.now) heights }
+    ensures circle { IfErr result (Tells (IsLeastCircle (HasArc rows.now))) }
+    ensures unbounded { IfErr result (Tells (All (λ v. (n : ℕ) → ¬ IsLongestWalk (HasArc rows.now) v n))) }
+    ensures no_heights { IfErr result (Tells (λ _. (heights : List ℕ)
+        → ¬ AreHeights (HasArc rows.now) (length rows.now) heights)) }
 {
     let heights = find_heights(alloc, rows)?;
     Ok(heights)
 }
 
 // The heights of the vertices, or a circle.
-fn find_heights(alloc: Global, rows: &Rows) -> Result<Heights, Fault>
+fn find_heights(alloc: Global, rows: &Rows) -> Result<Heights, Stop<Circle>>
     ensures in_range { OnOk result (InRange rows.now) }
     ensures heights { IfOk result (AreHeights (HasArc rows.now) (length rows.now)) }
     ensures below { IfOk result (All (λ height. height < length rows.now)) }
-    ensures circle { (vs : List ℕ) → result ≡ Err (Fault.Circle vs) → IsLeastCircle (HasArc rows.now) vs }
+    ensures circle { IfErr result (Tells (IsLeastCircle (HasArc rows.now))) }
 {
     let mut search = Search::new(alloc, rows)?;
     while search.goes_on(rows) {
@@ -85,7 +84,7 @@ fn find_heights(alloc: Global, rows: &Rows) -> Result<Heights, Fault>
 
 impl Search {
     // Before the first walk each vertex is new.
-    fn new(alloc: Global, rows: &Rows) -> Result<Search, AllocError>
+    fn new(alloc: Global, rows: &Rows) -> Result<Search, NoMemory>
         ensures { IfOk result (IsSearch rows.now) }
     {
         let marks = vec![in alloc; Mark::New; rows.len()]?;
@@ -108,18 +107,18 @@ impl Search {
     }
 
     // The heights that are known.
-    fn heights(&self, alloc: Global) -> Result<Vec<u32>, AllocError>
+    fn heights(&self, alloc: Global) -> Result<Vec<u32>, NoMemory>
         ensures { IfOk result (λ heights. heights.items ≡ map height_of self.now.marks.items) }
     {
         self.marks.iter().map(|mark| mark.height()).collect(alloc)
     }
 
     // Goes on at the end of the trail, or starts a trail where there is none.
-    fn step(&mut self, alloc: Global, rows: &Rows) -> Result<(), Fault>
+    fn step(&mut self, alloc: Global, rows: &Rows) -> Result<(), Stop<Circle>>
         requires search { IsSearch rows.now self.old }
         requires goes_on { self.old.trail.items ≡ [] → self.old.next < length rows.now }
         ensures step { OnOk result (IsStep rows.now self.old self.new) }
-        ensures circle { (vs : List ℕ) → result ≡ Err (Fault.Circle vs) → IsLeastCircle (HasArc rows.now) vs }
+        ensures circle { IfErr result (Tells (IsLeastCircle (HasArc rows.now))) }
     {
         match self.trail.last().copied() {
             Some(v) => self.look(alloc, rows, v),
@@ -131,12 +130,12 @@ impl Search {
     }
 
     // Looks at one target of the last vertex of the trail, or ends with that vertex where none is left.
-    fn look(&mut self, alloc: Global, rows: &Rows, v: u32) -> Result<(), Fault>
+    fn look(&mut self, alloc: Global, rows: &Rows, v: u32) -> Result<(), Stop<Circle>>
         requires search { IsSearch rows.now self.old }
         requires not_empty { 0 < length self.old.trail.items }
         requires last { slice_index self.old.trail.items (length self.old.trail.items - 1) ≡ v }
         ensures step { OnOk result (IsStep rows.now self.old self.new) }
-        ensures circle { (vs : List ℕ) → result ≡ Err (Fault.Circle vs) → IsLeastCircle (HasArc rows.now) vs }
+        ensures circle { IfErr result (Tells (IsLeastCircle (HasArc rows.now))) }
     {
         let Mark::Open { left, height } = self.marks[v as usize] else {
             unreachable!()
@@ -164,7 +163,7 @@ impl Search {
     }
 
     // Starts a trail at the next vertex, or leaves it where it was come to.
-    fn start(&mut self, rows: &Rows) -> Result<(), AllocError>
+    fn start(&mut self, rows: &Rows) -> Result<(), NoMemory>
         requires search { IsSearch rows.now self.old }
         requires empty { self.old.trail.items ≡ [] }
         requires next { self.old.next < length rows.now }
@@ -178,7 +177,7 @@ impl Search {
     }
 
     // Puts a new vertex on the trail.
-    fn enter(&mut self, rows: &Rows, w: u32) -> Result<(), AllocError>
+    fn enter(&mut self, rows: &Rows, w: u32) -> Result<(), NoMemory>
         requires search { IsSearch rows.now self.old }
         requires vertex { w < length rows.now }
         requires new { mark_at self.old.marks.items w ≡ Mark.New }
@@ -206,11 +205,11 @@ fn target(rows: &Rows, v: u32, place: usize) -> u32
 }
 
 // The circle on a trail that comes back to a vertex, or that memory ran out.
-fn circle_of(alloc: Global, trail: &[u32], first: u32) -> Fault
+fn circle_of(alloc: Global, trail: &[u32], first: u32) -> Stop<Circle>
     requires { (k : ℕ) × (k < length trail.now) × (slice_index trail.now k ≡ first) }
-    ensures { (vs : List ℕ) → result ≡ Fault.Circle vs → IsTurnedFrom trail.now first vs }
+    ensures { Tells (IsTurnedFrom trail.now first) result }
 {
-    circle_from(alloc, trail, first).map_or(Fault::NoMemory, Fault::Circle)
+    circle_from(alloc, trail, first).map_or(Stop::NoMemory, Stop::Told)
 }
 
 // The larger of two numbers.

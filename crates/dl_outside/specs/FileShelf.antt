@@ -2,7 +2,8 @@
 -- system is one fault more, and each byte that a read gives is one byte taken more.
 use Rattle.std.specs.Prelude.{ℕ, ◌≡◌, ◌+◌, ◌<◌, ◌≤◌, IfSome, List, ◌++◌, length, Option, Result, Ok, Err}
 use Rattle.csp_base.specs.Standard.{Consumes, IsAtEnd, IsUtf8}
-use Rattle.dl_outside.specs.Count.{Counts, one_more}
+use Rattle.dl_outside.specs.Count.{one_more}
+use Rattle.dl_outside.specs.declared.count.Counts.{Counts}
 use Rattle.dl_outside.specs.declared.shelf.LoadFault.{LoadFault}
 use Rattle.dl_outside.specs.declared.shelf.LoadFault.TheVariants.{Missing, TooLong, Failed, NoMemory}
 

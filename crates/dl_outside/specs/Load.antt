@@ -5,7 +5,8 @@ use Rattle.std.specs.Prelude.{ℕ, ◌≡◌, ◌+◌, ◌<◌, ◌≤◌, List,
 use Rattle.dl_outside.specs.declared.texts.NamedText.{NamedText}
 use Rattle.dl_outside.specs.declared.shelf.LoadFault.{LoadFault}
 use Rattle.dl_outside.specs.declared.shelf.LoadFault.TheVariants.{Missing, TooLong, Failed, NoMemory}
-use Rattle.dl_outside.specs.Count.{Counts, HasRisen}
+use Rattle.dl_outside.specs.Count.{HasRisen}
+use Rattle.dl_outside.specs.declared.count.Counts.{Counts}
 use Rattle.dl_outside.specs.Texts.{text_of}
 
 -- Where the shelf holds these texts: the text of the name, where it has at most `limit` bytes and the count of faults

@@ -4,7 +4,7 @@ ghost use Rattle.std.specs.Prelude.{◌≡◌, ◌≢◌, ◌≤◌, ◌⊎◌, 
 ghost use Rattle.std.specs.Str.{IsUtf8};
 ghost use Rattle.dl_outside.specs.Prelude.{one_more, FileAnswers, GaveFile, OpenAnswers, ReadAnswers, ReadsOn};
 
-use crate::count::raise;
+use crate::count::{Counts, raise};
 use crate::shelf::{LoadFault, Shelf};
 use csp_base::Bytes;
 use std::alloc::Global;
@@ -16,24 +16,22 @@ use std::rt::Files;
 /// The system's files, and the counts of the errors that were met and of the bytes that were read.
 pub struct FileShelf<'a, R> {
     files: &'a R,
-    fault_count: u64,
-    taken_count: u64,
+    counts: Counts,
 }
 
 impl<'a, R> Model for FileShelf<'a, R> {
-    ghost use Rattle.dl_outside.specs.Count.{Counts};
+    ghost use Rattle.dl_outside.specs.declared.count.Counts.{Counts};
 
     ghost Value = { Counts };
 
-    ghost view = { λ s. record { faults = s.fault_count; taken = s.taken_count } };
+    ghost view = { λ s. s.counts };
 }
 
 impl<R> Drop for FileShelf<'_, R> {
     fn drop(self) {
         let FileShelf {
             files: _,
-            fault_count: _,
-            taken_count: _,
+            counts: _,
         } = self;
     }
 }
@@ -83,37 +81,29 @@ fn count_failure(faults: &mut u64) -> LoadFault
 fn read_piece<R: Read>(
     reader: &mut R,
     text: &mut Bytes,
-    faults: &mut u64,
-    taken: &mut u64,
+    counts: &mut Counts,
 ) -> Result<usize, LoadFault>
-    ensures answer { ReadAnswers (length text.old) (length text.new)
-        (record { faults = faults.old; taken = taken.old }) (record { faults = faults.new; taken = taken.new }) result }
+    ensures answer { ReadAnswers (length text.old) (length text.new) counts.old counts.new result }
     ensures reads { IfOk result (ReadsOn (R.remaining reader.old) (R.remaining reader.new) text.old text.new) }
-    ensures never_falls { faults.old ≤ faults.new }
+    ensures never_falls { counts.old.faults ≤ counts.new.faults }
 {
     let mut piece = [0u8; 4096];
     match reader.read(&mut piece) {
-        Ok(count) => append(&piece[..count], text, faults, taken),
-        Err(_) => Err(count_failure(faults)),
+        Ok(count) => append(&piece[..count], text, counts),
+        Err(_) => Err(count_failure(&mut counts.faults)),
     }
 }
 
 /// Appends a piece that was read, and answers how many bytes it has.
-fn append(
-    piece: &[u8],
-    text: &mut Bytes,
-    faults: &mut u64,
-    taken: &mut u64,
-) -> Result<usize, LoadFault>
-    ensures answer { ReadAnswers (length text.old) (length text.new)
-        (record { faults = faults.old; taken = taken.old }) (record { faults = faults.new; taken = taken.new }) result }
+fn append(piece: &[u8], text: &mut Bytes, counts: &mut Counts) -> Result<usize, LoadFault>
+    ensures answer { ReadAnswers (length text.old) (length text.new) counts.old counts.new result }
     ensures appended { IfOk result (λ n. (text.new ≡ text.old ++ piece.now) × (n ≡ length piece.now)) }
-    ensures never_falls { faults.old ≤ faults.new }
+    ensures never_falls { counts.old.faults ≤ counts.new.faults }
 {
-    let Some(counted) = taken.checked_add(piece.len() as u64) else {
-        return Err(count_failure(faults));
+    let Some(taken) = counts.taken.checked_add(piece.len() as u64) else {
+        return Err(count_failure(&mut counts.faults));
     };
-    *taken = counted;
+    counts.taken = taken;
     text.extend_from_slice(piece)?;
     Ok(piece.len())
 }
@@ -124,19 +114,17 @@ pub fn read_text<R: Read>(
     alloc: Global,
     reader: &mut R,
     limit: u32,
-    faults: &mut u64,
-    taken: &mut u64,
+    counts: &mut Counts,
 ) -> Result<Bytes, LoadFault>
-    ensures answer { FileAnswers (record { faults = faults.old; taken = taken.old })
-        (record { faults = faults.new; taken = taken.new }) limit result }
+    ensures answer { FileAnswers counts.old counts.new limit result }
     ensures whole { IfOk result (λ text. IfSome (R.remaining reader.old) (λ bytes. text ≡ bytes)) }
     ensures not_missing { result ≢ Err LoadFault.Missing }
-    ensures faults_never_fall { faults.old ≤ faults.new }
-    ensures taken_never_falls { taken.old ≤ taken.new }
+    ensures faults_never_fall { counts.old.faults ≤ counts.new.faults }
+    ensures taken_never_falls { counts.old.taken ≤ counts.new.taken }
 {
     let mut text = Bytes::new(alloc);
     while text.len() <= limit as usize {
-        if read_piece(reader, &mut text, faults, taken)? == 0 {
+        if read_piece(reader, &mut text, counts)? == 0 {
             return Ok(text);
         }
     }
@@ -148,11 +136,11 @@ impl<'a, R> FileShelf<'a, R> {
     pub fn new(files: &'a R) -> Self
         ensures { result ≡ record { faults = 0; taken = 0 } }
     {
-        FileShelf {
-            files,
-            fault_count: 0,
-            taken_count: 0,
-        }
+        let counts = Counts {
+            faults: 0,
+            taken: 0,
+        };
+        FileShelf { files, counts }
     }
 }
 
@@ -170,13 +158,7 @@ impl<R: Files> Shelf for FileShelf<'_, R> {
         ensures taken_never_falls { self.old.taken ≤ self.new.taken }
         ensures no_text { ¬ (IsUtf8 name.now) → result ≡ Err LoadFault.Missing }
     {
-        let mut file = open_file(self.files, name, &mut self.fault_count)?;
-        read_text(
-            alloc,
-            &mut file,
-            limit,
-            &mut self.fault_count,
-            &mut self.taken_count,
-        )
+        let mut file = open_file(self.files, name, &mut self.counts.faults)?;
+        read_text(alloc, &mut file, limit, &mut self.counts)
     }
 }

@@ -16,6 +16,7 @@ pub mod sure_shelf;
 pub mod sure_sink;
 pub mod texts;
 
+pub use count::Counts;
 pub use file_shelf::FileShelf;
 pub use memory_shelf::MemoryShelf;
 pub use memory_sink::MemorySink;

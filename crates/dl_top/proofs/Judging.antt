@@ -1,11 +1,6 @@
 -- What was read of texts is what they call for.
-use Rattle.dl_top.proofs.Prelude.{◌≡◌, ℕ, List, Result, IfErr, IfOk, inl, inr, refl, sym, ap, subst, IsErrAnd, IfErr-weaker, IfOk-weaker, err_from_is_err_and, Job, Livelock, IsCompared, Script, EachTextSpellsOneScript, Spells, IsBounded, IsNetworkOf, Network, HasNoNetwork, weaker, Tells, Stop, Answers, Ends, Halt, Answer, Done, Side, Verdict, IsDecided, NetworkDecides, SpellsNoNetwork, SpellsNoScript, SpellsOnlyNetwork, SpellsOnlyScript, TextCallsFor, TextIsShown, TextsCompare, no_script}
-use Rattle.csp_text.specs.Prelude.{IfNoScript}
-use Rattle.csp_text.specs.declared.fault.ParseFault.{ParseFault}
-use Rattle.csp_text.specs.declared.fault.ParseFault.TheVariants as fault
-use Rattle.csp_parser.specs.Places.{IsPlaceOf}
-use Rattle.csp_program.specs.declared.programs.Content.{Content}
-use Rattle.judgement.proofs.OneNetwork.{one_network}
+use Rattle.dl_top.proofs.Prelude.{◌≡◌, ℕ, List, Result, IfErr, IfOk, inl, inr, refl, sym, ap, subst, IsErrAnd, IfErr-weaker, IfOk-weaker, err_from_is_err_and, Job, Livelock, IsCompared, Script, EachTextSpellsOneScript, Spells, IsBounded, IsNetworkOf, Network, HasNoNetwork, weaker, Tells, Stop, Answers, Ends, Halt, Answer, Done, Side, Verdict, IsDecided, NetworkDecides, SpellsNoNetwork, SpellsNoScript, SpellsOnlyNetwork, SpellsOnlyScript, TextCallsFor, TextIsShown, TextsCompare, no_script, NoScript, IsPlaceOf, Content, one_network}
+use Rattle.csp_base.specs.declared.stop.Stop.TheVariants as stop
 use Rattle.report.specs.declared.answer.Answer.TheVariants as answer
 use Rattle.report.specs.declared.answer.Side.TheVariants as side
 use Rattle.dl_top.proofs.Walks.{at_end}
@@ -16,10 +11,10 @@ use Rattle.dl_top.proofs.Walks.{at_end}
 pub only_script : (text : List ℕ) (s : Script) → Spells text s → EachTextSpellsOneScript → SpellsOnlyScript text s
 only_script text s spelled only = record { spelled = spelled; only = λ t other. only text t s other spelled }
 
-pub no_script_read : (side : Side) (text : List ℕ) (f : ParseFault) → IfNoScript f (λ at. (s : Script) → Spells text s → ⊥) → IfNoScript f (λ at. IsPlaceOf text at)
-    → Tells (SpellsNoScript side text) (no_script side f)
-no_script_read side text fault.NoMemory none place = tt
-no_script_read side text (fault.NoScript at) none place = record { none = none; at = at; place = place; told = refl }
+pub no_script_read : (side : Side) (text : List ℕ) (why : Stop NoScript) → Tells (λ _. (s : Script) → Spells text s → ⊥) why → Tells (λ fault. IsPlaceOf text fault.at) why
+    → Tells (SpellsNoScript side text) (no_script side why)
+no_script_read side text stop.NoMemory none place = tt
+no_script_read side text (stop.Told fault) none place = record { none = none; at = fault.at; place = place; told = refl }
 
 -- the network of the only script is the only one
 only_network : (text : List ℕ) (script : Script) (network : Network) → SpellsOnlyScript text script → IsNetworkOf script network → SpellsOnlyNetwork text network

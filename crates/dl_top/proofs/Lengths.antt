@@ -1,9 +1,5 @@
 -- The text of a trial has at most as many bytes as a script may have.
-use Rattle.dl_top.proofs.Prelude.{◌≡◌, ◌≤◌, ◌<◌, ◌+◌, ◌^◌, ℕ, List, ◌++◌, ◌∷◌, [], length, codes, sym, ap, subst, ◌∙◌, arith, length-decimal-le, length-append, Trial, MOST_BYTES, trial_text}
-use Rattle.std.specs.Fmt.{decimal}
-use Rattle.net_maker.specs.Families.{lines_of}
-use Rattle.net_maker.specs.declared.families.Family.{Family}
-use Rattle.net_maker.specs.declared.families.Family.TheVariants.{Chain, Forks, Mesh}
+use Rattle.dl_top.proofs.Prelude.{◌≡◌, ◌≤◌, ◌<◌, ◌+◌, ◌^◌, ℕ, List, ◌++◌, ◌∷◌, [], length, codes, sym, ap, subst, ◌∙◌, arith, length-decimal-le, length-append, Trial, MOST_BYTES, trial_text, decimal, lines_of, Family, Chain, Forks, Mesh}
 
 -- the lines of each family are few
 lines_are_short : (f : Family) → length (lines_of f) ≤ 1000

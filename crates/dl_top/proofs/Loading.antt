@@ -1,10 +1,6 @@
 -- Texts that are loaded one after another, and the reply for which they call.
-use Rattle.dl_top.proofs.Prelude.{◌≡◌, ◌≤◌, ℕ, List, [], ◌∷◌, Option, None, Some, Result, Ok, Err, IfNone, IfSome, inl, inr, refl, sym, ap, subst, ◌∙◌, arith, length, IsErrAnd, same_Some, Asks, IsNoRequest, names, trial_of, Request, Trial, MOST_BYTES, Counts, HasRisen, AnswersTold, LoadAnswers, text_of, NamedText, weaker, status, Ends, IsEnd, Answer, Side, Tells, Stop, CallsFor, HoldsAll, HoldsAllNamed, IsLoad, Loaded, LoadsHeld, MayGive, Replies, TellsLoad, TextsCallFor, HoldWithin, HaveGiven, IsUnloaded, plain, reply_status, Reply}
-use Rattle.command_words.proofs.AskOnce.{words_ask_once}
+use Rattle.dl_top.proofs.Prelude.{◌≡◌, ◌≤◌, ℕ, List, [], ◌∷◌, Option, None, Some, Result, Ok, Err, IfNone, IfSome, inl, inr, refl, sym, ap, subst, ◌∙◌, arith, length, IsErrAnd, same_Some, Asks, IsNoRequest, names, trial_of, Request, Trial, MOST_BYTES, Counts, HasRisen, AnswersTold, LoadAnswers, text_of, NamedText, weaker, status, Ends, IsEnd, Answer, Side, Tells, Stop, CallsFor, HoldsAll, HoldsAllNamed, IsLoad, Loaded, LoadsHeld, MayGive, Replies, TellsLoad, TextsCallFor, HoldWithin, HaveGiven, IsUnloaded, plain, reply_status, Reply, words_ask_once, LoadFault, Missing, TooLong, Failed, NoMemory, OutsideFault}
 use Rattle.command_words.specs.declared.request.Request.TheVariants as request
-use Rattle.dl_outside.specs.declared.shelf.LoadFault.{LoadFault}
-use Rattle.dl_outside.specs.declared.shelf.LoadFault.TheVariants.{Missing, TooLong, Failed, NoMemory}
-use Rattle.report.specs.declared.answer.OutsideFault.{OutsideFault}
 use Rattle.report.specs.declared.answer.Answer.TheVariants as answer
 use Rattle.report.specs.declared.answer.Side.TheVariants as side
 use Rattle.report.specs.declared.answer.Verdict.TheVariants as verdict

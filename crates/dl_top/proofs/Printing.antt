@@ -1,9 +1,8 @@
 -- What is printed of a reply, and how a call ends that sends it.
-use Rattle.dl_top.proofs.Prelude.{◌≡◌, ◌≢◌, ◌≤◌, ℕ, List, ◌++◌, Option, None, Some, Result, Ok, Err, IfOk, IfSome, ap, inl, inr, refl, sym, ◌∙◌, subst, arith, Asks, names, Request, Trial, Counts, HasRisen, GrowsBy, NamedText, report_text, status, Answer, CallsFor, IsLoad, LoadsHeld, MayGive, TextsCallFor, AsksForSuch, EndsInShelfFault, EndsWhole, GrowsByFront, SinkSigns, Kept, Prints, heading_text, reply_status, reply_text, Reply}
+use Rattle.dl_top.proofs.Prelude.{◌≡◌, ◌≢◌, ◌≤◌, ℕ, List, ◌++◌, Option, None, Some, Result, Ok, Err, IfOk, IfSome, ap, inl, inr, refl, sym, ◌∙◌, subst, arith, Asks, names, Request, Trial, Counts, HasRisen, GrowsBy, NamedText, report_text, status, Answer, CallsFor, IsLoad, LoadsHeld, MayGive, TextsCallFor, AsksForSuch, EndsInShelfFault, EndsWhole, GrowsByFront, SinkSigns, Kept, Prints, heading_text, reply_status, reply_text, Reply, Printed}
 use Rattle.report.specs.declared.answer.Side.TheVariants as side
 use Rattle.dl_top.proofs.Loading.{given, held_decide, only, quiet_gives, shelf_fault}
 use Rattle.dl_top.specs.Prelude.{Ends}
-use Rattle.dl_top.specs.declared.reply.Printed.{Printed}
 
 pub prints : {E : Type 0} (Cause : Reply → Type 0) (reply : Reply) (made : Result Printed E) → Cause reply → IfOk made (λ printed. printed.text ≡ reply_text reply)
     → IfOk made (λ printed. printed.status ≡ reply_status reply) → IfOk made (Prints Cause)

@@ -1,35 +1,8 @@
 -- What texts call for keeps the promise of its status; and where the texts are such, the status is 0.
-use Rattle.dl_top.proofs.Prelude.{◌≡◌, ◌≤◌, ℕ, Bool, true, false, List, [], ◌∷◌, Result, Ok, Err, IfOk, inl, inr, map, refl, sym, ap, subst, ◌∙◌, arith, pos, slice_get_within, Job, Check, Livelock, Run, Table, Request, Trial, IsCompared, IsConforming, Rule, Spells, Script, IsBounded, IsNetworkOf, Network, HaveFewSets, HasNoPart, HasTables, AreTablesOf, refused_or, passed, told, report_text, run_text, status, verdict_status, verdict_text, Answer, Side, Verdict, TextsCallFor, Passing, Running, SpellMatching, SpellsPassing, SpellsTabled, SpellsTables, SpellsWithinBound, TextPasses, IsDecided, NetworkDecides, NetworkOr, SpellsNetwork, SpellsNoNetwork, SpellsOnlyNetwork, SpellsOnlyScript, TextCallsFor, TextIsShown, TextsCompare, IsStuckRun, JobPromised, Promised, SpellsBounded, SpellsConforming, SpellsShown, SpellsTable, TellsRank, IsFree, SpellsDeadlockFree, IsRun, SpellsRun, last_line, rule_of, trial_text}
+use Rattle.dl_top.proofs.Prelude.{◌≡◌, ◌≤◌, ℕ, Bool, true, false, List, [], ◌∷◌, Result, Ok, Err, IfOk, inl, inr, map, refl, sym, ap, subst, ◌∙◌, arith, pos, slice_get_within, Job, Check, Livelock, Run, Table, Request, Trial, IsCompared, IsConforming, Rule, Spells, Script, IsBounded, IsNetworkOf, Network, HaveFewSets, HasNoPart, HasTables, AreTablesOf, refused_or, passed, told, report_text, run_text, status, verdict_status, verdict_text, Answer, Side, Verdict, TextsCallFor, Passing, Running, SpellMatching, SpellsPassing, SpellsTabled, SpellsTables, SpellsWithinBound, TextPasses, IsDecided, NetworkDecides, NetworkOr, SpellsNetwork, SpellsNoNetwork, SpellsOnlyNetwork, SpellsOnlyScript, TextCallsFor, TextIsShown, TextsCompare, IsStuckRun, JobPromised, Promised, SpellsBounded, SpellsConforming, SpellsShown, SpellsTable, TellsRank, IsFree, SpellsDeadlockFree, IsRun, SpellsRun, last_line, rule_of, trial_text, compared_cases, comparison_is_exact, Matches, AreTargets, Proc, Component, leaves, WellNested, node_count, IsJudged, complete, faults_exclude_networks, all_go_on, IsJudgedWhole, classes, goes_on, has_greatest_rank, judged_whole, passes, Passes, bounds_are_told, bounded_cases, faults_exclude_tables, ComponentTable, network_is_tree, no_move_means_stuck, stays_nested, stuck_walks_refute_live, walks_are_runs, IsNetworkWalk, IsWalked, TellsWalk, walk_verdict, label, first_draw, Move, no_other, printed_spells, ProcessStep, Refusal, script_text, tabulated_cases, tabulated_is_complete, IsTabulated}
 use Rattle.command_words.specs.declared.request.Request.TheVariants as request
-use Rattle.comparison.proofs.Matching.{compared_cases, comparison_is_exact}
-use Rattle.comparison.specs.Complete.{Matches}
-use Rattle.csp_steps.specs.Order.{AreTargets}
-use Rattle.csp_program.specs.declared.processes.Proc.{Proc}
-use Rattle.csp_tables.specs.Prelude.{Component, leaves, WellNested}
-use Rattle.judgement.specs.Counts.{node_count}
-use Rattle.judgement.specs.Judged.{IsJudged}
-use Rattle.judgement_laws.proofs.Complete.{complete}
-use Rattle.judgement_laws.proofs.Networks.{faults_exclude_networks}
-use Rattle.judgement_laws.proofs.Tables.{all_go_on}
-use Rattle.judgement_laws.proofs.Whole.{IsJudgedWhole, classes, goes_on, has_greatest_rank, judged_whole, passes}
-use Rattle.judgement_laws.specs.Complete.{Passes}
-use Rattle.livelock.proofs.Agreeing.{bounds_are_told}
-use Rattle.livelock.proofs.Whole.{bounded_cases}
-use Rattle.network_stages.proofs.Excluded.{faults_exclude_tables}
-use Rattle.network_stages.specs.declared.component_tables.ComponentTable.{ComponentTable}
-use Rattle.network_trees.proofs.InOrder.{network_is_tree}
-use Rattle.network_walks.proofs.Runs.{no_move_means_stuck, stays_nested, stuck_walks_refute_live, walks_are_runs}
-use Rattle.network_walks.specs.Walked.{IsNetworkWalk, IsWalked, TellsWalk, walk_verdict}
-use Rattle.numbered_walks.specs.Prelude.{label, first_draw}
-use Rattle.numbered_walks.specs.declared.moves.Move.{Move}
-use Rattle.print_laws.proofs.RoundTrip.{no_other, printed_spells}
-use Rattle.process_steps.specs.ComponentStep.{ProcessStep}
-use Rattle.report.specs.declared.answer.Refusal.{Refusal}
 use Rattle.report.specs.declared.answer.Side.TheVariants as side
 use Rattle.report.specs.declared.answer.Verdict.TheVariants as verdict
-use Rattle.script_printer.specs.PrintedScript.{script_text}
-use Rattle.tabulation.proofs.Status.{tabulated_cases, tabulated_is_complete}
-use Rattle.tabulation.specs.Tabulated.{IsTabulated}
 
 -- ---- statuses
 

@@ -1,7 +1,5 @@
 -- Pieces that are sent one after another.
-use Rattle.dl_top.proofs.Prelude.{◌≡◌, ℕ, ◌+◌, ◌-◌, ◌≤◌, List, ◌++◌, length, take, drop, Option, None, Some, Ok, Err, sym, ◌∙◌, ap, arith, subst, append_assoc, length-drop, take-append-drop, length-take-le, take_rest, take-append-add, GrowsBy, WriteAnswers, GrowsByFront}
-use Rattle.std.specs.Option.{option_map}
-use Rattle.dl_outside.specs.declared.sink.SinkFault.{SinkFault}
+use Rattle.dl_top.proofs.Prelude.{◌≡◌, ℕ, ◌+◌, ◌-◌, ◌≤◌, List, ◌++◌, length, take, drop, Option, None, Some, Ok, Err, sym, ◌∙◌, ap, arith, subst, append_assoc, length-drop, take-append-drop, length-take-le, take_rest, take-append-add, GrowsBy, WriteAnswers, GrowsByFront, option_map, SinkFault}
 use Rattle.dl_outside.specs.declared.sink.SinkFault.TheVariants.{Failed, NoMemory}
 
 -- a front in two parts

@@ -1,7 +1,8 @@
 -- Which reply comes when: what the words ask for, the loads of the texts that it is for, and then what these texts call for.
 use Rattle.std.specs.Prelude.{◌≡◌, ◌⊎◌, ℕ, IfOk, List, [], ◌∷◌, Option, Some, Result, Ok, Err}
 use Rattle.dl_limits.specs.declared.TheConstants.{MOST_BYTES}
-use Rattle.dl_outside.specs.Prelude.{Counts, NeverFall, AnswersTold, LoadAnswers, text_of}
+use Rattle.dl_outside.specs.Prelude.{NeverFall, AnswersTold, LoadAnswers, text_of}
+use Rattle.dl_outside.specs.declared.count.Counts.{Counts}
 use Rattle.dl_outside.specs.declared.shelf.LoadFault.{LoadFault}
 use Rattle.dl_outside.specs.declared.texts.NamedText.{NamedText}
 use Rattle.dl_outside.specs.declared.shelf.LoadFault.TheVariants as load

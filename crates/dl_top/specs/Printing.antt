@@ -1,7 +1,6 @@
 -- What was printed of a reply, and how a fault of a text is told. (For private contracts: no public one cites this.)
 use Rattle.std.specs.Prelude.{◌≡◌, ℕ, List, Result, Err}
-use Rattle.csp_text.specs.declared.fault.ParseFault.{ParseFault}
-use Rattle.csp_text.specs.declared.fault.ParseFault.TheVariants as fault
+use Rattle.csp_text.specs.declared.fault.NoScript.{NoScript}
 use Rattle.dl_outside.specs.declared.shelf.LoadFault.{LoadFault}
 use Rattle.report.specs.declared.answer.Answer.{Answer}
 use Rattle.report.specs.declared.answer.Side.{Side}
@@ -25,6 +24,6 @@ abbrev pub IsUnloaded : (Result (List ℕ) LoadFault → Type 0) → Side → An
 IsUnloaded IsLoad side a = (f : LoadFault) × IsLoad (Err f) × TellsLoad side f a
 
 -- why a walk stops at a text of this side that is no script
-abbrev pub no_script : Side → ParseFault → Stop Answer
-no_script side fault.NoMemory = stop.NoMemory
-no_script side (fault.NoScript at) = stop.Told (answer.NoProgram side (text.NoScript at))
+abbrev pub no_script : Side → Stop NoScript → Stop Answer
+no_script side stop.NoMemory = stop.NoMemory
+no_script side (stop.Told fault) = stop.Told (answer.NoProgram side (text.NoScript fault.at))

@@ -9,37 +9,32 @@ ghost use Rattle.report.specs.Prelude.{report_text, status, Answers, Ends};
 ghost use Rattle.csp_base.specs.Stops.{Tells};
 ghost use Rattle.script_sizes.specs.Size.{AreSmall};
 ghost use Rattle.dl_limits.specs.declared.TheConstants.{MOST_BYTES};
-ghost use Rattle.dl_top.specs.Complete.{SpellMatching, SpellsTables, TextPasses};
-ghost use Rattle.dl_top.specs.Judgement.{NetworkDecides, SpellsNoNetwork, SpellsNoScript, SpellsOnlyNetwork, SpellsOnlyScript, TextCallsFor, TextIsShown, TextsCompare};
-ghost use Rattle.dl_top.specs.Printing.{no_script};
-ghost use Rattle.dl_top.specs.Promised.{JobPromised, SpellsConforming, SpellsShown};
-ghost use Rattle.dl_top.specs.Proved.{SpellsDeadlockFree};
-ghost use Rattle.dl_top.specs.Ran.{SpellsRun};
+ghost use Rattle.dl_top.specs.Prelude.{SpellMatching, SpellsTables, TextPasses, NetworkDecides, SpellsNoNetwork, SpellsNoScript, SpellsOnlyNetwork, SpellsOnlyScript, TextCallsFor, TextIsShown, TextsCompare, no_script, JobPromised, SpellsConforming, SpellsShown, SpellsDeadlockFree, SpellsRun};
 
 use command_words::Job;
 use comparison::compare_networks;
 use containers::Key;
 use csp_base::{NoMemory, Stop};
 use csp_parser::{each_text_spells_one_script, read};
-use csp_text::{ParseFault, Script};
+use csp_text::{NoScript, Script};
 use judgement::judge_by;
 use livelock::bound_hidden;
 use network_stages::{Spelled, spell_network};
 use network_walks::walk_network;
-use report::{Answer, Done, Halt, Side, TextFault, ended, finished};
+use report::{Answer, Done, Halt, Side, TextFault, conclude, settle};
 use script_printer::print_script;
 use std::alloc::Global;
 use tabulation::tabulate;
 
 // Why a walk stops at a text of this side that is no script.
-fn unread(side: Side, fault: ParseFault) -> Stop<Answer>
-    ensures { result ≡ no_script side fault }
+fn no_script(side: Side, why: Stop<NoScript>) -> Stop<Answer>
+    ensures { result ≡ no_script side why }
 {
-    match fault {
-        ParseFault::NoScript { at } => {
+    match why {
+        Stop::Told(NoScript { at }) => {
             Stop::Told(Answer::NoProgram(side, TextFault::NoScript { at }))
         }
-        ParseFault::NoMemory => Stop::NoMemory,
+        Stop::NoMemory => Stop::NoMemory,
     }
 }
 
@@ -55,7 +50,7 @@ fn spell_script(alloc: Global, side: Side, text: &[u8]) -> Result<Script, Stop<A
             each_text_spells_one_script();
             Ok(script)
         }
-        Err(fault) => Err(unread(side, fault)),
+        Err(fault) => Err(no_script(side, fault)),
     }
 }
 
@@ -82,21 +77,21 @@ fn decide_job(alloc: Global, job: &Job, network: &Spelled) -> Result<Done, Halt>
 }
 
 // The walk from the text of a script to the answer.
-fn text_decided(alloc: Global, job: &Job, text: &[u8]) -> Result<Answer, Stop<Answer>>
+fn decide_text(alloc: Global, job: &Job, text: &[u8]) -> Result<Answer, Stop<Answer>>
     requires { length text.now ≤ MOST_BYTES }
     ensures { Ends (TextCallsFor text.now job.now) result }
 {
     let network = spell(alloc, Side::Script, text)?;
-    let verdict = finished(decide_job(alloc, job, &network))?;
+    let verdict = conclude(decide_job(alloc, job, &network))?;
     Ok(Answer::Decided(network.into_program(), verdict))
 }
 
 // The answer to which that walk comes.
-fn called_for(alloc: Global, job: &Job, text: &[u8]) -> Result<Answer, NoMemory>
+fn answer_text(alloc: Global, job: &Job, text: &[u8]) -> Result<Answer, NoMemory>
     requires { length text.now ≤ MOST_BYTES }
     ensures { IfOk result (TextCallsFor text.now job.now) }
 {
-    ended(text_decided(alloc, job, text))
+    settle(decide_text(alloc, job, text))
 }
 
 /// The answer that the text of a script calls for, with whose network this is to be done: what `dl_main` reports of a text that it loaded. The text has at
@@ -121,11 +116,11 @@ pub fn judge(alloc: Global, job: &Job, text: &[u8]) -> Result<Answer, NoMemory>
     ensures runs { IfOk result (λ answer. (seed steps : ℕ) → job.now ≡ Run seed steps → SpellsTables text.now
         → status answer ≤ 1) }
 {
-    called_for(alloc, job, text)
+    answer_text(alloc, job, text)
 }
 
 // The walk from the text of a script to its printed text.
-fn text_shown(alloc: Global, text: &[u8]) -> Result<Answer, Stop<Answer>>
+fn show_text(alloc: Global, text: &[u8]) -> Result<Answer, Stop<Answer>>
     requires { length text.now ≤ MOST_BYTES }
     ensures { Ends (TextIsShown text.now) result }
 {
@@ -145,18 +140,18 @@ pub fn show(alloc: Global, text: &[u8]) -> Result<Answer, NoMemory>
     // And so it comes wherever the text spells a script.
     ensures complete { IfOk result (λ answer. (script : ScriptValue) → Spells text.now script → status answer ≡ 0) }
 {
-    ended(text_shown(alloc, text))
+    settle(show_text(alloc, text))
 }
 
 // The walk from the texts of a script and its specification to the answer.
-fn compared_texts(alloc: Global, text: &[u8], specification: &[u8]) -> Result<Answer, Stop<Answer>>
+fn compare_texts(alloc: Global, text: &[u8], specification: &[u8]) -> Result<Answer, Stop<Answer>>
     requires text { length text.now ≤ MOST_BYTES }
     requires specification { length specification.now ≤ MOST_BYTES }
     ensures { Ends (TextsCompare text.now specification.now) result }
 {
     let network = spell(alloc, Side::Script, text)?;
     let specified = spell(alloc, Side::Specification, specification)?;
-    let verdict = finished(compare_networks(alloc, &network, &specified))?;
+    let verdict = conclude(compare_networks(alloc, &network, &specified))?;
     Ok(Answer::Decided(network.into_program(), verdict))
 }
 
@@ -173,5 +168,5 @@ pub fn judge_pair(alloc: Global, text: &[u8], specification: &[u8]) -> Result<An
     // And so it comes wherever both networks are within the limits and match.
     ensures matching { IfOk result (λ answer. SpellMatching text.now specification.now → status answer ≡ 0) }
 {
-    ended(compared_texts(alloc, text, specification))
+    settle(compare_texts(alloc, text, specification))
 }

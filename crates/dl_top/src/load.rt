@@ -10,17 +10,16 @@ ghost use Rattle.dl_outside.specs.declared.shelf.LoadFault.{LoadFault as FaultVa
 ghost use Rattle.csp_base.specs.Stops.{Tells};
 ghost use Rattle.report.specs.Stops.{Ends};
 ghost use Rattle.report.specs.declared.answer.Side.TheVariants as side;
-ghost use Rattle.dl_top.specs.Cause.{IsLoad, Loaded, MayGive, TellsLoad, TextsCallFor};
-ghost use Rattle.dl_top.specs.Printing.{IsUnloaded, Prints};
+ghost use Rattle.dl_top.specs.Prelude.{IsLoad, Loaded, MayGive, TellsLoad, TextsCallFor, IsUnloaded, Prints};
 
 use crate::judge::{judge, judge_pair, show};
 use crate::reply::{Printed, Reply, print, rule_of};
-use command_words::{Job, Request, Trial, Words, asked};
+use command_words::{Job, Request, Trial, Words, read_request};
 use csp_base::{Bytes, NoMemory, Stop};
 use dl_limits::MOST_BYTES;
 use dl_outside::{LoadFault, Shelf};
 use net_maker::family_script;
-use report::{Answer, OutsideFault, Side, TextFault, ended};
+use report::{Answer, OutsideFault, Side, TextFault, settle};
 use std::alloc::Global;
 
 // How it is told that the text of this side can't be loaded.
@@ -85,7 +84,7 @@ fn answer_script<S: Shelf>(
 }
 
 // The answer to a request to hold the script of the first name against the specification of the second.
-fn conforming<S: Shelf>(
+fn answer_conform<S: Shelf>(
     alloc: Global,
     script: &[u8],
     specification: &[u8],
@@ -128,7 +127,7 @@ fn answer_request<S: Shelf>(
         Request::Script(job, name) => answer_script(alloc, job, name.as_slice(), shelf),
         Request::Trial(trial) => answer_trial(alloc, *trial),
         Request::Conform(script, specification) => {
-            conforming(alloc, script.as_slice(), specification.as_slice(), shelf)
+            answer_conform(alloc, script.as_slice(), specification.as_slice(), shelf)
         }
     }
 }
@@ -140,7 +139,7 @@ fn reply_to<S: Shelf>(alloc: Global, words: &Words, shelf: &mut S) -> Result<Rep
     ensures texts_stay { S.texts shelf.new ≡ S.texts shelf.old }
     ensures never_fall { NeverFall (S.counts shelf.old) (S.counts shelf.new) }
 {
-    let found = asked(alloc, words)?;
+    let found = read_request(alloc, words)?;
     let Some(request) = found else {
         return Ok(Reply {
             trial: None,
@@ -148,14 +147,14 @@ fn reply_to<S: Shelf>(alloc: Global, words: &Words, shelf: &mut S) -> Result<Rep
         });
     };
     let trial = request.trial();
-    match ended(answer_request(alloc, &request, shelf)) {
+    match settle(answer_request(alloc, &request, shelf)) {
         Ok(answer) => Ok(Reply { trial, answer }),
         Err(error) => Err(error),
     }
 }
 
 /// What is sent in reply to the words, with the exit status.
-pub(crate) fn printed_reply<S: Shelf>(
+pub(crate) fn print_reply<S: Shelf>(
     alloc: Global,
     words: &Words,
     shelf: &mut S,

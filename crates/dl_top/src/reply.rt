@@ -18,13 +18,9 @@ pub struct Reply {
     pub answer: Answer,
 }
 
-// By hand, so that a crate that ends one calls this and proves no end of its own.
 impl Drop for Reply {
     fn drop(self) {
-        let Reply {
-            trial: _trial,
-            answer: _answer,
-        } = self;
+        let Reply { trial, answer } = self;
     }
 }
 

@@ -3,12 +3,7 @@
 ghost use Rattle.std.specs.Prelude.{◌≡◌, ◌≢◌, ◌≤◌, Some};
 ghost use Rattle.command_words.specs.Request.{AsksForCheck, AsksForRun, AsksForTrial, NamesNoScript};
 ghost use Rattle.dl_outside.specs.Texts.{IsTextOf};
-ghost use Rattle.dl_top.specs.Cause.{CallsFor, HoldsAllNamed};
-ghost use Rattle.dl_top.specs.Complete.{AsksForSuch, Passing, Running};
-ghost use Rattle.dl_top.specs.Ending.{Ends, EndsInShelfFault, EndsWhole, sink_signs};
-ghost use Rattle.dl_top.specs.Kept.{Kept};
-ghost use Rattle.dl_top.specs.Promised.{IsStuckRun, Promised};
-ghost use Rattle.dl_top.specs.Proved.{IsFree};
+ghost use Rattle.dl_top.specs.Prelude.{CallsFor, HoldsAllNamed, AsksForSuch, Passing, Running, Ends, EndsInShelfFault, EndsWhole, sink_signs, Kept, IsStuckRun, Promised, IsFree};
 
 use crate::top::dl_main;
 use command_words::Words;

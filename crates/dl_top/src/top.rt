@@ -3,14 +3,9 @@
 ghost use Rattle.std.specs.Prelude.{◌≡◌, ◌≢◌, ◌≤◌, IfSome};
 ghost use Rattle.dl_outside.specs.Count.{HasRisen, NeverFall};
 ghost use Rattle.command_words.specs.Request.{AsksForCheck, AsksForRun, AsksForTrial, NamesNoScript};
-ghost use Rattle.dl_top.specs.Cause.{CallsFor, IsLoad, MayGive};
-ghost use Rattle.dl_top.specs.Complete.{AsksForSuch, Passing, Running};
-ghost use Rattle.dl_top.specs.Ending.{Ends, EndsInShelfFault, EndsWhole, sink_signs};
-ghost use Rattle.dl_top.specs.Kept.{Kept};
-ghost use Rattle.dl_top.specs.Promised.{IsStuckRun, Promised};
-ghost use Rattle.dl_top.specs.Proved.{IsFree};
+ghost use Rattle.dl_top.specs.Prelude.{CallsFor, IsLoad, MayGive, AsksForSuch, Passing, Running, Ends, EndsInShelfFault, EndsWhole, sink_signs, Kept, IsStuckRun, Promised, IsFree};
 
-use crate::load::printed_reply;
+use crate::load::print_reply;
 use crate::send::send;
 use command_words::Words;
 use dl_outside::{Shelf, Sink, SinkFault};
@@ -31,7 +26,7 @@ fn report_to<S: Shelf, O: Sink>(alloc: Global, words: &Words, shelf: &mut S, out
     ensures shelf_counts_never_fall { NeverFall (S.counts shelf.old) (S.counts shelf.new) }
     ensures sink_faults_never_fall { O.faults out.old ≤ O.faults out.new }
 {
-    let Ok(printed) = printed_reply(alloc, words, shelf) else {
+    let Ok(printed) = print_reply(alloc, words, shelf) else {
         return NO_MEMORY;
     };
     match send(out, printed.text.as_slice()) {

@@ -1,6 +1,5 @@
 -- Equal future: it passes on to where an event leads, and it is what stable classes say.
-use Rattle.equal_futures.proofs.Prelude.{◌≡◌, ℕ, ◌<◌, List, [], ◌∷◌, length, Bool, true, false, ◌&&◌, refl, sym, ◌∙◌, slice_index, and_from, both_ways, Node, node_at, is_possible, node_after, is_run, end_of, HaveEqualFuture, NodesRise}
-use Rattle.std.proofs.lemmas.Bool.{and_parts}
+use Rattle.equal_futures.proofs.Prelude.{◌≡◌, ℕ, ◌<◌, List, [], ◌∷◌, length, Bool, true, false, ◌&&◌, refl, sym, ◌∙◌, slice_index, and_from, both_ways, Node, node_at, is_possible, node_after, is_run, end_of, HaveEqualFuture, NodesRise, and_parts}
 use Rattle.equal_futures.proofs.RowLists.{target_below}
 
 and_true : (a : Bool) → a ≡ (a && true)

@@ -1,7 +1,5 @@
 -- Steps in lists: where they stand, the rows of incoming steps, and steps that are gathered.
-use Rattle.equal_futures.proofs.Prelude.{◌≡◌, ℕ, zero, suc, ◌+◌, ◌<◌, inl, inr, List, [], ◌∷◌, length, get_or, Bool, true, false, ◌||◌, ◌&&◌, nat_eq, refl, sym, ap, ◌∙◌, subst, arith, ◌↔◌, Contains, IsPermutation, cases_eq, or_cases, or_left, or_right, and_parts, eqb-true, eq-eqb, ne_eqb, false≢true, Contains-permutation, IsPermutation-sym, Node, node_at, is_possible, target, node_after, StepsRise, NodesRise, has_arrow, AreFrom, AreAdded, AreIncoming, same_tests}
-use Rattle.csp_base.specs.Standard.{All}
-use Rattle.csp_base.proofs.Standard.{and_from}
+use Rattle.equal_futures.proofs.Prelude.{◌≡◌, ℕ, zero, suc, ◌+◌, ◌<◌, inl, inr, List, [], ◌∷◌, length, get_or, Bool, true, false, ◌||◌, ◌&&◌, nat_eq, refl, sym, ap, ◌∙◌, subst, arith, ◌↔◌, Contains, IsPermutation, cases_eq, or_cases, or_left, or_right, and_parts, eqb-true, eq-eqb, ne_eqb, false≢true, Contains-permutation, IsPermutation-sym, Node, node_at, is_possible, target, node_after, StepsRise, NodesRise, has_arrow, AreFrom, AreAdded, AreIncoming, same_tests, All, and_from}
 use Rattle.equal_futures.proofs.RowLists.{once}
 
 -- where a step stands

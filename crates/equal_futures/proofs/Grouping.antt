@@ -1,6 +1,5 @@
 -- Steps that are sorted by event are taken group by group, each event once.
-use Rattle.equal_futures.proofs.Prelude.{◌≡◌, ℕ, zero, suc, ◌+◌, ◌-◌, ◌<◌, ◌≤◌, inl, inr, List, [], ◌∷◌, length, get_or, take, drop, true, nat_eq, refl, sym, ap, ◌∙◌, subst, arith, ◌↔◌, IsNonDecreasingBy, IsPermutation, cases_lt, or_cases, or_left, or_right, eqb-true, eq-eqb, false≢true, length-take-le, length-drop, get_or-take, get_or-drop, IsSplitByEvents, AreFrom, has_arrow, event_at, State, HasBlocks, IsCalm, IsOnward, IsSplit, block_at, is_source, onward_trans, same_tests}
-use Rattle.csp_base.specs.Standard.{All}
+use Rattle.equal_futures.proofs.Prelude.{◌≡◌, ℕ, zero, suc, ◌+◌, ◌-◌, ◌<◌, ◌≤◌, inl, inr, List, [], ◌∷◌, length, get_or, take, drop, true, nat_eq, refl, sym, ap, ◌∙◌, subst, arith, ◌↔◌, IsNonDecreasingBy, IsPermutation, cases_lt, or_cases, or_left, or_right, eqb-true, eq-eqb, false≢true, length-take-le, length-drop, get_or-take, get_or-drop, IsSplitByEvents, AreFrom, has_arrow, event_at, State, HasBlocks, IsCalm, IsOnward, IsSplit, block_at, is_source, onward_trans, same_tests, All}
 use Rattle.equal_futures.proofs.Gathering.{step_place, step_at, permuted, all_sources}
 
 -- the events before a place are done, and don't come again

@@ -1,7 +1,5 @@
 -- Keys numbered in the order in which they are first seen.
-use Rattle.equal_futures.proofs.Prelude.{◌≡◌, ℕ, suc, ◌+◌, ◌<◌, ◌≤◌, inl, inr, List, [], ◌∷◌, ◌++◌, length, get_or, Bool, true, false, cond, nat_eq, refl, sym, ap, ◌∙◌, subst, arith, below_more, position_or_len, list_any, is_member, eq-eqb, eqb-true, ne_eqb, cond-true, cond-false, cases_Bool, false≢true, or_cases, length_push, get_or_push, get_or_append_left, passes_at_first, position_or_len_push, SeenInOrder, AreRenumbered}
-use Rattle.containers.specs.Exact.{IsExact}
-use Rattle.containers.specs.Members.{with_new}
+use Rattle.equal_futures.proofs.Prelude.{◌≡◌, ℕ, suc, ◌+◌, ◌<◌, ◌≤◌, inl, inr, List, [], ◌∷◌, ◌++◌, length, get_or, Bool, true, false, cond, nat_eq, refl, sym, ap, ◌∙◌, subst, arith, below_more, position_or_len, list_any, is_member, eq-eqb, eqb-true, ne_eqb, cond-true, cond-false, cases_Bool, false≢true, or_cases, length_push, get_or_push, get_or_append_left, passes_at_first, position_or_len_push, SeenInOrder, AreRenumbered, IsExact, with_new}
 
 pub seen_old : (seen : ℕ) (xs : List ℕ) (count x : ℕ) → SeenInOrder seen xs count → x < count → SeenInOrder seen (xs ++ x ∷ []) count
 seen_old seen [] count x h l = inl (subst (λ n. x < n) (sym h) l, h)

@@ -1,7 +1,5 @@
 -- Steps of a node whose events rise: each event stands once, and leads to a node.
-use Rattle.equal_futures.proofs.Prelude.{◌≡◌, ℕ, zero, suc, get_or, ◌<◌, inl, inr, List, [], ◌∷◌, length, true, false, nat_eq, sym, ap, ◌∙◌, subst, arith, false_from_ne_true, StepsRise}
-use Rattle.std.proofs.lemmas.Bool.{eqb-true, eq-eqb, ne_eqb, false≢true, or_cases, cond-true, cond-false, cases_eq}
-use Rattle.csp_tables.specs.Prelude.{BeginsAbove, is_possible, target}
+use Rattle.equal_futures.proofs.Prelude.{◌≡◌, ℕ, zero, suc, get_or, ◌<◌, inl, inr, List, [], ◌∷◌, length, true, false, nat_eq, sym, ap, ◌∙◌, subst, arith, false_from_ne_true, StepsRise, eqb-true, eq-eqb, ne_eqb, false≢true, or_cases, cond-true, cond-false, cases_eq, BeginsAbove, is_possible, target}
 
 -- each possible event is above what the first one is above
 pub above : (n b : ℕ) (steps : List (ℕ × ℕ)) (e : ℕ) → StepsRise n steps → BeginsAbove b steps → is_possible steps e ≡ true → b < e

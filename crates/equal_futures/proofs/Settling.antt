@@ -1,10 +1,7 @@
 -- Refinement by splitters: between two splitters the partition is stable under each block that doesn't wait.
-use Rattle.equal_futures.proofs.Prelude.{◌≡◌, ℕ, ◌<◌, inl, inr, List, [], length, get_or, true, false, ◌&&◌, nat_eq, nat_lt, refl, sym, ap, ◌∙◌, subst, slice_index, slice_index_or, ◌↔◌, All, cases_eq, eqb-true, eq-eqb, lt-ltb, ltb-true, and_parts, get_or_default, Node, node_at, is_possible, node_after, AreAllFrom, IsSplitByBlock, IsSplitByMarks, HaveEqualFuture, AreFutureClasses, NodesRise, AreRenumbered, IsSplitByEvents, AreMarkSteps, AreIncoming, AreGathered, AreFrom, has_arrow, State, HasBlocks, IsCalm, IsWhole, IsTaken, block_at, waits, same_tests}
-use Rattle.csp_base.proofs.Standard.{both_ways}
-use Rattle.csp_base.specs.Members.{has}
+use Rattle.equal_futures.proofs.Prelude.{◌≡◌, ℕ, ◌<◌, inl, inr, List, [], length, get_or, true, false, ◌&&◌, nat_eq, nat_lt, refl, sym, ap, ◌∙◌, subst, slice_index, slice_index_or, ◌↔◌, All, cases_eq, eqb-true, eq-eqb, lt-ltb, ltb-true, and_parts, get_or_default, Node, node_at, is_possible, node_after, AreAllFrom, IsSplitByBlock, IsSplitByMarks, HaveEqualFuture, AreFutureClasses, NodesRise, AreRenumbered, IsSplitByEvents, AreMarkSteps, AreIncoming, AreGathered, AreFrom, has_arrow, State, HasBlocks, IsCalm, IsWhole, IsTaken, block_at, waits, same_tests, both_ways, has, any_of, has_at, any_member}
 use Rattle.equal_futures.proofs.RowLists.{target_below}
 use Rattle.equal_futures.proofs.Futures.{same_marks, same_events, future_after, AreStable, future_from_stable}
-use Rattle.csp_base.proofs.Listed.{any_of, has_at, any_member}
 
 pub future_sym : (nodes : List Node) (marks : List ℕ) (i j : ℕ) → HaveEqualFuture nodes marks i j → HaveEqualFuture nodes marks j i
 future_sym nodes marks i j f = record { runs = λ w. sym (f.runs w); ends = λ w r. sym (f.ends w (f.runs w ∙ r)) }

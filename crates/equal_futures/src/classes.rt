@@ -17,7 +17,7 @@ pub struct Classes {
 }
 
 // A class for each block.
-pub(crate) fn renumbered(alloc: Global, blocks: &[u32]) -> Result<Classes, NoMemory>
+pub(crate) fn renumber(alloc: Global, blocks: &[u32]) -> Result<Classes, NoMemory>
     requires { length blocks.now < 2 ^ 32 }
     ensures { IfOk result (λ made. AreRenumbered blocks.now made.numbers.items made.count) }
 {

@@ -7,7 +7,7 @@ ghost use Rattle.equal_futures.specs.Arrows.{AreAdded, AreFrom, AreGathered, Are
 ghost use Rattle.partitions.specs.Blocks.{HasBlocks, IsCalm, count_of, state_of};
 ghost use Rattle.equal_futures.specs.Splits.{AreAllFrom, IsSplitByBlock, IsSplitByMarks};
 
-use crate::classes::{Classes, renumbered};
+use crate::classes::{Classes, renumber};
 use containers::{Items, empty_rows, push_at};
 use csp_base::NoMemory;
 use csp_tables::NormNode;
@@ -27,13 +27,13 @@ pub fn refine(alloc: Global, nodes: &[NormNode], marks: &[u32]) -> Result<Classe
     requires numbered { length nodes.now < 2 ^ 32 }
     ensures { IfOk result (λ made. AreFutureClasses nodes.now marks.now made.numbers.items made.count) }
 {
-    let rows = incoming(alloc, nodes)?;
+    let rows = incoming_rows(alloc, nodes)?;
     let mut partition = whole(alloc, nodes.len() as u32)?;
     split_by_marks(alloc, marks, &mut partition)?;
     while let Some(block) = partition.next_waiting() {
         split_by_block(alloc, rows.as_slice(), &mut partition, block)?;
     }
-    renumbered(alloc, partition.blocks.as_slice())
+    renumber(alloc, partition.blocks.as_slice())
 }
 
 // Splits each block into nodes of equal marks.
@@ -64,7 +64,7 @@ fn split_by_block(
     ensures { OnOk result (IsSplitByBlock (count_of partition.old) (state_of partition.old)
         (state_of partition.new) rows.now block) }
 {
-    let mut steps = entering(alloc, rows, partition.members(block))?;
+    let mut steps = entering_steps(alloc, rows, partition.members(block))?;
     split_by_events(alloc, partition, &mut steps)
 }
 
@@ -81,7 +81,7 @@ fn with_marks(alloc: Global, marks: &[u32]) -> Result<Vec<(u32, u32)>, NoMemory>
 }
 
 // For each node the steps that lead to it, each by its event and the node from which it leads.
-fn incoming(alloc: Global, nodes: &[NormNode]) -> Result<Vec<Items<(u32, u32)>>, NoMemory>
+fn incoming_rows(alloc: Global, nodes: &[NormNode]) -> Result<Vec<Items<(u32, u32)>>, NoMemory>
     requires rising { NodesRise nodes.now }
     requires numbered { length nodes.now < 2 ^ 32 }
     ensures { IfOk result (λ rows. AreIncoming nodes.now rows.items (length nodes.now)) }
@@ -109,7 +109,7 @@ fn add_steps(
 }
 
 // The steps that lead into one of the members.
-fn entering(
+fn entering_steps(
     alloc: Global,
     rows: &[Items<(u32, u32)>],
     members: &[u32],

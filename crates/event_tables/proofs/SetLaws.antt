@@ -1,13 +1,6 @@
 -- Field sets, one after another.
-use Rattle.event_tables.proofs.Prelude.{◌≡◌, ℕ, zero, suc, ◌+◌, ◌<◌, ◌≤◌, List, [], ◌∷◌, ◌++◌, length, drop, get_or, replicate, refl, sym, ap, ◌∙◌, append_assoc, add-one, subst, arith, Option, Some, None, Result, IfOk, OnOk, slice_get, Bor, option_copied, IsErrAnd, IsItemAt, drop_of_length-le, append-nil, get_or_from_slice_get, slice_get_past, slice_get_read, slice_get_within, Atom, row_count, channel_events, events_from_channel, Outcome, and_then, value_of, Channel, SharedSets, GivesOneMore, lent, spread, field_set, field_sets, with_sets, drop_read}
-use Rattle.std.specs.Prelude.{Ok, Err}
+use Rattle.event_tables.proofs.Prelude.{◌≡◌, ℕ, zero, suc, ◌+◌, ◌<◌, ◌≤◌, List, [], ◌∷◌, ◌++◌, length, drop, get_or, replicate, refl, sym, ap, ◌∙◌, append_assoc, add-one, subst, arith, Option, Some, None, Result, IfOk, OnOk, slice_get, Bor, option_copied, IsErrAnd, IsItemAt, drop_of_length-le, append-nil, get_or_from_slice_get, slice_get_past, slice_get_read, slice_get_within, Atom, row_count, channel_events, events_from_channel, Outcome, and_then, value_of, Channel, SharedSets, GivesOneMore, lent, spread, field_set, field_sets, with_sets, drop_read, Ok, Err, Expr, ValueKind, Content, EventInfo, Gives, at_err, weaker, EvalFault}
 use Rattle.csp_base.proofs.Standard.{length-append}
-use Rattle.csp_program.specs.declared.expressions.Expr.{Expr}
-use Rattle.csp_program.specs.declared.kinds.ValueKind.{ValueKind}
-use Rattle.csp_program.specs.declared.programs.Content.{Content}
-use Rattle.csp_program.specs.declared.programs.EventInfo.{EventInfo}
-use Rattle.value_operators.specs.Prelude.{Gives}
-use Rattle.value_operators.specs.declared.fault.EvalFault.{EvalFault}
 
 -- these sets, and those of the types that are left
 abbrev pub sets_with : List (List Atom) → Outcome (List (List Atom)) → Outcome (List (List Atom))
@@ -147,12 +140,6 @@ fill_ok (Ok next) made new channel first all sets at next_is new_is = λ channel
 fill_ok (Err e) made new channel first all sets at next_is new_is = tt
 
 -- an error of one type is the error of all
-stop_fault : (e : EvalFault) (old new : List (List Atom)) (outcome : Outcome (List Atom)) (whole : Outcome (List (List Atom)))
-    → ((why : ValueKind) → outcome ≡ Err why → whole ≡ Err why) → GivesOneMore (Err e) old new outcome → Gives (Err e) whole
-stop_fault EvalFault.NoMemory old new outcome whole along owed = tt
-stop_fault (EvalFault.Value why) old new outcome whole along owed = along why owed
-
 pub stop_err : (r : Result (List (List Atom)) EvalFault) (e : EvalFault) (old new : List (List Atom)) (outcome : Outcome (List Atom)) (whole : Outcome (List (List Atom)))
     → IsErrAnd r (λ y. y ≡ e) → ((why : ValueKind) → outcome ≡ Err why → whole ≡ Err why) → GivesOneMore (Err e) old new outcome → Gives r whole
-stop_err (Ok x) e old new outcome whole is along owed = absurd is
-stop_err (Err y) e old new outcome whole is along owed = rw is (stop_fault e old new outcome whole along owed)
+stop_err r e old new outcome whole is along owed = at_err (λ q. Gives q whole) r e is (weaker (λ why. outcome ≡ Err why) (λ why. whole ≡ Err why) e owed along)

@@ -6,7 +6,7 @@ use Rattle.csp_atoms.specs.declared.atom.Atom.{Atom}
 use Rattle.csp_program.specs.Prelude.{joined, Outcome}
 use Rattle.csp_program.specs.declared.programs.Channel.{Channel}
 use Rattle.script_names.specs.Resolved.{all_events}
-use Rattle.value_operators.specs.declared.fault.EvalFault.{EvalFault}
+use Rattle.value_operators.specs.Gives.{EvalFault, IsFault}
 use Rattle.event_tables.specs.declared.sets.SharedSets.{SharedSets}
 
 -- the field sets of each channel, one after another
@@ -33,5 +33,4 @@ GivesSet old new outcome = (set : List Atom) × (outcome ≡ Ok set) × (new ≡
 -- what a call answers that puts one more set at the end
 abbrev pub GivesOneMore : Result (Unit {0}) EvalFault → List (List Atom) → List (List Atom) → Outcome (List Atom) → Type 0
 GivesOneMore (Ok _) old new outcome = GivesSet old new outcome
-GivesOneMore (Err EvalFault.NoMemory) old new outcome = Unit {0}
-GivesOneMore (Err (EvalFault.Value kind)) old new outcome = outcome ≡ Err kind
+GivesOneMore (Err fault) old new outcome = IsFault fault outcome

@@ -28,7 +28,7 @@ fn shared_count(one: &SharedSets) -> u64
 }
 
 /// The number of the first event after those of a channel with these field sets, which begin with `first`.
-pub fn after(first: u32, sets: &[AtomSet]) -> u32
+pub fn first_after(first: u32, sets: &[AtomSet]) -> u32
     requires { first + meant.row_count sets.now < 2 ^ 32 }
     ensures { result ≡ first + meant.row_count sets.now }
 {

@@ -7,22 +7,18 @@ ghost use Rattle.dl_limits.specs.declared.TheConstants.{MOST_BYTES};
 ghost use Rattle.event_tables.specs.Spread.{events_left, lent, spread};
 ghost use Rattle.script_names.specs.Resolved as meant;
 
-use crate::counts::after;
+use crate::counts::first_after;
 use crate::sets::{SharedSets, copy_sets, sets_at, spread_sets};
 use crate::table::event_table;
 use containers::Items;
 use csp_atoms::AtomSet;
-use csp_base::NoMemory;
 use csp_program::{Channel, Content};
+use script_names::Made;
 use std::alloc::Global;
 use std::mem::replace;
 
 /// Gives the channels these field sets, and makes the event table.
-pub fn fill_events(
-    alloc: Global,
-    content: &mut Content,
-    shared: &[SharedSets],
-) -> Result<(), NoMemory>
+pub fn fill_events(alloc: Global, content: &mut Content, shared: &[SharedSets]) -> Made<()>
     requires channels { length content.old.channels ≤ MOST_BYTES }
     requires events { meant.all_events (spread shared.now) < 2 ^ 32 }
     ensures { OnOk result (content.new
@@ -35,11 +31,7 @@ pub fn fill_events(
 }
 
 // The channels with the field sets that the channels of each declaration share.
-fn fill(
-    alloc: Global,
-    channels: Items<Channel>,
-    shared: &[SharedSets],
-) -> Result<Items<Channel>, NoMemory>
+fn fill(alloc: Global, channels: Items<Channel>, shared: &[SharedSets]) -> Made<Items<Channel>>
     requires { meant.all_events (spread shared.now) < 2 ^ 32 }
     ensures { IfOk result (λ made. made ≡ meant.with_sets 0 channels (spread shared.now)) }
 {
@@ -49,11 +41,7 @@ fn fill(
 }
 
 // The channels with these field sets.
-fn with_sets(
-    alloc: Global,
-    channels: Items<Channel>,
-    all: &[&[AtomSet]],
-) -> Result<Items<Channel>, NoMemory>
+fn with_sets(alloc: Global, channels: Items<Channel>, all: &[&[AtomSet]]) -> Made<Items<Channel>>
     requires { meant.all_events (lent all.now) < 2 ^ 32 }
     ensures { IfOk result (λ made. made ≡ meant.with_sets 0 channels (lent all.now)) }
 {
@@ -72,7 +60,7 @@ fn add_channel(
     first: u32,
     channel: Channel,
     all: &[&[AtomSet]],
-) -> Result<u32, NoMemory>
+) -> Made<u32>
     requires { events_left first made.old (lent all.now) < 2 ^ 32 }
     ensures few { IfOk result (λ next.
         events_left next made.new (lent all.now) ≤ events_left first made.old (lent all.now)) }
@@ -96,12 +84,12 @@ fn add_filled(
     first: u32,
     channel: Channel,
     sets: &[AtomSet],
-) -> Result<u32, NoMemory>
+) -> Made<u32>
     requires { first + row_count sets.now < 2 ^ 32 }
     ensures next { IfOk result (λ next. next ≡ first + row_count sets.now) }
     ensures made { OnOk result (made.new ≡ made.old ++ record channel { fields = Some sets.now; first = first } ∷ []) }
 {
-    let next = after(first, sets);
+    let next = first_after(first, sets);
     match copy_sets(alloc, sets) {
         Ok(fields) => push_filled(made, first, channel, fields).map(|()| next),
         Err(error) => {
@@ -117,7 +105,7 @@ fn push_filled(
     first: u32,
     mut channel: Channel,
     fields: Items<AtomSet>,
-) -> Result<(), NoMemory>
+) -> Made<()>
     ensures { OnOk result (made.new ≡ made.old ++ record channel { fields = Some fields; first = first } ∷ []) }
 {
     channel.fields = Some(fields);

@@ -7,12 +7,12 @@ ghost use Rattle.event_tables.specs.Spread.{extended};
 
 use containers::Items;
 use csp_atoms::{Atom, AtomSet};
-use csp_base::NoMemory;
+use script_names::Made;
 use std::alloc::Global;
 use value_operators::numbers::row_count;
 
 /// The lists that take one value from each set, the first set slowest.
-pub fn rows(alloc: Global, sets: &[AtomSet]) -> Result<Vec<Items<Atom>>, NoMemory>
+pub fn rows(alloc: Global, sets: &[AtomSet]) -> Made<Vec<Items<Atom>>>
     ensures { IfOk result (λ made. made.items ≡ meant.rows sets.now) }
 {
     // Without this, the lists before a later empty set would be built in vain.
@@ -27,7 +27,7 @@ pub fn rows(alloc: Global, sets: &[AtomSet]) -> Result<Vec<Items<Atom>>, NoMemor
 }
 
 // The one list without a value.
-fn no_fields(alloc: Global) -> Result<Vec<Items<Atom>>, NoMemory>
+fn no_fields(alloc: Global) -> Made<Vec<Items<Atom>>>
     ensures { IfOk result (λ made. made.items ≡ [] ∷ []) }
 {
     let mut made = Vec::new(alloc);
@@ -36,7 +36,7 @@ fn no_fields(alloc: Global) -> Result<Vec<Items<Atom>>, NoMemory>
 }
 
 // Each of the lists with each value of the set at its end.
-fn extend(alloc: Global, rows: Vec<Items<Atom>>, set: &[Atom]) -> Result<Vec<Items<Atom>>, NoMemory>
+fn extend(alloc: Global, rows: Vec<Items<Atom>>, set: &[Atom]) -> Made<Vec<Items<Atom>>>
     ensures { IfOk result (λ made. made.items ≡ extended rows.items set.now) }
 {
     let mut made = Vec::new(alloc);
@@ -52,7 +52,7 @@ fn add_longer(
     made: &mut Vec<Items<Atom>>,
     row: Items<Atom>,
     set: &[Atom],
-) -> Result<(), NoMemory>
+) -> Made<()>
     ensures { OnOk result (made.new.items ≡ made.old.items ++ map (λ (a : Atom). row ++ a ∷ []) set.now) }
 {
     match set.split_last() {
@@ -65,12 +65,7 @@ fn add_longer(
 }
 
 // Adds copies of a list with each value of the set at their ends.
-fn add_copies(
-    alloc: Global,
-    made: &mut Vec<Items<Atom>>,
-    row: &[Atom],
-    set: &[Atom],
-) -> Result<(), NoMemory>
+fn add_copies(alloc: Global, made: &mut Vec<Items<Atom>>, row: &[Atom], set: &[Atom]) -> Made<()>
     ensures { OnOk result (made.new.items ≡ made.old.items ++ map (λ (a : Atom). row.now ++ a ∷ []) set.now) }
 {
     for atom in set {
@@ -81,7 +76,7 @@ fn add_copies(
 }
 
 // Adds a list with one more value at its end.
-fn add_last(made: &mut Vec<Items<Atom>>, mut row: Items<Atom>, atom: Atom) -> Result<(), NoMemory>
+fn add_last(made: &mut Vec<Items<Atom>>, mut row: Items<Atom>, atom: Atom) -> Made<()>
     ensures { OnOk result (made.new.items ≡ made.old.items ++ (row ++ atom ∷ []) ∷ []) }
 {
     row.push(atom)?;

@@ -9,9 +9,10 @@ ghost use Rattle.value_operators.specs.Gives.{Gives};
 
 use containers::Items;
 use csp_atoms::{Atom, AtomSet, Value};
-use csp_base::NoMemory;
+use csp_base::Stop;
 use csp_program::{Content, Expr, ValueKind};
 use csp_values::{EvalFault, eval_in};
+use script_names::Made;
 use std::alloc::Global;
 use value_operators::operators::to_set;
 
@@ -24,7 +25,7 @@ pub struct SharedSets {
     pub sets: Items<AtomSet>,
 }
 
-/// The field sets of a channel of these types, from the left. A fault of kind `Value` comes exactly where a type has no value that fits.
+/// The field sets of a channel of these types, from the left. A fault is told exactly where a type has no value that fits.
 pub fn field_sets(
     alloc: Global,
     content: &Content,
@@ -63,9 +64,7 @@ fn set_of(value: Value) -> Result<AtomSet, EvalFault>
     if may_be_fields(set.as_slice()) {
         Ok(set)
     } else {
-        Err(EvalFault::Value {
-            kind: ValueKind::Kind,
-        })
+        Err(Stop::Told(ValueKind::Kind))
     }
 }
 
@@ -89,7 +88,7 @@ fn may_be_field(atom: Atom) -> bool
 }
 
 /// The same sets.
-pub fn copy_sets(alloc: Global, sets: &[AtomSet]) -> Result<Items<AtomSet>, NoMemory>
+pub fn copy_sets(alloc: Global, sets: &[AtomSet]) -> Made<Items<AtomSet>>
     ensures { IfOk result (λ copies. copies ≡ sets.now) }
 {
     let mut copies = Items::new(alloc);
@@ -100,10 +99,7 @@ pub fn copy_sets(alloc: Global, sets: &[AtomSet]) -> Result<Items<AtomSet>, NoMe
 }
 
 /// The field sets of each channel, one after another. The channels of a declaration share them.
-pub fn spread_sets<'a>(
-    alloc: Global,
-    shared: &'a [SharedSets],
-) -> Result<Vec<&'a [AtomSet]>, NoMemory>
+pub fn spread_sets<'a>(alloc: Global, shared: &'a [SharedSets]) -> Made<Vec<&'a [AtomSet]>>
     ensures { IfOk result (λ all. lent all.items ≡ spread shared.now) }
 {
     let mut all = Vec::new(alloc);
@@ -114,7 +110,7 @@ pub fn spread_sets<'a>(
 }
 
 // Puts the field sets of each channel of a declaration at the end.
-fn add_lent<'a>(all: &mut Vec<&'a [AtomSet]>, one: &'a SharedSets) -> Result<(), NoMemory>
+fn add_lent<'a>(all: &mut Vec<&'a [AtomSet]>, one: &'a SharedSets) -> Made<()>
     ensures { OnOk result (lent all.new.items ≡ lent all.old.items ++ replicate one.now.channels one.now.sets) }
 {
     for _channel in 0..one.channels {

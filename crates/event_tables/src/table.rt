@@ -7,13 +7,13 @@ ghost use Rattle.dl_limits.specs.declared.TheConstants.{MOST_BYTES};
 use crate::rows::rows;
 use containers::Items;
 use csp_atoms::Atom;
-use csp_base::NoMemory;
 use csp_program::{Channel, EventInfo};
+use script_names::Made;
 use std::alloc::Global;
 
 /// The event table of channels: in their order, and for each the values of its fields in rising order, the first field slowest. There are no more channels
 /// than 32 bits number.
-pub fn event_table(alloc: Global, channels: &[Channel]) -> Result<Items<EventInfo>, NoMemory>
+pub fn event_table(alloc: Global, channels: &[Channel]) -> Made<Items<EventInfo>>
     requires { length channels.now ≤ MOST_BYTES }
     ensures { IfOk result (λ events. events ≡ meant.event_table channels.now) }
 {
@@ -27,12 +27,7 @@ pub fn event_table(alloc: Global, channels: &[Channel]) -> Result<Items<EventInf
 }
 
 // Adds the events of the channel with the number `c`.
-fn add_channel(
-    alloc: Global,
-    events: &mut Items<EventInfo>,
-    c: u32,
-    channel: &Channel,
-) -> Result<(), NoMemory>
+fn add_channel(alloc: Global, events: &mut Items<EventInfo>, c: u32, channel: &Channel) -> Made<()>
     ensures { OnOk result (events.new ≡ events.old ++ meant.channel_events c channel.now.fields) }
 {
     match &channel.fields {
@@ -45,7 +40,7 @@ fn add_channel(
 }
 
 // Adds the events of the channel with the number `c` whose fields have these values.
-fn add_rows(events: &mut Items<EventInfo>, c: u32, rows: Vec<Items<Atom>>) -> Result<(), NoMemory>
+fn add_rows(events: &mut Items<EventInfo>, c: u32, rows: Vec<Items<Atom>>) -> Made<()>
     ensures { OnOk result (events.new ≡ events.old ++ map (meant.event_of c) rows.items) }
 {
     for fields in rows {

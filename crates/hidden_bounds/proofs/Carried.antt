@@ -1,7 +1,6 @@
 -- Walks in the own graph of a component and in that of its numbered table.
-use Rattle.hidden_bounds.proofs.Prelude.{◌≡◌, ℕ, zero, suc, ◌<◌, Bool, true, false, ◌&&◌, not, List, [], ◌∷◌, Some, slice_get, length, refl, sym, ap₂, subst, ◌∙◌, arith, inl, inr, first_so, second_so, false≢true, same_Some, slice_get_within, has, slice_get_some, Label, silent, visible, Component, ComponentStep, Path, IsTableOf, RawTable, IsCircle, Leads, Walk, step_alphabet, GoesRound, IsHeight, OwnStep, Taken, is_passed, AreOpen, OwnCirclesAreExact, OwnHeightsAreExact, IsOwnHeight, OwnArc}
+use Rattle.hidden_bounds.proofs.Prelude.{◌≡◌, ℕ, zero, suc, ◌<◌, Bool, true, false, ◌&&◌, not, List, [], ◌∷◌, Some, slice_get, length, refl, sym, ap₂, subst, ◌∙◌, arith, inl, inr, first_so, second_so, false≢true, same_Some, slice_get_within, has, slice_get_some, Label, silent, visible, Component, ComponentStep, Path, IsTableOf, RawTable, IsCircle, Leads, Walk, step_alphabet, GoesRound, IsHeight, OwnStep, Taken, is_passed, AreOpen, OwnCirclesAreExact, OwnHeightsAreExact, IsOwnHeight, OwnArc, stands}
 use Rattle.csp_tables.specs.Prelude.{standing_at}
-use Rattle.net_sound.proofs.Numbered.{stands}
 
 not_true : (b : Bool) → not b ≡ true → b ≡ false
 not_true true h = absurd (false≢true h)

@@ -1,11 +1,6 @@
 -- The order and its end, as a call tells them.
-use Rattle.hidden_bounds.proofs.Prelude.{◌≡◌, ◌⊎◌, ◌≢◌, ℕ, zero, suc, ◌+◌, ◌<◌, Bool, true, false, ◌&&◌, IsTrue, Result, IfErr, List, [], ◌∷◌, ◌++◌, length, replicate, refl, sym, ap, subst, ◌∙◌, arith, inl, inr, err_from_is_err_and, false≢true, length-replicate, none-some, slice_get_within, has, Tells, has_first, Label, Component, AreTaken, HasNoOrder, IsAmong, IsOrder, hidden_bound, AreOpen, IsBound, TellsLoop, AreKnown, IsSoFar, IsTakenFar, left_from, standing_at, TellsSum, taken_in, Placed, Standing}
-use Rattle.std.specs.Prelude.{◌↔◌}
-use Rattle.std.specs.Result.{IsErrAnd}
-use Rattle.csp_base.specs.declared.stop.Stop.{Stop}
+use Rattle.hidden_bounds.proofs.Prelude.{◌≡◌, ◌⊎◌, ◌≢◌, ℕ, zero, suc, ◌+◌, ◌<◌, Bool, true, false, ◌&&◌, IsTrue, Result, IfErr, List, [], ◌∷◌, ◌++◌, length, replicate, refl, sym, ap, subst, ◌∙◌, arith, inl, inr, err_from_is_err_and, false≢true, length-replicate, none-some, slice_get_within, has, Tells, has_first, Label, Component, AreTaken, HasNoOrder, IsAmong, IsOrder, hidden_bound, AreOpen, IsBound, TellsLoop, AreKnown, IsSoFar, IsTakenFar, left_from, standing_at, TellsSum, taken_in, Placed, Standing, ◌↔◌, IsErrAnd, Stop, HiddenBound, LoopFault}
 use Rattle.csp_base.specs.declared.stop.Stop.TheVariants as stop
-use Rattle.hidden_bounds.specs.declared.bounding.HiddenBound.{HiddenBound}
-use Rattle.hidden_bounds.specs.declared.bounding.LoopFault.{LoopFault}
 use Rattle.hidden_bounds.specs.declared.bounding.LoopFault.TheVariants as fault
 use Rattle.hidden_bounds.specs.declared.standings.Standing.TheVariants as standing
 use Rattle.hidden_bounds.proofs.Known.{none_is_free}

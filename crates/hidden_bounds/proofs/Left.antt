@@ -1,6 +1,5 @@
 -- The components that are left, as a rising list.
-use Rattle.hidden_bounds.proofs.Prelude.{◌≡◌, ◌≢◌, ℕ, zero, suc, ◌+◌, ◌<◌, ◌≤◌, true, nat_eq, List, [], ◌∷◌, ◌++◌, length, take, get_or, min, refl, sym, ap, ◌∙◌, arith, add-one, inl, inr, eqb-true, false≢true, or_cases, or_right, take-suc, append-nil, append_assoc, length-take, has, has_first, RisesFrom, increasing_from_rises, left_from, left_one, standing_at, Standing}
-use Rattle.std.specs.List.Sorted.{IsStrictlyIncreasing}
+use Rattle.hidden_bounds.proofs.Prelude.{◌≡◌, ◌≢◌, ℕ, zero, suc, ◌+◌, ◌<◌, ◌≤◌, true, nat_eq, List, [], ◌∷◌, ◌++◌, length, take, get_or, min, refl, sym, ap, ◌∙◌, arith, add-one, inl, inr, eqb-true, false≢true, or_cases, or_right, take-suc, append-nil, append_assoc, length-take, has, has_first, RisesFrom, increasing_from_rises, left_from, left_one, standing_at, Standing, IsStrictlyIncreasing}
 use Rattle.hidden_bounds.specs.declared.standings.Standing.TheVariants as standing
 
 RisesFrom-later : (m n : ℕ) (xs : List ℕ) → m ≤ n → RisesFrom n xs → RisesFrom m xs

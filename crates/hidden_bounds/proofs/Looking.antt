@@ -1,11 +1,5 @@
 -- A component that is looked at: by its table it is free, or goes round.
-use Rattle.hidden_bounds.proofs.Prelude.{◌≡◌, ℕ, ◌<◌, List, Some, slice_get, length, get_or, sym, ap, subst, ◌∙◌, arith, set, slice_get-get_or, slice_get_some, Component, ProcessStep, GoesRoundItself, IsOwnHeight, IsScope, IsFreeHere, IsSoFar, standing_at, Placed, Standing}
-use Rattle.csp_program.specs.declared.processes.Proc.{Proc}
-use Rattle.network_stages.specs.Prelude.{HasTable, whole_room}
-use Rattle.network_stages.specs.declared.component_tables.ComponentTable.{ComponentTable}
-use Rattle.network_stages.proofs.Tabling.{as_many, table_at}
-use Rattle.hidden_bounds.specs.Taking.{taken_in}
-use Rattle.hidden_bounds.specs.declared.scope.Scope.{Scope}
+use Rattle.hidden_bounds.proofs.Prelude.{◌≡◌, ℕ, ◌<◌, List, Some, slice_get, length, get_or, sym, ap, subst, ◌∙◌, arith, set, slice_get-get_or, slice_get_some, Component, ProcessStep, GoesRoundItself, IsOwnHeight, IsScope, IsFreeHere, IsSoFar, standing_at, Placed, Standing, Proc, HasTable, whole_room, ComponentTable, as_many, table_at, taken_in, Scope}
 use Rattle.hidden_bounds.specs.declared.standings.Standing.TheVariants as standing
 use Rattle.hidden_bounds.proofs.Carried.{own_circles_are_exact, own_heights_are_exact}
 use Rattle.hidden_bounds.proofs.Known.{one_round}

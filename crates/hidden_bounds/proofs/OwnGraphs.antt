@@ -1,6 +1,5 @@
 -- Own graphs as digraphs, and the greatest of their heights.
-use Rattle.hidden_bounds.proofs.Prelude.{◌≡◌, ℕ, zero, suc, ◌+◌, ◌<◌, ◌≤◌, true, ◌&&◌, nat_eq, IsTrue, List, [], ◌∷◌, ◌++◌, Some, length, take, get_or, max, add-one, refl, sym, ap, subst, ◌∙◌, arith, inl, inr, first_so, second_so, take-suc, cases_lt, eq-eqb, eqb-true, or_cases, or_left, or_right, get_or_default, any_passes_from_place, greatest, has, visible, HasRawForm, has_silent, has_step, RawStep, RawTable, IsCircle, Digraph, HasArc, AreHeights, Walk, same_circle, same_walk, AreOwnRows, IsOwnHeight, OwnArc, has_step_by}
-use Rattle.csp_tables.proofs.Listed.{listed_silent, passing, silent_listed, step_at}
+use Rattle.hidden_bounds.proofs.Prelude.{◌≡◌, ℕ, zero, suc, ◌+◌, ◌<◌, ◌≤◌, true, ◌&&◌, nat_eq, IsTrue, List, [], ◌∷◌, ◌++◌, Some, length, take, get_or, max, add-one, refl, sym, ap, subst, ◌∙◌, arith, inl, inr, first_so, second_so, take-suc, cases_lt, eq-eqb, eqb-true, or_cases, or_left, or_right, get_or_default, any_passes_from_place, greatest, has, visible, HasRawForm, has_silent, has_step, RawStep, RawTable, IsCircle, Digraph, HasArc, AreHeights, Walk, same_circle, same_walk, AreOwnRows, IsOwnHeight, OwnArc, has_step_by, listed_silent, passing, silent_listed, step_at}
 
 -- ---- arcs are steps
 

@@ -1,7 +1,5 @@
 -- Components that are taken one after another: one more, and what stays as it was.
-use Rattle.hidden_bounds.proofs.Prelude.{◌≡◌, ℕ, zero, suc, ◌+◌, ◌<◌, true, false, ◌&&◌, List, [], ◌∷◌, ◌++◌, length, take, drop, map, reverse, get_or, add-one, refl, sym, ap, ap₂, ◌∙◌, inl, inr, first_so, second_so, take-suc, cases_Bool, false≢true, or_from, map-append, reverse-append, reverse-reverse, take-append-drop, inter_of, meets_of, has, any_member, any_of, meets_of_from_member, has-inter_of, Label, silent, visible, Component, Walk, GoesRound, OwnStep, Taken, is_passed, share_hidden, step_alphabet, placed, taken_at, taken_in, Placed}
-use Rattle.csp_base.proofs.Booleans.{same_tests}
-use Rattle.net_sound.proofs.Soundness.{path_alphabet}
+use Rattle.hidden_bounds.proofs.Prelude.{◌≡◌, ℕ, zero, suc, ◌+◌, ◌<◌, true, false, ◌&&◌, List, [], ◌∷◌, ◌++◌, length, take, drop, map, reverse, get_or, add-one, refl, sym, ap, ap₂, ◌∙◌, inl, inr, first_so, second_so, take-suc, cases_Bool, false≢true, or_from, map-append, reverse-append, reverse-reverse, take-append-drop, inter_of, meets_of, has, any_member, any_of, meets_of_from_member, has-inter_of, Label, silent, visible, Component, Walk, GoesRound, OwnStep, Taken, is_passed, share_hidden, step_alphabet, placed, taken_at, taken_in, Placed, same_tests, path_alphabet}
 
 -- ---- one more
 

@@ -6,9 +6,7 @@ ghost use Rattle.dl_limits.specs.declared.TheConstants.{MOST_COMPONENTS};
 ghost use Rattle.hidden_steps.specs.Order as meant;
 ghost use Rattle.network_stages.specs.Tables.{AreTablesOf};
 ghost use Rattle.process_steps.specs.ComponentStep.{ProcessStep};
-ghost use Rattle.hidden_bounds.specs.Taking.{AreWithin, alphabet_at, taken_in};
-ghost use Rattle.hidden_bounds.specs.Found.{IsBound, PassesAt, TellsLoop};
-ghost use Rattle.hidden_bounds.specs.Sums.{AreBounds, IsNextSum, TellsSum, sum_before};
+ghost use Rattle.hidden_bounds.specs.Prelude.{AreWithin, alphabet_at, taken_in, IsBound, PassesAt, TellsLoop, AreBounds, IsNextSum, TellsSum, sum_before};
 ghost use Rattle.hidden_bounds.specs.declared.ordering.Placed.{Placed as PlacedValue};
 
 use crate::ordering::{Placed, order_of};
@@ -28,13 +26,9 @@ pub struct HiddenBound {
     pub bound: u64,
 }
 
-// By hand, so that a crate that ends one calls this and proves no end of its own.
 impl Drop for HiddenBound {
     fn drop(self) {
-        let HiddenBound {
-            order: _order,
-            bound: _bound,
-        } = self;
+        let HiddenBound { order, bound } = self;
     }
 }
 

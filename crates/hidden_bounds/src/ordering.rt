@@ -2,14 +2,12 @@
 
 ghost use Rattle.std.specs.Prelude.{◌≡◌, ◌≤◌, ◌<◌, ◌+◌, true, false, length, IfNone, IfOk, IfSome, OnOk};
 ghost use Rattle.dl_limits.specs.declared.TheConstants.{MOST_COMPONENTS};
-ghost use Rattle.hidden_bounds.specs.Standings.{AreKnown, AreReopened, IsKnown, StayKnown, one_more, waiting};
-ghost use Rattle.hidden_bounds.specs.Own.{GoesRoundItself, IsOwnHeight};
-ghost use Rattle.hidden_bounds.specs.Scopes.{AreTakenFar, IsFree, IsLeast, IsScope, IsTaking};
+ghost use Rattle.hidden_bounds.specs.Prelude.{AreKnown, AreReopened, IsKnown, StayKnown, one_more, waiting, GoesRoundItself, IsOwnHeight, AreTakenFar, IsFree, IsLeast, IsScope, IsTaking};
 
 use crate::own_graph::own_height;
 use crate::own_search::OwnSearch;
 use crate::scope::{Scope, hidden_of, shares};
-use crate::standings::{Standing, left_over, reopened};
+use crate::standings::{Standing, left_over, reopen_standing};
 use csp_base::{EventSet, NoMemory};
 use csp_tables::RawTable;
 use std::alloc::Global;
@@ -159,7 +157,7 @@ fn reopen(scope: &Scope<'_>, events: &EventSet, standings: &mut Vec<Standing>)
     ensures reopened { AreReopened scope.now.seats.now events.now standings.old.items standings.new.items }
 {
     for part in 0..standings.len() {
-        standings[part] = reopened(standings[part], shares(scope, part as u32, events));
+        standings[part] = reopen_standing(standings[part], shares(scope, part as u32, events));
     }
 }
 

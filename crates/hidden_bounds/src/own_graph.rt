@@ -5,9 +5,9 @@ ghost use Rattle.csp_base.specs.Prelude.{greatest, has};
 ghost use Rattle.digraph.specs.Digraph.{has_arc};
 ghost use Rattle.hidden_bounds.specs.Own.{AreOwnRows, GoesRoundItself, IsOwnHeight, has_step_by};
 
-use csp_base::{Event, EventSet, NoMemory};
+use csp_base::{Event, EventSet, NoMemory, Stop};
 use csp_tables::RawTable;
-use digraph::{Fault, Rows, longest_walks};
+use digraph::{Rows, longest_walks};
 use std::alloc::Global;
 use tau_order::silent_rows;
 
@@ -82,7 +82,7 @@ pub fn own_height(
     let _form = table.count();
     match longest_walks(alloc, &rows) {
         Ok(heights) => Ok(Some(greatest_of(heights.as_slice()))),
-        Err(Fault::Circle(_circle)) => Ok(None),
-        Err(Fault::NoMemory) => Err(NoMemory),
+        Err(Stop::Told(_circle)) => Ok(None),
+        Err(Stop::NoMemory) => Err(NoMemory),
     }
 }

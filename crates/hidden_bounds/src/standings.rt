@@ -16,7 +16,7 @@ pub(crate) enum Standing {
 }
 
 // What is known of a component after one is taken with which it has a hidden event in common, or has none.
-pub(crate) fn reopened(standing: Standing, shares: bool) -> Standing
+pub(crate) fn reopen_standing(standing: Standing, shares: bool) -> Standing
     ensures { result ≡ reopened_to standing shares }
 {
     match standing {

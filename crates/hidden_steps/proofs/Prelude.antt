@@ -8,4 +8,4 @@ pub use Rattle.digraph.specs.Walk.{Walk}
 pub use Rattle.hidden_steps.specs.Bounded.{HiddenStep, HiddenStepsAreBounded}
 pub use Rattle.hidden_steps.specs.Order.{AreTaken, GoesRound, HasNoOrder, IsAmong, IsHeight, IsNext, IsNotFree, IsOrder, OwnEvent, OwnStep, Taken, bound_over, hidden_bound, is_passed, share_hidden, shared_bounds}
 pub use Rattle.net_sound.proofs.FlatLists.{alphabets, by_test, flat_alphabets, match_false, match_true, same_some, step_alphabet}
-pub use Rattle.std.proofs.Common.{Bool, IsTrue, List, MatchBool, Some, [], ap, ap₂, arith, false, if◌then◌else◌, inl, inr, length, nat_eq, not, refl, slice_get, subst, suc, sym, true, zero, ℕ, ◌&&◌, ◌*◌, ◌++◌, ◌+◌, ◌<◌, ◌||◌, ◌∙◌, ◌∷◌, ◌≡◌, ◌≤◌, ◌⊎◌}
+pub use Rattle.std.proofs.Common.{Bool, IsTrue, List, MatchBool, Some, [], ap, ap₂, arith, false, inl, inr, length, nat_eq, not, refl, slice_get, subst, suc, sym, true, zero, ℕ, ◌&&◌, ◌*◌, ◌++◌, ◌+◌, ◌<◌, ◌||◌, ◌∙◌, ◌∷◌, ◌≡◌, ◌≤◌, ◌⊎◌}

@@ -1,7 +1,6 @@
 -- What breaks a rule, told of a network: what its shape breaks, the network does.
-use Rattle.judgement.proofs.Prelude.{refl, Shape, IsShapeOf, networks_break, NotedRule, Network, ProcessStep, Breaks}
+use Rattle.judgement.proofs.Prelude.{refl, Shape, IsShapeOf, networks_break, NotedRule, Network, ProcessStep, Breaks, RuleFault}
 use Rattle.design_rules.specs.Rules as rules
-use Rattle.design_rules.specs.declared.rule_fault.RuleFault.{RuleFault}
 use Rattle.report.specs.declared.answer.Shortfall.TheVariants as shortfall
 
 pub network_broken : (network : Network) (shape : Shape) → IsShapeOf (ProcessStep network.program) network.tree shape → (rule : NotedRule) (f : RuleFault)

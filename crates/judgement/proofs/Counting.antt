@@ -1,10 +1,5 @@
 -- Counting over lists of parts and of ranks, from the front.
-use Rattle.judgement.proofs.Prelude.{◌≡◌, ℕ, zero, suc, ◌+◌, ◌*◌, ◌^◌, ◌<◌, ◌≤◌, ℤ, max, List, [], ◌∷◌, ◌++◌, Vec, length, map, take, get_or, refl, sym, ap, ◌∙◌, add-one, arith, flat_map, Part, part_at, PartRanks, greatest_from, node_count}
-use Rattle.csp_base.specs.Standard.{Global}
-use Rattle.std.proofs.Math.Seq.{take-suc}
-use Rattle.csp_base.specs.Lists.{natural}
-use Rattle.dl_limits.specs.declared.TheConstants.{MOST_COMPONENTS, MOST_SETS}
-use Rattle.csp_base.proofs.Lists.{flat_map_push}
+use Rattle.judgement.proofs.Prelude.{◌≡◌, ℕ, zero, suc, ◌+◌, ◌*◌, ◌^◌, ◌<◌, ◌≤◌, ℤ, max, List, [], ◌∷◌, ◌++◌, Vec, length, map, take, get_or, refl, sym, ap, ◌∙◌, add-one, arith, flat_map, Part, part_at, PartRanks, greatest_from, node_count, Global, take-suc, natural, MOST_COMPONENTS, MOST_SETS, flat_map_push}
 
 one_more_part : (parts : List Part) (part : Part) → node_count (parts ++ part ∷ []) ≡ node_count parts + length part.table
 one_more_part [] part = omega arith

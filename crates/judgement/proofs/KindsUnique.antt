@@ -1,10 +1,5 @@
 -- The class of a definition follows one way of ends, which leads to one end; so each definition has one kind.
-use Rattle.judgement.proofs.Prelude.{◌≡◌, ℕ, zero, suc, Bool, true, false, IsTrue, Option, Some, None, List, [], ◌∷◌, length, take, slice_get, refl, sym, ap, subst, ◌∙◌, arith, slice_get-map, LeadsTo, here, beyond, ends_at, first_ends, HasClass, IsKind, AreKinds, script_ends}
-use Rattle.std.specs.Option.{option_map}
-use Rattle.csp_text.specs.declared.script.Decl.{Decl}
-use Rattle.script_names.specs.declared.kinds.Class.{Class}
-use Rattle.script_names.specs.declared.kinds.End.{End}
-use Rattle.script_names.specs.declared.kinds.Kind.{Kind}
+use Rattle.judgement.proofs.Prelude.{◌≡◌, ℕ, zero, suc, Bool, true, false, IsTrue, Option, Some, None, List, [], ◌∷◌, length, take, slice_get, refl, sym, ap, subst, ◌∙◌, arith, slice_get-map, LeadsTo, here, beyond, ends_at, first_ends, HasClass, IsKind, AreKinds, script_ends, option_map, Decl, Class, End, Kind}
 use Rattle.script_names.specs.declared.kinds.Class.TheVariants as class
 use Rattle.script_names.specs.declared.kinds.End.TheVariants as end
 

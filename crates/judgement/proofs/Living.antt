@@ -1,9 +1,5 @@
 -- Where the shape of a network meets the rule, the network is free of deadlock: the theorem about ranks, at the steps of the network's program.
-use Rattle.judgement.proofs.Prelude.{ℕ, Ranking, Shape, networks_meet, Ranks, NotedRule, shapes_are_well_formed, HasSilentBound, IsLive, IsSpelled, Network, IsApart, StaysBusy, ProcessStep, Meets}
-use Rattle.design_rules.proofs.Live.{met_rules_mean_live}
-use Rattle.net_sound.proofs.ShapeOf.{shapes_behave}
-use Rattle.net_sound.specs.Soundness.{IsSound}
-use Rattle.network_trees.proofs.InOrder.{network_is_tree}
+use Rattle.judgement.proofs.Prelude.{ℕ, Ranking, Shape, networks_meet, Ranks, NotedRule, shapes_are_well_formed, HasSilentBound, IsLive, IsSpelled, Network, IsApart, StaysBusy, ProcessStep, Meets, met_rules_mean_live, shapes_behave, IsSound, network_is_tree}
 
 pub live : (network : Network) (shape : Shape) (bound : ℕ) → IsSpelled network → IsApart network shape → StaysBusy network → HasSilentBound network bound
     → (rule : NotedRule) (ranking : Ranking) → Meets network rule → Ranks rule shape ranking → IsLive network bound

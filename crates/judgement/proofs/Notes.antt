@@ -1,14 +1,5 @@
 -- What a rule notes: it is one thing, with something for each part; and it isn't there where a set has no value.
-use Rattle.judgement.proofs.Prelude.{◌≡◌, ℕ, zero, suc, List, [], ◌∷◌, Ok, Err, Some, length, slice_get, refl, sym, ap, subst, ◌∙◌, arith, none-some, same_Some, Proc, Component, leaves, Shape, ArePartsOf, HasNotes, NotedRule, Network, ProcessStep, HasUntold, Notes}
-use Rattle.csp_program.specs.Prelude.{Outcome, and_then}
-use Rattle.csp_program.specs.declared.kinds.ValueKind.{ValueKind}
-use Rattle.csp_tables.specs.declared.rule.Rule.{Rule}
-use Rattle.csp_tables.specs.declared.rule.Rule.TheVariants.{ClientServer, Cyclic, Resource}
-use Rattle.net_sound.proofs.Parts.{one_part_each}
-use Rattle.network_layout.specs.Told.{IsUntold}
-use Rattle.network_layout.specs.declared.told.NotedFault.{NotedFault}
-use Rattle.process_steps.specs.Prelude.{all_outcomes}
-use Rattle.report.specs.declared.answer.Refusal.{Refusal}
+use Rattle.judgement.proofs.Prelude.{◌≡◌, ℕ, zero, suc, List, [], ◌∷◌, Ok, Err, Some, length, slice_get, refl, sym, ap, subst, ◌∙◌, arith, none-some, same_Some, Proc, Component, leaves, Shape, ArePartsOf, HasNotes, NotedRule, Network, ProcessStep, HasUntold, Notes, Outcome, and_then, ValueKind, Rule, ClientServer, Cyclic, Resource, one_part_each, IsUntold, NotedFault, all_outcomes, Refusal}
 
 pub same_ok : {A : Type 0} (o : Outcome A) (x y : A) → o ≡ Ok x → o ≡ Ok y → x ≡ y
 same_ok o x y a b = cc

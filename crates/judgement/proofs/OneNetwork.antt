@@ -1,11 +1,5 @@
 -- A script has one program, and a program one network.
-use Rattle.judgement.proofs.Prelude.{◌≡◌, Ok, ap, ◌∙◌, Proc, IsProgram, Answer, resolved}
-use Rattle.csp_program.specs.declared.programs.Content.{Content}
-use Rattle.csp_tables.specs.Network.{Tree}
-use Rattle.csp_text.specs.declared.script.Script.{Script}
-use Rattle.network_trees.specs.NetworkOf.{Walked, network_of}
-use Rattle.typed_laws.proofs.Programs.{program_resolves}
-use Rattle.judgement.specs.Laws.{EachScriptHasOneNetwork}
+use Rattle.judgement.proofs.Prelude.{◌≡◌, Ok, ap, ◌∙◌, Proc, IsProgram, Answer, resolved, Content, Tree, Script, Walked, network_of, program_resolves, EachScriptHasOneNetwork}
 use Rattle.judgement.proofs.KindsUnique.{kinds_are_unique}
 
 same_ok : (p q : Content) (x y : Answer Content) → x ≡ y → x ≡ Ok p → y ≡ Ok q → p ≡ q

@@ -1,6 +1,5 @@
 -- The nodes of a component's normal table are the classes of its traces: a run that leads to each node, one after another.
-use Rattle.judgement_laws.proofs.Prelude.{◌≡◌, ◌⊎◌, inl, inr, ℕ, zero, suc, ◌+◌, ◌<◌, ◌≤◌, List, [], ◌∷◌, Some, slice_get, length, refl, sym, ap, subst, ◌∙◌, arith, cases_lt, same_Some, slice_get_within, Label, Component, ComponentStep, Tree, leaves, IsReached, IsRun, Node, end_of, HasForm, HaveForm, Part, Shape, ArePartsOf, IsPartOf, IsShapeOf, node_count, shapes_are_well_formed, HasClasses, HaveClasses}
-use Rattle.design_rules.proofs.Runs.{end_within}
+use Rattle.judgement_laws.proofs.Prelude.{◌≡◌, ◌⊎◌, inl, inr, ℕ, zero, suc, ◌+◌, ◌<◌, ◌≤◌, List, [], ◌∷◌, Some, slice_get, length, refl, sym, ap, subst, ◌∙◌, arith, cases_lt, same_Some, slice_get_within, Label, Component, ComponentStep, Tree, leaves, IsReached, IsRun, Node, end_of, HasForm, HaveForm, Part, Shape, ArePartsOf, IsPartOf, IsShapeOf, node_count, shapes_are_well_formed, HasClasses, HaveClasses, end_within}
 
 -- the members f k, f (k + 1) and so on, m of them
 abbrev row_of : {A : Type 0} → (ℕ → A) → ℕ → ℕ → List A

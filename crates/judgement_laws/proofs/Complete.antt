@@ -1,11 +1,5 @@
 -- Where a network passes, no point of its judgement can tell a fault. And two verdicts on one network have one status.
-use Rattle.judgement_laws.proofs.Prelude.{◌≡◌, ◌≤◌, ℕ, length, take, sym, ap, subst, ◌∙◌, arith, min, length-take, slice_get_within, leaves, TripleDisjoint, sharers, Shape, Rule, NotedRule, one_network, IsDeadlockFree, IsJudged, RuleDecides, Breaks, Meets, Notes, notes_of, Network, HaveFewSets, IsApart, CanStop, HasNoParts, ShareEvent, StaysBusy, ProcessStep, Point, UnprovedUnless, passed, told, verdict_status, Refusal, Shortfall, Verdict, EachScriptHasOneStatus, Passes}
-use Rattle.design_rules.proofs.Readings.{network_faults_refute}
-use Rattle.design_rules.specs.declared.rule_fault.RuleFault.{RuleFault}
-use Rattle.judgement.proofs.Notes.{all_told, same_ok}
-use Rattle.network_layout.proofs.Triples.{length-holders}
-use Rattle.network_layout.specs.Triple.{alphabets, holders}
-use Rattle.network_stages.proofs.Excluded.{faults_exclude_tables}
+use Rattle.judgement_laws.proofs.Prelude.{◌≡◌, ◌≤◌, ℕ, length, take, sym, ap, subst, ◌∙◌, arith, min, length-take, slice_get_within, leaves, TripleDisjoint, sharers, Shape, Rule, NotedRule, one_network, IsDeadlockFree, IsJudged, RuleDecides, Breaks, Meets, Notes, notes_of, Network, HaveFewSets, IsApart, CanStop, HasNoParts, ShareEvent, StaysBusy, ProcessStep, Point, UnprovedUnless, passed, told, verdict_status, Refusal, Shortfall, Verdict, EachScriptHasOneStatus, Passes, network_faults_refute, RuleFault, all_told, same_ok, length-holders, alphabets, holders, faults_exclude_tables}
 use Rattle.report.specs.declared.answer.Side.TheVariants as side
 use Rattle.report.specs.declared.answer.Verdict.TheVariants as verdict
 

@@ -1,13 +1,5 @@
 -- The theorem about rankings, at the steps of a program.
-use Rattle.judgement_laws.proofs.Prelude.{refl, IsGoodRanking, leaves, shapes_are_well_formed, good_rankings_mean_live, Network, ProcessStep}
-use Rattle.net_sound.proofs.Flattening.{flat_steps_are_tree_steps, tree_steps_are_flat}
-use Rattle.net_sound.proofs.Local.{run_kept}
-use Rattle.net_sound.proofs.ShapeOf.{shapes_behave}
-use Rattle.net_sound.specs.Soundness.{IsSound}
-use Rattle.network_stages.specs.Networks.{HasSilentBound, IsSpelled}
-use Rattle.network_stages.proofs.HeightSums.{bound_is}
-use Rattle.network_trees.proofs.InOrder.{network_is_tree}
-use Rattle.judgement_laws.specs.Heart.{GoodRankingsMeanLive, IsFlat, bound_of}
+use Rattle.judgement_laws.proofs.Prelude.{refl, IsGoodRanking, leaves, shapes_are_well_formed, good_rankings_mean_live, Network, ProcessStep, flat_steps_are_tree_steps, tree_steps_are_flat, run_kept, shapes_behave, IsSound, HasSilentBound, IsSpelled, bound_is, network_is_tree, GoodRankingsMeanLive, IsFlat, bound_of}
 
 is_flat : (network : Network) → IsSpelled network → IsFlat network
 is_flat network spelled =

@@ -1,10 +1,5 @@
 -- A script that has a network has no reason why it should have none.
-use Rattle.judgement_laws.proofs.Prelude.{◌≡◌, Result, Ok, Err, inl, inr, sym, ap, ◌∙◌, one_program}
-use Rattle.script_names.specs.Resolved.{resolved}
-use Rattle.network_trees.specs.NetworkOf.{network_of}
-use Rattle.judgement.proofs.KindsUnique.{kinds_are_unique}
-use Rattle.judgement_laws.specs.Laws.{FaultsExcludeNetworks}
-use Rattle.typed_laws.proofs.Programs.{program_resolves}
+use Rattle.judgement_laws.proofs.Prelude.{◌≡◌, Result, Ok, Err, inl, inr, sym, ap, ◌∙◌, one_program, resolved, network_of, kinds_are_unique, FaultsExcludeNetworks, program_resolves}
 
 apart : {A E : Type 0} (r s : Result A E) (a : A) (e : E) → r ≡ s → r ≡ Ok a → s ≡ Err e → ⊥
 apart r s a e same ok err = let no : Ok a ≡ Err e = sym ok ∙ same ∙ err in cc

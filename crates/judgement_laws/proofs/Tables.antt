@@ -1,12 +1,5 @@
 -- Components that have their tables go on: no term that they reach ends or lacks a value.
-use Rattle.judgement_laws.proofs.Prelude.{◌≡◌, ℕ, zero, suc, List, [], ◌∷◌, Some, slice_get, subst, same_Some, Component, ComponentStep, Reached, standing_at, path_alphabet, AreTablesOf, AreTablesWithin, HasTable, IsTableWithin, room_after, whole_room, ComponentTable, ProcessStep, AllGoOn, GoesOn}
-use Rattle.std.proofs.lemmas.Option.{none-some}
-use Rattle.csp_program.specs.declared.processes.Proc.{Proc}
-use Rattle.csp_program.specs.declared.programs.Content.{Content}
-use Rattle.local_tables.specs.Prelude.{IsLocalTable, Room}
-use Rattle.local_tables.specs.declared.local_table.LocalTable.{LocalTable}
-use Rattle.local_tables.proofs.Excluding.{listed_of}
-use Rattle.net_sound.proofs.Numbered.{stands}
+use Rattle.judgement_laws.proofs.Prelude.{◌≡◌, ℕ, zero, suc, List, [], ◌∷◌, Some, slice_get, subst, same_Some, Component, ComponentStep, Reached, standing_at, path_alphabet, AreTablesOf, AreTablesWithin, HasTable, IsTableWithin, room_after, whole_room, ComponentTable, ProcessStep, AllGoOn, GoesOn, none-some, Proc, Content, IsLocalTable, Room, LocalTable, listed_of, stands}
 
 module _ (p : Content) where
   table_of : (room : Room) (cs : List (Component Proc)) (ts : List ComponentTable) → AreTablesWithin p room cs ts → (i : ℕ) (c : Component Proc) → slice_get cs i ≡ Some c

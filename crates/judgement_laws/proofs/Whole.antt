@@ -1,9 +1,7 @@
 -- What stands where a network is judged free of deadlock: all that the walk found on its way.
-use Rattle.judgement_laws.proofs.Prelude.{◌≡◌, List, refl, arith, pos, leaves, Shape, Rule, NotedRule, node_count, IsDeadlockFree, IsJudged, RuleDecides, Meets, Notes, Network, IsApart, HasTables, StaysBusy, HaveFewSets, ComponentTable, ProcessStep, verdict_status, Refusal, Shortfall, Verdict, HaveClasses, JudgementIsExact, Passes, AllGoOn}
-use Rattle.report.proofs.Points.{refused_or, unproved_or}
+use Rattle.judgement_laws.proofs.Prelude.{◌≡◌, List, refl, arith, pos, leaves, Shape, Rule, NotedRule, node_count, IsDeadlockFree, IsJudged, RuleDecides, Meets, Notes, Network, IsApart, HasTables, StaysBusy, HaveFewSets, ComponentTable, ProcessStep, verdict_status, Refusal, Shortfall, Verdict, HaveClasses, JudgementIsExact, Passes, AllGoOn, refused_or, unproved_or, HasGreatestRank}
 use Rattle.report.specs.declared.answer.Side.TheVariants as side
 use Rattle.report.specs.declared.answer.Verdict.TheVariants as verdict
-use Rattle.judgement_laws.specs.Ranked.{HasGreatestRank}
 use Rattle.judgement_laws.proofs.Classes.{shape_has_classes}
 use Rattle.judgement_laws.proofs.Complete.{complete}
 use Rattle.judgement_laws.proofs.Tables.{all_go_on}

@@ -1,20 +1,11 @@
 -- Two verdicts on one network, asked of one set: at each point of their walks a fault excludes what is there else, and what is there is one.
-use Rattle.livelock.proofs.Prelude.{◌≡◌, ℕ, Option, Some, None, Ok, Err, List, length, refl, sym, ap, subst, ◌∙◌, leaves, Taken, Network, ProcessStep, Point, RefusedOr, passed, told, verdict_status, Refusal, Verdict, HasOrder, HasTooGreatBound, IsBoundOf, IsBounded, IsToldBound, LacksOrder, LacksValue, NamesNoSet, OrderDecides, data_named}
-use Rattle.csp_program.specs.Prelude.{Outcome}
-use Rattle.csp_program.specs.declared.expressions.Expr.{Expr}
-use Rattle.csp_program.specs.declared.kinds.ValueKind.{ValueKind}
-use Rattle.hidden_bounds.proofs.Passing.{passes_excludes, passes_once}
-use Rattle.hidden_steps.proofs.Agreeing.{no_order, one_order, one_rest}
-use Rattle.network_stages.proofs.Excluded.{faults_exclude_tables}
-use Rattle.network_stages.specs.Prelude.{HasNoTables, HasTables}
-use Rattle.process_steps.specs.Prelude.{events_in}
+use Rattle.livelock.proofs.Prelude.{◌≡◌, ℕ, Option, Some, None, Ok, Err, List, length, refl, sym, ap, subst, ◌∙◌, leaves, Taken, Network, ProcessStep, Point, RefusedOr, passed, told, verdict_status, Refusal, Verdict, HasOrder, HasTooGreatBound, IsBoundOf, IsBounded, IsToldBound, LacksOrder, LacksValue, NamesNoSet, OrderDecides, data_named, Outcome, Expr, ValueKind, passes_excludes, passes_once, no_order, one_order, one_rest, faults_exclude_tables, HasNoTables, HasTables, events_in, BoundsAreTold, IsWithinBound, StatusesAreOne, VerdictsAreOne}
 use Rattle.report.specs.declared.answer.Done.TheVariants as done
 use Rattle.report.specs.declared.answer.Refusal.TheVariants as refusal
 use Rattle.report.specs.declared.answer.Shortfall.TheVariants as shortfall
 use Rattle.report.specs.declared.answer.Side.TheVariants as side
 use Rattle.report.specs.declared.answer.Site.TheVariants as site
 use Rattle.report.specs.declared.answer.Verdict.TheVariants as verdict
-use Rattle.livelock.specs.Complete.{BoundsAreTold, IsWithinBound, StatusesAreOne, VerdictsAreOne}
 
 none_or_some : {A : Type 0} (o : Option A) (a : A) → o ≡ None → o ≡ Some a → ⊥
 none_or_some o a none some = let no : None ≡ Some a = sym none ∙ some in cc

@@ -1,18 +1,11 @@
 -- A bound that is found, and a fault, as they are told.
-use Rattle.livelock.proofs.Prelude.{◌≡◌, ◌<◌, ◌^◌, ℕ, List, length, refl, ap, leaves, Network, ProcessStep, passed, told, HaltsWith, OrderDecides}
-use Rattle.hidden_bounds.specs.Prelude.{IsBound, TellsLoop}
-use Rattle.hidden_bounds.specs.declared.bounding.HiddenBound.{HiddenBound}
-use Rattle.hidden_bounds.specs.declared.bounding.LoopFault.{LoopFault}
+use Rattle.livelock.proofs.Prelude.{◌≡◌, ◌<◌, ◌^◌, ℕ, List, length, refl, ap, leaves, Network, ProcessStep, passed, told, HaltsWith, OrderDecides, IsBound, TellsLoop, HiddenBound, LoopFault, Done, Tells, Stop, halt_of}
 use Rattle.hidden_bounds.specs.declared.bounding.LoopFault.TheVariants as fault
-use Rattle.report.specs.declared.answer.Done.{Done}
-use Rattle.csp_base.specs.Stops.{Tells}
-use Rattle.csp_base.specs.declared.stop.Stop.{Stop}
 use Rattle.csp_base.specs.declared.stop.Stop.TheVariants as stop
 use Rattle.report.specs.declared.answer.Done.TheVariants as done
 use Rattle.report.specs.declared.answer.Refusal.TheVariants as refusal
 use Rattle.report.specs.declared.answer.Shortfall.TheVariants as shortfall
 use Rattle.report.specs.declared.answer.Verdict.TheVariants as verdict
-use Rattle.livelock.specs.Stopping.{halt_of}
 
 module _ (network : Network) (events : List ℕ) where
   pub bound_decides : (found : HiddenBound) → IsBound (ProcessStep network.program) events (leaves network.tree) found → found.bound < 2 ^ 64

@@ -1,11 +1,7 @@
 -- A network is refused, or no order of its components bounds the hidden events, or a bound is told; and the bound is one.
-use Rattle.livelock.proofs.Prelude.{◌≡◌, ◌≤◌, ℕ, List, subst, sym, leaves, Taken, IsSpelled, Network, ProcessStep, refused_or, unproved_or, Refusal, Verdict, HasOrder, IsBoundOf, IsBounded, OrderDecides}
-use Rattle.hidden_steps.proofs.Bounding.{hidden_steps_are_bounded}
-use Rattle.network_trees.proofs.InOrder.{network_is_tree}
-use Rattle.report.specs.declared.answer.Shortfall.{Shortfall}
+use Rattle.livelock.proofs.Prelude.{◌≡◌, ◌≤◌, ℕ, List, subst, sym, leaves, Taken, IsSpelled, Network, ProcessStep, refused_or, unproved_or, Refusal, Verdict, HasOrder, IsBoundOf, IsBounded, OrderDecides, hidden_steps_are_bounded, network_is_tree, Shortfall, BoundsHidden, IsBoundedWhole}
 use Rattle.report.specs.declared.answer.Side.TheVariants as side
 use Rattle.report.specs.declared.answer.Verdict.TheVariants as verdict
-use Rattle.livelock.specs.Whole.{BoundsHidden, IsBoundedWhole}
 
 -- so many steps follow one another at most
 most_steps : (network : Network) (events : List ℕ) (order : List Taken) (bound : ℕ) → IsSpelled network → HasOrder network events order → IsBoundOf events order bound → BoundsHidden network events bound

@@ -86,8 +86,8 @@ fn valueless(fault: EvalFault) -> Stop<Refusal>
     ensures { result ≡ stop_without_value fault }
 {
     match fault {
-        EvalFault::NoMemory => Stop::NoMemory,
-        EvalFault::Value { kind } => Stop::Told(Refusal::Value {
+        Stop::NoMemory => Stop::NoMemory,
+        Stop::Told(kind) => Stop::Told(Refusal::Value {
             kind,
             site: Site::HiddenSet,
         }),

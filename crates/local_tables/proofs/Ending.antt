@@ -1,8 +1,6 @@
 -- What is found as terms and steps of the component, and the table once all terms are followed.
-use Rattle.local_tables.proofs.Prelude.{◌≡◌, ℕ, ◌+◌, ◌<◌, ◌≤◌, List, [], ◌∷◌, Some, length, refl, sym, ap, subst, ◌∙◌, arith, eq-eqb, inl, inr, map, min, slice_get, length-map, cases_lt, get_or_from_slice_get, slice_get-get_or, slice_get_within, push_cases, EachOnce, total, proc_size, Proc, stands_none, IsTableOf, RawTable, targets_in, Label, silent, visible, ProcessStep, Move, capped, eq_id, ProcId, AreDifferent, tree_at, AreTerms, part_of, step_count, IsInOrder, IsLocalTable, AreFound, AreRows, AreTabled, IsFollowed, IsUpTo, IsWithin, counted_size, first_found, terms_at, Found, LocalTable, Task, MOST_TERMS}
-use Rattle.std.specs.List.{IsDistinct}
+use Rattle.local_tables.proofs.Prelude.{◌≡◌, ℕ, ◌+◌, ◌<◌, ◌≤◌, List, [], ◌∷◌, Some, length, refl, sym, ap, subst, ◌∙◌, arith, eq-eqb, inl, inr, map, min, slice_get, length-map, cases_lt, get_or_from_slice_get, slice_get-get_or, slice_get_within, push_cases, EachOnce, total, proc_size, Proc, stands_none, IsTableOf, RawTable, targets_in, Label, silent, visible, ProcessStep, Move, capped, eq_id, ProcId, AreDifferent, tree_at, AreTerms, part_of, step_count, IsInOrder, IsLocalTable, AreFound, AreRows, AreTabled, IsFollowed, IsUpTo, IsWithin, counted_size, first_found, terms_at, Found, LocalTable, Task, MOST_TERMS, IsDistinct, are_once}
 use Rattle.csp_program.specs.declared.processes.Proc.TheVariants as proc
-use Rattle.pool_parts.proofs.StoreLemmas.{are_once}
 use Rattle.local_tables.proofs.Following.{are_steps, complete, endless, in_order, lacks_none, under_map}
 use Rattle.local_tables.proofs.Walking.{reached}
 

@@ -1,6 +1,5 @@
 -- Where a component has its table, whatever it is said to have stands in that.
-use Rattle.local_tables.proofs.Prelude.{◌≡◌, ℕ, zero, suc, ◌+◌, ◌≤◌, List, [], ◌∷◌, length, refl, ap, sym, subst, ◌∙◌, arith, ◌<◌, Ok, Err, map, slice_get, Some, same_Some, total, EachOnce, proc_depth, proc_size, Proc, Content, Label, silent, visible, Component, ComponentStep, Reached, IsTableOf, RawStep, RawTable, standing_at, lists_are_there, ProcessStep, AreSteps, AreTerms, FaultsExcludeTables, MOST_TERMS}
-use Rattle.net_sound.proofs.Numbered.{run_down}
+use Rattle.local_tables.proofs.Prelude.{◌≡◌, ℕ, zero, suc, ◌+◌, ◌≤◌, List, [], ◌∷◌, length, refl, ap, sym, subst, ◌∙◌, arith, ◌<◌, Ok, Err, map, slice_get, Some, same_Some, total, EachOnce, proc_depth, proc_size, Proc, Content, Label, silent, visible, Component, ComponentStep, Reached, IsTableOf, RawStep, RawTable, standing_at, lists_are_there, ProcessStep, AreSteps, AreTerms, FaultsExcludeTables, MOST_TERMS, run_down}
 use Rattle.process_steps.specs.declared.component_fault.ComponentFault.TheVariants as fault
 
 -- the list without the element in a place

@@ -1,11 +1,6 @@
 -- The steps of the terms that are followed, as rows of a table that grows.
-use Rattle.local_tables.proofs.Prelude.{◌≡◌, ℕ, zero, suc, ◌+◌, ◌<◌, List, [], ◌∷◌, ◌++◌, length, refl, ap, ◌∙◌, arith, ◌⊎◌, inl, inr, Bool, true, false, IsTrue, Some, slice_get, sym, subst, append_assoc, append-nil, ◌≤◌, Option, map, option_map, drop, if◌then◌else◌, take, get_or_from_slice_get, slice_get-get_or, slice_get-map, slice_get_within, same_Some, false≢true, cases_lt, length-append, drop_all, total, EachOnce, StandsIn, proc_depth, Proc, Content, IsFront, tree_at, eq_id, ProcId, terms_at, AreRows, IsFollowed, IsRow, IsTabled, process_label, AreFound, AreLed, AreTabled, AreTaken, IsAt, IsWithin, LeadsToTerm, Origin, counted_size, label_of, step_more, with_term, IsUpTo, AreSteps, IsInside, part_of, IsInOrder, CanEnd, Room, Found, Task, slice_get-append_left, push_cases, slice_get_last, drop_read, map_push, take_read, firsts_back, firsts_once, firsts_there, stands_none, goals, is_by, StepTo, Label, silent, visible, Component, ComponentStep, IsInTable, IsStepOf, RawStep, RawTable, standing_at, targets_in, lists_are, lists_are_there, ProcessStep, Ticks, LacksNone, Step, Move, MOST_TERM_DEPTH}
-use Rattle.csp_base.specs.Prelude.{has}
-use Rattle.csp_steps.proofs.Targets.{firsts_goals, step_target, target_step}
-use Rattle.csp_steps.specs.Prelude.{AreFirsts, AreTargets, seen, AreStepsOf}
-use Rattle.process_steps.specs.declared.label.Label.TheVariants.{Tick}
+use Rattle.local_tables.proofs.Prelude.{◌≡◌, ℕ, zero, suc, ◌+◌, ◌<◌, List, [], ◌∷◌, ◌++◌, length, refl, ap, ◌∙◌, arith, ◌⊎◌, inl, inr, Bool, true, false, IsTrue, Some, slice_get, sym, subst, append_assoc, append-nil, ◌≤◌, Option, map, option_map, drop, if◌then◌else◌, take, get_or_from_slice_get, slice_get-get_or, slice_get-map, slice_get_within, same_Some, false≢true, cases_lt, length-append, drop_all, total, EachOnce, StandsIn, proc_depth, Proc, Content, IsFront, tree_at, eq_id, ProcId, terms_at, AreRows, IsFollowed, IsRow, IsTabled, process_label, AreFound, AreLed, AreTabled, AreTaken, IsAt, IsWithin, LeadsToTerm, Origin, counted_size, label_of, step_more, with_term, IsUpTo, AreSteps, IsInside, part_of, IsInOrder, CanEnd, Room, Found, Task, slice_get-append_left, push_cases, slice_get_last, drop_read, map_push, take_read, firsts_back, firsts_once, firsts_there, stands_none, goals, is_by, StepTo, Label, silent, visible, Component, ComponentStep, IsInTable, IsStepOf, RawStep, RawTable, standing_at, targets_in, lists_are, lists_are_there, ProcessStep, Ticks, LacksNone, Step, Move, MOST_TERM_DEPTH, has, firsts_goals, step_target, target_step, AreFirsts, AreTargets, seen, AreStepsOf, Tick, is_member}
 use Rattle.local_tables.proofs.Rows.{goals_joined, goals_more, goals_stay, in_row, number_at, of_row, row_at, row_end, row_kept, row_once, same_or_not, silent_once, steps_once, row_more, row_stays}
-use Rattle.std.specs.Set.{is_member}
 use Rattle.local_tables.proofs.Walking.{led_more}
 use Rattle.csp_program.specs.declared.processes.Proc.TheVariants as proc
 

@@ -1,7 +1,5 @@
 -- The steps from a term, in a list that grows at its end.
-use Rattle.local_tables.proofs.Prelude.{◌≡◌, ◌⊎◌, inl, inr, ℕ, zero, suc, nat_eq, Bool, true, false, cond, Some, List, [], ◌∷◌, ◌++◌, slice_get, refl, ap, sym, subst, ◌∙◌, append-nil, eq-eqb, ◌&&◌, false≢true, map_push, EachOnce, StandsIn, Proc, goals, is_by, Label, silent, visible, RawStep, RawTable, event_targets, silent_targets, targets_in, Move, IsFront, IsRow, process_label, step_more}
-use Rattle.std.specs.Cmp.{first_so, second_so}
-use Rattle.std.proofs.lemmas.Bool.{eqb-true}
+use Rattle.local_tables.proofs.Prelude.{◌≡◌, ◌⊎◌, inl, inr, ℕ, zero, suc, nat_eq, Bool, true, false, cond, Some, List, [], ◌∷◌, ◌++◌, slice_get, refl, ap, sym, subst, ◌∙◌, append-nil, eq-eqb, ◌&&◌, false≢true, map_push, EachOnce, StandsIn, Proc, goals, is_by, Label, silent, visible, RawStep, RawTable, event_targets, silent_targets, targets_in, Move, IsFront, IsRow, process_label, step_more, first_so, second_so, eqb-true}
 
 -- ---- the rows of a list: for each m what some of its elements lead to
 

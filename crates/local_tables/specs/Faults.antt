@@ -10,13 +10,10 @@ use Rattle.process_steps.specs.Prelude.{ProcessStep, Ticks, steps_of}
 use Rattle.process_steps.specs.declared.component_fault.ComponentFault.{ComponentFault}
 use Rattle.local_tables.specs.Component.{AreSteps, AreTerms, part_of, step_count}
 use Rattle.local_tables.specs.declared.task.Task.{Task}
-use Rattle.local_tables.specs.declared.fault.Unexplored.{Unexplored}
-use Rattle.local_tables.specs.declared.fault.Unexplored.TheVariants as unexplored
 use Rattle.process_steps.specs.declared.component_fault.ComponentFault.TheVariants as fault
-use Rattle.value_operators.specs.declared.fault.EvalFault.{EvalFault}
-use Rattle.value_operators.specs.declared.fault.EvalFault.TheVariants as evaluation
 use Rattle.local_tables.specs.Room.{Room}
-use Rattle.csp_base.specs.Lists.{total}
+use Rattle.csp_base.specs.Prelude.{total, Tells}
+use Rattle.csp_base.specs.declared.stop.Stop.{Stop}
 
 module _ (p : Content) (c : Component Proc) where
   -- the component reaches the term
@@ -72,15 +69,6 @@ LacksTable p c room fault.Diverges = ⊥
 LacksTable p c room fault.SubsetLimit = ⊥
 LacksTable p c room (fault.Terminates trace) = CanEnd p c trace
 
-abbrev pub Lacks : Content → Component Proc → Room → Unexplored → Type 0
-Lacks p c room unexplored.NoMemory = Unit {0}
-Lacks p c room (unexplored.Refused f) = LacksTable p c room f
-
--- the same of a task's component (for private calls, as what follows)
-abbrev pub TaskLacks : Task → Unexplored → Type 0
-TaskLacks task = Lacks task.program.now (part_of task) task.room
-
--- a fault of an evaluation
-abbrev pub valueless : EvalFault → Unexplored
-valueless evaluation.NoMemory = unexplored.NoMemory
-valueless (evaluation.Value kind) = unexplored.Refused (fault.Value kind)
+-- what is told is such a reason (for private calls)
+abbrev pub TaskLacks : Task → Stop ComponentFault → Type 0
+TaskLacks task = Tells (LacksTable task.program.now (part_of task) task.room)

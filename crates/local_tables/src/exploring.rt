@@ -1,19 +1,16 @@
 //! The exploration of a component.
 
 ghost use Rattle.std.specs.Prelude.{◌≡◌, ◌+◌, ◌<◌, ◌≤◌, Some, length, slice_get, IfOk, IfErr, OnOk};
+ghost use Rattle.csp_base.specs.Prelude.{Tells};
 ghost use Rattle.csp_steps.specs.declared.step.StepTo.{StepTo as Step};
-ghost use Rattle.local_tables.specs.Component.{AreTermsOf, IsInside, part_of, step_count};
-ghost use Rattle.local_tables.specs.Faults.{Lacks, TaskLacks};
-ghost use Rattle.local_tables.specs.LocalTable.{IsLocalTable};
-ghost use Rattle.local_tables.specs.Progress.{IsAt, IsUpTo, label_of, process_label, step_more};
+ghost use Rattle.local_tables.specs.Prelude.{AreTermsOf, IsInside, part_of, step_count, LacksTable, TaskLacks, IsLocalTable, IsAt, IsUpTo, label_of, process_label, step_more};
 
-use crate::fault::Unexplored;
 use crate::found::{Found, begin, check, term_number};
 use crate::local_table::{LocalTable, Room};
 use crate::origins::trace_to;
 use crate::task::Task;
 use crate::terms::{Terms, make_room};
-use csp_base::{Event, NoMemory};
+use csp_base::{Event, NoMemory, Stop};
 use csp_steps::{StepTo, steps_in};
 use csp_tables::RawTable;
 use process_steps::{ComponentFault, Label};
@@ -28,10 +25,14 @@ use term_pool::Pool;
 /// (`Terminates`).
 ///
 /// It takes time in proportion to the terms and their steps.
-pub fn explore(alloc: Global, task: &Task<'_>, terms: &mut Terms) -> Result<LocalTable, Unexplored>
+pub fn explore(
+    alloc: Global,
+    task: &Task<'_>,
+    terms: &mut Terms,
+) -> Result<LocalTable, Stop<ComponentFault>>
     requires terms { AreTermsOf task.now.program.now terms.old }
     ensures table { IfOk result (IsLocalTable task.now.program.now (part_of task.now) task.now.room) }
-    ensures fault { IfErr result (Lacks task.now.program.now (part_of task.now) task.now.room) }
+    ensures fault { IfErr result (Tells (LacksTable task.now.program.now (part_of task.now) task.now.room)) }
     ensures terms { OnOk result (AreTermsOf task.now.program.now terms.new) }
 {
     make_room(alloc, task.program, terms);
@@ -59,7 +60,7 @@ fn follow(
     terms: &mut Terms,
     found: &mut Found,
     at: u32,
-) -> Result<(), Unexplored>
+) -> Result<(), Stop<ComponentFault>>
     requires here { at < length found.old.terms }
     requires terms { AreTermsOf task.now.program.now terms.old }
     requires up_to { IsUpTo task.now terms.old.pool found.old at }
@@ -69,7 +70,11 @@ fn follow(
 {
     let id = found.terms.as_slice()[at as usize];
     let Terms { pool, evaluated } = terms;
-    let steps = steps_in(alloc, task.program, pool, evaluated, id)?;
+    let steps = match steps_in(task.program, pool, evaluated, id) {
+        Ok(steps) => steps,
+        Err(Stop::NoMemory) => return Err(Stop::NoMemory),
+        Err(Stop::Told(kind)) => return Err(Stop::Told(ComponentFault::Value { kind })),
+    };
     for place in 0..steps.len() {
         take(alloc, task, pool, found, at, steps.as_slice(), place)?;
     }
@@ -85,7 +90,7 @@ fn take(
     at: u32,
     steps: &[StepTo],
     place: usize,
-) -> Result<(), Unexplored>
+) -> Result<(), Stop<ComponentFault>>
     requires inside { place < length steps.now }
     requires at { IsAt task.now pool.now found.old at steps.now place }
     ensures at { OnOk result (IsAt task.now pool.now found.new at steps.now (place + 1)) }
@@ -102,7 +107,7 @@ fn take(
         }
         Label::Tick => {
             let trace = trace_to(alloc, found.origins.as_slice(), at)?;
-            Err(Unexplored::Refused(ComponentFault::Terminates { trace }))
+            Err(Stop::Told(ComponentFault::Terminates { trace }))
         }
     }
 }
@@ -116,7 +121,7 @@ fn lead(
     steps: &[StepTo],
     place: usize,
     event: Option<Event>,
-) -> Result<(), Unexplored>
+) -> Result<(), Stop<ComponentFault>>
     requires inside { place < length steps.now }
     requires at { IsAt task.now pool.now found.old at steps.now place }
     requires label { (s : Step) → slice_get steps.now place ≡ Some s → s.label ≡ process_label (label_of event) }

@@ -6,13 +6,11 @@ ghost use Rattle.csp_program.specs.Depth.{proc_depth};
 ghost use Rattle.csp_program.specs.declared.processes.Proc.{Proc as Process};
 ghost use Rattle.dl_limits.specs.declared.TheConstants.{MOST_TERMS, MOST_TERM_DEPTH};
 ghost use Rattle.term_pool.specs.Prelude.{IsFront, tree_at};
-ghost use Rattle.local_tables.specs.Faults.{TaskLacks};
-ghost use Rattle.local_tables.specs.Progress.{AreTabled, IsUpTo, IsWithin, terms_at, with_term};
+ghost use Rattle.local_tables.specs.Prelude.{TaskLacks, AreTabled, IsUpTo, IsWithin, terms_at, with_term};
 
-use crate::fault::Unexplored;
 use crate::task::Task;
 use containers::{Items, Numbering};
-use csp_base::{Event, NoMemory};
+use csp_base::{Event, NoMemory, Stop};
 use csp_tables::RawTable;
 use dl_limits::{MOST_TERM_DEPTH, MOST_TERMS};
 use process_steps::ComponentFault;
@@ -29,7 +27,11 @@ pub(crate) struct Found {
 }
 
 // The component's own term, if it is within the limits and the room.
-pub(crate) fn begin(alloc: Global, task: &Task<'_>, pool: &mut Pool) -> Result<Found, Unexplored>
+pub(crate) fn begin(
+    alloc: Global,
+    task: &Task<'_>,
+    pool: &mut Pool,
+) -> Result<Found, Stop<ComponentFault>>
     ensures front { IsFront pool.old pool.new }
     ensures up_to { IfOk result (λ found. IsUpTo task.now pool.new found 0) }
     ensures fault { IfErr result (TaskLacks task.now) }
@@ -78,7 +80,7 @@ pub(crate) fn check(
     pool: &Pool,
     found: &Found,
     newest: ProcId,
-) -> Result<(), Unexplored>
+) -> Result<(), Stop<ComponentFault>>
     requires tabled { AreTabled task.now pool.now found.now }
     requires newest { StandsIn found.now.terms newest }
     requires others { (n : ℕ) (x : Process) → slice_get (terms_at pool.now found.now.terms) n ≡ Some x
@@ -90,18 +92,18 @@ pub(crate) fn check(
     let terms = found.terms.as_slice();
     let _ = pool.len();
     if terms.len() > MOST_TERMS {
-        return Err(Unexplored::Refused(ComponentFault::TermCount));
+        return Err(Stop::Told(ComponentFault::TermCount));
     }
     let depth = pool.depth(newest);
     if depth > MOST_TERM_DEPTH {
-        return Err(Unexplored::Refused(ComponentFault::TermDepth));
+        return Err(Stop::Told(ComponentFault::TermDepth));
     }
     if found.nodes > u64::from(task.room.nodes()) {
-        return Err(Unexplored::Refused(ComponentFault::TermTotal));
+        return Err(Stop::Told(ComponentFault::TermTotal));
     }
     let steps = found.table.silent().len() + found.table.steps().len();
     if steps > task.room.steps() as usize {
-        return Err(Unexplored::Refused(ComponentFault::StepCount));
+        return Err(Stop::Told(ComponentFault::StepCount));
     }
     Ok(())
 }

@@ -7,7 +7,6 @@
 ghost use Rattle.local_tables.specs.Laws.{FaultsExcludeTables};
 
 mod exploring;
-mod fault;
 mod found;
 mod local_table;
 mod origins;
@@ -15,7 +14,6 @@ mod task;
 mod terms;
 
 pub use exploring::explore;
-pub use fault::Unexplored;
 pub use local_table::{LocalTable, Room};
 pub use task::Task;
 pub use terms::Terms;

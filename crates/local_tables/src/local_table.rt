@@ -59,12 +59,8 @@ pub struct LocalTable {
     pub used: Room,
 }
 
-// By hand, so that a crate that ends one calls this and proves no end of its own.
 impl Drop for LocalTable {
     fn drop(self) {
-        let LocalTable {
-            table: _table,
-            used: _used,
-        } = self;
+        let LocalTable { table, used } = self;
     }
 }

@@ -2,8 +2,7 @@
 
 ghost use Rattle.std.specs.Prelude.{◌≡◌, ◌+◌, ◌<◌, ◌≤◌, ◌++◌, ℕ, Some, List, length, slice_get, IfOk, OnOk};
 ghost use Rattle.csp_program.specs.declared.processes.Proc.{Proc};
-ghost use Rattle.local_tables.specs.Progress.{AreLed, LeadsToTerm, Origin, step_events};
-ghost use Rattle.local_tables.specs.declared.task.Task.{Task};
+ghost use Rattle.local_tables.specs.Prelude.{AreLed, LeadsToTerm, Origin, step_events, Task};
 
 use csp_base::{Event, NoMemory, Trace};
 use std::alloc::Global;

@@ -1,7 +1,5 @@
 -- Depths by rounds: they are those of the definition, and once a round changes nothing no later one does.
-use Rattle.name_faults.proofs.Prelude.{◌≡◌, ℕ, zero, suc, ◌+◌, ◌-◌, ◌≤◌, ◌<◌, max, min, Bool, true, IsTrue, ◌↔◌, Option, Some, None, List, [], ◌∷◌, ◌++◌, map, slice_get, slice_index, nat_lt, add-one, refl, sym, ap, ◌∙◌, subst, arith, lt-ltb, ltb-true, ltb_from_iff, slice_get-map, flat_map, option_map, below, deepest, depth_within, reach, said_by, Name, Occurrence, Binds, Notes, Uses, Form, Parallel, Declares, Body, body_of, greatest_level, level_of, use_of, used, deepest_if, deepest_of, deepest_use, Entity, Use}
-use Rattle.script_names.specs.declared.kinds.Sense.{Sense}
-use Rattle.name_faults.specs.Depths.{AreWithin, within}
+use Rattle.name_faults.proofs.Prelude.{◌≡◌, ℕ, zero, suc, ◌+◌, ◌-◌, ◌≤◌, ◌<◌, max, min, Bool, true, IsTrue, ◌↔◌, Option, Some, None, List, [], ◌∷◌, ◌++◌, map, slice_get, slice_index, nat_lt, add-one, refl, sym, ap, ◌∙◌, subst, arith, lt-ltb, ltb-true, ltb_from_iff, slice_get-map, flat_map, option_map, below, deepest, depth_within, reach, said_by, Name, Occurrence, Binds, Notes, Uses, Form, Parallel, Declares, Body, body_of, greatest_level, level_of, use_of, used, deepest_if, deepest_of, deepest_use, Entity, Use, Sense, AreWithin, within}
 
 -- how deep what a body says reaches, from what is kept of it
 module _ (f : ℕ → ℕ) where

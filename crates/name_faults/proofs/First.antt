@@ -1,6 +1,5 @@
 -- The first name that a test finds in a row, from what it finds in those that are left.
-use Rattle.name_faults.proofs.Prelude.{◌≡◌, ℕ, ◌+◌, ◌<◌, Bool, true, false, Option, Some, None, List, [], ◌∷◌, length, map, drop, get_or, ap, sym, ◌∙◌, Bor, drop_read, Name, first_name, Occurrence, seen}
-use Rattle.csp_base.specs.Standard.{list_any}
+use Rattle.name_faults.proofs.Prelude.{◌≡◌, ℕ, ◌+◌, ◌<◌, Bool, true, false, Option, Some, None, List, [], ◌∷◌, length, map, drop, get_or, ap, sym, ◌∙◌, Bor, drop_read, Name, first_name, Occurrence, seen, list_any}
 
 module _ (test : Occurrence Name → Option Name) (os : List (Occurrence (Bor Name))) (i : ℕ) (o : Occurrence (Bor Name)) (whole : Option Name) where
   pub found_later : i < length os → o ≡ get_or os i o → test (seen o) ≡ None → first_name test (map seen (drop i os)) ≡ whole → first_name test (map seen (drop (i + 1) os)) ≡ whole

@@ -1,10 +1,6 @@
 -- What is known of declarations, and what one says after them.
-use Rattle.name_faults.proofs.Prelude.{◌≡◌, ℕ, ◌+◌, ◌<◌, ◌≤◌, Bool, ◌&&◌, Option, Some, None, List, [], ◌∷◌, ◌++◌, length, map, take, drop, get_or, slice_get, slice_index, nat_lt, refl, sym, ap, ◌∙◌, append_assoc, subst, arith, drop_of_length-le, append-nil, map-append, length_push, MOST_DATA_DEPTH, Decl, Tree, kind_class, Name, Meanings, Entities, Counts, channels_from, constants_from, counted, declared_from, is_among, meanings_of, none_yet, tree_says, annotation_says, bodies_from, body_place, counts_of, data_place, decl_says, declared_after, each_after, fault_in, fault_of, first_fault, first_there, is_data, is_deep, name_fault, names_declared, next_definition, parameters_after, too_deep, types_say, with_roles, with_uses, Occurrence, Declares, SameNames, same_names-append, Body, Known, body_of, AreWithin, IsKnown, IsNext, deep_at, defines, fault_after, names_in, nothing_known, says_after, Walked, after, drop_read, take_read, flat_map_push}
-use Rattle.std.specs.List.{flat_map}
-use Rattle.script_names.specs.declared.fault.ResolveFault.{ResolveFault}
-use Rattle.script_names.specs.declared.kinds.Kind.{Kind}
+use Rattle.name_faults.proofs.Prelude.{◌≡◌, ℕ, ◌+◌, ◌<◌, ◌≤◌, Bool, ◌&&◌, Option, Some, None, List, [], ◌∷◌, ◌++◌, length, map, take, drop, get_or, slice_get, slice_index, nat_lt, refl, sym, ap, ◌∙◌, append_assoc, subst, arith, drop_of_length-le, append-nil, map-append, length_push, MOST_DATA_DEPTH, Decl, Tree, kind_class, Name, Meanings, Entities, Counts, channels_from, constants_from, counted, declared_from, is_among, meanings_of, none_yet, tree_says, annotation_says, bodies_from, body_place, counts_of, data_place, decl_says, declared_after, each_after, fault_in, fault_of, first_fault, first_there, is_data, is_deep, name_fault, names_declared, next_definition, parameters_after, too_deep, types_say, with_roles, with_uses, Occurrence, Declares, SameNames, same_names-append, Body, Known, body_of, AreWithin, IsKnown, IsNext, deep_at, defines, fault_after, names_in, nothing_known, says_after, Walked, after, drop_read, take_read, flat_map_push, flat_map, ResolveFault, Kind, fault_from}
 use Rattle.script_names.specs.Names.{declares as declares_of}
-use Rattle.name_faults.specs.Known.{fault_from}
 use Rattle.name_faults.proofs.DepthLemmas.{over_depth}
 
 -- what is said of names after the same ones, and of one more

@@ -1,7 +1,5 @@
 -- Rows of parts: what they say and bind so far, and one more.
-use Rattle.name_faults.proofs.Prelude.{◌≡◌, ℕ, zero, suc, ◌+◌, ◌<◌, ◌≤◌, List, [], ◌∷◌, ◌++◌, length, map, take, get_or, refl, ap, sym, ◌∙◌, append_assoc, arith, length-append, map-append, take-append_seam, append-nil, FieldTree, GenTree, PartTree, Tree, Entities, Name, first_of, Binder, Said, all_say, in_turn, Place, field_binder, gen_binder}
-use Rattle.script_names.specs.Says.{under}
-use Rattle.name_faults.specs.Walked.{field_names, field_said, fields_said, gen_names, gen_said, gens_said, pair_said, pairs_said, part_said, parts_said, tree_said, trees_said, under_fields, under_gens}
+use Rattle.name_faults.proofs.Prelude.{◌≡◌, ℕ, zero, suc, ◌+◌, ◌<◌, ◌≤◌, List, [], ◌∷◌, ◌++◌, length, map, take, get_or, refl, ap, sym, ◌∙◌, append_assoc, arith, length-append, map-append, take-append_seam, append-nil, FieldTree, GenTree, PartTree, Tree, Entities, Name, first_of, Binder, Said, all_say, in_turn, Place, field_binder, gen_binder, under, field_names, field_said, fields_said, gen_names, gen_said, gens_said, pair_said, pairs_said, part_said, parts_said, tree_said, trees_said, under_fields, under_gens}
 
 all_say-append : (ss ts : List Said) (place : Place) (names : List Name) → all_say (ss ++ ts) place names ≡ all_say ss place names ++ all_say ts place names
 all_say-append [] ts place names = refl

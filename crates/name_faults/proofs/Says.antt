@@ -1,16 +1,10 @@
 -- What each form says, in what its parts say: a line for each form, by the equations that are made of the folds.
-use Rattle.name_faults.proofs.Prelude.{◌≡◌, ℕ, ◌+◌, ◌<◌, ◌≤◌, Some, None, List, [], ◌∷◌, ◌++◌, length, false, append_assoc, rules, GenTree, PartTree, Tree, length-map, Entities, Name, first_of, sense_in, data_in, process_in, network_in, part_in, Place, Occurrence, Binds, Uses, Form, Parallel, Class, Use}
-use Rattle.csp_base.specs.declared.operators.BinOp.{BinOp}
-use Rattle.csp_base.specs.declared.operators.SetOp.{SetOp}
-use Rattle.csp_text.specs.declared.tree.EventTree.{EventTree, the_lemmas as event_lemmas}
-use Rattle.csp_text.specs.declared.tree.FieldTree.TheViews.{out-EventTree, out-PartTree}
+use Rattle.name_faults.proofs.Prelude.{◌≡◌, ℕ, ◌+◌, ◌<◌, ◌≤◌, Some, None, List, [], ◌∷◌, ◌++◌, length, false, append_assoc, rules, GenTree, PartTree, Tree, length-map, Entities, Name, first_of, sense_in, data_in, process_in, network_in, part_in, Place, Occurrence, Binds, Uses, Form, Parallel, Class, Use, BinOp, SetOp, EventTree, out-EventTree, out-PartTree, the_lemmas, append-nil, field_names, field_said, fields_said, gen_names, gen_said, gens_said, pair_said, pairs_said, part_said, parts_said, tree_said, trees_said, under_fields, under_gens}
+use Rattle.csp_text.specs.declared.tree.EventTree.{the_lemmas as event_lemmas}
 use Rattle.csp_text.specs.declared.tree.PartTree.{the_lemmas as part_lemmas}
-use Rattle.csp_text.specs.declared.tree.Tree.{the_lemmas}
 use Rattle.csp_text.specs.declared.tree.FieldTree.TheVariants as field
-use Rattle.std.proofs.lemmas.List.{append-nil}
 use Rattle.csp_text.specs.declared.tree.GenTree.TheVariants as generator
 use Rattle.csp_text.specs.declared.tree.Tree.TheVariants as tree
-use Rattle.name_faults.specs.Walked.{field_names, field_said, fields_said, gen_names, gen_said, gens_said, pair_said, pairs_said, part_said, parts_said, tree_said, trees_said, under_fields, under_gens}
 
 module _ (e : Entities) (place : Place) (names : List Name) where
   abbrev used : Name → Use → Occurrence Name

@@ -8,10 +8,10 @@ use crate::body::{Body, body_of};
 use crate::places;
 use crate::walk::Walk;
 use containers::Items;
-use csp_base::{Name, NoMemory};
+use csp_base::Name;
 use csp_text::{Decl, Tree};
-use name_tables::Meanings;
-use script_names::{Class, Place};
+use name_tables::{Meanings, kind_at};
+use script_names::{Class, Made, Place};
 use std::alloc::Global;
 
 /// How deep the body of each definition reaches, as far as it is expanded where the definition is used.
@@ -19,7 +19,7 @@ pub(crate) fn bodies_of<'a>(
     meanings: &Meanings<'_>,
     walk: &mut Walk<'a>,
     decls: &'a [Decl],
-) -> Result<Items<Body>, NoMemory>
+) -> Made<Items<Body>>
     requires names { walk.old.names ≡ meanings.now.names.now }
     requires depth { depth decls.now ≤ MOST_TREE_DEPTH }
     ensures bodies { IfOk result (λ bodies. bodies ≡ meant.bodies_after meanings.now 0 decls.now) }
@@ -38,7 +38,7 @@ fn add_body<'a>(
     walk: &mut Walk<'a>,
     bodies: &mut Items<Body>,
     decl: &'a Decl,
-) -> Result<(), NoMemory>
+) -> Made<()>
     requires names { walk.old.names ≡ meanings.now.names.now }
     requires depth { declaration_depth decl.now ≤ MOST_TREE_DEPTH }
     ensures bodies { OnOk result
@@ -65,13 +65,13 @@ fn expanded_body<'a>(
     d: usize,
     params: &'a [Name],
     tree: &'a Tree,
-) -> Result<Body, NoMemory>
+) -> Made<Body>
     requires names { walk.old.names ≡ meanings.now.names.now }
     requires depth { tree_depth tree.now ≤ MOST_TREE_DEPTH }
     ensures body { IfOk result (λ body. body ≡ meant.expanded_at meanings.now d params.now tree.now) }
     ensures names { OnOk result (walk.new.names ≡ meanings.now.names.now) }
 {
-    match places::class_at(meanings.kinds, d) {
+    match kind_at(meanings.kinds, d).class {
         Class::Process => Ok(no_body(meanings.alloc)),
         Class::Data | Class::Unknown => {
             body_at(
@@ -102,7 +102,7 @@ fn body_at<'a>(
     params: &'a [Name],
     place: Place,
     tree: &'a Tree,
-) -> Result<Body, NoMemory>
+) -> Made<Body>
     requires names { walk.old.names ≡ meanings.now.names.now }
     requires depth { place.level + tree_depth tree.now ≤ MOST_TREE_DEPTH + 1 }
     ensures body { IfOk result (λ body.
@@ -111,6 +111,6 @@ fn body_at<'a>(
 {
     walk.clear();
     walk.body(params, tree, place)?;
-    let body = body_of(meanings.alloc, walk.said())?;
+    let body = body_of(meanings.alloc, walk.occurrences())?;
     Ok(body)
 }

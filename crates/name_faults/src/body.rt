@@ -6,8 +6,8 @@ ghost use Rattle.name_faults.specs.Walked.{seen};
 ghost use Rattle.name_faults.specs.Bodies as meant;
 
 use containers::Items;
-use csp_base::{Name, NoMemory};
-use script_names::{Entity, Occurrence, Sense, Use};
+use csp_base::Name;
+use script_names::{Entity, Made, Occurrence, Sense, Use};
 use std::alloc::Global;
 
 /// How deep a body reaches.
@@ -20,7 +20,7 @@ pub(crate) struct Body {
 }
 
 /// How deep a body reaches that says this.
-pub(crate) fn body_of(alloc: Global, list: &[Occurrence<&Name>]) -> Result<Body, NoMemory>
+pub(crate) fn body_of(alloc: Global, list: &[Occurrence<&Name>]) -> Made<Body>
     ensures { IfOk result (λ body. body ≡ meant.body_of (map seen list.now)) }
 {
     let uses = uses_of(alloc, list)?;
@@ -42,8 +42,8 @@ fn greatest_level(list: &[Occurrence<&Name>]) -> u32
     level
 }
 
-// The greater of two levels.
-fn greater(a: u32, b: u32) -> u32
+/// The greater of two levels.
+pub(crate) fn greater(a: u32, b: u32) -> u32
     ensures { result ≡ max a b }
 {
     if a < b { b } else { a }
@@ -66,7 +66,7 @@ fn level_of(said: &Occurrence<&Name>) -> u32
 
 // The definitions that are used.
 #[tactic(auto, using(crate::proofs::BodyLemmas::uses_later))]
-fn uses_of(alloc: Global, list: &[Occurrence<&Name>]) -> Result<Items<(u32, u32)>, NoMemory>
+fn uses_of(alloc: Global, list: &[Occurrence<&Name>]) -> Made<Items<(u32, u32)>>
     ensures { IfOk result (λ uses. uses ≡ flat_map meant.use_of (map seen list.now)) }
 {
     let mut uses = Items::new(alloc);

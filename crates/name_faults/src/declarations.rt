@@ -10,21 +10,19 @@ ghost use Rattle.name_faults.specs.Walked as walked;
 use crate::known::Known;
 use crate::places;
 use crate::walk::Walk;
-use csp_base::{Name, NoMemory};
+use csp_base::Name;
 use csp_text::{Decl, ResourceNames, RolesNames, Tree};
 use name_tables::NameSet;
-use script_names::{Kind, Place, Sense, Use};
-use std::alloc::Global;
+use script_names::{Kind, Made, Place, Sense, Use};
 
 impl<'a> Walk<'a> {
     /// Says what a declaration says that comes after those that are known.
     pub(crate) fn declaration(
         &mut self,
-        alloc: Global,
         kinds: &[Kind],
         known: &mut Known,
         decl: &'a Decl,
-    ) -> Result<(), NoMemory>
+    ) -> Made<()>
         requires depth { declaration_depth decl.now ≤ MOST_TREE_DEPTH }
         requires bound { self.old.bound ≡ [] }
         ensures said { OnOk result
@@ -37,36 +35,23 @@ impl<'a> Walk<'a> {
     {
         match decl {
             Decl::Channel(xs, types) => {
-                self.channels(alloc, &mut known.declared, xs.as_slice(), types.as_slice())
+                self.channels(&mut known.declared, xs.as_slice(), types.as_slice())
             }
-            Decl::Datatype(x, ks) => self.datatype(alloc, &mut known.declared, x, ks.as_slice()),
-            Decl::Nametype(x, tree) => self.nametype(alloc, &mut known.declared, x, tree),
+            Decl::Datatype(x, ks) => self.datatype(&mut known.declared, x, ks.as_slice()),
+            Decl::Nametype(x, tree) => self.nametype(&mut known.declared, x, tree),
             Decl::Define(x, params, tree) => {
                 let place = places::body_place(kinds, known.definitions as usize);
-                self.definition(
-                    alloc,
-                    &mut known.declared,
-                    place,
-                    x,
-                    params.as_slice(),
-                    tree,
-                )
+                self.definition(&mut known.declared, place, x, params.as_slice(), tree)
             }
             Decl::Assert(tree) => self.body(&[], tree, places::root_place()),
-            Decl::Roles(roles) => self.roles(alloc, &mut known.roles, roles),
-            Decl::Resource(resource) => self.resource(alloc, &mut known.uses, resource),
+            Decl::Roles(roles) => self.roles(&mut known.roles, roles),
+            Decl::Resource(resource) => self.resource(&mut known.uses, resource),
         }
     }
 
     // Says the names and the types of channels.
     #[tactic(auto, using(crate::proofs::Lists::left_lists))]
-    fn channels(
-        &mut self,
-        alloc: Global,
-        declared: &mut NameSet,
-        xs: &'a [Name],
-        types: &'a [Tree],
-    ) -> Result<(), NoMemory>
+    fn channels(&mut self, declared: &mut NameSet, xs: &'a [Name], types: &'a [Tree]) -> Made<()>
         requires depth { greatest (map tree_depth types.now) ≤ MOST_TREE_DEPTH }
         requires bound { self.old.bound ≡ [] }
         ensures said { OnOk result
@@ -74,43 +59,31 @@ impl<'a> Walk<'a> {
             ++ types_say (first_of self.old.names) types.now)) }
         ensures declared { OnOk result (SameNames declared.new (declared.old ++ xs.now)) }
     {
-        self.declare_all(alloc, declared, xs)?;
+        self.declare_all(declared, xs)?;
         self.types(types)?;
         Ok(())
     }
 
     // Says the names of a datatype and of its constants.
-    fn datatype(
-        &mut self,
-        alloc: Global,
-        declared: &mut NameSet,
-        x: &'a Name,
-        ks: &'a [Name],
-    ) -> Result<(), NoMemory>
+    fn datatype(&mut self, declared: &mut NameSet, x: &'a Name, ks: &'a [Name]) -> Made<()>
         ensures said { OnOk result (self.new ≡ after self.old (declared_after declared.old (x.now ∷ ks.now))) }
         ensures declared { OnOk result (SameNames declared.new (declared.old ++ x.now ∷ ks.now)) }
     {
-        self.declare(alloc, declared, x)?;
-        self.declare_all(alloc, declared, ks)?;
+        self.declare(declared, x)?;
+        self.declare_all(declared, ks)?;
         Ok(())
     }
 
     // Says the name and the set of a nametype.
     #[tactic(auto, using(crate::proofs::Lists::left_lists))]
-    fn nametype(
-        &mut self,
-        alloc: Global,
-        declared: &mut NameSet,
-        x: &'a Name,
-        tree: &'a Tree,
-    ) -> Result<(), NoMemory>
+    fn nametype(&mut self, declared: &mut NameSet, x: &'a Name, tree: &'a Tree) -> Made<()>
         requires depth { tree_depth tree.now ≤ MOST_TREE_DEPTH }
         requires bound { self.old.bound ≡ [] }
         ensures said { OnOk result (self.new ≡ after self.old (declared_after declared.old (x.now ∷ [])
             ++ tree_says (first_of self.old.names) tree.now data_place [])) }
         ensures declared { OnOk result (SameNames declared.new (declared.old ++ x.now ∷ [])) }
     {
-        self.declare(alloc, declared, x)?;
+        self.declare(declared, x)?;
         self.body(&[], tree, places::data_place())?;
         Ok(())
     }
@@ -119,39 +92,33 @@ impl<'a> Walk<'a> {
     #[tactic(auto, using(crate::proofs::Lists::left_lists))]
     fn definition(
         &mut self,
-        alloc: Global,
         declared: &mut NameSet,
         place: Place,
         x: &'a Name,
         params: &'a [Name],
         tree: &'a Tree,
-    ) -> Result<(), NoMemory>
+    ) -> Made<()>
         requires depth { place.level + tree_depth tree.now ≤ MOST_TREE_DEPTH + 1 }
         requires bound { self.old.bound ≡ [] }
         ensures said { OnOk result (self.new ≡ after self.old (declared_after declared.old (x.now ∷ [])
             ++ (parameters_after [] params.now ++ tree_says (first_of self.old.names) tree.now place params.now))) }
         ensures declared { OnOk result (SameNames declared.new (declared.old ++ x.now ∷ [])) }
     {
-        self.declare(alloc, declared, x)?;
-        self.parameters(alloc, params)?;
+        self.declare(declared, x)?;
+        self.parameters(params)?;
         self.body(params, tree, place)?;
         Ok(())
     }
 
     // Says an annotation of roles.
     #[tactic(auto, using(crate::proofs::Lists::left_lists))]
-    fn roles(
-        &mut self,
-        alloc: Global,
-        annotated: &mut NameSet,
-        roles: &'a RolesNames,
-    ) -> Result<(), NoMemory>
+    fn roles(&mut self, annotated: &mut NameSet, roles: &'a RolesNames) -> Made<()>
         requires { self.old.bound ≡ [] }
         ensures said { OnOk result
             (self.new ≡ after self.old (roles_said (first_of self.old.names) annotated.old roles.now)) }
         ensures annotated { OnOk result (SameNames annotated.new (annotated.old ++ roles.now.process ∷ [])) }
     {
-        let process = self.note_process(alloc, annotated, &roles.process)?;
+        let process = self.note_process(annotated, &roles.process)?;
         self.sets(process, &roles.creq, &roles.cack)?;
         self.sets(process, &roles.sreq, &roles.sack)?;
         Ok(())
@@ -159,67 +126,52 @@ impl<'a> Walk<'a> {
 
     // Says an annotation of a resource.
     #[tactic(auto, using(crate::proofs::Lists::left_lists))]
-    fn resource(
-        &mut self,
-        alloc: Global,
-        annotated: &mut NameSet,
-        resource: &'a ResourceNames,
-    ) -> Result<(), NoMemory>
+    fn resource(&mut self, annotated: &mut NameSet, resource: &'a ResourceNames) -> Made<()>
         requires { self.old.bound ≡ [] }
         ensures said { OnOk result
             (self.new ≡ after self.old (resource_said (first_of self.old.names) annotated.old resource.now)) }
         ensures annotated { OnOk result (SameNames annotated.new (annotated.old ++ resource.now.process ∷ [])) }
     {
-        let process = self.note_process(alloc, annotated, &resource.process)?;
+        let process = self.note_process(annotated, &resource.process)?;
         self.sets(process, &resource.acquire, &resource.release)?;
         Ok(())
     }
 
     // Says that a name is declared.
-    fn declare(
-        &mut self,
-        alloc: Global,
-        declared: &mut NameSet,
-        x: &'a Name,
-    ) -> Result<(), NoMemory>
+    fn declare(&mut self, declared: &mut NameSet, x: &'a Name) -> Made<()>
         ensures said { OnOk result (self.new ≡ after self.old (declared_after declared.old (x.now ∷ []))) }
         ensures declared { OnOk result (SameNames declared.new (declared.old ++ x.now ∷ [])) }
     {
-        let before = declared.add(alloc, x)?;
+        let before = declared.add(x)?;
         self.declares(x, before)?;
         Ok(())
     }
 
     // Says that names are declared.
-    fn declare_all(
-        &mut self,
-        alloc: Global,
-        declared: &mut NameSet,
-        xs: &'a [Name],
-    ) -> Result<(), NoMemory>
+    fn declare_all(&mut self, declared: &mut NameSet, xs: &'a [Name]) -> Made<()>
         ensures said { OnOk result (self.new ≡ after self.old (declared_after declared.old xs.now)) }
         ensures declared { OnOk result (SameNames declared.new (declared.old ++ xs.now)) }
     {
         for x in xs {
-            self.declare(alloc, declared, x)?;
+            self.declare(declared, x)?;
         }
         Ok(())
     }
 
     // Says that the parameters of a definition are bound.
-    fn parameters(&mut self, alloc: Global, xs: &'a [Name]) -> Result<(), NoMemory>
+    fn parameters(&mut self, xs: &'a [Name]) -> Made<()>
         ensures { OnOk result (self.new ≡ after self.old (parameters_after [] xs.now)) }
     {
-        let mut before = NameSet::new(alloc, self.key());
+        let mut before = self.new_set();
         for x in xs {
-            let repeats = before.add(alloc, x)?;
+            let repeats = before.add(x)?;
             self.binds(x, repeats)?;
         }
         Ok(())
     }
 
     // Says what the types of channels say.
-    fn types(&mut self, types: &'a [Tree]) -> Result<(), NoMemory>
+    fn types(&mut self, types: &'a [Tree]) -> Made<()>
         requires depth { greatest (map tree_depth types.now) ≤ MOST_TREE_DEPTH }
         requires bound { self.old.bound ≡ [] }
         ensures { OnOk result (self.new ≡ after self.old (types_say (first_of self.old.names) types.now)) }
@@ -232,19 +184,14 @@ impl<'a> Walk<'a> {
 
     // Says the process of an annotation, and tells what it stands for.
     #[tactic(auto, using(crate::proofs::Lists::left_lists))]
-    fn note_process(
-        &mut self,
-        alloc: Global,
-        annotated: &mut NameSet,
-        x: &'a Name,
-    ) -> Result<Sense, NoMemory>
+    fn note_process(&mut self, annotated: &mut NameSet, x: &'a Name) -> Made<Sense>
         ensures sense { IfOk result (λ sense. sense ≡ sense_in (first_of self.old.names) self.old.bound x.now) }
         ensures said { OnOk result (self.new ≡ after self.old
             (Notes x.now (is_among annotated.old x.now)
             ∷ walked.used self.old x.now how.Annotated ∷ [])) }
         ensures annotated { OnOk result (SameNames annotated.new (annotated.old ++ x.now ∷ [])) }
     {
-        let before = annotated.add(alloc, x)?;
+        let before = annotated.add(x)?;
         let sense = self.sense_of(x);
         self.notes(x, before)?;
         self.uses(x, Use::Annotated)?;
@@ -253,7 +200,7 @@ impl<'a> Walk<'a> {
 
     // Says two sets of the annotation of a process that stands for this.
     #[tactic(auto, using(crate::proofs::Lists::left_lists))]
-    fn sets(&mut self, process: Sense, first: &'a Name, second: &'a Name) -> Result<(), NoMemory>
+    fn sets(&mut self, process: Sense, first: &'a Name, second: &'a Name) -> Made<()>
         ensures { OnOk result (self.new ≡ after self.old (walked.used self.old first.now (how.Annotates process)
             ∷ walked.used self.old second.now (how.Annotates process) ∷ [])) }
     {

@@ -1,20 +1,20 @@
 //! The depths of definitions with all of their uses expanded, as far as a limit: in rounds, each use one level further.
 
-ghost use Rattle.std.specs.Prelude.{◌≡◌, ◌+◌, ◌↔◌, min, max, map, slice_index, IsTrue, IfOk};
+ghost use Rattle.std.specs.Prelude.{◌≡◌, ◌+◌, ◌↔◌, min, map, slice_index, IsTrue, IfOk};
 ghost use Rattle.name_faults.specs.Depths.{AreWithin, deepest_of};
 
-use crate::body::Body;
-use csp_base::NoMemory;
+use crate::body::{Body, greater};
+use script_names::Made;
 use std::alloc::Global;
 
 /// The depth of each definition as far as the limit, with as many uses entered, one inside another, as it says.
-pub(crate) fn depths_of(alloc: Global, bodies: &[Body], limit: u32) -> Result<Vec<u32>, NoMemory>
+pub(crate) fn depths_of(alloc: Global, bodies: &[Body], limit: u32) -> Made<Vec<u32>>
     ensures { IfOk result (λ depths. AreWithin limit limit bodies.now depths.items) }
 {
     let mut depths = Vec::new(alloc);
     for _round in 0..limit {
         let next = next_round(alloc, bodies, depths.as_slice(), limit)?;
-        if same(next.as_slice(), depths.as_slice()) {
+        if are_same(next.as_slice(), depths.as_slice()) {
             return Ok(depths);
         }
         depths = next;
@@ -23,19 +23,14 @@ pub(crate) fn depths_of(alloc: Global, bodies: &[Body], limit: u32) -> Result<Ve
 }
 
 // Whether two lists of depths are the same.
-fn same(a: &[u32], b: &[u32]) -> bool
+fn are_same(a: &[u32], b: &[u32]) -> bool
     ensures { IsTrue result ↔ (a.now ≡ b.now) }
 {
     a == b
 }
 
 // The depths with one use more that may be entered.
-fn next_round(
-    alloc: Global,
-    bodies: &[Body],
-    depths: &[u32],
-    limit: u32,
-) -> Result<Vec<u32>, NoMemory>
+fn next_round(alloc: Global, bodies: &[Body], depths: &[u32], limit: u32) -> Made<Vec<u32>>
     ensures { IfOk result (λ next.
         next.items ≡ map (λ body. min (deepest_of (λ d. slice_index depths.now d) body) limit) bodies.now) }
 {
@@ -52,26 +47,19 @@ fn depth_of(body: &Body, depths: &[u32], limit: u32) -> u32
 {
     let mut deepest = cap(body.level, limit);
     for (d, level) in body.uses.as_slice() {
-        deepest = greater(deepest, below(depths, *d, *level, limit));
+        deepest = greater(deepest, use_depth(depths, *d, *level, limit));
     }
     deepest
 }
 
 // How deep the use of a definition reaches.
-fn below(depths: &[u32], d: u32, level: u32, limit: u32) -> u32
+fn use_depth(depths: &[u32], d: u32, level: u32, limit: u32) -> u32
     ensures { result ≡ min (level + slice_index depths.now d) limit }
 {
     match depths.get(d as usize) {
         Some(depth) => cap(level.saturating_add(*depth), limit),
         None => cap(level, limit),
     }
-}
-
-// The greater of two depths.
-fn greater(a: u32, b: u32) -> u32
-    ensures { result ≡ max a b }
-{
-    if a < b { b } else { a }
 }
 
 // A depth as far as it is counted.

@@ -2,31 +2,27 @@
 
 ghost use Rattle.std.specs.Prelude.{◌≡◌, ◌+◌, ◌≤◌};
 ghost use Rattle.name_faults.specs.Prelude.{[], map, slice_index, nat_lt, IfOk, OnOk, MOST_DATA_DEPTH, MOST_TREE_DEPTH, SameFirsts, AreSmall, declaration_depth};
-ghost use Rattle.script_names.specs.Names.{declared, first_of};
 ghost use Rattle.name_faults.specs.Bodies.{bodies_after};
 ghost use Rattle.name_faults.specs.Depths.{AreWithin};
 ghost use Rattle.name_faults.specs.Known.{IsNext, deep_at, fault_after, fault_from, nothing_known};
 ghost use Rattle.name_faults.specs.Walked.{seen};
+ghost use Rattle.script_names.specs.Names.{declared, first_of};
 ghost use Rattle.script_names.specs.Told as meant;
 
 use crate::bodies::bodies_of;
 use crate::depths::depths_of;
 use crate::known::Known;
-use crate::places;
 use crate::scan::{is_any_inside, is_any_wrong_kind, repeated_name, unknown_name, wrong_count};
 use crate::walk::Walk;
-use csp_base::{Name, NoMemory};
+use csp_base::Name;
 use csp_text::Decl;
 use dl_limits::MOST_DATA_DEPTH;
-use name_tables::Meanings;
-use script_names::{Class, Kind, Occurrence, ResolveFault};
+use name_tables::{Meanings, kind_at};
+use script_names::{Class, Kind, Made, Occurrence, ResolveFault};
 
 /// The name fault of a script with these declarations, whose names and definitions mean what `meanings` says.
 #[tactic(auto, using(crate::proofs::DepthLemmas::depths_along, crate::proofs::KnownLemmas::whole_fault))]
-pub fn name_fault<'a>(
-    meanings: &Meanings<'a>,
-    decls: &'a [Decl],
-) -> Result<Option<ResolveFault>, NoMemory>
+pub fn name_fault<'a>(meanings: &Meanings<'a>, decls: &'a [Decl]) -> Made<Option<ResolveFault>>
     requires names { SameFirsts meanings.now.names.now (declared decls.now) }
     requires small { AreSmall decls.now }
     ensures { IfOk result (λ fault. fault ≡ meant.name_fault decls.now meanings.now.kinds.now) }
@@ -44,7 +40,7 @@ fn first_fault<'a>(
     walk: &mut Walk<'a>,
     decls: &'a [Decl],
     depths: &[u32],
-) -> Result<Option<ResolveFault>, NoMemory>
+) -> Made<Option<ResolveFault>>
     requires walk { walk.old.names ≡ meanings.now.names.now }
     requires names { SameFirsts meanings.now.names.now (declared decls.now) }
     requires small { AreSmall decls.now }
@@ -52,7 +48,7 @@ fn first_fault<'a>(
         (bodies_after meanings.now 0 decls.now) depths.now }
     ensures { IfOk result (λ fault. fault ≡ fault_from decls.now meanings.now.kinds.now [] decls.now) }
 {
-    let mut known = Known::new(meanings.alloc, meanings.names.key());
+    let mut known = Known::new(meanings.names);
     let fault = first_after(meanings, walk, decls, depths, &mut known);
     drop(known);
     fault
@@ -65,7 +61,7 @@ fn first_after<'a>(
     decls: &'a [Decl],
     depths: &[u32],
     known: &mut Known,
-) -> Result<Option<ResolveFault>, NoMemory>
+) -> Made<Option<ResolveFault>>
     requires known { known.old ≡ nothing_known }
     requires walk { walk.old.names ≡ meanings.now.names.now }
     requires names { SameFirsts meanings.now.names.now (declared decls.now) }
@@ -90,7 +86,7 @@ fn fault_in<'a>(
     depths: &[u32],
     known: &mut Known,
     decl: &'a Decl,
-) -> Result<Option<ResolveFault>, NoMemory>
+) -> Made<Option<ResolveFault>>
     requires names { walk.old.names ≡ meanings.now.names.now }
     requires depth { declaration_depth decl.now ≤ MOST_TREE_DEPTH }
     ensures told { IfOk result (λ fault.
@@ -99,9 +95,9 @@ fn fault_in<'a>(
     ensures names { OnOk result (walk.new.names ≡ meanings.now.names.now) }
 {
     walk.clear();
-    walk.declaration(meanings.alloc, meanings.kinds, known, decl)?;
+    walk.declaration(meanings.kinds, known, decl)?;
     let deep = is_deep(meanings.kinds, depths, known.definitions, decl);
-    let fault = fault_of(meanings, known.declarations, walk.said(), deep)?;
+    let fault = fault_of(meanings, known.declarations, walk.occurrences(), deep)?;
     Ok(fault)
 }
 
@@ -110,7 +106,7 @@ fn is_deep(kinds: &[Kind], depths: &[u32], d: u32, decl: &Decl) -> bool
     ensures { result ≡ deep_at kinds.now depths.now d decl.now }
 {
     match decl {
-        Decl::Define(_, _, _) => match places::class_at(kinds, d as usize) {
+        Decl::Define(_, _, _) => match kind_at(kinds, d as usize).class {
             Class::Data => is_over(depths, d),
             Class::Process | Class::Unknown => false,
         },
@@ -139,7 +135,7 @@ fn fault_of(
     i: u32,
     said: &[Occurrence<&Name>],
     deep: bool,
-) -> Result<Option<ResolveFault>, NoMemory>
+) -> Made<Option<ResolveFault>>
     ensures { IfOk result (λ fault.
         fault ≡ meant.fault_of (first_of meanings.now.names.now) meanings.now.kinds.now i (map seen said.now) deep) }
 {

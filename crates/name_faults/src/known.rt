@@ -4,10 +4,8 @@ ghost use Rattle.std.specs.Prelude.{◌≡◌, ◌+◌, ◌<◌};
 ghost use Rattle.name_faults.specs.Prelude.{MOST_BYTES};
 ghost use Rattle.name_faults.specs.Known.{nothing_known, defines};
 
-use containers::Key;
 use csp_text::Decl;
-use name_tables::NameSet;
-use std::alloc::Global;
+use name_tables::{Dictionary, NameSet};
 
 /// What is known of the declarations that were passed.
 #[derive(Drop)]
@@ -25,16 +23,16 @@ pub(crate) struct Known {
 }
 
 impl Known {
-    /// No declaration was passed. Names are found under this key.
-    pub(crate) fn new(alloc: Global, key: Key) -> Known
+    /// No declaration was passed. Names are found as those of the script are.
+    pub(crate) fn new(names: &Dictionary) -> Known
         ensures { result ≡ nothing_known }
     {
         Known {
             declarations: 0,
             definitions: 0,
-            declared: NameSet::new(alloc, key),
-            roles: NameSet::new(alloc, key),
-            uses: NameSet::new(alloc, key),
+            declared: names.new_set(),
+            roles: names.new_set(),
+            uses: names.new_set(),
         }
     }
 

@@ -1,23 +1,13 @@
 //! The places of the trees of declarations.
 
 ghost use Rattle.std.specs.Prelude.{◌≡◌, slice_get};
-ghost use Rattle.script_names.specs.Faults.{kind_class};
 ghost use Rattle.script_names.specs.Told as meant;
 
+use name_tables::kind_at;
 use script_names::{Class, Kind, Need, Place};
 
-// The class of a definition.
-pub(crate) fn class_at(kinds: &[Kind], d: usize) -> Class
-    ensures { result ≡ kind_class (slice_get kinds.now d) }
-{
-    match kinds.get(d) {
-        Some(kind) => kind.class,
-        None => Class::Unknown,
-    }
-}
-
 // The place of a whole tree.
-fn whole(need: Need, network: bool) -> Place
+fn whole_place(need: Need, network: bool) -> Place
     ensures { result ≡ record { need = need; network = network; level = 1 } }
 {
     Place {
@@ -42,22 +32,20 @@ pub(crate) fn body_place(kinds: &[Kind], d: usize) -> Place
     ensures place { result ≡ meant.body_place (slice_get kinds.now d) }
     ensures level { result.level ≡ 1 }
 {
-    match kinds.get(d) {
-        Some(kind) => whole(need_of(kind.class), kind.network),
-        None => whole(Need::Either, false),
-    }
+    let kind = kind_at(kinds, d);
+    whole_place(need_of(kind.class), kind.network)
 }
 
 /// The place of a type of a channel and of the body of a nametype.
 pub(crate) fn data_place() -> Place
     ensures { result ≡ meant.data_place }
 {
-    whole(Need::Data, false)
+    whole_place(Need::Data, false)
 }
 
 /// The place of the asserted call.
 pub(crate) fn root_place() -> Place
     ensures { result ≡ meant.root_place }
 {
-    whole(Need::Process, true)
+    whole_place(Need::Process, true)
 }

@@ -1,12 +1,12 @@
 //! What tests find in what is said.
 
 ghost use Rattle.std.specs.Prelude.{◌≡◌, ◌-◌, ◌||◌};
-ghost use Rattle.name_faults.specs.Prelude.{not, map, nat_eq, nat_lt, option_copied, slice_get, list_any, first_of, first_name};
+ghost use Rattle.name_faults.specs.Prelude.{not, map, nat_eq, nat_lt, option_copied, list_any, first_of, first_name};
 ghost use Rattle.name_faults.specs.Walked.{seen};
 ghost use Rattle.script_names.specs.Faults as meant;
 
 use csp_base::Name;
-use name_tables::Dictionary;
+use name_tables::{Dictionary, kind_at};
 use script_names::{Class, Entity, Kind, Need, Occurrence, Sense, Use};
 
 /// The first name that is neither bound nor declared.
@@ -105,19 +105,9 @@ fn class_of(kinds: &[Kind], sense: Sense) -> Class
     ensures { result ≡ meant.class_of kinds.now sense }
 {
     match sense {
-        Sense::Declared(Entity::Definition(d, _)) => class_at(kinds, d),
+        Sense::Declared(Entity::Definition(d, _)) => kind_at(kinds, d as usize).class,
         Sense::Bound | Sense::Declared(_) => Class::Data,
         Sense::Unknown => Class::Unknown,
-    }
-}
-
-// The class of a definition.
-fn class_at(kinds: &[Kind], d: u32) -> Class
-    ensures { result ≡ meant.kind_class (slice_get kinds.now d) }
-{
-    match kinds.get(d as usize) {
-        Some(kind) => kind.class,
-        None => Class::Unknown,
     }
 }
 
@@ -159,14 +149,14 @@ fn repeated_in<'a>(names: &Dictionary, said: &Occurrence<&'a Name>) -> Option<&'
     ensures { option_copied result ≡ meant.repeated_name (first_of names.now) (seen said.now) }
 {
     match *said {
-        Occurrence::Declares(x, before) | Occurrence::Notes(x, before) => when(before, x),
-        Occurrence::Binds(x, repeats) => when(repeats || is_constant(names, x), x),
+        Occurrence::Declares(x, before) | Occurrence::Notes(x, before) => faulty_name(before, x),
+        Occurrence::Binds(x, repeats) => faulty_name(repeats || is_constant(names, x), x),
         Occurrence::Uses(_, _, _) | Occurrence::Form(_, _) | Occurrence::Parallel(_) => None,
     }
 }
 
 // The name, where it is at fault.
-fn when(holds: bool, x: &Name) -> Option<&Name>
+fn faulty_name(holds: bool, x: &Name) -> Option<&Name>
     ensures { option_copied result ≡ meant.when holds x.now }
 {
     if holds { Some(x) } else { None }
@@ -196,7 +186,7 @@ fn wrong_count_in<'a>(said: &Occurrence<&'a Name>) -> Option<&'a Name>
     ensures { option_copied result ≡ meant.wrong_count (seen said.now) }
 {
     match *said {
-        Occurrence::Uses(x, sense, how) => when(is_wrong_count(sense, how), x),
+        Occurrence::Uses(x, sense, how) => faulty_name(is_wrong_count(sense, how), x),
         Occurrence::Declares(_, _)
         | Occurrence::Binds(_, _)
         | Occurrence::Notes(_, _)
@@ -314,17 +304,7 @@ fn is_network(kinds: &[Kind], sense: Sense) -> bool
     ensures { result ≡ meant.is_network kinds.now sense }
 {
     match sense {
-        Sense::Declared(Entity::Definition(d, _)) => network_at(kinds, d),
+        Sense::Declared(Entity::Definition(d, _)) => kind_at(kinds, d as usize).network,
         Sense::Bound | Sense::Declared(_) | Sense::Unknown => false,
-    }
-}
-
-// Whether a definition is one of a network.
-fn network_at(kinds: &[Kind], d: u32) -> bool
-    ensures { result ≡ meant.kind_network (slice_get kinds.now d) }
-{
-    match kinds.get(d as usize) {
-        Some(kind) => kind.network,
-        None => false,
     }
 }

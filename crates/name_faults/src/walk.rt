@@ -2,15 +2,14 @@
 
 ghost use Rattle.std.specs.Prelude.{◌≡◌, ◌+◌, ◌≤◌, ◌∷◌, ◌++◌};
 ghost use Rattle.name_faults.specs.Prelude.{false, [], length, map, take, OnOk, greatest, event_depth, field_depth, gen_depth, greatest_of_pairs, part_depth, tree_depth, MOST_TREE_DEPTH};
-ghost use Rattle.script_names.specs.Names.{first_of, sense_in};
 ghost use Rattle.name_faults.specs.Walked.{after, seen};
+ghost use Rattle.script_names.specs.Names.{first_of, sense_in};
 ghost use Rattle.name_faults.specs.Walked as walked;
 
-use containers::Key;
-use csp_base::{Name, NoMemory};
+use csp_base::Name;
 use csp_text::{EventTree, FieldTree, GenTree, PartTree, Tree};
-use name_tables::{Dictionary, Scope};
-use script_names::{Class, Need, Occurrence, Place, Sense, Use};
+use name_tables::{Dictionary, NameSet, Scope};
+use script_names::{Class, Made, Need, Occurrence, Place, Sense, Use};
 use std::alloc::Global;
 use std::marker::Model;
 
@@ -33,7 +32,7 @@ impl<'a> Model for Walk<'a> {
 }
 
 // The place in what stands at a place.
-fn inside(place: Place, need: Need, network: bool) -> Place
+fn place_inside(place: Place, need: Need, network: bool) -> Place
     requires { place.level ≤ MOST_TREE_DEPTH }
     ensures { result ≡ record { need = need; network = network; level = place.level + 1 } }
 {
@@ -56,9 +55,11 @@ impl<'a> Walk<'a> {
         }
     }
 
-    /// The key under which names are found.
-    pub(crate) fn key(&self) -> Key {
-        self.names.key()
+    /// A set of no names.
+    pub(crate) fn new_set(&self) -> NameSet
+        ensures { result ≡ [] }
+    {
+        self.names.new_set()
     }
 
     /// Forgets what was bound and said.
@@ -70,14 +71,14 @@ impl<'a> Walk<'a> {
     }
 
     /// What was said.
-    pub(crate) fn said(&self) -> &[Occurrence<&'a Name>]
+    pub(crate) fn occurrences(&self) -> &[Occurrence<&'a Name>]
         ensures { map seen result.now ≡ self.now.list }
     {
         self.list.as_slice()
     }
 
     /// Binds names.
-    pub(crate) fn bind_all(&mut self, xs: &'a [Name]) -> Result<(), NoMemory>
+    pub(crate) fn bind_all(&mut self, xs: &'a [Name]) -> Made<()>
         ensures { OnOk result (self.new ≡ record self.old { bound = self.old.bound ++ xs.now }) }
     {
         for x in xs {
@@ -88,12 +89,7 @@ impl<'a> Walk<'a> {
 
     /// Says what a tree says at a place under parameters, which are left again.
     #[tactic(auto, unfolding(crate::specs::Walked::tree_said))]
-    pub(crate) fn body(
-        &mut self,
-        params: &'a [Name],
-        tree: &'a Tree,
-        place: Place,
-    ) -> Result<(), NoMemory>
+    pub(crate) fn body(&mut self, params: &'a [Name], tree: &'a Tree, place: Place) -> Made<()>
         requires depth { place.level + tree_depth tree.now ≤ MOST_TREE_DEPTH + 1 }
         requires bound { self.old.bound ≡ [] }
         ensures { OnOk result (self.new ≡ walked.after_body self.old params.now tree.now place) }
@@ -112,7 +108,7 @@ impl<'a> Walk<'a> {
     }
 
     // Binds one more name.
-    fn bind(&mut self, x: &'a Name) -> Result<(), NoMemory>
+    fn bind(&mut self, x: &'a Name) -> Made<()>
         ensures { OnOk result (self.new ≡ record self.old { bound = self.old.bound ++ x.now ∷ [] }) }
     {
         self.bound.bind(x, 0)
@@ -127,7 +123,7 @@ impl<'a> Walk<'a> {
     }
 
     /// Says that a name is declared, and whether it was before.
-    pub(crate) fn declares(&mut self, x: &'a Name, before: bool) -> Result<(), NoMemory>
+    pub(crate) fn declares(&mut self, x: &'a Name, before: bool) -> Made<()>
         ensures { OnOk result (self.new ≡ after self.old (Occurrence.Declares x.now before ∷ [])) }
     {
         self.list.push(Occurrence::Declares(x, before))?;
@@ -135,7 +131,7 @@ impl<'a> Walk<'a> {
     }
 
     /// Says that a name is bound, and whether it is a parameter that repeats.
-    pub(crate) fn binds(&mut self, x: &'a Name, repeats: bool) -> Result<(), NoMemory>
+    pub(crate) fn binds(&mut self, x: &'a Name, repeats: bool) -> Made<()>
         ensures { OnOk result (self.new ≡ after self.old (Occurrence.Binds x.now repeats ∷ [])) }
     {
         self.list.push(Occurrence::Binds(x, repeats))?;
@@ -143,7 +139,7 @@ impl<'a> Walk<'a> {
     }
 
     /// Says that a process is annotated, and whether it was before.
-    pub(crate) fn notes(&mut self, x: &'a Name, before: bool) -> Result<(), NoMemory>
+    pub(crate) fn notes(&mut self, x: &'a Name, before: bool) -> Made<()>
         ensures { OnOk result (self.new ≡ after self.old (Occurrence.Notes x.now before ∷ [])) }
     {
         self.list.push(Occurrence::Notes(x, before))?;
@@ -151,7 +147,7 @@ impl<'a> Walk<'a> {
     }
 
     /// Says the use of a name.
-    pub(crate) fn uses(&mut self, x: &'a Name, how: Use) -> Result<(), NoMemory>
+    pub(crate) fn uses(&mut self, x: &'a Name, how: Use) -> Made<()>
         ensures { OnOk result (self.new ≡ after self.old (walked.used self.old x.now how ∷ [])) }
     {
         let sense = name_tables::ends::sense_in(self.names, &self.bound, x);
@@ -160,7 +156,7 @@ impl<'a> Walk<'a> {
     }
 
     // Says a form.
-    fn form(&mut self, class: Class, place: Place) -> Result<(), NoMemory>
+    fn form(&mut self, class: Class, place: Place) -> Made<()>
         ensures { OnOk result (self.new ≡ after self.old (Occurrence.Form class place ∷ [])) }
     {
         self.list.push(Occurrence::Form(class, place))?;
@@ -168,7 +164,7 @@ impl<'a> Walk<'a> {
     }
 
     // Says a parallel.
-    fn parallel(&mut self, place: Place) -> Result<(), NoMemory>
+    fn parallel(&mut self, place: Place) -> Made<()>
         ensures { OnOk result (self.new ≡ after self.old (Occurrence.Parallel place ∷ [])) }
     {
         self.list.push(Occurrence::Parallel(place))?;
@@ -184,7 +180,7 @@ impl<'a> Walk<'a> {
 
     // Binds the names of generators.
     #[tactic(auto, using(crate::proofs::Lists::said_lists))]
-    fn bind_gens(&mut self, gens: &'a [GenTree]) -> Result<(), NoMemory>
+    fn bind_gens(&mut self, gens: &'a [GenTree]) -> Made<()>
         ensures { OnOk result (self.new ≡ walked.under_gens_of self.old gens.now) }
     {
         for generator in gens {
@@ -195,7 +191,7 @@ impl<'a> Walk<'a> {
 
     // Binds the name of a generator, if it has one.
     #[tactic(auto, using(crate::proofs::Says::part_forms))]
-    fn bind_gen(&mut self, generator: &'a GenTree) -> Result<(), NoMemory>
+    fn bind_gen(&mut self, generator: &'a GenTree) -> Made<()>
         ensures { OnOk result (self.new ≡ walked.under_gen_of self.old generator.now) }
     {
         match generator {
@@ -209,14 +205,14 @@ impl<'a> Walk<'a> {
     /// Says what a tree says at a place, under the names that are bound.
     #[tactic(auto, using(crate::proofs::Says::tree_forms))]
     #[cycle(walk)]
-    pub(crate) fn tree(&mut self, tree: &'a Tree, place: Place) -> Result<(), NoMemory>
+    pub(crate) fn tree(&mut self, tree: &'a Tree, place: Place) -> Made<()>
         requires { place.level + tree_depth tree.now ≤ MOST_TREE_DEPTH + 1 }
         ensures { OnOk result (self.new ≡ walked.after_tree self.old tree.now place) }
     {
-        let data = inside(place, Need::Data, false);
-        let process = inside(place, Need::Process, false);
-        let network = inside(place, Need::Process, true);
-        let part = inside(place, place.need, place.network);
+        let data = place_inside(place, Need::Data, false);
+        let process = place_inside(place, Need::Process, false);
+        let network = place_inside(place, Need::Process, true);
+        let part = place_inside(place, place.need, place.network);
         match tree {
             Tree::Num(_) | Tree::True | Tree::False => self.form(Class::Data, place),
             Tree::Stop | Tree::Skip => self.form(Class::Process, place),
@@ -239,12 +235,12 @@ impl<'a> Walk<'a> {
             }
             Tree::Binary(_, a, b) | Tree::Range(a, b) | Tree::SetOp(_, a, b) => {
                 self.form(Class::Data, place)?;
-                self.both(a.get(), data, b.get(), data)?;
+                self.two_trees(a.get(), data, b.get(), data)?;
                 Ok(())
             }
             Tree::If(c, a, b) => {
                 self.tree(c.get(), data)?;
-                self.both(a.get(), part, b.get(), part)?;
+                self.two_trees(a.get(), part, b.get(), part)?;
                 Ok(())
             }
             Tree::Display(items) => {
@@ -269,7 +265,7 @@ impl<'a> Walk<'a> {
             }
             Tree::Guard(c, p) => {
                 self.form(Class::Process, place)?;
-                self.both(c.get(), data, p.get(), process)?;
+                self.two_trees(c.get(), data, p.get(), process)?;
                 Ok(())
             }
             Tree::External(ps) | Tree::Internal(ps) => {
@@ -284,8 +280,8 @@ impl<'a> Walk<'a> {
             }
             Tree::Parallel(p, a, b, q) => {
                 self.parallel(place)?;
-                self.both(p.get(), network, a.get(), data)?;
-                self.both(b.get(), data, q.get(), network)?;
+                self.two_trees(p.get(), network, a.get(), data)?;
+                self.two_trees(b.get(), data, q.get(), network)?;
                 Ok(())
             }
             Tree::EachParallel(x, s, a, p) => {
@@ -295,12 +291,12 @@ impl<'a> Walk<'a> {
             }
             Tree::Seq(p, q) => {
                 self.form(Class::Process, place)?;
-                self.both(p.get(), process, q.get(), process)?;
+                self.two_trees(p.get(), process, q.get(), process)?;
                 Ok(())
             }
             Tree::Hide(p, s) => {
                 self.form(Class::Process, place)?;
-                self.both(p.get(), process, s.get(), data)?;
+                self.two_trees(p.get(), process, s.get(), data)?;
                 Ok(())
             }
             Tree::Rename(p, pairs, gens) => {
@@ -315,7 +311,7 @@ impl<'a> Walk<'a> {
     // Says what two trees say, each at its place.
     #[tactic(auto, using(crate::proofs::Lists::left_lists))]
     #[cycle(walk)]
-    fn both(&mut self, a: &'a Tree, at: Place, b: &'a Tree, then: Place) -> Result<(), NoMemory>
+    fn two_trees(&mut self, a: &'a Tree, at: Place, b: &'a Tree, then: Place) -> Made<()>
         requires first { at.level + tree_depth a.now ≤ MOST_TREE_DEPTH + 1 }
         requires second { then.level + tree_depth b.now ≤ MOST_TREE_DEPTH + 1 }
         ensures { OnOk result (self.new ≡ walked.after_both self.old a.now at b.now then) }
@@ -328,19 +324,14 @@ impl<'a> Walk<'a> {
     // Says the items of a comprehension under the names of its generators, and these.
     #[tactic(auto, using(crate::proofs::Lists::left_lists))]
     #[cycle(walk)]
-    fn comprehension(
-        &mut self,
-        items: &'a [Tree],
-        gens: &'a [GenTree],
-        place: Place,
-    ) -> Result<(), NoMemory>
+    fn comprehension(&mut self, items: &'a [Tree], gens: &'a [GenTree], place: Place) -> Made<()>
         requires items { place.level + greatest (map tree_depth items.now) ≤ MOST_TREE_DEPTH }
         requires gens { place.level + greatest (map gen_depth gens.now) ≤ MOST_TREE_DEPTH }
         ensures { OnOk result (self.new ≡ walked.after_comprehension self.old items.now gens.now place) }
     {
         let mark = self.mark();
         self.bind_gens(gens)?;
-        self.trees(items, inside(place, Need::Data, false))?;
+        self.trees(items, place_inside(place, Need::Data, false))?;
         self.leave(mark);
         self.gens(gens, place)?;
         self.leave(mark);
@@ -350,12 +341,7 @@ impl<'a> Walk<'a> {
     // Says the parts of a set of events under the names of its generators, and these.
     #[tactic(auto, using(crate::proofs::Lists::left_lists))]
     #[cycle(walk)]
-    fn product(
-        &mut self,
-        parts: &'a [PartTree],
-        gens: &'a [GenTree],
-        place: Place,
-    ) -> Result<(), NoMemory>
+    fn product(&mut self, parts: &'a [PartTree], gens: &'a [GenTree], place: Place) -> Made<()>
         requires parts { place.level + greatest (map part_depth parts.now) ≤ MOST_TREE_DEPTH }
         requires gens { place.level + greatest (map gen_depth gens.now) ≤ MOST_TREE_DEPTH }
         ensures { OnOk result (self.new ≡ walked.after_product self.old parts.now gens.now place) }
@@ -377,7 +363,7 @@ impl<'a> Walk<'a> {
         pairs: &'a [(PartTree, PartTree)],
         gens: &'a [GenTree],
         place: Place,
-    ) -> Result<(), NoMemory>
+    ) -> Made<()>
         requires pairs { place.level + walked.pairs_depth pairs.now ≤ MOST_TREE_DEPTH }
         requires gens { place.level + greatest (map gen_depth gens.now) ≤ MOST_TREE_DEPTH }
         ensures { OnOk result (self.new ≡ walked.after_renaming self.old pairs.now gens.now place) }
@@ -394,7 +380,7 @@ impl<'a> Walk<'a> {
     // Says the event of a prefix, and the process under the names that it binds.
     #[tactic(auto, using(crate::proofs::Lists::left_lists))]
     #[cycle(walk)]
-    fn prefix(&mut self, event: &'a EventTree, p: &'a Tree, place: Place) -> Result<(), NoMemory>
+    fn prefix(&mut self, event: &'a EventTree, p: &'a Tree, place: Place) -> Made<()>
         requires event { place.level + event_depth event.now ≤ MOST_TREE_DEPTH }
         requires process { place.level + tree_depth p.now ≤ MOST_TREE_DEPTH }
         ensures { OnOk result (self.new ≡ walked.after_prefix self.old event.now p.now place) }
@@ -402,7 +388,7 @@ impl<'a> Walk<'a> {
         self.uses(&event.name, Use::Heads(event.fields.len()))?;
         let mark = self.mark();
         self.fields(event.fields.as_slice(), place)?;
-        self.tree(p, inside(place, Need::Process, false))?;
+        self.tree(p, place_inside(place, Need::Process, false))?;
         self.leave(mark);
         Ok(())
     }
@@ -410,16 +396,16 @@ impl<'a> Walk<'a> {
     // Says a name that is bound to the values of a set, the set, and a process under the name.
     #[tactic(auto, using(crate::proofs::Lists::left_lists))]
     #[cycle(walk)]
-    fn each(&mut self, x: &'a Name, s: &'a Tree, p: &'a Tree, place: Place) -> Result<(), NoMemory>
+    fn each(&mut self, x: &'a Name, s: &'a Tree, p: &'a Tree, place: Place) -> Made<()>
         requires set { place.level + tree_depth s.now ≤ MOST_TREE_DEPTH }
         requires process { place.level + tree_depth p.now ≤ MOST_TREE_DEPTH }
         ensures { OnOk result (self.new ≡ walked.after_each self.old x.now s.now p.now place) }
     {
         self.binds(x, false)?;
-        self.tree(s, inside(place, Need::Data, false))?;
+        self.tree(s, place_inside(place, Need::Data, false))?;
         let mark = self.mark();
         self.bind(x)?;
-        self.tree(p, inside(place, Need::Process, false))?;
+        self.tree(p, place_inside(place, Need::Process, false))?;
         self.leave(mark);
         Ok(())
     }
@@ -434,18 +420,18 @@ impl<'a> Walk<'a> {
         a: &'a Tree,
         p: &'a Tree,
         place: Place,
-    ) -> Result<(), NoMemory>
+    ) -> Made<()>
         requires set { place.level + tree_depth s.now ≤ MOST_TREE_DEPTH }
         requires events { place.level + tree_depth a.now ≤ MOST_TREE_DEPTH }
         requires network { place.level + tree_depth p.now ≤ MOST_TREE_DEPTH }
         ensures { OnOk result (self.new ≡ walked.after_each_parallel self.old x.now s.now a.now p.now place) }
     {
-        let data = inside(place, Need::Data, false);
+        let data = place_inside(place, Need::Data, false);
         self.binds(x, false)?;
         self.tree(s, data)?;
         let mark = self.mark();
         self.bind(x)?;
-        self.both(a, data, p, inside(place, Need::Process, true))?;
+        self.two_trees(a, data, p, place_inside(place, Need::Process, true))?;
         self.leave(mark);
         Ok(())
     }
@@ -453,7 +439,7 @@ impl<'a> Walk<'a> {
     // Says what trees say.
     #[tactic(auto, using(crate::proofs::Lists::said_lists))]
     #[cycle(walk)]
-    fn trees(&mut self, trees: &'a [Tree], place: Place) -> Result<(), NoMemory>
+    fn trees(&mut self, trees: &'a [Tree], place: Place) -> Made<()>
         requires { place.level + greatest (map tree_depth trees.now) ≤ MOST_TREE_DEPTH + 1 }
         ensures { OnOk result (self.new ≡ walked.after_trees self.old trees.now place) }
     {
@@ -466,7 +452,7 @@ impl<'a> Walk<'a> {
     // Says what fields say, and binds their names.
     #[tactic(auto, using(crate::proofs::Lists::said_lists))]
     #[cycle(walk)]
-    fn fields(&mut self, fields: &'a [FieldTree], place: Place) -> Result<(), NoMemory>
+    fn fields(&mut self, fields: &'a [FieldTree], place: Place) -> Made<()>
         requires { place.level + greatest (map field_depth fields.now) ≤ MOST_TREE_DEPTH }
         ensures { OnOk result (self.new ≡ walked.after_fields self.old fields.now place) }
     {
@@ -479,11 +465,11 @@ impl<'a> Walk<'a> {
     // Says what a field says, and binds its name.
     #[tactic(auto, using(crate::proofs::Says::part_forms))]
     #[cycle(walk)]
-    fn field(&mut self, field: &'a FieldTree, place: Place) -> Result<(), NoMemory>
+    fn field(&mut self, field: &'a FieldTree, place: Place) -> Made<()>
         requires { place.level + field_depth field.now ≤ MOST_TREE_DEPTH }
         ensures { OnOk result (self.new ≡ walked.after_field self.old field.now place) }
     {
-        let data = inside(place, Need::Data, false);
+        let data = place_inside(place, Need::Data, false);
         match field {
             FieldTree::Dot(tree) => self.tree(tree, data),
             FieldTree::Output(tree) => self.tree(tree, data),
@@ -503,7 +489,7 @@ impl<'a> Walk<'a> {
     // Says what generators say, and binds their names.
     #[tactic(auto, using(crate::proofs::Lists::said_lists))]
     #[cycle(walk)]
-    fn gens(&mut self, gens: &'a [GenTree], place: Place) -> Result<(), NoMemory>
+    fn gens(&mut self, gens: &'a [GenTree], place: Place) -> Made<()>
         requires { place.level + greatest (map gen_depth gens.now) ≤ MOST_TREE_DEPTH }
         ensures { OnOk result (self.new ≡ walked.after_gens self.old gens.now place) }
     {
@@ -516,11 +502,11 @@ impl<'a> Walk<'a> {
     // Says what a generator says, and binds its name.
     #[tactic(auto, using(crate::proofs::Says::part_forms))]
     #[cycle(walk)]
-    fn generator(&mut self, generator: &'a GenTree, place: Place) -> Result<(), NoMemory>
+    fn generator(&mut self, generator: &'a GenTree, place: Place) -> Made<()>
         requires { place.level + gen_depth generator.now ≤ MOST_TREE_DEPTH }
         ensures { OnOk result (self.new ≡ walked.after_gen self.old generator.now place) }
     {
-        let data = inside(place, Need::Data, false);
+        let data = place_inside(place, Need::Data, false);
         match generator {
             GenTree::From(x, set) => {
                 self.binds(x, false)?;
@@ -535,7 +521,7 @@ impl<'a> Walk<'a> {
     // Says what the fronts of events say.
     #[tactic(auto, using(crate::proofs::Lists::said_lists))]
     #[cycle(walk)]
-    fn parts(&mut self, parts: &'a [PartTree], place: Place) -> Result<(), NoMemory>
+    fn parts(&mut self, parts: &'a [PartTree], place: Place) -> Made<()>
         requires { place.level + greatest (map part_depth parts.now) ≤ MOST_TREE_DEPTH }
         ensures { OnOk result (self.new ≡ walked.after_parts self.old parts.now place) }
     {
@@ -548,11 +534,11 @@ impl<'a> Walk<'a> {
     // Says what the front of an event says.
     #[tactic(auto, using(crate::proofs::Says::part_forms))]
     #[cycle(walk)]
-    fn part(&mut self, part: &'a PartTree, place: Place) -> Result<(), NoMemory>
+    fn part(&mut self, part: &'a PartTree, place: Place) -> Made<()>
         requires { place.level + part_depth part.now ≤ MOST_TREE_DEPTH }
         ensures { OnOk result (self.new ≡ walked.after_part self.old part.now place) }
     {
-        let data = inside(place, Need::Data, false);
+        let data = place_inside(place, Need::Data, false);
         self.uses(&part.name, Use::Begins(part.fields.len()))?;
         self.trees(part.fields.as_slice(), data)?;
         Ok(())
@@ -561,7 +547,7 @@ impl<'a> Walk<'a> {
     // Says what the pairs of a renaming say.
     #[tactic(auto, using(crate::proofs::Lists::said_lists))]
     #[cycle(walk)]
-    fn pairs(&mut self, pairs: &'a [(PartTree, PartTree)], place: Place) -> Result<(), NoMemory>
+    fn pairs(&mut self, pairs: &'a [(PartTree, PartTree)], place: Place) -> Made<()>
         requires { place.level + walked.pairs_depth pairs.now ≤ MOST_TREE_DEPTH }
         ensures { OnOk result (self.new ≡ walked.after_pairs self.old pairs.now place) }
     {

@@ -1,6 +1,5 @@
 -- Names that are declared one after another.
-use Rattle.name_tables.proofs.Prelude.{◌≡◌, ℕ, ◌+◌, ◌<◌, ◌≤◌, List, [], ◌∷◌, ◌++◌, length, drop, get_or, sym, ap, ◌∙◌, append_assoc, flat_map, Decl, Name, Entities, Counts, channels_from, constants_from, counted, declared_from, declares, first_of, parameters, Scope, SameFirsts, drop_read, Entity}
-use Rattle.csp_base.proofs.Standard.{drop_of_length-le, append-nil}
+use Rattle.name_tables.proofs.Prelude.{◌≡◌, ℕ, ◌+◌, ◌<◌, ◌≤◌, List, [], ◌∷◌, ◌++◌, length, drop, get_or, sym, ap, ◌∙◌, append_assoc, flat_map, Decl, Name, Entities, Counts, channels_from, constants_from, counted, declared_from, declares, first_of, parameters, Scope, SameFirsts, drop_read, Entity, drop_of_length-le, append-nil}
 use Rattle.name_tables.proofs.NameLemmas.{same_firsts-append}
 
 -- what was declared stands in front of what is left

@@ -1,8 +1,5 @@
 -- Names and lists of them.
-use Rattle.name_tables.proofs.Prelude.{◌≡◌, Bool, true, false, cond, if◌then◌else◌, ◌||◌, nat_eq, List, [], ◌∷◌, ◌++◌, Option, Some, None, is_some, refl, sym, ◌∙◌, ap, pointwise, list_any, Decl, Name, Entities, declared, first_of, is_among, meanings_of, same_name, SameFirsts, SameNames, Entity}
-use Rattle.std.proofs.lemmas.Bool.{eqb-true, eq-eqb, and_from}
-use Rattle.containers.specs.Exact.{IsExact-pointwise}
-use Rattle.csp_base.proofs.Booleans.{or_regroup}
+use Rattle.name_tables.proofs.Prelude.{◌≡◌, Bool, true, false, cond, if◌then◌else◌, ◌||◌, nat_eq, List, [], ◌∷◌, ◌++◌, Option, Some, None, is_some, refl, sym, ◌∙◌, ap, pointwise, list_any, Decl, Name, Entities, declared, first_of, is_among, meanings_of, same_name, SameFirsts, SameNames, Entity, eqb-true, eq-eqb, and_from, IsExact-pointwise, list_any-append}
 
 pub same_itself : (x : Name) → same_name x x ≡ true
 same_itself [] = refl
@@ -47,9 +44,7 @@ same_firsts_known es x e known y = by (same_name y x) refl ∙ sym (first_of-app
     by false h = first-none (first_of es y)
 
 pub is_among-append : (xs ys : List Name) (y : Name) → is_among (xs ++ ys) y ≡ (is_among xs y || is_among ys y)
-is_among-append [] ys y = refl
-is_among-append (x ∷ xs) ys y =
-    ap (λ b. same_name y x || b) (is_among-append xs ys y) ∙ or_regroup (same_name y x) (is_among xs y) (is_among ys y)
+is_among-append xs ys y = list_any-append (same_name y) xs ys
 
 pub same_names-append : (xs ys zs : List Name) → SameNames xs ys → SameNames (xs ++ zs) (ys ++ zs)
 same_names-append xs ys zs same y = is_among-append xs zs y ∙ ap (λ b. b || is_among zs y) (same y) ∙ sym (is_among-append ys zs y)

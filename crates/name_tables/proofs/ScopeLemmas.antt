@@ -1,7 +1,5 @@
 -- Scopes that grow and shrink at their end.
-use Rattle.name_tables.proofs.Prelude.{◌≡◌, ℕ, zero, suc, take, Bool, true, false, cond, ◌||◌, List, [], ◌∷◌, ◌++◌, map, Option, Some, None, is_some, refl, sym, ◌∙◌, ap, subst, append_assoc, Name, is_among, same_name, Scope, names_of, number_of, or_else, shown, KeepHidden, HasNumbers, Writes, Spelling, at_name}
-use Rattle.std.specs.BTreeMap.{BTreeMap}
-use Rattle.name_tables.specs.declared.scope.Binding.{Binding}
+use Rattle.name_tables.proofs.Prelude.{◌≡◌, ℕ, zero, suc, take, Bool, true, false, cond, ◌||◌, List, [], ◌∷◌, ◌++◌, map, Option, Some, None, is_some, refl, sym, ◌∙◌, ap, subst, append_assoc, Name, is_among, same_name, Scope, names_of, number_of, or_else, shown, KeepHidden, HasNumbers, Writes, Spelling, at_name, BTreeMap, Binding}
 use Rattle.name_tables.proofs.NameLemmas.{same_itself, same_exact}
 
 -- the last binding of a spelling counts

@@ -1,8 +1,6 @@
 -- Maps in which names are found by their bytes: the order of names tells the same names apart as their equality.
-use Rattle.name_tables.proofs.Prelude.{◌≡◌, ℕ, Bool, true, false, cond, List, Option, Some, None, is_some, refl, sym, ◌∙◌, ap, slice_cmp, texts_ties, IsKeyTest, AreApart, lookup, eq_by_cmp, is_eq, nat_cmp, Ordering, Name, same_name, Spelling, at_name}
+use Rattle.name_tables.proofs.Prelude.{◌≡◌, ℕ, Bool, true, false, cond, List, Option, Some, None, is_some, refl, sym, ◌∙◌, ap, slice_cmp, texts_ties, IsKeyTest, AreApart, lookup, eq_by_cmp, is_eq, nat_cmp, Ordering, Name, same_name, Spelling, at_name, BTreeMap, KeepsOthers, eq_by_cmp_equiv, nat_list_cmp_total}
 use Rattle.std.specs.BTreeMap as tree
-use Rattle.csp_base.specs.Standard.{BTreeMap, KeepsOthers}
-use Rattle.std.proofs.lemmas.Cmp.{eq_by_cmp_equiv, nat_list_cmp_total}
 use Rattle.name_tables.proofs.NameLemmas.{same_exact}
 
 -- the order of two spellings

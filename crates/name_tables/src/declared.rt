@@ -9,9 +9,9 @@ ghost use Rattle.name_tables.specs.Counted.{counts, total};
 
 use crate::dictionary::Dictionary;
 use containers::Key;
-use csp_base::{Name, NoMemory};
+use csp_base::Name;
 use csp_text::Decl;
-use script_names::Entity;
+use script_names::{Entity, Made};
 use std::alloc::Global;
 
 /// How many channels, constants and definitions were declared.
@@ -26,17 +26,17 @@ pub struct Numbers {
 }
 
 /// The declared names of declarations with what their first declarations make them. Names are found under this key.
-pub fn dictionary_of(alloc: Global, key: Key, decls: &[Decl]) -> Result<Dictionary, NoMemory>
+pub fn dictionary_of(alloc: Global, key: Key, decls: &[Decl]) -> Made<Dictionary>
     requires { size decls.now ≤ MOST_BYTES }
     ensures { IfOk result (λ names. SameFirsts names (declared decls.now)) }
 {
     let mut names = Dictionary::new(alloc, key);
-    declare_all(alloc, &mut names, decls)?;
+    declare_all(&mut names, decls)?;
     Ok(names)
 }
 
 // Declares what declarations declare, the first numbers being 0.
-fn declare_all(alloc: Global, names: &mut Dictionary, decls: &[Decl]) -> Result<(), NoMemory>
+fn declare_all(names: &mut Dictionary, decls: &[Decl]) -> Made<()>
     requires { size decls.now ≤ MOST_BYTES }
     ensures { OnOk result (SameFirsts names.new (names.old ++ declared decls.now)) }
 {
@@ -46,18 +46,13 @@ fn declare_all(alloc: Global, names: &mut Dictionary, decls: &[Decl]) -> Result<
         definitions: 0,
     };
     for decl in decls {
-        declare(alloc, names, &mut numbers, decl)?;
+        declare(names, &mut numbers, decl)?;
     }
     Ok(())
 }
 
 // Declares what a declaration declares.
-fn declare(
-    alloc: Global,
-    names: &mut Dictionary,
-    numbers: &mut Numbers,
-    decl: &Decl,
-) -> Result<(), NoMemory>
+fn declare(names: &mut Dictionary, numbers: &mut Numbers, decl: &Decl) -> Made<()>
     requires { total (counts numbers.old) + declaration_size decl.now ≤ MOST_BYTES }
     ensures names { OnOk result (SameFirsts names.new (names.old ++ declares (counts numbers.old) decl.now)) }
     ensures numbers { OnOk result (counts numbers.new ≡ counted (counts numbers.old) decl.now) }
@@ -65,11 +60,11 @@ fn declare(
     match decl {
         Decl::Channel(xs, types) => {
             let fields = types.len() as u32;
-            declare_channels(alloc, names, numbers, xs.as_slice(), fields)
+            declare_channels(names, numbers, xs.as_slice(), fields)
         }
-        Decl::Datatype(x, ks) => declare_datatype(alloc, names, numbers, x, ks.as_slice()),
-        Decl::Nametype(x, _) => declare_set(alloc, names, numbers, x),
-        Decl::Define(x, params, _) => declare_definition(alloc, names, numbers, x, params.len()),
+        Decl::Datatype(x, ks) => declare_datatype(names, numbers, x, ks.as_slice()),
+        Decl::Nametype(x, _) => declare_set(names, numbers, x),
+        Decl::Define(x, params, _) => declare_definition(names, numbers, x, params.len()),
         Decl::Assert(_) | Decl::Roles(_) | Decl::Resource(_) => Ok(()),
     }
 }
@@ -86,28 +81,22 @@ fn take_definition(numbers: &mut Numbers) -> u32
 }
 
 // Declares a set by its name.
-fn declare_set(
-    alloc: Global,
-    names: &mut Dictionary,
-    numbers: &mut Numbers,
-    x: &Name,
-) -> Result<(), NoMemory>
+fn declare_set(names: &mut Dictionary, numbers: &mut Numbers, x: &Name) -> Made<()>
     requires { numbers.old.definitions < MOST_BYTES }
     ensures names { OnOk result (SameFirsts names.new (names.old ++ (x.now, Entity.Set numbers.old.definitions) ∷ [])) }
     ensures numbers { OnOk result (numbers.new ≡ record numbers.old { definitions = numbers.old.definitions + 1 }) }
 {
     let d = take_definition(numbers);
-    names.declare(x, alloc, Entity::Set(d))
+    names.declare(x, Entity::Set(d))
 }
 
 // Declares a definition with so many parameters.
 fn declare_definition(
-    alloc: Global,
     names: &mut Dictionary,
     numbers: &mut Numbers,
     x: &Name,
     params: usize,
-) -> Result<(), NoMemory>
+) -> Made<()>
     requires definitions { numbers.old.definitions < MOST_BYTES }
     requires params { params ≤ MOST_BYTES }
     ensures names { OnOk result (SameFirsts names.new
@@ -115,17 +104,16 @@ fn declare_definition(
     ensures numbers { OnOk result (numbers.new ≡ record numbers.old { definitions = numbers.old.definitions + 1 }) }
 {
     let d = take_definition(numbers);
-    names.declare(x, alloc, Entity::Definition(d, params as u32))
+    names.declare(x, Entity::Definition(d, params as u32))
 }
 
 // Declares a datatype and its constants.
 fn declare_datatype(
-    alloc: Global,
     names: &mut Dictionary,
     numbers: &mut Numbers,
     x: &Name,
     ks: &[Name],
-) -> Result<(), NoMemory>
+) -> Made<()>
     requires definitions { numbers.old.definitions < MOST_BYTES }
     requires constants { numbers.old.constants + length ks.now ≤ MOST_BYTES }
     ensures names { OnOk result (SameFirsts names.new
@@ -135,45 +123,39 @@ fn declare_datatype(
       constants = numbers.old.constants + length ks.now;
     }) }
 {
-    declare_set(alloc, names, numbers, x)?;
-    declare_constants(alloc, names, numbers, ks)?;
+    declare_set(names, numbers, x)?;
+    declare_constants(names, numbers, ks)?;
     Ok(())
 }
 
 // Declares channels of so many fields.
 fn declare_channels(
-    alloc: Global,
     names: &mut Dictionary,
     numbers: &mut Numbers,
     xs: &[Name],
     fields: u32,
-) -> Result<(), NoMemory>
+) -> Made<()>
     requires { numbers.old.channels + length xs.now ≤ MOST_BYTES }
     ensures names { OnOk result (SameFirsts names.new (names.old ++ channels_from numbers.old.channels fields xs.now)) }
     ensures numbers { OnOk result (numbers.new
         ≡ record numbers.old { channels = numbers.old.channels + length xs.now }) }
 {
     for x in xs {
-        names.declare(x, alloc, Entity::Channel(numbers.channels, fields))?;
+        names.declare(x, Entity::Channel(numbers.channels, fields))?;
         numbers.channels += 1;
     }
     Ok(())
 }
 
 // Declares constants.
-fn declare_constants(
-    alloc: Global,
-    names: &mut Dictionary,
-    numbers: &mut Numbers,
-    xs: &[Name],
-) -> Result<(), NoMemory>
+fn declare_constants(names: &mut Dictionary, numbers: &mut Numbers, xs: &[Name]) -> Made<()>
     requires { numbers.old.constants + length xs.now ≤ MOST_BYTES }
     ensures names { OnOk result (SameFirsts names.new (names.old ++ constants_from numbers.old.constants xs.now)) }
     ensures numbers { OnOk result (numbers.new
         ≡ record numbers.old { constants = numbers.old.constants + length xs.now }) }
 {
     for x in xs {
-        names.declare(x, alloc, Entity::Constant(numbers.constants))?;
+        names.declare(x, Entity::Constant(numbers.constants))?;
         numbers.constants += 1;
     }
     Ok(())

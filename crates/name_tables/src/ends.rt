@@ -10,9 +10,9 @@ ghost use Rattle.name_tables.specs.Ends.{rows};
 
 use crate::dictionary::Dictionary;
 use crate::scope::Scope;
-use csp_base::{Name, NoMemory};
+use csp_base::Name;
 use csp_text::{Decl, Tree};
-use script_names::{End, Entity, Sense};
+use script_names::{End, Entity, Made, Sense};
 use std::alloc::Global;
 
 /// What a name stands for under bound names.
@@ -58,12 +58,7 @@ fn end_of_call(sense: Sense) -> End
 }
 
 /// Puts the ends of a body at the end of `ends`.
-pub fn add_ends(
-    names: &Dictionary,
-    scope: &Scope,
-    ends: &mut Vec<End>,
-    tree: &Tree,
-) -> Result<(), NoMemory>
+pub fn add_ends(names: &Dictionary, scope: &Scope, ends: &mut Vec<End>, tree: &Tree) -> Made<()>
     ensures { OnOk result (ends.new.items
         ≡ ends.old.items ++ meant.ends (first_of names.now) (names_of scope.now) tree.now) }
 {
@@ -104,11 +99,7 @@ pub fn add_ends(
 }
 
 /// The ends of the body of each definition.
-pub fn ends_of_all(
-    alloc: Global,
-    names: &Dictionary,
-    decls: &[Decl],
-) -> Result<Vec<Vec<End>>, NoMemory>
+pub fn ends_of_all(alloc: Global, names: &Dictionary, decls: &[Decl]) -> Made<Vec<Vec<End>>>
     requires { size decls.now ≤ MOST_BYTES }
     ensures { IfOk result (λ all. rows all.items ≡ flat_map (meant.body_ends (first_of names.now)) decls.now) }
 {
@@ -123,7 +114,7 @@ fn add_bodies(
     names: &Dictionary,
     all: &mut Vec<Vec<End>>,
     decls: &[Decl],
-) -> Result<(), NoMemory>
+) -> Made<()>
     requires { size decls.now ≤ MOST_BYTES }
     ensures { OnOk result (rows all.new.items
         ≡ rows all.old.items ++ flat_map (meant.body_ends (first_of names.now)) decls.now) }
@@ -135,12 +126,7 @@ fn add_bodies(
 }
 
 // Puts the ends of a body at the end, where the declaration is a definition.
-fn add_body(
-    alloc: Global,
-    names: &Dictionary,
-    all: &mut Vec<Vec<End>>,
-    decl: &Decl,
-) -> Result<(), NoMemory>
+fn add_body(alloc: Global, names: &Dictionary, all: &mut Vec<Vec<End>>, decl: &Decl) -> Made<()>
     requires { declaration_size decl.now ≤ MOST_BYTES }
     ensures { OnOk result (rows all.new.items ≡ rows all.old.items ++ meant.body_ends (first_of names.now) decl.now) }
 {
@@ -154,7 +140,7 @@ fn add_body(
 }
 
 // Puts the ends of a body at the end.
-fn push_made(all: &mut Vec<Vec<End>>, made: Result<Vec<End>, NoMemory>) -> Result<(), NoMemory>
+fn push_made(all: &mut Vec<Vec<End>>, made: Made<Vec<End>>) -> Made<()>
     ensures { (ends : List End) → IfOk made (λ row. row.items ≡ ends)
         → OnOk result (rows all.new.items ≡ rows all.old.items ++ ends ∷ []) }
 {
@@ -164,12 +150,7 @@ fn push_made(all: &mut Vec<Vec<End>>, made: Result<Vec<End>, NoMemory>) -> Resul
 }
 
 // The ends of a body under parameters.
-fn ends_under(
-    alloc: Global,
-    names: &Dictionary,
-    params: &[Name],
-    tree: &Tree,
-) -> Result<Vec<End>, NoMemory>
+fn ends_under(alloc: Global, names: &Dictionary, params: &[Name], tree: &Tree) -> Made<Vec<End>>
     requires { length params.now ≤ MOST_BYTES }
     ensures { IfOk result (λ ends. ends.items ≡ meant.ends (first_of names.now) params.now tree.now) }
 {
@@ -179,12 +160,7 @@ fn ends_under(
 }
 
 // The ends of a body.
-fn ends_of(
-    alloc: Global,
-    names: &Dictionary,
-    scope: &Scope,
-    tree: &Tree,
-) -> Result<Vec<End>, NoMemory>
+fn ends_of(alloc: Global, names: &Dictionary, scope: &Scope, tree: &Tree) -> Made<Vec<End>>
     ensures { IfOk result (λ ends. ends.items ≡ meant.ends (first_of names.now) (names_of scope.now) tree.now) }
 {
     let mut ends = Vec::new(alloc);
@@ -193,7 +169,7 @@ fn ends_of(
 }
 
 // The end of a nametype and of a datatype.
-fn data_ends(alloc: Global) -> Result<Vec<End>, NoMemory>
+fn data_ends(alloc: Global) -> Made<Vec<End>>
     ensures { IfOk result (λ ends. ends.items ≡ End.Data ∷ []) }
 {
     let mut ends = Vec::new(alloc);
@@ -202,7 +178,7 @@ fn data_ends(alloc: Global) -> Result<Vec<End>, NoMemory>
 }
 
 /// Binds names, numbered from 0 on.
-pub fn bind_all(scope: &mut Scope, xs: &[Name]) -> Result<(), NoMemory>
+pub fn bind_all(scope: &mut Scope, xs: &[Name]) -> Made<()>
     requires { length xs.now ≤ MOST_BYTES }
     ensures { OnOk result (scope.new ≡ scope.old ++ parameters 0 xs.now) }
 {

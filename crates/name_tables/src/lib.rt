@@ -11,6 +11,6 @@ pub mod scope;
 
 pub use declared::dictionary_of;
 pub use dictionary::Dictionary;
-pub use meanings::Meanings;
+pub use meanings::{Meanings, kind_at};
 pub use name_set::NameSet;
 pub use scope::Scope;

@@ -4,12 +4,13 @@ ghost use Rattle.std.specs.Prelude.{◌≡◌, None, Some, true, is_some, OnOk, 
 ghost use Rattle.name_tables.specs.Hidden.{Writes};
 ghost use Rattle.name_tables.specs.Spelling.{at_name};
 
-use csp_base::{Name, NoMemory};
+use csp_base::Name;
+use script_names::Made;
 use std::alloc::Global;
 use std::collections::BTreeMap;
 
 /// The bytes of a name, by which it is found.
-pub fn spelling_of(alloc: Global, name: &Name) -> Result<Vec<u8>, NoMemory>
+pub fn spelling_of(alloc: Global, name: &Name) -> Made<Vec<u8>>
     ensures { IfOk result (λ spelling. spelling.items ≡ name.now) }
 {
     name.as_slice().to_vec(alloc)
@@ -23,11 +24,7 @@ pub fn number_at(last: &BTreeMap<Vec<u8>, u32>, name: &Name) -> Option<u32>
 }
 
 /// Writes the number of a name, and tells what it was before.
-pub fn write(
-    last: &mut BTreeMap<Vec<u8>, u32>,
-    spelling: Vec<u8>,
-    number: u32,
-) -> Result<Option<u32>, NoMemory>
+pub fn write(last: &mut BTreeMap<Vec<u8>, u32>, spelling: Vec<u8>, number: u32) -> Made<Option<u32>>
     ensures before { IfOk result (λ before. before ≡ at_name last.old spelling.items) }
     ensures writes { OnOk result (Writes last.old last.new spelling.items (Some number)) }
     ensures err { OnErr result ((x : List ℕ) → at_name last.new x ≡ at_name last.old x) }

@@ -6,7 +6,8 @@ ghost use Rattle.name_tables.specs.Hidden.{shown, KeepHidden, HasNumbers, Writes
 ghost use Rattle.script_names.specs.Typed.{number_of};
 
 use crate::numbers::{forget, number_at, rewrite, spelling_of, write};
-use csp_base::{Name, NoMemory};
+use csp_base::Name;
+use script_names::Made;
 use std::alloc::Global;
 use std::collections::BTreeMap;
 use std::marker::Model;
@@ -19,13 +20,12 @@ pub struct Binding {
     hidden: Option<u32>,
 }
 
-// By hand, so that a crate that ends one calls this and proves no end of its own.
 impl Drop for Binding {
     fn drop(self) {
         let Binding {
-            name: _name,
-            number: _number,
-            hidden: _hidden,
+            name,
+            number,
+            hidden,
         } = self;
     }
 }
@@ -38,13 +38,12 @@ pub struct Scope {
     last: BTreeMap<Vec<u8>, u32>,
 }
 
-// By hand, so that a crate that ends one calls this and proves no end of its own.
 impl Drop for Scope {
     fn drop(self) {
         let Scope {
-            alloc: _alloc,
-            bindings: _bindings,
-            last: _last,
+            alloc,
+            bindings,
+            last,
         } = self;
     }
 }
@@ -88,7 +87,7 @@ impl Scope {
     }
 
     /// Binds one more name.
-    pub fn bind(&mut self, name: &Name, number: u32) -> Result<(), NoMemory>
+    pub fn bind(&mut self, name: &Name, number: u32) -> Made<()>
         ensures { OnOk result (self.new ≡ self.old ++ (name.now, number) ∷ []) }
     {
         let spelling = spelling_of(self.alloc, name)?;
@@ -112,7 +111,7 @@ fn bind_in(
     name: Name,
     spelling: Vec<u8>,
     number: u32,
-) -> Result<(), NoMemory>
+) -> Made<()>
     requires kept { KeepHidden [] bindings.old.items }
     requires numbers { HasNumbers last.old (map shown bindings.old.items) }
     requires same { spelling.items ≡ name }

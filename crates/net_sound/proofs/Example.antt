@@ -1,8 +1,5 @@
 -- The two networks of components that take two events in turn.
-use Rattle.net_sound.proofs.Prelude.{◌≡◌, ℕ, zero, suc, ◌+◌, ◌<◌, ◌≤◌, inl, inr, List, [], ◌∷◌, length, Bool, true, false, ◌||◌, cond, IsTrue, MatchBool, nat_eq, Some, slice_get, refl, sym, ap, subst, ◌∙◌, arith, false≢true, and_from, and_parts, eqb-true, or_cases, none-some, same_Some, has, Label, silent, visible, Path, Silently, Stable, Component, ComponentStep, Tree, NetworkStep, leaves, FlatStep, IsGreatestSilence, visible_events, After, Offers, node_at, node_after, is_run, end_of, Part, part_at, project, IsNonEmpty, sharers, Stands, acceptance, acceptances_of, HasForm, OffersAcceptance, HasBehaviour, Falls, IsGoodRanking, or_none}
-use Rattle.net_sound.specs.Soundness.{IsSound}
-use Rattle.net_sound.specs.Example.{Turn, TurnStep, both, pair, turns, flat_ranking, ExampleIsLive, ExampleIsStuck}
-use Rattle.net_sound.specs.Example.Turn.{waking, at_zero, at_one}
+use Rattle.net_sound.proofs.Prelude.{◌≡◌, ℕ, zero, suc, ◌+◌, ◌<◌, ◌≤◌, inl, inr, List, [], ◌∷◌, length, Bool, true, false, ◌||◌, cond, IsTrue, MatchBool, nat_eq, Some, slice_get, refl, sym, ap, subst, ◌∙◌, arith, false≢true, and_from, and_parts, eqb-true, or_cases, none-some, same_Some, has, Label, silent, visible, Path, Silently, Stable, Component, ComponentStep, Tree, NetworkStep, leaves, FlatStep, IsGreatestSilence, visible_events, After, Offers, node_at, node_after, is_run, end_of, Part, part_at, project, IsNonEmpty, sharers, Stands, acceptance, acceptances_of, HasForm, OffersAcceptance, HasBehaviour, Falls, IsGoodRanking, or_none, IsSound, Turn, TurnStep, both, pair, turns, flat_ranking, ExampleIsLive, ExampleIsStuck, waking, at_zero, at_one}
 use Rattle.net_sound.proofs.Flattening.{forth}
 use Rattle.net_sound.proofs.Soundness.{good_rankings_mean_live, path_alphabet}
 

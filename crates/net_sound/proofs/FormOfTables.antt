@@ -3,10 +3,7 @@
 -- A component's trace has events of its alphabet alone. Each node of its normal table is reached by a run, which is a trace;
 -- so a possible event is the last one of a trace, and an acceptance is offered by a state of the component, whose events are
 -- possible. Targets are nodes, since whoever goes over the steps breadth first meets exactly the nodes.
-use Rattle.net_sound.proofs.Prelude.{◌≡◌, ℕ, suc, ◌+◌, ◌<◌, ◌≤◌, List, [], ◌∷◌, ◌++◌, length, get_or, map, true, IsTrue, nat_eq, refl, sym, ap, subst, ◌∙◌, arith, inl, inr, eq-eqb, and_parts, or_left, or_right, or_cases, eqb-true, false≢true, cases_lt, get_or-eq_default, has, Label, silent, visible, Path, Component, ComponentStep, leaves, visible_events, After, IsTrace, IsAcceptance, IsWithin, Node, node_at, is_possible, node_after, is_run, end_of, IsReached, no_node, BeginsAbove, StepsHaveForm, AreWithin, NodesHaveForm, HasForm, HaveForm, MeetsInOrder, targets_of_steps, targets_of_nodes, IsNormalTable, IsRisingNode, Part, part_at, ArePartsOf, ShapesAreWellFormed}
-use Rattle.dl_limits.specs.declared.TheConstants.{MOST_SETS, MOST_TERMS}
-use Rattle.csp_base.proofs.Rising.{RisesFrom, rises_from_increasing}
-use Rattle.csp_tables.proofs.Runs.{run_push}
+use Rattle.net_sound.proofs.Prelude.{◌≡◌, ℕ, suc, ◌+◌, ◌<◌, ◌≤◌, List, [], ◌∷◌, ◌++◌, length, get_or, map, true, IsTrue, nat_eq, refl, sym, ap, subst, ◌∙◌, arith, inl, inr, eq-eqb, and_parts, or_left, or_right, or_cases, eqb-true, false≢true, cases_lt, get_or-eq_default, has, Label, silent, visible, Path, Component, ComponentStep, leaves, visible_events, After, IsTrace, IsAcceptance, IsWithin, Node, node_at, is_possible, node_after, is_run, end_of, IsReached, no_node, BeginsAbove, StepsHaveForm, AreWithin, NodesHaveForm, HasForm, HaveForm, MeetsInOrder, targets_of_steps, targets_of_nodes, IsNormalTable, IsRisingNode, Part, part_at, ArePartsOf, ShapesAreWellFormed, MOST_SETS, MOST_TERMS, RisesFrom, rises_from_increasing, run_push}
 use Rattle.net_sound.proofs.Parts.{component_of}
 
 -- ---- traces of a component

@@ -1,9 +1,6 @@
 -- Silent walks of a component and of its numbered table.
-use Rattle.net_sound.proofs.Prelude.{◌≡◌, ℕ, zero, suc, ◌<◌, ◌≤◌, List, [], ◌∷◌, Some, slice_get, get_or, length, replicate, refl, subst, arith, inl, inr, cases_lt, slice_get_within, Label, silent, Silently, Component, ComponentStep, RawTable, RawStep, standing_at, IsTableOf, silent_path, path_silent}
-use Rattle.net_sound.specs.Heights.{HeightsAreExact, HeightsAddUp, sum_of_greatest}
+use Rattle.net_sound.proofs.Prelude.{◌≡◌, ℕ, zero, suc, ◌<◌, ◌≤◌, List, [], ◌∷◌, Some, slice_get, get_or, length, replicate, refl, subst, arith, inl, inr, cases_lt, slice_get_within, Label, silent, Silently, Component, ComponentStep, RawTable, RawStep, standing_at, IsTableOf, silent_path, path_silent, HeightsAreExact, HeightsAddUp, sum_of_greatest, slice_get_some, greatest}
 use Rattle.net_sound.proofs.Numbered.{run_down, run_up, stands}
-use Rattle.csp_base.proofs.Lists.{slice_get_some}
-use Rattle.csp_base.specs.Lists.{greatest}
 
 walk_up : {T : Type 0} (Step : T → Label → T → Type 0) (c : Component T) (terms : List T) (raw : RawTable) (k m n : ℕ) (x : T) → IsTableOf Step c terms raw → slice_get terms m ≡ Some x → Silently (RawStep raw) k m n → (d : Component T) × Silently (ComponentStep Step) k (standing_at c x) d
 walk_up Step c terms raw k m n x t h w =

@@ -1,7 +1,6 @@
 -- The shape of a network that is never empty-handed has its components' behaviour.
-use Rattle.net_sound.proofs.Prelude.{ℕ, suc, List, [], ◌∷◌, get_or, nat_eq, refl, sym, subst, ◌∙◌, eq-eqb, false≢true, or_left, slice_get_within, get_or_from_slice_get, has, Label, Component, ComponentStep, leaves, IsAcceptance, IsBusy, acceptances_after, Part, part_at, IsNonEmpty, HasBehaviour, HaveBehaviours, IsPartOf, ArePartsOf, AreBusy, ShapesAreBusy, NormalTablesBehave, ShapesBehave}
+use Rattle.net_sound.proofs.Prelude.{ℕ, suc, List, [], ◌∷◌, get_or, nat_eq, refl, sym, subst, ◌∙◌, eq-eqb, false≢true, or_left, slice_get_within, get_or_from_slice_get, has, Label, Component, ComponentStep, leaves, IsAcceptance, IsBusy, acceptances_after, Part, part_at, IsNonEmpty, HasBehaviour, HaveBehaviours, IsPartOf, ArePartsOf, AreBusy, ShapesAreBusy, NormalTablesBehave, ShapesBehave, MOST_TERMS}
 use Rattle.net_sound.proofs.Parts.{component_of, part_of, part_within}
-use Rattle.dl_limits.specs.declared.TheConstants.{MOST_TERMS}
 
 pub not_empty : {S : Type 0} (Step : S → Label → S → Type 0) (start : S) (s M : List ℕ) → IsBusy Step start → IsAcceptance Step start s M → IsNonEmpty M
 not_empty Step start s [] busy a = absurd (busy s a)

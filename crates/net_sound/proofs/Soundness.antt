@@ -4,9 +4,7 @@
 -- table. The silent steps in a row from there are shared out among the components. If there is none, each component is
 -- stable, so it offers every event of an acceptance of the node where its table is, and that acceptance is not empty. Since
 -- ranks fall along ungranted requests, an event is agreed by all that have it. Each of them offers it, so the network has it.
-use Rattle.net_sound.proofs.Prelude.{◌≡◌, ℕ, zero, suc, ◌<◌, inl, inr, List, [], ◌∷◌, Some, slice_get, get_or, length, IsTrue, MatchBool, replicate, refl, sym, ap, ap₂, subst, ◌∙◌, arith, cases_Bool, or_left, or_right, get_or_from_slice_get, slice_get_within, none-some, same_Some, has, Label, silent, visible, Path, Stable, Component, ComponentStep, Tree, NetworkStep, leaves, in_some_component, OneMoves, AllTakePart, FlatStep, visible_events, After, Offers, Part, part_at, alphabets_of, project, IsNonEmpty, TripleDisjoint, Follows, Stands, AllStand, IsAgreed, acceptance, acceptances_of, OffersAcceptance, HasBehaviour, HaveBehaviours, Ranking, IsGoodRanking, silent_path, path_silent}
-use Rattle.net_sound.specs.Projection.{ComesAlong, RunsAreTraces, RunsAreJoint, SilenceIsBounded}
-use Rattle.net_sound.specs.Heart.{GoodRankingsMeanLive}
+use Rattle.net_sound.proofs.Prelude.{◌≡◌, ℕ, zero, suc, ◌<◌, inl, inr, List, [], ◌∷◌, Some, slice_get, get_or, length, IsTrue, MatchBool, replicate, refl, sym, ap, ap₂, subst, ◌∙◌, arith, cases_Bool, or_left, or_right, get_or_from_slice_get, slice_get_within, none-some, same_Some, has, Label, silent, visible, Path, Stable, Component, ComponentStep, Tree, NetworkStep, leaves, in_some_component, OneMoves, AllTakePart, FlatStep, visible_events, After, Offers, Part, part_at, alphabets_of, project, IsNonEmpty, TripleDisjoint, Follows, Stands, AllStand, IsAgreed, acceptance, acceptances_of, OffersAcceptance, HasBehaviour, HaveBehaviours, Ranking, IsGoodRanking, silent_path, path_silent, ComesAlong, RunsAreTraces, RunsAreJoint, SilenceIsBounded, GoodRankingsMeanLive}
 use Rattle.net_sound.proofs.FlatLists.{alphabets, match_true, match_false, step_alphabet}
 use Rattle.net_sound.proofs.Flattening.{back}
 use Rattle.net_sound.proofs.Local.{AllAfter, all_after, shares, at_most, run_forth, run_kept}

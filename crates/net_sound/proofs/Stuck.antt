@@ -1,6 +1,5 @@
 -- Ranks that fall leave no stuck state: the sets of events that the parts stand at, with ranks and laps.
-use Rattle.net_sound.proofs.Prelude.{ℕ, ◌<◌, ◌≤◌, List, length, IsTrue, ℤ, pos, ◌+ℤ◌, ◌*ℤ◌, ◌<ℤ◌, arith, has, Part, part_at, alphabets_of, sharers, TripleDisjoint, IsShared, HaveForm, Ranking, rank_after, laps_along, AllStand, acceptance, Falls, IsUngranted}
-use Rattle.net_sound.specs.NoneStuck.{NoneIsStuck}
+use Rattle.net_sound.proofs.Prelude.{ℕ, ◌<◌, ◌≤◌, List, length, IsTrue, ℤ, pos, ◌+ℤ◌, ◌*ℤ◌, ◌<ℤ◌, arith, has, Part, part_at, alphabets_of, sharers, TripleDisjoint, IsShared, HaveForm, Ranking, rank_after, laps_along, AllStand, acceptance, Falls, IsUngranted, NoneIsStuck}
 use Rattle.net_sound.proofs.Agreement.{Waits, HasAnother, Sets, someone_moves}
 use Rattle.net_sound.proofs.Sharers.{at_two, at_three}
 use Rattle.net_sound.proofs.Within.{acceptance_within}

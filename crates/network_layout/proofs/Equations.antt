@@ -1,7 +1,5 @@
 -- What the walk of a network is, from its layer.
-use Rattle.network_layout.proofs.Prelude.{◌≡◌, ◌<◌, ◌-◌, arith, ℕ, zero, suc, List, ap, sym, ◌∙◌, Env, Expr, Net, Content, tree_within, walked_node, Place, node, walked}
-use Rattle.csp_program.specs.declared.networks.Net.TheOpen.{Net-F}
-use Rattle.csp_program.specs.declared.networks.Net.TheViews.{out-Net, out-roll-Net}
+use Rattle.network_layout.proofs.Prelude.{◌≡◌, ◌<◌, ◌-◌, arith, ℕ, zero, suc, List, ap, sym, ◌∙◌, Env, Expr, Net, Content, tree_within, walked_node, Place, node, walked, Net-F, out-Net, out-roll-Net}
 use Rattle.csp_program.specs.declared.networks.Net.TheVariants as net
 
 pub layer-Pair : (n : Net) (a b : Expr) (m : Net) → out-Net (net.Pair n a b m) ≡ Net-F.Pair n a b m

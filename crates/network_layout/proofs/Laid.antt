@@ -1,10 +1,8 @@
 -- What the walk has laid out, from what it has laid out below.
-use Rattle.network_layout.proofs.Prelude.{◌≡◌, ℕ, ◌+◌, ◌<◌, if◌then◌else◌, Ok, Err, List, [], ◌∷◌, ◌++◌, length, ap, sym, ◌∙◌, subst, append_assoc, append-nil, lt-ltb, length-append, union_of, Net, Proc, Component, Tree, Operands, leaves, leaf, parallel, none, operand, joint, Walked, events_under, goes_on, operand_first, side_by_side, tree_within, LayoutFault, Stop, Result, Fails, IsLaid, Lays, Place, component, operand_walked, node, pair_walked, seated, Operand}
+use Rattle.network_layout.proofs.Prelude.{◌≡◌, ℕ, ◌+◌, ◌<◌, if◌then◌else◌, Ok, Err, List, [], ◌∷◌, ◌++◌, length, ap, sym, ◌∙◌, subst, append_assoc, append-nil, lt-ltb, length-append, union_of, Net, Proc, Component, Tree, Operands, leaves, leaf, parallel, none, operand, joint, Walked, events_under, goes_on, operand_first, side_by_side, tree_within, LayoutFault, Stop, Result, Fails, IsLaid, Lays, Place, component, operand_walked, node, pair_walked, seated, Operand, IsErrAnd, MOST_COMPONENTS}
 use Rattle.network_trees.specs.declared.fault.LayoutFault.TheVariants as fault
 use Rattle.csp_base.specs.declared.stop.Stop.TheVariants as stop
-use Rattle.std.specs.Result.{IsErrAnd}
 use Rattle.network_layout.proofs.Together.{joint-append}
-use Rattle.dl_limits.specs.declared.TheConstants.{MOST_COMPONENTS}
 
 pub component_laid : (s : Place) (old new : List (Component Proc)) (alphabet : List ℕ) (q : Proc) (events : List ℕ) → length old < MOST_COMPONENTS
     → new ≡ old ++ component s alphabet q ∷ [] → events ≡ union_of alphabet [] → IsLaid (seated s alphabet q (length old)) old new events

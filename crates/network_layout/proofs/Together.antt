@@ -1,7 +1,5 @@
 -- The alphabets of some components and of others, together.
-use Rattle.network_layout.proofs.Prelude.{◌≡◌, ℕ, ◌||◌, List, [], ◌∷◌, ◌++◌, refl, sym, ◌∙◌, arith, nat_tests, IsStrictlyIncreasing, union_of, Component, joint}
-use Rattle.csp_base.specs.Events.{has}
-use Rattle.csp_base.proofs.SetLaws.{has-union_of, increasing-set_of, increasing-union_of, same_set}
+use Rattle.network_layout.proofs.Prelude.{◌≡◌, ℕ, ◌||◌, List, [], ◌∷◌, ◌++◌, refl, sym, ◌∙◌, arith, nat_tests, IsStrictlyIncreasing, union_of, Component, joint, has, has-union_of, increasing-set_of, increasing-union_of, same_set}
 
 increasing-joint : {T : Type 0} (cs : List (Component T)) → IsStrictlyIncreasing (joint cs)
 increasing-joint [] = increasing-set_of []

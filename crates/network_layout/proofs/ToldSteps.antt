@@ -1,11 +1,6 @@
 -- What is told of components, one after another.
-use Rattle.network_layout.proofs.Prelude.{◌≡◌, ℕ, ◌+◌, ◌<◌, ◌≤◌, Ok, Err, List, [], ◌∷◌, ◌++◌, length, take, get_or, refl, ap, sym, ◌∙◌, subst, take_all, Stop, take_read, Outcome, and_then, Proc, Component, all_outcomes, Gives}
-use Rattle.std.proofs.lemmas.Option.{slice_get_read}
-use Rattle.csp_base.specs.Stops.{Tells}
-use Rattle.network_layout.specs.Told.{IsUntold, noted_fault}
-use Rattle.network_layout.specs.declared.told.NotedFault.{NotedFault}
-use Rattle.value_operators.specs.declared.fault.EvalFault.{EvalFault}
-use Rattle.value_operators.specs.declared.fault.EvalFault.TheVariants as evaluation
+use Rattle.network_layout.proofs.Prelude.{◌≡◌, ℕ, ◌+◌, ◌<◌, ◌≤◌, Ok, Err, List, [], ◌∷◌, ◌++◌, length, take, get_or, refl, ap, sym, ◌∙◌, subst, take_all, Stop, take_read, Outcome, and_then, Proc, Component, all_outcomes, Gives, slice_get_read, Tells, IsUntold, noted_fault, NotedFault, EvalFault}
+use Rattle.csp_base.specs.declared.stop.Stop.TheVariants as evaluation
 
 last_of : {A : Type 0} (o : Outcome A) (rest : Outcome (List A)) (last : Outcome A)
     → and_then o (λ w. and_then (and_then rest (λ ys. and_then last (λ y. Ok (ys ++ y ∷ [])))) (λ ws. Ok (w ∷ ws)))
@@ -30,7 +25,7 @@ module _ {A : Type 0} (f : Component Proc → Outcome A) (seats : List (Componen
     -- the fault of the first component without
     pub untold_first : (s : Stop NotedFault) (e : EvalFault) → Gives {A = A} (Err e) (f c) → s ≡ noted_fault i e → Tells (IsUntold f seats) s
     untold_first s evaluation.NoMemory lacks tells = subst (Tells (IsUntold f seats)) (sym tells) tt
-    untold_first s (evaluation.Value k) lacks tells =
+    untold_first s (evaluation.Told k) lacks tells =
         subst (Tells (IsUntold f seats)) (sym tells) (record { component = c; stands = slice_get_read seats (length seats) i c refl lt is; lacks = lacks; before = (ys, far) })
 
   -- the front of a list that is the whole

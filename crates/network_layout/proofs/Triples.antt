@@ -1,8 +1,5 @@
 -- Events in one, two and three alphabets, and the components that have the first event in three.
-use Rattle.network_layout.proofs.Prelude.{◌≡◌, ℕ, ◌+◌, ◌<◌, ◌≤◌, Bool, true, false, ◌||◌, ◌&&◌, if◌then◌else◌, Some, None, List, [], ◌∷◌, ◌++◌, length, take, drop, get_or, refl, ap, sym, ◌∙◌, subst, arith, append_assoc, nat_le, find, IsStrictlyIncreasing, nat_tests, le-leb, leb-false, leb-true, drop_read, map_push, take_read, has, Proc, Component, TripleDisjoint, sharers, AreCrowded, AreIn, IsCounted, SharesEvent, alphabets, holders}
-use Rattle.std.proofs.lemmas.Grind.{common_steps}
-use Rattle.csp_base.proofs.Rising.{RisesFrom, has_below, rises_from_increasing}
-use Rattle.network_layout.specs.declared.triple.Counted.{Counted}
+use Rattle.network_layout.proofs.Prelude.{◌≡◌, ℕ, ◌+◌, ◌<◌, ◌≤◌, Bool, true, false, ◌||◌, ◌&&◌, if◌then◌else◌, Some, None, List, [], ◌∷◌, ◌++◌, length, take, drop, get_or, refl, ap, sym, ◌∙◌, subst, arith, append_assoc, nat_le, find, IsStrictlyIncreasing, nat_tests, le-leb, leb-false, leb-true, drop_read, map_push, take_read, has, Proc, Component, TripleDisjoint, sharers, AreCrowded, AreIn, IsCounted, SharesEvent, alphabets, holders, common_steps, RisesFrom, has_below, rises_from_increasing, Counted}
 
 -- ---- one alphabet more
 

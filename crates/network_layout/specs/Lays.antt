@@ -1,15 +1,12 @@
 -- What the calls of the walk of a network answer. A fault is that of the definition, and want of memory is free.
 use Rattle.std.specs.Prelude.{◌≡◌, ℕ, Some, Result, Ok, Err, List, [], ◌∷◌, ◌++◌, length}
 use Rattle.dl_limits.specs.declared.TheConstants.{MOST_NETWORK_DEPTH}
-use Rattle.csp_base.specs.Stops.{Tells}
+use Rattle.csp_base.specs.Prelude.{Tells}
 use Rattle.csp_base.specs.declared.stop.Stop.{Stop}
 use Rattle.csp_atoms.specs.declared.atom.Atom.{Atom}
 use Rattle.csp_atoms.specs.declared.value.Value.{Value}
 use Rattle.csp_atoms.specs.declared.value.Value.TheVariants.{One}
-use Rattle.csp_program.specs.Environments.{with_bound}
-use Rattle.csp_program.specs.Outcome.{Outcome}
-use Rattle.csp_program.specs.Substitution.{given_by, proc_with}
-use Rattle.csp_program.specs.Value.{Env, bound_to}
+use Rattle.csp_program.specs.Prelude.{with_bound, Outcome, given_by, proc_with, Env, bound_to}
 use Rattle.csp_program.specs.declared.expressions.Expr.{Expr}
 use Rattle.csp_program.specs.declared.kinds.ValueKind.{ValueKind}
 use Rattle.csp_program.specs.declared.networks.Net.{Net}

@@ -2,13 +2,12 @@
 use Rattle.std.specs.Prelude.{ℕ, List}
 use Rattle.csp_base.specs.declared.stop.Stop.{Stop}
 use Rattle.csp_base.specs.declared.stop.Stop.TheVariants as stop
-use Rattle.csp_program.specs.Outcome.{Outcome}
+use Rattle.csp_program.specs.Prelude.{Outcome}
 use Rattle.csp_program.specs.declared.processes.Proc.{Proc}
 use Rattle.csp_tables.specs.Network.{Component}
 use Rattle.network_trees.specs.Annotations.{IsFirstWithout}
 use Rattle.network_layout.specs.declared.told.NotedFault.{NotedFault}
-use Rattle.value_operators.specs.declared.fault.EvalFault.{EvalFault}
-use Rattle.value_operators.specs.declared.fault.EvalFault.TheVariants as evaluation
+use Rattle.value_operators.specs.Gives.{EvalFault}
 
 -- what is told of the first components has a value, up to this one
 abbrev pub IsUntold : {A : Type 0} → (Component Proc → Outcome A) → List (Component Proc) → NotedFault → Type 0
@@ -16,5 +15,5 @@ IsUntold told components fault = IsFirstWithout told components fault.part fault
 
 -- the fault of a component (for a private call)
 abbrev pub noted_fault : ℕ → EvalFault → Stop NotedFault
-noted_fault part evaluation.NoMemory = stop.NoMemory
-noted_fault part (evaluation.Value why) = stop.Told (record { part = part; kind = why })
+noted_fault part stop.NoMemory = stop.NoMemory
+noted_fault part (stop.Told why) = stop.Told (record { part = part; kind = why })

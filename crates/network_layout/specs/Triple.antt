@@ -2,8 +2,7 @@
 use Rattle.std.specs.Prelude.{◌≡◌, ◌<◌, ◌≤◌, ◌+◌, ℕ, nat_le, if◌then◌else◌, List, [], ◌∷◌, map, take}
 use Rattle.csp_base.specs.Members.{has}
 use Rattle.csp_program.specs.declared.processes.Proc.{Proc}
-use Rattle.csp_tables.specs.Network.{Component}
-use Rattle.csp_tables.specs.Part.{sharers}
+use Rattle.csp_tables.specs.Prelude.{Component, sharers}
 use Rattle.network_layout.specs.declared.triple.Counted.{Counted}
 use Rattle.network_layout.specs.declared.triple.TripleFault.{TripleFault}
 

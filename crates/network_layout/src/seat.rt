@@ -16,13 +16,9 @@ pub struct Seat {
     alphabet: EventSet,
 }
 
-// By hand, so that a crate that ends one calls this and proves no end of its own.
 impl Drop for Seat {
     fn drop(self) {
-        let Seat {
-            term: _term,
-            alphabet: _alphabet,
-        } = self;
+        let Seat { term, alphabet } = self;
     }
 }
 

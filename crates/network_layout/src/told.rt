@@ -4,7 +4,7 @@ ghost use Rattle.std.specs.Prelude.{◌≡◌, [], false, IfErr, IfOk, Ok, Some,
 ghost use Rattle.std.specs.Option.{option_copied};
 ghost use Rattle.dl_limits.specs.declared.TheConstants.{MOST_COMPONENTS};
 ghost use Rattle.csp_base.specs.Stops.{Tells};
-ghost use Rattle.csp_program.specs.Outcome.{Outcome};
+ghost use Rattle.csp_program.specs.Prelude.{Outcome};
 ghost use Rattle.csp_program.specs.declared.processes.Proc.{Proc};
 ghost use Rattle.csp_program.specs.declared.programs.Content.{Content};
 ghost use Rattle.csp_tables.specs.Network.{Component};
@@ -51,7 +51,7 @@ fn use_of(alloc: Global, def: u32, args: &[Expr]) -> Result<Boxed<Expr>, NoMemor
 }
 
 // The set that a definition is, with these arguments.
-fn told_set(
+fn call_events(
     alloc: Global,
     program: &Program,
     args: &[Expr],
@@ -65,7 +65,7 @@ fn told_set(
 }
 
 // The sets that an annotation tells.
-fn noted_roles(
+fn eval_roles(
     alloc: Global,
     program: &Program,
     args: &[Expr],
@@ -73,15 +73,15 @@ fn noted_roles(
 ) -> Result<RoleSets, EvalFault>
     ensures { Gives result (told_roles program.now args.now (Some note.now)) }
 {
-    let creq = told_set(alloc, program, args, note.creq)?;
-    let cack = told_set(alloc, program, args, note.cack)?;
-    let sreq = told_set(alloc, program, args, note.sreq)?;
-    let sack = told_set(alloc, program, args, note.sack)?;
+    let creq = call_events(alloc, program, args, note.creq)?;
+    let cack = call_events(alloc, program, args, note.cack)?;
+    let sreq = call_events(alloc, program, args, note.sreq)?;
+    let sack = call_events(alloc, program, args, note.sack)?;
     Ok(RoleSets::new(creq, cack, sreq, sack))
 }
 
 // The sets that an annotation of a resource tells.
-fn noted_uses(
+fn eval_uses(
     alloc: Global,
     program: &Program,
     args: &[Expr],
@@ -89,8 +89,8 @@ fn noted_uses(
 ) -> Result<UseSets, EvalFault>
     ensures { Gives result (told_uses program.now args.now (Some note.now)) }
 {
-    let acquire = told_set(alloc, program, args, note.acquire)?;
-    let release = told_set(alloc, program, args, note.release)?;
+    let acquire = call_events(alloc, program, args, note.acquire)?;
+    let release = call_events(alloc, program, args, note.release)?;
     Ok(UseSets::new(true, acquire, release))
 }
 
@@ -131,7 +131,7 @@ impl Noted for RoleSets {
     fn of_seat(alloc: Global, program: &Program, seat: &Seat) -> Result<RoleSets, EvalFault> {
         match seat.term() {
             Proc::Call(def, args) => match find_roles(program.content().roles.as_slice(), *def) {
-                Some(note) => noted_roles(alloc, program, args.as_slice(), note),
+                Some(note) => eval_roles(alloc, program, args.as_slice(), note),
                 None => Ok(no_roles(alloc)),
             },
             _ => Ok(no_roles(alloc)),
@@ -148,7 +148,7 @@ impl Noted for UseSets {
                 program.content().resources.as_slice(),
                 *def,
             ) {
-                Some(note) => noted_uses(alloc, program, args.as_slice(), note),
+                Some(note) => eval_uses(alloc, program, args.as_slice(), note),
                 None => Ok(no_uses(alloc)),
             },
             _ => Ok(no_uses(alloc)),
@@ -157,17 +157,17 @@ impl Noted for UseSets {
 }
 
 // The fault of a component.
-fn noted_fault(fault: EvalFault, part: u32) -> Stop<NotedFault>
+fn fault_at(fault: EvalFault, part: u32) -> Stop<NotedFault>
     ensures { result ≡ noted_fault part fault }
 {
     match fault {
-        EvalFault::NoMemory => Stop::NoMemory,
-        EvalFault::Value { kind } => Stop::Told(NotedFault { part, kind }),
+        Stop::NoMemory => Stop::NoMemory,
+        Stop::Told(kind) => Stop::Told(NotedFault { part, kind }),
     }
 }
 
 // What is told of each of the components.
-fn all_noted<T: Noted>(
+fn collect<T: Noted>(
     alloc: Global,
     program: &Program,
     seats: &[Seat],
@@ -180,7 +180,7 @@ fn all_noted<T: Noted>(
     for (part, seat) in seats.iter().enumerate() {
         match T::of_seat(alloc, program, seat) {
             Ok(sets) => made.push(sets)?,
-            Err(fault) => return Err(noted_fault(fault, part as u32)),
+            Err(fault) => return Err(fault_at(fault, part as u32)),
         }
     }
     Ok(made)
@@ -196,7 +196,7 @@ pub fn roles_of(
     ensures told { IfOk result (λ told. all_outcomes (component_roles program.now) layout.now ≡ Ok told) }
     ensures fault { IfErr result (Tells (IsUntold (component_roles program.now) layout.now)) }
 {
-    all_noted(alloc, program, layout.seats())
+    collect(alloc, program, layout.seats())
 }
 
 /// How the components are used as resources, by what a program tells of them. Faults are those of `roles_of`.
@@ -208,5 +208,5 @@ pub fn uses_of(
     ensures told { IfOk result (λ told. all_outcomes (component_uses program.now) layout.now ≡ Ok told) }
     ensures fault { IfErr result (Tells (IsUntold (component_uses program.now) layout.now)) }
 {
-    all_noted(alloc, program, layout.seats())
+    collect(alloc, program, layout.seats())
 }

@@ -29,7 +29,7 @@ struct Counted {
 }
 
 // Of no alphabets.
-fn counted_none(alloc: Global) -> Counted
+fn count_none(alloc: Global) -> Counted
     ensures { IsCounted [] result }
 {
     Counted {
@@ -60,7 +60,7 @@ fn count(alloc: Global, counted: &Counted, alphabet: &EventSet) -> Result<Counte
 fn events_in_three(alloc: Global, seats: &[Seat]) -> Result<EventSet, NoMemory>
     ensures { IfOk result (AreCrowded (alphabets seats.now)) }
 {
-    let mut counted = counted_none(alloc);
+    let mut counted = count_none(alloc);
     for seat in seats {
         counted = count(alloc, &counted, seat.alphabet())?;
     }

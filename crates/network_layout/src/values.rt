@@ -2,14 +2,11 @@
 
 ghost use Rattle.std.specs.Prelude.{◌≡◌, [], ◌∷◌, ◌++◌, IfOk};
 ghost use Rattle.csp_atoms.specs.Sets.{event_numbers};
-ghost use Rattle.csp_program.specs.Outcome.{Outcome};
-ghost use Rattle.csp_program.specs.Substitution.{given_by, proc_with};
-ghost use Rattle.process_steps.specs.Needed.{needed_events};
-ghost use Rattle.process_steps.specs.Prefix.{set_under, value_under};
+ghost use Rattle.csp_program.specs.Prelude.{Outcome, given_by, proc_with};
+ghost use Rattle.process_steps.specs.Prelude.{needed_events, set_under, value_under};
 ghost use Rattle.network_trees.specs.NetworkOf.{arguments_under, events_under, truth_under};
 ghost use Rattle.network_layout.specs.Lays.{Needs, names_of};
-ghost use Rattle.value_operators.specs.Env.{env_in};
-ghost use Rattle.value_operators.specs.Gives.{Gives};
+ghost use Rattle.value_operators.specs.Prelude.{env_in, Gives};
 
 use containers::{Boxed, Items};
 use csp_atoms::{Atom, AtomSet, Value};
@@ -58,8 +55,8 @@ fn needed<T>(found: Result<T, EvalFault>) -> Result<T, Stop<LayoutFault>>
 {
     match found {
         Ok(value) => Ok(value),
-        Err(EvalFault::NoMemory) => Err(Stop::NoMemory),
-        Err(EvalFault::Value { kind }) => Err(Stop::Told(LayoutFault::Value { kind })),
+        Err(Stop::NoMemory) => Err(Stop::NoMemory),
+        Err(Stop::Told(kind)) => Err(Stop::Told(LayoutFault::Value { kind })),
     }
 }
 
@@ -92,9 +89,7 @@ pub(crate) fn events_of(alloc: Global, atoms: &AtomSet) -> Result<EventSet, Eval
 {
     match atoms.to_event_set(alloc)? {
         Some(events) => Ok(events),
-        None => Err(EvalFault::Value {
-            kind: ValueKind::Kind,
-        }),
+        None => Err(Stop::Told(ValueKind::Kind)),
     }
 }
 
@@ -133,6 +128,6 @@ pub(crate) fn with_name(
 pub(crate) fn put(scope: &Scope<'_>, process: &Proc) -> Result<Boxed<Proc>, NoMemory>
     ensures { IfOk result (λ made. made ≡ proc_with (given_by (names_of scope.now)) process.now) }
 {
-    let values = Values::over(scope.alloc, scope.params, scope.args, scope.bound);
-    Ok(Boxed::new(scope.alloc, put_proc(scope.alloc, process, &values)?)?)
+    let values = Values::with_bound(scope.alloc, scope.params, scope.args, scope.bound);
+    Ok(Boxed::new(scope.alloc, put_proc(process, &values)?)?)
 }

@@ -164,7 +164,7 @@ fn walk_if(
 }
 
 // The lesser of two events.
-fn lesser(left: Option<Event>, right: Option<Event>) -> Option<Event>
+fn lesser_event(left: Option<Event>, right: Option<Event>) -> Option<Event>
     ensures { result ≡ lesser left right }
 {
     match (left, right) {
@@ -175,12 +175,12 @@ fn lesser(left: Option<Event>, right: Option<Event>) -> Option<Event>
 }
 
 // The least event that is in exactly one of the sets.
-fn odd(alloc: Global, left: &EventSet, right: &EventSet) -> Result<Option<Event>, NoMemory>
+fn odd_event(alloc: Global, left: &EventSet, right: &EventSet) -> Result<Option<Event>, NoMemory>
     ensures { IfOk result (λ found. found ≡ odd_event left.now right.now) }
 {
     let missing = left.diff(alloc, right)?;
     let extra = right.diff(alloc, left)?;
-    Ok(lesser(missing.first_from(Event(0)), extra.first_from(Event(0))))
+    Ok(lesser_event(missing.first_from(Event(0)), extra.first_from(Event(0))))
 }
 
 // An operand, which has to agree with its alphabet.
@@ -191,7 +191,7 @@ fn walk_operand(scope: &Scope<'_>, net: &Net, alphabet: &EventSet, seats: &mut L
 {
     let first = seats.len();
     let joint = walk(scope, net, alphabet, seats)?;
-    match odd(scope.alloc, alphabet, &joint)? {
+    match odd_event(scope.alloc, alphabet, &joint)? {
         None => Ok(joint),
         Some(event) => Err(Stop::Told(LayoutFault::BadNesting {
             first: first as u32,

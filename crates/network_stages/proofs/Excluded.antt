@@ -1,7 +1,5 @@
 -- Components that have their tables: no fault tells the truth of them.
-use Rattle.network_stages.proofs.Prelude.{◌≡◌, ℕ, zero, suc, ◌<◌, ◌≤◌, ◌-◌, List, [], ◌∷◌, Some, take, slice_get, inl, inr, refl, sym, ap, subst, ◌∙◌, arith, cases_lt, none-some, same_Some, greatest, Proc, Content, silent, Component, ComponentStep, SilentStep, Silently, IsTableOf, RawStep, RawTable, standing_at, Walk, AreSteps, AreTerms, IsLocalTable, Room, LocalTable, heights_are_exact, AreTablesWithin, IsTableWithin, room_after, room_left, whole_room, FaultsExcludeAllTables, ComponentTable, ProcessStep}
-use Rattle.digraph.specs.Prelude.{IsCircle, Leads}
-use Rattle.local_tables.proofs.Excluding.{excluded}
+use Rattle.network_stages.proofs.Prelude.{◌≡◌, ℕ, zero, suc, ◌<◌, ◌≤◌, ◌-◌, List, [], ◌∷◌, Some, take, slice_get, inl, inr, refl, sym, ap, subst, ◌∙◌, arith, cases_lt, none-some, same_Some, greatest, Proc, Content, silent, Component, ComponentStep, SilentStep, Silently, IsTableOf, RawStep, RawTable, standing_at, Walk, AreSteps, AreTerms, IsLocalTable, Room, LocalTable, heights_are_exact, AreTablesWithin, IsTableWithin, room_after, room_left, whole_room, FaultsExcludeAllTables, ComponentTable, ProcessStep, IsCircle, Leads, excluded}
 use Rattle.process_steps.specs.declared.component_fault.ComponentFault.TheVariants as fault
 
 module _ (p : Content) where

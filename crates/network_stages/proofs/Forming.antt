@@ -1,9 +1,8 @@
 -- The links and the vocabulary of parts are those of a shape.
-use Rattle.network_stages.proofs.Prelude.{◌≡◌, ℕ, suc, ◌<◌, ◌≤◌, inl, inr, List, [], ◌∷◌, length, true, IsTrue, sym, subst, ◌∙◌, arith, or_cases, false≢true, list_any_at, has, Part, part_at, alphabets_of, sharers, Link, IsLinked, LinksAreOrdered, at_two, row_at, AreRows, has_event, any_has_event, AreLinksBefore, IsVocabulary, pair_at}
+use Rattle.network_stages.proofs.Prelude.{◌≡◌, ℕ, suc, ◌<◌, ◌≤◌, inl, inr, List, [], ◌∷◌, length, true, IsTrue, sym, subst, ◌∙◌, arith, or_cases, false≢true, list_any_at, has, Part, part_at, alphabets_of, sharers, Link, IsLinked, LinksAreOrdered, at_two, row_at, AreRows, has_event, any_has_event, AreLinksBefore, IsVocabulary, pair_at, MOST_COMPONENTS}
 use Rattle.network_stages.proofs.Sharing.{two_owners}
 use Rattle.network_stages.proofs.Linking.{pair_of, of_pair}
 use Rattle.network_stages.proofs.Counting.{few_links}
-use Rattle.dl_limits.specs.declared.TheConstants.{MOST_COMPONENTS}
 
 -- ---- the vocabulary
 

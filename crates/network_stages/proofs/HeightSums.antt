@@ -1,6 +1,5 @@
 -- The silent bound from the heights of tables.
-use Rattle.network_stages.proofs.Prelude.{◌≡◌, ℕ, ◌+◌, ◌<◌, length, take, get_or, add-one, List, [], ◌∷◌, ◌++◌, map, max, sym, ap, subst, ◌∙◌, arith, Proc, Content, Component, IsSilentBound, Room, HaveHeights, sum_of_greatest, heights_add_up, ProcessStep, AreTablesOf, AreTablesWithin, room_after, whole_room, ComponentTable, greatest}
-use Rattle.std.proofs.Math.Seq.{take-suc}
+use Rattle.network_stages.proofs.Prelude.{◌≡◌, ℕ, ◌+◌, ◌<◌, length, take, get_or, add-one, List, [], ◌∷◌, ◌++◌, map, max, sym, ap, subst, ◌∙◌, arith, Proc, Content, Component, IsSilentBound, Room, HaveHeights, sum_of_greatest, heights_add_up, ProcessStep, AreTablesOf, AreTablesWithin, room_after, whole_room, ComponentTable, greatest, take-suc}
 
 abbrev pub all_heights : List ComponentTable → List (List ℕ)
 all_heights ts = map (λ (t : ComponentTable). t.heights) ts

@@ -1,8 +1,6 @@
 -- The heights of a table are below the number of its terms: below each height stand all lower ones, each at a term of its own.
-use Rattle.network_stages.proofs.Prelude.{◌≡◌, ℕ, zero, suc, ◌+◌, ◌-◌, ◌*◌, ◌<◌, ◌≤◌, List, [], ◌∷◌, Some, slice_get, get_or, length, min, take, refl, ap, subst, ◌∙◌, inl, inr, arith, cases_lt, none-some, same_Some, slice_get-get_or, slice_get_within, Proc, Content, silent, Component, SilentStep, RawStep, Walk, Room, sum_of_greatest, AreTablesOf, AreTablesWithin, IsTableWithin, room_after, whole_room, ComponentTable, greatest}
-use Rattle.digraph.specs.Walk.{AreHeights}
+use Rattle.network_stages.proofs.Prelude.{◌≡◌, ℕ, zero, suc, ◌+◌, ◌-◌, ◌*◌, ◌<◌, ◌≤◌, List, [], ◌∷◌, Some, slice_get, get_or, length, min, take, refl, ap, subst, ◌∙◌, inl, inr, arith, cases_lt, none-some, same_Some, slice_get-get_or, slice_get_within, Proc, Content, silent, Component, SilentStep, RawStep, Walk, Room, sum_of_greatest, AreTablesOf, AreTablesWithin, IsTableWithin, room_after, whole_room, ComponentTable, greatest, AreHeights, MOST_COMPONENTS, MOST_TERMS}
 use Rattle.network_stages.proofs.HeightSums.{all_heights, one_sum}
-use Rattle.dl_limits.specs.declared.TheConstants.{MOST_COMPONENTS, MOST_TERMS}
 
 -- how many of the numbers are below m
 abbrev below : ℕ → List ℕ → ℕ

@@ -1,9 +1,8 @@
 -- Parts of components, one after another: each is the normal table of its component's table.
-use Rattle.network_stages.proofs.Prelude.{◌≡◌, inl, inr, ℕ, ◌+◌, ◌<◌, ◌≤◌, List, [], ◌∷◌, ◌++◌, length, take, get_or, slice_get, Some, refl, sym, ap, subst, ◌∙◌, add-one, arith, take-suc, cases_eq, take_all, same_Some, slice_get-get_or, Proc, Content, HasForm, HaveForm, Component, ComponentStep, IsNormalTable, Part, RawStep, ArePartsOf, IsPartOf, Node, table_has_form, normal_tables_carry_over, AreTablesOf, HasTable, HasManySets, HaveFewSets, HaveFewSetsBefore, HasNoPart, HaveNoParts, ComponentTable, ProcessStep, Tells, Stop, Refusal}
+use Rattle.network_stages.proofs.Prelude.{◌≡◌, inl, inr, ℕ, ◌+◌, ◌<◌, ◌≤◌, List, [], ◌∷◌, ◌++◌, length, take, get_or, slice_get, Some, refl, sym, ap, subst, ◌∙◌, add-one, arith, take-suc, cases_eq, take_all, same_Some, slice_get-get_or, Proc, Content, HasForm, HaveForm, Component, ComponentStep, IsNormalTable, Part, RawStep, ArePartsOf, IsPartOf, Node, table_has_form, normal_tables_carry_over, AreTablesOf, HasTable, HasManySets, HaveFewSets, HaveFewSetsBefore, HasNoPart, HaveNoParts, ComponentTable, ProcessStep, Tells, Stop, Refusal, MOST_SETS, MOST_TERMS}
 use Rattle.process_steps.specs.declared.component_fault.ComponentFault.TheVariants as fault
 use Rattle.report.specs.declared.answer.Refusal.TheVariants as refusal
 use Rattle.csp_base.specs.declared.stop.Stop.TheVariants as stop
-use Rattle.dl_limits.specs.declared.TheConstants.{MOST_SETS, MOST_TERMS}
 
 -- a table with at most so many acceptances at a node has at most more
 with_more : {S : Type 0} (Step : S → _ → S → Type 0) (start : S) (few most : ℕ) (table : List Node) → few ≤ most → IsNormalTable Step start few table → IsNormalTable Step start most table

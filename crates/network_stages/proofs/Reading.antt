@@ -1,6 +1,5 @@
 -- What loops over parts, rows and pairs read.
-use Rattle.network_stages.proofs.Prelude.{◌≡◌, ℕ, ◌+◌, ◌<◌, List, [], ◌++◌, length, get_or, take, Bool, true, false, ◌||◌, Option, nat_eq, refl, sym, ap, subst, ◌∙◌, get_or_read, list_any_more, has, with_member, Part, part_at, row_at, joints, AreOwners, AreRows, has_event, pair_at}
-use Rattle.csp_base.proofs.Rising.{has-with_member}
+use Rattle.network_stages.proofs.Prelude.{◌≡◌, ℕ, ◌+◌, ◌<◌, List, [], ◌++◌, length, get_or, take, Bool, true, false, ◌||◌, Option, nat_eq, refl, sym, ap, subst, ◌∙◌, get_or_read, list_any_more, has, with_member, Part, part_at, row_at, joints, AreOwners, AreRows, has_event, pair_at, has-with_member}
 use Rattle.network_stages.proofs.Joining.{rows_more}
 
 -- the part of a place, as it is read from a list

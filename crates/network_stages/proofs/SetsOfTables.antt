@@ -1,7 +1,5 @@
 -- Traces of a component lead to as many sets of terms as the same traces of its table: the table has exactly the component's terms, each under one number.
-use Rattle.network_stages.proofs.Prelude.{◌≡◌, ℕ, List, [], get_or, refl, sym, ap, subst, ◌∙◌, same_Some, Proc, Content, Label, Component, ComponentStep, Path, IsTableOf, RawStep, RawTable, standing_at, After, trace_down, trace_up, HasTable, HasManySets, ComponentTable, ProcessStep}
-use Rattle.determinise.specs.ManySets.{ReachesSets}
-use Rattle.net_sound.proofs.Numbered.{run_down, run_up, stands}
+use Rattle.network_stages.proofs.Prelude.{◌≡◌, ℕ, List, [], get_or, refl, sym, ap, subst, ◌∙◌, same_Some, Proc, Content, Label, Component, ComponentStep, Path, IsTableOf, RawStep, RawTable, standing_at, After, trace_down, trace_up, HasTable, HasManySets, ComponentTable, ProcessStep, ◌+◌, MOST_SETS, ReachesSets, run_down, run_up, stands}
 
 module _ {T : Type 0} (Step : T → Label → T → Type 0) (c : Component T) (terms : List T) (raw : RawTable) (t : IsTableOf Step c terms raw) where
   -- a state of the component after one trace, where the numbers after it are those after the other
@@ -45,9 +43,9 @@ module _ {T : Type 0} (Step : T → Label → T → Type 0) (c : Component T) (t
   }
 
 -- a component whose table has few sets has few
-pub few_sets : (p : Content) (c : Component Proc) (t : ComponentTable) → HasTable p c t → (ReachesSets (RawStep t.local.table) 0 2049 → ⊥) → HasManySets p c → ⊥
-few_sets p c t (room, has) few many = few (sets_of_table (ProcessStep p) c has.table.terms t.local.table has.table.table 2049 many)
+pub few_sets : (p : Content) (c : Component Proc) (t : ComponentTable) → HasTable p c t → (ReachesSets (RawStep t.local.table) 0 (MOST_SETS + 1) → ⊥) → HasManySets p c → ⊥
+few_sets p c t (room, has) few many = few (sets_of_table (ProcessStep p) c has.table.terms t.local.table has.table.table (MOST_SETS + 1) many)
 
 -- one whose table has many has many
-pub many_sets : (p : Content) (c : Component Proc) (t : ComponentTable) → HasTable p c t → ReachesSets (RawStep t.local.table) 0 2049 → HasManySets p c
-many_sets p c t (room, has) many = sets_of_component (ProcessStep p) c has.table.terms t.local.table has.table.table 2049 many
+pub many_sets : (p : Content) (c : Component Proc) (t : ComponentTable) → HasTable p c t → ReachesSets (RawStep t.local.table) 0 (MOST_SETS + 1) → HasManySets p c
+many_sets p c t (room, has) many = sets_of_component (ProcessStep p) c has.table.terms t.local.table has.table.table (MOST_SETS + 1) many

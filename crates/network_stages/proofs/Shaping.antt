@@ -1,8 +1,6 @@
 -- The parts of a network's components, linked, are its shape.
-use Rattle.network_stages.proofs.Prelude.{◌≡◌, ℕ, zero, suc, ◌<◌, ◌≤◌, List, [], ◌∷◌, length, refl, sym, ap, subst, ◌∙◌, arith, Proc, Content, HaveForm, Component, leaves, Part, TripleDisjoint, alphabets_of, part_at, IsLinked, Shape, ArePartsOf, one_part_each, IsSpelled, Network, IsApart, HasParts, ProcessStep}
-use Rattle.network_layout.specs.Triple.{alphabets}
+use Rattle.network_stages.proofs.Prelude.{◌≡◌, ℕ, zero, suc, ◌<◌, ◌≤◌, List, [], ◌∷◌, length, refl, sym, ap, subst, ◌∙◌, arith, Proc, Content, HaveForm, Component, leaves, Part, TripleDisjoint, alphabets_of, part_at, IsLinked, Shape, ArePartsOf, one_part_each, IsSpelled, Network, IsApart, HasParts, ProcessStep, alphabets, MOST_COMPONENTS, MOST_SETS}
 use Rattle.network_stages.proofs.Spelling.{few_components}
-use Rattle.dl_limits.specs.declared.TheConstants.{MOST_COMPONENTS, MOST_SETS}
 
 -- parts have the alphabets of their components
 same_alphabets : (p : Content) (cs : List (Component Proc)) (ps : List Part) → ArePartsOf (ProcessStep p) cs ps → alphabets cs ≡ alphabets_of ps

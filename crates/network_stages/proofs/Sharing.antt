@@ -1,6 +1,5 @@
 -- An event that two alphabets have is shared by two parts.
-use Rattle.network_stages.proofs.Prelude.{ℕ, suc, ◌<◌, ◌≤◌, inl, inr, List, [], ◌∷◌, length, IsTrue, arith, cases_Bool, has, Part, part_at, alphabets_of, sharers}
-use Rattle.csp_tables.proofs.Runs.{sharers_own, sharers_other}
+use Rattle.network_stages.proofs.Prelude.{ℕ, suc, ◌<◌, ◌≤◌, inl, inr, List, [], ◌∷◌, length, IsTrue, arith, cases_Bool, has, Part, part_at, alphabets_of, sharers, sharers_own, sharers_other}
 
 record Owner (ps : List Part) (e : ℕ) : Type 0 where
   place : ℕ

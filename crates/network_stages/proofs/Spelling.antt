@@ -1,14 +1,6 @@
 -- The network that a program spells, or that it spells none.
-use Rattle.network_stages.proofs.Prelude.{◌≡◌, ◌+◌, ◌≤◌, List, Ok, inr, length, ap, ◌∙◌, sym, arith, Proc, Content, Component, Tree, leaves, Tells, Stop, AreSeatsOf, IsSpelled, Network, tree_at, tree_in, HasNoNetwork, SpellsNone}
-use Rattle.csp_text.specs.declared.script.Script.{Script}
-use Rattle.network_layout.specs.Lays.{AreSeats}
-use Rattle.network_trees.specs.NetworkOf.{network_of}
-use Rattle.network_trees.proofs.InOrder.{network_is_tree}
-use Rattle.report.specs.declared.answer.Answer.{Answer}
-use Rattle.report.specs.declared.answer.Side.{Side}
+use Rattle.network_stages.proofs.Prelude.{◌≡◌, ◌+◌, ◌≤◌, List, Ok, inr, length, ap, ◌∙◌, sym, arith, Proc, Content, Component, Tree, leaves, Tells, Stop, AreSeatsOf, IsSpelled, Network, tree_at, tree_in, HasNoNetwork, SpellsNone, Script, AreSeats, network_of, network_is_tree, Answer, Side, IsProgram, MOST_COMPONENTS}
 use Rattle.csp_base.specs.declared.stop.Stop.TheVariants as stop
-use Rattle.script_names.specs.Program.{IsProgram}
-use Rattle.dl_limits.specs.declared.TheConstants.{MOST_COMPONENTS}
 
 tree_is : (p : Content) (tree : Tree Proc) → network_of p ≡ Ok tree → tree_at p ≡ tree
 unfolding tree_at

@@ -1,8 +1,6 @@
 -- Tables of components, one after another.
-use Rattle.network_stages.proofs.Prelude.{◌≡◌, ℕ, zero, suc, ◌+◌, ◌<◌, ◌≤◌, ◌-◌, List, [], ◌∷◌, ◌++◌, length, take, get_or, slice_get, Some, Result, Ok, Err, IfErr, refl, sym, ap, subst, ◌∙◌, add-one, arith, inr, take-suc, none-some, same_Some, slice_get-get_or, length_push, take_all, Proc, Content, Component, IsLocalTable, Room, LocalTable, HasFault, TellsHere, TellsRound, at_component, HaveNoTables, AreTablesOf, AreTablesWithin, HasTable, IsTableWithin, room_after, room_left, whole_room, ComponentTable, Tells, Stop, Refusal}
-use Rattle.local_tables.specs.declared.fault.Unexplored.{Unexplored}
-use Rattle.local_tables.specs.declared.fault.Unexplored.TheVariants as unexplored
-use Rattle.dl_limits.specs.declared.TheConstants.{MOST_COMPONENTS, MOST_NODES, MOST_STEPS}
+use Rattle.network_stages.proofs.Prelude.{◌≡◌, ℕ, zero, suc, ◌+◌, ◌<◌, ◌≤◌, ◌-◌, List, [], ◌∷◌, ◌++◌, length, take, get_or, slice_get, Some, Result, Ok, Err, IfErr, refl, sym, ap, subst, ◌∙◌, add-one, arith, inr, take-suc, none-some, same_Some, slice_get-get_or, length_push, take_all, Proc, Content, Component, IsLocalTable, Room, LocalTable, HasFault, TellsRound, at_component, HaveNoTables, AreTablesOf, AreTablesWithin, HasTable, IsTableWithin, room_after, room_left, whole_room, ComponentTable, Tells, Stop, Refusal, ComponentFault, MOST_COMPONENTS, MOST_NODES, MOST_STEPS}
+use Rattle.csp_base.specs.declared.stop.Stop.TheVariants as stop
 
 module _ (p : Content) where
   one_more : (room : Room) (cs : List (Component Proc)) (ts : List ComponentTable) (c : Component Proc) (t : ComponentTable) → AreTablesWithin p room cs ts
@@ -39,11 +37,11 @@ module _ (p : Content) where
       subst (λ cs. AreTablesOf p cs (made ++ t ∷ [])) grown (one_more whole_room (take i seats) made c t so_far (subst (λ r. IsTableWithin p r c t) left one))
 
   -- a fault is that of the first component that has one
-  pub first_fault : (seats : List (Component Proc)) (made : List ComponentTable) (i first : ℕ) (c : Component Proc) (room : Room) (u : Unexplored) (told : Stop Refusal) → i < length seats
-      → c ≡ get_or seats i c → AreTablesOf p (take i seats) made → room ≡ room_left whole_room made → TellsHere p room c u → told ≡ at_component (first + i) u
+  pub first_fault : (seats : List (Component Proc)) (made : List ComponentTable) (i first : ℕ) (c : Component Proc) (room : Room) (u : Stop ComponentFault) (told : Stop Refusal) → i < length seats
+      → c ≡ get_or seats i c → AreTablesOf p (take i seats) made → room ≡ room_left whole_room made → Tells (λ f. HasFault p f room c) u → told ≡ at_component (first + i) u
       → Tells (HaveNoTables p first seats) told
-  first_fault seats made i first c room unexplored.NoMemory told within is so_far left has tells = subst (Tells (HaveNoTables p first seats)) (sym tells) tt
-  first_fault seats made i first c room (unexplored.Refused f) told within is so_far left has tells =
+  first_fault seats made i first c room stop.NoMemory told within is so_far left has tells = subst (Tells (HaveNoTables p first seats)) (sym tells) tt
+  first_fault seats made i first c room (stop.Told f) told within is so_far left has tells =
       let at : slice_get seats i ≡ Some c = slice_get-get_or seats i c within ∙ ap Some (sym is) in
       subst (Tells (HaveNoTables p first seats)) (sym tells)
       (i, f, record { tables = made; earlier = so_far; component = c; at = at; has = subst (λ r. HasFault p f r c) left has }, refl)
@@ -98,11 +96,11 @@ module _ (p : Content) (seats : List (Component Proc)) where
 
 module _ (p : Content) where
   -- a component whose table goes round
-  goes_round : (room : Room) (c : Component Proc) (made : LocalTable) (f : Unexplored) → IsLocalTable p c room made → TellsRound made f → TellsHere p room c f
-  goes_round room c made unexplored.NoMemory table round = tt
-  goes_round room c made (unexplored.Refused f) table round = inr (round.0, record { made = made; table = table; circle = round.1.0; round = round.1.1 })
+  goes_round : (room : Room) (c : Component Proc) (made : LocalTable) (f : Stop ComponentFault) → IsLocalTable p c room made → Tells (TellsRound made) f → Tells (λ f. HasFault p f room c) f
+  goes_round room c made stop.NoMemory table round = tt
+  goes_round room c made (stop.Told f) table round = inr (round.0, record { made = made; table = table; circle = round.1.0; round = round.1.1 })
 
-  pub round_there : {A : Type 0} (room : Room) (c d : Component Proc) (made : LocalTable) (result : Result A Unexplored) → d ≡ c → IsLocalTable p d room made → IfErr result (TellsRound made)
-      → IfErr result (TellsHere p room c)
+  pub round_there : {A : Type 0} (room : Room) (c d : Component Proc) (made : LocalTable) (result : Result A (Stop ComponentFault)) → d ≡ c → IsLocalTable p d room made → IfErr result (Tells (TellsRound made))
+      → IfErr result (Tells (λ f. HasFault p f room c))
   round_there room c d made (Ok a) same table round = tt
   round_there room c d made (Err f) same table round = goes_round room c made f (subst (λ (x : Component Proc). IsLocalTable p x room made) same table) round

@@ -1,8 +1,5 @@
 -- The first part of a network's shape that stops is the first component that does.
-use Rattle.network_stages.proofs.Prelude.{◌∙◌, ℕ, List, [], Result, Ok, Err, sym, subst, false≢true, Label, Component, ComponentStep, Tree, leaves, IsAcceptance, IsBusy, IsRun, acceptances_after, Part, part_at, Shape, IsPartOf, IsShapeOf, IsBusyShape, component_of, part_of, ProcessStep, Tells, Stop, HasEmpty, IsBusyPart, PartCanStop, StopsFirst, StopsFirstIn, Network, CanStop, StaysBusy}
-use Rattle.std.specs.Result.{OnOk}
-use Rattle.net_sound.proofs.ShapeOf.{shapes_are_busy}
-use Rattle.report.specs.declared.answer.Shortfall.{Shortfall}
+use Rattle.network_stages.proofs.Prelude.{◌∙◌, ℕ, List, [], Result, Ok, Err, sym, subst, false≢true, Label, Component, ComponentStep, Tree, leaves, IsAcceptance, IsBusy, IsRun, acceptances_after, Part, part_at, Shape, IsPartOf, IsShapeOf, IsBusyShape, component_of, part_of, ProcessStep, Tells, Stop, HasEmpty, IsBusyPart, PartCanStop, StopsFirst, StopsFirstIn, Network, CanStop, StaysBusy, OnOk, shapes_are_busy, Shortfall}
 use Rattle.csp_base.specs.declared.stop.Stop.TheVariants as stop
 
 module _ {T : Type 0} (Step : T → Label → T → Type 0) where

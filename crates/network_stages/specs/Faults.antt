@@ -5,9 +5,7 @@ use Rattle.csp_program.specs.declared.programs.Content.{Content}
 use Rattle.csp_tables.specs.Prelude.{Component, SilentStep, RawStep}
 use Rattle.digraph.specs.Circle.{IsCircle}
 use Rattle.local_tables.specs.Prelude.{LacksTable, IsLocalTable, Room}
-use Rattle.local_tables.specs.declared.fault.Unexplored.{Unexplored}
 use Rattle.local_tables.specs.declared.local_table.LocalTable.{LocalTable}
-use Rattle.local_tables.specs.declared.fault.Unexplored.TheVariants as unexplored
 use Rattle.network_stages.specs.Tables.{AreTablesOf, room_left, whole_room}
 use Rattle.network_stages.specs.declared.component_tables.ComponentTable.{ComponentTable}
 use Rattle.process_steps.specs.declared.component_fault.ComponentFault.{ComponentFault}
@@ -36,17 +34,11 @@ pub record GoesRound (p : Content) (room : Room) (c : Component Proc) : Type 0 w
 abbrev pub HasFault : Content → ComponentFault → Room → Component Proc → Type 0
 HasFault p f room c = LacksTable p c room f ⊎ ((f ≡ fault.Diverges) × GoesRound p room c)
 
--- What a fault tells of a component within a room. (No public contract cites the rest.)
-abbrev pub TellsHere : Content → Room → Component Proc → Unexplored → Type 0
-TellsHere p room c unexplored.NoMemory = Unit {0}
-TellsHere p room c (unexplored.Refused f) = HasFault p f room c
-
--- that its table goes round
-abbrev pub TellsRound : LocalTable → Unexplored → Type 0
-TellsRound made unexplored.NoMemory = Unit {0}
-TellsRound made (unexplored.Refused f) = (f ≡ fault.Diverges) × ((circle : List ℕ) × IsCircle (SilentStep (RawStep made.table)) circle)
+-- The component's table goes round. (No public contract cites the rest.)
+abbrev pub TellsRound : LocalTable → ComponentFault → Type 0
+TellsRound made f = (f ≡ fault.Diverges) × ((circle : List ℕ) × IsCircle (SilentStep (RawStep made.table)) circle)
 
 -- how a fault of the component with the number i is told
-abbrev pub at_component : ℕ → Unexplored → Stop Refusal
-at_component i unexplored.NoMemory = stop.NoMemory
-at_component i (unexplored.Refused f) = stop.Told (refusal.Component i f)
+abbrev pub at_component : ℕ → Stop ComponentFault → Stop Refusal
+at_component i stop.NoMemory = stop.NoMemory
+at_component i (stop.Told f) = stop.Told (refusal.Component i f)

@@ -1,6 +1,6 @@
 -- What is defined here, under one name for those who import it.
 pub use Rattle.network_stages.specs.Busy.{HasEmpty, IsBusyPart, PartCanStop, StopsFirst, StopsFirstIn}
-pub use Rattle.network_stages.specs.Faults.{HasFault, TellsHere, TellsRound, at_component}
+pub use Rattle.network_stages.specs.Faults.{HasFault, TellsRound, at_component}
 pub use Rattle.network_stages.specs.Laws.{FaultsExcludeAllTables}
 pub use Rattle.network_stages.specs.Networks.{AreSeatsOf, HasSilentBound, IsLive, IsNetworkOf, IsSpelled, Network, network_at, tree_in}
 unfoldable pub use Rattle.network_stages.specs.Networks.{tree_at}

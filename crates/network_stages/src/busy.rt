@@ -3,8 +3,7 @@
 ghost use Rattle.std.specs.Prelude.{◌≡◌, ◌<◌, ◌↔◌, ℕ, [], IfErr, IfNone, IfSome, IsTrue, OnOk, length, get_or};
 ghost use Rattle.csp_tables.specs.Prelude.{IsNonEmpty, IsWellFormed, IsBusyShape, node_at};
 ghost use Rattle.csp_base.specs.Stops.{Tells};
-ghost use Rattle.network_stages.specs.Busy.{HasEmpty, PartCanStop};
-ghost use Rattle.network_stages.specs.Stages.{CanStop, StaysBusy};
+ghost use Rattle.network_stages.specs.Prelude.{HasEmpty, PartCanStop, CanStop, StaysBusy};
 
 use crate::shapes::Shaped;
 use csp_base::{EventSet, Stop};

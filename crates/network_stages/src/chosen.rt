@@ -3,8 +3,7 @@
 ghost use Rattle.std.specs.Prelude.{◌≡◌, ◌≤◌, ◌<◌, ◌∷◌, [], IfErr, IfNone, IfOk, IfSome, Some, length, slice_get};
 ghost use Rattle.csp_tables.specs.Network.{leaves};
 ghost use Rattle.csp_base.specs.Stops.{Tells};
-ghost use Rattle.network_stages.specs.Sets.{ArePartsBy};
-ghost use Rattle.network_stages.specs.Stages.{HasNoPart};
+ghost use Rattle.network_stages.specs.Prelude.{ArePartsBy, HasNoPart};
 
 use crate::component_tables::tables_from;
 use crate::parts::part_of;
@@ -25,13 +24,12 @@ pub struct Chosen<'a> {
     seat: &'a Seat,
 }
 
-// By hand, so that a crate that ends one calls this and proves no end of its own.
 impl<'a> Drop for Chosen<'a> {
     fn drop(self) {
         let Chosen {
-            program: _program,
-            number: _number,
-            seat: _seat,
+            program,
+            number,
+            seat,
         } = self;
     }
 }

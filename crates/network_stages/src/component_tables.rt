@@ -5,20 +5,18 @@ ghost use Rattle.dl_limits.specs.declared.TheConstants.{MOST_COMPONENTS};
 ghost use Rattle.local_tables.specs.Component.{AreTermsOf};
 ghost use Rattle.net_sound.specs.Heights.{AreSilentHeights};
 ghost use Rattle.csp_base.specs.Stops.{Tells};
-ghost use Rattle.network_stages.specs.Faults.{TellsHere, TellsRound, at_component};
-ghost use Rattle.network_stages.specs.Stages.{HaveNoTables};
-ghost use Rattle.network_stages.specs.Tables.{AreTablesOf, IsTableWithin, room_after, whole_room};
+ghost use Rattle.network_stages.specs.Prelude.{HasFault, TellsRound, at_component, HaveNoTables, AreTablesOf, IsTableWithin, room_after, whole_room};
 
 use csp_base::{NoMemory, Stop};
 use csp_program::Program;
 use digraph::Heights;
 use dl_limits::{MOST_NODES, MOST_STEPS};
-use local_tables::{LocalTable, Room, Task, Terms, Unexplored, explore};
+use local_tables::{LocalTable, Room, Task, Terms, explore};
 use network_layout::Seat;
 use process_steps::ComponentFault;
 use report::Refusal;
 use std::alloc::Global;
-use tau_order::{HeightFault, heights};
+use tau_order::heights;
 
 /// The table of a component with its silent heights.
 pub struct ComponentTable {
@@ -28,13 +26,9 @@ pub struct ComponentTable {
     pub heights: Heights,
 }
 
-// By hand, so that a crate that ends one calls this and proves no end of its own.
 impl Drop for ComponentTable {
     fn drop(self) {
-        let ComponentTable {
-            local: _local,
-            heights: _heights,
-        } = self;
+        let ComponentTable { local, heights } = self;
     }
 }
 
@@ -55,17 +49,15 @@ fn after(room: Room, used: &Room) -> Room
 }
 
 // A table with its silent heights.
-fn with_heights(alloc: Global, local: LocalTable) -> Result<ComponentTable, Unexplored>
+fn with_heights(alloc: Global, local: LocalTable) -> Result<ComponentTable, Stop<ComponentFault>>
     ensures local { IfOk result (λ made. made.local ≡ local) }
     ensures heights { IfOk result (λ made. AreSilentHeights local.table made.heights) }
-    ensures fault { IfErr result (TellsRound local) }
+    ensures fault { IfErr result (Tells (TellsRound local)) }
 {
     match heights(alloc, &local.table) {
         Ok(heights) => Ok(ComponentTable { local, heights }),
-        Err(HeightFault::NoMemory) => Err(Unexplored::NoMemory),
-        Err(HeightFault::Diverges { circle: _circle }) => {
-            Err(Unexplored::Refused(ComponentFault::Diverges))
-        }
+        Err(Stop::NoMemory) => Err(Stop::NoMemory),
+        Err(Stop::Told(_circle)) => Err(Stop::Told(ComponentFault::Diverges)),
     }
 }
 
@@ -76,10 +68,10 @@ fn table_within(
     terms: &mut Terms,
     seat: &Seat,
     room: Room,
-) -> Result<ComponentTable, Unexplored>
+) -> Result<ComponentTable, Stop<ComponentFault>>
     requires kept { AreTermsOf program.now terms.old }
     ensures table { IfOk result (IsTableWithin program.now room seat.now) }
-    ensures fault { IfErr result (TellsHere program.now room seat.now) }
+    ensures fault { IfErr result (Tells (λ fault. HasFault program.now fault room seat.now)) }
     ensures terms { OnOk result (AreTermsOf program.now terms.new) }
 {
     let task = Task {
@@ -93,12 +85,12 @@ fn table_within(
 }
 
 // How it is told that the component with this number has no table.
-fn table_fault(component: u32, fault: Unexplored) -> Stop<Refusal>
+fn table_fault(component: u32, fault: Stop<ComponentFault>) -> Stop<Refusal>
     ensures { result ≡ at_component component fault }
 {
     match fault {
-        Unexplored::NoMemory => Stop::NoMemory,
-        Unexplored::Refused(fault) => Stop::Told(Refusal::Component { component, fault }),
+        Stop::NoMemory => Stop::NoMemory,
+        Stop::Told(fault) => Stop::Told(Refusal::Component { component, fault }),
     }
 }
 

@@ -3,9 +3,7 @@
 ghost use Rattle.std.specs.Prelude.{◌≡◌, ◌≤◌, ◌<◌, ◌++◌, ◌∷◌, [], IfErr, IfOk, OnOk, length};
 ghost use Rattle.dl_limits.specs.declared.TheConstants.{MOST_COMPONENTS};
 ghost use Rattle.csp_tables.specs.Prelude.{HasForm, HaveForm, ArePartsOf, IsPartOf};
-ghost use Rattle.network_stages.specs.Sets.{HasManySets, HaveFewSets};
-ghost use Rattle.network_stages.specs.Stages.{HasNoParts, HasParts, HaveNoParts};
-ghost use Rattle.network_stages.specs.Tables.{AreTablesOf, HasTable};
+ghost use Rattle.network_stages.specs.Prelude.{HasManySets, HaveFewSets, HasNoParts, HasParts, HaveNoParts, AreTablesOf, HasTable};
 ghost use Rattle.process_steps.specs.Prelude.{ProcessStep};
 ghost use Rattle.process_steps.specs.declared.component_fault.ComponentFault.TheVariants.{SubsetLimit};
 ghost use Rattle.csp_base.specs.Stops.{Tells};
@@ -18,7 +16,7 @@ use csp_base::{NoMemory, Stop};
 use csp_program::Program;
 use csp_tables::Part;
 use network_layout::Seat;
-use normal_form::{SetFault, normalise};
+use normal_form::normalise;
 use process_steps::ComponentFault;
 use report::Refusal;
 use std::alloc::Global;
@@ -30,13 +28,9 @@ pub struct Parted<'a> {
     parts: Vec<Part>,
 }
 
-// By hand, so that a crate that ends one calls this and proves no end of its own.
 impl<'a> Drop for Parted<'a> {
     fn drop(self) {
-        let Parted {
-            network: _network,
-            parts: _parts,
-        } = self;
+        let Parted { network, parts } = self;
     }
 }
 
@@ -109,8 +103,8 @@ pub(crate) fn part_of(
     let alphabet = seat.alphabet().try_clone(alloc)?;
     match normalise(alloc, &table.local.table, &table.heights) {
         Ok(normal) => Ok(Part::new(alphabet, normal)),
-        Err(SetFault::NoMemory) => Err(Stop::NoMemory),
-        Err(SetFault::SubsetLimit) => Err(Stop::Told(Refusal::Component {
+        Err(Stop::NoMemory) => Err(Stop::NoMemory),
+        Err(Stop::Told(_limit)) => Err(Stop::Told(Refusal::Component {
             component: number,
             fault: ComponentFault::SubsetLimit,
         })),

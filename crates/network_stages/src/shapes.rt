@@ -4,10 +4,7 @@ ghost use Rattle.std.specs.Prelude.{◌≡◌, ◌≤◌, IfErr, IfOk, length};
 ghost use Rattle.dl_limits.specs.declared.TheConstants.{MOST_COMPONENTS};
 ghost use Rattle.csp_tables.specs.Prelude.{TripleDisjoint, alphabets_of, IsLinked};
 ghost use Rattle.csp_base.specs.Stops.{Tells};
-ghost use Rattle.network_stages.specs.Networks.{IsSpelled};
-ghost use Rattle.network_stages.specs.Rows.{AreLinksBefore, IsVocabulary};
-ghost use Rattle.network_stages.specs.Shapes.{IsApart};
-ghost use Rattle.network_stages.specs.Stages.{ShareEvent};
+ghost use Rattle.network_stages.specs.Prelude.{IsSpelled, AreLinksBefore, IsVocabulary, IsApart, ShareEvent};
 
 use crate::links::links_of_rows;
 use crate::parts::Parted;
@@ -26,13 +23,9 @@ pub struct Shaped<'a> {
     shape: Shape,
 }
 
-// By hand, so that a crate that ends one calls this and proves no end of its own.
 impl<'a> Drop for Shaped<'a> {
     fn drop(self) {
-        let Shaped {
-            network: _network,
-            shape: _shape,
-        } = self;
+        let Shaped { network, shape } = self;
     }
 }
 

@@ -4,14 +4,13 @@ ghost use Rattle.std.specs.Prelude.{◌≡◌, ◌≤◌, IfErr, IfNone, IfOk, I
 ghost use Rattle.dl_limits.specs.declared.TheConstants.{MOST_COMPONENTS};
 ghost use Rattle.csp_tables.specs.Network.{leaves};
 ghost use Rattle.csp_base.specs.Stops.{Tells};
-ghost use Rattle.network_stages.specs.Networks.{IsNetworkOf, IsSpelled, network_at};
-ghost use Rattle.network_stages.specs.Stages.{HasNoNetwork, SpellsNone};
+ghost use Rattle.network_stages.specs.Prelude.{IsNetworkOf, IsSpelled, network_at, HasNoNetwork, SpellsNone};
 ghost use Rattle.script_sizes.specs.Size.{AreSmall};
 
 use containers::{Boxed, Key};
 use csp_base::Stop;
 use csp_program::Program;
-use csp_resolve::{Unresolved, resolve};
+use csp_resolve::resolve;
 use csp_text::Script;
 use network_layout::{Layout, Seat, layout};
 use report::{Answer, Refusal, Side, TextFault, Verdict};
@@ -24,13 +23,9 @@ pub struct Spelled {
     layout: Layout,
 }
 
-// By hand, so that a crate that ends one calls this and proves no end of its own.
 impl Drop for Spelled {
     fn drop(self) {
-        let Spelled {
-            program: _program,
-            layout: _layout,
-        } = self;
+        let Spelled { program, layout } = self;
     }
 }
 
@@ -120,9 +115,9 @@ pub fn spell_network(
 {
     match resolve(alloc, key, script) {
         Ok(program) => lay_out(alloc, side, program),
-        Err(Unresolved::Refused(fault)) => {
+        Err(Stop::Told(fault)) => {
             Err(Stop::Told(Answer::NoProgram(side, TextFault::Unresolved(fault))))
         }
-        Err(Unresolved::NoMemory) => Err(Stop::NoMemory),
+        Err(Stop::NoMemory) => Err(Stop::NoMemory),
     }
 }

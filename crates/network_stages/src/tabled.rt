@@ -2,9 +2,7 @@
 
 ghost use Rattle.std.specs.Prelude.{◌≡◌, ◌≤◌, ◌+◌, IfErr, IfOk, length};
 ghost use Rattle.dl_limits.specs.declared.TheConstants.{MOST_COMPONENTS};
-ghost use Rattle.network_stages.specs.Networks.{HasSilentBound};
-ghost use Rattle.network_stages.specs.Stages.{HasNoTables, HasTables, HaveNoTables};
-ghost use Rattle.network_stages.specs.Tables.{AreTablesOf};
+ghost use Rattle.network_stages.specs.Prelude.{HasSilentBound, HasNoTables, HasTables, HaveNoTables, AreTablesOf};
 ghost use Rattle.csp_base.specs.Stops.{Tells};
 
 use crate::bound::silent_bound;
@@ -23,13 +21,9 @@ pub struct Tabled<'a> {
     tables: Vec<ComponentTable>,
 }
 
-// By hand, so that a crate that ends one calls this and proves no end of its own.
 impl<'a> Drop for Tabled<'a> {
     fn drop(self) {
-        let Tabled {
-            network: _network,
-            tables: _tables,
-        } = self;
+        let Tabled { network, tables } = self;
     }
 }
 

@@ -1,23 +1,7 @@
 -- What a walk makes is well nested, and there are at most 512 components.
-use Rattle.std.proofs.Common.{◌≡◌, ℕ, zero, suc, ◌+◌, ◌<◌, ◌≤◌, Bool, true, false, if◌then◌else◌, Some, None, Ok, Err, List, [], ◌∷◌, ◌++◌, length, refl, subst, sym, ◌∙◌, arith}
-use Rattle.std.specs.Prelude.{IfOk, Option, nat_lt, slice_get}
-use Rattle.csp_base.proofs.Standard.{ltb-true, length-append}
-use Rattle.csp_program.specs.Prelude.{Outcome, given_by, proc_with, Env}
-use Rattle.csp_program.specs.declared.expressions.Expr.{Expr}
-use Rattle.csp_program.specs.declared.networks.Net.{Net}
-use Rattle.csp_program.specs.declared.networks.Net.TheOpen.{Net-F}
-use Rattle.csp_program.specs.declared.networks.Net.TheViews.{out-Net}
-use Rattle.csp_program.specs.declared.processes.Proc.{Proc}
-use Rattle.csp_program.specs.declared.programs.Content.{Content}
-use Rattle.csp_tables.specs.Prelude.{Component, Tree, Operands, leaves, leaves_of_operands, leaf, parallel, none, operand, WellNested, OperandsWellNested}
-use Rattle.network_trees.specs.Joint.{joint, odd_event}
-use Rattle.network_trees.specs.NetworkOf.{Walked, agreed, all_events, arguments_under, events_under, next_component, each_operand, goes_on, nested, network_called, network_of, operand_first, side_by_side, some_components, two_operands, tree_within, truth_under, walked_leaf, walked_node, with_value}
+use Rattle.network_trees.proofs.Prelude.{◌≡◌, ℕ, zero, suc, ◌+◌, ◌<◌, ◌≤◌, Bool, true, false, if◌then◌else◌, Some, None, Ok, Err, List, [], ◌∷◌, ◌++◌, length, refl, subst, sym, ◌∙◌, arith, IfOk, Option, nat_lt, slice_get, ltb-true, length-append, Outcome, given_by, proc_with, Env, Expr, Net, Net-F, out-Net, Proc, Content, Component, Tree, Operands, leaves, leaves_of_operands, leaf, parallel, none, operand, WellNested, OperandsWellNested, joint, odd_event, Walked, agreed, all_events, arguments_under, events_under, next_component, each_operand, goes_on, nested, network_called, network_of, operand_first, side_by_side, some_components, two_operands, tree_within, truth_under, walked_leaf, walked_node, with_value, Atom, One, set_under, MOST_COMPONENTS}
 use Rattle.network_trees.proofs.JointLemmas.{has-joint, same_members}
-use Rattle.csp_atoms.specs.declared.atom.Atom.{Atom}
-use Rattle.csp_atoms.specs.declared.value.Value.TheVariants.{One}
-use Rattle.process_steps.specs.Prefix.{set_under}
 use Rattle.network_trees.specs.declared.fault.LayoutFault.TheVariants as fault
-use Rattle.dl_limits.specs.declared.TheConstants.{MOST_COMPONENTS}
 
 -- ---- what holds of what a step makes
 

@@ -1,12 +1,5 @@
 -- The alphabets of components together.
-use Rattle.std.proofs.Common.{◌≡◌, ℕ, false, not, ◌||◌, ◌&&◌, Some, None, List, [], ◌∷◌, refl, ap, sym, ◌∙◌, arith}
-use Rattle.std.proofs.lemmas.Bool.Decides.{nat_tests}
-use Rattle.std.proofs.lemmas.Grind.{common_steps}
-use Rattle.std.specs.Prelude.{Option}
-use Rattle.csp_base.specs.Events.{has, diff_of}
-use Rattle.csp_base.proofs.SetLaws.{has-diff_of, has-union_of}
-use Rattle.csp_tables.specs.Prelude.{in_some_component, Component}
-use Rattle.network_trees.specs.Joint.{first_event, joint, lesser, odd_event}
+use Rattle.network_trees.proofs.Prelude.{◌≡◌, ℕ, false, not, ◌||◌, ◌&&◌, Some, None, List, [], ◌∷◌, refl, ap, sym, ◌∙◌, arith, nat_tests, common_steps, Option, has, diff_of, has-diff_of, has-union_of, in_some_component, Component, first_event, joint, lesser, odd_event}
 
 pub has-joint : {T : Type 0} (cs : List (Component T)) (e : ℕ) → has (joint cs) e ≡ in_some_component cs e
 has-joint [] e = refl

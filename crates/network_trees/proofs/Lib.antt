@@ -1,2 +1,3 @@
 pub mod InOrder
 pub mod JointLemmas
+pub mod Prelude

@@ -27,15 +27,14 @@ pub enum LayoutFault {
     NetworkDepth,
 }
 
-// By hand, so that a crate that ends one calls this and proves no end of its own.
 impl Drop for LayoutFault {
     fn drop(self) {
         match self {
-            LayoutFault::Value { kind: _kind } => {}
+            LayoutFault::Value { kind } => {}
             LayoutFault::BadNesting {
-                first: _first,
-                count: _count,
-                event: _event,
+                first,
+                count,
+                event,
             } => {}
             LayoutFault::EmptyNetwork => {}
             LayoutFault::ComponentLimit => {}

@@ -1,8 +1,5 @@
 -- Components with their tables, one after another, as a walk by numbers sees them.
-use Rattle.network_walks.proofs.Prelude.{◌≡◌, ℕ, zero, suc, ◌+◌, ◌<◌, ◌≤◌, List, [], ◌∷◌, ◌++◌, length, drop, get_or, refl, sym, ap, ap₂, ◌∙◌, append_assoc, arith, append-nil, drop_all, Proc, AreTargets, visible, Component, as_many, AreTablesOf, AreTablesWithin, HasTable, room_after, whole_room, ComponentTable, Numbered, OwnsItsSteps, ProcessStep, numbered, one_numbered}
-use Rattle.csp_base.proofs.Lists.{drop_read}
-use Rattle.csp_program.specs.declared.programs.Content.{Content}
-use Rattle.local_tables.specs.Room.{Room}
+use Rattle.network_walks.proofs.Prelude.{◌≡◌, ℕ, zero, suc, ◌+◌, ◌<◌, ◌≤◌, List, [], ◌∷◌, ◌++◌, length, drop, get_or, refl, sym, ap, ap₂, ◌∙◌, append_assoc, arith, append-nil, drop_all, Proc, AreTargets, visible, Component, as_many, AreTablesOf, AreTablesWithin, HasTable, room_after, whole_room, ComponentTable, Numbered, OwnsItsSteps, ProcessStep, numbered, one_numbered, drop_read, Content, Room}
 use Rattle.network_walks.proofs.Ordered.{AllInOrder}
 use Rattle.network_walks.proofs.Rows.{Row, components, numbered_rows}
 

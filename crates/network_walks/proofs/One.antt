@@ -1,10 +1,7 @@
 -- A network has at most one walk for a seed and a number of steps: the options are one list, each component goes to one target, and so a move leads to one network.
-use Rattle.network_walks.proofs.Prelude.{◌≡◌, ◌<◌, ◌⊎◌, ◌↔◌, inl, inr, ℕ, zero, suc, ◌+◌, Bool, true, nat_eq, IsTrue, MatchBool, Ok, Some, List, [], ◌∷◌, length, slice_get, refl, sym, ap, ap₂, subst, ◌∙◌, arith, MatchBool-at_false, MatchBool-at_true, cases_Bool, none-some, same_Some, Label, Component, NetworkStep, Tree, leaves, IsDrawn, label, takes_part, first_draw, next_number, place_among, AreOptions, IsBefore, Chooses, HasNone, IsWalk, IsWalkOf, Move, AreDrawn, DrawsTarget, AreOneWalk, TheWalkIsOne, Goes, Has}
-use Rattle.csp_base.proofs.Booleans.{same_tests}
-use Rattle.csp_base.specs.Lists.{StandsIn}
+use Rattle.network_walks.proofs.Prelude.{◌≡◌, ◌<◌, ◌⊎◌, ◌↔◌, inl, inr, ℕ, zero, suc, ◌+◌, Bool, true, nat_eq, IsTrue, MatchBool, Ok, Some, List, [], ◌∷◌, length, slice_get, refl, sym, ap, ap₂, subst, ◌∙◌, arith, MatchBool-at_false, MatchBool-at_true, cases_Bool, none-some, same_Some, Label, Component, NetworkStep, Tree, leaves, IsDrawn, label, takes_part, first_draw, next_number, place_among, AreOptions, IsBefore, Chooses, HasNone, IsWalk, IsWalkOf, Move, AreDrawn, DrawsTarget, AreOneWalk, TheWalkIsOne, Goes, Has, same_tests, StandsIn, steps_are_told}
 use Rattle.numbered_walks.specs.declared.moves.Move.TheVariants as move
 use Rattle.network_walks.proofs.Runs.{step_of}
-use Rattle.net_sound.proofs.Shape.{steps_are_told}
 
 -- ---- the options are one list
 not_both : (m n : Move) → IsBefore m n → IsBefore n m → ⊥

@@ -1,7 +1,5 @@
 -- Targets by the numbers of terms and the terms themselves: where a table has the targets in order, what is drawn by number is drawn by term.
-use Rattle.network_walks.proofs.Prelude.{◌≡◌, ℕ, zero, suc, ◌+◌, inl, inr, Bool, true, nat_eq, MatchBool, List, [], ◌∷◌, length, map, slice_get, Some, refl, sym, ap, subst, ◌∙◌, arith, MatchBool-at_false, MatchBool-at_true, cases_Bool, eqb-true, length-map, none-some, same_Some, slice_get-map, has, Label, Component, targets_in, match_false, match_true, IsDrawn, label, takes_part, AllDraw, next_number, place_among, Move, AreDrawn, DrawsTarget}
-use Rattle.csp_base.specs.Standard.{option_map}
-use Rattle.local_tables.specs.Component.{IsInside}
+use Rattle.network_walks.proofs.Prelude.{◌≡◌, ℕ, zero, suc, ◌+◌, inl, inr, Bool, true, nat_eq, MatchBool, List, [], ◌∷◌, length, map, slice_get, Some, refl, sym, ap, subst, ◌∙◌, arith, MatchBool-at_false, MatchBool-at_true, cases_Bool, eqb-true, length-map, none-some, same_Some, slice_get-map, has, Label, Component, targets_in, match_false, match_true, IsDrawn, label, takes_part, AllDraw, next_number, place_among, Move, AreDrawn, DrawsTarget, option_map, IsInside}
 use Rattle.numbered_walks.specs.declared.moves.Move.TheVariants as move
 use Rattle.network_walks.proofs.Rows.{Row, Stand, numbered_rows}
 

@@ -1,6 +1,5 @@
 -- Components, their terms and their tables, one after another; and where components stand, by their terms and by the numbers of these.
-use Rattle.network_walks.proofs.Prelude.{◌≡◌, ℕ, zero, suc, ◌<◌, ◌||◌, Bool, inl, inr, MatchBool, List, [], ◌∷◌, length, map, set, slice_get, Some, refl, sym, ap, ap₂, subst, ◌∙◌, arith, MatchBool-at_false, MatchBool-at_true, cases_Bool, same_Some, has, AllTakePart, in_some_component, Label, visible, Component, ComponentStep, IsTableOf, RawStep, RawTable, standing_at, match_false, match_true, step_alphabet, AllDo, Numbered, has_owner}
-use Rattle.net_sound.proofs.Numbered.{stands}
+use Rattle.network_walks.proofs.Prelude.{◌≡◌, ℕ, zero, suc, ◌<◌, ◌||◌, Bool, inl, inr, MatchBool, List, [], ◌∷◌, length, map, set, slice_get, Some, refl, sym, ap, ap₂, subst, ◌∙◌, arith, MatchBool-at_false, MatchBool-at_true, cases_Bool, same_Some, has, AllTakePart, in_some_component, Label, visible, Component, ComponentStep, IsTableOf, RawStep, RawTable, standing_at, match_false, match_true, step_alphabet, AllDo, Numbered, has_owner, stands}
 
 -- a component with its table
 pub record Row {T : Type 0} (Step : T → Label → T → Type 0) : Type 0 where

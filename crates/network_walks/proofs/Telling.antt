@@ -1,10 +1,6 @@
 -- The walk that is made by the tables of a network's components is a walk of the network, and told as one.
-use Rattle.network_walks.proofs.Prelude.{◌≡◌, ℕ, Bool, List, Result, Ok, Err, sym, subst, ◌∙◌, Proc, AreTargets, Component, leaves, IsSpelled, Network, HasTables, whole_room, ComponentTable, Numbered, first_terms, IsWalkOf, Move, ProcessStep, numbered, IsNetworkWalk, TellsWalk, walk_verdict}
-use Rattle.network_trees.proofs.InOrder.{network_is_tree}
+use Rattle.network_walks.proofs.Prelude.{◌≡◌, ℕ, Bool, List, Result, Ok, Err, sym, subst, ◌∙◌, Proc, AreTargets, Component, leaves, IsSpelled, Network, HasTables, whole_room, ComponentTable, Numbered, first_terms, IsWalkOf, Move, ProcessStep, numbered, IsNetworkWalk, TellsWalk, walk_verdict, network_is_tree, Answers, Halt, Done}
 use Rattle.numbered_walks.specs.Prelude.{Goes, Has}
-use Rattle.report.specs.Prelude.{Answers}
-use Rattle.report.specs.declared.stop.Halt.{Halt}
-use Rattle.report.specs.declared.answer.Done.{Done}
 use Rattle.report.specs.declared.stop.Halt.TheVariants as halt
 use Rattle.network_walks.proofs.Carried.{carried, stand_first}
 use Rattle.network_walks.proofs.Made.{rows_are_numbered, rows_have_components, rows_in_order, rows_of}

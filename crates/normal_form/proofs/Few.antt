@@ -1,6 +1,5 @@
 -- A node has at most as many acceptances as there are terms: each is what one term offers, and no two are equal.
-use Rattle.normal_form.proofs.Prelude.{◌≡◌, ℕ, suc, ◌<◌, ◌≤◌, ◌||◌, ◌↔◌, inl, inr, Bool, true, false, nat_eq, IsTrue, List, [], ◌∷◌, ◌++◌, length, get_or, refl, sym, subst, ◌∙◌, arith, All, AllByRecursion, IsDistinct, IsStrictlyIncreasing, IsStrictlySortedBy, slice_cmp, nat_cmp, is_member, Less, cases_Bool, cases_lt, or_cases, eqb-true, false≢true, nat_eq_equiv, length_push, list_any-append, IsDistinct-push, length-le_from_distinct_below, get_or-eq_default, has, rises_from_increasing, same_members, Label, silent, visible, Path, Offers, IsTrace, IsAcceptance, RawTable, RawStep, HasRawForm, Node, node_at, IsRun, IsReached, HasAcceptances, IsRisingNode, same_tests}
-use Rattle.csp_tables.proofs.Listed.{silent_listed, step_listed}
+use Rattle.normal_form.proofs.Prelude.{◌≡◌, ℕ, suc, ◌<◌, ◌≤◌, ◌||◌, ◌↔◌, inl, inr, Bool, true, false, nat_eq, IsTrue, List, [], ◌∷◌, ◌++◌, length, get_or, refl, sym, subst, ◌∙◌, arith, All, AllByRecursion, IsDistinct, IsStrictlyIncreasing, IsStrictlySortedBy, slice_cmp, nat_cmp, is_member, Less, cases_Bool, cases_lt, or_cases, eqb-true, false≢true, nat_eq_equiv, length_push, list_any-append, IsDistinct-push, length-le_from_distinct_below, get_or-eq_default, has, rises_from_increasing, same_members, Label, silent, visible, Path, Offers, IsTrace, IsAcceptance, RawTable, RawStep, HasRawForm, Node, node_at, IsRun, IsReached, HasAcceptances, IsRisingNode, same_tests, silent_listed, step_listed}
 use Rattle.normal_form.proofs.SortedSets.{not_below_both}
 
 -- runs stay among the terms

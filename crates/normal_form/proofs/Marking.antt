@@ -1,8 +1,5 @@
 -- Acceptances numbered in the order in which they are first seen.
-use Rattle.normal_form.proofs.Prelude.{◌≡◌, ℕ, ◌<◌, Bool, true, nat_eq, List, [], ◌∷◌, length, get_or, refl, ap, ◌∙◌, and_from, eqb-true, get_or_default, Node, node_at, IsNumbered, keys_equal, numbers_equal, AreMarksOf}
-use Rattle.std.specs.Cmp.Lexicographic.{pointwise}
-use Rattle.containers.specs.Exact.{IsExact-pointwise}
-use Rattle.csp_base.proofs.Lists.{same_list}
+use Rattle.normal_form.proofs.Prelude.{◌≡◌, ℕ, ◌<◌, Bool, true, nat_eq, List, [], ◌∷◌, length, get_or, refl, ap, ◌∙◌, and_from, eqb-true, get_or_default, Node, node_at, IsNumbered, keys_equal, numbers_equal, AreMarksOf, pointwise, IsExact-pointwise, same_list}
 
 -- equality of lists of sets, as a test
 abbrev pub same_sets : List (List ℕ) → List (List ℕ) → Bool

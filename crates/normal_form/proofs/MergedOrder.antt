@@ -1,9 +1,8 @@
 -- A merged table is numbered breadth first where the table is.
-use Rattle.normal_form.proofs.Prelude.{◌≡◌, ℕ, zero, suc, ◌<◌, ◌≤◌, inl, inr, true, List, [], ◌∷◌, ◌++◌, length, take, sym, ap, ◌∙◌, subst, arith, slice_index, get_or-take, length-take-le, take-suc, take-length, Node, node_at, is_possible, target, node_after, targets_of_steps, targets_of_nodes, MeetsInOrder, MeetsUpTo, IsBreadthFirst, HaveEqualFuture, AreFutureClasses, NodesRise, same_events, future_after, target_below, renamed, AreMerged}
+use Rattle.normal_form.proofs.Prelude.{◌≡◌, ℕ, zero, suc, ◌<◌, ◌≤◌, inl, inr, true, List, [], ◌∷◌, ◌++◌, length, take, sym, ap, ◌∙◌, subst, arith, slice_index, get_or-take, length-take-le, take-suc, take-length, Node, node_at, is_possible, target, node_after, targets_of_steps, targets_of_nodes, MeetsInOrder, MeetsUpTo, IsBreadthFirst, HaveEqualFuture, AreFutureClasses, NodesRise, same_events, future_after, target_below, renamed, AreMerged, meets_then}
 use Rattle.normal_form.proofs.ClassOrder.{first_of, is_first, class_seen, seen_within, seen_most, step_at, seen_at}
 use Rattle.normal_form.proofs.Meeting.{meets_more, MetBetween, meets_cut, meets_part, more_targets, EachTarget, each_target, target_is, nodes_met}
 use Rattle.normal_form.proofs.MergedRuns.{in_classes}
-use Rattle.determinise.proofs.MoreSets.{meets_then}
 
 module _ (nodes : List Node) (marks classes : List ℕ) (count : ℕ) (merged : List Node) (rise : NodesRise nodes) (futures : AreFutureClasses nodes marks classes count) (are : AreMerged nodes classes count merged) where
   abbrev seen : ℕ → ℕ

@@ -1,7 +1,5 @@
 -- The determinised table merged by equal future is the normal table.
-use Rattle.normal_form.proofs.Prelude.{◌≡◌, ◌↔◌, ℕ, ◌+◌, ◌<◌, ◌≤◌, inl, inr, List, [], ◌∷◌, length, get_or, refl, sym, ap, ◌∙◌, subst, arith, slice_index, map, All, IsStrictlyIncreasing, cases_lt, All-from_get_or, get_or-eq_default, rises_from_increasing, Label, IsTrace, IsAcceptance, HaveSameFuture, Node, node_at, is_run, end_of, acceptances_after, IsRun, IsReached, IsListed, IsNormalTable, HasAcceptances, IsRisingNode, OffersAcceptance, IsBreadthFirst, targets_of_nodes, RawTable, RawStep, HasRawForm, NodesRise, StepsRise, renamed, IsMergedTable}
-use Rattle.determinise.specs.Determinised.{Determinised, FollowsTraces}
-use Rattle.equal_futures.proofs.Growing.{few_seen}
+use Rattle.normal_form.proofs.Prelude.{◌≡◌, ◌↔◌, ℕ, ◌+◌, ◌<◌, ◌≤◌, inl, inr, List, [], ◌∷◌, length, get_or, refl, sym, ap, ◌∙◌, subst, arith, slice_index, map, All, IsStrictlyIncreasing, cases_lt, All-from_get_or, get_or-eq_default, rises_from_increasing, Label, IsTrace, IsAcceptance, HaveSameFuture, Node, node_at, is_run, end_of, acceptances_after, IsRun, IsReached, IsListed, IsNormalTable, HasAcceptances, IsRisingNode, OffersAcceptance, IsBreadthFirst, targets_of_nodes, RawTable, RawStep, HasRawForm, NodesRise, StepsRise, renamed, IsMergedTable, Determinised, FollowsTraces, few_seen, MOST_SETS}
 use Rattle.normal_form.proofs.ClassOrder.{FirstOf, first_of, is_first, seen_most, step_at}
 use Rattle.normal_form.proofs.Meeting.{meets_more, nodes_met, rise_from}
 use Rattle.normal_form.proofs.MergedRuns.{in_classes, runs_merged, ends_merged, accept_merged, end_below}
@@ -9,7 +7,6 @@ use Rattle.normal_form.proofs.MergedOrder.{breadth_merged}
 use Rattle.normal_form.proofs.SameFuture.{same_from_equal, equal_from_same}
 use Rattle.normal_form.proofs.Reaching.{reached}
 use Rattle.normal_form.proofs.Few.{few_acceptances}
-use Rattle.dl_limits.specs.declared.TheConstants.{MOST_SETS}
 
 abbrev none : Node
 none = record { next = []; accept = [] }

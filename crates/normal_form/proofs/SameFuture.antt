@@ -1,7 +1,5 @@
 -- Nodes of a determinised table have equal future exactly where the traces that lead to them have the same future.
-use Rattle.normal_form.proofs.Prelude.{◌≡◌, ◌↔◌, ℕ, ◌<◌, Bool, true, false, ◌&&◌, List, [], ◌∷◌, ◌++◌, length, get_or, refl, sym, ap, ◌∙◌, subst, and_parts, has, Label, IsTrace, IsAcceptance, HaveSameFuture, Node, node_at, is_possible, node_after, is_run, end_of, acceptances_after, IsRun, HasAcceptances, IsRisingNode, Member, member_at, stands, Stands, HaveEqualFuture, NodesRise, target_below, AreMarksOf, same_tests}
-use Rattle.std.specs.List.Sorted.{IsStrictlyIncreasing}
-use Rattle.csp_base.proofs.SetLaws.{same_set}
+use Rattle.normal_form.proofs.Prelude.{◌≡◌, ◌↔◌, ℕ, ◌<◌, Bool, true, false, ◌&&◌, List, [], ◌∷◌, ◌++◌, length, get_or, refl, sym, ap, ◌∙◌, subst, and_parts, has, Label, IsTrace, IsAcceptance, HaveSameFuture, Node, node_at, is_possible, node_after, is_run, end_of, acceptances_after, IsRun, HasAcceptances, IsRisingNode, Member, member_at, stands, Stands, HaveEqualFuture, NodesRise, target_below, AreMarksOf, same_tests, IsStrictlyIncreasing, same_set}
 use Rattle.normal_form.proofs.SortedSets.{same_sorted}
 
 -- ---- runs one after another

@@ -1,6 +1,5 @@
 -- Walks over the members of a set.
-use Rattle.std.proofs.Common.{◌≡◌, ℕ, List, [], ◌∷◌, ◌++◌, sym, ap, ◌∙◌}
-use Rattle.std.proofs.lemmas.List.{append-nil, append_assoc}
+use Rattle.normal_form.proofs.Prelude.{◌≡◌, ℕ, List, [], ◌∷◌, ◌++◌, sym, ap, ◌∙◌, append-nil, append_assoc}
 
 pub walk_step : (made : List ℕ) (e number : ℕ) (left more whole grown : List ℕ) → left ≡ e ∷ more → made ++ left ≡ whole → e ≡ number → grown ≡ made ++ number ∷ [] → grown ++ more ≡ whole
 walk_step made e number left more whole grown is h same new =

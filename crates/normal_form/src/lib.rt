@@ -6,5 +6,5 @@ mod merge;
 mod merged;
 mod normal_table;
 
-pub use determinise::SetFault;
+pub use determinise::SubsetLimit;
 pub use normal_table::normalise;

@@ -1,8 +1,6 @@
 -- The marked components and the marked events are the options of a state, in their order.
-use Rattle.numbered_walks.proofs.Prelude.{◌≡◌, ◌↔◌, ℕ, zero, suc, ◌+◌, ◌-◌, ◌<◌, ◌≤◌, ◌⊎◌, inl, inr, Bool, true, false, nat_eq, List, [], ◌∷◌, ◌++◌, length, map, take, get_or, slice_get, Some, refl, ap, subst, ◌∙◌, arith, option_map, eq-eqb, eqb-true, none-some, same_Some, length-append, length-map, slice_get-map, slice_get_within, mark_count, marked, AreOptions, IsBefore, options, HasNone, Move}
-use Rattle.containers.proofs.MembersLemmas.{slice_get-append_left}
+use Rattle.numbered_walks.proofs.Prelude.{◌≡◌, ◌↔◌, ℕ, zero, suc, ◌+◌, ◌-◌, ◌<◌, ◌≤◌, ◌⊎◌, inl, inr, Bool, true, false, nat_eq, List, [], ◌∷◌, ◌++◌, length, map, take, get_or, slice_get, Some, refl, ap, subst, ◌∙◌, arith, option_map, eq-eqb, eqb-true, none-some, same_Some, length-append, length-map, slice_get-map, slice_get_within, mark_count, marked, AreOptions, IsBefore, options, HasNone, Move, slice_get-append_left, StandsIn}
 use Rattle.numbered_walks.proofs.Places.{as_many, marked_is, place_of_mark, places_rise}
-use Rattle.csp_base.specs.Lists.{StandsIn}
 use Rattle.numbered_walks.specs.declared.moves.Move.TheVariants as move
 
 back_at : {X : Type 0} (xs ys : List X) (k : ℕ) (v : X) → slice_get ys k ≡ Some v → slice_get (xs ++ ys) (length xs + k) ≡ Some v

@@ -3,8 +3,7 @@
 ghost use Rattle.std.specs.Prelude.{◌≡◌, ◌+◌, ◌-◌, ◌≤◌, ◌<◌, ℕ, IfOk, IsTrue, OnOk, length, map, replicate, slice_index, slice_set};
 ghost use Rattle.dl_limits.specs.declared.TheConstants.{MOST_COMPONENTS};
 ghost use Rattle.csp_base.specs.Members.{has};
-ghost use Rattle.numbered_walks.specs.Agreements.{IsAgreement, is_agreed, offers_of, owners_of};
-ghost use Rattle.numbered_walks.specs.Marks.{bit};
+ghost use Rattle.numbered_walks.specs.Prelude.{IsAgreement, is_agreed, offers_of, owners_of, bit};
 
 use crate::marks::CountedMarks;
 use containers::Items;

@@ -1,9 +1,7 @@
 //! Which of several targets a component goes to.
 
 ghost use Rattle.std.specs.Prelude.{◌≡◌, ◌<◌, nat_eq, length, if◌then◌else◌};
-ghost use Rattle.numbered_walks.specs.Draws.{IsDrawn};
-ghost use Rattle.numbered_walks.specs.Numbers.{next_number, place_among};
-ghost use Rattle.numbered_walks.specs.Rows.{targets};
+ghost use Rattle.numbered_walks.specs.Prelude.{IsDrawn, next_number, place_among, targets};
 
 use crate::numbers::{next_number, place_among};
 use csp_base::Event;

@@ -1,8 +1,7 @@
 //! Marks with counts.
 
 ghost use Rattle.std.specs.Prelude.{◌≡◌, ◌+◌, ◌*◌, ◌<◌, ◌≤◌, ◌^◌, Bool, Some, false, length, replicate, slice_get, slice_set, take, IfOk};
-ghost use Rattle.numbered_walks.specs.Blocks.{AreBlockCounts};
-ghost use Rattle.numbered_walks.specs.Marks.{bit, mark_count, marked};
+ghost use Rattle.numbered_walks.specs.Prelude.{AreBlockCounts, bit, mark_count, marked};
 
 use std::alloc::{AllocError, Global};
 use std::marker::Model;

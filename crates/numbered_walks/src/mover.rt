@@ -4,9 +4,7 @@ ghost use Rattle.std.specs.Prelude.{◌≡◌, ◌<◌, ℕ, IfOk};
 ghost use Rattle.acceptances.specs.OfferTests.{can_do, is_unstable};
 ghost use Rattle.csp_base.specs.Members.{has};
 ghost use Rattle.csp_tables.specs.Prelude.{silent, visible, HasRawForm, RawStep, targets_in};
-ghost use Rattle.numbered_walks.specs.Draws.{IsDrawn};
-ghost use Rattle.numbered_walks.specs.Numbered.{Can, OwnsItsSteps};
-ghost use Rattle.numbered_walks.specs.Rows.{targets};
+ghost use Rattle.numbered_walks.specs.Prelude.{IsDrawn, Can, OwnsItsSteps, targets};
 
 use crate::draws::{Drawn, drawn_by, drawn_silently};
 use crate::rows::{silent_rows, step_rows, steps_by};
@@ -26,15 +24,14 @@ pub struct Mover<'a> {
     offers: Vec<EventSet>,
 }
 
-// By hand, so that a crate that ends one calls this and proves no end of its own.
 impl<'a> Drop for Mover<'a> {
     fn drop(self) {
         let Mover {
-            alphabet: _alphabet,
-            table: _table,
-            silent: _silent,
-            steps: _steps,
-            offers: _offers,
+            alphabet,
+            table,
+            silent,
+            steps,
+            offers,
         } = self;
     }
 }

@@ -19,12 +19,8 @@ pub struct Walk {
     pub is_stuck: bool,
 }
 
-// By hand, so that a crate that ends one calls this and proves no end of its own.
 impl Drop for Walk {
     fn drop(self) {
-        let Walk {
-            moves: _moves,
-            is_stuck: _is_stuck,
-        } = self;
+        let Walk { moves, is_stuck } = self;
     }
 }

@@ -2,12 +2,7 @@
 
 ghost use Rattle.std.specs.Prelude.{◌≡◌, ◌+◌, ◌≤◌, ◌<◌, ◌^◌, ◌↔◌, ℕ, false, IfNone, IfOk, IfSome, IsTrue, OnOk, Some, length, slice_get, slice_index, slice_index_or, slice_set};
 ghost use Rattle.acceptances.specs.OfferTests.{is_unstable, can_do};
-ghost use Rattle.numbered_walks.specs.Agreements.{AreOwnerRows, IsAgreement, IsStanding, component_at, offer_count, offers_of, owner_count, owner_marks, owners_of};
-ghost use Rattle.numbered_walks.specs.Marks.{mark_count, marked, bit};
-ghost use Rattle.numbered_walks.specs.Numbered.{AllCan, Can, Has, OwnsItsSteps, first_terms};
-ghost use Rattle.numbered_walks.specs.Numbers.{place_among};
-ghost use Rattle.numbered_walks.specs.Steps.{AllGoOn, Does, GoesOn, options};
-ghost use Rattle.numbered_walks.specs.Walks.{Chooses, HasNone};
+ghost use Rattle.numbered_walks.specs.Prelude.{AreOwnerRows, IsAgreement, IsStanding, component_at, offer_count, offers_of, owner_count, owner_marks, owners_of, mark_count, marked, bit, AllCan, Can, Has, OwnsItsSteps, first_terms, place_among, AllGoOn, Does, GoesOn, options, Chooses, HasNone};
 ghost use Rattle.csp_tables.specs.Label.Label.{silent, visible};
 ghost use Rattle.dl_limits.specs.declared.TheConstants.{MOST_COMPONENTS};
 
@@ -133,7 +128,7 @@ pub(crate) fn is_stuck(movers: &[Mover<'_>], standing: &Standing) -> bool
 }
 
 /// The option that a number chooses, if there is one.
-pub(crate) fn chosen(movers: &[Mover<'_>], standing: &Standing, number: u32) -> Option<Move>
+pub(crate) fn choose(movers: &[Mover<'_>], standing: &Standing, number: u32) -> Option<Move>
     requires form { IsStanding movers.now standing.now }
     requires few { length movers.now ≤ MOST_COMPONENTS }
     ensures chosen { IfSome result (Chooses (Has movers.now standing.now.terms.items) number) }

@@ -2,16 +2,13 @@
 
 ghost use Rattle.std.specs.Prelude.{◌≡◌, ◌⊎◌, ◌≤◌, ◌<◌, IfOk, MatchOption, OnOk, length};
 ghost use Rattle.dl_limits.specs.declared.TheConstants.{MOST_COMPONENTS};
-ghost use Rattle.numbered_walks.specs.Agreements.{AreOwnerRows, IsStanding};
-ghost use Rattle.numbered_walks.specs.Numbered.{Goes, Has, first_terms};
-ghost use Rattle.numbered_walks.specs.Steps.{IsAtEnd, IsStep, WalksOn};
-ghost use Rattle.numbered_walks.specs.Walks.{HasNone, IsWalkOf};
+ghost use Rattle.numbered_walks.specs.Prelude.{AreOwnerRows, IsStanding, Goes, Has, first_terms, IsAtEnd, IsStep, WalksOn, HasNone, IsWalkOf};
 
 use crate::mover::Mover;
 use crate::moves::{Move, Walk};
 use crate::numbers::{first_draw, next_number};
 use crate::owners::owner_rows;
-use crate::standing::{Standing, chosen, first_standing, is_stuck, take};
+use crate::standing::{Standing, choose, first_standing, is_stuck, take};
 use containers::Items;
 use csp_base::NoMemory;
 use std::alloc::Global;
@@ -31,7 +28,7 @@ fn step(
     ensures steps { IfOk result (λ option. MatchOption option (IsAtEnd movers.now standing.old standing.new)
         (IsStep movers.now number standing.old standing.new)) }
 {
-    match chosen(movers, standing, number) {
+    match choose(movers, standing, number) {
         None => Ok(None),
         Some(option) => {
             take(alloc, movers, owners, standing, &option)?;

@@ -1,6 +1,5 @@
 -- Pairs that are added at the end of those that are there, and a row of steps that is followed.
-use Rattle.observed_runs.proofs.Prelude.{◌≡◌, ℕ, ◌+◌, ◌<◌, ◌≤◌, ◌-◌, List, [], ◌∷◌, ◌++◌, length, get_or, true, false, IsTrue, refl, sym, ap, subst, ◌∙◌, arith, inl, inr, cases_Bool, cases_lt, length-append, get_or_append_left, get_or-append_right, get_or_read, has, Node, node_at, node_after, is_possible, Part, HasForm, node_form, pair_at, Found, HaveOrigins, StepsTo, HasPair, AreEnough, SeesOnly, IsAdded, Grows, AreExplored, AreFollowed, IsFollowedTo}
-use Rattle.containers.proofs.MembersLemmas.{slice_get-append_left}
+use Rattle.observed_runs.proofs.Prelude.{◌≡◌, ℕ, ◌+◌, ◌<◌, ◌≤◌, ◌-◌, List, [], ◌∷◌, ◌++◌, length, get_or, true, false, IsTrue, refl, sym, ap, subst, ◌∙◌, arith, inl, inr, cases_Bool, cases_lt, length-append, get_or_append_left, get_or-append_right, get_or_read, has, Node, node_at, node_after, is_possible, Part, HasForm, node_form, pair_at, Found, HaveOrigins, StepsTo, HasPair, AreEnough, SeesOnly, IsAdded, Grows, AreExplored, AreFollowed, IsFollowedTo, slice_get-append_left}
 use Rattle.observed_runs.proofs.Leading.{step_listed, step_within, listed_step}
 
 pub pair_at_left : (xs ys : List (ℕ × ℕ)) (k : ℕ) → k < length xs → pair_at (xs ++ ys) k ≡ pair_at xs k

@@ -1,8 +1,5 @@
 -- Pairs that are marked, one at a time.
-use Rattle.observed_runs.proofs.Prelude.{◌≡◌, ℕ, ◌<◌, ◌⊎◌, List, [], ◌∷◌, ◌++◌, length, get_or, set, false, IsTrue, ◌||◌, nat_eq, ◌≢◌, eq-eqb, refl, sym, ap, subst, ◌∙◌, arith, inl, inr, cases_lt, cases_eq, eqb-true, false≢true, or_left, or_right, or_cases, get_or-set_same, get_or-set_other, length-append, with_member, pair_at, HasPair, AreMarked, is_marked}
-use Rattle.std.proofs.lemmas.Bool.{false_from_ne_true}
-use Rattle.csp_base.specs.Events.{has}
-use Rattle.csp_base.proofs.SetLaws.{has-with_member}
+use Rattle.observed_runs.proofs.Prelude.{◌≡◌, ℕ, ◌<◌, ◌⊎◌, List, [], ◌∷◌, ◌++◌, length, get_or, set, false, IsTrue, ◌||◌, nat_eq, ◌≢◌, eq-eqb, refl, sym, ap, subst, ◌∙◌, arith, inl, inr, cases_lt, cases_eq, eqb-true, false≢true, or_left, or_right, or_cases, get_or-set_same, get_or-set_other, length-append, with_member, pair_at, HasPair, AreMarked, is_marked, false_from_ne_true, has, has-with_member}
 use Rattle.observed_runs.proofs.Growing.{grown, last_pair, listed_last, listed_still, pair_at_left, same_two}
 
 pub unmarked : (pairs : List (ℕ × ℕ)) (seen : List (List ℕ)) (pair : ℕ × ℕ) → AreMarked pairs seen → (HasPair pairs pair → ⊥) → is_marked seen pair.0 pair.1 ≡ false

@@ -18,12 +18,12 @@ pub fn steps_of(
     requires { HasForm part.now }
     ensures { IfOk result (λ rows. HaveEnough events.now part.now.table rows) }
 {
-    let mut marks = unmarked(alloc, part.table().nodes().len())?;
+    let mut marks = no_marks(alloc, part.table().nodes().len())?;
     all_enough(alloc, part, events, &mut marks)
 }
 
 // No mark for each of so many nodes.
-fn unmarked(alloc: Global, count: usize) -> Result<Vec<u32>, NoMemory>
+fn no_marks(alloc: Global, count: usize) -> Result<Vec<u32>, NoMemory>
     ensures { IfOk result (λ marks. marks.items ≡ replicate count 0) }
 {
     let marks = vec![in alloc; 0; count]?;

@@ -1,8 +1,11 @@
 -- A node is marked: what becomes of the partition.
-use Rattle.partitions.proofs.Prelude.{◌≡◌, ℕ, ◌+◌, ◌<◌, ◌≤◌, List, length, set, Bool, true, false, ◌||◌, nat_eq, nat_lt, refl, sym, ap, ◌∙◌, subst, arith, inl, inr, slice_index, slice_index_or, has, cases_eq, lt-ltb, le-ltb, eq-eqb, ne_eqb, or_right, cases_lt, length-set, State, HasBlocks, block_at, is_marked, sizes, IsAdvanced, or_unless}
+use Rattle.partitions.proofs.Prelude.{◌≡◌, ℕ, ◌+◌, ◌<◌, ◌≤◌, length, set, true, false, ◌||◌, nat_eq, nat_lt, refl, sym, ap, ◌∙◌, subst, arith, inl, inr, slice_index, cases_eq, lt-ltb, le-ltb, eq-eqb, ne_eqb, or_right, cases_lt, length-set, State, HasBlocks, block_at, is_marked, with_mark, or_unless}
 use Rattle.partitions.proofs.Writes.{by_write, by_two_writes}
 
-module _ (n : ℕ) (s t : State) (node : ℕ) (good : HasBlocks n s) (inside : node < n) (unmarked : slice_index s.middles (block_at s node) ≤ slice_index s.places node) (a : IsAdvanced s t node) where
+module _ (n : ℕ) (s : State) (node : ℕ) (good : HasBlocks n s) (inside : node < n) (unmarked : slice_index s.middles (block_at s node) ≤ slice_index s.places node) where
+  abbrev t : State
+  t = with_mark s node
+
   abbrev pub blk : ℕ
   blk = block_at s node
 
@@ -48,21 +51,15 @@ module _ (n : ℕ) (s t : State) (node : ℕ) (good : HasBlocks n s) (inside : n
   -- what stands where, after the change
   order_then : (q : ℕ) (P : ℕ → Type 0) → (q ≡ middle → P node) → ((q ≡ middle → ⊥) → q ≡ place → P other) → ((q ≡ middle → ⊥) → (q ≡ place → ⊥) → P (slice_index s.order q)) → P (slice_index t.order q)
   order_then q P last first rest =
-      subst (λ (xs : List ℕ). P (slice_index xs q)) (sym a.order)
       (by_two_writes s.order place other middle node q (subst (λ m. place < m) (sym good.order_len) place_below) (subst (λ m. middle < m) (sym good.order_len) middle_below) P last first rest)
 
   places_then : (x : ℕ) (P : ℕ → Type 0) → (x ≡ node → P middle) → ((x ≡ node → ⊥) → x ≡ other → P place) → ((x ≡ node → ⊥) → (x ≡ other → ⊥) → P (slice_index s.places x)) → P (slice_index t.places x)
   places_then x P last first rest =
-      subst (λ (xs : List ℕ). P (slice_index xs x)) (sym a.places)
       (by_two_writes s.places other place node middle x (subst (λ m. other < m) (sym good.places_len) other_below) (subst (λ m. node < m) (sym good.places_len) inside) P last first rest)
 
   pub middles_then : (c : ℕ) (P : ℕ → Type 0) → (c ≡ blk → P (middle + 1)) → ((c ≡ blk → ⊥) → P (slice_index s.middles c)) → P (slice_index t.middles c)
   middles_then c P same rest =
-      subst (λ (xs : List ℕ). P (slice_index xs c)) (sym a.middles)
       (by_write s.middles blk (middle + 1) c 0 (subst (λ m. blk < m) (sym good.middles_len) blk_known) P same rest)
-
-  same_block : (i : ℕ) → block_at t i ≡ block_at s i
-  same_block i = ap (λ (xs : List ℕ). slice_index xs i) a.blocks
 
   -- the same node, where the other one stands at the place of the node
   met : other ≡ node → place ≡ middle
@@ -123,32 +120,27 @@ module _ (n : ℕ) (s t : State) (node : ℕ) (good : HasBlocks n s) (inside : n
   pub blocks_advanced : HasBlocks n t
   blocks_advanced = record {
     small = good.small;
-    order_len = ap (λ (xs : List ℕ). length xs) a.order ∙ length-set (set s.order place other) middle node ∙ length-set s.order place other ∙ good.order_len;
-    places_len = ap (λ (xs : List ℕ). length xs) a.places ∙ length-set (set s.places other place) node middle ∙ length-set s.places other place ∙ good.places_len;
-    blocks_len = ap (λ (xs : List ℕ). length xs) a.blocks ∙ good.blocks_len;
-    middles_len = ap (λ (xs : List ℕ). length xs) a.middles ∙ length-set s.middles blk (middle + 1) ∙ good.middles_len ∙ sym (ap (λ (xs : List ℕ). length xs) a.firsts);
-    ends_len = ap (λ (xs : List ℕ). length xs) a.ends ∙ good.ends_len ∙ sym (ap (λ (xs : List ℕ). length xs) a.firsts);
-    flags_len = ap (λ (xs : List Bool). length xs) a.flags ∙ good.flags_len ∙ sym (ap (λ (xs : List ℕ). length xs) a.firsts);
+    order_len = length-set (set s.order place other) middle node ∙ length-set s.order place other ∙ good.order_len;
+    places_len = length-set (set s.places other place) node middle ∙ length-set s.places other place ∙ good.places_len;
+    blocks_len = good.blocks_len;
+    middles_len = length-set s.middles blk (middle + 1) ∙ good.middles_len;
+    ends_len = good.ends_len;
+    flags_len = good.flags_len;
     placed = placed_then;
     ordered = ordered_then;
-    numbered = λ i h. subst (λ (xs : List ℕ). block_at t i < length xs) (sym a.firsts) (subst (λ b. b < length s.firsts) (sym (same_block i)) (good.numbered i h));
-    within = λ i h. subst (λ (xs : List ℕ). (slice_index xs (block_at t i) ≤ slice_index t.places i) × (slice_index t.places i < slice_index t.ends (block_at t i))) (sym a.firsts)
-        (subst (λ (xs : List ℕ). (slice_index s.firsts (block_at t i) ≤ slice_index t.places i) × (slice_index t.places i < slice_index xs (block_at t i))) (sym a.ends)
-        (subst (λ b. (slice_index s.firsts b ≤ slice_index t.places i) × (slice_index t.places i < slice_index s.ends b)) (sym (same_block i)) (within_then i h)));
-    spans = λ b h. subst (λ (xs : List ℕ). (slice_index xs b ≤ slice_index t.middles b) × (slice_index t.middles b ≤ slice_index t.ends b) × (slice_index xs b < slice_index t.ends b) × (slice_index t.ends b ≤ n)) (sym a.firsts)
-        (subst (λ (xs : List ℕ). (slice_index s.firsts b ≤ slice_index t.middles b) × (slice_index t.middles b ≤ slice_index xs b) × (slice_index s.firsts b < slice_index xs b) × (slice_index xs b ≤ n)) (sym a.ends)
-        (spans_then b (subst (λ (xs : List ℕ). b < length xs) a.firsts h)));
-    owned = λ b p h l m. same_block (slice_index t.order p) ∙ owned_then b p (subst (λ (xs : List ℕ). b < length xs) a.firsts h) (subst (λ (xs : List ℕ). slice_index xs b ≤ p) a.firsts l) (subst (λ (xs : List ℕ). p < slice_index xs b) a.ends m);
-    whole = ap (λ (xs : List ℕ). sizes xs t.ends) a.firsts ∙ ap (λ (xs : List ℕ). sizes s.firsts xs) a.ends ∙ good.whole;
-    listed = λ b h. subst (λ (xs : List ℕ). has xs b ≡ true) (sym a.waiting) (good.listed b (subst (λ (xs : List Bool). slice_index_or xs b false ≡ true) a.flags h));
-    known = λ b h. subst (λ (xs : List ℕ). b < length xs) (sym a.firsts) (good.known b (subst (λ (xs : List ℕ). has xs b ≡ true) a.waiting h));
+    numbered = good.numbered;
+    within = within_then;
+    spans = spans_then;
+    owned = owned_then;
+    whole = good.whole;
+    listed = good.listed;
+    known = good.known;
   }
 
   -- the node is marked then, and no other one is that was not before
   marked_here : is_marked t node ≡ true
   marked_here = lt-ltb (slice_index t.places node) (slice_index t.middles (block_at t node))
-      (subst (λ b. slice_index t.places node < slice_index t.middles b) (sym (same_block node))
-      (places_then node (λ q. q < slice_index t.middles blk) (λ _. middles_then blk (λ m. middle < m) (λ _. omega arith) (λ no. absurd (no refl))) (λ no _. absurd (no refl)) (λ no _. absurd (no refl))))
+      (places_then node (λ q. q < slice_index t.middles blk) (λ _. middles_then blk (λ m. middle < m) (λ _. omega arith) (λ no. absurd (no refl))) (λ no _. absurd (no refl)) (λ no _. absurd (no refl)))
 
   unmarked_other : (x : ℕ) → (x ≡ node → ⊥) → x ≡ other → nat_lt (slice_index t.places x) (slice_index t.middles (block_at s x)) ≡ nat_lt (slice_index s.places x) (slice_index s.middles (block_at s x))
   unmarked_other x ne e =
@@ -180,8 +172,7 @@ module _ (n : ℕ) (s t : State) (node : ℕ) (good : HasBlocks n s) (inside : n
   marked_advanced x h = elim (cases_eq x node) as (λ _. is_marked t x ≡ (is_marked s x || nat_eq x node)) [
     | inl e ↦ ap (λ y. is_marked t y) e ∙ marked_here ∙ sym (or_right (is_marked s x) (nat_eq x node) (eq-eqb x node e))
     | inr ne ↦
-        ap (λ b. nat_lt (slice_index t.places x) (slice_index t.middles b)) (same_block x)
-        ∙ elim (cases_eq x other) as (λ _. nat_lt (slice_index t.places x) (slice_index t.middles (block_at s x)) ≡ is_marked s x) [
+        elim (cases_eq x other) as (λ _. nat_lt (slice_index t.places x) (slice_index t.middles (block_at s x)) ≡ is_marked s x) [
           | inl e ↦ unmarked_other x ne e
           | inr ne' ↦ places_then x (λ q. nat_lt q (slice_index t.middles (block_at s x)) ≡ is_marked s x) (λ is. absurd (ne is)) (λ _ is. absurd (ne' is)) (λ _ _. marked_rest x h ne ne')
         ]

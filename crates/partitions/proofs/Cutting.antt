@@ -1,8 +1,8 @@
 -- A block is cut: nodes are together then exactly where they were.
-use Rattle.partitions.proofs.Prelude.{◌≡◌, ℕ, ◌+◌, ◌<◌, ◌≤◌, ◌⊎◌, inl, inr, List, length, true, false, sym, ap, ◌∙◌, subst, arith, slice_index, ◌↔◌, false≢true, State, HasBlocks, IsCut, AreTogether, AreBoth, block_at, is_marked, waits, work, IsDivided, IsAwaited}
+use Rattle.partitions.proofs.Prelude.{◌≡◌, ℕ, ◌+◌, ◌<◌, ◌⊎◌, inl, inr, List, length, true, false, sym, ap, ◌∙◌, subst, arith, slice_index, ◌↔◌, false≢true, State, HasBlocks, IsCut, AreTogether, AreBoth, block_at, waits, IsDivided, with_waiting, Bool}
 use Rattle.std.proofs.lemmas.Bool.{both_ways, false_from_ne_true}
 use Rattle.partitions.proofs.Sizes.{few_blocks}
-use Rattle.partitions.proofs.Awaiting.{blocks_awaited, waits_here, waits_still, waiting_most, blocks_same_awaited, marks_same_awaited}
+use Rattle.partitions.proofs.Awaiting.{blocks_awaited, waits_here, waits_still, waiting_most}
 use Rattle.partitions.proofs.Dividing.{blocks_divided, fate, left_then, same_waits, one_more, Fate, moves, stays, outside}
 
 together_fates : (s t : State) (b new i j : ℕ) → b < new → Fate s t b new i → Fate s t b new j → AreTogether t i j ↔ AreTogether s i j
@@ -28,17 +28,19 @@ not_moved s t b new i (moves p q r u) h = absurd (h p)
 not_moved s t b new i (stays p q r u) h = absurd (h p)
 not_moved s t b new i (outside p q r u) h = q
 
-not_there : (s t : State) (b new : ℕ) → ((c : ℕ) → (c ≡ b) ⊎ (c ≡ new) → waits t c ≡ true) → (i : ℕ) → Fate s t b new i → waits t (block_at t i) ≡ false → block_at s i ≡ b → ⊥
-not_there s t b new both i (moves p q r u) h e = both_ways (waits t (block_at t i)) h (both (block_at t i) (inr q))
-not_there s t b new both i (stays p q r u) h e = both_ways (waits t (block_at t i)) h (both (block_at t i) (inl q))
-not_there s t b new both i (outside p q r u) h e = p e
+not_there : (s t : State) (b new : ℕ) (waiting : ℕ → Bool) → ((c : ℕ) → (c ≡ b) ⊎ (c ≡ new) → waiting c ≡ true) → (i : ℕ) → Fate s t b new i → waiting (block_at t i) ≡ false → block_at s i ≡ b → ⊥
+not_there s t b new waiting both i (moves p q r u) h e = both_ways (waiting (block_at t i)) h (both (block_at t i) (inr q))
+not_there s t b new waiting both i (stays p q r u) h e = both_ways (waiting (block_at t i)) h (both (block_at t i) (inl q))
+not_there s t b new waiting both i (outside p q r u) h e = p e
 
-fate_along : (s t u : State) (b new i : ℕ) → block_at u i ≡ block_at t i → is_marked u i ≡ is_marked t i → Fate s t b new i → Fate s u b new i
-fate_along s t u b new i e f (moves p q r v) = moves p (e ∙ q) r (f ∙ v)
-fate_along s t u b new i e f (stays p q r v) = stays p (e ∙ q) r (f ∙ v)
-fate_along s t u b new i e f (outside p q r v) = outside p (e ∙ q) r (f ∙ v)
+-- the block is divided into itself and the last one, and then x and y wait, which are these two
+module _ (n : ℕ) (s t : State) (b x y : ℕ) (good : HasBlocks n s) (inside : b < length s.firsts) (some : slice_index s.firsts b < slice_index s.middles b) (not_all : slice_index s.middles b < slice_index s.ends b) (d : IsDivided s t b) (are : AreBoth b (length s.firsts) x y) where
+  abbrev u : State
+  u = with_waiting t x
 
-module _ (n : ℕ) (s t u v : State) (b x y : ℕ) (good : HasBlocks n s) (inside : b < length s.firsts) (some : slice_index s.firsts b < slice_index s.middles b) (not_all : slice_index s.middles b < slice_index s.ends b) (d : IsDivided s t b) (are : AreBoth b (length s.firsts) x y) (a : IsAwaited t u x) (a' : IsAwaited u v y) where
+  abbrev v : State
+  v = with_waiting u y
+
   good_t : HasBlocks n t
   good_t = blocks_divided n s t b good inside some not_all d
 
@@ -48,23 +50,17 @@ module _ (n : ℕ) (s t u v : State) (b x y : ℕ) (good : HasBlocks n s) (insid
   x_known : x < length t.firsts
   x_known = elim are as (λ _. x < length t.firsts) [ inl p ↦ let e = p.0 in let l = longer in omega arith | inr p ↦ let e = p.0 in let l = longer in omega arith ]
 
-  y_known_t : y < length t.firsts
-  y_known_t = elim are as (λ _. y < length t.firsts) [ inl p ↦ let e = p.1 in let l = longer in omega arith | inr p ↦ let e = p.1 in let l = longer in omega arith ]
+  y_known : y < length t.firsts
+  y_known = elim are as (λ _. y < length t.firsts) [ inl p ↦ let e = p.1 in let l = longer in omega arith | inr p ↦ let e = p.1 in let l = longer in omega arith ]
 
   good_u : HasBlocks n u
-  good_u = blocks_awaited n t u x good_t x_known a
-
-  y_known : y < length u.firsts
-  y_known = subst (λ (xs : List ℕ). y < length xs) (sym a.firsts) y_known_t
-
-  good_v : HasBlocks n v
-  good_v = blocks_awaited n u v y good_u y_known a'
+  good_u = blocks_awaited n t x good_t x_known
 
   waits_x : waits v x ≡ true
-  waits_x = waits_still n u v y good_u y_known a' x (waits_here n t u x good_t x_known a)
+  waits_x = waits_still n u y good_u y_known x (waits_here n t x good_t x_known)
 
   waits_y : waits v y ≡ true
-  waits_y = waits_here n u v y good_u y_known a'
+  waits_y = waits_here n u y good_u y_known
 
   both : (c : ℕ) → (c ≡ b) ⊎ (c ≡ length s.firsts) → waits v c ≡ true
   both c h = elim are as (λ _. waits v c ≡ true) [
@@ -72,44 +68,32 @@ module _ (n : ℕ) (s t u v : State) (b x y : ℕ) (good : HasBlocks n s) (insid
     | inr p ↦ elim h as (λ _. waits v c ≡ true) [ inl e ↦ subst (λ z. waits v z ≡ true) (p.1 ∙ sym e) waits_y | inr e ↦ subst (λ z. waits v z ≡ true) (p.0 ∙ sym e) waits_x ]
   ]
 
-  fate_v : (i : ℕ) → i < n → Fate s v b (length s.firsts) i
-  fate_v i h = fate_along s u v b (length s.firsts) i (blocks_same_awaited n u v y good_u y_known a' i) (marks_same_awaited n u v y good_u y_known a' i)
-      (fate_along s t u b (length s.firsts) i (blocks_same_awaited n t u x good_t x_known a i) (marks_same_awaited n t u x good_t x_known a i) (fate n s t b good inside some not_all d i h))
-
-  firsts_v : v.firsts ≡ t.firsts
-  firsts_v = a'.firsts ∙ a.firsts
-
-  middles_v : v.middles ≡ t.middles
-  middles_v = a'.middles ∙ a.middles
+  fates : (i : ℕ) → i < n → Fate s t b (length s.firsts) i
+  fates i h = fate n s t b good inside some not_all d i h
 
   -- a block that waited before still does
   waits_before : (c : ℕ) → waits s c ≡ true → waits v c ≡ true
-  waits_before c h = waits_still n u v y good_u y_known a' c (waits_still n t u x good_t x_known a c (same_waits n s t b good inside some not_all d c ∙ h))
-
-  less_work : work n v ≤ work n s
-  less_work =
-      let f = few_blocks n t good_t in
-      let l = longer in
-      let p : length v.firsts ≡ length t.firsts = ap (λ (xs : List ℕ). length xs) firsts_v in
-      let q = waiting_most n t u x good_t x_known a in
-      let r = waiting_most n u v y good_u y_known a' in
-      let w : length t.waiting ≡ length s.waiting = ap (λ (xs : List ℕ). length xs) d.waiting in
-      omega arith
+  waits_before c h = waits_still n u y good_u y_known c (waits_still n t x good_t x_known c (same_waits n s t b good inside some not_all d c ∙ h))
 
   pub cut_divided : IsCut n s v b
   cut_divided = record {
-    fit = good_v;
-    together = λ i j h l. together_fates s v b (length s.firsts) i j inside (fate_v i h) (fate_v j l);
-    left = λ c h l. left_then n s t b good inside some not_all d c (subst (λ (xs : List ℕ). c < length xs) firsts_v h)
-        (subst (λ (xs : List ℕ). slice_index xs c < slice_index t.middles c) firsts_v (subst (λ (xs : List ℕ). slice_index v.firsts c < slice_index xs c) middles_v l));
-    more = let p : length v.firsts ≡ length t.firsts = ap (λ (xs : List ℕ). length xs) firsts_v in let l = longer in omega arith;
+    fit = blocks_awaited n u y good_u y_known;
+    together = λ i j h l. together_fates s t b (length s.firsts) i j inside (fates i h) (fates j l);
+    left = left_then n s t b good inside some not_all d;
+    more = let l = longer in omega arith;
     onward = record {
-      less = less_work;
+      less =
+          let f = few_blocks n t good_t in
+          let l = longer in
+          let q = waiting_most n t x good_t x_known in
+          let r = waiting_most n u y good_u y_known in
+          let w : length t.waiting ≡ length s.waiting = ap (λ (xs : List ℕ). length xs) d.waiting in
+          omega arith;
       kept = λ i h w.
-          let away = not_there s v b (length s.firsts) both i (fate_v i h) w in
-          let same = not_moved s v b (length s.firsts) i (fate_v i h) away in (
-            false_from_ne_true (waits s (block_at s i)) (λ e. both_ways (waits v (block_at v i)) w (subst (λ c. waits v c ≡ true) (sym same) (waits_before (block_at s i) e))),
-            λ j k e. not_moved s v b (length s.firsts) j (fate_v j k) (λ f. away (sym e ∙ f)) ∙ e ∙ sym same,
+          let away = not_there s t b (length s.firsts) (waits v) both i (fates i h) w in
+          let same = not_moved s t b (length s.firsts) i (fates i h) away in (
+            false_from_ne_true (waits s (block_at s i)) (λ e. both_ways (waits v (block_at t i)) w (subst (λ c. waits v c ≡ true) (sym same) (waits_before (block_at s i) e))),
+            λ j k e. not_moved s t b (length s.firsts) j (fates j k) (λ f. away (sym e ∙ f)) ∙ e ∙ sym same,
           );
     };
   }

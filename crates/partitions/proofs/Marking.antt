@@ -1,5 +1,5 @@
 -- A node is marked, or was marked before: what is known then.
-use Rattle.partitions.proofs.Prelude.{◌≡◌, ℕ, ◌+◌, ◌<◌, ◌≤◌, List, [], ◌∷◌, ◌++◌, length, get_or, ◌^◌, true, false, ◌||◌, nat_eq, refl, sym, ap, ◌∙◌, subst, arith, inl, inr, slice_index, eq-eqb, or_left, or_right, get_or_read, list_any-append, has, State, HasBlocks, IsMarked, AreTouched, block_at, IsAdvanced, has_push_cases}
+use Rattle.partitions.proofs.Prelude.{◌≡◌, ℕ, ◌+◌, ◌<◌, ◌≤◌, List, [], ◌∷◌, ◌++◌, length, get_or, ◌^◌, true, false, ◌||◌, nat_eq, refl, sym, ap, ◌∙◌, subst, arith, inl, inr, slice_index, eq-eqb, or_left, or_right, get_or_read, list_any-append, has, State, HasBlocks, IsMarked, AreTouched, block_at, with_mark, has_push_cases}
 use Rattle.partitions.proofs.Advancing.{blocks_advanced, marked_advanced, middles_then}
 
 pub has_push : (xs : List ℕ) (x : ℕ) → has (xs ++ x ∷ []) x ≡ true
@@ -8,30 +8,29 @@ has_push xs x = list_any-append (λ y. nat_eq y x) xs (x ∷ []) ∙ or_right (h
 pub has_more : (xs : List ℕ) (x y : ℕ) → has xs y ≡ true → has (xs ++ x ∷ []) y ≡ true
 has_more xs x y h = list_any-append (λ z. nat_eq z y) xs (x ∷ []) ∙ or_left (has xs y) (nat_eq x y || false) h
 
-module _ (n : ℕ) (s t : State) (node : ℕ) (good : HasBlocks n s) (inside : node < n) (unmarked : slice_index s.middles (block_at s node) ≤ slice_index s.places node) (a : IsAdvanced s t node) where
-  pub marked_now : IsMarked n s t node
+module _ (n : ℕ) (s : State) (node : ℕ) (good : HasBlocks n s) (inside : node < n) (unmarked : slice_index s.middles (block_at s node) ≤ slice_index s.places node) where
+  pub marked_now : IsMarked n s (with_mark s node) node
   marked_now = record {
-    fit = blocks_advanced n s t node good inside unmarked a;
-    same = record { blocks = a.blocks; firsts = a.firsts; ends = a.ends; waiting = a.waiting; flags = a.flags };
-    marked = marked_advanced n s t node good inside unmarked a;
+    fit = blocks_advanced n s node good inside unmarked;
+    same = record { blocks = refl; firsts = refl; ends = refl; waiting = refl; flags = refl };
+    marked = marked_advanced n s node good inside unmarked;
   }
 
   -- the block is among those with marked nodes
-  pub touched_now : (touched : List ℕ) → ((b : ℕ) → b < length s.firsts → slice_index s.firsts b < slice_index s.middles b → has touched b ≡ true) → ((b : ℕ) → has touched b ≡ true → b < length s.firsts) → has touched (block_at s node) ≡ true → AreTouched t touched
+  pub touched_now : (touched : List ℕ) → ((b : ℕ) → b < length s.firsts → slice_index s.firsts b < slice_index s.middles b → has touched b ≡ true) → ((b : ℕ) → has touched b ≡ true → b < length s.firsts) → has touched (block_at s node) ≡ true → AreTouched (with_mark s node) touched
   touched_now touched all known here = record {
-    all = λ b h. subst (λ (xs : List ℕ). slice_index xs b < slice_index t.middles b → has touched b ≡ true) (sym a.firsts)
-        (middles_then n s t node good inside unmarked a b (λ m. slice_index s.firsts b < m → has touched b ≡ true) (λ e _. ap (λ c. has touched c) e ∙ here) (λ _ l. all b (subst (λ (xs : List ℕ). b < length xs) a.firsts h) l));
-    known = λ b h. subst (λ (xs : List ℕ). b < length xs) (sym a.firsts) (known b h);
+    all = λ b h. middles_then n s node good inside unmarked b (λ m. slice_index s.firsts b < m → has touched b ≡ true) (λ e _. ap (λ c. has touched c) e ∙ here) (λ _ l. all b h l);
+    known = known;
   }
 
   -- where marked nodes were in the block before
-  pub touched_again : (touched : List ℕ) → AreTouched s touched → (slice_index s.middles (block_at s node) ≡ slice_index s.firsts (block_at s node) → ⊥) → AreTouched t touched
+  pub touched_again : (touched : List ℕ) → AreTouched s touched → (slice_index s.middles (block_at s node) ≡ slice_index s.firsts (block_at s node) → ⊥) → AreTouched (with_mark s node) touched
   touched_again touched old other =
       let p = good.spans (block_at s node) (good.numbered node inside) in
       touched_now touched old.all old.known (old.all (block_at s node) (good.numbered node inside) (omega (arith, p.0, other)))
 
   -- where the block is listed now
-  pub touched_new : (touched : List ℕ) → AreTouched s touched → AreTouched t (touched ++ block_at s node ∷ [])
+  pub touched_new : (touched : List ℕ) → AreTouched s touched → AreTouched (with_mark s node) (touched ++ block_at s node ∷ [])
   touched_new touched old =
       touched_now (touched ++ block_at s node ∷ [])
       (λ b h l. has_more touched (block_at s node) b (old.all b h l))

@@ -1,6 +1,7 @@
 -- The first partition, the members of a block, and a block that is taken from those that wait.
 use Rattle.partitions.proofs.Prelude.{◌≡◌, ℕ, suc, ◌+◌, ◌-◌, ◌<◌, ◌≤◌, ◌⊎◌, inl, inr, List, [], ◌∷◌, ◌++◌, length, set, get_or, take, drop, replicate, ◌^◌, Bool, true, false, nat_eq, refl, sym, ap, ◌∙◌, subst, arith, slice_index, slice_index_or, ◌↔◌, cases_eq, cases_lt, or_cases, eqb-true, false≢true, length-set, length_push, length-replicate, get_or-replicate, get_or-set_other, get_or-set_same, get_or-take, get_or-drop, length-take-le, length-drop, get_or_past, has, State, HasBlocks, IsWhole, IsTaken, block_at, waits, sizes, has_push_cases, has_at}
 use Rattle.partitions.proofs.Marking.{has_push, has_more}
+use Rattle.partitions.proofs.Awaiting.{blocks_waiting}
 
 pub place_of : (xs : List ℕ) (i : ℕ) → has xs i ≡ true → (k : ℕ) × (k < length xs) × (get_or xs k 0 ≡ i)
 place_of [] i h = absurd (false≢true h)
@@ -38,61 +39,33 @@ module _ (n : ℕ) (s : State) (b f e : ℕ) (good : HasBlocks n s) (inside : b 
       )
 
 -- one of those that wait is taken
-module _ (n : ℕ) (s t : State) (b : ℕ) (good : HasBlocks n s) (order : t.order ≡ s.order) (places : t.places ≡ s.places) (blocks : t.blocks ≡ s.blocks) (firsts : t.firsts ≡ s.firsts) (middles : t.middles ≡ s.middles) (ends : t.ends ≡ s.ends) (flags : t.flags ≡ set s.flags b false) (waiting : s.waiting ≡ t.waiting ++ b ∷ []) where
+module _ (n : ℕ) (s : State) (b : ℕ) (rest : List ℕ) (flags : List Bool) (good : HasBlocks n s) (is_flags : flags ≡ set s.flags b false) (waiting : s.waiting ≡ rest ++ b ∷ []) where
   waited : has s.waiting b ≡ true
-  waited = subst (λ (xs : List ℕ). has xs b ≡ true) (sym waiting) (has_push t.waiting b)
+  waited = subst (λ (xs : List ℕ). has xs b ≡ true) (sym waiting) (has_push rest b)
 
   known : b < length s.firsts
   known = good.known b waited
 
-  flag_there : b < length s.flags
-  flag_there = subst (λ k. b < k) (sym good.flags_len) known
+  waits_then : (c : ℕ) → (c ≡ b → ⊥) → slice_index_or flags c false ≡ waits s c
+  waits_then c ne = ap (λ (xs : List Bool). slice_index_or xs c false) is_flags ∙ get_or-set_other s.flags b c false false ne
 
-  waits_then : (c : ℕ) → (c ≡ b → ⊥) → waits t c ≡ waits s c
-  waits_then c ne = ap (λ (xs : List Bool). slice_index_or xs c false) flags ∙ get_or-set_other s.flags b c false false ne
+  waits_not : slice_index_or flags b false ≡ false
+  waits_not = ap (λ (xs : List Bool). slice_index_or xs b false) is_flags ∙ get_or-set_same s.flags b false false (subst (λ k. b < k) (sym good.flags_len) known)
 
-  waits_not : waits t b ≡ false
-  waits_not = ap (λ (xs : List Bool). slice_index_or xs b false) flags ∙ get_or-set_same s.flags b false false flag_there
-
-  shorter : length s.waiting ≡ length t.waiting + 1
-  shorter = ap (λ (xs : List ℕ). length xs) waiting ∙ length_push t.waiting b
-
-  pub block_taken : IsTaken n s t b
+  pub block_taken : IsTaken n s (record s { waiting = rest; flags = flags }) b
   block_taken = record {
     waited = waited;
-    fit = record {
-      small = good.small;
-      order_len = ap (λ (xs : List ℕ). length xs) order ∙ good.order_len;
-      places_len = ap (λ (xs : List ℕ). length xs) places ∙ good.places_len;
-      blocks_len = ap (λ (xs : List ℕ). length xs) blocks ∙ good.blocks_len;
-      middles_len = ap (λ (xs : List ℕ). length xs) middles ∙ good.middles_len ∙ sym (ap (λ (xs : List ℕ). length xs) firsts);
-      ends_len = ap (λ (xs : List ℕ). length xs) ends ∙ good.ends_len ∙ sym (ap (λ (xs : List ℕ). length xs) firsts);
-      flags_len = ap (λ (xs : List Bool). length xs) flags ∙ length-set s.flags b false ∙ good.flags_len ∙ sym (ap (λ (xs : List ℕ). length xs) firsts);
-      placed = λ i h. subst (λ (xs : List ℕ). (slice_index xs i < n) × (slice_index t.order (slice_index xs i) ≡ i)) (sym places) (subst (λ (xs : List ℕ). (slice_index s.places i < n) × (slice_index xs (slice_index s.places i) ≡ i)) (sym order) (good.placed i h));
-      ordered = λ q h. subst (λ (xs : List ℕ). (slice_index xs q < n) × (slice_index t.places (slice_index xs q) ≡ q)) (sym order) (subst (λ (xs : List ℕ). (slice_index s.order q < n) × (slice_index xs (slice_index s.order q) ≡ q)) (sym places) (good.ordered q h));
-      numbered = λ i h. subst (λ (xs : List ℕ). slice_index xs i < length t.firsts) (sym blocks) (subst (λ (xs : List ℕ). block_at s i < length xs) (sym firsts) (good.numbered i h));
-      within = λ i h. subst (λ (xs : List ℕ). (slice_index t.firsts (slice_index xs i) ≤ slice_index t.places i) × (slice_index t.places i < slice_index t.ends (slice_index xs i))) (sym blocks)
-          (subst (λ (xs : List ℕ). (slice_index t.firsts (block_at s i) ≤ slice_index xs i) × (slice_index xs i < slice_index t.ends (block_at s i))) (sym places)
-          (subst (λ (xs : List ℕ). (slice_index xs (block_at s i) ≤ slice_index s.places i) × (slice_index s.places i < slice_index t.ends (block_at s i))) (sym firsts)
-          (subst (λ (xs : List ℕ). (slice_index s.firsts (block_at s i) ≤ slice_index s.places i) × (slice_index s.places i < slice_index xs (block_at s i))) (sym ends) (good.within i h))));
-      spans = λ c h. subst (λ (xs : List ℕ). (slice_index xs c ≤ slice_index t.middles c) × (slice_index t.middles c ≤ slice_index t.ends c) × (slice_index xs c < slice_index t.ends c) × (slice_index t.ends c ≤ n)) (sym firsts)
-          (subst (λ (xs : List ℕ). (slice_index s.firsts c ≤ slice_index t.middles c) × (slice_index t.middles c ≤ slice_index xs c) × (slice_index s.firsts c < slice_index xs c) × (slice_index xs c ≤ n)) (sym ends)
-          (subst (λ (xs : List ℕ). (slice_index s.firsts c ≤ slice_index xs c) × (slice_index xs c ≤ slice_index s.ends c) × (slice_index s.firsts c < slice_index s.ends c) × (slice_index s.ends c ≤ n)) (sym middles)
-          (good.spans c (subst (λ (xs : List ℕ). c < length xs) firsts h))));
-      owned = λ c p h low high. subst (λ (xs : List ℕ). slice_index xs (slice_index t.order p) ≡ c) (sym blocks) (subst (λ (xs : List ℕ). block_at s (slice_index xs p) ≡ c) (sym order)
-          (good.owned c p (subst (λ (xs : List ℕ). c < length xs) firsts h) (subst (λ (xs : List ℕ). slice_index xs c ≤ p) firsts low) (subst (λ (xs : List ℕ). p < slice_index xs c) ends high)));
-      whole = ap (λ (xs : List ℕ). sizes xs t.ends) firsts ∙ ap (λ (xs : List ℕ). sizes s.firsts xs) ends ∙ good.whole;
-      listed = λ c h. elim (cases_eq c b) as (λ _. has t.waiting c ≡ true) [
-        | inl e ↦ absurd (false≢true (sym waits_not ∙ ap (λ x. waits t x) (sym e) ∙ h))
-        | inr ne ↦ elim (has_push_cases t.waiting b c (subst (λ (xs : List ℕ). has xs c ≡ true) waiting (good.listed c (sym (waits_then c ne) ∙ h)))) as (λ _. has t.waiting c ≡ true) [ inl old ↦ old | inr e ↦ absurd (ne (sym e)) ]
-      ];
-      known = λ c h. subst (λ (xs : List ℕ). c < length xs) (sym firsts) (good.known c (subst (λ (xs : List ℕ). has xs c ≡ true) (sym waiting) (has_more t.waiting b c h)));
-    };
-    calm = λ calm c h. ap (λ (xs : List ℕ). slice_index xs c) middles ∙ calm c (subst (λ (xs : List ℕ). c < length xs) firsts h) ∙ sym (ap (λ (xs : List ℕ). slice_index xs c) firsts);
-    known = subst (λ (xs : List ℕ). b < length xs) (sym firsts) known;
-    blocks = blocks;
+    fit = blocks_waiting n s rest flags good (ap (λ (xs : List Bool). length xs) is_flags ∙ length-set s.flags b false)
+        (λ c h. elim (cases_eq c b) as (λ _. has rest c ≡ true) [
+          | inl e ↦ absurd (false≢true (sym waits_not ∙ ap (λ x. slice_index_or flags x false) (sym e) ∙ h))
+          | inr ne ↦ elim (has_push_cases rest b c (subst (λ (xs : List ℕ). has xs c ≡ true) waiting (good.listed c (sym (waits_then c ne) ∙ h)))) as (λ _. has rest c ≡ true) [ inl old ↦ old | inr e ↦ absurd (ne (sym e)) ]
+        ])
+        (λ c h. good.known c (subst (λ (xs : List ℕ). has xs c ≡ true) (sym waiting) (has_more rest b c h)));
+    calm = λ calm. calm;
+    known = known;
+    blocks = refl;
     others = waits_then;
-    less = let p : length t.firsts ≡ length s.firsts = ap (λ (xs : List ℕ). length xs) firsts in let q = shorter in omega arith;
+    less = let e = length_push rest b in let q : length s.waiting ≡ length rest + 1 = ap (λ (xs : List ℕ). length xs) waiting ∙ e in omega arith;
   }
 
 -- the first partition: k is the number of blocks, one unless there is no node

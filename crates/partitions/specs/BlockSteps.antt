@@ -2,49 +2,25 @@
 use Rattle.std.specs.Prelude.{◌≡◌, ◌+◌, ◌<◌, ◌≤◌, ℕ, List, [], ◌∷◌, ◌++◌, true, false, length, slice_index, slice_set, if◌then◌else◌}
 use Rattle.partitions.specs.Blocks.{State, HaveSameBlocks, block_at, waits}
 
--- A block without marks that begins and ends there is added to the lists of where blocks have their nodes, and nothing else changes.
-pub record HasLongerSpans (old new : State) (first end : ℕ) : Type 0 where
-  pub order : new.order ≡ old.order
-  pub places : new.places ≡ old.places
-  pub blocks : new.blocks ≡ old.blocks
-  pub firsts : new.firsts ≡ old.firsts ++ first ∷ []
-  pub middles : new.middles ≡ old.middles ++ first ∷ []
-  pub ends : new.ends ≡ old.ends ++ end ∷ []
-  pub waiting : new.waiting ≡ old.waiting
-  pub flags : new.flags ≡ old.flags
+-- a block without marks between two places more, as the lists tell where blocks have their nodes
+abbrev pub with_span : State → ℕ → ℕ → State
+with_span s first end = record s { firsts = s.firsts ++ first ∷ []; middles = s.middles ++ first ∷ []; ends = s.ends ++ end ∷ [] }
 
--- A block between two places is added, without marks, that doesn't wait, and nothing else changes.
-pub record IsLonger (old new : State) (first end : ℕ) : Type 0 where
-  pub order : new.order ≡ old.order
-  pub places : new.places ≡ old.places
-  pub blocks : new.blocks ≡ old.blocks
-  pub firsts : new.firsts ≡ old.firsts ++ first ∷ []
-  pub middles : new.middles ≡ old.middles ++ first ∷ []
-  pub ends : new.ends ≡ old.ends ++ end ∷ []
-  pub waiting : new.waiting ≡ old.waiting
-  pub flags : new.flags ≡ old.flags ++ false ∷ []
+-- the same, and that it doesn't wait
+abbrev pub with_block : State → ℕ → ℕ → State
+with_block s first end = record (with_span s first end) { flags = s.flags ++ false ∷ [] }
 
--- The first node of its block that isn't marked changes places with the node, which is marked then.
-pub record IsAdvanced (old new : State) (node : ℕ) : Type 0 where
-  pub order : new.order ≡ slice_set (slice_set old.order (slice_index old.places node) (slice_index old.order (slice_index old.middles (block_at old node)))) (slice_index old.middles (block_at old node)) node
-  pub places : new.places ≡ slice_set (slice_set old.places (slice_index old.order (slice_index old.middles (block_at old node))) (slice_index old.places node)) node (slice_index old.middles (block_at old node))
-  pub middles : new.middles ≡ slice_set old.middles (block_at old node) (slice_index old.middles (block_at old node) + 1)
-  pub blocks : new.blocks ≡ old.blocks
-  pub firsts : new.firsts ≡ old.firsts
-  pub ends : new.ends ≡ old.ends
-  pub waiting : new.waiting ≡ old.waiting
-  pub flags : new.flags ≡ old.flags
+-- the node with the first one of its block that isn't marked in its place, and marked
+abbrev pub with_mark : State → ℕ → State
+with_mark s node = record s {
+  order = slice_set (slice_set s.order (slice_index s.places node) (slice_index s.order (slice_index s.middles (block_at s node)))) (slice_index s.middles (block_at s node)) node;
+  places = slice_set (slice_set s.places (slice_index s.order (slice_index s.middles (block_at s node))) (slice_index s.places node)) node (slice_index s.middles (block_at s node));
+  middles = slice_set s.middles (block_at s node) (slice_index s.middles (block_at s node) + 1);
+}
 
--- The block waits, and nothing else changes.
-pub record IsAwaited (old new : State) (b : ℕ) : Type 0 where
-  pub order : new.order ≡ old.order
-  pub places : new.places ≡ old.places
-  pub blocks : new.blocks ≡ old.blocks
-  pub firsts : new.firsts ≡ old.firsts
-  pub middles : new.middles ≡ old.middles
-  pub ends : new.ends ≡ old.ends
-  pub flags : new.flags ≡ slice_set old.flags b true
-  pub waiting : new.waiting ≡ (if waits old b then old.waiting else old.waiting ++ b ∷ [])
+-- the block waits
+abbrev pub with_waiting : State → ℕ → State
+with_waiting s b = record s { flags = slice_set s.flags b true; waiting = if waits s b then s.waiting else s.waiting ++ b ∷ [] }
 
 -- The marked nodes of the block, which are not all, are a block of their own, the last one, and nothing else changes.
 pub record IsDivided (old new : State) (b : ℕ) : Type 0 where

@@ -4,7 +4,7 @@
 ghost use Rattle.std.specs.Prelude.{◌≡◌, ◌↔◌, ◌||◌, ◌+◌, ◌<◌, ◌≤◌, ◌^◌, ℕ, [], ◌∷◌, ◌++◌, false, true, replicate, length, All, slice_index, IsTrue, IfOk, OnOk, MatchOption};
 ghost use Rattle.partitions.specs.Blocks.{count_of, state_of, HasBlocks, AreBoth, AreCut, AreMarked, AreTouched, IsCalm, IsCut, IsDone, IsMarked, IsSplit, IsTaken, IsWhole};
 ghost use Rattle.csp_base.specs.Members.{has};
-ghost use Rattle.partitions.specs.BlockSteps.{HasLongerSpans, IsAdvanced, IsAwaited, IsCalmed, IsDivided, IsLonger};
+ghost use Rattle.partitions.specs.BlockSteps.{IsCalmed, IsDivided, with_block, with_mark, with_span, with_waiting};
 
 use csp_base::NoMemory;
 use std::alloc::Global;
@@ -35,13 +35,13 @@ pub fn whole(alloc: Global, count: u32) -> Result<Partition, NoMemory>
     ensures { IfOk result (λ made. IsWhole count (state_of made)) }
 {
     let number = if count == 0 { 0 } else { 1 };
-    let order = counted(alloc, count)?;
-    let places = counted(alloc, count)?;
-    let blocks = filled(alloc, 0, count as usize)?;
-    let firsts = filled(alloc, 0, number)?;
-    let middles = filled(alloc, 0, number)?;
-    let ends = filled(alloc, count, number)?;
-    let waiting = filled(alloc, 0, number)?;
+    let order = numbers_below(alloc, count)?;
+    let places = numbers_below(alloc, count)?;
+    let blocks = repeat(alloc, 0, count as usize)?;
+    let firsts = repeat(alloc, 0, number)?;
+    let middles = repeat(alloc, 0, number)?;
+    let ends = repeat(alloc, count, number)?;
+    let waiting = repeat(alloc, 0, number)?;
     let flags = all_set(alloc, number)?;
     Ok(Partition {
         order,
@@ -56,7 +56,7 @@ pub fn whole(alloc: Global, count: u32) -> Result<Partition, NoMemory>
 }
 
 // As many times the value as `number` says.
-fn filled(alloc: Global, value: u32, number: usize) -> Result<Vec<u32>, NoMemory>
+fn repeat(alloc: Global, value: u32, number: usize) -> Result<Vec<u32>, NoMemory>
     ensures { IfOk result (λ made. made.items ≡ replicate number value) }
 {
     vec![in alloc; value; number]
@@ -70,7 +70,7 @@ fn all_set(alloc: Global, number: usize) -> Result<Vec<bool>, NoMemory>
 }
 
 // The numbers below `count`.
-fn counted(alloc: Global, count: u32) -> Result<Vec<u32>, NoMemory>
+fn numbers_below(alloc: Global, count: u32) -> Result<Vec<u32>, NoMemory>
     ensures len { IfOk result (λ made. length made.items ≡ count) }
     ensures each { IfOk result (λ made. (i : ℕ) → i < count → slice_index made.items i ≡ i) }
 {
@@ -141,7 +141,7 @@ impl Partition {
         ensures { OnOk result (AreCut (count_of self.old) (state_of self.old) (state_of self.new)) }
     {
         for block in touched {
-            self.cut(*block)?;
+            self.cut_block(*block)?;
         }
         Ok(())
     }
@@ -172,7 +172,7 @@ impl Partition {
         requires node { node < count_of self.old }
         requires unmarked { slice_index self.old.middles.items
             (slice_index self.old.blocks.items node) ≤ slice_index self.old.places.items node }
-        ensures { IsAdvanced (state_of self.old) (state_of self.new) node }
+        ensures { state_of self.new ≡ with_mark (state_of self.old) node }
     {
         let block = self.blocks[node as usize];
         let place = self.places[node as usize];
@@ -186,7 +186,7 @@ impl Partition {
     }
 
     // Makes the marked nodes of a block a block of their own, unless all nodes or none are marked, and takes the marks away.
-    fn cut(&mut self, block: u32) -> Result<(), NoMemory>
+    fn cut_block(&mut self, block: u32) -> Result<(), NoMemory>
         requires blocks { HasBlocks (count_of self.old) (state_of self.old) }
         requires block { block < length self.old.firsts.items }
         ensures { OnOk result (IsCut (count_of self.old) (state_of self.old) (state_of self.new) block) }
@@ -264,7 +264,7 @@ impl Partition {
     // Adds a block between two places, and answers its number. It has no marks, and doesn't wait.
     fn add_block(&mut self, first: u32, end: u32) -> Result<u32, NoMemory>
         requires { length self.old.firsts.items < 2 ^ 32 }
-        ensures longer { OnOk result (IsLonger (state_of self.old) (state_of self.new) first end) }
+        ensures longer { OnOk result (state_of self.new ≡ with_block (state_of self.old) first end) }
         ensures new { IfOk result (λ new. new ≡ length self.old.firsts.items) }
     {
         let new = self.firsts.len() as u32;
@@ -275,7 +275,7 @@ impl Partition {
 
     // Adds where a block without marks begins and ends.
     fn add_span(&mut self, first: u32, end: u32) -> Result<(), NoMemory>
-        ensures { OnOk result (HasLongerSpans (state_of self.old) (state_of self.new) first end) }
+        ensures { OnOk result (state_of self.new ≡ with_span (state_of self.old) first end) }
     {
         push(&mut self.firsts, first)?;
         push(&mut self.middles, first)?;
@@ -286,7 +286,7 @@ impl Partition {
     // Lets a block wait, if it doesn't yet.
     fn wait(&mut self, block: u32) -> Result<(), NoMemory>
         requires { block < length self.old.flags.items }
-        ensures { OnOk result (IsAwaited (state_of self.old) (state_of self.new) block) }
+        ensures { OnOk result (state_of self.new ≡ with_waiting (state_of self.old) block) }
     {
         if !self.flags[block as usize] {
             self.waiting.push(block)?;

@@ -1,2 +1,3 @@
 pub mod LowLemmas
+pub mod Prelude
 pub mod StoreLemmas

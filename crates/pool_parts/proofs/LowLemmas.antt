@@ -1,14 +1,6 @@
 -- Numbers below which no name is read, of names put together.
-use Rattle.std.proofs.Common.{◌≡◌, ◌⊎◌, inl, inr, ℕ, ◌+◌, ◌<◌, ◌≤◌, min, Bool, true, false, ◌||◌, ◌&&◌, not, nat_eq, List, [], ◌∷◌, length, map, drop, get_or, Some, None, refl, ap, sym, ◌∙◌, subst, arith, drop_of_length-le}
-use Rattle.std.proofs.lemmas.Bool.{false≢true, eqb-true}
-use Rattle.csp_base.proofs.Lists.{drop_read}
-use Rattle.csp_program.specs.Prelude.{Names, Binding, any_of, before, either, expr_free, gen_binding, nowhere, under, Given}
-use Rattle.csp_program.specs.declared.expressions.Gen.{Gen}
-use Rattle.csp_program.specs.declared.processes.Field.{Field}
+use Rattle.pool_parts.proofs.Prelude.{◌≡◌, ◌⊎◌, inl, inr, ℕ, ◌+◌, ◌<◌, ◌≤◌, min, Bool, true, false, ◌||◌, ◌&&◌, not, nat_eq, List, [], ◌∷◌, length, map, drop, get_or, Some, None, refl, ap, sym, ◌∙◌, subst, arith, drop_of_length-le, false≢true, eqb-true, drop_read, Names, Binding, any_of, before, either, expr_free, gen_binding, nowhere, under, Given, Gen, Field, IsLow, GetNone, NoneFrom}
 use Rattle.csp_program.specs.declared.processes.Field.TheVariants as field
-use Rattle.pool_parts.specs.Low.{IsLow}
-use Rattle.substitution.specs.Laws.{GetNone}
-use Rattle.substitution.specs.Named.{NoneFrom}
 
 -- where one of two or what is left under a binding is so, in terms of what that is made of
 through : (a n u v w : Bool) → (u ≡ true → (v ≡ true) ⊎ (w ≡ true)) → a || (n && u) ≡ true → (a || (n && v) ≡ true) ⊎ (w ≡ true)

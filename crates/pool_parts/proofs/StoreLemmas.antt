@@ -1,14 +1,5 @@
 -- Lists in which nothing stands twice, and lists that grow at their end.
-use Rattle.std.proofs.Common.{◌≡◌, ℕ, zero, suc, ◌<◌, Bool, true, false, cond, ◌||◌, Some, None, Option, List, [], ◌∷◌, ◌++◌, length, get_or, slice_get, refl, ap, sym, ◌∙◌, subst}
-use Rattle.csp_base.proofs.Standard.{false≢true, or_right, slice_get-get_or, IsDistinct-head, IsDistinct-tail}
-use Rattle.csp_base.specs.Standard.{IsDistinct, AllByRecursion, is_member}
-use Rattle.std.specs.Prelude.{is_some, IfSome, MatchOption, Result, Ok, Err, OnOk, OnErr}
-use Rattle.containers.proofs.MembersLemmas.{slice_get-append_left}
-use Rattle.containers.specs.Members.{with_new}
-use Rattle.pool_parts.specs.Prelude.{AreNoted, IsAbsent, IsMeasure, IsStart}
-use Rattle.pool_parts.specs.declared.measure.Measure.{Measure}
-use Rattle.csp_program.specs.Free.{Names}
-use Rattle.csp_base.specs.Lists.{EachOnce}
+use Rattle.pool_parts.proofs.Prelude.{◌≡◌, ℕ, zero, suc, ◌<◌, Bool, true, false, cond, ◌||◌, Some, None, Option, List, [], ◌∷◌, ◌++◌, length, get_or, slice_get, refl, ap, sym, ◌∙◌, subst, false≢true, or_right, slice_get-get_or, IsDistinct-head, IsDistinct-tail, IsDistinct, AllByRecursion, is_member, is_some, IfSome, MatchOption, Result, Ok, Err, OnOk, OnErr, slice_get-append_left, with_new, AreNoted, IsAbsent, IsMeasure, IsStart, Measure, Names, EachOnce}
 
 every_at : {T : Type 0} (P : T → Type 0) (xs : List T) → AllByRecursion P xs → (k : ℕ) (x : T) → slice_get xs k ≡ Some x → P x
 every_at P [] h k x g = cc

@@ -3,3 +3,4 @@ pub use Rattle.pool_parts.specs.Counting.{capped}
 pub use Rattle.pool_parts.specs.ExactId.{eq_id}
 unfoldable pub use Rattle.pool_parts.specs.Low.{IsLow}
 pub use Rattle.pool_parts.specs.Stored.{AreNoted, IsAbsent, IsMeasure, IsStart}
+pub use Rattle.pool_parts.specs.declared.measure.Measure.{Measure}

@@ -2,8 +2,7 @@
 
 ghost use Rattle.std.specs.Prelude.{◌≡◌, ◌+◌, max, min, nat_eq};
 ghost use Rattle.csp_program.specs.Free.{either, nowhere, Names};
-ghost use Rattle.pool_parts.specs.Counting.{capped};
-ghost use Rattle.pool_parts.specs.Low.{IsLow};
+ghost use Rattle.pool_parts.specs.Prelude.{capped, IsLow};
 
 /// What is noted of a term or of a part of one.
 #[derive(Clone, Copy)]
@@ -18,7 +17,7 @@ pub struct Measure {
 
 /// What no parts measure.
 #[tactic(auto, using(crate::proofs::LowLemmas::none_low))]
-pub fn nothing() -> Measure
+pub fn leaf() -> Measure
     ensures depth { result.depth ≡ 0 }
     ensures size { result.size ≡ 0 }
     ensures low { IsLow result.least nowhere }
@@ -46,26 +45,26 @@ pub fn name(number: u32) -> Measure
 
 /// What parts measure together.
 #[tactic(auto, using(crate::proofs::LowLemmas::low_either))]
-pub fn together(left: Measure, right: Measure) -> Measure
+pub fn join(left: Measure, right: Measure) -> Measure
     ensures depth { result.depth ≡ max left.depth right.depth }
     ensures size { result.size ≡ capped (left.size + right.size) }
     ensures least { result.least ≡ min left.least right.least }
     ensures low { (a b : Names) → IsLow left.least a → IsLow right.least b → IsLow result.least (either a b) }
 {
     Measure {
-        depth: greater(left.depth, right.depth),
+        depth: maximum(left.depth, right.depth),
         size: left.size.saturating_add(right.size),
-        least: lower(left.least, right.least),
+        least: minimum(left.least, right.least),
     }
 }
 
-fn greater(left: u32, right: u32) -> u32
+fn maximum(left: u32, right: u32) -> u32
     ensures { result ≡ max left right }
 {
     if left < right { right } else { left }
 }
 
-fn lower(left: u32, right: u32) -> u32
+fn minimum(left: u32, right: u32) -> u32
     ensures { result ≡ min left right }
 {
     if left < right { left } else { right }
@@ -85,7 +84,7 @@ pub fn node(parts: Measure) -> Measure
 }
 
 /// What a field, a pair or a generator with these parts measures: it is no deeper than they are.
-pub fn counted(parts: Measure) -> Measure
+pub fn item(parts: Measure) -> Measure
     ensures depth { result.depth ≡ parts.depth }
     ensures size { result.size ≡ capped (1 + parts.size) }
     ensures least { result.least ≡ parts.least }

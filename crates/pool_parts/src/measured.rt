@@ -2,11 +2,10 @@
 
 ghost use Rattle.std.specs.Prelude.{◌≡◌, ◌+◌, [], ◌∷◌, max, map};
 ghost use Rattle.csp_program.specs.Prelude.{expr_depth, gen_depth, part_depth, pair_depth, field_depth, any_of, before, either, expr_free, gen_binding, head_free, nowhere, pair_free, part_free, under, elements_of, expr_size, gen_size, part_size, pair_size, field_size};
-ghost use Rattle.pool_parts.specs.Counting.{capped};
-ghost use Rattle.pool_parts.specs.Low.{IsLow};
+ghost use Rattle.pool_parts.specs.Prelude.{capped, IsLow};
 ghost use Rattle.csp_base.specs.Lists.{greatest, total};
 
-use crate::measure::{Measure, counted, elements, name, node, nothing, together};
+use crate::measure::{Measure, elements, item, join, leaf, name, node};
 use containers::{Boxed, Items};
 use csp_program::{EventPart, Expr, Field, Gen, Head, Value};
 
@@ -17,7 +16,7 @@ fn of_value(value: &Value) -> Measure
     ensures low { IsLow result.least nowhere }
 {
     match value {
-        Value::One(_) => nothing(),
+        Value::One(_) => leaf(),
         Value::Many(atoms) => elements(atoms.len()),
     }
 }
@@ -41,17 +40,17 @@ fn of_parts_of_expr(expr: &Expr) -> Measure
     ensures low { IsLow result.least (expr_free expr.now) }
 {
     match expr {
-        Expr::Num(_) => nothing(),
-        Expr::Truth(_) => nothing(),
-        Expr::Const(_) => nothing(),
+        Expr::Num(_) => leaf(),
+        Expr::Truth(_) => leaf(),
+        Expr::Const(_) => leaf(),
         Expr::Bound(number) => name(*number),
         Expr::Lit(value) => of_value(value),
         Expr::Neg(a) => of_expr(a.get()),
         Expr::Not(a) => of_expr(a.get()),
         Expr::Binary(_, a, b) => of_both(a, b),
-        Expr::If(c, a, b) => together(of_expr(c.get()), of_both(a, b)),
+        Expr::If(c, a, b) => join(of_expr(c.get()), of_both(a, b)),
         Expr::Call(_, args) => of_exprs(args.as_slice()),
-        Expr::SetName(_) => nothing(),
+        Expr::SetName(_) => leaf(),
         Expr::Event(_, fields) => of_exprs(fields.as_slice()),
         Expr::Display(items) => of_exprs(items.as_slice()),
         Expr::Range(a, b) => of_both(a, b),
@@ -68,7 +67,7 @@ fn of_both(a: &Boxed<Expr>, b: &Boxed<Expr>) -> Measure
     ensures size { result.size ≡ capped (expr_size a.now + expr_size b.now) }
     ensures low { IsLow result.least (either (expr_free a.now) (expr_free b.now)) }
 {
-    together(of_expr(a.get()), of_expr(b.get()))
+    join(of_expr(a.get()), of_expr(b.get()))
 }
 
 // What the parts of a comprehension measure together.
@@ -79,7 +78,7 @@ fn of_comprehension(items: &Items<Expr>, gens: &Items<Gen>) -> Measure
     ensures size { result.size ≡ capped (total (map expr_size items.now) + total (map gen_size gens.now)) }
     ensures low { IsLow result.least (under (map gen_binding gens.now) (any_of (map expr_free items.now))) }
 {
-    together(of_exprs(items.as_slice()), of_gens(gens.as_slice()))
+    join(of_exprs(items.as_slice()), of_gens(gens.as_slice()))
 }
 
 // What the parts of a production measure together.
@@ -90,7 +89,7 @@ fn of_production(parts: &Items<EventPart>, gens: &Items<Gen>) -> Measure
     ensures size { result.size ≡ capped (total (map part_size parts.now) + total (map gen_size gens.now)) }
     ensures low { IsLow result.least (under (map gen_binding gens.now) (any_of (map part_free parts.now))) }
 {
-    together(of_parts(parts.as_slice()), of_gens(gens.as_slice()))
+    join(of_parts(parts.as_slice()), of_gens(gens.as_slice()))
 }
 
 /// What expressions measure together.
@@ -100,9 +99,9 @@ pub fn of_exprs(exprs: &[Expr]) -> Measure
     ensures size { result.size ≡ capped (total (map expr_size exprs.now)) }
     ensures low { IsLow result.least (any_of (map expr_free exprs.now)) }
 {
-    let mut all = nothing();
+    let mut all = leaf();
     for expr in exprs {
-        all = together(all, of_expr(expr));
+        all = join(all, of_expr(expr));
     }
     all
 }
@@ -115,8 +114,8 @@ fn of_gen(generator: &Gen) -> Measure
     ensures low { IsLow result.least ((gen_binding generator.now).0) }
 {
     match generator {
-        Gen::From(_, set) => counted(of_expr(set)),
-        Gen::Cond(condition) => counted(of_expr(condition)),
+        Gen::From(_, set) => item(of_expr(set)),
+        Gen::Cond(condition) => item(of_expr(condition)),
     }
 }
 
@@ -127,9 +126,9 @@ pub fn of_gens(gens: &[Gen]) -> Measure
     ensures size { result.size ≡ capped (total (map gen_size gens.now)) }
     ensures low { IsLow result.least (under (map gen_binding gens.now) nowhere) }
 {
-    let mut all = nothing();
+    let mut all = leaf();
     for generator in gens {
-        all = together(all, of_gen(generator));
+        all = join(all, of_gen(generator));
     }
     all
 }
@@ -150,9 +149,9 @@ fn of_parts(parts: &[EventPart]) -> Measure
     ensures size { result.size ≡ capped (total (map part_size parts.now)) }
     ensures low { IsLow result.least (any_of (map part_free parts.now)) }
 {
-    let mut all = nothing();
+    let mut all = leaf();
     for part in parts {
-        all = together(all, of_part(part));
+        all = join(all, of_part(part));
     }
     all
 }
@@ -163,9 +162,9 @@ fn of_field(field: &Field) -> Measure
     ensures low { IsLow result.least (before (field.now ∷ []) nowhere) }
 {
     match field {
-        Field::Put(expr) => counted(of_expr(expr)),
-        Field::Get(_, None) => counted(nothing()),
-        Field::Get(_, Some(set)) => counted(of_expr(set)),
+        Field::Put(expr) => item(of_expr(expr)),
+        Field::Get(_, None) => item(leaf()),
+        Field::Get(_, Some(set)) => item(of_expr(set)),
     }
 }
 
@@ -175,9 +174,9 @@ pub fn of_fields(fields: &[Field]) -> Measure
     ensures size { result.size ≡ capped (total (map field_size fields.now)) }
     ensures low { IsLow result.least (before fields.now nowhere) }
 {
-    let mut all = nothing();
+    let mut all = leaf();
     for field in fields {
-        all = together(all, of_field(field));
+        all = join(all, of_field(field));
     }
     all
 }
@@ -187,7 +186,7 @@ fn of_pair(pair: &(EventPart, EventPart)) -> Measure
     ensures size { result.size ≡ capped (pair_size pair.now) }
     ensures low { IsLow result.least (pair_free pair.now) }
 {
-    counted(together(of_part(&pair.0), of_part(&pair.1)))
+    item(join(of_part(&pair.0), of_part(&pair.1)))
 }
 
 /// What the pairs of a renaming measure together.
@@ -196,22 +195,22 @@ pub fn of_pairs(pairs: &[(EventPart, EventPart)]) -> Measure
     ensures size { result.size ≡ capped (total (map pair_size pairs.now)) }
     ensures low { IsLow result.least (any_of (map pair_free pairs.now)) }
 {
-    let mut all = nothing();
+    let mut all = leaf();
     for pair in pairs {
-        all = together(all, of_pair(pair));
+        all = join(all, of_pair(pair));
     }
     all
 }
 
-/// What a head measures: it counts nothing.
+/// What a head measures: it counts leaf.
 pub fn of_head(head: &Head) -> Measure
     ensures depth { result.depth ≡ 0 }
     ensures size { result.size ≡ 0 }
     ensures low { IsLow result.least (head_free head.now) }
 {
     match head {
-        Head::Channel(_) => nothing(),
+        Head::Channel(_) => leaf(),
         Head::Bound(number) => name(*number),
-        Head::Put(_) => nothing(),
+        Head::Put(_) => leaf(),
     }
 }

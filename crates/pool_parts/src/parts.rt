@@ -5,7 +5,7 @@ ghost use Rattle.csp_base.specs.Lists.{greatest, total};
 ghost use Rattle.csp_program.specs.Prelude.{expr_depth, field_depth, gen_depth, pair_depth, any_of, before, expr_free, gen_binding, head_free, nowhere, pair_free, under, expr_size, field_size, gen_size, pair_size, expr_with, fields_with, gens_with, head_with};
 ghost use Rattle.substitution.proofs.Stays.{expr_stays, exprs_stay, fields_stay, gens_stay, head_stays};
 
-use crate::measure::{Measure, nothing};
+use crate::measure::{Measure, leaf};
 use crate::measured::{of_expr, of_exprs, of_fields, of_gens, of_head, of_pairs};
 use crate::place::ProcId;
 use crate::put::Put;
@@ -38,8 +38,8 @@ impl Put for Head {
 
     ghost stays = { head_stays };
 
-    fn put(&self, alloc: Global, values: &Values<'_>) -> Result<Head, NoMemory> {
-        put_head(alloc, self, values)
+    fn put(&self, values: &Values<'_>) -> Result<Head, NoMemory> {
+        put_head(self, values)
     }
 }
 
@@ -64,8 +64,8 @@ impl Put for Items<Field> {
 
     ghost stays = { fields_stay };
 
-    fn put(&self, alloc: Global, values: &Values<'_>) -> Result<Items<Field>, NoMemory> {
-        put_fields(alloc, self.as_slice(), values)
+    fn put(&self, values: &Values<'_>) -> Result<Items<Field>, NoMemory> {
+        put_fields(self.as_slice(), values)
     }
 }
 
@@ -90,8 +90,8 @@ impl Put for Expr {
 
     ghost stays = { expr_stays };
 
-    fn put(&self, alloc: Global, values: &Values<'_>) -> Result<Expr, NoMemory> {
-        put_expr(alloc, self, values)
+    fn put(&self, values: &Values<'_>) -> Result<Expr, NoMemory> {
+        put_expr(self, values)
     }
 }
 
@@ -116,8 +116,8 @@ impl Put for Items<Expr> {
 
     ghost stays = { exprs_stay };
 
-    fn put(&self, alloc: Global, values: &Values<'_>) -> Result<Items<Expr>, NoMemory> {
-        put_exprs(alloc, self.as_slice(), values)
+    fn put(&self, values: &Values<'_>) -> Result<Items<Expr>, NoMemory> {
+        put_exprs(self.as_slice(), values)
     }
 }
 
@@ -158,8 +158,8 @@ impl Put for Items<Gen> {
 
     ghost stays = { gens_stay };
 
-    fn put(&self, alloc: Global, values: &Values<'_>) -> Result<Items<Gen>, NoMemory> {
-        put_gens(alloc, self.as_slice(), values)
+    fn put(&self, values: &Values<'_>) -> Result<Items<Gen>, NoMemory> {
+        put_gens(self.as_slice(), values)
     }
 }
 
@@ -176,6 +176,6 @@ impl Part for Items<ProcId> {
     }
 
     fn measure(&self) -> Measure {
-        nothing()
+        leaf()
     }
 }

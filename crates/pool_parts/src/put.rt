@@ -8,7 +8,6 @@ ghost use Rattle.substitution.specs.Laws.{GetNone};
 
 use crate::store::{Part, Store};
 use csp_base::NoMemory;
-use std::alloc::Global;
 use substitution::Values;
 
 /// A part that values are put into.
@@ -16,7 +15,7 @@ pub trait Put: Part {
     ghost with: { Given → Self → Self };
 
     /// The part with the values in place of its free names.
-    fn put(&self, alloc: Global, values: &Values<'_>) -> Result<Self, NoMemory>
+    fn put(&self, values: &Values<'_>) -> Result<Self, NoMemory>
         ensures { IfOk result (λ made. made ≡ with (given_by values.now) self.now) };
 
     ghost stays: { (given : Given) (part : Self) → GetNone given (Self.Part.free part) → with given part ≡ part };
@@ -25,7 +24,6 @@ pub trait Put: Part {
 /// The number of what the part with the number `place` is with the values in place of its free names. One that reads no name so low stays as it is.
 pub fn put_values<T: Put>(
     store: &mut Store<T>,
-    alloc: Global,
     place: usize,
     values: &Values<'_>,
 ) -> Result<usize, NoMemory>
@@ -37,6 +35,6 @@ pub fn put_values<T: Put>(
     if values.are_below(store.measure(place).least) {
         return Ok(place);
     }
-    let made = store.get(place).put(alloc, values);
+    let made = store.get(place).put(values);
     store.keep_made(made)
 }

@@ -1,10 +1,7 @@
 //! Values that a pool keeps once each, with what each measures.
 
 ghost use Rattle.std.specs.Prelude.{◌≡◌, ℕ, ◌<◌, [], length, slice_get, slice_index_or, IfOk, IsTrue, List, MatchOption, OnErr, Some};
-ghost use Rattle.pool_parts.specs.Counting.{capped};
-ghost use Rattle.pool_parts.specs.Low.{IsLow};
-ghost use Rattle.pool_parts.specs.Stored.{AreNoted, IsAbsent, IsMeasure, IsStart};
-ghost use Rattle.pool_parts.specs.declared.measure.Measure.{Measure};
+ghost use Rattle.pool_parts.specs.Prelude.{capped, IsLow, AreNoted, IsAbsent, IsMeasure, IsStart, Measure};
 ghost use Rattle.csp_base.specs.Lists.{EachOnce};
 ghost use Rattle.csp_program.specs.Free.{Names};
 
@@ -38,19 +35,20 @@ pub trait Part: Exact + Hash + Drop {
 ///
 /// Contracts see the list of the parts.
 pub struct Store<T: Part> {
+    alloc: Global,
     parts: Numbering<T, QuickKey>,
     notes: Items<Measure>,
     // the number that was told last: the same part is often asked for again
     latest: usize,
 }
 
-// By hand, so that a crate that ends one calls this and proves no end of its own.
 impl<T: Part + Drop> Drop for Store<T> {
     fn drop(self) {
         let Store {
-            parts: _parts,
-            notes: _notes,
-            latest: _latest,
+            alloc,
+            parts,
+            notes,
+            latest,
         } = self;
     }
 }
@@ -75,10 +73,16 @@ impl<T: Part> Store<T> {
         ensures { result ≡ [] }
     {
         Store {
+            alloc,
             parts: Numbering::under(alloc, key),
             notes: Items::new(alloc),
             latest: 0,
         }
+    }
+
+    /// Where memory comes from.
+    pub fn alloc(&self) -> Global {
+        self.alloc
     }
 
     /// The parts in the order of their numbers.
@@ -108,13 +112,17 @@ impl<T: Part> Store<T> {
     }
 
     /// The number of the part, of which a copy is kept where it is new.
-    pub fn keep(&mut self, alloc: Global, part: &T) -> Result<usize, NoMemory>
+    pub fn keep(&mut self, part: &T) -> Result<usize, NoMemory>
         ensures place { IfOk result (λ place. slice_get self.new place ≡ Some part.now) }
         ensures start { IsStart self.old self.new }
         ensures once { EachOnce self.new }
         ensures err_only_new { OnErr result (IsAbsent self.old part.now) }
     {
-        let place = keep_in(&mut self.parts, &mut self.notes, self.latest, alloc, part)?;
+        if let Some(place) = find_in(&self.parts, self.latest, part) {
+            self.latest = place;
+            return Ok(place);
+        }
+        let place = keep_made_in(&mut self.parts, &mut self.notes, part.copy(self.alloc))?;
         self.latest = place;
         Ok(place)
     }
@@ -175,34 +183,15 @@ fn is_at<T: Part>(parts: &Numbering<T, QuickKey>, place: usize, part: &T) -> boo
 
 // The number of the part, if it has one: `latest` is looked at first.
 fn find_in<T: Part>(parts: &Numbering<T, QuickKey>, latest: usize, part: &T) -> Option<usize>
-    ensures { MatchOption result (IsAbsent parts.now part.now) (λ place. slice_get parts.now place ≡ Some part.now) }
+    ensures found { MatchOption result (IsAbsent parts.now part.now)
+        (λ place. slice_get parts.now place ≡ Some part.now) }
+    ensures once { EachOnce parts.now }
 {
+    let _ = slice_of(parts);
     if is_at(parts, latest, part) {
         return Some(latest);
     }
     parts.find(part)
-}
-
-// The number of the part, of which a copy is kept where it is new.
-fn keep_in<T: Part>(
-    parts: &mut Numbering<T, QuickKey>,
-    notes: &mut Items<Measure>,
-    latest: usize,
-    alloc: Global,
-    part: &T,
-) -> Result<usize, NoMemory>
-    requires noted { AreNoted T.depth T.size T.free notes.old parts.old }
-    ensures noted { AreNoted T.depth T.size T.free notes.new parts.new }
-    ensures place { IfOk result (λ place. slice_get parts.new place ≡ Some part.now) }
-    ensures start { IsStart parts.old parts.new }
-    ensures once { EachOnce parts.new }
-    ensures err_only_new { OnErr result (IsAbsent parts.old part.now) }
-{
-    let _ = slice_of(parts);
-    match find_in(parts, latest, part) {
-        Some(place) => Ok(place),
-        None => keep_made_in(parts, notes, part.copy(alloc)),
-    }
 }
 
 // The number of a part that was made, which is kept itself where it is new.

@@ -1,12 +1,11 @@
 -- Texts of printed forms, from those of their parts: a form is an atom, a dotted event or compound, and may open a bracket of its own. The brackets that a printed tree opens are at most two a level: an operand or an item of depth d
 -- is a text where 2 * d brackets may be opened, and a bare tree where one fewer may be.
-use Rattle.print_laws.proofs.Prelude.{◌≡◌, ℕ, zero, suc, ◌+◌, ◌*◌, ◌<◌, ◌≤◌, List, [], ◌∷◌, ◌++◌, ap, sym, refl, ◌∙◌, subst, append_assoc, arith, tree_depth, set_op_word, OpenParen, CloseParen, Comma, Token, EventTree, FieldTree, Tree-F, roll-Tree, GenTree, PartTree, Tree, Symbol, BinOp, SetOp, TreeText, PrefixText, SequenceText, OpenText, DottedText, ExpressionText, ItemText, AtomText, closed, disjunction-conjunction, conjunction-negation, sum-product, product-minus, disjunction, conjunction, negation, comparison, sum, product, minus, Shape, Atom, Dotted, Compound, as_item, as_operand, form, in_parentheses, item_tokens, operand_tokens, operator_token, printed_tokens, shape_of, at_level, from_level}
+use Rattle.print_laws.proofs.Prelude.{◌≡◌, ℕ, zero, suc, ◌+◌, ◌*◌, ◌<◌, ◌≤◌, List, [], ◌∷◌, ◌++◌, ap, sym, refl, ◌∙◌, subst, append_assoc, arith, tree_depth, set_op_word, OpenParen, CloseParen, Comma, Token, EventTree, FieldTree, Tree-F, roll-Tree, GenTree, PartTree, Tree, Symbol, BinOp, SetOp, TreeText, PrefixText, SequenceText, OpenText, DottedText, ExpressionText, ItemText, AtomText, closed, disjunction-conjunction, conjunction-negation, sum-product, product-minus, disjunction, conjunction, negation, comparison, sum, product, minus, Shape, Atom, Dotted, Compound, as_item, as_operand, form, in_parentheses, item_tokens, operand_tokens, operator_token, printed_tokens, shape_of, at_level, from_level, shape_is}
 use Rattle.csp_text.specs.declared.tree.Tree.TheVariants as tree
 use Rattle.csp_base.specs.declared.operators.BinOp.TheVariants as op
 use Rattle.csp_base.specs.declared.operators.SetOp.TheVariants as set_op
 use Rattle.csp_grammar.specs.Grammar as g
 use Rattle.csp_grammar.specs.Precedence as table
-use Rattle.script_printer.proofs.PrintedEquations.{shape_is}
 use Rattle.print_laws.proofs.Onto as onto
 use Rattle.tree_reading.proofs.NodeDepths as depths
 

@@ -1,8 +1,6 @@
 -- The tokens of each form of tree in front of a rest: `onto _ (tree.rolls-V ..)` is that of a tree V ..
-use Rattle.print_laws.proofs.Prelude.{◌≡◌, ℕ, Some, None, List, [], ◌∷◌, ◌++◌, ap, refl, ◌∙◌, append_assoc, append-nil, flat_map, set_op_word, Arrow, ExternalChoice, InternalChoice, Parallel, OpenRename, CloseRename, OpenProduct, CloseProduct, LeftArrow, DotDot, Dot, Bang, Question, Colon, At, OpenParen, CloseParen, OpenBrace, CloseBrace, OpenBracket, CloseBracket, Comma, Ampersand, Bar, Backslash, Semicolon, Token, Name, Symbol, EventTree, FieldTree, Tree-F, roll-Tree, GenTree, PartTree, Tree, event_tree, part_tree, Printed, form_tokens, operand, operator_token, separated, dotted, conditions, printed, printed_tokens, shape_of, operand_tokens, item_tokens, field_tokens, gen_tokens, event_tokens, part_tokens, renamed_tokens, tree_layer_printed, field_layer_printed, gen_layer_printed, event_layer_printed, part_layer_printed}
-use Rattle.std.proofs.lemmas.List.Folds.{flat_map-map}
+use Rattle.print_laws.proofs.Prelude.{◌≡◌, ℕ, Some, None, List, [], ◌∷◌, ◌++◌, ap, refl, ◌∙◌, append_assoc, append-nil, flat_map, set_op_word, Arrow, ExternalChoice, InternalChoice, Parallel, OpenRename, CloseRename, OpenProduct, CloseProduct, LeftArrow, DotDot, Dot, Bang, Question, Colon, At, OpenParen, CloseParen, OpenBrace, CloseBrace, OpenBracket, CloseBracket, Comma, Ampersand, Bar, Backslash, Semicolon, Token, Name, Symbol, EventTree, FieldTree, Tree-F, roll-Tree, GenTree, PartTree, Tree, event_tree, part_tree, Printed, form_tokens, operand, operator_token, separated, dotted, conditions, printed, printed_tokens, shape_of, operand_tokens, item_tokens, field_tokens, gen_tokens, event_tokens, part_tokens, renamed_tokens, tree_layer_printed, field_layer_printed, gen_layer_printed, event_layer_printed, part_layer_printed, flat_map-map, fold-roll-EventTree, fold-roll-PartTree}
 use Rattle.csp_text.specs.declared.token.Token.TheVariants.{Word}
-use Rattle.csp_text.specs.declared.tree.FieldTree.TheFolds.{fold-roll-EventTree, fold-roll-PartTree}
 use Rattle.csp_text.specs.declared.token.Word.TheVariants as word
 use Rattle.csp_text.specs.declared.tree.FieldTree.TheVariants as field
 use Rattle.csp_text.specs.declared.tree.GenTree.TheVariants as generator

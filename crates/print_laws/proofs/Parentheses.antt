@@ -1,8 +1,7 @@
 -- Tokens that are no parentheses leave open what is open.
-use Rattle.print_laws.proofs.Prelude.{◌≡◌, ℕ, suc, true, false, List, ◌∷◌, refl, sym, ap, false≢true, not, Token, Fits, FitsLine, behind}
+use Rattle.print_laws.proofs.Prelude.{◌≡◌, ℕ, suc, true, false, List, ◌∷◌, refl, sym, ap, false≢true, not, Token, Fits, FitsLine, behind, after_closing}
 use Rattle.csp_text.specs.declared.token.Token.TheVariants as token
 use Rattle.csp_text.specs.declared.token.Symbol.TheVariants as symbol
-use Rattle.csp_lexer.specs.Assertions.{after_closing}
 use Rattle.print_laws.specs.Lines as position
 use Rattle.print_laws.proofs.Plain.{Plain}
 use Rattle.print_laws.proofs.Held.{is_other, is_own}

@@ -1,10 +1,8 @@
 -- The printed text of a script that a text spells spells it too.
-use Rattle.print_laws.proofs.Prelude.{◌≡◌, ℕ, zero, suc, false, List, ◌∷◌, length, refl, sym, subst, arith, Ok, Result, if◌then◌else◌, Place, Decl, Token, front, lexed, PlacedTokens, tokens_of, beginning, DeclarationsText, ScriptText, script_text, Every, Fits, FitsLine, IsName, FoundTokensAreWellFormed, PrintedTextSpellsNoOther, PrintedTextSpellsTheScript, script_tokens, Lines, is_assert, MadeDecls}
-use Rattle.csp_text.specs.declared.script.Script.{Script}
+use Rattle.print_laws.proofs.Prelude.{◌≡◌, ℕ, zero, suc, false, List, ◌∷◌, length, refl, sym, subst, arith, Ok, Result, if◌then◌else◌, Place, Decl, Token, front, lexed, PlacedTokens, tokens_of, beginning, DeclarationsText, ScriptText, script_text, Every, Fits, FitsLine, IsName, FoundTokensAreWellFormed, PrintedTextSpellsNoOther, PrintedTextSpellsTheScript, script_tokens, Lines, is_assert, MadeDecls, Script, one_script}
 use Rattle.csp_text.specs.declared.token.Token.TheVariants as token
 use Rattle.csp_text.specs.declared.token.Word.TheVariants as word
 use Rattle.csp_text.specs.declared.token.Symbol.TheVariants as symbol
-use Rattle.tree_reading.proofs.Unique.{one_script}
 use Rattle.print_laws.specs.Lines as position
 use Rattle.print_laws.proofs.CutScripts.{cuts_decls}
 use Rattle.print_laws.proofs.Cuts.{Cuts}

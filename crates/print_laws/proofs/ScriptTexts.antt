@@ -1,13 +1,10 @@
 -- A script is spelled by its printed tokens.
-use Rattle.print_laws.proofs.Prelude.{◌≡◌, ℕ, ◌+◌, ◌-◌, ◌*◌, ◌≤◌, List, [], ◌∷◌, ◌++◌, map, sym, subst, append_assoc, arith, flat_map, greatest, tree_depth, Decl, Colon, Dot, Defines, Comma, OpenParen, CloseParen, Token, Name, Symbol, Tree, NamesText, TypesText, ParametersText, AssertedText, DeclarationText, DeclarationsText, operand_tokens, printed_tokens, separated, deadlock_free_tokens, decl_tokens, names_tokens, parameters_tokens, types_tokens, MadeTrees, MadeNames, MadeTypes, MadeParameters, MadeDecl, MadeDecls}
+use Rattle.print_laws.proofs.Prelude.{◌≡◌, ℕ, ◌+◌, ◌-◌, ◌*◌, ◌≤◌, List, [], ◌∷◌, ◌++◌, map, sym, subst, append_assoc, arith, flat_map, greatest, tree_depth, Decl, Colon, Dot, Defines, Comma, OpenParen, CloseParen, Token, Name, Symbol, Tree, NamesText, TypesText, ParametersText, AssertedText, DeclarationText, DeclarationsText, operand_tokens, printed_tokens, separated, deadlock_free_tokens, decl_tokens, names_tokens, parameters_tokens, types_tokens, MadeTrees, MadeNames, MadeTypes, MadeParameters, MadeDecl, MadeDecls, Assert, Channel, MOST_BRACKETS, MOST_TREE_DEPTH, trees_fit}
 use Rattle.csp_text.specs.declared.token.Token.TheVariants.{Word}
-use Rattle.csp_text.specs.declared.token.Word.TheVariants.{Assert, Channel}
 use Rattle.csp_text.specs.declared.token.Symbol as symbols
 use Rattle.csp_text.specs.declared.tree.Tree.TheVariants as tree
 use Rattle.csp_text.specs.declared.script.Decl.TheVariants as decl
 use Rattle.csp_grammar.specs.Declarations as g
-use Rattle.dl_limits.specs.declared.TheConstants.{MOST_BRACKETS, MOST_TREE_DEPTH}
-use Rattle.dl_limits.proofs.Printing.{trees_fit}
 use Rattle.print_laws.specs.Made as m
 use Rattle.print_laws.proofs.Onto as onto
 use Rattle.print_laws.proofs.Forms.{Texted}

@@ -1,5 +1,5 @@
 -- Each tree that the grammar has is spelled by its printed tokens.
-use Rattle.print_laws.proofs.Prelude.{ℕ, suc, ◌*◌, ◌≤◌, ◌<◌, Bool, true, Some, None, List, [], ◌∷◌, ◌++◌, length, map, refl, sym, ◌∙◌, subst, arith, flat_map, field_depth, gen_depth, part_depth, tree_depth, ExternalChoice, InternalChoice, Comma, Token, Name, Symbol, FieldTree, GenTree, PartTree, Tree, Choice, choice_sign, choice_of, event_tree, part_tree, TreeText, ChoiceText, DottedText, DotsText, FieldsText, PairsText, PartText, PartsText, ConditionsText, GensText, GenText, ItemsText, closed, disjunction, negation, sum, minus, renaming, conditions, dotted, field_tokens, gen_tokens, item_tokens, operand_tokens, part_tokens, renamed_tokens, separated, MadeTree, MadeTrees, MadeDots, MadeFields, MadePart, MadeParts, MadePairs, MadeGen, MadeGens, MadeConditions, at_level, from_level, greatest}
+use Rattle.print_laws.proofs.Prelude.{ℕ, suc, ◌*◌, ◌≤◌, ◌<◌, Bool, true, Some, None, List, [], ◌∷◌, ◌++◌, length, map, refl, sym, ◌∙◌, subst, arith, flat_map, field_depth, gen_depth, part_depth, tree_depth, ExternalChoice, InternalChoice, Comma, Token, Name, Symbol, FieldTree, GenTree, PartTree, Tree, Choice, choice_sign, choice_of, event_tree, part_tree, TreeText, ChoiceText, DottedText, DotsText, FieldsText, PairsText, PartText, PartsText, ConditionsText, GensText, GenText, ItemsText, closed, disjunction, negation, sum, minus, renaming, conditions, dotted, field_tokens, gen_tokens, item_tokens, operand_tokens, part_tokens, renamed_tokens, separated, MadeTree, MadeTrees, MadeDots, MadeFields, MadePart, MadeParts, MadePairs, MadeGen, MadeGens, MadeConditions, at_level, from_level, greatest, pairs_depth}
 use Rattle.csp_text.specs.declared.tree.Tree.TheVariants as tree
 use Rattle.csp_text.specs.declared.tree.FieldTree.TheVariants as field
 use Rattle.csp_text.specs.declared.tree.GenTree.TheVariants as generator
@@ -7,7 +7,6 @@ use Rattle.csp_grammar.specs.Grammar as g
 use Rattle.print_laws.specs.Made as m
 use Rattle.print_laws.proofs.Onto as onto
 use Rattle.print_laws.proofs.Forms.{Texted, as_prefix, as_sequence, prefix_tree, expression_tree, open_tree, operator_text, set_operator_text, atom_form, dotted_form, compound_form, closed_form, bracket_form}
-use Rattle.tree_reading.proofs.Levels.{pairs_depth}
 use Rattle.tree_reading.proofs.NodeDepths as depths
 
 -- lists of trees and the like

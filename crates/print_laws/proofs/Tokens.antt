@@ -1,5 +1,5 @@
 -- Each token that is written before a space or a line feed is found there.
-use Rattle.print_laws.proofs.Prelude.{◌≡◌, ℕ, ◌<◌, true, List, [], ◌∷◌, ◌++◌, length, refl, sym, ◌∙◌, subst, append_assoc, length-append, lit<, arith, Option, Some, decimal, nat_lt, Place, symbol_text, word_text, Token, Word, line_front, front, Piece, nothing, one, longest_symbol, symbol_at, digits_len, token_at, word_len, line, row, spaced, token_text, Every, FitsLine}
+use Rattle.print_laws.proofs.Prelude.{◌≡◌, ℕ, ◌<◌, true, List, [], ◌∷◌, ◌++◌, length, refl, sym, ◌∙◌, subst, append_assoc, length-append, lit<, arith, Option, Some, decimal, nat_lt, Place, symbol_text, word_text, Token, Word, line_front, front, Piece, nothing, one, longest_symbol, symbol_at, digits_len, token_at, word_len, line, row, spaced, token_text, Every, FitsLine, symbol_has_byte}
 use Rattle.csp_text.specs.declared.token.Token.TheVariants as token
 use Rattle.csp_text.specs.declared.token.Word.TheVariants as word
 use Rattle.csp_text.specs.declared.token.Symbol.TheVariants as symbol
@@ -11,7 +11,6 @@ use Rattle.print_laws.proofs.Quiet.{Gap}
 use Rattle.print_laws.proofs.Quiet as gap
 use Rattle.print_laws.proofs.Symbols.{symbol_before_line_feed, symbol_before_space, symbol_on_line}
 use Rattle.print_laws.proofs.Words.{word_before_line_feed, word_before_space, word_on_line}
-use Rattle.csp_lexer.proofs.SymbolsLemmas.{symbol_has_byte}
 
 pub piece_is : {result : Option Piece} {t : Token} {at : Place} {rest : List ℕ} → result ≡ Some (one t at rest) → IsPiece result (t ∷ []) rest
 piece_is {t = t} {at = at} {rest = rest} e = record { piece = one t at rest; is = e; tokens_are = refl; rest_is = refl }

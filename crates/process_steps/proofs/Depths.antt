@@ -1,19 +1,17 @@
 -- How deep the processes below a process are, and that the steps of a process do not depend on how much more depth is left.
-use Rattle.process_steps.proofs.Prelude.{◌≡◌, ℕ, zero, suc, ◌+◌, ◌<◌, ◌≤◌, Some, Ok, List, [], ◌∷◌, map, slice_get, refl, ap, sym, ◌∙◌, arith, proc_depth, proc_depth_of_layer, Outcome, and_then, one, Proc, Proc-F, out-Proc, roll-Proc, roll-out-Proc, Content, each_joined, set_in, each_put, Move, in_choice, steps_of, steps_of_layer, steps_within, Atom, One, greatest}
-use Rattle.csp_program.specs.declared.processes.Proc.TheFolds.{fold-roll-Proc, map-Proc}
-use Rattle.substitution.proofs.Keeps.{proc_keeps_depth}
+use Rattle.process_steps.proofs.Prelude.{◌≡◌, ℕ, zero, suc, ◌+◌, ◌<◌, ◌≤◌, Some, Ok, List, [], ◌∷◌, map, slice_get, refl, ap, sym, ◌∙◌, arith, proc_depth, proc_depth_of_layer, Outcome, and_then, one, Proc, Proc-F, out-Proc, out-roll-Proc, roll-Proc, roll-out-Proc, Content, each_joined, set_in, each_put, Move, in_choice, steps_of, steps_of_layer, steps_within, Atom, One, greatest, fold-roll-Proc, map-Proc, proc_keeps_depth}
 
 -- the depth of a layer over the processes below
 unfoldable pub layer_depth : Proc-F Proc → ℕ
 layer_depth d = proc_depth_of_layer (map-Proc Proc ℕ proc_depth d)
 
 -- where the process t has the layer d
-pub depth_of : (t : Proc) (d : Proc-F Proc) → roll-Proc d ≡ t → proc_depth t ≡ layer_depth d
+pub depth_of : (d : Proc-F Proc) {t : Proc} → roll-Proc d ≡ t → proc_depth t ≡ layer_depth d
 unfolding layer_depth
-depth_of t d e = ap proc_depth (sym e) ∙ fold-roll-Proc ℕ proc_depth_of_layer d
+depth_of d e = ap proc_depth (sym e) ∙ fold-roll-Proc ℕ proc_depth_of_layer d
 
 pub depth_of_out : (t : Proc) → proc_depth t ≡ layer_depth (out-Proc t)
-depth_of_out t = depth_of t (out-Proc t) (roll-out-Proc t)
+depth_of_out t = depth_of (out-Proc t) (roll-out-Proc t)
 
 some_depth : (d : Proc-F Proc) → 1 ≤ layer_depth d
 unfolding layer_depth
@@ -80,3 +78,7 @@ within_layer p n t h =
 pub of_layer : (p : Content) (t : Proc) → steps_of p t ≡ steps_of_layer p (steps_of p) (out-Proc t)
 unfolding steps_of
 of_layer p t = enough p (proc_depth t) (suc (proc_depth t)) t (omega arith) (omega arith) ∙ within_layer p (proc_depth t) t (omega arith)
+
+-- where the process t has the layer d
+pub steps_of_form : (p : Content) (d : Proc-F Proc) {t : Proc} → roll-Proc d ≡ t → steps_of p t ≡ steps_of_layer p (steps_of p) d
+steps_of_form p d {t} e = of_layer p t ∙ ap (steps_of_layer p (steps_of p)) (ap out-Proc (sym e) ∙ out-roll-Proc d)

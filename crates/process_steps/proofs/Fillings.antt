@@ -1,8 +1,7 @@
 -- The ways to fill the fields of a prefix are exactly those by the relation, and there is a list of them where no value is lacking.
-use Rattle.process_steps.proofs.Prelude.{◌≡◌, ℕ, ◌+◌, IsTrue, Bool, true, false, if◌then◌else◌, Ok, List, [], ◌∷◌, ◌++◌, refl, sym, subst, inl, inr, Outcome, given_by, proc_with, Env, in_field, Field, Proc, Content, FieldsLackNone, none, Fills, given_under, is_given, value_under, filled, input, output, Way, ways_to_fill, Atom, One}
+use Rattle.process_steps.proofs.Prelude.{◌≡◌, ℕ, ◌+◌, IsTrue, Bool, true, false, if◌then◌else◌, Ok, List, [], ◌∷◌, ◌++◌, refl, sym, subst, inl, inr, Outcome, given_by, proc_with, Env, in_field, Field, Proc, Content, FieldsLackNone, none, Fills, given_under, is_given, value_under, filled, input, output, Way, ways_to_fill, Atom, One, proc_stays}
 use Rattle.process_steps.specs.LacksNone.FieldsLackNone.{output as output_there, input as input_there}
 use Rattle.process_steps.proofs.Chains.{Has, IsThere, Lists, each_there, from_each, lists_each, onward, there_each, through, where_is}
-use Rattle.substitution.proofs.Stays.{proc_stays}
 use Rattle.csp_program.specs.declared.processes.Field.TheVariants as field
 
 -- what is asked of a value that an input may take, and of no other

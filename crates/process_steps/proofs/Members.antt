@@ -1,6 +1,5 @@
 -- What stands in a list, by recursion on the list.
-use Rattle.process_steps.proofs.Prelude.{◌≡◌, ◌⊎◌, ℕ, zero, suc, Some, List, [], ◌∷◌, ◌++◌, map, slice_get, refl, ap, inl, inr, subst, sym, StandsIn}
-use Rattle.csp_program.specs.Lists.{joined}
+use Rattle.process_steps.proofs.Prelude.{◌≡◌, ◌⊎◌, ℕ, zero, suc, Some, List, [], ◌∷◌, ◌++◌, map, slice_get, refl, ap, inl, inr, subst, sym, StandsIn, joined}
 
 abbrev pub Among : {A : Type 0} → List A → A → Type 0
 Among [] x = ⊥

@@ -29,18 +29,17 @@ pub enum ComponentFault {
     },
 }
 
-// By hand, so that a crate that ends one calls this and proves no end of its own.
 impl Drop for ComponentFault {
     fn drop(self) {
         match self {
-            ComponentFault::Value { kind: _kind } => {}
+            ComponentFault::Value { kind } => {}
             ComponentFault::TermCount => {}
             ComponentFault::TermDepth => {}
             ComponentFault::TermTotal => {}
             ComponentFault::StepCount => {}
             ComponentFault::Diverges => {}
             ComponentFault::SubsetLimit => {}
-            ComponentFault::Terminates { trace: _trace } => {}
+            ComponentFault::Terminates { trace } => {}
         }
     }
 }

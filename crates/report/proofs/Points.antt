@@ -2,7 +2,7 @@
 use Rattle.std.proofs.Common.{◌≡◌, Result, Ok, Err, refl, sym, subst}
 use Rattle.std.specs.Result.{IsErrAnd}
 use Rattle.std.proofs.lemmas.Result.{err_from_is_err_and}
-use Rattle.report.specs.Prelude.{Point, RefusedOr, UnprovedOr, passed, told, Answers, HaltsWith, refused, unproved}
+use Rattle.report.specs.Prelude.{Point, RefusedOr, UnprovedOr, passed, told, Answers, HaltsWith, refuse, unproved}
 use Rattle.report.specs.declared.stop.Halt.{Halt}
 use Rattle.report.specs.declared.answer.Done.{Done}
 use Rattle.report.specs.declared.answer.Refusal.{Refusal}
@@ -38,10 +38,10 @@ module _ (r : Result Done Halt) where
       let p = err_from_is_err_and r exit in
       subst (Answers Is) (sym p.1) (subst (HaltsWith Is) (sym p.2) tells)
 
-  pub at_refusal : {X : Type 0} (side : Side) (Fails : Refusal → Type 0) (Is : X → Type 0) (Then : X → Verdict → Type 0) (s : Stop Refusal) → IsErrAnd r (λ t. t ≡ refused side s) → Tells Fails s
+  pub at_refusal : {X : Type 0} (side : Side) (Fails : Refusal → Type 0) (Is : X → Type 0) (Then : X → Verdict → Type 0) (s : Stop Refusal) → IsErrAnd r (λ t. t ≡ refuse side s) → Tells Fails s
       → Answers (RefusedOr side Fails Is Then) r
   at_refusal side Fails Is Then stop.NoMemory exit tells = at_halt (RefusedOr side Fails Is Then) halt.NoMemory exit tt
-  at_refusal side Fails Is Then (stop.Told f) exit tells = at_halt (RefusedOr side Fails Is Then) (refused side (stop.Told f)) exit (told f tells refl)
+  at_refusal side Fails Is Then (stop.Told f) exit tells = at_halt (RefusedOr side Fails Is Then) (refuse side (stop.Told f)) exit (told f tells refl)
 
   pub at_shortfall : {X : Type 0} (Fails : Shortfall → Type 0) (Is : X → Type 0) (Then : X → Verdict → Type 0) (s : Stop Shortfall) → IsErrAnd r (λ t. t ≡ unproved s) → Tells Fails s
       → Answers (UnprovedOr Fails Is Then) r

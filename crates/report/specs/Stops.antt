@@ -28,9 +28,9 @@ Ends Is (Ok a) = Is a
 Ends Is (Err why) = Tells Is why
 
 -- a stop that is a refusal of the program of a side, and one that is a shortfall
-abbrev pub refused : Side → Stop Refusal → Halt
-refused side stop.NoMemory = halt.NoMemory
-refused side (stop.Told r) = halt.Told (verdict.Refused side r)
+abbrev pub refuse : Side → Stop Refusal → Halt
+refuse side stop.NoMemory = halt.NoMemory
+refuse side (stop.Told r) = halt.Told (verdict.Refused side r)
 
 abbrev pub unproved : Stop Shortfall → Halt
 unproved stop.NoMemory = halt.NoMemory

@@ -45,13 +45,12 @@ pub enum TextFault {
     Unresolved(ResolveFault),
 }
 
-// By hand, so that a crate that ends one calls this and proves no end of its own.
 impl Drop for TextFault {
     fn drop(self) {
         match self {
             TextFault::TooLong => {}
-            TextFault::NoScript { at: _at } => {}
-            TextFault::Unresolved(_fault) => {}
+            TextFault::NoScript { at } => {}
+            TextFault::Unresolved(_) => {}
         }
     }
 }
@@ -98,28 +97,17 @@ pub enum Refusal {
     },
 }
 
-// By hand, so that a crate that ends one calls this and proves no end of its own.
 impl Drop for Refusal {
     fn drop(self) {
         match self {
-            Refusal::Value {
-                kind: _kind,
-                site: _site,
-            } => {}
-            Refusal::Network(_first) => {}
-            Refusal::Component {
-                component: _component,
-                fault: _fault,
-            } => {}
-            Refusal::NoComponent { count: _count } => {}
-            Refusal::DifferentEvents { number: _number } => {}
-            Refusal::DifferentComponents {
-                component: _component,
-            } => {}
+            Refusal::Value { kind, site } => {}
+            Refusal::Network(_) => {}
+            Refusal::Component { component, fault } => {}
+            Refusal::NoComponent { count } => {}
+            Refusal::DifferentEvents { number } => {}
+            Refusal::DifferentComponents { component } => {}
             Refusal::NoSet => {}
-            Refusal::BoundLimit {
-                component: _component,
-            } => {}
+            Refusal::BoundLimit { component } => {}
         }
     }
 }
@@ -163,30 +151,15 @@ pub enum Shortfall {
     },
 }
 
-// By hand, so that a crate that ends one calls this and proves no end of its own.
 impl Drop for Shortfall {
     fn drop(self) {
         match self {
-            Shortfall::NotTripleDisjoint {
-                event: _event,
-                components: _components,
-            } => {}
-            Shortfall::Stops {
-                component: _component,
-                trace: _trace,
-            } => {}
-            Shortfall::Breaks(_fault) => {}
-            Shortfall::Outside {
-                component: _component,
-                trace: _trace,
-            } => {}
-            Shortfall::Refuses {
-                component: _component,
-                trace: _trace,
-            } => {}
-            Shortfall::NoOrder {
-                components: _components,
-            } => {}
+            Shortfall::NotTripleDisjoint { event, components } => {}
+            Shortfall::Stops { component, trace } => {}
+            Shortfall::Breaks(_) => {}
+            Shortfall::Outside { component, trace } => {}
+            Shortfall::Refuses { component, trace } => {}
+            Shortfall::NoOrder { components } => {}
         }
     }
 }
@@ -236,31 +209,24 @@ pub enum Done {
     },
 }
 
-// By hand, so that a crate that ends one calls this and proves no end of its own.
 impl Drop for Done {
     fn drop(self) {
         match self {
             Done::Table {
-                component: _component,
-                count: _count,
-                part: _part,
+                component,
+                count,
+                part,
             } => {}
             Done::DeadlockFree {
-                rule: _rule,
-                components: _components,
-                nodes: _nodes,
-                bound: _bound,
-                greatest_rank: _greatest_rank,
+                rule,
+                components,
+                nodes,
+                bound,
+                greatest_rank,
             } => {}
-            Done::Conforms {
-                components: _components,
-                bound: _bound,
-            } => {}
-            Done::Walked { moves: _moves } => {}
-            Done::LivelockFree {
-                components: _components,
-                bound: _bound,
-            } => {}
+            Done::Conforms { components, bound } => {}
+            Done::Walked { moves } => {}
+            Done::LivelockFree { components, bound } => {}
         }
     }
 }
@@ -277,14 +243,13 @@ pub enum Verdict {
     Done(Done),
 }
 
-// By hand, so that a crate that ends one calls this and proves no end of its own.
 impl Drop for Verdict {
     fn drop(self) {
         match self {
-            Verdict::Refused(_side, _refusal) => {}
-            Verdict::NotProved(_shortfall) => {}
-            Verdict::Stuck(_moves) => {}
-            Verdict::Done(_done) => {}
+            Verdict::Refused(_, _) => {}
+            Verdict::NotProved(_) => {}
+            Verdict::Stuck(_) => {}
+            Verdict::Done(_) => {}
         }
     }
 }
@@ -315,15 +280,14 @@ pub enum Answer {
     Decided(Boxed<Program>, Verdict),
 }
 
-// By hand, so that a crate that ends one calls this and proves no end of its own.
 impl Drop for Answer {
     fn drop(self) {
         match self {
             Answer::Usage => {}
-            Answer::Outside(_side, _fault) => {}
-            Answer::NoProgram(_side, _fault) => {}
-            Answer::Shown { text: _text } => {}
-            Answer::Decided(_program, _verdict) => {}
+            Answer::Outside(_, _) => {}
+            Answer::NoProgram(_, _) => {}
+            Answer::Shown { text } => {}
+            Answer::Decided(_, _) => {}
         }
     }
 }

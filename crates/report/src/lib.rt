@@ -21,4 +21,4 @@ pub use answer::{Answer, Done, OutsideFault, Refusal, Shortfall, Side, Site, Tex
 pub use events::event_text;
 pub use printed::rule_name;
 pub use reports::{report_of, status_of};
-pub use stop::{Halt, ended, finished, refused};
+pub use stop::{Halt, conclude, refuse, settle};

@@ -2,9 +2,8 @@
 
 ghost use Rattle.std.specs.Prelude.{◌≡◌, ◌++◌, ◌+◌, ◌<◌, ◌∷◌, [], IfOk, OnOk, codes};
 ghost use Rattle.csp_base.specs.Standard.{flat_map, decimal, signed_decimal};
-ghost use Rattle.report.specs.Lines.{events_text, more_events_text, numbers_text, set_text, trace_text};
-ghost use Rattle.report.specs.Parts.{part_text, parts_text, value_text, words_text};
-ghost use Rattle.report.specs.EventText.{event_text};
+ghost use Rattle.report.specs.Prelude.{events_text, more_events_text, numbers_text, set_text, trace_text, part_text, parts_text, words_text, event_text};
+ghost use Rattle.report.specs.Parts.{value_text};
 ghost use Rattle.csp_base.specs.Texts.{line};
 
 use crate::events::push_event;

@@ -1,9 +1,7 @@
 //! How rules, sides, kinds of fault and sites are written.
 
 ghost use Rattle.std.specs.Prelude.{◌≡◌, ◌++◌, OnOk};
-ghost use Rattle.report.specs.Refusals.{kind_text, site_text};
-ghost use Rattle.report.specs.Sides.{side_line, side_name};
-ghost use Rattle.report.specs.Report.{rule_text};
+ghost use Rattle.report.specs.Prelude.{kind_text, site_text, side_line, side_name, rule_text};
 
 use crate::answer::{Side, Site};
 use crate::lines::Part::Number;

@@ -3,9 +3,7 @@
 ghost use Rattle.std.specs.Prelude.{◌≡◌, ◌+◌, ◌++◌, IfOk, OnOk, codes};
 ghost use Rattle.std.specs.Fmt.{decimal};
 ghost use Rattle.csp_base.specs.Texts.{line};
-ghost use Rattle.report.specs.Refusals.{component_text, nesting_text, network_text, program_text, refusal_text, text_fault_text, value_text};
-ghost use Rattle.report.specs.Sides.{side_line};
-ghost use Rattle.report.specs.Report.{refused_text};
+ghost use Rattle.report.specs.Prelude.{component_text, nesting_text, network_text, program_text, refusal_text, text_fault_text, value_text, side_line, refused_text};
 
 use crate::answer::{Refusal, Side, Site, TextFault};
 use crate::lines::Part::{Count, Number, Text, Trace};
@@ -276,7 +274,7 @@ fn push_refusal(report: &mut Bytes, content: &Content, refusal: &Refusal) -> Wri
 }
 
 // What stands before the reason for which the text of this side is refused.
-fn refused_head(alloc: Global, side: Side) -> Printed
+fn refusal_head(alloc: Global, side: Side) -> Printed
     ensures { IfOk result (λ made. made ≡ line (codes "refused") ++ side_line side) }
 {
     let mut made = one_line(alloc, b"refused")?;
@@ -285,20 +283,25 @@ fn refused_head(alloc: Global, side: Side) -> Printed
 }
 
 // The report where the text of this side has no program.
-pub(crate) fn unread(alloc: Global, side: Side, fault: &TextFault) -> Printed
+pub(crate) fn text_fault_report(alloc: Global, side: Side, fault: &TextFault) -> Printed
     ensures { IfOk result (λ made. made ≡ refused_text side (text_fault_text side fault.now)) }
 {
-    let mut made = refused_head(alloc, side)?;
+    let mut made = refusal_head(alloc, side)?;
     push_text_fault(&mut made, side, fault)?;
     made.push(b'\n')?;
     Ok(made)
 }
 
 // The report where the program of this side is refused.
-pub(crate) fn refused(alloc: Global, content: &Content, side: Side, refusal: &Refusal) -> Printed
+pub(crate) fn refusal_report(
+    alloc: Global,
+    content: &Content,
+    side: Side,
+    refusal: &Refusal,
+) -> Printed
     ensures { IfOk result (λ made. made ≡ refused_text side (refusal_text content.now refusal.now)) }
 {
-    let mut made = refused_head(alloc, side)?;
+    let mut made = refusal_head(alloc, side)?;
     push_refusal(&mut made, content, refusal)?;
     made.push(b'\n')?;
     Ok(made)

@@ -8,7 +8,7 @@ use crate::answer::{Answer, OutsideFault, Side, Verdict};
 use crate::lines::Part::Text;
 use crate::lines::{Printed, one_line, written_line};
 use crate::printed::side_name;
-use crate::refusals::unread;
+use crate::refusals::text_fault_report;
 use crate::verdicts::verdict_report;
 use csp_base::{Bytes, NoMemory};
 use std::alloc::Global;
@@ -71,7 +71,7 @@ pub fn report_of(alloc: Global, answer: &Answer) -> Result<Bytes, NoMemory>
             b"usage: dlcheck check RULE SCRIPT | show SCRIPT | table SCRIPT INDEX | trial FAMILY N | run SCRIPT SEED STEPS | livelock SCRIPT SET | conform SCRIPT SPEC",
         ),
         Answer::Outside(side, fault) => outside(alloc, *side, *fault),
-        Answer::NoProgram(side, fault) => unread(alloc, *side, fault),
+        Answer::NoProgram(side, fault) => text_fault_report(alloc, *side, fault),
         Answer::Shown { text } => text.try_clone(alloc),
         Answer::Decided(program, verdict) => {
             verdict_report(alloc, program.get().content(), verdict)

@@ -1,7 +1,7 @@
 //! Why a walk to a verdict halts, and to what it comes.
 
 ghost use Rattle.std.specs.Prelude.{◌≡◌, IfOk};
-ghost use Rattle.report.specs.Stops.{IsEnd, IsVerdict, refused};
+ghost use Rattle.report.specs.Stops.{IsEnd, IsVerdict, refuse};
 
 use crate::answer::{Done, Refusal, Shortfall, Side, Verdict};
 use csp_base::{NoMemory, Stop};
@@ -28,14 +28,14 @@ impl From<NoMemory> for Halt {
 
 impl From<Stop<Refusal>> for Halt {
     ghost use Rattle.std.specs.Prelude.{◌≡◌};
-    ghost use Rattle.report.specs.Stops.{refused};
+    ghost use Rattle.report.specs.Stops.{refuse};
     ghost use Rattle.report.specs.declared.answer.Side.TheVariants as side;
 
     // That of the script.
-    ghost from_gives = { λ s t. t ≡ refused side.Script s };
+    ghost from_gives = { λ s t. t ≡ refuse side.Script s };
 
     fn from(stop: Stop<Refusal>) -> Halt {
-        refused(Side::Script, stop)
+        refuse(Side::Script, stop)
     }
 }
 
@@ -54,8 +54,8 @@ impl From<Stop<Shortfall>> for Halt {
 }
 
 /// Why a walk over networks halts where the program of this side is refused. A `?` tells the refusal of the script.
-pub fn refused(side: Side, stop: Stop<Refusal>) -> Halt
-    ensures { result ≡ refused side stop }
+pub fn refuse(side: Side, stop: Stop<Refusal>) -> Halt
+    ensures { result ≡ refuse side stop }
 {
     match stop {
         Stop::NoMemory => Halt::NoMemory,
@@ -64,7 +64,7 @@ pub fn refused(side: Side, stop: Stop<Refusal>) -> Halt
 }
 
 /// The verdict to which a walk over networks comes, unless memory runs out.
-pub fn finished(walk: Result<Done, Halt>) -> Result<Verdict, NoMemory>
+pub fn conclude(walk: Result<Done, Halt>) -> Result<Verdict, NoMemory>
     ensures { IfOk result (IsVerdict walk) }
 {
     match walk {
@@ -75,7 +75,7 @@ pub fn finished(walk: Result<Done, Halt>) -> Result<Verdict, NoMemory>
 }
 
 /// What a walk ends with, at its end or before, unless memory runs out.
-pub fn ended<A>(walk: Result<A, Stop<A>>) -> Result<A, NoMemory>
+pub fn settle<A>(walk: Result<A, Stop<A>>) -> Result<A, NoMemory>
     ensures { IfOk result (IsEnd walk) }
 {
     match walk {

@@ -2,14 +2,13 @@
 
 ghost use Rattle.std.specs.Prelude.{◌≡◌, ◌++◌, IfOk, codes};
 ghost use Rattle.csp_base.specs.Texts.{line};
-ghost use Rattle.report.specs.Shortfalls.{shortfall_text};
-ghost use Rattle.report.specs.Report.{conforms_text, deadlock_free_text, done_text, livelock_free_text, verdict_text};
+ghost use Rattle.report.specs.Prelude.{shortfall_text, conforms_text, deadlock_free_text, done_text, livelock_free_text, verdict_text};
 
 use crate::answer::{Done, Shortfall, Verdict};
 use crate::lines::Part::{Signed, Text};
 use crate::lines::{Printed, one_line, push_count, push_line};
 use crate::printed::rule_name;
-use crate::refusals::refused;
+use crate::refusals::refusal_report;
 use crate::runs::run;
 use crate::shortfalls::push_shortfall;
 use crate::tables::table;
@@ -94,7 +93,7 @@ pub(crate) fn verdict_report(alloc: Global, content: &Content, verdict: &Verdict
     ensures { IfOk result (λ report. report ≡ verdict_text content.now verdict.now) }
 {
     match verdict {
-        Verdict::Refused(side, refusal) => refused(alloc, content, *side, refusal),
+        Verdict::Refused(side, refusal) => refusal_report(alloc, content, *side, refusal),
         Verdict::NotProved(shortfall) => not_proved(alloc, content, shortfall),
         Verdict::Stuck(moves) => run(alloc, content, moves.as_slice(), b"stuck"),
         Verdict::Done(what) => done(alloc, content, what),

@@ -1,15 +1,7 @@
 -- What the state of a resource's holder tells, and the conditions on a resource by tests of its exploration.
-use Rattle.resource_conditions.proofs.Prelude.{◌≡◌, ℕ, suc, ◌-◌, ◌<◌, inl, inr, List, [], ◌∷◌, ◌++◌, length, Option, None, Some, Bool, true, false, not, ◌&&◌, ◌||◌, cond, IsTrue, nat_eq, refl, sym, ap, subst, ◌∙◌, arith, eq-eqb, ne_eqb, cases_Bool, cases_eq, cond-true, cond-false, and_parts, and_from, both_ways, false≢true, same_Some, has, is_subset_of, inter_of, Node, node_at, is_possible, IsRun, end_of, acceptances_after, part_at, alphabets_of, TripleDisjoint, IsWithin, Shape, link_at, IsWellFormed, IsPossible, Accepts, accepted, use_at, is_held, IsHolder, IsUsedInTurn, GrantsAll, observed, LeadsTo, pair_at, holder_step, IsExploration, Setting, node_of, AreOwners, FindsRun, is_turn, are_turns, wanted_in, are_grants, Keeps, meets, IsDecided, member_of_superset, is_subset_of_from_members}
-use Rattle.std.specs.Prelude.{slice_index}
-use Rattle.net_sound.proofs.Within.{part_form}
-use Rattle.design_rules.proofs.Holders.{last_more, last_same, odd_more, odd_same, one_link}
-use Rattle.design_rules.proofs.Runs.{run_induction, possible_within, end_within}
-use Rattle.design_rules.proofs.Shapes.{some_link, link_shared}
-use Rattle.resource_conditions.specs.declared.resources.Asked.{Asked}
+use Rattle.resource_conditions.proofs.Prelude.{◌≡◌, ℕ, suc, ◌-◌, ◌<◌, inl, inr, List, [], ◌∷◌, ◌++◌, length, Option, None, Some, Bool, true, false, not, ◌&&◌, ◌||◌, cond, IsTrue, nat_eq, refl, sym, ap, subst, ◌∙◌, arith, eq-eqb, ne_eqb, cases_Bool, cases_eq, cond-true, cond-false, and_parts, and_from, both_ways, false≢true, same_Some, has, is_subset_of, inter_of, Node, node_at, is_possible, IsRun, end_of, acceptances_after, part_at, alphabets_of, TripleDisjoint, IsWithin, Shape, link_at, IsWellFormed, IsPossible, Accepts, accepted, use_at, is_held, IsHolder, IsUsedInTurn, GrantsAll, observed, LeadsTo, pair_at, holder_step, IsExploration, Setting, node_of, AreOwners, FindsRun, is_turn, are_turns, wanted_in, are_grants, Keeps, meets, IsDecided, member_of_superset, is_subset_of_from_members, slice_index, part_form, last_more, last_same, odd_more, odd_same, one_link, run_induction, possible_within, end_within, some_link, link_shared, Asked, observed_push, at_place, each_set}
 use Rattle.resource_conditions.specs.declared.resources.Asked.TheVariants as asked
 use Rattle.resource_conditions.proofs.Sets.{in_both, of_both, all_possible, some_possible, all_at, some_at, either_of, neither_of}
-use Rattle.observed_runs.proofs.Leading.{observed_push}
-use Rattle.design_rules.proofs.Accepting.{at_place, each_set}
 
 -- ---- the state of the holder
 

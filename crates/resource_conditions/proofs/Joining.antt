@@ -1,7 +1,5 @@
 -- Links that join users and resources, and sets that part what a resource shares.
-use Rattle.resource_conditions.proofs.Prelude.{◌≡◌, ℕ, ◌+◌, ◌<◌, ◌≤◌, inl, inr, List, length, Bool, true, false, ◌&&◌, ◌||◌, cond, min, MatchBool, refl, sym, subst, ◌∙◌, arith, cases_lt, or_left, or_right, both_ways, false≢true, has, is_subset_of, meets_of, part_at, link_at, IsWellFormed, use_at, Setting, KeepKinds, HasLinked, HasParted, IsFirstWithout, member_of_superset, is_subset_of_from_members}
-use Rattle.design_rules.specs.ResourceFaults.{LacksKind}
-use Rattle.csp_base.proofs.Listed.{any_of, any_member}
+use Rattle.resource_conditions.proofs.Prelude.{◌≡◌, ℕ, ◌+◌, ◌<◌, ◌≤◌, inl, inr, List, length, Bool, true, false, ◌&&◌, ◌||◌, cond, min, MatchBool, refl, sym, subst, ◌∙◌, arith, cases_lt, or_left, or_right, both_ways, false≢true, has, is_subset_of, meets_of, part_at, link_at, IsWellFormed, use_at, Setting, KeepKinds, HasLinked, HasParted, IsFirstWithout, member_of_superset, is_subset_of_from_members, LacksKind, any_of, any_member}
 
 -- ---- sets
 

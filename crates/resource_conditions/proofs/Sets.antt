@@ -1,7 +1,5 @@
 -- Sets of events, and tests of all members of a list.
-use Rattle.resource_conditions.proofs.Prelude.{◌≡◌, ℕ, suc, ◌<◌, inl, inr, List, [], ◌∷◌, length, get_or, Bool, true, false, not, ◌||◌, nat_eq, refl, sym, subst, ◌∙◌, arith, eq-eqb, list_all, list_any, cases_Bool, and_from, and_parts, or_cases, or_left, or_right, eqb-true, both_ways, false≢true, list_all_at, has, inter_of, is_possible}
-use Rattle.csp_base.proofs.Booleans.{and_second_false}
-use Rattle.csp_base.proofs.SetLaws.{has-inter_of}
+use Rattle.resource_conditions.proofs.Prelude.{◌≡◌, ℕ, suc, ◌<◌, inl, inr, List, [], ◌∷◌, length, get_or, Bool, true, false, not, ◌||◌, nat_eq, refl, sym, subst, ◌∙◌, arith, eq-eqb, list_all, list_any, cases_Bool, and_from, and_parts, or_cases, or_left, or_right, eqb-true, both_ways, false≢true, list_all_at, has, inter_of, is_possible, and_second_false, has-inter_of}
 
 -- ---- members
 

@@ -1,9 +1,7 @@
 -- Which resources users hold while they offer to acquire others: as sets of links, and as arcs.
-use Rattle.resource_rule.proofs.Prelude.{◌≡◌, ◌<◌, ◌≤◌, ◌&&◌, ◌||◌, ◌∙◌, ℕ, List, [], ◌∷◌, true, false, not, IsTrue, length, get_or, replicate, nat_eq, inl, inr, ap, refl, sym, subst, arith, eq-eqb, eqb-true, list_any, any_of, any_member, and_from, and_parts, cases_Bool, cases_lt, cond-false, cond-true, false≢true, get_or_from_slice_get, not-false, or_cases, or_left, slice_get_within, has, IsWellFormed, Joins, Link, TripleDisjoint, accepted, alphabets_of, end_of, is_end, link_at, part_at, use_at, end_within, first_end, IsHeldWhile, holds, part_form, HasArc, has_arc, AddsArcs, AreHeld, Below, HoldsWhile, LeadsToHeld, LeadsToSome, OffersWhile, is_acquiring, resource_of, IsOfferedHolding, WatchesLink, is_offered, is_offered_at, ends_complete, ends_sound, link_past, place_in, ends_of, IsUser, KeepKinds, Setting, node_of}
-use Rattle.design_rules.proofs.Accepting.{at_place}
+use Rattle.resource_rule.proofs.Prelude.{◌≡◌, ◌<◌, ◌≤◌, ◌&&◌, ◌||◌, ◌∙◌, ℕ, List, [], ◌∷◌, true, false, not, IsTrue, length, get_or, replicate, nat_eq, inl, inr, ap, refl, sym, subst, arith, eq-eqb, eqb-true, list_any, any_of, any_member, and_from, and_parts, cases_Bool, cases_lt, cond-false, cond-true, false≢true, get_or_from_slice_get, not-false, or_cases, or_left, slice_get_within, has, IsWellFormed, Joins, Link, TripleDisjoint, accepted, alphabets_of, end_of, is_end, link_at, part_at, use_at, end_within, first_end, IsHeldWhile, holds, part_form, HasArc, has_arc, AddsArcs, AreHeld, Below, HoldsWhile, LeadsToHeld, LeadsToSome, OffersWhile, is_acquiring, resource_of, IsOfferedHolding, WatchesLink, is_offered, is_offered_at, ends_complete, ends_sound, link_past, place_in, ends_of, IsUser, KeepKinds, Setting, node_of, at_place, acquired_link, is_part}
 use Rattle.resource_rule.proofs.Adding.{adds_tested, no_arc}
 use Rattle.resource_rule.proofs.Offering.{offer_complete, offer_sound, offered_complete, offered_sound}
-use Rattle.shape_links.proofs.Acquiring.{acquired_link, is_part}
 
 -- ---- the resource of a link
 

@@ -1,9 +1,5 @@
 -- U4, where the nodes of a user tell what it holds there.
-use Rattle.resource_rule.proofs.Prelude.{◌≡◌, ◌<◌, ◌&&◌, ◌∙◌, ℕ, List, [], true, cond, length, get_or, ap, sym, subst, has, IsRun, IsWellFormed, Shape, end_of, is_possible, link_at, part_at, use_at, count_in, is_odd, UsesInTurn, end_within, link_shared, part_form, AreEnough, pair_at, end_place, has_place, ends_of, Setting, node_of, AreHeld, IsInTurn}
-use Rattle.design_rules.specs.Prelude.{holds}
-use Rattle.observed_runs.proofs.Leading.{listed_step}
-use Rattle.shape_links.specs.OddLinks.{AreOddLinks}
-use Rattle.shape_links.specs.declared.component.Component.{Component}
+use Rattle.resource_rule.proofs.Prelude.{◌≡◌, ◌<◌, ◌&&◌, ◌∙◌, ℕ, List, [], true, cond, length, get_or, ap, sym, subst, has, IsRun, IsWellFormed, Shape, end_of, is_possible, link_at, part_at, use_at, count_in, is_odd, UsesInTurn, end_within, link_shared, part_form, AreEnough, pair_at, end_place, has_place, ends_of, Setting, node_of, AreHeld, IsInTurn, holds, listed_step, AreOddLinks, Component}
 
 module _ (g : Setting) (i : ℕ) (w : IsWellFormed g.shape) where
   -- enough of a node's steps show that each event is in turn

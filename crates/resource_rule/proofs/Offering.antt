@@ -1,7 +1,5 @@
 -- What a user offers while it holds a resource.
-use Rattle.resource_rule.proofs.Prelude.{link_at, ◌≡◌, ℕ, suc, ◌<◌, inl, inr, List, [], ◌∷◌, length, Bool, true, false, ◌&&◌, ◌||◌, cond, nat_eq, refl, sym, subst, ◌∙◌, arith, eq-eqb, list_any, cases_Bool, cond-true, and_parts, and_from, or_cases, or_left, eqb-true, false≢true, list_any_at, has, is_subset_of, IsRun, IsWellFormed, acceptances_after, accepted, end_of, part_at, end_within, holds, part_form, pair_at, any_at, HaveNodes, is_offered, is_offered_at, WatchesLink, IsOfferedHolding, Setting, node_of}
-use Rattle.csp_base.proofs.Rising.{member_of_superset, is_subset_of_from_members}
-use Rattle.shape_links.proofs.Parity.{parity_is}
+use Rattle.resource_rule.proofs.Prelude.{link_at, ◌≡◌, ℕ, suc, ◌<◌, inl, inr, List, [], ◌∷◌, length, Bool, true, false, ◌&&◌, ◌||◌, cond, nat_eq, refl, sym, subst, ◌∙◌, arith, eq-eqb, list_any, cases_Bool, cond-true, and_parts, and_from, or_cases, or_left, eqb-true, false≢true, list_any_at, has, is_subset_of, IsRun, IsWellFormed, acceptances_after, accepted, end_of, part_at, end_within, holds, part_form, pair_at, any_at, HaveNodes, is_offered, is_offered_at, WatchesLink, IsOfferedHolding, Setting, node_of, member_of_superset, is_subset_of_from_members, parity_is}
 
 -- ---- events that are collected
 

@@ -1,7 +1,5 @@
 -- The condition on a user by tests of its explorations.
-use Rattle.resource_rule.proofs.Prelude.{◌≡◌, ℕ, ◌<◌, inl, inr, List, length, Option, None, Some, Bool, true, false, cond, nat_eq, refl, sym, ap, subst, ◌∙◌, cases_Bool, cond-true, cond-false, both_ways, has, IsRun, Joins, Shape, end_of, part_at, link_at, use_at, observed, parity_step, Setting, node_of, is_use, are_uses, UsesLink, all_possible, some_possible, FindsRun, IsDecided}
-use Rattle.design_rules.specs.Prelude.{holds}
-use Rattle.shape_links.proofs.Parity.{parity_is}
+use Rattle.resource_rule.proofs.Prelude.{◌≡◌, ℕ, ◌<◌, inl, inr, List, length, Option, None, Some, Bool, true, false, cond, nat_eq, refl, sym, ap, subst, ◌∙◌, cases_Bool, cond-true, cond-false, both_ways, has, IsRun, Joins, Shape, end_of, part_at, link_at, use_at, observed, parity_step, Setting, node_of, is_use, are_uses, UsesLink, all_possible, some_possible, FindsRun, IsDecided, holds, parity_is}
 
 -- ---- U4
 

@@ -13,7 +13,7 @@ use crate::users::check_users;
 use csp_base::Stop;
 use csp_tables::{Ranking, Shape, UseSets};
 use design_rules::RuleFault;
-use digraph::{Fault, Heights, Rows, longest_walks};
+use digraph::{Heights, Rows, longest_walks};
 use resource_conditions::{check_grants, check_kinds, check_turns};
 use rule_rankings::resource_ranking;
 use shape_links::{Setting, turn_circle};
@@ -77,10 +77,10 @@ fn numbers(alloc: Global, setting: &Setting<'_>, rows: &Rows) -> Result<Heights,
     let _form = setting.shape();
     match longest_walks(alloc, rows) {
         Ok(heights) => Ok(heights),
-        Err(Fault::Circle(circle)) => {
+        Err(Stop::Told(circle)) => {
             let resources = turn_circle(alloc, circle.members())?;
             Err(Stop::Told(RuleFault::ResourcesCircle { resources }))
         }
-        Err(Fault::NoMemory) => Err(Stop::NoMemory),
+        Err(Stop::NoMemory) => Err(Stop::NoMemory),
     }
 }

@@ -1,7 +1,5 @@
 -- The ranks and the laps of a network of clients and servers.
-use Rattle.rule_rankings.proofs.Prelude.{◌≡◌, ℕ, ℤ, pos, List, [], ◌∷◌, length, true, false, nat_eq, refl, arith, eq-eqb, slice_index, both_ways, or_left, has, is_subset_of, meets_of, IsNonEmpty, Shape, RoleSets, role_at, Ranking, Serves, IsClientServerRanking, IsRank, serving_rank, AreAllRanked, IsRanked, NoLap}
-use Rattle.csp_base.proofs.SetLaws.{common_member, meets_of_from_member}
-use Rattle.digraph.specs.Walk.{AreHeights}
+use Rattle.rule_rankings.proofs.Prelude.{◌≡◌, ℕ, ℤ, pos, List, [], ◌∷◌, length, true, false, nat_eq, refl, arith, eq-eqb, slice_index, both_ways, or_left, has, is_subset_of, meets_of, IsNonEmpty, Shape, RoleSets, role_at, Ranking, Serves, IsClientServerRanking, IsRank, serving_rank, AreAllRanked, IsRanked, NoLap, common_member, meets_of_from_member, AreHeights}
 use Rattle.rule_rankings.proofs.RowsBelow.{at_vertex, fits, rank_is, others_zero, lap_none}
 
 -- ---- the ranking

@@ -1,9 +1,5 @@
 -- The ranks and the laps of a cyclic network.
-use Rattle.rule_rankings.proofs.Prelude.{◌≡◌, ℕ, zero, suc, ◌+◌, ◌<◌, ◌≤◌, inl, inr, pos, List, [], ◌∷◌, ◌++◌, length, get_or, Bool, ◌&&◌, cond, max, IsTrue, nat_eq, nat_lt, sym, ap, subst, ◌∙◌, arith, eq-eqb, ne_eqb, lt-ltb, length-append, get_or_append_left, get_or-append_seam, cases_Bool, cases_eq, cases_lt, cond-true, cond-false, and_from, both_ways, get_or_from_slice_get, slice_get_within, has, node_at, is_possible, part_at, alphabets_of, TripleDisjoint, Shape, is_end, IsWellFormed, Ranking, count_below, above_all, links_of, ReachesLink, AllKeepPlaces, NumbersRise, place_of, ends_lap, AreCyclicRanks, ends_of, slice_index, AreTops, IsGreatest, IsLap, AreAllRanked, IsRanked, ends_sound, ends_complete, has_place, place_in, some_at, on_one}
-use Rattle.design_rules.proofs.Counts.{count_mono}
-use Rattle.design_rules.proofs.Shapes.{link_shared}
-use Rattle.design_rules.proofs.Places.{reached_differ}
-use Rattle.design_rules.proofs.Cyclic.{earlier_place, place_below}
+use Rattle.rule_rankings.proofs.Prelude.{◌≡◌, ℕ, zero, suc, ◌+◌, ◌<◌, ◌≤◌, inl, inr, pos, List, [], ◌∷◌, ◌++◌, length, get_or, Bool, ◌&&◌, cond, max, IsTrue, nat_eq, nat_lt, sym, ap, subst, ◌∙◌, arith, eq-eqb, ne_eqb, lt-ltb, length-append, get_or_append_left, get_or-append_seam, cases_Bool, cases_eq, cases_lt, cond-true, cond-false, and_from, both_ways, get_or_from_slice_get, slice_get_within, has, node_at, is_possible, part_at, alphabets_of, TripleDisjoint, Shape, is_end, IsWellFormed, Ranking, count_below, above_all, links_of, ReachesLink, AllKeepPlaces, NumbersRise, place_of, ends_lap, AreCyclicRanks, ends_of, slice_index, AreTops, IsGreatest, IsLap, AreAllRanked, IsRanked, ends_sound, ends_complete, has_place, place_in, some_at, on_one, count_mono, link_shared, reached_differ, earlier_place, place_below}
 use Rattle.rule_rankings.proofs.RowsBelow.{fits, rank_is, others_zero, lap_is, lap_none, possible_node}
 use Rattle.rule_rankings.specs.CyclicRanks.{IsRank}
 

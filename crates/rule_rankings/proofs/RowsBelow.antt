@@ -1,7 +1,5 @@
 -- Lists with one member for each of another, and rankings that fit their shape.
-use Rattle.rule_rankings.proofs.Prelude.{[], ◌++◌, ◌+◌, ◌<◌, ◌∙◌, ◌∷◌, ◌≡◌, ◌≤◌, AreAllRanked, AreEach, AreLaps, AreRanks, AsMany, AtMostOne, HasLap, IsNonEmpty, IsRanked, IsWithin, LapsFit, List, Node, OthersRankZero, PartRanks, PartsFit, Ranking, RanksFit, Shape, acceptance_at, ap, arith, both_ways, cases_Bool, cases_lt, cond-false, cond-true, eqb-true, false, false≢true, get_or, get_or_append_left, get_or_past, get_or_read, inl, inr, is_possible, is_subset_of, is_subset_of_from_members, lap_at, lap_of, length, length-append, member_of_superset, nat_eq, no_node, node_at, or_cases, part_at, pos, rank_at, refl, subst, suc, sym, true, ℕ, ℤ}
-use Rattle.std.proofs.Math.Seq.{get_or-append_seam}
-use Rattle.design_rules.proofs.RankCheck.{lap_absent}
+use Rattle.rule_rankings.proofs.Prelude.{[], ◌++◌, ◌+◌, ◌<◌, ◌∙◌, ◌∷◌, ◌≡◌, ◌≤◌, AreAllRanked, AreEach, AreLaps, AreRanks, AsMany, AtMostOne, HasLap, IsNonEmpty, IsRanked, IsWithin, LapsFit, List, Node, OthersRankZero, PartRanks, PartsFit, Ranking, RanksFit, Shape, acceptance_at, ap, arith, both_ways, cases_Bool, cases_lt, cond-false, cond-true, eqb-true, false, false≢true, get_or, get_or_append_left, get_or_past, get_or_read, inl, inr, is_possible, is_subset_of, is_subset_of_from_members, lap_at, lap_of, length, length-append, member_of_superset, nat_eq, no_node, node_at, or_cases, part_at, pos, rank_at, refl, subst, suc, sym, true, ℕ, ℤ, get_or-append_seam, lap_absent}
 
 -- ---- lists that grow
 

@@ -1,8 +1,6 @@
 -- Ranks and laps of all parts, whatever ranks an acceptance and tells the lap of an event. (No rule's decider cites this.)
 use Rattle.std.specs.Prelude.{◌≡◌, ◌<◌, ℕ, ℤ, pos, List, [], length, get_or}
-use Rattle.csp_tables.specs.Prelude.{IsNonEmpty, IsWithin, Part}
-use Rattle.csp_tables.specs.Ranking.{PartRanks}
-use Rattle.csp_tables.specs.Table.{Node, no_node}
+use Rattle.csp_tables.specs.Prelude.{IsNonEmpty, IsWithin, Part, PartRanks, Node, no_node}
 
 -- the two lists are as long, and P holds of each place and what stands there in them
 pub record AreEach {A B : Type 0} (a : A) (b : B) (P : ℕ → A → B → Type 0) (xs : List A) (ys : List B) : Type 0 where

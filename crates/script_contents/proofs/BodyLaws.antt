@@ -1,7 +1,5 @@
 -- The body of a definition, where a walk under its parameters begins.
-use Rattle.script_contents.proofs.Prelude.{◌≡◌, ℕ, List, length, ◌∙◌, ap, slice_get, Tree, body_at, body_under, read_by, body_of, parameters, kind_class, kind_network, Name, first_of, Scope, Kind}
-use Rattle.name_tables.specs.declared.meanings.Meanings.{Meanings}
-use Rattle.typed_trees.specs.Walked.{Walked, standing}
+use Rattle.script_contents.proofs.Prelude.{◌≡◌, ℕ, List, length, ◌∙◌, ap, slice_get, Tree, body_at, body_under, read_by, body_of, parameters, kind_class, kind_network, Name, first_of, Scope, Kind, Meanings, Walked, standing}
 
 pub body_is : (m : Meanings) (d : ℕ) (params : List Name) (t : Tree) (w : Walked) (kind : Kind) (scope : Scope) → scope ≡ parameters 0 params
     → w ≡ standing m.names.now m.kinds.now scope (length params) → kind.class ≡ kind_class (slice_get m.kinds.now d)

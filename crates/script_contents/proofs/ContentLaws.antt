@@ -1,14 +1,6 @@
 -- What declarations put into a program, one after another.
-use Rattle.script_contents.proofs.Prelude.{◌≡◌, ℕ, suc, ◌+◌, ◌-◌, ◌<◌, ◌≤◌, List, [], ◌∷◌, ◌++◌, length, drop, get_or, refl, sym, ap, ◌∙◌, arith, append_assoc, flat_map, Some, Decl, Tree, constants_in, resources_in, roles_in, channels_of, constants_of, definitions_from, defined, first_assertion, numbers_from, plain_content, resources_of, roles_of, root_of, Counts, Entities, Name, counted, declared, first_of, meanings_of, none_yet, reading, Kind}
-use Rattle.csp_base.proofs.Standard.{drop_of_length-le, fun_ext, append-nil}
-use Rattle.csp_program.specs.declared.programs.Content.{Content}
-use Rattle.csp_program.specs.declared.programs.Def.{Def}
-use Rattle.csp_program.specs.declared.programs.ResourceNote.{ResourceNote}
-use Rattle.csp_program.specs.declared.programs.RolesNote.{RolesNote}
-use Rattle.name_tables.specs.Firsts.{SameFirsts}
+use Rattle.script_contents.proofs.Prelude.{◌≡◌, ℕ, suc, ◌+◌, ◌-◌, ◌<◌, ◌≤◌, List, [], ◌∷◌, ◌++◌, length, drop, get_or, refl, sym, ap, ◌∙◌, arith, append_assoc, flat_map, Some, Decl, Tree, constants_in, resources_in, roles_in, channels_of, constants_of, definitions_from, defined, first_assertion, numbers_from, plain_content, resources_of, roles_of, root_of, Counts, Entities, Name, counted, declared, first_of, meanings_of, none_yet, reading, Kind, drop_of_length-le, fun_ext, append-nil, Content, Def, ResourceNote, RolesNote, SameFirsts, drop_read, same_meanings}
 use Rattle.script_names.specs.Prelude.{Meanings}
-use Rattle.csp_base.proofs.Lists.{drop_read}
-use Rattle.name_tables.proofs.NameLemmas.{same_meanings}
 
 pub definitions_step : (meanings : Meanings) (kinds : List Kind) (new old whole : List Def) (n next : Counts) (i : ℕ) (decls : List Decl) (d : Decl)
     → i < length decls → d ≡ get_or decls i d → next ≡ counted n d → new ≡ old ++ defined meanings kinds n d

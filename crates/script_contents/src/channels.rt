@@ -9,16 +9,17 @@ ghost use Rattle.script_sizes.specs.BindingTokens.{all_tokens};
 ghost use Rattle.script_sizes.specs.Size.{declaration_size, size};
 
 use containers::Items;
-use csp_base::{Name, NoMemory};
+use csp_base::Name;
 use csp_program::copies::copy_exprs;
 use csp_program::{Channel, Expr};
 use csp_text::{Decl, Tree};
 use name_tables::{Meanings, Scope};
+use script_names::Made;
 use std::alloc::Global;
 use typed_trees::Walk;
 
 /// The types of a channel's fields.
-pub fn types_of(meanings: &Meanings<'_>, types: &[Tree]) -> Result<Items<Expr>, NoMemory>
+pub fn types_of(meanings: &Meanings<'_>, types: &[Tree]) -> Made<Items<Expr>>
     requires { all_tokens types.now ≤ MOST_BYTES }
     ensures { IfOk result (λ typed.
         typed ≡ exprs (map (reading (first_of meanings.now.names.now) meanings.now.kinds.now) types.now) [] 0) }
@@ -32,7 +33,7 @@ pub fn types_of(meanings: &Meanings<'_>, types: &[Tree]) -> Result<Items<Expr>, 
 pub fn channels_and_constants(
     meanings: &Meanings<'_>,
     decls: &[Decl],
-) -> Result<(Items<Channel>, Items<Name>), NoMemory>
+) -> Made<(Items<Channel>, Items<Name>)>
     requires { size decls.now ≤ MOST_BYTES }
     ensures channels { IfOk result (λ made. made.0 ≡ flat_map (channels_by meanings.now) decls.now) }
     ensures constants { IfOk result (λ made. made.1 ≡ flat_map constants_in decls.now) }
@@ -43,7 +44,7 @@ pub fn channels_and_constants(
 }
 
 // The channels of a script.
-fn channels(meanings: &Meanings<'_>, decls: &[Decl]) -> Result<Items<Channel>, NoMemory>
+fn channels(meanings: &Meanings<'_>, decls: &[Decl]) -> Made<Items<Channel>>
     requires { size decls.now ≤ MOST_BYTES }
     ensures { IfOk result (λ made. made ≡ flat_map (channels_by meanings.now) decls.now) }
 {
@@ -55,11 +56,7 @@ fn channels(meanings: &Meanings<'_>, decls: &[Decl]) -> Result<Items<Channel>, N
 }
 
 // Adds the channels that a declaration declares.
-fn add_channels(
-    meanings: &Meanings<'_>,
-    made: &mut Items<Channel>,
-    decl: &Decl,
-) -> Result<(), NoMemory>
+fn add_channels(meanings: &Meanings<'_>, made: &mut Items<Channel>, decl: &Decl) -> Made<()>
     requires { declaration_size decl.now ≤ MOST_BYTES }
     ensures { OnOk result (made.new ≡ made.old ++ channels_by meanings.now decl.now) }
 {
@@ -78,12 +75,7 @@ fn add_channels(
 }
 
 // Adds channels of these names and types.
-fn add_named(
-    alloc: Global,
-    made: &mut Items<Channel>,
-    xs: &[Name],
-    types: &[Expr],
-) -> Result<(), NoMemory>
+fn add_named(alloc: Global, made: &mut Items<Channel>, xs: &[Name], types: &[Expr]) -> Made<()>
     ensures { OnOk result (made.new ≡ made.old ++ map (λ (x : Name). plain_channel x types.now) xs.now) }
 {
     for x in xs {
@@ -93,7 +85,7 @@ fn add_named(
 }
 
 // A channel that has no field sets yet.
-fn channel(alloc: Global, x: &Name, types: &[Expr]) -> Result<Channel, NoMemory>
+fn channel(alloc: Global, x: &Name, types: &[Expr]) -> Made<Channel>
     ensures { IfOk result (λ made. made ≡ plain_channel x.now types.now) }
 {
     let name = x.try_clone(alloc)?;
@@ -106,7 +98,7 @@ fn channel(alloc: Global, x: &Name, types: &[Expr]) -> Result<Channel, NoMemory>
 }
 
 // The names of the constants of a script.
-fn constants(alloc: Global, decls: &[Decl]) -> Result<Items<Name>, NoMemory>
+fn constants(alloc: Global, decls: &[Decl]) -> Made<Items<Name>>
     ensures { IfOk result (λ made. made ≡ flat_map constants_in decls.now) }
 {
     let mut made = Items::new(alloc);
@@ -117,7 +109,7 @@ fn constants(alloc: Global, decls: &[Decl]) -> Result<Items<Name>, NoMemory>
 }
 
 // Adds the constants that a declaration declares.
-fn add_constants(alloc: Global, made: &mut Items<Name>, decl: &Decl) -> Result<(), NoMemory>
+fn add_constants(alloc: Global, made: &mut Items<Name>, decl: &Decl) -> Made<()>
     ensures { OnOk result (made.new ≡ made.old ++ constants_in decl.now) }
 {
     match decl {
@@ -132,7 +124,7 @@ fn add_constants(alloc: Global, made: &mut Items<Name>, decl: &Decl) -> Result<(
 }
 
 // Adds copies of names.
-fn add_names(alloc: Global, made: &mut Items<Name>, xs: &[Name]) -> Result<(), NoMemory>
+fn add_names(alloc: Global, made: &mut Items<Name>, xs: &[Name]) -> Made<()>
     ensures { OnOk result (made.new ≡ made.old ++ xs.now) }
 {
     for x in xs {

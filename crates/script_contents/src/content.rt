@@ -13,19 +13,15 @@ use crate::channels::channels_and_constants;
 use crate::definitions::definitions;
 use crate::notes::annotations;
 use containers::Items;
-use csp_base::NoMemory;
 use csp_program::{Content, Def, Net};
 use csp_text::{Decl, Tree};
 use name_tables::{Meanings, Scope};
+use script_names::Made;
 use typed_trees::Walk;
 
 /// What the declarations of a script put into its program, whose asserted network is `root`, while its channels have no
 /// field sets yet.
-pub fn plain_content(
-    meanings: &Meanings<'_>,
-    decls: &[Decl],
-    root: &Tree,
-) -> Result<Content, NoMemory>
+pub fn plain_content(meanings: &Meanings<'_>, decls: &[Decl], root: &Tree) -> Made<Content>
     requires names { SameFirsts meanings.now.names.now (declared decls.now) }
     requires root { meant.first_assertion decls.now ≡ Some root.now }
     requires few { size decls.now ≤ MOST_BYTES }
@@ -50,7 +46,7 @@ fn definitions_and_root(
     meanings: &Meanings<'_>,
     decls: &[Decl],
     root: &Tree,
-) -> Result<(Items<Def>, Net), NoMemory>
+) -> Made<(Items<Def>, Net)>
     requires few { size decls.now ≤ MOST_BYTES }
     requires root { tokens root.now ≤ MOST_BYTES }
     ensures definitions { IfOk result (λ made. made.0 ≡ definitions_by meanings.now none_yet decls.now) }
@@ -62,7 +58,7 @@ fn definitions_and_root(
 }
 
 // The network that is asserted.
-fn root_net(meanings: &Meanings<'_>, root: &Tree) -> Result<Net, NoMemory>
+fn root_net(meanings: &Meanings<'_>, root: &Tree) -> Made<Net>
     requires { tokens root.now ≤ MOST_BYTES }
     ensures { IfOk result (λ net. net ≡ (read_by meanings.now root.now).net [] 0) }
 {

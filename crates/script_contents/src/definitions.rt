@@ -1,28 +1,28 @@
 //! The definitions of a script.
 
-ghost use Rattle.std.specs.Prelude.{◌≡◌, ◌+◌, ◌≤◌, [], ◌++◌, length, slice_get, IfOk, OnOk};
+ghost use Rattle.std.specs.Prelude.{◌≡◌, ◌+◌, ◌≤◌, [], ◌++◌, length, IfOk, OnOk};
 ghost use Rattle.dl_limits.specs.declared.TheConstants.{MOST_BYTES};
 ghost use Rattle.name_tables.specs.Counted.{counts, total};
 ghost use Rattle.script_contents.specs.Plain.{body_at, datatype_of, defined_by, definition_at, definitions_by, nametype_of, process_at, read_by};
 ghost use Rattle.script_contents.specs.Plain as plain;
 ghost use Rattle.script_names.specs.Contents as meant;
-ghost use Rattle.script_names.specs.Prelude.{kind_class, kind_network, counted, none_yet};
+ghost use Rattle.script_names.specs.Prelude.{counted, none_yet};
 ghost use Rattle.script_sizes.specs.BindingTokens.{tokens};
 ghost use Rattle.script_sizes.specs.Size.{declaration_size, size};
 
 use containers::Items;
-use csp_base::{Name, NoMemory};
+use csp_base::Name;
 use csp_program::{Body, Def, Expr};
 use csp_text::{Decl, Tree};
 use name_tables::declared::Numbers;
 use name_tables::ends::bind_all;
-use name_tables::{Meanings, Scope};
-use script_names::{Class, Kind};
+use name_tables::{Meanings, Scope, kind_at};
+use script_names::{Class, Kind, Made};
 use std::alloc::Global;
 use typed_trees::Walk;
 
 /// The definitions of a script.
-pub fn definitions(meanings: &Meanings<'_>, decls: &[Decl]) -> Result<Items<Def>, NoMemory>
+pub fn definitions(meanings: &Meanings<'_>, decls: &[Decl]) -> Made<Items<Def>>
     requires { size decls.now ≤ MOST_BYTES }
     ensures { IfOk result (λ made. made ≡ definitions_by meanings.now none_yet decls.now) }
 {
@@ -70,7 +70,7 @@ fn add_definition(
     made: &mut Items<Def>,
     numbers: Numbers,
     decl: &Decl,
-) -> Result<(), NoMemory>
+) -> Made<()>
     requires { total (counts numbers) + declaration_size decl.now ≤ MOST_BYTES }
     ensures { OnOk result (made.new ≡ made.old ++ defined_by meanings.now (counts numbers) decl.now) }
 {
@@ -88,13 +88,7 @@ fn add_definition(
 }
 
 // The definition with the number `d`.
-fn define(
-    meanings: &Meanings<'_>,
-    d: u32,
-    x: &Name,
-    params: &[Name],
-    tree: &Tree,
-) -> Result<Def, NoMemory>
+fn define(meanings: &Meanings<'_>, d: u32, x: &Name, params: &[Name], tree: &Tree) -> Made<Def>
     requires { length params.now + tokens tree.now ≤ MOST_BYTES }
     ensures { IfOk result (λ def. def ≡ definition_at meanings.now d x.now params.now tree.now) }
 {
@@ -108,23 +102,18 @@ fn define(
 }
 
 // The body of the definition with the number `d`, which has these parameters.
-fn body_under(
-    meanings: &Meanings<'_>,
-    d: u32,
-    params: &[Name],
-    tree: &Tree,
-) -> Result<Body, NoMemory>
+fn body_under(meanings: &Meanings<'_>, d: u32, params: &[Name], tree: &Tree) -> Made<Body>
     requires { length params.now + tokens tree.now ≤ MOST_BYTES }
     ensures { IfOk result (λ body. body ≡ plain.body_under meanings.now d params.now tree.now) }
 {
     let mut scope = Scope::new(meanings.alloc);
     bind_all(&mut scope, params)?;
     let mut walk = Walk::new(meanings, scope, params.len() as u32);
-    body(&mut walk, kind_at(meanings.kinds, d), tree)
+    body(&mut walk, kind_at(meanings.kinds, d as usize), tree)
 }
 
 // The body of a definition of this kind.
-fn body(walk: &mut Walk<'_>, kind: Kind, tree: &Tree) -> Result<Body, NoMemory>
+fn body(walk: &mut Walk<'_>, kind: Kind, tree: &Tree) -> Made<Body>
     requires { walk.old.next + tokens tree.now ≤ MOST_BYTES }
     ensures { IfOk result (λ body. body ≡ body_at walk.old kind tree.now) }
 {
@@ -135,7 +124,7 @@ fn body(walk: &mut Walk<'_>, kind: Kind, tree: &Tree) -> Result<Body, NoMemory>
 }
 
 // The body of a process or of a network definition.
-fn process_body(walk: &mut Walk<'_>, network: bool, tree: &Tree) -> Result<Body, NoMemory>
+fn process_body(walk: &mut Walk<'_>, network: bool, tree: &Tree) -> Made<Body>
     requires { walk.old.next + tokens tree.now ≤ MOST_BYTES }
     ensures { IfOk result (λ body. body ≡ process_at walk.old network tree.now) }
 {
@@ -145,22 +134,8 @@ fn process_body(walk: &mut Walk<'_>, network: bool, tree: &Tree) -> Result<Body,
     walk.typed_proc(tree).map(Body::Process)
 }
 
-// What the definition with the number `d` is.
-fn kind_at(kinds: &[Kind], d: u32) -> Kind
-    ensures class { result.class ≡ kind_class (slice_get kinds.now d) }
-    ensures network { result.network ≡ kind_network (slice_get kinds.now d) }
-{
-    match kinds.get(d as usize) {
-        Some(kind) => *kind,
-        None => Kind {
-            class: Class::Unknown,
-            network: false,
-        },
-    }
-}
-
 // A nametype.
-fn nametype(meanings: &Meanings<'_>, x: &Name, tree: &Tree) -> Result<Def, NoMemory>
+fn nametype(meanings: &Meanings<'_>, x: &Name, tree: &Tree) -> Made<Def>
     requires { tokens tree.now ≤ MOST_BYTES }
     ensures { IfOk result (λ def. def ≡ nametype_of meanings.now x.now tree.now) }
 {
@@ -174,7 +149,7 @@ fn nametype(meanings: &Meanings<'_>, x: &Name, tree: &Tree) -> Result<Def, NoMem
 }
 
 // The set of a nametype.
-fn set_of(meanings: &Meanings<'_>, tree: &Tree) -> Result<Expr, NoMemory>
+fn set_of(meanings: &Meanings<'_>, tree: &Tree) -> Made<Expr>
     requires { tokens tree.now ≤ MOST_BYTES }
     ensures { IfOk result (λ set. set ≡ (read_by meanings.now tree.now).expr [] 0) }
 {
@@ -184,7 +159,7 @@ fn set_of(meanings: &Meanings<'_>, tree: &Tree) -> Result<Expr, NoMemory>
 }
 
 // A datatype of so many constants, the first of which has the number `first`.
-fn datatype(alloc: Global, x: &Name, first: u32, count: usize) -> Result<Def, NoMemory>
+fn datatype(alloc: Global, x: &Name, first: u32, count: usize) -> Made<Def>
     requires { first + count ≤ MOST_BYTES }
     ensures { IfOk result (λ def. def ≡ datatype_of x.now first count) }
 {
@@ -197,7 +172,7 @@ fn datatype(alloc: Global, x: &Name, first: u32, count: usize) -> Result<Def, No
 }
 
 // The numbers from `first` on, so many of them.
-fn numbers_from(alloc: Global, first: u32, count: usize) -> Result<Items<u32>, NoMemory>
+fn numbers_from(alloc: Global, first: u32, count: usize) -> Made<Items<u32>>
     requires { first + count ≤ MOST_BYTES }
     ensures { IfOk result (λ made. made ≡ meant.numbers_from first count) }
 {

@@ -6,11 +6,11 @@ ghost use Rattle.script_names.specs.Prelude.{first_of, definition_number};
 ghost use Rattle.script_contents.specs.Plain.{resources_in, roles_in};
 
 use containers::Items;
-use csp_base::{Name, NoMemory};
+use csp_base::Name;
 use csp_program::{ResourceNote, RolesNote};
 use csp_text::Decl;
 use name_tables::Dictionary;
-use script_names::Entity;
+use script_names::{Entity, Made};
 use std::alloc::Global;
 
 // The number of the definition of this name.
@@ -28,7 +28,7 @@ pub fn annotations(
     alloc: Global,
     names: &Dictionary,
     decls: &[Decl],
-) -> Result<(Items<RolesNote>, Items<ResourceNote>), NoMemory>
+) -> Made<(Items<RolesNote>, Items<ResourceNote>)>
     ensures roles { IfOk result (λ made. made.0 ≡ flat_map (roles_in (first_of names.now)) decls.now) }
     ensures resources { IfOk result (λ made. made.1 ≡ flat_map (resources_in (first_of names.now)) decls.now) }
 {
@@ -38,7 +38,7 @@ pub fn annotations(
 }
 
 // The annotations of roles.
-fn roles(alloc: Global, names: &Dictionary, decls: &[Decl]) -> Result<Items<RolesNote>, NoMemory>
+fn roles(alloc: Global, names: &Dictionary, decls: &[Decl]) -> Made<Items<RolesNote>>
     ensures { IfOk result (λ made. made ≡ flat_map (roles_in (first_of names.now)) decls.now) }
 {
     let mut made = Items::new(alloc);
@@ -49,7 +49,7 @@ fn roles(alloc: Global, names: &Dictionary, decls: &[Decl]) -> Result<Items<Role
 }
 
 // Adds the roles that a declaration gives.
-fn add_roles(names: &Dictionary, made: &mut Items<RolesNote>, decl: &Decl) -> Result<(), NoMemory>
+fn add_roles(names: &Dictionary, made: &mut Items<RolesNote>, decl: &Decl) -> Made<()>
     ensures { OnOk result (made.new ≡ made.old ++ roles_in (first_of names.now) decl.now) }
 {
     match decl {
@@ -73,11 +73,7 @@ fn add_roles(names: &Dictionary, made: &mut Items<RolesNote>, decl: &Decl) -> Re
 }
 
 // The annotations of resources.
-fn resources(
-    alloc: Global,
-    names: &Dictionary,
-    decls: &[Decl],
-) -> Result<Items<ResourceNote>, NoMemory>
+fn resources(alloc: Global, names: &Dictionary, decls: &[Decl]) -> Made<Items<ResourceNote>>
     ensures { IfOk result (λ made. made ≡ flat_map (resources_in (first_of names.now)) decls.now) }
 {
     let mut made = Items::new(alloc);
@@ -88,11 +84,7 @@ fn resources(
 }
 
 // Adds the resource that a declaration names.
-fn add_resources(
-    names: &Dictionary,
-    made: &mut Items<ResourceNote>,
-    decl: &Decl,
-) -> Result<(), NoMemory>
+fn add_resources(names: &Dictionary, made: &mut Items<ResourceNote>, decl: &Decl) -> Made<()>
     ensures { OnOk result (made.new ≡ made.old ++ resources_in (first_of names.now) decl.now) }
 {
     match decl {

@@ -2,7 +2,8 @@
 -- channel's field has no value that fits; there are too many events.
 use Rattle.std.specs.Prelude.{◌≡◌, ◌+◌, ◌-◌, ◌^◌, if◌then◌else◌, ◌∷◌, ◌++◌}
 use Rattle.script_names.specs.Sources.{ℕ, min, nat_le, Option, Some, None, Result, Ok, Err, List, [], length, map, replicate, MOST_EVENTS, Atom, Outcome, Expr, Content, Decl, Script, Tree, ResolveFault}
-use Rattle.script_names.specs.declared.fault.Unresolved.{Unresolved}
+use Rattle.csp_base.specs.Prelude.{Tells}
+use Rattle.csp_base.specs.declared.stop.Stop.{Stop}
 use Rattle.script_names.specs.declared.kinds.Kind.{Kind as DefinitionKind}
 use Rattle.script_names.specs.Contents.{first_assertion, plain_content}
 use Rattle.script_names.specs.Kinds.{AreKinds}
@@ -63,7 +64,6 @@ pub record IsRefused (script : Script) (f : ResolveFault) : Type 0 where
   pub is : resolved script.decls kinds ≡ Err f
 
 -- what a call owes that resolves a script: want of memory is free
-abbrev pub Resolves : Script → Result Content Unresolved → Type 0
+abbrev pub Resolves : Script → Result Content (Stop ResolveFault) → Type 0
 Resolves script (Ok p) = IsProgram script p
-Resolves script (Err (Unresolved.Refused f)) = IsRefused script f
-Resolves script (Err Unresolved.NoMemory) = Unit {0}
+Resolves script (Err s) = Tells (IsRefused script) s

@@ -1,6 +1,6 @@
 //! Why a script has no program.
 
-use csp_base::{Name, NoMemory};
+use csp_base::Name;
 use csp_program::ValueKind;
 
 /// Why a script has no program. Declarations are numbered from 0 in the order of the text.
@@ -57,51 +57,18 @@ pub enum ResolveFault {
     },
 }
 
-// By hand, so that a crate that ends one calls this and proves no end of its own.
 impl Drop for ResolveFault {
     fn drop(self) {
         match self {
             ResolveFault::NoAssert => {}
-            ResolveFault::Unknown {
-                inside: _inside,
-                name: _name,
-            } => {}
-            ResolveFault::Twice {
-                inside: _inside,
-                name: _name,
-            } => {}
-            ResolveFault::WrongKind { inside: _inside } => {}
-            ResolveFault::WrongCount {
-                inside: _inside,
-                name: _name,
-            } => {}
-            ResolveFault::ParallelInside { inside: _inside } => {}
-            ResolveFault::EventLimit { count: _count } => {}
-            ResolveFault::DataDepth { inside: _inside } => {}
-            ResolveFault::Value {
-                inside: _inside,
-                kind: _kind,
-            } => {}
+            ResolveFault::Unknown { inside, name } => {}
+            ResolveFault::Twice { inside, name } => {}
+            ResolveFault::WrongKind { inside } => {}
+            ResolveFault::WrongCount { inside, name } => {}
+            ResolveFault::ParallelInside { inside } => {}
+            ResolveFault::EventLimit { count } => {}
+            ResolveFault::DataDepth { inside } => {}
+            ResolveFault::Value { inside, kind } => {}
         }
-    }
-}
-
-/// Why no program was made of a script.
-#[derive(Drop)]
-pub enum Unresolved {
-    /// It has none.
-    Refused(ResolveFault),
-    /// There was no memory for it.
-    NoMemory,
-}
-
-impl From<NoMemory> for Unresolved {
-    ghost use Rattle.std.specs.Prelude.{◌≡◌};
-    ghost use Rattle.script_names.specs.declared.fault.Unresolved.TheVariants as unresolved;
-
-    ghost from_gives = { λ _ e. e ≡ unresolved.NoMemory };
-
-    fn from(_error: NoMemory) -> Unresolved {
-        Unresolved::NoMemory
     }
 }

@@ -5,6 +5,10 @@ pub mod fault;
 pub mod kinds;
 pub mod occurrence;
 
-pub use fault::{ResolveFault, Unresolved};
+use csp_base::NoMemory;
+pub use fault::ResolveFault;
 pub use kinds::{Class, End, Entity, Kind, Need, Place, Sense, Use};
 pub use occurrence::Occurrence;
+
+/// What is made, unless memory runs out.
+pub type Made<T> = Result<T, NoMemory>;

@@ -1,6 +1,5 @@
 -- The last digit of a number is written behind the others.
-use Rattle.script_printer.proofs.Prelude.{◌≡◌, ℕ, ◌+◌, ◌/◌, ◌%◌, ◌^◌, ◌<◌, ◌≤◌, Result, Ok, Err, OnOk, List, [], ◌∷◌, ◌++◌, ap, sym, ◌∙◌, append_assoc, decimal}
-use Rattle.std.proofs.lemmas.Fmt.{decimal_step}
+use Rattle.script_printer.proofs.Prelude.{◌≡◌, ℕ, ◌+◌, ◌/◌, ◌%◌, ◌^◌, ◌<◌, ◌≤◌, Result, Ok, Err, OnOk, List, [], ◌∷◌, ◌++◌, ap, sym, ◌∙◌, append_assoc, decimal, decimal_step}
 
 pub one_more_digit : {A E : Type 0} (start middle whole : List ℕ) (n : ℕ) (r : Result A E) → 10 ≤ n → n < 2 ^ 64
     → middle ≡ start ++ decimal (n / 10) → OnOk r (whole ≡ middle ++ (48 + n % 10) ∷ []) → OnOk r (whole ≡ start ++ decimal n)

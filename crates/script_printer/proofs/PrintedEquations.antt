@@ -1,18 +1,9 @@
 -- How each form is printed, in terms of its parts: `tokens_of _ (tree.rolls-V ..)` are the tokens of a tree V .., `shape_is _ (tree.rolls-V ..)` is
 -- its shape. A form that is new gets a clause of `form_printed`, and here one of `over_parts` where it has a list of parts; a field or a generator
 -- gets an equation with its name in `other_forms`.
-use Rattle.script_printer.proofs.Prelude.{◌≡◌, ℕ, Some, None, List, [], ◌∷◌, ◌++◌, map, ap, sym, refl, ◌∙◌, flat_map, ExternalChoice, InternalChoice, OpenRename, CloseRename, OpenProduct, CloseProduct, LeftArrow, Dot, Bang, Question, OpenParen, CloseParen, OpenBrace, CloseBrace, Comma, Bar, Token, Name, Symbol, Tree, Printed, atom, compound, form, form_tokens, operand, item, separated, dotted, conditions, bound_in, pair_tokens, renamed_tokens, printed, printed_tokens, shape_of, operand_tokens, item_tokens, field_tokens, gen_tokens, event_tokens, part_tokens, tree_layer_printed, field_layer_printed, gen_layer_printed, event_layer_printed, part_layer_printed}
-use Rattle.std.proofs.lemmas.List.Folds.{flat_map-map}
-use Rattle.csp_text.specs.declared.tree.EventTree.{EventTree}
-use Rattle.csp_text.specs.declared.tree.FieldTree.{FieldTree}
-use Rattle.csp_text.specs.declared.tree.FieldTree.TheFolds.{map-FieldTree, map-GenTree, map-Tree, fold-roll-FieldTree, fold-roll-GenTree, fold-roll-Tree, fold-roll-EventTree, fold-roll-PartTree}
-use Rattle.csp_text.specs.declared.tree.FieldTree.TheOpen.{FieldTree-F, GenTree-F, Tree-F}
-use Rattle.csp_text.specs.declared.tree.FieldTree.TheViews.{roll-FieldTree, roll-GenTree, roll-Tree, out-Tree, roll-out-Tree, out-EventTree, roll-out-EventTree, out-PartTree, roll-out-PartTree}
-use Rattle.csp_text.specs.declared.tree.GenTree.{GenTree}
-use Rattle.csp_text.specs.declared.tree.PartTree.{PartTree}
+use Rattle.script_printer.proofs.Prelude.{◌≡◌, ℕ, Some, None, List, [], ◌∷◌, ◌++◌, map, ap, sym, refl, ◌∙◌, flat_map, ExternalChoice, InternalChoice, OpenRename, CloseRename, OpenProduct, CloseProduct, LeftArrow, Dot, Bang, Question, OpenParen, CloseParen, OpenBrace, CloseBrace, Comma, Bar, Token, Name, Symbol, Tree, Printed, atom, compound, form, form_tokens, operand, item, separated, dotted, conditions, bound_in, pair_tokens, renamed_tokens, printed, printed_tokens, shape_of, operand_tokens, item_tokens, field_tokens, gen_tokens, event_tokens, part_tokens, tree_layer_printed, field_layer_printed, gen_layer_printed, event_layer_printed, part_layer_printed, flat_map-map, EventTree, FieldTree, map-FieldTree, map-GenTree, map-Tree, fold-roll-FieldTree, fold-roll-GenTree, fold-roll-Tree, fold-roll-EventTree, fold-roll-PartTree, FieldTree-F, GenTree-F, Tree-F, roll-FieldTree, roll-GenTree, roll-Tree, out-Tree, roll-out-Tree, out-EventTree, roll-out-EventTree, out-PartTree, roll-out-PartTree, GenTree, PartTree, Dotted}
 use Rattle.csp_text.specs.declared.tree.FieldTree.TheVariants as field
 use Rattle.csp_text.specs.declared.tree.GenTree.TheVariants as generator
-use Rattle.script_printer.specs.declared.shape.Shape.TheVariants.{Dotted}
 
 separated_map : {X Y : Type 0} (shown : Y → List Token) (f : X → Y) (sign : Token) (xs : List X) → separated shown sign (map f xs) ≡ separated (λ x. shown (f x)) sign xs
 separated_map shown f sign [] = refl

@@ -1,6 +1,5 @@
 -- How tokens are written one after another.
-use Rattle.script_printer.proofs.Prelude.{◌≡◌, ℕ, zero, suc, ◌+◌, ◌<◌, ◌≤◌, true, false, Result, Ok, Err, OnOk, List, [], ◌∷◌, ◌++◌, length, drop, get_or, add-one, eqb-true, sym, ap, refl, ◌∙◌, subst, append_assoc, flat_map, ◌==◌, drop_of_length-le, drop-cons, false≢true, append-nil, nil_from_length, Bar, Comma, Token, Symbol, before_place, row, spaced, token_text, conditions, separated}
-use Rattle.std.proofs.lemmas.List.Concat.{flat_map-append}
+use Rattle.script_printer.proofs.Prelude.{◌≡◌, ℕ, zero, suc, ◌+◌, ◌<◌, ◌≤◌, true, false, Result, Ok, Err, OnOk, List, [], ◌∷◌, ◌++◌, length, drop, get_or, add-one, eqb-true, sym, ap, refl, ◌∙◌, subst, append_assoc, flat_map, ◌==◌, drop_of_length-le, drop-cons, false≢true, append-nil, nil_from_length, Bar, Comma, Token, Symbol, before_place, row, spaced, token_text, conditions, separated, flat_map-append}
 
 pub spaced_append : (a b : List Token) → spaced (a ++ b) ≡ spaced a ++ spaced b
 unfolding spaced

@@ -1,19 +1,8 @@
 -- How many binding tokens each form of a tree has.
-use Rattle.std.proofs.Common.{◌≡◌, ℕ, ◌+◌, Option, Some, None, List, map, ap, sym, ◌∙◌, arith}
-use Rattle.csp_base.specs.declared.operators.BinOp.{BinOp}
-use Rattle.csp_base.specs.declared.operators.SetOp.{SetOp}
-use Rattle.csp_text.specs.declared.tree.EventTree.{EventTree}
-use Rattle.csp_text.specs.declared.tree.FieldTree.{FieldTree}
-use Rattle.csp_text.specs.declared.tree.FieldTree.TheFolds.{fold-roll-FieldTree, fold-roll-GenTree, fold-roll-Tree, fold-roll-EventTree, fold-roll-PartTree, map-FieldTree, map-GenTree, map-Tree, map-EventTree, map-PartTree}
-use Rattle.csp_text.specs.declared.tree.FieldTree.TheOpen.{FieldTree-F, GenTree-F, Tree-F, EventTree-F, PartTree-F}
-use Rattle.csp_text.specs.declared.tree.FieldTree.TheViews.{roll-FieldTree, roll-GenTree, roll-Tree, roll-EventTree, roll-PartTree, out-EventTree, roll-out-EventTree, out-PartTree, roll-out-PartTree}
-use Rattle.csp_text.specs.declared.tree.GenTree.{GenTree}
-use Rattle.csp_text.specs.declared.tree.PartTree.{PartTree}
-use Rattle.csp_text.specs.declared.tree.Tree.{Tree}
+use Rattle.script_sizes.proofs.Prelude.{◌≡◌, ℕ, ◌+◌, Option, Some, None, List, map, ap, sym, ◌∙◌, arith, BinOp, SetOp, EventTree, FieldTree, fold-roll-FieldTree, fold-roll-GenTree, fold-roll-Tree, fold-roll-EventTree, fold-roll-PartTree, map-FieldTree, map-GenTree, map-Tree, map-EventTree, map-PartTree, FieldTree-F, GenTree-F, Tree-F, EventTree-F, PartTree-F, roll-FieldTree, roll-GenTree, roll-Tree, roll-EventTree, roll-PartTree, out-EventTree, roll-out-EventTree, out-PartTree, roll-out-PartTree, GenTree, PartTree, Tree, tokens, field_tokens, set_tokens, gen_tokens, event_tokens, part_tokens, tokens_of_layer, field_tokens_of_layer, gen_tokens_of_layer, event_tokens_of_layer, part_tokens_of_layer, all_tokens, fields_tokens, gens_tokens, parts_tokens, pairs_tokens}
 use Rattle.csp_text.specs.declared.tree.FieldTree.TheVariants as field
 use Rattle.csp_text.specs.declared.tree.GenTree.TheVariants as generator
 use Rattle.csp_text.specs.declared.tree.Tree.TheVariants as tree
-use Rattle.script_sizes.specs.BindingTokens.{tokens, field_tokens, set_tokens, gen_tokens, event_tokens, part_tokens, tokens_of_layer, field_tokens_of_layer, gen_tokens_of_layer, event_tokens_of_layer, part_tokens_of_layer, all_tokens, fields_tokens, gens_tokens, parts_tokens, pairs_tokens}
 
 pub tree_counts : (d : Tree-F FieldTree GenTree Tree EventTree PartTree) → tokens (roll-Tree d)
     ≡ tokens_of_layer (map-Tree FieldTree GenTree Tree EventTree PartTree ℕ ℕ ℕ ℕ ℕ field_tokens gen_tokens tokens event_tokens part_tokens d)

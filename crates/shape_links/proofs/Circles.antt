@@ -1,7 +1,5 @@
 -- Circles, passed the other way round.
-use Rattle.shape_links.proofs.Prelude.{◌≡◌, ℕ, zero, suc, ◌-◌, ◌<◌, inl, inr, List, [], ◌∷◌, ◌++◌, length, get_or, take, drop, sym, ap, subst, ◌∙◌, refl, arith, reverse, cases_eq, get_or-reverse, length-reverse, reverse-append, drop-append_seam, take-append_seam}
-use Rattle.digraph.specs.Circle.{Leads, IsLeastCircle}
-use Rattle.shape_links.specs.Turned.{turned_circle}
+use Rattle.shape_links.proofs.Prelude.{◌≡◌, ℕ, zero, suc, ◌-◌, ◌<◌, inl, inr, List, [], ◌∷◌, ◌++◌, length, get_or, take, drop, sym, ap, subst, ◌∙◌, refl, arith, reverse, cases_eq, get_or-reverse, length-reverse, reverse-append, drop-append_seam, take-append_seam, Leads, IsLeastCircle, turned_circle}
 
 module _ (A B : ℕ → ℕ → Type 0) (flip : (x y : ℕ) → A x y → B y x) where
   leads_more : (x : ℕ) (vs : List ℕ) (y z : ℕ) → Leads B x vs y → B y z → Leads B x (vs ++ y ∷ []) z

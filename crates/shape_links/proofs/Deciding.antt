@@ -1,6 +1,5 @@
 -- From the pairs of an exploration to what holds after runs.
-use Rattle.shape_links.proofs.Prelude.{◌≡◌, ℕ, ◌<◌, List, Bool, true, false, Option, Some, None, Result, length, sym, subst, IfOk, IsSomeAnd, MatchOption, both_ways, IsWellFormed, RunsTo, Shape, end_of, part_at, end_within, part_form, IsExploration, LeadsTo, observed, pair_at, IsDecided, IsFirstFailing, table_of, Component}
-use Rattle.observed_runs.proofs.Runs.{either_way}
+use Rattle.shape_links.proofs.Prelude.{◌≡◌, ℕ, ◌<◌, List, Bool, true, false, Option, Some, None, Result, length, sym, subst, IfOk, IsSomeAnd, MatchOption, both_ways, IsWellFormed, RunsTo, Shape, end_of, part_at, end_within, part_form, IsExploration, LeadsTo, observed, pair_at, IsDecided, IsFirstFailing, table_of, Component, either_way}
 
 module _ (c : Component) (w : IsWellFormed c.shape.now) (step : ℕ → ℕ → ℕ) (start : ℕ) (pairs : List (ℕ × ℕ)) (x : IsExploration (table_of c) step start pairs) where
   pub pair_within : (k : ℕ) → k < length pairs → (pair_at pairs k).0 < length (table_of c)

@@ -1,10 +1,5 @@
 -- The link of an event, the links of a part, and what is read of a shape.
-use Rattle.shape_links.proofs.Prelude.{◌≡◌, ℕ, zero, suc, ◌+◌, ◌<◌, ◌≤◌, inl, inr, List, [], ◌∷◌, ◌++◌, length, get_or, cond, true, false, Some, IsTrue, nat_eq, refl, sym, ap, subst, ◌∙◌, arith, eq-eqb, slice_get, slice_index, cases_Bool, cases_eq, cond-true, cond-false, or_cases, or_left, or_right, eqb-true, both_ways, false≢true, list_any-append, slice_get_within, get_or_from_slice_get, get_or_read, get_or_past, has, Part, part_at, alphabets_of, sharers, TripleDisjoint, node_at, is_possible, Link, Shape, Joins, is_end, link_at, acceptance_at, IsWellFormed, IsOn, part_form, possible_within, first_end, sharer, some_link, IsOwner, IsOnOne, AreOwners, ends_below, ends_of}
-use Rattle.net_sound.proofs.Sharers.{at_three}
-use Rattle.design_rules.specs.Cyclic.{AllKeepPlaces, ReachesLink}
-use Rattle.design_rules.proofs.Holders.{one_link}
-use Rattle.design_rules.proofs.Places.{one_link_at}
-use Rattle.csp_base.proofs.Listed.{has_push_cases}
+use Rattle.shape_links.proofs.Prelude.{◌≡◌, ℕ, zero, suc, ◌+◌, ◌<◌, ◌≤◌, inl, inr, List, [], ◌∷◌, ◌++◌, length, get_or, cond, true, false, Some, IsTrue, nat_eq, refl, sym, ap, subst, ◌∙◌, arith, eq-eqb, slice_get, slice_index, cases_Bool, cases_eq, cond-true, cond-false, or_cases, or_left, or_right, eqb-true, both_ways, false≢true, list_any-append, slice_get_within, get_or_from_slice_get, get_or_read, get_or_past, has, Part, part_at, alphabets_of, sharers, TripleDisjoint, node_at, is_possible, Link, Shape, Joins, is_end, link_at, acceptance_at, IsWellFormed, IsOn, part_form, possible_within, first_end, sharer, some_link, IsOwner, IsOnOne, AreOwners, ends_below, ends_of, at_three, AllKeepPlaces, ReachesLink, one_link, one_link_at, has_push_cases}
 
 -- a part that has the event is an end of the link that has it
 pub owner_end : (shape : Shape) (i l e : ℕ) → IsWellFormed shape → TripleDisjoint (alphabets_of shape.parts) → i < length shape.parts → IsTrue (has (part_at shape.parts i).alphabet e) → IsOwner shape l e → IsOn shape i l e

@@ -1,11 +1,5 @@
 -- Of which links a run has an odd number of events, step by step.
-use Rattle.shape_links.proofs.Prelude.{◌≡◌, ℕ, suc, ◌+◌, ◌<◌, List, [], ◌∷◌, ◌++◌, Bool, true, false, not, ◌&&◌, cond, IsTrue, length, get_or, nat_eq, inl, inr, refl, sym, ap, subst, ◌∙◌, arith, eqb-true, and_parts, cases_Bool, cases_lt, both_ways, false≢true, has, IsWellFormed, Link, Shape, end_of, is_possible, link_at, node_after, node_at, part_at, end_within, run_induction, part_form, AreEnough, pair_at, table_of, IsOwner, AreOddLinks, IsTurned, Component}
-use Rattle.csp_base.proofs.Booleans.{and_false}
-use Rattle.csp_base.specs.Standard.{pointwise}
-use Rattle.csp_tables.proofs.Runs.{end_push, node_form}
-use Rattle.design_rules.proofs.Counts.{count_push_more, count_push_same}
-use Rattle.design_rules.specs.Prelude.{count_in, is_odd}
-use Rattle.observed_runs.proofs.Leading.{listed_step, step_within}
+use Rattle.shape_links.proofs.Prelude.{◌≡◌, ℕ, suc, ◌+◌, ◌<◌, List, [], ◌∷◌, ◌++◌, Bool, true, false, not, ◌&&◌, cond, IsTrue, length, get_or, nat_eq, inl, inr, refl, sym, ap, subst, ◌∙◌, arith, eqb-true, and_parts, cases_Bool, cases_lt, both_ways, false≢true, has, IsWellFormed, Link, Shape, end_of, is_possible, link_at, node_after, node_at, part_at, end_within, run_induction, part_form, AreEnough, pair_at, table_of, IsOwner, AreOddLinks, IsTurned, Component, and_false, pointwise, end_push, node_form, count_push_more, count_push_same, count_in, is_odd, listed_step, step_within}
 use Rattle.shape_links.proofs.Links.{link_past}
 use Rattle.shape_links.proofs.Watching.{off_link}
 

@@ -1,7 +1,5 @@
 -- The parity that a run leaves is that of the number of its events.
-use Rattle.shape_links.proofs.Prelude.{◌≡◌, ℕ, suc, List, [], ◌∷◌, Bool, true, false, not, cond, nat_eq, inl, inr, refl, sym, ap, ◌∙◌, arith, cases_Bool, cond-true, cond-false, has, observed, parity_step}
-use Rattle.design_rules.specs.Counts.{count_in, is_odd}
-use Rattle.design_rules.proofs.Counts.{count_more, count_same}
+use Rattle.shape_links.proofs.Prelude.{◌≡◌, ℕ, suc, List, [], ◌∷◌, Bool, true, false, not, cond, nat_eq, inl, inr, refl, sym, ap, ◌∙◌, arith, cases_Bool, cond-true, cond-false, has, observed, parity_step, count_in, is_odd, count_more, count_same}
 
 abbrev number : Bool → ℕ
 number b = cond b 1 0

@@ -1,6 +1,5 @@
 -- Observers of links see shared events alone. And enough of a node's steps show what is shared there.
-use Rattle.shape_links.proofs.Prelude.{◌≡◌, ℕ, suc, ◌+◌, ◌-◌, ◌<◌, inl, inr, List, [], ◌∷◌, ◌++◌, length, get_or, Bool, true, false, ◌&&◌, nat_eq, sym, ap, subst, ◌∙◌, arith, eq-eqb, slice_index, length-append, get_or_append_left, get_or-append_seam, cases_Bool, cases_eq, cases_lt, cond-true, cond-false, and_from, or_cases, both_ways, false≢true, list_any_at, list_all_at, has, HasForm, Part, part_at, Shape, IsWellFormed, link_at, part_form, link_shared, SeesOnly, AreEnough, HaveEnough, pair_at, parity_step, holder_step, AreOwners, AreSteps}
-use Rattle.std.specs.List.{list_all, list_any}
+use Rattle.shape_links.proofs.Prelude.{◌≡◌, ℕ, suc, ◌+◌, ◌-◌, ◌<◌, inl, inr, List, [], ◌∷◌, ◌++◌, length, get_or, Bool, true, false, ◌&&◌, nat_eq, sym, ap, subst, ◌∙◌, arith, eq-eqb, slice_index, length-append, get_or_append_left, get_or-append_seam, cases_Bool, cases_eq, cases_lt, cond-true, cond-false, and_from, or_cases, both_ways, false≢true, list_any_at, list_all_at, has, HasForm, Part, part_at, Shape, IsWellFormed, link_at, part_form, link_shared, SeesOnly, AreEnough, HaveEnough, pair_at, parity_step, holder_step, AreOwners, AreSteps, list_all, list_any}
 use Rattle.shape_links.proofs.Links.{part_read}
 
 -- an event that is not shared is on no link

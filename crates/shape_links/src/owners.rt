@@ -2,8 +2,8 @@
 
 ghost use Rattle.std.specs.Prelude.{◌≡◌, ◌<◌, ◌+◌, ◌==◌, ℕ, Some, IfOk, OnOk, slice_index, if◌then◌else◌};
 ghost use Rattle.csp_base.specs.Members.{has};
-ghost use Rattle.csp_tables.specs.Part.{TripleDisjoint, alphabets_of};
-ghost use Rattle.csp_tables.specs.Shape.{IsWellFormed, Shape as ShapeValue};
+ghost use Rattle.csp_tables.specs.Prelude.{TripleDisjoint, alphabets_of, IsWellFormed};
+ghost use Rattle.csp_tables.specs.Shape.{Shape as ShapeValue};
 ghost use Rattle.shape_links.specs.Links.{AreOwners, IsOwner};
 
 use csp_base::{Event, EventSet, NoMemory};

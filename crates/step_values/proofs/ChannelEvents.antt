@@ -1,11 +1,6 @@
 -- The events of a channel, by their numbers from the channel's first on.
-use Rattle.step_values.proofs.Prelude.{◌≡◌, ℕ, zero, suc, ◌+◌, ◌<◌, ◌^◌, get_or, Some, Ok, List, [], slice_get, ap, sym, subst, ◌∙◌, arith, Result, row_count, rows, IsInOrder, Outcome, sets_of, Content, Atom, Value, One, EvalFault, event_of_row, number_fits, program_fits, first_of, front_count, front_number}
-use Rattle.csp_program.specs.declared.programs.Channel.{Channel}
+use Rattle.step_values.proofs.Prelude.{◌≡◌, ℕ, zero, suc, ◌+◌, ◌<◌, ◌^◌, get_or, Some, Ok, List, [], slice_get, ap, sym, subst, ◌∙◌, arith, Result, row_count, rows, IsInOrder, Outcome, sets_of, Content, Atom, Value, One, EvalFault, event_of_row, number_fits, program_fits, first_of, front_count, front_number, Channel, event_of, Among, channel, event, of_channel, of_value, GivesStart, IsStart, Start}
 use Rattle.csp_atoms.specs.declared.atom.Atom.TheVariants as atom
-use Rattle.process_steps.specs.Prefix.{event_of}
-use Rattle.process_steps.specs.Ways.{Among, channel, event, of_channel, of_value}
-use Rattle.step_values.specs.Starts.{GivesStart, IsStart}
-use Rattle.step_values.specs.declared.heads.Start.{Start}
 
 channel_event : (p : Content) → IsInOrder p → (c : ℕ) (sets : List (List Atom)) → sets_of (slice_get p.channels c) ≡ Some sets → (i : ℕ) (row : List Atom) → slice_get (rows sets) i ≡ Some row
     → event_of p c row ≡ first_of (slice_get p.channels c) + i
@@ -48,16 +43,13 @@ only_row : (e i : ℕ) (row : List Atom) → slice_get (rows []) i ≡ Some row 
 only_row e zero row h = omega arith
 only_row e (suc i) row h = absurd (cc)
 
-pub event_start : (p : Content) (a : Atom) (e : ℕ) → a ≡ atom.Event e → (start : Start) → start.first ≡ e → start.first < 2 ^ 32 → start.sets.now ≡ [] → Starts p (of_value (One a)) start
-event_start p a e is start first few same_sets = (
+pub event_start : (p : Content) (v : Value) (e : ℕ) → v ≡ One (atom.Event e) → (start : Start) → start.first ≡ e → start.first < 2 ^ 32 → start.sets.now ≡ [] → Starts p (of_value v) start
+event_start p v e is start first few same_sets = (
   event e,
-  ap (λ b. of_value (One b)) is,
+  ap of_value is,
   record {
     sets = sym same_sets;
     event = λ i row there. only_row e i row (ap (λ (s : List (List Atom)). slice_get (rows s) i) (sym same_sets) ∙ there) ∙ ap (λ (n : ℕ). n + i) (sym first);
     few = let count : row_count start.sets.now ≡ 1 = ap row_count same_sets in omega (arith, first, few, count);
   },
 )
-
-pub same_start : (v : Value) (a : Atom) (r : Result Start EvalFault) → v ≡ One a → ((p : Content) → GivesStart p r (of_value (One a))) → (p : Content) → GivesStart p r (of_value v)
-same_start v a r is h p = subst (λ w. GivesStart p r (of_value w)) (sym is) (h p)

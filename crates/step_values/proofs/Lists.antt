@@ -1,6 +1,5 @@
 -- Lists that are made one element after another, and chains of outcomes.
-use Rattle.step_values.proofs.Prelude.{◌≡◌, ℕ, ◌+◌, ◌<◌, ◌≤◌, Ok, Err, List, [], ◌∷◌, ◌++◌, length, get_or, drop, refl, ap, sym, ◌∙◌, append_assoc, append-nil, drop_of_length-le, joined, Outcome, and_then, ValueKind, each_joined}
-use Rattle.csp_base.proofs.Lists.{drop_read}
+use Rattle.step_values.proofs.Prelude.{◌≡◌, ℕ, ◌+◌, ◌<◌, ◌≤◌, Ok, Err, List, [], ◌∷◌, ◌++◌, length, get_or, drop, refl, ap, sym, ◌∙◌, append_assoc, append-nil, drop_of_length-le, joined, Outcome, and_then, ValueKind, each_joined, drop_read}
 
 pub joined_push : {A : Type 0} (xss : List (List A)) (xs : List A) → joined (xss ++ xs ∷ []) ≡ joined xss ++ xs
 joined_push [] xs = append-nil xs

@@ -1,7 +1,5 @@
 -- The new events that a renaming names for an old one, pair by pair.
-use Rattle.step_values.proofs.Prelude.{◌≡◌, ℕ, ◌+◌, ◌<◌, Bool, true, false, cond, List, [], ◌∷◌, ◌++◌, map, length, get_or, take, refl, ap, sym, ◌∙◌, nat_eq, Renamed}
-use Rattle.csp_base.proofs.Standard.{filter_more, map-append}
-use Rattle.std.specs.List.{filter}
+use Rattle.step_values.proofs.Prelude.{◌≡◌, ℕ, ◌+◌, ◌<◌, Bool, true, false, cond, List, [], ◌∷◌, ◌++◌, map, length, get_or, take, refl, ap, sym, ◌∙◌, nat_eq, Renamed, filter_more, map-append, filter}
 
 new_side : (b : Bool) (x : Renamed) → map (λ (r : Renamed). r.1) (cond b (x ∷ []) []) ≡ cond b (x.1 ∷ []) []
 new_side true x = refl

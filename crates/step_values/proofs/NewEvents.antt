@@ -1,7 +1,6 @@
 -- The event of a channel that has given values, as the value of an expression of it.
-use Rattle.step_values.proofs.Prelude.{◌≡◌, ℕ, Ok, Err, List, [], ◌∷◌, ◌++◌, map, length, refl, ap, ◌∙◌, Atom, Value, One, Outcome, and_then, front_events, meanings, one_event, value_of, Expr, Content, at, as_event, literals, new_event}
+use Rattle.step_values.proofs.Prelude.{◌≡◌, ℕ, Ok, Err, List, [], ◌∷◌, ◌++◌, map, length, refl, ap, ◌∙◌, Atom, Value, One, Outcome, and_then, front_events, meanings, one_event, value_of, Expr, Content, at, as_event, literals, new_event, Expr-F}
 use Rattle.csp_atoms.specs.declared.atom.Atom.TheVariants as atom
-use Rattle.csp_program.specs.declared.expressions.Expr.TheOpen.{Expr-F}
 use Rattle.csp_program.specs.declared.expressions.Expr.TheVariants as expr
 
 literals_then : (vs : List Value) (atoms : List Atom) → literals vs ++ map (λ a. expr.Lit (One a)) atoms ≡ literals (vs ++ map (λ a. One a) atoms)

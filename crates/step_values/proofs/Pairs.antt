@@ -1,11 +1,5 @@
 -- What a pair of a renaming renames under an environment, from what its sides come to.
-use Rattle.step_values.proofs.Prelude.{◌≡◌, ℕ, zero, suc, ◌+◌, ◌<◌, ◌≤◌, ◌^◌, Some, Ok, Err, List, [], ◌∷◌, ◌++◌, length, take, drop, slice_get, refl, ap, sym, subst, ◌∙◌, arith, event_table, IsInOrder, Outcome, and_then, Env, meanings, sets_of, EventPart, out-EventPart, Expr, Content, Value, fronts_of, same_count, front_worth, worths, each_joined, Renamed, pair_renamed, new_event, pair_walked, renamed_as, number_fits, program_fits, first_of, span}
-use Rattle.csp_program.specs.declared.programs.EventInfo.{EventInfo}
-use Rattle.csp_values.proofs.FieldSteps.{front_fits}
-use Rattle.process_steps.specs.Prelude.{event_with, values_after}
-use Rattle.value_laws.proofs.Fronts.{has_sets}
-use Rattle.value_laws.proofs.ProgramEvents.{table_from_sets}
-use Rattle.value_operators.specs.Forms.{count_with}
+use Rattle.step_values.proofs.Prelude.{◌≡◌, ℕ, zero, suc, ◌+◌, ◌<◌, ◌≤◌, ◌^◌, Some, Ok, Err, List, [], ◌∷◌, ◌++◌, length, take, drop, slice_get, refl, ap, sym, subst, ◌∙◌, arith, event_table, IsInOrder, Outcome, and_then, Env, meanings, sets_of, EventPart, out-EventPart, Expr, Content, Value, fronts_of, same_count, front_worth, worths, each_joined, Renamed, pair_renamed, new_event, pair_walked, renamed_as, number_fits, program_fits, first_of, span, EventInfo, front_fits, event_with, values_after, has_sets, table_from_sets, count_with}
 
 -- the event at a place of a list, and those after it
 there : (xs : List EventInfo) (i : ℕ) → i < length xs → (x : EventInfo) × (slice_get xs i ≡ Some x) × (drop i xs ≡ x ∷ drop (i + 1) xs)

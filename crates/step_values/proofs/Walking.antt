@@ -1,32 +1,18 @@
 -- A renaming as it is walked: what is left of it at each binding.
-use Rattle.step_values.proofs.Prelude.{◌≡◌, ℕ, Ok, Err, List, [], length, map, ap, sym, ◌∙◌, Result, Outcome, and_then, Env, turn, uses_within, walked, EventPart, ValueKind, Content, Atom, over_begun, over_course, Course, GivesBinding, begun, course_under, faulty, skipped, Gathering, binding_renamed, renaming_in, GivesTally, renamed_walk, Gives, EvalFault}
-use Rattle.std.specs.Result.{IsErrAnd}
-use Rattle.csp_program.specs.declared.expressions.Gen.{Gen}
-use Rattle.csp_values.specs.declared.walk.Walk.{Walk}
-use Rattle.step_values.specs.declared.renaming.Tally.{Tally}
-use Rattle.value_operators.specs.declared.fault.EvalFault.TheVariants as fault
-
--- a fault that is passed on: of a part, as P says, it is one of the whole, as Q says
-fault_passed : {A : Type 0} (P : EvalFault → Type 0) (Q : Result A EvalFault → Type 0) (r : Result A EvalFault) (f : EvalFault) → IsErrAnd r (λ y. y ≡ f) → P f
-    → Q (Err fault.NoMemory) → ((k : ValueKind) → P (fault.Value k) → Q (Err (fault.Value k))) → Q r
-fault_passed P Q (Ok x) f is h lacks passes = absurd is
-fault_passed P Q (Err y) f is h lacks passes = rw is (of_fault f h)
-  where
-    of_fault : (g : EvalFault) → P g → Q (Err g)
-    of_fault fault.NoMemory h = lacks
-    of_fault (fault.Value k) h = passes k h
+use Rattle.step_values.proofs.Prelude.{◌≡◌, ℕ, Ok, Err, List, [], length, map, ap, sym, ◌∙◌, Result, Outcome, and_then, Env, turn, uses_within, walked, EventPart, ValueKind, Content, Atom, over_begun, over_course, Course, GivesBinding, begun, course_under, faulty, skipped, Gathering, binding_renamed, renaming_in, GivesTally, renamed_walk, Gives, EvalFault, IsErrAnd, Gen, Walk, Tally, at_err, weaker}
+use Rattle.csp_base.specs.Stops.{Tells}
 
 pub walk_passed : (r : Result Tally EvalFault) (f : EvalFault) (part whole : Outcome Gathering)
     → IsErrAnd r (λ y. y ≡ f) → GivesTally (Err f) part → ((k : ValueKind) → part ≡ Err k → whole ≡ Err k) → GivesTally r whole
-walk_passed r f part whole is h passes = fault_passed (λ g. GivesTally (Err g) part) (λ q. GivesTally q whole) r f is h tt passes
+walk_passed r f part whole is h passes = at_err (λ q. GivesTally q whole) r f is (weaker (λ k. part ≡ Err k) (λ k. whole ≡ Err k) f h passes)
 
-pub binding_passed : (r : Result Tally EvalFault) (f : EvalFault) (before left : Course) (params : Env) (around : List (ℕ × Atom)) (walk : Walk) (whole : Outcome Gathering)
-    → IsErrAnd r (λ y. y ≡ f) → GivesBinding (Err f) before left params around walk → ((k : ValueKind) → skipped before ≡ faulty k → whole ≡ Err k) → GivesTally r whole
-binding_passed r f before left params around walk whole is h passes = fault_passed (λ g. GivesBinding (Err g) before left params around walk) (λ q. GivesTally q whole) r f is h tt passes
+pub binding_passed : (r : Result Tally EvalFault) (f : EvalFault) (Fails : ValueKind → Type 0) (whole : Outcome Gathering)
+    → IsErrAnd r (λ y. y ≡ f) → Tells Fails f → ((k : ValueKind) → Fails k → whole ≡ Err k) → GivesTally r whole
+binding_passed r f Fails whole is h passes = at_err (λ q. GivesTally q whole) r f is (weaker Fails (λ k. whole ≡ Err k) f h passes)
 
 pub value_of_tally : {A : Type 0} (r : Result A EvalFault) (f : EvalFault) (part : Outcome Gathering) (whole : Outcome A) → IsErrAnd r (λ y. y ≡ f) → GivesTally (Err f) part
     → ((k : ValueKind) → part ≡ Err k → whole ≡ Err k) → Gives r whole
-value_of_tally r f part whole is h passes = fault_passed (λ g. GivesTally (Err g) part) (λ q. Gives q whole) r f is h tt passes
+value_of_tally r f part whole is h passes = at_err (λ q. Gives q whole) r f is (weaker (λ k. part ≡ Err k) (λ k. whole ≡ Err k) f h passes)
 
 -- a walk that begins has the whole renaming before it
 pub walk_begun : (p : Content) (pairs : List (EventPart × EventPart)) (gens : List Gen) (walk : Walk) (state : Gathering) → walk ≡ begun []

@@ -5,8 +5,7 @@ use Rattle.csp_program.specs.Prelude.{row_count, rows, Outcome}
 use Rattle.csp_program.specs.declared.programs.Content.{Content}
 use Rattle.process_steps.specs.Ways.{Among, event_among, sets_among}
 use Rattle.step_values.specs.declared.heads.Start.{Start}
-use Rattle.value_operators.specs.declared.fault.EvalFault.{EvalFault}
-use Rattle.value_operators.specs.declared.fault.EvalFault.TheVariants as fault
+use Rattle.value_operators.specs.Gives.{EvalFault, IsFault}
 
 -- the event of each row of values is that of its place among all rows, counted from the first event on; each has a number of 32 bits
 pub record IsStart (p : Content) (start : Start) (among : Among) : Type 0 where
@@ -16,5 +15,4 @@ pub record IsStart (p : Content) (start : Start) (among : Among) : Type 0 where
 
 abbrev pub GivesStart : Content → Result Start EvalFault → Outcome Among → Type 0
 GivesStart p (Ok start) outcome = (among : Among) × (outcome ≡ Ok among) × IsStart p start among
-GivesStart p (Err fault.NoMemory) outcome = Unit {0}
-GivesStart p (Err (fault.Value kind)) outcome = outcome ≡ Err kind
+GivesStart p (Err fault) outcome = IsFault fault outcome

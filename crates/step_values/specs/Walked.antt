@@ -15,9 +15,7 @@ use Rattle.csp_atoms.specs.declared.value.Value.TheVariants.{One}
 use Rattle.csp_atoms.specs.declared.atom.Atom.TheVariants as atom
 use Rattle.csp_program.specs.declared.expressions.Expr.TheVariants as expr
 use Rattle.step_values.specs.declared.renaming.Tally.{Tally}
-use Rattle.value_operators.specs.Prelude.{count_with}
-use Rattle.value_operators.specs.declared.fault.EvalFault.{EvalFault}
-use Rattle.value_operators.specs.declared.fault.EvalFault.TheVariants as fault
+use Rattle.value_operators.specs.Prelude.{count_with, EvalFault, IsFault}
 
 abbrev pub gathering_of : Tally → Gathering
 gathering_of tally = record { bindings = tally.bindings; renamed = tally.renamed }
@@ -25,8 +23,7 @@ gathering_of tally = record { bindings = tally.bindings; renamed = tally.renamed
 -- what a call that walks generators answers
 abbrev pub GivesTally : Result Tally EvalFault → Outcome Gathering → Type 0
 GivesTally (Ok tally) outcome = outcome ≡ Ok (gathering_of tally)
-GivesTally (Err fault.NoMemory) outcome = Unit {0}
-GivesTally (Err (fault.Value kind)) outcome = outcome ≡ Err kind
+GivesTally (Err fault) outcome = IsFault fault outcome
 
 -- the bindings of generators
 unfoldable pub renamed_walk : Content → List (EventPart × EventPart) → List Gen → Env → Gathering → Outcome Gathering

@@ -1,19 +1,14 @@
 //! The events that the head of a prefix stands for.
 
 ghost use Rattle.std.specs.Prelude.{◌≡◌, ◌<◌, ◌^◌, []};
-ghost use Rattle.csp_atoms.specs.declared.value.Value.TheVariants.{One};
 ghost use Rattle.csp_program.specs.declared.programs.Content.{Content};
 ghost use Rattle.process_steps.specs.Ways.{of_head, of_value};
 ghost use Rattle.step_values.specs.Starts.{GivesStart};
 
 use csp_atoms::{Atom, AtomSet, Value};
-use csp_base::Event;
+use csp_base::{Event, Stop};
 use csp_program::{Head, Program, ValueKind};
 use csp_values::EvalFault;
-
-const KIND: EvalFault = EvalFault::Value {
-    kind: ValueKind::Kind,
-};
 
 /// What the event of a prefix is among.
 #[derive(Clone, Copy)]
@@ -34,9 +29,9 @@ fn of_channel(program: &Program, channel: u32) -> Result<Start<'_>, EvalFault>
                 first: u64::from(channel.first),
                 sets: sets.as_slice(),
             }),
-            None => Err(KIND),
+            None => Err(Stop::Told(ValueKind::Kind)),
         },
-        None => Err(KIND),
+        None => Err(Stop::Told(ValueKind::Kind)),
     }
 }
 
@@ -52,24 +47,13 @@ fn of_event<'a>(event: Event) -> Start<'a>
     }
 }
 
-// The event that an atom is.
-fn of_atom<'a>(atom: Atom) -> Result<Start<'a>, EvalFault>
-    ensures { (p : Content) → GivesStart p result (of_value (One atom)) }
-{
-    match atom {
-        Atom::Event(event) => Ok(of_event(event)),
-        _ => Err(KIND),
-    }
-}
-
 // The event that a value is.
-#[tactic(auto, using(crate::proofs::ChannelEvents::same_start))]
 fn of_value<'a>(value: &Value) -> Result<Start<'a>, EvalFault>
     ensures { (p : Content) → GivesStart p result (of_value value.now) }
 {
     match value {
-        Value::One(atom) => of_atom(*atom),
-        Value::Many(_) => Err(KIND),
+        Value::One(Atom::Event(event)) => Ok(of_event(*event)),
+        _ => Err(Stop::Told(ValueKind::Kind)),
     }
 }
 
@@ -80,7 +64,7 @@ pub fn of_head<'a>(program: &'a Program, head: &Head) -> Result<Start<'a>, EvalF
 {
     match head {
         Head::Channel(channel) => of_channel(program, *channel),
-        Head::Bound(_) => Err(KIND),
+        Head::Bound(_) => Err(Stop::Told(ValueKind::Kind)),
         Head::Put(value) => of_value(value),
     }
 }

@@ -13,12 +13,9 @@ pub struct Images {
     by_event: HashMap<u32, Items<Event>>,
 }
 
-// By hand, so that a crate that ends one calls this and proves no end of its own.
 impl Drop for Images {
     fn drop(self) {
-        let Images {
-            by_event: _by_event,
-        } = self;
+        let Images { by_event } = self;
     }
 }
 

@@ -5,15 +5,11 @@ ghost use Rattle.value_operators.specs.Gives.{Gives};
 
 use containers::Items;
 use csp_atoms::{AtomSet, Value};
-use csp_base::EventSet;
+use csp_base::{EventSet, Stop};
 use csp_program::{Expr, Program, ValueKind};
 use csp_values::{EvalFault, eval, eval_all_under, eval_set};
 use std::alloc::Global;
 use value_operators::operators::to_truth;
-
-const KIND: EvalFault = EvalFault::Value {
-    kind: ValueKind::Kind,
-};
 
 /// Whether a condition is true. Faults are those of `eval`; a value that is no truth value has the kind `Kind`.
 pub fn truth_in(alloc: Global, program: &Program, c: &Expr) -> Result<bool, EvalFault>
@@ -37,7 +33,7 @@ pub fn events_in(alloc: Global, program: &Program, s: &Expr) -> Result<EventSet,
     let atoms = set_in(alloc, program, s)?;
     match atoms.to_event_set(alloc)? {
         Some(events) => Ok(events),
-        None => Err(KIND),
+        None => Err(Stop::Told(ValueKind::Kind)),
     }
 }
 

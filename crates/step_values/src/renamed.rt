@@ -14,20 +14,20 @@ ghost use Rattle.step_values.specs.Walked.{as_event, literals, new_event, pair_w
 
 use containers::Items;
 use csp_atoms::{Atom, Value};
-use csp_base::{Event, NoMemory};
+use csp_base::{Event, NoMemory, Stop};
 use csp_program::copies::copy_value;
 use csp_program::{Channel, EventInfo, EventPart, Expr, Program, ValueKind};
 use csp_values::{EvalFault, eval, eval_all_under, front_under};
 use std::alloc::Global;
 use value_operators::numbers::count_with;
 
-const KIND: EvalFault = EvalFault::Value {
-    kind: ValueKind::Kind,
-};
-
 // What the new side of a pair comes to.
 #[derive(Clone, Copy)]
 struct NewSide<'a> {
+    /// Where memory comes from.
+    alloc: Global,
+    /// The program.
+    program: &'a Program,
     /// The number of its channel.
     channel: u32,
     /// The values of its fields.
@@ -97,7 +97,7 @@ fn to_event(value: &Value) -> Result<Event, EvalFault>
 {
     match value {
         Value::One(Atom::Event(event)) => Ok(*event),
-        _ => Err(KIND),
+        _ => Err(Stop::Told(ValueKind::Kind)),
     }
 }
 
@@ -119,45 +119,34 @@ fn event_after(first: u32, place: usize) -> Event
 
 // What an event becomes.
 #[tactic(auto, using(crate::proofs::NewEvents::event_is))]
-fn new_of(
-    alloc: Global,
-    program: &Program,
-    new: &NewSide<'_>,
-    info: &EventInfo,
-) -> Result<Event, EvalFault>
-    ensures { Gives result (new_event program.now new.now.channel new.now.values.now
+fn new_of(new: &NewSide<'_>, info: &EventInfo) -> Result<Event, EvalFault>
+    ensures { Gives result (new_event new.now.program.now new.now.channel new.now.values.now
         (drop new.now.given info.now.fields)) }
 {
     let rest = fields_from(info.fields.as_slice(), new.given);
-    let fields = literals_then(alloc, new.values, rest)?;
-    event_in(alloc, program, &Expr::Event(new.channel, fields))
+    let fields = literals_then(new.alloc, new.values, rest)?;
+    event_in(new.alloc, new.program, &Expr::Event(new.channel, fields))
 }
 
-// What is renamed, with the event that has `place` among those from `first` on and what it becomes.
+// What is renamed, with an event and what it becomes.
 fn add_event(
-    alloc: Global,
-    program: &Program,
     new: &NewSide<'_>,
-    first: u32,
-    place: usize,
+    event: Event,
     info: &EventInfo,
     renamed: Items<(Event, Event)>,
 ) -> Result<Items<(Event, Event)>, EvalFault>
-    requires { first + place < 2 ^ 32 }
     ensures { Gives result
-        (and_then (renamed_as (new_event program.now new.now.channel new.now.values.now) new.now.given
-        (first + place) info.now) (λ more. Ok (renamed ++ more))) }
+        (and_then (renamed_as (new_event new.now.program.now new.now.channel new.now.values.now) new.now.given
+        event info.now) (λ more. Ok (renamed ++ more))) }
 {
-    let becomes = new_of(alloc, program, new, info)?;
+    let becomes = new_of(new, info)?;
     let mut renamed = renamed;
-    renamed.push((event_after(first, place), becomes))?;
+    renamed.push((event, becomes))?;
     Ok(renamed)
 }
 
 // What is renamed, with events from `first` on and what each becomes.
 fn add_events(
-    alloc: Global,
-    program: &Program,
     new: &NewSide<'_>,
     first: u32,
     events: &[EventInfo],
@@ -167,12 +156,12 @@ fn add_events(
     ensures { Gives result
         (and_then
         (each_joined
-        (renamed_as (new_event program.now new.now.channel new.now.values.now) new.now.given) first events.now)
+        (renamed_as (new_event new.now.program.now new.now.channel new.now.values.now) new.now.given) first events.now)
         (λ more. Ok (renamed ++ more))) }
 {
     let mut renamed = renamed;
     for (place, info) in events.iter().enumerate() {
-        renamed = add_event(alloc, program, new, first, place, info, renamed)?;
+        renamed = add_event(new, event_after(first, place), info, renamed)?;
     }
     Ok(renamed)
 }
@@ -193,11 +182,13 @@ pub(crate) fn add_pair(
     let first = front_under(alloc, program, bound, old.channel, old.fields.as_slice())?;
     let values = eval_all_under(alloc, program, bound, new.fields.as_slice())?;
     let side = NewSide {
+        alloc,
+        program,
         channel: new.channel,
         values: values.as_slice(),
         given: old.fields.len(),
     };
     let count = count_with(channels_of(program), old.channel, side.given);
     let events = events_from(program, first, count);
-    add_events(alloc, program, &side, first, events, renamed)
+    add_events(&side, first, events, renamed)
 }

@@ -10,15 +10,11 @@ ghost use Rattle.step_values.specs.Walked.{gathering_of, renamed_walk, GivesTall
 use crate::renamed::{add_pair, channels_of};
 use containers::Items;
 use csp_atoms::Atom;
-use csp_base::Event;
+use csp_base::{Event, Stop};
 use csp_program::{EventPart, Gen, Program, ValueKind};
 use csp_values::{EvalFault, Walk, binding_under};
 use dl_limits::MOST_BINDINGS;
 use std::alloc::Global;
-
-const SET_LIMIT: EvalFault = EvalFault::Value {
-    kind: ValueKind::SetLimit,
-};
 
 // What a renaming is evaluated over.
 #[derive(Clone, Copy)]
@@ -65,7 +61,7 @@ fn gather(scope: &Scope<'_>, bound: &[(u32, Atom)], tally: Tally) -> Result<Tall
 {
     let Tally { bindings, renamed } = tally;
     if bindings >= MOST_BINDINGS {
-        return Err(SET_LIMIT);
+        return Err(Stop::Told(ValueKind::SetLimit));
     }
     let renamed = add_pairs(scope, bound, renamed)?;
     Ok(Tally {
@@ -82,7 +78,7 @@ fn gather_all(scope: &Scope<'_>, gens: &[Gen], tally: Tally) -> Result<Tally, Ev
     let mut walk = Walk::new(scope.alloc, &[])?;
     let mut tally = tally;
     'bindings: while binding_under(scope.alloc, scope.program, gens, &mut walk)? {
-        tally = gather(scope, walk.bound(), tally)?;
+        tally = gather(scope, walk.bound_names(), tally)?;
     }
     Ok(tally)
 }

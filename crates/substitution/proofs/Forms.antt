@@ -1,8 +1,6 @@
 -- What a substitution makes of each form of an expression and of a process: again a form. One that is new gets a clause of `expr_form` and `expr_made`, or
 -- of `proc_form` and `proc_made`.
-use Rattle.csp_program.specs.declared.expressions.Expr.TheViews.{out-Expr, roll-out-Expr}
-use Rattle.csp_program.specs.declared.processes.Proc.TheViews.{out-Proc, roll-out-Proc}
-use Rattle.substitution.proofs.Prelude.{◌≡◌, ℕ, Option, Some, None, List, [], ◌∷◌, map, refl, ap, sym, ◌∙◌, Value, after_all, each, expr_with, expr_with_of_layer, fields_with, gen_with_of_layer, gens_with, head_with, named, open_gen, pair_with, part_with, part_with_of_layer, past, proc_with, proc_with_of_layer, without, Given, Open, OpenGen, EventPart, Expr, fold-roll-Expr, fold-roll-EventPart, fold-roll-Gen, map-Expr, map-Gen, Expr-F, EventPart-F, Gen-F, out-EventPart, roll-Expr, roll-EventPart, roll-Gen, roll-out-EventPart, Gen, Proc, fold-roll-Proc, map-Proc, Proc-F, roll-Proc}
+use Rattle.substitution.proofs.Prelude.{out-Expr, roll-out-Expr, out-Proc, roll-out-Proc, ◌≡◌, ℕ, Option, Some, None, List, [], ◌∷◌, map, refl, ap, sym, ◌∙◌, Value, after_all, each, expr_with, expr_with_of_layer, fields_with, gen_with_of_layer, gens_with, head_with, named, open_gen, pair_with, part_with, part_with_of_layer, past, proc_with, proc_with_of_layer, without, Given, Open, OpenGen, EventPart, Expr, fold-roll-Expr, fold-roll-EventPart, fold-roll-Gen, map-Expr, map-Gen, Expr-F, EventPart-F, Gen-F, out-EventPart, roll-Expr, roll-EventPart, roll-Gen, roll-out-EventPart, Gen, Proc, fold-roll-Proc, map-Proc, Proc-F, roll-Proc}
 use Rattle.csp_program.specs.declared.expressions.Expr.TheVariants as expr
 use Rattle.csp_program.specs.declared.expressions.Gen.TheVariants as generator
 use Rattle.csp_program.specs.declared.processes.Proc.TheVariants as proc

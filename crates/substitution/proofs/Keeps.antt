@@ -1,8 +1,6 @@
 -- A substitution keeps the depth of an expression and a process, and whether they are in order.
-use Rattle.substitution.proofs.Prelude.{◌≡◌, ℕ, suc, ◌+◌, ◌-◌, max, Bool, true, false, cond, ◌&&◌, nat_eq, Option, Some, None, List, [], ◌∷◌, map, length, refl, ap, sym, ◌∙◌, subst, slice_get, length-map, Value, expr_depth, expr_depth_of_layer, field_depth, gen_depth, gen_depth_of_layer, pair_depth, part_depth, part_depth_of_layer, proc_depth, proc_depth_of_layer, expr_in_order, expr_in_order_of_layer, field_count, field_in_order, fields_left, gen_in_order, gen_in_order_of_layer, head_in_order, is_process, pair_in_order, part_in_order, part_in_order_of_layer, proc_in_order, proc_in_order_of_layer, takes, value_in_order, all_true, after, after_all, expr_with, field_with, fields_with, gens_with, head_named, head_with, open_gen, pair_with, part_with, past, proc_with, without, Given, EventPart, Expr, fold-Gen, fold-EventPart, fold-roll-Expr, fold-roll-Gen, fold-roll-EventPart, map-Expr, map-Gen, fold-Expr, Expr-F, Gen-F, EventPart-F, out-EventPart, out-roll-EventPart, roll-Expr, roll-Gen, roll-EventPart, Gen, Field, Head, Proc, fold-roll-Proc, map-Proc, Proc-F, Every, ExprHas, GenHas, PartHas, ProcHas, each_expr, each_gen, each_part, each_proc, every, AreInOrder}
-use Rattle.csp_base.specs.Lists.{greatest}
+use Rattle.substitution.proofs.Prelude.{◌≡◌, ℕ, suc, ◌+◌, ◌-◌, max, Bool, true, false, cond, ◌&&◌, nat_eq, Option, Some, None, List, [], ◌∷◌, map, length, refl, ap, sym, ◌∙◌, subst, slice_get, length-map, Value, expr_depth, expr_depth_of_layer, field_depth, gen_depth, gen_depth_of_layer, pair_depth, part_depth, part_depth_of_layer, proc_depth, proc_depth_of_layer, expr_in_order, expr_in_order_of_layer, field_count, field_in_order, fields_left, gen_in_order, gen_in_order_of_layer, head_in_order, is_process, pair_in_order, part_in_order, part_in_order_of_layer, proc_in_order, proc_in_order_of_layer, takes, value_in_order, all_true, after, after_all, expr_with, field_with, fields_with, gens_with, head_named, head_with, open_gen, pair_with, part_with, past, proc_with, without, Given, EventPart, Expr, fold-Gen, fold-EventPart, fold-roll-Expr, fold-roll-Gen, fold-roll-EventPart, map-Expr, map-Gen, fold-Expr, Expr-F, Gen-F, EventPart-F, out-EventPart, out-roll-EventPart, roll-Expr, roll-Gen, roll-EventPart, Gen, Field, Head, Proc, fold-roll-Proc, map-Proc, Proc-F, Every, ExprHas, GenHas, PartHas, ProcHas, each_expr, each_gen, each_part, each_proc, every, AreInOrder, greatest, Content}
 use Rattle.csp_program.specs.declared.processes.Proc.{roll-Proc}
-use Rattle.csp_program.specs.declared.programs.Content.{Content}
 use Rattle.csp_program.specs.declared.processes.Field.TheVariants as field
 use Rattle.csp_program.specs.declared.processes.Head.TheVariants as head
 use Rattle.substitution.proofs.Forms.{expr_form, expr_is, gen_form, gen_is, left_by, left_is, named_form, part_form, part_is, part_with-fields, proc_form, proc_is}

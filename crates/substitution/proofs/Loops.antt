@@ -1,6 +1,5 @@
 -- A loop that makes one thing of each item of a list.
-use Rattle.std.proofs.Common.{◌≡◌, ℕ, ◌+◌, ◌<◌, List, [], ◌∷◌, ◌++◌, length, get_or, drop, ap, sym, ◌∙◌, append_assoc}
-use Rattle.csp_base.proofs.Lists.{drop_read}
+use Rattle.substitution.proofs.Prelude.{◌≡◌, ℕ, ◌+◌, ◌<◌, List, [], ◌∷◌, ◌++◌, length, get_or, drop, ap, sym, ◌∙◌, append_assoc, drop_read}
 
 -- one more is made
 pub next_made : {A B : Type 0} (f : List A → List B) (xs : List A) (i : ℕ) (x : A) (y : B) (tail made more whole : List B)

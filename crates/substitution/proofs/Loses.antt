@@ -1,6 +1,5 @@
 -- The free names of an expression and of a process lose exactly those that get a value.
-use Rattle.substitution.proofs.Prelude.{◌≡◌, ℕ, Bool, true, false, cond, not, ◌&&◌, ◌||◌, nat_eq, Option, Some, None, List, [], ◌∷◌, map, refl, ap, sym, ◌∙◌, is_none, eqb-true, Value, Names, Binding, any_of, apart_from, before, either, expr_free, expr_free_of_layer, gen_binding, gen_free_of_layer, head_free, nowhere, pair_free, part_free, part_free_of_layer, proc_free, proc_free_of_layer, under, after_all, expr_with, fields_with, gens_with, head_named, head_with, open_gen, pair_with, part_with, past, proc_with, without, Given, EventPart, Expr, fold-roll-Expr, fold-roll-Gen, fold-roll-EventPart, map-Expr, map-Gen, Expr-F, Gen-F, EventPart-F, out-Gen, roll-Expr, roll-Gen, roll-EventPart, roll-out-Gen, Gen, Field, Head, Proc, fold-roll-Proc, map-Proc, Proc-F, roll-Proc, Every, ExprHas, GenHas, PartHas, ProcHas, each_expr, each_gen, each_part, each_proc, every, without_value}
-use Rattle.csp_base.proofs.Booleans.{and_false}
+use Rattle.substitution.proofs.Prelude.{◌≡◌, ℕ, Bool, true, false, cond, not, ◌&&◌, ◌||◌, nat_eq, Option, Some, None, List, [], ◌∷◌, map, refl, ap, sym, ◌∙◌, is_none, eqb-true, Value, Names, Binding, any_of, apart_from, before, either, expr_free, expr_free_of_layer, gen_binding, gen_free_of_layer, head_free, nowhere, pair_free, part_free, part_free_of_layer, proc_free, proc_free_of_layer, under, after_all, expr_with, fields_with, gens_with, head_named, head_with, open_gen, pair_with, part_with, past, proc_with, without, Given, EventPart, Expr, fold-roll-Expr, fold-roll-Gen, fold-roll-EventPart, map-Expr, map-Gen, Expr-F, Gen-F, EventPart-F, out-Gen, roll-Expr, roll-Gen, roll-EventPart, roll-out-Gen, Gen, Field, Head, Proc, fold-roll-Proc, map-Proc, Proc-F, roll-Proc, Every, ExprHas, GenHas, PartHas, ProcHas, each_expr, each_gen, each_part, each_proc, every, without_value, and_false}
 use Rattle.csp_program.specs.declared.processes.Field.TheVariants as field
 use Rattle.csp_program.specs.declared.processes.Head.TheVariants as head
 use Rattle.substitution.proofs.Forms.{expr_form, expr_is, gen_form, gen_is, left_by, left_is, named_form, part_form, part_is, proc_form, proc_is}

@@ -1,9 +1,6 @@
 -- What is found of a name: where names count up, where they are bound over others, and where some are bound further in.
-use Rattle.substitution.proofs.Prelude.{◌≡◌, ℕ, zero, suc, ◌+◌, ◌<◌, ◌≤◌, ◌||◌, Bool, true, false, cond, nat_eq, Option, Some, None, List, [], ◌∷◌, ◌++◌, get_or, length, map, refl, ap, sym, ◌∙◌, eq-eqb, arith, slice_get, is_some, eqb-true, length-map, Atom, Value, One, with_bound, given_by, without, Env, bound_to, atom_or, but_for, counts_up, CountUp, EndBy, NoneFrom}
-use Rattle.csp_base.specs.Standard.{first_so, second_so, option_copied}
+use Rattle.substitution.proofs.Prelude.{◌≡◌, ℕ, zero, suc, ◌+◌, ◌<◌, ◌≤◌, ◌||◌, Bool, true, false, cond, nat_eq, Option, Some, None, List, [], ◌∷◌, ◌++◌, get_or, length, map, refl, ap, sym, ◌∙◌, eq-eqb, arith, slice_get, is_some, eqb-true, length-map, Atom, Value, One, with_bound, given_by, without, Env, bound_to, atom_or, but_for, counts_up, CountUp, EndBy, NoneFrom, first_so, second_so, option_copied, false≢true, has}
 use denote.Bor.{Bor}
-use Rattle.csp_base.proofs.Standard.{false≢true}
-use Rattle.csp_base.specs.Members.{has}
 
 not_same : (x y : ℕ) → (x ≡ y → ⊥) → nat_eq x y ≡ false
 not_same x y h = grind arith

@@ -1,6 +1,5 @@
 -- An expression and a process none of whose free names gets a value stay as they are.
-use Rattle.csp_base.proofs.Standard.{or_right}
-use Rattle.substitution.proofs.Prelude.{◌≡◌, ℕ, Bool, true, false, cond, not, ◌&&◌, ◌||◌, nat_eq, Option, Some, None, List, [], ◌∷◌, map, refl, ap, ◌∙◌, eq-eqb, Value, Names, any_of, apart_from, before, either, expr_free, gen_binding, head_free, nowhere, pair_free, part_free, proc_free, proc_free_of_layer, under, after_all, expr_with, fields_with, gens_with, head_named, head_with, open_gen, pair_with, part_with, past, proc_with, without, Given, EventPart, Expr, Expr-F, Gen-F, EventPart-F, roll-Expr, roll-Gen, roll-EventPart, Gen, Field, Head, Proc, fold-roll-Proc, map-Proc, Proc-F, roll-Proc, Every, ExprHas, GenHas, PartHas, ProcHas, each_expr, each_gen, each_part, each_proc, every, GetNone}
+use Rattle.substitution.proofs.Prelude.{or_right, ◌≡◌, ℕ, Bool, true, false, cond, not, ◌&&◌, ◌||◌, nat_eq, Option, Some, None, List, [], ◌∷◌, map, refl, ap, ◌∙◌, eq-eqb, Value, Names, any_of, apart_from, before, either, expr_free, gen_binding, head_free, nowhere, pair_free, part_free, proc_free, proc_free_of_layer, under, after_all, expr_with, fields_with, gens_with, head_named, head_with, open_gen, pair_with, part_with, past, proc_with, without, Given, EventPart, Expr, Expr-F, Gen-F, EventPart-F, roll-Expr, roll-Gen, roll-EventPart, Gen, Field, Head, Proc, fold-roll-Proc, map-Proc, Proc-F, roll-Proc, Every, ExprHas, GenHas, PartHas, ProcHas, each_expr, each_gen, each_part, each_proc, every, GetNone}
 use Rattle.csp_program.specs.declared.processes.Field.TheVariants as field
 use Rattle.csp_program.specs.declared.processes.Head.TheVariants as head
 use Rattle.substitution.proofs.Forms.{expr_form, expr_is, gen_form, gen_is, named_form, part_is, proc_form, proc_is}

@@ -1,8 +1,6 @@
 -- An expression with values put in place of names is worth what it is worth where the names are bound to the values.
-use Rattle.substitution.proofs.Prelude.{◌≡◌, ℕ, Bool, true, false, cond, ◌||◌, nat_eq, Option, Some, None, Ok, Err, List, [], ◌∷◌, map, refl, ap, sym, ◌∙◌, subst, is_none, slice_get, Atom, Value, One, Many, added, all_added, events_with, Outcome, and_then, expr_with, gens_with, part_with, past, without, Given, Env, Front, Gathered, Meaning, Turn, Uses, as_atom, as_number, as_set, as_truth, binary, bound_value, front, front_events, front_of_layer, fronts_added, gathered, in_field, items_added, lack_sets, many, meaning, meaning_of_layer, one_event, over, range, row_in, row_of, set_binary, sets_of, turn, turn_of_layer, values_of, walked, EventPart, Expr, fold-roll-Expr, fold-roll-Gen, fold-roll-EventPart, map-Expr, map-Gen, Expr-F, Gen-F, EventPart-F, roll-Expr, roll-Gen, roll-EventPart, Gen, Every, ExprHas, GenHas, PartHas, each_expr, given_or, IsWithGiven}
+use Rattle.substitution.proofs.Prelude.{◌≡◌, ℕ, Bool, true, false, cond, ◌||◌, nat_eq, Option, Some, None, Ok, Err, List, [], ◌∷◌, map, refl, ap, sym, ◌∙◌, subst, is_none, slice_get, Atom, Value, One, Many, added, all_added, events_with, Outcome, and_then, expr_with, gens_with, part_with, past, without, Given, Env, Front, Gathered, Meaning, Turn, Uses, as_atom, as_number, as_set, as_truth, binary, bound_value, front, front_events, front_of_layer, fronts_added, gathered, in_field, items_added, lack_sets, many, meaning, meaning_of_layer, one_event, over, range, row_in, row_of, set_binary, sets_of, turn, turn_of_layer, values_of, walked, EventPart, Expr, fold-roll-Expr, fold-roll-Gen, fold-roll-EventPart, map-Expr, map-Gen, Expr-F, Gen-F, EventPart-F, roll-Expr, roll-Gen, roll-EventPart, Gen, Every, ExprHas, GenHas, PartHas, each_expr, given_or, IsWithGiven, Kind, Channel}
 use Rattle.csp_atoms.specs.declared.atom.Atom.TheVariants as atom
-use Rattle.csp_program.specs.declared.kinds.ValueKind.TheVariants.{Kind}
-use Rattle.csp_program.specs.declared.programs.Channel.{Channel}
 use Rattle.substitution.proofs.Forms.{expr_form, expr_is, gen_form, gen_is, left_is, named_form, part_form, part_is}
 
 -- a name more is bound in both environments

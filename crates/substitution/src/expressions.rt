@@ -8,13 +8,12 @@ use containers::{Boxed, Items};
 use csp_base::NoMemory;
 use csp_program::copies::copy_value;
 use csp_program::{EventPart, Expr, Gen};
-use std::alloc::Global;
 
 // The use of a bound name.
-fn replace_name(alloc: Global, name: u32, values: &Values<'_>) -> Result<Expr, NoMemory>
+fn replace_name(name: u32, values: &Values<'_>) -> Result<Expr, NoMemory>
     ensures { IfOk result (λ made. made ≡ named name (given_by values.now name)) }
 {
-    match values.find(alloc, name)? {
+    match values.find(name)? {
         Some(value) => Ok(Expr::Lit(value)),
         None => Ok(Expr::Bound(name)),
     }
@@ -33,44 +32,41 @@ pub(crate) fn pass(values: &mut Values<'_>, generator: &Gen) -> Result<(), NoMem
 /// The expression with the values in place of the names, wherever these are free.
 #[tactic(auto, using(crate::proofs::Forms::expr_out, csp_program::specs::declared::expressions::Expr::the_lemmas))]
 #[cycle(put_expr)]
-pub fn put_expr(alloc: Global, expr: &Expr, values: &Values<'_>) -> Result<Expr, NoMemory>
+pub fn put_expr(expr: &Expr, values: &Values<'_>) -> Result<Expr, NoMemory>
     ensures { IfOk result (λ made. made ≡ expr_with (given_by values.now) expr.now) }
 {
     match expr {
         Expr::Num(number) => Ok(Expr::Num(*number)),
         Expr::Truth(truth) => Ok(Expr::Truth(*truth)),
         Expr::Const(number) => Ok(Expr::Const(*number)),
-        Expr::Bound(other) => replace_name(alloc, *other, values),
-        Expr::Lit(kept) => copy_value(alloc, kept).map(Expr::Lit),
-        Expr::Neg(a) => replace_boxed_expr(alloc, a, values).map(Expr::Neg),
-        Expr::Not(a) => replace_boxed_expr(alloc, a, values).map(Expr::Not),
+        Expr::Bound(other) => replace_name(*other, values),
+        Expr::Lit(kept) => copy_value(values.alloc(), kept).map(Expr::Lit),
+        Expr::Neg(a) => replace_boxed_expr(a, values).map(Expr::Neg),
+        Expr::Not(a) => replace_boxed_expr(a, values).map(Expr::Not),
         Expr::Binary(op, a, b) => {
-            replace_two(alloc, a, b, values).map(|(a, b)| Expr::Binary(*op, a, b))
+            replace_two(a, b, values).map(|(a, b)| Expr::Binary(*op, a, b))
         }
-        Expr::If(c, a, b) => choice(alloc, c, a, b, values),
+        Expr::If(c, a, b) => choice(c, a, b, values),
         Expr::Call(def, args) => {
-            let args = put_exprs(alloc, args.as_slice(), values);
+            let args = put_exprs(args.as_slice(), values);
             args.map(|args| Expr::Call(*def, args))
         }
         Expr::SetName(def) => Ok(Expr::SetName(*def)),
         Expr::Event(channel, fields) => {
-            let fields = put_exprs(alloc, fields.as_slice(), values);
+            let fields = put_exprs(fields.as_slice(), values);
             fields.map(|fields| Expr::Event(*channel, fields))
         }
-        Expr::Display(items) => { put_exprs(alloc, items.as_slice(), values).map(Expr::Display) }
-        Expr::Range(a, b) => replace_two(alloc, a, b, values).map(|(a, b)| Expr::Range(a, b)),
-        Expr::Comp(items, gens) => comprehension(alloc, items, gens, values),
-        Expr::Product(parts, gens) => product(alloc, parts, gens, values),
-        Expr::SetOp(op, a, b) => {
-            replace_two(alloc, a, b, values).map(|(a, b)| Expr::SetOp(*op, a, b))
-        }
+        Expr::Display(items) => { put_exprs(items.as_slice(), values).map(Expr::Display) }
+        Expr::Range(a, b) => replace_two(a, b, values).map(|(a, b)| Expr::Range(a, b)),
+        Expr::Comp(items, gens) => comprehension(items, gens, values),
+        Expr::Product(parts, gens) => product(parts, gens, values),
+        Expr::SetOp(op, a, b) => { replace_two(a, b, values).map(|(a, b)| Expr::SetOp(*op, a, b)) }
     }
 }
 
 // One of two expressions.
 #[cycle(put_expr)]
 fn choice(
-    alloc: Global,
     c: &Boxed<Expr>,
     a: &Boxed<Expr>,
     b: &Boxed<Expr>,
@@ -79,15 +75,14 @@ fn choice(
     ensures { IfOk result (λ made. made ≡ Expr.If (expr_with (given_by values.now) c.now)
         (expr_with (given_by values.now) a.now) (expr_with (given_by values.now) b.now)) }
 {
-    let c = replace_boxed_expr(alloc, c, values)?;
-    let (a, b) = replace_two(alloc, a, b, values)?;
+    let c = replace_boxed_expr(c, values)?;
+    let (a, b) = replace_two(a, b, values)?;
     Ok(Expr::If(c, a, b))
 }
 
 // The set of some expressions under generators.
 #[cycle(put_expr)]
 fn comprehension(
-    alloc: Global,
     items: &Items<Expr>,
     gens: &Items<Gen>,
     values: &Values<'_>,
@@ -95,16 +90,15 @@ fn comprehension(
     ensures { IfOk result (λ made. made ≡ Expr.Comp (map (expr_with (past gens.now (given_by values.now))) items.now)
         (gens_with (given_by values.now) gens.now)) }
 {
-    let mut here = values.copy(alloc)?;
-    let gens = replace_gens(alloc, gens.as_slice(), &mut here)?;
-    let items = put_exprs(alloc, items.as_slice(), &here)?;
+    let mut here = values.copy()?;
+    let gens = replace_gens(gens.as_slice(), &mut here)?;
+    let items = put_exprs(items.as_slice(), &here)?;
     Ok(Expr::Comp(items, gens))
 }
 
 // The set of the events that begin with some fronts, under generators.
 #[cycle(put_expr)]
 fn product(
-    alloc: Global,
     parts: &Items<EventPart>,
     gens: &Items<Gen>,
     values: &Values<'_>,
@@ -112,28 +106,24 @@ fn product(
     ensures { IfOk result (λ made. made ≡ Expr.Product
         (map (part_with (past gens.now (given_by values.now))) parts.now) (gens_with (given_by values.now) gens.now)) }
 {
-    let mut here = values.copy(alloc)?;
-    let gens = replace_gens(alloc, gens.as_slice(), &mut here)?;
-    let parts = replace_parts(alloc, parts.as_slice(), &here)?;
+    let mut here = values.copy()?;
+    let gens = replace_gens(gens.as_slice(), &mut here)?;
+    let parts = replace_parts(parts.as_slice(), &here)?;
     Ok(Expr::Product(parts, gens))
 }
 
 // An expression on the heap.
 #[cycle(put_expr)]
-fn replace_boxed_expr(
-    alloc: Global,
-    expr: &Boxed<Expr>,
-    values: &Values<'_>,
-) -> Result<Boxed<Expr>, NoMemory>
+fn replace_boxed_expr(expr: &Boxed<Expr>, values: &Values<'_>) -> Result<Boxed<Expr>, NoMemory>
     ensures { IfOk result (λ made. made ≡ expr_with (given_by values.now) expr.now) }
 {
-    put_expr(alloc, expr.get(), values).and_then(|expr| Boxed::new(alloc, expr))
+    let alloc = values.alloc();
+    put_expr(expr.get(), values).and_then(|expr| Boxed::new(alloc, expr))
 }
 
 // Two expressions on the heap.
 #[cycle(put_expr)]
 fn replace_two(
-    alloc: Global,
     a: &Boxed<Expr>,
     b: &Boxed<Expr>,
     values: &Values<'_>,
@@ -141,51 +131,43 @@ fn replace_two(
     ensures { IfOk result (λ made. (made.0 ≡ expr_with (given_by values.now) a.now)
         × (made.1 ≡ expr_with (given_by values.now) b.now)) }
 {
-    let a = replace_boxed_expr(alloc, a, values)?;
-    let b = replace_boxed_expr(alloc, b, values)?;
+    let a = replace_boxed_expr(a, values)?;
+    let b = replace_boxed_expr(b, values)?;
     Ok((a, b))
 }
 
 /// The expressions with the values in place of the names in each of them.
 #[cycle(put_expr)]
-pub fn put_exprs(
-    alloc: Global,
-    exprs: &[Expr],
-    values: &Values<'_>,
-) -> Result<Items<Expr>, NoMemory>
+pub fn put_exprs(exprs: &[Expr], values: &Values<'_>) -> Result<Items<Expr>, NoMemory>
     ensures { IfOk result (λ made. made ≡ map (expr_with (given_by values.now)) exprs.now) }
 {
-    let mut made = Items::new(alloc);
+    let mut made = Items::new(values.alloc());
     for expr in exprs {
-        made.push_made(put_expr(alloc, expr, values))?;
+        made.push_made(put_expr(expr, values))?;
     }
     Ok(made)
 }
 
 #[tactic(auto, using(crate::proofs::Forms::gen_forms))]
 #[cycle(put_expr)]
-fn replace_gen(alloc: Global, generator: &Gen, values: &Values<'_>) -> Result<Gen, NoMemory>
+fn replace_gen(generator: &Gen, values: &Values<'_>) -> Result<Gen, NoMemory>
     ensures { IfOk result (λ made. made ≡ (open_gen generator.now).0 (given_by values.now)) }
 {
     match generator {
-        Gen::From(name, set) => { put_expr(alloc, set, values).map(|set| Gen::From(*name, set)) }
-        Gen::Cond(condition) => put_expr(alloc, condition, values).map(Gen::Cond),
+        Gen::From(name, set) => { put_expr(set, values).map(|set| Gen::From(*name, set)) }
+        Gen::Cond(condition) => put_expr(condition, values).map(Gen::Cond),
     }
 }
 
 /// Generators, each with the values of the names that those before it don't bind. The values that are left are those of the names that none of them binds.
 #[cycle(put_expr)]
-pub(crate) fn replace_gens(
-    alloc: Global,
-    gens: &[Gen],
-    values: &mut Values<'_>,
-) -> Result<Items<Gen>, NoMemory>
+pub(crate) fn replace_gens(gens: &[Gen], values: &mut Values<'_>) -> Result<Items<Gen>, NoMemory>
     ensures made { IfOk result (λ made. made ≡ gens_with (given_by values.old) gens.now) }
     ensures left { OnOk result (given_by values.new ≡ past gens.now (given_by values.old)) }
 {
-    let mut made = Items::new(alloc);
+    let mut made = Items::new(values.alloc());
     for generator in gens {
-        made.push_made(replace_gen(alloc, generator, values))?;
+        made.push_made(replace_gen(generator, values))?;
         pass(values, generator)?;
     }
     Ok(made)
@@ -193,14 +175,10 @@ pub(crate) fn replace_gens(
 
 #[tactic(auto, using(crate::proofs::Forms::part_forms))]
 #[cycle(put_expr)]
-pub(crate) fn replace_part(
-    alloc: Global,
-    part: &EventPart,
-    values: &Values<'_>,
-) -> Result<EventPart, NoMemory>
+pub(crate) fn replace_part(part: &EventPart, values: &Values<'_>) -> Result<EventPart, NoMemory>
     ensures { IfOk result (λ made. made ≡ part_with (given_by values.now) part.now) }
 {
-    let fields = put_exprs(alloc, part.fields.as_slice(), values)?;
+    let fields = put_exprs(part.fields.as_slice(), values)?;
     Ok(EventPart {
         channel: part.channel,
         fields,
@@ -209,16 +187,12 @@ pub(crate) fn replace_part(
 
 // The fronts of events.
 #[cycle(put_expr)]
-fn replace_parts(
-    alloc: Global,
-    parts: &[EventPart],
-    values: &Values<'_>,
-) -> Result<Items<EventPart>, NoMemory>
+fn replace_parts(parts: &[EventPart], values: &Values<'_>) -> Result<Items<EventPart>, NoMemory>
     ensures { IfOk result (λ made. made ≡ map (part_with (given_by values.now)) parts.now) }
 {
-    let mut made = Items::new(alloc);
+    let mut made = Items::new(values.alloc());
     for part in parts {
-        made.push_made(replace_part(alloc, part, values))?;
+        made.push_made(replace_part(part, values))?;
     }
     Ok(made)
 }

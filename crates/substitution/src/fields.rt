@@ -9,26 +9,25 @@ use containers::Items;
 use csp_base::NoMemory;
 use csp_program::copies::copy_value;
 use csp_program::{EventPart, Expr, Field, Gen, Head};
-use std::alloc::Global;
 
 // The head that is a bound name.
-fn replace_head_name(alloc: Global, name: u32, values: &Values<'_>) -> Result<Head, NoMemory>
+fn replace_head_name(name: u32, values: &Values<'_>) -> Result<Head, NoMemory>
     ensures { IfOk result (λ made. made ≡ head_named name (given_by values.now name)) }
 {
-    match values.find(alloc, name)? {
+    match values.find(name)? {
         Some(value) => Ok(Head::Put(value)),
         None => Ok(Head::Bound(name)),
     }
 }
 
 /// The head with the value of the bound name in its place, if it is one that gets a value.
-pub fn put_head(alloc: Global, head: &Head, values: &Values<'_>) -> Result<Head, NoMemory>
+pub fn put_head(head: &Head, values: &Values<'_>) -> Result<Head, NoMemory>
     ensures { IfOk result (λ made. made ≡ head_with (given_by values.now) head.now) }
 {
     match head {
         Head::Channel(channel) => Ok(Head::Channel(*channel)),
-        Head::Bound(name) => replace_head_name(alloc, *name, values),
-        Head::Put(kept) => copy_value(alloc, kept).map(Head::Put),
+        Head::Bound(name) => replace_head_name(*name, values),
+        Head::Put(kept) => copy_value(values.alloc(), kept).map(Head::Put),
     }
 }
 
@@ -75,70 +74,62 @@ pub fn pass_fields(values: &mut Values<'_>, fields: &[Field]) -> Result<(), NoMe
 }
 
 // An input.
-fn replace_input(
-    alloc: Global,
-    name: u32,
-    set: &Option<Expr>,
-    values: &Values<'_>,
-) -> Result<Field, NoMemory>
+fn replace_input(name: u32, set: &Option<Expr>, values: &Values<'_>) -> Result<Field, NoMemory>
     ensures { IfOk result (λ made. made ≡ field_with (given_by values.now) (Field.Get name set.now)) }
 {
     match set {
-        Some(set) => put_expr(alloc, set, values).map(|set| Field::Get(name, Some(set))),
+        Some(set) => put_expr(set, values).map(|set| Field::Get(name, Some(set))),
         None => Ok(Field::Get(name, None)),
     }
 }
 
-fn replace_field(alloc: Global, field: &Field, values: &Values<'_>) -> Result<Field, NoMemory>
+fn replace_field(field: &Field, values: &Values<'_>) -> Result<Field, NoMemory>
     ensures { IfOk result (λ made. made ≡ field_with (given_by values.now) field.now) }
 {
     match field {
-        Field::Put(expr) => put_expr(alloc, expr, values).map(Field::Put),
-        Field::Get(name, set) => replace_input(alloc, *name, set, values),
+        Field::Put(expr) => put_expr(expr, values).map(Field::Put),
+        Field::Get(name, set) => replace_input(*name, set, values),
     }
 }
 
 /// The fields of a prefix, each with the values of the names that those before it don't bind. The values that are left are those of the names that none
 /// of them binds.
 pub(crate) fn replace_fields(
-    alloc: Global,
     fields: &[Field],
     values: &mut Values<'_>,
 ) -> Result<Items<Field>, NoMemory>
     ensures made { IfOk result (λ made. made ≡ fields_with (given_by values.old) fields.now) }
     ensures left { OnOk result (given_by values.new ≡ after_all fields.now (given_by values.old)) }
 {
-    let mut made = Items::new(alloc);
+    let mut made = Items::new(values.alloc());
     for field in fields {
-        made.push_made(replace_field(alloc, field, values))?;
+        made.push_made(replace_field(field, values))?;
         pass_field(values, field)?;
     }
     Ok(made)
 }
 
 fn replace_pair(
-    alloc: Global,
     pair: &(EventPart, EventPart),
     values: &Values<'_>,
 ) -> Result<(EventPart, EventPart), NoMemory>
     ensures { IfOk result (λ made. made ≡ pair_with (given_by values.now) pair.now) }
 {
-    let old = replace_part(alloc, &pair.0, values)?;
-    let new = replace_part(alloc, &pair.1, values)?;
+    let old = replace_part(&pair.0, values)?;
+    let new = replace_part(&pair.1, values)?;
     Ok((old, new))
 }
 
 // The pairs of a renaming.
 fn replace_pairs(
-    alloc: Global,
     pairs: &[(EventPart, EventPart)],
     values: &Values<'_>,
 ) -> Result<Items<(EventPart, EventPart)>, NoMemory>
     ensures { IfOk result (λ made. made ≡ map (pair_with (given_by values.now)) pairs.now) }
 {
-    let mut made = Items::new(alloc);
+    let mut made = Items::new(values.alloc());
     for pair in pairs {
-        made.push_made(replace_pair(alloc, pair, values))?;
+        made.push_made(replace_pair(pair, values))?;
     }
     Ok(made)
 }
@@ -154,37 +145,32 @@ fn pass_gens(values: &mut Values<'_>, gens: &[Gen]) -> Result<(), NoMemory>
 }
 
 /// The fields of a prefix, each with the values of the names that those before it don't bind.
-pub fn put_fields(
-    alloc: Global,
-    fields: &[Field],
-    values: &Values<'_>,
-) -> Result<Items<Field>, NoMemory>
+pub fn put_fields(fields: &[Field], values: &Values<'_>) -> Result<Items<Field>, NoMemory>
     ensures { IfOk result (λ made. made ≡ fields_with (given_by values.now) fields.now) }
 {
-    let mut left = values.copy(alloc)?;
-    let made = replace_fields(alloc, fields, &mut left)?;
+    let mut left = values.copy()?;
+    let made = replace_fields(fields, &mut left)?;
     Ok(made)
 }
 
 /// Generators, each with the values of the names that those before it don't bind.
-pub fn put_gens(alloc: Global, gens: &[Gen], values: &Values<'_>) -> Result<Items<Gen>, NoMemory>
+pub fn put_gens(gens: &[Gen], values: &Values<'_>) -> Result<Items<Gen>, NoMemory>
     ensures { IfOk result (λ made. made ≡ gens_with (given_by values.now) gens.now) }
 {
-    let mut left = values.copy(alloc)?;
-    let made = replace_gens(alloc, gens, &mut left)?;
+    let mut left = values.copy()?;
+    let made = replace_gens(gens, &mut left)?;
     Ok(made)
 }
 
 /// The pairs of a renaming with these generators, with the values of the names that no generator binds.
 pub fn put_pairs(
-    alloc: Global,
     pairs: &[(EventPart, EventPart)],
     gens: &[Gen],
     values: &Values<'_>,
 ) -> Result<Items<(EventPart, EventPart)>, NoMemory>
     ensures { IfOk result (λ made. made ≡ map (pair_with (past gens.now (given_by values.now))) pairs.now) }
 {
-    let mut left = values.copy(alloc)?;
+    let mut left = values.copy()?;
     pass_gens(&mut left, gens)?;
-    replace_pairs(alloc, pairs, &left)
+    replace_pairs(pairs, &left)
 }

@@ -16,6 +16,7 @@ use std::marker::Model;
 /// Names, and the value that each of them gets. Contracts see them as an environment.
 #[derive(Drop)]
 pub struct Values<'a> {
+    alloc: Global,
     names: &'a [u32],
     values: &'a [Value],
     // names that are bound over the others, the last one bound at the end
@@ -48,18 +49,18 @@ impl<'a> Values<'a> {
     pub fn new(alloc: Global, names: &'a [u32], values: &'a [Value]) -> Values<'a>
         ensures { result ≡ bound_to names.now values.now }
     {
-        Values::over(alloc, names, values, &[])
+        Values::with_bound(alloc, names, values, &[])
     }
 
     /// The atoms for the names beside them. Of two atoms for one name the last one counts.
-    pub fn bound(alloc: Global, bound: &'a [(u32, Atom)]) -> Values<'a>
+    pub fn from_bound(alloc: Global, bound: &'a [(u32, Atom)]) -> Values<'a>
         ensures { result ≡ with_bound bound.now [] }
     {
-        Values::over(alloc, &[], &[], bound)
+        Values::with_bound(alloc, &[], &[], bound)
     }
 
     /// The values, each for the name at its place, and atoms for names that are bound over those.
-    pub fn over(
+    pub fn with_bound(
         alloc: Global,
         names: &'a [u32],
         values: &'a [Value],
@@ -68,6 +69,7 @@ impl<'a> Values<'a> {
         ensures { result ≡ with_bound bound.now (bound_to names.now values.now) }
     {
         Values {
+            alloc,
             names,
             values,
             bound,
@@ -77,22 +79,28 @@ impl<'a> Values<'a> {
         }
     }
 
+    /// Where memory comes from.
+    pub fn alloc(&self) -> Global {
+        self.alloc
+    }
+
     /// The same names and values.
-    pub fn copy(&self, alloc: Global) -> Result<Values<'a>, NoMemory>
+    pub fn copy(&self) -> Result<Values<'a>, NoMemory>
         ensures { IfOk result (λ copy. copy ≡ self.now) }
     {
         Ok(Values {
+            alloc: self.alloc,
             names: self.names,
             values: self.values,
             bound: self.bound,
             first: self.first,
             first_bound: self.first_bound,
-            hidden: Items::from_slice(alloc, self.hidden.as_slice())?,
+            hidden: Items::from_slice(self.alloc, self.hidden.as_slice())?,
         })
     }
 
     /// The value of a name, if it gets one.
-    pub fn find(&self, alloc: Global, name: u32) -> Result<Option<Value>, NoMemory>
+    pub fn find(&self, name: u32) -> Result<Option<Value>, NoMemory>
         ensures { IfOk result (λ found. found ≡ given_by self.now name) }
     {
         if self.hidden.as_slice().contains(&name) {
@@ -102,7 +110,7 @@ impl<'a> Values<'a> {
             return Ok(Some(Value::One(atom)));
         }
         match find_listed(self.names, self.values, self.first, name) {
-            Some(value) => copy_value(alloc, value).map(Some),
+            Some(value) => copy_value(self.alloc, value).map(Some),
             None => Ok(None),
         }
     }
@@ -132,12 +140,12 @@ impl<'a> Values<'a> {
     }
 
     /// The values without that of a name.
-    pub fn under(&self, alloc: Global, name: u32) -> Result<Values<'a>, NoMemory>
-        ensures { IfOk result (λ under. given_by under ≡ without name (given_by self.now)) }
+    pub fn without(&self, name: u32) -> Result<Values<'a>, NoMemory>
+        ensures { IfOk result (λ left. given_by left ≡ without name (given_by self.now)) }
     {
-        let mut under = self.copy(alloc)?;
-        under.hide(name)?;
-        Ok(under)
+        let mut left = self.copy()?;
+        left.hide(name)?;
+        Ok(left)
     }
 
     /// Whether all names that get a value are known to be below the number.

@@ -1,17 +1,7 @@
 -- A tabulation is refused, or the table is shown; and it is shown where nothing speaks against it.
-use Rattle.std.proofs.Common.{◌≡◌, ℕ, Some, slice_get, sym, subst, ◌∙◌, arith}
-use Rattle.std.proofs.lemmas.Option.{same_Some, slice_get_within}
-use Rattle.csp_program.specs.declared.processes.Proc.{Proc}
-use Rattle.csp_tables.specs.Prelude.{Component, leaves, Part, IsPartOf}
-use Rattle.network_stages.specs.Prelude.{Network, HasNoPart}
-use Rattle.process_steps.specs.ComponentStep.{ProcessStep}
-use Rattle.report.proofs.Points.{refused_or}
-use Rattle.report.specs.Prelude.{passed, told}
-use Rattle.report.specs.declared.answer.Refusal.{Refusal}
-use Rattle.report.specs.declared.answer.Verdict.{Verdict}
+use Rattle.tabulation.proofs.Prelude.{◌≡◌, ℕ, Some, slice_get, sym, subst, ◌∙◌, arith, same_Some, slice_get_within, Proc, Component, leaves, Part, IsPartOf, Network, HasNoPart, ProcessStep, refused_or, passed, told, Refusal, Verdict, IsTable, IsTabulated}
 use Rattle.report.specs.declared.answer.Side.TheVariants as side
 use Rattle.report.specs.declared.answer.Verdict.TheVariants as verdict
-use Rattle.tabulation.specs.Tabulated.{IsTable, IsTabulated}
 
 -- A component has the number, and the verdict tells its normal table, with the number of components.
 pub record IsTabulatedWhole (network : Network) (i : ℕ) (v : Verdict) : Type 0 where

@@ -1,9 +1,5 @@
 -- The arcs of the digraph of a table's silent steps are these steps.
-use Rattle.std.proofs.Common.{ℕ, IsTrue, sym, subst}
-use Rattle.csp_tables.specs.Prelude.{silent, RawTable, RawStep}
-use Rattle.csp_tables.proofs.Listed.{silent_listed, listed_silent}
-use Rattle.digraph.specs.Digraph.{Digraph, HasArc}
-use Rattle.tau_order.specs.SilentRows.{AreSilentRows}
+use Rattle.tau_order.proofs.Prelude.{ℕ, IsTrue, sym, subst, silent, RawTable, RawStep, silent_listed, listed_silent, Digraph, HasArc, AreSilentRows}
 
 module _ (raw : RawTable) (g : Digraph) (rows : AreSilentRows raw g) where
   pub step_of : (s t : ℕ) → HasArc g s t → RawStep raw s silent t

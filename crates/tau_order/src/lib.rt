@@ -1,9 +1,7 @@
 //! How many silent steps can follow one another from each term of a raw table, or a circle of them.
 #![tactic(auto)]
 
-mod fault;
 mod silent_runs;
 
 pub use digraph::{Circle, Heights};
-pub use fault::HeightFault;
 pub use silent_runs::{heights, silent_rows};

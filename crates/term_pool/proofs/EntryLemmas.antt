@@ -1,8 +1,7 @@
 -- What entries stand for: it stays where the own parts grow, and different entries stand for different layers.
-use Rattle.term_pool.proofs.Prelude.{◌≡◌, ℕ, ◌<◌, Some, List, [], length, get_or, slice_get, refl, ap, sym, ◌∙◌, subst, slice_get_within, slice_get-get_or, get_or_from_slice_get, head_at, fields_at, expr_at, arguments_at, pairs_at, gens_at, choice_at, entry_layer, ArePartsOnce, Fits, HasParts, PartsStart, Layer, Entry, OwnParts, EachOnce, Proc-F}
+use Rattle.term_pool.proofs.Prelude.{◌≡◌, ℕ, ◌<◌, Some, List, [], length, get_or, slice_get, refl, ap, sym, ◌∙◌, subst, slice_get_within, slice_get-get_or, get_or_from_slice_get, head_at, fields_at, expr_at, arguments_at, pairs_at, gens_at, choice_at, entry_layer, ArePartsOnce, Fits, HasParts, PartsStart, Layer, Entry, OwnParts, EachOnce, Proc-F, IsStart}
 use Rattle.csp_program.specs.declared.expressions.Expr.TheVariants as expr
 use Rattle.csp_program.specs.declared.processes.Head.TheVariants as head
-use Rattle.pool_parts.specs.Stored.{IsStart}
 use Rattle.term_pool.specs.declared.entry.Entry.TheVariants as entry
 
 -- a number of the old list is one of the new one, with the same part

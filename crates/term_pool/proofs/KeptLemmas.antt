@@ -1,6 +1,5 @@
 -- What follows from how a pool keeps its nodes as entries.
-use Rattle.term_pool.proofs.Prelude.{◌≡◌, ◌⊎◌, inl, inr, ℕ, zero, suc, ◌<◌, true, false, None, Some, Option, List, [], ◌∷◌, ◌++◌, length, get_or, slice_get, refl, ap, sym, ◌∙◌, subst, arith, map-append, length-map, length_push, same_from_push, slice_get-map, slice_get-get_or, Result, Ok, Err, IsErr, MatchOption, OnErr, option_map, proc_depth, proc_free, proc_size, Proc, noted_at, is_absent, entry_layer, layers, ArePartsOnce, Fits, HasParts, PartsStart, eq_entry, processes, IsHeld, IsKept, Puts, Layer, IsNodeMeasure, Measures, Has, layer_below, layer_tree, trees_of, laws-law, Entry, OwnParts, IsAbsent, Measure, ProcId, push_cases}
-use Rattle.std.specs.Set.{is_member}
+use Rattle.term_pool.proofs.Prelude.{◌≡◌, ◌⊎◌, inl, inr, ℕ, zero, suc, ◌<◌, true, false, None, Some, Option, List, [], ◌∷◌, ◌++◌, length, get_or, slice_get, refl, ap, sym, ◌∙◌, subst, arith, map-append, length-map, length_push, same_from_push, slice_get-map, slice_get-get_or, Result, Ok, Err, IsErr, MatchOption, OnErr, option_map, proc_depth, proc_free, proc_size, Proc, noted_at, is_absent, entry_layer, layers, ArePartsOnce, Fits, HasParts, PartsStart, eq_entry, processes, IsHeld, IsKept, Puts, Layer, IsNodeMeasure, Measures, Has, layer_below, layer_tree, trees_of, laws-law, Entry, OwnParts, IsAbsent, Measure, ProcId, push_cases, is_member}
 use Rattle.csp_program.specs.declared.processes.Proc.TheVariants as proc
 use Rattle.term_pool.proofs.EntryLemmas.{fits_more, layer_stays, same_entry, has_parts}
 use Rattle.term_pool.proofs.HeldLemmas.{held_push, is_known, places_fall, puts_known, puts_new, puts_none, tree_stands, trees_length, unknown_push}

@@ -1,6 +1,5 @@
 -- What a node becomes where values are put in: its own parts, and what stands at its places.
-use Rattle.term_pool.proofs.Prelude.{◌≡◌, List, [], ◌∷◌, map, refl, ap, sym, ◌∙◌, subst, proc_with, Given, Proc, Proc-F, out-Proc, roll-Proc, out-roll-Proc, ProcId, Layer, layer_parts, moved, parts, StandAt, StandsFor, all_with, left_below, own_with, layer_tree, tree_at}
-use Rattle.substitution.proofs.Forms.{proc_form, proc_is}
+use Rattle.term_pool.proofs.Prelude.{◌≡◌, List, [], ◌∷◌, map, refl, ap, sym, ◌∙◌, subst, proc_with, Given, Proc, Proc-F, out-Proc, roll-Proc, out-roll-Proc, ProcId, Layer, layer_parts, moved, parts, StandAt, StandsFor, all_with, left_below, own_with, layer_tree, tree_at, proc_form, proc_is}
 use Rattle.term_pool.proofs.NodeLemmas.{layer_of, rolls}
 use Rattle.term_pool.proofs.OverLemmas.{stands_form}
 

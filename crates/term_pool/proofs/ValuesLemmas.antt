@@ -1,10 +1,8 @@
 -- What the places of a pool become where values are put in, one place after another.
-use Rattle.term_pool.proofs.Prelude.{◌≡◌, ℕ, zero, suc, ◌+◌, ◌<◌, Bool, true, false, cond, nat_lt, nat_eq, Some, None, Option, List, [], ◌∷◌, ◌++◌, length, slice_get, take, refl, ap, sym, ◌∙◌, subst, arith, eqb-true, ltb-true, map_more, take-map, slice_get-get_or, slice_get_within, get_or_from_slice_get, HashMap, get, IsEmpty, Updates, lookup, Env, given_by, proc_with, Given, Proc, ProcId, Layer, shown, id_or, moved, Has, IsFront, parts, Grows, StandAt, StandsFor, all_with, left_below, own_with, AreMade, IsLeft, IsMade, all_below, layer_tree, places, tree_at, tree_of, AddsOne}
-use Rattle.csp_base.specs.Standard.{first_so, second_so}
+use Rattle.term_pool.proofs.Prelude.{◌≡◌, ℕ, zero, suc, ◌+◌, ◌<◌, Bool, true, false, cond, nat_lt, nat_eq, Some, None, Option, List, [], ◌∷◌, ◌++◌, length, slice_get, take, refl, ap, sym, ◌∙◌, subst, arith, eqb-true, ltb-true, map_more, take-map, slice_get-get_or, slice_get_within, get_or_from_slice_get, HashMap, get, IsEmpty, Updates, lookup, Env, given_by, proc_with, Given, Proc, ProcId, Layer, shown, id_or, moved, Has, IsFront, parts, Grows, StandAt, StandsFor, all_with, left_below, own_with, AreMade, IsLeft, IsMade, all_below, layer_tree, places, tree_at, tree_of, AddsOne, first_so, second_so, Node}
 use Rattle.csp_program.specs.declared.processes.Proc.TheVariants as proc
 use Rattle.term_pool.proofs.PutLemmas as lemmas
 use Rattle.term_pool.proofs.SubstituteLemmas.{parts_layer, stands_layer}
-use Rattle.term_pool.specs.declared.node.Node.{Node}
 
 -- each of some places that are all smaller than b is
 item_below : (b : ℕ) (ids : List ProcId) (i : ℕ) → i < length ids → all_below b ids ≡ true → (id_or ids i).0 < b

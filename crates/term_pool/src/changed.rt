@@ -25,18 +25,17 @@ fn with_other_first(alloc: Global, ids: &[ProcId], below: ProcId) -> Result<Item
 }
 
 // The number of a choice with another first place.
-fn choice_with_first(
-    parts: &mut OwnParts,
-    alloc: Global,
-    place: usize,
-    below: ProcId,
-) -> Result<usize, NoMemory>
+fn choice_with_first(parts: &mut OwnParts, place: usize, below: ProcId) -> Result<usize, NoMemory>
     requires within { place < length parts.old.choices }
     ensures start { PartsStart parts.old parts.new }
     ensures made { IfOk result (λ made. slice_get parts.new.choices made
         ≡ Some (other_first (choice_at parts.old place) below)) }
 {
-    let made = with_other_first(alloc, parts.choices.get(place).as_slice(), below);
+    let made = with_other_first(
+        parts.choices.alloc(),
+        parts.choices.get(place).as_slice(),
+        below,
+    );
     parts.choices.keep_made(made)
 }
 
@@ -44,7 +43,6 @@ fn choice_with_first(
 #[tactic(auto, using(crate::proofs::EntryLemmas::starts_same))]
 pub(crate) fn entry_with_first(
     parts: &mut OwnParts,
-    alloc: Global,
     entry: Entry,
     below: ProcId,
 ) -> Result<Entry, NoMemory>
@@ -59,8 +57,8 @@ pub(crate) fn entry_with_first(
         Entry::Prefix(head, fields, _) => Ok(Entry::Prefix(head, fields, below)),
         Entry::Guard(c, _) => Ok(Entry::Guard(c, below)),
         Entry::If(c, _, q) => Ok(Entry::If(c, below, q)),
-        Entry::External(ids) => { choice_with_first(parts, alloc, ids, below).map(Entry::External) }
-        Entry::Internal(ids) => { choice_with_first(parts, alloc, ids, below).map(Entry::Internal) }
+        Entry::External(ids) => { choice_with_first(parts, ids, below).map(Entry::External) }
+        Entry::Internal(ids) => { choice_with_first(parts, ids, below).map(Entry::Internal) }
         Entry::EachExternal(slot, set, _) => Ok(Entry::EachExternal(slot, set, below)),
         Entry::EachInternal(slot, set, _) => Ok(Entry::EachInternal(slot, set, below)),
         Entry::Hide(_, set) => Ok(Entry::Hide(below, set)),
@@ -84,12 +82,7 @@ pub(crate) fn at(ids: &Items<ProcId>, index: usize) -> ProcId
 
 // The entry with these places in place of its own, as many.
 #[tactic(auto, using(crate::proofs::EntryLemmas::starts_same))]
-fn with_places(
-    parts: &mut OwnParts,
-    alloc: Global,
-    entry: Entry,
-    ids: &Items<ProcId>,
-) -> Result<Entry, NoMemory>
+fn with_places(parts: &mut OwnParts, entry: Entry, ids: &Items<ProcId>) -> Result<Entry, NoMemory>
     requires fits { Fits parts.old entry }
     ensures start { PartsStart parts.old parts.new }
     ensures fits { IfOk result (Fits parts.new) }
@@ -100,8 +93,8 @@ fn with_places(
         Entry::Prefix(head, fields, _) => Ok(Entry::Prefix(head, fields, at(ids, 0))),
         Entry::Guard(c, _) => Ok(Entry::Guard(c, at(ids, 0))),
         Entry::If(c, _, _) => Ok(Entry::If(c, at(ids, 0), at(ids, 1))),
-        Entry::External(_) => keep_choice(parts, alloc, ids).map(Entry::External),
-        Entry::Internal(_) => keep_choice(parts, alloc, ids).map(Entry::Internal),
+        Entry::External(_) => keep_choice(parts, ids).map(Entry::External),
+        Entry::Internal(_) => keep_choice(parts, ids).map(Entry::Internal),
         Entry::EachExternal(slot, set, _) => Ok(Entry::EachExternal(slot, set, at(ids, 0))),
         Entry::EachInternal(slot, set, _) => Ok(Entry::EachInternal(slot, set, at(ids, 0))),
         Entry::Hide(_, set) => Ok(Entry::Hide(at(ids, 0), set)),
@@ -114,39 +107,28 @@ fn with_places(
 }
 
 // The number of an expression with the values put in.
-fn put_expr(
-    parts: &mut OwnParts,
-    alloc: Global,
-    place: usize,
-    values: &Values<'_>,
-) -> Result<usize, NoMemory>
+fn put_expr(parts: &mut OwnParts, place: usize, values: &Values<'_>) -> Result<usize, NoMemory>
     requires { place < length parts.old.exprs }
     ensures start { PartsStart parts.old parts.new }
     ensures made { IfOk result (λ made. slice_get parts.new.exprs made
         ≡ Some (expr_with (given_by values.now) (expr_at parts.old place))) }
 {
-    put_values(&mut parts.exprs, alloc, place, values)
+    put_values(&mut parts.exprs, place, values)
 }
 
 // The number of arguments with the values put in.
-fn put_arguments(
-    parts: &mut OwnParts,
-    alloc: Global,
-    place: usize,
-    values: &Values<'_>,
-) -> Result<usize, NoMemory>
+fn put_arguments(parts: &mut OwnParts, place: usize, values: &Values<'_>) -> Result<usize, NoMemory>
     requires { place < length parts.old.arguments }
     ensures start { PartsStart parts.old parts.new }
     ensures made { IfOk result (λ made. slice_get parts.new.arguments made
         ≡ Some (map (expr_with (given_by values.now)) (arguments_at parts.old place))) }
 {
-    put_values(&mut parts.arguments, alloc, place, values)
+    put_values(&mut parts.arguments, place, values)
 }
 
 /// The entry with the values in its own parts, and with these places in place of its own, as many.
 pub(crate) fn made_entry(
     parts: &mut OwnParts,
-    alloc: Global,
     entry: Entry,
     ids: &Items<ProcId>,
     values: &Values<'_>,
@@ -157,18 +139,13 @@ pub(crate) fn made_entry(
     ensures layer { IfOk result (λ made. entry_layer parts.new made
         ≡ moved (own_with (given_by values.now) (entry_layer parts.old entry)) ids.now) }
 {
-    let entry = put_own(parts, alloc, entry, values)?;
-    with_places(parts, alloc, entry, ids)
+    let entry = put_own(parts, entry, values)?;
+    with_places(parts, entry, ids)
 }
 
 // The entry with the values in its own parts, each of which is kept.
 #[tactic(auto, using(crate::proofs::EntryLemmas::starts_same))]
-fn put_own(
-    parts: &mut OwnParts,
-    alloc: Global,
-    entry: Entry,
-    values: &Values<'_>,
-) -> Result<Entry, NoMemory>
+fn put_own(parts: &mut OwnParts, entry: Entry, values: &Values<'_>) -> Result<Entry, NoMemory>
     requires fits { Fits parts.old entry }
     ensures start { PartsStart parts.old parts.new }
     ensures fits { IfOk result (Fits parts.new) }
@@ -177,26 +154,26 @@ fn put_own(
 {
     match entry {
         Entry::Prefix(head, fields, p) => {
-            let (head, fields) = put_prefix(parts, alloc, head, fields, values)?;
+            let (head, fields) = put_prefix(parts, head, fields, values)?;
             Ok(Entry::Prefix(head, fields, p))
         }
-        Entry::Guard(c, p) => Ok(Entry::Guard(put_expr(parts, alloc, c, values)?, p)),
-        Entry::If(c, p, q) => Ok(Entry::If(put_expr(parts, alloc, c, values)?, p, q)),
+        Entry::Guard(c, p) => Ok(Entry::Guard(put_expr(parts, c, values)?, p)),
+        Entry::If(c, p, q) => Ok(Entry::If(put_expr(parts, c, values)?, p, q)),
         Entry::EachExternal(slot, set, p) => {
-            let set = put_expr(parts, alloc, set, values)?;
+            let set = put_expr(parts, set, values)?;
             Ok(Entry::EachExternal(slot, set, p))
         }
         Entry::EachInternal(slot, set, p) => {
-            let set = put_expr(parts, alloc, set, values)?;
+            let set = put_expr(parts, set, values)?;
             Ok(Entry::EachInternal(slot, set, p))
         }
-        Entry::Hide(p, set) => Ok(Entry::Hide(p, put_expr(parts, alloc, set, values)?)),
+        Entry::Hide(p, set) => Ok(Entry::Hide(p, put_expr(parts, set, values)?)),
         Entry::Rename(p, pairs, gens) => {
-            let (pairs, gens) = put_renaming(parts, alloc, pairs, gens, values)?;
+            let (pairs, gens) = put_renaming(parts, pairs, gens, values)?;
             Ok(Entry::Rename(p, pairs, gens))
         }
         Entry::Call(definition, args) => {
-            let args = put_arguments(parts, alloc, args, values)?;
+            let args = put_arguments(parts, args, values)?;
             Ok(Entry::Call(definition, args))
         }
         Entry::Stop => Ok(entry),
@@ -211,7 +188,6 @@ fn put_own(
 // The numbers of a head and of fields with the values put in.
 fn put_prefix(
     parts: &mut OwnParts,
-    alloc: Global,
     head: usize,
     fields: usize,
     values: &Values<'_>,
@@ -224,15 +200,14 @@ fn put_prefix(
     ensures fields { IfOk result (λ own. slice_get parts.new.fields own.1
         ≡ Some (fields_with (given_by values.now) (fields_at parts.old fields))) }
 {
-    let head = put_values(&mut parts.heads, alloc, head, values)?;
-    let fields = put_values(&mut parts.fields, alloc, fields, values)?;
+    let head = put_values(&mut parts.heads, head, values)?;
+    let fields = put_values(&mut parts.fields, fields, values)?;
     Ok((head, fields))
 }
 
 // The numbers of pairs and of generators with the values put in.
 fn put_renaming(
     parts: &mut OwnParts,
-    alloc: Global,
     pairs: usize,
     gens: usize,
     values: &Values<'_>,
@@ -247,8 +222,8 @@ fn put_renaming(
 {
     let old_pairs = parts.pairs.get(pairs).as_slice();
     let old_gens = parts.gens.get(gens).as_slice();
-    let made = put_pairs(alloc, old_pairs, old_gens, values);
+    let made = put_pairs(old_pairs, old_gens, values);
     let pairs = parts.pairs.keep_made(made)?;
-    let gens = put_values(&mut parts.gens, alloc, gens, values)?;
+    let gens = put_values(&mut parts.gens, gens, values)?;
     Ok((pairs, gens))
 }

@@ -13,7 +13,6 @@ use crate::own_parts::{OwnParts, keep_node, parts_once};
 use containers::{Items, Numbering, QuickKey};
 use csp_base::NoMemory;
 use pool_parts::{Measure, ProcId};
-use std::alloc::Global;
 use substitution::Values;
 
 /// The nodes of a pool.
@@ -71,26 +70,21 @@ fn put_entry(nodes: &mut Nodes, entry: Entry) -> Result<ProcId, NoMemory>
 }
 
 /// The place of the process that the node is.
-pub(crate) fn put_in(nodes: &mut Nodes, alloc: Global, node: Node<'_>) -> Result<ProcId, NoMemory>
+pub(crate) fn put_in(nodes: &mut Nodes, node: Node<'_>) -> Result<ProcId, NoMemory>
     requires kept { AreKept nodes.old }
     requires below { places_below (length (trees_in nodes.old)) node ≡ true }
     ensures kept { AreKept nodes.new }
     ensures puts { Puts (trees_in nodes.old) (trees_in nodes.new) result (tree_of (trees_in nodes.old) node.entry) }
     ensures err_only_new { OnErr result (Has (trees_in nodes.old) (tree_of (trees_in nodes.old) node.entry) → ⊥) }
 {
-    let kept = keep_node(&mut nodes.parts, alloc, node);
+    let kept = keep_node(&mut nodes.parts, node);
     parts_once(&nodes.parts);
     let entry = kept?;
     put_entry(nodes, entry)
 }
 
 /// The place of the process at `id` with that at `below` in place of its first sub-process.
-pub(crate) fn put_first_in(
-    nodes: &mut Nodes,
-    alloc: Global,
-    id: ProcId,
-    below: ProcId,
-) -> Result<ProcId, NoMemory>
+pub(crate) fn put_first_in(nodes: &mut Nodes, id: ProcId, below: ProcId) -> Result<ProcId, NoMemory>
     requires kept { AreKept nodes.old }
     requires id { id.0 < length (trees_in nodes.old) }
     requires below { below.0 < length (trees_in nodes.old) }
@@ -99,7 +93,7 @@ pub(crate) fn put_first_in(
         (with_first (tree_at (trees_in nodes.old) id) (tree_at (trees_in nodes.old) below)) }
 {
     let entry = entry_at(nodes, id);
-    let made = entry_with_first(&mut nodes.parts, alloc, entry, below);
+    let made = entry_with_first(&mut nodes.parts, entry, below);
     parts_once(&nodes.parts);
     let entry = made?;
     put_entry(nodes, entry)
@@ -108,7 +102,6 @@ pub(crate) fn put_first_in(
 /// The place of what the process at `id` becomes with the values in place of the names, where `ids` are the places of what its sub-processes become.
 pub(crate) fn put_made_in(
     nodes: &mut Nodes,
-    alloc: Global,
     id: ProcId,
     ids: &Items<ProcId>,
     values: &Values<'_>,
@@ -122,7 +115,7 @@ pub(crate) fn put_made_in(
         (proc_with (given_by values.now) (tree_at (trees_in nodes.old) id)) }
 {
     let entry = entry_at(nodes, id);
-    let made = made_entry(&mut nodes.parts, alloc, entry, ids, values);
+    let made = made_entry(&mut nodes.parts, entry, ids, values);
     parts_once(&nodes.parts);
     let entry = made?;
     put_entry(nodes, entry)

@@ -7,7 +7,7 @@ ghost use Rattle.term_pool.specs.Prelude.{entry_layer, Fits, layer_parts, deepes
 use crate::entry::Entry;
 use crate::own_parts::OwnParts;
 use pool_parts::ProcId;
-use pool_parts::measure::{Measure, node as node_of, nothing, together};
+use pool_parts::measure::{Measure, join, leaf, node as node_of};
 
 // What the own parts of the node measure.
 fn of_own(parts: &OwnParts, entry: Entry) -> Measure
@@ -17,24 +17,24 @@ fn of_own(parts: &OwnParts, entry: Entry) -> Measure
     ensures low { IsLow result.least (own_free (entry_layer parts.now entry)) }
 {
     match entry {
-        Entry::Stop => nothing(),
+        Entry::Stop => leaf(),
         Entry::Prefix(head, fields, _) => {
-            together(parts.heads.measure(head), parts.fields.measure(fields))
+            join(parts.heads.measure(head), parts.fields.measure(fields))
         }
         Entry::Guard(c, _) => parts.exprs.measure(c),
         Entry::If(c, _, _) => parts.exprs.measure(c),
-        Entry::External(_) => nothing(),
-        Entry::Internal(_) => nothing(),
+        Entry::External(_) => leaf(),
+        Entry::Internal(_) => leaf(),
         Entry::EachExternal(_, set, _) => parts.exprs.measure(set),
         Entry::EachInternal(_, set, _) => parts.exprs.measure(set),
         Entry::Hide(_, set) => parts.exprs.measure(set),
         Entry::Rename(_, pairs, gens) => {
-            together(parts.pairs.measure(pairs), parts.gens.measure(gens))
+            join(parts.pairs.measure(pairs), parts.gens.measure(gens))
         }
         Entry::Call(_, args) => parts.arguments.measure(args),
-        Entry::Skip => nothing(),
-        Entry::Seq(_, _) => nothing(),
-        Entry::Ended => nothing(),
+        Entry::Skip => leaf(),
+        Entry::Seq(_, _) => leaf(),
+        Entry::Ended => leaf(),
     }
 }
 
@@ -53,9 +53,9 @@ fn at_places(measures: &[Measure], ids: &[ProcId]) -> Measure
     ensures size { result.size ≡ capped (total_at measures.now ids.now) }
     ensures least { IsLeastAt measures.now result.least ids.now }
 {
-    let mut all = nothing();
+    let mut all = leaf();
     for id in ids {
-        all = together(all, at_place(measures, *id));
+        all = join(all, at_place(measures, *id));
     }
     all
 }
@@ -68,7 +68,7 @@ fn at_both(measures: &[Measure], left: ProcId, right: ProcId) -> Measure
     ensures size { result.size ≡ capped (total_at measures.now (left ∷ right ∷ [])) }
     ensures least { IsLeastAt measures.now result.least (left ∷ right ∷ []) }
 {
-    together(at_place(measures, left), at_place(measures, right))
+    join(at_place(measures, left), at_place(measures, right))
 }
 
 // What is at the places of the node measures together.
@@ -80,7 +80,7 @@ fn of_places(parts: &OwnParts, measures: &[Measure], entry: Entry) -> Measure
     ensures least { IsLeastAt measures.now result.least (layer_parts (entry_layer parts.now entry)) }
 {
     match entry {
-        Entry::Stop => nothing(),
+        Entry::Stop => leaf(),
         Entry::Prefix(_, _, p) => at_place(measures, p),
         Entry::Guard(_, p) => at_place(measures, p),
         Entry::If(_, p, q) => at_both(measures, p, q),
@@ -90,10 +90,10 @@ fn of_places(parts: &OwnParts, measures: &[Measure], entry: Entry) -> Measure
         Entry::EachInternal(_, _, p) => at_place(measures, p),
         Entry::Hide(p, _) => at_place(measures, p),
         Entry::Rename(p, _, _) => at_place(measures, p),
-        Entry::Call(_, _) => nothing(),
-        Entry::Skip => nothing(),
+        Entry::Call(_, _) => leaf(),
+        Entry::Skip => leaf(),
         Entry::Seq(p, q) => at_both(measures, p, q),
-        Entry::Ended => nothing(),
+        Entry::Ended => leaf(),
     }
 }
 
@@ -107,5 +107,5 @@ pub(crate) fn of_entry(parts: &OwnParts, measures: &[Measure], entry: Entry) -> 
     ensures places { IsLeastAt measures.now result.least (layer_parts (entry_layer parts.now entry)) }
 {
     let own = of_own(parts, entry);
-    node_of(together(own, of_places(parts, measures, entry)))
+    node_of(join(own, of_places(parts, measures, entry)))
 }

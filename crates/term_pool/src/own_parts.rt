@@ -61,44 +61,35 @@ pub(crate) fn parts_once(parts: &OwnParts)
 }
 
 // The number of an expression.
-fn keep_expr(parts: &mut OwnParts, alloc: Global, part: &Expr) -> Result<usize, NoMemory>
+fn keep_expr(parts: &mut OwnParts, part: &Expr) -> Result<usize, NoMemory>
     ensures start { PartsStart parts.old parts.new }
     ensures place { IfOk result (λ place. slice_get parts.new.exprs place ≡ Some part.now) }
     ensures err_only_new { OnErr result (StandsIn parts.old.exprs part.now → ⊥) }
 {
-    parts.exprs.keep(alloc, part)
+    parts.exprs.keep(part)
 }
 
 // The number of arguments.
-fn keep_arguments(
-    parts: &mut OwnParts,
-    alloc: Global,
-    part: &Items<Expr>,
-) -> Result<usize, NoMemory>
+fn keep_arguments(parts: &mut OwnParts, part: &Items<Expr>) -> Result<usize, NoMemory>
     ensures start { PartsStart parts.old parts.new }
     ensures place { IfOk result (λ place. slice_get parts.new.arguments place ≡ Some part.now) }
     ensures err_only_new { OnErr result (StandsIn parts.old.arguments part.now → ⊥) }
 {
-    parts.arguments.keep(alloc, part)
+    parts.arguments.keep(part)
 }
 
 /// The number of the places of a choice.
-pub(crate) fn keep_choice(
-    parts: &mut OwnParts,
-    alloc: Global,
-    part: &Items<ProcId>,
-) -> Result<usize, NoMemory>
+pub(crate) fn keep_choice(parts: &mut OwnParts, part: &Items<ProcId>) -> Result<usize, NoMemory>
     ensures start { PartsStart parts.old parts.new }
     ensures place { IfOk result (λ place. slice_get parts.new.choices place ≡ Some part.now) }
     ensures err_only_new { OnErr result (StandsIn parts.old.choices part.now → ⊥) }
 {
-    parts.choices.keep(alloc, part)
+    parts.choices.keep(part)
 }
 
 // The numbers of a head and of fields.
 fn keep_prefix(
     parts: &mut OwnParts,
-    alloc: Global,
     head: &Head,
     fields: &Items<Field>,
 ) -> Result<(usize, usize), NoMemory>
@@ -107,15 +98,14 @@ fn keep_prefix(
     ensures fields { IfOk result (λ own. slice_get parts.new.fields own.1 ≡ Some fields.now) }
     ensures err_only_new { OnErr result (StandsIn parts.old.heads head.now × StandsIn parts.old.fields fields.now → ⊥) }
 {
-    let head = parts.heads.keep(alloc, head)?;
-    let fields = parts.fields.keep(alloc, fields)?;
+    let head = parts.heads.keep(head)?;
+    let fields = parts.fields.keep(fields)?;
     Ok((head, fields))
 }
 
 // The numbers of pairs and of generators.
 fn keep_renaming(
     parts: &mut OwnParts,
-    alloc: Global,
     pairs: &Items<(EventPart, EventPart)>,
     gens: &Items<Gen>,
 ) -> Result<(usize, usize), NoMemory>
@@ -124,18 +114,14 @@ fn keep_renaming(
     ensures gens { IfOk result (λ own. slice_get parts.new.gens own.1 ≡ Some gens.now) }
     ensures err_only_new { OnErr result (StandsIn parts.old.pairs pairs.now × StandsIn parts.old.gens gens.now → ⊥) }
 {
-    let pairs = parts.pairs.keep(alloc, pairs)?;
-    let gens = parts.gens.keep(alloc, gens)?;
+    let pairs = parts.pairs.keep(pairs)?;
+    let gens = parts.gens.keep(gens)?;
     Ok((pairs, gens))
 }
 
 /// The entry of a node, whose own parts are kept.
 #[tactic(auto, using(crate::proofs::EntryLemmas::starts_same))]
-pub(crate) fn keep_node(
-    parts: &mut OwnParts,
-    alloc: Global,
-    node: Node<'_>,
-) -> Result<Entry, NoMemory>
+pub(crate) fn keep_node(parts: &mut OwnParts, node: Node<'_>) -> Result<Entry, NoMemory>
     ensures start { PartsStart parts.old parts.new }
     ensures fits { IfOk result (Fits parts.new) }
     ensures layer { IfOk result (λ entry. entry_layer parts.new entry ≡ shown node.entry) }
@@ -144,26 +130,26 @@ pub(crate) fn keep_node(
     match node {
         Node::Stop => Ok(Entry::Stop),
         Node::Prefix(head, fields, p) => {
-            let own = keep_prefix(parts, alloc, head, fields);
+            let own = keep_prefix(parts, head, fields);
             own.map(|(head, fields)| Entry::Prefix(head, fields, p))
         }
-        Node::Guard(c, p) => keep_expr(parts, alloc, c).map(|c| Entry::Guard(c, p)),
-        Node::If(c, p, q) => keep_expr(parts, alloc, c).map(|c| Entry::If(c, p, q)),
-        Node::External(ids) => keep_choice(parts, alloc, ids).map(Entry::External),
-        Node::Internal(ids) => keep_choice(parts, alloc, ids).map(Entry::Internal),
+        Node::Guard(c, p) => keep_expr(parts, c).map(|c| Entry::Guard(c, p)),
+        Node::If(c, p, q) => keep_expr(parts, c).map(|c| Entry::If(c, p, q)),
+        Node::External(ids) => keep_choice(parts, ids).map(Entry::External),
+        Node::Internal(ids) => keep_choice(parts, ids).map(Entry::Internal),
         Node::EachExternal(slot, set, p) => {
-            keep_expr(parts, alloc, set).map(|set| Entry::EachExternal(slot, set, p))
+            keep_expr(parts, set).map(|set| Entry::EachExternal(slot, set, p))
         }
         Node::EachInternal(slot, set, p) => {
-            keep_expr(parts, alloc, set).map(|set| Entry::EachInternal(slot, set, p))
+            keep_expr(parts, set).map(|set| Entry::EachInternal(slot, set, p))
         }
-        Node::Hide(p, set) => keep_expr(parts, alloc, set).map(|set| Entry::Hide(p, set)),
+        Node::Hide(p, set) => keep_expr(parts, set).map(|set| Entry::Hide(p, set)),
         Node::Rename(p, pairs, gens) => {
-            let own = keep_renaming(parts, alloc, pairs, gens);
+            let own = keep_renaming(parts, pairs, gens);
             own.map(|(pairs, gens)| Entry::Rename(p, pairs, gens))
         }
         Node::Call(definition, args) => {
-            keep_arguments(parts, alloc, args).map(|args| Entry::Call(definition, args))
+            keep_arguments(parts, args).map(|args| Entry::Call(definition, args))
         }
         Node::Skip => Ok(Entry::Skip),
         Node::Seq(p, q) => Ok(Entry::Seq(p, q)),

@@ -27,13 +27,9 @@ pub struct Pool {
     nodes: Nodes,
 }
 
-// By hand, so that a crate that ends one calls this and proves no end of its own.
 impl Drop for Pool {
     fn drop(self) {
-        let Pool {
-            alloc: _alloc,
-            nodes: _nodes,
-        } = self;
+        let Pool { alloc, nodes } = self;
     }
 }
 
@@ -69,7 +65,7 @@ impl Pool {
         }
     }
 
-    /// How many processes there are.
+    /// How many processes there are. Its contract says how they stand in the pool.
     pub fn len(&self) -> usize
         ensures value { result ≡ length self.now }
         ensures different { AreDifferent self.now }
@@ -126,7 +122,7 @@ impl Pool {
         ensures err { OnErr result (self.new ≡ self.old) }
         ensures err_only_new { OnErr result (Has self.old (tree_of self.old node.entry) → ⊥) }
     {
-        put_in(&mut self.nodes, self.alloc, node)
+        put_in(&mut self.nodes, node)
     }
 
     /// The place of the process at `id` with the process at `below` in place of its first sub-process; where it has none, of the process itself.
@@ -136,7 +132,7 @@ impl Pool {
         requires below { below.0 < length self.old }
         ensures { Puts self.old self.new result (with_first (tree_at self.old id) (tree_at self.old below)) }
     {
-        put_first_in(&mut self.nodes, self.alloc, id, below)
+        put_first_in(&mut self.nodes, id, below)
     }
 
     /// The place of what the process at `id` becomes with the values in place of the names, where `ids` are the places of what its sub-processes become.
@@ -150,7 +146,7 @@ impl Pool {
         requires made { StandAt self.old ids.now (parts (proc_with (given_by values.now) (tree_at self.old id))) }
         ensures { Puts self.old self.new result (proc_with (given_by values.now) (tree_at self.old id)) }
     {
-        put_made_in(&mut self.nodes, self.alloc, id, ids, values)
+        put_made_in(&mut self.nodes, id, ids, values)
     }
 
     /// The place of the process, which is put into the pool with its sub-processes, each of them once. Where memory fails some of them are put.
@@ -160,8 +156,8 @@ impl Pool {
         ensures known { Has self.old proc.now → self.new ≡ self.old }
         ensures only { AddsParts self.old self.new proc.now }
     {
-        let alloc = self.alloc();
-        put_tree(self, alloc, proc)
+        let _ = self.len();
+        put_tree(self, proc)
     }
 
     /// The place of what the process at `id` is with the values in place of its free names. What isn't in the pool is put into it, with its
@@ -174,15 +170,13 @@ impl Pool {
         ensures known { Has self.old (proc_with (given_by values.now) (tree_at self.old id)) → self.new ≡ self.old }
         ensures only { AddsParts self.old self.new (proc_with (given_by values.now) (tree_at self.old id)) }
     {
-        let alloc = self.alloc();
-        let mut visited = HashMap::new(alloc);
-        substitute_at(self, &mut visited, alloc, &id, values)
+        let _ = self.len();
+        let mut visited = HashMap::new(self.alloc());
+        substitute_at(self, &mut visited, &id, values)
     }
 
-    // The allocator.
-    fn alloc(&self) -> Global
-        ensures parts { PartsStandBelow self.now }
-    {
+    /// Where memory comes from.
+    pub fn alloc(&self) -> Global {
         self.alloc
     }
 }

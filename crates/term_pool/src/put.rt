@@ -12,7 +12,6 @@ use containers::Items;
 use csp_base::NoMemory;
 use csp_program::Proc;
 use pool_parts::ProcId;
-use std::alloc::Global;
 
 // The node of the process whose sub-processes stand at the places.
 #[tactic(auto, using(csp_program::specs::declared::processes::Proc::the_lemmas))]
@@ -39,69 +38,69 @@ fn node_over<'a>(proc: &'a Proc, ids: &'a Items<ProcId>) -> Node<'a>
 
 /// The place of the process, which is put into the pool.
 #[cycle(put_tree)]
-pub(crate) fn put_tree(pool: &mut Pool, alloc: Global, proc: &Proc) -> Result<ProcId, NoMemory>
+pub(crate) fn put_tree(pool: &mut Pool, proc: &Proc) -> Result<ProcId, NoMemory>
     ensures process { IfOk result (λ id. slice_get pool.new id.0 ≡ Some proc.now) }
     ensures grows { Grows pool.old pool.new (proc.now ∷ []) }
 {
-    let ids = put_below(pool, alloc, proc)?;
+    let ids = put_below(pool, proc)?;
     pool.put_node(node_over(proc, &ids))
 }
 
 // The places of the sub-processes of the process, which are put into the pool.
 #[cycle(put_tree)]
 #[tactic(auto, using(csp_program::specs::declared::processes::Proc::the_lemmas))]
-fn put_below(pool: &mut Pool, alloc: Global, proc: &Proc) -> Result<Items<ProcId>, NoMemory>
+fn put_below(pool: &mut Pool, proc: &Proc) -> Result<Items<ProcId>, NoMemory>
     ensures places { IfOk result (λ ids. StandAt pool.new ids (layer_parts (out-Proc proc.now))) }
     ensures grows { Grows pool.old pool.new (layer_parts (out-Proc proc.now)) }
 {
     match proc {
-        Proc::Stop => Ok(Items::new(alloc)),
-        Proc::Prefix(_, _, p) => put_one(pool, alloc, p.get()),
-        Proc::Guard(_, p) => put_one(pool, alloc, p.get()),
-        Proc::If(_, p, q) => put_two(pool, alloc, p.get(), q.get()),
-        Proc::External(procs) => put_trees(pool, alloc, procs.as_slice()),
-        Proc::Internal(procs) => put_trees(pool, alloc, procs.as_slice()),
-        Proc::EachExternal(_, _, p) => put_one(pool, alloc, p.get()),
-        Proc::EachInternal(_, _, p) => put_one(pool, alloc, p.get()),
-        Proc::Hide(p, _) => put_one(pool, alloc, p.get()),
-        Proc::Rename(p, _, _) => put_one(pool, alloc, p.get()),
-        Proc::Call(_, _) => Ok(Items::new(alloc)),
-        Proc::Skip => Ok(Items::new(alloc)),
-        Proc::Seq(p, q) => put_two(pool, alloc, p.get(), q.get()),
-        Proc::Ended => Ok(Items::new(alloc)),
+        Proc::Stop => Ok(Items::new(pool.alloc())),
+        Proc::Prefix(_, _, p) => put_one(pool, p.get()),
+        Proc::Guard(_, p) => put_one(pool, p.get()),
+        Proc::If(_, p, q) => put_two(pool, p.get(), q.get()),
+        Proc::External(procs) => put_trees(pool, procs.as_slice()),
+        Proc::Internal(procs) => put_trees(pool, procs.as_slice()),
+        Proc::EachExternal(_, _, p) => put_one(pool, p.get()),
+        Proc::EachInternal(_, _, p) => put_one(pool, p.get()),
+        Proc::Hide(p, _) => put_one(pool, p.get()),
+        Proc::Rename(p, _, _) => put_one(pool, p.get()),
+        Proc::Call(_, _) => Ok(Items::new(pool.alloc())),
+        Proc::Skip => Ok(Items::new(pool.alloc())),
+        Proc::Seq(p, q) => put_two(pool, p.get(), q.get()),
+        Proc::Ended => Ok(Items::new(pool.alloc())),
     }
 }
 
 // The place of the process, which is put into the pool.
 #[cycle(put_tree)]
-fn put_one(pool: &mut Pool, alloc: Global, p: &Proc) -> Result<Items<ProcId>, NoMemory>
+fn put_one(pool: &mut Pool, p: &Proc) -> Result<Items<ProcId>, NoMemory>
     ensures places { IfOk result (λ ids. StandAt pool.new ids (p.now ∷ [])) }
     ensures grows { Grows pool.old pool.new (p.now ∷ []) }
 {
-    let p = put_tree(pool, alloc, p)?;
-    one(alloc, p)
+    let p = put_tree(pool, p)?;
+    one(pool.alloc(), p)
 }
 
 // The places of both processes, which are put into the pool.
 #[cycle(put_tree)]
-fn put_two(pool: &mut Pool, alloc: Global, p: &Proc, q: &Proc) -> Result<Items<ProcId>, NoMemory>
+fn put_two(pool: &mut Pool, p: &Proc, q: &Proc) -> Result<Items<ProcId>, NoMemory>
     ensures places { IfOk result (λ ids. StandAt pool.new ids (p.now ∷ q.now ∷ [])) }
     ensures grows { Grows pool.old pool.new (p.now ∷ q.now ∷ []) }
 {
-    let first = put_tree(pool, alloc, p)?;
-    let second = put_tree(pool, alloc, q)?;
-    two(alloc, first, second)
+    let first = put_tree(pool, p)?;
+    let second = put_tree(pool, q)?;
+    two(pool.alloc(), first, second)
 }
 
 // The places of the processes, which are put into the pool.
 #[cycle(put_tree)]
-fn put_trees(pool: &mut Pool, alloc: Global, procs: &[Proc]) -> Result<Items<ProcId>, NoMemory>
+fn put_trees(pool: &mut Pool, procs: &[Proc]) -> Result<Items<ProcId>, NoMemory>
     ensures places { IfOk result (λ ids. StandAt pool.new ids procs.now) }
     ensures grows { Grows pool.old pool.new procs.now }
 {
-    let mut ids = Items::new(alloc);
+    let mut ids = Items::new(pool.alloc());
     for proc in procs {
-        ids.push_made(put_tree(pool, alloc, proc))?;
+        ids.push_made(put_tree(pool, proc))?;
     }
     Ok(ids)
 }

@@ -10,12 +10,11 @@ use crate::under::{left_at, places_of};
 use containers::Items;
 use csp_base::NoMemory;
 use pool_parts::ProcId;
-use std::alloc::Global;
 use std::collections::HashMap;
 use substitution::Values;
 
 // What a place became, if it has been visited.
-fn known(visited: &HashMap<usize, ProcId>, id: &ProcId) -> Option<ProcId>
+fn find_visited(visited: &HashMap<usize, ProcId>, id: &ProcId) -> Option<ProcId>
     ensures { result ≡ get nat_eq visited.now id.now.0 }
 {
     visited.get(&id.0).copied()
@@ -45,7 +44,6 @@ fn stays(pool: &Pool, id: ProcId, values: &Values<'_>) -> bool
 pub(crate) fn substitute_at(
     pool: &mut Pool,
     visited: &mut HashMap<usize, ProcId>,
-    alloc: Global,
     id: &ProcId,
     values: &Values<'_>,
 ) -> Result<ProcId, NoMemory>
@@ -59,10 +57,10 @@ pub(crate) fn substitute_at(
     if stays(pool, *id, values) {
         return Ok(*id);
     }
-    if let Some(made) = known(visited, id) {
+    if let Some(made) = find_visited(visited, id) {
         return Ok(made);
     }
-    let made = put_layer(pool, visited, alloc, *id, values)?;
+    let made = put_layer(pool, visited, *id, values)?;
     remember(visited, *id, made)?;
     Ok(made)
 }
@@ -72,7 +70,6 @@ pub(crate) fn substitute_at(
 fn put_layer(
     pool: &mut Pool,
     visited: &mut HashMap<usize, ProcId>,
-    alloc: Global,
     id: ProcId,
     values: &Values<'_>,
 ) -> Result<ProcId, NoMemory>
@@ -83,7 +80,7 @@ fn put_layer(
     ensures grows { Grows pool.old pool.new (proc_with (given_by values.now) (tree_at pool.old id) ∷ []) }
     ensures visited { AreMade (given_by values.now) pool.new visited.new }
 {
-    let ids = put_below(pool, visited, alloc, id, values)?;
+    let ids = put_below(pool, visited, id, values)?;
     pool.put_made(id, &ids, values)
 }
 
@@ -92,7 +89,6 @@ fn put_layer(
 fn put_below(
     pool: &mut Pool,
     visited: &mut HashMap<usize, ProcId>,
-    alloc: Global,
     id: ProcId,
     values: &Values<'_>,
 ) -> Result<Items<ProcId>, NoMemory>
@@ -104,10 +100,10 @@ fn put_below(
     ensures visited { AreMade (given_by values.now) pool.new visited.new }
 {
     let node = pool.node(id);
-    let ids = places_of(alloc, node)?;
-    match left_at(alloc, node, values)? {
-        None => put_all(pool, visited, alloc, id, ids.as_slice(), values),
-        Some(left) => put_anew(pool, alloc, id, ids.as_slice(), &left),
+    let ids = places_of(values.alloc(), node)?;
+    match left_at(node, values)? {
+        None => put_all(pool, visited, id, ids.as_slice(), values),
+        Some(left) => put_anew(pool, id, ids.as_slice(), &left),
     }
 }
 
@@ -115,7 +111,6 @@ fn put_below(
 #[cycle(substitute_at)]
 fn put_anew(
     pool: &mut Pool,
-    alloc: Global,
     id: ProcId,
     ids: &[ProcId],
     values: &Values<'_>,
@@ -125,8 +120,8 @@ fn put_anew(
     ensures places { IfOk result (λ made. StandAt pool.new made (all_with (given_by values.now) pool.old ids.now)) }
     ensures grows { Grows pool.old pool.new (all_with (given_by values.now) pool.old ids.now) }
 {
-    let mut visited = HashMap::new(alloc);
-    put_all(pool, &mut visited, alloc, id, ids, values)
+    let mut visited = HashMap::new(values.alloc());
+    put_all(pool, &mut visited, id, ids, values)
 }
 
 // What becomes of the places, which are smaller than `id`.
@@ -134,7 +129,6 @@ fn put_anew(
 fn put_all(
     pool: &mut Pool,
     visited: &mut HashMap<usize, ProcId>,
-    alloc: Global,
     id: ProcId,
     ids: &[ProcId],
     values: &Values<'_>,
@@ -146,9 +140,9 @@ fn put_all(
     ensures grows { Grows pool.old pool.new (all_with (given_by values.now) pool.old ids.now) }
     ensures visited { AreMade (given_by values.now) pool.new visited.new }
 {
-    let mut made = Items::new(alloc);
+    let mut made = Items::new(values.alloc());
     for p in ids {
-        made.push_made(substitute_at(pool, visited, alloc, p, values))?;
+        made.push_made(substitute_at(pool, visited, p, values))?;
     }
     Ok(made)
 }

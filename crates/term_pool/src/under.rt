@@ -30,7 +30,7 @@ pub(crate) fn two(alloc: Global, p: ProcId, q: ProcId) -> Result<Items<ProcId>, 
     Ok(ids)
 }
 
-fn copied(alloc: Global, ids: &Items<ProcId>) -> Result<Items<ProcId>, NoMemory>
+fn copy_places(alloc: Global, ids: &Items<ProcId>) -> Result<Items<ProcId>, NoMemory>
     ensures { IfOk result (λ copy. copy ≡ ids.now) }
 {
     Ok(Items::from_slice(alloc, ids.as_slice())?)
@@ -45,8 +45,8 @@ pub(crate) fn places_of(alloc: Global, node: Node<'_>) -> Result<Items<ProcId>, 
         Node::Prefix(_, _, p) => one(alloc, p),
         Node::Guard(_, p) => one(alloc, p),
         Node::If(_, p, q) => two(alloc, p, q),
-        Node::External(ids) => copied(alloc, ids),
-        Node::Internal(ids) => copied(alloc, ids),
+        Node::External(ids) => copy_places(alloc, ids),
+        Node::Internal(ids) => copy_places(alloc, ids),
         Node::EachExternal(_, _, p) => one(alloc, p),
         Node::EachInternal(_, _, p) => one(alloc, p),
         Node::Hide(p, _) => one(alloc, p),
@@ -104,7 +104,6 @@ fn pass_node(node: Node<'_>, values: &mut Values<'_>) -> Result<(), NoMemory>
 
 /// The values that are left below the node; `None` where it binds none of the names.
 pub(crate) fn left_at<'a>(
-    alloc: Global,
     node: Node<'_>,
     values: &Values<'a>,
 ) -> Result<Option<Values<'a>>, NoMemory>
@@ -113,7 +112,7 @@ pub(crate) fn left_at<'a>(
     if !binds_one(node, values) {
         return Ok(None);
     }
-    let mut left = values.copy(alloc)?;
+    let mut left = values.copy()?;
     pass_node(node, &mut left)?;
     Ok(Some(left))
 }

@@ -1,7 +1,5 @@
 -- Walks over the digraph of the silent steps are runs of silent steps.
-use Rattle.term_sets.proofs.Prelude.{◌≡◌, ◌↔◌, ℕ, zero, suc, List, [], ◌∷◌, subst, Label, silent, visible, Path, After, visible_events, RawTable, RawStep, Digraph, HasArc, Walk, Reaches, ReachesFrom, IsSilentlyReached}
-use Rattle.tau_order.specs.SilentRows.{AreSilentRows}
-use Rattle.tau_order.proofs.SilentWalks.{step_of, arc_of}
+use Rattle.term_sets.proofs.Prelude.{◌≡◌, ◌↔◌, ℕ, zero, suc, List, [], ◌∷◌, subst, Label, silent, visible, Path, After, visible_events, RawTable, RawStep, Digraph, HasArc, Walk, Reaches, ReachesFrom, IsSilentlyReached, AreSilentRows, step_of, arc_of}
 use Rattle.term_sets.proofs.Traces.{After-none, After-silent, After-append}
 
 module _ (raw : RawTable) (g : Digraph) (rows : AreSilentRows raw g) where

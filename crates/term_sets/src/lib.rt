@@ -2,7 +2,7 @@
 //! sorted out once.
 #![tactic(auto)]
 
-mod closed;
+mod closure;
 mod order;
 mod prepared;
 mod rows;

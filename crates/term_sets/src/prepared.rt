@@ -8,7 +8,7 @@ ghost use Rattle.term_sets.specs.Marks.{IsUnmarked};
 ghost use Rattle.term_sets.specs.Moves.{AreMoveRows, AreMovesOf, IsSilentlyReached};
 ghost use Rattle.term_sets.specs.TermSets.{AreMinimalOffers, IsSetAfter, IsTermSet};
 
-use crate::closed::closed_from;
+use crate::closure::closure_from;
 use crate::order::in_order;
 use crate::rows::{move_rows, moves_of};
 use acceptances::Offers;
@@ -64,7 +64,7 @@ impl<'a> Prepared<'a> {
     }
 
     /// The terms to which silent steps lead from one of the starts, in rising order. No term is marked before, and none after.
-    pub fn closed(
+    pub fn silent_closure(
         &self,
         alloc: Global,
         starts: &[u32],
@@ -76,7 +76,7 @@ impl<'a> Prepared<'a> {
         ensures form { IfOk result (λ set. IsTermSet self.now set) }
         ensures unmarked { OnOk result (IsUnmarked self.now.count marks.new.items) }
     {
-        let terms = closed_from(alloc, &self.silent, starts, marks)?;
+        let terms = closure_from(alloc, &self.silent, starts, marks)?;
         Ok(Items::from_vec(terms))
     }
 
@@ -86,7 +86,7 @@ impl<'a> Prepared<'a> {
         ensures form { IfOk result (λ set. IsTermSet self.now set) }
     {
         let mut marks = self.no_marks(alloc)?;
-        let terms = closed_from(alloc, &self.silent, &[0], &mut marks)?;
+        let terms = closure_from(alloc, &self.silent, &[0], &mut marks)?;
         Ok(Items::from_vec(terms))
     }
 

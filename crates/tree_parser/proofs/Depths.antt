@@ -1,20 +1,7 @@
 -- The depths of lists, of pairs and of fields.
-use Rattle.std.proofs.Common.{◌≡◌, ℕ, ◌+◌, max, Option, Some, None, List, [], ◌∷◌, ◌++◌, map, refl, sym, ap, subst, ◌∙◌, arith}
-use Rattle.csp_base.specs.Lists.{greatest}
-use Rattle.csp_text.specs.Prelude.{capped, event_depth, event_layer_depth, field_depth, field_layer_depth, gen_depth, gen_layer_depth, greatest_of_pairs, part_depth, part_layer_depth, tree_depth, tree_layer_depth}
-use Rattle.csp_text.specs.declared.tree.EventTree.{EventTree}
-use Rattle.csp_text.specs.declared.tree.FieldTree.{FieldTree}
-use Rattle.csp_text.specs.declared.tree.FieldTree.TheFolds.{map-FieldTree, fold_out-FieldTree}
-use Rattle.csp_text.specs.declared.tree.FieldTree.TheOpen.{FieldTree-F}
-use Rattle.csp_text.specs.declared.tree.FieldTree.TheViews.{out-FieldTree}
-use Rattle.csp_text.specs.declared.tree.GenTree.{GenTree}
-use Rattle.csp_text.specs.declared.tree.PartTree.{PartTree}
-use Rattle.csp_text.specs.declared.tree.Tree.{Tree}
+use Rattle.tree_parser.proofs.Prelude.{◌≡◌, ℕ, ◌+◌, max, Option, Some, None, List, [], ◌∷◌, ◌++◌, map, refl, sym, ap, subst, ◌∙◌, arith, greatest, capped, event_depth, event_layer_depth, field_depth, field_layer_depth, gen_depth, gen_layer_depth, greatest_of_pairs, part_depth, part_layer_depth, tree_depth, tree_layer_depth, EventTree, FieldTree, map-FieldTree, fold_out-FieldTree, FieldTree-F, out-FieldTree, GenTree, PartTree, Tree, event_tree, and_then, with_first, depth-event, of_field, of_tree, dot_field, dot_fields, layer_dot}
 use Rattle.csp_text.specs.declared.tree.FieldTree.TheVariants as field
 use Rattle.csp_text.specs.declared.tree.Tree.TheVariants as tree
-use Rattle.csp_grammar.specs.Prelude.{event_tree, and_then, with_first}
-use Rattle.tree_reading.proofs.NodeDepths.{depth-event, of_field, of_tree}
-use Rattle.tree_reading.specs.Starts.{dot_field, dot_fields, layer_dot}
 
 -- the greatest depth of pairs is that of their parts
 pub of_pairs : (pairs : List (PartTree × PartTree)) → greatest (map (λ pair. max (part_depth pair.0) (part_depth pair.1)) pairs) ≡ greatest_of_pairs (map (λ pair. (part_depth pair.0, part_depth pair.1)) pairs)

@@ -1,4 +1,5 @@
 pub mod Counted
 pub mod Depths
 pub mod ListSteps
+pub mod Prelude
 pub mod SoFar

@@ -1,20 +1,8 @@
 -- Lists, one item after another.
-use Rattle.std.proofs.Common.{◌≡◌, ℕ, suc, Bool, true, false, if◌then◌else◌, ◌+◌, ◌*◌, ◌-◌, ◌<◌, ◌≤◌, Option, Some, None, List, [], ◌∷◌, ◌++◌, length, Ok, Err, refl, sym, ap, subst, ◌∙◌, append_assoc, arith}
-use Rattle.std.specs.Prelude.{Result}
-use Rattle.csp_text.specs.declared.token.Symbol.{Symbol}
-use Rattle.csp_text.specs.declared.token.Token.{Token}
-use Rattle.csp_text.specs.declared.tree.FieldTree.{FieldTree}
-use Rattle.csp_text.specs.declared.tree.Tree.{Tree}
+use Rattle.tree_parser.proofs.Prelude.{◌≡◌, ℕ, suc, Bool, true, false, if◌then◌else◌, ◌+◌, ◌*◌, ◌-◌, ◌<◌, ◌≤◌, Option, Some, None, List, [], ◌∷◌, ◌++◌, length, Ok, Err, refl, sym, ap, subst, ◌∙◌, append_assoc, arith, Result, Stop, Symbol, Token, FieldTree, Tree, Reading, and_then, case, skip, Found, at_least, last_item, of_process, sure, chain_symbol, Limited, limited, next_limited, read_field, NoText, Limits, Chain, Binding, Reads, read_operand}
+use Rattle.csp_base.specs.declared.stop.Stop.TheVariants as stop
 use Rattle.csp_text.specs.declared.token.Symbol.TheVariants as symbol
-use Rattle.csp_grammar.specs.Prelude.{Reading, and_then, case, skip}
-use Rattle.tree_reading.specs.Prelude.{Found, at_least, last_item, of_process, sure, chain_symbol, Limited, limited, next_limited, read_field}
-use Rattle.tree_reading.specs.declared.fault.ReadFault.{ReadFault}
-use Rattle.tree_reading.specs.declared.limits.Limits.{Limits}
-use Rattle.tree_reading.specs.declared.look.Chain.{Chain}
-use Rattle.tree_reading.specs.declared.read.Binding.{Binding}
-use Rattle.tree_reading.specs.declared.fault.ReadFault.TheVariants as fault
 use Rattle.tree_reading.specs.declared.read.Binding.TheVariants as binding
-use Rattle.tree_parser.specs.Reads.{Reads, read_operand}
 use Rattle.tree_parser.proofs.Counted.{counted}
 use Rattle.tree_parser.proofs.SoFar.{ChoicesSoFar, Comes, SoFar, ItemsSoFar, behind, behind_choices, behind_items}
 
@@ -68,10 +56,10 @@ module _ {A : Type 0} (sign : Symbol) (one : Limited → List Token → Reading 
       ap (λ x. listed sign x (list (limited f))) (c f le) ∙ ap (λ x. case x (λ ws. behind (a ∷ []) (list (limited f) ws)) (λ _. Some (a ∷ [], us))) is) low) g lg
       ∙ ap (λ d. Some (d, us)) (sym e)
 
-  pub item_missing : {B C : Type 0} {n p m : ℕ} {F : Limited → Reading (List A)} {done : List A} {ts : List Token} (seen : B → A × List Token) (shown : C → List A × List Token) (r : ReadFault) →
+  pub item_missing : {B C : Type 0} {n p m : ℕ} {F : Limited → Reading (List A)} {done : List A} {ts : List Token} (seen : B → A × List Token) (shown : C → List A × List Token) (r : Stop NoText) →
       SoFar n F done m (λ L. list L ts) → Reads (Err r) seen p (λ L. one L ts) → suc p ≤ m → Reads (Err r) shown n F
-  item_missing seen shown fault.NoMemory s c low = λ g lg. tt
-  item_missing {n = n} {p = p} {m = m} {ts = ts} seen shown (fault.NoText left) s c low = s.goes_on None (stepped ts p m None (λ f le. ap (λ x. listed sign x (list (limited f))) (c f le)) low)
+  item_missing seen shown stop.NoMemory s c low = λ g lg. tt
+  item_missing {n = n} {p = p} {m = m} {ts = ts} seen shown (stop.Told none) s c low = s.goes_on None (stepped ts p m None (λ f le. ap (λ x. listed sign x (list (limited f))) (c f le)) low)
 
 -- FIELDS WITH A DOT BEFORE EACH
 
@@ -94,10 +82,10 @@ no_dot {n} {m} {F} {done} {l} {ts} s is some = λ g lg.
     ap (λ x. case x (λ ws. and_then ((limited f).expression l binding.Sum ws) λ q. behind (q.1 ∷ []) ((limited f).dots l q.2)) (λ _. Some ([], ts))) is) some) g lg
     ∙ ap (λ d. Some (d, ts)) (no_more done)
 
-pub dot_fails : {B C : Type 0} {n p m : ℕ} {F : Limited → Reading (List Tree)} {done : List Tree} {l : Limits} {ts us : List Token} (seen : B → Binding × Tree × List Token) (shown : C → List Tree × List Token) (r : ReadFault) →
+pub dot_fails : {B C : Type 0} {n p m : ℕ} {F : Limited → Reading (List Tree)} {done : List Tree} {l : Limits} {ts us : List Token} (seen : B → Binding × Tree × List Token) (shown : C → List Tree × List Token) (r : Stop NoText) →
     SoFar n F done m (λ L. L.dots l ts) → skip symbol.Dot ts ≡ Some us → Reads (Err r) seen p (λ L. L.expression l binding.Sum us) → suc p ≤ m → Reads (Err r) shown n F
-dot_fails seen shown fault.NoMemory s is c low = λ g lg. tt
-dot_fails {p = p} {m = m} {l = l} {ts = ts} seen shown (fault.NoText left) s is c low = s.goes_on None (later (λ L. L.dots l ts) p m None (λ f le.
+dot_fails seen shown stop.NoMemory s is c low = λ g lg. tt
+dot_fails {p = p} {m = m} {l = l} {ts = ts} seen shown (stop.Told none) s is c low = s.goes_on None (later (λ L. L.dots l ts) p m None (λ f le.
     ap (λ x. case x (λ ws. and_then ((limited f).expression l binding.Sum ws) λ q. behind (q.1 ∷ []) ((limited f).dots l q.2)) (λ _. Some ([], ts))) is
     ∙ ap (λ x. and_then x λ q. behind (q.1 ∷ []) ((limited f).dots l q.2)) (c f le)) low)
 
@@ -143,10 +131,10 @@ module _ (one : Limited → List Token → Found Tree) (l : Limits) (unfolds : (
       ap (λ x. items_behind x ((limited f).items l)) (c f le) ∙ ap (λ x. case x (λ ws. behind_items (a ∷ []) ((limited f).items l ws)) (λ _. Some (b, a ∷ [], us))) is) low) g lg
       ∙ ap (λ d. Some (last_item done b, d, us)) (sym e) ∙ ap (λ x. Some (x, new, us)) (sym kb)
 
-  pub items_stop : {B C : Type 0} {n p m : ℕ} {F : Limited → Found (List Tree)} {done : List Tree} {ts : List Token} (seen : B → Binding × Tree × List Token) (shown : C → Binding × List Tree × List Token) (r : ReadFault) →
+  pub items_stop : {B C : Type 0} {n p m : ℕ} {F : Limited → Found (List Tree)} {done : List Tree} {ts : List Token} (seen : B → Binding × Tree × List Token) (shown : C → Binding × List Tree × List Token) (r : Stop NoText) →
       ItemsSoFar n F done m (λ L. L.items l ts) → Reads (Err r) seen p (λ L. one L ts) → suc p ≤ m → Reads (Err r) shown n F
-  items_stop seen shown fault.NoMemory s c low = λ g lg. tt
-  items_stop {n = n} {p = p} {m = m} {ts = ts} seen shown (fault.NoText left) s c low = s.goes_on None (items_stepped ts p m None (λ f le. ap (λ x. items_behind x ((limited f).items l)) (c f le)) low)
+  items_stop seen shown stop.NoMemory s c low = λ g lg. tt
+  items_stop {n = n} {p = p} {m = m} {ts = ts} seen shown (stop.Told none) s c low = s.goes_on None (items_stepped ts p m None (λ f le. ap (λ x. items_behind x ((limited f).items l)) (c f le)) low)
 
 -- FIELDS OF AN EVENT
 
@@ -165,10 +153,10 @@ no_field {n} {p} {m} {F} {done} {d} {l} {ts} {x} s c there low = λ g lg.
     ap (λ x. and_then x λ o. case o (λ q. behind (q.0 ∷ []) ((limited f).fields l q.1 q.2)) (λ _. Some ([], ts))) (c f le ∙ ap (λ y. Some y) there)) low) g lg
     ∙ ap (λ x. Some (x, ts)) (no_more done)
 
-pub field_fails : {B C : Type 0} {n p m : ℕ} {F : Limited → Reading (List FieldTree)} {done : List FieldTree} {d : Bool} {l : Limits} {ts : List Token} (seen : B → Option (FieldTree × Bool × List Token)) (shown : C → List FieldTree × List Token) (r : ReadFault) →
+pub field_fails : {B C : Type 0} {n p m : ℕ} {F : Limited → Reading (List FieldTree)} {done : List FieldTree} {d : Bool} {l : Limits} {ts : List Token} (seen : B → Option (FieldTree × Bool × List Token)) (shown : C → List FieldTree × List Token) (r : Stop NoText) →
     SoFar n F done m (λ L. L.fields l d ts) → Reads (Err r) seen p (λ L. read_field L l d ts) → suc p ≤ m → Reads (Err r) shown n F
-field_fails seen shown fault.NoMemory s c low = λ g lg. tt
-field_fails {p = p} {m = m} {d = d} {l = l} {ts = ts} seen shown (fault.NoText left) s c low = s.goes_on None (later (λ L. L.fields l d ts) p m None (λ f le.
+field_fails seen shown stop.NoMemory s c low = λ g lg. tt
+field_fails {p = p} {m = m} {d = d} {l = l} {ts = ts} seen shown (stop.Told none) s c low = s.goes_on None (later (λ L. L.fields l d ts) p m None (λ f le.
     ap (λ x. and_then x λ o. case o (λ q. behind (q.0 ∷ []) ((limited f).fields l q.1 q.2)) (λ _. Some ([], ts))) (c f le)) low)
 
 -- OPERANDS OF A CHOICE
@@ -228,7 +216,7 @@ chosen_last {n} {p} {m} {F} {done} {new} {b} {a} {l} {chain} {ts} {vs} {y} s e c
     s.goes_on (Some (b, a ∷ [], vs)) (choices_stepped l chain ts p m (Some (b, a ∷ [], vs)) (λ f le. ap (choices_behind ((limited f).choices l chain)) (c f le ∙ ap (λ z. Some (b, a, z, vs)) is)) low) g lg
     ∙ ap (λ d. Some (b, d, vs)) (sym e)
 
-pub choice_fails : {B C : Type 0} {n p m : ℕ} {F : Limited → Found (List Tree)} {done : List Tree} {l : Limits} {chain : Chain} {ts : List Token} (seen : B → Binding × Tree × Bool × List Token) (shown : C → Binding × List Tree × List Token) (r : ReadFault) →
+pub choice_fails : {B C : Type 0} {n p m : ℕ} {F : Limited → Found (List Tree)} {done : List Tree} {l : Limits} {chain : Chain} {ts : List Token} (seen : B → Binding × Tree × Bool × List Token) (shown : C → Binding × List Tree × List Token) (r : Stop NoText) →
     ChoicesSoFar n F done m (λ L. L.choices l chain ts) → Reads (Err r) seen p (λ L. read_operand L l chain ts) → suc p ≤ m → Reads (Err r) shown n F
-choice_fails seen shown fault.NoMemory s c low = λ g lg. tt
-choice_fails {p = p} {m = m} {l = l} {chain = chain} {ts = ts} seen shown (fault.NoText left) s c low = s.goes_on None (choices_stepped l chain ts p m None (λ f le. ap (choices_behind ((limited f).choices l chain)) (c f le)) low)
+choice_fails seen shown stop.NoMemory s c low = λ g lg. tt
+choice_fails {p = p} {m = m} {l = l} {chain = chain} {ts = ts} seen shown (stop.Told none) s c low = s.goes_on None (choices_stepped l chain ts p m None (λ f le. ap (choices_behind ((limited f).choices l chain)) (c f le)) low)

@@ -15,7 +15,7 @@ use std::alloc::Global;
 use tree_reading::deep::Deep;
 use tree_reading::limits::Limits;
 use tree_reading::look::{AtomStart, atom_start, expect, skip};
-use tree_reading::read::{Binding, Read};
+use tree_reading::read::{Binding, BoundRead, Read};
 
 // A leaf, which is read.
 fn leaf(alloc: Global, limits: Limits, tree: Deep<Tree>, tokens: &[Token]) -> TreeReading<'_>
@@ -56,19 +56,18 @@ fn set_operator(alloc: Global, limits: Limits, op: SetOp, tokens: &[Token]) -> T
 
 // The upper bound of a range, behind the lower one.
 #[cycle(reading)]
-fn range(
+fn range<'t>(
     alloc: Global,
     limits: Limits,
-    binding: Binding,
-    items: Trees,
-    tokens: &[Token],
-) -> TreeReading<'_>
+    lower: BoundRead<'t, Trees>,
+    tokens: &'t [Token],
+) -> TreeReading<'t>
     ensures reads { Reads result part_read (8 * length tokens.now + 2)
-        (λ L. read_range L limits binding items tokens.now) }
+        (λ L. read_range L limits lower.entry.binding lower.entry.part tokens.now) }
     ensures shorter { IfOk result (λ r. length r.rest.now < length tokens.now) }
 {
-    binding.expect(Binding::Sum, tokens)?;
-    let lower = expect_only(alloc, items, tokens)?;
+    lower.binding.expect(Binding::Sum, tokens)?;
+    let lower = expect_only(alloc, lower.part, tokens)?;
     let upper = expression(alloc, limits, Binding::Sum, tokens)?;
     let rest = expect(upper.rest, Symbol::CloseBrace)?;
     let part = nodes::range(alloc, lower, upper.part)?;
@@ -90,13 +89,13 @@ fn comprehension(alloc: Global, limits: Limits, items: Trees, tokens: &[Token]) 
 
 // What stands behind the brace of a set with items.
 #[cycle(reading)]
-fn filled(alloc: Global, limits: Limits, tokens: &[Token]) -> TreeReading<'_>
+fn set_rest(alloc: Global, limits: Limits, tokens: &[Token]) -> TreeReading<'_>
     ensures reads { Reads result part_read (8 * length tokens.now + 3) (λ L. read_filled L limits tokens.now) }
     ensures shorter { IfOk result (λ r. length r.rest.now < length tokens.now) }
 {
     let found = items(alloc, limits, tokens)?;
     if let Some(behind) = skip(found.rest, Symbol::DotDot) {
-        return range(alloc, limits, found.binding, found.part, behind);
+        return range(alloc, limits, found, behind);
     }
     if let Some(behind) = skip(found.rest, Symbol::Bar) {
         return comprehension(alloc, limits, found.part, behind);
@@ -117,7 +116,7 @@ fn set(alloc: Global, limits: Limits, tokens: &[Token]) -> TreeReading<'_>
             let part = nodes::display(alloc, Deep::none(alloc))?;
             Ok(Read { part, rest })
         }
-        None => filled(alloc, limits, tokens),
+        None => set_rest(alloc, limits, tokens),
     }
 }
 
@@ -155,23 +154,23 @@ fn atom_rest(alloc: Global, limits: Limits, start: AtomStart, tokens: &[Token]) 
     match start {
         AtomStart::Leaf(tree) => leaf(alloc, limits, tree, tokens),
         AtomStart::Call(name) => {
-            let inner = limits.opened(tokens)?;
+            let inner = limits.inside_bracket(tokens)?;
             call(alloc, inner, name, tokens)
         }
         AtomStart::SetOperator(op) => {
-            let inner = limits.opened(tokens)?;
+            let inner = limits.inside_bracket(tokens)?;
             set_operator(alloc, inner, op, tokens)
         }
         AtomStart::Parentheses => {
-            let inner = limits.bracketed(tokens)?;
+            let inner = limits.open_bracket(tokens)?;
             parentheses(alloc, inner, tokens)
         }
         AtomStart::Set => {
-            let inner = limits.opened(tokens)?;
+            let inner = limits.inside_bracket(tokens)?;
             set(alloc, inner, tokens)
         }
         AtomStart::Product => {
-            let inner = limits.opened(tokens)?;
+            let inner = limits.inside_bracket(tokens)?;
             product(alloc, inner, tokens)
         }
     }

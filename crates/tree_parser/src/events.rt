@@ -7,16 +7,15 @@ ghost use Rattle.tree_parser.specs.Reads.{Reads, bound_read, field_read, next_fi
 use crate::atoms::atom;
 use crate::expected::expect_dotted;
 use crate::expressions::expression;
-use crate::nodes::{self, BoundTree, Fields};
+use crate::nodes::{self, BoundTree, Event, Fields};
 use crate::processes::prefix;
-use csp_base::Name;
 use csp_text::{FieldTree, Symbol, Token};
 use std::alloc::Global;
 use tree_reading::deep::Deep;
-use tree_reading::fault::{ReadFault, expect_true};
+use tree_reading::fault::{OrNoText, expect_true};
 use tree_reading::limits::Limits;
 use tree_reading::look::{expect_name, skip};
-use tree_reading::read::{Binding, BoundRead, Read, Reading};
+use tree_reading::read::{Binding, Read, Reading};
 
 // An input behind `?`.
 #[cycle(reading)]
@@ -47,7 +46,7 @@ fn field(
     limits: Limits,
     dot: bool,
     tokens: &[Token],
-) -> Result<Option<Read<'_, (Deep<FieldTree>, bool)>>, ReadFault>
+) -> OrNoText<Option<Read<'_, (Deep<FieldTree>, bool)>>>
     ensures reads { Reads result next_field (8 * length tokens.now) (λ L. read_field L limits dot tokens.now) }
     ensures shorter { IfOk result (λ o. IfSome o (λ r. length r.rest.now < length tokens.now)) }
 {
@@ -103,25 +102,16 @@ fn fields(alloc: Global, limits: Limits, dot: bool, tokens: &[Token]) -> Reading
 
 // An event with what stands behind its arrow.
 #[cycle(reading)]
-fn prefixed(
-    alloc: Global,
-    limits: Limits,
-    name: Name,
-    fields: Fields,
-    tokens: &[Token],
-) -> BoundTree<'_>
+fn event_rest(alloc: Global, limits: Limits, event: Event, tokens: &[Token]) -> BoundTree<'_>
     ensures reads { Reads result bound_read (8 * length tokens.now + 3)
-        (λ L. read_prefixed L limits name fields tokens.now) }
+        (λ L. read_prefixed L limits event.name event.fields tokens.now) }
     ensures shorter { IfOk result (λ r. length r.rest.now < length tokens.now) }
 {
     let process = prefix(alloc, limits, tokens)?;
     process.binding.expect(Binding::Open, process.rest)?;
-    let part = nodes::prefix(alloc, name, fields, process.part)?;
-    Ok(BoundRead {
-        binding: process.binding.of_process(),
-        part,
-        rest: process.rest,
-    })
+    let part = nodes::prefix(alloc, event, process.part)?;
+    let rest = process.rest;
+    Ok(Read { part, rest }.bind(process.binding.of_process()))
 }
 
 // An event of a prefix, or a dotted event.
@@ -133,13 +123,11 @@ pub(crate) fn event(alloc: Global, limits: Limits, tokens: &[Token]) -> BoundTre
     let inner = limits.inside(tokens)?;
     let (name, rest) = expect_name(alloc, tokens)?;
     let found = fields(alloc, inner, true, rest)?;
-    if let Some(behind) = skip(found.rest, Symbol::Arrow) {
-        return prefixed(alloc, inner, name, found.part, behind);
+    let rest = found.rest;
+    let fields = found.part;
+    if let Some(behind) = skip(rest, Symbol::Arrow) {
+        return event_rest(alloc, inner, Event { name, fields }, behind);
     }
-    let part = expect_dotted(alloc, name, found.part, found.rest)?;
-    Ok(BoundRead {
-        binding: Binding::Dotted,
-        part,
-        rest: found.rest,
-    })
+    let part = expect_dotted(alloc, name, fields, rest)?;
+    Ok(Read { part, rest }.bind(Binding::Dotted))
 }

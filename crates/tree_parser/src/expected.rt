@@ -11,20 +11,20 @@ use csp_base::Name;
 use csp_text::{FieldTree, Token, Tree};
 use std::alloc::Global;
 use tree_reading::deep::{Deep, DeepTree};
-use tree_reading::fault::{ReadFault, stopped};
+use tree_reading::fault::{OrNoText, no_text};
 
 // A tree of which something is expected.
-type Expected = Result<DeepTree, ReadFault>;
+type Expected = OrNoText<DeepTree>;
 
 // The dotted event of a name and its fields, of which there has to be one.
 pub(crate) fn expect_fields(alloc: Global, name: Name, fields: Trees, tokens: &[Token]) -> Expected
     ensures { Gives result (λ t. t) (dotted_tree name fields) }
 {
     if fields.get().is_empty() {
-        return Err(stopped(tokens));
+        return Err(no_text(tokens));
     }
-    let dotted = nodes::dotted(alloc, name, fields)?;
-    Ok(dotted)
+    let event = nodes::dotted_event(alloc, name, fields)?;
+    Ok(event)
 }
 
 // The one item that there is.
@@ -46,9 +46,9 @@ pub(crate) fn expect_only(alloc: Global, items: Trees, tokens: &[Token]) -> Expe
         Some(last) if items.is_empty() => alone(alloc, last, depth),
         Some(last) => {
             drop(last);
-            Err(stopped(tokens))
+            Err(no_text(tokens))
         }
-        None => Err(stopped(tokens)),
+        None => Err(no_text(tokens)),
     }
 }
 
@@ -70,7 +70,7 @@ fn to_dot(field: FieldTree) -> Option<Tree>
 }
 
 // Adds the tree of a field, which has to have a dot.
-fn push_dot(trees: &mut Items<Tree>, field: FieldTree, tokens: &[Token]) -> Result<(), ReadFault>
+fn push_dot(trees: &mut Items<Tree>, field: FieldTree, tokens: &[Token]) -> OrNoText<()>
     ensures { Gives result (λ _. trees.new) (and_then (dot_field field) λ a. Some (trees.old ++ a ∷ [])) }
 {
     match to_dot(field) {
@@ -78,16 +78,12 @@ fn push_dot(trees: &mut Items<Tree>, field: FieldTree, tokens: &[Token]) -> Resu
             trees.push(tree)?;
             Ok(())
         }
-        None => Err(stopped(tokens)),
+        None => Err(no_text(tokens)),
     }
 }
 
 // The trees of fields that all have a dot.
-fn expect_dots(
-    alloc: Global,
-    fields: Items<FieldTree>,
-    tokens: &[Token],
-) -> Result<Items<Tree>, ReadFault>
+fn expect_dots(alloc: Global, fields: Items<FieldTree>, tokens: &[Token]) -> OrNoText<Items<Tree>>
     ensures { Gives result (λ trees. trees) (dot_fields fields) }
 {
     let mut trees = Items::new(alloc);

@@ -24,14 +24,13 @@ fn complement(alloc: Global, limits: Limits, level: Binding, tokens: &[Token]) -
     Binding::Complement.expect(level, tokens)?;
     let inner = limits.inside(tokens)?;
     let operand = expression(alloc, inner, Binding::Complement, tokens)?;
-    let node = nodes::complement(alloc, operand.part)?;
+    let part = nodes::complement(alloc, operand.part)?;
+    let rest = operand.rest;
     operators(
         alloc,
         limits,
         level,
-        Binding::Complement,
-        node,
-        operand.rest,
+        Read { part, rest }.bind(Binding::Complement),
     )
 }
 
@@ -44,8 +43,14 @@ fn negative(alloc: Global, limits: Limits, level: Binding, tokens: &[Token]) -> 
     Binding::Negative.expect(level, tokens)?;
     let inner = limits.inside(tokens)?;
     let operand = expression(alloc, inner, Binding::Negative, tokens)?;
-    let node = nodes::negative(alloc, operand.part)?;
-    operators(alloc, limits, level, Binding::Negative, node, operand.rest)
+    let part = nodes::negative(alloc, operand.part)?;
+    let rest = operand.rest;
+    operators(
+        alloc,
+        limits,
+        level,
+        Read { part, rest }.bind(Binding::Negative),
+    )
 }
 
 // An expression whose operators outside brackets bind as tightly as the level, or tighter.
@@ -67,7 +72,7 @@ pub(crate) fn expression(
         return negative(alloc, limits, level, rest);
     }
     let first = atom(alloc, limits, tokens)?;
-    operators(alloc, limits, level, Binding::Atom, first.part, first.rest)
+    operators(alloc, limits, level, first.bind(Binding::Atom))
 }
 
 // The pairs of a renaming of this tree.
@@ -76,7 +81,7 @@ fn renaming(alloc: Global, limits: Limits, left: DeepTree, tokens: &[Token]) -> 
     ensures reads { Reads result part_read (8 * length tokens.now + 1) (λ L. read_renaming L limits left tokens.now) }
     ensures shorter { IfOk result (λ r. length r.rest.now < length tokens.now) }
 {
-    let inner = limits.bracketed(tokens)?;
+    let inner = limits.open_bracket(tokens)?;
     let found = pairs(alloc, inner, tokens)?;
     let generators = conditions(alloc, inner, found.rest)?;
     let rest = expect(generators.rest, Symbol::CloseRename)?;
@@ -86,34 +91,23 @@ fn renaming(alloc: Global, limits: Limits, left: DeepTree, tokens: &[Token]) -> 
 
 // A tree with the sign behind it and what that takes to its right.
 #[cycle(reading)]
-fn with(
-    alloc: Global,
-    limits: Limits,
-    left: DeepTree,
-    sign: Sign,
-    tokens: &[Token],
-) -> BoundTree<'_>
-    ensures reads { Reads result bound_read (8 * length tokens.now + 2) (λ L. read_with L limits left sign tokens.now) }
-    ensures shorter { IfOk result (λ r. length r.rest.now < length tokens.now) }
+fn with<'t>(alloc: Global, limits: Limits, left: DeepTree, sign: Read<'t, Sign>) -> BoundTree<'t>
+    ensures reads { Reads result bound_read (8 * length sign.entry.rest.now + 2)
+        (λ L. read_with L limits left sign.entry.part sign.entry.rest.now) }
+    ensures shorter { IfOk result (λ r. length r.rest.now < length sign.entry.rest.now) }
 {
-    let inner = limits.around(&left, tokens)?;
-    match sign {
+    let tokens = sign.rest;
+    let inner = limits.inside_with(&left, tokens)?;
+    match sign.part {
         Sign::Operator(op, binding) => {
             let right = expression(alloc, inner, binding.tighter(), tokens)?;
             let part = nodes::binary(alloc, op, left, right.part)?;
-            Ok(BoundRead {
-                binding,
-                part,
-                rest: right.rest,
-            })
+            let rest = right.rest;
+            Ok(Read { part, rest }.bind(binding))
         }
         Sign::Renaming => {
-            let renamed = renaming(alloc, inner, left, tokens)?;
-            Ok(BoundRead {
-                binding: Binding::Renaming,
-                part: renamed.part,
-                rest: renamed.rest,
-            })
+            let read = renaming(alloc, inner, left, tokens)?;
+            Ok(read.bind(Binding::Renaming))
         }
     }
 }
@@ -121,32 +115,19 @@ fn with(
 // The operators behind an operand.
 #[cycle(reading)]
 #[tactic(auto, using(crate::proofs::Counted::operators_counted))]
-fn operators(
+fn operators<'t>(
     alloc: Global,
     limits: Limits,
     level: Binding,
-    binding: Binding,
-    left: DeepTree,
-    tokens: &[Token],
-) -> BoundTree<'_>
-    ensures reads { Reads result bound_read (8 * length tokens.now + 1)
-        (λ L. L.operators limits level binding left tokens.now) }
-    ensures shorter { IfOk result (λ r. length r.rest.now ≤ length tokens.now) }
+    left: BoundRead<'t, DeepTree>,
+) -> BoundTree<'t>
+    ensures reads { Reads result bound_read (8 * length left.entry.rest.now + 1)
+        (λ L. L.operators limits level left.entry.binding left.entry.part left.entry.rest.now) }
+    ensures shorter { IfOk result (λ r. length r.rest.now ≤ length left.entry.rest.now) }
 {
-    let Some((sign, behind)) = sign_behind(level, binding, tokens) else {
-        return Ok(BoundRead {
-            binding,
-            part: left,
-            rest: tokens,
-        });
+    let Some(sign) = sign_behind(level, left.binding, left.rest) else {
+        return Ok(left);
     };
-    let longer = with(alloc, limits, left, sign, behind)?;
-    operators(
-        alloc,
-        limits,
-        level,
-        longer.binding,
-        longer.part,
-        longer.rest,
-    )
+    let longer = with(alloc, limits, left.part, sign)?;
+    operators(alloc, limits, level, longer)
 }

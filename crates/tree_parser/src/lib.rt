@@ -17,4 +17,4 @@ mod processes;
 
 pub use atoms::atom;
 pub use processes::tree;
-pub use tree_reading::{Limits, Read, ReadFault};
+pub use tree_reading::{Limits, NoText, OrNoText, Read};

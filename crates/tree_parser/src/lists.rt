@@ -13,24 +13,21 @@ use csp_text::{GenTree, PartTree, Symbol, Token};
 use std::alloc::Global;
 use tree_reading::deep::Deep;
 use tree_reading::limits::Limits;
-use tree_reading::look::{begins_event, expect, expect_name, named, skip};
+use tree_reading::look::{begins_event, expect, expect_name, first_name, skip};
 use tree_reading::read::{Binding, BoundRead, BoundReading, Read, Reading, last_item};
 
 // A dotted event.
 #[cycle(reading)]
-fn dotted(alloc: Global, limits: Limits, tokens: &[Token]) -> BoundTree<'_>
+fn dotted_event(alloc: Global, limits: Limits, tokens: &[Token]) -> BoundTree<'_>
     ensures reads { Reads result bound_read (8 * length tokens.now) (λ L. read_dotted L limits tokens.now) }
     ensures shorter { IfOk result (λ r. length r.rest.now < length tokens.now) }
 {
     let inner = limits.inside(tokens)?;
     let (name, rest) = expect_name(alloc, tokens)?;
     let fields = dots(alloc, inner, rest)?;
-    let part = expect_fields(alloc, name, fields.part, fields.rest)?;
-    Ok(BoundRead {
-        binding: Binding::Dotted,
-        part,
-        rest: fields.rest,
-    })
+    let rest = fields.rest;
+    let part = expect_fields(alloc, name, fields.part, rest)?;
+    Ok(Read { part, rest }.bind(Binding::Dotted))
 }
 
 // An expression or a dotted event.
@@ -40,7 +37,7 @@ pub(crate) fn item(alloc: Global, limits: Limits, tokens: &[Token]) -> BoundTree
     ensures shorter { IfOk result (λ r. length r.rest.now < length tokens.now) }
 {
     if begins_event(tokens) {
-        return dotted(alloc, limits, tokens);
+        return dotted_event(alloc, limits, tokens);
     }
     expression(alloc, limits, Binding::Disjunction, tokens)
 }
@@ -59,7 +56,7 @@ pub(crate) fn items(alloc: Global, limits: Limits, tokens: &[Token]) -> BoundRea
             Err(fault) => return Err(fault),
         };
         let binding = last_item(&items, found.binding);
-        items.push(found.part.unboxed())?;
+        items.push(found.part.unbox())?;
         match skip(found.rest, Symbol::Comma) {
             Some(behind) => rest = behind,
             None => {
@@ -86,7 +83,7 @@ fn dots(alloc: Global, limits: Limits, tokens: &[Token]) -> Reading<'_, Trees>
             Ok(field) => field,
             Err(fault) => return Err(fault),
         };
-        fields.push(field.part.unboxed())?;
+        fields.push(field.part.unbox())?;
         rest = field.rest;
     }
     Ok(Read { part: fields, rest })
@@ -211,7 +208,7 @@ fn generator(alloc: Global, limits: Limits, tokens: &[Token]) -> Reading<'_, Dee
     ensures reads { Reads result part_read (8 * length tokens.now + 2) (λ L. read_gen L limits tokens.now) }
     ensures shorter { IfOk result (λ r. length r.rest.now < length tokens.now) }
 {
-    let Some((name, arrow)) = named(tokens) else {
+    let Some((name, arrow)) = first_name(tokens) else {
         return condition(alloc, limits, tokens);
     };
     match skip(arrow, Symbol::LeftArrow) {

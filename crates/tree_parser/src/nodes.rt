@@ -37,13 +37,34 @@ pub(crate) type TreeReading<'t> = Reading<'t, DeepTree>;
 /// The same with how tightly the tree is bound.
 pub(crate) type BoundTree<'t> = BoundReading<'t, DeepTree>;
 
-// A tree around parts of which the deepest has this depth.
-fn around(alloc: Global, tree: Tree, below: u32) -> Node
+/// An event of a prefix.
+#[derive(Drop)]
+pub(crate) struct Event {
+    pub name: Name,
+    pub fields: Fields,
+}
+
+/// What a replicated form begins with: a name, and the set of its values.
+#[derive(Drop)]
+pub(crate) struct Binder {
+    pub name: Name,
+    pub set: DeepTree,
+}
+
+/// A side of a parallel, with its alphabet.
+#[derive(Drop)]
+pub(crate) struct Side {
+    pub process: DeepTree,
+    pub alphabet: DeepTree,
+}
+
+// A node over parts of which the deepest has this depth.
+fn node(alloc: Global, tree: Tree, below: u32) -> Node
     requires { capped (below + 1) ≡ capped (tree_depth tree) }
     ensures { IfOk result (λ t. t ≡ tree) }
 {
     let tree = Boxed::new(alloc, tree)?;
-    Ok(Deep::around(tree, below))
+    Ok(Deep::node(tree, below))
 }
 
 pub(crate) fn leaf(alloc: Global, tree: Deep<Tree>) -> Node
@@ -58,177 +79,169 @@ pub(crate) fn negative(alloc: Global, a: DeepTree) -> Node
     ensures { IfOk result (λ t. t ≡ Tree.Neg a) }
 {
     let below = a.depth();
-    around(alloc, Tree::Neg(a.into_inner()), below)
+    node(alloc, Tree::Neg(a.into_inner()), below)
 }
 
 pub(crate) fn complement(alloc: Global, a: DeepTree) -> Node
     ensures { IfOk result (λ t. t ≡ Tree.Not a) }
 {
     let below = a.depth();
-    around(alloc, Tree::Not(a.into_inner()), below)
+    node(alloc, Tree::Not(a.into_inner()), below)
 }
 
 pub(crate) fn binary(alloc: Global, op: BinOp, a: DeepTree, b: DeepTree) -> Node
     ensures { IfOk result (λ t. t ≡ Tree.Binary op a b) }
 {
     let below = greater(a.depth(), b.depth());
-    let node = Tree::Binary(op, a.into_inner(), b.into_inner());
-    around(alloc, node, below)
+    let tree = Tree::Binary(op, a.into_inner(), b.into_inner());
+    node(alloc, tree, below)
 }
 
 pub(crate) fn set_operation(alloc: Global, op: SetOp, a: DeepTree, b: DeepTree) -> Node
     ensures { IfOk result (λ t. t ≡ Tree.SetOp op a b) }
 {
     let below = greater(a.depth(), b.depth());
-    let node = Tree::SetOp(op, a.into_inner(), b.into_inner());
-    around(alloc, node, below)
+    let tree = Tree::SetOp(op, a.into_inner(), b.into_inner());
+    node(alloc, tree, below)
 }
 
 pub(crate) fn call(alloc: Global, name: Name, items: Trees) -> Node
     ensures { IfOk result (λ t. t ≡ Tree.Call name items) }
 {
     let below = items.depth();
-    around(alloc, Tree::Call(name, items.into_inner()), below)
+    node(alloc, Tree::Call(name, items.into_inner()), below)
 }
 
-pub(crate) fn dotted(alloc: Global, name: Name, fields: Trees) -> Node
+pub(crate) fn dotted_event(alloc: Global, name: Name, fields: Trees) -> Node
     ensures { IfOk result (λ t. t ≡ Tree.Dot name fields) }
 {
     let below = fields.depth();
-    around(alloc, Tree::Dot(name, fields.into_inner()), below)
+    node(alloc, Tree::Dot(name, fields.into_inner()), below)
 }
 
 pub(crate) fn range(alloc: Global, a: DeepTree, b: DeepTree) -> Node
     ensures { IfOk result (λ t. t ≡ Tree.Range a b) }
 {
     let below = greater(a.depth(), b.depth());
-    around(alloc, Tree::Range(a.into_inner(), b.into_inner()), below)
+    node(alloc, Tree::Range(a.into_inner(), b.into_inner()), below)
 }
 
 pub(crate) fn display(alloc: Global, items: Trees) -> Node
     ensures { IfOk result (λ t. t ≡ Tree.Display items) }
 {
     let below = items.depth();
-    around(alloc, Tree::Display(items.into_inner()), below)
+    node(alloc, Tree::Display(items.into_inner()), below)
 }
 
 pub(crate) fn comprehension(alloc: Global, items: Trees, generators: Generators) -> Node
     ensures { IfOk result (λ t. t ≡ Tree.Comp items generators) }
 {
     let below = greater(items.depth(), generators.depth());
-    let node = Tree::Comp(items.into_inner(), generators.into_inner());
-    around(alloc, node, below)
+    let tree = Tree::Comp(items.into_inner(), generators.into_inner());
+    node(alloc, tree, below)
 }
 
 pub(crate) fn product(alloc: Global, parts: Parts, generators: Generators) -> Node
     ensures { IfOk result (λ t. t ≡ Tree.Product parts generators) }
 {
     let below = greater(parts.depth(), generators.depth());
-    let node = Tree::Product(parts.into_inner(), generators.into_inner());
-    around(alloc, node, below)
+    let tree = Tree::Product(parts.into_inner(), generators.into_inner());
+    node(alloc, tree, below)
 }
 
 pub(crate) fn renaming(alloc: Global, p: DeepTree, pairs: Pairs, generators: Generators) -> Node
     ensures { IfOk result (λ t. t ≡ Tree.Rename p pairs generators) }
 {
     let below = greater(p.depth(), greater(pairs.depth(), generators.depth()));
-    let node = Tree::Rename(p.into_inner(), pairs.into_inner(), generators.into_inner());
-    around(alloc, node, below)
+    let tree = Tree::Rename(p.into_inner(), pairs.into_inner(), generators.into_inner());
+    node(alloc, tree, below)
 }
 
 #[tactic(auto, using(crate::proofs::Depths::of_prefix))]
-pub(crate) fn prefix(alloc: Global, name: Name, fields: Fields, process: DeepTree) -> Node
-    ensures { IfOk result (λ t. t ≡ Tree.Prefix (event_tree name fields) process) }
+pub(crate) fn prefix(alloc: Global, event: Event, process: DeepTree) -> Node
+    ensures { IfOk result (λ t. t ≡ Tree.Prefix (event_tree event.name event.fields) process) }
 {
+    let Event { name, fields } = event;
     let below = greater(fields.depth(), process.depth());
     let fields = fields.into_inner();
     let event = EventTree { name, fields };
-    around(alloc, Tree::Prefix(event, process.into_inner()), below)
+    node(alloc, Tree::Prefix(event, process.into_inner()), below)
 }
 
 pub(crate) fn conditional(alloc: Global, condition: DeepTree, a: DeepTree, b: DeepTree) -> Node
     ensures { IfOk result (λ t. t ≡ Tree.If condition a b) }
 {
     let below = greater(condition.depth(), greater(a.depth(), b.depth()));
-    let node = Tree::If(condition.into_inner(), a.into_inner(), b.into_inner());
-    around(alloc, node, below)
+    let tree = Tree::If(condition.into_inner(), a.into_inner(), b.into_inner());
+    node(alloc, tree, below)
 }
 
 pub(crate) fn guard(alloc: Global, a: DeepTree, p: DeepTree) -> Node
     ensures { IfOk result (λ t. t ≡ Tree.Guard a p) }
 {
     let below = greater(a.depth(), p.depth());
-    around(alloc, Tree::Guard(a.into_inner(), p.into_inner()), below)
+    node(alloc, Tree::Guard(a.into_inner(), p.into_inner()), below)
 }
 
 pub(crate) fn seq(alloc: Global, p: DeepTree, q: DeepTree) -> Node
     ensures { IfOk result (λ t. t ≡ Tree.Seq p q) }
 {
     let below = greater(p.depth(), q.depth());
-    around(alloc, Tree::Seq(p.into_inner(), q.into_inner()), below)
+    node(alloc, Tree::Seq(p.into_inner(), q.into_inner()), below)
 }
 
 pub(crate) fn hide(alloc: Global, p: DeepTree, a: DeepTree) -> Node
     ensures { IfOk result (λ t. t ≡ Tree.Hide p a) }
 {
     let below = greater(p.depth(), a.depth());
-    around(alloc, Tree::Hide(p.into_inner(), a.into_inner()), below)
+    node(alloc, Tree::Hide(p.into_inner(), a.into_inner()), below)
 }
 
 // A chain of processes with the sign of a choice between them.
-pub(crate) fn chosen(alloc: Global, chain: Chain, operands: Trees) -> Node
+pub(crate) fn choice(alloc: Global, chain: Chain, operands: Trees) -> Node
     ensures { IfOk result (λ t. t ≡ choice_of (choice chain) operands) }
 {
     let below = operands.depth();
     let operands = operands.into_inner();
     match chain {
-        Chain::External => around(alloc, Tree::External(operands), below),
-        Chain::Internal => around(alloc, Tree::Internal(operands), below),
+        Chain::External => node(alloc, Tree::External(operands), below),
+        Chain::Internal => node(alloc, Tree::Internal(operands), below),
     }
 }
 
-pub(crate) fn each(alloc: Global, chain: Chain, name: Name, set: DeepTree, p: DeepTree) -> Node
-    ensures { IfOk result (λ t. t ≡ each_tree chain name set p) }
+pub(crate) fn each(alloc: Global, chain: Chain, binder: Binder, p: DeepTree) -> Node
+    ensures { IfOk result (λ t. t ≡ each_tree chain binder.name binder.set p) }
 {
+    let Binder { name, set } = binder;
     let below = greater(set.depth(), p.depth());
     let set = set.into_inner();
     let p = p.into_inner();
     match chain {
-        Chain::External => around(alloc, Tree::EachExternal(name, set, p), below),
-        Chain::Internal => around(alloc, Tree::EachInternal(name, set, p), below),
+        Chain::External => node(alloc, Tree::EachExternal(name, set, p), below),
+        Chain::Internal => node(alloc, Tree::EachInternal(name, set, p), below),
     }
 }
 
-pub(crate) fn each_parallel(
-    alloc: Global,
-    name: Name,
-    set: DeepTree,
-    alphabet: DeepTree,
-    process: DeepTree,
-) -> Node
-    ensures { IfOk result (λ t. t ≡ Tree.EachParallel name set alphabet process) }
+pub(crate) fn each_parallel(alloc: Global, binder: Binder, side: Side) -> Node
+    ensures { IfOk result (λ t. t ≡ Tree.EachParallel binder.name binder.set side.alphabet side.process) }
 {
+    let Binder { name, set } = binder;
+    let Side { process, alphabet } = side;
     let below = greater(set.depth(), greater(alphabet.depth(), process.depth()));
     let (set, alphabet) = (set.into_inner(), alphabet.into_inner());
-    around(
-        alloc,
-        Tree::EachParallel(name, set, alphabet, process.into_inner()),
-        below,
-    )
+    let tree = Tree::EachParallel(name, set, alphabet, process.into_inner());
+    node(alloc, tree, below)
 }
 
-pub(crate) fn parallel(alloc: Global, p: DeepTree, a: DeepTree, b: DeepTree, q: DeepTree) -> Node
-    ensures { IfOk result (λ t. t ≡ Tree.Parallel p a b q) }
+pub(crate) fn parallel(alloc: Global, left: Side, right: Side) -> Node
+    ensures { IfOk result (λ t. t ≡ Tree.Parallel left.process left.alphabet right.alphabet right.process) }
 {
-    let left = greater(p.depth(), a.depth());
-    let below = greater(left, greater(b.depth(), q.depth()));
-    let (p, a, b, q) = (
-        p.into_inner(),
-        a.into_inner(),
-        b.into_inner(),
-        q.into_inner(),
-    );
-    around(alloc, Tree::Parallel(p, a, b, q), below)
+    let (p, a) = (left.process, left.alphabet);
+    let (b, q) = (right.alphabet, right.process);
+    let below = greater(greater(p.depth(), a.depth()), greater(b.depth(), q.depth()));
+    let (p, a) = (p.into_inner(), a.into_inner());
+    let (b, q) = (b.into_inner(), q.into_inner());
+    node(alloc, Tree::Parallel(p, a, b, q), below)
 }
 
 pub(crate) fn part(name: Name, fields: Trees) -> Deep<PartTree>

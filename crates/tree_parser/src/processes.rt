@@ -7,12 +7,11 @@ ghost use Rattle.tree_parser.specs.Reads.{Reads, bound_read, operand_read, part_
 use crate::atoms::atom;
 use crate::events::event;
 use crate::expressions::expression;
-use crate::nodes::{self, BoundTree, TreeReading, Trees};
-use csp_base::Name;
+use crate::nodes::{self, Binder, BoundTree, Side, TreeReading, Trees};
 use csp_text::{Symbol, Token, Word};
 use std::alloc::Global;
 use tree_reading::deep::{Deep, DeepTree};
-use tree_reading::fault::ReadFault;
+use tree_reading::fault::OrNoText;
 use tree_reading::limits::Limits;
 use tree_reading::look::{
     Chain, PrefixStart, expect, expect_name, expect_word, first_chain, prefix_start, skip,
@@ -30,11 +29,8 @@ fn branches(alloc: Global, limits: Limits, condition: DeepTree, tokens: &[Token]
     let behind = expect_word(first.rest, Word::Else)?;
     let second = tree(alloc, limits, behind)?;
     let part = nodes::conditional(alloc, condition, first.part, second.part)?;
-    Ok(BoundRead {
-        binding: Binding::Open,
-        part,
-        rest: second.rest,
-    })
+    let rest = second.rest;
+    Ok(Read { part, rest }.bind(Binding::Open))
 }
 
 // What stands behind `if`.
@@ -51,8 +47,8 @@ fn conditional(alloc: Global, limits: Limits, tokens: &[Token]) -> BoundTree<'_>
 
 // The name, the set and `@` of a replicated form.
 #[cycle(reading)]
-fn binder(alloc: Global, limits: Limits, tokens: &[Token]) -> Reading<'_, (Name, DeepTree)>
-    ensures reads { Reads result (λ r. (r.part.0, r.part.1, r.rest.now)) (8 * length tokens.now)
+fn binder(alloc: Global, limits: Limits, tokens: &[Token]) -> Reading<'_, Binder>
+    ensures reads { Reads result (λ r. (r.part.name, r.part.set, r.rest.now)) (8 * length tokens.now)
         (λ L. read_binder L limits tokens.now) }
     ensures shorter { IfOk result (λ r. length r.rest.now < length tokens.now) }
 {
@@ -60,10 +56,9 @@ fn binder(alloc: Global, limits: Limits, tokens: &[Token]) -> Reading<'_, (Name,
     let behind = expect(colon, Symbol::Colon)?;
     let set = atom(alloc, limits, behind)?;
     let rest = expect(set.rest, Symbol::At)?;
-    Ok(Read {
-        part: (name, set.part),
-        rest,
-    })
+    let set = set.part;
+    let part = Binder { name, set };
+    Ok(Read { part, rest })
 }
 
 // What stands behind the sign of a replicated choice.
@@ -75,13 +70,9 @@ fn each(alloc: Global, limits: Limits, chain: Chain, tokens: &[Token]) -> BoundT
     let inner = limits.inside(tokens)?;
     let bound = binder(alloc, inner, tokens)?;
     let process = tree(alloc, inner, bound.rest)?;
-    let (name, set) = bound.part;
-    let part = nodes::each(alloc, chain, name, set, process.part)?;
-    Ok(BoundRead {
-        binding: Binding::Open,
-        part,
-        rest: process.rest,
-    })
+    let part = nodes::each(alloc, chain, bound.part, process.part)?;
+    let rest = process.rest;
+    Ok(Read { part, rest }.bind(Binding::Open))
 }
 
 // What stands behind the sign of a replicated parallel.
@@ -93,22 +84,19 @@ fn each_parallel(alloc: Global, limits: Limits, tokens: &[Token]) -> BoundTree<'
     let inner = limits.inside(tokens)?;
     let bound = binder(alloc, inner, tokens)?;
     let opened = expect(bound.rest, Symbol::OpenBracket)?;
-    let below = inner.bracketed(opened)?;
+    let below = inner.open_bracket(opened)?;
     let alphabet = atom(alloc, below, opened)?;
     let behind = expect(alphabet.rest, Symbol::CloseBracket)?;
     let process = tree(alloc, inner, behind)?;
-    let (name, set) = bound.part;
-    let part = nodes::each_parallel(alloc, name, set, alphabet.part, process.part)?;
-    Ok(BoundRead {
-        binding: Binding::Open,
-        part,
-        rest: process.rest,
-    })
+    let rest = process.rest;
+    let (process, alphabet) = (process.part, alphabet.part);
+    let part = nodes::each_parallel(alloc, bound.part, Side { process, alphabet })?;
+    Ok(Read { part, rest }.bind(Binding::Open))
 }
 
 // What stands behind the `&` of a guard.
 #[cycle(reading)]
-fn guarded(alloc: Global, limits: Limits, condition: DeepTree, tokens: &[Token]) -> BoundTree<'_>
+fn guard_rest(alloc: Global, limits: Limits, condition: DeepTree, tokens: &[Token]) -> BoundTree<'_>
     ensures reads { Reads result bound_read (8 * length tokens.now + 3)
         (λ L. read_guarded L limits condition tokens.now) }
     ensures shorter { IfOk result (λ r. length r.rest.now < length tokens.now) }
@@ -116,11 +104,8 @@ fn guarded(alloc: Global, limits: Limits, condition: DeepTree, tokens: &[Token])
     let process = prefix(alloc, limits, tokens)?;
     process.binding.expect(Binding::Open, process.rest)?;
     let part = nodes::guard(alloc, condition, process.part)?;
-    Ok(BoundRead {
-        binding: process.binding.of_process(),
-        part,
-        rest: process.rest,
-    })
+    let rest = process.rest;
+    Ok(Read { part, rest }.bind(process.binding.of_process()))
 }
 
 // A guard, or an expression.
@@ -132,8 +117,8 @@ fn guard(alloc: Global, limits: Limits, tokens: &[Token]) -> BoundTree<'_>
     let condition = expression(alloc, limits, Binding::Disjunction, tokens)?;
     match skip(condition.rest, Symbol::Ampersand) {
         Some(behind) => {
-            let inner = limits.around(&condition.part, behind)?;
-            guarded(alloc, inner, condition.part, behind)
+            let inner = limits.inside_with(&condition.part, behind)?;
+            guard_rest(alloc, inner, condition.part, behind)
         }
         None => Ok(condition),
     }
@@ -141,7 +126,7 @@ fn guard(alloc: Global, limits: Limits, tokens: &[Token]) -> BoundTree<'_>
 
 // The rest of a prefix.
 #[cycle(reading)]
-fn opened(alloc: Global, limits: Limits, start: PrefixStart, tokens: &[Token]) -> BoundTree<'_>
+fn prefix_rest(alloc: Global, limits: Limits, start: PrefixStart, tokens: &[Token]) -> BoundTree<'_>
     ensures reads { Reads result bound_read (8 * length tokens.now + 2) (λ L. read_opened L limits start tokens.now) }
     ensures shorter { IfOk result (λ r. length r.rest.now < length tokens.now) }
 {
@@ -162,23 +147,20 @@ pub(crate) fn prefix(alloc: Global, limits: Limits, tokens: &[Token]) -> BoundTr
     ensures shorter { IfOk result (λ r. length r.rest.now < length tokens.now) }
 {
     let (start, rest) = prefix_start(tokens);
-    opened(alloc, limits, start, rest)
+    prefix_rest(alloc, limits, start, rest)
 }
 
 // A process with what stands behind its `;`.
 #[cycle(reading)]
-fn followed(alloc: Global, limits: Limits, left: DeepTree, tokens: &[Token]) -> BoundTree<'_>
+fn sequence_rest(alloc: Global, limits: Limits, left: DeepTree, tokens: &[Token]) -> BoundTree<'_>
     ensures reads { Reads result bound_read (8 * length tokens.now + 4) (λ L. read_followed L limits left tokens.now) }
     ensures shorter { IfOk result (λ r. length r.rest.now < length tokens.now) }
 {
     let process = sequence(alloc, limits, tokens)?;
     process.binding.expect(Binding::Open, process.rest)?;
     let part = nodes::seq(alloc, left, process.part)?;
-    Ok(BoundRead {
-        binding: process.binding.of_process(),
-        part,
-        rest: process.rest,
-    })
+    let rest = process.rest;
+    Ok(Read { part, rest }.bind(process.binding.of_process()))
 }
 
 // Processes one after another.
@@ -192,8 +174,8 @@ fn sequence(alloc: Global, limits: Limits, tokens: &[Token]) -> BoundTree<'_>
     match skip(first.rest, Symbol::Semicolon) {
         Some(behind) => {
             first.binding.expect(Binding::Closed, behind)?;
-            let inner = limits.around(&first.part, behind)?;
-            followed(alloc, inner, first.part, behind)
+            let inner = limits.inside_with(&first.part, behind)?;
+            sequence_rest(alloc, inner, first.part, behind)
         }
         None => Ok(first),
     }
@@ -205,7 +187,7 @@ fn hiding(alloc: Global, limits: Limits, left: DeepTree, tokens: &[Token]) -> Tr
     ensures reads { Reads result part_read (8 * length tokens.now + 1) (λ L. read_hiding L limits left tokens.now) }
     ensures shorter { IfOk result (λ r. length r.rest.now < length tokens.now) }
 {
-    let inner = limits.around(&left, tokens)?;
+    let inner = limits.inside_with(&left, tokens)?;
     let set = atom(alloc, inner, tokens)?;
     let part = nodes::hide(alloc, left, set.part)?;
     let rest = set.rest;
@@ -224,11 +206,10 @@ fn hidings(alloc: Global, limits: Limits, left: DeepTree, tokens: &[Token]) -> B
             let hidden = hiding(alloc, limits, left, behind)?;
             hidings(alloc, limits, hidden.part, hidden.rest)
         }
-        None => Ok(BoundRead {
-            binding: Binding::Closed,
-            part: left,
-            rest: tokens,
-        }),
+        None => {
+            let (part, rest) = (left, tokens);
+            Ok(Read { part, rest }.bind(Binding::Closed))
+        }
     }
 }
 
@@ -239,59 +220,49 @@ fn operand(
     limits: Limits,
     chain: Chain,
     tokens: &[Token],
-) -> Result<(BoundRead<'_, DeepTree>, bool), ReadFault>
+) -> OrNoText<(BoundRead<'_, DeepTree>, bool)>
     ensures reads { Reads result operand_read (8 * length tokens.now + 4)
         (λ L. read_operand L limits chain tokens.now) }
     ensures shorter { IfOk result (λ r. length r.0.rest.now < length tokens.now) }
 {
     let operand = sequence(alloc, limits, tokens)?;
     operand.binding.expect(Binding::Open, operand.rest)?;
+    let (binding, part) = (operand.binding, operand.part);
     match skip(operand.rest, chain.symbol()) {
-        Some(behind) => {
-            operand.binding.expect(Binding::Closed, behind)?;
-            Ok((
-                BoundRead {
-                    binding: operand.binding,
-                    part: operand.part,
-                    rest: behind,
-                },
-                true,
-            ))
+        Some(rest) => {
+            binding.expect(Binding::Closed, rest)?;
+            Ok((Read { part, rest }.bind(binding), true))
         }
-        None => Ok((
-            BoundRead {
-                binding: operand.binding.of_process(),
-                part: operand.part,
-                rest: operand.rest,
-            },
-            false,
-        )),
+        None => {
+            let rest = operand.rest;
+            Ok((Read { part, rest }.bind(binding.of_process()), false))
+        }
     }
 }
 
 // This operand of a choice and those behind it.
 #[cycle(reading)]
-fn choices(
+fn choices<'t>(
     alloc: Global,
     limits: Limits,
-    chain: Chain,
     left: DeepTree,
-    tokens: &[Token],
-) -> BoundReading<'_, Trees>
-    ensures reads { Reads result bound_read (8 * length tokens.now + 5)
-        (λ L. read_operands L limits chain left tokens.now) }
-    ensures shorter { IfOk result (λ r. length r.rest.now < length tokens.now) }
+    sign: Read<'t, Chain>,
+) -> BoundReading<'t, Trees>
+    ensures reads { Reads result bound_read (8 * length sign.entry.rest.now + 5)
+        (λ L. read_operands L limits sign.entry.part left sign.entry.rest.now) }
+    ensures shorter { IfOk result (λ r. length r.rest.now < length sign.entry.rest.now) }
 {
     let mut operands = Deep::none(alloc);
-    operands.push(left.unboxed())?;
-    let mut rest = tokens;
+    operands.push(left.unbox())?;
+    let chain = sign.part;
+    let mut rest = sign.rest;
     loop {
         let read = match operand(alloc, limits, chain, rest) {
             Ok(read) => read,
             Err(fault) => return Err(fault),
         };
         let (found, has_more) = read;
-        operands.push(found.part.unboxed())?;
+        operands.push(found.part.unbox())?;
         if !has_more {
             return Ok(BoundRead {
                 binding: found.binding,
@@ -305,27 +276,23 @@ fn choices(
 
 // A process and the choices behind it.
 #[cycle(reading)]
-fn chain(
+fn chain<'t>(
     alloc: Global,
     limits: Limits,
-    binding: Binding,
-    left: DeepTree,
-    chain: Chain,
-    tokens: &[Token],
-) -> BoundTree<'_>
-    ensures reads { Reads result bound_read (8 * length tokens.now + 5)
-        (λ L. read_chain L limits binding left chain tokens.now) }
-    ensures shorter { IfOk result (λ r. length r.rest.now < length tokens.now) }
+    left: BoundRead<'t, DeepTree>,
+    sign: Read<'t, Chain>,
+) -> BoundTree<'t>
+    ensures reads { Reads result bound_read (8 * length sign.entry.rest.now + 5)
+        (λ L. read_chain L limits left.entry.binding left.entry.part sign.entry.part sign.entry.rest.now) }
+    ensures shorter { IfOk result (λ r. length r.rest.now < length sign.entry.rest.now) }
 {
-    binding.expect(Binding::Closed, tokens)?;
-    let inner = limits.around(&left, tokens)?;
-    let found = choices(alloc, inner, chain, left, tokens)?;
-    let part = nodes::chosen(alloc, chain, found.part)?;
-    Ok(BoundRead {
-        binding: found.binding,
-        part,
-        rest: found.rest,
-    })
+    left.binding.expect(Binding::Closed, sign.rest)?;
+    let inner = limits.inside_with(&left.part, sign.rest)?;
+    let chain = sign.part;
+    let found = choices(alloc, inner, left.part, sign)?;
+    let (binding, rest) = (found.binding, found.rest);
+    let part = nodes::choice(alloc, chain, found.part)?;
+    Ok(Read { part, rest }.bind(binding))
 }
 
 // A side of a parallel, or a tree without one.
@@ -335,8 +302,8 @@ fn side(alloc: Global, limits: Limits, tokens: &[Token]) -> BoundTree<'_>
     ensures shorter { IfOk result (λ r. length r.rest.now < length tokens.now) }
 {
     let first = sequence(alloc, limits, tokens)?;
-    if let Some((sign, behind)) = first_chain(first.rest) {
-        return chain(alloc, limits, first.binding, first.part, sign, behind);
+    if let Some(sign) = first_chain(first.rest) {
+        return chain(alloc, limits, first, sign);
     }
     match skip(first.rest, Symbol::Backslash) {
         Some(_) => {
@@ -353,15 +320,23 @@ fn parallel(alloc: Global, limits: Limits, left: DeepTree, tokens: &[Token]) -> 
     ensures reads { Reads result part_read (8 * length tokens.now + 1) (λ L. read_parallel L limits left tokens.now) }
     ensures shorter { IfOk result (λ r. length r.rest.now < length tokens.now) }
 {
-    let below = limits.bracketed(tokens)?;
+    let below = limits.open_bracket(tokens)?;
     let first = atom(alloc, below, tokens)?;
     let bar = expect(first.rest, Symbol::Parallel)?;
     let second = atom(alloc, below, bar)?;
     let behind = expect(second.rest, Symbol::CloseBracket)?;
     let right = side(alloc, limits, behind)?;
     right.binding.expect(Binding::Open, right.rest)?;
-    let part = nodes::parallel(alloc, left, first.part, second.part, right.part)?;
     let rest = right.rest;
+    let left = Side {
+        process: left,
+        alphabet: first.part,
+    };
+    let right = Side {
+        process: right.part,
+        alphabet: second.part,
+    };
+    let part = nodes::parallel(alloc, left, right)?;
     Ok(Read { part, rest })
 }
 
@@ -376,7 +351,7 @@ pub fn tree(alloc: Global, limits: Limits, tokens: &[Token]) -> TreeReading<'_>
     match skip(left.rest, Symbol::OpenBracket) {
         Some(behind) => {
             left.binding.expect(Binding::Closed, behind)?;
-            let inner = limits.around(&left.part, behind)?;
+            let inner = limits.inside_with(&left.part, behind)?;
             parallel(alloc, inner, left.part, behind)
         }
         None => Ok(Read {

@@ -1,6 +1,5 @@
 -- The depth of a list with one more item.
-use Rattle.tree_reading.proofs.Prelude.{◌≡◌, ℕ, max, List, [], ◌∷◌, ◌++◌, map, ap, ◌∙◌, arith, greatest}
-use Rattle.csp_text.specs.Depth.{capped}
+use Rattle.tree_reading.proofs.Prelude.{◌≡◌, ℕ, max, List, [], ◌∷◌, ◌++◌, map, ap, ◌∙◌, arith, greatest, capped}
 
 with_one_more : {X : Type 0} (f : X → ℕ) (xs : List X) (x : X) → greatest (map f (xs ++ x ∷ [])) ≡ max (greatest (map f xs)) (f x)
 with_one_more f [] x = omega arith

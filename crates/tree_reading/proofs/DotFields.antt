@@ -1,7 +1,6 @@
 -- The trees of fields that all have a dot, one field after another.
-use Rattle.tree_reading.proofs.Prelude.{◌≡◌, Option, Some, None, List, ◌∷◌, ◌++◌, sym, ap, ◌∙◌, ℕ, FieldTree, FieldTree-F, out-roll-FieldTree, Tree, and_then, with_first, dot_fields}
+use Rattle.tree_reading.proofs.Prelude.{◌≡◌, Option, Some, None, List, ◌∷◌, ◌++◌, sym, ap, ◌∙◌, ℕ, FieldTree, FieldTree-F, out-roll-FieldTree, Tree, and_then, with_first, dot_fields, dot_field, layer_dot}
 use Rattle.csp_text.specs.declared.tree.FieldTree.TheVariants as field
-use Rattle.tree_reading.specs.Starts.{dot_field, layer_dot}
 
 -- these trees, and those of the fields that are left
 abbrev pub dots_with : List Tree → List FieldTree → Option (List Tree)

@@ -1,8 +1,7 @@
 -- What the first token of a rest tells of the looks at it.
-use Rattle.tree_reading.proofs.Prelude.{◌≡◌, ℕ, ◌<◌, true, false, nat_eq, nat_lt, nat_le, if◌then◌else◌, Some, None, List, ◌∷◌, refl, ap, arith, same_symbol, Symbol, Token, symbol_is, begins, skip, false_from_ne_true, nat_tests}
+use Rattle.tree_reading.proofs.Prelude.{◌≡◌, ℕ, ◌<◌, true, false, nat_eq, nat_lt, nat_le, if◌then◌else◌, Some, None, List, ◌∷◌, refl, ap, arith, same_symbol, Symbol, Token, symbol_is, begins, skip, false_from_ne_true, nat_tests, symbol_binding}
 use Rattle.csp_text.specs.declared.token.Token.TheVariants as token
 use Rattle.csp_text.specs.declared.token.Symbol.TheVariants as symbol
-use Rattle.csp_grammar.specs.Tokens.{symbol_binding}
 
 -- the rest does not begin with a token that binds as tightly as the number, or tighter
 abbrev pub Stops : ℕ → List Token → Type 0

@@ -20,15 +20,10 @@ abbrev pub reach : Binding → Reach
 reach bound.Open = opened
 reach _ = closed
 
-pub record PrefixRead (n d : ℕ) (ts : List Token) (p : Binding × Tree × List Token) : Type 0 where
+-- a process of such texts, or a dotted event
+pub record ProcessRead (Text : ℕ → Reach → List Token → Tree → List Token → Type 0) (n d : ℕ) (ts : List Token) (p : Binding × Tree × List Token) : Type 0 where
   pub dotted : number p.0 ≡ 0 → DottedText n ts p.1 p.2
-  pub process : 1 ≤ number p.0 → PrefixText n (reach p.0) ts p.1 p.2
-  pub is : Expressions n (number p.0) ts p.1 p.2
-  pub fits : tree_depth p.1 ≤ d
-
-pub record SequenceRead (n d : ℕ) (ts : List Token) (p : Binding × Tree × List Token) : Type 0 where
-  pub dotted : number p.0 ≡ 0 → DottedText n ts p.1 p.2
-  pub process : 1 ≤ number p.0 → SequenceText n (reach p.0) ts p.1 p.2
+  pub process : 1 ≤ number p.0 → Text n (reach p.0) ts p.1 p.2
   pub is : Expressions n (number p.0) ts p.1 p.2
   pub fits : tree_depth p.1 ≤ d
 
@@ -74,8 +69,8 @@ pub record Sound (L : Limited) : Type 0 where
   pub tree : (n d : ℕ) (ts : List Token) → Holds (λ p. TreeText n ts p.0 p.1 × (tree_depth p.0 ≤ d)) (L.tree (limits n d) ts)
   pub choices : (n d : ℕ) (c : Chain) (ts : List Token) → Holds (ChoicesRead n d (choice c) ts) (L.choices (limits n d) c ts)
   pub hidings : (n d : ℕ) (t : Tree) (ts : List Token) → Holds (HidingsRead n d t ts) (L.hidings (limits n d) t ts)
-  pub sequence : (n d : ℕ) (ts : List Token) → Holds (SequenceRead n d ts) (L.sequence (limits n d) ts)
-  pub prefix : (n d : ℕ) (ts : List Token) → Holds (PrefixRead n d ts) (L.prefix (limits n d) ts)
+  pub sequence : (n d : ℕ) (ts : List Token) → Holds (ProcessRead SequenceText n d ts) (L.sequence (limits n d) ts)
+  pub prefix : (n d : ℕ) (ts : List Token) → Holds (ProcessRead PrefixText n d ts) (L.prefix (limits n d) ts)
   pub fields : (n d : ℕ) (dot : Bool) (ts : List Token) → Holds (λ p. FieldsText n dot ts p.0 p.1 × (greatest (map field_depth p.0) ≤ d)) (L.fields (limits n d) dot ts)
   pub dots : (n d : ℕ) (ts : List Token) → Holds (λ p. DotsText n ts p.0 p.1 × (greatest (map tree_depth p.0) ≤ d)) (L.dots (limits n d) ts)
   pub expression : (n d : ℕ) (m : Binding) (ts : List Token) → number m ≤ 18 → Holds (ExpressionRead n d m ts) (L.expression (limits n d) m ts)

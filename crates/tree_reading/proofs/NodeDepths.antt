@@ -1,7 +1,5 @@
 -- The depth of each form by those of its parts: `of_tree _ (tree.rolls-V ..)` is that of a tree V ..
-use Rattle.tree_reading.proofs.Prelude.{◌≡◌, ℕ, ◌<◌, false, nat_le, List, map, sym, ap, ◌∙◌, arith, event_depth, event_layer_depth, field_depth, field_layer_depth, gen_depth, gen_layer_depth, part_depth, part_layer_depth, tree_depth, tree_layer_depth, FieldTree, Tree-F, FieldTree-F, GenTree-F, roll-FieldTree, roll-GenTree, roll-Tree, out-Tree, GenTree, PartTree, Tree, event_tree, part_tree, greatest}
-use Rattle.csp_text.specs.declared.tree.EventTree.{EventTree}
-use Rattle.csp_text.specs.declared.tree.FieldTree.TheFolds.{map-Tree, map-FieldTree, map-GenTree, fold-roll-Tree, fold-roll-FieldTree, fold-roll-GenTree, fold-roll-EventTree, fold-roll-PartTree, fold_out-Tree}
+use Rattle.tree_reading.proofs.Prelude.{◌≡◌, ℕ, ◌<◌, false, nat_le, List, map, sym, ap, ◌∙◌, arith, event_depth, event_layer_depth, field_depth, field_layer_depth, gen_depth, gen_layer_depth, part_depth, part_layer_depth, tree_depth, tree_layer_depth, FieldTree, Tree-F, FieldTree-F, GenTree-F, roll-FieldTree, roll-GenTree, roll-Tree, out-Tree, GenTree, PartTree, Tree, event_tree, part_tree, greatest, EventTree, map-Tree, map-FieldTree, map-GenTree, fold-roll-Tree, fold-roll-FieldTree, fold-roll-GenTree, fold-roll-EventTree, fold-roll-PartTree, fold_out-Tree}
 
 -- the depth of a tree whose layer is d
 abbrev pub layer_depth : Tree-F FieldTree GenTree Tree EventTree PartTree → ℕ

@@ -1,10 +1,8 @@
 -- Texts that have no tree: the reader reads something else in them, or nothing.
-use Rattle.tree_reading.proofs.Prelude.{◌≡◌, ℕ, zero, suc, ◌≤◌, max, None, List, [], ◌∷◌, refl, sym, ap, ◌∙◌, arith, tree_depth, Token, Name, Tree, prefix_tokens, plain_prefix, SequenceText, SideText, closed, external, skip, alphabets_between, MixedChoiceHasNoTree, NoDotBehindQuestion, ChainOfParallelsHasNoTree, HidingBesideChoiceHasNoTree, NoBracketBeyondTheLimit, NoEmptySetBeyondTheLimit, limited, limits, Settles, none-some}
-use Rattle.csp_text.specs.declared.token.Symbol.TheVariants.{ExternalChoice, InternalChoice, Question, Dot, Backslash, OpenParen, OpenBracket, OpenBrace, CloseBrace}
+use Rattle.tree_reading.proofs.Prelude.{◌≡◌, ℕ, zero, suc, ◌≤◌, max, None, List, [], ◌∷◌, refl, sym, ap, ◌∙◌, arith, tree_depth, Token, Name, Tree, prefix_tokens, plain_prefix, SequenceText, SideText, closed, external, skip, alphabets_between, MixedChoiceHasNoTree, NoDotBehindQuestion, ChainOfParallelsHasNoTree, HidingBesideChoiceHasNoTree, NoBracketBeyondTheLimit, NoEmptySetBeyondTheLimit, limited, limits, Settles, none-some, ExternalChoice, InternalChoice, Question, Dot, Backslash, OpenParen, OpenBracket, OpenBrace, CloseBrace, process}
 use Rattle.csp_text.specs.declared.token.Token.TheVariants.{Symbol}
 use Rattle.csp_text.specs.declared.tree.Tree.TheVariants as tree
 use Rattle.csp_grammar.specs.Grammar as g
-use Rattle.csp_grammar.proofs.Examples.{process}
 use Rattle.tree_reading.proofs.Complete.{atom_read, sequence_read, side_read, first_fits, first_of_four, rest_fit, tree_read}
 use Rattle.tree_reading.proofs.Fitting.{about, first_part, left, less, parts, right, second_part, up}
 use Rattle.tree_reading.proofs.Follow.{Stops}

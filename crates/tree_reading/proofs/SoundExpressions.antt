@@ -4,7 +4,7 @@
 -- constructor, and the depth of the node by `node`. `begun`, `joins` and `a_field` choose the case by the token in front, as the reader does.
 -- A new form gets a lemma of its own, as `call` (an atom in brackets) or `negative` (an expression behind a sign), and a case in `begun_word`,
 -- `begun_symbol` or `joins`, by the token with which it begins.
-use Rattle.tree_reading.proofs.Prelude.{◌≡◌, ℕ, suc, ◌≤◌, max, Bool, true, nat_le, Option, Some, None, List, [], ◌∷◌, map, refl, sym, ap, subst, ◌∙◌, arith, field_depth, gen_depth, part_depth, tree_depth, set_op_word, Token, Name, Num, Word, FieldTree, GenTree, PartTree, Tree, greatest, BinOp, SetOp, TreeText, FieldsText, DottedText, DotsText, ExpressionText, PairsText, PartText, PartsText, ConditionsText, GensText, GenText, ItemText, ItemsText, AtomText, part_tree, disjunction, conjunction, negation, comparison, sum, product, minus, renaming, and_then, begins_event, case, dotted_tree, only, at_least, left_operand, number, tighter, Limited, read_dotted, read_item, read_items, read_dots, read_part, read_parts, read_pair, read_pairs, read_condition, read_gen, read_gens, read_conditions, read_call, read_set_operator, read_range, read_comprehension, read_filled, read_set, read_product, read_parentheses, read_atom_rest, read_atom, read_complement, read_negative, read_expression, read_renaming, read_with, read_operators, read_input, read_field, read_fields, limits, atom_start, other_start, sign_binding, symbol_start, word_start, Sign, Binding}
+use Rattle.tree_reading.proofs.Prelude.{◌≡◌, ℕ, suc, ◌≤◌, max, Bool, true, nat_le, Option, Some, None, List, [], ◌∷◌, map, refl, sym, ap, subst, ◌∙◌, arith, field_depth, gen_depth, part_depth, tree_depth, set_op_word, Token, Name, Num, Word, FieldTree, GenTree, PartTree, Tree, greatest, BinOp, SetOp, TreeText, FieldsText, DottedText, DotsText, ExpressionText, PairsText, PartText, PartsText, ConditionsText, GensText, GenText, ItemText, ItemsText, AtomText, part_tree, disjunction, conjunction, negation, comparison, sum, product, minus, renaming, and_then, begins_event, case, dotted_tree, only, at_least, left_operand, number, tighter, Limited, read_dotted, read_item, read_items, read_dots, read_part, read_parts, read_pair, read_pairs, read_condition, read_gen, read_gens, read_conditions, read_call, read_set_operator, read_range, read_comprehension, read_filled, read_set, read_product, read_parentheses, read_atom_rest, read_atom, read_complement, read_negative, read_expression, read_renaming, read_with, read_operators, read_input, read_field, read_fields, limits, atom_start, other_start, sign_binding, symbol_start, word_start, Sign, Binding, AtomStart, and_first, and_second}
 use Rattle.csp_text.specs.declared.token.Token.TheVariants.{Symbol}
 use Rattle.csp_text.specs.declared.token.Token.TheVariants as token
 use Rattle.csp_text.specs.declared.token.Word as words
@@ -17,7 +17,6 @@ use Rattle.csp_text.specs.declared.tree.GenTree.TheVariants as generator
 use Rattle.csp_text.specs.declared.tree.FieldTree.TheVariants as field
 use Rattle.csp_grammar.specs.Grammar as g
 use Rattle.csp_grammar.specs.Precedence as table
-use Rattle.tree_reading.specs.declared.look.AtomStart.{AtomStart}
 use Rattle.tree_reading.specs.declared.look.AtomStart.TheVariants as start
 use Rattle.tree_reading.specs.declared.read.Binding.TheVariants as bound
 use Rattle.tree_reading.proofs.Fitting.{both, node}
@@ -28,7 +27,6 @@ use Rattle.tree_reading.proofs.Looks as look
 use Rattle.tree_reading.proofs.Looks.{IsOperator, IsSign}
 use Rattle.tree_reading.proofs.Meaning.{Sound, Expressions, ExpressionRead, ItemRead, ItemsRead, OperatorsRead, not_so_tight, loosen, of_atom}
 use Rattle.tree_reading.proofs.NodeDepths as depths
-use Rattle.csp_base.proofs.Booleans.{and_first, and_second}
 
 head_same : (x y : Tree) → ◌≡◌ {A = List Tree} (x ∷ []) (y ∷ []) → x ≡ y
 head_same x y e = cc
@@ -65,12 +63,7 @@ joined {k = k} (look.left table.minus-sign) h e q = loosen sum (g.expression-lef
 joined {k = k} (look.left table.star) h e q = loosen product (g.expression-left-operator table.product-minus table.star (e product (is_le 16 k h)) (q.is minus q.above))
 joined {k = k} (look.left table.slash) h e q = loosen product (g.expression-left-operator table.product-minus table.slash (e product (is_le 16 k h)) (q.is minus q.above))
 joined {k = k} (look.left table.percent) h e q = loosen product (g.expression-left-operator table.product-minus table.percent (e product (is_le 16 k h)) (q.is minus q.above))
-joined {k = k} (look.compared table.equal) h e q = loosen comparison (g.expression-compare table.equal (e sum (is_le 15 k h)) (q.is sum q.above))
-joined {k = k} (look.compared table.not-equal) h e q = loosen comparison (g.expression-compare table.not-equal (e sum (is_le 15 k h)) (q.is sum q.above))
-joined {k = k} (look.compared table.less) h e q = loosen comparison (g.expression-compare table.less (e sum (is_le 15 k h)) (q.is sum q.above))
-joined {k = k} (look.compared table.less-equal) h e q = loosen comparison (g.expression-compare table.less-equal (e sum (is_le 15 k h)) (q.is sum q.above))
-joined {k = k} (look.compared table.greater) h e q = loosen comparison (g.expression-compare table.greater (e sum (is_le 15 k h)) (q.is sum q.above))
-joined {k = k} (look.compared table.greater-equal) h e q = loosen comparison (g.expression-compare table.greater-equal (e sum (is_le 15 k h)) (q.is sum q.above))
+joined {k = k} (look.compared c) h e q = loosen comparison (g.expression-compare c (e sum (is_le 15 k h)) (q.is sum q.above))
 
 low : {t : Token} {op : BinOp} {m : Binding} → IsOperator t op m → number (tighter m) ≤ 18
 low (look.left table.or) = omega arith

@@ -14,7 +14,7 @@ use Rattle.tree_reading.proofs.Fitting.{both, node, through}
 use Rattle.tree_reading.proofs.Holds.{Holds, by_then, by_case, by_sure, by_if, by_bracketed, by_inside, by_around, is_le, itself, mapped}
 use Rattle.tree_reading.proofs.Holds.Holds.{some}
 use Rattle.tree_reading.proofs.Looks as look
-use Rattle.tree_reading.proofs.Meaning.{Sound, Expressions, reach, PrefixRead, SequenceRead, SideRead, ChoicesRead, Hideable, HiddenRead, HidingsRead, not_so_tight, loosen}
+use Rattle.tree_reading.proofs.Meaning.{Sound, Expressions, reach, ProcessRead, SideRead, ChoicesRead, Hideable, HiddenRead, HidingsRead, not_so_tight, loosen}
 use Rattle.tree_reading.proofs.Meaning.Hideable.{bare, hidden}
 use Rattle.tree_reading.proofs.NodeDepths as depths
 use Rattle.tree_reading.proofs.Parts.{chosen_depth}
@@ -41,25 +41,16 @@ reached : (P : Reach → Type 0) (k : Binding) → 2 ≤ number k → P closed �
 reached P k h process = subst P (sym (closed_reach k (is_test (number k) h))) process
 
 -- a process that ends with one bound like this
-prefixed : {n d : ℕ} {ts : List Token} {t : Tree} {r : List Token} (k : Binding) → nat_le 1 (number k) ≡ true → PrefixText n (reach k) ts t r → tree_depth t ≤ d →
-    PrefixRead n d ts (of_process k, t, r)
-prefixed {n} {d} {ts} {t} {r} k h process fits = record {
+ending : {n d : ℕ} {ts : List Token} {t : Tree} {r : List Token} (Text : ℕ → Reach → List Token → Tree → List Token → Type 0) (k : Binding) → nat_le 1 (number k) ≡ true → Text n (reach k) ts t r →
+    tree_depth t ≤ d → ProcessRead Text n d ts (of_process k, t, r)
+ending {n} {d} {ts} {t} {r} Text k h process fits = record {
   dotted = λ z. not_zero (number (of_process k)) (one_or_two k).0 z;
-  process = λ z. subst (λ e. PrefixText n e ts t r) (same_reach k h) process;
+  process = λ z. subst (λ e. Text n e ts t r) (same_reach k h) process;
   is = λ l le. not_so_tight l (number (of_process k)) (one_or_two k).1 le;
   fits = fits;
 }
 
-sequenced : {n d : ℕ} {ts : List Token} {t : Tree} {r : List Token} (k : Binding) → nat_le 1 (number k) ≡ true → SequenceText n (reach k) ts t r → tree_depth t ≤ d →
-    SequenceRead n d ts (of_process k, t, r)
-sequenced {n} {d} {ts} {t} {r} k h process fits = record {
-  dotted = λ z. not_zero (number (of_process k)) (one_or_two k).0 z;
-  process = λ z. subst (λ e. SequenceText n e ts t r) (same_reach k h) process;
-  is = λ l le. not_so_tight l (number (of_process k)) (one_or_two k).1 le;
-  fits = fits;
-}
-
-is_open : {n d : ℕ} {ts : List Token} {t : Tree} {r : List Token} → OpenText n ts t r → tree_depth t ≤ d → PrefixRead n d ts (bound.Open, t, r)
+is_open : {n d : ℕ} {ts : List Token} {t : Tree} {r : List Token} → OpenText n ts t r → tree_depth t ≤ d → ProcessRead PrefixText n d ts (bound.Open, t, r)
 is_open o fits = record {
   dotted = λ z. not_zero 1 (omega arith) z;
   process = λ z. g.prefix-open-form o;
@@ -67,7 +58,7 @@ is_open o fits = record {
   fits = fits;
 }
 
-is_dotted : {n d : ℕ} {ts : List Token} {t : Tree} {r : List Token} → DottedText n ts t r → tree_depth t ≤ d → PrefixRead n d ts (bound.Dotted, t, r)
+is_dotted : {n d : ℕ} {ts : List Token} {t : Tree} {r : List Token} → DottedText n ts t r → tree_depth t ≤ d → ProcessRead PrefixText n d ts (bound.Dotted, t, r)
 is_dotted x fits = record {
   dotted = λ z. x;
   process = λ z. absurd (omega arith);
@@ -75,7 +66,7 @@ is_dotted x fits = record {
   fits = fits;
 }
 
-is_expression : {n d : ℕ} {ts : List Token} (p : Binding × Tree × List Token) → 11 ≤ number p.0 → Expressions n (number p.0) ts p.1 p.2 → tree_depth p.1 ≤ d → PrefixRead n d ts p
+is_expression : {n d : ℕ} {ts : List Token} (p : Binding × Tree × List Token) → 11 ≤ number p.0 → Expressions n (number p.0) ts p.1 p.2 → tree_depth p.1 ≤ d → ProcessRead PrefixText n d ts p
 is_expression {n} {d} {ts} p h e fits = record {
   dotted = λ z. not_zero (number p.0) (positive (number p.0) (wide (number p.0) h)) z;
   process = λ z. reached (λ x. PrefixText n x ts p.1 p.2) p.0 (wide (number p.0) h) (g.prefix-expression (e disjunction h));
@@ -157,12 +148,12 @@ dots_of ds (g.fields-input-from {x = x} {s = s'} {fs = fs'} a fs) e = absurd (no
 
 module _ (L : Limited) (S : Sound L) where
   prefixed_event : (n d e : ℕ) (ts : List Token) (c : List ℕ) (fs : List FieldTree) (us : List Token) → d ≡ suc e → EventText n ts (event_tree c fs) (Symbol symbol.Arrow ∷ us) →
-      greatest (map field_depth fs) ≤ e → Holds (PrefixRead n d ts) (read_prefixed L (limits n e) c fs us)
+      greatest (map field_depth fs) ≤ e → Holds (ProcessRead PrefixText n d ts) (read_prefixed L (limits n e) c fs us)
   prefixed_event n d e ts c fs us deep front fits =
       by_then _ (S.prefix n e us) λ p pr. by_sure (at_least bound.Open p.0) _ λ h.
-      some (prefixed p.0 h (g.prefix-event front (pr.process (is_le 1 (number p.0) h))) (node (prefix_depth c fs p.1) deep (both fits pr.fits)))
+      some (ending PrefixText p.0 h (g.prefix-event front (pr.process (is_le 1 (number p.0) h))) (node (prefix_depth c fs p.1) deep (both fits pr.fits)))
 
-  event : (n d : ℕ) (ts : List Token) → Holds (PrefixRead n d ts) (read_event L (limits n d) ts)
+  event : (n d : ℕ) (ts : List Token) → Holds (ProcessRead PrefixText n d ts) (read_event L (limits n d) ts)
   event n d ts =
       by_inside n d _ λ e deep. by_then _ (look.names ts) λ c is. by_then _ (S.fields n e true c.1) λ q f.
       by_case _ _ (look.skips symbol.Arrow q.1)
@@ -173,12 +164,12 @@ module _ (L : Limited) (S : Sound L) where
       some (is_dotted (subst (λ z. DottedText n z t q.1) (sym is) x.0) x.1))
 
   branches : (n d e : ℕ) (ts : List Token) (c : Tree) (us : List Token) → d ≡ suc e → ExpressionText n disjunction ts c (Word word.Then ∷ us) → tree_depth c ≤ e →
-      Holds (PrefixRead n d (Word word.If ∷ ts)) (read_branches L (limits n e) c us)
+      Holds (ProcessRead PrefixText n d (Word word.If ∷ ts)) (read_branches L (limits n e) c us)
   branches n d e ts c us deep front fits =
       by_then _ (S.tree n e us) λ p pt. by_then _ (look.skips_word word.Else p.1) λ vs f. by_then _ (S.tree n e vs) λ q qt.
       some (is_open (g.open-if-then-else front (subst (λ z. TreeText n us p.0 z) f pt.0) qt.0) (node (depths.of_tree _ (tree.rolls-If c p.0 q.0)) deep (both fits (both pt.1 qt.1))))
 
-  conditional : (n d : ℕ) (ts : List Token) → Holds (PrefixRead n d (Word word.If ∷ ts)) (read_if L (limits n d) ts)
+  conditional : (n d : ℕ) (ts : List Token) → Holds (ProcessRead PrefixText n d (Word word.If ∷ ts)) (read_if L (limits n d) ts)
   conditional n d ts =
       by_inside n d _ λ e deep. by_then _ (S.expression n e bound.Disjunction ts (omega arith)) λ c a. by_then _ (look.skips_word word.Then c.2) λ us f.
       branches n d e ts c.1 us deep (subst (λ z. ExpressionText n disjunction ts c.1 z) f (a.is disjunction a.above)) a.fits
@@ -188,50 +179,50 @@ module _ (L : Limited) (S : Sound L) where
       by_then _ (look.names ts) λ x ex. by_then _ (look.skips symbol.Colon x.1) λ us eu. by_then _ (S.atom n e us) λ s st. by_then _ (look.skips symbol.At s.1) λ vs ev.
       some (record { behind = us; split = ex ∙ ap (λ z. Name x.0 ∷ z) eu; is = subst (λ z. AtomText n us s.0 z) ev st.0; fits = st.1 })
 
-  each : (n d : ℕ) (c : Chain) (ts : List Token) → Holds (PrefixRead n d (choice_sign (choice c) ∷ ts)) (read_each L (limits n d) c ts)
+  each : (n d : ℕ) (c : Chain) (ts : List Token) → Holds (ProcessRead PrefixText n d (choice_sign (choice c) ∷ ts)) (read_each L (limits n d) c ts)
   each n d c ts =
       by_inside n d _ λ e deep. by_then _ (binder n e ts) λ b bt. by_then _ (S.tree n e b.2) λ p pt.
-      some (subst (λ z. PrefixRead n d (choice_sign (choice c) ∷ z) (bound.Open, each_tree c b.0 b.1 p.0, p.1)) (sym bt.split)
+      some (subst (λ z. ProcessRead PrefixText n d (choice_sign (choice c) ∷ z) (bound.Open, each_tree c b.0 b.1 p.0, p.1)) (sym bt.split)
       (is_open (each_of c bt.is pt.0) (node (each_depth c b.0 b.1 p.0) deep (both bt.fits pt.1))))
 
-  each_parallel : (n d : ℕ) (ts : List Token) → Holds (PrefixRead n d (Symbol symbol.Parallel ∷ ts)) (read_each_parallel L (limits n d) ts)
+  each_parallel : (n d : ℕ) (ts : List Token) → Holds (ProcessRead PrefixText n d (Symbol symbol.Parallel ∷ ts)) (read_each_parallel L (limits n d) ts)
   each_parallel n d ts =
       by_inside n d _ λ e deep. by_then _ (binder n e ts) λ b bt. by_then _ (look.skips symbol.OpenBracket b.2) λ ws ew.
       by_bracketed n e _ λ m en. by_then _ (S.atom m e ws) λ a at. by_then _ (look.skips symbol.CloseBracket a.1) λ zs ez. by_then _ (S.tree n e zs) λ p pt.
-      some (subst (λ z. PrefixRead n d (Symbol symbol.Parallel ∷ z) (bound.Open, tree.EachParallel b.0 b.1 a.0 p.0, p.1)) (sym bt.split)
+      some (subst (λ z. ProcessRead PrefixText n d (Symbol symbol.Parallel ∷ z) (bound.Open, tree.EachParallel b.0 b.1 a.0 p.0, p.1)) (sym bt.split)
       (is_open (each_parallel_of en (subst (λ z. AtomText n bt.behind b.1 (Symbol symbol.At ∷ z)) ew bt.is) (subst (λ z. AtomText m ws a.0 z) ez at.0) pt.0)
       (node (depths.of_tree _ (tree.rolls-EachParallel b.0 b.1 a.0 p.0)) deep (both bt.fits (both at.1 pt.1)))))
 
   guarded : (n d e : ℕ) (ts : List Token) (c : Tree) (us : List Token) → d ≡ suc e → ExpressionText n disjunction ts c (Symbol symbol.Ampersand ∷ us) → tree_depth c ≤ e →
-      Holds (PrefixRead n d ts) (read_guarded L (limits n e) c us)
+      Holds (ProcessRead PrefixText n d ts) (read_guarded L (limits n e) c us)
   guarded n d e ts c us deep front fits =
       by_then _ (S.prefix n e us) λ q pr. by_sure (at_least bound.Open q.0) _ λ h.
-      some (prefixed q.0 h (g.prefix-guard front (pr.process (is_le 1 (number q.0) h))) (node (depths.of_tree _ (tree.rolls-Guard c q.1)) deep (both fits pr.fits)))
+      some (ending PrefixText q.0 h (g.prefix-guard front (pr.process (is_le 1 (number q.0) h))) (node (depths.of_tree _ (tree.rolls-Guard c q.1)) deep (both fits pr.fits)))
 
-  guard : (n d : ℕ) (ts : List Token) → Holds (PrefixRead n d ts) (read_guard L (limits n d) ts)
+  guard : (n d : ℕ) (ts : List Token) → Holds (ProcessRead PrefixText n d ts) (read_guard L (limits n d) ts)
   guard n d ts =
       by_then _ (S.expression n d bound.Disjunction ts (omega arith)) λ p a.
       by_case _ _ (look.skips symbol.Ampersand p.2)
       (λ us f. by_around n d p.1 _ λ e deep fits. guarded n d e ts p.1 us deep (subst (λ z. ExpressionText n disjunction ts p.1 z) f (a.is disjunction a.above)) fits)
       (some (is_expression (p.0, p.1, p.2) a.above a.is a.fits))
 
-  form : (n d : ℕ) (ts : List Token) → Holds (λ s. Holds (PrefixRead n d ts) (read_opened L (limits n d) s.0 s.1)) (form_start ts)
+  form : (n d : ℕ) (ts : List Token) → Holds (λ s. Holds (ProcessRead PrefixText n d ts) (read_opened L (limits n d) s.0 s.1)) (form_start ts)
   form n d ts =
-      by_case _ _ (look.skips_word word.If ts) (λ us e. some (subst (λ z. Holds (PrefixRead n d z) (read_if L (limits n d) us)) (sym e) (conditional n d us)))
-      (by_case _ _ (look.chains ts) (λ c e. some (subst (λ z. Holds (PrefixRead n d z) (read_each L (limits n d) c.0 c.1)) (sym e) (each n d c.0 c.1)))
-      (by_case _ _ (look.skips symbol.Parallel ts) (λ us e. some (subst (λ z. Holds (PrefixRead n d z) (read_each_parallel L (limits n d) us)) (sym e) (each_parallel n d us)))
+      by_case _ _ (look.skips_word word.If ts) (λ us e. some (subst (λ z. Holds (ProcessRead PrefixText n d z) (read_if L (limits n d) us)) (sym e) (conditional n d us)))
+      (by_case _ _ (look.chains ts) (λ c e. some (subst (λ z. Holds (ProcessRead PrefixText n d z) (read_each L (limits n d) c.0 c.1)) (sym e) (each n d c.0 c.1)))
+      (by_case _ _ (look.skips symbol.Parallel ts) (λ us e. some (subst (λ z. Holds (ProcessRead PrefixText n d z) (read_each_parallel L (limits n d) us)) (sym e) (each_parallel n d us)))
       (some (guard n d ts))))
 
-  pub prefix : (n d : ℕ) (ts : List Token) → Holds (PrefixRead n d ts) (read_prefix L (limits n d) ts)
-  prefix n d ts = by_then {Q = λ s. Holds (PrefixRead n d ts) (read_opened L (limits n d) s.0 s.1)} _ (by_if (begins_event ts) _ _ (some (event n d ts)) (form n d ts)) λ s h. h
+  pub prefix : (n d : ℕ) (ts : List Token) → Holds (ProcessRead PrefixText n d ts) (read_prefix L (limits n d) ts)
+  prefix n d ts = by_then {Q = λ s. Holds (ProcessRead PrefixText n d ts) (read_opened L (limits n d) s.0 s.1)} _ (by_if (begins_event ts) _ _ (some (event n d ts)) (form n d ts)) λ s h. h
 
   followed : (n d e : ℕ) (ts : List Token) (t : Tree) (us : List Token) → d ≡ suc e → PrefixText n closed ts t (Symbol symbol.Semicolon ∷ us) → tree_depth t ≤ e →
-      Holds (SequenceRead n d ts) (read_followed L (limits n e) t us)
+      Holds (ProcessRead SequenceText n d ts) (read_followed L (limits n e) t us)
   followed n d e ts t us deep front fits =
       by_then _ (S.sequence n e us) λ q sq. by_sure (at_least bound.Open q.0) _ λ h.
-      some (sequenced q.0 h (g.sequence-more front (sq.process (is_le 1 (number q.0) h))) (node (depths.of_tree _ (tree.rolls-Seq t q.1)) deep (both fits sq.fits)))
+      some (ending SequenceText q.0 h (g.sequence-more front (sq.process (is_le 1 (number q.0) h))) (node (depths.of_tree _ (tree.rolls-Seq t q.1)) deep (both fits sq.fits)))
 
-  pub sequence : (n d : ℕ) (ts : List Token) → Holds (SequenceRead n d ts) (read_sequence L (limits n d) ts)
+  pub sequence : (n d : ℕ) (ts : List Token) → Holds (ProcessRead SequenceText n d ts) (read_sequence L (limits n d) ts)
   sequence n d ts =
       by_then _ (S.prefix n d ts) λ p pr.
       by_case _ _ (look.skips symbol.Semicolon p.2)

@@ -1,7 +1,5 @@
 -- What is read is one, so the grammar has one; and a reading decides what a text is.
-use Rattle.tree_reading.proofs.Prelude.{max, List, refl, ap, arith, tree_depth, Decl, none-some}
-use Rattle.csp_text.specs.declared.script.Script.{Script}
-use Rattle.tree_reading.specs.Laws.{EachTextHasOneTree, EachTextIsOneScript, ReaderIsComplete, ReaderGivesTrees, ReaderIsSound, ReadTreesAreTrees, SettledScriptIsOne, SettledNothingIsNone, ScriptsSettle}
+use Rattle.tree_reading.proofs.Prelude.{max, List, refl, ap, arith, tree_depth, Decl, none-some, Script, EachTextHasOneTree, EachTextIsOneScript, ReaderIsComplete, ReaderGivesTrees, ReaderIsSound, ReadTreesAreTrees, SettledScriptIsOne, SettledNothingIsNone, ScriptsSettle}
 use Rattle.tree_reading.proofs.Complete.{tree_read}
 use Rattle.tree_reading.proofs.Fitting.{first_part, second_part}
 use Rattle.tree_reading.proofs.Follow.{below_stops}

@@ -112,8 +112,8 @@ impl Deep<Tree> {
 pub type DeepTree = Deep<Boxed<Tree>>;
 
 impl Deep<Boxed<Tree>> {
-    /// A tree around parts of which the deepest has this depth.
-    pub fn around(tree: Boxed<Tree>, below: u32) -> Deep<Boxed<Tree>>
+    /// A node over parts of which the deepest has this depth.
+    pub fn node(tree: Boxed<Tree>, below: u32) -> Deep<Boxed<Tree>>
         requires { capped (below + 1) ≡ capped (tree_depth tree) }
         ensures { result ≡ tree }
     {
@@ -123,7 +123,7 @@ impl Deep<Boxed<Tree>> {
 
 impl<T: Nested> Deep<Boxed<T>> {
     /// The same, taken from the heap.
-    pub fn unboxed(self) -> Deep<T>
+    pub fn unbox(self) -> Deep<T>
         ensures { result ≡ self }
     {
         let depth = self.depth();

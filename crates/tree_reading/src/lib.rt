@@ -10,6 +10,6 @@ pub mod limits;
 pub mod look;
 pub mod read;
 
-pub use fault::ReadFault;
+pub use fault::{NoText, OrNoText};
 pub use limits::Limits;
 pub use read::{Binding, BoundRead, Read};

@@ -2,11 +2,10 @@
 
 ghost use Rattle.std.specs.Prelude.{nat_le, ◌≡◌};
 ghost use Rattle.csp_text.specs.Depth.{tree_depth};
-ghost use Rattle.tree_reading.specs.Gives.{Gives};
-ghost use Rattle.tree_reading.specs.Nesting.{around, bracketed, inside, opened};
+ghost use Rattle.tree_reading.specs.Prelude.{Gives, around, bracketed, inside, opened};
 
 use crate::deep::DeepTree;
-use crate::fault::{ReadFault, stopped};
+use crate::fault::{OrNoText, no_text};
 use csp_text::Token;
 
 /// How much may still be nested.
@@ -20,7 +19,7 @@ pub struct Limits {
 
 impl Limits {
     /// The limits below one more bracket, where one stands in front of the tokens.
-    pub fn bracketed(self, tokens: &[Token]) -> Result<Limits, ReadFault>
+    pub fn open_bracket(self, tokens: &[Token]) -> OrNoText<Limits>
         ensures { Gives result (λ inner. inner) (bracketed self) }
     {
         match self.brackets.checked_sub(1) {
@@ -28,12 +27,12 @@ impl Limits {
                 brackets,
                 depth: self.depth,
             }),
-            None => Err(stopped(tokens)),
+            None => Err(no_text(tokens)),
         }
     }
 
     /// The limits of the parts of a node, in front of the tokens.
-    pub fn inside(self, tokens: &[Token]) -> Result<Limits, ReadFault>
+    pub fn inside(self, tokens: &[Token]) -> OrNoText<Limits>
         ensures { Gives result (λ inner. inner) (inside self) }
     {
         match self.depth.checked_sub(1) {
@@ -41,15 +40,15 @@ impl Limits {
                 brackets: self.brackets,
                 depth,
             }),
-            None => Err(stopped(tokens)),
+            None => Err(no_text(tokens)),
         }
     }
 
     /// The limits of the parts of a node that opens a bracket, in front of the tokens.
-    pub fn opened(self, tokens: &[Token]) -> Result<Limits, ReadFault>
+    pub fn inside_bracket(self, tokens: &[Token]) -> OrNoText<Limits>
         ensures { Gives result (λ inner. inner) (opened self) }
     {
-        let below = self.bracketed(tokens)?;
+        let below = self.open_bracket(tokens)?;
         below.inside(tokens)
     }
 
@@ -61,14 +60,14 @@ impl Limits {
     }
 
     /// The limits of the parts of a node with this tree as its first part, in front of the tokens.
-    pub fn around(self, tree: &DeepTree, tokens: &[Token]) -> Result<Limits, ReadFault>
+    pub fn inside_with(self, tree: &DeepTree, tokens: &[Token]) -> OrNoText<Limits>
         ensures { Gives result (λ inner. inner) (around self tree.now) }
     {
         let inner = self.inside(tokens)?;
         if inner.has_room(tree) {
             Ok(inner)
         } else {
-            Err(stopped(tokens))
+            Err(no_text(tokens))
         }
     }
 }

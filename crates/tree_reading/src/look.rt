@@ -3,13 +3,11 @@
 ghost use Rattle.std.specs.Prelude.{◌≡◌, ◌≤◌, ◌<◌, length, nat_eq, IfOk, IfSome, MatchOption, Some, None};
 ghost use Rattle.std.specs.Option.{option_copied};
 ghost use Rattle.csp_grammar.specs.Prelude.{begins_event, begins, binding, skip, skip_word};
-ghost use Rattle.tree_reading.specs.Bindings.{left_operand};
-ghost use Rattle.tree_reading.specs.Gives.{Gives};
-ghost use Rattle.tree_reading.specs.Starts.{atom_start, chain_symbol, first_chain, form_start, is_symbol_token, is_word_token, may_follow, named, other_start, prefix_start, sign_behind, sign_binding, symbol_sign, token_sign, token_start, symbol_start, word_sign, word_start};
+ghost use Rattle.tree_reading.specs.Prelude.{left_operand, Gives, atom_start, chain_symbol, first_chain, form_start, is_symbol_token, is_word_token, may_follow, named, other_start, prefix_start, sign_behind, sign_binding, symbol_sign, token_sign, token_start, symbol_start, word_sign, word_start};
 
 use crate::deep::Deep;
-use crate::fault::{ReadFault, stopped};
-use crate::read::Binding;
+use crate::fault::{OrNoText, no_text};
+use crate::read::{Binding, Read};
 use csp_base::{BinOp, Name, SetOp};
 use csp_text::{Symbol, Token, Tree, Word};
 use std::alloc::Global;
@@ -107,29 +105,29 @@ pub fn skip_word(tokens: &[Token], word: Word) -> Option<&[Token]>
 }
 
 /// What follows the symbol at the front, which has to stand there.
-pub fn expect(tokens: &[Token], symbol: Symbol) -> Result<&[Token], ReadFault>
+pub fn expect(tokens: &[Token], symbol: Symbol) -> OrNoText<&[Token]>
     ensures same { Gives result (λ rest. rest.now) (skip symbol tokens.now) }
     ensures shorter { IfOk result (λ rest. length rest.now < length tokens.now) }
 {
     match skip(tokens, symbol) {
         Some(rest) => Ok(rest),
-        None => Err(stopped(tokens)),
+        None => Err(no_text(tokens)),
     }
 }
 
 /// What follows the word at the front, which has to stand there.
-pub fn expect_word(tokens: &[Token], word: Word) -> Result<&[Token], ReadFault>
+pub fn expect_word(tokens: &[Token], word: Word) -> OrNoText<&[Token]>
     ensures same { Gives result (λ rest. rest.now) (skip_word word tokens.now) }
     ensures shorter { IfOk result (λ rest. length rest.now < length tokens.now) }
 {
     match skip_word(tokens, word) {
         Some(rest) => Ok(rest),
-        None => Err(stopped(tokens)),
+        None => Err(no_text(tokens)),
     }
 }
 
 /// The name at the front, and what follows it.
-pub fn named(tokens: &[Token]) -> Option<(&Name, &[Token])>
+pub fn first_name(tokens: &[Token]) -> Option<(&Name, &[Token])>
     ensures same { MatchOption result (named tokens.now ≡ None) (λ found. named tokens.now
         ≡ Some (found.0.now, found.1.now)) }
     ensures shorter { IfSome result (λ found. length found.1.now < length tokens.now) }
@@ -141,16 +139,16 @@ pub fn named(tokens: &[Token]) -> Option<(&Name, &[Token])>
 }
 
 /// A copy of the name at the front, which has to stand there, and what follows it.
-pub fn expect_name(alloc: Global, tokens: &[Token]) -> Result<(Name, &[Token]), ReadFault>
+pub fn expect_name(alloc: Global, tokens: &[Token]) -> OrNoText<(Name, &[Token])>
     ensures same { Gives result (λ found. (found.0, found.1.now)) (named tokens.now) }
     ensures shorter { IfOk result (λ found. length found.1.now < length tokens.now) }
 {
-    match named(tokens) {
+    match first_name(tokens) {
         Some((name, rest)) => {
             let name = name.try_clone(alloc)?;
             Ok((name, rest))
         }
-        None => Err(stopped(tokens)),
+        None => Err(no_text(tokens)),
     }
 }
 
@@ -199,16 +197,18 @@ impl Chain {
 }
 
 /// The choice whose sign is at the front, and what follows it.
-pub fn first_chain(tokens: &[Token]) -> Option<(Chain, &[Token])>
+pub fn first_chain(tokens: &[Token]) -> Option<Read<'_, Chain>>
     ensures same { MatchOption result (first_chain tokens.now ≡ None) (λ found. first_chain tokens.now
-        ≡ Some (found.0, found.1.now)) }
-    ensures shorter { IfSome result (λ found. length found.1.now < length tokens.now) }
+        ≡ Some (found.part, found.rest.now)) }
+    ensures shorter { IfSome result (λ found. length found.rest.now < length tokens.now) }
 {
     if let Some(rest) = skip(tokens, Symbol::ExternalChoice) {
-        return Some((Chain::External, rest));
+        let part = Chain::External;
+        return Some(Read { part, rest });
     }
+    let part = Chain::Internal;
     match skip(tokens, Symbol::InternalChoice) {
-        Some(rest) => Some((Chain::Internal, rest)),
+        Some(rest) => Some(Read { part, rest }),
         None => None,
     }
 }
@@ -276,16 +276,16 @@ impl Sign {
 }
 
 /// The sign that goes on with an operand, which is bound like this, and what follows the sign.
-pub fn sign_behind(level: Binding, bound: Binding, tokens: &[Token]) -> Option<(Sign, &[Token])>
+pub fn sign_behind(level: Binding, bound: Binding, tokens: &[Token]) -> Option<Read<'_, Sign>>
     ensures same { MatchOption result (sign_behind level bound tokens.now ≡ None) (λ found.
-        sign_behind level bound tokens.now ≡ Some (found.0, found.1.now)) }
-    ensures shorter { IfSome result (λ found. length found.1.now < length tokens.now) }
+        sign_behind level bound tokens.now ≡ Some (found.part, found.rest.now)) }
+    ensures shorter { IfSome result (λ found. length found.rest.now < length tokens.now) }
 {
     let Some((first, rest)) = tokens.split_first() else {
         return None;
     };
     match token_sign(first) {
-        Some(sign) if sign.may_follow(level, bound) => Some((sign, rest)),
+        Some(part) if part.may_follow(level, bound) => Some(Read { part, rest }),
         _ => None,
     }
 }
@@ -331,25 +331,25 @@ fn token_start(token: &Token) -> Option<AtomStart>
 }
 
 // What an atom that begins with no name begins with, and what follows that.
-fn other_start(tokens: &[Token]) -> Result<(AtomStart, &[Token]), ReadFault>
+fn other_start(tokens: &[Token]) -> OrNoText<(AtomStart, &[Token])>
     ensures same { Gives result (λ found. (found.0, found.1.now)) (other_start tokens.now) }
     ensures shorter { IfOk result (λ found. length found.1.now < length tokens.now) }
 {
     let Some((first, rest)) = tokens.split_first() else {
-        return Err(stopped(tokens));
+        return Err(no_text(tokens));
     };
     match token_start(first) {
         Some(start) => Ok((start, rest)),
-        None => Err(stopped(tokens)),
+        None => Err(no_text(tokens)),
     }
 }
 
 /// What an atom begins with, and what follows that.
-pub fn atom_start(alloc: Global, tokens: &[Token]) -> Result<(AtomStart, &[Token]), ReadFault>
+pub fn atom_start(alloc: Global, tokens: &[Token]) -> OrNoText<(AtomStart, &[Token])>
     ensures same { Gives result (λ found. (found.0, found.1.now)) (atom_start tokens.now) }
     ensures shorter { IfOk result (λ found. length found.1.now < length tokens.now) }
 {
-    let Some((name, rest)) = named(tokens) else {
+    let Some((name, rest)) = first_name(tokens) else {
         return other_start(tokens);
     };
     let name = name.try_clone(alloc)?;
@@ -367,8 +367,8 @@ fn form_start(tokens: &[Token]) -> (PrefixStart, &[Token])
     if let Some(rest) = skip_word(tokens, Word::If) {
         return (PrefixStart::If, rest);
     }
-    if let Some((chain, rest)) = first_chain(tokens) {
-        return (PrefixStart::Each(chain), rest);
+    if let Some(sign) = first_chain(tokens) {
+        return (PrefixStart::Each(sign.part), sign.rest);
     }
     match skip(tokens, Symbol::Parallel) {
         Some(rest) => (PrefixStart::EachParallel, rest),

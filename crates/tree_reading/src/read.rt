@@ -1,12 +1,10 @@
 //! What was read from the front of tokens.
 
 ghost use Rattle.std.specs.Prelude.{◌≡◌};
-ghost use Rattle.tree_reading.specs.Bindings.{at_least, last_item, left_operand, number, of_process, tighter};
-ghost use Rattle.tree_reading.specs.Gives.{Gives};
-ghost use Rattle.tree_reading.specs.Nesting.{sure};
+ghost use Rattle.tree_reading.specs.Prelude.{at_least, last_item, left_operand, number, of_process, tighter, Gives, sure};
 
-use crate::deep::Deep;
-use crate::fault::{ReadFault, stopped};
+use crate::deep::{Deep, DeepTree};
+use crate::fault::{OrNoText, no_text};
 use containers::Items;
 use csp_text::{Token, Tree};
 
@@ -17,6 +15,19 @@ pub struct Read<'t, T> {
     pub part: T,
     /// The tokens behind it.
     pub rest: &'t [Token],
+}
+
+impl<'t> Read<'t, DeepTree> {
+    /// The same, bound like this.
+    pub fn bind(self, binding: Binding) -> BoundRead<'t, DeepTree>
+        ensures { result ≡ record { binding = binding; part = self.entry.part; rest = self.entry.rest } }
+    {
+        BoundRead {
+            binding,
+            part: self.part,
+            rest: self.rest,
+        }
+    }
 }
 
 /// The same with how tightly it is bound.
@@ -31,10 +42,10 @@ pub struct BoundRead<'t, T> {
 }
 
 /// What a reading answers.
-pub type Reading<'t, T> = Result<Read<'t, T>, ReadFault>;
+pub type Reading<'t, T> = OrNoText<Read<'t, T>>;
 
 /// The same with how tightly it is bound.
-pub type BoundReading<'t, T> = Result<BoundRead<'t, T>, ReadFault>;
+pub type BoundReading<'t, T> = OrNoText<BoundRead<'t, T>>;
 
 /// How tightly a tree is bound: what may stand beside it with no parentheses.
 #[derive(Clone, Copy)]
@@ -94,13 +105,13 @@ impl Binding {
     }
 
     /// Stops the reading in front of the tokens unless this is bound as tightly as the other.
-    pub fn expect(self, least: Binding, tokens: &[Token]) -> Result<(), ReadFault>
+    pub fn expect(self, least: Binding, tokens: &[Token]) -> OrNoText<()>
         ensures { Gives result (λ _. tt) (sure (at_least least self)) }
     {
         if self.is_at_least(least) {
             Ok(())
         } else {
-            Err(stopped(tokens))
+            Err(no_text(tokens))
         }
     }
 

@@ -20,7 +20,7 @@ first_is : {A : Type 0} (o : Option A) (os : List (Option A)) → o ≡ None →
 first_is None os h g = g
 first_is (Some a) os h g = absurd (cc)
 
-or_is : (a b : Bool) → a ≡ false → b ≡ false → (a || b) ≡ false
+pub or_is : (a b : Bool) → a ≡ false → b ≡ false → (a || b) ≡ false
 or_is false b h g = g
 or_is true b h g = absurd (cc)
 

@@ -6,7 +6,7 @@ use Rattle.typed_laws.proofs.NetsAre.{net_is}
 use Rattle.typed_laws.proofs.Passing.{data_at}
 use Rattle.typed_laws.proofs.ProcsAre.{proc_is}
 
-none_more : (n : ℕ) → 0 + n ≡ n
+pub none_more : (n : ℕ) → 0 + n ≡ n
 none_more n = omega arith
 
 -- depths agree by uses where they agree in each body

@@ -42,7 +42,7 @@ or_none d = omega arith
 some_of : (a b : ℕ) → 0 < a → 0 < max a b
 some_of a b h = omega arith
 
-some_left : (a left n : ℕ) → a + left ≡ n → nat_lt n a ≡ false
+pub some_left : (a left n : ℕ) → a + left ≡ n → nat_lt n a ≡ false
 some_left a left n h = grind arith
 
 module _ (m : Meanings) (ks : List Kind) where

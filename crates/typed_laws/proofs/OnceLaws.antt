@@ -1,6 +1,6 @@
 -- Names that are declared, bound or annotated once: what passes of their occurrences, both ways.
-use Rattle.typed_laws.proofs.Sources.{◌≡◌, Notes, ℕ, zero, suc, ◌+◌, Bool, true, false, ◌||◌, Some, None, List, [], ◌∷◌, ◌++◌, length, map, refl, sym, ◌∙◌, ap, subst, append_assoc, append-nil, slice_get, Decides, Decides-eqb, map-append, list_any-append, slice_eq-Decides, or_first_false, or_second_false, EachOnce, AreParameters, is_constant, when, Counts, Meanings, Name, channels_from, constants_from, counted, declared_from, is_among, names_declared, none_yet, same_name, AreOnce, with_roles, with_uses, declared_after, parameters_after, MayBind, Decl, Entity, Kind}
-use Rattle.csp_base.specs.Standard.{flat_map}
+use Rattle.typed_laws.proofs.Sources.{◌≡◌, Notes, ℕ, zero, suc, ◌+◌, Bool, true, false, ◌||◌, Some, None, List, [], ◌∷◌, ◌++◌, length, map, refl, sym, ◌∙◌, ap, subst, append_assoc, append-nil, slice_get, Decides, Decides-eqb, map-append, list_any-append, slice_eq-Decides, or_first_false, or_second_false, EachOnce, AreParameters, is_constant, when, Counts, Meanings, Name, channels_from, constants_from, counted, declared_from, is_among, names_declared, none_yet, same_name, AreOnce, with_roles, with_uses, declared_after, parameters_after, MayBind, Decl, Entity, Kind, flat_map, flat_map_push}
+use Rattle.typed_laws.proofs.DeclPasses.{or_is}
 use Rattle.typed_laws.proofs.Passing.{AllPass, Passes}
 use Rattle.typed_laws.proofs.Uses.{when_none}
 use Rattle.typed_laws.proofs.Senses.{no_constant}
@@ -13,20 +13,13 @@ abbrev pub FreshFrom : List Name → List Name → Type 0
 FreshFrom before [] = Unit {0}
 FreshFrom before (x ∷ xs) = (is_among before x ≡ false) × FreshFrom (before ++ x ∷ []) xs
 
-among_append : (xs ys : List Name) (x : Name) → is_among (xs ++ ys) x ≡ (is_among xs x || is_among ys x)
-among_append xs ys x = list_any-append (same_name x) xs ys
-
-both_false : (a b : Bool) → a ≡ false → b ≡ false → (a || b) ≡ false
-both_false false false h g = refl
-both_false _ _ h g = absurd (cc)
-
 apart_of : (xs ys : List Name) (x : Name) → is_among (xs ++ ys) x ≡ false → is_among xs x ≡ false
-apart_of xs ys x h = or_first_false (is_among xs x) (is_among ys x) (sym (among_append xs ys x) ∙ h)
+apart_of xs ys x h = or_first_false (is_among xs x) (is_among ys x) (sym (list_any-append (same_name x) xs ys) ∙ h)
 
 -- a name is not among names of which it is the last
 last_among : (xs : List Name) (x : Name) → is_among (xs ++ x ∷ []) x ≡ false → ⊥
 last_among xs x h =
-    let one = or_second_false (is_among xs x) (is_among (x ∷ []) x) (sym (among_append xs (x ∷ []) x) ∙ h) in
+    let one = or_second_false (is_among xs x) (is_among (x ∷ []) x) (sym (list_any-append (same_name x) xs (x ∷ [])) ∙ h) in
     let same : same_name x x ≡ true = (same_decides x x).1 refl in
     let other : same_name x x ≡ false = or_first_false (same_name x x) false one in
     cc
@@ -58,8 +51,8 @@ once_fresh : (before xs : List Name) → EachOnce xs → ((k : ℕ) (y : Name) �
 once_fresh before [] h apart = tt
 once_fresh before (x ∷ xs) h apart = (
   apart 0 x refl,
-  once_fresh (before ++ x ∷ []) xs (tail_once x xs h) (λ k y g. among_append before (x ∷ []) y ∙ both_false (is_among before y) (is_among (x ∷ []) y) (apart (suc k) y g)
-      (both_false (same_name y x) false (other_name x y (same_name y x) refl (λ e. let s : 0 ≡ suc k = h 0 (suc k) y (ap Some (sym e)) g in cc)) refl)),
+  once_fresh (before ++ x ∷ []) xs (tail_once x xs h) (λ k y g. list_any-append (same_name y) before (x ∷ []) ∙ or_is (is_among before y) (is_among (x ∷ []) y) (apart (suc k) y g)
+      (or_is (same_name y x) false (other_name x y (same_name y x) refl (λ e. let s : 0 ≡ suc k = h 0 (suc k) y (ap Some (sym e)) g in cc)) refl)),
 )
 
 fresh_two : (before xs ys : List Name) → FreshFrom before (xs ++ ys) → FreshFrom before xs × FreshFrom (before ++ xs) ys
@@ -74,10 +67,6 @@ fresh_join before (x ∷ xs) ys h g = (h.0, fresh_join (before ++ x ∷ []) xs y
 
 -- ---- one declaration after another
 
-flat_append : (names : Decl → List Name) (earlier : List Decl) (d : Decl) → flat_map names (earlier ++ d ∷ []) ≡ flat_map names earlier ++ names d
-flat_append names [] d = append-nil (names d)
-flat_append names (e ∷ earlier) d = ap (λ z. names e ++ z) (flat_append names earlier d) ∙ sym (append_assoc (names e) (flat_map names earlier) (names d))
-
 abbrev pub EachFresh : (Decl → List Name) → List Decl → List Decl → Type 0
 EachFresh names earlier [] = Unit {0}
 EachFresh names earlier (d ∷ rest) = FreshFrom (flat_map names earlier) (names d) × EachFresh names (earlier ++ d ∷ []) rest
@@ -86,13 +75,13 @@ all_fresh : (names : Decl → List Name) (earlier rest : List Decl) → EachFres
 all_fresh names earlier [] h = tt
 all_fresh names earlier (d ∷ rest) h =
     fresh_join (flat_map names earlier) (names d) (flat_map names rest) h.0
-    (subst (λ z. FreshFrom z (flat_map names rest)) (flat_append names earlier d) (all_fresh names (earlier ++ d ∷ []) rest h.1))
+    (subst (λ z. FreshFrom z (flat_map names rest)) (flat_map_push names earlier d) (all_fresh names (earlier ++ d ∷ []) rest h.1))
 
 each_fresh : (names : Decl → List Name) (earlier rest : List Decl) → FreshFrom (flat_map names earlier) (flat_map names rest) → EachFresh names earlier rest
 each_fresh names earlier [] h = tt
 each_fresh names earlier (d ∷ rest) h =
     let w = fresh_two (flat_map names earlier) (names d) (flat_map names rest) h in
-    (w.0, each_fresh names (earlier ++ d ∷ []) rest (subst (λ z. FreshFrom z (flat_map names rest)) (sym (flat_append names earlier d)) w.1))
+    (w.0, each_fresh names (earlier ++ d ∷ []) rest (subst (λ z. FreshFrom z (flat_map names rest)) (sym (flat_map_push names earlier d)) w.1))
 
 -- the names that a declaration declares
 abbrev pub names_of_decl : Decl → List Name

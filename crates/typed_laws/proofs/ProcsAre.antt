@@ -1,6 +1,5 @@
 -- Where a tree is a process by the rules of typing, it is read as that process and passes.
-use Rattle.typed_laws.proofs.Sources.{◌≡◌, roll-Tree, ℕ, zero, suc, ◌+◌, ◌-◌, Bool, true, false, not, ◌||◌, nat_eq, nat_lt, Some, None, List, [], ◌∷◌, length, map, refl, sym, ◌∙◌, ap, subst, append-nil, arith, eq-eqb, data_in, is_network, kind_network, when, Meanings, Name, Binder, Fields, Said, all_say, in_turn, pair_says, part_says, tree_says, tree_says_of_layer, Scope, names_of, with, Binding, Front, Reading, all_bind, bindings, bindings_bind, definition_number, channel_number, head_of, pairs, pairs_bind, part, procs, reading, reading_of_layer, under, AreFields, ArePairs, AreProcs, IsProc, event_tree, EventPart, Expr, Field, FieldTree, FieldTree-F, Form, Kind, PartTree, Place, Proc, Sense, Tree, Tree-F, Uses, Head, Class, Entity, Use}
-use Rattle.csp_base.proofs.Standard.{length-map}
+use Rattle.typed_laws.proofs.Sources.{◌≡◌, roll-Tree, ℕ, zero, suc, ◌+◌, ◌-◌, Bool, true, false, not, ◌||◌, nat_eq, nat_lt, Some, None, List, [], ◌∷◌, length, map, refl, sym, ◌∙◌, ap, subst, append-nil, arith, eq-eqb, data_in, is_network, kind_network, when, Meanings, Name, Binder, Fields, Said, all_say, in_turn, pair_says, part_says, tree_says, tree_says_of_layer, Scope, names_of, with, Binding, Front, Reading, all_bind, bindings, bindings_bind, definition_number, channel_number, head_of, pairs, pairs_bind, part, procs, reading, reading_of_layer, under, AreFields, ArePairs, AreProcs, IsProc, event_tree, EventPart, Expr, Field, FieldTree, FieldTree-F, Form, Kind, PartTree, Place, Proc, Sense, Tree, Tree-F, Uses, Head, Class, Entity, Use, length-map}
 use Rattle.csp_text.specs.declared.tree.FieldTree.TheVariants as text
 use Rattle.csp_text.specs.declared.tree.Tree.TheVariants as tree
 use Rattle.csp_program.specs.declared.processes.Proc.TheVariants as proc
@@ -8,7 +7,7 @@ use Rattle.script_names.specs.Typed.{put}
 use Rattle.script_names.specs.Says as says
 use Rattle.script_names.specs.Typing as t
 use Rattle.typed_laws.proofs.Trees.{TreeLayer, at_event, at_field, at_tree, of_field, of_gen, of_part, reads, saying, tree_layer}
-use Rattle.typed_laws.proofs.ExprsAre.{ExprIs, add_next, add_three, expr_is, exprs_are, front_is, gens_are, names_after, none_next, one_next}
+use Rattle.typed_laws.proofs.ExprsAre.{ExprIs, add_next, add_three, expr_is, exprs_are, front_is, gens_are, names_after, none_next, one_next, some_left}
 use Rattle.typed_laws.proofs.Passing.{AllPass, Passes, form_passes, join, join_three, process_at, use_passes}
 use Rattle.typed_laws.proofs.ScopeNames.{add_names, field_names, names_with}
 use Rattle.typed_laws.proofs.Senses.{bind_passes, bound_is, call_passes, definition_passes, means_is, none_of_count}
@@ -18,9 +17,6 @@ add_one_two n a b i k h g = omega arith
 
 same_left : (a left n b n' : ℕ) → a + left ≡ n → b + left ≡ n' → n - a ≡ n' - b
 same_left a left n b n' h g = omega arith
-
-within : (a left n : ℕ) → a + left ≡ n → nat_lt n a ≡ false
-within a left n h = grind arith
 
 none_of_three : (a b c : Bool) → a ≡ false → b ≡ false → c ≡ true → (a || (b || not c)) ≡ false
 none_of_three false false true h g k = refl
@@ -57,7 +53,7 @@ module _ (m : Meanings) (ks : List Kind) where
       (record {
         known = refl;
         kind = refl;
-        count = ap (λ b. when b x) (none_of_three (nat_lt n k) (nat_lt n' k') (nat_eq (n - k) (n' - k')) (within k left n g) (within k' left n' g')
+        count = ap (λ b. when b x) (none_of_three (nat_lt n k) (nat_lt n' k') (nat_eq (n - k) (n' - k')) (some_left k left n g) (some_left k' left n' g')
             (eq-eqb (n - k) (n' - k') (same_left k left n k' n' g g')));
         inside = refl;
         once = refl;

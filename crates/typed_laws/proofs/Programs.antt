@@ -1,16 +1,13 @@
 -- A script has a program by the rules of typing exactly where the functions give it.
 use Rattle.typed_laws.proofs.Sources.{◌≡◌, ℕ, zero, suc, ◌+◌, ◌≤◌, Bool, true, false, nat_le, nat_lt, IsTrue, Option, Some, None, Ok, Err, List, [], ◌∷◌, ◌++◌, length, refl, sym, ◌∙◌, ap, subst, arith, if◌then◌else◌, slice_get, flat_map, StandsIn, first_assertion, plain_content, IsShallow, definition_depth, Declares, nothing_yet, depth_within, field_sets, AreKinds, script_ends, Meanings, Name, is_among, meanings_of, names_declared, none_yet, AreOnce, with_roles, with_uses, IsProgram, all_events, with_events, with_sets, Answer, and_next, channel_sets, resolved, types_of, with_names, with_root, with_table, bodies_from, declared_after, is_deep, name_fault, types_say, decl_says, Atom, Content, Decl, Expr, Kind, MOST_DATA_DEPTH, MOST_EVENTS, ResolveFault, Script, Tree}
 use Rattle.typed_laws.proofs.Back.{SetsFor, any_sets, declares, sets_for, sets_for_any}
-use Rattle.typed_laws.proofs.Declared.{bodies_are, content_is, depths_agree, sets_are}
+use Rattle.typed_laws.proofs.Declared.{bodies_are, content_is, depths_agree, none_more, sets_are}
 use Rattle.typed_laws.proofs.DeclPasses.{EachPasses, each_passes, no_fault}
 use Rattle.typed_laws.proofs.Forward.{passes_each}
 use Rattle.typed_laws.proofs.Uses.{when_none}
 use Rattle.typed_laws.proofs.OnceLaws.{AllFresh, FreshFrom, are_once, declared_fresh, names_are, names_of_decl, once_all}
 use Rattle.typed_laws.proofs.Passing.{AllPass, Passes, two_parts}
 use Rattle.typed_laws.proofs.ScriptKinds.{have_kinds, kind_is}
-
-none_more : (n : ℕ) → 0 + n ≡ n
-none_more n = omega arith
 
 no_depth : (limit : ℕ) → 0 ≤ limit
 no_depth limit = omega arith

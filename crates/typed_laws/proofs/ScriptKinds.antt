@@ -1,11 +1,12 @@
 -- In a faultless script each definition is one of data, of a process that is no network, or of a network.
-use Rattle.typed_laws.proofs.Sources.{◌≡◌, Every, ℕ, zero, suc, ◌+◌, ◌<◌, ◌≤◌, Bool, true, false, cond, Option, Some, None, List, [], ◌∷◌, ◌++◌, length, refl, sym, ◌∙◌, ap, subst, arith, slice_get, lookup, clashes, kind_class, kind_network, AreKinds, LeadsTo, body_ends, ends, ends_at, script_ends, Counts, Entities, Meanings, Name, channels_from, constants_from, counted, declared_from, meanings_of, none_yet, same_name, tree_says, body_place, counts_of, declared_after, name_fault, names_declared, need_of, next_definition, parameters_after, here, beyond, Class, Decl, End, Entity, Kind, Tree, Need}
-use Rattle.csp_base.specs.Standard.{flat_map}
+use Rattle.typed_laws.proofs.Sources.{◌≡◌, Every, ℕ, zero, suc, ◌+◌, ◌<◌, ◌≤◌, Bool, true, false, cond, Option, Some, None, List, [], ◌∷◌, ◌++◌, length, refl, sym, ◌∙◌, ap, subst, arith, slice_get, lookup, clashes, kind_class, kind_network, AreKinds, LeadsTo, body_ends, ends, ends_at, script_ends, Counts, Entities, Meanings, Name, channels_from, constants_from, counted, declared_from, meanings_of, none_yet, same_name, tree_says, body_place, counts_of, declared_after, name_fault, names_declared, need_of, next_definition, parameters_after, here, beyond, Class, Decl, End, Entity, Kind, Tree, Need, flat_map}
 use Rattle.std.proofs.lemmas.Option.{slice_get_within}
 use Rattle.typed_laws.proofs.Classes.{IsClass, has_class, script_known}
 use Rattle.typed_laws.proofs.DeclPasses.{EachPasses, counted_on, each_passes}
 use Rattle.typed_laws.proofs.Ends.{AllFit, Fits, ends_fit}
 use Rattle.typed_laws.proofs.Passing.{AllPass, Passes, data_at, element_at, join, three_parts}
+use Rattle.typed_laws.proofs.Declared.{none_more}
+use Rattle.typed_laws.proofs.Typable.{no_end}
 use Rattle.typed_laws.proofs.Uses.{HaveKinds, KindIs, of_data, of_network, of_process}
 
 pub kind_at : (ks : List Kind) (d : ℕ) → d < length ks → (kind : Kind) × (slice_get ks d ≡ Some kind)
@@ -19,14 +20,8 @@ one_less a b k h = omega arith
 some_less : (a b k : ℕ) → a + suc b ≤ k → a < k
 some_less a b k h = omega arith
 
-no_more : (n : ℕ) → n ≡ n + 0
-no_more n = omega arith
-
 one_on : (n i : ℕ) → n + 1 + i ≡ n + suc i
 one_on n i = omega arith
-
-none_on : (d : ℕ) → 0 + d ≡ d
-none_on d = omega arith
 
 none_on_le : (d : ℕ) → 0 + d ≤ d
 none_on_le d = omega arith
@@ -119,7 +114,7 @@ module _ (script : List Decl) (ks : List Kind) where
   ends_from earlier (Decl.Define x params t ∷ rest) n is h zero c =
       let w = three_parts (Passes m ks) (declared_after (names_declared earlier) (x ∷ [])) (parameters_after [] params)
       (tree_says m t (body_place (slice_get ks (next_definition earlier))) params) h.0.passes in
-      let same : next_definition earlier ≡ n.definitions + 0 = ap (λ (z : Counts). z.definitions) is ∙ no_more n.definitions in
+      let same : next_definition earlier ≡ n.definitions + 0 = ap (λ (z : Counts). z.definitions) is ∙ no_end n.definitions in
       body_data t params (kind_class (slice_get ks (next_definition earlier))) (kind_network (slice_get ks (next_definition earlier)))
       (ap (λ z. kind_class (slice_get ks z)) same ∙ c) w.2
   ends_from earlier (Decl.Nametype x t ∷ rest) n is h zero c = (tt, tt)
@@ -146,7 +141,7 @@ module _ (script : List Decl) (ks : List Kind) where
 
     ends_of_data : (d : ℕ) → kind_class (slice_get ks d) ≡ Class.Data → AllFit ks Need.Data (ends_at (slice_get all d))
     ends_of_data d c =
-        ends_from [] script none_yet refl (each_passes script ks [] script none) d (ap (λ z. kind_class (slice_get ks z)) (none_on d) ∙ c)
+        ends_from [] script none_yet refl (each_passes script ks [] script none) d (ap (λ z. kind_class (slice_get ks z)) (none_more d) ∙ c)
 
     leads_nowhere : {d : ℕ} → LeadsTo End.Parallel all d → kind_class (slice_get ks d) ≡ Class.Data → ⊥
     leads_nowhere (here d k g) c = element_at (Fits ks Need.Data) (ends_at (slice_get all d)) k End.Parallel (ends_of_data d c) g

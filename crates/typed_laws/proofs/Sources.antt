@@ -1,6 +1,7 @@
 -- What other libraries give, under one name for the files here.
 pub use Rattle.csp_atoms.specs.declared.atom.Atom.{Atom}
 pub use Rattle.csp_base.proofs.Booleans.{or_first_false, or_second_false}
+pub use Rattle.csp_base.proofs.Lists.{flat_map_push}
 pub use Rattle.csp_base.proofs.Standard.{Decides-eqb, eq-eqb, eqb-true, list_any-append, map-append, not-false, or-false, slice_eq-Decides}
 pub use Rattle.csp_base.specs.Lists.{EachOnce, StandsIn, greatest}
 pub use Rattle.csp_base.specs.Standard.{Decides, lookup}

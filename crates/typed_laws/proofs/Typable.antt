@@ -1,7 +1,6 @@
 -- A tree that passes is an expression, a process or a network by the rules of typing: the one that it is read as. By induction over trees: `Typable`
 -- says this of a tree, `Enters` of a field or a generator in front of typed ones, and `FrontTyped` of the front of an event.
-use Rattle.typed_laws.proofs.Sources.{◌≡◌, ℕ, ◌+◌, ◌-◌, ◌≤◌, Bool, true, false, not, ◌&&◌, ◌||◌, Option, Some, None, List, [], ◌∷◌, ◌++◌, length, map, refl, sym, ◌∙◌, ap, subst, arith, if◌then◌else◌, Every, Meanings, Name, clashes, sense_in, Binder, Fields, Said, all_say, in_turn, pair_says, part_says, Scope, names_of, number_of, with, Binding, Front, Reading, all_bind, bindings, bindings_bind, binds_of_layer, channel_number, exprs, head_of, network_of_layer, pairs, pairs_bind, part, parts, parts_bind, proc_of_layer, procs, reading, tree_says, tree_says_of_layer, under, AreExprs, AreFields, AreFronts, AreGens, ArePairs, AreProcs, IsComposition, IsExpr, IsFront, IsNet, IsProc, event_tree, part_tree, EventTree, Expr, Field, FieldTree, FieldTree-F, GenTree, GenTree-F, Kind, Net, PartTree, Place, Proc, Sense, Tree, Tree-F, Uses, ind-Tree, map-FieldTree, map-GenTree, map-Tree, roll-EventTree, roll-FieldTree, roll-GenTree, roll-PartTree, roll-Tree, Class, Entity, Use}
-use Rattle.csp_base.proofs.Standard.{length-map}
+use Rattle.typed_laws.proofs.Sources.{◌≡◌, ℕ, ◌+◌, ◌-◌, ◌≤◌, Bool, true, false, not, ◌&&◌, ◌||◌, Option, Some, None, List, [], ◌∷◌, ◌++◌, length, map, refl, sym, ◌∙◌, ap, subst, arith, if◌then◌else◌, Every, Meanings, Name, clashes, sense_in, Binder, Fields, Said, all_say, in_turn, pair_says, part_says, Scope, names_of, number_of, with, Binding, Front, Reading, all_bind, bindings, bindings_bind, binds_of_layer, channel_number, exprs, head_of, network_of_layer, pairs, pairs_bind, part, parts, parts_bind, proc_of_layer, procs, reading, tree_says, tree_says_of_layer, under, AreExprs, AreFields, AreFronts, AreGens, ArePairs, AreProcs, IsComposition, IsExpr, IsFront, IsNet, IsProc, event_tree, part_tree, EventTree, Expr, Field, FieldTree, FieldTree-F, GenTree, GenTree-F, Kind, Net, PartTree, Place, Proc, Sense, Tree, Tree-F, Uses, ind-Tree, map-FieldTree, map-GenTree, map-Tree, roll-EventTree, roll-FieldTree, roll-GenTree, roll-PartTree, roll-Tree, Class, Entity, Use, length-map}
 use Rattle.csp_text.specs.declared.tree.FieldTree.TheVariants as text
 use Rattle.csp_text.specs.declared.tree.GenTree.TheVariants as generator
 use Rattle.csp_text.specs.declared.tree.Tree.TheVariants as tree
@@ -14,7 +13,7 @@ use Rattle.typed_laws.proofs.ScopeNames.{AddsNames, NameIs, add_names, field_nam
 use Rattle.typed_laws.proofs.Trees.{TreeLayer, at_event, at_part, field_rolled, gen_rolled, of_field, of_gen, of_part, reads, saying, tree_layer, tree_parts, tree_rolled}
 use Rattle.typed_laws.proofs.Uses.{HaveKinds, alone, begins_use, called, data_of, dotted_use, head_entity, may_bind, name_expr, network_of, process_of, same_left}
 
-no_end : (n : ℕ) → n ≡ n + 0
+pub no_end : (n : ℕ) → n ≡ n + 0
 no_end n = omega arith
 
 pub two_ends : (n a b : ℕ) → (n + a) + b ≡ n + (a + b)

@@ -1,14 +1,11 @@
 -- What each form of a tree is as an expression, by the equations that are made of the folds.
-use Rattle.typed_trees.proofs.Prelude.{◌≡◌, ℕ, ◌+◌, pos, true, false, List, [], ◌∷◌, map, refl, ◌∙◌, rules, BinOp, SetOp, out-PartTree, GenTree, PartTree, Tree, Name, first_of, bindings, exprs, under, with, named, number_of, all_bind, parts_bind, channel_number, definition_number, tokens, all_tokens, parts_tokens, Walked, past, read_at, gen_read, part_read, exprs_at, gens_at, gens_scope, parts_at, under_gens}
+use Rattle.typed_trees.proofs.Prelude.{◌≡◌, ℕ, ◌+◌, pos, true, false, List, [], ◌∷◌, map, refl, ◌∙◌, rules, BinOp, SetOp, out-PartTree, GenTree, PartTree, Tree, Name, first_of, bindings, exprs, under, with, named, number_of, all_bind, parts_bind, channel_number, definition_number, tokens, all_tokens, parts_tokens, Walked, past, read_at, gen_read, part_read, exprs_at, gens_at, gens_scope, parts_at, under_gens, the_lemmas, roll-EventPart, expr_at, gen_at, gen_scope, part_at}
 use Rattle.csp_text.specs.declared.tree.PartTree.{the_lemmas as part_lemmas}
-use Rattle.csp_text.specs.declared.tree.Tree.{the_lemmas}
 use Rattle.csp_text.specs.declared.tree.GenTree.TheVariants as gentree
 use Rattle.csp_text.specs.declared.tree.Tree.TheVariants as tree
 use Rattle.csp_program.specs.declared.expressions.Expr.TheVariants as expr
-use Rattle.csp_program.specs.declared.expressions.Expr.TheViews.{roll-EventPart}
 use Rattle.csp_program.specs.declared.expressions.Gen.TheVariants as generator
 use Rattle.script_names.specs.Typed as typed
-use Rattle.typed_trees.specs.Words.{expr_at, gen_at, gen_scope, part_at}
 use Rattle.typed_trees.proofs.SameTokens.{same_tree, same_gen, same_part}
 
 pub trees_bind : (w : Walked) (ts : List Tree) → all_bind (map (read_at w) ts) ≡ all_tokens ts

@@ -1,10 +1,7 @@
 -- What each form of a tree is as a network, by the equations that are made of the folds.
-use Rattle.typed_trees.proofs.Prelude.{◌≡◌, ◌+◌, true, false, cond, ◌||◌, List, [], ap, sym, ◌∙◌, rules, out-Tree, roll-out-Tree, Tree, is_network, Name, first_of, sense_in, definition_number, names_of, network_of_layer, networked_of_layer, proc_of_layer, reading_of_layer, tokens, Walked, past, read_at, bound, exprs_at}
-use Rattle.csp_text.specs.declared.tree.Tree.{the_lemmas}
+use Rattle.typed_trees.proofs.Prelude.{◌≡◌, ◌+◌, true, false, cond, ◌||◌, List, [], ap, sym, ◌∙◌, rules, out-Tree, roll-out-Tree, Tree, is_network, Name, first_of, sense_in, definition_number, names_of, network_of_layer, networked_of_layer, proc_of_layer, reading_of_layer, tokens, Walked, past, read_at, bound, exprs_at, the_lemmas, Net, expr_at, net_at, networked_at, proc_at}
 use Rattle.csp_text.specs.declared.tree.Tree.TheVariants as tree
-use Rattle.csp_program.specs.declared.networks.Net.{Net}
 use Rattle.csp_program.specs.declared.networks.Net.TheVariants as net
-use Rattle.typed_trees.specs.Words.{expr_at, net_at, networked_at, proc_at}
 use Rattle.typed_trees.proofs.Rolls.{layer_read, tree_rolls}
 use Rattle.typed_trees.proofs.SameTokens.{same_tree}
 use Rattle.typed_trees.proofs.ExprForms.{exprs_are}

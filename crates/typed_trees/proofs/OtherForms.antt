@@ -1,10 +1,9 @@
 -- What a tree is as an expression, as a process and as a network where it has none of the forms of these.
-use Rattle.typed_trees.proofs.Prelude.{◌≡◌, ℕ, pos, false, List, refl, ap, sym, ◌∙◌, subst, BinOp, SetOp, EventTree, FieldTree, Tree-F, out-Tree, roll-Tree, roll-out-Tree, GenTree, PartTree, Tree, Name, first_of, expr_of_layer, networked_of_layer, proc_of_layer, Walked, read_at, net_at}
+use Rattle.typed_trees.proofs.Prelude.{◌≡◌, ℕ, pos, false, List, refl, ap, sym, ◌∙◌, subst, BinOp, SetOp, EventTree, FieldTree, Tree-F, out-Tree, roll-Tree, roll-out-Tree, GenTree, PartTree, Tree, Name, first_of, expr_of_layer, networked_of_layer, proc_of_layer, Walked, read_at, net_at, expr_at, networked_at, proc_at}
 use Rattle.csp_text.specs.declared.tree.Tree.TheVariants as tree
 use Rattle.csp_program.specs.declared.expressions.Expr.TheVariants as expr
 use Rattle.csp_program.specs.declared.networks.Net.TheVariants as net
 use Rattle.csp_program.specs.declared.processes.Proc.TheVariants as proc
-use Rattle.typed_trees.specs.Words.{expr_at, networked_at, proc_at}
 use Rattle.typed_trees.proofs.NetForms.{net_leaf}
 use Rattle.typed_trees.proofs.Rolls.{layer_read, tree_rolls}
 

@@ -1,12 +1,10 @@
 -- What each form of a tree is as a process, by the equations that are made of the folds.
-use Rattle.typed_trees.proofs.Prelude.{◌≡◌, ◌+◌, Option, Some, None, List, [], ◌∷◌, map, refl, rules, EventTree, FieldTree, out-EventTree, GenTree, PartTree, Tree, Name, first_of, bindings, bindings_bind, pairs_bind, procs, under, with, head_of, number_of, definition_number, tokens, fields_tokens, pairs_tokens, Walked, past, read_at, after_fields, bound, exprs_at, field_read, fields_at, fields_scope, gens_at, pairs_at, part_read, procs_at, set_at, under_gens, Field}
+use Rattle.typed_trees.proofs.Prelude.{◌≡◌, ◌+◌, Option, Some, None, List, [], ◌∷◌, map, refl, rules, EventTree, FieldTree, out-EventTree, GenTree, PartTree, Tree, Name, first_of, bindings, bindings_bind, pairs_bind, procs, under, with, head_of, number_of, definition_number, tokens, fields_tokens, pairs_tokens, Walked, past, read_at, after_fields, bound, exprs_at, field_read, fields_at, fields_scope, gens_at, pairs_at, part_read, procs_at, set_at, under_gens, Field, the_lemmas, expr_at, field_at, field_scope, part_at, proc_at}
 use Rattle.csp_text.specs.declared.tree.EventTree.{the_lemmas as event_lemmas}
-use Rattle.csp_text.specs.declared.tree.Tree.{the_lemmas}
 use Rattle.csp_text.specs.declared.tree.FieldTree.TheVariants as fieldtree
 use Rattle.csp_text.specs.declared.tree.Tree.TheVariants as tree
 use Rattle.csp_program.specs.declared.processes.Proc.TheVariants as proc
 use Rattle.script_names.specs.Typed as typed
-use Rattle.typed_trees.specs.Words.{expr_at, field_at, field_scope, part_at, proc_at}
 use Rattle.typed_trees.proofs.SameTokens.{same_tree, same_field, same_part}
 use Rattle.typed_trees.proofs.ExprForms.{exprs_are, gens_are, gens_under}
 

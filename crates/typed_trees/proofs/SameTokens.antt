@@ -1,8 +1,6 @@
 -- The binding tokens of a tree are as many whatever its names mean.
-use Rattle.typed_trees.proofs.Prelude.{◌≡◌, ℕ, ◌+◌, Some, None, List, [], ◌∷◌, map, refl, ap, sym, ◌∙◌, subst, arith, EventTree, FieldTree, map-FieldTree, map-GenTree, map-Tree, map-EventTree, map-PartTree, ind-FieldTree, ind-GenTree, ind-Tree, ind-PartTree, FieldTree-F, GenTree-F, Tree-F, EventTree-F, PartTree-F, roll-FieldTree, roll-GenTree, roll-Tree, roll-EventTree, roll-PartTree, GenTree, PartTree, Tree, Gen, Field, Entities, first_of, Binding, Front, Reading, all_bind, bindings_bind, parts_bind, pairs_bind, binds_of_layer, field_of_layer, gen_of_layer, Kind, total_of_pairs, tokens, field_tokens, gen_tokens, event_tokens, part_tokens, tokens_of_layer, field_tokens_of_layer, gen_tokens_of_layer, field_read, gen_read, part_read}
+use Rattle.typed_trees.proofs.Prelude.{◌≡◌, ℕ, ◌+◌, Some, None, List, [], ◌∷◌, map, refl, ap, sym, ◌∙◌, subst, arith, EventTree, FieldTree, map-FieldTree, map-GenTree, map-Tree, map-EventTree, map-PartTree, ind-FieldTree, ind-GenTree, ind-Tree, ind-PartTree, FieldTree-F, GenTree-F, Tree-F, EventTree-F, PartTree-F, roll-FieldTree, roll-GenTree, roll-Tree, roll-EventTree, roll-PartTree, GenTree, PartTree, Tree, Gen, Field, Entities, first_of, Binding, Front, Reading, all_bind, bindings_bind, parts_bind, pairs_bind, binds_of_layer, field_of_layer, gen_of_layer, Kind, total_of_pairs, tokens, field_tokens, gen_tokens, event_tokens, part_tokens, tokens_of_layer, field_tokens_of_layer, gen_tokens_of_layer, field_read, gen_read, part_read, tree_counts, field_counts, gen_counts, event_counts, part_counts, total}
 use Rattle.typed_trees.proofs.Rolls.{event_read, tree_read, layer_read, tree_rolls, field_rolls, gen_rolls, event_rolls, part_rolls}
-use Rattle.script_sizes.proofs.TokenForms.{tree_counts, field_counts, gen_counts, event_counts, part_counts}
-use Rattle.csp_base.specs.Lists.{total}
 
 module _ (es : Entities) (ks : List Kind) where
   abbrev SameTree : Tree → Type 0

@@ -1,6 +1,5 @@
 -- Names that are bound behind others leave these as they are.
-use Rattle.typed_trees.proofs.Prelude.{◌≡◌, ◌+◌, ◌≤◌, min, List, [], ◌∷◌, ◌++◌, length, take, sym, ap, ◌∙◌, subst, arith, EventTree, FieldTree, FieldTree-F, GenTree-F, out-FieldTree, out-GenTree, roll-FieldTree, roll-GenTree, roll-out-FieldTree, roll-out-GenTree, GenTree, PartTree, Tree, Scope, Walked, after_field, after_gen, field_scope, fields_scope, gen_scope, gens_scope}
-use Rattle.csp_base.proofs.Standard.{take-append_seam, take-length, length-take, take-take}
+use Rattle.typed_trees.proofs.Prelude.{◌≡◌, ◌+◌, ◌≤◌, min, List, [], ◌∷◌, ◌++◌, length, take, sym, ap, ◌∙◌, subst, arith, EventTree, FieldTree, FieldTree-F, GenTree-F, out-FieldTree, out-GenTree, roll-FieldTree, roll-GenTree, roll-out-FieldTree, roll-out-GenTree, GenTree, PartTree, Tree, Scope, Walked, after_field, after_gen, field_scope, fields_scope, gen_scope, gens_scope, take-append_seam, take-length, length-take, take-take}
 use Rattle.csp_text.specs.declared.tree.FieldTree.TheVariants as fieldtree
 use Rattle.csp_text.specs.declared.tree.GenTree.TheVariants as gentree
 use Rattle.typed_trees.proofs.ExprForms.{gen_scope-From, gen_scope-Cond}

@@ -2,19 +2,19 @@
 
 ghost use Rattle.std.specs.Prelude.{◌≡◌, ◌+◌, ◌≤◌};
 ghost use Rattle.typed_trees.specs.Prelude.{map, IfOk, OnOk, MOST_BYTES, all_tokens, tokens};
-ghost use Rattle.script_names.specs.Typed.{all_bind, exprs};
 ghost use Rattle.typed_trees.specs.Walked.{past, read_at};
+ghost use Rattle.script_names.specs.Typed.{all_bind, exprs};
 
 use crate::walk::Walk;
 use containers::Items;
-use csp_base::NoMemory;
 use csp_program::{Expr, Net, Proc};
 use csp_text::Tree;
+use script_names::Made;
 
 impl<'a> Walk<'a> {
     /// A tree as an expression. Its binding tokens have the numbers from the next one on.
     #[tactic(auto, unfolding(crate::specs::Words::expr_at))]
-    pub fn typed_expr(&mut self, tree: &Tree) -> Result<Expr, NoMemory>
+    pub fn typed_expr(&mut self, tree: &Tree) -> Made<Expr>
         requires { self.old.next + tokens tree.now ≤ MOST_BYTES }
         ensures made { IfOk result (λ made. made ≡ (read_at self.old tree.now).expr self.old.scope self.old.next) }
         ensures walk { OnOk result (self.new ≡ past self.old (read_at self.old tree.now).binds) }
@@ -24,7 +24,7 @@ impl<'a> Walk<'a> {
 
     /// Trees as expressions, numbered one after another.
     #[tactic(auto, using(crate::proofs::ExprForms::expr_lists))]
-    pub fn typed_exprs(&mut self, trees: &[Tree]) -> Result<Items<Expr>, NoMemory>
+    pub fn typed_exprs(&mut self, trees: &[Tree]) -> Made<Items<Expr>>
         requires { self.old.next + all_tokens trees.now ≤ MOST_BYTES }
         ensures made { IfOk result (λ xs. xs ≡ exprs (map (read_at self.old) trees.now) self.old.scope self.old.next) }
         ensures walk { OnOk result (self.new ≡ past self.old (all_bind (map (read_at self.old) trees.now))) }
@@ -34,7 +34,7 @@ impl<'a> Walk<'a> {
 
     /// A tree as a process. Its binding tokens have the numbers from the next one on.
     #[tactic(auto, unfolding(crate::specs::Words::proc_at))]
-    pub fn typed_proc(&mut self, tree: &Tree) -> Result<Proc, NoMemory>
+    pub fn typed_proc(&mut self, tree: &Tree) -> Made<Proc>
         requires { self.old.next + tokens tree.now ≤ MOST_BYTES }
         ensures made { IfOk result (λ made. made ≡ (read_at self.old tree.now).proc self.old.scope self.old.next) }
         ensures walk { OnOk result (self.new ≡ past self.old (read_at self.old tree.now).binds) }
@@ -45,7 +45,7 @@ impl<'a> Walk<'a> {
     /// A tree as a network. Its binding tokens have the numbers from the next one on. One that holds no parallel and no
     /// use of a network definition is a component.
     #[tactic(auto, unfolding(crate::specs::Words::net_at))]
-    pub fn typed_net(&mut self, tree: &Tree) -> Result<Net, NoMemory>
+    pub fn typed_net(&mut self, tree: &Tree) -> Made<Net>
         requires { self.old.next + tokens tree.now ≤ MOST_BYTES }
         ensures made { IfOk result (λ made. made ≡ (read_at self.old tree.now).net self.old.scope self.old.next) }
         ensures walk { OnOk result (self.new ≡ past self.old (read_at self.old tree.now).binds) }

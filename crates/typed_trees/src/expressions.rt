@@ -8,15 +8,16 @@ ghost use Rattle.typed_trees.specs.Words.{after_gen, after_gens, bound, expr_at,
 use crate::counts::{count_parts, count_trees};
 use crate::walk::Walk;
 use containers::{Boxed, Items};
-use csp_base::{Name, NoMemory};
+use csp_base::Name;
 use csp_program::{EventPart, Expr, Gen};
 use csp_text::{GenTree, PartTree, Tree};
+use script_names::Made;
 
 impl<'a> Walk<'a> {
     /// A tree as an expression. What is a process there, which nothing is in a script without faults, is 0.
     #[tactic(auto, using(csp_text::specs::declared::tree::Tree::the_lemmas, script_sizes::proofs::TokenForms::token_forms, crate::proofs::ExprForms::expr_forms))]
     #[cycle(typed_expr)]
-    pub(crate) fn expression(&mut self, tree: &Tree) -> Result<Expr, NoMemory>
+    pub(crate) fn expression(&mut self, tree: &Tree) -> Made<Expr>
         requires { self.old.next + tokens tree.now ≤ MOST_BYTES }
         ensures made { IfOk result (λ made. made ≡ expr_at self.old tree.now) }
         ensures walk { OnOk result (self.new ≡ past self.old (tokens tree.now)) }
@@ -36,8 +37,8 @@ impl<'a> Walk<'a> {
                 self.expressions(fields.as_slice())
                     .map(|fields| Expr::Event(channel, fields))
             }
-            Tree::Neg(a) => self.boxed_expr(a.get()).map(Expr::Neg),
-            Tree::Not(a) => self.boxed_expr(a.get()).map(Expr::Not),
+            Tree::Neg(a) => self.box_expr(a.get()).map(Expr::Neg),
+            Tree::Not(a) => self.box_expr(a.get()).map(Expr::Not),
             Tree::Binary(op, a, b) => self.two_exprs(a, b).map(|(a, b)| Expr::Binary(*op, a, b)),
             Tree::If(c, a, b) => self.expr_choice(c, a, b),
             Tree::Display(items) => self.expressions(items.as_slice()).map(Expr::Display),
@@ -54,7 +55,7 @@ impl<'a> Walk<'a> {
 
     /// A tree as an expression on the heap.
     #[cycle(typed_expr)]
-    pub(crate) fn boxed_expr(&mut self, tree: &Tree) -> Result<Boxed<Expr>, NoMemory>
+    pub(crate) fn box_expr(&mut self, tree: &Tree) -> Made<Boxed<Expr>>
         requires { self.old.next + tokens tree.now ≤ MOST_BYTES }
         ensures made { IfOk result (λ made. made ≡ expr_at self.old tree.now) }
         ensures walk { OnOk result (self.new ≡ past self.old (tokens tree.now)) }
@@ -70,42 +71,33 @@ impl<'a> Walk<'a> {
         &mut self,
         a: &Boxed<Tree>,
         b: &Boxed<Tree>,
-    ) -> Result<(Boxed<Expr>, Boxed<Expr>), NoMemory>
+    ) -> Made<(Boxed<Expr>, Boxed<Expr>)>
         requires { self.old.next + tokens a.now + tokens b.now ≤ MOST_BYTES }
         ensures first { IfOk result (λ made. made.0 ≡ expr_at self.old a.now) }
         ensures second { IfOk result (λ made. made.1 ≡ expr_at (past self.old (tokens a.now)) b.now) }
         ensures walk { OnOk result (self.new ≡ past self.old (tokens a.now + tokens b.now)) }
     {
-        let a = self.boxed_expr(a.get())?;
-        let b = self.boxed_expr(b.get())?;
+        let a = self.box_expr(a.get())?;
+        let b = self.box_expr(b.get())?;
         Ok((a, b))
     }
 
     // One of two expressions.
     #[tactic(auto, using(csp_text::specs::declared::tree::Tree::the_lemmas, script_sizes::proofs::TokenForms::token_forms, crate::proofs::ExprForms::expr_forms))]
     #[cycle(typed_expr)]
-    fn expr_choice(
-        &mut self,
-        c: &Boxed<Tree>,
-        a: &Boxed<Tree>,
-        b: &Boxed<Tree>,
-    ) -> Result<Expr, NoMemory>
+    fn expr_choice(&mut self, c: &Boxed<Tree>, a: &Boxed<Tree>, b: &Boxed<Tree>) -> Made<Expr>
         requires { self.old.next + tokens (Tree.If c.now a.now b.now) ≤ MOST_BYTES }
         ensures made { IfOk result (λ made. made ≡ expr_at self.old (Tree.If c.now a.now b.now)) }
         ensures walk { OnOk result (self.new ≡ past self.old (tokens (Tree.If c.now a.now b.now))) }
     {
-        let c = self.boxed_expr(c.get())?;
+        let c = self.box_expr(c.get())?;
         self.two_exprs(a, b).map(|(a, b)| Expr::If(c, a, b))
     }
 
     // The set of some expressions under generators.
     #[tactic(auto, using(csp_text::specs::declared::tree::Tree::the_lemmas, script_sizes::proofs::TokenForms::token_forms, crate::proofs::ExprForms::expr_forms, crate::proofs::Scopes::scope_laws))]
     #[cycle(typed_expr)]
-    fn comprehension(
-        &mut self,
-        items: &Items<Tree>,
-        gens: &Items<GenTree>,
-    ) -> Result<Expr, NoMemory>
+    fn comprehension(&mut self, items: &Items<Tree>, gens: &Items<GenTree>) -> Made<Expr>
         requires { self.old.next + tokens (Tree.Comp items.now gens.now) ≤ MOST_BYTES }
         ensures made { IfOk result (λ made. made ≡ expr_at self.old (Tree.Comp items.now gens.now)) }
         ensures walk { OnOk result (self.new ≡ past self.old (tokens (Tree.Comp items.now gens.now))) }
@@ -122,7 +114,7 @@ impl<'a> Walk<'a> {
     // The set of the events that begin with some fronts, under generators.
     #[tactic(auto, using(csp_text::specs::declared::tree::Tree::the_lemmas, script_sizes::proofs::TokenForms::token_forms, crate::proofs::ExprForms::expr_forms, crate::proofs::Scopes::scope_laws))]
     #[cycle(typed_expr)]
-    fn product(&mut self, parts: &Items<PartTree>, gens: &Items<GenTree>) -> Result<Expr, NoMemory>
+    fn product(&mut self, parts: &Items<PartTree>, gens: &Items<GenTree>) -> Made<Expr>
         requires { self.old.next + tokens (Tree.Product parts.now gens.now) ≤ MOST_BYTES }
         ensures made { IfOk result (λ made. made ≡ expr_at self.old (Tree.Product parts.now gens.now)) }
         ensures walk { OnOk result (self.new ≡ past self.old (tokens (Tree.Product parts.now gens.now))) }
@@ -138,7 +130,7 @@ impl<'a> Walk<'a> {
 
     /// Trees as expressions, numbered one after another.
     #[cycle(typed_expr)]
-    pub(crate) fn expressions(&mut self, trees: &[Tree]) -> Result<Items<Expr>, NoMemory>
+    pub(crate) fn expressions(&mut self, trees: &[Tree]) -> Made<Items<Expr>>
         requires { self.old.next + all_tokens trees.now ≤ MOST_BYTES }
         ensures made { IfOk result (λ made. made ≡ exprs_at self.old trees.now) }
         ensures walk { OnOk result (self.new ≡ past self.old (all_tokens trees.now)) }
@@ -152,14 +144,14 @@ impl<'a> Walk<'a> {
 
     /// Binds the name `x` that takes the values of a set: its number, and the set.
     #[cycle(typed_expr)]
-    pub(crate) fn bind_over(&mut self, x: &Name, set: &Tree) -> Result<(u32, Boxed<Expr>), NoMemory>
+    pub(crate) fn bind_over(&mut self, x: &Name, set: &Tree) -> Made<(u32, Boxed<Expr>)>
         requires { self.old.next + 1 + tokens set.now ≤ MOST_BYTES }
         ensures number { IfOk result (λ made. made.0 ≡ self.old.next) }
         ensures set { IfOk result (λ made. made.1 ≡ expr_at (past self.old 1) set.now) }
         ensures walk { OnOk result (self.new ≡ past (bound self.old x.now) (tokens set.now)) }
     {
         let number = self.take_number();
-        let set = self.boxed_expr(set)?;
+        let set = self.box_expr(set)?;
         self.bind(x, number)?;
         Ok((number, set))
     }
@@ -167,7 +159,7 @@ impl<'a> Walk<'a> {
     // A generator. Its name is bound afterwards.
     #[tactic(auto, using(csp_text::specs::declared::tree::Tree::the_lemmas, script_sizes::proofs::TokenForms::gen_tokens_forms, crate::proofs::ExprForms::gen_forms))]
     #[cycle(typed_expr)]
-    fn generator(&mut self, tree: &GenTree) -> Result<Gen, NoMemory>
+    fn generator(&mut self, tree: &GenTree) -> Made<Gen>
         requires { self.old.next + gen_tokens tree.now ≤ MOST_BYTES }
         ensures made { IfOk result (λ made. made ≡ gen_at self.old tree.now) }
         ensures walk { OnOk result (self.new ≡ after_gen self.old tree.now) }
@@ -183,7 +175,7 @@ impl<'a> Walk<'a> {
 
     // Generators. Their names are bound afterwards.
     #[cycle(typed_expr)]
-    fn generators(&mut self, trees: &[GenTree]) -> Result<Items<Gen>, NoMemory>
+    fn generators(&mut self, trees: &[GenTree]) -> Made<Items<Gen>>
         requires { self.old.next + gens_tokens trees.now ≤ MOST_BYTES }
         ensures made { IfOk result (λ made. made ≡ gens_at self.old trees.now) }
         ensures walk { OnOk result (self.new ≡ after_gens self.old trees.now) }
@@ -202,7 +194,7 @@ impl<'a> Walk<'a> {
         &mut self,
         count: u32,
         trees: &[GenTree],
-    ) -> Result<(Items<Gen>, u32), NoMemory>
+    ) -> Made<(Items<Gen>, u32)>
         requires { self.old.next + count + gens_tokens trees.now ≤ MOST_BYTES }
         ensures made { IfOk result (λ made. made.0 ≡ gens_at (past self.old count) trees.now) }
         ensures last { IfOk result (λ made. made.1 ≡ self.old.next + count + gens_tokens trees.now) }
@@ -217,7 +209,7 @@ impl<'a> Walk<'a> {
     /// The front of an event.
     #[tactic(auto, using(csp_text::specs::declared::tree::Tree::the_lemmas, script_sizes::proofs::TokenForms::part_tokens_forms, crate::proofs::ExprForms::part_forms))]
     #[cycle(typed_expr)]
-    pub(crate) fn front(&mut self, part: &PartTree) -> Result<EventPart, NoMemory>
+    pub(crate) fn front(&mut self, part: &PartTree) -> Made<EventPart>
         requires { self.old.next + part_tokens part.now ≤ MOST_BYTES }
         ensures made { IfOk result (λ made. made ≡ part_at self.old part.now) }
         ensures walk { OnOk result (self.new ≡ past self.old (part_tokens part.now)) }
@@ -229,7 +221,7 @@ impl<'a> Walk<'a> {
 
     // The fronts of events, numbered one after another.
     #[cycle(typed_expr)]
-    fn fronts(&mut self, parts: &[PartTree]) -> Result<Items<EventPart>, NoMemory>
+    fn fronts(&mut self, parts: &[PartTree]) -> Made<Items<EventPart>>
         requires { self.old.next + parts_tokens parts.now ≤ MOST_BYTES }
         ensures made { IfOk result (λ made. made ≡ parts_at self.old parts.now) }
         ensures walk { OnOk result (self.new ≡ past self.old (parts_tokens parts.now)) }

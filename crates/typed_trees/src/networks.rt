@@ -7,24 +7,25 @@ ghost use Rattle.typed_trees.specs.Words.{net_at, networked_at, proc_at};
 
 use crate::walk::Walk;
 use containers::{Boxed, Items};
-use csp_base::{Name, NoMemory};
+use csp_base::Name;
 use csp_program::{Expr, Net};
 use csp_text::Tree;
+use script_names::Made;
 
 impl<'a> Walk<'a> {
     // Whether a tree holds, through the parts of `if`s, a parallel or the use of a network definition.
     #[tactic(auto, using(crate::proofs::NetForms::networked_forms))]
-    fn networked(&self, tree: &Tree) -> bool
+    fn holds_network(&self, tree: &Tree) -> bool
         ensures { result ≡ networked_at self.now tree.now }
     {
         match tree {
             Tree::Name(x) => self.names_network(x),
             Tree::Call(f, _) => self.names_network(f),
             Tree::If(_, p, q) => {
-                if self.networked(p.get()) {
+                if self.holds_network(p.get()) {
                     return true;
                 }
-                self.networked(q.get())
+                self.holds_network(q.get())
             }
             Tree::Parallel(_, _, _, _) | Tree::EachParallel(_, _, _, _) => true,
             _ => false,
@@ -34,12 +35,12 @@ impl<'a> Walk<'a> {
     /// A tree as a network. One that holds no parallel and no use of a network definition is a component.
     #[tactic(auto, using(csp_text::specs::declared::tree::Tree::the_lemmas, script_sizes::proofs::TokenForms::token_forms, crate::proofs::NetForms::net_forms))]
     #[cycle(typed_net)]
-    pub(crate) fn network(&mut self, tree: &Tree) -> Result<Net, NoMemory>
+    pub(crate) fn network(&mut self, tree: &Tree) -> Made<Net>
         requires { self.old.next + tokens tree.now ≤ MOST_BYTES }
         ensures made { IfOk result (λ made. made ≡ net_at self.old tree.now) }
         ensures walk { OnOk result (self.new ≡ past self.old (tokens tree.now)) }
     {
-        if !self.networked(tree) {
+        if !self.holds_network(tree) {
             return self.leaf(tree);
         }
         match tree {
@@ -54,7 +55,7 @@ impl<'a> Walk<'a> {
 
     // The use of the network definition `f`.
     #[tactic(auto, using(script_sizes::proofs::TokenForms::token_forms, crate::proofs::NetForms::net_forms))]
-    fn net_call(&mut self, f: &Name, args: &Items<Tree>) -> Result<Net, NoMemory>
+    fn net_call(&mut self, f: &Name, args: &Items<Tree>) -> Made<Net>
         requires networked { networked_at self.old (Tree.Call f.now args.now) ≡ true }
         requires few { self.old.next + tokens (Tree.Call f.now args.now) ≤ MOST_BYTES }
         ensures made { IfOk result (λ made. made ≡ net_at self.old (Tree.Call f.now args.now)) }
@@ -68,20 +69,15 @@ impl<'a> Walk<'a> {
     // One of two networks.
     #[tactic(auto, using(script_sizes::proofs::TokenForms::token_forms, crate::proofs::NetForms::net_forms))]
     #[cycle(typed_net)]
-    fn net_choice(
-        &mut self,
-        c: &Boxed<Tree>,
-        p: &Boxed<Tree>,
-        q: &Boxed<Tree>,
-    ) -> Result<Net, NoMemory>
+    fn net_choice(&mut self, c: &Boxed<Tree>, p: &Boxed<Tree>, q: &Boxed<Tree>) -> Made<Net>
         requires networked { networked_at self.old (Tree.If c.now p.now q.now) ≡ true }
         requires few { self.old.next + tokens (Tree.If c.now p.now q.now) ≤ MOST_BYTES }
         ensures made { IfOk result (λ made. made ≡ net_at self.old (Tree.If c.now p.now q.now)) }
         ensures walk { OnOk result (self.new ≡ past self.old (tokens (Tree.If c.now p.now q.now))) }
     {
-        let c = self.boxed_expr(c.get())?;
-        let p = self.boxed_net(p)?;
-        self.boxed_net(q).map(|q| Net::If(c.into_inner(), p, q))
+        let c = self.box_expr(c.get())?;
+        let p = self.box_net(p)?;
+        self.box_net(q).map(|q| Net::If(c.into_inner(), p, q))
     }
 
     // Two networks in parallel.
@@ -93,28 +89,22 @@ impl<'a> Walk<'a> {
         a: &Boxed<Tree>,
         b: &Boxed<Tree>,
         q: &Boxed<Tree>,
-    ) -> Result<Net, NoMemory>
+    ) -> Made<Net>
         requires networked { networked_at self.old (Tree.Parallel p.now a.now b.now q.now) ≡ true }
         requires few { self.old.next + tokens (Tree.Parallel p.now a.now b.now q.now) ≤ MOST_BYTES }
         ensures made { IfOk result (λ made. made ≡ net_at self.old (Tree.Parallel p.now a.now b.now q.now)) }
         ensures walk { OnOk result (self.new ≡ past self.old (tokens (Tree.Parallel p.now a.now b.now q.now))) }
     {
-        let p = self.boxed_net(p)?;
+        let p = self.box_net(p)?;
         let (a, b) = self.two_exprs(a, b)?;
-        self.boxed_net(q)
+        self.box_net(q)
             .map(|q| Net::Pair(p, a.into_inner(), b.into_inner(), q))
     }
 
     // Networks in parallel over the values of a set.
     #[tactic(auto, using(script_sizes::proofs::TokenForms::token_forms, crate::proofs::NetForms::net_forms, crate::proofs::Scopes::scope_laws))]
     #[cycle(typed_net)]
-    fn each(
-        &mut self,
-        x: &Name,
-        set: &Boxed<Tree>,
-        a: &Boxed<Tree>,
-        p: &Boxed<Tree>,
-    ) -> Result<Net, NoMemory>
+    fn each(&mut self, x: &Name, set: &Boxed<Tree>, a: &Boxed<Tree>, p: &Boxed<Tree>) -> Made<Net>
         requires networked { networked_at self.old (Tree.EachParallel x.now set.now a.now p.now) ≡ true }
         requires few { self.old.next + tokens (Tree.EachParallel x.now set.now a.now p.now) ≤ MOST_BYTES }
         ensures made { IfOk result (λ made. made ≡ net_at self.old (Tree.EachParallel x.now set.now a.now p.now)) }
@@ -122,14 +112,14 @@ impl<'a> Walk<'a> {
     {
         let mark = self.mark();
         let (number, set) = self.bind_over(x, set.get())?;
-        let a = self.boxed_expr(a.get())?;
-        let p = self.boxed_net(p)?;
+        let a = self.box_expr(a.get())?;
+        let p = self.box_net(p)?;
         self.leave(mark);
         Ok(Net::Each(number, set.into_inner(), a.into_inner(), p))
     }
 
     // A tree as a component.
-    fn leaf(&mut self, tree: &Tree) -> Result<Net, NoMemory>
+    fn leaf(&mut self, tree: &Tree) -> Made<Net>
         requires { self.old.next + tokens tree.now ≤ MOST_BYTES }
         ensures made { IfOk result (λ made. made ≡ Net.Leaf (proc_at self.old tree.now)) }
         ensures walk { OnOk result (self.new ≡ past self.old (tokens tree.now)) }
@@ -139,7 +129,7 @@ impl<'a> Walk<'a> {
 
     // A tree as a network on the heap.
     #[cycle(typed_net)]
-    fn boxed_net(&mut self, tree: &Boxed<Tree>) -> Result<Boxed<Net>, NoMemory>
+    fn box_net(&mut self, tree: &Boxed<Tree>) -> Made<Boxed<Net>>
         requires { self.old.next + tokens tree.now ≤ MOST_BYTES }
         ensures made { IfOk result (λ made. made ≡ net_at self.old tree.now) }
         ensures walk { OnOk result (self.new ≡ past self.old (tokens tree.now)) }

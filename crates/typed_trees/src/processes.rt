@@ -8,9 +8,10 @@ ghost use Rattle.typed_trees.specs.Words.{after_field, after_fields, bound, expr
 use crate::counts::count_pairs;
 use crate::walk::Walk;
 use containers::{Boxed, Items};
-use csp_base::{Name, NoMemory};
+use csp_base::Name;
 use csp_program::{EventPart, Expr, Field, Gen, Proc};
 use csp_text::{EventTree, FieldTree, GenTree, PartTree, Tree};
+use script_names::Made;
 
 // An expression from the heap, where there is one.
 fn out_of_box(set: Option<Boxed<Expr>>) -> Option<Expr>
@@ -24,19 +25,19 @@ fn out_of_box(set: Option<Boxed<Expr>>) -> Option<Expr>
 
 impl<'a> Walk<'a> {
     // The set of an input, where it has one.
-    fn input_set(&mut self, set: &Option<Tree>) -> Result<Option<Boxed<Expr>>, NoMemory>
+    fn input_set(&mut self, set: &Option<Tree>) -> Made<Option<Boxed<Expr>>>
         requires { self.old.next + set_tokens set.now ≤ MOST_BYTES }
         ensures made { IfOk result (λ made. made ≡ set_at self.old set.now) }
         ensures walk { OnOk result (self.new ≡ past self.old (set_tokens set.now)) }
     {
         match set {
-            Some(set) => self.boxed_expr(set).map(Some),
+            Some(set) => self.box_expr(set).map(Some),
             None => Ok(None),
         }
     }
 
     // An input. Its name is bound afterwards.
-    fn input(&mut self, x: &Name, set: &Option<Tree>) -> Result<Field, NoMemory>
+    fn input(&mut self, x: &Name, set: &Option<Tree>) -> Made<Field>
         requires { self.old.next + 1 + set_tokens set.now ≤ MOST_BYTES }
         ensures made { IfOk result (λ made. made ≡ Field.Get self.old.next (set_at (past self.old 1) set.now)) }
         ensures walk { OnOk result (self.new ≡ past (bound self.old x.now) (set_tokens set.now)) }
@@ -49,7 +50,7 @@ impl<'a> Walk<'a> {
 
     // A field. Its name is bound afterwards.
     #[tactic(auto, using(script_sizes::proofs::TokenForms::field_tokens_forms, crate::proofs::ProcForms::field_forms))]
-    fn field(&mut self, tree: &FieldTree) -> Result<Field, NoMemory>
+    fn field(&mut self, tree: &FieldTree) -> Made<Field>
         requires { self.old.next + field_tokens tree.now ≤ MOST_BYTES }
         ensures made { IfOk result (λ made. made ≡ field_at self.old tree.now) }
         ensures walk { OnOk result (self.new ≡ after_field self.old tree.now) }
@@ -61,7 +62,7 @@ impl<'a> Walk<'a> {
     }
 
     // Fields. Their names are bound afterwards.
-    fn fields(&mut self, trees: &[FieldTree]) -> Result<Items<Field>, NoMemory>
+    fn fields(&mut self, trees: &[FieldTree]) -> Made<Items<Field>>
         requires { self.old.next + fields_tokens trees.now ≤ MOST_BYTES }
         ensures made { IfOk result (λ made. made ≡ fields_at self.old trees.now) }
         ensures walk { OnOk result (self.new ≡ after_fields self.old trees.now) }
@@ -74,10 +75,7 @@ impl<'a> Walk<'a> {
     }
 
     // The pairs of a renaming, numbered one after another.
-    fn pairs(
-        &mut self,
-        trees: &[(PartTree, PartTree)],
-    ) -> Result<Items<(EventPart, EventPart)>, NoMemory>
+    fn pairs(&mut self, trees: &[(PartTree, PartTree)]) -> Made<Items<(EventPart, EventPart)>>
         requires { self.old.next + pairs_tokens trees.now ≤ MOST_BYTES }
         ensures made { IfOk result (λ made. made ≡ pairs_at self.old trees.now) }
         ensures walk { OnOk result (self.new ≡ past self.old (pairs_tokens trees.now)) }
@@ -90,7 +88,7 @@ impl<'a> Walk<'a> {
     }
 
     // A pair of a renaming.
-    fn pair(&mut self, tree: &(PartTree, PartTree)) -> Result<(EventPart, EventPart), NoMemory>
+    fn pair(&mut self, tree: &(PartTree, PartTree)) -> Made<(EventPart, EventPart)>
         requires { self.old.next + part_tokens tree.now.0 + part_tokens tree.now.1 ≤ MOST_BYTES }
         ensures old { IfOk result (λ made. made.0 ≡ part_at self.old tree.now.0) }
         ensures new { IfOk result (λ made. made.1 ≡ part_at (past self.old (part_tokens tree.now.0)) tree.now.1) }
@@ -104,7 +102,7 @@ impl<'a> Walk<'a> {
     /// A tree as a process. What is data there, which nothing is in a script without faults, is `STOP`.
     #[tactic(auto, using(csp_text::specs::declared::tree::Tree::the_lemmas, script_sizes::proofs::TokenForms::token_forms, crate::proofs::ProcForms::proc_forms))]
     #[cycle(typed_proc)]
-    pub(crate) fn process(&mut self, tree: &Tree) -> Result<Proc, NoMemory>
+    pub(crate) fn process(&mut self, tree: &Tree) -> Made<Proc>
         requires { self.old.next + tokens tree.now ≤ MOST_BYTES }
         ensures made { IfOk result (λ made. made ≡ proc_at self.old tree.now) }
         ensures walk { OnOk result (self.new ≡ past self.old (tokens tree.now)) }
@@ -145,7 +143,7 @@ impl<'a> Walk<'a> {
 
     // The use of the definition `f`.
     #[tactic(auto, using(script_sizes::proofs::TokenForms::token_forms, crate::proofs::ProcForms::proc_forms))]
-    fn proc_call(&mut self, f: &Name, args: &Items<Tree>) -> Result<Proc, NoMemory>
+    fn proc_call(&mut self, f: &Name, args: &Items<Tree>) -> Made<Proc>
         requires { self.old.next + tokens (Tree.Call f.now args.now) ≤ MOST_BYTES }
         ensures made { IfOk result (λ made. made ≡ proc_at self.old (Tree.Call f.now args.now)) }
         ensures walk { OnOk result (self.new ≡ past self.old (tokens (Tree.Call f.now args.now))) }
@@ -158,17 +156,12 @@ impl<'a> Walk<'a> {
     // One of two processes.
     #[tactic(auto, using(csp_text::specs::declared::tree::Tree::the_lemmas, script_sizes::proofs::TokenForms::token_forms, crate::proofs::ProcForms::proc_forms))]
     #[cycle(typed_proc)]
-    fn proc_choice(
-        &mut self,
-        c: &Boxed<Tree>,
-        p: &Boxed<Tree>,
-        q: &Boxed<Tree>,
-    ) -> Result<Proc, NoMemory>
+    fn proc_choice(&mut self, c: &Boxed<Tree>, p: &Boxed<Tree>, q: &Boxed<Tree>) -> Made<Proc>
         requires { self.old.next + tokens (Tree.If c.now p.now q.now) ≤ MOST_BYTES }
         ensures made { IfOk result (λ made. made ≡ proc_at self.old (Tree.If c.now p.now q.now)) }
         ensures walk { OnOk result (self.new ≡ past self.old (tokens (Tree.If c.now p.now q.now))) }
     {
-        let c = self.boxed_expr(c.get())?;
+        let c = self.box_expr(c.get())?;
         self.two_procs(p, q)
             .map(|(p, q)| Proc::If(c.into_inner(), p, q))
     }
@@ -176,14 +169,14 @@ impl<'a> Walk<'a> {
     // A prefix of a process.
     #[tactic(auto, using(csp_text::specs::declared::tree::Tree::the_lemmas, script_sizes::proofs::TokenForms::token_forms, crate::proofs::ProcForms::proc_forms, crate::proofs::Scopes::scope_laws))]
     #[cycle(typed_proc)]
-    fn prefix(&mut self, event: &EventTree, p: &Boxed<Tree>) -> Result<Proc, NoMemory>
+    fn prefix(&mut self, event: &EventTree, p: &Boxed<Tree>) -> Made<Proc>
         requires { self.old.next + tokens (Tree.Prefix event.now p.now) ≤ MOST_BYTES }
         ensures made { IfOk result (λ made. made ≡ proc_at self.old (Tree.Prefix event.now p.now)) }
         ensures walk { OnOk result (self.new ≡ past self.old (tokens (Tree.Prefix event.now p.now))) }
     {
         let mark = self.mark();
         let fields = self.fields(event.fields.as_slice())?;
-        let p = self.boxed_proc(p)?;
+        let p = self.box_proc(p)?;
         self.leave(mark);
         let first = self.head(&event.name);
         Ok(Proc::Prefix(first, fields, p))
@@ -192,13 +185,13 @@ impl<'a> Walk<'a> {
     // A process under a condition.
     #[tactic(auto, using(csp_text::specs::declared::tree::Tree::the_lemmas, script_sizes::proofs::TokenForms::token_forms, crate::proofs::ProcForms::proc_forms))]
     #[cycle(typed_proc)]
-    fn guard(&mut self, c: &Boxed<Tree>, p: &Boxed<Tree>) -> Result<Proc, NoMemory>
+    fn guard(&mut self, c: &Boxed<Tree>, p: &Boxed<Tree>) -> Made<Proc>
         requires { self.old.next + tokens (Tree.Guard c.now p.now) ≤ MOST_BYTES }
         ensures made { IfOk result (λ made. made ≡ proc_at self.old (Tree.Guard c.now p.now)) }
         ensures walk { OnOk result (self.new ≡ past self.old (tokens (Tree.Guard c.now p.now))) }
     {
-        let c = self.boxed_expr(c.get())?;
-        self.boxed_proc(p).map(|p| Proc::Guard(c.into_inner(), p))
+        let c = self.box_expr(c.get())?;
+        self.box_proc(p).map(|p| Proc::Guard(c.into_inner(), p))
     }
 
     // A process for a value of a set: the number of its name, the set and the process.
@@ -209,7 +202,7 @@ impl<'a> Walk<'a> {
         x: &Name,
         set: &Boxed<Tree>,
         p: &Boxed<Tree>,
-    ) -> Result<(u32, Boxed<Expr>, Boxed<Proc>), NoMemory>
+    ) -> Made<(u32, Boxed<Expr>, Boxed<Proc>)>
         requires { self.old.next + 1 + tokens set.now + tokens p.now ≤ MOST_BYTES }
         ensures number { IfOk result (λ made. made.0 ≡ self.old.next) }
         ensures set { IfOk result (λ made. made.1 ≡ expr_at (past self.old 1) set.now) }
@@ -218,7 +211,7 @@ impl<'a> Walk<'a> {
     {
         let mark = self.mark();
         let (number, set) = self.bind_over(x, set.get())?;
-        let p = self.boxed_proc(p)?;
+        let p = self.box_proc(p)?;
         self.leave(mark);
         Ok((number, set, p))
     }
@@ -226,7 +219,7 @@ impl<'a> Walk<'a> {
     // One process after the other.
     #[tactic(auto, using(csp_text::specs::declared::tree::Tree::the_lemmas, script_sizes::proofs::TokenForms::token_forms, crate::proofs::ProcForms::proc_forms))]
     #[cycle(typed_proc)]
-    fn sequence(&mut self, p: &Boxed<Tree>, q: &Boxed<Tree>) -> Result<Proc, NoMemory>
+    fn sequence(&mut self, p: &Boxed<Tree>, q: &Boxed<Tree>) -> Made<Proc>
         requires { self.old.next + tokens (Tree.Seq p.now q.now) ≤ MOST_BYTES }
         ensures made { IfOk result (λ made. made ≡ proc_at self.old (Tree.Seq p.now q.now)) }
         ensures walk { OnOk result (self.new ≡ past self.old (tokens (Tree.Seq p.now q.now))) }
@@ -237,13 +230,13 @@ impl<'a> Walk<'a> {
     // A process with a set hidden.
     #[tactic(auto, using(csp_text::specs::declared::tree::Tree::the_lemmas, script_sizes::proofs::TokenForms::token_forms, crate::proofs::ProcForms::proc_forms))]
     #[cycle(typed_proc)]
-    fn hiding(&mut self, p: &Boxed<Tree>, set: &Boxed<Tree>) -> Result<Proc, NoMemory>
+    fn hiding(&mut self, p: &Boxed<Tree>, set: &Boxed<Tree>) -> Made<Proc>
         requires { self.old.next + tokens (Tree.Hide p.now set.now) ≤ MOST_BYTES }
         ensures made { IfOk result (λ made. made ≡ proc_at self.old (Tree.Hide p.now set.now)) }
         ensures walk { OnOk result (self.new ≡ past self.old (tokens (Tree.Hide p.now set.now))) }
     {
-        let p = self.boxed_proc(p)?;
-        self.boxed_expr(set.get())
+        let p = self.box_proc(p)?;
+        self.box_expr(set.get())
             .map(|set| Proc::Hide(p, set.into_inner()))
     }
 
@@ -253,7 +246,7 @@ impl<'a> Walk<'a> {
         &mut self,
         sides: &Items<(PartTree, PartTree)>,
         gens: &Items<GenTree>,
-    ) -> Result<(Items<(EventPart, EventPart)>, Items<Gen>), NoMemory>
+    ) -> Made<(Items<(EventPart, EventPart)>, Items<Gen>)>
         requires { self.old.next + pairs_tokens sides.now + gens_tokens gens.now ≤ MOST_BYTES }
         ensures sides { IfOk result (λ made. made.0 ≡ sides_at self.old sides.now gens.now) }
         ensures gens { IfOk result (λ made. made.1 ≡ gens_at (past self.old (pairs_tokens sides.now)) gens.now) }
@@ -276,36 +269,32 @@ impl<'a> Walk<'a> {
         p: &Boxed<Tree>,
         sides: &Items<(PartTree, PartTree)>,
         gens: &Items<GenTree>,
-    ) -> Result<Proc, NoMemory>
+    ) -> Made<Proc>
         requires { self.old.next + tokens (Tree.Rename p.now sides.now gens.now) ≤ MOST_BYTES }
         ensures made { IfOk result (λ made. made ≡ proc_at self.old (Tree.Rename p.now sides.now gens.now)) }
         ensures walk { OnOk result (self.new ≡ past self.old (tokens (Tree.Rename p.now sides.now gens.now))) }
     {
-        let p = self.boxed_proc(p)?;
+        let p = self.box_proc(p)?;
         self.sides_under(sides, gens)
             .map(|(sides, gens)| Proc::Rename(p, sides, gens))
     }
 
     // Two trees as processes on the heap.
     #[cycle(typed_proc)]
-    fn two_procs(
-        &mut self,
-        p: &Boxed<Tree>,
-        q: &Boxed<Tree>,
-    ) -> Result<(Boxed<Proc>, Boxed<Proc>), NoMemory>
+    fn two_procs(&mut self, p: &Boxed<Tree>, q: &Boxed<Tree>) -> Made<(Boxed<Proc>, Boxed<Proc>)>
         requires { self.old.next + tokens p.now + tokens q.now ≤ MOST_BYTES }
         ensures first { IfOk result (λ made. made.0 ≡ proc_at self.old p.now) }
         ensures second { IfOk result (λ made. made.1 ≡ proc_at (past self.old (tokens p.now)) q.now) }
         ensures walk { OnOk result (self.new ≡ past self.old (tokens p.now + tokens q.now)) }
     {
-        let p = self.boxed_proc(p)?;
-        let q = self.boxed_proc(q)?;
+        let p = self.box_proc(p)?;
+        let q = self.box_proc(q)?;
         Ok((p, q))
     }
 
     // A tree as a process on the heap.
     #[cycle(typed_proc)]
-    fn boxed_proc(&mut self, tree: &Boxed<Tree>) -> Result<Boxed<Proc>, NoMemory>
+    fn box_proc(&mut self, tree: &Boxed<Tree>) -> Made<Boxed<Proc>>
         requires { self.old.next + tokens tree.now ≤ MOST_BYTES }
         ensures made { IfOk result (λ made. made ≡ proc_at self.old tree.now) }
         ensures walk { OnOk result (self.new ≡ past self.old (tokens tree.now)) }
@@ -317,7 +306,7 @@ impl<'a> Walk<'a> {
 
     // Trees as processes, numbered one after another.
     #[cycle(typed_proc)]
-    fn processes(&mut self, trees: &[Tree]) -> Result<Items<Proc>, NoMemory>
+    fn processes(&mut self, trees: &[Tree]) -> Made<Items<Proc>>
         requires { self.old.next + all_tokens trees.now ≤ MOST_BYTES }
         ensures made { IfOk result (λ made. made ≡ procs_at self.old trees.now) }
         ensures walk { OnOk result (self.new ≡ past self.old (all_tokens trees.now)) }

@@ -8,11 +8,11 @@ ghost use Rattle.typed_trees.specs.Words as words;
 
 use crate::counts::count_tree;
 use crate::names::{channel_number, definition_number, head_of, is_network, name_alone};
-use csp_base::{Name, NoMemory};
+use csp_base::Name;
 use csp_program::{Expr, Head};
 use csp_text::Tree;
 use name_tables::{Dictionary, Meanings, Scope};
-use script_names::Kind;
+use script_names::{Kind, Made};
 use std::alloc::Global;
 use std::marker::Model;
 
@@ -25,15 +25,14 @@ pub struct Walk<'a> {
     next: u32,
 }
 
-// By hand, so that a crate that ends one calls this and proves no end of its own.
 impl<'a> Drop for Walk<'a> {
     fn drop(self) {
         let Walk {
-            alloc: _alloc,
-            names: _names,
-            kinds: _kinds,
-            scope: _scope,
-            next: _next,
+            alloc,
+            names,
+            kinds,
+            scope,
+            next,
         } = self;
     }
 }
@@ -151,7 +150,7 @@ impl<'a> Walk<'a> {
     }
 
     /// Binds one more name.
-    pub(crate) fn bind(&mut self, x: &Name, number: u32) -> Result<(), NoMemory>
+    pub(crate) fn bind(&mut self, x: &Name, number: u32) -> Made<()>
         ensures { OnOk result (self.new ≡ record self.old { scope = self.old.scope ++ (x.now, number) ∷ [] }) }
     {
         self.scope.bind(x, number)

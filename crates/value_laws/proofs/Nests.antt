@@ -1,6 +1,5 @@
 -- Uses in a program in order nest no deeper than there are definitions: along a way of uses each definition comes once.
-use Rattle.value_laws.proofs.Prelude.{◌≡◌, ℕ, zero, suc, ◌+◌, ◌<◌, ◌≤◌, Bool, true, false, eqb, nat_eq, IsTrue, Option, Some, None, List, [], ◌∷◌, map, length, refl, sym, ap, subst, inl, inr, arith, slice_get, false≢true, or_cases, eqb-true, false_from_ne_true, or_left, or_right, length-le_from_distinct_below, IsInOrder, body_in_order, def_in_order, expr_in_order, all_true, BodyNests, DefNests, NestsWithin, Reaches, body_uses, def_uses, expr_uses, by_use, by_way, Expr, Body, Content, Def, value_within_same, DefinitionsAreEnough, MoreUsesChangeNothing, UsesNestWithinDefinitions, is_first, is_second}
-use Rattle.std.specs.List.{AllByRecursion, IsDistinct, list_any}
+use Rattle.value_laws.proofs.Prelude.{◌≡◌, ℕ, zero, suc, ◌+◌, ◌<◌, ◌≤◌, Bool, true, false, eqb, nat_eq, IsTrue, Option, Some, None, List, [], ◌∷◌, map, length, refl, sym, ap, subst, inl, inr, arith, slice_get, false≢true, or_cases, eqb-true, false_from_ne_true, or_left, or_right, length-le_from_distinct_below, IsInOrder, body_in_order, def_in_order, expr_in_order, all_true, BodyNests, DefNests, NestsWithin, Reaches, body_uses, def_uses, expr_uses, by_use, by_way, Expr, Body, Content, Def, value_within_same, DefinitionsAreEnough, MoreUsesChangeNothing, UsesNestWithinDefinitions, is_first, is_second, AllByRecursion, IsDistinct, list_any}
 use Rattle.value_laws.proofs.UsesInRange.{uses_in_range}
 use Rattle.csp_program.specs.declared.programs.Body.TheVariants as body
 

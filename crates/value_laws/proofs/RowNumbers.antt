@@ -1,6 +1,5 @@
 -- The number of the first fields of an event, and the rows that begin with them.
-use Rattle.value_laws.proofs.Prelude.{◌≡◌, ℕ, zero, suc, ◌+◌, ◌*◌, Bool, true, false, cond, Option, Some, None, Ok, List, [], ◌∷◌, ◌++◌, map, length, take, drop, refl, sym, ◌∙◌, ap, subst, arith, Err, is_some, slice_get, option_map, length-map, slice_get-map, slice_get_within, less, same, AllAbove, IsRising, has_atom, one_more, place_of, Atom, Value, One, Many, same_exact, same_itself, before_from_less, row_count, rows, Outcome, and_then, Env, Meaning, in_field, row_of, values_of, ValueKind, OutsideChannel, AllRise, events_each, field_place, fields_number, found_place, HaveValues, came_through}
-use Rattle.csp_atoms.proofs.SearchLaws.{has_place}
+use Rattle.value_laws.proofs.Prelude.{◌≡◌, ℕ, zero, suc, ◌+◌, ◌*◌, Bool, true, false, cond, Option, Some, None, Ok, List, [], ◌∷◌, ◌++◌, map, length, take, drop, refl, sym, ◌∙◌, ap, subst, arith, Err, is_some, slice_get, option_map, length-map, slice_get-map, slice_get_within, less, same, AllAbove, IsRising, has_atom, one_more, place_of, Atom, Value, One, Many, same_exact, same_itself, before_from_less, row_count, rows, Outcome, and_then, Env, Meaning, in_field, row_of, values_of, ValueKind, OutsideChannel, AllRise, events_each, field_place, fields_number, found_place, HaveValues, came_through, has_place}
 use Rattle.value_laws.proofs.Lists.{same_outcome, length-joined, get_joined, from_joined}
 
 -- ---- the place of a value among the values of a field

@@ -1,9 +1,5 @@
 -- The value of an expression in order, over a program in order, is in order.
-use Rattle.value_laws.proofs.Prelude.{◌≡◌, ℕ, zero, suc, Bool, true, false, cond, ◌&&◌, not, IsTrue, Option, Some, None, Ok, Err, List, [], ◌∷◌, map, length, refl, sym, ◌∙◌, subst, inl, inr, arith, ℤ, pos, negsuc, ◌+ℤ◌, ◌<ℤ◌, ◌-ℤ◌, ◌*ℤ◌, neg_ℤ, int_lt, int_le, nat_lt, nat_eq, slice_get, false≢true, lt-ltb, or_cases, ints, length-map, slice_get_within, same_kind, AllAbove, AllOfKind, IsAtomSet, IsRising, alike, diff_of, has_atom, inter_of, is_set, union_of, Atom, Value, One, Many, has-diff_of, has-inter_of, has-union_of, IsAtomSet-filter, IsAtomSet-union_of, IsAtomSet-from, is_set-when, all_added, limited, numbers_from, IsInOrder, atom_in_order, body_in_order, def_in_order, expr_in_order, expr_in_order_of_layer, gen_in_order, gen_in_order_of_layer, is_datum, part_in_order, part_in_order_of_layer, takes, value_in_order, with_fields, all_true, Outcome, and_then, Env, Front, Meaning, Turn, Uses, as_atom, as_number, as_set, as_truth, binary, body_value, bound_to, bound_value, def_value, divided, from, front, front_of_layer, in_range, items_added, lack_sets, many, meaning, meaning_of_layer, number, on_numbers, on_truths, on_atoms, quotient, remainder, set_binary, sets_of, truth, turn, turn_of_layer, uses_within, value_within, values_of, when, event_of, EventPart, Expr, fold-roll-Expr, fold-roll-Gen, map-Expr, map-Gen, Expr-F, Gen-F, roll-Expr, roll-Gen, Gen, ValueKind, Range, Division, Kind, Body, Content, Def, BeginsWithOne, IsBinding, IsItem, HasSets, StandsAt, first_of, EnvIsInOrder, ValuesAreInOrder, is_and, is_first, is_second, Every, ExprHas, GenHas, each_expr, came_through, less_number}
-use Rattle.csp_base.specs.Prelude.{natural}
-use Rattle.csp_base.specs.declared.operators.BinOp.{BinOp}
-use Rattle.csp_base.specs.declared.operators.SetOp.{SetOp}
-use Rattle.csp_atoms.proofs.ListLaws.{one_kind}
+use Rattle.value_laws.proofs.Prelude.{◌≡◌, ℕ, zero, suc, Bool, true, false, cond, ◌&&◌, not, IsTrue, Option, Some, None, Ok, Err, List, [], ◌∷◌, map, length, refl, sym, ◌∙◌, subst, inl, inr, arith, ℤ, pos, negsuc, ◌+ℤ◌, ◌<ℤ◌, ◌-ℤ◌, ◌*ℤ◌, neg_ℤ, int_lt, int_le, nat_lt, nat_eq, slice_get, false≢true, lt-ltb, or_cases, ints, length-map, slice_get_within, same_kind, AllAbove, AllOfKind, IsAtomSet, IsRising, alike, diff_of, has_atom, inter_of, is_set, union_of, Atom, Value, One, Many, has-diff_of, has-inter_of, has-union_of, IsAtomSet-filter, IsAtomSet-union_of, IsAtomSet-from, is_set-when, all_added, limited, numbers_from, IsInOrder, atom_in_order, body_in_order, def_in_order, expr_in_order, expr_in_order_of_layer, gen_in_order, gen_in_order_of_layer, is_datum, part_in_order, part_in_order_of_layer, takes, value_in_order, with_fields, all_true, Outcome, and_then, Env, Front, Meaning, Turn, Uses, as_atom, as_number, as_set, as_truth, binary, body_value, bound_to, bound_value, def_value, divided, from, front, front_of_layer, in_range, items_added, lack_sets, many, meaning, meaning_of_layer, number, on_numbers, on_truths, on_atoms, quotient, remainder, set_binary, sets_of, truth, turn, turn_of_layer, uses_within, value_within, values_of, when, event_of, EventPart, Expr, fold-roll-Expr, fold-roll-Gen, map-Expr, map-Gen, Expr-F, Gen-F, roll-Expr, roll-Gen, Gen, ValueKind, Range, Division, Kind, Body, Content, Def, BeginsWithOne, IsBinding, IsItem, HasSets, StandsAt, first_of, EnvIsInOrder, ValuesAreInOrder, is_and, is_first, is_second, Every, ExprHas, GenHas, each_expr, came_through, less_number, natural, BinOp, SetOp, one_kind}
 use Rattle.csp_program.specs.Value as meant
 use Rattle.value_laws.proofs.AtExpressions.{with_sets}
 use Rattle.value_laws.proofs.EventPlaces.{event_found}

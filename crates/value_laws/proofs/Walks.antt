@@ -1,8 +1,7 @@
 -- What the walk over all bindings gathers.
-use Rattle.value_laws.proofs.Prelude.{◌≡◌, ◌+◌, ◌≤◌, ◌⊎◌, Bool, true, false, cond, IsTrue, Ok, Err, List, [], ◌∷◌, length, refl, sym, ◌∙◌, ap, subst, inl, inr, arith, ◌↔◌, nat_le, nat_lt, false≢true, leb-true, or_cases, same, fits, has_atom, with_atom, Atom, Value, One, Many, has-with_atom, same_exact, same_itself, IsAtomSet-with_atom, added, limited, Outcome, and_then, Env, Gathered, Meaning, Turn, as_atom, comprehension, gathered, items_added, over, as_set, truth, as_truth, walked, ValueKind, Kind, SetLimit, IsBinding, IsItem, IsSetValue, is_or_first, is_or_second, came_through}
+use Rattle.value_laws.proofs.Prelude.{◌≡◌, ◌+◌, ◌≤◌, ◌⊎◌, Bool, true, false, cond, IsTrue, Ok, Err, List, [], ◌∷◌, length, refl, sym, ◌∙◌, ap, subst, inl, inr, arith, ◌↔◌, nat_le, nat_lt, false≢true, leb-true, or_cases, same, fits, has_atom, with_atom, Atom, Value, One, Many, has-with_atom, same_exact, same_itself, IsAtomSet-with_atom, added, limited, Outcome, and_then, Env, Gathered, Meaning, Turn, as_atom, comprehension, gathered, items_added, over, as_set, truth, as_truth, walked, ValueKind, Kind, SetLimit, IsBinding, IsItem, IsSetValue, is_or_first, is_or_second, came_through, MOST_BINDINGS, MOST_ELEMENTS}
 use Rattle.value_laws.proofs.Lists.{same_outcome}
 use Rattle.csp_atoms.specs.declared.atom.Atom.TheVariants as atom
-use Rattle.dl_limits.specs.declared.TheConstants.{MOST_BINDINGS, MOST_ELEMENTS}
 
 -- ---- kinds that were found
 

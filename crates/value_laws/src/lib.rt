@@ -1,12 +1,7 @@
 //! Laws about the value of an expression.
 #![tactic(auto)]
 
-ghost use Rattle.value_laws.specs.Bindings.{ComprehensionsHoldTheirItems, ProductionsHoldWhatBegins};
-ghost use Rattle.value_laws.specs.EnoughUses.{DefinitionsAreEnough, MoreUsesChangeNothing, UnboundedIsWorth, UsesNestWithinDefinitions, WorthIsUnbounded};
-ghost use Rattle.value_laws.specs.EventNumbers.{BeginnersStandTogether, NumbersArePlaces, PlacesAreNumbers};
-ghost use Rattle.value_laws.specs.Numbers.{EventsAreFound};
-ghost use Rattle.value_laws.specs.ProgramEvents.{PlacesAreValues, ValuesArePlaces};
-ghost use Rattle.value_laws.specs.ValuesInOrder.{ValuesAreInOrder};
+ghost use Rattle.value_laws.specs.Prelude.{ComprehensionsHoldTheirItems, ProductionsHoldWhatBegins, DefinitionsAreEnough, MoreUsesChangeNothing, UnboundedIsWorth, UsesNestWithinDefinitions, WorthIsUnbounded, BeginnersStandTogether, NumbersArePlaces, PlacesAreNumbers, EventsAreFound, PlacesAreValues, ValuesArePlaces, ValuesAreInOrder};
 
 /// The number that is computed for an event is its place in the event table, and the events that begin with given values stand together there.
 pub fn event_numbers_are_places()

@@ -1,6 +1,5 @@
 -- Counting that stops at a greatest number.
-use Rattle.value_operators.proofs.Prelude.{◌≡◌, ℕ, zero, suc, ◌+◌, ◌*◌, ◌<◌, min, List, length, inl, inr, drop, get_or, sym, ap, ◌∙◌, arith, cases_lt, Atom, row_count}
-use Rattle.csp_base.proofs.Lists.{drop_read}
+use Rattle.value_operators.proofs.Prelude.{◌≡◌, ℕ, zero, suc, ◌+◌, ◌*◌, ◌<◌, min, List, length, inl, inr, drop, get_or, sym, ap, ◌∙◌, arith, cases_lt, Atom, row_count, drop_read}
 
 -- a factor may stop before
 pub stops_left : (x y most : ℕ) → min (min x most * y) most ≡ min (x * y) most

@@ -1,9 +1,7 @@
 -- A set in two parts is the union of them: an atom may be put into either part, and is put in already where the first part holds it.
-use Rattle.value_operators.proofs.Prelude.{◌≡◌, ℕ, ◌+◌, ◌≤◌, List, [], ◌∷◌, Bool, true, false, Ok, Err, cond, length, refl, ap, subst, sym, ◌∙◌, arith, ◌||◌, ◌&&◌, nat_eq, Result, eqb-true, kind_of, less, same, AllOfKind, IsRising, fits, has_atom, union_of, with_atom, Atom, IsRising-union_of, IsRising-with_atom, kind_with_atom, kind_union_of, has-union_of, has-with_atom, same_set, added, limited, Kind, Gives, IsParted, EvalFault}
-use Rattle.csp_base.proofs.Booleans.{and_false, or_none, or_regroup, or_swap}
+use Rattle.value_operators.proofs.Prelude.{◌≡◌, ℕ, ◌+◌, ◌≤◌, List, [], ◌∷◌, Bool, true, false, Ok, Err, cond, length, refl, ap, subst, sym, ◌∙◌, arith, ◌||◌, ◌&&◌, nat_eq, Result, eqb-true, kind_of, less, same, AllOfKind, IsRising, fits, has_atom, union_of, with_atom, Atom, IsRising-union_of, IsRising-with_atom, kind_with_atom, kind_union_of, has-union_of, has-with_atom, same_set, added, limited, Kind, Gives, IsParted, EvalFault, and_false, or_none, or_regroup, or_swap, MOST_ELEMENTS}
 use Rattle.value_operators.proofs.SetSteps.{limited_few}
 use Rattle.value_operators.proofs.Held.{with_member}
-use Rattle.dl_limits.specs.declared.TheConstants.{MOST_ELEMENTS}
 
 -- an atom that is put into the first part, or into the second, is put into the whole
 pub put_settled : (xs ys : List Atom) (a : Atom) → IsRising ys → union_of (with_atom xs a) ys ≡ with_atom (union_of xs ys) a

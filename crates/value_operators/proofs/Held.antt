@@ -1,10 +1,7 @@
 -- Events that a set holds already: where the first and the last of a row of events stand as far apart as they are, all between them are members.
-use Rattle.value_operators.proofs.Prelude.{◌≡◌, ℕ, zero, suc, ◌+◌, ◌-◌, ◌<◌, ◌≤◌, List, [], ◌∷◌, Option, Some, None, Ok, Err, Bool, true, false, cond, length, refl, ap, subst, sym, ◌∙◌, arith, ◌||◌, slice_get, ints, kind_of, less, same, AllAbove, AllOfKind, IsAtomSet, IsOneKind, IsRising, fits, has_atom, one_more, place_of, with_atom, Atom, IsRising-with_atom, has-with_atom, same_set, same_exact, same_itself, added, all_added, limited, and_then, Kind, events_from}
-use Rattle.csp_base.proofs.Standard.{false≢true, or_right}
-use Rattle.value_laws.proofs.RowNumbers.{at_place}
+use Rattle.value_operators.proofs.Prelude.{◌≡◌, ℕ, zero, suc, ◌+◌, ◌-◌, ◌<◌, ◌≤◌, List, [], ◌∷◌, Option, Some, None, Ok, Err, Bool, true, false, cond, length, refl, ap, subst, sym, ◌∙◌, arith, ◌||◌, slice_get, ints, kind_of, less, same, AllAbove, AllOfKind, IsAtomSet, IsOneKind, IsRising, fits, has_atom, one_more, place_of, with_atom, Atom, IsRising-with_atom, has-with_atom, same_set, same_exact, same_itself, added, all_added, limited, and_then, Kind, events_from, false≢true, or_right, at_place, MOST_ELEMENTS}
 use Rattle.csp_atoms.specs.declared.atom.Atom.TheVariants as atom
 use Rattle.value_operators.proofs.SetSteps.{limited_few}
-use Rattle.dl_limits.specs.declared.TheConstants.{MOST_ELEMENTS}
 
 -- what comes after an event is an event with a higher number
 event_above : (e : ℕ) (y : Atom) → less (atom.Event e) y ≡ true → (d : ℕ) × (y ≡ atom.Event d) × (e < d)

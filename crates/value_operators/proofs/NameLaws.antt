@@ -1,8 +1,5 @@
 -- Names in an environment.
-use Rattle.value_operators.proofs.Prelude.{◌≡◌, ℕ, zero, suc, ◌+◌, ◌<◌, ◌≤◌, List, [], ◌∷◌, ◌++◌, Some, Ok, Err, false, length, get_or, refl, ap, ◌∙◌, eq-eqb, arith, nat_eq, cond, slice_get, Env, bound_to, bound_value, Kind, Atom, ArePlaces, numbered_from, with_bound}
-use Rattle.std.proofs.lemmas.Option.{slice_get_read}
-use Rattle.csp_atoms.specs.declared.value.Value.{Value}
-use Rattle.csp_atoms.specs.declared.value.Value.TheVariants.{One}
+use Rattle.value_operators.proofs.Prelude.{◌≡◌, ℕ, zero, suc, ◌+◌, ◌<◌, ◌≤◌, List, [], ◌∷◌, ◌++◌, Some, Ok, Err, false, length, get_or, refl, ap, ◌∙◌, eq-eqb, arith, nat_eq, cond, slice_get, Env, bound_to, bound_value, Kind, Atom, ArePlaces, numbered_from, with_bound, slice_get_read, Value, One}
 
 pub with_bound-last : (bs : List (ℕ × Atom)) (b : ℕ × Atom) (env : Env) → with_bound (bs ++ (b ∷ [])) env ≡ (b.0, One b.1) ∷ with_bound bs env
 with_bound-last [] b env = refl

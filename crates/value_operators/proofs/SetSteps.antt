@@ -1,9 +1,7 @@
 -- Sets of atoms that grow step by step.
-use Rattle.value_operators.proofs.Prelude.{◌≡◌, ℕ, zero, suc, ◌+◌, ◌-◌, ◌<◌, ◌≤◌, List, [], ◌∷◌, Ok, Err, true, false, length, refl, ap, subst, sym, ◌∙◌, arith, cond, drop, get_or, drop-cons, add-one, map, ℤ, pos, negsuc, ◌+ℤ◌, ◌-ℤ◌, ◌≤ℤ◌, ◌<ℤ◌, nat_le, Result, IsErrAnd, ints, less, with_atom, fits, Atom, added, all_added, limited, numbers_from, Outcome, and_then, range, ValueKind, Kind, SetLimit, events_from, Gives, EvalFault, less_number}
+use Rattle.value_operators.proofs.Prelude.{◌≡◌, ℕ, zero, suc, ◌+◌, ◌-◌, ◌<◌, ◌≤◌, List, [], ◌∷◌, Ok, Err, true, false, length, refl, ap, subst, sym, ◌∙◌, arith, cond, drop, get_or, drop-cons, add-one, map, ℤ, pos, negsuc, ◌+ℤ◌, ◌-ℤ◌, ◌≤ℤ◌, ◌<ℤ◌, nat_le, Result, IsErrAnd, ints, less, with_atom, fits, Atom, added, all_added, limited, numbers_from, Outcome, and_then, range, ValueKind, Kind, SetLimit, events_from, Gives, EvalFault, less_number, natural, MOST_ELEMENTS}
 use Rattle.csp_atoms.specs.declared.atom.Atom.TheVariants as atom
-use Rattle.csp_base.specs.Lists.{natural}
 use Rattle.value_operators.proofs.Faults.{passed}
-use Rattle.dl_limits.specs.declared.TheConstants.{MOST_ELEMENTS}
 
 -- the atoms of a list, the first of which is added
 abbrev more_of : Outcome (List Atom) → List Atom → Outcome (List Atom)
@@ -67,7 +65,7 @@ pub number_fault : (r : Result (List Atom) EvalFault) (f : EvalFault) (m x : ℤ
 number_fault r f m x k atoms all one is is_one e few failed h =
     passed r f (added atoms one) (Ok all) failed h (λ kind bad. let good : added atoms one ≡ Ok (numbers_from m (k + 1)) = added_number m x k atoms one is is_one e few in cc)
 
-above : (z : ℤ) → pos 16385 ≤ℤ z → MOST_ELEMENTS < natural z
+above : (z : ℤ) → pos MOST_ELEMENTS <ℤ z → MOST_ELEMENTS < natural z
 above (pos n) h = omega (arith, ints)
 above (negsuc n) h = absurd (omega (arith, ints))
 

@@ -16,22 +16,10 @@ first_half op.Or v = and_then (as_truth v) (λ b. Ok (decided_by true b))
 first_half op.And v = and_then (as_truth v) (λ b. Ok (decided_by false b))
 first_half op.Eq v = and_then (as_atom v) (λ a. Ok None)
 first_half op.Ne v = and_then (as_atom v) (λ a. Ok None)
-first_half op.Lt v = and_then (as_number v) (λ a. Ok None)
-first_half op.Le v = and_then (as_number v) (λ a. Ok None)
-first_half op.Gt v = and_then (as_number v) (λ a. Ok None)
-first_half op.Ge v = and_then (as_number v) (λ a. Ok None)
-first_half op.Add v = and_then (as_number v) (λ a. Ok None)
-first_half op.Sub v = and_then (as_number v) (λ a. Ok None)
-first_half op.Mul v = and_then (as_number v) (λ a. Ok None)
-first_half op.Div v = and_then (as_number v) (λ a. Ok None)
-first_half op.Rem v = and_then (as_number v) (λ a. Ok None)
+first_half _ v = and_then (as_number v) (λ a. Ok None)
 
 -- an operator on two numbers; the others take none
 abbrev pub on_two_numbers : BinOp → ℤ → ℤ → Outcome Value
-on_two_numbers op.Or m n = Err Kind
-on_two_numbers op.And m n = Err Kind
-on_two_numbers op.Eq m n = Err Kind
-on_two_numbers op.Ne m n = Err Kind
 on_two_numbers op.Lt m n = Ok (truth (int_lt m n))
 on_two_numbers op.Le m n = Ok (truth (int_le m n))
 on_two_numbers op.Gt m n = Ok (truth (int_lt n m))
@@ -41,3 +29,4 @@ on_two_numbers op.Sub m n = in_range (m -ℤ n)
 on_two_numbers op.Mul m n = in_range (m *ℤ n)
 on_two_numbers op.Div m n = divided quotient m n
 on_two_numbers op.Rem m n = divided remainder m n
+on_two_numbers _ m n = Err Kind

@@ -4,13 +4,12 @@ ghost use Rattle.std.specs.Prelude.{◌≡◌, ◌≤◌, ◌+◌, true, [], IfO
 ghost use Rattle.dl_limits.specs.declared.TheConstants.{MOST_ELEMENTS};
 ghost use Rattle.csp_atoms.specs.Sets.{fits, union_of, with_atom};
 ghost use Rattle.csp_program.specs.Atoms.{added, limited};
-ghost use Rattle.value_operators.specs.Gives.{Gives};
-ghost use Rattle.value_operators.specs.Parted.{IsParted};
+ghost use Rattle.value_operators.specs.Prelude.{Gives, IsParted};
 
-use crate::fault::EvalFault;
+use crate::EvalFault;
 use csp_atoms::atom::order;
-use csp_atoms::{Atom, AtomSet, AtomSetError};
-use csp_base::NoMemory;
+use csp_atoms::{Atom, AtomSet};
+use csp_base::{NoMemory, Stop};
 use csp_program::ValueKind;
 use dl_limits::MOST_ELEMENTS;
 use std::alloc::Global;
@@ -18,14 +17,6 @@ use std::marker::Model;
 
 // So many atoms may wait.
 const MOST_WAITING: usize = 256;
-
-const KIND: EvalFault = EvalFault::Value {
-    kind: ValueKind::Kind,
-};
-
-const SET_LIMIT: EvalFault = EvalFault::Value {
-    kind: ValueKind::SetLimit,
-};
 
 /// A set that grows. Contracts see the list of its members, which rises strictly.
 #[derive(Drop)]
@@ -85,7 +76,7 @@ fn are_few(settled: usize, waiting: usize) -> bool
 }
 
 // The members of both parts.
-fn merged(alloc: Global, settled: &AtomSet, waiting: &AtomSet) -> Result<AtomSet, NoMemory>
+fn merge(alloc: Global, settled: &AtomSet, waiting: &AtomSet) -> Result<AtomSet, NoMemory>
     ensures { IfOk result (λ all. all ≡ union_of settled.now waiting.now) }
 {
     match settled.union(alloc, waiting) {
@@ -113,13 +104,17 @@ fn put(settled: AtomSet, waiting: AtomSet, one: Atom) -> Result<GrowingSet, NoMe
 }
 
 // The set in one part, unless it has too many elements.
-fn all_settled(alloc: Global, settled: &AtomSet, waiting: &AtomSet) -> Result<GrowingSet, EvalFault>
+fn settle_parts(
+    alloc: Global,
+    settled: &AtomSet,
+    waiting: &AtomSet,
+) -> Result<GrowingSet, EvalFault>
     requires { IsParted settled.now waiting.now }
     ensures { Gives result (limited (union_of settled.now waiting.now)) }
 {
-    let settled = merged(alloc, settled, waiting)?;
+    let settled = merge(alloc, settled, waiting)?;
     if settled.len() > MOST_ELEMENTS {
-        return Err(SET_LIMIT);
+        return Err(Stop::Told(ValueKind::SetLimit));
     }
     Ok(GrowingSet {
         settled,
@@ -139,13 +134,13 @@ impl GrowingSet {
     }
 
     // The set, unless it has too many elements.
-    fn limited(self, alloc: Global) -> Result<GrowingSet, EvalFault>
+    fn limit(self, alloc: Global) -> Result<GrowingSet, EvalFault>
         ensures { Gives result (limited self) }
     {
         if are_few(self.settled.len(), self.waiting.len()) {
             return Ok(self);
         }
-        all_settled(alloc, &self.settled, &self.waiting)
+        settle_parts(alloc, &self.settled, &self.waiting)
     }
 
     /// The set with one more atom. An atom of another kind has the fault `Kind`; more than 16,384 elements have the fault `SetLimit`.
@@ -154,12 +149,12 @@ impl GrowingSet {
     {
         let GrowingSet { settled, waiting } = self;
         if !can_take(&settled, &one) {
-            return Err(KIND);
+            return Err(Stop::Told(ValueKind::Kind));
         }
         if !can_take(&waiting, &one) {
-            return Err(KIND);
+            return Err(Stop::Told(ValueKind::Kind));
         }
-        put(settled, waiting, one)?.limited(alloc)
+        put(settled, waiting, one)?.limit(alloc)
     }
 
     /// The set, where it is in one part.
@@ -173,13 +168,13 @@ impl GrowingSet {
     }
 
     /// The set in one part.
-    pub fn settled(self, alloc: Global) -> Result<GrowingSet, NoMemory>
+    pub fn settle(self, alloc: Global) -> Result<GrowingSet, NoMemory>
         ensures { IfOk result (λ atoms. atoms ≡ self) }
     {
         if self.waiting.is_empty() {
             return Ok(self);
         }
-        let settled = merged(alloc, &self.settled, &self.waiting)?;
+        let settled = merge(alloc, &self.settled, &self.waiting)?;
         Ok(GrowingSet {
             settled,
             waiting: AtomSet::new(alloc),
@@ -194,6 +189,6 @@ impl GrowingSet {
         if waiting.is_empty() {
             return Ok(settled);
         }
-        merged(alloc, &settled, &waiting)
+        merge(alloc, &settled, &waiting)
     }
 }

@@ -3,11 +3,14 @@
 //! A mix of kinds is told before the limit of a set on the same element.
 #![tactic(auto)]
 
-pub mod fault;
 pub mod growing;
 pub mod names;
 pub mod numbers;
 pub mod operators;
 pub mod sets;
 
-pub use fault::EvalFault;
+use csp_base::Stop;
+use csp_program::ValueKind;
+
+/// Why an expression was not evaluated: want of memory, or the kind of its first fault from the left.
+pub type EvalFault = Stop<ValueKind>;

@@ -2,17 +2,13 @@
 
 ghost use Rattle.std.specs.Prelude.{◌≡◌, ◌++◌, Ok, IsTrue};
 ghost use Rattle.csp_program.specs.Value.{bound_value, bound_to};
-ghost use Rattle.value_operators.specs.Env.{ArePlaces, env_in, numbered_from};
-ghost use Rattle.value_operators.specs.Gives.{Gives};
+ghost use Rattle.value_operators.specs.Prelude.{ArePlaces, env_in, numbered_from, parameters, Gives};
 
-use crate::fault::EvalFault;
+use crate::EvalFault;
 use csp_atoms::{Atom, Value};
+use csp_base::Stop;
 use csp_program::ValueKind;
 use std::alloc::Global;
-
-const KIND: EvalFault = EvalFault::Value {
-    kind: ValueKind::Kind,
-};
 
 /// The names that an expression may read.
 #[derive(Drop)]
@@ -28,7 +24,7 @@ pub struct Names<'a> {
 }
 
 /// The same value. The only fault is want of memory.
-pub fn copied(alloc: Global, value: &Value) -> Result<Value, EvalFault>
+pub fn copy_value(alloc: Global, value: &Value) -> Result<Value, EvalFault>
     ensures { Gives result (Ok value.now) }
 {
     Ok(value.try_clone(alloc)?)
@@ -81,38 +77,32 @@ fn at_place(alloc: Global, placed: &[Value], slot: u32) -> Result<Value, EvalFau
     ensures { Gives result (bound_value (numbered_from 0 placed.now) slot) }
 {
     match placed.get(slot as usize) {
-        Some(value) => copied(alloc, value),
-        None => Err(KIND),
+        Some(value) => copy_value(alloc, value),
+        None => Err(Stop::Told(ValueKind::Kind)),
     }
 }
 
 // The value of a parameter.
-fn argument(
-    alloc: Global,
-    params: &[u32],
-    args: &[Value],
-    placed: &[Value],
-    slot: u32,
-) -> Result<Value, EvalFault>
-    ensures { Gives result (bound_value (bound_to params.now args.now ++ numbered_from 0 placed.now) slot) }
+fn argument(alloc: Global, names: &Names<'_>, slot: u32) -> Result<Value, EvalFault>
+    ensures { Gives result (bound_value (parameters names.now) slot) }
 {
-    let mut params = params;
-    let mut args = args;
+    let mut params = names.params;
+    let mut args = names.args;
     while let Some((param, other_params)) = params.split_first() {
         let Some((arg, other_args)) = args.split_first() else {
-            return at_place(alloc, placed, slot);
+            return at_place(alloc, names.placed, slot);
         };
         if *param == slot {
-            return copied(alloc, arg);
+            return copy_value(alloc, arg);
         }
         params = other_params;
         args = other_args;
     }
-    at_place(alloc, placed, slot)
+    at_place(alloc, names.placed, slot)
 }
 
 /// The value of the name with the number `slot`, of the one bound last. Where no name has the number, there is a fault of kind `Kind`.
-pub fn named(alloc: Global, names: &Names<'_>, slot: u32) -> Result<Value, EvalFault>
+pub fn bound_value(alloc: Global, names: &Names<'_>, slot: u32) -> Result<Value, EvalFault>
     ensures { Gives result (bound_value (env_in names.now) slot) }
 {
     let mut rest = names.bound;
@@ -122,5 +112,5 @@ pub fn named(alloc: Global, names: &Names<'_>, slot: u32) -> Result<Value, EvalF
         }
         rest = front;
     }
-    argument(alloc, names.params, names.args, names.placed, slot)
+    argument(alloc, names, slot)
 }

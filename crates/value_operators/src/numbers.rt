@@ -7,13 +7,10 @@ ghost use Rattle.value_laws.specs.Numbers.{field_place};
 ghost use Rattle.value_operators.specs.Forms as form;
 ghost use Rattle.value_operators.specs.Gives.{Gives};
 
-use crate::fault::EvalFault;
+use crate::EvalFault;
 use csp_atoms::{AtomSet, Value};
+use csp_base::Stop;
 use csp_program::{Channel, EventPart, ValueKind};
-
-const OUTSIDE: EvalFault = EvalFault::Value {
-    kind: ValueKind::OutsideChannel,
-};
 
 // Whether no list takes one value from each set, since one of them is empty.
 fn has_empty(sets: &[AtomSet]) -> bool
@@ -55,9 +52,9 @@ pub fn place_in(set: &AtomSet, value: &Value) -> Result<u64, EvalFault>
     match value {
         Value::One(atom) => match set.place_of(*atom) {
             Some(place) => Ok(place as u64),
-            None => Err(OUTSIDE),
+            None => Err(Stop::Told(ValueKind::OutsideChannel)),
         },
-        Value::Many(_) => Err(OUTSIDE),
+        Value::Many(_) => Err(Stop::Told(ValueKind::OutsideChannel)),
     }
 }
 

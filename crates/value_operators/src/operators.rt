@@ -4,29 +4,16 @@ ghost use Rattle.std.specs.Prelude.{◌≡◌, Ok, None, not, pos, neg_ℤ, ◌+
 ghost use Rattle.csp_atoms.specs.Order.{same};
 ghost use Rattle.csp_program.specs.Prelude.{and_then, as_atom, as_number, as_truth, as_set, truth, in_range, binary, divided, quotient, remainder};
 ghost use Rattle.csp_program.specs.Value as meant;
-ghost use Rattle.value_operators.specs.Gives.{Gives};
-ghost use Rattle.value_operators.specs.Operands.{first_half, on_two_numbers, decided_by};
+ghost use Rattle.value_operators.specs.Prelude.{Gives, first_half, on_two_numbers, decided_by};
 
-use crate::fault::EvalFault;
+use crate::EvalFault;
 use csp_atoms::{Atom, AtomSet, Value, atom};
-use csp_base::BinOp;
+use csp_base::{BinOp, Stop};
 use csp_program::ValueKind;
 use dl_limits::GREATEST_NUMBER;
 
 // The greatest number that arithmetic may come to; the least is its negative.
 const GREATEST: i64 = GREATEST_NUMBER as i64;
-
-const KIND: EvalFault = EvalFault::Value {
-    kind: ValueKind::Kind,
-};
-
-const RANGE: EvalFault = EvalFault::Value {
-    kind: ValueKind::Range,
-};
-
-const DIVISION: EvalFault = EvalFault::Value {
-    kind: ValueKind::Division,
-};
 
 /// The atom that a value is. A set has the fault `Kind`.
 pub fn to_atom(value: &Value) -> Result<Atom, EvalFault>
@@ -34,7 +21,7 @@ pub fn to_atom(value: &Value) -> Result<Atom, EvalFault>
 {
     match value {
         Value::One(atom) => Ok(*atom),
-        Value::Many(_) => Err(KIND),
+        Value::Many(_) => Err(Stop::Told(ValueKind::Kind)),
     }
 }
 
@@ -44,7 +31,7 @@ pub fn to_number(value: &Value) -> Result<i64, EvalFault>
 {
     match value {
         Value::One(Atom::Num(number)) => Ok(*number),
-        _ => Err(KIND),
+        _ => Err(Stop::Told(ValueKind::Kind)),
     }
 }
 
@@ -54,7 +41,7 @@ pub fn to_truth(value: &Value) -> Result<bool, EvalFault>
 {
     match value {
         Value::One(Atom::Truth(truth)) => Ok(*truth),
-        _ => Err(KIND),
+        _ => Err(Stop::Told(ValueKind::Kind)),
     }
 }
 
@@ -63,35 +50,35 @@ pub fn to_set(value: Value) -> Result<AtomSet, EvalFault>
     ensures { Gives result (as_set value) }
 {
     match value {
-        Value::One(_) => Err(KIND),
+        Value::One(_) => Err(Stop::Told(ValueKind::Kind)),
         Value::Many(atoms) => Ok(atoms),
     }
 }
 
 // The number, unless it is out of range.
-fn ranged(number: i64) -> Result<Value, EvalFault>
+fn number_value(number: i64) -> Result<Value, EvalFault>
     ensures { Gives result (in_range number) }
 {
     if -GREATEST <= number && number <= GREATEST {
         Ok(Value::One(Atom::Num(number)))
     } else {
-        Err(RANGE)
+        Err(Stop::Told(ValueKind::Range))
     }
 }
 
 /// The negative of a number. Any other value has the fault `Kind`; a negative below -1,000,000 or above 1,000,000 has the fault `Range`.
-pub fn negated(value: &Value) -> Result<Value, EvalFault>
+pub fn negate(value: &Value) -> Result<Value, EvalFault>
     ensures { Gives result (and_then (as_number value.now) (λ n. in_range (neg_ℤ n))) }
 {
     let number = to_number(value)?;
     match number.checked_neg() {
-        Some(negative) => ranged(negative),
-        None => Err(RANGE),
+        Some(negative) => number_value(negative),
+        None => Err(Stop::Told(ValueKind::Range)),
     }
 }
 
 /// The other truth value. Any other value has the fault `Kind`.
-pub fn inverted(value: &Value) -> Result<Value, EvalFault>
+pub fn invert(value: &Value) -> Result<Value, EvalFault>
     ensures { Gives result (and_then (as_truth value.now) (λ b. Ok (truth (not b)))) }
 {
     let truth = to_truth(value)?;
@@ -99,7 +86,7 @@ pub fn inverted(value: &Value) -> Result<Value, EvalFault>
 }
 
 // The value of the whole, where the truth value that is its first operand decides it.
-fn decided_by_truth(decides: bool, first: &Value) -> Result<Option<Value>, EvalFault>
+fn decide_by_truth(decides: bool, first: &Value) -> Result<Option<Value>, EvalFault>
     ensures { Gives result (and_then (as_truth first.now) (λ b. Ok (decided_by decides b))) }
 {
     let truth = to_truth(first)?;
@@ -126,23 +113,15 @@ fn undecided_number(first: &Value) -> Result<Option<Value>, EvalFault>
 }
 
 /// The value of the whole, where its first operand decides it.
-pub fn decided(op: BinOp, first: &Value) -> Result<Option<Value>, EvalFault>
+pub fn decide(op: BinOp, first: &Value) -> Result<Option<Value>, EvalFault>
     ensures { Gives result (first_half op first.now) }
 {
     match op {
-        BinOp::Or => decided_by_truth(true, first),
-        BinOp::And => decided_by_truth(false, first),
-        BinOp::Eq => undecided_atom(first),
-        BinOp::Ne => undecided_atom(first),
-        BinOp::Lt => undecided_number(first),
-        BinOp::Le => undecided_number(first),
-        BinOp::Gt => undecided_number(first),
-        BinOp::Ge => undecided_number(first),
-        BinOp::Add => undecided_number(first),
-        BinOp::Sub => undecided_number(first),
-        BinOp::Mul => undecided_number(first),
-        BinOp::Div => undecided_number(first),
-        BinOp::Rem => undecided_number(first),
+        BinOp::Or => decide_by_truth(true, first),
+        BinOp::And => decide_by_truth(false, first),
+        BinOp::Eq | BinOp::Ne => undecided_atom(first),
+        BinOp::Lt | BinOp::Le | BinOp::Gt | BinOp::Ge => undecided_number(first),
+        BinOp::Add | BinOp::Sub | BinOp::Mul | BinOp::Div | BinOp::Rem => undecided_number(first),
     }
 }
 
@@ -151,8 +130,8 @@ fn sum(left: i64, right: i64) -> Result<Value, EvalFault>
     ensures { Gives result (in_range (left +ℤ right)) }
 {
     match left.checked_add(right) {
-        Some(number) => ranged(number),
-        None => Err(RANGE),
+        Some(number) => number_value(number),
+        None => Err(Stop::Told(ValueKind::Range)),
     }
 }
 
@@ -161,8 +140,8 @@ fn difference(left: i64, right: i64) -> Result<Value, EvalFault>
     ensures { Gives result (in_range (left -ℤ right)) }
 {
     match left.checked_sub(right) {
-        Some(number) => ranged(number),
-        None => Err(RANGE),
+        Some(number) => number_value(number),
+        None => Err(Stop::Told(ValueKind::Range)),
     }
 }
 
@@ -171,8 +150,8 @@ fn product(left: i64, right: i64) -> Result<Value, EvalFault>
     ensures { Gives result (in_range (left *ℤ right)) }
 {
     match left.checked_mul(right) {
-        Some(number) => ranged(number),
-        None => Err(RANGE),
+        Some(number) => number_value(number),
+        None => Err(Stop::Told(ValueKind::Range)),
     }
 }
 
@@ -181,7 +160,7 @@ fn quotient_of(left: i64, right: i64) -> Result<Value, EvalFault>
     ensures { Gives result (divided quotient left right) }
 {
     if right < 1 {
-        return Err(DIVISION);
+        return Err(Stop::Told(ValueKind::Division));
     }
     Ok(Value::One(Atom::Num(left.div_euclid(right))))
 }
@@ -191,7 +170,7 @@ fn remainder_of(left: i64, right: i64) -> Result<Value, EvalFault>
     ensures { Gives result (divided remainder left right) }
 {
     if right < 1 {
-        return Err(DIVISION);
+        return Err(Stop::Told(ValueKind::Division));
     }
     Ok(Value::One(Atom::Num(left.rem_euclid(right))))
 }
@@ -208,10 +187,7 @@ fn on_numbers(op: BinOp, left: i64, right: i64) -> Result<Value, EvalFault>
     ensures { Gives result (on_two_numbers op left right) }
 {
     match op {
-        BinOp::Or => Err(KIND),
-        BinOp::And => Err(KIND),
-        BinOp::Eq => Err(KIND),
-        BinOp::Ne => Err(KIND),
+        BinOp::Or | BinOp::And | BinOp::Eq | BinOp::Ne => Err(Stop::Told(ValueKind::Kind)),
         BinOp::Lt => truth_value(left < right),
         BinOp::Le => truth_value(left <= right),
         BinOp::Gt => truth_value(left > right),
@@ -225,7 +201,7 @@ fn on_numbers(op: BinOp, left: i64, right: i64) -> Result<Value, EvalFault>
 }
 
 // What an operator on two numbers gives of two values.
-fn applied_to_numbers(op: BinOp, first: &Value, second: &Value) -> Result<Value, EvalFault>
+fn apply_to_numbers(op: BinOp, first: &Value, second: &Value) -> Result<Value, EvalFault>
     ensures { Gives result (meant.on_numbers (on_two_numbers op) first.now (Ok second.now)) }
 {
     let left = to_number(first)?;
@@ -248,7 +224,7 @@ fn equal(first: &Value, second: &Value) -> Result<Value, EvalFault>
     let left = to_atom(first)?;
     let right = to_atom(second)?;
     if !left.is_of_kind(&right) {
-        return Err(KIND);
+        return Err(Stop::Told(ValueKind::Kind));
     }
     truth_value(is_one_atom(&left, &right))
 }
@@ -260,13 +236,13 @@ fn unequal(first: &Value, second: &Value) -> Result<Value, EvalFault>
     let left = to_atom(first)?;
     let right = to_atom(second)?;
     if !left.is_of_kind(&right) {
-        return Err(KIND);
+        return Err(Stop::Told(ValueKind::Kind));
     }
     truth_value(!is_one_atom(&left, &right))
 }
 
 // What `or`, for true, and `and`, for false, give of two values.
-fn joined(decides: bool, first: &Value, second: &Value) -> Result<Value, EvalFault>
+fn join_truths(decides: bool, first: &Value, second: &Value) -> Result<Value, EvalFault>
     ensures { Gives result (meant.on_truths decides first.now (Ok second.now)) }
 {
     let left = to_truth(first)?;
@@ -279,22 +255,17 @@ fn joined(decides: bool, first: &Value, second: &Value) -> Result<Value, EvalFau
 
 /// What an operator gives of two values. An operand of a kind that the operator doesn't take has the fault `Kind`, a result below -1,000,000 or above
 /// 1,000,000 the fault `Range`, and a divisor below 1 the fault `Division`; where the first operand decides, the second may be anything.
-pub fn applied(op: BinOp, first: &Value, second: &Value) -> Result<Value, EvalFault>
+pub fn apply(op: BinOp, first: &Value, second: &Value) -> Result<Value, EvalFault>
     ensures { Gives result (binary op first.now (Ok second.now)) }
 {
     match op {
-        BinOp::Or => joined(true, first, second),
-        BinOp::And => joined(false, first, second),
+        BinOp::Or => join_truths(true, first, second),
+        BinOp::And => join_truths(false, first, second),
         BinOp::Eq => equal(first, second),
         BinOp::Ne => unequal(first, second),
-        BinOp::Lt => applied_to_numbers(op, first, second),
-        BinOp::Le => applied_to_numbers(op, first, second),
-        BinOp::Gt => applied_to_numbers(op, first, second),
-        BinOp::Ge => applied_to_numbers(op, first, second),
-        BinOp::Add => applied_to_numbers(op, first, second),
-        BinOp::Sub => applied_to_numbers(op, first, second),
-        BinOp::Mul => applied_to_numbers(op, first, second),
-        BinOp::Div => applied_to_numbers(op, first, second),
-        BinOp::Rem => applied_to_numbers(op, first, second),
+        BinOp::Lt | BinOp::Le | BinOp::Gt | BinOp::Ge => apply_to_numbers(op, first, second),
+        BinOp::Add | BinOp::Sub | BinOp::Mul | BinOp::Div | BinOp::Rem => {
+            apply_to_numbers(op, first, second)
+        }
     }
 }

@@ -9,22 +9,14 @@ ghost use Rattle.csp_program.specs.Value as meant;
 ghost use Rattle.value_laws.specs.Numbers.{events_from};
 ghost use Rattle.value_operators.specs.Gives.{Gives};
 
-use crate::fault::EvalFault;
+use crate::EvalFault;
 use crate::growing::GrowingSet;
 use crate::operators::to_atom;
-use csp_atoms::{Atom, AtomSet, AtomSetError, Value};
-use csp_base::{Event, NoMemory, SetOp};
+use csp_atoms::{Atom, AtomSet, Value};
+use csp_base::{Event, NoMemory, SetOp, Stop};
 use csp_program::ValueKind;
 use dl_limits::MOST_ELEMENTS;
 use std::alloc::Global;
-
-const KIND: EvalFault = EvalFault::Value {
-    kind: ValueKind::Kind,
-};
-
-const SET_LIMIT: EvalFault = EvalFault::Value {
-    kind: ValueKind::SetLimit,
-};
 
 // From so many events on, a set is put into one part before they are looked up in it.
 const MANY_EVENTS: u32 = 8;
@@ -34,7 +26,7 @@ fn within_limit(atoms: AtomSet) -> Result<AtomSet, EvalFault>
     ensures { Gives result (limited atoms) }
 {
     if atoms.len() > MOST_ELEMENTS {
-        return Err(SET_LIMIT);
+        return Err(Stop::Told(ValueKind::SetLimit));
     }
     Ok(atoms)
 }
@@ -45,8 +37,8 @@ fn with_one_more(mut atoms: AtomSet, one: Atom) -> Result<AtomSet, EvalFault>
 {
     match atoms.insert(one) {
         Ok(()) => within_limit(atoms),
-        Err(AtomSetError::MixedKinds) => Err(KIND),
-        Err(AtomSetError::NoMemory) => Err(EvalFault::NoMemory),
+        Err(Stop::Told(_)) => Err(Stop::Told(ValueKind::Kind)),
+        Err(Stop::NoMemory) => Err(Stop::NoMemory),
     }
 }
 
@@ -126,7 +118,7 @@ fn ready(alloc: Global, atoms: GrowingSet, count: u32) -> Result<GrowingSet, NoM
     if count < MANY_EVENTS {
         return Ok(atoms);
     }
-    atoms.settled(alloc)
+    atoms.settle(alloc)
 }
 
 // The set with the events from `first` on, so many of them.
@@ -166,18 +158,18 @@ pub fn with_events(
 }
 
 // The atoms of either set.
-fn united(alloc: Global, left: &AtomSet, right: &AtomSet) -> Result<AtomSet, EvalFault>
+fn unite(alloc: Global, left: &AtomSet, right: &AtomSet) -> Result<AtomSet, EvalFault>
     ensures { Gives result (set_binary SetOp.Union left.now right.now) }
 {
     match left.union(alloc, right) {
         Ok(atoms) => within_limit(atoms),
-        Err(AtomSetError::MixedKinds) => Err(KIND),
-        Err(AtomSetError::NoMemory) => Err(EvalFault::NoMemory),
+        Err(Stop::Told(_)) => Err(Stop::Told(ValueKind::Kind)),
+        Err(Stop::NoMemory) => Err(Stop::NoMemory),
     }
 }
 
 /// What an operator gives of two sets. A union of two kinds of atoms has the fault `Kind`, and more than 16,384 elements have the fault `SetLimit`.
-pub fn combined(
+pub fn combine(
     alloc: Global,
     op: SetOp,
     left: &AtomSet,
@@ -186,7 +178,7 @@ pub fn combined(
     ensures { Gives result (set_binary op left.now right.now) }
 {
     match op {
-        SetOp::Union => united(alloc, left, right),
+        SetOp::Union => unite(alloc, left, right),
         SetOp::Inter => within_limit(left.inter(alloc, right)?),
         SetOp::Diff => within_limit(left.diff(alloc, right)?),
     }
@@ -240,6 +232,6 @@ pub fn numbers(alloc: Global, first: i64, last: i64) -> Result<AtomSet, EvalFaul
     }
     match distance(first, last) {
         Some(distance) => numbers_on(alloc, first, distance + 1),
-        None => Err(SET_LIMIT),
+        None => Err(Stop::Told(ValueKind::SetLimit)),
     }
 }

@@ -1,8 +1,6 @@
-use Rattle.std.proofs.Common.{◌+◌, ◌≤◌, length, arith}
-use Rattle.csp_tables.specs.Network.{leaves}
+use Rattle.network_trees.proofs.Prelude.{◌+◌, ◌≤◌, length, arith, leaves, MOST_COMPONENTS}
 use Rattle.network_trees.proofs.InOrder.{network_is_tree}
 use Rattle.network_trees.proofs.networks_are_in_order.Goals as goal
-use Rattle.dl_limits.specs.declared.TheConstants.{MOST_COMPONENTS}
 
 pub returns-clause-nested : goal.returns-clause-nested
 returns-clause-nested c = λ p tree h. (network_is_tree p tree h).0.nesting

@@ -1,5 +1,4 @@
-use Rattle.std.proofs.Common.{ℕ, ◌+◌, ◌*◌, ◌≤◌, ◌∷◌, Some, length}
-use Rattle.tree_parser.specs.Reads.{read_operands}
+use Rattle.tree_parser.proofs.Prelude.{ℕ, ◌+◌, ◌*◌, ◌≤◌, ◌∷◌, Some, length, read_operands}
 use Rattle.tree_parser.proofs.SoFar.{ChoicesSoFar, ItemsSoFar, SoFar}
 use Rattle.tree_parser.proofs.+reading.Given as goal
 
@@ -21,10 +20,10 @@ abbrev pub decreases-atoms::call : goal.decreases-atoms::call
 decreases-atoms::call l = 16 * length l.tokens.now + 4
 
 abbrev pub decreases-processes::chain : goal.decreases-processes::chain
-decreases-processes::chain l = 16 * length l.tokens.now + 8
+decreases-processes::chain l = 16 * length l.sign.rest.now + 8
 
 abbrev pub decreases-processes::choices : goal.decreases-processes::choices
-decreases-processes::choices l = 16 * length l.tokens.now + 7
+decreases-processes::choices l = 16 * length l.sign.rest.now + 7
 
 abbrev pub decreases-expressions::complement : goal.decreases-expressions::complement
 decreases-expressions::complement l = 16 * length l.tokens.now + 2
@@ -44,8 +43,8 @@ decreases-lists::conditions l = 16 * length l.tokens.now
 abbrev pub decreases-lists::dots : goal.decreases-lists::dots
 decreases-lists::dots l = 16 * length l.tokens.now
 
-abbrev pub decreases-lists::dotted : goal.decreases-lists::dotted
-decreases-lists::dotted l = 16 * length l.tokens.now
+abbrev pub decreases-lists::dotted_event : goal.decreases-lists::dotted_event
+decreases-lists::dotted_event l = 16 * length l.tokens.now
 
 abbrev pub decreases-processes::each : goal.decreases-processes::each
 decreases-processes::each l = 16 * length l.tokens.now + 1
@@ -65,11 +64,11 @@ decreases-events::field l = 16 * length l.tokens.now
 abbrev pub decreases-events::fields : goal.decreases-events::fields
 decreases-events::fields l = 16 * length l.tokens.now + 1
 
-abbrev pub decreases-atoms::filled : goal.decreases-atoms::filled
-decreases-atoms::filled l = 16 * length l.tokens.now + 4
+abbrev pub decreases-atoms::set_rest : goal.decreases-atoms::set_rest
+decreases-atoms::set_rest l = 16 * length l.tokens.now + 4
 
-abbrev pub decreases-processes::followed : goal.decreases-processes::followed
-decreases-processes::followed l = 16 * length l.tokens.now + 6
+abbrev pub decreases-processes::sequence_rest : goal.decreases-processes::sequence_rest
+decreases-processes::sequence_rest l = 16 * length l.tokens.now + 6
 
 abbrev pub decreases-lists::generator : goal.decreases-lists::generator
 decreases-lists::generator l = 16 * length l.tokens.now + 3
@@ -80,8 +79,8 @@ decreases-lists::gens l = 16 * length l.tokens.now + 4
 abbrev pub decreases-processes::guard : goal.decreases-processes::guard
 decreases-processes::guard l = 16 * length l.tokens.now + 2
 
-abbrev pub decreases-processes::guarded : goal.decreases-processes::guarded
-decreases-processes::guarded l = 16 * length l.tokens.now + 5
+abbrev pub decreases-processes::guard_rest : goal.decreases-processes::guard_rest
+decreases-processes::guard_rest l = 16 * length l.tokens.now + 5
 
 abbrev pub decreases-processes::hiding : goal.decreases-processes::hiding
 decreases-processes::hiding l = 16 * length l.tokens.now + 1
@@ -101,14 +100,14 @@ decreases-lists::items l = 16 * length l.tokens.now + 3
 abbrev pub decreases-expressions::negative : goal.decreases-expressions::negative
 decreases-expressions::negative l = 16 * length l.tokens.now + 2
 
-abbrev pub decreases-processes::opened : goal.decreases-processes::opened
-decreases-processes::opened l = 16 * length l.tokens.now + 3
+abbrev pub decreases-processes::prefix_rest : goal.decreases-processes::prefix_rest
+decreases-processes::prefix_rest l = 16 * length l.tokens.now + 3
 
 abbrev pub decreases-processes::operand : goal.decreases-processes::operand
 decreases-processes::operand l = 16 * length l.tokens.now + 6
 
 abbrev pub decreases-expressions::operators : goal.decreases-expressions::operators
-decreases-expressions::operators l = 16 * length l.tokens.now
+decreases-expressions::operators l = 16 * length l.left.rest.now
 
 abbrev pub decreases-lists::pair : goal.decreases-lists::pair
 decreases-lists::pair l = 16 * length l.tokens.now + 1
@@ -131,8 +130,8 @@ decreases-lists::parts l = 16 * length l.tokens.now + 1
 abbrev pub decreases-processes::prefix : goal.decreases-processes::prefix
 decreases-processes::prefix l = 16 * length l.tokens.now + 4
 
-abbrev pub decreases-events::prefixed : goal.decreases-events::prefixed
-decreases-events::prefixed l = 16 * length l.tokens.now + 5
+abbrev pub decreases-events::event_rest : goal.decreases-events::event_rest
+decreases-events::event_rest l = 16 * length l.tokens.now + 5
 
 abbrev pub decreases-atoms::product : goal.decreases-atoms::product
 decreases-atoms::product l = 16 * length l.tokens.now + 2
@@ -162,7 +161,7 @@ abbrev pub decreases-processes::tree : goal.decreases-processes::tree
 decreases-processes::tree l = 16 * length l.tokens.now + 7
 
 abbrev pub decreases-expressions::with : goal.decreases-expressions::with
-decreases-expressions::with l = 16 * length l.tokens.now + 4
+decreases-expressions::with l = 16 * length l.sign.rest.now + 4
 
 -- LISTS: what is read and what is left are the whole
 
@@ -210,8 +209,8 @@ decreases-events::fields-loop-next l = length l.rest
 
 abbrev pub invariant-processes::choices-loop-read : goal.invariant-processes::choices-loop-read
 invariant-processes::choices-loop-read l =
-    ChoicesSoFar (8 * length l.fn.tokens + 5) (λ L. read_operands L l.limits l.chain l.fn.left l.fn.tokens) l.operands (8 * length l.rest + 5) (λ L. L.choices l.limits l.chain l.rest)
-    × (length l.rest ≤ length l.fn.tokens)
+    ChoicesSoFar (8 * length l.fn.sign.rest.now + 5) (λ L. read_operands L l.limits l.fn.sign.part l.fn.left l.fn.sign.rest.now) l.operands (8 * length l.rest + 5) (λ L. L.choices l.limits l.chain l.rest)
+    × (length l.rest ≤ length l.fn.sign.rest.now)
 
 abbrev pub decreases-processes::choices-loop-read : goal.decreases-processes::choices-loop-read
 decreases-processes::choices-loop-read l = length l.rest

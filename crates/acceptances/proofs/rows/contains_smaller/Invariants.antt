@@ -1,5 +1,4 @@
-use Rattle.acceptances.proofs.Prelude.{◌≡◌, ◌⊎◌, ◌%◌, ℕ, true, false, [], length, get_or, list_any, is_smaller}
-use Rattle.csp_base.specs.Members.{has}
+use Rattle.acceptances.proofs.Prelude.{◌≡◌, ◌⊎◌, ◌%◌, ℕ, true, false, [], length, get_or, list_any, is_smaller, has}
 use Rattle.acceptances.proofs.rows.contains_smaller.Given as goal
 
 abbrev pub invariant-loop-event : goal.invariant-loop-event

@@ -1,7 +1,4 @@
-use Rattle.std.proofs.Common.{◌<◌, ◌∙◌, ℕ, ap, subst, sym, length, arith}
-use Rattle.csp_tables.specs.Shape.{Link, Shape, link_at}
-use Rattle.digraph.specs.Digraph.{has_arc}
-use Rattle.client_server_conditions.specs.Network.{Asks, Grants}
+use Rattle.client_server_rule.proofs.Prelude.{◌<◌, ◌∙◌, ℕ, ap, subst, sym, length, arith, Link, Shape, link_at, has_arc, Asks, Grants}
 use Rattle.client_server_rule.proofs.Serving.{left_serves, right_serves, arc_there}
 use Rattle.client_server_rule.proofs.arcs.arc.Goals as goal
 

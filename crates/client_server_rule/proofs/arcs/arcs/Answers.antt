@@ -1,5 +1,4 @@
-use Rattle.std.proofs.Common.{◌∙◌}
-use Rattle.digraph.specs.Digraph.{HasArc}
+use Rattle.client_server_rule.proofs.Prelude.{◌∙◌, HasArc}
 use Rattle.client_server_rule.proofs.Serving.{sound_more, complete_more}
 use Rattle.client_server_rule.proofs.arcs.arcs.Goals as goal
 

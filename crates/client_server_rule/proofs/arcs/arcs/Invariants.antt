@@ -1,6 +1,4 @@
-use Rattle.std.proofs.Common.{◌≡◌, ℕ, length}
-use Rattle.digraph.specs.Digraph.{HasArc}
-use Rattle.client_server_rule.specs.Serving.{ServesBelow}
+use Rattle.client_server_rule.proofs.Prelude.{◌≡◌, ℕ, length, HasArc, ServesBelow}
 use Rattle.client_server_rule.proofs.arcs.arcs.Given as goal
 
 abbrev pub invariant-loop-link : goal.invariant-loop-link

@@ -1,7 +1,4 @@
-use Rattle.std.proofs.Common.{◌∙◌, ℕ, length, ap, sym, subst, Err}
-use Rattle.digraph.specs.Prelude.{HasArc, IsLeastCircle, AreHeights}
-use Rattle.digraph.proofs.WalkLaws.{same_heights, same_no_circle, same_least_circle}
-use Rattle.design_rules.specs.Prelude.{Serves, BreaksClientServer}
+use Rattle.client_server_rule.proofs.Prelude.{◌∙◌, ℕ, length, sym, subst, HasArc, IsLeastCircle, AreHeights, same_heights, same_no_circle, same_least_circle, Serves, BreaksClientServer}
 use Rattle.client_server_rule.proofs.arcs.heights.Goals as goal
 
 pub returns-in-Ok-clause-heights : goal.returns-in-Ok-clause-heights
@@ -13,11 +10,11 @@ returns-in-Ok-clause-heights c =
 pub returns-in-Ok-clause-no_circle : goal.returns-in-Ok-clause-no_circle
 returns-in-Ok-clause-no_circle c = same_no_circle (HasArc c.in_ok-rows.rows) (Serves c.args.network.now.shape c.args.network.now.roles) c.in_ok-rows.ensures.complete c.in-Ok.ensures.no_circle
 
-pub returns-in-Err-Circle-clause-fault : goal.returns-in-Err-Circle-clause-fault
-returns-in-Err-Circle-clause-fault c =
+pub returns-in-Err-Told-clause-fault : goal.returns-in-Err-Told-clause-fault
+returns-in-Err-Told-clause-fault c =
     let serves = Serves c.args.network.now.shape c.args.network.now.roles in
-    let it = c.in-Err-Circle.ensures.circle c.in-Err-Circle.circle (ap Err c.in-Err-Circle.field-0-is) in
+    let it = rw c.in-Err-Told.field-0-is at c.in-Err-Told.ensures.circle in
     record {
       keep_roles = c.requires;
-      circle = subst (IsLeastCircle serves) (sym (c.in_ok-clients-in-Err-Circle.ensures ∙ c.members.ensures)) (same_least_circle (HasArc c.in_ok-rows.rows) serves c.in_ok-rows.ensures.sound c.in-Err-Circle.circle it);
+      circle = subst (IsLeastCircle serves) (sym (c.in_ok-clients-in-Err-Told.ensures ∙ c.members.ensures)) (same_least_circle (HasArc c.in_ok-rows.rows) serves c.in_ok-rows.ensures.sound c.in-Err-Told.circle it);
     }

@@ -1,5 +1,4 @@
-use Rattle.std.proofs.Common.{sym, ◌∙◌}
-use Rattle.csp_atoms.specs.Exact.{exact_set}
+use Rattle.comparison.proofs.Prelude.{sym, ◌∙◌, exact_set}
 use Rattle.comparison.proofs.Naming.{same_fields}
 use Rattle.comparison.proofs.names.is_same_info.Goals as goal
 

@@ -1,5 +1,4 @@
-use Rattle.conformance.proofs.Prelude.{◌≡◌, ℕ, get_or, rules, subst, IsNonDecreasingBy, IsPartitionPoint, nat_cmp, ordering_index, Less, Equal, Greater}
-use Rattle.std.proofs.lemmas.Fn.{always_returns_same}
+use Rattle.conformance.proofs.Prelude.{◌≡◌, ℕ, get_or, rules, subst, IsNonDecreasingBy, IsPartitionPoint, nat_cmp, ordering_index, Less, Equal, Greater, always_returns_same}
 use Rattle.conformance.proofs.Searching.{found_none, found_target}
 use Rattle.conformance.proofs.steps.target_of.Goals as goal
 

@@ -1,5 +1,4 @@
-use Rattle.std.proofs.Common.{◌∙◌, ap}
-use Rattle.std.specs.Option.{is_some}
+use Rattle.csp_atoms.proofs.Prelude.{◌∙◌, ap, is_some}
 use Rattle.csp_atoms.proofs.SearchLaws.{has_place}
 use Rattle.csp_atoms.proofs.sorted.contains.Goals as goal
 

@@ -1,5 +1,4 @@
-use Rattle.std.proofs.Common.{sym, ◌∙◌, ap, arith}
-use Rattle.csp_atoms.specs.Order.{same}
+use Rattle.csp_atoms.proofs.Prelude.{sym, ◌∙◌, ap, arith, same}
 use Rattle.csp_atoms.proofs.SearchLaws.{stands_beyond, stands_within}
 use Rattle.csp_atoms.proofs.sorted.is_at.Goals as goal
 

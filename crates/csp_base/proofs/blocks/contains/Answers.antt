@@ -1,5 +1,4 @@
-use Rattle.csp_base.proofs.Prelude.{◌%◌, ap, sym, ◌∙◌, ◌==◌, has_bit}
-use Rattle.std.proofs.lemmas.Nat.Bits.{shr_and_one}
+use Rattle.csp_base.proofs.Prelude.{◌%◌, ap, sym, ◌∙◌, ◌==◌, has_bit, shr_and_one}
 use Rattle.csp_base.proofs.Places.{has_from_front}
 use Rattle.csp_base.proofs.blocks.contains.Goals as goal
 

@@ -1,5 +1,4 @@
-use Rattle.std.proofs.Common.{arith}
-use Rattle.std.proofs.lemmas.Grind.{common_steps}
+use Rattle.csp_base.proofs.Prelude.{arith, common_steps}
 use Rattle.csp_base.proofs.Finds.{find_first_at, first_fits_at}
 use Rattle.csp_base.proofs.blocks.first_event.Goals as goal
 

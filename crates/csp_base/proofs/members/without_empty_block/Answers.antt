@@ -1,5 +1,4 @@
-use Rattle.std.proofs.Common.{◌++◌, ◌*◌, ap, sym, ◌∙◌, arith}
-use Rattle.csp_base.specs.Blocks.{events_of, word_events}
+use Rattle.csp_base.proofs.Prelude.{◌++◌, ◌*◌, ap, sym, ◌∙◌, arith, events_of, word_events}
 use Rattle.csp_base.proofs.BlockMembers.{AreBlocksFrom-weaken}
 use Rattle.csp_base.proofs.Words.{word_events-zero}
 use Rattle.csp_base.proofs.members.without_empty_block.Goals as goal

@@ -1,5 +1,4 @@
-use Rattle.csp_lexer.proofs.Prelude.{length, rules, tests, YieldsList-at, YieldsList-from_filter, map_from_collect, YieldsList-from_slice_split, nat_lt}
-use Rattle.csp_lexer.specs.Annotations.{is_space, words_of}
+use Rattle.csp_lexer.proofs.Prelude.{length, rules, tests, YieldsList-at, YieldsList-from_filter, map_from_collect, YieldsList-from_slice_split, nat_lt, is_space, words_of}
 use Rattle.csp_lexer.proofs.annotations.words_of.Goals as goal
 
 pub returns : goal.returns

@@ -1,5 +1,4 @@
-use Rattle.std.proofs.Common.{◌≡◌, ◌+◌, ◌≤◌, length}
-use Rattle.csp_lexer.specs.Comments.{after_comments}
+use Rattle.csp_lexer.proofs.Prelude.{◌≡◌, ◌+◌, ◌≤◌, length, after_comments}
 use Rattle.csp_lexer.proofs.comments.after_comment.Given as goal
 
 abbrev pub invariant-loop-nested : goal.invariant-loop-nested

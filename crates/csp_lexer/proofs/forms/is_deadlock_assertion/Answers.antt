@@ -1,5 +1,4 @@
-use Rattle.csp_lexer.proofs.Prelude.{false, ap, ◌∙◌, is_deadlock_assertion, is_deadlock_free}
-use Rattle.std.specs.Option.{option_map_or}
+use Rattle.csp_lexer.proofs.Prelude.{false, ap, ◌∙◌, is_deadlock_assertion, is_deadlock_free, option_map_or}
 use Rattle.csp_lexer.proofs.forms.is_deadlock_assertion.Goals as goal
 
 pub returns-in-Some : goal.returns-in-Some

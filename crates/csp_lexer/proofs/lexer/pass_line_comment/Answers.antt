@@ -1,5 +1,4 @@
-use Rattle.csp_lexer.proofs.Prelude.{◌<◌, length, drop, arith, length-drop, take_rest}
-use Rattle.csp_lexer.specs.Comments.{line_len}
+use Rattle.csp_lexer.proofs.Prelude.{◌<◌, length, drop, arith, length-drop, take_rest, line_len}
 use Rattle.csp_lexer.proofs.CommentsLemmas.{left_is_shorter, line_has_byte}
 use Rattle.csp_lexer.proofs.lexer.pass_line_comment.Goals as goal
 

@@ -1,5 +1,4 @@
-use Rattle.std.proofs.Common.{◌≡◌, ◌+◌, ◌-◌, ◌≤◌, length, drop}
-use Rattle.csp_lexer.specs.Assertions.{rest_len}
+use Rattle.csp_lexer.proofs.Prelude.{◌≡◌, ◌+◌, ◌-◌, ◌≤◌, length, drop, rest_len}
 use Rattle.csp_lexer.proofs.line.rest_len.Given as goal
 
 abbrev pub invariant-loop-len : goal.invariant-loop-len

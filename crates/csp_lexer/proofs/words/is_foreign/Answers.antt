@@ -1,5 +1,4 @@
-use Rattle.csp_lexer.proofs.Prelude.{rules, tests, YieldsList-from_slice, any_from_yields_List, bytes_eq}
-use Rattle.csp_lexer.specs.Words.{is_foreign}
+use Rattle.csp_lexer.proofs.Prelude.{rules, tests, YieldsList-from_slice, any_from_yields_List, bytes_eq, is_foreign}
 use Rattle.csp_lexer.proofs.words.is_foreign.Goals as goal
 
 pub returns : goal.returns

@@ -1,6 +1,4 @@
-use Rattle.csp_lexer.proofs.Prelude.{◌∙◌, rules, tests, YieldsList-from_slice, find_from_yields_List, bytes_eq}
-use Rattle.csp_text.specs.Written.{word_text}
-use Rattle.csp_lexer.specs.Words.{reserved_word}
+use Rattle.csp_lexer.proofs.Prelude.{◌∙◌, rules, tests, YieldsList-from_slice, find_from_yields_List, bytes_eq, word_text, reserved_word}
 use Rattle.csp_lexer.proofs.words.reserved_word.Goals as goal
 
 pub returns : goal.returns

@@ -10,7 +10,7 @@ returns-in_ok-push_shared-in-Channel c =
     let read : c.as_slice-in-Channel.result.now ≡ types_of c.in-Channel.types =
     c.as_slice-in-Channel.ensures ∙ c.in_ok-types-in-Channel.ensures ∙ ap types_of c.as_slice.ensures in
     subst (λ (d : Decl). GrowsBy c.args.shared.now.items c.push_shared.new.shared.items (sets_of p types_of c.args.i d)) (sym c.in-Channel.is)
-    (grows_by_channels p types_of c.args.i c.in-Channel.xs c.in-Channel.types c.in_ok-one-in-Channel.one.sets
-    c.in_ok-one-in-Channel.one c.args.shared.now.items c.push_shared.new.shared.items
-    (ap (λ (es : List Expr). meant.told_in c.args.i (meant.field_sets p es)) (sym read) ∙ c.in_ok-one-in-Channel.ensures.sets)
-    (c.in_ok-one-in-Channel.ensures.channels ∙ c.len.ensures) refl c.in_ok-push_shared-in-Channel.ensures)
+    (grows_by_channels p types_of c.args.i c.in-Channel.xs c.in-Channel.types c.in_ok-sets-in-Channel.sets
+    (record { channels = c.len-channels.result; sets = c.in_ok-sets-in-Channel.sets }) c.args.shared.now.items c.push_shared.new.shared.items
+    (ap (λ (es : List Expr). meant.told_in c.args.i (meant.field_sets p es)) (sym read) ∙ c.in_ok-sets-in-Channel.ensures)
+    c.len-channels.ensures refl c.in_ok-push_shared-in-Channel.ensures)

@@ -1,5 +1,4 @@
-use Rattle.csp_steps.proofs.Prelude.{slice_get, Some, ap, sym, ◌∙◌, given_by, proc_with, Content, tree_at, slice_get_within}
-use Rattle.std.specs.Option.{option_copied}
+use Rattle.csp_steps.proofs.Prelude.{slice_get, Some, ap, sym, ◌∙◌, given_by, proc_with, Content, tree_at, slice_get_within, option_copied}
 use Rattle.csp_steps.proofs.Entering.{body_is, entered}
 use Rattle.csp_steps.proofs.Noting.{fits_bodies}
 use Rattle.csp_steps.proofs.entered.enter.Goals as goal

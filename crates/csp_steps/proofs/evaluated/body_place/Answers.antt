@@ -3,7 +3,7 @@ use Rattle.csp_steps.proofs.Noting.{bodies_put, body_at}
 use Rattle.csp_steps.proofs.evaluated.body_place.Goals as goal
 
 pub returns-in-Some-clause-process : goal.returns-in-Some-clause-process
-returns-in-Some-clause-process c = λ p h is. body_at p c.args.pool.now c.args.number c.in-Some.place c.args.body.now (h c.args.number c.in-Some.place (sym c.known.ensures ∙ c.in-Some.is)) is
+returns-in-Some-clause-process c = λ p h is. body_at p c.args.pool.now c.args.number c.in-Some.place c.args.body.now (h c.args.number c.in-Some.place (sym c.find_number.ensures ∙ c.in-Some.is)) is
 
 pub returns-clause-bodies : goal.returns-clause-bodies
 returns-clause-bodies c =

@@ -2,7 +2,7 @@ use Rattle.csp_steps.proofs.Prelude.{◌≡◌, Ok, List, length, map, refl, ap,
 use Rattle.csp_program.specs.declared.processes.Proc.TheVariants as proc
 use Rattle.csp_steps.specs.declared.look.Look.TheVariants as look
 use Rattle.csp_steps.proofs.Computing.{passed, start_passed}
-use Rattle.csp_steps.proofs.Forms.{each_external_fault, each_internal_fault, ended, every_place, first_place, head_fault, hide, look_at, rename, second_place, sequence, stop}
+use Rattle.csp_steps.proofs.Forms.{each_external_steps, each_internal_steps, ended, every_place, first_place, head_fault, hide, look_at, rename, second_place, sequence, stop}
 use Rattle.csp_steps.proofs.Looking.{none_listed}
 use Rattle.csp_steps.proofs.Noting.{fits_then}
 use Rattle.csp_steps.proofs.SetLemmas.{fits_given, fits_sets, worth_atoms}
@@ -77,7 +77,7 @@ pub returns-in_err-number-in-EachExternal-clause-look : goal.returns-in_err-numb
 returns-in_err-number-in-EachExternal-clause-look c =
     look_at c.args.program.now c.args.pool.now c.args.pool.now _ c.node.result _ (tree_at c.args.pool.now c.args.id) c.node.ensures.process c.in-EachExternal.is
     (passed _ _ _ _ _ c.from_residual-in_err-number-in-EachExternal.ensures.1 c.in_err-number-in-EachExternal.ensures
-    (λ k e. each_external_fault c.args.program.now c.in-EachExternal.name c.in-EachExternal.set.now (tree_at c.args.pool.now c.in-EachExternal.below) k e))
+    (λ k e. each_external_steps c.args.program.now c.in-EachExternal.name c.in-EachExternal.set.now (tree_at c.args.pool.now c.in-EachExternal.below) e))
 
 pub returns-in_ok-number-in-EachExternal-clause-look : goal.returns-in_ok-number-in-EachExternal-clause-look
 returns-in_ok-number-in-EachExternal-clause-look c =
@@ -89,7 +89,7 @@ pub returns-in_err-number-in-EachInternal-clause-look : goal.returns-in_err-numb
 returns-in_err-number-in-EachInternal-clause-look c =
     look_at c.args.program.now c.args.pool.now c.args.pool.now _ c.node.result _ (tree_at c.args.pool.now c.args.id) c.node.ensures.process c.in-EachInternal.is
     (passed _ _ _ _ _ c.from_residual-in_err-number-in-EachInternal.ensures.1 c.in_err-number-in-EachInternal.ensures
-    (λ k e. each_internal_fault c.args.program.now c.in-EachInternal.name c.in-EachInternal.set.now (tree_at c.args.pool.now c.in-EachInternal.below) k e))
+    (λ k e. each_internal_steps c.args.program.now c.in-EachInternal.name c.in-EachInternal.set.now (tree_at c.args.pool.now c.in-EachInternal.below) e))
 
 pub returns-in_ok-number-in-EachInternal-clause-look : goal.returns-in_ok-number-in-EachInternal-clause-look
 returns-in_ok-number-in-EachInternal-clause-look c =

@@ -1,13 +1,13 @@
 use Rattle.csp_steps.proofs.Prelude.{Ok, List, ap, sym, ◌∙◌, subst, Result, Value, arguments_in, steps_of, Gives, EvalFault, IsListing, StepTo}
 use Rattle.csp_program.specs.declared.processes.Proc.TheVariants as proc
 use Rattle.csp_steps.proofs.Computing.{passed, value_passed}
-use Rattle.csp_steps.proofs.Forms.{arguments_fault, call, call_fault}
+use Rattle.csp_steps.proofs.Forms.{call, call_fault, call_steps}
 use Rattle.csp_steps.proofs.look.look_call.Goals as goal
 
 pub returns-in_err-values-clause-look : goal.returns-in_err-values-clause-look
 returns-in_err-values-clause-look c =
     λ args h. value_passed _ _ _ (arguments_in c.args.program.now args) _ c.from_residual.ensures.1
-    (subst (λ (r : Result (List Value) EvalFault). Gives r (arguments_in c.args.program.now args)) c.in_err-values.was h) (λ k e. arguments_fault c.args.program.now c.args.def args k e)
+    (subst (λ (r : Result (List Value) EvalFault). Gives r (arguments_in c.args.program.now args)) c.in_err-values.was h) (λ k e. call_steps c.args.program.now c.args.def args e)
 
 pub returns-in_err-to-clause-look : goal.returns-in_err-to-clause-look
 returns-in_err-to-clause-look c =

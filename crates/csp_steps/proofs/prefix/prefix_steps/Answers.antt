@@ -5,7 +5,7 @@ use Rattle.csp_steps.proofs.prefix.prefix_steps.Goals as goal
 
 pub returns-then-are_blocked-clause-steps : goal.returns-then-are_blocked-clause-steps
 returns-then-are_blocked-clause-steps c = record {
-  same = ap (filled [] c.args.start.now.first (tree_at c.args.pool.now c.args.to)) (no_ways c.args.program.now c.args.start.now.sets.now c.args.fields.now (sym c.are_blocked.ensures ∙ c.if-are_blocked.true) [] 0) ∙
+  same = ap (filled [] c.args.filling.now.start.now.first (tree_at c.args.pool.now c.args.filling.now.to)) (no_ways c.args.filling.now.program.now c.args.filling.now.start.now.sets.now c.args.fields.now (sym c.are_blocked.ensures ∙ c.if-are_blocked.true) [] 0) ∙
       ap (λ (ss : List StepTo). Ok (map (seen c.args.pool.now) ss)) (sym c.new-steps.ensures);
   within = ap (all_within (length c.args.pool.now)) c.new-steps.ensures;
 }
@@ -13,11 +13,11 @@ returns-then-are_blocked-clause-steps c = record {
 pub turns-init : goal.turns-init
 turns-init c = record {
   front = front_same c.args.pool.now;
-  sound = c.begun-walk.ensures.bound ∙ ap (map name_of) (sym c.begun-walk.ensures.frames);
+  sound = c.begin-walk.ensures.bound ∙ ap (map name_of) (sym c.begin-walk.ensures.frames);
   sets = c.requires.sets;
   within = ap (all_within (length c.args.pool.now)) c.new-steps.ensures;
-  moves = begins c.args.program.now c.args.start.now.first c.args.to c.args.pool.now _ c.begun-walk.result c.new-steps.result c.begun-walk.ensures c.new-steps.ensures;
+  moves = begins c.args.filling.now.program.now c.args.filling.now.start.now.first c.args.filling.now.to c.args.pool.now _ c.begin-walk.result c.new-steps.result c.begin-walk.ensures c.new-steps.ensures;
 }
 
 pub turn_on-requires-clause-to : goal.turn_on-requires-clause-to
-turn_on-requires-clause-to c = still_within c.args.pool.now c.turns.pool c.turns.invariant.front c.args.to c.requires.within
+turn_on-requires-clause-to c = still_within c.args.pool.now c.turns.pool c.turns.invariant.front c.args.filling.now.to c.requires.within

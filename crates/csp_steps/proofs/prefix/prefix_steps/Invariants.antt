@@ -6,9 +6,9 @@ abbrev pub invariant-turns : goal.invariant-turns
 invariant-turns l = record {
   front : IsFront l.initial.pool l.pool;
   sound : IsSound l.walk;
-  sets : AreSets l.program l.sets;
+  sets : AreSets l.filling.program.now l.sets;
   within : all_within (length l.pool) l.steps ≡ true;
-  moves : filled [] l.start.first (tree_at l.initial.pool l.to) (ways_by_number l.program l.start.sets.now l.fields [] 0) ≡ walk_moves l.program l.start.first l.to l.pool l.walk l.steps;
+  moves : filled [] l.filling.start.now.first (tree_at l.initial.pool l.filling.to) (ways_by_number l.filling.program.now l.filling.start.now.sets.now l.fields [] 0) ≡ walk_moves l.filling.program.now l.filling.start.now.first l.filling.to l.pool l.walk l.steps;
 }
 
 abbrev pub decreases-turns : goal.decreases-turns

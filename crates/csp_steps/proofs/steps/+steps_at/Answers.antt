@@ -93,7 +93,7 @@ steps_at-returns-in_err-steps-in-Around-clause-steps t c =
     let is = made_of c.args.program.now c.look_at.new.pool (tree_at c.args.pool.now c.args.id) c.in_ok-found.found c.in_ok-found.ensures.look c.in-Around.below c.in-Around.is in
     let each = c.in_ok-below-in-Around.ensures.steps in
     around_passed c.args.program.now (tree_at c.args.pool.now c.args.id) (tree_at c.steps_at-in-Around.new.pool c.args.id) (steps_of c.args.program.now (tree_at c.args.pool.now c.args.id)) each.moves
-    c.steps_at-in-Around.new.pool c.around.new.pool c.in_ok-below-in-Around.below c.as_slice-in-Around.result.now
+    c.steps_at-in-Around.new.pool c.steps_around.new.pool c.in_ok-below-in-Around.below c.as_slice-in-Around.result.now
     (around_is c.args.program.now c.look_at.new.pool c.in-Around.below (tree_at c.args.pool.now c.args.id) each.moves is each.has) each.firsts c.as_slice-in-Around.ensures
     (tree_stays c.args.pool.now c.steps_at-in-Around.new.pool
     (front_both c.args.pool.now c.look_at.new.pool c.steps_at-in-Around.new.pool c.in_ok-found.ensures.front c.in_ok-below-in-Around.ensures.front) c.args.id c.requires.within)
@@ -104,7 +104,7 @@ steps_at-returns-in_ok-keep_steps-in-Around-clause-steps t c =
     let is = made_of c.args.program.now c.look_at.new.pool (tree_at c.args.pool.now c.args.id) c.in_ok-found.found c.in_ok-found.ensures.look c.in-Around.below c.in-Around.is in
     let each = c.in_ok-below-in-Around.ensures.steps in
     around_each c.args.program.now (tree_at c.args.pool.now c.args.id) (tree_at c.steps_at-in-Around.new.pool c.args.id) (steps_of c.args.program.now (tree_at c.args.pool.now c.args.id)) each.moves
-    c.steps_at-in-Around.new.pool c.around.new.pool c.in_ok-below-in-Around.below c.as_slice-in-Around.result.now
+    c.steps_at-in-Around.new.pool c.steps_around.new.pool c.in_ok-below-in-Around.below c.as_slice-in-Around.result.now
     (around_is c.args.program.now c.look_at.new.pool c.in-Around.below (tree_at c.args.pool.now c.args.id) each.moves is each.has) each.firsts c.as_slice-in-Around.ensures
     (tree_stays c.args.pool.now c.steps_at-in-Around.new.pool
     (front_both c.args.pool.now c.look_at.new.pool c.steps_at-in-Around.new.pool c.in_ok-found.ensures.front c.in_ok-below-in-Around.ensures.front) c.args.id c.requires.within)
@@ -114,8 +114,8 @@ pub steps_at-returns-in-Some-clause-steps : goal.steps_at-returns-in-Some-clause
 steps_at-returns-in-Some-clause-steps t c =
     known_each c.args.pool.now (steps_of c.args.program.now (tree_at c.args.pool.now c.args.id)) c.in_ok-steps.field-0 c.in-Some.steps c.in-Some.is (c.in_ok-steps.ensures c.args.program.now c.args.pool.now c.requires.fits)
 
-pub steps_at-around-requires-clause-within : goal.steps_at-around-requires-clause-within
-steps_at-around-requires-clause-within t c =
+pub steps_at-steps_around-requires-clause-within : goal.steps_at-steps_around-requires-clause-within
+steps_at-steps_around-requires-clause-within t c =
     still_within c.args.pool.now c.steps_at-in-Around.new.pool (front_both c.args.pool.now c.look_at.new.pool c.steps_at-in-Around.new.pool c.in_ok-found.ensures.front c.in_ok-below-in-Around.ensures.front) c.args.id c.requires.within
 
 pub steps_at-returns-in_ok-keep_steps-in-Choice-clause-fits : goal.steps_at-returns-in_ok-keep_steps-in-Choice-clause-fits
@@ -147,14 +147,14 @@ steps_at-returns-in_ok-keep_steps-in-Around-clause-fits t c =
     let is = made_of c.args.program.now c.look_at.new.pool (tree_at c.args.pool.now c.args.id) c.in_ok-found.found c.in_ok-found.ensures.look c.in-Around.below c.in-Around.is in
     let below = c.in_ok-below-in-Around.ensures.steps in
     let deep = front_both c.args.pool.now c.look_at.new.pool c.steps_at-in-Around.new.pool c.in_ok-found.ensures.front c.in_ok-below-in-Around.ensures.front in
-    let front = front_both c.args.pool.now c.steps_at-in-Around.new.pool c.around.new.pool deep c.in_ok-steps-in-Around.ensures.front in
+    let front = front_both c.args.pool.now c.steps_at-in-Around.new.pool c.steps_around.new.pool deep c.in_ok-steps-in-Around.ensures.front in
     let steps = around_each c.args.program.now (tree_at c.args.pool.now c.args.id) (tree_at c.steps_at-in-Around.new.pool c.args.id) (steps_of c.args.program.now (tree_at c.args.pool.now c.args.id)) below.moves
-    c.steps_at-in-Around.new.pool c.around.new.pool c.in_ok-below-in-Around.below c.as_slice-in-Around.result.now
+    c.steps_at-in-Around.new.pool c.steps_around.new.pool c.in_ok-below-in-Around.below c.as_slice-in-Around.result.now
     (around_is c.args.program.now c.look_at.new.pool c.in-Around.below (tree_at c.args.pool.now c.args.id) below.moves is below.has) below.firsts c.as_slice-in-Around.ensures
     (tree_stays c.args.pool.now c.steps_at-in-Around.new.pool deep c.args.id c.requires.within)
     c.len-in-Around.ensures.different c.in_ok-steps-in-Around.steps c.in_ok-steps-in-Around-2.steps c.in_ok-steps-in-Around.ensures.steps c.in_ok-steps-in-Around-2.ensures in
-    let each = choice_each c.around.new.pool c.in_ok-steps-in-Around-2.steps c.as_slice-in-Around-2.result.now (steps_of c.args.program.now (tree_at c.args.pool.now c.args.id)) _
-    (steps_of c.args.program.now (tree_at c.around.new.pool c.args.id)) refl c.as_slice-in-Around-2.ensures
-    (ap (steps_of c.args.program.now) (tree_stays c.args.pool.now c.around.new.pool front c.args.id c.requires.within)) steps in
-    let kept = c.keep_steps-in-Around.ensures c.args.program.now c.around.new.pool c.in_ok-steps-in-Around.ensures.fits (still_within c.args.pool.now c.around.new.pool front c.args.id c.requires.within) each in
+    let each = choice_each c.steps_around.new.pool c.in_ok-steps-in-Around-2.steps c.as_slice-in-Around-2.result.now (steps_of c.args.program.now (tree_at c.args.pool.now c.args.id)) _
+    (steps_of c.args.program.now (tree_at c.steps_around.new.pool c.args.id)) refl c.as_slice-in-Around-2.ensures
+    (ap (steps_of c.args.program.now) (tree_stays c.args.pool.now c.steps_around.new.pool front c.args.id c.requires.within)) steps in
+    let kept = c.keep_steps-in-Around.ensures c.args.program.now c.steps_around.new.pool c.in_ok-steps-in-Around.ensures.fits (still_within c.args.pool.now c.steps_around.new.pool front c.args.id c.requires.within) each in
     on_ok_of c.keep_steps-in-Around.result c.in_ok-keep_steps-in-Around.field-0 _ c.in_ok-keep_steps-in-Around.was kept

@@ -113,56 +113,56 @@ decreases-enter l = cost l.scope.now.content.now l.scope.now.uses + (gen_weights
 -- the expressions that are left are still to be evaluated
 abbrev pub invariant-eval_all-loop-expr : goal.invariant-eval_all-loop-expr
 invariant-eval_all-loop-expr l =
-    worths l.scope.content.now l.scope.uses (env_in l.names) l.exprs ≡ worths_after l.scope.content.now l.scope.uses (env_in l.names) l.values (drop l.expr-index l.exprs)
+    worths l.scope.content.now l.scope.uses (env_in l.scope.names.now) l.exprs ≡ worths_after l.scope.content.now l.scope.uses (env_in l.scope.names.now) l.values (drop l.expr-index l.exprs)
 
 -- the items that are left are still to be added
 abbrev pub invariant-add_items-loop-item : goal.invariant-add_items-loop-item
 invariant-add_items-loop-item l =
-    with_items l.scope.content.now l.scope.uses (env_in l.names) l.items l.fn.atoms ≡ with_items l.scope.content.now l.scope.uses (env_in l.names) (drop l.item-index l.items) l.atoms
+    with_items l.scope.content.now l.scope.uses (env_in l.scope.names.now) l.items l.fn.atoms ≡ with_items l.scope.content.now l.scope.uses (env_in l.scope.names.now) (drop l.item-index l.items) l.atoms
 
 -- the fields that are left are still to be counted
 abbrev pub invariant-eval_fields-loop-field : goal.invariant-eval_fields-loop-field
 invariant-eval_fields-loop-field l = record {
   within : l.number ≤ 2 ^ 64 - 1;
-  same : capped (scaled (fields_worth l.scope.content.now l.scope.uses (env_in l.names) l.fields l.fn.sets 0) l.each) ≡ capped (fields_after l.scope.content.now l.scope.uses (env_in l.names) (drop l.field-index l.fields) l.rest l.each l.number);
+  same : capped (scaled (fields_worth l.scope.content.now l.scope.uses (env_in l.scope.names.now) l.fields l.fn.sets 0) l.each) ≡ capped (fields_after l.scope.content.now l.scope.uses (env_in l.scope.names.now) (drop l.field-index l.fields) l.rest l.each l.number);
 }
 
 -- the fronts that are left are still to be added
 abbrev pub invariant-add_fronts-loop-part : goal.invariant-add_fronts-loop-part
 invariant-add_fronts-loop-part l =
-    with_fronts l.scope.content.now l.scope.uses (env_in l.names) l.parts l.fn.atoms ≡ with_fronts l.scope.content.now l.scope.uses (env_in l.names) (drop l.part-index l.parts) l.atoms
+    with_fronts l.scope.content.now l.scope.uses (env_in l.scope.names.now) l.parts l.fn.atoms ≡ with_fronts l.scope.content.now l.scope.uses (env_in l.scope.names.now) (drop l.part-index l.parts) l.atoms
 
 -- what the walk comes to is still to come
 abbrev pub invariant-find_binding-steps : goal.invariant-find_binding-steps
 invariant-find_binding-steps l = record {
-  same : skipped (course l.scope.content.now l.scope.uses l.gens l.names l.fn.walk) ≡ skipped (course l.scope.content.now l.scope.uses l.gens l.names l.walk);
-  under : IsUnder l.names.bound.now l.walk;
+  same : skipped (course l.scope.content.now l.scope.uses l.gens l.scope.names.now l.fn.walk) ≡ skipped (course l.scope.content.now l.scope.uses l.gens l.scope.names.now l.walk);
+  under : IsUnder l.scope.names.now.bound.now l.walk;
 }
 
 abbrev pub decreases-find_binding-steps : goal.decreases-find_binding-steps
-decreases-find_binding-steps l = size (course l.scope.content.now l.scope.uses l.gens l.names l.walk)
+decreases-find_binding-steps l = size (course l.scope.content.now l.scope.uses l.gens l.scope.names.now l.walk)
 
 -- the bindings that are left are still to be gathered
 abbrev pub invariant-gather_each-bindings : goal.invariant-gather_each-bindings
 invariant-gather_each-bindings l = record {
   same :
-      walk_worth l.scope.content.now l.scope.uses l.gens l.yields.items.now l.yields.parts.now (env_in l.names) (gathered_of l.fn.tally) ≡
-      over_course (course l.scope.content.now l.scope.uses l.gens l.names l.walk) (one_more_binding l.scope.content.now l.scope.uses l.yields.items.now l.yields.parts.now) (gathered_of l.tally);
-  under : IsUnder l.names.bound.now l.walk;
+      walk_worth l.scope.content.now l.scope.uses l.gens l.yields.items.now l.yields.parts.now (env_in l.scope.names.now) (gathered_of l.fn.tally) ≡
+      over_course (course l.scope.content.now l.scope.uses l.gens l.scope.names.now l.walk) (one_more_binding l.scope.content.now l.scope.uses l.yields.items.now l.yields.parts.now) (gathered_of l.tally);
+  under : IsUnder l.scope.names.now.bound.now l.walk;
 }
 
 abbrev pub decreases-gather_each-bindings : goal.decreases-gather_each-bindings
-decreases-gather_each-bindings l = size (course l.scope.content.now l.scope.uses l.gens l.names l.walk)
+decreases-gather_each-bindings l = size (course l.scope.content.now l.scope.uses l.gens l.scope.names.now l.walk)
 
 -- the bindings that are left are still to be counted: what each of them adds is there
 abbrev pub invariant-gather_once-bindings : goal.invariant-gather_once-bindings
 invariant-gather_once-bindings l = record {
   same :
-      walk_worth l.scope.content.now l.scope.uses l.gens l.yields.items.now l.yields.parts.now (env_in l.names) (gathered_of l.fn.tally) ≡
-      over_course (course l.scope.content.now l.scope.uses l.gens l.names l.walk) (λ _. one_more_binding l.scope.content.now l.scope.uses l.yields.items.now l.yields.parts.now (env_in l.names)) (gathered_of l.tally);
-  under : IsUnder l.names.bound.now l.walk;
-  there : yielded l.scope.content.now l.scope.uses l.yields.items.now l.yields.parts.now (env_in l.names) l.tally.atoms ≡ Ok l.tally.atoms;
+      walk_worth l.scope.content.now l.scope.uses l.gens l.yields.items.now l.yields.parts.now (env_in l.scope.names.now) (gathered_of l.fn.tally) ≡
+      over_course (course l.scope.content.now l.scope.uses l.gens l.scope.names.now l.walk) (λ _. one_more_binding l.scope.content.now l.scope.uses l.yields.items.now l.yields.parts.now (env_in l.scope.names.now)) (gathered_of l.tally);
+  under : IsUnder l.scope.names.now.bound.now l.walk;
+  there : yielded l.scope.content.now l.scope.uses l.yields.items.now l.yields.parts.now (env_in l.scope.names.now) l.tally.atoms ≡ Ok l.tally.atoms;
 }
 
 abbrev pub decreases-gather_once-bindings : goal.decreases-gather_once-bindings
-decreases-gather_once-bindings l = size (course l.scope.content.now l.scope.uses l.gens l.names l.walk)
+decreases-gather_once-bindings l = size (course l.scope.content.now l.scope.uses l.gens l.scope.names.now l.walk)

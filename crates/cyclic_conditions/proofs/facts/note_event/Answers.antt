@@ -1,5 +1,4 @@
-use Rattle.cyclic_conditions.proofs.Prelude.{◌∙◌, sym, subst, on_ok_weaker, same_Some, pair_at, HasFirst}
-use Rattle.std.proofs.lemmas.Result.{IfErr-weaker}
+use Rattle.cyclic_conditions.proofs.Prelude.{◌∙◌, sym, subst, on_ok_weaker, same_Some, pair_at, HasFirst, IfErr-weaker}
 use Rattle.cyclic_conditions.proofs.LapPlaces.{place_within, event_noted, event_clashes}
 use Rattle.cyclic_conditions.proofs.facts.note_event.Goals as goal
 

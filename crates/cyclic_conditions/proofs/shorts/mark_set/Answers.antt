@@ -1,5 +1,4 @@
-use Rattle.cyclic_conditions.proofs.Prelude.{◌≡◌, ◌∙◌, ℕ, List, Option, Some, length, ap, sym, refl, arith, with_items_is, slice_set, unwrap_or, Link, Node, short_at}
-use Rattle.std.specs.Vec.{with_items}
+use Rattle.cyclic_conditions.proofs.Prelude.{◌≡◌, ◌∙◌, ℕ, List, Option, Some, length, ap, sym, refl, arith, with_items_is, slice_set, unwrap_or, Link, Node, short_at, with_items}
 use Rattle.cyclic_conditions.proofs.Shortness.{accept_read, look_none, look_left, look_right}
 use Rattle.cyclic_conditions.proofs.shorts.mark_set.Goals as goal
 

@@ -1,9 +1,6 @@
-use Rattle.cyclic_rule.proofs.Prelude.{◌<◌, ◌∙◌, ℕ, List, map, length, ap, sym, subst, Err, slice_index, Shape, HasArc, MustPrecede}
-use Rattle.digraph.specs.Prelude.{IsLeastCircle}
+use Rattle.cyclic_rule.proofs.Prelude.{◌<◌, ◌∙◌, ℕ, List, map, length, ap, sym, subst, slice_index, Shape, HasArc, MustPrecede, IsLeastCircle, turned_circle, turned_least, circle_some}
 use Rattle.design_rules.specs.Prelude.{ends_of}
-use Rattle.shape_links.specs.Turned.{turned_circle}
 use Rattle.cyclic_rule.proofs.Chaining.{next_precedes, all_rise, chain_numbers}
-use Rattle.shape_links.proofs.Circles.{turned_least, circle_some}
 use Rattle.cyclic_rule.proofs.numbers.numbers.Goals as goal
 
 pub returns-in-Ok-clause-chains : goal.returns-in-Ok-clause-chains
@@ -20,17 +17,17 @@ returns-in-Ok-clause-rise c = all_rise c.args.sorted.now c.args.orders.now c.sha
 
 pub turned_ends-requires : goal.turned_ends-requires
 turned_ends-requires c =
-    let it = c.in-Err-Circle.ensures.circle c.in-Err-Circle.circle (ap Err c.in-Err-Circle.field-0-is) in
-    subst (λ (vs : List ℕ). 0 < length vs) (sym c.members.ensures) (circle_some (HasArc c.in_ok-rows.rows) c.in-Err-Circle.circle it)
+    let it = rw c.in-Err-Told.field-0-is at c.in-Err-Told.ensures.circle in
+    subst (λ (vs : List ℕ). 0 < length vs) (sym c.members.ensures) (circle_some (HasArc c.in_ok-rows.rows) c.in-Err-Told.circle it)
 
-pub returns-in-Err-Circle-clause-fault : goal.returns-in-Err-Circle-clause-fault
-returns-in-Err-Circle-clause-fault c =
+pub returns-in-Err-Told-clause-fault : goal.returns-in-Err-Told-clause-fault
+returns-in-Err-Told-clause-fault c =
     let shape = c.args.sorted.now in
-    let it = c.in-Err-Circle.ensures.circle c.in-Err-Circle.circle (ap Err c.in-Err-Circle.field-0-is) in
+    let it = rw c.in-Err-Told.field-0-is at c.in-Err-Told.ensures.circle in
     record {
       order = c.requires.keep;
       links = turned_circle c.members.result.now;
       circle = subst (IsLeastCircle (MustPrecede shape)) (sym (ap turned_circle c.members.ensures))
-          (turned_least (HasArc c.in_ok-rows.rows) (MustPrecede shape) (λ m l arc. next_precedes shape c.args.orders.now c.shape-form.ensures.form c.requires.keep c.requires.orders l m (c.in_ok-rows.ensures.sound m l arc)) c.in-Err-Circle.circle it);
-      are = c.in_ok-links-in-Err-Circle.ensures ∙ ap (λ (z : Shape). map (ends_of z) (turned_circle c.members.result.now)) c.shape-form.ensures.value;
+          (turned_least (HasArc c.in_ok-rows.rows) (MustPrecede shape) (λ m l arc. next_precedes shape c.args.orders.now c.shape-form.ensures.form c.requires.keep c.requires.orders l m (c.in_ok-rows.ensures.sound m l arc)) c.in-Err-Told.circle it);
+      are = c.in_ok-links-in-Err-Told.ensures ∙ ap (λ (z : Shape). map (ends_of z) (turned_circle c.members.result.now)) c.shape-form.ensures.value;
     }

@@ -1,5 +1,4 @@
-use Rattle.definition_kinds.proofs.Prelude.{◌≡◌, ◌≤◌, List, length, ap, ◌∙◌, subst, arith, AreKindsOf, body_ends, first_of, End, size, rows}
-use Rattle.std.specs.List.{flat_map}
+use Rattle.definition_kinds.proofs.Prelude.{◌≡◌, ◌≤◌, List, length, ap, ◌∙◌, subst, arith, AreKindsOf, body_ends, first_of, End, size, rows, flat_map}
 use Rattle.definition_kinds.proofs.FoundLaws.{rows-length, same_ends}
 use Rattle.definition_kinds.proofs.SizeLaws.{few_definitions}
 use Rattle.definition_kinds.proofs.kinds.kinds_of.Goals as goal

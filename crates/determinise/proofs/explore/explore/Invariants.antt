@@ -1,6 +1,5 @@
-use Rattle.determinise.proofs.Prelude.{◌-◌, ◌≤◌, length, IsReady, AreNodesSoFar, AreReachedSets}
+use Rattle.determinise.proofs.Prelude.{◌-◌, ◌≤◌, length, IsReady, AreNodesSoFar, AreReachedSets, MOST_SETS}
 use Rattle.determinise.proofs.explore.explore.Given as goal
-use Rattle.dl_limits.specs.declared.TheConstants.{MOST_SETS}
 
 abbrev pub invariant-loop-alloc : goal.invariant-loop-alloc
 invariant-loop-alloc l = record {

@@ -1,5 +1,4 @@
-use Rattle.determinise.proofs.Prelude.{◌<◌, ◌∙◌, ℕ, List, inl, refl, sym, subst, All, IsSilentClosure, set_at}
-use Rattle.term_sets.specs.Marks.{IsUnmarked}
+use Rattle.determinise.proofs.Prelude.{◌<◌, ◌∙◌, ℕ, List, inl, refl, sym, subst, All, IsSilentClosure, set_at, IsUnmarked}
 use Rattle.determinise.proofs.Groups.{targets_below}
 use Rattle.determinise.proofs.KnownSets.{known_kept}
 use Rattle.determinise.proofs.sets.number_of_next.Goals as goal

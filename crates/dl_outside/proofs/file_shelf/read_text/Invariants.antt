@@ -4,8 +4,8 @@ use Rattle.dl_outside.proofs.file_shelf.read_text.Given as goal
 
 abbrev pub invariant-loop-reader : goal.invariant-loop-reader
 invariant-loop-reader g l = record {
-  counted : l.taken ≡ l.initial.taken + length l.text;
-  faults : l.faults ≡ l.initial.faults;
+  counted : l.counts.taken ≡ l.initial.counts.taken + length l.text;
+  faults : l.counts.faults ≡ l.initial.counts.faults;
   lost : Consumes (g.R.Read.remaining l.fn.reader) (g.R.Read.remaining l.reader) l.text;
 }
 

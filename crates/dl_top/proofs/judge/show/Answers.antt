@@ -4,13 +4,13 @@ use Rattle.dl_top.proofs.Walks.{answered}
 use Rattle.dl_top.proofs.judge.show.Goals as goal
 
 pub returns-clause-answer : goal.returns-clause-answer
-returns-clause-answer c = answered (TextIsShown c.args.text.now) c.text_shown.result c.ended.result c.text_shown.ensures c.ended.ensures
+returns-clause-answer c = answered (TextIsShown c.args.text.now) c.show_text.result c.settle.result c.show_text.ensures c.settle.ensures
 
 pub returns-clause-shown : goal.returns-clause-shown
 returns-clause-shown c =
-    IfOk-weaker c.ended.result _ _ (text_shown c.args.text.now) (answered (TextIsShown c.args.text.now) c.text_shown.result c.ended.result c.text_shown.ensures c.ended.ensures)
+    IfOk-weaker c.settle.result _ _ (text_shown c.args.text.now) (answered (TextIsShown c.args.text.now) c.show_text.result c.settle.result c.show_text.ensures c.settle.ensures)
 
 pub returns-clause-complete : goal.returns-clause-complete
 returns-clause-complete c =
-    IfOk-weaker c.ended.result _ _ (λ a calls script spelled. shown_completes c.args.text.now a script spelled calls)
-    (answered (TextIsShown c.args.text.now) c.text_shown.result c.ended.result c.text_shown.ensures c.ended.ensures)
+    IfOk-weaker c.settle.result _ _ (λ a calls script spelled. shown_completes c.args.text.now a script spelled calls)
+    (answered (TextIsShown c.args.text.now) c.show_text.result c.settle.result c.show_text.ensures c.settle.ensures)

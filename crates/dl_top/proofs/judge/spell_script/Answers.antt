@@ -5,4 +5,4 @@ pub returns-in-Ok-clause-ok : goal.returns-in-Ok-clause-ok
 returns-in-Ok-clause-ok c = only_script c.args.text.now c.in-Ok.script c.in-Ok.ensures.found c.each_text_spells_one_script.ensures
 
 pub returns-in-Err-clause-told : goal.returns-in-Err-clause-told
-returns-in-Err-clause-told c = rw c.unread.ensures (no_script_read c.args.side c.args.text.now c.in-Err.fault c.in-Err.ensures.none c.in-Err.ensures.place)
+returns-in-Err-clause-told c = rw c.no_script.ensures (no_script_read c.args.side c.args.text.now c.in-Err.fault c.in-Err.ensures.none c.in-Err.ensures.place)

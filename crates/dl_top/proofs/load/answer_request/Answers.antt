@@ -30,8 +30,8 @@ returns-in-Trial-clause-calls g c =
 pub returns-in-Conform-clause-calls : goal.returns-in-Conform-clause-calls
 returns-in-Conform-clause-calls g c =
     let shelf = g.S.Shelf in
-    same_request (IsLoad shelf.texts shelf.counts shelf.gives) c.args.shelf.now c.conforming.new.shelf c.args.request.now _ c.conforming.result
-    (c.in-Conform.is ∙ ap₂ request.Conform (sym c.as_slice-in-Conform.ensures) (sym c.as_slice-in-Conform-2.ensures)) c.conforming.ensures.calls
+    same_request (IsLoad shelf.texts shelf.counts shelf.gives) c.args.shelf.now c.answer_conform.new.shelf c.args.request.now _ c.answer_conform.result
+    (c.in-Conform.is ∙ ap₂ request.Conform (sym c.as_slice-in-Conform.ensures) (sym c.as_slice-in-Conform-2.ensures)) c.answer_conform.ensures.calls
 
 pub returns-in-Conform-clause-untouched : goal.returns-in-Conform-clause-untouched
 returns-in-Conform-clause-untouched g c none = absurd (names_none c.args.request.now _ c.in-Conform.is (λ no. cc) none)

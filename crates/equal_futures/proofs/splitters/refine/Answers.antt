@@ -1,5 +1,4 @@
-use Rattle.equal_futures.proofs.Prelude.{◌≡◌, ℕ, List, length, subst, sym, ap, ◌∙◌, arith, IfOk-weaker, AreRenumbered, state_of, count_of}
-use Rattle.equal_futures.specs.declared.classes.Classes.{Classes}
+use Rattle.equal_futures.proofs.Prelude.{◌≡◌, ℕ, List, length, subst, sym, ap, ◌∙◌, arith, IfOk-weaker, AreRenumbered, state_of, count_of, Classes}
 use Rattle.equal_futures.proofs.Settling.{block_refined, classes_then, marks_refined, rows_read}
 use Rattle.equal_futures.proofs.splitters.refine.Goals as goal
 
@@ -23,8 +22,8 @@ loop-block-preserved c =
     (count_of c.loop-block.partition) (count_of c.next_waiting.new.self) c.in_ok-rows.rows.items c.as_slice.result.now c.loop-block.invariant c.loop-block.invariant.fit.blocks_len (c.in-Some.ensures.fit.blocks_len ∙ c.loop-block.invariant.fit.blocks_len)
     c.in-Some.ensures c.in_ok-rows.ensures c.as_slice.ensures.value c.in_ok-split_by_block.ensures
 
-pub renumbered-requires : goal.renumbered-requires
-renumbered-requires c =
+pub renumber-requires : goal.renumber-requires
+renumber-requires c =
     let blocks : c.as_slice-2.result.now ≡ (state_of c.loop-block.partition).blocks = c.as_slice-2.ensures.value ∙ ap (λ s. s.blocks) c.in_default.ensures.same in
     omega (arith, ap length blocks, c.loop-block.invariant.fit.blocks_len, c.requires.numbered)
 
@@ -33,4 +32,4 @@ returns c =
     let blocks : c.as_slice-2.result.now ≡ (state_of c.loop-block.partition).blocks = c.as_slice-2.ensures.value ∙ ap (λ s. s.blocks) c.in_default.ensures.same in
     IfOk-weaker _ _ _ (λ (made : Classes) (h : AreRenumbered c.as_slice-2.result.now made.numbers.items made.count).
     classes_then c.args.nodes.now c.args.marks.now c.requires.rising c.requires.marks (state_of c.loop-block.partition) made.numbers.items made.count c.loop-block.invariant c.in_default.ensures.none
-    (subst (λ (xs : List ℕ). AreRenumbered xs made.numbers.items made.count) blocks h)) c.renumbered.ensures
+    (subst (λ (xs : List ℕ). AreRenumbered xs made.numbers.items made.count) blocks h)) c.renumber.ensures

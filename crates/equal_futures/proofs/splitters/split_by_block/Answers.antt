@@ -2,8 +2,8 @@ use Rattle.equal_futures.proofs.Prelude.{refl, on_ok_weaker, IsSplitByEvents, st
 use Rattle.equal_futures.proofs.Settling.{all_members, gathered_from}
 use Rattle.equal_futures.proofs.splitters.split_by_block.Goals as goal
 
-pub entering-requires : goal.entering-requires
-entering-requires c = all_members (count_of c.args.partition.now) _ c.args.block (state_of c.args.partition.now) c.members.result.now c.requires.rows c.members.ensures
+pub entering_steps-requires : goal.entering_steps-requires
+entering_steps-requires c = all_members (count_of c.args.partition.now) _ c.args.block (state_of c.args.partition.now) c.members.result.now c.requires.rows c.members.ensures
 
 pub split_by_events-requires-clause-sources : goal.split_by_events-requires-clause-sources
 split_by_events-requires-clause-sources c =

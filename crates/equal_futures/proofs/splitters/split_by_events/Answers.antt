@@ -1,6 +1,4 @@
-use Rattle.equal_futures.proofs.Prelude.{ℕ, List, sym, subst, rules, AreFrom, IsSplitByEvents, state_of, count_of}
-use Rattle.std.specs.List.Sorted.{IsNonDecreasingBy}
-use Rattle.std.proofs.lemmas.List.Sorted.{IsNonDecreasingBy-from_sort_by_key}
+use Rattle.equal_futures.proofs.Prelude.{ℕ, List, sym, subst, rules, AreFrom, IsSplitByEvents, state_of, count_of, IsNonDecreasingBy, IsNonDecreasingBy-from_sort_by_key}
 use Rattle.equal_futures.proofs.Grouping.{in_any_order, from_any_order}
 use Rattle.equal_futures.proofs.splitters.split_by_events.Goals as goal
 

@@ -1,5 +1,4 @@
-use Rattle.event_tables.proofs.Prelude.{◌∙◌, sym, ap, arith, slice_get, lent}
-use Rattle.std.specs.Prelude.{length}
+use Rattle.event_tables.proofs.Prelude.{◌∙◌, sym, ap, arith, slice_get, lent, length}
 use Rattle.event_tables.proofs.CountLaws.{events_then, left_ok}
 use Rattle.event_tables.proofs.SetLaws.{fill_none, fill_ok}
 use Rattle.event_tables.proofs.filled.add_channel.Goals as goal

@@ -1,5 +1,4 @@
-use Rattle.event_tables.proofs.Prelude.{◌∙◌, spread}
-use Rattle.dl_limits.specs.declared.TheConstants.{MOST_BYTES}
+use Rattle.event_tables.proofs.Prelude.{◌∙◌, spread, MOST_BYTES}
 use Rattle.event_tables.proofs.SetLaws.{filled_few}
 use Rattle.event_tables.proofs.filled.fill_events.Goals as goal
 

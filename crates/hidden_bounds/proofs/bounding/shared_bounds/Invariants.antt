@@ -1,5 +1,4 @@
-use Rattle.hidden_bounds.proofs.Prelude.{◌≡◌, take, shared_bounds, alphabet_at}
-use Rattle.hidden_bounds.specs.Taking.{taken_in}
+use Rattle.hidden_bounds.proofs.Prelude.{◌≡◌, take, shared_bounds, alphabet_at, taken_in}
 use Rattle.hidden_bounds.proofs.bounding.shared_bounds.Given as goal
 
 abbrev pub invariant-loop-place : goal.invariant-loop-place

@@ -1,5 +1,4 @@
-use Rattle.hidden_bounds.proofs.Prelude.{◌≡◌, ◌≤◌, List, length, ap, subst, sym, ◌∙◌, left_from, Standing}
-use Rattle.dl_limits.specs.declared.TheConstants.{MOST_COMPONENTS}
+use Rattle.hidden_bounds.proofs.Prelude.{◌≡◌, ◌≤◌, List, length, ap, subst, sym, ◌∙◌, left_from, Standing, MOST_COMPONENTS}
 use Rattle.hidden_bounds.proofs.Finish.{all_taken_far}
 use Rattle.hidden_bounds.proofs.ordering.order_of.Goals as goal
 

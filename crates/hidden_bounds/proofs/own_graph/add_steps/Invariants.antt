@@ -1,5 +1,4 @@
-use Rattle.hidden_bounds.proofs.Prelude.{◌≡◌, ℕ, nat_eq, ◌&&◌, ◌||◌, length, take, list_any, has}
-use Rattle.digraph.specs.Digraph.{has_arc}
+use Rattle.hidden_bounds.proofs.Prelude.{◌≡◌, ℕ, nat_eq, ◌&&◌, ◌||◌, length, take, list_any, has, has_arc}
 use Rattle.hidden_bounds.proofs.own_graph.add_steps.Given as goal
 
 abbrev pub invariant-loop-step : goal.invariant-loop-step

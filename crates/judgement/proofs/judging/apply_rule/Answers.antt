@@ -1,7 +1,4 @@
-use Rattle.judgement.proofs.Prelude.{ap, rules, subst, Network, ProcessStep, at_refusal, at_shortfall, goes_on, greatest_rank, RuleDecides, HasUntold, Notes}
-use Rattle.design_rules.proofs.GreatestRanks.{rankings_have_greatest_rank}
-use Rattle.report.specs.Points.Point.{passed}
-use Rattle.csp_base.specs.Stops.{Tells}
+use Rattle.judgement.proofs.Prelude.{ap, rules, subst, Network, ProcessStep, at_refusal, at_shortfall, goes_on, greatest_rank, RuleDecides, HasUntold, Notes, rankings_have_greatest_rank, passed, Tells}
 use Rattle.report.specs.declared.answer.Side.TheVariants as side
 use Rattle.report.specs.declared.answer.Verdict.TheVariants as verdict
 use Rattle.judgement.proofs.Living.{live}

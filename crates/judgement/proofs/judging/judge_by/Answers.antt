@@ -1,5 +1,4 @@
-use Rattle.judgement.proofs.Prelude.{◌∙◌, rules, subst, Network, StaysBusy, exits, goes_on, IsJudged, RuleDecides}
-use Rattle.report.specs.Stops.{Answers}
+use Rattle.judgement.proofs.Prelude.{◌∙◌, rules, subst, Network, StaysBusy, exits, goes_on, IsJudged, RuleDecides, Answers}
 use Rattle.judgement.proofs.judging.judge_by.Goals as goal
 
 pub returns-in_err-tabled : goal.returns-in_err-tabled

@@ -1,5 +1,4 @@
-use Rattle.judgement.proofs.Prelude.{subst, sym, leaves, TripleDisjoint, alphabets_of, IsWellFormed, Shape, networks_meet, HasNotes, Ranks, shapes_are_well_formed, IsApart, ProcessStep}
-use Rattle.network_stages.proofs.Shaping.{parts_apart}
+use Rattle.judgement.proofs.Prelude.{subst, sym, leaves, TripleDisjoint, alphabets_of, IsWellFormed, Shape, networks_meet, HasNotes, Ranks, shapes_are_well_formed, IsApart, ProcessStep, parts_apart}
 use Rattle.judgement.proofs.Broken.{network_broken}
 use Rattle.judgement.proofs.rules.ranking_by.Goals as goal
 

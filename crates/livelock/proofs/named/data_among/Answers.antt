@@ -1,5 +1,4 @@
-use Rattle.livelock.proofs.Prelude.{ap, sym, ◌∙◌, datum}
-use Rattle.std.specs.Option.{option_and_then, option_copied}
+use Rattle.livelock.proofs.Prelude.{ap, sym, ◌∙◌, datum, option_and_then, option_copied}
 use Rattle.livelock.proofs.named.data_among.Goals as goal
 
 pub returns-in-Some : goal.returns-in-Some

@@ -1,5 +1,4 @@
-use Rattle.livelock.proofs.Prelude.{rules, tests, is_data_named}
-use Rattle.csp_base.proofs.Standard.{YieldsList-from_slice, find_from_yields_List}
+use Rattle.livelock.proofs.Prelude.{rules, tests, is_data_named, YieldsList-from_slice, find_from_yields_List}
 use Rattle.livelock.proofs.named.definition_named.Goals as goal
 
 pub returns : goal.returns

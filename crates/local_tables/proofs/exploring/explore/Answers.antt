@@ -1,5 +1,4 @@
-use Rattle.local_tables.proofs.Prelude.{◌+◌, ◌∙◌, ap, length, refl, arith, Room, LocalTable}
-use Rattle.csp_steps.proofs.Noting.{fits_stay}
+use Rattle.local_tables.proofs.Prelude.{◌+◌, ◌∙◌, ap, length, refl, arith, Room, LocalTable, fits_stay}
 use Rattle.local_tables.proofs.Ending.{local_table}
 use Rattle.local_tables.proofs.exploring.explore.Goals as goal
 

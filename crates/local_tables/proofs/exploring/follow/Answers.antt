@@ -1,9 +1,4 @@
-use Rattle.local_tables.proofs.Prelude.{◌≡◌, ◌<◌, List, Result, Ok, Err, Some, length, sym, subst, arith, IfErr, slice_get, slice_index_or, slice_get-get_or, Proc, steps_of, ProcId, tree_at, part_of, Reaches, TaskLacks, valueless, terms_at, Task}
-use Rattle.std.specs.Result.{IsErrAnd}
-use Rattle.csp_steps.specs.Listed.{FaultIs}
-use Rattle.value_operators.specs.declared.fault.EvalFault.{EvalFault}
-use Rattle.value_operators.specs.declared.fault.EvalFault.TheVariants as evaluation
-use Rattle.local_tables.specs.declared.fault.Unexplored.{Unexplored}
+use Rattle.local_tables.proofs.Prelude.{◌≡◌, ◌<◌, List, Some, length, sym, subst, arith, slice_get, slice_index_or, slice_get-get_or, ProcId, tree_at, terms_at}
 use Rattle.local_tables.proofs.Following.{begin_at, end_at, map_at}
 use Rattle.local_tables.proofs.Walking.{reached}
 use Rattle.local_tables.proofs.exploring.follow.Goals as goal
@@ -13,35 +8,26 @@ there : (read terms : List ProcId) (at : _) → read ≡ terms → at < length t
 there read terms at same inside =
     subst (λ (ids : List ProcId). slice_get terms at ≡ Some (slice_index_or ids at (record { 0 = 0 }))) (sym same) (slice_get-get_or terms at (record { 0 = 0 }) inside)
 
--- a fault of an evaluation
-lacks_value : {A : Type 0} (task : Task) (x : Proc) (r : Result A EvalFault) (f : EvalFault) → r ≡ Err f → Reaches task.program.now (part_of task) x
-    → FaultIs r (steps_of task.program.now x) → TaskLacks task (valueless f)
-lacks_value task x r evaluation.NoMemory is reached told = tt
-lacks_value {A} task x r (evaluation.Value reason) is reached told =
-    record { term = x; reached = reached; none = subst (λ (z : Result A EvalFault). FaultIs z (steps_of task.program.now x)) is told }
-
-told : {T : Type 0} (r : Result T Unexplored) (e : Unexplored) (task : Task) → IsErrAnd r (λ z. z ≡ e) → TaskLacks task e → IfErr r (TaskLacks task)
-told (Ok x) e task is h = tt
-told (Err z) e task is h = subst (TaskLacks task) (sym is) h
-
-pub returns-in_err-steps-clause-fault : goal.returns-in_err-steps-clause-fault
-returns-in_err-steps-clause-fault c =
+pub returns-in-Err-Told-clause-fault : goal.returns-in-Err-Told-clause-fault
+returns-in-Err-Told-clause-fault c =
     let task = c.args.task.now in
     let found = c.args.found.now in
     let trees = c.args.terms.now.pool in
     let id : ProcId = slice_index_or c.as_slice.result.now c.args.at (record { 0 = 0 }) in
     let here = map_at (tree_at trees) found.terms c.args.at id (there c.as_slice.result.now found.terms c.args.at c.as_slice.ensures.value c.requires.here) in
-    told c.from_residual.result (valueless c.in_err-steps.field-0.0) task c.from_residual.ensures.1
-    (lacks_value task (tree_at trees id) c.steps_in.result c.in_err-steps.field-0.0 c.in_err-steps.was
-    (reached task (terms_at trees found.terms) found.origins c.requires.up_to.found.led c.args.at (tree_at trees id) here) c.steps_in.ensures.fault)
+    record {
+      term = tree_at trees id;
+      reached = reached task (terms_at trees found.terms) found.origins c.requires.up_to.found.led c.args.at (tree_at trees id) here;
+      none = rw c.in-Err-Told.field-0-is at c.in-Err-Told.ensures.fault;
+    }
 
 pub loop-place-init : goal.loop-place-init
 loop-place-init c =
     let found = c.args.found.now in
-    begin_at c.args.task.now c.args.terms.now.pool c.steps_in.new.pool found c.args.at c.in_ok-steps.steps (slice_index_or c.as_slice.result.now c.args.at (record { 0 = 0 })) c.requires.up_to
-    c.in_ok-steps.ensures.front (there c.as_slice.result.now found.terms c.args.at c.as_slice.ensures.value c.requires.here) c.in_ok-steps.ensures.steps
+    begin_at c.args.task.now c.args.terms.now.pool c.steps_in.new.pool found c.args.at c.in-Ok.steps (slice_index_or c.as_slice.result.now c.args.at (record { 0 = 0 })) c.requires.up_to
+    c.in-Ok.ensures.front (there c.as_slice.result.now found.terms c.args.at c.as_slice.ensures.value c.requires.here) c.in-Ok.ensures.steps
 
 pub returns-clause-up_to : goal.returns-clause-up_to
 returns-clause-up_to c =
-    end_at c.args.task.now c.steps_in.new.pool c.loop-place.found c.args.at c.in_ok-steps.steps c.loop-place.place c.loop-place.invariant
+    end_at c.args.task.now c.steps_in.new.pool c.loop-place.found c.args.at c.in-Ok.steps c.loop-place.place c.loop-place.invariant
     (omega (arith, c.len-place-end.ensures, c.loop-place-test.false))

@@ -1,5 +1,4 @@
-use Rattle.local_tables.proofs.Prelude.{◌∙◌, ap, eq_id}
-use Rattle.containers.specs.Members.{with_new}
+use Rattle.local_tables.proofs.Prelude.{◌∙◌, ap, eq_id, with_new}
 use Rattle.local_tables.proofs.Ending.{first_tabled, first_up_to}
 use Rattle.local_tables.proofs.found.begin.Goals as goal
 

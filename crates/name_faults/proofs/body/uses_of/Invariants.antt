@@ -1,5 +1,4 @@
-use Rattle.name_faults.proofs.Prelude.{◌≡◌, ◌++◌, drop, map, use_of, seen}
-use Rattle.std.specs.List.{flat_map}
+use Rattle.name_faults.proofs.Prelude.{◌≡◌, ◌++◌, drop, map, use_of, seen, flat_map}
 use Rattle.name_faults.proofs.body.uses_of.Given as goal
 
 abbrev pub invariant-loop-said : goal.invariant-loop-said

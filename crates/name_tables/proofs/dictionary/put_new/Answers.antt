@@ -1,6 +1,4 @@
-use Rattle.name_tables.proofs.Prelude.{◌∙◌, nat_eq, first_of}
-use Rattle.std.specs.Cmp.Lexicographic.{pointwise}
-use Rattle.indexmap.proofs.CallerLemmas.{insert_entry-new}
+use Rattle.name_tables.proofs.Prelude.{◌∙◌, nat_eq, first_of, pointwise, insert_entry-new}
 use Rattle.name_tables.proofs.NameLemmas.{none_there}
 use Rattle.name_tables.proofs.dictionary.put_new.Goals as goal
 

@@ -1,5 +1,4 @@
-use Rattle.std.proofs.Common.{◌+◌, ◌++◌, refl, arith}
-use Rattle.script_names.specs.Contents.{parameters}
+use Rattle.name_tables.proofs.Prelude.{◌+◌, ◌++◌, refl, arith, parameters}
 use Rattle.name_tables.proofs.DeclaredLemmas.{parameters_end, parameters_step}
 use Rattle.name_tables.proofs.ends.bind_all.Goals as goal
 

@@ -1,5 +1,4 @@
-use Rattle.std.proofs.Common.{◌≡◌, ◌++◌, drop}
-use Rattle.script_names.specs.Contents.{parameters}
+use Rattle.name_tables.proofs.Prelude.{◌≡◌, ◌++◌, drop, parameters}
 use Rattle.name_tables.proofs.ends.bind_all.Given as goal
 
 abbrev pub invariant-loop-x : goal.invariant-loop-x

@@ -1,6 +1,5 @@
-use Rattle.name_tables.proofs.Prelude.{◌≡◌, ◌++◌, ◌∙◌, ap, parameters, Scope, names_of}
+use Rattle.name_tables.proofs.Prelude.{◌≡◌, ◌++◌, ◌∙◌, ap, parameters, Scope, names_of, names_of-parameters}
 use Rattle.name_tables.proofs.ends.ends_under.Goals as goal
-use Rattle.script_names.proofs.Scopes.{names_of-parameters}
 
 pub returns : goal.returns
 returns c =

@@ -1,5 +1,4 @@
-use Rattle.name_tables.proofs.Prelude.{◌∙◌, Some, ap, subst, sym, rules, Writes, at_name}
-use Rattle.std.specs.Option.{option_copied_mut}
+use Rattle.name_tables.proofs.Prelude.{◌∙◌, Some, ap, subst, sym, rules, Writes, at_name, option_copied_mut}
 use Rattle.name_tables.proofs.SpellingLemmas.{never_absent, updates_at}
 use Rattle.name_tables.proofs.numbers.rewrite.Goals as goal
 

@@ -1,5 +1,4 @@
-use Rattle.name_tables.proofs.Prelude.{◌≡◌, ◌∙◌, Some, map, subst, shown, Writes, at_name}
-use Rattle.script_names.specs.Typed.{number_of}
+use Rattle.name_tables.proofs.Prelude.{◌≡◌, ◌∙◌, Some, map, subst, shown, Writes, at_name, number_of}
 use Rattle.name_tables.proofs.ScopeLemmas.{bound-kept, bound-numbers}
 use Rattle.name_tables.proofs.scope.bind_in.Goals as goal
 

@@ -1,10 +1,8 @@
-use Rattle.network_layout.proofs.Prelude.{◌<◌, ◌≡◌, ◌∷◌, ap, ◌∙◌, arith, rules, subst, with_bound, bound_to, the_lemmas, Lays, node, one_operand, place_of}
-use Rattle.csp_atoms.specs.declared.value.Value.TheVariants.{One}
+use Rattle.network_layout.proofs.Prelude.{◌<◌, ◌≡◌, ◌∷◌, ap, ◌∙◌, arith, rules, subst, with_bound, bound_to, the_lemmas, Lays, node, one_operand, place_of, One, with_bound-last}
 use Rattle.network_layout.proofs.EachSteps.{each_begin, each_end, each_fault, each_next}
 use Rattle.network_layout.proofs.Equations.{layer-Each, layer-Pair, walked_at}
 use Rattle.network_layout.proofs.Laid.{pair_laid, passes}
 use Rattle.network_layout.proofs.walk.+walk.Goals as goal
-use Rattle.value_operators.proofs.NameLaws.{with_bound-last}
 
 pub walk-returns-in-Leaf : goal.walk-returns-in-Leaf
 unfolding node

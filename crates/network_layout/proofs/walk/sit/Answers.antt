@@ -1,8 +1,6 @@
-use Rattle.network_layout.proofs.Prelude.{ap, arith, length, ◌<◌, ◌∙◌, union_of, component, place_of}
-use Rattle.csp_base.proofs.Results.{pushed}
+use Rattle.network_layout.proofs.Prelude.{ap, arith, length, ◌<◌, ◌∙◌, union_of, component, place_of, pushed, MOST_COMPONENTS}
 use Rattle.network_layout.proofs.Laid.{component_laid}
 use Rattle.network_layout.proofs.walk.sit.Goals as goal
-use Rattle.dl_limits.specs.declared.TheConstants.{MOST_COMPONENTS}
 
 pub returns : goal.returns
 returns c =

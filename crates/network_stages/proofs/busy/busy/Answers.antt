@@ -1,5 +1,4 @@
-use Rattle.network_stages.proofs.Prelude.{◌<◌, List, length, subst, HasForm, Part, IsReached}
-use Rattle.net_sound.proofs.Within.{part_form}
+use Rattle.network_stages.proofs.Prelude.{◌<◌, List, length, subst, HasForm, Part, IsReached, part_form}
 use Rattle.network_stages.proofs.Reading.{part_read}
 use Rattle.network_stages.proofs.Stopping.{parts_more}
 use Rattle.network_stages.proofs.busy.busy.Goals as goal

@@ -1,4 +1,4 @@
-use Rattle.std.proofs.Common.{Err, ap, refl, ◌∙◌}
+use Rattle.std.proofs.Common.{refl, ◌∙◌}
 use Rattle.network_stages.proofs.MadeParts.{is_part}
 use Rattle.network_stages.proofs.SetsOfTables.{few_sets, many_sets}
 use Rattle.network_stages.proofs.parts.part_of.Goals as goal
@@ -18,4 +18,4 @@ returns-in-Ok-clause-few c = few_sets c.args.program.now c.args.seat.now c.args.
 
 pub returns-clause-told : goal.returns-clause-told
 returns-clause-told c =
-    (many_sets c.args.program.now c.args.seat.now c.args.table.now c.requires (c.normalise.ensures.limit (c.in-Err-SubsetLimit.is ∙ ap Err c.in-Err-SubsetLimit.field-0-is)), refl)
+    (many_sets c.args.program.now c.args.seat.now c.args.table.now c.requires (rw c.in-Err-Told.field-0-is at c.in-Err-Told.ensures.limit), refl)

@@ -1,7 +1,6 @@
-use Rattle.network_stages.proofs.Prelude.{◌≤◌, List, length, sym, subst, ◌∙◌, leaves, Part, TripleDisjoint, alphabets_of, IsSpelled, Network, IsApart}
+use Rattle.network_stages.proofs.Prelude.{◌≤◌, List, length, sym, subst, ◌∙◌, leaves, Part, TripleDisjoint, alphabets_of, IsSpelled, Network, IsApart, MOST_COMPONENTS}
 use Rattle.network_stages.proofs.Shaping.{few_parts, is_apart, no_three, parts_apart}
 use Rattle.network_stages.proofs.shapes.make_shape.Goals as goal
-use Rattle.dl_limits.specs.declared.TheConstants.{MOST_COMPONENTS}
 
 pub shape_of-requires-in-Ok-clause-most : goal.shape_of-requires-in-Ok-clause-most
 shape_of-requires-in-Ok-clause-most c =

@@ -1,5 +1,4 @@
-use Rattle.network_walks.proofs.Prelude.{AreTargets, ProcessStep}
-use Rattle.csp_steps.proofs.Targets.{targets_one}
+use Rattle.network_walks.proofs.Prelude.{AreTargets, ProcessStep, targets_one}
 use Rattle.network_walks.proofs.One.{the_walk_is_one}
 use Rattle.network_walks.proofs.Runs.{no_move_means_stuck, stuck_is_not_live, stuck_walks_refute_live, walks_are_runs}
 use Rattle.network_walks.proofs.laws.walks_are_runs.Goals as goal

@@ -1,5 +1,4 @@
-use Rattle.network_walks.proofs.Prelude.{rules, IsWalked}
-use Rattle.report.proofs.Points.{at_refusal, at_want, goes_on}
+use Rattle.network_walks.proofs.Prelude.{rules, IsWalked, at_refusal, at_want, goes_on}
 use Rattle.network_walks.proofs.Telling.{tells_walk}
 use Rattle.network_walks.proofs.walking.walk_network.Goals as goal
 

@@ -1,5 +1,4 @@
-use Rattle.normal_form.proofs.Prelude.{[], ◌∷◌, ◌++◌, ◌∙◌, refl, arith, numbered_step}
-use Rattle.std.proofs.lemmas.Option.{slice_get_within}
+use Rattle.normal_form.proofs.Prelude.{[], ◌∷◌, ◌++◌, ◌∙◌, refl, arith, numbered_step, slice_get_within}
 use Rattle.normal_form.proofs.Marking.{same_sets, same_itself, accept_at, all_marked, item_read}
 use Rattle.normal_form.proofs.marks.accept_marks.Goals as goal
 

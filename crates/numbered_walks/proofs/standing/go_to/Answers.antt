@@ -1,7 +1,6 @@
-use Rattle.numbered_walks.proofs.Prelude.{◌≤◌, Bool, get_or, set, refl, sym, ap, subst, ◌∙◌, arith, can_do, is_unstable, bit, component_at, Numbered}
+use Rattle.numbered_walks.proofs.Prelude.{◌≤◌, Bool, get_or, set, refl, sym, ap, subst, ◌∙◌, arith, can_do, is_unstable, bit, component_at, Numbered, MOST_COMPONENTS}
 use Rattle.numbered_walks.proofs.Stepping.{component_read, offered, offers_read, offers_within, put_there, room_there, term_read}
 use Rattle.numbered_walks.proofs.standing.go_to.Goals as goal
-use Rattle.dl_limits.specs.declared.TheConstants.{MOST_COMPONENTS}
 
 pub exchange-requires : goal.exchange-requires
 exchange-requires c =

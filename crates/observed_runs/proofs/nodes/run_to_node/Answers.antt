@@ -1,6 +1,5 @@
-use Rattle.observed_runs.proofs.Prelude.{◌≡◌, ◌∙◌, ℕ, List, ap, sym, IsRun, end_of, pair_at}
+use Rattle.observed_runs.proofs.Prelude.{◌≡◌, ◌∙◌, ℕ, List, ap, sym, IsRun, end_of, pair_at, IfOk-weaker}
 use Rattle.observed_runs.proofs.nodes.run_to_node.Goals as goal
-use Rattle.std.proofs.lemmas.Result.{IfOk-weaker}
 
 pub returns-clause-follows : goal.returns-clause-follows
 returns-clause-follows c =

@@ -1,11 +1,8 @@
-use Rattle.std.proofs.Common.{◌≡◌, ℕ, ◌+◌, ◌*◌, ◌≤◌, max, min, map, drop}
-use denote.Param.Weighed as weighed
+use Rattle.pool_parts.proofs.Prelude.{◌≡◌, ℕ, ◌+◌, ◌*◌, ◌≤◌, max, min, map, drop, expr_depth, gen_depth, part_depth, any_of, expr_free, gen_binding, nowhere, part_free, under, expr_size, gen_size, part_size, capped, IsLow, greatest, total}
 use Rattle.csp_program.proofs.expressions.Expr.TheLaws.{the_size}
+use denote.Param.Weighed as weighed
 use Rattle.csp_program.proofs.expressions.Gen.TheLaws as generator
-use Rattle.csp_program.specs.Prelude.{expr_depth, gen_depth, part_depth, any_of, expr_free, gen_binding, nowhere, part_free, under, expr_size, gen_size, part_size}
-use Rattle.pool_parts.specs.Prelude.{capped, IsLow}
 use Rattle.pool_parts.proofs.measured.+of_expr.Given as goal
-use Rattle.csp_base.specs.Lists.{greatest, total}
 
 -- what is measured so far, together with the rest, is all
 abbrev pub invariant-of_exprs-loop-expr : goal.invariant-of_exprs-loop-expr

@@ -1,8 +1,5 @@
-use Rattle.std.proofs.Common.{◌≡◌, ℕ, ◌+◌, ◌≤◌, max, min, map, drop}
-use Rattle.csp_program.specs.Prelude.{field_depth, before, nowhere, field_size}
-use Rattle.pool_parts.specs.Prelude.{capped, IsLow}
+use Rattle.pool_parts.proofs.Prelude.{◌≡◌, ℕ, ◌+◌, ◌≤◌, max, min, map, drop, field_depth, before, nowhere, field_size, capped, IsLow, greatest, total}
 use Rattle.pool_parts.proofs.measured.of_fields.Given as goal
-use Rattle.csp_base.specs.Lists.{greatest, total}
 
 -- what is measured so far, together with the rest, is all
 abbrev pub invariant-loop-field : goal.invariant-loop-field

@@ -1,8 +1,5 @@
-use Rattle.std.proofs.Common.{◌≡◌, ℕ, ◌+◌, ◌≤◌, max, min, map, drop}
-use Rattle.csp_program.specs.Prelude.{pair_depth, any_of, pair_free, pair_size}
-use Rattle.pool_parts.specs.Prelude.{capped, IsLow}
+use Rattle.pool_parts.proofs.Prelude.{◌≡◌, ℕ, ◌+◌, ◌≤◌, max, min, map, drop, pair_depth, any_of, pair_free, pair_size, capped, IsLow, greatest, total}
 use Rattle.pool_parts.proofs.measured.of_pairs.Given as goal
-use Rattle.csp_base.specs.Lists.{greatest, total}
 
 -- what is measured so far, together with the rest, is all
 abbrev pub invariant-loop-pair : goal.invariant-loop-pair

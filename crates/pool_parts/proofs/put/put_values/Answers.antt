@@ -1,7 +1,5 @@
 -- A part none of whose names gets a value stays as it is.
-use Rattle.std.proofs.Common.{Some, get_or, ap, sym, ◌∙◌}
-use Rattle.std.proofs.lemmas.Option.{slice_get-get_or}
-use Rattle.csp_program.specs.Substitution.{given_by}
+use Rattle.pool_parts.proofs.Prelude.{Some, get_or, ap, sym, ◌∙◌, slice_get-get_or, given_by}
 use Rattle.pool_parts.proofs.LowLemmas.{get_none}
 use Rattle.pool_parts.proofs.put.put_values.Goals as goal
 

@@ -1,6 +1,5 @@
 -- The part at the place is the same one, since `==` is exact.
-use Rattle.std.proofs.Common.{Some, sym, ap, ◌∙◌}
-use Rattle.std.specs.Option.{option_copied}
+use Rattle.pool_parts.proofs.Prelude.{Some, sym, ap, ◌∙◌, option_copied}
 use Rattle.pool_parts.proofs.store.is_at.Goals as goal
 
 pub returns-in-Some : goal.returns-in-Some

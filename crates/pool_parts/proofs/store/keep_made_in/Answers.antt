@@ -1,6 +1,5 @@
 -- Where a part was made it is the one that is asked for.
-use Rattle.std.proofs.Common.{◌≡◌, Some, slice_get, subst}
-use Rattle.std.specs.Prelude.{IfOk}
+use Rattle.pool_parts.proofs.Prelude.{◌≡◌, Some, slice_get, subst, IfOk}
 use Rattle.pool_parts.proofs.store.keep_made_in.Goals as goal
 
 pub returns-clause-place : goal.returns-clause-place

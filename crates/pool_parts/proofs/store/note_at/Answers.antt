@@ -1,6 +1,5 @@
 -- What is noted at the place is noted of the part there.
-use Rattle.std.proofs.Common.{ap, sym, ◌∙◌}
-use Rattle.std.specs.Option.{option_copied}
+use Rattle.pool_parts.proofs.Prelude.{ap, sym, ◌∙◌, option_copied}
 use Rattle.pool_parts.proofs.StoreLemmas.{noted_at}
 use Rattle.pool_parts.proofs.store.note_at.Goals as goal
 

@@ -1,7 +1,5 @@
-use Rattle.resource_conditions.proofs.Prelude.{◌≤◌, ◌∙◌, length, inl, inr, ap, sym, cases_lt, false≢true, Shape, inter_of}
-use Rattle.csp_tables.specs.Shape.{Link}
+use Rattle.resource_conditions.proofs.Prelude.{◌≤◌, ◌∙◌, length, inl, inr, ap, sym, cases_lt, false≢true, Shape, inter_of, Link, link_past}
 use Rattle.resource_conditions.proofs.Sets.{inter_none}
-use Rattle.shape_links.proofs.Links.{link_past}
 use Rattle.resource_conditions.proofs.tests.on_link.Goals as goal
 
 pub returns-in-None : goal.returns-in-None

@@ -1,5 +1,4 @@
-use Rattle.resource_rule.proofs.Prelude.{◌<◌, ◌≤◌, ◌+◌, ◌∙◌, ℕ, [], List, ap, length, replicate, subst, sym, arith, IfOk-weaker, Link, Shape, HasArc, AddsArcs, Below, HoldsWhile, LeadsToSome}
-use Rattle.std.proofs.lemmas.List.{length-replicate, with_items_is}
+use Rattle.resource_rule.proofs.Prelude.{◌<◌, ◌≤◌, ◌+◌, ◌∙◌, ℕ, [], List, ap, length, replicate, subst, sym, arith, IfOk-weaker, Link, Shape, HasArc, AddsArcs, Below, HoldsWhile, LeadsToSome, length-replicate, with_items_is}
 use Rattle.resource_rule.proofs.Adding.{adds_below_none, adds_more}
 use Rattle.resource_rule.proofs.Holding.{arcs_complete, arcs_sound, members_within}
 use Rattle.resource_rule.proofs.holdings.holdings.Goals as goal

@@ -1,5 +1,4 @@
-use Rattle.resource_rule.proofs.Prelude.{◌∙◌, ◌||◌, ℕ, List, ap, get_or, nat_eq, sym, take, list_any_more, or_comm, has}
-use Rattle.csp_base.proofs.SetLaws.{has-with_member}
+use Rattle.resource_rule.proofs.Prelude.{◌∙◌, ◌||◌, ℕ, List, ap, get_or, nat_eq, sym, take, list_any_more, or_comm, has, has-with_member}
 use Rattle.resource_rule.proofs.nodes.link_set.Goals as goal
 
 pub loop-link-preserved : goal.loop-link-preserved

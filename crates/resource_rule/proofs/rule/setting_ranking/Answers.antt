@@ -1,6 +1,4 @@
-use Rattle.std.proofs.Common.{length}
-use Rattle.design_rules.specs.ResourceRanking.{top_number}
-use Rattle.rule_rankings.specs.ResourceRanks.{number_by}
+use Rattle.resource_rule.proofs.Prelude.{length, top_number, number_by}
 use Rattle.resource_rule.proofs.rule.setting_ranking.Goals as goal
 
 pub returns-clause-resource : goal.returns-clause-resource

@@ -1,5 +1,4 @@
-use Rattle.rule_rankings.proofs.Prelude.{◌≡◌, ◌≤◌, MOST_COMPONENTS, number_by}
-use Rattle.design_rules.specs.ResourceRanking.{top_number}
+use Rattle.rule_rankings.proofs.Prelude.{◌≡◌, ◌≤◌, MOST_COMPONENTS, number_by, top_number}
 use Rattle.rule_rankings.proofs.resource.top.Given as goal
 
 abbrev pub invariant-loop-part : goal.invariant-loop-part

@@ -1,5 +1,4 @@
-use Rattle.script_contents.proofs.Prelude.{◌≤◌, arith, flat_map, channels_by, declaration_size, size, size_at}
-use Rattle.name_tables.proofs.DeclaredLemmas.{flat_end, flat_step}
+use Rattle.script_contents.proofs.Prelude.{◌≤◌, arith, flat_map, channels_by, declaration_size, size, size_at, flat_end, flat_step}
 use Rattle.script_contents.proofs.channels.channels.Goals as goal
 
 pub add_channels-requires : goal.add_channels-requires

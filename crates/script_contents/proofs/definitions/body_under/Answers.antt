@@ -1,6 +1,5 @@
-use Rattle.std.proofs.Common.{◌≡◌, ◌++◌, IfOk, subst, ◌∙◌, ap}
+use Rattle.script_contents.proofs.Prelude.{◌≡◌, ◌++◌, IfOk, subst, ◌∙◌, ap, parameters}
 use Rattle.script_contents.proofs.BodyLaws.{body_is}
-use Rattle.script_names.specs.Contents.{parameters}
 use Rattle.script_contents.proofs.definitions.body_under.Goals as goal
 
 pub returns : goal.returns

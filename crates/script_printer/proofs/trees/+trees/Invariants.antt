@@ -1,7 +1,7 @@
 use Rattle.script_printer.proofs.Prelude.{◌≡◌, ◌+◌, ◌*◌, ◌++◌, ◌∷◌, drop, max, flat_map, Comma, Dot, spaced, field_tokens, gen_tokens, item_tokens, operand_tokens, part_tokens, renamed_tokens, separated}
+use Rattle.csp_text.proofs.tree.Tree.TheLaws.{the_size}
 use denote.Param.Weighed as weighed
 use Rattle.csp_text.proofs.tree.GenTree.TheLaws as generator
-use Rattle.csp_text.proofs.tree.Tree.TheLaws.{the_size}
 use Rattle.csp_text.specs.declared.token.Token.TheVariants as token
 use Rattle.script_printer.proofs.Written.{left_separated}
 use Rattle.script_printer.proofs.trees.+trees.Given as goal

@@ -1,8 +1,6 @@
-use Rattle.step_values.proofs.Prelude.{ℕ, List, [], ◌∷◌, cond, ◌++◌, ap, sym, ◌∙◌, arith, nat_eq, or_itself, events_or_none, named_for}
-use Rattle.std.specs.Map.{lookup}
+use Rattle.step_values.proofs.Prelude.{ℕ, List, [], ◌∷◌, cond, ◌++◌, ap, sym, ◌∙◌, arith, nat_eq, or_itself, events_or_none, named_for, lookup, take_all}
 use Rattle.step_values.proofs.Naming.{more_named}
 use Rattle.step_values.proofs.images.images_by_event.Goals as goal
-use Rattle.std.proofs.lemmas.List.{take_all}
 
 pub loop-pair-init : goal.loop-pair-init
 loop-pair-init c = λ e. ap (λ (entries : List (ℕ × List ℕ)). events_or_none (lookup (nat_eq e) entries)) c.new.ensures.empty

@@ -1,5 +1,4 @@
-use Rattle.step_values.proofs.Prelude.{◌≡◌, ◌++◌, map, take, One, literals}
-use Rattle.csp_program.specs.declared.expressions.Expr.TheVariants.{Lit}
+use Rattle.step_values.proofs.Prelude.{◌≡◌, ◌++◌, map, take, One, literals, Lit}
 use Rattle.step_values.proofs.renamed.literals_then.Given as goal
 
 abbrev pub invariant-loop-atom : goal.invariant-loop-atom

@@ -10,14 +10,14 @@ bindings-init c = record {
 
 pub returns-in_err-binding_under : goal.returns-in_err-binding_under
 returns-in_err-binding_under c =
-    binding_passed _ _ _ _ _ _ _ _ c.from_residual-in_err-binding_under.ensures.1 c.in_err-binding_under.ensures
+    binding_passed _ _ _ _ c.from_residual-in_err-binding_under.ensures.1 c.in_err-binding_under.ensures
     (λ k e. c.bindings.invariant.same ∙ over_fault (binding_renamed c.args.scope.now.program.now c.args.scope.now.pairs.now) _ (gathering_of c.bindings.tally) k e)
 
 pub returns-in_err-tally : goal.returns-in_err-tally
 returns-in_err-tally c =
     let found = rw c.if-branch.true at c.in_ok-binding_under.ensures in
     walk_passed _ _ _ _ c.from_residual-in_err-tally.ensures.1 c.in_err-tally.ensures
-    (λ k e. gathering_fault (binding_renamed c.args.scope.now.program.now c.args.scope.now.pairs.now) _ _ _ _ _ (gathering_of c.bindings.tally) k c.bindings.invariant.same found.0 (ap (λ bs. with_bound bs []) c.bound.ensures) e)
+    (λ k e. gathering_fault (binding_renamed c.args.scope.now.program.now c.args.scope.now.pairs.now) _ _ _ _ _ (gathering_of c.bindings.tally) k c.bindings.invariant.same found.0 (ap (λ bs. with_bound bs []) c.bound_names.ensures) e)
 
 pub bindings-smaller : goal.bindings-smaller
 bindings-smaller c = let found = rw c.if-branch.true at c.in_ok-binding_under.ensures in binding_less _ _ _ found.0
@@ -27,7 +27,7 @@ bindings-preserved c =
     let found = rw c.if-branch.true at c.in_ok-binding_under.ensures in
     record {
       same = gathering_next (binding_renamed c.args.scope.now.program.now c.args.scope.now.pairs.now) _ _ _ _ _ (gathering_of c.bindings.tally) (gathering_of c.in_ok-tally.tally) c.bindings.invariant.same found.0
-          (ap (λ bs. with_bound bs []) c.bound.ensures) c.in_ok-tally.ensures;
+          (ap (λ bs. with_bound bs []) c.bound_names.ensures) c.in_ok-tally.ensures;
       under = found.1;
     }
 

@@ -17,7 +17,7 @@ prefix-returns t c =
     if_map c.put_head.result _ c.map.result (λ head. proc.Prefix head c.in_ok-fields.fields c.in_ok-fields.p) _ _ c.map.ensures.cases (λ x y r. search rules)
     (λ head is i. proc.Prefix (is i) (c.in_ok-fields.ensures.fields i) (c.in_ok-fields.ensures.process i)) c.put_head.ensures
 
-pub replicated-returns-clause-process : goal.replicated-returns-clause-process
-replicated-returns-clause-process t c =
+pub replication-returns-clause-process : goal.replication-returns-clause-process
+replication-returns-clause-process t c =
     if_map c.put_expr.result _ c.map.result (λ set. (set, c.in_ok-p.p)) _ _ c.map.ensures.cases (λ x y r. search rules)
     (λ set is. c.in_ok-p.ensures ∙ ap (λ (given : Given). proc_with given c.args.p.now) c.in_ok-here.ensures) c.put_expr.ensures

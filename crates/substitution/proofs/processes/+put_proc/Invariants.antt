@@ -25,8 +25,8 @@ decreases-prefix l = 4 * the_size l.p.now + 3
 abbrev pub decreases-guard : goal.decreases-guard
 decreases-guard l = 4 * the_size l.p.now + 3
 
-abbrev pub decreases-replicated : goal.decreases-replicated
-decreases-replicated l = 4 * the_size l.p.now + 3
+abbrev pub decreases-replication : goal.decreases-replication
+decreases-replication l = 4 * the_size l.p.now + 3
 
 abbrev pub decreases-hiding : goal.decreases-hiding
 decreases-hiding l = 4 * the_size l.p.now + 3

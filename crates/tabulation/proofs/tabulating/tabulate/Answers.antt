@@ -1,7 +1,4 @@
-use Rattle.std.proofs.Common.{rules}
-use Rattle.report.proofs.Points.{at_refusal, at_want, goes_on}
-use Rattle.report.specs.Points.Point.{passed}
-use Rattle.tabulation.specs.Tabulated.{IsTabulated}
+use Rattle.tabulation.proofs.Prelude.{rules, at_refusal, at_want, goes_on, passed, IsTabulated}
 use Rattle.tabulation.proofs.tabulating.tabulate.Goals as goal
 
 pub returns-in_err-chosen : goal.returns-in_err-chosen

@@ -1,28 +1,22 @@
-use Rattle.std.proofs.Common.{◌≡◌, ℕ, length, refl, subst}
-use Rattle.csp_tables.specs.Prelude.{SilentStep, RawStep}
-use Rattle.digraph.specs.Prelude.{HasArc, AreHeights, IsLeastCircle}
-use Rattle.digraph.proofs.WalkLaws.{same_heights, same_least_circle, same_no_circle}
-use Rattle.tau_order.specs.SilentRows.{AreSilentRows}
+use Rattle.tau_order.proofs.Prelude.{ℕ, length, rules, subst, Tells, SilentStep, RawStep, HasArc, AreHeights, IsLeastCircle, tells_weaker, same_heights, same_least_circle, same_no_circle, AreSilentRows}
 use Rattle.tau_order.proofs.SilentWalks.{step_of, arc_of}
 use Rattle.tau_order.proofs.silent_runs.heights.Goals as goal
 
-pub returns-in-Ok-clause-heights : goal.returns-in-Ok-clause-heights
-returns-in-Ok-clause-heights c =
+pub returns-clause-heights : goal.returns-clause-heights
+returns-clause-heights c =
     let raw = c.args.table.now in
     let rows : AreSilentRows raw c.in_ok-rows.rows = c.in_ok-rows.ensures in
-    subst (λ (n : ℕ). AreHeights (SilentStep (RawStep raw)) n c.in-Ok.found) rows.size
-    (same_heights (HasArc c.in_ok-rows.rows) (SilentStep (RawStep raw)) (step_of raw c.in_ok-rows.rows rows) (arc_of raw c.in_ok-rows.rows rows) (length c.in_ok-rows.rows) c.in-Ok.found c.in-Ok.ensures.heights)
+    subst (λ (n : ℕ). AreHeights (SilentStep (RawStep raw)) n c.in_ok-found.found) rows.size
+    (same_heights (HasArc c.in_ok-rows.rows) (SilentStep (RawStep raw)) (step_of raw c.in_ok-rows.rows rows) (arc_of raw c.in_ok-rows.rows rows) (length c.in_ok-rows.rows) c.in_ok-found.found c.in_ok-found.ensures.heights)
 
-pub returns-in-Ok-clause-no_circle : goal.returns-in-Ok-clause-no_circle
-returns-in-Ok-clause-no_circle c =
+pub returns-clause-no_circle : goal.returns-clause-no_circle
+returns-clause-no_circle c =
     let raw = c.args.table.now in
     let rows : AreSilentRows raw c.in_ok-rows.rows = c.in_ok-rows.ensures in
-    same_no_circle (HasArc c.in_ok-rows.rows) (SilentStep (RawStep raw)) (arc_of raw c.in_ok-rows.rows rows) c.in-Ok.ensures.no_circle
+    same_no_circle (HasArc c.in_ok-rows.rows) (SilentStep (RawStep raw)) (arc_of raw c.in_ok-rows.rows rows) c.in_ok-found.ensures.no_circle
 
-pub returns-clause-circle : goal.returns-clause-circle
-returns-clause-circle c terms is =
+pub returns-in_err-found-clause-circle : goal.returns-in_err-found-clause-circle
+returns-in_err-found-clause-circle c =
     let raw = c.args.table.now in
-    let rows : AreSilentRows raw c.in_ok-rows.rows = c.in_ok-rows.ensures in
-    let found : IsLeastCircle (SilentStep (RawStep raw)) c.in-Err-Circle.circle = same_least_circle (HasArc c.in_ok-rows.rows) (SilentStep (RawStep raw)) (step_of raw c.in_ok-rows.rows rows) c.in-Err-Circle.circle (c.in-Err-Circle.ensures.circle c.in-Err-Circle.circle (rw c.in-Err-Circle.field-0-is refl)) in
-    let same : c.in-Err-Circle.circle ≡ terms = cc in
-    subst (IsLeastCircle (SilentStep (RawStep raw))) same found
+    let told : Tells (IsLeastCircle (SilentStep (RawStep raw))) c.in_err-found.field-0.0 = tells_weaker _ _ (same_least_circle (HasArc c.in_ok-rows.rows) (SilentStep (RawStep raw)) (step_of raw c.in_ok-rows.rows c.in_ok-rows.ensures)) _ c.in_err-found.ensures.circle in
+    search rules

@@ -1,5 +1,4 @@
-use Rattle.std.proofs.Common.{◌<◌, length}
-use Rattle.csp_tables.proofs.Listed.{silent_at}
+use Rattle.tau_order.proofs.Prelude.{◌<◌, length, silent_at}
 use Rattle.tau_order.proofs.silent_runs.silent_rows.Goals as goal
 
 pub add_arc-requires-clause-from : goal.add_arc-requires-clause-from

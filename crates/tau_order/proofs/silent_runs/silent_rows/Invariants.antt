@@ -1,6 +1,4 @@
-use Rattle.std.proofs.Common.{◌≡◌, ℕ, nat_eq, ◌&&◌, length, take}
-use Rattle.std.specs.List.{list_any}
-use Rattle.digraph.specs.Digraph.{has_arc}
+use Rattle.tau_order.proofs.Prelude.{◌≡◌, ℕ, nat_eq, ◌&&◌, length, take, list_any, has_arc}
 use Rattle.tau_order.proofs.silent_runs.silent_rows.Given as goal
 
 abbrev pub invariant-loop-from : goal.invariant-loop-from

@@ -1,6 +1,5 @@
 -- Past the end of the list the place is 0.
-use Rattle.term_pool.proofs.Prelude.{Option, unwrap_or, sym, ap, ◌∙◌, unwrap_or-slice_get, ProcId}
-use Rattle.std.specs.Option.{option_copied}
+use Rattle.term_pool.proofs.Prelude.{Option, unwrap_or, sym, ap, ◌∙◌, unwrap_or-slice_get, ProcId, option_copied}
 use Rattle.term_pool.proofs.changed.at.Goals as goal
 
 pub returns-in-None : goal.returns-in-None

@@ -1,6 +1,5 @@
 -- Own parts first, and then places.
-use Rattle.term_pool.proofs.Prelude.{ap, ◌∙◌, Layer, moved}
-use Rattle.std.proofs.lemmas.Result.{IfOk-weaker}
+use Rattle.term_pool.proofs.Prelude.{ap, ◌∙◌, Layer, moved, IfOk-weaker}
 use Rattle.term_pool.proofs.EntryLemmas.{starts_both}
 use Rattle.term_pool.proofs.changed.made_entry.Goals as goal
 

@@ -1,7 +1,5 @@
 -- An entry that is known keeps its place; a new one is kept with its measure, or taken out again.
-use Rattle.term_pool.proofs.Prelude.{◌≡◌, true, false, List, [], ◌∷◌, ◌++◌, Some, slice_get, refl, sym, ap, ◌∙◌, subst, if◌then◌else◌, Ok, Err, AllocError, entry_layer, eq_entry, processes, trees_in, IsKept, Puts, IsNodeMeasure, Has, layer_tree, Entry, Measure}
-use Rattle.csp_base.specs.Standard.{is_member}
-use Rattle.std.proofs.lemmas.Bool.{not-false, not-true}
+use Rattle.term_pool.proofs.Prelude.{◌≡◌, true, false, List, [], ◌∷◌, ◌++◌, Some, slice_get, refl, sym, ap, ◌∙◌, subst, if◌then◌else◌, Ok, Err, AllocError, entry_layer, eq_entry, processes, trees_in, IsKept, Puts, IsNodeMeasure, Has, layer_tree, Entry, Measure, is_member, not-false, not-true}
 use Rattle.term_pool.proofs.KeptLemmas.{kept_push, on_err, puts_push, puts_there, puts_unknown, taken_out}
 use Rattle.term_pool.proofs.HeldLemmas.{puts_none}
 use Rattle.term_pool.proofs.kept.put_entry.Goals as goal

@@ -8,8 +8,8 @@ loop-id-preserved c = record {
   small = grind (arith, common_steps);
   below = grind (arith, common_steps);
   depth = grind (arith, common_steps);
-  least = least_more c.args.measures.now c.loop-id.all.least c.together-all.result.least c.args.ids.now c.loop-id.id-index (record { 0 = 0 }) c.at_place.result
-      c.loop-id-test.true c.together-all.ensures.least (c.at_place.ensures ∙ ap (measure_at c.args.measures.now) (get_or_default c.args.ids.now c.loop-id.id-index _ (record { 0 = 0 }) c.loop-id-test.true)) c.loop-id.invariant.least;
+  least = least_more c.args.measures.now c.loop-id.all.least c.join-all.result.least c.args.ids.now c.loop-id.id-index (record { 0 = 0 }) c.at_place.result
+      c.loop-id-test.true c.join-all.ensures.least (c.at_place.ensures ∙ ap (measure_at c.args.measures.now) (get_or_default c.args.ids.now c.loop-id.id-index _ (record { 0 = 0 }) c.loop-id-test.true)) c.loop-id.invariant.least;
   size = grind (arith, common_steps);
 }
 

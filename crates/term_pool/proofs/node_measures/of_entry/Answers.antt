@@ -6,11 +6,11 @@ use Rattle.term_pool.proofs.node_measures.of_entry.Goals as goal
 pub returns-clause-own : goal.returns-clause-own
 returns-clause-own c =
     let node = c.node.ensures.least in
-    let both = c.together.ensures.least in
+    let both = c.join.ensures.least in
     lower c.node.result.least c.of_own-own.result.least (own_free (entry_layer c.args.parts.now c.args.entry)) (omega (arith, node, both)) c.of_own-own.ensures.low
 
 pub returns-clause-places : goal.returns-clause-places
 returns-clause-places c =
     let node = c.node.ensures.least in
-    let both = c.together.ensures.least in
+    let both = c.join.ensures.least in
     least_lower c.args.measures.now c.node.result.least c.of_places.result.least (layer_parts (entry_layer c.args.parts.now c.args.entry)) (omega (arith, node, both)) c.of_places.ensures.least

@@ -1,6 +1,5 @@
 -- What a process becomes: from its own parts, and from what its sub-processes became.
-use Rattle.term_pool.proofs.Prelude.{◌≡◌, ℕ, ◌+◌, nat_eq, List, Some, take, slice_get, ap, sym, ◌∙◌, subst, arith, IfOk, slice_get-get_or, given_by, proc_with, Proc, parts, Grows, StandAt, all_with, tree_at, ProcId, was_made}
-use Rattle.std.specs.Map.{lookup}
+use Rattle.term_pool.proofs.Prelude.{◌≡◌, ℕ, ◌+◌, nat_eq, List, Some, take, slice_get, ap, sym, ◌∙◌, subst, arith, IfOk, slice_get-get_or, given_by, proc_with, Proc, parts, Grows, StandAt, all_with, tree_at, ProcId, was_made, lookup}
 use Rattle.csp_program.specs.declared.processes.Proc.TheVariants as proc
 use Rattle.term_pool.proofs.ValuesLemmas as made
 use Rattle.term_pool.proofs.PutLemmas as lemmas
@@ -30,7 +29,7 @@ put_all-loop-p-preserved t c =
 pub substitute_at-returns-in-Some-clause-process : goal.substitute_at-returns-in-Some-clause-process
 substitute_at-returns-in-Some-clause-process t c =
     made.made_after (given_by c.args.values.now) c.args.pool.now c.args.pool.now c.args.id.now c.in-Some.made c.requires.within (λ k q h. h)
-    (c.requires.visited c.args.id.now.0 c.in-Some.made (sym c.known.ensures ∙ c.in-Some.is))
+    (c.requires.visited c.args.id.now.0 c.in-Some.made (sym c.find_visited.ensures ∙ c.in-Some.is))
 
 pub substitute_at-returns-clause-visited : goal.substitute_at-returns-clause-visited
 substitute_at-returns-clause-visited t c =

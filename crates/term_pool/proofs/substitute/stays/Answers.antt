@@ -1,6 +1,5 @@
 -- No name that is free in the process gets a value.
-use Rattle.term_pool.proofs.Prelude.{proc_free, given_by, get_none, tree_at}
-use Rattle.substitution.proofs.Stays.{proc_stays}
+use Rattle.term_pool.proofs.Prelude.{proc_free, given_by, get_none, tree_at, proc_stays}
 use Rattle.term_pool.proofs.substitute.stays.Goals as goal
 
 pub returns : goal.returns

@@ -1,5 +1,4 @@
-use Rattle.std.proofs.Common.{◌<◌, length, ◌∙◌}
-use Rattle.acceptances.proofs.Terms.{step_from}
+use Rattle.term_sets.proofs.Prelude.{◌<◌, length, ◌∙◌, step_from}
 use Rattle.term_sets.proofs.MoveLists.{moves_more, length_more}
 use Rattle.term_sets.proofs.rows.add_steps.Goals as goal
 

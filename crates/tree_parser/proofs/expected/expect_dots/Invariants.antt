@@ -1,7 +1,4 @@
-use Rattle.std.proofs.Common.{◌≡◌, length}
-use Rattle.std.specs.Vec.Iter.{into_iter_items, into_iter_len}
-use Rattle.tree_reading.specs.Starts.{dot_fields}
-use Rattle.tree_reading.proofs.DotFields.{dots_with}
+use Rattle.tree_parser.proofs.Prelude.{◌≡◌, length, into_iter_items, into_iter_len, dot_fields, dots_with}
 use Rattle.tree_parser.proofs.expected.expect_dots.Given as goal
 
 -- the fields that are left are still to be looked at

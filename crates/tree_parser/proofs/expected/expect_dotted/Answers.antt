@@ -1,6 +1,4 @@
-use Rattle.std.proofs.Common.{sym, ap, ◌∙◌}
-use Rattle.csp_text.specs.Depth.{capped}
-use Rattle.tree_reading.specs.Starts.{dot_fields}
+use Rattle.tree_parser.proofs.Prelude.{sym, ap, ◌∙◌, capped, dot_fields}
 use Rattle.tree_parser.proofs.Depths.{of_dots}
 use Rattle.tree_parser.proofs.expected.expect_dotted.Goals as goal
 

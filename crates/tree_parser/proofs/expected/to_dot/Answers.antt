@@ -1,6 +1,4 @@
-use Rattle.std.proofs.Common.{sym, ap, ◌∙◌}
-use Rattle.tree_reading.specs.Starts.{dot_field}
-use Rattle.tree_reading.proofs.DotFields.{dot_is}
+use Rattle.tree_parser.proofs.Prelude.{sym, ap, ◌∙◌, dot_field, dot_is}
 use Rattle.tree_parser.proofs.expected.to_dot.Goals as goal
 
 pub returns-in-Dot : goal.returns-in-Dot

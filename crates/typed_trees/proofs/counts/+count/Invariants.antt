@@ -1,4 +1,5 @@
-use Rattle.typed_trees.proofs.Prelude.{◌≡◌, ◌+◌, ◌*◌, drop, max, the_size, all_tokens, fields_tokens, gens_tokens, parts_tokens, pairs_tokens}
+use Rattle.typed_trees.proofs.Prelude.{◌≡◌, ◌+◌, ◌*◌, drop, max, all_tokens, fields_tokens, gens_tokens, parts_tokens, pairs_tokens}
+use Rattle.csp_text.proofs.tree.Tree.TheLaws.{the_size}
 use Rattle.typed_trees.proofs.counts.+count.Given as goal
 
 -- what is counted so far and what is left are as many as all

@@ -1,5 +1,4 @@
-use Rattle.std.proofs.Common.{◌≡◌, drop}
-use Rattle.value_operators.specs.Forms.{lack_sets}
+use Rattle.value_operators.proofs.Prelude.{◌≡◌, drop, lack_sets}
 use Rattle.value_operators.proofs.numbers.lack_sets.Given as goal
 
 -- what is left decides

@@ -1,5 +1,4 @@
-use Rattle.std.proofs.Common.{nat_eq, rules}
-use Rattle.csp_base.specs.Standard.{pointwise}
+use Rattle.conformance.proofs.Prelude.{nat_eq, rules, pointwise}
 use Rattle.conformance.proofs.Decoding.{one_more_key, part_conforms}
 use Rattle.conformance.proofs.known.ConformingParts.check.Goals as goal
 

@@ -1,5 +1,4 @@
-use Rattle.determinise.proofs.Prelude.{◌≡◌, ℕ, true, List, [], ◌∷◌, ◌++◌, sym, subst, ◌∙◌, nat_eq, is_member, pointwise, cond-true, AreKnown}
-use Rattle.std.proofs.lemmas.Bool.{not-false, not-true}
+use Rattle.determinise.proofs.Prelude.{◌≡◌, ℕ, true, List, [], ◌∷◌, ◌++◌, sym, subst, ◌∙◌, nat_eq, is_member, pointwise, cond-true, AreKnown, not-false, not-true}
 use Rattle.determinise.proofs.KnownSets.{known_more}
 use Rattle.determinise.proofs.known.Known.add.Goals as goal
 

@@ -1,5 +1,5 @@
 use Rattle.digraph.proofs.Prelude.{◌≡◌, ◌+◌, ◌-◌, max, ◌<◌, length, set, take, ap, refl, arith, rules, with_item, Open, Done, mark_at, is_open}
-use Rattle.digraph.proofs.Results.{err_same}
+use Rattle.digraph.proofs.Results.{tells_weaker}
 use Rattle.digraph.proofs.Stepping.{below_fits, finished, less_finishing, less_raising, next_arc, opened, raised, read_at, step_of, top_follows, top_is_open, top_read, top_within}
 use Rattle.digraph.proofs.Turning.{circle_on_trail}
 use Rattle.digraph.proofs.walks.Search.look.Goals as goal
@@ -56,11 +56,10 @@ pub index_mut-requires-in-Done : goal.index_mut-requires-in-Done
 index_mut-requires-in-Done c = let h = top_within _ _ _ _ c.requires.search c.args.v c.requires.not_empty c.requires.last in omega (arith, h, c.args.self.now.marks.ok.0)
 
 pub returns-in-Open-index-clause-circle : goal.returns-in-Open-index-clause-circle
-returns-in-Open-index-clause-circle c vs told =
+returns-in-Open-index-clause-circle c =
     let r = c.requires in
     let arc = next_arc _ _ _ _ r.search _ _ _ (marked (goal.at.returns-in-Open-index-clause-circle c).In-Open) c.if-left-eq0.false _ c.target-w.ensures.value in
-    let t = c.circle_of.ensures vs (err_same _ _ _ _ refl refl told) in
-    circle_on_trail c.args.rows.now c.args.self.now.trail.items c.target-w.result vs r.search.walked.arcs r.search.walked.distinct (rw r.last arc) (rw c.deref.ensures.value at t)
+    tells_weaker _ _ (λ vs turned. circle_on_trail c.args.rows.now c.args.self.now.trail.items c.target-w.result vs r.search.walked.arcs r.search.walked.distinct (rw r.last arc) turned) _ (rw c.deref.ensures.value at c.circle_of.ensures)
 
 pub returns-in-Done-clause-step : goal.returns-in-Done-clause-step
 returns-in-Done-clause-step c =

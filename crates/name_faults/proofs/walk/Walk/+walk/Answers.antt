@@ -1,9 +1,8 @@
-use Rattle.name_faults.proofs.Prelude.{◌≡◌, ℕ, ◌+◌, ◌*◌, ◌<◌, ◌≤◌, map, max, append_assoc, arith, most, greatest, PartTree}
+use Rattle.name_faults.proofs.Prelude.{◌≡◌, ℕ, ◌+◌, ◌*◌, ◌<◌, ◌≤◌, map, max, append_assoc, arith, most, greatest, PartTree, field_depth, gen_depth, greatest_of_pairs, part_depth, tree_depth}
 use Rattle.csp_text.proofs.tree.FieldTree.TheLaws as field
 use Rattle.csp_text.proofs.tree.GenTree.TheLaws as generator
 use Rattle.csp_text.proofs.tree.PartTree.TheLaws as part
 use Rattle.csp_text.proofs.tree.Tree.TheLaws as tree
-use Rattle.csp_text.specs.Prelude.{field_depth, gen_depth, greatest_of_pairs, part_depth, tree_depth}
 use Rattle.name_faults.proofs.Lists.{pairs-more}
 use Rattle.name_faults.proofs.Says.{pair-is}
 use Rattle.name_faults.proofs.Deepest.{in_list, in_most, in_pairs}

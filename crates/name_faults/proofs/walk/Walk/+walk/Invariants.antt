@@ -1,9 +1,9 @@
 use Rattle.name_faults.proofs.Prelude.{◌≡◌, ◌+◌, ◌*◌, max, take, after_fields, after_gens, after_pairs, after_parts, after_trees}
+use Rattle.csp_text.proofs.tree.Tree.TheLaws.{the_size}
 use denote.Param.Weighed as weighed
 use Rattle.csp_text.proofs.tree.EventTree.TheLaws as event
 use Rattle.csp_text.proofs.tree.GenTree.TheLaws as generator
 use Rattle.csp_text.proofs.tree.PartTree.TheLaws as part
-use Rattle.csp_text.proofs.tree.Tree.TheLaws.{the_size}
 use Rattle.name_faults.proofs.walk.Walk.+walk.Given as goal
 
 abbrev pub invariant-trees-loop-tree : goal.invariant-trees-loop-tree
@@ -49,8 +49,8 @@ decreases-parts l = 6 * goal.size-parts l + 1
 abbrev pub decreases-pairs : goal.decreases-pairs
 decreases-pairs l = 6 * goal.size-pairs l + 1
 
-abbrev pub decreases-both : goal.decreases-both
-decreases-both l = 6 * max (the_size l.a.now) (the_size l.b.now) + 2
+abbrev pub decreases-two_trees : goal.decreases-two_trees
+decreases-two_trees l = 6 * max (the_size l.a.now) (the_size l.b.now) + 2
 
 abbrev pub decreases-comprehension : goal.decreases-comprehension
 decreases-comprehension l = 6 * max (weighed.most (λ x. the_size x) l.items.now) (weighed.most (λ x. generator.the_size x) l.gens.now) + 3

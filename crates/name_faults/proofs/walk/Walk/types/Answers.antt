@@ -1,5 +1,4 @@
-use Rattle.name_faults.proofs.Prelude.{[], ◌≡◌, ◌≤◌, ap, arith, map, ◌∙◌, greatest, first_of, tree_says, Place, Walked, after}
-use Rattle.csp_text.specs.Depth.{tree_depth}
+use Rattle.name_faults.proofs.Prelude.{[], ◌≡◌, ◌≤◌, ap, arith, map, ◌∙◌, greatest, first_of, tree_says, Place, Walked, after, tree_depth}
 use Rattle.name_faults.proofs.Deepest.{in_list}
 use Rattle.name_faults.proofs.KnownLemmas.{types_step}
 use Rattle.name_faults.proofs.walk.Walk.types.Goals as goal

@@ -1,7 +1,6 @@
-use Rattle.network_stages.proofs.Prelude.{◌≤◌, List, length, sym, subst, Proc, Component, leaves, Network, HasTables}
+use Rattle.network_stages.proofs.Prelude.{◌≤◌, List, length, sym, subst, Proc, Component, leaves, Network, HasTables, MOST_COMPONENTS}
 use Rattle.network_stages.proofs.Tabling.{few_tables}
 use Rattle.network_stages.proofs.tabled.Tabled.silent_bound.Goals as goal
-use Rattle.dl_limits.specs.declared.TheConstants.{MOST_COMPONENTS}
 
 pub silent_bound-requires-clause-few : goal.silent_bound-requires-clause-few
 silent_bound-requires-clause-few c =

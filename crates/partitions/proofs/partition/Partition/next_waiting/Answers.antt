@@ -1,4 +1,4 @@
-use Rattle.partitions.proofs.Prelude.{◌≡◌, ℕ, ◌<◌, List, [], ◌∷◌, ◌++◌, length, set, true, false, refl, sym, ◌∙◌, subst, rules, with_item, has, state_of, count_of}
+use Rattle.partitions.proofs.Prelude.{◌≡◌, ℕ, ◌<◌, List, [], ◌∷◌, ◌++◌, length, set, true, false, sym, ◌∙◌, subst, rules, with_item, has, state_of, count_of}
 use Rattle.partitions.proofs.Marking.{has_push}
 use Rattle.partitions.proofs.Taking.{block_taken}
 use Rattle.partitions.proofs.partition.Partition.next_waiting.Goals as goal
@@ -15,4 +15,4 @@ index_mut-requires c =
 pub returns : goal.returns
 returns c =
     let flags : (with_item c.args.self.now.flags c.in-Some.block false).items ≡ set c.args.self.now.flags.items c.in-Some.block false = search rules in
-    block_taken (count_of c.args.self.now) (state_of c.args.self.now) _ c.in-Some.block c.requires refl refl refl refl refl refl flags (popped (goal.at.returns c).In-Some)
+    block_taken (count_of c.args.self.now) (state_of c.args.self.now) c.in-Some.block _ _ c.requires flags (popped (goal.at.returns c).In-Some)

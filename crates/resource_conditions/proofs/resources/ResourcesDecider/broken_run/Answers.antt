@@ -1,5 +1,4 @@
-use Rattle.resource_conditions.proofs.Prelude.{◌≡◌, ◌∙◌, ℕ, List, Option, true, ap, sym, subst, Shape, UseSets, end_of, part_at, SeesOnly, holder_step, observed, IsDecided, AreOwners, holder_only, meets}
-use Rattle.std.proofs.lemmas.Result.{IfOk-weaker}
+use Rattle.resource_conditions.proofs.Prelude.{◌≡◌, ◌∙◌, ℕ, List, Option, true, ap, sym, subst, Shape, UseSets, end_of, part_at, SeesOnly, holder_step, observed, IsDecided, AreOwners, holder_only, meets, IfOk-weaker}
 use Rattle.resource_conditions.proofs.Holding.{decided}
 use Rattle.resource_conditions.proofs.resources.ResourcesDecider.broken_run.Goals as goal
 

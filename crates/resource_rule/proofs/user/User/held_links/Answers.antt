@@ -1,5 +1,4 @@
-use Rattle.resource_rule.proofs.Prelude.{◌∙◌, ℕ, List, ap, IfOk-weaker, has}
-use Rattle.std.proofs.lemmas.Option.{IfSome_then}
+use Rattle.resource_rule.proofs.Prelude.{◌∙◌, ℕ, List, ap, IfOk-weaker, has, IfSome_then}
 use Rattle.resource_rule.proofs.InTurn.{held_where_odd}
 use Rattle.resource_rule.proofs.user.User.held_links.Goals as goal
 

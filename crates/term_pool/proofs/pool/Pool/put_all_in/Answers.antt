@@ -11,7 +11,7 @@ pub returns-clause-front : goal.returns-clause-front
 returns-clause-front c = c.substitute_at.ensures.grows.front
 
 pub returns-clause-known : goal.returns-clause-known
-returns-clause-known c = λ has. c.substitute_at.ensures.grows.known c.alloc-alloc.ensures.parts (has, tt)
+returns-clause-known c = λ has. c.substitute_at.ensures.grows.known c.len.ensures.parts (has, tt)
 
 pub returns-clause-only : goal.returns-clause-only
 returns-clause-only c = adds_parts c.args.self.now c.substitute_at.new.pool (proc_with (given_by c.args.values.now) (tree_at c.args.self.now c.args.id)) c.substitute_at.ensures.grows.only

@@ -8,8 +8,8 @@ only_zero : (n : ℕ) → 0 < n → All (λ v. v < n) (0 ∷ [])
 only_zero n some zero d h = some
 only_zero n some (suc k) d h = absurd (omega arith)
 
-pub closed_from-requires-clause-starts : goal.closed_from-requires-clause-starts
-closed_from-requires-clause-starts c = only_zero (length c.self.inside.silent) (omega (arith, c.self.invariant.0.first, c.self.invariant.1.size))
+pub closure_from-requires-clause-starts : goal.closure_from-requires-clause-starts
+closure_from-requires-clause-starts c = only_zero (length c.self.inside.silent) (omega (arith, c.self.invariant.0.first, c.self.invariant.1.size))
 
 pub returns-clause-after : goal.returns-clause-after
 returns-clause-after c =

@@ -1,5 +1,4 @@
-use Rattle.term_sets.proofs.Prelude.{◌≡◌, ℕ, ◌<◌, List, [], get_or, ap, subst, ◌∙◌, flat_map, All, RawTable, AreMovesOf}
-use Rattle.std.proofs.lemmas.Result.{IfOk-weaker}
+use Rattle.term_sets.proofs.Prelude.{◌≡◌, ℕ, ◌<◌, List, [], get_or, ap, subst, ◌∙◌, flat_map, All, RawTable, AreMovesOf, IfOk-weaker}
 use Rattle.term_sets.proofs.MoveLists.{moves_of_terms, moves_within}
 use Rattle.term_sets.proofs.prepared.Prepared.moves.Goals as goal
 

@@ -1,4 +1,5 @@
-use Rattle.typed_trees.proofs.Prelude.{◌≡◌, ◌+◌, ◌*◌, ◌++◌, drop, max, the_size, all_tokens, gens_tokens, parts_tokens, exprs_at, gens_at, gens_scope, parts_at}
+use Rattle.typed_trees.proofs.Prelude.{◌≡◌, ◌+◌, ◌*◌, ◌++◌, drop, max, all_tokens, gens_tokens, parts_tokens, exprs_at, gens_at, gens_scope, parts_at}
+use Rattle.csp_text.proofs.tree.Tree.TheLaws.{the_size}
 use denote.Param.Weighed as weighed
 use Rattle.csp_text.proofs.tree.GenTree.TheLaws as generator
 use Rattle.typed_trees.proofs.walk.Walk.+typed_expr.Given as goal
@@ -36,8 +37,8 @@ invariant-fronts-loop-part l = record {
 abbrev pub decreases-expression : goal.decreases-expression
 decreases-expression l = 4 * the_size l.tree.now
 
-abbrev pub decreases-boxed_expr : goal.decreases-boxed_expr
-decreases-boxed_expr l = 4 * the_size l.tree.now + 1
+abbrev pub decreases-box_expr : goal.decreases-box_expr
+decreases-box_expr l = 4 * the_size l.tree.now + 1
 
 abbrev pub decreases-generator : goal.decreases-generator
 decreases-generator l = 4 * goal.size-generator l

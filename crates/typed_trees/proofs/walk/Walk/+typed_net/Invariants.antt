@@ -1,4 +1,5 @@
-use Rattle.typed_trees.proofs.Prelude.{◌+◌, ◌*◌, max, the_size}
+use Rattle.typed_trees.proofs.Prelude.{◌+◌, ◌*◌, max}
+use Rattle.csp_text.proofs.tree.Tree.TheLaws.{the_size}
 use Rattle.typed_trees.proofs.walk.Walk.+typed_net.Given as goal
 
 -- how deep what is left is, three for each level: a tree on the heap comes above what stands in it, and a form above
@@ -6,8 +7,8 @@ use Rattle.typed_trees.proofs.walk.Walk.+typed_net.Given as goal
 abbrev pub decreases-network : goal.decreases-network
 decreases-network l = 3 * the_size l.tree.now
 
-abbrev pub decreases-boxed_net : goal.decreases-boxed_net
-decreases-boxed_net l = 3 * the_size l.tree.now + 1
+abbrev pub decreases-box_net : goal.decreases-box_net
+decreases-box_net l = 3 * the_size l.tree.now + 1
 
 abbrev pub decreases-net_choice : goal.decreases-net_choice
 decreases-net_choice l = 3 * max (the_size l.p.now) (the_size l.q.now) + 2

@@ -1,4 +1,5 @@
-use Rattle.typed_trees.proofs.Prelude.{◌≡◌, ◌+◌, ◌*◌, ◌++◌, drop, max, the_size, all_tokens, procs_at}
+use Rattle.typed_trees.proofs.Prelude.{◌≡◌, ◌+◌, ◌*◌, ◌++◌, drop, max, all_tokens, procs_at}
+use Rattle.csp_text.proofs.tree.Tree.TheLaws.{the_size}
 use Rattle.typed_trees.proofs.walk.Walk.+typed_proc.Given as goal
 
 -- what is made so far, followed by what is made of the rest, is what is made of all
@@ -16,8 +17,8 @@ invariant-processes-loop-tree l = record {
 abbrev pub decreases-process : goal.decreases-process
 decreases-process l = 4 * the_size l.tree.now
 
-abbrev pub decreases-boxed_proc : goal.decreases-boxed_proc
-decreases-boxed_proc l = 4 * the_size l.tree.now + 1
+abbrev pub decreases-box_proc : goal.decreases-box_proc
+decreases-box_proc l = 4 * the_size l.tree.now + 1
 
 abbrev pub decreases-processes : goal.decreases-processes
 decreases-processes l = 4 * goal.size-processes l + 1

@@ -10,4 +10,4 @@ returns-then-not-can_take-2 c = refused_waiting _ _ _ c.self.view_is c.args.one 
 
 pub returns : goal.returns
 returns c =
-    taken _ _ _ c.self.view_is c.args.one _ _ c.self.invariant (sym c.can_take.ensures ∙ c.if-not-can_take.false) (sym c.can_take-2.ensures ∙ c.if-not-can_take-2.false) c.in_ok-put.ensures c.limited.ensures
+    taken _ _ _ c.self.view_is c.args.one _ _ c.self.invariant (sym c.can_take.ensures ∙ c.if-not-can_take.false) (sym c.can_take-2.ensures ∙ c.if-not-can_take-2.false) c.in_ok-put.ensures c.limit.ensures
