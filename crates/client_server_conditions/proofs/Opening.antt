@@ -1,5 +1,5 @@
 -- When a link is open, as the exploration of one end shows it; and which events of the link are acknowledgements.
-use Rattle.client_server_conditions.proofs.Prelude.{◌≡◌, ℕ, List, Bool, true, false, ◌&&◌, ◌||◌, cond, IsTrue, nat_eq, inl, inr, refl, sym, ap, ◌∙◌, list_any, or_cases, or_left, or_right, false≢true, common_member, meets_of_from_member, has, meets_of, Joins, RoleSets, link_at, role_at, count_in, is_odd, has_acknowledgements, is_acknowledgement, is_open, observed, parity_step, Network, Asks, Grants, is_open_at, or_unless}
+use Rattle.client_server_conditions.proofs.Prelude.{or_comm, same_tests, ◌≡◌, ℕ, List, Bool, true, false, ◌&&◌, ◌||◌, cond, IsTrue, nat_eq, inl, inr, refl, sym, ap, ◌∙◌, list_any, or_cases, or_left, or_right, common_member, meets_of_from_member, has, meets_of, Joins, RoleSets, link_at, role_at, count_in, is_odd, has_acknowledgements, is_acknowledgement, is_open, observed, parity_step, Network, Asks, Grants, is_open_at, or_unless}
 use Rattle.csp_base.proofs.Listed.{any_member, any_of}
 use Rattle.shape_links.proofs.Parity.{parity_is}
 
@@ -18,14 +18,9 @@ opened_is network l s acknowledged is =
 
 -- ---- acknowledgements
 
-both_or_neither : (a b : Bool) → (a ≡ true → b ≡ true) → (b ≡ true → a ≡ true) → a ≡ b
-both_or_neither true b to from = sym (to refl)
-both_or_neither false true to from = from refl
-both_or_neither false false to from = refl
-
 -- a set meets one of two others where one of its members is in either
 either_met : (S A B : List ℕ) (test : ℕ → Bool) → ((e : ℕ) → has S e ≡ true → test e ≡ (has A e || has B e)) → (meets_of S A || meets_of S B) ≡ list_any test S
-either_met S A B test same = both_or_neither (meets_of S A || meets_of S B) (list_any test S)
+either_met S A B test same = same_tests (meets_of S A || meets_of S B) (list_any test S)
     (λ meets. elim (or_cases (meets_of S A) (meets_of S B) meets) [
       | inl first ↦ let x = common_member S A first in any_of test S x.0 x.1 (same x.0 x.1 ∙ or_left (has A x.0) (has B x.0) x.2)
       | inr second ↦ let x = common_member S B second in any_of test S x.0 x.1 (same x.0 x.1 ∙ or_right (has A x.0) (has B x.0) x.2)
@@ -37,16 +32,6 @@ either_met S A B test same = both_or_neither (meets_of S A || meets_of S B) (lis
       | inr second ↦ or_right (meets_of S A) (meets_of S B) (meets_of_from_member S B x.0 x.1 second)
     ])
 
-pub swapped : (a b : Bool) → (a || b) ≡ (b || a)
-swapped true true = refl
-swapped true false = refl
-swapped false true = refl
-swapped false false = refl
-
-none_first : (a b : Bool) → a ≡ false → (a || b) ≡ b
-none_first true b h = absurd (false≢true (sym h))
-none_first false b h = refl
-
 module _ (network : Network) (i l : ℕ) where
   -- an acknowledgement for the client, whichever end it is, is one of either end
   abbrev for_ends : ℕ → Bool
@@ -55,14 +40,14 @@ module _ (network : Network) (i l : ℕ) where
   for_both : (j k e : ℕ) → Joins network.shape j k l → for_ends e ≡ (has (role_at network.roles j).cack e || has (role_at network.roles k).cack e)
   for_both j k e joins = elim joins.ends [
     | inl x ↦ ap (λ p. has (role_at network.roles p).cack e || has (role_at network.roles (link_at network.shape l).right).cack e) x.0 ∙ ap (λ p. has (role_at network.roles j).cack e || has (role_at network.roles p).cack e) x.1
-    | inr x ↦ ap (λ p. has (role_at network.roles p).cack e || has (role_at network.roles (link_at network.shape l).right).cack e) x.0 ∙ ap (λ p. has (role_at network.roles k).cack e || has (role_at network.roles p).cack e) x.1 ∙ swapped (has (role_at network.roles k).cack e) (has (role_at network.roles j).cack e)
+    | inr x ↦ ap (λ p. has (role_at network.roles p).cack e || has (role_at network.roles (link_at network.shape l).right).cack e) x.0 ∙ ap (λ p. has (role_at network.roles k).cack e || has (role_at network.roles p).cack e) x.1 ∙ or_comm (has (role_at network.roles k).cack e) (has (role_at network.roles j).cack e)
   ]
 
   ends_ask : (e : ℕ) → Asks network i l → IsTrue (has (link_at network.shape l).shared e) → for_ends e ≡ is_acknowledgement network.roles i e
   ends_ask e a on = for_both i a.server e a.joins ∙ or_unless (has (role_at network.roles i).cack e) (has (role_at network.roles a.server).cack e) (a.client.no_asking e on).1 ∙ sym (or_unless (has (role_at network.roles i).cack e) (has (role_at network.roles i).sack e) (a.client.no_service e on).1)
 
   ends_grant : (e : ℕ) → Grants network i l → IsTrue (has (link_at network.shape l).shared e) → for_ends e ≡ is_acknowledgement network.roles i e
-  ends_grant e g on = for_both g.asker i e g.joins ∙ or_unless (has (role_at network.roles g.asker).cack e) (has (role_at network.roles i).cack e) (g.client.no_asking e on).1 ∙ g.client.acknowledgements e on ∙ sym (none_first (has (role_at network.roles i).cack e) (has (role_at network.roles i).sack e) (g.client.no_asking e on).1)
+  ends_grant e g on = for_both g.asker i e g.joins ∙ or_unless (has (role_at network.roles g.asker).cack e) (has (role_at network.roles i).cack e) (g.client.no_asking e on).1 ∙ g.client.acknowledgements e on ∙ sym (or_comm (has (role_at network.roles i).cack e) (has (role_at network.roles i).sack e) ∙ or_unless (has (role_at network.roles i).sack e) (has (role_at network.roles i).cack e) (g.client.no_asking e on).1)
 
   -- the part is the one or the other
   pub record HasSide (asks : Bool) : Type 0 where

@@ -7,9 +7,9 @@ pub use Rattle.client_server_conditions.specs.Sides.{AgreeOn, AreSides, IsClient
 pub use Rattle.client_server_conditions.specs.Tests.{keeps}
 pub use Rattle.client_server_conditions.specs.declared.conditions.RunCondition.{RunCondition}
 pub use Rattle.client_server_conditions.specs.declared.conditions.RunCondition.TheVariants.{Answers, Service, Turns}
-pub use Rattle.csp_base.proofs.Booleans.{and_second_false, or_unless}
+pub use Rattle.csp_base.proofs.Booleans.{and_second_false, or_unless, same_tests}
 pub use Rattle.csp_base.proofs.SetLaws.{common_member, has-with_member, is_subset_of_from_members, meets_of_from_member, member_of_superset}
-pub use Rattle.csp_base.proofs.Standard.{IfOk-weaker, and_from, and_parts, both_ways, cases_Bool, cases_lt, cond-false, cond-true, get_or-append_seam, get_or_append_left, get_or_from_slice_get, get_or_read, length-append, none-some, not-false, not-true, same_Some, slice_get_within}
+pub use Rattle.csp_base.proofs.Standard.{IfOk-weaker, and_from, and_parts, both_ways, cases_Bool, cases_lt, cond-false, cond-true, get_or-append_seam, get_or_append_left, get_or_from_slice_get, get_or_read, length-append, none-some, not-false, not-true, or_comm, same_Some, slice_get_within}
 pub use Rattle.csp_base.specs.Prelude.{has, is_subset_of, meets_of}
 pub use Rattle.csp_tables.specs.Prelude.{AreApart, IsRun, IsWellFormed, IsWithin, Joins, Link, Part, RoleSets, RunsTo, Shape, end_of, is_end, is_possible, link_at, node_at, part_at, role_at, sharers}
 pub use Rattle.design_rules.proofs.Shapes.{first_end, link_shared, link_within, turned}

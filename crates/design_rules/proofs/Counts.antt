@@ -1,5 +1,5 @@
 -- Counts: of numbers that pass a test, of events in a set; and whole laps of a count.
-use Rattle.design_rules.proofs.Prelude.{◌≡◌, ℕ, zero, suc, ◌+◌, ◌*◌, ◌/◌, ◌%◌, ◌<◌, ◌≤◌, inl, inr, List, [], ◌∷◌, ◌++◌, Bool, true, false, not, ◌&&◌, cond, IsTrue, nat_eq, refl, sym, ap, subst, ◌∙◌, arith, eq-eqb, ne_eqb, cases_Bool, cases_eq, cond-true, cond-false, both_ways, and-true, and-false, div-add-mod', div-mul-add, mod-mul-add, has, count_below, count_in, above_all, project, IsWithin}
+use Rattle.design_rules.proofs.Prelude.{◌≡◌, ℕ, zero, suc, ◌+◌, ◌*◌, ◌/◌, ◌%◌, ◌<◌, ◌≤◌, inl, inr, List, [], ◌∷◌, ◌++◌, Bool, true, false, not, ◌&&◌, cond, IsTrue, nat_eq, refl, sym, ap, subst, ◌∙◌, arith, eq-eqb, ne_eqb, cases_eq, cond-true, cond-false, both_ways, and-true, and-false, div-add-mod', div-mul-add, mod-mul-add, has, count_below, count_in, above_all, project, IsWithin}
 
 -- ---- numbers that pass a test
 
@@ -114,6 +114,11 @@ but_parts test x m h =
       | inr other ↦ (sym (but_other test x m other) ∙ h, other)
     ]
 
+-- tests that agree count the same
+pub count_agree : (f g : ℕ → Bool) (n : ℕ) → ((m : ℕ) → m < n → f m ≡ g m) → count_below f n ≡ count_below g n
+count_agree f g zero h = refl
+count_agree f g (suc n) h = let head : f n ≡ g n = h n (omega arith) in let rest = count_agree f g n (λ m l. h m (omega arith)) in ap (λ c. cond (f n) (c + 1) c) rest ∙ ap (λ b. cond b (count_below g n + 1) (count_below g n)) head
+
 count_but : (test : ℕ → Bool) (n x : ℕ) → x < n → IsTrue (test x) → count_below test n ≡ count_below (but test x) n + 1
 count_but test zero x h t = absurd (omega arith)
 count_but test (suc n) x h t =
@@ -126,10 +131,6 @@ count_but test (suc n) x h t =
           let agrees : but test x n ≡ test n = but_other test x n ne in
           grind (arith)
     ]
-  where
-    count_agree : (f g : ℕ → Bool) (n : ℕ) → ((m : ℕ) → m < n → f m ≡ g m) → count_below f n ≡ count_below g n
-    count_agree f g zero h = refl
-    count_agree f g (suc n) h = let head : f n ≡ g n = h n (omega arith) in let rest = count_agree f g n (λ m l. h m (omega arith)) in ap (λ c. cond (f n) (c + 1) c) rest ∙ ap (λ b. cond b (count_below g n + 1) (count_below g n)) head
 
 -- so as many pass as there are places
 pub count_placed : (test : ℕ → Bool) (n : ℕ) (IsAt : ℕ → ℕ → Type 0) (p : ℕ) → Placed test n IsAt p → count_below test n ≡ p

@@ -3,12 +3,12 @@
 -- At an acceptance in the vocabulary that is not empty the ranking has exactly the rank by the rule, since longest walks have one length; everywhere else it
 -- has 0. And each such acceptance has a rank. So the greatest number is attained there, or it is 0. The ranks by tables are those by steps, since the shape
 -- and the network are alike.
-use Rattle.design_rules.proofs.Prelude.{◌≡◌, ℕ, zero, suc, ◌+◌, ◌-◌, ◌*◌, ◌<◌, ◌≤◌, ◌⊎◌, inl, inr, pos, ◌-ℤ◌, max, List, [], ◌∷◌, length, true, false, cond, IsTrue, nat_eq, refl, sym, ap, ap₂, subst, ◌∙◌, arith, eq-eqb, cases_Bool, cases_lt, both_ways, or_left, false≢true, ints, get_or-eq_default, has, natural, IsLongestWalk, same_longest, Label, node_at, end_of, IsWithin, Part, part_at, IsNonEmpty, RoleSets, UseSets, role_at, use_at, Shape, IsWellFormed, acceptance_at, accepted, PartRanks, Ranking, Fits, PartsFit, part_ranks, rank_at, search_list, shapes_are_well_formed, part_form, by_tables, Serves, IsClientServerRanking, IsCyclicRanking, top_number, RanksByNumber, RanksAs, HasRank, IsGreatestRank, free, held, acquiring, idle, greatest_rank, RankingsHaveGreatestRank, rank_there, AcceptsSome, AreResourceRanks, IsResourceRanking, acquires, is_held, Ranks, IsVertex, OthersRankZero, NotedRule, Cyclic, ClientServer, Resource, StandsAbove}
+use Rattle.design_rules.proofs.Prelude.{◌≡◌, ℕ, zero, suc, ◌+◌, ◌-◌, ◌*◌, ◌<◌, ◌≤◌, ◌⊎◌, inl, inr, pos, ◌-ℤ◌, max, List, [], ◌∷◌, length, true, false, cond, IsTrue, nat_eq, refl, sym, ap, ap₂, subst, ◌∙◌, arith, eq-eqb, cases_Bool, cases_lt, both_ways, or_left, false≢true, ints, get_or-eq_default, has, natural, IsLongestWalk, same_longest, Label, node_at, end_of, IsWithin, Part, part_at, IsNonEmpty, UseSets, role_at, use_at, Shape, IsWellFormed, acceptance_at, accepted, PartRanks, Ranking, Fits, PartsFit, part_ranks, rank_at, search_list, shapes_are_well_formed, part_form, by_tables, Serves, top_number, RanksByNumber, RanksAs, HasRank, IsGreatestRank, free, held, acquiring, idle, greatest_rank, RankingsHaveGreatestRank, rank_there, AcceptsSome, AreResourceRanks, acquires, is_held, Ranks, IsVertex, OthersRankZero, NotedRule, Cyclic, ClientServer, Resource, StandsAbove}
 use Rattle.design_rules.specs.GreatestRank.{ComesAfter}
 use Rattle.design_rules.proofs.Accepting.{at_place}
 use Rattle.design_rules.proofs.ClientServer.{graph, meet_or_apart}
 use Rattle.design_rules.proofs.GreatestNumbers.{in_ranking, ranking_has, StandsAt}
-use Rattle.design_rules.proofs.Outlines.{on_links, on_parts, same_end, same_held, each_serves}
+use Rattle.design_rules.proofs.Outlines.{on_links, on_parts, same_end, same_held, serves}
 use Rattle.design_rules.proofs.Readings.{by_shape, by_itself, alike}
 use Rattle.design_rules.proofs.Resource.{acquired_resource, least_of}
 use Rattle.design_rules.proofs.Runs.{possible_within, end_within}
@@ -117,49 +117,8 @@ vertex_of shape w i s k a = record {
   shared = a.accepts.shared;
 }
 
-cyclic_ranked : (shape : Shape) (ranking : Ranking) → IsWellFormed shape → IsCyclicRanking shape ranking → Ranked Cyclic shape ranking
-cyclic_ranked shape ranking w r = record {
-  form = w;
-  fits = r.ranks.fits;
-  others = r.ranks.others;
-  is = λ i s k q a x.
-      r.ranks.ranks i (end_of (part_at shape.parts i).table 0 s) k x.link (vertex_of shape w i s k a) x.within x.end x.lies
-      ∙ ap pos (one_longest (ComesAfter shape (by_tables shape)) x.link (r.number x.link) q (r.numbers x.link x.within) x.number);
-  some = λ i s k a.
-      let part = a.accepts.runs.part in
-      let n = end_of (part_at shape.parts i).table 0 s in
-      let e = a.some.0 in
-      let owned = possible_within (part_at shape.parts i) n e (part_form shape.parts i part w.form) (w.possible i n k e part a.some.1) in
-      let l = some_link shape i e w part owned (a.accepts.shared e a.some.1) in (
-        r.number l.0,
-        record { link = l.0; within = l.1.within; end = l.1.end; lies = record { event = e; first = a.some.1; second = l.1.event }; number = r.numbers l.0 l.1.within },
-      );
-}
-
 difference : (a h q : ℕ) → q + h ≡ a → pos a -ℤ pos h ≡ pos q
 difference a h q e = omega (arith, ints)
-
-client_server_ranked : (shape : Shape) (roles : List RoleSets) (ranking : Ranking) → IsWellFormed shape → IsClientServerRanking shape roles ranking → Ranked (ClientServer roles) shape ranking
-client_server_ranked shape roles ranking w r = record {
-  form = w;
-  fits = r.fits;
-  others = r.others;
-  is = λ i s k q a x.
-      let n = end_of (part_at shape.parts i).table 0 s in
-      let v = vertex_of shape w i s k a in
-      let same = one_longest (Serves shape roles) i (r.height i) x.height (r.heights i v.part) x.longest in
-      elim x.rank [
-        | inl m ↦ r.serving i n k v m.0 ∙ difference (2 * length shape.parts) (r.height i) q (ap (λ h. q + h) same ∙ m.1)
-        | inr m ↦ r.asking i n k v m.0 ∙ ap pos (same ∙ sym m.1)
-      ];
-  some = λ i s k a.
-      let part = a.accepts.runs.part in
-      let low : r.height i < length shape.parts = height_below (Serves shape roles) r.height (length shape.parts) (graph shape roles ranking w r) i part in
-      elim (meet_or_apart (accepted shape i s k) (role_at roles i).sreq) [
-        | inl meets ↦ (2 * length shape.parts - r.height i, record { height = r.height i; longest = r.heights i part; rank = inl (meets, omega arith) })
-        | inr apart ↦ (r.height i, record { height = r.height i; longest = r.heights i part; rank = inr (apart, refl) })
-      ];
-}
 
 -- the resources have one numbering
 module _ (shape : Shape) (uses : List UseSets) (f g : ℕ → ℕ) (same : (j : ℕ) → j < length shape.parts → (use_at uses j).resource ≡ true → f j ≡ g j) where
@@ -205,8 +164,45 @@ number_there shape uses number top i s M =
       ]
     ]
 
-resource_ranked : (shape : Shape) (uses : List UseSets) (ranking : Ranking) → IsWellFormed shape → IsResourceRanking shape uses ranking → Ranked (Resource uses) shape ranking
-resource_ranked shape uses ranking w r = record {
+ranked : (rule : NotedRule) (shape : Shape) (ranking : Ranking) → IsWellFormed shape → Ranks rule shape ranking → Ranked rule shape ranking
+ranked Cyclic shape ranking w r = record {
+  form = w;
+  fits = r.ranks.fits;
+  others = r.ranks.others;
+  is = λ i s k q a x.
+      r.ranks.ranks i (end_of (part_at shape.parts i).table 0 s) k x.link (vertex_of shape w i s k a) x.within x.end x.lies
+      ∙ ap pos (one_longest (ComesAfter shape (by_tables shape)) x.link (r.number x.link) q (r.numbers x.link x.within) x.number);
+  some = λ i s k a.
+      let part = a.accepts.runs.part in
+      let n = end_of (part_at shape.parts i).table 0 s in
+      let e = a.some.0 in
+      let owned = possible_within (part_at shape.parts i) n e (part_form shape.parts i part w.form) (w.possible i n k e part a.some.1) in
+      let l = some_link shape i e w part owned (a.accepts.shared e a.some.1) in (
+        r.number l.0,
+        record { link = l.0; within = l.1.within; end = l.1.end; lies = record { event = e; first = a.some.1; second = l.1.event }; number = r.numbers l.0 l.1.within },
+      );
+}
+ranked (ClientServer roles) shape ranking w r = record {
+  form = w;
+  fits = r.fits;
+  others = r.others;
+  is = λ i s k q a x.
+      let n = end_of (part_at shape.parts i).table 0 s in
+      let v = vertex_of shape w i s k a in
+      let same = one_longest (Serves shape roles) i (r.height i) x.height (r.heights i v.part) x.longest in
+      elim x.rank [
+        | inl m ↦ r.serving i n k v m.0 ∙ difference (2 * length shape.parts) (r.height i) q (ap (λ h. q + h) same ∙ m.1)
+        | inr m ↦ r.asking i n k v m.0 ∙ ap pos (same ∙ sym m.1)
+      ];
+  some = λ i s k a.
+      let part = a.accepts.runs.part in
+      let low : r.height i < length shape.parts = height_below (Serves shape roles) r.height (length shape.parts) (graph shape roles ranking w r) i part in
+      elim (meet_or_apart (accepted shape i s k) (role_at roles i).sreq) [
+        | inl meets ↦ (2 * length shape.parts - r.height i, record { height = r.height i; longest = r.heights i part; rank = inl (meets, omega arith) })
+        | inr apart ↦ (r.height i, record { height = r.height i; longest = r.heights i part; rank = inr (apart, refl) })
+      ];
+}
+ranked (Resource uses) shape ranking w r = record {
   form = w;
   fits = r.ranks.fits;
   others = r.ranks.others;
@@ -222,11 +218,6 @@ resource_ranked shape uses ranking w r = record {
       let x = number_there shape uses r.number (top_number uses r.number (length shape.parts)) i s (accepted shape i s k) in
       (x.0, record { number = r.number; numbers = r.numbers; rank = x.1 });
 }
-
-ranked : (rule : NotedRule) (shape : Shape) (ranking : Ranking) → IsWellFormed shape → Ranks rule shape ranking → Ranked rule shape ranking
-ranked Cyclic shape ranking w r = cyclic_ranked shape ranking w r
-ranked (ClientServer roles) shape ranking w r = client_server_ranked shape roles ranking w r
-ranked (Resource uses) shape ranking w r = resource_ranked shape uses ranking w r
 
 -- ---- networks that are alike have the same ranks
 
@@ -263,7 +254,7 @@ same_rank Cyclic x y a i s M N r members h =
     }
 same_rank (ClientServer roles) x y a i s M N r members h = record {
   height = h.height;
-  longest = same_longest (Serves x.shape roles) (Serves y.shape roles) (each_serves x.shape y.shape a.outline roles) (each_serves y.shape x.shape (turned x y a).outline roles) i h.height h.longest;
+  longest = same_longest (Serves x.shape roles) (Serves y.shape roles) (serves x.shape y.shape a.outline roles) (serves y.shape x.shape (turned x y a).outline roles) i h.height h.longest;
   rank = elim h.rank [
     | inl m ↦ inl (record { event = m.0.event; first = members m.0.event ∙ m.0.first; second = m.0.second }, m.1 ∙ ap (λ n. 2 * n) a.outline.parts)
     | inr m ↦ inr ((λ e there. m.0 e (sym (members e) ∙ there)), m.1)

@@ -1,5 +1,6 @@
 -- What is said of an outline looks at members of sets alone, so it is the same of two outlines with the same alphabets, links and vocabulary.
-use Rattle.design_rules.proofs.Prelude.{◌≡◌, ℕ, zero, suc, ◌+◌, ◌%◌, ◌<◌, inl, inr, List, [], ◌∷◌, length, map, Option, Some, None, Bool, not, ◌&&◌, ◌||◌, cond, nat_eq, nat_lt, refl, sym, ap, subst, ◌∙◌, list_any, has, same_tests, any_of, any_member, part_at, RoleSets, UseSets, role_at, use_at, Shape, Joins, is_end, link_at, IsOn, same_no_circle, SameOutline, PartShared, HasRoles, IsClientOn, HasClient, has_acknowledgements, is_open, Serves, LacksRoles, LacksClient, HaveClients, count_below, count_in, is_odd, place_of, IsNext, links_of, place_after, SamePlace, Clash, ends_of, JoinsKinds, HasUses, HaveKinds, is_held, last_from, IsHolder, holds, HasKind, LacksKind, HasNoCircle}
+use Rattle.design_rules.proofs.Prelude.{◌≡◌, ℕ, ◌+◌, ◌%◌, ◌<◌, inl, inr, List, [], ◌∷◌, length, map, Option, Some, None, Bool, not, ◌&&◌, ◌||◌, cond, nat_eq, nat_lt, refl, sym, ap, subst, ◌∙◌, list_any, has, same_tests, any_of, any_member, part_at, RoleSets, UseSets, role_at, use_at, Shape, Joins, is_end, link_at, IsOn, same_no_circle, SameOutline, PartShared, HasRoles, IsClientOn, HasClient, has_acknowledgements, is_open, Serves, LacksRoles, LacksClient, HaveClients, count_below, count_in, is_odd, place_of, IsNext, links_of, place_after, SamePlace, Clash, ends_of, JoinsKinds, HasUses, HaveKinds, is_held, last_from, IsHolder, holds, HasKind, LacksKind, HasNoCircle}
+use Rattle.design_rules.proofs.Counts.{count_agree}
 
 pub turned_outline : (x y : Shape) → SameOutline x y → SameOutline y x
 turned_outline x y o = record {
@@ -13,10 +14,6 @@ turned_outline x y o = record {
 }
 
 -- ---- counts and tests
-
-count_same : (f g : ℕ → Bool) → ((n : ℕ) → f n ≡ g n) → (n : ℕ) → count_below f n ≡ count_below g n
-count_same f g same zero = refl
-count_same f g same (suc n) = ap (λ b. cond b (count_below f n + 1) (count_below f n)) (same n) ∙ ap (λ k. cond (g n) (k + 1) k) (count_same f g same n)
 
 count_in_same : (M N : List ℕ) → ((e : ℕ) → has M e ≡ has N e) → (s : List ℕ) → count_in M s ≡ count_in N s
 count_in_same M N same [] = refl
@@ -65,7 +62,7 @@ module _ (x y : Shape) (o : SameOutline x y) where
   }
 
   same_count : (i : ℕ) → links_of x i ≡ links_of y i
-  same_count i = count_same (λ l. is_end x i l) (λ l. is_end y i l) (same_end i) (length x.links) ∙ ap (count_below (λ l. is_end y i l)) o.links
+  same_count i = count_agree (λ l. is_end x i l) (λ l. is_end y i l) (length x.links) (λ l _. same_end i l) ∙ ap (count_below (λ l. is_end y i l)) o.links
 
   pub same_place_after : (s : List ℕ) → place_after x s ≡ place_after y s
   same_place_after s = count_in_same x.vocabulary y.vocabulary o.vocabulary s
@@ -81,16 +78,13 @@ module _ (x y : Shape) (o : SameOutline x y) where
     where
       same_order : place_of x number i l ≡ place_of y number i l
       same_order =
-          count_same (λ m. is_end x i m && nat_lt (number m) (number l)) (λ m. is_end y i m && nat_lt (number m) (number l)) (λ m. ap (λ b. b && nat_lt (number m) (number l)) (same_end i m)) (length x.links)
+          count_agree (λ m. is_end x i m && nat_lt (number m) (number l)) (λ m. is_end y i m && nat_lt (number m) (number l)) (length x.links) (λ m _. ap (λ b. b && nat_lt (number m) (number l)) (same_end i m))
           ∙ ap (count_below (λ m. is_end y i m && nat_lt (number m) (number l))) o.links
-
-  other_place : (i : ℕ) (s t : List ℕ) → SamePlace y i s t → SamePlace x i s t
-  other_place i s t h = lap_place i s ∙ h ∙ sym (lap_place i t)
 
   pub clash : (i l : ℕ) (s : List ℕ) (m : ℕ) (t : List ℕ) → Clash x i l s m t → Clash y i l s m t
   clash i l s m t h = elim h [
     | inl apart ↦ inl (apart.0, same_place i s t apart.1)
-    | inr one ↦ inr (one.0, λ same. one.1 (other_place i s t same))
+    | inr one ↦ inr (one.0, λ same. one.1 (lap_place i s ∙ same ∙ sym (lap_place i t)))
   ]
 
   -- ---- sets of a component
@@ -132,7 +126,7 @@ module _ (x y : Shape) (o : SameOutline x y) where
         ap (λ b. b && is_odd (count_in (link_at x l).shared s)) (same_acknowledgements l)
         ∙ ap (λ n. has_acknowledgements y roles l && is_odd n) (count_in_same (link_at x l).shared (link_at y l).shared (o.shared l) s)
 
-    serves : (i j : ℕ) → Serves x roles i j → Serves y roles i j
+    pub serves : (i j : ℕ) → Serves x roles i j → Serves y roles i j
     serves i j h = record { link = h.link; joins = joins i j h.link h.joins; client = client_on h.link i j h.client }
 
   -- ---- users and resources
@@ -161,6 +155,13 @@ module _ (x y : Shape) (o : SameOutline x y) where
 
 -- what is asked of each component or link, with the bounds of the other outline
 module _ (x y : Shape) (o : SameOutline x y) where
+  has_kind : (uses : List UseSets) (i : ℕ) → HasKind x uses i → HasKind y uses i
+  has_kind uses i h = record {
+    linked = λ l below left. joins_kinds x y o uses l (h.linked l (on_links y x (turned_outline x y o) l below) (o.left l ∙ left));
+    parted = has_uses x y o uses i h.parted;
+  }
+
+module _ (x y : Shape) (o : SameOutline x y) where
   pub have_clients : (roles : List RoleSets) → HaveClients x roles → HaveClients y roles
   have_clients roles h = record {
     parted = λ i below. has_roles x y o roles i (h.parted i (on_parts y x (turned_outline x y o) i below));
@@ -187,30 +188,15 @@ module _ (x y : Shape) (o : SameOutline x y) where
   pub no_circle : (roles : List RoleSets) → HasNoCircle (Serves x roles) → HasNoCircle (Serves y roles)
   no_circle roles = same_no_circle (Serves x roles) (Serves y roles) (serves y x (turned_outline x y o) roles)
 
-  pub each_serves : (roles : List RoleSets) (i j : ℕ) → Serves x roles i j → Serves y roles i j
-  each_serves roles = serves x y o roles
-
   pub have_kinds : (uses : List UseSets) → HaveKinds x uses → HaveKinds y uses
   have_kinds uses h = record {
     linked = λ l below. joins_kinds x y o uses l (h.linked l (on_links y x (turned_outline x y o) l below));
     parted = λ i below. has_uses x y o uses i (h.parted i (on_parts y x (turned_outline x y o) i below));
   }
 
-  has_kind : (uses : List UseSets) (i : ℕ) → HasKind x uses i → HasKind y uses i
-  has_kind uses i h = record {
-    linked = λ l below left. joins_kinds x y o uses l (h.linked l (on_links y x (turned_outline x y o) l below) (o.left l ∙ left));
-    parted = has_uses x y o uses i h.parted;
-  }
-
-  lost_kind : (uses : List UseSets) (i : ℕ) → HasKind y uses i → HasKind x uses i
-  lost_kind uses i h = record {
-    linked = λ l below left. joins_kinds y x (turned_outline x y o) uses l (h.linked l (on_links x y o l below) (sym (o.left l) ∙ left));
-    parted = has_uses y x (turned_outline x y o) uses i h.parted;
-  }
-
   pub lacks_kind : (uses : List UseSets) (i : ℕ) → LacksKind x uses i → LacksKind y uses i
   lacks_kind uses i h = record {
     within = on_parts x y o i h.within;
-    broken = λ kept. h.broken (lost_kind uses i kept);
-    first = λ j less. has_kind uses j (h.first j less);
+    broken = λ kept. h.broken (has_kind y x (turned_outline x y o) uses i kept);
+    first = λ j less. has_kind x y o uses j (h.first j less);
   }

@@ -1,5 +1,5 @@
 -- What each fault tells refutes the rule.
-use Rattle.design_rules.proofs.Prelude.{ℕ, List, inl, inr, Shape, RoleSets, UseSets, KeepsPlaces, IsCyclic, MustPrecede, BreaksOrder, IsClientServer, BreaksRoles, IsResource, IsHeldWhile, BreaksUses, BreaksCyclic, BreaksClientServer, BreaksResource, FaultsRefute, Condition, Cyclic, ClientServer, Resource, RuleFault, NoOrder, NoWholeEnd, Broken, LinksCircle, ClientsCircle, ResourcesCircle}
+use Rattle.design_rules.proofs.Prelude.{ℕ, List, inl, inr, Shape, KeepsPlaces, MustPrecede, BreaksOrder, IsHeldWhile, FaultsRefute, Cyclic, ClientServer, Resource, NoOrder, NoWholeEnd, Broken, LinksCircle, ClientsCircle, ResourcesCircle}
 use Rattle.design_rules.specs.declared.condition.Condition.TheVariants as condition
 use Rattle.design_rules.proofs.Walks.{no_circle}
 
@@ -9,38 +9,21 @@ clashing shape i s e keeps b =
     let same = keeps b.link b.other_link s b.other_run e b.other_event b.reaches b.other_reaches in
     elim b.clash [ inl c ↦ c.0 (same.1 c.1) | inr c ↦ c.1 (same.0 c.0) ]
 
-cyclic_refuted : (shape : Shape) (fault : RuleFault) → IsCyclic shape → BreaksCyclic shape fault → ⊥
-cyclic_refuted shape (NoOrder i s e) rule told = clashing shape i s e (rule.order i told.breaks.reaches.possible.runs.part) told.breaks
-cyclic_refuted shape (NoWholeEnd i j s t) rule told = elim (rule.whole told.link told.within) [ inl left ↦ left s told.left | inr right ↦ right t told.right ]
-cyclic_refuted shape (LinksCircle ends) rule told = no_circle (MustPrecede shape) rule.numbered.number rule.numbered.rise told.links told.circle.circle
-cyclic_refuted shape _ rule told = told
-
-roles_refuted : (shape : Shape) (roles : List RoleSets) (condition : Condition) (i : ℕ) (s : List ℕ) → IsClientServer shape roles → BreaksRoles shape roles condition i s → ⊥
-roles_refuted shape roles condition.Roles i s rule told = told.1.broken (rule.keep_roles.parted i told.1.within)
-roles_refuted shape roles condition.Clients i s rule told = told.1.broken (rule.keep_roles.linked told.1.link told.1.within)
-roles_refuted shape roles condition.Turns i s rule told = told.1.broken (rule.keep_roles.turns i s)
-roles_refuted shape roles condition.Service i s rule told = told.2.broken (rule.keep_roles.serving i s)
-roles_refuted shape roles condition.Answers i s rule told = told.3.broken (rule.keep_roles.answers i s)
-roles_refuted shape roles _ i s rule told = told
-
-client_server_refuted : (shape : Shape) (roles : List RoleSets) (fault : RuleFault) → IsClientServer shape roles → BreaksClientServer shape roles fault → ⊥
-client_server_refuted shape roles (Broken condition i s) rule told = roles_refuted shape roles condition i s rule told
-client_server_refuted shape roles (ClientsCircle clients) rule told = rule.no_circle clients told.circle.circle
-client_server_refuted shape roles _ rule told = told
-
-uses_refuted : (shape : Shape) (uses : List UseSets) (condition : Condition) (i : ℕ) (s : List ℕ) → IsResource shape uses → BreaksUses shape uses condition i s → ⊥
-uses_refuted shape uses condition.Kinds i s rule told = told.1.broken (record { linked = λ l h left. rule.keep_uses.kinds.linked l h; parted = rule.keep_uses.kinds.parted i told.1.within })
-uses_refuted shape uses condition.Holders i s rule told = told.1.broken (rule.keep_uses.used i s)
-uses_refuted shape uses condition.Grants i s rule told = told.2.broken (rule.keep_uses.grants i s)
-uses_refuted shape uses condition.Uses i s rule told = told.3.broken (rule.keep_uses.turns i s)
-uses_refuted shape uses _ i s rule told = told
-
-resource_refuted : (shape : Shape) (uses : List UseSets) (fault : RuleFault) → IsResource shape uses → BreaksResource shape uses fault → ⊥
-resource_refuted shape uses (Broken condition i s) rule told = uses_refuted shape uses condition i s rule told
-resource_refuted shape uses (ResourcesCircle resources) rule told = no_circle (IsHeldWhile shape uses) rule.ordered.number rule.ordered.rise resources told.circle.circle
-resource_refuted shape uses _ rule told = told
-
 pub faults_refute : FaultsRefute
-faults_refute Cyclic shape fault rule told = cyclic_refuted shape fault rule told
-faults_refute (ClientServer roles) shape fault rule told = client_server_refuted shape roles fault rule told
-faults_refute (Resource uses) shape fault rule told = resource_refuted shape uses fault rule told
+faults_refute Cyclic shape (NoOrder i s e) rule told = clashing shape i s e (rule.order i told.breaks.reaches.possible.runs.part) told.breaks
+faults_refute Cyclic shape (NoWholeEnd i j s t) rule told = elim (rule.whole told.link told.within) [ inl left ↦ left s told.left | inr right ↦ right t told.right ]
+faults_refute Cyclic shape (LinksCircle ends) rule told = no_circle (MustPrecede shape) rule.numbered.number rule.numbered.rise told.links told.circle.circle
+faults_refute Cyclic shape _ rule told = told
+faults_refute (ClientServer roles) shape (Broken condition.Roles i s) rule told = told.1.broken (rule.keep_roles.parted i told.1.within)
+faults_refute (ClientServer roles) shape (Broken condition.Clients i s) rule told = told.1.broken (rule.keep_roles.linked told.1.link told.1.within)
+faults_refute (ClientServer roles) shape (Broken condition.Turns i s) rule told = told.1.broken (rule.keep_roles.turns i s)
+faults_refute (ClientServer roles) shape (Broken condition.Service i s) rule told = told.2.broken (rule.keep_roles.serving i s)
+faults_refute (ClientServer roles) shape (Broken condition.Answers i s) rule told = told.3.broken (rule.keep_roles.answers i s)
+faults_refute (ClientServer roles) shape (ClientsCircle clients) rule told = rule.no_circle clients told.circle.circle
+faults_refute (ClientServer roles) shape _ rule told = told
+faults_refute (Resource uses) shape (Broken condition.Kinds i s) rule told = told.1.broken (record { linked = λ l h left. rule.keep_uses.kinds.linked l h; parted = rule.keep_uses.kinds.parted i told.1.within })
+faults_refute (Resource uses) shape (Broken condition.Holders i s) rule told = told.1.broken (rule.keep_uses.used i s)
+faults_refute (Resource uses) shape (Broken condition.Grants i s) rule told = told.2.broken (rule.keep_uses.grants i s)
+faults_refute (Resource uses) shape (Broken condition.Uses i s) rule told = told.3.broken (rule.keep_uses.turns i s)
+faults_refute (Resource uses) shape (ResourcesCircle resources) rule told = no_circle (IsHeldWhile shape uses) rule.ordered.number rule.ordered.rise resources told.circle.circle
+faults_refute (Resource uses) shape _ rule told = told

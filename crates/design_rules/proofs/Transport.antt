@@ -1,15 +1,13 @@
 -- Networks that are alike meet the same rules and break them in the same way: their outlines are the same, and their components behave alike. Each condition
 -- is made of traces, possible events and acceptances by "for each" and "there is", so it is carried over part by part; where it stands behind an
 -- arrow, it is carried the other way. Of an acceptance the members alone are looked at.
-use Rattle.design_rules.proofs.Prelude.{◌≡◌, ℕ, ◌<◌, inl, inr, ◌⊎◌, List, cond, IsTrue, sym, ap, subst, ◌∙◌, and_parts, and_from, list_any, has, any_of, any_member, Shape, link_at, RoleSets, UseSets, use_at, same_least_circle, SameOutline, Agree, Behaviours, place_after, CanBeNumbered, FallsShort, IsFullEnd, IsNumberedCyclic, is_acknowledgement, is_request, TakesTurns, ServesAll, TakesAnswers, Serves, IsUsedInTurn, GrantsAll, UsesInTurn, acquires, CanBeOrdered, KeepsHolder, KeepsGrants, KeepsTurns, IsFirstBroken, MeetsRule, BreaksRule, BreaksCyclicRule, BreaksClientServerRule, BreaksResourceRule, Condition, NotedRule, Cyclic, ClientServer, Resource, RuleFault, NoOrder, NoWholeEnd, Broken, LinksCircle, ClientsCircle, ResourcesCircle}
-use Rattle.design_rules.specs.CyclicRule.{ReachesLink, KeepsPlaces, AllKeepPlaces, MustPrecede, IsWholeEnd, HasWholeEnd, IsCyclic}
+use Rattle.design_rules.proofs.Prelude.{◌≡◌, ℕ, ◌<◌, inl, inr, ◌⊎◌, List, cond, IsTrue, sym, ap, subst, ◌∙◌, and_parts, and_from, list_any, has, any_of, any_member, Shape, link_at, RoleSets, UseSets, use_at, same_least_circle, SameOutline, Agree, Behaviours, place_after, CanBeNumbered, FallsShort, IsFullEnd, IsNumberedCyclic, is_acknowledgement, is_request, TakesTurns, ServesAll, TakesAnswers, Serves, acquires, CanBeOrdered, KeepsHolder, KeepsGrants, KeepsTurns, IsFirstBroken, MeetsRule, BreaksRule, NotedRule, Cyclic, ClientServer, Resource, RuleFault, NoOrder, NoWholeEnd, Broken, LinksCircle, ClientsCircle, ResourcesCircle}
+use Rattle.design_rules.specs.CyclicRule.{ReachesLink, KeepsPlaces, AllKeepPlaces, MustPrecede, IsWholeEnd, HasWholeEnd}
 use Rattle.design_rules.specs.CyclicRuleFaults.{BreaksOrder}
-use Rattle.design_rules.specs.ClientServerRule.{KeepRoles, IsClientServer}
-use Rattle.design_rules.specs.ClientServerRuleFaults.{BreaksRoles}
-use Rattle.design_rules.specs.ResourceRule.{KeepUses, IsHeldWhile, IsResource}
-use Rattle.design_rules.specs.ResourceRuleFaults.{BreaksUses}
+use Rattle.design_rules.specs.ClientServerRule.{KeepRoles}
+use Rattle.design_rules.specs.ResourceRule.{KeepUses, IsHeldWhile}
 use Rattle.design_rules.specs.declared.condition.Condition.TheVariants as condition
-use Rattle.design_rules.proofs.Outlines.{turned_outline, on_links, on_parts, same_end, same_ends, all_ends, is_on, of_ends, joins, same_place_after, same_place, is_next, clash, client_on, same_open, same_held, same_holds, holder, have_clients, lacks_roles, lacks_client, no_circle, each_serves, have_kinds, lacks_kind}
+use Rattle.design_rules.proofs.Outlines.{turned_outline, on_links, on_parts, same_end, same_ends, all_ends, is_on, of_ends, joins, same_place_after, same_place, is_next, clash, client_on, same_open, same_held, same_holds, holder, have_clients, lacks_roles, lacks_client, no_circle, serves, have_kinds, lacks_kind}
 
 -- a network as a rule sees it: its outline, and what its components do
 pub record Seen : Type 1 where
@@ -96,13 +94,6 @@ has_whole_end x y a l h = of_ends x.shape y.shape a.outline l (λ i j. IsWholeEn
   | inr right ↦ inr (whole_end x y a l (link_at x.shape l).right right)
 ])
 
-is_cyclic : (x y : Seen) → Alike x y → IsCyclic x.shape x.does → IsCyclic y.shape y.does
-is_cyclic x y a h = record {
-  order = all_keep_places x y a h.order;
-  numbered = can_be_numbered x y a h.numbered;
-  whole = λ l below. has_whole_end x y a l (h.whole l (on_links y.shape x.shape (turned_outline x.shape y.shape a.outline) l below));
-}
-
 full_end : (x y : Seen) → Alike x y → (number : ℕ → ℕ) (l i : ℕ) → IsFullEnd x.shape x.does number l i → IsFullEnd y.shape y.does number l i
 full_end x y a number l i full s M accepts next e on =
     let z = a.agree.accepts i s M accepts in
@@ -121,26 +112,6 @@ is_numbered x y a h =
         | inr right ↦ inr (full_end x y a h.number l (link_at x.shape l).right right)
       ]);
     }
-
-breaks_cyclic : (x y : Seen) → Alike x y → (fault : RuleFault) → BreaksCyclicRule x.shape x.does fault → BreaksCyclicRule y.shape y.does fault
-breaks_cyclic x y a (NoOrder i s e) h = record { breaks = breaks_order x y a i s e h.breaks; first = λ j less. keeps_places x y a j (h.first j less) }
-breaks_cyclic x y a (NoWholeEnd i j s t) h = record {
-  order = all_keep_places x y a h.order;
-  numbered = can_be_numbered x y a h.numbered;
-  link = h.link;
-  within = on_links x.shape y.shape a.outline h.link h.within;
-  ends = sym (same_ends x.shape y.shape a.outline h.link) ∙ h.ends;
-  left = subst (λ k. FallsShort y.shape y.does h.link k s) (a.outline.left h.link) (falls_short x y a h.link (link_at x.shape h.link).left s h.left);
-  right = subst (λ k. FallsShort y.shape y.does h.link k t) (a.outline.right h.link) (falls_short x y a h.link (link_at x.shape h.link).right t h.right);
-  first = λ m less. has_whole_end x y a m (h.first m less);
-}
-breaks_cyclic x y a (LinksCircle ends) h = record {
-  order = all_keep_places x y a h.order;
-  links = h.links;
-  circle = same_least_circle (MustPrecede x.shape x.does) (MustPrecede y.shape y.does) (must_precede x y a) h.links h.circle;
-  are = h.are ∙ all_ends x.shape y.shape a.outline h.links;
-}
-breaks_cyclic x y a _ h = absurd h
 
 -- ---- components that break what is asked of each
 
@@ -192,35 +163,6 @@ module _ (roles : List RoleSets) where
         answers = λ i s. takes_answers x y a i s (h.answers i s);
       }
 
-  is_client_server : (x y : Seen) → Alike x y → IsClientServer x.shape x.does roles → IsClientServer y.shape y.does roles
-  is_client_server x y a h = record { keep_roles = keep_roles x y a h.keep_roles; no_circle = no_circle x.shape y.shape a.outline roles h.no_circle }
-
-  breaks_roles : (x y : Seen) → Alike x y → (which : Condition) (i : ℕ) (s : List ℕ) → BreaksRoles x.shape x.does roles which i s → BreaksRoles y.shape y.does roles which i s
-  breaks_roles x y a condition.Roles i s h = (h.0, lacks_roles x.shape y.shape a.outline roles i h.1)
-  breaks_roles x y a condition.Clients i s h = (h.0, lacks_client x.shape y.shape a.outline roles i h.1)
-  breaks_roles x y a condition.Turns i s h =
-      (have_clients x.shape y.shape a.outline roles h.0, first_broken x.does y.does a.agree _ _ (takes_turns x y a) (takes_turns y x (turned x y a)) i s h.1)
-  breaks_roles x y a condition.Service i s h = (
-    have_clients x.shape y.shape a.outline roles h.0,
-    λ j t. takes_turns x y a j t (h.1 j t),
-    first_broken x.does y.does a.agree _ _ (serves_all x y a) (serves_all y x (turned x y a)) i s h.2,
-  )
-  breaks_roles x y a condition.Answers i s h = (
-    have_clients x.shape y.shape a.outline roles h.0,
-    λ j t. takes_turns x y a j t (h.1 j t),
-    λ j t. serves_all x y a j t (h.2 j t),
-    first_broken x.does y.does a.agree _ _ (takes_answers x y a) (takes_answers y x (turned x y a)) i s h.3,
-  )
-  breaks_roles x y a _ i s h = h
-
-  breaks_client_server : (x y : Seen) → Alike x y → (fault : RuleFault) → BreaksClientServerRule x.shape x.does roles fault → BreaksClientServerRule y.shape y.does roles fault
-  breaks_client_server x y a (Broken which i s) h = breaks_roles x y a which i s h
-  breaks_client_server x y a (ClientsCircle clients) h = record {
-    keep_roles = keep_roles x y a h.keep_roles;
-    circle = same_least_circle (Serves x.shape roles) (Serves y.shape roles) (each_serves x.shape y.shape a.outline roles) clients h.circle;
-  }
-  breaks_client_server x y a _ h = absurd h
-
 -- ---- the rule of users and resources
 
 -- a set with the same members acquires the same resources
@@ -231,9 +173,10 @@ acquires_same uses M N j members h =
     and_from (use_at uses j).resource (list_any (λ e. has (use_at uses j).acquire e) N) p.0 (any_of (λ e. has (use_at uses j).acquire e) N e.0 (members e.0 ∙ e.1) e.2)
 
 module _ (uses : List UseSets) where
-  used_in_turn : (x y : Seen) → Alike x y → (i : ℕ) (s : List ℕ) → IsUsedInTurn x.shape x.does uses i s → IsUsedInTurn y.shape y.does uses i s
-  used_in_turn x y a i s h =
+  keeps_holder : (x y : Seen) → Alike x y → (i : ℕ) (s : List ℕ) → KeepsHolder x.shape x.does uses i s → KeepsHolder y.shape y.does uses i s
+  keeps_holder x y a i s keeps resource =
       let o = a.outline in
+      let h = keeps resource in
       record {
         turn = λ e possible v.
             sym (ap (λ b. cond b (has (use_at uses i).release e) (has (use_at uses i).acquire e)) (same_held x.shape y.shape o s))
@@ -243,9 +186,10 @@ module _ (uses : List UseSets) where
             ∙ h.by_holder l e ((a.agree.possible i s e).1 possible) (o.vocabulary e ∙ v) (same_held x.shape y.shape o s ∙ held) (holder y.shape x.shape (turned_outline x.shape y.shape o) i s l by);
       }
 
-  grants_all : (x y : Seen) → Alike x y → (i : ℕ) (s : List ℕ) → GrantsAll x.shape x.does uses i s → GrantsAll y.shape y.does uses i s
-  grants_all x y a i s h =
+  keeps_grants : (x y : Seen) → Alike x y → (i : ℕ) (s : List ℕ) → KeepsGrants x.shape x.does uses i s → KeepsGrants y.shape y.does uses i s
+  keeps_grants x y a i s keeps resource =
       let o = a.outline in
+      let h = keeps resource in
       record {
         when_free = λ M accepts free.
             let z = a.agree.accepts i s M accepts in
@@ -256,20 +200,11 @@ module _ (uses : List UseSets) where
             ∙ h.when_held l z.set e z.accepts (same_held x.shape y.shape o s ∙ held) (holder y.shape x.shape (turned_outline x.shape y.shape o) i s l by) release (o.shared l e ∙ on);
       }
 
-  uses_in_turn : (x y : Seen) → Alike x y → (i : ℕ) (s : List ℕ) → UsesInTurn x.shape x.does uses i s → UsesInTurn y.shape y.does uses i s
-  uses_in_turn x y a i s h j l e joined possible on =
+  keeps_turns : (x y : Seen) → Alike x y → (i : ℕ) (s : List ℕ) → KeepsTurns x.shape x.does uses i s → KeepsTurns y.shape y.does uses i s
+  keeps_turns x y a i s h user j l e joined possible on =
       let o = a.outline in
       sym (ap (λ b. cond b (has (use_at uses j).release e) (has (use_at uses j).acquire e)) (same_holds x.shape y.shape o l s))
-      ∙ h j l e (joins y.shape x.shape (turned_outline x.shape y.shape o) i j l joined) ((a.agree.possible i s e).1 possible) (o.shared l e ∙ on)
-
-  keeps_holder : (x y : Seen) → Alike x y → (i : ℕ) (s : List ℕ) → KeepsHolder x.shape x.does uses i s → KeepsHolder y.shape y.does uses i s
-  keeps_holder x y a i s h resource = used_in_turn x y a i s (h resource)
-
-  keeps_grants : (x y : Seen) → Alike x y → (i : ℕ) (s : List ℕ) → KeepsGrants x.shape x.does uses i s → KeepsGrants y.shape y.does uses i s
-  keeps_grants x y a i s h resource = grants_all x y a i s (h resource)
-
-  keeps_turns : (x y : Seen) → Alike x y → (i : ℕ) (s : List ℕ) → KeepsTurns x.shape x.does uses i s → KeepsTurns y.shape y.does uses i s
-  keeps_turns x y a i s h user = uses_in_turn x y a i s (h user)
+      ∙ h user j l e (joins y.shape x.shape (turned_outline x.shape y.shape o) i j l joined) ((a.agree.possible i s e).1 possible) (o.shared l e ∙ on)
 
   keep_uses : (x y : Seen) → Alike x y → KeepUses x.shape x.does uses → KeepUses y.shape y.does uses
   keep_uses x y a h = record {
@@ -299,42 +234,72 @@ module _ (uses : List UseSets) where
   can_be_ordered : (x y : Seen) → Alike x y → CanBeOrdered x.shape x.does uses → CanBeOrdered y.shape y.does uses
   can_be_ordered x y a h = record { number = h.number; rise = λ m j held. h.rise m j (held_while y x (turned x y a) m j held) }
 
-  is_resource : (x y : Seen) → Alike x y → IsResource x.shape x.does uses → IsResource y.shape y.does uses
-  is_resource x y a h = record { keep_uses = keep_uses x y a h.keep_uses; ordered = can_be_ordered x y a h.ordered }
-
-  breaks_uses : (x y : Seen) → Alike x y → (which : Condition) (i : ℕ) (s : List ℕ) → BreaksUses x.shape x.does uses which i s → BreaksUses y.shape y.does uses which i s
-  breaks_uses x y a condition.Kinds i s h = (h.0, lacks_kind x.shape y.shape a.outline uses i h.1)
-  breaks_uses x y a condition.Holders i s h =
-      (have_kinds x.shape y.shape a.outline uses h.0, first_broken x.does y.does a.agree _ _ (keeps_holder x y a) (keeps_holder y x (turned x y a)) i s h.1)
-  breaks_uses x y a condition.Grants i s h = (
-    have_kinds x.shape y.shape a.outline uses h.0,
-    λ j t. keeps_holder x y a j t (h.1 j t),
-    first_broken x.does y.does a.agree _ _ (keeps_grants x y a) (keeps_grants y x (turned x y a)) i s h.2,
-  )
-  breaks_uses x y a condition.Uses i s h = (
-    have_kinds x.shape y.shape a.outline uses h.0,
-    λ j t. keeps_holder x y a j t (h.1 j t),
-    λ j t. keeps_grants x y a j t (h.2 j t),
-    first_broken x.does y.does a.agree _ _ (keeps_turns x y a) (keeps_turns y x (turned x y a)) i s h.3,
-  )
-  breaks_uses x y a _ i s h = h
-
-  breaks_resource : (x y : Seen) → Alike x y → (fault : RuleFault) → BreaksResourceRule x.shape x.does uses fault → BreaksResourceRule y.shape y.does uses fault
-  breaks_resource x y a (Broken which i s) h = breaks_uses x y a which i s h
-  breaks_resource x y a (ResourcesCircle resources) h = record {
-    keep_uses = keep_uses x y a h.keep_uses;
-    circle = same_least_circle (IsHeldWhile x.shape x.does uses) (IsHeldWhile y.shape y.does uses) (held_while x y a) resources h.circle;
-  }
-  breaks_resource x y a _ h = absurd h
-
 -- ---- a rule with its notes
 
 pub meets : (rule : NotedRule) (x y : Seen) → Alike x y → MeetsRule rule x.shape x.does → MeetsRule rule y.shape y.does
-meets Cyclic x y a h = is_cyclic x y a h
-meets (ClientServer roles) x y a h = is_client_server roles x y a h
-meets (Resource uses) x y a h = is_resource uses x y a h
+meets Cyclic x y a h = record {
+  order = all_keep_places x y a h.order;
+  numbered = can_be_numbered x y a h.numbered;
+  whole = λ l below. has_whole_end x y a l (h.whole l (on_links y.shape x.shape (turned_outline x.shape y.shape a.outline) l below));
+}
+meets (ClientServer roles) x y a h = record { keep_roles = keep_roles roles x y a h.keep_roles; no_circle = no_circle x.shape y.shape a.outline roles h.no_circle }
+meets (Resource uses) x y a h = record { keep_uses = keep_uses uses x y a h.keep_uses; ordered = can_be_ordered uses x y a h.ordered }
 
 pub breaks : (rule : NotedRule) (x y : Seen) → Alike x y → (fault : RuleFault) → BreaksRule rule x.shape x.does fault → BreaksRule rule y.shape y.does fault
-breaks Cyclic x y a fault h = breaks_cyclic x y a fault h
-breaks (ClientServer roles) x y a fault h = breaks_client_server roles x y a fault h
-breaks (Resource uses) x y a fault h = breaks_resource uses x y a fault h
+breaks Cyclic x y a (NoOrder i s e) h = record { breaks = breaks_order x y a i s e h.breaks; first = λ j less. keeps_places x y a j (h.first j less) }
+breaks Cyclic x y a (NoWholeEnd i j s t) h = record {
+  order = all_keep_places x y a h.order;
+  numbered = can_be_numbered x y a h.numbered;
+  link = h.link;
+  within = on_links x.shape y.shape a.outline h.link h.within;
+  ends = sym (same_ends x.shape y.shape a.outline h.link) ∙ h.ends;
+  left = subst (λ k. FallsShort y.shape y.does h.link k s) (a.outline.left h.link) (falls_short x y a h.link (link_at x.shape h.link).left s h.left);
+  right = subst (λ k. FallsShort y.shape y.does h.link k t) (a.outline.right h.link) (falls_short x y a h.link (link_at x.shape h.link).right t h.right);
+  first = λ m less. has_whole_end x y a m (h.first m less);
+}
+breaks Cyclic x y a (LinksCircle ends) h = record {
+  order = all_keep_places x y a h.order;
+  links = h.links;
+  circle = same_least_circle (MustPrecede x.shape x.does) (MustPrecede y.shape y.does) (must_precede x y a) h.links h.circle;
+  are = h.are ∙ all_ends x.shape y.shape a.outline h.links;
+}
+breaks Cyclic x y a _ h = absurd h
+breaks (ClientServer roles) x y a (Broken condition.Roles i s) h = (h.0, lacks_roles x.shape y.shape a.outline roles i h.1)
+breaks (ClientServer roles) x y a (Broken condition.Clients i s) h = (h.0, lacks_client x.shape y.shape a.outline roles i h.1)
+breaks (ClientServer roles) x y a (Broken condition.Turns i s) h =
+    (have_clients x.shape y.shape a.outline roles h.0, first_broken x.does y.does a.agree _ _ (takes_turns roles x y a) (takes_turns roles y x (turned x y a)) i s h.1)
+breaks (ClientServer roles) x y a (Broken condition.Service i s) h = (
+  have_clients x.shape y.shape a.outline roles h.0,
+  λ j t. takes_turns roles x y a j t (h.1 j t),
+  first_broken x.does y.does a.agree _ _ (serves_all roles x y a) (serves_all roles y x (turned x y a)) i s h.2,
+)
+breaks (ClientServer roles) x y a (Broken condition.Answers i s) h = (
+  have_clients x.shape y.shape a.outline roles h.0,
+  λ j t. takes_turns roles x y a j t (h.1 j t),
+  λ j t. serves_all roles x y a j t (h.2 j t),
+  first_broken x.does y.does a.agree _ _ (takes_answers roles x y a) (takes_answers roles y x (turned x y a)) i s h.3,
+)
+breaks (ClientServer roles) x y a (ClientsCircle clients) h = record {
+  keep_roles = keep_roles roles x y a h.keep_roles;
+  circle = same_least_circle (Serves x.shape roles) (Serves y.shape roles) (serves x.shape y.shape a.outline roles) clients h.circle;
+}
+breaks (ClientServer roles) x y a _ h = absurd h
+breaks (Resource uses) x y a (Broken condition.Kinds i s) h = (h.0, lacks_kind x.shape y.shape a.outline uses i h.1)
+breaks (Resource uses) x y a (Broken condition.Holders i s) h =
+    (have_kinds x.shape y.shape a.outline uses h.0, first_broken x.does y.does a.agree _ _ (keeps_holder uses x y a) (keeps_holder uses y x (turned x y a)) i s h.1)
+breaks (Resource uses) x y a (Broken condition.Grants i s) h = (
+  have_kinds x.shape y.shape a.outline uses h.0,
+  λ j t. keeps_holder uses x y a j t (h.1 j t),
+  first_broken x.does y.does a.agree _ _ (keeps_grants uses x y a) (keeps_grants uses y x (turned x y a)) i s h.2,
+)
+breaks (Resource uses) x y a (Broken condition.Uses i s) h = (
+  have_kinds x.shape y.shape a.outline uses h.0,
+  λ j t. keeps_holder uses x y a j t (h.1 j t),
+  λ j t. keeps_grants uses x y a j t (h.2 j t),
+  first_broken x.does y.does a.agree _ _ (keeps_turns uses x y a) (keeps_turns uses y x (turned x y a)) i s h.3,
+)
+breaks (Resource uses) x y a (ResourcesCircle resources) h = record {
+  keep_uses = keep_uses uses x y a h.keep_uses;
+  circle = same_least_circle (IsHeldWhile x.shape x.does uses) (IsHeldWhile y.shape y.does uses) (held_while uses x y a) resources h.circle;
+}
+breaks (Resource uses) x y a _ h = absurd h
