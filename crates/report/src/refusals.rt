@@ -26,38 +26,38 @@ fn push_value(report: &mut Bytes, kind: ValueKind, at: Site) -> Written
     push_site(report, at)
 }
 
-// Adds that an operand differs from its alphabet; after the first component it has `more`.
+// Adds that the operand of a component and so many more differs from its alphabet.
 fn push_differing(
     report: &mut Bytes,
     content: &Content,
-    first: u32,
-    more: u32,
+    components: (u32, u32),
     event: Event,
 ) -> Written
-    ensures { OnOk result (report.new ≡ report.old ++ nesting_text content.now first (1 + more) event) }
+    ensures { OnOk result (report.new ≡ report.old
+        ++ nesting_text content.now components.0 (1 + components.1) event) }
 {
-    let last = u64::from(first) + u64::from(more);
+    let last = u64::from(components.0) + u64::from(components.1);
     push_text(
         report,
         &[
-            Number(b"14 components ", first),
+            Number(b"14 components ", components.0),
             Count(b" to ", last),
             Part::Event(b" differ from their alphabet at ", content, event),
         ],
     )
 }
 
-// Adds that an operand differs from its alphabet.
+// Adds that the operand of the first of so many components differs from its alphabet.
 fn push_nesting(
     report: &mut Bytes,
     content: &Content,
-    first: u32,
-    count: u32,
+    components: (u32, u32),
     event: Event,
 ) -> Written
-    ensures { OnOk result (report.new ≡ report.old ++ nesting_text content.now first count event) }
+    ensures { OnOk result (report.new ≡ report.old
+        ++ nesting_text content.now components.0 components.1 event) }
 {
-    if count == 0 {
+    if components.1 == 0 {
         return push_text(
             report,
             &[
@@ -66,7 +66,7 @@ fn push_nesting(
             ],
         );
     }
-    push_differing(report, content, first, count - 1, event)
+    push_differing(report, content, (components.0, components.1 - 1), event)
 }
 
 // Adds why a script has no program.
@@ -202,7 +202,7 @@ fn push_network_fault(report: &mut Bytes, content: &Content, fault: &LayoutFault
             first,
             count,
             event,
-        } => push_nesting(report, content, *first, *count, *event),
+        } => push_nesting(report, content, (*first, *count), *event),
         LayoutFault::EmptyNetwork => report.extend_from_slice(b"15 the network has no components"),
         LayoutFault::ComponentLimit => push_text(
             report,

@@ -71,31 +71,33 @@ fn push_nodes(report: &mut Bytes, content: &Content, nodes: &[NormNode]) -> Writ
     Ok(())
 }
 
-// The first two lines of the report of a table.
-fn head(alloc: Global, component: u32, count: u32, nodes: usize) -> Printed
+// The first two lines of the report of a table, of a component with its number and of so many.
+fn head(alloc: Global, component: (u32, u32), nodes: usize) -> Printed
     ensures { IfOk result (λ made. made
-        ≡ line (codes "component " ++ decimal component ++ codes " of " ++ decimal count)
+        ≡ line (codes "component " ++ decimal component.0 ++ codes " of " ++ decimal component.1)
         ++ line (codes "nodes " ++ decimal nodes)) }
 {
     let mut made = written_line(
         alloc,
-        &[Number(b"component ", component), Number(b" of ", count)],
+        &[
+            Number(b"component ", component.0),
+            Number(b" of ", component.1),
+        ],
     )?;
     push_count(&mut made, b"nodes ", nodes as u64)?;
     Ok(made)
 }
 
-// The report of a table.
+// The report of a table, of a component with its number and of so many.
 pub(crate) fn table(
     alloc: Global,
     content: &Content,
-    component: u32,
-    count: u32,
+    component: (u32, u32),
     nodes: &[NormNode],
 ) -> Printed
-    ensures { IfOk result (λ made. made ≡ table_text content.now component count nodes.now) }
+    ensures { IfOk result (λ made. made ≡ table_text content.now component.0 component.1 nodes.now) }
 {
-    let mut made = head(alloc, component, count, nodes.len())?;
+    let mut made = head(alloc, component, nodes.len())?;
     push_nodes(&mut made, content, nodes)?;
     Ok(made)
 }

@@ -74,7 +74,7 @@ fn done(alloc: Global, content: &Content, done: &Done) -> Printed
             component,
             count,
             part,
-        } => table(alloc, content, *component, *count, part.table().nodes()),
+        } => table(alloc, content, (*component, *count), part.table().nodes()),
         Done::DeadlockFree {
             rule,
             components,

@@ -45,11 +45,10 @@ impl Page {
 
     /// Adds what is answered to the longest script and to one that is too long, and the blocks of a set.
     pub fn push_bounds(&mut self) -> Written {
-        let (short, longest) = (SCRIPT.len(), FILE_LIMIT as usize);
-        let long = longest + 1;
-        self.push_filled(b"a script of 1,048,576 bytes", longest)?;
+        let long = FILE_LIMIT as usize + 1;
+        self.push_filled(b"a script of 1,048,576 bytes", FILE_LIMIT as usize)?;
         self.push_filled(b"a script of 1,048,577 bytes", long)?;
-        self.push_filled_pair(b"a specification of 1,048,577 bytes", short, long)?;
+        self.push_filled_pair(b"a specification of 1,048,577 bytes", SCRIPT.len(), long)?;
         self.push_filled_pair(
             b"a script and a specification of 1,048,577 bytes",
             long,
