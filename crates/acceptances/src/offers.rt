@@ -7,7 +7,7 @@ ghost use Rattle.csp_tables.specs.Prelude.{RawStep, Stable, IsMinimalOffer, Offe
 ghost use Rattle.acceptances.specs.OfferTests.{AreMarks, AreOffers, offers_at};
 
 use crate::least::{push_unless, sorted_least};
-use csp_base::{Event, EventSet, NoMemory};
+use csp_base::{Event, EventSet, Made};
 use csp_tables::RawTable;
 use std::alloc::Global;
 use std::marker::Model;
@@ -33,7 +33,7 @@ impl<'a> Model for Offers<'a> {
 
 impl<'a> Offers<'a> {
     /// Looks at each step of the table once.
-    pub fn new(alloc: Global, table: &'a RawTable) -> Result<Offers<'a>, NoMemory>
+    pub fn new(alloc: Global, table: &'a RawTable) -> Made<Offers<'a>>
         ensures { IfOk result (λ offers. offers ≡ table.now) }
     {
         let unstable = unstable_marks(alloc, table)?;
@@ -49,7 +49,7 @@ impl<'a> Offers<'a> {
     /// of lists.
     ///
     /// It takes no time for other terms than these.
-    pub fn minimal(&self, alloc: Global, terms: &[u32]) -> Result<Vec<EventSet>, NoMemory>
+    pub fn minimal(&self, alloc: Global, terms: &[u32]) -> Made<Vec<EventSet>>
         requires { All (λ n. n < self.now.count) terms.now }
         ensures sound { IfOk result (λ sets. All (IsMinimalOffer self.now terms.now) sets.items) }
         ensures complete { IfOk result (λ sets. (M : List ℕ) → IsMinimalOffer self.now terms.now M
@@ -67,7 +67,7 @@ impl<'a> Offers<'a> {
 }
 
 // A mark at each term that has a silent step.
-fn unstable_marks(alloc: Global, table: &RawTable) -> Result<Vec<bool>, NoMemory>
+fn unstable_marks(alloc: Global, table: &RawTable) -> Made<Vec<bool>>
     ensures { IfOk result (λ marks. AreMarks table.now marks.items) }
 {
     let mut marks = vec![in alloc; false; table.count() as usize]?;
@@ -78,7 +78,7 @@ fn unstable_marks(alloc: Global, table: &RawTable) -> Result<Vec<bool>, NoMemory
 }
 
 /// For each term the set of the events of its steps.
-pub fn event_sets(alloc: Global, table: &RawTable) -> Result<Vec<EventSet>, NoMemory>
+pub fn event_sets(alloc: Global, table: &RawTable) -> Made<Vec<EventSet>>
     ensures { IfOk result (λ sets. AreOffers table.now sets.items) }
 {
     let mut sets = empty_sets(alloc, table.count())?;
@@ -89,7 +89,7 @@ pub fn event_sets(alloc: Global, table: &RawTable) -> Result<Vec<EventSet>, NoMe
 }
 
 // As many empty sets as `count` says.
-fn empty_sets(alloc: Global, count: u32) -> Result<Vec<EventSet>, NoMemory>
+fn empty_sets(alloc: Global, count: u32) -> Made<Vec<EventSet>>
     ensures { IfOk result (λ sets. sets.items ≡ replicate count []) }
 {
     let mut sets = Vec::new(alloc);
@@ -100,7 +100,7 @@ fn empty_sets(alloc: Global, count: u32) -> Result<Vec<EventSet>, NoMemory>
 }
 
 // Adds an event to the set in a place.
-fn insert_at(sets: &mut Vec<EventSet>, place: u32, event: Event) -> Result<(), NoMemory>
+fn insert_at(sets: &mut Vec<EventSet>, place: u32, event: Event) -> Made<()>
     requires { place < length sets.old.items }
     ensures ok { OnOk result (sets.new.items ≡ slice_set sets.old.items place
         (with_member event (slice_index_or sets.old.items place []))) }
@@ -115,7 +115,7 @@ fn offers_of(
     unstable: &[bool],
     sets: &[EventSet],
     terms: &[u32],
-) -> Result<Vec<EventSet>, NoMemory>
+) -> Made<Vec<EventSet>>
     requires marks { All (λ n. n < length unstable.now) terms.now }
     requires sets { All (λ n. n < length sets.now) terms.now }
     ensures { IfOk result (λ made. made.items ≡ offers_at unstable.now sets.now terms.now) }

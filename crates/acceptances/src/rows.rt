@@ -6,11 +6,11 @@ ghost use Rattle.acceptances.specs.OfferTests.{has_smaller, is_smaller as is_sma
 ghost use Rattle.acceptances.specs.EventRows.{AreEventRows, IsRowFor};
 
 use containers::{Items, empty_rows, push_at};
-use csp_base::{Event, EventSet, NoMemory};
+use csp_base::{Event, EventSet, Made};
 use std::alloc::Global;
 
 // The places of the sets in rows. A set stands in the row of one of its events, the empty one in the first row.
-pub(crate) fn event_rows(alloc: Global, sets: &[EventSet]) -> Result<Vec<Items<usize>>, NoMemory>
+pub(crate) fn event_rows(alloc: Global, sets: &[EventSet]) -> Made<Vec<Items<usize>>>
     ensures { IfOk result (λ rows. AreEventRows sets.now rows.items) }
 {
     let mut rows = empty_rows(alloc, sets.len() + 1)?;

@@ -6,7 +6,7 @@ ghost use Rattle.csp_tables.specs.Shape.{IsWellFormed, link_at};
 ghost use Rattle.design_rules.specs.Prelude.{HasRoles, BreaksClientServer};
 ghost use Rattle.client_server_conditions.specs.Sides.{AgreeOn, AreSides, HaveNoOther, IsClient, IsSide, IsSideOrNone};
 
-use csp_base::{EventSet, NoMemory, Stop, Trace};
+use csp_base::{EventSet, Made, NoMemory, Stop, Trace};
 use csp_tables::{RoleSets, Shape};
 use design_rules::{Condition, RuleFault};
 use std::alloc::Global;
@@ -49,12 +49,7 @@ fn no_client(alloc: Global, shape: &Shape, link: u32) -> RuleFault
 }
 
 // Whether the left end of the link is its client, where one of its ends is.
-fn side(
-    alloc: Global,
-    shape: &Shape,
-    roles: &[RoleSets],
-    link: u32,
-) -> Result<Option<bool>, NoMemory>
+fn side(alloc: Global, shape: &Shape, roles: &[RoleSets], link: u32) -> Made<Option<bool>>
     requires form { IsWellFormed shape.now }
     requires roles { length roles.now ≡ length shape.now.parts }
     requires link { link < length shape.now.links }
@@ -73,12 +68,7 @@ fn side(
 }
 
 // Whether of the events of a link the first is the client and the second the server.
-fn is_client(
-    alloc: Global,
-    events: &EventSet,
-    client: &RoleSets,
-    server: &RoleSets,
-) -> Result<bool, NoMemory>
+fn is_client(alloc: Global, events: &EventSet, client: &RoleSets, server: &RoleSets) -> Made<bool>
     ensures { IfOk result (λ is. IsTrue is ↔ IsClient events.now client.now server.now) }
 {
     if !no_other(events, client, server) {
@@ -107,12 +97,7 @@ fn no_other(events: &EventSet, client: &RoleSets, server: &RoleSets) -> bool
 }
 
 // Whether the two sets have the same of the events.
-fn agree_on(
-    alloc: Global,
-    events: &EventSet,
-    first: &EventSet,
-    second: &EventSet,
-) -> Result<bool, NoMemory>
+fn agree_on(alloc: Global, events: &EventSet, first: &EventSet, second: &EventSet) -> Made<bool>
     ensures { IfOk result (λ agree. IsTrue agree ↔ AgreeOn events.now first.now second.now) }
 {
     let mine = events.inter(alloc, first)?;

@@ -9,13 +9,13 @@ ghost use Rattle.client_server_conditions.specs.Duties.{LinksAreKept, TakesAnswe
 use crate::conditions::RunCondition;
 use crate::duty::Duty;
 use crate::nodes::{in_turn, some_acknowledged, some_refuses, some_takes};
-use csp_base::{Event, EventSet, NoMemory};
+use csp_base::{Event, EventSet, Made};
 use std::alloc::Global;
 
 impl<'a> Duty<'a> {
     // Whether each node tells which links are open there, and keeps what is asked on each of them. The component is explored
     // once, whatever the number of its links.
-    pub(crate) fn is_kept_by_nodes(&self, alloc: Global) -> Result<bool, NoMemory>
+    pub(crate) fn is_kept_by_nodes(&self, alloc: Global) -> Made<bool>
         ensures { IfOk result (λ kept. kept ≡ true → LinksAreKept self.now) }
     {
         let _linked = self.network.shape();
@@ -28,7 +28,7 @@ impl<'a> Duty<'a> {
     }
 
     // The links on which the condition is asked and that have acknowledgements.
-    fn watched_links(&self, alloc: Global) -> Result<EventSet, NoMemory>
+    fn watched_links(&self, alloc: Global) -> Made<EventSet>
         ensures { IfOk result (λ watched. AreWatched self.now watched) }
     {
         let mut watched = EventSet::new(alloc);
@@ -54,7 +54,7 @@ impl<'a> Duty<'a> {
     }
 
     // Whether each node keeps what is asked, where the links of its set are open.
-    fn each_node_keeps(&self, alloc: Global, opened: &[EventSet]) -> Result<bool, NoMemory>
+    fn each_node_keeps(&self, alloc: Global, opened: &[EventSet]) -> Made<bool>
         requires { length opened.now ≡ length (table_at self.now) }
         ensures { IfOk result (λ kept. kept ≡ true → KeepEach self.now opened.now) }
     {
@@ -68,7 +68,7 @@ impl<'a> Duty<'a> {
     }
 
     // Whether the node keeps what is asked, where these links are open.
-    fn keeps_at_node(&self, alloc: Global, node: u32, opened: &EventSet) -> Result<bool, NoMemory>
+    fn keeps_at_node(&self, alloc: Global, node: u32, opened: &EventSet) -> Made<bool>
         requires { node < length (table_at self.now) }
         ensures { IfOk result (λ kept. kept ≡ true → KeepsOpened self.now self.now.condition node opened.now) }
     {
@@ -119,7 +119,7 @@ impl<'a> Duty<'a> {
     }
 
     // Whether each acknowledgement of each open link is taken.
-    fn takes_answers(&self, alloc: Global, node: u32, opened: &EventSet) -> Result<bool, NoMemory>
+    fn takes_answers(&self, alloc: Global, node: u32, opened: &EventSet) -> Made<bool>
         requires { node < length (table_at self.now) }
         ensures { IfOk result (λ kept. kept ≡ true → KeepsOpened self.now RunCondition.Answers node opened.now) }
     {
@@ -132,7 +132,7 @@ impl<'a> Duty<'a> {
     }
 
     // Whether each acknowledgement of the link is taken.
-    fn takes_answers_on(&self, alloc: Global, node: u32, link: u32) -> Result<bool, NoMemory>
+    fn takes_answers_on(&self, alloc: Global, node: u32, link: u32) -> Made<bool>
         requires { node < length (table_at self.now) }
         ensures { IfOk result (λ kept. kept ≡ true → TakesAnswers self.now node link) }
     {
@@ -147,7 +147,7 @@ impl<'a> Duty<'a> {
 }
 
 // Adds the link to the set, if it is wanted.
-fn insert_if(set: &mut EventSet, link: u32, wanted: bool) -> Result<(), NoMemory>
+fn insert_if(set: &mut EventSet, link: u32, wanted: bool) -> Made<()>
     ensures { OnOk result ((l : ℕ) → has set.new l ≡ (has set.old l || (wanted && nat_eq link l))) }
 {
     if !wanted {

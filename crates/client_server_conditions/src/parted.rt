@@ -5,7 +5,7 @@ ghost use Rattle.csp_base.specs.Prelude.{Tells};
 ghost use Rattle.design_rules.specs.Prelude.{HasRoles, BreaksClientServer};
 ghost use Rattle.client_server_conditions.specs.Sides.{PartOwn};
 
-use csp_base::{EventSet, NoMemory, Stop, Trace};
+use csp_base::{EventSet, Made, Stop, Trace};
 use csp_tables::{RoleSets, Shape};
 use design_rules::{Condition, RuleFault};
 use std::alloc::Global;
@@ -34,12 +34,7 @@ pub(crate) fn check_parted(
 }
 
 // Whether the sets of the part do.
-fn part_has_roles(
-    alloc: Global,
-    shape: &Shape,
-    roles: &[RoleSets],
-    part: u32,
-) -> Result<bool, NoMemory>
+fn part_has_roles(alloc: Global, shape: &Shape, roles: &[RoleSets], part: u32) -> Made<bool>
     requires part { part < length shape.now.parts }
     requires roles { length roles.now ≡ length shape.now.parts }
     ensures { IfOk result (λ parted. IsTrue parted ↔ HasRoles shape.now roles.now part) }
@@ -51,7 +46,7 @@ fn part_has_roles(
 }
 
 // Whether the four sets part the events.
-fn part_own(alloc: Global, own: &EventSet, roles: &RoleSets) -> Result<bool, NoMemory>
+fn part_own(alloc: Global, own: &EventSet, roles: &RoleSets) -> Made<bool>
     ensures { IfOk result (λ parted. IsTrue parted ↔ PartOwn own.now roles.now) }
 {
     let client = roles.creq().union(alloc, roles.cack())?;

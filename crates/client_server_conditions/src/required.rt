@@ -10,7 +10,7 @@ ghost use Rattle.client_server_conditions.specs.Tests.{keeps};
 
 use crate::conditions::RunCondition;
 use crate::nodes::{some_out_of_turn, some_refuses, some_splits, some_takes};
-use csp_base::{EventSet, NoMemory};
+use csp_base::{EventSet, Made};
 use csp_tables::RoleSets;
 use shape_links::{Component, Requirement};
 
@@ -57,7 +57,7 @@ impl<'a> Requirement for OnLink<'a> {
         (node_at (table_of required.component) node)
         (required.acknowledged && nat_eq state 1) };
 
-    fn is_met(&self, node: u32, state: u32) -> Result<bool, NoMemory> {
+    fn is_met(&self, node: u32, state: u32) -> Made<bool> {
         Ok(self.keeps(node, self.acknowledged && state == 1))
     }
 }
@@ -75,7 +75,7 @@ impl<'a> Requirement for Undivided<'a> {
     ghost meets = { λ required node _. not (list_any
         (splits required.component.shape.now.vocabulary required.requests.now) (node_at (table_of required.component) node).accept) };
 
-    fn is_met(&self, node: u32, _state: u32) -> Result<bool, NoMemory> {
+    fn is_met(&self, node: u32, _state: u32) -> Made<bool> {
         let vocabulary = self.component.shape.shape().vocabulary();
         let accept = self.component.node(node).accept();
         Ok(!some_splits(accept, vocabulary, self.requests))

@@ -12,7 +12,7 @@ use crate::duty::Duty;
 use crate::network::Network;
 use crate::nodes::some_acknowledged;
 use crate::required::{OnLink, Undivided};
-use csp_base::{NoMemory, Stop, Trace};
+use csp_base::{Made, Stop, Trace};
 use design_rules::RuleFault;
 use observed_runs::{Parity, Unwatched};
 use std::alloc::Global;
@@ -47,7 +47,7 @@ pub fn check(
 
 impl<'a> Duty<'a> {
     // A run after which the component breaks the condition, if there is one.
-    fn failing_run(&self, alloc: Global) -> Result<Option<Trace>, NoMemory>
+    fn failing_run(&self, alloc: Global) -> Made<Option<Trace>>
         ensures { IfOk result (Decides self.now Keeps) }
     {
         let run = self.whole_run(alloc)?;
@@ -58,7 +58,7 @@ impl<'a> Duty<'a> {
     }
 
     // A run after which the component breaks what the condition asks whatever the link.
-    fn whole_run(&self, alloc: Global) -> Result<Option<Trace>, NoMemory>
+    fn whole_run(&self, alloc: Global) -> Made<Option<Trace>>
         ensures { IfOk result (Decides self.now KeepsWhole) }
     {
         match self.condition {
@@ -68,7 +68,7 @@ impl<'a> Duty<'a> {
     }
 
     // A run after which an acceptance has some requests to the component and not all.
-    fn split_run(&self, alloc: Global) -> Result<Option<Trace>, NoMemory>
+    fn split_run(&self, alloc: Global) -> Made<Option<Trace>>
         ensures { IfOk result (Decides self.now (λ network _. KeepsWhole network RunCondition.Service)) }
     {
         let component = self.component();
@@ -81,7 +81,7 @@ impl<'a> Duty<'a> {
 
     // A run after which the component breaks what the condition asks on one of its links. They are looked at one by one only
     // where the nodes do not tell it.
-    fn links_run(&self, alloc: Global) -> Result<Option<Trace>, NoMemory>
+    fn links_run(&self, alloc: Global) -> Made<Option<Trace>>
         ensures { IfOk result (Decides self.now KeepsLinks) }
     {
         if self.is_kept_by_nodes(alloc)? {
@@ -97,7 +97,7 @@ impl<'a> Duty<'a> {
     }
 
     // A run after which the component breaks what the condition asks on the link.
-    fn link_run(&self, alloc: Global, link: u32) -> Result<Option<Trace>, NoMemory>
+    fn link_run(&self, alloc: Global, link: u32) -> Made<Option<Trace>>
         requires link { link < length self.now.network.now.shape.links }
         requires end { IsTrue (is_end self.now.network.now.shape self.now.part link) }
         ensures { IfOk result (Decides self.now (λ network condition i. KeepsOn network condition i link)) }

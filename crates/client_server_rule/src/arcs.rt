@@ -8,7 +8,7 @@ ghost use Rattle.client_server_rule.specs.Serving.{HaveHeights, ServesIn, Serves
 
 use client_server_conditions::Network;
 use containers::Items;
-use csp_base::{NoMemory, Stop};
+use csp_base::{Made, NoMemory, Stop};
 use design_rules::RuleFault;
 use digraph::{Heights, Rows, longest_walks};
 use std::alloc::Global;
@@ -33,7 +33,7 @@ pub(crate) fn heights(alloc: Global, network: &Network<'_>) -> Result<Heights, S
 }
 
 // An arc from each client to each of its servers.
-fn arcs(alloc: Global, network: &Network<'_>) -> Result<Rows, NoMemory>
+fn arcs(alloc: Global, network: &Network<'_>) -> Made<Rows>
     ensures count { IfOk result (λ rows. length rows ≡ length network.now.shape.parts) }
     ensures sound { IfOk result (λ rows. (i j : ℕ) → HasArc rows i j → ServesIn network.now i j) }
     ensures complete { IfOk result (λ rows. (i j : ℕ) → ServesIn network.now i j → HasArc rows i j) }
@@ -47,7 +47,7 @@ fn arcs(alloc: Global, network: &Network<'_>) -> Result<Rows, NoMemory>
 }
 
 // An arc from the client on the link to the server.
-fn arc(rows: &mut Rows, network: &Network<'_>, link: u32) -> Result<(), NoMemory>
+fn arc(rows: &mut Rows, network: &Network<'_>, link: u32) -> Made<()>
     requires link { link < length network.now.shape.links }
     requires count { length rows.old ≡ length network.now.shape.parts }
     ensures count { length rows.new ≡ length rows.old }

@@ -12,7 +12,7 @@ ghost use Rattle.command_words.specs.declared.request.Request.TheVariants as req
 
 use crate::numbers::spelled_number;
 use crate::words::Words;
-use csp_base::{Bytes, NoMemory};
+use csp_base::{Bytes, Made};
 use csp_tables::Rule;
 use net_maker::{Family, greatest_size, least_size, name_of};
 use report::rule_name;
@@ -196,7 +196,7 @@ fn read_livelock(words: &[Bytes]) -> Option<(&[u8], &[u8])>
 }
 
 // What the words ask for the network of a script, and the script's name.
-fn read_job(alloc: Global, words: &[Bytes]) -> Result<Option<(Job, &[u8])>, NoMemory>
+fn read_job(alloc: Global, words: &[Bytes]) -> Made<Option<(Job, &[u8])>>
     ensures asks { IfOk result (λ found. IfSome found (λ asked. Asks words.now (request.Script asked.0 asked.1.now))) }
     ensures none { IfOk result (λ found.
         IfNone found ((job : JobValue) (script : List ℕ) → Asks words.now (request.Script job script) → ⊥)) }
@@ -271,7 +271,7 @@ fn read_conform(words: &[Bytes]) -> Option<(&[u8], &[u8])>
 }
 
 // The request to hold the script of the first name against that of the second.
-fn conform_of(alloc: Global, script: &[u8], specification: &[u8]) -> Result<Request, NoMemory>
+fn conform_of(alloc: Global, script: &[u8], specification: &[u8]) -> Made<Request>
     ensures { IfOk result (λ made. made ≡ request.Conform script.now specification.now) }
 {
     let script = Bytes::from_slice(alloc, script)?;
@@ -280,7 +280,7 @@ fn conform_of(alloc: Global, script: &[u8], specification: &[u8]) -> Result<Requ
 }
 
 /// What the words ask for, if they ask for something.
-pub fn read_request(alloc: Global, words: &Words) -> Result<Option<Request>, NoMemory>
+pub fn read_request(alloc: Global, words: &Words) -> Made<Option<Request>>
     ensures asks { IfOk result (λ found. IfSome found (Asks words.now)) }
     ensures none { IfOk result (λ found. IfNone found (IsNoRequest words.now)) }
 {

@@ -2,7 +2,7 @@
 
 ghost use Rattle.std.specs.Prelude.{◌≡◌, List, ℕ, [], ◌∷◌, ◌++◌, OnOk, OnErr};
 
-use csp_base::{Bytes, NoMemory};
+use csp_base::{Bytes, Made};
 use std::alloc::Global;
 use std::marker::Model;
 
@@ -33,7 +33,7 @@ impl Words {
     }
 
     /// Adds a last word. An error changes nothing.
-    pub fn push(&mut self, word: &[u8]) -> Result<(), NoMemory>
+    pub fn push(&mut self, word: &[u8]) -> Made<()>
         ensures ok { OnOk result (self.new ≡ self.old ++ word.now ∷ []) }
         ensures err { OnErr result (self.new ≡ self.old) }
     {

@@ -5,7 +5,7 @@ ghost use Rattle.csp_base.specs.Stops.{Tells};
 ghost use Rattle.comparison.specs.Agreement.{AgreeAt, EventsDifferAt, HaveOtherEvents, printed_events};
 
 use crate::names::{have_same_names, is_same_event};
-use csp_base::{Bytes, Event, NoMemory, Stop};
+use csp_base::{Bytes, Event, Made, Stop};
 use csp_program::Program;
 use report::{Refusal, event_text};
 use std::alloc::Global;
@@ -26,7 +26,7 @@ pub(crate) fn check_events(
 }
 
 // The least number at which the printed events of the programs differ, if they do.
-fn first_other(alloc: Global, program: &Program, other: &Program) -> Result<Option<u32>, NoMemory>
+fn first_other(alloc: Global, program: &Program, other: &Program) -> Made<Option<u32>>
     ensures differ { IfOk result (λ found. IfSome found (EventsDifferAt program.now other.now)) }
     ensures same { IfOk result (λ found. IfNone found (printed_events program.now ≡ printed_events other.now)) }
 {
@@ -53,12 +53,7 @@ fn most_events(program: &Program, other: &Program) -> u32
 }
 
 // Whether both programs have an event with this number that is printed alike, or neither has one.
-fn same_event(
-    alloc: Global,
-    program: &Program,
-    other: &Program,
-    number: u32,
-) -> Result<bool, NoMemory>
+fn same_event(alloc: Global, program: &Program, other: &Program, number: u32) -> Made<bool>
     ensures { IfOk result (λ same. MatchBool same (AgreeAt program.now other.now number)
         (AgreeAt program.now other.now number → ⊥)) }
 {
@@ -79,7 +74,7 @@ fn same_text(text: &Option<Bytes>, other: &Option<Bytes>) -> bool
 }
 
 // The printed text of the event with this number, if there is one.
-fn event_text_at(alloc: Global, program: &Program, number: u32) -> Result<Option<Bytes>, NoMemory>
+fn event_text_at(alloc: Global, program: &Program, number: u32) -> Made<Option<Bytes>>
     ensures { IfOk result (λ text. text ≡ slice_get (printed_events program.now) number) }
 {
     if number as usize >= program.content().events.len() {

@@ -4,14 +4,14 @@ ghost use Rattle.std.specs.Prelude.{◌≡◌, IfOk, IsTrue, get_or};
 ghost use Rattle.conformance.specs.Alike.{AreAlike, IsAlike};
 
 use crate::nodes::node_of;
-use csp_base::{EventSet, NoMemory};
+use csp_base::{EventSet, Made};
 use csp_tables::Part;
 use std::alloc::Global;
 use std::collections::HashMap;
 use std::hash::{FoldHasher, Hash, Hasher};
 
 // For each node one with the same acceptances, mostly the first of these.
-pub(crate) fn alike_nodes(alloc: Global, part: &Part) -> Result<Vec<u32>, NoMemory>
+pub(crate) fn alike_nodes(alloc: Global, part: &Part) -> Made<Vec<u32>>
     ensures { IfOk result (λ firsts. AreAlike part.now.table firsts.items) }
 {
     let mut known = HashMap::new(alloc);
@@ -24,7 +24,7 @@ pub(crate) fn alike_nodes(alloc: Global, part: &Part) -> Result<Vec<u32>, NoMemo
 }
 
 // A node with the same acceptances: the one that is known by their hash, or else the node itself, which is known then.
-fn alike_node(part: &Part, known: &mut HashMap<u64, u32>, number: u32) -> Result<u32, NoMemory>
+fn alike_node(part: &Part, known: &mut HashMap<u64, u32>, number: u32) -> Made<u32>
     ensures { IfOk result (λ first. IsAlike part.now.table first number) }
 {
     let Some(node) = node_of(part, number) else {

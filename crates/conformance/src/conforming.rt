@@ -15,7 +15,7 @@ use crate::fault::ConformFault;
 use crate::follower::Follower;
 use crate::nodes::node_of;
 use crate::steps::refuses;
-use csp_base::{NoMemory, Stop};
+use csp_base::{Made, Stop};
 use csp_tables::Part;
 use observed_runs::{Explored, Pairs, explore, steps_of};
 use std::alloc::Global;
@@ -47,7 +47,7 @@ pub(crate) fn conform(
 }
 
 // The pairs of nodes to which runs of the part lead, in its table and in that of its specification.
-fn explore_both(alloc: Global, part: &Part, specified: &Part) -> Result<Explored, NoMemory>
+fn explore_both(alloc: Global, part: &Part, specified: &Part) -> Made<Explored>
     requires form { HasForm part.now }
     requires specified_form { HasForm specified.now }
     ensures pairs { IfOk result (λ made. IsExploration part.now.table
@@ -80,7 +80,7 @@ fn refusing_place(
     part: &Part,
     specified: &Part,
     pairs: &[(u32, u32)],
-) -> Result<Option<usize>, NoMemory>
+) -> Made<Option<usize>>
     ensures within { IfOk result (λ found. IfSome found (λ k. k < length pairs.now)) }
     ensures refuses { IfOk result (λ found. IfSome found
         (λ k. RefusesAt part.now.table specified.now.table (pair_at pairs.now k))) }
@@ -106,7 +106,7 @@ fn refuses_newly(
     specified: &Part,
     accepted: &mut Pairs,
     pair: (u32, u32),
-) -> Result<bool, NoMemory>
+) -> Made<bool>
     requires { AllAccept part.now.table specified.now.table accepted.old (length accepted.old) }
     ensures refuses { IfOk result (λ refuses. OnTrue refuses (RefusesAt part.now.table specified.now.table pair)) }
     ensures accepts { IfOk result (λ refuses. OnFalse refuses (AcceptsAt part.now.table specified.now.table pair)) }

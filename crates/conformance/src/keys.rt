@@ -4,12 +4,12 @@ ghost use Rattle.std.specs.Prelude.{◌≡◌, ◌++◌, ℕ, IfOk, OnOk, slice_
 ghost use Rattle.conformance.specs.Keys.{IsKey, IsOneToOne, listed, node_code, set_code, step_code, table_code};
 
 use containers::Items;
-use csp_base::{Event, EventSet, NoMemory};
+use csp_base::{Event, EventSet, Made};
 use csp_tables::{NormNode, Part};
 use std::alloc::Global;
 
 // Both tables, with the place that each event has in the alphabet.
-pub(crate) fn key_of(alloc: Global, part: &Part, specified: &Part) -> Result<Items<usize>, NoMemory>
+pub(crate) fn key_of(alloc: Global, part: &Part, specified: &Part) -> Made<Items<usize>>
     ensures { IfOk result (IsKey part.now specified.now) }
 {
     let places = places_of(alloc, part.alphabet())?;
@@ -20,7 +20,7 @@ pub(crate) fn key_of(alloc: Global, part: &Part, specified: &Part) -> Result<Ite
 }
 
 // At the number of each event of the alphabet its place there.
-fn places_of(alloc: Global, alphabet: &EventSet) -> Result<Vec<usize>, NoMemory>
+fn places_of(alloc: Global, alphabet: &EventSet) -> Made<Vec<usize>>
     ensures { IfOk result (λ places. IsOneToOne alphabet.now (slice_index places.items)) }
 {
     let events = events_of(alloc, alphabet)?;
@@ -32,7 +32,7 @@ fn places_of(alloc: Global, alphabet: &EventSet) -> Result<Vec<usize>, NoMemory>
 }
 
 // Puts the place at the number of the event.
-fn put(places: &mut Vec<usize>, event: Event, place: usize) -> Result<(), NoMemory>
+fn put(places: &mut Vec<usize>, event: Event, place: usize) -> Made<()>
     ensures put { OnOk result (slice_index places.new.items event ≡ place) }
     ensures others { OnOk result ((e : ℕ) → (e ≡ event → ⊥) → slice_index places.new.items e
         ≡ slice_index places.old.items e) }
@@ -45,7 +45,7 @@ fn put(places: &mut Vec<usize>, event: Event, place: usize) -> Result<(), NoMemo
 }
 
 // The members of the set.
-fn events_of(alloc: Global, set: &EventSet) -> Result<Items<Event>, NoMemory>
+fn events_of(alloc: Global, set: &EventSet) -> Made<Items<Event>>
     ensures { IfOk result (λ events. events ≡ set.now) }
 {
     let mut events = Items::new(alloc);
@@ -56,12 +56,7 @@ fn events_of(alloc: Global, set: &EventSet) -> Result<Items<Event>, NoMemory>
 }
 
 // Each of these puts what it codes at the end of the key.
-fn add_table(
-    alloc: Global,
-    key: &mut Items<usize>,
-    part: &Part,
-    places: &[usize],
-) -> Result<(), NoMemory>
+fn add_table(alloc: Global, key: &mut Items<usize>, part: &Part, places: &[usize]) -> Made<()>
     ensures { OnOk result (key.new ≡ key.old ++ table_code (slice_index places.now) part.now.table) }
 {
     let nodes = part.table().nodes();
@@ -72,23 +67,14 @@ fn add_table(
     Ok(())
 }
 
-fn add_node(
-    alloc: Global,
-    key: &mut Items<usize>,
-    node: &NormNode,
-    places: &[usize],
-) -> Result<(), NoMemory>
+fn add_node(alloc: Global, key: &mut Items<usize>, node: &NormNode, places: &[usize]) -> Made<()>
     ensures { OnOk result (key.new ≡ key.old ++ node_code (slice_index places.now) node.now) }
 {
     add_steps(key, node.next(), places)?;
     add_sets(alloc, key, node.accept(), places)
 }
 
-fn add_steps(
-    key: &mut Items<usize>,
-    steps: &[(Event, u32)],
-    places: &[usize],
-) -> Result<(), NoMemory>
+fn add_steps(key: &mut Items<usize>, steps: &[(Event, u32)], places: &[usize]) -> Made<()>
     ensures { OnOk result (key.new ≡ key.old ++ listed (step_code (slice_index places.now)) steps.now) }
 {
     key.push(steps.len())?;
@@ -99,12 +85,7 @@ fn add_steps(
     Ok(())
 }
 
-fn add_sets(
-    alloc: Global,
-    key: &mut Items<usize>,
-    sets: &[EventSet],
-    places: &[usize],
-) -> Result<(), NoMemory>
+fn add_sets(alloc: Global, key: &mut Items<usize>, sets: &[EventSet], places: &[usize]) -> Made<()>
     ensures { OnOk result (key.new ≡ key.old ++ listed (set_code (slice_index places.now)) sets.now) }
 {
     key.push(sets.len())?;
@@ -114,12 +95,7 @@ fn add_sets(
     Ok(())
 }
 
-fn add_set(
-    alloc: Global,
-    key: &mut Items<usize>,
-    set: &EventSet,
-    places: &[usize],
-) -> Result<(), NoMemory>
+fn add_set(alloc: Global, key: &mut Items<usize>, set: &EventSet, places: &[usize]) -> Made<()>
     ensures { OnOk result (key.new ≡ key.old ++ set_code (slice_index places.now) set.now) }
 {
     let events = events_of(alloc, set)?;

@@ -8,7 +8,7 @@ use crate::atom::Atom;
 use crate::error::MixedKinds;
 use crate::sorted;
 use containers::Items;
-use csp_base::{EventSet, NoMemory, SetOp, Stop};
+use csp_base::{EventSet, Made, SetOp, Stop};
 use std::alloc::Global;
 use std::marker::Model;
 
@@ -49,7 +49,7 @@ impl AtomSet {
     }
 
     /// The set of the events that the atoms are, `None` where one of them is no event.
-    pub fn to_event_set(&self, alloc: Global) -> Result<Option<EventSet>, NoMemory>
+    pub fn to_event_set(&self, alloc: Global) -> Made<Option<EventSet>>
         ensures { IfOk result (λ found. found ≡ event_numbers self.now) }
     {
         match sorted::events(alloc, self.atoms.as_slice())? {
@@ -137,7 +137,7 @@ impl AtomSet {
     }
 
     /// The atoms of both sets.
-    pub fn inter(&self, alloc: Global, other: &AtomSet) -> Result<AtomSet, NoMemory>
+    pub fn inter(&self, alloc: Global, other: &AtomSet) -> Made<AtomSet>
         ensures value { IfOk result (λ made. made ≡ inter_of self.now other.now) }
         ensures members { IfOk result (λ made. (a : Atom)
             → has_atom made a ≡ (has_atom self.now a && has_atom other.now a)) }
@@ -153,7 +153,7 @@ impl AtomSet {
     }
 
     /// The atoms of this set that are no members of the other.
-    pub fn diff(&self, alloc: Global, other: &AtomSet) -> Result<AtomSet, NoMemory>
+    pub fn diff(&self, alloc: Global, other: &AtomSet) -> Made<AtomSet>
         ensures value { IfOk result (λ made. made ≡ diff_of self.now other.now) }
         ensures members { IfOk result (λ made. (a : Atom)
             → has_atom made a ≡ (has_atom self.now a && not (has_atom other.now a))) }
@@ -169,7 +169,7 @@ impl AtomSet {
     }
 
     /// A second set of the same atoms.
-    pub fn try_clone(&self, alloc: Global) -> Result<AtomSet, NoMemory>
+    pub fn try_clone(&self, alloc: Global) -> Made<AtomSet>
         ensures { IfOk result (λ copy. copy ≡ self.now) }
     {
         let atoms = Items::from_slice(alloc, self.atoms.as_slice())?;

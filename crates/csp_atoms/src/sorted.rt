@@ -7,7 +7,7 @@ ghost use Rattle.csp_base.specs.Operations.{keeps};
 
 use crate::atom::{Atom, equal, precedes};
 use containers::Items;
-use csp_base::{Event, EventSet, NoMemory, SetOp};
+use csp_base::{Event, EventSet, Made, SetOp};
 use std::alloc::Global;
 
 // How many atoms come before the given one, by binary search.
@@ -59,7 +59,7 @@ pub(crate) fn contains(atoms: &[Atom], atom: &Atom) -> bool
 }
 
 /// Adds the atom at its place, where it isn't there yet. An error changes nothing.
-pub(crate) fn include(atoms: &mut Items<Atom>, atom: &Atom) -> Result<(), NoMemory>
+pub(crate) fn include(atoms: &mut Items<Atom>, atom: &Atom) -> Made<()>
     requires { IsRising atoms.old }
     ensures ok { OnOk result (atoms.new ≡ with_atom atoms.old atom.now) }
     ensures err { OnErr result (atoms.new ≡ atoms.old) }
@@ -138,7 +138,7 @@ fn is_kept(operation: SetOp, left: bool, right: bool) -> bool
 }
 
 // Adds an atom at the end, where the test says so.
-fn push_if(made: &mut Vec<Atom>, kept: bool, atom: &Atom) -> Result<(), NoMemory>
+fn push_if(made: &mut Vec<Atom>, kept: bool, atom: &Atom) -> Made<()>
     ensures ok { OnOk result (made.new.items ≡ with_last made.old.items kept atom.now) }
     ensures err { OnErr result (made.new.items ≡ made.old.items) }
 {
@@ -154,7 +154,7 @@ pub(crate) fn merge(
     operation: SetOp,
     left: &[Atom],
     right: &[Atom],
-) -> Result<Items<Atom>, NoMemory>
+) -> Made<Items<Atom>>
     requires left_rises { IsRising left.now }
     requires right_rises { IsRising right.now }
     ensures { IfOk result (λ made. made ≡ result_of operation left.now right.now) }
@@ -186,7 +186,7 @@ fn event_of(atom: &Atom) -> Option<Event>
 }
 
 /// The events of the list, if all its atoms are events.
-pub(crate) fn events(alloc: Global, atoms: &[Atom]) -> Result<Option<Vec<Event>>, NoMemory>
+pub(crate) fn events(alloc: Global, atoms: &[Atom]) -> Made<Option<Vec<Event>>>
     ensures { IfOk result (λ found. option_map (λ made. made.items) found ≡ event_numbers atoms.now) }
 {
     let mut made = Vec::new(alloc);

@@ -4,7 +4,7 @@ ghost use Rattle.std.specs.Prelude.{◌≡◌, IfOk};
 
 use crate::atom::Atom;
 use crate::atom_set::AtomSet;
-use csp_base::NoMemory;
+use csp_base::Made;
 use std::alloc::Global;
 
 /// The value of an expression.
@@ -18,7 +18,7 @@ pub enum Value {
 
 impl Value {
     /// The same value.
-    pub fn try_clone(&self, alloc: Global) -> Result<Value, NoMemory>
+    pub fn try_clone(&self, alloc: Global) -> Made<Value>
         ensures { IfOk result (λ copy. copy ≡ self.now) }
     {
         match self {

@@ -4,7 +4,7 @@ ghost use Rattle.std.specs.Prelude.{◌≡◌, ◌==◌, ◌||◌, nat_eq, nat_l
 ghost use Rattle.csp_base.specs.Standard.{OnTrue, OnFalse, pointwise, find};
 ghost use Rattle.csp_base.specs.Prelude.{AreBlocks, AreBlocksFrom, word_at, events_of, has, is_subset_of, meets_of, combined_of, keeps, least_of, first_word, rest_after, with_word, end_from};
 
-use crate::NoMemory;
+use crate::Made;
 use crate::event_set::Event;
 use crate::operators::SetOp;
 use std::alloc::Global;
@@ -57,7 +57,7 @@ fn past_front(blocks: &[(u32, u64)], number: u32) -> &[(u32, u64)]
 }
 
 /// Adds a block at the end, unless its word is 0.
-fn push_word(blocks: &mut Vec<(u32, u64)>, number: u32, word: u64) -> Result<(), NoMemory>
+fn push_word(blocks: &mut Vec<(u32, u64)>, number: u32, word: u64) -> Made<()>
     ensures ok { OnOk result (blocks.new.items ≡ with_word blocks.old.items number word) }
     ensures err { OnErr result (blocks.new.items ≡ blocks.old.items) }
 {
@@ -73,7 +73,7 @@ pub(crate) fn merge_blocks(
     operation: SetOp,
     left: &[(u32, u64)],
     right: &[(u32, u64)],
-) -> Result<Vec<(u32, u64)>, NoMemory>
+) -> Made<Vec<(u32, u64)>>
     requires left_blocks { AreBlocks left.now }
     requires right_blocks { AreBlocks right.now }
     ensures blocks { IfOk result (λ made. AreBlocks made.items) }
@@ -220,7 +220,7 @@ pub(crate) fn first_from(blocks: &[(u32, u64)], event: u32) -> Option<u32>
 }
 
 /// Adds an event, where it isn't there yet. An error changes nothing.
-pub(crate) fn include(blocks: &mut Vec<(u32, u64)>, event: u32) -> Result<(), NoMemory>
+pub(crate) fn include(blocks: &mut Vec<(u32, u64)>, event: u32) -> Made<()>
     requires { AreBlocks blocks.old.items }
     ensures blocks { AreBlocks blocks.new.items }
     ensures members { OnOk result ((x : ℕ) → has (events_of blocks.new.items) x
@@ -249,7 +249,7 @@ pub(crate) fn same(left: &[(u32, u64)], right: &[(u32, u64)]) -> bool
 }
 
 /// The blocks of the given events, in any order.
-pub(crate) fn blocks_of_events(alloc: Global, events: &[Event]) -> Result<Vec<(u32, u64)>, NoMemory>
+pub(crate) fn blocks_of_events(alloc: Global, events: &[Event]) -> Made<Vec<(u32, u64)>>
     ensures blocks { IfOk result (λ made. AreBlocks made.items) }
     ensures members { IfOk result (λ made. (x : ℕ) → has (events_of made.items) x ≡ has events.now x) }
 {

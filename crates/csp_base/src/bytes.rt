@@ -5,7 +5,7 @@ ghost use Rattle.std.proofs.Common.{rules};
 ghost use Rattle.csp_base.specs.Standard.{pointwise, bytes_decides, comparing, same_Alike};
 ghost use Rattle.std.specs.Hash as fed;
 
-use crate::NoMemory;
+use crate::Made;
 use smallvec::SmallVec;
 use std::alloc::Global;
 use std::hash::{Hash, Hasher};
@@ -41,7 +41,7 @@ impl Bytes {
     }
 
     /// A copy of these bytes.
-    pub fn from_slice(alloc: Global, bytes: &[u8]) -> Result<Self, NoMemory>
+    pub fn from_slice(alloc: Global, bytes: &[u8]) -> Made<Self>
         ensures { IfOk result (λ made. made ≡ bytes.now) }
     {
         let bytes = bytes.to_vec(alloc)?;
@@ -63,7 +63,7 @@ impl Bytes {
     }
 
     /// Adds a byte at the end. An error changes nothing.
-    pub fn push(&mut self, byte: u8) -> Result<(), NoMemory>
+    pub fn push(&mut self, byte: u8) -> Made<()>
         ensures ok { OnOk result (self.new ≡ self.old ++ byte ∷ []) }
         ensures err { OnErr result (self.new ≡ self.old) }
     {
@@ -72,7 +72,7 @@ impl Bytes {
     }
 
     /// Adds bytes at the end, in their order. An error changes nothing.
-    pub fn extend_from_slice(&mut self, more: &[u8]) -> Result<(), NoMemory>
+    pub fn extend_from_slice(&mut self, more: &[u8]) -> Made<()>
         ensures ok { OnOk result (self.new ≡ self.old ++ more.now) }
         ensures err { OnErr result (self.new ≡ self.old) }
     {
@@ -81,7 +81,7 @@ impl Bytes {
     }
 
     /// A second list with the same bytes.
-    pub fn try_clone(&self, alloc: Global) -> Result<Self, NoMemory>
+    pub fn try_clone(&self, alloc: Global) -> Made<Self>
         ensures { IfOk result (λ copy. copy ≡ self.now) }
     {
         Bytes::from_slice(alloc, self.as_slice())
@@ -109,7 +109,7 @@ impl Model for Name {
 
 impl Name {
     /// The name that these bytes spell.
-    pub fn from_slice(alloc: Global, bytes: &[u8]) -> Result<Self, NoMemory>
+    pub fn from_slice(alloc: Global, bytes: &[u8]) -> Made<Self>
         ensures { IfOk result (λ name. name ≡ bytes.now) }
     {
         let bytes = SmallVec::from_slice(alloc, bytes)?;
@@ -124,7 +124,7 @@ impl Name {
     }
 
     /// A second name with the same bytes.
-    pub fn try_clone(&self, alloc: Global) -> Result<Self, NoMemory>
+    pub fn try_clone(&self, alloc: Global) -> Made<Self>
         ensures { IfOk result (λ copy. copy ≡ self.now) }
     {
         Name::from_slice(alloc, self.as_slice())

@@ -8,7 +8,7 @@ ghost use Rattle.csp_base.specs.Prelude.{AreBlocks, events_of, has_bit, word_at,
 
 use crate::members::Members;
 use crate::operators::SetOp;
-use crate::{NoMemory, block_order, blocks};
+use crate::{Made, block_order, blocks};
 use std::alloc::Global;
 use std::cmp::Ordering;
 use std::hash::{Hash, Hasher};
@@ -61,7 +61,7 @@ impl EventSet {
     }
 
     /// The set of the given events, in any order and with doubles.
-    pub fn from_events(alloc: Global, events: &[Event]) -> Result<Self, NoMemory>
+    pub fn from_events(alloc: Global, events: &[Event]) -> Made<Self>
         ensures value { IfOk result (λ made. made ≡ set_of events.now) }
         ensures members { IfOk result (λ made. (x : ℕ) → has made x ≡ has events.now x) }
         ensures rising { IfOk result IsStrictlyIncreasing }
@@ -71,7 +71,7 @@ impl EventSet {
     }
 
     /// The set of the given events, which rise strictly.
-    pub fn from_sorted(alloc: Global, events: &[Event]) -> Result<Self, NoMemory>
+    pub fn from_sorted(alloc: Global, events: &[Event]) -> Made<Self>
         requires { IsStrictlyIncreasing events.now }
         ensures { IfOk result (λ made. made ≡ events.now) }
     {
@@ -128,7 +128,7 @@ impl EventSet {
     }
 
     /// The members of either set.
-    pub fn union(&self, alloc: Global, other: &EventSet) -> Result<EventSet, NoMemory>
+    pub fn union(&self, alloc: Global, other: &EventSet) -> Made<EventSet>
         ensures value { IfOk result (λ made. made ≡ union_of self.now other.now) }
         ensures members { IfOk result (λ made. (x : ℕ) → has made x ≡ (has self.now x || has other.now x)) }
         ensures rising { IfOk result IsStrictlyIncreasing }
@@ -138,7 +138,7 @@ impl EventSet {
     }
 
     /// The members of both sets.
-    pub fn inter(&self, alloc: Global, other: &EventSet) -> Result<EventSet, NoMemory>
+    pub fn inter(&self, alloc: Global, other: &EventSet) -> Made<EventSet>
         ensures value { IfOk result (λ made. made ≡ inter_of self.now other.now) }
         ensures members { IfOk result (λ made. (x : ℕ) → has made x ≡ (has self.now x && has other.now x)) }
         ensures rising { IfOk result IsStrictlyIncreasing }
@@ -148,7 +148,7 @@ impl EventSet {
     }
 
     /// The members of this set that are no members of the other.
-    pub fn diff(&self, alloc: Global, other: &EventSet) -> Result<EventSet, NoMemory>
+    pub fn diff(&self, alloc: Global, other: &EventSet) -> Made<EventSet>
         ensures value { IfOk result (λ made. made ≡ diff_of self.now other.now) }
         ensures members { IfOk result (λ made. (x : ℕ) → has made x ≡ (has self.now x && not (has other.now x))) }
         ensures rising { IfOk result IsStrictlyIncreasing }
@@ -158,7 +158,7 @@ impl EventSet {
     }
 
     /// Adds a member, where it isn't there yet. An error changes nothing.
-    pub fn insert(&mut self, event: Event) -> Result<(), NoMemory>
+    pub fn insert(&mut self, event: Event) -> Made<()>
         ensures ok { OnOk result (self.new ≡ with_member event self.old) }
         ensures err { OnErr result (self.new ≡ self.old) }
         ensures rising { IsStrictlyIncreasing self.new }
@@ -168,7 +168,7 @@ impl EventSet {
     }
 
     /// A second set with the same members.
-    pub fn try_clone(&self, alloc: Global) -> Result<EventSet, NoMemory>
+    pub fn try_clone(&self, alloc: Global) -> Made<EventSet>
         ensures { IfOk result (λ copy. copy ≡ self.now) }
     {
         let blocks = self.blocks.as_slice().to_vec(alloc)?;

@@ -18,5 +18,9 @@ pub use members::Members;
 pub use operators::{BinOp, SetOp};
 pub use place::Place;
 pub use std::alloc::AllocError as NoMemory;
+
+/// What a call makes, unless memory runs out.
+pub type Made<T> = Result<T, NoMemory>;
+
 pub use stop::Stop;
 pub use trace::Trace;

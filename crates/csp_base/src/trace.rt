@@ -5,7 +5,7 @@ ghost use Rattle.std.proofs.Common.{rules};
 ghost use Rattle.csp_base.specs.Standard.{pointwise, bytes_decides, comparing, same_Alike};
 ghost use Rattle.std.specs.Hash as fed;
 
-use crate::NoMemory;
+use crate::Made;
 use crate::event_set::Event;
 use std::alloc::Global;
 use std::hash::{Hash, Hasher};
@@ -36,7 +36,7 @@ impl Trace {
     }
 
     /// The trace of these events.
-    pub fn from_slice(alloc: Global, events: &[Event]) -> Result<Self, NoMemory>
+    pub fn from_slice(alloc: Global, events: &[Event]) -> Made<Self>
         ensures { IfOk result (λ made. made ≡ events.now) }
     {
         let events = events.to_vec(alloc)?;
@@ -58,7 +58,7 @@ impl Trace {
     }
 
     /// Adds an event at the end. An error changes nothing.
-    pub fn push(&mut self, event: Event) -> Result<(), NoMemory>
+    pub fn push(&mut self, event: Event) -> Made<()>
         ensures ok { OnOk result (self.new ≡ self.old ++ event ∷ []) }
         ensures err { OnErr result (self.new ≡ self.old) }
     {

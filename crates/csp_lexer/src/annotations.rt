@@ -9,7 +9,7 @@ use crate::scan::{Left, pass_one};
 use crate::tokens::Tokens;
 use crate::words::is_name;
 use containers::Boxed;
-use csp_base::{Name, NoMemory, Place};
+use csp_base::{Made, Name, Place};
 use csp_text::{ResourceNames, RolesNames, Token};
 use std::alloc::{AllocError, Global};
 
@@ -31,7 +31,7 @@ fn are_names(words: &[&[u8]]) -> bool
 
 // The annotation of five names, or `None` where the words are anything else.
 #[tactic(auto, unfolding(crate::specs::Annotations::roles))]
-fn roles(alloc: Global, words: &[&[u8]]) -> Result<Option<Token>, NoMemory>
+fn roles(alloc: Global, words: &[&[u8]]) -> Made<Option<Token>>
     ensures { IfOk result (λ found. found ≡ roles (map (λ word. word.now) words.now)) }
 {
     match words {
@@ -51,7 +51,7 @@ fn roles(alloc: Global, words: &[&[u8]]) -> Result<Option<Token>, NoMemory>
 
 // The annotation of three names, or `None` where the words are anything else.
 #[tactic(auto, unfolding(crate::specs::Annotations::resource))]
-fn resource(alloc: Global, words: &[&[u8]]) -> Result<Option<Token>, NoMemory>
+fn resource(alloc: Global, words: &[&[u8]]) -> Made<Option<Token>>
     ensures { IfOk result (λ found. found ≡ resource (map (λ word. word.now) words.now)) }
 {
     match words {

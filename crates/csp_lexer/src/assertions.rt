@@ -9,11 +9,11 @@ use crate::forms::is_deadlock_assertion;
 use crate::line::{cut_line, rest_len};
 use crate::places::behind_all;
 use crate::tokens::Tokens;
-use csp_base::{NoMemory, Place};
+use csp_base::{Made, Place};
 use csp_text::{Token, Word};
 
 // Adds the word at this place and the tokens of its line.
-fn add_assertion(at: Place, line: Tokens, found: &mut Tokens) -> Result<(), NoMemory>
+fn add_assertion(at: Place, line: Tokens, found: &mut Tokens) -> Made<()>
     ensures { OnOk result (found.new.placed ≡ found.old.placed ++ (token.Word Assert, at) ∷ line.placed) }
 {
     found.push(Token::Word(Word::Assert), at)?;
@@ -21,12 +21,7 @@ fn add_assertion(at: Place, line: Tokens, found: &mut Tokens) -> Result<(), NoMe
 }
 
 // Adds the tokens of an assertion's line and the word before them, where they assert that a process is free of deadlock.
-fn add_line<'a>(
-    at: Place,
-    rest: &'a [u8],
-    line: Tokens,
-    found: &mut Tokens,
-) -> Result<&'a [u8], NoMemory>
+fn add_line<'a>(at: Place, rest: &'a [u8], line: Tokens, found: &mut Tokens) -> Made<&'a [u8]>
     ensures passed { IfOk result (λ left.
         Passed (Some (asserted at rest.now (Ok line))) found.old found.new (Some left.now)) }
     ensures same { IfOk result (λ left. left.now ≡ rest.now) }
@@ -40,11 +35,7 @@ fn add_line<'a>(
 
 // Passes what follows the word `assert`, which stands at this place.
 #[tactic(auto, using(std::proofs::lemmas::List::take_rest), unfolding(crate::specs::Assertions::assertion))]
-pub(crate) fn pass_assertion<'a>(
-    text: &'a [u8],
-    at: Place,
-    found: &mut Tokens,
-) -> Result<&'a [u8], NoMemory>
+pub(crate) fn pass_assertion<'a>(text: &'a [u8], at: Place, found: &mut Tokens) -> Made<&'a [u8]>
     ensures passed { IfOk result (λ left. Passed (Some (assertion at text.now)) found.old found.new (Some left.now)) }
     ensures within { IfOk result (λ left. length left.now ≤ length text.now) }
 {

@@ -9,7 +9,7 @@ use crate::classes::is_space;
 use crate::places::behind_all;
 use crate::scan::{Left, pass_token};
 use crate::tokens::Tokens;
-use csp_base::{NoMemory, Place};
+use csp_base::{Made, Place};
 use std::alloc::Global;
 
 // Whether the rest of an assertion's line ends here.
@@ -48,7 +48,7 @@ fn pass_on_line<'a>(text: &'a [u8], at: Place, found: &mut Tokens) -> Left<'a>
 }
 
 // Passes the whole rest of an assertion's line. The result is the place of its end, or `None` where it is anything but blanks and tokens.
-fn pass_all_on_line(line: &[u8], at: Place, found: &mut Tokens) -> Result<Option<Place>, NoMemory>
+fn pass_all_on_line(line: &[u8], at: Place, found: &mut Tokens) -> Made<Option<Place>>
     requires { found.old.placed ≡ [] }
     ensures { IfOk result (λ end. MatchOption end
         ((fault : PlaceValue) × (cut_line at line.now ≡ Err fault))
@@ -67,7 +67,7 @@ fn pass_all_on_line(line: &[u8], at: Place, found: &mut Tokens) -> Result<Option
 }
 
 // The tokens of the rest of an assertion's line, or `None` where it is anything but blanks and tokens.
-pub(crate) fn cut_line(alloc: Global, line: &[u8], at: Place) -> Result<Option<Tokens>, NoMemory>
+pub(crate) fn cut_line(alloc: Global, line: &[u8], at: Place) -> Made<Option<Tokens>>
     ensures { IfOk result (λ found. MatchOption found
         ((fault : PlaceValue) × (cut_line at line.now ≡ Err fault)) (λ cut. cut_line at line.now ≡ Ok cut)) }
 {

@@ -9,13 +9,13 @@ use crate::classes::{Class, bytes_of};
 use crate::symbols::symbol_at;
 use crate::tokens::Tokens;
 use crate::words::{is_foreign, is_plain, reserved_word, word_len};
-use csp_base::{Name, NoMemory, Place};
+use csp_base::{Made, Name, Place};
 use csp_text::{Symbol, Token, symbol_text};
 use dl_limits::GREATEST_NUMBER;
 use std::alloc::Global;
 
 // What is left of the text behind a piece, or `None` where none stands in front.
-pub(crate) type Left<'a> = Result<Option<&'a [u8]>, NoMemory>;
+pub(crate) type Left<'a> = Made<Option<&'a [u8]>>;
 
 // The number that the digits are, or `None` where it is too great.
 fn number_token(digits: &[u8]) -> Option<Token>
@@ -32,7 +32,7 @@ fn number_token(digits: &[u8]) -> Option<Token>
 }
 
 // The token that the word is, or `None` where only a larger language has it.
-fn word_token(alloc: Global, word: &[u8]) -> Result<Option<Token>, NoMemory>
+fn word_token(alloc: Global, word: &[u8]) -> Made<Option<Token>>
     ensures { IfOk result (λ found. found ≡ word_token word.now) }
 {
     if !is_plain(word) {

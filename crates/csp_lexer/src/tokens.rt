@@ -4,7 +4,7 @@ ghost use Rattle.std.specs.Prelude.{◌≡◌, ◌++◌, [], ◌∷◌, length, 
 ghost use Rattle.csp_lexer.specs.Placed.{place_at, tokens_of};
 
 use containers::Items;
-use csp_base::{NoMemory, Place};
+use csp_base::{Made, Place};
 use csp_text::Token;
 use std::alloc::Global;
 use std::marker::Model;
@@ -51,7 +51,7 @@ impl Tokens {
     }
 
     // Adds a token that begins at this place.
-    pub(crate) fn push(&mut self, token: Token, at: Place) -> Result<(), NoMemory>
+    pub(crate) fn push(&mut self, token: Token, at: Place) -> Made<()>
         ensures { OnOk result (self.new.placed ≡ self.old.placed ++ (token, at) ∷ []) }
     {
         self.tokens.push(token)?;
@@ -63,7 +63,7 @@ impl Tokens {
     }
 
     // Adds the tokens of the text behind.
-    pub(crate) fn append(&mut self, behind: Tokens) -> Result<(), NoMemory>
+    pub(crate) fn append(&mut self, behind: Tokens) -> Made<()>
         ensures { OnOk result (self.new.placed ≡ self.old.placed ++ behind.placed) }
     {
         let empty = Tokens::new(self.alloc, behind.end);
@@ -73,7 +73,7 @@ impl Tokens {
     }
 
     // These tokens and then those of the text behind.
-    fn join(self, behind: Tokens) -> Result<Tokens, NoMemory>
+    fn join(self, behind: Tokens) -> Made<Tokens>
         ensures { IfOk result (λ all. all.placed ≡ self.placed ++ behind.placed) }
     {
         let alloc = self.alloc;
@@ -118,7 +118,7 @@ impl Tokens {
 }
 
 // The items and then more of them.
-fn join_items<T: Drop>(items: Items<T>, more: Items<T>) -> Result<Items<T>, NoMemory>
+fn join_items<T: Drop>(items: Items<T>, more: Items<T>) -> Made<Items<T>>
     ensures { IfOk result (λ all. all ≡ items ++ more) }
 {
     let mut all = items.into_vec();

@@ -10,14 +10,14 @@ ghost use Rattle.tree_reading.specs.Prelude.{Gives, read_declaration, read_word_
 use crate::assertion::assertion;
 use crate::declared::{channel, datatype, definition, nametype};
 use containers::{Boxed, Items};
-use csp_base::{Name, NoMemory};
+use csp_base::{Made, Name};
 use csp_text::{Decl, ResourceNames, RolesNames, Token, Word};
 use std::alloc::Global;
 use tree_reading::fault::{OrNoText, no_text};
 use tree_reading::read::{Read, Reading};
 
 // Copies of two names.
-fn copy_pair(alloc: Global, a: &Name, b: &Name) -> Result<(Name, Name), NoMemory>
+fn copy_pair(alloc: Global, a: &Name, b: &Name) -> Made<(Name, Name)>
     ensures first { IfOk result (λ pair. pair.0 ≡ a.now) }
     ensures second { IfOk result (λ pair. pair.1 ≡ b.now) }
 {
@@ -26,7 +26,7 @@ fn copy_pair(alloc: Global, a: &Name, b: &Name) -> Result<(Name, Name), NoMemory
 }
 
 // A copy of the names of roles.
-fn copy_roles(alloc: Global, names: &RolesNames) -> Result<RolesNames, NoMemory>
+fn copy_roles(alloc: Global, names: &RolesNames) -> Made<RolesNames>
     ensures { IfOk result (λ copy. copy ≡ names.now) }
 {
     let process = names.process.try_clone(alloc)?;
@@ -41,7 +41,7 @@ fn copy_roles(alloc: Global, names: &RolesNames) -> Result<RolesNames, NoMemory>
 }
 
 // A copy of the names of a resource.
-fn copy_resource(alloc: Global, names: &ResourceNames) -> Result<ResourceNames, NoMemory>
+fn copy_resource(alloc: Global, names: &ResourceNames) -> Made<ResourceNames>
     ensures { IfOk result (λ copy. copy ≡ names.now) }
 {
     let process = names.process.try_clone(alloc)?;

@@ -6,11 +6,11 @@ use crate::expressions::{EventPart, Expr, Gen};
 use crate::processes::{Field, Head};
 use containers::{Boxed, Items};
 use csp_atoms::Value;
-use csp_base::{BinOp, NoMemory, SetOp};
+use csp_base::{BinOp, Made, SetOp};
 use std::alloc::Global;
 
 /// The same value.
-pub fn copy_value(alloc: Global, value: &Value) -> Result<Value, NoMemory>
+pub fn copy_value(alloc: Global, value: &Value) -> Made<Value>
     ensures { IfOk result (λ copy. copy ≡ value.now) }
 {
     value.try_clone(alloc)
@@ -18,7 +18,7 @@ pub fn copy_value(alloc: Global, value: &Value) -> Result<Value, NoMemory>
 
 /// The same expression.
 #[cycle(copy_expr)]
-pub fn copy_expr(alloc: Global, expr: &Expr) -> Result<Expr, NoMemory>
+pub fn copy_expr(alloc: Global, expr: &Expr) -> Made<Expr>
     ensures { IfOk result (λ copy. copy ≡ expr.now) }
 {
     match expr {
@@ -48,7 +48,7 @@ pub fn copy_expr(alloc: Global, expr: &Expr) -> Result<Expr, NoMemory>
 
 // An operator between two operands.
 #[cycle(copy_expr)]
-fn binary(alloc: Global, op: BinOp, a: &Boxed<Expr>, b: &Boxed<Expr>) -> Result<Expr, NoMemory>
+fn binary(alloc: Global, op: BinOp, a: &Boxed<Expr>, b: &Boxed<Expr>) -> Made<Expr>
     ensures { IfOk result (λ copy. copy ≡ Expr.Binary op a.now b.now) }
 {
     let a = copy_boxed_expr(alloc, a.get())?;
@@ -58,12 +58,7 @@ fn binary(alloc: Global, op: BinOp, a: &Boxed<Expr>, b: &Boxed<Expr>) -> Result<
 
 // One of two expressions.
 #[cycle(copy_expr)]
-fn choice(
-    alloc: Global,
-    c: &Boxed<Expr>,
-    a: &Boxed<Expr>,
-    b: &Boxed<Expr>,
-) -> Result<Expr, NoMemory>
+fn choice(alloc: Global, c: &Boxed<Expr>, a: &Boxed<Expr>, b: &Boxed<Expr>) -> Made<Expr>
     ensures { IfOk result (λ copy. copy ≡ Expr.If c.now a.now b.now) }
 {
     let c = copy_boxed_expr(alloc, c.get())?;
@@ -74,7 +69,7 @@ fn choice(
 
 // The set of the numbers from `a` to `b`.
 #[cycle(copy_expr)]
-fn range(alloc: Global, a: &Boxed<Expr>, b: &Boxed<Expr>) -> Result<Expr, NoMemory>
+fn range(alloc: Global, a: &Boxed<Expr>, b: &Boxed<Expr>) -> Made<Expr>
     ensures { IfOk result (λ copy. copy ≡ Expr.Range a.now b.now) }
 {
     let a = copy_boxed_expr(alloc, a.get())?;
@@ -84,12 +79,7 @@ fn range(alloc: Global, a: &Boxed<Expr>, b: &Boxed<Expr>) -> Result<Expr, NoMemo
 
 // An operator between two sets.
 #[cycle(copy_expr)]
-fn set_operation(
-    alloc: Global,
-    op: SetOp,
-    a: &Boxed<Expr>,
-    b: &Boxed<Expr>,
-) -> Result<Expr, NoMemory>
+fn set_operation(alloc: Global, op: SetOp, a: &Boxed<Expr>, b: &Boxed<Expr>) -> Made<Expr>
     ensures { IfOk result (λ copy. copy ≡ Expr.SetOp op a.now b.now) }
 {
     let a = copy_boxed_expr(alloc, a.get())?;
@@ -99,7 +89,7 @@ fn set_operation(
 
 // The set of some expressions under generators.
 #[cycle(copy_expr)]
-fn comprehension(alloc: Global, items: &Items<Expr>, gens: &Items<Gen>) -> Result<Expr, NoMemory>
+fn comprehension(alloc: Global, items: &Items<Expr>, gens: &Items<Gen>) -> Made<Expr>
     ensures { IfOk result (λ copy. copy ≡ Expr.Comp items.now gens.now) }
 {
     let items = copy_exprs(alloc, items.as_slice())?;
@@ -109,7 +99,7 @@ fn comprehension(alloc: Global, items: &Items<Expr>, gens: &Items<Gen>) -> Resul
 
 // The set of the events that begin with some fronts, under generators.
 #[cycle(copy_expr)]
-fn product(alloc: Global, parts: &Items<EventPart>, gens: &Items<Gen>) -> Result<Expr, NoMemory>
+fn product(alloc: Global, parts: &Items<EventPart>, gens: &Items<Gen>) -> Made<Expr>
     ensures { IfOk result (λ copy. copy ≡ Expr.Product parts.now gens.now) }
 {
     let parts = copy_parts(alloc, parts.as_slice())?;
@@ -119,7 +109,7 @@ fn product(alloc: Global, parts: &Items<EventPart>, gens: &Items<Gen>) -> Result
 
 /// The same expression, on the heap.
 #[cycle(copy_expr)]
-pub fn copy_boxed_expr(alloc: Global, expr: &Expr) -> Result<Boxed<Expr>, NoMemory>
+pub fn copy_boxed_expr(alloc: Global, expr: &Expr) -> Made<Boxed<Expr>>
     ensures { IfOk result (λ copy. copy ≡ expr.now) }
 {
     copy_expr(alloc, expr).and_then(|copy| Boxed::new(alloc, copy))
@@ -127,7 +117,7 @@ pub fn copy_boxed_expr(alloc: Global, expr: &Expr) -> Result<Boxed<Expr>, NoMemo
 
 /// The same expressions.
 #[cycle(copy_expr)]
-pub fn copy_exprs(alloc: Global, exprs: &[Expr]) -> Result<Items<Expr>, NoMemory>
+pub fn copy_exprs(alloc: Global, exprs: &[Expr]) -> Made<Items<Expr>>
     ensures { IfOk result (λ copies. copies ≡ exprs.now) }
 {
     let mut copies = Items::new(alloc);
@@ -139,7 +129,7 @@ pub fn copy_exprs(alloc: Global, exprs: &[Expr]) -> Result<Items<Expr>, NoMemory
 
 /// The same generator.
 #[cycle(copy_expr)]
-pub fn copy_gen(alloc: Global, generator: &Gen) -> Result<Gen, NoMemory>
+pub fn copy_gen(alloc: Global, generator: &Gen) -> Made<Gen>
     ensures { IfOk result (λ copy. copy ≡ generator.now) }
 {
     match generator {
@@ -150,7 +140,7 @@ pub fn copy_gen(alloc: Global, generator: &Gen) -> Result<Gen, NoMemory>
 
 /// The same generators.
 #[cycle(copy_expr)]
-pub fn copy_gens(alloc: Global, gens: &[Gen]) -> Result<Items<Gen>, NoMemory>
+pub fn copy_gens(alloc: Global, gens: &[Gen]) -> Made<Items<Gen>>
     ensures { IfOk result (λ copies. copies ≡ gens.now) }
 {
     let mut copies = Items::new(alloc);
@@ -162,7 +152,7 @@ pub fn copy_gens(alloc: Global, gens: &[Gen]) -> Result<Items<Gen>, NoMemory>
 
 /// The same front of an event.
 #[cycle(copy_expr)]
-pub fn copy_part(alloc: Global, part: &EventPart) -> Result<EventPart, NoMemory>
+pub fn copy_part(alloc: Global, part: &EventPart) -> Made<EventPart>
     ensures { IfOk result (λ copy. copy ≡ part.now) }
 {
     copy_exprs(alloc, part.fields.as_slice()).map(|fields| EventPart {
@@ -173,7 +163,7 @@ pub fn copy_part(alloc: Global, part: &EventPart) -> Result<EventPart, NoMemory>
 
 /// The same fronts of events.
 #[cycle(copy_expr)]
-pub fn copy_parts(alloc: Global, parts: &[EventPart]) -> Result<Items<EventPart>, NoMemory>
+pub fn copy_parts(alloc: Global, parts: &[EventPart]) -> Made<Items<EventPart>>
     ensures { IfOk result (λ copies. copies ≡ parts.now) }
 {
     let mut copies = Items::new(alloc);
@@ -184,7 +174,7 @@ pub fn copy_parts(alloc: Global, parts: &[EventPart]) -> Result<Items<EventPart>
 }
 
 /// The same head.
-pub fn copy_head(alloc: Global, head: &Head) -> Result<Head, NoMemory>
+pub fn copy_head(alloc: Global, head: &Head) -> Made<Head>
     ensures { IfOk result (λ copy. copy ≡ head.now) }
 {
     match head {
@@ -195,7 +185,7 @@ pub fn copy_head(alloc: Global, head: &Head) -> Result<Head, NoMemory>
 }
 
 /// The same field.
-pub fn copy_field(alloc: Global, field: &Field) -> Result<Field, NoMemory>
+pub fn copy_field(alloc: Global, field: &Field) -> Made<Field>
     ensures { IfOk result (λ copy. copy ≡ field.now) }
 {
     match field {
@@ -208,7 +198,7 @@ pub fn copy_field(alloc: Global, field: &Field) -> Result<Field, NoMemory>
 }
 
 /// The same fields.
-pub fn copy_fields(alloc: Global, fields: &[Field]) -> Result<Items<Field>, NoMemory>
+pub fn copy_fields(alloc: Global, fields: &[Field]) -> Made<Items<Field>>
     ensures { IfOk result (λ copies. copies ≡ fields.now) }
 {
     let mut copies = Items::new(alloc);
@@ -219,10 +209,7 @@ pub fn copy_fields(alloc: Global, fields: &[Field]) -> Result<Items<Field>, NoMe
 }
 
 /// The same pair of a renaming.
-pub fn copy_pair(
-    alloc: Global,
-    pair: &(EventPart, EventPart),
-) -> Result<(EventPart, EventPart), NoMemory>
+pub fn copy_pair(alloc: Global, pair: &(EventPart, EventPart)) -> Made<(EventPart, EventPart)>
     ensures { IfOk result (λ copy. copy ≡ pair.now) }
 {
     let old = copy_part(alloc, &pair.0)?;
@@ -234,7 +221,7 @@ pub fn copy_pair(
 pub fn copy_pairs(
     alloc: Global,
     pairs: &[(EventPart, EventPart)],
-) -> Result<Items<(EventPart, EventPart)>, NoMemory>
+) -> Made<Items<(EventPart, EventPart)>>
     ensures { IfOk result (λ copies. copies ≡ pairs.now) }
 {
     let mut copies = Items::new(alloc);

@@ -13,14 +13,14 @@ ghost use Rattle.csp_atoms.specs.declared.atom.Atom.{Atom};
 use crate::resolution::Resolved;
 use containers::Items;
 use csp_atoms::AtomSet;
-use csp_base::Stop;
+use csp_base::{Made, Stop};
 use csp_program::{Content, Expr};
 use csp_text::Decl;
 use dl_limits::MOST_EVENTS;
 use event_tables::{SharedSets, event_count, field_sets, fill_events};
 use name_tables::Meanings;
 use script_contents::types_of;
-use script_names::{Made, ResolveFault};
+use script_names::ResolveFault;
 use std::alloc::Global;
 
 /// The field sets of the channels of declarations. A type that has no value that fits is told in its declaration.

@@ -14,7 +14,7 @@ ghost use Rattle.script_sizes.specs.Size.{AreSmall, size};
 
 use crate::events::{channel_sets, fill_table};
 use containers::{Boxed, Key};
-use csp_base::Stop;
+use csp_base::{Made, Stop};
 use csp_program::{Content, Program};
 use csp_text::{Decl, Script, Tree};
 use definition_kinds::kinds_of;
@@ -22,7 +22,7 @@ use name_faults::name_fault;
 use name_tables::{Dictionary, Meanings, dictionary_of};
 use resolved_laws::programs_are_in_order;
 use script_contents::plain_content;
-use script_names::{Made, ResolveFault};
+use script_names::ResolveFault;
 use std::alloc::Global;
 
 // What was made, or why there is no program.

@@ -13,9 +13,9 @@ use crate::evaluated::{Evaluated, keep, operator_number};
 use crate::operator::Operator;
 use crate::step::StepTo;
 use containers::Items;
-use csp_base::{Event, EventSet, NoMemory};
+use csp_base::{Event, EventSet, Made};
 use csp_program::Program;
-use csp_values::EvalFault;
+use csp_values::EvalResult;
 use process_steps::Label;
 use std::alloc::Global;
 use std::collections::HashMap;
@@ -31,7 +31,7 @@ struct Round<'a> {
 }
 
 /// The place of a process that has ended.
-pub(crate) fn put_ended(pool: &mut Pool) -> Result<ProcId, NoMemory>
+pub(crate) fn put_ended(pool: &mut Pool) -> Made<ProcId>
     ensures process { IfOk result (λ made. slice_get pool.new made.0 ≡ Some proc.Ended) }
     ensures front { IsFront pool.old pool.new }
 {
@@ -39,7 +39,7 @@ pub(crate) fn put_ended(pool: &mut Pool) -> Result<ProcId, NoMemory>
 }
 
 // The step of the whole where the process below ends.
-fn last_step(pool: &mut Pool, operator: &Operator) -> Result<StepTo, NoMemory>
+fn last_step(pool: &mut Pool, operator: &Operator) -> Made<StepTo>
     requires { IsWithin (length pool.old) operator.now }
     ensures move_ { IfOk result (λ made. IsMove pool.new made (last_by pool.old operator.now)) }
     ensures front { IsFront pool.old pool.new }
@@ -79,7 +79,7 @@ fn label_of(hidden: &EventSet, label: Label) -> Label
 }
 
 // Adds a step by each of the events to a place.
-fn add_events(events: &[Event], to: ProcId, steps: &mut Items<StepTo>) -> Result<(), NoMemory>
+fn add_events(events: &[Event], to: ProcId, steps: &mut Items<StepTo>) -> Made<()>
     ensures { OnOk result (steps.new ≡ steps.old ++ map (λ e. record { label = Label.Visible e; to = to }) events.now) }
 {
     for event in events {
@@ -92,12 +92,7 @@ fn add_events(events: &[Event], to: ProcId, steps: &mut Items<StepTo>) -> Result
 }
 
 // Adds a step to a place by each label that a renaming makes of one.
-fn add_renamed(
-    alloc: Global,
-    images: &Images,
-    step: StepTo,
-    steps: &mut Items<StepTo>,
-) -> Result<(), NoMemory>
+fn add_renamed(alloc: Global, images: &Images, step: StepTo, steps: &mut Items<StepTo>) -> Made<()>
     ensures { OnOk result (steps.new ≡ steps.old ++ map (λ l.
         record { label = l; to = step.to }) (renamed_labels (becomes images.now) step.label)) }
 {
@@ -114,12 +109,7 @@ fn add_renamed(
 }
 
 // Adds a step to a place by each label as which an operator lets one be seen.
-fn add_seen(
-    alloc: Global,
-    operator: &Operator,
-    step: StepTo,
-    steps: &mut Items<StepTo>,
-) -> Result<(), NoMemory>
+fn add_seen(alloc: Global, operator: &Operator, step: StepTo, steps: &mut Items<StepTo>) -> Made<()>
     ensures { OnOk result (steps.new ≡ steps.old ++ map (λ l.
         record { label = l; to = step.to }) (labels_by operator.now step.label)) }
 {
@@ -141,7 +131,7 @@ fn add_going(
     round: &Round<'_>,
     step: StepTo,
     steps: &mut Items<StepTo>,
-) -> Result<(), NoMemory>
+) -> Made<()>
     requires id { round.now.id.0 < length pool.old }
     requires below { step.to.0 < length pool.old }
     requires within { all_within (length pool.old) steps.old ≡ true }
@@ -169,7 +159,7 @@ fn add_made(
     round: &Round<'_>,
     step: StepTo,
     steps: &mut Items<StepTo>,
-) -> Result<(), NoMemory>
+) -> Made<()>
     requires id { round.now.id.0 < length pool.old }
     requires operator { IsWithin (length pool.old) round.now.operator.now }
     requires below { step.to.0 < length pool.old }
@@ -200,7 +190,7 @@ fn made_of(
     places: &mut HashMap<usize, usize>,
     round: &Round<'_>,
     below: &[StepTo],
-) -> Result<Items<StepTo>, NoMemory>
+) -> Made<Items<StepTo>>
     requires id { round.now.id.0 < length pool.old }
     requires operator { IsWithin (length pool.old) round.now.operator.now }
     requires below { all_within (length pool.old) below.now ≡ true }
@@ -225,7 +215,7 @@ pub(crate) fn steps_around(
     evaluated: &mut Evaluated,
     id: ProcId,
     below: &[StepTo],
-) -> Result<Items<StepTo>, EvalFault>
+) -> EvalResult<Items<StepTo>>
     requires within { id.0 < length pool.old }
     requires below { all_within (length pool.old) below.now ≡ true }
     requires fits { Fits program.now pool.old evaluated.old }

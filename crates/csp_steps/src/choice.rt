@@ -12,7 +12,7 @@ ghost use Rattle.csp_steps.specs.Prelude.{all_within, AreAt, AreMoves, IsMove, s
 use crate::step::StepTo;
 use containers::Items;
 use csp_atoms::Atom;
-use csp_base::NoMemory;
+use csp_base::Made;
 use process_steps::Label;
 use std::alloc::Global;
 use std::slice::from_ref;
@@ -20,7 +20,7 @@ use substitution::Values;
 use term_pool::{Node, Pool, ProcId};
 
 // The place of what the process at `id` is with the atom in place of the name.
-fn put_atom(pool: &mut Pool, name: u32, atom: Atom, id: ProcId) -> Result<ProcId, NoMemory>
+fn put_atom(pool: &mut Pool, name: u32, atom: Atom, id: ProcId) -> Made<ProcId>
     requires within { id.0 < length pool.old }
     ensures process { IfOk result (λ made. slice_get pool.new made.0
         ≡ Some (proc_with (one name (value.One atom)) (tree_at pool.old id))) }
@@ -37,7 +37,7 @@ pub(crate) fn each_put(
     name: u32,
     atoms: &[Atom],
     id: ProcId,
-) -> Result<Items<ProcId>, NoMemory>
+) -> Made<Items<ProcId>>
     requires within { id.0 < length pool.old }
     ensures places { IfOk result (λ ids. AreAt pool.new ids (meant.each_put name atoms.now (tree_at pool.old id))) }
     ensures front { IsFront pool.old pool.new }
@@ -50,12 +50,7 @@ pub(crate) fn each_put(
 }
 
 // The places with another one at an index.
-fn with_place(
-    alloc: Global,
-    ids: &[ProcId],
-    index: usize,
-    id: ProcId,
-) -> Result<Items<ProcId>, NoMemory>
+fn with_place(alloc: Global, ids: &[ProcId], index: usize, id: ProcId) -> Made<Items<ProcId>>
     requires within { index < length ids.now }
     ensures { IfOk result (λ made. made ≡ slice_set ids.now index id) }
 {
@@ -65,12 +60,7 @@ fn with_place(
 }
 
 // The place of the choice in which another process is the operand at an index.
-fn with_operand(
-    pool: &mut Pool,
-    ids: &[ProcId],
-    index: usize,
-    id: ProcId,
-) -> Result<ProcId, NoMemory>
+fn with_operand(pool: &mut Pool, ids: &[ProcId], index: usize, id: ProcId) -> Made<ProcId>
     requires operands { all_below (length pool.old) ids.now ≡ true }
     requires index { index < length ids.now }
     requires within { id.0 < length pool.old }
@@ -83,12 +73,7 @@ fn with_operand(
 }
 
 // What a step of an operand makes of the choice.
-fn in_choice(
-    pool: &mut Pool,
-    ids: &[ProcId],
-    index: usize,
-    step: StepTo,
-) -> Result<StepTo, NoMemory>
+fn in_choice(pool: &mut Pool, ids: &[ProcId], index: usize, step: StepTo) -> Made<StepTo>
     requires operands { all_below (length pool.old) ids.now ≡ true }
     requires index { index < length ids.now }
     requires within { step.to.0 < length pool.old }
@@ -115,7 +100,7 @@ pub(crate) fn of_operand(
     ids: &[ProcId],
     index: usize,
     below: &[StepTo],
-) -> Result<Items<StepTo>, NoMemory>
+) -> Made<Items<StepTo>>
     requires operands { all_below (length pool.old) ids.now ≡ true }
     requires index { index < length ids.now }
     requires below { all_within (length pool.old) below.now ≡ true }
@@ -131,7 +116,7 @@ pub(crate) fn of_operand(
 }
 
 /// A silent step to each of the places.
-pub(crate) fn silent_to(alloc: Global, ids: &[ProcId]) -> Result<Items<StepTo>, NoMemory>
+pub(crate) fn silent_to(alloc: Global, ids: &[ProcId]) -> Made<Items<StepTo>>
     ensures { IfOk result (λ steps. steps ≡ map (λ id. record { label = Label.Silent; to = id }) ids.now) }
 {
     let mut steps = Items::new(alloc);

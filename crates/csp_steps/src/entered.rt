@@ -9,7 +9,7 @@ use crate::evaluated::{Evaluated, body_place};
 use csp_atoms::Value;
 use csp_base::Stop;
 use csp_program::{Body, Program, ValueKind};
-use csp_values::EvalFault;
+use csp_values::EvalResult;
 use substitution::Values;
 use term_pool::{Pool, ProcId};
 
@@ -20,7 +20,7 @@ pub(crate) fn enter(
     evaluated: &mut Evaluated,
     def: u32,
     values: &[Value],
-) -> Result<ProcId, EvalFault>
+) -> EvalResult<ProcId>
     requires fits { Fits program.now pool.old evaluated.old }
     ensures process { GivesPlace pool.new result (meant.called (slice_get program.now.defs def) values.now) }
     ensures front { IsFront pool.old pool.new }

@@ -12,9 +12,9 @@ use crate::operator::{Operator, operator_at};
 use crate::sets::Sets;
 use crate::step::StepTo;
 use containers::{Items, Key};
-use csp_base::{NoMemory, Stop};
+use csp_base::{Made, NoMemory, Stop};
 use csp_program::{Proc, Program};
-use csp_values::EvalFault;
+use csp_values::EvalResult;
 use std::alloc::Global;
 use std::collections::HashMap;
 use term_pool::{Pool, ProcId};
@@ -66,11 +66,7 @@ fn find_number(numbers: &HashMap<usize, usize>, key: usize) -> Option<usize>
 }
 
 /// Keeps a number for the key.
-pub(crate) fn keep(
-    numbers: &mut HashMap<usize, usize>,
-    key: usize,
-    number: usize,
-) -> Result<(), NoMemory>
+pub(crate) fn keep(numbers: &mut HashMap<usize, usize>, key: usize, number: usize) -> Made<()>
     ensures ok { OnOk result (Updates nat_eq numbers.old numbers.new key (Some number)) }
     ensures err { OnErr result (IsUnchanged numbers.old numbers.new) }
 {
@@ -86,7 +82,7 @@ fn put_value<T: Drop>(
     numbers: &mut HashMap<usize, usize>,
     key: usize,
     value: T,
-) -> Result<usize, NoMemory>
+) -> Made<usize>
     ensures number { IfOk result (λ number. number ≡ length values.old) }
     ensures values { OnOk result (values.new ≡ values.old ++ value ∷ []) }
     ensures numbers { IfOk result (λ number. Updates nat_eq numbers.old numbers.new key (Some number)) }
@@ -103,7 +99,7 @@ pub(crate) fn operator_number(
     pool: &Pool,
     evaluated: &mut Evaluated,
     id: ProcId,
-) -> Result<usize, EvalFault>
+) -> EvalResult<usize>
     requires within { id.0 < length pool.now }
     requires fits { Fits program.now pool.now evaluated.old }
     ensures { GivesNumber program.now pool.now evaluated.new result (tree_at pool.now id) }
@@ -129,7 +125,7 @@ pub(crate) fn body_place(
     bodies: &mut HashMap<usize, usize>,
     number: u32,
     body: &Proc,
-) -> Result<ProcId, NoMemory>
+) -> Made<ProcId>
     ensures process { (p : Content) → AreBodies p pool.old bodies.old
         → body_of (slice_get p.defs number) ≡ Some body.now
         → IfOk result (λ id. slice_get pool.new id.0 ≡ Some body.now) }
@@ -150,7 +146,7 @@ pub(crate) fn find_steps(
     alloc: Global,
     evaluated: &Evaluated,
     id: ProcId,
-) -> Result<Option<Items<StepTo>>, NoMemory>
+) -> Made<Option<Items<StepTo>>>
     ensures { (p : Content) → (trees : List Process) → Fits p trees evaluated.now
         → IfOk result (λ found. IfSome found (λ steps. AreEach trees steps (steps_of p (tree_at trees id)))) }
 {
@@ -184,7 +180,7 @@ pub(crate) fn keep_steps(
     evaluated: &mut Evaluated,
     id: ProcId,
     steps: &[StepTo],
-) -> Result<(), NoMemory>
+) -> Made<()>
     ensures { (p : Content) → (trees : List Process) → Fits p trees evaluated.old → id.0 < length trees
         → AreEach trees steps.now (steps_of p (tree_at trees id)) → OnOk result (Fits p trees evaluated.new) }
 {

@@ -14,7 +14,7 @@ use crate::walk::{Input, Turn};
 use csp_atoms::{Atom, AtomSet, Value};
 use csp_base::Stop;
 use csp_program::{Expr, Field, Program, ValueKind};
-use csp_values::{EvalFault, eval_under};
+use csp_values::{EvalResult, eval_under};
 use std::alloc::Global;
 use step_values::Start;
 use term_pool::ProcId;
@@ -78,11 +78,7 @@ pub(crate) fn are_blocked(sets: &[AtomSet], fields: &[Field]) -> bool
 
 // The value of an expression under names that are bound.
 #[tactic(auto, unfolding(csp_values::specs::Worth::worth))]
-fn value_under(
-    filling: &Filling<'_>,
-    bound: &[(u32, Atom)],
-    expr: &Expr,
-) -> Result<Value, EvalFault>
+fn value_under(filling: &Filling<'_>, bound: &[(u32, Atom)], expr: &Expr) -> EvalResult<Value>
     ensures { Gives result (meant.value_under filling.now.program.now (with_bound bound.now []) expr.now) }
 {
     eval_under(filling.alloc, filling.program, bound, expr)
@@ -94,7 +90,7 @@ fn set_under(
     kept: &mut Sets,
     bound: &[(u32, Atom)],
     set: &Expr,
-) -> Result<AtomSet, EvalFault>
+) -> EvalResult<AtomSet>
     requires { AreSets filling.now.program.now kept.old }
     ensures set { Gives result (meant.set_under filling.now.program.now (with_bound bound.now []) set.now) }
     ensures kept { OnOk result (AreSets filling.now.program.now kept.new) }
@@ -112,7 +108,7 @@ fn values_given(
     kept: &mut Sets,
     bound: &[(u32, Atom)],
     set: &Option<Expr>,
-) -> Result<Option<AtomSet>, EvalFault>
+) -> EvalResult<Option<AtomSet>>
     requires { AreSets filling.now.program.now kept.old }
     ensures kept { OnOk result (AreSets filling.now.program.now kept.new) }
     ensures given { Gives result (meant.given_under filling.now.program.now (with_bound bound.now []) set.now) }
@@ -140,7 +136,7 @@ fn number_with_output(
     set: &AtomSet,
     output: &Expr,
     number: u64,
-) -> Result<u64, EvalFault>
+) -> EvalResult<u64>
     ensures { Gives result (and_then (meant.value_under filling.now.program.now (with_bound bound.now []) output.now)
         (λ v. and_then (field_place set.now v) (λ k. Ok (number_with number set.now k)))) }
 {
@@ -150,7 +146,7 @@ fn number_with_output(
 }
 
 // What comes after outputs where no set is left.
-fn end_of<'a>(fields: &[Field], number: u64) -> Result<Next<'a>, EvalFault>
+fn end_of<'a>(fields: &[Field], number: u64) -> EvalResult<Next<'a>>
     ensures next { (p : Content) → (env : Env) → GivesNext p env result (ways_by_number p [] fields.now env number) }
     ensures less { IfOk result (λ next. next_weight next ≡ 1) }
 {
@@ -166,7 +162,7 @@ pub(crate) fn next_of<'a>(
     kept: &mut Sets,
     bound: &[(u32, Atom)],
     turn: &Turn<'a>,
-) -> Result<Next<'a>, EvalFault>
+) -> EvalResult<Next<'a>>
     requires { AreSets filling.now.program.now kept.old }
     ensures kept { OnOk result (AreSets filling.now.program.now kept.new) }
     ensures next { GivesNext filling.now.program.now (with_bound bound.now []) result

@@ -24,10 +24,10 @@ use crate::sets::{Sets, atoms_of, set_of};
 use crate::step::StepTo;
 use containers::Items;
 use csp_atoms::{Atom, Value};
-use csp_base::{NoMemory, Stop};
+use csp_base::{Made, Stop};
 use csp_program::copies::copy_fields;
 use csp_program::{Expr, Field, Program, ValueKind};
-use csp_values::EvalFault;
+use csp_values::EvalResult;
 use process_steps::Label;
 use std::alloc::Global;
 use step_values::{arguments_in, of_head, truth_in};
@@ -47,7 +47,7 @@ pub(crate) enum Look {
 }
 
 // One step.
-fn one_step(alloc: Global, label: Label, to: ProcId) -> Result<Items<StepTo>, NoMemory>
+fn one_step(alloc: Global, label: Label, to: ProcId) -> Made<Items<StepTo>>
     ensures { IfOk result (λ made. made ≡ record { label = label; to = to } ∷ []) }
 {
     let mut steps = Items::new(alloc);
@@ -56,7 +56,7 @@ fn one_step(alloc: Global, label: Label, to: ProcId) -> Result<Items<StepTo>, No
 }
 
 // A guard.
-fn look_guard(alloc: Global, program: &Program, c: &Expr, id: ProcId) -> Result<Look, EvalFault>
+fn look_guard(alloc: Global, program: &Program, c: &Expr, id: ProcId) -> EvalResult<Look>
     ensures { (trees : List Process) → id.0 < length trees
         → GivesLook program.now trees result (proc.Guard c.now (tree_at trees id)) }
 {
@@ -75,7 +75,7 @@ fn look_if(
     c: &Expr,
     first: ProcId,
     second: ProcId,
-) -> Result<Look, EvalFault>
+) -> EvalResult<Look>
     ensures { (trees : List Process) → first.0 < length trees → second.0 < length trees
         → GivesLook program.now trees result (proc.If c.now (tree_at trees first) (tree_at trees second)) }
 {
@@ -87,7 +87,7 @@ fn look_if(
 }
 
 // A choice that the process makes by itself.
-fn look_internal(alloc: Global, ids: &[ProcId]) -> Result<Look, EvalFault>
+fn look_internal(alloc: Global, ids: &[ProcId]) -> EvalResult<Look>
     ensures { (trees : List Process) → (p : Content) → all_below (length trees) ids.now ≡ true
         → GivesLook p trees result (proc.Internal (map (tree_at trees) ids.now)) }
 {
@@ -96,7 +96,7 @@ fn look_internal(alloc: Global, ids: &[ProcId]) -> Result<Look, EvalFault>
 }
 
 // A process that ends.
-fn look_skip(pool: &mut Pool) -> Result<Look, EvalFault>
+fn look_skip(pool: &mut Pool) -> EvalResult<Look>
     ensures look { (p : Content) → GivesLook p pool.new result proc.Skip }
     ensures front { IsFront pool.old pool.new }
 {
@@ -110,8 +110,8 @@ fn look_prefix(
     filling: &Filling<'_>,
     pool: &mut Pool,
     sets: &mut Sets,
-    fields: Result<Items<Field>, NoMemory>,
-) -> Result<Look, EvalFault>
+    fields: Made<Items<Field>>,
+) -> EvalResult<Look>
     requires within { filling.now.to.0 < length pool.old }
     requires sets { AreSets filling.now.program.now sets.old }
     ensures sets { OnOk result (AreSets filling.now.program.now sets.new) }
@@ -128,7 +128,7 @@ fn look_prefix(
 }
 
 // A choice between processes.
-fn look_external(alloc: Global, ids: &[ProcId]) -> Result<Look, EvalFault>
+fn look_external(alloc: Global, ids: &[ProcId]) -> EvalResult<Look>
     ensures { (trees : List Process) → (p : Content) → all_below (length trees) ids.now ≡ true
         → GivesLook p trees result (proc.External (map (tree_at trees) ids.now)) }
 {
@@ -137,12 +137,7 @@ fn look_external(alloc: Global, ids: &[ProcId]) -> Result<Look, EvalFault>
 }
 
 // A choice between what a process is with each value of a set.
-fn look_each_external(
-    pool: &mut Pool,
-    name: u32,
-    atoms: &[Atom],
-    id: ProcId,
-) -> Result<Look, EvalFault>
+fn look_each_external(pool: &mut Pool, name: u32, atoms: &[Atom], id: ProcId) -> EvalResult<Look>
     requires within { id.0 < length pool.old }
     ensures look { (p : Content) → (s : Expression) → need.set_in p s ≡ Ok atoms.now
         → GivesLook p pool.new result (proc.EachExternal name s (tree_at pool.old id)) }
@@ -153,12 +148,7 @@ fn look_each_external(
 }
 
 // The same of a choice that the process makes by itself, which isn't there over the empty set.
-fn look_each_internal(
-    pool: &mut Pool,
-    name: u32,
-    atoms: &[Atom],
-    id: ProcId,
-) -> Result<Look, EvalFault>
+fn look_each_internal(pool: &mut Pool, name: u32, atoms: &[Atom], id: ProcId) -> EvalResult<Look>
     requires within { id.0 < length pool.old }
     ensures look { (p : Content) → (s : Expression) → need.set_in p s ≡ Ok atoms.now
         → GivesLook p pool.new result (proc.EachInternal name s (tree_at pool.old id)) }
@@ -178,8 +168,8 @@ fn look_call(
     pool: &mut Pool,
     evaluated: &mut Evaluated,
     def: u32,
-    values: Result<Items<Value>, EvalFault>,
-) -> Result<Look, EvalFault>
+    values: EvalResult<Items<Value>>,
+) -> EvalResult<Look>
     requires fits { Fits program.now pool.old evaluated.old }
     ensures look { (args : List Expression) → Gives values (need.arguments_in program.now args)
         → GivesLook program.now pool.new result (proc.Call def args) }
@@ -198,7 +188,7 @@ pub(crate) fn look_at(
     pool: &mut Pool,
     evaluated: &mut Evaluated,
     id: ProcId,
-) -> Result<Look, EvalFault>
+) -> EvalResult<Look>
     requires within { id.0 < length pool.old }
     requires fits { Fits program.now pool.old evaluated.old }
     ensures look { GivesLook program.now pool.new result (tree_at pool.old id) }

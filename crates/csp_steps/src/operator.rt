@@ -8,7 +8,7 @@ ghost use Rattle.csp_steps.specs.Evaluated.{GivesImages, GivesOperator};
 
 use csp_base::{EventSet, Stop};
 use csp_program::{EventPart, Gen, Program, ValueKind};
-use csp_values::EvalFault;
+use csp_values::EvalResult;
 use std::alloc::Global;
 use step_values::{Images, events_in, images_by_event, renaming_in};
 use term_pool::{Node, Pool, ProcId};
@@ -30,7 +30,7 @@ fn images_in(
     program: &Program,
     pairs: &[(EventPart, EventPart)],
     gens: &[Gen],
-) -> Result<Images, EvalFault>
+) -> EvalResult<Images>
     ensures { GivesImages result (renaming.renaming_in program.now pairs.now gens.now) }
 {
     let renamed = renaming_in(alloc, program, pairs, gens)?;
@@ -39,7 +39,7 @@ fn images_in(
 }
 
 /// The operator at a place. Faults are those of its set of events, or of its pairs; any other process has the kind `Kind`.
-pub(crate) fn operator_at(program: &Program, pool: &Pool, id: ProcId) -> Result<Operator, EvalFault>
+pub(crate) fn operator_at(program: &Program, pool: &Pool, id: ProcId) -> EvalResult<Operator>
     requires { id.0 < length pool.now }
     ensures { GivesOperator program.now pool.now result (tree_at pool.now id) }
 {

@@ -15,9 +15,9 @@ use crate::step::StepTo;
 use crate::walk::{Frame, Input, Turn, Turned, Walk, begin, bind, pop};
 use containers::Items;
 use csp_atoms::{Atom, AtomSet};
-use csp_base::{Event, NoMemory};
+use csp_base::{Event, Made};
 use csp_program::{Field, Program};
-use csp_values::EvalFault;
+use csp_values::EvalResult;
 use process_steps::Label;
 use std::alloc::Global;
 use step_values::Start;
@@ -51,7 +51,7 @@ fn turn_after<'a>(input: &Input<'a>, place: usize, atom: &Atom) -> Option<Turn<'
 }
 
 // Lets an input take the value at a place, where there is one.
-fn take<'a>(walk: &mut Walk<'a>, input: Input<'a>, place: usize) -> Result<(), NoMemory>
+fn take<'a>(walk: &mut Walk<'a>, input: Input<'a>, place: usize) -> Made<()>
     requires { IsSound walk.old }
     ensures { OnOk result (IsTaken walk.old walk.new input.entry place) }
 {
@@ -78,7 +78,7 @@ fn go_on<'a>(
     sets: &mut Sets,
     walk: &mut Walk<'a>,
     turn: &Turn<'a>,
-) -> Result<Turned, EvalFault>
+) -> EvalResult<Turned>
     requires turn { walk.old.turn ≡ Some turn.now }
     requires sound { IsSound walk.old }
     requires sets { AreSets filling.now.program.now sets.old }
@@ -98,7 +98,7 @@ fn go_on<'a>(
 }
 
 // One turn of a walk: the fields on turn, or the next value of the last input.
-fn advance(filling: &Filling<'_>, sets: &mut Sets, walk: &mut Walk<'_>) -> Result<Turned, EvalFault>
+fn advance(filling: &Filling<'_>, sets: &mut Sets, walk: &mut Walk<'_>) -> EvalResult<Turned>
     requires sound { IsSound walk.old }
     requires sets { AreSets filling.now.program.now sets.old }
     ensures sets { OnOk result (AreSets filling.now.program.now sets.new) }
@@ -138,7 +138,7 @@ fn add_way(
     bound: &[(u32, Atom)],
     number: u64,
     steps: &mut Items<StepTo>,
-) -> Result<(), NoMemory>
+) -> Made<()>
     requires to { filling.now.to.0 < length pool.old }
     requires within { all_within (length pool.old) steps.old ≡ true }
     ensures steps { OnOk result (AreMoves pool.new steps.new (map (seen pool.old) steps.old
@@ -162,7 +162,7 @@ fn turn_on(
     sets: &mut Sets,
     walk: &mut Walk<'_>,
     steps: &mut Items<StepTo>,
-) -> Result<bool, EvalFault>
+) -> EvalResult<bool>
     requires sound { IsSound walk.old }
     requires to { filling.now.to.0 < length pool.old }
     requires within { all_within (length pool.old) steps.old ≡ true }
@@ -188,7 +188,7 @@ pub(crate) fn prefix_steps(
     pool: &mut Pool,
     sets: &mut Sets,
     fields: &[Field],
-) -> Result<Items<StepTo>, EvalFault>
+) -> EvalResult<Items<StepTo>>
     requires within { filling.now.to.0 < length pool.old }
     requires sets { AreSets filling.now.program.now sets.old }
     ensures sets { OnOk result (AreSets filling.now.program.now sets.new) }

@@ -9,10 +9,10 @@ ghost use Rattle.csp_steps.specs.Evaluated.{AreSets, GivesSet, HasSet};
 
 use containers::{Items, Numbering, QuickKey};
 use csp_atoms::{Atom, AtomSet};
-use csp_base::{NoMemory, Stop};
+use csp_base::{Made, NoMemory, Stop};
 use csp_program::copies::copy_expr;
 use csp_program::{Expr, Program};
-use csp_values::EvalFault;
+use csp_values::EvalResult;
 use std::alloc::Global;
 use step_values::set_in;
 
@@ -59,7 +59,7 @@ fn make_room(alloc: Global, program: &Program, sets: &mut Sets, more: usize)
 }
 
 // Keeps the set that an expression is worth: its number.
-fn keep_set(alloc: Global, sets: &mut Sets, expr: &Expr, atoms: AtomSet) -> Result<usize, NoMemory>
+fn keep_set(alloc: Global, sets: &mut Sets, expr: &Expr, atoms: AtomSet) -> Made<usize>
     ensures { (p : Content) → AreSets p sets.old → need.set_in p expr.now ≡ Ok atoms
         → IfOk result (λ number. HasSet p sets.new number expr.now) }
 {
@@ -78,7 +78,7 @@ pub(crate) fn set_of(
     program: &Program,
     sets: &mut Sets,
     expr: &Expr,
-) -> Result<usize, EvalFault>
+) -> EvalResult<usize>
     requires { AreSets program.now sets.old }
     ensures { GivesSet program.now sets.new result expr.now }
 {
@@ -97,7 +97,7 @@ pub(crate) fn copy_set(
     program: &Program,
     sets: &mut Sets,
     expr: &Expr,
-) -> Result<AtomSet, EvalFault>
+) -> EvalResult<AtomSet>
     requires { AreSets program.now sets.old }
     ensures set { Gives result (need.set_in program.now expr.now) }
     ensures sets { OnOk result (AreSets program.now sets.new) }

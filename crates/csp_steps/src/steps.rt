@@ -13,7 +13,7 @@ use crate::once::{add_each, drop_repeats, numbered_steps};
 use crate::step::StepTo;
 use containers::{Items, Numbering};
 use csp_program::Program;
-use csp_values::EvalFault;
+use csp_values::EvalResult;
 use term_pool::{Pool, ProcId};
 
 // The steps of the process at a place, each once, where it first stands.
@@ -23,7 +23,7 @@ fn steps_at(
     pool: &mut Pool,
     evaluated: &mut Evaluated,
     id: ProcId,
-) -> Result<Items<StepTo>, EvalFault>
+) -> EvalResult<Items<StepTo>>
     requires within { id.0 < length pool.old }
     requires fits { Fits program.now pool.old evaluated.old }
     ensures steps { GivesEach pool.new result (steps_of program.now (tree_at pool.old id)) }
@@ -67,7 +67,7 @@ fn steps_of_operands(
     pool: &mut Pool,
     evaluated: &mut Evaluated,
     ids: &[ProcId],
-) -> Result<Items<StepTo>, EvalFault>
+) -> EvalResult<Items<StepTo>>
     requires within { all_below (length pool.old) ids.now ≡ true }
     requires fits { Fits program.now pool.old evaluated.old }
     ensures steps { GivesEach pool.new result (steps_of_choice program.now (steps_of program.now)
@@ -95,7 +95,7 @@ pub fn steps_in(
     pool: &mut Pool,
     evaluated: &mut Evaluated,
     id: ProcId,
-) -> Result<Items<StepTo>, EvalFault>
+) -> EvalResult<Items<StepTo>>
     requires within { id.0 < length pool.old }
     requires fits { Fits program.now pool.old evaluated.old }
     ensures steps { IfOk result (λ steps. AreStepsOf program.now pool.new (tree_at pool.old id) steps) }

@@ -5,7 +5,7 @@ ghost use Rattle.csp_steps.specs.Walked.{IsBegun, IsPopped};
 
 use containers::Items;
 use csp_atoms::{Atom, AtomSet};
-use csp_base::NoMemory;
+use csp_base::{Made, NoMemory};
 use csp_program::Field;
 use smallvec::SmallVec;
 use std::alloc::Global;
@@ -83,11 +83,7 @@ pub(crate) fn begin<'a>(alloc: Global, turn: Turn<'a>) -> Walk<'a>
 }
 
 /// Binds one more name.
-pub(crate) fn bind(
-    bound: &mut SmallVec<(u32, Atom), 4>,
-    name: u32,
-    atom: Atom,
-) -> Result<(), NoMemory>
+pub(crate) fn bind(bound: &mut SmallVec<(u32, Atom), 4>, name: u32, atom: Atom) -> Made<()>
     ensures { OnOk result (bound.new.items ≡ bound.old.items ++ (name, atom) ∷ []) }
 {
     match bound.push((name, atom)) {

@@ -3,7 +3,7 @@
 ghost use Rattle.std.specs.Prelude.{◌≡◌, ◌+◌, ◌<◌, ◌^◌, [], ◌∷◌, ◌++◌, OnOk, OnErr};
 ghost use Rattle.csp_tables.specs.RawForm.{HasRawForm};
 
-use csp_base::{Event, NoMemory};
+use csp_base::{Event, Made};
 use std::alloc::Global;
 use std::marker::Model;
 
@@ -80,7 +80,7 @@ impl RawTable {
     }
 
     /// Adds a silent step. An error changes nothing.
-    pub fn add_silent(&mut self, from: u32, to: u32) -> Result<(), NoMemory>
+    pub fn add_silent(&mut self, from: u32, to: u32) -> Made<()>
         requires from { from < self.old.count }
         requires to { to < self.old.count }
         ensures ok { OnOk result (self.new ≡ record self.old { silent = self.old.silent ++ (from, to) ∷ [] }) }
@@ -91,7 +91,7 @@ impl RawTable {
     }
 
     /// Adds a step by an event. An error changes nothing.
-    pub fn add_step(&mut self, from: u32, event: Event, to: u32) -> Result<(), NoMemory>
+    pub fn add_step(&mut self, from: u32, event: Event, to: u32) -> Made<()>
         requires from { from < self.old.count }
         requires to { to < self.old.count }
         ensures ok { OnOk result (self.new ≡ record self.old { steps = self.old.steps ++ (from, event, to) ∷ [] }) }

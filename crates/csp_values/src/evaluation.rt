@@ -25,7 +25,7 @@ use csp_base::{BinOp, Event, SetOp, Stop};
 use csp_program::{Body, Def, EventPart, Expr, Gen, ValueKind};
 use dl_limits::MOST_BINDINGS;
 use std::alloc::Global;
-use value_operators::EvalFault;
+use value_operators::EvalResult;
 use value_operators::growing::GrowingSet;
 use value_operators::names::{Names, bound_value, copy_value, names_in};
 use value_operators::numbers::{
@@ -73,7 +73,7 @@ pub(crate) fn names_under<'a>(bound: &'a [(u32, Atom)]) -> Names<'a>
 /// The value of an expression.
 #[cycle(eval)]
 #[tactic(auto, using(crate::proofs::Arms::worth_forms, crate::proofs::Falls::weight_forms))]
-pub(crate) fn eval_expr(scope: &Scope<'_>, expr: &Expr) -> Result<Value, EvalFault>
+pub(crate) fn eval_expr(scope: &Scope<'_>, expr: &Expr) -> EvalResult<Value>
     ensures { Gives result (under scope.now worth expr.now) }
 {
     match expr {
@@ -103,7 +103,7 @@ pub(crate) fn eval_expr(scope: &Scope<'_>, expr: &Expr) -> Result<Value, EvalFau
 }
 
 // The set of the numbers from `first` to `last`, as a value.
-fn range_value(alloc: Global, first: i64, last: i64) -> Result<Value, EvalFault>
+fn range_value(alloc: Global, first: i64, last: i64) -> EvalResult<Value>
     ensures { Gives result (meant.many (meant.range first last)) }
 {
     let atoms = numbers(alloc, first, last)?;
@@ -111,7 +111,7 @@ fn range_value(alloc: Global, first: i64, last: i64) -> Result<Value, EvalFault>
 }
 
 // The set of constants, as a value.
-fn constants_value(alloc: Global, numbers: &[u32]) -> Result<Value, EvalFault>
+fn constants_value(alloc: Global, numbers: &[u32]) -> EvalResult<Value>
     ensures { Gives result (meant.many (all_added [] (map (λ k. atom.Const k) numbers.now))) }
 {
     let atoms = constants(alloc, numbers)?;
@@ -119,7 +119,7 @@ fn constants_value(alloc: Global, numbers: &[u32]) -> Result<Value, EvalFault>
 }
 
 // What an operator gives of two sets, as a value.
-fn set_value(alloc: Global, op: SetOp, left: AtomSet, right: AtomSet) -> Result<Value, EvalFault>
+fn set_value(alloc: Global, op: SetOp, left: AtomSet, right: AtomSet) -> EvalResult<Value>
     ensures { Gives result (meant.many (meant.set_binary op left right)) }
 {
     let atoms = combine(alloc, op, &left, &right)?;
@@ -127,7 +127,7 @@ fn set_value(alloc: Global, op: SetOp, left: AtomSet, right: AtomSet) -> Result<
 }
 
 // A set that has grown, as a value.
-fn grown_value(alloc: Global, atoms: GrowingSet) -> Result<Value, EvalFault>
+fn grown_value(alloc: Global, atoms: GrowingSet) -> EvalResult<Value>
     ensures { Gives result (Ok (value.Many atoms)) }
 {
     let atoms = atoms.into_set(alloc)?;
@@ -137,7 +137,7 @@ fn grown_value(alloc: Global, atoms: GrowingSet) -> Result<Value, EvalFault>
 // The number that an expression is worth.
 #[cycle(eval)]
 #[tactic(auto, unfolding(crate::specs::Worth::number_worth))]
-fn eval_number(scope: &Scope<'_>, expr: &Expr) -> Result<i64, EvalFault>
+fn eval_number(scope: &Scope<'_>, expr: &Expr) -> EvalResult<i64>
     ensures { Gives result (under scope.now number_worth expr.now) }
 {
     let value = eval_expr(scope, expr)?;
@@ -147,7 +147,7 @@ fn eval_number(scope: &Scope<'_>, expr: &Expr) -> Result<i64, EvalFault>
 // The truth value that an expression is worth.
 #[cycle(eval)]
 #[tactic(auto, unfolding(crate::specs::Worth::truth_worth))]
-fn eval_truth(scope: &Scope<'_>, expr: &Expr) -> Result<bool, EvalFault>
+fn eval_truth(scope: &Scope<'_>, expr: &Expr) -> EvalResult<bool>
     ensures { Gives result (under scope.now truth_worth expr.now) }
 {
     let value = eval_expr(scope, expr)?;
@@ -157,7 +157,7 @@ fn eval_truth(scope: &Scope<'_>, expr: &Expr) -> Result<bool, EvalFault>
 // The set that an expression is worth.
 #[cycle(eval)]
 #[tactic(auto, unfolding(crate::specs::Worth::atoms_worth))]
-fn eval_atoms(scope: &Scope<'_>, expr: &Expr) -> Result<AtomSet, EvalFault>
+fn eval_atoms(scope: &Scope<'_>, expr: &Expr) -> EvalResult<AtomSet>
     ensures { Gives result (under scope.now atoms_worth expr.now) }
 {
     let value = eval_expr(scope, expr)?;
@@ -166,7 +166,7 @@ fn eval_atoms(scope: &Scope<'_>, expr: &Expr) -> Result<AtomSet, EvalFault>
 
 // The value of `-a`.
 #[cycle(eval)]
-fn eval_negative(scope: &Scope<'_>, a: &Expr) -> Result<Value, EvalFault>
+fn eval_negative(scope: &Scope<'_>, a: &Expr) -> EvalResult<Value>
     ensures { Gives result (form.negative (under scope.now worth a.now)) }
 {
     let value = eval_expr(scope, a)?;
@@ -175,7 +175,7 @@ fn eval_negative(scope: &Scope<'_>, a: &Expr) -> Result<Value, EvalFault>
 
 // The value of `not a`.
 #[cycle(eval)]
-fn eval_not(scope: &Scope<'_>, a: &Expr) -> Result<Value, EvalFault>
+fn eval_not(scope: &Scope<'_>, a: &Expr) -> EvalResult<Value>
     ensures { Gives result (form.inverse (under scope.now worth a.now)) }
 {
     let value = eval_expr(scope, a)?;
@@ -184,7 +184,7 @@ fn eval_not(scope: &Scope<'_>, a: &Expr) -> Result<Value, EvalFault>
 
 // The value of an operator between two operands.
 #[cycle(eval)]
-fn eval_binary(scope: &Scope<'_>, op: BinOp, a: &Expr, b: &Expr) -> Result<Value, EvalFault>
+fn eval_binary(scope: &Scope<'_>, op: BinOp, a: &Expr, b: &Expr) -> EvalResult<Value>
     ensures { Gives result (form.operation op (under scope.now worth a.now)
         (under scope.now worth b.now)) }
 {
@@ -194,7 +194,7 @@ fn eval_binary(scope: &Scope<'_>, op: BinOp, a: &Expr, b: &Expr) -> Result<Value
 
 // The value of an operator between a value and the second operand, which is not evaluated where the first one decides.
 #[cycle(eval)]
-fn eval_second(scope: &Scope<'_>, op: BinOp, first: &Value, b: &Expr) -> Result<Value, EvalFault>
+fn eval_second(scope: &Scope<'_>, op: BinOp, first: &Value, b: &Expr) -> EvalResult<Value>
     ensures { Gives result (binary op first.now (under scope.now worth b.now)) }
 {
     if let Some(value) = decide(op, first)? {
@@ -206,7 +206,7 @@ fn eval_second(scope: &Scope<'_>, op: BinOp, first: &Value, b: &Expr) -> Result<
 
 // The value of `if c then a else b`.
 #[cycle(eval)]
-fn eval_if(scope: &Scope<'_>, c: &Expr, a: &Expr, b: &Expr) -> Result<Value, EvalFault>
+fn eval_if(scope: &Scope<'_>, c: &Expr, a: &Expr, b: &Expr) -> EvalResult<Value>
     ensures { Gives result (chosen (under scope.now truth_worth c.now)
         (under scope.now worth a.now)
         (under scope.now worth b.now)) }
@@ -221,7 +221,7 @@ fn eval_if(scope: &Scope<'_>, c: &Expr, a: &Expr, b: &Expr) -> Result<Value, Eva
 
 // The value of a use of the definition with the number `def`, with these arguments.
 #[cycle(eval)]
-fn eval_call(scope: &Scope<'_>, def: u32, args: &[Expr]) -> Result<Value, EvalFault>
+fn eval_call(scope: &Scope<'_>, def: u32, args: &[Expr]) -> EvalResult<Value>
     ensures { Gives result (and_then (under scope.now worths args.now) (λ vs.
         use_worth scope.now.content.now scope.now.uses def vs)) }
 {
@@ -231,7 +231,7 @@ fn eval_call(scope: &Scope<'_>, def: u32, args: &[Expr]) -> Result<Value, EvalFa
 
 // The set that the definition with the number `def` names.
 #[cycle(eval)]
-fn eval_set_name(scope: &Scope<'_>, def: u32) -> Result<Value, EvalFault>
+fn eval_set_name(scope: &Scope<'_>, def: u32) -> EvalResult<Value>
     ensures { Gives result (form.named_set (use_worth scope.now.content.now scope.now.uses def [])) }
 {
     let value = eval_use(scope, def, &[])?;
@@ -242,7 +242,7 @@ fn eval_set_name(scope: &Scope<'_>, def: u32) -> Result<Value, EvalFault>
 // An event.
 #[cycle(eval)]
 #[tactic(auto, using(crate::proofs::Arms::event_steps))]
-fn eval_event(scope: &Scope<'_>, channel: u32, fields: &[Expr]) -> Result<Value, EvalFault>
+fn eval_event(scope: &Scope<'_>, channel: u32, fields: &[Expr]) -> EvalResult<Value>
     ensures { Gives result (under scope.now event_worth channel fields.now) }
 {
     let channels = scope.content.channels();
@@ -256,7 +256,7 @@ fn eval_event(scope: &Scope<'_>, channel: u32, fields: &[Expr]) -> Result<Value,
 
 // The set of the values of items.
 #[cycle(eval)]
-fn eval_display(scope: &Scope<'_>, items: &[Expr]) -> Result<Value, EvalFault>
+fn eval_display(scope: &Scope<'_>, items: &[Expr]) -> EvalResult<Value>
     ensures { Gives result (form.a_set (under scope.now with_items items.now [])) }
 {
     let atoms = add_items(scope, items, GrowingSet::new(scope.alloc))?;
@@ -265,7 +265,7 @@ fn eval_display(scope: &Scope<'_>, items: &[Expr]) -> Result<Value, EvalFault>
 
 // The set of the numbers from `a` to `b`.
 #[cycle(eval)]
-fn eval_range(scope: &Scope<'_>, a: &Expr, b: &Expr) -> Result<Value, EvalFault>
+fn eval_range(scope: &Scope<'_>, a: &Expr, b: &Expr) -> EvalResult<Value>
     ensures { Gives result (range_of (under scope.now number_worth a.now)
         (under scope.now number_worth b.now)) }
 {
@@ -276,7 +276,7 @@ fn eval_range(scope: &Scope<'_>, a: &Expr, b: &Expr) -> Result<Value, EvalFault>
 
 // The value of an operator between two sets.
 #[cycle(eval)]
-fn eval_set_op(scope: &Scope<'_>, op: SetOp, a: &Expr, b: &Expr) -> Result<Value, EvalFault>
+fn eval_set_op(scope: &Scope<'_>, op: SetOp, a: &Expr, b: &Expr) -> EvalResult<Value>
     ensures { Gives result (set_of op (under scope.now atoms_worth a.now)
         (under scope.now atoms_worth b.now)) }
 {
@@ -288,7 +288,7 @@ fn eval_set_op(scope: &Scope<'_>, op: SetOp, a: &Expr, b: &Expr) -> Result<Value
 // The value of `{| parts | gens |}`. Where a channel has no field sets, no generator is walked.
 #[cycle(eval)]
 #[tactic(auto, using(crate::proofs::Weights::none_weigh, crate::proofs::Arms::lacking_steps))]
-fn eval_product(scope: &Scope<'_>, parts: &[EventPart], gens: &[Gen]) -> Result<Value, EvalFault>
+fn eval_product(scope: &Scope<'_>, parts: &[EventPart], gens: &[Gen]) -> EvalResult<Value>
     ensures { Gives result (form.produced (form.lack_sets scope.now.content.now.channels parts.now)
         (walk_worth scope.now.content.now scope.now.uses gens.now [] parts.now (env_in scope.now.names.now) form.nothing_yet)) }
 {
@@ -305,7 +305,7 @@ fn eval_comprehension(
     items: &[Expr],
     parts: &[EventPart],
     gens: &[Gen],
-) -> Result<Value, EvalFault>
+) -> EvalResult<Value>
     ensures { Gives result
         (form.gathered_set (walk_worth scope.now.content.now scope.now.uses gens.now items.now parts.now
         (env_in scope.now.names.now) form.nothing_yet)) }
@@ -322,7 +322,7 @@ fn eval_comprehension(
 /// The values of expressions, from the left.
 #[cycle(eval)]
 #[tactic(auto, using(crate::proofs::Steps::worths_steps, crate::proofs::Weights::weight_in))]
-pub(crate) fn eval_all(scope: &Scope<'_>, exprs: &[Expr]) -> Result<Items<Value>, EvalFault>
+pub(crate) fn eval_all(scope: &Scope<'_>, exprs: &[Expr]) -> EvalResult<Items<Value>>
     ensures { Gives result (under scope.now worths exprs.now) }
 {
     let mut values = Items::new(scope.alloc);
@@ -336,7 +336,7 @@ pub(crate) fn eval_all(scope: &Scope<'_>, exprs: &[Expr]) -> Result<Items<Value>
 // The value of a use of the definition with the number `def`.
 #[cycle(eval)]
 #[tactic(auto, using(crate::proofs::Equations::use_forms, crate::proofs::Falls::use_falls))]
-fn eval_use(scope: &Scope<'_>, def: u32, args: &[Value]) -> Result<Value, EvalFault>
+fn eval_use(scope: &Scope<'_>, def: u32, args: &[Value]) -> EvalResult<Value>
     ensures { Gives result (use_worth scope.now.content.now scope.now.uses def args.now) }
 {
     if scope.uses == 0 {
@@ -357,7 +357,7 @@ fn eval_use(scope: &Scope<'_>, def: u32, args: &[Value]) -> Result<Value, EvalFa
 // The value of the body of a definition.
 #[cycle(eval)]
 #[tactic(auto, using(crate::proofs::Equations::body_forms))]
-fn eval_body(scope: &Scope<'_>, def: &Def, args: &[Value]) -> Result<Value, EvalFault>
+fn eval_body(scope: &Scope<'_>, def: &Def, args: &[Value]) -> EvalResult<Value>
     ensures { Gives result (body_worth scope.now.content.now scope.now.uses def.now args.now) }
 {
     match &def.body {
@@ -390,7 +390,7 @@ fn eval_body(scope: &Scope<'_>, def: &Def, args: &[Value]) -> Result<Value, Eval
 // A set with the values of items in it.
 #[cycle(eval)]
 #[tactic(auto, using(crate::proofs::Steps::items_steps, crate::proofs::Weights::weight_in))]
-fn add_items(scope: &Scope<'_>, items: &[Expr], atoms: GrowingSet) -> Result<GrowingSet, EvalFault>
+fn add_items(scope: &Scope<'_>, items: &[Expr], atoms: GrowingSet) -> EvalResult<GrowingSet>
     ensures { Gives result (under scope.now with_items items.now atoms) }
 {
     let mut atoms = atoms;
@@ -402,7 +402,7 @@ fn add_items(scope: &Scope<'_>, items: &[Expr], atoms: GrowingSet) -> Result<Gro
 
 // A set with the value of an item in it.
 #[cycle(eval)]
-fn add_item(scope: &Scope<'_>, item: &Expr, atoms: GrowingSet) -> Result<GrowingSet, EvalFault>
+fn add_item(scope: &Scope<'_>, item: &Expr, atoms: GrowingSet) -> EvalResult<GrowingSet>
     ensures { Gives result (and_then (under scope.now worth item.now) (λ v.
         and_then (as_atom v) (λ a. added atoms a))) }
 {
@@ -413,12 +413,7 @@ fn add_item(scope: &Scope<'_>, item: &Expr, atoms: GrowingSet) -> Result<Growing
 // The number of fields among all choices of values of these sets, each counted `each` times. Counting stops at the end of 64 bits.
 #[cycle(eval)]
 #[tactic(auto, using(crate::proofs::FieldSteps::fields_steps, crate::proofs::Weights::weight_in))]
-fn eval_fields(
-    scope: &Scope<'_>,
-    fields: &[Expr],
-    sets: &[AtomSet],
-    each: u64,
-) -> Result<u64, EvalFault>
+fn eval_fields(scope: &Scope<'_>, fields: &[Expr], sets: &[AtomSet], each: u64) -> EvalResult<u64>
     ensures { Gives result (form.capped (form.scaled
         (under scope.now fields_worth fields.now sets.now 0) each)) }
 {
@@ -437,7 +432,7 @@ fn eval_fields(
 
 // The place of the value of an expression among the values of a field.
 #[cycle(eval)]
-fn eval_place(scope: &Scope<'_>, expr: &Expr, set: &AtomSet) -> Result<u64, EvalFault>
+fn eval_place(scope: &Scope<'_>, expr: &Expr, set: &AtomSet) -> EvalResult<u64>
     ensures { Gives result (and_then (under scope.now worth expr.now) (λ v.
         field_place set.now v)) }
 {
@@ -448,7 +443,7 @@ fn eval_place(scope: &Scope<'_>, expr: &Expr, set: &AtomSet) -> Result<u64, Eval
 // The number of fields among all choices of values of these sets, counted over the choices of those that are not given, up to the end of 64 bits.
 #[cycle(eval)]
 #[tactic(auto, using(crate::proofs::FieldSteps::counted_over))]
-fn eval_choice(scope: &Scope<'_>, fields: &[Expr], sets: &[AtomSet]) -> Result<u64, EvalFault>
+fn eval_choice(scope: &Scope<'_>, fields: &[Expr], sets: &[AtomSet]) -> EvalResult<u64>
     ensures { Gives result (form.capped (form.scaled
         (under scope.now fields_worth fields.now sets.now 0)
         (form.each_of sets.now (length fields.now)))) }
@@ -460,7 +455,7 @@ fn eval_choice(scope: &Scope<'_>, fields: &[Expr], sets: &[AtomSet]) -> Result<u
 /// The number of the first event of a channel that begins with these fields.
 #[cycle(eval)]
 #[tactic(auto, using(crate::proofs::FieldSteps::fronts_found, crate::proofs::Arms::event_steps))]
-pub(crate) fn eval_front(scope: &Scope<'_>, channel: u32, fields: &[Expr]) -> Result<u32, EvalFault>
+pub(crate) fn eval_front(scope: &Scope<'_>, channel: u32, fields: &[Expr]) -> EvalResult<u32>
     ensures { Gives result (under scope.now front_worth channel fields.now) }
 {
     let channels = scope.content.channels();
@@ -476,11 +471,7 @@ pub(crate) fn eval_front(scope: &Scope<'_>, channel: u32, fields: &[Expr]) -> Re
 // A set with the events of fronts in it.
 #[cycle(eval)]
 #[tactic(auto, using(crate::proofs::Steps::fronts_steps, crate::proofs::Weights::part_weight_in))]
-fn add_fronts(
-    scope: &Scope<'_>,
-    parts: &[EventPart],
-    atoms: GrowingSet,
-) -> Result<GrowingSet, EvalFault>
+fn add_fronts(scope: &Scope<'_>, parts: &[EventPart], atoms: GrowingSet) -> EvalResult<GrowingSet>
     ensures { Gives result (under scope.now with_fronts parts.now atoms) }
 {
     let mut atoms = atoms;
@@ -493,11 +484,7 @@ fn add_fronts(
 // A set with the events of a front in it.
 #[cycle(eval)]
 #[tactic(auto, using(crate::proofs::Arms::event_steps, crate::proofs::Falls::weight_part))]
-fn add_front(
-    scope: &Scope<'_>,
-    part: &EventPart,
-    atoms: GrowingSet,
-) -> Result<GrowingSet, EvalFault>
+fn add_front(scope: &Scope<'_>, part: &EventPart, atoms: GrowingSet) -> EvalResult<GrowingSet>
     ensures { Gives result (under scope.now with_front part.now atoms) }
 {
     let channels = scope.content.channels();
@@ -509,7 +496,7 @@ fn add_front(
 // One more binding, and what it adds.
 #[cycle(eval)]
 #[tactic(auto, using(crate::proofs::Equations::binding_forms, crate::proofs::Arms::binding_steps))]
-fn gather(scope: &Scope<'_>, yields: &Yield<'_>, tally: Tally) -> Result<Tally, EvalFault>
+fn gather(scope: &Scope<'_>, yields: &Yield<'_>, tally: Tally) -> EvalResult<Tally>
     ensures { GivesTally result
         (one_more_binding scope.now.content.now scope.now.uses yields.now.items.now yields.now.parts.now
         (env_in scope.now.names.now) (gathered_of tally)) }
@@ -529,7 +516,7 @@ fn gather(scope: &Scope<'_>, yields: &Yield<'_>, tally: Tally) -> Result<Tally, 
 // One step of a walk over generators, under the names around them.
 #[cycle(eval)]
 #[tactic(auto, using(crate::proofs::Courses::advance_steps))]
-fn advance(scope: &Scope<'_>, gens: &[Gen], walk: &mut Walk) -> Result<Step, EvalFault>
+fn advance(scope: &Scope<'_>, gens: &[Gen], walk: &mut Walk) -> EvalResult<Step>
     requires { IsUnder scope.now.names.now.bound.now walk.old }
     ensures { GivesStep result (course scope.now.content.now scope.now.uses gens.now scope.now.names.now walk.old)
         (course scope.now.content.now scope.now.uses gens.now scope.now.names.now walk.new)
@@ -549,7 +536,7 @@ fn advance(scope: &Scope<'_>, gens: &[Gen], walk: &mut Walk) -> Result<Step, Eva
 
 // The step of a walk at a generator, or past all of them.
 #[cycle(eval)]
-fn enter(scope: &Scope<'_>, gens: &[Gen], place: usize, walk: &mut Walk) -> Result<Step, EvalFault>
+fn enter(scope: &Scope<'_>, gens: &[Gen], place: usize, walk: &mut Walk) -> EvalResult<Step>
     requires under { IsUnder scope.now.names.now.bound.now walk.old }
     requires turn { walk.old.turn ≡ Some place }
     ensures { GivesStep result (course scope.now.content.now scope.now.uses gens.now scope.now.names.now walk.old)
@@ -589,11 +576,7 @@ fn enter(scope: &Scope<'_>, gens: &[Gen], place: usize, walk: &mut Walk) -> Resu
 /// Whether there is one more binding, under which the walk then stands.
 #[cycle(eval)]
 #[tactic(auto, using(crate::proofs::Courses::step_less))]
-pub(crate) fn find_binding(
-    scope: &Scope<'_>,
-    gens: &[Gen],
-    walk: &mut Walk,
-) -> Result<bool, EvalFault>
+pub(crate) fn find_binding(scope: &Scope<'_>, gens: &[Gen], walk: &mut Walk) -> EvalResult<bool>
     requires { IsUnder scope.now.names.now.bound.now walk.old }
     ensures { GivesBinding result (course scope.now.content.now scope.now.uses gens.now scope.now.names.now walk.old)
         (course scope.now.content.now scope.now.uses gens.now scope.now.names.now walk.new)
@@ -615,7 +598,7 @@ fn gather_all(
     gens: &[Gen],
     yields: &Yield<'_>,
     tally: Tally,
-) -> Result<Tally, EvalFault>
+) -> EvalResult<Tally>
     requires { IsSetValue tally.atoms }
     ensures { GivesTally result
         (walk_under scope.now gens.now yields.now (gathered_of tally)) }
@@ -634,7 +617,7 @@ fn gather_each(
     gens: &[Gen],
     yields: &Yield<'_>,
     tally: Tally,
-) -> Result<Tally, EvalFault>
+) -> EvalResult<Tally>
     ensures { GivesTally result
         (walk_under scope.now gens.now yields.now (gathered_of tally)) }
 {
@@ -659,7 +642,7 @@ fn gather_each(
 }
 
 // One more binding, which adds nothing.
-fn count_binding(tally: Tally) -> Result<Tally, EvalFault>
+fn count_binding(tally: Tally) -> EvalResult<Tally>
     ensures tally { GivesTally result (gathered (λ _ atoms. Ok atoms) [] (gathered_of tally)) }
     ensures atoms { IfOk result (λ more. more.atoms ≡ tally.atoms) }
 {
@@ -681,7 +664,7 @@ fn gather_once(
     gens: &[Gen],
     yields: &Yield<'_>,
     tally: Tally,
-) -> Result<Tally, EvalFault>
+) -> EvalResult<Tally>
     requires set { IsSetValue tally.atoms }
     requires items { All (Stays gens.now) yields.now.items.now }
     requires parts { All (PartStays gens.now) yields.now.parts.now }

@@ -11,7 +11,7 @@ mod tally;
 mod walk;
 mod whole;
 
-pub use value_operators::EvalFault;
+pub use value_operators::{EvalFault, EvalResult};
 pub use walk::Walk;
 pub use whole::{
     binding_under, eval, eval_all_under, eval_all_with, eval_in, eval_set, eval_under, eval_with,

@@ -5,7 +5,7 @@ ghost use Rattle.csp_values.specs.Course.{IsPopped, begun, taken};
 
 use containers::Items;
 use csp_atoms::{Atom, AtomSet};
-use csp_base::NoMemory;
+use csp_base::Made;
 use std::alloc::Global;
 
 /// A generator under which a walk stands.
@@ -34,7 +34,7 @@ pub struct Walk {
 
 impl Walk {
     /// A walk that begins, under names that are bound around the generators.
-    pub fn new(alloc: Global, around: &[(u32, Atom)]) -> Result<Walk, NoMemory>
+    pub fn new(alloc: Global, around: &[(u32, Atom)]) -> Made<Walk>
         ensures { IfOk result (λ walk. walk ≡ begun around.now) }
     {
         let bound = Items::from_slice(alloc, around)?;
@@ -53,13 +53,7 @@ impl Walk {
     }
 
     /// Lets a name take the value at a place, where there is one; the generators from `rest` on come next.
-    pub(crate) fn take(
-        &mut self,
-        slot: u32,
-        atoms: AtomSet,
-        place: usize,
-        rest: usize,
-    ) -> Result<(), NoMemory>
+    pub(crate) fn take(&mut self, slot: u32, atoms: AtomSet, place: usize, rest: usize) -> Made<()>
         ensures { OnOk result (self.new ≡ taken self.old slot atoms place rest) }
     {
         match atoms.get(place) {

@@ -15,7 +15,7 @@ use containers::Items;
 use csp_atoms::{Atom, AtomSet, Value};
 use csp_program::{Content, Expr, Gen, Program};
 use std::alloc::Global;
-use value_operators::EvalFault;
+use value_operators::EvalResult;
 use value_operators::names::Names;
 use value_operators::operators::to_set;
 
@@ -34,14 +34,14 @@ fn whole_scope<'a>(alloc: Global, content: &'a Fitting<'a>, names: &'a Names<'a>
 }
 
 /// The value of an expression of a program. A fault is told exactly where it has none: the kind of the first one from the left.
-pub fn eval(alloc: Global, program: &Program, expr: &Expr) -> Result<Value, EvalFault>
+pub fn eval(alloc: Global, program: &Program, expr: &Expr) -> EvalResult<Value>
     ensures { Gives result (value_of program.now expr.now) }
 {
     eval_fitting(alloc, &Fitting::of(program), expr)
 }
 
 /// The value of an expression over what a program holds, also while that is still being put together. Faults are those of `eval`.
-pub fn eval_in(alloc: Global, content: &Content, expr: &Expr) -> Result<Value, EvalFault>
+pub fn eval_in(alloc: Global, content: &Content, expr: &Expr) -> EvalResult<Value>
     requires fit { ChannelsFit content.now.channels }
     ensures { Gives result (value_of content.now expr.now) }
 {
@@ -49,14 +49,14 @@ pub fn eval_in(alloc: Global, content: &Content, expr: &Expr) -> Result<Value, E
 }
 
 // The value of a closed expression.
-fn eval_fitting(alloc: Global, content: &Fitting<'_>, expr: &Expr) -> Result<Value, EvalFault>
+fn eval_fitting(alloc: Global, content: &Fitting<'_>, expr: &Expr) -> EvalResult<Value>
     ensures { Gives result (value_of content.now expr.now) }
 {
     eval_expr(&whole_scope(alloc, content, &names_under(&[])), expr)
 }
 
 /// The set that an expression of a program is worth. Faults are those of `eval`; a value that is no set has the kind `Kind`.
-pub fn eval_set(alloc: Global, program: &Program, expr: &Expr) -> Result<AtomSet, EvalFault>
+pub fn eval_set(alloc: Global, program: &Program, expr: &Expr) -> EvalResult<AtomSet>
     ensures { Gives result (and_then (value_of program.now expr.now) (λ v. as_set v)) }
 {
     let value = eval(alloc, program, expr)?;
@@ -70,7 +70,7 @@ pub fn eval_with(
     program: &Program,
     names: &Names<'_>,
     expr: &Expr,
-) -> Result<Value, EvalFault>
+) -> EvalResult<Value>
     ensures { Gives result (value_within program.now (length program.now.defs) expr.now (env_in names.now)) }
 {
     eval_expr(&whole_scope(alloc, &Fitting::of(program), names), expr)
@@ -82,7 +82,7 @@ pub fn eval_all_with(
     program: &Program,
     names: &Names<'_>,
     exprs: &[Expr],
-) -> Result<Items<Value>, EvalFault>
+) -> EvalResult<Items<Value>>
     ensures { Gives result (worths program.now (length program.now.defs) (env_in names.now) exprs.now) }
 {
     eval_all(&whole_scope(alloc, &Fitting::of(program), names), exprs)
@@ -95,7 +95,7 @@ pub fn eval_under(
     program: &Program,
     bound: &[(u32, Atom)],
     expr: &Expr,
-) -> Result<Value, EvalFault>
+) -> EvalResult<Value>
     ensures { Gives result (worth program.now (length program.now.defs) (with_bound bound.now []) expr.now) }
 {
     eval_with(alloc, program, &names_under(bound), expr)
@@ -107,7 +107,7 @@ pub fn eval_all_under(
     program: &Program,
     bound: &[(u32, Atom)],
     exprs: &[Expr],
-) -> Result<Items<Value>, EvalFault>
+) -> EvalResult<Items<Value>>
     ensures { Gives result (worths program.now (length program.now.defs) (with_bound bound.now []) exprs.now) }
 {
     eval_all_with(alloc, program, &names_under(bound), exprs)
@@ -122,7 +122,7 @@ pub fn front_under(
     bound: &[(u32, Atom)],
     channel: u32,
     fields: &[Expr],
-) -> Result<u32, EvalFault>
+) -> EvalResult<u32>
     ensures { Gives result (front_worth program.now (length program.now.defs)
         (with_bound bound.now []) channel fields.now) }
 {
@@ -137,7 +137,7 @@ pub fn binding_under(
     program: &Program,
     gens: &[Gen],
     walk: &mut Walk,
-) -> Result<bool, EvalFault>
+) -> EvalResult<bool>
     requires { IsUnder [] walk.old }
     ensures { GivesBinding result (course_under program.now gens.now walk.old)
         (course_under program.now gens.now walk.new) [] [] walk.new }

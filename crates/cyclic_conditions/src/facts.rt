@@ -6,7 +6,7 @@ ghost use Rattle.cyclic_conditions.specs.Laps.{AreLaps};
 
 use crate::laps::Laps;
 use containers::Items;
-use csp_base::{Event, NoMemory};
+use csp_base::{Event, Made};
 use std::alloc::Global;
 
 // At a pair an event of a link is possible.
@@ -25,7 +25,7 @@ pub(crate) struct Clash {
 }
 
 // For each of so many places no fact.
-pub(crate) fn no_facts(alloc: Global, count: usize) -> Result<Vec<Option<Fact>>, NoMemory>
+pub(crate) fn no_facts(alloc: Global, count: usize) -> Made<Vec<Option<Fact>>>
     ensures { IfOk result (λ firsts. firsts.items ≡ replicate count None) }
 {
     let firsts = vec![in alloc; None; count]?;
@@ -133,7 +133,7 @@ fn is_of(first: &Option<Fact>, link: u32) -> bool
 }
 
 // The links in the order of their places, up to the first place without one.
-pub(crate) fn in_order(alloc: Global, firsts: &[Option<Fact>]) -> Result<Items<u32>, NoMemory>
+pub(crate) fn in_order(alloc: Global, firsts: &[Option<Fact>]) -> Made<Items<u32>>
     ensures { IfOk result (λ links. links ≡ links_in_order firsts.now) }
 {
     let mut links = Items::new(alloc);

@@ -4,7 +4,7 @@ ghost use Rattle.std.specs.Prelude.{◌≡◌, ◌<◌, IfOk};
 ghost use Rattle.design_rules.specs.Prelude.{links_of};
 ghost use Rattle.cyclic_conditions.specs.Laps.{AreLaps};
 
-use csp_base::NoMemory;
+use csp_base::Made;
 use observed_runs::{Explored, Lap};
 use shape_links::Component;
 use std::alloc::Global;
@@ -18,7 +18,7 @@ pub(crate) struct Laps<'a> {
 
 impl<'a> Laps<'a> {
     // The laps of a component that has links.
-    pub(crate) fn new(alloc: Global, component: &Component<'a>) -> Result<Laps<'a>, NoMemory>
+    pub(crate) fn new(alloc: Global, component: &Component<'a>) -> Made<Laps<'a>>
         requires { 0 < links_of component.now.shape.now component.now.number }
         ensures laps { IfOk result AreLaps }
         ensures component { IfOk result (λ laps. laps.component ≡ component.now) }

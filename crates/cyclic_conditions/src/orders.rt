@@ -11,7 +11,7 @@ ghost use Rattle.cyclic_conditions.specs.Told.{IsBrokenOrder};
 use crate::facts::{Clash, in_order, no_facts, note_all};
 use crate::laps::Laps;
 use containers::Items;
-use csp_base::{NoMemory, Stop};
+use csp_base::{Made, NoMemory, Stop};
 use design_rules::RuleFault;
 use shape_links::{Component, SortedShape};
 use std::alloc::Global;
@@ -83,7 +83,7 @@ fn order_along(alloc: Global, laps: &Laps<'_>) -> Result<Items<u32>, Stop<RuleFa
 }
 
 // What two facts tell that no order allows: the one whose run is not the shorter one.
-fn no_order(alloc: Global, laps: &Laps<'_>, clash: Clash) -> Result<RuleFault, NoMemory>
+fn no_order(alloc: Global, laps: &Laps<'_>, clash: Clash) -> Made<RuleFault>
     requires laps { AreLaps laps.now }
     requires clash { AreClashing laps.now clash.here clash.there }
     ensures { IfOk result (IsBrokenOrder laps.now.component.shape.now laps.now.component.number) }

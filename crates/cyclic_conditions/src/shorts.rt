@@ -6,7 +6,7 @@ ghost use Rattle.cyclic_conditions.specs.Shorts.{AreAllShorts, AreShorts, Before
 ghost use Rattle.shape_links.specs.Component.{table_of};
 ghost use Rattle.shape_links.specs.Links.{IsOnOne};
 
-use csp_base::{Event, EventSet, NoMemory};
+use csp_base::{Event, EventSet, Made};
 use shape_links::{Component, SortedShape};
 use std::alloc::Global;
 
@@ -18,7 +18,7 @@ pub(crate) struct Shorts {
 }
 
 // The first nodes of all ends that fall short.
-pub(crate) fn find_shorts(alloc: Global, sorted: &SortedShape<'_>) -> Result<Shorts, NoMemory>
+pub(crate) fn find_shorts(alloc: Global, sorted: &SortedShape<'_>) -> Made<Shorts>
     requires { AllKeepPlaces sorted.now }
     ensures { IfOk result (AreAllShorts sorted.now) }
 {

@@ -5,17 +5,13 @@ ghost use Rattle.design_rules.specs.CyclicFaults.{ends_of};
 ghost use Rattle.shape_links.specs.Turned.{turned_circle};
 
 use containers::Items;
-use csp_base::NoMemory;
+use csp_base::Made;
 use csp_tables::Shape;
 use shape_links::turn_circle;
 use std::alloc::Global;
 
 // The two components of each link of the circle, passed the other way round.
-pub(crate) fn turned_ends(
-    alloc: Global,
-    shape: &Shape,
-    circle: &[u32],
-) -> Result<Items<(u32, u32)>, NoMemory>
+pub(crate) fn turned_ends(alloc: Global, shape: &Shape, circle: &[u32]) -> Made<Items<(u32, u32)>>
     requires { 0 < length circle.now }
     ensures { IfOk result (λ made. made ≡ map (ends_of shape.now) (turned_circle circle.now)) }
 {
@@ -24,7 +20,7 @@ pub(crate) fn turned_ends(
 }
 
 // The two components of each link.
-fn all_ends(alloc: Global, shape: &Shape, links: &[u32]) -> Result<Items<(u32, u32)>, NoMemory>
+fn all_ends(alloc: Global, shape: &Shape, links: &[u32]) -> Made<Items<(u32, u32)>>
     ensures { IfOk result (λ made. made ≡ map (ends_of shape.now) links.now) }
 {
     let mut made = Items::new(alloc);

@@ -9,7 +9,7 @@ ghost use Rattle.cyclic_conditions.specs.Orders.{AreOrders};
 
 use crate::ends::turned_ends;
 use containers::Items;
-use csp_base::{NoMemory, Stop};
+use csp_base::{Made, NoMemory, Stop};
 use design_rules::RuleFault;
 use digraph::{Heights, Rows, longest_walks};
 use shape_links::SortedShape;
@@ -41,7 +41,7 @@ pub(crate) fn numbers(
 }
 
 // From each link an arc to the one that comes before it in the order of a part.
-fn chains(alloc: Global, sorted: &SortedShape<'_>, orders: &[Items<u32>]) -> Result<Rows, NoMemory>
+fn chains(alloc: Global, sorted: &SortedShape<'_>, orders: &[Items<u32>]) -> Made<Rows>
     requires { AreOrders sorted.now orders.now }
     ensures { IfOk result (AreChains sorted.now orders.now) }
 {
@@ -56,7 +56,7 @@ fn chains(alloc: Global, sorted: &SortedShape<'_>, orders: &[Items<u32>]) -> Res
 }
 
 // An arc from each link of the order to the one before it.
-fn chain(rows: &mut Rows, order: &[u32]) -> Result<(), NoMemory>
+fn chain(rows: &mut Rows, order: &[u32]) -> Made<()>
     requires { All (λ l. l < length rows.old) order.now }
     ensures count { length rows.new ≡ length rows.old }
     ensures arcs { OnOk result (Adds (HasArc rows.old) (IsNextIn order.now) (HasArc rows.new)) }
@@ -68,7 +68,7 @@ fn chain(rows: &mut Rows, order: &[u32]) -> Result<(), NoMemory>
 }
 
 // An arc to the last link of the order from each link that is not in it.
-fn chain_rest(rows: &mut Rows, order: &[u32], ends: &[u32]) -> Result<(), NoMemory>
+fn chain_rest(rows: &mut Rows, order: &[u32], ends: &[u32]) -> Made<()>
     requires order { All (λ l. l < length rows.old) order.now }
     requires ends { All (λ l. l < length rows.old) ends.now }
     ensures count { length rows.new ≡ length rows.old }
@@ -84,7 +84,7 @@ fn chain_rest(rows: &mut Rows, order: &[u32], ends: &[u32]) -> Result<(), NoMemo
 }
 
 // An arc from the link to the last one of the order, if the link is not in it.
-fn rest_arc(rows: &mut Rows, order: &[u32], link: u32, last: u32) -> Result<(), NoMemory>
+fn rest_arc(rows: &mut Rows, order: &[u32], link: u32, last: u32) -> Made<()>
     requires link { link < length rows.old }
     requires last { last < length rows.old }
     ensures count { length rows.new ≡ length rows.old }

@@ -8,8 +8,9 @@ ghost use Rattle.dl_limits.specs.declared.TheConstants.{MOST_BYTES};
 ghost use Rattle.name_tables.specs.Ends.{rows};
 ghost use Rattle.script_names.specs.Kinds.{ends_at};
 
+use csp_base::Made;
 use digraph::Rows;
-use script_names::{End, Made};
+use script_names::End;
 use std::alloc::Global;
 
 // What is looked for: an end, from so many definitions.

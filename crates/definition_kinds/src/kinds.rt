@@ -11,10 +11,11 @@ ghost use Rattle.script_names.specs.Kinds.{first_ends as firsts_of};
 ghost use Rattle.script_sizes.specs.Size.{size};
 
 use crate::leading::{first_ends, is_marked, mark_leading};
+use csp_base::Made;
 use csp_text::Decl;
 use name_tables::Dictionary;
 use name_tables::ends::ends_of_all;
-use script_names::{Class, End, Kind, Made};
+use script_names::{Class, End, Kind};
 use std::alloc::Global;
 
 // What was found of each definition.

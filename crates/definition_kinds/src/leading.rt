@@ -10,8 +10,9 @@ ghost use Rattle.script_names.specs.Kinds as meant;
 
 use crate::arcs::turn_round;
 use containers::Numbering;
+use csp_base::Made;
 use digraph::reachable_from;
-use script_names::{End, Made};
+use script_names::End;
 use std::alloc::Global;
 
 /// For each definition whether it leads to `target`, which is data, a parallel or no meaning.

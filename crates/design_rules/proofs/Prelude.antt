@@ -12,7 +12,7 @@ pub use Rattle.csp_tables.specs.Prelude.{Accepts, AreApart, AreJoined, ArePartsO
 pub use Rattle.design_rules.specs.ByTables.{AcceptsSet}
 pub use Rattle.design_rules.specs.Counts.{count_below}
 pub use Rattle.design_rules.specs.GreatestRank.{StandsAbove}
-pub use Rattle.design_rules.specs.Prelude.{AcceptsSame, AcceptsSome, Agree, AllKeepPlaces, AreChainNumbers, AreCyclicRanks, AreResourceNumbers, AreResourceRanks, Behaviours, BreaksClientServer, BreaksClientServerRule, BreaksCyclic, BreaksCyclicRule, BreaksOrder, BreaksResource, BreaksResourceRule, BreaksRoles, BreaksRule, BreaksUses, Broken, CanBeNumbered, CanBeOrdered, Clash, ClientServer, ClientServerRanksFall, ClientsCircle, ComesAfter, Condition, Cyclic, CyclicRanksFall, FallsShort, FaultsRefute, GrantsAll, HasAcceptance, HasClient, HasFullEnds, HasKind, HasOrder, HasRank, HasRoles, HasTrace, HasUses, HasWholeEnd, HaveClients, HaveKinds, IsClientOn, IsClientServer, IsClientServerRanking, IsCyclic, IsCyclicRanking, IsFirstBroken, IsFullEnd, IsGreatestRank, IsHeldWhile, IsHolder, IsNext, IsNumberedCyclic, IsReachedAt, IsResource, IsResourceRanking, IsRuleByNumbers, IsUsedInTurn, IsVertex, IsWholeEnd, JoinsKinds, KeepRoles, KeepUses, KeepsGrants, KeepsHolder, KeepsOrder, KeepsPlaces, KeepsTurns, LacksClient, LacksKind, LacksRoles, LinksCircle, LinksDiffer, MeetsRule, MetRulesMeanLive, MustPrecede, NetworkFaultsRefute, NetworksAreNumbered, NetworksBreak, NetworksMeet, NoOrder, NoWholeEnd, NotedRule, NumberedRanksFall, NumbersRise, OrderedRanksFall, OthersRankZero, OutlinesAgree, PairIsClientServer, PartShared, PlacesAreOrders, RankingsHaveGreatestRank, Ranks, RanksAs, RanksByNumber, ReachedLinksDiffer, ReachedRanksFall, ReachesLink, ReadingsAgree, Resource, ResourceRanksFall, ResourcesCircle, ResourcesRise, RowIsCyclic, RuleFault, SameOutline, SamePlace, Serves, ServesAll, TakesAnswers, TakesTurns, TwoUsersAreResource, UsesInTurn, above_all, acquires, acquiring, by_steps, by_tables, count_in, ends_lap, ends_of, free, has_acknowledgements, held, holds, idle, is_acknowledgement, is_held, is_odd, is_open, is_request, lap_at, last_from, links_from, links_of, links_with, outline, pair, pair_ranking, pair_roles, place_after, place_of, rank_there, row_of_three, row_ranking, top_number, two_users, two_users_ranking, two_users_uses, vocabulary_of}
+pub use Rattle.design_rules.specs.Prelude.{AcceptsSame, AcceptsSome, Agree, AllKeepPlaces, AreChainNumbers, AreCyclicRanks, AreResourceNumbers, AreResourceRanks, Behaviours, BreaksOrder, BreaksRule, Broken, CanBeNumbered, CanBeOrdered, Clash, ClientServer, ClientServerRanksFall, ClientsCircle, ComesAfter, Cyclic, CyclicRanksFall, FallsShort, FaultsRefute, HasAcceptance, HasClient, HasFullEnds, HasKind, HasOrder, HasRank, HasRoles, HasTrace, HasUses, HasWholeEnd, HaveClients, HaveKinds, IsClientOn, IsClientServerRanking, IsCyclic, IsFirstBroken, IsFullEnd, IsGreatestRank, IsHeldWhile, IsHolder, IsNext, IsNumberedCyclic, IsReachedAt, IsRuleByNumbers, IsVertex, IsWholeEnd, JoinsKinds, KeepRoles, KeepUses, KeepsGrants, KeepsHolder, KeepsOrder, KeepsPlaces, KeepsTurns, LacksClient, LacksKind, LacksRoles, LinksCircle, LinksDiffer, MeetsRule, MetRulesMeanLive, MustPrecede, NetworkFaultsRefute, NetworksAreNumbered, NetworksBreak, NetworksMeet, NoOrder, NoWholeEnd, NotedRule, NumberedRanksFall, NumbersRise, OrderedRanksFall, OthersRankZero, OutlinesAgree, PairIsClientServer, PartShared, PlacesAreOrders, RankingsHaveGreatestRank, Ranks, RanksAs, RanksByNumber, ReachedLinksDiffer, ReachedRanksFall, ReachesLink, ReadingsAgree, Resource, ResourceRanksFall, ResourcesCircle, ResourcesRise, RowIsCyclic, RuleFault, SameOutline, SamePlace, Serves, ServesAll, TakesAnswers, TakesTurns, TwoUsersAreResource, above_all, acquires, acquiring, by_steps, by_tables, count_in, ends_lap, ends_of, free, has_acknowledgements, held, holds, idle, is_acknowledgement, is_held, is_odd, is_open, is_request, lap_at, last_from, links_from, links_of, links_with, outline, pair, pair_ranking, pair_roles, place_after, place_of, rank_there, row_of_three, row_ranking, top_number, two_users, two_users_ranking, two_users_uses, vocabulary_of}
 unfoldable pub use Rattle.design_rules.specs.Prelude.{outline_of}
 pub use Rattle.design_rules.specs.RankCounts.{greatest_from, greatest_rank}
 pub use Rattle.digraph.proofs.WalkLaws.{same_least_circle, same_longest, same_no_circle}

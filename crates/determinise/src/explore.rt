@@ -13,7 +13,7 @@ use crate::known::Known;
 use crate::node::node_of;
 use crate::table::SetTable;
 use containers::{Items, Numbering};
-use csp_base::{NoMemory, Stop};
+use csp_base::{Made, Stop};
 use csp_tables::{NormNode, RawTable};
 use std::alloc::Global;
 use term_sets::Prepared;
@@ -56,7 +56,7 @@ fn set_table(alloc: Global, table: &Prepared<'_>) -> Result<SetTable, Stop<Subse
 }
 
 // The set of the empty trace alone.
-fn first_sets(alloc: Global, table: &Prepared<'_>) -> Result<Numbering<Items<u32>>, NoMemory>
+fn first_sets(alloc: Global, table: &Prepared<'_>) -> Made<Numbering<Items<u32>>>
     ensures reached { IfOk result (λ sets. AreReachedSets table.now sets) }
     ensures one { IfOk result (λ sets. length sets ≡ 1) }
 {
@@ -90,7 +90,7 @@ fn explore(
 }
 
 // Adds a node at the end.
-fn push_node(nodes: &mut Vec<NormNode>, node: NormNode) -> Result<(), NoMemory>
+fn push_node(nodes: &mut Vec<NormNode>, node: NormNode) -> Made<()>
     ensures { OnOk result (nodes.new.items ≡ nodes.old.items ++ node ∷ []) }
 {
     nodes.push(node)?;

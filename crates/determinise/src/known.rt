@@ -7,7 +7,7 @@ ghost use Rattle.determinise.specs.Progress.{set_at};
 ghost use Rattle.term_sets.specs.TermSets.{IsSilentClosure};
 
 use containers::{Items, Numbering};
-use csp_base::NoMemory;
+use csp_base::Made;
 use std::alloc::Global;
 use term_sets::Prepared;
 
@@ -29,7 +29,7 @@ pub(crate) struct Known {
 
 impl Known {
     // No list is known.
-    pub(crate) fn new(alloc: Global, table: &Prepared<'_>) -> Result<Known, NoMemory>
+    pub(crate) fn new(alloc: Global, table: &Prepared<'_>) -> Made<Known>
         ensures { IfOk result (λ known. (sets : List (List ℕ)) → IsReady table.now sets known) }
     {
         let marks = table.no_marks(alloc)?;
@@ -80,7 +80,7 @@ impl Known {
         starts: Items<u32>,
         number: u32,
         terms: usize,
-    ) -> Result<(), NoMemory>
+    ) -> Made<()>
         ensures known { (raw : RawSteps) (sets : List (List ℕ))
             → AreKnown raw sets self.old.starts self.old.numbers.items → number < length sets
             → IsSilentClosure raw starts (set_at sets number)

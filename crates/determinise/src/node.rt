@@ -12,7 +12,7 @@ use crate::fault::SubsetLimit;
 use crate::known::Known;
 use crate::sets::next_steps;
 use containers::{Items, Numbering};
-use csp_base::{Event, EventSet, NoMemory, Stop};
+use csp_base::{Event, EventSet, Made, Stop};
 use csp_tables::NormNode;
 use std::alloc::Global;
 use term_sets::Prepared;
@@ -48,7 +48,7 @@ fn accept_at(
     table: &Prepared<'_>,
     sets: &Numbering<Items<u32>>,
     place: usize,
-) -> Result<Vec<EventSet>, NoMemory>
+) -> Made<Vec<EventSet>>
     requires place { place < length sets.now }
     requires form { IsTermSet table.now (set_at sets.now place) }
     ensures { IfOk result (λ accept. AreMinimalOffers table.now (set_at sets.now place) accept.items) }

@@ -13,7 +13,7 @@ ghost use Rattle.term_sets.specs.TermSets.{IsSilentClosure};
 use crate::fault::SubsetLimit;
 use crate::known::Known;
 use containers::{Items, Numbering};
-use csp_base::{Event, NoMemory, Stop};
+use csp_base::{Event, Made, Stop};
 use dl_limits::MOST_SETS;
 use std::alloc::Global;
 use term_sets::Prepared;
@@ -131,7 +131,7 @@ fn number_of_closure(
 }
 
 // The terms to which the steps lead.
-fn targets(alloc: Global, moves: &[(Event, u32)]) -> Result<Items<u32>, NoMemory>
+fn targets(alloc: Global, moves: &[(Event, u32)]) -> Made<Items<u32>>
     ensures { IfOk result (λ found. found ≡ targets_of_steps moves.now) }
 {
     let found = moves.iter().map(|step| step.1).collect(alloc)?;
@@ -139,7 +139,7 @@ fn targets(alloc: Global, moves: &[(Event, u32)]) -> Result<Items<u32>, NoMemory
 }
 
 // Adds a step at the end.
-fn push(next: &mut Vec<(Event, u32)>, event: Event, number: u32) -> Result<(), NoMemory>
+fn push(next: &mut Vec<(Event, u32)>, event: Event, number: u32) -> Made<()>
     ensures { OnOk result (next.new.items ≡ next.old.items ++ (event, number) ∷ []) }
 {
     next.push((event, number))?;

@@ -7,7 +7,7 @@ ghost use Rattle.digraph.specs.Prelude.{IsTurnedFrom, targets_of, HasArc, InRang
 use crate::circle::{Circle, circle_from};
 use crate::heights::Heights;
 use crate::rows::Rows;
-use csp_base::{NoMemory, Stop};
+use csp_base::{Made, NoMemory, Stop};
 use std::alloc::Global;
 
 // How far the search is with a vertex.
@@ -84,7 +84,7 @@ fn find_heights(alloc: Global, rows: &Rows) -> Result<Heights, Stop<Circle>>
 
 impl Search {
     // Before the first walk each vertex is new.
-    fn new(alloc: Global, rows: &Rows) -> Result<Search, NoMemory>
+    fn new(alloc: Global, rows: &Rows) -> Made<Search>
         ensures { IfOk result (IsSearch rows.now) }
     {
         let marks = vec![in alloc; Mark::New; rows.len()]?;
@@ -107,7 +107,7 @@ impl Search {
     }
 
     // The heights that are known.
-    fn heights(&self, alloc: Global) -> Result<Vec<u32>, NoMemory>
+    fn heights(&self, alloc: Global) -> Made<Vec<u32>>
         ensures { IfOk result (λ heights. heights.items ≡ map height_of self.now.marks.items) }
     {
         self.marks.iter().map(|mark| mark.height()).collect(alloc)
@@ -163,7 +163,7 @@ impl Search {
     }
 
     // Starts a trail at the next vertex, or leaves it where it was come to.
-    fn start(&mut self, rows: &Rows) -> Result<(), NoMemory>
+    fn start(&mut self, rows: &Rows) -> Made<()>
         requires search { IsSearch rows.now self.old }
         requires empty { self.old.trail.items ≡ [] }
         requires next { self.old.next < length rows.now }
@@ -177,7 +177,7 @@ impl Search {
     }
 
     // Puts a new vertex on the trail.
-    fn enter(&mut self, rows: &Rows, w: u32) -> Result<(), NoMemory>
+    fn enter(&mut self, rows: &Rows, w: u32) -> Made<()>
         requires search { IsSearch rows.now self.old }
         requires vertex { w < length rows.now }
         requires new { mark_at self.old.marks.items w ≡ Mark.New }

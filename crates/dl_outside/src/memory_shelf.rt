@@ -7,7 +7,7 @@ ghost use Rattle.dl_outside.specs.Prelude.{HasRisen, new_plan, fails_next, after
 use crate::fault_plan::PlannedFaults;
 use crate::shelf::{LoadFault, Shelf};
 use crate::texts::{NamedText, copy_text, find_text, put_text};
-use csp_base::{Bytes, NoMemory};
+use csp_base::{Bytes, Made};
 use std::alloc::Global;
 use std::marker::Model;
 
@@ -38,7 +38,7 @@ impl MemoryShelf {
     }
 
     /// Puts a text under a name, in the place of one that is held under it.
-    pub fn put_text(&mut self, name: &[u8], bytes: &[u8]) -> Result<(), NoMemory>
+    pub fn put_text(&mut self, name: &[u8], bytes: &[u8]) -> Made<()>
         ensures ok { OnOk result (PutsText self.old.texts self.new.texts name.now bytes.now) }
         ensures plan_stays { self.new.plan ≡ self.old.plan }
         ensures err { OnErr result (self.new ≡ self.old) }

@@ -6,7 +6,7 @@ ghost use Rattle.dl_outside.specs.Prelude.{AnswersTold, IsTextOf, PutsText, text
 
 use crate::shelf::{LoadFault, Shelf};
 use crate::texts::{NamedText, copy_text, find_text, put_text};
-use csp_base::{Bytes, NoMemory};
+use csp_base::{Bytes, Made};
 use std::alloc::Global;
 use std::marker::Model;
 
@@ -36,7 +36,7 @@ impl SureShelf {
     }
 
     /// Puts a text under a name, in the place of one that is held under it.
-    pub fn put_text(&mut self, name: &[u8], bytes: &[u8]) -> Result<(), NoMemory>
+    pub fn put_text(&mut self, name: &[u8], bytes: &[u8]) -> Made<()>
         ensures ok { OnOk result (PutsText self.old self.new name.now bytes.now) }
         ensures err { OnErr result (self.new ≡ self.old) }
     {

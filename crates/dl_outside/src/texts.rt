@@ -5,7 +5,7 @@ ghost use Rattle.csp_base.specs.Standard.{position, option_copied};
 ghost use Rattle.dl_outside.specs.Prelude.{AnswersTold, has_name, text_of, PutsText};
 
 use crate::shelf::LoadFault;
-use csp_base::{Bytes, NoMemory};
+use csp_base::{Bytes, Made};
 use std::alloc::Global;
 
 /// A text and the name that it is held under.
@@ -56,7 +56,7 @@ pub(crate) fn put_text(
     texts: &mut Vec<NamedText>,
     name: &[u8],
     text: &[u8],
-) -> Result<(), NoMemory>
+) -> Made<()>
     ensures ok { OnOk result (PutsText texts.old.items texts.new.items name.now text.now) }
     ensures err { OnErr result (texts.new.items ≡ texts.old.items) }
 {
@@ -72,12 +72,7 @@ pub(crate) fn put_text(
 }
 
 /// Puts a text under a name, behind those that are held.
-fn add_text(
-    alloc: Global,
-    texts: &mut Vec<NamedText>,
-    name: &[u8],
-    text: Bytes,
-) -> Result<(), NoMemory>
+fn add_text(alloc: Global, texts: &mut Vec<NamedText>, name: &[u8], text: Bytes) -> Made<()>
     ensures ok { OnOk result (texts.new.items ≡ texts.old.items ++ record { name = name.now; text = text } ∷ []) }
     ensures err { OnErr result (texts.new.items ≡ texts.old.items) }
 {

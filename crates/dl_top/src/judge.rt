@@ -14,7 +14,7 @@ ghost use Rattle.dl_top.specs.Prelude.{SpellMatching, SpellsTables, TextPasses, 
 use command_words::Job;
 use comparison::compare_networks;
 use containers::Key;
-use csp_base::{NoMemory, Stop};
+use csp_base::{Made, NoMemory, Stop};
 use csp_parser::{each_text_spells_one_script, read};
 use csp_text::{NoScript, Script};
 use judgement::judge_by;
@@ -87,7 +87,7 @@ fn decide_text(alloc: Global, job: &Job, text: &[u8]) -> Result<Answer, Stop<Ans
 }
 
 // The answer to which that walk comes.
-fn answer_text(alloc: Global, job: &Job, text: &[u8]) -> Result<Answer, NoMemory>
+fn answer_text(alloc: Global, job: &Job, text: &[u8]) -> Made<Answer>
     requires { length text.now ≤ MOST_BYTES }
     ensures { IfOk result (TextCallsFor text.now job.now) }
 {
@@ -96,7 +96,7 @@ fn answer_text(alloc: Global, job: &Job, text: &[u8]) -> Result<Answer, NoMemory
 
 /// The answer that the text of a script calls for, with whose network this is to be done: what `dl_main` reports of a text that it loaded. The text has at
 /// most `MOST_BYTES` bytes (a longer one is refused where it is loaded).
-pub fn judge(alloc: Global, job: &Job, text: &[u8]) -> Result<Answer, NoMemory>
+pub fn judge(alloc: Global, job: &Job, text: &[u8]) -> Made<Answer>
     requires { length text.now ≤ MOST_BYTES }
     ensures answer { IfOk result (TextCallsFor text.now job.now) }
 
@@ -130,7 +130,7 @@ fn show_text(alloc: Global, text: &[u8]) -> Result<Answer, Stop<Answer>>
 }
 
 /// The answer to the text of a script that is to be shown. It has at most `MOST_BYTES` bytes.
-pub fn show(alloc: Global, text: &[u8]) -> Result<Answer, NoMemory>
+pub fn show(alloc: Global, text: &[u8]) -> Made<Answer>
     requires { length text.now ≤ MOST_BYTES }
     ensures answer { IfOk result (TextIsShown text.now) }
 
@@ -156,7 +156,7 @@ fn compare_texts(alloc: Global, text: &[u8], specification: &[u8]) -> Result<Ans
 }
 
 /// The answer that the texts of a script and of its specification call for. Each has at most `MOST_BYTES` bytes.
-pub fn judge_pair(alloc: Global, text: &[u8], specification: &[u8]) -> Result<Answer, NoMemory>
+pub fn judge_pair(alloc: Global, text: &[u8], specification: &[u8]) -> Made<Answer>
     requires text { length text.now ≤ MOST_BYTES }
     requires specification { length specification.now ≤ MOST_BYTES }
     ensures answer { IfOk result (TextsCompare text.now specification.now) }

@@ -15,7 +15,7 @@ ghost use Rattle.dl_top.specs.Prelude.{IsLoad, Loaded, MayGive, TellsLoad, Texts
 use crate::judge::{judge, judge_pair, show};
 use crate::reply::{Printed, Reply, print, rule_of};
 use command_words::{Job, Request, Trial, Words, read_request};
-use csp_base::{Bytes, NoMemory, Stop};
+use csp_base::{Bytes, Made, NoMemory, Stop};
 use dl_limits::MOST_BYTES;
 use dl_outside::{LoadFault, Shelf};
 use net_maker::family_script;
@@ -133,7 +133,7 @@ fn answer_request<S: Shelf>(
 }
 
 // The reply to the words. Nothing is loaded where they name no script.
-fn reply_to<S: Shelf>(alloc: Global, words: &Words, shelf: &mut S) -> Result<Reply, NoMemory>
+fn reply_to<S: Shelf>(alloc: Global, words: &Words, shelf: &mut S) -> Made<Reply>
     ensures cause { IfOk result (MayGive (IsLoad S.texts S.counts S.gives) words.now shelf.old shelf.new) }
     ensures untouched { NamesNoScript words.now → shelf.new ≡ shelf.old }
     ensures texts_stay { S.texts shelf.new ≡ S.texts shelf.old }
@@ -154,11 +154,7 @@ fn reply_to<S: Shelf>(alloc: Global, words: &Words, shelf: &mut S) -> Result<Rep
 }
 
 /// What is sent in reply to the words, with the exit status.
-pub(crate) fn print_reply<S: Shelf>(
-    alloc: Global,
-    words: &Words,
-    shelf: &mut S,
-) -> Result<Printed, NoMemory>
+pub(crate) fn print_reply<S: Shelf>(alloc: Global, words: &Words, shelf: &mut S) -> Made<Printed>
     ensures prints { IfOk result (Prints (MayGive (IsLoad S.texts S.counts S.gives) words.now shelf.old shelf.new)) }
     ensures untouched { NamesNoScript words.now → shelf.new ≡ shelf.old }
     ensures texts_stay { S.texts shelf.new ≡ S.texts shelf.old }

@@ -4,7 +4,7 @@ ghost use Rattle.std.specs.Prelude.{◌≡◌, IfOk};
 ghost use Rattle.dl_top.specs.Reply.{heading_text, reply_status, reply_text, rule_of};
 
 use command_words::Trial;
-use csp_base::{Bytes, NoMemory};
+use csp_base::{Bytes, Made};
 use csp_tables::Rule;
 use net_maker::{Family, name_of};
 use report::{Answer, report_of, status_of};
@@ -36,7 +36,7 @@ pub fn rule_of(family: Family) -> Rule
 }
 
 // The line that names a trial.
-fn trial_line(alloc: Global, trial: Trial) -> Result<Bytes, NoMemory>
+fn trial_line(alloc: Global, trial: Trial) -> Made<Bytes>
     ensures { IfOk result (λ text. text ≡ heading_text (Some trial)) }
 {
     let size = trial.size;
@@ -50,7 +50,7 @@ fn trial_line(alloc: Global, trial: Trial) -> Result<Bytes, NoMemory>
 }
 
 // The whole text that is sent for a reply.
-fn text_of(alloc: Global, reply: &Reply) -> Result<Bytes, NoMemory>
+fn text_of(alloc: Global, reply: &Reply) -> Made<Bytes>
     ensures { IfOk result (λ text. text ≡ reply_text reply.now) }
 {
     let report = report_of(alloc, &reply.answer)?;
@@ -74,7 +74,7 @@ pub(crate) struct Printed {
 }
 
 // The printed text of a reply, with its status.
-pub(crate) fn print(alloc: Global, reply: &Reply) -> Result<Printed, NoMemory>
+pub(crate) fn print(alloc: Global, reply: &Reply) -> Made<Printed>
     ensures text { IfOk result (λ made. made.text ≡ reply_text reply.now) }
     ensures status { IfOk result (λ made. made.status ≡ reply_status reply.now) }
 {

@@ -2,7 +2,7 @@
 //! ends with its answer.
 #![tactic(auto)]
 
-use csp_base::NoMemory;
+use csp_base::{Made, NoMemory};
 use dl_outside::{FileShelf, StdSink};
 use dl_top::{Words, dl_main};
 use std::env::FillError;
@@ -20,7 +20,7 @@ fn read_word_into<R: Env + AllocGlobal>(
     rt: &R,
     place: usize,
     room: usize,
-) -> Result<Result<Vec<u8>, FillError>, NoMemory> {
+) -> Made<Result<Vec<u8>, FillError>> {
     let mut word = Vec::new(rt.alloc());
     word.resize(room, 0u8)?;
     match rt.arg(place, word.as_mut_slice()) {
@@ -33,7 +33,7 @@ fn read_word_into<R: Env + AllocGlobal>(
 }
 
 /// The word at this place of the command line, if there is one. It need not be text: a file may have any name.
-fn read_word<R: Env + AllocGlobal>(rt: &R, place: usize) -> Result<Option<Vec<u8>>, NoMemory> {
+fn read_word<R: Env + AllocGlobal>(rt: &R, place: usize) -> Made<Option<Vec<u8>>> {
     let mut room = FIRST_ROOM;
     for _ in 0..usize::BITS {
         match read_word_into(rt, place, room)? {
@@ -46,7 +46,7 @@ fn read_word<R: Env + AllocGlobal>(rt: &R, place: usize) -> Result<Option<Vec<u8
 }
 
 /// The words of the command line, without the program's own name.
-fn read_words<R: Env + AllocGlobal>(rt: &R) -> Result<Words, NoMemory> {
+fn read_words<R: Env + AllocGlobal>(rt: &R) -> Made<Words> {
     let mut words = Words::new(rt.alloc());
     for place in 1..usize::MAX {
         let Some(word) = read_word(rt, place)? else {

@@ -4,7 +4,7 @@ ghost use Rattle.std.specs.Prelude.{◌<◌, ◌^◌, length, IfOk};
 ghost use Rattle.equal_futures.specs.Renumbered.{AreRenumbered};
 
 use containers::Numbering;
-use csp_base::NoMemory;
+use csp_base::Made;
 use std::alloc::Global;
 
 /// A class for each node of a table, numbered from 0 in the order in which they are first seen.
@@ -17,7 +17,7 @@ pub struct Classes {
 }
 
 // A class for each block.
-pub(crate) fn renumber(alloc: Global, blocks: &[u32]) -> Result<Classes, NoMemory>
+pub(crate) fn renumber(alloc: Global, blocks: &[u32]) -> Made<Classes>
     requires { length blocks.now < 2 ^ 32 }
     ensures { IfOk result (λ made. AreRenumbered blocks.now made.numbers.items made.count) }
 {

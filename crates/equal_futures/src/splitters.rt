@@ -9,7 +9,7 @@ ghost use Rattle.equal_futures.specs.Splits.{AreAllFrom, IsSplitByBlock, IsSplit
 
 use crate::classes::{Classes, renumber};
 use containers::{Items, empty_rows, push_at};
-use csp_base::NoMemory;
+use csp_base::Made;
 use csp_tables::NormNode;
 use partitions::{Partition, whole};
 use std::alloc::Global;
@@ -21,7 +21,7 @@ use std::alloc::Global;
 ///
 /// `marks` holds a number for each node, in their order: equal where the same is accepted there. Nodes of one class can do the same lists of
 /// events, and each list leads from them to nodes with equal marks.
-pub fn refine(alloc: Global, nodes: &[NormNode], marks: &[u32]) -> Result<Classes, NoMemory>
+pub fn refine(alloc: Global, nodes: &[NormNode], marks: &[u32]) -> Made<Classes>
     requires rising { NodesRise nodes.now }
     requires marks { length marks.now ≡ length nodes.now }
     requires numbered { length nodes.now < 2 ^ 32 }
@@ -37,7 +37,7 @@ pub fn refine(alloc: Global, nodes: &[NormNode], marks: &[u32]) -> Result<Classe
 }
 
 // Splits each block into nodes of equal marks.
-fn split_by_marks(alloc: Global, marks: &[u32], partition: &mut Partition) -> Result<(), NoMemory>
+fn split_by_marks(alloc: Global, marks: &[u32], partition: &mut Partition) -> Made<()>
     requires blocks { HasBlocks (count_of partition.old) (state_of partition.old) }
     requires calm { IsCalm (state_of partition.old) }
     requires marks { length marks.now ≡ count_of partition.old }
@@ -55,7 +55,7 @@ fn split_by_block(
     rows: &[Items<(u32, u32)>],
     partition: &mut Partition,
     block: u32,
-) -> Result<(), NoMemory>
+) -> Made<()>
     requires blocks { HasBlocks (count_of partition.old) (state_of partition.old) }
     requires calm { IsCalm (state_of partition.old) }
     requires block { block < length partition.old.firsts.items }
@@ -69,7 +69,7 @@ fn split_by_block(
 }
 
 // Each node with its mark, as a step by the mark.
-fn with_marks(alloc: Global, marks: &[u32]) -> Result<Vec<(u32, u32)>, NoMemory>
+fn with_marks(alloc: Global, marks: &[u32]) -> Made<Vec<(u32, u32)>>
     requires { length marks.now < 2 ^ 32 }
     ensures { IfOk result (λ steps. AreMarkSteps marks.now steps.items) }
 {
@@ -81,7 +81,7 @@ fn with_marks(alloc: Global, marks: &[u32]) -> Result<Vec<(u32, u32)>, NoMemory>
 }
 
 // For each node the steps that lead to it, each by its event and the node from which it leads.
-fn incoming_rows(alloc: Global, nodes: &[NormNode]) -> Result<Vec<Items<(u32, u32)>>, NoMemory>
+fn incoming_rows(alloc: Global, nodes: &[NormNode]) -> Made<Vec<Items<(u32, u32)>>>
     requires rising { NodesRise nodes.now }
     requires numbered { length nodes.now < 2 ^ 32 }
     ensures { IfOk result (λ rows. AreIncoming nodes.now rows.items (length nodes.now)) }
@@ -94,11 +94,7 @@ fn incoming_rows(alloc: Global, nodes: &[NormNode]) -> Result<Vec<Items<(u32, u3
 }
 
 // Adds the steps that lead from a node.
-fn add_steps(
-    rows: &mut Vec<Items<(u32, u32)>>,
-    source: u32,
-    node: &NormNode,
-) -> Result<(), NoMemory>
+fn add_steps(rows: &mut Vec<Items<(u32, u32)>>, source: u32, node: &NormNode) -> Made<()>
     requires { All (λ step. step.1 < length rows.old.items) node.now.next }
     ensures { OnOk result (AreAdded rows.old.items rows.new.items source node.now.next) }
 {
@@ -113,7 +109,7 @@ fn entering_steps(
     alloc: Global,
     rows: &[Items<(u32, u32)>],
     members: &[u32],
-) -> Result<Vec<(u32, u32)>, NoMemory>
+) -> Made<Vec<(u32, u32)>>
     requires { All (λ node. node < length rows.now) members.now }
     ensures { IfOk result (λ steps. AreGathered rows.now members.now steps.items) }
 {
@@ -129,7 +125,7 @@ fn split_by_events(
     alloc: Global,
     partition: &mut Partition,
     steps: &mut Vec<(u32, u32)>,
-) -> Result<(), NoMemory>
+) -> Made<()>
     requires blocks { HasBlocks (count_of partition.old) (state_of partition.old) }
     requires calm { IsCalm (state_of partition.old) }
     requires sources { AreFrom (count_of partition.old) steps.old.items }
@@ -142,11 +138,7 @@ fn split_by_events(
 }
 
 // The same for steps that are sorted by event.
-fn split_by_groups(
-    alloc: Global,
-    partition: &mut Partition,
-    steps: &[(u32, u32)],
-) -> Result<(), NoMemory>
+fn split_by_groups(alloc: Global, partition: &mut Partition, steps: &[(u32, u32)]) -> Made<()>
     requires blocks { HasBlocks (count_of partition.old) (state_of partition.old) }
     requires calm { IsCalm (state_of partition.old) }
     requires sources { AreFrom (count_of partition.old) steps.now }

@@ -12,8 +12,8 @@ use crate::sets::{SharedSets, copy_sets, sets_at, spread_sets};
 use crate::table::event_table;
 use containers::Items;
 use csp_atoms::AtomSet;
+use csp_base::Made;
 use csp_program::{Channel, Content};
-use script_names::Made;
 use std::alloc::Global;
 use std::mem::replace;
 

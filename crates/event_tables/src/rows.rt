@@ -7,7 +7,7 @@ ghost use Rattle.event_tables.specs.Spread.{extended};
 
 use containers::Items;
 use csp_atoms::{Atom, AtomSet};
-use script_names::Made;
+use csp_base::Made;
 use std::alloc::Global;
 use value_operators::numbers::row_count;
 

@@ -9,10 +9,9 @@ ghost use Rattle.value_operators.specs.Gives.{Gives};
 
 use containers::Items;
 use csp_atoms::{Atom, AtomSet, Value};
-use csp_base::Stop;
+use csp_base::{Made, Stop};
 use csp_program::{Content, Expr, ValueKind};
-use csp_values::{EvalFault, eval_in};
-use script_names::Made;
+use csp_values::{EvalResult, eval_in};
 use std::alloc::Global;
 use value_operators::operators::to_set;
 
@@ -26,11 +25,7 @@ pub struct SharedSets {
 }
 
 /// The field sets of a channel of these types, from the left. A fault is told exactly where a type has no value that fits.
-pub fn field_sets(
-    alloc: Global,
-    content: &Content,
-    types: &[Expr],
-) -> Result<Items<AtomSet>, EvalFault>
+pub fn field_sets(alloc: Global, content: &Content, types: &[Expr]) -> EvalResult<Items<AtomSet>>
     requires { IsTrue (all_true (map lacks_sets content.now.channels)) }
     ensures { Gives result (meant.field_sets content.now types.now) }
 {
@@ -47,7 +42,7 @@ fn add_set(
     content: &Content,
     sets: &mut Items<AtomSet>,
     expr: &Expr,
-) -> Result<(), EvalFault>
+) -> EvalResult<()>
     requires { IsTrue (all_true (map lacks_sets content.now.channels)) }
     ensures { GivesOneMore result sets.old sets.new (and_then (value_of content.now expr.now) meant.field_set) }
 {
@@ -57,7 +52,7 @@ fn add_set(
 }
 
 // The set that the type of a field is worth.
-fn set_of(value: Value) -> Result<AtomSet, EvalFault>
+fn set_of(value: Value) -> EvalResult<AtomSet>
     ensures { Gives result (meant.field_set value) }
 {
     let set = to_set(value)?;

@@ -7,8 +7,8 @@ ghost use Rattle.dl_limits.specs.declared.TheConstants.{MOST_BYTES};
 use crate::rows::rows;
 use containers::Items;
 use csp_atoms::Atom;
+use csp_base::Made;
 use csp_program::{Channel, EventInfo};
-use script_names::Made;
 use std::alloc::Global;
 
 /// The event table of channels: in their order, and for each the values of its fields in rising order, the first field slowest. There are no more channels

@@ -12,7 +12,7 @@ ghost use Rattle.hidden_bounds.specs.declared.ordering.Placed.{Placed as PlacedV
 use crate::ordering::{Placed, order_of};
 use crate::scope::{Scope, hidden_of, shares};
 use containers::Items;
-use csp_base::{EventSet, NoMemory, Stop};
+use csp_base::{EventSet, Made, Stop};
 use csp_program::Program;
 use network_layout::Seat;
 use network_stages::ComponentTable;
@@ -55,12 +55,7 @@ fn number_if(counts: bool, number: u64) -> u64
 }
 
 // What the bounds add up to of the components at the front of the order that have a hidden event in common with the component `part`.
-fn shared_bounds(
-    scope: &Scope<'_>,
-    order: &[Placed],
-    bounds: &[u64],
-    part: u32,
-) -> Result<u64, NoMemory>
+fn shared_bounds(scope: &Scope<'_>, order: &[Placed], bounds: &[u64], part: u32) -> Made<u64>
     requires part { part < length scope.now.seats.now }
     requires within { AreWithin (length scope.now.seats.now) order.now }
     requires fewer { length bounds.now ≤ length order.now }
@@ -106,7 +101,7 @@ fn next_sum(
     order: &[Placed],
     bounds: &[u64],
     total: u64,
-) -> Result<Option<(u64, u64)>, NoMemory>
+) -> Made<Option<(u64, u64)>>
     requires within { AreWithin (length scope.now.seats.now) order.now }
     requires next { length bounds.now < length order.now }
     requires bounds { AreBounds scope.now.hidden.now scope.now.seats.now order.now bounds.now }
@@ -126,7 +121,7 @@ fn next_sum(
 }
 
 // Adds a bound.
-fn add(bounds: &mut Vec<u64>, bound: u64) -> Result<(), NoMemory>
+fn add(bounds: &mut Vec<u64>, bound: u64) -> Made<()>
     ensures { OnOk result (bounds.new.items ≡ bounds.old.items ++ bound ∷ []) }
 {
     bounds.push(bound)?;

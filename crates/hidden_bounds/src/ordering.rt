@@ -8,7 +8,7 @@ use crate::own_graph::own_height;
 use crate::own_search::OwnSearch;
 use crate::scope::{Scope, hidden_of, shares};
 use crate::standings::{Standing, left_over, reopen_standing};
-use csp_base::{EventSet, NoMemory};
+use csp_base::{EventSet, Made};
 use csp_tables::RawTable;
 use std::alloc::Global;
 
@@ -36,7 +36,7 @@ struct Taking {
 
 impl Taking {
     // The height of a component of which nothing is known, where it is free. Where it isn't, that is known from now on.
-    fn look_at(&mut self, scope: &Scope<'_>, part: usize) -> Result<Option<u32>, NoMemory>
+    fn look_at(&mut self, scope: &Scope<'_>, part: usize) -> Made<Option<u32>>
         requires scope { IsScope scope.now }
         requires so_far { IsTaking scope.now self.old }
         requires within { part < length self.old.standings.items }
@@ -60,7 +60,7 @@ impl Taking {
     }
 
     // The least component that is free over those taken, if there is one.
-    fn next_free(&mut self, scope: &Scope<'_>) -> Result<Option<Placed>, NoMemory>
+    fn next_free(&mut self, scope: &Scope<'_>) -> Made<Option<Placed>>
         requires scope { IsScope scope.now }
         requires so_far { IsTaking scope.now self.old }
         ensures so_far { OnOk result (IsTaking scope.now self.new) }
@@ -83,7 +83,7 @@ impl Taking {
     }
 
     // The next component is taken.
-    fn take(&mut self, scope: &Scope<'_>, placed: Placed) -> Result<(), NoMemory>
+    fn take(&mut self, scope: &Scope<'_>, placed: Placed) -> Made<()>
         requires scope { IsScope scope.now }
         requires so_far { IsTaking scope.now self.old }
         requires least { IsLeast scope.now self.old placed }
@@ -101,7 +101,7 @@ impl Taking {
     }
 
     // Takes the least component that is free, if there is one.
-    fn take_next(&mut self, scope: &Scope<'_>) -> Result<bool, NoMemory>
+    fn take_next(&mut self, scope: &Scope<'_>) -> Made<bool>
         requires scope { IsScope scope.now }
         requires so_far { IsTaking scope.now self.old }
         ensures so_far { OnOk result (IsTaking scope.now self.new) }
@@ -119,7 +119,7 @@ impl Taking {
     }
 
     // Takes components as long as one is free.
-    fn take_all(&mut self, scope: &Scope<'_>) -> Result<(), NoMemory>
+    fn take_all(&mut self, scope: &Scope<'_>) -> Made<()>
         requires scope { IsScope scope.now }
         requires so_far { IsTaking scope.now self.old }
         ensures so_far { OnOk result (IsTaking scope.now self.new) }
@@ -139,7 +139,7 @@ fn height_by(
     table: &RawTable,
     left: &EventSet,
     search: Option<&mut OwnSearch>,
-) -> Result<Option<u32>, NoMemory>
+) -> Made<Option<u32>>
     ensures height { IfOk result (λ found. IfSome found (IsOwnHeight table.now left.now)) }
     ensures round { IfOk result (λ found. IfNone found (GoesRoundItself table.now left.now)) }
 {
@@ -162,7 +162,7 @@ fn reopen(scope: &Scope<'_>, events: &EventSet, standings: &mut Vec<Standing>)
 }
 
 // A search for each component.
-fn no_searches(alloc: Global, count: usize) -> Result<Vec<OwnSearch>, NoMemory> {
+fn no_searches(alloc: Global, count: usize) -> Made<Vec<OwnSearch>> {
     let mut searches = Vec::new(alloc);
     for _part in 0..count {
         searches.push(OwnSearch::new(alloc))?;
@@ -171,7 +171,7 @@ fn no_searches(alloc: Global, count: usize) -> Result<Vec<OwnSearch>, NoMemory> 
 }
 
 // Before the first component is taken.
-fn nothing_taken(scope: &Scope<'_>) -> Result<Taking, NoMemory>
+fn nothing_taken(scope: &Scope<'_>) -> Made<Taking>
     ensures { IfOk result (IsTaking scope.now) }
 {
     let _program = scope.program;
@@ -188,7 +188,7 @@ fn nothing_taken(scope: &Scope<'_>) -> Result<Taking, NoMemory>
 }
 
 // The order in which components are taken as long as one is free, and those that are left.
-pub(crate) fn order_of(scope: &Scope<'_>) -> Result<(Vec<Placed>, Vec<u32>), NoMemory>
+pub(crate) fn order_of(scope: &Scope<'_>) -> Made<(Vec<Placed>, Vec<u32>)>
     requires { IsScope scope.now }
     ensures { IfOk result (λ made. AreTakenFar scope.now made.0.items made.1.items) }
 {

@@ -5,14 +5,14 @@ ghost use Rattle.csp_base.specs.Prelude.{greatest, has};
 ghost use Rattle.digraph.specs.Digraph.{has_arc};
 ghost use Rattle.hidden_bounds.specs.Own.{AreOwnRows, GoesRoundItself, IsOwnHeight, has_step_by};
 
-use csp_base::{Event, EventSet, NoMemory, Stop};
+use csp_base::{Event, EventSet, Made, NoMemory, Stop};
 use csp_tables::RawTable;
 use digraph::{Rows, longest_walks};
 use std::alloc::Global;
 use tau_order::silent_rows;
 
 // Adds an arc for a step by one of the events.
-fn add_step(rows: &mut Rows, events: &EventSet, step: &(u32, Event, u32)) -> Result<(), NoMemory>
+fn add_step(rows: &mut Rows, events: &EventSet, step: &(u32, Event, u32)) -> Made<()>
     requires from { step.now.0 < length rows.old }
     requires to { step.now.2 < length rows.old }
     ensures len { length rows.new ≡ length rows.old }
@@ -27,7 +27,7 @@ fn add_step(rows: &mut Rows, events: &EventSet, step: &(u32, Event, u32)) -> Res
 }
 
 // Adds an arc for each step by one of the events.
-fn add_steps(rows: &mut Rows, table: &RawTable, events: &EventSet) -> Result<(), NoMemory>
+fn add_steps(rows: &mut Rows, table: &RawTable, events: &EventSet) -> Made<()>
     requires size { length rows.old ≡ table.now.count }
     ensures len { length rows.new ≡ length rows.old }
     ensures arcs { OnOk result ((s t : ℕ) → has_arc rows.new s t
@@ -40,7 +40,7 @@ fn add_steps(rows: &mut Rows, table: &RawTable, events: &EventSet) -> Result<(),
 }
 
 // The own graph of a table over some events, as a digraph whose vertices are the terms.
-fn own_rows(alloc: Global, table: &RawTable, events: &EventSet) -> Result<Rows, NoMemory>
+fn own_rows(alloc: Global, table: &RawTable, events: &EventSet) -> Made<Rows>
     ensures { IfOk result (AreOwnRows table.now events.now) }
 {
     let mut rows = silent_rows(alloc, table)?;
@@ -70,11 +70,7 @@ fn greatest_of(numbers: &[u32]) -> u32
 /// The greatest number of steps of a walk in the own graph of a table over some events, or none where that graph has a circle.
 ///
 /// It takes time linear in the number of terms and steps, and no recursion.
-pub fn own_height(
-    alloc: Global,
-    table: &RawTable,
-    events: &EventSet,
-) -> Result<Option<u32>, NoMemory>
+pub fn own_height(alloc: Global, table: &RawTable, events: &EventSet) -> Made<Option<u32>>
     ensures height { IfOk result (λ found. IfSome found (IsOwnHeight table.now events.now)) }
     ensures round { IfOk result (λ found. IfNone found (GoesRoundItself table.now events.now)) }
 {

@@ -4,7 +4,7 @@ ghost use Rattle.std.specs.Prelude.{◌≡◌, ◌∷◌, ◌++◌, [], Some, tr
 ghost use Rattle.hidden_bounds.specs.Own.{GoesRoundItself, IsLast, IsOwnHeight, IsOwnTrail, OwnArc};
 
 use crate::own_graph::own_height;
-use csp_base::{EventSet, NoMemory};
+use csp_base::{EventSet, Made};
 use csp_tables::RawTable;
 use std::alloc::Global;
 
@@ -66,7 +66,7 @@ impl OwnSearch {
         alloc: Global,
         table: &RawTable,
         events: &EventSet,
-    ) -> Result<Option<u32>, NoMemory>
+    ) -> Made<Option<u32>>
         ensures height { IfOk result (λ found. IfSome found (IsOwnHeight table.now events.now)) }
         ensures round { IfOk result (λ found. IfNone found (GoesRoundItself table.now events.now)) }
     {
@@ -81,7 +81,7 @@ impl OwnSearch {
     }
 
     // Before the first step. The steps of each term end behind its last one.
-    fn begin(&mut self, alloc: Global, table: &RawTable) -> Result<(), NoMemory> {
+    fn begin(&mut self, alloc: Global, table: &RawTable) -> Made<()> {
         let unseen = Progress {
             mark: Mark::Open,
             silent: 0,
@@ -110,12 +110,7 @@ impl OwnSearch {
     }
 
     // Whether a circle is found.
-    fn finds_circle(
-        &mut self,
-        alloc: Global,
-        table: &RawTable,
-        events: &EventSet,
-    ) -> Result<bool, NoMemory>
+    fn finds_circle(&mut self, alloc: Global, table: &RawTable, events: &EventSet) -> Made<bool>
         ensures { IfOk result (λ found. found ≡ true → GoesRoundItself table.now events.now) }
     {
         let graph = OwnGraph { table, events };
@@ -128,12 +123,7 @@ impl OwnSearch {
     }
 
     // Whether one is found on walks from this term.
-    fn finds_from(
-        &mut self,
-        alloc: Global,
-        graph: &OwnGraph<'_>,
-        first: u32,
-    ) -> Result<bool, NoMemory>
+    fn finds_from(&mut self, alloc: Global, graph: &OwnGraph<'_>, first: u32) -> Made<bool>
         ensures { IfOk result (λ found. found ≡ true → GoesRoundItself graph.now.table.now graph.now.events.now) }
     {
         let Mark::Open = self.progress(first).mark else {
@@ -147,7 +137,7 @@ impl OwnSearch {
     }
 
     // Follows steps until the trail leads round or is left. Each turn leaves a step behind, or a term comes to the trail or leaves it, each once at most.
-    fn follow(&mut self, graph: &OwnGraph<'_>, trail: &mut Vec<u32>) -> Result<bool, NoMemory>
+    fn follow(&mut self, graph: &OwnGraph<'_>, trail: &mut Vec<u32>) -> Made<bool>
         requires trail { IsOwnTrail graph.now.table.now graph.now.events.now trail.old.items }
         ensures round { IfOk result (λ found. found ≡ true → GoesRoundItself graph.now.table.now graph.now.events.now) }
     {
@@ -160,7 +150,7 @@ impl OwnSearch {
     }
 
     // Follows a step from the last term, or leaves the step or the term behind; or tells whether the trail leads round.
-    fn turn(&mut self, graph: &OwnGraph<'_>, trail: &mut Vec<u32>) -> Result<Option<bool>, NoMemory>
+    fn turn(&mut self, graph: &OwnGraph<'_>, trail: &mut Vec<u32>) -> Made<Option<bool>>
         requires trail { IsOwnTrail graph.now.table.now graph.now.events.now trail.old.items }
         ensures trail { OnOk result (IsOwnTrail graph.now.table.now graph.now.events.now trail.new.items) }
         ensures round { IfOk result (λ turn. turn ≡ Some true
@@ -186,7 +176,7 @@ impl OwnSearch {
         trail: &mut Vec<u32>,
         last: u32,
         step: Step,
-    ) -> Result<Option<bool>, NoMemory>
+    ) -> Made<Option<bool>>
         requires trail { IsOwnTrail graph.now.table.now graph.now.events.now trail.old.items }
         requires own { step.is_own ≡ true → OwnArc graph.now.table.now graph.now.events.now last step.to }
         requires last { IsLast trail.old.items last }
@@ -212,7 +202,7 @@ impl OwnSearch {
     }
 
     // A term comes to the trail.
-    fn enter(&mut self, trail: &mut Vec<u32>, term: u32) -> Result<(), NoMemory>
+    fn enter(&mut self, trail: &mut Vec<u32>, term: u32) -> Made<()>
         ensures { OnOk result (trail.new.items ≡ trail.old.items ++ term ∷ []) }
     {
         self.mark(term, Mark::Passed);

@@ -4,7 +4,7 @@ ghost use Rattle.std.specs.Prelude.{◌≡◌, ◌<◌, length, IfOk};
 ghost use Rattle.csp_base.specs.Events.{inter_of, meets_of};
 ghost use Rattle.hidden_bounds.specs.Taking.{alphabet_at};
 
-use csp_base::{EventSet, NoMemory};
+use csp_base::{EventSet, Made};
 use csp_program::Program;
 use network_layout::Seat;
 use network_stages::ComponentTable;
@@ -26,7 +26,7 @@ pub(crate) struct Scope<'a> {
 }
 
 // The hidden events of a component.
-pub(crate) fn hidden_of(scope: &Scope<'_>, part: u32) -> Result<EventSet, NoMemory>
+pub(crate) fn hidden_of(scope: &Scope<'_>, part: u32) -> Made<EventSet>
     requires { part < length scope.now.seats.now }
     ensures { IfOk result (λ made. made ≡ inter_of scope.now.hidden.now (alphabet_at scope.now.seats.now part)) }
 {

@@ -4,7 +4,7 @@ ghost use Rattle.std.specs.Prelude.{◌≡◌, ◌≤◌, ◌++◌, length, IfOk
 ghost use Rattle.dl_limits.specs.declared.TheConstants.{MOST_COMPONENTS};
 ghost use Rattle.hidden_bounds.specs.Standings.{left_from, left_one, reopened_to};
 
-use csp_base::NoMemory;
+use csp_base::Made;
 use std::alloc::Global;
 
 // What is known of a component: nothing, that its own graph over those taken goes round, or that it is taken.
@@ -33,7 +33,7 @@ pub(crate) fn reopen_standing(standing: Standing, shares: bool) -> Standing
 }
 
 // Adds a component where it is not taken.
-fn add_left(parts: &mut Vec<u32>, part: u32, standing: Standing) -> Result<(), NoMemory>
+fn add_left(parts: &mut Vec<u32>, part: u32, standing: Standing) -> Made<()>
     ensures { OnOk result (parts.new.items ≡ parts.old.items ++ left_one part standing) }
 {
     if standing == Standing::Taken {
@@ -44,7 +44,7 @@ fn add_left(parts: &mut Vec<u32>, part: u32, standing: Standing) -> Result<(), N
 }
 
 // The components that are not taken, rising.
-pub(crate) fn left_over(alloc: Global, standings: &[Standing]) -> Result<Vec<u32>, NoMemory>
+pub(crate) fn left_over(alloc: Global, standings: &[Standing]) -> Made<Vec<u32>>
     requires { length standings.now ≤ MOST_COMPONENTS }
     ensures { IfOk result (λ parts. parts.items ≡ left_from 0 standings.now) }
 {

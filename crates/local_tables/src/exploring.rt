@@ -10,7 +10,7 @@ use crate::local_table::{LocalTable, Room};
 use crate::origins::trace_to;
 use crate::task::Task;
 use crate::terms::{Terms, make_room};
-use csp_base::{Event, NoMemory, Stop};
+use csp_base::{Event, Made, NoMemory, Stop};
 use csp_steps::{StepTo, steps_in};
 use csp_tables::RawTable;
 use process_steps::{ComponentFault, Label};
@@ -139,7 +139,7 @@ fn lead(
 }
 
 // Adds a silent step, or one by the event.
-fn add_step(table: &mut RawTable, from: u32, event: Option<Event>, to: u32) -> Result<(), NoMemory>
+fn add_step(table: &mut RawTable, from: u32, event: Option<Event>, to: u32) -> Made<()>
     requires from { from < table.old.count }
     requires to { to < table.old.count }
     ensures { OnOk result (table.new ≡ step_more table.old from (label_of event) to) }

@@ -10,7 +10,7 @@ ghost use Rattle.local_tables.specs.Prelude.{TaskLacks, AreTabled, IsUpTo, IsWit
 
 use crate::task::Task;
 use containers::{Items, Numbering};
-use csp_base::{Event, NoMemory, Stop};
+use csp_base::{Event, Made, Stop};
 use csp_tables::RawTable;
 use dl_limits::{MOST_TERM_DEPTH, MOST_TERMS};
 use process_steps::ComponentFault;
@@ -56,7 +56,7 @@ pub(crate) fn term_number(
     from: u32,
     event: &Option<Event>,
     to: ProcId,
-) -> Result<u32, NoMemory>
+) -> Made<u32>
     requires few { length found.old.terms ≤ MOST_TERMS }
     requires count { found.old.table.count ≡ length found.old.terms }
     requires nodes { found.old.nodes < 2 ^ 32 }

@@ -4,15 +4,11 @@ ghost use Rattle.std.specs.Prelude.{◌≡◌, ◌+◌, ◌<◌, ◌≤◌, ◌+
 ghost use Rattle.csp_program.specs.declared.processes.Proc.{Proc};
 ghost use Rattle.local_tables.specs.Prelude.{AreLed, LeadsToTerm, Origin, step_events, Task};
 
-use csp_base::{Event, NoMemory, Trace};
+use csp_base::{Event, Made, Trace};
 use std::alloc::Global;
 
 // The trace along the way to the term with this number.
-pub(crate) fn trace_to(
-    alloc: Global,
-    origins: &[(u32, Option<Event>)],
-    number: u32,
-) -> Result<Trace, NoMemory>
+pub(crate) fn trace_to(alloc: Global, origins: &[(u32, Option<Event>)], number: u32) -> Made<Trace>
     requires within { number < length origins.now + 1 }
     requires earlier { (k : ℕ) (o : Origin) → slice_get origins.now k ≡ Some o → o.0 ≤ k }
     ensures { (task : Task) (terms : List Proc) → AreLed task terms origins.now
@@ -31,7 +27,7 @@ pub(crate) fn trace_to(
 }
 
 // The event of a step, if it has one, at the end.
-fn push_event(events: &mut Vec<Event>, event: Option<Event>) -> Result<(), NoMemory>
+fn push_event(events: &mut Vec<Event>, event: Option<Event>) -> Made<()>
     ensures { OnOk result (events.new.items ≡ events.old.items ++ step_events event) }
 {
     let Some(event) = event else {

@@ -8,10 +8,10 @@ use crate::body::{Body, body_of};
 use crate::places;
 use crate::walk::Walk;
 use containers::Items;
-use csp_base::Name;
+use csp_base::{Made, Name};
 use csp_text::{Decl, Tree};
 use name_tables::{Meanings, kind_at};
-use script_names::{Class, Made, Place};
+use script_names::{Class, Place};
 use std::alloc::Global;
 
 /// How deep the body of each definition reaches, as far as it is expanded where the definition is used.

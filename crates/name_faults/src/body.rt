@@ -6,8 +6,8 @@ ghost use Rattle.name_faults.specs.Walked.{seen};
 ghost use Rattle.name_faults.specs.Bodies as meant;
 
 use containers::Items;
-use csp_base::Name;
-use script_names::{Entity, Made, Occurrence, Sense, Use};
+use csp_base::{Made, Name};
+use script_names::{Entity, Occurrence, Sense, Use};
 use std::alloc::Global;
 
 /// How deep a body reaches.

@@ -10,10 +10,10 @@ ghost use Rattle.name_faults.specs.Walked as walked;
 use crate::known::Known;
 use crate::places;
 use crate::walk::Walk;
-use csp_base::Name;
+use csp_base::{Made, Name};
 use csp_text::{Decl, ResourceNames, RolesNames, Tree};
 use name_tables::NameSet;
-use script_names::{Kind, Made, Place, Sense, Use};
+use script_names::{Kind, Place, Sense, Use};
 
 impl<'a> Walk<'a> {
     /// Says what a declaration says that comes after those that are known.

@@ -4,7 +4,7 @@ ghost use Rattle.std.specs.Prelude.{◌≡◌, ◌+◌, ◌↔◌, min, map, sli
 ghost use Rattle.name_faults.specs.Depths.{AreWithin, deepest_of};
 
 use crate::body::{Body, greater};
-use script_names::Made;
+use csp_base::Made;
 use std::alloc::Global;
 
 /// The depth of each definition as far as the limit, with as many uses entered, one inside another, as it says.

@@ -14,11 +14,11 @@ use crate::depths::depths_of;
 use crate::known::Known;
 use crate::scan::{is_any_inside, is_any_wrong_kind, repeated_name, unknown_name, wrong_count};
 use crate::walk::Walk;
-use csp_base::Name;
+use csp_base::{Made, Name};
 use csp_text::Decl;
 use dl_limits::MOST_DATA_DEPTH;
 use name_tables::{Meanings, kind_at};
-use script_names::{Class, Kind, Made, Occurrence, ResolveFault};
+use script_names::{Class, Kind, Occurrence, ResolveFault};
 
 /// The name fault of a script with these declarations, whose names and definitions mean what `meanings` says.
 #[tactic(auto, using(crate::proofs::DepthLemmas::depths_along, crate::proofs::KnownLemmas::whole_fault))]

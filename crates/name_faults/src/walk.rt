@@ -6,10 +6,10 @@ ghost use Rattle.name_faults.specs.Walked.{after, seen};
 ghost use Rattle.script_names.specs.Names.{first_of, sense_in};
 ghost use Rattle.name_faults.specs.Walked as walked;
 
-use csp_base::Name;
+use csp_base::{Made, Name};
 use csp_text::{EventTree, FieldTree, GenTree, PartTree, Tree};
 use name_tables::{Dictionary, NameSet, Scope};
-use script_names::{Class, Made, Need, Occurrence, Place, Sense, Use};
+use script_names::{Class, Need, Occurrence, Place, Sense, Use};
 use std::alloc::Global;
 use std::marker::Model;
 

@@ -9,9 +9,9 @@ ghost use Rattle.name_tables.specs.Counted.{counts, total};
 
 use crate::dictionary::Dictionary;
 use containers::Key;
-use csp_base::Name;
+use csp_base::{Made, Name};
 use csp_text::Decl;
-use script_names::{Entity, Made};
+use script_names::Entity;
 use std::alloc::Global;
 
 /// How many channels, constants and definitions were declared.

@@ -6,9 +6,9 @@ ghost use Rattle.script_names.specs.Names.{first_of};
 
 use crate::name_set::NameSet;
 use containers::Key;
-use csp_base::Name;
+use csp_base::{Made, Name};
 use indexmap::IndexMap;
-use script_names::{Entity, Made};
+use script_names::Entity;
 use std::alloc::Global;
 use std::marker::Model;
 

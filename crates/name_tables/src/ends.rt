@@ -10,9 +10,9 @@ ghost use Rattle.name_tables.specs.Ends.{rows};
 
 use crate::dictionary::Dictionary;
 use crate::scope::Scope;
-use csp_base::Name;
+use csp_base::{Made, Name};
 use csp_text::{Decl, Tree};
-use script_names::{End, Entity, Made, Sense};
+use script_names::{End, Entity, Sense};
 use std::alloc::Global;
 
 /// What a name stands for under bound names.

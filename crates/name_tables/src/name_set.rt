@@ -5,9 +5,8 @@ ghost use Rattle.name_tables.specs.Firsts.{SameNames};
 ghost use Rattle.script_names.specs.Names.{is_among};
 
 use containers::Key;
-use csp_base::Name;
+use csp_base::{Made, Name};
 use indexmap::IndexSet;
-use script_names::Made;
 use std::alloc::Global;
 use std::marker::Model;
 

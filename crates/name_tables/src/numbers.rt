@@ -4,8 +4,7 @@ ghost use Rattle.std.specs.Prelude.{◌≡◌, None, Some, true, is_some, OnOk, 
 ghost use Rattle.name_tables.specs.Hidden.{Writes};
 ghost use Rattle.name_tables.specs.Spelling.{at_name};
 
-use csp_base::Name;
-use script_names::Made;
+use csp_base::{Made, Name};
 use std::alloc::Global;
 use std::collections::BTreeMap;
 

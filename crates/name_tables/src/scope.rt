@@ -6,8 +6,7 @@ ghost use Rattle.name_tables.specs.Hidden.{shown, KeepHidden, HasNumbers, Writes
 ghost use Rattle.script_names.specs.Typed.{number_of};
 
 use crate::numbers::{forget, number_at, rewrite, spelling_of, write};
-use csp_base::Name;
-use script_names::Made;
+use csp_base::{Made, Name};
 use std::alloc::Global;
 use std::collections::BTreeMap;
 use std::marker::Model;

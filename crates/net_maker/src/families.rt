@@ -5,7 +5,7 @@ ghost use Rattle.std.specs.Fmt.{decimal};
 ghost use Rattle.net_maker.specs.Families.{family_name, family_text, greatest, least, lines_of};
 ghost use Rattle.csp_base.specs.Texts.{line};
 
-use csp_base::{Bytes, NoMemory};
+use csp_base::{Bytes, Made};
 use dl_limits::MOST_COMPONENTS;
 use std::alloc::Global;
 
@@ -105,7 +105,7 @@ fn lines(family: Family) -> &'static [u8]
 }
 
 // The line that says a size.
-fn size_line(alloc: Global, n: u32) -> Result<Bytes, NoMemory>
+fn size_line(alloc: Global, n: u32) -> Made<Bytes>
     ensures { IfOk result (λ text. text ≡ line (codes "N = " ++ decimal n)) }
 {
     let text = format!(in alloc; "N = {n}\n")?;
@@ -113,7 +113,7 @@ fn size_line(alloc: Global, n: u32) -> Result<Bytes, NoMemory>
 }
 
 // A text after the line that says a size.
-fn with_size(alloc: Global, n: u32, lines: &[u8]) -> Result<Bytes, NoMemory>
+fn with_size(alloc: Global, n: u32, lines: &[u8]) -> Made<Bytes>
     ensures { IfOk result (λ text. text ≡ line (codes "N = " ++ decimal n) ++ lines.now) }
 {
     let mut text = size_line(alloc, n)?;
@@ -122,7 +122,7 @@ fn with_size(alloc: Global, n: u32, lines: &[u8]) -> Result<Bytes, NoMemory>
 }
 
 /// The script of the family of this size.
-pub fn family_script(alloc: Global, family: Family, n: u32) -> Result<Bytes, NoMemory>
+pub fn family_script(alloc: Global, family: Family, n: u32) -> Made<Bytes>
     ensures { IfOk result (λ text. text ≡ family_text family n) }
 {
     with_size(alloc, n, lines(family))

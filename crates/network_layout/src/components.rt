@@ -8,7 +8,7 @@ ghost use Rattle.network_layout.specs.Lays.{AreSeats, Fails, whole_walk};
 use crate::seat::Layout;
 use crate::values::Scope;
 use crate::walk::walk;
-use csp_base::{Event, EventSet, NoMemory, Stop};
+use csp_base::{Event, EventSet, Made, Stop};
 use csp_program::Program;
 use dl_limits::MOST_NETWORK_DEPTH;
 use network_trees::LayoutFault;
@@ -16,7 +16,7 @@ use std::alloc::Global;
 
 // The first `count` events.
 #[tactic(auto, using(crate::proofs::FirstEvents::next_event))]
-fn first_events(alloc: Global, count: u32) -> Result<EventSet, NoMemory>
+fn first_events(alloc: Global, count: u32) -> Made<EventSet>
     ensures { IfOk result (λ made. made ≡ range_with_len 0 count) }
 {
     let mut events = EventSet::new(alloc);
@@ -27,7 +27,7 @@ fn first_events(alloc: Global, count: u32) -> Result<EventSet, NoMemory>
 }
 
 // All events of a program. Its contract says that it is in order, so that 32 bits number them.
-fn all_events(alloc: Global, program: &Program) -> Result<EventSet, NoMemory>
+fn all_events(alloc: Global, program: &Program) -> Made<EventSet>
     ensures { IfOk result (λ made. made ≡ all_events program.now) }
 {
     let content = program.content();

@@ -5,7 +5,7 @@ ghost use Rattle.std.specs.Result.{IsOkAnd};
 ghost use Rattle.dl_limits.specs.declared.TheConstants.{MOST_COMPONENTS};
 
 use containers::{Boxed, Items};
-use csp_base::{EventSet, NoMemory};
+use csp_base::{EventSet, Made};
 use csp_program::Proc;
 use std::alloc::Global;
 use std::marker::Model;
@@ -108,7 +108,7 @@ impl Layout {
     }
 
     // One more, which was made.
-    pub(crate) fn push_made(&mut self, made: Result<Seat, NoMemory>) -> Result<(), NoMemory>
+    pub(crate) fn push_made(&mut self, made: Made<Seat>) -> Made<()>
         requires room { length self.old < MOST_COMPONENTS }
         ensures ok { OnOk result (IsOkAnd made (λ seat. self.new ≡ self.old ++ seat ∷ [])) }
     {

@@ -16,13 +16,13 @@ ghost use Rattle.value_operators.specs.Gives.{Gives};
 use crate::seat::{Layout, Seat};
 use crate::values::events_of;
 use containers::{Boxed, Items};
-use csp_base::{EventSet, NoMemory, Stop};
+use csp_base::{EventSet, Made, NoMemory, Stop};
 use csp_program::copies::copy_exprs;
 use csp_program::{Expr, Proc, Program, ResourceNote, RolesNote, ValueKind};
 use csp_tables::{RoleSets, UseSets};
 use csp_values::eval_set;
 use std::alloc::Global;
-use value_operators::EvalFault;
+use value_operators::{EvalFault, EvalResult};
 
 /// A set that is told of a component has no value, or holds something that is no event.
 #[derive(Clone, Copy, Drop)]
@@ -38,12 +38,12 @@ trait Noted: Sized + Drop {
     ghost told: { Content → Component Proc → Outcome Self };
 
     // What the program tells of this one.
-    fn of_seat(alloc: Global, program: &Program, seat: &Seat) -> Result<Self, EvalFault>
+    fn of_seat(alloc: Global, program: &Program, seat: &Seat) -> EvalResult<Self>
         ensures { Gives result (told program.now seat.now) };
 }
 
 // The use of a definition with arguments.
-fn use_of(alloc: Global, def: u32, args: &[Expr]) -> Result<Boxed<Expr>, NoMemory>
+fn use_of(alloc: Global, def: u32, args: &[Expr]) -> Made<Boxed<Expr>>
     ensures { IfOk result (λ made. made ≡ Expr.Call def args.now) }
 {
     let args = copy_exprs(alloc, args)?;
@@ -51,12 +51,7 @@ fn use_of(alloc: Global, def: u32, args: &[Expr]) -> Result<Boxed<Expr>, NoMemor
 }
 
 // The set that a definition is, with these arguments.
-fn call_events(
-    alloc: Global,
-    program: &Program,
-    args: &[Expr],
-    def: u32,
-) -> Result<EventSet, EvalFault>
+fn call_events(alloc: Global, program: &Program, args: &[Expr], def: u32) -> EvalResult<EventSet>
     ensures { Gives result (told_set program.now args.now def) }
 {
     let call = use_of(alloc, def, args)?;
@@ -70,7 +65,7 @@ fn eval_roles(
     program: &Program,
     args: &[Expr],
     note: &RolesNote,
-) -> Result<RoleSets, EvalFault>
+) -> EvalResult<RoleSets>
     ensures { Gives result (told_roles program.now args.now (Some note.now)) }
 {
     let creq = call_events(alloc, program, args, note.creq)?;
@@ -86,7 +81,7 @@ fn eval_uses(
     program: &Program,
     args: &[Expr],
     note: &ResourceNote,
-) -> Result<UseSets, EvalFault>
+) -> EvalResult<UseSets>
     ensures { Gives result (told_uses program.now args.now (Some note.now)) }
 {
     let acquire = call_events(alloc, program, args, note.acquire)?;
@@ -128,7 +123,7 @@ fn find_resource(notes: &[ResourceNote], process: u32) -> Option<&ResourceNote>
 impl Noted for RoleSets {
     ghost told = { component_roles };
 
-    fn of_seat(alloc: Global, program: &Program, seat: &Seat) -> Result<RoleSets, EvalFault> {
+    fn of_seat(alloc: Global, program: &Program, seat: &Seat) -> EvalResult<RoleSets> {
         match seat.term() {
             Proc::Call(def, args) => match find_roles(program.content().roles.as_slice(), *def) {
                 Some(note) => eval_roles(alloc, program, args.as_slice(), note),
@@ -142,7 +137,7 @@ impl Noted for RoleSets {
 impl Noted for UseSets {
     ghost told = { component_uses };
 
-    fn of_seat(alloc: Global, program: &Program, seat: &Seat) -> Result<UseSets, EvalFault> {
+    fn of_seat(alloc: Global, program: &Program, seat: &Seat) -> EvalResult<UseSets> {
         match seat.term() {
             Proc::Call(def, args) => match find_resource(
                 program.content().resources.as_slice(),

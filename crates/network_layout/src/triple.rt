@@ -8,7 +8,7 @@ ghost use Rattle.network_layout.specs.Triple.{AreCrowded, IsCounted, SharesEvent
 
 use crate::seat::{Layout, Seat};
 use containers::Items;
-use csp_base::{Event, EventSet, NoMemory, Stop};
+use csp_base::{Event, EventSet, Made, Stop};
 use std::alloc::Global;
 
 /// An event in three alphabets or more.
@@ -40,7 +40,7 @@ fn count_none(alloc: Global) -> Counted
 }
 
 // Of one alphabet more.
-fn count(alloc: Global, counted: &Counted, alphabet: &EventSet) -> Result<Counted, NoMemory>
+fn count(alloc: Global, counted: &Counted, alphabet: &EventSet) -> Made<Counted>
     ensures { (rows : List (List ℕ)) → IsCounted rows counted.now
         → IfOk result (IsCounted (rows ++ alphabet.now ∷ [])) }
 {
@@ -57,7 +57,7 @@ fn count(alloc: Global, counted: &Counted, alphabet: &EventSet) -> Result<Counte
 }
 
 // The events of three components or more.
-fn events_in_three(alloc: Global, seats: &[Seat]) -> Result<EventSet, NoMemory>
+fn events_in_three(alloc: Global, seats: &[Seat]) -> Made<EventSet>
     ensures { IfOk result (AreCrowded (alphabets seats.now)) }
 {
     let mut counted = count_none(alloc);
@@ -68,7 +68,7 @@ fn events_in_three(alloc: Global, seats: &[Seat]) -> Result<EventSet, NoMemory>
 }
 
 // The components that have an event.
-fn holders(alloc: Global, seats: &[Seat], event: Event) -> Result<Items<u32>, NoMemory>
+fn holders(alloc: Global, seats: &[Seat], event: Event) -> Made<Items<u32>>
     requires { length seats.now ≤ MOST_COMPONENTS }
     ensures { IfOk result (λ made. made ≡ holders 0 (alphabets seats.now) event) }
 {

@@ -10,13 +10,13 @@ ghost use Rattle.value_operators.specs.Prelude.{env_in, Gives};
 
 use containers::{Boxed, Items};
 use csp_atoms::{Atom, AtomSet, Value};
-use csp_base::{EventSet, NoMemory, Stop};
+use csp_base::{EventSet, Made, NoMemory, Stop};
 use csp_program::{Expr, Proc, Program, ValueKind};
 use csp_values::{eval_all_with, eval_with};
 use network_trees::LayoutFault;
 use std::alloc::Global;
 use substitution::{Values, put_proc};
-use value_operators::EvalFault;
+use value_operators::EvalResult;
 use value_operators::names::Names;
 use value_operators::operators::{to_set, to_truth};
 
@@ -50,7 +50,7 @@ fn names<'a>(scope: &Scope<'a>) -> Names<'a>
 }
 
 // What was found, or why the walk ends there.
-fn needed<T>(found: Result<T, EvalFault>) -> Result<T, Stop<LayoutFault>>
+fn needed<T>(found: EvalResult<T>) -> Result<T, Stop<LayoutFault>>
     ensures { (outcome : Outcome T) → Gives found outcome → Needs result outcome }
 {
     match found {
@@ -84,7 +84,7 @@ pub(crate) fn set(scope: &Scope<'_>, expr: &Expr) -> Result<AtomSet, Stop<Layout
 }
 
 // The events that a set holds, where it holds nothing else.
-pub(crate) fn events_of(alloc: Global, atoms: &AtomSet) -> Result<EventSet, EvalFault>
+pub(crate) fn events_of(alloc: Global, atoms: &AtomSet) -> EvalResult<EventSet>
     ensures { Gives result (needed_events (event_numbers atoms.now)) }
 {
     match atoms.to_event_set(alloc)? {
@@ -112,11 +112,7 @@ pub(crate) fn arguments(
 }
 
 // The names of the operands around, and one more.
-pub(crate) fn with_name(
-    scope: &Scope<'_>,
-    name: u32,
-    atom: Atom,
-) -> Result<Items<(u32, Atom)>, NoMemory>
+pub(crate) fn with_name(scope: &Scope<'_>, name: u32, atom: Atom) -> Made<Items<(u32, Atom)>>
     ensures { IfOk result (λ made. made ≡ scope.now.bound.now ++ (name, atom) ∷ []) }
 {
     let mut bound = Items::from_slice(scope.alloc, scope.bound)?;
@@ -125,7 +121,7 @@ pub(crate) fn with_name(
 }
 
 // A process with the values in place of its free names.
-pub(crate) fn put(scope: &Scope<'_>, process: &Proc) -> Result<Boxed<Proc>, NoMemory>
+pub(crate) fn put(scope: &Scope<'_>, process: &Proc) -> Made<Boxed<Proc>>
     ensures { IfOk result (λ made. made ≡ proc_with (given_by (names_of scope.now)) process.now) }
 {
     let values = Values::with_bound(scope.alloc, scope.params, scope.args, scope.bound);

@@ -9,7 +9,7 @@ ghost use Rattle.network_layout.specs.Lays.{Lays, body_walked, component, leaf_w
 use crate::seat::{Layout, Seat};
 use crate::values::{Scope, arguments, events, put, set, truth, with_name};
 use csp_atoms::{Atom, Value};
-use csp_base::{Event, EventSet, NoMemory, Stop};
+use csp_base::{Event, EventSet, Made, Stop};
 use csp_program::{Body, Def, Expr, Net, Proc, ValueKind};
 use dl_limits::MOST_COMPONENTS;
 use network_trees::LayoutFault;
@@ -30,7 +30,7 @@ const NO_NETWORK: LayoutFault = LayoutFault::Value {
 };
 
 // A component.
-fn seat_of(scope: &Scope<'_>, process: &Proc, alphabet: &EventSet) -> Result<Seat, NoMemory>
+fn seat_of(scope: &Scope<'_>, process: &Proc, alphabet: &EventSet) -> Made<Seat>
     ensures { IfOk result (λ seat. seat ≡ component (place_of scope.now) alphabet.now process.now) }
 {
     let kept = alphabet.try_clone(scope.alloc)?;
@@ -175,7 +175,7 @@ fn lesser_event(left: Option<Event>, right: Option<Event>) -> Option<Event>
 }
 
 // The least event that is in exactly one of the sets.
-fn odd_event(alloc: Global, left: &EventSet, right: &EventSet) -> Result<Option<Event>, NoMemory>
+fn odd_event(alloc: Global, left: &EventSet, right: &EventSet) -> Made<Option<Event>>
     ensures { IfOk result (λ found. found ≡ odd_event left.now right.now) }
 {
     let missing = left.diff(alloc, right)?;

@@ -7,7 +7,7 @@ ghost use Rattle.net_sound.specs.Heights.{AreSilentHeights};
 ghost use Rattle.csp_base.specs.Stops.{Tells};
 ghost use Rattle.network_stages.specs.Prelude.{HasFault, TellsRound, at_component, HaveNoTables, AreTablesOf, IsTableWithin, room_after, whole_room};
 
-use csp_base::{NoMemory, Stop};
+use csp_base::{Made, NoMemory, Stop};
 use csp_program::Program;
 use digraph::Heights;
 use dl_limits::{MOST_NODES, MOST_STEPS};
@@ -95,7 +95,7 @@ fn table_fault(component: u32, fault: Stop<ComponentFault>) -> Stop<Refusal>
 }
 
 // Adds a table.
-fn add(made: &mut Vec<ComponentTable>, table: ComponentTable) -> Result<(), NoMemory>
+fn add(made: &mut Vec<ComponentTable>, table: ComponentTable) -> Made<()>
     ensures { OnOk result (made.new.items ≡ made.old.items ++ table ∷ []) }
 {
     made.push(table)?;

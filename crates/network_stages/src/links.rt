@@ -8,7 +8,7 @@ ghost use Rattle.network_stages.specs.Rows.{AreLinksBefore, AreRows, IsRow, IsVo
 ghost use Rattle.observed_runs.specs.Observed.{pair_at};
 
 use containers::Items;
-use csp_base::{Event, EventSet, NoMemory};
+use csp_base::{Event, EventSet, Made};
 use csp_tables::Link;
 use std::alloc::Global;
 
@@ -16,7 +16,7 @@ use std::alloc::Global;
 pub(crate) fn links_of_rows(
     alloc: Global,
     rows: &[Items<(u32, Event)>],
-) -> Result<(Vec<Link>, EventSet), NoMemory>
+) -> Made<(Vec<Link>, EventSet)>
     requires few { length rows.now ≤ MOST_COMPONENTS }
     requires rows { (parts : List Part) × AreRows parts (length parts) rows.now }
     ensures links { (parts : List Part) → AreRows parts (length parts) rows.now
@@ -30,7 +30,7 @@ pub(crate) fn links_of_rows(
 }
 
 // The links of the parts whose rows these are.
-fn links_of(alloc: Global, rows: &[Items<(u32, Event)>]) -> Result<Vec<Link>, NoMemory>
+fn links_of(alloc: Global, rows: &[Items<(u32, Event)>]) -> Made<Vec<Link>>
     requires few { length rows.now ≤ MOST_COMPONENTS }
     requires rows { (parts : List Part) × AreRows parts (length parts) rows.now }
     ensures { (parts : List Part) → AreRows parts (length parts) rows.now
@@ -44,12 +44,7 @@ fn links_of(alloc: Global, rows: &[Items<(u32, Event)>]) -> Result<Vec<Link>, No
 }
 
 // Adds the links of the part `left` with later ones, at the end.
-fn add_links(
-    alloc: Global,
-    links: &mut Vec<Link>,
-    left: u32,
-    row: &[(u32, Event)],
-) -> Result<(), NoMemory>
+fn add_links(alloc: Global, links: &mut Vec<Link>, left: u32, row: &[(u32, Event)]) -> Made<()>
     requires { (k : ℕ) → k < length row.now → left < (pair_at row.now k).0 }
     ensures { (parts : List Part) → IsRow parts (length parts) left row.now
         → AreLinksBefore parts left 0 links.old.items
@@ -66,7 +61,7 @@ fn add_links(
 }
 
 // Adds a link at the end.
-fn push(links: &mut Vec<Link>, link: Link) -> Result<(), NoMemory>
+fn push(links: &mut Vec<Link>, link: Link) -> Made<()>
     ensures { OnOk result (links.new.items ≡ links.old.items ++ link ∷ []) }
 {
     links.push(link)?;
@@ -89,7 +84,7 @@ fn group_end(row: &[(u32, Event)], start: usize) -> usize
 }
 
 // The events of the pairs.
-fn events_in(alloc: Global, pairs: &[(u32, Event)]) -> Result<EventSet, NoMemory>
+fn events_in(alloc: Global, pairs: &[(u32, Event)]) -> Made<EventSet>
     ensures { IfOk result (λ made. (e : ℕ) → has made e ≡ has_event pairs.now e) }
 {
     let mut events = EventSet::new(alloc);
@@ -98,7 +93,7 @@ fn events_in(alloc: Global, pairs: &[(u32, Event)]) -> Result<EventSet, NoMemory
 }
 
 // Adds the events of the pairs to the set.
-fn include_all(events: &mut EventSet, pairs: &[(u32, Event)]) -> Result<(), NoMemory>
+fn include_all(events: &mut EventSet, pairs: &[(u32, Event)]) -> Made<()>
     ensures { OnOk result ((e : ℕ) → has events.new e ≡ (has events.old e || has_event pairs.now e)) }
 {
     for (_, event) in pairs {
@@ -108,7 +103,7 @@ fn include_all(events: &mut EventSet, pairs: &[(u32, Event)]) -> Result<(), NoMe
 }
 
 // The events of all rows.
-fn vocabulary(alloc: Global, rows: &[Items<(u32, Event)>]) -> Result<EventSet, NoMemory>
+fn vocabulary(alloc: Global, rows: &[Items<(u32, Event)>]) -> Made<EventSet>
     ensures { IfOk result (λ made. (e : ℕ) → has made e ≡ any_has_event rows.now e) }
 {
     let mut events = EventSet::new(alloc);

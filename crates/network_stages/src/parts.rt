@@ -12,7 +12,7 @@ ghost use Rattle.report.specs.declared.answer.Refusal.TheVariants as refusal;
 use crate::component_tables::ComponentTable;
 use crate::spelled::Spelled;
 use crate::tabled::Tabled;
-use csp_base::{NoMemory, Stop};
+use csp_base::{Made, NoMemory, Stop};
 use csp_program::Program;
 use csp_tables::Part;
 use network_layout::Seat;
@@ -112,7 +112,7 @@ pub(crate) fn part_of(
 }
 
 // Adds a part.
-fn add(made: &mut Vec<Part>, part: Part) -> Result<(), NoMemory>
+fn add(made: &mut Vec<Part>, part: Part) -> Made<()>
     ensures { OnOk result (made.new.items ≡ made.old.items ++ part ∷ []) }
 {
     made.push(part)?;

@@ -7,15 +7,12 @@ ghost use Rattle.csp_tables.specs.Part.{TripleDisjoint, alphabets_of};
 ghost use Rattle.network_stages.specs.Rows.{AreOwners, AreRows, joint, joints, owner_of, row_at};
 
 use containers::{Items, empty_rows, push_at};
-use csp_base::{Event, EventSet, NoMemory};
+use csp_base::{Event, EventSet, Made};
 use csp_tables::Part;
 use std::alloc::Global;
 
 // For each part the events that it shares with later parts, each with the later part. Goes over each alphabet twice.
-pub(crate) fn shared_rows(
-    alloc: Global,
-    parts: &[Part],
-) -> Result<Vec<Items<(u32, Event)>>, NoMemory>
+pub(crate) fn shared_rows(alloc: Global, parts: &[Part]) -> Made<Vec<Items<(u32, Event)>>>
     requires most { length parts.now ≤ MOST_COMPONENTS }
     requires apart { TripleDisjoint (alphabets_of parts.now) }
     ensures { IfOk result (λ rows. AreRows parts.now (length parts.now) rows.items) }
@@ -31,7 +28,7 @@ fn join_parts(
     owners: &mut Vec<Option<u32>>,
     rows: &mut Vec<Items<(u32, Event)>>,
     parts: &[Part],
-) -> Result<(), NoMemory>
+) -> Made<()>
     requires most { length parts.now ≤ MOST_COMPONENTS }
     requires apart { TripleDisjoint (alphabets_of parts.now) }
     requires owners { AreOwners parts.now 0 owners.old.items }
@@ -51,7 +48,7 @@ fn join_all(
     rows: &mut Vec<Items<(u32, Event)>>,
     part: u32,
     events: &EventSet,
-) -> Result<(), NoMemory>
+) -> Made<()>
     requires { (e i : ℕ) → owner_of owners.now e ≡ Some i → i < length rows.old.items }
     ensures count { OnOk result (length rows.new.items ≡ length rows.old.items) }
     ensures joined { OnOk result ((i : ℕ) → row_at rows.new.items i
@@ -69,7 +66,7 @@ fn join(
     rows: &mut Vec<Items<(u32, Event)>>,
     part: u32,
     event: Event,
-) -> Result<(), NoMemory>
+) -> Made<()>
     requires { (e i : ℕ) → owner_of owners.now e ≡ Some i → i < length rows.old.items }
     ensures count { OnOk result (length rows.new.items ≡ length rows.old.items) }
     ensures joined { OnOk result ((i : ℕ) → row_at rows.new.items i
@@ -95,7 +92,7 @@ fn owner_at(owners: &[Option<u32>], event: Event) -> Option<u32>
 }
 
 // Keeps the part as the owner of each of the events.
-fn own_all(owners: &mut Vec<Option<u32>>, events: &EventSet, part: u32) -> Result<(), NoMemory>
+fn own_all(owners: &mut Vec<Option<u32>>, events: &EventSet, part: u32) -> Made<()>
     ensures { OnOk result ((e : ℕ) → owner_of owners.new.items e
         ≡ (if has events.now e then Some part else owner_of owners.old.items e)) }
 {
@@ -106,7 +103,7 @@ fn own_all(owners: &mut Vec<Option<u32>>, events: &EventSet, part: u32) -> Resul
 }
 
 // Keeps the part as the owner of the event.
-fn keep_owner(owners: &mut Vec<Option<u32>>, event: usize, part: u32) -> Result<(), NoMemory>
+fn keep_owner(owners: &mut Vec<Option<u32>>, event: usize, part: u32) -> Made<()>
     ensures { OnOk result ((e : ℕ) → owner_of owners.new.items e
         ≡ (if event == e then Some part else owner_of owners.old.items e)) }
 {

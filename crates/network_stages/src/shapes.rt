@@ -10,7 +10,7 @@ use crate::links::links_of_rows;
 use crate::parts::Parted;
 use crate::rows::shared_rows;
 use crate::spelled::Spelled;
-use csp_base::{EventSet, NoMemory, Stop};
+use csp_base::{EventSet, Made, NoMemory, Stop};
 use csp_tables::{Link, Part, Shape};
 use network_layout::triple_disjoint;
 use report::Shortfall;
@@ -66,7 +66,7 @@ impl<'a> Shaped<'a> {
 }
 
 // The links of the parts, and their vocabulary.
-fn links_of_parts(alloc: Global, parts: &[Part]) -> Result<(Vec<Link>, EventSet), NoMemory>
+fn links_of_parts(alloc: Global, parts: &[Part]) -> Made<(Vec<Link>, EventSet)>
     requires most { length parts.now ≤ MOST_COMPONENTS }
     requires apart { TripleDisjoint (alphabets_of parts.now) }
     ensures links { IfOk result (λ made. AreLinksBefore parts.now (length parts.now) 0 made.0.items) }
@@ -79,7 +79,7 @@ fn links_of_parts(alloc: Global, parts: &[Part]) -> Result<(Vec<Link>, EventSet)
 // The shape of these parts: its links join the parts that share events, and its vocabulary is the shared events.
 //
 // It takes time in proportion to the sizes of the alphabets and the number of the greatest event.
-fn shape_of(alloc: Global, parts: Vec<Part>) -> Result<Shape, NoMemory>
+fn shape_of(alloc: Global, parts: Vec<Part>) -> Made<Shape>
     requires least { 1 ≤ length parts.items }
     requires most { length parts.items ≤ MOST_COMPONENTS }
     requires apart { TripleDisjoint (alphabets_of parts.items) }

@@ -5,7 +5,7 @@ ghost use Rattle.dl_limits.specs.declared.TheConstants.{MOST_COMPONENTS};
 ghost use Rattle.network_stages.specs.Tables.{AreTablesOf, HasTable};
 ghost use Rattle.network_walks.specs.Tabled.{numbered, one_numbered};
 
-use csp_base::NoMemory;
+use csp_base::Made;
 use csp_program::Program;
 use network_layout::Seat;
 use network_stages::ComponentTable;
@@ -18,7 +18,7 @@ fn mover_of<'a>(
     program: &Program,
     seat: &'a Seat,
     table: &'a ComponentTable,
-) -> Result<Mover<'a>, NoMemory>
+) -> Made<Mover<'a>>
     requires { HasTable program.now seat.now table.now }
     ensures { IfOk result (λ made. made ≡ one_numbered seat.now table.now) }
 {
@@ -26,7 +26,7 @@ fn mover_of<'a>(
 }
 
 // Adds a component.
-fn add<'a>(made: &mut Vec<Mover<'a>>, mover: Mover<'a>) -> Result<(), NoMemory>
+fn add<'a>(made: &mut Vec<Mover<'a>>, mover: Mover<'a>) -> Made<()>
     ensures { OnOk result (made.new.items ≡ made.old.items ++ mover.entry ∷ []) }
 {
     made.push(mover)?;
@@ -39,7 +39,7 @@ pub(crate) fn movers<'a>(
     program: &Program,
     seats: &'a [Seat],
     tables: &'a [ComponentTable],
-) -> Result<Vec<Mover<'a>>, NoMemory>
+) -> Made<Vec<Mover<'a>>>
     requires tables { AreTablesOf program.now seats.now tables.now }
     requires few { length seats.now ≤ MOST_COMPONENTS }
     ensures { IfOk result (λ made. made.items ≡ numbered seats.now tables.now) }

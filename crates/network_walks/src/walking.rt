@@ -6,7 +6,7 @@ ghost use Rattle.network_walks.specs.Walked.{IsNetworkWalk, IsWalked, walk_verdi
 
 use crate::movers::movers;
 use containers::Items;
-use csp_base::NoMemory;
+use csp_base::Made;
 use network_stages::{Spelled, Tabled, make_tables};
 use numbered_walks::{Walk, walk};
 use report::{Done, Halt, Verdict};
@@ -14,12 +14,7 @@ use std::alloc::Global;
 use std::mem::replace;
 
 // The walk of a network by the tables of its components.
-fn walk_by_tables(
-    alloc: Global,
-    tabled: &Tabled<'_>,
-    seed: u32,
-    steps: u32,
-) -> Result<Walk, NoMemory>
+fn walk_by_tables(alloc: Global, tabled: &Tabled<'_>, seed: u32, steps: u32) -> Made<Walk>
     ensures { IfOk result (λ made. IsNetworkWalk tabled.now.network seed steps made.moves.items made.is_stuck) }
 {
     let network = tabled.network();

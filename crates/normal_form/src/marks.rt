@@ -4,12 +4,12 @@ ghost use Rattle.std.specs.Prelude.{◌≡◌, IfOk, ◌<◌, ◌^◌, length};
 ghost use Rattle.normal_form.specs.Marks.{AreMarksOf};
 
 use containers::{Items, Numbering};
-use csp_base::{EventSet, NoMemory};
+use csp_base::{EventSet, Made};
 use csp_tables::NormNode;
 use std::alloc::Global;
 
 // A number for each node. Two nodes have one number exactly where they have the same acceptances.
-pub(crate) fn accept_marks(alloc: Global, nodes: &[NormNode]) -> Result<Vec<u32>, NoMemory>
+pub(crate) fn accept_marks(alloc: Global, nodes: &[NormNode]) -> Made<Vec<u32>>
     requires { length nodes.now < 2 ^ 32 }
     ensures { IfOk result (λ marks. AreMarksOf nodes.now marks.items) }
 {
@@ -24,7 +24,7 @@ pub(crate) fn accept_marks(alloc: Global, nodes: &[NormNode]) -> Result<Vec<u32>
 }
 
 // The sets as lists of numbers, which can be numbered.
-fn accept_key(alloc: Global, sets: &[EventSet]) -> Result<Items<Items<u32>>, NoMemory>
+fn accept_key(alloc: Global, sets: &[EventSet]) -> Made<Items<Items<u32>>>
     ensures { IfOk result (λ key. key ≡ sets.now) }
 {
     let mut key = Items::new(alloc);
@@ -35,7 +35,7 @@ fn accept_key(alloc: Global, sets: &[EventSet]) -> Result<Items<Items<u32>>, NoM
 }
 
 // The numbers of the events of a set.
-fn event_numbers(alloc: Global, set: &EventSet) -> Result<Items<u32>, NoMemory>
+fn event_numbers(alloc: Global, set: &EventSet) -> Made<Items<u32>>
     ensures { IfOk result (λ numbers. numbers ≡ set.now) }
 {
     let mut numbers = Items::new(alloc);

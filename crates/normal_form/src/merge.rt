@@ -4,17 +4,13 @@ ghost use Rattle.std.specs.Prelude.{◌≡◌, ◌<◌, ◌++◌, [], ◌∷◌,
 ghost use Rattle.equal_futures.specs.Future.{NodesRise, SeenInOrder, StepsRise};
 ghost use Rattle.normal_form.specs.Merged.{AreMerged, renamed};
 
-use csp_base::{Event, EventSet, NoMemory};
+use csp_base::{Event, EventSet, Made};
 use csp_tables::NormNode;
 use equal_futures::Classes;
 use std::alloc::Global;
 
 // One node for each class: the first node that has the class, with classes in place of nodes.
-pub(crate) fn merge(
-    alloc: Global,
-    nodes: &[NormNode],
-    classes: &Classes,
-) -> Result<Vec<NormNode>, NoMemory>
+pub(crate) fn merge(alloc: Global, nodes: &[NormNode], classes: &Classes) -> Made<Vec<NormNode>>
     requires rising { NodesRise nodes.now }
     requires one_each { length classes.now.numbers.items ≡ length nodes.now }
     requires order { SeenInOrder 0 classes.now.numbers.items classes.now.count }
@@ -35,7 +31,7 @@ fn add_first(
     node: &NormNode,
     class: u32,
     classes: &[u32],
-) -> Result<(), NoMemory>
+) -> Made<()>
     requires { StepsRise (length classes.now) node.now.next }
     ensures { OnOk result (merged.new.items ≡ (if nat_eq class (length merged.old.items) then merged.old.items
         ++ renamed classes.now node.now ∷ [] else merged.old.items)) }
@@ -49,7 +45,7 @@ fn add_first(
 }
 
 // Adds a node at the end.
-fn push(merged: &mut Vec<NormNode>, node: NormNode) -> Result<(), NoMemory>
+fn push(merged: &mut Vec<NormNode>, node: NormNode) -> Made<()>
     ensures { OnOk result (merged.new.items ≡ merged.old.items ++ node ∷ []) }
 {
     merged.push(node)?;
@@ -57,7 +53,7 @@ fn push(merged: &mut Vec<NormNode>, node: NormNode) -> Result<(), NoMemory>
 }
 
 // The node with classes in place of nodes.
-fn rename(alloc: Global, node: &NormNode, classes: &[u32]) -> Result<NormNode, NoMemory>
+fn rename(alloc: Global, node: &NormNode, classes: &[u32]) -> Made<NormNode>
     requires { StepsRise (length classes.now) node.now.next }
     ensures { IfOk result (λ made. made ≡ renamed classes.now node.now) }
 {
@@ -71,7 +67,7 @@ fn steps_to_classes(
     alloc: Global,
     steps: &[(Event, u32)],
     classes: &[u32],
-) -> Result<Vec<(Event, u32)>, NoMemory>
+) -> Made<Vec<(Event, u32)>>
     requires { StepsRise (length classes.now) steps.now }
     ensures { IfOk result (λ made. made.items ≡ map (λ step. (step.0, slice_index classes.now step.1)) steps.now) }
 {
@@ -83,7 +79,7 @@ fn steps_to_classes(
 }
 
 // Copies of the sets, in the same order.
-fn copies(alloc: Global, sets: &[EventSet]) -> Result<Vec<EventSet>, NoMemory>
+fn copies(alloc: Global, sets: &[EventSet]) -> Made<Vec<EventSet>>
     ensures { IfOk result (λ made. made.items ≡ sets.now) }
 {
     let mut made = Vec::new(alloc);

@@ -8,13 +8,13 @@ ghost use Rattle.normal_form.specs.Merged.{IsMergedTable};
 
 use crate::marks::accept_marks;
 use crate::merge::merge;
-use csp_base::NoMemory;
+use csp_base::Made;
 use csp_tables::{NormNode, NormTable};
 use equal_futures::refine;
 use std::alloc::Global;
 
 // One node for each class of nodes with equal future. Where no two nodes have the same acceptances, each is its own class.
-pub(crate) fn merged_nodes(alloc: Global, nodes: Vec<NormNode>) -> Result<NormTable, NoMemory>
+pub(crate) fn merged_nodes(alloc: Global, nodes: Vec<NormNode>) -> Made<NormTable>
     requires rising { NodesRise nodes.items }
     requires few { length nodes.items ≤ MOST_SETS }
     ensures { IfOk result (λ merged. IsMergedTable nodes.items merged) }

@@ -7,7 +7,7 @@ ghost use Rattle.numbered_walks.specs.Prelude.{IsAgreement, is_agreed, offers_of
 
 use crate::marks::CountedMarks;
 use containers::Items;
-use csp_base::{Event, EventSet, NoMemory};
+use csp_base::{Event, EventSet, Made};
 use std::alloc::Global;
 
 /// So many blocks of events of two sets are gone through event by event.
@@ -22,7 +22,7 @@ pub(crate) struct Agreement {
 }
 
 // How many owners each event has.
-fn owner_counts(alloc: Global, rows: &[Items<u32>]) -> Result<Vec<usize>, NoMemory>
+fn owner_counts(alloc: Global, rows: &[Items<u32>]) -> Made<Vec<usize>>
     ensures { IfOk result (λ counts. counts.items ≡ map length rows.now) }
 {
     let mut counts = Vec::new(alloc);
@@ -33,7 +33,7 @@ fn owner_counts(alloc: Global, rows: &[Items<u32>]) -> Result<Vec<usize>, NoMemo
 }
 
 /// Nothing is offered of the events that have these rows of owners.
-pub(crate) fn no_offers(alloc: Global, rows: &[Items<u32>]) -> Result<Agreement, NoMemory>
+pub(crate) fn no_offers(alloc: Global, rows: &[Items<u32>]) -> Made<Agreement>
     ensures form { IfOk result IsAgreement }
     ensures owners { IfOk result (λ made. made.owners.items ≡ map length rows.now) }
     ensures offering { IfOk result (λ made. made.offering.items ≡ replicate (length rows.now) 0) }
@@ -105,7 +105,7 @@ pub(crate) fn exchange(
     agreement: &mut Agreement,
     old: &EventSet,
     new: &EventSet,
-) -> Result<(), NoMemory>
+) -> Made<()>
     requires form { IsAgreement agreement.old }
     requires within { (e : ℕ) → IsTrue (has new.now e) → e < length agreement.old.owners.items }
     requires some { (e : ℕ) → bit (has old.now e) ≤ offers_of agreement.old e }

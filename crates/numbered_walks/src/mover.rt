@@ -10,7 +10,7 @@ use crate::draws::{Drawn, drawn_by, drawn_silently};
 use crate::rows::{silent_rows, step_rows, steps_by};
 use acceptances::event_sets;
 use containers::Items;
-use csp_base::{Event, EventSet, NoMemory};
+use csp_base::{Event, EventSet, Made};
 use csp_tables::RawTable;
 use std::alloc::Global;
 use std::marker::Model;
@@ -51,11 +51,7 @@ impl<'a> Model for Mover<'a> {
 
 impl<'a> Mover<'a> {
     /// The component with this alphabet and this table. It goes over each step some times.
-    pub fn new(
-        alloc: Global,
-        alphabet: &'a EventSet,
-        table: &'a RawTable,
-    ) -> Result<Mover<'a>, NoMemory>
+    pub fn new(alloc: Global, alphabet: &'a EventSet, table: &'a RawTable) -> Made<Mover<'a>>
         requires { OwnsItsSteps alphabet.now table.now }
         ensures { IfOk result (λ made. made ≡ record { alphabet = alphabet.now; table = table.now }) }
     {

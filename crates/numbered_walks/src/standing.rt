@@ -13,7 +13,7 @@ use crate::mover::Mover;
 use crate::moves::Move;
 use crate::numbers::place_among;
 use containers::Items;
-use csp_base::{Event, NoMemory};
+use csp_base::{Event, Made};
 use std::alloc::Global;
 
 /// The term of each component, the number that was drawn last, which components have a silent step, and which events are offered by all of their owners.
@@ -77,7 +77,7 @@ pub(crate) fn first_standing(
     movers: &[Mover<'_>],
     owners: &[Items<u32>],
     drawn: u32,
-) -> Result<Standing, NoMemory>
+) -> Made<Standing>
     requires few { length movers.now ≤ MOST_COMPONENTS }
     requires owners { AreOwnerRows movers.now owners.now }
     requires small { length owners.now ≤ 2 ^ 32 }
@@ -150,7 +150,7 @@ fn go_to(
     standing: &mut Standing,
     place: usize,
     drawn: Drawn,
-) -> Result<(), NoMemory>
+) -> Made<()>
     requires form { IsStanding movers.now standing.old }
     requires few { length movers.now ≤ MOST_COMPONENTS }
     requires place { place < length movers.now }
@@ -179,7 +179,7 @@ fn move_silently(
     movers: &[Mover<'_>],
     standing: &mut Standing,
     place: usize,
-) -> Result<(), NoMemory>
+) -> Made<()>
     requires form { IsStanding movers.now standing.old }
     requires few { length movers.now ≤ MOST_COMPONENTS }
     requires place { place < length movers.now }
@@ -198,7 +198,7 @@ fn do_event(
     standing: &mut Standing,
     place: usize,
     event: Event,
-) -> Result<(), NoMemory>
+) -> Made<()>
     requires form { IsStanding movers.now standing.old }
     requires few { length movers.now ≤ MOST_COMPONENTS }
     requires place { place < length movers.now }
@@ -217,7 +217,7 @@ fn do_together(
     owners: &[u32],
     standing: &mut Standing,
     event: Event,
-) -> Result<(), NoMemory>
+) -> Made<()>
     requires form { IsStanding movers.now standing.old }
     requires few { length movers.now ≤ MOST_COMPONENTS }
     requires owners { owners.now ≡ marked (owner_marks event movers.now) }
@@ -238,7 +238,7 @@ pub(crate) fn take(
     owners: &[Items<u32>],
     standing: &mut Standing,
     option: &Move,
-) -> Result<(), NoMemory>
+) -> Made<()>
     requires form { IsStanding movers.now standing.old }
     requires few { length movers.now ≤ MOST_COMPONENTS }
     requires owners { AreOwnerRows movers.now owners.now }

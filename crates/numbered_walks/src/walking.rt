@@ -10,7 +10,7 @@ use crate::numbers::{first_draw, next_number};
 use crate::owners::owner_rows;
 use crate::standing::{Standing, choose, first_standing, is_stuck, take};
 use containers::Items;
-use csp_base::NoMemory;
+use csp_base::Made;
 use std::alloc::Global;
 
 // Takes the option that a number chooses, if there is one.
@@ -20,7 +20,7 @@ fn step(
     owners: &[Items<u32>],
     standing: &mut Standing,
     number: u32,
-) -> Result<Option<Move>, NoMemory>
+) -> Made<Option<Move>>
     requires form { IsStanding movers.now standing.old }
     requires few { length movers.now ≤ MOST_COMPONENTS }
     requires owners { AreOwnerRows movers.now owners.now }
@@ -45,7 +45,7 @@ fn go(
     standing: &mut Standing,
     seed: u32,
     steps: u32,
-) -> Result<Vec<Move>, NoMemory>
+) -> Made<Vec<Move>>
     requires form { IsStanding movers.now standing.old }
     requires few { length movers.now ≤ MOST_COMPONENTS }
     requires owners { AreOwnerRows movers.now owners.now }
@@ -68,7 +68,7 @@ fn go(
 
 /// One walk of the components, which begin at the first terms of their tables: as many steps as are asked for, fewer where none is left. The numbers
 /// after the seed choose each step, and a second sequence of numbers the targets among which it leaves a choice.
-pub fn walk(alloc: Global, movers: &[Mover<'_>], seed: u32, steps: u32) -> Result<Walk, NoMemory>
+pub fn walk(alloc: Global, movers: &[Mover<'_>], seed: u32, steps: u32) -> Made<Walk>
     requires { length movers.now ≤ MOST_COMPONENTS }
     ensures { IfOk result (λ made. IsWalkOf (Has movers.now) (Goes movers.now) seed steps
         (first_terms movers.now) made.moves.items made.is_stuck) }

@@ -5,7 +5,7 @@ ghost use Rattle.csp_tables.specs.Table.{Node};
 ghost use Rattle.observed_runs.specs.Prelude.{AreDistinct, AreFound, IsAdded, StepsTo, LeadsTo, pair_at};
 
 use crate::pairs::Pairs;
-use csp_base::{Event, NoMemory, Trace};
+use csp_base::{Event, Made, Trace};
 use std::alloc::Global;
 use std::marker::Model;
 
@@ -28,7 +28,7 @@ impl Model for Explored {
 
 impl Explored {
     // The pair from which runs begin.
-    pub(crate) fn new(alloc: Global) -> Result<Explored, NoMemory>
+    pub(crate) fn new(alloc: Global) -> Made<Explored>
         ensures { IfOk result (λ made. made ≡ record { pairs = (0, 0) ∷ []; origins = [] }) }
     {
         let mut pairs = Pairs::new(alloc);
@@ -40,7 +40,7 @@ impl Explored {
     }
 
     // Lists the pair if it is new, with the place of the pair from which it was found and the event that led from there.
-    pub(crate) fn add(&mut self, pair: (u32, u32), origin: (usize, Event)) -> Result<(), NoMemory>
+    pub(crate) fn add(&mut self, pair: (u32, u32), origin: (usize, Event)) -> Made<()>
         requires { origin.0 < length self.old.pairs }
         ensures { OnOk result (IsAdded self.old pair origin self.new) }
     {
@@ -69,7 +69,7 @@ impl Explored {
     }
 
     /// A run that leads to the pair in this place.
-    pub fn run_to(&self, alloc: Global, place: usize) -> Result<Trace, NoMemory>
+    pub fn run_to(&self, alloc: Global, place: usize) -> Made<Trace>
         requires { place < length self.now.pairs }
         ensures { (table : List Node) (step : ℕ → ℕ → ℕ) (start : ℕ) → AreFound table step start self.now
             → IfOk result (λ run. LeadsTo table step start run (pair_at self.now.pairs place)) }
@@ -98,7 +98,7 @@ impl Explored {
     }
 
     /// A run that leads to the pair in this place, if there is a place.
-    pub fn run_if_any(&self, alloc: Global, place: Option<usize>) -> Result<Option<Trace>, NoMemory>
+    pub fn run_if_any(&self, alloc: Global, place: Option<usize>) -> Made<Option<Trace>>
         requires { IfSome place (λ k. k < length self.now.pairs) }
         ensures { (table : List Node) (step : ℕ → ℕ → ℕ) (start : ℕ) → AreFound table step start self.now
             → IfOk result (λ run. MatchOption place (run ≡ None) (λ k. IsSomeAnd run (λ s. LeadsTo table step start s (pair_at self.now.pairs k)))) }

@@ -7,7 +7,7 @@ ghost use Rattle.observed_runs.specs.Prelude.{AreExplored, AreFollowed, AreFound
 use crate::explored::Explored;
 use crate::observer::Observer;
 use containers::Items;
-use csp_base::{Event, NoMemory};
+use csp_base::{Event, Made};
 use csp_tables::Part;
 use std::alloc::Global;
 
@@ -20,7 +20,7 @@ pub fn explore<O: Observer>(
     part: &Part,
     rows: &[Items<(Event, u32)>],
     observer: &O,
-) -> Result<Explored, NoMemory>
+) -> Made<Explored>
     requires form { HasForm part.now }
     requires enough { SeesEnough (O.step observer.now) part.now.table rows.now }
     ensures pairs { IfOk result (λ made. IsExploration part.now.table (O.step observer.now) 0 made.pairs) }
@@ -42,7 +42,7 @@ fn follow<O: Observer>(
     observer: &O,
     found: &mut Explored,
     place: usize,
-) -> Result<(), NoMemory>
+) -> Made<()>
     requires form { HasForm part.now }
     requires enough { SeesEnough (O.step observer.now) part.now.table rows.now }
     requires place { place < length found.old.pairs }

@@ -8,12 +8,12 @@ use crate::explored::Explored;
 use crate::exploring::explore;
 use crate::observers::Unwatched;
 use crate::steps::steps_of;
-use csp_base::{EventSet, NoMemory, Trace};
+use csp_base::{EventSet, Made, Trace};
 use csp_tables::Part;
 use std::alloc::Global;
 
 /// A run of the part's table that leads to the node.
-pub fn run_to_node(alloc: Global, part: &Part, node: u32) -> Result<Trace, NoMemory>
+pub fn run_to_node(alloc: Global, part: &Part, node: u32) -> Made<Trace>
     requires form { HasForm part.now }
     requires reached { IsReached part.now.table node }
     ensures follows { IfOk result (λ run. IsRun part.now.table run) }
@@ -25,7 +25,7 @@ pub fn run_to_node(alloc: Global, part: &Part, node: u32) -> Result<Trace, NoMem
 }
 
 // The nodes of the part's table to which runs lead.
-fn explored_nodes(alloc: Global, part: &Part) -> Result<Explored, NoMemory>
+fn explored_nodes(alloc: Global, part: &Part) -> Made<Explored>
     requires { HasForm part.now }
     ensures pairs { IfOk result (λ made. IsExploration part.now.table (λ state _. state) 0 made.pairs) }
     ensures found { IfOk result (λ made. AreFound part.now.table (λ state _. state) 0 made) }

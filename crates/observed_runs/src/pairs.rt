@@ -3,7 +3,7 @@
 ghost use Rattle.std.specs.Prelude.{◌≡◌, ◌<◌, ◌≤◌, ◌++◌, ◌∷◌, [], ℕ, length, IfOk, MatchBool, OnErr, OnOk, if◌then◌else◌};
 ghost use Rattle.observed_runs.specs.Prelude.{HasPair, AreDistinct, is_marked};
 
-use csp_base::{Event, EventSet, NoMemory};
+use csp_base::{Event, EventSet, Made};
 use std::alloc::Global;
 use std::marker::Model;
 
@@ -55,7 +55,7 @@ impl Pairs {
     }
 
     /// Puts the pair at the end if it is new, and answers whether it is.
-    pub fn insert(&mut self, pair: (u32, u32)) -> Result<bool, NoMemory>
+    pub fn insert(&mut self, pair: (u32, u32)) -> Made<bool>
         ensures added { IfOk result (λ new. self.new ≡ (if new then self.old ++ pair ∷ [] else self.old)) }
         ensures listed { OnOk result (HasPair self.new pair) }
         ensures same { OnErr result (self.new ≡ self.old) }
@@ -68,7 +68,7 @@ impl Pairs {
     }
 
     /// Puts a pair at the end that is not there.
-    pub fn insert_new(&mut self, pair: (u32, u32)) -> Result<(), NoMemory>
+    pub fn insert_new(&mut self, pair: (u32, u32)) -> Made<()>
         requires { HasPair self.old pair → ⊥ }
         ensures ok { OnOk result (self.new ≡ self.old ++ pair ∷ []) }
         ensures err { OnErr result (self.new ≡ self.old) }
@@ -92,7 +92,7 @@ fn has_mark(seen: &[EventSet], pair: (u32, u32)) -> bool
 }
 
 // Makes room for marks at this first number.
-fn make_room(alloc: Global, seen: &mut Vec<EventSet>, first: u32) -> Result<(), NoMemory>
+fn make_room(alloc: Global, seen: &mut Vec<EventSet>, first: u32) -> Made<()>
     ensures room { OnOk result (first < length seen.new.items) }
     ensures same { (n s : ℕ) → is_marked seen.new.items n s ≡ is_marked seen.old.items n s }
 {

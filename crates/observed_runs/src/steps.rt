@@ -5,16 +5,12 @@ ghost use Rattle.csp_tables.specs.Form.{HasForm};
 ghost use Rattle.observed_runs.specs.Prelude.{AreEnough, HaveEnough, pair_at, IsKept};
 
 use containers::Items;
-use csp_base::{Event, EventSet, NoMemory};
+use csp_base::{Event, EventSet, Made};
 use csp_tables::Part;
 use std::alloc::Global;
 
 /// For each node the steps by events of the set, and of the others the first one to each node.
-pub fn steps_of(
-    alloc: Global,
-    part: &Part,
-    events: &EventSet,
-) -> Result<Items<Items<(Event, u32)>>, NoMemory>
+pub fn steps_of(alloc: Global, part: &Part, events: &EventSet) -> Made<Items<Items<(Event, u32)>>>
     requires { HasForm part.now }
     ensures { IfOk result (λ rows. HaveEnough events.now part.now.table rows) }
 {
@@ -23,7 +19,7 @@ pub fn steps_of(
 }
 
 // No mark for each of so many nodes.
-fn no_marks(alloc: Global, count: usize) -> Result<Vec<u32>, NoMemory>
+fn no_marks(alloc: Global, count: usize) -> Made<Vec<u32>>
     ensures { IfOk result (λ marks. marks.items ≡ replicate count 0) }
 {
     let marks = vec![in alloc; 0; count]?;
@@ -36,7 +32,7 @@ fn all_enough(
     part: &Part,
     events: &EventSet,
     marks: &mut [u32],
-) -> Result<Items<Items<(Event, u32)>>, NoMemory>
+) -> Made<Items<Items<(Event, u32)>>>
     requires form { HasForm part.now }
     requires marks { length marks.old ≡ length part.now.table }
     requires unmarked { (node : ℕ) → slice_index marks.old node ≤ 0 }
@@ -58,7 +54,7 @@ fn enough(
     events: &EventSet,
     marks: &mut [u32],
     mark: u32,
-) -> Result<Items<(Event, u32)>, NoMemory>
+) -> Made<Items<(Event, u32)>>
     requires nodes { (k : ℕ) → k < length next.now → (pair_at next.now k).1 < length marks.old }
     requires unmarked { (node : ℕ) → slice_index marks.old node < mark }
     ensures enough { IfOk result (λ some. AreEnough events.now next.now some) }
@@ -78,7 +74,7 @@ fn keep(
     marks: &mut [u32],
     mark: u32,
     step: (Event, u32),
-) -> Result<(), NoMemory>
+) -> Made<()>
     requires { step.1 < length marks.old }
     ensures kept { OnOk result (IsKept events.now mark step some.old marks.old some.new marks.new) }
     ensures most { ((node : ℕ) → slice_index marks.old node ≤ mark) → (node : ℕ) → slice_index marks.new node ≤ mark }

@@ -6,7 +6,7 @@ ghost use Rattle.partitions.specs.Blocks.{count_of, state_of, HasBlocks, AreBoth
 ghost use Rattle.csp_base.specs.Members.{has};
 ghost use Rattle.partitions.specs.BlockSteps.{IsCalmed, IsDivided, with_block, with_mark, with_span, with_waiting};
 
-use csp_base::NoMemory;
+use csp_base::Made;
 use std::alloc::Global;
 
 /// Nodes in blocks. The nodes stand in one list, block by block, and in each block those that are marked stand first.
@@ -31,7 +31,7 @@ pub struct Partition {
 }
 
 /// All nodes in one block, which waits.
-pub fn whole(alloc: Global, count: u32) -> Result<Partition, NoMemory>
+pub fn whole(alloc: Global, count: u32) -> Made<Partition>
     ensures { IfOk result (λ made. IsWhole count (state_of made)) }
 {
     let number = if count == 0 { 0 } else { 1 };
@@ -56,21 +56,21 @@ pub fn whole(alloc: Global, count: u32) -> Result<Partition, NoMemory>
 }
 
 // As many times the value as `number` says.
-fn repeat(alloc: Global, value: u32, number: usize) -> Result<Vec<u32>, NoMemory>
+fn repeat(alloc: Global, value: u32, number: usize) -> Made<Vec<u32>>
     ensures { IfOk result (λ made. made.items ≡ replicate number value) }
 {
     vec![in alloc; value; number]
 }
 
 // As many flags as `number` says, each set.
-fn all_set(alloc: Global, number: usize) -> Result<Vec<bool>, NoMemory>
+fn all_set(alloc: Global, number: usize) -> Made<Vec<bool>>
     ensures { IfOk result (λ made. made.items ≡ replicate number true) }
 {
     vec![in alloc; true; number]
 }
 
 // The numbers below `count`.
-fn numbers_below(alloc: Global, count: u32) -> Result<Vec<u32>, NoMemory>
+fn numbers_below(alloc: Global, count: u32) -> Made<Vec<u32>>
     ensures len { IfOk result (λ made. length made.items ≡ count) }
     ensures each { IfOk result (λ made. (i : ℕ) → i < count → slice_index made.items i ≡ i) }
 {
@@ -108,7 +108,7 @@ impl Partition {
     }
 
     /// Splits each block into those of its nodes from which steps lead and the others. Both parts wait then.
-    pub fn split(&mut self, alloc: Global, steps: &[(u32, u32)]) -> Result<(), NoMemory>
+    pub fn split(&mut self, alloc: Global, steps: &[(u32, u32)]) -> Made<()>
         requires blocks { HasBlocks (count_of self.old) (state_of self.old) }
         requires calm { IsCalm (state_of self.old) }
         requires sources { All (λ step. step.1 < count_of self.old) steps.now }
@@ -120,7 +120,7 @@ impl Partition {
     }
 
     // Marks the nodes from which steps lead, and lists the blocks that have marked nodes.
-    fn mark_all(&mut self, alloc: Global, steps: &[(u32, u32)]) -> Result<Vec<u32>, NoMemory>
+    fn mark_all(&mut self, alloc: Global, steps: &[(u32, u32)]) -> Made<Vec<u32>>
         requires blocks { HasBlocks (count_of self.old) (state_of self.old) }
         requires calm { IsCalm (state_of self.old) }
         requires sources { All (λ step. step.1 < count_of self.old) steps.now }
@@ -135,7 +135,7 @@ impl Partition {
     }
 
     // Cuts the blocks that have marked nodes.
-    fn cut_all(&mut self, touched: &[u32]) -> Result<(), NoMemory>
+    fn cut_all(&mut self, touched: &[u32]) -> Made<()>
         requires blocks { HasBlocks (count_of self.old) (state_of self.old) }
         requires touched { AreTouched (state_of self.old) touched.now }
         ensures { OnOk result (AreCut (count_of self.old) (state_of self.old) (state_of self.new)) }
@@ -147,7 +147,7 @@ impl Partition {
     }
 
     // Marks a node. `touched` lists the blocks with marked nodes.
-    fn mark(&mut self, touched: &mut Vec<u32>, node: u32) -> Result<(), NoMemory>
+    fn mark(&mut self, touched: &mut Vec<u32>, node: u32) -> Made<()>
         requires blocks { HasBlocks (count_of self.old) (state_of self.old) }
         requires node { node < count_of self.old }
         requires touched { AreTouched (state_of self.old) touched.old.items }
@@ -186,7 +186,7 @@ impl Partition {
     }
 
     // Makes the marked nodes of a block a block of their own, unless all nodes or none are marked, and takes the marks away.
-    fn cut_block(&mut self, block: u32) -> Result<(), NoMemory>
+    fn cut_block(&mut self, block: u32) -> Made<()>
         requires blocks { HasBlocks (count_of self.old) (state_of self.old) }
         requires block { block < length self.old.firsts.items }
         ensures { OnOk result (IsCut (count_of self.old) (state_of self.old) (state_of self.new) block) }
@@ -210,7 +210,7 @@ impl Partition {
     }
 
     // Makes the marked nodes of a block a block of their own. Both blocks wait then.
-    fn cut_between(&mut self, block: u32) -> Result<(), NoMemory>
+    fn cut_between(&mut self, block: u32) -> Made<()>
         requires blocks { HasBlocks (count_of self.old) (state_of self.old) }
         requires block { block < length self.old.firsts.items }
         requires some { slice_index self.old.firsts.items block < slice_index self.old.middles.items block }
@@ -247,7 +247,7 @@ impl Partition {
     }
 
     // Makes the marked nodes of a block a block of their own, the last one, and answers its number.
-    fn divide(&mut self, block: u32) -> Result<u32, NoMemory>
+    fn divide(&mut self, block: u32) -> Made<u32>
         requires blocks { HasBlocks (count_of self.old) (state_of self.old) }
         requires block { block < length self.old.firsts.items }
         ensures divided { OnOk result (IsDivided (state_of self.old) (state_of self.new) block) }
@@ -262,7 +262,7 @@ impl Partition {
     }
 
     // Adds a block between two places, and answers its number. It has no marks, and doesn't wait.
-    fn add_block(&mut self, first: u32, end: u32) -> Result<u32, NoMemory>
+    fn add_block(&mut self, first: u32, end: u32) -> Made<u32>
         requires { length self.old.firsts.items < 2 ^ 32 }
         ensures longer { OnOk result (state_of self.new ≡ with_block (state_of self.old) first end) }
         ensures new { IfOk result (λ new. new ≡ length self.old.firsts.items) }
@@ -274,7 +274,7 @@ impl Partition {
     }
 
     // Adds where a block without marks begins and ends.
-    fn add_span(&mut self, first: u32, end: u32) -> Result<(), NoMemory>
+    fn add_span(&mut self, first: u32, end: u32) -> Made<()>
         ensures { OnOk result (state_of self.new ≡ with_span (state_of self.old) first end) }
     {
         push(&mut self.firsts, first)?;
@@ -284,7 +284,7 @@ impl Partition {
     }
 
     // Lets a block wait, if it doesn't yet.
-    fn wait(&mut self, block: u32) -> Result<(), NoMemory>
+    fn wait(&mut self, block: u32) -> Made<()>
         requires { block < length self.old.flags.items }
         ensures { OnOk result (state_of self.new ≡ with_waiting (state_of self.old) block) }
     {
@@ -297,7 +297,7 @@ impl Partition {
 }
 
 // Adds a number at the end.
-fn push(numbers: &mut Vec<u32>, number: u32) -> Result<(), NoMemory>
+fn push(numbers: &mut Vec<u32>, number: u32) -> Made<()>
     ensures { OnOk result (numbers.new.items ≡ numbers.old.items ++ number ∷ []) }
 {
     numbers.push(number)?;

@@ -11,7 +11,7 @@ use crate::place::ProcId;
 use crate::put::Put;
 use crate::store::Part;
 use containers::Items;
-use csp_base::NoMemory;
+use csp_base::Made;
 use csp_program::copies::{copy_expr, copy_exprs, copy_fields, copy_gens, copy_head, copy_pairs};
 use csp_program::{EventPart, Expr, Field, Gen, Head};
 use std::alloc::Global;
@@ -24,7 +24,7 @@ impl Part for Head {
 
     ghost free = { head_free };
 
-    fn copy(&self, alloc: Global) -> Result<Head, NoMemory> {
+    fn copy(&self, alloc: Global) -> Made<Head> {
         copy_head(alloc, self)
     }
 
@@ -38,7 +38,7 @@ impl Put for Head {
 
     ghost stays = { head_stays };
 
-    fn put(&self, values: &Values<'_>) -> Result<Head, NoMemory> {
+    fn put(&self, values: &Values<'_>) -> Made<Head> {
         put_head(self, values)
     }
 }
@@ -50,7 +50,7 @@ impl Part for Items<Field> {
 
     ghost free = { λ fields. before fields nowhere };
 
-    fn copy(&self, alloc: Global) -> Result<Items<Field>, NoMemory> {
+    fn copy(&self, alloc: Global) -> Made<Items<Field>> {
         copy_fields(alloc, self.as_slice())
     }
 
@@ -64,7 +64,7 @@ impl Put for Items<Field> {
 
     ghost stays = { fields_stay };
 
-    fn put(&self, values: &Values<'_>) -> Result<Items<Field>, NoMemory> {
+    fn put(&self, values: &Values<'_>) -> Made<Items<Field>> {
         put_fields(self.as_slice(), values)
     }
 }
@@ -76,7 +76,7 @@ impl Part for Expr {
 
     ghost free = { expr_free };
 
-    fn copy(&self, alloc: Global) -> Result<Expr, NoMemory> {
+    fn copy(&self, alloc: Global) -> Made<Expr> {
         copy_expr(alloc, self)
     }
 
@@ -90,7 +90,7 @@ impl Put for Expr {
 
     ghost stays = { expr_stays };
 
-    fn put(&self, values: &Values<'_>) -> Result<Expr, NoMemory> {
+    fn put(&self, values: &Values<'_>) -> Made<Expr> {
         put_expr(self, values)
     }
 }
@@ -102,7 +102,7 @@ impl Part for Items<Expr> {
 
     ghost free = { λ exprs. any_of (map expr_free exprs) };
 
-    fn copy(&self, alloc: Global) -> Result<Items<Expr>, NoMemory> {
+    fn copy(&self, alloc: Global) -> Made<Items<Expr>> {
         copy_exprs(alloc, self.as_slice())
     }
 
@@ -116,7 +116,7 @@ impl Put for Items<Expr> {
 
     ghost stays = { exprs_stay };
 
-    fn put(&self, values: &Values<'_>) -> Result<Items<Expr>, NoMemory> {
+    fn put(&self, values: &Values<'_>) -> Made<Items<Expr>> {
         put_exprs(self.as_slice(), values)
     }
 }
@@ -128,7 +128,7 @@ impl Part for Items<(EventPart, EventPart)> {
 
     ghost free = { λ pairs. any_of (map pair_free pairs) };
 
-    fn copy(&self, alloc: Global) -> Result<Items<(EventPart, EventPart)>, NoMemory> {
+    fn copy(&self, alloc: Global) -> Made<Items<(EventPart, EventPart)>> {
         copy_pairs(alloc, self.as_slice())
     }
 
@@ -144,7 +144,7 @@ impl Part for Items<Gen> {
 
     ghost free = { λ gens. under (map gen_binding gens) nowhere };
 
-    fn copy(&self, alloc: Global) -> Result<Items<Gen>, NoMemory> {
+    fn copy(&self, alloc: Global) -> Made<Items<Gen>> {
         copy_gens(alloc, self.as_slice())
     }
 
@@ -158,7 +158,7 @@ impl Put for Items<Gen> {
 
     ghost stays = { gens_stay };
 
-    fn put(&self, values: &Values<'_>) -> Result<Items<Gen>, NoMemory> {
+    fn put(&self, values: &Values<'_>) -> Made<Items<Gen>> {
         put_gens(self.as_slice(), values)
     }
 }
@@ -170,7 +170,7 @@ impl Part for Items<ProcId> {
 
     ghost free = { λ ids. nowhere };
 
-    fn copy(&self, alloc: Global) -> Result<Items<ProcId>, NoMemory> {
+    fn copy(&self, alloc: Global) -> Made<Items<ProcId>> {
         let copy = Items::from_slice(alloc, self.as_slice())?;
         Ok(copy)
     }

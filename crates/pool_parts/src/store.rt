@@ -7,7 +7,7 @@ ghost use Rattle.csp_program.specs.Free.{Names};
 
 use crate::measure::Measure;
 use containers::{Exact, Items, Numbering, QuickKey};
-use csp_base::NoMemory;
+use csp_base::Made;
 use std::alloc::Global;
 use std::hash::Hash;
 use std::marker::Model;
@@ -21,7 +21,7 @@ pub trait Part: Exact + Hash + Drop {
     ghost free: { Self → Names };
 
     /// The same part, in memory of its own.
-    fn copy(&self, alloc: Global) -> Result<Self, NoMemory>
+    fn copy(&self, alloc: Global) -> Made<Self>
         ensures { IfOk result (λ copy. copy ≡ self.now) };
 
     /// What it measures.
@@ -112,7 +112,7 @@ impl<T: Part> Store<T> {
     }
 
     /// The number of the part, of which a copy is kept where it is new.
-    pub fn keep(&mut self, part: &T) -> Result<usize, NoMemory>
+    pub fn keep(&mut self, part: &T) -> Made<usize>
         ensures place { IfOk result (λ place. slice_get self.new place ≡ Some part.now) }
         ensures start { IsStart self.old self.new }
         ensures once { EachOnce self.new }
@@ -128,7 +128,7 @@ impl<T: Part> Store<T> {
     }
 
     /// The number of a part that was made, which is kept itself where it is new; none where it was not made.
-    pub fn keep_made(&mut self, made: Result<T, NoMemory>) -> Result<usize, NoMemory>
+    pub fn keep_made(&mut self, made: Made<T>) -> Made<usize>
         ensures place { (part : T) → IfOk made (λ it. it ≡ part)
             → IfOk result (λ place. slice_get self.new place ≡ Some part) }
         ensures start { IsStart self.old self.new }
@@ -198,8 +198,8 @@ fn find_in<T: Part>(parts: &Numbering<T, QuickKey>, latest: usize, part: &T) -> 
 fn keep_made_in<T: Part>(
     parts: &mut Numbering<T, QuickKey>,
     notes: &mut Items<Measure>,
-    made: Result<T, NoMemory>,
-) -> Result<usize, NoMemory>
+    made: Made<T>,
+) -> Made<usize>
     requires noted { AreNoted T.depth T.size T.free notes.old parts.old }
     ensures noted { AreNoted T.depth T.size T.free notes.new parts.new }
     ensures place { (part : T) → IfOk made (λ it. it ≡ part)
@@ -218,7 +218,7 @@ fn keep_own_in<T: Part>(
     parts: &mut Numbering<T, QuickKey>,
     notes: &mut Items<Measure>,
     part: T,
-) -> Result<usize, NoMemory>
+) -> Made<usize>
     requires noted { AreNoted T.depth T.size T.free notes.old parts.old }
     ensures noted { AreNoted T.depth T.size T.free notes.new parts.new }
     ensures place { IfOk result (λ place. slice_get parts.new place ≡ Some part) }
@@ -232,7 +232,7 @@ fn keep_own_in<T: Part>(
 }
 
 // The number of the part, which is the next one where it is new.
-fn number<T: Part>(parts: &mut Numbering<T, QuickKey>, part: T) -> Result<usize, NoMemory>
+fn number<T: Part>(parts: &mut Numbering<T, QuickKey>, part: T) -> Made<usize>
     ensures place { IfOk result (λ place. slice_get parts.new place ≡ Some part) }
     ensures start { IsStart parts.old parts.new }
     ensures once { EachOnce parts.new }

@@ -6,7 +6,7 @@ ghost use Rattle.report.specs.EventText.{channel_name, event_text, field_text, i
 
 use crate::lines::{Written, push_signed};
 use csp_atoms::Atom;
-use csp_base::{Bytes, Event, NoMemory};
+use csp_base::{Bytes, Event, Made};
 use csp_program::{Content, EventInfo, Program};
 use std::alloc::Global;
 
@@ -71,7 +71,7 @@ pub(crate) fn push_event(text: &mut Bytes, content: &Content, event: Event) -> W
 }
 
 /// The event as reports print it: the name of its channel, and each field after a dot.
-pub fn event_text(alloc: Global, program: &Program, event: Event) -> Result<Bytes, NoMemory>
+pub fn event_text(alloc: Global, program: &Program, event: Event) -> Made<Bytes>
     ensures { IfOk result (λ text. text ≡ event_text program.now event) }
 {
     let mut text = Bytes::new(alloc);

@@ -7,15 +7,15 @@ ghost use Rattle.report.specs.Parts.{value_text};
 ghost use Rattle.csp_base.specs.Texts.{line};
 
 use crate::events::push_event;
-use csp_base::{Bytes, Event, EventSet, Members, NoMemory};
+use csp_base::{Bytes, Event, EventSet, Made, Members};
 use csp_program::Content;
 use std::alloc::Global;
 
 // What is written into a report, unless memory runs out.
-pub(crate) type Written = Result<(), NoMemory>;
+pub(crate) type Written = Made<()>;
 
 // A report, unless memory runs out.
-pub(crate) type Printed = Result<Bytes, NoMemory>;
+pub(crate) type Printed = Made<Bytes>;
 
 // A part of a line: words, and what stands after them.
 #[derive(Clone, Copy)]

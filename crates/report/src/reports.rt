@@ -10,7 +10,7 @@ use crate::lines::{Printed, one_line, written_line};
 use crate::printed::side_name;
 use crate::refusals::text_fault_report;
 use crate::verdicts::verdict_report;
-use csp_base::{Bytes, NoMemory};
+use csp_base::{Bytes, Made};
 use std::alloc::Global;
 
 // The exit status of a verdict.
@@ -62,7 +62,7 @@ fn outside(alloc: Global, side: Side, fault: OutsideFault) -> Printed
 }
 
 /// The report of an answer, each line with a line feed at its end.
-pub fn report_of(alloc: Global, answer: &Answer) -> Result<Bytes, NoMemory>
+pub fn report_of(alloc: Global, answer: &Answer) -> Made<Bytes>
     ensures { IfOk result (λ report. report ≡ report_text answer.now) }
 {
     match answer {

@@ -4,7 +4,7 @@ ghost use Rattle.std.specs.Prelude.{◌≡◌, IfOk};
 ghost use Rattle.report.specs.Stops.{IsEnd, IsVerdict, refuse};
 
 use crate::answer::{Done, Refusal, Shortfall, Side, Verdict};
-use csp_base::{NoMemory, Stop};
+use csp_base::{Made, NoMemory, Stop};
 
 /// Why a walk over networks halts before its end.
 #[derive(Drop)]
@@ -64,7 +64,7 @@ pub fn refuse(side: Side, stop: Stop<Refusal>) -> Halt
 }
 
 /// The verdict to which a walk over networks comes, unless memory runs out.
-pub fn conclude(walk: Result<Done, Halt>) -> Result<Verdict, NoMemory>
+pub fn conclude(walk: Result<Done, Halt>) -> Made<Verdict>
     ensures { IfOk result (IsVerdict walk) }
 {
     match walk {
@@ -75,7 +75,7 @@ pub fn conclude(walk: Result<Done, Halt>) -> Result<Verdict, NoMemory>
 }
 
 /// What a walk ends with, at its end or before, unless memory runs out.
-pub fn settle<A>(walk: Result<A, Stop<A>>) -> Result<A, NoMemory>
+pub fn settle<A>(walk: Result<A, Stop<A>>) -> Made<A>
     ensures { IfOk result (IsEnd walk) }
 {
     match walk {

@@ -6,7 +6,7 @@ ghost use Rattle.csp_tables.specs.Prelude.{Shape};
 ghost use Rattle.design_rules.specs.Prelude.{AllKeep};
 ghost use Rattle.resource_conditions.specs.Finding.{FindsRun, IsFirstFault};
 
-use csp_base::{NoMemory, Stop, Trace};
+use csp_base::{Made, Stop, Trace};
 use design_rules::{Condition, RuleFault};
 use std::alloc::Global;
 
@@ -19,7 +19,7 @@ pub trait Decider {
     ghost keeps: { Self → ℕ → List ℕ → Type 0 };
 
     /// A run after which the component does not keep the condition, if there is one.
-    fn broken_run(&self, alloc: Global, part: u32) -> Result<Option<Trace>, NoMemory>
+    fn broken_run(&self, alloc: Global, part: u32) -> Made<Option<Trace>>
         requires { part < length (shape self.now).parts }
         ensures { IfOk result (FindsRun (shape self.now) part (keeps self.now part)) };
 }

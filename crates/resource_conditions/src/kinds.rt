@@ -6,7 +6,7 @@ ghost use Rattle.resource_conditions.specs.Finding.{IsFirstWithout};
 ghost use Rattle.shape_links.specs.Setting.{KeepKinds};
 ghost use Rattle.resource_conditions.specs.Setting.{AreOtherKinds, HasLinked, HasParted, Breaks};
 
-use csp_base::{NoMemory, Stop, Trace};
+use csp_base::{Made, Stop, Trace};
 use design_rules::{Condition, RuleFault};
 use shape_links::Setting;
 use std::alloc::Global;
@@ -60,7 +60,7 @@ fn joins_kinds(setting: &Setting<'_>, left: u32, right: u32) -> bool
 }
 
 // The first resource whose sets do not part what it shares.
-fn first_unparted(alloc: Global, setting: &Setting<'_>) -> Result<u32, NoMemory>
+fn first_unparted(alloc: Global, setting: &Setting<'_>) -> Made<u32>
     ensures { IfOk result (IsFirstWithout (HasParted setting.now) (length setting.now.shape.parts)) }
 {
     for part in 0..setting.count() {
@@ -73,7 +73,7 @@ fn first_unparted(alloc: Global, setting: &Setting<'_>) -> Result<u32, NoMemory>
 }
 
 // Whether the part is a user, or its sets part what it shares.
-fn is_parted(alloc: Global, setting: &Setting<'_>, part: u32) -> Result<bool, NoMemory>
+fn is_parted(alloc: Global, setting: &Setting<'_>, part: u32) -> Made<bool>
     requires { part < length setting.now.shape.parts }
     ensures { IfOk result (λ parted. MatchBool parted (HasParted setting.now part) (HasParted setting.now part → ⊥)) }
 {

@@ -9,7 +9,7 @@ ghost use Rattle.shape_links.specs.Setting.{IsResourcePart, KeepKinds};
 
 use crate::checking::{Decider, check};
 use crate::tests::{grants_at, turns_at};
-use csp_base::{NoMemory, Stop, Trace};
+use csp_base::{Made, Stop, Trace};
 use design_rules::{Condition, RuleFault};
 use observed_runs::Holder;
 use shape_links::{Requirement, Setting};
@@ -66,7 +66,7 @@ impl<'a> Decider for Resources<'a> {
 
     ghost keeps = { λ r i s. IsResourcePart r.setting.now i → Keeps r.asked r.setting.now i s };
 
-    fn broken_run(&self, alloc: Global, part: u32) -> Result<Option<Trace>, NoMemory> {
+    fn broken_run(&self, alloc: Global, part: u32) -> Made<Option<Trace>> {
         if !self.setting.uses(part).is_resource() {
             return Ok(None);
         }
@@ -98,7 +98,7 @@ impl<'a> Requirement for Resource<'a> {
 
     ghost meets = { λ r. meets r.asked r.setting.now r.part };
 
-    fn is_met(&self, node: u32, state: u32) -> Result<bool, NoMemory> {
+    fn is_met(&self, node: u32, state: u32) -> Made<bool> {
         match self.asked {
             Asked::Turns => Ok(turns_at(self.setting, self.part, node, state)),
             Asked::Grants => grants_at(self.alloc, self.setting, self.part, (node, state)),

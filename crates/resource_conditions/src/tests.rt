@@ -6,7 +6,7 @@ ghost use Rattle.csp_base.specs.Prelude.{inter_of};
 ghost use Rattle.csp_tables.specs.Prelude.{link_at, part_at};
 ghost use Rattle.resource_conditions.specs.Tests.{are_granted, are_grants, are_turns, is_turn};
 
-use csp_base::{Event, EventSet, NoMemory};
+use csp_base::{Event, EventSet, Made};
 use shape_links::Setting;
 use std::alloc::Global;
 
@@ -57,7 +57,7 @@ pub(crate) fn grants_at(
     setting: &Setting<'_>,
     part: u32,
     pair: (u32, u32),
-) -> Result<bool, NoMemory>
+) -> Made<bool>
     requires part { part < length setting.now.shape.parts }
     requires node { pair.0 < length (part_at setting.now.shape.parts part).table }
     ensures { IfOk result (λ granted. granted ≡ are_grants setting.now part pair) }
@@ -75,12 +75,7 @@ pub(crate) fn grants_at(
 }
 
 // The events that are on the link in this place.
-fn on_link(
-    alloc: Global,
-    setting: &Setting<'_>,
-    events: &EventSet,
-    link: u32,
-) -> Result<EventSet, NoMemory>
+fn on_link(alloc: Global, setting: &Setting<'_>, events: &EventSet, link: u32) -> Made<EventSet>
     ensures { IfOk result (λ made. made ≡ inter_of events.now (link_at setting.now.shape link).shared) }
 {
     match setting.shape().links().get(link as usize) {

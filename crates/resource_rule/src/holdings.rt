@@ -10,14 +10,14 @@ ghost use Rattle.shape_links.specs.Setting.{KeepKinds};
 
 use crate::link_sets::resource_arcs;
 use crate::user::User;
-use csp_base::{Event, EventSet, NoMemory};
+use csp_base::{Event, EventSet, Made};
 use digraph::Rows;
 use observed_runs::{Explored, Parity};
 use shape_links::{Setting, empty_sets};
 use std::alloc::Global;
 
 // An arc from each resource to each one that a user holds while it offers to acquire the first.
-pub(crate) fn holdings(alloc: Global, setting: &Setting<'_>) -> Result<Rows, NoMemory>
+pub(crate) fn holdings(alloc: Global, setting: &Setting<'_>) -> Made<Rows>
     requires { KeepKinds setting.now }
     ensures count { IfOk result (λ rows. length rows ≡ length setting.now.shape.parts) }
     ensures sound { IfOk result (λ rows. (j m : ℕ) → HasArc rows j m
@@ -34,12 +34,7 @@ pub(crate) fn holdings(alloc: Global, setting: &Setting<'_>) -> Result<Rows, NoM
 }
 
 // Adds to the set of each link those that the part holds while it offers to acquire the first one's resource.
-fn add_part(
-    alloc: Global,
-    setting: &Setting<'_>,
-    part: u32,
-    sets: &mut [EventSet],
-) -> Result<(), NoMemory>
+fn add_part(alloc: Global, setting: &Setting<'_>, part: u32, sets: &mut [EventSet]) -> Made<()>
     requires part { part < length setting.now.shape.parts }
     requires count { length sets.old ≡ length setting.now.shape.links }
     ensures { OnOk result (AddsArcs (HoldsWhile setting.now part) sets.old sets.new) }
@@ -59,12 +54,7 @@ fn add_part(
 
 impl<'a> User<'a> {
     // The same for a user whose nodes tell what it holds there.
-    fn add_nodes(
-        &self,
-        alloc: Global,
-        held: &[EventSet],
-        sets: &mut [EventSet],
-    ) -> Result<(), NoMemory>
+    fn add_nodes(&self, alloc: Global, held: &[EventSet], sets: &mut [EventSet]) -> Made<()>
         requires held { AreHeld self.now.setting.now self.now.part held.now }
         requires count { length sets.old ≡ length self.now.setting.now.shape.links }
         ensures { OnOk result (AddsArcs (HoldsWhile self.now.setting.now self.now.part) sets.old sets.new) }
@@ -77,13 +67,7 @@ impl<'a> User<'a> {
     }
 
     // Adds what is held to the sets of the links of which the part offers to acquire the resource at this node.
-    fn add_node(
-        &self,
-        alloc: Global,
-        node: u32,
-        held: &EventSet,
-        sets: &mut [EventSet],
-    ) -> Result<(), NoMemory>
+    fn add_node(&self, alloc: Global, node: u32, held: &EventSet, sets: &mut [EventSet]) -> Made<()>
         requires node { node < length (part_at self.now.setting.now.shape.parts self.now.part).table }
         requires count { length sets.old ≡ length self.now.setting.now.shape.links }
         ensures { OnOk result
@@ -97,7 +81,7 @@ impl<'a> User<'a> {
     }
 
     // The same for a user, link by link.
-    fn add_links(&self, alloc: Global, sets: &mut [EventSet]) -> Result<(), NoMemory>
+    fn add_links(&self, alloc: Global, sets: &mut [EventSet]) -> Made<()>
         requires count { length sets.old ≡ length self.now.setting.now.shape.links }
         ensures { OnOk result (AddsArcs (HoldsWhile self.now.setting.now self.now.part) sets.old sets.new) }
     {
@@ -108,7 +92,7 @@ impl<'a> User<'a> {
     }
 
     // Adds the link to the sets of those of which the user offers to acquire the resource while it holds this one's.
-    fn add_link(&self, alloc: Global, link: u32, sets: &mut [EventSet]) -> Result<(), NoMemory>
+    fn add_link(&self, alloc: Global, link: u32, sets: &mut [EventSet]) -> Made<()>
         requires link { link < length self.now.setting.now.shape.links }
         requires end { IsTrue (is_end self.now.setting.now.shape self.now.part link) }
         requires count { length sets.old ≡ length self.now.setting.now.shape.links }
@@ -123,7 +107,7 @@ impl<'a> User<'a> {
     }
 
     // The exploration of a part with the parity of a link.
-    fn link_explored(&self, alloc: Global, link: u32) -> Result<Explored, NoMemory>
+    fn link_explored(&self, alloc: Global, link: u32) -> Made<Explored>
         requires link { link < length self.now.setting.now.shape.links }
         ensures { IfOk result (λ explored. WatchesLink self.now.setting.now self.now.part link explored.pairs) }
     {

@@ -7,7 +7,7 @@ ghost use Rattle.digraph.specs.Prelude.{HasArc, has_arc};
 ghost use Rattle.resource_rule.specs.Holdings.{AddsArcs, LeadsToSome, is_acquiring, resource_of};
 
 use crate::user::User;
-use csp_base::{Event, EventSet, NoMemory};
+use csp_base::{Event, EventSet, Made};
 use digraph::Rows;
 use shape_links::Setting;
 use std::alloc::Global;
@@ -20,7 +20,7 @@ impl<'a> User<'a> {
         offers: &EventSet,
         held: &EventSet,
         sets: &mut [EventSet],
-    ) -> Result<(), NoMemory>
+    ) -> Made<()>
         requires { length sets.old ≡ length self.now.setting.now.shape.links }
         ensures count { length sets.new ≡ length sets.old }
         ensures arcs { OnOk result ((k l : ℕ) → has_arc sets.new k l
@@ -39,7 +39,7 @@ impl<'a> User<'a> {
         event: Event,
         held: &EventSet,
         sets: &mut [EventSet],
-    ) -> Result<(), NoMemory>
+    ) -> Made<()>
         requires { length sets.old ≡ length self.now.setting.now.shape.links }
         ensures count { length sets.new ≡ length sets.old }
         ensures arcs { OnOk result ((k l : ℕ) → has_arc sets.new k l
@@ -53,12 +53,7 @@ impl<'a> User<'a> {
 }
 
 // Adds the members of a set to the set in the place.
-fn add_members(
-    alloc: Global,
-    sets: &mut [EventSet],
-    place: u32,
-    more: &EventSet,
-) -> Result<(), NoMemory>
+fn add_members(alloc: Global, sets: &mut [EventSet], place: u32, more: &EventSet) -> Made<()>
     requires { place < length sets.old }
     ensures count { length sets.new ≡ length sets.old }
     ensures arcs { OnOk result ((k l : ℕ) → has_arc sets.new k l
@@ -74,11 +69,7 @@ fn add_members(
 }
 
 // An arc from the resource of each link to those of the links in its set.
-pub(crate) fn resource_arcs(
-    alloc: Global,
-    setting: &Setting<'_>,
-    sets: &[EventSet],
-) -> Result<Rows, NoMemory>
+pub(crate) fn resource_arcs(alloc: Global, setting: &Setting<'_>, sets: &[EventSet]) -> Made<Rows>
     requires count { length sets.now ≡ length setting.now.shape.links }
     requires within { (k l : ℕ) → HasArc sets.now k l → l < length setting.now.shape.links }
     ensures { IfOk result (AddsArcs (LeadsToSome setting.now sets.now)
@@ -93,12 +84,7 @@ pub(crate) fn resource_arcs(
 }
 
 // An arc from the resource of the link to those of the links in the set.
-fn add_row(
-    setting: &Setting<'_>,
-    link: u32,
-    held: &EventSet,
-    rows: &mut Rows,
-) -> Result<(), NoMemory>
+fn add_row(setting: &Setting<'_>, link: u32, held: &EventSet, rows: &mut Rows) -> Made<()>
     requires link { link < length setting.now.shape.links }
     requires within { (l : ℕ) → IsTrue (has held.now l) → l < length setting.now.shape.links }
     requires count { length rows.old ≡ length setting.now.shape.parts }
@@ -115,7 +101,7 @@ fn add_row(
 }
 
 // An arc to the resource of the link with this number.
-fn add_arc(setting: &Setting<'_>, from: u32, link: Event, rows: &mut Rows) -> Result<(), NoMemory>
+fn add_arc(setting: &Setting<'_>, from: u32, link: Event, rows: &mut Rows) -> Made<()>
     requires from { from < length rows.old }
     requires link { link < length setting.now.shape.links }
     requires count { length rows.old ≡ length setting.now.shape.parts }

@@ -9,12 +9,12 @@ ghost use Rattle.resource_rule.specs.Uses.{IsInTurn};
 ghost use Rattle.shape_links.specs.Setting.{node_of};
 
 use crate::user::User;
-use csp_base::{Event, EventSet, NoMemory};
+use csp_base::{Event, EventSet, Made};
 use std::alloc::Global;
 
 impl<'a> User<'a> {
     // Whether each node of the part tells on which links it holds a resource there, and each event is in turn.
-    pub(crate) fn turns_by_nodes(&self, alloc: Global) -> Result<bool, NoMemory>
+    pub(crate) fn turns_by_nodes(&self, alloc: Global) -> Made<bool>
         ensures { IfOk result (λ in_turn. in_turn ≡ true → (s : List ℕ)
             → UsesInTurn self.now.setting.now.shape self.now.setting.now.uses self.now.part s) }
     {
@@ -26,7 +26,7 @@ impl<'a> User<'a> {
     }
 
     // For each node of the part the links on which it holds a resource there; nothing where its nodes do not tell that.
-    pub(crate) fn held_links(&self, alloc: Global) -> Result<Option<Vec<EventSet>>, NoMemory>
+    pub(crate) fn held_links(&self, alloc: Global) -> Made<Option<Vec<EventSet>>>
         ensures { IfOk result (λ held. IfSome held (λ sets. AreHeld self.now.setting.now self.now.part sets.items)) }
     {
         let component = self.setting.component(self.part);
@@ -83,7 +83,7 @@ impl<'a> User<'a> {
 }
 
 // The set of the links.
-fn link_set(alloc: Global, links: &[u32]) -> Result<EventSet, NoMemory>
+fn link_set(alloc: Global, links: &[u32]) -> Made<EventSet>
     ensures { IfOk result (λ made. (l : ℕ) → has made l ≡ has links.now l) }
 {
     let mut made = EventSet::new(alloc);

@@ -7,16 +7,12 @@ ghost use Rattle.shape_links.specs.Setting.{node_of};
 ghost use Rattle.resource_rule.specs.Uses.{HaveNodes, is_offered, is_offered_at};
 
 use crate::user::User;
-use csp_base::{EventSet, NoMemory};
+use csp_base::{EventSet, Made};
 use std::alloc::Global;
 
 impl<'a> User<'a> {
     // The events of the acceptances in the vocabulary at the pairs with the state 1.
-    pub(crate) fn pair_offers(
-        &self,
-        alloc: Global,
-        pairs: &[(u32, u32)],
-    ) -> Result<EventSet, NoMemory>
+    pub(crate) fn pair_offers(&self, alloc: Global, pairs: &[(u32, u32)]) -> Made<EventSet>
         requires { HaveNodes self.now.setting.now self.now.part pairs.now }
         ensures { IfOk result (λ events. (e : ℕ)
             → has events e ≡ is_offered_at self.now.setting.now self.now.part pairs.now e) }
@@ -29,7 +25,7 @@ impl<'a> User<'a> {
     }
 
     // The events of the acceptances in the vocabulary at the node.
-    pub(crate) fn node_offers(&self, alloc: Global, node: u32) -> Result<EventSet, NoMemory>
+    pub(crate) fn node_offers(&self, alloc: Global, node: u32) -> Made<EventSet>
         requires node { node < length (part_at self.now.setting.now.shape.parts self.now.part).table }
         ensures { IfOk result (λ made. (e : ℕ) → has made e
             ≡ is_offered self.now.setting.now.shape.vocabulary
@@ -46,12 +42,7 @@ impl<'a> User<'a> {
     }
 
     // The events, and what is offered at the pair if its state is 1.
-    fn with_pair(
-        &self,
-        alloc: Global,
-        pair: (u32, u32),
-        events: EventSet,
-    ) -> Result<EventSet, NoMemory>
+    fn with_pair(&self, alloc: Global, pair: (u32, u32), events: EventSet) -> Made<EventSet>
         requires node { pair.0 < length (part_at self.now.setting.now.shape.parts self.now.part).table }
         ensures { IfOk result (λ made. (e : ℕ) → has made e ≡ (has events e
             || (nat_eq pair.1 1 && is_offered self.now.setting.now.shape.vocabulary
@@ -73,7 +64,7 @@ fn with_offers(
     vocabulary: &EventSet,
     accept: &[EventSet],
     events: EventSet,
-) -> Result<EventSet, NoMemory>
+) -> Made<EventSet>
     ensures { IfOk result (λ made. (e : ℕ) → has made e ≡ (has events e || is_offered vocabulary.now accept.now e)) }
 {
     let mut made = events;
@@ -89,7 +80,7 @@ fn with_set(
     vocabulary: &EventSet,
     set: &EventSet,
     events: EventSet,
-) -> Result<EventSet, NoMemory>
+) -> Made<EventSet>
     ensures { IfOk result (λ made. (e : ℕ) → has made e
         ≡ (has events e || (is_subset_of set.now vocabulary.now && has set.now e))) }
 {

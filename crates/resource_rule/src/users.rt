@@ -12,7 +12,7 @@ ghost use Rattle.shape_links.specs.Links.{ends_of};
 ghost use Rattle.shape_links.specs.Setting.{IsUser, KeepKinds};
 
 use crate::user::User;
-use csp_base::{Event, NoMemory, Stop, Trace};
+use csp_base::{Event, Made, Stop, Trace};
 use design_rules::{Condition, RuleFault};
 use observed_runs::Parity;
 use resource_conditions::{Decider, check};
@@ -41,7 +41,7 @@ impl<'a> Decider for Users<'a> {
 
     ghost keeps = { λ u i s. IsUser u.setting.now i → UsesInTurn u.setting.now.shape u.setting.now.uses i s };
 
-    fn broken_run(&self, alloc: Global, part: u32) -> Result<Option<Trace>, NoMemory> {
+    fn broken_run(&self, alloc: Global, part: u32) -> Made<Option<Trace>> {
         if self.setting.uses(part).is_resource() {
             return Ok(None);
         }
@@ -55,7 +55,7 @@ impl<'a> Decider for Users<'a> {
 
 impl<'a> User<'a> {
     // A run after which the part does not use the resource of one of its links in turn.
-    fn broken_use(&self, alloc: Global) -> Result<Option<Trace>, NoMemory>
+    fn broken_use(&self, alloc: Global) -> Made<Option<Trace>>
         ensures { IfOk result (FindsRun self.now.setting.now.shape self.now.part
             (UsesInTurn self.now.setting.now.shape self.now.setting.now.uses self.now.part)) }
     {
@@ -72,7 +72,7 @@ impl<'a> User<'a> {
     }
 
     // A run after which the part does not use the resource of this link in turn.
-    fn broken_on(&self, alloc: Global, link: u32) -> Result<Option<Trace>, NoMemory>
+    fn broken_on(&self, alloc: Global, link: u32) -> Made<Option<Trace>>
         requires link { link < length self.now.setting.now.shape.links }
         requires end { IsTrue (is_end self.now.setting.now.shape self.now.part link) }
         ensures { IfOk result (FindsRun self.now.setting.now.shape self.now.part (λ s. (j : ℕ)
@@ -128,7 +128,7 @@ impl<'a> Requirement for LinkUse<'a> {
 
     ghost meets = { λ u node state. are_uses u.user.setting.now u.user.part u.link u.other (node, state) };
 
-    fn is_met(&self, node: u32, state: u32) -> Result<bool, NoMemory> {
+    fn is_met(&self, node: u32, state: u32) -> Made<bool> {
         let _form = self.user.setting.shape();
         let component = self.user.setting.component(self.user.part);
         Ok(all_uses(self, state, component.steps(node)))

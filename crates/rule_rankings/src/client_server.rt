@@ -9,7 +9,7 @@ ghost use Rattle.rule_rankings.specs.ClientServerRanks.{CanRank, IsRank, serving
 ghost use Rattle.rule_rankings.specs.Rows.{IsRanked, NoLap};
 
 use crate::rows::{Ranks, rank_parts};
-use csp_base::{Event, EventSet, NoMemory};
+use csp_base::{Event, EventSet, Made};
 use csp_tables::{Ranking, RoleSets, Shape};
 use digraph::Heights;
 use shape_links::SortedShape;
@@ -29,7 +29,7 @@ pub fn client_server_ranking(
     sorted: &SortedShape<'_>,
     roles: &[RoleSets],
     heights: &Heights,
-) -> Result<Ranking, NoMemory>
+) -> Made<Ranking>
     requires roles { length roles.now ≡ length sorted.now.parts }
     requires heights { AreHeights (Serves sorted.now roles.now) (length sorted.now.parts) heights.now }
     requires below { All (λ height. height < length sorted.now.parts) heights.now }

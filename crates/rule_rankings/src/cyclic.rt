@@ -8,7 +8,7 @@ ghost use Rattle.rule_rankings.specs.CyclicRanks.{AreTops, IsGreatest, IsLap, Is
 ghost use Rattle.rule_rankings.specs.Rows.{IsRanked};
 
 use crate::rows::{Ranks, larger, rank_parts};
-use csp_base::{Event, EventSet, NoMemory};
+use csp_base::{Event, EventSet, Made};
 use csp_tables::Ranking;
 use digraph::Heights;
 use shape_links::SortedShape;
@@ -23,11 +23,7 @@ struct Numbers<'a> {
 }
 
 /// The ranking with these numbers of the links.
-pub fn cyclic_ranking(
-    alloc: Global,
-    sorted: &SortedShape<'_>,
-    numbers: &Heights,
-) -> Result<Ranking, NoMemory>
+pub fn cyclic_ranking(alloc: Global, sorted: &SortedShape<'_>, numbers: &Heights) -> Made<Ranking>
     requires count { length numbers.now ≡ length sorted.now.links }
     requires keep { AllKeepPlaces sorted.now }
     requires rise { NumbersRise sorted.now (slice_index numbers.now) }
@@ -44,7 +40,7 @@ pub fn cyclic_ranking(
 }
 
 // For each part the greatest number of its links.
-fn tops(alloc: Global, sorted: &SortedShape<'_>, numbers: &Heights) -> Result<Vec<u32>, NoMemory>
+fn tops(alloc: Global, sorted: &SortedShape<'_>, numbers: &Heights) -> Made<Vec<u32>>
     requires { length numbers.now ≡ length sorted.now.links }
     ensures { IfOk result (λ tops.
         AreTops sorted.now (slice_index numbers.now) (length sorted.now.parts) tops.items) }

@@ -10,7 +10,7 @@ ghost use Rattle.rule_rankings.specs.Rows.{IsRanked, NoLap};
 ghost use Rattle.shape_links.specs.Setting.{KeepKinds};
 
 use crate::rows::{Ranks, larger, rank_parts};
-use csp_base::{Event, EventSet, NoMemory};
+use csp_base::{Event, EventSet, Made};
 use csp_tables::Ranking;
 use digraph::Heights;
 use shape_links::{Setting, acquired_resource};
@@ -25,11 +25,7 @@ struct Numbers<'a> {
 }
 
 /// The ranking with the numbers that these heights of the resources give.
-pub fn resource_ranking(
-    alloc: Global,
-    setting: &Setting<'_>,
-    heights: &Heights,
-) -> Result<Ranking, NoMemory>
+pub fn resource_ranking(alloc: Global, setting: &Setting<'_>, heights: &Heights) -> Made<Ranking>
     requires keep { KeepUses setting.now.shape setting.now.uses }
     requires count { length heights.now ≡ length setting.now.shape.parts }
     requires below { All (λ height. height < length setting.now.shape.parts) heights.now }

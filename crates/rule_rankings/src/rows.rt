@@ -6,7 +6,7 @@ ghost use Rattle.dl_limits.specs.declared.TheConstants.{MOST_COMPONENTS};
 ghost use Rattle.rule_rankings.specs.Rows.{AreAllRanked, AreEach, AreLaps, AreRanks, HasLap};
 
 use containers::Items;
-use csp_base::{Event, EventSet, NoMemory};
+use csp_base::{Event, EventSet, Made};
 use csp_tables::{NormNode, Part, PartRanks};
 use std::alloc::Global;
 
@@ -33,11 +33,7 @@ pub(crate) trait Ranks {
 }
 
 // The ranks and the laps of each part.
-pub(crate) fn rank_parts<R: Ranks>(
-    alloc: Global,
-    parts: &[Part],
-    ranks: &R,
-) -> Result<Vec<PartRanks>, NoMemory>
+pub(crate) fn rank_parts<R: Ranks>(alloc: Global, parts: &[Part], ranks: &R) -> Made<Vec<PartRanks>>
     requires few { length parts.now ≤ MOST_COMPONENTS }
     requires can { (i : ℕ) → i < length parts.now → R.can_rank ranks.now i }
     ensures { IfOk result (λ made. AreAllRanked (R.is_rank ranks.now) (R.is_lap ranks.now) parts.now made.items) }
@@ -50,12 +46,7 @@ pub(crate) fn rank_parts<R: Ranks>(
 }
 
 // The ranks and the laps of a part with these nodes.
-fn rank_part<R: Ranks>(
-    alloc: Global,
-    nodes: &[NormNode],
-    ranks: &R,
-    part: u32,
-) -> Result<PartRanks, NoMemory>
+fn rank_part<R: Ranks>(alloc: Global, nodes: &[NormNode], ranks: &R, part: u32) -> Made<PartRanks>
     requires { R.can_rank ranks.now part }
     ensures ranks { IfOk result (λ made. AreRanks (R.is_rank ranks.now part) nodes.now made.ranks) }
     ensures laps { IfOk result (λ made. AreLaps (R.is_lap ranks.now part) nodes.now made.laps) }
@@ -70,12 +61,7 @@ fn rank_part<R: Ranks>(
 }
 
 // The ranks of some acceptances.
-fn rank_row<R: Ranks>(
-    alloc: Global,
-    accept: &[EventSet],
-    ranks: &R,
-    part: u32,
-) -> Result<Vec<i64>, NoMemory>
+fn rank_row<R: Ranks>(alloc: Global, accept: &[EventSet], ranks: &R, part: u32) -> Made<Vec<i64>>
     requires { R.can_rank ranks.now part }
     ensures { IfOk result (λ row. AreEach [] (pos 0) (λ _. R.is_rank ranks.now part) accept.now row.items) }
 {
@@ -87,12 +73,7 @@ fn rank_row<R: Ranks>(
 }
 
 // The laps of the events of some steps.
-fn lap_row<R: Ranks>(
-    alloc: Global,
-    steps: &[(Event, u32)],
-    ranks: &R,
-    part: u32,
-) -> Result<Vec<u8>, NoMemory>
+fn lap_row<R: Ranks>(alloc: Global, steps: &[(Event, u32)], ranks: &R, part: u32) -> Made<Vec<u8>>
     requires { R.can_rank ranks.now part }
     ensures { IfOk result (λ row. AreEach (0, 0) 0 (λ _. HasLap (R.is_lap ranks.now part)) steps.now row.items) }
 {

@@ -9,12 +9,11 @@ ghost use Rattle.script_sizes.specs.BindingTokens.{all_tokens};
 ghost use Rattle.script_sizes.specs.Size.{declaration_size, size};
 
 use containers::Items;
-use csp_base::Name;
+use csp_base::{Made, Name};
 use csp_program::copies::copy_exprs;
 use csp_program::{Channel, Expr};
 use csp_text::{Decl, Tree};
 use name_tables::{Meanings, Scope};
-use script_names::Made;
 use std::alloc::Global;
 use typed_trees::Walk;
 

@@ -13,10 +13,10 @@ use crate::channels::channels_and_constants;
 use crate::definitions::definitions;
 use crate::notes::annotations;
 use containers::Items;
+use csp_base::Made;
 use csp_program::{Content, Def, Net};
 use csp_text::{Decl, Tree};
 use name_tables::{Meanings, Scope};
-use script_names::Made;
 use typed_trees::Walk;
 
 /// What the declarations of a script put into its program, whose asserted network is `root`, while its channels have no

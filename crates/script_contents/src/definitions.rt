@@ -11,13 +11,13 @@ ghost use Rattle.script_sizes.specs.BindingTokens.{tokens};
 ghost use Rattle.script_sizes.specs.Size.{declaration_size, size};
 
 use containers::Items;
-use csp_base::Name;
+use csp_base::{Made, Name};
 use csp_program::{Body, Def, Expr};
 use csp_text::{Decl, Tree};
 use name_tables::declared::Numbers;
 use name_tables::ends::bind_all;
 use name_tables::{Meanings, Scope, kind_at};
-use script_names::{Class, Kind, Made};
+use script_names::{Class, Kind};
 use std::alloc::Global;
 use typed_trees::Walk;
 

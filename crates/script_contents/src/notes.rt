@@ -6,11 +6,11 @@ ghost use Rattle.script_names.specs.Prelude.{first_of, definition_number};
 ghost use Rattle.script_contents.specs.Plain.{resources_in, roles_in};
 
 use containers::Items;
-use csp_base::Name;
+use csp_base::{Made, Name};
 use csp_program::{ResourceNote, RolesNote};
 use csp_text::Decl;
 use name_tables::Dictionary;
-use script_names::{Entity, Made};
+use script_names::Entity;
 use std::alloc::Global;
 
 // The number of the definition of this name.

@@ -5,10 +5,6 @@ pub mod fault;
 pub mod kinds;
 pub mod occurrence;
 
-use csp_base::NoMemory;
 pub use fault::ResolveFault;
 pub use kinds::{Class, End, Entity, Kind, Need, Place, Sense, Use};
 pub use occurrence::Occurrence;
-
-/// What is made, unless memory runs out.
-pub type Made<T> = Result<T, NoMemory>;

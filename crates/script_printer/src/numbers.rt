@@ -2,10 +2,10 @@
 
 ghost use Rattle.std.specs.Prelude.{◌≡◌, ◌++◌, ◌+◌, ◌<◌, [], ◌∷◌, OnOk, decimal};
 
-use csp_base::{Bytes, NoMemory};
+use csp_base::{Bytes, Made};
 
 // Adds one digit.
-fn put_digit(text: &mut Bytes, digit: u8) -> Result<(), NoMemory>
+fn put_digit(text: &mut Bytes, digit: u8) -> Made<()>
     requires { digit < 10 }
     ensures { OnOk result (text.new ≡ text.old ++ (48 + digit) ∷ []) }
 {
@@ -14,7 +14,7 @@ fn put_digit(text: &mut Bytes, digit: u8) -> Result<(), NoMemory>
 
 // Adds the number in decimal.
 #[tactic(auto, using(std::proofs::lemmas::Fmt::decimal_digit, std::proofs::lemmas::Fmt::decimal_step))]
-pub(crate) fn put_decimal(text: &mut Bytes, number: u32) -> Result<(), NoMemory>
+pub(crate) fn put_decimal(text: &mut Bytes, number: u32) -> Made<()>
     ensures { OnOk result (text.new ≡ text.old ++ decimal number) }
 {
     if number < 10 {

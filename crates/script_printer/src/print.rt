@@ -4,7 +4,7 @@ ghost use Rattle.std.specs.Prelude.{◌≡◌, IfOk};
 ghost use Rattle.script_printer.specs.PrintedScript.{script_text};
 
 use crate::lines::put_line;
-use csp_base::{Bytes, NoMemory};
+use csp_base::{Bytes, Made};
 use csp_text::Script;
 use std::alloc::Global;
 
@@ -12,7 +12,7 @@ use std::alloc::Global;
 ///
 /// It fails for want of memory alone.
 #[tactic(auto, using(crate::proofs::Groups::bytes_step, crate::proofs::Groups::bytes_end), unfolding(crate::specs::PrintedScript::script_text))]
-pub fn print_script(alloc: Global, script: &Script) -> Result<Bytes, NoMemory>
+pub fn print_script(alloc: Global, script: &Script) -> Made<Bytes>
     ensures { IfOk result (λ text. text ≡ script_text script.now) }
 {
     let mut text = Bytes::new(alloc);

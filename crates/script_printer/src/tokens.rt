@@ -7,11 +7,11 @@ ghost use Rattle.script_printer.specs.PrintedTree.{operator_token};
 ghost use Rattle.csp_text.specs.Written.{set_op_word};
 
 use crate::numbers::put_decimal;
-use csp_base::{BinOp, Bytes, Name, NoMemory, SetOp};
+use csp_base::{BinOp, Bytes, Made, Name, SetOp};
 use csp_text::{Symbol, Word, symbol_text, word_text};
 
 // What is written, unless memory runs out.
-pub(crate) type Written = Result<(), NoMemory>;
+pub(crate) type Written = Made<()>;
 
 // What stands between two tokens.
 const SPACE: u8 = b' ';

@@ -4,11 +4,11 @@ ghost use Rattle.std.specs.Prelude.{◌≡◌, ◌<◌, IfOk, length};
 ghost use Rattle.shape_links.specs.Turned.{turned_circle};
 
 use containers::Items;
-use csp_base::NoMemory;
+use csp_base::Made;
 use std::alloc::Global;
 
 /// The vertices of the circle in the other direction, from the same one on.
-pub fn turn_circle(alloc: Global, circle: &[u32]) -> Result<Items<u32>, NoMemory>
+pub fn turn_circle(alloc: Global, circle: &[u32]) -> Made<Items<u32>>
     requires { 0 < length circle.now }
     ensures { IfOk result (λ turned. turned ≡ turned_circle circle.now) }
 {

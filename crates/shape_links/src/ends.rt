@@ -5,12 +5,12 @@ ghost use Rattle.csp_tables.specs.Shape.{IsWellFormed};
 ghost use Rattle.shape_links.specs.Links.{AreEnds};
 
 use containers::{Items, empty_rows, push_at};
-use csp_base::NoMemory;
+use csp_base::Made;
 use csp_tables::{Link, Shape};
 use std::alloc::Global;
 
 /// For each part its links, in rising order.
-pub fn links_of_parts(alloc: Global, shape: &Shape) -> Result<Vec<Items<u32>>, NoMemory>
+pub fn links_of_parts(alloc: Global, shape: &Shape) -> Made<Vec<Items<u32>>>
     requires { IsWellFormed shape.now }
     ensures { IfOk result (λ ends. AreEnds shape.now (length shape.now.links) ends.items) }
 {
@@ -22,7 +22,7 @@ pub fn links_of_parts(alloc: Global, shape: &Shape) -> Result<Vec<Items<u32>>, N
 }
 
 // Adds the number of a link at the end of the lists of its two ends.
-fn add_link(ends: &mut Vec<Items<u32>>, link: &Link, number: u32) -> Result<(), NoMemory>
+fn add_link(ends: &mut Vec<Items<u32>>, link: &Link, number: u32) -> Made<()>
     requires { link.now.right < length ends.old.items }
     ensures count { OnOk result (length ends.new.items ≡ length ends.old.items) }
     ensures each { OnOk result ((i : ℕ) → i < length ends.old.items → slice_index_or ends.new.items i []

@@ -7,13 +7,13 @@ ghost use Rattle.shape_links.specs.Component.{IsDecided, IsFirstFailing, table_o
 
 use crate::component::Component;
 use crate::requirement::Requirement;
-use csp_base::{NoMemory, Trace};
+use csp_base::{Made, Trace};
 use observed_runs::{Explored, Observer, explore};
 use std::alloc::Global;
 
 impl<'a> Component<'a> {
     /// The pairs of a node and a state to which runs lead, where the observer sees shared events alone.
-    pub fn explore<O: Observer>(&self, alloc: Global, observer: &O) -> Result<Explored, NoMemory>
+    pub fn explore<O: Observer>(&self, alloc: Global, observer: &O) -> Made<Explored>
         requires { SeesOnly self.now.shape.now.vocabulary (O.step observer.now) }
         ensures pairs { IfOk result (λ made. IsExploration (table_of self.now) (O.step observer.now) 0 made.pairs) }
         ensures found { IfOk result (λ made. AreFound (table_of self.now) (O.step observer.now) 0 made) }
@@ -28,7 +28,7 @@ impl<'a> Component<'a> {
         alloc: Global,
         observer: &O,
         required: &R,
-    ) -> Result<Option<Trace>, NoMemory>
+    ) -> Made<Option<Trace>>
         requires only { SeesOnly self.now.shape.now.vocabulary (O.step observer.now) }
         requires nodes { length (table_of self.now) ≤ R.nodes required.now }
         ensures { IfOk result (IsDecided self.now.shape.now self.now.number (λ s.
@@ -42,10 +42,7 @@ impl<'a> Component<'a> {
 }
 
 // The place of the first pair that does not meet what is required.
-fn first_failing<R: Requirement>(
-    pairs: &[(u32, u32)],
-    required: &R,
-) -> Result<Option<usize>, NoMemory>
+fn first_failing<R: Requirement>(pairs: &[(u32, u32)], required: &R) -> Made<Option<usize>>
     requires { (k : ℕ) → k < length pairs.now → (pair_at pairs.now k).0 < R.nodes required.now }
     ensures { IfOk result (IsFirstFailing (R.meets required.now) pairs.now) }
 {

@@ -8,18 +8,14 @@ ghost use Rattle.shape_links.specs.Component.{table_of};
 ghost use Rattle.shape_links.specs.OddLinks.{AreOddLinks, IsTurned};
 
 use crate::component::Component;
-use csp_base::{Event, EventSet, NoMemory};
+use csp_base::{Event, EventSet, Made};
 use observed_runs::{Explored, Unwatched};
 use std::alloc::Global;
 
 impl<'a> Component<'a> {
     /// For each node those of the watched links (by their numbers) of which each run to it has an odd number of events; nothing
     /// where runs to one node differ in that. It goes over each step once, and keeps a set for each node.
-    pub fn odd_links(
-        &self,
-        alloc: Global,
-        watched: &EventSet,
-    ) -> Result<Option<Vec<EventSet>>, NoMemory>
+    pub fn odd_links(&self, alloc: Global, watched: &EventSet) -> Made<Option<Vec<EventSet>>>
         ensures { IfOk result (λ odd. IfSome odd (λ sets. AreOddLinks self.now watched.now sets.items)) }
     {
         let _form = self.shape.shape();
@@ -37,7 +33,7 @@ impl<'a> Component<'a> {
         alloc: Global,
         watched: &EventSet,
         explored: &Explored,
-    ) -> Result<Vec<EventSet>, NoMemory>
+    ) -> Made<Vec<EventSet>>
         requires { (k : ℕ) → k < length explored.now.pairs
             → (pair_at explored.now.pairs k).0 < length (table_of self.now) }
         ensures { IfOk result (λ odd. length odd.items ≡ length (table_of self.now)) }
@@ -53,12 +49,7 @@ impl<'a> Component<'a> {
     }
 
     // Whether the set of the first node is empty, and each step leads to the set that it makes of its node's.
-    fn are_kept(
-        &self,
-        alloc: Global,
-        watched: &EventSet,
-        odd: &[EventSet],
-    ) -> Result<bool, NoMemory>
+    fn are_kept(&self, alloc: Global, watched: &EventSet, odd: &[EventSet]) -> Made<bool>
         requires { length odd.now ≡ length (table_of self.now) }
         ensures { IfOk result (λ kept. kept ≡ true → AreOddLinks self.now watched.now odd.now) }
     {
@@ -82,7 +73,7 @@ impl<'a> Component<'a> {
         watched: &EventSet,
         odd: &[EventSet],
         node: u32,
-    ) -> Result<bool, NoMemory>
+    ) -> Made<bool>
         requires sets { length odd.now ≡ length (table_of self.now) }
         requires node { node < length (table_of self.now) }
         ensures { IfOk result (λ kept. kept ≡ true → (e : ℕ)
@@ -108,7 +99,7 @@ impl<'a> Component<'a> {
         watched: &EventSet,
         odd: &EventSet,
         event: Event,
-    ) -> Result<EventSet, NoMemory>
+    ) -> Made<EventSet>
         ensures { IfOk result (λ made. IsTurned self.now.shape.now watched.now event odd.now made) }
     {
         let _form = self.shape.shape();
@@ -120,7 +111,7 @@ impl<'a> Component<'a> {
 }
 
 /// So many empty sets of links.
-pub fn empty_sets(alloc: Global, count: usize) -> Result<Vec<EventSet>, NoMemory>
+pub fn empty_sets(alloc: Global, count: usize) -> Made<Vec<EventSet>>
     ensures count { IfOk result (λ sets. length sets.items ≡ count) }
     ensures empty { IfOk result (λ sets. sets.items ≡ replicate count []) }
 {
@@ -137,7 +128,7 @@ fn toggle_if_watched(
     watched: &EventSet,
     odd: &EventSet,
     link: Event,
-) -> Result<EventSet, NoMemory>
+) -> Made<EventSet>
     ensures { IfOk result (λ made. (l : ℕ) → has made l
         ≡ (if has watched.now l && nat_eq link l then not (has odd.now l) else has odd.now l)) }
 {
@@ -148,7 +139,7 @@ fn toggle_if_watched(
 }
 
 // The set without its member, or with it where it is none.
-fn toggle(alloc: Global, set: &EventSet, member: Event) -> Result<EventSet, NoMemory>
+fn toggle(alloc: Global, set: &EventSet, member: Event) -> Made<EventSet>
     ensures { IfOk result (λ made. (x : ℕ) → has made x
         ≡ (if nat_eq member x then not (has set.now x) else has set.now x)) }
 {

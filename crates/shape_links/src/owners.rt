@@ -6,13 +6,13 @@ ghost use Rattle.csp_tables.specs.Prelude.{TripleDisjoint, alphabets_of, IsWellF
 ghost use Rattle.csp_tables.specs.Shape.{Shape as ShapeValue};
 ghost use Rattle.shape_links.specs.Links.{AreOwners, IsOwner};
 
-use csp_base::{Event, EventSet, NoMemory};
+use csp_base::{Event, EventSet, Made};
 use csp_tables::Shape;
 use std::alloc::Global;
 
 /// For each event, by its number, 1 + the link that has it; 0, or past the end, where none has. It goes over each event of
 /// each link once.
-pub fn links_of_events(alloc: Global, shape: &Shape) -> Result<Vec<u32>, NoMemory>
+pub fn links_of_events(alloc: Global, shape: &Shape) -> Made<Vec<u32>>
     requires form { IsWellFormed shape.now }
     requires apart { TripleDisjoint (alphabets_of shape.now.parts) }
     ensures { IfOk result (λ owners. AreOwners shape.now owners.items) }
@@ -49,7 +49,7 @@ fn owner_at(owners: &[u32], event: Event) -> u32
 }
 
 // Keeps the number for each of the events.
-fn set_owners(owners: &mut Vec<u32>, events: &EventSet, owner: u32) -> Result<(), NoMemory>
+fn set_owners(owners: &mut Vec<u32>, events: &EventSet, owner: u32) -> Made<()>
     ensures { OnOk result ((e : ℕ) → slice_index owners.new.items e
         ≡ (if has events.now e then owner else slice_index owners.old.items e)) }
 {
@@ -60,7 +60,7 @@ fn set_owners(owners: &mut Vec<u32>, events: &EventSet, owner: u32) -> Result<()
 }
 
 // Keeps the number for the event.
-fn set_owner(owners: &mut Vec<u32>, event: usize, owner: u32) -> Result<(), NoMemory>
+fn set_owner(owners: &mut Vec<u32>, event: usize, owner: u32) -> Made<()>
     ensures { OnOk result ((e : ℕ) → slice_index owners.new.items e
         ≡ (if event == e then owner else slice_index owners.old.items e)) }
 {

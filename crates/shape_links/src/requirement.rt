@@ -2,7 +2,7 @@
 
 ghost use Rattle.std.specs.Prelude.{◌≡◌, ◌<◌, ℕ, Bool, IfOk};
 
-use csp_base::NoMemory;
+use csp_base::Made;
 
 /// What is required of a component wherever it stands, by the node and by the state of an observer.
 pub trait Requirement {
@@ -13,7 +13,7 @@ pub trait Requirement {
     ghost meets: { Self → ℕ → ℕ → Bool };
 
     /// Whether the node meets it in this state.
-    fn is_met(&self, node: u32, state: u32) -> Result<bool, NoMemory>
+    fn is_met(&self, node: u32, state: u32) -> Made<bool>
         requires { node < nodes self.now }
         ensures { IfOk result (λ met. met ≡ meets self.now node state) };
 }

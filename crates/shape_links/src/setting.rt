@@ -7,7 +7,7 @@ ghost use Rattle.shape_links.specs.Links.{IsOwner};
 
 use crate::component::Component;
 use crate::sorted_shape::SortedShape;
-use csp_base::{Event, NoMemory};
+use csp_base::{Event, Made};
 use csp_tables::{Link, Shape, UseSets};
 use std::alloc::Global;
 use std::marker::Model;
@@ -32,11 +32,7 @@ impl<'a> Model for Setting<'a> {
 
 impl<'a> Setting<'a> {
     /// The shape, sorted out, with these uses of its parts.
-    pub fn new(
-        alloc: Global,
-        shape: &'a Shape,
-        uses: &'a [UseSets],
-    ) -> Result<Setting<'a>, NoMemory>
+    pub fn new(alloc: Global, shape: &'a Shape, uses: &'a [UseSets]) -> Made<Setting<'a>>
         requires form { IsWellFormed shape.now }
         requires apart { TripleDisjoint (alphabets_of shape.now.parts) }
         requires uses { length uses.now ≡ length shape.now.parts }

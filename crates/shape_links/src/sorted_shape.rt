@@ -10,7 +10,7 @@ use crate::ends::links_of_parts;
 use crate::owners::{link_of, links_of_events};
 use crate::steps::steps_of_parts;
 use containers::Items;
-use csp_base::{Event, NoMemory};
+use csp_base::{Event, Made};
 use csp_tables::{Link, Part, Shape};
 use std::alloc::Global;
 use std::marker::Model;
@@ -42,7 +42,7 @@ impl<'a> Model for SortedShape<'a> {
 
 impl<'a> SortedShape<'a> {
     /// The shape, sorted out. It goes over each event of each link and each step of each table once.
-    pub fn new(alloc: Global, shape: &'a Shape) -> Result<SortedShape<'a>, NoMemory>
+    pub fn new(alloc: Global, shape: &'a Shape) -> Made<SortedShape<'a>>
         requires form { IsWellFormed shape.now }
         requires apart { TripleDisjoint (alphabets_of shape.now.parts) }
         ensures { IfOk result (λ sorted. sorted ≡ shape.now) }

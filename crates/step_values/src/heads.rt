@@ -9,7 +9,7 @@ ghost use Rattle.step_values.specs.Starts.{GivesStart};
 use csp_atoms::{Atom, AtomSet, Value};
 use csp_base::{Event, Stop};
 use csp_program::{Head, Program, ValueKind};
-use csp_values::EvalFault;
+use csp_values::EvalResult;
 
 /// What the event of a prefix is among.
 #[derive(Clone, Copy)]
@@ -21,7 +21,7 @@ pub struct Start<'a> {
 }
 
 // The events of a channel.
-fn of_channel(program: &Program, channel: u32) -> Result<Start<'_>, EvalFault>
+fn of_channel(program: &Program, channel: u32) -> EvalResult<Start<'_>>
     ensures { GivesStart program.now result (of_head program.now (Head.Channel channel)) }
 {
     match program.content().channels.get(channel as usize) {
@@ -49,7 +49,7 @@ fn of_event<'a>(event: Event) -> Start<'a>
 }
 
 // The event that an atom is.
-fn of_atom<'a>(atom: Atom) -> Result<Start<'a>, EvalFault>
+fn of_atom<'a>(atom: Atom) -> EvalResult<Start<'a>>
     ensures { (p : Content) → GivesStart p result (of_value (One atom)) }
 {
     match atom {
@@ -60,7 +60,7 @@ fn of_atom<'a>(atom: Atom) -> Result<Start<'a>, EvalFault>
 
 // The event that a value is.
 #[tactic(auto, using(crate::proofs::ChannelEvents::same_start))]
-fn of_value<'a>(value: &Value) -> Result<Start<'a>, EvalFault>
+fn of_value<'a>(value: &Value) -> EvalResult<Start<'a>>
     ensures { (p : Content) → GivesStart p result (of_value value.now) }
 {
     match value {
@@ -71,7 +71,7 @@ fn of_value<'a>(value: &Value) -> Result<Start<'a>, EvalFault>
 
 /// The events that a head stands for. Its fault has the kind `Kind`: there is no such channel, or one without field sets, or the head is a bound name
 /// or a value that is no event.
-pub fn of_head<'a>(program: &'a Program, head: &Head) -> Result<Start<'a>, EvalFault>
+pub fn of_head<'a>(program: &'a Program, head: &Head) -> EvalResult<Start<'a>>
     ensures { GivesStart program.now result (of_head program.now head.now) }
 {
     match head {

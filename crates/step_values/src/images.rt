@@ -4,7 +4,7 @@ ghost use Rattle.std.specs.Prelude.{◌≡◌, ◌∷◌, ◌++◌, [], if◌the
 ghost use Rattle.step_values.specs.Images.{becomes, kept_for, Keeps};
 
 use containers::Items;
-use csp_base::{Event, NoMemory};
+use csp_base::{Event, Made, NoMemory};
 use std::alloc::Global;
 use std::collections::HashMap;
 
@@ -31,11 +31,7 @@ fn take_out(alloc: Global, by_event: &mut HashMap<u32, Items<Event>>, event: Eve
 }
 
 // Keeps these events for an event.
-fn keep(
-    by_event: &mut HashMap<u32, Items<Event>>,
-    event: Event,
-    events: Items<Event>,
-) -> Result<(), NoMemory>
+fn keep(by_event: &mut HashMap<u32, Items<Event>>, event: Event, events: Items<Event>) -> Made<()>
     ensures { OnOk result ((e : ℕ) → kept_for by_event.new e
         ≡ (if nat_eq event e then events else kept_for by_event.old e)) }
 {
@@ -51,7 +47,7 @@ fn add_new(
     by_event: &mut HashMap<u32, Items<Event>>,
     old: Event,
     new: Event,
-) -> Result<(), NoMemory>
+) -> Made<()>
     ensures { OnOk result ((e : ℕ) → kept_for by_event.new e
         ≡ kept_for by_event.old e ++ (if nat_eq old e then new ∷ [] else [])) }
 {
@@ -61,7 +57,7 @@ fn add_new(
 }
 
 /// What events become by the renaming that makes these pairs of an old event and a new one.
-pub fn images_by_event(alloc: Global, renamed: &[(Event, Event)]) -> Result<Images, NoMemory>
+pub fn images_by_event(alloc: Global, renamed: &[(Event, Event)]) -> Made<Images>
     ensures { IfOk result (λ made. Keeps made renamed.now) }
 {
     let mut images = Images {
@@ -74,7 +70,7 @@ pub fn images_by_event(alloc: Global, renamed: &[(Event, Event)]) -> Result<Imag
 }
 
 // One event.
-fn only(alloc: Global, event: Event) -> Result<Items<Event>, NoMemory>
+fn only(alloc: Global, event: Event) -> Made<Items<Event>>
     ensures { IfOk result (λ made. made ≡ event ∷ []) }
 {
     let mut events = Items::new(alloc);
@@ -93,7 +89,7 @@ fn events_for(images: &Images, event: Event) -> &[Event]
 }
 
 /// What an event becomes.
-pub fn images_of(alloc: Global, images: &Images, event: Event) -> Result<Items<Event>, NoMemory>
+pub fn images_of(alloc: Global, images: &Images, event: Event) -> Made<Items<Event>>
     ensures { IfOk result (λ made. made ≡ becomes images.now event) }
 {
     let events = events_for(images, event);

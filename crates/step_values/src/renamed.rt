@@ -14,10 +14,10 @@ ghost use Rattle.step_values.specs.Walked.{as_event, literals, new_event, pair_w
 
 use containers::Items;
 use csp_atoms::{Atom, Value};
-use csp_base::{Event, NoMemory, Stop};
+use csp_base::{Event, Made, Stop};
 use csp_program::copies::copy_value;
 use csp_program::{Channel, EventInfo, EventPart, Expr, Program, ValueKind};
-use csp_values::{EvalFault, eval, eval_all_under, front_under};
+use csp_values::{EvalResult, eval, eval_all_under, front_under};
 use std::alloc::Global;
 use value_operators::numbers::count_with;
 
@@ -70,7 +70,7 @@ fn fields_from(fields: &[Atom], given: usize) -> &[Atom]
 }
 
 // The values as expressions.
-fn literals(alloc: Global, values: &[Value]) -> Result<Items<Expr>, NoMemory>
+fn literals(alloc: Global, values: &[Value]) -> Made<Items<Expr>>
     ensures { IfOk result (λ made. made ≡ literals values.now) }
 {
     let mut made = Items::new(alloc);
@@ -81,7 +81,7 @@ fn literals(alloc: Global, values: &[Value]) -> Result<Items<Expr>, NoMemory>
 }
 
 // The values as expressions, and after them the atoms.
-fn literals_then(alloc: Global, values: &[Value], atoms: &[Atom]) -> Result<Items<Expr>, NoMemory>
+fn literals_then(alloc: Global, values: &[Value], atoms: &[Atom]) -> Made<Items<Expr>>
     ensures { IfOk result (λ made. made ≡ literals values.now ++ map (λ a. expression.Lit (value.One a)) atoms.now) }
 {
     let mut made = literals(alloc, values)?;
@@ -92,7 +92,7 @@ fn literals_then(alloc: Global, values: &[Value], atoms: &[Atom]) -> Result<Item
 }
 
 // The event that a value is.
-fn to_event(value: &Value) -> Result<Event, EvalFault>
+fn to_event(value: &Value) -> EvalResult<Event>
     ensures { Gives result (as_event value.now) }
 {
     match value {
@@ -102,7 +102,7 @@ fn to_event(value: &Value) -> Result<Event, EvalFault>
 }
 
 // The event that an expression is worth.
-fn event_in(alloc: Global, program: &Program, expr: &Expr) -> Result<Event, EvalFault>
+fn event_in(alloc: Global, program: &Program, expr: &Expr) -> EvalResult<Event>
     ensures { Gives result (and_then (value_of program.now expr.now) as_event) }
 {
     let value = eval(alloc, program, expr)?;
@@ -119,7 +119,7 @@ fn event_after(first: u32, place: usize) -> Event
 
 // What an event becomes.
 #[tactic(auto, using(crate::proofs::NewEvents::event_is))]
-fn new_of(new: &NewSide<'_>, info: &EventInfo) -> Result<Event, EvalFault>
+fn new_of(new: &NewSide<'_>, info: &EventInfo) -> EvalResult<Event>
     ensures { Gives result (new_event new.now.program.now new.now.channel new.now.values.now
         (drop new.now.given info.now.fields)) }
 {
@@ -134,7 +134,7 @@ fn add_event(
     event: Event,
     info: &EventInfo,
     renamed: Items<(Event, Event)>,
-) -> Result<Items<(Event, Event)>, EvalFault>
+) -> EvalResult<Items<(Event, Event)>>
     ensures { Gives result
         (and_then (renamed_as (new_event new.now.program.now new.now.channel new.now.values.now) new.now.given
         event info.now) (λ more. Ok (renamed ++ more))) }
@@ -151,7 +151,7 @@ fn add_events(
     first: u32,
     events: &[EventInfo],
     renamed: Items<(Event, Event)>,
-) -> Result<Items<(Event, Event)>, EvalFault>
+) -> EvalResult<Items<(Event, Event)>>
     requires { first + length events.now ≤ 2 ^ 32 }
     ensures { Gives result
         (and_then
@@ -174,7 +174,7 @@ pub(crate) fn add_pair(
     bound: &[(u32, Atom)],
     pair: &(EventPart, EventPart),
     renamed: Items<(Event, Event)>,
-) -> Result<Items<(Event, Event)>, EvalFault>
+) -> EvalResult<Items<(Event, Event)>>
     ensures { Gives result (pair_walked program.now (with_bound bound.now []) pair.now renamed) }
 {
     let old = &pair.0;

@@ -12,7 +12,7 @@ use containers::Items;
 use csp_atoms::Atom;
 use csp_base::{Event, Stop};
 use csp_program::{EventPart, Gen, Program, ValueKind};
-use csp_values::{EvalFault, Walk, binding_under};
+use csp_values::{EvalResult, Walk, binding_under};
 use dl_limits::MOST_BINDINGS;
 use std::alloc::Global;
 
@@ -41,7 +41,7 @@ fn add_pairs(
     scope: &Scope<'_>,
     bound: &[(u32, Atom)],
     renamed: Items<(Event, Event)>,
-) -> Result<Items<(Event, Event)>, EvalFault>
+) -> EvalResult<Items<(Event, Event)>>
     ensures { Gives result (and_then (meant.pairs_renamed scope.now.program.now
         (with_bound bound.now []) scope.now.pairs.now) (λ more. Ok (renamed ++ more))) }
 {
@@ -55,7 +55,7 @@ fn add_pairs(
 }
 
 // One more binding.
-fn gather(scope: &Scope<'_>, bound: &[(u32, Atom)], tally: Tally) -> Result<Tally, EvalFault>
+fn gather(scope: &Scope<'_>, bound: &[(u32, Atom)], tally: Tally) -> EvalResult<Tally>
     ensures { GivesTally result (meant.binding_renamed scope.now.program.now scope.now.pairs.now
         (with_bound bound.now []) (gathering_of tally)) }
 {
@@ -71,7 +71,7 @@ fn gather(scope: &Scope<'_>, bound: &[(u32, Atom)], tally: Tally) -> Result<Tall
 }
 
 // What all bindings of generators rename.
-fn gather_all(scope: &Scope<'_>, gens: &[Gen], tally: Tally) -> Result<Tally, EvalFault>
+fn gather_all(scope: &Scope<'_>, gens: &[Gen], tally: Tally) -> EvalResult<Tally>
     ensures { GivesTally result (renamed_walk scope.now.program.now scope.now.pairs.now gens.now []
         (gathering_of tally)) }
 {
@@ -92,7 +92,7 @@ pub fn renaming_in(
     program: &Program,
     pairs: &[(EventPart, EventPart)],
     gens: &[Gen],
-) -> Result<Items<(Event, Event)>, EvalFault>
+) -> EvalResult<Items<(Event, Event)>>
     ensures { Gives result (meant.renaming_in program.now pairs.now gens.now) }
 {
     let scope = Scope {

@@ -5,12 +5,12 @@ ghost use Rattle.csp_program.specs.Substitution.{expr_with, gens_with, given_by,
 
 use crate::values::Values;
 use containers::{Boxed, Items};
-use csp_base::NoMemory;
+use csp_base::Made;
 use csp_program::copies::copy_value;
 use csp_program::{EventPart, Expr, Gen};
 
 // The use of a bound name.
-fn replace_name(name: u32, values: &Values<'_>) -> Result<Expr, NoMemory>
+fn replace_name(name: u32, values: &Values<'_>) -> Made<Expr>
     ensures { IfOk result (λ made. made ≡ named name (given_by values.now name)) }
 {
     match values.find(name)? {
@@ -20,7 +20,7 @@ fn replace_name(name: u32, values: &Values<'_>) -> Result<Expr, NoMemory>
 }
 
 /// Takes the value of the name away that the generator binds.
-pub(crate) fn pass(values: &mut Values<'_>, generator: &Gen) -> Result<(), NoMemory>
+pub(crate) fn pass(values: &mut Values<'_>, generator: &Gen) -> Made<()>
     ensures { OnOk result (given_by values.new ≡ (open_gen generator.now).1 (given_by values.old)) }
 {
     match generator {
@@ -32,7 +32,7 @@ pub(crate) fn pass(values: &mut Values<'_>, generator: &Gen) -> Result<(), NoMem
 /// The expression with the values in place of the names, wherever these are free.
 #[tactic(auto, using(crate::proofs::Forms::expr_out, csp_program::specs::declared::expressions::Expr::the_lemmas))]
 #[cycle(put_expr)]
-pub fn put_expr(expr: &Expr, values: &Values<'_>) -> Result<Expr, NoMemory>
+pub fn put_expr(expr: &Expr, values: &Values<'_>) -> Made<Expr>
     ensures { IfOk result (λ made. made ≡ expr_with (given_by values.now) expr.now) }
 {
     match expr {
@@ -66,12 +66,7 @@ pub fn put_expr(expr: &Expr, values: &Values<'_>) -> Result<Expr, NoMemory>
 
 // One of two expressions.
 #[cycle(put_expr)]
-fn choice(
-    c: &Boxed<Expr>,
-    a: &Boxed<Expr>,
-    b: &Boxed<Expr>,
-    values: &Values<'_>,
-) -> Result<Expr, NoMemory>
+fn choice(c: &Boxed<Expr>, a: &Boxed<Expr>, b: &Boxed<Expr>, values: &Values<'_>) -> Made<Expr>
     ensures { IfOk result (λ made. made ≡ Expr.If (expr_with (given_by values.now) c.now)
         (expr_with (given_by values.now) a.now) (expr_with (given_by values.now) b.now)) }
 {
@@ -82,11 +77,7 @@ fn choice(
 
 // The set of some expressions under generators.
 #[cycle(put_expr)]
-fn comprehension(
-    items: &Items<Expr>,
-    gens: &Items<Gen>,
-    values: &Values<'_>,
-) -> Result<Expr, NoMemory>
+fn comprehension(items: &Items<Expr>, gens: &Items<Gen>, values: &Values<'_>) -> Made<Expr>
     ensures { IfOk result (λ made. made ≡ Expr.Comp (map (expr_with (past gens.now (given_by values.now))) items.now)
         (gens_with (given_by values.now) gens.now)) }
 {
@@ -98,11 +89,7 @@ fn comprehension(
 
 // The set of the events that begin with some fronts, under generators.
 #[cycle(put_expr)]
-fn product(
-    parts: &Items<EventPart>,
-    gens: &Items<Gen>,
-    values: &Values<'_>,
-) -> Result<Expr, NoMemory>
+fn product(parts: &Items<EventPart>, gens: &Items<Gen>, values: &Values<'_>) -> Made<Expr>
     ensures { IfOk result (λ made. made ≡ Expr.Product
         (map (part_with (past gens.now (given_by values.now))) parts.now) (gens_with (given_by values.now) gens.now)) }
 {
@@ -114,7 +101,7 @@ fn product(
 
 // An expression on the heap.
 #[cycle(put_expr)]
-fn replace_boxed_expr(expr: &Boxed<Expr>, values: &Values<'_>) -> Result<Boxed<Expr>, NoMemory>
+fn replace_boxed_expr(expr: &Boxed<Expr>, values: &Values<'_>) -> Made<Boxed<Expr>>
     ensures { IfOk result (λ made. made ≡ expr_with (given_by values.now) expr.now) }
 {
     let alloc = values.alloc();
@@ -127,7 +114,7 @@ fn replace_two(
     a: &Boxed<Expr>,
     b: &Boxed<Expr>,
     values: &Values<'_>,
-) -> Result<(Boxed<Expr>, Boxed<Expr>), NoMemory>
+) -> Made<(Boxed<Expr>, Boxed<Expr>)>
     ensures { IfOk result (λ made. (made.0 ≡ expr_with (given_by values.now) a.now)
         × (made.1 ≡ expr_with (given_by values.now) b.now)) }
 {
@@ -138,7 +125,7 @@ fn replace_two(
 
 /// The expressions with the values in place of the names in each of them.
 #[cycle(put_expr)]
-pub fn put_exprs(exprs: &[Expr], values: &Values<'_>) -> Result<Items<Expr>, NoMemory>
+pub fn put_exprs(exprs: &[Expr], values: &Values<'_>) -> Made<Items<Expr>>
     ensures { IfOk result (λ made. made ≡ map (expr_with (given_by values.now)) exprs.now) }
 {
     let mut made = Items::new(values.alloc());
@@ -150,7 +137,7 @@ pub fn put_exprs(exprs: &[Expr], values: &Values<'_>) -> Result<Items<Expr>, NoM
 
 #[tactic(auto, using(crate::proofs::Forms::gen_forms))]
 #[cycle(put_expr)]
-fn replace_gen(generator: &Gen, values: &Values<'_>) -> Result<Gen, NoMemory>
+fn replace_gen(generator: &Gen, values: &Values<'_>) -> Made<Gen>
     ensures { IfOk result (λ made. made ≡ (open_gen generator.now).0 (given_by values.now)) }
 {
     match generator {
@@ -161,7 +148,7 @@ fn replace_gen(generator: &Gen, values: &Values<'_>) -> Result<Gen, NoMemory>
 
 /// Generators, each with the values of the names that those before it don't bind. The values that are left are those of the names that none of them binds.
 #[cycle(put_expr)]
-pub(crate) fn replace_gens(gens: &[Gen], values: &mut Values<'_>) -> Result<Items<Gen>, NoMemory>
+pub(crate) fn replace_gens(gens: &[Gen], values: &mut Values<'_>) -> Made<Items<Gen>>
     ensures made { IfOk result (λ made. made ≡ gens_with (given_by values.old) gens.now) }
     ensures left { OnOk result (given_by values.new ≡ past gens.now (given_by values.old)) }
 {
@@ -175,7 +162,7 @@ pub(crate) fn replace_gens(gens: &[Gen], values: &mut Values<'_>) -> Result<Item
 
 #[tactic(auto, using(crate::proofs::Forms::part_forms))]
 #[cycle(put_expr)]
-pub(crate) fn replace_part(part: &EventPart, values: &Values<'_>) -> Result<EventPart, NoMemory>
+pub(crate) fn replace_part(part: &EventPart, values: &Values<'_>) -> Made<EventPart>
     ensures { IfOk result (λ made. made ≡ part_with (given_by values.now) part.now) }
 {
     let fields = put_exprs(part.fields.as_slice(), values)?;
@@ -187,7 +174,7 @@ pub(crate) fn replace_part(part: &EventPart, values: &Values<'_>) -> Result<Even
 
 // The fronts of events.
 #[cycle(put_expr)]
-fn replace_parts(parts: &[EventPart], values: &Values<'_>) -> Result<Items<EventPart>, NoMemory>
+fn replace_parts(parts: &[EventPart], values: &Values<'_>) -> Made<Items<EventPart>>
     ensures { IfOk result (λ made. made ≡ map (part_with (given_by values.now)) parts.now) }
 {
     let mut made = Items::new(values.alloc());

@@ -6,12 +6,12 @@ ghost use Rattle.csp_program.specs.Substitution.{after, after_all, field_with, f
 use crate::expressions::{pass, put_expr, replace_gens, replace_part};
 use crate::values::Values;
 use containers::Items;
-use csp_base::NoMemory;
+use csp_base::Made;
 use csp_program::copies::copy_value;
 use csp_program::{EventPart, Expr, Field, Gen, Head};
 
 // The head that is a bound name.
-fn replace_head_name(name: u32, values: &Values<'_>) -> Result<Head, NoMemory>
+fn replace_head_name(name: u32, values: &Values<'_>) -> Made<Head>
     ensures { IfOk result (λ made. made ≡ head_named name (given_by values.now name)) }
 {
     match values.find(name)? {
@@ -21,7 +21,7 @@ fn replace_head_name(name: u32, values: &Values<'_>) -> Result<Head, NoMemory>
 }
 
 /// The head with the value of the bound name in its place, if it is one that gets a value.
-pub fn put_head(head: &Head, values: &Values<'_>) -> Result<Head, NoMemory>
+pub fn put_head(head: &Head, values: &Values<'_>) -> Made<Head>
     ensures { IfOk result (λ made. made ≡ head_with (given_by values.now) head.now) }
 {
     match head {
@@ -54,7 +54,7 @@ pub fn any_field_binds(fields: &[Field], values: &Values<'_>) -> bool
 }
 
 // Takes the value of the name away that the field binds.
-fn pass_field(values: &mut Values<'_>, field: &Field) -> Result<(), NoMemory>
+fn pass_field(values: &mut Values<'_>, field: &Field) -> Made<()>
     ensures { OnOk result (given_by values.new ≡ after field.now (given_by values.old)) }
 {
     match field {
@@ -64,7 +64,7 @@ fn pass_field(values: &mut Values<'_>, field: &Field) -> Result<(), NoMemory>
 }
 
 /// Takes the values of the names away that the fields bind.
-pub fn pass_fields(values: &mut Values<'_>, fields: &[Field]) -> Result<(), NoMemory>
+pub fn pass_fields(values: &mut Values<'_>, fields: &[Field]) -> Made<()>
     ensures { OnOk result (given_by values.new ≡ after_all fields.now (given_by values.old)) }
 {
     for field in fields {
@@ -74,7 +74,7 @@ pub fn pass_fields(values: &mut Values<'_>, fields: &[Field]) -> Result<(), NoMe
 }
 
 // An input.
-fn replace_input(name: u32, set: &Option<Expr>, values: &Values<'_>) -> Result<Field, NoMemory>
+fn replace_input(name: u32, set: &Option<Expr>, values: &Values<'_>) -> Made<Field>
     ensures { IfOk result (λ made. made ≡ field_with (given_by values.now) (Field.Get name set.now)) }
 {
     match set {
@@ -83,7 +83,7 @@ fn replace_input(name: u32, set: &Option<Expr>, values: &Values<'_>) -> Result<F
     }
 }
 
-fn replace_field(field: &Field, values: &Values<'_>) -> Result<Field, NoMemory>
+fn replace_field(field: &Field, values: &Values<'_>) -> Made<Field>
     ensures { IfOk result (λ made. made ≡ field_with (given_by values.now) field.now) }
 {
     match field {
@@ -94,10 +94,7 @@ fn replace_field(field: &Field, values: &Values<'_>) -> Result<Field, NoMemory>
 
 /// The fields of a prefix, each with the values of the names that those before it don't bind. The values that are left are those of the names that none
 /// of them binds.
-pub(crate) fn replace_fields(
-    fields: &[Field],
-    values: &mut Values<'_>,
-) -> Result<Items<Field>, NoMemory>
+pub(crate) fn replace_fields(fields: &[Field], values: &mut Values<'_>) -> Made<Items<Field>>
     ensures made { IfOk result (λ made. made ≡ fields_with (given_by values.old) fields.now) }
     ensures left { OnOk result (given_by values.new ≡ after_all fields.now (given_by values.old)) }
 {
@@ -109,10 +106,7 @@ pub(crate) fn replace_fields(
     Ok(made)
 }
 
-fn replace_pair(
-    pair: &(EventPart, EventPart),
-    values: &Values<'_>,
-) -> Result<(EventPart, EventPart), NoMemory>
+fn replace_pair(pair: &(EventPart, EventPart), values: &Values<'_>) -> Made<(EventPart, EventPart)>
     ensures { IfOk result (λ made. made ≡ pair_with (given_by values.now) pair.now) }
 {
     let old = replace_part(&pair.0, values)?;
@@ -124,7 +118,7 @@ fn replace_pair(
 fn replace_pairs(
     pairs: &[(EventPart, EventPart)],
     values: &Values<'_>,
-) -> Result<Items<(EventPart, EventPart)>, NoMemory>
+) -> Made<Items<(EventPart, EventPart)>>
     ensures { IfOk result (λ made. made ≡ map (pair_with (given_by values.now)) pairs.now) }
 {
     let mut made = Items::new(values.alloc());
@@ -135,7 +129,7 @@ fn replace_pairs(
 }
 
 // Takes the values of the names away that the generators bind.
-fn pass_gens(values: &mut Values<'_>, gens: &[Gen]) -> Result<(), NoMemory>
+fn pass_gens(values: &mut Values<'_>, gens: &[Gen]) -> Made<()>
     ensures { OnOk result (given_by values.new ≡ past gens.now (given_by values.old)) }
 {
     for generator in gens {
@@ -145,7 +139,7 @@ fn pass_gens(values: &mut Values<'_>, gens: &[Gen]) -> Result<(), NoMemory>
 }
 
 /// The fields of a prefix, each with the values of the names that those before it don't bind.
-pub fn put_fields(fields: &[Field], values: &Values<'_>) -> Result<Items<Field>, NoMemory>
+pub fn put_fields(fields: &[Field], values: &Values<'_>) -> Made<Items<Field>>
     ensures { IfOk result (λ made. made ≡ fields_with (given_by values.now) fields.now) }
 {
     let mut left = values.copy()?;
@@ -154,7 +148,7 @@ pub fn put_fields(fields: &[Field], values: &Values<'_>) -> Result<Items<Field>,
 }
 
 /// Generators, each with the values of the names that those before it don't bind.
-pub fn put_gens(gens: &[Gen], values: &Values<'_>) -> Result<Items<Gen>, NoMemory>
+pub fn put_gens(gens: &[Gen], values: &Values<'_>) -> Made<Items<Gen>>
     ensures { IfOk result (λ made. made ≡ gens_with (given_by values.now) gens.now) }
 {
     let mut left = values.copy()?;
@@ -167,7 +161,7 @@ pub fn put_pairs(
     pairs: &[(EventPart, EventPart)],
     gens: &[Gen],
     values: &Values<'_>,
-) -> Result<Items<(EventPart, EventPart)>, NoMemory>
+) -> Made<Items<(EventPart, EventPart)>>
     ensures { IfOk result (λ made. made ≡ map (pair_with (past gens.now (given_by values.now))) pairs.now) }
 {
     let mut left = values.copy()?;

@@ -7,13 +7,13 @@ use crate::expressions::{put_expr, put_exprs};
 use crate::fields::{put_gens, put_head, put_pairs, replace_fields};
 use crate::values::Values;
 use containers::{Boxed, Items};
-use csp_base::NoMemory;
+use csp_base::Made;
 use csp_program::{EventPart, Expr, Field, Gen, Head, Proc};
 
 /// The process with the values in place of the names, wherever these are free.
 #[tactic(auto, using(crate::proofs::Forms::proc_out, csp_program::specs::declared::processes::Proc::the_lemmas))]
 #[cycle(put_proc)]
-pub fn put_proc(proc: &Proc, values: &Values<'_>) -> Result<Proc, NoMemory>
+pub fn put_proc(proc: &Proc, values: &Values<'_>) -> Made<Proc>
     ensures { IfOk result (λ made. made ≡ proc_with (given_by values.now) proc.now) }
 {
     match proc {
@@ -45,12 +45,7 @@ pub fn put_proc(proc: &Proc, values: &Values<'_>) -> Result<Proc, NoMemory>
 
 // A prefix.
 #[cycle(put_proc)]
-fn prefix(
-    head: &Head,
-    fields: &Items<Field>,
-    p: &Boxed<Proc>,
-    values: &Values<'_>,
-) -> Result<Proc, NoMemory>
+fn prefix(head: &Head, fields: &Items<Field>, p: &Boxed<Proc>, values: &Values<'_>) -> Made<Proc>
     ensures { IfOk result (λ made. made ≡ Proc.Prefix (head_with (given_by values.now) head.now)
         (fields_with (given_by values.now) fields.now) (proc_with (after_all fields.now (given_by values.now)) p.now)) }
 {
@@ -64,7 +59,7 @@ fn replace_after(
     fields: &Items<Field>,
     p: &Boxed<Proc>,
     values: &Values<'_>,
-) -> Result<(Items<Field>, Boxed<Proc>), NoMemory>
+) -> Made<(Items<Field>, Boxed<Proc>)>
     ensures fields { IfOk result (λ made. made.0 ≡ fields_with (given_by values.now) fields.now) }
     ensures process { IfOk result (λ made. made.1 ≡ proc_with (after_all fields.now (given_by values.now)) p.now) }
 {
@@ -76,7 +71,7 @@ fn replace_after(
 
 // A process under a condition.
 #[cycle(put_proc)]
-fn guard(c: &Expr, p: &Boxed<Proc>, values: &Values<'_>) -> Result<Proc, NoMemory>
+fn guard(c: &Expr, p: &Boxed<Proc>, values: &Values<'_>) -> Made<Proc>
     ensures { IfOk result (λ made. made ≡ Proc.Guard (expr_with (given_by values.now) c.now)
         (proc_with (given_by values.now) p.now)) }
 {
@@ -86,7 +81,7 @@ fn guard(c: &Expr, p: &Boxed<Proc>, values: &Values<'_>) -> Result<Proc, NoMemor
 
 // One of two processes.
 #[cycle(put_proc)]
-fn choice(c: &Expr, p: &Boxed<Proc>, q: &Boxed<Proc>, values: &Values<'_>) -> Result<Proc, NoMemory>
+fn choice(c: &Expr, p: &Boxed<Proc>, q: &Boxed<Proc>, values: &Values<'_>) -> Made<Proc>
     ensures { IfOk result (λ made. made ≡ Proc.If (expr_with (given_by values.now) c.now)
         (proc_with (given_by values.now) p.now) (proc_with (given_by values.now) q.now)) }
 {
@@ -101,7 +96,7 @@ fn replication(
     set: &Expr,
     p: &Boxed<Proc>,
     values: &Values<'_>,
-) -> Result<(Expr, Boxed<Proc>), NoMemory>
+) -> Made<(Expr, Boxed<Proc>)>
     ensures set { IfOk result (λ made. made.0 ≡ expr_with (given_by values.now) set.now) }
     ensures process { IfOk result (λ made. made.1 ≡ proc_with (without name (given_by values.now)) p.now) }
 {
@@ -112,7 +107,7 @@ fn replication(
 
 // A process with a set hidden.
 #[cycle(put_proc)]
-fn hiding(p: &Boxed<Proc>, set: &Expr, values: &Values<'_>) -> Result<Proc, NoMemory>
+fn hiding(p: &Boxed<Proc>, set: &Expr, values: &Values<'_>) -> Made<Proc>
     ensures { IfOk result (λ made. made ≡ Proc.Hide (proc_with (given_by values.now) p.now)
         (expr_with (given_by values.now) set.now)) }
 {
@@ -127,7 +122,7 @@ fn renaming(
     pairs: &Items<(EventPart, EventPart)>,
     gens: &Items<Gen>,
     values: &Values<'_>,
-) -> Result<Proc, NoMemory>
+) -> Made<Proc>
     ensures { IfOk result (λ made. made ≡ Proc.Rename (proc_with (given_by values.now) p.now)
         (map (pair_with (past gens.now (given_by values.now))) pairs.now) (gens_with (given_by values.now) gens.now)) }
 {
@@ -138,7 +133,7 @@ fn renaming(
 
 // A process on the heap.
 #[cycle(put_proc)]
-fn replace_boxed_proc(proc: &Boxed<Proc>, values: &Values<'_>) -> Result<Boxed<Proc>, NoMemory>
+fn replace_boxed_proc(proc: &Boxed<Proc>, values: &Values<'_>) -> Made<Boxed<Proc>>
     ensures { IfOk result (λ made. made ≡ proc_with (given_by values.now) proc.now) }
 {
     let alloc = values.alloc();
@@ -151,7 +146,7 @@ fn replace_two(
     p: &Boxed<Proc>,
     q: &Boxed<Proc>,
     values: &Values<'_>,
-) -> Result<(Boxed<Proc>, Boxed<Proc>), NoMemory>
+) -> Made<(Boxed<Proc>, Boxed<Proc>)>
     ensures { IfOk result (λ made. (made.0 ≡ proc_with (given_by values.now) p.now)
         × (made.1 ≡ proc_with (given_by values.now) q.now)) }
 {
@@ -161,7 +156,7 @@ fn replace_two(
 }
 
 #[cycle(put_proc)]
-fn put_procs(procs: &[Proc], values: &Values<'_>) -> Result<Items<Proc>, NoMemory>
+fn put_procs(procs: &[Proc], values: &Values<'_>) -> Made<Items<Proc>>
     ensures { IfOk result (λ made. made ≡ map (proc_with (given_by values.now)) procs.now) }
 {
     let mut made = Items::new(values.alloc());

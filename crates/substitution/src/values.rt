@@ -7,7 +7,7 @@ ghost use Rattle.substitution.specs.Named.{NoneFrom};
 use crate::lookup::{end_by, find_bound, find_listed, first_of, first_of_bound};
 use containers::Items;
 use csp_atoms::Atom;
-use csp_base::NoMemory;
+use csp_base::Made;
 use csp_program::Value;
 use csp_program::copies::copy_value;
 use std::alloc::Global;
@@ -85,7 +85,7 @@ impl<'a> Values<'a> {
     }
 
     /// The same names and values.
-    pub fn copy(&self) -> Result<Values<'a>, NoMemory>
+    pub fn copy(&self) -> Made<Values<'a>>
         ensures { IfOk result (λ copy. copy ≡ self.now) }
     {
         Ok(Values {
@@ -100,7 +100,7 @@ impl<'a> Values<'a> {
     }
 
     /// The value of a name, if it gets one.
-    pub fn find(&self, name: u32) -> Result<Option<Value>, NoMemory>
+    pub fn find(&self, name: u32) -> Made<Option<Value>>
         ensures { IfOk result (λ found. found ≡ given_by self.now name) }
     {
         if self.hidden.as_slice().contains(&name) {
@@ -129,7 +129,7 @@ impl<'a> Values<'a> {
     }
 
     /// Takes the value of a name away.
-    pub fn hide(&mut self, name: u32) -> Result<(), NoMemory>
+    pub fn hide(&mut self, name: u32) -> Made<()>
         ensures { OnOk result (given_by self.new ≡ without name (given_by self.old)) }
     {
         if !self.has(name) {
@@ -140,7 +140,7 @@ impl<'a> Values<'a> {
     }
 
     /// The values without that of a name.
-    pub fn without(&self, name: u32) -> Result<Values<'a>, NoMemory>
+    pub fn without(&self, name: u32) -> Made<Values<'a>>
         ensures { IfOk result (λ left. given_by left ≡ without name (given_by self.now)) }
     {
         let mut left = self.copy()?;

@@ -6,7 +6,7 @@ ghost use Rattle.csp_tables.specs.Prelude.{SilentStep, RawStep};
 ghost use Rattle.digraph.specs.Prelude.{AreHeights, HasNoCircle, IsLeastCircle};
 ghost use Rattle.tau_order.specs.SilentRows.{AreSilentRows};
 
-use csp_base::{NoMemory, Stop};
+use csp_base::{Made, Stop};
 use csp_tables::RawTable;
 use digraph::{Circle, Heights, Rows, longest_walks};
 use std::alloc::Global;
@@ -27,7 +27,7 @@ pub fn heights(alloc: Global, table: &RawTable) -> Result<Heights, Stop<Circle>>
 }
 
 /// The silent steps as a digraph, whose vertices are the terms.
-pub fn silent_rows(alloc: Global, table: &RawTable) -> Result<Rows, NoMemory>
+pub fn silent_rows(alloc: Global, table: &RawTable) -> Made<Rows>
     ensures { IfOk result (λ rows. AreSilentRows table.now rows) }
 {
     let mut rows = Rows::new(alloc, table.count())?;

@@ -7,13 +7,13 @@ ghost use Rattle.term_pool.specs.Prelude.{arguments_at, choice_at, entry_layer, 
 use crate::entry::Entry;
 use crate::own_parts::{OwnParts, keep_choice};
 use containers::Items;
-use csp_base::NoMemory;
+use csp_base::Made;
 use pool_parts::{ProcId, put_values};
 use std::alloc::Global;
 use substitution::{Values, put_pairs};
 
 // The places with another first one.
-fn with_other_first(alloc: Global, ids: &[ProcId], below: ProcId) -> Result<Items<ProcId>, NoMemory>
+fn with_other_first(alloc: Global, ids: &[ProcId], below: ProcId) -> Made<Items<ProcId>>
     ensures { IfOk result (λ made. made ≡ other_first ids.now below) }
 {
     let Some((_, others)) = ids.split_first() else {
@@ -25,7 +25,7 @@ fn with_other_first(alloc: Global, ids: &[ProcId], below: ProcId) -> Result<Item
 }
 
 // The number of a choice with another first place.
-fn choice_with_first(parts: &mut OwnParts, place: usize, below: ProcId) -> Result<usize, NoMemory>
+fn choice_with_first(parts: &mut OwnParts, place: usize, below: ProcId) -> Made<usize>
     requires within { place < length parts.old.choices }
     ensures start { PartsStart parts.old parts.new }
     ensures made { IfOk result (λ made. slice_get parts.new.choices made
@@ -41,11 +41,7 @@ fn choice_with_first(parts: &mut OwnParts, place: usize, below: ProcId) -> Resul
 
 /// The entry with `below` in place of its first place, if it has any.
 #[tactic(auto, using(crate::proofs::EntryLemmas::starts_same))]
-pub(crate) fn entry_with_first(
-    parts: &mut OwnParts,
-    entry: Entry,
-    below: ProcId,
-) -> Result<Entry, NoMemory>
+pub(crate) fn entry_with_first(parts: &mut OwnParts, entry: Entry, below: ProcId) -> Made<Entry>
     requires fits { Fits parts.old entry }
     ensures start { PartsStart parts.old parts.new }
     ensures fits { IfOk result (Fits parts.new) }
@@ -82,7 +78,7 @@ pub(crate) fn at(ids: &Items<ProcId>, index: usize) -> ProcId
 
 // The entry with these places in place of its own, as many.
 #[tactic(auto, using(crate::proofs::EntryLemmas::starts_same))]
-fn with_places(parts: &mut OwnParts, entry: Entry, ids: &Items<ProcId>) -> Result<Entry, NoMemory>
+fn with_places(parts: &mut OwnParts, entry: Entry, ids: &Items<ProcId>) -> Made<Entry>
     requires fits { Fits parts.old entry }
     ensures start { PartsStart parts.old parts.new }
     ensures fits { IfOk result (Fits parts.new) }
@@ -107,7 +103,7 @@ fn with_places(parts: &mut OwnParts, entry: Entry, ids: &Items<ProcId>) -> Resul
 }
 
 // The number of an expression with the values put in.
-fn put_expr(parts: &mut OwnParts, place: usize, values: &Values<'_>) -> Result<usize, NoMemory>
+fn put_expr(parts: &mut OwnParts, place: usize, values: &Values<'_>) -> Made<usize>
     requires { place < length parts.old.exprs }
     ensures start { PartsStart parts.old parts.new }
     ensures made { IfOk result (λ made. slice_get parts.new.exprs made
@@ -117,7 +113,7 @@ fn put_expr(parts: &mut OwnParts, place: usize, values: &Values<'_>) -> Result<u
 }
 
 // The number of arguments with the values put in.
-fn put_arguments(parts: &mut OwnParts, place: usize, values: &Values<'_>) -> Result<usize, NoMemory>
+fn put_arguments(parts: &mut OwnParts, place: usize, values: &Values<'_>) -> Made<usize>
     requires { place < length parts.old.arguments }
     ensures start { PartsStart parts.old parts.new }
     ensures made { IfOk result (λ made. slice_get parts.new.arguments made
@@ -132,7 +128,7 @@ pub(crate) fn made_entry(
     entry: Entry,
     ids: &Items<ProcId>,
     values: &Values<'_>,
-) -> Result<Entry, NoMemory>
+) -> Made<Entry>
     requires fits { Fits parts.old entry }
     ensures start { PartsStart parts.old parts.new }
     ensures fits { IfOk result (Fits parts.new) }
@@ -145,7 +141,7 @@ pub(crate) fn made_entry(
 
 // The entry with the values in its own parts, each of which is kept.
 #[tactic(auto, using(crate::proofs::EntryLemmas::starts_same))]
-fn put_own(parts: &mut OwnParts, entry: Entry, values: &Values<'_>) -> Result<Entry, NoMemory>
+fn put_own(parts: &mut OwnParts, entry: Entry, values: &Values<'_>) -> Made<Entry>
     requires fits { Fits parts.old entry }
     ensures start { PartsStart parts.old parts.new }
     ensures fits { IfOk result (Fits parts.new) }
@@ -191,7 +187,7 @@ fn put_prefix(
     head: usize,
     fields: usize,
     values: &Values<'_>,
-) -> Result<(usize, usize), NoMemory>
+) -> Made<(usize, usize)>
     requires head { head < length parts.old.heads }
     requires fields { fields < length parts.old.fields }
     ensures start { PartsStart parts.old parts.new }
@@ -211,7 +207,7 @@ fn put_renaming(
     pairs: usize,
     gens: usize,
     values: &Values<'_>,
-) -> Result<(usize, usize), NoMemory>
+) -> Made<(usize, usize)>
     requires pairs { pairs < length parts.old.pairs }
     requires gens { gens < length parts.old.gens }
     ensures start { PartsStart parts.old parts.new }

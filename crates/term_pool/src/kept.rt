@@ -11,7 +11,7 @@ use crate::node::Node;
 use crate::node_measures::of_entry;
 use crate::own_parts::{OwnParts, keep_node, parts_once};
 use containers::{Items, Numbering, QuickKey};
-use csp_base::NoMemory;
+use csp_base::{Made, NoMemory};
 use pool_parts::{Measure, ProcId};
 use substitution::Values;
 
@@ -47,7 +47,7 @@ pub(crate) fn measure_at(nodes: &Nodes, id: ProcId) -> Measure
 }
 
 // The place of an entry, which is the next one where it is new. Where there is no memory for its measure, it is taken out again.
-fn put_entry(nodes: &mut Nodes, entry: Entry) -> Result<ProcId, NoMemory>
+fn put_entry(nodes: &mut Nodes, entry: Entry) -> Made<ProcId>
     requires kept { AreKept nodes.old }
     requires fits { Fits nodes.old.parts entry }
     requires below { layer_below (length (trees_in nodes.old)) (entry_layer nodes.old.parts entry) ≡ true }
@@ -70,7 +70,7 @@ fn put_entry(nodes: &mut Nodes, entry: Entry) -> Result<ProcId, NoMemory>
 }
 
 /// The place of the process that the node is.
-pub(crate) fn put_in(nodes: &mut Nodes, node: Node<'_>) -> Result<ProcId, NoMemory>
+pub(crate) fn put_in(nodes: &mut Nodes, node: Node<'_>) -> Made<ProcId>
     requires kept { AreKept nodes.old }
     requires below { places_below (length (trees_in nodes.old)) node ≡ true }
     ensures kept { AreKept nodes.new }
@@ -84,7 +84,7 @@ pub(crate) fn put_in(nodes: &mut Nodes, node: Node<'_>) -> Result<ProcId, NoMemo
 }
 
 /// The place of the process at `id` with that at `below` in place of its first sub-process.
-pub(crate) fn put_first_in(nodes: &mut Nodes, id: ProcId, below: ProcId) -> Result<ProcId, NoMemory>
+pub(crate) fn put_first_in(nodes: &mut Nodes, id: ProcId, below: ProcId) -> Made<ProcId>
     requires kept { AreKept nodes.old }
     requires id { id.0 < length (trees_in nodes.old) }
     requires below { below.0 < length (trees_in nodes.old) }
@@ -105,7 +105,7 @@ pub(crate) fn put_made_in(
     id: ProcId,
     ids: &Items<ProcId>,
     values: &Values<'_>,
-) -> Result<ProcId, NoMemory>
+) -> Made<ProcId>
     requires kept { AreKept nodes.old }
     requires within { id.0 < length (trees_in nodes.old) }
     requires made { StandAt (trees_in nodes.old) ids.now

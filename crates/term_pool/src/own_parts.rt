@@ -7,7 +7,7 @@ ghost use Rattle.csp_base.specs.Lists.{StandsIn};
 use crate::entry::Entry;
 use crate::node::Node;
 use containers::{Items, QuickKey};
-use csp_base::NoMemory;
+use csp_base::Made;
 use csp_program::{EventPart, Expr, Field, Gen, Head};
 use pool_parts::{ProcId, Store};
 use std::alloc::Global;
@@ -61,7 +61,7 @@ pub(crate) fn parts_once(parts: &OwnParts)
 }
 
 // The number of an expression.
-fn keep_expr(parts: &mut OwnParts, part: &Expr) -> Result<usize, NoMemory>
+fn keep_expr(parts: &mut OwnParts, part: &Expr) -> Made<usize>
     ensures start { PartsStart parts.old parts.new }
     ensures place { IfOk result (λ place. slice_get parts.new.exprs place ≡ Some part.now) }
     ensures err_only_new { OnErr result (StandsIn parts.old.exprs part.now → ⊥) }
@@ -70,7 +70,7 @@ fn keep_expr(parts: &mut OwnParts, part: &Expr) -> Result<usize, NoMemory>
 }
 
 // The number of arguments.
-fn keep_arguments(parts: &mut OwnParts, part: &Items<Expr>) -> Result<usize, NoMemory>
+fn keep_arguments(parts: &mut OwnParts, part: &Items<Expr>) -> Made<usize>
     ensures start { PartsStart parts.old parts.new }
     ensures place { IfOk result (λ place. slice_get parts.new.arguments place ≡ Some part.now) }
     ensures err_only_new { OnErr result (StandsIn parts.old.arguments part.now → ⊥) }
@@ -79,7 +79,7 @@ fn keep_arguments(parts: &mut OwnParts, part: &Items<Expr>) -> Result<usize, NoM
 }
 
 /// The number of the places of a choice.
-pub(crate) fn keep_choice(parts: &mut OwnParts, part: &Items<ProcId>) -> Result<usize, NoMemory>
+pub(crate) fn keep_choice(parts: &mut OwnParts, part: &Items<ProcId>) -> Made<usize>
     ensures start { PartsStart parts.old parts.new }
     ensures place { IfOk result (λ place. slice_get parts.new.choices place ≡ Some part.now) }
     ensures err_only_new { OnErr result (StandsIn parts.old.choices part.now → ⊥) }
@@ -88,11 +88,7 @@ pub(crate) fn keep_choice(parts: &mut OwnParts, part: &Items<ProcId>) -> Result<
 }
 
 // The numbers of a head and of fields.
-fn keep_prefix(
-    parts: &mut OwnParts,
-    head: &Head,
-    fields: &Items<Field>,
-) -> Result<(usize, usize), NoMemory>
+fn keep_prefix(parts: &mut OwnParts, head: &Head, fields: &Items<Field>) -> Made<(usize, usize)>
     ensures start { PartsStart parts.old parts.new }
     ensures heads { IfOk result (λ own. slice_get parts.new.heads own.0 ≡ Some head.now) }
     ensures fields { IfOk result (λ own. slice_get parts.new.fields own.1 ≡ Some fields.now) }
@@ -108,7 +104,7 @@ fn keep_renaming(
     parts: &mut OwnParts,
     pairs: &Items<(EventPart, EventPart)>,
     gens: &Items<Gen>,
-) -> Result<(usize, usize), NoMemory>
+) -> Made<(usize, usize)>
     ensures start { PartsStart parts.old parts.new }
     ensures pairs { IfOk result (λ own. slice_get parts.new.pairs own.0 ≡ Some pairs.now) }
     ensures gens { IfOk result (λ own. slice_get parts.new.gens own.1 ≡ Some gens.now) }
@@ -121,7 +117,7 @@ fn keep_renaming(
 
 /// The entry of a node, whose own parts are kept.
 #[tactic(auto, using(crate::proofs::EntryLemmas::starts_same))]
-pub(crate) fn keep_node(parts: &mut OwnParts, node: Node<'_>) -> Result<Entry, NoMemory>
+pub(crate) fn keep_node(parts: &mut OwnParts, node: Node<'_>) -> Made<Entry>
     ensures start { PartsStart parts.old parts.new }
     ensures fits { IfOk result (Fits parts.new) }
     ensures layer { IfOk result (λ entry. entry_layer parts.new entry ≡ shown node.entry) }

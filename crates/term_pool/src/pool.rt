@@ -11,7 +11,7 @@ use crate::own_parts::{no_parts, node_at};
 use crate::put::put_tree;
 use crate::substitute::substitute_at;
 use containers::{Items, Key, Numbering};
-use csp_base::NoMemory;
+use csp_base::Made;
 use csp_program::Proc;
 use pool_parts::{Measure, ProcId};
 use std::alloc::Global;
@@ -113,7 +113,7 @@ impl Pool {
     }
 
     /// The place of the process that the node is with the processes at its places. A new one goes to the end; for one that is known no memory is needed.
-    pub fn put_node(&mut self, node: Node<'_>) -> Result<ProcId, NoMemory>
+    pub fn put_node(&mut self, node: Node<'_>) -> Made<ProcId>
         requires { places_below (length self.old) node ≡ true }
         ensures process { IfOk result (λ id. slice_get self.new id.0 ≡ Some (tree_of self.old node.entry)) }
         ensures front { IsFront self.old self.new }
@@ -127,7 +127,7 @@ impl Pool {
 
     /// The place of the process at `id` with the process at `below` in place of its first sub-process; where it has none, of the process itself.
     /// A new one goes to the end. Its own parts are shared.
-    pub fn put_with_first(&mut self, id: ProcId, below: ProcId) -> Result<ProcId, NoMemory>
+    pub fn put_with_first(&mut self, id: ProcId, below: ProcId) -> Made<ProcId>
         requires id { id.0 < length self.old }
         requires below { below.0 < length self.old }
         ensures { Puts self.old self.new result (with_first (tree_at self.old id) (tree_at self.old below)) }
@@ -141,7 +141,7 @@ impl Pool {
         id: ProcId,
         ids: &Items<ProcId>,
         values: &Values<'_>,
-    ) -> Result<ProcId, NoMemory>
+    ) -> Made<ProcId>
         requires within { id.0 < length self.old }
         requires made { StandAt self.old ids.now (parts (proc_with (given_by values.now) (tree_at self.old id))) }
         ensures { Puts self.old self.new result (proc_with (given_by values.now) (tree_at self.old id)) }
@@ -150,7 +150,7 @@ impl Pool {
     }
 
     /// The place of the process, which is put into the pool with its sub-processes, each of them once. Where memory fails some of them are put.
-    pub fn put(&mut self, proc: &Proc) -> Result<ProcId, NoMemory>
+    pub fn put(&mut self, proc: &Proc) -> Made<ProcId>
         ensures process { IfOk result (λ id. slice_get self.new id.0 ≡ Some proc.now) }
         ensures front { IsFront self.old self.new }
         ensures known { Has self.old proc.now → self.new ≡ self.old }
@@ -162,7 +162,7 @@ impl Pool {
 
     /// The place of what the process at `id` is with the values in place of its free names. What isn't in the pool is put into it, with its
     /// sub-processes, each of them once. Where memory fails some of them are put.
-    pub fn put_all_in(&mut self, id: ProcId, values: &Values<'_>) -> Result<ProcId, NoMemory>
+    pub fn put_all_in(&mut self, id: ProcId, values: &Values<'_>) -> Made<ProcId>
         requires { id.0 < length self.old }
         ensures process { IfOk result (λ made. slice_get self.new made.0
             ≡ Some (proc_with (given_by values.now) (tree_at self.old id))) }

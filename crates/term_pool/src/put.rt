@@ -9,7 +9,7 @@ use crate::node::Node;
 use crate::pool::Pool;
 use crate::under::{one, two};
 use containers::Items;
-use csp_base::NoMemory;
+use csp_base::Made;
 use csp_program::Proc;
 use pool_parts::ProcId;
 
@@ -38,7 +38,7 @@ fn node_over<'a>(proc: &'a Proc, ids: &'a Items<ProcId>) -> Node<'a>
 
 /// The place of the process, which is put into the pool.
 #[cycle(put_tree)]
-pub(crate) fn put_tree(pool: &mut Pool, proc: &Proc) -> Result<ProcId, NoMemory>
+pub(crate) fn put_tree(pool: &mut Pool, proc: &Proc) -> Made<ProcId>
     ensures process { IfOk result (λ id. slice_get pool.new id.0 ≡ Some proc.now) }
     ensures grows { Grows pool.old pool.new (proc.now ∷ []) }
 {
@@ -49,7 +49,7 @@ pub(crate) fn put_tree(pool: &mut Pool, proc: &Proc) -> Result<ProcId, NoMemory>
 // The places of the sub-processes of the process, which are put into the pool.
 #[cycle(put_tree)]
 #[tactic(auto, using(csp_program::specs::declared::processes::Proc::the_lemmas))]
-fn put_below(pool: &mut Pool, proc: &Proc) -> Result<Items<ProcId>, NoMemory>
+fn put_below(pool: &mut Pool, proc: &Proc) -> Made<Items<ProcId>>
     ensures places { IfOk result (λ ids. StandAt pool.new ids (layer_parts (out-Proc proc.now))) }
     ensures grows { Grows pool.old pool.new (layer_parts (out-Proc proc.now)) }
 {
@@ -73,7 +73,7 @@ fn put_below(pool: &mut Pool, proc: &Proc) -> Result<Items<ProcId>, NoMemory>
 
 // The place of the process, which is put into the pool.
 #[cycle(put_tree)]
-fn put_one(pool: &mut Pool, p: &Proc) -> Result<Items<ProcId>, NoMemory>
+fn put_one(pool: &mut Pool, p: &Proc) -> Made<Items<ProcId>>
     ensures places { IfOk result (λ ids. StandAt pool.new ids (p.now ∷ [])) }
     ensures grows { Grows pool.old pool.new (p.now ∷ []) }
 {
@@ -83,7 +83,7 @@ fn put_one(pool: &mut Pool, p: &Proc) -> Result<Items<ProcId>, NoMemory>
 
 // The places of both processes, which are put into the pool.
 #[cycle(put_tree)]
-fn put_two(pool: &mut Pool, p: &Proc, q: &Proc) -> Result<Items<ProcId>, NoMemory>
+fn put_two(pool: &mut Pool, p: &Proc, q: &Proc) -> Made<Items<ProcId>>
     ensures places { IfOk result (λ ids. StandAt pool.new ids (p.now ∷ q.now ∷ [])) }
     ensures grows { Grows pool.old pool.new (p.now ∷ q.now ∷ []) }
 {
@@ -94,7 +94,7 @@ fn put_two(pool: &mut Pool, p: &Proc, q: &Proc) -> Result<Items<ProcId>, NoMemor
 
 // The places of the processes, which are put into the pool.
 #[cycle(put_tree)]
-fn put_trees(pool: &mut Pool, procs: &[Proc]) -> Result<Items<ProcId>, NoMemory>
+fn put_trees(pool: &mut Pool, procs: &[Proc]) -> Made<Items<ProcId>>
     ensures places { IfOk result (λ ids. StandAt pool.new ids procs.now) }
     ensures grows { Grows pool.old pool.new procs.now }
 {

@@ -8,7 +8,7 @@ ghost use Rattle.term_pool.specs.Prelude.{parts, Grows, StandAt, all_with, AreMa
 use crate::pool::Pool;
 use crate::under::{left_at, places_of};
 use containers::Items;
-use csp_base::NoMemory;
+use csp_base::{Made, NoMemory};
 use pool_parts::ProcId;
 use std::collections::HashMap;
 use substitution::Values;
@@ -21,7 +21,7 @@ fn find_visited(visited: &HashMap<usize, ProcId>, id: &ProcId) -> Option<ProcId>
 }
 
 // Keeps what a place became.
-fn remember(visited: &mut HashMap<usize, ProcId>, id: ProcId, made: ProcId) -> Result<(), NoMemory>
+fn remember(visited: &mut HashMap<usize, ProcId>, id: ProcId, made: ProcId) -> Made<()>
     ensures ok { OnOk result (Updates nat_eq visited.old visited.new id.0 (Some made)) }
     ensures err { OnErr result (IsUnchanged visited.old visited.new) }
 {
@@ -46,7 +46,7 @@ pub(crate) fn substitute_at(
     visited: &mut HashMap<usize, ProcId>,
     id: &ProcId,
     values: &Values<'_>,
-) -> Result<ProcId, NoMemory>
+) -> Made<ProcId>
     requires within { id.now.0 < length pool.old }
     requires visited { AreMade (given_by values.now) pool.old visited.old }
     ensures process { IfOk result (λ made. slice_get pool.new made.0
@@ -72,7 +72,7 @@ fn put_layer(
     visited: &mut HashMap<usize, ProcId>,
     id: ProcId,
     values: &Values<'_>,
-) -> Result<ProcId, NoMemory>
+) -> Made<ProcId>
     requires within { id.0 < length pool.old }
     requires visited { AreMade (given_by values.now) pool.old visited.old }
     ensures process { IfOk result (λ made. slice_get pool.new made.0
@@ -91,7 +91,7 @@ fn put_below(
     visited: &mut HashMap<usize, ProcId>,
     id: ProcId,
     values: &Values<'_>,
-) -> Result<Items<ProcId>, NoMemory>
+) -> Made<Items<ProcId>>
     requires within { id.0 < length pool.old }
     requires visited { AreMade (given_by values.now) pool.old visited.old }
     ensures places { IfOk result (λ made. StandAt pool.new made
@@ -109,12 +109,7 @@ fn put_below(
 
 // What becomes of the places, which are smaller than `id`, where none has been visited.
 #[cycle(substitute_at)]
-fn put_anew(
-    pool: &mut Pool,
-    id: ProcId,
-    ids: &[ProcId],
-    values: &Values<'_>,
-) -> Result<Items<ProcId>, NoMemory>
+fn put_anew(pool: &mut Pool, id: ProcId, ids: &[ProcId], values: &Values<'_>) -> Made<Items<ProcId>>
     requires within { id.0 < length pool.old }
     requires places { all_below id.0 ids.now ≡ true }
     ensures places { IfOk result (λ made. StandAt pool.new made (all_with (given_by values.now) pool.old ids.now)) }
@@ -132,7 +127,7 @@ fn put_all(
     id: ProcId,
     ids: &[ProcId],
     values: &Values<'_>,
-) -> Result<Items<ProcId>, NoMemory>
+) -> Made<Items<ProcId>>
     requires within { id.0 < length pool.old }
     requires places { all_below id.0 ids.now ≡ true }
     requires visited { AreMade (given_by values.now) pool.old visited.old }

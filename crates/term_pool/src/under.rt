@@ -6,13 +6,13 @@ ghost use Rattle.term_pool.specs.Prelude.{shown, left_below, IsLeft, places};
 
 use crate::node::Node;
 use containers::Items;
-use csp_base::NoMemory;
+use csp_base::Made;
 use pool_parts::ProcId;
 use std::alloc::Global;
 use substitution::{Values, any_field_binds, pass_fields};
 
 /// One place, as a list.
-pub(crate) fn one(alloc: Global, p: ProcId) -> Result<Items<ProcId>, NoMemory>
+pub(crate) fn one(alloc: Global, p: ProcId) -> Made<Items<ProcId>>
     ensures { IfOk result (λ ids. ids ≡ p ∷ []) }
 {
     let mut ids = Items::new(alloc);
@@ -21,7 +21,7 @@ pub(crate) fn one(alloc: Global, p: ProcId) -> Result<Items<ProcId>, NoMemory>
 }
 
 /// Two places, as a list.
-pub(crate) fn two(alloc: Global, p: ProcId, q: ProcId) -> Result<Items<ProcId>, NoMemory>
+pub(crate) fn two(alloc: Global, p: ProcId, q: ProcId) -> Made<Items<ProcId>>
     ensures { IfOk result (λ ids. ids ≡ p ∷ q ∷ []) }
 {
     let mut ids = Items::new(alloc);
@@ -30,14 +30,14 @@ pub(crate) fn two(alloc: Global, p: ProcId, q: ProcId) -> Result<Items<ProcId>, 
     Ok(ids)
 }
 
-fn copy_places(alloc: Global, ids: &Items<ProcId>) -> Result<Items<ProcId>, NoMemory>
+fn copy_places(alloc: Global, ids: &Items<ProcId>) -> Made<Items<ProcId>>
     ensures { IfOk result (λ copy. copy ≡ ids.now) }
 {
     Ok(Items::from_slice(alloc, ids.as_slice())?)
 }
 
 /// The places of the node's sub-processes.
-pub(crate) fn places_of(alloc: Global, node: Node<'_>) -> Result<Items<ProcId>, NoMemory>
+pub(crate) fn places_of(alloc: Global, node: Node<'_>) -> Made<Items<ProcId>>
     ensures { IfOk result (λ ids. ids ≡ places node.entry) }
 {
     match node {
@@ -81,7 +81,7 @@ fn binds_one(node: Node<'_>, values: &Values<'_>) -> bool
 }
 
 // Takes the values of the names away that the node binds in its sub-processes.
-fn pass_node(node: Node<'_>, values: &mut Values<'_>) -> Result<(), NoMemory>
+fn pass_node(node: Node<'_>, values: &mut Values<'_>) -> Made<()>
     ensures { OnOk result (given_by values.new ≡ left_below (shown node.entry) (given_by values.old)) }
 {
     match node {
@@ -103,10 +103,7 @@ fn pass_node(node: Node<'_>, values: &mut Values<'_>) -> Result<(), NoMemory>
 }
 
 /// The values that are left below the node; `None` where it binds none of the names.
-pub(crate) fn left_at<'a>(
-    node: Node<'_>,
-    values: &Values<'a>,
-) -> Result<Option<Values<'a>>, NoMemory>
+pub(crate) fn left_at<'a>(node: Node<'_>, values: &Values<'a>) -> Made<Option<Values<'a>>>
     ensures { IfOk result (IsLeft (shown node.entry) (given_by values.now)) }
 {
     if !binds_one(node, values) {

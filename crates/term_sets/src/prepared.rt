@@ -13,7 +13,7 @@ use crate::order::in_order;
 use crate::rows::{move_rows, moves_of};
 use acceptances::Offers;
 use containers::Items;
-use csp_base::{Event, EventSet, NoMemory};
+use csp_base::{Event, EventSet, Made};
 use csp_tables::RawTable;
 use digraph::Rows;
 use std::alloc::Global;
@@ -43,7 +43,7 @@ impl<'a> Model for Prepared<'a> {
 
 impl<'a> Prepared<'a> {
     /// The table with its steps sorted out. It goes over each of them once or twice.
-    pub fn new(alloc: Global, table: &'a RawTable) -> Result<Prepared<'a>, NoMemory>
+    pub fn new(alloc: Global, table: &'a RawTable) -> Made<Prepared<'a>>
         ensures { IfOk result (λ prepared. prepared ≡ table.now) }
     {
         let _count = table.count();
@@ -57,7 +57,7 @@ impl<'a> Prepared<'a> {
     }
 
     /// A mark for each term, of which none is set.
-    pub fn no_marks(&self, alloc: Global) -> Result<Vec<bool>, NoMemory>
+    pub fn no_marks(&self, alloc: Global) -> Made<Vec<bool>>
         ensures { IfOk result (λ marks. IsUnmarked self.now.count marks.items) }
     {
         vec![in alloc; false; self.silent.len()]
@@ -69,7 +69,7 @@ impl<'a> Prepared<'a> {
         alloc: Global,
         starts: &[u32],
         marks: &mut Vec<bool>,
-    ) -> Result<Items<u32>, NoMemory>
+    ) -> Made<Items<u32>>
         requires starts { All (λ t. t < self.now.count) starts.now }
         requires unmarked { IsUnmarked self.now.count marks.old.items }
         ensures members { IfOk result (λ set. (t : ℕ) → IsTrue (has set t) ↔ IsSilentlyReached self.now starts.now t) }
@@ -81,7 +81,7 @@ impl<'a> Prepared<'a> {
     }
 
     /// The terms to which the empty trace leads.
-    pub fn first_set(&self, alloc: Global) -> Result<Items<u32>, NoMemory>
+    pub fn first_set(&self, alloc: Global) -> Made<Items<u32>>
         ensures after { IfOk result (λ set. IsSetAfter self.now [] set) }
         ensures form { IfOk result (λ set. IsTermSet self.now set) }
     {
@@ -91,7 +91,7 @@ impl<'a> Prepared<'a> {
     }
 
     /// The steps by events of these terms, event after event.
-    pub fn moves(&self, alloc: Global, terms: &[u32]) -> Result<Vec<(Event, u32)>, NoMemory>
+    pub fn moves(&self, alloc: Global, terms: &[u32]) -> Made<Vec<(Event, u32)>>
         requires { All (λ t. t < self.now.count) terms.now }
         ensures steps { IfOk result (λ moves. AreMovesOf self.now terms.now moves.items) }
         ensures order { IfOk result (λ moves. IsNonDecreasingBy (λ step. step.0) moves.items) }
@@ -102,7 +102,7 @@ impl<'a> Prepared<'a> {
     }
 
     /// Of the sets of events that the stable ones among these terms offer, those that contain no smaller one.
-    pub fn acceptances(&self, alloc: Global, terms: &[u32]) -> Result<Vec<EventSet>, NoMemory>
+    pub fn acceptances(&self, alloc: Global, terms: &[u32]) -> Made<Vec<EventSet>>
         requires { All (λ t. t < self.now.count) terms.now }
         ensures { IfOk result (λ sets. AreMinimalOffers self.now terms.now sets.items) }
     {
@@ -112,7 +112,7 @@ impl<'a> Prepared<'a> {
 }
 
 // The silent steps and the steps by events, term by term.
-fn step_rows(alloc: Global, table: &RawTable) -> Result<(Rows, Vec<Items<(Event, u32)>>), NoMemory>
+fn step_rows(alloc: Global, table: &RawTable) -> Made<(Rows, Vec<Items<(Event, u32)>>)>
     ensures silent { IfOk result (λ rows. AreSilentRows table.now rows.0) }
     ensures moves { IfOk result (λ rows. AreMoveRows table.now rows.1.items) }
 {

@@ -5,15 +5,12 @@ ghost use Rattle.std.specs.List.{flat_map};
 ghost use Rattle.term_sets.specs.Moves.{AreMoveRows};
 
 use containers::{Items, empty_rows, push_at};
-use csp_base::{Event, NoMemory};
+use csp_base::{Event, Made};
 use csp_tables::RawTable;
 use std::alloc::Global;
 
 // For each term the list of its steps.
-pub(crate) fn move_rows(
-    alloc: Global,
-    table: &RawTable,
-) -> Result<Vec<Items<(Event, u32)>>, NoMemory>
+pub(crate) fn move_rows(alloc: Global, table: &RawTable) -> Made<Vec<Items<(Event, u32)>>>
     ensures { IfOk result (λ rows. AreMoveRows table.now rows.items) }
 {
     let mut rows = empty_rows(alloc, table.count() as usize)?;
@@ -22,7 +19,7 @@ pub(crate) fn move_rows(
 }
 
 // Adds each step of the table to the list of the term from which it leads. The lists are empty before.
-fn add_steps(rows: &mut Vec<Items<(Event, u32)>>, table: &RawTable) -> Result<(), NoMemory>
+fn add_steps(rows: &mut Vec<Items<(Event, u32)>>, table: &RawTable) -> Made<()>
     requires { rows.old.items ≡ replicate table.now.count [] }
     ensures { OnOk result (AreMoveRows table.now rows.new.items) }
 {
@@ -37,7 +34,7 @@ pub(crate) fn moves_of(
     alloc: Global,
     rows: &[Items<(Event, u32)>],
     terms: &[u32],
-) -> Result<Vec<(Event, u32)>, NoMemory>
+) -> Made<Vec<(Event, u32)>>
     requires { All (λ n. n < length rows.now) terms.now }
     ensures { IfOk result (λ moves. moves.items ≡ flat_map (λ n. slice_index_or rows.now n []) terms.now) }
 {

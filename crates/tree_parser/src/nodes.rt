@@ -6,7 +6,7 @@ ghost use Rattle.csp_grammar.specs.Grammar.{choice_of, event_tree, part_tree};
 ghost use Rattle.tree_reading.specs.Starts.{choice, each_tree};
 
 use containers::{Boxed, Items};
-use csp_base::{BinOp, Name, NoMemory, SetOp};
+use csp_base::{BinOp, Made, Name, SetOp};
 use csp_text::{EventTree, FieldTree, GenTree, PartTree, Tree};
 use std::alloc::Global;
 use tree_reading::deep::{Deep, DeepTree, greater};
@@ -14,7 +14,7 @@ use tree_reading::look::Chain;
 use tree_reading::read::{BoundReading, Reading};
 
 /// A node that is made.
-pub(crate) type Node = Result<DeepTree, NoMemory>;
+pub(crate) type Node = Made<DeepTree>;
 
 /// Trees in a list.
 pub(crate) type Trees = Deep<Items<Tree>>;

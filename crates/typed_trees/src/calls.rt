@@ -7,9 +7,9 @@ ghost use Rattle.script_names.specs.Typed.{all_bind, exprs};
 
 use crate::walk::Walk;
 use containers::Items;
+use csp_base::Made;
 use csp_program::{Expr, Net, Proc};
 use csp_text::Tree;
-use script_names::Made;
 
 impl<'a> Walk<'a> {
     /// A tree as an expression. Its binding tokens have the numbers from the next one on.

@@ -8,10 +8,9 @@ ghost use Rattle.typed_trees.specs.Words.{after_gen, after_gens, bound, expr_at,
 use crate::counts::{count_parts, count_trees};
 use crate::walk::Walk;
 use containers::{Boxed, Items};
-use csp_base::Name;
+use csp_base::{Made, Name};
 use csp_program::{EventPart, Expr, Gen};
 use csp_text::{GenTree, PartTree, Tree};
-use script_names::Made;
 
 impl<'a> Walk<'a> {
     /// A tree as an expression. What is a process there, which nothing is in a script without faults, is 0.

@@ -7,10 +7,9 @@ ghost use Rattle.typed_trees.specs.Words.{net_at, networked_at, proc_at};
 
 use crate::walk::Walk;
 use containers::{Boxed, Items};
-use csp_base::Name;
+use csp_base::{Made, Name};
 use csp_program::{Expr, Net};
 use csp_text::Tree;
-use script_names::Made;
 
 impl<'a> Walk<'a> {
     // Whether a tree holds, through the parts of `if`s, a parallel or the use of a network definition.

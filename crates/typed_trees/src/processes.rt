@@ -8,10 +8,9 @@ ghost use Rattle.typed_trees.specs.Words.{after_field, after_fields, bound, expr
 use crate::counts::count_pairs;
 use crate::walk::Walk;
 use containers::{Boxed, Items};
-use csp_base::Name;
+use csp_base::{Made, Name};
 use csp_program::{EventPart, Expr, Field, Gen, Proc};
 use csp_text::{EventTree, FieldTree, GenTree, PartTree, Tree};
-use script_names::Made;
 
 // An expression from the heap, where there is one.
 fn out_of_box(set: Option<Boxed<Expr>>) -> Option<Expr>

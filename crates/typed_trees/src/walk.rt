@@ -8,11 +8,11 @@ ghost use Rattle.typed_trees.specs.Words as words;
 
 use crate::counts::count_tree;
 use crate::names::{channel_number, definition_number, head_of, is_network, name_alone};
-use csp_base::Name;
+use csp_base::{Made, Name};
 use csp_program::{Expr, Head};
 use csp_text::Tree;
 use name_tables::{Dictionary, Meanings, Scope};
-use script_names::{Kind, Made};
+use script_names::Kind;
 use std::alloc::Global;
 use std::marker::Model;
 

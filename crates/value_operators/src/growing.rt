@@ -6,10 +6,10 @@ ghost use Rattle.csp_atoms.specs.Sets.{fits, union_of, with_atom};
 ghost use Rattle.csp_program.specs.Atoms.{added, limited};
 ghost use Rattle.value_operators.specs.Prelude.{Gives, IsParted};
 
-use crate::EvalFault;
+use crate::EvalResult;
 use csp_atoms::atom::order;
 use csp_atoms::{Atom, AtomSet};
-use csp_base::{NoMemory, Stop};
+use csp_base::{Made, NoMemory, Stop};
 use csp_program::ValueKind;
 use dl_limits::MOST_ELEMENTS;
 use std::alloc::Global;
@@ -57,7 +57,7 @@ fn goes_last(atoms: &AtomSet, one: &Atom) -> bool {
 }
 
 // The set with an atom of its kind.
-fn with_one(atoms: AtomSet, one: Atom) -> Result<AtomSet, NoMemory>
+fn with_one(atoms: AtomSet, one: Atom) -> Made<AtomSet>
     requires { fits atoms one ≡ true }
     ensures { IfOk result (λ more. more ≡ with_atom atoms one) }
 {
@@ -76,7 +76,7 @@ fn are_few(settled: usize, waiting: usize) -> bool
 }
 
 // The members of both parts.
-fn merge(alloc: Global, settled: &AtomSet, waiting: &AtomSet) -> Result<AtomSet, NoMemory>
+fn merge(alloc: Global, settled: &AtomSet, waiting: &AtomSet) -> Made<AtomSet>
     ensures { IfOk result (λ all. all ≡ union_of settled.now waiting.now) }
 {
     match settled.union(alloc, waiting) {
@@ -86,7 +86,7 @@ fn merge(alloc: Global, settled: &AtomSet, waiting: &AtomSet) -> Result<AtomSet,
 }
 
 // The set with an atom that both parts take, in the part where it costs least.
-fn put(settled: AtomSet, waiting: AtomSet, one: Atom) -> Result<GrowingSet, NoMemory>
+fn put(settled: AtomSet, waiting: AtomSet, one: Atom) -> Made<GrowingSet>
     requires parted { IsParted settled waiting }
     requires settled_takes { fits settled one ≡ true }
     requires waiting_takes { fits waiting one ≡ true }
@@ -104,11 +104,7 @@ fn put(settled: AtomSet, waiting: AtomSet, one: Atom) -> Result<GrowingSet, NoMe
 }
 
 // The set in one part, unless it has too many elements.
-fn settle_parts(
-    alloc: Global,
-    settled: &AtomSet,
-    waiting: &AtomSet,
-) -> Result<GrowingSet, EvalFault>
+fn settle_parts(alloc: Global, settled: &AtomSet, waiting: &AtomSet) -> EvalResult<GrowingSet>
     requires { IsParted settled.now waiting.now }
     ensures { Gives result (limited (union_of settled.now waiting.now)) }
 {
@@ -134,7 +130,7 @@ impl GrowingSet {
     }
 
     // The set, unless it has too many elements.
-    fn limit(self, alloc: Global) -> Result<GrowingSet, EvalFault>
+    fn limit(self, alloc: Global) -> EvalResult<GrowingSet>
         ensures { Gives result (limited self) }
     {
         if are_few(self.settled.len(), self.waiting.len()) {
@@ -144,7 +140,7 @@ impl GrowingSet {
     }
 
     /// The set with one more atom. An atom of another kind has the fault `Kind`; more than 16,384 elements have the fault `SetLimit`.
-    pub fn with(self, alloc: Global, one: Atom) -> Result<GrowingSet, EvalFault>
+    pub fn with(self, alloc: Global, one: Atom) -> EvalResult<GrowingSet>
         ensures { Gives result (added self one) }
     {
         let GrowingSet { settled, waiting } = self;
@@ -168,7 +164,7 @@ impl GrowingSet {
     }
 
     /// The set in one part.
-    pub fn settle(self, alloc: Global) -> Result<GrowingSet, NoMemory>
+    pub fn settle(self, alloc: Global) -> Made<GrowingSet>
         ensures { IfOk result (λ atoms. atoms ≡ self) }
     {
         if self.waiting.is_empty() {
@@ -182,7 +178,7 @@ impl GrowingSet {
     }
 
     /// The set.
-    pub fn into_set(self, alloc: Global) -> Result<AtomSet, NoMemory>
+    pub fn into_set(self, alloc: Global) -> Made<AtomSet>
         ensures { IfOk result (λ atoms. atoms ≡ self) }
     {
         let GrowingSet { settled, waiting } = self;

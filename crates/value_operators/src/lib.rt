@@ -14,3 +14,6 @@ use csp_program::ValueKind;
 
 /// Why an expression was not evaluated: want of memory, or the kind of its first fault from the left.
 pub type EvalFault = Stop<ValueKind>;
+
+/// What an evaluation gives, unless there is no value or memory runs out.
+pub type EvalResult<T> = Result<T, EvalFault>;

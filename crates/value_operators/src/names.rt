@@ -4,7 +4,7 @@ ghost use Rattle.std.specs.Prelude.{◌≡◌, ◌++◌, Ok, IsTrue};
 ghost use Rattle.csp_program.specs.Value.{bound_value, bound_to};
 ghost use Rattle.value_operators.specs.Prelude.{ArePlaces, env_in, numbered_from, parameters, Gives};
 
-use crate::EvalFault;
+use crate::EvalResult;
 use csp_atoms::{Atom, Value};
 use csp_base::Stop;
 use csp_program::ValueKind;
@@ -24,7 +24,7 @@ pub struct Names<'a> {
 }
 
 /// The same value. The only fault is want of memory.
-pub fn copy_value(alloc: Global, value: &Value) -> Result<Value, EvalFault>
+pub fn copy_value(alloc: Global, value: &Value) -> EvalResult<Value>
     ensures { Gives result (Ok value.now) }
 {
     Ok(value.try_clone(alloc)?)
@@ -73,7 +73,7 @@ pub fn names_in<'a>(params: &'a [u32], args: &'a [Value]) -> Names<'a>
 }
 
 // The value of a parameter whose number is its place.
-fn at_place(alloc: Global, placed: &[Value], slot: u32) -> Result<Value, EvalFault>
+fn at_place(alloc: Global, placed: &[Value], slot: u32) -> EvalResult<Value>
     ensures { Gives result (bound_value (numbered_from 0 placed.now) slot) }
 {
     match placed.get(slot as usize) {
@@ -83,7 +83,7 @@ fn at_place(alloc: Global, placed: &[Value], slot: u32) -> Result<Value, EvalFau
 }
 
 // The value of a parameter.
-fn argument(alloc: Global, names: &Names<'_>, slot: u32) -> Result<Value, EvalFault>
+fn argument(alloc: Global, names: &Names<'_>, slot: u32) -> EvalResult<Value>
     ensures { Gives result (bound_value (parameters names.now) slot) }
 {
     let mut params = names.params;
@@ -102,7 +102,7 @@ fn argument(alloc: Global, names: &Names<'_>, slot: u32) -> Result<Value, EvalFa
 }
 
 /// The value of the name with the number `slot`, of the one bound last. Where no name has the number, there is a fault of kind `Kind`.
-pub fn bound_value(alloc: Global, names: &Names<'_>, slot: u32) -> Result<Value, EvalFault>
+pub fn bound_value(alloc: Global, names: &Names<'_>, slot: u32) -> EvalResult<Value>
     ensures { Gives result (bound_value (env_in names.now) slot) }
 {
     let mut rest = names.bound;

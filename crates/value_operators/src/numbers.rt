@@ -7,7 +7,7 @@ ghost use Rattle.value_laws.specs.Numbers.{field_place};
 ghost use Rattle.value_operators.specs.Forms as form;
 ghost use Rattle.value_operators.specs.Gives.{Gives};
 
-use crate::EvalFault;
+use crate::EvalResult;
 use csp_atoms::{AtomSet, Value};
 use csp_base::Stop;
 use csp_program::{Channel, EventPart, ValueKind};
@@ -46,7 +46,7 @@ fn first_of(channels: &[Channel], channel: u32) -> u32
 }
 
 /// The place of a value among the values of a field. A value that is none of them has the kind `OutsideChannel`.
-pub fn place_in(set: &AtomSet, value: &Value) -> Result<u64, EvalFault>
+pub fn place_in(set: &AtomSet, value: &Value) -> EvalResult<u64>
     ensures { Gives result (field_place set.now value.now) }
 {
     match value {

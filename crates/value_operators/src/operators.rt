@@ -6,7 +6,7 @@ ghost use Rattle.csp_program.specs.Prelude.{and_then, as_atom, as_number, as_tru
 ghost use Rattle.csp_program.specs.Value as meant;
 ghost use Rattle.value_operators.specs.Prelude.{Gives, first_half, on_two_numbers, decided_by};
 
-use crate::EvalFault;
+use crate::EvalResult;
 use csp_atoms::{Atom, AtomSet, Value, atom};
 use csp_base::{BinOp, Stop};
 use csp_program::ValueKind;
@@ -16,7 +16,7 @@ use dl_limits::GREATEST_NUMBER;
 const GREATEST: i64 = GREATEST_NUMBER as i64;
 
 /// The atom that a value is. A set has the fault `Kind`.
-pub fn to_atom(value: &Value) -> Result<Atom, EvalFault>
+pub fn to_atom(value: &Value) -> EvalResult<Atom>
     ensures { Gives result (as_atom value.now) }
 {
     match value {
@@ -26,7 +26,7 @@ pub fn to_atom(value: &Value) -> Result<Atom, EvalFault>
 }
 
 /// The number that a value is. Any other value has the fault `Kind`.
-pub fn to_number(value: &Value) -> Result<i64, EvalFault>
+pub fn to_number(value: &Value) -> EvalResult<i64>
     ensures { Gives result (as_number value.now) }
 {
     match value {
@@ -36,7 +36,7 @@ pub fn to_number(value: &Value) -> Result<i64, EvalFault>
 }
 
 /// The truth value that a value is. Any other value has the fault `Kind`.
-pub fn to_truth(value: &Value) -> Result<bool, EvalFault>
+pub fn to_truth(value: &Value) -> EvalResult<bool>
     ensures { Gives result (as_truth value.now) }
 {
     match value {
@@ -46,7 +46,7 @@ pub fn to_truth(value: &Value) -> Result<bool, EvalFault>
 }
 
 /// The set that a value is. An atom has the fault `Kind`.
-pub fn to_set(value: Value) -> Result<AtomSet, EvalFault>
+pub fn to_set(value: Value) -> EvalResult<AtomSet>
     ensures { Gives result (as_set value) }
 {
     match value {
@@ -56,7 +56,7 @@ pub fn to_set(value: Value) -> Result<AtomSet, EvalFault>
 }
 
 // The number, unless it is out of range.
-fn number_value(number: i64) -> Result<Value, EvalFault>
+fn number_value(number: i64) -> EvalResult<Value>
     ensures { Gives result (in_range number) }
 {
     if -GREATEST <= number && number <= GREATEST {
@@ -67,7 +67,7 @@ fn number_value(number: i64) -> Result<Value, EvalFault>
 }
 
 /// The negative of a number. Any other value has the fault `Kind`; a negative below -1,000,000 or above 1,000,000 has the fault `Range`.
-pub fn negate(value: &Value) -> Result<Value, EvalFault>
+pub fn negate(value: &Value) -> EvalResult<Value>
     ensures { Gives result (and_then (as_number value.now) (λ n. in_range (neg_ℤ n))) }
 {
     let number = to_number(value)?;
@@ -78,7 +78,7 @@ pub fn negate(value: &Value) -> Result<Value, EvalFault>
 }
 
 /// The other truth value. Any other value has the fault `Kind`.
-pub fn invert(value: &Value) -> Result<Value, EvalFault>
+pub fn invert(value: &Value) -> EvalResult<Value>
     ensures { Gives result (and_then (as_truth value.now) (λ b. Ok (truth (not b)))) }
 {
     let truth = to_truth(value)?;
@@ -86,7 +86,7 @@ pub fn invert(value: &Value) -> Result<Value, EvalFault>
 }
 
 // The value of the whole, where the truth value that is its first operand decides it.
-fn decide_by_truth(decides: bool, first: &Value) -> Result<Option<Value>, EvalFault>
+fn decide_by_truth(decides: bool, first: &Value) -> EvalResult<Option<Value>>
     ensures { Gives result (and_then (as_truth first.now) (λ b. Ok (decided_by decides b))) }
 {
     let truth = to_truth(first)?;
@@ -97,7 +97,7 @@ fn decide_by_truth(decides: bool, first: &Value) -> Result<Option<Value>, EvalFa
 }
 
 // A first operand that has to be an atom decides nothing.
-fn undecided_atom(first: &Value) -> Result<Option<Value>, EvalFault>
+fn undecided_atom(first: &Value) -> EvalResult<Option<Value>>
     ensures { Gives result (and_then (as_atom first.now) (λ a. Ok None)) }
 {
     to_atom(first)?;
@@ -105,7 +105,7 @@ fn undecided_atom(first: &Value) -> Result<Option<Value>, EvalFault>
 }
 
 // A first operand that has to be a number decides nothing.
-fn undecided_number(first: &Value) -> Result<Option<Value>, EvalFault>
+fn undecided_number(first: &Value) -> EvalResult<Option<Value>>
     ensures { Gives result (and_then (as_number first.now) (λ a. Ok None)) }
 {
     to_number(first)?;
@@ -113,7 +113,7 @@ fn undecided_number(first: &Value) -> Result<Option<Value>, EvalFault>
 }
 
 /// The value of the whole, where its first operand decides it.
-pub fn decide(op: BinOp, first: &Value) -> Result<Option<Value>, EvalFault>
+pub fn decide(op: BinOp, first: &Value) -> EvalResult<Option<Value>>
     ensures { Gives result (first_half op first.now) }
 {
     match op {
@@ -126,7 +126,7 @@ pub fn decide(op: BinOp, first: &Value) -> Result<Option<Value>, EvalFault>
 }
 
 // The sum, unless it is out of range.
-fn sum(left: i64, right: i64) -> Result<Value, EvalFault>
+fn sum(left: i64, right: i64) -> EvalResult<Value>
     ensures { Gives result (in_range (left +ℤ right)) }
 {
     match left.checked_add(right) {
@@ -136,7 +136,7 @@ fn sum(left: i64, right: i64) -> Result<Value, EvalFault>
 }
 
 // The difference, unless it is out of range.
-fn difference(left: i64, right: i64) -> Result<Value, EvalFault>
+fn difference(left: i64, right: i64) -> EvalResult<Value>
     ensures { Gives result (in_range (left -ℤ right)) }
 {
     match left.checked_sub(right) {
@@ -146,7 +146,7 @@ fn difference(left: i64, right: i64) -> Result<Value, EvalFault>
 }
 
 // The product, unless it is out of range.
-fn product(left: i64, right: i64) -> Result<Value, EvalFault>
+fn product(left: i64, right: i64) -> EvalResult<Value>
     ensures { Gives result (in_range (left *ℤ right)) }
 {
     match left.checked_mul(right) {
@@ -156,7 +156,7 @@ fn product(left: i64, right: i64) -> Result<Value, EvalFault>
 }
 
 // The quotient rounded towards the lower number, for a divisor of at least 1.
-fn quotient_of(left: i64, right: i64) -> Result<Value, EvalFault>
+fn quotient_of(left: i64, right: i64) -> EvalResult<Value>
     ensures { Gives result (divided quotient left right) }
 {
     if right < 1 {
@@ -166,7 +166,7 @@ fn quotient_of(left: i64, right: i64) -> Result<Value, EvalFault>
 }
 
 // The remainder, from 0 on, for a divisor of at least 1.
-fn remainder_of(left: i64, right: i64) -> Result<Value, EvalFault>
+fn remainder_of(left: i64, right: i64) -> EvalResult<Value>
     ensures { Gives result (divided remainder left right) }
 {
     if right < 1 {
@@ -176,14 +176,14 @@ fn remainder_of(left: i64, right: i64) -> Result<Value, EvalFault>
 }
 
 // A truth value.
-fn truth_value(truth: bool) -> Result<Value, EvalFault>
+fn truth_value(truth: bool) -> EvalResult<Value>
     ensures { Gives result (Ok (meant.truth truth)) }
 {
     Ok(Value::One(Atom::Truth(truth)))
 }
 
 // What an operator on two numbers gives.
-fn on_numbers(op: BinOp, left: i64, right: i64) -> Result<Value, EvalFault>
+fn on_numbers(op: BinOp, left: i64, right: i64) -> EvalResult<Value>
     ensures { Gives result (on_two_numbers op left right) }
 {
     match op {
@@ -201,7 +201,7 @@ fn on_numbers(op: BinOp, left: i64, right: i64) -> Result<Value, EvalFault>
 }
 
 // What an operator on two numbers gives of two values.
-fn apply_to_numbers(op: BinOp, first: &Value, second: &Value) -> Result<Value, EvalFault>
+fn apply_to_numbers(op: BinOp, first: &Value, second: &Value) -> EvalResult<Value>
     ensures { Gives result (meant.on_numbers (on_two_numbers op) first.now (Ok second.now)) }
 {
     let left = to_number(first)?;
@@ -218,7 +218,7 @@ fn is_one_atom(left: &Atom, right: &Atom) -> bool
 }
 
 // What `==` gives of two values.
-fn equal(first: &Value, second: &Value) -> Result<Value, EvalFault>
+fn equal(first: &Value, second: &Value) -> EvalResult<Value>
     ensures { Gives result (meant.on_atoms same first.now (Ok second.now)) }
 {
     let left = to_atom(first)?;
@@ -230,7 +230,7 @@ fn equal(first: &Value, second: &Value) -> Result<Value, EvalFault>
 }
 
 // What `!=` gives of two values.
-fn unequal(first: &Value, second: &Value) -> Result<Value, EvalFault>
+fn unequal(first: &Value, second: &Value) -> EvalResult<Value>
     ensures { Gives result (meant.on_atoms (λ a b. not (same a b)) first.now (Ok second.now)) }
 {
     let left = to_atom(first)?;
@@ -242,7 +242,7 @@ fn unequal(first: &Value, second: &Value) -> Result<Value, EvalFault>
 }
 
 // What `or`, for true, and `and`, for false, give of two values.
-fn join_truths(decides: bool, first: &Value, second: &Value) -> Result<Value, EvalFault>
+fn join_truths(decides: bool, first: &Value, second: &Value) -> EvalResult<Value>
     ensures { Gives result (meant.on_truths decides first.now (Ok second.now)) }
 {
     let left = to_truth(first)?;
@@ -255,7 +255,7 @@ fn join_truths(decides: bool, first: &Value, second: &Value) -> Result<Value, Ev
 
 /// What an operator gives of two values. An operand of a kind that the operator doesn't take has the fault `Kind`, a result below -1,000,000 or above
 /// 1,000,000 the fault `Range`, and a divisor below 1 the fault `Division`; where the first operand decides, the second may be anything.
-pub fn apply(op: BinOp, first: &Value, second: &Value) -> Result<Value, EvalFault>
+pub fn apply(op: BinOp, first: &Value, second: &Value) -> EvalResult<Value>
     ensures { Gives result (binary op first.now (Ok second.now)) }
 {
     match op {

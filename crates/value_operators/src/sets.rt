@@ -9,11 +9,11 @@ ghost use Rattle.csp_program.specs.Value as meant;
 ghost use Rattle.value_laws.specs.Numbers.{events_from};
 ghost use Rattle.value_operators.specs.Gives.{Gives};
 
-use crate::EvalFault;
+use crate::EvalResult;
 use crate::growing::GrowingSet;
 use crate::operators::to_atom;
 use csp_atoms::{Atom, AtomSet, Value};
-use csp_base::{Event, NoMemory, SetOp, Stop};
+use csp_base::{Event, Made, NoMemory, SetOp, Stop};
 use csp_program::ValueKind;
 use dl_limits::MOST_ELEMENTS;
 use std::alloc::Global;
@@ -22,7 +22,7 @@ use std::alloc::Global;
 const MANY_EVENTS: u32 = 8;
 
 // The set, unless it has too many elements.
-fn within_limit(atoms: AtomSet) -> Result<AtomSet, EvalFault>
+fn within_limit(atoms: AtomSet) -> EvalResult<AtomSet>
     ensures { Gives result (limited atoms) }
 {
     if atoms.len() > MOST_ELEMENTS {
@@ -32,7 +32,7 @@ fn within_limit(atoms: AtomSet) -> Result<AtomSet, EvalFault>
 }
 
 // The set with one more atom.
-fn with_one_more(mut atoms: AtomSet, one: Atom) -> Result<AtomSet, EvalFault>
+fn with_one_more(mut atoms: AtomSet, one: Atom) -> EvalResult<AtomSet>
     ensures { Gives result (added atoms one) }
 {
     match atoms.insert(one) {
@@ -44,7 +44,7 @@ fn with_one_more(mut atoms: AtomSet, one: Atom) -> Result<AtomSet, EvalFault>
 
 /// The set with the atom that a value is. A set, or an atom of another kind than the set's, has the fault `Kind`; more than 16,384 elements have the
 /// fault `SetLimit`.
-pub fn with_item(alloc: Global, atoms: GrowingSet, item: &Value) -> Result<GrowingSet, EvalFault>
+pub fn with_item(alloc: Global, atoms: GrowingSet, item: &Value) -> EvalResult<GrowingSet>
     ensures { Gives result (and_then (as_atom item.now) (λ a. added atoms a)) }
 {
     let one = to_atom(item)?;
@@ -52,7 +52,7 @@ pub fn with_item(alloc: Global, atoms: GrowingSet, item: &Value) -> Result<Growi
 }
 
 /// The set of constants. More than 16,384 different ones have the fault `SetLimit`.
-pub fn constants(alloc: Global, numbers: &[u32]) -> Result<AtomSet, EvalFault>
+pub fn constants(alloc: Global, numbers: &[u32]) -> EvalResult<AtomSet>
     ensures { Gives result (all_added [] (map (λ k. atom.Const k) numbers.now)) }
 {
     let mut atoms = AtomSet::new(alloc);
@@ -112,7 +112,7 @@ fn holds(atoms: &GrowingSet, first: u32, count: u32) -> bool
 }
 
 // The set, in one part where many events come.
-fn ready(alloc: Global, atoms: GrowingSet, count: u32) -> Result<GrowingSet, NoMemory>
+fn ready(alloc: Global, atoms: GrowingSet, count: u32) -> Made<GrowingSet>
     ensures { IfOk result (λ same. same ≡ atoms) }
 {
     if count < MANY_EVENTS {
@@ -122,12 +122,7 @@ fn ready(alloc: Global, atoms: GrowingSet, count: u32) -> Result<GrowingSet, NoM
 }
 
 // The set with the events from `first` on, so many of them.
-fn add_events(
-    alloc: Global,
-    atoms: GrowingSet,
-    first: u32,
-    count: u32,
-) -> Result<GrowingSet, EvalFault>
+fn add_events(alloc: Global, atoms: GrowingSet, first: u32, count: u32) -> EvalResult<GrowingSet>
     requires { first + count < 2 ^ 32 }
     ensures { Gives result (all_added atoms (events_from first count)) }
 {
@@ -149,7 +144,7 @@ pub fn with_events(
     atoms: GrowingSet,
     first: u32,
     count: u32,
-) -> Result<GrowingSet, EvalFault>
+) -> EvalResult<GrowingSet>
     requires { first + count < 2 ^ 32 }
     ensures { Gives result (all_added atoms (events_from first count)) }
 {
@@ -158,7 +153,7 @@ pub fn with_events(
 }
 
 // The atoms of either set.
-fn unite(alloc: Global, left: &AtomSet, right: &AtomSet) -> Result<AtomSet, EvalFault>
+fn unite(alloc: Global, left: &AtomSet, right: &AtomSet) -> EvalResult<AtomSet>
     ensures { Gives result (set_binary SetOp.Union left.now right.now) }
 {
     match left.union(alloc, right) {
@@ -169,12 +164,7 @@ fn unite(alloc: Global, left: &AtomSet, right: &AtomSet) -> Result<AtomSet, Eval
 }
 
 /// What an operator gives of two sets. A union of two kinds of atoms has the fault `Kind`, and more than 16,384 elements have the fault `SetLimit`.
-pub fn combine(
-    alloc: Global,
-    op: SetOp,
-    left: &AtomSet,
-    right: &AtomSet,
-) -> Result<AtomSet, EvalFault>
+pub fn combine(alloc: Global, op: SetOp, left: &AtomSet, right: &AtomSet) -> EvalResult<AtomSet>
     ensures { Gives result (set_binary op left.now right.now) }
 {
     match op {
@@ -193,7 +183,7 @@ fn number_at(first: i64, place: u16) -> Atom
 }
 
 // So many numbers from `first` on, few enough for a set.
-fn numbers_on(alloc: Global, first: i64, count: u16) -> Result<AtomSet, EvalFault>
+fn numbers_on(alloc: Global, first: i64, count: u16) -> EvalResult<AtomSet>
     requires few { count ≤ MOST_ELEMENTS }
     requires fit { (first +ℤ pos count) ≤ℤ pos (2 ^ 63) }
     ensures { Gives result (Ok (numbers_from first count)) }
@@ -224,7 +214,7 @@ fn distance(first: i64, last: i64) -> Option<u16>
 }
 
 /// The numbers from `first` to `last`, none where `last` is below `first`. More than 16,384 have the fault `SetLimit`.
-pub fn numbers(alloc: Global, first: i64, last: i64) -> Result<AtomSet, EvalFault>
+pub fn numbers(alloc: Global, first: i64, last: i64) -> EvalResult<AtomSet>
     ensures { Gives result (meant.range first last) }
 {
     if last < first {

@@ -2,7 +2,7 @@
 
 use crate::SCRIPT;
 use crate::page::{Page, Written, words_of};
-use csp_base::{Bytes, NoMemory};
+use csp_base::{Bytes, Made};
 use dl_outside::{MemoryShelf, MemorySink, QuietShelf, Shelf, SureShelf, SureSink};
 use dl_top::dl_main;
 use std::alloc::Global;
@@ -46,7 +46,7 @@ const LOADS: [LoadRow; 13] = [
 ];
 
 /// A shelf that holds this text under the name `one.csp` and fails at these loads.
-fn shelf_of(alloc: Global, text: &[u8], failing: &[u32]) -> Result<MemoryShelf, NoMemory> {
+fn shelf_of(alloc: Global, text: &[u8], failing: &[u32]) -> Made<MemoryShelf> {
     let mut shelf = MemoryShelf::new(alloc, failing.to_vec(alloc)?);
     shelf.put_text(b"one.csp", text)?;
     Ok(shelf)

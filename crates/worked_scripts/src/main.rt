@@ -15,7 +15,7 @@ mod steps;
 mod system;
 
 use crate::page::{Page, Written, answer, cut_at};
-use csp_base::{Bytes, NoMemory};
+use csp_base::{Bytes, Made};
 use dl_outside::{FileShelf, Shelf, StdSink};
 use dl_top::send::send;
 use std::alloc::Global;
@@ -37,7 +37,7 @@ const SHOW: &[u8] = b"show SCRIPT";
 const NO_SCRIPT: &[u8] = b"refused\n1 no script near line ";
 
 /// The texts of a file, each behind the line that it stands below.
-fn texts_of(alloc: Global, file: &[u8]) -> Result<Vec<(&[u8], &[u8])>, NoMemory> {
+fn texts_of(alloc: Global, file: &[u8]) -> Made<Vec<(&[u8], &[u8])>> {
     let mut texts = Vec::new(alloc);
     let mut rest = cut_at(file, BETWEEN);
     for _ in 0..file.len() {
@@ -52,13 +52,13 @@ fn texts_of(alloc: Global, file: &[u8]) -> Result<Vec<(&[u8], &[u8])>, NoMemory>
 }
 
 /// Whether the text is shown, or refused as one that is no script.
-fn is_shown_or_refused(alloc: Global, text: &[u8]) -> Result<bool, NoMemory> {
+fn is_shown_or_refused(alloc: Global, text: &[u8]) -> Made<bool> {
     let (status, out) = answer(alloc, SHOW, text)?;
     Ok(status == 0 || (status == 2 && out.sent().starts_with(NO_SCRIPT)))
 }
 
 /// The status of the judgement of the text by the rule of users and resources.
-fn judge_status(alloc: Global, text: &[u8]) -> Result<u8, NoMemory> {
+fn judge_status(alloc: Global, text: &[u8]) -> Made<u8> {
     let (status, _) = answer(alloc, b"check resource SCRIPT", text)?;
     Ok(status)
 }

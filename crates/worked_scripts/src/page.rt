@@ -1,12 +1,12 @@
 //! What is printed, and the commands whose answers stand there.
 
-use csp_base::{Bytes, NoMemory};
+use csp_base::{Bytes, Made};
 use dl_outside::{SureShelf, SureSink};
 use dl_top::{Words, dl_sure};
 use std::alloc::Global;
 
 /// Whether something was written, unless memory ran out.
-pub type Written = Result<(), NoMemory>;
+pub type Written = Made<()>;
 
 /// What stands between the text of a script and that of its specification.
 pub const SPECIFICATION: &[u8] = b"\n--- specification\n";
@@ -43,7 +43,7 @@ fn word_or_text(word: &[u8]) -> &[u8] {
 }
 
 /// The words of a command, which blanks separate.
-pub fn words_of(alloc: Global, command: &[u8]) -> Result<Words, NoMemory> {
+pub fn words_of(alloc: Global, command: &[u8]) -> Made<Words> {
     let mut words = Words::new(alloc);
     for word in command.split(|byte| *byte == b' ') {
         if !word.is_empty() {
@@ -54,7 +54,7 @@ pub fn words_of(alloc: Global, command: &[u8]) -> Result<Words, NoMemory> {
 }
 
 /// The shelf that holds the text, or that of a script and that of its specification where the text is of both.
-fn shelf_of(alloc: Global, text: &[u8]) -> Result<SureShelf, NoMemory> {
+fn shelf_of(alloc: Global, text: &[u8]) -> Made<SureShelf> {
     let mut shelf = SureShelf::new(alloc);
     let Some((script, specification)) = cut_at(text, SPECIFICATION) else {
         shelf.put_text(b"text", text)?;
@@ -66,7 +66,7 @@ fn shelf_of(alloc: Global, text: &[u8]) -> Result<SureShelf, NoMemory> {
 }
 
 /// The status of the command for the text, and what is sent.
-pub fn answer(alloc: Global, command: &[u8], text: &[u8]) -> Result<(u8, SureSink), NoMemory> {
+pub fn answer(alloc: Global, command: &[u8], text: &[u8]) -> Made<(u8, SureSink)> {
     let words = words_of(alloc, command)?;
     let mut shelf = shelf_of(alloc, text)?;
     let mut out = SureSink::new(alloc, u32::MAX);

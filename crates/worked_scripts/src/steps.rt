@@ -4,7 +4,7 @@ ghost use Rattle.std.specs.Prelude.{◌<◌, length, IfOk};
 
 use crate::page::{Page, Written};
 use containers::{Boxed, Key};
-use csp_base::{Bytes, NoMemory, Stop};
+use csp_base::{Bytes, Made, NoMemory, Stop};
 use csp_parser::read;
 use csp_program::{Body, Content, Proc, Program};
 use csp_resolve::resolve;
@@ -27,7 +27,7 @@ fn program_of(alloc: Global, key: Key, text: &[u8]) -> Option<Boxed<Program>> {
 }
 
 /// The text of a label.
-fn label_text(alloc: Global, program: &Program, label: Label) -> Result<Bytes, NoMemory> {
+fn label_text(alloc: Global, program: &Program, label: Label) -> Made<Bytes> {
     match label {
         Label::Silent => Bytes::from_slice(alloc, b"silent"),
         Label::Visible(event) => event_text(alloc, program, event),
@@ -37,7 +37,7 @@ fn label_text(alloc: Global, program: &Program, label: Label) -> Result<Bytes, N
 
 impl Page {
     /// Puts the process into the pool, and adds a line of its place and of how many processes the pool has then.
-    fn push_place(&mut self, pool: &mut Pool, process: &Proc) -> Result<ProcId, NoMemory>
+    fn push_place(&mut self, pool: &mut Pool, process: &Proc) -> Made<ProcId>
         ensures { IfOk result (λ id. id.0 < length pool.new) }
     {
         let alloc = self.alloc;
