@@ -16,6 +16,7 @@ pub use Rattle.determinise.specs.ManySets.{HaveSameStates, ReachesSets}
 pub use Rattle.determinise.specs.Progress.{AreMoreSets, AreNodeSteps, AreNodesSoFar, AreReachedSets, IsNodeOf, IsReachedFromSet, IsSomeNextSet, LeadsToSet, set_at}
 pub use Rattle.dl_limits.specs.declared.TheConstants.{MOST_SETS}
 pub use Rattle.std.proofs.Common.{Bool, IsTrue, List, Some, [], ap, arith, drop, eq-eqb, false, get_or, inl, inr, length, nat_eq, not, refl, rules, subst, suc, sym, take, true, zero, ℕ, ◌++◌, ◌+◌, ◌-◌, ◌<◌, ◌||◌, ◌∙◌, ◌∷◌, ◌≡◌, ◌≤◌}
+pub use Rattle.std.proofs.lemmas.Bool.{not-false, not-true}
 pub use Rattle.std.specs.Prelude.{IfErr, IfOk, OnOk, map, slice_get}
 pub use Rattle.term_sets.proofs.MoveLists.{any_place, listed_at, place_of_move}
 pub use Rattle.term_sets.proofs.Traces.{After-append, After-cut, After-event, After-first, After-none}
