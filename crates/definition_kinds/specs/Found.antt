@@ -1,6 +1,7 @@
 -- What was found of definitions, as their kinds. Only the private contracts of this crate cite it.
-use Rattle.std.specs.Prelude.{◌≡◌, if◌then◌else◌}
-use Rattle.definition_kinds.specs.Prelude.{ℕ, Some, List, length, slice_get, first_ends, End}
+use Rattle.std.specs.Prelude.{◌≡◌, if◌then◌else◌, ℕ, Some, List, length, slice_get}
+use Rattle.script_names.specs.Prelude.{first_ends}
+use Rattle.script_names.specs.declared.kinds.End.{End}
 use Rattle.script_names.specs.declared.kinds.Class.{Class}
 use Rattle.script_names.specs.declared.kinds.Kind.{Kind}
 use Rattle.definition_kinds.specs.Sources.{AreLeading, marked}

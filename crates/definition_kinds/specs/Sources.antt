@@ -1,6 +1,7 @@
 -- What the search for kinds goes by: the vertex that an arc for an end comes from, and what is found. Only the private contracts of this crate cite it.
-use Rattle.std.specs.Prelude.{◌<◌, ◌↔◌, if◌then◌else◌}
-use Rattle.definition_kinds.specs.Prelude.{ℕ, Bool, true, false, nat_eq, nat_lt, IsTrue, Option, Some, None, List, length, slice_index_or, LeadsTo, End}
+use Rattle.std.specs.Prelude.{◌<◌, ◌↔◌, if◌then◌else◌, ℕ, Bool, true, false, nat_eq, nat_lt, IsTrue, Option, Some, None, List, length, slice_index_or}
+use Rattle.script_names.specs.Prelude.{LeadsTo}
+use Rattle.script_names.specs.declared.kinds.End.{End}
 use Rattle.std.specs.List.{list_any}
 use Rattle.csp_base.specs.Members.{has}
 

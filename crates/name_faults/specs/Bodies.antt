@@ -1,6 +1,14 @@
 -- How deep bodies reach, from what they say. It serves the contracts of this crate.
-use Rattle.std.specs.Prelude.{◌∷◌}
-use Rattle.name_faults.specs.Prelude.{ℕ, max, List, [], map, slice_get, flat_map, kind_class, Name, first_of, tree_says, bodies_from, body_place, expanded_body, Occurrence, Uses, Form, Parallel, Decl, Tree, Body, Entity, Use}
+use Rattle.std.specs.Prelude.{◌∷◌, ℕ, max, List, [], map, slice_get}
+use Rattle.std.specs.List.{flat_map}
+use Rattle.script_names.specs.Prelude.{kind_class, Name, first_of, tree_says, bodies_from, body_place, expanded_body}
+use Rattle.script_names.specs.declared.occurrence.Occurrence.{Occurrence}
+use Rattle.script_names.specs.declared.occurrence.Occurrence.TheVariants.{Uses, Form, Parallel}
+use Rattle.csp_text.specs.declared.script.Decl.{Decl}
+use Rattle.csp_text.specs.declared.tree.Tree.{Tree}
+use Rattle.name_faults.specs.declared.body.Body.{Body}
+use Rattle.script_names.specs.declared.kinds.Entity.{Entity}
+use Rattle.script_names.specs.declared.kinds.Use.{Use}
 use Rattle.script_names.specs.declared.kinds.Sense.{Sense}
 use Rattle.name_tables.specs.declared.meanings.Meanings.{Meanings}
 

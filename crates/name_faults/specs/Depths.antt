@@ -1,6 +1,6 @@
 -- The depths of definitions over the bodies that code keeps. It serves the contracts of this crate.
-use Rattle.std.specs.Prelude.{◌≡◌, ◌+◌, ◌∷◌}
-use Rattle.name_faults.specs.Prelude.{ℕ, zero, suc, max, min, Option, Some, None, List, [], slice_get, slice_index, Body}
+use Rattle.std.specs.Prelude.{◌≡◌, ◌+◌, ◌∷◌, ℕ, zero, suc, max, min, Option, Some, None, List, [], slice_get, slice_index}
+use Rattle.name_faults.specs.declared.body.Body.{Body}
 
 -- how deep uses reach
 abbrev pub deepest_use : (ℕ → ℕ) → List (ℕ × ℕ) → ℕ

@@ -1,6 +1,9 @@
 -- What is known of the declarations that were passed, and what a declaration says after them. It serves the contracts of this crate.
-use Rattle.std.specs.Prelude.{◌≡◌, ◌&&◌, ◌∷◌, ◌++◌}
-use Rattle.name_faults.specs.Prelude.{ℕ, Bool, false, nat_lt, Option, List, [], length, slice_get, slice_index, flat_map, Decl, kind_class, Name, Meanings, is_among, tree_says, annotation_says, body_place, data_place, declared_after, fault_of, first_fault, is_data, names_declared, next_definition, parameters_after, root_place, types_say, with_roles, with_uses, Occurrence}
+use Rattle.std.specs.Prelude.{◌≡◌, ◌&&◌, ◌∷◌, ◌++◌, ℕ, Bool, false, nat_lt, Option, List, [], length, slice_get, slice_index}
+use Rattle.std.specs.List.{flat_map}
+use Rattle.csp_text.specs.declared.script.Decl.{Decl}
+use Rattle.script_names.specs.Prelude.{kind_class, Name, Meanings, is_among, tree_says, annotation_says, body_place, data_place, declared_after, fault_of, first_fault, is_data, names_declared, next_definition, parameters_after, root_place, types_say, with_roles, with_uses}
+use Rattle.script_names.specs.declared.occurrence.Occurrence.{Occurrence}
 use Rattle.dl_limits.specs.declared.TheConstants.{MOST_DATA_DEPTH}
 use Rattle.csp_text.specs.declared.token.ResourceNames.{ResourceNames}
 use Rattle.csp_text.specs.declared.token.RolesNames.{RolesNames}

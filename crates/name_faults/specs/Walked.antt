@@ -1,7 +1,11 @@
 -- A walk over trees: what names stand for, which are bound, and what was said; and the walk after trees and their parts. It serves the contracts of this
 -- crate.
-use Rattle.std.specs.Prelude.{◌∷◌, ◌++◌}
-use Rattle.name_faults.specs.Prelude.{ℕ, false, List, [], length, map, Tree, Entities, Meanings, Name, first_of, sense_in, Binder, Fields, Said, all_say, data_in, network_in, process_in, event_says_of_layer, field_says_of_layer, gen_says_of_layer, in_turn, pair_says, part_says, part_says_of_layer, tree_says, tree_says_of_layer, Occurrence, Binds, Notes, Uses, Form, Parallel, Declares, Use}
+use Rattle.std.specs.Prelude.{◌∷◌, ◌++◌, ℕ, false, List, [], length, map}
+use Rattle.csp_text.specs.declared.tree.Tree.{Tree}
+use Rattle.script_names.specs.Prelude.{Entities, Meanings, Name, first_of, sense_in, Binder, Fields, Said, all_say, data_in, network_in, process_in, event_says_of_layer, field_says_of_layer, gen_says_of_layer, in_turn, pair_says, part_says, part_says_of_layer, tree_says, tree_says_of_layer}
+use Rattle.script_names.specs.declared.occurrence.Occurrence.{Occurrence}
+use Rattle.script_names.specs.declared.occurrence.Occurrence.TheVariants.{Binds, Notes, Uses, Form, Parallel, Declares}
+use Rattle.script_names.specs.declared.kinds.Use.{Use}
 use Rattle.std.specs.Borrow.{Bor}
 use Rattle.csp_text.specs.Prelude.{greatest_of_pairs, part_depth}
 use Rattle.csp_text.specs.declared.tree.EventTree.{EventTree}

@@ -1,6 +1,6 @@
 -- The numbers that are counted while declarations are read.
-use Rattle.std.specs.Prelude.{◌+◌}
-use Rattle.name_tables.specs.Prelude.{ℕ, Counts}
+use Rattle.std.specs.Prelude.{◌+◌, ℕ}
+use Rattle.script_names.specs.Prelude.{Counts}
 use Rattle.name_tables.specs.declared.declared.Numbers.{Numbers}
 
 abbrev pub counts : Numbers → Counts

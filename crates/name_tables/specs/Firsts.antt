@@ -1,6 +1,6 @@
 -- Lists of declared names that agree in what the first declaration of each name makes it, and lists of the same names.
-use Rattle.std.specs.Prelude.{◌≡◌}
-use Rattle.name_tables.specs.Prelude.{List, Name, Entities, first_of, is_among}
+use Rattle.std.specs.Prelude.{◌≡◌, List}
+use Rattle.script_names.specs.Prelude.{Name, Entities, first_of, is_among}
 
 abbrev pub SameFirsts : Entities → Entities → Type 0
 SameFirsts es fs = (x : Name) → first_of es x ≡ first_of fs x

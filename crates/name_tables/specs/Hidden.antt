@@ -1,6 +1,6 @@
 -- What a scope keeps of the names that it has bound.
-use Rattle.std.specs.Prelude.{◌≡◌, if◌then◌else◌, ◌∷◌, ◌++◌}
-use Rattle.name_tables.specs.Prelude.{ℕ, Option, List, [], Name, same_name, Scope, number_of}
+use Rattle.std.specs.Prelude.{◌≡◌, if◌then◌else◌, ◌∷◌, ◌++◌, ℕ, Option, List, []}
+use Rattle.script_names.specs.Prelude.{Name, same_name, Scope, number_of}
 use Rattle.std.specs.BTreeMap.{BTreeMap}
 use Rattle.name_tables.specs.declared.scope.Binding.{Binding}
 use Rattle.name_tables.specs.Spelling.{Spelling, at_name}

@@ -1,5 +1,6 @@
 -- Maps in which bound names are found by their bytes.
-use Rattle.name_tables.specs.Prelude.{ℕ, Option, Vec, map, Name}
+use Rattle.std.specs.Prelude.{ℕ, Option, Vec, map}
+use Rattle.script_names.specs.Prelude.{Name}
 use Rattle.csp_base.specs.Standard.{nat_cmp, BTreeMap, get_by, slice_cmp, Global}
 
 -- a name's bytes, as they are kept

@@ -1,7 +1,9 @@
 -- Where a walk over trees stands: what names are declared as, what the definitions are, which names are bound there
 -- with their numbers, and the number of the next binding token.
-use Rattle.std.specs.Prelude.{◌+◌}
-use Rattle.typed_trees.specs.Prelude.{ℕ, List, Tree, Entities, first_of, Reading, Scope, reading, Kind}
+use Rattle.std.specs.Prelude.{◌+◌, ℕ, List}
+use Rattle.csp_text.specs.declared.tree.Tree.{Tree}
+use Rattle.script_names.specs.Prelude.{Entities, first_of, Reading, Scope, reading}
+use Rattle.script_names.specs.declared.kinds.Kind.{Kind}
 
 pub record Walked : Type 0 where
   pub names : Entities

@@ -1,8 +1,10 @@
 -- What trees and their parts are where a walk stands, and where it stands behind them, in words that proofs keep
 -- closed: Typed.antt says the same by one fold. Lists are taken from the left. This serves the contracts of private
 -- functions.
-use Rattle.std.specs.Prelude.{◌+◌, ◌∷◌}
-use Rattle.typed_trees.specs.Prelude.{ℕ, Bool, Option, Some, None, List, [], Tree, is_network, Entities, Name, first_of, sense_in, Binding, Front, Reading, Scope, field_of_layer, gen_of_layer, reading_of_layer, event_of_layer, names_of, part_of_layer, with, Kind}
+use Rattle.std.specs.Prelude.{◌+◌, ◌∷◌, ℕ, Bool, Option, Some, None, List, []}
+use Rattle.csp_text.specs.declared.tree.Tree.{Tree}
+use Rattle.script_names.specs.Prelude.{is_network, Entities, Name, first_of, sense_in, Binding, Front, Reading, Scope, field_of_layer, gen_of_layer, reading_of_layer, event_of_layer, names_of, part_of_layer, with}
+use Rattle.script_names.specs.declared.kinds.Kind.{Kind}
 use Rattle.csp_text.specs.declared.tree.FieldTree.{FieldTree, fold-FieldTree}
 use Rattle.csp_text.specs.declared.tree.FieldTree.TheFolds.{fold-GenTree, fold-PartTree}
 use Rattle.csp_text.specs.declared.tree.GenTree.{GenTree}
